@@ -1,0 +1,171 @@
+//! A name, as it is written: of a kind, a constant, a variable, a hypothesis, a theorem.
+ghost use Rattle.std.specs.Prelude.{◌≡◌, ◌↔◌, nat_eq, IfOk, IsTrue, Some};
+ghost use Rattle.std.proofs.Common.{rules};
+ghost use Rattle.std.specs.Cmp.Lexicographic.{pointwise, slice_cmp, nat_list_eq_equiv, nat_list_cmp_total, texts_ties, texts_po};
+ghost use Rattle.std.specs.Cmp.{partial_equiv_from_equiv};
+ghost use Rattle.std.specs.Cmp.Rules.{hashing};
+ghost use Rattle.std.specs.Hash as fed;
+ghost use Rattle.std.specs.Ordering.{nat_cmp};
+ghost use Rattle.std.specs.Fmt.{styled_text, debug_str};
+
+use std::alloc::{AllocError, Global};
+use std::cmp::Ordering;
+use std::fmt::{self, Debug, Display, Formatter, Write};
+use std::hash::{Hash, Hasher};
+use std::marker::Model;
+
+/// A name. Contracts see it as the list of its bytes, which are UTF-8.
+#[derive(Drop)]
+pub struct Name {
+    text: String,
+}
+
+impl Model for Name {
+    ghost use Rattle.std.specs.Prelude.{ℕ, List};
+    ghost use Rattle.std.specs.String.{string_bytes};
+
+    ghost Value = { List ℕ };
+
+    ghost view = { λ name. string_bytes name.text };
+}
+
+impl Name {
+    /// The name that is written as `text`.
+    pub fn from_text(alloc: Global, text: &str) -> Result<Name, AllocError>
+        ensures { IfOk result (λ name. name ≡ text.now) }
+    {
+        Ok(Name {
+            text: String::from_str(alloc, text)?,
+        })
+    }
+
+    /// The name as text.
+    pub fn as_str(&self) -> &str
+        ensures { result.now ≡ self.now }
+    {
+        self.text.as_str()
+    }
+
+    /// The same name again.
+    pub fn copy(&self, alloc: Global) -> Result<Name, AllocError>
+        ensures { IfOk result (λ name. name ≡ self.now) }
+    {
+        Name::from_text(alloc, self.as_str())
+    }
+}
+
+impl Clone for Name {
+    ghost is_clone = { λ name copy. copy ≡ name };
+
+    fn clone(&self) -> Result<Name, AllocError> {
+        Ok(Name {
+            text: self.text.clone()?,
+        })
+    }
+}
+
+impl PartialEq for Name {
+    ghost eq = { pointwise nat_eq };
+
+    ghost laws = { partial_equiv_from_equiv nat_list_eq_equiv };
+
+    fn eq(&self, other: &Name) -> bool
+        ensures value { result ≡ pointwise nat_eq self.now other.now }
+        ensures decides { IsTrue result ↔ (self.now ≡ other.now) }
+    {
+        self.text == other.text
+    }
+}
+
+impl Eq for Name {
+    ghost laws = { nat_list_eq_equiv };
+}
+
+impl PartialOrd for Name {
+    ghost partial_cmp = { λ x y. Some (slice_cmp nat_cmp x y) };
+
+    ghost laws = { texts_po };
+
+    fn partial_cmp(&self, other: &Name) -> Option<Ordering> {
+        Some(self.cmp(other))
+    }
+}
+
+impl Ord for Name {
+    ghost cmp = { slice_cmp nat_cmp };
+
+    ghost total = { nat_list_cmp_total };
+
+    ghost matches_partial_cmp = { Prim.search rules };
+
+    ghost matches_eq = { texts_ties };
+
+    fn cmp(&self, other: &Name) -> Ordering {
+        self.text.cmp(&other.text)
+    }
+}
+
+impl Hash for Name {
+    ghost hash_input = { fed.str };
+
+    ghost respects_eq = { Prim.search (hashing, rules) };
+
+    fn hash<H: Hasher>(&self, state: &mut H) {
+        self.text.hash(state);
+    }
+}
+
+impl Display for Name {
+    ghost output = { λ name. Some name };
+
+    ghost styled_output = { λ name spec. Some (styled_text spec name) };
+
+    fn fmt<W: Write>(&self, f: &mut Formatter<W>) -> fmt::Result {
+        f.pad(self.as_str())
+    }
+}
+
+impl Debug for Name {
+    ghost debug_output = { debug_str };
+
+    fn fmt<W: Write>(&self, f: &mut Formatter<W>) -> fmt::Result {
+        Debug::fmt(&self.text, f)
+    }
+}
+
+#[cfg(test)]
+mod tests {
+    use super::*;
+
+    #[test]
+    fn compares_names_by_their_bytes(rt: HostRuntime) -> Result<(), AllocError> {
+        let alloc = rt.alloc();
+        let table = [
+            ("", "", Ordering::Equal),
+            ("nat", "nat", Ordering::Equal),
+            ("nat", "nat'", Ordering::Less),
+            ("plus", "Plus", Ordering::Greater),
+            ("\u{e9}", "e", Ordering::Greater),
+        ];
+        for (left, right, order) in table {
+            let a = Name::from_text(alloc, left)?.copy(alloc)?;
+            let b = Name::from_text(alloc, right)?.clone()?;
+            assert_eq!(rt; a.as_str(), left);
+            assert_eq!(rt; b.as_str(), right);
+            assert_eq!(rt; a == b, order == Ordering::Equal, "{a} and {b}");
+            assert_eq!(rt; a.cmp(&b), order, "{a} and {b}");
+        }
+        Ok(())
+    }
+
+    #[test]
+    fn prints_a_name_as_it_is(rt: HostRuntime) -> Result<(), AllocError> {
+        let alloc = rt.alloc();
+        let name = Name::from_text(alloc, "H1")?;
+        assert_eq!(rt;
+            format!(in alloc; "{name}: {name:?}")?.as_str(),
+            "H1: \"H1\""
+        );
+        Ok(())
+    }
+}
