@@ -1,0 +1,130 @@
+-- The scanner's own description, byte by byte: a tool of the splitter and of the proofs, not what a text means.
+-- That it finds the commands, the items and the blank rest of `Commands` is what `one_splitting` ensures.
+use Rattle.std.specs.Prelude.{◌==◌, ◌&&◌, ◌||◌, ℕ, zero, suc, Bool, true, false, if◌then◌else◌, List, [], ◌∷◌, ◌++◌, map, Option, Some, None}
+use Rattle.ab_lex.specs.declared.TheConstants.{COMMAND_LIMIT}
+use Rattle.ab_lex.specs.declared.scanner.Mode.{Mode}
+use Rattle.ab_lex.specs.declared.scanner.Mode.TheVariants.{Plain, Slash, Line, Quoted, Block, BlockSlash, BlockStar}
+use Rattle.ab_lex.specs.declared.scanner.Scan.{Scan}
+use Rattle.ab_lex.specs.Units.{newline, quote, percent, star, full_stop, slash, is_blank}
+use Rattle.ab_lex.specs.Commands.{Item, item_of, items_of_rest}
+
+-- the byte ends a command
+abbrev pub ends : Mode → ℕ → Bool
+ends Plain b = b == full_stop
+ends Slash b = b == full_stop
+ends Line b = false
+ends Quoted b = false
+ends (Block d) b = false
+ends (BlockSlash d) b = false
+ends (BlockStar d) b = false
+
+abbrev pub from_plain : ℕ → Mode
+from_plain b = if b == percent then Line else if b == quote then Quoted else if b == slash then Slash else Plain
+
+abbrev pub from_block : ℕ → ℕ → Mode
+from_block d b = if b == slash then BlockSlash d else if b == star then BlockStar d else Block d
+
+-- a comment is closed
+abbrev pub closed : ℕ → Mode
+closed zero = Plain
+closed (suc d) = Block d
+
+-- the mode behind one more byte
+abbrev pub step : Mode → ℕ → Mode
+step Plain b = from_plain b
+step Slash b = if b == star then Block 0 else from_plain b
+step Line b = if b == newline then Plain else Line
+step Quoted b = if b == quote then Plain else Quoted
+step (Block d) b = from_block d b
+step (BlockSlash d) b = if b == star then Block (suc d) else from_block d b
+step (BlockStar d) b = if b == slash then closed d else from_block d b
+
+-- how many block comments are open
+abbrev pub depth : Mode → ℕ
+depth Plain = 0
+depth Slash = 0
+depth Line = 0
+depth Quoted = 0
+depth (Block d) = suc d
+depth (BlockSlash d) = suc d
+depth (BlockStar d) = suc d
+
+-- what follows the first command's end, from this mode on
+abbrev pub behind : Mode → List ℕ → Option (List ℕ)
+behind m [] = None
+behind m (b ∷ s) = if ends m b then Some s else behind (step m b) s
+
+-- what follows the string or comment that this mode is in
+abbrev pub past : Mode → List ℕ → Option (List ℕ)
+past Plain s = Some s
+past m [] = None
+past m (b ∷ s) = past (step m b) s
+
+-- a byte in this mode leaves a rest blank
+abbrev pub keeps_blank : Mode → ℕ → Bool
+keeps_blank Plain b = is_blank b || ((b == percent) || (b == slash))
+keeps_blank Slash b = b == star
+keeps_blank Line b = true
+keeps_blank Quoted b = true
+keeps_blank (Block d) b = true
+keeps_blank (BlockSlash d) b = true
+keeps_blank (BlockStar d) b = true
+
+-- a rest that ends in this mode is whole
+abbrev pub is_whole : Mode → Bool
+is_whole Plain = true
+is_whole Slash = false
+is_whole Line = true
+is_whole Quoted = false
+is_whole (Block d) = false
+is_whole (BlockSlash d) = false
+is_whole (BlockStar d) = false
+
+-- the scan behind the last command's end
+abbrev pub fresh : Scan
+fresh = record { mode = Plain; blank = true }
+
+abbrev pub after_byte : Scan → ℕ → Scan
+after_byte k b = record { mode = step k.mode b; blank = k.blank && keeps_blank k.mode b }
+
+-- the scan behind these bytes, in which no command ends
+abbrev pub run : Scan → List ℕ → Scan
+run k [] = k
+run k (b ∷ s) = run (after_byte k b) s
+
+-- the commands, where these bytes of the first have come before
+abbrev pub commands_from : Mode → List ℕ → List ℕ → List (List ℕ)
+commands_from m c [] = []
+commands_from m c (b ∷ s) =
+    if ends m b then (c ++ b ∷ []) ∷ commands_from Plain [] s else commands_from (step m b) (c ++ b ∷ []) s
+
+-- what is left behind the last of them
+abbrev pub rest_from : Mode → List ℕ → List ℕ → List ℕ
+rest_from m c [] = c
+rest_from m c (b ∷ s) = if ends m b then rest_from Plain [] s else rest_from (step m b) (c ++ b ∷ []) s
+
+abbrev pub commands : List ℕ → List (List ℕ)
+commands s = commands_from Plain [] s
+
+abbrev pub rest : List ℕ → List ℕ
+rest s = rest_from Plain [] s
+
+abbrev pub items_within : ℕ → List ℕ → List Item
+items_within limit s = map (item_of limit) (commands s) ++ items_of_rest limit (rest s)
+
+-- the items of a text
+abbrev pub items : List ℕ → List Item
+items s = items_within COMMAND_LIMIT s
+
+-- the items behind the end of a command that was told to be long, where its end came
+abbrev pub items_behind : ℕ → Option (List ℕ) → List Item
+items_behind limit None = []
+items_behind limit (Some r) = items_within limit r
+
+-- the bytes behind the last command are blanks and whole comments, from this scan on
+abbrev pub blank_from : Scan → List ℕ → Bool
+blank_from k [] = k.blank && is_whole k.mode
+blank_from k (b ∷ s) = if ends k.mode b then blank_from fresh s else blank_from (after_byte k b) s
+
+abbrev pub has_blank_rest : List ℕ → Bool
+has_blank_rest s = blank_from fresh s
