@@ -1,0 +1,4 @@
+pub mod Tokens
+pub mod Words
+pub mod Formulas
+pub mod Commands

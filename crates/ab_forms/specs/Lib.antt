@@ -1,0 +1,4 @@
+pub mod Lexeme
+pub mod Grammar
+pub mod Readings
+pub mod Parts
