@@ -1,0 +1,9 @@
+pub mod Splits
+pub mod Placing
+pub mod Reading
+pub mod Refining
+pub mod Standing
+pub mod Taking
+pub mod TakingApart
+pub mod TakingBack
+pub mod Truths
