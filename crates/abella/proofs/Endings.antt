@@ -1,0 +1,260 @@
+-- How a run ends, from what held between two pieces.
+use Rattle.std.proofs.Common.{◌≡◌, ◌≤◌, ◌+◌, ◌-◌, ℕ, Bool, true, false, IsTrue, ◌↔◌, List, [], ◌++◌, length, take, Option, Some, None, refl, sym, ap, ◌∙◌, subst, arith, append_assoc, inl, inr}
+use Rattle.std.proofs.lemmas.List.{append-nil, take_all, length-append, nil_from_length}
+use Rattle.std.proofs.Math.Seq.{take-append-add}
+use Rattle.ab_lex.specs.declared.TheConstants.{COMMAND_LIMIT}
+use Rattle.ab_lex.specs.Commands.{Item, ItemsOf, HasBlankRest}
+use Rattle.ab_lex.specs.Scanner.{items, has_blank_rest}
+use Rattle.ab_lex.proofs.Cuts.{items_of}
+use Rattle.ab_lex.proofs.Blanks.{has_blank, blank_has}
+use Rattle.ab_lex.specs.Pending.{Pending, blank_after}
+use Rattle.ab_io.specs.Count.{Rose}
+use Rattle.ab_io.specs.Told.{Takes, Appends, AppendsFront, AtEnd}
+use Rattle.ab_io.proofs.Streams.{takes_none, takes_more, appends_none, appends_more, rose_more}
+use Rattle.abella.specs.declared.status.Status.{Status}
+use Rattle.abella.specs.declared.status.Status.TheVariants.{Done, Refused, ReadFault, WriteFault, NoMemory, Unfinished, TooLong}
+use Rattle.abella.specs.declared.running.TheConstants.{READ_FAULT, TOO_LONG, MAX_INPUT}
+use Rattle.abella.specs.State.{empty, IsFinished}
+use Rattle.abella.specs.Report.{none}
+use Rattle.abella.specs.Outcome.{ReportOf, EndsWith, WroteReport, WroteAll, IsLastLine, WroteSome, RanOver, Ran}
+use Rattle.abella.specs.Progress.{Standing, to_come, all_items, Answered, AnsweredSome, SameRest, FedPiece, TookPiece, Running, EndedWith, status_at_end, beginning}
+use Rattle.abella.proofs.Progress.{answered_more, some_more, front_after}
+
+take_most : (most : ℕ) (taken extra : List ℕ) → length taken ≤ most → take most (taken ++ extra) ≡ taken ++ take (most - length taken) extra
+take_most most taken extra l =
+    let e : length taken + (most - length taken) ≡ most = omega arith in
+    ap (λ n. take n (taken ++ extra)) (sym e) ∙ take-append-add taken extra (most - length taken)
+
+end_after : (left left' : Option (List ℕ)) → Takes left [] left' → AtEnd left → AtEnd left'
+end_after left None t e = tt
+end_after left (Some r) t e = subst AtEnd t e
+
+items_from : (text : List ℕ) (is : List Item) → items text ≡ is → ItemsOf text is
+items_from text is e = subst (λ q. ItemsOf text q) e (items_of COMMAND_LIMIT text)
+
+-- some items of what was taken, and of what more of it there is, were answered
+some_written : (all taken more : List ℕ) (out out' : Option (List ℕ)) (reads reads' : ℕ) → take MAX_INPUT all ≡ taken ++ more → AnsweredSome out out' (all_items taken) empty → WroteSome all out out' reads reads'
+some_written all taken more out out' reads reads' e x = record {
+  answered = x.answered;
+  others = x.others more;
+  items_are = subst (λ q. ItemsOf q (x.answered ++ x.others more)) (sym e) (items_from (taken ++ more) (x.answered ++ x.others more) (x.items_are more));
+  report = x.report;
+  reports = x.reports;
+  line = [];
+  line_is = inl refl;
+  wrote = subst (λ q. AppendsFront out q out') (sym (append-nil x.report.bytes)) x.wrote;
+}
+
+-- nothing was taken yet
+pub starts : (left out : Option (List ℕ)) (p : Pending) → ((text : List ℕ) → to_come p text ≡ items text) → ((text : List ℕ) → blank_after p text ≡ has_blank_rest text) → Running left left out out p beginning 0
+starts left out p e b = record {
+  taken = [];
+  takes = takes_none left;
+  counted = refl;
+  few = omega arith;
+  answered = record { answered = []; report = record { bytes = []; refused = false; state = empty }; reports = none; standing_is = refl; items_are = λ more. sym (e more); wrote = appends_none out };
+  none_ready = e [];
+  blank_is = λ more. sym (b more);
+}
+
+-- there is no memory for a buffer
+pub ran_at_once : (left out : Option (List ℕ)) (reads writes : ℕ) → Ran NoMemory left left out out reads reads writes writes
+ran_at_once left out reads writes = record {
+  taken = [];
+  takes = takes_none left;
+  few = omega arith;
+  over = record {
+    answered = [];
+    others = items [];
+    items_are = items_of COMMAND_LIMIT [];
+    report = record { bytes = []; refused = false; state = empty };
+    reports = none;
+    line = [];
+    line_is = inl refl;
+    wrote = record { count = 0; front = appends_none out };
+  };
+}
+
+module _ (left0 left out0 out : Option (List ℕ)) (p : Pending) (m : Standing) (count : ℕ) (h : Running left0 left out0 out p m count) where
+  within : length h.taken ≤ MAX_INPUT
+  within = let a = h.counted in let b = h.few in omega arith
+
+  whole : take MAX_INPUT h.taken ≡ h.taken
+  whole = take_all MAX_INPUT h.taken within
+
+  all_answered : items h.taken ≡ h.answered.answered
+  all_answered =
+      ap items (sym (append-nil h.taken)) ∙ (h.answered.items_are [] ∙ (ap (λ q. h.answered.answered ++ q) h.none_ready ∙ append-nil h.answered.answered))
+
+  report_of : ReportOf h.taken h.answered.report
+  report_of = record { items = h.answered.answered; items_are = items_from h.taken h.answered.answered all_answered; reports = h.answered.reports }
+
+  -- a front of the report and of this last line
+  line_cut : (line all : List ℕ) (out' : Option (List ℕ)) (reads reads' : ℕ) → take MAX_INPUT all ≡ h.taken → IsLastLine line all reads reads' → AppendsFront out line out' → WroteSome all out0 out' reads reads'
+  line_cut line all out' reads reads' e last w = record {
+    answered = h.answered.answered;
+    others = [];
+    items_are = subst (λ q. ItemsOf q (h.answered.answered ++ [])) (sym e) (items_from h.taken (h.answered.answered ++ []) (all_answered ∙ sym (append-nil h.answered.answered)));
+    report = h.answered.report;
+    reports = h.answered.reports;
+    line = line;
+    line_is = inr (refl, last);
+    wrote = front_after out0 out out' h.answered.report.bytes line h.answered.wrote w;
+  }
+
+  with_line : (line : List ℕ) (out' : Option (List ℕ)) → Appends out line out' → WroteReport h.taken line out0 out'
+  with_line line out' w = record { report = h.answered.report; report_of = report_of; wrote = appends_more out0 out out' h.answered.report.bytes line h.answered.wrote w }
+
+  -- the last line was written, or a write of it has failed, or memory was wanted
+  ended : (status result : Status) (line all : List ℕ) (left' out' : Option (List ℕ)) (reads reads' writes now writes' : ℕ)
+      → EndedWith result status line out out' now writes' → writes ≤ now → IsLastLine line all reads reads' → take MAX_INPUT all ≡ h.taken
+      → (WroteReport h.taken line out0 out' → RanOver status all left' out0 out' reads reads' writes writes') → RanOver result all left' out0 out' reads reads' writes writes'
+  ended status result line all left' out' reads reads' writes now writes' (inl (e, w)) l last t f =
+      subst (λ s. RanOver s all left' out0 out' reads reads' writes writes') (sym e) (f (with_line line out' w))
+  ended status result line all left' out' reads reads' writes now writes' (inr (inl (e, w, r))) l last t f =
+      let x : RanOver WriteFault all left' out0 out' reads reads' writes writes' = (rose_more writes now writes' l r, line_cut line all out' reads reads' t last w) in
+      subst (λ s. RanOver s all left' out0 out' reads reads' writes writes') (sym e) x
+  ended status result line all left' out' reads reads' writes now writes' (inr (inr (e, w))) l last t f =
+      let x : RanOver NoMemory all left' out0 out' reads reads' writes writes' = line_cut line all out' reads reads' t last w in
+      subst (λ s. RanOver s all left' out0 out' reads reads' writes writes') (sym e) x
+
+  -- the source has failed
+  pub ran_read_fault : (result : Status) (left' out' : Option (List ℕ)) (reads before reads' writes now writes' : ℕ)
+      → left' ≡ left → Rose before reads' → reads ≤ before → writes ≤ now → EndedWith result ReadFault READ_FAULT out out' now writes' → Ran result left0 left' out0 out' reads reads' writes writes'
+  ran_read_fault result left' out' reads before reads' writes now writes' e r k l x = record {
+    taken = h.taken;
+    takes = subst (λ q. Takes left0 h.taken q) (sym e) h.takes;
+    few = let a = within in omega arith;
+    over = let rose = rose_more reads before reads' k r in ended ReadFault result READ_FAULT h.taken left' out' reads reads' writes now writes' x l (inl (refl, rose)) whole (λ w. (within, rose, w));
+  }
+
+  -- one byte too many came
+  pub ran_too_long : (result : Status) (n : ℕ) (left' out' : Option (List ℕ)) (p' : Pending) (reads reads' writes now writes' : ℕ)
+      → FedPiece n left left' p p' → n ≡ 1 → count ≡ MAX_INPUT → writes ≤ now → EndedWith result TooLong TOO_LONG out out' now writes' → Ran result left0 left' out0 out' reads reads' writes writes'
+  ran_too_long result n left' out' p' reads reads' writes now writes' f one full l x =
+      let exact : length h.taken ≡ MAX_INPUT = h.counted ∙ full in
+      let size : length (h.taken ++ f.bytes) ≡ MAX_INPUT + 1 = let a = length-append h.taken f.bytes in let b = f.length_is in omega arith in
+      let front : take MAX_INPUT (h.taken ++ f.bytes) ≡ h.taken =
+      take_most MAX_INPUT h.taken f.bytes within ∙ (ap (λ k. h.taken ++ take k f.bytes) (let z : MAX_INPUT - length h.taken ≡ 0 = omega arith in z) ∙ append-nil h.taken) in
+      record {
+        taken = h.taken ++ f.bytes;
+        takes = takes_more left0 left left' h.taken f.bytes h.takes f.takes;
+        few = omega arith;
+        over = ended TooLong result TOO_LONG (h.taken ++ f.bytes) left' out' reads reads' writes now writes' x l (inr (refl, size)) front
+            (λ w. (size, subst (λ q. WroteReport q TOO_LONG out0 out') (sym front) w));
+      }
+
+  -- memory was wanted where a piece was read or fed
+  pub ran_no_memory : (most : ℕ) (left' : Option (List ℕ)) (reads reads' writes writes' : ℕ) → TookPiece most left left' → count + most ≤ MAX_INPUT + 1 → Ran NoMemory left0 left' out0 out reads reads' writes writes'
+  ran_no_memory most left' reads reads' writes writes' f room =
+      let more : List ℕ = take (MAX_INPUT - length h.taken) f.bytes in
+      let x : AnsweredSome out0 out (all_items h.taken) empty = record {
+        answered = h.answered.answered;
+        others = to_come p;
+        report = h.answered.report;
+        reports = h.answered.reports;
+        items_are = h.answered.items_are;
+        wrote = record { count = length h.answered.report.bytes; front = subst (λ q. Appends out0 q out) (sym (take_all (length h.answered.report.bytes) h.answered.report.bytes (omega arith))) h.answered.wrote };
+      } in
+      record {
+        taken = h.taken ++ f.bytes;
+        takes = takes_more left0 left left' h.taken f.bytes h.takes f.takes;
+        few = let a = length-append h.taken f.bytes in let b = f.few in let c = h.counted in omega arith;
+        over = some_written (h.taken ++ f.bytes) h.taken more out0 out reads reads' (take_most MAX_INPUT h.taken f.bytes within) x;
+      }
+
+  -- the input has ended
+  module _ (n : ℕ) (left' : Option (List ℕ)) (p' : Pending) (f : FedPiece n left left' p p') (none_came : n ≡ 0) (reads reads' writes writes' : ℕ) where
+    nothing_came : f.bytes ≡ []
+    nothing_came = nil_from_length f.bytes (f.length_is ∙ none_came)
+
+    ends_there : AtEnd left'
+    ends_there = end_after left left' (subst (λ q. Takes left q left') nothing_came f.takes) (f.at_end none_came)
+
+    takes_all : Takes left0 h.taken left'
+    takes_all = subst (λ q. Takes left0 q left') (ap (λ q. h.taken ++ q) nothing_came ∙ append-nil h.taken) (takes_more left0 left left' h.taken f.bytes h.takes f.takes)
+
+    rest_of_text : has_blank_rest h.taken ≡ blank_after p' []
+    rest_of_text =
+        ap has_blank_rest (sym (append-nil h.taken)) ∙ (h.blank_is [] ∙ sym (f.blank_is [] ∙ ap (λ q. blank_after p (q ++ [])) nothing_came))
+
+    wrote_all : (status : Status) → EndsWith status h.taken h.answered.report → WroteAll status h.taken out0 out
+    wrote_all status e = record { report = h.answered.report; report_of = report_of; wrote = h.answered.wrote; status_is = e }
+
+    refused_is : m.refused ≡ h.answered.report.refused
+    refused_is = ap (λ (x : Standing). x.refused) h.answered.standing_is
+
+    state_is : m.state ≡ h.answered.report.state
+    state_is = ap (λ (x : Standing). x.state) h.answered.standing_is
+
+    has_blank_end : blank_after p' [] ≡ true → HasBlankRest h.taken
+    has_blank_end b = has_blank h.taken (rest_of_text ∙ b)
+
+    no_blank_end : blank_after p' [] ≡ false → ¬ HasBlankRest h.taken
+    no_blank_end b r = let e : true ≡ false = sym (blank_has h.taken r) ∙ (rest_of_text ∙ b) in cc
+
+    few_taken : length h.taken ≤ MAX_INPUT + 1
+    few_taken = let a = within in omega arith
+
+    pub ran_to_end : (refused finished blank : Bool) → m.refused ≡ refused → IsTrue finished ↔ IsFinished m.state → blank_after p' [] ≡ blank → Ran (status_at_end refused finished blank) left0 left' out0 out reads reads' writes writes'
+    ran_to_end true finished blank r d b = record { taken = h.taken; takes = takes_all; few = few_taken; over = (within, ends_there, wrote_all Refused (sym refused_is ∙ r)) }
+    ran_to_end false true true r d b = record {
+      taken = h.taken;
+      takes = takes_all;
+      few = few_taken;
+      over = (within, ends_there, wrote_all Done (sym refused_is ∙ r, subst IsFinished state_is (d.0 refl), has_blank_end b));
+    }
+    ran_to_end false true false r d b = record { taken = h.taken; takes = takes_all; few = few_taken; over = (within, ends_there, wrote_all Unfinished (sym refused_is ∙ r, inr (no_blank_end b))) }
+    ran_to_end false false blank r d b = record {
+      taken = h.taken;
+      takes = takes_all;
+      few = few_taken;
+      over = (within, ends_there, wrote_all Unfinished (sym refused_is ∙ r, inl (λ z. let y : false ≡ true = d.1 (subst IsFinished (sym state_is) z) in cc)));
+    }
+
+  -- a piece was fed: what is to come is what comes behind it
+  module _ (n : ℕ) (left' : Option (List ℕ)) (p' : Pending) (f : FedPiece n left left' p p') (fits : count + n ≤ MAX_INPUT) where
+    fed : Answered out0 out (all_items (h.taken ++ f.bytes)) (to_come p') beginning m
+    fed = record {
+      answered = h.answered.answered;
+      report = h.answered.report;
+      reports = h.answered.reports;
+      standing_is = h.answered.standing_is;
+      items_are = λ more.
+          ap items (append_assoc h.taken f.bytes more) ∙ (h.answered.items_are (f.bytes ++ more) ∙ ap (λ q. h.answered.answered ++ q) (sym (f.items_are more)));
+      wrote = h.answered.wrote;
+    }
+
+    fed_takes : Takes left0 (h.taken ++ f.bytes) left'
+    fed_takes = takes_more left0 left left' h.taken f.bytes h.takes f.takes
+
+    counted : length (h.taken ++ f.bytes) ≡ count + n
+    counted = let a = length-append h.taken f.bytes in let b = f.length_is in let c = h.counted in omega arith
+
+    few_fed : length (h.taken ++ f.bytes) ≤ MAX_INPUT + 1
+    few_fed = let a = counted in omega arith
+
+    -- some items that were ready were answered, and then a write has failed or memory was wanted
+    stopped_short : (out' : Option (List ℕ)) (reads reads' : ℕ) → AnsweredSome out out' (to_come p') m.state → WroteSome (h.taken ++ f.bytes) out0 out' reads reads'
+    stopped_short out' reads reads' x =
+        let y : AnsweredSome out0 out' (all_items (h.taken ++ f.bytes)) empty = some_more out0 out out' (all_items (h.taken ++ f.bytes)) (to_come p') beginning m fed x in
+        let e : take MAX_INPUT (h.taken ++ f.bytes) ≡ (h.taken ++ f.bytes) ++ [] = take_all MAX_INPUT (h.taken ++ f.bytes) (let a = counted in omega arith) ∙ sym (append-nil (h.taken ++ f.bytes)) in
+        some_written (h.taken ++ f.bytes) (h.taken ++ f.bytes) [] out0 out' reads reads' e y
+
+    pub ran_write_fault : (out' : Option (List ℕ)) (reads reads' writes now writes' : ℕ) → AnsweredSome out out' (to_come p') m.state → Rose now writes' → writes ≤ now → Ran WriteFault left0 left' out0 out' reads reads' writes writes'
+    ran_write_fault out' reads reads' writes now writes' x r l = record { taken = h.taken ++ f.bytes; takes = fed_takes; few = few_fed; over = (rose_more writes now writes' l r, stopped_short out' reads reads' x) }
+
+    pub ran_no_room : (out' : Option (List ℕ)) (reads reads' writes writes' : ℕ) → AnsweredSome out out' (to_come p') m.state → Ran NoMemory left0 left' out0 out' reads reads' writes writes'
+    ran_no_room out' reads reads' writes writes' x = record { taken = h.taken ++ f.bytes; takes = fed_takes; few = few_fed; over = stopped_short out' reads reads' x }
+
+    -- every item that was ready was answered
+    pub runs_on : (out' : Option (List ℕ)) (q : Pending) (k : Standing) → Answered out out' (to_come p') (to_come q) m k → to_come q [] ≡ [] → SameRest p' q → Running left0 left' out0 out' q k (count + n)
+    runs_on out' q k x e b = record {
+      taken = h.taken ++ f.bytes;
+      takes = fed_takes;
+      counted = counted;
+      few = fits;
+      answered = answered_more out0 out out' (all_items (h.taken ++ f.bytes)) (to_come p') (to_come q) beginning m k fed x;
+      none_ready = e;
+      blank_is = λ more. ap has_blank_rest (append_assoc h.taken f.bytes more) ∙ (h.blank_is (f.bytes ++ more) ∙ (sym (f.blank_is more) ∙ sym (b more)));
+    }

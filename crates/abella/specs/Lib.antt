@@ -1,0 +1,11 @@
+pub mod Status
+pub mod State
+pub mod Reading
+pub mod Built
+pub mod Effect
+pub mod Show
+pub mod Report
+pub mod Proved
+pub mod Outcome
+pub mod Session
+pub mod Progress

@@ -1,0 +1,150 @@
+-- How far a run has come: the items that were answered, and those that are to come.
+use Rattle.std.specs.Prelude.{◌≡◌, ◌≤◌, ◌||◌, ℕ, Bool, true, false, List, [], ◌∷◌, ◌++◌, ◌⊎◌, length, Option, Some, None, Result, Ok, Err}
+use Rattle.ab_lex.specs.Commands.{Item}
+use Rattle.ab_lex.specs.Scanner.{items, has_blank_rest}
+use Rattle.ab_lex.specs.Pending.{Pending, items_after, blank_after}
+use Rattle.ab_io.specs.Count.{Rose}
+use Rattle.ab_io.specs.Told.{Takes, Appends, AppendsFront, AtEnd}
+use Rattle.ab_io.specs.declared.sink.WriteFault.{WriteFault}
+use Rattle.abella.specs.declared.session.reply.Reply.{Reply}
+use Rattle.abella.specs.declared.input.ReadStop.{ReadStop}
+use Rattle.abella.specs.declared.input.ReadStop.TheVariants.{Failed as ReadFailed, Memory as ReadMemory}
+use Rattle.abella.specs.declared.output.Progress.{Progress}
+use Rattle.abella.specs.declared.running.TheConstants.{MAX_INPUT}
+use Rattle.abella.specs.declared.status.Status.{Status}
+use Rattle.abella.specs.declared.status.Status.TheVariants.{Done, Refused, WriteFault as FaultStatus, NoMemory, Unfinished}
+use Rattle.abella.specs.Session.{state_of}
+use Rattle.abella.specs.State.{State, empty}
+use Rattle.abella.specs.Show.{block}
+use Rattle.abella.specs.Report.{Report, Reports, Replies, is_refusal}
+
+-- how a run stands between two commands: the session's state, and whether a command was refused
+pub record Standing : Type 0 where
+  pub state : State
+  pub refused : Bool
+
+-- how a run begins
+abbrev pub beginning : Standing
+beginning = record { state = empty; refused = false }
+
+-- the items that a splitter still gives, by the bytes that come
+abbrev pub to_come : Pending → List ℕ → List Item
+to_come p more = items_after p more
+
+-- all the items of a text that begins with these bytes
+abbrev pub all_items : List ℕ → List ℕ → List Item
+all_items taken more = items (taken ++ more)
+
+-- the standing behind a report
+abbrev pub standing_behind : Standing → Report → Standing
+standing_behind m r = record { state = r.state; refused = m.refused || r.refused }
+
+-- the same rest stands behind the last command
+abbrev pub SameRest : Pending → Pending → Type 0
+SameRest p p' = (more : List ℕ) → blank_after p' more ≡ blank_after p more
+
+-- from one moment to another: these items were answered, their blocks written, and those are to come
+pub record Answered (out out' : Option (List ℕ)) (from to : List ℕ → List Item) (m m' : Standing) : Type 0 where
+  pub answered : List Item
+  pub report : Report
+  pub reports : Reports m.state answered report
+  pub standing_is : m' ≡ standing_behind m report
+  pub items_are : (more : List ℕ) → from more ≡ answered ++ to more
+  pub wrote : Appends out report.bytes out'
+
+-- some items were answered, and a front of their blocks was written
+pub record AnsweredSome (out out' : Option (List ℕ)) (from : List ℕ → List Item) (s : State) : Type 0 where
+  pub answered : List Item
+  pub others : List ℕ → List Item
+  pub report : Report
+  pub reports : Reports s answered report
+  pub items_are : (more : List ℕ) → from more ≡ answered ++ others more
+  pub wrote : AppendsFront out report.bytes out'
+
+-- the text is the block that answers the next item
+pub record AnswersItem (bytes : List ℕ) (m m' : Standing) (p p' : Pending) : Type 0 where
+  pub item : Item
+  pub reply : Reply
+  pub replies : Replies m.state item reply m'.state
+  pub refused_is : m'.refused ≡ (m.refused || is_refusal reply)
+  pub text_is : bytes ≡ block reply m'.state
+  pub items_are : (more : List ℕ) → to_come p more ≡ item ∷ to_come p' more
+
+-- the next item has this reply
+pub record RepliesItem (reply : Reply) (s s' : State) (p p' : Pending) : Type 0 where
+  pub item : Item
+  pub replies : Replies s item reply s'
+  pub items_are : (more : List ℕ) → to_come p more ≡ item ∷ to_come p' more
+
+-- no item is ready, and nothing has changed
+pub record StaysReady (s s' : State) (p p' : Pending) : Type 0 where
+  pub state_is : s' ≡ s
+  pub none : to_come p' [] ≡ []
+  pub items_are : (more : List ℕ) → to_come p more ≡ to_come p' more
+
+-- the reply to the next item, or none is ready
+abbrev pub RepliesNext : Option Reply → State → State → Pending → Pending → Type 0
+RepliesNext (Some reply) s s' p p' = RepliesItem reply s s' p p'
+RepliesNext None s s' p p' = StaysReady s s' p p'
+
+-- no item is ready
+pub record HasNone (m m' : Standing) (p p' : Pending) : Type 0 where
+  pub standing_is : m' ≡ m
+  pub none : to_come p' [] ≡ []
+  pub items_are : (more : List ℕ) → to_come p more ≡ to_come p' more
+
+abbrev pub standing_of : Progress → Standing
+standing_of p = record { state = state_of p.session; refused = p.refused }
+
+-- the next block, or none is ready
+abbrev pub AnswersNext : Option (List ℕ) → Standing → Standing → Pending → Pending → Type 0
+AnswersNext (Some bytes) m m' p p' = AnswersItem bytes m m' p p'
+AnswersNext None m m' p p' = HasNone m m' p p'
+
+-- every item that was ready was answered, or a write has failed, or memory was wanted
+abbrev pub AnsweredReady : Result (Unit {0}) WriteFault → Option (List ℕ) → Option (List ℕ) → Standing → Standing → Pending → Pending → Type 0
+AnsweredReady (Ok done) out out' m m' p p' = Answered out out' (to_come p) (to_come p') m m' × (to_come p' [] ≡ [])
+AnsweredReady (Err fault) out out' m m' p p' = AnsweredSome out out' (to_come p) m.state
+
+-- a piece was read and fed
+pub record FedPiece (count : ℕ) (left left' : Option (List ℕ)) (p p' : Pending) : Type 0 where
+  pub bytes : List ℕ
+  pub length_is : length bytes ≡ count
+  pub takes : Takes left bytes left'
+  pub items_are : (more : List ℕ) → to_come p' more ≡ to_come p (bytes ++ more)
+  pub blank_is : (more : List ℕ) → blank_after p' more ≡ blank_after p (bytes ++ more)
+  pub at_end : count ≡ 0 → AtEnd left
+
+-- some bytes were taken, and not more than these
+pub record TookPiece (most : ℕ) (left left' : Option (List ℕ)) : Type 0 where
+  pub bytes : List ℕ
+  pub few : length bytes ≤ most
+  pub takes : Takes left bytes left'
+
+abbrev pub ReadStopped : ReadStop → ℕ → Option (List ℕ) → Option (List ℕ) → ℕ → ℕ → Type 0
+ReadStopped ReadFailed most left left' reads reads' = (left' ≡ left) × Rose reads reads'
+ReadStopped ReadMemory most left left' reads reads' = TookPiece most left left'
+
+-- between two pieces: what was taken, that the items that ended in it were answered, and that those to come are the others
+pub record Running (left left' out out' : Option (List ℕ)) (p : Pending) (m : Standing) (count : ℕ) : Type 0 where
+  pub taken : List ℕ
+  pub takes : Takes left taken left'
+  pub counted : length taken ≡ count
+  pub few : count ≤ MAX_INPUT
+  pub answered : Answered out out' (all_items taken) (to_come p) beginning m
+  pub none_ready : to_come p [] ≡ []
+  pub blank_is : (more : List ℕ) → has_blank_rest (taken ++ more) ≡ blank_after p more
+
+-- the last line was written, or the status says why not
+abbrev pub EndedWith : Status → Status → List ℕ → Option (List ℕ) → Option (List ℕ) → ℕ → ℕ → Type 0
+EndedWith result status line out out' writes writes' =
+    ((result ≡ status) × Appends out line out')
+    ⊎ (((result ≡ FaultStatus) × AppendsFront out line out' × Rose writes writes')
+    ⊎ ((result ≡ NoMemory) × AppendsFront out line out'))
+
+-- the status of a text that was read to its end: whether a command was refused, no proof is open, and the rest is blank
+abbrev pub status_at_end : Bool → Bool → Bool → Status
+status_at_end true finished blank = Refused
+status_at_end false true true = Done
+status_at_end false true false = Unfinished
+status_at_end false false blank = Unfinished

@@ -1,0 +1,221 @@
+//! Whole runs over worked scripts, and over sources and sinks that fail.
+ghost use Rattle.std.specs.Prelude.{◌<◌};
+
+use crate::running::run;
+use crate::streams::{StdSink, StdSource};
+use ab_io::{MemFiles, MemSink, MemSource, Sink, Source, WriteFault};
+use std::alloc::{AllocError, Global};
+use std::test::Fail;
+
+/// A script, the status that it ends with, and what is printed.
+struct Case {
+    script: &'static [u8],
+    status: u8,
+    report: &'static [u8],
+}
+
+const PROVED: &[u8] = b"[1]\n============================\n true\n[2] Proof completed: t.\n";
+
+const CASES: [Case; 9] = [
+    Case {
+        script: b"",
+        status: 0,
+        report: b"",
+    },
+    Case {
+        script: b"Theorem t : true. search.",
+        status: 0,
+        report: PROVED,
+    },
+    Case {
+        script: b"Theorem t : true /\\ true. split. search. search.",
+        status: 0,
+        report: b"[1]\n============================\n true /\\ true\n[2]\n============================\n true\nSubgoal 2 is:\n true\n[3]\n============================\n true\n[4] Proof completed: t.\n",
+    },
+    Case {
+        script: b"split.",
+        status: 1,
+        report: b"[0] Refused 9 WrongPlace\n",
+    },
+    Case {
+        script: b"Theorem t : false.",
+        status: 1,
+        report: b"[0] Refused 27 NotBuilt\n",
+    },
+    Case {
+        script: b"Theorem t : true. split.",
+        status: 1,
+        report: b"[1]\n============================\n true\n[1] Refused 11 WrongShape\n============================\n true\n",
+    },
+    Case {
+        script: b"Theorem t : true /* a. /* b. */ c. */ . search.",
+        status: 0,
+        report: PROVED,
+    },
+    Case {
+        script: b"Theorem t : true. search. /* open",
+        status: 6,
+        report: PROVED,
+    },
+    Case {
+        script: b"Theorem t : true. search. % end",
+        status: 0,
+        report: PROVED,
+    },
+];
+
+/// What a run over a script in pieces ends with, and what it writes; the reads and the writes of these numbers fail.
+fn outcome(
+    alloc: Global,
+    script: &[u8],
+    piece: usize,
+    failing_reads: &[u64],
+    failing_writes: &[u64],
+) -> Result<(u8, Vec<u8>), AllocError>
+    requires { 0 < piece }
+{
+    let bytes = Vec::from_slice(alloc, script)?;
+    let mut input = MemSource::new(bytes, piece, Vec::from_slice(alloc, failing_reads)?);
+    let mut out = MemSink::new(alloc, Vec::from_slice(alloc, failing_writes)?);
+    let mut files = MemFiles::new(alloc, Vec::new(alloc));
+    let mut words = Vec::new(alloc);
+    words.push(String::from_str(alloc, "abella")?)?;
+    let ended = run(alloc, &words, &mut files, &mut input, &mut out);
+    Ok((ended.status, Vec::from_slice(alloc, out.bytes())?))
+}
+
+#[test]
+fn reports_scripts_however_they_are_cut(rt: HostRuntime) -> Result<(), Fail> {
+    for case in CASES.iter() {
+        for piece in [1usize, 2, 65_536].iter() {
+            if *piece > 0 {
+                let (status, report) = outcome(rt.alloc(), case.script, *piece, &[], &[])?;
+                assert_eq!(rt; status, case.status);
+                assert!(rt; report.as_slice() == case.report);
+            }
+        }
+    }
+    Ok(())
+}
+
+/// The reads and writes that fail over the script of one theorem in pieces of five bytes, and what comes of it.
+struct Faults {
+    reads: &'static [u64],
+    writes: &'static [u64],
+    status: u8,
+    report: &'static [u8],
+}
+
+const FAULTS: [Faults; 6] = [
+    Faults {
+        reads: &[4],
+        writes: &[],
+        status: 3,
+        report: b"Read fault.\n",
+    },
+    Faults {
+        reads: &[5],
+        writes: &[],
+        status: 3,
+        report: b"[1]\n============================\n true\nRead fault.\n",
+    },
+    Faults {
+        reads: &[6],
+        writes: &[],
+        status: 3,
+        report: b"[1]\n============================\n true\n[2] Proof completed: t.\nRead fault.\n",
+    },
+    Faults {
+        reads: &[],
+        writes: &[1],
+        status: 4,
+        report: b"",
+    },
+    Faults {
+        reads: &[],
+        writes: &[2],
+        status: 4,
+        report: b"[1]\n============================\n true\n",
+    },
+    Faults {
+        reads: &[4],
+        writes: &[1],
+        status: 4,
+        report: b"",
+    },
+];
+
+#[test]
+fn ends_at_a_fault(rt: HostRuntime) -> Result<(), Fail> {
+    for faults in FAULTS.iter() {
+        let (status, report) = outcome(
+            rt.alloc(),
+            b"Theorem t : true. search.",
+            5,
+            faults.reads,
+            faults.writes,
+        )?;
+        assert_eq!(rt; status, faults.status);
+        assert!(rt; report.as_slice() == faults.report);
+    }
+    Ok(())
+}
+
+/// A sink that takes no byte, and counts each such write as a fault.
+#[derive(Drop)]
+struct FullSink {
+    faults: u64,
+}
+
+impl Sink for FullSink {
+    ghost use Rattle.std.specs.Prelude.{None};
+
+    ghost written = { λ _. None };
+
+    ghost faults = { λ s. s.faults };
+
+    fn write(&mut self, _piece: &[u8]) -> Result<usize, WriteFault> {
+        self.faults = self.faults.saturating_add(1);
+        Ok(0)
+    }
+}
+
+#[test]
+fn takes_a_write_of_nothing_for_a_fault(rt: HostRuntime) -> Result<(), Fail> {
+    let alloc = rt.alloc();
+    let script = Vec::from_slice(alloc, b"Theorem t : true.")?;
+    let mut input = MemSource::new(script, 5, Vec::new(alloc));
+    let mut files = MemFiles::new(alloc, Vec::new(alloc));
+    let mut out = FullSink { faults: 0 };
+    let mut words = Vec::new(alloc);
+    words.push(String::from_str(alloc, "abella")?)?;
+    assert_eq!(rt;
+        run(alloc, &words, &mut files, &mut input, &mut out).status,
+        4
+    );
+    words.push(String::from_str(alloc, "--nosuch")?)?;
+    assert_eq!(rt;
+        run(alloc, &words, &mut files, &mut input, &mut out).status,
+        4
+    );
+    let mut shown = MemSink::new(alloc, Vec::new(alloc));
+    assert_eq!(rt;
+        run(alloc, &words, &mut files, &mut input, &mut shown).status,
+        2
+    );
+    assert!(rt;
+        shown.bytes() == b"Usage: abella [-q] [--drill N] [--check-cert] [FILE]\n".as_slice()
+    );
+    Ok(())
+}
+
+#[test]
+fn counts_the_faults_of_real_streams(rt: HostRuntime) -> Result<(), Fail> {
+    let mut input = StdSource::new(b"ab".as_slice());
+    let mut piece = [0u8; 4];
+    assert_eq!(rt; input.read(&mut piece), Ok(2));
+    assert_eq!(rt; input.read(&mut piece), Ok(0));
+    let mut out = StdSink::new(Vec::new(rt.alloc()));
+    assert_eq!(rt; out.write(b"ab"), Ok(2));
+    Ok(())
+}
