@@ -1,0 +1,25 @@
+-- Lists of tokens and spots, cut and joined.
+use Rattle.std.proofs.Common.{◌≡◌, List, [], ◌∷◌, ◌++◌, ap, sym, ◌∙◌, append_assoc}
+use Rattle.std.proofs.lemmas.List.{map-append, append_cancel_left}
+use Rattle.ab_grammar.specs.Token.{Token}
+use Rattle.ab_grammar.specs.Nesting.{Spot}
+use Rattle.ab_grammar.specs.Language.{tokens_of}
+use Rattle.ab_grammar.specs.Reading.{first}
+
+pub tokens_of-append : (us vs : List Spot) → tokens_of (us ++ vs) ≡ tokens_of us ++ tokens_of vs
+tokens_of-append us vs = map-append (λ s. s.token) us vs
+
+-- what a text and then the next token begin with
+pub begins_like : (ks rest zs : List Token) (us : List Spot) → ks ≡ tokens_of us ++ rest → (ys : List Token) × (tokens_of us ++ first rest ∷ zs ≡ first ks ∷ ys)
+begins_like ks rest zs [] e = (zs, ap (λ (w : List Token). first w ∷ zs) (sym e))
+begins_like ks rest zs (u ∷ us) e = (tokens_of us ++ first rest ∷ zs, ap (λ (w : List Token). first w ∷ (tokens_of us ++ first rest ∷ zs)) (sym e))
+
+-- two parts, one behind the other
+pub cut_in_two : (ks ms rest : List Token) (us vs : List Spot) → ks ≡ tokens_of us ++ ms → ms ≡ tokens_of vs ++ rest → ks ≡ tokens_of (us ++ vs) ++ rest
+cut_in_two ks ms rest us vs e f = e ∙ ap (λ (w : List Token). tokens_of us ++ w) f ∙ sym (append_assoc (tokens_of us) (tokens_of vs) rest) ∙ ap (λ (w : List Token). w ++ rest) (sym (tokens_of-append us vs))
+
+pub regroup : (us vs : List Spot) (r : List Token) → tokens_of (us ++ vs) ++ r ≡ tokens_of us ++ (tokens_of vs ++ r)
+regroup us vs r = ap (λ (w : List Token). w ++ r) (tokens_of-append us vs) ∙ append_assoc (tokens_of us) (tokens_of vs) r
+
+pub cancel : (us v : List Spot) (r s : List Token) → tokens_of us ++ (tokens_of v ++ r) ≡ tokens_of us ++ s → tokens_of v ++ r ≡ s
+cancel us v r s e = append_cancel_left (tokens_of us) (tokens_of v ++ r) s e

@@ -1,0 +1,12 @@
+use Rattle.ab_grammar.specs.CommandTable.{CommandText}
+use Rattle.ab_grammar.proofs.OneAnswer as answers
+use Rattle.ab_grammar.proofs.laws.one_answer_for_a_command.Goals as goal
+
+pub returns : goal.returns
+returns c = record {
+  text_or_syntax = λ ts a i. answers.text_or_syntax CommandText ts a i;
+  text_or_nested = λ ts a i. answers.text_or_nested CommandText ts a i;
+  syntax_or_nested = λ ts i j. answers.syntax_or_nested CommandText ts i j;
+  one_syntax = λ ts i j. answers.one_syntax CommandText ts i j;
+  one_nested = λ ts i j. answers.one_nested CommandText ts i j;
+}

@@ -1,0 +1,11 @@
+pub mod Token
+pub mod Tree
+pub mod Grammar
+pub mod Parentheses
+pub mod Nesting
+pub mod Language
+pub mod Reading
+pub mod Machine
+pub mod CommandTrees
+pub mod CommandForms
+pub mod CommandTable

@@ -1,0 +1,37 @@
+//! Laws of permutations of nominal constants, and of equality up to them.
+
+ghost use Rattle.std.specs.Prelude.{◌≡◌, List, Bool, map};
+ghost use Rattle.ab_term.specs.Types.{Ty};
+ghost use Rattle.ab_term.specs.Terms.{Nominal, Term};
+ghost use Rattle.ab_term.specs.Typing.{Signature, HasType};
+ghost use Rattle.ab_term.specs.Substitution.{instance};
+ghost use Rattle.ab_term.specs.Names.{support, permute, moved_by, IsPermutationTable, EqualUpToNames};
+ghost use Rattle.ab_term.specs.Variables.{Substitution, image};
+
+/// A permutation keeps types, goes through instances and substitutions, and moves the support.
+pub fn permutation_respects_terms<Var, Hint>()
+    ensures types { (sg : Signature) (ps : List (Nominal × Nominal)) → IsPermutationTable ps →
+        (G : List Ty) (A : Ty) (t : Term Var Hint) → HasType sg G t A → HasType sg G (permute ps t) A }
+    ensures instances { (ps : List (Nominal × Nominal)) (t u : Term Var Hint) →
+        permute ps (instance t u) ≡ instance (permute ps t) (permute ps u) }
+    ensures images { (ps : List (Nominal × Nominal)) (same : Var → Var → Bool) (s : Substitution Var Hint)
+        (t : Term Var Hint) →
+        permute ps (image same s t) ≡ image same (map (λ p. (p.0, permute ps p.1)) s) (permute ps t) }
+    ensures names { (ps : List (Nominal × Nominal)) (t : Term Var Hint) →
+        support (permute ps t) ≡ map (moved_by ps) (support t) }
+{}
+
+/// A permutation moves no two constants to one, and the pairs the other way round undo it.
+pub fn permutation_is_undone<Var, Hint>()
+    ensures table { (ps : List (Nominal × Nominal)) → IsPermutationTable ps →
+        IsPermutationTable (map (λ p. (p.1, p.0)) ps) }
+    ensures undone { (ps : List (Nominal × Nominal)) → IsPermutationTable ps → (t : Term Var Hint) →
+        permute (map (λ p. (p.1, p.0)) ps) (permute ps t) ≡ t }
+{}
+
+/// To be equal up to names is an equivalence.
+pub fn equality_up_to_names<Var, Hint>()
+    ensures reflexive { (t : Term Var Hint) → EqualUpToNames t t }
+    ensures symmetric { (t u : Term Var Hint) → EqualUpToNames t u → EqualUpToNames u t }
+    ensures transitive { (t u v : Term Var Hint) → EqualUpToNames t u → EqualUpToNames u v → EqualUpToNames t v }
+{}
