@@ -1,0 +1,75 @@
+//! The lists in which a table keeps its entries, one for each sort, and the order of all.
+ghost use Rattle.std.specs.Prelude.{◌≡◌, IfOk, OnOk, OnErr, Some, slice_get, Contains};
+ghost use Rattle.ab_types.specs.Columns.{PutsOnce, PutsNew, PutsNamed, AreAsBefore};
+ghost use Rattle.indexmap.specs.IndexMap.{keys};
+
+use crate::ids::{TypeId, TypeView};
+use crate::name::Name;
+use indexmap::{IndexMap, IndexSet};
+use std::alloc::{AllocError, Global};
+
+/// What an entry of a table is.
+#[derive(Clone, Copy, Debug, PartialEq, Eq)]
+pub enum Sort {
+    Kind,
+    Ty,
+    Constant,
+}
+
+/// The place of the type, which is put behind the others where it isn't there.
+pub fn put_type(
+    types: &mut IndexSet<TypeView>,
+    order: &mut Vec<Sort>,
+    view: TypeView,
+) -> Result<usize, AllocError>
+    ensures stored { IfOk result (λ place. slice_get types.new.keys place ≡ Some view) }
+    ensures puts { OnOk result (PutsOnce view Sort.Ty types.old.keys order.old.items types.new.keys order.new.items) }
+    ensures err { OnErr result (AreAsBefore types.old.keys order.old.items types.new.keys order.new.items) }
+{
+    order.reserve(1)?;
+    let (place, added) = types.insert_full(view)?;
+    if added {
+        order.push_reserved(Sort::Ty);
+    }
+    Ok(place)
+}
+
+/// Puts the kind behind the others, and answers its place; `None` where it is there.
+pub fn put_kind(
+    kinds: &mut IndexSet<Name>,
+    order: &mut Vec<Sort>,
+    name: Name,
+) -> Result<Option<usize>, AllocError>
+    ensures puts { IfOk result (λ place. PutsNew place name Sort.Kind kinds.old.keys order.old.items kinds.new.keys order.new.items) }
+    ensures absent { OnErr result (¬ Contains kinds.old.keys name) }
+    ensures err { OnErr result (AreAsBefore kinds.old.keys order.old.items kinds.new.keys order.new.items) }
+{
+    if kinds.contains(&name) {
+        return Ok(None);
+    }
+    order.reserve(1)?;
+    let (place, _) = kinds.insert_full(name)?;
+    order.push_reserved(Sort::Kind);
+    Ok(Some(place))
+}
+
+/// Puts the constant behind the others, and answers its place; `None` where one has the name.
+pub fn put_constant(
+    constants: &mut IndexMap<Name, TypeId>,
+    order: &mut Vec<Sort>,
+    name: Name,
+    ty: TypeId,
+) -> Result<Option<usize>, AllocError>
+    ensures puts { IfOk result (λ place. PutsNamed place (name, ty) Sort.Constant constants.old.entries order.old.items constants.new.entries order.new.items) }
+    ensures absent { OnErr result (¬ Contains (keys constants.old) name) }
+    ensures err { OnErr result (AreAsBefore constants.old.entries order.old.items constants.new.entries order.new.items) }
+{
+    if constants.contains_key(&name) {
+        return Ok(None);
+    }
+    order.reserve(1)?;
+    let place = constants.len();
+    constants.insert(name, ty)?;
+    order.push_reserved(Sort::Constant);
+    Ok(Some(place))
+}
