@@ -8,7 +8,8 @@ use Rattle.ab_term.specs.Terms as tree
 use Rattle.ab_term.specs.Terms.{Term, lam, spine, Terms, no_terms, term, terms_of}
 use Rattle.ab_term.specs.Names.{support_of_head, support, support_of_all}
 use Rattle.ab_term.specs.Reach.{reach, reach_of_all}
-use Rattle.ab_types.specs.Table.{Table, HoldsType}
+use Rattle.ab_types.specs.Entries.{Table}
+use Rattle.ab_types.specs.Ids.{HoldsType}
 use Rattle.ab_store.specs.declared.node.TermId.{TermId}
 use Rattle.ab_store.specs.declared.node.Head.{Head}
 use Rattle.ab_store.specs.declared.node.Head.TheVariants.{Const, Logic, Nominal, Cell, Index}

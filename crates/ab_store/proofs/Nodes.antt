@@ -5,7 +5,8 @@ use Rattle.std.proofs.lemmas.List.Elements.{All-head, All-tail}
 use Rattle.std.specs.List.{All}
 use Rattle.ab_term.specs.Terms as tree
 use Rattle.ab_term.specs.Terms.{lam, spine, terms_of, no_terms}
-use Rattle.ab_types.specs.Table.{Table, type_of}
+use Rattle.ab_types.specs.Entries.{Table}
+use Rattle.ab_types.specs.Ids.{type_of}
 use Rattle.ab_store.specs.declared.node.TermId.{TermId}
 use Rattle.ab_store.specs.declared.node.Head.{Head}
 use Rattle.ab_store.specs.declared.node.Head.TheVariants.{Const, Logic, Nominal, Cell, Index}

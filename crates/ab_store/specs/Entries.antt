@@ -3,7 +3,7 @@ use Rattle.std.specs.Prelude.{◌≡◌, ℕ, ◌<◌, List, [], map, length, ge
 use Rattle.ab_term.specs.Terms as tree
 use Rattle.ab_term.specs.Terms.{Term, lam, spine, Terms, no_terms, term}
 use Rattle.ab_term.specs.Reach.{reach}
-use Rattle.ab_types.specs.Table.{Table}
+use Rattle.ab_types.specs.Entries.{Table}
 use Rattle.ab_store.specs.declared.node.Node.{Node}
 use Rattle.ab_store.specs.declared.node.CellEntry.{CellEntry}
 use Rattle.ab_store.specs.declared.store.Entry.{Entry}

@@ -1,6 +1,6 @@
 -- A store only grows: its ids and cells stay, and stand for what they stood for.
 use Rattle.std.specs.Prelude.{◌≡◌}
-use Rattle.ab_types.specs.Table.{Table}
+use Rattle.ab_types.specs.Entries.{Table}
 use Rattle.ab_store.specs.declared.node.TermId.{TermId}
 use Rattle.ab_store.specs.declared.node.CellId.{CellId}
 use Rattle.ab_store.specs.Reading.{Contents, Holds, HoldsCell, reading, cell_of}

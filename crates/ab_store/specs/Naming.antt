@@ -3,7 +3,8 @@ use Rattle.std.specs.Prelude.{◌≡◌, ℕ, ◌<◌, List, length, get_or}
 use Rattle.std.specs.List.{All}
 use Rattle.ab_term.specs.Types.{Ty}
 use Rattle.ab_term.specs.Typing.{HasType}
-use Rattle.ab_types.specs.Table.{Table, signature, HoldsType, HoldsConst}
+use Rattle.ab_types.specs.Entries.{Table, signature}
+use Rattle.ab_types.specs.Ids.{HoldsType, HoldsConstant}
 use Rattle.ab_store.specs.declared.node.TermId.{TermId}
 use Rattle.ab_store.specs.declared.node.Logical.{Logical}
 use Rattle.ab_store.specs.declared.node.Logical.TheVariants.{True, False, And, Or, Arrow, Equal, Forall, Exists, Nabla, Judge, Focus, Star, At, Plus, Hash, Pi, Imply, With}
@@ -33,7 +34,7 @@ LogicalIsTyped types (Pi a) = HoldsType types a
 LogicalIsTyped types _ = Unit {0}
 
 abbrev pub HeadIsTyped : Table → Head → Type 0
-HeadIsTyped types (Const c) = HoldsConst types c
+HeadIsTyped types (Const c) = HoldsConstant types c
 HeadIsTyped types (Logic l) = LogicalIsTyped types l
 HeadIsTyped types (Nominal n a) = HoldsType types a
 HeadIsTyped types _ = Unit {0}

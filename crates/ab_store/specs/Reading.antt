@@ -6,7 +6,8 @@ use Rattle.ab_term.specs.Types.{Ty, prop}
 use Rattle.ab_term.specs.Logical as plain
 use Rattle.ab_term.specs.Terms as tree
 use Rattle.ab_term.specs.Terms.{Term, lam, spine, terms_of, no_terms}
-use Rattle.ab_types.specs.Table.{Table, type_of, name_of, HoldsType, HoldsConst}
+use Rattle.ab_types.specs.Entries.{Table}
+use Rattle.ab_types.specs.Ids.{type_of, constant_of, HoldsType, HoldsConstant}
 use Rattle.ab_types.specs.declared.ids.TypeId.{TypeId}
 use Rattle.ab_store.specs.declared.node.TermId.{TermId}
 use Rattle.ab_store.specs.declared.node.CellId.{CellId}
@@ -61,7 +62,7 @@ module _ (types : Table) where
   logical_of With = plain.spec_conjunction
 
   abbrev pub head_in : List CellEntry → Head → tree.Head ℕ
-  head_in cells (Const c) = tree.constant (name_of types c)
+  head_in cells (Const c) = tree.constant (constant_of types c).name
   head_in cells (Logic l) = tree.logical (logical_of l)
   head_in cells (Nominal n a) = tree.nominal (record { number = n; type = type_of types a })
   head_in cells (Cell c) = tree.variable (record { name = c.0; type = type_of types (cell_in cells c).ty })

@@ -1,6 +1,6 @@
 use Rattle.std.proofs.Common.{◌≡◌, map, take}
 use Rattle.ab_term.specs.Terms.{terms_of}
-use Rattle.ab_types.specs.Table.{Table}
+use Rattle.ab_types.specs.Entries.{Table}
 use Rattle.ab_store.specs.Reading.{reading}
 use Rattle.ab_store.specs.Entries.{any_has_nominal}
 use Rattle.ab_store.proofs.store.Store.any_nominals.Given as goal

@@ -1,7 +1,7 @@
 use Rattle.std.proofs.Common.{◌≡◌, map, take}
 use Rattle.ab_term.specs.Terms.{terms_of}
 use Rattle.ab_term.specs.Reach as tree
-use Rattle.ab_types.specs.Table.{Table}
+use Rattle.ab_types.specs.Entries.{Table}
 use Rattle.ab_store.specs.Reading.{reading}
 use Rattle.ab_store.proofs.store.Store.reach_of_all.Given as goal
 
