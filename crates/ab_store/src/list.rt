@@ -1,7 +1,8 @@
 //! The arguments that a head is given.
-ghost use Rattle.std.specs.Prelude.{◌≡◌};
+ghost use Rattle.std.specs.Prelude.{◌≡◌, IfOk};
 
 use crate::node::TermId;
+use std::alloc::{AllocError, Global};
 use std::marker::Model;
 
 /// A list of terms. Contracts see it as the list.
@@ -39,5 +40,14 @@ impl Arguments {
         ensures { result.now ≡ self.now }
     {
         &self.terms
+    }
+
+    /// The same list again.
+    pub fn copy(&self, alloc: Global) -> Result<Arguments, AllocError>
+        ensures { IfOk result (λ list. list ≡ self.now) }
+    {
+        Ok(Arguments {
+            terms: self.terms.iter().copied().collect(alloc)?,
+        })
     }
 }

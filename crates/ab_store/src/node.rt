@@ -1,6 +1,9 @@
 //! The numbers of terms and cells, and the nodes of terms.
+ghost use Rattle.std.specs.Prelude.{◌≡◌, IfOk};
+
 use crate::list::Arguments;
 use ab_types::{ConstId, Name, TypeId};
+use std::alloc::{AllocError, Global};
 
 /// A term of a store.
 #[derive(Clone, Copy, PartialEq, Eq, PartialOrd, Ord, Hash, Debug)]
@@ -73,6 +76,18 @@ pub enum Node {
     Lam(TypeId, Name, TermId),
     /// A head with the arguments that it is given.
     Spine(Head, Arguments),
+}
+
+impl Node {
+    /// The same node again.
+    pub fn copy(&self, alloc: Global) -> Result<Node, AllocError>
+        ensures { IfOk result (λ node. node ≡ self.now) }
+    {
+        match self {
+            Node::Lam(ty, hint, body) => Ok(Node::Lam(*ty, hint.copy(alloc)?, *body)),
+            Node::Spine(head, args) => Ok(Node::Spine(*head, args.copy(alloc)?)),
+        }
+    }
 }
 
 /// What a store keeps of a cell: its hint, and the type of what it stands for.

@@ -1,0 +1,4 @@
+pub mod Lowering
+pub mod Bounds
+pub mod Frame
+pub mod Raised

@@ -1,0 +1,5 @@
+//! Hereditary substitution on shared terms, their eta-long forms, and their nominal constants.
+#![tactic(auto)]
+
+mod indices;
+mod raising;
