@@ -2,6 +2,7 @@
 use Rattle.std.proofs.Common.{ℕ, zero, suc, ◌+◌, ◌<◌, ◌≤◌, max, List, [], ◌∷◌, length, get_or, arith}
 use Rattle.std.specs.List.{All}
 use Rattle.std.proofs.lemmas.List.Elements.{All-head, All-tail}
+use Rattle.ab_term.specs.Types.{Ty, kind, arrow}
 use Rattle.ab_store.specs.declared.node.TermId.{TermId}
 
 -- one more than the largest
@@ -17,3 +18,8 @@ pub below_bound : (ts : List TermId) (i : ℕ) (d : TermId) → i < length ts �
 below_bound [] i d h = absurd (omega arith)
 below_bound (t ∷ ts) zero d h = omega arith
 below_bound (t ∷ ts) (suc i) d h = omega (arith, below_bound ts i d (omega arith))
+
+-- how many kinds and arrows a type is made of
+abbrev pub size : Ty → ℕ
+size (kind c) = 1
+size (arrow A B) = size A + size B + 1

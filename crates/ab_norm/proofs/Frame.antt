@@ -99,3 +99,6 @@ lam_names j c n ty x body is names = subst (NodeNames j c) is names
 -- a head of the first store is one of the second
 pub still_held_head : (s t : Contents) (h : Head) → AddsTerms s t → HoldsHead s h → HoldsHead t h
 still_held_head s t h e held = subst (λ cells. HeadNames (length cells) h) (sym e.cells) held
+
+pub adds_more : (s0 s1 : Contents) → IsExtendedBy s0 s1 → s1.cells ≡ s0.cells → ((types : Table) → IsTypedBy types s0 → IsTypedBy types s1) → AddsTerms s0 s1
+adds_more s0 s1 more cells typed = record { before = more; cells = cells; typed = typed }

@@ -2,3 +2,4 @@ pub mod Lowering
 pub mod Bounds
 pub mod Frame
 pub mod Raised
+pub mod Substituted

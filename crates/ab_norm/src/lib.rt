@@ -2,4 +2,8 @@
 #![tactic(auto)]
 
 mod indices;
+mod instantiating;
 mod raising;
+mod substituting;
+
+pub use instantiating::instantiate;

@@ -1,5 +1,5 @@
 //! A store of terms.
-ghost use Rattle.std.specs.Prelude.{◌≡◌, ℕ, ◌+◌, ◌<◌, [], ◌∷◌, ◌++◌, length, map, IfOk, OnOk, OnErr, List, max, false, ◌↔◌, ◌||◌, All};
+ghost use Rattle.std.specs.Prelude.{◌≡◌, ℕ, ◌+◌, ◌^◌, ◌<◌, [], ◌∷◌, ◌++◌, length, map, IfOk, OnOk, OnErr, List, max, false, ◌↔◌, ◌||◌, All};
 ghost use Rattle.ab_term.specs.Types.{Ty};
 ghost use Rattle.ab_term.specs.Terms.{lam, spine, terms_of};
 ghost use Rattle.ab_term.specs.Reach as tree;
@@ -120,6 +120,7 @@ impl Store {
         requires { Holds self.now id }
         ensures reads { (types : Table) → reading types self.now id ≡ node_reading types self.now result.now }
         ensures earlier { NodeNames id.0 (length self.now.cells) result.now }
+        ensures word { id.0 < 2 ^ 64 }
         ensures typed { (types : Table) → IsTypedBy types self.now → NodeIsTyped types result.now }
     {
         &self.entries[id.0].node
