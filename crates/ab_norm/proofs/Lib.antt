@@ -3,3 +3,4 @@ pub mod Bounds
 pub mod Frame
 pub mod Raised
 pub mod Substituted
+pub mod Instances
