@@ -14,7 +14,7 @@ use Rattle.ab_types.specs.Ids.{HoldsType}
 use Rattle.ab_store.specs.Reading.{Read, Contents, Holds, reading, head_in, head_reading}
 use Rattle.ab_store.specs.Growth.{IsExtendedBy}
 use Rattle.ab_store.specs.Naming.{HeadNames, NodeNames, HoldsHead, HeadIsTyped, NodeIsTyped, IsTypedBy}
-use Rattle.ab_norm.specs.Growth.{AddsTerms}
+use Rattle.ab_norm.specs.Growth.{AddsTerms, AddsTypedTerms}
 
 pub extended_itself : (s : Contents) → IsExtendedBy s s
 extended_itself s = record { ids = λ t h. h; readings = λ types t h. refl; cell_ids = λ c h. h; cells = λ c h. refl }
@@ -40,11 +40,14 @@ adds_on r s t e f = record {
 pub still_held : (s t : Contents) (ts : List TermId) → AddsTerms s t → All (Holds s) ts → All (Holds t) ts
 still_held s t ts e = All-weaker (Holds s) (Holds t) e.before.ids ts
 
+pub still_read_before : (types : Table) (s t : Contents) (ts : List TermId) → IsExtendedBy s t → All (Holds s) ts → map (reading types t) ts ≡ map (reading types s) ts
+still_read_before types s t [] e h = refl
+still_read_before types s t (x ∷ xs) e h =
+    ap (λ r. r ∷ map (reading types t) xs) (e.readings types x (All-head (Holds s) x xs h))
+    ∙ ap (λ l. reading types s x ∷ l) (still_read_before types s t xs e (All-tail (Holds s) x xs h))
+
 pub still_read : (types : Table) (s t : Contents) (ts : List TermId) → AddsTerms s t → All (Holds s) ts → map (reading types t) ts ≡ map (reading types s) ts
-still_read types s t [] e h = refl
-still_read types s t (x ∷ xs) e h =
-    ap (λ r. r ∷ map (reading types t) xs) (e.before.readings types x (All-head (Holds s) x xs h))
-    ∙ ap (λ l. reading types s x ∷ l) (still_read types s t xs e (All-tail (Holds s) x xs h))
+still_read types s t ts e h = still_read_before types s t ts e.before h
 
 pub same_head : (types : Table) (s t : Contents) (h : Head) → AddsTerms s t → head_reading types t h ≡ head_reading types s h
 same_head types s t h e = ap (λ cells. head_in types cells h) e.cells
@@ -102,3 +105,17 @@ still_held_head s t h e held = subst (λ cells. HeadNames (length cells) h) (sym
 
 pub adds_more : (s0 s1 : Contents) → IsExtendedBy s0 s1 → s1.cells ≡ s0.cells → ((types : Table) → IsTypedBy types s0 → IsTypedBy types s1) → AddsTerms s0 s1
 adds_more s0 s1 more cells typed = record { before = more; cells = cells; typed = typed }
+
+-- for one table
+pub typed_from : (types : Table) (s t : Contents) → AddsTerms s t → IsTypedBy types s → AddsTypedTerms types s t
+typed_from types s t e typed = record { before = e.before; cells = e.cells; typed = e.typed types typed }
+
+pub typed_more : (types : Table) (r s t : Contents) → IsExtendedBy r s → s.cells ≡ r.cells → IsExtendedBy s t → t.cells ≡ s.cells → IsTypedBy types t → AddsTypedTerms types r t
+typed_more types r s t e c f d typed = record { before = extended_on r s t e f; cells = d ∙ c; typed = typed }
+
+pub typed_on : (types : Table) (r s t : Contents) → AddsTypedTerms types r s → AddsTypedTerms types s t → AddsTypedTerms types r t
+typed_on types r s t e f = typed_more types r s t e.before e.cells f.before f.cells f.typed
+
+-- only that the second extends the first counts
+pub adds_but_types : (types : Table) (s t : Contents) → AddsTypedTerms types s t → (ts : List TermId) → All (Holds s) ts → (All (Holds t) ts) × (map (reading types t) ts ≡ map (reading types s) ts)
+adds_but_types types s t e ts h = (All-weaker (Holds s) (Holds t) e.before.ids ts h, still_read_before types s t ts e.before h)

@@ -4,3 +4,4 @@ pub mod Frame
 pub mod Raised
 pub mod Substituted
 pub mod Instances
+pub mod Expanded

@@ -10,3 +10,9 @@ pub record AddsTerms (old new : Contents) : Type 0 where
   pub before : IsExtendedBy old new
   pub cells : new.cells ≡ old.cells
   pub typed : (types : Table) → IsTypedBy types old → IsTypedBy types new
+
+-- the same, for one table that the store is of
+pub record AddsTypedTerms (types : Table) (old new : Contents) : Type 0 where
+  pub before : IsExtendedBy old new
+  pub cells : new.cells ≡ old.cells
+  pub typed : IsTypedBy types new

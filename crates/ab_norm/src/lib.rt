@@ -2,8 +2,10 @@
 #![tactic(auto)]
 
 mod indices;
+mod expanding;
 mod instantiating;
 mod raising;
 mod substituting;
 
+pub use expanding::eta;
 pub use instantiating::instantiate;

@@ -40,7 +40,7 @@ pub(crate) fn raise(
 
 /// The terms, where `by` binders are put in at `at`.
 #[cycle(raised)]
-fn raise_all(
+pub(crate) fn raise_all(
     alloc: Global,
     store: &mut Store,
     by: usize,
