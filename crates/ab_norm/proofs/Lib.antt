@@ -5,3 +5,4 @@ pub mod Raised
 pub mod Substituted
 pub mod Instances
 pub mod Expanded
+pub mod Unshared

@@ -91,14 +91,7 @@ fn widen(
     ensures adds { AddsTypedTerms types.now store.old store.new }
 {
     let mut given = raise_all(alloc, store, 1, 0, &args)?;
-    let name = expand(
-        alloc,
-        types,
-        store,
-        from,
-        Head::Index(0),
-        Vec::new(alloc),
-    )?;
+    let name = expand(alloc, types, store, from, Head::Index(0), Vec::new(alloc))?;
     given.push(name)?;
     Ok(given)
 }

@@ -33,7 +33,11 @@ fn sum(a: usize, b: usize) -> Result<usize, AllocError>
 fn raise_index(by: usize, at: usize, index: usize) -> Result<usize, AllocError>
     ensures { IfOk result (λ n. n ≡ reach.raise_index by at index) }
 {
-    if index < at { Ok(index) } else { sum(index, by) }
+    if index < at {
+        Ok(index)
+    } else {
+        sum(index, by)
+    }
 }
 
 /// A head, where `by` binders are put in at `at`.

@@ -15,9 +15,16 @@ use Rattle.ab_norm.proofs.expanding.+expanded.Goals as goal
 pub expand-expand-requires : goal.expand-expand-requires
 expand-expand-requires t c =
     let smaller = ap size c.in-Arrow.ensures.reads in
-    let adds = c.in_ok-given-in-Arrow.ensures.adds in
-    (omega (arith, smaller, c.decreases), (adds.typed, (c.in_ok-raise_head-in-Arrow.ensures.held c.widen.new.store (subst (λ cells. HeadNames (length cells) c.args.head) (sym adds.cells) c.requires.head),
-    (c.in_ok-raise_head-in-Arrow.ensures.typed c.args.types.now c.requires.typed, (c.in-Arrow.ensures.held.1, c.in_ok-given-in-Arrow.ensures.held)))))
+    let adds = c.in_ok-given-in-Arrow.ensures.adds in (
+      omega (arith, smaller, c.decreases),
+      (
+        adds.typed,
+        (
+          c.in_ok-raise_head-in-Arrow.ensures.held c.widen.new.store (subst (λ cells. HeadNames (length cells) c.args.head) (sym adds.cells) c.requires.head),
+          (c.in_ok-raise_head-in-Arrow.ensures.typed c.args.types.now c.requires.typed, (c.in-Arrow.ensures.held.1, c.in_ok-given-in-Arrow.ensures.held)),
+        ),
+      ),
+    )
 
 pub expand-returns-in_err-from_text-in-Arrow-clause-adds : goal.expand-returns-in_err-from_text-in-Arrow-clause-adds
 expand-returns-in_err-from_text-in-Arrow-clause-adds t c = typed_on c.args.types.now c.args.store.now c.widen.new.store c.expand.new.store c.in_ok-given-in-Arrow.ensures.adds c.in_ok-body-in-Arrow.ensures.adds

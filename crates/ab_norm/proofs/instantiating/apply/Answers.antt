@@ -13,6 +13,6 @@ substitute-requires-clause-ty g c = subst (NodeIsTyped c.args.types.now) c.in-La
 pub returns-in-Lam-clause-reads : goal.returns-in-Lam-clause-reads
 returns-in-Lam-clause-reads g c =
     if_ok c.substitute.result (λ r made.
-      made
-      ∙ ap (λ w. substitute (type_of c.args.types.now c.in-Lam.ty) w 0 (reading c.args.types.now c.args.store.now c.in-Lam.body)) (raise-none (reading c.args.types.now c.args.store.now c.args.arg) 0)
-      ∙ sym (ap (λ t. instance t (reading c.args.types.now c.args.store.now c.args.arg)) (c.view.ensures.reads c.args.types.now ∙ ap (node_reading c.args.types.now c.args.store.now) c.in-Lam.is))) c.substitute.ensures.reads
+    made
+    ∙ ap (λ w. substitute (type_of c.args.types.now c.in-Lam.ty) w 0 (reading c.args.types.now c.args.store.now c.in-Lam.body)) (raise-none (reading c.args.types.now c.args.store.now c.args.arg) 0)
+    ∙ sym (ap (λ t. instance t (reading c.args.types.now c.args.store.now c.args.arg)) (c.view.ensures.reads c.args.types.now ∙ ap (node_reading c.args.types.now c.args.store.now) c.in-Lam.is))) c.substitute.ensures.reads

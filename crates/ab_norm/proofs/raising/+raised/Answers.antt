@@ -36,9 +36,9 @@ pub raise-returns-in_ok-raised-in-Lam-clause-reads :
     goal.raise-returns-in_ok-raised-in-Lam-clause-reads
 raise-returns-in_ok-raised-in-Lam-clause-reads t c =
     if_ok c.lam.result (λ r made types.
-      raised_lam types c.args.store.now c.raise.new.store c.lam.new.self c.args.term r c.view.result.now (c.view.ensures.reads types) c.args.by c.args.at
-      c.in_ok-next-in-Lam.field-0 c.in-Lam.ty c.in-Lam.hint c.in-Lam.body c.in_ok-raised-in-Lam.raised (sym c.in_ok-ty.ensures ∙ c.in-Lam.is) c.in_ok-next-in-Lam.ensures
-      (c.in_ok-raised-in-Lam.ensures.reads types) (made types)) c.lam.ensures.reads
+    raised_lam types c.args.store.now c.raise.new.store c.lam.new.self c.args.term r c.view.result.now (c.view.ensures.reads types) c.args.by c.args.at
+    c.in_ok-next-in-Lam.field-0 c.in-Lam.ty c.in-Lam.hint c.in-Lam.body c.in_ok-raised-in-Lam.raised (sym c.in_ok-ty.ensures ∙ c.in-Lam.is) c.in_ok-next-in-Lam.ensures
+    (c.in_ok-raised-in-Lam.ensures.reads types) (made types)) c.lam.ensures.reads
 
 pub raise-returns-in_ok-raise_head-in-Spine-clause-adds :
     goal.raise-returns-in_ok-raise_head-in-Spine-clause-adds
@@ -50,10 +50,10 @@ pub raise-returns-in_ok-raise_head-in-Spine-clause-reads :
     goal.raise-returns-in_ok-raise_head-in-Spine-clause-reads
 raise-returns-in_ok-raise_head-in-Spine-clause-reads t c =
     if_ok c.spine.result (λ r made types.
-      raised_spine types c.args.store.now c.raise_all.new.store c.spine.new.self c.args.term r c.view.result.now (c.view.ensures.reads types) c.args.by c.args.at
-      c.in-Spine.head c.in_ok-raise_head-in-Spine.field-0 c.in-Spine.args c.as_slice.result.now c.in_ok-raised-in-Spine.raised.items (sym c.in_ok-ty.ensures ∙ c.in-Spine.is)
-      c.in_ok-raised-in-Spine.ensures.adds c.as_slice.ensures (c.in_ok-raise_head-in-Spine.ensures.reads types c.raise_all.new.store)
-      (c.in_ok-raised-in-Spine.ensures.reads types) (made types)) c.spine.ensures.reads
+    raised_spine types c.args.store.now c.raise_all.new.store c.spine.new.self c.args.term r c.view.result.now (c.view.ensures.reads types) c.args.by c.args.at
+    c.in-Spine.head c.in_ok-raise_head-in-Spine.field-0 c.in-Spine.args c.as_slice.result.now c.in_ok-raised-in-Spine.raised.items (sym c.in_ok-ty.ensures ∙ c.in-Spine.is)
+    c.in_ok-raised-in-Spine.ensures.adds c.as_slice.ensures (c.in_ok-raise_head-in-Spine.ensures.reads types c.raise_all.new.store)
+    (c.in_ok-raised-in-Spine.ensures.reads types) (made types)) c.spine.ensures.reads
 
 pub raise_all-raise-requires : goal.raise_all-raise-requires
 raise_all-raise-requires t c =

@@ -32,8 +32,8 @@ put_at-returns-in_ok-term-in-None-clause-typed g t c = λ types d h. c.reduce.en
 pub put_at-returns-in_ok-term-in-None-clause-reads : goal.put_at-returns-in_ok-term-in-None-clause-reads
 put_at-returns-in_ok-term-in-None-clause-reads g t c =
     if_ok c.reduce.result (λ r made.
-      put_reduced c.args.types.now c.args.store.now c.raise.new.store c.reduce.new.store c.args.put c.args.head r c.in_ok-term-in-None.term c.args.args.items c.deref.result.now
-      c.in_ok-term-in-None.ensures.adds c.requires.args c.deref.ensures.value (c.in-None.ensures.reads c.args.types.now c.args.store.now) (c.in_ok-term-in-None.ensures.reads c.args.types.now) made) c.reduce.ensures.reads
+    put_reduced c.args.types.now c.args.store.now c.raise.new.store c.reduce.new.store c.args.put c.args.head r c.in_ok-term-in-None.term c.args.args.items c.deref.result.now
+    c.in_ok-term-in-None.ensures.adds c.requires.args c.deref.ensures.value (c.in-None.ensures.reads c.args.types.now c.args.store.now) (c.in_ok-term-in-None.ensures.reads c.args.types.now) made) c.reduce.ensures.reads
 
 pub reduce-substitute-requires : goal.reduce-substitute-requires
 reduce-substitute-requires g t c = λ κs out.
@@ -43,9 +43,19 @@ reduce-substitute-requires g t c = λ κs out.
 
 pub reduce-reduce-requires : goal.reduce-reduce-requires
 reduce-reduce-requires g t c = λ κs out.
-    let smaller = ap size c.in-Arrow.ensures.reads in
-    (omega (arith, smaller, c.decreases), (out, (c.in-Arrow.ensures.held.1, (c.in_ok-applied-in-len1-up.ensures.held,
-    All-same (Holds c.substitute.new.store) _ _ (rest_is c.args.args.now) (still_held c.args.store.now c.substitute.new.store _ c.in_ok-applied-in-len1-up.ensures.adds (All-drop (Holds c.args.store.now) 1 c.args.args.now c.requires.args))))))
+    let smaller = ap size c.in-Arrow.ensures.reads in (
+      omega (arith, smaller, c.decreases),
+      (
+        out,
+        (
+          c.in-Arrow.ensures.held.1,
+          (
+            c.in_ok-applied-in-len1-up.ensures.held,
+            All-same (Holds c.substitute.new.store) _ _ (rest_is c.args.args.now) (still_held c.args.store.now c.substitute.new.store _ c.in_ok-applied-in-len1-up.ensures.adds (All-drop (Holds c.args.store.now) 1 c.args.args.now c.requires.args)),
+          ),
+        ),
+      ),
+    )
 
 pub reduce-returns-in_ok-applied-in-len1-up-clause-adds : goal.reduce-returns-in_ok-applied-in-len1-up-clause-adds
 reduce-returns-in_ok-applied-in-len1-up-clause-adds g t c = adds_on c.args.store.now c.substitute.new.store c.reduce.new.store c.in_ok-applied-in-len1-up.ensures.adds c.reduce.ensures.adds
@@ -53,15 +63,15 @@ reduce-returns-in_ok-applied-in-len1-up-clause-adds g t c = adds_on c.args.store
 pub reduce-returns-in_ok-applied-in-len1-up-clause-reads : goal.reduce-returns-in_ok-applied-in-len1-up-clause-reads
 reduce-returns-in_ok-applied-in-len1-up-clause-reads g t c =
     if_ok c.reduce.result (λ r made.
-      applied c.args.types.now c.args.store.now c.substitute.new.store c.reduce.new.store c.args.ty c.in-Arrow.from c.in-Arrow.to c.args.term c.in_ok-applied-in-len1-up.applied r
-      c.view-in-Arrow.result.now c.in-Lam.field-0 c.in-Lam.field-1 c.in-Lam.body (record { 0 = 0 }) c.args.args.now _
-      c.in_ok-applied-in-len1-up.ensures.adds c.requires.args c.in-Arrow.ensures.reads (c.view-in-Arrow.ensures.reads c.args.types.now) c.in-Lam.is (omega arith) (rest_is c.args.args.now)
-      c.in_ok-applied-in-len1-up.ensures.reads made) c.reduce.ensures.reads
+    applied c.args.types.now c.args.store.now c.substitute.new.store c.reduce.new.store c.args.ty c.in-Arrow.from c.in-Arrow.to c.args.term c.in_ok-applied-in-len1-up.applied r
+    c.view-in-Arrow.result.now c.in-Lam.field-0 c.in-Lam.field-1 c.in-Lam.body (record { 0 = 0 }) c.args.args.now _
+    c.in_ok-applied-in-len1-up.ensures.adds c.requires.args c.in-Arrow.ensures.reads (c.view-in-Arrow.ensures.reads c.args.types.now) c.in-Lam.is (omega arith) (rest_is c.args.args.now)
+    c.in_ok-applied-in-len1-up.ensures.reads made) c.reduce.ensures.reads
 
 pub substitute-returns-then-reach-put-clause-reads : goal.substitute-returns-then-reach-put-clause-reads
 substitute-returns-then-reach-put-clause-reads g t c =
     sym (substitute_by-short (reading c.args.types.now c.args.store.now c.args.term) (tree.reduce (type_of c.args.types.now c.args.put.ty)) (put_reading c.args.types.now c.args.store.now c.args.put) c.args.put.at
-      (omega (arith, c.reach.ensures c.args.types.now, c.if-reach-put.true)))
+    (omega (arith, c.reach.ensures c.args.types.now, c.if-reach-put.true)))
 
 pub substitute-substitute-requires : goal.substitute-substitute-requires
 substitute-substitute-requires g t c = λ κs out.
@@ -80,9 +90,19 @@ substitute-substitute_all-requires g t c = λ κs out.
 pub substitute-put_at-requires : goal.substitute-put_at-requires
 substitute-put_at-requires g t c = λ κs out.
     let names = spine_names _ _ c.view.result.now c.in-Spine.head c.in-Spine.args (sym c.in_ok-ty.ensures ∙ c.in-Spine.is) c.view.ensures.earlier in
-    let adds = c.in_ok-given-in-Spine.ensures.adds in
-    (omega (arith, c.decreases), (out, (c.requires.ty, (adds.before.ids c.args.put.term c.requires.put,
-    (still_held_head c.args.store.now c.substitute_all.new.store c.in-Spine.head adds names.0, c.in_ok-given-in-Spine.ensures.held)))))
+    let adds = c.in_ok-given-in-Spine.ensures.adds in (
+      omega (arith, c.decreases),
+      (
+        out,
+        (
+          c.requires.ty,
+          (
+            adds.before.ids c.args.put.term c.requires.put,
+            (still_held_head c.args.store.now c.substitute_all.new.store c.in-Spine.head adds names.0, c.in_ok-given-in-Spine.ensures.held),
+          ),
+        ),
+      ),
+    )
 
 pub substitute-returns-in_ok-inner-in-Lam-clause-adds : goal.substitute-returns-in_ok-inner-in-Lam-clause-adds
 substitute-returns-in_ok-inner-in-Lam-clause-adds g t c =
@@ -93,9 +113,9 @@ pub substitute-returns-in_ok-inner-in-Lam-clause-reads : goal.substitute-returns
 substitute-returns-in_ok-inner-in-Lam-clause-reads g t c =
     let deeper = c.in_ok-deeper-in-Lam.ensures in
     if_ok c.lam.result (λ r made.
-      put_in_lam c.args.types.now c.args.store.now c.substitute.new.store c.lam.new.self c.args.term r c.view.result.now (c.view.ensures.reads c.args.types.now) c.args.put
-      c.in_ok-deeper-in-Lam.field-0 c.in-Lam.ty c.in-Lam.hint c.in-Lam.body c.in_ok-inner-in-Lam.inner (sym c.in_ok-ty.ensures ∙ c.in-Lam.is) deeper.ty deeper.term deeper.at deeper.under
-      c.in_ok-inner-in-Lam.ensures.reads (made c.args.types.now)) c.lam.ensures.reads
+    put_in_lam c.args.types.now c.args.store.now c.substitute.new.store c.lam.new.self c.args.term r c.view.result.now (c.view.ensures.reads c.args.types.now) c.args.put
+    c.in_ok-deeper-in-Lam.field-0 c.in-Lam.ty c.in-Lam.hint c.in-Lam.body c.in_ok-inner-in-Lam.inner (sym c.in_ok-ty.ensures ∙ c.in-Lam.is) deeper.ty deeper.term deeper.at deeper.under
+    c.in_ok-inner-in-Lam.ensures.reads (made c.args.types.now)) c.lam.ensures.reads
 
 pub substitute-returns-in_ok-given-in-Spine-clause-adds : goal.substitute-returns-in_ok-given-in-Spine-clause-adds
 substitute-returns-in_ok-given-in-Spine-clause-adds g t c =
@@ -105,9 +125,9 @@ substitute-returns-in_ok-given-in-Spine-clause-adds g t c =
 pub substitute-returns-in_ok-given-in-Spine-clause-reads : goal.substitute-returns-in_ok-given-in-Spine-clause-reads
 substitute-returns-in_ok-given-in-Spine-clause-reads g t c =
     if_ok c.put_at.result (λ r made.
-      put_in_spine c.args.types.now c.args.store.now c.substitute_all.new.store c.put_at.new.store c.args.term r c.view.result.now (c.view.ensures.reads c.args.types.now) c.args.put
-      c.in-Spine.head c.in-Spine.args c.as_slice.result.now c.in_ok-given-in-Spine.given.items (sym c.in_ok-ty.ensures ∙ c.in-Spine.is) c.in_ok-given-in-Spine.ensures.adds c.requires.put c.as_slice.ensures
-      c.in_ok-given-in-Spine.ensures.reads made) c.put_at.ensures.reads
+    put_in_spine c.args.types.now c.args.store.now c.substitute_all.new.store c.put_at.new.store c.args.term r c.view.result.now (c.view.ensures.reads c.args.types.now) c.args.put
+    c.in-Spine.head c.in-Spine.args c.as_slice.result.now c.in_ok-given-in-Spine.given.items (sym c.in_ok-ty.ensures ∙ c.in-Spine.is) c.in_ok-given-in-Spine.ensures.adds c.requires.put c.as_slice.ensures
+    c.in_ok-given-in-Spine.ensures.reads made) c.put_at.ensures.reads
 
 pub substitute_all-loop-term-init : goal.substitute_all-loop-term-init
 substitute_all-loop-term-init g t c = record {
