@@ -1,6 +1,7 @@
 -- What putting an entry into one of a table's lists, and its word into the order, leaves. Contracts of the table
 -- don't speak of this.
-use Rattle.std.specs.Prelude.{◌≡◌, ℕ, List, [], ◌∷◌, ◌++◌, length, map, Contains, Option, MatchOption, ◌⊎◌}
+use Rattle.std.specs.Prelude.{◌≡◌, ℕ, List, [], ◌∷◌, ◌++◌, length, Contains, Option, MatchOption, ◌⊎◌}
+use Rattle.std.specs.Map.{keys_of}
 use Rattle.ab_types.specs.declared.columns.Sort.{Sort}
 
 module _ {X : Type 0} where
@@ -23,5 +24,5 @@ module _ {X : Type 0} where
 abbrev pub PutsNamed : {N T : Type 0} → Option ℕ → N × T → Sort → List (N × T) → List Sort → List (N × T) → List Sort → Type 0
 PutsNamed place x s xs ss xs2 ss2 =
     MatchOption place
-    (Contains (map (λ p. p.0) xs) x.0 × AreAsBefore xs ss xs2 ss2)
-    (λ i. (i ≡ length xs) × (¬ Contains (map (λ p. p.0) xs) x.0) × AreWith x s xs ss xs2 ss2)
+    (Contains (keys_of xs) x.0 × AreAsBefore xs ss xs2 ss2)
+    (λ i. (i ≡ length xs) × (¬ Contains (keys_of xs) x.0) × AreWith x s xs ss xs2 ss2)

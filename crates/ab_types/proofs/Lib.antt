@@ -1,0 +1,7 @@
+mod Members
+pub mod Entries
+mod Rows
+mod Merging
+
+mod Kept
+mod Grown
