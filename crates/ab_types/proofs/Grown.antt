@@ -150,3 +150,52 @@ module _ (ss : List Sort) (ks : List (List ℕ)) (vs : List TypeView) (cs : List
       subst₂ (Interns v place) (sym e) (sym f) (interns_there v place held there (ap (λ l. slice_get l place) (sym e) ∙ at))
   interns v place vs2 ss2 held (inr (new, (e, f))) at =
       subst₂ (Interns v place) (sym e) (sym f) (interns_behind v place held new (ap (λ l. slice_get l place) (sym e) ∙ at))
+
+  -- what declaring a kind leaves
+  pub record AddsKind (k : List ℕ) (place : ℕ) (ks2 : List (List ℕ)) (ss2 : List Sort) : Type 0 where
+    pub still : IsKept ss2 ks2 vs cs
+    pub held : HoldsKind (table_of ss2 ks2 vs cs) (record { 0 = place })
+    pub id : kind_of (table_of ss2 ks2 vs cs) (record { 0 = place }) ≡ k
+    pub entries : table_of ss2 ks2 vs cs ≡ t ++ a_kind k ∷ []
+    pub extended : IsExtendedBy t (table_of ss2 ks2 vs cs)
+
+  adds_kind_behind : (k : List ℕ) (place : ℕ) → place ≡ length ks → (Contains ks k → ⊥) → AddsKind k place (ks ++ k ∷ []) (ss ++ Kind ∷ [])
+  adds_kind_behind k place at new =
+      let put = add_kind k new in
+      let id : KindId = record { 0 = place } in
+      let last = last_kind t k id (at ∙ ap length (sym (kept.kinds_are ss ks vs cs t is ok))) in
+      record {
+        still = put.ok;
+        held = subst (λ w. HoldsKind w id) (sym put.is) last.0;
+        id = ap (λ w. kind_of w id) put.is ∙ last.1;
+        entries = put.is;
+        extended = subst (IsExtendedBy t) (sym put.is) (extended_by_one t (a_kind k));
+      }
+
+  pub adds_kind : (k : List ℕ) (place : ℕ) (ks2 : List (List ℕ)) (ss2 : List Sort) → place ≡ length ks → (Contains ks k → ⊥) → AreWith k Kind ks ss ks2 ss2 → AddsKind k place ks2 ss2
+  adds_kind k place ks2 ss2 at new (e, f) = subst₂ (AddsKind k place) (sym e) (sym f) (adds_kind_behind k place at new)
+
+  -- what declaring a constant leaves
+  pub record AddsConstant (c : Kept) (place : ℕ) (cs2 : List Kept) (ss2 : List Sort) : Type 0 where
+    pub still : IsKept ss2 ks vs cs2
+    pub held : HoldsConstant (table_of ss2 ks vs cs2) (record { 0 = place })
+    pub id : constant_of (table_of ss2 ks vs cs2) (record { 0 = place }) ≡ constant c.0 (type_of t c.1)
+    pub entries : table_of ss2 ks vs cs2 ≡ t ++ a_constant (constant c.0 (type_of t c.1)) ∷ []
+    pub extended : IsExtendedBy t (table_of ss2 ks vs cs2)
+
+  adds_constant_behind : (c : Kept) (place : ℕ) → place ≡ length cs → HoldsType t c.1 → (Contains (keys_of cs) c.0 → ⊥) → AddsConstant c place (cs ++ c ∷ []) (ss ++ Con ∷ [])
+  adds_constant_behind c place at held new =
+      let put = add_constant c held new in
+      let id : ConstId = record { 0 = place } in
+      let d : Constant = constant c.0 (type_of t c.1) in
+      let last = last_constant t d id (at ∙ sym (kept.constants_len ss ks vs cs t is ok)) in
+      record {
+        still = put.ok;
+        held = subst (λ w. HoldsConstant w id) (sym put.is) last.0;
+        id = ap (λ w. constant_of w id) put.is ∙ last.1;
+        entries = put.is;
+        extended = subst (IsExtendedBy t) (sym put.is) (extended_by_one t (a_constant d));
+      }
+
+  pub adds_constant : (c : Kept) (place : ℕ) (cs2 : List Kept) (ss2 : List Sort) → place ≡ length cs → HoldsType t c.1 → (Contains (keys_of cs) c.0 → ⊥) → AreWith c Con cs ss cs2 ss2 → AddsConstant c place cs2 ss2
+  adds_constant c place cs2 ss2 at held new (e, f) = subst₂ (AddsConstant c place) (sym e) (sym f) (adds_constant_behind c place at held new)

@@ -2,6 +2,6 @@ mod Members
 pub mod Entries
 mod Rows
 mod Merging
-
 mod Kept
 mod Grown
+mod Refusals

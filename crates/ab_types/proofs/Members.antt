@@ -122,6 +122,13 @@ name_in = Contains-list_any (pointwise nat_eq) same_name
 pub name_not_in : (ks : List (List ℕ)) (k : List ℕ) → list_any (pointwise nat_eq k) ks ≡ false → Contains ks k → ⊥
 name_not_in = not_in (pointwise nat_eq) nat_list_eq_equiv
 
+pub no_name : (ks : List (List ℕ)) (k : List ℕ) → (Contains ks k → ⊥) → list_any (pointwise nat_eq k) ks ≡ false
+no_name ks k new = go (list_any (pointwise nat_eq k) ks) refl
+  where
+    go : (b : Bool) → list_any (pointwise nat_eq k) ks ≡ b → list_any (pointwise nat_eq k) ks ≡ false
+    go true e = absurd (new (name_in ks k e))
+    go false e = e
+
 pub insert_name-new : (ks : List (List ℕ)) (k : List ℕ) → list_any (pointwise nat_eq k) ks ≡ false → insert_key (pointwise nat_eq) ks k ≡ ks ++ k ∷ []
 insert_name-new = insert_key-new (pointwise nat_eq)
 
@@ -136,8 +143,8 @@ module _ {V S : Type 0} (m : IndexMap (List ℕ) V S) (k : List ℕ) where
   pub key_not_in : is_some (get (pointwise nat_eq) m k) ≡ false → Contains (keys_of m.entries) k → ⊥
   key_not_in e = name_not_in (keys_of m.entries) k (sym (is_some-lookup (pointwise nat_eq k) m.entries) ∙ e)
 
-  pub insert_entry-behind : (v : V) → is_some (get (pointwise nat_eq) m k) ≡ false → insert_entry (pointwise nat_eq) m.entries k v ≡ m.entries ++ (k, v) ∷ []
-  insert_entry-behind v e = insert_entry-new (pointwise nat_eq) m k v (none (get (pointwise nat_eq) m k) e)
+  pub insert_entry-behind : (v : V) → (Contains (keys_of m.entries) k → ⊥) → insert_entry (pointwise nat_eq) m.entries k v ≡ m.entries ++ (k, v) ∷ []
+  insert_entry-behind v new = insert_entry-new (pointwise nat_eq) m k v (none (get (pointwise nat_eq) m k) (is_some-lookup (pointwise nat_eq k) m.entries ∙ no_name (keys_of m.entries) k new))
     where
       none : (o : Option V) → is_some o ≡ false → o ≡ None
       none None e = refl

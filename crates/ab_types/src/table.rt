@@ -6,7 +6,7 @@ ghost use Rattle.ab_types.specs.Ids.{HoldsKind, HoldsType, HoldsConstant, HoldsV
 ghost use Rattle.ab_types.specs.Sound.{IsTable};
 
 use crate::builtin::{first_constants, first_kinds, first_order, first_types};
-use crate::columns::{Sort, put_constant, put_kind, put_type};
+use crate::columns::{Sort, add_constant, add_kind, put_type};
 use crate::fault::TableFault;
 use crate::ids::{ConstId, KindId, TypeId, TypeView};
 use crate::name::Name;
@@ -137,10 +137,10 @@ impl TypeTable {
         ensures kept { IsExtendedBy self.old self.new }
         ensures table { IsTable self.new }
     {
-        match put_kind(&mut self.kinds, &mut self.order, name)? {
-            None => Err(TableFault::Clash),
-            Some(place) => Ok(KindId(place)),
+        if self.kinds.contains(&name) {
+            return Err(TableFault::Clash);
         }
+        Ok(KindId(add_kind(&mut self.kinds, &mut self.order, name)?))
     }
 
     /// Declares a constant of the type.
@@ -158,10 +158,10 @@ impl TypeTable {
         ensures kept { IsExtendedBy self.old self.new }
         ensures table { IsTable self.new }
     {
-        match put_constant(&mut self.constants, &mut self.order, name, ty)? {
-            None => Err(TableFault::Clash),
-            Some(place) => Ok(ConstId(place)),
+        if self.constants.contains_key(&name) {
+            return Err(TableFault::Clash);
         }
+        Ok(ConstId(add_constant(&mut self.constants, &mut self.order, name, ty)?))
     }
 
     /// The constant of that name.
