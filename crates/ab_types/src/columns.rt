@@ -1,6 +1,7 @@
 //! The lists in which a table keeps its entries, one for each sort, and the order of all.
-ghost use Rattle.std.specs.Prelude.{◌≡◌, IfOk, OnOk, OnErr, Some, slice_get, length, Contains};
+ghost use Rattle.std.specs.Prelude.{◌≡◌, ◌<◌, IfOk, OnOk, OnErr, Some, slice_get, length, Contains};
 ghost use Rattle.ab_types.specs.Columns.{PutsOnce, AreWith, AreAsBefore};
+ghost use Rattle.ab_types.specs.Layout.{Fits, AddsRow};
 ghost use Rattle.indexmap.specs.IndexMap.{keys};
 
 use crate::ids::{TypeId, TypeView};
@@ -68,4 +69,29 @@ pub fn add_constant(
     constants.insert(name, ty)?;
     order.push_reserved(Sort::Constant);
     Ok(place)
+}
+
+/// Drops the last entry.
+pub fn drop_row(
+    kinds: &mut IndexSet<Name>,
+    types: &mut IndexSet<TypeView>,
+    constants: &mut IndexMap<Name, TypeId>,
+    order: &mut Vec<Sort>,
+)
+    requires fits { Fits order.old.items kinds.old.keys types.old.keys constants.old.entries }
+    requires some { 0 < length order.old.items }
+    ensures { AddsRow order.new.items kinds.new.keys types.new.keys constants.new.entries order.old.items kinds.old.keys types.old.keys constants.old.entries }
+{
+    match order.pop() {
+        None => {}
+        Some(Sort::Kind) => {
+            kinds.pop();
+        }
+        Some(Sort::Ty) => {
+            types.pop();
+        }
+        Some(Sort::Constant) => {
+            constants.pop();
+        }
+    }
 }
