@@ -1,23 +1,24 @@
 -- A table with one entry more, as it is kept and as its callers see it.
-use Rattle.std.proofs.Common.{◌≡◌, ◌⊎◌, inl, inr, ℕ, zero, suc, ◌+◌, ◌<◌, ◌≤◌, List, [], ◌∷◌, ◌++◌, length, get_or, slice_get, Contains, Option, Some, None, refl, sym, ◌∙◌, ap, subst, subst₂, arith, length-append, append-nil}
+use Rattle.std.proofs.Common.{◌≡◌, ◌⊎◌, inl, inr, ℕ, zero, suc, ◌+◌, ◌<◌, ◌≤◌, List, [], ◌∷◌, ◌++◌, length, ◌-◌, take, drop, get_or, slice_get, Contains, Option, Some, None, refl, sym, ◌∙◌, ap, subst, subst₂, arith, length-append, append-nil}
 use Rattle.std.proofs.lemmas.Option.{slice_get_within, get_or_from_slice_get}
-use Rattle.std.proofs.lemmas.List.{get_or_push, get_or_default}
+use Rattle.std.proofs.lemmas.List.{get_or_push, get_or_default, take-append-drop}
+use Rattle.std.proofs.Math.Seq.{take-append_seam, take-append-add}
 use Rattle.std.specs.Map.{keys_of}
 use Rattle.ab_term.specs.Types.{Ty, prop}
 use Rattle.ab_types.specs.Entries.{Entry, a_kind, a_type, a_constant, Constant, constant, Table, kinds, types, constants, names, first_entries, IsExtendedBy, FindsOrAdds}
 use Rattle.ab_types.specs.Ids.{HoldsKind, HoldsType, HoldsConstant, HoldsView, kind_of, type_of, constant_of, seen_type}
 use Rattle.ab_types.specs.Sound.{AreDifferent, IsTable}
 use Rattle.ab_types.specs.Columns.{AreAsBefore, AreWith, PutsOnce}
-use Rattle.ab_types.specs.Layout.{Kept, Row, kind_row, type_row, constant_row, rows, Fits, entry_of, StandsOn, StandOn, with_rows, table_of, IsKept}
+use Rattle.ab_types.specs.Layout.{Kept, Row, kind_row, type_row, constant_row, rows, Fits, entry_of, StandsOn, StandOn, with_rows, table_of, IsKept, AddsRow}
 use Rattle.ab_types.specs.declared.ids.KindId.{KindId}
 use Rattle.ab_types.specs.declared.ids.TypeId.{TypeId}
 use Rattle.ab_types.specs.declared.ids.ConstId.{ConstId}
 use Rattle.ab_types.specs.declared.ids.TypeView.{TypeView}
 use Rattle.ab_types.specs.declared.columns.Sort.{Sort}
 use Rattle.ab_types.specs.declared.columns.Sort.TheVariants.{Kind, Ty as Typ, Constant as Con}
-use Rattle.ab_types.proofs.Members.{different_push}
+use Rattle.ab_types.proofs.Members.{different_push, different_front}
 use Rattle.ab_types.proofs.Entries.{kinds-append, types-append, constants-append, names-append, length-names, extended_by_itself, extended_twice, extended_by_one, in_types, from_types, same_seen}
-use Rattle.ab_types.proofs.Rows.{with_rows-append, stand-append}
+use Rattle.ab_types.proofs.Rows.{with_rows-append, stand-append, stand-front}
 use Rattle.ab_types.proofs.Merging.{PutsRow, put_kind, put_type, put_constant}
 use Rattle.ab_types.proofs.Kept as kept
 
@@ -51,6 +52,21 @@ with_constant t c ok new =
       kinds_differ = subst AreDifferent (sym (kinds-append t e ∙ append-nil (kinds t))) ok.kinds_differ;
       types_differ = subst AreDifferent (sym (types-append t e ∙ append-nil (types t))) ok.types_differ;
       constants_differ = subst AreDifferent (sym (ap names (constants-append t e) ∙ names-append (constants t) (c ∷ []))) (different_push (names (constants t)) c.name new ok.constants_differ);
+    }
+
+pub front_table : (t : Table) (n : ℕ) → IsTable t → length first_entries ≤ n → n ≤ length t → IsTable (take n t)
+front_table t n ok low high =
+    let back : Table = drop n t in
+    let whole : take n t ++ back ≡ t = take-append-drop n t in
+    let more : Table = ok.begins.0 in
+    let m : ℕ = n - length first_entries in
+    let size : n ≡ length first_entries + m = omega (arith, low) in
+    record {
+      begins = (take m more, ap (λ u. take n u) ok.begins.1 ∙ ap (λ k. take k (first_entries ++ more)) size ∙ take-append-add first_entries more m);
+      kinds_differ = different_front (kinds (take n t)) (kinds back) (subst AreDifferent (sym (ap kinds whole) ∙ kinds-append (take n t) back) ok.kinds_differ);
+      types_differ = different_front (types (take n t)) (types back) (subst AreDifferent (sym (ap types whole) ∙ types-append (take n t) back) ok.types_differ);
+      constants_differ = different_front (names (constants (take n t))) (names (constants back))
+          (subst AreDifferent (sym (ap (λ u. names (constants u)) whole) ∙ ap names (constants-append (take n t) back) ∙ names-append (constants (take n t)) (constants back)) ok.constants_differ);
     }
 
 -- the last id
@@ -199,3 +215,25 @@ module _ (ss : List Sort) (ks : List (List ℕ)) (vs : List TypeView) (cs : List
 
   pub adds_constant : (c : Kept) (place : ℕ) (cs2 : List Kept) (ss2 : List Sort) → place ≡ length cs → HoldsType t c.1 → (Contains (keys_of cs) c.0 → ⊥) → AreWith c Con cs ss cs2 ss2 → AddsConstant c place cs2 ss2
   adds_constant c place cs2 ss2 at held new (e, f) = subst₂ (AddsConstant c place) (sym e) (sym f) (adds_constant_behind c place at held new)
+
+  -- what dropping the last entry leaves
+  pub record Drops (ss0 : List Sort) (ks0 : List (List ℕ)) (vs0 : List TypeView) (cs0 : List Kept) : Type 0 where
+    pub still : IsKept ss0 ks0 vs0 cs0
+    pub entries : table_of ss0 ks0 vs0 cs0 ≡ take (length t - 1) t
+
+  pub drops : (ss0 : List Sort) (ks0 : List (List ℕ)) (vs0 : List TypeView) (cs0 : List Kept) → AddsRow ss0 ks0 vs0 cs0 ss ks vs cs → length first_entries < length t → Drops ss0 ks0 vs0 cs0
+  drops ss0 ks0 vs0 cs0 adds more =
+      let rs = rows ss0 ks0 vs0 cs0 in
+      let u : Table = table_of ss0 ks0 vs0 cs0 in
+      let e : Entry = entry_of u adds.row in
+      let same : t ≡ u ++ e ∷ [] = sym is ∙ ap (with_rows []) adds.rows_are ∙ with_rows-append [] rs (adds.row ∷ []) in
+      let size : length t - 1 ≡ length u = omega (arith, ap length same, length-append u (e ∷ [])) in
+      let front : take (length t - 1) t ≡ u = ap (λ n. take n t) size ∙ ap (take (length u)) same ∙ take-append_seam u (e ∷ []) in
+      record {
+        still = record {
+          fits = adds.fits;
+          stand = stand-front [] rs (adds.row ∷ []) (subst (StandOn []) adds.rows_are ok.stand);
+          table = subst IsTable front (front_table t (length t - 1) (kept.is_table ss ks vs cs t is ok) (omega (arith, more)) (omega (arith, more)));
+        };
+        entries = sym front;
+      }

@@ -178,3 +178,14 @@ module _ (ss : List Sort) (ks : List (List ℕ)) (vs : List TypeView) (cs : List
 
   pub constant_not_found : (k : List ℕ) → list_any (pointwise nat_eq k) (keys_of cs) ≡ false → Contains (names (constants t)) k → ⊥
   constant_not_found k e there = name_not_in (keys_of cs) k e (subst (λ l. Contains l k) names_are there)
+
+  -- what is read by a number
+
+  pub type_got : (ty : TypeId) (v : TypeView) → slice_get vs ty.0 ≡ Some v → HoldsView t v × (type_of t ty ≡ seen_type t v)
+  type_got ty v e = type_reads ty v (slice_get_within vs ty.0 v e) (sym (get_or_from_slice_get vs ty.0 v v e))
+
+  pub kind_got : (id : KindId) (k : List ℕ) → slice_get ks id.0 ≡ Some k → kind_of t id ≡ k
+  kind_got id k e = ap (λ l. get_or l id.0 []) kinds_are ∙ get_or_from_slice_get ks id.0 k [] e
+
+  pub constant_got : (id : ConstId) (c : Kept) → slice_get cs id.0 ≡ Some c → HoldsType t c.1 × (constant_of t id ≡ record { name = c.0; type = type_of t c.1 })
+  constant_got id c e = constant_reads id c (slice_get_within cs id.0 c e) (sym (get_or_from_slice_get cs id.0 c c e))

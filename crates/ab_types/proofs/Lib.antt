@@ -5,3 +5,4 @@ mod Merging
 mod Kept
 mod Grown
 mod Refusals
+mod Cutting

@@ -113,6 +113,9 @@ module _ {X : Type 0} (eq : X → X → Bool) where
     not_in ks k e c = true≢false (sym (list_any-from_Contains laws k ks c) ∙ e)
 
 -- names
+abbrev pub name_test : List ℕ → List ℕ → Bool
+name_test = pointwise nat_eq
+
 pub same_name : (k l : List ℕ) → pointwise nat_eq k l ≡ true → k ≡ l
 same_name k l = (bytes_decides k l).0
 
