@@ -5,7 +5,6 @@ use Rattle.ab_types.proofs.Kept.{FindsKind, kind_found, kind_not_found}
 use Rattle.ab_types.proofs.Refusals.{memory_no_unknown, ok_no_unknown}
 use Rattle.ab_types.proofs.table.TypeTable.base.Goals as goal
 
-
 pub intern-requires : goal.intern-requires
 intern-requires c = (kind_found c.self.inside.order.items c.self.inside.kinds.keys c.self.inside.types.keys c.self.inside.constants.entries c.args.self.now c.self.view_is c.self.invariant c.args.kind.now c.in-Some.place (sym c.in-Some.ensures.index)).held
 
