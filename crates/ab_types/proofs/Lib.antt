@@ -6,3 +6,4 @@ mod Kept
 mod Grown
 mod Refusals
 mod Cutting
+mod First

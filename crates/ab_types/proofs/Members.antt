@@ -69,6 +69,30 @@ module _ {X : Type 0} where
       go (inr a) (inl b) = absurd (new (contained xs j x (sym (at_before xs x j b) ∙ sym e ∙ ap (slice_get (xs ++ x ∷ [])) a ∙ at_push xs x)))
       go (inr a) (inr b) = a ∙ sym b
 
+  -- pairwise different elements, said by cases
+  abbrev pub IsApart : X → List X → Type 0
+  IsApart x [] = Unit {0}
+  IsApart x (y ∷ ys) = (y ≡ x → ⊥) × IsApart x ys
+
+  abbrev pub AreApart : List X → Type 0
+  AreApart [] = Unit {0}
+  AreApart (x ∷ xs) = IsApart x xs × AreApart xs
+
+  apart_absent : (x : X) (ys : List X) → IsApart x ys → Contains ys x → ⊥
+  apart_absent x [] apart c = Contains-none x c
+  apart_absent x (y ∷ ys) apart c = go (apart_absent x ys apart.1) (Contains-cases y ys x c)
+    where
+      go : (Contains ys x → ⊥) → (y ≡ x) ⊎ Contains ys x → ⊥
+      go rest (inl e) = apart.0 e
+      go rest (inr m) = rest m
+
+  pub different_list : (xs : List X) → AreApart xs → AreDifferent xs
+  different_list [] apart i j hi hj e = absurd (omega arith)
+  different_list (x ∷ xs) apart zero zero hi hj e = refl
+  different_list (x ∷ xs) apart zero (suc j) hi hj e = absurd (apart_absent x xs apart.0 (contained xs j x (sym e)))
+  different_list (x ∷ xs) apart (suc i) zero hi hj e = absurd (apart_absent x xs apart.0 (contained xs i x e))
+  different_list (x ∷ xs) apart (suc i) (suc j) hi hj e = ap suc (different_list xs apart.1 i j (omega arith) (omega arith) e)
+
   -- the front of different elements
   pub different_front : (xs ys : List X) → AreDifferent (xs ++ ys) → AreDifferent xs
   different_front xs ys ok i j hi hj e =
