@@ -1,6 +1,6 @@
 -- What putting an entry into one of a table's lists, and its word into the order, leaves. Contracts of the table
 -- don't speak of this.
-use Rattle.std.specs.Prelude.{◌≡◌, ℕ, List, [], ◌∷◌, ◌++◌, length, map, Contains, Option, MatchOption, ◌⊎◌}
+use Rattle.std.specs.Prelude.{◌≡◌, List, [], ◌∷◌, ◌++◌, Contains, ◌⊎◌}
 use Rattle.ab_types.specs.declared.columns.Sort.{Sort}
 
 module _ {X : Type 0} where
@@ -13,15 +13,3 @@ module _ {X : Type 0} where
   abbrev pub PutsOnce : X → Sort → List X → List Sort → List X → List Sort → Type 0
   PutsOnce x s xs ss xs2 ss2 =
       (Contains xs x × AreAsBefore xs ss xs2 ss2) ⊎ ((¬ Contains xs x) × AreWith x s xs ss xs2 ss2)
-
-  abbrev pub PutsNew : Option ℕ → X → Sort → List X → List Sort → List X → List Sort → Type 0
-  PutsNew place x s xs ss xs2 ss2 =
-      MatchOption place
-      (Contains xs x × AreAsBefore xs ss xs2 ss2)
-      (λ i. (i ≡ length xs) × (¬ Contains xs x) × AreWith x s xs ss xs2 ss2)
-
-abbrev pub PutsNamed : {N T : Type 0} → Option ℕ → N × T → Sort → List (N × T) → List Sort → List (N × T) → List Sort → Type 0
-PutsNamed place x s xs ss xs2 ss2 =
-    MatchOption place
-    (Contains (map (λ p. p.0) xs) x.0 × AreAsBefore xs ss xs2 ss2)
-    (λ i. (i ≡ length xs) × (¬ Contains (map (λ p. p.0) xs) x.0) × AreWith x s xs ss xs2 ss2)

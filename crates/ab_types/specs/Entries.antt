@@ -38,7 +38,7 @@ abbrev pub names : List Constant → List (List ℕ)
 names [] = []
 names (c ∷ cs) = c.name ∷ names cs
 
-abbrev type_in : List Constant → Signature
+abbrev pub type_in : List Constant → Signature
 type_in [] name = None
 type_in (c ∷ cs) name = if bytes_eq name c.name then Some c.type else type_in cs name
 

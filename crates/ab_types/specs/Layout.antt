@@ -67,3 +67,9 @@ pub record IsKept (ss : List Sort) (ks : List (List ℕ)) (vs : List TypeView) (
   pub fits : Fits ss ks vs cs
   pub stand : StandOn [] (rows ss ks vs cs)
   pub table : IsTable (table_of ss ks vs cs)
+
+-- the second lists are the first with one row more behind the others
+pub record AddsRow (ss : List Sort) (ks : List (List ℕ)) (vs : List TypeView) (cs : List Kept) (ss2 : List Sort) (ks2 : List (List ℕ)) (vs2 : List TypeView) (cs2 : List Kept) : Type 0 where
+  pub row : Row
+  pub fits : Fits ss ks vs cs
+  pub rows_are : rows ss2 ks2 vs2 cs2 ≡ rows ss ks vs cs ++ row ∷ []

@@ -1,5 +1,8 @@
 //! What a new table holds.
-ghost use Rattle.std.specs.Prelude.{◌≡◌, IfOk, OnOk, codes, [], ◌∷◌};
+ghost use Rattle.std.specs.Prelude.{◌≡◌, nat_eq, IfOk, OnOk};
+ghost use Rattle.std.specs.Cmp.Lexicographic.{pointwise};
+ghost use Rattle.indexmap.specs.IndexMap.{insert_entry};
+ghost use Rattle.indexmap.specs.IndexSet.{insert_key};
 ghost use Rattle.ab_types.specs.Builtin.{first_kinds as kinds_at_first, first_views, first_kept, first_sorts};
 
 use crate::columns::Sort;
@@ -8,14 +11,21 @@ use crate::name::Name;
 use indexmap::{IndexMap, IndexSet};
 use std::alloc::{AllocError, Global};
 
+fn insert_kind(kinds: &mut IndexSet<Name>, alloc: Global, text: &str) -> Result<(), AllocError>
+    ensures { OnOk result (kinds.new.keys ≡ insert_key (pointwise nat_eq) kinds.old.keys text.now) }
+{
+    kinds.insert(Name::from_text(alloc, text)?)?;
+    Ok(())
+}
+
 /// The kinds `prop`, `o` and `olist`.
 pub fn first_kinds(alloc: Global) -> Result<IndexSet<Name>, AllocError>
     ensures { IfOk result (λ kinds. kinds.keys ≡ kinds_at_first) }
 {
     let mut kinds = IndexSet::new(alloc);
-    for text in ["prop", "o", "olist"] {
-        kinds.insert(Name::from_text(alloc, text)?)?;
-    }
+    insert_kind(&mut kinds, alloc, "prop")?;
+    insert_kind(&mut kinds, alloc, "o")?;
+    insert_kind(&mut kinds, alloc, "olist")?;
     Ok(kinds)
 }
 
@@ -24,18 +34,26 @@ pub fn first_types(alloc: Global) -> Result<IndexSet<TypeView>, AllocError>
     ensures { IfOk result (λ types. types.keys ≡ first_views) }
 {
     let mut types = IndexSet::new(alloc);
-    for view in [
-        TypeView::Base(KindId(0)),
-        TypeView::Base(KindId(1)),
-        TypeView::Base(KindId(2)),
-        TypeView::Arrow(TypeId(2), TypeId(2)),
-        TypeView::Arrow(TypeId(1), TypeId(3)),
-        TypeView::Arrow(TypeId(2), TypeId(0)),
-        TypeView::Arrow(TypeId(1), TypeId(5)),
-    ] {
-        types.insert(view)?;
-    }
+    types.insert(TypeView::Base(KindId(0)))?;
+    types.insert(TypeView::Base(KindId(1)))?;
+    types.insert(TypeView::Base(KindId(2)))?;
+    types.insert(TypeView::Arrow(TypeId(2), TypeId(2)))?;
+    types.insert(TypeView::Arrow(TypeId(1), TypeId(3)))?;
+    types.insert(TypeView::Arrow(TypeId(2), TypeId(0)))?;
+    types.insert(TypeView::Arrow(TypeId(1), TypeId(5)))?;
     Ok(types)
+}
+
+fn insert_constant(
+    constants: &mut IndexMap<Name, TypeId>,
+    alloc: Global,
+    text: &str,
+    ty: TypeId,
+) -> Result<(), AllocError>
+    ensures { OnOk result (constants.new.entries ≡ insert_entry (pointwise nat_eq) constants.old.entries text.now ty) }
+{
+    constants.insert(Name::from_text(alloc, text)?, ty)?;
+    Ok(())
 }
 
 /// The constants `nil`, `::` and `member`.
@@ -43,9 +61,9 @@ pub fn first_constants(alloc: Global) -> Result<IndexMap<Name, TypeId>, AllocErr
     ensures { IfOk result (λ constants. constants.entries ≡ first_kept) }
 {
     let mut constants = IndexMap::new(alloc);
-    for (text, ty) in [("nil", TypeId(2)), ("::", TypeId(4)), ("member", TypeId(6))] {
-        constants.insert(Name::from_text(alloc, text)?, ty)?;
-    }
+    insert_constant(&mut constants, alloc, "nil", TypeId(2))?;
+    insert_constant(&mut constants, alloc, "::", TypeId(4))?;
+    insert_constant(&mut constants, alloc, "member", TypeId(6))?;
     Ok(constants)
 }
 
@@ -53,11 +71,19 @@ pub fn first_constants(alloc: Global) -> Result<IndexMap<Name, TypeId>, AllocErr
 pub fn first_order(alloc: Global) -> Result<Vec<Sort>, AllocError>
     ensures { IfOk result (λ order. order.items ≡ first_sorts) }
 {
-    let mut order = Vec::new(alloc);
-    for (sort, count) in [(Sort::Kind, 3), (Sort::Ty, 7), (Sort::Constant, 3)] {
-        for _ in 0..count {
-            order.push(sort)?;
-        }
-    }
-    Ok(order)
+    Ok(vec![in alloc;
+        Sort::Kind,
+        Sort::Kind,
+        Sort::Kind,
+        Sort::Ty,
+        Sort::Ty,
+        Sort::Ty,
+        Sort::Ty,
+        Sort::Ty,
+        Sort::Ty,
+        Sort::Ty,
+        Sort::Constant,
+        Sort::Constant,
+        Sort::Constant,
+    ]?)
 }

@@ -1,6 +1,7 @@
 //! The lists in which a table keeps its entries, one for each sort, and the order of all.
-ghost use Rattle.std.specs.Prelude.{◌≡◌, IfOk, OnOk, OnErr, Some, slice_get, Contains};
-ghost use Rattle.ab_types.specs.Columns.{PutsOnce, PutsNew, PutsNamed, AreAsBefore};
+ghost use Rattle.std.specs.Prelude.{◌≡◌, ◌<◌, IfOk, OnOk, OnErr, Some, slice_get, length, Contains};
+ghost use Rattle.ab_types.specs.Columns.{PutsOnce, AreWith, AreAsBefore};
+ghost use Rattle.ab_types.specs.Layout.{Fits, AddsRow};
 ghost use Rattle.indexmap.specs.IndexMap.{keys};
 
 use crate::ids::{TypeId, TypeView};
@@ -34,42 +35,63 @@ pub fn put_type(
     Ok(place)
 }
 
-/// Puts the kind behind the others, and answers its place; `None` where it is there.
-pub fn put_kind(
+/// Puts a kind that isn't there behind the others, and answers its place.
+pub fn add_kind(
     kinds: &mut IndexSet<Name>,
     order: &mut Vec<Sort>,
     name: Name,
-) -> Result<Option<usize>, AllocError>
-    ensures puts { IfOk result (λ place. PutsNew place name Sort.Kind kinds.old.keys order.old.items kinds.new.keys order.new.items) }
-    ensures absent { OnErr result (¬ Contains kinds.old.keys name) }
+) -> Result<usize, AllocError>
+    requires { ¬ Contains kinds.old.keys name }
+    ensures place { IfOk result (λ place. place ≡ length kinds.old.keys) }
+    ensures added { OnOk result (AreWith name Sort.Kind kinds.old.keys order.old.items kinds.new.keys order.new.items) }
     ensures err { OnErr result (AreAsBefore kinds.old.keys order.old.items kinds.new.keys order.new.items) }
 {
-    if kinds.contains(&name) {
-        return Ok(None);
-    }
     order.reserve(1)?;
     let (place, _) = kinds.insert_full(name)?;
     order.push_reserved(Sort::Kind);
-    Ok(Some(place))
+    Ok(place)
 }
 
-/// Puts the constant behind the others, and answers its place; `None` where one has the name.
-pub fn put_constant(
+/// Puts a constant, of whose name there is none, behind the others, and answers its place.
+pub fn add_constant(
     constants: &mut IndexMap<Name, TypeId>,
     order: &mut Vec<Sort>,
     name: Name,
     ty: TypeId,
-) -> Result<Option<usize>, AllocError>
-    ensures puts { IfOk result (λ place. PutsNamed place (name, ty) Sort.Constant constants.old.entries order.old.items constants.new.entries order.new.items) }
-    ensures absent { OnErr result (¬ Contains (keys constants.old) name) }
+) -> Result<usize, AllocError>
+    requires { ¬ Contains (keys constants.old) name }
+    ensures place { IfOk result (λ place. place ≡ length constants.old.entries) }
+    ensures added { OnOk result (AreWith (name, ty) Sort.Constant constants.old.entries order.old.items constants.new.entries order.new.items) }
     ensures err { OnErr result (AreAsBefore constants.old.entries order.old.items constants.new.entries order.new.items) }
 {
-    if constants.contains_key(&name) {
-        return Ok(None);
-    }
     order.reserve(1)?;
     let place = constants.len();
     constants.insert(name, ty)?;
     order.push_reserved(Sort::Constant);
-    Ok(Some(place))
+    Ok(place)
+}
+
+/// Drops the last entry.
+pub fn drop_row(
+    kinds: &mut IndexSet<Name>,
+    types: &mut IndexSet<TypeView>,
+    constants: &mut IndexMap<Name, TypeId>,
+    order: &mut Vec<Sort>,
+)
+    requires fits { Fits order.old.items kinds.old.keys types.old.keys constants.old.entries }
+    requires some { 0 < length order.old.items }
+    ensures { AddsRow order.new.items kinds.new.keys types.new.keys constants.new.entries order.old.items kinds.old.keys types.old.keys constants.old.entries }
+{
+    match order.pop() {
+        None => {}
+        Some(Sort::Kind) => {
+            kinds.pop();
+        }
+        Some(Sort::Ty) => {
+            types.pop();
+        }
+        Some(Sort::Constant) => {
+            constants.pop();
+        }
+    }
 }

@@ -5,6 +5,7 @@ mod builtin;
 mod columns;
 mod fault;
 mod ids;
+pub mod laws;
 mod name;
 mod steps;
 mod table;

@@ -6,7 +6,7 @@ ghost use Rattle.ab_types.specs.Ids.{HoldsKind, HoldsType, HoldsConstant, HoldsV
 ghost use Rattle.ab_types.specs.Sound.{IsTable};
 
 use crate::builtin::{first_constants, first_kinds, first_order, first_types};
-use crate::columns::{Sort, put_constant, put_kind, put_type};
+use crate::columns::{Sort, add_constant, add_kind, drop_row, put_type};
 use crate::fault::TableFault;
 use crate::ids::{ConstId, KindId, TypeId, TypeView};
 use crate::name::Name;
@@ -112,7 +112,7 @@ impl TypeTable {
         ensures reads { type_of self.now ty ≡ seen_type self.now result }
         ensures table { IsTable self.now }
     {
-        self.types.as_slice()[ty.0]
+        *self.types.get_index(ty.0).unwrap()
     }
 
     /// The name of the kind.
@@ -121,7 +121,7 @@ impl TypeTable {
         ensures name { result.now ≡ kind_of self.now id }
         ensures table { IsTable self.now }
     {
-        &self.kinds.as_slice()[id.0]
+        self.kinds.get_index(id.0).unwrap()
     }
 
     /// Declares a kind.
@@ -137,10 +137,10 @@ impl TypeTable {
         ensures kept { IsExtendedBy self.old self.new }
         ensures table { IsTable self.new }
     {
-        match put_kind(&mut self.kinds, &mut self.order, name)? {
-            None => Err(TableFault::Clash),
-            Some(place) => Ok(KindId(place)),
+        if self.kinds.contains(&name) {
+            return Err(TableFault::Clash);
         }
+        Ok(KindId(add_kind(&mut self.kinds, &mut self.order, name)?))
     }
 
     /// Declares a constant of the type.
@@ -158,10 +158,10 @@ impl TypeTable {
         ensures kept { IsExtendedBy self.old self.new }
         ensures table { IsTable self.new }
     {
-        match put_constant(&mut self.constants, &mut self.order, name, ty)? {
-            None => Err(TableFault::Clash),
-            Some(place) => Ok(ConstId(place)),
+        if self.constants.contains_key(&name) {
+            return Err(TableFault::Clash);
         }
+        Ok(ConstId(add_constant(&mut self.constants, &mut self.order, name, ty)?))
     }
 
     /// The constant of that name.
@@ -186,7 +186,7 @@ impl TypeTable {
         ensures signature { signature self.now (constant_of self.now id).name ≡ Some (type_of self.now result) }
         ensures table { IsTable self.now }
     {
-        self.constants[id.0]
+        *self.constants.get_index(id.0).unwrap().1
     }
 
     /// The name of the constant.
@@ -226,17 +226,11 @@ impl TypeTable {
         ensures entries { self.new ≡ take (length self.old - 1) self.old }
         ensures table { IsTable self.new }
     {
-        match self.order.pop() {
-            None => {}
-            Some(Sort::Kind) => {
-                self.kinds.pop();
-            }
-            Some(Sort::Ty) => {
-                self.types.pop();
-            }
-            Some(Sort::Constant) => {
-                self.constants.pop();
-            }
-        }
+        drop_row(
+            &mut self.kinds,
+            &mut self.types,
+            &mut self.constants,
+            &mut self.order,
+        );
     }
 }
