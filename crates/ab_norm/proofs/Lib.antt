@@ -6,3 +6,5 @@ pub mod Substituted
 pub mod Instances
 pub mod Expanded
 pub mod Unshared
+pub mod OneHead
+pub mod Compared

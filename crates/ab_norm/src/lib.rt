@@ -1,6 +1,7 @@
 //! Hereditary substitution on shared terms, their eta-long forms, and their nominal constants.
 #![tactic(auto)]
 
+mod comparing;
 mod expanding;
 mod indices;
 mod instantiating;
@@ -10,6 +11,8 @@ mod substituting;
 mod tree;
 mod unsharing;
 
+
+pub use comparing::equal;
 pub use expanding::eta;
 pub use instantiating::instantiate;
 pub use nominal::{Nominal, Permutation, Swap, Swaps};
