@@ -2,7 +2,7 @@ mod Members
 pub mod Entries
 mod Rows
 mod Merging
-mod Kept
+pub mod Kept
 mod Grown
 mod Refusals
 mod Cutting

@@ -3,5 +3,5 @@ use Rattle.std.specs.Prelude.{ℕ}
 use base.Stored.{gnum}
 use base.Fml.{Fml, fsep, fobs, fauth}
 
-unfoldable pub tally_owns : ℕ → ℕ → Fml
-tally_owns name count = fsep (fauth name (gnum count)) (fobs name (gnum count))
+abbrev pub tally_owns : ℕ → ℕ → Fml
+tally_owns name count = fsep (fobs name (gnum count)) (fauth name (gnum count))

@@ -10,6 +10,8 @@ mod name;
 mod steps;
 mod table;
 mod tally;
+#[cfg(test)]
+mod tests;
 
 pub use fault::TableFault;
 pub use ids::{ConstId, KindId, TypeId, TypeView};

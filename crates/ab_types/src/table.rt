@@ -211,6 +211,7 @@ impl TypeTable {
         requires begins { length first_entries ≤ len }
         requires within { len ≤ length self.old }
         ensures entries { self.new ≡ take len self.old }
+        ensures front { IsExtendedBy self.new self.old }
         ensures steps { steps.new ≡ steps.old + (length self.old - len) }
         ensures table { IsTable self.new }
     {

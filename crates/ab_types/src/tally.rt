@@ -1,12 +1,12 @@
 //! A count that takes no bytes.
 ghost use Rattle.std.specs.Prelude.{◌≡◌, ℕ, ◌+◌};
 
-use std::marker::{Model, PhantomData};
+use std::marker::Model;
 
 /// A number that proofs know and no byte holds. Who has the tally owns the one place at which the number
 /// stands.
+#[derive(Drop)]
 pub struct Tally {
-    marker: PhantomData<()>,
     pub ghost name: { ℕ },
     pub ghost count: { ℕ },
 }
@@ -22,19 +22,11 @@ impl Tally {
     pub fn new() -> Tally
         ensures { result.count ≡ 0 }
     {
-        Tally {
-            marker: PhantomData,
-        }
+        Tally {}
     }
 
     /// One more.
     pub fn add_one(&mut self)
         ensures { self.new.count ≡ self.old.count + 1 }
     {}
-}
-
-impl Drop for Tally {
-    fn drop(self) {
-        let Self { marker: _ } = self;
-    }
 }
