@@ -8,3 +8,4 @@ pub mod Expanded
 pub mod Unshared
 pub mod OneHead
 pub mod Compared
+pub mod Matched

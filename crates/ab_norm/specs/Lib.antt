@@ -2,3 +2,4 @@
 pub mod Growth
 pub mod Trees
 pub mod Nominals
+pub mod Matching

@@ -5,12 +5,12 @@ mod comparing;
 mod expanding;
 mod indices;
 mod instantiating;
+mod matching;
 mod nominal;
 mod raising;
 mod substituting;
 mod tree;
 mod unsharing;
-
 
 pub use comparing::equal;
 pub use expanding::eta;
