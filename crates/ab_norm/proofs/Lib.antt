@@ -9,3 +9,6 @@ pub mod Unshared
 pub mod OneHead
 pub mod Compared
 pub mod Matched
+pub mod Transposed
+pub mod Completed
+pub mod UpTo

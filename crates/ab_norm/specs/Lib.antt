@@ -3,3 +3,4 @@ pub mod Growth
 pub mod Trees
 pub mod Nominals
 pub mod Matching
+pub mod Completing

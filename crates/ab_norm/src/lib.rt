@@ -2,6 +2,7 @@
 #![tactic(auto)]
 
 mod comparing;
+mod completing;
 mod expanding;
 mod indices;
 mod instantiating;
@@ -15,6 +16,7 @@ mod unsharing;
 pub use comparing::equal;
 pub use expanding::eta;
 pub use instantiating::instantiate;
+pub use matching::equal_up_to_names;
 pub use nominal::{Nominal, Permutation, Swap, Swaps};
 pub use tree::Tree;
 pub use unsharing::reading;

@@ -1,22 +1,24 @@
 //! Terms that a permutation of nominal constants sends to one another.
-ghost use Rattle.std.specs.Prelude.{◌≡◌, ◌≢◌, ◌↔◌, ◌⊎◌, true, map, IfOk, All, Contains, MatchOption};
+ghost use Rattle.std.specs.Prelude.{◌≡◌, ◌≢◌, ◌↔◌, ◌⊎◌, true, map, IfOk, IfSome, IsNone, All, Contains, MatchOption};
 ghost use Rattle.ab_term.specs.Terms.{terms_of};
-ghost use Rattle.ab_term.specs.Translation.{forget, forget_all};
-ghost use Rattle.ab_term.specs.Names.{rename_head, rename, rename_all};
+ghost use Rattle.ab_term.specs.Translation.{forget, forget_all, EqualPastHints};
+ghost use Rattle.ab_term.specs.Names.{rename_head, rename, rename_all, permute, IsPermutationTable, EqualUpToNames};
 ghost use Rattle.ab_types.specs.Entries.{Table};
 ghost use Rattle.ab_types.specs.Sound.{IsTable};
 ghost use Rattle.ab_store.specs.Reading.{Contents, Holds, reading, head_reading};
 ghost use Rattle.ab_store.specs.Naming.{HeadIsTyped, IsTypedBy};
-ghost use Rattle.ab_norm.specs.Nominals.{nominal_of, HoldsNominal, HoldsPairs};
+ghost use Rattle.ab_norm.specs.Nominals.{nominal_of, pairs_of, HoldsNominal, HoldsPairs};
 ghost use Rattle.ab_norm.specs.Matching.{IsOneToOne, Found};
 
 use crate::comparing::{is_same_head, is_same_type};
-use crate::nominal::{Nominal, Swap};
+use crate::completing::complete;
+use crate::nominal::{Nominal, Permutation, Swap, Swaps};
 use ab_store::{Head, Node, Store, TermId};
-use std::alloc::AllocError;
+use ab_types::TypeTable;
+use std::alloc::{AllocError, Global};
 
 /// Whether the two constants are one.
-fn is_one(a: Nominal, b: Nominal) -> bool
+pub(crate) fn is_one(a: Nominal, b: Nominal) -> bool
     ensures { (result ≡ true) ↔ (a ≡ b) }
 {
     a == b
@@ -180,4 +182,32 @@ fn match_all(
         }
     }
     Ok(true)
+}
+
+/// A permutation of nominal constants that sends the first term to the second, past hints, and nothing
+/// where there is none.
+pub fn equal_up_to_names(
+    alloc: Global,
+    types: &TypeTable,
+    store: &Store,
+    a: TermId,
+    b: TermId,
+) -> Result<Option<Permutation>, AllocError>
+    requires store { IsTypedBy types.now store.now }
+    requires a { Holds store.now a }
+    requires b { Holds store.now b }
+    ensures permutes { IfOk result (λ found. IfSome found (λ by. IsPermutationTable (pairs_of types.now by.pairs))) }
+    ensures held { IfOk result (λ found. IfSome found (λ by. HoldsPairs types.now by.pairs)) }
+    ensures sends { IfOk result (λ found. IfSome found (λ by.
+        EqualPastHints (permute (pairs_of types.now by.pairs) (reading types.now store.now a)) (reading types.now store.now b))) }
+    ensures none { IfOk result (λ found. IsNone found ↔ ¬ EqualUpToNames (reading types.now store.now a) (reading types.now store.now b)) }
+{
+    // no two ids of a table stand for one type
+    let _ = types.len();
+    let mut decided = Vec::new(alloc);
+    if !match_terms(store, a, b, &mut decided)? {
+        return Ok(None);
+    }
+    let pairs = Swaps::from_vec(complete(alloc, &decided)?);
+    Ok(Some(Permutation { pairs }))
 }
