@@ -1,8 +1,6 @@
 -- When two terms of a store read alike past their hints.
-use Rattle.std.proofs.Common.{◌≡◌, ◌≢◌, ◌↔◌, ℕ, zero, suc, ◌+◌, ◌<◌, ◌≤◌, List, [], ◌∷◌, ◌++◌, map, take, length, get_or, Bool, true, false, refl, sym, ◌∙◌, ap, subst, arith}
-use Rattle.std.specs.List.{All}
+use Rattle.std.proofs.Common.{◌≡◌, ◌≢◌, ◌↔◌, ℕ, ◌+◌, ◌<◌, ◌≤◌, List, [], ◌∷◌, ◌++◌, map, take, length, get_or, Bool, true, false, refl, sym, ◌∙◌, ap, arith}
 use Rattle.std.proofs.lemmas.List.{map_more, take_all, get_or-map, length-map}
-use Rattle.ab_term.specs.Types.{Ty}
 use Rattle.ab_term.specs.Terms as tree
 use Rattle.ab_term.specs.Terms.{Term, Terms, lam, spine, term, no_terms, terms_of}
 use Rattle.ab_term.specs.Translation.{forget, forget_all, EqualPastHints, translate_head}
@@ -16,7 +14,7 @@ use Rattle.ab_store.specs.declared.node.Head.{Head}
 use Rattle.ab_store.specs.declared.node.Node.{Node}
 use Rattle.ab_store.specs.declared.node.Node.TheVariants.{Lam, Spine}
 use Rattle.ab_store.specs.Reading.{Read, Contents, reading, head_reading, node_reading}
-use Rattle.ab_store.specs.Naming.{HeadIsTyped, NodeIsTyped, IsTypedBy}
+use Rattle.ab_store.specs.Naming.{HeadIsTyped}
 use Rattle.ab_norm.proofs.OneHead.{one_head}
 
 abbrev pub Bare : Type 0

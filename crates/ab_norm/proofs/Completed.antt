@@ -1,5 +1,5 @@
 -- Tables of the program, as tables of plain constants.
-use Rattle.std.proofs.Common.{◌≡◌, ◌≢◌, ◌↔◌, ◌⊎◌, inl, inr, ℕ, zero, suc, ◌+◌, ◌<◌, ◌≤◌, List, [], ◌∷◌, ◌++◌, map, take, drop, length, get_or, Bool, true, false, refl, sym, ◌∙◌, ap, subst, arith}
+use Rattle.std.proofs.Common.{◌≡◌, ◌≢◌, ◌⊎◌, inl, inr, ℕ, zero, suc, ◌+◌, ◌<◌, List, [], ◌∷◌, ◌++◌, map, take, drop, length, get_or, Bool, true, false, refl, sym, ◌∙◌, ap, subst, arith}
 use Rattle.std.specs.Prelude.{All, Contains, AllPairs, cond}
 use Rattle.std.proofs.lemmas.List.{map-append, take_more, drop_more}
 use Rattle.std.proofs.lemmas.List.Elements.{All-nil, All-cons, All-push, All-take, All-contains}
@@ -9,7 +9,7 @@ use Rattle.ab_term.proofs.Comparisons.{same_nominal-Decides}
 use Rattle.ab_term.proofs.Lists.{AllPairs-parts, Contains-map, Contains-from_map}
 use Rattle.ab_term.proofs.Permutations.{froms, tos, moved_by-present, swapped, one_to_one}
 use Rattle.ab_types.specs.Entries.{Table}
-use Rattle.ab_types.specs.Ids.{HoldsType, type_of}
+use Rattle.ab_types.specs.Ids.{type_of}
 use Rattle.ab_types.specs.Sound.{IsTable}
 use Rattle.ab_types.proofs.Kept.{one_type}
 use Rattle.ab_norm.specs.declared.nominal.Nominal.{Nominal}

@@ -15,13 +15,13 @@ use Rattle.ab_store.specs.declared.node.Head.{Head}
 use Rattle.ab_store.specs.declared.node.Head.TheVariants.{Const, Logic, Nominal, Cell, Index}
 use Rattle.ab_store.specs.declared.node.Node.{Node}
 use Rattle.ab_store.specs.declared.node.Node.TheVariants.{Lam, Spine}
-use Rattle.ab_store.specs.Reading.{Read, Contents, reading, head_reading, node_reading}
+use Rattle.ab_store.specs.Reading.{Contents, reading, head_reading, node_reading}
 use Rattle.ab_store.specs.Naming.{HeadIsTyped}
 use Rattle.ab_norm.specs.declared.nominal.Swap.{Swap}
 use Rattle.ab_norm.specs.Nominals.{HoldsPairs}
-use Rattle.ab_norm.specs.Matching.{Renaming, IsRenaming, Sends, Found}
+use Rattle.ab_norm.specs.Matching.{Renaming, IsRenaming, Found}
 use Rattle.ab_norm.proofs.OneHead.{one_head}
-use Rattle.ab_norm.proofs.Compared.{Bare, bare, forget_terms, same_list, same_terms}
+use Rattle.ab_norm.proofs.Compared.{Bare, bare, same_list, same_terms}
 
 module _ (types : Table) where
   -- the same, asked in other words

@@ -1,10 +1,10 @@
 -- In a table and a store no two heads read alike.
-use Rattle.std.proofs.Common.{◌≡◌, ℕ, ◌<◌, List, ◌∷◌, [], get_or, length, refl, sym, ◌∙◌, ap, subst, arith}
-use Rattle.ab_term.specs.Types.{Ty, prop}
+use Rattle.std.proofs.Common.{◌≡◌, ℕ, List, ◌∷◌, [], get_or, refl, sym, ◌∙◌, ap, subst, arith}
+use Rattle.ab_term.specs.Types.{Ty}
 use Rattle.ab_term.specs.Logical as plain
 use Rattle.ab_term.specs.Terms as tree
 use Rattle.ab_types.specs.Entries.{Table}
-use Rattle.ab_types.specs.Ids.{HoldsType, type_of, constant_of}
+use Rattle.ab_types.specs.Ids.{HoldsType, type_of}
 use Rattle.ab_types.specs.Sound.{IsTable}
 use Rattle.ab_types.specs.declared.ids.TypeId.{TypeId}
 use Rattle.ab_types.proofs.Kept.{one_type, one_constant}

@@ -1,10 +1,10 @@
 -- What the nodes that `substitute` and `reduce` make read as.
-use Rattle.std.proofs.Common.{◌≡◌, ℕ, zero, suc, ◌+◌, ◌-◌, ◌<◌, ◌≤◌, List, [], ◌∷◌, Some, None, map, take, drop, length, get_or, refl, sym, ◌∙◌, ap, arith}
+use Rattle.std.proofs.Common.{◌≡◌, ℕ, suc, ◌+◌, ◌-◌, ◌<◌, List, [], ◌∷◌, None, map, take, drop, length, get_or, refl, sym, ◌∙◌, ap, arith}
 use Rattle.std.specs.List.{All}
 use Rattle.std.proofs.lemmas.List.Elements.{All-drop}
 use Rattle.std.proofs.lemmas.List.{take_all}
 use Rattle.ab_term.specs.Types.{Ty, arrow}
-use Rattle.ab_term.specs.Terms.{lam, spine, term, terms_of}
+use Rattle.ab_term.specs.Terms.{lam, term, terms_of}
 use Rattle.ab_term.specs.Substitution as tree
 use Rattle.ab_term.specs.Reach.{raise}
 use Rattle.ab_term.proofs.Reaching.{raise-none, raise-more}

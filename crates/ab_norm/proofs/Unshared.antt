@@ -1,5 +1,5 @@
 -- What a tree of a head with arguments stands for.
-use Rattle.std.proofs.Common.{◌≡◌, List, map, Vec, Global, refl, sym, ◌∙◌, ap}
+use Rattle.std.proofs.Common.{◌≡◌, List, map, Vec, Global, sym, ◌∙◌, ap}
 use Rattle.ab_term.specs.Terms.{spine, terms_of}
 use Rattle.ab_types.specs.Entries.{Table}
 use Rattle.ab_store.specs.declared.node.TermId.{TermId}
@@ -10,7 +10,6 @@ use Rattle.ab_store.specs.Reading.{Read, Contents, reading, head_reading, node_r
 use Rattle.ab_norm.specs.declared.tree.Tree.{Tree}
 use Rattle.ab_norm.specs.declared.tree.Tree.TheViews as views
 use Rattle.ab_norm.specs.declared.tree.Tree.TheVariants.{rolls-Spine}
-use Rattle.ab_norm.specs.declared.tree.Tree.TheOpen.{Tree-F}
 use Rattle.ab_norm.specs.declared.tree.Tree.TheFolds.{fold-roll-Tree}
 use Rattle.ab_norm.specs.Trees.{tree_step, tree_reading}
 

@@ -1,5 +1,5 @@
 -- What the walk and the completed table say together.
-use Rattle.std.proofs.Common.{◌≡◌, ◌↔◌, List, [], Bool, true, false, refl, sym, ◌∙◌, ap, subst}
+use Rattle.std.proofs.Common.{◌≡◌, List, [], Bool, true, false, sym, ◌∙◌, ap}
 use Rattle.std.proofs.lemmas.List.Elements.{All-nil}
 use Rattle.ab_term.specs.Names.{moved_by, rename, permute, IsPermutationTable, EqualUpToNames}
 use Rattle.ab_term.specs.Translation.{forget, EqualPastHints}
@@ -7,7 +7,7 @@ use Rattle.ab_term.proofs.Permutations.{one_to_one, swapped}
 use Rattle.ab_types.specs.Entries.{Table}
 use Rattle.ab_store.specs.Reading.{Read}
 use Rattle.ab_norm.specs.declared.nominal.Swap.{Swap}
-use Rattle.ab_norm.specs.Nominals.{nominal_of, pairs_of, HoldsNominal, HoldsPairs}
+use Rattle.ab_norm.specs.Nominals.{nominal_of, pairs_of}
 use Rattle.ab_norm.specs.Matching.{IsRenaming, Sends, Found}
 use Rattle.ab_norm.specs.Completing.{Permutes}
 

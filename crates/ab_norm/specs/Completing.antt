@@ -6,7 +6,6 @@ use Rattle.ab_types.specs.Entries.{Table}
 use Rattle.ab_norm.specs.declared.nominal.Nominal.{Nominal}
 use Rattle.ab_norm.specs.declared.nominal.Swap.{Swap}
 use Rattle.ab_norm.specs.Nominals.{nominal_of, pairs_of, HoldsPairs}
-use Rattle.ab_norm.specs.Matching.{Sends}
 
 -- x for y and y for x
 abbrev pub transposed : tree.Nominal → tree.Nominal → tree.Nominal → tree.Nominal

@@ -1,4 +1,6 @@
--- What the operations on shared terms mean, in the plain terms of `ab_term`.
+-- What the operations on shared terms mean, in the plain terms of `ab_term`. `Growth` says what a maker of terms
+-- leaves of a store, `Trees` and `Nominals` what the program's own trees and constants stand for; the others serve
+-- private contracts.
 pub mod Growth
 pub mod Trees
 pub mod Nominals

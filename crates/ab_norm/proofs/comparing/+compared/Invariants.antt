@@ -3,7 +3,7 @@ use Rattle.ab_types.specs.Entries.{Table}
 use Rattle.ab_types.specs.Sound.{IsTable}
 use Rattle.ab_store.specs.Naming.{IsTypedBy}
 use Rattle.ab_norm.proofs.Bounds.{ids_bound}
-use Rattle.ab_norm.proofs.Compared.{bare, all_equal}
+use Rattle.ab_norm.proofs.Compared.{bare}
 use Rattle.ab_norm.proofs.comparing.+compared.Given as goal
 
 abbrev pub decreases-is_equal : goal.decreases-is_equal

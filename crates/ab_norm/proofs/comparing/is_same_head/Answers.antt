@@ -1,4 +1,4 @@
-use Rattle.std.proofs.Common.{rules, arith}
+use Rattle.std.proofs.Common.{rules}
 use Rattle.ab_norm.proofs.comparing.is_same_head.Goals as goal
 
 pub returns : goal.returns

@@ -1,6 +1,4 @@
-use Rattle.std.proofs.Common.{◌≡◌, sym, ◌∙◌, subst, map, true, false}
-use Rattle.std.specs.Prelude.{Contains}
-use Rattle.ab_norm.specs.declared.nominal.Swap.{Swap}
+use Rattle.std.proofs.Common.{sym, ◌∙◌}
 use Rattle.ab_norm.proofs.Completed.{included_old, included_new}
 use Rattle.ab_norm.proofs.completing.include.Goals as goal
 

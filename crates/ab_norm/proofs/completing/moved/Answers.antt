@@ -1,5 +1,4 @@
-use Rattle.std.proofs.Common.{arith, ap, refl, subst}
-use Rattle.ab_norm.specs.Nominals.{HoldsNominal}
+use Rattle.std.proofs.Common.{arith, refl}
 use Rattle.ab_norm.proofs.Compared.{apart}
 use Rattle.ab_norm.proofs.Completed.{moved_here, moved_next}
 use Rattle.ab_norm.proofs.completing.moved.Goals as goal

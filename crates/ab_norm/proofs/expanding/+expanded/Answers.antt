@@ -1,14 +1,12 @@
-use Rattle.std.proofs.Common.{◌≡◌, arith, ap, sym, ◌∙◌, subst, length, map, codes}
-use Rattle.std.specs.List.{All}
-use Rattle.std.proofs.lemmas.List.Elements.{All-push, All-nil, All-same}
+use Rattle.std.proofs.Common.{arith, ap, sym, ◌∙◌, subst, length, map, codes}
+use Rattle.std.proofs.lemmas.List.Elements.{All-push, All-nil}
 use Rattle.ab_term.specs.Terms.{index, terms_of}
 use Rattle.ab_term.specs.Expansion.{expansion_of}
 use Rattle.ab_types.specs.Ids.{type_of}
-use Rattle.ab_store.specs.declared.node.TermId.{TermId}
 use Rattle.ab_store.specs.Reading.{Holds, reading}
 use Rattle.ab_store.specs.Naming.{HeadNames}
 use Rattle.ab_norm.proofs.Bounds.{size}
-use Rattle.ab_norm.proofs.Frame.{typed_from, typed_more, typed_on, still_held, adds_but_types, extended_itself}
+use Rattle.ab_norm.proofs.Frame.{typed_from, typed_more, typed_on, adds_but_types}
 use Rattle.ab_norm.proofs.Expanded.{widened}
 use Rattle.ab_norm.proofs.expanding.+expanded.Goals as goal
 

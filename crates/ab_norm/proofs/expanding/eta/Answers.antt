@@ -1,7 +1,7 @@
-use Rattle.std.proofs.Common.{◌≡◌, ap, sym, ◌∙◌, subst, map, codes, IfOk}
-use Rattle.ab_term.specs.Terms.{terms_of, no_terms}
+use Rattle.std.proofs.Common.{ap, sym, ◌∙◌, subst, map, codes}
+use Rattle.ab_term.specs.Terms.{terms_of}
 use Rattle.ab_term.specs.Typing.{HasType}
-use Rattle.ab_term.specs.Expansion.{expansion_of, expansion}
+use Rattle.ab_term.specs.Expansion.{expansion_of}
 use Rattle.ab_term.proofs.Expansions.{expansion_typed}
 use Rattle.ab_types.specs.Entries.{signature}
 use Rattle.ab_types.specs.Ids.{type_of}

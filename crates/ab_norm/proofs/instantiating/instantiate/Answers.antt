@@ -1,4 +1,4 @@
-use Rattle.std.proofs.Common.{arith, refl, ◌≡◌, length, map, drop, subst, ◌∙◌, sym, ap, []}
+use Rattle.std.proofs.Common.{arith, refl, map, subst, sym}
 use Rattle.ab_term.specs.Substitution.{instance_by_all}
 use Rattle.ab_term.specs.Typing.{HasType}
 use Rattle.ab_term.proofs.Preservation.{instance_by_all_typed}

@@ -1,13 +1,12 @@
-use Rattle.std.proofs.Common.{◌≡◌, ◌<◌, ◌≤◌, arith, refl, sym, ◌∙◌, subst, ap, get_or, map, take, true, false, length, ◌+◌}
+use Rattle.std.proofs.Common.{◌≡◌, ◌<◌, ◌≤◌, arith, subst, get_or, map, take, true, false, ◌+◌}
 use Rattle.std.specs.List.{All}
 use Rattle.std.proofs.lemmas.List.Elements.{All-same}
 use Rattle.ab_term.specs.Terms.{terms_of}
 use Rattle.ab_term.specs.Translation.{forget, forget_all}
-use Rattle.ab_term.specs.Names.{rename_head, rename, rename_all}
+use Rattle.ab_term.specs.Names.{rename, rename_all}
 use Rattle.ab_store.specs.declared.node.TermId.{TermId}
 use Rattle.ab_store.specs.Naming.{NodeIsTyped}
-use Rattle.ab_store.specs.Reading.{reading, head_reading}
-use Rattle.ab_norm.specs.Matching.{Found}
+use Rattle.ab_store.specs.Reading.{reading}
 use Rattle.ab_norm.proofs.Bounds.{ids_bound, bound_within, below_bound}
 use Rattle.ab_norm.proofs.Frame.{if_ok, spine_names}
 use Rattle.ab_norm.proofs.Compared.{bare, apart}

@@ -1,12 +1,8 @@
-use Rattle.std.proofs.Common.{◌≡◌, refl, sym, ◌∙◌, ap, subst, [], true, false, List}
+use Rattle.std.proofs.Common.{refl}
 use Rattle.std.proofs.lemmas.List.Elements.{All-nil}
-use Rattle.ab_term.specs.Names.{rename, moved_by, IsPermutationTable, permute}
-use Rattle.ab_term.specs.Translation.{forget, EqualPastHints}
 use Rattle.ab_store.specs.Reading.{reading}
 use Rattle.ab_norm.specs.declared.nominal.Swap.{Swap}
-use Rattle.ab_norm.specs.Nominals.{pairs_of, HoldsNominal, HoldsPairs}
-use Rattle.ab_norm.specs.Matching.{Found}
-use Rattle.ab_norm.specs.Completing.{Permutes}
+use Rattle.ab_norm.specs.Nominals.{HoldsNominal}
 use Rattle.ab_norm.proofs.UpTo.{no_renaming, sent, up_to}
 use Rattle.ab_norm.proofs.matching.equal_up_to_names.Goals as goal
 

@@ -1,4 +1,4 @@
-use Rattle.std.proofs.Common.{◌≡◌, sym, ◌∙◌, ap, subst}
+use Rattle.std.proofs.Common.{sym, ◌∙◌, ap, subst}
 use Rattle.ab_term.specs.Typing.{HasType}
 use Rattle.ab_term.specs.Names as tree
 use Rattle.ab_term.specs.Names.{moved_by}

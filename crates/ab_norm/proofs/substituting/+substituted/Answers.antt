@@ -1,11 +1,10 @@
-use Rattle.std.proofs.Common.{◌≡◌, ◌+◌, ◌<◌, ◌≤◌, arith, ap, sym, ◌∙◌, get_or, map, subst}
+use Rattle.std.proofs.Common.{◌<◌, ◌≤◌, arith, ap, sym, ◌∙◌, get_or, map, subst}
 use Rattle.std.specs.List.{All}
 use Rattle.std.proofs.lemmas.List.Elements.{All-nil, All-push, All-same, All-drop}
 use Rattle.ab_term.specs.Substitution as tree
 use Rattle.ab_term.proofs.Reaching.{substitute_by-short}
 use Rattle.ab_types.specs.Ids.{HoldsType, type_of}
 use Rattle.ab_store.specs.declared.node.TermId.{TermId}
-use Rattle.ab_store.specs.Naming.{NodeIsTyped}
 use Rattle.ab_store.specs.Reading.{Holds, reading}
 use Rattle.ab_norm.proofs.Bounds.{ids_bound, bound_within, below_bound, size}
 use Rattle.ab_norm.proofs.Frame.{adds_on, adds_none, still_held, read_more, if_ok, adds_lam, adds_spine, extended_on, spine_names, lam_names, still_held_head}
