@@ -23,3 +23,4 @@ pub mod Heads
 pub mod WholeCommands
 pub mod Sure
 pub mod OneCommand
+pub mod Standing

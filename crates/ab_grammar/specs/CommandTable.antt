@@ -278,6 +278,17 @@ stand_of head.Undo = Inside
 stand_of head.Abort = Inside
 stand_of h = Outside
 
+abbrev pub standing : Command → Stand
+standing (tree.show x) = Anywhere
+standing tree.quit = Anywhere
+standing (subgoals on) = Anywhere
+standing tree.back = Anywhere
+standing tree.reset = Anywhere
+standing tree.undo = Inside
+standing tree.abort = Inside
+standing (in_proof x c) = Inside
+standing c = Outside
+
 -- where a command stands is known by its first token, or by a word and a colon
 pub data StandsAt : List Token → Stand → Type 0 where
   by_head : {k : Token} → (h : Head) (ks : List Token) → Opens h k tt → StandsAt (k ∷ ks) (stand_of h)

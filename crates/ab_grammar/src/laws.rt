@@ -5,7 +5,8 @@ ghost use Rattle.ab_grammar.specs.Tree.{Ty, Tree};
 ghost use Rattle.ab_grammar.specs.Grammar.{Text, TypeText};
 ghost use Rattle.ab_grammar.specs.Language.{Expression, TypeExpression, Accepted, SyntaxAt, TooNestedAt};
 ghost use Rattle.ab_grammar.specs.CommandTrees as commands;
-ghost use Rattle.ab_grammar.specs.CommandTable.{CommandText};
+ghost use Rattle.ab_grammar.specs.CommandTable.{CommandText, standing, StandsAt};
+ghost use Rattle.ab_grammar.specs.declared.head.Stand.{Stand};
 ghost use Rattle.ab_grammar.specs.Parentheses.{without_parentheses};
 
 /// A list of tokens is a text of at most one expression.
@@ -21,6 +22,12 @@ pub fn one_type()
 /// A list of tokens is the text of at most one command.
 pub fn one_command()
     ensures { (ts : List Token) (c d : commands.Command) → Accepted CommandText ts c → Accepted CommandText ts d → c ≡ d }
+{}
+
+/// A command stands where its first tokens say, which say one place alone.
+pub fn one_place()
+    ensures one { (ts : List Token) (a b : Stand) → StandsAt ts a → StandsAt ts b → a ≡ b }
+    ensures of_a_command { (ts : List Token) (c : commands.Command) → Accepted CommandText ts c → StandsAt ts (standing c) }
 {}
 
 /// An expression says what its texts are: any two of them differ only in their parentheses.

@@ -7,7 +7,7 @@ mod laws;
 pub use head::{Head, ProofHead, Stand};
 pub use laws::{
     one_answer_for_a_command, one_answer_for_a_type, one_answer_for_an_expression, one_command,
-    one_text, one_tree, one_type,
+    one_place, one_text, one_tree, one_type,
 };
 
 /// What binds names before a formula.

@@ -14,6 +14,7 @@ pub mod Words
 pub mod Signs
 pub mod Pieces
 pub mod Reading
+pub mod Beginning
 pub mod OneReading
 pub mod Fronts
 pub mod Spacing

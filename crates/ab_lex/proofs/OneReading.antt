@@ -68,12 +68,12 @@ at_first b s k (x ∷ d) q h e t =
     let behind : d ++ q ≡ s = cc in
     h d behind (subst (λ y. IsToken k (y ∷ d) q) first t)
 
-gap_no_token : {s r : List ℕ} → GapAt s r → (k : TokenKind) (c q : List ℕ) → s ≡ c ++ q → IsToken k c q → ⊥
+pub gap_no_token : {s r : List ℕ} → GapAt s r → (k : TokenKind) (c q : List ℕ) → s ≡ c ++ q → IsToken k c q → ⊥
 gap_no_token (blank {b = b} {s = s} h) k c q e t = at_first b s k c q (λ d _ u. blank_no_token b k d q h u) e t
 gap_no_token (line_comment {b = b} {s = s} p l) k c q e t = at_first b s k c q (λ d _ u. percent_no_token b k d q p u) e t
 gap_no_token (block_comment {b = b} {c = x} {s = s} o l) k c q e t = at_first b (x ∷ s) k c q (λ d f u. comment_no_token b x s k d q o f u) e t
 
-gap_some : {r : List ℕ} → GapAt [] r → ⊥
+pub gap_some : {r : List ℕ} → GapAt [] r → ⊥
 gap_some h = elim h [ ]
 
 -- the empty text is no token with something behind it
@@ -82,7 +82,7 @@ nothing_there k [] r e t = some_bytes k r t
 nothing_there k (b ∷ c) r e t = cc
 
 -- one gap, or one token, stands at a place
-gap_unique : {s r q : List ℕ} → GapAt s r → GapAt s q → r ≡ q
+pub gap_unique : {s r q : List ℕ} → GapAt s r → GapAt s q → r ≡ q
 gap_unique (blank h) (blank k) = refl
 gap_unique (blank h) (line_comment e l) = let f : false ≡ true = rw e at h in cc
 gap_unique (blank h) (block_comment o l) = let f : false ≡ true = rw o.0 at h in cc
@@ -137,7 +137,7 @@ tokens_unique {place} (token {kind = k} {c = c} {r = r} {ts = ts} e t h) (token 
     ap (λ j. token_at j place (length c) ∷ ts) a.kind ∙ (ap (λ w. token_at j place (length w) ∷ ts) a.bytes ∙ ap (λ ws. token_at j place (length d) ∷ ws) b)
 
 -- where a fault stands, no gap and no token does
-stuck_no_gap : {place : ℕ} {s r : List ℕ} {f : LexFault} → FaultAt place s f → GapAt s r → ⊥
+pub stuck_no_gap : {place : ℕ} {s r : List ℕ} {f : LexFault} → FaultAt place s f → GapAt s r → ⊥
 stuck_no_gap (bad_byte n p q o h) (blank e) = let f : true ≡ false = sym e ∙ n in cc
 stuck_no_gap (bad_byte n p q o h) (line_comment e l) = p e
 stuck_no_gap (bad_byte n p q o h) (block_comment e l) = o e

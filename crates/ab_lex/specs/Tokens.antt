@@ -98,15 +98,31 @@ pub data FaultFrom : ℕ → List ℕ → LexFault → Type 0 where
   token_before : {place : ℕ} {kind : TokenKind} {c s r : List ℕ} {fault : LexFault} → s ≡ c ++ r → TokenAt kind c r
       → FaultFrom (place + length c) r fault → FaultFrom place s fault
 
+-- behind blanks and whole comments something else stands at the second place, or the bytes s, which begin at the first, end there
+pub data BeginsFrom : ℕ → List ℕ → ℕ → Type 0 where
+  begins : {place : ℕ} {s : List ℕ} → ((r : List ℕ) → ¬ GapAt s r) → BeginsFrom place s place
+  gap_first : {place start : ℕ} {s r : List ℕ} (c : List ℕ) → s ≡ c ++ r → GapAt s r → BeginsFrom (place + length c) r start → BeginsFrom place s start
+
 abbrev pub TokensOf : List ℕ → List Token → Type 0
 TokensOf text ts = TokensFrom 0 text ts
 
 abbrev pub FaultOf : List ℕ → LexFault → Type 0
 FaultOf text fault = FaultFrom 0 text fault
 
+-- at this place a text begins, behind its first blanks and comments
+abbrev pub BeginsAt : List ℕ → ℕ → Type 0
+BeginsAt text start = BeginsFrom 0 text start
+
 -- the text has tokens or a fault
 abbrev pub HasReading : List ℕ → Type 0
 HasReading text = ((ts : List Token) × TokensOf text ts) ⊎ ((fault : LexFault) × FaultOf text fault)
+
+-- where a fault stands
+abbrev pub place_of : LexFault → ℕ
+place_of (BadByte place) = place
+place_of (OpenString place) = place
+place_of (OpenComment place) = place
+place_of (Memory e) = 0
 
 -- the fault is in the text; want of memory says nothing of it
 abbrev pub Explains : List ℕ → LexFault → Type 0

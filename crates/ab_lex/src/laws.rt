@@ -1,10 +1,10 @@
 //! Laws of the definitions, each the contract of a function that does nothing.
 
-ghost use Rattle.std.specs.Prelude.{◌≡◌, ◌++◌, ◌↔◌, List, ℕ, IsTrue, Contains};
+ghost use Rattle.std.specs.Prelude.{◌≡◌, ◌≤◌, ◌∷◌, ◌++◌, ◌↔◌, List, ℕ, IsTrue, Contains};
 ghost use Rattle.std.specs.Str.{IsAscii};
 ghost use Rattle.ab_lex.specs.Units.{Units, UnitRow};
 ghost use Rattle.ab_lex.specs.Commands.{Splits, Item, ItemsWithin, HasBlankRest, GoesOn};
-ghost use Rattle.ab_lex.specs.Tokens.{IsWord, IsNumber, signs, TokensOf, FaultOf, HasReading};
+ghost use Rattle.ab_lex.specs.Tokens.{IsWord, IsNumber, signs, TokensOf, FaultOf, place_of, BeginsAt, HasReading};
 ghost use Rattle.ab_lex.specs.Spacing.{Lexeme, Spaced, Spells};
 ghost use Rattle.ab_lex.specs.declared.token.Token.{Token};
 ghost use Rattle.ab_lex.specs.declared.token.LexFault.{LexFault};
@@ -38,6 +38,13 @@ pub fn one_reading()
     ensures tokens { (text : List ℕ) (ts others : List Token) → TokensOf text ts → TokensOf text others → ts ≡ others }
     ensures fault { (text : List ℕ) (fault other : LexFault) → FaultOf text fault → FaultOf text other → fault ≡ other }
     ensures either { (text : List ℕ) (ts : List Token) (fault : LexFault) → TokensOf text ts → FaultOf text fault → ⊥ }
+{}
+
+/// A text begins at one place: at its first token where it has tokens, and not behind its fault where it has one.
+pub fn one_beginning()
+    ensures only { (text : List ℕ) (start other : ℕ) → BeginsAt text start → BeginsAt text other → start ≡ other }
+    ensures token { (text : List ℕ) (t : Token) (ts : List Token) → TokensOf text (t ∷ ts) → BeginsAt text t.span.start }
+    ensures fault { (text : List ℕ) (start : ℕ) (fault : LexFault) → BeginsAt text start → FaultOf text fault → start ≤ place_of fault }
 {}
 
 /// Blanks and comments between tokens change none of them: written with any of them between, tokens of any form are

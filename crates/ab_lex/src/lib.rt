@@ -13,12 +13,12 @@ mod token;
 mod tokenizer;
 
 pub use laws::{
-    one_reading, one_row_of_units, one_splitting, only_strings_are_more_than_ascii,
+    one_beginning, one_reading, one_row_of_units, one_splitting, only_strings_are_more_than_ascii,
     same_for_every_cut, spacing_changes_no_token,
 };
 pub use splitter::{Next, Splitter};
 pub use token::{LexFault, Span, Token, TokenKind};
-pub use tokenizer::tokens;
+pub use tokenizer::{first_place, tokens};
 
 /// A command of more bytes than this, its full stop included, is not given but told to be too long.
 pub const COMMAND_LIMIT: usize = 1_048_576;

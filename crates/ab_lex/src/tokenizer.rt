@@ -2,7 +2,7 @@
 
 ghost use Rattle.std.specs.Prelude.{true, ◌≡◌, ◌<◌, ◌≤◌, ◌+◌, ◌∷◌, ℕ, List, length, drop, take, IfOk, IfErr, MatchOption, All, AllPairs};
 ghost use Rattle.ab_lex.specs.Units.{quote, LineEnds, StringEnds, BlocksEnd};
-ghost use Rattle.ab_lex.specs.Tokens.{is_word_byte as is_word_byte_of, TokensOf, Explains, StandsIn, Follows};
+ghost use Rattle.ab_lex.specs.Tokens.{is_word_byte as is_word_byte_of, TokensOf, Explains, BeginsAt, StandsIn, Follows};
 ghost use Rattle.ab_lex.specs.Reader.{tail_size, begins_alphanumeric, is_single as is_single_of, is_pair as is_pair_of, sign_size as sign_size_of, opens_at, IsPlainByte, StandsAt};
 ghost use Rattle.std.specs.Char.{is_ascii_digit};
 ghost use Rattle.std.specs.List.{prefix_len};
@@ -230,4 +230,18 @@ pub fn tokens(alloc: Global, bytes: &[u8]) -> Result<Vec<Token>, LexFault>
         }
     }
     Ok(tokens)
+}
+
+/// The place of the first byte that is in no blank and no whole comment; where there is none, the number of bytes.
+pub fn first_place(bytes: &[u8]) -> usize
+    ensures { BeginsAt bytes.now result }
+{
+    let mut place = 0;
+    while place < bytes.len() {
+        match piece_at(bytes[place], &bytes[place + 1..]) {
+            Piece::Gap(size) => place += size,
+            _ => return place,
+        }
+    }
+    place
 }
