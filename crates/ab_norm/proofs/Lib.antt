@@ -12,3 +12,4 @@ pub mod Matched
 pub mod Transposed
 pub mod Completed
 pub mod UpTo
+pub mod Gathered

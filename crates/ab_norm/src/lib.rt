@@ -10,6 +10,7 @@ mod matching;
 mod nominal;
 mod raising;
 mod substituting;
+mod supporting;
 mod tree;
 mod unsharing;
 
@@ -18,5 +19,6 @@ pub use expanding::eta;
 pub use instantiating::instantiate;
 pub use matching::equal_up_to_names;
 pub use nominal::{Nominal, Permutation, Swap, Swaps};
+pub use supporting::support;
 pub use tree::Tree;
 pub use unsharing::reading;
