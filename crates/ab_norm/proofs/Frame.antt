@@ -119,3 +119,6 @@ typed_on types r s t e f = typed_more types r s t e.before e.cells f.before f.ce
 -- only that the second extends the first counts
 pub adds_but_types : (types : Table) (s t : Contents) → AddsTypedTerms types s t → (ts : List TermId) → All (Holds s) ts → (All (Holds t) ts) × (map (reading types t) ts ≡ map (reading types s) ts)
 adds_but_types types s t e ts h = (All-weaker (Holds s) (Holds t) e.before.ids ts h, still_read_before types s t ts e.before h)
+
+pub typed_none : (types : Table) (s : Contents) → IsTypedBy types s → AddsTypedTerms types s s
+typed_none types s typed = record { before = extended_itself s; cells = refl; typed = typed }

@@ -13,3 +13,4 @@ pub mod Transposed
 pub mod Completed
 pub mod UpTo
 pub mod Gathered
+pub mod Renamed
