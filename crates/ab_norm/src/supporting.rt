@@ -16,6 +16,9 @@ use ab_types::TypeTable;
 use std::alloc::{AllocError, Global};
 use std::collections::BTreeSet;
 
+#[cfg(test)]
+mod tests;
+
 /// The nominal constants that stand in the term, each once, in the order of their numbers.
 pub fn support(
     alloc: Global,
