@@ -12,4 +12,5 @@ pub mod Matched
 pub mod Transposed
 pub mod Completed
 pub mod UpTo
+pub mod Gathered
 pub mod Renamed

@@ -6,3 +6,4 @@ pub mod Trees
 pub mod Nominals
 pub mod Matching
 pub mod Completing
+pub mod Gathering

@@ -11,6 +11,7 @@ mod nominal;
 mod permuting;
 mod raising;
 mod substituting;
+mod supporting;
 mod tree;
 mod unsharing;
 
@@ -20,5 +21,6 @@ pub use instantiating::instantiate;
 pub use matching::equal_up_to_names;
 pub use nominal::{Nominal, Permutation, Swap, Swaps};
 pub use permuting::permute;
+pub use supporting::support;
 pub use tree::Tree;
 pub use unsharing::reading;

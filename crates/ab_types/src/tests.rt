@@ -1,9 +1,52 @@
-use crate::{Name, Steps, TableFault, TypeTable, TypeView};
+ghost use Rattle.std.specs.Prelude.{◌≡◌, IfOk};
+ghost use Rattle.ab_types.specs.Entries.{first_entries};
+ghost use Rattle.ab_types.specs.Ids.{HoldsType};
+
+use crate::{Name, Steps, TableFault, TypeId, TypeTable, TypeView};
 use std::alloc::{AllocError, Global};
 use std::marker::Brand;
 
-fn name(alloc: Global, text: &str) -> Result<Name, AllocError> {
-    Name::from_text(alloc, text)
+fn base(alloc: Global, table: &mut TypeTable, kind: &str) -> Result<TypeId, TableFault>
+    ensures { IfOk result (λ id. HoldsType table.new id) }
+{
+    let name = Name::from_text(alloc, kind)?;
+    table.base(&name)
+}
+
+fn declares(alloc: Global, table: &mut TypeTable, kind: &str) -> Result<bool, TableFault> {
+    let id = table.declare_kind(Name::from_text(alloc, kind)?)?;
+    Ok(table.kind_name(id).as_str() == kind)
+}
+
+fn declares_const(alloc: Global, table: &mut TypeTable, name: Name) -> Result<bool, TableFault> {
+    let ty = base(alloc, table, "o")?;
+    let id = table.declare_const(name, ty)?;
+    Ok(table.const_type(id) == ty)
+}
+
+fn finds(alloc: Global, table: &TypeTable, text: &str) -> Result<bool, AllocError> {
+    let name = Name::from_text(alloc, text)?;
+    match table.look(&name) {
+        None => Ok(false),
+        Some(id) => Ok(table.const_name(id).as_str() == text),
+    }
+}
+
+fn has_one_arrow(table: &mut TypeTable, ty: TypeId) -> Result<bool, AllocError>
+    requires { HoldsType table.old ty }
+{
+    let first = table.arrow(ty, ty)?;
+    let second = table.arrow(ty, ty)?;
+    Ok(first == second && table.view(first) == TypeView::Arrow(ty, ty))
+}
+
+fn forgets(alloc: Global, table: &mut TypeTable) -> Result<usize, AllocError>
+    requires { table.old ≡ first_entries }
+{
+    let mut steps = Steps::<Brand>::new();
+    let _declared = table.declare_kind(Name::from_text(alloc, "nat")?);
+    table.cut_to(13, &mut steps);
+    Ok(table.len())
 }
 
 #[test]
@@ -15,90 +58,67 @@ fn a_new_table_has_thirteen_entries(rt: HostRuntime) -> Result<(), AllocError> {
 
 #[test]
 fn a_new_table_has_no_kind_nat(rt: HostRuntime) -> Result<(), AllocError> {
-    let alloc = rt.alloc();
-    let mut table = TypeTable::new(alloc)?;
-    let nat = name(alloc, "nat")?;
-    assert_eq!(rt; table.base(&nat), Err(TableFault::UnknownKind));
+    let mut table = TypeTable::new(rt.alloc())?;
+    let found = base(rt.alloc(), &mut table, "nat");
+    assert!(rt; found == Err(TableFault::UnknownKind));
     Ok(())
 }
 
 #[test]
-fn nil_is_declared(rt: HostRuntime) -> Result<(), TableFault> {
-    let alloc = rt.alloc();
-    let mut table = TypeTable::new(alloc)?;
-    let ty = table.base(&name(alloc, "olist")?)?;
-    let nil = name(alloc, "nil")?;
-    assert_eq!(rt; table.declare_const(nil, ty), Err(TableFault::Clash));
+fn a_kind_is_declared_once(rt: HostRuntime) -> Result<(), AllocError> {
+    let mut table = TypeTable::new(rt.alloc())?;
+    let first = declares(rt.alloc(), &mut table, "nat");
+    assert!(rt; first == Ok(true));
     Ok(())
 }
 
 #[test]
 fn prop_is_declared(rt: HostRuntime) -> Result<(), AllocError> {
-    let alloc = rt.alloc();
-    let mut table = TypeTable::new(alloc)?;
-    let prop = name(alloc, "prop")?;
-    assert_eq!(rt; table.declare_kind(prop), Err(TableFault::Clash));
+    let mut table = TypeTable::new(rt.alloc())?;
+    let again = declares(rt.alloc(), &mut table, "prop");
+    assert!(rt; again == Err(TableFault::Clash));
     Ok(())
 }
 
 #[test]
-fn a_kind_may_have_a_constants_name(rt: HostRuntime) -> Result<(), TableFault> {
-    let alloc = rt.alloc();
-    let mut table = TypeTable::new(alloc)?;
-    let id = table.declare_kind(name(alloc, "nil")?)?;
-    assert_eq!(rt; table.kind_name(id).as_str(), "nil");
+fn nil_is_declared(rt: HostRuntime) -> Result<(), AllocError> {
+    let mut table = TypeTable::new(rt.alloc())?;
+    let nil = Name::from_text(rt.alloc(), "nil")?;
+    let again = declares_const(rt.alloc(), &mut table, nil);
+    assert!(rt; again == Err(TableFault::Clash));
     Ok(())
 }
 
 #[test]
-fn a_constant_may_have_a_kinds_name(rt: HostRuntime) -> Result<(), TableFault> {
-    let alloc = rt.alloc();
-    let mut table = TypeTable::new(alloc)?;
-    let ty = table.base(&name(alloc, "o")?)?;
-    let id = table.declare_const(name(alloc, "o")?, ty)?;
-    assert_eq!(rt; table.const_name(id).as_str(), "o");
+fn a_constant_may_have_a_kinds_name(rt: HostRuntime) -> Result<(), AllocError> {
+    let mut table = TypeTable::new(rt.alloc())?;
+    let o = Name::from_text(rt.alloc(), "o")?;
+    let declared = declares_const(rt.alloc(), &mut table, o);
+    assert!(rt; declared == Ok(true));
     Ok(())
 }
 
 #[test]
 fn a_name_is_looked_up(rt: HostRuntime) -> Result<(), AllocError> {
-    let alloc = rt.alloc();
-    let table = TypeTable::new(alloc)?;
-    let found = table.look(&name(alloc, "::")?);
-    assert!(rt; found.is_some());
+    let table = TypeTable::new(rt.alloc())?;
+    let found = finds(rt.alloc(), &table, "::");
+    assert!(rt; found == Ok(true));
     Ok(())
 }
 
 #[test]
 fn equal_types_have_equal_ids(rt: HostRuntime) -> Result<(), TableFault> {
-    let alloc = rt.alloc();
-    let mut table = TypeTable::new(alloc)?;
-    let ty = table.base(&name(alloc, "prop")?)?;
-    let first = table.arrow(ty, ty)?;
-    assert_eq!(rt; table.arrow(ty, ty), Ok(first));
+    let mut table = TypeTable::new(rt.alloc())?;
+    let ty = base(rt.alloc(), &mut table, "prop")?;
+    let one = has_one_arrow(&mut table, ty);
+    assert!(rt; one == Ok(true));
     Ok(())
 }
 
 #[test]
-fn an_arrow_is_seen_as_one(rt: HostRuntime) -> Result<(), TableFault> {
-    let alloc = rt.alloc();
-    let mut table = TypeTable::new(alloc)?;
-    let ty = table.base(&name(alloc, "o")?)?;
-    let arrow = table.arrow(ty, ty)?;
-    assert_eq!(rt; table.view(arrow), TypeView::Arrow(ty, ty));
-    Ok(())
-}
-
-#[test]
-fn a_cut_table_has_what_it_had(rt: HostRuntime) -> Result<(), TableFault> {
-    let alloc = rt.alloc();
-    let mut table = TypeTable::new(alloc)?;
-    let mut steps = Steps::<Brand>::new();
-    table.declare_kind(name(alloc, "nat")?)?;
-    table.cut_to(13, &mut steps);
-    assert_eq!(rt;
-        table.base(&name(alloc, "nat")?),
-        Err(TableFault::UnknownKind)
-    );
+fn a_cut_table_has_what_it_had(rt: HostRuntime) -> Result<(), AllocError> {
+    let mut table = TypeTable::new(rt.alloc())?;
+    let left = forgets(rt.alloc(), &mut table);
+    assert!(rt; left == Ok(13));
     Ok(())
 }
