@@ -1,0 +1,10 @@
+pub mod Tables
+pub mod Meanings
+pub mod Places
+pub mod Digits
+pub mod Lookup
+pub mod FirstToken
+pub mod Standing
+pub mod WholeText
+pub mod Utf8
+pub mod Standings

@@ -1,0 +1,20 @@
+-- What the first token of a command says of it.
+use Rattle.ab_grammar.specs.declared.head.Head.{Head}
+use Rattle.ab_grammar.specs.declared.head.ProofHead.{ProofHead}
+use Rattle.ab_grammar.specs.Token.{Token}
+use Rattle.std.specs.Prelude.{ℕ, List}
+use Rattle.ab_grammar.specs.CommandTable.{Opens, OpensProof, ShowsLabel}
+use Rattle.ab_syntax.specs.declared.opening.Opening.{Opening}
+use Rattle.ab_syntax.specs.declared.opening.Opening.TheVariants.{Plain, Proof, Label, Nothing}
+
+-- no command begins with the token
+pub record BeginsNothing (k : Token) : Type 0 where
+  pub no_plain : (h : Head) → Opens h k tt → ⊥
+  pub no_proof : (h : ProofHead) → OpensProof h k tt → ⊥
+  pub no_label : (x : List ℕ) → ShowsLabel k x → ⊥
+
+abbrev pub IsOpening : Token → Opening → Type 0
+IsOpening k (Plain h) = Opens h k tt
+IsOpening k (Proof h) = OpensProof h k tt
+IsOpening k Label = (x : List ℕ) × ShowsLabel k x
+IsOpening k Nothing = BeginsNothing k
