@@ -14,7 +14,7 @@ use Rattle.ab_grammar.proofs.Standing.{command_stands}
 use Rattle.ab_grammar.proofs.OneCommand.{one_command}
 use Rattle.ab_grammar.proofs.OneAnswer as answers
 use Rattle.ab_syntax.specs.Tokens.{tokens_in}
-use Rattle.ab_syntax.specs.Faults.{fault_place}
+use Rattle.ab_syntax.specs.Faults.{fault_place, nested_place}
 use Rattle.ab_kernel.specs.Formula.{Formula, truth, falsity}
 use Rattle.abella.specs.declared.session.reply.Refusal.{Refusal}
 use Rattle.abella.specs.declared.session.reply.Refusal.TheVariants.{Syntax, WrongPlace, TooNested}
@@ -117,10 +117,10 @@ module _ (b : List ℕ) (proving : Bool) where
         let e = answers.one_syntax CommandText (tokens_in b us) i j (subst (λ q. SyntaxAt CommandText q i) same x) y in
         ap (λ q. fault_place b q i) (tokens_unique f.tokens_are g.tokens_are) ∙ ap (fault_place b us) e
 
-    one_nested : (i j : ℕ) → TooNestedAt CommandText (tokens_in b ts) i → TooNestedAt CommandText (tokens_in b us) j → fault_place b ts i ≡ fault_place b us j
+    one_nested : (i j : ℕ) → TooNestedAt CommandText (tokens_in b ts) i → TooNestedAt CommandText (tokens_in b us) j → nested_place b ts i ≡ nested_place b us j
     one_nested i j x y =
         let e = answers.one_nested CommandText (tokens_in b us) i j (subst (λ q. TooNestedAt CommandText q i) same x) y in
-        ap (λ q. fault_place b q i) (tokens_unique f.tokens_are g.tokens_are) ∙ ap (fault_place b us) e
+        ap (λ q. nested_place b q i) (tokens_unique f.tokens_are g.tokens_are) ∙ ap (nested_place b us) e
 
     not_both : {A : Type 0} (i j : ℕ) → SyntaxAt CommandText (tokens_in b ts) i → TooNestedAt CommandText (tokens_in b us) j → A
     not_both i j x y = absurd (answers.syntax_or_nested CommandText (tokens_in b us) i j (subst (λ q. SyntaxAt CommandText q i) same x) y)
