@@ -1,0 +1,9 @@
+mod Members
+pub mod Entries
+mod Rows
+mod Merging
+pub mod Kept
+mod Grown
+mod Refusals
+mod Cutting
+mod First

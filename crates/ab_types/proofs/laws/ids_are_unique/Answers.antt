@@ -1,0 +1,12 @@
+use Rattle.ab_types.proofs.Kept.{one_kind, one_type, one_constant}
+use Rattle.ab_types.proofs.laws.ids_are_unique.Goals as goal
+use Rattle.ab_types.proofs.Grown.{with_kind}
+
+pub returns-clause-kinds : goal.returns-clause-kinds
+returns-clause-kinds c = one_kind
+
+pub returns-clause-types : goal.returns-clause-types
+returns-clause-types c = one_type
+
+pub returns-clause-constants : goal.returns-clause-constants
+returns-clause-constants c = one_constant
