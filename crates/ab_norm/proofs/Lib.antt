@@ -1,0 +1,10 @@
+pub mod Lowering
+pub mod Bounds
+pub mod Frame
+pub mod Raised
+pub mod Substituted
+pub mod Instances
+pub mod Expanded
+pub mod Unshared
+pub mod OneHead
+pub mod Compared

@@ -1,0 +1,102 @@
+//! Whether two terms are the same past their hints.
+ghost use Rattle.std.specs.Prelude.{◌≡◌, ◌↔◌, true, map, IfOk, IsTrue, All, length};
+ghost use Rattle.ab_term.specs.Terms.{terms_of};
+ghost use Rattle.ab_term.specs.Translation.{EqualPastHints, forget_all};
+ghost use Rattle.ab_types.specs.Entries.{Table};
+ghost use Rattle.ab_types.specs.Ids.{HoldsType, type_of};
+ghost use Rattle.ab_types.specs.Sound.{IsTable};
+ghost use Rattle.ab_store.specs.Reading.{Holds, reading, head_reading};
+ghost use Rattle.ab_store.specs.Naming.{HeadIsTyped, IsTypedBy};
+
+use ab_store::{Head, Node, Store, TermId};
+use ab_types::{TypeId, TypeTable};
+use std::alloc::{AllocError, Global};
+
+/// Whether the two terms are the same, but for the hints of their binders.
+
+/// Whether the two heads are the same.
+fn is_same_head(a: Head, b: Head) -> bool
+    ensures { (result ≡ true) ↔ (a ≡ b) }
+{
+    a == b
+}
+
+/// Whether the two types are the same.
+fn is_same_type(a: TypeId, b: TypeId) -> bool
+    ensures { (result ≡ true) ↔ (a ≡ b) }
+{
+    a == b
+}
+
+/// Whether the two terms are the same, but for the hints of their binders.
+pub fn equal(
+    alloc: Global,
+    types: &TypeTable,
+    store: &Store,
+    a: TermId,
+    b: TermId,
+) -> Result<bool, AllocError>
+    requires store { IsTypedBy types.now store.now }
+    requires a { Holds store.now a }
+    requires b { Holds store.now b }
+    ensures { IfOk result (λ same. IsTrue same ↔ EqualPastHints (reading types.now store.now a) (reading types.now store.now b)) }
+{
+    let _ = alloc;
+    // no two ids of a table stand for one type
+    let _ = types.len();
+    Ok(is_equal(store, a, b))
+}
+
+/// Whether the two terms are the same past their hints.
+#[cycle(compared)]
+fn is_equal(store: &Store, a: TermId, b: TermId) -> bool
+    requires a { Holds store.now a }
+    requires b { Holds store.now b }
+    ensures { (types : Table) → IsTable types → IsTypedBy types store.now →
+        (result ≡ true) ↔ EqualPastHints (reading types store.now a) (reading types store.now b) }
+{
+    if a == b {
+        return true;
+    }
+    match store.view(a) {
+        Node::Lam(ty, _, body) => match store.view(b) {
+            Node::Lam(other, _, inner) => {
+                if is_same_type(*ty, *other) {
+                    is_equal(store, *body, *inner)
+                } else {
+                    false
+                }
+            }
+            Node::Spine(_, _) => false,
+        },
+        Node::Spine(head, args) => match store.view(b) {
+            Node::Lam(_, _, _) => false,
+            Node::Spine(other, more) => {
+                if is_same_head(*head, *other) {
+                    are_equal(store, args.as_slice(), more.as_slice())
+                } else {
+                    false
+                }
+            }
+        },
+    }
+}
+
+/// Whether the two lists have the same terms past their hints.
+#[cycle(compared)]
+fn are_equal(store: &Store, these: &[TermId], those: &[TermId]) -> bool
+    requires these { All (Holds store.now) these.now }
+    requires those { All (Holds store.now) those.now }
+    ensures { (types : Table) → IsTable types → IsTypedBy types store.now →
+        (result ≡ true) ↔ (forget_all (terms_of (map (reading types store.now) these.now)) ≡ forget_all (terms_of (map (reading types store.now) those.now))) }
+{
+    if these.len() != those.len() {
+        return false;
+    }
+    for i in 0..these.len() {
+        if !is_equal(store, these[i], those[i]) {
+            return false;
+        }
+    }
+    true
+}
