@@ -21,7 +21,7 @@ pub fn kept_commands_replay()
     ensures { (text : List ℕ) (r : Report) → ReportOf text r → Replays empty r.state.kept r.state }
 {}
 
-/// Behind each report of a text, each command has an effect, whatever its bytes say.
+/// Behind each report of a text, bytes that say a command, or that fail to for a cause, have an effect.
 pub fn an_effect_for_each_command()
     ensures { (text : List ℕ) (r : Report) (bytes : List ℕ)
         → ReportOf text r → SaysOrFails bytes (is_open r.state)

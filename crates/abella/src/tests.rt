@@ -16,7 +16,7 @@ struct Case {
 
 const PROVED: &[u8] = b"[1]\n============================\n true\n[2] Proof completed: t.\n";
 
-const CASES: [Case; 21] = [
+const CASES: [Case; 22] = [
     Case {
         script: b"",
         status: 0,
@@ -113,6 +113,11 @@ const CASES: [Case; 21] = [
         report: PROVED,
     },
     Case {
+        script: b"Theorem t : true. search",
+        status: 6,
+        report: b"[1]\n============================\n true\n",
+    },
+    Case {
         script: b"Theorem t : true. search. /* open",
         status: 6,
         report: PROVED,
@@ -158,17 +163,28 @@ fn reports_scripts_however_they_are_cut(rt: HostRuntime) -> Result<(), Fail> {
     Ok(())
 }
 
+fn push_many(script: &mut Vec<u8>, byte: u8, count: usize) -> Result<(), AllocError> {
+    for _ in 0..count {
+        script.push(byte)?;
+    }
+    Ok(())
+}
+
 /// A theorem whose formula is `true` in so many parentheses.
 fn enclosed(alloc: Global, count: usize) -> Result<Vec<u8>, AllocError> {
     let mut script = Vec::from_slice(alloc, b"Theorem x : ")?;
-    for _ in 0..count {
-        script.push(b'(')?;
-    }
+    push_many(&mut script, b'(', count)?;
     script.extend_from_slice(b"true")?;
-    for _ in 0..count {
-        script.push(b')')?;
-    }
+    push_many(&mut script, b')', count)?;
     script.push(b'.')?;
+    Ok(script)
+}
+
+/// A script with so many blanks in front.
+fn behind_blanks(alloc: Global, count: usize, rest: &[u8]) -> Result<Vec<u8>, AllocError> {
+    let mut script = Vec::new(alloc);
+    push_many(&mut script, b' ', count)?;
+    script.extend_from_slice(rest)?;
     Ok(script)
 }
 
@@ -187,6 +203,28 @@ fn refuses_one_parenthesis_more(rt: HostRuntime) -> Result<(), Fail> {
     let (status, report) = outcome(rt.alloc(), script.as_slice(), 65_536, &[], &[])?;
     assert_eq!(rt; status, 1);
     assert!(rt; report.as_slice() == b"[0] Refused 23 TooNested at 212\n".as_slice());
+    Ok(())
+}
+
+#[test]
+fn takes_the_longest_command(rt: HostRuntime) -> Result<(), Fail> {
+    let script = behind_blanks(rt.alloc(), 1_048_559, b"Theorem t : true.")?;
+    let (status, report) = outcome(rt.alloc(), script.as_slice(), 65_536, &[], &[])?;
+    assert_eq!(rt; status, 6);
+    assert!(rt; report.as_slice() == b"[1]\n============================\n true\n".as_slice());
+    Ok(())
+}
+
+const TOO_LONG_FIRST: &[u8] =
+    b"[0] Refused 2 TooLong\n[1]\n============================\n true\n[2] Proof completed: u.\n";
+
+#[test]
+fn drops_a_longer_one(rt: HostRuntime) -> Result<(), Fail> {
+    let rest = b"Theorem t : true. Theorem u : true. search.";
+    let script = behind_blanks(rt.alloc(), 1_048_560, rest)?;
+    let (status, report) = outcome(rt.alloc(), script.as_slice(), 65_536, &[], &[])?;
+    assert_eq!(rt; status, 1);
+    assert!(rt; report.as_slice() == TOO_LONG_FIRST);
     Ok(())
 }
 
