@@ -1,7 +1,7 @@
 -- A table and what stands behind it: numbers that it holds read the same.
-use Rattle.std.proofs.Common.{◌≡◌, ℕ, zero, suc, ◌+◌, ◌<◌, ◌≤◌, ◌⊎◌, inl, inr, Bool, true, false, cond, List, [], ◌∷◌, ◌++◌, length, get_or, take, Contains, Option, Some, None, bytes_eq, refl, sym, ◌∙◌, ap, subst, arith, length-append, append_assoc, append-nil, if◌then◌else◌}
-use Rattle.std.proofs.lemmas.List.{get_or_append_left, get_or_push}
-use Rattle.ab_term.specs.Types.{Ty, kind, arrow, prop}
+use Rattle.std.proofs.Common.{◌≡◌, ℕ, suc, ◌⊎◌, inl, inr, Bool, true, false, List, [], ◌∷◌, ◌++◌, length, get_or, Contains, Some, bytes_eq, refl, sym, ◌∙◌, ap, subst, arith, length-append, append_assoc, append-nil, if◌then◌else◌}
+use Rattle.std.proofs.lemmas.List.{get_or_append_left}
+use Rattle.ab_term.specs.Types.{Ty, kind, prop}
 use Rattle.ab_term.specs.Typing as typing
 use Rattle.ab_term.proofs.Lists.{Contains-none, Contains-here, Contains-there, Contains-cases}
 use Rattle.ab_types.specs.Entries.{Entry, a_kind, a_type, a_constant, Constant, Table, kinds, types, constants, names, type_in, signature, IsExtendedBy}
@@ -97,6 +97,9 @@ extended_twice s t u (a, p) (b, q) = (a ++ b, q ∙ ap (λ l. l ++ b) p ∙ appe
 
 pub extended_by_one : (s : Table) (e : Entry) → IsExtendedBy s (s ++ e ∷ [])
 extended_by_one s e = (e ∷ [], refl)
+
+pub type_still_held : (s t : Table) → IsExtendedBy s t → (id : TypeId) → HoldsType s id → HoldsType t id
+type_still_held s t (more, e) id h = subst (λ u. HoldsType u id) (sym e) (holds_type s more id h)
 
 -- what is among the entries is in its list
 

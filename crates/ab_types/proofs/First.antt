@@ -1,10 +1,8 @@
 -- A new table is one.
-use Rattle.std.proofs.Common.{◌≡◌, ℕ, ◌<◌, List, [], ◌∷◌, length, Contains, codes, refl, arith, subst, sym}
-use Rattle.ab_term.specs.Types.{Ty, prop, o, olist, arrow}
-use Rattle.ab_term.proofs.Lists.{Contains-none, Contains-cases}
-use Rattle.ab_types.specs.Entries.{Table, kinds, types, constants, names, first_entries}
-use Rattle.ab_types.specs.Sound.{AreDifferent, IsTable}
-use Rattle.ab_types.specs.Layout.{Fits, StandOn, rows, table_of, Kept, IsKept}
+use Rattle.std.proofs.Common.{◌≡◌, ℕ, List, [], refl, arith, subst, sym}
+use Rattle.ab_types.specs.Entries.{kinds, types, constants, names, first_entries}
+use Rattle.ab_types.specs.Sound.{IsTable}
+use Rattle.ab_types.specs.Layout.{table_of, Kept, IsKept}
 use Rattle.ab_types.specs.declared.ids.TypeView.{TypeView}
 use Rattle.ab_types.specs.declared.columns.Sort.{Sort}
 use Rattle.ab_types.specs.Builtin.{first_kinds, first_views, first_kept, first_sorts}

@@ -1,5 +1,5 @@
 -- A table with one entry more, as it is kept and as its callers see it.
-use Rattle.std.proofs.Common.{◌≡◌, ◌⊎◌, inl, inr, ℕ, zero, suc, ◌+◌, ◌<◌, ◌≤◌, List, [], ◌∷◌, ◌++◌, length, ◌-◌, take, drop, get_or, slice_get, Contains, Option, Some, None, refl, sym, ◌∙◌, ap, subst, subst₂, arith, length-append, append-nil}
+use Rattle.std.proofs.Common.{◌≡◌, inl, inr, ℕ, ◌+◌, ◌<◌, ◌≤◌, List, [], ◌∷◌, ◌++◌, length, ◌-◌, take, drop, get_or, slice_get, Contains, Some, sym, ◌∙◌, ap, subst, subst₂, arith, length-append, append-nil}
 use Rattle.std.proofs.lemmas.Option.{slice_get_within, get_or_from_slice_get}
 use Rattle.std.proofs.lemmas.List.{get_or_push, get_or_default, take-append-drop}
 use Rattle.std.proofs.Math.Seq.{take-append_seam, take-append-add}
@@ -8,8 +8,8 @@ use Rattle.ab_term.specs.Types.{Ty, prop}
 use Rattle.ab_types.specs.Entries.{Entry, a_kind, a_type, a_constant, Constant, constant, Table, kinds, types, constants, names, first_entries, IsExtendedBy, FindsOrAdds}
 use Rattle.ab_types.specs.Ids.{HoldsKind, HoldsType, HoldsConstant, HoldsView, kind_of, type_of, constant_of, seen_type}
 use Rattle.ab_types.specs.Sound.{AreDifferent, IsTable}
-use Rattle.ab_types.specs.Columns.{AreAsBefore, AreWith, PutsOnce}
-use Rattle.ab_types.specs.Layout.{Kept, Row, kind_row, type_row, constant_row, rows, Fits, entry_of, StandsOn, StandOn, with_rows, table_of, IsKept, AddsRow}
+use Rattle.ab_types.specs.Columns.{AreWith, PutsOnce}
+use Rattle.ab_types.specs.Layout.{Kept, Row, kind_row, type_row, constant_row, rows, entry_of, StandsOn, StandOn, with_rows, table_of, IsKept, AddsRow}
 use Rattle.ab_types.specs.declared.ids.KindId.{KindId}
 use Rattle.ab_types.specs.declared.ids.TypeId.{TypeId}
 use Rattle.ab_types.specs.declared.ids.ConstId.{ConstId}
@@ -17,7 +17,7 @@ use Rattle.ab_types.specs.declared.ids.TypeView.{TypeView}
 use Rattle.ab_types.specs.declared.columns.Sort.{Sort}
 use Rattle.ab_types.specs.declared.columns.Sort.TheVariants.{Kind, Ty as Typ, Constant as Con}
 use Rattle.ab_types.proofs.Members.{different_push, different_front}
-use Rattle.ab_types.proofs.Entries.{kinds-append, types-append, constants-append, names-append, length-names, extended_by_itself, extended_twice, extended_by_one, in_types, from_types, same_seen}
+use Rattle.ab_types.proofs.Entries.{kinds-append, types-append, constants-append, names-append, extended_by_itself, extended_twice, extended_by_one, in_types, from_types, same_seen}
 use Rattle.ab_types.proofs.Rows.{with_rows-append, stand-append, stand-front}
 use Rattle.ab_types.proofs.Merging.{PutsRow, put_kind, put_type, put_constant}
 use Rattle.ab_types.proofs.Kept as kept

@@ -1,26 +1,26 @@
 -- A table as it is kept, and what its callers see of it.
-use Rattle.std.proofs.Common.{◌≡◌, ℕ, zero, suc, ◌+◌, ◌<◌, ◌≤◌, Bool, true, false, nat_eq, List, [], ◌∷◌, ◌++◌, length, get_or, slice_get, Contains, Option, Some, None, position, bytes_eq, if◌then◌else◌, refl, sym, ◌∙◌, ap, subst, arith}
+use Rattle.std.proofs.Common.{◌≡◌, ℕ, zero, suc, ◌<◌, Bool, true, false, nat_eq, List, [], ◌∷◌, length, get_or, slice_get, Contains, Some, position, bytes_eq, if◌then◌else◌, refl, sym, ◌∙◌, ap, subst, arith}
 use Rattle.std.proofs.lemmas.Option.{slice_get_within, get_or_from_slice_get, slice_get-get_or}
 use Rattle.std.proofs.lemmas.List.{get_or_default}
 use Rattle.std.proofs.lemmas.List.Quantifiers.{position-Some}
-use Rattle.std.proofs.lemmas.Map.Entries.{length-keys_of, length-values_of}
-use Rattle.std.specs.Map.{keys_of, values_of}
+use Rattle.std.proofs.lemmas.Map.Entries.{length-keys_of}
+use Rattle.std.specs.Map.{keys_of}
 use Rattle.std.specs.Cmp.Lexicographic.{pointwise, bytes_decides}
 use Rattle.std.specs.List.{list_any}
-use Rattle.ab_term.specs.Types.{Ty, kind, arrow, prop}
-use Rattle.ab_types.specs.Entries.{Entry, a_kind, a_type, a_constant, Constant, Table, kinds, types, constants, names, type_in, signature}
+use Rattle.ab_term.specs.Types.{prop}
+use Rattle.ab_types.specs.Entries.{Constant, Table, kinds, types, constants, names, type_in, signature}
 use Rattle.ab_types.specs.Ids.{HoldsKind, HoldsType, HoldsConstant, HoldsView, kind_of, type_of, constant_of, seen_type}
 use Rattle.ab_types.specs.Sound.{AreDifferent, IsTable}
-use Rattle.ab_types.specs.Layout.{Kept, Row, rows, Fits, StandOn, with_rows, table_of, IsKept}
+use Rattle.ab_types.specs.Layout.{Kept, rows, table_of, IsKept}
 use Rattle.ab_types.specs.declared.ids.KindId.{KindId}
 use Rattle.ab_types.specs.declared.ids.TypeId.{TypeId}
 use Rattle.ab_types.specs.declared.ids.ConstId.{ConstId}
 use Rattle.ab_types.specs.declared.ids.TypeView.{TypeView}
 use Rattle.ab_types.specs.declared.ids.TypeView.TheVariants.{Base, Arrow}
 use Rattle.ab_types.specs.declared.columns.Sort.{Sort}
-use Rattle.ab_types.proofs.Members.{same_name, name_not_in, one_place, place_in}
+use Rattle.ab_types.proofs.Members.{same_name, name_not_in, one_place}
 use Rattle.ab_types.proofs.Entries.{length-names}
-use Rattle.ab_types.proofs.Rows.{kind_rows, type_rows, constant_rows, length-with_rows, kinds-with_rows, types_grow, names-with_rows, type_at, constant_at, ReadsAt, NamesAt}
+use Rattle.ab_types.proofs.Rows.{type_rows, constant_rows, length-with_rows, kinds-with_rows, types_grow, names-with_rows, type_at, constant_at, ReadsAt, NamesAt}
 use Rattle.ab_types.proofs.Merging.{length-rows, kind_rows-rows, type_rows-rows, constant_rows-rows}
 
 -- ids that read the same are one

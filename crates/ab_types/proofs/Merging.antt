@@ -1,5 +1,5 @@
 -- Lists merged into rows by the order of their sorts.
-use Rattle.std.proofs.Common.{◌≡◌, ℕ, zero, suc, ◌+◌, ◌<◌, ◌≤◌, List, [], ◌∷◌, ◌++◌, length, Option, Some, None, IsSome, ◌↔◌, option_to_list, refl, sym, ◌∙◌, ap, subst, subst₂, arith, true≢false}
+use Rattle.std.proofs.Common.{◌≡◌, ℕ, suc, ◌<◌, List, [], ◌∷◌, ◌++◌, length, Option, Some, None, IsSome, ◌↔◌, option_to_list, refl, sym, ◌∙◌, ap, subst, subst₂, arith, true≢false}
 use Rattle.ab_types.specs.declared.ids.TypeView.{TypeView}
 use Rattle.ab_types.specs.declared.columns.Sort.{Sort}
 use Rattle.ab_types.specs.declared.columns.Sort.TheVariants.{Kind, Ty, Constant}

@@ -1,5 +1,5 @@
 -- Which refusal is which.
-use Rattle.std.proofs.Common.{◌≡◌, Result, Ok, Err, IsErrOf, IsErrAnd, refl}
+use Rattle.std.proofs.Common.{◌≡◌, Result, Ok, Err, IsErrOf, IsErrAnd}
 use Rattle.std.specs.declared.alloc.AllocError.{AllocError}
 use Rattle.ab_types.specs.declared.fault.TableFault.{TableFault}
 use Rattle.ab_types.specs.declared.fault.TableFault.TheVariants.{UnknownKind, Clash, Memory}

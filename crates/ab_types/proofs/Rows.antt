@@ -1,13 +1,13 @@
 -- What rows add to a table.
-use Rattle.std.proofs.Common.{◌≡◌, ℕ, zero, suc, ◌+◌, ◌<◌, ◌≤◌, List, [], ◌∷◌, ◌++◌, length, get_or, refl, sym, ◌∙◌, ap, subst, arith, length-append, append_assoc, append-nil}
+use Rattle.std.proofs.Common.{◌≡◌, ℕ, zero, suc, ◌+◌, ◌<◌, List, [], ◌∷◌, ◌++◌, length, get_or, refl, sym, ◌∙◌, ap, subst, arith, length-append, append_assoc, append-nil}
 use Rattle.std.proofs.lemmas.List.{get_or_append_left, get_or_push}
 use Rattle.std.specs.Map.{keys_of}
-use Rattle.ab_term.specs.Types.{Ty, prop}
-use Rattle.ab_types.specs.Entries.{Entry, a_kind, a_type, a_constant, Constant, Table, kinds, types, constants, names, IsExtendedBy}
+use Rattle.ab_term.specs.Types.{prop}
+use Rattle.ab_types.specs.Entries.{a_kind, a_constant, Constant, Table, kinds, types, constants, names, IsExtendedBy}
 use Rattle.ab_types.specs.Ids.{HoldsType, HoldsView, type_of, seen_type}
 use Rattle.ab_types.specs.declared.ids.TypeId.{TypeId}
 use Rattle.ab_types.specs.declared.ids.TypeView.{TypeView}
-use Rattle.ab_types.specs.Layout.{Kept, Row, kind_row, type_row, constant_row, entry_of, StandsOn, with_rows, StandOn}
+use Rattle.ab_types.specs.Layout.{Kept, Row, kind_row, type_row, constant_row, entry_of, with_rows, StandOn}
 use Rattle.ab_types.proofs.Entries.{kinds-append, types-append, constants-append, names-append, holds_type, holds_view, same_type, same_seen}
 
 abbrev pub kind_rows : List Row → List (List ℕ)

@@ -4,7 +4,7 @@ use Rattle.std.proofs.Common.{ap, ◌∙◌}
 use base.Stored.{Gv, gnum, gcons}
 use Rattle.std.specs.Coded.{Coded, coded_ℕ, coded_list}
 use Rattle.ab_term.specs.Codes.{coded_type}
-use Rattle.ab_types.specs.Entries.{Entry, a_kind, a_type, a_constant, Constant, Table}
+use Rattle.ab_types.specs.Entries.{Entry, a_kind, a_type, a_constant, Table}
 
 abbrev bytes_code : Coded (List ℕ)
 bytes_code = coded_list coded_ℕ

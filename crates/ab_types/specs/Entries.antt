@@ -1,5 +1,5 @@
 -- A table is the list of its entries: declared kinds, types that were asked for, declared constants.
-use Rattle.std.specs.Prelude.{◌≡◌, ◌⊎◌, ℕ, List, [], ◌∷◌, ◌++◌, codes, Contains, Option, Some, None, if◌then◌else◌, bytes_eq}
+use Rattle.std.specs.Prelude.{◌≡◌, ◌⊎◌, ℕ, List, [], ◌∷◌, ◌++◌, codes, Contains, Some, None, if◌then◌else◌, bytes_eq}
 use Rattle.ab_term.specs.Types.{Ty, arrow, prop, o, olist}
 use Rattle.ab_term.specs.Typing.{Signature}
 

@@ -1,4 +1,4 @@
-use Rattle.std.proofs.Common.{◌≡◌, ◌∙◌, ◌++◌, ◌∷◌, [], ap}
+use Rattle.std.proofs.Common.{◌∙◌, ◌++◌, ◌∷◌, [], ap}
 use Rattle.ab_types.specs.declared.columns.Sort.TheVariants.{Constant}
 use Rattle.ab_types.proofs.Members.{insert_entry-behind}
 use Rattle.ab_types.proofs.columns.add_constant.Goals as goal

@@ -1,4 +1,4 @@
-use Rattle.std.proofs.Common.{◌≡◌, ◌∙◌, ◌++◌, ◌∷◌, [], ap}
+use Rattle.std.proofs.Common.{◌∙◌, ◌++◌, ◌∷◌, [], ap}
 use Rattle.ab_types.specs.declared.columns.Sort.TheVariants.{Kind}
 use Rattle.ab_types.proofs.Members.{no_name, insert_name-new, first_name-new}
 use Rattle.ab_types.proofs.columns.add_kind.Goals as goal

@@ -1,4 +1,4 @@
-use Rattle.std.proofs.Common.{take, drop, sym}
+use Rattle.std.proofs.Common.{drop, sym}
 use Rattle.std.proofs.lemmas.List.{take-append-drop}
 use Rattle.ab_types.proofs.Entries.{extended_by_itself, extended_twice}
 use Rattle.ab_types.proofs.laws.extension_is_an_order.Goals as goal

@@ -1,9 +1,8 @@
-use Rattle.std.proofs.Common.{◌≡◌, ◌++◌, ◌∙◌, sym, ap, subst}
+use Rattle.std.proofs.Common.{◌∙◌, sym, ap, subst}
 use Rattle.ab_term.specs.Typing as typing
 use Rattle.ab_types.specs.Entries.{signature}
 use Rattle.ab_types.specs.Ids.{HoldsKind, HoldsType, HoldsConstant, kind_of, type_of, constant_of}
 use Rattle.ab_types.proofs.Entries.{holds_kind, holds_type, holds_constant, same_kind, same_type, same_constant, same_signature}
-use Rattle.ab_types.proofs.Merging.{length-rows}
 use Rattle.ab_types.proofs.laws.extension_keeps_readings.Goals as goal
 
 pub returns-clause-kinds : goal.returns-clause-kinds

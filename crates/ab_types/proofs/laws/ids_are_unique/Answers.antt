@@ -1,6 +1,5 @@
 use Rattle.ab_types.proofs.Kept.{one_kind, one_type, one_constant}
 use Rattle.ab_types.proofs.laws.ids_are_unique.Goals as goal
-use Rattle.ab_types.proofs.Grown.{with_kind}
 
 pub returns-clause-kinds : goal.returns-clause-kinds
 returns-clause-kinds c = one_kind

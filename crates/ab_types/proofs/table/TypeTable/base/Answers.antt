@@ -1,7 +1,7 @@
-use Rattle.std.proofs.Common.{◌≡◌, ◌∙◌, sym, ap, subst, refl}
+use Rattle.std.proofs.Common.{◌∙◌, sym, ap, subst, refl}
 use Rattle.ab_term.specs.Types.{kind}
 use Rattle.ab_types.specs.Entries.{a_type, FindsOrAdds}
-use Rattle.ab_types.proofs.Kept.{FindsKind, kind_found, kind_not_found}
+use Rattle.ab_types.proofs.Kept.{kind_found, kind_not_found}
 use Rattle.ab_types.proofs.Refusals.{memory_no_unknown, ok_no_unknown}
 use Rattle.ab_types.proofs.table.TypeTable.base.Goals as goal
 

@@ -1,5 +1,4 @@
-use Rattle.std.proofs.Common.{◌≡◌, ◌+◌, ◌≤◌, length, take}
-use Rattle.ab_types.specs.Entries.{Table}
+use Rattle.std.proofs.Common.{length}
 use Rattle.ab_types.proofs.Cutting.{IsCut}
 use Rattle.ab_types.proofs.table.TypeTable.cut_to.Given as goal
 

@@ -1,5 +1,4 @@
-use Rattle.std.proofs.Common.{◌≡◌, ◌∙◌, sym, refl, subst, Contains, List, ℕ}
-use Rattle.ab_types.specs.Entries.{kinds}
+use Rattle.std.proofs.Common.{◌∙◌, sym, refl, subst, Contains}
 use Rattle.std.specs.Map.{keys_of}
 use Rattle.ab_types.proofs.Members.{key_in, key_not_in}
 use Rattle.ab_types.proofs.Kept.{names_are}

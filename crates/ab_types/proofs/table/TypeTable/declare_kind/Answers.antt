@@ -1,5 +1,4 @@
-use Rattle.std.proofs.Common.{◌≡◌, ◌∙◌, sym, refl, subst, Contains, List, ℕ}
-use Rattle.ab_types.specs.Entries.{kinds}
+use Rattle.std.proofs.Common.{◌∙◌, sym, refl, subst, Contains}
 use Rattle.ab_types.proofs.Members.{name_in, name_not_in}
 use Rattle.ab_types.proofs.Kept.{kinds_are}
 use Rattle.ab_types.proofs.Grown.{adds_kind, AddsKind}

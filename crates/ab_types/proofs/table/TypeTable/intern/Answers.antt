@@ -1,4 +1,3 @@
-use Rattle.std.proofs.Common.{◌≡◌}
 use Rattle.ab_types.proofs.Grown.{interns, Interns}
 use Rattle.ab_types.proofs.table.TypeTable.intern.Goals as goal
 

@@ -1,4 +1,4 @@
-use Rattle.std.proofs.Common.{◌≡◌, ◌∙◌, sym, ap, arith, length, option_copied}
+use Rattle.std.proofs.Common.{◌∙◌, sym, ap, arith, length, option_copied}
 use Rattle.ab_types.proofs.Kept.{kinds_are, kind_got}
 use Rattle.ab_types.proofs.table.TypeTable.kind_name.Goals as goal
 

@@ -1,4 +1,4 @@
-use Rattle.std.proofs.Common.{◌≡◌, ◌∙◌, sym, refl, true≢false}
+use Rattle.std.proofs.Common.{◌∙◌, sym, refl, true≢false}
 use Rattle.std.proofs.lemmas.Map.Made.{is_some-lookup}
 use Rattle.ab_types.proofs.Members.{name_test}
 use Rattle.ab_types.proofs.Kept.{constant_found, constant_not_found}

@@ -1,5 +1,4 @@
-use Rattle.std.proofs.Common.{◌≡◌, ◌∙◌, sym, ap, arith, option_copied, Some, slice_get}
-use Rattle.ab_types.specs.Ids.{HoldsView, type_of, seen_type}
+use Rattle.std.proofs.Common.{◌∙◌, sym, ap, arith, option_copied}
 use Rattle.ab_types.proofs.Kept.{types_len, type_got}
 use Rattle.ab_types.proofs.table.TypeTable.view.Goals as goal
 

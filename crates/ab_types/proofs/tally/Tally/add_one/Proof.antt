@@ -1,10 +1,9 @@
 -- `add_one` sets the number that stands at the tally's place.
-use Rattle.std.proofs.Common.{◌≡◌, ◌+◌, [], ◌∷◌, refl}
+use Rattle.std.proofs.Common.{◌+◌, [], ◌∷◌, refl}
 use base.Stored.{gnum}
 use base.Fml.{ftrue, flft}
 use mir.Syntax.{named}
 use mir.Val.{vunit}
-use contract.Running.{tables}
 use types.Kit.{‵, ◌⊛◌, ◌$◌, ◌∵◌, !, qed, done, move, keep, split, join, fsplit, fsplit3, fjoin, feq_i, suffices, frame, group}
 use types.Run.{enter, of_opd, unit_lit, returns}
 use types.ByLocal.{alloc_all, pass_all, free_all, look_at, sets}

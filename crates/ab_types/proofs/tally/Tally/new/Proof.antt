@@ -1,11 +1,8 @@
 -- `new` takes a place for the number, at which 0 stands.
-use Rattle.std.proofs.Common.{◌≡◌, [], ◌∷◌, refl}
-use seplogic.Ra.Ura.{Ura}
+use Rattle.std.proofs.Common.{[], ◌∷◌, refl}
 use mir.Val.{vstruct, vnil}
-use base.Logic.{SProp, ent, emp, via, fst∗}
+use base.Logic.{emp, via, fst∗}
 use base.Stored.{gnum}
-use prog.Wp.{WpFn}
-use contract.Running.{tables}
 use types.Kit.{‵, raw, ◌$◌, ◌∵◌, !, qed, move, fjoin, suffices, done}
 use types.Run.{no_more, returns, enter}
 use types.Part.{agg}
