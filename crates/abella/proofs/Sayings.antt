@@ -1,5 +1,5 @@
 -- What bytes say is one command or one cause why they say none, and a command that they say stands there.
-use Rattle.std.proofs.Common.{◌≡◌, ◌↔◌, ◌+◌, ℕ, Bool, true, false, List, length, Option, Some, None, Result, Ok, Err, IfOk, refl, sym, ap, ◌∙◌, subst, codes, arith}
+use Rattle.std.proofs.Common.{◌≡◌, ◌↔◌, ◌+◌, ℕ, Bool, true, false, List, length, Option, Some, None, Result, Ok, Err, IfOk, refl, sym, ap, ◌∙◌, subst, codes, arith, inl, inr}
 use Rattle.ab_lex.specs.declared.token.Token.{Token}
 use Rattle.ab_lex.specs.Tokens.{TokensOf, place_of}
 use Rattle.ab_lex.proofs.OneReading.{tokens_unique, fault_unique, fault_excludes}
@@ -14,7 +14,7 @@ use Rattle.ab_grammar.proofs.Standing.{command_stands}
 use Rattle.ab_grammar.proofs.OneCommand.{one_command}
 use Rattle.ab_grammar.proofs.OneAnswer as answers
 use Rattle.ab_syntax.specs.Tokens.{tokens_in}
-use Rattle.ab_syntax.specs.Faults.{fault_place, nested_place}
+use Rattle.ab_syntax.specs.Faults.{fault_place, nested_place, IsTold, IsCommandPlace}
 use Rattle.ab_kernel.specs.Formula.{Formula, truth, falsity}
 use Rattle.abella.specs.declared.session.reply.Refusal.{Refusal}
 use Rattle.abella.specs.declared.session.reply.Refusal.TheVariants.{Syntax, WrongPlace, TooNested}
@@ -94,6 +94,13 @@ says_one b proving c d x y =
 
 -- One cause
 
+-- one token is told
+one_told : (ks : List Term) (i j k : ℕ) → IsTold ks i j → IsTold ks i k → j ≡ k
+one_told ks i j k (inl (a, e)) (inl (c, f)) = e ∙ sym f
+one_told ks i j k (inl (a, e)) (inr (n, f)) = absurd (n a)
+one_told ks i j k (inr (n, e)) (inl (a, f)) = absurd (n a)
+one_told ks i j k (inr (n, e)) (inr (m, f)) = e ∙ sym f
+
 module _ (b : List ℕ) (proving : Bool) where
   same_place : (p q : ℕ) → FaultAtPlace b p → FaultAtPlace b q → p ≡ q
   same_place p q x y =
@@ -112,10 +119,12 @@ module _ (b : List ℕ) (proving : Bool) where
     same : tokens_in b ts ≡ tokens_in b us
     same = ap (tokens_in b) (tokens_unique f.tokens_are g.tokens_are)
 
-    one_syntax : (i j : ℕ) → SyntaxAt CommandText (tokens_in b ts) i → SyntaxAt CommandText (tokens_in b us) j → fault_place b ts i ≡ fault_place b us j
-    one_syntax i j x y =
+    one_syntax : (i j p q : ℕ) → SyntaxAt CommandText (tokens_in b ts) i → SyntaxAt CommandText (tokens_in b us) j → IsCommandPlace b ts i p → IsCommandPlace b us j q → p ≡ q
+    one_syntax i j p q x y k l =
         let e = answers.one_syntax CommandText (tokens_in b us) i j (subst (λ q. SyntaxAt CommandText q i) same x) y in
-        ap (λ q. fault_place b q i) (tokens_unique f.tokens_are g.tokens_are) ∙ ap (fault_place b us) e
+        let t = tokens_unique f.tokens_are g.tokens_are in
+        let m : IsCommandPlace b us j p = subst (λ n. IsCommandPlace b us n p) e (subst (λ (w : List Token). IsCommandPlace b w i p) t k) in
+        m.2 ∙ (ap (fault_place b us) (one_told (tokens_in b us) j m.0 l.0 m.1 l.1) ∙ sym l.2)
 
     one_nested : (i j : ℕ) → TooNestedAt CommandText (tokens_in b ts) i → TooNestedAt CommandText (tokens_in b us) j → nested_place b ts i ≡ nested_place b us j
     one_nested i j x y =
@@ -134,27 +143,27 @@ module _ (b : List ℕ) (proving : Bool) where
   pub fails_one : (r q : Refusal) → Fails b proving r → Fails b proving q → r ≡ q
   fails_one _ _ (no_token p x) (no_token q y) = ap (λ n. Syntax n) (same_place p q x y)
   fails_one _ _ (no_token p x) (out_of_place us d t s n) = no_fault p us x t
-  fails_one _ _ (no_token p x) (ungrammatical us i g y) = no_fault p us x g.tokens_are
+  fails_one _ _ (no_token p x) (ungrammatical us i q g y l) = no_fault p us x g.tokens_are
   fails_one _ _ (no_token p x) (too_nested us i g y) = no_fault p us x g.tokens_are
   fails_one _ _ (no_token p x) (not_built us t g y n) = no_fault p us x g.tokens_are
   fails_one _ _ (out_of_place ts d t s n) (no_token q y) = no_fault q ts y t
   fails_one _ _ (out_of_place ts d t s n) (out_of_place us e u v m) = refl
-  fails_one _ _ (out_of_place ts d t s n) (ungrammatical us i g y) = fits_here ts us d t s n g
+  fails_one _ _ (out_of_place ts d t s n) (ungrammatical us i q g y l) = fits_here ts us d t s n g
   fails_one _ _ (out_of_place ts d t s n) (too_nested us i g y) = fits_here ts us d t s n g
   fails_one _ _ (out_of_place ts d t s n) (not_built us u g y m) = fits_here ts us d t s n g
-  fails_one _ _ (ungrammatical ts i f x) (no_token q y) = no_fault q ts y f.tokens_are
-  fails_one _ _ (ungrammatical ts i f x) (out_of_place us e u v m) = fits_here us ts e u v m f
-  fails_one _ _ (ungrammatical ts i f x) (ungrammatical us j g y) = ap (λ n. Syntax n) (one_syntax ts us f g i j x y)
-  fails_one _ _ (ungrammatical ts i f x) (too_nested us j g y) = not_both ts us f g i j x y
-  fails_one _ _ (ungrammatical ts i f x) (not_built us u g y m) = no_syntax us ts g f u i y x
+  fails_one _ _ (ungrammatical ts i p f x k) (no_token q y) = no_fault q ts y f.tokens_are
+  fails_one _ _ (ungrammatical ts i p f x k) (out_of_place us e u v m) = fits_here us ts e u v m f
+  fails_one _ _ (ungrammatical ts i p f x k) (ungrammatical us j q g y l) = ap (λ n. Syntax n) (one_syntax ts us f g i j p q x y k l)
+  fails_one _ _ (ungrammatical ts i p f x k) (too_nested us j g y) = not_both ts us f g i j x y
+  fails_one _ _ (ungrammatical ts i p f x k) (not_built us u g y m) = no_syntax us ts g f u i y x
   fails_one _ _ (too_nested ts i f x) (no_token q y) = no_fault q ts y f.tokens_are
   fails_one _ _ (too_nested ts i f x) (out_of_place us e u v m) = fits_here us ts e u v m f
-  fails_one _ _ (too_nested ts i f x) (ungrammatical us j g y) = not_both us ts g f j i y x
+  fails_one _ _ (too_nested ts i f x) (ungrammatical us j q g y l) = not_both us ts g f j i y x
   fails_one _ _ (too_nested ts i f x) (too_nested us j g y) = ap (λ n. TooNested n) (one_nested ts us f g i j x y)
   fails_one _ _ (too_nested ts i f x) (not_built us u g y m) = no_nested us ts g f u i y x
   fails_one _ _ (not_built ts t f x n) (no_token q y) = no_fault q ts y f.tokens_are
   fails_one _ _ (not_built ts t f x n) (out_of_place us e u v m) = fits_here us ts e u v m f
-  fails_one _ _ (not_built ts t f x n) (ungrammatical us j g y) = no_syntax ts us f g t j x y
+  fails_one _ _ (not_built ts t f x n) (ungrammatical us j q g y l) = no_syntax ts us f g t j x y
   fails_one _ _ (not_built ts t f x n) (too_nested us j g y) = no_nested ts us f g t j x y
   fails_one _ _ (not_built ts t f x n) (not_built us u g y m) = refl
 
@@ -162,7 +171,7 @@ module _ (b : List ℕ) (proving : Bool) where
   pub says_or_fails : (c : Command) (r : Refusal) → Says b proving c → Fails b proving r → ⊥
   says_or_fails c _ h (no_token p x) = no_fault p h.tokens x h.fits.tokens_are
   says_or_fails c _ h (out_of_place ts d t s n) = fits_here ts h.tokens d t s n h.fits
-  says_or_fails c _ h (ungrammatical ts i f x) = no_syntax h.tokens ts h.fits f h.tree_read i h.spells x
+  says_or_fails c _ h (ungrammatical ts i p f x k) = no_syntax h.tokens ts h.fits f h.tree_read i h.spells x
   says_or_fails c _ h (too_nested ts i f x) = no_nested h.tokens ts h.fits f h.tree_read i h.spells x
   says_or_fails c _ h (not_built ts t f x n) =
       let e = tokens_unique h.fits.tokens_are f.tokens_are in

@@ -12,7 +12,7 @@ use Rattle.ab_grammar.specs.CommandTrees.{theorem, in_proof, split, search}
 use Rattle.ab_grammar.specs.CommandTable.{CommandText, StandsAt}
 use Rattle.ab_grammar.specs.Language.{Accepted, SyntaxAt, TooNestedAt}
 use Rattle.ab_syntax.specs.Tokens.{tokens_in}
-use Rattle.ab_syntax.specs.Faults.{fault_place, nested_place}
+use Rattle.ab_syntax.specs.Faults.{nested_place, IsCommandPlace}
 use Rattle.ab_kernel.specs.Formula.{Formula, truth, falsity, both}
 use Rattle.abella.specs.declared.session.reply.Refusal.{Refusal}
 use Rattle.abella.specs.declared.session.reply.Refusal.TheVariants.{Syntax, WrongPlace, TooNested, NotBuilt}
@@ -80,7 +80,7 @@ pub record Says (bytes : List ℕ) (proving : Bool) (c : Command) : Type 0 where
 pub data Fails (bytes : List ℕ) (proving : Bool) : Refusal → Type 0 where
   no_token : (place : ℕ) → FaultAtPlace bytes place → Fails bytes proving (Syntax place)
   out_of_place : (ts : List Token) (d : Stand) → TokensOf bytes ts → StandsAt (tokens_in bytes ts) d → ¬ StandsHere d proving → Fails bytes proving WrongPlace
-  ungrammatical : (ts : List Token) (i : ℕ) → Fits bytes proving ts → SyntaxAt CommandText (tokens_in bytes ts) i → Fails bytes proving (Syntax (fault_place bytes ts i))
+  ungrammatical : (ts : List Token) (i place : ℕ) → Fits bytes proving ts → SyntaxAt CommandText (tokens_in bytes ts) i → IsCommandPlace bytes ts i place → Fails bytes proving (Syntax place)
   too_nested : (ts : List Token) (i : ℕ) → Fits bytes proving ts → TooNestedAt CommandText (tokens_in bytes ts) i → Fails bytes proving (TooNested (nested_place bytes ts i))
   not_built : (ts : List Token) (t : tree.Command) → Fits bytes proving ts → Accepted CommandText (tokens_in bytes ts) t
       → ((c : Command) → ¬ Means (length ts) t c) → Fails bytes proving NotBuilt

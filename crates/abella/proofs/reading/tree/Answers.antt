@@ -8,7 +8,7 @@ pub returns-in-Err-Syntax-clause-unread : goal.returns-in-Err-Syntax-clause-unre
 returns-in-Err-Syntax-clause-unread c =
     let r : c.parse_command.result ≡ Err (fault.Syntax c.in-Err-Syntax.place) = c.in-Err-Syntax.is ∙ ap (λ f. Err f) c.in-Err-Syntax.field-0-is in
     let h = c.parse_command.ensures.syntax c.in-Err-Syntax.place r in
-    subst (λ p. Fails c.args.bytes.now c.args.is_open (Syntax p)) (sym h.2) (ungrammatical c.args.tokens.now h.0 c.requires h.1)
+    ungrammatical c.args.tokens.now h.0 c.in-Err-Syntax.place c.requires h.1 h.2
 
 pub returns-in-Err-TooNested-clause-unread : goal.returns-in-Err-TooNested-clause-unread
 returns-in-Err-TooNested-clause-unread c =
