@@ -78,9 +78,10 @@ module _ (types : Table) (s : Contents) where
     right_spine = ap forget (reads_b ∙ ap (node_reading types s) is_b) ∙ ap (λ k. spine k (forget_all (terms_of (map (reading types s) us)))) (same_translated (head_reading types s g))
 
     pub same_spine : (r : Bool) → h ≡ g → (r ≡ true) ↔ (forget_all (terms_of (map (reading types s) ts)) ≡ forget_all (terms_of (map (reading types s) us))) → (r ≡ true) ↔ EqualPastHints (reading types s a) (reading types s b)
-    same_spine r one args =
-        (λ e. left_spine ∙ ap (λ k. spine (head_reading types s k) (forget_all (terms_of (map (reading types s) ts)))) one ∙ ap (spine (head_reading types s g)) (args.0 e) ∙ sym right_spine,
-        λ e. args.1 (let f = sym left_spine ∙ e ∙ right_spine in cc))
+    same_spine r one args = (
+      λ e. left_spine ∙ ap (λ k. spine (head_reading types s k) (forget_all (terms_of (map (reading types s) ts)))) one ∙ ap (spine (head_reading types s g)) (args.0 e) ∙ sym right_spine,
+      λ e. args.1 (let f = sym left_spine ∙ e ∙ right_spine in cc),
+    )
 
     pub other_head : IsTable types → HeadIsTyped types h → HeadIsTyped types g → h ≢ g → EqualPastHints (reading types s a) (reading types s b) → ⊥
     other_head ok hh hg differ e = differ (one_head types ok s h g hh hg (let f = sym left_spine ∙ e ∙ right_spine in cc))

@@ -8,3 +8,7 @@ pub mod Expanded
 pub mod Unshared
 pub mod OneHead
 pub mod Compared
+pub mod Matched
+pub mod Transposed
+pub mod Completed
+pub mod UpTo

@@ -2,3 +2,5 @@
 pub mod Growth
 pub mod Trees
 pub mod Nominals
+pub mod Matching
+pub mod Completing

@@ -15,14 +15,14 @@ use std::alloc::{AllocError, Global};
 /// Whether the two terms are the same, but for the hints of their binders.
 
 /// Whether the two heads are the same.
-fn is_same_head(a: Head, b: Head) -> bool
+pub(crate) fn is_same_head(a: Head, b: Head) -> bool
     ensures { (result ≡ true) ↔ (a ≡ b) }
 {
     a == b
 }
 
 /// Whether the two types are the same.
-fn is_same_type(a: TypeId, b: TypeId) -> bool
+pub(crate) fn is_same_type(a: TypeId, b: TypeId) -> bool
     ensures { (result ≡ true) ↔ (a ≡ b) }
 {
     a == b

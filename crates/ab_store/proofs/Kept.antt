@@ -17,7 +17,7 @@ use Rattle.ab_store.specs.declared.node.Node.{Node}
 use Rattle.ab_store.specs.declared.node.Node.TheVariants.{Lam, Spine}
 use Rattle.ab_store.specs.declared.node.CellEntry.{CellEntry}
 use Rattle.ab_store.specs.declared.store.Entry.{Entry}
-use Rattle.ab_store.specs.Reading.{Read, Contents, Holds, HoldsCell, cell_of, readings, reading, node_reading}
+use Rattle.ab_store.specs.Reading.{Read, Holds, readings, reading, node_reading}
 use Rattle.ab_store.specs.Growth.{IsExtendedBy}
 use Rattle.ab_store.specs.Naming.{HeadNames, NodeNames, NodeIsTyped, NodesNameEarlier, IsTypedBy}
 use Rattle.ab_store.specs.Entries.{contents, AreSound, head_is_nominal, has_nominal, any_has_nominal}

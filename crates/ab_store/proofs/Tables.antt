@@ -1,14 +1,13 @@
 -- A store under a table that has grown.
-use Rattle.std.proofs.Common.{◌≡◌, ℕ, zero, suc, ◌+◌, ◌<◌, List, [], ◌∷◌, ◌++◌, map, length, get_or, refl, sym, ◌∙◌, ap, subst, arith}
+use Rattle.std.proofs.Common.{◌≡◌, ℕ, suc, ◌<◌, List, [], ◌∷◌, ◌++◌, map, length, get_or, refl, ◌∙◌, ap, arith}
 use Rattle.std.specs.List.{All}
 use Rattle.std.proofs.lemmas.List.Elements.{All-head, All-tail, All-weaker}
 use Rattle.ab_term.specs.Logical as plain
 use Rattle.ab_term.specs.Terms as tree
 use Rattle.ab_term.specs.Terms.{lam, spine, terms_of}
 use Rattle.ab_types.specs.Entries.{Table}
-use Rattle.ab_types.specs.Ids.{HoldsType, type_of, constant_of}
+use Rattle.ab_types.specs.Ids.{HoldsType}
 use Rattle.ab_types.proofs.Entries.{holds_type, holds_constant, same_type, same_constant}
-use Rattle.ab_types.specs.declared.ids.TypeId.{TypeId}
 use Rattle.ab_store.specs.declared.node.TermId.{TermId}
 use Rattle.ab_store.specs.declared.node.Logical.{Logical}
 use Rattle.ab_store.specs.declared.node.Logical.TheVariants.{True, False, And, Or, Arrow, Equal, Forall, Exists, Nabla, Judge, Focus, Star, At, Plus, Hash, Pi, Imply, With}
@@ -17,7 +16,7 @@ use Rattle.ab_store.specs.declared.node.Head.TheVariants.{Const, Logic, Nominal,
 use Rattle.ab_store.specs.declared.node.Node.{Node}
 use Rattle.ab_store.specs.declared.node.Node.TheVariants.{Lam, Spine}
 use Rattle.ab_store.specs.declared.node.CellEntry.{CellEntry}
-use Rattle.ab_store.specs.Reading.{Read, Contents, Holds, cell_in, logical_of, head_in, term_at, term_of_node, terms_from, readings, reading}
+use Rattle.ab_store.specs.Reading.{Read, Contents, cell_in, logical_of, head_in, term_at, term_of_node, terms_from, reading}
 use Rattle.ab_store.specs.Naming.{HeadNames, NodeNames, LogicalIsTyped, HeadIsTyped, NodeIsTyped, IsTypedBy}
 use Rattle.ab_store.proofs.Nodes.{none}
 

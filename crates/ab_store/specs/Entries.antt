@@ -1,10 +1,9 @@
 -- What a store keeps beside its nodes, so that no walk has to find it out again.
-use Rattle.std.specs.Prelude.{◌≡◌, ℕ, ◌<◌, List, [], map, length, get_or, Bool, true, false, ◌||◌}
+use Rattle.std.specs.Prelude.{◌≡◌, List, map, length, Bool, true, false, ◌||◌}
 use Rattle.ab_term.specs.Terms as tree
 use Rattle.ab_term.specs.Terms.{Term, lam, spine, Terms, no_terms, term}
 use Rattle.ab_term.specs.Reach.{reach}
 use Rattle.ab_types.specs.Entries.{Table}
-use Rattle.ab_store.specs.declared.node.Node.{Node}
 use Rattle.ab_store.specs.declared.node.CellEntry.{CellEntry}
 use Rattle.ab_store.specs.declared.store.Entry.{Entry}
 use Rattle.ab_store.specs.Reading.{Contents, readings}

@@ -1,14 +1,11 @@
 -- What the ids of a store stand for: plain terms whose variables are the numbers of cells, and whose hints are
 -- names. A node names earlier nodes only, so the terms are read in the order of the nodes.
 use Rattle.std.specs.Prelude.{ℕ, ◌<◌, List, [], ◌∷◌, ◌++◌, map, length, get_or}
-use Rattle.std.specs.List.{All}
-use Rattle.ab_term.specs.Types.{Ty, prop}
 use Rattle.ab_term.specs.Logical as plain
 use Rattle.ab_term.specs.Terms as tree
 use Rattle.ab_term.specs.Terms.{Term, lam, spine, terms_of, no_terms}
 use Rattle.ab_types.specs.Entries.{Table}
-use Rattle.ab_types.specs.Ids.{type_of, constant_of, HoldsType, HoldsConstant}
-use Rattle.ab_types.specs.declared.ids.TypeId.{TypeId}
+use Rattle.ab_types.specs.Ids.{type_of, constant_of}
 use Rattle.ab_store.specs.declared.node.TermId.{TermId}
 use Rattle.ab_store.specs.declared.node.CellId.{CellId}
 use Rattle.ab_store.specs.declared.node.Logical.{Logical}

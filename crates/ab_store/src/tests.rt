@@ -1,3 +1,6 @@
+ghost use Rattle.std.specs.Prelude.{IfOk};
+ghost use Rattle.ab_store.specs.Reading.{Holds};
+
 use crate::{Head, Node, Store, TermId};
 use ab_types::{Name, TableFault, TypeId, TypeTable};
 use std::alloc::{AllocError, Global};
@@ -10,7 +13,9 @@ fn nat(alloc: Global) -> Result<TypeId, TableFault> {
 }
 
 // x\ x
-fn identity(alloc: Global, store: &mut Store, ty: TypeId) -> Result<TermId, AllocError> {
+fn identity(alloc: Global, store: &mut Store, ty: TypeId) -> Result<TermId, AllocError>
+    ensures { IfOk result (λ t. Holds store.new t) }
+{
     let name = store.spine(Head::Index(0), Vec::new(alloc))?;
     store.lam(ty, Name::from_text(alloc, "x")?, name)
 }

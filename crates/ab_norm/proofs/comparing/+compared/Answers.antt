@@ -20,7 +20,7 @@ are_equal-is_equal-requires t c =
 pub are_equal-returns-then-not-is_equal : goal.are_equal-returns-then-not-is_equal
 are_equal-returns-then-not-is_equal t c = λ types ok typed.
     never _ (one_differs types c.args.store.now c.args.these.now c.args.those.now c.loop-i.i (record { 0 = 0 }) (omega arith) (omega arith)
-      (λ e. let f = sym c.if-not-is_equal.true ∙ (c.is_equal.ensures types ok typed).1 e in absurd (cc)))
+    (λ e. let f = sym c.if-not-is_equal.true ∙ (c.is_equal.ensures types ok typed).1 e in absurd (cc)))
 
 pub are_equal-loop-i-preserved : goal.are_equal-loop-i-preserved
 are_equal-loop-i-preserved t c = λ types ok typed.
@@ -43,9 +43,9 @@ is_equal-are_equal-requires t c =
 pub is_equal-returns-else-is_same_type : goal.is_equal-returns-else-is_same_type
 is_equal-returns-else-is_same_type t c = λ types ok typed.
     never _ (other_type types c.args.store.now c.args.a c.args.b c.view.result.now c.view-in-Lam.result.now c.in-Lam.ty c.in-Lam-view.other c.in-Lam.field-1 c.in-Lam-view.field-1 c.in-Lam.body c.in-Lam-view.inner
-      (c.view.ensures.reads types) c.in-Lam.is (c.view-in-Lam.ensures.reads types) c.in-Lam-view.is ok
-      (subst (NodeIsTyped types) c.in-Lam.is (c.view.ensures.typed types typed)) (subst (NodeIsTyped types) c.in-Lam-view.is (c.view-in-Lam.ensures.typed types typed))
-      (apart c.is_same_type.result c.if-is_same_type.false c.is_same_type.ensures))
+    (c.view.ensures.reads types) c.in-Lam.is (c.view-in-Lam.ensures.reads types) c.in-Lam-view.is ok
+    (subst (NodeIsTyped types) c.in-Lam.is (c.view.ensures.typed types typed)) (subst (NodeIsTyped types) c.in-Lam-view.is (c.view-in-Lam.ensures.typed types typed))
+    (apart c.is_same_type.result c.if-is_same_type.false c.is_same_type.ensures))
 
 pub is_equal-returns-then-is_same_type : goal.is_equal-returns-then-is_same_type
 is_equal-returns-then-is_same_type t c = λ types ok typed.
@@ -61,6 +61,6 @@ is_equal-returns-then-is_same_head t c = λ types ok typed.
 pub is_equal-returns-else-is_same_head : goal.is_equal-returns-else-is_same_head
 is_equal-returns-else-is_same_head t c = λ types ok typed.
     never _ (other_head types c.args.store.now c.args.a c.args.b c.view.result.now c.view-in-Spine.result.now c.in-Spine.head c.in-Spine-view-2.other c.in-Spine.args c.in-Spine-view-2.more
-      (c.view.ensures.reads types) c.in-Spine.is (c.view-in-Spine.ensures.reads types) c.in-Spine-view-2.is ok
-      (subst (NodeIsTyped types) c.in-Spine.is (c.view.ensures.typed types typed)) (subst (NodeIsTyped types) c.in-Spine-view-2.is (c.view-in-Spine.ensures.typed types typed))
-      (apart c.is_same_head.result c.if-is_same_head.false c.is_same_head.ensures))
+    (c.view.ensures.reads types) c.in-Spine.is (c.view-in-Spine.ensures.reads types) c.in-Spine-view-2.is ok
+    (subst (NodeIsTyped types) c.in-Spine.is (c.view.ensures.typed types typed)) (subst (NodeIsTyped types) c.in-Spine-view-2.is (c.view-in-Spine.ensures.typed types typed))
+    (apart c.is_same_head.result c.if-is_same_head.false c.is_same_head.ensures))

@@ -1,4 +1,4 @@
-use Rattle.std.proofs.Common.{◌≡◌, sym, subst, ap, ◌∙◌}
+use Rattle.std.proofs.Common.{sym, subst, ap, ◌∙◌}
 use Rattle.ab_store.specs.Reading.{reading}
 use Rattle.ab_store.specs.Naming.{IsTypedBy}
 use Rattle.ab_store.proofs.Tables.{more_typed, same_reading}

@@ -1,4 +1,4 @@
-use Rattle.std.proofs.Common.{◌≡◌, ap, sym, ◌∙◌, max, map, List, ◌||◌}
+use Rattle.std.proofs.Common.{ap, sym, ◌∙◌, max, map, List, ◌||◌}
 use Rattle.ab_term.specs.Terms.{terms_of}
 use Rattle.ab_term.specs.Reach as tree
 use Rattle.ab_store.specs.declared.node.TermId.{TermId}

@@ -1,6 +1,5 @@
-use Rattle.std.proofs.Common.{arith, ap, sym, ◌∙◌, subst, length, ◌<◌}
+use Rattle.std.proofs.Common.{ap, sym, ◌∙◌}
 use Rattle.ab_store.specs.Reading.{node_reading}
-use Rattle.ab_store.specs.Naming.{NodeNames, NodeIsTyped}
 use Rattle.ab_store.specs.Entries.{contents}
 use Rattle.ab_store.proofs.Kept.{held, reads_at, names_at, typed_at}
 use Rattle.ab_store.proofs.store.Store.view.Goals as goal
