@@ -329,3 +329,30 @@ word_alone lexed.Word x p h = refl
 word_alone lexed.Number x p h = absurd (no_word (token_by lexed.Number x p) (number_is_mark x p) h)
 word_alone lexed.Text x p h = absurd (no_word (token_by lexed.Text x p) (text_is_mark x p) h)
 word_alone lexed.Sign x p h = absurd (no_word (token_by lexed.Sign x p) (sign_is_mark x p) h)
+
+-- no token is the end
+
+abbrev IsSome : Token → Type 0
+IsSome (other end) = ⊥
+IsSome k = Unit {0}
+
+abbrev AlwaysSome : (List ℕ → ℕ → Token) → Type 0
+AlwaysSome f = (w : List ℕ) (p : ℕ) → IsSome (f w p)
+
+words_are_some : EachRow AlwaysSome reserved
+words_are_some =
+    (λ w p. tt, (λ w p. tt, (λ w p. tt, (λ w p. tt, (λ w p. tt, (λ w p. tt,
+    (λ w p. tt, (λ w p. tt, (λ w p. tt, (λ w p. tt, (λ w p. tt, tt)))))))))))
+
+word_is_some : (x : List ℕ) (p : ℕ) → IsSome (token_by lexed.Word x p)
+word_is_some x p = by_row (listed reserved x) refl
+  where
+    by_row : (o : Option (List ℕ → ℕ → Token)) → listed reserved x ≡ o → IsSome (otherwise o word x p)
+    by_row None e = tt
+    by_row (Some f) e = listed_each AlwaysSome reserved x f words_are_some e x p
+
+pub never_end : (j : TokenKind) (x : List ℕ) (p : ℕ) → token_by j x p ≡ other end → ⊥
+never_end lexed.Word x p e = subst IsSome e (word_is_some x p)
+never_end lexed.Number x p e = subst IsMark e (number_is_mark x p)
+never_end lexed.Text x p e = subst IsMark e (text_is_mark x p)
+never_end lexed.Sign x p e = subst IsMark e (sign_is_mark x p)

@@ -7,19 +7,9 @@ use Rattle.ab_grammar.specs.declared.head.Stand.TheVariants.{Inside}
 use Rattle.ab_grammar.specs.Token.{Token, other, end, colon}
 use Rattle.ab_grammar.specs.Reading.{first}
 use Rattle.ab_grammar.specs.CommandTable.{Opens, OpensProof, ShowsLabel, stand_of, StandsAt, by_head, by_proof_head, by_label}
-use Rattle.ab_grammar.proofs.Heads.{one_head, plain_no_proof, plain_no_label, proof_no_label}
+use Rattle.ab_grammar.proofs.Heads.{plain_no_label, proof_no_label}
+use Rattle.ab_grammar.proofs.Standing.{one_stand}
 use Rattle.ab_syntax.specs.Openings.{BeginsNothing}
-
-one_stand : (ts : List Token) (a b : Stand) → StandsAt ts a → StandsAt ts b → a ≡ b
-one_stand _ _ _ (by_head {k = k} h ks o) (by_head j _ p) = ap stand_of (one_head h j k o p)
-one_stand _ _ _ (by_head {k = k} h ks o) (by_proof_head j _ p) = absurd (plain_no_proof h j k o p)
-one_stand _ _ _ (by_head {k = k} h _ o) (by_label x ks s) = absurd (plain_no_label h k x s o)
-one_stand _ _ _ (by_proof_head {k = k} h ks o) (by_head j _ p) = absurd (plain_no_proof j h k p o)
-one_stand _ _ _ (by_proof_head h ks o) (by_proof_head j _ p) = refl
-one_stand _ _ _ (by_proof_head h _ o) (by_label x ks s) = refl
-one_stand _ _ _ (by_label {k = k} x ks s) (by_head j _ p) = absurd (plain_no_label j k x s p)
-one_stand _ _ _ (by_label x ks s) (by_proof_head j _ p) = refl
-one_stand _ _ _ (by_label x ks s) (by_label y _ t) = refl
 
 -- the tokens, and then their end
 abbrev pub ended : List Token → List Token

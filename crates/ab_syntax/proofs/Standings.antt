@@ -1,12 +1,13 @@
--- Tokens of a text stand in its bytes, in order; its words are ASCII, and its quoted texts have their quotes.
+-- Tokens of a text stand in its bytes, in order; its words are ASCII, its numbers digits, and its quoted texts have their quotes.
 use Rattle.std.proofs.Common.{◌≡◌, ◌<◌, ◌≤◌, ◌+◌, ◌-◌, ℕ, zero, suc, List, [], ◌∷◌, ◌++◌, true, All, length, take, drop, refl, sym, ◌∙◌, ap, subst, append_assoc, length-append, arith}
-use Rattle.std.specs.Char.{is_ascii_alphabetic, is_ascii_alphanumeric}
+use Rattle.std.specs.List.{list_all}
+use Rattle.std.specs.Char.{is_ascii_alphabetic, is_ascii_alphanumeric, is_ascii_digit}
 use Rattle.std.proofs.lemmas.Grind.{common_steps}
 use Rattle.std.proofs.lemmas.List.{take_at, drop_at}
 use Rattle.ab_lex.specs.declared.token.Token.{Token}
 use Rattle.ab_lex.specs.declared.token.TokenKind.{TokenKind}
 use Rattle.ab_lex.specs.declared.token.TokenKind.TheVariants.{Word, Number, Text, Sign}
-use Rattle.ab_lex.specs.Tokens.{is_word_byte, IsWordTail, ends, byte, joined, IsWord, alone, letters, IsString, IsToken, TokenAt, token_at, TokensFrom, no_more, gap, token}
+use Rattle.ab_lex.specs.Tokens.{is_word_byte, IsWordTail, ends, byte, joined, IsWord, alone, letters, IsNumber, last_digit, digit, IsString, IsToken, TokenAt, token_at, TokensFrom, no_more, gap, token}
 use Rattle.ab_lex.specs.Units.{StringEnds, at_quote, in_string}
 use Rattle.ab_syntax.specs.Tokens.{origin_of}
 use Rattle.ab_syntax.specs.Reader.{IsTokenOf}
@@ -51,6 +52,16 @@ quoted_text : (c : List ℕ) → IsString c → 2 ≤ length c
 quoted_text [] h = absurd h
 quoted_text (b ∷ w) h = omega (arith, string_quoted w [] (h.1))
 
+number_digits : {c : List ℕ} → IsNumber c → list_all is_ascii_digit c ≡ true
+number_digits (last_digit {b = b} h) = rw h refl
+number_digits (digit {b = b} {w = w} h r) = rw h (number_digits r)
+
+form_digits : (kind : TokenKind) (c r : List ℕ) → IsToken kind c r → kind ≡ Number → list_all is_ascii_digit c ≡ true
+form_digits Word c r h e = absurd (cc)
+form_digits Number c r h e = number_digits h
+form_digits Text c r h e = absurd (cc)
+form_digits Sign c r h e = absurd (cc)
+
 form_quoted : (kind : TokenKind) (c r : List ℕ) → IsToken kind c r → kind ≡ Text → 2 ≤ length c
 form_quoted Word c r h e = absurd (cc)
 form_quoted Number c r h e = absurd (cc)
@@ -58,7 +69,7 @@ form_quoted Text c r h e = quoted_text c h
 form_quoted Sign c r h e = absurd (cc)
 
 later : (bytes : List ℕ) (low high : ℕ) (ts : List Token) → low ≤ high → AreTokensFrom bytes high ts → AreTokensFrom bytes low ts
-later bytes low high ts h r i d k = let s = r i d k in record { within = s.within; from_origin = omega arith; plain_word = s.plain_word; quoted = s.quoted }
+later bytes low high ts h r i d k = let s = r i d k in record { within = s.within; from_origin = omega arith; plain_word = s.plain_word; digits = s.digits; quoted = s.quoted }
 
 module _ (bytes : List ℕ) where
   one_stands : (kind : TokenKind) (front c r : List ℕ) → bytes ≡ front ++ (c ++ r) → TokenAt kind c r → IsTokenOf bytes (length front) (token_at kind (length front) (length c))
@@ -69,6 +80,7 @@ module _ (bytes : List ℕ) where
         within = (omega arith, omega (arith, ap length e, length-append front (c ++ r), length-append c r));
         from_origin = omega arith;
         plain_word = λ w. subst (λ (x : List ℕ). All (λ b. b < 128) x) (sym text) (form_plain kind c r (t.form) w);
+        digits = λ w. subst (λ (x : List ℕ). list_all is_ascii_digit x ≡ true) (sym text) (form_digits kind c r (t.form) w);
         quoted = λ w. subst (λ (x : List ℕ). 2 ≤ length x) (sym text) (form_quoted kind c r (t.form) w);
       }
 

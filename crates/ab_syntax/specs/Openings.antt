@@ -13,8 +13,9 @@ pub record BeginsNothing (k : Token) : Type 0 where
   pub no_proof : (h : ProofHead) → OpensProof h k tt → ⊥
   pub no_label : (x : List ℕ) → ShowsLabel k x → ⊥
 
-abbrev pub IsOpening : Token → Opening → Type 0
-IsOpening k (Plain h) = Opens h k tt
-IsOpening k (Proof h) = OpensProof h k tt
-IsOpening k Label = (x : List ℕ) × ShowsLabel k x
-IsOpening k Nothing = BeginsNothing k
+-- what the token, which is written so, says of the command that it begins
+abbrev pub IsOpening : Token → List ℕ → Opening → Type 0
+IsOpening k w (Plain h) = Opens h k tt
+IsOpening k w (Proof h) = OpensProof h k tt
+IsOpening k w Label = ShowsLabel k w
+IsOpening k w Nothing = BeginsNothing k

@@ -5,6 +5,7 @@ use Rattle.ab_syntax.specs.declared.tree.TypeParse.TheOpen.{TypeParse-F}
 use Rattle.ab_syntax.specs.declared.tree.Binder.{Binder}
 use Rattle.ab_syntax.specs.declared.tree.Parse.{Parse, fold-Parse}
 use Rattle.ab_syntax.specs.declared.tree.Parse.TheOpen.{Parse-F}
+use Rattle.ab_syntax.specs.Items.{list_of}
 use Rattle.ab_grammar.specs.Tree as tree
 use Rattle.ab_grammar.specs.Tree.{Ty, Tree, trees_of, focus_of}
 
@@ -20,11 +21,11 @@ binder_of b = record { name = b.name; type_of = option_map type_of b.ty; place =
 
 abbrev pub tree_step : Parse-F Tree → Tree
 tree_step (Parse-F.Name x p) = tree.name x p
-tree_step (Parse-F.Apply f vs p) = tree.apply (f.value) (trees_of vs.items) p
+tree_step (Parse-F.Apply f vs p) = tree.apply (f.value) (trees_of (list_of vs)) p
 tree_step (Parse-F.Abs x t p) = tree.abs x (t.value) p
 tree_step (Parse-F.Join o t u p) = tree.join o (t.value) (u.value) p
-tree_step (Parse-F.Bind q bs t p) = tree.bind q (map binder_of bs.items) (t.value) p
-tree_step (Parse-F.Judge cs f g p) = tree.judge (trees_of cs.items) (focus_of (option_map (λ b. b.value) f)) (g.value) p
+tree_step (Parse-F.Bind q bs t p) = tree.bind q (map binder_of (list_of bs)) (t.value) p
+tree_step (Parse-F.Judge cs f g p) = tree.judge (trees_of (list_of cs)) (focus_of (option_map (λ b. b.value) f)) (g.value) p
 
 -- the tree of an expression
 abbrev pub tree_of : Parse → Tree

@@ -1,4 +1,5 @@
 //! The trees of commands, as they are written.
+use crate::items::Items;
 use crate::tree::{Parse, TypeParse};
 use ab_types::Name;
 
@@ -39,20 +40,20 @@ pub enum Argument {
 #[derive(Debug, Drop, PartialEq, Eq)]
 pub enum ProofCommand {
     /// `intros H ..`
-    Intros(Vec<Name>),
+    Intros(Items<Name>),
     /// `induction on n`
     Induction(u32),
     Coinduction,
     /// `case H`, and whether `(keep)` is behind it.
     Case(Name, bool),
     /// `apply H to a .. with X = t, ..`
-    Apply(Name, Vec<Argument>, Vec<Instance>),
+    Apply(Name, Items<Argument>, Items<Instance>),
     /// `backchain H with X = t, ..`
-    Backchain(Name, Vec<Instance>),
+    Backchain(Name, Items<Instance>),
     /// `cut H with K`
     Cut(Name, Name),
     /// `inst H with n1 = t, ..`
-    Inst(Name, Vec<Instance>),
+    Inst(Name, Items<Instance>),
     /// `monotone H with t`
     Monotone(Name, Parse),
     /// `search n`; the depth is 5 where none is written.
@@ -67,22 +68,22 @@ pub enum ProofCommand {
     Unfold,
     Assert(Parse),
     /// `clear H ..`, of which there is one at least.
-    Clear(Vec<Name>),
+    Clear(Items<Name>),
     /// `rename H to w`
     Rename(Name, Name),
     /// `permute (n1 n2 ..) H`: the numbers of the nominal names, and the hypothesis where one is named.
-    Permute(Vec<u32>, Option<Name>),
+    Permute(Items<u32>, Option<Name>),
 }
 
 /// A command.
 #[derive(Debug, Drop, PartialEq, Eq)]
 pub enum Command {
     /// `Kind w, .., w type`
-    Kind(Vec<Name>),
+    Kind(Items<Name>),
     /// `Type w, .., w ty`
-    Typed(Vec<Name>, TypeParse),
+    Typed(Items<Name>, TypeParse),
     /// A block of predicates with its clauses, and whether it is `Define`, and not `CoDefine`.
-    Define(bool, Vec<Defined>, Vec<ClauseParse>),
+    Define(bool, Items<Defined>, Items<ClauseParse>),
     /// A theorem's name and formula.
     Theorem(Name, Parse),
     /// `Specification "name"`

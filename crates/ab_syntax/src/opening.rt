@@ -1,5 +1,5 @@
 //! What the first tokens of a command say of it, and so where it stands.
-ghost use Rattle.std.specs.Prelude.{◌≡◌, ◌≢◌, ◌↔◌, ℕ, MatchOption, Some};
+ghost use Rattle.std.specs.Prelude.{◌≡◌, ◌≢◌, ◌↔◌, ℕ, List, MatchOption, Some};
 ghost use Rattle.ab_lex.specs.Tokens.{TokensOf};
 ghost use Rattle.ab_grammar.specs.Token.{word, quantifier, colon};
 ghost use Rattle.ab_grammar.specs.Reading.{first};
@@ -7,7 +7,7 @@ ghost use Rattle.ab_grammar.specs.CommandTable.{stand_of as stand_of_head, Stand
 ghost use Rattle.ab_grammar.specs.declared.head.Stand.{Stand};
 ghost use Rattle.ab_grammar.specs.declared.head.Stand.TheVariants.{Inside};
 ghost use Rattle.ab_syntax.specs.Tokens.{tokens_in};
-ghost use Rattle.ab_syntax.specs.Reader.{IsText, rest, key_of};
+ghost use Rattle.ab_syntax.specs.Reader.{IsText, written, rest, key_of};
 ghost use Rattle.ab_syntax.specs.Openings.{IsOpening};
 
 use crate::text::{Kind, Mark, Text, is_next, peek, written_at};
@@ -31,7 +31,7 @@ pub(crate) enum Opening {
 
 /// What a word at the front of a command says of it. `Query` begins a command that isn't read yet.
 fn word_opening(written: &[u8]) -> Opening
-    ensures { (p : ℕ) → IsOpening (word written.now p) result }
+    ensures { (p : ℕ) → IsOpening (word written.now p) written.now result }
 {
     if let Some(head) = command_head(written) {
         return Opening::Plain(head);
@@ -48,7 +48,7 @@ fn word_opening(written: &[u8]) -> Opening
 
 /// What a quantifier at the front of a command says of it.
 fn quantifier_opening(quant: Quant) -> Opening
-    ensures { (p : ℕ) → IsOpening (quantifier quant p) result }
+    ensures { (p : ℕ) (w : List ℕ) → IsOpening (quantifier quant p) w result }
 {
     match quant {
         Quant::Exists => Opening::Proof(ProofHead::Exists),
@@ -58,7 +58,7 @@ fn quantifier_opening(quant: Quant) -> Opening
 
 /// What a mark at the front of a command says of it.
 fn mark_opening(mark: Mark) -> Opening
-    ensures { IsOpening (key_of mark) result }
+    ensures { (w : List ℕ) → IsOpening (key_of mark) w result }
 {
     match mark {
         Mark::Back => Opening::Plain(Head::Back),
@@ -70,7 +70,7 @@ fn mark_opening(mark: Mark) -> Opening
 /// What the next token says of a command that it begins.
 pub(crate) fn opening_at(text: &Text<'_>, here: usize) -> Opening
     requires { IsText text.now }
-    ensures { IsOpening (first (rest text.now here)) result }
+    ensures { IsOpening (first (rest text.now here)) (written text.now here) result }
 {
     match peek(text, here) {
         Kind::Word => word_opening(written_at(text, here)),

@@ -2,6 +2,7 @@
 //!
 //! A place is a number of bytes from the first byte of the text's first token. That of a tree is the place of
 //! its first token that isn't an opening parenthesis.
+use crate::items::Items;
 use ab_grammar::{Infix, Quant};
 use ab_types::Name;
 
@@ -30,13 +31,13 @@ pub enum Parse {
     /// A name, `true` or `false`.
     Name(Name, usize),
     /// A head and its arguments, of which there is one at least.
-    Apply(Box<Parse>, Vec<Parse>, usize),
+    Apply(Box<Parse>, Items<Parse>, usize),
     /// `x\ e`
     Abs(Name, Box<Parse>, usize),
     /// Two operands, and the sign between them.
     Join(Infix, Box<Parse>, Box<Parse>, usize),
     /// A quantifier, its binders, of which there is one at least, and what it reaches over.
-    Bind(Quant, Vec<Binder>, Box<Parse>, usize),
+    Bind(Quant, Items<Binder>, Box<Parse>, usize),
     /// A judgement: its context, the formula in brackets where there is one, and its goal.
-    Judge(Vec<Parse>, Option<Box<Parse>>, Box<Parse>, usize),
+    Judge(Items<Parse>, Option<Box<Parse>>, Box<Parse>, usize),
 }

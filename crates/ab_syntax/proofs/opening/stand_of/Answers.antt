@@ -5,7 +5,7 @@ use Rattle.ab_grammar.specs.Token.{Token, colon}
 use Rattle.ab_grammar.specs.Reading.{first}
 use Rattle.ab_grammar.specs.CommandTable.{Opens, OpensProof, ShowsLabel, StandsAt}
 use Rattle.ab_syntax.specs.Tokens.{tokens_in}
-use Rattle.ab_syntax.specs.Openings.{BeginsNothing}
+use Rattle.ab_syntax.specs.Reader.{written}
 use Rattle.ab_syntax.proofs.Standing.{ended, plain_stands, proof_stands, label_stands, nothing_stands, no_colon_stands, exactly}
 use Rattle.ab_syntax.proofs.WholeText.{first_whole, second_whole}
 use Rattle.ab_syntax.proofs.opening.stand_of.Goals as goal
@@ -28,5 +28,5 @@ returns-in-Proof c = λ s.
 pub returns-in-Label : goal.returns-in-Label
 returns-in-Label c = λ s.
     let ts = tokens_in c.args.bytes.now c.args.tokens.now in
-    let l = c.in-Label.ensures in
-    by_colon ts (l.0) _ c.label_stand.result (subst (λ (k : Token). ShowsLabel k (l.0)) (first_whole c.whole-text.result c.args.bytes.now c.args.tokens.now c.whole-text.ensures.whole) (l.1)) (second_whole c.whole-text.result c.args.bytes.now c.args.tokens.now c.whole-text.ensures.whole) c.label_stand.ensures s
+    let w = written c.whole-text.result 0 in
+    by_colon ts w _ c.label_stand.result (subst (λ (k : Token). ShowsLabel k w) (first_whole c.whole-text.result c.args.bytes.now c.args.tokens.now c.whole-text.ensures.whole) c.in-Label.ensures) (second_whole c.whole-text.result c.args.bytes.now c.args.tokens.now c.whole-text.ensures.whole) c.label_stand.ensures s

@@ -16,4 +16,4 @@ returns-then-eq c = λ p. let is : c.args.written.now ≡ codes "Query" = search
 pub returns-else-eq : goal.returns-else-eq
 returns-else-eq c = λ p.
     let not : c.args.written.now ≢ codes "Query" = search rules in
-    (c.args.written.now, is_label c.args.written.now p (sym c.command_head.ensures ∙ c.in_default.is) (sym c.proof_head.ensures ∙ c.in_default-proof_head.is) not)
+    is_label c.args.written.now p (sym c.command_head.ensures ∙ c.in_default.is) (sym c.proof_head.ensures ∙ c.in_default-proof_head.is) not
