@@ -11,11 +11,11 @@ use Rattle.ab_kernel.specs.Rules.{Rule, and_right, not_both}
 use Rattle.ab_kernel.specs.Derivation.{History, root, open_goals, IsStep, GoalFails, beginning}
 use Rattle.abella.specs.declared.session.reply.Reply.{Reply}
 use Rattle.abella.specs.declared.session.reply.Reply.TheVariants.{Accepted, Completed, Refused}
-use Rattle.abella.specs.declared.session.reply.Refusal.TheVariants.{WrongPlace, WrongShape, NotFound}
-use Rattle.abella.specs.Reading.{Command, stating, splitting, searching, Says}
+use Rattle.abella.specs.declared.session.reply.Refusal.TheVariants.{WrongShape, NotFound}
+use Rattle.abella.specs.Reading.{stating, splitting, searching, Says}
 use Rattle.abella.specs.State.{State, Statement, Attempt}
 use Rattle.abella.specs.Session.{states, attempts}
-use Rattle.abella.specs.Effect.{HasEffect, StandsHere, with_goals, with_theorem, wrong_place, stated, divided, wrong_shape, not_found, closed, completed}
+use Rattle.abella.specs.Effect.{HasEffect, is_open, with_goals, with_theorem, stated, divided, wrong_shape, not_found, closed, completed}
 
 abbrev pub made : List Statement → Option Attempt → List (List ℕ) → State
 made theorems attempt kept = record { theorems = theorems; attempt = attempt; kept = kept }
@@ -56,10 +56,7 @@ module _ (s s' : State) (bytes : List ℕ) where
   changed : (reply : Reply) (t : State) → HasEffect s bytes reply t → s'.theorems ≡ t.theorems → s'.attempt ≡ t.attempt → s'.kept ≡ t.kept → HasEffect s bytes reply s'
   changed reply t h e f g = subst (λ q. HasEffect s bytes reply q) (sym (same_state s' t e f g)) h
 
-  pub place_is_wrong : (c : Command) → Says bytes c → ¬ StandsHere c s.attempt → s'.theorems ≡ s.theorems → s'.attempt ≡ s.attempt → s'.kept ≡ s.kept → HasEffect s bytes (Refused WrongPlace) s'
-  place_is_wrong c h n = changed (Refused WrongPlace) s (wrong_place c h n)
-
-  pub theorem_stated : (name : List ℕ) (F : Formula) (h : History) → Says bytes (stating (record { name = name; formula = F })) → h ≡ beginning (proves F) → s.attempt ≡ None
+  pub theorem_stated : (name : List ℕ) (F : Formula) (h : History) → Says bytes (is_open s) (stating (record { name = name; formula = F })) → h ≡ beginning (proves F) → s.attempt ≡ None
       → s'.theorems ≡ s.theorems → s'.attempt ≡ Some (attempts name h) → s'.kept ≡ s.kept ++ bytes ∷ [] → HasEffect s bytes Accepted s'
   theorem_stated name F h said e n a b k =
       let t : Statement = record { name = name; formula = F } in
@@ -77,7 +74,7 @@ module _ (s s' : State) (bytes : List ℕ) where
     at_goals : (goals : List Sequent) → open_goals p.tree ≡ goals → s.attempt ≡ Some (record { statement = states name p; goals = goals })
     at_goals goals e = here ∙ ap (λ g. let x : Option Attempt = Some (record { statement = states name p; goals = g }) in x) e
 
-    split_by : (G : Sequent) (premises : List Sequent) → Rule AndRight G premises → Says bytes splitting → open_goals p.tree ≡ G ∷ drop 1 (open_goals p.tree) → open_goals q.tree ≡ premises ++ drop 1 (open_goals p.tree)
+    split_by : (G : Sequent) (premises : List Sequent) → Rule AndRight G premises → Says bytes (is_open s) splitting → open_goals p.tree ≡ G ∷ drop 1 (open_goals p.tree) → open_goals q.tree ≡ premises ++ drop 1 (open_goals p.tree)
         → s'.theorems ≡ s.theorems → s'.attempt ≡ Some (attempts name q) → s'.kept ≡ s.kept ++ bytes ∷ [] → HasEffect s bytes Accepted s'
     split_by G premises (and_right {A = A} {B = B}) said e f a b k =
         let gs = drop 1 (open_goals p.tree) in
@@ -85,14 +82,14 @@ module _ (s s' : State) (bytes : List ℕ) where
         changed Accepted (with_goals s bytes (states name p) goals) (divided (states name p) A B gs said (at_goals (proves (both A B) ∷ gs) e)) a (b ∙ now_attempt goals f) k
 
     -- the first goal can't be closed
-    pub goal_not_found : Says bytes searching → (G : Sequent) → slice_get (open_goals p.tree) 0 ≡ Some G → HasFalse G.conclusion → q ≡ p
+    pub goal_not_found : Says bytes (is_open s) searching → (G : Sequent) → slice_get (open_goals p.tree) 0 ≡ Some G → HasFalse G.conclusion → q ≡ p
         → s'.theorems ≡ s.theorems → s'.attempt ≡ Some (attempts name q) → s'.kept ≡ s.kept → HasEffect s bytes (Refused NotFound) s'
     goal_not_found said G at false_in e a b k =
         changed (Refused NotFound) s (not_found (states name p) G (drop 1 (open_goals p.tree)) said (at_goals (G ∷ drop 1 (open_goals p.tree)) (behind_first (open_goals p.tree) G at)) false_in) a
         (b ∙ (ap (λ x. Some (attempts name x)) e ∙ sym here)) k
 
     -- the goal after the first closes
-    pub goal_closed : ((G : Sequent) → slice_get (open_goals p.tree) 0 ≡ Some G → ¬ HasFalse G.conclusion) → Says bytes searching → 0 < length (open_goals p.tree) → open_goals q.tree ≡ drop 1 (open_goals p.tree) → 0 < length (open_goals q.tree)
+    pub goal_closed : ((G : Sequent) → slice_get (open_goals p.tree) 0 ≡ Some G → ¬ HasFalse G.conclusion) → Says bytes (is_open s) searching → 0 < length (open_goals p.tree) → open_goals q.tree ≡ drop 1 (open_goals p.tree) → 0 < length (open_goals q.tree)
         → s'.theorems ≡ s.theorems → s'.attempt ≡ Some (attempts name q) → s'.kept ≡ s.kept ++ bytes ∷ [] → HasEffect s bytes Accepted s'
     goal_closed holds said l e m a b k =
         let f = first_of (open_goals p.tree) l in
@@ -102,7 +99,7 @@ module _ (s s' : State) (bytes : List ℕ) where
         (closed (states name p) f.0 g.0 hs said (at_goals (f.0 ∷ g.0 ∷ hs) (f.1 ∙ ap (λ x. f.0 ∷ x) (sym e ∙ g.1))) (holds_first f.0 (holds f.0 (ap (λ x. slice_get x 0) f.1)))) a (b ∙ now_attempt (g.0 ∷ hs) g.1) k
 
     -- the last goal closes
-    pub last_closed : ((G : Sequent) → slice_get (open_goals p.tree) 0 ≡ Some G → ¬ HasFalse G.conclusion) → Says bytes searching → 0 < length (open_goals p.tree) → open_goals q.tree ≡ drop 1 (open_goals p.tree) → open_goals q.tree ≡ []
+    pub last_closed : ((G : Sequent) → slice_get (open_goals p.tree) 0 ≡ Some G → ¬ HasFalse G.conclusion) → Says bytes (is_open s) searching → 0 < length (open_goals p.tree) → open_goals q.tree ≡ drop 1 (open_goals p.tree) → open_goals q.tree ≡ []
         → s'.theorems ≡ s.theorems ++ states name q ∷ [] → s'.attempt ≡ None → s'.kept ≡ s.kept ++ bytes ∷ [] → HasEffect s bytes (Completed name) s'
     last_closed holds said l e m a b k =
         let f = first_of (open_goals p.tree) l in
@@ -110,33 +107,28 @@ module _ (s s' : State) (bytes : List ℕ) where
         (completed (states name p) f.0 said (at_goals (f.0 ∷ []) (f.1 ∙ ap (λ x. f.0 ∷ x) (sym e ∙ m))) (holds_first f.0 (holds f.0 (ap (λ x. slice_get x 0) f.1)))) (a ∙ ap (λ x. s.theorems ++ x ∷ []) same_statement) b k
 
   -- the first goal was split by its rule
-  pub goal_split : (name : List ℕ) (n : ℕ) (p q : History) → s.attempt ≡ Some (attempts name p) → IsStep 0 AndRight n p q → Says bytes splitting
+  pub goal_split : (name : List ℕ) (n : ℕ) (p q : History) → s.attempt ≡ Some (attempts name p) → IsStep 0 AndRight n p q → Says bytes (is_open s) splitting
       → s'.theorems ≡ s.theorems → s'.attempt ≡ Some (attempts name q) → s'.kept ≡ s.kept ++ bytes ∷ [] → HasEffect s bytes Accepted s'
   goal_split name n p q here step said =
       split_by name p q here step.kept_root step.here step.premises step.by_rule said (behind_first (open_goals p.tree) step.here step.is_here) step.now_open
 
   -- the first goal is no conjunction
-  pub goal_unsplit : (name : List ℕ) (i : ℕ) (p q : History) → s.attempt ≡ Some (attempts name p) → q ≡ p → GoalFails 0 AndRight i p.tree → Says bytes splitting
+  pub goal_unsplit : (name : List ℕ) (i : ℕ) (p q : History) → s.attempt ≡ Some (attempts name p) → q ≡ p → GoalFails 0 AndRight i p.tree → Says bytes (is_open s) splitting
       → s'.theorems ≡ s.theorems → s'.attempt ≡ Some (attempts name q) → s'.kept ≡ s.kept → HasEffect s bytes (Refused WrongShape) s'
   goal_unsplit name i p q here e (G, at, not_both n) said a b k =
       changed (Refused WrongShape) s
       (wrong_shape (states name p) G (drop 1 (open_goals p.tree)) said (here ∙ ap (λ g. let x : Option Attempt = Some (record { statement = states name p; goals = g }) in x) (behind_first (open_goals p.tree) G at)) (λ A B. n A B)) a
       (b ∙ (ap (λ x. Some (attempts name x)) e ∙ sym here)) k
 
--- where a proof is open no theorem is stated, and elsewhere one may be
-pub no_statement_here : {H : Type 0} (f : H → Attempt) (o : Option H) → is_some o ≡ true → (t : Statement) → ¬ StandsHere (stating t) (option_map f o)
-no_statement_here f None e t h = cc
-no_statement_here f (Some a) e t h = h
+-- a proof is open in the state where one is in the session
+pub open_as : {H : Type 0} (f : H → Attempt) (o : Option H) → is_some (option_map f o) ≡ is_some o
+open_as f None = refl
+open_as f (Some a) = refl
 
-pub none_there : {H : Type 0} (f : H → Attempt) (o : Option H) → is_some o ≡ false → option_map f o ≡ None
-none_there f None e = refl
-none_there f (Some a) e = cc
+pub none_there : {H : Type 0} (o : Option H) → is_some o ≡ false → o ≡ None
+none_there None e = refl
+none_there (Some a) e = cc
 
--- without an open proof the proof commands don't stand
-pub no_splitting_here : (o : Option Attempt) → o ≡ None → ¬ StandsHere splitting o
-no_splitting_here None e h = h
-no_splitting_here (Some a) e h = cc
-
-pub no_searching_here : (o : Option Attempt) → o ≡ None → ¬ StandsHere searching o
-no_searching_here None e h = h
-no_searching_here (Some a) e h = cc
+pub some_there : {H : Type 0} (o : Option H) → o ≡ None → is_some o ≡ true → ⊥
+some_there None e h = cc
+some_there (Some a) e h = cc

@@ -1,7 +1,7 @@
 pub mod Progress
 pub mod Endings
-pub mod Sayings
 pub mod Trees
+pub mod Sayings
 pub mod Shown
 pub mod Effects
 pub mod ReportLaws

@@ -1,11 +1,7 @@
 -- Laws of reports: there is one of a text, it begins with that of its first commands, its last state is the replay of
 -- the commands that it keeps, and what it says is proved has a derivation.
-use Rattle.std.proofs.Common.{◌≡◌, ◌⊎◌, ℕ, Bool, true, false, cond, ◌||◌, List, [], ◌∷◌, ◌++◌, Option, Some, None, refl, sym, ap, ◌∙◌, subst, append_assoc, inl, inr}
+use Rattle.std.proofs.Common.{◌≡◌, ◌⊎◌, ℕ, Bool, true, false, cond, ◌||◌, List, [], ◌∷◌, ◌++◌, Option, Some, None, is_some, Result, Ok, Err, refl, sym, ap, ◌∙◌, subst, append_assoc, inl, inr}
 use Rattle.std.proofs.lemmas.Bool.{cases_Bool}
-use Rattle.ab_lex.proofs.OneReading.{tokens_unique}
-use Rattle.ab_forms.specs.Lexeme.{lexemes_of}
-use Rattle.ab_forms.specs.Grammar.{ExpressionTree, CommandTree, CommandText}
-use Rattle.ab_forms.proofs.Commands.{same_command}
 use Rattle.ab_lex.specs.declared.TheConstants.{COMMAND_LIMIT}
 use Rattle.ab_lex.specs.Commands.{Item}
 use Rattle.ab_lex.proofs.Cuts.{only_items}
@@ -14,10 +10,12 @@ use Rattle.ab_kernel.specs.Truth.{Holds, HasFalse}
 use Rattle.ab_kernel.proofs.Truths.{complete, true_or_false}
 use Rattle.abella.specs.declared.session.reply.Reply.{Reply}
 use Rattle.abella.specs.declared.session.reply.Reply.TheVariants.{Accepted, Completed, Refused}
-use Rattle.abella.specs.declared.session.reply.Refusal.TheVariants.{NotBuilt, WrongPlace, WrongShape, NotFound}
+use Rattle.abella.specs.declared.session.reply.Refusal.{Refusal}
+use Rattle.abella.specs.declared.session.reply.Refusal.TheVariants.{WrongPlace, WrongShape, NotFound}
 use Rattle.abella.specs.State.{State, Statement, Attempt, HasGoals, empty}
-use Rattle.abella.specs.Reading.{Command, stating, splitting, searching, Reads, reads_truth, reads_both, Means, means_stating, means_splitting, means_searching, Says, SaysOrNot}
-use Rattle.abella.specs.Effect.{HasEffect, StandsHere, Proves, with_goals, with_theorem, not_built, wrong_place, stated, divided, wrong_shape, not_found, closed, completed}
+use Rattle.abella.specs.Reading.{Command, stating, splitting, searching, Says, Fails, SaysOrFails}
+use Rattle.abella.proofs.Sayings.{stated_outside, split_inside, searched_inside, says_one, fails_one, says_or_fails}
+use Rattle.abella.specs.Effect.{HasEffect, is_open, Proves, with_goals, with_theorem, unread, stated, divided, wrong_shape, not_found, closed, completed}
 use Rattle.abella.specs.Report.{Report, Reports, none, next, Replies, to_command, to_long, is_refusal, Moment, here, later, Replays, done, step}
 use Rattle.abella.specs.Show.{block}
 use Rattle.abella.specs.Outcome.{ReportOf}
@@ -27,8 +25,7 @@ use Rattle.abella.specs.Proved.{IsProved}
 
 -- a refused command leaves the state, and an accepted one is kept behind the others
 kept_by : {s s' : State} {bytes : List ℕ} {reply : Reply} → HasEffect s bytes reply s' → ((is_refusal reply ≡ true) × (s' ≡ s)) ⊎ ((is_refusal reply ≡ false) × (s'.kept ≡ s.kept ++ bytes ∷ []))
-kept_by (not_built n) = inl (refl, refl)
-kept_by (wrong_place c h n) = inl (refl, refl)
+kept_by (unread r h) = inl (refl, refl)
 kept_by (stated t h e) = inr (refl, refl)
 kept_by (divided t A B gs h e) = inr (refl, refl)
 kept_by (wrong_shape t G gs h e n) = inl (refl, refl)
@@ -64,8 +61,7 @@ LeadsTo None = Unit {0}
 LeadsTo (Some a) = AllHold a.goals → Holds a.statement.formula
 
 leads_by : {s s' : State} {bytes : List ℕ} {reply : Reply} → HasEffect s bytes reply s' → LeadsTo s.attempt → LeadsTo s'.attempt
-leads_by (not_built n) l = l
-leads_by (wrong_place c h n) l = l
+leads_by (unread r h) l = l
 leads_by (stated t h e) l = λ a. a.0
 leads_by (divided t A B gs h e) l = let m = subst LeadsTo e l in λ a. m ((a.0, a.1.0), a.1.1)
 leads_by (wrong_shape t G gs h e n) l = l
@@ -74,8 +70,7 @@ leads_by (closed t G H gs h e f) l = let m = subst LeadsTo e l in λ a. m (f, a)
 leads_by (completed t G h e f) l = tt
 
 proved_by : {s s' : State} {bytes : List ℕ} {reply : Reply} (name : List ℕ) → HasEffect s bytes reply s' → LeadsTo s.attempt → reply ≡ Completed name → IsProved name s'
-proved_by name (not_built n) l q = cc
-proved_by name (wrong_place c h n) l q = cc
+proved_by name (unread r h) l q = cc
 proved_by name (stated t h e) l q = cc
 proved_by name (divided t A B gs h e) l q = cc
 proved_by name (wrong_shape t G gs h e n) l q = cc
@@ -129,10 +124,6 @@ abbrev search_goals : State → List ℕ → Statement → List Sequent → Repl
 search_goals s b t [] = (Refused NotFound, s)
 search_goals s b t (G ∷ gs) = cond (has_false G.conclusion) (Refused NotFound, s) (close_goals s b t gs)
 
-abbrev state_here : State → List ℕ → Statement → Option Attempt → Reply × State
-state_here s b t None = (Accepted, with_goals s b t (proves t.formula ∷ []))
-state_here s b t (Some a) = (Refused WrongPlace, s)
-
 abbrev split_here : State → List ℕ → Option Attempt → Reply × State
 split_here s b None = (Refused WrongPlace, s)
 split_here s b (Some a) = split_goals s b a.statement a.goals
@@ -141,20 +132,20 @@ abbrev search_here : State → List ℕ → Option Attempt → Reply × State
 search_here s b None = (Refused WrongPlace, s)
 search_here s b (Some a) = search_goals s b a.statement a.goals
 
--- the effect of what the bytes say, as a function
-abbrev effect_of : State → List ℕ → Option Command → Reply × State
-effect_of s b None = (Refused NotBuilt, s)
-effect_of s b (Some (stating t)) = state_here s b t s.attempt
-effect_of s b (Some splitting) = split_here s b s.attempt
-effect_of s b (Some searching) = search_here s b s.attempt
+-- what bytes say: a command, or why none
+abbrev Answer : Type 0
+Answer = Result Command Refusal
 
-wrong_here : (s : State) (b : List ℕ) (c : Command) (o : Option Attempt) → s.attempt ≡ o → ¬ StandsHere c o → effect_of s b (Some c) ≡ (Refused WrongPlace, s)
-wrong_here s b (stating t) None e n = absurd (n tt)
-wrong_here s b (stating t) (Some a) e n = ap (state_here s b t) e
-wrong_here s b splitting None e n = ap (split_here s b) e
-wrong_here s b splitting (Some a) e n = absurd (n tt)
-wrong_here s b searching None e n = ap (search_here s b) e
-wrong_here s b searching (Some a) e n = absurd (n tt)
+abbrev Answers : List ℕ → Bool → Answer → Type 0
+Answers b proving (Ok c) = Says b proving c
+Answers b proving (Err r) = Fails b proving r
+
+-- the effect of what the bytes say, as a function
+abbrev effect_of : State → List ℕ → Answer → Reply × State
+effect_of s b (Err r) = (Refused r, s)
+effect_of s b (Ok (stating t)) = (Accepted, with_goals s b t (proves t.formula ∷ []))
+effect_of s b (Ok splitting) = split_here s b s.attempt
+effect_of s b (Ok searching) = search_here s b s.attempt
 
 unsplit : (s : State) (b : List ℕ) (t : Statement) (F : Formula) (gs : List Sequent) → ((A B : Formula) → ¬ (F ≡ both A B)) → split_goal s b t F gs ≡ (Refused WrongShape, s)
 unsplit s b t truth gs n = refl
@@ -173,62 +164,30 @@ none_false falsity h = absurd h
 none_false (both A B) h = rw (none_false A h.0) (none_false B h.1)
 
 record HasAnswer (s : State) (b : List ℕ) (reply : Reply) (s' : State) : Type 0 where
-  said : Option Command
-  says : SaysOrNot b said
+  said : Answer
+  says : Answers b (is_open s) said
   answers : ◌≡◌ {A = Reply × State} (reply, s') (effect_of s b said)
 
 answer_of : {s s' : State} {b : List ℕ} {reply : Reply} → HasEffect s b reply s' → HasAnswer s b reply s'
-answer_of (not_built n) = record { said = None; says = n; answers = refl }
-answer_of {s = s} {b = b} (wrong_place c h n) = record { said = Some c; says = h; answers = sym (wrong_here s b c s.attempt refl n) }
-answer_of {s = s} {b = b} (stated t h e) = record { said = Some (stating t); says = h; answers = sym (ap (state_here s b t) e) }
-answer_of {s = s} {b = b} (divided t A B gs h e) = record { said = Some splitting; says = h; answers = sym (ap (split_here s b) e) }
-answer_of {s = s} {b = b} (wrong_shape t G gs h e n) = record { said = Some splitting; says = h; answers = sym (ap (split_here s b) e ∙ unsplit s b t G.conclusion gs n) }
-answer_of {s = s} {b = b} (not_found t G gs h e f) = record { said = Some searching; says = h; answers = sym (ap (search_here s b) e ∙ ap (λ x. cond x (Refused NotFound, s) (close_goals s b t gs)) (true_false G.conclusion f)) }
-answer_of {s = s} {b = b} (closed t G H gs h e f) = record { said = Some searching; says = h; answers = sym (ap (search_here s b) e ∙ ap (λ x. cond x (Refused NotFound, s) (close_goals s b t (H ∷ gs))) (none_false G.conclusion f)) }
-answer_of {s = s} {b = b} (completed t G h e f) = record { said = Some searching; says = h; answers = sym (ap (search_here s b) e ∙ ap (λ x. cond x (Refused NotFound, s) (close_goals s b t [])) (none_false G.conclusion f)) }
+answer_of (unread r h) = record { said = Err r; says = h; answers = refl }
+answer_of (stated t h e) = record { said = Ok (stating t); says = h; answers = refl }
+answer_of {s = s} {b = b} (divided t A B gs h e) = record { said = Ok splitting; says = h; answers = sym (ap (split_here s b) e) }
+answer_of {s = s} {b = b} (wrong_shape t G gs h e n) = record { said = Ok splitting; says = h; answers = sym (ap (split_here s b) e ∙ unsplit s b t G.conclusion gs n) }
+answer_of {s = s} {b = b} (not_found t G gs h e f) = record { said = Ok searching; says = h; answers = sym (ap (search_here s b) e ∙ ap (λ x. cond x (Refused NotFound, s) (close_goals s b t gs)) (true_false G.conclusion f)) }
+answer_of {s = s} {b = b} (closed t G H gs h e f) = record { said = Ok searching; says = h; answers = sym (ap (search_here s b) e ∙ ap (λ x. cond x (Refused NotFound, s) (close_goals s b t (H ∷ gs))) (none_false G.conclusion f)) }
+answer_of {s = s} {b = b} (completed t G h e f) = record { said = Ok searching; says = h; answers = sym (ap (search_here s b) e ∙ ap (λ x. cond x (Refused NotFound, s) (close_goals s b t [])) (none_false G.conclusion f)) }
 
-reads_one : {e f : ExpressionTree} {F G : Formula} → Reads e F → Reads f G → e ≡ f → F ≡ G
-reads_one (reads_truth p) (reads_truth q) h = refl
-reads_one (reads_truth p) (reads_both q a b) h = cc
-reads_one (reads_both p a b) (reads_truth q) h = cc
-reads_one (reads_both {a = a0} {b = b0} p a b) (reads_both {a = a1} {b = b1} q c d) h =
-    let m : a0 ≡ a1 = cc in
-    let n : b0 ≡ b1 = cc in
-    let x = reads_one a c m in
-    let y = reads_one b d n in
-    cc
-
-means_one : {t u : CommandTree} {c d : Command} → Means t c → Means u d → t ≡ u → c ≡ d
-means_one (means_stating w {e = e0} r) (means_stating v {e = e1} q) h =
-    let m : w ≡ v = cc in
-    let n : e0 ≡ e1 = cc in
-    let x = reads_one r q n in
-    cc
-means_one (means_stating w r) means_splitting h = cc
-means_one (means_stating w r) (means_searching n) h = cc
-means_one means_splitting (means_stating w r) h = cc
-means_one means_splitting means_splitting h = refl
-means_one means_splitting (means_searching n) h = cc
-means_one (means_searching n) (means_stating w r) h = cc
-means_one (means_searching n) means_splitting h = cc
-means_one (means_searching n) (means_searching m) h = refl
-
-says_one : (b : List ℕ) (c d : Command) → Says b c → Says b d → c ≡ d
-says_one b c d x y =
-    let e : x.tree ≡ y.tree = same_command (subst (λ q. CommandText (lexemes_of b q) x.tree) (tokens_unique x.tokens_are y.tokens_are) x.spells) y.spells refl in
-    means_one x.means y.means e
-
-said_one : (b : List ℕ) (o p : Option Command) → SaysOrNot b o → SaysOrNot b p → o ≡ p
-said_one b (Some c) (Some d) x y = ap (λ q. Some q) (says_one b c d x y)
-said_one b (Some c) None x y = absurd (y c x)
-said_one b None (Some d) x y = absurd (x d y)
-said_one b None None x y = refl
+said_one : (b : List ℕ) (proving : Bool) (o p : Answer) → Answers b proving o → Answers b proving p → o ≡ p
+said_one b proving (Ok c) (Ok d) x y = ap (λ q. Ok q) (says_one b proving c d x y)
+said_one b proving (Ok c) (Err r) x y = absurd (says_or_fails b proving c r x y)
+said_one b proving (Err r) (Ok d) x y = absurd (says_or_fails b proving d r y x)
+said_one b proving (Err r) (Err q) x y = ap (λ f. Err f) (fails_one b proving r q x y)
 
 replies_one : {s t u : State} {i : Item} {r q : Reply} → Replies s i r t → Replies s i q u → ◌≡◌ {A = Reply × State} (r, t) (q, u)
 replies_one {s = s} (to_command {bytes = b} x) (to_command y) =
     let a = answer_of x in
     let c = answer_of y in
-    a.answers ∙ (ap (effect_of s b) (said_one b a.said c.said a.says c.says) ∙ sym c.answers)
+    a.answers ∙ (ap (effect_of s b) (said_one b (is_open s) a.said c.said a.says c.says) ∙ sym c.answers)
 replies_one to_long to_long = refl
 
 pub reports_one : {s : State} {is : List Item} {r q : Report} → Reports s is r → Reports s is q → r ≡ q
@@ -263,12 +222,12 @@ record SomeEffect (s : State) (b : List ℕ) : Type 0 where
   next_state : State
   effect : HasEffect s b reply next_state
 
-split_effect : (s : State) (b : List ℕ) (t : Statement) (F : Formula) (gs : List Sequent) → Says b splitting → Proves s t (proves F ∷ gs) → SomeEffect s b
+split_effect : (s : State) (b : List ℕ) (t : Statement) (F : Formula) (gs : List Sequent) → Says b (is_open s) splitting → Proves s t (proves F ∷ gs) → SomeEffect s b
 split_effect s b t truth gs h e = record { reply = Refused WrongShape; next_state = s; effect = wrong_shape t (proves truth) gs h e (λ A B q. cc) }
 split_effect s b t falsity gs h e = record { reply = Refused WrongShape; next_state = s; effect = wrong_shape t (proves falsity) gs h e (λ A B q. cc) }
 split_effect s b t (both A B) gs h e = record { reply = Accepted; next_state = with_goals s b t (proves A ∷ proves B ∷ gs); effect = divided t A B gs h e }
 
-search_effect : (s : State) (b : List ℕ) (t : Statement) (G : Sequent) (gs : List Sequent) → Says b searching → Proves s t (G ∷ gs) → SomeEffect s b
+search_effect : (s : State) (b : List ℕ) (t : Statement) (G : Sequent) (gs : List Sequent) → Says b (is_open s) searching → Proves s t (G ∷ gs) → SomeEffect s b
 search_effect s b t G [] h e = elim (true_or_false G.conclusion) [
   | inl f ↦ record { reply = Completed t.name; next_state = with_theorem s b t; effect = completed t G h e f }
   | inr f ↦ record { reply = Refused NotFound; next_state = s; effect = not_found t G [] h e f }
@@ -281,22 +240,32 @@ search_effect s b t G (H ∷ gs) h e = elim (true_or_false G.conclusion) [
 at_goal : (s : State) (a : Attempt) (G : Sequent) (gs : List Sequent) → s.attempt ≡ Some a → a.goals ≡ G ∷ gs → Proves s a.statement (G ∷ gs)
 at_goal s a G gs e g = e ∙ ap (λ x. let y : Option Attempt = Some (record { statement = a.statement; goals = x }) in y) g
 
-said_effect : (s : State) (b : List ℕ) (c : Command) (o : Option Attempt) → s.attempt ≡ o → HasGoals o → Says b c → SomeEffect s b
-said_effect s b (stating t) None e g h = record { reply = Accepted; next_state = with_goals s b t (proves t.formula ∷ []); effect = stated t h e }
-said_effect s b (stating t) (Some a) e g h = record { reply = Refused WrongPlace; next_state = s; effect = wrong_place (stating t) h (λ w. subst (StandsHere (stating t)) e w) }
-said_effect s b splitting None e g h = record { reply = Refused WrongPlace; next_state = s; effect = wrong_place splitting h (λ w. subst (StandsHere splitting) e w) }
-said_effect s b splitting (Some a) e g h = split_effect s b a.statement g.0.conclusion g.1 h (at_goal s a g.0 g.1 e g.2)
-said_effect s b searching None e g h = record { reply = Refused WrongPlace; next_state = s; effect = wrong_place searching h (λ w. subst (StandsHere searching) e w) }
-said_effect s b searching (Some a) e g h = search_effect s b a.statement g.0 g.1 h (at_goal s a g.0 g.1 e g.2)
+no_open : (o : Option Attempt) → is_some o ≡ false → o ≡ None
+no_open None e = refl
+no_open (Some a) e = cc
 
-pub some_effect : (s : State) (b : List ℕ) (o : Option Command) → SaysOrNot b o → HasGoals s.attempt → (reply : Reply) × (s' : State) × HasEffect s b reply s'
-some_effect s b None n g = (Refused NotBuilt, s, not_built n)
-some_effect s b (Some c) h g = let x = said_effect s b c s.attempt refl g h in (x.reply, x.next_state, x.effect)
+some_open : (o : Option Attempt) → is_some o ≡ true → (a : Attempt) × (o ≡ Some a)
+some_open None e = cc
+some_open (Some a) e = (a, refl)
+
+said_effect : (s : State) (b : List ℕ) (c : Command) → HasGoals s.attempt → Says b (is_open s) c → SomeEffect s b
+said_effect s b (stating t) g h = record { reply = Accepted; next_state = with_goals s b t (proves t.formula ∷ []); effect = stated t h (no_open s.attempt (stated_outside b (is_open s) t h)) }
+said_effect s b splitting g h =
+    let a = some_open s.attempt (split_inside b (is_open s) h) in
+    let k = subst HasGoals a.1 g in
+    split_effect s b a.0.statement k.0.conclusion k.1 h (at_goal s a.0 k.0 k.1 a.1 k.2)
+said_effect s b searching g h =
+    let a = some_open s.attempt (searched_inside b (is_open s) h) in
+    let k = subst HasGoals a.1 g in
+    search_effect s b a.0.statement k.0 k.1 h (at_goal s a.0 k.0 k.1 a.1 k.2)
+
+pub some_effect : (s : State) (b : List ℕ) → SaysOrFails b (is_open s) → HasGoals s.attempt → (reply : Reply) × (s' : State) × HasEffect s b reply s'
+some_effect s b (inl (c, h)) g = let x = said_effect s b c g h in (x.reply, x.next_state, x.effect)
+some_effect s b (inr (r, h)) g = (Refused r, s, unread r h)
 
 -- and it leaves a goal where a proof is open
 goals_by : {s s' : State} {b : List ℕ} {reply : Reply} → HasEffect s b reply s' → HasGoals s.attempt → HasGoals s'.attempt
-goals_by (not_built n) l = l
-goals_by (wrong_place c h n) l = l
+goals_by (unread r h) l = l
 goals_by (stated t h e) l = (proves t.formula, [], refl)
 goals_by (divided t A B gs h e) l = (proves A, proves B ∷ gs, refl)
 goals_by (wrong_shape t G gs h e n) l = l

@@ -1,52 +1,210 @@
--- What bytes say is found by reading their one row of tokens, and its one tree.
-use Rattle.std.proofs.Common.{◌≡◌, ℕ, List, Option, Some, None, Result, Ok, Err, IfOk, refl, sym, subst, codes}
+-- What bytes say is one command or one cause why they say none, and a command that they say stands there.
+use Rattle.std.proofs.Common.{◌≡◌, ◌↔◌, ◌+◌, ℕ, Bool, true, false, List, length, Option, Some, None, Result, Ok, Err, IfOk, refl, sym, ap, ◌∙◌, subst, codes, arith, inl, inr}
 use Rattle.ab_lex.specs.declared.token.Token.{Token}
-use Rattle.ab_lex.specs.declared.token.LexFault.{LexFault}
-use Rattle.ab_lex.specs.Tokens.{TokensOf, FaultOf}
-use Rattle.ab_lex.proofs.OneReading.{tokens_unique, fault_excludes}
-use Rattle.ab_forms.specs.Lexeme.{lexemes_of}
-use Rattle.ab_forms.specs.Grammar.{ExpressionTree, name, CommandTree, CommandText}
-use Rattle.ab_forms.proofs.Commands.{same_command}
-use Rattle.ab_kernel.specs.Formula.{Formula, truth}
-use Rattle.abella.specs.Reading.{Command, Reads, reads_truth, reads_both, Means, Says, SaysOrNot, MeansOrNot}
+use Rattle.ab_lex.specs.Tokens.{TokensOf, place_of}
+use Rattle.ab_lex.proofs.OneReading.{tokens_unique, fault_unique, fault_excludes}
+use Rattle.ab_lex.proofs.Beginning.{one_beginning}
+use Rattle.ab_grammar.specs.declared.head.Stand.{Stand}
+use Rattle.ab_grammar.specs.declared.head.Stand.TheVariants.{Outside, Inside}
+use Rattle.ab_grammar.specs.Tree.{Tree, name}
+use Rattle.ab_grammar.specs.CommandTrees as tree
+use Rattle.ab_grammar.specs.CommandTable.{CommandText, StandsAt, standing}
+use Rattle.ab_grammar.specs.Language.{Accepted, SyntaxAt, TooNestedAt}
+use Rattle.ab_grammar.proofs.Standing.{command_stands}
+use Rattle.ab_grammar.proofs.OneCommand.{one_command}
+use Rattle.ab_grammar.proofs.OneAnswer as answers
+use Rattle.ab_syntax.specs.Tokens.{tokens_in}
+use Rattle.ab_syntax.specs.Faults.{fault_place, nested_place, IsTold, IsCommandPlace}
+use Rattle.ab_kernel.specs.Formula.{Formula, truth, falsity}
+use Rattle.abella.specs.declared.session.reply.Refusal.{Refusal}
+use Rattle.abella.specs.declared.session.reply.Refusal.TheVariants.{Syntax, WrongPlace, TooNested}
+use Rattle.abella.specs.State.{Statement}
+use Rattle.abella.specs.Reading.{Command, stating, splitting, searching, Reads, reads_truth, reads_falsity, reads_both, Means, means_stating, means_splitting, means_searching, StandsHere, FaultAtPlace, Fits, Says, Fails, no_token, out_of_place, ungrammatical, too_nested, not_built}
 
--- bytes with a fault have no tokens
-pub no_tokens : (bytes : List ℕ) (fault : LexFault) → FaultOf bytes fault → (ts : List Token) → ¬ TokensOf bytes ts
-no_tokens bytes fault f ts t = fault_excludes f t
+-- Where a command that is said stands
 
--- bytes without tokens say nothing
-pub says_nothing : (bytes : List ℕ) → ((ts : List Token) → ¬ TokensOf bytes ts) → (c : Command) → ¬ Says bytes c
-says_nothing bytes h c s = h s.tokens s.tokens_are
+abbrev stand_for : Command → Stand
+stand_for (stating t) = Outside
+stand_for splitting = Inside
+stand_for searching = Inside
 
--- bytes whose tokens spell no tree say nothing
-pub says_nothing_unspelled : (bytes : List ℕ) (ts : List Token) → TokensOf bytes ts → ((tree : CommandTree) → ¬ CommandText (lexemes_of bytes ts) tree) → (c : Command) → ¬ Says bytes c
-says_nothing_unspelled bytes ts t h c s = h s.tree (subst (λ q. CommandText (lexemes_of bytes q) s.tree) (tokens_unique s.tokens_are t) s.spells)
+means_stand : {n : ℕ} {t : tree.Command} {c : Command} → Means n t c → standing t ≡ stand_for c
+means_stand (means_stating n w r) = refl
+means_stand (means_splitting n) = refl
+means_stand (means_searching d) = refl
 
--- bytes say what their tree means
-pub says_what_it_means : (bytes : List ℕ) (ts : List Token) (tree : CommandTree) (c : Option Command) → TokensOf bytes ts → CommandText (lexemes_of bytes ts) tree → MeansOrNot tree c → SaysOrNot bytes c
-says_what_it_means bytes ts tree (Some c) t k m = record { tokens = ts; tokens_are = t; tree = tree; spells = k; means = m }
-says_what_it_means bytes ts tree None t k m =
-    λ c s.
-    let e : s.tree ≡ tree = same_command (subst (λ q. CommandText (lexemes_of bytes q) s.tree) (tokens_unique s.tokens_are t) s.spells) k refl in
-    m c (subst (λ q. Means q c) e s.means)
+said_stands : (b : List ℕ) (proving : Bool) (c : Command) → Says b proving c → StandsHere (stand_for c) proving
+said_stands b proving c h = subst (λ d. StandsHere d proving) (means_stand h.means) (h.fits.stands (standing h.tree_read) (command_stands (tokens_in b h.tokens) h.tree_read h.spells))
 
--- the name `true` reads as a formula
-pub named_true : (word : List ℕ) → word ≡ codes "true" → (place : ℕ) → Reads (name word place) truth
-named_true word e place = subst (λ q. Reads (name q place) truth) (sym e) (reads_truth place)
+outside_none : (proving : Bool) → StandsHere Outside proving → proving ≡ false
+outside_none true h = absurd h
+outside_none false h = refl
 
--- and no other name does
-pub named_else : (word : List ℕ) → ¬ (word ≡ codes "true") → (place : ℕ) (F : Formula) → ¬ Reads (name word place) F
-named_else word n place F r = n (reads_name (name word place) F r word place refl)
-  where
-    reads_name : (e : ExpressionTree) (F : Formula) → Reads e F → (word : List ℕ) (place : ℕ) → e ≡ name word place → word ≡ codes "true"
-    reads_name e F (reads_truth p) word place h = cc
-    reads_name e F (reads_both p a b) word place h = cc
+inside_open : (proving : Bool) → StandsHere Inside proving → proving ≡ true
+inside_open true h = refl
+inside_open false h = absurd h
 
--- what the tree means is what the bytes say
-pub said_by_tree : (bytes : List ℕ) (ts : List Token) (tree : CommandTree) → TokensOf bytes ts → CommandText (lexemes_of bytes ts) tree → (c : Option Command) → MeansOrNot tree c → SaysOrNot bytes c
-said_by_tree bytes ts tree t k c m = says_what_it_means bytes ts tree c t k m
+pub stated_outside : (b : List ℕ) (proving : Bool) (t : Statement) → Says b proving (stating t) → proving ≡ false
+stated_outside b proving t h = outside_none proving (said_stands b proving (stating t) h)
+
+pub split_inside : (b : List ℕ) (proving : Bool) → Says b proving splitting → proving ≡ true
+split_inside b proving h = inside_open proving (said_stands b proving splitting h)
+
+pub searched_inside : (b : List ℕ) (proving : Bool) → Says b proving searching → proving ≡ true
+searched_inside b proving h = inside_open proving (said_stands b proving searching h)
+
+-- One meaning
+
+reads_one : {e f : Tree} {F G : Formula} → Reads e F → Reads f G → e ≡ f → F ≡ G
+reads_one (reads_truth p) (reads_truth q) h = refl
+reads_one (reads_truth p) (reads_falsity q) h = let bad : codes "true" ≡ codes "false" = cc in cc
+reads_one (reads_truth p) (reads_both q a b) h = cc
+reads_one (reads_falsity p) (reads_truth q) h = let bad : codes "false" ≡ codes "true" = cc in cc
+reads_one (reads_falsity p) (reads_falsity q) h = refl
+reads_one (reads_falsity p) (reads_both q a b) h = cc
+reads_one (reads_both p a b) (reads_truth q) h = cc
+reads_one (reads_both p a b) (reads_falsity q) h = cc
+reads_one (reads_both {a = a0} {b = b0} p a b) (reads_both {a = a1} {b = b1} q c d) h =
+    let m : a0 ≡ a1 = cc in
+    let n : b0 ≡ b1 = cc in
+    let x = reads_one a c m in
+    let y = reads_one b d n in
+    cc
+
+means_one : {n m : ℕ} {t u : tree.Command} {c d : Command} → Means n t c → Means m u d → t ≡ u → c ≡ d
+means_one (means_stating n w {e = e0} r) (means_stating m v {e = e1} q) h =
+    let m : w ≡ v = cc in
+    let n : e0 ≡ e1 = cc in
+    let x = reads_one r q n in
+    cc
+means_one (means_stating n w r) (means_splitting m) h = cc
+means_one (means_stating n w r) (means_searching d) h = cc
+means_one (means_splitting n) (means_stating m w r) h = cc
+means_one (means_splitting n) (means_splitting m) h = refl
+means_one (means_splitting n) (means_searching d) h = cc
+means_one (means_searching d) (means_stating m w r) h = cc
+means_one (means_searching d) (means_splitting m) h = cc
+means_one (means_searching d) (means_searching f) h = refl
+
+pub says_one : (b : List ℕ) (proving : Bool) (c d : Command) → Says b proving c → Says b proving d → c ≡ d
+says_one b proving c d x y =
+    let e = tokens_unique x.fits.tokens_are y.fits.tokens_are in
+    let f : x.tree_read ≡ y.tree_read = one_command (tokens_in b y.tokens) x.tree_read y.tree_read (subst (λ q. Accepted CommandText (tokens_in b q) x.tree_read) e x.spells) y.spells in
+    means_one x.means y.means f
+
+-- One cause
+
+-- one token is told
+one_told : (ks : List Term) (i j k : ℕ) → IsTold ks i j → IsTold ks i k → j ≡ k
+one_told ks i j k (inl (a, e)) (inl (c, f)) = e ∙ sym f
+one_told ks i j k (inl (a, e)) (inr (n, f)) = absurd (n a)
+one_told ks i j k (inr (n, e)) (inl (a, f)) = absurd (n a)
+one_told ks i j k (inr (n, e)) (inr (m, f)) = e ∙ sym f
+
+module _ (b : List ℕ) (proving : Bool) where
+  same_place : (p q : ℕ) → FaultAtPlace b p → FaultAtPlace b q → p ≡ q
+  same_place p q x y =
+      let s = one_beginning x.begins y.begins in
+      let f = fault_unique x.fault_is y.fault_is in
+      let e : x.start + p ≡ x.start + q = sym x.place_is ∙ (ap place_of f ∙ (y.place_is ∙ ap (λ n. n + q) (sym s))) in
+      omega arith
+
+  no_fault : {A : Type 0} (p : ℕ) (ts : List Token) → FaultAtPlace b p → TokensOf b ts → A
+  no_fault p ts x t = absurd (fault_excludes x.fault_is t)
+
+  fits_here : {A : Type 0} (ts us : List Token) (d : Stand) → TokensOf b ts → StandsAt (tokens_in b ts) d → ¬ StandsHere d proving → Fits b proving us → A
+  fits_here ts us d t s n f = absurd (n (f.stands d (subst (λ q. StandsAt (tokens_in b q) d) (tokens_unique t f.tokens_are) s)))
+
+  module _ (ts us : List Token) (f : Fits b proving ts) (g : Fits b proving us) where
+    same : tokens_in b ts ≡ tokens_in b us
+    same = ap (tokens_in b) (tokens_unique f.tokens_are g.tokens_are)
+
+    one_syntax : (i j p q : ℕ) → SyntaxAt CommandText (tokens_in b ts) i → SyntaxAt CommandText (tokens_in b us) j → IsCommandPlace b ts i p → IsCommandPlace b us j q → p ≡ q
+    one_syntax i j p q x y k l =
+        let e = answers.one_syntax CommandText (tokens_in b us) i j (subst (λ q. SyntaxAt CommandText q i) same x) y in
+        let t = tokens_unique f.tokens_are g.tokens_are in
+        let m : IsCommandPlace b us j p = subst (λ n. IsCommandPlace b us n p) e (subst (λ (w : List Token). IsCommandPlace b w i p) t k) in
+        m.2 ∙ (ap (fault_place b us) (one_told (tokens_in b us) j m.0 l.0 m.1 l.1) ∙ sym l.2)
+
+    one_nested : (i j : ℕ) → TooNestedAt CommandText (tokens_in b ts) i → TooNestedAt CommandText (tokens_in b us) j → nested_place b ts i ≡ nested_place b us j
+    one_nested i j x y =
+        let e = answers.one_nested CommandText (tokens_in b us) i j (subst (λ q. TooNestedAt CommandText q i) same x) y in
+        ap (λ q. nested_place b q i) (tokens_unique f.tokens_are g.tokens_are) ∙ ap (nested_place b us) e
+
+    not_both : {A : Type 0} (i j : ℕ) → SyntaxAt CommandText (tokens_in b ts) i → TooNestedAt CommandText (tokens_in b us) j → A
+    not_both i j x y = absurd (answers.syntax_or_nested CommandText (tokens_in b us) i j (subst (λ q. SyntaxAt CommandText q i) same x) y)
+
+    no_syntax : {A : Type 0} (t : tree.Command) (i : ℕ) → Accepted CommandText (tokens_in b ts) t → SyntaxAt CommandText (tokens_in b us) i → A
+    no_syntax t i x y = absurd (answers.text_or_syntax CommandText (tokens_in b us) t i (subst (λ q. Accepted CommandText q t) same x) y)
+
+    no_nested : {A : Type 0} (t : tree.Command) (i : ℕ) → Accepted CommandText (tokens_in b ts) t → TooNestedAt CommandText (tokens_in b us) i → A
+    no_nested t i x y = absurd (answers.text_or_nested CommandText (tokens_in b us) t i (subst (λ q. Accepted CommandText q t) same x) y)
+
+  pub fails_one : (r q : Refusal) → Fails b proving r → Fails b proving q → r ≡ q
+  fails_one _ _ (no_token p x) (no_token q y) = ap (λ n. Syntax n) (same_place p q x y)
+  fails_one _ _ (no_token p x) (out_of_place us d t s n) = no_fault p us x t
+  fails_one _ _ (no_token p x) (ungrammatical us i q g y l) = no_fault p us x g.tokens_are
+  fails_one _ _ (no_token p x) (too_nested us i g y) = no_fault p us x g.tokens_are
+  fails_one _ _ (no_token p x) (not_built us t g y n) = no_fault p us x g.tokens_are
+  fails_one _ _ (out_of_place ts d t s n) (no_token q y) = no_fault q ts y t
+  fails_one _ _ (out_of_place ts d t s n) (out_of_place us e u v m) = refl
+  fails_one _ _ (out_of_place ts d t s n) (ungrammatical us i q g y l) = fits_here ts us d t s n g
+  fails_one _ _ (out_of_place ts d t s n) (too_nested us i g y) = fits_here ts us d t s n g
+  fails_one _ _ (out_of_place ts d t s n) (not_built us u g y m) = fits_here ts us d t s n g
+  fails_one _ _ (ungrammatical ts i p f x k) (no_token q y) = no_fault q ts y f.tokens_are
+  fails_one _ _ (ungrammatical ts i p f x k) (out_of_place us e u v m) = fits_here us ts e u v m f
+  fails_one _ _ (ungrammatical ts i p f x k) (ungrammatical us j q g y l) = ap (λ n. Syntax n) (one_syntax ts us f g i j p q x y k l)
+  fails_one _ _ (ungrammatical ts i p f x k) (too_nested us j g y) = not_both ts us f g i j x y
+  fails_one _ _ (ungrammatical ts i p f x k) (not_built us u g y m) = no_syntax us ts g f u i y x
+  fails_one _ _ (too_nested ts i f x) (no_token q y) = no_fault q ts y f.tokens_are
+  fails_one _ _ (too_nested ts i f x) (out_of_place us e u v m) = fits_here us ts e u v m f
+  fails_one _ _ (too_nested ts i f x) (ungrammatical us j q g y l) = not_both us ts g f j i y x
+  fails_one _ _ (too_nested ts i f x) (too_nested us j g y) = ap (λ n. TooNested n) (one_nested ts us f g i j x y)
+  fails_one _ _ (too_nested ts i f x) (not_built us u g y m) = no_nested us ts g f u i y x
+  fails_one _ _ (not_built ts t f x n) (no_token q y) = no_fault q ts y f.tokens_are
+  fails_one _ _ (not_built ts t f x n) (out_of_place us e u v m) = fits_here us ts e u v m f
+  fails_one _ _ (not_built ts t f x n) (ungrammatical us j q g y l) = no_syntax ts us f g t j x y
+  fails_one _ _ (not_built ts t f x n) (too_nested us j g y) = no_nested ts us f g t j x y
+  fails_one _ _ (not_built ts t f x n) (not_built us u g y m) = refl
+
+  -- bytes that say a command fail for no cause
+  pub says_or_fails : (c : Command) (r : Refusal) → Says b proving c → Fails b proving r → ⊥
+  says_or_fails c _ h (no_token p x) = no_fault p h.tokens x h.fits.tokens_are
+  says_or_fails c _ h (out_of_place ts d t s n) = fits_here ts h.tokens d t s n h.fits
+  says_or_fails c _ h (ungrammatical ts i p f x k) = no_syntax h.tokens ts h.fits f h.tree_read i h.spells x
+  says_or_fails c _ h (too_nested ts i f x) = no_nested h.tokens ts h.fits f h.tree_read i h.spells x
+  says_or_fails c _ h (not_built ts t f x n) =
+      let e = tokens_unique h.fits.tokens_are f.tokens_are in
+      let g : h.tree_read ≡ t = one_command (tokens_in b ts) h.tree_read t (subst (λ q. Accepted CommandText (tokens_in b q) h.tree_read) e h.spells) x in
+      n c (subst (λ u. Means (length ts) u c) g (subst (λ (q : List Token). Means (length q) h.tree_read c) e h.means))
 
 -- what an answer implies holds where the answer does
 pub if_ok_more : {A E : Type 0} (r : Result A E) (P Q : A → Type 0) → ((a : A) → P a → Q a) → IfOk r P → IfOk r Q
 if_ok_more (Ok a) P Q f h = f a h
 if_ok_more (Err e) P Q f h = h
+
+-- the names that read as formulas
+pub named_true : (word : List ℕ) → word ≡ codes "true" → (place : ℕ) → Reads (name word place) truth
+named_true word e place = subst (λ q. Reads (name q place) truth) (sym e) (reads_truth place)
+
+pub named_false : (word : List ℕ) → word ≡ codes "false" → (place : ℕ) → Reads (name word place) falsity
+named_false word e place = subst (λ q. Reads (name q place) falsity) (sym e) (reads_falsity place)
+
+pub named_else : (word : List ℕ) → ¬ (word ≡ codes "true") → ¬ (word ≡ codes "false") → (place : ℕ) (F : Formula) → ¬ Reads (name word place) F
+named_else word n m place F r = reads_name (name word place) F r refl
+  where
+    reads_name : (e : Tree) (F : Formula) → Reads e F → e ≡ name word place → ⊥
+    reads_name e F (reads_truth p) h = let w : word ≡ codes "true" = cc in n w
+    reads_name e F (reads_falsity p) h = let w : word ≡ codes "false" = cc in m w
+    reads_name e F (reads_both p a b) h = cc
+
+-- the place that tokens tell
+module _ (b : List ℕ) (ts : List Token) (proving : Bool) (t : TokensOf b ts) (o : Option Stand) (told : (d : Stand) → (o ≡ Some d) ↔ StandsAt (tokens_in b ts) d) where
+  pub fits_told : (d : Stand) → o ≡ Some d → StandsHere d proving → Fits b proving ts
+  fits_told d e h = record { tokens_are = t; stands = λ f s. let same : Some d ≡ Some f = sym e ∙ (told f).1 s in let g : d ≡ f = cc in subst (λ q. StandsHere q proving) g h }
+
+  pub fits_untold : o ≡ None → Fits b proving ts
+  fits_untold e = record { tokens_are = t; stands = λ f s. let same : None ≡ Some f = sym e ∙ (told f).1 s in absurd (cc) }
+
+  pub told_elsewhere : (d : Stand) → o ≡ Some d → ¬ StandsHere d proving → Fails b proving WrongPlace
+  told_elsewhere d e n = out_of_place ts d t ((told d).0 e) n

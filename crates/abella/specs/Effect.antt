@@ -1,13 +1,14 @@
 -- The effect of one command on a state: it is accepted, with the next state, or refused by the first of its
 -- conditions that fails, and then the state stays.
-use Rattle.std.specs.Prelude.{◌≡◌, ℕ, List, [], ◌∷◌, ◌++◌, Option, Some, None}
+use Rattle.std.specs.Prelude.{◌≡◌, ℕ, List, [], ◌∷◌, ◌++◌, Bool, Some, None, is_some}
 use Rattle.ab_kernel.specs.Formula.{Formula, both, Sequent, proves}
 use Rattle.ab_kernel.specs.Truth.{Holds, HasFalse}
 use Rattle.abella.specs.declared.session.reply.Reply.{Reply}
 use Rattle.abella.specs.declared.session.reply.Reply.TheVariants.{Accepted, Completed, Refused}
-use Rattle.abella.specs.declared.session.reply.Refusal.TheVariants.{NotBuilt, WrongPlace, WrongShape, NotFound}
-use Rattle.abella.specs.Reading.{Command, stating, splitting, searching, Says}
-use Rattle.abella.specs.State.{State, Statement, Attempt}
+use Rattle.abella.specs.declared.session.reply.Refusal.{Refusal}
+use Rattle.abella.specs.declared.session.reply.Refusal.TheVariants.{WrongShape, NotFound}
+use Rattle.abella.specs.Reading.{stating, splitting, searching, Says, Fails}
+use Rattle.abella.specs.State.{State, Statement}
 
 -- a proof of t is open, with these goals
 abbrev pub Proves : State → Statement → List Sequent → Type 0
@@ -25,36 +26,29 @@ with_goals s bytes t goals = record {
 abbrev pub with_theorem : State → List ℕ → Statement → State
 with_theorem s bytes t = record { theorems = s.theorems ++ t ∷ []; attempt = None; kept = s.kept ++ bytes ∷ [] }
 
--- a theorem is stated outside a proof, and the other commands stand in one
-abbrev pub StandsHere : Command → Option Attempt → Type 0
-StandsHere (stating t) None = Unit {0}
-StandsHere (stating t) (Some a) = ⊥
-StandsHere splitting None = ⊥
-StandsHere splitting (Some a) = Unit {0}
-StandsHere searching None = ⊥
-StandsHere searching (Some a) = Unit {0}
+-- whether a proof is open
+abbrev pub is_open : State → Bool
+is_open s = is_some s.attempt
 
 -- from a state, by the bytes of a command, to the reply and the next state
 pub data HasEffect (s : State) (bytes : List ℕ) : Reply → State → Type 0 where
-  -- the bytes say no command that is built
-  not_built : ((c : Command) → ¬ Says bytes c) → HasEffect s bytes (Refused NotBuilt) s
-  -- the command doesn't stand at this place
-  wrong_place : (c : Command) → Says bytes c → ¬ StandsHere c s.attempt → HasEffect s bytes (Refused WrongPlace) s
+  -- the bytes say no command that is built and stands here
+  unread : (r : Refusal) → Fails bytes (is_open s) r → HasEffect s bytes (Refused r) s
   -- a theorem is stated: its formula is the one goal
-  stated : (t : Statement) → Says bytes (stating t) → s.attempt ≡ None
+  stated : (t : Statement) → Says bytes (is_open s) (stating t) → s.attempt ≡ None
       → HasEffect s bytes Accepted (with_goals s bytes t (proves t.formula ∷ []))
   -- a conjunction gives way to its parts
-  divided : (t : Statement) (A B : Formula) (gs : List Sequent) → Says bytes splitting → Proves s t (proves (both A B) ∷ gs)
+  divided : (t : Statement) (A B : Formula) (gs : List Sequent) → Says bytes (is_open s) splitting → Proves s t (proves (both A B) ∷ gs)
       → HasEffect s bytes Accepted (with_goals s bytes t (proves A ∷ proves B ∷ gs))
   -- the current goal is no conjunction
-  wrong_shape : (t : Statement) (G : Sequent) (gs : List Sequent) → Says bytes splitting → Proves s t (G ∷ gs)
+  wrong_shape : (t : Statement) (G : Sequent) (gs : List Sequent) → Says bytes (is_open s) splitting → Proves s t (G ∷ gs)
       → ((A B : Formula) → ¬ (G.conclusion ≡ both A B)) → HasEffect s bytes (Refused WrongShape) s
   -- `false` is among the parts of the current goal
-  not_found : (t : Statement) (G : Sequent) (gs : List Sequent) → Says bytes searching → Proves s t (G ∷ gs) → HasFalse G.conclusion
+  not_found : (t : Statement) (G : Sequent) (gs : List Sequent) → Says bytes (is_open s) searching → Proves s t (G ∷ gs) → HasFalse G.conclusion
       → HasEffect s bytes (Refused NotFound) s
   -- the current goal is closed, and others are left
-  closed : (t : Statement) (G H : Sequent) (gs : List Sequent) → Says bytes searching → Proves s t (G ∷ H ∷ gs) → Holds G.conclusion
+  closed : (t : Statement) (G H : Sequent) (gs : List Sequent) → Says bytes (is_open s) searching → Proves s t (G ∷ H ∷ gs) → Holds G.conclusion
       → HasEffect s bytes Accepted (with_goals s bytes t (H ∷ gs))
   -- the last goal is closed
-  completed : (t : Statement) (G : Sequent) → Says bytes searching → Proves s t (G ∷ []) → Holds G.conclusion
+  completed : (t : Statement) (G : Sequent) → Says bytes (is_open s) searching → Proves s t (G ∷ []) → Holds G.conclusion
       → HasEffect s bytes (Completed t.name) (with_theorem s bytes t)

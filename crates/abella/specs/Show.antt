@@ -4,7 +4,7 @@ use Rattle.ab_kernel.specs.Formula.{Formula, truth, falsity, both, Sequent}
 use Rattle.abella.specs.declared.session.reply.Reply.{Reply}
 use Rattle.abella.specs.declared.session.reply.Reply.TheVariants.{Accepted, Completed, Refused}
 use Rattle.abella.specs.declared.session.reply.Refusal.{Refusal}
-use Rattle.abella.specs.declared.session.reply.Refusal.TheVariants.{NotBuilt, WrongPlace, WrongShape, NotFound, TooLong}
+use Rattle.abella.specs.declared.session.reply.Refusal.TheVariants.{Syntax, TooLong, WrongPlace, WrongShape, NotFound, TooNested, NotBuilt}
 use Rattle.abella.specs.State.{State, goals_of}
 
 abbrev pub line_end : List ℕ
@@ -43,18 +43,27 @@ goal_lines_from place (g ∷ gs) = heading place ++ conclusion_line g ++ goal_li
 abbrev pub goal_lines : List Sequent → List ℕ
 goal_lines = goal_lines_from 0
 
+-- a refusal's number and class
 abbrev pub class : Refusal → List ℕ
+class (Syntax place) = codes "1 Syntax"
 class TooLong = codes "2 TooLong"
 class WrongPlace = codes "9 WrongPlace"
 class WrongShape = codes "11 WrongShape"
 class NotFound = codes "16 NotFound"
+class (TooNested place) = codes "23 TooNested"
 class NotBuilt = codes "27 NotBuilt"
+
+-- its detail: the place, where it has one
+abbrev pub detail : Refusal → List ℕ
+detail (Syntax place) = codes " at " ++ decimal place
+detail (TooNested place) = codes " at " ++ decimal place
+detail r = []
 
 -- what stands behind the number in a block's first line
 abbrev pub text : Reply → List ℕ
 text Accepted = []
 text (Completed name) = codes " Proof completed: " ++ name ++ codes "."
-text (Refused r) = codes " Refused " ++ class r
+text (Refused r) = codes " Refused " ++ class r ++ detail r
 
 -- the block of a reply: how many commands are kept, the text, and the goal of the state behind the command
 abbrev pub block : Reply → State → List ℕ

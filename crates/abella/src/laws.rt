@@ -1,11 +1,11 @@
 //! Laws of the definitions, each the contract of a function that does nothing.
-ghost use Rattle.std.specs.Prelude.{◌≡◌, ◌++◌, ℕ, List, Option};
+ghost use Rattle.std.specs.Prelude.{◌≡◌, ◌++◌, ℕ, List};
 ghost use Rattle.ab_lex.specs.Commands.{Item};
 ghost use Rattle.abella.specs.State.{State, empty};
 ghost use Rattle.abella.specs.Report.{Report, Reports, Replays};
 ghost use Rattle.abella.specs.Outcome.{ReportOf};
-ghost use Rattle.abella.specs.Reading.{Command, SaysOrNot};
-ghost use Rattle.abella.specs.Effect.{HasEffect};
+ghost use Rattle.abella.specs.Reading.{SaysOrFails};
+ghost use Rattle.abella.specs.Effect.{is_open, HasEffect};
 ghost use Rattle.abella.specs.declared.session.reply.Reply.{Reply};
 
 /// A text has one report, and it begins with the report of the text's first items.
@@ -21,9 +21,9 @@ pub fn kept_commands_replay()
     ensures { (text : List ℕ) (r : Report) → ReportOf text r → Replays empty r.state.kept r.state }
 {}
 
-/// Behind each report of a text, each command has an effect, whatever its bytes say.
+/// Behind each report of a text, bytes that say a command, or that fail to for a cause, have an effect.
 pub fn an_effect_for_each_command()
-    ensures { (text : List ℕ) (r : Report) (bytes : List ℕ) (said : Option Command)
-        → ReportOf text r → SaysOrNot bytes said
+    ensures { (text : List ℕ) (r : Report) (bytes : List ℕ)
+        → ReportOf text r → SaysOrFails bytes (is_open r.state)
         → (reply : Reply) × (s : State) × HasEffect r.state bytes reply s }
 {}

@@ -126,7 +126,7 @@ fn run_line<S: Source, O: Sink>(
         (S.faults input.old) (S.faults input.new) (O.faults out.old) (O.faults out.new) }
     ensures line_refused { ¬ IsNameAlone words.now → RefusedLine result
         (O.written out.old) (O.written out.new) (O.faults out.old) (O.faults out.new) }
-    ensures unread { ¬ IsNameAlone words.now → S.left input.new ≡ S.left input.old }
+    ensures unread { ¬ IsNameAlone words.now → input.new ≡ input.old }
 {
     if words.len() == 1 {
         return run_over(alloc, input, out);
@@ -152,7 +152,7 @@ pub fn run<F: Files, S: Source, O: Sink>(
         (S.faults input.old) (S.faults input.new) (O.faults out.old) (O.faults out.new)) }
     ensures line_refused { ¬ IsNameAlone words.now → EndedBy result.status (λ status. RefusedLine status
         (O.written out.old) (O.written out.new) (O.faults out.old) (O.faults out.new)) }
-    ensures unread { ¬ IsNameAlone words.now → S.left input.new ≡ S.left input.old }
+    ensures unread { ¬ IsNameAlone words.now → input.new ≡ input.old }
 
     // Where nothing failed, the output is the report of the script, and the status is its status.
     ensures reported { (text before : List ℕ) → IsNameAlone words.now

@@ -8,7 +8,7 @@ ghost use Rattle.ab_kernel.specs.Derivation.{root, open_goals, goal_at};
 
 pub mod reply;
 
-use crate::reading::{Command, read_command};
+use crate::reading::{Command, Unread, read_command};
 use ab_kernel::{KernelFault, Proof, Prop, SearchFault, Step};
 use ab_types::Name;
 use reply::{Refusal, Reply};
@@ -42,7 +42,7 @@ impl Session {
     ghost use Rattle.abella.specs.Reading.{Says, stating, splitting, searching};
     ghost use Rattle.abella.specs.State.{empty, goals_of, IsFinished};
     ghost use Rattle.abella.specs.Session.{state_of, goals_open};
-    ghost use Rattle.abella.specs.Effect.{HasEffect};
+    ghost use Rattle.abella.specs.Effect.{is_open, HasEffect};
     ghost use Rattle.std.specs.Option.{option_copied};
 
     /// A session before its first command.
@@ -84,11 +84,14 @@ impl Session {
     pub fn accept(&mut self, alloc: Global, bytes: &[u8]) -> Result<Reply, AllocError>
         ensures { IfOk result (λ reply. HasEffect (state_of self.old) bytes.now reply (state_of self.new)) }
     {
-        match read_command(alloc, bytes)? {
-            None => Ok(Reply::Refused(Refusal::NotBuilt)),
-            Some(Command::State(name, formula)) => self.state(alloc, bytes, name, formula),
-            Some(Command::Split) => self.split(alloc, bytes),
-            Some(Command::Search) => self.search(alloc, bytes),
+        match read_command(alloc, bytes, self.attempt.is_some()) {
+            Err(unread) => match unread {
+                Unread::Refused(refusal) => Ok(Reply::Refused(refusal)),
+                Unread::Memory(fault) => Err(fault),
+            },
+            Ok(Command::State(name, formula)) => self.state(alloc, bytes, name, formula),
+            Ok(Command::Split) => self.split(alloc, bytes),
+            Ok(Command::Search) => self.search(alloc, bytes),
         }
     }
 
@@ -100,12 +103,9 @@ impl Session {
         name: Name,
         formula: Prop,
     ) -> Result<Reply, AllocError>
-        requires { Says bytes.now (stating (record { name = name; formula = formula_of formula })) }
+        requires { Says bytes.now (is_open (state_of self.now)) (stating (record { name = name; formula = formula_of formula })) }
         ensures { IfOk result (λ reply. HasEffect (state_of self.old) bytes.now reply (state_of self.new)) }
     {
-        if self.attempt.is_some() {
-            return Ok(Reply::Refused(Refusal::WrongPlace));
-        }
         let command = Vec::from_slice(alloc, bytes)?;
         self.kept.reserve(1)?;
         let proof = Proof::start(alloc, formula)?;
@@ -116,13 +116,13 @@ impl Session {
 
     /// `split.`
     fn split(&mut self, alloc: Global, bytes: &[u8]) -> Result<Reply, AllocError>
-        requires { Says bytes.now splitting }
+        requires { Says bytes.now (is_open (state_of self.now)) splitting }
         ensures { IfOk result (λ reply. HasEffect (state_of self.old) bytes.now reply (state_of self.new)) }
     {
         let command = Vec::from_slice(alloc, bytes)?;
         self.kept.reserve(1)?;
         let Some(Attempt { name, mut proof }) = self.attempt.take() else {
-            return Ok(Reply::Refused(Refusal::WrongPlace));
+            unreachable!()
         };
         let step = proof.refine(0, Step::AndRight);
         self.attempt = Some(Attempt { name, proof });
@@ -140,18 +140,18 @@ impl Session {
 
     /// `search.`
     fn search(&mut self, alloc: Global, bytes: &[u8]) -> Result<Reply, AllocError>
-        requires { Says bytes.now searching }
+        requires { Says bytes.now (is_open (state_of self.now)) searching }
         ensures { IfOk result (λ reply. HasEffect (state_of self.old) bytes.now reply (state_of self.new)) }
     {
         let Some(open) = &self.attempt else {
-            return Ok(Reply::Refused(Refusal::WrongPlace));
+            unreachable!()
         };
         let told = open.name.copy(alloc)?;
         let command = Vec::from_slice(alloc, bytes)?;
         self.kept.reserve(1)?;
         self.theorems.reserve(1)?;
         let Some(Attempt { name, mut proof }) = self.attempt.take() else {
-            return Ok(Reply::Refused(Refusal::WrongPlace));
+            unreachable!()
         };
         match close(&mut proof) {
             Err(fault) => {

@@ -1,9 +1,9 @@
 //! Printing: formulas, goals, and the block that answers a command.
-ghost use Rattle.std.specs.Prelude.{◌≡◌, ◌+◌, ◌^◌, ◌<◌, ◌++◌, IfOk, OnOk, decimal};
+ghost use Rattle.std.specs.Prelude.{◌≡◌, ◌+◌, ◌^◌, ◌<◌, ◌++◌, IfOk, OnOk, codes, decimal};
 ghost use Rattle.ab_kernel.specs.Formula.{formula_of, sequent_of};
 ghost use Rattle.ab_kernel.specs.Derivation.{open_goals};
 ghost use Rattle.abella.specs.Session.{state_of};
-ghost use Rattle.abella.specs.Show.{shown_at, conclusion_line, heading, goal_lines, class, text, block};
+ghost use Rattle.abella.specs.Show.{shown_at, conclusion_line, heading, goal_lines, class, detail, text, block};
 
 use crate::session::Session;
 use crate::session::reply::{Refusal, Reply};
@@ -81,11 +81,30 @@ fn class(refusal: Refusal) -> &'static [u8]
     ensures { result.now ≡ class refusal }
 {
     match refusal {
+        Refusal::Syntax(_) => b"1 Syntax",
         Refusal::TooLong => b"2 TooLong",
         Refusal::WrongPlace => b"9 WrongPlace",
         Refusal::WrongShape => b"11 WrongShape",
         Refusal::NotFound => b"16 NotFound",
+        Refusal::TooNested(_) => b"23 TooNested",
         Refusal::NotBuilt => b"27 NotBuilt",
+    }
+}
+
+fn show_place(place: usize, out: &mut Vec<u8>) -> Result<(), AllocError>
+    ensures { OnOk result (out.new.items ≡ out.old.items ++ (codes " at " ++ decimal place)) }
+{
+    out.extend_from_slice(b" at ")?;
+    show_number(place, out)
+}
+
+/// The detail of a refusal: its place, where it has one.
+fn show_detail(refusal: Refusal, out: &mut Vec<u8>) -> Result<(), AllocError>
+    ensures { OnOk result (out.new.items ≡ out.old.items ++ detail refusal) }
+{
+    match refusal {
+        Refusal::Syntax(place) | Refusal::TooNested(place) => show_place(place, out),
+        _ => Ok(()),
     }
 }
 
@@ -103,7 +122,8 @@ fn show_reply(reply: &Reply, out: &mut Vec<u8>) -> Result<(), AllocError>
         }
         Reply::Refused(refusal) => {
             out.extend_from_slice(b" Refused ")?;
-            out.extend_from_slice(class(*refusal))
+            out.extend_from_slice(class(*refusal))?;
+            show_detail(*refusal, out)
         }
     }
 }

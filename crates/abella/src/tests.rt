@@ -16,7 +16,7 @@ struct Case {
 
 const PROVED: &[u8] = b"[1]\n============================\n true\n[2] Proof completed: t.\n";
 
-const CASES: [Case; 9] = [
+const CASES: [Case; 22] = [
     Case {
         script: b"",
         status: 0,
@@ -39,8 +39,68 @@ const CASES: [Case; 9] = [
     },
     Case {
         script: b"Theorem t : false.",
+        status: 6,
+        report: b"[1]\n============================\n false\n",
+    },
+    Case {
+        script: b"Theorem t : false. search.",
+        status: 1,
+        report: b"[1]\n============================\n false\n[1] Refused 16 NotFound\n============================\n false\n",
+    },
+    Case {
+        script: b"Theorem t : (true /\\ (false /\\ true)).",
+        status: 6,
+        report: b"[1]\n============================\n true /\\ (false /\\ true)\n",
+    },
+    Case {
+        script: b"Theorem : true.",
+        status: 1,
+        report: b"[0] Refused 1 Syntax at 8\n",
+    },
+    Case {
+        script: b"foo bar.",
+        status: 1,
+        report: b"[0] Refused 1 Syntax at 0\n",
+    },
+    Case {
+        script: b" Theorem x : @.",
+        status: 1,
+        report: b"[0] Refused 1 Syntax at 12\n",
+    },
+    Case {
+        script: b" @ intros.",
+        status: 1,
+        report: b"[0] Refused 1 Syntax at 0\n",
+    },
+    Case {
+        script: b"intros.",
+        status: 1,
+        report: b"[0] Refused 9 WrongPlace\n",
+    },
+    Case {
+        script: b"Theorem x : true. Kind k type.",
+        status: 1,
+        report: b"[1]\n============================\n true\n[1] Refused 9 WrongPlace\n============================\n true\n",
+    },
+    Case {
+        script: b"Theorem x : true. Kind.",
+        status: 1,
+        report: b"[1]\n============================\n true\n[1] Refused 9 WrongPlace\n============================\n true\n",
+    },
+    Case {
+        script: b"Theorem t : true \\/ true.",
         status: 1,
         report: b"[0] Refused 27 NotBuilt\n",
+    },
+    Case {
+        script: b"Kind k type.",
+        status: 1,
+        report: b"[0] Refused 27 NotBuilt\n",
+    },
+    Case {
+        script: b"Theorem t : true. search 3.",
+        status: 1,
+        report: b"[1]\n============================\n true\n[1] Refused 27 NotBuilt\n============================\n true\n",
     },
     Case {
         script: b"Theorem t : true. split.",
@@ -51,6 +111,11 @@ const CASES: [Case; 9] = [
         script: b"Theorem t : true /* a. /* b. */ c. */ . search.",
         status: 0,
         report: PROVED,
+    },
+    Case {
+        script: b"Theorem t : true. search",
+        status: 6,
+        report: b"[1]\n============================\n true\n",
     },
     Case {
         script: b"Theorem t : true. search. /* open",
@@ -95,6 +160,71 @@ fn reports_scripts_however_they_are_cut(rt: HostRuntime) -> Result<(), Fail> {
             }
         }
     }
+    Ok(())
+}
+
+fn push_many(script: &mut Vec<u8>, byte: u8, count: usize) -> Result<(), AllocError> {
+    for _ in 0..count {
+        script.push(byte)?;
+    }
+    Ok(())
+}
+
+/// A theorem whose formula is `true` in so many parentheses.
+fn enclosed(alloc: Global, count: usize) -> Result<Vec<u8>, AllocError> {
+    let mut script = Vec::from_slice(alloc, b"Theorem x : ")?;
+    push_many(&mut script, b'(', count)?;
+    script.extend_from_slice(b"true")?;
+    push_many(&mut script, b')', count)?;
+    script.push(b'.')?;
+    Ok(script)
+}
+
+/// A script with so many blanks in front.
+fn behind_blanks(alloc: Global, count: usize, rest: &[u8]) -> Result<Vec<u8>, AllocError> {
+    let mut script = Vec::new(alloc);
+    push_many(&mut script, b' ', count)?;
+    script.extend_from_slice(rest)?;
+    Ok(script)
+}
+
+#[test]
+fn takes_two_hundred_parentheses(rt: HostRuntime) -> Result<(), Fail> {
+    let script = enclosed(rt.alloc(), 200)?;
+    let (status, report) = outcome(rt.alloc(), script.as_slice(), 65_536, &[], &[])?;
+    assert_eq!(rt; status, 6);
+    assert!(rt; report.as_slice() == b"[1]\n============================\n true\n".as_slice());
+    Ok(())
+}
+
+#[test]
+fn refuses_one_parenthesis_more(rt: HostRuntime) -> Result<(), Fail> {
+    let script = enclosed(rt.alloc(), 201)?;
+    let (status, report) = outcome(rt.alloc(), script.as_slice(), 65_536, &[], &[])?;
+    assert_eq!(rt; status, 1);
+    assert!(rt; report.as_slice() == b"[0] Refused 23 TooNested at 212\n".as_slice());
+    Ok(())
+}
+
+#[test]
+fn takes_the_longest_command(rt: HostRuntime) -> Result<(), Fail> {
+    let script = behind_blanks(rt.alloc(), 1_048_559, b"Theorem t : true.")?;
+    let (status, report) = outcome(rt.alloc(), script.as_slice(), 65_536, &[], &[])?;
+    assert_eq!(rt; status, 6);
+    assert!(rt; report.as_slice() == b"[1]\n============================\n true\n".as_slice());
+    Ok(())
+}
+
+const TOO_LONG_FIRST: &[u8] =
+    b"[0] Refused 2 TooLong\n[1]\n============================\n true\n[2] Proof completed: u.\n";
+
+#[test]
+fn drops_a_longer_one(rt: HostRuntime) -> Result<(), Fail> {
+    let rest = b"Theorem t : true. Theorem u : true. search.";
+    let script = behind_blanks(rt.alloc(), 1_048_560, rest)?;
+    let (status, report) = outcome(rt.alloc(), script.as_slice(), 65_536, &[], &[])?;
+    assert_eq!(rt; status, 1);
+    assert!(rt; report.as_slice() == TOO_LONG_FIRST);
     Ok(())
 }
 

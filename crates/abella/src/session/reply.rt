@@ -7,6 +7,9 @@ use ab_types::Name;
 /// Why a command was refused.
 #[derive(Clone, Copy, Debug, PartialEq, Eq, Drop)]
 pub enum Refusal {
+    /// The grammar has no command that goes on by the token at this place, or a byte there begins no token. A place is a number
+    /// of bytes from where the command begins.
+    Syntax(usize),
     /// The command has more bytes than a command may have.
     TooLong,
     /// The command doesn't stand at this place.
@@ -15,7 +18,9 @@ pub enum Refusal {
     WrongShape,
     /// The search has no answer.
     NotFound,
-    /// The command is none that is built.
+    /// The command is nested too deep from the token at this place on.
+    TooNested(usize),
+    /// The grammar has the command, but it isn't built.
     NotBuilt,
 }
 

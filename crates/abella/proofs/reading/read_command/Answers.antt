@@ -1,18 +1,16 @@
-use Rattle.std.proofs.Common.{refl, sym, subst}
-use Rattle.ab_lex.specs.Tokens.{TokensOf}
-use Rattle.ab_forms.specs.Readings.{command_of}
-use Rattle.abella.proofs.Sayings.{says_nothing_unspelled, said_by_tree, if_ok_more}
+use Rattle.std.proofs.Common.{◌≡◌, length, sym, ap, ◌∙◌, subst}
+use Rattle.ab_grammar.specs.CommandTable.{CommandText}
+use Rattle.ab_grammar.specs.Language.{Accepted}
+use Rattle.ab_syntax.specs.Tokens.{tokens_in}
+use Rattle.ab_syntax.specs.Commands.{command_of as command_tree_of}
+use Rattle.abella.specs.Reading.{Means, Command, not_built}
 use Rattle.abella.proofs.reading.read_command.Goals as goal
 
-pub returns-in-Err-NotBuilt : goal.returns-in-Err-NotBuilt
-returns-in-Err-NotBuilt c =
-    let t : TokensOf c.args.bytes.now c.in-Some.tokens.items = rw c.in-Some.is at c.in_ok-tokens.ensures in
-    let t' : TokensOf c.args.bytes.now c.deref.result.now = subst (λ q. TokensOf c.args.bytes.now q) (sym c.deref.ensures.value) t in
-    let h = rw c.in-Err-NotBuilt.field-0-is at c.in-Err-NotBuilt.ensures.refused in
-    says_nothing_unspelled c.args.bytes.now c.deref.result.now t' (h refl)
-
-pub returns : goal.returns
-returns c =
-    let t : TokensOf c.args.bytes.now c.in-Some.tokens.items = rw c.in-Some.is at c.in_ok-tokens.ensures in
-    let t' : TokensOf c.args.bytes.now c.deref.result.now = subst (λ q. TokensOf c.args.bytes.now q) (sym c.deref.ensures.value) t in
-    if_ok_more c.built.result _ _ (λ o m. said_by_tree c.args.bytes.now c.deref.result.now (command_of c.in-Ok.tree) t' c.in-Ok.ensures.read _ m) c.built.ensures
+pub returns-clause-unread : goal.returns-clause-unread
+returns-clause-unread c =
+    let ts = c.in_ok-tokens.tokens.items in
+    let t = command_tree_of c.in_ok-tree.tree in
+    let read : Accepted CommandText (tokens_in c.args.bytes.now ts) t = subst (λ q. Accepted CommandText (tokens_in c.args.bytes.now q) t) c.deref.ensures.value c.in_ok-tree.ensures.read in
+    let none : (d : Command) → ¬ Means c.len.result t d = rw c.in-None.is at c.in_ok-command.ensures in
+    let count : c.len.result ≡ length ts = c.len.ensures ∙ (sym c.deref.ensures.len ∙ ap length c.deref.ensures.value) in
+    not_built ts t c.in_ok-tokens.ensures.fits read (λ d m. none d (subst (λ n. Means n t d) (sym count) m))

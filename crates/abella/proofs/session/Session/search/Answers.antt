@@ -4,16 +4,16 @@ use Rattle.ab_kernel.specs.Formula.{Sequent}
 use Rattle.ab_kernel.specs.Truth.{HasFalse}
 use Rattle.ab_kernel.specs.Derivation.{open_goals}
 use Rattle.abella.specs.declared.session.reply.Reply.TheVariants.{Completed}
-use Rattle.abella.specs.Reading.{searching}
-use Rattle.abella.specs.Effect.{HasEffect}
+use Rattle.abella.specs.Effect.{HasEffect, is_open}
+use Rattle.abella.proofs.Sayings.{searched_inside}
 use Rattle.abella.specs.Session.{state_of, attempt_of, statement_of}
-use Rattle.abella.proofs.Effects.{made, place_is_wrong, nonempty, first_of, goal_not_found, goal_closed, last_closed, kept_more, no_searching_here}
+use Rattle.abella.proofs.Effects.{made, some_there, open_as, nonempty, first_of, goal_not_found, goal_closed, last_closed, kept_more}
 use Rattle.abella.proofs.session.Session.search.Goals as goal
 
-pub returns-in_default : goal.returns-in_default
-returns-in_default c =
+pub unreachable-requires : goal.unreachable-requires
+unreachable-requires c =
     let s = c.args.self.now in
-    place_is_wrong (state_of s) (state_of s) c.args.bytes.now searching c.requires (no_searching_here (option_map attempt_of s.attempt) (ap (option_map attempt_of) c.in_default.is)) refl refl refl
+    some_there s.attempt c.in_default.is (sym (open_as attempt_of s.attempt) ∙ searched_inside c.args.bytes.now (is_open (state_of s)) c.requires)
 
 pub returns-in-NotFound : goal.returns-in-NotFound
 returns-in-NotFound c =

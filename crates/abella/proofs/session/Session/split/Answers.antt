@@ -1,19 +1,19 @@
 use Rattle.std.proofs.Common.{◌≡◌, Err, Some, None, option_map, map, refl, sym, ap, ◌∙◌}
 use Rattle.ab_kernel.specs.declared.rules.KernelFault.TheVariants.{RuleFails}
-use Rattle.abella.specs.Reading.{splitting}
+use Rattle.abella.specs.Effect.{is_open}
+use Rattle.abella.proofs.Sayings.{split_inside}
 use Rattle.abella.specs.Session.{state_of, attempt_of}
-use Rattle.abella.proofs.Effects.{still_open, place_is_wrong, goal_split, goal_unsplit, kept_more, no_splitting_here}
+use Rattle.abella.proofs.Effects.{still_open, some_there, open_as, goal_split, goal_unsplit, kept_more}
 use Rattle.abella.proofs.session.Session.split.Goals as goal
 
-pub returns-in_default : goal.returns-in_default
-returns-in_default c =
+pub unreachable-requires : goal.unreachable-requires
+unreachable-requires c =
     let s = c.args.self.now in
     let n : s.attempt ≡ None = sym c.take.ensures.value ∙ c.in_default.is in
-    place_is_wrong (state_of s) _ c.args.bytes.now splitting c.requires (no_splitting_here (option_map attempt_of s.attempt) (ap (option_map attempt_of) n)) refl
-    (ap (option_map attempt_of) (c.take.ensures.after ∙ sym n)) (ap (map (λ v. v.items)) c.in_ok-reserve.ensures.items)
+    some_there s.attempt n (sym (open_as attempt_of s.attempt) ∙ split_inside c.args.bytes.now (is_open (state_of s)) c.requires)
 
-pub invariant_of-t-29 : goal.invariant_of-t-29
-invariant_of-t-29 c = record { is_open = still_open c.refine-step.result c.in-Some.field-0.proof c.refine-step.new.self c.refine-step.ensures.step c.refine-step.ensures.err c.in-Some.field-0.is_open }
+pub invariant_of-t-28 : goal.invariant_of-t-28
+invariant_of-t-28 c = record { is_open = still_open c.refine-step.result c.in-Some.field-0.proof c.refine-step.new.self c.refine-step.ensures.step c.refine-step.ensures.err c.in-Some.field-0.is_open }
 
 pub returns-in-Ok : goal.returns-in-Ok
 returns-in-Ok c =

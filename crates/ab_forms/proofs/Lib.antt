@@ -1,4 +1,0 @@
-pub mod Tokens
-pub mod Words
-pub mod Formulas
-pub mod Commands

@@ -1,4 +1,0 @@
-pub mod Lexeme
-pub mod Grammar
-pub mod Readings
-pub mod Parts
