@@ -1,0 +1,374 @@
+-- Kinds of tokens: what each says of its token.
+use Rattle.std.proofs.Common.{◌≡◌, ◌≢◌, ℕ, ◌≤◌, Bool, true, false, List, [], ◌∷◌, map, length, Option, Some, None, refl, ap, sym, ◌∙◌, subst}
+use Rattle.std.specs.Prelude.{if◌then◌else◌}
+use Rattle.std.specs.List.{list_all}
+use Rattle.std.specs.Str.Parse.{digits_value}
+use Rattle.std.proofs.Math.Dec.{leb}
+use Rattle.ab_lex.specs.declared.token.TokenKind.{TokenKind}
+use Rattle.ab_lex.specs.declared.token.TokenKind.TheVariants as lexed
+use Rattle.ab_grammar.specs.Token.{Token, word, truth, other, Other, stop, semicolon, becomes, from, star, back, reset, by_word, to_word, with_word, on_word, type_word, number, text, unusable, end}
+use Rattle.ab_grammar.specs.CommandTable.{listed}
+use Rattle.ab_syntax.specs.declared.text.Kind.{Kind}
+use Rattle.ab_syntax.specs.declared.text.Kind.TheVariants as kind
+use Rattle.ab_syntax.specs.declared.text.Kind.TheVariants.{Mark}
+use Rattle.ab_syntax.specs.declared.text.Mark.{Mark as Marked}
+use Rattle.ab_syntax.specs.declared.text.Mark.TheVariants as mark
+use Rattle.ab_syntax.specs.declared.text.TheConstants.{RESERVED, SIGNS}
+use Rattle.ab_syntax.specs.Tokens.{Row, reserved, signs, otherwise, plainly, number_token, text_token, is_text_byte, unquoted, token_by}
+use Rattle.ab_syntax.specs.Reader.{kind_of, kind_of_other, meaning, key_of}
+use Rattle.ab_syntax.proofs.Tables.{EachRow, listed_each, Agree, same_kind, no_kind}
+
+pub mark_meant : (m : Marked) → kind_of (key_of m) ≡ Mark m
+mark_meant mark.LeftParen = refl
+mark_meant mark.RightParen = refl
+mark_meant mark.RightBrace = refl
+mark_meant mark.LeftBracket = refl
+mark_meant mark.RightBracket = refl
+mark_meant mark.Turnstile = refl
+mark_meant mark.Backslash = refl
+mark_meant mark.Comma = refl
+mark_meant mark.Colon = refl
+mark_meant mark.Stop = refl
+mark_meant mark.Semicolon = refl
+mark_meant mark.Becomes = refl
+mark_meant mark.From = refl
+mark_meant mark.Star = refl
+mark_meant mark.Back = refl
+mark_meant mark.Reset = refl
+mark_meant mark.By = refl
+mark_meant mark.To = refl
+mark_meant mark.With = refl
+mark_meant mark.On = refl
+mark_meant mark.Type = refl
+mark_meant mark.Unusable = refl
+mark_meant mark.End = refl
+
+pub kind_meant : (k : Kind) (w : List ℕ) (p : ℕ) → kind_of (meaning k w p) ≡ k
+kind_meant kind.Word w p = refl
+kind_meant kind.Truth w p = refl
+kind_meant (kind.Quantifier q) w p = refl
+kind_meant kind.Pi w p = refl
+kind_meant (kind.Sign o) w p = refl
+kind_meant kind.LeftBrace w p = refl
+kind_meant kind.Number w p = refl
+kind_meant kind.Text w p = refl
+kind_meant (Mark m) w p = mark_meant m
+
+-- the tables of the program are those of the definitions
+
+abbrev pub known_words : List (List ℕ × Kind)
+known_words = map (λ row. (row.0.now, row.1)) RESERVED
+
+abbrev pub known_signs : List (List ℕ × Kind)
+known_signs = map (λ row. (row.0.now, row.1)) SIGNS
+
+words_agree : Agree reserved known_words
+words_agree = (
+  refl,
+  (
+    λ w p. refl,
+    (
+      refl,
+      (
+        λ w p. refl,
+        (
+          refl,
+          (
+            λ w p. refl,
+            (
+              refl,
+              (
+                λ w p. refl,
+                (
+                  refl,
+                  (
+                    λ w p. refl,
+                    (
+                      refl,
+                      (
+                        λ w p. refl,
+                        (refl, (λ w p. refl, (refl, (λ w p. refl, (refl, (λ w p. refl, (refl, (λ w p. refl, (refl, (λ w p. refl, tt)))))))))),
+                      ),
+                    ),
+                  ),
+                ),
+              ),
+            ),
+          ),
+        ),
+      ),
+    ),
+  ),
+)
+
+signs_agree : Agree signs known_signs
+signs_agree = (
+  refl,
+  (
+    λ w p. refl,
+    (
+      refl,
+      (
+        λ w p. refl,
+        (
+          refl,
+          (
+            λ w p. refl,
+            (
+              refl,
+              (
+                λ w p. refl,
+                (
+                  refl,
+                  (
+                    λ w p. refl,
+                    (
+                      refl,
+                      (
+                        λ w p. refl,
+                        (
+                          refl,
+                          (
+                            λ w p. refl,
+                            (
+                              refl,
+                              (
+                                λ w p. refl,
+                                (
+                                  refl,
+                                  (
+                                    λ w p. refl,
+                                    (
+                                      refl,
+                                      (
+                                        λ w p. refl,
+                                        (
+                                          refl,
+                                          (
+                                            λ w p. refl,
+                                            (
+                                              refl,
+                                              (
+                                                λ w p. refl,
+                                                (
+                                                  refl,
+                                                  (
+                                                    λ w p. refl,
+                                                    (
+                                                      refl,
+                                                      (
+                                                        λ w p. refl,
+                                                        (
+                                                          refl,
+                                                          (
+                                                            λ w p. refl,
+                                                            (
+                                                              refl,
+                                                              (
+                                                                λ w p. refl,
+                                                                (
+                                                                  refl,
+                                                                  (
+                                                                    λ w p. refl,
+                                                                    (
+                                                                      refl,
+                                                                      (
+                                                                        λ w p. refl,
+                                                                        (refl, (λ w p. refl, (refl, (λ w p. refl, (refl, (λ w p. refl, (refl, (λ w p. refl, (refl, (λ w p. refl, (refl, (λ w p. refl, tt)))))))))))),
+                                                                      ),
+                                                                    ),
+                                                                  ),
+                                                                ),
+                                                              ),
+                                                            ),
+                                                          ),
+                                                        ),
+                                                      ),
+                                                    ),
+                                                  ),
+                                                ),
+                                              ),
+                                            ),
+                                          ),
+                                        ),
+                                      ),
+                                    ),
+                                  ),
+                                ),
+                              ),
+                            ),
+                          ),
+                        ),
+                      ),
+                    ),
+                  ),
+                ),
+              ),
+            ),
+          ),
+        ),
+      ),
+    ),
+  ),
+)
+
+pub reserved_word : (x : List ℕ) (k : Kind) → listed known_words x ≡ Some k → (p : ℕ) → token_by lexed.Word x p ≡ meaning k x p
+reserved_word x k e p = same_kind reserved known_words words_agree x k e word x p
+
+pub free_word : (x : List ℕ) → listed known_words x ≡ None → (p : ℕ) → token_by lexed.Word x p ≡ meaning kind.Word x p
+free_word x e p = ap (λ (o : Option (List ℕ → ℕ → Token)). otherwise o word x p) (no_kind reserved known_words words_agree x e)
+
+pub known_sign : (x : List ℕ) (k : Kind) → listed known_signs x ≡ Some k → (p : ℕ) → token_by lexed.Sign x p ≡ meaning k x p
+known_sign x k e p = same_kind signs known_signs signs_agree x k e (plainly (other unusable)) x p
+
+pub unknown_sign : (x : List ℕ) → listed known_signs x ≡ None → (p : ℕ) → token_by lexed.Sign x p ≡ meaning (Mark mark.Unusable) x p
+unknown_sign x e p = ap (λ (o : Option (List ℕ → ℕ → Token)). otherwise o (plainly (other unusable)) x p) (no_kind signs known_signs signs_agree x e)
+
+-- a token that is no word and not the end
+abbrev IsMark : Token → Type 0
+IsMark (word x p) = ⊥
+IsMark (truth x p) = ⊥
+IsMark (other end) = ⊥
+IsMark k = Unit {0}
+
+abbrev AlwaysMark : (List ℕ → ℕ → Token) → Type 0
+AlwaysMark f = (w : List ℕ) (p : ℕ) → IsMark (f w p)
+
+signs_are_marks : EachRow AlwaysMark signs
+signs_are_marks = (
+  λ w p. tt,
+  (
+    λ w p. tt,
+    (
+      λ w p. tt,
+      (
+        λ w p. tt,
+        (
+          λ w p. tt,
+          (
+            λ w p. tt,
+            (
+              λ w p. tt,
+              (
+                λ w p. tt,
+                (
+                  λ w p. tt,
+                  (
+                    λ w p. tt,
+                    (
+                      λ w p. tt,
+                      (
+                        λ w p. tt,
+                        (λ w p. tt, (λ w p. tt, (λ w p. tt, (λ w p. tt, (λ w p. tt, (λ w p. tt, (λ w p. tt, (λ w p. tt, (λ w p. tt, (λ w p. tt, (λ w p. tt, (λ w p. tt, tt)))))))))))),
+                      ),
+                    ),
+                  ),
+                ),
+              ),
+            ),
+          ),
+        ),
+      ),
+    ),
+  ),
+)
+
+sign_is_mark : (x : List ℕ) (p : ℕ) → IsMark (token_by lexed.Sign x p)
+sign_is_mark x p = by_row (listed signs x) refl
+  where
+    by_row : (o : Option (List ℕ → ℕ → Token)) → listed signs x ≡ o → IsMark (otherwise o (plainly (other unusable)) x p)
+    by_row None e = tt
+    by_row (Some f) e = listed_each AlwaysMark signs x f signs_are_marks e x p
+
+number_is_mark : (x : List ℕ) (p : ℕ) → IsMark (token_by lexed.Number x p)
+number_is_mark x p = by_length (leb (length x) 9)
+  where
+    by_length : (b : Bool) → IsMark (if b then other (number (digits_value 10 x)) else other unusable)
+    by_length true = tt
+    by_length false = tt
+
+text_is_mark : (x : List ℕ) (p : ℕ) → IsMark (token_by lexed.Text x p)
+text_is_mark x p = by_bytes (list_all is_text_byte (unquoted x))
+  where
+    by_bytes : (b : Bool) → IsMark (if b then other (text (unquoted x)) else other unusable)
+    by_bytes true = tt
+    by_bytes false = tt
+
+-- a word or the words true and false
+abbrev pub IsWordKind : Kind → Type 0
+IsWordKind kind.Word = Unit {0}
+IsWordKind kind.Truth = Unit {0}
+IsWordKind k = ⊥
+
+no_other : (o : Other) → IsWordKind (kind_of_other o) → ⊥
+no_other stop w = w
+no_other semicolon w = w
+no_other becomes w = w
+no_other from w = w
+no_other star w = w
+no_other back w = w
+no_other reset w = w
+no_other by_word w = w
+no_other to_word w = w
+no_other with_word w = w
+no_other on_word w = w
+no_other type_word w = w
+no_other (number n) w = w
+no_other (text t) w = w
+no_other unusable w = w
+no_other end w = w
+
+no_word : (k : Token) → IsMark k → IsWordKind (kind_of k) → ⊥
+no_word (word x p) h w = h
+no_word (truth x p) h w = h
+no_word (other o) h w = no_other o w
+no_word k h w = w
+
+pub word_alone : (j : TokenKind) (x : List ℕ) (p : ℕ) → IsWordKind (kind_of (token_by j x p)) → j ≡ lexed.Word
+word_alone lexed.Word x p h = refl
+word_alone lexed.Number x p h = absurd (no_word (token_by lexed.Number x p) (number_is_mark x p) h)
+word_alone lexed.Text x p h = absurd (no_word (token_by lexed.Text x p) (text_is_mark x p) h)
+word_alone lexed.Sign x p h = absurd (no_word (token_by lexed.Sign x p) (sign_is_mark x p) h)
+
+-- no token is the end
+
+abbrev IsSome : Token → Type 0
+IsSome (other end) = ⊥
+IsSome k = Unit {0}
+
+abbrev AlwaysSome : (List ℕ → ℕ → Token) → Type 0
+AlwaysSome f = (w : List ℕ) (p : ℕ) → IsSome (f w p)
+
+words_are_some : EachRow AlwaysSome reserved
+words_are_some = (
+  λ w p. tt,
+  (
+    λ w p. tt,
+    (
+      λ w p. tt,
+      (
+        λ w p. tt,
+        (
+          λ w p. tt,
+          (
+            λ w p. tt,
+            (λ w p. tt, (λ w p. tt, (λ w p. tt, (λ w p. tt, (λ w p. tt, tt))))),
+          ),
+        ),
+      ),
+    ),
+  ),
+)
+
+word_is_some : (x : List ℕ) (p : ℕ) → IsSome (token_by lexed.Word x p)
+word_is_some x p = by_row (listed reserved x) refl
+  where
+    by_row : (o : Option (List ℕ → ℕ → Token)) → listed reserved x ≡ o → IsSome (otherwise o word x p)
+    by_row None e = tt
+    by_row (Some f) e = listed_each AlwaysSome reserved x f words_are_some e x p
+
+pub never_end : (j : TokenKind) (x : List ℕ) (p : ℕ) → token_by j x p ≡ other end → ⊥
+never_end lexed.Word x p e = subst IsSome e (word_is_some x p)
+never_end lexed.Number x p e = subst IsMark e (number_is_mark x p)
+never_end lexed.Text x p e = subst IsMark e (text_is_mark x p)
+never_end lexed.Sign x p e = subst IsMark e (sign_is_mark x p)

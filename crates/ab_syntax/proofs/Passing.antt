@@ -1,0 +1,48 @@
+-- What a reader says of the whole where a part was refused.
+use Rattle.std.proofs.Common.{◌≡◌, List, Result, Ok, Err, sym, subst}
+use Rattle.ab_grammar.specs.Token.{Token}
+use Rattle.ab_grammar.specs.Nesting.{Spot}
+use Rattle.ab_grammar.specs.Reading.{ReadsOff, ungrammatical, too_nested}
+use Rattle.ab_grammar.proofs.Choosing.{fewer_reads, fewer_refuses}
+use Rattle.ab_grammar.proofs.Continuing.{Continues}
+use Rattle.ab_grammar.proofs.Rows.{TwoParts}
+use Rattle.ab_syntax.specs.declared.stop.Stop.{Stop}
+use Rattle.ab_syntax.specs.declared.stop.Stop.TheVariants.{Syntax, TooNested, Memory}
+use Rattle.ab_syntax.specs.Lists.{IsMemory}
+use Rattle.ab_syntax.specs.Reader.{Refused, Found}
+
+-- a refusal of the last part is one of the whole
+pub refused_on : {A B : Type 0} {H : List Spot → A → Type 0} {R : List Spot → B → Type 0} {F : List Token → Type 0} {f : A → B} {ms ks : List Token} → Continues H R F f ms ks
+    → (s : Stop) (rest : List Token) → Refused H F s ms rest → Refused R F s ks rest
+refused_on c Syntax rest r = c.refuses ungrammatical rest r
+refused_on c TooNested rest r = c.refuses too_nested rest r
+refused_on c (Memory e) rest r = tt
+
+-- a refusal of the first part is one of the whole
+pub refused_first : {A B C : Type 0} {G : List Spot → A → Type 0} {E : List Token → Type 0} {H : List Spot → B → Type 0} {R : List Spot → C → Type 0} {F : List Token → Type 0} {f : A → B → C} → TwoParts G E H R F f
+    → (ks : List Token) (s : Stop) (rest : List Token) → Refused G E s ks rest → Refused R F s ks rest
+refused_first p ks Syntax rest r = p.first_refused ks ungrammatical rest r
+refused_first p ks TooNested rest r = p.first_refused ks too_nested rest r
+refused_first p ks (Memory e) rest r = tt
+
+-- fewer things may follow
+pub refused_fewer : {A : Type 0} (G : List Spot → A → Type 0) (F E : List Token → Type 0) → ((r : List Token) → E r → F r) → (ks rest : List Token) (s : Stop) → Refused G F s ks rest → Refused G E s ks rest
+refused_fewer G F E less ks rest Syntax r = fewer_refuses G F E less ks rest ungrammatical r
+refused_fewer G F E less ks rest TooNested r = fewer_refuses G F E less ks rest too_nested r
+refused_fewer G F E less ks rest (Memory e) r = tt
+
+-- what the last part answers is answered for the whole
+pub found_on : {A B X : Type 0} {H : List Spot → A → Type 0} {R : List Spot → B → Type 0} {F : List Token → Type 0} {f : A → B} {ms ks : List Token} → Continues H R F f ms ks
+    → (value : X → A) (rest : List Token) (r : Result X Stop) → Found H F value ms rest r → Found R F (λ x. f (value x)) ks rest r
+found_on c value rest (Ok x) p = c.reads (value x) rest p
+found_on c value rest (Err s) p = refused_on c s rest p
+
+pub fewer_found : {A X : Type 0} (G : List Spot → A → Type 0) (F E : List Token → Type 0) → ((r : List Token) → E r → F r) → (value : X → A) (ks rest : List Token) (r : Result X Stop) → Found G F value ks rest r → Found G E value ks rest r
+fewer_found G F E less value ks rest (Ok x) p = fewer_reads G F E less ks rest (value x) p
+fewer_found G F E less value ks rest (Err s) p = refused_fewer G F E less ks rest s p
+
+-- want of memory refuses anything
+pub memory_refuses : {A : Type 0} (G : List Spot → A → Type 0) (F : List Token → Type 0) (s : Stop) (ks rest : List Token) → IsMemory s → Refused G F s ks rest
+memory_refuses G F (Memory e) ks rest h = tt
+memory_refuses G F Syntax ks rest h = absurd h
+memory_refuses G F TooNested ks rest h = absurd h

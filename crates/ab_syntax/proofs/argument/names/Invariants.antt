@@ -1,0 +1,14 @@
+use Rattle.std.proofs.Common.{length}
+use Rattle.ab_grammar.specs.CommandForms.{One, Many}
+use Rattle.ab_grammar.specs.CommandTable.{BeforeStop, ShowsName}
+use Rattle.ab_syntax.proofs.Followers.{names_end}
+use Rattle.ab_syntax.specs.Reader.{rest}
+use Rattle.ab_syntax.proofs.Repeating.{TokensTo}
+use Rattle.ab_syntax.proofs.argument.names.Given as goal
+
+-- the items so far were read, from the first on
+abbrev pub invariant-more : goal.invariant-more
+invariant-more l = TokensTo ShowsName BeforeStop names_end (Many (One ShowsName)) (rest l.text l.fn.here) l.names.items (rest l.text l.here)
+
+abbrev pub decreases-more : goal.decreases-more
+decreases-more l = length (rest l.text l.here)

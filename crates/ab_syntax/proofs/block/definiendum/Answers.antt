@@ -1,0 +1,17 @@
+use Rattle.std.proofs.lemmas.Result.{err_from_is_err_and}
+use Rattle.ab_syntax.proofs.Passing.{refused_on, refused_first}
+use Rattle.ab_grammar.proofs.Rows.{definiendum}
+use Rattle.ab_syntax.proofs.block.definiendum.Goals as goal
+
+pub returns-in_err-name : goal.returns-in_err-name
+returns-in_err-name c =
+    let p = err_from_is_err_and c.from_residual.result c.from_residual.ensures.1 in
+    rw (p.1, p.2) (refused_first definiendum _ _ _ c.in_err-name.ensures)
+
+pub returns-in_err-ty : goal.returns-in_err-ty
+returns-in_err-ty c =
+    let p = err_from_is_err_and c.from_residual-in_err-ty.result c.from_residual-in_err-ty.ensures.1 in
+    rw (p.1, p.2) (refused_on ((definiendum).first_read _ _ _ c.in_ok-name.ensures) _ _ c.in_err-ty.ensures)
+
+pub returns : goal.returns
+returns c = ((definiendum).first_read _ _ _ c.in_ok-name.ensures).reads _ _ c.in_ok-ty.ensures

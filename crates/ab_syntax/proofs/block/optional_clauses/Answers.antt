@@ -1,0 +1,14 @@
+use Rattle.std.proofs.Common.{map, Vec}
+use Rattle.std.specs.Global.{Global}
+use Rattle.ab_syntax.specs.declared.command.ClauseParse.{ClauseParse}
+use Rattle.ab_syntax.specs.Commands.{clause_of}
+use Rattle.ab_syntax.specs.Reader.{rest}
+use Rattle.ab_grammar.proofs.Choices.{with_clauses, no_clauses}
+use Rattle.ab_syntax.proofs.Passing.{found_on}
+use Rattle.ab_syntax.proofs.block.optional_clauses.Goals as goal
+
+pub returns-then-is_next : goal.returns-then-is_next
+returns-then-is_next c = rw c.new.ensures.items (no_clauses (rest c.args.text.now c.args.here.now) (c.is_next.ensures.next.0 c.if-is_next.true))
+
+pub returns : goal.returns
+returns c = found_on (with_clauses (rest c.args.text.now c.args.here.now) (λ e. let h = c.is_next.ensures.next.1 e in let n = c.if-is_next.false in cc)) (λ (cs : Vec ClauseParse Global). map clause_of cs.items) _ c.clauses.result c.clauses.ensures

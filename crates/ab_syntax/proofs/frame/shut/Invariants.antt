@@ -1,0 +1,12 @@
+use Rattle.std.proofs.Common.{◌≡◌, length}
+use Rattle.ab_grammar.specs.Machine as machine
+use Rattle.ab_syntax.specs.Trees.{tree_of}
+use Rattle.ab_syntax.specs.Frames.{frames_of}
+use Rattle.ab_syntax.proofs.frame.shut.Given as goal
+
+-- what is left to shut comes to the same
+abbrev pub invariant-loop-sign : goal.invariant-loop-sign
+invariant-loop-sign l = machine.shut (tree_of l.fn.last) (frames_of l.fn.frames) ≡ machine.shut (tree_of l.last) (frames_of l.frames)
+
+abbrev pub decreases-loop-sign : goal.decreases-loop-sign
+decreases-loop-sign l = length l.frames.items

@@ -1,0 +1,28 @@
+use Rattle.std.proofs.Common.{◌≡◌, ◌+◌, ◌-◌, ◌*◌, ap, sym, ◌∙◌, take, length, arith}
+use Rattle.std.specs.Str.Parse.{digits_value}
+use Rattle.std.proofs.lemmas.Grind.{common_steps}
+use Rattle.ab_syntax.proofs.Digits.{value_step, value_so_far, short_value}
+use Rattle.ab_syntax.proofs.numbers.value.Goals as goal
+
+pub overflow_mul-value : goal.overflow_mul-value
+overflow_mul-value c =
+    let w = c.args.digits.now in
+    let i = c.loop-digit.digit-index in
+    omega (arith, value_step w i (c.requires.0) c.loop-digit-test.true, value_so_far w (i + 1) c.requires)
+
+pub overflow_add-value : goal.overflow_add-value
+overflow_add-value c =
+    let w = c.args.digits.now in
+    let i = c.loop-digit.digit-index in
+    omega (arith, value_step w i (c.requires.0) c.loop-digit-test.true, value_so_far w (i + 1) c.requires)
+
+pub loop-digit-preserved : goal.loop-digit-preserved
+loop-digit-preserved c =
+    let w = c.args.digits.now in
+    let i = c.loop-digit.digit-index in
+    let e = value_step w i (c.requires.0) c.loop-digit-test.true in
+    let v = c.loop-digit.invariant in
+    omega (arith, e, v)
+
+pub returns-clause-below : goal.returns-clause-below
+returns-clause-below c = let v = value_so_far c.args.digits.now c.loop-digit.digit-index c.requires in omega (arith, v, c.loop-digit.invariant)

@@ -1,0 +1,21 @@
+use Rattle.std.proofs.lemmas.Result.{err_from_is_err_and}
+use Rattle.ab_syntax.proofs.Passing.{refused_on, refused_first, refused_fewer}
+use Rattle.ab_grammar.proofs.Choosing.{fewer_reads}
+use Rattle.ab_grammar.specs.Language.{Expression, Followed}
+use Rattle.ab_grammar.specs.CommandTable.{BeforeStop}
+use Rattle.ab_grammar.proofs.Beginnings.{followed_by_stop}
+use Rattle.ab_grammar.proofs.Rows.{theorem}
+use Rattle.ab_syntax.proofs.row.theorem.Goals as goal
+
+pub returns-in_err-name : goal.returns-in_err-name
+returns-in_err-name c =
+    let p = err_from_is_err_and c.from_residual.result c.from_residual.ensures.1 in
+    rw (p.1, p.2) (refused_first theorem _ _ _ c.in_err-name.ensures)
+
+pub returns-in_err-formula : goal.returns-in_err-formula
+returns-in_err-formula c =
+    let p = err_from_is_err_and c.from_residual-in_err-formula.result c.from_residual-in_err-formula.ensures.1 in
+    rw (p.1, p.2) (refused_on ((theorem).first_read _ _ _ c.in_ok-name.ensures) _ _ (refused_fewer Expression Followed BeforeStop followed_by_stop _ _ _ c.in_err-formula.ensures))
+
+pub returns : goal.returns
+returns c = ((theorem).first_read _ _ _ c.in_ok-name.ensures).reads _ _ (fewer_reads Expression Followed BeforeStop followed_by_stop _ _ _ c.in_ok-formula.ensures)

@@ -1,0 +1,15 @@
+pub mod Numbers
+pub mod Tokens
+pub mod Items
+pub mod Trees
+pub mod Commands
+pub mod Faults
+pub mod Reader
+pub mod Steps
+pub mod Openings
+pub mod Texts
+pub mod Leaves
+pub mod Lists
+pub mod Frames
+pub mod States
+pub mod Wholes

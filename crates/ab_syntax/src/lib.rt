@@ -1,0 +1,47 @@
+//! The syntax of commands, expressions and types: what a list of tokens says, as a tree.
+#![tactic(auto)]
+
+mod answer;
+mod argument;
+mod binding;
+mod block;
+mod build;
+mod closing;
+mod command;
+mod expression;
+mod fault;
+mod form;
+mod frame;
+mod instance;
+mod items;
+mod leaf;
+mod list;
+mod machine;
+mod nesting;
+mod numbers;
+mod opening;
+mod parser;
+mod part;
+mod piece;
+mod proof_row;
+mod row;
+mod step;
+mod stop;
+mod text;
+mod tree;
+mod types;
+mod whole;
+mod words;
+
+pub use ab_grammar::{Infix, Quant, Stand};
+pub use command::{Argument, ClauseParse, Command, Defined, Instance, ProofCommand};
+pub use fault::ParseFault;
+pub use items::Items;
+pub use opening::stand_of;
+pub use parser::{parse_command, parse_expr, parse_type};
+pub use tree::{Binder, Parse, TypeParse};
+
+#[cfg(test)]
+mod command_tests;
+#[cfg(test)]
+mod expression_tests;

@@ -1,0 +1,119 @@
+//! What the first tokens of a command say of it, and so where it stands.
+ghost use Rattle.std.specs.Prelude.{◌≡◌, ◌≢◌, ◌↔◌, ℕ, List, MatchOption, Some};
+ghost use Rattle.ab_lex.specs.Tokens.{TokensOf};
+ghost use Rattle.ab_grammar.specs.Token.{word, quantifier, colon};
+ghost use Rattle.ab_grammar.specs.Reading.{first};
+ghost use Rattle.ab_grammar.specs.CommandTable.{stand_of as stand_of_head, StandsAt};
+ghost use Rattle.ab_grammar.specs.declared.head.Stand.{Stand};
+ghost use Rattle.ab_grammar.specs.declared.head.Stand.TheVariants.{Inside};
+ghost use Rattle.ab_syntax.specs.Tokens.{tokens_in};
+ghost use Rattle.ab_syntax.specs.Reader.{IsText, written, rest, key_of};
+ghost use Rattle.ab_syntax.specs.Openings.{IsOpening};
+
+use crate::text::{Kind, Mark, Text, is_next, peek, written_at};
+use crate::whole::whole;
+use crate::words::{command_head, proof_head};
+use ab_grammar::{Head, ProofHead, Quant, Stand};
+use ab_lex::Token;
+
+/// What the first token of a command says of it.
+#[derive(Clone, Copy, Debug, PartialEq, Eq)]
+pub(crate) enum Opening {
+    /// A command that is no proof command.
+    Plain(Head),
+    /// A proof command without a label.
+    Proof(ProofHead),
+    /// A proof command with a label.
+    Label,
+    /// No command begins so.
+    Nothing,
+}
+
+/// What a word at the front of a command says of it. `Query` begins a command that isn't read yet.
+fn word_opening(written: &[u8]) -> Opening
+    ensures { (p : ℕ) → IsOpening (word written.now p) written.now result }
+{
+    if let Some(head) = command_head(written) {
+        return Opening::Plain(head);
+    }
+    if let Some(head) = proof_head(written) {
+        return Opening::Proof(head);
+    }
+    if written == b"Query".as_slice() {
+        Opening::Nothing
+    } else {
+        Opening::Label
+    }
+}
+
+/// What a quantifier at the front of a command says of it.
+fn quantifier_opening(quant: Quant) -> Opening
+    ensures { (p : ℕ) (w : List ℕ) → IsOpening (quantifier quant p) w result }
+{
+    match quant {
+        Quant::Exists => Opening::Proof(ProofHead::Exists),
+        Quant::Forall | Quant::Nabla => Opening::Nothing,
+    }
+}
+
+/// What a mark at the front of a command says of it.
+fn mark_opening(mark: Mark) -> Opening
+    ensures { (w : List ℕ) → IsOpening (key_of mark) w result }
+{
+    match mark {
+        Mark::Back => Opening::Plain(Head::Back),
+        Mark::Reset => Opening::Plain(Head::Reset),
+        _ => Opening::Nothing,
+    }
+}
+
+/// What the next token says of a command that it begins.
+pub(crate) fn opening_at(text: &Text<'_>, here: usize) -> Opening
+    requires { IsText text.now }
+    ensures { IsOpening (first (rest text.now here)) (written text.now here) result }
+{
+    match peek(text, here) {
+        Kind::Word => word_opening(written_at(text, here)),
+        Kind::Quantifier(quant) => quantifier_opening(quant),
+        Kind::Mark(mark) => mark_opening(mark),
+        _ => Opening::Nothing,
+    }
+}
+
+/// Where a command stands that is no proof command.
+fn stand(head: Head) -> Stand
+    ensures { result ≡ stand_of_head head }
+{
+    match head {
+        Head::Show | Head::Quit | Head::Set | Head::Back | Head::Reset => Stand::Anywhere,
+        Head::Undo | Head::Abort => Stand::Inside,
+        _ => Stand::Outside,
+    }
+}
+
+/// Where a command stands: known by its first token, or by a word and a colon. None where no command begins so.
+pub fn stand_of(bytes: &[u8], tokens: &[Token]) -> Option<Stand>
+    requires { TokensOf bytes.now tokens.now }
+    ensures { (s : Stand) → (result ≡ Some s) ↔ StandsAt (tokens_in bytes.now tokens.now) s }
+{
+    let text = whole(bytes, tokens);
+    match opening_at(&text, 0) {
+        Opening::Plain(head) => Some(stand(head)),
+        Opening::Proof(_head) => Some(Stand::Inside),
+        Opening::Label => label_stand(&text),
+        Opening::Nothing => None,
+    }
+}
+
+/// Where a command that begins with a label stands, if a colon is behind the label.
+fn label_stand(text: &Text<'_>) -> Option<Stand>
+    requires { IsText text.now }
+    ensures { MatchOption result (first (rest text.now 1) ≢ colon)
+        (λ s. (s ≡ Inside) × (first (rest text.now 1) ≡ colon)) }
+{
+    if is_next(text, 1, Mark::Colon) {
+        Some(Stand::Inside)
+    } else {
+        None
+    }
+}

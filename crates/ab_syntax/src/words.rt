@@ -1,0 +1,86 @@
+//! The words with which commands begin, and those that mean something inside.
+ghost use Rattle.std.specs.Prelude.{◌≡◌, ◌↔◌, IsTrue, map};
+ghost use Rattle.ab_grammar.specs.CommandTable.{listed, command_words, proof_words, takes_label as takes_label_of};
+
+use ab_grammar::{Head, ProofHead};
+
+/// The words with which commands begin that are no proof commands.
+const COMMANDS: [(&[u8], Head); 11] = [
+    (b"Kind", Head::Kind),
+    (b"Type", Head::Typed),
+    (b"Define", Head::Define),
+    (b"CoDefine", Head::CoDefine),
+    (b"Theorem", Head::Theorem),
+    (b"Specification", Head::Specification),
+    (b"Show", Head::Show),
+    (b"Quit", Head::Quit),
+    (b"Set", Head::Set),
+    (b"undo", Head::Undo),
+    (b"abort", Head::Abort),
+];
+
+/// The words with which proof commands begin; the reserved word `exists` begins one too.
+const PROOF_COMMANDS: [(&[u8], ProofHead); 19] = [
+    (b"intros", ProofHead::Intros),
+    (b"induction", ProofHead::Induction),
+    (b"coinduction", ProofHead::Coinduction),
+    (b"case", ProofHead::Case),
+    (b"apply", ProofHead::Apply),
+    (b"backchain", ProofHead::Backchain),
+    (b"cut", ProofHead::Cut),
+    (b"inst", ProofHead::Inst),
+    (b"monotone", ProofHead::Monotone),
+    (b"search", ProofHead::Search),
+    (b"split", ProofHead::Split),
+    (b"left", ProofHead::Left),
+    (b"right", ProofHead::Right),
+    (b"witness", ProofHead::Witness),
+    (b"unfold", ProofHead::Unfold),
+    (b"assert", ProofHead::Assert),
+    (b"clear", ProofHead::Clear),
+    (b"rename", ProofHead::Rename),
+    (b"permute", ProofHead::Permute),
+];
+
+/// What a table lists for a word.
+pub(crate) fn lookup<T: Copy>(table: &[(&[u8], T)], word: &[u8]) -> Option<T>
+    ensures { result ≡ listed (map (λ row. (row.0.now, row.1)) table.now) word.now }
+{
+    for (known, meaning) in table {
+        if word == *known {
+            return Some(*meaning);
+        }
+    }
+    None
+}
+
+/// The command that a word begins, if it begins one that is no proof command.
+pub(crate) fn command_head(word: &[u8]) -> Option<Head>
+    ensures { result ≡ listed command_words word.now }
+{
+    lookup(&COMMANDS, word)
+}
+
+/// The proof command that a word begins, if it begins one.
+pub(crate) fn proof_head(word: &[u8]) -> Option<ProofHead>
+    ensures { result ≡ listed proof_words word.now }
+{
+    lookup(&PROOF_COMMANDS, word)
+}
+
+/// Whether a label may stand before a proof command.
+pub(crate) fn takes_label(head: ProofHead) -> bool
+    ensures { result ≡ takes_label_of head }
+{
+    matches!(
+        head,
+        ProofHead::Induction
+            | ProofHead::Coinduction
+            | ProofHead::Case
+            | ProofHead::Apply
+            | ProofHead::Cut
+            | ProofHead::Inst
+            | ProofHead::Monotone
+            | ProofHead::Assert
+    )
+}
