@@ -1,7 +1,7 @@
 -- The type of a binder, where no type can end.
-use Rattle.std.proofs.Common.{◌≡◌, ℕ, List, Option, None, refl, ap, ◌∙◌, ◌⊎◌, inl, inr}
+use Rattle.std.proofs.Common.{◌≡◌, ℕ, List, Option, None, ap, ◌∙◌, ◌⊎◌, inl, inr}
 use Rattle.ab_grammar.specs.declared.Quant.{Quant}
-use Rattle.ab_grammar.specs.Token.{Token, right_paren}
+use Rattle.ab_grammar.specs.Token.{right_paren}
 use Rattle.ab_grammar.specs.Tree.{Ty, Binder}
 use Rattle.ab_grammar.specs.Language.{Follower, by_right_paren}
 use Rattle.ab_grammar.specs.Machine.{Frame, TypeState, type_step, type_finish, binder_on}

@@ -1,12 +1,11 @@
 -- No token of a command's text is the end.
-use Rattle.std.proofs.Common.{◌≡◌, ℕ, List, [], ◌∷◌, ◌++◌, Bool, true, false, Option, Some, None, sym, subst, inl, inr}
+use Rattle.std.proofs.Common.{◌≡◌, ℕ, List, [], ◌∷◌, ◌++◌, false, Some, None, sym, subst}
 use Rattle.ab_grammar.specs.Token.{Token, other, end, sign, left_paren, right_paren, comma, colon, stop, semicolon, becomes, star, by_word, to_word, with_word, on_word, type_word, word}
 use Rattle.ab_grammar.specs.declared.Infix.TheVariants.{Equal}
 use Rattle.ab_grammar.specs.declared.head.Head.{Head}
 use Rattle.ab_grammar.specs.declared.head.ProofHead.{ProofHead}
 use Rattle.ab_grammar.specs.Nesting.{Spot}
 use Rattle.ab_grammar.specs.Language.{tokens_of, Key, the_key, Expression, TypeExpression}
-use Rattle.ab_grammar.specs.CommandTrees as tree
 use Rattle.ab_grammar.specs.CommandForms.{One, one, Nothing, nothing, Joined, joined, Valued, valued, Optional, left_out, present, Many, no_more, one_more, ◌▹◌, ◌▸◌, ◌◂◌, OneOrMore, Separated}
 use Rattle.ab_grammar.specs.CommandTable as table
 use Rattle.ab_grammar.specs.CommandTable.{ShowsName, shows_name, ShowsDeclared, shows_declared, ShowsNominal, shows_nominal, ShowsArgument, shows_named, shows_hole, ShowsNumber, shows_number, ShowsDepth, shows_depth, ShowsText, shows_text, StandsAnywhere, stands_at, ShowsLabel, shows_label, Opens, opens, opens_back, opens_reset, OpensProof, opens_proof, opens_exists, Switch, switched_on, switched_off, Row, ProofRow, LabelledForm, labelled_form, CommandForm, plain, unlabelled, labelled, CommandText, Name, DeclaredName, DeclaredNames, Definiendum, Definienda, defined_of, clause_of, instance_of, ClauseBody, ClauseForm, Clauses, Definition, InstanceForm, InstanceList, Instances, Arguments, Keep, kept, Nominals, OptionalName, Word, Sign}

@@ -1,5 +1,5 @@
 -- The depth that layers make, as a layer is put on top or taken off.
-use Rattle.std.proofs.Common.{◌≡◌, ℕ, zero, suc, ◌+◌, ◌-◌, List, ◌∷◌, ap, sym, ◌∙◌, subst, arith}
+use Rattle.std.proofs.Common.{◌≡◌, ℕ, suc, ◌+◌, ◌-◌, List, ◌∷◌, ap, sym, arith}
 use Rattle.ab_grammar.specs.Nesting.{Layer, opened, closed, depth_of}
 
 module _ (n : ℕ) (l m : Layer) (ls ms : List Layer) where

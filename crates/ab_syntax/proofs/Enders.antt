@@ -1,6 +1,6 @@
 -- What ends a type, and what does to both a type and an expression what any other such token does.
-use Rattle.std.proofs.Common.{◌≡◌, List, Option, Some, None, Result, Ok, Err, IfOk, refl, sym, subst, ◌⊎◌, inl, inr}
-use Rattle.ab_grammar.specs.Token.{Token, comma, other, end}
+use Rattle.std.proofs.Common.{◌≡◌, List, None, Result, Ok, Err, IfOk, refl, sym, subst, ◌⊎◌, inl, inr}
+use Rattle.ab_grammar.specs.Token.{comma, end}
 use Rattle.ab_grammar.specs.Tree.{Ty}
 use Rattle.ab_grammar.specs.Language.{Follower, by_right_brace, by_right_bracket, by_turnstile, by_comma, by_colon, by_other}
 use Rattle.ab_grammar.specs.Machine.{TypeFrame, type_have, type_step}

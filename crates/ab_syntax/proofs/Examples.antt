@@ -1,5 +1,5 @@
 -- A text of each form that stands behind a key.
-use Rattle.std.proofs.Common.{ℕ, List, [], ◌∷◌, ◌++◌, None, codes}
+use Rattle.std.proofs.Common.{[], ◌∷◌, ◌++◌, None, codes}
 use Rattle.ab_grammar.specs.declared.Infix.TheVariants.{Equal}
 use Rattle.ab_grammar.specs.Token.{sign, word, right_paren, colon}
 use Rattle.ab_grammar.specs.Nesting.{lone}

@@ -1,5 +1,5 @@
 -- Reading an expression along a text.
-use Rattle.std.proofs.Common.{◌≡◌, ℕ, ◌+◌, ◌<◌, ◌≤◌, List, ◌∷◌, length, Some, None, ap, sym, ◌∙◌, subst}
+use Rattle.std.proofs.Common.{◌≡◌, ℕ, ◌+◌, ◌<◌, ◌≤◌, List, ◌∷◌, length, Some, ap, sym, ◌∙◌, subst}
 use Rattle.ab_grammar.specs.Token.{Token}
 use Rattle.ab_grammar.specs.Nesting.{Layer, nest, depth_of, outside, limit}
 use Rattle.ab_grammar.specs.Language.{Expression, Followed}

@@ -1,12 +1,11 @@
 -- The first token of a command.
 use Rattle.std.proofs.Common.{◌≡◌, ℕ, List, Some, None, codes, refl, ap, sym, ◌∙◌, subst}
 use Rattle.ab_grammar.specs.declared.Quant.{Quant}
-use Rattle.ab_grammar.specs.declared.Quant.TheVariants.{Forall, Exists, Nabla}
+use Rattle.ab_grammar.specs.declared.Quant.TheVariants.{Exists}
 use Rattle.ab_grammar.specs.declared.head.Head.{Head}
 use Rattle.ab_grammar.specs.declared.head.ProofHead.{ProofHead}
 use Rattle.ab_grammar.specs.Token.{Token, word, quantifier}
 use Rattle.ab_grammar.specs.CommandTable.{listed, command_words, proof_words, Opens, opens, opens_back, opens_reset, OpensProof, opens_proof, opens_exists, ShowsLabel, shows_label, BeginsCommand, begins_query}
-use Rattle.ab_syntax.specs.declared.text.Kind.{Kind}
 use Rattle.ab_syntax.specs.declared.text.Kind.TheVariants as kind
 use Rattle.ab_syntax.specs.declared.text.Mark.{Mark}
 use Rattle.ab_syntax.specs.declared.text.Mark.TheVariants as mark

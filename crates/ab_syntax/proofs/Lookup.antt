@@ -1,5 +1,5 @@
 -- A loop over a table.
-use Rattle.std.proofs.Common.{◌≡◌, ◌<◌, ◌+◌, ℕ, suc, Bool, true, false, List, [], ◌∷◌, length, map, drop, get_or, Option, Some, None, refl, sym, ◌∙◌, ap, bytes_eq, cond, add-one, arith, Bor}
+use Rattle.std.proofs.Common.{◌≡◌, ◌<◌, ◌+◌, ℕ, suc, Bool, true, false, List, ◌∷◌, length, map, drop, get_or, Some, sym, ◌∙◌, ap, bytes_eq, cond, add-one}
 use Rattle.std.proofs.Math.Seq.{drop-cons}
 use Rattle.ab_grammar.specs.CommandTable.{listed}
 

@@ -1,5 +1,5 @@
 -- Kinds of tokens: what each says of its token.
-use Rattle.std.proofs.Common.{◌≡◌, ◌≢◌, ℕ, ◌≤◌, Bool, true, false, List, [], ◌∷◌, map, length, Option, Some, None, refl, ap, sym, ◌∙◌, subst}
+use Rattle.std.proofs.Common.{◌≡◌, ℕ, Bool, true, false, List, map, length, Option, Some, None, refl, ap, subst}
 use Rattle.std.specs.Prelude.{if◌then◌else◌}
 use Rattle.std.specs.List.{list_all}
 use Rattle.std.specs.Str.Parse.{digits_value}
@@ -14,7 +14,7 @@ use Rattle.ab_syntax.specs.declared.text.Kind.TheVariants.{Mark}
 use Rattle.ab_syntax.specs.declared.text.Mark.{Mark as Marked}
 use Rattle.ab_syntax.specs.declared.text.Mark.TheVariants as mark
 use Rattle.ab_syntax.specs.declared.text.TheConstants.{RESERVED, SIGNS}
-use Rattle.ab_syntax.specs.Tokens.{Row, reserved, signs, otherwise, plainly, number_token, text_token, is_text_byte, unquoted, token_by}
+use Rattle.ab_syntax.specs.Tokens.{reserved, signs, otherwise, plainly, is_text_byte, unquoted, token_by}
 use Rattle.ab_syntax.specs.Reader.{kind_of, kind_of_other, meaning, key_of}
 use Rattle.ab_syntax.proofs.Tables.{EachRow, listed_each, Agree, same_kind, no_kind}
 

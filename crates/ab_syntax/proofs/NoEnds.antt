@@ -1,8 +1,7 @@
 -- No token of a text, and none in an expression or a type, is the end.
-use Rattle.std.proofs.Common.{◌≡◌, List, [], ◌∷◌, ◌++◌, Option, Some, None, refl, ap, sym, ◌∙◌, subst}
+use Rattle.std.proofs.Common.{◌≡◌, List, [], ◌∷◌, Option, Some, None, refl, ap, sym, ◌∙◌, subst}
 use Rattle.ab_grammar.specs.Token.{Token, Other, other, end}
-use Rattle.ab_grammar.specs.Tree.{Ty, Tree}
-use Rattle.ab_grammar.specs.Nesting.{Spot, spots, outside}
+use Rattle.ab_grammar.specs.Nesting.{Spot, outside}
 use Rattle.ab_grammar.specs.Language.{tokens_of, nested, Expression, TypeExpression}
 use Rattle.ab_grammar.specs.Machine.{run, step_in, found, step, finish, start, type_step, type_finish, type_start}
 use Rattle.ab_grammar.proofs.Lifting.{NoEnd}

@@ -1,8 +1,8 @@
 -- What a reader says of the whole where a part was refused.
-use Rattle.std.proofs.Common.{◌≡◌, List, Result, Ok, Err, sym, subst}
+use Rattle.std.proofs.Common.{List, Result, Ok, Err}
 use Rattle.ab_grammar.specs.Token.{Token}
 use Rattle.ab_grammar.specs.Nesting.{Spot}
-use Rattle.ab_grammar.specs.Reading.{ReadsOff, ungrammatical, too_nested}
+use Rattle.ab_grammar.specs.Reading.{ungrammatical, too_nested}
 use Rattle.ab_grammar.proofs.Choosing.{fewer_reads, fewer_refuses}
 use Rattle.ab_grammar.proofs.Continuing.{Continues}
 use Rattle.ab_grammar.proofs.Rows.{TwoParts}

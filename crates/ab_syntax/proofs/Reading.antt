@@ -1,5 +1,5 @@
 -- Reading along a text: what the next token does to a machine, where the program sees only that it is in no expression.
-use Rattle.std.proofs.Common.{◌≡◌, ℕ, ◌+◌, ◌<◌, ◌≤◌, List, [], ◌∷◌, ◌++◌, length, map, drop, Option, Some, None, refl, ap, sym, ◌∙◌, subst, ◌⊎◌, inl, inr, arith}
+use Rattle.std.proofs.Common.{◌≡◌, ℕ, ◌+◌, ◌<◌, ◌≤◌, List, [], ◌∷◌, ◌++◌, length, map, drop, Option, Some, None, refl, ap, sym, ◌∙◌, ◌⊎◌, inl, inr, arith}
 use Rattle.ab_grammar.specs.Token.{Token, Other, other, end}
 use Rattle.ab_grammar.specs.Nesting.{Layer, nest}
 use Rattle.ab_grammar.specs.Language.{Follower, by_other}

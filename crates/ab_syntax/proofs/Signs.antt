@@ -1,5 +1,5 @@
 -- What a sign does to a sign before it.
-use Rattle.std.proofs.Common.{◌≡◌, ◌<◌, ◌≤◌, List, ◌∷◌, Bool, true, false, Option, Some, None, refl, ap, ◌∙◌, arith}
+use Rattle.std.proofs.Common.{◌≡◌, ◌<◌, ◌≤◌, List, ◌∷◌, Bool, true, false, Some, None, refl, ap, ◌∙◌, arith}
 use Rattle.std.proofs.Math.Dec.{leb}
 use Rattle.std.proofs.lemmas.Bool.{le-leb, leb-true}
 use Rattle.ab_grammar.specs.declared.Infix.{Infix}

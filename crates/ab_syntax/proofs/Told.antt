@@ -12,7 +12,6 @@ use Rattle.ab_syntax.specs.declared.fault.ParseFault.{ParseFault}
 use Rattle.ab_syntax.specs.declared.fault.ParseFault.TheVariants as fault
 use Rattle.ab_syntax.specs.Tokens.{token_of, tokens_in, origin_of}
 use Rattle.ab_syntax.specs.Faults.{place_from, fault_place, blamed, nested_place, IsTold, IsCommandPlace}
-use Rattle.ab_syntax.specs.Reader.{no_token}
 use Rattle.ab_syntax.specs.Texts.{IsWhole}
 use Rattle.ab_syntax.specs.Wholes.{all_of, Tells, place_in, fault_of}
 use Rattle.ab_syntax.proofs.FaultPlaces.{place_behind}

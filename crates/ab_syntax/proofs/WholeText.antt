@@ -1,5 +1,5 @@
 -- All tokens of a text, and their end.
-use Rattle.std.proofs.Common.{◌≡◌, ℕ, zero, suc, ◌≤◌, List, [], ◌∷◌, ◌++◌, length, map, drop, refl, ap, sym, ◌∙◌, subst, arith}
+use Rattle.std.proofs.Common.{◌≡◌, ℕ, zero, suc, ◌≤◌, List, [], ◌∷◌, ◌++◌, length, map, drop, refl, ap, ◌∙◌, arith}
 use Rattle.ab_lex.specs.declared.token.Token.{Token as Lexed}
 use Rattle.ab_grammar.specs.Token.{Token, other, end}
 use Rattle.ab_grammar.specs.Reading.{first}

@@ -7,7 +7,6 @@ use Rattle.ab_grammar.specs.Nesting.{Spot}
 use Rattle.ab_grammar.specs.Language.{tokens_of, Followed, Accepted, SyntaxAt, TooNestedAt}
 use Rattle.ab_grammar.specs.Reading.{first, ReadsOff, StopsAt, NestsAt}
 use Rattle.ab_grammar.proofs.Lifting.{NoEnd}
-use Rattle.ab_grammar.proofs.Lists.{tokens_of-append}
 use Rattle.ab_grammar.proofs.WholeTexts.{all_read, more_behind, stopped, nested}
 use Rattle.ab_syntax.specs.declared.text.Text.{Text}
 use Rattle.ab_syntax.specs.declared.stop.Stop.{Stop}

@@ -1,5 +1,5 @@
 -- What the steps of the reader's machines keep, in the words of the machines that read the grammar. No public contract speaks of it.
-use Rattle.std.specs.Prelude.{◌≡◌, ℕ, List, [], ◌∷◌, ◌++◌, map, Option, Some, None, option_map, Vec, ◌⊎◌}
+use Rattle.std.specs.Prelude.{◌≡◌, List, [], ◌∷◌, ◌++◌, Option, Some, None, option_map, Vec, ◌⊎◌}
 use Rattle.std.specs.Global.{Global}
 use Rattle.ab_grammar.specs.Token.{Token, word, truth, quantifier, pi_word, sign, left_paren, right_paren, left_brace, right_brace, left_bracket, right_bracket, turnstile, backslash, comma, colon, other, end}
 use Rattle.ab_grammar.specs.Tree.{Ty}

@@ -1,5 +1,5 @@
 -- The trees of the grammar that the program's trees stand for.
-use Rattle.std.specs.Prelude.{Option, option_map, map}
+use Rattle.std.specs.Prelude.{option_map, map}
 use Rattle.ab_syntax.specs.declared.tree.TypeParse.{TypeParse, fold-TypeParse}
 use Rattle.ab_syntax.specs.declared.tree.TypeParse.TheOpen.{TypeParse-F}
 use Rattle.ab_syntax.specs.declared.tree.Binder.{Binder}

@@ -1,4 +1,4 @@
-use Rattle.std.proofs.Common.{◌≡◌, ◌∙◌}
+use Rattle.std.proofs.Common.{◌∙◌}
 use Rattle.ab_syntax.proofs.FaultPlaces.{name_blamed, token_blamed}
 use Rattle.ab_syntax.proofs.answer.blamed.Goals as goal
 

@@ -1,4 +1,4 @@
-use Rattle.std.proofs.Common.{◌≡◌, refl}
+use Rattle.std.proofs.Common.{refl}
 use Rattle.ab_grammar.proofs.Heads.{plain_no_label, proof_no_label}
 use Rattle.ab_syntax.specs.Reader.{written}
 use Rattle.ab_syntax.proofs.answer.opens_with_label.Goals as goal

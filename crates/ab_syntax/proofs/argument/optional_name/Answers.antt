@@ -1,5 +1,4 @@
 use Rattle.std.proofs.lemmas.Result.{err_from_is_err_and}
-use Rattle.std.proofs.Common.{ℕ, List}
 use Rattle.ab_grammar.specs.Language.{Anything}
 use Rattle.ab_grammar.specs.CommandTable.{Name, BeforeStop}
 use Rattle.ab_grammar.proofs.Choosing.{fewer_reads}

@@ -1,10 +1,4 @@
 use Rattle.std.proofs.lemmas.Result.{err_from_is_err_and}
-use Rattle.std.proofs.Common.{ℕ, List, Option, sym, subst}
-use Rattle.ab_grammar.specs.Reading.{ReadsOff}
-use Rattle.ab_grammar.specs.CommandTrees.{Clause}
-use Rattle.ab_grammar.specs.CommandTable.{ClauseForm, ClauseEnds}
-use Rattle.ab_syntax.specs.Reader.{rest}
-use Rattle.ab_syntax.specs.Commands.{clause_of}
 use Rattle.ab_grammar.proofs.Rows.{clause_form}
 use Rattle.ab_syntax.proofs.Passing.{refused_on, refused_first}
 use Rattle.ab_syntax.proofs.block.clause.Goals as goal

@@ -1,5 +1,4 @@
 use Rattle.std.proofs.lemmas.Result.{err_from_is_err_and}
-use Rattle.std.proofs.Common.{ℕ, List, sym, subst}
 use Rattle.ab_grammar.specs.Reading.{first}
 use Rattle.ab_syntax.specs.Reader.{rest, written}
 use Rattle.ab_syntax.proofs.Passing.{refused_on}

@@ -1,4 +1,3 @@
-use Rattle.ab_grammar.specs.CommandTable.{Opens}
 use Rattle.ab_grammar.specs.Reading.{first}
 use Rattle.ab_syntax.specs.Commands.{command_of}
 use Rattle.ab_syntax.specs.Reader.{rest}

@@ -1,7 +1,7 @@
 use Rattle.std.proofs.lemmas.Result.{err_from_is_err_and}
 use Rattle.ab_syntax.proofs.Passing.{refused_on, refused_first, refused_fewer}
 use Rattle.ab_grammar.proofs.Choosing.{fewer_reads}
-use Rattle.ab_grammar.specs.Token.{other, stop}
+use Rattle.ab_grammar.specs.Token.{stop}
 use Rattle.ab_grammar.specs.Language.{Anything, Followed}
 use Rattle.ab_grammar.specs.CommandTable.{Sign}
 use Rattle.ab_grammar.proofs.WholeCommands.{whole_command}

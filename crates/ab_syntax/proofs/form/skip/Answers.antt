@@ -1,4 +1,4 @@
-use Rattle.std.proofs.Common.{◌≡◌, ◌+◌, ◌∷◌, sym, ap, ◌∙◌, arith}
+use Rattle.std.proofs.Common.{◌+◌, ◌∷◌, sym, ap, ◌∙◌, arith}
 use Rattle.ab_grammar.specs.Token.{Token}
 use Rattle.ab_syntax.specs.Reader.{rest}
 use Rattle.ab_syntax.proofs.Chosen.{inside}

@@ -1,10 +1,9 @@
-use Rattle.std.proofs.Common.{◌≡◌, ℕ, ◌+◌, List, sym, subst}
+use Rattle.std.proofs.Common.{ℕ, ◌+◌, List, sym, subst}
 use Rattle.ab_grammar.specs.Language.{Anything}
 use Rattle.ab_grammar.specs.Reading.{ReadsOff}
 use Rattle.ab_grammar.specs.CommandTable.{ShowsDeclared, DeclaredName}
 use Rattle.ab_grammar.proofs.Shown.{one_declared, declared_example}
 use Rattle.ab_syntax.specs.Reader.{rest, written}
-use Rattle.ab_syntax.specs.Leaves.{ShowsWhere}
 use Rattle.ab_syntax.proofs.Leaves.{takes, takes_none}
 use Rattle.ab_syntax.proofs.leaf.declared_name.Goals as goal
 

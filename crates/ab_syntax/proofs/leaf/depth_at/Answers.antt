@@ -1,5 +1,5 @@
-use Rattle.std.proofs.Common.{◌≡◌, ℕ, ◌≤◌, arith}
-use Rattle.ab_grammar.specs.Token.{Token, other, number}
+use Rattle.std.proofs.Common.{ℕ, ◌≤◌, arith}
+use Rattle.ab_grammar.specs.Token.{Token}
 use Rattle.ab_grammar.specs.CommandTable.{ShowsNumber, shows_number, ShowsDepth, shows_depth}
 use Rattle.ab_grammar.proofs.Shown.{one_number}
 use Rattle.ab_syntax.proofs.leaf.depth_at.Goals as goal

@@ -1,7 +1,3 @@
-use Rattle.std.proofs.Common.{ℕ, List}
-use Rattle.ab_grammar.specs.Token.{Token}
-use Rattle.ab_grammar.specs.CommandTable.{ShowsName, ShowsArgument}
-use Rattle.ab_syntax.specs.Leaves.{ShowsSome}
 use Rattle.ab_syntax.proofs.Leaves.{name_argument, argument_name}
 use Rattle.ab_syntax.proofs.leaf.is_argument.Goals as goal
 

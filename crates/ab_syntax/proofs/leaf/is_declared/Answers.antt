@@ -1,4 +1,4 @@
-use Rattle.std.proofs.Common.{◌≡◌, ◌↔◌, ℕ, List, IsTrue, ap, sym, ◌∙◌, subst}
+use Rattle.std.proofs.Common.{◌≡◌, ◌↔◌, ℕ, List, IsTrue, ◌∙◌, subst}
 use Rattle.ab_grammar.specs.CommandTable.{IsDeclarable}
 use Rattle.ab_syntax.specs.declared.text.Kind.TheVariants as kind
 use Rattle.ab_syntax.specs.declared.text.Mark.TheVariants as mark

@@ -1,4 +1,4 @@
-use Rattle.std.proofs.Common.{◌≡◌, refl, sym, ◌∙◌, subst}
+use Rattle.std.proofs.Common.{refl, sym, ◌∙◌, subst}
 use Rattle.ab_grammar.specs.Token.{Token}
 use Rattle.ab_grammar.specs.CommandTable.{ShowsName, shows_name}
 use Rattle.ab_syntax.specs.Leaves.{ShowsSome}

@@ -1,4 +1,4 @@
-use Rattle.std.proofs.Common.{◌≡◌, ℕ, Bool, true, false, Option, Some, None, IsTrue, ◌↔◌}
+use Rattle.std.proofs.Common.{◌≡◌, ℕ, Bool, Option, Some, None, IsTrue, ◌↔◌}
 use Rattle.std.specs.Option.{is_some}
 use Rattle.ab_grammar.specs.Reading.{first}
 use Rattle.ab_grammar.specs.CommandTable.{ShowsNominal}

@@ -1,4 +1,4 @@
-use Rattle.std.proofs.Common.{◌≡◌, ℕ, List, ap, sym, ◌∙◌, subst, MatchOption}
+use Rattle.std.proofs.Common.{◌≡◌, ℕ, List, ◌∙◌, subst, MatchOption}
 use Rattle.ab_grammar.specs.CommandTable.{IsNominal}
 use Rattle.ab_syntax.specs.declared.text.Kind.TheVariants as kind
 use Rattle.ab_syntax.specs.declared.text.Mark.TheVariants as mark

@@ -1,4 +1,4 @@
-use Rattle.std.proofs.Common.{◌≡◌, ℕ, List, ap, sym, ◌∙◌, subst}
+use Rattle.std.proofs.Common.{◌≡◌, ap, sym, ◌∙◌, subst}
 use Rattle.std.specs.Str.Parse.{digits_value}
 use Rattle.ab_grammar.specs.Token.{Token, other, number}
 use Rattle.ab_grammar.specs.CommandTable.{ShowsNumber, shows_number}

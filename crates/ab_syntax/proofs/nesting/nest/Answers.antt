@@ -1,4 +1,4 @@
-use Rattle.std.proofs.Common.{◌≡◌, sym, ap, ◌∙◌}
+use Rattle.std.proofs.Common.{sym, ap, ◌∙◌}
 use Rattle.ab_grammar.specs.Nesting as nesting
 use Rattle.ab_syntax.specs.declared.piece.Piece.{Piece}
 use Rattle.ab_syntax.specs.Steps.{layers_of, token_of_piece}

@@ -1,7 +1,5 @@
-use Rattle.std.proofs.Common.{◌≡◌, ◌+◌, ◌-◌, ◌*◌, ap, sym, ◌∙◌, take, length, arith}
-use Rattle.std.specs.Str.Parse.{digits_value}
-use Rattle.std.proofs.lemmas.Grind.{common_steps}
-use Rattle.ab_syntax.proofs.Digits.{value_step, value_so_far, short_value}
+use Rattle.std.proofs.Common.{◌+◌, arith}
+use Rattle.ab_syntax.proofs.Digits.{value_step, value_so_far}
 use Rattle.ab_syntax.proofs.numbers.value.Goals as goal
 
 pub overflow_mul-value : goal.overflow_mul-value

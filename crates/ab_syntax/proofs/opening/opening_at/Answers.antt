@@ -1,4 +1,4 @@
-use Rattle.std.proofs.Common.{ℕ, List, ap, subst, sym, ◌∙◌}
+use Rattle.std.proofs.Common.{ℕ, List, subst, sym, ◌∙◌}
 use Rattle.ab_grammar.specs.Token.{Token, word}
 use Rattle.ab_syntax.specs.declared.text.Mark.TheVariants as mark
 use Rattle.ab_syntax.specs.Reader.{written, place_at}

@@ -6,7 +6,7 @@ use Rattle.ab_grammar.specs.Reading.{first}
 use Rattle.ab_grammar.specs.CommandTable.{Opens, OpensProof, ShowsLabel, StandsAt}
 use Rattle.ab_syntax.specs.Tokens.{tokens_in}
 use Rattle.ab_syntax.specs.Reader.{written}
-use Rattle.ab_syntax.proofs.Standing.{ended, plain_stands, proof_stands, label_stands, nothing_stands, no_colon_stands, exactly}
+use Rattle.ab_syntax.proofs.Standing.{ended, plain_stands, proof_stands, label_stands, no_colon_stands, exactly}
 use Rattle.ab_syntax.proofs.WholeText.{first_whole, second_whole}
 use Rattle.ab_syntax.proofs.opening.stand_of.Goals as goal
 

@@ -1,4 +1,4 @@
-use Rattle.std.proofs.Common.{◌≡◌, subst}
+use Rattle.std.proofs.Common.{subst}
 use Rattle.std.proofs.lemmas.Result.{err_from_is_err_and}
 use Rattle.ab_grammar.specs.Language.{Expression, Followed}
 use Rattle.ab_grammar.specs.Reading.{ReadsOff}

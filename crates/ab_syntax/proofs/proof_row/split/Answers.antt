@@ -1,6 +1,6 @@
 use Rattle.std.proofs.lemmas.Result.{err_from_is_err_and}
 use Rattle.ab_grammar.specs.Language.{Anything}
-use Rattle.ab_grammar.specs.Token.{other, star}
+use Rattle.ab_grammar.specs.Token.{star}
 use Rattle.ab_grammar.specs.CommandTable.{BeforeStop, Sign}
 use Rattle.ab_grammar.proofs.Choosing.{fewer_reads}
 use Rattle.ab_grammar.proofs.Choices.{split, split_all}

@@ -1,7 +1,7 @@
 use Rattle.std.proofs.lemmas.Result.{err_from_is_err_and}
 use Rattle.ab_grammar.specs.Language.{Anything}
 use Rattle.std.proofs.Common.{codes}
-use Rattle.ab_grammar.specs.Token.{other, on_word}
+use Rattle.ab_grammar.specs.Token.{on_word}
 use Rattle.ab_grammar.specs.CommandTable.{BeforeStop, Sign, Word}
 use Rattle.ab_grammar.proofs.Choosing.{fewer_reads}
 use Rattle.ab_grammar.proofs.Choices.{switch_on, switch_off}

@@ -1,4 +1,4 @@
-use Rattle.std.proofs.Common.{◌≡◌, sym}
+use Rattle.std.proofs.Common.{sym}
 use Rattle.ab_grammar.proofs.Choosing.{key_stops}
 use Rattle.ab_syntax.specs.Reader.{rest, key_of}
 use Rattle.ab_syntax.proofs.Places.{takes_key}

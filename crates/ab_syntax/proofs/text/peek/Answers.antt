@@ -1,6 +1,5 @@
-use Rattle.std.proofs.Common.{◌≡◌, ◌≤◌, ℕ, List, length, sym, ap, ◌∙◌, subst, arith}
-use Rattle.ab_syntax.specs.Reader.{written, place_at, no_token}
-use Rattle.ab_syntax.proofs.Places.{first_more, first_past, is_kind}
+use Rattle.std.proofs.Common.{◌≤◌, ℕ, List, length, sym, subst}
+use Rattle.ab_syntax.specs.Reader.{no_token}
 use Rattle.ab_syntax.proofs.text.peek.Goals as goal
 
 pub kind_by-requires : goal.kind_by-requires

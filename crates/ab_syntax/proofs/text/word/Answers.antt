@@ -1,4 +1,4 @@
-use Rattle.std.proofs.Common.{List, ℕ, All, ◌<◌, sym, ◌∙◌, subst}
+use Rattle.std.proofs.Common.{sym, subst}
 use Rattle.std.specs.Str.{IsUtf8}
 use Rattle.ab_syntax.specs.Reader.{no_token}
 use Rattle.ab_syntax.proofs.Utf8.{plain_is_utf8}

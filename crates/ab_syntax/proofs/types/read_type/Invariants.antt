@@ -1,4 +1,4 @@
-use Rattle.std.proofs.Common.{◌≡◌, ◌≤◌, ◌-◌, length}
+use Rattle.std.proofs.Common.{◌≤◌, ◌-◌, length}
 use Rattle.ab_grammar.specs.Nesting.{limit}
 use Rattle.ab_grammar.proofs.Readers.{TypeSoFar}
 use Rattle.ab_syntax.specs.Reader.{rest}

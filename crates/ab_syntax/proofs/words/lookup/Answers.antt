@@ -1,4 +1,4 @@
-use Rattle.std.proofs.Common.{◌≡◌, ℕ, List, Some, Bor, sym, ◌∙◌, ap, subst, get_or, bytes_eq, true, false}
+use Rattle.std.proofs.Common.{◌≡◌, Some, sym, ◌∙◌, ap, get_or, bytes_eq, true, false}
 use Rattle.ab_syntax.proofs.Lookup.{row_found, row_passed}
 use Rattle.ab_syntax.proofs.words.lookup.Goals as goal
 
