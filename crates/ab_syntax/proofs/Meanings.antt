@@ -340,9 +340,25 @@ abbrev AlwaysSome : (List ℕ → ℕ → Token) → Type 0
 AlwaysSome f = (w : List ℕ) (p : ℕ) → IsSome (f w p)
 
 words_are_some : EachRow AlwaysSome reserved
-words_are_some =
-    (λ w p. tt, (λ w p. tt, (λ w p. tt, (λ w p. tt, (λ w p. tt, (λ w p. tt,
-    (λ w p. tt, (λ w p. tt, (λ w p. tt, (λ w p. tt, (λ w p. tt, tt)))))))))))
+words_are_some = (
+  λ w p. tt,
+  (
+    λ w p. tt,
+    (
+      λ w p. tt,
+      (
+        λ w p. tt,
+        (
+          λ w p. tt,
+          (
+            λ w p. tt,
+            (λ w p. tt, (λ w p. tt, (λ w p. tt, (λ w p. tt, (λ w p. tt, tt))))),
+          ),
+        ),
+      ),
+    ),
+  ),
+)
 
 word_is_some : (x : List ℕ) (p : ℕ) → IsSome (token_by lexed.Word x p)
 word_is_some x p = by_row (listed reserved x) refl

@@ -66,9 +66,11 @@ module _ {A : Type 0} (G : List Spot → A → Type 0) (t : Text) (bytes : List 
   told_no_command Syntax i h f said other place e =
       let r = said refl in
       let same : place ≡ place_in t r.0 = (let q = r.2 in cc) in
-      let many : min i (length t.tokens.now) ≡ min i (length (all_of t)) = ap (min i) (sym (length-map t.tokens.now (token_of t.bytes.now t.origin))) in
-      (min i (length (all_of t)), subst (λ (ks : List Token). SyntaxAt G ks (min i (length (all_of t)))) all_is h,
-        (r.0, subst (λ (n : ℕ). IsTold (tokens_in bytes ts) n r.0) many (subst (λ (ks : List Token). IsTold ks (min i (length t.tokens.now)) r.0) all_is r.1), same ∙ place_is r.0))
+      let many : min i (length t.tokens.now) ≡ min i (length (all_of t)) = ap (min i) (sym (length-map t.tokens.now (token_of t.bytes.now t.origin))) in (
+        min i (length (all_of t)),
+        subst (λ (ks : List Token). SyntaxAt G ks (min i (length (all_of t)))) all_is h,
+        (r.0, subst (λ (n : ℕ). IsTold (tokens_in bytes ts) n r.0) many (subst (λ (ks : List Token). IsTold ks (min i (length t.tokens.now)) r.0) all_is r.1), same ∙ place_is r.0),
+      )
   told_no_command TooNested i h f said other place e = let q : fault.TooNested (place_in t (blamed (all_of t) i)) ≡ fault.Syntax place = sym (other (λ z. absurd (cc))) ∙ e in absurd (cc)
   told_no_command (Memory m) i h f said other place e = let q : fault.Memory m ≡ fault.Syntax place = sym (other (λ z. absurd (cc))) ∙ e in absurd (cc)
 

@@ -65,7 +65,12 @@ fn opens_with_label(text: &Text<'_>) -> bool
     requires { IsText text.now }
     ensures { IsTrue result ↔ ((x : List ℕ) × ShowsLabel (first (rest text.now 0)) x) }
 {
-    matches!(opening_at(text, 0), Opening::Label)
+    match opening_at(text, 0) {
+        Opening::Label => true,
+        Opening::Plain(_head) => false,
+        Opening::Proof(_head) => false,
+        Opening::Nothing => false,
+    }
 }
 
 /// The fault that a stop of the reader of commands is, where this token is the next.

@@ -31,7 +31,11 @@ pub(crate) fn names(alloc: Global, text: &Text<'_>, here: &mut usize) -> Result<
 }
 
 /// Reads one name or more.
-pub(crate) fn some_names(alloc: Global, text: &Text<'_>, here: &mut usize) -> Result<Vec<Name>, Stop>
+pub(crate) fn some_names(
+    alloc: Global,
+    text: &Text<'_>,
+    here: &mut usize,
+) -> Result<Vec<Name>, Stop>
     requires { IsText text.now }
     ensures { Found (OneOrMore NameForm) BeforeStop (λ xs. xs.items) (rest text.now here.old) (rest text.now here.new) result }
 {
@@ -68,7 +72,11 @@ fn arguments(alloc: Global, text: &Text<'_>, here: &mut usize) -> Result<Vec<Arg
 }
 
 /// Reads `to a ..`, where that is there.
-fn optional_arguments(alloc: Global, text: &Text<'_>, here: &mut usize) -> Result<Vec<Argument>, Stop>
+fn optional_arguments(
+    alloc: Global,
+    text: &Text<'_>,
+    here: &mut usize,
+) -> Result<Vec<Argument>, Stop>
     requires { IsText text.now }
     ensures { Found (Optional [] Arguments) ArgumentsEnd (λ vs. map argument_of vs.items) (rest text.now here.old) (rest text.now here.new) result }
 {
@@ -79,7 +87,11 @@ fn optional_arguments(alloc: Global, text: &Text<'_>, here: &mut usize) -> Resul
 }
 
 /// Reads a name, and arguments where there are some.
-pub(crate) fn applied(alloc: Global, text: &Text<'_>, here: &mut usize) -> Result<(Name, Vec<Argument>), Stop>
+pub(crate) fn applied(
+    alloc: Global,
+    text: &Text<'_>,
+    here: &mut usize,
+) -> Result<(Name, Vec<Argument>), Stop>
     requires { IsText text.now }
     ensures { Found (NameForm ▹ Optional [] Arguments) ArgumentsEnd applied_of (rest text.now here.old) (rest text.now here.new) result }
 {
@@ -122,7 +134,11 @@ pub(crate) fn nominals(alloc: Global, text: &Text<'_>, here: &mut usize) -> Resu
 }
 
 /// Reads a name, where one is there.
-pub(crate) fn optional_name(alloc: Global, text: &Text<'_>, here: &mut usize) -> Result<Option<Name>, Stop>
+pub(crate) fn optional_name(
+    alloc: Global,
+    text: &Text<'_>,
+    here: &mut usize,
+) -> Result<Option<Name>, Stop>
     requires { IsText text.now }
     ensures { Found OptionalName BeforeStop (λ x. x) (rest text.now here.old) (rest text.now here.new) result }
 {

@@ -119,7 +119,11 @@ fn clauses(alloc: Global, text: &Text<'_>, here: &mut usize) -> Result<Vec<Claus
 }
 
 /// Reads the clauses of a definition, of which there may be none.
-fn optional_clauses(alloc: Global, text: &Text<'_>, here: &mut usize) -> Result<Vec<ClauseParse>, Stop>
+fn optional_clauses(
+    alloc: Global,
+    text: &Text<'_>,
+    here: &mut usize,
+) -> Result<Vec<ClauseParse>, Stop>
     requires { IsText text.now }
     ensures { Found (Optional [] Clauses) BeforeStop (λ cs. map clause_of cs.items) (rest text.now here.old) (rest text.now here.new) result }
 {
@@ -130,7 +134,11 @@ fn optional_clauses(alloc: Global, text: &Text<'_>, here: &mut usize) -> Result<
 }
 
 /// Reads what stands behind `Define` and `CoDefine`.
-pub(crate) fn definition(alloc: Global, text: &Text<'_>, here: &mut usize) -> Result<(Vec<Defined>, Vec<ClauseParse>), Stop>
+pub(crate) fn definition(
+    alloc: Global,
+    text: &Text<'_>,
+    here: &mut usize,
+) -> Result<(Vec<Defined>, Vec<ClauseParse>), Stop>
     requires { IsText text.now }
     ensures { Found Definition BeforeStop block_of (rest text.now here.old) (rest text.now here.new) result }
 {

@@ -33,12 +33,7 @@ pub(crate) fn join(
     ensures { IfOk result (λ r. tree_of r ≡ tree.joined sign (tree_of left) (tree_of right)) }
 {
     let place = place_of(&left);
-    Ok(Parse::Join(
-        sign,
-        Box::new(alloc, left)?,
-        Box::new(alloc, right)?,
-        place,
-    ))
+    Ok(Parse::Join(sign, Box::new(alloc, left)?, Box::new(alloc, right)?, place))
 }
 
 /// A head with its arguments and one more.
@@ -53,11 +48,7 @@ pub(crate) fn apply(
     let place = place_of(&head);
     let mut args = args;
     args.push(last)?;
-    Ok(Parse::Apply(
-        Box::new(alloc, head)?,
-        Items::from_vec(args),
-        place,
-    ))
+    Ok(Parse::Apply(Box::new(alloc, head)?, Items::from_vec(args), place))
 }
 
 /// `pi` applied to an abstraction.
@@ -67,11 +58,7 @@ pub(crate) fn pi(alloc: Global, place: usize, body: Parse) -> Result<Parse, Allo
     let head = Parse::Name(Name::from_text(alloc, "pi")?, place);
     let mut args = Vec::new(alloc);
     args.push(body)?;
-    Ok(Parse::Apply(
-        Box::new(alloc, head)?,
-        Items::from_vec(args),
-        place,
-    ))
+    Ok(Parse::Apply(Box::new(alloc, head)?, Items::from_vec(args), place))
 }
 
 /// `name\ body`
@@ -125,10 +112,5 @@ pub(crate) fn judge(
     ensures { IfOk result (λ r. tree_of r ≡ tree.judgement (map tree_of items.items) (option_map tree_of focus) (tree_of goal) place) }
 {
     let focus = boxed(alloc, focus)?;
-    Ok(Parse::Judge(
-        Items::from_vec(items),
-        focus,
-        Box::new(alloc, goal)?,
-        place,
-    ))
+    Ok(Parse::Judge(Items::from_vec(items), focus, Box::new(alloc, goal)?, place))
 }

@@ -15,8 +15,14 @@ fn command(alloc: Global, text: &str) -> Result<String, Fail> {
 
 /// A command of each form that is no proof command.
 const COMMANDS: [(&str, &str); 16] = [
-    ("Kind a, b' type.", r#"Ok(Kind(Items { items: ["a", "b'"] }))"#),
-    ("Type c a -> o.", r#"Ok(Typed(Items { items: ["c"] }, Arrow(Base("a", 7), Base("o", 12))))"#),
+    (
+        "Kind a, b' type.",
+        r#"Ok(Kind(Items { items: ["a", "b'"] }))"#,
+    ),
+    (
+        "Type c a -> o.",
+        r#"Ok(Typed(Items { items: ["c"] }, Arrow(Base("a", 7), Base("o", 12))))"#,
+    ),
     (
         "Define p : o by.",
         r#"Ok(Define(true, Items { items: [Defined { name: "p", ty: Base("o", 11) }] }, Items { items: [] }))"#,
@@ -25,8 +31,14 @@ const COMMANDS: [(&str, &str); 16] = [
         "CoDefine p : o, q : o by p := q; (q).",
         r#"Ok(Define(false, Items { items: [Defined { name: "p", ty: Base("o", 13) }, Defined { name: "q", ty: Base("o", 20) }] }, Items { items: [ClauseParse { head: Name("p", 25), body: Some(Name("q", 30)), place: 25 }, ClauseParse { head: Name("q", 34), body: None, place: 34 }] }))"#,
     ),
-    (" Theorem T : true.", r#"Ok(Theorem("T", Name("true", 12)))"#),
-    ("Specification \"a/b-c.d_1\".", r#"Ok(Specification("a/b-c.d_1"))"#),
+    (
+        " Theorem T : true.",
+        r#"Ok(Theorem("T", Name("true", 12)))"#,
+    ),
+    (
+        "Specification \"a/b-c.d_1\".",
+        r#"Ok(Specification("a/b-c.d_1"))"#,
+    ),
     ("Specification \"\".", r#"Ok(Specification(""))"#),
     ("Show n1.", r#"Ok(Show("n1"))"#),
     ("Quit.", "Ok(Quit)"),
@@ -36,32 +48,51 @@ const COMMANDS: [(&str, &str); 16] = [
     ("#reset .", "Ok(Reset)"),
     ("undo.", "Ok(Undo)"),
     ("abort.", "Ok(Abort)"),
-    ("% none\nQuit /* now */ .", "Ok(Quit)"),];
+    ("% none\nQuit /* now */ .", "Ok(Quit)"),
+];
 
 /// A proof command of each form.
 const PROOF_COMMANDS: [(&str, &str); 31] = [
     ("intros.", "Ok(InProof(None, Intros(Items { items: [] })))"),
-    ("intros A b.", r#"Ok(InProof(None, Intros(Items { items: ["A", "b"] })))"#),
+    (
+        "intros A b.",
+        r#"Ok(InProof(None, Intros(Items { items: ["A", "b"] })))"#,
+    ),
     ("induction on 007.", "Ok(InProof(None, Induction(7)))"),
     ("C : coinduction.", r#"Ok(InProof(Some("C"), Coinduction))"#),
     ("case H.", r#"Ok(InProof(None, Case("H", false)))"#),
-    ("H : case H ( keep ).", r#"Ok(InProof(Some("H"), Case("H", true)))"#),
-    ("apply H.", r#"Ok(InProof(None, Apply("H", Items { items: [] }, Items { items: [] })))"#),
+    (
+        "H : case H ( keep ).",
+        r#"Ok(InProof(Some("H"), Case("H", true)))"#,
+    ),
+    (
+        "apply H.",
+        r#"Ok(InProof(None, Apply("H", Items { items: [] }, Items { items: [] })))"#,
+    ),
     (
         "apply H to A _ with X = a, Y = b.",
         r#"Ok(InProof(None, Apply("H", Items { items: [Named("A"), Hole] }, Items { items: [Instance { name: "X", term: Name("a", 24) }, Instance { name: "Y", term: Name("b", 31) }] })))"#,
     ),
-    ("backchain H.", r#"Ok(InProof(None, Backchain("H", Items { items: [] })))"#),
+    (
+        "backchain H.",
+        r#"Ok(InProof(None, Backchain("H", Items { items: [] })))"#,
+    ),
     (
         "backchain H with X = a.",
         r#"Ok(InProof(None, Backchain("H", Items { items: [Instance { name: "X", term: Name("a", 21) }] })))"#,
     ),
-    ("H : cut A with B.", r#"Ok(InProof(Some("H"), Cut("A", "B")))"#),
+    (
+        "H : cut A with B.",
+        r#"Ok(InProof(Some("H"), Cut("A", "B")))"#,
+    ),
     (
         "inst A with n1 = a.",
         r#"Ok(InProof(None, Inst("A", Items { items: [Instance { name: "n1", term: Name("a", 17) }] })))"#,
     ),
-    ("monotone A with t.", r#"Ok(InProof(None, Monotone("A", Name("t", 16))))"#),
+    (
+        "monotone A with t.",
+        r#"Ok(InProof(None, Monotone("A", Name("t", 16))))"#,
+    ),
     ("search.", "Ok(InProof(None, Search(5)))"),
     ("search 0.", "Ok(InProof(None, Search(0)))"),
     ("search 1000.", "Ok(InProof(None, Search(1000)))"),
@@ -72,14 +103,36 @@ const PROOF_COMMANDS: [(&str, &str); 31] = [
     ("exists a.", r#"Ok(InProof(None, Exists(Name("a", 7))))"#),
     ("witness a.", r#"Ok(InProof(None, Exists(Name("a", 8))))"#),
     ("unfold.", "Ok(InProof(None, Unfold))"),
-    ("_ : assert a.", r#"Ok(InProof(Some("_"), Assert(Name("a", 11))))"#),
-    ("clear A B.", r#"Ok(InProof(None, Clear(Items { items: ["A", "B"] })))"#),
+    (
+        "_ : assert a.",
+        r#"Ok(InProof(Some("_"), Assert(Name("a", 11))))"#,
+    ),
+    (
+        "clear A B.",
+        r#"Ok(InProof(None, Clear(Items { items: ["A", "B"] })))"#,
+    ),
     ("rename A to B.", r#"Ok(InProof(None, Rename("A", "B")))"#),
-    ("permute (n1 n20).", "Ok(InProof(None, Permute(Items { items: [1, 20] }, None)))"),
-    ("permute (n999999999) H.", r#"Ok(InProof(None, Permute(Items { items: [999999999] }, Some("H"))))"#),
-    ("n0 : induction on 0.", r#"Ok(InProof(Some("n0"), Induction(0)))"#),
-    ("H : monotone A with t.", r#"Ok(InProof(Some("H"), Monotone("A", Name("t", 20))))"#),
-    ("H : inst A with X = t.", r#"Ok(InProof(Some("H"), Inst("A", Items { items: [Instance { name: "X", term: Name("t", 20) }] })))"#),];
+    (
+        "permute (n1 n20).",
+        "Ok(InProof(None, Permute(Items { items: [1, 20] }, None)))",
+    ),
+    (
+        "permute (n999999999) H.",
+        r#"Ok(InProof(None, Permute(Items { items: [999999999] }, Some("H"))))"#,
+    ),
+    (
+        "n0 : induction on 0.",
+        r#"Ok(InProof(Some("n0"), Induction(0)))"#,
+    ),
+    (
+        "H : monotone A with t.",
+        r#"Ok(InProof(Some("H"), Monotone("A", Name("t", 20))))"#,
+    ),
+    (
+        "H : inst A with X = t.",
+        r#"Ok(InProof(Some("H"), Inst("A", Items { items: [Instance { name: "X", term: Name("t", 20) }] })))"#,
+    ),
+];
 
 /// Where a command goes wrong.
 const FAULTS: [(&str, &str); 31] = [
@@ -97,8 +150,14 @@ const FAULTS: [(&str, &str); 31] = [
     ("Kind Nat type.", "Err(Syntax(5))"),
     ("Kind n1 type.", "Err(Syntax(5))"),
     ("Kind _ type.", "Err(Syntax(5))"),
-    ("Type c n12 -> _.", "Ok(Typed(Items { items: [\"c\"] }, Arrow(Base(\"n12\", 7), Base(\"_\", 14))))"),
-    ("Kind n01, n1234567890 type.", "Ok(Kind(Items { items: [\"n01\", \"n1234567890\"] }))"),
+    (
+        "Type c n12 -> _.",
+        "Ok(Typed(Items { items: [\"c\"] }, Arrow(Base(\"n12\", 7), Base(\"_\", 14))))",
+    ),
+    (
+        "Kind n01, n1234567890 type.",
+        "Ok(Kind(Items { items: [\"n01\", \"n1234567890\"] }))",
+    ),
     ("Define p : o by p := q := r.", "Err(Syntax(23))"),
     ("Define p : o by p;.", "Err(Syntax(18))"),
     ("Specification name.", "Err(Syntax(14))"),
@@ -113,14 +172,18 @@ const FAULTS: [(&str, &str); 31] = [
     ("search 0000000005.", "Err(Syntax(7))"),
     ("induction on 1234567890.", "Err(Syntax(13))"),
     ("permute (n0).", "Err(Syntax(9))"),
-    ("case H (kept).", "Err(Syntax(8))"),];
+    ("case H (kept).", "Err(Syntax(8))"),
+];
 
 /// Forms with blanks between their tokens. Cut behind each token, with a full stop there, it is a command (`+`), or refused
 /// at that stop (`-`), or at its first token (`0`).
 const CUTS: [(&str, &str); 30] = [
     ("Kind a , b type", "----+"),
     ("Type a , b o -> o", "----+-+"),
-    ("Define p : o -> o , q : o by p := q ; q", "----------++-+-+"),
+    (
+        "Define p : o -> o , q : o by p := q ; q",
+        "----------++-+-+",
+    ),
     ("CoDefine p : o by p ; q := p", "----++-+-+"),
     ("Theorem t : a = b", "---+-+"),
     ("Specification \"a\"", "-+"),
@@ -147,7 +210,8 @@ const CUTS: [(&str, &str); 30] = [
     ("assert { a |- b }", "-----+"),
     ("clear A B", "-++"),
     ("rename A to B", "---+"),
-    ("permute ( n1 n2 ) H", "----++"),];
+    ("permute ( n1 n2 ) H", "----++"),
+];
 
 /// How a text with a full stop behind it is answered, in one sign of `CUTS`.
 fn answer(alloc: Global, front: &str) -> Result<&'static str, Fail> {
@@ -176,7 +240,8 @@ fn answers(alloc: Global, form: &str) -> Result<String, Fail> {
 
 /// The words that are no names.
 const RESERVED: [&str; 11] = [
-    "forall", "exists", "nabla", "true", "false", "pi", "by", "to", "with", "on", "type",];
+    "forall", "exists", "nabla", "true", "false", "pi", "by", "to", "with", "on", "type",
+];
 
 /// What stands before and behind a name.
 const NAMES: [(&str, &str); 23] = [
@@ -202,7 +267,8 @@ const NAMES: [(&str, &str); 23] = [
     ("clear ", "."),
     ("rename ", " to w."),
     ("rename H to ", "."),
-    ("permute (n1) ", "."),];
+    ("permute (n1) ", "."),
+];
 
 /// Whether the word in this place is refused there.
 fn is_refused(alloc: Global, before: &str, word: &str, behind: &str) -> Result<bool, Fail> {
@@ -251,7 +317,10 @@ fn refuses_forms_that_are_cut_short(rt: HostRuntime) -> Result<(), Fail> {
 fn refuses_reserved_words_as_names(rt: HostRuntime) -> Result<(), Fail> {
     for (before, behind) in NAMES {
         for word in RESERVED {
-            assert!(rt; is_refused(rt.alloc(), before, word, behind)?, "{before}{word}{behind}");
+            assert!(rt;
+                is_refused(rt.alloc(), before, word, behind)?,
+                "{before}{word}{behind}"
+            );
         }
     }
     Ok(())
@@ -275,9 +344,15 @@ fn nested(alloc: Global, count: usize) -> Result<String, Fail> {
 fn refuses_what_is_nested_too_deeply(rt: HostRuntime) -> Result<(), Fail> {
     let alloc = rt.alloc();
     let shallow = nested(alloc, 200)?;
-    assert_eq!(rt; command(alloc, shallow.as_str())?.as_str(), r#"Ok(Theorem("x", Name("true", 212)))"#);
+    assert_eq!(rt;
+        command(alloc, shallow.as_str())?.as_str(),
+        r#"Ok(Theorem("x", Name("true", 212)))"#
+    );
     let deep = nested(alloc, 201)?;
-    assert_eq!(rt; command(alloc, deep.as_str())?.as_str(), "Err(TooNested(212))");
+    assert_eq!(rt;
+        command(alloc, deep.as_str())?.as_str(),
+        "Err(TooNested(212))"
+    );
     Ok(())
 }
 
@@ -294,7 +369,8 @@ const STANDS: [(&str, Option<Stand>); 12] = [
     ("H : x", Some(Stand::Inside)),
     ("H", None),
     ("Query : x", None),
-    ("true : x", None),];
+    ("true : x", None),
+];
 
 #[test]
 fn knows_where_a_command_stands(rt: HostRuntime) -> Result<(), Fail> {
@@ -303,5 +379,21 @@ fn knows_where_a_command_stands(rt: HostRuntime) -> Result<(), Fail> {
         let tokens = tokens(rt.alloc(), bytes)?;
         assert_eq!(rt; stand_of(bytes, tokens.as_slice()), wanted, "{text}");
     }
+    Ok(())
+}
+
+/// A block of so many clauses.
+#[test]
+fn reads_many_clauses(rt: HostRuntime) -> Result<(), Fail> {
+    let alloc = rt.alloc();
+    let mut text = String::from_str(alloc, "Define p : o by p")?;
+    for _ in 0..100_000 {
+        text.push_str(";p")?;
+    }
+    text.push_str(".")?;
+    let bytes = text.as_str().as_bytes();
+    let tokens = tokens(alloc, bytes)?;
+    let command = parse_command(alloc, bytes, tokens.as_slice());
+    assert!(rt; command.is_ok());
     Ok(())
 }

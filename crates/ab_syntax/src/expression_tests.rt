@@ -23,32 +23,83 @@ fn ty(alloc: Global, text: &str) -> Result<String, Fail> {
 
 /// Operands and signs: how each level groups, and what binds tighter.
 const SIGNS: [(&str, &str); 10] = [
-    ("a->b->c", r#"Ok(Join(Arrow, Name("a", 0), Join(Arrow, Name("b", 3), Name("c", 6), 3), 0))"#),
-    (r"a\/b\/c", r#"Ok(Join(Or, Join(Or, Name("a", 0), Name("b", 3), 0), Name("c", 6), 0))"#),
-    (r"a/\b/\c", r#"Ok(Join(And, Join(And, Name("a", 0), Name("b", 3), 0), Name("c", 6), 0))"#),
+    (
+        "a->b->c",
+        r#"Ok(Join(Arrow, Name("a", 0), Join(Arrow, Name("b", 3), Name("c", 6), 3), 0))"#,
+    ),
+    (
+        r"a\/b\/c",
+        r#"Ok(Join(Or, Join(Or, Name("a", 0), Name("b", 3), 0), Name("c", 6), 0))"#,
+    ),
+    (
+        r"a/\b/\c",
+        r#"Ok(Join(And, Join(And, Name("a", 0), Name("b", 3), 0), Name("c", 6), 0))"#,
+    ),
     ("a=b=c", "Err(Syntax(3))"),
-    ("a=>b=>c", r#"Ok(Join(Imply, Name("a", 0), Join(Imply, Name("b", 3), Name("c", 6), 3), 0))"#),
-    ("a&b&c", r#"Ok(Join(With, Join(With, Name("a", 0), Name("b", 2), 0), Name("c", 4), 0))"#),
-    ("a::b::c", r#"Ok(Join(Cons, Name("a", 0), Join(Cons, Name("b", 3), Name("c", 6), 3), 0))"#),
-    (r"a\/b/\c=d", r#"Ok(Join(Or, Name("a", 0), Join(And, Name("b", 3), Join(Equal, Name("c", 6), Name("d", 8), 6), 3), 0))"#),
-    ("a=>b&c::f d", r#"Ok(Join(Imply, Name("a", 0), Join(With, Name("b", 3), Join(Cons, Name("c", 5), Apply(Name("f", 8), Items { items: [Name("d", 10)] }, 8), 5), 3), 0))"#),
-    ("(a->b)->c", r#"Ok(Join(Arrow, Join(Arrow, Name("a", 1), Name("b", 4), 1), Name("c", 8), 1))"#),
+    (
+        "a=>b=>c",
+        r#"Ok(Join(Imply, Name("a", 0), Join(Imply, Name("b", 3), Name("c", 6), 3), 0))"#,
+    ),
+    (
+        "a&b&c",
+        r#"Ok(Join(With, Join(With, Name("a", 0), Name("b", 2), 0), Name("c", 4), 0))"#,
+    ),
+    (
+        "a::b::c",
+        r#"Ok(Join(Cons, Name("a", 0), Join(Cons, Name("b", 3), Name("c", 6), 3), 0))"#,
+    ),
+    (
+        r"a\/b/\c=d",
+        r#"Ok(Join(Or, Name("a", 0), Join(And, Name("b", 3), Join(Equal, Name("c", 6), Name("d", 8), 6), 3), 0))"#,
+    ),
+    (
+        "a=>b&c::f d",
+        r#"Ok(Join(Imply, Name("a", 0), Join(With, Name("b", 3), Join(Cons, Name("c", 5), Apply(Name("f", 8), Items { items: [Name("d", 10)] }, 8), 5), 3), 0))"#,
+    ),
+    (
+        "(a->b)->c",
+        r#"Ok(Join(Arrow, Join(Arrow, Name("a", 1), Name("b", 4), 1), Name("c", 8), 1))"#,
+    ),
 ];
 
 /// Abstractions, quantifiers, `pi` and judgements.
 const FORMS: [(&str, &str); 9] = [
-    (r"a\/x\b/\c", r#"Ok(Join(Or, Name("a", 0), Abs("x", Join(And, Name("b", 5), Name("c", 8), 5), 3), 0))"#),
+    (
+        r"a\/x\b/\c",
+        r#"Ok(Join(Or, Name("a", 0), Abs("x", Join(And, Name("b", 5), Name("c", 8), 5), 3), 0))"#,
+    ),
     (
         "nabla x (y:s->o),true",
         r#"Ok(Bind(Nabla, Items { items: [Binder { name: "x", ty: None, place: 6 }, Binder { name: "y", ty: Some(Arrow(Base("s", 11), Base("o", 14))), place: 9 }] }, Name("true", 17), 0))"#,
     ),
-    (r"pi x\p x", r#"Ok(Apply(Name("pi", 0), Items { items: [Abs("x", Apply(Name("p", 5), Items { items: [Name("x", 7)] }, 5), 3)] }, 0))"#),
-    (r"pi((x\p))->q", r#"Ok(Join(Arrow, Apply(Name("pi", 0), Items { items: [Abs("x", Name("p", 6), 4)] }, 0), Name("q", 11), 0))"#),
-    (r"f a x\x", r#"Ok(Apply(Name("f", 0), Items { items: [Name("a", 2), Abs("x", Name("x", 6), 4)] }, 0))"#),
-    ("{g}", r#"Ok(Judge(Items { items: [] }, None, Name("g", 1), 0))"#),
-    ("{L,a|-g}", r#"Ok(Judge(Items { items: [Name("L", 1), Name("a", 3)] }, None, Name("g", 6), 0))"#),
-    ("{[f]|-g}", r#"Ok(Judge(Items { items: [] }, Some(Name("f", 2)), Name("g", 6), 0))"#),
-    ("{L,[f]|-g}", r#"Ok(Judge(Items { items: [Name("L", 1)] }, Some(Name("f", 4)), Name("g", 8), 0))"#),
+    (
+        r"pi x\p x",
+        r#"Ok(Apply(Name("pi", 0), Items { items: [Abs("x", Apply(Name("p", 5), Items { items: [Name("x", 7)] }, 5), 3)] }, 0))"#,
+    ),
+    (
+        r"pi((x\p))->q",
+        r#"Ok(Join(Arrow, Apply(Name("pi", 0), Items { items: [Abs("x", Name("p", 6), 4)] }, 0), Name("q", 11), 0))"#,
+    ),
+    (
+        r"f a x\x",
+        r#"Ok(Apply(Name("f", 0), Items { items: [Name("a", 2), Abs("x", Name("x", 6), 4)] }, 0))"#,
+    ),
+    (
+        "{g}",
+        r#"Ok(Judge(Items { items: [] }, None, Name("g", 1), 0))"#,
+    ),
+    (
+        "{L,a|-g}",
+        r#"Ok(Judge(Items { items: [Name("L", 1), Name("a", 3)] }, None, Name("g", 6), 0))"#,
+    ),
+    (
+        "{[f]|-g}",
+        r#"Ok(Judge(Items { items: [] }, Some(Name("f", 2)), Name("g", 6), 0))"#,
+    ),
+    (
+        "{L,[f]|-g}",
+        r#"Ok(Judge(Items { items: [Name("L", 1)] }, Some(Name("f", 4)), Name("g", 8), 0))"#,
+    ),
 ];
 
 /// Where a text goes wrong: at the first token that no text goes on with.
@@ -69,8 +120,14 @@ const FAULTS: [(&str, &str); 13] = [
 ];
 
 const TYPES: [(&str, &str); 5] = [
-    ("a->b->c", r#"Ok(Arrow(Base("a", 0), Arrow(Base("b", 3), Base("c", 6))))"#),
-    ("(a->b)->c", r#"Ok(Arrow(Arrow(Base("a", 1), Base("b", 4)), Base("c", 8)))"#),
+    (
+        "a->b->c",
+        r#"Ok(Arrow(Base("a", 0), Arrow(Base("b", 3), Base("c", 6))))"#,
+    ),
+    (
+        "(a->b)->c",
+        r#"Ok(Arrow(Arrow(Base("a", 1), Base("b", 4)), Base("c", 8)))"#,
+    ),
     ("a b", "Err(Syntax(2))"),
     ("a->(b", "Err(Syntax(5))"),
     ("a->b)", "Err(Syntax(4))"),

@@ -111,7 +111,11 @@ fn command_form(alloc: Global, text: &Text<'_>, here: &mut usize) -> Result<Comm
 }
 
 /// Reads a command, its full stop included.
-pub(crate) fn read_command(alloc: Global, text: &Text<'_>, here: &mut usize) -> Result<Command, Stop>
+pub(crate) fn read_command(
+    alloc: Global,
+    text: &Text<'_>,
+    here: &mut usize,
+) -> Result<Command, Stop>
     requires { IsText text.now }
     ensures { Found CommandText Followed command_of (rest text.now here.old) (rest text.now here.new) result }
 {

@@ -209,11 +209,7 @@ pub(crate) fn pop(
 }
 
 /// The expression up to the innermost bracket.
-pub(crate) fn shut(
-    alloc: Global,
-    last: Parse,
-    frames: Vec<Frame>,
-) -> Result<Inside, AllocError>
+pub(crate) fn shut(alloc: Global, last: Parse, frames: Vec<Frame>) -> Result<Inside, AllocError>
     ensures { IfOk result (λ r. shut_of r ≡ machine.shut (tree_of last) (frames_of frames)) }
 {
     let mut frames = frames;
@@ -270,11 +266,7 @@ fn with_args(
 }
 
 /// The frames where the argument behind a head, or behind another argument, is read.
-pub(crate) fn grow(
-    alloc: Global,
-    frames: Vec<Frame>,
-    last: Parse,
-) -> Result<Vec<Frame>, AllocError>
+pub(crate) fn grow(alloc: Global, frames: Vec<Frame>, last: Parse) -> Result<Vec<Frame>, AllocError>
     ensures { IfOk result (λ r. frames_of r ≡ machine.grow (frames_of frames) (tree_of last)) }
 {
     let mut frames = frames;

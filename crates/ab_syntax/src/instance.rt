@@ -35,7 +35,11 @@ fn comma_instance(alloc: Global, text: &Text<'_>, here: &mut usize) -> Result<In
 }
 
 /// Reads `X = e, .., X = e`.
-pub(crate) fn instance_list(alloc: Global, text: &Text<'_>, here: &mut usize) -> Result<Vec<Instance>, Stop>
+pub(crate) fn instance_list(
+    alloc: Global,
+    text: &Text<'_>,
+    here: &mut usize,
+) -> Result<Vec<Instance>, Stop>
     requires { IsText text.now }
     ensures { Found InstanceList BeforeStop (λ is. map instance_of is.items) (rest text.now here.old) (rest text.now here.new) result }
 {
@@ -58,7 +62,11 @@ fn instances(alloc: Global, text: &Text<'_>, here: &mut usize) -> Result<Vec<Ins
 }
 
 /// Reads `with X = e, .., X = e`, where that is there.
-pub(crate) fn optional_instances(alloc: Global, text: &Text<'_>, here: &mut usize) -> Result<Vec<Instance>, Stop>
+pub(crate) fn optional_instances(
+    alloc: Global,
+    text: &Text<'_>,
+    here: &mut usize,
+) -> Result<Vec<Instance>, Stop>
     requires { IsText text.now }
     ensures { Found (Optional [] Instances) BeforeStop (λ is. map instance_of is.items) (rest text.now here.old) (rest text.now here.new) result }
 {

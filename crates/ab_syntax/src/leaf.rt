@@ -60,11 +60,7 @@ fn is_declared(text: &Text<'_>, here: usize) -> bool
 }
 
 /// Takes the next token, if it is a word that may name a kind, a constant or a predicate.
-pub(crate) fn declared_name(
-    alloc: Global,
-    text: &Text<'_>,
-    here: &mut usize,
-) -> Result<Name, Stop>
+pub(crate) fn declared_name(alloc: Global, text: &Text<'_>, here: &mut usize) -> Result<Name, Stop>
     requires { IsText text.now }
     ensures { Found DeclaredName Anything (λ x. x) (rest text.now here.old) (rest text.now here.new) result }
 {
@@ -115,11 +111,7 @@ fn word_argument(alloc: Global, text: &Text<'_>, here: usize) -> Result<Argument
 }
 
 /// Takes the next token, if it is an argument of `apply`.
-pub(crate) fn argument(
-    alloc: Global,
-    text: &Text<'_>,
-    here: &mut usize,
-) -> Result<Argument, Stop>
+pub(crate) fn argument(alloc: Global, text: &Text<'_>, here: &mut usize) -> Result<Argument, Stop>
     requires { IsText text.now }
     ensures { Found (One ShowsArgument) Anything argument_of (rest text.now here.old) (rest text.now here.new) result }
 {

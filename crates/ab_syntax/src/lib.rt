@@ -43,6 +43,5 @@ pub use tree::{Binder, Parse, TypeParse};
 
 #[cfg(test)]
 mod command_tests;
-
 #[cfg(test)]
 mod expression_tests;

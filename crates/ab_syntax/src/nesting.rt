@@ -50,7 +50,11 @@ fn counted(layers: Layers) -> Layers
     ensures layers { layers_of result ≡ nest_by (layers_of layers) Grammatical.backslash }
     ensures measured { IsMeasured result }
 {
-    let Layers { inner, outer, depth } = layers;
+    let Layers {
+        inner,
+        outer,
+        depth,
+    } = layers;
     Layers {
         inner: Layer {
             count: inner.count + 1,
@@ -81,7 +85,11 @@ fn naming(layers: Layers, naming: bool) -> Layers
     ensures layers { layers_of result ≡ naming_in naming (layer_of layers.inner) ∷ stack layer_of layers.outer.items }
     ensures measured { IsMeasured result }
 {
-    let Layers { inner, outer, depth } = layers;
+    let Layers {
+        inner,
+        outer,
+        depth,
+    } = layers;
     Layers {
         inner: Layer {
             count: inner.count,

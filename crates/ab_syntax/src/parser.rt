@@ -10,8 +10,8 @@ ghost use Rattle.ab_syntax.specs.Faults.{fault_place, nested_place, IsCommandPla
 ghost use Rattle.ab_syntax.specs.Reader.{IsText};
 ghost use Rattle.ab_syntax.specs.Wholes.{all_of, Answers};
 
-use crate::command::Command;
 use crate::answer::{command_fault, fault};
+use crate::command::Command;
 use crate::expression::read_expression;
 use crate::fault::ParseFault;
 use crate::form::read_command;

@@ -32,11 +32,7 @@ pub(crate) fn name_and(
 }
 
 /// Reads `X =`.
-pub(crate) fn name_and_equal(
-    alloc: Global,
-    text: &Text<'_>,
-    here: &mut usize,
-) -> Result<Name, Stop>
+pub(crate) fn name_and_equal(alloc: Global, text: &Text<'_>, here: &mut usize) -> Result<Name, Stop>
     requires { IsText text.now }
     ensures { Found (NameForm ◂ Key (sign Equal)) Anything (λ x. x) (rest text.now here.old) (rest text.now here.new) result }
 {

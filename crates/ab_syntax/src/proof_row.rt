@@ -225,7 +225,12 @@ fn permute(alloc: Global, text: &Text<'_>, here: &mut usize) -> Result<ProofComm
 }
 
 /// Reads what stands behind the first token of a proof command.
-pub(crate) fn proof_row(alloc: Global, text: &Text<'_>, here: &mut usize, head: ProofHead) -> Result<ProofCommand, Stop>
+pub(crate) fn proof_row(
+    alloc: Global,
+    text: &Text<'_>,
+    here: &mut usize,
+    head: ProofHead,
+) -> Result<ProofCommand, Stop>
     requires { IsText text.now }
     ensures { Found (ProofRow head) BeforeStop proof_command_of (rest text.now here.old) (rest text.now here.new) result }
 {

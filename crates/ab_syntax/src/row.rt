@@ -113,7 +113,12 @@ fn set(text: &Text<'_>, here: &mut usize) -> Result<Command, Stop>
 }
 
 /// Reads what stands behind the first token of a command that is no proof command.
-pub(crate) fn row(alloc: Global, text: &Text<'_>, here: &mut usize, head: Head) -> Result<Command, Stop>
+pub(crate) fn row(
+    alloc: Global,
+    text: &Text<'_>,
+    here: &mut usize,
+    head: Head,
+) -> Result<Command, Stop>
     requires { IsText text.now }
     ensures { Found (Row head) BeforeStop command_of (rest text.now here.old) (rest text.now here.new) result }
 {

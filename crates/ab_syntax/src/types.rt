@@ -54,17 +54,11 @@ struct TypeInside {
 fn arrow(alloc: Global, left: TypeParse, right: TypeParse) -> Result<TypeParse, AllocError>
     ensures { IfOk result (λ r. type_of r ≡ tree.arrow (type_of left) (type_of right)) }
 {
-    Ok(TypeParse::Arrow(
-        Box::new(alloc, left)?,
-        Box::new(alloc, right)?,
-    ))
+    Ok(TypeParse::Arrow(Box::new(alloc, left)?, Box::new(alloc, right)?))
 }
 
 /// The frames with one more.
-fn with_type_frame(
-    frames: Vec<TypeFrame>,
-    frame: TypeFrame,
-) -> Result<Vec<TypeFrame>, AllocError>
+fn with_type_frame(frames: Vec<TypeFrame>, frame: TypeFrame) -> Result<Vec<TypeFrame>, AllocError>
     ensures { IfOk result (λ r. type_frames_of r ≡ type_frame_of frame ∷ type_frames_of frames) }
 {
     let mut frames = frames;
