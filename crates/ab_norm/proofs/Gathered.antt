@@ -1,6 +1,6 @@
 -- What is in an ordered set of nominal constants, and what a walk through terms puts into it.
-use Rattle.std.proofs.Common.{◌≡◌, ◌≢◌, ◌⊎◌, inl, inr, ◌↔◌, ℕ, zero, suc, ◌+◌, ◌<◌, ◌≤◌, List, [], ◌∷◌, ◌++◌, map, take, length, get_or, Contains, AllPairs, refl, sym, ◌∙◌, ap, subst, arith, append_assoc, append-nil, Bool, true, false, cond, nat_lt, ◌==◌, Decides, Result, Ok, Err, OnOk, Ordering, Less, Equal, Greater}
-use Rattle.std.specs.List.{All, AllByRecursion}
+use Rattle.std.proofs.Common.{◌≡◌, ◌≢◌, ◌⊎◌, inl, inr, ◌↔◌, ℕ, ◌+◌, ◌<◌, ◌≤◌, List, [], ◌∷◌, ◌++◌, map, take, length, get_or, Contains, AllPairs, refl, sym, ◌∙◌, ap, subst, arith, append_assoc, append-nil, Bool, true, false, cond, nat_lt, ◌==◌, Decides, Result, Ok, Err, OnOk, Ordering, Less, Equal, Greater}
+use Rattle.std.specs.List.{All}
 use Rattle.std.specs.List.Sorted.{IsStrictlySortedBy}
 use Rattle.std.specs.BTreeSet.{insert_key}
 use Rattle.std.specs.Ordering.{match_ordering, ordering_then, nat_cmp}

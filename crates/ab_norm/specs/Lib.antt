@@ -2,6 +2,7 @@
 -- leaves of a store, `Trees` and `Nominals` what the program's own trees and constants stand for; the others serve
 -- private contracts.
 pub mod Growth
+pub mod Items
 pub mod Trees
 pub mod Nominals
 pub mod Matching

@@ -1,4 +1,5 @@
 //! Terms as trees of their own.
+use crate::items::Items;
 use ab_store::Head;
 use ab_types::{Name, TypeId};
 
@@ -8,5 +9,5 @@ pub enum Tree {
     /// An abstraction over a type, with the hint of its binder and its body.
     Lam(TypeId, Name, Box<Tree>),
     /// A head with the arguments that it is given.
-    Spine(Head, Vec<Tree>),
+    Spine(Head, Items<Tree>),
 }

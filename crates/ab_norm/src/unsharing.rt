@@ -5,6 +5,7 @@ ghost use Rattle.ab_store.specs.Reading as terms;
 ghost use Rattle.ab_store.specs.Reading.{Holds};
 ghost use Rattle.ab_norm.specs.Trees.{tree_reading};
 
+use crate::items::Items;
 use crate::tree::Tree;
 use ab_store::{Node, Store, TermId};
 use ab_types::TypeTable;
@@ -36,7 +37,8 @@ fn unfold(alloc: Global, store: &Store, id: TermId) -> Result<Tree, AllocError>
             Ok(Tree::Lam(*ty, hint, Box::new(alloc, body)?))
         }
         Node::Spine(head, args) => {
-            Ok(Tree::Spine(*head, unfold_all(alloc, store, args.as_slice())?))
+            let trees = unfold_all(alloc, store, args.as_slice())?;
+            Ok(Tree::Spine(*head, Items::from_vec(trees)))
         }
     }
 }

@@ -1,4 +1,4 @@
-use Rattle.std.proofs.Common.{◌≡◌, ◌<◌, ◌≤◌, arith, sym, ◌∙◌, ap, subst, map, take, get_or}
+use Rattle.std.proofs.Common.{◌<◌, ◌≤◌, arith, subst, map, get_or}
 use Rattle.std.specs.List.{All}
 use Rattle.std.proofs.lemmas.List.{take_all}
 use Rattle.std.proofs.lemmas.List.Elements.{All-same}
@@ -10,7 +10,7 @@ use Rattle.ab_store.specs.declared.node.TermId.{TermId}
 use Rattle.ab_norm.specs.Gathering.{Gathers}
 use Rattle.ab_norm.proofs.Bounds.{ids_bound, bound_within, below_bound}
 use Rattle.ab_norm.proofs.Frame.{spine_names}
-use Rattle.ab_norm.proofs.Gathered.{gathers_none, gathers_lam, gathers_spine, gathers_more, on_ok}
+use Rattle.ab_norm.proofs.Gathered.{gathers_lam, gathers_spine, gathers_more, on_ok}
 use Rattle.ab_norm.proofs.supporting.+gathered.Goals as goal
 
 pub gather-gather_all-requires : goal.gather-gather_all-requires

@@ -1,4 +1,4 @@
-use Rattle.std.proofs.Common.{◌≡◌, ◌+◌, ◌*◌, map, take}
+use Rattle.std.proofs.Common.{◌+◌, ◌*◌, map, take}
 use Rattle.std.specs.List.{All}
 use Rattle.ab_term.specs.Names.{support_of_all}
 use Rattle.ab_term.specs.Terms.{terms_of}

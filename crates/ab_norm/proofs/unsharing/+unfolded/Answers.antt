@@ -1,9 +1,10 @@
-use Rattle.std.proofs.Common.{◌<◌, ◌≤◌, arith, get_or}
+use Rattle.std.proofs.Common.{map, ap, ◌∙◌, ◌<◌, ◌≤◌, arith, get_or}
 use Rattle.std.specs.List.{All}
 use Rattle.std.proofs.lemmas.List.Elements.{All-same}
 use Rattle.ab_store.specs.declared.node.TermId.{TermId}
 use Rattle.ab_norm.proofs.Bounds.{ids_bound, bound_within, below_bound}
 use Rattle.ab_norm.proofs.Frame.{spine_names}
+use Rattle.ab_norm.specs.Trees.{tree_reading}
 use Rattle.ab_norm.proofs.Unshared.{unshared}
 use Rattle.ab_norm.proofs.unsharing.+unfolded.Goals as goal
 
@@ -14,10 +15,10 @@ unfold-unfold_all-requires t c =
     let bound : ids_bound c.as_slice.result.now ≤ c.args.id.0 = bound_within c.args.id.0 _ here in
     (omega (arith, bound, c.decreases), λ k d l. omega (arith, here k d l, c.requires))
 
-pub unfold-returns-in_ok-unfold_all-in-Spine : goal.unfold-returns-in_ok-unfold_all-in-Spine
-unfold-returns-in_ok-unfold_all-in-Spine t c = λ types.
-    unshared types c.args.store.now c.args.id c.view.result.now c.in-Spine.head c.in_ok-unfold_all-in-Spine.field-0 c.in-Spine.args c.as_slice.result.now
-    (c.view.ensures.reads types) c.in-Spine.is c.as_slice.ensures (c.in_ok-unfold_all-in-Spine.ensures types)
+pub unfold-returns-in_ok-trees-in-Spine : goal.unfold-returns-in_ok-trees-in-Spine
+unfold-returns-in_ok-trees-in-Spine t c = λ types.
+    unshared types c.args.store.now c.args.id c.view.result.now c.in-Spine.head c.from_vec.result c.in-Spine.args c.as_slice.result.now
+    (c.view.ensures.reads types) c.in-Spine.is c.as_slice.ensures (ap (map (tree_reading types c.args.store.now)) c.from_vec.ensures ∙ c.in_ok-trees-in-Spine.ensures types)
 
 pub unfold_all-unfold-requires : goal.unfold_all-unfold-requires
 unfold_all-unfold-requires t c =
