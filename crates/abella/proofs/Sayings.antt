@@ -6,6 +6,7 @@ use Rattle.ab_lex.proofs.OneReading.{tokens_unique, fault_unique, fault_excludes
 use Rattle.ab_lex.proofs.Beginning.{one_beginning}
 use Rattle.ab_grammar.specs.declared.head.Stand.{Stand}
 use Rattle.ab_grammar.specs.declared.head.Stand.TheVariants.{Outside, Inside}
+use Rattle.ab_grammar.specs.Token.{Token as Term}
 use Rattle.ab_grammar.specs.Tree.{Tree, name}
 use Rattle.ab_grammar.specs.CommandTrees as tree
 use Rattle.ab_grammar.specs.CommandTable.{CommandText, StandsAt, standing}
