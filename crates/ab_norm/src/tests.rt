@@ -1,9 +1,9 @@
 ghost use Rattle.std.specs.Prelude.{IfOk};
 ghost use Rattle.ab_types.specs.Ids.{HoldsType, HoldsConstant};
-ghost use Rattle.ab_store.specs.Reading.{Holds};
+ghost use Rattle.ab_store.specs.Reading.{Contents, Holds};
 ghost use Rattle.ab_store.specs.Naming.{HoldsHead, HeadIsTyped, IsTypedBy};
 
-use crate::{equal, instantiate};
+use crate::{equal, equal_up_to_names, instantiate, permute};
 use ab_store::{Head, Store, TermId};
 use ab_types::{ConstId, Name, Steps, TableFault, TypeId, TypeTable};
 use std::alloc::{AllocError, Global};
@@ -242,5 +242,183 @@ fn redexes_that_arise_are_reduced(rt: HostRuntime) -> Result<(), TableFault> {
     let mut store = Store::new(rt.alloc());
     let same = reduces(rt.alloc(), &types, &mut store, symbols);
     assert!(rt; same == Ok(true));
+    Ok(())
+}
+
+/// `h (h x)` for the head, where `x` is the name that is bound last.
+fn twice(
+    alloc: Global,
+    types: &TypeTable,
+    store: &mut Store,
+    head: Head,
+) -> Result<TermId, AllocError>
+    requires store { IsTypedBy types.now store.old }
+    requires head { (any : Contents) → HoldsHead any head }
+    requires typed { HeadIsTyped types.now head }
+    ensures held { IfOk result (λ id. Holds store.new id) }
+    ensures ids { (t : TermId) → Holds store.old t → Holds store.new t }
+    ensures typed { IsTypedBy types.now store.new }
+{
+    let name = atom(alloc, types, store, Head::Index(0))?;
+    let inner = applied(alloc, types, store, head, name)?;
+    applied(alloc, types, store, head, inner)
+}
+
+/// `f\ x\ f (f x)`.
+fn name_twice(
+    alloc: Global,
+    types: &TypeTable,
+    store: &mut Store,
+    sorts: Sorts,
+) -> Result<TermId, AllocError>
+    requires store { IsTypedBy types.now store.old }
+    requires one { HoldsType types.now sorts.one }
+    requires unary { HoldsType types.now sorts.unary }
+    ensures held { IfOk result (λ id. Holds store.new id) }
+    ensures ids { (t : TermId) → Holds store.old t → Holds store.new t }
+    ensures typed { IsTypedBy types.now store.new }
+{
+    let body = twice(alloc, types, store, Head::Index(1))?;
+    let inner = under(alloc, types, store, sorts.one, body)?;
+    under(alloc, types, store, sorts.unary, inner)
+}
+
+/// `x\ s (s x)`.
+fn constant_twice(
+    alloc: Global,
+    types: &TypeTable,
+    store: &mut Store,
+    ty: TypeId,
+    s: ConstId,
+) -> Result<TermId, AllocError>
+    requires store { IsTypedBy types.now store.old }
+    requires ty { HoldsType types.now ty }
+    requires s { HoldsConstant types.now s }
+    ensures held { IfOk result (λ id. Holds store.new id) }
+    ensures ids { (t : TermId) → Holds store.old t → Holds store.new t }
+    ensures typed { IsTypedBy types.now store.new }
+{
+    let body = twice(alloc, types, store, Head::Const(s))?;
+    under(alloc, types, store, ty, body)
+}
+
+/// `x\ s x`.
+fn constant_once(
+    alloc: Global,
+    types: &TypeTable,
+    store: &mut Store,
+    ty: TypeId,
+    s: ConstId,
+) -> Result<TermId, AllocError>
+    requires store { IsTypedBy types.now store.old }
+    requires ty { HoldsType types.now ty }
+    requires s { HoldsConstant types.now s }
+    ensures held { IfOk result (λ id. Holds store.new id) }
+    ensures ids { (t : TermId) → Holds store.old t → Holds store.new t }
+    ensures typed { IsTypedBy types.now store.new }
+{
+    let name = atom(alloc, types, store, Head::Index(0))?;
+    let body = applied(alloc, types, store, Head::Const(s), name)?;
+    under(alloc, types, store, ty, body)
+}
+
+/// Whether `f\ x\ f (f x)` with `x\ s x` is `x\ s (s x)`.
+fn repeats(
+    alloc: Global,
+    types: &TypeTable,
+    store: &mut Store,
+    symbols: Symbols,
+) -> Result<bool, AllocError>
+    requires store { IsTypedBy types.now store.old }
+    requires one { HoldsType types.now symbols.sorts.one }
+    requires unary { HoldsType types.now symbols.sorts.unary }
+    requires s { HoldsConstant types.now symbols.s }
+{
+    let lam = name_twice(alloc, types, store, symbols.sorts)?;
+    let arg = constant_once(alloc, types, store, symbols.sorts.one, symbols.s)?;
+    let wanted = constant_twice(alloc, types, store, symbols.sorts.one, symbols.s)?;
+    gives(alloc, types, store, lam, arg, wanted)
+}
+
+/// Whether a permutation of nominal constants sends the first to the second, and does so.
+fn sends(
+    alloc: Global,
+    types: &TypeTable,
+    store: &mut Store,
+    a: TermId,
+    b: TermId,
+) -> Result<bool, AllocError>
+    requires store { IsTypedBy types.now store.old }
+    requires a { Holds store.old a }
+    requires b { Holds store.old b }
+{
+    match equal_up_to_names(alloc, types, store, a, b)? {
+        None => Ok(false),
+        Some(by) => {
+            let moved = permute(alloc, types, store, a, &by)?;
+            equal(alloc, types, store, moved, b)
+        }
+    }
+}
+
+/// Whether a permutation of nominal constants sends the first head to the second.
+fn sends_head(
+    alloc: Global,
+    types: &TypeTable,
+    store: &mut Store,
+    a: Head,
+    b: Head,
+) -> Result<bool, AllocError>
+    requires store { IsTypedBy types.now store.old }
+    requires a { (any : Contents) → HoldsHead any a }
+    requires a_typed { HeadIsTyped types.now a }
+    requires b { (any : Contents) → HoldsHead any b }
+    requires b_typed { HeadIsTyped types.now b }
+{
+    let first = atom(alloc, types, store, a)?;
+    let second = atom(alloc, types, store, b)?;
+    sends(alloc, types, store, first, second)
+}
+
+#[test]
+fn a_function_is_put_in_twice(rt: HostRuntime) -> Result<(), TableFault> {
+    let mut types = TypeTable::new(rt.alloc())?;
+    let symbols = new_symbols(rt.alloc(), &mut types)?;
+    let mut store = Store::new(rt.alloc());
+    let same = repeats(rt.alloc(), &types, &mut store, symbols);
+    assert!(rt; same == Ok(true));
+    Ok(())
+}
+
+#[test]
+fn a_permutation_sends_a_name_to_another(rt: HostRuntime) -> Result<(), TableFault> {
+    let mut types = TypeTable::new(rt.alloc())?;
+    let one = base(rt.alloc(), &mut types)?;
+    let mut store = Store::new(rt.alloc());
+    let (a, b) = (Head::Nominal(1, one), Head::Nominal(2, one));
+    let sent = sends_head(rt.alloc(), &types, &mut store, a, b);
+    assert!(rt; sent == Ok(true));
+    Ok(())
+}
+
+#[test]
+fn no_permutation_sends_a_constant_to_a_name(rt: HostRuntime) -> Result<(), TableFault> {
+    let mut types = TypeTable::new(rt.alloc())?;
+    let symbols = new_symbols(rt.alloc(), &mut types)?;
+    let mut store = Store::new(rt.alloc());
+    let (a, b) = (Head::Const(symbols.c), Head::Nominal(1, symbols.sorts.one));
+    let sent = sends_head(rt.alloc(), &types, &mut store, a, b);
+    assert!(rt; sent == Ok(false));
+    Ok(())
+}
+
+#[test]
+fn names_of_two_types_stay_apart(rt: HostRuntime) -> Result<(), TableFault> {
+    let mut types = TypeTable::new(rt.alloc())?;
+    let sorts = new_sorts(rt.alloc(), &mut types)?;
+    let mut store = Store::new(rt.alloc());
+    let (a, b) = (Head::Nominal(1, sorts.one), Head::Nominal(1, sorts.unary));
+    let sent = sends_head(rt.alloc(), &types, &mut store, a, b);
+    assert!(rt; sent == Ok(false));
     Ok(())
 }
