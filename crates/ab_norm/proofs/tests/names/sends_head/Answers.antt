@@ -1,4 +1,4 @@
-use Rattle.ab_norm.proofs.tests.sends_head.Goals as goal
+use Rattle.ab_norm.proofs.tests.names.sends_head.Goals as goal
 
 pub atom-requires-clause-head : goal.atom-requires-clause-head
 atom-requires-clause-head c = c.requires.a c.args.store.now

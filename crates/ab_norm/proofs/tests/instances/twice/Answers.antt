@@ -1,4 +1,4 @@
-use Rattle.ab_norm.proofs.tests.twice.Goals as goal
+use Rattle.ab_norm.proofs.tests.instances.twice.Goals as goal
 
 pub applied-requires-clause-head : goal.applied-requires-clause-head
 applied-requires-clause-head c = c.requires.head c.atom.new.store
