@@ -13,6 +13,8 @@ mod permuting;
 mod raising;
 mod substituting;
 mod supporting;
+#[cfg(test)]
+mod tests;
 mod tree;
 mod unsharing;
 
