@@ -14,7 +14,7 @@ use crate::leaf::{argument, is_argument, is_name, is_nominal, nominal_number};
 use crate::list::{add, one};
 use crate::stop::Stop;
 use crate::text::{Mark, Text, expect, is_next, name};
-use ab_types::Name;
+use ab_name::Name;
 use std::alloc::Global;
 
 /// Reads any number of names.

@@ -13,7 +13,7 @@ use crate::machine::{Machine, Next, State};
 use crate::piece::{Piece, is_right_paren};
 use crate::tree::{Binder, TypeParse};
 use crate::types::{TypeMachine, TypeNext, start_type, step_type};
-use ab_types::Name;
+use ab_name::Name;
 use std::alloc::{AllocError, Global};
 
 /// A quantifier with one more binder.

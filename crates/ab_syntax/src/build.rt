@@ -6,7 +6,7 @@ ghost use Rattle.ab_syntax.specs.Trees.{tree_of, binder_of};
 use crate::items::Items;
 use crate::tree::{Binder, Parse};
 use ab_grammar::{Infix, Quant};
-use ab_types::Name;
+use ab_name::Name;
 use std::alloc::{AllocError, Global};
 
 /// Where an expression begins, past parentheses.

@@ -1,7 +1,7 @@
 //! The trees of commands, as they are written.
 use crate::items::Items;
 use crate::tree::{Parse, TypeParse};
-use ab_types::Name;
+use ab_name::Name;
 
 /// A predicate that is defined, and its type.
 #[derive(Debug, Drop, PartialEq, Eq)]

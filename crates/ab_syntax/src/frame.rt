@@ -8,7 +8,7 @@ ghost use Rattle.ab_syntax.specs.Frames.{frame_of, frames_of, shut_of};
 use crate::build::{abstraction, apply, bind, join, pi};
 use crate::tree::{Binder, Parse};
 use ab_grammar::{Infix, Quant};
-use ab_types::Name;
+use ab_name::Name;
 use std::alloc::{AllocError, Global};
 
 /// The place of a judgement's brace, and the items of its context so far.

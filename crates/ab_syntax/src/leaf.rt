@@ -17,7 +17,7 @@ use crate::numbers::{is_declarable, nominal, value};
 use crate::stop::Stop;
 use crate::text::{Kind, Text, peek, word, written_at};
 use ab_grammar::Infix;
-use ab_types::Name;
+use ab_name::Name;
 use std::alloc::{AllocError, Global};
 
 /// Whether the next token is a word that isn't reserved.

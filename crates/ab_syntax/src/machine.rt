@@ -10,7 +10,7 @@ use crate::frame::{Bracket, Context, Frame, Prefix, with_frame};
 use crate::piece::Piece;
 use crate::tree::Parse;
 use crate::types::TypeMachine;
-use ab_types::Name;
+use ab_name::Name;
 use std::alloc::{AllocError, Global};
 
 /// What was read last, and what must come.

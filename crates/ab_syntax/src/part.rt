@@ -12,7 +12,7 @@ use crate::leaf::{declared_name, equal_sign};
 use crate::list::{add, one};
 use crate::stop::Stop;
 use crate::text::{Mark, Text, expect, is_next, name};
-use ab_types::Name;
+use ab_name::Name;
 use std::alloc::Global;
 
 /// Reads a name and a mark behind it.

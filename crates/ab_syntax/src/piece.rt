@@ -7,7 +7,7 @@ ghost use Rattle.ab_syntax.specs.Steps.{general, token_of_piece};
 
 use crate::text::{Kind, Mark, Text, peek, place, word};
 use ab_grammar::{Infix, Quant};
-use ab_types::Name;
+use ab_name::Name;
 use std::alloc::{AllocError, Global};
 
 /// A token, with its name and its place where a tree keeps them.

@@ -15,7 +15,7 @@ use crate::machine::{Machine, Next, State, start_argument, start_item, start_ope
 use crate::piece::Piece;
 use crate::tree::Parse;
 use ab_grammar::Infix;
-use ab_types::Name;
+use ab_name::Name;
 use std::alloc::{AllocError, Global};
 
 /// A token where an operand must come.

@@ -16,7 +16,7 @@ use crate::stop::Stop;
 use crate::words::lookup;
 use ab_grammar::{Infix, Quant};
 use ab_lex::{Token, TokenKind};
-use ab_types::Name;
+use ab_name::Name;
 use std::alloc::{AllocError, Global};
 
 /// The tokens of a text, and the bytes that they stand in. Places are counted from `origin`.

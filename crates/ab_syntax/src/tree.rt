@@ -4,7 +4,7 @@
 //! its first token that isn't an opening parenthesis.
 use crate::items::Items;
 use ab_grammar::{Infix, Quant};
-use ab_types::Name;
+use ab_name::Name;
 
 /// A type.
 #[derive(Debug, Drop, PartialEq, Eq)]

@@ -1,4 +1,4 @@
--- Names, and the table of kinds, constants and types: the list of its entries, in the order in which they came.
+-- The table of kinds, constants and types: the list of its entries, in the order in which they came.
 -- Types are those of `ab_term`; the numbers that stand for entries read as them.
 pub mod Entries
 pub mod Ids

@@ -7,7 +7,7 @@ ghost use Rattle.ab_types.specs.Builtin.{first_kinds as kinds_at_first, first_vi
 
 use crate::columns::Sort;
 use crate::ids::{KindId, TypeId, TypeView};
-use crate::name::Name;
+use ab_name::Name;
 use indexmap::{IndexMap, IndexSet};
 use std::alloc::{AllocError, Global};
 

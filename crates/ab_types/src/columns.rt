@@ -5,7 +5,7 @@ ghost use Rattle.ab_types.specs.Layout.{Fits, AddsRow};
 ghost use Rattle.indexmap.specs.IndexMap.{keys};
 
 use crate::ids::{TypeId, TypeView};
-use crate::name::Name;
+use ab_name::Name;
 use indexmap::{IndexMap, IndexSet};
 use std::alloc::{AllocError, Global};
 

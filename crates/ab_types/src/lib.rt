@@ -1,4 +1,4 @@
-//! What every layer speaks of first: names, and the table of kinds, constants and types.
+//! The table of kinds, constants and types, and counts of steps; with names, from the crate below.
 #![tactic(auto)]
 
 mod builtin;
@@ -6,15 +6,14 @@ mod columns;
 mod fault;
 mod ids;
 pub mod laws;
-mod name;
 mod steps;
 mod table;
 mod tally;
 #[cfg(test)]
 mod tests;
 
+pub use ab_name::Name;
 pub use fault::TableFault;
 pub use ids::{ConstId, KindId, TypeId, TypeView};
-pub use name::Name;
 pub use steps::Steps;
 pub use table::TypeTable;

@@ -16,10 +16,10 @@ ghost use Rattle.abella.specs.Built.{command_of, FailsBy};
 use crate::session::reply::Refusal;
 use ab_kernel::Prop;
 use ab_lex::{LexFault, Token, first_place, tokens};
+use ab_name::Name;
 use ab_syntax::{
     Command as Tree, Infix, Parse, ParseFault, ProofCommand, Stand, parse_command, stand_of,
 };
-use ab_types::Name;
 use std::alloc::{AllocError, Global};
 
 /// A command that is built.

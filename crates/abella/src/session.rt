@@ -10,7 +10,7 @@ pub mod reply;
 
 use crate::reading::{Command, Unread, read_command};
 use ab_kernel::{KernelFault, Proof, Prop, SearchFault, Step};
-use ab_types::Name;
+use ab_name::Name;
 use reply::{Refusal, Reply};
 use std::alloc::{AllocError, Global};
 

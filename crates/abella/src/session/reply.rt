@@ -2,7 +2,7 @@
 ghost use Rattle.std.specs.Prelude.{◌≡◌};
 ghost use Rattle.abella.specs.Report.{is_refusal};
 
-use ab_types::Name;
+use ab_name::Name;
 
 /// Why a command was refused.
 #[derive(Clone, Copy, Debug, PartialEq, Eq, Drop)]
