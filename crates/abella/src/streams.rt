@@ -6,6 +6,9 @@ ghost use Rattle.std.specs.Prelude.{◌≡◌};
 use ab_io::{Failed, Sink, Source, WriteFault};
 use std::io::{Read, Write};
 
+#[cfg(test)]
+mod tests;
+
 /// A reader of the system as a source. Each error of the reader is a fault.
 #[derive(Drop)]
 pub struct StdSource<R> {

@@ -1,9 +1,9 @@
 //! Whole runs over worked scripts, and over sources and sinks that fail.
-ghost use Rattle.std.specs.Prelude.{◌<◌};
+ghost use Rattle.std.specs.Prelude.{◌<◌, ◌≤◌, IsTrue};
+ghost use Rattle.ab_io.specs.Count.{Rose};
 
 use crate::running::run;
-use crate::streams::{StdSink, StdSource};
-use ab_io::{MemFiles, MemSink, MemSource, Sink, Source, WriteFault};
+use ab_io::{Failed, MemFiles, MemSink, MemSource, Sink, Source, WriteFault};
 use std::alloc::{AllocError, Global};
 use std::test::Fail;
 
@@ -153,6 +153,7 @@ fn outcome(
 fn reports_scripts_however_they_are_cut(rt: HostRuntime) -> Result<(), Fail> {
     for case in CASES.iter() {
         for piece in [1usize, 2, 65_536].iter() {
+            assert!(rt; *piece > 0);
             if *piece > 0 {
                 let (status, report) = outcome(rt.alloc(), case.script, *piece, &[], &[])?;
                 assert_eq!(rt; status, case.status);
@@ -291,6 +292,92 @@ fn ends_at_a_fault(rt: HostRuntime) -> Result<(), Fail> {
     Ok(())
 }
 
+/// A source and a sink that fail at their second call, and at no other, and count their calls.
+#[derive(Drop)]
+struct Counting {
+    calls: u64,
+    faults: u64,
+}
+
+impl Counting {
+    const NEW: Counting = Counting {
+        calls: 0,
+        faults: 0,
+    };
+
+    /// Counts a call, and says whether it fails.
+    fn fails_now(&mut self) -> bool
+        ensures counted { IsTrue result → Rose self.old.faults self.new.faults }
+        ensures never_falls { self.old.faults ≤ self.new.faults }
+    {
+        self.calls = self.calls.saturating_add(1);
+        if self.calls == 2 {
+            self.faults = self.faults.saturating_add(1);
+        }
+        self.calls == 2
+    }
+}
+
+impl Source for Counting {
+    ghost use Rattle.std.specs.Prelude.{None};
+
+    ghost left = { λ _. None };
+
+    ghost faults = { λ s. s.faults };
+
+    fn read(&mut self, into: &mut [u8]) -> Result<usize, Failed> {
+        if self.fails_now() {
+            return Err(Failed);
+        }
+        let piece = b"Theorem t : true /\\ true. split. ";
+        let count = piece.len().min(into.len());
+        into[..count].copy_from_slice(&piece[..count]);
+        Ok(count)
+    }
+}
+
+impl Sink for Counting {
+    ghost use Rattle.std.specs.Prelude.{None};
+
+    ghost written = { λ _. None };
+
+    ghost faults = { λ s. s.faults };
+
+    fn write(&mut self, piece: &[u8]) -> Result<usize, WriteFault> {
+        if self.fails_now() {
+            return Err(WriteFault::Failed);
+        }
+        Ok(piece.len())
+    }
+}
+
+/// What a run over these ends with.
+fn status_over<S: Source, O: Sink>(
+    alloc: Global,
+    input: &mut S,
+    out: &mut O,
+) -> Result<u8, AllocError> {
+    let mut files = MemFiles::new(alloc, Vec::new(alloc));
+    let mut words = Vec::new(alloc);
+    words.push(String::from_str(alloc, "abella")?)?;
+    Ok(run(alloc, &words, &mut files, input, out).status)
+}
+
+/// Behind a failed read nothing more is read, and behind a failed write nothing is read or written; the blocks of a
+/// piece go out before more is read.
+#[test]
+fn asks_for_nothing_behind_a_fault(rt: HostRuntime) -> Result<(), Fail> {
+    let mut input = Counting::NEW;
+    let mut out = MemSink::new(rt.alloc(), Vec::new(rt.alloc()));
+    assert_eq!(rt; status_over(rt.alloc(), &mut input, &mut out)?, 3);
+    assert_eq!(rt; input.calls, 2);
+    let mut input = Counting::NEW;
+    let mut out = Counting::NEW;
+    assert_eq!(rt; status_over(rt.alloc(), &mut input, &mut out)?, 4);
+    assert_eq!(rt; (input.calls, out.calls), (1, 2));
+    Ok(())
+}
+
 /// A sink that takes no byte, and counts each such write as a fault.
 #[derive(Drop)]
 struct FullSink {
@@ -317,12 +404,9 @@ fn takes_a_write_of_nothing_for_a_fault(rt: HostRuntime) -> Result<(), Fail> {
     let mut input = MemSource::new(script, 5, Vec::new(alloc));
     let mut files = MemFiles::new(alloc, Vec::new(alloc));
     let mut out = FullSink { faults: 0 };
+    assert_eq!(rt; status_over(alloc, &mut input, &mut out)?, 4);
     let mut words = Vec::new(alloc);
     words.push(String::from_str(alloc, "abella")?)?;
-    assert_eq!(rt;
-        run(alloc, &words, &mut files, &mut input, &mut out).status,
-        4
-    );
     words.push(String::from_str(alloc, "--nosuch")?)?;
     assert_eq!(rt;
         run(alloc, &words, &mut files, &mut input, &mut out).status,
@@ -336,16 +420,5 @@ fn takes_a_write_of_nothing_for_a_fault(rt: HostRuntime) -> Result<(), Fail> {
     assert!(rt;
         shown.bytes() == b"Usage: abella [-q] [--drill N] [--check-cert] [FILE]\n".as_slice()
     );
-    Ok(())
-}
-
-#[test]
-fn counts_the_faults_of_real_streams(rt: HostRuntime) -> Result<(), Fail> {
-    let mut input = StdSource::new(b"ab".as_slice());
-    let mut piece = [0u8; 4];
-    assert_eq!(rt; input.read(&mut piece), Ok(2));
-    assert_eq!(rt; input.read(&mut piece), Ok(0));
-    let mut out = StdSink::new(Vec::new(rt.alloc()));
-    assert_eq!(rt; out.write(b"ab"), Ok(2));
     Ok(())
 }
