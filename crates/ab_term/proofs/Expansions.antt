@@ -89,7 +89,7 @@ module _ (sg : Signature) {Var : Type 0} where
   head_type-shift_here D G (index i) = refl
 
 module _ (sg : Signature) {Var Hint : Type 0} (x : Hint) where
-  expansion_of_typed : (B : Ty) (G : List Ty) (h : Head Var) (A : Ty) (ts : Terms Var Hint) → head_type sg G h ≡ Some A → TakeType sg G ts A B → HasType sg G (expansion_of x B h ts) B
+  pub expansion_of_typed : (B : Ty) (G : List Ty) (h : Head Var) (A : Ty) (ts : Terms Var Hint) → head_type sg G h ≡ Some A → TakeType sg G ts A B → HasType sg G (expansion_of x B h ts) B
   expansion_of_typed (kind c) G h A ts e ds = typed_spine e ds
   expansion_of_typed (arrow B C) G h A ts e ds =
       typed_lam (expansion_of_typed C (B ∷ G) (shift_head zero h) A _ (head_type-shift_here sg B G h ∙ e) (take_last sg (shift_all_typed sg here ds) (expansion_of_typed B (B ∷ G) (index zero) B no_terms refl take_none)))

@@ -17,3 +17,5 @@ pub mod ImageTranslations
 pub mod OwnExpansion
 pub mod Contexts
 pub mod Unique
+pub mod Forgetting
+pub mod Same

@@ -9,6 +9,7 @@ pub mod Substitution
 pub mod Expansion
 pub mod Translation
 pub mod Names
+pub mod Sameness
 pub mod Variables
 pub mod Beta
 pub mod Reach
