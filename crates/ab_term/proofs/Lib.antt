@@ -19,3 +19,9 @@ pub mod Contexts
 pub mod Unique
 pub mod Forgetting
 pub mod Same
+pub mod Standing
+pub mod Stands
+pub mod Reached
+pub mod ClosedMaps
+pub mod Depends
+pub mod InOrder
