@@ -25,3 +25,4 @@ pub mod Reached
 pub mod ClosedMaps
 pub mod Depends
 pub mod InOrder
+pub mod Ordering
