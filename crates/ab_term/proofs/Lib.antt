@@ -26,3 +26,6 @@ pub mod ClosedMaps
 pub mod Depends
 pub mod InOrder
 pub mod Ordering
+pub mod Strengthening
+pub mod Closing
+pub mod Only

@@ -10,6 +10,9 @@ pub mod Expansion
 pub mod Translation
 pub mod Names
 pub mod Sameness
+pub mod Recognising
+pub mod Closing
+pub mod Sizes
 pub mod Variables
 pub mod Beta
 pub mod Reach
