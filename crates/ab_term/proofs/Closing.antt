@@ -1,13 +1,13 @@
 -- A term abstracted over names: it is well-typed, and given the names it is the term again.
 use Rattle.std.proofs.Common.{◌≡◌, ℕ, zero, suc, List, [], ◌∷◌, Bool, true, false, cond, Some, option_map, refl, sym, ◌∙◌, ap, subst}
-use Rattle.ab_term.specs.Types.{Ty, kind, arrow}
+use Rattle.ab_term.specs.Types.{Ty, kind, arrow, IsFirstOrder}
 use Rattle.ab_term.specs.Terms.{Head, index, Term, lam, spine, Terms, no_terms, term}
 use Rattle.ab_term.specs.Typing.{Signature, type_at, head_type, HasType, TakeType, typed_lam, typed_spine, take_none, take_term}
 use Rattle.ab_term.specs.Substitution.{shift_head, lower_head, put, reduce, substitute, substitute_all}
 use Rattle.ab_term.specs.Expansion.{expansion}
 use Rattle.ab_term.specs.Translation.{translate_head, forget, forget_all}
 use Rattle.ab_term.proofs.Preservation.{Insert, here, there, head_type-shift}
-use Rattle.ab_term.proofs.Expansions.{lower_index-same, shift-expansion_of, reduce-expansion_of}
+use Rattle.ab_term.proofs.Expansions.{lower_index-same, shift-expansion_of, reduce-expansion_of, reduce-first_order}
 use Rattle.ab_term.proofs.Shifts.{lower_head-shift_head}
 use Rattle.ab_term.specs.Sameness.{same_head}
 use Rattle.ab_term.specs.Closing.{close_head, close, close_all, abstracted, Named, named_none, named_more}
@@ -57,30 +57,40 @@ module _ {Hint : Type 0} where
   forget-abstracted x (kind k) (h ∷ hs) t = refl
   forget-abstracted x (arrow A B) (h ∷ hs) t = ap (lam A tt) (forget-close zero h (abstracted x B hs t) ∙ ap (close zero h) (forget-abstracted x B hs t))
 
--- on terms without hints: the name put in for the index that was made of it
-module _ (sg : Signature) where
-  closed_head : (A : Ty) (k : ℕ) (h g : Head ℕ) (G : List Ty) (D : Ty) (ts ss : Terms ℕ (Unit {0})) (c : List ℕ) → head_type sg G h ≡ Some A → head_type sg G g ≡ Some D → TakeType sg G ts D (kind c) → ss ≡ ts
-      → put (reduce A) (expansion tt A h) (lower_head k (close_head k h g)) ss ≡ spine g ts
-  closed_head A k h g G D ts ss c e f ds s = go (same_head g h) refl
+-- the form of the head, put in for the index that was made of it, where that form given arguments is the head with them
+module _ (sg : Signature) {Hint : Type 0} (x : Hint) (A : Ty) (given : (G : List Ty) (h : Head ℕ) (ts : Terms ℕ Hint) (c : List ℕ) → TakeType sg G ts A (kind c) → reduce A (expansion x A h) ts ≡ spine h ts) where
+  closed_head : (k : ℕ) (h g : Head ℕ) (G : List Ty) (D : Ty) (ts ss : Terms ℕ Hint) (c : List ℕ) → head_type sg G h ≡ Some A → head_type sg G g ≡ Some D → TakeType sg G ts D (kind c) → ss ≡ ts
+      → put (reduce A) (expansion x A h) (lower_head k (close_head k h g)) ss ≡ spine g ts
+  closed_head k h g G D ts ss c e f ds s = go (same_head g h) refl
     where
-      go : (b : Bool) → same_head g h ≡ b → put (reduce A) (expansion tt A h) (lower_head k (cond b (index k) (shift_head k g))) ss ≡ spine g ts
+      go : (b : Bool) → same_head g h ≡ b → put (reduce A) (expansion x A h) (lower_head k (cond b (index k) (shift_head k g))) ss ≡ spine g ts
       go true q =
           let equal : g ≡ h = (same_head-Decides g h).0 q in
           let some : Some D ≡ Some A = sym f ∙ ap (head_type sg G) equal ∙ e in
           let same : D ≡ A = cc in
-          ap (λ o. put (reduce A) (expansion tt A h) (option_map index o) ss) (lower_index-same k)
-          ∙ ap (reduce A (expansion tt A h)) s
-          ∙ reduce-expansion_of sg ℕ A G h no_terms ts c (subst (λ E. TakeType sg G ts E (kind c)) same ds)
+          ap (λ o. put (reduce A) (expansion x A h) (option_map index o) ss) (lower_index-same k)
+          ∙ ap (reduce A (expansion x A h)) s
+          ∙ given G h ts c (subst (λ E. TakeType sg G ts E (kind c)) same ds)
           ∙ ap (λ k. spine k ts) (sym equal)
-      go false q = ap (λ o. put (reduce A) (expansion tt A h) o ss) (lower_head-shift_head k g) ∙ ap (spine g) s
+      go false q = ap (λ o. put (reduce A) (expansion x A h) o ss) (lower_head-shift_head k g) ∙ ap (spine g) s
 
   mutual
-    pub substitute-close : {A B : Ty} {G : List Ty} (k : ℕ) (h : Head ℕ) {t : Term ℕ (Unit {0})} → head_type sg G h ≡ Some A → HasType sg G t B → substitute A (expansion tt A h) k (close k h t) ≡ t
-    substitute-close {A = A} k h e (typed_lam {A = D} {x = y} {t = t} d) =
-        ap (lam D y) (ap (λ w. substitute A w (suc k) (close (suc k) (shift_head zero h) t)) (shift-expansion_of tt A zero h no_terms) ∙ substitute-close (suc k) (shift_head zero h) (head_type-shift sg here h ∙ e) d)
-    substitute-close {A = A} {G = G} k h e (typed_spine {A = D} {h = g} {ts = ts} {k = c} f ds) = closed_head A k h g G D ts (substitute_all A (expansion tt A h) k (close_all k h ts)) c e f ds (substitute_all-close k h e ds)
+    pub opened-closed : {B : Ty} {G : List Ty} (k : ℕ) (h : Head ℕ) {t : Term ℕ Hint} → head_type sg G h ≡ Some A → HasType sg G t B → substitute A (expansion x A h) k (close k h t) ≡ t
+    opened-closed k h e (typed_lam {A = D} {x = y} {t = t} d) =
+        ap (lam D y) (ap (λ w. substitute A w (suc k) (close (suc k) (shift_head zero h) t)) (shift-expansion_of x A zero h no_terms) ∙ opened-closed (suc k) (shift_head zero h) (head_type-shift sg here h ∙ e) d)
+    opened-closed {G = G} k h e (typed_spine {A = D} {h = g} {ts = ts} {k = c} f ds) = closed_head k h g G D ts (substitute_all A (expansion x A h) k (close_all k h ts)) c e f ds (all_opened-closed k h e ds)
 
-    substitute_all-close : {A B C : Ty} {G : List Ty} (k : ℕ) (h : Head ℕ) {ts : Terms ℕ (Unit {0})} → head_type sg G h ≡ Some A → TakeType sg G ts B C → substitute_all A (expansion tt A h) k (close_all k h ts) ≡ ts
-    substitute_all-close k h e take_none = refl
-    substitute_all-close {A = A} k h e (take_term {t = t} {ts = ts} d ds) =
-        ap (λ s. term s (substitute_all A (expansion tt A h) k (close_all k h ts))) (substitute-close k h e d) ∙ ap (term t) (substitute_all-close k h e ds)
+    all_opened-closed : {B C : Ty} {G : List Ty} (k : ℕ) (h : Head ℕ) {ts : Terms ℕ Hint} → head_type sg G h ≡ Some A → TakeType sg G ts B C → substitute_all A (expansion x A h) k (close_all k h ts) ≡ ts
+    all_opened-closed k h e take_none = refl
+    all_opened-closed k h e (take_term {t = t} {ts = ts} d ds) =
+        ap (λ s. term s (substitute_all A (expansion x A h) k (close_all k h ts))) (opened-closed k h e d) ∙ ap (term t) (all_opened-closed k h e ds)
+
+module _ (sg : Signature) where
+  -- on terms without hints
+  pub substitute-close : {A B : Ty} {G : List Ty} (k : ℕ) (h : Head ℕ) {t : Term ℕ (Unit {0})} → head_type sg G h ≡ Some A → HasType sg G t B → substitute A (expansion tt A h) k (close k h t) ≡ t
+  substitute-close {A = A} k h e d = opened-closed sg tt A (λ G g ts c ds. reduce-expansion_of sg ℕ A G g no_terms ts c ds) k h e d
+
+module _ (sg : Signature) {Hint : Type 0} (x : Hint) where
+  -- of a head whose arguments are of kinds, hints included
+  pub substitute-close_hints : {A B : Ty} {G : List Ty} (k : ℕ) (h : Head ℕ) {t : Term ℕ Hint} → IsFirstOrder A → head_type sg G h ≡ Some A → HasType sg G t B → substitute A (expansion x A h) k (close k h t) ≡ t
+  substitute-close_hints {A = A} k h f e d = opened-closed sg x A (λ G g ts c ds. reduce-first_order sg x g no_terms ds f) k h e d

@@ -29,3 +29,5 @@ pub mod Ordering
 pub mod Strengthening
 pub mod Closing
 pub mod Only
+pub mod Hinted
+pub mod Recognising

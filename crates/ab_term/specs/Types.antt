@@ -27,6 +27,12 @@ abbrev pub arity : Ty → ℕ
 arity (kind k) = 0
 arity (arrow A B) = suc (arity B)
 
+-- each argument that the type takes is of a kind
+abbrev pub IsFirstOrder : Ty → Type 0
+IsFirstOrder (kind k) = Unit {0}
+IsFirstOrder (arrow (kind k) B) = IsFirstOrder B
+IsFirstOrder (arrow (arrow A C) B) = ⊥
+
 -- the test of whether two types are the same
 abbrev pub same_type : Ty → Ty → Bool
 same_type (kind k) (kind l) = bytes_eq k l
