@@ -31,3 +31,6 @@ pub mod Closing
 pub mod Only
 pub mod Hinted
 pub mod Recognising
+pub mod Lowering
+pub mod Abstracting
+pub mod Determined
