@@ -34,3 +34,5 @@ pub mod Recognising
 pub mod Lowering
 pub mod Abstracting
 pub mod Determined
+pub mod ClosingThrough
+pub mod ClosingImages

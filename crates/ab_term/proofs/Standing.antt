@@ -99,6 +99,16 @@ module _ {Var Hint : Type 0} (P : Head Var → Type 0) where
   instance_has (lam A x t) u p q = substitute_has A u zero t q p
   instance_has (spine h ts) u p q = p
 
+module _ {Var : Type 0} (P Q : Head Var → Type 0) (f : (h : Head Var) → HeadHas P h → HeadHas Q h) where
+  mutual
+    pub has_more : {Hint : Type 0} (t : Term Var Hint) → Has P t → Has Q t
+    has_more (lam A x t) p = has_more t p
+    has_more (spine h ts) p = (f h p.0, all_have_more ts p.1)
+
+    pub all_have_more : {Hint : Type 0} (ts : Terms Var Hint) → AllHave P ts → AllHave Q ts
+    all_have_more no_terms p = tt
+    all_have_more (term t ts) p = (has_more t p.0, all_have_more ts p.1)
+
 -- f puts in terms of the second property for variables of the first; what stays has both
 pub record Carries {Var Hint : Type 0} (P Q : Head Var → Type 0) (f : Variable Var → Option (Term Var Hint)) : Type 0 where
   pub constants : (c : List ℕ) → P (constant c) → Q (constant c)

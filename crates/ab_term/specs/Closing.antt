@@ -1,12 +1,14 @@
 -- Names, and terms that are abstracted over names. A name is a nominal constant or an index: a bound name. Lists of
 -- names are read from outside a term, and go along under its binders. Variables are numbered.
-use Rattle.std.specs.Prelude.{◌≡◌, ℕ, zero, suc, List, [], ◌∷◌, map, Bool, true, false, cond, Some}
+use Rattle.std.specs.Prelude.{◌≡◌, ℕ, zero, suc, List, [], ◌∷◌, map, Bool, true, false, cond, Some, Contains}
 use Rattle.std.specs.List.{list_any}
 use Rattle.ab_term.specs.Types.{Ty, kind, arrow, arrows}
 use Rattle.ab_term.specs.Terms.{Nominal, Variable, Head, constant, logical, nominal, variable, index, Term, lam, spine, Terms, no_terms, term}
 use Rattle.ab_term.specs.Typing.{Signature, head_type}
 use Rattle.ab_term.specs.Substitution.{shift_head}
 use Rattle.ab_term.specs.Expansion.{expansion_of, expansion}
+use Rattle.ab_term.specs.Names.{support}
+use Rattle.ab_term.specs.Variables.{variables}
 use Rattle.ab_term.specs.Sameness.{same_head}
 
 abbrev pub is_name : Head ℕ → Bool
@@ -77,6 +79,14 @@ module _ {Hint : Type 0} where
   abstracted x A [] t = t
   abstracted x (kind k) (h ∷ hs) t = t
   abstracted x (arrow A B) (h ∷ hs) t = lam A x (close zero h (abstracted x B hs t))
+
+-- the nominal constant or the variable doesn't stand in the closed term (a bound name can't; nothing is said of others)
+abbrev pub IsAbsent : {Hint : Type 0} → Head ℕ → Term ℕ Hint → Type 0
+IsAbsent (nominal a) u = ¬ Contains (support u) a
+IsAbsent (variable y) u = ¬ Contains (variables u) y
+IsAbsent (index i) u = Unit {0}
+IsAbsent (constant c) u = ⊥
+IsAbsent (logical l) u = ⊥
 
 -- RAISING: the type of what depends on the constants besides
 abbrev pub over : List Nominal → Ty → Ty
