@@ -36,3 +36,6 @@ pub mod Abstracting
 pub mod Determined
 pub mod ClosingThrough
 pub mod ClosingImages
+pub mod Permuting
+pub mod Sizing
+pub mod Normalising

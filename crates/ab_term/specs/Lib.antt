@@ -15,6 +15,7 @@ pub mod Closing
 pub mod Sizes
 pub mod Variables
 pub mod Beta
+pub mod Normal
 pub mod Reach
 pub mod Codes
 pub mod Examples
