@@ -47,6 +47,11 @@ module _ (sg : Signature) {Hint : Type 0} (x : Hint) where
   name_terms_typed named_none = take_none
   name_terms_typed {G = G} (named_more {A = A} {h = h} e n) = take_term (expansion_typed sg x A G h e) (name_terms_typed n)
 
+module _ (sg : Signature) where
+  pub named_over : (G : List Ty) (ns : List Nominal) (A : Ty) → Named sg G (map nominal ns) (over ns A) A
+  named_over G [] A = named_none
+  named_over G (a ∷ ns) A = named_more refl (named_over G ns A)
+
 module _ (sg : Signature) {Hint : Type 0} (x : Hint) where
   -- the form of a head, given names, is the head with them
   pub reduce-names : {G : List Ty} {A C : Ty} {hs : List (Head ℕ)} (h : Head ℕ) → Named sg G hs A C → reduce A (expansion x A h) (name_terms x A hs) ≡ expansion_of x C h (name_terms x A hs)
@@ -55,15 +60,11 @@ module _ (sg : Signature) {Hint : Type 0} (x : Hint) where
       ∙ reduce-hinted sg x h no_terms (name_terms_typed sg tt n)
       ∙ ap (expansion_of x C h) (hinted-names x A hs)
 
-  pub named_over : (G : List Ty) (ns : List Nominal) (A : Ty) → Named sg G (map nominal ns) (over ns A) A
-  named_over G [] A = named_none
-  named_over G (a ∷ ns) A = named_more refl (named_over G ns A)
-
   -- a raised variable, given its constants, has the type that is left
   pub given_typed : (G : List Ty) (y : Variable ℕ) (ns : List Nominal) (A : Ty) → y.type ≡ over ns A → HasType sg G (given_names x y ns A) A
   given_typed G y ns A e =
       expansion_of_typed sg x A G (variable y) y.type (name_terms x y.type (map nominal ns)) refl
-      (rw e (name_terms_typed sg x (named_over G ns A)))
+      (rw e (name_terms_typed sg x (named_over sg G ns A)))
 
   terms_of-names : (ns : List Nominal) (A : Ty) → terms_of (map (λ a. expansion x a.type (nominal a)) ns) ≡ name_terms x (over ns A) (map nominal ns)
   terms_of-names [] A = refl
@@ -75,7 +76,7 @@ module _ (sg : Signature) {Hint : Type 0} (x : Hint) where
   given-instances n ns A =
       let y : Variable ℕ = record { name = n; type = over ns A } in
       let all = map (λ (a : Nominal). expansion x a.type (nominal a)) ns in
-      let named = named_over [] ns A in
+      let named = named_over sg [] ns A in
       let args : TakeType sg [] (terms_of all) (over ns A) A = rw (terms_of-names ns A) (name_terms_typed sg x named) in
       sym (reduce-instances sg all (expansion_typed sg x (over ns A) [] (variable y) refl) args)
       ∙ ap (reduce (over ns A) (expansion x (over ns A) (variable y))) (terms_of-names ns A)

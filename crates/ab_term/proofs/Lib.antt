@@ -39,3 +39,5 @@ pub mod ClosingImages
 pub mod Permuting
 pub mod Sizing
 pub mod Normalising
+pub mod PastHints
+pub mod Raising
