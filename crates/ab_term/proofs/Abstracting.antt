@@ -5,10 +5,10 @@ use Rattle.std.proofs.lemmas.Bool.{false≢true, or_cases, or_left, or_right, fa
 use Rattle.ab_term.specs.Types.{Ty, kind, arrow, arity}
 use Rattle.ab_term.specs.Terms.{Head, constant, logical, nominal, variable, index, Term, lam, spine, Terms, no_terms, term}
 use Rattle.ab_term.specs.Typing.{Signature, HasType}
-use Rattle.ab_term.specs.Substitution.{shift_head, reduce, substitute}
+use Rattle.ab_term.specs.Substitution.{shift_head, reduce}
 use Rattle.ab_term.specs.Translation.{translate_head, forget, forget_all, EqualPastHints}
 use Rattle.ab_term.specs.Sameness.{same_head}
-use Rattle.ab_term.specs.Closing.{among, under, may_stand, Only, OnlyAll, Named, named_none, named_more, name_terms, close_head, close, abstracted}
+use Rattle.ab_term.specs.Closing.{among, under, may_stand, Only, OnlyAll, Named, named_none, named_more, name_terms, close_head, abstracted}
 use Rattle.ab_term.proofs.Expansions.{reduce-no_terms}
 use Rattle.ab_term.proofs.Translations.{translate-reduce, translate_typed}
 use Rattle.ab_term.proofs.Forgetting.{forget_head}

@@ -2,17 +2,16 @@
 use Rattle.std.proofs.Common.{◌≡◌, ℕ, zero, suc, ◌≤◌, List, [], ◌∷◌, map, Bool, true, false, cond, Option, Some, None, option_map, refl, sym, ◌∙◌, ap, arith}
 use Rattle.std.proofs.lemmas.Bool.{false≢true, false_from_ne_true}
 use Rattle.ab_term.specs.Types.{Ty, kind, arrow}
-use Rattle.ab_term.specs.Terms.{Variable, Head, constant, logical, nominal, variable, index, Term, lam, spine, Terms, no_terms, term, with_last}
+use Rattle.ab_term.specs.Terms.{Head, constant, logical, nominal, variable, index, Term, lam, spine, Terms, no_terms, term, with_last}
 use Rattle.ab_term.specs.Substitution.{shift_index, shift_head, shift, shift_all, lower_head, put, substitute_by, substitute_all_by, reduce, substitute, instance}
 use Rattle.ab_term.specs.Expansion.{expansion_of, expansion}
-use Rattle.ab_term.specs.Variables.{put_for, put_at, image_by, image_all_by}
 use Rattle.ab_term.specs.Sameness.{same_head}
-use Rattle.ab_term.specs.Closing.{close_head, close, close_all, abstracted, name_terms}
+use Rattle.ab_term.specs.Closing.{close_head, close, close_all, name_terms}
 use Rattle.ab_term.proofs.Shifts.{shift_head-shift_head, lower_head-shift_head}
 use Rattle.ab_term.proofs.Expansions.{lower_index-same}
 use Rattle.ab_term.proofs.Lowering.{lower_head-some, lower_head-none}
 use Rattle.ab_term.proofs.Same.{same_head-Decides}
-use Rattle.ab_term.proofs.Only.{same_innermost, same_head-shift, close_head-inner, close_head-outer}
+use Rattle.ab_term.proofs.Only.{close_head-inner, close_head-outer}
 
 pub shift_index-from : (j k : ℕ) → j ≤ k → shift_index j k ≡ suc k
 shift_index-from zero k l = refl

@@ -1,9 +1,9 @@
 -- An image depends only on what is put in for the variables that stand in the term.
-use Rattle.std.proofs.Common.{◌≡◌, ℕ, List, [], ◌∷◌, ◌++◌, Option, None, refl, sym, ◌∙◌, ap, subst}
+use Rattle.std.proofs.Common.{◌≡◌, [], Option, None, refl, ◌∙◌, ap, subst}
 use Rattle.std.specs.Prelude.{Contains}
 use Rattle.std.proofs.lemmas.List.Elements.{Contains-append_left, Contains-append_right}
 use Rattle.ab_term.specs.Terms.{Variable, Head, constant, logical, nominal, variable, index, Term, lam, spine, Terms, no_terms, term}
-use Rattle.ab_term.specs.Variables.{variables_of_head, variables, variables_of_all, put_for, put_at, image_by, image_all_by, Substitution, value_in, image}
+use Rattle.ab_term.specs.Variables.{variables_of_head, variables, variables_of_all, put_for, put_at, image_by, image_all_by}
 use Rattle.ab_term.proofs.Lists.{Contains-none, Contains-here}
 
 module _ {Var Hint : Type 0} (f g : Variable Var → Option (Term Var Hint)) where

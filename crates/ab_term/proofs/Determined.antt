@@ -1,13 +1,13 @@
 -- What is abstracted is determined: a term given names that don't stand in it, and abstracted over them again, is the
 -- term. So two that agree, given such names, are one.
-use Rattle.std.proofs.Common.{◌≡◌, ℕ, zero, suc, List, [], ◌∷◌, ◌++◌, length, true, false, cond, ◌||◌, Option, Some, None, option_map, refl, sym, ◌∙◌, ap, subst, arith}
+use Rattle.std.proofs.Common.{◌≡◌, ℕ, zero, suc, List, [], ◌∷◌, ◌++◌, length, true, false, cond, ◌||◌, Option, Some, None, refl, sym, ◌∙◌, ap, subst, arith}
 use Rattle.std.proofs.lemmas.Bool.{false≢true, false_from_ne_true}
 use Rattle.ab_term.specs.Types.{Ty, kind, arity}
 use Rattle.ab_term.specs.Terms.{Variable, Head, constant, logical, nominal, variable, index, Term, lam, spine, Terms, no_terms, term}
 use Rattle.ab_term.specs.Typing.{Signature, head_type, HasType, TakeType, typed_lam, typed_spine, take_none, take_term}
-use Rattle.ab_term.specs.Substitution.{shift_index, shift_head, lower_index, lower_head, put, reduce, substitute, substitute_all}
+use Rattle.ab_term.specs.Substitution.{shift_head, lower_head, put, reduce, substitute, substitute_all}
 use Rattle.ab_term.specs.Expansion.{expansion}
-use Rattle.ab_term.specs.Translation.{forget, forget_all, EqualPastHints}
+use Rattle.ab_term.specs.Translation.{forget, EqualPastHints}
 use Rattle.ab_term.specs.Variables.{put_for, put_at, image_by, image_all_by}
 use Rattle.ab_term.specs.Sameness.{same_head}
 use Rattle.ab_term.specs.Closing.{among, under, is_name, may_stand, Only, OnlyAll, Distinct, Named, named_none, named_more, close, close_all, abstracted, name_terms}
@@ -16,14 +16,13 @@ use Rattle.ab_term.proofs.Expansions.{shift-expansion_of, reduce-expansion_of, r
 use Rattle.ab_term.proofs.Shifts.{shift_head-shift_head}
 use Rattle.ab_term.proofs.Closed.{closed_typed}
 use Rattle.ab_term.proofs.Translations.{translate-reduce, translate_typed}
-use Rattle.ab_term.proofs.Forgetting.{forget_plain}
 use Rattle.ab_term.proofs.Same.{same_head-Decides, head_itself}
 use Rattle.ab_term.proofs.Lowering.{lower_head-some, lower_head-none}
 use Rattle.ab_term.proofs.Strengthening.{front_typed}
 use Rattle.ab_term.proofs.Closing.{type_at-insert, abstracted_typed, forget-abstracted}
 use Rattle.ab_term.proofs.Hinted.{forget-names}
 use Rattle.ab_term.proofs.Only.{among-under, Sends, include, lowers_here, substitute_by_only, reduce_only, expansion_only, only_reach, among_stands, among_behind, among_front}
-use Rattle.ab_term.proofs.Abstracting.{sends_among, abstracted_only, named_length, reduce-abstracted, name_terms_only, only_past_hints, forget_only}
+use Rattle.ab_term.proofs.Abstracting.{sends_among, abstracted_only, named_length, name_terms_only, only_past_hints, forget_only}
 
 -- none of the first stands among the second
 abbrev pub AreApart : List (Head ℕ) → List (Head ℕ) → Type 0
@@ -167,6 +166,7 @@ module _ (sg : Signature) {Hint : Type 0} (x : Hint) where
       (ap (reduce A (forget v)) (sym (forget-names x A hs)) ∙ sym (translate-reduce (λ v. v) (λ y. tt) A v (name_terms x A hs)) ∙ e)
       ∙ sym (forget-abstracted x A hs t)
 
+module _ {Hint : Type 0} (x : Hint) where
   -- there is one only where no foreign name stands in t
   pub inverse_only : (A : Ty) (hs : List (Head ℕ)) (v t : Term ℕ Hint) → Only [] v → EqualPastHints (reduce A v (name_terms x A hs)) t → Only hs t
   inverse_only A hs v t ov e =

@@ -1,11 +1,11 @@
 -- Eta-long forms given eta-long forms as arguments: here the hints are those of such forms too.
-use Rattle.std.proofs.Common.{◌≡◌, ℕ, zero, List, [], ◌∷◌, map, refl, sym, ◌∙◌, ap}
+use Rattle.std.proofs.Common.{◌≡◌, ℕ, List, [], ◌∷◌, map, refl, sym, ◌∙◌, ap}
 use Rattle.ab_term.specs.Types.{Ty, kind, arrow}
-use Rattle.ab_term.specs.Terms.{Nominal, Variable, Head, nominal, variable, Term, Terms, no_terms, term, terms_of, joined}
-use Rattle.ab_term.specs.Typing.{Signature, head_type, HasType, TakeType, take_none, take_term}
+use Rattle.ab_term.specs.Terms.{Nominal, Variable, Head, nominal, variable, Terms, no_terms, term, terms_of, joined}
+use Rattle.ab_term.specs.Typing.{Signature, HasType, TakeType, take_none, take_term}
 use Rattle.ab_term.specs.Substitution.{reduce, instance_by_all}
 use Rattle.ab_term.specs.Expansion.{expansion_of, expansion}
-use Rattle.ab_term.specs.Translation.{translate_head, translate, translate_all, forget_all}
+use Rattle.ab_term.specs.Translation.{translate, translate_all, forget_all}
 use Rattle.ab_term.specs.Closing.{Named, named_none, named_more, name_terms, over, given_names}
 use Rattle.ab_term.proofs.Expansions.{reduce-some, expansion_typed, expansion_of_typed}
 use Rattle.ab_term.proofs.Translations.{translate-reduce, translate-expansion_of, translate-expansion}

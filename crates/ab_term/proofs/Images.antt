@@ -2,14 +2,13 @@
 -- substitutions, and two of them are one.
 use Rattle.std.proofs.Common.{◌≡◌, ℕ, zero, suc, ◌≤◌, List, [], Option, Some, None, option_map, refl, sym, ◌∙◌, ap, arith}
 use Rattle.ab_term.specs.Types.{Ty, kind, arrow}
-use Rattle.ab_term.specs.Terms.{Variable, Head, constant, logical, nominal, variable, index, Term, lam, spine, Terms, no_terms, term}
+use Rattle.ab_term.specs.Terms.{Variable, Head, constant, logical, nominal, variable, index, Term, lam, spine, Terms, term}
 use Rattle.ab_term.specs.Typing.{Signature, head_type, HasType, TakeType, typed_lam, typed_spine, take_none, take_term}
-use Rattle.ab_term.specs.Substitution.{shift_head, shift, shift_all, lower_index, put, reduce, substitute, substitute_all}
+use Rattle.ab_term.specs.Substitution.{shift, shift_all, lower_index, put, reduce, substitute, substitute_all}
 use Rattle.ab_term.specs.Variables.{put_for, put_at, image_by, image_all_by}
 use Rattle.ab_term.specs.Reach.{reach}
 use Rattle.ab_term.proofs.Preservation.{Insert, here, there, shift_typed, reduce_typed, substitute_typed, substitute_all_by_typed, left_type, head_type-lower}
-use Rattle.ab_term.proofs.Shifts.{shift-reduce}
-use Rattle.ab_term.proofs.Reaching.{shift-short, substitute_by-short}
+use Rattle.ab_term.proofs.Reaching.{substitute_by-short}
 use Rattle.ab_term.proofs.Closed.{closed_typed, closed_reach}
 use Rattle.ab_term.proofs.ClosedMaps.{IsClosedMap, shift-image, shift_all-image_all}
 use Rattle.ab_term.proofs.Commutation.{through}

@@ -1,12 +1,11 @@
 -- Pairs put in one after another are one substitution; a term given all its arguments is the instance by them.
-use Rattle.std.proofs.Common.{◌≡◌, ℕ, List, [], ◌∷◌, ◌++◌, map, Bool, Option, refl, sym, ◌∙◌, ap}
-use Rattle.std.specs.Prelude.{All}
-use Rattle.std.proofs.lemmas.List.Elements.{All-cons, All-nil, All-head, All-tail, All-append}
+use Rattle.std.proofs.Common.{◌≡◌, List, [], ◌∷◌, ◌++◌, map, Bool, refl, sym, ◌∙◌, ap}
+use Rattle.std.proofs.lemmas.List.Elements.{All-cons, All-nil, All-head, All-tail}
 use Rattle.ab_term.specs.Types.{Ty, arrow}
 use Rattle.ab_term.specs.Terms.{Variable, Term, lam, terms_of}
 use Rattle.ab_term.specs.Typing.{Signature, HasType, TakeType, typed_lam, typed_spine, take_none, take_term}
 use Rattle.ab_term.specs.Substitution.{reduce, instance, instance_by_all}
-use Rattle.ab_term.specs.Variables.{image_by, Substitution, image, composition, one_by_one, at_once, IsTyped}
+use Rattle.ab_term.specs.Variables.{Substitution, image, one_by_one, at_once, IsTyped}
 use Rattle.ab_term.proofs.Depends.{image_nothing}
 use Rattle.ab_term.proofs.Expansions.{reduce-no_terms}
 use Rattle.ab_term.proofs.Preservation.{here, substitute_typed, instance_typed}

@@ -1,11 +1,11 @@
 -- The eta-long normal form of a well-typed term is canonical, and reached by beta steps and eta expansions.
-use Rattle.std.proofs.Common.{◌≡◌, ℕ, zero, suc, List, ◌∷◌, Option, Some, None, refl, sym, ◌∙◌, subst, ap}
+use Rattle.std.proofs.Common.{◌≡◌, zero, List, ◌∷◌, Some, refl, sym, ◌∙◌, subst}
 use Rattle.ab_term.specs.Types.{Ty, kind, arrow}
-use Rattle.ab_term.specs.Terms.{Head, index, Term, lam, spine, Terms, no_terms, term, with_last}
+use Rattle.ab_term.specs.Terms.{Head, index, Term, Terms, no_terms, term, with_last}
 use Rattle.ab_term.specs.Typing.{Signature, head_type, HasType, TakeType, typed_lam, typed_spine, take_none, take_term}
-use Rattle.ab_term.specs.Substitution.{shift_head, shift_all, instance}
+use Rattle.ab_term.specs.Substitution.{shift_head, shift_all}
 use Rattle.ab_term.specs.Expansion.{expansion_of, expansion}
-use Rattle.ab_term.specs.Beta.{Plain, atom, abstraction, application, shift_plain, BetaStep, beta, in_body, in_function, in_argument, BetaSteps, no_step, step, plain, plain_applied}
+use Rattle.ab_term.specs.Beta.{Plain, atom, abstraction, application, BetaStep, beta, in_body, in_function, in_argument, BetaSteps, no_step, step, plain, plain_applied}
 use Rattle.ab_term.specs.Normal.{FitsType, fits_atom, fits_abstraction, fits_application, NormalStep, beta_step, eta_step, body_step, function_step, argument_step, NormalSteps, no_more, one_more, long_form, normal}
 use Rattle.ab_term.proofs.Preservation.{here, shift_all_typed, head_type-shift, instance_typed}
 use Rattle.ab_term.proofs.Expansions.{take_last, expansion_typed}

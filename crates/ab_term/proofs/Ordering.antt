@@ -130,17 +130,25 @@ order_of [] = ([], record { same = λ a. (λ m. m, λ m. m); once = AllPairs-non
 order_of (x ∷ xs) = go (order_of xs)
   where
     more : (list : List Nominal) → IsOrderOf list xs → Contains list x ⊎ (Contains list x → ⊥) → (list : List Nominal) × IsOrderOf list (x ∷ xs)
-    more list o (inl m) = (list, record {
-      same = λ a. (λ k. Contains-there x xs a ((o.same a).0 k), λ k. either (λ e. subst (Contains list) e m) (λ j. (o.same a).1 j) (Contains-cases x xs a k));
-      once = o.once;
-      order = o.order;
-    })
-    more list o (inr n) = (placed x list, record {
-      same = λ a. (λ k. either (λ e. subst (Contains (x ∷ xs)) e (Contains-here x xs)) (λ j. Contains-there x xs a ((o.same a).0 j)) (placed_cases x list a k),
-        λ k. placed_holds x list a (either inl (λ j. inr ((o.same a).1 j)) (Contains-cases x xs a k)));
-      once = placed_once x list n o.once;
-      order = placed_order x list o.order;
-    })
+    more list o (inl m) = (
+      list,
+      record {
+        same = λ a. (λ k. Contains-there x xs a ((o.same a).0 k), λ k. either (λ e. subst (Contains list) e m) (λ j. (o.same a).1 j) (Contains-cases x xs a k));
+        once = o.once;
+        order = o.order;
+      },
+    )
+    more list o (inr n) = (
+      placed x list,
+      record {
+        same = λ a. (
+          λ k. either (λ e. subst (Contains (x ∷ xs)) e (Contains-here x xs)) (λ j. Contains-there x xs a ((o.same a).0 j)) (placed_cases x list a k),
+          λ k. placed_holds x list a (either inl (λ j. inr ((o.same a).1 j)) (Contains-cases x xs a k)),
+        );
+        once = placed_once x list n o.once;
+        order = placed_order x list o.order;
+      },
+    )
 
     go : (list : List Nominal) × IsOrderOf list xs → (list : List Nominal) × IsOrderOf list (x ∷ xs)
     go r = more r.0 r.1 (contains_or_not same_nominal same_nominal-Decides r.0 x)

@@ -1,18 +1,17 @@
 -- Every operation respects equality past hints.
-use Rattle.std.proofs.Common.{◌≡◌, ℕ, zero, List, [], ◌∷◌, map, Option, Some, None, option_map, refl, sym, ◌∙◌, ap, subst}
+use Rattle.std.proofs.Common.{◌≡◌, ℕ, List, [], ◌∷◌, map, Option, Some, None, option_map, refl, sym, ◌∙◌, ap, subst}
 use Rattle.ab_term.specs.Types.{Ty}
 use Rattle.ab_term.specs.Terms.{Nominal, Variable, Head, Term}
 use Rattle.ab_term.specs.Typing.{Signature, HasType}
-use Rattle.ab_term.specs.Substitution.{shift, reduce, instance}
-use Rattle.ab_term.specs.Translation.{translate_variable, translate_head, translate, forget, EqualPastHints}
+use Rattle.ab_term.specs.Substitution.{shift, instance}
+use Rattle.ab_term.specs.Translation.{translate_variable, forget, EqualPastHints}
 use Rattle.ab_term.specs.Names.{support, rename}
-use Rattle.ab_term.specs.Variables.{variables, image_by, Substitution, value_in, image, IsTyped}
+use Rattle.ab_term.specs.Variables.{variables, image_by}
 use Rattle.ab_term.specs.Reach.{reach}
 use Rattle.ab_term.specs.Closing.{close, abstracted}
 use Rattle.ab_term.proofs.Images.{IsTypedMap}
 use Rattle.ab_term.proofs.ImageTranslations.{translate-image_by}
 use Rattle.ab_term.proofs.Translations.{translate-shift, translate-instance, translate-rename, translate_typed, typed_before, support-translate, variables-translate, reach-translate}
-use Rattle.ab_term.proofs.Compositions.{map_typed}
 use Rattle.ab_term.proofs.Closing.{forget-close, forget-abstracted}
 
 map_same : {Var : Type 0} (ys : List (Variable Var)) → map (translate_variable (λ v. v)) ys ≡ ys

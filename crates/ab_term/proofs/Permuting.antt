@@ -1,6 +1,6 @@
 -- A one-to-one, type-keeping map of listed constants extends to a permutation; renaming depends only on what it does
 -- to a term's constants.
-use Rattle.std.proofs.Common.{◌≡◌, ◌≢◌, ◌⊎◌, inl, inr, ℕ, List, [], ◌∷◌, ◌++◌, map, Bool, true, false, cond, refl, sym, ◌∙◌, ap, subst}
+use Rattle.std.proofs.Common.{◌≡◌, ◌≢◌, ◌⊎◌, inl, inr, List, [], ◌∷◌, ◌++◌, map, Bool, true, false, cond, refl, sym, ◌∙◌, ap, subst}
 use Rattle.std.specs.Prelude.{All, AllPairs, Contains}
 use Rattle.std.proofs.lemmas.Bool.{false≢true, false_from_ne_true}
 use Rattle.std.proofs.lemmas.List.Elements.{Contains-append_left, Contains-append_right, All-contains, All-tail}
@@ -10,7 +10,7 @@ use Rattle.ab_term.specs.Substitution.{instance}
 use Rattle.ab_term.specs.Names.{same_nominal, support_of_head, support, support_of_all, rename_head, rename, rename_all, moved_by, IsPermutationTable, permute, EqualUpToNames}
 use Rattle.ab_term.specs.Translation.{forget}
 use Rattle.ab_term.proofs.Comparisons.{same_nominal-Decides}
-use Rattle.ab_term.proofs.Lists.{Contains-none, Contains-here, Contains-there, Contains-cases, AllPairs-none, AllPairs-parts, All-from_contains, Contains-map, Contains-from_map, distinct, distinct_pairs, Contains-distinct, Contains-undistinct}
+use Rattle.ab_term.proofs.Lists.{Contains-none, Contains-here, Contains-there, Contains-cases, AllPairs-none, AllPairs-parts, All-from_contains, Contains-from_map, distinct, distinct_pairs, Contains-distinct, Contains-undistinct}
 use Rattle.ab_term.proofs.Permutations.{IsOneToOne, table_of, table_of_permutes, moved_by-table_of}
 use Rattle.ab_term.proofs.Stands.{either}
 use Rattle.ab_term.proofs.Translations.{translate-instance}
@@ -209,8 +209,8 @@ module _ (f : Nominal → Nominal) (S : List Nominal) (injective : (a b : Nomina
     moving_table once (map f once) (types once within),
     moving_permutes once (map f once) (types once within),
     λ a k.
-      moved_by-moving once (map f once) (types once within) a
-      ∙ at once (moved once (map f once)) (moved_each once (map f once) (types once within) (distinct_pairs same_nominal same_nominal-Decides S) (images_differ once within (distinct_pairs same_nominal same_nominal-Decides S))) a (Contains-distinct same_nominal same_nominal-Decides S a k),
+        moved_by-moving once (map f once) (types once within) a
+        ∙ at once (moved once (map f once)) (moved_each once (map f once) (types once within) (distinct_pairs same_nominal same_nominal-Decides S) (images_differ once within (distinct_pairs same_nominal same_nominal-Decides S))) a (Contains-distinct same_nominal same_nominal-Decides S a k),
   )
 
 module _ {Var Hint : Type 0} (ps : List (Nominal × Nominal)) where

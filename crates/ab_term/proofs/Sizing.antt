@@ -2,7 +2,7 @@
 -- binders that go.
 use Rattle.std.proofs.Common.{◌≡◌, ℕ, zero, suc, ◌+◌, ◌≤◌, List, [], ◌∷◌, length, Option, Some, None, refl, sym, ◌∙◌, ap, subst, arith}
 use Rattle.ab_term.specs.Types.{Ty, kind, arrow, arity}
-use Rattle.ab_term.specs.Terms.{Nominal, Head, index, Term, lam, spine, Terms, no_terms, term}
+use Rattle.ab_term.specs.Terms.{Nominal, Head, Term, lam, spine, Terms, no_terms, term}
 use Rattle.ab_term.specs.Typing.{Signature, head_type, HasType, TakeType, typed_lam, typed_spine, take_none, take_term}
 use Rattle.ab_term.specs.Substitution.{shift_head, shift, shift_all, lower_head, put, reduce, substitute, substitute_all}
 use Rattle.ab_term.specs.Expansion.{expansion}
@@ -12,6 +12,8 @@ use Rattle.ab_term.specs.Sizes.{size, sizes}
 use Rattle.ab_term.specs.Closing.{Named, named_none, named_more, name_terms, close, close_all, abstracted}
 use Rattle.ab_term.proofs.Preservation.{Insert, here, there, head_type-shift, reduce_typed, substitute_typed, substitute_all_by_typed}
 use Rattle.ab_term.proofs.Expansions.{shift-expansion_of, reduce-expansion_of, reduce-no_terms, expansion_typed}
+use Rattle.ab_term.proofs.Translations.{translate-reduce, translate_typed}
+use Rattle.ab_term.proofs.Hinted.{forget-names}
 use Rattle.ab_term.proofs.Lowering.{lower_head-none}
 use Rattle.ab_term.proofs.Closing.{type_at-insert}
 
@@ -91,3 +93,13 @@ module _ (sg : Signature) where
       let rest = size-given (substitute A (expansion tt A h) zero t) n (substitute_typed sg (expansion_typed sg tt A G h e) here d) in
       let one = size-name h e here d in
       omega (arith, rest, one)
+
+module _ (sg : Signature) {Hint : Type 0} (x : Hint) where
+  pub size-given_hints : {G : List Ty} {A C : Ty} {hs : List (Head ℕ)} (v : Term ℕ Hint) → Named sg G hs A C → HasType sg G v A → size (reduce A v (name_terms x A hs)) + length hs ≡ size v
+  size-given_hints {A = A} {hs = hs} v n d =
+      ap (λ s. s + length hs)
+      (sym (size-translate (λ v. v) (λ y. tt) (reduce A v (name_terms x A hs)))
+      ∙ ap size (translate-reduce (λ v. v) (λ y. tt) A v (name_terms x A hs))
+      ∙ ap (λ ts. size (reduce A (translate (λ v. v) (λ y. tt) v) ts)) (forget-names x A hs))
+      ∙ size-given sg (translate (λ v. v) (λ y. tt) v) n (translate_typed sg (λ v. v) (λ y. tt) d)
+      ∙ size-translate (λ v. v) (λ y. tt) v

@@ -1,15 +1,15 @@
 -- The nominal constants and the variables of shifts, eta-long forms, instances and images.
-use Rattle.std.proofs.Common.{◌≡◌, ◌⊎◌, inl, inr, ℕ, zero, suc, List, [], ◌∷◌, ◌++◌, Option, Some, None, refl, sym, ◌∙◌, ap, subst, append_assoc, append-nil}
+use Rattle.std.proofs.Common.{◌≡◌, ◌⊎◌, inl, inr, ℕ, zero, suc, [], ◌∷◌, ◌++◌, Option, Some, None, refl, sym, ◌∙◌, ap, subst, append_assoc, append-nil}
 use Rattle.std.specs.Prelude.{Contains}
 use Rattle.std.proofs.lemmas.List.Elements.{Contains-append_left, Contains-append_right, Contains-append_cases}
 use Rattle.ab_term.specs.Types.{Ty, kind, arrow}
 use Rattle.ab_term.specs.Terms.{Nominal, Variable, Head, constant, logical, nominal, variable, index, Term, lam, spine, Terms, no_terms, term, with_last}
-use Rattle.ab_term.specs.Substitution.{shift_head, shift, shift_all, reduce, substitute, instance}
+use Rattle.ab_term.specs.Substitution.{shift_head, shift, shift_all, instance}
 use Rattle.ab_term.specs.Expansion.{expansion_of, expansion}
 use Rattle.ab_term.specs.Names.{support_of_head, support, support_of_all}
-use Rattle.ab_term.specs.Variables.{variables_of_head, variables, variables_of_all, image_by, image_all_by}
+use Rattle.ab_term.specs.Variables.{variables_of_head, variables, variables_of_all, image_by}
 use Rattle.ab_term.proofs.Lists.{Contains-none, Contains-here, Contains-cases}
-use Rattle.ab_term.proofs.Standing.{HeadHas, Has, AllHave, reduce_has, substitute_has, instance_has, Carries, image_by_has}
+use Rattle.ab_term.proofs.Standing.{HeadHas, Has, AllHave, instance_has, Carries, image_by_has}
 
 pub either : {X Y Z : Type 0} → (X → Z) → (Y → Z) → X ⊎ Y → Z
 either f g (inl x) = f x

@@ -1,6 +1,6 @@
 -- Well-typed terms that may hold redexes, with types at their binders, and their eta-long normal form, reached by
 -- beta steps and eta expansions. The binders that an expansion makes have the hint x.
-use Rattle.std.specs.Prelude.{◌≡◌, ℕ, zero, List, ◌∷◌, Option, Some, None}
+use Rattle.std.specs.Prelude.{◌≡◌, zero, List, ◌∷◌, Option, Some, None}
 use Rattle.ab_term.specs.Types.{Ty, arrow}
 use Rattle.ab_term.specs.Terms.{Head, index, Term, lam, spine, no_terms}
 use Rattle.ab_term.specs.Typing.{Signature, head_type}

@@ -8,7 +8,15 @@ ghost use Rattle.ab_term.specs.Substitution.{shift, reduce, instance, instance_b
 ghost use Rattle.ab_term.specs.Names.{support};
 ghost use Rattle.ab_term.specs.Reach.{reach, raise};
 ghost use Rattle.ab_term.specs.Variables.{
-    variables, Substitution, value_in, image, image_all, composition, one_by_one, at_once, IsTyped
+  variables,
+  Substitution,
+  value_in,
+  image,
+  image_all,
+  composition,
+  one_by_one,
+  at_once,
+  IsTyped,
 };
 
 /// The image of a well-typed term has the same type, and is canonical again.
