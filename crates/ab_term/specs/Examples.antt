@@ -1,7 +1,8 @@
 -- A few terms over one kind, for worked instances of the definitions. Variables are numbers, hints are names.
-use Rattle.std.specs.Prelude.{ℕ, List, codes}
-use Rattle.ab_term.specs.Types.{Ty, kind}
-use Rattle.ab_term.specs.Terms.{constant, index, Term, spine, no_terms, term}
+use Rattle.std.specs.Prelude.{ℕ, List, codes, bytes_eq, if◌then◌else◌, Some, None}
+use Rattle.ab_term.specs.Types.{Ty, kind, arrow}
+use Rattle.ab_term.specs.Terms.{Nominal, constant, index, Term, spine, no_terms, term}
+use Rattle.ab_term.specs.Typing.{Signature}
 
 abbrev pub i : Ty
 i = kind (codes "i")
@@ -22,3 +23,11 @@ known b = spine (constant b) no_terms
 
 abbrev pub known_of : List ℕ → Written → Written
 known_of b t = spine (constant b) (term t no_terms)
+
+-- n1 of the type
+abbrev pub constant_of : Ty → Nominal
+constant_of A = record { number = 1; type = A }
+
+-- one constant, of type i -> i
+abbrev pub only_s : Signature
+only_s c = if bytes_eq c (codes "s") then Some (arrow i i) else None

@@ -11,12 +11,19 @@
 //! - Hereditary substitution is a total function, by recursion on the type of what is put in and then on the
 //!   term. That what it gives for well-typed terms is well-typed, and so canonical, is the theorem that it
 //!   ends: no other measure stands behind it.
+//! - `binding` closes a head under a binder, `inverting` abstracts over names, `normal_forms` leads from terms
+//!   with redexes to canonical ones. Lemmas that other crates cite by name are in `proofs/`, by subject.
 #![tactic(auto)]
 
+pub mod binding;
 pub mod examples;
 pub mod expanding;
+pub mod hints;
+pub mod inverting;
+pub mod normal_forms;
 pub mod renaming;
 pub mod replacing;
+pub mod sizes;
 pub mod substituting;
 pub mod translating;
 pub mod typing;

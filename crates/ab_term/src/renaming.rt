@@ -1,11 +1,21 @@
 //! Laws of permutations of nominal constants, and of equality up to them.
 
-ghost use Rattle.std.specs.Prelude.{◌≡◌, List, Bool, map};
+ghost use Rattle.std.specs.Prelude.{◌≡◌, List, Bool, map, Contains};
 ghost use Rattle.ab_term.specs.Types.{Ty};
 ghost use Rattle.ab_term.specs.Terms.{Nominal, Term};
 ghost use Rattle.ab_term.specs.Typing.{Signature, HasType};
 ghost use Rattle.ab_term.specs.Substitution.{instance};
-ghost use Rattle.ab_term.specs.Names.{support, permute, moved_by, IsPermutationTable, EqualUpToNames};
+ghost use Rattle.ab_term.specs.Translation.{EqualPastHints};
+ghost use Rattle.ab_term.specs.Names.{
+  support,
+  rename,
+  permute,
+  moved_by,
+  IsPermutationTable,
+  HasOneTypeEach,
+  IsSupport,
+  EqualUpToNames,
+};
 ghost use Rattle.ab_term.specs.Variables.{Substitution, image};
 
 /// A permutation keeps types, goes through instances and substitutions, and moves the support.
@@ -34,4 +44,30 @@ pub fn equality_up_to_names<Var, Hint>()
     ensures reflexive { (t : Term Var Hint) → EqualUpToNames t t }
     ensures symmetric { (t u : Term Var Hint) → EqualUpToNames t u → EqualUpToNames u t }
     ensures transitive { (t u v : Term Var Hint) → EqualUpToNames t u → EqualUpToNames u v → EqualUpToNames t v }
+{}
+
+/// Each term has its nominal constants as a list, each once and in order of number, and but one such list
+/// where each number stands at one type.
+pub fn support_is_a_list<Var, Hint>()
+    ensures some { (t : Term Var Hint) → (list : List Nominal) × IsSupport t list }
+    ensures one { (t : Term Var Hint) (list more : List Nominal) → HasOneTypeEach (support t) →
+        IsSupport t list → IsSupport t more → list ≡ more }
+{}
+
+/// A map of a term's constants extends to a permutation where it is one-to-one and keeps types.
+pub fn maps_extend_to_permutations<Var, Hint>()
+    ensures constants { (f : Nominal → Nominal) (standing : List Nominal) →
+        ((a b : Nominal) → Contains standing a → Contains standing b → f a ≡ f b → a ≡ b) →
+        ((a : Nominal) → Contains standing a → (f a).type ≡ a.type) →
+        (ps : List (Nominal × Nominal)) × IsPermutationTable ps ×
+        ((a : Nominal) → Contains standing a → moved_by ps a ≡ f a) }
+    ensures terms { (f g : Nominal → Nominal) (t : Term Var Hint) →
+        ((a : Nominal) → Contains (support t) a → f a ≡ g a) → rename f t ≡ rename g t }
+{}
+
+/// Under one permutation, instances of what it makes equal are equal.
+pub fn equality_up_to_names_respects_instances<Var, Hint>()
+    ensures { (ps : List (Nominal × Nominal)) (t u v w : Term Var Hint) →
+        EqualPastHints (permute ps t) v → EqualPastHints (permute ps u) w →
+        EqualPastHints (permute ps (instance t u)) (instance v w) }
 {}
