@@ -1,0 +1,5 @@
+//! Pattern unification.
+#![tactic(auto)]
+
+pub mod examples;
+pub mod laws;
