@@ -14,3 +14,5 @@ pub mod Completed
 pub mod UpTo
 pub mod Gathered
 pub mod Renamed
+pub mod Remembered
+pub mod Changed

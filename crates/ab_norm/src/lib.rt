@@ -8,6 +8,7 @@ mod indices;
 mod instantiating;
 mod items;
 mod matching;
+mod memo;
 mod nominal;
 mod permuting;
 mod raising;
@@ -17,6 +18,7 @@ mod supporting;
 mod tests;
 mod tree;
 mod unsharing;
+mod walking;
 
 pub use comparing::equal;
 pub use expanding::eta;

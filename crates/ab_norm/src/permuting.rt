@@ -99,7 +99,7 @@ fn rename_all(
 }
 
 /// The head, or what the table makes of it where it is a nominal constant.
-fn rename_head(head: Head, table: &[Swap]) -> Head
+pub(crate) fn rename_head(head: Head, table: &[Swap]) -> Head
     ensures held { (store : Contents) → HoldsHead store head → HoldsHead store result }
     ensures typed { (types : Table) → IsTable types → HoldsPairs types table.now → HeadIsTyped types head → HeadIsTyped types result }
     ensures reads { (types : Table) (store : Contents) → IsTable types → HoldsPairs types table.now → HeadIsTyped types head →
