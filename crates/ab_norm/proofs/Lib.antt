@@ -1,7 +1,6 @@
 pub mod Lowering
 pub mod Bounds
 pub mod Frame
-pub mod Raised
 pub mod Substituted
 pub mod Instances
 pub mod Expanded

@@ -11,8 +11,6 @@ mod matching;
 mod memo;
 mod nominal;
 mod permuting;
-mod raising;
-mod substituting;
 mod supporting;
 #[cfg(test)]
 mod tests;

@@ -319,6 +319,31 @@ pub(crate) fn lift<L>(
     walk(alloc, types, store, &Change::Raise(by), 0, term, &mut memo, steps)
 }
 
+/// The terms, where so many binders are put in around them.
+pub(crate) fn lift_all<L>(
+    alloc: Global,
+    types: &TypeTable,
+    store: &mut Store,
+    by: usize,
+    terms: &[TermId],
+    steps: &mut Steps<L>,
+) -> Result<Vec<TermId>, AllocError>
+    requires types { IsTable types.now }
+    requires store { IsTypedBy types.now store.old }
+    requires terms { All (Holds store.old) terms.now }
+    ensures adds { AddsTerms store.old store.new }
+    ensures held { IfOk result (λ rs. All (Holds store.new) rs.items) }
+    ensures reads { IfOk result (λ rs.
+        map (reading types.now store.new) rs.items ≡ map (λ t. raised by 0 (reading types.now store.old t)) terms.now) }
+    ensures steps { steps.old ≤ steps.new }
+{
+    let mut lifted = Vec::new(alloc);
+    for term in terms {
+        lifted.push(lift(alloc, types, store, by, *term, steps)?)?;
+    }
+    Ok(lifted)
+}
+
 /// The term, of the type, given the arguments.
 #[cycle(walked)]
 fn reduce<L>(
