@@ -14,7 +14,7 @@ ghost use Rattle.ab_store.specs.declared.node.Node.TheVariants.{Spine};
 ghost use Rattle.ab_norm.specs.Growth.{AddsTerms};
 ghost use Rattle.ab_norm.specs.Changes.{changed, head_changed, Fits, Suits, Remembers, AddsFor};
 
-use crate::comparing::is_same_head;
+use crate::comparing::{is_same_head, is_same_term};
 use crate::indices::{lower_head, next, raise_head};
 use crate::memo::Memo;
 use crate::nominal::Swaps;
@@ -87,12 +87,6 @@ fn lam_again(
     } else {
         store.lam(ty, hint, inner)
     }
-}
-
-fn is_same_term(a: TermId, b: TermId) -> bool
-    ensures { result ≡ true → a ≡ b }
-{
-    a == b
 }
 
 fn are_same_terms(these: &[TermId], those: &[TermId]) -> bool
