@@ -3,7 +3,11 @@ use Rattle.std.proofs.Common.{ℕ, zero, suc, ◌+◌, ◌<◌, ◌≤◌, max, 
 use Rattle.std.specs.List.{All}
 use Rattle.std.proofs.lemmas.List.Elements.{All-head, All-tail}
 use Rattle.ab_term.specs.Types.{Ty, kind, arrow}
+use Rattle.ab_types.specs.Entries.{Table}
+use Rattle.ab_types.specs.Ids.{type_of}
 use Rattle.ab_store.specs.declared.node.TermId.{TermId}
+use Rattle.ab_norm.specs.declared.walking.Change.{Change}
+use Rattle.ab_norm.specs.declared.walking.Change.TheVariants.{Raise, Put, Rename}
 
 -- one more than the largest
 abbrev pub ids_bound : List TermId → ℕ
@@ -23,3 +27,12 @@ below_bound (t ∷ ts) (suc i) d h = omega (arith, below_bound ts i d (omega ari
 abbrev pub size : Ty → ℕ
 size (kind c) = 1
 size (arrow A B) = size A + size B + 1
+
+pub size_positive : (A : Ty) → 0 < size A
+size_positive (kind c) = omega arith
+size_positive (arrow A B) = omega arith
+
+-- the size of the type of what is put in
+abbrev pub rank : Table → Change → ℕ
+rank types (Put a u) = size (type_of types a)
+rank types _ = 0

@@ -1,5 +1,5 @@
 -- When two terms of a store read alike past their hints.
-use Rattle.std.proofs.Common.{◌≡◌, ◌≢◌, ◌↔◌, ℕ, ◌+◌, ◌<◌, ◌≤◌, List, [], ◌∷◌, ◌++◌, map, take, length, get_or, Bool, true, false, refl, sym, ◌∙◌, ap, arith}
+use Rattle.std.proofs.Common.{◌≡◌, ◌≢◌, ◌⊎◌, inl, inr, ◌↔◌, ℕ, ◌+◌, ◌<◌, ◌≤◌, List, [], ◌∷◌, ◌++◌, map, take, length, get_or, Bool, true, false, refl, sym, ◌∙◌, ap, arith}
 use Rattle.std.proofs.lemmas.List.{map_more, take_all, get_or-map, length-map}
 use Rattle.ab_term.specs.Terms as tree
 use Rattle.ab_term.specs.Terms.{Term, Terms, lam, spine, term, no_terms, terms_of}
@@ -14,7 +14,10 @@ use Rattle.ab_store.specs.declared.node.Head.{Head}
 use Rattle.ab_store.specs.declared.node.Node.{Node}
 use Rattle.ab_store.specs.declared.node.Node.TheVariants.{Lam, Spine}
 use Rattle.ab_store.specs.Reading.{Read, Contents, reading, head_reading, node_reading}
-use Rattle.ab_store.specs.Naming.{HeadIsTyped}
+use Rattle.ab_store.specs.Naming.{HeadIsTyped, IsTypedBy}
+use Rattle.ab_norm.specs.declared.memo.Agreed.{Agreed}
+use Rattle.ab_norm.specs.Remembering.{has_agreed}
+use Rattle.ab_norm.specs.Matching.{AllAgree}
 use Rattle.ab_norm.proofs.OneHead.{one_head}
 
 abbrev pub Bare : Type 0
@@ -133,3 +136,14 @@ never A out = (λ e. absurd (cc), λ a. absurd (out a))
 -- what a test that failed says
 pub apart : {X : Type 0} {x y : X} (r : Bool) → r ≡ false → (r ≡ true) ↔ (x ≡ y) → x ≢ y
 apart r off test e = let f = sym off ∙ test.1 e in absurd (cc)
+
+-- one pair more is kept
+pub agrees_more : (s : Contents) (old new : Agreed) (a b : TermId) → AllAgree s old
+    → ((types : Table) → IsTable types → IsTypedBy types s → EqualPastHints (reading types s a) (reading types s b))
+    → ((x y : TermId) → (has_agreed new x y ≡ has_agreed old x y) ⊎ ((x ≡ a) × (y ≡ b))) → AllAgree s new
+agrees_more s old new a b known here keeps types ok typed x y e = go (keeps x y)
+  where
+    go : (has_agreed new x y ≡ has_agreed old x y) ⊎ ((x ≡ a) × (y ≡ b)) → EqualPastHints (reading types s x) (reading types s y)
+    go (inl same) = known types ok typed x y (sym same ∙ e)
+    go (inr one) =
+        ap (λ i. forget (reading types s i)) one.0 ∙ here types ok typed ∙ ap (λ i. forget (reading types s i)) (sym one.1)

@@ -24,7 +24,9 @@ use Rattle.ab_norm.specs.declared.nominal.Nominal.{Nominal}
 use Rattle.ab_types.specs.Sound.{IsTable}
 use Rattle.ab_types.proofs.Kept.{one_type}
 use Rattle.ab_norm.specs.Nominals.{nominal_of, HoldsNominal}
-use Rattle.ab_norm.specs.Gathering.{Gathers}
+use Rattle.ab_norm.specs.declared.memo.Seen.{Seen}
+use Rattle.ab_norm.specs.Remembering.{has_been}
+use Rattle.ab_norm.specs.Gathering.{Gathers, AllFound}
 
 module _ {X : Type 0} where
   in_front : (xs ys : List X) (a : X) → Contains xs a → Contains (xs ++ ys) a
@@ -184,6 +186,25 @@ pub gathers_more : (types : Table) (s : Contents) (ids : List TermId) (i : ℕ) 
 gathers_more types s ids i d ks ls ms h a b =
     subst (λ l. Gathers types ks ms (support_of_all (terms_of l))) (sym (map_more (reading types s) ids i d h))
     (subst (Gathers types ks ms) (sym (support_push (map (reading types s) (take i ids)) (reading types s (get_or ids i d)))) (gathers_on types ks ls ms _ _ a b))
+
+-- a term whose constants are there already gives nothing more
+pub gathers_known : (types : Table) (ks : List Nominal) (found : List tree.Nominal) → ((n : tree.Nominal) → Contains found n → Contains (map (nominal_of types) ks) n) → Gathers types ks ks found
+gathers_known types ks found known n = (inl, back)
+  where
+    back : Contains (map (nominal_of types) ks) n ⊎ Contains found n → Contains (map (nominal_of types) ks) n
+    back (inl c) = c
+    back (inr c) = known n c
+
+pub all_found_on : (s : Contents) (ks ls : List Nominal) (seen : Seen) (more : Table → List tree.Nominal) → ((types : Table) → Gathers types ks ls (more types)) → AllFound s ks seen → AllFound s ls seen
+all_found_on s ks ls seen more g known types t e n c = (g types n).1 (inl (known types t e n c))
+
+pub all_found_more : (s : Contents) (ks ls : List Nominal) (old new : Seen) (id : TermId) → ((types : Table) → Gathers types ks ls (support (reading types s id))) → AllFound s ls old
+    → ((t : TermId) → (has_been new t ≡ has_been old t) ⊎ (t ≡ id)) → AllFound s ls new
+all_found_more s ks ls old new id g known keeps types t e n c = go (keeps t)
+  where
+    go : (has_been new t ≡ has_been old t) ⊎ (t ≡ id) → Contains (map (nominal_of types) ls) n
+    go (inl same) = known types t (sym same ∙ e) n c
+    go (inr one) = (g types n).1 (inr (subst (λ i. Contains (support (reading types s i)) n) one c))
 
 -- the order of nominal constants
 

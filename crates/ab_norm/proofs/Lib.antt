@@ -1,7 +1,6 @@
 pub mod Lowering
 pub mod Bounds
 pub mod Frame
-pub mod Raised
 pub mod Substituted
 pub mod Instances
 pub mod Expanded
@@ -14,3 +13,5 @@ pub mod Completed
 pub mod UpTo
 pub mod Gathered
 pub mod Renamed
+pub mod Remembered
+pub mod Changed

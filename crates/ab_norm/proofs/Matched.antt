@@ -1,10 +1,10 @@
 -- What a walk through two terms finds out, part by part.
-use Rattle.std.proofs.Common.{◌≡◌, ◌≢◌, ◌↔◌, ℕ, zero, suc, ◌+◌, ◌<◌, ◌≤◌, List, [], ◌∷◌, ◌++◌, map, take, length, get_or, Bool, true, false, refl, sym, ◌∙◌, ap, subst, arith}
+use Rattle.std.proofs.Common.{◌≡◌, ◌≢◌, ◌⊎◌, inl, inr, ◌↔◌, ℕ, zero, suc, ◌+◌, ◌<◌, ◌≤◌, List, [], ◌∷◌, ◌++◌, map, take, length, get_or, Bool, true, false, refl, sym, ◌∙◌, ap, subst, arith}
 use Rattle.std.proofs.lemmas.List.{map_more, take_all, get_or-map, length-map}
 use Rattle.ab_term.specs.Terms as tree
 use Rattle.ab_term.specs.Terms.{lam, spine, terms_of}
 use Rattle.ab_term.specs.Translation.{forget, forget_all, translate_head}
-use Rattle.ab_term.specs.Names.{rename_head, rename, rename_all}
+use Rattle.ab_term.specs.Names.{support, rename_head, rename, rename_all}
 use Rattle.ab_types.specs.Entries.{Table}
 use Rattle.ab_types.specs.Ids.{HoldsType, type_of}
 use Rattle.ab_types.specs.Sound.{IsTable}
@@ -18,9 +18,12 @@ use Rattle.ab_store.specs.declared.node.Node.TheVariants.{Lam, Spine}
 use Rattle.ab_store.specs.Reading.{Contents, reading, head_reading, node_reading}
 use Rattle.ab_store.specs.Naming.{HeadIsTyped}
 use Rattle.ab_norm.specs.declared.nominal.Swap.{Swap}
+use Rattle.ab_norm.specs.declared.memo.Agreed.{Agreed}
+use Rattle.ab_norm.specs.Remembering.{has_agreed}
 use Rattle.ab_norm.specs.Nominals.{HoldsPairs}
-use Rattle.ab_norm.specs.Matching.{Renaming, IsRenaming, Found}
+use Rattle.ab_norm.specs.Matching.{Renaming, IsRenaming, Sends, Found, AllMatch}
 use Rattle.ab_norm.proofs.OneHead.{one_head}
+use Rattle.ab_norm.proofs.Renamed.{stays as term_stays}
 use Rattle.ab_norm.proofs.Compared.{Bare, bare, same_list, same_terms}
 
 module _ (types : Table) where
@@ -240,3 +243,24 @@ module _ (types : Table) (s : Contents) (f : Renaming) where
     λ e. last_parts (map image (take i ts)) (map (bare types s) (take i us)) (image (get_or ts i d)) (bare types s (get_or us i d)) (sym (map_more image ts i d l) ∙ e ∙ map_more (bare types s) us i d m),
     λ p. map_more image ts i d l ∙ ap (λ x. x ++ image (get_or ts i d) ∷ []) p.0 ∙ ap (λ x. map (bare types s) (take i us) ++ x ∷ []) p.1 ∙ sym (map_more (bare types s) us i d m),
   )
+
+-- pairs that are kept
+
+pub matches_on : (types : Table) (s : Contents) (old new : List Swap) (agreed : Agreed) → ((f : Renaming) → Sends types f new → Sends types f old) → AllMatch types s old agreed → AllMatch types s new agreed
+matches_on types s old new agreed before known x y e f sends = known x y e f (before f sends)
+
+pub matches_more : (types : Table) (s : Contents) (ps : List Swap) (old new : Agreed) (a b : TermId) → AllMatch types s ps old
+    → ((f : Renaming) → Sends types f ps → forget (rename f (reading types s a)) ≡ forget (reading types s b))
+    → ((x y : TermId) → (has_agreed new x y ≡ has_agreed old x y) ⊎ ((x ≡ a) × (y ≡ b))) → AllMatch types s ps new
+matches_more types s ps old new a b known here keeps x y e f sends = go (keeps x y)
+  where
+    go : (has_agreed new x y ≡ has_agreed old x y) ⊎ ((x ≡ a) × (y ≡ b)) → forget (rename f (reading types s x)) ≡ forget (reading types s y)
+    go (inl same) = known x y (sym same ∙ e) f sends
+    go (inr one) = ap (λ i. forget (rename f (reading types s i))) one.0 ∙ here f sends ∙ ap (λ i. forget (reading types s i)) (sym one.1)
+
+-- what is known already decides nothing more
+pub found_known : (types : Table) (ps : List Swap) (does : Renaming → Type 0) → HoldsPairs types ps → ((f : Renaming) → Sends types f ps → does f) → Found types ps ps does true
+found_known types ps does held known = record { held = held; before = λ f s. s; sound = λ e. known; complete = λ f r s d. (refl, s) }
+
+pub fixed_matches : (f : Renaming) (types : Table) (s : Contents) (a b : TermId) → a ≡ b → support (reading types s a) ≡ [] → forget (rename f (reading types s a)) ≡ forget (reading types s b)
+fixed_matches f types s a b one none = ap forget (term_stays f (reading types s a) none) ∙ ap (λ i. forget (reading types s i)) one

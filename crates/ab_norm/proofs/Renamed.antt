@@ -1,4 +1,4 @@
--- What the nodes that `rename` makes read as.
+-- Terms that renaming leaves as they are.
 use Rattle.std.proofs.Common.{◌≡◌, ℕ, ◌+◌, ◌<◌, List, [], ◌∷◌, ◌++◌, map, take, length, get_or, refl, sym, ◌∙◌, ap}
 use Rattle.std.specs.List.{All}
 use Rattle.std.proofs.lemmas.List.{map_more, map-append}
@@ -47,30 +47,6 @@ module _ (f : Renaming) where
     all_stay (term t ts) e =
         ap (λ u. term u (rename_all f ts)) (stays t (append_left (support t) (support_of_all ts) e))
         ∙ ap (term t) (all_stay ts (append_right (support t) (support_of_all ts) e))
-
-  rename_all_read : (g : TermId → Read) (ts : List TermId) → rename_all f (terms_of (map g ts)) ≡ terms_of (map (λ t. rename f (g t)) ts)
-  rename_all_read g [] = refl
-  rename_all_read g (t ∷ ts) = ap (term (rename f (g t))) (rename_all_read g ts)
-
-  module _ (types : Table) (s0 s1 s2 : Contents) (t r : TermId) (n : Node) (reads : reading types s0 t ≡ node_reading types s0 n) where
-    pub renamed_lam : (ty : TypeId) (x : List ℕ) (body inner : TermId) → n ≡ Lam ty x body
-        → reading types s1 inner ≡ rename f (reading types s0 body)
-        → reading types s2 r ≡ lam (type_of types ty) x (reading types s1 inner)
-        → reading types s2 r ≡ rename f (reading types s0 t)
-    renamed_lam ty x body inner is here made =
-        made ∙ ap (lam (type_of types ty) x) here ∙ sym (ap (rename f) (reads ∙ ap (node_reading types s0) is))
-
-    pub renamed_spine : (h g : Head) (args given made : List TermId) → n ≡ Spine h args → s1.cells ≡ s0.cells → given ≡ args
-        → head_reading types s1 g ≡ rename_head f (head_reading types s1 h)
-        → map (reading types s1) made ≡ map (λ t. rename f (reading types s0 t)) given
-        → reading types s2 r ≡ spine (head_reading types s1 g) (terms_of (map (reading types s1) made))
-        → reading types s2 r ≡ rename f (reading types s0 t)
-    renamed_spine h g args given made is cells same head here put =
-        put
-        ∙ ap (λ k. spine k (terms_of (map (reading types s1) made))) (head ∙ ap (λ (C : List CellEntry). rename_head f (head_in types C h)) cells)
-        ∙ ap (λ l. spine (rename_head f (head_reading types s0 h)) (terms_of l)) (here ∙ ap (map (λ t. rename f (reading types s0 t))) same)
-        ∙ ap (spine (rename_head f (head_reading types s0 h))) (sym (rename_all_read (reading types s0) args))
-        ∙ sym (ap (rename f) (reads ∙ ap (node_reading types s0) is))
 
 -- one more argument
 pub read_more_before : (types : Table) (F : Read → Read) (s0 s1 s2 : Contents) (ts done more : List TermId) (i : ℕ) (d r : TermId)

@@ -8,3 +8,5 @@ pub mod Nominals
 pub mod Matching
 pub mod Completing
 pub mod Gathering
+pub mod Remembering
+pub mod Changes

@@ -2,7 +2,15 @@
 -- the pairs of constants that each such permutation has to send to one another.
 use Rattle.std.specs.Prelude.{◌≡◌, ◌≢◌, List, Bool, true, All, AllPairs}
 use Rattle.ab_term.specs.Terms as tree
+use Rattle.ab_term.specs.Translation.{forget, EqualPastHints}
+use Rattle.ab_term.specs.Names.{rename}
 use Rattle.ab_types.specs.Entries.{Table}
+use Rattle.ab_types.specs.Sound.{IsTable}
+use Rattle.ab_store.specs.declared.node.TermId.{TermId}
+use Rattle.ab_store.specs.Reading.{Contents, reading}
+use Rattle.ab_store.specs.Naming.{IsTypedBy}
+use Rattle.ab_norm.specs.declared.memo.Agreed.{Agreed}
+use Rattle.ab_norm.specs.Remembering.{has_agreed}
 use Rattle.ab_norm.specs.declared.nominal.Swap.{Swap}
 use Rattle.ab_norm.specs.Nominals.{nominal_of, HoldsPairs}
 
@@ -31,3 +39,13 @@ pub record Found (types : Table) (old new : List Swap) (does : Renaming → Type
   pub before : (f : Renaming) → Sends types f new → Sends types f old
   pub sound : answer ≡ true → (f : Renaming) → Sends types f new → does f
   pub complete : (f : Renaming) → IsRenaming f → Sends types f old → does f → (answer ≡ true) × Sends types f new
+
+-- each pair that is kept reads alike past hints
+abbrev pub AllAgree : Contents → Agreed → Type 0
+AllAgree store agreed = (types : Table) → IsTable types → IsTypedBy types store → (x y : TermId) → has_agreed agreed x y ≡ true →
+    EqualPastHints (reading types store x) (reading types store y)
+
+-- each pair that is kept is sent by whatever sends the pairs of constants
+abbrev pub AllMatch : Table → Contents → List Swap → Agreed → Type 0
+AllMatch types store ps agreed = (x y : TermId) → has_agreed agreed x y ≡ true → (f : Renaming) → Sends types f ps →
+    forget (rename f (reading types store x)) ≡ forget (reading types store y)

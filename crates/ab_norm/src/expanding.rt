@@ -7,15 +7,16 @@ ghost use Rattle.ab_term.specs.Substitution.{shift_head, shift_all};
 ghost use Rattle.ab_term.specs.Expansion.{expansion, expansion_of};
 ghost use Rattle.ab_types.specs.Entries.{signature};
 ghost use Rattle.ab_types.specs.Ids.{HoldsType, type_of};
+ghost use Rattle.ab_types.specs.Sound.{IsTable};
 ghost use Rattle.ab_store.specs.Reading.{Holds, reading, head_reading};
 ghost use Rattle.ab_store.specs.Growth.{IsExtendedBy};
 ghost use Rattle.ab_store.specs.Naming.{HoldsHead, HeadIsTyped, IsTypedBy, IsTerm};
 ghost use Rattle.ab_norm.specs.Growth.{AddsTypedTerms};
 
 use crate::indices::raise_head;
-use crate::raising::raise_all;
+use crate::walking::lift_all;
 use ab_store::{Head, Store, TermId};
-use ab_types::{Name, TypeId, TypeTable, TypeView};
+use ab_types::{Name, Steps, TypeId, TypeTable, TypeView};
 use std::alloc::{AllocError, Global};
 
 /// The head at the type, with as many bound names as that takes. Their binders have the hint `x`.
@@ -38,6 +39,8 @@ pub fn eta(
         IsTerm types.now store.new G r (type_of types.now ty)) }
     ensures adds { AddsTypedTerms types.now store.old store.new }
 {
+    // no two ids of a table stand for one type
+    let _ = types.len();
     expand(alloc, types, store, ty, head, Vec::new(alloc))
 }
 
@@ -51,6 +54,7 @@ fn expand(
     head: Head,
     args: Vec<TermId>,
 ) -> Result<TermId, AllocError>
+    requires types { IsTable types.now }
     requires store { IsTypedBy types.now store.old }
     requires head { HoldsHead store.old head }
     requires typed { HeadIsTyped types.now head }
@@ -81,6 +85,7 @@ fn widen(
     from: TypeId,
     args: Vec<TermId>,
 ) -> Result<Vec<TermId>, AllocError>
+    requires types { IsTable types.now }
     requires store { IsTypedBy types.now store.old }
     requires from { HoldsType types.now from }
     requires args { All (Holds store.old) args.items }
@@ -90,7 +95,8 @@ fn widen(
         ≡ with_last (shift_all 0 (terms_of (map (reading types.now store.old) args.items))) (expansion_of (codes "x") (type_of types.now from) (index 0) no_terms)) }
     ensures adds { AddsTypedTerms types.now store.old store.new }
 {
-    let mut given = raise_all(alloc, store, 1, 0, &args)?;
+    let mut steps = Steps::<()>::new();
+    let mut given = lift_all(alloc, types, store, 1, &args, &mut steps)?;
     let name = expand(alloc, types, store, from, Head::Index(0), Vec::new(alloc))?;
     given.push(name)?;
     Ok(given)

@@ -5,11 +5,13 @@ ghost use Rattle.ab_term.specs.Terms.{terms_of};
 ghost use Rattle.ab_term.specs.Typing.{TakeType};
 ghost use Rattle.ab_term.specs.Substitution.{instance, instance_by_all};
 ghost use Rattle.ab_types.specs.Entries.{signature};
+ghost use Rattle.ab_types.specs.Sound.{IsTable};
 ghost use Rattle.ab_store.specs.Reading.{Holds, reading};
 ghost use Rattle.ab_store.specs.Naming.{IsTypedBy, IsTerm};
 ghost use Rattle.ab_norm.specs.Growth.{AddsTerms};
 
-use crate::substituting::{Put, substitute};
+use crate::memo::Memo;
+use crate::walking::{Change, walk};
 use ab_store::{Node, Store, TermId};
 use ab_types::{Steps, TypeTable};
 use std::alloc::{AllocError, Global};
@@ -38,6 +40,8 @@ pub fn instantiate<L>(
     ensures adds { AddsTerms store.old store.new }
     ensures steps { steps.old < steps.new }
 {
+    // no two ids of a table stand for one type
+    let _ = types.len();
     steps.tick();
     let mut here = lam;
     for arg in args {
@@ -55,6 +59,7 @@ fn apply<L>(
     arg: TermId,
     steps: &mut Steps<L>,
 ) -> Result<TermId, AllocError>
+    requires types { IsTable types.now }
     requires store { IsTypedBy types.now store.old }
     requires term { Holds store.old term }
     requires arg { Holds store.old arg }
@@ -66,14 +71,10 @@ fn apply<L>(
 {
     match store.view(term) {
         Node::Lam(ty, _, body) => {
-            let put = Put {
-                ty: *ty,
-                term: arg,
-                at: 0,
-                under: 0,
-            };
+            let put = Change::Put(*ty, arg);
             let body = *body;
-            substitute(alloc, types, store, put, body, steps)
+            let mut memo = Memo::new(alloc);
+            walk(alloc, types, store, &put, 0, body, &mut memo, steps)
         }
         Node::Spine(_, _) => Ok(term),
     }

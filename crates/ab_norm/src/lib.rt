@@ -8,15 +8,15 @@ mod indices;
 mod instantiating;
 mod items;
 mod matching;
+mod memo;
 mod nominal;
 mod permuting;
-mod raising;
-mod substituting;
 mod supporting;
 #[cfg(test)]
 mod tests;
 mod tree;
 mod unsharing;
+mod walking;
 
 pub use comparing::equal;
 pub use expanding::eta;

@@ -1,17 +1,18 @@
 //! Terms that a permutation of nominal constants sends to one another.
-ghost use Rattle.std.specs.Prelude.{◌≡◌, ◌≢◌, ◌↔◌, ◌⊎◌, true, map, IfOk, IfSome, IsNone, All, Contains, MatchOption};
+ghost use Rattle.std.specs.Prelude.{◌≡◌, ◌≢◌, ◌↔◌, ◌⊎◌, true, [], map, IfOk, OnOk, IfSome, IsNone, All, Contains, MatchOption};
 ghost use Rattle.ab_term.specs.Terms.{terms_of};
 ghost use Rattle.ab_term.specs.Translation.{forget, forget_all, EqualPastHints};
-ghost use Rattle.ab_term.specs.Names.{rename_head, rename, rename_all, permute, IsPermutationTable, EqualUpToNames};
+ghost use Rattle.ab_term.specs.Names.{support, rename_head, rename, rename_all, permute, IsPermutationTable, EqualUpToNames};
 ghost use Rattle.ab_types.specs.Entries.{Table};
 ghost use Rattle.ab_types.specs.Sound.{IsTable};
 ghost use Rattle.ab_store.specs.Reading.{Contents, Holds, reading, head_reading};
 ghost use Rattle.ab_store.specs.Naming.{HeadIsTyped, IsTypedBy};
 ghost use Rattle.ab_norm.specs.Nominals.{nominal_of, pairs_of, HoldsNominal, HoldsPairs};
-ghost use Rattle.ab_norm.specs.Matching.{IsOneToOne, Found};
+ghost use Rattle.ab_norm.specs.Matching.{IsOneToOne, Found, AllMatch};
 
-use crate::comparing::{is_same_head, is_same_type};
+use crate::comparing::{is_same_head, is_same_term, is_same_type};
 use crate::completing::complete;
+use crate::memo::Agreed;
 use crate::nominal::{Nominal, Permutation, Swap, Swaps};
 use ab_store::{Head, Node, Store, TermId};
 use ab_types::TypeTable;
@@ -117,27 +118,82 @@ fn match_heads(a: Head, b: Head, decided: &mut Vec<Swap>) -> Result<bool, AllocE
     }
 }
 
+/// Whether the terms are one, without nominal constants: then each permutation sends one to the other.
+fn is_fixed(store: &Store, a: TermId, b: TermId) -> bool
+    requires { Holds store.now a }
+    ensures { result ≡ true → (a ≡ b) × ((types : Table) → support (reading types store.now a) ≡ []) }
+{
+    if is_same_term(a, b) {
+        !store.has_nominals(a)
+    } else {
+        false
+    }
+}
+
 /// Whether the second term may stand for the first.
 #[cycle(matched)]
 pub(crate) fn match_terms(
+    types: &TypeTable,
     store: &Store,
     a: TermId,
     b: TermId,
     decided: &mut Vec<Swap>,
+    agreed: &mut Agreed,
 ) -> Result<bool, AllocError>
+    requires types { IsTable types.now }
+    requires store { IsTypedBy types.now store.now }
     requires a { Holds store.now a }
     requires b { Holds store.now b }
     requires one { IsOneToOne decided.old.items }
+    requires held { HoldsPairs types.now decided.old.items }
+    requires agreed { AllMatch types.now store.now decided.old.items agreed.old }
     ensures one { IsOneToOne decided.new.items }
-    ensures found { IfOk result (λ answer. (types : Table) → IsTable types → IsTypedBy types store.now → HoldsPairs types decided.old.items →
-        Found types decided.old.items decided.new.items
-        (λ f. forget (rename f (reading types store.now a)) ≡ forget (reading types store.now b)) answer) }
+    ensures found { IfOk result (λ answer.
+        Found types.now decided.old.items decided.new.items
+        (λ f. forget (rename f (reading types.now store.now a)) ≡ forget (reading types.now store.now b)) answer) }
+    ensures agreed { OnOk result (AllMatch types.now store.now decided.new.items agreed.new) }
+{
+    if is_fixed(store, a, b) {
+        return Ok(true);
+    }
+    if agreed.has(a, b) {
+        return Ok(true);
+    }
+    let matches = match_nodes(types, store, a, b, decided, agreed)?;
+    if matches {
+        agreed.keep(a, b)?;
+    }
+    Ok(matches)
+}
+
+/// Whether the second term may stand for the first, where that isn't known yet.
+#[cycle(matched)]
+fn match_nodes(
+    types: &TypeTable,
+    store: &Store,
+    a: TermId,
+    b: TermId,
+    decided: &mut Vec<Swap>,
+    agreed: &mut Agreed,
+) -> Result<bool, AllocError>
+    requires types { IsTable types.now }
+    requires store { IsTypedBy types.now store.now }
+    requires a { Holds store.now a }
+    requires b { Holds store.now b }
+    requires one { IsOneToOne decided.old.items }
+    requires held { HoldsPairs types.now decided.old.items }
+    requires agreed { AllMatch types.now store.now decided.old.items agreed.old }
+    ensures one { IsOneToOne decided.new.items }
+    ensures found { IfOk result (λ answer.
+        Found types.now decided.old.items decided.new.items
+        (λ f. forget (rename f (reading types.now store.now a)) ≡ forget (reading types.now store.now b)) answer) }
+    ensures agreed { OnOk result (AllMatch types.now store.now decided.new.items agreed.new) }
 {
     match store.view(a) {
         Node::Lam(ty, _, body) => match store.view(b) {
             Node::Lam(other, _, inner) => {
                 if is_same_type(*ty, *other) {
-                    match_terms(store, *body, *inner, decided)
+                    match_terms(types, store, *body, *inner, decided, agreed)
                 } else {
                     Ok(false)
                 }
@@ -148,7 +204,7 @@ pub(crate) fn match_terms(
             Node::Lam(_, _, _) => Ok(false),
             Node::Spine(other, more) => {
                 if match_heads(*head, *other, decided)? {
-                    match_all(store, args.as_slice(), more.as_slice(), decided)
+                    match_all(types, store, args.as_slice(), more.as_slice(), decided, agreed)
                 } else {
                     Ok(false)
                 }
@@ -160,24 +216,31 @@ pub(crate) fn match_terms(
 /// Whether the second terms may stand for the first, each for the one at its place.
 #[cycle(matched)]
 fn match_all(
+    types: &TypeTable,
     store: &Store,
     these: &[TermId],
     those: &[TermId],
     decided: &mut Vec<Swap>,
+    agreed: &mut Agreed,
 ) -> Result<bool, AllocError>
+    requires types { IsTable types.now }
+    requires store { IsTypedBy types.now store.now }
     requires these { All (Holds store.now) these.now }
     requires those { All (Holds store.now) those.now }
     requires one { IsOneToOne decided.old.items }
+    requires held { HoldsPairs types.now decided.old.items }
+    requires agreed { AllMatch types.now store.now decided.old.items agreed.old }
     ensures one { IsOneToOne decided.new.items }
-    ensures found { IfOk result (λ answer. (types : Table) → IsTable types → IsTypedBy types store.now → HoldsPairs types decided.old.items →
-        Found types decided.old.items decided.new.items
-        (λ f. forget_all (rename_all f (terms_of (map (reading types store.now) these.now))) ≡ forget_all (terms_of (map (reading types store.now) those.now))) answer) }
+    ensures found { IfOk result (λ answer.
+        Found types.now decided.old.items decided.new.items
+        (λ f. forget_all (rename_all f (terms_of (map (reading types.now store.now) these.now))) ≡ forget_all (terms_of (map (reading types.now store.now) those.now))) answer) }
+    ensures agreed { OnOk result (AllMatch types.now store.now decided.new.items agreed.new) }
 {
     if these.len() != those.len() {
         return Ok(false);
     }
     for i in 0..these.len() {
-        if !match_terms(store, these[i], those[i], decided)? {
+        if !match_terms(types, store, these[i], those[i], decided, agreed)? {
             return Ok(false);
         }
     }
@@ -205,7 +268,8 @@ pub fn equal_up_to_names(
     // no two ids of a table stand for one type
     let _ = types.len();
     let mut decided = Vec::new(alloc);
-    if !match_terms(store, a, b, &mut decided)? {
+    let mut agreed = Agreed::new(alloc);
+    if !match_terms(types, store, a, b, &mut decided, &mut agreed)? {
         return Ok(None);
     }
     let pairs = Swaps::from_vec(complete(alloc, &decided)?);

@@ -1,7 +1,8 @@
 //! Nominal constants and their permutations.
-ghost use Rattle.std.specs.Prelude.{◌≡◌};
+ghost use Rattle.std.specs.Prelude.{◌≡◌, IfOk};
 
 use ab_types::TypeId;
+use std::alloc::{AllocError, Global};
 use std::marker::Model;
 
 /// A nominal constant: one number at two types is two constants.
@@ -46,6 +47,15 @@ impl Swaps {
         ensures { result.items ≡ self }
     {
         self.swaps
+    }
+
+    /// The same list again.
+    pub(crate) fn copy(&self, alloc: Global) -> Result<Swaps, AllocError>
+        ensures { IfOk result (λ list. list ≡ self.now) }
+    {
+        Ok(Swaps {
+            swaps: self.swaps.iter().copied().collect(alloc)?,
+        })
     }
 
     /// The pairs as a slice.

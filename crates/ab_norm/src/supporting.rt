@@ -8,8 +8,9 @@ ghost use Rattle.ab_store.specs.declared.node.CellEntry.{CellEntry};
 ghost use Rattle.ab_store.specs.Reading.{Holds, reading, head_in};
 ghost use Rattle.ab_store.specs.Naming.{HeadIsTyped, IsTypedBy};
 ghost use Rattle.ab_norm.specs.Nominals.{nominal_of, HoldsNominal};
-ghost use Rattle.ab_norm.specs.Gathering.{Gathers};
+ghost use Rattle.ab_norm.specs.Gathering.{Gathers, AllFound};
 
+use crate::memo::Seen;
 use crate::nominal::Nominal;
 use ab_store::{Head, Node, Store, TermId};
 use ab_types::TypeTable;
@@ -36,7 +37,8 @@ pub fn support(
     // no two ids of a table stand for one type
     let _ = types.len();
     let mut found = BTreeSet::new(alloc);
-    gather(store, id, &mut found)?;
+    let mut seen = Seen::new(alloc);
+    gather(store, id, &mut found, &mut seen)?;
     let count = found.len();
     listed(alloc, found, count)
 }
@@ -55,20 +57,50 @@ fn note(head: Head, found: &mut BTreeSet<Nominal>) -> Result<(), AllocError>
 
 /// Puts the nominal constants of the term into the set.
 #[cycle(gathered)]
-fn gather(store: &Store, id: TermId, found: &mut BTreeSet<Nominal>) -> Result<(), AllocError>
-    requires { Holds store.now id }
+fn gather(
+    store: &Store,
+    id: TermId,
+    found: &mut BTreeSet<Nominal>,
+    seen: &mut Seen,
+) -> Result<(), AllocError>
+    requires id { Holds store.now id }
+    requires seen { AllFound store.now found.old.keys seen.old }
     ensures gathers { OnOk result ((types : Table) →
         Gathers types found.old.keys found.new.keys (names.support (reading types store.now id))) }
     ensures held { OnOk result ((types : Table) → IsTypedBy types store.now → All (HoldsNominal types) found.old.keys → All (HoldsNominal types) found.new.keys) }
+    ensures seen { OnOk result (AllFound store.now found.new.keys seen.new) }
 {
     if !store.has_nominals(id) {
         return Ok(());
     }
+    if seen.has(id) {
+        return Ok(());
+    }
+    gather_node(store, id, found, seen)?;
+    seen.keep(id)?;
+    Ok(())
+}
+
+/// Puts the nominal constants of the term into the set, where they may not all be there.
+#[cycle(gathered)]
+fn gather_node(
+    store: &Store,
+    id: TermId,
+    found: &mut BTreeSet<Nominal>,
+    seen: &mut Seen,
+) -> Result<(), AllocError>
+    requires id { Holds store.now id }
+    requires seen { AllFound store.now found.old.keys seen.old }
+    ensures gathers { OnOk result ((types : Table) →
+        Gathers types found.old.keys found.new.keys (names.support (reading types store.now id))) }
+    ensures held { OnOk result ((types : Table) → IsTypedBy types store.now → All (HoldsNominal types) found.old.keys → All (HoldsNominal types) found.new.keys) }
+    ensures seen { OnOk result (AllFound store.now found.new.keys seen.new) }
+{
     match store.view(id) {
-        Node::Lam(_, _, body) => gather(store, *body, found),
+        Node::Lam(_, _, body) => gather(store, *body, found, seen),
         Node::Spine(head, args) => {
             note(*head, found)?;
-            gather_all(store, args.as_slice(), found)
+            gather_all(store, args.as_slice(), found, seen)
         }
     }
 }
@@ -79,14 +111,17 @@ fn gather_all(
     store: &Store,
     ids: &[TermId],
     found: &mut BTreeSet<Nominal>,
+    seen: &mut Seen,
 ) -> Result<(), AllocError>
-    requires { All (Holds store.now) ids.now }
+    requires ids { All (Holds store.now) ids.now }
+    requires seen { AllFound store.now found.old.keys seen.old }
     ensures gathers { OnOk result ((types : Table) →
         Gathers types found.old.keys found.new.keys (names.support_of_all (terms_of (map (reading types store.now) ids.now)))) }
     ensures held { OnOk result ((types : Table) → IsTypedBy types store.now → All (HoldsNominal types) found.old.keys → All (HoldsNominal types) found.new.keys) }
+    ensures seen { OnOk result (AllFound store.now found.new.keys seen.new) }
 {
     for id in ids {
-        gather(store, *id, found)?;
+        gather(store, *id, found, seen)?;
     }
     Ok(())
 }

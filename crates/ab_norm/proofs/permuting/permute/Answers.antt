@@ -15,5 +15,5 @@ returns-clause-term c =
     let pairs = pairs_of c.args.types.now c.args.by.now.pairs in
     if_ok c.rename.result (λ r made G A d.
     subst (λ t. HasType (signature c.args.types.now) G t A)
-    (sym (made ∙ ap (λ l. tree.rename (moved_by (pairs_of c.args.types.now l)) (reading c.args.types.now c.args.store.now c.args.id)) c.as_slice.ensures))
+    (sym (made ∙ ap (λ l. tree.rename (moved_by (pairs_of c.args.types.now l)) (reading c.args.types.now c.args.store.now c.args.id)) c.in_ok-pairs.ensures))
     (rename_typed (signature c.args.types.now) (moved_by pairs) (one_to_one pairs c.requires.table).keeps d)) c.rename.ensures.reads

@@ -6,17 +6,22 @@ use Rattle.ab_types.specs.Entries.{Table}
 use Rattle.ab_store.specs.Reading.{reading}
 use Rattle.ab_store.specs.Naming.{IsTypedBy}
 use Rattle.ab_norm.specs.Nominals.{HoldsNominal}
-use Rattle.ab_norm.specs.Gathering.{Gathers}
+use Rattle.ab_norm.specs.Gathering.{Gathers, AllFound}
 use Rattle.ab_norm.proofs.Bounds.{ids_bound}
 use Rattle.ab_norm.proofs.supporting.+gathered.Given as goal
 
 abbrev pub decreases-gather : goal.decreases-gather
-decreases-gather l = 2 * l.id.0 + 1
+decreases-gather l = 3 * l.id.0 + 2
+
+abbrev pub decreases-gather_node : goal.decreases-gather_node
+decreases-gather_node l = 3 * l.id.0 + 1
 
 abbrev pub decreases-gather_all : goal.decreases-gather_all
-decreases-gather_all l = 2 * ids_bound l.ids.now
+decreases-gather_all l = 3 * ids_bound l.ids.now
 
 abbrev pub invariant-gather_all-loop-id : goal.invariant-gather_all-loop-id
-invariant-gather_all-loop-id l = (types : Table) →
-    Gathers types l.initial.found.keys l.found.keys (support_of_all (terms_of (map (reading types l.store) (take l.id-index l.ids))))
-    × (IsTypedBy types l.store → All (HoldsNominal types) l.initial.found.keys → All (HoldsNominal types) l.found.keys)
+invariant-gather_all-loop-id l = record {
+  gathers : (types : Table) → Gathers types l.initial.found.keys l.found.keys (support_of_all (terms_of (map (reading types l.store) (take l.id-index l.ids))));
+  held : (types : Table) → IsTypedBy types l.store → All (HoldsNominal types) l.initial.found.keys → All (HoldsNominal types) l.found.keys;
+  seen : AllFound l.store l.found.keys l.seen;
+}
