@@ -1,0 +1,10 @@
+//! Names for new hypotheses and new variables.
+#![tactic(auto)]
+
+mod label;
+mod nominal;
+mod stem;
+mod variable;
+
+pub use label::{Label, Named, name_by};
+pub use variable::variable_name;
