@@ -52,7 +52,7 @@ module _ (types : Table) where
   -- the types of bound names, which are kept with the innermost last
   abbrev pub context : List TypeId → List Ty
   context [] = []
-  context (a ∷ as) = context as ++ type_of types a ∷ []
+  context (a ∷ rest) = context rest ++ type_of types a ∷ []
 
   -- each pair is a closed term and its type
   abbrev pub AreTyped : Contents → List Typed → Type 0
