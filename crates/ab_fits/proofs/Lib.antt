@@ -1,1 +1,7 @@
 mod Sets
+mod Bounds
+mod Listed
+mod Contexts
+mod Members
+mod Noted
+mod Judged

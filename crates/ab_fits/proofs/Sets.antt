@@ -1,6 +1,7 @@
 -- What is in an ordered set, and what is when one more is put in.
-use Rattle.std.proofs.Common.{◌≡◌, ◌⊎◌, inl, inr, List, [], ◌∷◌, Bool, true, Contains, refl, sym, ap, ◌∙◌, subst, Ordering, Less, Equal, Greater}
+use Rattle.std.proofs.Common.{◌≡◌, ◌≢◌, ◌⊎◌, inl, inr, ℕ, List, [], ◌∷◌, Bool, true, false, Contains, refl, sym, ap, ◌∙◌, subst, Ordering, Less, Equal, Greater}
 use Rattle.std.specs.BTreeSet.{insert_key}
+use Rattle.std.specs.BTreeMap.{is_at}
 use Rattle.std.specs.List.{list_any, All}
 use Rattle.std.specs.Ordering.{match_ordering, ordering_then, nat_cmp, eq_by_cmp}
 use Rattle.std.proofs.lemmas.Map.Lookups.{CmpEqualImpliesEq, exact_unsigned}
@@ -73,3 +74,10 @@ one_typed a b e = go (nat_cmp a.id.0 b.id.0) refl e
         let term : a.id ≡ b.id = one_term a.id b.id p in
         let type : a.ty ≡ b.ty = ap (λ n. record { 0 = n }) (exact_unsigned a.ty.0 b.ty.0 q) in
         ap (λ t. record { id = t; ty = a.ty }) term ∙ ap (λ t. record { id = b.id; ty = t }) type
+
+pub another_number : (k q : ℕ) → q ≢ k → is_at (nat_cmp k) q ≡ false
+another_number k q differ = go (is_at (nat_cmp k) q) refl
+  where
+    go : (b : Bool) → is_at (nat_cmp k) q ≡ b → b ≡ false
+    go true e = absurd (differ (sym (tells_apart exact_unsigned k q e)))
+    go false e = refl
