@@ -24,16 +24,16 @@ module _ (sg : Signature) {Var : Type 0} where
 
 module _ (sg : Signature) {Var Hint : Type 0} where
   mutual
-    within : (D G : List Ty) (t : Term Var Hint) (A : Ty) → reach t ≤ length D → HasType sg (D ++ G) t A → HasType sg D t A
-    within D G (lam B x t) (arrow B (C)) l (typed_lam d) = typed_lam (within (B ∷ D) G t C (omega arith) d)
-    within D G (spine h ts) (kind k) l (typed_spine {A = A} e ds) = typed_spine (head_within sg D G h A (omega arith) e) (all_within D G ts A (kind k) (omega arith) ds)
+    within : {H : List Ty} {t : Term Var Hint} {A : Ty} (D G : List Ty) → H ≡ D ++ G → reach t ≤ length D → HasType sg H t A → HasType sg D t A
+    within D G same l (typed_lam {A = B} d) = typed_lam (within (B ∷ D) G (ap (λ K. B ∷ K) same) (omega arith) d)
+    within D G same l (typed_spine {A = A} {h = h} e ds) = typed_spine (head_within sg D G h A (omega arith) (subst (λ K. head_type sg K h ≡ Some A) same e)) (all_within D G same (omega arith) ds)
 
-    all_within : (D G : List Ty) (ts : Terms Var Hint) (A B : Ty) → reach_of_all ts ≤ length D → TakeType sg (D ++ G) ts A B → TakeType sg D ts A B
-    all_within D G no_terms A A l take_none = take_none
-    all_within D G (term t ts) (arrow A B) C l (take_term d ds) = take_term (within D G t A (omega arith) d) (all_within D G ts B C (omega arith) ds)
+    all_within : {H : List Ty} {ts : Terms Var Hint} {A B : Ty} (D G : List Ty) → H ≡ D ++ G → reach_of_all ts ≤ length D → TakeType sg H ts A B → TakeType sg D ts A B
+    all_within D G same l take_none = take_none
+    all_within D G same l (take_term d ds) = take_term (within D G same (omega arith) d) (all_within D G same (omega arith) ds)
 
   pub closed_alone : (G : List Ty) (t : Term Var Hint) (A : Ty) → reach t ≤ 0 → HasType sg G t A → HasType sg [] t A
-  closed_alone G t A l d = within [] G t A (omega arith) d
+  closed_alone G t A l d = within [] G refl (omega arith) d
 
   -- abstractions
 
@@ -54,6 +54,7 @@ module _ (sg : Signature) {Var Hint : Type 0} where
 
   pub spine_parts : (G : List Ty) (h : Head Var) (ts : Terms Var Hint) (A B : Ty) → head_type sg G h ≡ Some A → HasType sg G (spine h ts) B → TakeType sg G ts A B
   spine_parts G h ts A (kind k) e (typed_spine {A = C} f ds) = subst (λ D. TakeType sg G ts D (kind k)) (let both : Some C ≡ Some A = sym f ∙ e in cc) ds
+  spine_parts G h ts A (arrow B C) e d = elim d [ ]
 
   pub spine_is : (G : List Ty) (h : Head Var) (ts : Terms Var Hint) (A B : Ty) → IsKind B → head_type sg G h ≡ Some A → TakeType sg G ts A B → HasType sg G (spine h ts) B
   spine_is G h ts A (kind k) is e ds = typed_spine e ds
@@ -61,11 +62,12 @@ module _ (sg : Signature) {Var Hint : Type 0} where
 
   pub no_head : (G : List Ty) (h : Head Var) (ts : Terms Var Hint) (B : Ty) → head_type sg G h ≡ None → HasType sg G (spine h ts) B → ⊥
   no_head G h ts (kind k) e (typed_spine {A = C} f ds) = absurd (let both : Some C ≡ None = sym f ∙ e in cc)
+  no_head G h ts (arrow B C) e d = elim d [ ]
 
   -- arguments, one by one
 
-  pub none_taken : (G : List Ty) (A B : Ty) → TakeType sg G (no_terms {Var = Var} {Hint = Hint}) A B → A ≡ B
-  none_taken G A A take_none = refl
+  pub none_taken : {G : List Ty} {A B : Ty} → TakeType sg {Var = Var} {Hint = Hint} G no_terms A B → A ≡ B
+  none_taken take_none = refl
 
   pub one_taken : (G : List Ty) (t : Term Var Hint) (ts : Terms Var Hint) (A B C : Ty) → TakeType sg G (term t ts) (arrow A B) C → HasType sg G t A × TakeType sg G ts B C
   one_taken G t ts A B C (take_term d ds) = (d, ds)

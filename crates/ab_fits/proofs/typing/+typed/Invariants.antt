@@ -29,5 +29,5 @@ invariant-check_all-loop-id l = record {
   known : AreTyped l.types l.store l.scope.known.keys;
   held : HoldsRest l.types l.rest;
   same : TakeType (signature l.types) (context l.types l.initial.scope.names.items) (terms_of (map (reading l.types l.store) (drop l.id-index l.ids))) (rest_type l.types l.rest) (type_of l.types l.ty)
-      ↔ TakeType (signature l.types) (context l.types l.initial.scope.names.items) (terms_of (map (reading l.types l.store) l.ids)) (rest_type l.types l.first) (type_of l.types l.ty);
+      ↔ TakeType (signature l.types) (context l.types l.initial.scope.names.items) (terms_of (map (reading l.types l.store) l.ids)) (rest_type l.types l.fn.first) (type_of l.types l.ty);
 }
