@@ -1,10 +1,10 @@
 -- Which variables stand in terms, node by node.
-use Rattle.std.proofs.Common.{◌≡◌, ◌⊎◌, inl, inr, ◌↔◌, ℕ, ◌+◌, ◌<◌, ◌||◌, List, [], ◌∷◌, ◌++◌, map, take, length, get_or, Bool, true, false, Contains, refl, sym, ap, ◌∙◌, subst, arith}
+use Rattle.std.proofs.Common.{◌≡◌, ◌⊎◌, inl, inr, ◌↔◌, ℕ, ◌||◌, List, [], ◌∷◌, ◌++◌, map, Bool, true, false, Contains, refl, sym, ap, ◌∙◌, subst}
 use Rattle.std.specs.List.{All, list_any}
-use Rattle.std.proofs.lemmas.List.Elements.{All-nil, All-cons, All-head, All-tail, All-append, All-contains}
+use Rattle.std.proofs.lemmas.List.Elements.{All-nil, All-cons, All-head, All-tail, All-append}
 use Rattle.std.proofs.lemmas.Bool.Decides.{Decides-eqb}
 use lib.Dec.{eqb}
-use Rattle.ab_term.specs.Terms.{Variable, Terms, terms_of, no_terms, term}
+use Rattle.ab_term.specs.Terms.{Variable, terms_of}
 use Rattle.ab_term.specs.Variables.{variables, variables_of_head, variables_of_all}
 use Rattle.ab_term.proofs.Lists.{Contains-none, Contains-here, Contains-there, Contains-cases, Contains-map, Contains-from_map}
 use Rattle.ab_types.specs.Entries.{Table}

@@ -1,8 +1,7 @@
 -- Every table has the constant `member`.
-use Rattle.std.proofs.Common.{◌≡◌, ℕ, List, [], ◌∷◌, ◌++◌, Some, codes, Contains, refl, sym, ap, ◌∙◌, subst, arith}
-use Rattle.ab_term.specs.Types.{Ty, kind, arrow, prop, o, olist}
-use Rattle.ab_types.specs.Entries.{Table, constants, names, signature, first_entries}
-use Rattle.ab_types.specs.Ids.{type_of, seen_type}
+use Rattle.std.proofs.Common.{◌≡◌, Some, codes, Contains, refl, sym, ap, subst, arith}
+use Rattle.ab_term.specs.Types.{arrow, prop, o, olist}
+use Rattle.ab_types.specs.Entries.{Table, constants, names, signature}
 use Rattle.ab_types.specs.Sound.{IsTable}
 
 pub has_member : (types : Table) → IsTable types → Contains (names (constants types)) (codes "member")

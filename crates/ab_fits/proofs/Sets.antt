@@ -6,10 +6,9 @@ use Rattle.std.specs.List.{list_any, All}
 use Rattle.std.specs.Ordering.{match_ordering, ordering_then, nat_cmp, eq_by_cmp}
 use Rattle.std.proofs.lemmas.Map.Lookups.{CmpEqualImpliesEq, exact_unsigned}
 use Rattle.std.proofs.lemmas.Map.Views.{Contains-from_any, tells_apart}
-use Rattle.ab_term.proofs.Lists.{Contains-none, Contains-here, Contains-there, Contains-cases, All-from_contains}
+use Rattle.ab_term.proofs.Lists.{Contains-here, Contains-there, Contains-cases, All-from_contains}
 use Rattle.std.proofs.lemmas.List.Elements.{All-contains}
 use Rattle.ab_store.specs.declared.node.TermId.{TermId}
-use Rattle.ab_types.specs.declared.ids.TypeId.{TypeId}
 use Rattle.ab_fits.specs.declared.known.Typed.{Typed}
 use Rattle.ab_fits.specs.Seen.{GainsOnly}
 

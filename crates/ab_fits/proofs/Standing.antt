@@ -1,5 +1,5 @@
 -- Terms in the places of formulas, node by node.
-use Rattle.std.proofs.Common.{◌≡◌, ◌↔◌, List, [], ◌∷◌, map, Bool, true, refl, sym, ap, ◌∙◌, subst}
+use Rattle.std.proofs.Common.{◌≡◌, ◌↔◌, List, [], ◌∷◌, map, Bool, true, sym, ap, ◌∙◌, subst}
 use Rattle.std.specs.List.{All}
 use Rattle.std.proofs.lemmas.List.Elements.{All-nil, All-cons, All-head, All-tail}
 use Rattle.ab_term.specs.Terms.{terms_of}
@@ -25,6 +25,7 @@ pub stands_spine : (types : Table) (s : Contents) (t : TermId) (n : Node) (h : H
     → (r ≡ true) ↔ All (λ t. StandsIn p (reading types s t)) given
     → (r ≡ true) ↔ StandsIn a_formula (reading types s t)
 stands_spine types s t n h ts given p r reads is same rigid place all =
-    subst (λ u. (r ≡ true) ↔ StandsIn a_formula u) (sym (reads ∙ ap (node_reading types s) is))
-    (λ e. (rigid, subst (λ q. AllStandIn q (terms_of (map (reading types s) ts))) place (all_stand p (reading types s) ts (subst (All (λ t. StandsIn p (reading types s t))) same (all.0 e)))),
-    λ w. all.1 (subst (All (λ t. StandsIn p (reading types s t))) (sym same) (each_stands p (reading types s) ts (subst (λ q. AllStandIn q (terms_of (map (reading types s) ts))) (sym place) w.1))))
+    subst (λ u. (r ≡ true) ↔ StandsIn a_formula u) (sym (reads ∙ ap (node_reading types s) is)) (
+      λ e. (rigid, subst (λ q. AllStandIn q (terms_of (map (reading types s) ts))) place (all_stand p (reading types s) ts (subst (All (λ t. StandsIn p (reading types s t))) same (all.0 e)))),
+      λ w. all.1 (subst (All (λ t. StandsIn p (reading types s t))) (sym same) (each_stands p (reading types s) ts (subst (λ q. AllStandIn q (terms_of (map (reading types s) ts))) (sym place) w.1))),
+    )

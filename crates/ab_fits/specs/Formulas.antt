@@ -3,8 +3,8 @@
 -- and judgements are given may be any terms.
 use Rattle.std.specs.Prelude.{ℕ, List, []}
 use Rattle.ab_term.specs.Types.{Ty, prop}
-use Rattle.ab_term.specs.Logical.{Logical, truth, falsity, conjunction, disjunction, implication, equality, universal, existential, nabla, judgement, focused_judgement, star, at_sign, plus, hash, spec_universal, spec_implication, spec_conjunction}
-use Rattle.ab_term.specs.Terms.{Head, constant, logical, nominal, variable, index, Term, lam, spine, Terms, no_terms, term}
+use Rattle.ab_term.specs.Logical.{Logical, conjunction, disjunction, implication, universal, existential, nabla, judgement, focused_judgement, star, at_sign, plus, hash}
+use Rattle.ab_term.specs.Terms.{Head, constant, logical, nominal, variable, index, lam, spine, Terms, no_terms, term}
 use Rattle.ab_term.specs.Typing.{Signature, HasType}
 use Rattle.ab_store.specs.Reading.{Read}
 

@@ -1,6 +1,6 @@
 -- What heads take, in the terms of a table, and what is known while a term is judged. Public contracts don't speak
 -- of this.
-use Rattle.std.specs.Prelude.{◌≡◌, ℕ, List, [], ◌∷◌, ◌++◌, All}
+use Rattle.std.specs.Prelude.{◌≡◌, List, [], ◌∷◌, ◌++◌, All}
 use Rattle.ab_term.specs.Types.{Ty, kind, arrow, prop, o, olist}
 use Rattle.ab_types.specs.Entries.{Table}
 use Rattle.ab_types.specs.Ids.{HoldsType, type_of}

@@ -1,4 +1,4 @@
-use Rattle.std.proofs.Common.{◌≡◌, ◌<◌, ◌≤◌, arith, get_or}
+use Rattle.std.proofs.Common.{◌<◌, ◌≤◌, arith, get_or}
 use Rattle.std.specs.List.{All}
 use Rattle.std.proofs.lemmas.List.Elements.{All-same, All-more}
 use Rattle.ab_store.specs.declared.node.TermId.{TermId}

@@ -1,4 +1,4 @@
-use Rattle.std.proofs.Common.{◌≡◌, ◌<◌, ◌≤◌, arith, map, take, true, false, get_or, refl, subst}
+use Rattle.std.proofs.Common.{◌<◌, ◌≤◌, arith, map, true, get_or, refl, subst}
 use Rattle.std.specs.List.{All}
 use Rattle.std.proofs.lemmas.List.{take_all}
 use Rattle.std.proofs.lemmas.List.Elements.{All-same}
@@ -54,7 +54,7 @@ note_node-note_all-requires t c =
     let here : All (λ r. r.0 < c.args.id.0) c.as_slice.result.now = All-same (λ (r : TermId). r.0 < c.args.id.0) _ _ c.as_slice.ensures names.1 in
     let bound : ids_bound c.as_slice.result.now ≤ c.args.id.0 = bound_within c.args.id.0 _ here in
     let noted : Notes c.args.types.now c.args.store.now c.args.known.now c.note_head.new.known (support_of_head (head_reading c.args.types.now c.args.store.now c.in-Spine.head)) true
-        = subst (Notes c.args.types.now c.args.store.now c.args.known.now c.note_head.new.known (support_of_head (head_reading c.args.types.now c.args.store.now c.in-Spine.head))) c.if-not-branch.false c.in_ok-note_head-in-Spine.ensures in
+    = subst (Notes c.args.types.now c.args.store.now c.args.known.now c.note_head.new.known (support_of_head (head_reading c.args.types.now c.args.store.now c.in-Spine.head))) c.if-not-branch.false c.in_ok-note_head-in-Spine.ensures in
     (omega (arith, bound, c.decreases), (c.requires.store, (noted.0, λ k d l. omega (arith, here k d l, c.requires.id))))
 
 pub note_node-returns-in-Lam : goal.note_node-returns-in-Lam

@@ -1,4 +1,4 @@
-use Rattle.std.proofs.Common.{◌++◌, map, true, false, subst}
+use Rattle.std.proofs.Common.{◌++◌, map, false, subst}
 use Rattle.ab_term.specs.Names.{support}
 use Rattle.ab_store.specs.Reading.{reading}
 use Rattle.ab_fits.specs.Fitting.{names_of}
