@@ -1,0 +1,9 @@
+mod Sets
+mod Bounds
+mod Walks
+mod Listed
+mod Contexts
+mod Members
+mod Noted
+mod Judged
+mod Standing

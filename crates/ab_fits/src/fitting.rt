@@ -1,0 +1,42 @@
+//! Whether a term may be put into a sequent.
+ghost use Rattle.std.specs.Prelude.{◌↔◌, map, IfOk, IsTrue, All};
+ghost use Rattle.ab_types.specs.Entries.{signature};
+ghost use Rattle.ab_types.specs.Ids.{HoldsType, type_of};
+ghost use Rattle.ab_store.specs.Reading.{Holds, reading};
+ghost use Rattle.ab_store.specs.Naming.{IsTypedBy};
+ghost use Rattle.ab_fits.specs.Cells.{variable_of};
+ghost use Rattle.ab_fits.specs.Fitting.{Fits};
+
+use crate::numbers::have_one_type_beside;
+use crate::typing::has_type;
+use crate::variables::holds_only;
+use ab_store::{CellId, Store, TermId};
+use ab_types::{TypeId, TypeTable};
+use std::alloc::{AllocError, Global};
+
+/// Whether the term is closed and of the type, holds only the listed variables, and no nominal number stands at two
+/// types in it and the terms before it: the formulas of a sequent, say, and terms that were put in already.
+pub fn fits(
+    alloc: Global,
+    types: &TypeTable,
+    store: &Store,
+    variables: &[CellId],
+    before: &[TermId],
+    id: TermId,
+    ty: TypeId,
+) -> Result<bool, AllocError>
+    requires store { IsTypedBy types.now store.now }
+    requires before { All (Holds store.now) before.now }
+    requires id { Holds store.now id }
+    requires ty { HoldsType types.now ty }
+    ensures { IfOk result (λ yes. IsTrue yes ↔
+        Fits (signature types.now) (map (variable_of types.now store.now) variables.now) (map (reading types.now store.now) before.now) (reading types.now store.now id) (type_of types.now ty)) }
+{
+    if !has_type(alloc, types, store, id, ty)? {
+        return Ok(false);
+    }
+    if !holds_only(alloc, store, id, variables)? {
+        return Ok(false);
+    }
+    have_one_type_beside(alloc, types, store, before, id)
+}

@@ -1,0 +1,18 @@
+//! Whether a term is of a type, is a formula, or may be put into a sequent: decided on ids.
+#![tactic(auto)]
+
+mod built_in;
+mod fitting;
+mod formulas;
+mod known;
+mod numbers;
+mod seen;
+mod taking;
+mod typing;
+mod variables;
+
+pub use fitting::fits;
+pub use formulas::is_formula;
+pub use numbers::have_one_type_each;
+pub use typing::has_type;
+pub use variables::holds_only;
