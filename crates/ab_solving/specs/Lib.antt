@@ -1,0 +1,3 @@
+-- Equations between type variables, and their solutions.
+pub mod Solutions
+pub mod Work
