@@ -6,10 +6,12 @@
 
 mod finding;
 mod meeting;
+mod settling;
 mod shape;
 mod unifying;
 mod work;
 
+pub use settling::{Settled, solve};
 pub use shape::Shape;
 pub use unifying::unify;
 pub use work::Wanted;
