@@ -1,0 +1,9 @@
+pub mod Joining
+pub mod Turning
+pub mod Following
+pub mod Working
+pub mod Tables
+pub mod Telling
+pub mod Marking
+pub mod Pathing
+pub mod Ending

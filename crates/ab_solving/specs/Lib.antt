@@ -1,0 +1,4 @@
+-- Equations between type variables, and their solutions.
+pub mod Solutions
+pub mod Work
+pub mod Settling

@@ -1,0 +1,11 @@
+//! Equations between type variables.
+use ab_types::TypeId;
+
+/// An equation that is to be met. The numbers are those of variables.
+#[derive(Clone, Copy, Debug)]
+pub enum Wanted {
+    /// Both are the same.
+    Equal(usize, usize),
+    /// It is this type.
+    Is(usize, TypeId),
+}
