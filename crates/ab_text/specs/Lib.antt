@@ -5,4 +5,6 @@ pub mod Layout
 pub mod Trees
 pub mod Names
 pub mod Naming
+pub mod Values
+pub mod Writing
 pub mod Examples

@@ -1,5 +1,12 @@
-//! How terms are printed, apart from any printer: definitions and laws.
+//! How terms are printed, apart from how they are kept: shapes, which have the names of bound names, and their
+//! bytes, with the laws of both.
 #![tactic(auto)]
 
 pub mod examples;
+mod levels;
 pub mod reading;
+mod shape;
+mod writing;
+
+pub use shape::{Shape, Shapes};
+pub use writing::write;

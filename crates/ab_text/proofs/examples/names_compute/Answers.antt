@@ -26,4 +26,3 @@ returns-clause-nominal_constants c = refl
 pub returns-clause-lists : goal.returns-clause-lists
 unfolding digits
 returns-clause-lists c = refl
-
