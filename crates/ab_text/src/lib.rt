@@ -2,11 +2,13 @@
 //! bytes, with the laws of both.
 #![tactic(auto)]
 
+mod choosing;
 pub mod examples;
 mod levels;
 pub mod reading;
 mod shape;
 mod writing;
 
+pub use choosing::fresh;
 pub use shape::{Shape, Shapes};
 pub use writing::write;
