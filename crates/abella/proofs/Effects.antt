@@ -2,13 +2,13 @@
 use Rattle.std.proofs.Common.{◌≡◌, ◌<◌, ℕ, List, [], ◌∷◌, ◌++◌, length, drop, map, Option, Some, None, is_some, option_map, true, false, slice_get, refl, sym, ap, ◌∙◌, subst, arith, inl, inr}
 use Rattle.std.proofs.lemmas.List.{map-append}
 use Rattle.std.specs.Prelude.{Result, Ok, Err, IfOk, OnErr}
-use Rattle.ab_kernel.specs.declared.rules.KernelFault.{KernelFault}
-use Rattle.ab_kernel.specs.declared.rules.Step.TheVariants.{AndRight}
-use Rattle.ab_kernel.specs.Formula.{Formula, both, Sequent, proves}
-use Rattle.ab_kernel.specs.Truth.{Holds, HasFalse}
-use Rattle.ab_kernel.proofs.Truths.{true_or_false}
-use Rattle.ab_kernel.specs.Rules.{Rule, and_right, not_both}
-use Rattle.ab_kernel.specs.Derivation.{History, root, open_goals, IsStep, GoalFails, beginning}
+use Rattle.ab_truth.specs.declared.rules.KernelFault.{KernelFault}
+use Rattle.ab_truth.specs.declared.rules.Step.TheVariants.{AndRight}
+use Rattle.ab_truth.specs.Formula.{Formula, both, Sequent, proves}
+use Rattle.ab_truth.specs.Truth.{Holds, HasFalse}
+use Rattle.ab_truth.proofs.Truths.{true_or_false}
+use Rattle.ab_truth.specs.Rules.{Rule, and_right, not_both}
+use Rattle.ab_truth.specs.Derivation.{History, root, open_goals, IsStep, GoalFails, beginning}
 use Rattle.abella.specs.declared.session.reply.Reply.{Reply}
 use Rattle.abella.specs.declared.session.reply.Reply.TheVariants.{Accepted, Completed, Refused}
 use Rattle.abella.specs.declared.session.reply.Refusal.TheVariants.{WrongShape, NotFound}

@@ -5,9 +5,9 @@ use Rattle.std.proofs.lemmas.Bool.{cases_Bool}
 use Rattle.ab_lex.specs.declared.TheConstants.{COMMAND_LIMIT}
 use Rattle.ab_lex.specs.Commands.{Item}
 use Rattle.ab_lex.proofs.Cuts.{only_items}
-use Rattle.ab_kernel.specs.Formula.{Formula, truth, falsity, both, Sequent, proves}
-use Rattle.ab_kernel.specs.Truth.{Holds, HasFalse}
-use Rattle.ab_kernel.proofs.Truths.{complete, true_or_false}
+use Rattle.ab_truth.specs.Formula.{Formula, truth, falsity, both, Sequent, proves}
+use Rattle.ab_truth.specs.Truth.{Holds, HasFalse}
+use Rattle.ab_truth.proofs.Truths.{complete, true_or_false}
 use Rattle.abella.specs.declared.session.reply.Reply.{Reply}
 use Rattle.abella.specs.declared.session.reply.Reply.TheVariants.{Accepted, Completed, Refused}
 use Rattle.abella.specs.declared.session.reply.Refusal.{Refusal}

@@ -16,7 +16,7 @@ use Rattle.ab_grammar.proofs.OneCommand.{one_command}
 use Rattle.ab_grammar.proofs.OneAnswer as answers
 use Rattle.ab_syntax.specs.Tokens.{tokens_in}
 use Rattle.ab_syntax.specs.Faults.{fault_place, nested_place, IsTold, IsCommandPlace}
-use Rattle.ab_kernel.specs.Formula.{Formula, truth, falsity}
+use Rattle.ab_truth.specs.Formula.{Formula, truth, falsity}
 use Rattle.abella.specs.declared.session.reply.Refusal.{Refusal}
 use Rattle.abella.specs.declared.session.reply.Refusal.TheVariants.{Syntax, WrongPlace, TooNested}
 use Rattle.abella.specs.State.{Statement}

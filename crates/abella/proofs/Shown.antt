@@ -1,6 +1,6 @@
 -- Goals are shown one after another.
 use Rattle.std.proofs.Common.{◌≡◌, ◌+◌, ℕ, zero, suc, List, [], ◌∷◌, ◌++◌, drop, Some, slice_get, sym, ap, ◌∙◌, append_assoc, add-one}
-use Rattle.ab_kernel.specs.Formula.{Sequent}
+use Rattle.ab_truth.specs.Formula.{Sequent}
 use Rattle.abella.specs.Show.{heading, conclusion_line, goal_lines_from}
 
 drop_at : (gs : List Sequent) (i : ℕ) (g : Sequent) → slice_get gs i ≡ Some g → drop i gs ≡ g ∷ drop (suc i) gs

@@ -1,6 +1,6 @@
 -- What the program's values say of a command: which one it is, or why none was read.
 use Rattle.std.specs.Prelude.{ℕ, Bool, List}
-use Rattle.ab_kernel.specs.Formula.{formula_of}
+use Rattle.ab_truth.specs.Formula.{formula_of}
 use Rattle.abella.specs.declared.reading.Command.{Command as Built}
 use Rattle.abella.specs.declared.reading.Command.TheVariants.{State, Split, Search}
 use Rattle.abella.specs.declared.reading.Unread.{Unread}

@@ -1,8 +1,8 @@
 -- The effect of one command on a state: it is accepted, with the next state, or refused by the first of its
 -- conditions that fails, and then the state stays.
 use Rattle.std.specs.Prelude.{◌≡◌, ℕ, List, [], ◌∷◌, ◌++◌, Bool, Some, None, is_some}
-use Rattle.ab_kernel.specs.Formula.{Formula, both, Sequent, proves}
-use Rattle.ab_kernel.specs.Truth.{Holds, HasFalse}
+use Rattle.ab_truth.specs.Formula.{Formula, both, Sequent, proves}
+use Rattle.ab_truth.specs.Truth.{Holds, HasFalse}
 use Rattle.abella.specs.declared.session.reply.Reply.{Reply}
 use Rattle.abella.specs.declared.session.reply.Reply.TheVariants.{Accepted, Completed, Refused}
 use Rattle.abella.specs.declared.session.reply.Refusal.{Refusal}

@@ -1,7 +1,7 @@
 -- A theorem that is proved.
 use Rattle.std.specs.Prelude.{◌≡◌, ℕ, List, [], ◌∷◌, ◌++◌}
-use Rattle.ab_kernel.specs.Formula.{Formula}
-use Rattle.ab_kernel.specs.Derivation.{Derivation, IsDerivation}
+use Rattle.ab_truth.specs.Formula.{Formula}
+use Rattle.ab_truth.specs.Derivation.{Derivation, IsDerivation}
 use Rattle.abella.specs.State.{State, Statement}
 
 -- the last theorem of the state has this name, and its formula has a closed derivation

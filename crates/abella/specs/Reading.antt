@@ -13,7 +13,7 @@ use Rattle.ab_grammar.specs.CommandTable.{CommandText, StandsAt}
 use Rattle.ab_grammar.specs.Language.{Accepted, SyntaxAt, TooNestedAt}
 use Rattle.ab_syntax.specs.Tokens.{tokens_in}
 use Rattle.ab_syntax.specs.Faults.{nested_place, IsCommandPlace}
-use Rattle.ab_kernel.specs.Formula.{Formula, truth, falsity, both}
+use Rattle.ab_truth.specs.Formula.{Formula, truth, falsity, both}
 use Rattle.abella.specs.declared.session.reply.Refusal.{Refusal}
 use Rattle.abella.specs.declared.session.reply.Refusal.TheVariants.{Syntax, WrongPlace, TooNested, NotBuilt}
 use Rattle.abella.specs.State.{Statement}

@@ -1,7 +1,7 @@
 -- The state that a session of the program holds. A theorem's formula is what the root of its derivation states.
 use Rattle.std.specs.Prelude.{ℕ, List, [], map, Option, Some, None, option_map}
-use Rattle.ab_kernel.specs.Formula.{Sequent}
-use Rattle.ab_kernel.specs.Derivation.{History, root, open_goals}
+use Rattle.ab_truth.specs.Formula.{Sequent}
+use Rattle.ab_truth.specs.Derivation.{History, root, open_goals}
 use Rattle.abella.specs.declared.session.Theorem.{Theorem}
 use Rattle.abella.specs.declared.session.Attempt.{Attempt as Held}
 use Rattle.abella.specs.declared.session.Session.{Session}

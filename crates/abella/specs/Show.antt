@@ -1,6 +1,6 @@
 -- What is printed: formulas, the goal, and the block that answers a command.
 use Rattle.std.specs.Prelude.{ℕ, suc, ◌+◌, ◌==◌, Bool, true, false, List, [], ◌∷◌, ◌++◌, length, codes, decimal, if◌then◌else◌}
-use Rattle.ab_kernel.specs.Formula.{Formula, truth, falsity, both, Sequent}
+use Rattle.ab_truth.specs.Formula.{Formula, truth, falsity, both, Sequent}
 use Rattle.abella.specs.declared.session.reply.Reply.{Reply}
 use Rattle.abella.specs.declared.session.reply.Reply.TheVariants.{Accepted, Completed, Refused}
 use Rattle.abella.specs.declared.session.reply.Refusal.{Refusal}

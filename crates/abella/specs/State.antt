@@ -1,6 +1,6 @@
 -- The state of a session, in plain lists: its theorems, the proof that is open, and the commands that it keeps.
 use Rattle.std.specs.Prelude.{◌≡◌, ℕ, List, [], ◌∷◌, Option, Some, None}
-use Rattle.ab_kernel.specs.Formula.{Formula, Sequent}
+use Rattle.ab_truth.specs.Formula.{Formula, Sequent}
 
 -- what a theorem states, under its name
 pub record Statement : Type 0 where

@@ -5,7 +5,7 @@ ghost use Rattle.ab_lex.specs.Tokens.{TokensOf, FaultOf, place_of};
 ghost use Rattle.ab_grammar.specs.Tree as tree;
 ghost use Rattle.ab_grammar.specs.CommandTable.{CommandText};
 ghost use Rattle.ab_grammar.specs.Language.{Accepted};
-ghost use Rattle.ab_kernel.specs.Formula.{formula_of};
+ghost use Rattle.ab_truth.specs.Formula.{formula_of};
 ghost use Rattle.ab_syntax.specs.Tokens.{tokens_in};
 ghost use Rattle.ab_syntax.specs.Trees.{tree_of};
 ghost use Rattle.ab_grammar.specs.CommandTrees as commands;
@@ -14,12 +14,12 @@ ghost use Rattle.abella.specs.Reading.{ReadsOrNot, MeansOrNot, StandsHere, Fits,
 ghost use Rattle.abella.specs.Built.{command_of, FailsBy};
 
 use crate::session::reply::Refusal;
-use ab_kernel::Prop;
 use ab_lex::{LexFault, Token, first_place, tokens};
 use ab_name::Name;
 use ab_syntax::{
     Command as Tree, Infix, Parse, ParseFault, ProofCommand, Stand, parse_command, stand_of,
 };
+use ab_truth::Prop;
 use std::alloc::{AllocError, Global};
 
 /// A command that is built.

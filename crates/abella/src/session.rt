@@ -2,15 +2,15 @@
 //!
 //! Every proof goes through the kernel, which alone makes derivations.
 ghost use Rattle.std.specs.Prelude.{◌≡◌, ◌↔◌, ◌<◌, [], length, drop, IsTrue, IfOk, OnOk, OnErr};
-ghost use Rattle.ab_kernel.specs.Formula.{Sequent, formula_of};
-ghost use Rattle.ab_kernel.specs.Truth.{HasFalse};
-ghost use Rattle.ab_kernel.specs.Derivation.{root, open_goals, goal_at};
+ghost use Rattle.ab_truth.specs.Formula.{Sequent, formula_of};
+ghost use Rattle.ab_truth.specs.Truth.{HasFalse};
+ghost use Rattle.ab_truth.specs.Derivation.{root, open_goals, goal_at};
 
 pub mod reply;
 
 use crate::reading::{Command, Unread, read_command};
-use ab_kernel::{KernelFault, Proof, Prop, SearchFault, Step};
 use ab_name::Name;
+use ab_truth::{KernelFault, Proof, Prop, SearchFault, Step};
 use reply::{Refusal, Reply};
 use std::alloc::{AllocError, Global};
 

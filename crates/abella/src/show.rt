@@ -1,13 +1,13 @@
 //! Printing: formulas, goals, and the block that answers a command.
 ghost use Rattle.std.specs.Prelude.{◌≡◌, ◌+◌, ◌^◌, ◌<◌, ◌++◌, IfOk, OnOk, codes, decimal};
-ghost use Rattle.ab_kernel.specs.Formula.{formula_of, sequent_of};
-ghost use Rattle.ab_kernel.specs.Derivation.{open_goals};
+ghost use Rattle.ab_truth.specs.Formula.{formula_of, sequent_of};
+ghost use Rattle.ab_truth.specs.Derivation.{open_goals};
 ghost use Rattle.abella.specs.Session.{state_of};
 ghost use Rattle.abella.specs.Show.{shown_at, conclusion_line, heading, goal_lines, class, detail, text, block};
 
 use crate::session::Session;
 use crate::session::reply::{Refusal, Reply};
-use ab_kernel::{Proof, Prop, Sequent};
+use ab_truth::{Proof, Prop, Sequent};
 use itoa::Buffer;
 use std::alloc::{AllocError, Global};
 

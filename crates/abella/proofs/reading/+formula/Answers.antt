@@ -2,7 +2,7 @@ use Rattle.std.proofs.Common.{◌≡◌, sym, ap, ◌∙◌, subst}
 use Rattle.ab_grammar.specs.declared.Infix.TheVariants.{And}
 use Rattle.ab_grammar.specs.Tree.{join}
 use Rattle.ab_syntax.specs.Trees.{tree_of}
-use Rattle.ab_kernel.specs.Formula.{formula_of}
+use Rattle.ab_truth.specs.Formula.{formula_of}
 use Rattle.abella.specs.Reading.{Reads, reads_both}
 use Rattle.abella.proofs.Trees.{tree_name, tree_join}
 use Rattle.abella.proofs.reading.+formula.Goals as goal

@@ -1,6 +1,6 @@
 use Rattle.std.proofs.Common.{sym, subst}
 use Rattle.ab_grammar.specs.Tree.{name}
-use Rattle.ab_kernel.proofs.Reading.{reads_true, reads_false}
+use Rattle.ab_truth.proofs.Reading.{reads_true, reads_false}
 use Rattle.abella.specs.Reading.{Reads}
 use Rattle.abella.proofs.Sayings.{named_true, named_false}
 use Rattle.abella.proofs.reading.named_formula.Goals as goal

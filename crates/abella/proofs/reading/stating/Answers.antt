@@ -1,7 +1,7 @@
 use Rattle.std.proofs.Common.{ℕ, List, sym, subst}
 use Rattle.ab_grammar.specs.CommandTrees.{theorem}
 use Rattle.ab_syntax.specs.Trees.{tree_of}
-use Rattle.ab_kernel.specs.Formula.{formula_of}
+use Rattle.ab_truth.specs.Formula.{formula_of}
 use Rattle.abella.specs.Reading.{Reads, Means, stating, means_stating}
 use Rattle.abella.proofs.reading.stating.Goals as goal
 

@@ -1,7 +1,7 @@
 use Rattle.std.proofs.Common.{◌≡◌, Some, slice_get, sym, ap, ◌∙◌, option_map}
 use Rattle.std.specs.Option.{option_copied}
-use Rattle.ab_kernel.specs.Formula.{sequent_of}
-use Rattle.ab_kernel.specs.Derivation.{open_goals}
+use Rattle.ab_truth.specs.Formula.{sequent_of}
+use Rattle.ab_truth.specs.Derivation.{open_goals}
 use Rattle.abella.proofs.Shown.{one_shown}
 use Rattle.abella.proofs.show.show_goals.Goals as goal
 

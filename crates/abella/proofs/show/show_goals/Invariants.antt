@@ -1,5 +1,5 @@
 use Rattle.std.proofs.Common.{◌≡◌, ◌++◌, drop}
-use Rattle.ab_kernel.specs.Derivation.{open_goals}
+use Rattle.ab_truth.specs.Derivation.{open_goals}
 use Rattle.abella.specs.Show.{goal_lines, goal_lines_from}
 use Rattle.abella.proofs.show.show_goals.Given as goal
 

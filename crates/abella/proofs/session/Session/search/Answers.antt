@@ -1,8 +1,8 @@
 use Rattle.std.proofs.Common.{◌≡◌, true, false, Some, Err, option_map, map, slice_get, refl, sym, ap, ◌∙◌, subst}
-use Rattle.ab_kernel.specs.declared.closing.SearchFault.TheVariants.{NotFound}
-use Rattle.ab_kernel.specs.Formula.{Sequent}
-use Rattle.ab_kernel.specs.Truth.{HasFalse}
-use Rattle.ab_kernel.specs.Derivation.{open_goals}
+use Rattle.ab_truth.specs.declared.closing.SearchFault.TheVariants.{NotFound}
+use Rattle.ab_truth.specs.Formula.{Sequent}
+use Rattle.ab_truth.specs.Truth.{HasFalse}
+use Rattle.ab_truth.specs.Derivation.{open_goals}
 use Rattle.abella.specs.declared.session.reply.Reply.TheVariants.{Completed}
 use Rattle.abella.specs.Effect.{HasEffect, is_open}
 use Rattle.abella.proofs.Sayings.{searched_inside}

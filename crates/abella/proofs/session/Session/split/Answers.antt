@@ -1,5 +1,5 @@
 use Rattle.std.proofs.Common.{◌≡◌, Err, Some, None, option_map, map, refl, sym, ap, ◌∙◌}
-use Rattle.ab_kernel.specs.declared.rules.KernelFault.TheVariants.{RuleFails}
+use Rattle.ab_truth.specs.declared.rules.KernelFault.TheVariants.{RuleFails}
 use Rattle.abella.specs.Effect.{is_open}
 use Rattle.abella.proofs.Sayings.{split_inside}
 use Rattle.abella.specs.Session.{state_of, attempt_of}

@@ -1,5 +1,5 @@
 use Rattle.std.proofs.Common.{refl}
-use Rattle.ab_kernel.specs.Formula.{formula_of}
+use Rattle.ab_truth.specs.Formula.{formula_of}
 use Rattle.abella.specs.Session.{state_of}
 use Rattle.abella.specs.Effect.{is_open}
 use Rattle.abella.proofs.Sayings.{stated_outside}

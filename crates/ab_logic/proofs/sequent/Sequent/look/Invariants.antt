@@ -1,0 +1,8 @@
+use Rattle.std.proofs.Common.{◌≡◌, drop, map}
+use Rattle.ab_logic.specs.Sequents.{named}
+use Rattle.ab_logic.specs.Readings.{hypothesis_of}
+use Rattle.ab_logic.specs.declared.world.World.{World}
+use Rattle.ab_logic.proofs.sequent.Sequent.look.Given as goal
+
+abbrev pub invariant-loop-h : goal.invariant-loop-h
+invariant-loop-h l = (w : World) → named (map (hypothesis_of w) l.h-items) l.name ≡ named (map (hypothesis_of w) (drop l.h-index l.h-items)) l.name

@@ -1,0 +1,18 @@
+-- What any later world keeps of an earlier one: ids and cells stay, and stand for what they stood for; what was
+-- declared stays, in its order.
+use Rattle.std.specs.Prelude.{◌≡◌}
+use Rattle.ab_types.specs.Entries as table
+use Rattle.ab_store.specs.declared.node.TermId.{TermId}
+use Rattle.ab_store.specs.declared.node.CellId.{CellId}
+use Rattle.ab_logic.specs.Declarations.{Extends}
+use Rattle.ab_logic.specs.Worlds.{read, Holds, variable_of, HoldsCell, declarations_of, IsWorld}
+use Rattle.ab_logic.specs.declared.world.World.{World}
+
+pub record Grows (old new : World) : Type 0 where
+  pub ids : (t : TermId) → Holds old t → Holds new t
+  pub readings : (t : TermId) → Holds old t → read new t ≡ read old t
+  pub cell_ids : (c : CellId) → HoldsCell old c → HoldsCell new c
+  pub cells : (c : CellId) → HoldsCell old c → variable_of new c ≡ variable_of old c
+  pub types : table.IsExtendedBy old.types new.types
+  pub declarations : Extends (declarations_of old) (declarations_of new)
+  pub world : IsWorld new

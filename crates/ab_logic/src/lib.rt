@@ -1,0 +1,19 @@
+//! What the logic speaks of: declarations, formulas and sequents over shared terms.
+#![tactic(auto)]
+
+mod form;
+mod lists;
+mod marks;
+mod sequent;
+mod theorems;
+mod world;
+
+pub use form::{
+    Form, as_and, as_arrow, as_equal, as_exists, as_forall, as_nabla, as_or, is_false, is_true,
+    shape,
+};
+pub use lists::{Hypotheses, Variables};
+pub use marks::{Sign, marks_serve};
+pub use sequent::{Hypothesis, Sequent, SequentFault};
+pub use theorems::TheoremEntry;
+pub use world::{DefineFault, World};
