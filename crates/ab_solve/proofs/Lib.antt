@@ -26,3 +26,5 @@ pub mod Followed
 pub mod General
 pub mod Most
 pub mod Given
+pub mod Restricted
+pub mod Cells

@@ -11,11 +11,11 @@ use Rattle.ab_term.specs.Sameness.{same_number}
 use Rattle.ab_term.specs.Closing.{among, under, may_stand, Only, OnlyAll}
 use Rattle.ab_term.proofs.Only.{among-under}
 use Rattle.ab_solve.specs.Replacing.{Cell}
-use Rattle.ab_solve.specs.Solving.{Equation, unified, Solves}
-use Rattle.ab_solve.specs.Meaning.{AreTyped, AreKnown, Unifies, given}
+use Rattle.ab_solve.specs.Solving.{Equation, State, unified, goes_on, next, Solves}
+use Rattle.ab_solve.specs.Meaning.{AreTyped, AreKnown, IsTypedState, Unifies, given}
 use Rattle.ab_solve.proofs.Pruning.{none_safe}
 use Rattle.ab_solve.proofs.Ruling.{image_none}
-use Rattle.ab_solve.proofs.Sound.{IsProblem, sound}
+use Rattle.ab_solve.proofs.Sound.{IsProblem, step_leads, sound}
 
 -- no nominal constant is among the names
 abbrev NoNominal : List (Head ℕ) → Type 0
@@ -60,3 +60,9 @@ module _ (sg : Signature) {Hint : Type 0} (x : Hint) (es : List (Equation Hint))
 
   pub answer_clean : (more : List (Cell Hint)) (r : Substitution ℕ Hint) → Solves x (given es cells ys) (unified more r) → (y : Variable ℕ) (u : Term ℕ Hint) → value_in same_number r y ≡ Some u → support u ≡ []
   answer_clean more r p y u e = only_support [] (λ a. refl) u ((sound sg x (given es cells ys) (unified more r) problem p).0.nameless y u e)
+
+-- a step keeps types
+pub step_typed : (sg : Signature) {Hint : Type 0} (x : Hint) (s r : State Hint) → IsTypedState sg s → next x s ≡ goes_on r → IsTypedState sg r
+step_typed sg x s r p e =
+    let l = step_leads sg x s r (record { equations = p.equations; known = p.known; safe = record { typed = p.typed; nameless = p.nameless } }) e in
+    record { equations = l.problem.equations; known = l.problem.known; typed = l.problem.safe.typed; nameless = l.problem.safe.nameless }

@@ -1,6 +1,6 @@
 -- Problems to try the rules on, as one writes them.
 use Rattle.std.specs.Prelude.{ℕ, List, [], ◌∷◌, codes}
-use Rattle.ab_term.specs.Types.{Ty, kind, arrow}
+use Rattle.ab_term.specs.Types.{Ty, kind}
 use Rattle.ab_term.specs.Terms.{Variable, constant, nominal, variable, index, Term, lam, spine, no_terms, terms_of}
 use Rattle.ab_solve.specs.Replacing.{Cell}
 use Rattle.ab_solve.specs.Solving.{State}
@@ -36,8 +36,10 @@ at y ts = spine (variable y) (terms_of ts)
 abbrev pub over : Term ℕ Bytes → Term ℕ Bytes
 over t = lam i (codes "x") t
 
-abbrev pub first_cells : List (Cell Bytes)
-first_cells = record { hint = codes "X"; type = arrow i (arrow i i) } ∷ record { hint = codes "Y"; type = arrow i (arrow i i) } ∷ []
+-- X of the first type, and Y of the second
+abbrev pub two_cells : Ty → Ty → List (Cell Bytes)
+two_cells A B = record { hint = codes "X"; type = A } ∷ record { hint = codes "Y"; type = B } ∷ []
 
-abbrev pub problem : List (Variable ℕ) → Term ℕ Bytes → Term ℕ Bytes → State Bytes
-problem ys t u = record { equations = record { place = 0; left = t; right = u } ∷ []; cells = first_cells; flexible = ys; pairs = [] }
+-- one equation, with these cells, of which these are flexible
+abbrev pub problem : List (Cell Bytes) → List (Variable ℕ) → Term ℕ Bytes → Term ℕ Bytes → State Bytes
+problem cells ys t u = record { equations = record { place = 0; left = t; right = u } ∷ []; cells = cells; flexible = ys; pairs = [] }

@@ -1,6 +1,6 @@
--- Pattern unification over plain trees.
+-- Pattern unification over plain trees, in Miller's terms: patterns, their rules, and unifiers.
 pub mod Patterns
 pub mod Replacing
 pub mod Solving
-pub mod Examples
 pub mod Meaning
+pub mod Examples

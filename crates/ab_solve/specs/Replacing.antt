@@ -1,5 +1,5 @@
--- What the rules put in for variables. A variable is known by its number in a list of all variables, which has the
--- hint and the type of each; new ones are added at its end.
+-- Variables that may be replaced, and what is done with them: new variables over some of the names, and pruning. A
+-- variable is known by its number in a list of cells, one for each variable; new ones are added at its end.
 use Rattle.std.specs.Prelude.{ℕ, List, [], ◌∷◌, ◌++◌, map, length, get_or, filter, Bool, true, false, cond, ◌&&◌, ◌||◌, not, Option, Some, None, is_some}
 use Rattle.std.specs.List.{list_any, list_all}
 use Rattle.ab_term.specs.Types.{Ty}
@@ -9,11 +9,13 @@ use Rattle.ab_term.specs.Sameness.{same_numbered, same_number}
 use Rattle.ab_term.specs.Closing.{among, under, may_stand}
 use Rattle.ab_solve.specs.Patterns.{pattern, applied, value, kept, kept_type}
 
+-- the hint and the type of a variable
 pub record Cell (Hint : Type 0) : Type 0 where
   pub hint : Hint
   pub type : Ty
 
--- what a rule does: variables are made and replaced. Those not replaced stand in order of age.
+-- What a rule does: variables are made, and some are replaced by what is put in. `flexible` are those that may still
+-- be replaced, in order of age.
 pub record Change (Hint : Type 0) : Type 0 where
   pub cells : List (Cell Hint)
   pub flexible : List (Variable ℕ)
@@ -23,7 +25,7 @@ pub record Change (Hint : Type 0) : Type 0 where
 abbrev pub holds : List (Variable ℕ) → Variable ℕ → Bool
 holds ys y = list_any (λ z. same_numbered z y) ys
 
--- the others
+-- the others, in their order
 abbrev pub without : Variable ℕ → List (Variable ℕ) → List (Variable ℕ)
 without y ys = filter (λ z. not (same_numbered z y)) ys
 
@@ -50,7 +52,8 @@ module _ {Hint : Type 0} where
   abbrev pub occurs : Variable ℕ → Term ℕ Hint → Bool
   occurs y t = holds (variables t) y
 
-  -- no foreign name stands in the term other than as an argument of a flexible variable
+  -- no foreign name stands in the term other than as an argument of a flexible variable. A name is foreign where it
+  -- isn't among those listed; names that the term binds are listed on the way, so they are never foreign.
   abbrev mutual
     pub no_foreign : List (Variable ℕ) → List (Head ℕ) → Term ℕ Hint → Bool
     no_foreign ys names (lam A x t) = no_foreign ys (under names) t
@@ -74,7 +77,7 @@ module _ {Hint : Type 0} (x : Hint) where
   abbrev pub one : Variable ℕ → List (Head ℕ) → Term ℕ Hint → Substitution ℕ Hint
   one y names t = (y, value x y names t) ∷ []
 
-  -- y, given names, becomes a new variable over those whose flag is set
+  -- NARROWING: y, given names, becomes a new variable over those whose flag is set
   abbrev pub narrowed : Variable ℕ → List (Head ℕ) → List Bool → Change Hint → Change Hint
   narrowed y names keep c =
       let z = next_variable c.cells (kept_type keep y.type) in

@@ -1,4 +1,6 @@
--- PATTERN UNIFICATION: equations between canonical terms, and the rules that solve them.
+-- PATTERN UNIFICATION: equations between canonical terms over flexible variables, and the six rules that solve them.
+-- Repeatedly the first equation to which a rule applies is replaced, in its place, by what the first such rule gives.
+-- Terms are compared past hints.
 use Rattle.std.specs.Prelude.{◌≡◌, ℕ, List, [], ◌∷◌, ◌++◌, map, Bool, false, cond, ◌&&◌, ◌||◌, not, Option, Some, None}
 use Rattle.std.specs.List.{list_all}
 use Rattle.ab_term.specs.Terms.{Variable, Head, variable, Term, lam, spine, Terms, no_terms, term}
@@ -15,7 +17,7 @@ pub record Equation (Hint : Type 0) : Type 0 where
   pub left : Term ℕ Hint
   pub right : Term ℕ Hint
 
--- what is left to solve, the variables by their numbers, those that may still be replaced in order of age, and the
+-- what is left to solve, all variables by their numbers, those that may still be replaced, in order of age, and the
 -- substitution so far
 pub record State (Hint : Type 0) : Type 0 where
   pub equations : List (Equation Hint)
@@ -30,7 +32,8 @@ pub data Answer (Hint : Type 0) : Type 0 where
   -- the number of the first given equation that is left
   stuck : ℕ → Answer Hint
 
--- what a rule gives for an equation
+-- what a rule gives for an equation: that it can't be met; equations that take its place; or variables that are
+-- replaced, so that both sides become the same and the equation goes
 pub data Result (Hint : Type 0) : Type 0 where
   clash : Result Hint
   parts : List (Equation Hint) → Result Hint
@@ -41,7 +44,7 @@ module _ {Hint : Type 0} where
   or_else (Some r) o = Some r
   or_else None o = o
 
-  -- the arguments, one against one
+  -- the arguments, one against one (as many on both sides, where the equation is typed)
   abbrev pub paired : ℕ → Terms ℕ Hint → Terms ℕ Hint → List (Equation Hint)
   paired p no_terms us = []
   paired p (term t ts) no_terms = []
@@ -74,16 +77,19 @@ agreeing (g ∷ gs) [] = false ∷ agreeing gs []
 agreeing (g ∷ gs) (h ∷ hs) = same_head g h ∷ agreeing gs hs
 
 module _ {Hint : Type 0} (x : Hint) (cells : List (Cell Hint)) (ys : List (Variable ℕ)) where
-  -- y is no longer flexible, and nothing else has changed
+  -- the change at the start of rules 4 and 6: y is no longer flexible
   abbrev pub begun : Variable ℕ → Change Hint
   begun y = record { cells = cells; flexible = without y ys; pairs = [] }
 
+  -- the change at the start of rule 5
   abbrev pub unchanged : Change Hint
   unchanged = record { cells = cells; flexible = ys; pairs = [] }
 
+  -- y, given the names, becomes the term, after what was done before
   abbrev pub put_in : Variable ℕ → List (Head ℕ) → Term ℕ Hint → Change Hint → Change Hint
   put_in y names t c = record { cells = c.cells; flexible = c.flexible; pairs = composition same_number c.pairs (one x y names (image same_number c.pairs t)) }
 
+  -- the names of y's arguments against the term
   abbrev pub pattern_of : Variable ℕ → Term ℕ Hint → Option (List (Head ℕ)) → Option (Result Hint)
   pattern_of y t None = None
   pattern_of y t (Some names) =
@@ -97,6 +103,7 @@ module _ {Hint : Type 0} (x : Hint) (cells : List (Cell Hint)) (ys : List (Varia
   pattern_and_rigid (spine (variable y) ts) (spine h us) = cond (holds ys y && not (is_flexible ys h)) (pattern_of y (spine h us) (pattern y.type ts)) None
   pattern_and_rigid _ _ = None
 
+  -- the names on both sides
   abbrev pub same_variable_at : Variable ℕ → Option (List (Head ℕ)) → Option (List (Head ℕ)) → Option (Result Hint)
   same_variable_at y (Some names) (Some others) = Some (replaced (narrowed x y names (agreeing names others) unchanged))
   same_variable_at y _ _ = None
@@ -118,6 +125,7 @@ module _ {Hint : Type 0} (x : Hint) (cells : List (Cell Hint)) (ys : List (Varia
         pairs = one x y names common ++ one x z others common;
       }
 
+  -- the names on both sides
   abbrev pub two_at : Variable ℕ → Option (List (Head ℕ)) → Variable ℕ → Option (List (Head ℕ)) → Option (Result Hint)
   two_at y (Some names) z (Some others) =
       Some (replaced (cond (list_all (among others) names) (put_in z others (applied x y names) (begun z))
@@ -125,7 +133,8 @@ module _ {Hint : Type 0} (x : Hint) (cells : List (Cell Hint)) (ys : List (Varia
       (joined_at y names z others))))
   two_at y _ z _ = None
 
-  -- 6. two patterns, y older than z
+  -- 6. two patterns, y older than z: where all names of y are among z's, z is bound to y; else where all of z's are
+  -- among y's, y to z; else both to a new variable over the common names
   abbrev pub two_variables : Term ℕ Hint → Term ℕ Hint → Option (Result Hint)
   two_variables (spine (variable y) ts) (spine (variable z) us) = cond (holds ys z && is_older ys y z) (two_at y (pattern y.type ts) z (pattern z.type us)) None
   two_variables _ _ = None
@@ -150,11 +159,13 @@ pub record Found (Hint : Type 0) : Type 0 where
   pub result : Result Hint
   pub behind : List (Equation Hint)
 
+-- what one step leads to
 pub data Next (Hint : Type 0) : Type 0 where
   finished : Answer Hint → Next Hint
   goes_on : State Hint → Next Hint
 
 module _ {Hint : Type 0} where
+  -- at this equation, or behind it
   abbrev pub found_at : Equation Hint → List (Equation Hint) → Option (Result Hint) → Option (Found Hint) → Option (Found Hint)
   found_at e es (Some r) o = Some (record { before = []; result = r; behind = es })
   found_at e es None None = None
@@ -167,10 +178,12 @@ module _ {Hint : Type 0} where
   abbrev pub image_of : Substitution ℕ Hint → Equation Hint → Equation Hint
   image_of s e = record { place = e.place; left = image same_number s e.left; right = image same_number s e.right }
 
+  -- no rule applies: solved where no equation is left
   abbrev pub ending : State Hint → List (Equation Hint) → Answer Hint
   ending s [] = unified s.cells s.pairs
   ending s (e ∷ es) = stuck e.place
 
+  -- what was found, carried out: a substitution goes to all equations
   abbrev pub carried : State Hint → Found Hint → Result Hint → Next Hint
   carried s f clash = finished apart
   carried s f (parts es) = goes_on (record { equations = f.before ++ es ++ f.behind; cells = s.cells; flexible = s.flexible; pairs = s.pairs })
