@@ -1,0 +1,130 @@
+-- A proof, where its world has grown.
+use Rattle.std.specs.List.{All}
+use Rattle.std.proofs.Common.{◌≡◌, ◌≢◌, List, [], ◌∷◌, length, map, refl, sym, ◌∙◌, ap, subst, arith}
+use Rattle.std.proofs.lemmas.List.Elements.{All-map, All-head, All-tail, All-weaker}
+use Rattle.ab_term.specs.Terms.{Nominal}
+use Rattle.ab_store.specs.Reading.{Read}
+use Rattle.ab_types.specs.Ids.{type_of}
+use Rattle.ab_types.proofs.Entries.{same_type, holds_type}
+use Rattle.ab_logic.specs.Worlds.{HoldsCell, Holds, variable_of, read, declarations_of}
+use Rattle.ab_logic.specs.Growth.{Grows}
+use Rattle.ab_logic.specs.Sequents.{Variable, Sequent}
+use Rattle.ab_logic.specs.Readings.{sequent_of, HoldsSequent}
+use Rattle.ab_logic.specs.declared.world.World.{World}
+use Rattle.ab_logic.specs.declared.sequent.Sequent.{Sequent as Kept}
+use Rattle.ab_logic.proofs.Growing.{map_same, same_sequent, still_held}
+use Rattle.ab_norm.specs.Nominals.{nominal_of, HoldsNominal}
+use Rattle.ab_rules.specs.declared.replaces.Replace.{Replace}
+use Rattle.ab_rules.specs.declared.step.Step.{Step}
+use Rattle.ab_rules.specs.declared.step.Step.TheVariants.{Initial, TrueRight, FalseLeft, AndRight, AndLeft, OrRight, OrLeft, ArrowRight, ArrowLeft, ForallRight, ForallLeft, ExistsRight, ExistsLeft, NablaRight, NablaLeft, EqualRight, EqualLeft, DefRight, DefLeft, Induction, Coinduction, CutFormula, UseTheorem, Weaken, SpecCut, SpecInst, SpecMonotone}
+use Rattle.ab_kernel.specs.declared.proving.Refinement.{Refinement}
+use Rattle.ab_rules.specs.Answers.{step_of, HoldsStep, label_of, replacements}
+use Rattle.ab_rules.specs.Steps as plain
+use Rattle.ab_rules.specs.Rules.{IsNew}
+use Rattle.ab_kernel.specs.Derivation.{Derivation, Valid, History, after}
+use Rattle.ab_kernel.specs.Layout.{Held, premises_of, sequents_before, made_by, history_of, IsProof}
+use Rattle.ab_kernel.proofs.Refining.{still_valid}
+
+-- the number of a new cell is no variable's
+pub new_number : (w : World) (s : Kept) → HoldsSequent w s → IsNew (length w.store.cells) (sequent_of w s)
+new_number w s h =
+    All-map (λ (x : Variable). x.number ≢ length w.store.cells) (variable_of w) s.variables
+    (All-weaker (HoldsCell w) (λ c. c.0 ≢ length w.store.cells) (λ c l e. omega arith) s.variables h.variables)
+
+module _ (w v : World) (grown : Grows w v) where
+  same_nominal : (r : Replace) → HoldsNominal w.types r.from → nominal_of v.types r.from ≡ nominal_of w.types r.from
+  same_nominal r h =
+      ap (λ t. nominal_of t r.from) grown.types.1 ∙ ap (λ A. record { number = r.from.number; type = A }) (same_type w.types grown.types.0 r.from.ty h)
+
+  same_replacements : (rs : List Replace) → All (λ (r : Replace). HoldsNominal w.types r.from × Holds w r.to) rs → replacements v rs ≡ replacements w rs
+  same_replacements rs all =
+      map_same (λ (r : Replace). pair v r) (λ (r : Replace). pair w r) (λ (r : Replace). HoldsNominal w.types r.from × Holds w r.to)
+      (λ r h. ap (λ n. both n (read v r.to)) (same_nominal r h.0) ∙ ap (both (nominal_of w.types r.from)) (grown.readings r.to h.1)) rs all
+    where
+      both : Nominal → Read → Nominal × Read
+      both n t = (n, t)
+
+      pair : World → Replace → Nominal × Read
+      pair u r = (nominal_of u.types r.from, read u r.to)
+
+  pub same_step : (step : Step) → HoldsStep w step → step_of v step ≡ step_of w step
+  same_step (Initial H) h = refl
+  same_step TrueRight h = refl
+  same_step (FalseLeft H) h = refl
+  same_step AndRight h = refl
+  same_step (AndLeft H l m) h = refl
+  same_step (OrRight b) h = refl
+  same_step (OrLeft H l) h = refl
+  same_step (ArrowRight l) h = refl
+  same_step (ArrowLeft H l) h = refl
+  same_step ForallRight h = refl
+  same_step (ForallLeft H t l) h = ap (λ u. plain.for_all_left H u (label_of l)) (grown.readings t h)
+  same_step (ExistsRight t) h = ap plain.exists_right (grown.readings t h)
+  same_step (ExistsLeft H l) h = refl
+  same_step NablaRight h = refl
+  same_step (NablaLeft H l) h = refl
+  same_step EqualRight h = refl
+  same_step (EqualLeft H) h = refl
+  same_step (DefRight i) h = refl
+  same_step (DefLeft H l) h = refl
+  same_step (Induction n l) h = refl
+  same_step (Coinduction l) h = refl
+  same_step (CutFormula F l) h = ap (λ t. plain.cut_formula t (label_of l)) (grown.readings F h)
+  same_step (UseTheorem n l) h = refl
+  same_step (Weaken H) h = refl
+  same_step (SpecCut H K l) h = refl
+  same_step (SpecInst H rs l) h = ap (λ xs. plain.spec_instance H xs (label_of l)) (same_replacements rs h)
+  same_step (SpecMonotone H K l) h = ap (λ t. plain.spec_monotone H t (label_of l)) (grown.readings K h)
+
+  still_nominal : (r : Replace) → HoldsNominal w.types r.from → HoldsNominal v.types r.from
+  still_nominal r h = subst (λ t. HoldsNominal t r.from) (sym grown.types.1) (holds_type w.types grown.types.0 r.from.ty h)
+
+  pub still_step : (step : Step) → HoldsStep w step → HoldsStep v step
+  still_step (Initial H) h = tt
+  still_step TrueRight h = tt
+  still_step (FalseLeft H) h = tt
+  still_step AndRight h = tt
+  still_step (AndLeft H l m) h = tt
+  still_step (OrRight b) h = tt
+  still_step (OrLeft H l) h = tt
+  still_step (ArrowRight l) h = tt
+  still_step (ArrowLeft H l) h = tt
+  still_step ForallRight h = tt
+  still_step (ForallLeft H t l) h = grown.ids t h
+  still_step (ExistsRight t) h = grown.ids t h
+  still_step (ExistsLeft H l) h = tt
+  still_step NablaRight h = tt
+  still_step (NablaLeft H l) h = tt
+  still_step EqualRight h = tt
+  still_step (EqualLeft H) h = tt
+  still_step (DefRight i) h = tt
+  still_step (DefLeft H l) h = tt
+  still_step (Induction n l) h = tt
+  still_step (Coinduction l) h = tt
+  still_step (CutFormula F l) h = grown.ids F h
+  still_step (UseTheorem n l) h = tt
+  still_step (Weaken H) h = tt
+  still_step (SpecCut H K l) h = tt
+  still_step (SpecInst H rs l) h = All-weaker (λ (r : Replace). HoldsNominal w.types r.from × Holds w r.to) (λ (r : Replace). HoldsNominal v.types r.from × Holds v r.to) (λ r q. (still_nominal r q.0, grown.ids r.to q.1)) rs h
+  still_step (SpecMonotone H K l) h = grown.ids K h
+
+  same_made : (ss : List Sequent) (rs : List Refinement) → All (λ (r : Refinement). HoldsStep w r.step) rs → made_by v ss rs ≡ made_by w ss rs
+  same_made ss [] all = refl
+  same_made ss (r ∷ rs) all =
+      ap (λ k. after r.place k (premises_of r ss) (made_by v (sequents_before r ss) rs)) (same_step r.step (All-head (λ (q : Refinement). HoldsStep w q.step) r rs all))
+      ∙ ap (after r.place (step_of w r.step) (premises_of r ss)) (same_made (sequents_before r ss) rs (All-tail (λ (q : Refinement). HoldsStep w q.step) r rs all))
+
+  pub same_history : (p : Held) → IsProof w p → history_of v p ≡ history_of w p
+  same_history p proof =
+      ap (λ ss. made_by v ss p.steps) (map_same (sequent_of v) (sequent_of w) (HoldsSequent w) (same_sequent w v grown) p.sequents proof.sequents)
+      ∙ same_made (map (sequent_of w) p.sequents) p.steps proof.steps
+
+  pub still_proof : (p : Held) → IsProof w p → IsProof v p
+  still_proof p proof = record {
+    sequents = All-weaker (HoldsSequent w) (HoldsSequent v) (still_held w v grown) p.sequents proof.sequents;
+    steps = All-weaker (λ (r : Refinement). HoldsStep w r.step) (λ (r : Refinement). HoldsStep v r.step) (λ r. still_step r.step) p.steps proof.steps;
+    valid = subst (λ (h : History). Valid (declarations_of v) h.tree) (sym (same_history p proof)) (still_valid (declarations_of w) (declarations_of v) grown.declarations (history_of w p).tree proof.valid);
+    was_valid =
+        subst (λ (h : History). All (Valid (declarations_of v)) h.earlier) (sym (same_history p proof))
+        (All-weaker (Valid (declarations_of w)) (Valid (declarations_of v)) (still_valid (declarations_of w) (declarations_of v) grown.declarations) (history_of w p).earlier proof.was_valid);
+  }

@@ -1,0 +1,123 @@
+-- What `refine` shows at its returns.
+use Rattle.std.specs.Prelude.{Result, Ok, Err}
+use Rattle.std.specs.List.{All}
+use Rattle.std.proofs.Common.{◌≡◌, ◌⊎◌, inl, inr, ℕ, ◌+◌, ◌<◌, Vec, Global, Some, List, ◌∷◌, ◌++◌, length, map, get_or, sym, ◌∙◌, ap, subst}
+use Rattle.std.proofs.lemmas.List.Elements.{All-cons, All-append, All-weaker}
+use Rattle.ab_logic.specs.Growth.{Grows}
+use Rattle.ab_logic.specs.Declarations.{Declarations}
+use Rattle.ab_logic.specs.Worlds.{declarations_of}
+use Rattle.ab_logic.specs.Sequents.{Sequent}
+use Rattle.ab_logic.specs.Readings.{sequent_of, HoldsSequent}
+use Rattle.ab_logic.specs.declared.world.World.{World}
+use Rattle.ab_logic.specs.declared.sequent.Sequent.{Sequent as Kept}
+use Rattle.ab_rules.specs.declared.step.Step.{Step}
+use Rattle.ab_rules.specs.declared.step.KernelFault.{KernelFault}
+use Rattle.ab_rules.specs.declared.step.KernelFault.TheVariants.{RuleFails, NotPattern, Memory}
+use Rattle.ab_kernel.specs.declared.proving.Refinement.{Refinement}
+use Rattle.ab_rules.specs.Row.{FailsFirst}
+use Rattle.ab_rules.specs.Rules.{row, Rule, NamedRule, Fails, any_name, by_hint}
+use Rattle.ab_rules.proofs.Longer.{any_named}
+use Rattle.ab_rules.specs.Answers.{Answers, row_at, step_of, HoldsStep, IsMemory}
+use Rattle.ab_kernel.specs.Derivation.{Derivation, Valid, goal_at, GoalFails, History, after, refined, IsStep}
+use Rattle.ab_kernel.specs.Layout.{Held, Stands, history_of, IsProof}
+use Rattle.std.proofs.lemmas.List.{length-map}
+use Rattle.std.proofs.lemmas.Option.{slice_get_within}
+use Rattle.ab_kernel.proofs.Standing.{reads_now, leads}
+use Rattle.ab_kernel.proofs.Taking.{goal_taken}
+use Rattle.ab_rules.proofs.OneAnswer.{never_both, one_failure, any_new}
+use Rattle.ab_kernel.proofs.Later.{new_number, same_step, still_step, still_proof, same_history}
+use Rattle.ab_kernel.proofs.Refining.{Valid-refined, still_valid}
+
+-- the goal's sequent is there
+pub held_at : (w : World) (items : List Kept) (n : ℕ) (x : Kept) → All (HoldsSequent w) items → n < length items → x ≡ get_or items n x → HoldsSequent w x
+held_at w items n x all l is = subst (HoldsSequent w) (sym is) (all n x l)
+
+module _ (w v : World) (x : Kept) (kept : Step) (place : ℕ) (d : Derivation) (is : goal_at d place ≡ Some (sequent_of w x)) where
+  s : Sequent
+  s = sequent_of w x
+
+  D : Declarations
+  D = declarations_of w
+
+  failed : (i : ℕ) → GoalFails (declarations_of w) place (step_of w kept) i d → Fails (declarations_of w) (step_of w kept) (sequent_of w x) i
+  failed i f =
+      let same : Some f.0 ≡ Some (sequent_of w x) = sym f.1 ∙ is in
+      let goal : f.0 ≡ sequent_of w x = cc in
+      subst (λ t. Fails (declarations_of w) (step_of w kept) t i) goal f.2
+
+  told : (j : ℕ) → FailsFirst (row_at w (step_of w kept) x) j → Fails (declarations_of w) (step_of w kept) (sequent_of w x) j
+  told j f = any_new (declarations_of w) (step_of w kept) (by_hint (declarations_of w) (length w.store.cells) (sequent_of w x)) (any_name 0 (sequent_of w x)) (sequent_of w x) j f
+
+  pub refused : (f : KernelFault) → Answers v (row_at w (step_of w kept) x) (Err f)
+      → (i : ℕ) → ◌≡◌ {A = Result ℕ KernelFault} (Err f) (Err (RuleFails i)) → GoalFails (declarations_of w) place (step_of w kept) i d
+  refused (RuleFails j) a i e =
+      let same : j ≡ i = cc in
+      (sequent_of w x, is, subst (Fails (declarations_of w) (step_of w kept) (sequent_of w x)) same (told j a))
+  refused (NotPattern j) a i e = cc
+  refused (Memory m) a i e = cc
+
+  pub refuses : (f : KernelFault) → Answers v (row_at w (step_of w kept) x) (Err f)
+      → (i : ℕ) → GoalFails (declarations_of w) place (step_of w kept) i d → (◌≡◌ {A = Result ℕ KernelFault} (Err f) (Err (RuleFails i))) ⊎ IsMemory {A = ℕ} (Err f)
+  refuses (RuleFails j) a i g =
+      inl (ap (λ k. Err (RuleFails k)) (one_failure (row (declarations_of w) (any_name 0 (sequent_of w x)) (step_of w kept) (sequent_of w x)) j i (told j a) (failed i g)))
+  refuses (NotPattern j) a i g = absurd a
+  refuses (Memory m) a i g = inr tt
+
+  pub not_refused : (made : Vec Kept Global) → Answers v (row_at w (step_of w kept) x) (Ok made) → (i : ℕ) → GoalFails (declarations_of w) place (step_of w kept) i d → ⊥
+  not_refused made a i g =
+      never_both (row_at w (step_of w kept) x) _ i a.0
+      (any_new (declarations_of w) (step_of w kept) (any_name 0 (sequent_of w x)) (by_hint (declarations_of w) (length w.store.cells) (sequent_of w x)) (sequent_of w x) i (failed i g))
+
+-- the rule of the step, from the answer of its function
+pub by_rule : (w v : World) (x : Kept) (kept : Step) (made : Vec Kept Global) → HoldsSequent w x
+    → Answers v (row_at w (step_of w kept) x) (Ok made) → NamedRule (declarations_of w) (step_of w kept) (sequent_of w x) (map (sequent_of v) made.items)
+by_rule w v x kept made held a = (length w.store.cells, new_number w x held, a.0)
+
+module _ (w v : World) (grown : Grows w v) (p q : Held) (proof : IsProof w p) (kept : Step) (holds : HoldsStep w kept) where
+  -- the step as it reads now
+  pub as_before : (D : Declarations) (place n : ℕ) (h k : History) → IsStep D place (step_of v kept) n h k → IsStep D place (step_of w kept) n h k
+  as_before D place n h k is = subst (λ t. IsStep D place t n h k) (same_step w v grown kept holds) is
+
+  pub rule_now : (D : Declarations) (s : Sequent) (ps : List Sequent) → NamedRule D (step_of w kept) s ps → NamedRule D (step_of v kept) s ps
+  rule_now D s ps rule = subst (λ t. NamedRule D t s ps) (sym (same_step w v grown kept holds)) rule
+
+  pub proof_after : (made : List Kept) (r : Refinement) (place : ℕ) (s : Sequent)
+      → history_of v q ≡ after place (step_of v kept) (map (sequent_of v) made) (history_of w p)
+      → q.sequents ≡ p.sequents ++ made → q.steps ≡ r ∷ p.steps → r.step ≡ kept → All (HoldsSequent v) made
+      → goal_at (history_of w p).tree place ≡ Some s → NamedRule (declarations_of w) (step_of w kept) s (map (sequent_of v) made) → IsProof v q
+  proof_after made r place s is sequents steps same held goal rule =
+      let still = still_proof w v grown p proof in
+      let there : HoldsStep v r.step = subst (HoldsStep v) (sym same) (still_step w v grown kept holds) in
+      record {
+        sequents = subst (All (HoldsSequent v)) (sym sequents) (All-append (HoldsSequent v) p.sequents made still.sequents held);
+        steps = subst (All (λ (r : Refinement). HoldsStep v r.step)) (sym steps) (All-cons (λ (r : Refinement). HoldsStep v r.step) r p.steps there still.steps);
+        valid =
+            subst (λ (h : History). Valid (declarations_of v) h.tree) (sym is)
+            (still_valid (declarations_of w) (declarations_of v) grown.declarations (refined place (step_of v kept) (map (sequent_of v) made) (history_of w p).tree)
+            (Valid-refined (step_of v kept) (map (sequent_of v) made) (declarations_of w) s
+            (any_named (declarations_of w) (step_of v kept) s (map (sequent_of v) made) (rule_now (declarations_of w) s (map (sequent_of v) made) rule)) place (history_of w p).tree goal proof.valid));
+        was_valid =
+            subst (λ (h : History). All (Valid (declarations_of v)) h.earlier) (sym is)
+            (All-weaker (Valid (declarations_of w)) (Valid (declarations_of v)) (still_valid (declarations_of w) (declarations_of v) grown.declarations) ((history_of w p).tree ∷ (history_of w p).earlier)
+            (All-cons (Valid (declarations_of w)) (history_of w p).tree (history_of w p).earlier proof.valid proof.was_valid));
+      }
+
+-- the goal at which the step is taken
+pub record Here (w : World) (p : Held) (place : ℕ) (x : Kept) : Type 0 where
+  pub held : HoldsSequent w x
+  pub is_goal : goal_at (history_of w p).tree place ≡ Some (sequent_of w x)
+
+pub here : (w : World) (items : List Kept) (ns : List ℕ) (rs : List Refinement) (p : Held) (place at node : ℕ) (x : Kept)
+    → Stands w (map (sequent_of w) items) ns rs → record { sequents = items; steps = rs } ≡ p → IsProof w p
+    → place + at + 1 ≡ length ns → node ≡ get_or ns at node → x ≡ get_or items node x → Here w p place x
+here w items ns rs p place at node x stands is proof e is_node is_x =
+    let found = leads place at node (reads_now w (map (sequent_of w) items) ns rs stands) e is_node in
+    let inside : node < length items = rw (sym (length-map items (sequent_of w))) (slice_get_within (map (sequent_of w) items) node found.0 found.1) in
+    record {
+      held = held_at w items node x (subst (λ (q : Held). All (HoldsSequent w) q.sequents) (sym is) proof.sequents) inside is_x;
+      is_goal = goal_taken w items ns rs (history_of w p) place at node x stands (ap (history_of w) is) e is_node is_x;
+    }
+
+-- the history under the world that the step left
+pub history_now : (w v : World) (grown : Grows w v) (q p : Held) → q ≡ p → IsProof w p → history_of v q ≡ history_of w p
+history_now w v grown q p is proof = ap (history_of v) is ∙ same_history w v grown p proof

@@ -1,0 +1,30 @@
+use Rattle.std.specs.Prelude.{slice_get}
+use Rattle.std.proofs.Common.{◌-◌, ◌<◌, ◌≤◌, length, map, Some, sym, ◌∙◌, ap, arith}
+use Rattle.std.proofs.lemmas.List.{length-map}
+use Rattle.std.proofs.lemmas.Option.{slice_get_within, slice_get_past}
+use Rattle.ab_logic.specs.Readings.{sequent_of}
+use Rattle.ab_kernel.specs.Derivation.{open_goals}
+use Rattle.ab_kernel.specs.Layout.{history_of, held}
+use Rattle.ab_kernel.proofs.Standing.{reads_now, as_many, leads, kept_at, some_world}
+use Rattle.ab_kernel.proofs.proving.Proof.goal.Goals as goal
+
+pub index-requires : goal.index-requires
+index-requires c =
+    let w = some_world in
+    let found = leads c.args.place (c.len-then-place-len.result - 1 - c.args.place) c.index-node.result.now (reads_now w _ _ _ (c.self.invariant.stands w)) (omega arith) c.index-node.ensures in
+    let inside : c.index-node.result.now < length (map (sequent_of w) c.self.inside.sequents.items) = slice_get_within _ _ found.0 found.1 in
+    omega (arith, inside, length-map c.self.inside.sequents.items (sequent_of w))
+
+pub returns-then-place-len : goal.returns-then-place-len
+returns-then-place-len c w =
+    let found = leads c.args.place (c.len-then-place-len.result - 1 - c.args.place) c.index-node.result.now (reads_now w _ _ _ (c.self.invariant.stands w)) (omega arith) c.index-node.ensures in
+    ap Some (kept_at w c.self.inside.sequents.items c.index-node.result.now c.index.result.now found.0 found.1 c.index.ensures)
+    ∙ sym found.2
+    ∙ ap (λ p. slice_get (open_goals (history_of w p).tree) c.args.place) c.self.view_is
+
+pub returns-else-place-len : goal.returns-else-place-len
+returns-else-place-len c w =
+    let counted = as_many (reads_now w _ _ _ (c.self.invariant.stands w)) in
+    let past : length (open_goals (history_of w (held c.self.inside)).tree) ≤ c.args.place = omega (arith, counted) in
+    sym (slice_get_past _ c.args.place past)
+    ∙ ap (λ p. slice_get (open_goals (history_of w p).tree) c.args.place) c.self.view_is

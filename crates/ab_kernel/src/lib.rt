@@ -1,0 +1,9 @@
+//! The kernel: derivations with open goals, which are made here, by the rules, and nowhere else.
+#![tactic(auto)]
+
+pub mod laws;
+mod places;
+mod proving;
+
+pub use ab_rules::{KernelFault, Label, Replace, Replaces, Step};
+pub use proving::{Proof, Refinement};

@@ -1,0 +1,251 @@
+//! Proofs in progress: derivations with open goals, made by steps of the rules alone.
+ghost use Rattle.std.specs.Prelude.{◌≡◌, ℕ, ◌+◌, ◌<◌, ◌≤◌, [], ◌++◌, ◌↔◌, ◌⊎◌, length, IsTrue, IfOk, MatchOption, ◌∷◌, OnOk, OnErr, vec_len, vec_capacity};
+ghost use Rattle.std.specs.Option.{option_copied, option_map};
+ghost use Rattle.ab_logic.specs.Worlds.{IsWorld, Holds, read, declarations_of};
+ghost use Rattle.ab_logic.specs.Growth.{Grows};
+ghost use Rattle.ab_logic.specs.declared.world.World.{World as AWorld};
+ghost use Rattle.ab_logic.specs.Readings.{sequent_of};
+ghost use Rattle.ab_store.specs.Reading.{Read};
+ghost use Rattle.ab_rules.specs.Answers.{step_of, HoldsStep, IsMemory};
+ghost use Rattle.ab_rules.specs.declared.step.KernelFault.{KernelFault};
+ghost use Rattle.ab_kernel.specs.Derivation.{root, Valid, open_goals, goal_at, IsDerivation, beginning, proves, IsStep, GoalFails, undone};
+ghost use Rattle.ab_kernel.specs.Layout.{history_of, IsProof};
+ghost use Rattle.ab_rules.specs.declared.step.Step.{Step as AStep};
+
+use crate::places::{replace_goal, restore_goal};
+use ab_logic::{Hypotheses, Sequent, Variables, World};
+use ab_rules::{KernelFault, Step, premises};
+use ab_store::TermId;
+use ab_types::Steps;
+use std::alloc::{AllocError, Global};
+use std::marker::Model;
+
+/// A step that was taken, and what it takes to take it back.
+#[derive(Drop)]
+pub struct Refinement {
+    pub(crate) step: Step,
+    /// The place of its goal among the open goals, from 0 at the left.
+    pub(crate) place: usize,
+    /// The number of that goal's sequent.
+    pub(crate) node: usize,
+    /// How many premises took its place.
+    pub(crate) premises: usize,
+}
+
+/// A derivation with open goals.
+#[derive(Drop)]
+pub struct Proof {
+    /// The sequents of the derivation's nodes. The root has the number 0, and each step's premises
+    /// have the next ones.
+    sequents: Vec<Sequent>,
+    /// The numbers of the open goals, the first goal last.
+    open: Vec<usize>,
+    /// The steps that stand, the latest last.
+    journal: Vec<Refinement>,
+}
+
+impl Model for Proof {
+    ghost use Rattle.ab_kernel.specs.Layout.{Held};
+
+    ghost Value = { Held };
+
+    ghost use Rattle.ab_kernel.specs.Layout.{held, IsSound};
+
+    ghost view = { held };
+
+    ghost invariant = { IsSound };
+}
+
+/// Puts the premises behind the sequents, and makes room for their numbers and for the step.
+fn take_in(
+    sequents: &mut Vec<Sequent>,
+    numbers: &mut Vec<usize>,
+    journal: &mut Vec<Refinement>,
+    premises: &mut Vec<Sequent>,
+) -> Result<(), AllocError>
+    ensures added { OnOk result (sequents.new.items ≡ sequents.old.items ++ premises.old.items) }
+    ensures err { OnErr result (sequents.new.items ≡ sequents.old.items) }
+    ensures numbers { numbers.new.items ≡ numbers.old.items }
+    ensures journal { journal.new.items ≡ journal.old.items }
+    ensures numbers_room { OnOk result (vec_len numbers.old + vec_len premises.old ≤ vec_capacity numbers.new) }
+    ensures journal_room { OnOk result (vec_len journal.new < vec_capacity journal.new) }
+    ensures capacity { vec_capacity numbers.old ≤ vec_capacity numbers.new }
+{
+    numbers.reserve(premises.len())?;
+    journal.reserve(1)?;
+    sequents.append(premises)
+}
+
+/// Where a step was taken, and what it made.
+#[derive(Clone, Copy)]
+struct Last {
+    place: usize,
+    node: usize,
+    premises: usize,
+}
+
+/// What is to be known of a step to take it back. The step itself goes.
+fn place_of(last: Refinement) -> Last
+    ensures { (result.place ≡ last.place) × (result.node ≡ last.node) × (result.premises ≡ last.premises) }
+{
+    Last {
+        place: last.place,
+        node: last.node,
+        premises: last.premises,
+    }
+}
+
+/// Takes the last step out of the journal.
+fn take_last(journal: &mut Vec<Refinement>) -> Option<Last>
+    ensures { MatchOption result
+        ((journal.old.items ≡ []) × (journal.new.items ≡ []))
+        (λ last. (step : AStep) × (journal.old.items
+        ≡ journal.new.items ++ record { step = step; place = last.place; node = last.node; premises = last.premises } ∷ [])) }
+{
+    match journal.pop() {
+        None => None,
+        Some(last) => Some(place_of(last)),
+    }
+}
+
+impl Proof {
+    /// The proof of a formula, of which nothing is done: it has one open goal.
+    pub fn start(
+        alloc: Global,
+        world: &World,
+        formula: TermId,
+        counter: u32,
+    ) -> Result<Proof, AllocError>
+        requires { Holds world.now formula }
+        ensures begins { IfOk result (λ p. history_of world.now p ≡ beginning (proves (read world.now formula) counter)) }
+        ensures proof { IfOk result (IsProof world.now) }
+    {
+        let mut sequents = Vec::new(alloc);
+        sequents.push(Sequent {
+            variables: Variables::from_vec(Vec::new(alloc)),
+            hypotheses: Hypotheses::from_vec(Vec::new(alloc)),
+            conclusion: formula,
+            counter,
+        })?;
+        let mut open = Vec::new(alloc);
+        open.push(0)?;
+        Ok(Proof {
+            sequents,
+            open,
+            journal: Vec::new(alloc),
+        })
+    }
+
+    /// Takes a step at the open goal of this place, counted from 0 at the left. Its premises take
+    /// the goal's place in order, and their number is the answer. A rule that fails, and want of
+    /// memory, change nothing.
+    pub fn refine<L>(
+        &mut self,
+        world: &mut World,
+        place: usize,
+        step: Step,
+        steps: &mut Steps<L>,
+    ) -> Result<usize, KernelFault>
+        requires world { IsWorld world.old }
+        requires proof { IsProof world.old self.old }
+        requires step { HoldsStep world.old step }
+        requires place { place < length (open_goals (history_of world.old self.old).tree) }
+        ensures step { IfOk result (λ n. IsStep (declarations_of world.old) place (step_of world.old step) n (history_of world.old self.old) (history_of world.new self.new)) }
+        ensures refused { (i : ℕ) → result ≡ Err (KernelFault.RuleFails i) → GoalFails (declarations_of world.old) place (step_of world.old step) i (history_of world.old self.old).tree }
+        ensures refuses { (i : ℕ) → GoalFails (declarations_of world.old) place (step_of world.old step) i (history_of world.old self.old).tree → (result ≡ Err (KernelFault.RuleFails i)) ⊎ IsMemory result }
+        ensures proof { IsProof world.new self.new }
+        ensures err { OnErr result (self.new ≡ self.old) }
+        ensures grows { Grows world.old world.new }
+    {
+        let at = self.open.len() - 1 - place;
+        let node = self.open[at];
+        let alloc = *self.sequents.allocator();
+        let mut made = match premises(alloc, world, &step, &self.sequents[node], steps) {
+            Ok(made) => made,
+            Err(fault) => {
+                drop(step);
+                return Err(fault);
+            }
+        };
+        let count = made.len();
+        let first = self.sequents.len();
+        if let Err(fault) = take_in(
+            &mut self.sequents,
+            &mut self.open,
+            &mut self.journal,
+            &mut made,
+        ) {
+            drop(step);
+            return Err(KernelFault::Memory(fault));
+        }
+        replace_goal(&mut self.open, at, first, count);
+        self.journal.push_reserved(Refinement {
+            step,
+            place,
+            node,
+            premises: count,
+        });
+        Ok(count)
+    }
+
+    /// Takes the last step back that still stands. It answers false, and changes nothing, where
+    /// there is none.
+    pub fn unrefine(&mut self) -> bool
+        ensures some { (w : AWorld) → IsTrue result ↔ (0 < length (history_of w self.old).earlier) }
+        ensures undone { (w : AWorld) → history_of w self.new ≡ undone 1 (history_of w self.old) }
+        ensures proof { (w : AWorld) → IsProof w self.old → IsProof w self.new }
+        ensures root { (w : AWorld) → root (history_of w self.new).tree ≡ root (history_of w self.old).tree }
+    {
+        match take_last(&mut self.journal) {
+            None => false,
+            Some(last) => {
+                let at = self.open.len() - (last.place + last.premises);
+                restore_goal(&mut self.open, at, last.premises, last.node);
+                self.sequents.truncate(self.sequents.len() - last.premises);
+                true
+            }
+        }
+    }
+
+    /// How many goals are open.
+    pub fn open_goals(&self) -> usize
+        ensures { (w : AWorld) → result ≡ length (open_goals (history_of w self.now).tree) }
+    {
+        self.open.len()
+    }
+
+    /// The open goal of this place, counted from 0 at the left.
+    pub fn goal(&self, place: usize) -> Option<&Sequent>
+        ensures { (w : AWorld) → option_map (sequent_of w) (option_copied result) ≡ goal_at (history_of w self.now).tree place }
+    {
+        if place < self.open.len() {
+            let node = self.open[self.open.len() - 1 - place];
+            Some(&self.sequents[node])
+        } else {
+            None
+        }
+    }
+
+    /// The first open goal.
+    pub fn current(&self) -> Option<&Sequent>
+        ensures { (w : AWorld) → option_map (sequent_of w) (option_copied result) ≡ goal_at (history_of w self.now).tree 0 }
+    {
+        self.goal(0)
+    }
+
+    /// Whether no goal is open. Then the formula that the proof began with is derived.
+    pub fn is_closed(&self) -> bool
+        ensures closed { (w : AWorld) → IsTrue result ↔ (open_goals (history_of w self.now).tree ≡ []) }
+        ensures derivation { (w : AWorld) (F : Read) → IsTrue result → IsProof w self.now →
+            root (history_of w self.now).tree ≡ proves F 0 → IsDerivation (declarations_of w) F (history_of w self.now).tree }
+    {
+        self.open.is_empty()
+    }
+
+    /// How many steps stand.
+    pub fn steps(&self) -> usize
+        ensures { (w : AWorld) → result ≡ length (history_of w self.now).earlier }
+    {
+        self.journal.len()
+    }
+}

@@ -1,0 +1,24 @@
+-- What a call that makes terms leaves of a world, one call after another.
+use Rattle.std.proofs.Common.{◌≡◌, List, refl, ◌∙◌}
+use Rattle.ab_types.specs.Entries.{Table}
+use Rattle.ab_store.specs.Reading.{Contents}
+use Rattle.ab_norm.specs.Growth.{AddsTerms, AddsTypedTerms}
+use Rattle.ab_logic.specs.Worlds.{IsWorld}
+use Rattle.ab_logic.specs.declared.world.World.{World}
+use Rattle.ab_logic.specs.declared.theorems.Theorem.{Theorem}
+use Rattle.ab_logic.proofs.Growing.{grows_not, grows_on, grows_store}
+use Rattle.ab_rules.specs.Terms.{Adds}
+
+pub adds_not : (w : World) → IsWorld w → Adds w w
+adds_not w is = record { grows = grows_not w is; types = refl; cells = refl }
+
+pub adds_on : (u v w : World) → Adds u v → Adds v w → Adds u w
+adds_on u v w a b = record { grows = grows_on u v w a.grows b.grows; types = b.types ∙ a.types; cells = b.cells ∙ a.cells }
+
+pub adds_terms : (types : Table) (old new : Contents) (ts : List Theorem) → IsWorld (record { types = types; store = old; theorems = ts }) → AddsTerms old new
+    → Adds (record { types = types; store = old; theorems = ts }) (record { types = types; store = new; theorems = ts })
+adds_terms types old new ts is a = record { grows = grows_store types old new ts is a.before (a.typed types is.typed); types = refl; cells = a.cells }
+
+pub adds_typed : (types : Table) (old new : Contents) (ts : List Theorem) → IsWorld (record { types = types; store = old; theorems = ts }) → AddsTypedTerms types old new
+    → Adds (record { types = types; store = old; theorems = ts }) (record { types = types; store = new; theorems = ts })
+adds_typed types old new ts is a = record { grows = grows_store types old new ts is a.before a.typed; types = refl; cells = a.cells }

@@ -1,0 +1,99 @@
+-- A row has one answer: its premises, or the first condition that fails.
+use Rattle.std.proofs.Common.{◌≡◌, ◌⊎◌, inl, inr, ℕ, ◌<◌, List, Some, None, sym, ◌∙◌, ap, subst, arith}
+use Rattle.std.proofs.lemmas.Bool.{cases_lt}
+use Rattle.ab_logic.specs.Sequents.{Sequent, counted}
+use Rattle.ab_rules.specs.Steps.{Step, initial, true_right, false_left, and_right, and_left, or_right, or_left, arrow_right, arrow_left, for_all_right, for_all_left, exists_right, exists_left, nabla_right, nabla_left, equal_right, equal_left, definition_right, definition_left, induction, coinduction, cut_formula, use_theorem, weaken, spec_cut, spec_instance, spec_monotone}
+use Rattle.ab_logic.specs.Names.{Label, auto, given, IsLeast, IsFree, automatic, Names, NoName}
+use Rattle.ab_logic.specs.Declarations.{Declarations}
+use Rattle.ab_rules.specs.Row.{Row, leads, leads_by, finds, asks, labelled, Takes, FailsFirst}
+use Rattle.ab_rules.specs.Rules.{row, Making}
+
+order : (n m : ℕ) → (n < m) ⊎ ((n ≡ m) ⊎ (m < n))
+order n m =
+    elim (cases_lt n m) [
+      | inl l ↦ inl l
+      | inr g ↦ elim (cases_lt m n) [ inl l ↦ inr (inr l) | inr k ↦ inr (inl (omega arith)) ]
+    ]
+
+pub least_once : (P : ℕ → Type 0) (n m : ℕ) → IsLeast P n → IsLeast P m → n ≡ m
+least_once P n m a b =
+    elim (order n m) [
+      | inl l ↦ absurd (b.first n l a.has)
+      | inr r ↦ elim r [ inl e ↦ e | inr l ↦ absurd (a.first m l b.has) ]
+    ]
+
+pub names_once : (l : Label) (s : Sequent) (x y : List ℕ) (t u : Sequent) → Names l s x t → Names l s y u → (x ≡ y) × (t ≡ u)
+names_once auto s x y t u a b =
+    let same : a.0 ≡ b.0 = least_once (IsFree s) a.0 b.0 a.1 b.1 in
+    (a.2 ∙ ap automatic same ∙ sym b.2, a.3 ∙ ap (λ n. counted n s) same ∙ sym b.3)
+names_once (given z) s x y t u a b = (a.1 ∙ sym b.1, a.2 ∙ sym b.2)
+
+never_named : (l : Label) (s : Sequent) (x : List ℕ) (t : Sequent) → Names l s x t → NoName l s → ⊥
+never_named auto s x t a none = none a.0 a.1.has
+never_named (given z) s x t a none = a.0 none
+
+pub never_both : (r : Row) (ps : List Sequent) (i : ℕ) → Takes r ps → FailsFirst r i → ⊥
+never_both (leads qs) ps i t f = f
+never_both (leads_by P k) ps i t f = f
+never_both (finds j o k) ps i t (inl f) = let clash : Some t.0 ≡ None = sym t.1 ∙ f.0 in cc
+never_both (finds j o k) ps i t (inr f) =
+    let both : Some f.0 ≡ Some t.0 = sym f.1 ∙ t.1 in
+    let same : f.0 ≡ t.0 = cc in
+    never_both (k t.0) ps i t.2 (subst (λ a. FailsFirst (k a) i) same f.2)
+never_both (asks j P r) ps i t (inl f) = f.0 t.0
+never_both (asks j P r) ps i t (inr f) = never_both r ps i t.1 f.1
+never_both (labelled j l s k) ps i t (inl f) = never_named l s t.0 t.1 t.2 f.0
+never_both (labelled j l s k) ps i t (inr f) =
+    let same = names_once l s f.0 t.0 f.1 t.1 f.2 t.2 in
+    never_both (k t.0 t.1) ps i t.3 (subst (λ u. FailsFirst (k t.0 u) i) same.1 (subst (λ x. FailsFirst (k x f.1) i) same.0 f.3))
+
+pub one_failure : (r : Row) (i j : ℕ) → FailsFirst r i → FailsFirst r j → i ≡ j
+one_failure (leads qs) i j f g = absurd f
+one_failure (leads_by P k) i j f g = absurd f
+one_failure (finds m o k) i j (inl f) (inl g) = f.1 ∙ sym g.1
+one_failure (finds m o k) i j (inl f) (inr g) = let clash : None ≡ Some g.0 = sym f.0 ∙ g.1 in cc
+one_failure (finds m o k) i j (inr f) (inl g) = let clash : Some f.0 ≡ None = sym f.1 ∙ g.0 in cc
+one_failure (finds m o k) i j (inr f) (inr g) =
+    let both : Some f.0 ≡ Some g.0 = sym f.1 ∙ g.1 in
+    let same : f.0 ≡ g.0 = cc in
+    one_failure (k g.0) i j (subst (λ a. FailsFirst (k a) i) same f.2) g.2
+one_failure (asks m P r) i j (inl f) (inl g) = f.1 ∙ sym g.1
+one_failure (asks m P r) i j (inl f) (inr g) = absurd (f.0 g.0)
+one_failure (asks m P r) i j (inr f) (inl g) = absurd (g.0 f.0)
+one_failure (asks m P r) i j (inr f) (inr g) = one_failure r i j f.1 g.1
+one_failure (labelled m l s k) i j (inl f) (inl g) = f.1 ∙ sym g.1
+one_failure (labelled m l s k) i j (inl f) (inr g) = absurd (never_named l s g.0 g.1 g.2 f.0)
+one_failure (labelled m l s k) i j (inr f) (inl g) = absurd (never_named l s f.0 f.1 f.2 g.0)
+one_failure (labelled m l s k) i j (inr f) (inr g) =
+    let same = names_once l s f.0 g.0 f.1 g.1 f.2 g.2 in
+    one_failure (k g.0 g.1) i j (subst (λ u. FailsFirst (k g.0 u) i) same.1 (subst (λ x. FailsFirst (k x f.1) i) same.0 f.3)) g.3
+
+-- no condition speaks of a new variable
+pub any_new : (D : Declarations) (step : Step) (m n : Making) (s : Sequent) (i : ℕ) → FailsFirst (row D m step s) i → FailsFirst (row D n step s) i
+any_new D (initial H) m n s i f = f
+any_new D true_right m n s i f = f
+any_new D (false_left H) m n s i f = f
+any_new D and_right m n s i f = f
+any_new D (and_left H l k) m n s i f = f
+any_new D (or_right b) m n s i f = f
+any_new D (or_left H l) m n s i f = f
+any_new D (arrow_right l) m n s i f = f
+any_new D (arrow_left H l) m n s i f = f
+any_new D for_all_right m n s i f = f
+any_new D (for_all_left H t l) m n s i f = f
+any_new D (exists_right t) m n s i f = f
+any_new D (exists_left H l) m n s i f = f
+any_new D nabla_right m n s i f = f
+any_new D (nabla_left H l) m n s i f = f
+any_new D equal_right m n s i f = f
+any_new D (equal_left H) m n s i f = f
+any_new D (definition_right i0) m n s i f = f
+any_new D (definition_left H l) m n s i f = f
+any_new D (induction n0 l) m n s i f = f
+any_new D (coinduction l) m n s i f = f
+any_new D (cut_formula F l) m n s i f = f
+any_new D (use_theorem n0 l) m n s i f = f
+any_new D (weaken H) m n s i f = f
+any_new D (spec_cut H K l) m n s i f = f
+any_new D (spec_instance H rs l) m n s i f = f
+any_new D (spec_monotone H K l) m n s i f = f

@@ -1,0 +1,10 @@
+use Rattle.std.proofs.Common.{subst}
+use Rattle.ab_logic.specs.Names.{IsLeast}
+use Rattle.ab_rules.specs.Choosing.{IsAbsent}
+use Rattle.ab_rules.proofs.Chosen.{least_may}
+use Rattle.ab_rules.proofs.choosing.least_name.Goals as goal
+
+pub returns : goal.returns
+returns c =
+    least_may _ _ _ _ c.in_ok-numbers.ensures c.requires.among c.least_absent.result
+    (subst (λ ns. IsLeast (IsAbsent ns) c.least_absent.result) c.deref.ensures.value c.least_absent.ensures)

@@ -1,0 +1,5 @@
+use Rattle.ab_logic.proofs.Growing.{grows_store}
+use Rattle.ab_rules.proofs.terms.new_cell.Goals as goal
+
+pub returns-clause-grows : goal.returns-clause-grows
+returns-clause-grows c = grows_store _ _ _ _ c.requires.world c.cell.ensures.before (c.cell.ensures.typed c.args.world.now.types c.requires.world.typed c.requires.ty)

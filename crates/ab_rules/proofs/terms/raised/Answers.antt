@@ -1,0 +1,5 @@
+use Rattle.ab_logic.proofs.Growing.{grows_on}
+use Rattle.ab_rules.proofs.terms.raised.Goals as goal
+
+pub returns-clause-grows : goal.returns-clause-grows
+returns-clause-grows c = grows_on _ _ _ c.type_over.ensures.grows c.new_cell.ensures.grows

@@ -1,0 +1,162 @@
+-- THE RULES OF THE LOGIC, row by row: conditions in order, then the premises. Replaced and added hypotheses stand last.
+use Rattle.std.specs.Prelude.{◌≡◌, ◌≢◌, ◌↔◌, ℕ, ◌≤◌, List, [], ◌∷◌, ◌++◌, map, codes, All, AllPairs, Contains, if◌then◌else◌}
+use Rattle.ab_term.specs.Types.{Ty, arrows, prop}
+use Rattle.ab_term.specs.Terms.{Nominal, nominal, variable, lam, spine}
+use Rattle.ab_term.specs.Names.{support, EqualUpToNames}
+use Rattle.ab_term.specs.Translation.{EqualPastHints}
+use Rattle.ab_term.specs.Substitution.{instance, instance_by_all}
+use Rattle.ab_term.specs.Expansion.{expansion}
+use Rattle.ab_store.specs.Reading.{Read}
+use Rattle.ab_logic.specs.Formulas.{StandsIn, a_formula}
+use Rattle.ab_logic.specs.Marks.{erased, MarksServeIn}
+use Rattle.ab_logic.specs.Declarations.{Declarations, theorem_in}
+use Rattle.ab_logic.specs.Forms.{as_truth, as_falsity, as_both, as_either, as_implies, as_equal, as_for_all, as_exists, as_nabla}
+use Rattle.ab_logic.specs.Sequents.{Variable, Sequent, Fits, goal_names, formula_of, proving, assuming, without, over}
+use Rattle.ab_logic.specs.Names.{IsLeast, IsNoVariable, IsNamedFor}
+use Rattle.ab_rules.specs.Steps.{Step, initial, true_right, false_left, and_right, and_left, or_right, or_left, arrow_right, arrow_left, for_all_right, for_all_left, exists_right, exists_left, nabla_right, nabla_left, equal_right, equal_left, definition_right, definition_left, induction, coinduction, cut_formula, use_theorem, weaken, spec_cut, spec_instance, spec_monotone}
+use Rattle.ab_rules.specs.Row.{Row, leads, leads_by, finds, asks, labelled, not_built, Takes, FailsFirst}
+
+-- the nominal constants of a formula, each once, by number
+pub record IsSupport (F : Read) (names : List Nominal) : Type 0 where
+  pub same : (a : Nominal) → Contains names a ↔ Contains (support F) a
+  pub once : AllPairs (λ a b. a ≢ b) names
+  pub order : AllPairs (λ a b. a.number ≤ b.number) names
+
+-- a nominal constant as a term
+abbrev pub name_term : Nominal → Read
+name_term a = expansion (codes "x") a.type (nominal a)
+
+-- a new variable that may depend on these constants, and the term that it makes of them
+abbrev pub hint_of : Read → List ℕ
+hint_of (lam A x t) = x
+hint_of (spine h ts) = codes "x"
+
+abbrev pub raised : ℕ → List ℕ → Ty → List Nominal → Variable
+raised number name A names = record { number = number; type = arrows (map (λ a. a.type) names) A; name = name }
+
+abbrev pub variable_term : Variable → Read
+variable_term x = expansion (codes "x") x.type (variable (record { name = x.number; type = x.type }))
+
+abbrev pub applied : Variable → List Nominal → Read
+applied x names = instance_by_all (variable_term x) (map name_term names)
+
+-- how a new variable is made of the name of a quantifier: its number, and what may be its name where that name asks
+-- for this hint
+pub record Making : Type 1 where
+  pub number : ℕ
+  pub IsName : List ℕ → List ℕ → Type 0
+
+-- the constants that a formula's new variable depends on, and the variable's name
+abbrev pub Raises : Making → Read → List ℕ → List Nominal × List ℕ → Type 0
+Raises new F hint p = IsSupport F p.0 × new.IsName hint p.1
+
+-- the constant with this number may be put for the `nabla` name of the type in the formula, which is one of the goal
+pub record MayName (s : Sequent) (F : Read) (A : Ty) (n : ℕ) : Type 0 where
+  pub positive : 1 ≤ n
+  pub outside : ¬ Contains (support F) (record { number = n; type = A })
+  pub one_type : All (λ (b : Nominal). b.number ≡ n → b.type ≡ A) (goal_names s)
+
+-- The rule of the step at the goal, from these declarations.
+abbrev pub row : Declarations → Making → Step → Sequent → Row
+row D new (initial H) s = not_built
+row D new true_right s =
+    finds 1 (as_truth s.conclusion) (λ t.
+    leads [])
+row D new (false_left H) s =
+    finds 1 (formula_of s H) (λ F.
+    finds 2 (as_falsity F) (λ t.
+    leads []))
+row D new and_right s =
+    finds 1 (as_both s.conclusion) (λ p.
+    leads (proving p.0 s ∷ proving p.1 s ∷ []))
+row D new (and_left H l m) s =
+    finds 1 (formula_of s H) (λ F.
+    finds 2 (as_both F) (λ p.
+    labelled 3 l (without H s) (λ L s1.
+    labelled 3 m (assuming L p.0 s1) (λ M s2.
+    leads (assuming M p.1 s2 ∷ [])))))
+row D new (or_right b) s =
+    finds 1 (as_either s.conclusion) (λ p.
+    leads (proving (if b then p.0 else p.1) s ∷ []))
+row D new (or_left H l) s =
+    finds 1 (formula_of s H) (λ F.
+    finds 2 (as_either F) (λ p.
+    labelled 3 l (without H s) (λ L s1.
+    leads (assuming L p.0 s1 ∷ assuming L p.1 s1 ∷ []))))
+row D new (arrow_right l) s =
+    finds 1 (as_implies s.conclusion) (λ p.
+    labelled 2 l s (λ L s1.
+    leads (proving p.1 (assuming L p.0 s1) ∷ [])))
+row D new (arrow_left H l) s =
+    finds 1 (formula_of s H) (λ F.
+    finds 2 (as_implies F) (λ p.
+    labelled 3 l s (λ L s1.
+    leads (proving p.0 s ∷ assuming L p.1 s1 ∷ []))))
+row D new for_all_right s =
+    finds 1 (as_for_all s.conclusion) (λ q.
+    leads_by (Raises new s.conclusion (hint_of q.1)) (λ p.
+    let x = raised new.number p.1 q.0 p.0 in
+    proving (instance q.1 (applied x p.0)) (over x s) ∷ []))
+row D new (for_all_left H t l) s = not_built
+row D new (exists_right t) s = not_built
+row D new (exists_left H l) s =
+    finds 1 (formula_of s H) (λ F.
+    finds 2 (as_exists F) (λ q.
+    labelled 3 l (without H s) (λ L s1.
+    leads_by (Raises new F (hint_of q.1)) (λ p.
+    let x = raised new.number p.1 q.0 p.0 in
+    assuming L (instance q.1 (applied x p.0)) (over x s1) ∷ []))))
+row D new nabla_right s =
+    finds 1 (as_nabla s.conclusion) (λ q.
+    leads_by (IsLeast (MayName s s.conclusion q.0)) (λ n.
+    proving (instance q.1 (name_term (record { number = n; type = q.0 }))) s ∷ []))
+row D new (nabla_left H l) s =
+    finds 1 (formula_of s H) (λ F.
+    finds 2 (as_nabla F) (λ q.
+    labelled 3 l (without H s) (λ L s1.
+    leads_by (IsLeast (MayName s F q.0)) (λ n.
+    assuming L (instance q.1 (name_term (record { number = n; type = q.0 }))) s1 ∷ []))))
+row D new equal_right s =
+    finds 1 (as_equal s.conclusion) (λ p.
+    asks 2 (EqualPastHints p.0 p.1) (
+    leads []))
+row D new (equal_left H) s = not_built
+row D new (definition_right i) s = not_built
+row D new (definition_left H l) s = not_built
+row D new (induction n l) s = not_built
+row D new (coinduction l) s = not_built
+row D new (cut_formula F l) s = not_built
+row D new (use_theorem n l) s =
+    finds 1 (theorem_in D n) (λ F.
+    labelled 2 l s (λ L s1.
+    leads (assuming L F s1 ∷ [])))
+row D new (weaken H) s =
+    finds 1 (formula_of s H) (λ F.
+    leads (without H s ∷ []))
+row D new (spec_cut H K l) s = not_built
+row D new (spec_instance H r l) s = not_built
+row D new (spec_monotone H K l) s = not_built
+
+-- no variable of the goal has the number
+abbrev pub IsNew : ℕ → Sequent → Type 0
+IsNew number s = All (λ (x : Variable). x.number ≢ number) s.variables
+
+-- a new variable with this number, of any name that no variable of the goal has
+abbrev pub any_name : ℕ → Sequent → Making
+any_name number s = record { number = number; IsName = λ hint name. IsNoVariable s name }
+
+-- the same by the name that its hint asks for
+abbrev pub by_hint : Declarations → ℕ → Sequent → Making
+by_hint D number s = record { number = number; IsName = IsNamedFor D s }
+
+-- THE STEP TAKES THE GOAL TO THESE PREMISES
+abbrev pub Rule : Declarations → Step → Sequent → List Sequent → Type 0
+Rule D step s premises = (number : ℕ) × IsNew number s × Takes (row D (any_name number s) step s) premises
+
+-- the same, where new variables are named by their hints
+abbrev pub NamedRule : Declarations → Step → Sequent → List Sequent → Type 0
+NamedRule D step s premises = (number : ℕ) × IsNew number s × Takes (row D (by_hint D number s) step s) premises
+
+-- THE STEP'S CONDITION OF THIS NUMBER IS THE FIRST THAT THE GOAL FAILS (no condition speaks of a new variable)
+abbrev pub Fails : Declarations → Step → Sequent → ℕ → Type 0
+Fails D step s condition = FailsFirst (row D (any_name 0 s) step s) condition

@@ -1,0 +1,19 @@
+//! Laws of the rules, which no other contract carries.
+ghost use Rattle.std.specs.Prelude.{◌≡◌, ℕ, List};
+ghost use Rattle.ab_logic.specs.Declarations.{Declarations, Extends};
+ghost use Rattle.ab_logic.specs.Sequents.{Sequent};
+ghost use Rattle.ab_rules.specs.Steps.{Step};
+ghost use Rattle.ab_rules.specs.Rules.{Rule, NamedRule, Fails};
+
+/// A step at a goal has one answer: a list of premises, or one first condition that fails.
+pub fn a_step_has_one_answer()
+    ensures apart { (D : Declarations) (step : Step) (s : Sequent) (ps : List Sequent) (i : ℕ) → Rule D step s ps → Fails D step s i → ⊥ }
+    ensures one_condition { (D : Declarations) (step : Step) (s : Sequent) (i j : ℕ) → Fails D step s i → Fails D step s j → i ≡ j }
+{}
+
+/// What is taken by its rule from a list of declarations is taken by it from a longer one; and a variable that is named
+/// by its hint is named as the rule asks.
+pub fn rules_outlive_declarations()
+    ensures longer { (D E : Declarations) → Extends D E → (step : Step) (s : Sequent) (ps : List Sequent) → Rule D step s ps → Rule E step s ps }
+    ensures named { (D : Declarations) (step : Step) (s : Sequent) (ps : List Sequent) → NamedRule D step s ps → Rule D step s ps }
+{}

@@ -1,0 +1,19 @@
+//! The rules of the logic, each carried out by a function of its own.
+#![tactic(auto)]
+
+mod choosing;
+mod closing;
+pub mod laws;
+mod left;
+mod lists;
+mod quantified;
+mod replaces;
+mod right;
+mod step;
+mod taking;
+mod terms;
+
+pub use ab_naming::Label;
+pub use replaces::{Replace, Replaces};
+pub use step::{KernelFault, Step};
+pub use taking::premises;

@@ -1,0 +1,60 @@
+//! The premises of a step: one function for each rule.
+ghost use Rattle.std.specs.Prelude.{◌≡◌};
+ghost use Rattle.ab_logic.specs.Worlds.{IsWorld};
+ghost use Rattle.ab_logic.specs.Growth.{Grows};
+ghost use Rattle.ab_logic.specs.Readings.{HoldsSequent};
+ghost use Rattle.ab_rules.specs.Answers.{Answers, row_at, step_of, HoldsStep};
+
+use crate::closing::{equal_right, false_left, true_right};
+use crate::left::{and_left, arrow_left, arrow_right, or_left, use_theorem, weaken};
+use crate::quantified::{exists_left, for_all_right, nabla_left, nabla_right};
+use crate::right::{and_right, or_right};
+use crate::step::{KernelFault, Step};
+use ab_logic::{Sequent, World};
+use ab_types::Steps;
+use std::alloc::Global;
+
+/// The premises that the step leads to from the goal, or why it leads to none.
+pub fn premises<L>(
+    alloc: Global,
+    world: &mut World,
+    step: &Step,
+    sequent: &Sequent,
+    steps: &mut Steps<L>,
+) -> Result<Vec<Sequent>, KernelFault>
+    requires world { IsWorld world.old }
+    requires step { HoldsStep world.old step.now }
+    requires held { HoldsSequent world.old sequent.now }
+    ensures answers { Answers world.new (row_at world.old (step_of world.old step.now) sequent.now) result }
+    ensures grows { Grows world.old world.new }
+{
+    match step {
+        Step::TrueRight => true_right(alloc, world, sequent),
+        Step::FalseLeft(name) => false_left(alloc, world, name, sequent),
+        Step::AndRight => and_right(alloc, world, sequent),
+        Step::AndLeft(name, first, second) => and_left(alloc, world, name, first, second, sequent),
+        Step::OrRight(left) => or_right(alloc, world, *left, sequent),
+        Step::OrLeft(name, given) => or_left(alloc, world, name, given, sequent),
+        Step::ArrowRight(given) => arrow_right(alloc, world, given, sequent),
+        Step::ArrowLeft(name, given) => arrow_left(alloc, world, name, given, sequent),
+        Step::ForallRight => for_all_right(alloc, world, sequent, steps),
+        Step::ExistsLeft(name, given) => exists_left(alloc, world, name, given, sequent, steps),
+        Step::NablaRight => nabla_right(alloc, world, sequent, steps),
+        Step::NablaLeft(name, given) => nabla_left(alloc, world, name, given, sequent, steps),
+        Step::EqualRight => equal_right(alloc, world, sequent),
+        Step::UseTheorem(name, given) => use_theorem(alloc, world, name, given, sequent),
+        Step::Weaken(name) => weaken(alloc, world, name, sequent),
+        Step::Initial(_) => Err(KernelFault::RuleFails(0)),
+        Step::ForallLeft(_, _, _) => Err(KernelFault::RuleFails(0)),
+        Step::ExistsRight(_) => Err(KernelFault::RuleFails(0)),
+        Step::CutFormula(_, _) => Err(KernelFault::RuleFails(0)),
+        Step::EqualLeft(_) => Err(KernelFault::RuleFails(0)),
+        Step::DefRight(_) => Err(KernelFault::RuleFails(0)),
+        Step::DefLeft(_, _) => Err(KernelFault::RuleFails(0)),
+        Step::Induction(_, _) => Err(KernelFault::RuleFails(0)),
+        Step::Coinduction(_) => Err(KernelFault::RuleFails(0)),
+        Step::SpecCut(_, _, _) => Err(KernelFault::RuleFails(0)),
+        Step::SpecInst(_, _, _) => Err(KernelFault::RuleFails(0)),
+        Step::SpecMonotone(_, _, _) => Err(KernelFault::RuleFails(0)),
+    }
+}
