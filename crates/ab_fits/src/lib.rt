@@ -8,6 +8,8 @@ mod known;
 mod numbers;
 mod seen;
 mod taking;
+#[cfg(test)]
+mod tests;
 mod typing;
 mod variables;
 
