@@ -22,7 +22,7 @@ use Rattle.ab_solve.specs.Patterns.{pattern}
 use Rattle.ab_solve.specs.Replacing.{holds, is_flexible, has_patterns, all_have_patterns, no_foreign, no_foreign_all}
 use Rattle.ab_solve.proofs.Views.{IsPattern, pattern_end, pattern_more, is_pattern}
 use Rattle.ab_solve.proofs.Values.{pattern_terms, pattern_named, forget_pattern}
-use Rattle.ab_solve.proofs.Agreeing.{Rigid, AllRigid, pattern_rigid, image_pattern}
+use Rattle.ab_solve.proofs.Agreeing.{pattern_rigid, image_pattern}
 use Rattle.ab_solve.proofs.Avoiding.{not_held}
 use Rattle.ab_solve.proofs.Following.{Put, Fits}
 
@@ -120,23 +120,6 @@ module _ (sg : Signature) where
       ∙ (let same : size (reduce A v (name_terms tt A gs)) ≡ size (reduce A v (name_terms tt A hs)) = omega (arith, first, second, many) in same)
       ∙ sym (ap (λ s. size (reduce A v s)) (pattern_terms q))
 
--- no variable stands in names
-rigid_head : (y : Variable ℕ) (h : Head ℕ) → variables_of_head h ≡ [] → holds (variables_of_head h) y ≡ false
-rigid_head y h e = ap (λ l. holds l y) e
-
-holds_both : (y : Variable ℕ) (vs ws : List (Variable ℕ)) → holds vs y ≡ false → holds ws y ≡ false → holds (vs ++ ws) y ≡ false
-holds_both y vs ws a b = false_from_ne_true (holds (vs ++ ws) y) (λ e. elim (not_held vs ws y e) [ inl p ↦ false≢true (sym a ∙ p) | inr p ↦ false≢true (sym b ∙ p) ])
-
-module _ {Hint : Type 0} where
-  mutual
-    rigid_none : (y : Variable ℕ) (t : Term ℕ Hint) → Rigid t → holds (variables t) y ≡ false
-    rigid_none y (lam A x t) r = rigid_none y t r
-    rigid_none y (spine h ts) r = holds_both y (variables_of_head h) (variables_of_all ts) (rigid_head y h r.0) (all_rigid_none y ts r.1)
-
-    all_rigid_none : (y : Variable ℕ) (ts : Terms ℕ Hint) → AllRigid ts → holds (variables_of_all ts) y ≡ false
-    all_rigid_none y no_terms r = refl
-    all_rigid_none y (term t ts) r = holds_both y (variables t) (variables_of_all ts) (rigid_none y t r.0) (all_rigid_none y ts r.1)
-
 module _ (sg : Signature) (others : List (Head ℕ)) (ys : List (Variable ℕ)) (f : Put) (fits : Fits sg others ys f) {Hint : Type 0}
     (y : Variable ℕ) (v : Term ℕ (Unit {0})) (own : f y ≡ Some v) (held : holds ys y ≡ true) (G : List Ty) (k : List ℕ) (us : Terms ℕ Hint) (hs : List (Head ℕ)) (q : IsPattern y.type us hs) (es : TakeType sg G us y.type (kind k)) where
   abbrev least : ℕ
@@ -154,7 +137,7 @@ module _ (sg : Signature) (others : List (Head ℕ)) (ys : List (Variable ℕ)) 
 
   -- the variable itself, with names
   at_own : (H : List Ty) (c : List ℕ) (z : Variable ℕ) (ts : Terms ℕ Hint) (gs : List (Head ℕ)) → IsPattern z.type ts gs → TakeType sg H ts z.type (kind c) → holds (z ∷ variables_of_all ts) y ≡ true → least ≤ size (image_by f (forget (spine (variable z) ts)))
-  at_own H c z ts gs p ds e = elim (or_cases (same_numbered z y) (holds (variables_of_all ts) y) e) [ inl s ↦ here_size ((same_numbered-Decides z y).0 s) | inr s ↦ absurd (false≢true (sym (all_rigid_none y ts (pattern_rigid p)) ∙ s)) ]
+  at_own H c z ts gs p ds e = elim (or_cases (same_numbered z y) (holds (variables_of_all ts) y) e) [ inl s ↦ here_size ((same_numbered-Decides z y).0 s) | inr s ↦ absurd (false≢true (sym (ap (λ l. holds l y) (pattern_rigid p)) ∙ s)) ]
     where
       here_size : z ≡ y → least ≤ size (image_by f (forget (spine (variable z) ts)))
       here_size s =

@@ -9,18 +9,18 @@ use Rattle.ab_term.specs.Variables.{variables_of_head, put_for, put_at, image_by
 use Rattle.ab_term.specs.Sameness.{same_numbered, same_number}
 use Rattle.ab_term.specs.Closing.{abstracted, name_terms, Named, Only, Distinct}
 use Rattle.ab_term.proofs.Translations.{translate_typed}
-use Rattle.ab_term.proofs.ImageTranslations.{translate-image_by}
 use Rattle.ab_term.proofs.Images.{IsTypedMap}
 use Rattle.ab_term.proofs.Compositions.{then_by, map_typed, image_composed}
 use Rattle.ab_term.proofs.Same.{same_numbered-Decides}
 use Rattle.ab_term.proofs.Abstracting.{named_length}
 use Rattle.ab_term.proofs.Determined.{NoIndex, PutsOnly, closed_value}
+use Rattle.ab_term.proofs.PastHints.{forget-image, bare_typed}
 use Rattle.ab_solve.specs.Patterns.{applied}
 use Rattle.ab_solve.specs.Replacing.{holds}
 use Rattle.ab_solve.proofs.Values.{forget_pattern, reduce_plain}
 use Rattle.ab_solve.proofs.Readings.{name_terms_pattern}
 use Rattle.ab_solve.proofs.Agreeing.{holds_itself, image_pattern}
-use Rattle.ab_solve.proofs.Avoiding.{Avoids, AllAvoid, Without}
+use Rattle.ab_solve.proofs.Avoiding.{head_avoids, Avoids, AllAvoid, Without}
 use Rattle.ab_solve.proofs.Pruning.{value_then}
 
 -- what is put in for variables, without hints
@@ -51,14 +51,10 @@ module _ {Hint : Type 0} where
   plain s y = option_map forget (value_in same_number s y)
 
   pub image_plain : (s : Substitution ℕ Hint) (t : Term ℕ Hint) → forget (image same_number s t) ≡ image_by (plain s) (forget t)
-  image_plain s t = translate-image_by (λ v. v) (λ x. tt) (value_in same_number s) (plain s) (λ y. refl) t
+  image_plain s t = forget-image (value_in same_number s) t
 
   pub plain_typed : (sg : Signature) (s : Substitution ℕ Hint) → IsTyped sg s → IsTypedMap sg (plain s)
-  plain_typed sg s typed y u e = go (value_in same_number s y) refl e
-    where
-      go : (o : Option (Term ℕ Hint)) → value_in same_number s y ≡ o → option_map forget o ≡ Some u → HasType sg [] u y.type
-      go None f e = absurd (cc)
-      go (Some v) f e = let same_term : forget v ≡ u = cc in subst (λ w. HasType sg [] w y.type) same_term (translate_typed sg (λ v. v) (λ x. tt) (map_typed sg same_number s typed y v f))
+  plain_typed sg s typed = bare_typed sg (value_in same_number s) (map_typed sg same_number s typed)
 
   -- all variables have lower numbers
   abbrev pub Known : ℕ → Term ℕ Hint → Type 0
@@ -74,7 +70,7 @@ module _ {Hint : Type 0} where
     mutual
       pub agrees_below : (t : Term ℕ Hint) → Known m t → image_by f (forget t) ≡ image_by g (forget t)
       agrees_below (lam A x t) k = ap (lam A tt) (agrees_below t k)
-      agrees_below (spine h ts) k = head_agrees f g m a h (image_all_by f (forget_all ts)) (image_all_by g (forget_all ts)) (λ y l. (k y l).0) (all_agree_below ts (λ y l. (k y l).1))
+      agrees_below (spine h ts) k = head_agrees f g m a h (image_all_by f (forget_all ts)) (image_all_by g (forget_all ts)) (λ y l. head_avoids y h (k y l).0) (all_agree_below ts (λ y l. (k y l).1))
 
       pub all_agree_below : (ts : Terms ℕ Hint) → AllKnown m ts → image_all_by f (forget_all ts) ≡ image_all_by g (forget_all ts)
       all_agree_below no_terms k = refl

@@ -26,7 +26,7 @@ use Rattle.ab_solve.proofs.Steps.{OnResult, on_or_else, on_cond}
 use Rattle.ab_solve.proofs.Values.{pattern_named, applied_typed, forget_pattern}
 use Rattle.ab_solve.proofs.Agreeing.{holds_front, holds_behind, holds_itself, image_pattern}
 use Rattle.ab_solve.proofs.Readings.{pattern_distinct, applied_only, kept_distinct}
-use Rattle.ab_solve.proofs.Avoiding.{not_held, without_held, Avoids, AllAvoid, avoids_if, image_avoids, value_avoids, abstracted_avoids}
+use Rattle.ab_solve.proofs.Avoiding.{not_held, without_held, head_avoids, Avoids, AllAvoid, avoids_if, image_avoids, value_avoids, abstracted_avoids}
 use Rattle.ab_solve.proofs.Ruling.{one_put, image_none, agreeing_long, pattern_applied, distinct_names}
 use Rattle.ab_solve.proofs.Pruning.{spine_args}
 use Rattle.ab_solve.proofs.Pruned.{all_pass, pruned_fine}
@@ -71,7 +71,7 @@ module _ {Hint : Type 0} where
     mutual
       agrees_but : (t : Term ℕ Hint) → Avoids X t → image_by f (forget t) ≡ image_by g (forget t)
       agrees_but (lam A x t) k = ap (lam A tt) (agrees_but t k)
-      agrees_but (spine h ts) k = head_but f g X a h (image_all_by f (forget_all ts)) (image_all_by g (forget_all ts)) k.0 (all_agree_but ts k.1)
+      agrees_but (spine h ts) k = head_but f g X a h (image_all_by f (forget_all ts)) (image_all_by g (forget_all ts)) (head_avoids X h k.0) (all_agree_but ts k.1)
 
       all_agree_but : (ts : Terms ℕ Hint) → AllAvoid X ts → image_all_by f (forget_all ts) ≡ image_all_by g (forget_all ts)
       all_agree_but no_terms k = refl

@@ -11,11 +11,12 @@ use Rattle.ab_term.specs.Closing.{among, under, may_stand, Only, OnlyAll, Distin
 use Rattle.ab_term.proofs.Compositions.{image_typed, image-composition}
 use Rattle.ab_term.proofs.Same.{same_head-Decides}
 use Rattle.ab_term.proofs.Only.{image_by_only, put_at_only}
+use Rattle.ab_term.proofs.Depends.{nothing, image_nothing}
 use Rattle.ab_solve.specs.Patterns.{pattern, applied, kept, kept_type}
 use Rattle.ab_solve.specs.Replacing.{Change, holds, has_patterns, all_have_patterns, no_foreign, no_foreign_all, next_variable, one, narrowed, pruned_names, pruned_here, pruned, pruned_all}
 use Rattle.ab_solve.proofs.Views.{IsPattern, is_pattern}
 use Rattle.ab_solve.proofs.Values.{pattern_named}
-use Rattle.ab_solve.proofs.Agreeing.{holds_front, holds_behind, holds_itself, image_agrees, image_nothing, nothing}
+use Rattle.ab_solve.proofs.Agreeing.{holds_front, holds_behind, holds_itself, image_agrees}
 use Rattle.ab_solve.proofs.Readings.{pattern_back, pattern_distinct, pattern_only}
 use Rattle.ab_solve.proofs.Falling.{map_length}
 use Rattle.ab_solve.proofs.Pruning.{Safe, none_safe, both_safe, narrow_safe, Became, Tracks, narrowed_tracks, now_typed, narrowed_only}

@@ -10,7 +10,7 @@ use Rattle.ab_term.specs.Translation.{forget}
 use Rattle.ab_term.specs.Variables.{put_for, Substitution, value_in, image, composition, IsTyped}
 use Rattle.ab_term.specs.Sameness.{same_numbered, same_head, same_number}
 use Rattle.ab_term.specs.Closing.{among, Named, Only, Distinct}
-use Rattle.ab_term.proofs.Compositions.{then_by, image_typed, image-composition, composition_typed}
+use Rattle.ab_term.proofs.Compositions.{then_by, value_in-composition, image_typed, image-composition, composition_typed}
 use Rattle.ab_term.proofs.Same.{same_numbered-Decides, same_head-Decides}
 use Rattle.ab_term.proofs.Only.{Nameless, image_by_only}
 use Rattle.ab_term.proofs.Abstracting.{named_length, only_past_hints}
@@ -34,13 +34,7 @@ kept_pass names (h ∷ hs) g e = go (among names h) refl e (kept_pass names hs g
 
 module _ {Hint : Type 0} where
   pub value_then : (s r : Substitution ℕ Hint) (y : Variable ℕ) → value_in same_number (composition same_number s r) y ≡ then_by (value_in same_number r) y (value_in same_number s y)
-  value_then [] r y = refl
-  value_then (p ∷ s) r y = go (value_then s r y) (same_numbered p.0 y)
-    where
-      go : value_in same_number (composition same_number s r) y ≡ then_by (value_in same_number r) y (value_in same_number s y) → (b : Bool)
-          → cond b (Some (image same_number r p.1)) (value_in same_number (composition same_number s r) y) ≡ then_by (value_in same_number r) y (cond b (Some p.1) (value_in same_number s y))
-      go rest true = refl
-      go rest false = rest
+  value_then s r y = value_in-composition same_number s r y
 
 module _ (sg : Signature) {Hint : Type 0} where
   -- what is put in is closed, well-typed and without names

@@ -11,9 +11,10 @@ use Rattle.ab_term.specs.Variables.{put_for, put_at, Substitution, value_in, ima
 use Rattle.ab_term.specs.Sameness.{same_numbered, same_head, same_number, same_term}
 use Rattle.ab_term.specs.Closing.{name_terms, Only, Distinct}
 use Rattle.ab_term.proofs.Translations.{translate-reduce, translate-expansion}
-use Rattle.ab_term.proofs.ImageTranslations.{translated, translate-image}
 use Rattle.ab_term.proofs.Same.{same_numbered-Decides, same_head-Decides, same_term-Decides}
 use Rattle.ab_term.proofs.Forgetting.{forget_head}
+use Rattle.ab_term.proofs.Depends.{nothing, image_nothing}
+use Rattle.ab_term.proofs.PastHints as past
 use Rattle.ab_solve.specs.Patterns.{value, kept}
 use Rattle.ab_solve.specs.Replacing.{Cell, without, holds, is_flexible, one}
 use Rattle.ab_solve.specs.Solving.{Equation, Result, clash, parts, replaced, paired, equal_sides, bodies, rigid_heads, agreeing}
@@ -21,18 +22,14 @@ use Rattle.ab_solve.specs.Meaning.{AreTyped, AreKnown, Unifies}
 use Rattle.ab_solve.proofs.Views.{IsPattern, pattern_end, pattern_more}
 use Rattle.ab_solve.proofs.Steps.{OnResult, on_cond}
 use Rattle.ab_solve.proofs.Values.{pattern_named, value_typed, reduce_value}
-use Rattle.ab_solve.proofs.Agreeing.{image_agrees, image_nothing, nothing, image_pattern}
+use Rattle.ab_solve.proofs.Agreeing.{image_agrees, image_pattern}
 use Rattle.ab_solve.proofs.Pruning.{Safe, one_safe}
 use Rattle.ab_solve.proofs.Avoiding.{not_held, without_held, AreNames}
 
 module _ {Hint : Type 0} where
   -- images look past hints
   pub image_past_hints : (q : Substitution ℕ Hint) (t u : Term ℕ Hint) → forget t ≡ forget u → forget (image same_number q t) ≡ forget (image same_number q u)
-  image_past_hints q t u e =
-      let forgotten = translated (λ v. v) (λ y. tt) q in
-      translate-image (λ v. v) (λ y. tt) same_number same_number (λ v w. refl) q t
-      ∙ ap (image same_number forgotten) e
-      ∙ sym (translate-image (λ v. v) (λ y. tt) same_number same_number (λ v w. refl) q u)
+  image_past_hints q t u e = past.image_past_hints (value_in same_number q) (value_in same_number q) (λ y. refl) t u e
 
   pub image_none : (t : Term ℕ Hint) → image same_number [] t ≡ t
   image_none t = image_agrees (value_in same_number []) nothing t (λ y e. refl) ∙ image_nothing t
