@@ -13,7 +13,7 @@ use Rattle.ab_store.specs.declared.node.Head.TheVariants.{Const, Logic, Nominal,
 use Rattle.ab_store.specs.declared.node.Node.{Node}
 use Rattle.ab_store.specs.declared.node.Node.TheVariants.{Lam, Spine}
 use Rattle.ab_store.specs.declared.node.CellEntry.{CellEntry}
-use Rattle.ab_store.specs.Reading.{Read, head_in, term_at, term_of_node, terms_from}
+use Rattle.ab_store.specs.Trees.{Read, head_in, term_at, term_of_node, terms_from}
 use Rattle.ab_store.specs.Naming.{HeadNames, NodeNames, NodesNameEarlier}
 
 -- what stands for an id that isn't there
