@@ -5,12 +5,12 @@ use Rattle.ab_term.specs.Terms.{Head, constant, logical, nominal, variable, inde
 use Rattle.ab_term.specs.Typing.{Signature, type_at, head_type, HasType, TakeType, typed_lam, typed_spine, take_none, take_term}
 use Rattle.ab_term.specs.Reach.{head_reach, reach, reach_of_all}
 
-type_at-append : (G K : List Ty) (i : ℕ) (A : Ty) → type_at G i ≡ Some A → type_at (G ++ K) i ≡ Some A
+pub type_at-append : (G K : List Ty) (i : ℕ) (A : Ty) → type_at G i ≡ Some A → type_at (G ++ K) i ≡ Some A
 type_at-append [] K i A e = cc
 type_at-append (B ∷ G) K zero A e = e
 type_at-append (B ∷ G) K (suc i) A e = type_at-append G K i A e
 
-type_at-below : (G : List Ty) (i : ℕ) (A : Ty) → type_at G i ≡ Some A → i < length G
+pub type_at-below : (G : List Ty) (i : ℕ) (A : Ty) → type_at G i ≡ Some A → i < length G
 type_at-below [] i A e = absurd (cc)
 type_at-below (B ∷ G) zero A e = omega arith
 type_at-below (B ∷ G) (suc i) A e = omega (arith, type_at-below G i A e)

@@ -61,7 +61,7 @@ module _ (sg : Signature) {Var Hint : Type 0} (same : Var → Var → Bool) wher
   map_typed s all x u e = value_typed s all x u e
 
 module _ {Var Hint : Type 0} (same : Var → Var → Bool) where
-  value_in-composition : (s r : Substitution Var Hint) (x : Variable Var) → value_in same (composition same s r) x ≡ then_by (value_in same r) x (value_in same s x)
+  pub value_in-composition : (s r : Substitution Var Hint) (x : Variable Var) → value_in same (composition same s r) x ≡ then_by (value_in same r) x (value_in same s x)
   value_in-composition [] r x = refl
   value_in-composition (p ∷ s) r x = go (value_in-composition s r x) (same_variable same p.0 x)
     where

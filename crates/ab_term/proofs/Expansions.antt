@@ -1,7 +1,7 @@
 -- The eta-long form of a head has the head's type; given arguments, it is the head with these arguments; what is
 -- put in for it is what is put in. The last two are laws of terms without hints, since the form has hints of its own.
 use Rattle.std.proofs.Common.{◌≡◌, ℕ, zero, suc, ◌⊎◌, inl, inr, List, ◌∷◌, Some, None, option_map, refl, sym, ◌∙◌, subst, ap, arith}
-use Rattle.ab_term.specs.Types.{Ty, kind, arrow}
+use Rattle.ab_term.specs.Types.{Ty, kind, arrow, IsFirstOrder}
 use Rattle.ab_term.specs.Terms.{Head, constant, logical, nominal, variable, index, Term, lam, spine, Terms, no_terms, term, joined, with_last}
 use Rattle.ab_term.specs.Typing.{Signature, type_at, head_type, HasType, TakeType, typed_lam, typed_spine, take_none, take_term}
 use Rattle.ab_term.specs.Substitution.{shift_index, shift_head, shift, shift_all, lower_index, lower_head, put, substitute_by, substitute_all_by, reduce, substitute, substitute_all}
@@ -89,7 +89,7 @@ module _ (sg : Signature) {Var : Type 0} where
   head_type-shift_here D G (index i) = refl
 
 module _ (sg : Signature) {Var Hint : Type 0} (x : Hint) where
-  expansion_of_typed : (B : Ty) (G : List Ty) (h : Head Var) (A : Ty) (ts : Terms Var Hint) → head_type sg G h ≡ Some A → TakeType sg G ts A B → HasType sg G (expansion_of x B h ts) B
+  pub expansion_of_typed : (B : Ty) (G : List Ty) (h : Head Var) (A : Ty) (ts : Terms Var Hint) → head_type sg G h ≡ Some A → TakeType sg G ts A B → HasType sg G (expansion_of x B h ts) B
   expansion_of_typed (kind c) G h A ts e ds = typed_spine e ds
   expansion_of_typed (arrow B C) G h A ts e ds =
       typed_lam (expansion_of_typed C (B ∷ G) (shift_head zero h) A _ (head_type-shift_here sg B G h ∙ e) (take_last sg (shift_all_typed sg here ds) (expansion_of_typed B (B ∷ G) (index zero) B no_terms refl take_none)))
@@ -182,3 +182,28 @@ module _ (sg : Signature) (Var : Type 0) where
 
   pub substitute-own_name : {B D : Ty} {G : List Ty} (k : ℕ) {t : Term Var (Unit {0})} → type_at G k ≡ Some B → HasType sg G t D → substitute B (expansion tt B (index k)) k (shift (suc k) t) ≡ t
   substitute-own_name {B = B} k at d = rename_by k (reduce-expansion_of B) at d
+
+  -- given some arguments, it is the form of what is left
+  pub reduce-some : {A B : Ty} {G : List Ty} (h : Head Var) (done : Terms Var (Unit {0})) {ts : Terms Var (Unit {0})} → TakeType sg G ts A B → reduce A (expansion_of tt A h done) ts ≡ expansion_of tt B h (joined done ts)
+  reduce-some {A = A} h done take_none = reduce-no_terms A (expansion_of tt A h done) ∙ ap (expansion_of tt A h) (sym (joined-no_terms done))
+  reduce-some {B = D} {G = G} h done (take_term {A = B} {B = C} {t = v} {ts = vs} d ds) =
+      ap (λ w. reduce C w vs) (substitute_by-expansion_of tt C (reduce B) (shift-reduce B) v zero (shift_head zero h) h (with_last (shift_all zero done) (expansion tt B (index zero))) (lower_head-shift_head zero h))
+      ∙ ap (λ l. reduce C (expansion_of tt C h l) vs)
+      (substitute_all_by-with_last (reduce B) v zero (shift_all zero done) (expansion tt B (index zero))
+      ∙ ap (λ l. with_last l (substitute B v zero (expansion tt B (index zero)))) (substitute_all_by-shift done (reduce B) v zero)
+      ∙ ap (with_last done) (substitute-expansion d))
+      ∙ reduce-some h (with_last done v) ds
+      ∙ ap (expansion_of tt D h) (joined-with_last done v vs)
+
+module _ (sg : Signature) {Var Hint : Type 0} (x : Hint) where
+  -- at a type all of whose arguments are of kinds, with hints
+  pub reduce-first_order : {A : Ty} {G : List Ty} (h : Head Var) (done : Terms Var Hint) {ts : Terms Var Hint} {c : List ℕ} → TakeType sg G ts A (kind c) → IsFirstOrder A → reduce A (expansion_of x A h done) ts ≡ spine h (joined done ts)
+  reduce-first_order h done take_none f = ap (spine h) (sym (joined-no_terms done))
+  reduce-first_order h done (take_term {A = kind k} {B = C} {t = v} {ts = vs} d ds) f =
+      ap (λ w. reduce C w vs) (substitute_by-expansion_of x C (reduce (kind k)) (shift-reduce (kind k)) v zero (shift_head zero h) h (with_last (shift_all zero done) (spine (index zero) no_terms)) (lower_head-shift_head zero h))
+      ∙ ap (λ l. reduce C (expansion_of x C h l) vs)
+      (substitute_all_by-with_last (reduce (kind k)) v zero (shift_all zero done) (spine (index zero) no_terms)
+      ∙ ap (λ l. with_last l v) (substitute_all_by-shift done (reduce (kind k)) v zero))
+      ∙ reduce-first_order h (with_last done v) ds f
+      ∙ ap (spine h) (joined-with_last done v vs)
+  reduce-first_order h done (take_term {A = arrow A B} d ds) f = absurd f

@@ -11,7 +11,9 @@ use Rattle.ab_term.proofs.Preservation.{Insert, here, there, shift_typed, reduce
 use Rattle.ab_term.proofs.Shifts.{shift-reduce}
 use Rattle.ab_term.proofs.Reaching.{shift-short, substitute_by-short}
 use Rattle.ab_term.proofs.Closed.{closed_typed, closed_reach}
+use Rattle.ab_term.proofs.ClosedMaps.{IsClosedMap, shift-image, shift_all-image_all}
 use Rattle.ab_term.proofs.Commutation.{through}
+use Rattle.ab_term.proofs.Expansions.{reduce-no_terms}
 
 -- each variable that f replaces has a closed term of its type
 abbrev pub IsTypedMap : (sg : Signature) {Var Hint : Type 0} → (Variable Var → Option (Term Var Hint)) → Type 0
@@ -38,27 +40,14 @@ module _ (sg : Signature) (Var Hint : Type 0) (f : Variable Var → Option (Term
     image_all_by_typed take_none = take_none
     image_all_by_typed (take_term d ds) = take_term (image_by_typed d) (image_all_by_typed ds)
 
-  shift-put_for : (j : ℕ) (x : Variable Var) (o : Option (Term Var Hint)) → f x ≡ o → (ts : Terms Var Hint) → shift j (put_for x o ts) ≡ put_for x o (shift_all j ts)
-  shift-put_for j x None e ts = refl
-  shift-put_for j x (Some u) e ts =
-      let small : reach u ≤ 0 = closed_reach sg (typed x u e) in
-      shift-reduce x.type j u ts ∙ ap (λ w. reduce x.type w (shift_all j ts)) (shift-short u j (omega arith))
+  pub closed_map : IsClosedMap f
+  closed_map x u e = closed_reach sg (typed x u e)
 
-  shift-put_at : (j : ℕ) (h : Head Var) (ts : Terms Var Hint) → shift j (put_at f h ts) ≡ put_at f (shift_head j h) (shift_all j ts)
-  shift-put_at j (constant c) ts = refl
-  shift-put_at j (logical l) ts = refl
-  shift-put_at j (nominal a) ts = refl
-  shift-put_at j (variable x) ts = shift-put_for j x (f x) refl ts
-  shift-put_at j (index i) ts = refl
+  pub shift-image_by : (t : Term Var Hint) (j : ℕ) → shift j (image_by f t) ≡ image_by f (shift j t)
+  shift-image_by = shift-image f closed_map
 
-  mutual
-    pub shift-image_by : (t : Term Var Hint) (j : ℕ) → shift j (image_by f t) ≡ image_by f (shift j t)
-    shift-image_by (lam A x t) j = ap (lam A x) (shift-image_by t (suc j))
-    shift-image_by (spine h ts) j = shift-put_at j h (image_all_by f ts) ∙ ap (put_at f (shift_head j h)) (shift_all-image_all_by ts j)
-
-    pub shift_all-image_all_by : (ts : Terms Var Hint) (j : ℕ) → shift_all j (image_all_by f ts) ≡ image_all_by f (shift_all j ts)
-    shift_all-image_all_by no_terms j = refl
-    shift_all-image_all_by (term t ts) j = ap (λ s. term s (shift_all j (image_all_by f ts))) (shift-image_by t j) ∙ ap (term (image_by f (shift j t))) (shift_all-image_all_by ts j)
+  pub shift_all-image_all_by : (ts : Terms Var Hint) (j : ℕ) → shift_all j (image_all_by f ts) ≡ image_all_by f (shift_all j ts)
+  shift_all-image_all_by = shift_all-image_all f closed_map
 
   abbrev pub ImageThrough : Ty → Type 0
   ImageThrough A = (G : List Ty) (u : Term Var Hint) (ts : Terms Var Hint) (c : List ℕ) → HasType sg G u A → TakeType sg G ts A (kind c) → image_by f (reduce A u ts) ≡ reduce A (image_by f u) (image_all_by f ts)
@@ -109,6 +98,13 @@ module _ (sg : Signature) (Var Hint : Type 0) (f : Variable Var → Option (Term
   image_through (kind x) G u _ _ d take_none = refl
   image_through (arrow A B) G _ _ c (typed_lam {t = t} d) (take_term {t = v} {ts = vs} e es) =
       image_through B G (substitute A v zero t) vs c (substitute_typed sg e here d) es
+      ∙ ap (λ w. reduce B w (image_all_by f vs)) (image_by-substitute_by (image_through A) here e d)
+
+  -- it goes through a term that is given arguments
+  pub image-reduce : {A B : Ty} {G : List Ty} {u : Term Var Hint} {ts : Terms Var Hint} → HasType sg G u A → TakeType sg G ts A B → image_by f (reduce A u ts) ≡ reduce A (image_by f u) (image_all_by f ts)
+  image-reduce {A = A} {u = u} d take_none = ap (image_by f) (reduce-no_terms A u) ∙ sym (reduce-no_terms A (image_by f u))
+  image-reduce {G = G} (typed_lam {A = A} {B = B} {t = t} d) (take_term {t = v} {ts = vs} e es) =
+      image-reduce (substitute_typed sg e here d) es
       ∙ ap (λ w. reduce B w (image_all_by f vs)) (image_by-substitute_by (image_through A) here e d)
 
   -- it goes through a hereditary substitution

@@ -87,3 +87,11 @@ module _ {X : Type 0} (same : X → X → Bool) (decides : (a b : X) → Decides
       go ys (inl d) rest (inr m) = rest m
       go ys (inr n) rest (inl e) = subst (Contains (x ∷ ys)) e (Contains-here x ys)
       go ys (inr n) rest (inr m) = Contains-there x ys a (rest m)
+
+  pub Contains-undistinct : (xs : List X) (a : X) → Contains (distinct xs) a → Contains xs a
+  Contains-undistinct [] a c = c
+  Contains-undistinct (x ∷ xs) a c = go (distinct xs) (contains_or_not (distinct xs) x) (Contains-undistinct xs a) c
+    where
+      go : (ys : List X) (o : Contains ys x ⊎ (Contains ys x → ⊥)) → (Contains ys a → Contains xs a) → Contains (add_new x ys o) a → Contains (x ∷ xs) a
+      go ys (inl d) rest m = Contains-there x xs a (rest m)
+      go ys (inr n) rest m = elim (Contains-cases x ys a m) [ inl e ↦ subst (Contains (x ∷ xs)) e (Contains-here x xs) | inr k ↦ Contains-there x xs a (rest k) ]

@@ -56,7 +56,7 @@ module _ (sg : Signature) (Var : Type 0) (f : Variable Var → Option (Term Var 
   closed_shift : shift zero v ≡ v
   closed_shift = let small : reach v ≤ 0 = closed_reach sg (typed x v value) in shift-short v zero small
 
-  own_by : (B : Ty) (G : List Ty) (xs ys : Terms Var (Unit {0})) → TakeType sg G ys x.type B → image_all_by f xs ≡ ys → image_by f (expansion_of tt B (variable x) xs) ≡ reduce x.type v ys
+  pub own_by : (B : Ty) (G : List Ty) (xs ys : Terms Var (Unit {0})) → TakeType sg G ys x.type B → image_all_by f xs ≡ ys → image_by f (expansion_of tt B (variable x) xs) ≡ reduce x.type v ys
   own_by (kind c) G xs ys ds e = ap (λ o. put_for x o (image_all_by f xs)) value ∙ ap (reduce x.type v) e
   own_by (arrow B C) G xs ys ds e =
       let in_any : HasType sg G v x.type = closed_typed sg G (typed x v value) in

@@ -30,7 +30,7 @@ type_at-lower (there p) zero = refl
 type_at-lower (there {k = k} {A = A} {B = B} {G = G} p) (suc i) = type_at-lower p i ∙ left_at_suc A B G (lower_index k i)
 
 module _ (sg : Signature) {Var : Type 0} where
-  head_type-shift : {k : ℕ} {A : Ty} {G H : List Ty} → Insert k A G H → (h : Head Var) → head_type sg H (shift_head k h) ≡ head_type sg G h
+  pub head_type-shift : {k : ℕ} {A : Ty} {G H : List Ty} → Insert k A G H → (h : Head Var) → head_type sg H (shift_head k h) ≡ head_type sg G h
   head_type-shift p (constant c) = refl
   head_type-shift p (logical l) = refl
   head_type-shift p (nominal a) = refl

@@ -35,7 +35,7 @@ module _ {Var Hint : Type 0} where
     plain-shift (lam A x t) k = ap (abstraction A x) (plain-shift t (suc k))
     plain-shift (spine h ts) k = plain_applied-shift ts (atom h) k
 
-    plain_applied-shift : (ts : Terms Var Hint) (a : Plain Var Hint) (k : ℕ) → plain_applied (shift_plain k a) (shift_all k ts) ≡ shift_plain k (plain_applied a ts)
+    pub plain_applied-shift : (ts : Terms Var Hint) (a : Plain Var Hint) (k : ℕ) → plain_applied (shift_plain k a) (shift_all k ts) ≡ shift_plain k (plain_applied a ts)
     plain_applied-shift no_terms a k = refl
     plain_applied-shift (term t ts) a k =
         ap (λ b. plain_applied (application (shift_plain k a) b) (shift_all k ts)) (plain-shift t k) ∙ plain_applied-shift ts (application a (plain t)) k

@@ -74,7 +74,7 @@ module _ {Var Hint New NewHint : Type 0} (f : Var → New) (g : Hint → NewHint
     translate-shift (lam A x t) k = ap (lam A (g x)) (translate-shift t (suc k))
     translate-shift (spine h ts) k = ap (λ e. spine e (translate_all f g (shift_all k ts))) (translate_head-shift f k h) ∙ ap (spine (shift_head k (translate_head f h))) (translate_all-shift ts k)
 
-    translate_all-shift : (ts : Terms Var Hint) (k : ℕ) → translate_all f g (shift_all k ts) ≡ shift_all k (translate_all f g ts)
+    pub translate_all-shift : (ts : Terms Var Hint) (k : ℕ) → translate_all f g (shift_all k ts) ≡ shift_all k (translate_all f g ts)
     translate_all-shift no_terms k = refl
     translate_all-shift (term t ts) k = ap (λ s. term s (translate_all f g (shift_all k ts))) (translate-shift t k) ∙ ap (term (shift k (translate f g t))) (translate_all-shift ts k)
 
@@ -122,7 +122,7 @@ module _ {Var Hint New NewHint : Type 0} (f : Var → New) (g : Hint → NewHint
   translate-instance_by_all [] t = refl
   translate-instance_by_all (u ∷ us) t = translate-instance_by_all us (instance t u) ∙ ap (λ s. instance_by_all s (map (translate f g) us)) (translate-instance t u)
 
-  translate_all-with_last : (ts : Terms Var Hint) (t : Term Var Hint) → translate_all f g (with_last ts t) ≡ with_last (translate_all f g ts) (translate f g t)
+  pub translate_all-with_last : (ts : Terms Var Hint) (t : Term Var Hint) → translate_all f g (with_last ts t) ≡ with_last (translate_all f g ts) (translate f g t)
   translate_all-with_last no_terms t = refl
   translate_all-with_last (term s ts) t = ap (term (translate f g s)) (translate_all-with_last ts t)
 
@@ -187,7 +187,7 @@ module _ (sg : Signature) {Var Hint New NewHint : Type 0} (f : Var → New) (g :
     translate_typed (typed_lam d) = typed_lam (translate_typed d)
     translate_typed {G = G} (typed_spine {h = h} e ds) = typed_spine (head_type-translate f sg G h ∙ e) (translate_all_typed ds)
 
-    translate_all_typed : {G : List Ty} {ts : Terms Var Hint} {A B : Ty} → TakeType sg G ts A B → TakeType sg G (translate_all f g ts) A B
+    pub translate_all_typed : {G : List Ty} {ts : Terms Var Hint} {A B : Ty} → TakeType sg G ts A B → TakeType sg G (translate_all f g ts) A B
     translate_all_typed take_none = take_none
     translate_all_typed (take_term d ds) = take_term (translate_typed d) (translate_all_typed ds)
 
@@ -196,6 +196,6 @@ module _ (sg : Signature) {Var Hint New NewHint : Type 0} (f : Var → New) (g :
     typed_before (lam B x t) (typed_lam d) = typed_lam (typed_before t d)
     typed_before (spine h ts) {G = G} (typed_spine e ds) = typed_spine (sym (head_type-translate f sg G h) ∙ e) (all_typed_before ts ds)
 
-    all_typed_before : (ts : Terms Var Hint) {G : List Ty} {A B : Ty} → TakeType sg G (translate_all f g ts) A B → TakeType sg G ts A B
+    pub all_typed_before : (ts : Terms Var Hint) {G : List Ty} {A B : Ty} → TakeType sg G (translate_all f g ts) A B → TakeType sg G ts A B
     all_typed_before no_terms take_none = take_none
     all_typed_before (term t ts) (take_term d ds) = take_term (typed_before t d) (all_typed_before ts ds)

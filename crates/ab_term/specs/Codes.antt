@@ -27,10 +27,10 @@ abbrev pub coded_type : Coded Ty
 coded_type = record { code = of_type; inj = type_inj }
 
 -- a place in the list of all logical constants, and what the constant holds
-abbrev LogicalParts : Type 0
+abbrev pub LogicalParts : Type 0
 LogicalParts = ℕ × (Ty × ℕ)
 
-abbrev to_parts : Logical → LogicalParts
+abbrev pub to_parts : Logical → LogicalParts
 to_parts truth = (0, (prop, 0))
 to_parts falsity = (1, (prop, 0))
 to_parts conjunction = (2, (prop, 0))
@@ -53,7 +53,7 @@ to_parts spec_conjunction = (17, (prop, 0))
 abbrev all_logical : Ty → ℕ → List Logical
 all_logical A i = truth ∷ falsity ∷ conjunction ∷ disjunction ∷ implication ∷ equality A ∷ universal A ∷ existential A ∷ nabla A ∷ judgement ∷ focused_judgement ∷ star i ∷ at_sign i ∷ plus i ∷ hash i ∷ spec_universal A ∷ spec_implication ∷ spec_conjunction ∷ []
 
-abbrev from_parts : LogicalParts → Logical
+abbrev pub from_parts : LogicalParts → Logical
 from_parts p = get_or (all_logical p.1.0 p.1.1) p.0 truth
 
 pub from_to_parts : (l : Logical) → from_parts (to_parts l) ≡ l

@@ -9,8 +9,13 @@ pub mod Substitution
 pub mod Expansion
 pub mod Translation
 pub mod Names
+pub mod Sameness
+pub mod Recognising
+pub mod Closing
+pub mod Sizes
 pub mod Variables
 pub mod Beta
+pub mod Normal
 pub mod Reach
 pub mod Codes
 pub mod Examples

@@ -1,5 +1,5 @@
 -- The nominal constants of a term, and their permutations.
-use Rattle.std.specs.Prelude.{◌≡◌, ◌≢◌, ◌↔◌, List, [], ◌∷◌, ◌++◌, map, Bool, ◌&&◌, ◌==◌, if◌then◌else◌, All, AllPairs, Contains}
+use Rattle.std.specs.Prelude.{◌≡◌, ◌≢◌, ◌↔◌, ◌≤◌, List, [], ◌∷◌, ◌++◌, map, Bool, ◌&&◌, ◌==◌, if◌then◌else◌, All, AllPairs, Contains}
 use Rattle.ab_term.specs.Types.{same_type}
 use Rattle.ab_term.specs.Terms.{Nominal, Head, constant, logical, nominal, variable, index, Term, lam, spine, Terms, no_terms, term}
 use Rattle.ab_term.specs.Translation.{forget}
@@ -53,7 +53,21 @@ pub record IsPermutationTable (ps : List (Nominal × Nominal)) : Type 0 where
   pub same_constants : (a : Nominal) → Contains (map (λ p. p.0) ps) a ↔ Contains (map (λ p. p.1) ps) a
   pub keeps_types : All (λ p. p.0.type ≡ p.1.type) ps
 
+-- The list has the same constants as the other, each once, in order of number.
+pub record IsOrderOf (list standing : List Nominal) : Type 0 where
+  pub same : (a : Nominal) → Contains list a ↔ Contains standing a
+  pub once : AllPairs (λ a b. a ≢ b) list
+  pub order : AllPairs (λ a b. a.number ≤ b.number) list
+
+-- each number stands at one type
+abbrev pub HasOneTypeEach : List Nominal → Type 0
+HasOneTypeEach standing = (a b : Nominal) → Contains standing a → Contains standing b → a.number ≡ b.number → a ≡ b
+
 module _ {Var Hint : Type 0} where
+  -- THE SUPPORT AS A LIST: each nominal constant of the term once, in order of number
+  abbrev pub IsSupport : Term Var Hint → List Nominal → Type 0
+  IsSupport t list = IsOrderOf list (support t)
+
   abbrev pub permute : List (Nominal × Nominal) → Term Var Hint → Term Var Hint
   permute ps = rename (moved_by ps)
 

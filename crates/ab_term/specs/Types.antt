@@ -1,5 +1,5 @@
 -- Simple types: a kind, known by the bytes of its name, or an arrow of two types.
-use Rattle.std.specs.Prelude.{ℕ, List, [], ◌∷◌, Bool, false, ◌&&◌, codes, bytes_eq}
+use Rattle.std.specs.Prelude.{ℕ, suc, List, [], ◌∷◌, Bool, false, ◌&&◌, codes, bytes_eq}
 
 pub data Ty : Type 0 where
   kind : List ℕ → Ty
@@ -21,6 +21,17 @@ olist = kind (codes "olist")
 abbrev pub arrows : List Ty → Ty → Ty
 arrows [] B = B
 arrows (A ∷ As) B = arrow A (arrows As B)
+
+-- how many arguments a type takes
+abbrev pub arity : Ty → ℕ
+arity (kind k) = 0
+arity (arrow A B) = suc (arity B)
+
+-- each argument that the type takes is of a kind
+abbrev pub IsFirstOrder : Ty → Type 0
+IsFirstOrder (kind k) = Unit {0}
+IsFirstOrder (arrow (kind k) B) = IsFirstOrder B
+IsFirstOrder (arrow (arrow A C) B) = ⊥
 
 -- the test of whether two types are the same
 abbrev pub same_type : Ty → Ty → Bool

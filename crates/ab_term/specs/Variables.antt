@@ -68,6 +68,16 @@ module _ {Var Hint : Type 0} (same : Var → Var → Bool) where
   abbrev pub composition : Substitution Var Hint → Substitution Var Hint → Substitution Var Hint
   composition s r = map (λ p. (p.0, image r p.1)) s ++ r
 
+  -- the pairs put in one after another, the first of the list first
+  abbrev pub one_by_one : Substitution Var Hint → Term Var Hint → Term Var Hint
+  one_by_one [] t = t
+  one_by_one (p ∷ s) t = one_by_one s (image (p ∷ []) t)
+
+  -- the same as one substitution
+  abbrev pub at_once : Substitution Var Hint → Substitution Var Hint
+  at_once [] = []
+  at_once (p ∷ s) = composition (p ∷ []) (at_once s)
+
 module _ {Var Hint : Type 0} where
   -- each variable has a term of its type
   abbrev pub IsTyped : Signature → Substitution Var Hint → Type 0

@@ -5,7 +5,9 @@ ghost use Rattle.ab_term.specs.Types.{Ty};
 ghost use Rattle.ab_term.specs.Terms.{Nominal, Term};
 ghost use Rattle.ab_term.specs.Typing.{Signature, HasType};
 ghost use Rattle.ab_term.specs.Substitution.{instance};
-ghost use Rattle.ab_term.specs.Names.{support, permute, moved_by, IsPermutationTable, EqualUpToNames};
+ghost use Rattle.ab_term.specs.Names.{
+    support, permute, moved_by, IsPermutationTable, HasOneTypeEach, IsSupport, EqualUpToNames
+};
 ghost use Rattle.ab_term.specs.Variables.{Substitution, image};
 
 /// A permutation keeps types, goes through instances and substitutions, and moves the support.
@@ -34,4 +36,12 @@ pub fn equality_up_to_names<Var, Hint>()
     ensures reflexive { (t : Term Var Hint) → EqualUpToNames t t }
     ensures symmetric { (t u : Term Var Hint) → EqualUpToNames t u → EqualUpToNames u t }
     ensures transitive { (t u v : Term Var Hint) → EqualUpToNames t u → EqualUpToNames u v → EqualUpToNames t v }
+{}
+
+/// Each term has its nominal constants as a list, each once and in order of number, and but one such list
+/// where each number stands at one type.
+pub fn support_is_a_list<Var, Hint>()
+    ensures some { (t : Term Var Hint) → (list : List Nominal) × IsSupport t list }
+    ensures one { (t : Term Var Hint) (list more : List Nominal) → HasOneTypeEach (support t) →
+        IsSupport t list → IsSupport t more → list ≡ more }
 {}

@@ -1,8 +1,11 @@
 //! Laws of types and of the typing of terms.
 
-ghost use Rattle.std.specs.Prelude.{◌≡◌, ◌↔◌, List, true};
+ghost use Rattle.std.specs.Prelude.{◌≡◌, ◌↔◌, ℕ, List, true};
 ghost use Rattle.ab_term.specs.Types.{Ty, same_type};
-ghost use Rattle.ab_term.specs.Terms.{Nominal, Term};
+ghost use Rattle.ab_term.specs.Logical.{Logical};
+ghost use Rattle.ab_term.specs.Terms.{Nominal, Variable, Head, Term};
+ghost use Rattle.ab_term.specs.Translation.{EqualPastHints};
+ghost use Rattle.ab_term.specs.Sameness.{same_logical, same_numbered, same_head, same_term};
 ghost use Rattle.ab_term.specs.Typing.{Signature, IsExtendedBy, HasType};
 ghost use Rattle.ab_term.specs.Names.{same_nominal};
 
@@ -10,6 +13,14 @@ ghost use Rattle.ab_term.specs.Names.{same_nominal};
 pub fn comparisons_decide()
     ensures types { (A B : Ty) → (same_type A B ≡ true) ↔ (A ≡ B) }
     ensures names { (a b : Nominal) → (same_nominal a b ≡ true) ↔ (a ≡ b) }
+    ensures logical_constants { (l m : Logical) → (same_logical l m ≡ true) ↔ (l ≡ m) }
+    ensures variables { (y z : Variable ℕ) → (same_numbered y z ≡ true) ↔ (y ≡ z) }
+    ensures heads { (g h : Head ℕ) → (same_head g h ≡ true) ↔ (g ≡ h) }
+{}
+
+/// So does the test of terms, past their hints.
+pub fn terms_are_compared_past_hints<Hint>()
+    ensures { (t u : Term ℕ Hint) → (same_term t u ≡ true) ↔ EqualPastHints t u }
 {}
 
 /// A term has one type at most.
