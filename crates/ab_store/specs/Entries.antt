@@ -1,6 +1,6 @@
 -- How a store is kept, and what it keeps beside its nodes so that walks can be spared. Public contracts don't speak
 -- of this.
-use Rattle.std.specs.Prelude.{◌≡◌, ℕ, ◌≤◌, ◌<◌, List, [], map, length, get_or, false}
+use Rattle.std.specs.Prelude.{◌≡◌, ℕ, ◌≤◌, ◌<◌, List, [], map, length, get_or, false, All}
 use Rattle.ab_term.specs.Terms.{Nominal, Variable, Terms}
 use Rattle.ab_term.specs.Reach.{reach, reach_of_all}
 use Rattle.ab_term.specs.Names.{support, support_of_all}
@@ -17,10 +17,10 @@ use Rattle.ab_store.specs.Reading.{bound_in}
 use Rattle.ab_store.specs.Naming.{NodesNameEarlier}
 use Rattle.ab_store.specs.Bindings.{AreInOrder}
 
--- The facts hold of what reaches so far, and in which these nominal constants and these variables stand. They are one
--- way: where they say that something may stand there, it need not.
+-- The facts hold of what reaches so far, and in which these nominal constants and these variables stand. The flags are
+-- one way: where they say that something may stand there, it need not.
 pub record Covers (facts : Facts) (far : ℕ) (names : List Nominal) (xs : List (Variable ℕ)) : Type 0 where
-  pub reach : far ≤ facts.reach
+  pub reach : facts.reach ≡ far
   pub nominals : facts.nominals ≡ false → names ≡ []
   pub cells : facts.cells ≡ false → xs ≡ []
 
@@ -39,9 +39,9 @@ contents entries slots trail room = record {
 }
 
 pub record AreSound (entries : List Entry) (slots : List Slot) (trail : List Binding) : Type 0 where
-  pub earlier : NodesNameEarlier (length slots) (map (λ e. e.node) entries)
+  pub earlier : NodesNameEarlier (length (map (λ s. s.cell) slots)) (map (λ e. e.node) entries)
   pub facts : (types : Table) (t : TermId) (d : Entry) → t.0 < length entries → HoldOf (get_or entries t.0 d).facts (tree_of types (contents entries slots trail 0) t)
   -- each cell keeps what it is bound to, and bound terms have no free names
   pub bound : (c : CellId) (d : Slot) → c.0 < length slots → (get_or slots c.0 d).binding ≡ bound_in trail c
   pub order : AreInOrder (contents entries slots trail 0)
-  pub closed : (types : Table) (i : ℕ) (d : Binding) → i < length trail → reach (tree_of types (contents entries slots trail 0) (get_or trail i d).term) ≤ 0
+  pub closed : (types : Table) → All (λ b. reach (tree_of types (contents entries slots trail 0) b.term) ≤ 0) trail

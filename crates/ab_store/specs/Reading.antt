@@ -1,9 +1,8 @@
 -- What the ids of a store stand for: their trees, with the bindings put in, one after another, in the order in which
 -- they were made. Where no cell is bound that is the tree itself.
-use Rattle.std.specs.Prelude.{ℕ, List, [], ◌∷◌, map, Bool, ◌==◌, Option, Some, None, option_map, if◌then◌else◌, All, Contains}
-use Rattle.ab_term.specs.Terms as tree
-use Rattle.ab_term.specs.Terms.{Variable, lam, Terms, terms_of}
-use Rattle.ab_term.specs.Variables.{Substitution, image, put_at, variables}
+use Rattle.std.specs.Prelude.{ℕ, List, [], ◌∷◌, map, ◌==◌, Option, Some, None, option_map, if◌then◌else◌}
+use Rattle.ab_term.specs.Terms.{Variable, lam, terms_of}
+use Rattle.ab_term.specs.Variables.{Substitution, one_by_one, put_at}
 use Rattle.ab_types.specs.Entries.{Table}
 use Rattle.ab_types.specs.Ids.{type_of}
 use Rattle.ab_store.specs.declared.node.TermId.{TermId}
@@ -12,16 +11,8 @@ use Rattle.ab_store.specs.declared.node.Head.{Head}
 use Rattle.ab_store.specs.declared.node.Node.{Node}
 use Rattle.ab_store.specs.declared.node.Node.TheVariants.{Lam, Spine}
 use Rattle.ab_store.specs.declared.node.Binding.{Binding}
+pub use Rattle.ab_term.specs.Sameness.{same_number}
 pub use Rattle.ab_store.specs.Trees.{Read, Contents, Holds, HoldsCell, cell_in, cell_of, logical_of, head_in, head_reading, tree_of}
-
--- the test of whether two numbers of cells are the same
-abbrev pub same_number : ℕ → ℕ → Bool
-same_number i j = i == j
-
--- the term, with the pairs put in, one after another
-abbrev pub put_in : Substitution ℕ (List ℕ) → Read → Read
-put_in [] t = t
-put_in (p ∷ ps) t = put_in ps (image same_number (p ∷ []) t)
 
 -- the term that the first binding of a cell gives it
 abbrev pub bound_in : List Binding → CellId → Option TermId
@@ -43,7 +34,7 @@ module _ (types : Table) (store : Contents) where
 
   -- THE READING of an id
   abbrev pub reading : TermId → Read
-  reading t = put_in pairs (tree_of types store t)
+  reading t = one_by_one same_number pairs (tree_of types store t)
 
   -- what a variable stands for, where its cell is bound
   abbrev pub value_of : Variable ℕ → Option Read

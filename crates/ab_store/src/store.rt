@@ -4,11 +4,11 @@ ghost use Rattle.ab_term.specs.Types.{Ty};
 ghost use Rattle.ab_term.specs.Terms.{lam, spine, terms_of};
 ghost use Rattle.ab_term.specs.Reach as tree;
 ghost use Rattle.ab_term.specs.Names.{support};
-ghost use Rattle.ab_term.specs.Variables.{image, variables};
+ghost use Rattle.ab_term.specs.Variables.{image, variables, one_by_one};
 ghost use Rattle.ab_types.specs.Entries.{Table};
 ghost use Rattle.ab_types.specs.Ids.{type_of, HoldsType};
 ghost use Rattle.ab_store.specs.Trees.{Contents, Holds, HoldsCell, cell_of, tree_of, head_reading, node_tree};
-ghost use Rattle.ab_store.specs.Reading.{same_number, binding_of, cell_variable, reading, given, node_reading};
+ghost use Rattle.ab_store.specs.Reading.{same_number, binding_of, cell_variable, pairs, reading, given, node_reading};
 ghost use Rattle.ab_store.specs.Bindings.{StandsIn, IsUnbound, IsResolved, AreInOrder};
 ghost use Rattle.ab_store.specs.Growth.{IsExtendedBy};
 ghost use Rattle.ab_store.specs.Marks.{HasMark, KeepsMark, IsNoLater, at_mark};
@@ -202,7 +202,7 @@ impl Store {
         ensures marks { (k : Mark) → HasMark self.old k → k.bindings ≤ mark.now.bindings → KeepsMark self.old self.new k }
         ensures steps { steps.new ≡ steps.old + (length self.old.bindings - mark.now.bindings) }
     {
-        while self.trail.len() > mark.bindings {
+        while self.count_bindings() > mark.bindings {
             self.unbind_last();
             steps.tick();
         }
@@ -226,6 +226,13 @@ impl Store {
         self.rewind(mark, steps);
         self.entries.truncate(mark.nodes);
         self.slots.truncate(mark.cells);
+    }
+
+    /// How many cells are bound.
+    fn count_bindings(&self) -> usize
+        ensures { result ≡ length self.now.bindings }
+    {
+        self.trail.len()
     }
 
     /// Undoes the last binding.
@@ -303,7 +310,8 @@ impl Store {
         ensures tree { result ≡ false → (types : Table) → support (tree_of types self.now id) ≡ [] }
     {
         let facts = self.facts(id);
-        facts.nominals || (facts.cells && self.has_bindings())
+        let bound = self.has_bindings();
+        facts.nominals || (facts.cells && bound)
     }
 
     /// Whether a cell may stand in a term. False only where none does.
@@ -321,13 +329,16 @@ impl Store {
         ensures reads { result ≡ false → (types : Table) → reading types self.now id ≡ tree_of types self.now id }
         ensures resolved { result ≡ false → IsResolved self.now id }
     {
-        self.facts(id).cells && self.has_bindings()
+        let facts = self.facts(id);
+        let bound = self.has_bindings();
+        facts.cells && bound
     }
 
     /// What is known of a term.
     fn facts(&self, id: TermId) -> Facts
         requires { Holds self.now id }
-        ensures { (types : Table) → HoldOf result (tree_of types self.now id) }
+        ensures tree { (types : Table) → HoldOf result (tree_of types self.now id) }
+        ensures reads { (types : Table) → tree.reach (reading types self.now id) ≤ result.reach }
     {
         self.entries[id.0].facts
     }
@@ -353,6 +364,8 @@ impl Store {
         ensures reads { IfOk result (λ t. (types : Table) (G : List Ty) (A : Ty) →
             IsTypedBy types self.old → IsTerm types self.new G t A →
             reading types self.new t ≡ node_reading types self.old node) }
+        ensures put { IfOk result (λ t. (types : Table) →
+            reading types self.new t ≡ one_by_one same_number (pairs types self.old) (node_tree types self.old node)) }
         ensures typed { (types : Table) → IsTypedBy types self.old → NodeIsTyped types node → IsTypedBy types self.new }
         ensures before { IsExtendedBy self.old self.new }
         ensures cells { self.new.cells ≡ self.old.cells }
