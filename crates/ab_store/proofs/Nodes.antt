@@ -1,5 +1,5 @@
 -- The list of the terms that a list of nodes stands for.
-use Rattle.std.proofs.Common.{◌≡◌, ℕ, zero, suc, ◌+◌, ◌<◌, List, [], ◌∷◌, ◌++◌, map, length, get_or, refl, sym, ◌∙◌, ap, arith, length-append}
+use Rattle.std.proofs.Common.{◌≡◌, ℕ, zero, suc, ◌+◌, ◌<◌, ◌≤◌, List, [], ◌∷◌, ◌++◌, map, take, drop, length, get_or, refl, sym, ◌∙◌, ap, arith, length-append, take-append-drop, length-take-le}
 use Rattle.std.proofs.lemmas.List.{get_or_append_left, get_or_push}
 use Rattle.std.proofs.lemmas.List.Elements.{All-head, All-tail}
 use Rattle.std.specs.List.{All}
@@ -13,7 +13,7 @@ use Rattle.ab_store.specs.declared.node.Head.TheVariants.{Const, Logic, Nominal,
 use Rattle.ab_store.specs.declared.node.Node.{Node}
 use Rattle.ab_store.specs.declared.node.Node.TheVariants.{Lam, Spine}
 use Rattle.ab_store.specs.declared.node.CellEntry.{CellEntry}
-use Rattle.ab_store.specs.Reading.{Read, head_in, term_at, term_of_node, terms_from}
+use Rattle.ab_store.specs.Trees.{Read, head_in, term_at, term_of_node, terms_from}
 use Rattle.ab_store.specs.Naming.{HeadNames, NodeNames, NodesNameEarlier}
 
 -- what stands for an id that isn't there
@@ -64,22 +64,47 @@ module _ (types : Table) (C : List CellEntry) where
       → term_at types (terms_from types C [] ns) t ≡ term_of_node types C (terms_from types C [] ns) (get_or ns t.0 d)
   terms_from-at c ns t d names h = at_from c [] ns t.0 t.0 d none h (omega arith) (names t.0 d h)
 
--- when a cell is added
-module _ (types : Table) (C : List CellEntry) (c : CellEntry) where
-  head-more : (h : Head) → HeadNames (length C) h → head_in types (C ++ c ∷ []) h ≡ head_in types C h
+  -- the first terms are those of the first nodes
+  pub terms_from-take : (n : ℕ) (ns : List Node) (i : ℕ) (d : Read) → n ≤ length ns → i < n → get_or (terms_from types C [] (take n ns)) i d ≡ get_or (terms_from types C [] ns) i d
+  terms_from-take n ns i d h l =
+      sym (
+      ap (λ l. get_or (terms_from types C [] l) i d) (sym (take-append-drop n ns))
+      ∙ ap (λ l. get_or l i d) (terms_from-append [] (take n ns) (drop n ns))
+      ∙ terms_from-get_or (terms_from types C [] (take n ns)) (drop n ns) i d (omega (arith, length-terms_from [] (take n ns), length-take-le n ns h))
+      )
+
+-- when cells are added
+module _ (types : Table) (C D : List CellEntry) where
+  head-more : (h : Head) → HeadNames (length C) h → head_in types (C ++ D) h ≡ head_in types C h
   head-more (Const k) names = refl
   head-more (Logic l) names = refl
   head-more (Nominal n a) names = refl
-  head-more (Cell x) names = ap (λ (e : CellEntry). tree.variable (record { name = x.0; type = type_of types e.ty })) (get_or_append_left C (c ∷ []) _ x.0 names)
+  head-more (Cell x) names = ap (λ (e : CellEntry). tree.variable (record { name = x.0; type = type_of types e.ty })) (get_or_append_left C D _ x.0 names)
   head-more (Index i) names = refl
 
-  node-more : (xs : List Read) (j : ℕ) (n : Node) → NodeNames j (length C) n → term_of_node types (C ++ c ∷ []) xs n ≡ term_of_node types C xs n
+  node-more : (xs : List Read) (j : ℕ) (n : Node) → NodeNames j (length C) n → term_of_node types (C ++ D) xs n ≡ term_of_node types C xs n
   node-more xs j (Lam a x t) names = refl
   node-more xs j (Spine h ts) names = ap (λ g. spine g (terms_of (map (term_at types xs) ts))) (head-more h names.0)
 
-  pub terms_from-more : (acc : List Read) (ns : List Node) → ((j : ℕ) (d : Node) → j < length ns → (m : ℕ) × NodeNames m (length C) (get_or ns j d)) → terms_from types (C ++ c ∷ []) acc ns ≡ terms_from types C acc ns
+  pub terms_from-more : (acc : List Read) (ns : List Node) → ((j : ℕ) (d : Node) → j < length ns → (m : ℕ) × NodeNames m (length C) (get_or ns j d)) → terms_from types (C ++ D) acc ns ≡ terms_from types C acc ns
   terms_from-more acc [] names = refl
   terms_from-more acc (n ∷ ns) names =
       let first = names 0 n (omega arith) in
-      ap (λ x. terms_from types (C ++ c ∷ []) (acc ++ x ∷ []) ns) (node-more acc first.0 n first.1)
+      ap (λ x. terms_from types (C ++ D) (acc ++ x ∷ []) ns) (node-more acc first.0 n first.1)
       ∙ terms_from-more (acc ++ term_of_node types C acc n ∷ []) ns (λ j d l. names (suc j) d (omega arith))
+
+-- What holds of every tree: it holds where there is no id, and of a node where it holds of the trees that the node names.
+each_push : {X : Type 0} (P : X → Type 0) (xs : List X) (x d : X) → ((i : ℕ) → P (get_or xs i d)) → P x → P d → (i : ℕ) → P (get_or (xs ++ x ∷ []) i d)
+each_push P [] x d all h e zero = h
+each_push P [] x d all h e (suc i) = e
+each_push P (y ∷ xs) x d all h e zero = all 0
+each_push P (y ∷ xs) x d all h e (suc i) = each_push P xs x d (λ j. all (suc j)) h e i
+
+module _ (types : Table) (C : List CellEntry) (P : Read → Type 0) (base : P none)
+    (step : (terms : List Read) (n : Node) → ((i : ℕ) → P (get_or terms i none)) → P (term_of_node types C terms n)) where
+  each_from : (acc : List Read) (ns : List Node) → ((i : ℕ) → P (get_or acc i none)) → (i : ℕ) → P (get_or (terms_from types C acc ns) i none)
+  each_from acc [] all = all
+  each_from acc (n ∷ ns) all = each_from (acc ++ term_of_node types C acc n ∷ []) ns (each_push P acc (term_of_node types C acc n) none all (step acc n all) base)
+
+  pub each_tree : (ns : List Node) (i : ℕ) → P (get_or (terms_from types C [] ns) i none)
+  each_tree ns = each_from [] ns (λ i. base)

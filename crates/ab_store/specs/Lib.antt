@@ -1,5 +1,8 @@
 -- What the ids of a store stand for, as plain terms.
+pub mod Trees
 pub mod Reading
-pub mod Growth
+pub mod Bindings
 pub mod Naming
+pub mod Marks
+pub mod Growth
 pub mod Entries

@@ -1,10 +1,10 @@
 -- What the nodes of a store name: earlier nodes, cells, and types and constants of a table.
-use Rattle.std.specs.Prelude.{ℕ, ◌<◌, List, length, get_or}
+use Rattle.std.specs.Prelude.{ℕ, ◌<◌, List, [], length, get_or}
 use Rattle.std.specs.List.{All}
 use Rattle.ab_term.specs.Types.{Ty}
 use Rattle.ab_term.specs.Typing.{HasType}
 use Rattle.ab_types.specs.Entries.{Table, signature}
-use Rattle.ab_types.specs.Ids.{HoldsType, HoldsConstant}
+use Rattle.ab_types.specs.Ids.{HoldsType, HoldsConstant, type_of}
 use Rattle.ab_store.specs.declared.node.TermId.{TermId}
 use Rattle.ab_store.specs.declared.node.Logical.{Logical}
 use Rattle.ab_store.specs.declared.node.Logical.TheVariants.{Equal, Forall, Exists, Nabla, Pi}
@@ -12,7 +12,8 @@ use Rattle.ab_store.specs.declared.node.Head.{Head}
 use Rattle.ab_store.specs.declared.node.Head.TheVariants.{Const, Logic, Nominal, Cell}
 use Rattle.ab_store.specs.declared.node.Node.{Node}
 use Rattle.ab_store.specs.declared.node.Node.TheVariants.{Lam, Spine}
-use Rattle.ab_store.specs.Reading.{Contents, reading}
+use Rattle.ab_store.specs.declared.node.Binding.{Binding}
+use Rattle.ab_store.specs.Trees.{Contents, Holds, HoldsCell, cell_of, tree_of}
 
 -- a cell that the head is, if it is one, is among the first `cells`
 abbrev pub HeadNames : ℕ → Head → Type 0
@@ -51,13 +52,21 @@ NodesNameEarlier cells ns = (j : ℕ) (d : Node) → j < length ns → NodeNames
 abbrev pub HoldsHead : Contents → Head → Type 0
 HoldsHead store h = HeadNames (length store.cells) h
 
+-- THE ID IS A TERM of the type, over bound names of the listed types: the store holds it, and its tree is canonical and
+-- well-typed. A tree has cells for variables, each with its own type; so an id is a term whatever cells are bound, and
+-- in a store that is typed by the table its reading is canonical and of the type too.
+abbrev pub IsTerm : Table → Contents → List Ty → TermId → Ty → Type 0
+IsTerm types store G t A = Holds store t × HasType (signature types) G (tree_of types store t) A
+
+-- the cell is there, and is bound to a term of its type without free names
+abbrev pub BindingIsTyped : Table → Contents → Binding → Type 0
+BindingIsTyped types store b = HoldsCell store b.cell × IsTerm types store [] b.term (type_of types (cell_of store b.cell).ty)
+
 -- THE STORE IS TYPED BY THE TABLE: what its nodes name is there, earlier in the store or in the table, and so are
--- the types of its cells. Whether an id is a well-typed term is then a fact of its reading.
+-- the types of its cells, and each cell is bound to a term of its type. Whether another id is a term is a fact of its
+-- tree.
 pub record IsTypedBy (types : Table) (store : Contents) : Type 0 where
   pub earlier : NodesNameEarlier (length store.cells) store.nodes
   pub nodes : All (NodeIsTyped types) store.nodes
   pub cells : All (λ c. HoldsType types c.ty) store.cells
-
--- THE ID IS A TERM of the type, over bound names of the listed types: canonical and well-typed
-abbrev pub IsTerm : Table → Contents → List Ty → TermId → Ty → Type 0
-IsTerm types store G t A = HasType (signature types) G (reading types store t) A
+  pub bindings : All (BindingIsTyped types store) store.bindings

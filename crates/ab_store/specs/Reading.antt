@@ -1,95 +1,51 @@
--- What the ids of a store stand for: plain terms whose variables are the numbers of cells, and whose hints are
--- names. A node names earlier nodes only, so the terms are read in the order of the nodes.
-use Rattle.std.specs.Prelude.{ℕ, ◌<◌, List, [], ◌∷◌, ◌++◌, map, length, get_or}
-use Rattle.ab_term.specs.Logical as plain
-use Rattle.ab_term.specs.Terms as tree
-use Rattle.ab_term.specs.Terms.{Term, lam, spine, terms_of, no_terms}
+-- What the ids of a store stand for: their trees, with the bindings put in, one after another, in the order in which
+-- they were made. Where no cell is bound that is the tree itself.
+use Rattle.std.specs.Prelude.{ℕ, List, [], ◌∷◌, map, ◌==◌, Option, Some, None, option_map, if◌then◌else◌}
+use Rattle.ab_term.specs.Terms.{Variable, lam, terms_of}
+use Rattle.ab_term.specs.Variables.{Substitution, one_by_one, put_at}
 use Rattle.ab_types.specs.Entries.{Table}
-use Rattle.ab_types.specs.Ids.{type_of, constant_of}
+use Rattle.ab_types.specs.Ids.{type_of}
 use Rattle.ab_store.specs.declared.node.TermId.{TermId}
 use Rattle.ab_store.specs.declared.node.CellId.{CellId}
-use Rattle.ab_store.specs.declared.node.Logical.{Logical}
-use Rattle.ab_store.specs.declared.node.Logical.TheVariants.{True, False, And, Or, Arrow, Equal, Forall, Exists, Nabla, Judge, Focus, Star, At, Plus, Hash, Pi, Imply, With}
 use Rattle.ab_store.specs.declared.node.Head.{Head}
-use Rattle.ab_store.specs.declared.node.Head.TheVariants.{Const, Logic, Nominal, Cell, Index}
 use Rattle.ab_store.specs.declared.node.Node.{Node}
 use Rattle.ab_store.specs.declared.node.Node.TheVariants.{Lam, Spine}
-use Rattle.ab_store.specs.declared.node.CellEntry.{CellEntry}
+use Rattle.ab_store.specs.declared.node.Binding.{Binding}
+pub use Rattle.ab_term.specs.Sameness.{same_number}
+pub use Rattle.ab_store.specs.Trees.{Read, Contents, Holds, HoldsCell, cell_in, cell_of, logical_of, head_in, head_reading, tree_of}
 
--- a term over numbered cells, with names as hints
-abbrev pub Read : Type 0
-Read = Term ℕ (List ℕ)
+-- the term that the first binding of a cell gives it
+abbrev pub bound_in : List Binding → CellId → Option TermId
+bound_in [] c = None
+bound_in (b ∷ bs) c = if b.cell.0 == c.0 then Some b.term else bound_in bs c
 
--- what contracts see of a store: its nodes and its cells, each in the order of their making
-pub record Contents : Type 0 where
-  pub nodes : List Node
-  pub cells : List CellEntry
+-- THE BINDING of a cell: the term that it is bound to, `None` while it is unbound
+abbrev pub binding_of : Contents → CellId → Option TermId
+binding_of store c = bound_in store.bindings c
 
-abbrev pub Holds : Contents → TermId → Type 0
-Holds store t = t.0 < length store.nodes
+module _ (types : Table) (store : Contents) where
+  -- the variable that a cell is in a tree
+  abbrev pub cell_variable : CellId → Variable ℕ
+  cell_variable c = record { name = c.0; type = type_of types (cell_of store c).ty }
 
-abbrev pub HoldsCell : Contents → CellId → Type 0
-HoldsCell store c = c.0 < length store.cells
-
-abbrev pub cell_in : List CellEntry → CellId → CellEntry
-cell_in cells c = get_or cells c.0 (record { hint = []; ty = record { 0 = 0 } })
-
-abbrev pub cell_of : Contents → CellId → CellEntry
-cell_of store c = cell_in store.cells c
-
-module _ (types : Table) where
-  abbrev pub logical_of : Logical → plain.Logical
-  logical_of True = plain.truth
-  logical_of False = plain.falsity
-  logical_of And = plain.conjunction
-  logical_of Or = plain.disjunction
-  logical_of Arrow = plain.implication
-  logical_of (Equal a) = plain.equality (type_of types a)
-  logical_of (Forall a) = plain.universal (type_of types a)
-  logical_of (Exists a) = plain.existential (type_of types a)
-  logical_of (Nabla a) = plain.nabla (type_of types a)
-  logical_of Judge = plain.judgement
-  logical_of Focus = plain.focused_judgement
-  logical_of (Star level) = plain.star level
-  logical_of (At level) = plain.at_sign level
-  logical_of (Plus level) = plain.plus level
-  logical_of (Hash level) = plain.hash level
-  logical_of (Pi a) = plain.spec_universal (type_of types a)
-  logical_of Imply = plain.spec_implication
-  logical_of With = plain.spec_conjunction
-
-  abbrev pub head_in : List CellEntry → Head → tree.Head ℕ
-  head_in cells (Const c) = tree.constant (constant_of types c).name
-  head_in cells (Logic l) = tree.logical (logical_of l)
-  head_in cells (Nominal n a) = tree.nominal (record { number = n; type = type_of types a })
-  head_in cells (Cell c) = tree.variable (record { name = c.0; type = type_of types (cell_in cells c).ty })
-  head_in cells (Index i) = tree.index i
-
-  -- the term at an id, among the terms of the ids in order
-  abbrev pub term_at : List Read → TermId → Read
-  term_at terms t = get_or terms t.0 (spine (tree.index 0) no_terms)
-
-  -- the term of a node, given the terms of the ids before it
-  abbrev pub term_of_node : List CellEntry → List Read → Node → Read
-  term_of_node cells terms (Lam a x t) = lam (type_of types a) x (term_at terms t)
-  term_of_node cells terms (Spine h ts) = spine (head_in cells h) (terms_of (map (term_at terms) ts))
-
-  abbrev pub terms_from : List CellEntry → List Read → List Node → List Read
-  terms_from cells terms [] = terms
-  terms_from cells terms (n ∷ ns) = terms_from cells (terms ++ term_of_node cells terms n ∷ []) ns
-
-  -- what the ids of the store read as, in order
-  abbrev pub readings : Contents → List Read
-  readings store = terms_from store.cells [] store.nodes
+  -- the bindings, in order, each as a pair of a variable and a tree
+  abbrev pub pairs : Substitution ℕ (List ℕ)
+  pairs = map (λ b. (cell_variable b.cell, tree_of types store b.term)) store.bindings
 
   -- THE READING of an id
-  abbrev pub reading : Contents → TermId → Read
-  reading store t = term_at (readings store) t
+  abbrev pub reading : TermId → Read
+  reading t = one_by_one same_number pairs (tree_of types store t)
 
-  -- the reading of a head
-  abbrev pub head_reading : Contents → Head → tree.Head ℕ
-  head_reading store h = head_in store.cells h
+  -- what a variable stands for, where its cell is bound
+  abbrev pub value_of : Variable ℕ → Option Read
+  value_of x = option_map reading (binding_of store (record { 0 = x.name }))
+
+  -- THE HEAD GIVEN THESE ARGUMENTS. A bound cell gives way to what its term reads as, which takes the arguments
+  -- at once; any other head stays.
+  abbrev pub given : Head → List TermId → Read
+  given h ts = put_at value_of (head_reading types store h) (terms_of (map reading ts))
 
   -- the reading of a node of the store
-  abbrev pub node_reading : Contents → Node → Read
-  node_reading store n = term_of_node store.cells (readings store) n
+  abbrev pub node_reading : Node → Read
+  node_reading (Lam a x t) = lam (type_of types a) x (reading t)
+  node_reading (Spine h ts) = given h ts

@@ -1,13 +1,15 @@
-//! Terms as shared nodes: each node is kept once, under a number, and names only earlier nodes.
+//! Terms as shared nodes: each node is kept once, under a number, and names only earlier nodes. Cells stand in terms as
+//! variables, and may be bound to terms; a mark takes bindings, and what was made since, back.
 #![tactic(auto)]
 
+mod facts;
 pub mod laws;
 mod list;
+mod mark;
 mod node;
 mod store;
-#[cfg(test)]
-mod tests;
 
 pub use list::Arguments;
-pub use node::{CellId, Head, Logical, Node, TermId};
+pub use mark::Mark;
+pub use node::{CellId, Equation, Head, Logical, Node, TermId};
 pub use store::Store;

@@ -9,6 +9,15 @@ use std::alloc::{AllocError, Global};
 #[derive(Clone, Copy, PartialEq, Eq, PartialOrd, Ord, Hash, Debug)]
 pub struct TermId(pub(crate) usize);
 
+impl TermId {
+    /// The place of the term among those of its store, counted from 0.
+    pub fn place(self) -> usize
+        ensures { result ≡ self.0 }
+    {
+        self.0
+    }
+}
+
 /// A cell of a store: a variable that stands for a term.
 #[derive(Clone, Copy, PartialEq, Eq, PartialOrd, Ord, Hash, Debug)]
 pub struct CellId(pub(crate) usize);
@@ -88,6 +97,22 @@ impl Node {
             Node::Spine(head, args) => Ok(Node::Spine(*head, args.copy(alloc)?)),
         }
     }
+}
+
+/// An equation between two terms.
+#[derive(Clone, Copy, PartialEq, Eq, Debug)]
+pub struct Equation {
+    /// The left side.
+    pub left: TermId,
+    /// The right side.
+    pub right: TermId,
+}
+
+/// A cell, and the term that it is bound to.
+#[derive(Clone, Copy, Debug)]
+pub struct Binding {
+    pub(crate) cell: CellId,
+    pub(crate) term: TermId,
 }
 
 /// What a store keeps of a cell: its hint, and the type of what it stands for.

@@ -1,20 +1,25 @@
 //! A store of terms.
-ghost use Rattle.std.specs.Prelude.{◌≡◌, ℕ, ◌+◌, ◌^◌, ◌<◌, [], ◌∷◌, ◌++◌, length, map, IfOk, OnOk, OnErr, List, max, false, ◌↔◌, ◌||◌, All};
+ghost use Rattle.std.specs.Prelude.{◌≡◌, ℕ, ◌+◌, ◌-◌, ◌≤◌, ◌<◌, [], ◌∷◌, ◌++◌, length, map, take, IfOk, OnOk, OnErr, List, None, false, ◌↔◌, All};
 ghost use Rattle.ab_term.specs.Types.{Ty};
 ghost use Rattle.ab_term.specs.Terms.{lam, spine, terms_of};
 ghost use Rattle.ab_term.specs.Reach as tree;
 ghost use Rattle.ab_term.specs.Names.{support};
+ghost use Rattle.ab_term.specs.Variables.{image, variables, one_by_one};
 ghost use Rattle.ab_types.specs.Entries.{Table};
 ghost use Rattle.ab_types.specs.Ids.{type_of, HoldsType};
-ghost use Rattle.ab_store.specs.Reading.{Contents, Holds, HoldsCell, cell_of, head_in, reading, head_reading, node_reading};
-ghost use Rattle.ab_store.specs.declared.node.CellEntry.{CellEntry};
+ghost use Rattle.ab_store.specs.Trees.{Contents, Holds, HoldsCell, cell_of, tree_of, head_reading, node_tree};
+ghost use Rattle.ab_store.specs.Reading.{same_number, binding_of, cell_variable, pairs, reading, given, node_reading};
+ghost use Rattle.ab_store.specs.Bindings.{StandsIn, IsUnbound, IsResolved, AreInOrder};
 ghost use Rattle.ab_store.specs.Growth.{IsExtendedBy};
-ghost use Rattle.ab_store.specs.Naming.{HoldsHead, NodeNames, HeadIsTyped, NodeIsTyped, IsTypedBy};
-ghost use Rattle.ab_store.specs.Entries.{has_nominal, any_has_nominal, head_is_nominal};
+ghost use Rattle.ab_store.specs.Marks.{HasMark, KeepsMark, IsNoLater, at_mark};
+ghost use Rattle.ab_store.specs.Naming.{HoldsHead, NodeNames, HeadIsTyped, NodeIsTyped, IsTypedBy, IsTerm};
+ghost use Rattle.ab_store.specs.Entries.{HoldOf, HoldOfAll};
 
+use crate::facts::Facts;
 use crate::list::Arguments;
-use crate::node::{CellEntry, CellId, Head, Node, TermId};
-use ab_types::{Name, TypeId};
+use crate::mark::Mark;
+use crate::node::{Binding, CellEntry, CellId, Head, Node, TermId};
+use ab_types::{Name, Steps, TypeId};
 use std::alloc::{AllocError, Global};
 use std::marker::Model;
 
@@ -22,40 +27,50 @@ use std::marker::Model;
 #[derive(Debug, Drop)]
 struct Entry {
     node: Node,
-    /// Each free index of the term is below this, and it is the least such number.
-    reach: usize,
-    /// Whether a nominal constant stands in the term.
-    nominals: bool,
+    facts: Facts,
 }
 
-/// Terms as shared nodes, and the cells that stand in them. Nodes and cells are added, and never change.
+/// A cell, with the term that it is bound to.
+#[derive(Debug, Drop)]
+struct Slot {
+    cell: CellEntry,
+    binding: Option<TermId>,
+}
+
+/// Terms as shared nodes, the cells that stand in them, and what these are bound to. Nodes and cells are added, and
+/// never change; bindings and what was added are taken back to a mark.
 #[derive(Debug, Drop)]
 pub struct Store {
     entries: Vec<Entry>,
-    cells: Vec<CellEntry>,
+    slots: Vec<Slot>,
+    /// The bindings, in the order in which they were made.
+    trail: Vec<Binding>,
 }
 
 impl Model for Store {
-    ghost use Rattle.ab_store.specs.Reading.{Contents};
+    ghost use Rattle.std.specs.Prelude.{◌-◌};
+    ghost use Rattle.std.specs.Vec.{vec_len, vec_capacity};
+    ghost use Rattle.ab_store.specs.Trees.{Contents};
 
     ghost Value = { Contents };
 
     ghost use Rattle.ab_store.specs.Entries.{contents, AreSound};
 
-    ghost view = { λ s. contents s.entries.items s.cells.items };
+    ghost view = { λ s. contents s.entries.items s.slots.items s.trail.items (vec_capacity s.trail - vec_len s.trail) };
 
-    ghost invariant = { λ s. AreSound s.entries.items s.cells.items };
+    ghost invariant = { λ s. AreSound s.entries.items s.slots.items s.trail.items };
 }
 
 impl Store {
     /// A store with no term and no cell.
     pub fn new(alloc: Global) -> Store
-        ensures nothing { result ≡ record { nodes = []; cells = [] } }
+        ensures nothing { result ≡ record { nodes = []; cells = []; bindings = []; room = 0 } }
         ensures typed { (types : Table) → IsTypedBy types result }
     {
         Store {
             entries: Vec::new(alloc),
-            cells: Vec::new(alloc),
+            slots: Vec::new(alloc),
+            trail: Vec::new(alloc),
         }
     }
 
@@ -65,14 +80,15 @@ impl Store {
         ensures held { IfOk result (λ t. Holds self.new t) }
         ensures reads { IfOk result (λ t. (types : Table) →
             reading types self.new t ≡ lam (type_of types ty) hint (reading types self.old body)) }
+        ensures tree { IfOk result (λ t. (types : Table) →
+            tree_of types self.new t ≡ lam (type_of types ty) hint (tree_of types self.old body)) }
         ensures typed { (types : Table) → IsTypedBy types self.old → HoldsType types ty → IsTypedBy types self.new }
         ensures before { IsExtendedBy self.old self.new }
         ensures cells { self.new.cells ≡ self.old.cells }
         ensures err { OnErr result (self.new ≡ self.old) }
     {
-        let reach = self.reach(body).saturating_sub(1);
-        let nominals = self.nominals(body);
-        self.add(Node::Lam(ty, hint, body), reach, nominals)
+        let facts = self.facts(body).under_binder();
+        self.add(Node::Lam(ty, hint, body), facts)
     }
 
     /// A head with the arguments that it is given. An index that no number of binders reaches is refused
@@ -81,21 +97,19 @@ impl Store {
         requires head { HoldsHead self.old head }
         requires args { All (Holds self.old) args.items }
         ensures held { IfOk result (λ t. Holds self.new t) }
-        ensures reads { IfOk result (λ t. (types : Table) →
-            reading types self.new t
-            ≡ spine (head_reading types self.old head) (terms_of (map (reading types self.old) args.items))) }
+        ensures reads { IfOk result (λ t. (types : Table) (G : List Ty) (A : Ty) →
+            IsTypedBy types self.old → IsTerm types self.new G t A →
+            reading types self.new t ≡ given types self.old head args.items) }
+        ensures tree { IfOk result (λ t. (types : Table) →
+            tree_of types self.new t
+            ≡ spine (head_reading types self.old head) (terms_of (map (tree_of types self.old) args.items))) }
         ensures typed { (types : Table) → IsTypedBy types self.old → HeadIsTyped types head → IsTypedBy types self.new }
         ensures before { IsExtendedBy self.old self.new }
         ensures cells { self.new.cells ≡ self.old.cells }
         ensures err { OnErr result (self.new ≡ self.old) }
     {
-        let reach = larger(head_reach(head)?, self.reach_of_all(&args));
-        let nominals = either(is_nominal(head), self.any_nominals(&args));
-        self.add(
-            Node::Spine(head, Arguments::from_vec(args)),
-            reach,
-            nominals,
-        )
+        let facts = Facts::of_head(head)?.and(self.facts_of_all(&args));
+        self.add(Node::Spine(head, Arguments::from_vec(args)), facts)
     }
 
     /// A new cell, for terms of the type.
@@ -104,26 +118,163 @@ impl Store {
         ensures fresh { IfOk result (λ c. ¬ HoldsCell self.old c) }
         ensures hint { IfOk result (λ c. (cell_of self.new c).hint ≡ hint) }
         ensures ty { IfOk result (λ c. (cell_of self.new c).ty ≡ ty) }
+        ensures unbound { IfOk result (λ c. IsUnbound self.new c) }
         ensures one { OnOk result (length self.new.cells ≡ length self.old.cells + 1) }
         ensures typed { (types : Table) → IsTypedBy types self.old → HoldsType types ty → IsTypedBy types self.new }
         ensures before { IsExtendedBy self.old self.new }
         ensures nodes { self.new.nodes ≡ self.old.nodes }
         ensures err { OnErr result (self.new ≡ self.old) }
     {
-        let place = self.cells.len();
-        self.cells.push(CellEntry { hint, ty })?;
+        let place = self.slots.len();
+        self.slots.push(Slot {
+            cell: CellEntry { hint, ty },
+            binding: None,
+        })?;
         Ok(CellId(place))
     }
 
-    /// The node of a term.
+    /// Makes room for that many bindings.
+    pub fn reserve(&mut self, bindings: usize) -> Result<(), AllocError>
+        ensures room { OnOk result (bindings ≤ self.new.room) }
+        ensures nodes { self.new.nodes ≡ self.old.nodes }
+        ensures cells { self.new.cells ≡ self.old.cells }
+        ensures typed { (types : Table) → IsTypedBy types self.old → IsTypedBy types self.new }
+        ensures before { IsExtendedBy self.old self.new }
+        ensures err { OnErr result (self.new ≡ self.old) }
+    {
+        self.trail.reserve(bindings)
+    }
+
+    /// Binds an unbound cell to a term of its type, in which it doesn't stand, nor any cell that is bound. Nothing is
+    /// counted.
+    pub fn bind<L>(&mut self, cell: CellId, term: TermId, steps: &mut Steps<L>)
+        requires held { HoldsCell self.old cell }
+        requires unbound { IsUnbound self.old cell }
+        requires typed { (types : Table) × IsTerm types self.old [] term (type_of types (cell_of self.old cell).ty) }
+        requires apart { ¬ StandsIn self.old cell term }
+        requires resolved { IsResolved self.old term }
+        requires room { 0 < self.old.room }
+        ensures reads { (types : Table) (t : TermId) → Holds self.old t →
+            reading types self.new t
+            ≡ image same_number ((cell_variable types self.old cell, reading types self.old term) ∷ []) (reading types self.old t) }
+        ensures bound { self.new.bindings ≡ self.old.bindings ++ record { cell = cell; term = term } ∷ [] }
+        ensures nodes { self.new.nodes ≡ self.old.nodes }
+        ensures cells { self.new.cells ≡ self.old.cells }
+        ensures room { self.new.room + 1 ≡ self.old.room }
+        ensures typed { (types : Table) → IsTypedBy types self.old →
+            IsTerm types self.old [] term (type_of types (cell_of self.old cell).ty) → IsTypedBy types self.new }
+        ensures terms { (types : Table) (G : List Ty) (t : TermId) (A : Ty) → IsTerm types self.old G t A → IsTerm types self.new G t A }
+        ensures marks { (m : Mark) → HasMark self.old m → KeepsMark self.old self.new m }
+        ensures steps { steps.new ≡ steps.old }
+    {
+        self.slots[cell.0].binding = Some(term);
+        self.trail.push_reserved(Binding { cell, term });
+    }
+
+    /// How many bindings, nodes and cells there are.
+    pub fn mark(&self) -> Mark
+        ensures has { HasMark self.now result }
+        ensures bindings { result.bindings ≡ length self.now.bindings }
+        ensures nodes { result.nodes ≡ length self.now.nodes }
+        ensures cells { result.cells ≡ length self.now.cells }
+        ensures reads { (types : Table) (t : TermId) → reading types (at_mark self.now result) t ≡ reading types self.now t }
+        ensures typed { (types : Table) → IsTypedBy types self.now → IsTypedBy types (at_mark self.now result) }
+    {
+        Mark {
+            bindings: self.trail.len(),
+            nodes: self.entries.len(),
+            cells: self.slots.len(),
+        }
+    }
+
+    /// Undoes the bindings made since the mark, and counts a step for each. Nodes and cells stay, and so does the room
+    /// that the bindings took.
+    pub fn rewind<L>(&mut self, mark: &Mark, steps: &mut Steps<L>)
+        requires { HasMark self.old mark.now }
+        ensures reads { (types : Table) (t : TermId) → t.0 < mark.now.nodes →
+            reading types self.new t ≡ reading types (at_mark self.old mark.now) t }
+        ensures bindings { self.new.bindings ≡ take mark.now.bindings self.old.bindings }
+        ensures nodes { self.new.nodes ≡ self.old.nodes }
+        ensures cells { self.new.cells ≡ self.old.cells }
+        ensures room { self.new.room ≡ self.old.room + (length self.old.bindings - mark.now.bindings) }
+        ensures typed { (types : Table) → IsTypedBy types self.old → IsTypedBy types self.new }
+        ensures terms { (types : Table) (G : List Ty) (t : TermId) (A : Ty) → IsTerm types self.old G t A → IsTerm types self.new G t A }
+        ensures marks { (k : Mark) → HasMark self.old k → k.bindings ≤ mark.now.bindings → KeepsMark self.old self.new k }
+        ensures steps { steps.new ≡ steps.old + (length self.old.bindings - mark.now.bindings) }
+    {
+        while self.count_bindings() > mark.bindings {
+            self.unbind_last();
+            steps.tick();
+        }
+    }
+
+    /// Undoes the bindings made since the mark, counts a step for each, and drops the nodes and cells made since. What
+    /// is left is what the mark counts.
+    pub fn cut_to<L>(&mut self, mark: &Mark, steps: &mut Steps<L>)
+        requires { HasMark self.old mark.now }
+        ensures reads { (types : Table) (t : TermId) → t.0 < mark.now.nodes →
+            reading types self.new t ≡ reading types (at_mark self.old mark.now) t }
+        ensures bindings { self.new.bindings ≡ take mark.now.bindings self.old.bindings }
+        ensures nodes { self.new.nodes ≡ take mark.now.nodes self.old.nodes }
+        ensures cells { self.new.cells ≡ take mark.now.cells self.old.cells }
+        ensures room { self.new.room ≡ self.old.room + (length self.old.bindings - mark.now.bindings) }
+        ensures typed { (types : Table) → IsTypedBy types (at_mark self.old mark.now) → IsTypedBy types self.new }
+        ensures terms { (types : Table) (G : List Ty) (t : TermId) (A : Ty) → t.0 < mark.now.nodes → IsTerm types self.old G t A → IsTerm types self.new G t A }
+        ensures marks { (k : Mark) → HasMark self.old k → IsNoLater k mark.now → KeepsMark self.old self.new k }
+        ensures steps { steps.new ≡ steps.old + (length self.old.bindings - mark.now.bindings) }
+    {
+        self.rewind(mark, steps);
+        self.entries.truncate(mark.nodes);
+        self.slots.truncate(mark.cells);
+    }
+
+    /// How many cells are bound.
+    fn count_bindings(&self) -> usize
+        ensures { result ≡ length self.now.bindings }
+    {
+        self.trail.len()
+    }
+
+    /// Undoes the last binding.
+    fn unbind_last(&mut self)
+        requires { 0 < length self.old.bindings }
+        ensures bindings { self.new.bindings ≡ take (length self.old.bindings - 1) self.old.bindings }
+        ensures nodes { self.new.nodes ≡ self.old.nodes }
+        ensures cells { self.new.cells ≡ self.old.cells }
+        ensures room { self.new.room ≡ self.old.room + 1 }
+    {
+        if let Some(last) = self.trail.pop() {
+            self.slots[last.cell.0].binding = None;
+        }
+    }
+
+    /// The node of a term. Where the node is a head, the reading is asked of an id that is a term of some type: only then
+    /// does it make no difference whether a bound cell gives way before or after its arguments are looked at.
     pub fn view(&self, id: TermId) -> &Node
         requires { Holds self.now id }
-        ensures reads { (types : Table) → reading types self.now id ≡ node_reading types self.now result.now }
+        ensures reads { (types : Table) (G : List Ty) (A : Ty) → IsTypedBy types self.now → IsTerm types self.now G id A →
+            reading types self.now id ≡ node_reading types self.now result.now }
+        ensures tree { (types : Table) → tree_of types self.now id ≡ node_tree types self.now result.now }
         ensures earlier { NodeNames id.0 (length self.now.cells) result.now }
-        ensures word { id.0 < 2 ^ 64 }
         ensures typed { (types : Table) → IsTypedBy types self.now → NodeIsTyped types result.now }
     {
         &self.entries[id.0].node
+    }
+
+    /// The term that a cell is bound to.
+    pub fn binding(&self, cell: CellId) -> Option<TermId>
+        requires { HoldsCell self.now cell }
+        ensures binding { result ≡ binding_of self.now cell }
+        ensures order { AreInOrder self.now }
+    {
+        self.slots[cell.0].binding
+    }
+
+    /// Whether a cell is bound.
+    pub fn has_bindings(&self) -> bool
+        ensures { (result ≡ false) ↔ (self.now.bindings ≡ []) }
+    {
+        !self.trail.is_empty()
     }
 
     /// The hint of a cell.
@@ -131,7 +282,7 @@ impl Store {
         requires { HoldsCell self.now cell }
         ensures { result.now ≡ (cell_of self.now cell).hint }
     {
-        &self.cells[cell.0].hint
+        &self.slots[cell.0].cell.hint
     }
 
     /// The type of the terms that a cell stands for.
@@ -140,109 +291,88 @@ impl Store {
         ensures ty { result ≡ (cell_of self.now cell).ty }
         ensures typed { (types : Table) → IsTypedBy types self.now → HoldsType types result }
     {
-        self.cells[cell.0].ty
+        self.slots[cell.0].cell.ty
     }
 
-    /// How far the free indices of a term reach: each is below this, and it is the least such number.
+    /// How far the free indices of a term reach: each is below this.
     pub fn reach(&self, id: TermId) -> usize
         requires { Holds self.now id }
-        ensures { (types : Table) → result ≡ tree.reach (reading types self.now id) }
+        ensures reads { (types : Table) → tree.reach (reading types self.now id) ≤ result }
+        ensures tree { (types : Table) → tree.reach (tree_of types self.now id) ≤ result }
     {
-        self.entries[id.0].reach
+        self.facts(id).reach
     }
 
-    /// Whether a nominal constant stands in a term.
+    /// Whether a nominal constant may stand in a term. False only where none does.
     pub fn has_nominals(&self, id: TermId) -> bool
         requires { Holds self.now id }
-        ensures { (types : Table) → (result ≡ false) ↔ (support (reading types self.now id) ≡ []) }
+        ensures reads { result ≡ false → (types : Table) → support (reading types self.now id) ≡ [] }
+        ensures tree { result ≡ false → (types : Table) → support (tree_of types self.now id) ≡ [] }
     {
-        self.nominals(id)
+        let facts = self.facts(id);
+        let bound = self.has_bindings();
+        facts.nominals || (facts.cells && bound)
     }
 
-    /// Whether a nominal constant stands in a term, as the entry says.
-    fn nominals(&self, id: TermId) -> bool
+    /// Whether a cell may stand in a term. False only where none does.
+    pub fn has_cells(&self, id: TermId) -> bool
         requires { Holds self.now id }
-        ensures { (types : Table) → result ≡ has_nominal (reading types self.now id) }
+        ensures reads { result ≡ false → (types : Table) → variables (reading types self.now id) ≡ [] }
+        ensures tree { result ≡ false → (types : Table) → variables (tree_of types self.now id) ≡ [] }
     {
-        self.entries[id.0].nominals
+        self.facts(id).cells
     }
 
-    /// How far the free indices of the terms reach.
-    fn reach_of_all(&self, ids: &[TermId]) -> usize
-        requires { All (Holds self.now) ids.now }
-        ensures { (types : Table) → result ≡ tree.reach_of_all (terms_of (map (reading types self.now) ids.now)) }
+    /// Whether a bound cell may stand in a term. False only where none does, and the term reads as its tree.
+    pub fn has_bound_cells(&self, id: TermId) -> bool
+        requires { Holds self.now id }
+        ensures reads { result ≡ false → (types : Table) → reading types self.now id ≡ tree_of types self.now id }
+        ensures resolved { result ≡ false → IsResolved self.now id }
     {
-        let mut most = 0;
-        for id in ids {
-            most = larger(most, self.reach(*id));
-        }
-        most
+        let facts = self.facts(id);
+        let bound = self.has_bindings();
+        facts.cells && bound
     }
 
-    /// Whether a nominal constant stands in one of the terms.
-    fn any_nominals(&self, ids: &[TermId]) -> bool
-        requires { All (Holds self.now) ids.now }
-        ensures { (types : Table) → result ≡ any_has_nominal (terms_of (map (reading types self.now) ids.now)) }
+    /// What is known of a term.
+    fn facts(&self, id: TermId) -> Facts
+        requires { Holds self.now id }
+        ensures tree { (types : Table) → HoldOf result (tree_of types self.now id) }
+        ensures reads { (types : Table) → tree.reach (reading types self.now id) ≤ result.reach }
     {
-        let mut any = false;
+        self.entries[id.0].facts
+    }
+
+    /// What is known of the terms together.
+    fn facts_of_all(&self, ids: &[TermId]) -> Facts
+        requires { All (Holds self.now) ids.now }
+        ensures { (types : Table) → HoldOfAll result (terms_of (map (tree_of types self.now) ids.now)) }
+    {
+        let mut facts = Facts::of_nothing();
         for id in ids {
-            any = either(any, self.nominals(*id));
+            facts = facts.and(self.facts(*id));
         }
-        any
+        facts
     }
 
     /// Adds a node, with what is known of its term.
-    fn add(&mut self, node: Node, reach: usize, nominals: bool) -> Result<TermId, AllocError>
+    fn add(&mut self, node: Node, facts: Facts) -> Result<TermId, AllocError>
         requires names { NodeNames (length self.old.nodes) (length self.old.cells) node }
-        requires reach { (types : Table) → reach ≡ tree.reach (node_reading types self.old node) }
-        requires nominals { (types : Table) → nominals ≡ has_nominal (node_reading types self.old node) }
+        requires facts { (types : Table) → HoldOf facts (node_tree types self.old node) }
         ensures held { IfOk result (λ t. Holds self.new t) }
-        ensures reads { IfOk result (λ t. (types : Table) → reading types self.new t ≡ node_reading types self.old node) }
+        ensures tree { IfOk result (λ t. (types : Table) → tree_of types self.new t ≡ node_tree types self.old node) }
+        ensures reads { IfOk result (λ t. (types : Table) (G : List Ty) (A : Ty) →
+            IsTypedBy types self.old → IsTerm types self.new G t A →
+            reading types self.new t ≡ node_reading types self.old node) }
+        ensures put { IfOk result (λ t. (types : Table) →
+            reading types self.new t ≡ one_by_one same_number (pairs types self.old) (node_tree types self.old node)) }
         ensures typed { (types : Table) → IsTypedBy types self.old → NodeIsTyped types node → IsTypedBy types self.new }
         ensures before { IsExtendedBy self.old self.new }
         ensures cells { self.new.cells ≡ self.old.cells }
         ensures err { OnErr result (self.new ≡ self.old) }
     {
         let place = self.entries.len();
-        self.entries.push(Entry {
-            node,
-            reach,
-            nominals,
-        })?;
+        self.entries.push(Entry { node, facts })?;
         Ok(TermId(place))
-    }
-}
-
-fn larger(a: usize, b: usize) -> usize
-    ensures { result ≡ max a b }
-{
-    if a < b { b } else { a }
-}
-
-fn either(a: bool, b: bool) -> bool
-    ensures { result ≡ (a || b) }
-{
-    a || b
-}
-
-/// How far the index reaches that the head is, if it is one.
-fn head_reach(head: Head) -> Result<usize, AllocError>
-    ensures { IfOk result (λ n. (types : Table) (cells : List CellEntry) → n ≡ tree.head_reach (head_in types cells head)) }
-{
-    match head {
-        Head::Index(i) => match i.checked_add(1) {
-            Some(n) => Ok(n),
-            None => Err(AllocError),
-        },
-        _ => Ok(0),
-    }
-}
-
-fn is_nominal(head: Head) -> bool
-    ensures { (types : Table) (cells : List CellEntry) → result ≡ head_is_nominal (head_in types cells head) }
-{
-    match head {
-        Head::Nominal(_, _) => true,
-        _ => false,
     }
 }

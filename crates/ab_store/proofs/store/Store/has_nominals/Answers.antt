@@ -1,6 +1,8 @@
-use Rattle.ab_store.specs.Reading.{reading}
-use Rattle.ab_store.proofs.Kept.{without_exactly}
+use Rattle.std.proofs.Common.{◌∙◌, ap}
+use Rattle.ab_term.specs.Names.{support}
+use Rattle.ab_store.proofs.Kept.{plain_reads}
 use Rattle.ab_store.proofs.store.Store.has_nominals.Goals as goal
 
-pub returns : goal.returns
-returns c = λ types. without_exactly c.nominals.result (reading types c.args.self.now c.args.id) (c.nominals.ensures types)
+pub returns-else-facts-2-clause-reads : goal.returns-else-facts-2-clause-reads
+returns-else-facts-2-clause-reads c = λ no types.
+    ap support (plain_reads types c.args.self.now c.args.id ((c.facts-facts.ensures.tree types).cells no)) ∙ (c.facts-facts.ensures.tree types).nominals c.if-facts.false

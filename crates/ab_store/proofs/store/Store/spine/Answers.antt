@@ -1,21 +1,11 @@
-use Rattle.std.proofs.Common.{ap, sym, ◌∙◌, max, map, List, ◌||◌}
+use Rattle.std.proofs.Common.{◌∙◌, sym, subst, map, List}
 use Rattle.ab_term.specs.Terms.{terms_of}
-use Rattle.ab_term.specs.Reach as tree
 use Rattle.ab_store.specs.declared.node.TermId.{TermId}
-use Rattle.ab_store.specs.Reading.{reading, head_reading}
-use Rattle.ab_store.specs.Entries.{any_has_nominal, head_is_nominal}
+use Rattle.ab_store.specs.Trees.{tree_of}
+use Rattle.ab_store.specs.Entries.{HoldOfAll}
 use Rattle.ab_store.proofs.store.Store.spine.Goals as goal
 
-pub add-requires-clause-reach : goal.add-requires-clause-reach
-add-requires-clause-reach c = λ types.
-    c.larger-reach.ensures
-    ∙ ap (λ n. max n c.reach_of_all.result) (c.in_ok-head_reach.ensures types c.args.self.now.cells)
-    ∙ ap (max (tree.head_reach (head_reading types c.args.self.now c.args.head)))
-    (c.reach_of_all.ensures types ∙ ap (λ (l : List TermId). tree.reach_of_all (terms_of (map (reading types c.args.self.now) l))) (c.deref.ensures.value ∙ sym c.from_vec.ensures))
-
-pub add-requires-clause-nominals : goal.add-requires-clause-nominals
-add-requires-clause-nominals c = λ types.
-    c.either-nominals.ensures
-    ∙ ap (λ b. b || c.any_nominals.result) (c.is_nominal.ensures types c.args.self.now.cells)
-    ∙ ap (λ b. head_is_nominal (head_reading types c.args.self.now c.args.head) || b)
-    (c.any_nominals.ensures types ∙ ap (λ (l : List TermId). any_has_nominal (terms_of (map (reading types c.args.self.now) l))) (c.deref-2.ensures.value ∙ sym c.from_vec.ensures))
+pub add-requires-clause-facts : goal.add-requires-clause-facts
+add-requires-clause-facts c = λ types.
+    c.and-facts.ensures _ _ _ _ _ _ (c.in_ok-of_head.ensures types c.args.self.now.cells)
+    (subst (λ (l : List TermId). HoldOfAll c.facts_of_all.result (terms_of (map (tree_of types c.args.self.now) l))) (c.deref.ensures.value ∙ sym c.from_vec.ensures) (c.facts_of_all.ensures types))
