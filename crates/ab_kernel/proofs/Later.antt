@@ -17,7 +17,8 @@ use Rattle.ab_norm.specs.Nominals.{nominal_of, HoldsNominal}
 use Rattle.ab_rules.specs.declared.replaces.Replace.{Replace}
 use Rattle.ab_rules.specs.declared.step.Step.{Step}
 use Rattle.ab_rules.specs.declared.step.Step.TheVariants.{Initial, TrueRight, FalseLeft, AndRight, AndLeft, OrRight, OrLeft, ArrowRight, ArrowLeft, ForallRight, ForallLeft, ExistsRight, ExistsLeft, NablaRight, NablaLeft, EqualRight, EqualLeft, DefRight, DefLeft, Induction, Coinduction, CutFormula, UseTheorem, Weaken, SpecCut, SpecInst, SpecMonotone}
-use Rattle.ab_kernel.specs.declared.proving.Refinement.{Refinement}
+use Rattle.ab_kernel.specs.Nodes.{sequents_in}
+use Rattle.ab_kernel.specs.Layout.{StepAt, steps_in}
 use Rattle.ab_rules.specs.Answers.{step_of, HoldsStep, label_of, replacements}
 use Rattle.ab_rules.specs.Steps as plain
 use Rattle.ab_rules.specs.Rules.{IsNew}
@@ -108,21 +109,21 @@ module _ (w v : World) (grown : Grows w v) where
   still_step (SpecInst H rs l) h = All-weaker (λ (r : Replace). HoldsNominal w.types r.from × Holds w r.to) (λ (r : Replace). HoldsNominal v.types r.from × Holds v r.to) (λ r q. (still_nominal r q.0, grown.ids r.to q.1)) rs h
   still_step (SpecMonotone H K l) h = grown.ids K h
 
-  same_made : (ss : List Sequent) (rs : List Refinement) → All (λ (r : Refinement). HoldsStep w r.step) rs → made_by v ss rs ≡ made_by w ss rs
+  same_made : (ss : List Sequent) (rs : List StepAt) → All (λ (r : StepAt). HoldsStep w r.step) rs → made_by v ss rs ≡ made_by w ss rs
   same_made ss [] all = refl
   same_made ss (r ∷ rs) all =
-      ap (λ k. after r.place k (premises_of r ss) (made_by v (sequents_before r ss) rs)) (same_step r.step (All-head (λ (q : Refinement). HoldsStep w q.step) r rs all))
-      ∙ ap (after r.place (step_of w r.step) (premises_of r ss)) (same_made (sequents_before r ss) rs (All-tail (λ (q : Refinement). HoldsStep w q.step) r rs all))
+      ap (λ k. after r.place k (premises_of r ss) (made_by v (sequents_before r ss) rs)) (same_step r.step (All-head (λ (q : StepAt). HoldsStep w q.step) r rs all))
+      ∙ ap (after r.place (step_of w r.step) (premises_of r ss)) (same_made (sequents_before r ss) rs (All-tail (λ (q : StepAt). HoldsStep w q.step) r rs all))
 
   pub same_history : (p : Held) → IsProof w p → history_of v p ≡ history_of w p
   same_history p proof =
-      ap (λ ss. made_by v ss p.steps) (map_same (sequent_of v) (sequent_of w) (HoldsSequent w) (same_sequent w v grown) p.sequents proof.sequents)
-      ∙ same_made (map (sequent_of w) p.sequents) p.steps proof.steps
+      ap (λ ss. made_by v ss (steps_in p.nodes p.journal)) (map_same (sequent_of v) (sequent_of w) (HoldsSequent w) (same_sequent w v grown) (sequents_in p.nodes) proof.sequents)
+      ∙ same_made (map (sequent_of w) (sequents_in p.nodes)) (steps_in p.nodes p.journal) proof.steps
 
   pub still_proof : (p : Held) → IsProof w p → IsProof v p
   still_proof p proof = record {
-    sequents = All-weaker (HoldsSequent w) (HoldsSequent v) (still_held w v grown) p.sequents proof.sequents;
-    steps = All-weaker (λ (r : Refinement). HoldsStep w r.step) (λ (r : Refinement). HoldsStep v r.step) (λ r. still_step r.step) p.steps proof.steps;
+    sequents = All-weaker (HoldsSequent w) (HoldsSequent v) (still_held w v grown) (sequents_in p.nodes) proof.sequents;
+    steps = All-weaker (λ (r : StepAt). HoldsStep w r.step) (λ (r : StepAt). HoldsStep v r.step) (λ r. still_step r.step) (steps_in p.nodes p.journal) proof.steps;
     valid = subst (λ (h : History). Valid (declarations_of v) h.tree) (sym (same_history p proof)) (still_valid (declarations_of w) (declarations_of v) grown.declarations (history_of w p).tree proof.valid);
     was_valid =
         subst (λ (h : History). All (Valid (declarations_of v)) h.earlier) (sym (same_history p proof))

@@ -1,4 +1,6 @@
 pub mod Splits
+pub mod Filling
+pub mod Hand
 pub mod Placing
 pub mod Refining
 pub mod Standing
@@ -6,3 +8,5 @@ pub mod Taking
 pub mod TakingBack
 pub mod Later
 pub mod Refines
+pub mod Back
+pub mod Adding

@@ -13,7 +13,8 @@ use Rattle.ab_logic.specs.declared.sequent.Sequent.{Sequent as Kept}
 use Rattle.ab_rules.specs.declared.step.Step.{Step}
 use Rattle.ab_rules.specs.declared.step.KernelFault.{KernelFault}
 use Rattle.ab_rules.specs.declared.step.KernelFault.TheVariants.{RuleFails, NotPattern, Memory}
-use Rattle.ab_kernel.specs.declared.proving.Refinement.{Refinement}
+use Rattle.ab_kernel.specs.Nodes.{sequents_in}
+use Rattle.ab_kernel.specs.Layout.{StepAt, steps_in}
 use Rattle.ab_rules.specs.Row.{FailsFirst}
 use Rattle.ab_rules.specs.Rules.{row, Rule, NamedRule, Fails, any_name, by_hint}
 use Rattle.ab_rules.proofs.Longer.{any_named}
@@ -22,6 +23,9 @@ use Rattle.ab_kernel.specs.Derivation.{Derivation, Valid, goal_at, GoalFails, Hi
 use Rattle.ab_kernel.specs.Layout.{Held, Stands, history_of, IsProof}
 use Rattle.std.proofs.lemmas.List.{length-map}
 use Rattle.std.proofs.lemmas.Option.{slice_get_within}
+use Rattle.ab_kernel.specs.declared.node.ProofNode.{ProofNode}
+use Rattle.ab_kernel.specs.declared.proving.Refinement.{Refinement}
+use Rattle.ab_kernel.proofs.Filling.{sequent_read}
 use Rattle.ab_kernel.proofs.Standing.{reads_now, leads}
 use Rattle.ab_kernel.proofs.Taking.{goal_taken}
 use Rattle.ab_rules.proofs.OneAnswer.{never_both, one_failure, any_new}
@@ -81,16 +85,16 @@ module _ (w v : World) (grown : Grows w v) (p q : Held) (proof : IsProof w p) (k
   pub rule_now : (D : Declarations) (s : Sequent) (ps : List Sequent) → NamedRule D (step_of w kept) s ps → NamedRule D (step_of v kept) s ps
   rule_now D s ps rule = subst (λ t. NamedRule D t s ps) (sym (same_step w v grown kept holds)) rule
 
-  pub proof_after : (made : List Kept) (r : Refinement) (place : ℕ) (s : Sequent)
+  pub proof_after : (made : List Kept) (r : StepAt) (place : ℕ) (s : Sequent)
       → history_of v q ≡ after place (step_of v kept) (map (sequent_of v) made) (history_of w p)
-      → q.sequents ≡ p.sequents ++ made → q.steps ≡ r ∷ p.steps → r.step ≡ kept → All (HoldsSequent v) made
+      → (sequents_in q.nodes) ≡ (sequents_in p.nodes) ++ made → (steps_in q.nodes q.journal) ≡ r ∷ (steps_in p.nodes p.journal) → r.step ≡ kept → All (HoldsSequent v) made
       → goal_at (history_of w p).tree place ≡ Some s → NamedRule (declarations_of w) (step_of w kept) s (map (sequent_of v) made) → IsProof v q
   proof_after made r place s is sequents steps same held goal rule =
       let still = still_proof w v grown p proof in
       let there : HoldsStep v r.step = subst (HoldsStep v) (sym same) (still_step w v grown kept holds) in
       record {
-        sequents = subst (All (HoldsSequent v)) (sym sequents) (All-append (HoldsSequent v) p.sequents made still.sequents held);
-        steps = subst (All (λ (r : Refinement). HoldsStep v r.step)) (sym steps) (All-cons (λ (r : Refinement). HoldsStep v r.step) r p.steps there still.steps);
+        sequents = subst (All (HoldsSequent v)) (sym sequents) (All-append (HoldsSequent v) (sequents_in p.nodes) made still.sequents held);
+        steps = subst (All (λ (r : StepAt). HoldsStep v r.step)) (sym steps) (All-cons (λ (r : StepAt). HoldsStep v r.step) r (steps_in p.nodes p.journal) there still.steps);
         valid =
             subst (λ (h : History). Valid (declarations_of v) h.tree) (sym is)
             (still_valid (declarations_of w) (declarations_of v) grown.declarations (refined place (step_of v kept) (map (sequent_of v) made) (history_of w p).tree)
@@ -107,15 +111,17 @@ pub record Here (w : World) (p : Held) (place : ℕ) (x : Kept) : Type 0 where
   pub held : HoldsSequent w x
   pub is_goal : goal_at (history_of w p).tree place ≡ Some (sequent_of w x)
 
-pub here : (w : World) (items : List Kept) (ns : List ℕ) (rs : List Refinement) (p : Held) (place at node : ℕ) (x : Kept)
-    → Stands w (map (sequent_of w) items) ns rs → record { sequents = items; steps = rs } ≡ p → IsProof w p
-    → place + at + 1 ≡ length ns → node ≡ get_or ns at node → x ≡ get_or items node x → Here w p place x
-here w items ns rs p place at node x stands is proof e is_node is_x =
-    let found = leads place at node (reads_now w (map (sequent_of w) items) ns rs stands) e is_node in
+pub here : (w : World) (nodes : List ProofNode) (ns : List ℕ) (js : List Refinement) (p : Held) (place at node : ℕ) (n : ProofNode)
+    → Stands w (map (sequent_of w) (sequents_in nodes)) ns (steps_in nodes js) → record { nodes = nodes; journal = js } ≡ p → IsProof w p
+    → place + at + 1 ≡ length ns → node ≡ get_or ns at node → n ≡ get_or nodes node n → Here w p place n.sequent
+here w nodes ns js p place at node n stands is proof e is_node is_n =
+    let items = sequents_in nodes in
+    let is_x = sequent_read nodes node n is_n in
+    let found = leads place at node (reads_now w (map (sequent_of w) items) ns (steps_in nodes js) stands) e is_node in
     let inside : node < length items = rw (sym (length-map items (sequent_of w))) (slice_get_within (map (sequent_of w) items) node found.0 found.1) in
     record {
-      held = held_at w items node x (subst (λ (q : Held). All (HoldsSequent w) q.sequents) (sym is) proof.sequents) inside is_x;
-      is_goal = goal_taken w items ns rs (history_of w p) place at node x stands (ap (history_of w) is) e is_node is_x;
+      held = held_at w items node n.sequent (subst (λ (q : Held). All (HoldsSequent w) (sequents_in q.nodes)) (sym is) proof.sequents) inside is_x;
+      is_goal = goal_taken w items ns (steps_in nodes js) (history_of w p) place at node n.sequent stands (ap (history_of w) is) e is_node is_x;
     }
 
 -- the history under the world that the step left

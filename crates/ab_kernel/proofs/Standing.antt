@@ -6,7 +6,8 @@ use Rattle.std.proofs.lemmas.Option.{slice_get_within, get_or_from_slice_get, sl
 use Rattle.std.proofs.lemmas.Bool.{eqb-true, eq-eqb}
 use Rattle.std.proofs.Math.Seq.{take-suc}
 use Rattle.ab_rules.specs.Steps.{Step}
-use Rattle.ab_kernel.specs.declared.proving.Refinement.{Refinement}
+use Rattle.ab_kernel.specs.Nodes.{sequents_in}
+use Rattle.ab_kernel.specs.Layout.{StepAt, steps_in}
 use Rattle.std.specs.Option.{option_map}
 use Rattle.ab_logic.specs.declared.world.World.{World}
 use Rattle.ab_logic.specs.declared.sequent.Sequent.{Sequent as Kept}
@@ -22,7 +23,7 @@ use Rattle.ab_kernel.proofs.Splits.{At, at_place, at_reversed, cut_images, withi
 use Rattle.ab_kernel.proofs.Placing.{length-numbers_down}
 use Rattle.ab_kernel.proofs.Refining.{root-refined, open_goals-refined}
 
-pub reads_now : (w : World) (ss : List Sequent) (ns : List ℕ) (rs : List Refinement) → Stands w ss ns rs → Reads ss ns (made_by w ss rs).tree
+pub reads_now : (w : World) (ss : List Sequent) (ns : List ℕ) (rs : List StepAt) → Stands w ss ns rs → Reads ss ns (made_by w ss rs).tree
 reads_now w ss ns [] s = s
 reads_now w ss ns (r ∷ rs) s = s.0
 
@@ -90,14 +91,14 @@ new_reads ss ps = new_reads_to ss ps (length ps) (omega arith) ∙ ap (λ qs. ma
     take-all (q ∷ qs) = ap (λ rs. q ∷ rs) (take-all qs)
 
 -- a step, taken
-module _ (w : World) (ss : List Sequent) (ns : List ℕ) (rs : List Refinement) (stands : Stands w ss ns rs) (kept : KeptStep) (ps : List Sequent) (place at number : ℕ) where
+module _ (w : World) (ss : List Sequent) (ns : List ℕ) (rs : List StepAt) (stands : Stands w ss ns rs) (kept : KeptStep) (ps : List Sequent) (place at number : ℕ) where
   abbrev h : History
   h = made_by w ss rs
 
   abbrev step : Step
   step = step_of w kept
 
-  abbrev r : Refinement
+  abbrev r : StepAt
   r = record { step = kept; place = place; node = number; premises = length ps }
 
   abbrev new_numbers : List ℕ
@@ -171,7 +172,7 @@ module _ (w : World) (ss : List Sequent) (ns : List ℕ) (rs : List Refinement) 
     starts : start_of r new_numbers ≡ at
     starts = omega (arith, counted_numbers)
 
-    restored : open_before r new_numbers ≡ ns
+    pub restored : open_before r new_numbers ≡ ns
     restored =
         let whole : ns ≡ take at ns ++ number ∷ drop (at + 1) ns = (at_place ns at number is_number).whole in
         let shorter : length (take at ns) ≡ at = (at_place ns at number is_number).counted in
@@ -207,7 +208,7 @@ module _ (w : World) (ss : List Sequent) (ns : List ℕ) (rs : List Refinement) 
       kept_root = root-refined step ps place h.tree;
     }
 
-pub as_many_steps : (w : World) (ss : List Sequent) (rs : List Refinement) → length (made_by w ss rs).earlier ≡ length rs
+pub as_many_steps : (w : World) (ss : List Sequent) (rs : List StepAt) → length (made_by w ss rs).earlier ≡ length rs
 as_many_steps w ss [] = refl
 as_many_steps w ss (r ∷ rs) = ap suc (as_many_steps w (sequents_before r ss) rs)
 
@@ -227,7 +228,7 @@ kept_at w items n x s e is =
     cc
 
 -- no goal is open exactly where there is no number
-pub closed_exactly : (w : World) (ss : List Sequent) (ns : List ℕ) (rs : List Refinement) (h : History) (n : ℕ) (b : Bool)
+pub closed_exactly : (w : World) (ss : List Sequent) (ns : List ℕ) (rs : List StepAt) (h : History) (n : ℕ) (b : Bool)
     → Stands w ss ns rs → made_by w ss rs ≡ h → n ≡ length ns → b ≡ (n == 0) → IsTrue b ↔ (open_goals h.tree ≡ [])
 closed_exactly w ss ns rs h n b stands made counted is =
     subst (λ k. IsTrue b ↔ (open_goals k.tree ≡ [])) made

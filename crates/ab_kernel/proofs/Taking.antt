@@ -7,7 +7,8 @@ use Rattle.std.proofs.lemmas.List.{reverse-append, map-append, length-map}
 use Rattle.std.proofs.lemmas.List.Elements.{All-cons, All-weaker}
 use Rattle.ab_logic.specs.declared.world.World.{World}
 use Rattle.ab_rules.specs.declared.step.Step.{Step}
-use Rattle.ab_kernel.specs.declared.proving.Refinement.{Refinement}
+use Rattle.ab_kernel.specs.Nodes.{sequents_in}
+use Rattle.ab_kernel.specs.Layout.{StepAt, steps_in}
 use Rattle.ab_logic.specs.declared.sequent.Sequent.{Sequent as Kept}
 use Rattle.ab_logic.specs.Sequents.{Sequent}
 use Rattle.ab_logic.specs.Readings.{sequent_of}
@@ -22,13 +23,13 @@ pub err_is : {T E : Type 0} (r : Result T E) (f : E) → IsErrAnd r (λ e. e ≡
 err_is (Ok x) f h = absurd h
 err_is (Err e) f h = ap Err h
 
-pub in_range : (w : World) (ss : List Sequent) (ns : List ℕ) (rs : List Refinement) (h : History) (place : ℕ)
+pub in_range : (w : World) (ss : List Sequent) (ns : List ℕ) (rs : List StepAt) (h : History) (place : ℕ)
     → Stands w ss ns rs → made_by w ss rs ≡ h → place < length (open_goals h.tree) → place < length ns
 in_range w ss ns rs h place stands made inside =
     omega (arith, as_many (reads_now w ss ns rs stands), ap (λ k. length (open_goals k.tree)) made)
 
 -- the sequent that is read is that of the goal
-pub goal_taken : (w : World) (items : List Kept) (ns : List ℕ) (rs : List Refinement) (h : History) (place at n : ℕ) (x : Kept)
+pub goal_taken : (w : World) (items : List Kept) (ns : List ℕ) (rs : List StepAt) (h : History) (place at n : ℕ) (x : Kept)
     → Stands w (map (sequent_of w) items) ns rs → made_by w (map (sequent_of w) items) rs ≡ h → place + at + 1 ≡ length ns
     → n ≡ get_or ns at n → x ≡ get_or items n x → slice_get (open_goals h.tree) place ≡ Some (sequent_of w x)
 goal_taken w items ns rs h place at n x stands made e is_n is_x =
@@ -36,44 +37,43 @@ goal_taken w items ns rs h place at n x stands made e is_n is_x =
     let same = kept_at w items n x found.0 found.1 is_x in
     ap (λ k. slice_get (open_goals k.tree) place) (sym made) ∙ found.2 ∙ ap Some (sym same)
 
-pub record Taken (w : World) (ss : List Sequent) (ns : List ℕ) (rs : List Refinement) (place : ℕ) (step : Step) (count : ℕ) (premises : List Sequent) (s : Sequent) (h : History) : Type 0 where
+pub record Taken (w : World) (ss : List Sequent) (ns : List ℕ) (rs : List StepAt) (place : ℕ) (step : Step) (count : ℕ) (premises : List Sequent) (s : Sequent) (h : History) : Type 0 where
   pub stands : Stands w ss ns rs
   pub made : made_by w ss rs ≡ after place (step_of w step) premises h
   pub by_step : (D : Declarations) → NamedRule D (step_of w step) s premises → IsStep D place (step_of w step) count h (made_by w ss rs)
 
-pub taken : (w : World) (items made items' : List Kept) (ns ns' : List ℕ) (js js' : List Refinement) (h : History) (place at node first count : ℕ) (step : Step) (s : Sequent)
-    → Stands w (map (sequent_of w) items) ns (reverse js) → made_by w (map (sequent_of w) items) (reverse js) ≡ h
+pub taken : (w : World) (items made items' : List Kept) (ns ns' : List ℕ) (rs rs' : List StepAt) (h : History) (place at node first count : ℕ) (step : Step) (s : Sequent)
+    → Stands w (map (sequent_of w) items) ns rs → made_by w (map (sequent_of w) items) rs ≡ h
     → slice_get (open_goals h.tree) place ≡ Some s
     → place + at + 1 ≡ length ns → node ≡ get_or ns at node → first ≡ length items → count ≡ length made
     → items' ≡ items ++ made
     → ns' ≡ take at ns ++ numbers_down first count ++ drop (at + 1) ns
-    → js' ≡ js ++ record { step = step; place = place; node = node; premises = count } ∷ []
-    → Taken w (map (sequent_of w) items') ns' (reverse js') place step count (map (sequent_of w) made) s h
-taken w items made items' ns ns' js js' h place at node first count step s stands is is_goal e is_node is_first is_count is_items is_ns is_js =
+    → rs' ≡ record { step = step; place = place; node = node; premises = count } ∷ rs
+    → Taken w (map (sequent_of w) items') ns' rs' place step count (map (sequent_of w) made) s h
+taken w items made items' ns ns' rs rs' h place at node first count step s stands is is_goal e is_node is_first is_count is_items is_ns is_rs =
     let ss = map (sequent_of w) items in
     let ps = map (sequent_of w) made in
     let first_is : first ≡ length ss = is_first ∙ sym (length-map items (sequent_of w)) in
     let count_is : count ≡ length ps = is_count ∙ sym (length-map made (sequent_of w)) in
     let sequents : map (sequent_of w) items' ≡ ss ++ ps = ap (map (sequent_of w)) is_items ∙ map-append (sequent_of w) items made in
-    let found = leads place at node (reads_now w ss ns (reverse js) stands) e is_node in
-    let there : slice_get (open_goals (made_by w ss (reverse js)).tree) place ≡ Some s = ap (λ k. slice_get (open_goals k.tree) place) is ∙ is_goal in
-    let r : ℕ → Refinement = λ n. record { step = step; place = place; node = node; premises = n } in
+    let found = leads place at node (reads_now w ss ns rs stands) e is_node in
+    let there : slice_get (open_goals (made_by w ss rs).tree) place ≡ Some s = ap (λ k. slice_get (open_goals k.tree) place) is ∙ is_goal in
+    let r : ℕ → StepAt = λ n. record { step = step; place = place; node = node; premises = n } in
     let numbers : ns' ≡ take at ns ++ numbers_down (length ss) (length ps) ++ drop (at + 1) ns =
     is_ns
     ∙ ap (λ n. take at ns ++ numbers_down n count ++ drop (at + 1) ns) first_is
     ∙ ap (λ n. take at ns ++ numbers_down (length ss) n ++ drop (at + 1) ns) count_is in
-    let steps : reverse js' ≡ r (length ps) ∷ reverse js =
-    ap reverse is_js ∙ reverse-append js (r count ∷ []) ∙ ap (λ n. r n ∷ reverse js) count_is in
-    let made_is = made_after w ss ns (reverse js) stands step ps place at node in
-    let stands_now = stands_after w ss ns (reverse js) stands step ps place at node s e found.3 there in
-    let step_now = is_step w ss ns (reverse js) stands step ps place at node s e found.3 there in
-    let whole : made_by w (map (sequent_of w) items') (reverse js') ≡ after place (step_of w step) ps h =
-    ap (λ qs. made_by w qs (reverse js')) sequents ∙ ap (λ rs. made_by w (ss ++ ps) rs) steps ∙ made_is ∙ ap (after place (step_of w step) ps) is in
+    let steps : rs' ≡ r (length ps) ∷ rs = is_rs ∙ ap (λ n. r n ∷ rs) count_is in
+    let made_is = made_after w ss ns rs stands step ps place at node in
+    let stands_now = stands_after w ss ns rs stands step ps place at node s e found.3 there in
+    let step_now = is_step w ss ns rs stands step ps place at node s e found.3 there in
+    let whole : made_by w (map (sequent_of w) items') rs' ≡ after place (step_of w step) ps h =
+    ap (λ qs. made_by w qs rs') sequents ∙ ap (λ us. made_by w (ss ++ ps) us) steps ∙ made_is ∙ ap (after place (step_of w step) ps) is in
     record {
       stands =
-          subst (λ qs. Stands w qs ns' (reverse js')) (sym sequents)
-          (subst (λ ms. Stands w (ss ++ ps) ms (reverse js')) (sym numbers)
-          (subst (λ rs. Stands w (ss ++ ps) (take at ns ++ numbers_down (length ss) (length ps) ++ drop (at + 1) ns) rs) (sym steps) stands_now));
+          subst (λ qs. Stands w qs ns' rs') (sym sequents)
+          (subst (λ ms. Stands w (ss ++ ps) ms rs') (sym numbers)
+          (subst (λ us. Stands w (ss ++ ps) (take at ns ++ numbers_down (length ss) (length ps) ++ drop (at + 1) ns) us) (sym steps) stands_now));
       made = whole;
       by_step = λ D rule.
           subst (λ k. IsStep D place (step_of w step) count h k) (sym whole)

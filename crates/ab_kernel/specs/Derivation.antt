@@ -1,5 +1,5 @@
 -- Derivations with open goals, when they are valid, and when one derives a formula.
-use Rattle.std.specs.Prelude.{◌≡◌, ℕ, zero, suc, ◌+◌, ◌-◌, List, [], ◌∷◌, ◌++◌, length, take, drop, Option, Some, slice_get, nat_lt, if◌then◌else◌}
+use Rattle.std.specs.Prelude.{◌≡◌, ℕ, zero, suc, ◌+◌, ◌-◌, ◌≤◌, List, [], ◌∷◌, ◌++◌, length, take, drop, Option, Some, slice_get, nat_lt, if◌then◌else◌}
 use Rattle.ab_store.specs.Reading.{Read}
 use Rattle.ab_logic.specs.Sequents.{Sequent}
 use Rattle.ab_logic.specs.Declarations.{Declarations}
@@ -119,3 +119,9 @@ pub record IsStep (D : Declarations) (place : ℕ) (step : Step) (count : ℕ) (
       open_goals new.tree
       ≡ take place (open_goals old.tree) ++ premises ++ drop (place + 1) (open_goals old.tree)
   pub kept_root : root new.tree ≡ root old.tree
+
+-- SOME STEPS MORE were taken, and none back
+pub record Above (old new : History) : Type 0 where
+  pub more : length old.earlier ≤ length new.earlier
+  pub back : undone (length new.earlier - length old.earlier) new ≡ old
+  pub rooted : root new.tree ≡ root old.tree

@@ -1,12 +1,12 @@
 //! Laws of derivations, which no other contract carries.
-ghost use Rattle.std.specs.Prelude.{◌≡◌, ℕ, List, Some};
+ghost use Rattle.std.specs.Prelude.{◌≡◌, ℕ, ◌+◌, List, ◌∷◌, ◌++◌, length, Some};
 ghost use Rattle.ab_logic.specs.Declarations.{Declarations, Extends};
 ghost use Rattle.ab_logic.specs.Growth.{Grows};
 ghost use Rattle.ab_logic.specs.Sequents.{Sequent};
 ghost use Rattle.ab_logic.specs.declared.world.World.{World};
 ghost use Rattle.ab_rules.specs.Steps.{Step};
-ghost use Rattle.ab_rules.specs.Rules.{Rule};
-ghost use Rattle.ab_kernel.specs.Derivation.{Derivation, Valid, goal_at, refined};
+ghost use Rattle.ab_rules.specs.Rules.{Rule, NamedRule, Fails};
+ghost use Rattle.ab_kernel.specs.Derivation.{Derivation, Valid, goal_at, refined, open_goals, History, IsStep, GoalFails, undone, Above};
 ghost use Rattle.ab_kernel.specs.Layout.{Held, IsProof, history_of};
 
 /// A step that is taken by its rule at an open goal keeps a derivation valid.
@@ -24,4 +24,22 @@ pub fn validity_outlives_declarations()
 pub fn a_proof_outlives_its_world()
     ensures proof { (w v : World) → Grows w v → (p : Held) → IsProof w p → IsProof v p }
     ensures history { (w v : World) → Grows w v → (p : Held) → IsProof w p → history_of v p ≡ history_of w p }
+{}
+
+/// A step, seen among the open goals: its premises take its goal's place between those before it and those behind it.
+/// Where its rule fails, it fails at that goal.
+pub fn a_step_at_a_split()
+    ensures taken { (D : Declarations) (place n : ℕ) (step : Step) (old new : History) (before behind : List Sequent) (s : Sequent) →
+        IsStep D place step n old new → open_goals old.tree ≡ before ++ s ∷ behind → length before ≡ place →
+        (ps : List Sequent) × NamedRule D step s ps × (length ps ≡ n) × (open_goals new.tree ≡ before ++ ps ++ behind) }
+    ensures failed { (D : Declarations) (place i : ℕ) (step : Step) (d : Derivation) (before behind : List Sequent) (s : Sequent) →
+        GoalFails D place step i d → open_goals d ≡ before ++ s ∷ behind → length before ≡ place → Fails D step s i }
+{}
+
+/// Steps add up, and as many taken back give the proof as it was.
+pub fn steps_add_up()
+    ensures none { (h : History) → Above h h }
+    ensures one { (D : Declarations) (place n : ℕ) (step : Step) (old new : History) → IsStep D place step n old new → Above old new }
+    ensures more { (h k m : History) → Above h k → Above k m → Above h m }
+    ensures undone { (h : History) (n m : ℕ) → undone m (undone n h) ≡ undone (n + m) h }
 {}

@@ -2,8 +2,10 @@
 #![tactic(auto)]
 
 pub mod laws;
+mod node;
 mod places;
 mod proving;
 
 pub use ab_rules::{KernelFault, Label, Replace, Replaces, Step};
+pub use node::{Children, ProofNode};
 pub use proving::{Proof, Refinement};

@@ -1,17 +1,22 @@
 //! Proofs in progress: derivations with open goals, made by steps of the rules alone.
-ghost use Rattle.std.specs.Prelude.{◌≡◌, ℕ, ◌+◌, ◌<◌, ◌≤◌, [], ◌++◌, ◌↔◌, ◌⊎◌, length, IsTrue, IfOk, MatchOption, ◌∷◌, OnOk, OnErr, vec_len, vec_capacity};
+ghost use Rattle.std.specs.Prelude.{◌≡◌, ℕ, ◌+◌, ◌<◌, ◌≤◌, [], ◌++◌, ◌↔◌, ◌⊎◌, length, IsTrue, IfOk, MatchOption, ◌∷◌, OnOk, OnErr, map, slice_get, vec_len, vec_capacity};
 ghost use Rattle.std.specs.Option.{option_copied, option_map};
 ghost use Rattle.ab_logic.specs.Worlds.{IsWorld, Holds, read, declarations_of};
 ghost use Rattle.ab_logic.specs.Growth.{Grows};
 ghost use Rattle.ab_logic.specs.declared.world.World.{World as AWorld};
 ghost use Rattle.ab_logic.specs.Readings.{sequent_of};
 ghost use Rattle.ab_store.specs.Reading.{Read};
+ghost use Rattle.ab_term.specs.Names.{support};
+ghost use Rattle.ab_term.specs.Variables.{variables};
+ghost use Rattle.ab_logic.specs.Declarations.{signature_in};
+ghost use Rattle.ab_logic.specs.Formulas.{IsFormula, HasOneTypeEach};
 ghost use Rattle.ab_rules.specs.Answers.{step_of, HoldsStep, IsMemory};
 ghost use Rattle.ab_rules.specs.declared.step.KernelFault.{KernelFault};
 ghost use Rattle.ab_kernel.specs.Derivation.{root, Valid, open_goals, goal_at, IsDerivation, beginning, proves, IsStep, GoalFails, undone};
 ghost use Rattle.ab_kernel.specs.Layout.{history_of, IsProof};
-ghost use Rattle.ab_rules.specs.declared.step.Step.{Step as AStep};
+ghost use Rattle.ab_kernel.specs.Nodes.{open_node, numbers_up};
 
+use crate::node::{Children, ProofNode, clear_at, fill_at, take_in};
 use crate::places::{replace_goal, restore_goal};
 use ab_logic::{Hypotheses, Sequent, Variables, World};
 use ab_rules::{KernelFault, Step, premises};
@@ -20,13 +25,12 @@ use ab_types::Steps;
 use std::alloc::{AllocError, Global};
 use std::marker::Model;
 
-/// A step that was taken, and what it takes to take it back.
-#[derive(Drop)]
+/// What it takes to take a step back.
+#[derive(Clone, Copy, Debug)]
 pub struct Refinement {
-    pub(crate) step: Step,
     /// The place of its goal among the open goals, from 0 at the left.
     pub(crate) place: usize,
-    /// The number of that goal's sequent.
+    /// The number of that goal's node.
     pub(crate) node: usize,
     /// How many premises took its place.
     pub(crate) premises: usize,
@@ -35,9 +39,8 @@ pub struct Refinement {
 /// A derivation with open goals.
 #[derive(Drop)]
 pub struct Proof {
-    /// The sequents of the derivation's nodes. The root has the number 0, and each step's premises
-    /// have the next ones.
-    sequents: Vec<Sequent>,
+    /// The derivation's nodes. The root has the number 0, and each step's premises have the next ones.
+    nodes: Vec<ProofNode>,
     /// The numbers of the open goals, the first goal last.
     open: Vec<usize>,
     /// The steps that stand, the latest last.
@@ -56,55 +59,49 @@ impl Model for Proof {
     ghost invariant = { IsSound };
 }
 
-/// Puts the premises behind the sequents, and makes room for their numbers and for the step.
-fn take_in(
-    sequents: &mut Vec<Sequent>,
+/// Makes room for so many more goals, and for a step.
+fn make_room(
     numbers: &mut Vec<usize>,
     journal: &mut Vec<Refinement>,
-    premises: &mut Vec<Sequent>,
+    count: usize,
 ) -> Result<(), AllocError>
-    ensures added { OnOk result (sequents.new.items ≡ sequents.old.items ++ premises.old.items) }
-    ensures err { OnErr result (sequents.new.items ≡ sequents.old.items) }
     ensures numbers { numbers.new.items ≡ numbers.old.items }
     ensures journal { journal.new.items ≡ journal.old.items }
-    ensures numbers_room { OnOk result (vec_len numbers.old + vec_len premises.old ≤ vec_capacity numbers.new) }
+    ensures numbers_room { OnOk result (vec_len numbers.old + count ≤ vec_capacity numbers.new) }
     ensures journal_room { OnOk result (vec_len journal.new < vec_capacity journal.new) }
     ensures capacity { vec_capacity numbers.old ≤ vec_capacity numbers.new }
 {
-    numbers.reserve(premises.len())?;
-    journal.reserve(1)?;
-    sequents.append(premises)
+    numbers.reserve(count)?;
+    journal.reserve(1)
 }
 
-/// Where a step was taken, and what it made.
-#[derive(Clone, Copy)]
-struct Last {
-    place: usize,
-    node: usize,
-    premises: usize,
-}
-
-/// What is to be known of a step to take it back. The step itself goes.
-fn place_of(last: Refinement) -> Last
-    ensures { (result.place ≡ last.place) × (result.node ≡ last.node) × (result.premises ≡ last.premises) }
+/// Puts the premises behind the nodes, and makes room for their numbers and for the step.
+fn prepare(
+    alloc: Global,
+    nodes: &mut Vec<ProofNode>,
+    numbers: &mut Vec<usize>,
+    journal: &mut Vec<Refinement>,
+    premises: Vec<Sequent>,
+) -> Result<Children, AllocError>
+    ensures children { IfOk result (λ children. children ≡ numbers_up (length nodes.old.items) (length premises.items)) }
+    ensures added { OnOk result (nodes.new.items ≡ nodes.old.items ++ map open_node premises.items) }
+    ensures err { OnErr result (nodes.new.items ≡ nodes.old.items) }
+    ensures numbers { numbers.new.items ≡ numbers.old.items }
+    ensures journal { journal.new.items ≡ journal.old.items }
+    ensures numbers_room { OnOk result (vec_len numbers.old + vec_len premises ≤ vec_capacity numbers.new) }
+    ensures journal_room { OnOk result (vec_len journal.new < vec_capacity journal.new) }
+    ensures capacity { vec_capacity numbers.old ≤ vec_capacity numbers.new }
 {
-    Last {
-        place: last.place,
-        node: last.node,
-        premises: last.premises,
-    }
+    make_room(numbers, journal, premises.len())?;
+    take_in(alloc, nodes, premises)
 }
 
-/// Takes the last step out of the journal.
-fn take_last(journal: &mut Vec<Refinement>) -> Option<Last>
-    ensures { MatchOption result
-        ((journal.old.items ≡ []) × (journal.new.items ≡ []))
-        (λ last. (step : AStep) × (journal.old.items
-        ≡ journal.new.items ++ record { step = step; place = last.place; node = last.node; premises = last.premises } ∷ [])) }
+/// Counts a step of work for each premise.
+fn count_premises<L>(count: usize, steps: &mut Steps<L>)
+    ensures { steps.new ≡ steps.old + count }
 {
-    match journal.pop() {
-        None => None,
-        Some(last) => Some(place_of(last)),
+    for _ in 0..count {
+        steps.tick();
     }
 }
 
@@ -116,21 +113,27 @@ impl Proof {
         formula: TermId,
         counter: u32,
     ) -> Result<Proof, AllocError>
-        requires { Holds world.now formula }
+        requires world { IsWorld world.now }
+        requires formula { Holds world.now formula }
+        requires is_formula { IsFormula (signature_in (declarations_of world.now)) (read world.now formula) }
+        requires closed { variables (read world.now formula) ≡ [] }
+        requires one_type { HasOneTypeEach (support (read world.now formula)) }
+        requires counter { counter ≤ 999999999 }
         ensures begins { IfOk result (λ p. history_of world.now p ≡ beginning (proves (read world.now formula) counter)) }
         ensures proof { IfOk result (IsProof world.now) }
     {
-        let mut sequents = Vec::new(alloc);
-        sequents.push(Sequent {
+        let root = Sequent {
             variables: Variables::from_vec(Vec::new(alloc)),
             hypotheses: Hypotheses::from_vec(Vec::new(alloc)),
             conclusion: formula,
             counter,
-        })?;
+        };
+        let mut nodes = Vec::new(alloc);
+        nodes.push(ProofNode::open(alloc, root))?;
         let mut open = Vec::new(alloc);
         open.push(0)?;
         Ok(Proof {
-            sequents,
+            nodes,
             open,
             journal: Vec::new(alloc),
         })
@@ -156,11 +159,12 @@ impl Proof {
         ensures proof { IsProof world.new self.new }
         ensures err { OnErr result (self.new ≡ self.old) }
         ensures grows { Grows world.old world.new }
+        ensures work { IfOk result (λ n. steps.old + n ≤ steps.new) }
     {
         let at = self.open.len() - 1 - place;
         let node = self.open[at];
-        let alloc = *self.sequents.allocator();
-        let mut made = match premises(alloc, world, &step, &self.sequents[node], steps) {
+        let alloc = *self.nodes.allocator();
+        let made = match premises(alloc, world, &step, &self.nodes[node].sequent, steps) {
             Ok(made) => made,
             Err(fault) => {
                 drop(step);
@@ -168,40 +172,50 @@ impl Proof {
             }
         };
         let count = made.len();
-        let first = self.sequents.len();
-        if let Err(fault) = take_in(
-            &mut self.sequents,
+        let first = self.nodes.len();
+        let children = match prepare(
+            alloc,
+            &mut self.nodes,
             &mut self.open,
             &mut self.journal,
-            &mut made,
+            made,
         ) {
-            drop(step);
-            return Err(KernelFault::Memory(fault));
-        }
+            Ok(children) => children,
+            Err(fault) => {
+                drop(step);
+                return Err(KernelFault::Memory(fault));
+            }
+        };
         replace_goal(&mut self.open, at, first, count);
+        fill_at(&mut self.nodes, node, step, children);
         self.journal.push_reserved(Refinement {
-            step,
             place,
             node,
             premises: count,
         });
+        count_premises(count, steps);
         Ok(count)
     }
 
     /// Takes the last step back that still stands. It answers false, and changes nothing, where
-    /// there is none.
-    pub fn unrefine(&mut self) -> bool
+    /// there is none. The work is that of the premises that go.
+    pub fn unrefine<L>(&mut self, world: &mut World, steps: &mut Steps<L>) -> bool
         ensures some { (w : AWorld) → IsTrue result ↔ (0 < length (history_of w self.old).earlier) }
         ensures undone { (w : AWorld) → history_of w self.new ≡ undone 1 (history_of w self.old) }
         ensures proof { (w : AWorld) → IsProof w self.old → IsProof w self.new }
         ensures root { (w : AWorld) → root (history_of w self.new).tree ≡ root (history_of w self.old).tree }
+        ensures world { world.new ≡ world.old }
+        ensures work { steps.new + length self.new.nodes ≡ steps.old + length self.old.nodes }
     {
-        match take_last(&mut self.journal) {
+        let _ = world;
+        match self.journal.pop() {
             None => false,
             Some(last) => {
                 let at = self.open.len() - (last.place + last.premises);
                 restore_goal(&mut self.open, at, last.premises, last.node);
-                self.sequents.truncate(self.sequents.len() - last.premises);
+                self.nodes.truncate(self.nodes.len() - last.premises);
+                clear_at(&mut self.nodes, last.node);
+                count_premises(last.premises, steps);
                 true
             }
         }
@@ -220,7 +234,7 @@ impl Proof {
     {
         if place < self.open.len() {
             let node = self.open[self.open.len() - 1 - place];
-            Some(&self.sequents[node])
+            Some(&self.nodes[node].sequent)
         } else {
             None
         }
@@ -240,6 +254,13 @@ impl Proof {
             root (history_of w self.now).tree ≡ proves F 0 → IsDerivation (declarations_of w) F (history_of w self.now).tree }
     {
         self.open.is_empty()
+    }
+
+    /// The node of that number. The root has the number 0.
+    pub fn node(&self, place: usize) -> Option<&ProofNode>
+        ensures { option_copied result ≡ slice_get self.now.nodes place }
+    {
+        self.nodes.get(place)
     }
 
     /// How many steps stand.

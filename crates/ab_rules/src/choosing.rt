@@ -151,6 +151,7 @@ pub(crate) fn with_name<L>(
     ensures adds { Adds world.old world.new }
     ensures held { IfOk result (Holds world.new) }
     ensures reads { IfOk result (λ t. read world.new t ≡ instance (read world.old body) (name_term (nominal_of world.old.types name))) }
+    ensures steps { steps.old ≤ steps.new }
 {
     let constant = name_term(alloc, world, name)?;
     instance_of(alloc, world, body, &[constant], steps)

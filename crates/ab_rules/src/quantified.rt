@@ -1,5 +1,5 @@
 //! The rules that put a new variable for the name of a quantifier, or a nominal constant for that of a `nabla`.
-ghost use Rattle.std.specs.Prelude.{◌≡◌};
+ghost use Rattle.std.specs.Prelude.{◌≡◌, ◌≤◌};
 ghost use Rattle.ab_logic.specs.Readings.{HoldsSequent};
 ghost use Rattle.ab_logic.specs.Worlds.{IsWorld};
 ghost use Rattle.ab_logic.specs.Growth.{Grows};
@@ -27,6 +27,7 @@ pub(crate) fn for_all_right<L>(
     requires held { HoldsSequent world.old sequent.now }
     ensures answers { Answers world.new (row_at world.old plain.for_all_right sequent.now) result }
     ensures grows { Grows world.old world.new }
+    ensures steps { steps.old ≤ steps.new }
 {
     let Some((ty, body)) = as_forall(world, sequent.conclusion) else {
         return Err(KernelFault::RuleFails(1));
@@ -53,6 +54,7 @@ pub(crate) fn exists_left<L>(
     requires held { HoldsSequent world.old sequent.now }
     ensures answers { Answers world.new (row_at world.old (plain.exists_left hypothesis.now (label_of given.now)) sequent.now) result }
     ensures grows { Grows world.old world.new }
+    ensures steps { steps.old ≤ steps.new }
 {
     let Some(formula) = sequent.look(hypothesis) else {
         return Err(KernelFault::RuleFails(1));
@@ -85,6 +87,7 @@ pub(crate) fn nabla_right<L>(
     requires held { HoldsSequent world.old sequent.now }
     ensures answers { Answers world.new (row_at world.old plain.nabla_right sequent.now) result }
     ensures grows { Grows world.old world.new }
+    ensures steps { steps.old ≤ steps.new }
 {
     let Some((ty, body)) = as_nabla(world, sequent.conclusion) else {
         return Err(KernelFault::RuleFails(1));
@@ -109,6 +112,7 @@ pub(crate) fn nabla_left<L>(
     requires held { HoldsSequent world.old sequent.now }
     ensures answers { Answers world.new (row_at world.old (plain.nabla_left hypothesis.now (label_of given.now)) sequent.now) result }
     ensures grows { Grows world.old world.new }
+    ensures steps { steps.old ≤ steps.new }
 {
     let Some(formula) = sequent.look(hypothesis) else {
         return Err(KernelFault::RuleFails(1));

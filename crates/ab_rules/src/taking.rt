@@ -1,5 +1,5 @@
 //! The premises of a step: one function for each rule.
-ghost use Rattle.std.specs.Prelude.{◌≡◌};
+ghost use Rattle.std.specs.Prelude.{◌≡◌, ◌≤◌};
 ghost use Rattle.ab_logic.specs.Worlds.{IsWorld};
 ghost use Rattle.ab_logic.specs.Growth.{Grows};
 ghost use Rattle.ab_logic.specs.Readings.{HoldsSequent};
@@ -27,6 +27,7 @@ pub fn premises<L>(
     requires held { HoldsSequent world.old sequent.now }
     ensures answers { Answers world.new (row_at world.old (step_of world.old step.now) sequent.now) result }
     ensures grows { Grows world.old world.new }
+    ensures steps { steps.old ≤ steps.new }
 {
     match step {
         Step::TrueRight => true_right(alloc, world, sequent),

@@ -1,5 +1,5 @@
 //! Terms that rules make: nominal constants, instances, and variables that may depend on constants.
-ghost use Rattle.std.specs.Prelude.{◌≡◌, ℕ, IfOk, OnOk, map, length, All, List, [], ◌∷◌};
+ghost use Rattle.std.specs.Prelude.{◌≡◌, ◌≤◌, ℕ, IfOk, OnOk, map, length, All, List, [], ◌∷◌};
 ghost use Rattle.ab_term.specs.Types.{arrow, arrows};
 ghost use Rattle.ab_term.specs.Substitution.{instance, instance_by_all};
 ghost use Rattle.ab_types.specs.Entries.{IsExtendedBy as IsPartOf};
@@ -51,6 +51,7 @@ pub(crate) fn instance_of<L>(
     ensures adds { Adds world.old world.new }
     ensures held { IfOk result (Holds world.new) }
     ensures reads { IfOk result (λ t. read world.new t ≡ instance_by_all (read world.old lam) (map (read world.old) args.now)) }
+    ensures steps { steps.old ≤ steps.new }
 {
     instantiate(alloc, &world.types, &mut world.store, lam, args, steps)
 }
@@ -167,6 +168,7 @@ pub(crate) fn applied<L>(
     ensures adds { Adds world.old world.new }
     ensures held { IfOk result (Holds world.new) }
     ensures reads { IfOk result (λ t. read world.new t ≡ applied (variable_of world.old cell) (map (nominal_of world.old.types) names.now)) }
+    ensures steps { steps.old ≤ steps.new }
 {
     let head = cell_term(alloc, world, cell)?;
     let args = name_terms(alloc, world, names)?;
@@ -215,6 +217,7 @@ pub(crate) fn raise<L>(
         ≡ instance (read world.old body) (applied
         (raised (length world.old.store.cells) name (type_of world.old.types ty) (map (nominal_of world.old.types) names.now))
         (map (nominal_of world.old.types) names.now))) }
+    ensures steps { steps.old ≤ steps.new }
 {
     let cell = raised(world, name, ty, names)?;
     let variable = applied(alloc, world, cell, names, steps)?;

@@ -5,6 +5,9 @@ use Rattle.std.proofs.lemmas.Option.{slice_get_within, slice_get_past}
 use Rattle.ab_logic.specs.Readings.{sequent_of}
 use Rattle.ab_kernel.specs.Derivation.{open_goals}
 use Rattle.ab_kernel.specs.Layout.{history_of, held}
+use Rattle.ab_kernel.specs.Nodes.{sequents_in}
+use Rattle.ab_kernel.specs.declared.node.ProofNode.{ProofNode}
+use Rattle.ab_kernel.proofs.Filling.{sequent_read}
 use Rattle.ab_kernel.proofs.Standing.{reads_now, as_many, leads, kept_at, some_world}
 use Rattle.ab_kernel.proofs.proving.Proof.goal.Goals as goal
 
@@ -12,13 +15,13 @@ pub index-requires : goal.index-requires
 index-requires c =
     let w = some_world in
     let found = leads c.args.place (c.len-then-place-len.result - 1 - c.args.place) c.index-node.result.now (reads_now w _ _ _ (c.self.invariant.stands w)) (omega arith) c.index-node.ensures in
-    let inside : c.index-node.result.now < length (map (sequent_of w) c.self.inside.sequents.items) = slice_get_within _ _ found.0 found.1 in
-    omega (arith, inside, length-map c.self.inside.sequents.items (sequent_of w))
+    let inside : c.index-node.result.now < length (map (sequent_of w) (sequents_in c.self.inside.nodes.items)) = slice_get_within _ _ found.0 found.1 in
+    omega (arith, inside, length-map (sequents_in c.self.inside.nodes.items) (sequent_of w), length-map c.self.inside.nodes.items (λ (n : ProofNode). n.sequent))
 
 pub returns-then-place-len : goal.returns-then-place-len
 returns-then-place-len c w =
     let found = leads c.args.place (c.len-then-place-len.result - 1 - c.args.place) c.index-node.result.now (reads_now w _ _ _ (c.self.invariant.stands w)) (omega arith) c.index-node.ensures in
-    ap Some (kept_at w c.self.inside.sequents.items c.index-node.result.now c.index.result.now found.0 found.1 c.index.ensures)
+    ap Some (kept_at w (sequents_in c.self.inside.nodes.items) c.index-node.result.now c.index.result.now.sequent found.0 found.1 (sequent_read c.self.inside.nodes.items c.index-node.result.now c.index.result.now c.index.ensures))
     ∙ sym found.2
     ∙ ap (λ p. slice_get (open_goals (history_of w p).tree) c.args.place) c.self.view_is
 
