@@ -7,4 +7,5 @@ pub mod Names
 pub mod Naming
 pub mod Values
 pub mod Writing
+pub mod Scopes
 pub mod Examples

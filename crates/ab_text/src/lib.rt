@@ -6,6 +6,7 @@ mod choosing;
 pub mod examples;
 mod forming;
 mod levels;
+pub mod naming;
 pub mod reading;
 mod shape;
 mod writing;
