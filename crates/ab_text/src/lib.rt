@@ -9,6 +9,8 @@ mod levels;
 pub mod naming;
 pub mod reading;
 mod shape;
+#[cfg(test)]
+mod tests;
 mod writing;
 
 pub use choosing::fresh;
