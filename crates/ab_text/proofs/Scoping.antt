@@ -1,11 +1,10 @@
 -- What is chosen for a bound name tells it apart from all that stands in its binder's body.
-use Rattle.std.proofs.Common.{◌≡◌, ℕ, zero, suc, ◌+◌, ◌-◌, ◌^◌, ◌<◌, ◌≤◌, length, List, [], ◌∷◌, Option, Some, None, Contains, refl, sym, ◌∙◌, ap, arith}
-use Rattle.std.specs.Prelude.{option_map}
+use Rattle.std.proofs.Common.{◌≡◌, ℕ, zero, suc, ◌+◌, ◌≤◌, length, List, [], ◌∷◌, Option, Some, None, Contains, refl, sym, ◌∙◌, ap, arith}
 use Rattle.std.specs.List.{filter_map, cons_option}
 use Rattle.ab_term.specs.Types.{Ty}
 use Rattle.ab_term.specs.Terms.{Head, constant, logical, nominal, variable, index, Term, lam}
 use Rattle.ab_term.specs.Substitution.{shift_head, lower_head}
-use Rattle.ab_text.specs.Names.{name_of, free_heads, fresh}
+use Rattle.ab_text.specs.Names.{name_of, free_heads}
 use Rattle.ab_text.specs.Naming.{names_in, bound_name}
 use Rattle.ab_text.specs.Scopes.{IsShort, ArePrintedApart}
 use Rattle.ab_text.proofs.Membership.{to_filter_map}
