@@ -1,5 +1,5 @@
 -- The search for the first number that makes a name that isn't used.
-use Rattle.std.proofs.Common.{◌≡◌, ℕ, zero, suc, ◌+◌, ◌-◌, ◌≤◌, length, map, List, [], ◌∷◌, ◌++◌, Bool, true, false, decimal, refl, sym, ◌∙◌, ap, arith}
+use Rattle.std.proofs.Common.{◌≡◌, ℕ, suc, ◌+◌, ◌-◌, ◌≤◌, length, map, List, ◌++◌, Bool, true, false, decimal, sym, ◌∙◌, ap, arith}
 use Rattle.std.proofs.lemmas.List.{length-map}
 use Rattle.std.specs.Prelude.{if◌then◌else◌}
 use Rattle.ab_text.specs.Names.{is_in, first_from, stem, numbered, fresh}

@@ -1,3 +1,7 @@
 pub mod Texts
+pub mod Membership
+pub mod FreeNames
+pub mod Scoping
+pub mod Formed
 pub mod Stems
 pub mod Chosen

@@ -3,8 +3,10 @@
 pub mod Shapes
 pub mod Layout
 pub mod Trees
+pub mod Members
 pub mod Names
 pub mod Naming
 pub mod Values
 pub mod Writing
+pub mod Scopes
 pub mod Examples

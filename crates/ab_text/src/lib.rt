@@ -6,8 +6,11 @@ mod choosing;
 pub mod examples;
 mod forming;
 mod levels;
+pub mod naming;
 pub mod reading;
 mod shape;
+#[cfg(test)]
+mod tests;
 mod writing;
 
 pub use choosing::fresh;

@@ -1,6 +1,6 @@
 use Rattle.std.proofs.Common.{◌≡◌, map, ◌++◌, decimal, ◌+◌, ◌-◌, length}
 use Rattle.ab_text.specs.Names.{is_in, first_from}
-use Rattle.ab_text.proofs.choosing.fresh.Given as goal
+use Rattle.ab_text.proofs.choosing.first_free.Given as goal
 
 abbrev pub invariant-loop-number : goal.invariant-loop-number
 invariant-loop-number l =

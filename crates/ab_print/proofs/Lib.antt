@@ -1,0 +1,6 @@
+pub mod Adding
+pub mod Bounds
+pub mod Cutting
+pub mod Etas
+pub mod Scoped
+pub mod Drawn

@@ -1,0 +1,14 @@
+//! Terms and goals of a world, and replies, as bytes.
+#![tactic(auto)]
+
+mod drawing;
+mod eta;
+mod heads;
+mod logic;
+mod naming;
+mod reading;
+mod showing;
+#[cfg(test)]
+mod tests;
+
+pub use showing::{show_goal, show_other, show_reply, show_term};

@@ -1,0 +1,36 @@
+//! Terms and lines that are small enough to be written by hand.
+use crate::show_reply;
+use crate::showing::write_term;
+use ab_store::{Head, Logical, Store};
+use ab_types::TypeTable;
+use std::alloc::{AllocError, Global};
+
+fn reply(alloc: Global, kept: usize, text: &[u8]) -> Result<Vec<u8>, AllocError> {
+    let mut out = Vec::new(alloc);
+    show_reply(alloc, kept, text, &mut out)?;
+    Ok(out)
+}
+
+#[test]
+fn a_formula_is_printed(rt: HostRuntime) -> Result<(), AllocError> {
+    let alloc = rt.alloc();
+    let types = TypeTable::new(alloc)?;
+    let mut store = Store::new(alloc);
+    let id = store.spine(Head::Logic(Logical::True), Vec::new(alloc))?;
+    let mut out = Vec::new(alloc);
+    write_term(alloc, &types, &store, id, &mut out)?;
+    assert!(rt; out.as_slice() == b"true".as_slice());
+    Ok(())
+}
+
+#[test]
+fn a_reply_without_text_is_its_number(rt: HostRuntime) -> Result<(), AllocError> {
+    assert!(rt; reply(rt.alloc(), 7, b"")?.as_slice() == b"[7]\n".as_slice());
+    Ok(())
+}
+
+#[test]
+fn a_text_stands_behind_the_number(rt: HostRuntime) -> Result<(), AllocError> {
+    assert!(rt; reply(rt.alloc(), 12, b"Quit.")?.as_slice() == b"[12] Quit.\n".as_slice());
+    Ok(())
+}
