@@ -1,4 +1,0 @@
--- How an expression's readings are found: what its parts say of type variables.
-pub mod Sketches
-pub mod Programs
-pub mod Inferences
