@@ -7,3 +7,4 @@ pub mod Telling
 pub mod Marking
 pub mod Pathing
 pub mod Ending
+pub mod Pushing

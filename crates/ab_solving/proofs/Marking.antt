@@ -39,10 +39,10 @@ done_inj e = cc
 abbrev pub put : Assignment → ℕ → Ty → Assignment
 put q i B k = cond (eqb k i) B (q k)
 
-put_same : (q : Assignment) (i : ℕ) (B : Ty) → put q i B i ≡ B
+pub put_same : (q : Assignment) (i : ℕ) (B : Ty) → put q i B i ≡ B
 put_same q i B = ap (λ b. cond b B (q i)) (eq-eqb i i refl)
 
-put_other : (q : Assignment) (i : ℕ) (B : Ty) (k : ℕ) → k ≢ i → put q i B k ≡ q k
+pub put_other : (q : Assignment) (i : ℕ) (B : Ty) (k : ℕ) → k ≢ i → put q i B k ≡ q k
 put_other q i B k n = ap (λ b. cond b B (q k)) (ne_eqb k i n)
 
 -- two assignments agree on what a shape names
@@ -52,7 +52,7 @@ AgreeOn v w (Link j) = v j ≡ w j
 AgreeOn v w (Known k) = Unit {0}
 AgreeOn v w (Arrow a b) = (v a ≡ w a) × (v b ≡ w b)
 
-fits_along : (types : Table) (v w : Assignment) (A : Ty) (c : Shape) → AgreeOn v w c → Fits types v A c → Fits types w A c
+pub fits_along : (types : Table) (v w : Assignment) (A : Ty) (c : Shape) → AgreeOn v w c → Fits types v A c → Fits types w A c
 fits_along types v w A Open a f = tt
 fits_along types v w A (Link j) a f = f ∙ a
 fits_along types v w A (Known k) a f = f

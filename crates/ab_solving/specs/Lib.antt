@@ -2,3 +2,4 @@
 pub mod Solutions
 pub mod Work
 pub mod Settling
+pub mod Steps

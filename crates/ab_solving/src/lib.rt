@@ -8,10 +8,12 @@ mod finding;
 mod meeting;
 mod settling;
 mod shape;
+mod stepping;
 mod unifying;
 mod work;
 
 pub use settling::{Settled, solve};
 pub use shape::Shape;
+pub use stepping::{applied, step};
 pub use unifying::unify;
 pub use work::Wanted;
