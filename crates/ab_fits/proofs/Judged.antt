@@ -10,12 +10,12 @@ use Rattle.ab_types.specs.declared.ids.KindId.{KindId}
 use Rattle.ab_types.specs.declared.ids.TypeId.{TypeId}
 use Rattle.ab_types.specs.declared.ids.TypeView.{TypeView}
 use Rattle.ab_types.specs.declared.ids.TypeView.TheVariants.{Base}
-use Rattle.ab_store.specs.declared.node.TermId.{TermId}
-use Rattle.ab_store.specs.declared.node.Head as kept
-use Rattle.ab_store.specs.declared.node.Node.{Node}
-use Rattle.ab_store.specs.declared.node.Node.TheVariants.{Lam, Spine}
-use Rattle.ab_store.specs.Reading.{Contents, reading, head_reading, node_reading}
-use Rattle.ab_store.specs.Naming.{IsTerm}
+use Rattle.ab_nodes.specs.declared.node.TermId.{TermId}
+use Rattle.ab_nodes.specs.declared.node.Head as kept
+use Rattle.ab_nodes.specs.declared.node.Node.{Node}
+use Rattle.ab_nodes.specs.declared.node.Node.TheVariants.{Lam, Spine}
+use Rattle.ab_nodes.specs.Reading.{Contents, reading, head_reading, node_reading}
+use Rattle.ab_nodes.specs.Naming.{IsTerm}
 use Rattle.ab_fits.specs.Taking.{IsKind, context}
 use Rattle.ab_fits.proofs.Contexts.{context_push}
 

@@ -9,12 +9,12 @@ use Rattle.ab_term.specs.Variables.{variables, variables_of_head, variables_of_a
 use Rattle.ab_term.proofs.Lists.{Contains-none, Contains-here, Contains-there, Contains-cases, Contains-map, Contains-from_map}
 use Rattle.ab_types.specs.Entries.{Table}
 use Rattle.ab_types.specs.declared.ids.TypeId.{TypeId}
-use Rattle.ab_store.specs.declared.node.TermId.{TermId}
-use Rattle.ab_store.specs.declared.node.CellId.{CellId}
-use Rattle.ab_store.specs.declared.node.Head.{Head}
-use Rattle.ab_store.specs.declared.node.Node.{Node}
-use Rattle.ab_store.specs.declared.node.Node.TheVariants.{Lam, Spine}
-use Rattle.ab_store.specs.Reading.{Read, Contents, reading, head_reading, node_reading}
+use Rattle.ab_nodes.specs.declared.node.TermId.{TermId}
+use Rattle.ab_nodes.specs.declared.node.CellId.{CellId}
+use Rattle.ab_nodes.specs.declared.node.Head.{Head}
+use Rattle.ab_nodes.specs.declared.node.Node.{Node}
+use Rattle.ab_nodes.specs.declared.node.Node.TheVariants.{Lam, Spine}
+use Rattle.ab_nodes.specs.Reading.{Read, Contents, reading, head_reading, node_reading}
 use Rattle.ab_fits.specs.Cells.{variable_of}
 use Rattle.ab_fits.specs.Fitting.{HoldsOnly}
 

@@ -14,11 +14,11 @@ use Rattle.ab_types.specs.Ids.{HoldsType, type_of}
 use Rattle.ab_types.specs.Sound.{IsTable}
 use Rattle.ab_types.specs.declared.ids.TypeId.{TypeId}
 use Rattle.ab_types.proofs.Kept.{one_type}
-use Rattle.ab_store.specs.declared.node.TermId.{TermId}
-use Rattle.ab_store.specs.declared.node.Head.{Head}
-use Rattle.ab_store.specs.declared.node.Node.{Node}
-use Rattle.ab_store.specs.declared.node.Node.TheVariants.{Lam, Spine}
-use Rattle.ab_store.specs.Reading.{Read, Contents, reading, head_reading, node_reading}
+use Rattle.ab_nodes.specs.declared.node.TermId.{TermId}
+use Rattle.ab_nodes.specs.declared.node.Head.{Head}
+use Rattle.ab_nodes.specs.declared.node.Node.{Node}
+use Rattle.ab_nodes.specs.declared.node.Node.TheVariants.{Lam, Spine}
+use Rattle.ab_nodes.specs.Reading.{Read, Contents, reading, head_reading, node_reading}
 use Rattle.ab_fits.specs.declared.numbers.Numbers.{Numbers}
 use Rattle.ab_fits.specs.Numbers.{Knows, AreKnown, Agree, Notes}
 use Rattle.ab_fits.specs.Fitting.{HasOneTypeEach, names_of}

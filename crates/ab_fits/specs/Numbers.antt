@@ -7,7 +7,7 @@ use Rattle.ab_term.specs.Names.{support}
 use Rattle.ab_types.specs.Entries.{Table}
 use Rattle.ab_types.specs.Ids.{HoldsType, type_of}
 use Rattle.ab_types.specs.declared.ids.TypeId.{TypeId}
-use Rattle.ab_store.specs.Reading.{Contents, reading}
+use Rattle.ab_nodes.specs.Reading.{Contents, reading}
 use Rattle.ab_fits.specs.declared.numbers.Numbers.{Numbers}
 
 -- the number has that type

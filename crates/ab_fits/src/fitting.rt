@@ -2,15 +2,15 @@
 ghost use Rattle.std.specs.Prelude.{◌↔◌, map, IfOk, IsTrue, All};
 ghost use Rattle.ab_types.specs.Entries.{signature};
 ghost use Rattle.ab_types.specs.Ids.{HoldsType, type_of};
-ghost use Rattle.ab_store.specs.Reading.{Holds, reading};
-ghost use Rattle.ab_store.specs.Naming.{IsTypedBy};
+ghost use Rattle.ab_nodes.specs.Reading.{Holds, reading};
+ghost use Rattle.ab_nodes.specs.Naming.{IsTypedBy};
 ghost use Rattle.ab_fits.specs.Cells.{variable_of};
 ghost use Rattle.ab_fits.specs.Fitting.{Fits};
 
 use crate::numbers::have_one_type_beside;
 use crate::typing::has_type;
 use crate::variables::holds_only;
-use ab_store::{CellId, Store, TermId};
+use ab_nodes::{CellId, Store, TermId};
 use ab_types::{TypeId, TypeTable};
 use std::alloc::{AllocError, Global};
 

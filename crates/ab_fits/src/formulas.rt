@@ -1,16 +1,16 @@
 //! Whether a term is a formula.
 ghost use Rattle.std.specs.Prelude.{◌≡◌, ◌↔◌, true, List, IfOk, OnOk, IsTrue, All};
 ghost use Rattle.ab_types.specs.Entries.{Table, signature};
-ghost use Rattle.ab_store.specs.declared.node.CellEntry.{CellEntry};
-ghost use Rattle.ab_store.specs.Reading.{Holds, reading, logical_of, head_in};
-ghost use Rattle.ab_store.specs.Naming.{IsTypedBy};
+ghost use Rattle.ab_nodes.specs.declared.node.CellEntry.{CellEntry};
+ghost use Rattle.ab_nodes.specs.Reading.{Holds, reading, logical_of, head_in};
+ghost use Rattle.ab_nodes.specs.Naming.{IsTypedBy};
 ghost use Rattle.ab_fits.specs.Formulas.{IsFormula, StandsIn, a_formula, a_marked, IsAtomic, IsRigid, places_of, places_of_constant};
 ghost use Rattle.ab_fits.specs.Places.{place_of};
 
 use crate::built_in::built_in;
 use crate::seen::{is_seen, see};
 use crate::typing::has_type;
-use ab_store::{Head, Logical, Node, Store, TermId};
+use ab_nodes::{Head, Logical, Node, Store, TermId};
 use ab_types::TypeTable;
 use std::alloc::{AllocError, Global};
 use std::collections::BTreeSet;

@@ -5,14 +5,14 @@ ghost use Rattle.ab_term.specs.Terms.{terms_of};
 ghost use Rattle.ab_term.specs.Typing.{HasType, TakeType, head_type, type_at};
 ghost use Rattle.ab_types.specs.Entries.{Table, signature};
 ghost use Rattle.ab_types.specs.Ids.{HoldsType, type_of};
-ghost use Rattle.ab_store.specs.Reading.{Holds, reading, head_reading};
-ghost use Rattle.ab_store.specs.Naming.{HoldsHead, HeadIsTyped, IsTypedBy, IsTerm};
+ghost use Rattle.ab_nodes.specs.Reading.{Holds, reading, head_reading};
+ghost use Rattle.ab_nodes.specs.Naming.{HoldsHead, HeadIsTyped, IsTypedBy, IsTerm};
 ghost use Rattle.ab_fits.specs.Taking.{AreBuiltIn, IsKind, wanted_type, HoldsWanted, rest_type, HoldsRest, context, AreTyped};
 
 use crate::built_in::{BuiltIn, built_in};
 use crate::known::{Typed, is_known, know};
 use crate::taking::{Rest, Wanted, ends_at, next, taken_by};
-use ab_store::{Head, Node, Store, TermId};
+use ab_nodes::{Head, Node, Store, TermId};
 use ab_types::{TypeId, TypeTable, TypeView};
 use std::alloc::{AllocError, Global};
 use std::collections::BTreeSet;

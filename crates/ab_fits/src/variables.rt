@@ -2,12 +2,12 @@
 ghost use Rattle.std.specs.Prelude.{◌≡◌, ◌↔◌, true, map, IfOk, OnOk, IsTrue, All, Contains};
 ghost use Rattle.ab_term.specs.Variables.{variables_of_head};
 ghost use Rattle.ab_types.specs.Entries.{Table};
-ghost use Rattle.ab_store.specs.Reading.{Contents, Holds, reading, head_reading};
+ghost use Rattle.ab_nodes.specs.Reading.{Contents, Holds, reading, head_reading};
 ghost use Rattle.ab_fits.specs.Cells.{variable_of};
 ghost use Rattle.ab_fits.specs.Fitting.{HoldsOnly};
 
 use crate::seen::{is_seen, see};
-use ab_store::{CellId, Head, Node, Store, TermId};
+use ab_nodes::{CellId, Head, Node, Store, TermId};
 use std::alloc::{AllocError, Global};
 use std::collections::BTreeSet;
 

@@ -6,13 +6,13 @@ use Rattle.ab_types.specs.Entries as table
 use Rattle.ab_types.specs.Entries.{Table}
 use Rattle.ab_types.specs.Ids.{type_of}
 use Rattle.ab_types.proofs.Entries.{same_type}
-use Rattle.ab_store.specs.declared.node.TermId.{TermId}
-use Rattle.ab_store.specs.declared.node.CellId.{CellId}
-use Rattle.ab_store.specs.declared.node.CellEntry.{CellEntry}
-use Rattle.ab_store.specs.Reading.{Contents, cell_of}
-use Rattle.ab_store.specs.Growth.{IsExtendedBy}
-use Rattle.ab_store.specs.Naming.{IsTypedBy}
-use Rattle.ab_store.proofs.Tables.{same_reading, more_typed}
+use Rattle.ab_nodes.specs.declared.node.TermId.{TermId}
+use Rattle.ab_nodes.specs.declared.node.CellId.{CellId}
+use Rattle.ab_nodes.specs.declared.node.CellEntry.{CellEntry}
+use Rattle.ab_nodes.specs.Reading.{Contents, cell_of}
+use Rattle.ab_nodes.specs.Growth.{IsExtendedBy}
+use Rattle.ab_nodes.specs.Naming.{IsTypedBy}
+use Rattle.ab_nodes.proofs.Tables.{same_reading, more_typed}
 use Rattle.ab_logic.specs.Declarations.{a_theorem, Extends, signature_in}
 use Rattle.ab_logic.specs.Formulas.{IsSentence}
 use Rattle.ab_logic.specs.Sequents.{Sequent}

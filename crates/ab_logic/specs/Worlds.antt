@@ -3,11 +3,11 @@ use Rattle.std.specs.Prelude.{◌≡◌, ℕ, ◌+◌, ◌-◌, ◌≤◌, List,
 use Rattle.ab_types.specs.Ids.{type_of}
 use Rattle.ab_types.specs.Entries as table
 use Rattle.ab_types.specs.Entries.{Table}
-use Rattle.ab_store.specs.declared.node.TermId.{TermId}
-use Rattle.ab_store.specs.declared.node.CellId.{CellId}
-use Rattle.ab_store.specs.Reading as store
-use Rattle.ab_store.specs.Reading.{Read, reading}
-use Rattle.ab_store.specs.Naming.{IsTypedBy}
+use Rattle.ab_nodes.specs.declared.node.TermId.{TermId}
+use Rattle.ab_nodes.specs.declared.node.CellId.{CellId}
+use Rattle.ab_nodes.specs.Reading as store
+use Rattle.ab_nodes.specs.Reading.{Read, reading}
+use Rattle.ab_nodes.specs.Naming.{IsTypedBy}
 use Rattle.ab_logic.specs.Declarations.{Declarations, a_kind, a_constant, a_theorem, HaveSentences}
 use Rattle.ab_logic.specs.Sequents.{Variable}
 use Rattle.ab_logic.specs.declared.world.World.{World}

@@ -3,12 +3,12 @@ ghost use Rattle.std.specs.Prelude.{◌≡◌, ℕ, List, ◌&&◌, ◌+◌, ◌
 ghost use Rattle.std.specs.Option.{option_map};
 ghost use Rattle.ab_term.specs.Terms.{Terms, spine, terms_of};
 ghost use Rattle.ab_types.specs.Entries.{Table};
-ghost use Rattle.ab_store.specs.Reading.{Contents, Holds, reading, head_reading};
-ghost use Rattle.ab_store.specs.Naming.{IsTypedBy};
+ghost use Rattle.ab_nodes.specs.Reading.{Contents, Holds, reading, head_reading};
+ghost use Rattle.ab_nodes.specs.Naming.{IsTypedBy};
 ghost use Rattle.ab_text.specs.Naming as plain;
 ghost use Rattle.ab_print.specs.Drawings.{IsHeld};
 
-use ab_store::{Head, Node, Store, TermId};
+use ab_nodes::{Head, Node, Store, TermId};
 use ab_types::TypeTable;
 
 /// A head, where it stands under this many binders and outside them, where it is a name that can stand alone.

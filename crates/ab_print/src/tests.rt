@@ -1,7 +1,7 @@
 //! Terms and lines that are small enough to be written by hand.
 use crate::show_reply;
 use crate::showing::write_term;
-use ab_store::{Head, Logical, Store};
+use ab_nodes::{Head, Logical, Store};
 use ab_types::TypeTable;
 use std::alloc::{AllocError, Global};
 

@@ -7,7 +7,7 @@ ghost use Rattle.ab_rules.specs.Answers.{Answers, row_at};
 
 use crate::step::KernelFault;
 use ab_logic::{Sequent, World, as_equal, is_false, is_true};
-use ab_norm::equal;
+use ab_normal::equal;
 use ab_types::Name;
 use std::alloc::Global;
 

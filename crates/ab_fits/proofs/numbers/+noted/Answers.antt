@@ -3,9 +3,9 @@ use Rattle.std.specs.List.{All}
 use Rattle.std.proofs.lemmas.List.{take_all}
 use Rattle.std.proofs.lemmas.List.Elements.{All-same}
 use Rattle.ab_term.specs.Names.{support, support_of_head}
-use Rattle.ab_store.specs.declared.node.TermId.{TermId}
-use Rattle.ab_store.specs.Reading.{reading, head_reading}
-use Rattle.ab_store.specs.Naming.{NodeIsTyped}
+use Rattle.ab_nodes.specs.declared.node.TermId.{TermId}
+use Rattle.ab_nodes.specs.Reading.{reading, head_reading}
+use Rattle.ab_nodes.specs.Naming.{NodeIsTyped}
 use Rattle.ab_fits.specs.Numbers.{Notes}
 use Rattle.ab_fits.specs.Fitting.{names_of}
 use Rattle.ab_fits.proofs.Bounds.{ids_bound, bound_within, below_bound, spine_names}

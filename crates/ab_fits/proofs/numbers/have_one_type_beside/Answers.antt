@@ -1,6 +1,6 @@
 use Rattle.std.proofs.Common.{◌++◌, map, false, subst}
 use Rattle.ab_term.specs.Names.{support}
-use Rattle.ab_store.specs.Reading.{reading}
+use Rattle.ab_nodes.specs.Reading.{reading}
 use Rattle.ab_fits.specs.Fitting.{names_of}
 use Rattle.ab_fits.specs.Numbers.{Notes}
 use Rattle.ab_fits.proofs.Noted.{decided, notes_on, notes_stop}

@@ -1,5 +1,5 @@
 use Rattle.std.proofs.Common.{map}
-use Rattle.ab_store.specs.Reading.{reading}
+use Rattle.ab_nodes.specs.Reading.{reading}
 use Rattle.ab_fits.specs.Fitting.{names_of}
 use Rattle.ab_fits.proofs.Noted.{decided}
 use Rattle.ab_fits.proofs.Walks.{if_ok, is_true}

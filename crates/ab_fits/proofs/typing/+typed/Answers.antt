@@ -5,9 +5,9 @@ use Rattle.ab_term.specs.Typing.{head_type}
 use Rattle.ab_term.proofs.Closed.{closed_typed}
 use Rattle.ab_types.specs.Entries.{signature}
 use Rattle.ab_types.specs.Ids.{HoldsType, type_of}
-use Rattle.ab_store.specs.declared.node.TermId.{TermId}
-use Rattle.ab_store.specs.Reading.{reading, head_reading}
-use Rattle.ab_store.specs.Naming.{NodeIsTyped, IsTerm}
+use Rattle.ab_nodes.specs.declared.node.TermId.{TermId}
+use Rattle.ab_nodes.specs.Reading.{reading, head_reading}
+use Rattle.ab_nodes.specs.Naming.{NodeIsTyped, IsTerm}
 use Rattle.ab_fits.specs.declared.known.Typed.{Typed}
 use Rattle.ab_fits.specs.Taking.{rest_type, wanted_type, context}
 use Rattle.ab_fits.proofs.Bounds.{ids_bound, bound_within, below_bound, spine_names}

@@ -3,7 +3,7 @@ use Rattle.ab_term.specs.Terms.{terms_of}
 use Rattle.ab_term.specs.Typing.{TakeType}
 use Rattle.ab_types.specs.Entries.{signature}
 use Rattle.ab_types.specs.Ids.{type_of}
-use Rattle.ab_store.specs.Reading.{reading}
+use Rattle.ab_nodes.specs.Reading.{reading}
 use Rattle.ab_fits.specs.Taking.{rest_type, HoldsRest, context, AreTyped}
 use Rattle.ab_fits.proofs.Bounds.{ids_bound}
 use Rattle.ab_fits.proofs.typing.+typed.Given as goal

@@ -1,8 +1,8 @@
 use Rattle.std.proofs.Common.{◌<◌, ◌≤◌, arith, map, get_or}
 use Rattle.std.specs.List.{All}
 use Rattle.std.proofs.lemmas.List.Elements.{All-same, All-more, All-contains}
-use Rattle.ab_store.specs.declared.node.TermId.{TermId}
-use Rattle.ab_store.specs.Reading.{reading}
+use Rattle.ab_nodes.specs.declared.node.TermId.{TermId}
+use Rattle.ab_nodes.specs.Reading.{reading}
 use Rattle.ab_fits.specs.Cells.{variable_of}
 use Rattle.ab_fits.specs.Fitting.{HoldsOnly}
 use Rattle.ab_fits.proofs.Bounds.{ids_bound, bound_within, below_bound, spine_names}

@@ -1,7 +1,7 @@
 use Rattle.std.proofs.Common.{◌+◌, ◌*◌, map, take}
 use Rattle.std.specs.List.{All}
 use Rattle.ab_types.specs.Entries.{Table}
-use Rattle.ab_store.specs.Reading.{reading}
+use Rattle.ab_nodes.specs.Reading.{reading}
 use Rattle.ab_fits.specs.Cells.{variable_of}
 use Rattle.ab_fits.specs.Fitting.{HoldsOnly}
 use Rattle.ab_fits.proofs.Bounds.{ids_bound}

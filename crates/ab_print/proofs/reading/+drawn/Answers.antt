@@ -3,9 +3,9 @@ use Rattle.std.specs.List.{All}
 use Rattle.std.proofs.lemmas.List.Elements.{All-same}
 use Rattle.ab_term.specs.Terms.{lam, terms_of}
 use Rattle.ab_types.specs.Ids.{type_of}
-use Rattle.ab_store.specs.declared.node.TermId.{TermId}
-use Rattle.ab_store.specs.Naming.{NodeIsTyped}
-use Rattle.ab_store.specs.Reading.{Read, reading, head_reading}
+use Rattle.ab_nodes.specs.declared.node.TermId.{TermId}
+use Rattle.ab_nodes.specs.Naming.{NodeIsTyped}
+use Rattle.ab_nodes.specs.Reading.{Read, reading, head_reading}
 use Rattle.ab_print.specs.Drawings.{term_of, AreSound}
 use Rattle.ab_print.proofs.Bounds.{ids_bound, bound_within}
 use Rattle.ab_print.proofs.Cutting.{whole}

@@ -1,0 +1,98 @@
+//! The numbers of terms and cells, and the nodes of terms.
+ghost use Rattle.std.specs.Prelude.{◌≡◌, IfOk};
+
+use crate::list::Arguments;
+use ab_types::{ConstId, Name, TypeId};
+use std::alloc::{AllocError, Global};
+
+/// A term of a store.
+#[derive(Clone, Copy, PartialEq, Eq, PartialOrd, Ord, Hash, Debug)]
+pub struct TermId(pub(crate) usize);
+
+/// A cell of a store: a variable that stands for a term.
+#[derive(Clone, Copy, PartialEq, Eq, PartialOrd, Ord, Hash, Debug)]
+pub struct CellId(pub(crate) usize);
+
+/// A logical constant.
+#[derive(Clone, Copy, PartialEq, Eq, Debug)]
+pub enum Logical {
+    /// `true`.
+    True,
+    /// `false`.
+    False,
+    /// `/\`.
+    And,
+    /// `\/`.
+    Or,
+    /// `->`.
+    Arrow,
+    /// `=` at a type.
+    Equal(TypeId),
+    /// `forall` over a type.
+    Forall(TypeId),
+    /// `exists` over a type.
+    Exists(TypeId),
+    /// `nabla` over a type.
+    Nabla(TypeId),
+    /// `{L |- G}`, given L and G.
+    Judge,
+    /// `{L, [F] |- A}`, given L, F and A.
+    Focus,
+    /// The size mark `*` of a level.
+    Star(u128),
+    /// The size mark `@` of a level.
+    At(u128),
+    /// The size mark `+` of a level.
+    Plus(u128),
+    /// The size mark `#` of a level.
+    Hash(u128),
+    /// `pi` over a type.
+    Pi(TypeId),
+    /// `=>`.
+    Imply,
+    /// `&`.
+    With,
+}
+
+/// What is given arguments.
+#[derive(Clone, Copy, PartialEq, Eq, Debug)]
+pub enum Head {
+    /// A constant of the table.
+    Const(ConstId),
+    /// A logical constant.
+    Logic(Logical),
+    /// A nominal constant, by its number and type.
+    Nominal(u128, TypeId),
+    /// A cell of the store.
+    Cell(CellId),
+    /// A bound name, by the number of binders between it and its own.
+    Index(usize),
+}
+
+/// A node of a term.
+#[derive(Debug, Drop)]
+pub enum Node {
+    /// An abstraction over a type, with the hint of its binder and its body.
+    Lam(TypeId, Name, TermId),
+    /// A head with the arguments that it is given.
+    Spine(Head, Arguments),
+}
+
+impl Node {
+    /// The same node again.
+    pub fn copy(&self, alloc: Global) -> Result<Node, AllocError>
+        ensures { IfOk result (λ node. node ≡ self.now) }
+    {
+        match self {
+            Node::Lam(ty, hint, body) => Ok(Node::Lam(*ty, hint.copy(alloc)?, *body)),
+            Node::Spine(head, args) => Ok(Node::Spine(*head, args.copy(alloc)?)),
+        }
+    }
+}
+
+/// What a store keeps of a cell: its hint, and the type of what it stands for.
+#[derive(Debug, Drop)]
+pub struct CellEntry {
+    pub(crate) hint: Name,
+    pub(crate) ty: TypeId,
+}
