@@ -21,14 +21,14 @@ use Rattle.ab_store.specs.declared.node.CellEntry.{CellEntry}
 use Rattle.ab_store.specs.declared.node.Node.TheVariants.{Lam}
 use Rattle.ab_store.specs.declared.node.Binding.{Binding}
 use Rattle.ab_store.specs.declared.mark.Mark.{Mark}
-use Rattle.ab_store.specs.declared.store.Entry.{Entry}
+use Rattle.ab_store.specs.declared.store.NodeEntry.{NodeEntry}
 use Rattle.ab_store.specs.declared.store.Slot.{Slot}
 use Rattle.ab_store.specs.Trees.{Read, Contents, Holds, HoldsCell, cell_of, tree_of}
 use Rattle.ab_store.specs.Reading.{bound_in, cell_variable, pairs, reading}
 use Rattle.ab_store.specs.Bindings.{cells_of, StandsIn, IsUnbound, IsResolved, AreInOrder}
 use Rattle.ab_store.specs.Marks.{HasMark, KeepsMark, at_mark}
 use Rattle.ab_store.specs.Naming.{NodeNames, NodesNameEarlier, BindingIsTyped, IsTypedBy, IsTerm}
-use Rattle.ab_store.specs.Entries.{contents, AreSound, HoldOf}
+use Rattle.ab_store.specs.Layout.{contents, AreSound, HoldOf}
 use Rattle.ab_store.proofs.Putting.{Pair, pair, is_bound, resolved_reads}
 use Rattle.ab_store.proofs.Fronts.{Front, front_same, front_push, All-front}
 use Rattle.ab_store.proofs.Agreeing.{Agree, Within, alike, same_cells, order_kept, order_alike, typed_alike, term_alike, reading_alike}
@@ -82,7 +82,7 @@ module _ (S : List Slot) (i : ℕ) (x : Slot) (o : Option TermId) (here : i < le
   bound_elsewhere j d differ = ap (λ (s : Slot). s.binding) (get_or-set_other S i j (record { cell = x.cell; binding = o }) d differ)
 
 -- binding a cell
-module _ (E : List Entry) (S : List Slot) (T : List Binding) (c : CellId) (u : TermId) (x : Slot) (r q : ℕ)
+module _ (E : List NodeEntry) (S : List Slot) (T : List Binding) (c : CellId) (u : TermId) (x : Slot) (r q : ℕ)
     (ok : AreSound E S T) (is : x ≡ get_or S c.0 x) (held : HoldsCell (contents E S T r) c) where
   abbrev old : Contents
   old = contents E S T r
@@ -150,7 +150,7 @@ module _ (E : List Entry) (S : List Slot) (T : List Binding) (c : CellId) (u : T
         where
           closed : (more : Table) → reach (tree_of more old u) ≤ 0
           closed more =
-              let d : Entry = get_or E u.0 (record { node = Lam (record { 0 = 0 }) [] u; facts = record { reach = 0; nominals = false; cells = false } }) in
+              let d : NodeEntry = get_or E u.0 (record { node = Lam (record { 0 = 0 }) [] u; facts = record { reach = 0; nominals = false; cells = false } }) in
               let low : u.0 < length E = omega (arith, term, count E S T r) in
               omega (arith, (ok.facts more u d low).reach, (ok.facts types u d low).reach, closed_reach (signature types) typed.1)
 
@@ -183,7 +183,7 @@ module _ (E : List Entry) (S : List Slot) (T : List Binding) (c : CellId) (u : T
       (take-append-le m.bindings T (b ∷ []) has.bindings) refl (ap (take m.cells) bind_cells)
 
 -- undoing the last binding
-module _ (E : List Entry) (S : List Slot) (T U : List Binding) (b : Binding) (x : Slot)
+module _ (E : List NodeEntry) (S : List Slot) (T U : List Binding) (b : Binding) (x : Slot)
     (ok : AreSound E S T) (last : T ≡ U ++ b ∷ []) (is : x ≡ get_or S b.cell.0 x) where
   abbrev undone : List Slot
   undone = set S b.cell.0 (record { cell = x.cell; binding = None })
@@ -235,12 +235,12 @@ module _ (E : List Entry) (S : List Slot) (T U : List Binding) (b : Binding) (x 
       }
 
 -- cutting by a mark, once its bindings are the store's
-module _ (E : List Entry) (S : List Slot) (T : List Binding) (m : Mark) (ok : AreSound E S T) (has : HasMark (contents E S T 0) m) (all : length T ≡ m.bindings) where
+module _ (E : List NodeEntry) (S : List Slot) (T : List Binding) (m : Mark) (ok : AreSound E S T) (has : HasMark (contents E S T 0) m) (all : length T ≡ m.bindings) where
   abbrev cut : Contents
   cut = contents (take m.nodes E) (take m.cells S) T 0
 
   cut_nodes : nodes_of (take m.nodes E) ≡ take m.nodes (nodes_of E)
-  cut_nodes = sym (take-map (λ (e : Entry). e.node) m.nodes E)
+  cut_nodes = sym (take-map (λ (e : NodeEntry). e.node) m.nodes E)
 
   cut_cells : cells_in (take m.cells S) ≡ take m.cells (cells_in S)
   cut_cells = sym (take-map (λ (s : Slot). s.cell) m.cells S)

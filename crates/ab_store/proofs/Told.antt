@@ -8,7 +8,7 @@ use Rattle.ab_term.specs.Variables.{variables, variables_of_all}
 use Rattle.ab_store.specs.declared.node.TermId.{TermId}
 use Rattle.ab_store.specs.declared.facts.Facts.{Facts}
 use Rattle.ab_store.specs.Trees.{Read}
-use Rattle.ab_store.specs.Entries.{Covers, HoldOfAll}
+use Rattle.ab_store.specs.Layout.{Covers, HoldOfAll}
 
 reach_push : (ts : List Read) (t : Read) → reach_of_all (terms_of (ts ++ t ∷ [])) ≡ max (reach_of_all (terms_of ts)) (reach t)
 reach_push [] t = omega arith
