@@ -1,15 +1,14 @@
 -- What holds of a sound store, and of it with one entry or one cell more.
-use Rattle.std.proofs.Common.{◌≡◌, ℕ, ◌+◌, ◌<◌, ◌≤◌, List, [], ◌∷◌, ◌++◌, map, length, get_or, take, Bool, true, false, ◌⊎◌, inl, inr, Option, None, Some, cond, refl, sym, ◌∙◌, ap, subst, arith, length-append}
+use Rattle.std.proofs.Common.{◌≡◌, ℕ, ◌+◌, ◌<◌, ◌≤◌, List, [], ◌∷◌, ◌++◌, map, length, get_or, take, Bool, true, false, ◌⊎◌, inl, inr, None, Some, cond, refl, sym, ◌∙◌, ap, subst, arith, length-append}
 use Rattle.std.specs.Prelude.{All, Contains, ◌==◌}
 use Rattle.std.specs.Cmp.{unsigned_Decides}
 use Rattle.std.proofs.lemmas.Bool.{cases_lt}
 use Rattle.std.proofs.lemmas.List.{get_or-map, map-append, length-map, get_or_push, get_or_append_left, take-append-le}
-use Rattle.std.proofs.lemmas.List.Elements.{All-push, All-map, All-head, All-tail, All-weaker}
+use Rattle.std.proofs.lemmas.List.Elements.{All-push, All-map, All-head, All-tail}
 use Rattle.ab_term.specs.Types.{Ty}
 use Rattle.ab_term.specs.Terms.{Variable}
 use Rattle.ab_term.specs.Typing.{HasType}
 use Rattle.ab_term.specs.Reach.{reach}
-use Rattle.ab_term.specs.Names.{support}
 use Rattle.ab_term.specs.Variables.{variables, one_by_one}
 use Rattle.ab_term.specs.Sameness.{same_number}
 use Rattle.ab_term.proofs.Lists.{Contains-none}
@@ -23,19 +22,17 @@ use Rattle.ab_store.specs.declared.node.Node.{Node}
 use Rattle.ab_store.specs.declared.node.Node.TheVariants.{Lam, Spine}
 use Rattle.ab_store.specs.declared.node.CellEntry.{CellEntry}
 use Rattle.ab_store.specs.declared.node.Binding.{Binding}
-use Rattle.ab_store.specs.declared.mark.Mark.{Mark}
 use Rattle.ab_store.specs.declared.store.NodeEntry.{NodeEntry}
 use Rattle.ab_store.specs.declared.store.Slot.{Slot}
-use Rattle.ab_store.specs.Trees.{Read, Contents, Holds, HoldsCell, tree_of, node_tree, trees}
+use Rattle.ab_store.specs.Trees.{Contents, Holds, HoldsCell, tree_of, node_tree, trees}
 use Rattle.ab_store.specs.Reading.{bound_in, pairs, reading, node_reading}
-use Rattle.ab_store.specs.Bindings.{IsResolved, AreInOrder}
+use Rattle.ab_store.specs.Bindings.{AreInOrder}
 use Rattle.ab_store.specs.Growth.{IsExtendedBy}
-use Rattle.ab_store.specs.Marks.{HasMark, KeepsMark}
 use Rattle.ab_store.specs.Naming.{HeadNames, NodeNames, NodeIsTyped, NodesNameEarlier, IsTypedBy, IsTerm}
 use Rattle.ab_store.specs.Layout.{contents, AreSound, HoldOf}
 use Rattle.ab_store.proofs.Nodes.{none, terms_from-append, length-terms_from, terms_from-at, terms_from-more}
-use Rattle.ab_store.proofs.Cells.{numbers, numbered}
-use Rattle.ab_store.proofs.Putting.{Pair, pair, Missing, all_unmoved, reach_put, node_reads}
+use Rattle.ab_store.proofs.Cells.{numbers}
+use Rattle.ab_store.proofs.Putting.{Pair, pair, all_unmoved, reach_put, node_reads}
 use Rattle.ab_store.proofs.Fronts.{front_same}
 use Rattle.ab_store.proofs.Agreeing.{Agree, Within, same_pairs, same_reading, order_kept, order_alike, bindings_typed}
 use Rattle.ab_store.proofs.Marking.{keeps}
@@ -150,7 +147,7 @@ module _ (E : List NodeEntry) (S : List Slot) (T : List Binding) where
       bindings = refl;
       room = omega arith;
       marks = λ m has. keeps (contents E S T r) (contents (E ++ e ∷ []) S T r) m has has.bindings (omega (arith, has.nodes, more)) has.cells refl
-        (ap (take m.nodes) nodes_pushed ∙ take-append-le m.nodes (nodes_of E) (e.node ∷ []) has.nodes) refl;
+          (ap (take m.nodes) nodes_pushed ∙ take-append-le m.nodes (nodes_of E) (e.node ∷ []) has.nodes) refl;
     }
 
     earlier_pushed : NodesNameEarlier (length (cells_in S)) (nodes_of E) → NodeNames (length (nodes_of E)) (length (cells_in S)) e.node → NodesNameEarlier (length (cells_in S)) (nodes_of E ++ e.node ∷ [])
@@ -194,8 +191,10 @@ module _ (E : List NodeEntry) (S : List Slot) (T : List Binding) where
     where
       old : Contents
       old = contents E S T 0
+
       new : Contents
       new = contents (E ++ e ∷ []) S T 0
+
       facts : (types : Table) (t : TermId) (d : NodeEntry) → t.0 < length (E ++ e ∷ []) → (t.0 < length E) ⊎ (length E ≤ t.0) → HoldOf (get_or (E ++ e ∷ []) t.0 d).facts (tree_of types (contents (E ++ e ∷ []) S T 0) t)
       facts types t d h (inl l) =
           rw (get_or_append_left E (e ∷ []) d t.0 l) (subst (HoldOf (get_or E t.0 d).facts) (sym ((agree e 0).trees types t (omega (arith, l, count 0)))) (ok.facts types t d l))
@@ -235,7 +234,7 @@ module _ (E : List NodeEntry) (S : List Slot) (T : List Binding) where
       bindings = refl;
       room = omega arith;
       marks = λ m has. keeps (contents E S T r) (contents E (S ++ s ∷ []) T r) m has has.bindings has.nodes (omega (arith, has.cells, more_cells)) refl refl
-        (ap (take m.cells) cells_pushed ∙ take-append-le m.cells (cells_in S) (s.cell ∷ []) has.cells);
+          (ap (take m.cells) cells_pushed ∙ take-append-le m.cells (cells_in S) (s.cell ∷ []) has.cells);
     }
 
     pub typed_with_cell : (types : Table) → IsTypedBy types (contents E S T r) → HoldsType types s.cell.ty → IsTypedBy types (contents E (S ++ s ∷ []) T r)

@@ -12,7 +12,7 @@ use Rattle.ab_store.specs.declared.node.Binding.{Binding}
 use Rattle.ab_store.specs.declared.facts.Facts.{Facts}
 use Rattle.ab_store.specs.declared.store.NodeEntry.{NodeEntry}
 use Rattle.ab_store.specs.declared.store.Slot.{Slot}
-use Rattle.ab_store.specs.Trees.{Read, Contents, HoldsCell, tree_of}
+use Rattle.ab_store.specs.Trees.{Read, Contents, tree_of}
 use Rattle.ab_store.specs.Reading.{bound_in}
 use Rattle.ab_store.specs.Naming.{NodesNameEarlier}
 use Rattle.ab_store.specs.Bindings.{AreInOrder}

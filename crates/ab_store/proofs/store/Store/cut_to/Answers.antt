@@ -1,4 +1,4 @@
-use Rattle.std.proofs.Common.{◌≡◌, ◌≤◌, ◌-◌, vec_len, vec_capacity, length, map, take, arith, ap, sym, ◌∙◌, length-take-le}
+use Rattle.std.proofs.Common.{◌≡◌, ◌≤◌, ◌-◌, vec_len, vec_capacity, length, take, arith, ap, sym, ◌∙◌, length-take-le}
 use Rattle.std.proofs.lemmas.List.{take-map}
 use Rattle.ab_store.specs.declared.store.NodeEntry.{NodeEntry}
 use Rattle.ab_store.specs.declared.store.Slot.{Slot}
@@ -43,7 +43,7 @@ module _ (c : given.Over) (k : goal.After-truncate-2 c) where
       k.args.mark.now k.requires here).has
 
 pub invariant_of-self : goal.invariant_of-self
-invariant_of-self c k = 
+invariant_of-self c k =
     rw (k.truncate.ensures.items, k.truncate-2.ensures.items)
     (cut_sound k.self.inside.entries.items k.self.inside.slots.items k.self.inside.trail.items k.args.mark.now k.self.invariant (has c k) (left c k))
 

@@ -17,5 +17,8 @@ pub returns-clause-reads : goal.returns-clause-reads
 returns-clause-reads c =
     let r = (vec_capacity c.self.inside.trail - vec_len c.self.inside.trail) in
     rw (← c.self.view_is) (λ types. subst (λ (e : NodeEntry). reach (reading types (contents c.self.inside.entries.items c.self.inside.slots.items c.self.inside.trail.items r) c.args.id) ≤ e.facts.reach) (sym c.index.ensures)
-    (omega (arith, reach_at c.self.inside.entries.items c.self.inside.slots.items c.self.inside.trail.items c.self.invariant r types c.args.id,
-    (c.self.invariant.facts types c.args.id c.index.result.now (held c.self.inside.entries.items c.self.inside.slots.items c.self.inside.trail.items r c.args.id (rw (← c.self.view_is) at c.requires))).reach)))
+    (omega (
+      arith,
+      reach_at c.self.inside.entries.items c.self.inside.slots.items c.self.inside.trail.items c.self.invariant r types c.args.id,
+      (c.self.invariant.facts types c.args.id c.index.result.now (held c.self.inside.entries.items c.self.inside.slots.items c.self.inside.trail.items r c.args.id (rw (← c.self.view_is) at c.requires))).reach,
+    )))
