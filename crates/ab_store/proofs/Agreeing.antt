@@ -1,6 +1,6 @@
 -- Stores in which ids and cells stand for the same, and what they have in common.
 use Rattle.std.proofs.Common.{◌≡◌, ℕ, ◌<◌, ◌≤◌, List, [], ◌∷◌, map, length, get_or, refl, sym, ◌∙◌, ap, subst, subst₂, arith}
-use Rattle.std.specs.Prelude.{◌≢◌, All, AllPairs, Contains}
+use Rattle.std.specs.Prelude.{◌≢◌, All, Contains}
 use Rattle.std.proofs.lemmas.List.Elements.{All-head, All-tail, All-weaker}
 use Rattle.ab_term.specs.Types.{Ty}
 use Rattle.ab_term.specs.Typing.{HasType}
@@ -13,13 +13,13 @@ use Rattle.ab_store.specs.declared.node.CellId.{CellId}
 use Rattle.ab_store.specs.declared.node.Node.{Node}
 use Rattle.ab_store.specs.declared.node.CellEntry.{CellEntry}
 use Rattle.ab_store.specs.declared.node.Binding.{Binding}
-use Rattle.ab_store.specs.Trees.{Read, Contents, Holds, HoldsCell, cell_of, tree_of, terms_from}
+use Rattle.ab_store.specs.Trees.{Read, Contents, cell_of, tree_of, terms_from}
 use Rattle.ab_store.specs.Reading.{pairs, reading}
 use Rattle.ab_store.specs.Bindings.{cells_of, StandsIn, AreInOrder}
 use Rattle.ab_store.specs.Naming.{NodeIsTyped, NodesNameEarlier, BindingIsTyped, IsTypedBy, IsTerm}
 use Rattle.ab_store.proofs.Nodes.{none}
 use Rattle.ab_store.proofs.Putting.{pair}
-use Rattle.ab_store.proofs.Fronts.{Front, front_same, All-front, AllPairs-front}
+use Rattle.ab_store.proofs.Fronts.{Front, All-front, AllPairs-front}
 
 -- ids below n and cells below m stand for the same
 pub record Agree (old new : Contents) (n m : ℕ) : Type 0 where
@@ -71,9 +71,10 @@ module _ (old new : Contents) (n m : ℕ) (agree : Agree old new n m) where
   term_kept nodes types G t A h is = (omega (arith, h, nodes), subst (λ r. HasType (signature types) G r A) (sym (agree.trees types t h)) is.1)
 
   binding_kept : n ≤ length new.nodes → m ≤ length new.cells → (types : Table) (b : Binding) → Within n m b → BindingIsTyped types old b → BindingIsTyped types new b
-  binding_kept nodes cells types b h typed =
-      (omega (arith, h.0, cells),
-      subst (λ (e : CellEntry). IsTerm types new [] b.term (type_of types e.ty)) (sym (agree.cells b.cell h.0)) (term_kept nodes types [] b.term (type_of types (cell_of old b.cell).ty) h.1 typed.1))
+  binding_kept nodes cells types b h typed = (
+    omega (arith, h.0, cells),
+    subst (λ (e : CellEntry). IsTerm types new [] b.term (type_of types e.ty)) (sym (agree.cells b.cell h.0)) (term_kept nodes types [] b.term (type_of types (cell_of old b.cell).ty) h.1 typed.1),
+  )
 
   pub bindings_typed : n ≤ length new.nodes → m ≤ length new.cells → Front new.bindings old.bindings → All (Within n m) new.bindings → (types : Table) → All (BindingIsTyped types old) old.bindings → All (BindingIsTyped types new) new.bindings
   bindings_typed nodes cells front all types typed i d l =
@@ -102,7 +103,7 @@ module _ (old new : Contents) (nodes : new.nodes ≡ old.nodes) (cells : new.cel
         nodes = subst (All (NodeIsTyped types)) (sym nodes) typed.nodes;
         cells = subst (All (λ (c : CellEntry). HoldsType types c.ty)) (sym cells) typed.cells;
         bindings = bindings_typed old new (length old.nodes) (length old.cells) (alike old new (length old.nodes) (length old.cells) nodes cells) count count_cells front
-          (All-front (Within (length old.nodes) (length old.cells)) new.bindings old.bindings front bound) types typed.bindings;
+            (All-front (Within (length old.nodes) (length old.cells)) new.bindings old.bindings front bound) types typed.bindings;
       }
 
   pub term_alike : (types : Table) (G : List Ty) (t : TermId) (A : Ty) → IsTerm types old G t A → IsTerm types new G t A

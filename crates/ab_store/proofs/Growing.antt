@@ -1,6 +1,5 @@
 -- Growth, one step after another; and stores in which no cell is bound.
-use Rattle.std.proofs.Common.{◌≡◌, ℕ, List, [], map, get_or, Option, None, option_map, refl, sym, ◌∙◌, ap, subst, arith}
-use Rattle.std.specs.Prelude.{All}
+use Rattle.std.proofs.Common.{◌≡◌, ℕ, List, [], map, get_or, None, option_map, refl, sym, ◌∙◌, ap, subst, arith}
 use Rattle.ab_term.specs.Types.{Ty}
 use Rattle.ab_term.specs.Terms as tree
 use Rattle.ab_term.specs.Terms.{spine, Terms, terms_of}
@@ -10,9 +9,9 @@ use Rattle.ab_term.specs.Sameness.{same_number}
 use Rattle.ab_types.specs.Entries.{Table, signature}
 use Rattle.ab_store.specs.declared.node.TermId.{TermId}
 use Rattle.ab_store.specs.declared.node.Head.{Head}
-use Rattle.ab_store.specs.Trees.{Read, Contents, tree_of, head_reading}
+use Rattle.ab_store.specs.Trees.{Contents, tree_of, head_reading}
 use Rattle.ab_store.specs.Reading.{bound_in, reading, given}
-use Rattle.ab_store.specs.Bindings.{cells_of, IsUnbound, IsResolved}
+use Rattle.ab_store.specs.Bindings.{cells_of, IsResolved}
 use Rattle.ab_store.specs.Naming.{IsTerm}
 use Rattle.ab_store.specs.Growth.{IsExtendedBy}
 use Rattle.ab_store.proofs.Putting.{pair}

@@ -1,15 +1,14 @@
 -- What holds of a sound store, and of it with one entry or one cell more.
-use Rattle.std.proofs.Common.{◌≡◌, ℕ, ◌+◌, ◌<◌, ◌≤◌, List, [], ◌∷◌, ◌++◌, map, length, get_or, take, Bool, true, false, ◌⊎◌, inl, inr, Option, None, Some, cond, refl, sym, ◌∙◌, ap, subst, arith, length-append}
+use Rattle.std.proofs.Common.{◌≡◌, ℕ, ◌+◌, ◌<◌, ◌≤◌, List, [], ◌∷◌, ◌++◌, map, length, get_or, take, Bool, true, false, ◌⊎◌, inl, inr, None, Some, cond, refl, sym, ◌∙◌, ap, subst, arith, length-append}
 use Rattle.std.specs.Prelude.{All, Contains, ◌==◌}
 use Rattle.std.specs.Cmp.{unsigned_Decides}
 use Rattle.std.proofs.lemmas.Bool.{cases_lt}
 use Rattle.std.proofs.lemmas.List.{get_or-map, map-append, length-map, get_or_push, get_or_append_left, take-append-le}
-use Rattle.std.proofs.lemmas.List.Elements.{All-push, All-map, All-head, All-tail, All-weaker}
+use Rattle.std.proofs.lemmas.List.Elements.{All-push, All-map, All-head, All-tail}
 use Rattle.ab_term.specs.Types.{Ty}
 use Rattle.ab_term.specs.Terms.{Variable}
 use Rattle.ab_term.specs.Typing.{HasType}
 use Rattle.ab_term.specs.Reach.{reach}
-use Rattle.ab_term.specs.Names.{support}
 use Rattle.ab_term.specs.Variables.{variables, one_by_one}
 use Rattle.ab_term.specs.Sameness.{same_number}
 use Rattle.ab_term.proofs.Lists.{Contains-none}
@@ -23,19 +22,17 @@ use Rattle.ab_store.specs.declared.node.Node.{Node}
 use Rattle.ab_store.specs.declared.node.Node.TheVariants.{Lam, Spine}
 use Rattle.ab_store.specs.declared.node.CellEntry.{CellEntry}
 use Rattle.ab_store.specs.declared.node.Binding.{Binding}
-use Rattle.ab_store.specs.declared.mark.Mark.{Mark}
-use Rattle.ab_store.specs.declared.store.Entry.{Entry}
+use Rattle.ab_store.specs.declared.store.NodeEntry.{NodeEntry}
 use Rattle.ab_store.specs.declared.store.Slot.{Slot}
-use Rattle.ab_store.specs.Trees.{Read, Contents, Holds, HoldsCell, tree_of, node_tree, trees}
+use Rattle.ab_store.specs.Trees.{Contents, Holds, HoldsCell, tree_of, node_tree, trees}
 use Rattle.ab_store.specs.Reading.{bound_in, pairs, reading, node_reading}
-use Rattle.ab_store.specs.Bindings.{IsResolved, AreInOrder}
+use Rattle.ab_store.specs.Bindings.{AreInOrder}
 use Rattle.ab_store.specs.Growth.{IsExtendedBy}
-use Rattle.ab_store.specs.Marks.{HasMark, KeepsMark}
 use Rattle.ab_store.specs.Naming.{HeadNames, NodeNames, NodeIsTyped, NodesNameEarlier, IsTypedBy, IsTerm}
-use Rattle.ab_store.specs.Entries.{contents, AreSound, HoldOf}
+use Rattle.ab_store.specs.Layout.{contents, AreSound, HoldOf}
 use Rattle.ab_store.proofs.Nodes.{none, terms_from-append, length-terms_from, terms_from-at, terms_from-more}
-use Rattle.ab_store.proofs.Cells.{numbers, numbered}
-use Rattle.ab_store.proofs.Putting.{Pair, pair, Missing, all_unmoved, reach_put, node_reads}
+use Rattle.ab_store.proofs.Cells.{numbers}
+use Rattle.ab_store.proofs.Putting.{Pair, pair, all_unmoved, reach_put, node_reads}
 use Rattle.ab_store.proofs.Fronts.{front_same}
 use Rattle.ab_store.proofs.Agreeing.{Agree, Within, same_pairs, same_reading, order_kept, order_alike, bindings_typed}
 use Rattle.ab_store.proofs.Marking.{keeps}
@@ -51,7 +48,7 @@ more_names : (j i k : ℕ) (n : Node) → i ≤ k → NodeNames j i n → NodeNa
 more_names j i k (Lam a x t) l h = h
 more_names j i k (Spine g ts) l h = (more_head_names i k g l h.0, h.1)
 
-abbrev pub nodes_of : List Entry → List Node
+abbrev pub nodes_of : List NodeEntry → List Node
 nodes_of = map (λ e. e.node)
 
 abbrev pub cells_in : List Slot → List CellEntry
@@ -66,9 +63,9 @@ unbound_above n m (b ∷ bs) c all h = go (unbound_above n m bs c (All-tail (Wit
     go rest true e = absurd (omega (arith, (unsigned_Decides b.cell.0 c.0).0 e, (All-head (Within n m) b bs all).0, h))
     go rest false e = rest
 
-module _ (E : List Entry) (S : List Slot) (T : List Binding) where
+module _ (E : List NodeEntry) (S : List Slot) (T : List Binding) where
   pub count : (r : ℕ) → length (contents E S T r).nodes ≡ length E
-  count r = length-map E (λ (e : Entry). e.node)
+  count r = length-map E (λ (e : NodeEntry). e.node)
 
   pub count_cells : (r : ℕ) → length (contents E S T r).cells ≡ length S
   count_cells r = length-map S (λ (s : Slot). s.cell)
@@ -79,8 +76,8 @@ module _ (E : List Entry) (S : List Slot) (T : List Binding) where
   pub held_cell : (r : ℕ) (c : CellId) → HoldsCell (contents E S T r) c → c.0 < length S
   held_cell r c h = omega (arith, h, count_cells r)
 
-  node_at : (i : ℕ) (d : Entry) → i < length E → get_or (nodes_of E) i d.node ≡ (get_or E i d).node
-  node_at i d h = get_or-map (λ (e : Entry). e.node) E i d d.node h
+  node_at : (i : ℕ) (d : NodeEntry) → i < length E → get_or (nodes_of E) i d.node ≡ (get_or E i d).node
+  node_at i d h = get_or-map (λ (e : NodeEntry). e.node) E i d d.node h
 
   pub cell_at : (i : ℕ) (d : Slot) → i < length S → get_or (cells_in S) i d.cell ≡ (get_or S i d).cell
   cell_at i d h = get_or-map (λ (s : Slot). s.cell) S i d d.cell h
@@ -89,10 +86,10 @@ module _ (E : List Entry) (S : List Slot) (T : List Binding) where
   trees_count types = omega (arith, length-terms_from types (cells_in S) [] (nodes_of E))
 
   module _ (ok : AreSound E S T) (r : ℕ) where
-    pub names_at : (t : TermId) (d : Entry) → t.0 < length E → NodeNames t.0 (length (cells_in S)) (get_or E t.0 d).node
+    pub names_at : (t : TermId) (d : NodeEntry) → t.0 < length E → NodeNames t.0 (length (cells_in S)) (get_or E t.0 d).node
     names_at t d h = subst (NodeNames t.0 (length (cells_in S))) (node_at t.0 d h) (ok.earlier t.0 d.node (omega (arith, count r)))
 
-    pub tree_at : (types : Table) (t : TermId) (d : Entry) → t.0 < length E → tree_of types (contents E S T r) t ≡ node_tree types (contents E S T r) (get_or E t.0 d).node
+    pub tree_at : (types : Table) (t : TermId) (d : NodeEntry) → t.0 < length E → tree_of types (contents E S T r) t ≡ node_tree types (contents E S T r) (get_or E t.0 d).node
     tree_at types t d h =
         terms_from-at types (cells_in S) (length (cells_in S)) (nodes_of E) t d.node ok.earlier (omega (arith, count r))
         ∙ ap (node_tree types (contents E S T r)) (node_at t.0 d h)
@@ -100,13 +97,13 @@ module _ (E : List Entry) (S : List Slot) (T : List Binding) where
     pub order_at : AreInOrder (contents E S T r)
     order_at = order_alike (contents E S T 0) (contents E S T r) refl refl (front_same T T refl) ok.order
 
-    pub reads_at : (types : Table) (G : List Ty) (A : Ty) (t : TermId) (d : Entry) → t.0 < length E → IsTypedBy types (contents E S T r) → IsTerm types (contents E S T r) G t A
+    pub reads_at : (types : Table) (G : List Ty) (A : Ty) (t : TermId) (d : NodeEntry) → t.0 < length E → IsTypedBy types (contents E S T r) → IsTerm types (contents E S T r) G t A
         → reading types (contents E S T r) t ≡ node_reading types (contents E S T r) (get_or E t.0 d).node
     reads_at types G A t d h typed is =
         ap (one_by_one same_number (pairs types (contents E S T r))) (tree_at types t d h)
         ∙ node_reads types (contents E S T r) typed order_at (get_or E t.0 d).node G A (subst (λ u. HasType (signature types) G u A) (tree_at types t d h) is.1)
 
-    pub typed_at : (types : Table) (t : TermId) (d : Entry) → t.0 < length E → IsTypedBy types (contents E S T r) → NodeIsTyped types (get_or E t.0 d).node
+    pub typed_at : (types : Table) (t : TermId) (d : NodeEntry) → t.0 < length E → IsTypedBy types (contents E S T r) → NodeIsTyped types (get_or E t.0 d).node
     typed_at types t d h typed = subst (NodeIsTyped types) (node_at t.0 d h) (typed.nodes t.0 d.node (omega (arith, count r)))
 
     pub reach_at : (types : Table) (t : TermId) → reach (reading types (contents E S T r) t) ≤ reach (tree_of types (contents E S T r) t)
@@ -114,9 +111,9 @@ module _ (E : List Entry) (S : List Slot) (T : List Binding) where
         reach_put (pairs types (contents E S T r)) (tree_of types (contents E S T r) t) (All-map (λ (p : Pair). reach p.1 ≤ 0) (pair types (contents E S T r)) T (ok.closed types))
 
   -- with one entry more
-  module _ (e : Entry) (r : ℕ) where
+  module _ (e : NodeEntry) (r : ℕ) where
     nodes_pushed : nodes_of (E ++ e ∷ []) ≡ nodes_of E ++ e.node ∷ []
-    nodes_pushed = map-append (λ (e : Entry). e.node) E (e ∷ [])
+    nodes_pushed = map-append (λ (e : NodeEntry). e.node) E (e ∷ [])
 
     more : length (nodes_of (E ++ e ∷ [])) ≡ length (nodes_of E) + 1
     more = omega (arith, ap length nodes_pushed, length-append (nodes_of E) (e.node ∷ []))
@@ -150,7 +147,7 @@ module _ (E : List Entry) (S : List Slot) (T : List Binding) where
       bindings = refl;
       room = omega arith;
       marks = λ m has. keeps (contents E S T r) (contents (E ++ e ∷ []) S T r) m has has.bindings (omega (arith, has.nodes, more)) has.cells refl
-        (ap (take m.nodes) nodes_pushed ∙ take-append-le m.nodes (nodes_of E) (e.node ∷ []) has.nodes) refl;
+          (ap (take m.nodes) nodes_pushed ∙ take-append-le m.nodes (nodes_of E) (e.node ∷ []) has.nodes) refl;
     }
 
     earlier_pushed : NodesNameEarlier (length (cells_in S)) (nodes_of E) → NodeNames (length (nodes_of E)) (length (cells_in S)) e.node → NodesNameEarlier (length (cells_in S)) (nodes_of E ++ e.node ∷ [])
@@ -183,7 +180,7 @@ module _ (E : List Entry) (S : List Slot) (T : List Binding) where
         new_put ok types t place
         ∙ node_reads types (contents E S T r) typed (order_at ok r) e.node G A (subst (λ u. HasType (signature types) G u A) (new_tree types t place) is.1)
 
-  pub sound_pushed : (e : Entry) → AreSound E S T → NodeNames (length (nodes_of E)) (length (cells_in S)) e.node → ((types : Table) → HoldOf e.facts (node_tree types (contents E S T 0) e.node)) → AreSound (E ++ e ∷ []) S T
+  pub sound_pushed : (e : NodeEntry) → AreSound E S T → NodeNames (length (nodes_of E)) (length (cells_in S)) e.node → ((types : Table) → HoldOf e.facts (node_tree types (contents E S T 0) e.node)) → AreSound (E ++ e ∷ []) S T
   sound_pushed e ok names told = record {
     earlier = subst (NodesNameEarlier (length (cells_in S))) (sym (nodes_pushed e 0)) (earlier_pushed e 0 ok.earlier names);
     facts = λ types t d h. facts types t d h (cases_lt t.0 (length E));
@@ -194,9 +191,11 @@ module _ (E : List Entry) (S : List Slot) (T : List Binding) where
     where
       old : Contents
       old = contents E S T 0
+
       new : Contents
       new = contents (E ++ e ∷ []) S T 0
-      facts : (types : Table) (t : TermId) (d : Entry) → t.0 < length (E ++ e ∷ []) → (t.0 < length E) ⊎ (length E ≤ t.0) → HoldOf (get_or (E ++ e ∷ []) t.0 d).facts (tree_of types (contents (E ++ e ∷ []) S T 0) t)
+
+      facts : (types : Table) (t : TermId) (d : NodeEntry) → t.0 < length (E ++ e ∷ []) → (t.0 < length E) ⊎ (length E ≤ t.0) → HoldOf (get_or (E ++ e ∷ []) t.0 d).facts (tree_of types (contents (E ++ e ∷ []) S T 0) t)
       facts types t d h (inl l) =
           rw (get_or_append_left E (e ∷ []) d t.0 l) (subst (HoldOf (get_or E t.0 d).facts) (sym ((agree e 0).trees types t (omega (arith, l, count 0)))) (ok.facts types t d l))
       facts types t d h (inr l) =
@@ -235,7 +234,7 @@ module _ (E : List Entry) (S : List Slot) (T : List Binding) where
       bindings = refl;
       room = omega arith;
       marks = λ m has. keeps (contents E S T r) (contents E (S ++ s ∷ []) T r) m has has.bindings has.nodes (omega (arith, has.cells, more_cells)) refl refl
-        (ap (take m.cells) cells_pushed ∙ take-append-le m.cells (cells_in S) (s.cell ∷ []) has.cells);
+          (ap (take m.cells) cells_pushed ∙ take-append-le m.cells (cells_in S) (s.cell ∷ []) has.cells);
     }
 
     pub typed_with_cell : (types : Table) → IsTypedBy types (contents E S T r) → HoldsType types s.cell.ty → IsTypedBy types (contents E (S ++ s ∷ []) T r)

@@ -1,5 +1,5 @@
 -- What a mark counts.
-use Rattle.std.proofs.Common.{◌≡◌, ℕ, ◌+◌, ◌<◌, ◌≤◌, List, [], ◌∷◌, ◌++◌, map, take, drop, length, get_or, refl, sym, ◌∙◌, ap, subst, arith, take-append-drop, length-take-le, take-take, take_all}
+use Rattle.std.proofs.Common.{◌≡◌, ℕ, ◌+◌, ◌<◌, ◌≤◌, List, [], ◌++◌, take, drop, length, get_or, refl, sym, ◌∙◌, ap, subst, arith, take-append-drop, length-take-le, take-take}
 use Rattle.std.specs.Prelude.{All}
 use Rattle.std.proofs.lemmas.List.{get_or-take}
 use Rattle.std.proofs.lemmas.List.Elements.{All-take}
@@ -13,9 +13,8 @@ use Rattle.ab_store.specs.declared.node.Binding.{Binding}
 use Rattle.ab_store.specs.declared.mark.Mark.{Mark}
 use Rattle.ab_store.specs.Trees.{Contents, terms_from}
 use Rattle.ab_store.specs.Reading.{reading}
-use Rattle.ab_store.specs.Naming.{NodeNames, NodeIsTyped, NodesNameEarlier, IsTypedBy, IsTerm}
+use Rattle.ab_store.specs.Naming.{NodeIsTyped, NodesNameEarlier, IsTypedBy, IsTerm}
 use Rattle.ab_store.specs.Marks.{HasMark, at_mark, IsNoLater, KeepsMark}
-use Rattle.ab_store.specs.Growth.{IsExtendedBy}
 use Rattle.ab_store.proofs.Nodes.{none, terms_from-more, terms_from-take}
 use Rattle.ab_store.proofs.Fronts.{front_same, front_take}
 use Rattle.ab_store.proofs.Agreeing.{Agree, same_reading, term_kept, bindings_typed, typed_alike, term_alike, reading_alike}
@@ -69,7 +68,7 @@ module _ (store : Contents) (m : Mark) (has : HasMark store m) where
     nodes = All-take (NodeIsTyped types) m.nodes store.nodes typed.nodes;
     cells = All-take (λ (c : CellEntry). HoldsType types c.ty) m.cells store.cells typed.cells;
     bindings = bindings_typed store (at_mark store m) m.nodes m.cells agrees (omega (arith, length-take-le m.nodes store.nodes has.nodes)) (omega (arith, count))
-      (front_take m.bindings (take m.bindings store.bindings) store.bindings refl) has.bindings_name types typed.bindings;
+        (front_take m.bindings (take m.bindings store.bindings) store.bindings refl) has.bindings_name types typed.bindings;
   }
 
 -- a store that was rewound to a mark

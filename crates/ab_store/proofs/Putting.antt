@@ -1,16 +1,15 @@
 -- What putting the bindings in makes of a tree.
-use Rattle.std.proofs.Common.{◌≡◌, ℕ, zero, suc, ◌+◌, ◌<◌, ◌≤◌, List, [], ◌∷◌, ◌++◌, map, length, get_or, Bool, true, false, cond, Option, Some, None, option_map, refl, sym, ◌∙◌, ap, subst, arith, length-append, append_assoc, ◌&&◌}
-use Rattle.std.specs.Prelude.{All, AllPairs, Contains, ◌==◌}
+use Rattle.std.proofs.Common.{◌≡◌, ℕ, zero, suc, ◌<◌, ◌≤◌, List, [], ◌∷◌, ◌++◌, map, length, get_or, Bool, true, false, cond, Option, Some, None, option_map, refl, sym, ◌∙◌, ap, subst, arith, length-append, append_assoc, ◌&&◌}
+use Rattle.std.specs.Prelude.{All, Contains, ◌==◌}
 use Rattle.std.specs.Cmp.{unsigned_Decides}
 use Rattle.std.proofs.lemmas.List.{map-append, get_or_at, get_or_append_left}
 use Rattle.std.proofs.lemmas.List.Elements.{All-head, All-tail, All-map, All-weaker, All-contains}
 use Rattle.ab_term.specs.Types.{Ty, kind, same_type}
-use Rattle.ab_term.specs.Terms as tree
-use Rattle.ab_term.specs.Terms.{Variable, lam, spine, Terms, no_terms, term, terms_of}
-use Rattle.ab_term.specs.Typing.{HasType, TakeType, typed_lam, typed_spine, take_none, take_term}
+use Rattle.ab_term.specs.Terms.{Variable, term, terms_of}
+use Rattle.ab_term.specs.Typing.{HasType, TakeType, typed_spine, take_term}
 use Rattle.ab_term.specs.Reach.{reach}
 use Rattle.ab_term.specs.Sameness.{same_number}
-use Rattle.ab_term.specs.Variables.{variables, variables_of_all, put_at, image_by, image_all_by, image, Substitution, value_in, one_by_one, at_once, IsTyped}
+use Rattle.ab_term.specs.Variables.{variables, put_at, image_by, image_all_by, image, value_in, one_by_one, at_once, IsTyped}
 use Rattle.ab_term.proofs.Comparisons.{same_type-Decides}
 use Rattle.ab_term.proofs.Lists.{Contains-map}
 use Rattle.ab_term.proofs.Depends.{image_agrees, image_unmoved}
@@ -54,12 +53,15 @@ pub reach_put : (ps : List Pair) (t : Read) → All (λ p. reach p.1 ≤ 0) ps �
 reach_put [] t closed = omega arith
 reach_put (p ∷ ps) t closed =
     let small : reach p.1 ≤ 0 = All-head (λ (q : Pair). reach q.1 ≤ 0) p ps closed in
-    omega (arith,
-    image_reach (value_in same_number (p ∷ [])) (λ y u e. value y u (same y) e small) t,
-    reach_put ps (image same_number (p ∷ []) t) (All-tail (λ (q : Pair). reach q.1 ≤ 0) p ps closed))
+    omega (
+      arith,
+      image_reach (value_in same_number (p ∷ [])) (λ y u e. value y u (same y) e small) t,
+      reach_put ps (image same_number (p ∷ []) t) (All-tail (λ (q : Pair). reach q.1 ≤ 0) p ps closed),
+    )
   where
     same : Variable ℕ → Bool
     same y = (p.0.name == y.name) && same_type p.0.type y.type
+
     value : (y : Variable ℕ) (u : Read) (b : Bool) → cond b (Some p.1) None ≡ Some u → reach p.1 ≤ 0 → reach u ≤ 0
     value y u true e small = let one : p.1 ≡ u = cc in subst (λ v. reach v ≤ 0) one small
     value y u false e small = absurd (cc)
@@ -116,10 +118,13 @@ module _ (types : Table) (store : Contents) where
       where
         here : (d : Binding) → get_or store.bindings (length before) d ≡ b
         here d = ap (λ l. get_or l (length before) d) e ∙ get_or_at before b after d (length before) refl
+
         long : length before < length store.bindings
         long = omega (arith, ap length e, length-append before (b ∷ after))
+
         itself : Contains (numbers (tree_of types store b.term)) b.cell.0 → ⊥
         itself m = subst (λ (x : Binding). StandsIn store x.cell x.term → ⊥) (here b) (order.apart (length before) b long) (stands types store b.cell b.term m)
+
         earlier : All (λ x. Missing (tree_of types store b.term) (pair x)) before
         earlier i d l m =
             let x = get_or before i d in
@@ -137,14 +142,18 @@ module _ (types : Table) (store : Contents) where
       where
         put : Read
         put = image same_number (at_once same_number (map pair bs)) (tree_of types store b.term)
+
         rest : Option Read
         rest = value_in same_number (at_once same_number (map pair bs)) (cell_variable types store c)
+
         types_same : Bool
         types_same = same_type (cell_variable types store b.cell).type (cell_variable types store c).type
+
         is : put ≡ reading types store b.term
         is =
             sym (one_by_one-at_once (signature types) same_number (map pair bs) (All-map (λ (p : Pair). HasType (signature types) [] p.1 p.0.type) pair bs (All-tail Fits b bs fits)) (All-head Fits b bs fits))
             ∙ sym (own before bs b e)
+
         go : rest ≡ option_map (reading types store) (bound_in bs c) → (k : Bool) → (b.cell.0 == c.0) ≡ k → cond (k && types_same) (Some put) rest ≡ option_map (reading types store) (cond k (Some b.term) (bound_in bs c))
         go ih true same =
             let id : ℕ → CellId = λ n. record { 0 = n } in

@@ -1,9 +1,9 @@
 -- A sound store with one cell bound, with its last binding undone, and cut by a mark.
 use Rattle.std.proofs.Common.{◌≡◌, ℕ, ◌+◌, ◌<◌, ◌≤◌, List, [], ◌∷◌, ◌++◌, map, length, get_or, set, take, Bool, true, false, ◌⊎◌, inl, inr, Option, None, Some, cond, refl, sym, ◌∙◌, ap, subst, arith, length-append, length-take-le, get_or-set_other, length-set, take_all}
-use Rattle.std.specs.Prelude.{◌≢◌, All, AllPairs, Contains, ◌==◌}
+use Rattle.std.specs.Prelude.{◌≢◌, All, Contains, ◌==◌}
 use Rattle.std.specs.Cmp.{unsigned_Decides}
 use Rattle.std.proofs.lemmas.Bool.{cases_eq}
-use Rattle.std.proofs.lemmas.List.{map-append, map-set, set-get_or, get_or_at, get_or_append_left, take-append-le, take-map, get_or-take}
+use Rattle.std.proofs.lemmas.List.{map-append, map-set, set-get_or, get_or_at, take-append-le, take-map, get_or-take}
 use Rattle.std.proofs.lemmas.List.Elements.{All-push, All-head, All-tail, All-contains}
 use Rattle.std.proofs.lemmas.List.Quantifiers.{all_pairs_push}
 use Rattle.std.proofs.lemmas.Grind.{get_or-set_at}
@@ -21,20 +21,19 @@ use Rattle.ab_store.specs.declared.node.CellEntry.{CellEntry}
 use Rattle.ab_store.specs.declared.node.Node.TheVariants.{Lam}
 use Rattle.ab_store.specs.declared.node.Binding.{Binding}
 use Rattle.ab_store.specs.declared.mark.Mark.{Mark}
-use Rattle.ab_store.specs.declared.store.Entry.{Entry}
+use Rattle.ab_store.specs.declared.store.NodeEntry.{NodeEntry}
 use Rattle.ab_store.specs.declared.store.Slot.{Slot}
-use Rattle.ab_store.specs.Trees.{Read, Contents, Holds, HoldsCell, cell_of, tree_of}
-use Rattle.ab_store.specs.Reading.{bound_in, cell_variable, pairs, reading}
+use Rattle.ab_store.specs.Trees.{Contents, Holds, HoldsCell, cell_of, tree_of}
+use Rattle.ab_store.specs.Reading.{bound_in, cell_variable, reading}
 use Rattle.ab_store.specs.Bindings.{cells_of, StandsIn, IsUnbound, IsResolved, AreInOrder}
 use Rattle.ab_store.specs.Marks.{HasMark, KeepsMark, at_mark}
 use Rattle.ab_store.specs.Naming.{NodeNames, NodesNameEarlier, BindingIsTyped, IsTypedBy, IsTerm}
-use Rattle.ab_store.specs.Entries.{contents, AreSound, HoldOf}
-use Rattle.ab_store.proofs.Putting.{Pair, pair, is_bound, resolved_reads}
+use Rattle.ab_store.specs.Layout.{contents, AreSound, HoldOf}
+use Rattle.ab_store.proofs.Putting.{pair, is_bound, resolved_reads}
 use Rattle.ab_store.proofs.Fronts.{Front, front_same, front_push, All-front}
 use Rattle.ab_store.proofs.Agreeing.{Agree, Within, alike, same_cells, order_kept, order_alike, typed_alike, term_alike, reading_alike}
 use Rattle.ab_store.proofs.Marking.{keeps, agrees}
 use Rattle.ab_store.proofs.Kept.{nodes_of, cells_in, count, count_cells, cell_at}
-
 
 -- looking up a cell in a list with one binding more
 not_same : (i j : ℕ) → (i ≡ j → ⊥) → (i == j) ≡ false
@@ -82,7 +81,7 @@ module _ (S : List Slot) (i : ℕ) (x : Slot) (o : Option TermId) (here : i < le
   bound_elsewhere j d differ = ap (λ (s : Slot). s.binding) (get_or-set_other S i j (record { cell = x.cell; binding = o }) d differ)
 
 -- binding a cell
-module _ (E : List Entry) (S : List Slot) (T : List Binding) (c : CellId) (u : TermId) (x : Slot) (r q : ℕ)
+module _ (E : List NodeEntry) (S : List Slot) (T : List Binding) (c : CellId) (u : TermId) (x : Slot) (r q : ℕ)
     (ok : AreSound E S T) (is : x ≡ get_or S c.0 x) (held : HoldsCell (contents E S T r) c) where
   abbrev old : Contents
   old = contents E S T r
@@ -134,7 +133,7 @@ module _ (E : List Entry) (S : List Slot) (T : List Binding) (c : CellId) (u : T
             once = all_pairs_push (λ (a b : Binding). a.cell ≢ b.cell) T b kept.once (λ k d l e. is_bound T k d l (subst (λ y. bound_in T y ≡ None) (sym e) unbound));
             apart = All-push (λ (a : Binding). StandsIn mid a.cell a.term → ⊥) T b kept.apart (λ s. apart (stands c s));
             later = all_pairs_push (λ (a b : Binding). StandsIn mid a.cell b.term → ⊥) T b kept.later
-              (λ k d l s. is_bound T k d l (All-contains (IsUnbound old) (cells_of old u) (get_or T k d).cell resolved (stands (get_or T k d).cell s)));
+                (λ k d l s. is_bound T k d l (All-contains (IsUnbound old) (cells_of old u) (get_or T k d).cell resolved (stands (get_or T k d).cell s)));
           }
 
       pub bind_sound : (types : Table) (A : Ty) → IsTerm types old [] u A → AreSound E S2 (T ++ b ∷ [])
@@ -144,13 +143,13 @@ module _ (E : List Entry) (S : List Slot) (T : List Binding) (c : CellId) (u : T
         bound = bound;
         order = bind_order;
         closed = λ more. All-push (λ (a : Binding). reach (tree_of more mid a.term) ≤ 0) T b
-          (λ i d l. subst (λ v. reach v ≤ 0) (sym (agree.trees more (get_or T i d).term (ok.order.held i d l).1)) (ok.closed more i d l))
-          (subst (λ v. reach v ≤ 0) (sym (agree.trees more u term)) (closed more));
+            (λ i d l. subst (λ v. reach v ≤ 0) (sym (agree.trees more (get_or T i d).term (ok.order.held i d l).1)) (ok.closed more i d l))
+            (subst (λ v. reach v ≤ 0) (sym (agree.trees more u term)) (closed more));
       }
         where
           closed : (more : Table) → reach (tree_of more old u) ≤ 0
           closed more =
-              let d : Entry = get_or E u.0 (record { node = Lam (record { 0 = 0 }) [] u; facts = record { reach = 0; nominals = false; cells = false } }) in
+              let d : NodeEntry = get_or E u.0 (record { node = Lam (record { 0 = 0 }) [] u; facts = record { reach = 0; nominals = false; cells = false } }) in
               let low : u.0 < length E = omega (arith, term, count E S T r) in
               omega (arith, (ok.facts more u d low).reach, (ok.facts types u d low).reach, closed_reach (signature types) typed.1)
 
@@ -166,7 +165,7 @@ module _ (E : List Entry) (S : List Slot) (T : List Binding) (c : CellId) (u : T
   bind_typed types typed term =
       let kept : IsTypedBy types mid = typed_alike old mid refl bind_cells (front_same T T refl) types typed in
       let fits : IsTerm types mid [] u (type_of types (cell_of mid c).ty) =
-            subst (λ (e : CellEntry). IsTerm types mid [] u (type_of types e.ty)) (sym (agree.cells c held)) (term_alike old mid refl bind_cells types [] u (type_of types (cell_of old c).ty) term) in
+      subst (λ (e : CellEntry). IsTerm types mid [] u (type_of types e.ty)) (sym (agree.cells c held)) (term_alike old mid refl bind_cells types [] u (type_of types (cell_of old c).ty) term) in
       record {
         earlier = kept.earlier;
         nodes = kept.nodes;
@@ -183,7 +182,7 @@ module _ (E : List Entry) (S : List Slot) (T : List Binding) (c : CellId) (u : T
       (take-append-le m.bindings T (b ∷ []) has.bindings) refl (ap (take m.cells) bind_cells)
 
 -- undoing the last binding
-module _ (E : List Entry) (S : List Slot) (T U : List Binding) (b : Binding) (x : Slot)
+module _ (E : List NodeEntry) (S : List Slot) (T U : List Binding) (b : Binding) (x : Slot)
     (ok : AreSound E S T) (last : T ≡ U ++ b ∷ []) (is : x ≡ get_or S b.cell.0 x) where
   abbrev undone : List Slot
   undone = set S b.cell.0 (record { cell = x.cell; binding = None })
@@ -235,12 +234,12 @@ module _ (E : List Entry) (S : List Slot) (T U : List Binding) (b : Binding) (x 
       }
 
 -- cutting by a mark, once its bindings are the store's
-module _ (E : List Entry) (S : List Slot) (T : List Binding) (m : Mark) (ok : AreSound E S T) (has : HasMark (contents E S T 0) m) (all : length T ≡ m.bindings) where
+module _ (E : List NodeEntry) (S : List Slot) (T : List Binding) (m : Mark) (ok : AreSound E S T) (has : HasMark (contents E S T 0) m) (all : length T ≡ m.bindings) where
   abbrev cut : Contents
   cut = contents (take m.nodes E) (take m.cells S) T 0
 
   cut_nodes : nodes_of (take m.nodes E) ≡ take m.nodes (nodes_of E)
-  cut_nodes = sym (take-map (λ (e : Entry). e.node) m.nodes E)
+  cut_nodes = sym (take-map (λ (e : NodeEntry). e.node) m.nodes E)
 
   cut_cells : cells_in (take m.cells S) ≡ take m.cells (cells_in S)
   cut_cells = sym (take-map (λ (s : Slot). s.cell) m.cells S)

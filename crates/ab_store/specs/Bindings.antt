@@ -3,7 +3,6 @@ use Rattle.std.specs.Prelude.{◌≡◌, ◌≢◌, List, [], map, None, All, Al
 use Rattle.ab_term.specs.Variables.{variables}
 use Rattle.ab_store.specs.declared.node.TermId.{TermId}
 use Rattle.ab_store.specs.declared.node.CellId.{CellId}
-use Rattle.ab_store.specs.declared.node.Binding.{Binding}
 use Rattle.ab_store.specs.Reading.{Contents, Holds, HoldsCell, tree_of, binding_of}
 
 -- the cells of the tree of an id, in order, each as often as it stands there. They are the same in every table, so the

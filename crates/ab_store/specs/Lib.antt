@@ -5,4 +5,4 @@ pub mod Bindings
 pub mod Naming
 pub mod Marks
 pub mod Growth
-pub mod Entries
+pub mod Layout

@@ -28,7 +28,8 @@ module _ (types : Table) (store : Contents) where
   abbrev pub cell_variable : CellId → Variable ℕ
   cell_variable c = record { name = c.0; type = type_of types (cell_of store c).ty }
 
-  -- the bindings, in order, each as a pair of a variable and a tree
+  -- the bindings, in order, each as a pair of a variable and a tree. No bound cell stands in a term when it is bound to,
+  -- so its tree is what it reads as then.
   abbrev pub pairs : Substitution ℕ (List ℕ)
   pairs = map (λ b. (cell_variable b.cell, tree_of types store b.term)) store.bindings
 

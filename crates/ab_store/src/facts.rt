@@ -7,7 +7,7 @@ ghost use Rattle.ab_term.specs.Variables.{variables_of_head};
 ghost use Rattle.ab_types.specs.Entries.{Table};
 ghost use Rattle.ab_store.specs.declared.node.CellEntry.{CellEntry};
 ghost use Rattle.ab_store.specs.Trees.{head_in};
-ghost use Rattle.ab_store.specs.Entries.{Covers};
+ghost use Rattle.ab_store.specs.Layout.{Covers};
 
 use crate::node::Head;
 use std::alloc::AllocError;

@@ -8,6 +8,8 @@ mod list;
 mod mark;
 mod node;
 mod store;
+#[cfg(test)]
+mod tests;
 
 pub use list::Arguments;
 pub use mark::Mark;

@@ -13,7 +13,7 @@ ghost use Rattle.ab_store.specs.Bindings.{StandsIn, IsUnbound, IsResolved, AreIn
 ghost use Rattle.ab_store.specs.Growth.{IsExtendedBy};
 ghost use Rattle.ab_store.specs.Marks.{HasMark, KeepsMark, IsNoLater, at_mark};
 ghost use Rattle.ab_store.specs.Naming.{HoldsHead, NodeNames, HeadIsTyped, NodeIsTyped, IsTypedBy, IsTerm};
-ghost use Rattle.ab_store.specs.Entries.{HoldOf, HoldOfAll};
+ghost use Rattle.ab_store.specs.Layout.{HoldOf, HoldOfAll};
 
 use crate::facts::Facts;
 use crate::list::Arguments;
@@ -25,7 +25,7 @@ use std::marker::Model;
 
 /// A node, with what is known of its term.
 #[derive(Debug, Drop)]
-struct Entry {
+struct NodeEntry {
     node: Node,
     facts: Facts,
 }
@@ -41,7 +41,7 @@ struct Slot {
 /// never change; bindings and what was added are taken back to a mark.
 #[derive(Debug, Drop)]
 pub struct Store {
-    entries: Vec<Entry>,
+    entries: Vec<NodeEntry>,
     slots: Vec<Slot>,
     /// The bindings, in the order in which they were made.
     trail: Vec<Binding>,
@@ -54,7 +54,7 @@ impl Model for Store {
 
     ghost Value = { Contents };
 
-    ghost use Rattle.ab_store.specs.Entries.{contents, AreSound};
+    ghost use Rattle.ab_store.specs.Layout.{contents, AreSound};
 
     ghost view = { λ s. contents s.entries.items s.slots.items s.trail.items (vec_capacity s.trail - vec_len s.trail) };
 
@@ -372,7 +372,7 @@ impl Store {
         ensures err { OnErr result (self.new ≡ self.old) }
     {
         let place = self.entries.len();
-        self.entries.push(Entry { node, facts })?;
+        self.entries.push(NodeEntry { node, facts })?;
         Ok(TermId(place))
     }
 }

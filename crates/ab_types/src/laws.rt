@@ -6,6 +6,7 @@ ghost use Rattle.ab_types.specs.Ids.{HoldsKind, HoldsType, HoldsConstant, kind_o
 ghost use Rattle.ab_types.specs.Sound.{IsTable};
 
 use crate::ids::{ConstId, KindId, TypeId};
+use crate::table::TypeTable;
 
 /// What a table's ids stand for stays the same when entries come behind it.
 pub fn extension_keeps_readings()
@@ -34,3 +35,16 @@ pub fn ids_are_unique()
     ensures constants { (table : Table) → IsTable table → (a b : ConstId) → HoldsConstant table a → HoldsConstant table b →
         (constant_of table a).name ≡ (constant_of table b).name → a ≡ b }
 {}
+
+/// The same of a table at hand: one call where a caller compares ids in place of what they stand for.
+pub fn has_unique_ids(types: &TypeTable)
+    ensures table { IsTable types.now }
+    ensures kinds { (a b : KindId) → HoldsKind types.now a → HoldsKind types.now b →
+        kind_of types.now a ≡ kind_of types.now b → a ≡ b }
+    ensures types { (a b : TypeId) → HoldsType types.now a → HoldsType types.now b →
+        type_of types.now a ≡ type_of types.now b → a ≡ b }
+    ensures constants { (a b : ConstId) → HoldsConstant types.now a → HoldsConstant types.now b →
+        (constant_of types.now a).name ≡ (constant_of types.now b).name → a ≡ b }
+{
+    let _ = types.len();
+}

@@ -1,9 +1,9 @@
 use Rattle.std.proofs.Common.{◌-◌, vec_len, vec_capacity, arith}
-use Rattle.ab_store.specs.declared.store.Entry.{Entry}
+use Rattle.ab_store.specs.declared.store.NodeEntry.{NodeEntry}
 use Rattle.ab_store.proofs.Kept.{sound_pushed, new_tree, new_put, new_reads, typed_pushed, extended}
 use Rattle.ab_store.proofs.store.Store.add.Goals as goal
 
-abbrev added : goal.In_ok-push → Entry
+abbrev added : goal.In_ok-push → NodeEntry
 added c = record { node = c.args.node; facts = c.args.facts }
 
 pub invariant_of-self-2 : goal.invariant_of-self-2

@@ -1,7 +1,7 @@
 use Rattle.std.proofs.Common.{◌-◌, vec_len, vec_capacity}
 use Rattle.ab_types.specs.Ids.{type_of}
 use Rattle.ab_store.specs.Trees.{cell_of}
-use Rattle.ab_store.specs.Entries.{contents}
+use Rattle.ab_store.specs.Layout.{contents}
 use Rattle.ab_store.proofs.Rebinding.{bind_cells, bind_sound, bind_reads, bind_typed, bind_terms, bind_marks}
 use Rattle.ab_store.proofs.store.Store.bind.Goals as goal
 

@@ -1,6 +1,6 @@
-use Rattle.std.proofs.Common.{◌-◌, vec_len, vec_capacity, None, refl, ap, arith}
+use Rattle.std.proofs.Common.{◌-◌, vec_len, vec_capacity, None, refl, arith}
 use Rattle.ab_store.specs.declared.store.Slot.{Slot}
-use Rattle.ab_store.proofs.Kept.{typed_with_cell, sound_with_cell, extended_by_cell, new_cell, new_unbound}
+use Rattle.ab_store.proofs.Kept.{typed_with_cell, sound_with_cell, extended_by_cell, new_unbound}
 use Rattle.ab_store.proofs.store.Store.cell.Goals as goal
 
 abbrev added : goal.In_ok-push → Slot

@@ -1,5 +1,4 @@
-use Rattle.std.proofs.Common.{◌-◌, vec_len, vec_capacity, arith, ◌<◌, length, sym, ap, subst, ◌∙◌}
-use Rattle.ab_types.specs.Entries.{types}
+use Rattle.std.proofs.Common.{◌-◌, vec_len, vec_capacity, sym, ap, subst, ◌∙◌}
 use Rattle.ab_types.specs.Ids.{HoldsType}
 use Rattle.ab_store.specs.declared.store.Slot.{Slot}
 use Rattle.ab_store.specs.declared.node.CellEntry.{CellEntry}

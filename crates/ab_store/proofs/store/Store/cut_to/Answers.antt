@@ -1,10 +1,10 @@
-use Rattle.std.proofs.Common.{◌≡◌, ◌≤◌, ◌-◌, vec_len, vec_capacity, length, map, take, arith, ap, sym, ◌∙◌, length-take-le}
+use Rattle.std.proofs.Common.{◌≡◌, ◌≤◌, ◌-◌, vec_len, vec_capacity, length, take, arith, ap, sym, ◌∙◌, length-take-le}
 use Rattle.std.proofs.lemmas.List.{take-map}
-use Rattle.ab_store.specs.declared.store.Entry.{Entry}
+use Rattle.ab_store.specs.declared.store.NodeEntry.{NodeEntry}
 use Rattle.ab_store.specs.declared.store.Slot.{Slot}
 use Rattle.ab_store.specs.Trees.{Contents}
 use Rattle.ab_store.specs.Marks.{HasMark}
-use Rattle.ab_store.specs.Entries.{contents}
+use Rattle.ab_store.specs.Layout.{contents}
 use Rattle.ab_store.proofs.Kept.{nodes_of, cells_in}
 use Rattle.ab_store.proofs.Marking.{rewound_marks, cut_reads, cut_typed, cut_terms, cut_marks}
 use Rattle.ab_store.proofs.Rebinding.{cut_sound}
@@ -24,7 +24,7 @@ module _ (c : given.Over) (k : goal.After-truncate-2 c) where
   nodes : nodes_of k.truncate.new.self.items ≡ take k.args.mark.now.nodes k.args.self.now.nodes
   nodes =
       ap nodes_of k.truncate.ensures.items
-      ∙ sym (take-map (λ (e : Entry). e.node) k.args.mark.now.nodes k.self.inside.entries.items)
+      ∙ sym (take-map (λ (e : NodeEntry). e.node) k.args.mark.now.nodes k.self.inside.entries.items)
       ∙ ap (take k.args.mark.now.nodes) nodes_before
 
   cells : cells_in k.truncate-2.new.self.items ≡ take k.args.mark.now.cells k.args.self.now.cells
@@ -43,7 +43,7 @@ module _ (c : given.Over) (k : goal.After-truncate-2 c) where
       k.args.mark.now k.requires here).has
 
 pub invariant_of-self : goal.invariant_of-self
-invariant_of-self c k = 
+invariant_of-self c k =
     rw (k.truncate.ensures.items, k.truncate-2.ensures.items)
     (cut_sound k.self.inside.entries.items k.self.inside.slots.items k.self.inside.trail.items k.args.mark.now k.self.invariant (has c k) (left c k))
 

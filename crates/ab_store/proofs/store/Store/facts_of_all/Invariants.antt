@@ -2,7 +2,7 @@ use Rattle.std.proofs.Common.{map, take}
 use Rattle.ab_term.specs.Terms.{terms_of}
 use Rattle.ab_types.specs.Entries.{Table}
 use Rattle.ab_store.specs.Trees.{tree_of}
-use Rattle.ab_store.specs.Entries.{HoldOfAll}
+use Rattle.ab_store.specs.Layout.{HoldOfAll}
 use Rattle.ab_store.proofs.store.Store.facts_of_all.Given as goal
 
 abbrev pub invariant-loop-id : goal.invariant-loop-id

@@ -1,5 +1,4 @@
 use Rattle.ab_store.proofs.Kept.{plain_reads}
-use Rattle.ab_store.proofs.Growing.{unbound_reads, unbound_resolved}
 use Rattle.ab_store.proofs.store.Store.has_bound_cells.Goals as goal
 
 pub returns-else-facts-clause-reads : goal.returns-else-facts-clause-reads

@@ -1,4 +1,4 @@
-use Rattle.std.proofs.Common.{Result, Ok, Err, IfOk, ◌∙◌}
+use Rattle.std.proofs.Common.{◌∙◌}
 use Rattle.ab_term.specs.Sameness.{same_number}
 use Rattle.ab_term.proofs.InOrder.{one_by_one-lam}
 use Rattle.ab_types.specs.Ids.{type_of}

@@ -2,7 +2,7 @@ use Rattle.std.proofs.Common.{◌∙◌, sym, subst, map, List}
 use Rattle.ab_term.specs.Terms.{terms_of}
 use Rattle.ab_store.specs.declared.node.TermId.{TermId}
 use Rattle.ab_store.specs.Trees.{tree_of}
-use Rattle.ab_store.specs.Entries.{HoldOfAll}
+use Rattle.ab_store.specs.Layout.{HoldOfAll}
 use Rattle.ab_store.proofs.store.Store.spine.Goals as goal
 
 pub add-requires-clause-facts : goal.add-requires-clause-facts

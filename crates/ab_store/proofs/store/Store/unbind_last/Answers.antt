@@ -1,4 +1,4 @@
-use Rattle.std.proofs.Common.{◌≡◌, ◌∷◌, ◌++◌, [], ap, ◌∙◌, option_to_list}
+use Rattle.std.proofs.Common.{◌≡◌, ◌∷◌, ◌++◌, []}
 use Rattle.ab_store.proofs.Rebinding.{undone_sound, undone_cells}
 use Rattle.ab_store.proofs.store.Store.unbind_last.Goals as goal
 

@@ -1,7 +1,7 @@
 use Rattle.std.proofs.Common.{◌-◌, vec_len, vec_capacity, ap, sym, ◌∙◌}
 use Rattle.ab_store.specs.Trees.{node_tree}
 use Rattle.ab_store.specs.Reading.{node_reading}
-use Rattle.ab_store.specs.Entries.{contents}
+use Rattle.ab_store.specs.Layout.{contents}
 use Rattle.ab_store.proofs.Kept.{held, reads_at, tree_at, names_at, typed_at}
 use Rattle.ab_store.proofs.store.Store.view.Goals as goal
 

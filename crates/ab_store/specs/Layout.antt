@@ -10,9 +10,9 @@ use Rattle.ab_store.specs.declared.node.TermId.{TermId}
 use Rattle.ab_store.specs.declared.node.CellId.{CellId}
 use Rattle.ab_store.specs.declared.node.Binding.{Binding}
 use Rattle.ab_store.specs.declared.facts.Facts.{Facts}
-use Rattle.ab_store.specs.declared.store.Entry.{Entry}
+use Rattle.ab_store.specs.declared.store.NodeEntry.{NodeEntry}
 use Rattle.ab_store.specs.declared.store.Slot.{Slot}
-use Rattle.ab_store.specs.Trees.{Read, Contents, HoldsCell, tree_of}
+use Rattle.ab_store.specs.Trees.{Read, Contents, tree_of}
 use Rattle.ab_store.specs.Reading.{bound_in}
 use Rattle.ab_store.specs.Naming.{NodesNameEarlier}
 use Rattle.ab_store.specs.Bindings.{AreInOrder}
@@ -30,7 +30,8 @@ HoldOf facts t = Covers facts (reach t) (support t) (variables t)
 abbrev pub HoldOfAll : Facts → Terms ℕ (List ℕ) → Type 0
 HoldOfAll facts ts = Covers facts (reach_of_all ts) (support_of_all ts) (variables_of_all ts)
 
-abbrev pub contents : List Entry → List Slot → List Binding → ℕ → Contents
+-- what contracts see of it
+abbrev pub contents : List NodeEntry → List Slot → List Binding → ℕ → Contents
 contents entries slots trail room = record {
   nodes = map (λ e. e.node) entries;
   cells = map (λ s. s.cell) slots;
@@ -38,9 +39,10 @@ contents entries slots trail room = record {
   room = room;
 }
 
-pub record AreSound (entries : List Entry) (slots : List Slot) (trail : List Binding) : Type 0 where
+-- WHAT A STORE KEEPS IS RIGHT
+pub record AreSound (entries : List NodeEntry) (slots : List Slot) (trail : List Binding) : Type 0 where
   pub earlier : NodesNameEarlier (length (map (λ s. s.cell) slots)) (map (λ e. e.node) entries)
-  pub facts : (types : Table) (t : TermId) (d : Entry) → t.0 < length entries → HoldOf (get_or entries t.0 d).facts (tree_of types (contents entries slots trail 0) t)
+  pub facts : (types : Table) (t : TermId) (d : NodeEntry) → t.0 < length entries → HoldOf (get_or entries t.0 d).facts (tree_of types (contents entries slots trail 0) t)
   -- each cell keeps what it is bound to, and bound terms have no free names
   pub bound : (c : CellId) (d : Slot) → c.0 < length slots → (get_or slots c.0 d).binding ≡ bound_in trail c
   pub order : AreInOrder (contents entries slots trail 0)
