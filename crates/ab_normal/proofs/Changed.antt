@@ -122,9 +122,11 @@ remembers_more types s c old new id made depth known held out reads keeps t r k 
         → Holds s t × Holds s r × (reading types s r ≡ changed types s c k (reading types s t))
     go (inl same) = known t r k (sym same ∙ e)
     go (inr new_one) =
-        let is : made ≡ r = cc (sym new_one.2 ∙ e) in
-        (subst (Holds s) (sym new_one.0) held, subst (Holds s) is out,
-          ap (reading types s) (sym is) ∙ reads ∙ ap (λ j. changed types s c j (reading types s id)) (sym new_one.1) ∙ ap (λ i. changed types s c k (reading types s i)) (sym new_one.0))
+        let is : made ≡ r = cc (sym new_one.2 ∙ e) in (
+          subst (Holds s) (sym new_one.0) held,
+          subst (Holds s) is out,
+          ap (reading types s) (sym is) ∙ reads ∙ ap (λ j. changed types s c j (reading types s id)) (sym new_one.1) ∙ ap (λ i. changed types s c k (reading types s i)) (sym new_one.0),
+        )
 
 pub remembers_none : (types : Table) (s : Contents) (c : Change) (m : Memo) → ((t : TermId) (k : ℕ) → answer_of m t k ≡ None) → Remembers types s c m
 remembers_none types s c m none t r k e = absurd (cc (sym (none t k) ∙ e))

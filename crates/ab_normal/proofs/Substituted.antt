@@ -48,4 +48,3 @@ module _ (types : Table) (s0 s1 s2 : Contents) where
 pub rest_is : (args : List TermId) → take (length args - 1) (drop 1 args) ≡ drop 1 args
 rest_is [] = take_all (length {A = TermId} [] - 1) [] (omega arith)
 rest_is (a ∷ args) = take_all (length (a ∷ args) - 1) args (omega arith)
-

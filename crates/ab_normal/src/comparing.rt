@@ -55,12 +55,7 @@ pub fn equal(
 
 /// Whether the two terms are the same past their hints.
 #[cycle(compared)]
-fn is_equal(
-    store: &Store,
-    a: TermId,
-    b: TermId,
-    agreed: &mut Agreed,
-) -> Result<bool, AllocError>
+fn is_equal(store: &Store, a: TermId, b: TermId, agreed: &mut Agreed) -> Result<bool, AllocError>
     requires a { Holds store.now a }
     requires b { Holds store.now b }
     requires agreed { AllAgree store.now agreed.old }

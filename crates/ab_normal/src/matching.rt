@@ -204,7 +204,14 @@ fn match_nodes(
             Node::Lam(_, _, _) => Ok(false),
             Node::Spine(other, more) => {
                 if match_heads(*head, *other, decided)? {
-                    match_all(types, store, args.as_slice(), more.as_slice(), decided, agreed)
+                    match_all(
+                        types,
+                        store,
+                        args.as_slice(),
+                        more.as_slice(),
+                        decided,
+                        agreed,
+                    )
                 } else {
                     Ok(false)
                 }

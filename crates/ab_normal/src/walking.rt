@@ -207,7 +207,16 @@ fn remake<L>(
             lam_again(store, id, ty, hint, body, inner)
         }
         Node::Spine(head, args) => {
-            let given = walk_all(alloc, types, store, change, depth, args.as_slice(), memo, steps)?;
+            let given = walk_all(
+                alloc,
+                types,
+                store,
+                change,
+                depth,
+                args.as_slice(),
+                memo,
+                steps,
+            )?;
             walk_head(alloc, types, store, change, depth, id, head, given, steps)
         }
     }
@@ -310,7 +319,16 @@ pub(crate) fn lift<L>(
     ensures steps { steps.old ≤ steps.new }
 {
     let mut memo = Memo::new(alloc);
-    walk(alloc, types, store, &Change::Raise(by), 0, term, &mut memo, steps)
+    walk(
+        alloc,
+        types,
+        store,
+        &Change::Raise(by),
+        0,
+        term,
+        &mut memo,
+        steps,
+    )
 }
 
 /// The terms, where so many binders are put in around them.
@@ -370,7 +388,16 @@ fn reduce<L>(
                 [first, rest @ ..] => {
                     let put = Change::Put(from, *first);
                     let body = *body;
-                    let applied = walk(alloc, types, store, &put, 0, body, &mut Memo::new(alloc), steps)?;
+                    let applied = walk(
+                        alloc,
+                        types,
+                        store,
+                        &put,
+                        0,
+                        body,
+                        &mut Memo::new(alloc),
+                        steps,
+                    )?;
                     reduce(alloc, types, store, to, applied, rest, steps)
                 }
             },

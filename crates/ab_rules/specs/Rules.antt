@@ -58,7 +58,11 @@ pub record MayName (s : Sequent) (F : Read) (A : Ty) (n : ℕ) : Type 0 where
 
 -- The rule of the step at the goal, from these declarations.
 abbrev pub row : Declarations → Making → Step → Sequent → Row
-row D new (initial H) s = not_built
+row D new (initial H) s =
+    finds 1 (formula_of s H) (λ F.
+    asks 2 (EqualUpToNames (erased F) (erased s.conclusion)) (
+    asks 3 (MarksServeIn s.conclusion F) (
+    leads [])))
 row D new true_right s =
     finds 1 (as_truth s.conclusion) (λ t.
     leads [])

@@ -16,8 +16,8 @@ ghost use Rattle.ab_rules.specs.Terms.{Adds};
 
 use crate::terms::{instance_of, name_term};
 use ab_logic::{Sequent, World};
-use ab_normal::{Nominal, support};
 use ab_nodes::TermId;
+use ab_normal::{Nominal, support};
 use ab_types::{Steps, TypeId};
 use std::alloc::{AllocError, Global};
 

@@ -1,15 +1,82 @@
 //! The rules that close a goal.
-ghost use Rattle.std.specs.Prelude.{◌≡◌};
+ghost use Rattle.std.specs.Prelude.{◌≡◌, ◌↔◌, IfOk, IsTrue};
 ghost use Rattle.ab_logic.specs.Readings.{HoldsSequent};
-ghost use Rattle.ab_logic.specs.Worlds.{IsWorld};
+ghost use Rattle.ab_logic.specs.Worlds.{IsWorld, Holds, read};
+ghost use Rattle.ab_logic.specs.Growth.{Grows};
+ghost use Rattle.ab_logic.specs.Marks.{erased};
+ghost use Rattle.ab_term.specs.Names.{EqualUpToNames};
 ghost use Rattle.ab_rules.specs.Steps as plain;
 ghost use Rattle.ab_rules.specs.Answers.{Answers, row_at};
 
 use crate::step::KernelFault;
 use ab_logic::{Sequent, World, as_equal, is_false, is_true};
-use ab_normal::equal;
+use ab_marks::{marks_serve_in, without_marks};
+use ab_nodes::TermId;
+use ab_normal::{equal, equal_up_to_names};
 use ab_types::Name;
-use std::alloc::Global;
+use std::alloc::{AllocError, Global};
+
+/// Whether a permutation of nominal constants sends the first to the second.
+fn are_equal_up_to_names(
+    alloc: Global,
+    world: &World,
+    a: TermId,
+    b: TermId,
+) -> Result<bool, AllocError>
+    requires world { IsWorld world.now }
+    requires a { Holds world.now a }
+    requires b { Holds world.now b }
+    ensures { IfOk result (λ yes. IsTrue yes ↔ EqualUpToNames (read world.now a) (read world.now b)) }
+{
+    match equal_up_to_names(alloc, &world.types, &world.store, a, b)? {
+        Some(_) => Ok(true),
+        None => Ok(false),
+    }
+}
+
+/// Whether a permutation of nominal constants sends the first formula to the second, both without their marks.
+fn are_equal_without_marks(
+    alloc: Global,
+    world: &mut World,
+    a: TermId,
+    b: TermId,
+) -> Result<bool, AllocError>
+    requires world { IsWorld world.old }
+    requires a { Holds world.old a }
+    requires b { Holds world.old b }
+    ensures decides { IfOk result (λ yes. IsTrue yes ↔ EqualUpToNames (erased (read world.old a)) (erased (read world.old b))) }
+    ensures grows { Grows world.old world.new }
+{
+    let first = without_marks(alloc, world, a)?;
+    let second = without_marks(alloc, world, b)?;
+    are_equal_up_to_names(alloc, world, first, second)
+}
+
+/// A hypothesis that a permutation of nominal constants sends to the conclusion, and whose marks serve it.
+pub(crate) fn initial(
+    alloc: Global,
+    world: &mut World,
+    name: &Name,
+    sequent: &Sequent,
+) -> Result<Vec<Sequent>, KernelFault>
+    requires world { IsWorld world.old }
+    requires held { HoldsSequent world.old sequent.now }
+    ensures answers { Answers world.new (row_at world.old (plain.initial name.now) sequent.now) result }
+    ensures grows { Grows world.old world.new }
+{
+    let Some(formula) = sequent.look(name) else {
+        return Err(KernelFault::RuleFails(1));
+    };
+    let alike = are_equal_without_marks(alloc, world, formula, sequent.conclusion)?;
+    if !alike {
+        return Err(KernelFault::RuleFails(2));
+    }
+    let serves = marks_serve_in(world, sequent.conclusion, formula);
+    if !serves {
+        return Err(KernelFault::RuleFails(3));
+    }
+    Ok(Vec::new(alloc))
+}
 
 /// The conclusion is `true`.
 pub(crate) fn true_right(

@@ -5,7 +5,7 @@ ghost use Rattle.ab_logic.specs.Growth.{Grows};
 ghost use Rattle.ab_logic.specs.Readings.{HoldsSequent};
 ghost use Rattle.ab_rules.specs.Answers.{Answers, row_at, step_of, HoldsStep};
 
-use crate::closing::{equal_right, false_left, true_right};
+use crate::closing::{equal_right, false_left, initial, true_right};
 use crate::left::{and_left, arrow_left, arrow_right, or_left, use_theorem, weaken};
 use crate::quantified::{exists_left, for_all_right, nabla_left, nabla_right};
 use crate::right::{and_right, or_right};
@@ -45,7 +45,7 @@ pub fn premises<L>(
         Step::EqualRight => equal_right(alloc, world, sequent),
         Step::UseTheorem(name, given) => use_theorem(alloc, world, name, given, sequent),
         Step::Weaken(name) => weaken(alloc, world, name, sequent),
-        Step::Initial(_) => Err(KernelFault::RuleFails(0)),
+        Step::Initial(name) => initial(alloc, world, name, sequent),
         Step::ForallLeft(_, _, _) => Err(KernelFault::RuleFails(0)),
         Step::ExistsRight(_) => Err(KernelFault::RuleFails(0)),
         Step::CutFormula(_, _) => Err(KernelFault::RuleFails(0)),

@@ -14,6 +14,6 @@ mod work;
 
 pub use settling::{Settled, solve};
 pub use shape::Shape;
-pub use stepping::{applied, step};
+pub use stepping::{applied, equate, step};
 pub use unifying::unify;
 pub use work::Wanted;

@@ -58,13 +58,7 @@ fn next_part(shapes: &[Shape], marks: &[Mark], i: usize) -> Option<usize>
 {
     match shapes[i] {
         Shape::Open | Shape::Known(_) => None,
-        Shape::Link(j) => {
-            if is_done(marks, j) {
-                None
-            } else {
-                Some(j)
-            }
-        }
+        Shape::Link(j) => { if is_done(marks, j) { None } else { Some(j) } }
         Shape::Arrow(from, to) => {
             if !is_done(marks, from) {
                 Some(from)

@@ -101,8 +101,8 @@ pub fn applied(
     if met { Ok(Some(node)) } else { Ok(None) }
 }
 
-/// The equation is met, or no types meet it.
-fn equate(
+/// Changes what is known of the variables as `unify` does, in a vector.
+pub fn equate(
     alloc: Global,
     types: &TypeTable,
     shapes: &mut Vec<Shape>,

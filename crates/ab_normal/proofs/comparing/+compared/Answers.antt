@@ -51,13 +51,13 @@ compare-returns-else-is_same_type-clause-same t c = λ types ok typed.
     (apart c.is_same_type.result c.if-is_same_type.false c.is_same_type.ensures))
 
 pub compare-returns-then-is_same_type-clause-same : goal.compare-returns-then-is_same_type-clause-same
-compare-returns-then-is_same_type-clause-same t c = 
+compare-returns-then-is_same_type-clause-same t c =
     if_ok c.is_equal.result (λ same found types ok typed.
     same_lam types c.args.store.now c.args.a c.args.b c.view.result.now c.view-in-Lam.result.now c.in-Lam.ty c.in-Lam-view.other c.in-Lam.field-1 c.in-Lam-view.field-1 c.in-Lam.body c.in-Lam-view.inner
     (c.view.ensures.reads types) c.in-Lam.is (c.view-in-Lam.ensures.reads types) c.in-Lam-view.is same (c.is_same_type.ensures.0 c.if-is_same_type.true) (found types ok typed)) c.is_equal.ensures.same
 
 pub compare-returns-then-is_same_head-clause-same : goal.compare-returns-then-is_same_head-clause-same
-compare-returns-then-is_same_head-clause-same t c = 
+compare-returns-then-is_same_head-clause-same t c =
     if_ok c.are_equal.result (λ same found types ok typed.
     same_spine types c.args.store.now c.args.a c.args.b c.view.result.now c.view-in-Spine.result.now c.in-Spine.head c.in-Spine-view-2.other c.in-Spine.args c.in-Spine-view-2.more
     (c.view.ensures.reads types) c.in-Spine.is (c.view-in-Spine.ensures.reads types) c.in-Spine-view-2.is same (c.is_same_head.ensures.0 c.if-is_same_head.true)

@@ -16,11 +16,14 @@ expand-expand-requires t c =
     let adds = c.in_ok-given-in-Arrow.ensures.adds in (
       omega (arith, smaller, c.decreases),
       (
-        c.requires.types, (adds.typed,
+        c.requires.types,
         (
-          c.in_ok-raise_head-in-Arrow.ensures.held c.widen.new.store (subst (λ cells. HeadNames (length cells) c.args.head) (sym adds.cells) c.requires.head),
-          (c.in_ok-raise_head-in-Arrow.ensures.typed c.args.types.now c.requires.typed, (c.in-Arrow.ensures.held.1, c.in_ok-given-in-Arrow.ensures.held)),
-        )),
+          adds.typed,
+          (
+            c.in_ok-raise_head-in-Arrow.ensures.held c.widen.new.store (subst (λ cells. HeadNames (length cells) c.args.head) (sym adds.cells) c.requires.head),
+            (c.in_ok-raise_head-in-Arrow.ensures.typed c.args.types.now c.requires.typed, (c.in-Arrow.ensures.held.1, c.in_ok-given-in-Arrow.ensures.held)),
+          ),
+        ),
       ),
     )
 

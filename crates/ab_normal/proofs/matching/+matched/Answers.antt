@@ -14,7 +14,7 @@ use Rattle.ab_normal.proofs.Matched.{image, found_same, found_never, found_both,
 use Rattle.ab_normal.proofs.matching.+matched.Goals as goal
 
 pub match_all-returns-then-these-those-clause-found : goal.match_all-returns-then-these-those-clause-found
-match_all-returns-then-these-those-clause-found t c = 
+match_all-returns-then-these-those-clause-found t c =
     let types = c.args.types.now in let ok = c.requires.types in let typed = c.requires.store in let held = c.requires.held in
     found_never types c.args.decided.now.items (λ f. forget_all (rename_all f (terms_of (map (reading types c.args.store.now) c.args.these.now))) ≡ forget_all (terms_of (map (reading types c.args.store.now) c.args.those.now)))
     held (λ f r. counts_differ types c.args.store.now f c.args.these.now c.args.those.now c.if-these-those.true)
@@ -25,7 +25,7 @@ match_all-match_terms-requires t c =
     (omega (arith, below, c.decreases), (c.requires.types, (c.requires.store, (c.requires.these c.loop-i.i (record { 0 = 0 }) (omega arith), (c.requires.those c.loop-i.i (record { 0 = 0 }) (omega arith), (c.loop-i.invariant.one, (c.loop-i.invariant.found.held, c.loop-i.invariant.agreed)))))))
 
 pub match_all-returns-then-not-branch-clause-found : goal.match_all-returns-then-not-branch-clause-found
-match_all-returns-then-not-branch-clause-found t c = 
+match_all-returns-then-not-branch-clause-found t c =
     let types = c.args.types.now in let ok = c.requires.types in let typed = c.requires.store in let held = c.requires.held in
     let first = c.loop-i.invariant.found in
     let second = found_as types c.loop-i.decided.items c.match_terms.new.decided.items _ c.in_ok-match_terms.field-0 false c.if-not-branch.true c.in_ok-match_terms.ensures.found in
@@ -50,7 +50,7 @@ match_all-loop-i-preserved t c =
     }
 
 pub match_all-returns-clause-found : goal.match_all-returns-clause-found
-match_all-returns-clause-found t c = 
+match_all-returns-clause-found t c =
     let types = c.args.types.now in let ok = c.requires.types in let typed = c.requires.store in let held = c.requires.held in
     found_same types c.args.decided.now.items c.loop-i.decided.items _
     (λ f. forget_all (rename_all f (terms_of (map (reading types c.args.store.now) c.args.these.now))) ≡ forget_all (terms_of (map (reading types c.args.store.now) c.args.those.now))) true
@@ -63,9 +63,28 @@ match_nodes-match_all-requires t c =
     let here : All (λ r. r.0 < c.args.a.0) c.as_slice.result.now = All-same (λ (r : TermId). r.0 < c.args.a.0) _ _ c.as_slice.ensures names.1 in
     let there : All (λ r. r.0 < c.args.b.0) c.as_slice-then-branch.result.now = All-same (λ (r : TermId). r.0 < c.args.b.0) _ _ c.as_slice-then-branch.ensures others.1 in
     let bound : ids_bound c.as_slice.result.now ≤ c.args.a.0 = bound_within c.args.a.0 _ here in
-    let heads = c.in_ok-match_heads-in-Spine-view-2.ensures.found c.args.types.now c.args.store.now c.requires.types (subst (NodeIsTyped c.args.types.now) c.in-Spine.is (c.view.ensures.typed c.args.types.now c.requires.store)) (subst (NodeIsTyped c.args.types.now) c.in-Spine-view-2.is (c.view-in-Spine.ensures.typed c.args.types.now c.requires.store)) c.requires.held in
-    (omega (arith, bound, c.decreases), (c.requires.types, (c.requires.store, (λ k d l. omega (arith, here k d l, c.requires.a), (λ k d l. omega (arith, there k d l, c.requires.b), (c.in_ok-match_heads-in-Spine-view-2.ensures.one, (heads.held,
-    matches_on c.args.types.now c.args.store.now c.args.decided.now.items c.match_heads.new.decided.items c.args.agreed.now heads.before c.requires.agreed)))))))
+    let heads = c.in_ok-match_heads-in-Spine-view-2.ensures.found c.args.types.now c.args.store.now c.requires.types (subst (NodeIsTyped c.args.types.now) c.in-Spine.is (c.view.ensures.typed c.args.types.now c.requires.store)) (subst (NodeIsTyped c.args.types.now) c.in-Spine-view-2.is (c.view-in-Spine.ensures.typed c.args.types.now c.requires.store)) c.requires.held in (
+      omega (arith, bound, c.decreases),
+      (
+        c.requires.types,
+        (
+          c.requires.store,
+          (
+            λ k d l. omega (arith, here k d l, c.requires.a),
+            (
+              λ k d l. omega (arith, there k d l, c.requires.b),
+              (
+                c.in_ok-match_heads-in-Spine-view-2.ensures.one,
+                (
+                  heads.held,
+                  matches_on c.args.types.now c.args.store.now c.args.decided.now.items c.match_heads.new.decided.items c.args.agreed.now heads.before c.requires.agreed,
+                ),
+              ),
+            ),
+          ),
+        ),
+      ),
+    )
 
 pub match_nodes-returns-then-is_same_type-clause-found : goal.match_nodes-returns-then-is_same_type-clause-found
 match_nodes-returns-then-is_same_type-clause-found t c =
@@ -76,7 +95,7 @@ match_nodes-returns-then-is_same_type-clause-found t c =
     (c.view.ensures.reads types) c.in-Lam.is (c.view-in-Lam.ensures.reads types) c.in-Lam-view.is (c.is_same_type.ensures.0 c.if-is_same_type.true)) found) c.match_terms.ensures.found
 
 pub match_nodes-returns-else-is_same_type-clause-found : goal.match_nodes-returns-else-is_same_type-clause-found
-match_nodes-returns-else-is_same_type-clause-found t c = 
+match_nodes-returns-else-is_same_type-clause-found t c =
     let types = c.args.types.now in let ok = c.requires.types in let typed = c.requires.store in let held = c.requires.held in
     found_never types c.args.decided.now.items (λ f. forget (rename f (reading types c.args.store.now c.args.a)) ≡ forget (reading types c.args.store.now c.args.b)) held
     (λ f r. unmatched_lam types c.args.store.now f c.args.a c.args.b c.view.result.now c.view-in-Lam.result.now c.in-Lam.ty c.in-Lam-view.other c.in-Lam.field-1 c.in-Lam-view.field-1 c.in-Lam.body c.in-Lam-view.inner
@@ -97,7 +116,7 @@ match_nodes-returns-then-branch-clause-found t c =
     (c.view.ensures.reads types) c.in-Spine.is (c.view-in-Spine.ensures.reads types) c.in-Spine-view-2.is)) c.match_all.ensures.found
 
 pub match_nodes-returns-else-branch-clause-found : goal.match_nodes-returns-else-branch-clause-found
-match_nodes-returns-else-branch-clause-found t c = 
+match_nodes-returns-else-branch-clause-found t c =
     let types = c.args.types.now in let ok = c.requires.types in let typed = c.requires.store in let held = c.requires.held in
     let heads = found_as types c.args.decided.now.items c.match_heads.new.decided.items _ c.in_ok-match_heads-in-Spine-view-2.field-0 false c.if-branch.false
     (c.in_ok-match_heads-in-Spine-view-2.ensures.found types c.args.store.now ok (subst (NodeIsTyped types) c.in-Spine.is (c.view.ensures.typed types typed)) (subst (NodeIsTyped types) c.in-Spine-view-2.is (c.view-in-Spine.ensures.typed types typed)) held) in

@@ -19,7 +19,7 @@ pub walk-returns-in-Some-clause-held : goal.walk-returns-in-Some-clause-held
 walk-returns-in-Some-clause-held g t c = (c.requires.memo c.args.id c.in-Some.answer c.args.depth (sym c.answer.ensures ∙ c.in-Some.is)).1
 
 pub walk-returns-in_ok-keep-in-None-clause-memo : goal.walk-returns-in_ok-keep-in-None-clause-memo
-walk-returns-in_ok-keep-in-None-clause-memo g t c = 
+walk-returns-in_ok-keep-in-None-clause-memo g t c =
     let made = c.in_ok-made-in-None.ensures in
     remembers_more c.args.types.now c.remake.new.store c.args.change.now c.remake.new.memo c.keep.new.self c.args.id c.in_ok-made-in-None.made c.args.depth made.memo (made.adds.before.ids c.args.id c.requires.id) made.held
     (changed_there c.args.types.now c.args.store.now c.remake.new.store made.adds.before c.args.change.now c.args.depth c.args.id c.in_ok-made-in-None.made c.requires.fits c.requires.id made.reads) c.keep.ensures
@@ -52,7 +52,7 @@ remake-returns-in_ok-inner-in-Lam-clause-reads g t c =
     c.in_ok-inner-in-Lam.ensures.reads (made c.args.types.now)) c.lam_again.ensures.reads
 
 pub remake-returns-in_ok-inner-in-Lam-clause-memo : goal.remake-returns-in_ok-inner-in-Lam-clause-memo
-remake-returns-in_ok-inner-in-Lam-clause-memo g t c = 
+remake-returns-in_ok-inner-in-Lam-clause-memo g t c =
     let adds = c.in_ok-inner-in-Lam.ensures.adds in
     always_ok c.lam_again.result (remembers_on c.args.types.now c.walk.new.store c.lam_again.new.store c.lam_again.ensures.before c.args.change.now c.walk.new.memo
     (fits_on c.args.types.now c.args.store.now c.walk.new.store adds.before c.args.change.now c.requires.fits) c.in_ok-inner-in-Lam.ensures.memo)
@@ -71,7 +71,7 @@ remake-returns-in_ok-given-in-Spine-clause-reads g t c =
     c.in_ok-given-in-Spine.ensures.reads made) c.walk_head.ensures.reads
 
 pub remake-returns-in_ok-given-in-Spine-clause-memo : goal.remake-returns-in_ok-given-in-Spine-clause-memo
-remake-returns-in_ok-given-in-Spine-clause-memo g t c = 
+remake-returns-in_ok-given-in-Spine-clause-memo g t c =
     let adds = c.in_ok-given-in-Spine.ensures.adds in
     always_ok c.walk_head.result (remembers_on c.args.types.now c.walk_all.new.store c.walk_head.new.store c.walk_head.ensures.before c.args.change.now c.walk_all.new.memo
     (fits_on c.args.types.now c.args.store.now c.walk_all.new.store adds.before c.args.change.now c.requires.fits) c.in_ok-given-in-Spine.ensures.memo)
@@ -153,7 +153,7 @@ pub walk_head-returns-in_ok-lifted-in-None-clause-typed : goal.walk_head-returns
 walk_head-returns-in_ok-lifted-in-None-clause-typed g t c = λ types suits d h. c.reduce.ensures.adds.typed types (c.in_ok-lifted-in-None.ensures.adds.typed types d)
 
 pub walk_head-returns-in_ok-lifted-in-None-clause-reads : goal.walk_head-returns-in_ok-lifted-in-None-clause-reads
-walk_head-returns-in_ok-lifted-in-None-clause-reads g t c = 
+walk_head-returns-in_ok-lifted-in-None-clause-reads g t c =
     let made = c.in_ok-lifted-in-None.ensures in
     if_ok c.reduce.result (λ r reduced.
     put_named c.args.types.now c.args.store.now c.lift.new.store c.reduce.new.store c.args.change.now c.args.depth c.in-Put.ty c.in-Put.term c.in_ok-lifted-in-None.lifted r c.args.head c.args.args.items c.deref.result.now
@@ -174,7 +174,7 @@ reduce-reduce-requires g t c = λ κs out.
     let adds = c.in_ok-applied-in-len1-up.ensures.adds in (omega (arith, smaller, c.decreases), (out, (c.requires.types, (adds.typed c.args.types.now tt c.requires.store, (c.in-Arrow.ensures.held.1, (c.in_ok-applied-in-len1-up.ensures.held, All-same (Holds c.walk.new.store) _ _ (rest_is c.args.args.now) (All-weaker (Holds c.args.store.now) (Holds c.walk.new.store) adds.before.ids _ (All-drop (Holds c.args.store.now) 1 c.args.args.now c.requires.args))))))))
 
 pub reduce-returns-in_ok-applied-in-len1-up-clause-adds : goal.reduce-returns-in_ok-applied-in-len1-up-clause-adds
-reduce-returns-in_ok-applied-in-len1-up-clause-adds g t c = 
+reduce-returns-in_ok-applied-in-len1-up-clause-adds g t c =
     adds_on c.args.store.now c.walk.new.store c.reduce.new.store (adds_terms (Put c.in-Arrow.from (get_or c.args.args.now 0 (record { 0 = 0 }))) c.args.store.now c.walk.new.store (λ types. tt) c.in_ok-applied-in-len1-up.ensures.adds) c.reduce.ensures.adds
 
 pub reduce-returns-in_ok-applied-in-len1-up-clause-reads : goal.reduce-returns-in_ok-applied-in-len1-up-clause-reads

@@ -24,6 +24,6 @@ name-returns-in_ok-new-in-Lam-clause-shape t c =
     lam_named (cell_name c.args.store.now) c.args.names.now.items c.in_ok-from_slice-in-Lam.field-0 (type_of c.args.types.now c.in-Lam.field-0) c.in-Lam.hint (term_of c.args.types.now c.args.store.now c.in-Lam.body.value)
     c.in_ok-chosen-in-Lam.chosen.items (shape_of c.in_ok-new-in-Lam.field-0.value)
     (c.in_ok-chosen-in-Lam.ensures (type_of c.args.types.now c.in-Lam.field-0) (term_of c.args.types.now c.args.store.now c.in-Lam.body.value) members
-            ∙ ap (λ w. plain.bound_name (cell_name c.args.store.now) (names_in w) c.in-Lam.hint (term_of c.args.types.now c.args.store.now c.in-Lam.body.value)) c.deref.ensures.value)
+    ∙ ap (λ w. plain.bound_name (cell_name c.args.store.now) (names_in w) c.in-Lam.hint (term_of c.args.types.now c.args.store.now c.in-Lam.body.value)) c.deref.ensures.value)
     copied body
     ∙ ap (plain.named (cell_name c.args.store.now) (names_in c.args.names.now.items)) (sym reads)

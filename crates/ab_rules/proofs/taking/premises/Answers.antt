@@ -48,7 +48,7 @@ pub returns-in-NablaLeft-clause-answers : goal.returns-in-NablaLeft-clause-answe
 returns-in-NablaLeft-clause-answers g c = rw c.in-NablaLeft.is c.nabla_left.ensures.answers
 
 pub returns-in-Initial-clause-answers : goal.returns-in-Initial-clause-answers
-returns-in-Initial-clause-answers g c = rw c.in-Initial.is (inl (λ x. x, refl))
+returns-in-Initial-clause-answers g c = rw c.in-Initial.is c.initial.ensures.answers
 
 pub returns-in-ForallLeft-clause-answers : goal.returns-in-ForallLeft-clause-answers
 returns-in-ForallLeft-clause-answers g c = rw c.in-ForallLeft.is (inl (λ x. x, refl))

@@ -1,0 +1,6 @@
+-- How an expression's readings are found: what its parts say of type variables.
+pub mod Sketches
+pub mod Programs
+pub mod Inferences
+pub mod WrittenTypes
+pub mod Verdicts

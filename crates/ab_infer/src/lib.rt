@@ -1,0 +1,19 @@
+//! Elaboration: the one reading of an expression as a typed term.
+//!
+//! Read so far are written types; and of an expression whose names are resolved, as a row of steps that makes it,
+//! whether it has one reading, none or several.
+#![tactic(auto)]
+
+mod deciding;
+mod fault;
+mod inferring;
+mod op;
+#[cfg(test)]
+mod tests;
+mod written;
+
+pub use deciding::{Verdict, decide};
+pub use fault::InferFault;
+pub use inferring::Formulas;
+pub use op::{Binds, Mark, Op};
+pub use written::read_type;

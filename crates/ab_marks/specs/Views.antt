@@ -1,0 +1,32 @@
+-- How a head makes the marks of a formula, and where marks stand in a formula, as the program sees it.
+use Rattle.std.specs.Prelude.{ℕ, ◌<◌}
+use Rattle.ab_types.specs.Entries.{Table}
+use Rattle.ab_nodes.specs.declared.node.TermId.{TermId}
+use Rattle.ab_nodes.specs.Reading.{Contents, Holds, reading}
+use Rattle.ab_logic.specs.Forms.{sign_of}
+use Rattle.ab_logic.specs.Marks as plain
+use Rattle.ab_logic.specs.Marks.{marks_of}
+use Rattle.ab_marks.specs.declared.making.Making.{Making}
+use Rattle.ab_marks.specs.declared.making.Making.TheVariants.{ByHead, ByScope, ByParts, ByMark}
+use Rattle.ab_marks.specs.declared.serving.Seen.{Seen}
+use Rattle.ab_marks.specs.declared.serving.Seen.TheVariants.{Nowhere, AtAtom, AtJudgement, Below, InBoth}
+
+abbrev pub making_read : Making → plain.Making
+making_read ByHead = plain.by_head
+making_read ByScope = plain.by_scope
+making_read ByParts = plain.by_parts
+making_read (ByMark m) = plain.by_mark (sign_of m)
+
+-- the marks, where those of parts are read from the store
+abbrev pub marks_seen : Table → Contents → Seen → plain.Marks
+marks_seen types store Nowhere = plain.nowhere
+marks_seen types store (AtAtom m) = plain.at_atom (sign_of m)
+marks_seen types store (AtJudgement m) = plain.at_judgement (sign_of m)
+marks_seen types store (Below t) = plain.below (marks_of (reading types store t))
+marks_seen types store (InBoth t u) = plain.in_both (marks_of (reading types store t)) (marks_of (reading types store u))
+
+-- the parts are earlier than this number
+abbrev pub PartsBelow : ℕ → Seen → Type 0
+PartsBelow n (Below t) = t.0 < n
+PartsBelow n (InBoth t u) = (t.0 < n) × (u.0 < n)
+PartsBelow n _ = Unit {0}

@@ -1,0 +1,9 @@
+//! Size marks of formulas on shared terms: formulas without their marks, and whether the marks of one serve another.
+#![tactic(auto)]
+
+mod erasing;
+mod making;
+mod serving;
+
+pub use erasing::without_marks;
+pub use serving::marks_serve_in;
