@@ -18,3 +18,4 @@ pub mod Equality
 pub mod Answered
 pub mod Prefixed
 pub mod Membership
+pub mod Leading

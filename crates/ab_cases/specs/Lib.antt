@@ -4,6 +4,7 @@ pub mod Clauses
 pub mod Choices
 pub mod Alternatives
 pub mod Covering
+pub mod Premises
 pub mod Member
 pub mod Prefixes
 pub mod Examples

@@ -13,9 +13,10 @@ ghost use Rattle.ab_solve.specs.Solving.{Answer, unified, Solves};
 ghost use Rattle.ab_solve.specs.Meaning.{AreTyped, AreKnown, Unifies, given};
 ghost use Rattle.ab_cases.specs.Clauses.{Clause, numbered, put_together, head_of, Each, Within, IsClause, HoldsNone, Instance};
 ghost use Rattle.ab_cases.specs.Choices.{in_order, choices, is_number_of, new_constant};
-ghost use Rattle.ab_cases.specs.Alternatives.{Scope, Alternative, Side, cells_of, alternatives};
+ghost use Rattle.ab_cases.specs.Alternatives.{Scope, Alternative, Side, on_left, cells_of, alternatives};
 ghost use Rattle.ab_cases.specs.Member.{member_clauses, HasMember};
 ghost use Rattle.ab_cases.specs.Prefixes.{prefix, opened, own_terms, clause_of, IsKept};
+ghost use Rattle.ab_cases.specs.Premises.{Premise, LeadsTo, IsStuckAt, IsMet};
 ghost use Rattle.ab_cases.specs.Covering.{IsScope, IsOf, IsCleanFor, IsCovered, CoversEquality};
 
 /// The clauses of `member` are clauses, where its constants have their types.
@@ -93,6 +94,18 @@ pub fn alternatives_give_instances<Hint>()
         Instance sg x clauses (image same_number q (image same_number alt.raised (spine (constant p) ts))) (image same_number q alt.body) }
 {}
 
+/// An analysis leads to premises or is stuck, not both, and each in one way.
+pub fn analyses_are_determined<Hint>()
+    ensures some { (x : Hint) (alts : List (Alternative Hint)) →
+        ((ps : List (Premise Hint)) × LeadsTo x alts ps) ⊎ ((i : ℕ) × IsStuckAt x alts i) }
+    ensures not_both { (x : Hint) (alts : List (Alternative Hint)) (ps : List (Premise Hint)) (i : ℕ) →
+        LeadsTo x alts ps → ¬ (IsStuckAt x alts i) }
+    ensures one_list { (x : Hint) (alts : List (Alternative Hint)) (ps qs : List (Premise Hint)) →
+        LeadsTo x alts ps → LeadsTo x alts qs → ps ≡ qs }
+    ensures one_place { (x : Hint) (alts : List (Alternative Hint)) (i j : ℕ) →
+        IsStuckAt x alts i → IsStuckAt x alts j → i ≡ j }
+{}
+
 /// COVER: each instance of the atom under a clean substitution is met by an alternative on the left, whatever the
 /// answer to its equations. Where no clause has `nabla` names, up to hints alone; else up to permutations of
 /// constants, which may differ from formula to formula.
@@ -107,6 +120,24 @@ pub fn cases_cover<Hint>()
         (s : Substitution ℕ Hint) → IsTyped sg s → IsCleanFor sequent s →
         (B : Term ℕ Hint) → Instance sg x clauses (image same_number s (spine (constant p) ts)) B →
         IsCovered EqualUpToNames sg x sequent clauses (spine (constant p) ts) s B }
+{}
+
+/// COVER, by premises: where the analysis of an atom leads to premises, each instance of the atom under a clean
+/// substitution is met by one of them. Where no clause has `nabla` names, up to hints alone; else up to permutations
+/// of constants, which may differ from formula to formula.
+pub fn premises_cover<Hint>()
+    ensures without_names { (sg : Signature) (x : Hint) (sequent : Scope Hint) (clauses : List (Clause Hint)) (p : List ℕ) (ts : Terms ℕ Hint) →
+        All (IsClause sg) clauses → All (λ c. c.names ≡ []) clauses → IsScope sequent → IsOf sg sequent (spine (constant p) ts) prop →
+        (ps : List (Premise Hint)) → LeadsTo x (alternatives x on_left sequent clauses (spine (constant p) ts)) ps →
+        (s : Substitution ℕ Hint) → IsTyped sg s → IsCleanFor sequent s →
+        (B : Term ℕ Hint) → Instance sg x clauses (image same_number s (spine (constant p) ts)) B →
+        IsMet EqualPastHints sg sequent ps s B }
+    ensures with_names { (sg : Signature) (x : Hint) (sequent : Scope Hint) (clauses : List (Clause Hint)) (p : List ℕ) (ts : Terms ℕ Hint) →
+        All (IsClause sg) clauses → IsScope sequent → IsOf sg sequent (spine (constant p) ts) prop →
+        (ps : List (Premise Hint)) → LeadsTo x (alternatives x on_left sequent clauses (spine (constant p) ts)) ps →
+        (s : Substitution ℕ Hint) → IsTyped sg s → IsCleanFor sequent s →
+        (B : Term ℕ Hint) → Instance sg x clauses (image same_number s (spine (constant p) ts)) B →
+        IsMet EqualUpToNames sg sequent ps s B }
 {}
 
 /// COVER for an equation of the sequent: a clean substitution that makes both sides equal is, on the sequent's
