@@ -8,8 +8,6 @@ mod deciding;
 mod fault;
 mod inferring;
 mod op;
-#[cfg(test)]
-mod tests;
 mod written;
 
 pub use deciding::{Verdict, decide};
