@@ -1,0 +1,33 @@
+-- What the walk and the completed table say together.
+use Rattle.std.proofs.Common.{◌≡◌, List, [], Bool, true, false, sym, ◌∙◌, ap}
+use Rattle.std.proofs.lemmas.List.Elements.{All-nil}
+use Rattle.ab_term.specs.Names.{moved_by, rename, permute, IsPermutationTable, EqualUpToNames}
+use Rattle.ab_term.specs.Translation.{forget, EqualPastHints}
+use Rattle.ab_term.proofs.Permutations.{one_to_one, swapped}
+use Rattle.ab_types.specs.Entries.{Table}
+use Rattle.ab_store.specs.Trees.{Read}
+use Rattle.ab_norm.specs.declared.nominal.Swap.{Swap}
+use Rattle.ab_norm.specs.Nominals.{nominal_of, pairs_of}
+use Rattle.ab_norm.specs.Matching.{IsRenaming, Sends, Found}
+use Rattle.ab_norm.specs.Completing.{Permutes}
+
+module _ (types : Table) (x y : Read) (decided : List Swap) (answer : Bool) (found : Found types [] decided (λ f. forget (rename f x) ≡ forget y) answer) where
+  renaming : (ps : _) → IsPermutationTable ps → IsRenaming (moved_by ps)
+  renaming ps t =
+      let one = one_to_one ps t in
+      record {
+        injective = λ a b e. sym (one.back a) ∙ ap (moved_by (swapped ps)) e ∙ one.back b;
+        keeps = one.keeps;
+      }
+
+  pub no_renaming : answer ≡ false → EqualUpToNames x y → ⊥
+  no_renaming no_answer (ps, t, e) =
+      let f = sym no_answer ∙ (found.complete (moved_by ps) (renaming ps t) (All-nil (λ (p : Swap). moved_by ps (nominal_of types p.from) ≡ nominal_of types p.to)) e).0 in
+      absurd (cc)
+
+  module _ (table : List Swap) (yes : answer ≡ true) (all : Permutes types table × Sends types (moved_by (pairs_of types table)) decided) where
+    pub sent : EqualPastHints (permute (pairs_of types table) x) y
+    sent = found.sound yes (moved_by (pairs_of types table)) all.1
+
+    pub up_to : EqualUpToNames x y
+    up_to = (pairs_of types table, all.0.1, sent)

@@ -1,0 +1,26 @@
+use Rattle.std.proofs.Common.{map, ap, ◌∙◌, ◌<◌, ◌≤◌, arith, get_or}
+use Rattle.std.specs.List.{All}
+use Rattle.std.proofs.lemmas.List.Elements.{All-same}
+use Rattle.ab_store.specs.declared.node.TermId.{TermId}
+use Rattle.ab_norm.proofs.Bounds.{ids_bound, bound_within, below_bound}
+use Rattle.ab_norm.proofs.Frame.{spine_names}
+use Rattle.ab_norm.specs.Trees.{tree_reading}
+use Rattle.ab_norm.proofs.Unshared.{unshared}
+use Rattle.ab_norm.proofs.unsharing.+unfolded.Goals as goal
+
+pub unfold-unfold_all-requires : goal.unfold-unfold_all-requires
+unfold-unfold_all-requires t c =
+    let names = spine_names _ _ c.view.result.now c.in-Spine.head c.in-Spine.args c.in-Spine.is c.view.ensures.earlier in
+    let here : All (λ r. r.0 < c.args.id.0) c.as_slice.result.now = All-same (λ (r : TermId). r.0 < c.args.id.0) _ _ c.as_slice.ensures names.1 in
+    let bound : ids_bound c.as_slice.result.now ≤ c.args.id.0 = bound_within c.args.id.0 _ here in
+    (omega (arith, bound, c.decreases), λ k d l. omega (arith, here k d l, c.requires))
+
+pub unfold-returns-in_ok-trees-in-Spine : goal.unfold-returns-in_ok-trees-in-Spine
+unfold-returns-in_ok-trees-in-Spine t c = λ types.
+    unshared types c.args.store.now c.args.id c.view.result.now c.in-Spine.head c.from_vec.result c.in-Spine.args c.as_slice.result.now
+    (c.view.ensures.tree types) c.in-Spine.is c.as_slice.ensures (ap (map (tree_reading types c.args.store.now)) c.from_vec.ensures ∙ c.in_ok-trees-in-Spine.ensures types)
+
+pub unfold_all-unfold-requires : goal.unfold_all-unfold-requires
+unfold_all-unfold-requires t c =
+    let below : (get_or c.args.ids.now c.loop-id.id-index (record { 0 = 0 })).0 < ids_bound c.args.ids.now = below_bound c.args.ids.now c.loop-id.id-index (record { 0 = 0 }) (omega arith) in
+    (omega (arith, below, c.decreases), c.requires c.loop-id.id-index (record { 0 = 0 }) (omega arith))

@@ -1,0 +1,13 @@
+//! Terms as trees of their own.
+use crate::items::Items;
+use ab_store::Head;
+use ab_types::{Name, TypeId};
+
+/// A term, with nothing shared.
+#[derive(Debug, Drop)]
+pub enum Tree {
+    /// An abstraction over a type, with the hint of its binder and its body.
+    Lam(TypeId, Name, Box<Tree>),
+    /// A head with the arguments that it is given.
+    Spine(Head, Items<Tree>),
+}
