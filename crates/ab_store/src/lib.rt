@@ -13,5 +13,5 @@ mod tests;
 
 pub use list::Arguments;
 pub use mark::Mark;
-pub use node::{CellId, Equation, Head, Logical, Node, TermId};
+pub use node::{Binding, CellId, Equation, Head, Logical, Node, TermId};
 pub use store::Store;

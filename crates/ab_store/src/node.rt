@@ -111,8 +111,8 @@ pub struct Equation {
 /// A cell, and the term that it is bound to.
 #[derive(Clone, Copy, Debug)]
 pub struct Binding {
-    pub(crate) cell: CellId,
-    pub(crate) term: TermId,
+    pub cell: CellId,
+    pub term: TermId,
 }
 
 /// What a store keeps of a cell: its hint, and the type of what it stands for.

@@ -270,6 +270,14 @@ impl Store {
         self.slots[cell.0].binding
     }
 
+    /// The bindings, in the order in which they were made.
+    pub fn bindings(&self) -> &[Binding]
+        ensures list { result.now ≡ self.now.bindings }
+        ensures order { AreInOrder self.now }
+    {
+        &self.trail
+    }
+
     /// Whether a cell is bound.
     pub fn has_bindings(&self) -> bool
         ensures { (result ≡ false) ↔ (self.now.bindings ≡ []) }
