@@ -1,0 +1,130 @@
+-- THE PROOF COMMANDS, row by row: what is asked, in order, and the goals that take the first goal's place.
+use Rattle.std.specs.Prelude.{◌≡◌, ℕ, List, [], ◌∷◌, map, Bool, Option, Some, None, if◌then◌else◌, is_some, bytes_eq}
+use Rattle.std.specs.List.{list_any}
+use Rattle.ab_term.specs.Types.{Ty, prop}
+use Rattle.ab_term.specs.Substitution.{instance}
+use Rattle.ab_nodes.specs.Reading.{Read}
+use Rattle.ab_grammar.specs.Tree.{Tree}
+use Rattle.ab_grammar.specs.CommandTrees as command
+use Rattle.ab_grammar.specs.CommandTrees.{ProofCommand}
+use Rattle.ab_logic.specs.Declarations.{Declarations}
+use Rattle.ab_logic.specs.Forms.{Form, truth, falsity, both, either, implies, equal, for_all, exists, nabla, marked, other, form_of, as_both, as_either, as_exists}
+use Rattle.ab_logic.specs.Sequents.{Sequent, formula_of, proving, assuming, without}
+use Rattle.ab_logic.specs.Names.{Label, auto, given, Names, NoName}
+use Rattle.ab_effects.specs.Refusals.{Refusal, clash, no_hypothesis, wrong_shape, names_spent}
+use Rattle.ab_effects.specs.Row.{Row, leads, unless, finds, makes}
+use Rattle.ab_effects.specs.Terms.{Means, MeansNothing}
+use Rattle.ab_effects.specs.Opening.{Opened, Nameless}
+use Rattle.ab_effects.specs.Introducing.{Introduced, Unnamed, taken_off, Parts}
+
+-- the name is that of a hypothesis
+abbrev pub is_used : Sequent → List ℕ → Bool
+is_used s x = is_some (formula_of s x)
+
+-- the label is in use
+abbrev pub clashing : Label → Sequent → Option Refusal
+clashing auto s = None
+clashing (given x) s = if is_used s x then Some (clash x) else None
+
+-- the first of the names that is in use, or that is among those before it
+abbrev pub clashing_names : List (List ℕ) → List (List ℕ) → Sequent → Option Refusal
+clashing_names before [] s = None
+clashing_names before (x ∷ xs) s =
+    if is_used s x then Some (clash x) else
+    (if list_any (bytes_eq x) before then Some (clash x) else clashing_names (x ∷ before) xs s)
+
+-- the first of the names that no hypothesis has
+abbrev pub missing : List (List ℕ) → Sequent → Option Refusal
+missing [] s = None
+missing (H ∷ Hs) s = if is_used s H then missing Hs s else Some (no_hypothesis H)
+
+abbrev pub cleared : List (List ℕ) → Sequent → Sequent
+cleared [] s = s
+cleared (H ∷ Hs) s = cleared Hs (without H s)
+
+-- names that are given to no hypothesis
+abbrev pub left_over : List (List ℕ) → Option Refusal
+left_over [] = None
+left_over (x ∷ xs) = Some wrong_shape
+
+-- the expression is to mean a term of the type in the goal
+abbrev pub reading : Declarations → Sequent → Tree → Ty → (Read → Row) → Row
+reading D s e A k = makes (Means D s e A) (MeansNothing D s e A) k
+
+-- a new hypothesis is to get its name
+abbrev pub naming : Label → Sequent → (List ℕ → Sequent → Row) → Row
+naming l s k = makes {A = List ℕ × Sequent} (λ p. Names l s p.0 p.1) (λ f. NoName l s × (f ≡ names_spent)) (λ p. k p.0 p.1)
+
+-- the formula is to be opened in the goal
+abbrev pub opening : Declarations → Read → Label → Sequent → (Sequent → Row) → Row
+opening D F l s k = makes {A = Label × Sequent} (λ p. Opened D (F ∷ []) l s p.0 p.1) (λ f. Nameless D (F ∷ []) l s × (f ≡ names_spent)) (λ p. k p.1)
+
+-- What `case` does to a hypothesis of that form, in the goal in which it stood. What isn't built yet has no shape for it.
+abbrev pub cases : Declarations → Form → Read → Label → Sequent → Row
+cases D truth F l s = opening D F l s (λ t. leads (t ∷ []))
+cases D (both A B) F l s = opening D F l s (λ t. leads (t ∷ []))
+cases D (exists A t) F l s = opening D F l s (λ t. leads (t ∷ []))
+cases D (nabla A t) F l s = opening D F l s (λ t. leads (t ∷ []))
+cases D (either A B) F l s = opening D A l s (λ t. opening D B l s (λ u. leads (t ∷ u ∷ [])))
+cases D falsity F l s = leads []
+cases D (implies A B) F l s = unless (Some wrong_shape) (leads [])
+cases D (equal A t u) F l s = unless (Some wrong_shape) (leads [])
+cases D (for_all A t) F l s = unless (Some wrong_shape) (leads [])
+cases D (marked m t) F l s = unless (Some wrong_shape) (leads [])
+cases D other F l s = unless (Some wrong_shape) (leads [])
+
+-- no such proof command is built yet
+abbrev pub not_built : Row
+not_built = unless (Some wrong_shape) (leads [])
+
+-- WHAT A PROOF COMMAND DOES to the first goal, from these declarations, with its label
+abbrev pub effect : Declarations → Label → ProofCommand → Sequent → Row
+effect D l (command.intros xs) s =
+    unless (clashing_names [] xs s) (
+    finds wrong_shape (taken_off (form_of s.conclusion)) (λ o.
+    makes {A = List (List ℕ) × Sequent} (λ p. Introduced D xs s p.0 p.1) (λ f. Unnamed D xs s × (f ≡ names_spent)) (λ p.
+    unless (left_over p.0) (
+    leads (p.1 ∷ [])))))
+effect D l command.split s =
+    finds wrong_shape (as_both s.conclusion) (λ p.
+    leads (proving p.0 s ∷ proving p.1 s ∷ []))
+effect D l command.split_all s =
+    finds wrong_shape (as_both s.conclusion) (λ p.
+    makes (Parts s.conclusion) (λ f. ⊥) (λ Fs.
+    leads (map (λ F. proving F s) Fs)))
+effect D l command.left s =
+    finds wrong_shape (as_either s.conclusion) (λ p.
+    leads (proving p.0 s ∷ []))
+effect D l command.right s =
+    finds wrong_shape (as_either s.conclusion) (λ p.
+    leads (proving p.1 s ∷ []))
+effect D l (command.exists e) s =
+    finds wrong_shape (as_exists s.conclusion) (λ q.
+    reading D s e q.0 (λ t.
+    leads (proving (instance q.1 t) s ∷ [])))
+effect D l (command.case H keep) s =
+    unless (clashing l s) (
+    finds (no_hypothesis H) (formula_of s H) (λ F.
+    cases D (form_of F) F l (if keep then s else without H s)))
+effect D l (command.assert e) s =
+    unless (clashing l s) (
+    reading D s e prop (λ F.
+    naming l s (λ name t.
+    leads (proving F s ∷ assuming name F t ∷ []))))
+effect D l (command.clear Hs) s =
+    unless (missing Hs s) (
+    leads (cleared Hs s ∷ []))
+effect D l (command.rename H x) s =
+    unless (clashing (given x) s) (
+    finds (no_hypothesis H) (formula_of s H) (λ F.
+    leads (assuming x F (without H s) ∷ [])))
+effect D l (command.induction n) s = not_built
+effect D l command.coinduction s = not_built
+effect D l (command.apply H vs is) s = not_built
+effect D l (command.backchain H is) s = not_built
+effect D l (command.cut H K) s = not_built
+effect D l (command.inst H is) s = not_built
+effect D l (command.monotone H e) s = not_built
+effect D l (command.search n) s = not_built
+effect D l command.unfold_goal s = not_built
+effect D l (command.permute ns x) s = not_built

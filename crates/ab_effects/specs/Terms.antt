@@ -1,0 +1,65 @@
+-- What the terms of a proof command mean: each is the normal form of the one reading of its expression in the goal.
+use Rattle.std.specs.Prelude.{◌≡◌, ℕ, List, [], ◌∷◌, map, Ok, Err, Some, None, Option}
+use Rattle.ab_term.specs.Types.{Ty}
+use Rattle.ab_term.specs.Terms.{Head, Nominal, nominal, constant}
+use Rattle.ab_nodes.specs.Reading.{Read}
+use Rattle.ab_grammar.specs.Tree.{Tree, place_of}
+use Rattle.ab_logic.specs.Declarations.{Declarations, a_kind, a_constant, a_block, a_program_clause, a_theorem, signature_in}
+use Rattle.ab_logic.specs.Sequents.{Variable, Sequent, goal_names}
+use Rattle.ab_readings.specs.Names.{Resolved}
+use Rattle.ab_readings.specs.Scopes.{Entry, Scope, in_proof, nominal_number, resolved}
+use Rattle.ab_readings.specs.Readings.{Making, Raw}
+use Rattle.ab_readings.specs.Answers.{IsTheReading, HasNoReading, IsFirstOpen}
+use Rattle.ab_readings.specs.Normal.{normal_form}
+use Rattle.ab_effects.specs.Refusals.{Refusal, unknown, type_clash, untyped, clash, no_hypothesis, wrong_shape, names_spent}
+
+abbrev pub kinds_in : Declarations → List (List ℕ)
+kinds_in [] = []
+kinds_in (a_kind k ∷ ds) = k ∷ kinds_in ds
+kinds_in (a_constant c A ∷ ds) = kinds_in ds
+kinds_in (a_block b ∷ ds) = kinds_in ds
+kinds_in (a_program_clause c ∷ ds) = kinds_in ds
+kinds_in (a_theorem n F ∷ ds) = kinds_in ds
+
+abbrev pub entry_of : Variable → Entry
+entry_of x = record { name = x.name; number = x.number; type = x.type }
+
+-- the names that a goal knows
+abbrev pub scope_of : Declarations → Sequent → Scope
+scope_of D s = record {
+  kinds = kinds_in D;
+  constants = signature_in D;
+  variables = map entry_of s.variables;
+  nominals = goal_names s;
+  place = in_proof;
+}
+
+-- a nominal name whose type the text leaves open stands for the constant of its number
+abbrev pub constant_named : List ℕ → Option ℕ → Ty → Head ℕ
+constant_named x None A = constant x
+constant_named x (Some n) A = nominal (record { number = n; type = A })
+
+abbrev pub made : Making
+made x A = constant_named x (nominal_number x) A
+
+-- THE EXPRESSION MEANS THE TERM in the goal, at the type
+pub record Means (D : Declarations) (s : Sequent) (e : Tree) (A : Ty) (t : Read) : Type 0 where
+  pub named : Resolved
+  pub names : resolved (scope_of D s) [] e ≡ Ok named
+  pub raw : Raw
+  pub reading : IsTheReading made named A raw
+  pub normal : t ≡ normal_form (signature_in D) [] raw
+
+-- its names are resolved so, and of that something is said
+abbrev pub Resolves : Declarations → Sequent → Tree → (Resolved → Type 0) → Type 0
+Resolves D s e P = (r : Resolved) × (resolved (scope_of D s) [] e ≡ Ok r) × P r
+
+-- IT MEANS NOTHING, for this cause: a name that stands for nothing, no reading, or several
+abbrev pub MeansNothing : Declarations → Sequent → Tree → Ty → Refusal → Type 0
+MeansNothing D s e A (unknown x) = resolved (scope_of D s) [] e ≡ Err x
+MeansNothing D s e A (type_clash p) = Resolves D s e (λ r. HasNoReading made r A) × (p ≡ place_of e)
+MeansNothing D s e A (untyped p) = Resolves D s e (λ r. IsFirstOpen made r A p)
+MeansNothing D s e A (clash x) = ⊥
+MeansNothing D s e A (no_hypothesis x) = ⊥
+MeansNothing D s e A wrong_shape = ⊥
+MeansNothing D s e A names_spent = ⊥
