@@ -201,7 +201,18 @@ takes_label proof.Cut = true
 takes_label proof.Inst = true
 takes_label proof.Monotone = true
 takes_label proof.Assert = true
-takes_label h = false
+takes_label proof.Intros = false
+takes_label proof.Backchain = false
+takes_label proof.Search = false
+takes_label proof.Split = false
+takes_label proof.Left = false
+takes_label proof.Right = false
+takes_label proof.Exists = false
+takes_label proof.Witness = false
+takes_label proof.Unfold = false
+takes_label proof.Clear = false
+takes_label proof.Rename = false
+takes_label proof.Permute = false
 
 -- what stands behind the first token of a command, up to its full stop
 pub data Row : Head → List Spot → Command → Type 0 where
@@ -269,6 +280,12 @@ CommandText = CommandForm ◂ Sign stop
 -- Where commands stand
 
 abbrev pub stand_of : Head → Stand
+stand_of head.Kind = Outside
+stand_of head.Typed = Outside
+stand_of head.Define = Outside
+stand_of head.CoDefine = Outside
+stand_of head.Theorem = Outside
+stand_of head.Specification = Outside
 stand_of head.Show = Anywhere
 stand_of head.Quit = Anywhere
 stand_of head.Set = Anywhere
@@ -276,9 +293,13 @@ stand_of head.Back = Anywhere
 stand_of head.Reset = Anywhere
 stand_of head.Undo = Inside
 stand_of head.Abort = Inside
-stand_of h = Outside
 
 abbrev pub standing : Command → Stand
+standing (kinds xs) = Outside
+standing (constants xs A) = Outside
+standing (tree.define inductive ds cs) = Outside
+standing (tree.theorem x e) = Outside
+standing (tree.specification x) = Outside
 standing (tree.show x) = Anywhere
 standing tree.quit = Anywhere
 standing (subgoals on) = Anywhere
@@ -287,7 +308,6 @@ standing tree.reset = Anywhere
 standing tree.undo = Inside
 standing tree.abort = Inside
 standing (in_proof x c) = Inside
-standing c = Outside
 
 -- where a command stands is known by its first token, or by a word and a colon
 pub data StandsAt : List Token → Stand → Type 0 where

@@ -87,7 +87,12 @@ fn stand(head: Head) -> Stand
     match head {
         Head::Show | Head::Quit | Head::Set | Head::Back | Head::Reset => Stand::Anywhere,
         Head::Undo | Head::Abort => Stand::Inside,
-        _ => Stand::Outside,
+        Head::Kind
+        | Head::Typed
+        | Head::Define
+        | Head::CoDefine
+        | Head::Theorem
+        | Head::Specification => Stand::Outside,
     }
 }
 

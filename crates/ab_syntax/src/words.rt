@@ -72,15 +72,26 @@ pub(crate) fn proof_head(word: &[u8]) -> Option<ProofHead>
 pub(crate) fn takes_label(head: ProofHead) -> bool
     ensures { result ≡ takes_label_of head }
 {
-    matches!(
-        head,
+    match head {
         ProofHead::Induction
-            | ProofHead::Coinduction
-            | ProofHead::Case
-            | ProofHead::Apply
-            | ProofHead::Cut
-            | ProofHead::Inst
-            | ProofHead::Monotone
-            | ProofHead::Assert
-    )
+        | ProofHead::Coinduction
+        | ProofHead::Case
+        | ProofHead::Apply
+        | ProofHead::Cut
+        | ProofHead::Inst
+        | ProofHead::Monotone
+        | ProofHead::Assert => true,
+        ProofHead::Intros
+        | ProofHead::Backchain
+        | ProofHead::Search
+        | ProofHead::Split
+        | ProofHead::Left
+        | ProofHead::Right
+        | ProofHead::Exists
+        | ProofHead::Witness
+        | ProofHead::Unfold
+        | ProofHead::Clear
+        | ProofHead::Rename
+        | ProofHead::Permute => false,
+    }
 }
