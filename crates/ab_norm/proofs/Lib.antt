@@ -17,4 +17,5 @@ pub mod Remembered
 pub mod Changed
 pub mod Read
 pub mod Clear
+pub mod GivenHeads
 pub mod Resolved

@@ -26,7 +26,7 @@ through_instances types ps typed (u ∷ us) d (take_term e es) =
     through_instances types ps typed us (instance_typed (signature types) d e) es
     ∙ ap (λ w. instance_by_all w (map (one_by_one same_number ps) us)) (one_by_one-instance (signature types) same_number ps typed d e)
 
-map_twice : {X Y Z : Type 0} (f : Y → Z) (g : X → Y) (xs : List X) → map f (map g xs) ≡ map (λ x. f (g x)) xs
+pub map_twice : {X Y Z : Type 0} (f : Y → Z) (g : X → Y) (xs : List X) → map f (map g xs) ≡ map (λ x. f (g x)) xs
 map_twice f g [] = refl
 map_twice f g (x ∷ xs) = ap (λ l. f (g x) ∷ l) (map_twice f g xs)
 
@@ -35,7 +35,7 @@ module _ (types : Table) (s t : Contents) (more : IsExtendedBy s t) where
   still_read [] h = refl
   still_read (x ∷ xs) h = ap (λ r. r ∷ map (reading types t) xs) (more.readings types x (All-head (Holds s) x xs h)) ∙ ap (λ l. reading types s x ∷ l) (still_read xs (All-tail (Holds s) x xs h))
 
-  still_trees : (ts : List TermId) → All (Holds s) ts → map (tree_of types t) ts ≡ map (tree_of types s) ts
+  pub still_trees : (ts : List TermId) → All (Holds s) ts → map (tree_of types t) ts ≡ map (tree_of types s) ts
   still_trees [] h = refl
   still_trees (x ∷ xs) h = ap (λ r. r ∷ map (tree_of types t) xs) (more.trees types x (All-head (Holds s) x xs h)) ∙ ap (λ l. tree_of types s x ∷ l) (still_trees xs (All-tail (Holds s) x xs h))
 

@@ -14,6 +14,7 @@ ghost use Rattle.ab_store.specs.Growth.{IsExtendedBy};
 ghost use Rattle.ab_store.specs.Naming.{HoldsHead, HeadIsTyped, IsTypedBy, IsTerm};
 ghost use Rattle.ab_norm.specs.Growth.{AddsTypedTerms};
 ghost use Rattle.ab_norm.specs.Heads.{IsFree};
+ghost use Rattle.ab_norm.specs.Taking.{AreTaken};
 
 use crate::indices::raise_head;
 use crate::walking::lift_all;
@@ -46,6 +47,38 @@ pub fn eta(
 {
     has_unique_ids(types);
     expand(alloc, types, store, ty, head, Vec::new(alloc))
+}
+
+/// The head, given the arguments, at the type that is left, with as many bound names more as that takes. Their binders
+/// have the hint `x`.
+pub fn eta_given(
+    alloc: Global,
+    types: &TypeTable,
+    store: &mut Store,
+    head: Head,
+    args: Vec<TermId>,
+    left: TypeId,
+) -> Result<TermId, AllocError>
+    requires store { IsTypedBy types.now store.old }
+    requires head { HoldsHead store.old head }
+    requires typed { HeadIsTyped types.now head }
+    requires args { All (Holds store.old) args.items }
+    requires left { HoldsType types.now left }
+    ensures held { IfOk result (λ r. Holds store.new r) }
+    ensures tree { IfOk result (λ r.
+        tree_of types.now store.new r
+        ≡ expansion_of (codes "x") (type_of types.now left) (head_reading types.now store.old head) (terms_of (map (tree_of types.now store.old) args.items))) }
+    ensures reads { IsFree store.old head → IfOk result (λ r.
+        reading types.now store.new r
+        ≡ expansion_of (codes "x") (type_of types.now left) (head_reading types.now store.old head) (terms_of (map (reading types.now store.old) args.items))) }
+    ensures term { IfOk result (λ r. (G : List Ty) (A : Ty) →
+        head_type (signature types.now) G (head_reading types.now store.old head) ≡ Some A →
+        AreTaken types.now store.old G args.items A (type_of types.now left) →
+        IsTerm types.now store.new G r (type_of types.now left)) }
+    ensures adds { AddsTypedTerms types.now store.old store.new }
+{
+    has_unique_ids(types);
+    expand(alloc, types, store, left, head, args)
 }
 
 /// The head with the arguments, as a term of the type that is left.

@@ -21,7 +21,7 @@ mod unsharing;
 mod walking;
 
 pub use comparing::equal;
-pub use expanding::eta;
+pub use expanding::{eta, eta_given};
 pub use instantiating::instantiate;
 pub use items::Items;
 pub use looking::look;
