@@ -37,6 +37,33 @@ struct Slot {
     binding: Option<TermId>,
 }
 
+impl Slot {
+    /// The same cell, unbound.
+    fn unbound(&self, alloc: Global) -> Result<Slot, AllocError>
+        ensures cell { IfOk result (λ slot. slot.cell ≡ self.now.cell) }
+        ensures unbound { IfOk result (λ slot. slot.binding ≡ None) }
+    {
+        let hint = self.cell.hint.copy(alloc)?;
+        let ty = self.cell.ty;
+        Ok(Slot {
+            cell: CellEntry { hint, ty },
+            binding: None,
+        })
+    }
+}
+
+/// The same cells, unbound.
+fn all_unbound(alloc: Global, slots: &[Slot]) -> Result<Vec<Slot>, AllocError>
+    ensures cells { IfOk result (λ made. map (λ s. s.cell) made.items ≡ map (λ s. s.cell) slots.now) }
+    ensures unbound { IfOk result (λ made. All (λ s. s.binding ≡ None) made.items) }
+{
+    let mut made = Vec::new(alloc);
+    for slot in slots {
+        made.push(slot.unbound(alloc)?)?;
+    }
+    Ok(made)
+}
+
 /// Terms as shared nodes, the cells that stand in them, and what these are bound to. Nodes and cells are added, and
 /// never change; bindings and what was added are taken back to a mark.
 #[derive(Debug, Drop)]
@@ -72,6 +99,18 @@ impl Store {
             slots: Vec::new(alloc),
             trail: Vec::new(alloc),
         }
+    }
+
+    /// A store with the same cells, none of which is bound, and with no term.
+    pub fn with_same_cells(&self, alloc: Global) -> Result<Store, AllocError>
+        ensures cells { IfOk result (λ store. store ≡ record { nodes = []; cells = self.now.cells; bindings = []; room = 0 }) }
+        ensures typed { IfOk result (λ store. (types : Table) → IsTypedBy types self.now → IsTypedBy types store) }
+    {
+        Ok(Store {
+            entries: Vec::new(alloc),
+            slots: all_unbound(alloc, &self.slots)?,
+            trail: Vec::new(alloc),
+        })
     }
 
     /// An abstraction over the type, with the hint of its binder and its body.
