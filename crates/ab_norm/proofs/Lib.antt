@@ -19,3 +19,4 @@ pub mod Read
 pub mod Clear
 pub mod GivenHeads
 pub mod Resolved
+pub mod Copied

@@ -13,3 +13,4 @@ pub mod Changes
 pub mod Taking
 pub mod Heads
 pub mod Clearing
+pub mod OtherStores

@@ -1,0 +1,11 @@
+-- What a walk keeps that carries terms over into another store.
+use Rattle.std.specs.Prelude.{◌≡◌, Some}
+use Rattle.ab_types.specs.Entries.{Table}
+use Rattle.ab_store.specs.declared.node.TermId.{TermId}
+use Rattle.ab_store.specs.Trees.{Contents, Holds, tree_of}
+use Rattle.ab_norm.specs.declared.memo.Memo.{Memo}
+use Rattle.ab_norm.specs.Remembering.{answer_of}
+
+-- each answer that is kept is a term of the second store that has the tree of its key in the first
+abbrev pub Carries : Table → Contents → Contents → Memo → Type 0
+Carries types store apart memo = (t r : TermId) → answer_of memo t 0 ≡ Some r → Holds apart r × (tree_of types apart r ≡ tree_of types store t)
