@@ -210,7 +210,7 @@ reading_clear types s0 s1 id r same order e =
 -- one binding after another
 
 module _ (types : Table) (s0 s1 : Contents) (more : IsExtendedBy s0 s1) where
-  pair_on : (b : Binding) → HoldsCell s0 b.cell → Holds s0 b.term → pair types s1 b ≡ pair types s0 b
+  pub pair_on : (b : Binding) → HoldsCell s0 b.cell → Holds s0 b.term → pair types s1 b ≡ pair types s0 b
   pair_on b hc ht =
       ap (λ (e : CellEntry). (record { name = b.cell.0; type = type_of types e.ty }, tree_of types s1 b.term)) (more.cells b.cell hc)
       ∙ ap (λ t. (cell_variable types s0 b.cell, t)) (more.trees types b.term ht)

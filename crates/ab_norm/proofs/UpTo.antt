@@ -1,5 +1,6 @@
 -- What the walk and the completed table say together.
-use Rattle.std.proofs.Common.{◌≡◌, List, [], Bool, true, false, sym, ◌∙◌, ap}
+use Rattle.std.proofs.Common.{◌≡◌, ◌↔◌, List, [], Bool, true, false, Option, sym, ◌∙◌, ap, subst}
+use Rattle.std.specs.Prelude.{IfSome, IsNone}
 use Rattle.std.proofs.lemmas.List.Elements.{All-nil}
 use Rattle.ab_term.specs.Names.{moved_by, rename, permute, IsPermutationTable, EqualUpToNames}
 use Rattle.ab_term.specs.Translation.{forget, EqualPastHints}
@@ -7,6 +8,7 @@ use Rattle.ab_term.proofs.Permutations.{one_to_one, swapped}
 use Rattle.ab_types.specs.Entries.{Table}
 use Rattle.ab_store.specs.Trees.{Read}
 use Rattle.ab_norm.specs.declared.nominal.Swap.{Swap}
+use Rattle.ab_norm.specs.declared.nominal.Permutation.{Permutation}
 use Rattle.ab_norm.specs.Nominals.{nominal_of, pairs_of}
 use Rattle.ab_norm.specs.Matching.{IsRenaming, Sends, Found}
 use Rattle.ab_norm.specs.Completing.{Permutes}
@@ -31,3 +33,15 @@ module _ (types : Table) (x y : Read) (decided : List Swap) (answer : Bool) (fou
 
     pub up_to : EqualUpToNames x y
     up_to = (pairs_of types table, all.0.1, sent)
+
+-- of other terms that are equal to these
+
+pub sends_alike : (types : Table) (found : Option Permutation) {x y u v : Read} → x ≡ u → y ≡ v
+    → IfSome found (λ by. EqualPastHints (permute (pairs_of types by.pairs) x) y) → IfSome found (λ by. EqualPastHints (permute (pairs_of types by.pairs) u) v)
+sends_alike types found {y = y} {u = u} e f sent =
+    subst (λ w. IfSome found (λ by. EqualPastHints (permute (pairs_of types by.pairs) u) w)) f
+    (subst (λ w. IfSome found (λ by. EqualPastHints (permute (pairs_of types by.pairs) w) y)) e sent)
+
+pub none_alike : (found : Option Permutation) {x y u v : Read} → x ≡ u → y ≡ v → IsNone found ↔ (EqualUpToNames x y → ⊥) → IsNone found ↔ (EqualUpToNames u v → ⊥)
+none_alike found {y = y} {u = u} e f none =
+    subst (λ w. IsNone found ↔ (EqualUpToNames u w → ⊥)) f (subst (λ w. IsNone found ↔ (EqualUpToNames w y → ⊥)) e none)

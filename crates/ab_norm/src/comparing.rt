@@ -6,11 +6,12 @@ ghost use Rattle.ab_types.specs.Entries.{Table};
 ghost use Rattle.ab_types.specs.Sound.{IsTable};
 ghost use Rattle.ab_store.specs.Trees.{Holds, tree_of};
 ghost use Rattle.ab_store.specs.Reading.{reading};
-ghost use Rattle.ab_store.specs.Bindings.{IsResolved};
 ghost use Rattle.ab_store.specs.Naming.{IsTypedBy};
 ghost use Rattle.ab_norm.specs.Matching.{AllAgree};
 
+use crate::carrying::carry_resolved;
 use crate::memo::Agreed;
+use crate::resolving::are_resolved;
 use ab_store::{Head, Node, Store, TermId};
 use ab_types::laws::has_unique_ids;
 use ab_types::{TypeId, TypeTable};
@@ -48,12 +49,38 @@ pub fn equal(
     requires store { IsTypedBy types.now store.now }
     requires a { Holds store.now a }
     requires b { Holds store.now b }
-    ensures { IsResolved store.now a → IsResolved store.now b →
-        IfOk result (λ same. IsTrue same ↔ EqualPastHints (reading types.now store.now a) (reading types.now store.now b)) }
+    ensures { IfOk result (λ same. IsTrue same ↔ EqualPastHints (reading types.now store.now a) (reading types.now store.now b)) }
 {
     has_unique_ids(types);
+    if is_same_term(a, b) {
+        return Ok(true);
+    }
+    if are_resolved(alloc, store, a, b)? {
+        let mut agreed = Agreed::new(alloc);
+        return is_equal(store, a, b, &mut agreed);
+    }
+    equal_apart(alloc, types, store, a, b)
+}
+
+/// Whether the two terms are the same past their hints, once their bindings are put in.
+fn equal_apart(
+    alloc: Global,
+    types: &TypeTable,
+    store: &Store,
+    a: TermId,
+    b: TermId,
+) -> Result<bool, AllocError>
+    requires types { IsTable types.now }
+    requires store { IsTypedBy types.now store.now }
+    requires a { Holds store.now a }
+    requires b { Holds store.now b }
+    ensures { IfOk result (λ same. (same ≡ true) ↔ EqualPastHints (reading types.now store.now a) (reading types.now store.now b)) }
+{
+    let mut apart = store.with_same_cells(alloc)?;
+    let left = carry_resolved(alloc, types, store, &mut apart, a)?;
+    let right = carry_resolved(alloc, types, store, &mut apart, b)?;
     let mut agreed = Agreed::new(alloc);
-    is_equal(store, a, b, &mut agreed)
+    is_equal(&apart, left, right, &mut agreed)
 }
 
 /// Whether the two terms are the same past their hints.

@@ -5,11 +5,15 @@ ghost use Rattle.ab_term.specs.Terms.{lam, terms_of, with_last, no_terms, index}
 ghost use Rattle.ab_term.specs.Typing.{head_type};
 ghost use Rattle.ab_term.specs.Substitution.{shift_head, shift_all};
 ghost use Rattle.ab_term.specs.Expansion.{expansion, expansion_of};
+ghost use Rattle.ab_term.specs.Translation.{EqualPastHints};
 ghost use Rattle.ab_types.specs.Entries.{signature};
 ghost use Rattle.ab_types.specs.Ids.{HoldsType, type_of};
 ghost use Rattle.ab_types.specs.Sound.{IsTable};
 ghost use Rattle.ab_store.specs.Trees.{Holds, head_reading, tree_of};
-ghost use Rattle.ab_store.specs.Reading.{reading};
+ghost use Rattle.ab_store.specs.declared.node.CellId.{CellId};
+ghost use Rattle.ab_store.specs.declared.node.TermId.{TermId};
+ghost use Rattle.ab_store.specs.declared.node.Head.TheVariants.{Cell};
+ghost use Rattle.ab_store.specs.Reading.{cell_of, binding_of, reading};
 ghost use Rattle.ab_store.specs.Growth.{IsExtendedBy};
 ghost use Rattle.ab_store.specs.Naming.{HoldsHead, HeadIsTyped, IsTypedBy, IsTerm};
 ghost use Rattle.ab_norm.specs.Growth.{AddsTypedTerms};
@@ -23,7 +27,8 @@ use ab_types::laws::has_unique_ids;
 use ab_types::{Name, Steps, TypeId, TypeTable, TypeView};
 use std::alloc::{AllocError, Global};
 
-/// The head at the type, with as many bound names as that takes. Their binders have the hint `x`.
+/// The head at the type, with as many bound names as that takes. Their binders have the hint `x`. The form of a bound
+/// cell at its type reads, past hints, as the term that the cell is bound to.
 pub fn eta(
     alloc: Global,
     types: &TypeTable,
@@ -40,12 +45,16 @@ pub fn eta(
         tree_of types.now store.new r ≡ expansion (codes "x") (type_of types.now ty) (head_reading types.now store.old head)) }
     ensures reads { IsFree store.old head → IfOk result (λ r.
         reading types.now store.new r ≡ expansion (codes "x") (type_of types.now ty) (head_reading types.now store.old head)) }
+    ensures bound { IfOk result (λ r. (c : CellId) (u : TermId) → head ≡ Cell c → binding_of store.old c ≡ Some u →
+        type_of types.now ty ≡ type_of types.now (cell_of store.old c).ty →
+        EqualPastHints (reading types.now store.new r) (reading types.now store.old u)) }
     ensures term { IfOk result (λ r. (G : List Ty) →
         head_type (signature types.now) G (head_reading types.now store.old head) ≡ Some (type_of types.now ty) →
         IsTerm types.now store.new G r (type_of types.now ty)) }
     ensures adds { AddsTypedTerms types.now store.old store.new }
 {
     has_unique_ids(types);
+    let _ = store.bindings();
     expand(alloc, types, store, ty, head, Vec::new(alloc))
 }
 

@@ -7,15 +7,16 @@ ghost use Rattle.ab_types.specs.Entries.{Table};
 ghost use Rattle.ab_types.specs.Sound.{IsTable};
 ghost use Rattle.ab_store.specs.Trees.{Contents, Holds, head_reading, tree_of};
 ghost use Rattle.ab_store.specs.Reading.{reading};
-ghost use Rattle.ab_store.specs.Bindings.{IsResolved};
 ghost use Rattle.ab_store.specs.Naming.{HeadIsTyped, IsTypedBy};
 ghost use Rattle.ab_norm.specs.Nominals.{nominal_of, pairs_of, HoldsNominal, HoldsPairs};
 ghost use Rattle.ab_norm.specs.Matching.{IsOneToOne, Found, AllMatch};
 
+use crate::carrying::carry_resolved;
 use crate::comparing::{is_same_head, is_same_term, is_same_type};
 use crate::completing::complete;
 use crate::memo::Agreed;
 use crate::nominal::{Nominal, Permutation, Swap, Swaps};
+use crate::resolving::are_resolved;
 use ab_store::{Head, Node, Store, TermId};
 use ab_types::TypeTable;
 use ab_types::laws::has_unique_ids;
@@ -271,12 +272,38 @@ pub fn equal_up_to_names(
     requires b { Holds store.now b }
     ensures permutes { IfOk result (λ found. IfSome found (λ by. IsPermutationTable (pairs_of types.now by.pairs))) }
     ensures held { IfOk result (λ found. IfSome found (λ by. HoldsPairs types.now by.pairs)) }
-    ensures sends { IsResolved store.now a → IsResolved store.now b → IfOk result (λ found. IfSome found (λ by.
+    ensures sends { IfOk result (λ found. IfSome found (λ by.
         EqualPastHints (permute (pairs_of types.now by.pairs) (reading types.now store.now a)) (reading types.now store.now b))) }
-    ensures none { IsResolved store.now a → IsResolved store.now b →
-        IfOk result (λ found. IsNone found ↔ ¬ EqualUpToNames (reading types.now store.now a) (reading types.now store.now b)) }
+    ensures none { IfOk result (λ found. IsNone found ↔ ¬ EqualUpToNames (reading types.now store.now a) (reading types.now store.now b)) }
 {
     has_unique_ids(types);
+    if are_resolved(alloc, store, a, b)? {
+        return permutation(alloc, types, store, a, b);
+    }
+    let mut apart = store.with_same_cells(alloc)?;
+    let left = carry_resolved(alloc, types, store, &mut apart, a)?;
+    let right = carry_resolved(alloc, types, store, &mut apart, b)?;
+    permutation(alloc, types, &apart, left, right)
+}
+
+/// A permutation that sends the first term to the second, past hints, where their bindings don't count.
+fn permutation(
+    alloc: Global,
+    types: &TypeTable,
+    store: &Store,
+    a: TermId,
+    b: TermId,
+) -> Result<Option<Permutation>, AllocError>
+    requires types { IsTable types.now }
+    requires store { IsTypedBy types.now store.now }
+    requires a { Holds store.now a }
+    requires b { Holds store.now b }
+    ensures permutes { IfOk result (λ found. IfSome found (λ by. IsPermutationTable (pairs_of types.now by.pairs))) }
+    ensures held { IfOk result (λ found. IfSome found (λ by. HoldsPairs types.now by.pairs)) }
+    ensures sends { IfOk result (λ found. IfSome found (λ by.
+        EqualPastHints (permute (pairs_of types.now by.pairs) (tree_of types.now store.now a)) (tree_of types.now store.now b))) }
+    ensures none { IfOk result (λ found. IsNone found ↔ ¬ EqualUpToNames (tree_of types.now store.now a) (tree_of types.now store.now b)) }
+{
     let mut decided = Vec::new(alloc);
     let mut agreed = Agreed::new(alloc);
     if !match_terms(types, store, a, b, &mut decided, &mut agreed)? {

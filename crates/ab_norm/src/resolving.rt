@@ -110,6 +110,24 @@ pub(crate) fn is_resolved(alloc: Global, store: &Store, id: TermId) -> Result<bo
     is_clear(store, id, &mut seen)
 }
 
+/// Whether no bound cell stands in either term.
+pub(crate) fn are_resolved(
+    alloc: Global,
+    store: &Store,
+    a: TermId,
+    b: TermId,
+) -> Result<bool, AllocError>
+    requires a { Holds store.now a }
+    requires b { Holds store.now b }
+    ensures { IfOk result (λ clear. clear ≡ true → IsResolved store.now a × IsResolved store.now b) }
+{
+    if is_resolved(alloc, store, a)? {
+        is_resolved(alloc, store, b)
+    } else {
+        Ok(false)
+    }
+}
+
 /// Whether the head is no bound cell.
 pub(crate) fn is_free(store: &Store, head: Head) -> bool
     requires { HoldsHead store.now head }

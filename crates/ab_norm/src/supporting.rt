@@ -7,13 +7,15 @@ ghost use Rattle.ab_types.specs.Entries.{Table};
 ghost use Rattle.ab_store.specs.declared.node.CellEntry.{CellEntry};
 ghost use Rattle.ab_store.specs.Trees.{Holds, head_in, tree_of};
 ghost use Rattle.ab_store.specs.Reading.{reading};
-ghost use Rattle.ab_store.specs.Bindings.{IsResolved};
+ghost use Rattle.ab_types.specs.Sound.{IsTable};
 ghost use Rattle.ab_store.specs.Naming.{HeadIsTyped, IsTypedBy};
 ghost use Rattle.ab_norm.specs.Nominals.{nominal_of, HoldsNominal};
 ghost use Rattle.ab_norm.specs.Gathering.{Gathers, AllFound};
 
+use crate::carrying::carry_resolved;
 use crate::memo::Seen;
 use crate::nominal::Nominal;
+use crate::resolving::is_resolved;
 use ab_store::{Head, Node, Store, TermId};
 use ab_types::TypeTable;
 use ab_types::laws::has_unique_ids;
@@ -32,11 +34,32 @@ pub fn support(
 ) -> Result<Vec<Nominal>, AllocError>
     requires store { IsTypedBy types.now store.now }
     requires id { Holds store.now id }
-    ensures reads { IsResolved store.now id →
-        IfOk result (λ list. IsSupport (reading types.now store.now id) (map (nominal_of types.now) list.items)) }
+    ensures reads { IfOk result (λ list. IsSupport (reading types.now store.now id) (map (nominal_of types.now) list.items)) }
     ensures held { IfOk result (λ list. All (HoldsNominal types.now) list.items) }
 {
     has_unique_ids(types);
+    if is_resolved(alloc, store, id)? {
+        return names_of(alloc, types, store, id);
+    }
+    let mut apart = store.with_same_cells(alloc)?;
+    let plain = carry_resolved(alloc, types, store, &mut apart, id)?;
+    names_of(alloc, types, &apart, plain)
+}
+
+/// The nominal constants of the term, where its bindings don't count.
+fn names_of(
+    alloc: Global,
+    types: &TypeTable,
+    store: &Store,
+    id: TermId,
+) -> Result<Vec<Nominal>, AllocError>
+    requires types { IsTable types.now }
+    requires store { IsTypedBy types.now store.now }
+    requires id { Holds store.now id }
+    ensures reads { IfOk result (λ list. IsSupport (tree_of types.now store.now id) (map (nominal_of types.now) list.items)) }
+    ensures held { IfOk result (λ list. All (HoldsNominal types.now) list.items) }
+{
+    let _ = types;
     let mut found = BTreeSet::new(alloc);
     let mut seen = Seen::new(alloc);
     gather(store, id, &mut found, &mut seen)?;

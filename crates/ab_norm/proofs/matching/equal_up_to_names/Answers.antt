@@ -1,59 +1,56 @@
-use Rattle.std.proofs.Common.{refl, sym, ◌∙◌, subst}
-use Rattle.std.proofs.lemmas.List.Elements.{All-nil}
+use Rattle.std.proofs.Common.{ap, sym, ◌∙◌, subst, Option, None, Some}
+use Rattle.std.specs.Prelude.{IfSome, IsNone, ◌↔◌}
 use Rattle.ab_term.specs.Translation.{EqualPastHints}
 use Rattle.ab_term.specs.Names.{permute, EqualUpToNames}
-use Rattle.ab_store.specs.Reading.{tree_of, reading}
+use Rattle.ab_store.specs.Trees.{Read, Contents}
 use Rattle.ab_store.proofs.Putting.{resolved_reads}
 use Rattle.ab_norm.specs.Nominals.{pairs_of}
-use Rattle.ab_norm.specs.declared.nominal.Swap.{Swap}
-use Rattle.ab_norm.specs.Nominals.{HoldsNominal}
-use Rattle.ab_norm.proofs.UpTo.{no_renaming, sent, up_to}
+use Rattle.ab_norm.proofs.Frame.{if_ok}
+use Rattle.ab_norm.proofs.UpTo.{sends_alike, none_alike}
 use Rattle.ab_norm.proofs.matching.equal_up_to_names.Goals as goal
 
-pub match_terms-requires-clause-held : goal.match_terms-requires-clause-held
-match_terms-requires-clause-held c = rw c.new-decided.ensures.items (All-nil (λ (p : Swap). HoldsNominal c.args.types.now p.from × HoldsNominal c.args.types.now p.to))
-
-pub match_terms-requires-clause-agreed : goal.match_terms-requires-clause-agreed
-match_terms-requires-clause-agreed c = λ x y e. absurd (cc (sym (c.new-agreed.ensures x y) ∙ e))
-
-pub returns-then-not-branch-clause-none : goal.returns-then-not-branch-clause-none
-returns-then-not-branch-clause-none c = λ plain other.
+pub returns-then-branch-clause-sends : goal.returns-then-branch-clause-sends
+returns-then-branch-clause-sends c =
     let types = c.args.types.now in
     let store = c.args.store.now in
-    let found = rw c.new-decided.ensures.items at c.in_ok-match_terms.ensures.found in
-    (λ e. subst (λ x. EqualUpToNames x (reading types store c.args.b) → ⊥) (sym (resolved_reads types store c.args.a plain)) (subst (λ y. EqualUpToNames (tree_of types store c.args.a) y → ⊥) (sym (resolved_reads types store c.args.b other)) (no_renaming c.args.types.now (tree_of c.args.types.now c.args.store.now c.args.a) (tree_of c.args.types.now c.args.store.now c.args.b) c.match_terms.new.decided.items c.in_ok-match_terms.field-0 found c.if-not-branch.true)), λ e. refl)
+    let clear = c.in_ok-are_resolved.ensures c.if-branch.true in
+    if_ok c.permutation.result (λ found. sends_alike types found (sym (resolved_reads types store c.args.a clear.0)) (sym (resolved_reads types store c.args.b clear.1))) c.permutation.ensures.sends
 
-pub returns-clause-permutes : goal.returns-clause-permutes
-returns-clause-permutes c =
-    let found = rw c.new-decided.ensures.items at c.in_ok-match_terms.ensures.found in
-    let all = rw c.deref.ensures.value at c.in_ok-complete.ensures in
-    let done = all c.args.types.now c.has_unique_ids.ensures.table found.held in
-    rw c.from_vec-pairs.ensures done.0.1
+pub returns-then-branch-clause-none : goal.returns-then-branch-clause-none
+returns-then-branch-clause-none c =
+    let types = c.args.types.now in
+    let store = c.args.store.now in
+    let clear = c.in_ok-are_resolved.ensures c.if-branch.true in
+    if_ok c.permutation.result (λ found. none_alike found (sym (resolved_reads types store c.args.a clear.0)) (sym (resolved_reads types store c.args.b clear.1))) c.permutation.ensures.none
 
-pub returns-clause-held : goal.returns-clause-held
-returns-clause-held c =
-    let found = rw c.new-decided.ensures.items at c.in_ok-match_terms.ensures.found in
-    let all = rw c.deref.ensures.value at c.in_ok-complete.ensures in
-    let done = all c.args.types.now c.has_unique_ids.ensures.table found.held in
-    rw c.from_vec-pairs.ensures done.0.0
+pub carry_resolved-requires-clause-apart : goal.carry_resolved-requires-clause-apart
+carry_resolved-requires-clause-apart c = c.in_ok-apart.ensures.typed c.args.types.now c.requires.store
+
+pub carry_resolved-requires-clause-cells : goal.carry_resolved-requires-clause-cells
+carry_resolved-requires-clause-cells c = ap (λ (s : Contents). s.cells) c.in_ok-apart.ensures.cells
+
+pub carry_resolved-requires-2-clause-apart : goal.carry_resolved-requires-2-clause-apart
+carry_resolved-requires-2-clause-apart c = c.in_ok-left.ensures.adds.typed
+
+pub carry_resolved-requires-2-clause-cells : goal.carry_resolved-requires-2-clause-cells
+carry_resolved-requires-2-clause-cells c = c.in_ok-left.ensures.adds.cells ∙ ap (λ (s : Contents). s.cells) c.in_ok-apart.ensures.cells
+
+pub permutation-requires-2-clause-store : goal.permutation-requires-2-clause-store
+permutation-requires-2-clause-store c = c.in_ok-right.ensures.adds.typed
+
+pub permutation-requires-2-clause-a : goal.permutation-requires-2-clause-a
+permutation-requires-2-clause-a c = c.in_ok-right.ensures.adds.before.ids c.in_ok-left.left c.in_ok-left.ensures.held
 
 pub returns-clause-sends : goal.returns-clause-sends
-returns-clause-sends c = λ plain other.
+returns-clause-sends c =
     let types = c.args.types.now in
-    let store = c.args.store.now in
-    let found = rw c.new-decided.ensures.items at c.in_ok-match_terms.ensures.found in
-    let all = rw c.deref.ensures.value at c.in_ok-complete.ensures in
-    let done = all c.args.types.now c.has_unique_ids.ensures.table found.held in
-    rw c.from_vec-pairs.ensures
-    (subst (λ x. EqualPastHints (permute (pairs_of types c.in_ok-complete.field-0.items) x) (reading types store c.args.b)) (sym (resolved_reads types store c.args.a plain))
-    (subst (λ y. EqualPastHints (permute (pairs_of types c.in_ok-complete.field-0.items) (tree_of types store c.args.a)) y) (sym (resolved_reads types store c.args.b other))
-    (sent c.args.types.now (tree_of c.args.types.now c.args.store.now c.args.a) (tree_of c.args.types.now c.args.store.now c.args.b) c.match_terms.new.decided.items c.in_ok-match_terms.field-0 found c.in_ok-complete.field-0.items c.if-not-branch.false done)))
+    let left = c.in_ok-left.ensures in
+    let right = c.in_ok-right.ensures in
+    if_ok c.permutation-2.result (λ found. sends_alike types found (right.adds.before.trees types c.in_ok-left.left left.held ∙ left.tree) right.tree) c.permutation-2.ensures.sends
 
 pub returns-clause-none : goal.returns-clause-none
-returns-clause-none c = λ plain other.
+returns-clause-none c =
     let types = c.args.types.now in
-    let store = c.args.store.now in
-    let found = rw c.new-decided.ensures.items at c.in_ok-match_terms.ensures.found in
-    let all = rw c.deref.ensures.value at c.in_ok-complete.ensures in
-    let done = all c.args.types.now c.has_unique_ids.ensures.table found.held in
-    (λ e. absurd (cc), λ no_way. absurd (no_way (subst (λ x. EqualUpToNames x (reading types store c.args.b)) (sym (resolved_reads types store c.args.a plain)) (subst (λ y. EqualUpToNames (tree_of types store c.args.a) y) (sym (resolved_reads types store c.args.b other)) (up_to c.args.types.now (tree_of c.args.types.now c.args.store.now c.args.a) (tree_of c.args.types.now c.args.store.now c.args.b) c.match_terms.new.decided.items c.in_ok-match_terms.field-0 found c.in_ok-complete.field-0.items c.if-not-branch.false done)))))
+    let left = c.in_ok-left.ensures in
+    let right = c.in_ok-right.ensures in
+    if_ok c.permutation-2.result (λ found. none_alike found (right.adds.before.trees types c.in_ok-left.left left.held ∙ left.tree) right.tree) c.permutation-2.ensures.none

@@ -1,30 +1,26 @@
-use Rattle.std.proofs.Common.{◌∙◌, map, subst, sym}
-use Rattle.std.specs.List.{All}
-use Rattle.std.proofs.lemmas.List.Elements.{All-nil}
-use Rattle.ab_term.specs.Names.{support, IsSupport}
-use Rattle.ab_store.specs.Reading.{tree_of}
+use Rattle.std.proofs.Common.{ap, sym, subst, map}
+use Rattle.ab_term.specs.Names.{IsSupport}
+use Rattle.ab_store.specs.Trees.{Contents}
 use Rattle.ab_store.proofs.Putting.{resolved_reads}
-use Rattle.ab_norm.specs.Nominals.{nominal_of, HoldsNominal}
+use Rattle.ab_norm.specs.Nominals.{nominal_of}
 use Rattle.ab_norm.proofs.Frame.{if_ok}
-use Rattle.ab_norm.proofs.Gathered.{named, ordered, different, as_support}
 use Rattle.ab_norm.proofs.supporting.support.Goals as goal
 
-pub gather-requires-clause-seen : goal.gather-requires-clause-seen
-gather-requires-clause-seen c = λ types t e. absurd (cc (sym (c.new-seen.ensures t) ∙ e))
+pub returns-then-branch-clause-reads : goal.returns-then-branch-clause-reads
+returns-then-branch-clause-reads c =
+    let types = c.args.types.now in
+    if_ok c.names_of.result (λ list. subst (λ t. IsSupport t (map (nominal_of types) list.items)) (sym (resolved_reads types c.args.store.now c.args.id (c.in_ok-is_resolved.ensures.0 c.if-branch.true)))) c.names_of.ensures.reads
+
+pub carry_resolved-requires-clause-apart : goal.carry_resolved-requires-clause-apart
+carry_resolved-requires-clause-apart c = c.in_ok-apart.ensures.typed c.args.types.now c.requires.store
+
+pub carry_resolved-requires-clause-cells : goal.carry_resolved-requires-clause-cells
+carry_resolved-requires-clause-cells c = ap (λ (s : Contents). s.cells) c.in_ok-apart.ensures.cells
+
+pub names_of-requires-2-clause-store : goal.names_of-requires-2-clause-store
+names_of-requires-2-clause-store c = c.in_ok-plain.ensures.adds.typed
 
 pub returns-clause-reads : goal.returns-clause-reads
-returns-clause-reads c = λ plain.
+returns-clause-reads c =
     let types = c.args.types.now in
-    let tree = tree_of types c.args.store.now c.args.id in
-    let held : All (HoldsNominal types) c.gather.new.found.keys = c.in_ok-gather.ensures.held types c.requires.store (subst (All (HoldsNominal types)) (sym c.new-found.ensures.empty) (All-nil (HoldsNominal types))) in
-    if_ok c.listed.result (λ list same.
-    subst (λ t. IsSupport t (map (nominal_of types) list.items)) (sym (resolved_reads types c.args.store.now c.args.id plain))
-    (as_support types list.items tree
-    (named types c.gather.new.found.keys list.items (support tree) same c.new-found.result.keys c.new-found.ensures.empty (c.in_ok-gather.ensures.gathers types))
-    (different types c.gather.new.found.keys list.items (support tree) same c.has_unique_ids.ensures.table c.len-count.ensures.ordered held)
-    (ordered types c.gather.new.found.keys list.items (support tree) same c.len-count.ensures.ordered))) c.listed.ensures
-
-pub returns-clause-held : goal.returns-clause-held
-returns-clause-held c =
-    let held : All (HoldsNominal c.args.types.now) c.gather.new.found.keys = c.in_ok-gather.ensures.held c.args.types.now c.requires.store (subst (All (HoldsNominal c.args.types.now)) (sym c.new-found.ensures.empty) (All-nil (HoldsNominal c.args.types.now))) in
-    if_ok c.listed.result (λ list same. subst (All (HoldsNominal c.args.types.now)) (sym same) held) c.listed.ensures
+    if_ok c.names_of-2.result (λ list. subst (λ t. IsSupport t (map (nominal_of types) list.items)) c.in_ok-plain.ensures.tree) c.names_of-2.ensures.reads
