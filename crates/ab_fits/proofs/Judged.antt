@@ -10,12 +10,12 @@ use Rattle.ab_types.specs.declared.ids.KindId.{KindId}
 use Rattle.ab_types.specs.declared.ids.TypeId.{TypeId}
 use Rattle.ab_types.specs.declared.ids.TypeView.{TypeView}
 use Rattle.ab_types.specs.declared.ids.TypeView.TheVariants.{Base}
-use Rattle.ab_nodes.specs.declared.node.TermId.{TermId}
-use Rattle.ab_nodes.specs.declared.node.Head as kept
-use Rattle.ab_nodes.specs.declared.node.Node.{Node}
-use Rattle.ab_nodes.specs.declared.node.Node.TheVariants.{Lam, Spine}
-use Rattle.ab_nodes.specs.Reading.{Contents, reading, head_reading, node_reading}
-use Rattle.ab_nodes.specs.Naming.{IsTerm}
+use Rattle.ab_store.specs.declared.node.TermId.{TermId}
+use Rattle.ab_store.specs.declared.node.Head as kept
+use Rattle.ab_store.specs.declared.node.Node.{Node}
+use Rattle.ab_store.specs.declared.node.Node.TheVariants.{Lam, Spine}
+use Rattle.ab_store.specs.Trees.{Contents, tree_of, head_reading, node_tree}
+use Rattle.ab_store.specs.Naming.{IsTerm}
 use Rattle.ab_fits.specs.Taking.{IsKind, context}
 use Rattle.ab_fits.proofs.Contexts.{context_push}
 
@@ -94,7 +94,7 @@ abbrev IsOf : Table → Contents → List Ty → TermId → Ty → Type 0
 IsOf types s G t A = IsTerm types s G t A
 
 abbrev Takes : Table → Contents → List Ty → List TermId → Ty → Ty → Type 0
-Takes types s G ts A B = TakeType (signature types) G (terms_of (map (reading types s) ts)) A B
+Takes types s G ts A B = TakeType (signature types) G (terms_of (map (tree_of types s) ts)) A B
 
 drop_one : (ids : List TermId) (i : ℕ) (d : TermId) → i < length ids → drop i ids ≡ get_or ids i d ∷ drop (i + 1) ids
 drop_one ids i d h = rw (add-one, drop-cons ids i d) refl
@@ -107,25 +107,25 @@ drop_all (t ∷ ids) (suc i) h = drop_all ids i (omega arith)
 
 module _ (types : Table) (s : Contents) (G : List Ty) (ids : List TermId) (i : ℕ) (R T : Ty) (X : Type 0) (so_far : Takes types s G (drop i ids) R T ↔ X) where
   module _ (d : TermId) (low : i < length ids) where
-    here : X → TakeType (signature types) G (term (reading types s (get_or ids i d)) (terms_of (map (reading types s) (drop (i + 1) ids)))) R T
+    here : X → TakeType (signature types) G (term (tree_of types s (get_or ids i d)) (terms_of (map (tree_of types s) (drop (i + 1) ids)))) R T
     here x = subst (λ l. Takes types s G l R T) (drop_one ids i d low) (so_far.1 x)
 
-    back : TakeType (signature types) G (term (reading types s (get_or ids i d)) (terms_of (map (reading types s) (drop (i + 1) ids)))) R T → X
+    back : TakeType (signature types) G (term (tree_of types s (get_or ids i d)) (terms_of (map (tree_of types s) (drop (i + 1) ids)))) R T → X
     back w = so_far.0 (subst (λ l. Takes types s G l R T) (sym (drop_one ids i d low)) w)
 
     pub stops : IsKind R → X → ⊥
-    stops k x = kind_takes_none (signature types) G (reading types s (get_or ids i d)) (terms_of (map (reading types s) (drop (i + 1) ids))) R T k (here x)
+    stops k x = kind_takes_none (signature types) G (tree_of types s (get_or ids i d)) (terms_of (map (tree_of types s) (drop (i + 1) ids))) R T k (here x)
 
     module _ (V W : Ty) (is : R ≡ arrow V W) where
-      parts : X → HasType (signature types) G (reading types s (get_or ids i d)) V × Takes types s G (drop (i + 1) ids) W T
-      parts x = one_taken (signature types) G (reading types s (get_or ids i d)) (terms_of (map (reading types s) (drop (i + 1) ids))) V W T
-          (subst (λ A. TakeType (signature types) G (term (reading types s (get_or ids i d)) (terms_of (map (reading types s) (drop (i + 1) ids)))) A T) is (here x))
+      parts : X → HasType (signature types) G (tree_of types s (get_or ids i d)) V × Takes types s G (drop (i + 1) ids) W T
+      parts x = one_taken (signature types) G (tree_of types s (get_or ids i d)) (terms_of (map (tree_of types s) (drop (i + 1) ids))) V W T
+          (subst (λ A. TakeType (signature types) G (term (tree_of types s (get_or ids i d)) (terms_of (map (tree_of types s) (drop (i + 1) ids)))) A T) is (here x))
 
       pub fails : (IsOf types s G (get_or ids i d) V → ⊥) → X → ⊥
       fails wrong x = wrong (parts x).0
 
       pub goes_on : IsOf types s G (get_or ids i d) V → Takes types s G (drop (i + 1) ids) W T ↔ X
-      goes_on typed = (λ w. back (subst (λ A. TakeType (signature types) G (term (reading types s (get_or ids i d)) (terms_of (map (reading types s) (drop (i + 1) ids)))) A T) (sym is) (take_term typed w)), λ x. (parts x).1)
+      goes_on typed = (λ w. back (subst (λ A. TakeType (signature types) G (term (tree_of types s (get_or ids i d)) (terms_of (map (tree_of types s) (drop (i + 1) ids)))) A T) (sym is) (take_term typed w)), λ x. (parts x).1)
 
   pub ends : (r : Bool) → length ids ≤ i → (r ≡ true) ↔ (R ≡ T) → (r ≡ true) ↔ X
   ends r low same = (
@@ -133,25 +133,25 @@ module _ (types : Table) (s : Contents) (G : List Ty) (ids : List TermId) (i : �
     λ x. same.1 (none_taken (signature types) (subst (λ l. Takes types s G l R T) (drop_all ids i low) (so_far.1 x))),
   )
 
-module _ (types : Table) (s : Contents) (t : TermId) (n : Node) (reads : reading types s t ≡ node_reading types s n) where
+module _ (types : Table) (s : Contents) (t : TermId) (n : Node) (reads : tree_of types s t ≡ node_tree types s n) where
   pub function_judged : (names pushed : List TypeId) (ty from to : TypeId) (x : List ℕ) (body : TermId) (r : Bool) → n ≡ Lam ty x body
       → type_of types ty ≡ type_of types from → pushed ≡ names ++ from ∷ []
       → (r ≡ true) ↔ IsOf types s (context types pushed) body (type_of types to)
       → (r ≡ true) ↔ IsOf types s (context types names) t (arrow (type_of types from) (type_of types to))
   function_judged names pushed ty from to x body r is same push below =
       let under : context types pushed ≡ type_of types from ∷ context types names = ap (context types) push ∙ context_push types names from in
-      subst (λ u. (r ≡ true) ↔ HasType (signature types) (context types names) u (arrow (type_of types from) (type_of types to))) (sym (reads ∙ ap (node_reading types s) is)) (
-        λ e. lam_is (signature types) (context types names) (type_of types ty) (type_of types from) (type_of types to) x (reading types s body) same (subst (λ G. IsOf types s G body (type_of types to)) under (below.0 e)),
-        λ w. below.1 (subst (λ G. IsOf types s G body (type_of types to)) (sym under) (lam_parts (signature types) (context types names) (type_of types ty) (type_of types from) (type_of types to) x (reading types s body) w).1),
+      subst (λ u. (r ≡ true) ↔ HasType (signature types) (context types names) u (arrow (type_of types from) (type_of types to))) (sym (reads ∙ ap (node_tree types s) is)) (
+        λ e. lam_is (signature types) (context types names) (type_of types ty) (type_of types from) (type_of types to) x (tree_of types s body) same (subst (λ G. IsOf types s G body (type_of types to)) under (below.0 e)),
+        λ w. below.1 (subst (λ G. IsOf types s G body (type_of types to)) (sym under) (lam_parts (signature types) (context types names) (type_of types ty) (type_of types from) (type_of types to) x (tree_of types s body) w).1),
       )
 
   pub applied_judged : (G : List Ty) (h : kept.Head) (ts given : List TermId) (A B : Ty) (r : Bool) → n ≡ Spine h ts → given ≡ ts → IsKind B
       → head_type (signature types) G (head_reading types s h) ≡ Some A
       → (r ≡ true) ↔ Takes types s G given A B → (r ≡ true) ↔ IsOf types s G t B
   applied_judged G h ts given A B r is same at_kind head below =
-      subst (λ u. (r ≡ true) ↔ HasType (signature types) G u B) (sym (reads ∙ ap (node_reading types s) is)) (
-        λ e. spine_is (signature types) G (head_reading types s h) (terms_of (map (reading types s) ts)) A B at_kind head (subst (λ l. Takes types s G l A B) same (below.0 e)),
-        λ w. below.1 (subst (λ l. Takes types s G l A B) (sym same) (spine_parts (signature types) G (head_reading types s h) (terms_of (map (reading types s) ts)) A B head w)),
+      subst (λ u. (r ≡ true) ↔ HasType (signature types) G u B) (sym (reads ∙ ap (node_tree types s) is)) (
+        λ e. spine_is (signature types) G (head_reading types s h) (terms_of (map (tree_of types s) ts)) A B at_kind head (subst (λ l. Takes types s G l A B) same (below.0 e)),
+        λ w. below.1 (subst (λ l. Takes types s G l A B) (sym same) (spine_parts (signature types) G (head_reading types s h) (terms_of (map (tree_of types s) ts)) A B head w)),
       )
 
 pub kind_seen : (types : Table) (ty : TypeId) (v : TypeView) (k : KindId) → type_of types ty ≡ seen_type types v → v ≡ Base k → IsKind (type_of types ty)

@@ -9,12 +9,12 @@ use Rattle.ab_term.specs.Variables.{variables, variables_of_head, variables_of_a
 use Rattle.ab_term.proofs.Lists.{Contains-none, Contains-here, Contains-there, Contains-cases, Contains-map, Contains-from_map}
 use Rattle.ab_types.specs.Entries.{Table}
 use Rattle.ab_types.specs.declared.ids.TypeId.{TypeId}
-use Rattle.ab_nodes.specs.declared.node.TermId.{TermId}
-use Rattle.ab_nodes.specs.declared.node.CellId.{CellId}
-use Rattle.ab_nodes.specs.declared.node.Head.{Head}
-use Rattle.ab_nodes.specs.declared.node.Node.{Node}
-use Rattle.ab_nodes.specs.declared.node.Node.TheVariants.{Lam, Spine}
-use Rattle.ab_nodes.specs.Reading.{Read, Contents, reading, head_reading, node_reading}
+use Rattle.ab_store.specs.declared.node.TermId.{TermId}
+use Rattle.ab_store.specs.declared.node.CellId.{CellId}
+use Rattle.ab_store.specs.declared.node.Head.{Head}
+use Rattle.ab_store.specs.declared.node.Node.{Node}
+use Rattle.ab_store.specs.declared.node.Node.TheVariants.{Lam, Spine}
+use Rattle.ab_store.specs.Trees.{Read, Contents, tree_of, head_reading, node_tree}
 use Rattle.ab_fits.specs.Cells.{variable_of}
 use Rattle.ab_fits.specs.Fitting.{HoldsOnly}
 
@@ -68,24 +68,24 @@ module _ (xs : List (Variable ℕ)) where
       All-cons (λ t. HoldsOnly xs (f t)) t ts (front (variables (f t)) (variables_of_all (terms_of (map f ts))) h)
       (each_listed f ts (back_part (variables (f t)) (variables_of_all (terms_of (map f ts))) h))
 
-  module _ (types : Table) (s : Contents) (t : TermId) (n : Node) (reads : reading types s t ≡ node_reading types s n) where
+  module _ (types : Table) (s : Contents) (t : TermId) (n : Node) (reads : tree_of types s t ≡ node_tree types s n) where
     pub holds_lam : (ty : TypeId) (x : List ℕ) (body : TermId) (r : Bool) → n ≡ Lam ty x body
-        → (r ≡ true) ↔ HoldsOnly xs (reading types s body) → (r ≡ true) ↔ HoldsOnly xs (reading types s t)
-    holds_lam ty x body r is h = subst (λ u. (r ≡ true) ↔ HoldsOnly xs u) (sym (reads ∙ ap (node_reading types s) is)) h
+        → (r ≡ true) ↔ HoldsOnly xs (tree_of types s body) → (r ≡ true) ↔ HoldsOnly xs (tree_of types s t)
+    holds_lam ty x body r is h = subst (λ u. (r ≡ true) ↔ HoldsOnly xs u) (sym (reads ∙ ap (node_tree types s) is)) h
 
-    spine_reads : (h : Head) (ts : List TermId) → n ≡ Spine h ts → variables (reading types s t) ≡ variables_of_head (head_reading types s h) ++ variables_of_all (terms_of (map (reading types s) ts))
-    spine_reads h ts is = ap variables (reads ∙ ap (node_reading types s) is)
+    spine_reads : (h : Head) (ts : List TermId) → n ≡ Spine h ts → variables (tree_of types s t) ≡ variables_of_head (head_reading types s h) ++ variables_of_all (terms_of (map (tree_of types s) ts))
+    spine_reads h ts is = ap variables (reads ∙ ap (node_tree types s) is)
 
     pub holds_spine : (h : Head) (ts given : List TermId) (r : Bool) → n ≡ Spine h ts → given ≡ ts
         → All (Contains xs) (variables_of_head (head_reading types s h))
-        → (r ≡ true) ↔ All (λ t. HoldsOnly xs (reading types s t)) given
-        → (r ≡ true) ↔ HoldsOnly xs (reading types s t)
+        → (r ≡ true) ↔ All (λ t. HoldsOnly xs (tree_of types s t)) given
+        → (r ≡ true) ↔ HoldsOnly xs (tree_of types s t)
     holds_spine h ts given r is same head all = (
-      λ e. subst (All (Contains xs)) (sym (spine_reads h ts is)) (All-append (Contains xs) (variables_of_head (head_reading types s h)) (variables_of_all (terms_of (map (reading types s) ts))) head
-          (all_listed (reading types s) ts (subst (All (λ t. HoldsOnly xs (reading types s t))) same (all.0 e)))),
-      λ w. all.1 (subst (All (λ t. HoldsOnly xs (reading types s t))) (sym same) (each_listed (reading types s) ts
-          (back_part (variables_of_head (head_reading types s h)) (variables_of_all (terms_of (map (reading types s) ts))) (subst (All (Contains xs)) (spine_reads h ts is) w)))),
+      λ e. subst (All (Contains xs)) (sym (spine_reads h ts is)) (All-append (Contains xs) (variables_of_head (head_reading types s h)) (variables_of_all (terms_of (map (tree_of types s) ts))) head
+          (all_listed (tree_of types s) ts (subst (All (λ t. HoldsOnly xs (tree_of types s t))) same (all.0 e)))),
+      λ w. all.1 (subst (All (λ t. HoldsOnly xs (tree_of types s t))) (sym same) (each_listed (tree_of types s) ts
+          (back_part (variables_of_head (head_reading types s h)) (variables_of_all (terms_of (map (tree_of types s) ts))) (subst (All (Contains xs)) (spine_reads h ts is) w)))),
     )
 
-    pub unlisted_head : (h : Head) (ts : List TermId) → n ≡ Spine h ts → HoldsOnly xs (reading types s t) → All (Contains xs) (variables_of_head (head_reading types s h))
-    unlisted_head h ts is w = front (variables_of_head (head_reading types s h)) (variables_of_all (terms_of (map (reading types s) ts))) (subst (All (Contains xs)) (spine_reads h ts is) w)
+    pub unlisted_head : (h : Head) (ts : List TermId) → n ≡ Spine h ts → HoldsOnly xs (tree_of types s t) → All (Contains xs) (variables_of_head (head_reading types s h))
+    unlisted_head h ts is w = front (variables_of_head (head_reading types s h)) (variables_of_all (terms_of (map (tree_of types s) ts))) (subst (All (Contains xs)) (spine_reads h ts is) w)

@@ -14,11 +14,11 @@ use Rattle.ab_types.specs.Ids.{HoldsType, type_of}
 use Rattle.ab_types.specs.Sound.{IsTable}
 use Rattle.ab_types.specs.declared.ids.TypeId.{TypeId}
 use Rattle.ab_types.proofs.Kept.{one_type}
-use Rattle.ab_nodes.specs.declared.node.TermId.{TermId}
-use Rattle.ab_nodes.specs.declared.node.Head.{Head}
-use Rattle.ab_nodes.specs.declared.node.Node.{Node}
-use Rattle.ab_nodes.specs.declared.node.Node.TheVariants.{Lam, Spine}
-use Rattle.ab_nodes.specs.Reading.{Read, Contents, reading, head_reading, node_reading}
+use Rattle.ab_store.specs.declared.node.TermId.{TermId}
+use Rattle.ab_store.specs.declared.node.Head.{Head}
+use Rattle.ab_store.specs.declared.node.Node.{Node}
+use Rattle.ab_store.specs.declared.node.Node.TheVariants.{Lam, Spine}
+use Rattle.ab_store.specs.Trees.{Read, Contents, tree_of, head_reading, node_tree}
 use Rattle.ab_fits.specs.declared.numbers.Numbers.{Numbers}
 use Rattle.ab_fits.specs.Numbers.{Knows, AreKnown, Agree, Notes}
 use Rattle.ab_fits.specs.Fitting.{HasOneTypeEach, names_of}
@@ -70,10 +70,10 @@ module _ (types : Table) (s : Contents) where
       all_held : (q : ℕ) (a : TypeId) → get nat_cmp new.types q ≡ Some a → HoldsType types a
       all_held q a = held_at q a (cases_eq q k)
 
-      still_seen : All (λ t. All (Knows types new) (support (reading types s t))) new.seen.keys
-      still_seen = subst (λ seen. All (λ t. All (Knows types new) (support (reading types s t))) seen.keys) (sym seen)
-          (All-weaker (λ t. All (Knows types old) (support (reading types s t))) (λ t. All (Knows types new) (support (reading types s t)))
-          (λ t. All-weaker (Knows types old) (Knows types new) kept (support (reading types s t))) old.seen.keys known.seen)
+      still_seen : All (λ t. All (Knows types new) (support (tree_of types s t))) new.seen.keys
+      still_seen = subst (λ seen. All (λ t. All (Knows types new) (support (tree_of types s t))) seen.keys) (sym seen)
+          (All-weaker (λ t. All (Knows types old) (support (tree_of types s t))) (λ t. All (Knows types new) (support (tree_of types s t)))
+          (λ t. All-weaker (Knows types old) (Knows types new) kept (support (tree_of types s t))) old.seen.keys known.seen)
 
       there_at : (n : Nominal) → (n.number ≡ k) ⊎ (n.number ≢ k) → Knows types new n → Knows types old n ⊎ Contains (nominal k ty ∷ []) n
       there_at n (inl p) (a, e, f) =
@@ -105,16 +105,16 @@ module _ (types : Table) (s : Contents) where
       back n (inl h) = h
       back n (inr h) = absurd (Contains-none n (subst (λ l. Contains l n) none h))
 
-  pub notes_seen : (old : Numbers) → AreKnown types s old → (t : TermId) → Contains old.seen.keys t → Notes types s old old (support (reading types s t)) true
+  pub notes_seen : (old : Numbers) → AreKnown types s old → (t : TermId) → Contains old.seen.keys t → Notes types s old old (support (tree_of types s t)) true
   notes_seen old known t there = (known, λ n. (inl, back n))
     where
-      back : (n : Nominal) → Knows types old n ⊎ Contains (support (reading types s t)) n → Knows types old n
+      back : (n : Nominal) → Knows types old n ⊎ Contains (support (tree_of types s t)) n → Knows types old n
       back n (inl h) = h
-      back n (inr h) = All-contains (Knows types old) (support (reading types s t)) n (All-contains (λ u. All (Knows types old) (support (reading types s u))) old.seen.keys t known.seen there) h
+      back n (inr h) = All-contains (Knows types old) (support (tree_of types s t)) n (All-contains (λ u. All (Knows types old) (support (tree_of types s u))) old.seen.keys t known.seen there) h
 
   -- the term itself is seen then
-  pub notes_see : (old new last : Numbers) (t : TermId) → Notes types s old new (support (reading types s t)) true
-      → last.types ≡ new.types → GainsOnly new.seen.keys t last.seen.keys → Notes types s old last (support (reading types s t)) true
+  pub notes_see : (old new last : Numbers) (t : TermId) → Notes types s old new (support (tree_of types s t)) true
+      → last.types ≡ new.types → GainsOnly new.seen.keys t last.seen.keys → Notes types s old last (support (tree_of types s t)) true
   notes_see old new last t (known, all) same gains = (record { held = held; seen = seen }, λ n. (λ h. (all n).0 (before n h), λ h. after n ((all n).1 h)))
     where
       after : (n : Nominal) → Knows types new n → Knows types last n
@@ -126,13 +126,13 @@ module _ (types : Table) (s : Contents) where
       held : (k : ℕ) (a : TypeId) → get nat_cmp last.types k ≡ Some a → HoldsType types a
       held k a e = known.held k a (ap (λ m. get nat_cmp m k) (sym same) ∙ e)
 
-      own : All (Knows types last) (support (reading types s t))
-      own = All-from_contains (Knows types last) (support (reading types s t)) (λ n c. after n ((all n).1 (inr c)))
+      own : All (Knows types last) (support (tree_of types s t))
+      own = All-from_contains (Knows types last) (support (tree_of types s t)) (λ n c. after n ((all n).1 (inr c)))
 
-      seen : All (λ u. All (Knows types last) (support (reading types s u))) last.seen.keys
-      seen = all_gained (λ u. All (Knows types last) (support (reading types s u))) new.seen.keys last.seen.keys t gains
-          (All-weaker (λ u. All (Knows types new) (support (reading types s u))) (λ u. All (Knows types last) (support (reading types s u)))
-          (λ u. All-weaker (Knows types new) (Knows types last) after (support (reading types s u))) new.seen.keys known.seen) own
+      seen : All (λ u. All (Knows types last) (support (tree_of types s u))) last.seen.keys
+      seen = all_gained (λ u. All (Knows types last) (support (tree_of types s u))) new.seen.keys last.seen.keys t gains
+          (All-weaker (λ u. All (Knows types new) (support (tree_of types s u))) (λ u. All (Knows types last) (support (tree_of types s u)))
+          (λ u. All-weaker (Knows types new) (Knows types last) after (support (tree_of types s u))) new.seen.keys known.seen) own
 
   pub notes_on : (old mid new : Numbers) (found more : List Nominal) (r : Bool) → Notes types s old mid found true → Notes types s mid new more r → Notes types s old new (found ++ more) r
   notes_on old mid new found more true (known, all) (known2, all2) = (known2, λ n. (there n, back n))
@@ -179,39 +179,39 @@ module _ (types : Table) (s : Contents) where
   names_push (q ∷ rs) r = ap (λ l. support q ++ l) (names_push rs r) ∙ sym (append_assoc (support q) (names_of rs) (support r))
 
   pub notes_more : (ids : List TermId) (i : ℕ) (d : TermId) (old mid new : Numbers) → i < length ids
-      → Notes types s old mid (names_of (map (reading types s) (take i ids))) true → Notes types s mid new (support (reading types s (get_or ids i d))) true
-      → Notes types s old new (names_of (map (reading types s) (take (i + 1) ids))) true
+      → Notes types s old mid (names_of (map (tree_of types s) (take i ids))) true → Notes types s mid new (support (tree_of types s (get_or ids i d))) true
+      → Notes types s old new (names_of (map (tree_of types s) (take (i + 1) ids))) true
   notes_more ids i d old mid new h a b =
-      subst (λ l. Notes types s old new (names_of l) true) (sym (map_more (reading types s) ids i d h))
-      (subst (λ l. Notes types s old new l true) (sym (names_push (map (reading types s) (take i ids)) (reading types s (get_or ids i d))))
-      (notes_on old mid new (names_of (map (reading types s) (take i ids))) (support (reading types s (get_or ids i d))) true a b))
+      subst (λ l. Notes types s old new (names_of l) true) (sym (map_more (tree_of types s) ids i d h))
+      (subst (λ l. Notes types s old new l true) (sym (names_push (map (tree_of types s) (take i ids)) (tree_of types s (get_or ids i d))))
+      (notes_on old mid new (names_of (map (tree_of types s) (take i ids))) (support (tree_of types s (get_or ids i d))) true a b))
 
-  in_one : (ids : List TermId) (i : ℕ) (d : TermId) (n : Nominal) → i < length ids → Contains (support (reading types s (get_or ids i d))) n → Contains (names_of (map (reading types s) ids)) n
+  in_one : (ids : List TermId) (i : ℕ) (d : TermId) (n : Nominal) → i < length ids → Contains (support (tree_of types s (get_or ids i d))) n → Contains (names_of (map (tree_of types s) ids)) n
   in_one [] i d n h c = absurd (omega arith)
-  in_one (t ∷ ids) zero d n h c = Contains-append_left (support (reading types s t)) (names_of (map (reading types s) ids)) n c
-  in_one (t ∷ ids) (suc i) d n h c = Contains-append_right (support (reading types s t)) (names_of (map (reading types s) ids)) n (in_one ids i d n (omega arith) c)
+  in_one (t ∷ ids) zero d n h c = Contains-append_left (support (tree_of types s t)) (names_of (map (tree_of types s) ids)) n c
+  in_one (t ∷ ids) (suc i) d n h c = Contains-append_right (support (tree_of types s t)) (names_of (map (tree_of types s) ids)) n (in_one ids i d n (omega arith) c)
 
-  in_taken : (ids : List TermId) (i : ℕ) (n : Nominal) → Contains (names_of (map (reading types s) (take i ids))) n → Contains (names_of (map (reading types s) ids)) n
+  in_taken : (ids : List TermId) (i : ℕ) (n : Nominal) → Contains (names_of (map (tree_of types s) (take i ids))) n → Contains (names_of (map (tree_of types s) ids)) n
   in_taken [] zero n c = c
   in_taken [] (suc i) n c = c
   in_taken (t ∷ ids) zero n c = absurd (Contains-none n c)
-  in_taken (t ∷ ids) (suc i) n c = go (in_taken ids i n) (Contains-append_cases (support (reading types s t)) (names_of (map (reading types s) (take i ids))) n c)
+  in_taken (t ∷ ids) (suc i) n c = go (in_taken ids i n) (Contains-append_cases (support (tree_of types s t)) (names_of (map (tree_of types s) (take i ids))) n c)
     where
-      go : (Contains (names_of (map (reading types s) (take i ids))) n → Contains (names_of (map (reading types s) ids)) n)
-          → Contains (support (reading types s t)) n ⊎ Contains (names_of (map (reading types s) (take i ids))) n → Contains (names_of (map (reading types s) (t ∷ ids))) n
-      go later (inl h) = Contains-append_left (support (reading types s t)) (names_of (map (reading types s) ids)) n h
-      go later (inr h) = Contains-append_right (support (reading types s t)) (names_of (map (reading types s) ids)) n (later h)
+      go : (Contains (names_of (map (tree_of types s) (take i ids))) n → Contains (names_of (map (tree_of types s) ids)) n)
+          → Contains (support (tree_of types s t)) n ⊎ Contains (names_of (map (tree_of types s) (take i ids))) n → Contains (names_of (map (tree_of types s) (t ∷ ids))) n
+      go later (inl h) = Contains-append_left (support (tree_of types s t)) (names_of (map (tree_of types s) ids)) n h
+      go later (inr h) = Contains-append_right (support (tree_of types s t)) (names_of (map (tree_of types s) ids)) n (later h)
 
   pub notes_end : (ids : List TermId) (i : ℕ) (d : TermId) (old mid new : Numbers) → i < length ids
-      → Notes types s old mid (names_of (map (reading types s) (take i ids))) true → Notes types s mid new (support (reading types s (get_or ids i d))) false
-      → Notes types s old new (names_of (map (reading types s) ids)) false
+      → Notes types s old mid (names_of (map (tree_of types s) (take i ids))) true → Notes types s mid new (support (tree_of types s (get_or ids i d))) false
+      → Notes types s old new (names_of (map (tree_of types s) ids)) false
   notes_end ids i d old mid new h (known, all) fails = λ agree. fails (fewer at agree)
     where
-      wider : (n : Nominal) → Knows types old n ⊎ Contains (names_of (map (reading types s) (take i ids))) n → Knows types old n ⊎ Contains (names_of (map (reading types s) ids)) n
+      wider : (n : Nominal) → Knows types old n ⊎ Contains (names_of (map (tree_of types s) (take i ids))) n → Knows types old n ⊎ Contains (names_of (map (tree_of types s) ids)) n
       wider n (inl k) = inl k
       wider n (inr c) = inr (in_taken ids i n c)
 
-      at : (n : Nominal) → Knows types mid n ⊎ Contains (support (reading types s (get_or ids i d))) n → Knows types old n ⊎ Contains (names_of (map (reading types s) ids)) n
+      at : (n : Nominal) → Knows types mid n ⊎ Contains (support (tree_of types s (get_or ids i d))) n → Knows types old n ⊎ Contains (names_of (map (tree_of types s) ids)) n
       at n (inl k) = wider n ((all n).0 k)
       at n (inr c) = inr (in_one ids i d n h c)
 
@@ -221,28 +221,28 @@ module _ (types : Table) (s : Contents) where
   all_names [] = refl
   all_names (r ∷ rs) = ap (λ l. support r ++ l) (all_names rs)
 
-  module _ (t : TermId) (n : Node) (reads : reading types s t ≡ node_reading types s n) where
+  module _ (t : TermId) (n : Node) (reads : tree_of types s t ≡ node_tree types s n) where
     pub notes_lam : (ty : TypeId) (x : List ℕ) (body : TermId) (old new : Numbers) (r : Bool) → n ≡ Lam ty x body
-        → Notes types s old new (support (reading types s body)) r → Notes types s old new (support (reading types s t)) r
-    notes_lam ty x body old new r is h = subst (λ u. Notes types s old new (support u) r) (sym (reads ∙ ap (node_reading types s) is)) h
+        → Notes types s old new (support (tree_of types s body)) r → Notes types s old new (support (tree_of types s t)) r
+    notes_lam ty x body old new r is h = subst (λ u. Notes types s old new (support u) r) (sym (reads ∙ ap (node_tree types s) is)) h
 
-    spine_names : (h : Head) (ts given : List TermId) → n ≡ Spine h ts → given ≡ ts → support (reading types s t) ≡ support_of_head (head_reading types s h) ++ names_of (map (reading types s) given)
+    spine_names : (h : Head) (ts given : List TermId) → n ≡ Spine h ts → given ≡ ts → support (tree_of types s t) ≡ support_of_head (head_reading types s h) ++ names_of (map (tree_of types s) given)
     spine_names h ts given is same =
-        ap support (reads ∙ ap (node_reading types s) is)
-        ∙ ap (λ l. support_of_head (head_reading types s h) ++ l) (all_names (map (reading types s) ts) ∙ ap (λ l. names_of (map (reading types s) l)) (sym same))
+        ap support (reads ∙ ap (node_tree types s) is)
+        ∙ ap (λ l. support_of_head (head_reading types s h) ++ l) (all_names (map (tree_of types s) ts) ∙ ap (λ l. names_of (map (tree_of types s) l)) (sym same))
 
     pub notes_spine : (h : Head) (ts given : List TermId) (old mid new : Numbers) (r : Bool) → n ≡ Spine h ts → given ≡ ts
-        → Notes types s old mid (support_of_head (head_reading types s h)) true → Notes types s mid new (names_of (map (reading types s) given)) r
-        → Notes types s old new (support (reading types s t)) r
+        → Notes types s old mid (support_of_head (head_reading types s h)) true → Notes types s mid new (names_of (map (tree_of types s) given)) r
+        → Notes types s old new (support (tree_of types s t)) r
     notes_spine h ts given old mid new r is same a b =
         subst (λ l. Notes types s old new l r) (sym (spine_names h ts given is same))
-        (notes_on old mid new (support_of_head (head_reading types s h)) (names_of (map (reading types s) given)) r a b)
+        (notes_on old mid new (support_of_head (head_reading types s h)) (names_of (map (tree_of types s) given)) r a b)
 
     pub notes_head : (h : Head) (ts : List TermId) (old mid new : Numbers) → n ≡ Spine h ts
-        → Notes types s old mid (support_of_head (head_reading types s h)) false → Notes types s old new (support (reading types s t)) false
+        → Notes types s old mid (support_of_head (head_reading types s h)) false → Notes types s old new (support (tree_of types s t)) false
     notes_head h ts old mid new is a =
         subst (λ l. Notes types s old new l false) (sym (spine_names h ts ts is refl))
-        (notes_stop old mid new (support_of_head (head_reading types s h)) (names_of (map (reading types s) ts)) a)
+        (notes_stop old mid new (support_of_head (head_reading types s h)) (names_of (map (tree_of types s) ts)) a)
 
   -- in the end
   pub decided : (none new : Numbers) (found : List Nominal) (r : Bool) → ((n : Nominal) → Knows types none n → ⊥) → Notes types s none new found r → (r ≡ true) ↔ HasOneTypeEach found

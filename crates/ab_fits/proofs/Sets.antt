@@ -8,7 +8,7 @@ use Rattle.std.proofs.lemmas.Map.Lookups.{CmpEqualImpliesEq, exact_unsigned}
 use Rattle.std.proofs.lemmas.Map.Views.{Contains-from_any, tells_apart}
 use Rattle.ab_term.proofs.Lists.{Contains-here, Contains-there, Contains-cases, All-from_contains}
 use Rattle.std.proofs.lemmas.List.Elements.{All-contains}
-use Rattle.ab_nodes.specs.declared.node.TermId.{TermId}
+use Rattle.ab_store.specs.declared.node.TermId.{TermId}
 use Rattle.ab_fits.specs.declared.known.Typed.{Typed}
 use Rattle.ab_fits.specs.Seen.{GainsOnly}
 

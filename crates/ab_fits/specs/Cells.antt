@@ -3,8 +3,8 @@ use Rattle.std.specs.Prelude.{ℕ}
 use Rattle.ab_term.specs.Terms.{Variable}
 use Rattle.ab_types.specs.Entries.{Table}
 use Rattle.ab_types.specs.Ids.{type_of}
-use Rattle.ab_nodes.specs.declared.node.CellId.{CellId}
-use Rattle.ab_nodes.specs.Reading.{Contents, cell_of}
+use Rattle.ab_store.specs.declared.node.CellId.{CellId}
+use Rattle.ab_store.specs.Trees.{Contents, cell_of}
 
 -- the variable that a cell is, in readings
 abbrev pub variable_of : Table → Contents → CellId → Variable ℕ

@@ -6,7 +6,7 @@ use Rattle.ab_term.specs.Terms.{Nominal, Variable}
 use Rattle.ab_term.specs.Typing.{Signature, HasType}
 use Rattle.ab_term.specs.Names.{support}
 use Rattle.ab_term.specs.Variables.{variables}
-use Rattle.ab_nodes.specs.Reading.{Read}
+use Rattle.ab_store.specs.Trees.{Read}
 
 -- the term holds no variable but these
 abbrev pub HoldsOnly : List (Variable ℕ) → Read → Type 0

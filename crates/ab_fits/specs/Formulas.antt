@@ -6,7 +6,7 @@ use Rattle.ab_term.specs.Types.{Ty, prop}
 use Rattle.ab_term.specs.Logical.{Logical, conjunction, disjunction, implication, universal, existential, nabla, judgement, focused_judgement, star, at_sign, plus, hash}
 use Rattle.ab_term.specs.Terms.{Head, constant, logical, nominal, variable, index, lam, spine, Terms, no_terms, term}
 use Rattle.ab_term.specs.Typing.{Signature, HasType}
-use Rattle.ab_nodes.specs.Reading.{Read}
+use Rattle.ab_store.specs.Trees.{Read}
 
 -- what stands in a place of a formula: a formula, the abstraction that a quantifier is given, an atom or a
 -- judgement that is marked, or any term

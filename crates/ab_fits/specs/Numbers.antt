@@ -7,7 +7,7 @@ use Rattle.ab_term.specs.Names.{support}
 use Rattle.ab_types.specs.Entries.{Table}
 use Rattle.ab_types.specs.Ids.{HoldsType, type_of}
 use Rattle.ab_types.specs.declared.ids.TypeId.{TypeId}
-use Rattle.ab_nodes.specs.Reading.{Contents, reading}
+use Rattle.ab_store.specs.Trees.{Contents, tree_of}
 use Rattle.ab_fits.specs.declared.numbers.Numbers.{Numbers}
 
 -- the number has that type
@@ -17,7 +17,7 @@ Knows types known n = (a : TypeId) × (get nat_cmp known.types n.number ≡ Some
 -- the types are the table's, and of a term that was seen all constants are known
 pub record AreKnown (types : Table) (store : Contents) (known : Numbers) : Type 0 where
   pub held : (k : ℕ) (a : TypeId) → get nat_cmp known.types k ≡ Some a → HoldsType types a
-  pub seen : All (λ t. All (Knows types known) (support (reading types store t))) known.seen.keys
+  pub seen : All (λ t. All (Knows types known) (support (tree_of types store t))) known.seen.keys
 
 -- no two of them have one number
 abbrev pub Agree : (Nominal → Type 0) → Type 0

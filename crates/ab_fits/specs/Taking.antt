@@ -5,8 +5,8 @@ use Rattle.ab_term.specs.Types.{Ty, kind, arrow, prop, o, olist}
 use Rattle.ab_types.specs.Entries.{Table}
 use Rattle.ab_types.specs.Ids.{HoldsType, type_of}
 use Rattle.ab_types.specs.declared.ids.TypeId.{TypeId}
-use Rattle.ab_nodes.specs.Reading.{Contents}
-use Rattle.ab_nodes.specs.Naming.{IsTerm}
+use Rattle.ab_store.specs.Trees.{Contents}
+use Rattle.ab_store.specs.Naming.{IsTerm}
 use Rattle.ab_fits.specs.declared.built_in.BuiltIn.{BuiltIn}
 use Rattle.ab_fits.specs.declared.taking.Wanted.{Wanted}
 use Rattle.ab_fits.specs.declared.taking.Wanted.TheVariants.{Plain, Function}

@@ -2,15 +2,15 @@
 ghost use Rattle.std.specs.Prelude.{◌↔◌, map, IfOk, IsTrue, All};
 ghost use Rattle.ab_types.specs.Entries.{signature};
 ghost use Rattle.ab_types.specs.Ids.{HoldsType, type_of};
-ghost use Rattle.ab_nodes.specs.Reading.{Holds, reading};
-ghost use Rattle.ab_nodes.specs.Naming.{IsTypedBy};
+ghost use Rattle.ab_store.specs.Trees.{Holds, tree_of};
+ghost use Rattle.ab_store.specs.Naming.{IsTypedBy};
 ghost use Rattle.ab_fits.specs.Cells.{variable_of};
 ghost use Rattle.ab_fits.specs.Fitting.{Fits};
 
 use crate::numbers::have_one_type_beside;
 use crate::typing::has_type;
 use crate::variables::holds_only;
-use ab_nodes::{CellId, Store, TermId};
+use ab_store::{CellId, Store, TermId};
 use ab_types::{TypeId, TypeTable};
 use std::alloc::{AllocError, Global};
 
@@ -30,7 +30,7 @@ pub fn fits(
     requires id { Holds store.now id }
     requires ty { HoldsType types.now ty }
     ensures { IfOk result (λ yes. IsTrue yes ↔
-        Fits (signature types.now) (map (variable_of types.now store.now) variables.now) (map (reading types.now store.now) before.now) (reading types.now store.now id) (type_of types.now ty)) }
+        Fits (signature types.now) (map (variable_of types.now store.now) variables.now) (map (tree_of types.now store.now) before.now) (tree_of types.now store.now id) (type_of types.now ty)) }
 {
     if !has_type(alloc, types, store, id, ty)? {
         return Ok(false);

@@ -1,16 +1,16 @@
 //! Whether a term is a formula.
 ghost use Rattle.std.specs.Prelude.{◌≡◌, ◌↔◌, true, List, IfOk, OnOk, IsTrue, All};
 ghost use Rattle.ab_types.specs.Entries.{Table, signature};
-ghost use Rattle.ab_nodes.specs.declared.node.CellEntry.{CellEntry};
-ghost use Rattle.ab_nodes.specs.Reading.{Holds, reading, logical_of, head_in};
-ghost use Rattle.ab_nodes.specs.Naming.{IsTypedBy};
+ghost use Rattle.ab_store.specs.declared.node.CellEntry.{CellEntry};
+ghost use Rattle.ab_store.specs.Trees.{Holds, tree_of, logical_of, head_in};
+ghost use Rattle.ab_store.specs.Naming.{IsTypedBy};
 ghost use Rattle.ab_fits.specs.Formulas.{IsFormula, StandsIn, a_formula, a_marked, IsAtomic, IsRigid, places_of, places_of_constant};
 ghost use Rattle.ab_fits.specs.Places.{place_of};
 
 use crate::built_in::built_in;
 use crate::seen::{is_seen, see};
 use crate::typing::has_type;
-use ab_nodes::{Head, Logical, Node, Store, TermId};
+use ab_store::{Head, Logical, Node, Store, TermId};
 use ab_types::TypeTable;
 use std::alloc::{AllocError, Global};
 use std::collections::BTreeSet;
@@ -25,7 +25,7 @@ pub fn is_formula(
 ) -> Result<bool, AllocError>
     requires store { IsTypedBy types.now store.now }
     requires id { Holds store.now id }
-    ensures { IfOk result (λ yes. IsTrue yes ↔ IsFormula (signature types.now) (reading types.now store.now id)) }
+    ensures { IfOk result (λ yes. IsTrue yes ↔ IsFormula (signature types.now) (tree_of types.now store.now id)) }
 {
     let built = built_in(alloc, types)?;
     if !has_type(alloc, types, store, id, built.prop)? {
@@ -52,9 +52,9 @@ pub enum Place {
 #[cycle(standing)]
 fn stands(store: &Store, seen: &mut BTreeSet<TermId>, id: TermId) -> Result<bool, AllocError>
     requires id { Holds store.now id }
-    requires seen { (types : Table) → All (λ t. StandsIn a_formula (reading types store.now t)) seen.old.keys }
-    ensures stands { IfOk result (λ yes. (types : Table) → (yes ≡ true) ↔ StandsIn a_formula (reading types store.now id)) }
-    ensures seen { OnOk result ((types : Table) → All (λ t. StandsIn a_formula (reading types store.now t)) seen.new.keys) }
+    requires seen { (types : Table) → All (λ t. StandsIn a_formula (tree_of types store.now t)) seen.old.keys }
+    ensures stands { IfOk result (λ yes. (types : Table) → (yes ≡ true) ↔ StandsIn a_formula (tree_of types store.now id)) }
+    ensures seen { OnOk result ((types : Table) → All (λ t. StandsIn a_formula (tree_of types store.now t)) seen.new.keys) }
 {
     if is_seen(seen, id) {
         return Ok(true);
@@ -69,9 +69,9 @@ fn stands(store: &Store, seen: &mut BTreeSet<TermId>, id: TermId) -> Result<bool
 #[cycle(standing)]
 fn node_stands(store: &Store, seen: &mut BTreeSet<TermId>, id: TermId) -> Result<bool, AllocError>
     requires id { Holds store.now id }
-    requires seen { (types : Table) → All (λ t. StandsIn a_formula (reading types store.now t)) seen.old.keys }
-    ensures stands { IfOk result (λ yes. (types : Table) → (yes ≡ true) ↔ StandsIn a_formula (reading types store.now id)) }
-    ensures seen { OnOk result ((types : Table) → All (λ t. StandsIn a_formula (reading types store.now t)) seen.new.keys) }
+    requires seen { (types : Table) → All (λ t. StandsIn a_formula (tree_of types store.now t)) seen.old.keys }
+    ensures stands { IfOk result (λ yes. (types : Table) → (yes ≡ true) ↔ StandsIn a_formula (tree_of types store.now id)) }
+    ensures seen { OnOk result ((types : Table) → All (λ t. StandsIn a_formula (tree_of types store.now t)) seen.new.keys) }
 {
     match store.view(id) {
         Node::Lam(_, _, _) => Ok(false),
@@ -92,10 +92,10 @@ fn all_stand(
     place: Place,
 ) -> Result<bool, AllocError>
     requires ids { All (Holds store.now) ids.now }
-    requires seen { (types : Table) → All (λ t. StandsIn a_formula (reading types store.now t)) seen.old.keys }
+    requires seen { (types : Table) → All (λ t. StandsIn a_formula (tree_of types store.now t)) seen.old.keys }
     ensures stand { IfOk result (λ yes. (types : Table) → (yes ≡ true) ↔
-        All (λ t. StandsIn (place_of place) (reading types store.now t)) ids.now) }
-    ensures seen { OnOk result ((types : Table) → All (λ t. StandsIn a_formula (reading types store.now t)) seen.new.keys) }
+        All (λ t. StandsIn (place_of place) (tree_of types store.now t)) ids.now) }
+    ensures seen { OnOk result ((types : Table) → All (λ t. StandsIn a_formula (tree_of types store.now t)) seen.new.keys) }
 {
     for id in ids {
         if !stands_in(store, seen, *id, place)? {
@@ -114,9 +114,9 @@ fn stands_in(
     place: Place,
 ) -> Result<bool, AllocError>
     requires id { Holds store.now id }
-    requires seen { (types : Table) → All (λ t. StandsIn a_formula (reading types store.now t)) seen.old.keys }
-    ensures stands { IfOk result (λ yes. (types : Table) → (yes ≡ true) ↔ StandsIn (place_of place) (reading types store.now id)) }
-    ensures seen { OnOk result ((types : Table) → All (λ t. StandsIn a_formula (reading types store.now t)) seen.new.keys) }
+    requires seen { (types : Table) → All (λ t. StandsIn a_formula (tree_of types store.now t)) seen.old.keys }
+    ensures stands { IfOk result (λ yes. (types : Table) → (yes ≡ true) ↔ StandsIn (place_of place) (tree_of types store.now id)) }
+    ensures seen { OnOk result ((types : Table) → All (λ t. StandsIn a_formula (tree_of types store.now t)) seen.new.keys) }
 {
     match place {
         Place::Any => Ok(true),
@@ -132,7 +132,7 @@ fn stands_in(
 /// Whether the term is an atom or a judgement.
 fn is_atom(store: &Store, id: TermId) -> bool
     requires { Holds store.now id }
-    ensures { (types : Table) → (result ≡ true) ↔ StandsIn a_marked (reading types store.now id) }
+    ensures { (types : Table) → (result ≡ true) ↔ StandsIn a_marked (tree_of types store.now id) }
 {
     match store.view(id) {
         Node::Lam(_, _, _) => false,

@@ -2,7 +2,7 @@
 ghost use Rattle.std.specs.Prelude.{◌≡◌, true, Contains, OnOk};
 ghost use Rattle.ab_fits.specs.Seen.{GainsOnly};
 
-use ab_nodes::TermId;
+use ab_store::TermId;
 use ab_types::TypeId;
 use std::alloc::AllocError;
 use std::collections::BTreeSet;

@@ -4,13 +4,13 @@ ghost use Rattle.ab_term.specs.Terms as tree;
 ghost use Rattle.ab_term.specs.Names.{support, support_of_head};
 ghost use Rattle.ab_types.specs.Entries.{Table};
 ghost use Rattle.ab_types.specs.Ids.{HoldsType, type_of};
-ghost use Rattle.ab_nodes.specs.Reading.{Contents, Holds, reading, head_reading};
-ghost use Rattle.ab_nodes.specs.Naming.{HeadIsTyped, IsTypedBy};
+ghost use Rattle.ab_store.specs.Trees.{Contents, Holds, tree_of, head_reading};
+ghost use Rattle.ab_store.specs.Naming.{HeadIsTyped, IsTypedBy};
 ghost use Rattle.ab_fits.specs.Fitting.{HasOneTypeEach, names_of};
 ghost use Rattle.ab_fits.specs.Numbers.{Knows, AreKnown, Notes};
 
 use crate::seen::{is_seen, see};
-use ab_nodes::{Head, Node, Store, TermId};
+use ab_store::{Head, Node, Store, TermId};
 use ab_types::{TypeId, TypeTable};
 use std::alloc::{AllocError, Global};
 use std::collections::{BTreeMap, BTreeSet};
@@ -32,7 +32,7 @@ pub fn have_one_type_each(
 ) -> Result<bool, AllocError>
     requires store { IsTypedBy types.now store.now }
     requires terms { All (Holds store.now) terms.now }
-    ensures { IfOk result (λ yes. IsTrue yes ↔ HasOneTypeEach (names_of (map (reading types.now store.now) terms.now))) }
+    ensures { IfOk result (λ yes. IsTrue yes ↔ HasOneTypeEach (names_of (map (tree_of types.now store.now) terms.now))) }
 {
     let mut known = no_numbers(alloc);
     note_all(types, store, &mut known, terms)
@@ -50,7 +50,7 @@ pub fn have_one_type_beside(
     requires terms { All (Holds store.now) terms.now }
     requires id { Holds store.now id }
     ensures { IfOk result (λ yes. IsTrue yes ↔
-        HasOneTypeEach (names_of (map (reading types.now store.now) terms.now) ++ support (reading types.now store.now id))) }
+        HasOneTypeEach (names_of (map (tree_of types.now store.now) terms.now) ++ support (tree_of types.now store.now id))) }
 {
     let mut known = no_numbers(alloc);
     if !note_all(types, store, &mut known, terms)? {
@@ -81,7 +81,7 @@ fn note(
     requires store { IsTypedBy types.now store.now }
     requires known { AreKnown types.now store.now known.old }
     requires id { Holds store.now id }
-    ensures { IfOk result (Notes types.now store.now known.old known.new (support (reading types.now store.now id))) }
+    ensures { IfOk result (Notes types.now store.now known.old known.new (support (tree_of types.now store.now id))) }
 {
     if !store.has_nominals(id) {
         return Ok(true);
@@ -106,7 +106,7 @@ fn note_node(
     requires store { IsTypedBy types.now store.now }
     requires known { AreKnown types.now store.now known.old }
     requires id { Holds store.now id }
-    ensures { IfOk result (Notes types.now store.now known.old known.new (support (reading types.now store.now id))) }
+    ensures { IfOk result (Notes types.now store.now known.old known.new (support (tree_of types.now store.now id))) }
 {
     match store.view(id) {
         Node::Lam(_, _, body) => note(types, store, known, *body),
@@ -129,7 +129,7 @@ fn note_all(
     requires store { IsTypedBy types.now store.now }
     requires known { AreKnown types.now store.now known.old }
     requires ids { All (Holds store.now) ids.now }
-    ensures { IfOk result (Notes types.now store.now known.old known.new (names_of (map (reading types.now store.now) ids.now))) }
+    ensures { IfOk result (Notes types.now store.now known.old known.new (names_of (map (tree_of types.now store.now) ids.now))) }
 {
     for id in ids {
         if !note(types, store, known, *id)? {

@@ -1,11 +1,11 @@
 //! Terms that calls of this crate judge, each call once where it says yes and once where it says no.
 ghost use Rattle.std.specs.Prelude.{IfOk, All};
-ghost use Rattle.ab_nodes.specs.Reading.{Holds};
-ghost use Rattle.ab_nodes.specs.Naming.{HoldsHead, HeadIsTyped, LogicalIsTyped, IsTypedBy};
+ghost use Rattle.ab_store.specs.Trees.{Holds};
+ghost use Rattle.ab_store.specs.Naming.{HoldsHead, HeadIsTyped, LogicalIsTyped, IsTypedBy};
 
 use crate::built_in::built_in;
 use crate::{fits, has_type, have_one_type_each, holds_only, is_formula};
-use ab_nodes::{Head, Logical, Store, TermId};
+use ab_store::{Head, Logical, Store, TermId};
 use ab_types::{Name, TypeTable};
 use std::alloc::{AllocError, Global};
 

@@ -5,14 +5,14 @@ ghost use Rattle.ab_term.specs.Terms.{terms_of};
 ghost use Rattle.ab_term.specs.Typing.{HasType, TakeType, head_type, type_at};
 ghost use Rattle.ab_types.specs.Entries.{Table, signature};
 ghost use Rattle.ab_types.specs.Ids.{HoldsType, type_of};
-ghost use Rattle.ab_nodes.specs.Reading.{Holds, reading, head_reading};
-ghost use Rattle.ab_nodes.specs.Naming.{HoldsHead, HeadIsTyped, IsTypedBy, IsTerm};
+ghost use Rattle.ab_store.specs.Trees.{Holds, tree_of, head_reading};
+ghost use Rattle.ab_store.specs.Naming.{HoldsHead, HeadIsTyped, IsTypedBy, IsTerm};
 ghost use Rattle.ab_fits.specs.Taking.{AreBuiltIn, IsKind, wanted_type, HoldsWanted, rest_type, HoldsRest, context, AreTyped};
 
 use crate::built_in::{BuiltIn, built_in};
 use crate::known::{Typed, is_known, know};
 use crate::taking::{Rest, Wanted, ends_at, next, taken_by};
-use ab_nodes::{Head, Node, Store, TermId};
+use ab_store::{Head, Node, Store, TermId};
 use ab_types::{TypeId, TypeTable, TypeView};
 use std::alloc::{AllocError, Global};
 use std::collections::BTreeSet;
@@ -64,7 +64,7 @@ fn check(
     requires id { Holds store.now id }
     requires ty { HoldsType types.now ty }
     ensures judged { IfOk result (λ yes. (yes ≡ true) ↔
-        HasType (signature types.now) (context types.now scope.old.names.items) (reading types.now store.now id) (type_of types.now ty)) }
+        HasType (signature types.now) (context types.now scope.old.names.items) (tree_of types.now store.now id) (type_of types.now ty)) }
     ensures names { OnOk result (scope.new.names.items ≡ scope.old.names.items) }
     ensures known { OnOk result (AreTyped types.now store.now scope.new.known.keys) }
 {
@@ -99,7 +99,7 @@ fn check_node(
     requires id { Holds store.now id }
     requires ty { HoldsType types.now ty }
     ensures judged { IfOk result (λ yes. (yes ≡ true) ↔
-        HasType (signature types.now) (context types.now scope.old.names.items) (reading types.now store.now id) (type_of types.now ty)) }
+        HasType (signature types.now) (context types.now scope.old.names.items) (tree_of types.now store.now id) (type_of types.now ty)) }
     ensures names { OnOk result (scope.new.names.items ≡ scope.old.names.items) }
     ensures known { OnOk result (AreTyped types.now store.now scope.new.known.keys) }
 {
@@ -138,7 +138,7 @@ fn check_function(
     requires from { HoldsType types.now from }
     requires to { HoldsType types.now to }
     ensures judged { IfOk result (λ yes. (yes ≡ true) ↔
-        HasType (signature types.now) (context types.now scope.old.names.items) (reading types.now store.now id) (arrow (type_of types.now from) (type_of types.now to))) }
+        HasType (signature types.now) (context types.now scope.old.names.items) (tree_of types.now store.now id) (arrow (type_of types.now from) (type_of types.now to))) }
     ensures names { OnOk result (scope.new.names.items ≡ scope.old.names.items) }
     ensures known { OnOk result (AreTyped types.now store.now scope.new.known.keys) }
 {
@@ -173,7 +173,7 @@ fn check_wanted(
     requires id { Holds store.now id }
     requires wanted { HoldsWanted types.now wanted }
     ensures judged { IfOk result (λ yes. (yes ≡ true) ↔
-        HasType (signature types.now) (context types.now scope.old.names.items) (reading types.now store.now id) (wanted_type types.now wanted)) }
+        HasType (signature types.now) (context types.now scope.old.names.items) (tree_of types.now store.now id) (wanted_type types.now wanted)) }
     ensures names { OnOk result (scope.new.names.items ≡ scope.old.names.items) }
     ensures known { OnOk result (AreTyped types.now store.now scope.new.known.keys) }
 {
@@ -203,7 +203,7 @@ fn check_all(
     requires ty { HoldsType types.now ty }
     requires kind { IsKind (type_of types.now ty) }
     ensures judged { IfOk result (λ yes. (yes ≡ true) ↔
-        TakeType (signature types.now) (context types.now scope.old.names.items) (terms_of (map (reading types.now store.now) ids.now)) (rest_type types.now first) (type_of types.now ty)) }
+        TakeType (signature types.now) (context types.now scope.old.names.items) (terms_of (map (tree_of types.now store.now) ids.now)) (rest_type types.now first) (type_of types.now ty)) }
     ensures names { OnOk result (scope.new.names.items ≡ scope.old.names.items) }
     ensures known { OnOk result (AreTyped types.now store.now scope.new.known.keys) }
 {

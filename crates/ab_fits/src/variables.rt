@@ -2,12 +2,12 @@
 ghost use Rattle.std.specs.Prelude.{◌≡◌, ◌↔◌, true, map, IfOk, OnOk, IsTrue, All, Contains};
 ghost use Rattle.ab_term.specs.Variables.{variables_of_head};
 ghost use Rattle.ab_types.specs.Entries.{Table};
-ghost use Rattle.ab_nodes.specs.Reading.{Contents, Holds, reading, head_reading};
+ghost use Rattle.ab_store.specs.Trees.{Contents, Holds, tree_of, head_reading};
 ghost use Rattle.ab_fits.specs.Cells.{variable_of};
 ghost use Rattle.ab_fits.specs.Fitting.{HoldsOnly};
 
 use crate::seen::{is_seen, see};
-use ab_nodes::{CellId, Head, Node, Store, TermId};
+use ab_store::{CellId, Head, Node, Store, TermId};
 use std::alloc::{AllocError, Global};
 use std::collections::BTreeSet;
 
@@ -20,7 +20,7 @@ pub fn holds_only(
 ) -> Result<bool, AllocError>
     requires { Holds store.now id }
     ensures { IfOk result (λ yes. (types : Table) →
-        IsTrue yes ↔ HoldsOnly (map (variable_of types store.now) variables.now) (reading types store.now id)) }
+        IsTrue yes ↔ HoldsOnly (map (variable_of types store.now) variables.now) (tree_of types store.now id)) }
 {
     let mut seen = BTreeSet::new(alloc);
     holds(store, variables, &mut seen, id)
@@ -35,9 +35,9 @@ fn holds(
     id: TermId,
 ) -> Result<bool, AllocError>
     requires id { Holds store.now id }
-    requires seen { (types : Table) → All (λ t. HoldsOnly (map (variable_of types store.now) variables.now) (reading types store.now t)) seen.old.keys }
-    ensures holds { IfOk result (λ yes. (types : Table) → (yes ≡ true) ↔ HoldsOnly (map (variable_of types store.now) variables.now) (reading types store.now id)) }
-    ensures seen { OnOk result ((types : Table) → All (λ t. HoldsOnly (map (variable_of types store.now) variables.now) (reading types store.now t)) seen.new.keys) }
+    requires seen { (types : Table) → All (λ t. HoldsOnly (map (variable_of types store.now) variables.now) (tree_of types store.now t)) seen.old.keys }
+    ensures holds { IfOk result (λ yes. (types : Table) → (yes ≡ true) ↔ HoldsOnly (map (variable_of types store.now) variables.now) (tree_of types store.now id)) }
+    ensures seen { OnOk result ((types : Table) → All (λ t. HoldsOnly (map (variable_of types store.now) variables.now) (tree_of types store.now t)) seen.new.keys) }
 {
     if is_seen(seen, id) {
         return Ok(true);
@@ -57,9 +57,9 @@ fn node_holds(
     id: TermId,
 ) -> Result<bool, AllocError>
     requires id { Holds store.now id }
-    requires seen { (types : Table) → All (λ t. HoldsOnly (map (variable_of types store.now) variables.now) (reading types store.now t)) seen.old.keys }
-    ensures holds { IfOk result (λ yes. (types : Table) → (yes ≡ true) ↔ HoldsOnly (map (variable_of types store.now) variables.now) (reading types store.now id)) }
-    ensures seen { OnOk result ((types : Table) → All (λ t. HoldsOnly (map (variable_of types store.now) variables.now) (reading types store.now t)) seen.new.keys) }
+    requires seen { (types : Table) → All (λ t. HoldsOnly (map (variable_of types store.now) variables.now) (tree_of types store.now t)) seen.old.keys }
+    ensures holds { IfOk result (λ yes. (types : Table) → (yes ≡ true) ↔ HoldsOnly (map (variable_of types store.now) variables.now) (tree_of types store.now id)) }
+    ensures seen { OnOk result ((types : Table) → All (λ t. HoldsOnly (map (variable_of types store.now) variables.now) (tree_of types store.now t)) seen.new.keys) }
 {
     match store.view(id) {
         Node::Lam(_, _, body) => holds(store, variables, seen, *body),
@@ -80,10 +80,10 @@ fn all_hold(
     ids: &[TermId],
 ) -> Result<bool, AllocError>
     requires ids { All (Holds store.now) ids.now }
-    requires seen { (types : Table) → All (λ t. HoldsOnly (map (variable_of types store.now) variables.now) (reading types store.now t)) seen.old.keys }
+    requires seen { (types : Table) → All (λ t. HoldsOnly (map (variable_of types store.now) variables.now) (tree_of types store.now t)) seen.old.keys }
     ensures hold { IfOk result (λ yes. (types : Table) → (yes ≡ true) ↔
-        All (λ t. HoldsOnly (map (variable_of types store.now) variables.now) (reading types store.now t)) ids.now) }
-    ensures seen { OnOk result ((types : Table) → All (λ t. HoldsOnly (map (variable_of types store.now) variables.now) (reading types store.now t)) seen.new.keys) }
+        All (λ t. HoldsOnly (map (variable_of types store.now) variables.now) (tree_of types store.now t)) ids.now) }
+    ensures seen { OnOk result ((types : Table) → All (λ t. HoldsOnly (map (variable_of types store.now) variables.now) (tree_of types store.now t)) seen.new.keys) }
 {
     for id in ids {
         if !holds(store, variables, seen, *id)? {

@@ -3,7 +3,7 @@ use Rattle.std.specs.List.{All}
 use Rattle.std.proofs.Common.{◌≡◌, ◌≢◌, List, [], ◌∷◌, length, map, refl, sym, ◌∙◌, ap, subst, arith}
 use Rattle.std.proofs.lemmas.List.Elements.{All-map, All-head, All-tail, All-weaker}
 use Rattle.ab_term.specs.Terms.{Nominal}
-use Rattle.ab_nodes.specs.Reading.{Read}
+use Rattle.ab_store.specs.Trees.{Read}
 use Rattle.ab_types.specs.Ids.{type_of}
 use Rattle.ab_types.proofs.Entries.{same_type, holds_type}
 use Rattle.ab_logic.specs.Worlds.{HoldsCell, Holds, variable_of, read, declarations_of}
@@ -13,7 +13,7 @@ use Rattle.ab_logic.specs.Readings.{sequent_of, HoldsSequent}
 use Rattle.ab_logic.specs.declared.world.World.{World}
 use Rattle.ab_logic.specs.declared.sequent.Sequent.{Sequent as Kept}
 use Rattle.ab_logic.proofs.Growing.{map_same, same_sequent, still_held}
-use Rattle.ab_normal.specs.Nominals.{nominal_of, HoldsNominal}
+use Rattle.ab_norm.specs.Nominals.{nominal_of, HoldsNominal}
 use Rattle.ab_rules.specs.declared.replaces.Replace.{Replace}
 use Rattle.ab_rules.specs.declared.step.Step.{Step}
 use Rattle.ab_rules.specs.declared.step.Step.TheVariants.{Initial, TrueRight, FalseLeft, AndRight, AndLeft, OrRight, OrLeft, ArrowRight, ArrowLeft, ForallRight, ForallLeft, ExistsRight, ExistsLeft, NablaRight, NablaLeft, EqualRight, EqualLeft, DefRight, DefLeft, Induction, Coinduction, CutFormula, UseTheorem, Weaken, SpecCut, SpecInst, SpecMonotone}

@@ -1,6 +1,6 @@
 -- Derivations with open goals, when they are valid, and when one derives a formula.
 use Rattle.std.specs.Prelude.{◌≡◌, ℕ, zero, suc, ◌+◌, ◌-◌, ◌≤◌, List, [], ◌∷◌, ◌++◌, length, take, drop, Option, Some, slice_get, nat_lt, if◌then◌else◌}
-use Rattle.ab_nodes.specs.Reading.{Read}
+use Rattle.ab_store.specs.Trees.{Read}
 use Rattle.ab_logic.specs.Sequents.{Sequent}
 use Rattle.ab_logic.specs.Declarations.{Declarations}
 use Rattle.ab_rules.specs.Steps.{Step}

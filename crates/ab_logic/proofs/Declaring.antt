@@ -11,8 +11,8 @@ use Rattle.ab_term.proofs.Unique.{more_typed}
 use Rattle.ab_types.specs.Entries as table
 use Rattle.ab_types.specs.Entries.{Table}
 use Rattle.ab_types.proofs.Entries.{constants-append}
-use Rattle.ab_nodes.specs.Reading.{Read}
-use Rattle.ab_nodes.specs.declared.node.TermId.{TermId}
+use Rattle.ab_store.specs.Trees.{Read}
+use Rattle.ab_store.specs.declared.node.TermId.{TermId}
 use Rattle.ab_logic.specs.Formulas.{IsFormula, IsSentence}
 use Rattle.ab_logic.specs.Declarations.{Declaration, Declarations, a_kind, a_constant, a_block, a_program_clause, a_theorem, Extends, constants_in, signature_in, theorem_in, theorems_in, HaveSentences}
 use Rattle.ab_logic.specs.Theorems.{entry_in}

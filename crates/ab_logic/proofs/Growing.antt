@@ -6,13 +6,13 @@ use Rattle.ab_types.specs.Entries as table
 use Rattle.ab_types.specs.Entries.{Table}
 use Rattle.ab_types.specs.Ids.{type_of}
 use Rattle.ab_types.proofs.Entries.{same_type}
-use Rattle.ab_nodes.specs.declared.node.TermId.{TermId}
-use Rattle.ab_nodes.specs.declared.node.CellId.{CellId}
-use Rattle.ab_nodes.specs.declared.node.CellEntry.{CellEntry}
-use Rattle.ab_nodes.specs.Reading.{Contents, cell_of}
-use Rattle.ab_nodes.specs.Growth.{IsExtendedBy}
-use Rattle.ab_nodes.specs.Naming.{IsTypedBy}
-use Rattle.ab_nodes.proofs.Tables.{same_reading, more_typed}
+use Rattle.ab_store.specs.declared.node.TermId.{TermId}
+use Rattle.ab_store.specs.declared.node.CellId.{CellId}
+use Rattle.ab_store.specs.declared.node.CellEntry.{CellEntry}
+use Rattle.ab_store.specs.Trees.{Contents, cell_of}
+use Rattle.ab_store.specs.Growth.{IsExtendedBy}
+use Rattle.ab_store.specs.Naming.{IsTypedBy}
+use Rattle.ab_store.proofs.Tables.{same_tree, still_typed}
 use Rattle.ab_logic.specs.Declarations.{a_theorem, Extends, signature_in}
 use Rattle.ab_logic.specs.Formulas.{IsSentence}
 use Rattle.ab_logic.specs.Sequents.{Sequent}
@@ -51,8 +51,8 @@ grows_on u v w a b = record {
 grown : (w v : World) (more : Table) → IsWorld w → v.types ≡ w.types ++ more → v.theorems ≡ w.theorems
     → ((t : TermId) → Holds w t → Holds v t) → ((t : TermId) → Holds w t → read v t ≡ read w t)
     → ((c : CellId) → HoldsCell w c → HoldsCell v c) → ((c : CellId) → HoldsCell w c → variable_of v c ≡ variable_of w c)
-    → IsTypedBy v.types v.store → Grows w v
-grown w v more is types theorems ids reads cell_ids cells typed =
+    → IsTypedBy v.types v.store → v.store.bindings ≡ w.store.bindings → Grows w v
+grown w v more is types theorems ids reads cell_ids cells typed bindings =
     let D : declarations_of v ≡ declarations_of w ++ declared more =
     ap (declared_from v 0) theorems ∙ declared_more w v more types reads 0 w.theorems is.order is.theorems in
     record {
@@ -64,6 +64,7 @@ grown w v more is types theorems ids reads cell_ids cells typed =
       declarations = (declared more, D);
       world = record {
         typed = typed;
+        unbound = bindings ∙ is.unbound;
         theorems =
             subst (λ (xs : List Theorem). All (λ (t : Theorem). Holds v t.entry.formula) xs) (sym theorems)
             (All-weaker (λ (t : Theorem). Holds w t.entry.formula) (λ (t : Theorem). Holds v t.entry.formula) (λ t. ids t.entry.formula) w.theorems is.theorems);
@@ -76,17 +77,17 @@ pub grows_store : (types : Table) (old new : Contents) (ts : List Theorem) → I
     → Grows (record { types = types; store = old; theorems = ts }) (record { types = types; store = new; theorems = ts })
 grows_store types old new ts is e typed =
     grown (record { types = types; store = old; theorems = ts }) (record { types = types; store = new; theorems = ts }) [] is
-    (sym (append-nil types)) refl e.ids (e.readings types) e.cell_ids
-    (λ c h. ap (λ (k : CellEntry). record { number = c.0; type = type_of types k.ty; name = k.hint }) (e.cells c h)) typed
+    (sym (append-nil types)) refl e.ids (e.trees types) e.cell_ids
+    (λ c h. ap (λ (k : CellEntry). record { number = c.0; type = type_of types k.ty; name = k.hint }) (e.cells c h)) typed e.bindings
 
 pub grows_types : (old new : Table) (store : Contents) (ts : List Theorem) → IsWorld (record { types = old; store = store; theorems = ts }) → table.IsExtendedBy old new
     → Grows (record { types = old; store = store; theorems = ts }) (record { types = new; store = store; theorems = ts })
 grows_types old new store ts is part =
     subst (λ t. Grows (record { types = old; store = store; theorems = ts }) (record { types = t; store = store; theorems = ts })) (sym part.1)
     (grown (record { types = old; store = store; theorems = ts }) (record { types = old ++ part.0; store = store; theorems = ts }) part.0 is
-    refl refl (λ t h. h) (λ t h. same_reading old part.0 store is.typed t) (λ c h. h)
+    refl refl (λ t h. h) (λ t h. same_tree old part.0 store is.typed t) (λ c h. h)
     (λ c h. ap (λ A. record { number = c.0; type = A; name = (cell_of store c).hint }) (same_type old part.0 (cell_of store c).ty (is.typed.cells c.0 _ h)))
-    (more_typed old part.0 store is.typed))
+    (still_typed old part.0 store is.typed) refl)
 
 -- a theorem more
 pub declares_more : (w : World) (t : Theorem) → IsWorld w → t.before ≡ length w.types
@@ -107,6 +108,7 @@ grows_theorem w t is last held sentence =
       declarations = (a_theorem t.entry.name (read w t.entry.formula) ∷ [], D);
       world = record {
         typed = is.typed;
+        unbound = is.unbound;
         theorems = All-push (λ (u : Theorem). Holds w u.entry.formula) w.theorems t is.theorems held;
         order = order_added w.types 0 w.theorems t is.order last;
         sentences = rw D (sentences_added (declarations_of w) t.entry.name (read w t.entry.formula) is.sentences sentence);

@@ -9,7 +9,7 @@ use Rattle.std.proofs.lemmas.List.Elements.{All-head, All-tail}
 use Rattle.std.proofs.lemmas.List.{map-append}
 use Rattle.indexmap.specs.IndexMap.{IndexMap, get, insert_entry}
 use Rattle.indexmap.proofs.CallerLemmas.{insert_entry-new}
-use Rattle.ab_nodes.specs.declared.node.TermId.{TermId}
+use Rattle.ab_store.specs.declared.node.TermId.{TermId}
 use Rattle.ab_logic.specs.Theorems.{kept, names, AreNamed, entry_in}
 use Rattle.ab_logic.specs.declared.theorems.Theorem.{Theorem}
 use Rattle.ab_logic.specs.declared.theorems.TheoremEntry.{TheoremEntry}

@@ -5,7 +5,7 @@ use Rattle.ab_term.specs.Types.{Ty}
 use Rattle.ab_term.specs.Terms.{Variable}
 use Rattle.ab_term.specs.Typing.{Signature}
 use Rattle.ab_types.specs.Entries as table
-use Rattle.ab_nodes.specs.Reading.{Read}
+use Rattle.ab_store.specs.Trees.{Read}
 use Rattle.ab_logic.specs.Formulas.{IsSentence}
 
 -- a clause of a definition or of a program: whatever stands for the variables, its body gives its head

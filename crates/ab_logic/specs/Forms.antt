@@ -4,11 +4,11 @@ use Rattle.ab_term.specs.Types.{Ty}
 use Rattle.ab_term.specs.Logical as plain
 use Rattle.ab_term.specs.Logical.{Logical}
 use Rattle.ab_term.specs.Terms.{Head, logical, Term, lam, spine, Terms, no_terms, term}
-use Rattle.ab_nodes.specs.Reading.{Read}
+use Rattle.ab_store.specs.Trees.{Read}
 use Rattle.ab_logic.specs.Marks as marks
 use Rattle.ab_logic.specs.Marks.{Sign, star_of, at_of, plus_of, hash_of}
 use Rattle.ab_logic.specs.Worlds.{read, Holds}
-use Rattle.ab_nodes.specs.declared.node.TermId.{TermId}
+use Rattle.ab_store.specs.declared.node.TermId.{TermId}
 use Rattle.ab_types.specs.declared.ids.TypeId.{TypeId}
 use Rattle.ab_logic.specs.declared.world.World.{World}
 use Rattle.ab_logic.specs.declared.form.Form.{Form as Kept}

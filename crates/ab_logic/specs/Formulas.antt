@@ -8,7 +8,7 @@ use Rattle.ab_term.specs.Terms.{Nominal, Head, constant, logical, nominal, varia
 use Rattle.ab_term.specs.Typing.{Signature, HasType}
 use Rattle.ab_term.specs.Names.{support}
 use Rattle.ab_term.specs.Variables.{variables}
-use Rattle.ab_nodes.specs.Reading.{Read}
+use Rattle.ab_store.specs.Trees.{Read}
 
 -- what stands in a place of a formula: a formula, the abstraction that a quantifier is given, an atom or a
 -- judgement that is marked, or any term

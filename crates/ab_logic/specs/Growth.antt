@@ -2,8 +2,8 @@
 -- declared stays, in its order.
 use Rattle.std.specs.Prelude.{◌≡◌}
 use Rattle.ab_types.specs.Entries as table
-use Rattle.ab_nodes.specs.declared.node.TermId.{TermId}
-use Rattle.ab_nodes.specs.declared.node.CellId.{CellId}
+use Rattle.ab_store.specs.declared.node.TermId.{TermId}
+use Rattle.ab_store.specs.declared.node.CellId.{CellId}
 use Rattle.ab_logic.specs.Declarations.{Extends}
 use Rattle.ab_logic.specs.Worlds.{read, Holds, variable_of, HoldsCell, declarations_of, IsWorld}
 use Rattle.ab_logic.specs.declared.world.World.{World}

@@ -3,19 +3,19 @@ use Rattle.std.specs.Prelude.{◌≡◌, ℕ, ◌+◌, ◌-◌, ◌≤◌, List,
 use Rattle.ab_types.specs.Ids.{type_of}
 use Rattle.ab_types.specs.Entries as table
 use Rattle.ab_types.specs.Entries.{Table}
-use Rattle.ab_nodes.specs.declared.node.TermId.{TermId}
-use Rattle.ab_nodes.specs.declared.node.CellId.{CellId}
-use Rattle.ab_nodes.specs.Reading as store
-use Rattle.ab_nodes.specs.Reading.{Read, reading}
-use Rattle.ab_nodes.specs.Naming.{IsTypedBy}
+use Rattle.ab_store.specs.declared.node.TermId.{TermId}
+use Rattle.ab_store.specs.declared.node.CellId.{CellId}
+use Rattle.ab_store.specs.Trees as store
+use Rattle.ab_store.specs.Trees.{Read, tree_of}
+use Rattle.ab_store.specs.Naming.{IsTypedBy}
 use Rattle.ab_logic.specs.Declarations.{Declarations, a_kind, a_constant, a_theorem, HaveSentences}
 use Rattle.ab_logic.specs.Sequents.{Variable}
 use Rattle.ab_logic.specs.declared.world.World.{World}
 use Rattle.ab_logic.specs.declared.theorems.Theorem.{Theorem}
 
--- THE READING of an id
+-- THE READING of an id. Cells are bound only while a command runs, so between two commands an id reads as its tree.
 abbrev pub read : World → TermId → Read
-read w t = reading w.types w.store t
+read w t = tree_of w.types w.store t
 
 abbrev pub Holds : World → TermId → Type 0
 Holds w t = store.Holds w.store t
@@ -54,9 +54,11 @@ abbrev pub CameInOrder : Table → ℕ → List Theorem → Type 0
 CameInOrder types done [] = done ≤ length types
 CameInOrder types done (t ∷ ts) = (done ≤ t.before) × CameInOrder types t.before ts
 
--- WHAT IS TRUE OF EVERY WORLD: its store is of its table, and each theorem is a formula that speaks of no goal
+-- WHAT IS TRUE OF EVERY WORLD: its store is of its table, no cell is bound, and each theorem is a formula that speaks of
+-- no goal
 pub record IsWorld (w : World) : Type 0 where
   pub typed : IsTypedBy w.types w.store
+  pub unbound : w.store.bindings ≡ []
   pub theorems : All (λ (t : Theorem). Holds w t.entry.formula) w.theorems
   pub order : CameInOrder w.types 0 w.theorems
   pub sentences : HaveSentences (declarations_of w)

@@ -1,6 +1,6 @@
 //! Sequents over shared terms.
 ghost use Rattle.std.specs.Prelude.{◌≡◌, ◌↔◌, IfOk, IfSome, IsTrue, IsErrOf, Ok, Some, None};
-ghost use Rattle.ab_nodes.specs.declared.node.TermId.{TermId};
+ghost use Rattle.ab_store.specs.declared.node.TermId.{TermId};
 ghost use Rattle.std.specs.Option.{option_map};
 ghost use Rattle.ab_logic.specs.Worlds.{Holds, HoldsCell, read, variable_of};
 ghost use Rattle.ab_logic.specs.Readings.{HoldsSequent, sequent_of, hypothesis_of};
@@ -8,7 +8,7 @@ ghost use Rattle.ab_logic.specs.Sequents.{formula_of, proving, assuming, without
 ghost use Rattle.ab_logic.specs.declared.world.World.{World};
 
 use crate::lists::{Hypotheses, Variables};
-use ab_nodes::{CellId, TermId};
+use ab_store::{CellId, TermId};
 use ab_types::Name;
 use std::alloc::{AllocError, Global};
 

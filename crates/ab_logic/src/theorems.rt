@@ -3,7 +3,7 @@ ghost use Rattle.std.specs.Prelude.{◌≡◌, [], ◌∷◌, ◌++◌, length, 
 ghost use Rattle.std.specs.Option.{option_map, option_copied};
 ghost use Rattle.ab_logic.specs.Theorems.{entry_in};
 
-use ab_nodes::TermId;
+use ab_store::TermId;
 use ab_types::Name;
 use indexmap::IndexMap;
 use std::alloc::{AllocError, Global};

@@ -10,7 +10,7 @@ ghost use Rattle.ab_logic.specs.Growth.{Grows};
 ghost use Rattle.ab_logic.specs.declared.world.DefineFault.{DefineFault as AFault};
 
 use crate::theorems::{TheoremEntry, Theorems};
-use ab_nodes::{Store, TermId};
+use ab_store::{Store, TermId};
 use ab_types::{Name, TypeTable};
 use std::alloc::{AllocError, Global};
 

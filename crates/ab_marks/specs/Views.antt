@@ -1,8 +1,8 @@
 -- How a head makes the marks of a formula, and where marks stand in a formula, as the program sees it.
 use Rattle.std.specs.Prelude.{ℕ, ◌<◌}
 use Rattle.ab_types.specs.Entries.{Table}
-use Rattle.ab_nodes.specs.declared.node.TermId.{TermId}
-use Rattle.ab_nodes.specs.Reading.{Contents, Holds, reading}
+use Rattle.ab_store.specs.declared.node.TermId.{TermId}
+use Rattle.ab_store.specs.Trees.{Contents, Holds, tree_of}
 use Rattle.ab_logic.specs.Forms.{sign_of}
 use Rattle.ab_logic.specs.Marks as plain
 use Rattle.ab_logic.specs.Marks.{marks_of}
@@ -22,8 +22,8 @@ abbrev pub marks_seen : Table → Contents → Seen → plain.Marks
 marks_seen types store Nowhere = plain.nowhere
 marks_seen types store (AtAtom m) = plain.at_atom (sign_of m)
 marks_seen types store (AtJudgement m) = plain.at_judgement (sign_of m)
-marks_seen types store (Below t) = plain.below (marks_of (reading types store t))
-marks_seen types store (InBoth t u) = plain.in_both (marks_of (reading types store t)) (marks_of (reading types store u))
+marks_seen types store (Below t) = plain.below (marks_of (tree_of types store t))
+marks_seen types store (InBoth t u) = plain.in_both (marks_of (tree_of types store t)) (marks_of (tree_of types store u))
 
 -- the parts are earlier than this number
 abbrev pub PartsBelow : ℕ → Seen → Type 0

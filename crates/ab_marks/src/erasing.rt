@@ -1,8 +1,8 @@
 //! Formulas without their marks.
 ghost use Rattle.std.specs.Prelude.{◌≡◌, map, IfOk, All, get_or};
-ghost use Rattle.ab_nodes.specs.Reading.{Holds, reading, head_reading};
-ghost use Rattle.ab_nodes.specs.Naming.{IsTypedBy, HoldsHead, HeadIsTyped};
-ghost use Rattle.ab_normal.specs.Growth.{AddsTypedTerms};
+ghost use Rattle.ab_store.specs.Trees.{Holds, tree_of, head_reading};
+ghost use Rattle.ab_store.specs.Naming.{IsTypedBy, HoldsHead, HeadIsTyped};
+ghost use Rattle.ab_norm.specs.Growth.{AddsTypedTerms};
 ghost use Rattle.ab_logic.specs.Marks.{erased, erased_all};
 ghost use Rattle.ab_term.specs.Terms.{spine, terms_of};
 ghost use Rattle.ab_logic.specs.Growth.{Grows};
@@ -10,7 +10,7 @@ ghost use Rattle.ab_logic.specs.Worlds.{IsWorld, Holds as HoldsIn, read};
 
 use crate::making::{Making, making_of};
 use ab_logic::World;
-use ab_nodes::{Head, Node, Store, TermId};
+use ab_store::{Head, Node, Store, TermId};
 use ab_types::TypeTable;
 use std::alloc::{AllocError, Global};
 
@@ -48,7 +48,7 @@ fn erase(
     requires store { IsTypedBy types.now store.old }
     requires id { Holds store.old id }
     ensures held { IfOk result (λ r. Holds store.new r) }
-    ensures reads { IfOk result (λ r. reading types.now store.new r ≡ erased (reading types.now store.old id)) }
+    ensures reads { IfOk result (λ r. tree_of types.now store.new r ≡ erased (tree_of types.now store.old id)) }
     ensures adds { AddsTypedTerms types.now store.old store.new }
 {
     match store.view(id).copy(alloc)? {
@@ -79,7 +79,7 @@ fn erase_spine(
     requires typed { HeadIsTyped types.now head }
     requires args { All (Holds store.old) args.now }
     ensures held { IfOk result (λ r. Holds store.new r) }
-    ensures reads { IfOk result (λ r. reading types.now store.new r ≡ spine (head_reading types.now store.old head) (erased_all (terms_of (map (reading types.now store.old) args.now)))) }
+    ensures reads { IfOk result (λ r. tree_of types.now store.new r ≡ spine (head_reading types.now store.old head) (erased_all (terms_of (map (tree_of types.now store.old) args.now)))) }
     ensures adds { AddsTypedTerms types.now store.old store.new }
 {
     let given = erase_all(alloc, types, store, args)?;
@@ -97,7 +97,7 @@ fn erase_all(
     requires store { IsTypedBy types.now store.old }
     requires ids { All (Holds store.old) ids.now }
     ensures held { IfOk result (λ rs. All (Holds store.new) rs.items) }
-    ensures reads { IfOk result (λ rs. map (reading types.now store.new) rs.items ≡ map (λ t. erased (reading types.now store.old t)) ids.now) }
+    ensures reads { IfOk result (λ rs. map (tree_of types.now store.new) rs.items ≡ map (λ t. erased (tree_of types.now store.old t)) ids.now) }
     ensures adds { AddsTypedTerms types.now store.old store.new }
 {
     let mut made = Vec::new(alloc);

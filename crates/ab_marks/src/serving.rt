@@ -2,7 +2,7 @@
 ghost use Rattle.std.specs.Prelude.{◌≡◌, ◌↔◌, ◌<◌, ℕ, IsTrue, List, All, map, length};
 ghost use Rattle.ab_types.specs.Entries.{Table};
 ghost use Rattle.ab_term.specs.Terms.{terms_of, logical};
-ghost use Rattle.ab_nodes.specs.Reading.{Contents, Holds, reading, head_in, logical_of};
+ghost use Rattle.ab_store.specs.Trees.{Contents, Holds, tree_of, head_in, logical_of};
 ghost use Rattle.ab_logic.specs.Forms.{sign_of};
 ghost use Rattle.ab_logic.specs.Marks.{at_atom, at_judgement, making_of, marks_made, marked, marks_of, marks_of_all, marks_of_head, Agree, MarksServe, MarksServeIn};
 ghost use Rattle.ab_logic.specs.Worlds.{Holds as HoldsIn, read};
@@ -10,7 +10,7 @@ ghost use Rattle.ab_marks.specs.Views.{marks_seen, making_read, PartsBelow};
 
 use crate::making::{Making, making_of};
 use ab_logic::{Sign, World, marks_serve};
-use ab_nodes::{Head, Logical, Node, Store, TermId};
+use ab_store::{Head, Logical, Node, Store, TermId};
 
 /// Where the marks of a formula stand.
 #[derive(Clone, Copy)]
@@ -121,7 +121,7 @@ fn is_same_mark(a: Sign, b: Sign) -> bool
 fn agree(store: &Store, a: TermId, b: TermId) -> bool
     requires a { Holds store.now a }
     requires b { Holds store.now b }
-    ensures { (types : Table) → IsTrue result ↔ Agree (marks_of (reading types store.now a)) (marks_of (reading types store.now b)) }
+    ensures { (types : Table) → IsTrue result ↔ Agree (marks_of (tree_of types store.now a)) (marks_of (tree_of types store.now b)) }
 {
     let other = look_at(store, b);
     match look_at(store, a) {
@@ -146,8 +146,8 @@ fn agree_both(store: &Store, a: TermId, b: TermId, c: TermId, d: TermId) -> bool
     requires b { Holds store.now b }
     requires c { Holds store.now c }
     requires d { Holds store.now d }
-    ensures { (types : Table) → IsTrue result ↔ (Agree (marks_of (reading types store.now a)) (marks_of (reading types store.now c))
-        × Agree (marks_of (reading types store.now b)) (marks_of (reading types store.now d))) }
+    ensures { (types : Table) → IsTrue result ↔ (Agree (marks_of (tree_of types store.now a)) (marks_of (tree_of types store.now c))
+        × Agree (marks_of (tree_of types store.now b)) (marks_of (tree_of types store.now d))) }
 {
     if agree(store, a, c) {
         agree(store, b, d)
@@ -185,7 +185,7 @@ fn at_constant(constant: Logical, mark: Sign) -> Seen
 /// The mark at what is marked.
 fn at_marked(store: &Store, id: TermId, mark: Sign) -> Seen
     requires { Holds store.now id }
-    ensures seen { (types : Table) → marks_seen types store.now result ≡ marked (sign_of mark) (reading types store.now id) }
+    ensures seen { (types : Table) → marks_seen types store.now result ≡ marked (sign_of mark) (tree_of types store.now id) }
     ensures below { (n : ℕ) → PartsBelow n result }
 {
     match store.view(id) {
@@ -199,7 +199,7 @@ fn made(store: &Store, making: Making, head: Head, args: &[TermId]) -> Seen
     requires making { (types : Table) → making_read making ≡ making_of (head_in types store.now.cells head) }
     requires args { All (Holds store.now) args.now }
     ensures seen { (types : Table) → marks_seen types store.now result
-        ≡ marks_made (making_of (head_in types store.now.cells head)) (head_in types store.now.cells head) (terms_of (map (reading types store.now) args.now)) (marks_of_all (terms_of (map (reading types store.now) args.now))) }
+        ≡ marks_made (making_of (head_in types store.now.cells head)) (head_in types store.now.cells head) (terms_of (map (tree_of types store.now) args.now)) (marks_of_all (terms_of (map (tree_of types store.now) args.now))) }
     ensures below { (n : ℕ) → All (λ t. t.0 < n) args.now → PartsBelow n result }
 {
     match making {
@@ -231,7 +231,7 @@ fn made(store: &Store, making: Making, head: Head, args: &[TermId]) -> Seen
 /// Where the marks of a formula stand. Those of an abstraction are those of its body.
 fn look_at(store: &Store, id: TermId) -> Seen
     requires { Holds store.now id }
-    ensures seen { (types : Table) → marks_seen types store.now result ≡ marks_of (reading types store.now id) }
+    ensures seen { (types : Table) → marks_seen types store.now result ≡ marks_of (tree_of types store.now id) }
     ensures below { PartsBelow id.0 result }
 {
     match store.view(id) {

@@ -1,8 +1,8 @@
 -- What a call that makes terms leaves of a world, one call after another.
 use Rattle.std.proofs.Common.{◌≡◌, List, refl, ◌∙◌}
 use Rattle.ab_types.specs.Entries.{Table}
-use Rattle.ab_nodes.specs.Reading.{Contents}
-use Rattle.ab_normal.specs.Growth.{AddsTerms, AddsTypedTerms}
+use Rattle.ab_store.specs.Trees.{Contents}
+use Rattle.ab_norm.specs.Growth.{AddsTerms, AddsTypedTerms}
 use Rattle.ab_logic.specs.Worlds.{IsWorld}
 use Rattle.ab_logic.specs.declared.world.World.{World}
 use Rattle.ab_logic.specs.declared.theorems.Theorem.{Theorem}

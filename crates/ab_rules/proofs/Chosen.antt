@@ -12,10 +12,10 @@ use Rattle.ab_types.specs.Entries.{Table}
 use Rattle.ab_types.specs.Ids.{HoldsType, type_of}
 use Rattle.ab_types.specs.Sound.{IsTable}
 use Rattle.ab_types.specs.declared.ids.TypeId.{TypeId}
-use Rattle.ab_nodes.specs.declared.node.TermId.{TermId}
-use Rattle.ab_normal.specs.declared.nominal.Nominal.{Nominal}
-use Rattle.ab_normal.specs.Nominals.{nominal_of, HoldsNominal}
-use Rattle.ab_nodes.specs.Reading.{Read}
+use Rattle.ab_store.specs.declared.node.TermId.{TermId}
+use Rattle.ab_norm.specs.declared.nominal.Nominal.{Nominal}
+use Rattle.ab_norm.specs.Nominals.{nominal_of, HoldsNominal}
+use Rattle.ab_store.specs.Trees.{Read}
 use Rattle.ab_logic.specs.Sequents.{Sequent, Hypothesis, formulas, names_of, goal_names, named, formula_of}
 use Rattle.ab_logic.specs.Readings.{hypothesis_of}
 use Rattle.ab_logic.specs.Names.{IsLeast}

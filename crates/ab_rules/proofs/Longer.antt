@@ -4,7 +4,7 @@ use Rattle.ab_term.proofs.Unique.{more_typed}
 use Rattle.ab_logic.specs.Declarations.{Declarations, Extends, signature_in}
 use Rattle.ab_logic.specs.Sequents.{Sequent, Fits}
 use Rattle.ab_term.specs.Types.{Ty}
-use Rattle.ab_nodes.specs.Reading.{Read}
+use Rattle.ab_store.specs.Trees.{Read}
 use Rattle.ab_logic.specs.Names.{IsNoVariable, IsNamedFor}
 use Rattle.std.proofs.Common.{inl, inr}
 use Rattle.ab_logic.proofs.Declaring.{more_constants, still_theorem, extends_not}

@@ -8,9 +8,9 @@ use Rattle.ab_types.specs.Entries.{Table, IsExtendedBy as IsPartOf}
 use Rattle.ab_types.specs.Ids.{HoldsType, type_of}
 use Rattle.ab_types.specs.declared.ids.TypeId.{TypeId}
 use Rattle.ab_types.proofs.Entries.{same_type, holds_type}
-use Rattle.ab_nodes.specs.declared.node.TermId.{TermId}
-use Rattle.ab_normal.specs.declared.nominal.Nominal.{Nominal}
-use Rattle.ab_normal.specs.Nominals.{nominal_of, HoldsNominal}
+use Rattle.ab_store.specs.declared.node.TermId.{TermId}
+use Rattle.ab_norm.specs.declared.nominal.Nominal.{Nominal}
+use Rattle.ab_norm.specs.Nominals.{nominal_of, HoldsNominal}
 use Rattle.ab_logic.specs.Worlds.{Holds, read}
 use Rattle.ab_logic.specs.Growth.{Grows}
 use Rattle.ab_logic.specs.declared.world.World.{World}

@@ -3,8 +3,8 @@ use Rattle.std.specs.Prelude.{◌≡◌, ℕ, List, map, Result, Ok, Err, length
 use Rattle.std.specs.List.{All}
 use Rattle.std.proofs.Common.{Vec, Global}
 use Rattle.ab_term.specs.Terms.{Nominal}
-use Rattle.ab_normal.specs.Nominals.{nominal_of, HoldsNominal}
-use Rattle.ab_nodes.specs.Reading.{Read}
+use Rattle.ab_norm.specs.Nominals.{nominal_of, HoldsNominal}
+use Rattle.ab_store.specs.Trees.{Read}
 use Rattle.ab_logic.specs.Worlds.{read, Holds, declarations_of}
 use Rattle.ab_logic.specs.Readings.{sequent_of, HoldsSequent}
 use Rattle.ab_logic.specs.declared.world.World.{World}

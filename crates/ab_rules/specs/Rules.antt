@@ -6,7 +6,7 @@ use Rattle.ab_term.specs.Names.{support, EqualUpToNames}
 use Rattle.ab_term.specs.Translation.{EqualPastHints}
 use Rattle.ab_term.specs.Substitution.{instance, instance_by_all}
 use Rattle.ab_term.specs.Expansion.{expansion}
-use Rattle.ab_nodes.specs.Reading.{Read}
+use Rattle.ab_store.specs.Trees.{Read}
 use Rattle.ab_logic.specs.Formulas.{StandsIn, a_formula}
 use Rattle.ab_logic.specs.Marks.{erased, MarksServeIn}
 use Rattle.ab_logic.specs.Declarations.{Declarations, theorem_in}

@@ -5,7 +5,7 @@ ghost use Rattle.ab_term.specs.Names.{support};
 ghost use Rattle.ab_term.specs.Substitution.{instance};
 ghost use Rattle.ab_types.specs.Ids.{HoldsType, type_of};
 ghost use Rattle.ab_types.specs.Sound.{IsTable};
-ghost use Rattle.ab_normal.specs.Nominals.{nominal_of, HoldsNominal};
+ghost use Rattle.ab_norm.specs.Nominals.{nominal_of, HoldsNominal};
 ghost use Rattle.ab_logic.specs.Worlds.{IsWorld, Holds, read};
 ghost use Rattle.ab_logic.specs.Readings.{sequent_of, HoldsSequent};
 ghost use Rattle.ab_logic.specs.Sequents.{goal_names};
@@ -16,8 +16,8 @@ ghost use Rattle.ab_rules.specs.Terms.{Adds};
 
 use crate::terms::{instance_of, name_term};
 use ab_logic::{Sequent, World};
-use ab_nodes::TermId;
-use ab_normal::{Nominal, support};
+use ab_store::TermId;
+use ab_norm::{Nominal, support};
 use ab_types::{Steps, TypeId};
 use std::alloc::{AllocError, Global};
 

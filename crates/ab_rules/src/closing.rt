@@ -11,8 +11,8 @@ ghost use Rattle.ab_rules.specs.Answers.{Answers, row_at};
 use crate::step::KernelFault;
 use ab_logic::{Sequent, World, as_equal, is_false, is_true};
 use ab_marks::{marks_serve_in, without_marks};
-use ab_nodes::TermId;
-use ab_normal::{equal, equal_up_to_names};
+use ab_store::TermId;
+use ab_norm::{equal, equal_up_to_names};
 use ab_types::Name;
 use std::alloc::{AllocError, Global};
 

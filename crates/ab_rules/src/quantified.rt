@@ -12,7 +12,7 @@ use crate::step::KernelFault;
 use crate::terms::{hint, raise};
 use ab_logic::{Sequent, World, as_exists, as_forall, as_nabla};
 use ab_naming::{Label, name_by, variable_name};
-use ab_normal::{Nominal, support};
+use ab_norm::{Nominal, support};
 use ab_types::{Name, Steps};
 use std::alloc::Global;
 

@@ -2,7 +2,7 @@
 
 use crate::replaces::Replaces;
 use ab_naming::Label;
-use ab_nodes::TermId;
+use ab_store::TermId;
 use ab_types::Name;
 use std::alloc::AllocError;
 use thiserror::Error;

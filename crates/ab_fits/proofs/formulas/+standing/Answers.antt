@@ -1,8 +1,8 @@
 use Rattle.std.proofs.Common.{◌<◌, ◌≤◌, arith, get_or}
 use Rattle.std.specs.List.{All}
 use Rattle.std.proofs.lemmas.List.Elements.{All-same, All-more}
-use Rattle.ab_nodes.specs.declared.node.TermId.{TermId}
-use Rattle.ab_nodes.specs.Reading.{reading}
+use Rattle.ab_store.specs.declared.node.TermId.{TermId}
+use Rattle.ab_store.specs.Trees.{tree_of}
 use Rattle.ab_fits.specs.Formulas.{StandsIn, a_formula}
 use Rattle.ab_fits.specs.Places.{place_of}
 use Rattle.ab_fits.proofs.Bounds.{ids_bound, bound_within, below_bound, spine_names}
@@ -18,19 +18,19 @@ all_stand-stands_in-requires t c =
 
 pub all_stand-returns-then-not-branch-clause-stand : goal.all_stand-returns-then-not-branch-clause-stand
 all_stand-returns-then-not-branch-clause-stand t c = λ types.
-    never _ (one_fails (λ u. StandsIn (place_of c.args.place) (reading types c.args.store.now u)) c.args.ids.now c.loop-id.id-index (record { 0 = 0 }) (omega arith)
+    never _ (one_fails (λ u. StandsIn (place_of c.args.place) (tree_of types c.args.store.now u)) c.args.ids.now c.loop-id.id-index (record { 0 = 0 }) (omega arith)
     (denied c.in_ok-stands_in.field-0 c.if-not-branch.true (c.in_ok-stands_in.ensures.stands types)))
 
 pub all_stand-loop-id-preserved : goal.all_stand-loop-id-preserved
 all_stand-loop-id-preserved t c = record {
   seen = c.in_ok-stands_in.ensures.seen;
-  so_far = λ types. All-more (λ u. StandsIn (place_of c.args.place) (reading types c.args.store.now u)) c.args.ids.now c.loop-id.id-index (record { 0 = 0 }) (omega arith)
+  so_far = λ types. All-more (λ u. StandsIn (place_of c.args.place) (tree_of types c.args.store.now u)) c.args.ids.now c.loop-id.id-index (record { 0 = 0 }) (omega arith)
       (c.loop-id.invariant.so_far types) ((c.in_ok-stands_in.ensures.stands types).0 c.if-not-branch.false);
 }
 
 pub all_stand-returns-clause-stand : goal.all_stand-returns-clause-stand
 all_stand-returns-clause-stand t c = λ types.
-    always (all_so_far (λ u. StandsIn (place_of c.args.place) (reading types c.args.store.now u)) c.args.ids.now c.loop-id.id-index (omega arith) (c.loop-id.invariant.so_far types))
+    always (all_so_far (λ u. StandsIn (place_of c.args.place) (tree_of types c.args.store.now u)) c.args.ids.now c.loop-id.id-index (omega arith) (c.loop-id.invariant.so_far types))
 
 pub node_stands-all_stand-requires : goal.node_stands-all_stand-requires
 node_stands-all_stand-requires t c =
@@ -41,10 +41,10 @@ node_stands-all_stand-requires t c =
 
 pub node_stands-returns-else-not-is_rigid-clause-stands : goal.node_stands-returns-else-not-is_rigid-clause-stands
 node_stands-returns-else-not-is_rigid-clause-stands t c =
-    if_ok c.all_stand.result (λ yes below types. stands_spine types c.args.store.now c.args.id c.view.result.now c.in-Spine.head c.in-Spine.args c.as_slice.result.now (place_of c.places_of.result) yes (c.view.ensures.reads types) c.in-Spine.is c.as_slice.ensures
+    if_ok c.all_stand.result (λ yes below types. stands_spine types c.args.store.now c.args.id c.view.result.now c.in-Spine.head c.in-Spine.args c.as_slice.result.now (place_of c.places_of.result) yes (c.view.ensures.tree types) c.in-Spine.is c.as_slice.ensures
     ((c.is_rigid.ensures types c.args.store.now.cells).0 c.if-not-is_rigid.false) (c.places_of.ensures types c.args.store.now.cells) (below types)) c.all_stand.ensures.stand
 
 pub stands-returns-clause-seen : goal.stands-returns-clause-seen
 stands-returns-clause-seen t c = λ types.
-    all_gained (λ u. StandsIn a_formula (reading types c.args.store.now u)) c.node_stands.new.seen.keys c.see.new.seen.keys c.args.id c.in_ok-see.ensures
+    all_gained (λ u. StandsIn a_formula (tree_of types c.args.store.now u)) c.node_stands.new.seen.keys c.see.new.seen.keys c.args.id c.in_ok-see.ensures
     (c.in_ok-node_stands.ensures.seen types) ((c.in_ok-node_stands.ensures.stands types).0 c.if-not-branch.false)

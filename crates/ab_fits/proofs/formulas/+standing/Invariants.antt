@@ -1,7 +1,7 @@
 use Rattle.std.proofs.Common.{◌+◌, ◌*◌, take}
 use Rattle.std.specs.List.{All}
 use Rattle.ab_types.specs.Entries.{Table}
-use Rattle.ab_nodes.specs.Reading.{reading}
+use Rattle.ab_store.specs.Trees.{tree_of}
 use Rattle.ab_fits.specs.Formulas.{StandsIn, a_formula}
 use Rattle.ab_fits.specs.Places.{place_of}
 use Rattle.ab_fits.proofs.Bounds.{ids_bound}
@@ -21,6 +21,6 @@ decreases-all_stand l = 4 * ids_bound l.ids.now
 
 abbrev pub invariant-all_stand-loop-id : goal.invariant-all_stand-loop-id
 invariant-all_stand-loop-id l = record {
-  seen : (types : Table) → All (λ t. StandsIn a_formula (reading types l.store t)) l.seen.keys;
-  so_far : (types : Table) → All (λ t. StandsIn (place_of l.place) (reading types l.store t)) (take l.id-index l.ids);
+  seen : (types : Table) → All (λ t. StandsIn a_formula (tree_of types l.store t)) l.seen.keys;
+  so_far : (types : Table) → All (λ t. StandsIn (place_of l.place) (tree_of types l.store t)) (take l.id-index l.ids);
 }

@@ -1,5 +1,5 @@
 use Rattle.std.proofs.Common.{◌+◌, ◌*◌, map, take, true}
-use Rattle.ab_nodes.specs.Reading.{reading}
+use Rattle.ab_store.specs.Trees.{tree_of}
 use Rattle.ab_fits.specs.Fitting.{names_of}
 use Rattle.ab_fits.specs.Numbers.{Notes}
 use Rattle.ab_fits.proofs.Bounds.{ids_bound}
@@ -15,4 +15,4 @@ abbrev pub decreases-note_all : goal.decreases-note_all
 decreases-note_all l = 3 * ids_bound l.ids.now
 
 abbrev pub invariant-note_all-loop-id : goal.invariant-note_all-loop-id
-invariant-note_all-loop-id l = Notes l.types l.store l.initial.known l.known (names_of (map (reading l.types l.store) (take l.id-index l.ids))) true
+invariant-note_all-loop-id l = Notes l.types l.store l.initial.known l.known (names_of (map (tree_of l.types l.store) (take l.id-index l.ids))) true

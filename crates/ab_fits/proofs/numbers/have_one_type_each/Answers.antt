@@ -1,5 +1,5 @@
 use Rattle.std.proofs.Common.{map}
-use Rattle.ab_nodes.specs.Reading.{reading}
+use Rattle.ab_store.specs.Trees.{tree_of}
 use Rattle.ab_fits.specs.Fitting.{names_of}
 use Rattle.ab_fits.proofs.Noted.{decided}
 use Rattle.ab_fits.proofs.Walks.{if_ok, is_true}
@@ -10,5 +10,5 @@ note_all-requires-clause-known c = c.no_numbers-known.ensures.known c.args.types
 
 pub returns : goal.returns
 returns c =
-    if_ok c.note_all.result (λ yes notes. is_true yes (decided c.args.types.now c.args.store.now c.no_numbers-known.result c.note_all.new.known (names_of (map (reading c.args.types.now c.args.store.now) c.args.terms.now)) yes
+    if_ok c.note_all.result (λ yes notes. is_true yes (decided c.args.types.now c.args.store.now c.no_numbers-known.result c.note_all.new.known (names_of (map (tree_of c.args.types.now c.args.store.now) c.args.terms.now)) yes
     (c.no_numbers-known.ensures.none c.args.types.now) notes)) c.note_all.ensures

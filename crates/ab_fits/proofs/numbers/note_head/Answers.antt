@@ -1,6 +1,6 @@
 use Rattle.std.proofs.Common.{IfOk, sym, subst}
 use Rattle.ab_term.specs.Names.{support_of_head}
-use Rattle.ab_nodes.specs.Reading.{head_reading}
+use Rattle.ab_store.specs.Trees.{head_reading}
 use Rattle.ab_fits.specs.Numbers.{Notes}
 use Rattle.ab_fits.proofs.numbers.note_head.Goals as goal
 

@@ -1,6 +1,6 @@
 use Rattle.std.proofs.Common.{[]}
 use Rattle.std.proofs.lemmas.List.Elements.{All-cons, All-nil}
-use Rattle.ab_nodes.specs.Reading.{Holds}
+use Rattle.ab_store.specs.Trees.{Holds}
 use Rattle.ab_fits.proofs.tests.fits_beside.Goals as goal
 
 pub fits-requires-clause-before : goal.fits-requires-clause-before

@@ -1,5 +1,5 @@
-use Rattle.ab_nodes.specs.Reading.{Holds}
-use Rattle.ab_nodes.specs.Naming.{IsTypedBy}
+use Rattle.ab_store.specs.Trees.{Holds}
+use Rattle.ab_store.specs.Naming.{IsTypedBy}
 use Rattle.ab_fits.proofs.tests.tower.Given as goal
 
 abbrev pub invariant-loop : goal.invariant-loop

@@ -5,9 +5,9 @@ use Rattle.ab_term.specs.Typing.{head_type}
 use Rattle.ab_term.proofs.Closed.{closed_typed}
 use Rattle.ab_types.specs.Entries.{signature}
 use Rattle.ab_types.specs.Ids.{HoldsType, type_of}
-use Rattle.ab_nodes.specs.declared.node.TermId.{TermId}
-use Rattle.ab_nodes.specs.Reading.{reading, head_reading}
-use Rattle.ab_nodes.specs.Naming.{NodeIsTyped, IsTerm}
+use Rattle.ab_store.specs.declared.node.TermId.{TermId}
+use Rattle.ab_store.specs.Trees.{tree_of, head_reading}
+use Rattle.ab_store.specs.Naming.{NodeIsTyped, IsTerm}
 use Rattle.ab_fits.specs.declared.known.Typed.{Typed}
 use Rattle.ab_fits.specs.Taking.{rest_type, wanted_type, context}
 use Rattle.ab_fits.proofs.Bounds.{ids_bound, bound_within, below_bound, spine_names}
@@ -24,7 +24,7 @@ check-returns-then-is_known-clause-judged t c =
 pub check-returns-clause-known : goal.check-returns-clause-known
 check-returns-clause-known t c =
     all_gained (λ (k : Typed). IsTerm c.args.types.now c.args.store.now [] k.id (type_of c.args.types.now k.ty)) c.check_node-2.new.scope.known.keys c.know.new.known.keys (record { id = c.args.id; ty = c.args.ty }) c.in_ok-know.ensures c.in_ok-check_node.ensures.known
-    (closed_alone (signature c.args.types.now) (context c.args.types.now c.args.scope.now.names.items) (reading c.args.types.now c.args.store.now c.args.id) (type_of c.args.types.now c.args.ty) (omega (arith, c.reach.ensures c.args.types.now, c.if-reach-gt0.false))
+    (closed_alone (signature c.args.types.now) (context c.args.types.now c.args.scope.now.names.items) (tree_of c.args.types.now c.args.store.now c.args.id) (type_of c.args.types.now c.args.ty) (omega (arith, c.reach.ensures c.args.types.now, c.if-reach-gt0.false))
     (c.in_ok-check_node.ensures.judged.0 c.if-not-branch.false))
 
 pub check_all-returns-in-None-clause-judged : goal.check_all-returns-in-None-clause-judged
@@ -68,7 +68,7 @@ check_function-is_same-requires-clause-a t c = subst (NodeIsTyped c.args.types.n
 
 pub check_function-returns-in_ok-yes-in-Lam-clause-judged : goal.check_function-returns-in_ok-yes-in-Lam-clause-judged
 check_function-returns-in_ok-yes-in-Lam-clause-judged t c =
-    function_judged c.args.types.now c.args.store.now c.args.id c.view.result.now (c.view.ensures.reads c.args.types.now) c.args.scope.now.names.items c.push.new.self.items c.in-Lam.ty c.args.from c.args.to c.in-Lam.field-1 c.in-Lam.body c.in_ok-yes-in-Lam.yes c.in-Lam.is
+    function_judged c.args.types.now c.args.store.now c.args.id c.view.result.now (c.view.ensures.tree c.args.types.now) c.args.scope.now.names.items c.push.new.self.items c.in-Lam.ty c.args.from c.args.to c.in-Lam.field-1 c.in-Lam.body c.in_ok-yes-in-Lam.yes c.in-Lam.is
     (c.is_same.ensures.0 c.if-not-is_same.false) c.in_ok-push-in-Lam.ensures.items c.in_ok-yes-in-Lam.ensures.judged
 
 pub check_node-taken-requires-clause-typed : goal.check_node-taken-requires-clause-typed
@@ -80,11 +80,11 @@ check_node-check_all-requires t c =
     let here : All (λ r. r.0 < c.args.id.0) c.as_slice-in-Some.result.now = All-same (λ (r : TermId). r.0 < c.args.id.0) _ _ c.as_slice-in-Some.ensures names.1 in
     let bound : ids_bound c.as_slice-in-Some.result.now ≤ c.args.id.0 = bound_within c.args.id.0 _ here in (
       omega (arith, bound, c.decreases),
-      (c.requires.store, (c.requires.built, (c.requires.names, (c.requires.known, (λ k d l. omega (arith, here k d l, c.requires.id), (c.in-Some.ensures.held, (c.requires.ty, kind_seen c.args.types.now c.args.ty c.view.result c.in-Base.field-0 c.view.ensures.reads c.in-Base.is))))))),
+      (c.requires.store, (c.requires.built, (c.requires.names, (c.requires.known, (λ k d l. omega (arith, here k d l, c.requires.id), (c.in-Some.ensures.held, (c.requires.ty, kind_seen c.args.types.now c.args.ty c.view.result c.in-Base.field-0 c.view.ensures.tree c.in-Base.is))))))),
     )
 
 pub check_node-returns-in-Some-clause-judged : goal.check_node-returns-in-Some-clause-judged
 check_node-returns-in-Some-clause-judged t c =
     let head = subst (λ l. head_type (signature c.args.types.now) (context c.args.types.now l) (head_reading c.args.types.now c.args.store.now c.in-Spine.head) ≡ Some (rest_type c.args.types.now c.in-Some.rest)) c.as_slice.ensures.value c.in-Some.ensures.reads in
     if_ok c.check_all.result (λ yes below. applied_judged c.args.types.now c.args.store.now c.args.id c.view-in-Base.result.now (c.view-in-Base.ensures.reads c.args.types.now) (context c.args.types.now c.args.scope.now.names.items) c.in-Spine.head c.in-Spine.args c.as_slice-in-Some.result.now (rest_type c.args.types.now c.in-Some.rest) (type_of c.args.types.now c.args.ty) yes c.in-Spine.is c.as_slice-in-Some.ensures
-    (kind_seen c.args.types.now c.args.ty c.view.result c.in-Base.field-0 c.view.ensures.reads c.in-Base.is) head below) c.check_all.ensures.judged
+    (kind_seen c.args.types.now c.args.ty c.view.result c.in-Base.field-0 c.view.ensures.tree c.in-Base.is) head below) c.check_all.ensures.judged

@@ -3,7 +3,7 @@ use Rattle.ab_term.specs.Terms.{terms_of}
 use Rattle.ab_term.specs.Typing.{TakeType}
 use Rattle.ab_types.specs.Entries.{signature}
 use Rattle.ab_types.specs.Ids.{type_of}
-use Rattle.ab_nodes.specs.Reading.{reading}
+use Rattle.ab_store.specs.Trees.{tree_of}
 use Rattle.ab_fits.specs.Taking.{rest_type, HoldsRest, context, AreTyped}
 use Rattle.ab_fits.proofs.Bounds.{ids_bound}
 use Rattle.ab_fits.proofs.typing.+typed.Given as goal
@@ -28,6 +28,6 @@ invariant-check_all-loop-id l = record {
   names : l.scope.names.items ≡ l.initial.scope.names.items;
   known : AreTyped l.types l.store l.scope.known.keys;
   held : HoldsRest l.types l.rest;
-  same : TakeType (signature l.types) (context l.types l.initial.scope.names.items) (terms_of (map (reading l.types l.store) (drop l.id-index l.ids))) (rest_type l.types l.rest) (type_of l.types l.ty)
-      ↔ TakeType (signature l.types) (context l.types l.initial.scope.names.items) (terms_of (map (reading l.types l.store) l.ids)) (rest_type l.types l.fn.first) (type_of l.types l.ty);
+  same : TakeType (signature l.types) (context l.types l.initial.scope.names.items) (terms_of (map (tree_of l.types l.store) (drop l.id-index l.ids))) (rest_type l.types l.rest) (type_of l.types l.ty)
+      ↔ TakeType (signature l.types) (context l.types l.initial.scope.names.items) (terms_of (map (tree_of l.types l.store) l.ids)) (rest_type l.types l.fn.first) (type_of l.types l.ty);
 }

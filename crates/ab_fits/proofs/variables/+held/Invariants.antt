@@ -1,7 +1,7 @@
 use Rattle.std.proofs.Common.{◌+◌, ◌*◌, map, take}
 use Rattle.std.specs.List.{All}
 use Rattle.ab_types.specs.Entries.{Table}
-use Rattle.ab_nodes.specs.Reading.{reading}
+use Rattle.ab_store.specs.Trees.{tree_of}
 use Rattle.ab_fits.specs.Cells.{variable_of}
 use Rattle.ab_fits.specs.Fitting.{HoldsOnly}
 use Rattle.ab_fits.proofs.Bounds.{ids_bound}
@@ -18,6 +18,6 @@ decreases-all_hold l = 3 * ids_bound l.ids.now
 
 abbrev pub invariant-all_hold-loop-id : goal.invariant-all_hold-loop-id
 invariant-all_hold-loop-id l = record {
-  seen : (types : Table) → All (λ t. HoldsOnly (map (variable_of types l.store) l.variables) (reading types l.store t)) l.seen.keys;
-  so_far : (types : Table) → All (λ t. HoldsOnly (map (variable_of types l.store) l.variables) (reading types l.store t)) (take l.id-index l.ids);
+  seen : (types : Table) → All (λ t. HoldsOnly (map (variable_of types l.store) l.variables) (tree_of types l.store t)) l.seen.keys;
+  so_far : (types : Table) → All (λ t. HoldsOnly (map (variable_of types l.store) l.variables) (tree_of types l.store t)) (take l.id-index l.ids);
 }

@@ -1,7 +1,7 @@
 use Rattle.std.proofs.Common.{◌↔◌, ◌≡◌, true, map, Contains, sym, subst}
 use Rattle.std.specs.List.{All}
 use Rattle.ab_term.specs.Variables.{variables_of_head}
-use Rattle.ab_nodes.specs.Reading.{head_reading}
+use Rattle.ab_store.specs.Trees.{head_reading}
 use Rattle.ab_fits.specs.Cells.{variable_of}
 use Rattle.ab_fits.proofs.Listed.{listed}
 use Rattle.ab_fits.proofs.variables.is_listed.Goals as goal

@@ -1,9 +1,9 @@
 use Rattle.std.proofs.Common.{sym, ap, ◌∙◌, subst, rules}
-use Rattle.ab_nodes.specs.Naming.{HeadIsTyped}
-use Rattle.ab_nodes.specs.Reading.{node_reading, logical_of}
+use Rattle.ab_store.specs.Naming.{HeadIsTyped}
+use Rattle.ab_store.specs.Trees.{node_tree, logical_of}
 use Rattle.ab_logic.specs.Worlds.{read}
 use Rattle.ab_logic.specs.Forms.{form_of}
-use Rattle.ab_nodes.specs.declared.node.Node.TheVariants.{Spine}
+use Rattle.ab_store.specs.declared.node.Node.TheVariants.{Spine}
 use Rattle.ab_logic.proofs.Counts.{many}
 use Rattle.ab_logic.proofs.form.shape.Goals as goal
 
@@ -14,9 +14,9 @@ pub returns-else-args-eq2-clause-reads : goal.returns-else-args-eq2-clause-reads
 returns-else-args-eq2-clause-reads c =
     let w = c.args.world.now in
     let e = many (logical_of w.types c.in-Logic.logical) (read w) c.in-Spine.args (search rules) (search rules) (search rules) in
-    sym (ap form_of (c.view.ensures.reads w.types)
-    ∙ ap (λ n. form_of (node_reading w.types w.store n)) c.in-Spine.is
-    ∙ ap (λ h. form_of (node_reading w.types w.store (Spine h c.in-Spine.args))) c.in-Logic.is
+    sym (ap form_of (c.view.ensures.tree w.types)
+    ∙ ap (λ n. form_of (node_tree w.types w.store n)) c.in-Spine.is
+    ∙ ap (λ h. form_of (node_tree w.types w.store (Spine h c.in-Spine.args))) c.in-Logic.is
     ∙ e)
 
 pub returns-then-args-eq0-clause-typed : goal.returns-then-args-eq0-clause-typed

@@ -1,13 +1,13 @@
 use Rattle.std.proofs.Common.{◌<◌, ◌≤◌, arith, sym, ◌∙◌, get_or, length, subst}
 use Rattle.std.specs.List.{All}
 use Rattle.std.proofs.lemmas.List.Elements.{All-push, All-same, All-weaker}
-use Rattle.ab_nodes.specs.declared.node.TermId.{TermId}
-use Rattle.ab_nodes.specs.Naming.{HeadNames, NodeIsTyped}
-use Rattle.ab_nodes.specs.Reading.{Holds, reading}
+use Rattle.ab_store.specs.declared.node.TermId.{TermId}
+use Rattle.ab_store.specs.Naming.{HeadNames, NodeIsTyped}
+use Rattle.ab_store.specs.Trees.{Holds, tree_of}
 use Rattle.ab_logic.specs.Marks.{erased}
-use Rattle.ab_normal.proofs.Bounds.{ids_bound, bound_within, below_bound}
-use Rattle.ab_normal.proofs.Frame.{typed_on, typed_more, if_ok, spine_names}
-use Rattle.ab_normal.proofs.Renamed.{read_more_before}
+use Rattle.ab_norm.proofs.Bounds.{ids_bound, bound_within, below_bound}
+use Rattle.ab_norm.proofs.Frame.{typed_on, typed_more, if_ok, spine_names}
+use Rattle.ab_norm.proofs.Renamed.{read_more_before}
 use Rattle.ab_marks.proofs.Erased.{erased_spine}
 use Rattle.ab_marks.proofs.erasing.+erased.Goals as goal
 
@@ -60,7 +60,7 @@ pub erase_spine-returns-clause-reads : goal.erase_spine-returns-clause-reads
 erase_spine-returns-clause-reads t c =
     if_ok c.spine.result (λ r made.
     erased_spine c.args.types.now c.args.store.now c.erase_all.new.store c.spine.new.self r c.args.head c.args.args.now c.in_ok-given.given.items
-    c.in_ok-given.ensures.adds.cells c.in_ok-given.ensures.reads (made c.args.types.now)) c.spine.ensures.reads
+    c.in_ok-given.ensures.adds.cells c.in_ok-given.ensures.reads (made c.args.types.now)) c.spine.ensures.tree
 
 pub erase_spine-returns-clause-adds : goal.erase_spine-returns-clause-adds
 erase_spine-returns-clause-adds t c =

@@ -1,8 +1,8 @@
 use Rattle.std.proofs.Common.{◌≡◌, ◌+◌, ◌*◌, map, take}
 use Rattle.std.specs.List.{All}
-use Rattle.ab_nodes.specs.Reading.{Holds, reading}
-use Rattle.ab_normal.specs.Growth.{AddsTypedTerms}
-use Rattle.ab_normal.proofs.Bounds.{ids_bound}
+use Rattle.ab_store.specs.Trees.{Holds, tree_of}
+use Rattle.ab_norm.specs.Growth.{AddsTypedTerms}
+use Rattle.ab_norm.proofs.Bounds.{ids_bound}
 use Rattle.ab_logic.specs.Marks.{erased}
 use Rattle.ab_marks.proofs.erasing.+erased.Given as goal
 
@@ -19,5 +19,5 @@ abbrev pub invariant-erase_all-loop-id : goal.invariant-erase_all-loop-id
 invariant-erase_all-loop-id l = record {
   adds : AddsTypedTerms l.types l.fn.store l.store;
   held : All (Holds l.store) l.made.items;
-  reads : map (reading l.types l.store) l.made.items ≡ map (λ t. erased (reading l.types l.fn.store t)) (take l.id-index l.ids);
+  reads : map (tree_of l.types l.store) l.made.items ≡ map (λ t. erased (tree_of l.types l.fn.store t)) (take l.id-index l.ids);
 }

@@ -1,7 +1,7 @@
 use Rattle.std.specs.Prelude.{IsTrue}
 use Rattle.std.proofs.Common.{◌≡◌, inl, inr, refl, sym, subst, rules}
 use Rattle.ab_logic.specs.Marks.{MarksServeIn}
-use Rattle.ab_nodes.specs.declared.node.TermId.{TermId}
+use Rattle.ab_store.specs.declared.node.TermId.{TermId}
 use Rattle.ab_logic.specs.Worlds.{read, Holds}
 use Rattle.ab_logic.specs.Growth.{Grows}
 use Rattle.ab_logic.specs.declared.world.World.{World}

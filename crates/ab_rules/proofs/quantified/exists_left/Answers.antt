@@ -9,7 +9,7 @@ use Rattle.ab_logic.specs.Readings.{sequent_of, HoldsSequent}
 use Rattle.ab_logic.specs.declared.sequent.Sequent.{Sequent as Kept}
 use Rattle.ab_logic.proofs.Growing.{same_sequent, still_held}
 use Rattle.ab_naming.specs.Labels.{label_of}
-use Rattle.ab_normal.specs.Nominals.{nominal_of}
+use Rattle.ab_norm.specs.Nominals.{nominal_of}
 use Rattle.ab_types.specs.Ids.{type_of}
 use Rattle.ab_rules.specs.Rules.{IsSupport, raised, hint_of}
 use Rattle.ab_rules.proofs.Chosen.{is_support}

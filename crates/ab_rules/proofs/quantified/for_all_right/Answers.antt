@@ -1,7 +1,7 @@
 use Rattle.std.specs.List.{All}
 use Rattle.std.proofs.Common.{◌≡◌, ◌≢◌, ◌≤◌, length, List, [], ◌∷◌, map, sym, ap, ◌∙◌, subst, arith}
 use Rattle.std.proofs.lemmas.List.Elements.{All-cons}
-use Rattle.ab_normal.specs.Nominals.{nominal_of}
+use Rattle.ab_norm.specs.Nominals.{nominal_of}
 use Rattle.ab_logic.specs.Names.{IsNamedFor}
 use Rattle.ab_logic.specs.Worlds.{read, variable_of, declarations_of}
 use Rattle.ab_logic.specs.Sequents.{proving, over}

@@ -1,6 +1,6 @@
 use Rattle.std.proofs.Common.{◌≡◌, length, map, ap, ◌∙◌}
 use Rattle.ab_term.specs.Substitution.{instance}
-use Rattle.ab_normal.specs.Nominals.{nominal_of}
+use Rattle.ab_norm.specs.Nominals.{nominal_of}
 use Rattle.ab_logic.specs.Worlds.{read}
 use Rattle.ab_rules.specs.Rules.{raised, applied}
 use Rattle.ab_types.specs.Ids.{type_of}

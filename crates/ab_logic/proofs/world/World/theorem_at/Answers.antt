@@ -2,7 +2,7 @@ use Rattle.std.specs.Prelude.{slice_get}
 use Rattle.std.specs.Option.{option_map}
 use Rattle.std.proofs.Common.{◌≡◌, ℕ, List, Option, Some, None, refl, ◌∙◌, sym, ap}
 use Rattle.std.proofs.lemmas.Option.{slice_get-map}
-use Rattle.ab_nodes.specs.Reading.{Read}
+use Rattle.ab_store.specs.Trees.{Read}
 use Rattle.ab_logic.specs.Worlds.{read}
 use Rattle.ab_logic.specs.declared.world.World.{World}
 use Rattle.ab_logic.specs.declared.theorems.Theorem.{Theorem}
