@@ -19,7 +19,7 @@ use Rattle.ab_store.specs.Trees.{Read}
 use Rattle.ab_logic.specs.Sequents.{Sequent, Hypothesis, formulas, names_of, goal_names, named, formula_of}
 use Rattle.ab_logic.specs.Readings.{hypothesis_of}
 use Rattle.ab_logic.specs.Names.{IsLeast}
-use Rattle.ab_rules.specs.Rules.{MayName, IsSupport}
+use Rattle.ab_rules.specs.Rules.{MayName}
 use Rattle.ab_rules.specs.Choosing.{Gains, Excluded, Blocked, IsAbsent}
 use Rattle.ab_types.proofs.Kept.{one_type}
 use Rattle.ab_term.proofs.Comparisons.{same_type-Decides}
@@ -237,16 +237,6 @@ module _ (s : Sequent) (F : Read) (A : Ty) (numbers : List ℕ) (g : Gains [] nu
 
   pub least_may : (n : ℕ) → IsLeast (IsAbsent numbers) n → IsLeast (MayName s F A) n
   least_may n least = record { has = may n least.has; first = λ m l m_may. least.first m l (may_not m m_may) }
-
--- the support as a list
-pub is_support : (w : World) (F : TermId) (names : List Nominal) → ((a : tree.Nominal) → Contains (map (nominal_of w.types) names) a ↔ Contains (support (read w F)) a)
-    → AllPairs (λ a b. nominal_of w.types a ≢ nominal_of w.types b) names → AllPairs (λ (a b : Nominal). a.number ≤ b.number) names
-    → IsSupport (read w F) (map (nominal_of w.types) names)
-is_support w F names same once order = record {
-  same = same;
-  once = AllPairs-map (nominal_of w.types) (λ (a b : tree.Nominal). a ≢ b) names once;
-  order = AllPairs-map (nominal_of w.types) (λ (a b : tree.Nominal). a.number ≤ b.number) names order;
-}
 
 -- a hypothesis's constants are the goal's
 at_test : (h : Hypothesis) (hs : List Hypothesis) (name : List ℕ) (F : Read) (b : Bool) → (if b then Some h.formula else named hs name) ≡ Some F → (a : tree.Nominal) → Contains (support F) a

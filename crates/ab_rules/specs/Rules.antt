@@ -3,6 +3,7 @@ use Rattle.std.specs.Prelude.{◌≡◌, ◌≢◌, ◌↔◌, ℕ, ◌≤◌, L
 use Rattle.ab_term.specs.Types.{Ty, arrows, prop}
 use Rattle.ab_term.specs.Terms.{Nominal, nominal, variable, lam, spine}
 use Rattle.ab_term.specs.Names.{support, EqualUpToNames}
+pub use Rattle.ab_term.specs.Names.{IsSupport}
 use Rattle.ab_term.specs.Translation.{EqualPastHints}
 use Rattle.ab_term.specs.Substitution.{instance, instance_by_all}
 use Rattle.ab_term.specs.Expansion.{expansion}
@@ -15,12 +16,6 @@ use Rattle.ab_logic.specs.Sequents.{Variable, Sequent, Fits, goal_names, formula
 use Rattle.ab_logic.specs.Names.{IsLeast, IsNoVariable, IsNamedFor}
 use Rattle.ab_rules.specs.Steps.{Step, initial, true_right, false_left, and_right, and_left, or_right, or_left, arrow_right, arrow_left, for_all_right, for_all_left, exists_right, exists_left, nabla_right, nabla_left, equal_right, equal_left, definition_right, definition_left, induction, coinduction, cut_formula, use_theorem, weaken, spec_cut, spec_instance, spec_monotone}
 use Rattle.ab_rules.specs.Row.{Row, leads, leads_by, finds, asks, labelled, not_built, Takes, FailsFirst}
-
--- the nominal constants of a formula, each once, by number
-pub record IsSupport (F : Read) (names : List Nominal) : Type 0 where
-  pub same : (a : Nominal) → Contains names a ↔ Contains (support F) a
-  pub once : AllPairs (λ a b. a ≢ b) names
-  pub order : AllPairs (λ a b. a.number ≤ b.number) names
 
 -- a nominal constant as a term
 abbrev pub name_term : Nominal → Read

@@ -14,10 +14,11 @@ ghost use Rattle.ab_rules.specs.Rules.{MayName, name_term};
 ghost use Rattle.ab_rules.specs.Choosing.{Gains, Excluded, Blocked, IsAbsent};
 ghost use Rattle.ab_rules.specs.Terms.{Adds};
 
+use crate::looking::support_in;
 use crate::terms::{instance_of, name_term};
 use ab_logic::{Sequent, World};
 use ab_store::TermId;
-use ab_norm::{Nominal, support};
+use ab_norm::Nominal;
 use ab_types::{Steps, TypeId};
 use std::alloc::{AllocError, Global};
 
@@ -70,7 +71,7 @@ fn exclude_in(
 {
     // no two ids of a table stand for one type
     let _ = world.types.len();
-    let names = support(alloc, &world.types, &world.store, formula)?;
+    let names = support_in(alloc, world, formula)?;
     exclude(&names, ty, all, numbers)?;
     Ok(())
 }

@@ -8,31 +8,13 @@ ghost use Rattle.ab_term.specs.Names.{EqualUpToNames};
 ghost use Rattle.ab_rules.specs.Steps as plain;
 ghost use Rattle.ab_rules.specs.Answers.{Answers, row_at};
 
+use crate::looking::{are_equal, are_equal_up_to_names};
 use crate::step::KernelFault;
 use ab_logic::{Sequent, World, as_equal, is_false, is_true};
 use ab_marks::{marks_serve_in, without_marks};
 use ab_store::TermId;
-use ab_norm::{equal, equal_up_to_names};
 use ab_types::Name;
 use std::alloc::{AllocError, Global};
-
-/// Whether a permutation of nominal constants sends the first to the second.
-fn are_equal_up_to_names(
-    alloc: Global,
-    world: &World,
-    a: TermId,
-    b: TermId,
-) -> Result<bool, AllocError>
-    requires world { IsWorld world.now }
-    requires a { Holds world.now a }
-    requires b { Holds world.now b }
-    ensures { IfOk result (λ yes. IsTrue yes ↔ EqualUpToNames (read world.now a) (read world.now b)) }
-{
-    match equal_up_to_names(alloc, &world.types, &world.store, a, b)? {
-        Some(_) => Ok(true),
-        None => Ok(false),
-    }
-}
 
 /// Whether a permutation of nominal constants sends the first formula to the second, both without their marks.
 fn are_equal_without_marks(
@@ -106,7 +88,7 @@ pub(crate) fn equal_right(
     let Some((left, right)) = as_equal(world, sequent.conclusion) else {
         return Err(KernelFault::RuleFails(1));
     };
-    if !equal(alloc, &world.types, &world.store, left, right)? {
+    if !are_equal(alloc, world, left, right)? {
         return Err(KernelFault::RuleFails(2));
     }
     Ok(Vec::new(alloc))

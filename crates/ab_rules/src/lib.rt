@@ -6,6 +6,7 @@ mod closing;
 pub mod laws;
 mod left;
 mod lists;
+mod looking;
 mod quantified;
 mod replaces;
 mod right;

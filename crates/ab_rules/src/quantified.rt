@@ -8,11 +8,12 @@ ghost use Rattle.ab_rules.specs.Answers.{Answers, label_of, row_at};
 
 use crate::choosing::{least_name, with_name};
 use crate::lists::one;
+use crate::looking::support_in;
 use crate::step::KernelFault;
 use crate::terms::{hint, raise};
 use ab_logic::{Sequent, World, as_exists, as_forall, as_nabla};
 use ab_naming::{Label, name_by, variable_name};
-use ab_norm::{Nominal, support};
+use ab_norm::Nominal;
 use ab_types::{Name, Steps};
 use std::alloc::Global;
 
@@ -35,7 +36,7 @@ pub(crate) fn for_all_right<L>(
     let premise = sequent.copy(alloc)?;
     let asked = hint(alloc, world, body)?;
     let name = variable_name(alloc, world, sequent, &asked)?;
-    let names = support(alloc, &world.types, &world.store, sequent.conclusion)?;
+    let names = support_in(alloc, world, sequent.conclusion)?;
     let made = raise(alloc, world, name, body, ty, &names, steps)?;
     let premise = premise.over(made.cell)?.proving(made.formula);
     Ok(one(alloc, premise)?)
@@ -67,7 +68,7 @@ pub(crate) fn exists_left<L>(
     };
     let asked = hint(alloc, world, body)?;
     let name = variable_name(alloc, world, sequent, &asked)?;
-    let names = support(alloc, &world.types, &world.store, formula)?;
+    let names = support_in(alloc, world, formula)?;
     let made = raise(alloc, world, name, body, ty, &names, steps)?;
     let premise = named
         .sequent

@@ -12,7 +12,6 @@ use Rattle.ab_naming.specs.Labels.{label_of}
 use Rattle.ab_norm.specs.Nominals.{nominal_of}
 use Rattle.ab_types.specs.Ids.{type_of}
 use Rattle.ab_rules.specs.Rules.{IsSupport, raised, hint_of}
-use Rattle.ab_rules.proofs.Chosen.{is_support}
 use Rattle.ab_rules.proofs.quantified.exists_left.Goals as goal
 
 pub returns-clause-answers : goal.returns-clause-answers
@@ -26,7 +25,7 @@ returns-clause-answers g c =
     let F = c.in-Some.formula in
     let body = c.in-Some-as_exists.body in
     let support : IsSupport (read w F) (map (nominal_of w.types) names) =
-    subst (λ ns. IsSupport (read w F) (map (nominal_of w.types) ns)) (sym c.deref.ensures.value) (is_support w F c.in_ok-names.names.items c.in_ok-names.ensures.names c.in_ok-names.ensures.once c.in_ok-names.ensures.order) in
+    subst (λ ns. IsSupport (read w F) (map (nominal_of w.types) ns)) (sym c.deref.ensures.value) c.in_ok-names.ensures.support in
     let named : IsNamedFor (declarations_of w) (sequent_of w s) (hint_of (read w body)) name =
     subst (λ x. IsNamedFor (declarations_of w) (sequent_of w s) x name) c.in_ok-asked.ensures c.in_ok-name.ensures in
     let x = raised (length w.store.cells) name (type_of w.types c.in-Some-as_exists.ty) (map (nominal_of w.types) names) in

@@ -11,7 +11,6 @@ use Rattle.ab_rules.specs.Rules.{IsSupport, raised, hint_of}
 use Rattle.ab_term.specs.Terms as tree
 use Rattle.ab_types.specs.Ids.{type_of}
 use Rattle.ab_logic.proofs.Growing.{same_sequent, still_held}
-use Rattle.ab_rules.proofs.Chosen.{is_support}
 use Rattle.ab_rules.proofs.quantified.for_all_right.Goals as goal
 
 pub returns-clause-answers : goal.returns-clause-answers
@@ -24,7 +23,7 @@ returns-clause-answers g c =
     let hint = c.in_ok-asked.asked in
     let name = c.in_ok-name.name in
     let support : IsSupport (read w s.conclusion) (map (nominal_of w.types) names) =
-    subst (λ ns. IsSupport (read w s.conclusion) (map (nominal_of w.types) ns)) (sym c.deref.ensures.value) (is_support w s.conclusion c.in_ok-names.names.items c.in_ok-names.ensures.names c.in_ok-names.ensures.once c.in_ok-names.ensures.order) in
+    subst (λ ns. IsSupport (read w s.conclusion) (map (nominal_of w.types) ns)) (sym c.deref.ensures.value) c.in_ok-names.ensures.support in
     let named : IsNamedFor (declarations_of w) (sequent_of w s) (hint_of (read w c.in-Some.body)) name =
     subst (λ x. IsNamedFor (declarations_of w) (sequent_of w s) x name) c.in_ok-asked.ensures c.in_ok-name.ensures in
     let x = raised (length w.store.cells) name (type_of w.types c.in-Some.ty) (map (nominal_of w.types) names) in
