@@ -4,3 +4,4 @@ pub mod Chosen
 pub mod Members
 pub mod OneAnswer
 pub mod Longer
+mod Finding

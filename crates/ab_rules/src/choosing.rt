@@ -17,8 +17,8 @@ ghost use Rattle.ab_rules.specs.Terms.{Adds};
 use crate::looking::support_in;
 use crate::terms::{instance_of, name_term};
 use ab_logic::{Sequent, World};
-use ab_store::TermId;
 use ab_norm::Nominal;
+use ab_store::TermId;
 use ab_types::{Steps, TypeId};
 use std::alloc::{AllocError, Global};
 

@@ -51,8 +51,6 @@ pub(crate) fn are_equal_up_to_names(
     requires b { Holds world.now b }
     ensures { IfOk result (λ yes. IsTrue yes ↔ EqualUpToNames (read world.now a) (read world.now b)) }
 {
-    match equal_up_to_names(alloc, &world.types, &world.store, a, b)? {
-        Some(_) => Ok(true),
-        None => Ok(false),
-    }
+    let found = equal_up_to_names(alloc, &world.types, &world.store, a, b)?;
+    Ok(found.is_some())
 }

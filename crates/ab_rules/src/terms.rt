@@ -11,8 +11,8 @@ ghost use Rattle.ab_rules.specs.Rules.{name_term, variable_term, hint_of, raised
 ghost use Rattle.ab_rules.specs.Terms.{Adds};
 
 use ab_logic::World;
-use ab_store::{CellId, Head, Node, TermId};
 use ab_norm::{Nominal, eta, instantiate};
+use ab_store::{CellId, Head, Node, TermId};
 use ab_types::{Name, Steps, TypeId};
 use std::alloc::{AllocError, Global};
 
