@@ -4,7 +4,7 @@ ghost use Rattle.ab_term.specs.Types as plain;
 ghost use Rattle.ab_types.specs.Entries.{IsExtendedBy};
 ghost use Rattle.ab_types.specs.Ids.{HoldsType, type_of};
 ghost use Rattle.ab_types.specs.Sound.{IsTable};
-ghost use Rattle.ab_nodes.specs.declared.node.CellEntry.{CellEntry};
+ghost use Rattle.ab_store.specs.declared.node.CellEntry.{CellEntry};
 ghost use Rattle.ab_readings.specs.Types.{PropFree};
 ghost use Rattle.ab_readings.specs.Names.{Name as AName};
 ghost use Rattle.ab_readings.specs.Readings.{Making};

@@ -1,7 +1,7 @@
 //! What the steps of an expression say of type variables.
 ghost use Rattle.std.specs.Prelude.{◌≡◌, ◌<◌, ◌≤◌, ◌+◌, ◌∷◌, [], List, length, IfOk, IfSome, All, MatchOption};
 ghost use Rattle.ab_types.specs.Sound.{IsTable};
-ghost use Rattle.ab_nodes.specs.declared.node.CellEntry.{CellEntry};
+ghost use Rattle.ab_store.specs.declared.node.CellEntry.{CellEntry};
 ghost use Rattle.ab_solving.specs.declared.shape.Shape.{Shape as AShape};
 ghost use Rattle.ab_solving.specs.Solutions.{AreFormed, AreHeld};
 ghost use Rattle.ab_readings.specs.Names.{Name as AName};

@@ -3,7 +3,7 @@ ghost use Rattle.std.specs.Prelude.{◌≡◌};
 ghost use Rattle.ab_infer.specs.Sketches.{mark_place};
 ghost use Rattle.ab_infer.specs.Verdicts.{mark_of};
 
-use ab_nodes::Head;
+use ab_store::Head;
 use ab_types::{Name, TypeId};
 
 /// What binds a name.

@@ -1,5 +1,5 @@
 use Rattle.std.proofs.Common.{◌≡◌, ℕ, ◌≤◌, ◌+◌, List, [], ◌∷◌, length, drop}
-use Rattle.ab_nodes.specs.declared.node.CellEntry.{CellEntry}
+use Rattle.ab_store.specs.declared.node.CellEntry.{CellEntry}
 use Rattle.ab_solving.specs.Solutions.{AreFormed, AreHeld}
 use Rattle.ab_readings.specs.Names.{Name}
 use Rattle.ab_infer.specs.Sketches.{Sketch}

@@ -1,6 +1,6 @@
 use Rattle.std.proofs.Common.{◌≡◌, ℕ, ◌+◌, ◌<◌, List, [], ◌∷◌, length, sym, ◌∙◌, ap, subst, refl, arith}
-use Rattle.ab_nodes.specs.declared.node.CellEntry.{CellEntry}
-use Rattle.ab_nodes.specs.Reading.{head_in}
+use Rattle.ab_store.specs.declared.node.CellEntry.{CellEntry}
+use Rattle.ab_store.specs.Trees.{head_in}
 use Rattle.ab_types.specs.Ids.{type_of}
 use Rattle.ab_solving.specs.declared.shape.Shape.{Shape}
 use Rattle.ab_readings.specs.Names.{Name}
