@@ -1,5 +1,5 @@
 -- What is found of an expression's readings, from the types at its marks.
-use Rattle.std.specs.Prelude.{◌≡◌, ◌≢◌, ℕ, ◌+◌, ◌<◌, List, [], ◌∷◌, length, get_or, map, Bool, true, false}
+use Rattle.std.specs.Prelude.{◌≡◌, ◌≢◌, ℕ, ◌+◌, ◌<◌, ◌≤◌, List, [], ◌∷◌, length, get_or, map, Bool, true, false}
 use Rattle.ab_term.specs.Types.{Ty, prop}
 use Rattle.ab_types.specs.Entries.{Table}
 use Rattle.ab_types.specs.Ids.{HoldsType, type_of}
@@ -57,6 +57,15 @@ pub record IsFirstOpenMark (base : ℕ) (found : List Settled) (marks : List dec
 -- the types that are found at the variables
 abbrev pub types_found : Table → List Settled → ℕ → Ty
 types_found types found i = type_of types (settled_at found i).ty
+
+-- the list is long enough, and its types are there
+abbrev pub AreFound : Table → ℕ → List Settled → Type 0
+AreFound types n found = (n ≤ length found) × ((i : ℕ) → i < length found → HoldsType types (settled_at found i).ty)
+
+abbrev pub HasTypesFound : Table → ℕ → Verdict → Type 0
+HasTypesFound types n (verdict.One found) = AreFound types n found.items
+HasTypesFound types n verdict.Nothing = Unit {0}
+HasTypesFound types n (verdict.Open p) = Unit {0}
 
 -- what is true of each verdict: exactly one of them is right
 abbrev pub IsVerdict : Table → Making → ℕ → Sketch → Ty → Verdict → Type 0

@@ -12,7 +12,7 @@ ghost use Rattle.ab_solving.specs.Settling.{settled_at};
 ghost use Rattle.ab_infer.specs.Sketches.{Sketch, Fit, count, variable_of, marks_of};
 ghost use Rattle.ab_infer.specs.Programs.{Runs, items_of, OpTyped};
 ghost use Rattle.ab_infer.specs.Inferences.{IsFormulas};
-ghost use Rattle.ab_infer.specs.Verdicts.{marks_in, mark_of, IsVerdict, AreApart, type_found, IsFirstOpenMark, IsOpenAt, HasPropAt};
+ghost use Rattle.ab_infer.specs.Verdicts.{marks_in, mark_of, IsVerdict, AreApart, type_found, IsFirstOpenMark, IsOpenAt, HasPropAt, HasTypesFound};
 
 use crate::inferring::{Formulas, infer};
 use crate::op::{Mark, Op};
@@ -111,6 +111,7 @@ pub fn decide(
     ensures verdict { IfOk result (λ verdict. (made : Making) (cells : List CellEntry) (names : List AName) (k : Sketch) →
         Runs (items_of types.old cells names steps.now) [] (k ∷ []) → Fit names [] 0 k → base ≡ count k → frees ≡ length names → AreApart names → marks_in marks.now ≡ marks_of k →
         IsVerdict types.new made base k (type_of types.old expected) verdict) }
+    ensures found { IfOk result (HasTypesFound types.new (base + frees)) }
     ensures kept { IsExtendedBy types.old types.new }
     ensures table { IsTable types.new }
 {

@@ -122,3 +122,12 @@ returns-clause-verdict c = λ made cells names k runs fit base_is frees_is apart
     (subst (λ f. (i : ℕ) → i < length c.args.marks.now → PropFree (type_found c.solve.new.types c.args.base f c.args.marks.now i)) c.deref-2.ensures.value (c.has_prop.ensures.none c.if-has_prop.false))
     (subst (λ f. (i : ℕ) → i < length c.args.marks.now → IsOpenAt c.args.base f c.args.marks.now i ≡ false) c.deref-3.ensures.value c.in-None.ensures)
     (omega (arith, c.equate.ensures.len, kept.longer, ap length first_is))
+
+pub returns-clause-found : goal.returns-clause-found
+returns-clause-found c =
+    let b = c.in_ok-shapes.ensures.items_if_clones_equal (λ y e. e) in
+    let kept = rw c.in-Some.is at c.in_ok-root.ensures.kept in
+    let sol : Solved c.args.types.now c.solve.new.types c.deref.result.now c.in-Some-2.found.items = rw c.in-Some-2.is at c.in_ok-found.ensures.solved in
+    let shapes = ap length c.deref.ensures.value in
+    (omega (arith, sol.len, shapes, c.equate.ensures.len, kept.longer, ap length b, length-replicate (c.args.base + c.args.frees) Open),
+      λ i l. sol.held i (omega (arith, l, sol.len)))

@@ -1,0 +1,5 @@
+-- What the steps of an expression have to be so that a term can be built, and the term that is built.
+pub mod Building
+pub mod Values
+pub mod Heads
+pub mod Outcomes
