@@ -5,3 +5,6 @@ pub mod Normalising
 pub mod Fitting
 pub mod Larger
 pub mod Outcomes
+pub mod HeadsKept
+pub mod Formulas
+pub mod ReadHeads

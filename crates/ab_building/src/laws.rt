@@ -1,13 +1,17 @@
 //! Laws of readings and their normal forms, each as the contract of a function that does nothing.
-ghost use Rattle.std.specs.Prelude.{ℕ, List, codes};
-ghost use Rattle.ab_term.specs.Types.{Ty};
+ghost use Rattle.std.specs.Prelude.{◌≡◌, ℕ, [], List, codes};
+ghost use Rattle.ab_term.specs.Types.{Ty, prop};
+ghost use Rattle.ab_term.specs.Names.{support};
+ghost use Rattle.ab_term.specs.Variables.{variables};
+ghost use Rattle.ab_fits.specs.Formulas.{IsFormula};
+ghost use Rattle.ab_readings.specs.Types.{PropFree};
 ghost use Rattle.ab_term.specs.Typing.{Signature, HasType};
 ghost use Rattle.ab_term.specs.Translation.{EqualPastHints};
 ghost use Rattle.ab_term.specs.Normal.{FitsType, normal};
 ghost use Rattle.ab_readings.specs.Names.{Name, Resolved};
 ghost use Rattle.ab_readings.specs.Readings.{Raw, Making, Reads};
 ghost use Rattle.ab_readings.specs.Normal.{normal_form};
-ghost use Rattle.ab_building.specs.Heads.{HeadsFit, MakesTyped};
+ghost use Rattle.ab_building.specs.Heads.{HeadsFit, MakesTyped, AreRawHeads, KnownAre, IsOrdinary, IsFixed};
 
 /// The normal form of a well-typed term is canonical, of its type; and past hints it is the one by instances.
 pub fn normal_forms_are_canonical()
@@ -20,4 +24,21 @@ pub fn normal_forms_are_canonical()
 pub fn readings_are_typed()
     ensures { (sg : Signature) (made : Making) (types : Name → Ty) → MakesTyped sg made →
         (G : List Ty) (e : Resolved) (t : Raw) (A : Ty) (As : List Ty) → HeadsFit sg e → Reads made types G e t A As → FitsType sg G t A }
+{}
+
+/// Of heads of these kinds, a normal form has none but those of the term: so at `prop` it is a formula, and it holds
+/// variables and nominal constants only where the term does.
+pub fn normal_forms_keep_heads()
+    ensures formula { (sg : Signature) (t : Raw) → FitsType sg [] t prop → AreRawHeads IsOrdinary t → IsFormula sg (normal_form sg [] t) }
+    ensures variables { (sg : Signature) (G : List Ty) (t : Raw) → AreRawHeads IsFixed t → variables (normal_form sg G t) ≡ [] }
+    ensures names { (sg : Signature) (G : List Ty) (t : Raw) → AreRawHeads IsFixed t → support (normal_form sg G t) ≡ [] }
+{}
+
+/// The heads of a reading are those of the expression, what free names stand for, equations and quantifiers, of which
+/// none is over a type that holds `prop`.
+pub fn readings_keep_heads()
+    ensures ordinary { (made : Making) (types : Name → Ty) → ((x : Name) (A : Ty) → PropFree A → IsOrdinary (made x A)) →
+        (G : List Ty) (e : Resolved) (t : Raw) (A : Ty) (As : List Ty) → KnownAre IsOrdinary (Unit {0}) e → Reads made types G e t A As → AreRawHeads IsOrdinary t }
+    ensures fixed { (made : Making) (types : Name → Ty) →
+        (G : List Ty) (e : Resolved) (t : Raw) (A : Ty) (As : List Ty) → KnownAre IsFixed ⊥ e → Reads made types G e t A As → AreRawHeads IsFixed t }
 {}
