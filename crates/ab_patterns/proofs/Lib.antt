@@ -1,0 +1,12 @@
+pub mod Kept
+pub mod Walked
+pub mod PatternedTerms
+pub mod GivenNames
+pub mod Resolved
+pub mod Listed
+pub mod Rules
+pub mod Named
+pub mod Among
+pub mod ArgumentNames
+pub mod Closed
+pub mod Keeping

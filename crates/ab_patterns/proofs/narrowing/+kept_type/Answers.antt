@@ -1,0 +1,12 @@
+use Rattle.ab_types.proofs.Entries.{type_still_held}
+use Rattle.ab_norm.proofs.Frame.{if_ok}
+use Rattle.ab_patterns.proofs.Keeping.{kept_reads}
+use Rattle.ab_patterns.proofs.narrowing.+kept_type.Goals as goal
+
+pub arrow-requires-clause-from_held : goal.arrow-requires-clause-from_held
+arrow-requires-clause-from_held t c = type_still_held c.args.types.now c.kept_type.new.types c.in_ok-left-in-Arrow.ensures.kept c.in-Arrow.from c.in-Arrow.ensures.held.0
+
+pub returns-then-first-clause-reads : goal.returns-then-first-clause-reads
+returns-then-first-clause-reads t c = if_ok c.arrow.result (λ r made.
+    kept_reads c.args.types.now c.kept_type.new.types c.arrow.new.self c.args.ty c.in-Arrow.from c.in-Arrow.to c.in_ok-left-in-Arrow.left r c.args.keep.now _ c.in-len1-up.len_at_least c.if-first.true
+    c.in_ok-left-in-Arrow.ensures.kept c.in-Arrow.ensures.held.0 c.in-Arrow.ensures.reads c.in_ok-left-in-Arrow.ensures.reads made) c.arrow.ensures.id
