@@ -244,4 +244,4 @@ closed_exactly w ss ns rs h n b stands made counted is =
 
 -- any world
 abbrev pub some_world : World
-some_world = record { types = []; store = record { nodes = []; cells = [] }; theorems = [] }
+some_world = record { types = []; store = record { nodes = []; cells = []; bindings = []; room = 0 }; theorems = [] }
