@@ -5,3 +5,7 @@ pub mod Members
 pub mod OneAnswer
 pub mod Longer
 mod Finding
+pub mod Scopes
+pub mod Parts
+pub mod Sequents
+pub mod Keeping

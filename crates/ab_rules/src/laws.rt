@@ -1,7 +1,7 @@
 //! Laws of the rules, which no other contract carries.
-ghost use Rattle.std.specs.Prelude.{◌≡◌, ℕ, List};
-ghost use Rattle.ab_logic.specs.Declarations.{Declarations, Extends};
-ghost use Rattle.ab_logic.specs.Sequents.{Sequent};
+ghost use Rattle.std.specs.Prelude.{◌≡◌, ℕ, List, All};
+ghost use Rattle.ab_logic.specs.Declarations.{Declarations, Extends, HaveSentences};
+ghost use Rattle.ab_logic.specs.Sequents.{Sequent, IsSequent};
 ghost use Rattle.ab_rules.specs.Steps.{Step};
 ghost use Rattle.ab_rules.specs.Rules.{Rule, NamedRule, Fails};
 
@@ -16,4 +16,10 @@ pub fn a_step_has_one_answer()
 pub fn rules_outlive_declarations()
     ensures longer { (D E : Declarations) → Extends D E → (step : Step) (s : Sequent) (ps : List Sequent) → Rule D step s ps → Rule E step s ps }
     ensures named { (D : Declarations) (step : Step) (s : Sequent) (ps : List Sequent) → NamedRule D step s ps → Rule D step s ps }
+{}
+
+/// Rules keep what is true of every sequent: their premises are formulas over their own variables, no two of one name,
+/// and each nominal number has one type throughout. The theorems that are used speak of no goal.
+pub fn rules_keep_sequents()
+    ensures { (D : Declarations) → HaveSentences D → (step : Step) (s : Sequent) (ps : List Sequent) → IsSequent D s → Rule D step s ps → All (IsSequent D) ps }
 {}

@@ -1,0 +1,217 @@
+-- Rules keep what is true of every sequent.
+use Rattle.std.specs.Prelude.{All, Contains, if◌then◌else◌}
+use Rattle.std.proofs.Common.{◌≡◌, ◌≢◌, ◌⊎◌, inl, inr, ℕ, List, [], ◌∷◌, ◌++◌, map, Bool, true, false, Some, refl, sym, ◌∙◌, ap, subst}
+use Rattle.std.proofs.lemmas.List.Elements.{All-cons, All-contains, Contains-append_left, Contains-append_right, Contains-append_cases, Contains-push, Contains-push_cases}
+use Rattle.ab_term.specs.Types.{Ty}
+use Rattle.ab_term.specs.Terms.{Nominal}
+use Rattle.ab_term.specs.Names.{support}
+use Rattle.ab_term.specs.Variables.{variables}
+use Rattle.ab_term.specs.Substitution.{instance}
+use Rattle.ab_term.proofs.Lists.{Contains-none, All-from_contains}
+use Rattle.ab_nodes.specs.Reading.{Read}
+use Rattle.ab_logic.specs.Formulas.{HasOneTypeEach}
+use Rattle.ab_logic.specs.Forms.{as_both, as_either, as_implies, as_for_all, as_exists, as_nabla}
+use Rattle.ab_logic.specs.Declarations.{Declarations, signature_in, theorem_in, HaveSentences}
+use Rattle.ab_logic.specs.Sequents.{Variable, Sequent, goal_names, HoldsOnly, IsSequent, formula_of, proving, assuming, without, over}
+use Rattle.ab_logic.specs.Names.{Label, Names, IsNoVariable, IsLeast}
+use Rattle.ab_rules.specs.Steps.{Step, initial, true_right, false_left, and_right, and_left, or_right, or_left, arrow_right, arrow_left, for_all_right, for_all_left, exists_right, exists_left, nabla_right, nabla_left, equal_right, equal_left, definition_right, definition_left, induction, coinduction, cut_formula, use_theorem, weaken, spec_cut, spec_instance, spec_monotone}
+use Rattle.ab_rules.specs.Row.{Takes}
+use Rattle.ab_rules.specs.Rules.{row, Rule, any_name, IsNew, IsSupport, MayName, name_term, raised, applied}
+use Rattle.ab_rules.proofs.Parts.{named_in, MayStand, IsScope, both_may, either_may, implies_may, for_all_scope, exists_scope, nabla_scope, instance_may, name_may, applied_may}
+use Rattle.ab_rules.proofs.Sequents.{IsGoal, goal_of, sequent_from, found_may, proving_goal, assuming_goal, without_goal, IsLabelled, labelled_goal, may_more, scope_more, names_more, over_goal}
+
+module _ (D : Declarations) (sentences : HaveSentences D) (s : Sequent) (is : IsSequent D s) where
+  abbrev N : List Nominal
+  N = goal_names s
+
+  goal : IsGoal D N s
+  goal = goal_of D s is
+
+  -- formulas over the goal's variables, and over one more
+  abbrev May : Read → Type 0
+  May F = MayStand (signature_in D) s.variables N F
+
+  none_kept : (ps : List Sequent) → ps ≡ [] → All (IsSequent D) ps
+  none_kept ps e = subst (All (IsSequent D)) (sym e) (All-from_contains (IsSequent D) [] (λ t c. absurd (Contains-none t c)))
+
+  one_from : (M : List Nominal) → HasOneTypeEach M → (ps : List Sequent) (a : Sequent) → ps ≡ a ∷ [] → IsGoal D M a → All (IsSequent D) ps
+  one_from M one ps a e g = subst (All (IsSequent D)) (sym e) (All-cons (IsSequent D) a [] (sequent_from D M a one g) (none_kept [] refl))
+
+  one_kept : (ps : List Sequent) (a : Sequent) → ps ≡ a ∷ [] → IsGoal D N a → All (IsSequent D) ps
+  one_kept = one_from N is.one_type
+
+  two_kept : (ps : List Sequent) (a b : Sequent) → ps ≡ a ∷ b ∷ [] → IsGoal D N a → IsGoal D N b → All (IsSequent D) ps
+  two_kept ps a b e g h =
+      subst (All (IsSequent D)) (sym e) (All-cons (IsSequent D) a (b ∷ []) (sequent_from D N a is.one_type g) (one_kept (b ∷ []) b refl h))
+
+  found : (H : List ℕ) (F : Read) → formula_of s H ≡ Some F → May F
+  found H F e = found_may D N s H F goal e
+
+  -- a new hypothesis of a goal over the same variables
+  added : (l : Label) (r t : Sequent) (L : List ℕ) (F : Read) → IsGoal D N r → r.variables ≡ s.variables → Names l r L t → May F → IsGoal D N (assuming L F t)
+  added l r t L F g same n m =
+      let lab = labelled_goal D N l r t L g n in
+      assuming_goal D N t L F lab.goal lab.new (subst (λ xs. MayStand (signature_in D) xs N F) (sym (lab.variables ∙ same)) m)
+
+  without_it : (H : List ℕ) → IsGoal D N (without H s)
+  without_it H = without_goal D N s H goal
+
+  chosen : (b : Bool) (A B : Read) → May A → May B → May (if b then A else B)
+  chosen true A B m n = m
+  chosen false A B m n = n
+
+  -- the variables with one more
+  abbrev with_one : Variable → List Variable
+  with_one x = s.variables ++ x ∷ []
+
+  -- what a quantifier's name becomes over a new variable
+  over_new : (number : ℕ) (name : List ℕ) (F : Read) (q : Ty × Read) (names : List Nominal) → May F → IsScope (signature_in D) s.variables N q → IsSupport F names
+      → MayStand (signature_in D) (with_one (raised number name q.0 names)) N (instance q.1 (applied (raised number name q.0 names) names))
+  over_new number name F q names m scope support_of =
+      let x = raised number name q.0 names in
+      instance_may (signature_in D) (with_one x) N q (applied x names)
+      (scope_more D N N (λ a c. c) s.variables (with_one x) (λ y c. Contains-append_left s.variables (x ∷ []) y c) q scope)
+      (applied_may (signature_in D) (with_one x) N number name q.0 names (Contains-push s.variables x)
+      (All-from_contains (Contains N) names (λ a c. m.names a ((support_of.same a).0 c))))
+
+  -- a nominal constant more
+  one_more : (A : Ty) (n : ℕ) → All (λ (b : Nominal). b.number ≡ n → b.type ≡ A) N → HasOneTypeEach (N ++ record { number = n; type = A } ∷ [])
+  one_more A n types a b c d e =
+      let new : Nominal = record { number = n; type = A } in
+      elim (Contains-push_cases N new a c) [
+        | inl f ↦ elim (Contains-push_cases N new b d) [
+          | inl g ↦ is.one_type a b f g e
+          | inr g ↦ same_as a b (e ∙ sym (ap (λ (x : Nominal). x.number) g)) (All-contains (λ (x : Nominal). x.number ≡ n → x.type ≡ A) N a types f) g
+        ]
+        | inr f ↦ elim (Contains-push_cases N new b d) [
+          | inl g ↦ sym (same_as b a (sym e ∙ sym (ap (λ (x : Nominal). x.number) f)) (All-contains (λ (x : Nominal). x.number ≡ n → x.type ≡ A) N b types g) f)
+          | inr g ↦ sym f ∙ g
+        ]
+      ]
+    where
+      same_as : (x y : Nominal) → x.number ≡ n → (x.number ≡ n → x.type ≡ A) → record { number = n; type = A } ≡ y → x ≡ y
+      same_as x y number type f = ap (λ m. record { number = m; type = x.type }) number ∙ ap (λ B. record { number = n; type = B }) (type number) ∙ f
+
+  module _ (F : Read) (q : Ty × Read) (n : ℕ) (scope : IsScope (signature_in D) s.variables N q) (may : MayName s F q.0 n) where
+    abbrev M : List Nominal
+    M = N ++ record { number = n; type = q.0 } ∷ []
+
+    more : (a : Nominal) → Contains N a → Contains M a
+    more a c = Contains-append_left N (record { number = n; type = q.0 } ∷ []) a c
+
+    one : HasOneTypeEach M
+    one = one_more q.0 n may.one_type
+
+    with_constant : MayStand (signature_in D) s.variables M (instance q.1 (name_term (record { number = n; type = q.0 })))
+    with_constant =
+        instance_may (signature_in D) s.variables M q (name_term (record { number = n; type = q.0 }))
+        (scope_more D N M more s.variables s.variables (λ x c. c) q scope)
+        (name_may (signature_in D) s.variables M (record { number = n; type = q.0 }) (Contains-push N (record { number = n; type = q.0 })))
+
+  theorem_may : (n : List ℕ) (F : Read) → theorem_in D n ≡ Some F → May F
+  theorem_may n F e =
+      let sentence = sentences n F e in
+      record {
+        formula = sentence.formula;
+        closed = All-from_contains (Contains (map named_in s.variables)) (variables F) (λ v c. absurd (Contains-none v (subst (λ vs. Contains vs v) sentence.closed c)));
+        names = λ a c. absurd (Contains-none a (subst (λ ns. Contains ns a) sentence.nameless c));
+      }
+
+  kept_from : (number : ℕ) (new : IsNew number s) (step : Step) (ps : List Sequent) → Takes (row D (any_name number s) step s) ps → All (IsSequent D) ps
+  kept_from number new (initial H) ps t = none_kept ps t.2.1.1
+  kept_from number new true_right ps t = none_kept ps t.2
+  kept_from number new (false_left H) ps t = none_kept ps t.2.2
+  kept_from number new and_right ps t =
+      let both = both_may (signature_in D) s.variables N s.conclusion t.0 goal.conclusion t.1 in
+      two_kept ps (proving t.0.0 s) (proving t.0.1 s) t.2 (proving_goal D N s t.0.0 goal both.0) (proving_goal D N s t.0.1 goal both.1)
+  kept_from number new (and_left H l m) ps t =
+      let p = t.2.0 in
+      let both = both_may (signature_in D) s.variables N t.0 p (found H t.0 t.1) t.2.1 in
+      let first = added l (without H s) t.2.2.1 t.2.2.0 p.0 (without_it H) refl t.2.2.2 both.0 in
+      let lab = labelled_goal D N l (without H s) t.2.2.1 t.2.2.0 (without_it H) t.2.2.2 in
+      let second = added m (assuming t.2.2.0 p.0 t.2.2.1) t.2.2.3.1 t.2.2.3.0 p.1 first lab.variables t.2.2.3.2 both.1 in
+      one_kept ps (assuming t.2.2.3.0 p.1 t.2.2.3.1) t.2.2.3.3 second
+  kept_from number new (or_right b) ps t =
+      let either = either_may (signature_in D) s.variables N s.conclusion t.0 goal.conclusion t.1 in
+      one_kept ps (proving (if b then t.0.0 else t.0.1) s) t.2 (proving_goal D N s (if b then t.0.0 else t.0.1) goal (chosen b t.0.0 t.0.1 either.0 either.1))
+  kept_from number new (or_left H l) ps t =
+      let p = t.2.0 in
+      let either = either_may (signature_in D) s.variables N t.0 p (found H t.0 t.1) t.2.1 in
+      two_kept ps (assuming t.2.2.0 p.0 t.2.2.1) (assuming t.2.2.0 p.1 t.2.2.1) t.2.2.3
+      (added l (without H s) t.2.2.1 t.2.2.0 p.0 (without_it H) refl t.2.2.2 either.0)
+      (added l (without H s) t.2.2.1 t.2.2.0 p.1 (without_it H) refl t.2.2.2 either.1)
+  kept_from number new (arrow_right l) ps t =
+      let p = t.0 in
+      let both = implies_may (signature_in D) s.variables N s.conclusion p goal.conclusion t.1 in
+      let lab = labelled_goal D N l s t.2.1 t.2.0 goal t.2.2 in
+      one_kept ps (proving p.1 (assuming t.2.0 p.0 t.2.1)) t.2.3
+      (proving_goal D N (assuming t.2.0 p.0 t.2.1) p.1 (added l s t.2.1 t.2.0 p.0 goal refl t.2.2 both.0)
+      (subst (λ xs. MayStand (signature_in D) xs N p.1) (sym lab.variables) both.1))
+  kept_from number new (arrow_left H l) ps t =
+      let p = t.2.0 in
+      let both = implies_may (signature_in D) s.variables N t.0 p (found H t.0 t.1) t.2.1 in
+      two_kept ps (proving p.0 s) (assuming t.2.2.0 p.1 t.2.2.1) t.2.2.3
+      (proving_goal D N s p.0 goal both.0) (added l s t.2.2.1 t.2.2.0 p.1 goal refl t.2.2.2 both.1)
+  kept_from number new for_all_right ps t =
+      let q = t.0 in
+      let names = t.2.0.0 in
+      let name = t.2.0.1 in
+      let x = raised number name q.0 names in
+      let scope = for_all_scope (signature_in D) s.variables N s.conclusion q goal.conclusion t.1 in
+      one_kept ps (proving (instance q.1 (applied x names)) (over x s)) t.2.2
+      (proving_goal D N (over x s) (instance q.1 (applied x names)) (over_goal D N s x goal new t.2.1.1)
+      (over_new number name s.conclusion q names goal.conclusion scope t.2.1.0))
+  kept_from number new (for_all_left H u l) ps t = absurd t.0
+  kept_from number new (exists_right u) ps t = absurd t.0
+  kept_from number new (exists_left H l) ps t =
+      let q = t.2.0 in
+      let L = t.2.2.0 in
+      let s1 = t.2.2.1 in
+      let names = t.2.2.3.0.0 in
+      let name = t.2.2.3.0.1 in
+      let x = raised number name q.0 names in
+      let m = found H t.0 t.1 in
+      let scope = exists_scope (signature_in D) s.variables N t.0 q m t.2.1 in
+      let lab = labelled_goal D N l (without H s) s1 L (without_it H) t.2.2.2 in
+      one_kept ps (assuming L (instance q.1 (applied x names)) (over x s1)) t.2.2.3.2
+      (assuming_goal D N (over x s1) L (instance q.1 (applied x names))
+      (over_goal D N s1 x lab.goal (subst (All (λ (y : Variable). y.number ≢ number)) (sym lab.variables) new) (subst (All (λ (y : Variable). y.name ≢ name)) (sym lab.variables) t.2.2.3.1.1))
+      lab.new
+      (subst (λ xs. MayStand (signature_in D) (xs ++ x ∷ []) N (instance q.1 (applied x names))) (sym lab.variables) (over_new number name t.0 q names m scope t.2.2.3.1.0)))
+  kept_from number new nabla_right ps t =
+      let q = t.0 in
+      let n = t.2.0 in
+      let may = t.2.1.has in
+      let scope = nabla_scope (signature_in D) s.variables N s.conclusion q goal.conclusion t.1 in
+      let K = M s.conclusion q n scope may in
+      one_from K (one s.conclusion q n scope may) ps (proving (instance q.1 (name_term (record { number = n; type = q.0 }))) s) t.2.2
+      (proving_goal D K s (instance q.1 (name_term (record { number = n; type = q.0 }))) (names_more D N K (more s.conclusion q n scope may) s goal) (with_constant s.conclusion q n scope may))
+  kept_from number new (nabla_left H l) ps t =
+      let q = t.2.0 in
+      let L = t.2.2.0 in
+      let s1 = t.2.2.1 in
+      let n = t.2.2.3.0 in
+      let may = t.2.2.3.1.has in
+      let scope = nabla_scope (signature_in D) s.variables N t.0 q (found H t.0 t.1) t.2.1 in
+      let lab = labelled_goal D N l (without H s) s1 L (without_it H) t.2.2.2 in
+      let K = M t.0 q n scope may in
+      one_from K (one t.0 q n scope may) ps (assuming L (instance q.1 (name_term (record { number = n; type = q.0 }))) s1) t.2.2.3.2
+      (assuming_goal D K s1 L (instance q.1 (name_term (record { number = n; type = q.0 }))) (names_more D N K (more t.0 q n scope may) s1 lab.goal) lab.new
+      (subst (λ xs. MayStand (signature_in D) xs K (instance q.1 (name_term (record { number = n; type = q.0 })))) (sym lab.variables) (with_constant t.0 q n scope may)))
+  kept_from number new equal_right ps t = none_kept ps t.2.1
+  kept_from number new (equal_left H) ps t = absurd t.0
+  kept_from number new (definition_right i) ps t = absurd t.0
+  kept_from number new (definition_left H l) ps t = absurd t.0
+  kept_from number new (induction n l) ps t = absurd t.0
+  kept_from number new (coinduction l) ps t = absurd t.0
+  kept_from number new (cut_formula F l) ps t = absurd t.0
+  kept_from number new (use_theorem n l) ps t =
+      one_kept ps (assuming t.2.0 t.0 t.2.1) t.2.3 (added l s t.2.1 t.2.0 t.0 goal refl t.2.2 (theorem_may n t.0 t.1))
+  kept_from number new (weaken H) ps t = one_kept ps (without H s) t.2 (without_it H)
+  kept_from number new (spec_cut H K l) ps t = absurd t.0
+  kept_from number new (spec_instance H rs l) ps t = absurd t.0
+  kept_from number new (spec_monotone H K l) ps t = absurd t.0
+
+-- RULES KEEP WHAT IS TRUE OF EVERY SEQUENT
+pub kept_by_rule : (D : Declarations) → HaveSentences D → (step : Step) (s : Sequent) (ps : List Sequent) → IsSequent D s → Rule D step s ps → All (IsSequent D) ps
+kept_by_rule D sentences step s ps is r = kept_from D sentences s is r.0 r.1 step ps r.2
