@@ -1,24 +1,22 @@
 -- Rules keep what is true of every sequent.
 use Rattle.std.specs.Prelude.{All, Contains, if◌then◌else◌}
-use Rattle.std.proofs.Common.{◌≡◌, ◌≢◌, ◌⊎◌, inl, inr, ℕ, List, [], ◌∷◌, ◌++◌, map, Bool, true, false, Some, refl, sym, ◌∙◌, ap, subst}
-use Rattle.std.proofs.lemmas.List.Elements.{All-cons, All-contains, Contains-append_left, Contains-append_right, Contains-append_cases, Contains-push, Contains-push_cases}
+use Rattle.std.proofs.Common.{◌≡◌, ◌≢◌, inl, inr, ℕ, List, [], ◌∷◌, ◌++◌, map, Bool, true, false, Some, refl, sym, ◌∙◌, ap, subst}
+use Rattle.std.proofs.lemmas.List.Elements.{All-cons, All-contains, Contains-append_left, Contains-push, Contains-push_cases}
 use Rattle.ab_term.specs.Types.{Ty}
 use Rattle.ab_term.specs.Terms.{Nominal}
-use Rattle.ab_term.specs.Names.{support}
 use Rattle.ab_term.specs.Variables.{variables}
 use Rattle.ab_term.specs.Substitution.{instance}
 use Rattle.ab_term.proofs.Lists.{Contains-none, All-from_contains}
 use Rattle.ab_nodes.specs.Reading.{Read}
 use Rattle.ab_logic.specs.Formulas.{HasOneTypeEach}
-use Rattle.ab_logic.specs.Forms.{as_both, as_either, as_implies, as_for_all, as_exists, as_nabla}
 use Rattle.ab_logic.specs.Declarations.{Declarations, signature_in, theorem_in, HaveSentences}
-use Rattle.ab_logic.specs.Sequents.{Variable, Sequent, goal_names, HoldsOnly, IsSequent, formula_of, proving, assuming, without, over}
-use Rattle.ab_logic.specs.Names.{Label, Names, IsNoVariable, IsLeast}
+use Rattle.ab_logic.specs.Sequents.{Variable, Sequent, goal_names, IsSequent, formula_of, proving, assuming, without, over}
+use Rattle.ab_logic.specs.Names.{Label, Names}
 use Rattle.ab_rules.specs.Steps.{Step, initial, true_right, false_left, and_right, and_left, or_right, or_left, arrow_right, arrow_left, for_all_right, for_all_left, exists_right, exists_left, nabla_right, nabla_left, equal_right, equal_left, definition_right, definition_left, induction, coinduction, cut_formula, use_theorem, weaken, spec_cut, spec_instance, spec_monotone}
 use Rattle.ab_rules.specs.Row.{Takes}
 use Rattle.ab_rules.specs.Rules.{row, Rule, any_name, IsNew, IsSupport, MayName, name_term, raised, applied}
 use Rattle.ab_rules.proofs.Parts.{named_in, MayStand, IsScope, both_may, either_may, implies_may, for_all_scope, exists_scope, nabla_scope, instance_may, name_may, applied_may}
-use Rattle.ab_rules.proofs.Sequents.{IsGoal, goal_of, sequent_from, found_may, proving_goal, assuming_goal, without_goal, IsLabelled, labelled_goal, may_more, scope_more, names_more, over_goal}
+use Rattle.ab_rules.proofs.Sequents.{IsGoal, goal_of, sequent_from, found_may, proving_goal, assuming_goal, without_goal, labelled_goal, scope_more, names_more, over_goal}
 
 module _ (D : Declarations) (sentences : HaveSentences D) (s : Sequent) (is : IsSequent D s) where
   abbrev N : List Nominal

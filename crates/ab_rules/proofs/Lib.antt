@@ -9,3 +9,4 @@ pub mod Scopes
 pub mod Parts
 pub mod Sequents
 pub mod Keeping
+pub mod OneList

@@ -1,15 +1,14 @@
 -- Formulas that may stand in a sequent, and that their parts may stand there too.
 use Rattle.std.specs.Prelude.{IfSome, All, Contains}
-use Rattle.std.proofs.Common.{◌≡◌, ◌⊎◌, inl, inr, ℕ, List, [], ◌∷◌, ◌++◌, map, Option, Some, None, codes, refl, sym, ◌∙◌, ap, subst}
-use Rattle.std.proofs.lemmas.List.Elements.{All-weaker, All-head, All-tail, All-cons, Contains-append_left, Contains-append_right, Contains-append_cases, All-contains}
-use Rattle.ab_term.specs.Types.{Ty, kind, arrow, arrows, prop}
+use Rattle.std.proofs.Common.{◌≡◌, inl, inr, ℕ, List, [], ◌∷◌, ◌++◌, map, Some, codes, refl, sym, ◌∙◌, ap, subst}
+use Rattle.std.proofs.lemmas.List.Elements.{All-head, All-tail, All-cons, Contains-append_left, Contains-append_right, All-contains}
+use Rattle.ab_term.specs.Types.{Ty, arrow, arrows, prop}
 use Rattle.ab_term.specs.Logical as plain
 use Rattle.ab_term.specs.Logical.{Logical, conjunction, disjunction, implication, universal, existential}
 use Rattle.ab_term.specs.Terms as tree
 use Rattle.ab_term.specs.Terms.{Nominal, Head, constant, logical, nominal, variable, index, lam, spine, Terms, no_terms, term, terms_of}
-use Rattle.ab_term.specs.Typing.{Signature, HasType, TakeType, typed_lam, typed_spine, take_none, take_term}
+use Rattle.ab_term.specs.Typing.{Signature, HasType, TakeType, typed_spine, take_none, take_term}
 use Rattle.ab_term.specs.Substitution.{instance, instance_by_all}
-use Rattle.ab_term.specs.Expansion.{expansion}
 use Rattle.ab_term.specs.Names.{support, support_of_all}
 use Rattle.ab_term.specs.Variables.{variables, variables_of_all}
 use Rattle.ab_term.proofs.Lists.{Contains-none, Contains-cases, Contains-map, All-from_contains}

@@ -1,12 +1,10 @@
 -- A formula stays one where a term is put in for a bound name: names at which a part that is a formula begins are
 -- never replaced.
 use Rattle.std.proofs.Common.{ℕ, zero, suc, List}
-use Rattle.ab_term.specs.Types.{Ty}
-use Rattle.ab_term.specs.Logical.{Logical, judgement, focused_judgement}
 use Rattle.ab_term.specs.Terms.{Head, constant, logical, nominal, variable, index, lam, spine, Terms, no_terms, term}
 use Rattle.ab_term.specs.Substitution.{shift, lower_head, put, substitute_by, substitute_all_by, reduce, instance}
 use Rattle.ab_nodes.specs.Reading.{Read}
-use Rattle.ab_logic.specs.Formulas.{Place, a_formula, a_scope, a_marked, any, places_of, places_of_constant, IsRigid, IsAtomic, StandsIn, AllStandIn}
+use Rattle.ab_logic.specs.Formulas.{Place, a_formula, a_scope, a_marked, any, places_of, IsRigid, IsAtomic, StandsIn, AllStandIn}
 
 abbrev Apply : Type 0
 Apply = Read → Terms ℕ (List ℕ) → Read

@@ -3,12 +3,17 @@ ghost use Rattle.std.specs.Prelude.{◌≡◌, ℕ, List, All};
 ghost use Rattle.ab_logic.specs.Declarations.{Declarations, Extends, HaveSentences};
 ghost use Rattle.ab_logic.specs.Sequents.{Sequent, IsSequent};
 ghost use Rattle.ab_rules.specs.Steps.{Step};
-ghost use Rattle.ab_rules.specs.Rules.{Rule, NamedRule, Fails};
+ghost use Rattle.ab_rules.specs.Row.{Takes};
+ghost use Rattle.ab_rules.specs.Rules.{row, by_hint, Rule, NamedRule, Fails};
 
-/// A step at a goal has one answer: a list of premises, or one first condition that fails.
+/// A step at a goal has one answer: a list of premises, or one first condition that fails. Where a rule makes a new
+/// variable, its number is free; once it is chosen the list is one, with the variable's name, the constants that it may
+/// depend on, and the constant for the name of a `nabla`.
 pub fn a_step_has_one_answer()
     ensures apart { (D : Declarations) (step : Step) (s : Sequent) (ps : List Sequent) (i : ℕ) → Rule D step s ps → Fails D step s i → ⊥ }
     ensures one_condition { (D : Declarations) (step : Step) (s : Sequent) (i j : ℕ) → Fails D step s i → Fails D step s j → i ≡ j }
+    ensures one_list { (D : Declarations) (number : ℕ) (step : Step) (s : Sequent) (ps qs : List Sequent) → IsSequent D s →
+        Takes (row D (by_hint D number s) step s) ps → Takes (row D (by_hint D number s) step s) qs → ps ≡ qs }
 {}
 
 /// What is taken by its rule from a list of declarations is taken by it from a longer one; and a variable that is named
