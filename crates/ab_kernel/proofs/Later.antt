@@ -8,7 +8,7 @@ use Rattle.ab_types.specs.Ids.{type_of}
 use Rattle.ab_types.proofs.Entries.{same_type, holds_type}
 use Rattle.ab_logic.specs.Worlds.{HoldsCell, Holds, variable_of, read, declarations_of}
 use Rattle.ab_logic.specs.Growth.{Grows}
-use Rattle.ab_logic.specs.Sequents.{Variable, Sequent}
+use Rattle.ab_logic.specs.Sequents.{Variable, Sequent, IsSequent}
 use Rattle.ab_logic.specs.Readings.{sequent_of, HoldsSequent}
 use Rattle.ab_logic.specs.declared.world.World.{World}
 use Rattle.ab_logic.specs.declared.sequent.Sequent.{Sequent as Kept}
@@ -22,9 +22,10 @@ use Rattle.ab_kernel.specs.Layout.{StepAt, steps_in}
 use Rattle.ab_rules.specs.Answers.{step_of, HoldsStep, label_of, replacements}
 use Rattle.ab_rules.specs.Steps as plain
 use Rattle.ab_rules.specs.Rules.{IsNew}
-use Rattle.ab_kernel.specs.Derivation.{Derivation, Valid, History, after}
+use Rattle.ab_kernel.specs.Derivation.{Derivation, root, Valid, History, after}
 use Rattle.ab_kernel.specs.Layout.{Held, premises_of, sequents_before, made_by, history_of, IsProof}
 use Rattle.ab_kernel.proofs.Refining.{still_valid}
+use Rattle.ab_kernel.proofs.Rooted.{still_sequent}
 
 -- the number of a new cell is no variable's
 pub new_number : (w : World) (s : Kept) → HoldsSequent w s → IsNew (length w.store.cells) (sequent_of w s)
@@ -124,6 +125,9 @@ module _ (w v : World) (grown : Grows w v) where
   still_proof p proof = record {
     sequents = All-weaker (HoldsSequent w) (HoldsSequent v) (still_held w v grown) (sequents_in p.nodes) proof.sequents;
     steps = All-weaker (λ (r : StepAt). HoldsStep w r.step) (λ (r : StepAt). HoldsStep v r.step) (λ r. still_step r.step) (steps_in p.nodes p.journal) proof.steps;
+    rooted =
+        subst (λ (h : History). IsSequent (declarations_of v) (root h.tree)) (sym (same_history p proof))
+        (still_sequent (declarations_of w) (declarations_of v) grown.declarations (root (history_of w p).tree) proof.rooted);
     valid = subst (λ (h : History). Valid (declarations_of v) h.tree) (sym (same_history p proof)) (still_valid (declarations_of w) (declarations_of v) grown.declarations (history_of w p).tree proof.valid);
     was_valid =
         subst (λ (h : History). All (Valid (declarations_of v)) h.earlier) (sym (same_history p proof))

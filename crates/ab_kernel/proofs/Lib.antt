@@ -10,3 +10,4 @@ pub mod Later
 pub mod Refines
 pub mod Back
 pub mod Adding
+pub mod Rooted

@@ -6,7 +6,7 @@ use Rattle.std.proofs.lemmas.List.Elements.{All-cons, All-append, All-weaker}
 use Rattle.ab_logic.specs.Growth.{Grows}
 use Rattle.ab_logic.specs.Declarations.{Declarations}
 use Rattle.ab_logic.specs.Worlds.{declarations_of}
-use Rattle.ab_logic.specs.Sequents.{Sequent}
+use Rattle.ab_logic.specs.Sequents.{Sequent, IsSequent}
 use Rattle.ab_logic.specs.Readings.{sequent_of, HoldsSequent}
 use Rattle.ab_logic.specs.declared.world.World.{World}
 use Rattle.ab_logic.specs.declared.sequent.Sequent.{Sequent as Kept}
@@ -19,18 +19,19 @@ use Rattle.ab_rules.specs.Row.{FailsFirst}
 use Rattle.ab_rules.specs.Rules.{row, Rule, NamedRule, Fails, any_name, by_hint}
 use Rattle.ab_rules.proofs.Longer.{any_named}
 use Rattle.ab_rules.specs.Answers.{Answers, row_at, step_of, HoldsStep, IsMemory}
-use Rattle.ab_kernel.specs.Derivation.{Derivation, Valid, goal_at, GoalFails, History, after, refined, IsStep}
+use Rattle.ab_kernel.specs.Derivation.{Derivation, root, Valid, goal_at, GoalFails, History, after, refined, IsStep}
 use Rattle.ab_kernel.specs.Layout.{Held, Stands, history_of, IsProof}
 use Rattle.std.proofs.lemmas.List.{length-map}
 use Rattle.std.proofs.lemmas.Option.{slice_get_within}
 use Rattle.ab_kernel.specs.declared.node.ProofNode.{ProofNode}
 use Rattle.ab_kernel.specs.declared.proving.Refinement.{Refinement}
 use Rattle.ab_kernel.proofs.Filling.{sequent_read}
+use Rattle.ab_kernel.proofs.Rooted.{still_sequent}
 use Rattle.ab_kernel.proofs.Standing.{reads_now, leads}
 use Rattle.ab_kernel.proofs.Taking.{goal_taken}
 use Rattle.ab_rules.proofs.OneAnswer.{never_both, one_failure, any_new}
 use Rattle.ab_kernel.proofs.Later.{new_number, same_step, still_step, still_proof, same_history}
-use Rattle.ab_kernel.proofs.Refining.{Valid-refined, still_valid}
+use Rattle.ab_kernel.proofs.Refining.{root-refined, Valid-refined, still_valid}
 
 -- the goal's sequent is there
 pub held_at : (w : World) (items : List Kept) (n : ℕ) (x : Kept) → All (HoldsSequent w) items → n < length items → x ≡ get_or items n x → HoldsSequent w x
@@ -95,6 +96,10 @@ module _ (w v : World) (grown : Grows w v) (p q : Held) (proof : IsProof w p) (k
       record {
         sequents = subst (All (HoldsSequent v)) (sym sequents) (All-append (HoldsSequent v) (sequents_in p.nodes) made still.sequents held);
         steps = subst (All (λ (r : StepAt). HoldsStep v r.step)) (sym steps) (All-cons (λ (r : StepAt). HoldsStep v r.step) r (steps_in p.nodes p.journal) there still.steps);
+        rooted =
+            subst (λ (h : History). IsSequent (declarations_of v) (root h.tree)) (sym is)
+            (subst (IsSequent (declarations_of v)) (sym (root-refined (step_of v kept) (map (sequent_of v) made) place (history_of w p).tree))
+            (still_sequent (declarations_of w) (declarations_of v) grown.declarations (root (history_of w p).tree) proof.rooted));
         valid =
             subst (λ (h : History). Valid (declarations_of v) h.tree) (sym is)
             (still_valid (declarations_of w) (declarations_of v) grown.declarations (refined place (step_of v kept) (map (sequent_of v) made) (history_of w p).tree)

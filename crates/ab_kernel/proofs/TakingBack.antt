@@ -7,7 +7,7 @@ use Rattle.ab_kernel.specs.Nodes.{sequents_in}
 use Rattle.ab_kernel.specs.Layout.{StepAt, steps_in}
 use Rattle.ab_logic.specs.declared.world.World.{World}
 use Rattle.ab_logic.specs.declared.sequent.Sequent.{Sequent as Kept}
-use Rattle.ab_logic.specs.Sequents.{Sequent}
+use Rattle.ab_logic.specs.Sequents.{Sequent, IsSequent}
 use Rattle.ab_logic.specs.Readings.{sequent_of, HoldsSequent}
 use Rattle.ab_rules.specs.Answers.{HoldsStep}
 use Rattle.ab_logic.specs.Worlds.{declarations_of}
@@ -109,13 +109,15 @@ taken_back w items items' ns ns' r rs room at count h there left whole is_count 
 -- the proof before its last step is one
 pub proof_before : (w : World) (nodes : List ProofNode) (r : Refinement) (js : List Refinement)
     → history_of w (record { nodes = nodes_before r nodes; journal = js }) ≡ undone 1 (history_of w (record { nodes = nodes; journal = r ∷ js }))
+    → root (history_of w (record { nodes = nodes_before r nodes; journal = js })).tree ≡ root (history_of w (record { nodes = nodes; journal = r ∷ js })).tree
     → IsProof w (record { nodes = nodes; journal = r ∷ js }) → IsProof w (record { nodes = nodes_before r nodes; journal = js })
-proof_before w nodes r js is proof =
+proof_before w nodes r js is root_is proof =
     let step : StepAt = record { step = step_held (node_at nodes r.node); place = r.place; node = r.node; premises = r.premises } in
     let before = made_by w (sequents_before step (map (sequent_of w) (sequents_in nodes))) (steps_in (nodes_before r nodes) js) in
     record {
       sequents = subst (All (HoldsSequent w)) (sym (sequents-before r nodes)) (All-take (HoldsSequent w) (length nodes - r.premises) (sequents_in nodes) proof.sequents);
       steps = All-tail (λ (k : StepAt). HoldsStep w k.step) step (steps_in (nodes_before r nodes) js) proof.steps;
+      rooted = subst (IsSequent (declarations_of w)) (sym root_is) proof.rooted;
       valid = subst (λ (h : History). Valid (declarations_of w) h.tree) (sym is) (All-head (Valid (declarations_of w)) before.tree before.earlier proof.was_valid);
       was_valid = subst (λ (h : History). All (Valid (declarations_of w)) h.earlier) (sym is) (All-tail (Valid (declarations_of w)) before.tree before.earlier proof.was_valid);
     }

@@ -2,7 +2,8 @@
 use Rattle.std.specs.Prelude.{◌≡◌, ℕ, zero, suc, ◌+◌, ◌-◌, ◌≤◌, List, [], ◌∷◌, ◌++◌, length, take, drop, Option, Some, slice_get, nat_lt, if◌then◌else◌}
 use Rattle.ab_store.specs.Trees.{Read}
 use Rattle.ab_logic.specs.Sequents.{Sequent}
-use Rattle.ab_logic.specs.Declarations.{Declarations}
+use Rattle.ab_logic.specs.Declarations.{Declarations, signature_in}
+use Rattle.ab_logic.specs.Formulas.{IsSentence}
 use Rattle.ab_rules.specs.Steps.{Step}
 use Rattle.ab_rules.specs.Rules.{Rule, NamedRule, Fails}
 
@@ -53,8 +54,9 @@ goal_at d place = slice_get (open_goals d) place
 abbrev pub proves : Read → ℕ → Sequent
 proves F counter = record { variables = []; hypotheses = []; conclusion = F; counter = counter }
 
--- A DERIVATION OF THE FORMULA from the declarations
+-- A DERIVATION OF THE FORMULA, which speaks of no goal, from the declarations
 pub record IsDerivation (D : Declarations) (F : Read) (d : Derivation) : Type 0 where
+  pub sentence : IsSentence (signature_in D) F
   pub valid : Valid D d
   pub closed : open_goals d ≡ []
   pub derives : root d ≡ proves F 0

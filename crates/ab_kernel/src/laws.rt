@@ -1,12 +1,13 @@
 //! Laws of derivations, which no other contract carries.
-ghost use Rattle.std.specs.Prelude.{◌≡◌, ℕ, ◌+◌, List, ◌∷◌, ◌++◌, length, Some};
-ghost use Rattle.ab_logic.specs.Declarations.{Declarations, Extends};
+ghost use Rattle.std.specs.Prelude.{◌≡◌, ℕ, ◌+◌, List, ◌∷◌, ◌++◌, length, Some, All};
+ghost use Rattle.ab_logic.specs.Declarations.{Declarations, Extends, HaveSentences};
+ghost use Rattle.ab_logic.specs.Worlds.{declarations_of, IsWorld};
 ghost use Rattle.ab_logic.specs.Growth.{Grows};
-ghost use Rattle.ab_logic.specs.Sequents.{Sequent};
+ghost use Rattle.ab_logic.specs.Sequents.{Sequent, IsSequent};
 ghost use Rattle.ab_logic.specs.declared.world.World.{World};
 ghost use Rattle.ab_rules.specs.Steps.{Step};
 ghost use Rattle.ab_rules.specs.Rules.{Rule, NamedRule, Fails};
-ghost use Rattle.ab_kernel.specs.Derivation.{Derivation, Valid, goal_at, refined, open_goals, History, IsStep, GoalFails, undone, Above};
+ghost use Rattle.ab_kernel.specs.Derivation.{Derivation, root, Valid, goal_at, refined, open_goals, History, IsStep, GoalFails, undone, Above};
 ghost use Rattle.ab_kernel.specs.Layout.{Held, IsProof, history_of};
 
 /// A step that is taken by its rule at an open goal keeps a derivation valid.
@@ -42,4 +43,10 @@ pub fn steps_add_up()
     ensures one { (D : Declarations) (place n : ℕ) (step : Step) (old new : History) → IsStep D place step n old new → Above old new }
     ensures more { (h k m : History) → Above h k → Above k m → Above h m }
     ensures undone { (h : History) (n m : ℕ) → undone m (undone n h) ≡ undone (n + m) h }
+{}
+
+/// The goals that are open in a valid derivation are sequents, where its root is one; so are those of a proof.
+pub fn open_goals_are_sequents()
+    ensures derivation { (D : Declarations) → HaveSentences D → (d : Derivation) → Valid D d → IsSequent D (root d) → All (IsSequent D) (open_goals d) }
+    ensures proof { (w : World) → IsWorld w → (p : Held) → IsProof w p → All (IsSequent (declarations_of w)) (open_goals (history_of w p).tree) }
 {}

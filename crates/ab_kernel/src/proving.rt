@@ -9,7 +9,7 @@ ghost use Rattle.ab_store.specs.Trees.{Read};
 ghost use Rattle.ab_term.specs.Names.{support};
 ghost use Rattle.ab_term.specs.Variables.{variables};
 ghost use Rattle.ab_logic.specs.Declarations.{signature_in};
-ghost use Rattle.ab_logic.specs.Formulas.{IsFormula, HasOneTypeEach};
+ghost use Rattle.ab_logic.specs.Formulas.{IsFormula, IsSentence, HasOneTypeEach};
 ghost use Rattle.ab_rules.specs.Answers.{step_of, HoldsStep, IsMemory};
 ghost use Rattle.ab_rules.specs.declared.step.KernelFault.{KernelFault};
 ghost use Rattle.ab_kernel.specs.Derivation.{root, Valid, open_goals, goal_at, IsDerivation, beginning, proves, IsStep, GoalFails, undone};
@@ -250,7 +250,7 @@ impl Proof {
     /// Whether no goal is open. Then the formula that the proof began with is derived.
     pub fn is_closed(&self) -> bool
         ensures closed { (w : AWorld) → IsTrue result ↔ (open_goals (history_of w self.now).tree ≡ []) }
-        ensures derivation { (w : AWorld) (F : Read) → IsTrue result → IsProof w self.now →
+        ensures derivation { (w : AWorld) (F : Read) → IsTrue result → IsProof w self.now → IsSentence (signature_in (declarations_of w)) F →
             root (history_of w self.now).tree ≡ proves F 0 → IsDerivation (declarations_of w) F (history_of w self.now).tree }
     {
         self.open.is_empty()

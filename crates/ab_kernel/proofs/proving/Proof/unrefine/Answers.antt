@@ -153,6 +153,10 @@ pub returns-in-Some-clause-undone : goal.returns-in-Some-clause-undone
 returns-in-Some-clause-undone g c =
     λ w. made g c w
 
+pub returns-in-Some-clause-root : goal.returns-in-Some-clause-root
+returns-in-Some-clause-root g c =
+    λ w. ap (λ (rs : List StepAt). root (made_by w (map (sequent_of w) (sequents_in c.clear_at.new.nodes.items)) rs).tree) (sym (steps g c)) ∙ (back g c w).rooted
+
 pub returns-in-Some-clause-proof : goal.returns-in-Some-clause-proof
 returns-in-Some-clause-proof g c =
     λ w proof.
@@ -162,12 +166,10 @@ returns-in-Some-clause-proof g c =
     sym c.self.view_is ∙ ap (λ (ks : List Refinement). record { nodes = nodes; journal = ks }) (last_step c.self.inside.journal.items c.pop.new.self.items r c.in-Some.ensures.items) in
     let is : history_of w (record { nodes = nodes_before r nodes; journal = reverse c.pop.new.self.items }) ≡ undone 1 (history_of w (record { nodes = nodes; journal = r ∷ reverse c.pop.new.self.items })) =
     ap (λ (ns : List ProofNode). history_of w (record { nodes = ns; journal = reverse c.pop.new.self.items })) (sym (before g c)) ∙ made g c w ∙ ap (λ (p : Held). undone 1 (history_of w p)) same in
+    let rooted : root (history_of w (record { nodes = nodes_before r nodes; journal = reverse c.pop.new.self.items })).tree ≡ root (history_of w (record { nodes = nodes; journal = r ∷ reverse c.pop.new.self.items })).tree =
+    ap (λ (ns : List ProofNode). root (history_of w (record { nodes = ns; journal = reverse c.pop.new.self.items })).tree) (sym (before g c)) ∙ returns-in-Some-clause-root g c w ∙ ap (λ (p : Held). root (history_of w p).tree) same in
     subst (λ (ns : List ProofNode). IsProof w (record { nodes = ns; journal = reverse c.pop.new.self.items })) (sym (before g c))
-    (proof_before w nodes r (reverse c.pop.new.self.items) is (subst (IsProof w) same proof))
-
-pub returns-in-Some-clause-root : goal.returns-in-Some-clause-root
-returns-in-Some-clause-root g c =
-    λ w. ap (λ (rs : List StepAt). root (made_by w (map (sequent_of w) (sequents_in c.clear_at.new.nodes.items)) rs).tree) (sym (steps g c)) ∙ (back g c w).rooted
+    (proof_before w nodes r (reverse c.pop.new.self.items) is rooted (subst (IsProof w) same proof))
 
 pub returns-in-Some-clause-work : goal.returns-in-Some-clause-work
 returns-in-Some-clause-work g c =
