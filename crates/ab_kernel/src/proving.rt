@@ -1,10 +1,10 @@
 //! Proofs in progress: derivations with open goals, made by steps of the rules alone.
-ghost use Rattle.std.specs.Prelude.{◌≡◌, ℕ, ◌+◌, ◌<◌, ◌≤◌, [], ◌++◌, ◌↔◌, ◌⊎◌, length, IsTrue, IfOk, MatchOption, ◌∷◌, OnOk, OnErr, map, slice_get, vec_len, vec_capacity};
+ghost use Rattle.std.specs.Prelude.{◌≡◌, ℕ, ◌+◌, ◌<◌, ◌≤◌, [], ◌++◌, ◌↔◌, ◌⊎◌, length, IsTrue, IfOk, IfSome, MatchOption, ◌∷◌, OnOk, OnErr, map, slice_get, vec_len, vec_capacity};
 ghost use Rattle.std.specs.Option.{option_copied, option_map};
 ghost use Rattle.ab_logic.specs.Worlds.{IsWorld, Holds, read, declarations_of};
 ghost use Rattle.ab_logic.specs.Growth.{Grows};
 ghost use Rattle.ab_logic.specs.declared.world.World.{World as AWorld};
-ghost use Rattle.ab_logic.specs.Readings.{sequent_of};
+ghost use Rattle.ab_logic.specs.Readings.{sequent_of, HoldsSequent};
 ghost use Rattle.ab_store.specs.Trees.{Read};
 ghost use Rattle.ab_term.specs.Names.{support};
 ghost use Rattle.ab_term.specs.Variables.{variables};
@@ -230,7 +230,8 @@ impl Proof {
 
     /// The open goal of this place, counted from 0 at the left.
     pub fn goal(&self, place: usize) -> Option<&Sequent>
-        ensures { (w : AWorld) → option_map (sequent_of w) (option_copied result) ≡ goal_at (history_of w self.now).tree place }
+        ensures reads { (w : AWorld) → option_map (sequent_of w) (option_copied result) ≡ goal_at (history_of w self.now).tree place }
+        ensures held { (w : AWorld) → IsProof w self.now → IfSome (option_copied result) (HoldsSequent w) }
     {
         if place < self.open.len() {
             let node = self.open[self.open.len() - 1 - place];
@@ -242,7 +243,8 @@ impl Proof {
 
     /// The first open goal.
     pub fn current(&self) -> Option<&Sequent>
-        ensures { (w : AWorld) → option_map (sequent_of w) (option_copied result) ≡ goal_at (history_of w self.now).tree 0 }
+        ensures reads { (w : AWorld) → option_map (sequent_of w) (option_copied result) ≡ goal_at (history_of w self.now).tree 0 }
+        ensures held { (w : AWorld) → IsProof w self.now → IfSome (option_copied result) (HoldsSequent w) }
     {
         self.goal(0)
     }
