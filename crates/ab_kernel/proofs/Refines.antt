@@ -68,6 +68,11 @@ module _ (w v : World) (x : Kept) (kept : Step) (place : ℕ) (d : Derivation) (
   refuses (NotPattern j) a i g = absurd a
   refuses (Memory m) a i g = inr tt
 
+  pub not_pattern : (f : KernelFault) → Answers v (row_at w (step_of w kept) x) (Err f) → (i : ℕ) → ◌≡◌ {A = Result ℕ KernelFault} (Err f) (Err (NotPattern i)) → ⊥
+  not_pattern (RuleFails j) a i e = cc
+  not_pattern (NotPattern j) a i e = a
+  not_pattern (Memory m) a i e = cc
+
   pub not_refused : (made : Vec Kept Global) → Answers v (row_at w (step_of w kept) x) (Ok made) → (i : ℕ) → GoalFails (declarations_of w) place (step_of w kept) i d → ⊥
   not_refused made a i g =
       never_both (row_at w (step_of w kept) x) _ i a.0

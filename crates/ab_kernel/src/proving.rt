@@ -141,7 +141,7 @@ impl Proof {
 
     /// Takes a step at the open goal of this place, counted from 0 at the left. Its premises take
     /// the goal's place in order, and their number is the answer. A rule that fails, and want of
-    /// memory, change nothing.
+    /// memory, change nothing. No rule that is carried out solves equations.
     pub fn refine<L>(
         &mut self,
         world: &mut World,
@@ -156,6 +156,7 @@ impl Proof {
         ensures step { IfOk result (λ n. IsStep (declarations_of world.old) place (step_of world.old step) n (history_of world.old self.old) (history_of world.new self.new)) }
         ensures refused { (i : ℕ) → result ≡ Err (KernelFault.RuleFails i) → GoalFails (declarations_of world.old) place (step_of world.old step) i (history_of world.old self.old).tree }
         ensures refuses { (i : ℕ) → GoalFails (declarations_of world.old) place (step_of world.old step) i (history_of world.old self.old).tree → (result ≡ Err (KernelFault.RuleFails i)) ⊎ IsMemory result }
+        ensures not_pattern { (i : ℕ) → result ≡ Err (KernelFault.NotPattern i) → ⊥ }
         ensures proof { IsProof world.new self.new }
         ensures err { OnErr result (self.new ≡ self.old) }
         ensures grows { Grows world.old world.new }

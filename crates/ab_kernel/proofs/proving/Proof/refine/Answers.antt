@@ -17,7 +17,7 @@ use Rattle.ab_kernel.proofs.Standing.{reads_now, as_many}
 use Rattle.ab_kernel.proofs.Taking.{Taken, in_range, goal_taken, taken, room_after}
 use Rattle.ab_kernel.proofs.Filling.{sequent_read}
 use Rattle.ab_kernel.proofs.Later.{still_proof}
-use Rattle.ab_kernel.proofs.Refines.{here, history_now, refused, refuses, not_refused, by_rule, as_before, rule_now, proof_after}
+use Rattle.ab_kernel.proofs.Refines.{here, history_now, refused, refuses, not_pattern, not_refused, by_rule, as_before, rule_now, proof_after}
 use Rattle.ab_kernel.proofs.proving.Proof.refine.Goals as goal
 
 pub overflow_sub-at : goal.overflow_sub-at
@@ -67,6 +67,14 @@ returns-in-Err-clause-refuses g c =
     let inside = in_range w _ _ _ (history_of w c.args.self.now) c.args.place (c.self.invariant.stands w) (ap (history_of w) c.self.view_is) c.requires.place in
     let h = here w c.self.inside.nodes.items c.self.inside.open.items (reverse c.self.inside.journal.items) c.args.self.now c.args.place (c.len.result - 1 - c.args.place) c.index-node.result.now c.index.result.now (c.self.invariant.stands w) c.self.view_is c.requires.proof (omega arith) c.index-node.ensures c.index.ensures in
     refuses w v c.index.result.now.sequent c.args.step c.args.place (history_of w c.args.self.now).tree h.is_goal c.in-Err.fault c.in-Err.ensures.answers
+
+pub returns-in-Err-clause-not_pattern : goal.returns-in-Err-clause-not_pattern
+returns-in-Err-clause-not_pattern g c =
+    let w = c.args.world.now in
+    let v = c.premises.new.world in
+    let inside = in_range w _ _ _ (history_of w c.args.self.now) c.args.place (c.self.invariant.stands w) (ap (history_of w) c.self.view_is) c.requires.place in
+    let h = here w c.self.inside.nodes.items c.self.inside.open.items (reverse c.self.inside.journal.items) c.args.self.now c.args.place (c.len.result - 1 - c.args.place) c.index-node.result.now c.index.result.now (c.self.invariant.stands w) c.self.view_is c.requires.proof (omega arith) c.index-node.ensures c.index.ensures in
+    not_pattern w v c.index.result.now.sequent c.args.step c.args.place (history_of w c.args.self.now).tree h.is_goal c.in-Err.fault c.in-Err.ensures.answers
 
 pub returns-in-Err-clause-proof : goal.returns-in-Err-clause-proof
 returns-in-Err-clause-proof g c =
