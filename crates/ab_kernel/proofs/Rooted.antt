@@ -5,7 +5,7 @@ use Rattle.std.proofs.lemmas.List.Elements.{All-cons, All-head, All-tail, All-ap
 use Rattle.ab_term.specs.Names.{support}
 use Rattle.ab_term.specs.Variables.{variables}
 use Rattle.ab_term.proofs.Lists.{Contains-none, All-from_contains, AllPairs-none}
-use Rattle.ab_nodes.specs.Reading.{Read}
+use Rattle.ab_store.specs.Trees.{Read}
 use Rattle.ab_logic.specs.Formulas.{IsFormula, HasOneTypeEach}
 use Rattle.ab_logic.specs.Declarations.{Declarations, Extends, signature_in, HaveSentences}
 use Rattle.ab_logic.specs.Sequents.{Variable, Hypothesis, Sequent, formulas_of, HoldsOnly, IsSequent}

@@ -7,7 +7,7 @@ use Rattle.ab_term.specs.Terms.{Nominal}
 use Rattle.ab_term.specs.Variables.{variables}
 use Rattle.ab_term.specs.Substitution.{instance}
 use Rattle.ab_term.proofs.Lists.{Contains-none, All-from_contains}
-use Rattle.ab_nodes.specs.Reading.{Read}
+use Rattle.ab_store.specs.Trees.{Read}
 use Rattle.ab_logic.specs.Formulas.{HasOneTypeEach}
 use Rattle.ab_logic.specs.Declarations.{Declarations, signature_in, theorem_in, HaveSentences}
 use Rattle.ab_logic.specs.Sequents.{Variable, Sequent, goal_names, IsSequent, formula_of, proving, assuming, without, over}

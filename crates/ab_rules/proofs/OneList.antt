@@ -9,7 +9,7 @@ use Rattle.ab_term.specs.Names.{support}
 use Rattle.ab_term.specs.Substitution.{instance}
 use Rattle.ab_term.proofs.Lists.{Contains-here, Contains-there}
 use Rattle.ab_term.proofs.Ordering.{order_unique}
-use Rattle.ab_nodes.specs.Reading.{Read}
+use Rattle.ab_store.specs.Trees.{Read}
 use Rattle.ab_logic.specs.Formulas.{HasOneTypeEach}
 use Rattle.ab_logic.specs.Declarations.{Declarations}
 use Rattle.ab_logic.specs.Sequents.{Sequent, formulas, formulas_of, IsSequent, formula_of, proving, assuming, over}

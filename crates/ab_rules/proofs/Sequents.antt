@@ -12,7 +12,7 @@ use Rattle.ab_term.specs.Terms.{Nominal}
 use Rattle.ab_term.specs.Names.{support}
 use Rattle.ab_term.specs.Variables.{variables}
 use Rattle.ab_term.proofs.Lists.{Contains-none, Contains-cases, Contains-here, Contains-there, Contains-map, Contains-from_map, All-from_contains, AllPairs-parts}
-use Rattle.ab_nodes.specs.Reading.{Read}
+use Rattle.ab_store.specs.Trees.{Read}
 use Rattle.ab_logic.specs.Formulas.{IsFormula, HasOneTypeEach}
 use Rattle.ab_logic.specs.Declarations.{Declarations, signature_in}
 use Rattle.ab_logic.specs.Sequents.{Variable, Hypothesis, Sequent, formulas, formulas_of, names_of, goal_names, HoldsOnly, IsSequent, named, formula_of, others, IsUsed, proving, assuming, without, counted, over}
