@@ -42,24 +42,31 @@ constant_named x (Some n) A = nominal (record { number = n; type = A })
 abbrev pub made : Making
 made x A = constant_named x (nominal_number x) A
 
--- THE EXPRESSION MEANS THE TERM in the goal, at the type
-pub record Means (D : Declarations) (s : Sequent) (e : Tree) (A : Ty) (t : Read) : Type 0 where
+-- THE EXPRESSION MEANS THE TERM where these names are known, at the type
+pub record MeansIn (D : Declarations) (scope : Scope) (e : Tree) (A : Ty) (t : Read) : Type 0 where
   pub named : Resolved
-  pub names : resolved (scope_of D s) [] e ≡ Ok named
+  pub names : resolved scope [] e ≡ Ok named
   pub raw : Raw
   pub reading : IsTheReading made named A raw
   pub normal : t ≡ normal_form (signature_in D) [] raw
 
 -- its names are resolved so, and of that something is said
-abbrev pub Resolves : Declarations → Sequent → Tree → (Resolved → Type 0) → Type 0
-Resolves D s e P = (r : Resolved) × (resolved (scope_of D s) [] e ≡ Ok r) × P r
+abbrev pub Resolves : Scope → Tree → (Resolved → Type 0) → Type 0
+Resolves scope e P = (r : Resolved) × (resolved scope [] e ≡ Ok r) × P r
 
--- IT MEANS NOTHING, for this cause: a name that stands for nothing, no reading, or several
+-- IT MEANS NOTHING there, for this cause: a name that stands for nothing, no reading, or several
+abbrev pub MeansNothingIn : Scope → Tree → Ty → Refusal → Type 0
+MeansNothingIn scope e A (unknown x) = resolved scope [] e ≡ Err x
+MeansNothingIn scope e A (type_clash p) = Resolves scope e (λ r. HasNoReading made r A) × (p ≡ place_of e)
+MeansNothingIn scope e A (untyped p) = Resolves scope e (λ r. IsFirstOpen made r A p)
+MeansNothingIn scope e A (clash x) = ⊥
+MeansNothingIn scope e A (no_hypothesis x) = ⊥
+MeansNothingIn scope e A wrong_shape = ⊥
+MeansNothingIn scope e A names_spent = ⊥
+
+-- the same in a goal
+abbrev pub Means : Declarations → Sequent → Tree → Ty → Read → Type 0
+Means D s = MeansIn D (scope_of D s)
+
 abbrev pub MeansNothing : Declarations → Sequent → Tree → Ty → Refusal → Type 0
-MeansNothing D s e A (unknown x) = resolved (scope_of D s) [] e ≡ Err x
-MeansNothing D s e A (type_clash p) = Resolves D s e (λ r. HasNoReading made r A) × (p ≡ place_of e)
-MeansNothing D s e A (untyped p) = Resolves D s e (λ r. IsFirstOpen made r A p)
-MeansNothing D s e A (clash x) = ⊥
-MeansNothing D s e A (no_hypothesis x) = ⊥
-MeansNothing D s e A wrong_shape = ⊥
-MeansNothing D s e A names_spent = ⊥
+MeansNothing D s = MeansNothingIn (scope_of D s)
