@@ -3,7 +3,7 @@
 use Rattle.std.specs.Prelude.{◌≡◌, ℕ, List, [], ◌∷◌, ◌++◌, Option, Some, None}
 use Rattle.ab_term.specs.Types.{Ty}
 use Rattle.ab_term.specs.Substitution.{instance}
-use Rattle.ab_nodes.specs.Reading.{Read}
+use Rattle.ab_store.specs.Trees.{Read}
 use Rattle.ab_logic.specs.Declarations.{Declarations}
 use Rattle.ab_logic.specs.Forms.{Form, for_all, nabla, implies, both, form_of, as_both}
 use Rattle.ab_logic.specs.Sequents.{Sequent, assuming, proving}

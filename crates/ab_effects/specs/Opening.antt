@@ -5,7 +5,7 @@ use Rattle.ab_term.specs.Types.{Ty}
 use Rattle.ab_term.specs.Terms.{Nominal}
 use Rattle.ab_term.specs.Names.{support}
 use Rattle.ab_term.specs.Substitution.{instance}
-use Rattle.ab_nodes.specs.Reading.{Read}
+use Rattle.ab_store.specs.Trees.{Read}
 use Rattle.ab_logic.specs.Declarations.{Declarations}
 use Rattle.ab_logic.specs.Forms.{Form, truth, both, exists, nabla, form_of}
 use Rattle.ab_logic.specs.Sequents.{Sequent, goal_names, names_of, assuming, over}

@@ -2,7 +2,7 @@
 use Rattle.std.specs.Prelude.{◌≡◌, ℕ, List, [], ◌∷◌, map, Ok, Err, Some, None, Option}
 use Rattle.ab_term.specs.Types.{Ty}
 use Rattle.ab_term.specs.Terms.{Head, Nominal, nominal, constant}
-use Rattle.ab_nodes.specs.Reading.{Read}
+use Rattle.ab_store.specs.Trees.{Read}
 use Rattle.ab_grammar.specs.Tree.{Tree, place_of}
 use Rattle.ab_logic.specs.Declarations.{Declarations, a_kind, a_constant, a_block, a_program_clause, a_theorem, signature_in}
 use Rattle.ab_logic.specs.Sequents.{Variable, Sequent, goal_names}

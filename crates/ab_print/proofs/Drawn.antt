@@ -7,8 +7,8 @@ use Rattle.ab_term.specs.Substitution.{lower_head}
 use Rattle.std.specs.List.{All}
 use Rattle.std.proofs.lemmas.List.Elements.{All-nil}
 use Rattle.ab_types.specs.Entries.{Table}
-use Rattle.ab_nodes.specs.declared.node.Head as Store
-use Rattle.ab_nodes.specs.Reading.{Read, Contents, head_reading}
+use Rattle.ab_store.specs.declared.node.Head as Store
+use Rattle.ab_store.specs.Trees.{Read, Contents, head_reading}
 use Rattle.ab_print.specs.declared.drawing.Drawing.{Drawing}
 use Rattle.ab_print.specs.Drawings.{IsHeld, term_of}
 use Rattle.ab_text.specs.Names.{free_heads, free_heads_of_all}

@@ -4,9 +4,9 @@ use Rattle.std.specs.Prelude.{◌≡◌, ℕ, List, map, option_map, All, IfSome
 use Rattle.ab_term.specs.Terms.{lam, spine, Terms, no_terms, term}
 use Rattle.ab_types.specs.Entries.{Table}
 use Rattle.ab_types.specs.Ids.{type_of}
-use Rattle.ab_nodes.specs.declared.node.Head.{Head}
-use Rattle.ab_nodes.specs.Reading.{Read, Contents, head_reading, cell_of}
-use Rattle.ab_nodes.specs.Naming.{HoldsHead, HeadIsTyped}
+use Rattle.ab_store.specs.declared.node.Head.{Head}
+use Rattle.ab_store.specs.Trees.{Read, Contents, head_reading, cell_of}
+use Rattle.ab_store.specs.Naming.{HoldsHead, HeadIsTyped}
 use Rattle.ab_text.specs.Names.{free_heads}
 use Rattle.ab_text.specs.Naming.{alone}
 use Rattle.ab_print.specs.Members.{SameMembers}

@@ -1,5 +1,5 @@
 //! Terms taken out of a store, with what their bound names need.
-use ab_nodes::Head;
+use ab_store::Head;
 use ab_types::{Name, TypeId};
 
 /// A term.

@@ -3,12 +3,12 @@ ghost use Rattle.std.specs.Prelude.{◌≡◌, ℕ, List, ◌&&◌, ◌+◌, ◌
 ghost use Rattle.std.specs.Option.{option_map};
 ghost use Rattle.ab_term.specs.Terms.{Terms, spine, terms_of};
 ghost use Rattle.ab_types.specs.Entries.{Table};
-ghost use Rattle.ab_nodes.specs.Reading.{Contents, Holds, reading, head_reading};
-ghost use Rattle.ab_nodes.specs.Naming.{IsTypedBy};
+ghost use Rattle.ab_store.specs.Trees.{Contents, Holds, tree_of, head_reading};
+ghost use Rattle.ab_store.specs.Naming.{IsTypedBy};
 ghost use Rattle.ab_text.specs.Naming as plain;
 ghost use Rattle.ab_print.specs.Drawings.{IsHeld};
 
-use ab_nodes::{Head, Node, Store, TermId};
+use ab_store::{Head, Node, Store, TermId};
 use ab_types::TypeTable;
 
 /// A head, where it stands under this many binders and outside them, where it is a name that can stand alone.
@@ -33,7 +33,7 @@ fn outside(types: &TypeTable, store: &Store, binders: usize, head: Head) -> Opti
 fn are_last(store: &Store, binders: usize, ids: &[TermId]) -> bool
     requires held { All (Holds store.now) ids.now }
     requires room { All (λ t. binders + t.0 < 2 ^ 64) ids.now }
-    ensures { (types : Table) → result ≡ plain.are_last binders (terms_of (map (reading types store.now) ids.now)) }
+    ensures { (types : Table) → result ≡ plain.are_last binders (terms_of (map (tree_of types store.now) ids.now)) }
 {
     match ids {
         [] => binders == 0,
@@ -52,7 +52,7 @@ fn is_bound_name(store: &Store, binders: usize, index: usize, id: TermId) -> boo
     requires held { Holds store.now id }
     requires room { binders + id.0 < 2 ^ 64 }
     requires index { index + id.0 < 2 ^ 64 }
-    ensures { (types : Table) → result ≡ plain.is_bound_name binders index (reading types store.now id) }
+    ensures { (types : Table) → result ≡ plain.is_bound_name binders index (tree_of types store.now id) }
 {
     match store.view(id) {
         Node::Lam(_, _, body) => is_bound_name(store, binders + 1, index + 1, *body),
@@ -82,7 +82,7 @@ fn alone_under(types: &TypeTable, store: &Store, binders: usize, id: TermId) -> 
     requires typed { IsTypedBy types.now store.now }
     requires held { Holds store.now id }
     requires room { binders + id.0 < 2 ^ 64 }
-    ensures alone { option_map (head_reading types.now store.now) result ≡ plain.alone binders (reading types.now store.now id) }
+    ensures alone { option_map (head_reading types.now store.now) result ≡ plain.alone binders (tree_of types.now store.now id) }
     ensures held { IfSome result (IsHeld types.now store.now) }
 {
     match store.view(id) {
@@ -101,7 +101,7 @@ fn alone_under(types: &TypeTable, store: &Store, binders: usize, id: TermId) -> 
 pub(crate) fn alone(types: &TypeTable, store: &Store, id: TermId) -> Option<Head>
     requires typed { IsTypedBy types.now store.now }
     requires held { Holds store.now id }
-    ensures alone { option_map (head_reading types.now store.now) result ≡ plain.alone 0 (reading types.now store.now id) }
+    ensures alone { option_map (head_reading types.now store.now) result ≡ plain.alone 0 (tree_of types.now store.now id) }
     ensures held { IfSome result (IsHeld types.now store.now) }
 {
     let _ = store.view(id);

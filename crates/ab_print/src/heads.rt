@@ -3,11 +3,11 @@ ghost use Rattle.std.specs.Prelude.{◌≡◌, ◌↔◌, ◌++◌, [], ◌∷�
 ghost use Rattle.std.specs.List.{filter_map, cons_option};
 ghost use Rattle.ab_term.specs.Substitution.{lower_head};
 ghost use Rattle.ab_types.specs.Entries.{Table};
-ghost use Rattle.ab_nodes.specs.Reading.{Contents, head_reading};
+ghost use Rattle.ab_store.specs.Trees.{Contents, head_reading};
 ghost use Rattle.ab_print.specs.Drawings.{IsHeld};
 ghost use Rattle.ab_print.specs.Members.{Adds};
 
-use ab_nodes::Head;
+use ab_store::Head;
 use std::alloc::{AllocError, Global};
 
 /// Whether the head is among these.

@@ -4,7 +4,7 @@ ghost use Rattle.std.specs.Option.{option_map};
 ghost use Rattle.std.specs.List.{cons_option};
 ghost use Rattle.ab_term.specs.Terms as tree;
 ghost use Rattle.ab_term.specs.Types.{Ty};
-ghost use Rattle.ab_nodes.specs.Reading.{Read, head_reading};
+ghost use Rattle.ab_store.specs.Trees.{Read, head_reading};
 ghost use Rattle.ab_text.specs.Names.{name_of, free_heads};
 ghost use Rattle.ab_text.specs.Naming as plain;
 ghost use Rattle.ab_text.specs.Values.{shape_of, shapes_of};
@@ -15,7 +15,7 @@ ghost use Rattle.ab_print.specs.Shown.{cell_name};
 
 use crate::drawing::{Drawing, Drawings};
 use crate::logic::{logical_form, takes_binder};
-use ab_nodes::{Head, Store};
+use ab_store::{Head, Store};
 use ab_text::{Shape, Shapes, fresh, with_constant, with_name};
 use ab_types::{Name, TypeTable};
 use itoa::Buffer;

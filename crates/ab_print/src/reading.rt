@@ -3,8 +3,8 @@ ghost use Rattle.std.specs.Prelude.{◌≡◌, map, All, IfOk, OnOk};
 ghost use Rattle.ab_term.specs.Terms as tree;
 ghost use Rattle.ab_types.specs.Entries.{Table};
 ghost use Rattle.ab_types.specs.Ids.{type_of};
-ghost use Rattle.ab_nodes.specs.Reading.{Contents, Holds, reading, head_reading};
-ghost use Rattle.ab_nodes.specs.Naming.{IsTypedBy};
+ghost use Rattle.ab_store.specs.Trees.{Contents, Holds, tree_of, head_reading};
+ghost use Rattle.ab_store.specs.Naming.{IsTypedBy};
 ghost use Rattle.ab_text.specs.Names.{free_heads, free_heads_of_all};
 ghost use Rattle.ab_print.specs.Drawings.{IsHeld, term_of, terms_of, IsSound, AreSound};
 ghost use Rattle.ab_print.specs.Members.{SameMembers, Adds};
@@ -12,7 +12,7 @@ ghost use Rattle.ab_print.specs.Members.{SameMembers, Adds};
 use crate::drawing::{Drawing, Drawings};
 use crate::eta::alone;
 use crate::heads::{add, add_all, lowered};
-use ab_nodes::{Head, Node, Store, TermId};
+use ab_store::{Head, Node, Store, TermId};
 use ab_types::{Name, TypeId, TypeTable};
 use std::alloc::{AllocError, Global};
 
@@ -50,9 +50,9 @@ pub(crate) fn draw(
 ) -> Result<Drawing, AllocError>
     requires typed { IsTypedBy types.now store.now }
     requires held { Holds store.now id }
-    ensures reads { IfOk result (λ d. term_of types.now store.now d ≡ reading types.now store.now id) }
+    ensures reads { IfOk result (λ d. term_of types.now store.now d ≡ tree_of types.now store.now id) }
     ensures sound { IfOk result (IsSound types.now store.now) }
-    ensures heads { OnOk result (Adds (map (head_reading types.now store.now) heads.old.items) (free_heads (reading types.now store.now id)) (map (head_reading types.now store.now) heads.new.items)) }
+    ensures heads { OnOk result (Adds (map (head_reading types.now store.now) heads.old.items) (free_heads (tree_of types.now store.now id)) (map (head_reading types.now store.now) heads.new.items)) }
     ensures kept { OnOk result (All (IsHeld types.now store.now) heads.old.items → All (IsHeld types.now store.now) heads.new.items) }
 {
     match store.view(id) {
@@ -81,9 +81,9 @@ fn draw_all(
 ) -> Result<Drawings, AllocError>
     requires typed { IsTypedBy types.now store.now }
     requires held { All (Holds store.now) ids.now }
-    ensures reads { IfOk result (λ ds. terms_of types.now store.now ds ≡ tree.terms_of (map (reading types.now store.now) ids.now)) }
+    ensures reads { IfOk result (λ ds. terms_of types.now store.now ds ≡ tree.terms_of (map (tree_of types.now store.now) ids.now)) }
     ensures sound { IfOk result (AreSound types.now store.now) }
-    ensures heads { OnOk result (Adds (map (head_reading types.now store.now) heads.old.items) (free_heads_of_all (tree.terms_of (map (reading types.now store.now) ids.now))) (map (head_reading types.now store.now) heads.new.items)) }
+    ensures heads { OnOk result (Adds (map (head_reading types.now store.now) heads.old.items) (free_heads_of_all (tree.terms_of (map (tree_of types.now store.now) ids.now))) (map (head_reading types.now store.now) heads.new.items)) }
     ensures kept { OnOk result (All (IsHeld types.now store.now) heads.old.items → All (IsHeld types.now store.now) heads.new.items) }
 {
     match ids {

@@ -1,7 +1,7 @@
 //! What is printed of a world's terms and goals.
 ghost use Rattle.std.specs.Prelude.{◌≡◌, ◌++◌, map, decimal, All, IfOk, OnOk, OnErr};
-ghost use Rattle.ab_nodes.specs.Naming.{IsTypedBy};
-ghost use Rattle.ab_nodes.specs.Reading as terms;
+ghost use Rattle.ab_store.specs.Naming.{IsTypedBy};
+ghost use Rattle.ab_store.specs.Trees as terms;
 ghost use Rattle.ab_logic.specs.Worlds.{IsWorld, Holds, HoldsCell, read, variable_of};
 ghost use Rattle.ab_logic.specs.Readings.{HoldsSequent, sequent_of, hypothesis_of};
 ghost use Rattle.ab_print.specs.Shown.{cell_name, names_line, variables_line, shown, conclusion_line, hypothesis_lines, goal_lines, other_goal, reply_line};
@@ -10,7 +10,7 @@ use crate::eta::alone;
 use crate::naming::name_alone;
 use crate::reading::draw;
 use ab_logic::{Hypothesis, Sequent, World};
-use ab_nodes::{CellId, Store, TermId};
+use ab_store::{CellId, Store, TermId};
 use ab_text::write;
 use ab_types::TypeTable;
 use itoa::Buffer;
@@ -26,7 +26,7 @@ pub(crate) fn write_term(
 ) -> Result<(), AllocError>
     requires typed { IsTypedBy types.now store.now }
     requires held { terms.Holds store.now id }
-    ensures { OnOk result (out.new.items ≡ out.old.items ++ shown (cell_name store.now) (terms.reading types.now store.now id)) }
+    ensures { OnOk result (out.new.items ≡ out.old.items ++ shown (cell_name store.now) (terms.tree_of types.now store.now id)) }
 {
     let mut heads = Vec::new(alloc);
     let name = alone(types, store, id);

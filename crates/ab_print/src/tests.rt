@@ -1,8 +1,9 @@
 //! Terms and lines that are small enough to be written by hand.
-use crate::show_reply;
+use crate::{show_goal, show_other, show_reply};
 use crate::showing::write_term;
-use ab_nodes::{Head, Logical, Store};
-use ab_types::TypeTable;
+use ab_store::{Head, Logical, Store};
+use ab_logic::{Hypotheses, Hypothesis, Sequent, Variables, World};
+use ab_types::{Name, TypeTable};
 use std::alloc::{AllocError, Global};
 
 fn reply(alloc: Global, kept: usize, text: &[u8]) -> Result<Vec<u8>, AllocError> {
@@ -32,5 +33,29 @@ fn a_reply_without_text_is_its_number(rt: HostRuntime) -> Result<(), AllocError>
 #[test]
 fn a_text_stands_behind_the_number(rt: HostRuntime) -> Result<(), AllocError> {
     assert!(rt; reply(rt.alloc(), 12, b"Quit.")?.as_slice() == b"[12] Quit.\n".as_slice());
+    Ok(())
+}
+
+#[test]
+fn goals_are_printed(rt: HostRuntime) -> Result<(), AllocError> {
+    let alloc = rt.alloc();
+    let mut world = World::new(alloc)?;
+    let truth = world.store.spine(Head::Logic(Logical::True), Vec::new(alloc))?;
+    let mut hypotheses = Vec::new(alloc);
+    hypotheses.push(Hypothesis {
+        name: Name::from_text(alloc, "H1")?,
+        formula: truth,
+    })?;
+    let goal = Sequent {
+        variables: Variables::from_vec(Vec::new(alloc)),
+        hypotheses: Hypotheses::from_vec(hypotheses),
+        conclusion: truth,
+        counter: 1,
+    };
+    let mut out = Vec::new(alloc);
+    show_goal(alloc, &world, &goal, &mut out)?;
+    show_other(alloc, &world, 2, truth, &mut out)?;
+    let lines: &[u8] = b"H1 : true\n============================\n true\nSubgoal 2 is:\n true\n";
+    assert!(rt; out.as_slice() == lines);
     Ok(())
 }

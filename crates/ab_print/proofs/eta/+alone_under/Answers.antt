@@ -1,7 +1,7 @@
 use Rattle.std.proofs.Common.{None, ◌∙◌, ap, sym, subst}
 use Rattle.std.specs.Prelude.{if◌then◌else◌}
-use Rattle.ab_nodes.specs.Naming.{NodeIsTyped}
-use Rattle.ab_nodes.specs.Reading.{head_reading}
+use Rattle.ab_store.specs.Naming.{NodeIsTyped}
+use Rattle.ab_store.specs.Trees.{head_reading}
 use Rattle.ab_text.specs.Naming as plain
 use Rattle.ab_print.proofs.Etas.{alone_spine, spine_names}
 use Rattle.ab_print.proofs.eta.+alone_under.Goals as goal
@@ -16,10 +16,10 @@ returns-then-are_last-clause-alone t c =
     c.outside.ensures.outside
     ∙ ap (λ w. if w then (plain.outside c.args.binders (head_reading c.args.types.now c.args.store.now c.in-Spine.head)) else None) (sym c.if-are_last.true)
     ∙ sym (alone_spine c.args.types.now c.args.store.now c.args.id c.view.result.now c.in-Spine.head c.in-Spine.args c.as_slice.result.now c.args.binders c.are_last.result
-    (c.view.ensures.reads c.args.types.now) c.in-Spine.is c.as_slice.ensures (c.are_last.ensures c.args.types.now))
+    (c.view.ensures.tree c.args.types.now) c.in-Spine.is c.as_slice.ensures (c.are_last.ensures c.args.types.now))
 
 pub returns-else-are_last-clause-alone : goal.returns-else-are_last-clause-alone
 returns-else-are_last-clause-alone t c =
     ap (λ w. if w then (plain.outside c.args.binders (head_reading c.args.types.now c.args.store.now c.in-Spine.head)) else None) (sym c.if-are_last.false)
     ∙ sym (alone_spine c.args.types.now c.args.store.now c.args.id c.view.result.now c.in-Spine.head c.in-Spine.args c.as_slice.result.now c.args.binders c.are_last.result
-    (c.view.ensures.reads c.args.types.now) c.in-Spine.is c.as_slice.ensures (c.are_last.ensures c.args.types.now))
+    (c.view.ensures.tree c.args.types.now) c.in-Spine.is c.as_slice.ensures (c.are_last.ensures c.args.types.now))

@@ -3,8 +3,8 @@ use Rattle.std.specs.List.{All}
 use Rattle.std.proofs.lemmas.List.Elements.{All-same}
 use Rattle.ab_term.specs.Terms.{terms_of}
 use Rattle.ab_types.specs.Ids.{type_of}
-use Rattle.ab_nodes.specs.declared.node.TermId.{TermId}
-use Rattle.ab_nodes.specs.Reading.{reading}
+use Rattle.ab_store.specs.declared.node.TermId.{TermId}
+use Rattle.ab_store.specs.Trees.{tree_of}
 use Rattle.ab_text.specs.Naming.{is_bound_name, are_last}
 use Rattle.ab_print.proofs.Bounds.{ids_bound, bound_within}
 use Rattle.ab_print.proofs.Cutting.{whole}
@@ -25,18 +25,18 @@ is_bound_name-are_last-requires t c =
 
 pub is_bound_name-returns-in-Lam : goal.is_bound_name-returns-in-Lam
 is_bound_name-returns-in-Lam t c = λ types.
-    c.is_bound_name.ensures types ∙ lam_name (type_of types c.in-Lam.field-0) c.in-Lam.field-1 c.args.binders c.args.index (reading types c.args.store.now c.in-Lam.body)
-    ∙ ap (λ w. is_bound_name c.args.binders c.args.index w) (sym (lam_reads types c.args.store.now c.args.id c.view.result.now c.in-Lam.field-0 c.in-Lam.field-1 c.in-Lam.body (c.view.ensures.reads types) c.in-Lam.is))
+    c.is_bound_name.ensures types ∙ lam_name (type_of types c.in-Lam.field-0) c.in-Lam.field-1 c.args.binders c.args.index (tree_of types c.args.store.now c.in-Lam.body)
+    ∙ ap (λ w. is_bound_name c.args.binders c.args.index w) (sym (lam_reads types c.args.store.now c.args.id c.view.result.now c.in-Lam.field-0 c.in-Lam.field-1 c.in-Lam.body (c.view.ensures.tree types) c.in-Lam.is))
 
 pub is_bound_name-returns-then-is_index : goal.is_bound_name-returns-then-is_index
 is_bound_name-returns-then-is_index t c = λ types.
     c.are_last.ensures types
-    ∙ ap (λ w. w && are_last c.args.binders (terms_of (map (reading types c.args.store.now) c.as_slice.result.now))) (sym c.if-is_index.true)
+    ∙ ap (λ w. w && are_last c.args.binders (terms_of (map (tree_of types c.args.store.now) c.as_slice.result.now))) (sym c.if-is_index.true)
     ∙ sym (bound_spine types c.args.store.now c.args.id c.view.result.now c.in-Spine.head c.in-Spine.args c.as_slice.result.now c.args.index c.args.binders c.is_index.result
-    (c.view.ensures.reads types) c.in-Spine.is c.as_slice.ensures (c.is_index.ensures types c.args.store.now c.args.binders))
+    (c.view.ensures.tree types) c.in-Spine.is c.as_slice.ensures (c.is_index.ensures types c.args.store.now c.args.binders))
 
 pub is_bound_name-returns-else-is_index : goal.is_bound_name-returns-else-is_index
 is_bound_name-returns-else-is_index t c = λ types.
-    ap (λ w. w && are_last c.args.binders (terms_of (map (reading types c.args.store.now) c.in-Spine.args))) (sym c.if-is_index.false)
+    ap (λ w. w && are_last c.args.binders (terms_of (map (tree_of types c.args.store.now) c.in-Spine.args))) (sym c.if-is_index.false)
     ∙ sym (bound_spine types c.args.store.now c.args.id c.view.result.now c.in-Spine.head c.in-Spine.args c.in-Spine.args c.args.index c.args.binders c.is_index.result
-    (c.view.ensures.reads types) c.in-Spine.is refl (c.is_index.ensures types c.args.store.now c.args.binders))
+    (c.view.ensures.tree types) c.in-Spine.is refl (c.is_index.ensures types c.args.store.now c.args.binders))

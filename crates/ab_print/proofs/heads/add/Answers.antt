@@ -1,6 +1,6 @@
 use Rattle.std.proofs.Common.{List, [], ◌∷◌, map, sym, subst}
-use Rattle.ab_nodes.specs.declared.node.Head.{Head}
-use Rattle.ab_nodes.specs.Reading.{head_reading}
+use Rattle.ab_store.specs.declared.node.Head.{Head}
+use Rattle.ab_store.specs.Trees.{head_reading}
 use Rattle.ab_print.specs.Members.{Adds}
 use Rattle.ab_print.proofs.Adding.{adds_pushed}
 use Rattle.ab_print.proofs.heads.add.Goals as goal

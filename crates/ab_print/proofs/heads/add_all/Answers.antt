@@ -1,7 +1,7 @@
 use Rattle.std.proofs.Common.{map, take, arith}
 use Rattle.std.proofs.lemmas.List.{take_all}
-use Rattle.ab_nodes.specs.declared.node.Head.TheVariants.{Const}
-use Rattle.ab_nodes.specs.Reading.{head_reading}
+use Rattle.ab_store.specs.declared.node.Head.TheVariants.{Const}
+use Rattle.ab_store.specs.Trees.{head_reading}
 use Rattle.ab_print.proofs.Adding.{adds_next, adds_none}
 use Rattle.ab_print.proofs.heads.add_all.Goals as goal
 

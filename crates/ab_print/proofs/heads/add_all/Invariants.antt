@@ -1,6 +1,6 @@
 use Rattle.std.proofs.Common.{map, take, All}
 use Rattle.ab_types.specs.Entries.{Table}
-use Rattle.ab_nodes.specs.Reading.{Contents, head_reading}
+use Rattle.ab_store.specs.Trees.{Contents, head_reading}
 use Rattle.ab_print.specs.Drawings.{IsHeld}
 use Rattle.ab_print.specs.Members.{Adds}
 use Rattle.ab_print.proofs.heads.add_all.Given as goal

@@ -2,8 +2,8 @@ use Rattle.std.proofs.Common.{ℕ, List, [], get_or, ◌∙◌, ap, sym, ◌++�
 use Rattle.std.specs.List.{cons_option}
 use Rattle.ab_term.specs.Terms as tree
 use Rattle.ab_term.specs.Substitution.{lower_head}
-use Rattle.ab_nodes.specs.declared.node.Head.TheVariants.{Const}
-use Rattle.ab_nodes.specs.Reading.{head_reading}
+use Rattle.ab_store.specs.declared.node.Head.TheVariants.{Const}
+use Rattle.ab_store.specs.Trees.{head_reading}
 use Rattle.ab_print.proofs.Adding.{kept_next}
 use Rattle.ab_print.proofs.heads.lowered.Goals as goal
 

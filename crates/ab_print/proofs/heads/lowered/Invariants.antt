@@ -2,7 +2,7 @@ use Rattle.std.proofs.Common.{◌≡◌, map, take, All}
 use Rattle.std.specs.List.{filter_map}
 use Rattle.ab_term.specs.Substitution.{lower_head}
 use Rattle.ab_types.specs.Entries.{Table}
-use Rattle.ab_nodes.specs.Reading.{Contents, head_reading}
+use Rattle.ab_store.specs.Trees.{Contents, head_reading}
 use Rattle.ab_print.specs.Drawings.{IsHeld}
 use Rattle.ab_print.proofs.heads.lowered.Given as goal
 

@@ -1,8 +1,8 @@
 use Rattle.std.proofs.Common.{◌≡◌, List, ◌++◌, ◌∷◌, [], map, rules, ◌∙◌, ap, sym, subst}
 use Rattle.ab_term.specs.Terms.{lam}
 use Rattle.ab_types.specs.Ids.{type_of}
-use Rattle.ab_nodes.specs.declared.node.Head.{Head}
-use Rattle.ab_nodes.specs.Reading.{head_reading}
+use Rattle.ab_store.specs.declared.node.Head.{Head}
+use Rattle.ab_store.specs.Trees.{head_reading}
 use Rattle.ab_text.specs.Names.{free_heads}
 use Rattle.ab_text.specs.Naming as plain
 use Rattle.ab_text.specs.Values.{shape_of}

@@ -1,5 +1,5 @@
 use Rattle.std.proofs.Common.{map, ap, ◌∙◌}
-use Rattle.ab_nodes.specs.Reading.{head_reading}
+use Rattle.ab_store.specs.Trees.{head_reading}
 use Rattle.ab_text.specs.Names.{fresh}
 use Rattle.ab_print.specs.Scopes.{names_in}
 use Rattle.ab_print.specs.Shown.{cell_name}

@@ -1,7 +1,7 @@
 use Rattle.std.proofs.Common.{◌∙◌, ap, sym, ◌++◌, List, ℕ, [], get_or, arith}
 use Rattle.std.specs.List.{cons_option}
-use Rattle.ab_nodes.specs.declared.node.Head.TheVariants.{Const}
-use Rattle.ab_nodes.specs.Reading.{head_reading}
+use Rattle.ab_store.specs.declared.node.Head.TheVariants.{Const}
+use Rattle.ab_store.specs.Trees.{head_reading}
 use Rattle.ab_text.specs.Names.{name_of}
 use Rattle.ab_print.specs.Scopes.{names_in}
 use Rattle.ab_print.specs.Shown.{cell_name}

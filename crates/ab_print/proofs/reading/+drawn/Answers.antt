@@ -3,9 +3,9 @@ use Rattle.std.specs.List.{All}
 use Rattle.std.proofs.lemmas.List.Elements.{All-same}
 use Rattle.ab_term.specs.Terms.{lam, terms_of}
 use Rattle.ab_types.specs.Ids.{type_of}
-use Rattle.ab_nodes.specs.declared.node.TermId.{TermId}
-use Rattle.ab_nodes.specs.Naming.{NodeIsTyped}
-use Rattle.ab_nodes.specs.Reading.{Read, reading, head_reading}
+use Rattle.ab_store.specs.declared.node.TermId.{TermId}
+use Rattle.ab_store.specs.Naming.{NodeIsTyped}
+use Rattle.ab_store.specs.Trees.{Read, tree_of, head_reading}
 use Rattle.ab_print.specs.Drawings.{term_of, AreSound}
 use Rattle.ab_print.proofs.Bounds.{ids_bound, bound_within}
 use Rattle.ab_print.proofs.Cutting.{whole}
@@ -24,17 +24,17 @@ pub draw-returns-in_ok-drawing-in-Lam-clause-sound : goal.draw-returns-in_ok-dra
 draw-returns-in_ok-drawing-in-Lam-clause-sound t c =
     c.in_ok-drawing-in-Lam.ensures.sound c.args.types.now c.args.store.now c.in_ok-body-in-Lam.ensures.sound
     (body_held c.args.types.now c.args.store.now c.new-inner.result.items c.draw.new.heads.items c.deref.result.now c.new-inner.ensures.items c.deref.ensures.value c.in_ok-body-in-Lam.ensures.kept)
-    (body_gathered c.args.types.now c.args.store.now (reading c.args.types.now c.args.store.now c.in-Lam.body) c.in_ok-body-in-Lam.body c.new-inner.result.items c.draw.new.heads.items c.deref.result.now
+    (body_gathered c.args.types.now c.args.store.now (tree_of c.args.types.now c.args.store.now c.in-Lam.body) c.in_ok-body-in-Lam.body c.new-inner.result.items c.draw.new.heads.items c.deref.result.now
     c.new-inner.ensures.items c.deref.ensures.value c.in_ok-body-in-Lam.ensures.reads c.in_ok-body-in-Lam.ensures.heads)
 
 pub draw-returns-in_ok-drawing-in-Lam-clause-heads : goal.draw-returns-in_ok-drawing-in-Lam-clause-heads
 draw-returns-in_ok-drawing-in-Lam-clause-heads t c =
-    let reads : reading c.args.types.now c.args.store.now c.args.id ≡ lam (type_of c.args.types.now c.in-Lam.ty) c.in-Lam.hint (term_of c.args.types.now c.args.store.now c.in_ok-body-in-Lam.body) =
-    lam_reads c.args.types.now c.args.store.now c.args.id c.view.result.now c.in-Lam.ty c.in-Lam.hint c.in-Lam.body (c.view.ensures.reads c.args.types.now) c.in-Lam.is
+    let reads : tree_of c.args.types.now c.args.store.now c.args.id ≡ lam (type_of c.args.types.now c.in-Lam.ty) c.in-Lam.hint (term_of c.args.types.now c.args.store.now c.in_ok-body-in-Lam.body) =
+    lam_reads c.args.types.now c.args.store.now c.args.id c.view.result.now c.in-Lam.ty c.in-Lam.hint c.in-Lam.body (c.view.ensures.tree c.args.types.now) c.in-Lam.is
     ∙ ap (λ (w : Read). lam (type_of c.args.types.now c.in-Lam.ty) c.in-Lam.hint w) (sym c.in_ok-body-in-Lam.ensures.reads) in
-    adds_equal (reading c.args.types.now c.args.store.now c.args.id) (lam (type_of c.args.types.now c.in-Lam.ty) c.in-Lam.hint (term_of c.args.types.now c.args.store.now c.in_ok-body-in-Lam.body)) _ _ reads
+    adds_equal (tree_of c.args.types.now c.args.store.now c.args.id) (lam (type_of c.args.types.now c.in-Lam.ty) c.in-Lam.hint (term_of c.args.types.now c.args.store.now c.in_ok-body-in-Lam.body)) _ _ reads
     (c.in_ok-drawing-in-Lam.ensures.heads c.args.types.now c.args.store.now
-    (body_gathered c.args.types.now c.args.store.now (reading c.args.types.now c.args.store.now c.in-Lam.body) c.in_ok-body-in-Lam.body c.new-inner.result.items c.draw.new.heads.items c.deref.result.now
+    (body_gathered c.args.types.now c.args.store.now (tree_of c.args.types.now c.args.store.now c.in-Lam.body) c.in_ok-body-in-Lam.body c.new-inner.result.items c.draw.new.heads.items c.deref.result.now
     c.new-inner.ensures.items c.deref.ensures.value c.in_ok-body-in-Lam.ensures.reads c.in_ok-body-in-Lam.ensures.heads))
 
 pub draw-returns-in_ok-drawing-in-Lam-clause-kept : goal.draw-returns-in_ok-drawing-in-Lam-clause-kept
@@ -51,8 +51,8 @@ draw-returns-in_ok-new-in-Spine-clause-sound t c =
 
 pub draw-returns-in_ok-new-in-Spine-clause-heads : goal.draw-returns-in_ok-new-in-Spine-clause-heads
 draw-returns-in_ok-new-in-Spine-clause-heads t c =
-    spine_adds (head_reading c.args.types.now c.args.store.now c.in-Spine.head) (terms_of (map (reading c.args.types.now c.args.store.now) c.as_slice.result.now)) (reading c.args.types.now c.args.store.now c.args.id) _ _ _
-    (spine_reads c.args.types.now c.args.store.now c.args.id c.view.result.now c.in-Spine.head c.in-Spine.args c.as_slice.result.now (c.view.ensures.reads c.args.types.now) c.in-Spine.is c.as_slice.ensures)
+    spine_adds (head_reading c.args.types.now c.args.store.now c.in-Spine.head) (terms_of (map (tree_of c.args.types.now c.args.store.now) c.as_slice.result.now)) (tree_of c.args.types.now c.args.store.now c.args.id) _ _ _
+    (spine_reads c.args.types.now c.args.store.now c.args.id c.view.result.now c.in-Spine.head c.in-Spine.args c.as_slice.result.now (c.view.ensures.tree c.args.types.now) c.in-Spine.is c.as_slice.ensures)
     (c.in_ok-add-in-Spine.ensures.added c.args.types.now c.args.store.now) c.in_ok-args-in-Spine.ensures.heads
 
 pub draw-returns-in_ok-new-in-Spine-clause-kept : goal.draw-returns-in_ok-new-in-Spine-clause-kept
@@ -62,7 +62,7 @@ draw-returns-in_ok-new-in-Spine-clause-kept t c = λ old.
 
 pub draw_all-returns-in_ok-new-in-len1-up-2-clause-heads : goal.draw_all-returns-in_ok-new-in-len1-up-2-clause-heads
 draw_all-returns-in_ok-new-in-len1-up-2-clause-heads t c =
-    term_adds (reading c.args.types.now c.args.store.now (get_or c.args.ids.now 0 (record { 0 = 0 }))) (terms_of (map (reading c.args.types.now c.args.store.now) (take (length c.args.ids.now - 1) (drop 1 c.args.ids.now))))
-    (terms_of (map (reading c.args.types.now c.args.store.now) c.args.ids.now)) _ _ _
-    (ap (λ (w : List TermId). terms_of (map (reading c.args.types.now c.args.store.now) w)) (whole c.args.ids.now (record { 0 = 0 }) c.in-len1-up.len_at_least))
+    term_adds (tree_of c.args.types.now c.args.store.now (get_or c.args.ids.now 0 (record { 0 = 0 }))) (terms_of (map (tree_of c.args.types.now c.args.store.now) (take (length c.args.ids.now - 1) (drop 1 c.args.ids.now))))
+    (terms_of (map (tree_of c.args.types.now c.args.store.now) c.args.ids.now)) _ _ _
+    (ap (λ (w : List TermId). terms_of (map (tree_of c.args.types.now c.args.store.now) w)) (whole c.args.ids.now (record { 0 = 0 }) c.in-len1-up.len_at_least))
     c.in_ok-drawing-in-len1-up.ensures.heads c.in_ok-others-in-len1-up.ensures.heads

@@ -1,7 +1,7 @@
 use Rattle.std.proofs.Common.{◌≡◌, List, ◌∙◌, ap, sym, subst, map, All}
 use Rattle.ab_types.specs.Ids.{type_of}
-use Rattle.ab_nodes.specs.declared.node.Head.{Head}
-use Rattle.ab_nodes.specs.Reading.{head_reading}
+use Rattle.ab_store.specs.declared.node.Head.{Head}
+use Rattle.ab_store.specs.Trees.{head_reading}
 use Rattle.ab_text.specs.Names.{free_heads}
 use Rattle.ab_print.specs.declared.drawing.Drawing.{Drawing}
 use Rattle.ab_print.specs.Drawings.{IsHeld, term_of, IsSound}
