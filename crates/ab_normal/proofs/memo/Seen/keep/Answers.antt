@@ -1,5 +1,0 @@
-use Rattle.ab_normal.proofs.Remembered.{term_kept_or_new}
-use Rattle.ab_normal.proofs.memo.Seen.keep.Goals as goal
-
-pub returns : goal.returns
-returns c = λ t. term_kept_or_new c.args.term t _ _ (c.in_ok-insert.ensures.updates.0 t)
