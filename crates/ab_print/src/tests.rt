@@ -1,8 +1,8 @@
 //! Terms and lines that are small enough to be written by hand.
-use crate::{show_goal, show_other, show_reply};
 use crate::showing::write_term;
-use ab_store::{Head, Logical, Store};
+use crate::{show_goal, show_other, show_reply};
 use ab_logic::{Hypotheses, Hypothesis, Sequent, Variables, World};
+use ab_store::{Head, Logical, Store};
 use ab_types::{Name, TypeTable};
 use std::alloc::{AllocError, Global};
 
@@ -40,7 +40,9 @@ fn a_text_stands_behind_the_number(rt: HostRuntime) -> Result<(), AllocError> {
 fn goals_are_printed(rt: HostRuntime) -> Result<(), AllocError> {
     let alloc = rt.alloc();
     let mut world = World::new(alloc)?;
-    let truth = world.store.spine(Head::Logic(Logical::True), Vec::new(alloc))?;
+    let truth = world
+        .store
+        .spine(Head::Logic(Logical::True), Vec::new(alloc))?;
     let mut hypotheses = Vec::new(alloc);
     hypotheses.push(Hypothesis {
         name: Name::from_text(alloc, "H1")?,
