@@ -8,3 +8,5 @@ pub mod Outcomes
 pub mod HeadsKept
 pub mod Formulas
 pub mod ReadHeads
+pub mod Apart
+pub mod Unbound

@@ -3,3 +3,4 @@ pub mod Building
 pub mod Values
 pub mod Heads
 pub mod Outcomes
+pub mod Elaborated

@@ -1,11 +1,12 @@
 -- What is read of an expression whose names are resolved, where a free name is a nominal constant: exactly one of these is
 -- right.
-use Rattle.std.specs.Prelude.{◌≡◌, ℕ, ◌<◌, List, [], length, get_or, unwrap_or}
+use Rattle.std.specs.Prelude.{◌≡◌, ℕ, ◌<◌, List, [], length, get_or, unwrap_or, None}
 use Rattle.ab_term.specs.Types.{Ty}
-use Rattle.ab_term.specs.Terms.{nominal}
+use Rattle.ab_term.specs.Terms.{Head, nominal, variable}
 use Rattle.ab_types.specs.Entries.{Table, signature}
 use Rattle.ab_store.specs.declared.node.TermId.{TermId}
 use Rattle.ab_store.specs.Trees.{Contents, tree_of}
+use Rattle.ab_store.specs.Reading.{bound_in}
 use Rattle.ab_store.specs.Naming.{IsTerm}
 use Rattle.ab_readings.specs.Names.{Name, Resolved}
 use Rattle.ab_readings.specs.Scopes.{nominal_number}
@@ -39,3 +40,8 @@ abbrev pub IsOutcome : Table → Contents → Resolved → Ty → Outcome → Ty
 IsOutcome types store e A (One t) = IsNormal types store e A t
 IsOutcome types store e A Nothing = HasNoReading nominal_of e A
 IsOutcome types store e A (Open p) = IsFirstOpen nominal_of e A p
+
+-- the head is no bound cell
+abbrev pub IsUnboundHead : Contents → Head ℕ → Type 0
+IsUnboundHead store (variable x) = bound_in store.bindings (record { 0 = x.name }) ≡ None
+IsUnboundHead store _ = Unit {0}

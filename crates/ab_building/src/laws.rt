@@ -1,17 +1,24 @@
 //! Laws of readings and their normal forms, each as the contract of a function that does nothing.
 ghost use Rattle.std.specs.Prelude.{◌≡◌, ℕ, [], List, codes};
-ghost use Rattle.ab_term.specs.Types.{Ty, prop};
 ghost use Rattle.ab_term.specs.Names.{support};
-ghost use Rattle.ab_term.specs.Variables.{variables};
-ghost use Rattle.ab_fits.specs.Formulas.{IsFormula};
-ghost use Rattle.ab_readings.specs.Types.{PropFree};
-ghost use Rattle.ab_term.specs.Typing.{Signature, HasType};
-ghost use Rattle.ab_term.specs.Translation.{EqualPastHints};
 ghost use Rattle.ab_term.specs.Normal.{FitsType, normal};
+ghost use Rattle.ab_term.specs.Translation.{EqualPastHints};
+ghost use Rattle.ab_term.specs.Types.{Ty, prop};
+ghost use Rattle.ab_term.specs.Typing.{Signature, HasType};
+ghost use Rattle.ab_term.specs.Variables.{variables};
+ghost use Rattle.ab_types.specs.Entries.{Table};
+ghost use Rattle.ab_store.specs.Reading.{reading};
+ghost use Rattle.ab_store.specs.Trees.{Contents, tree_of};
+ghost use Rattle.ab_fits.specs.Formulas.{IsFormula};
+ghost use Rattle.ab_readings.specs.Answers.{IsTheReading, HasNoReading, IsFirstOpen};
 ghost use Rattle.ab_readings.specs.Names.{Name, Resolved};
-ghost use Rattle.ab_readings.specs.Readings.{Raw, Making, Reads};
 ghost use Rattle.ab_readings.specs.Normal.{normal_form};
+ghost use Rattle.ab_readings.specs.Readings.{Raw, Making, Reads};
+ghost use Rattle.ab_readings.specs.Types.{PropFree};
 ghost use Rattle.ab_building.specs.Heads.{HeadsFit, MakesTyped, AreRawHeads, KnownAre, IsOrdinary, IsFixed};
+ghost use Rattle.ab_building.specs.Outcomes.{nominal_of, IsNormal, IsUnboundHead};
+
+use ab_store::TermId;
 
 /// The normal form of a well-typed term is canonical, of its type; and past hints it is the one by instances.
 pub fn normal_forms_are_canonical()
@@ -41,4 +48,17 @@ pub fn readings_keep_heads()
         (G : List Ty) (e : Resolved) (t : Raw) (A : Ty) (As : List Ty) → KnownAre IsOrdinary (Unit {0}) e → Reads made types G e t A As → AreRawHeads IsOrdinary t }
     ensures fixed { (made : Making) (types : Name → Ty) →
         (G : List Ty) (e : Resolved) (t : Raw) (A : Ty) (As : List Ty) → KnownAre IsFixed ⊥ e → Reads made types G e t A As → AreRawHeads IsFixed t }
+{}
+
+/// That there is one reading, that there is none, and that there are several exclude one another.
+pub fn readings_exclude_one_another()
+    ensures one { (e : Resolved) (A : Ty) (t : Raw) → IsTheReading nominal_of e A t → HasNoReading nominal_of e A → ⊥ }
+    ensures several { (e : Resolved) (A : Ty) (p : ℕ) → IsFirstOpen nominal_of e A p → HasNoReading nominal_of e A → ⊥ }
+    ensures both { (e : Resolved) (A : Ty) (t : Raw) (p : ℕ) → IsTheReading nominal_of e A t → IsFirstOpen nominal_of e A p → ⊥ }
+{}
+
+/// Where no cell that is known in the expression is bound, the term that is built reads as its tree, the normal form.
+pub fn terms_read_as_normal_forms()
+    ensures { (types : Table) (store : Contents) (e : Resolved) (A : Ty) (t : TermId) →
+        KnownAre (IsUnboundHead store) (Unit {0}) e → IsNormal types store e A t → reading types store t ≡ tree_of types store t }
 {}
