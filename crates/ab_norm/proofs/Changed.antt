@@ -1,5 +1,5 @@
 -- The walk that makes terms: what it makes of a node from what it made of the parts, and what it keeps.
-use Rattle.std.proofs.Common.{◌≡◌, ◌⊎◌, inl, inr, ℕ, suc, ◌+◌, ◌<◌, ◌≤◌, List, [], ◌∷◌, map, length, Option, None, Some, Bool, true, false, cond, not, ◌==◌, ◌&&◌, Decides, Result, Ok, Err, OnOk, refl, sym, ◌∙◌, ap, subst, arith, add-one}
+use Rattle.std.proofs.Common.{◌≡◌, ◌⊎◌, inl, inr, ℕ, suc, ◌+◌, ◌≤◌, List, [], ◌∷◌, map, Option, None, Some, Bool, true, false, cond, not, ◌==◌, ◌&&◌, Decides, Result, Ok, Err, OnOk, refl, sym, ◌∙◌, ap, subst, add-one}
 use Rattle.std.specs.List.{All}
 use Rattle.std.proofs.lemmas.Bool.Decides.{Decides-eqb}
 use Rattle.ab_term.specs.Types.{Ty}
@@ -27,7 +27,7 @@ use Rattle.ab_store.specs.declared.node.Node.{Node}
 use Rattle.ab_store.specs.declared.node.Node.TheVariants.{Lam, Spine}
 use Rattle.ab_store.specs.Trees.{Read, Contents, Holds, tree_of, head_in, head_reading, node_tree, cell_of}
 use Rattle.ab_store.specs.Growth.{IsExtendedBy}
-use Rattle.ab_store.specs.Naming.{HeadNames, HoldsHead, HeadIsTyped, NodeIsTyped, IsTypedBy}
+use Rattle.ab_store.specs.Naming.{HeadIsTyped, NodeIsTyped, IsTypedBy}
 use Rattle.ab_norm.specs.declared.nominal.Swap.{Swap}
 use Rattle.ab_norm.specs.declared.walking.Change.{Change}
 use Rattle.ab_norm.specs.declared.walking.Change.TheVariants.{Raise, Put, Rename, Fill}

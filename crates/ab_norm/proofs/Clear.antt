@@ -1,5 +1,5 @@
 -- Trees that are made of trees in which no bound cell stands.
-use Rattle.std.proofs.Common.{◌≡◌, ◌⊎◌, inl, inr, ℕ, List, [], ◌∷◌, ◌++◌, map, None, refl, sym, ◌∙◌, ap, subst}
+use Rattle.std.proofs.Common.{◌≡◌, ◌⊎◌, inl, inr, ℕ, List, [], ◌++◌, map, None, refl, sym, ◌∙◌, ap, subst}
 use Rattle.std.specs.Prelude.{Contains}
 use Rattle.std.proofs.lemmas.List.Elements.{All-contains}
 use Rattle.ab_term.specs.Types.{Ty}
@@ -14,7 +14,7 @@ use Rattle.ab_types.specs.Entries.{Table}
 use Rattle.ab_store.specs.declared.node.TermId.{TermId}
 use Rattle.ab_store.specs.declared.node.Head.{Head}
 use Rattle.ab_store.specs.declared.node.Head.TheVariants.{Const, Logic, Nominal, Cell, Index}
-use Rattle.ab_store.specs.Trees.{Read, Contents, Holds, head_reading, tree_of}
+use Rattle.ab_store.specs.Trees.{Read, Contents, head_reading, tree_of}
 use Rattle.ab_store.specs.Reading.{bound_in, reading}
 use Rattle.ab_store.specs.Bindings.{cells_of, IsUnbound, IsResolved}
 use Rattle.ab_store.specs.Growth.{IsExtendedBy}

@@ -1,7 +1,7 @@
 -- Terms that are carried over into another store, part by part.
-use Rattle.std.proofs.Common.{◌≡◌, ◌⊎◌, inl, inr, ℕ, ◌+◌, ◌<◌, ◌≤◌, List, [], ◌∷◌, ◌++◌, map, take, drop, length, get_or, None, Some, refl, sym, ◌∙◌, ap, subst, arith}
+use Rattle.std.proofs.Common.{◌≡◌, ◌⊎◌, inl, inr, ℕ, ◌+◌, ◌<◌, List, [], ◌∷◌, ◌++◌, map, take, drop, length, get_or, None, Some, sym, ◌∙◌, ap, subst, arith}
 use Rattle.std.specs.List.{All}
-use Rattle.std.proofs.lemmas.List.{map_more, map-append, drop_more, drop_all, get_or-map, length-map}
+use Rattle.std.proofs.lemmas.List.{map_more, map-append, drop_more, get_or-map, length-map}
 use Rattle.ab_term.specs.Terms.{lam, spine, terms_of}
 use Rattle.ab_term.specs.Sameness.{same_number}
 use Rattle.ab_term.specs.Variables.{variables, value_in, image, one_by_one}
@@ -11,18 +11,16 @@ use Rattle.ab_types.specs.Ids.{type_of}
 use Rattle.ab_types.specs.declared.ids.TypeId.{TypeId}
 use Rattle.ab_store.specs.declared.node.TermId.{TermId}
 use Rattle.ab_store.specs.declared.node.CellId.{CellId}
-use Rattle.ab_store.specs.declared.node.CellEntry.{CellEntry}
 use Rattle.ab_store.specs.declared.node.Head.{Head}
 use Rattle.ab_store.specs.declared.node.Node.{Node}
 use Rattle.ab_store.specs.declared.node.Node.TheVariants.{Lam, Spine}
 use Rattle.ab_store.specs.declared.node.Binding.{Binding}
-use Rattle.ab_store.specs.Trees.{Read, Contents, Holds, HoldsCell, cell_in, cell_of, head_in, tree_of, node_tree}
+use Rattle.ab_store.specs.Trees.{Read, Contents, Holds, cell_of, head_in, tree_of, node_tree}
 use Rattle.ab_store.specs.Reading.{pairs, cell_variable}
 use Rattle.ab_store.specs.Growth.{IsExtendedBy}
 use Rattle.ab_store.proofs.Putting.{Pair, pair}
 use Rattle.ab_norm.specs.declared.memo.Memo.{Memo}
 use Rattle.ab_norm.specs.Remembering.{answer_of}
-use Rattle.ab_norm.specs.Growth.{AddsTypedTerms}
 use Rattle.ab_norm.specs.OtherStores.{Carries}
 use Rattle.ab_norm.proofs.Frame.{still_read_before}
 

@@ -1,5 +1,5 @@
 -- Eta-long forms of heads that are given arguments, with the bindings put in.
-use Rattle.std.proofs.Common.{◌≡◌, ℕ, List, [], ◌∷◌, map, length, get_or, ◌<◌, Bool, true, false, cond, Option, None, Some, option_map, ◌&&◌, refl, sym, ◌∙◌, ap, subst}
+use Rattle.std.proofs.Common.{◌≡◌, ℕ, List, [], ◌∷◌, map, get_or, Bool, true, false, cond, Option, None, Some, option_map, ◌&&◌, refl, sym, ◌∙◌, ap, subst}
 use Rattle.std.specs.Prelude.{◌==◌}
 use Rattle.std.specs.List.{All}
 use Rattle.std.specs.Cmp.{unsigned_Decides}

@@ -1,5 +1,5 @@
 -- What the trees that are made read as, in a store whose cells are bound.
-use Rattle.std.proofs.Common.{◌≡◌, ℕ, List, [], ◌∷◌, map, refl, sym, ◌∙◌, ap, subst}
+use Rattle.std.proofs.Common.{◌≡◌, ℕ, List, [], ◌∷◌, map, refl, sym, ◌∙◌, ap}
 use Rattle.std.specs.List.{All}
 use Rattle.std.proofs.lemmas.List.Elements.{All-head, All-tail}
 use Rattle.ab_term.specs.Types.{Ty}
@@ -9,7 +9,7 @@ use Rattle.ab_term.specs.Substitution.{instance_by_all}
 use Rattle.ab_term.specs.Sameness.{same_number}
 use Rattle.ab_term.specs.Variables.{Substitution, IsTyped, one_by_one}
 use Rattle.ab_term.proofs.InOrder.{one_by_one-instance}
-use Rattle.ab_term.proofs.Preservation.{instance_typed, instance_by_all_typed}
+use Rattle.ab_term.proofs.Preservation.{instance_typed}
 use Rattle.ab_types.specs.Entries.{Table, signature}
 use Rattle.ab_store.specs.declared.node.TermId.{TermId}
 use Rattle.ab_store.specs.Reading.{Read, Contents, Holds, tree_of, reading, pairs}

@@ -6,14 +6,8 @@ use Rattle.ab_term.specs.Terms as tree
 use Rattle.ab_term.specs.Terms.{Term, Terms, lam, spine, term, no_terms, terms_of}
 use Rattle.ab_term.specs.Names.{support_of_head, support, support_of_all, rename_head, rename, rename_all}
 use Rattle.ab_types.specs.Entries.{Table}
-use Rattle.ab_types.specs.Ids.{type_of}
-use Rattle.ab_types.specs.declared.ids.TypeId.{TypeId}
 use Rattle.ab_store.specs.declared.node.TermId.{TermId}
-use Rattle.ab_store.specs.declared.node.Head.{Head}
-use Rattle.ab_store.specs.declared.node.Node.{Node}
-use Rattle.ab_store.specs.declared.node.Node.TheVariants.{Lam, Spine}
-use Rattle.ab_store.specs.declared.node.CellEntry.{CellEntry}
-use Rattle.ab_store.specs.Trees.{Read, Contents, Holds, tree_of, head_in, head_reading, node_tree}
+use Rattle.ab_store.specs.Trees.{Read, Contents, Holds, tree_of}
 use Rattle.ab_store.specs.Growth.{IsExtendedBy}
 use Rattle.ab_norm.specs.Matching.{Renaming}
 use Rattle.ab_norm.proofs.Frame.{still_read_before}

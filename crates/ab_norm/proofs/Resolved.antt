@@ -1,15 +1,13 @@
 -- Terms in which no bound cell stands: part by part, and what is read.
-use Rattle.std.proofs.Common.{◌≡◌, ◌≢◌, ◌⊎◌, inl, inr, ◌↔◌, ℕ, zero, suc, ◌+◌, ◌<◌, ◌≤◌, List, [], ◌∷◌, ◌++◌, map, take, drop, length, get_or, Bool, true, false, cond, ◌==◌, ◌&&◌, Option, None, Some, refl, sym, ◌∙◌, ap, subst, arith}
+use Rattle.std.proofs.Common.{◌≡◌, ◌≢◌, ◌⊎◌, inl, inr, ◌↔◌, ℕ, zero, suc, ◌+◌, ◌<◌, ◌≤◌, List, [], ◌∷◌, ◌++◌, map, take, drop, length, get_or, Bool, true, false, cond, ◌==◌, None, Some, refl, sym, ◌∙◌, ap, subst, arith}
 use Rattle.std.specs.Prelude.{All, AllPairs, Contains}
 use Rattle.std.proofs.lemmas.Bool.Decides.{Decides-eqb}
 use Rattle.std.proofs.lemmas.List.{map-append, get_or-map, length-map, drop_more, drop_all, take_more}
 use Rattle.std.proofs.lemmas.List.Elements.{All-nil, All-cons, All-head, All-tail, All-append, All-map, All-push, All-contains, All-weaker}
-use Rattle.ab_term.specs.Types.{Ty, same_type}
-use Rattle.ab_term.specs.Terms as tree
-use Rattle.ab_term.specs.Terms.{Variable, Term, Terms, lam, spine, no_terms, term, terms_of}
+use Rattle.ab_term.specs.Terms.{Variable, terms_of}
 use Rattle.ab_term.specs.Sameness.{same_number}
-use Rattle.ab_term.specs.Variables.{variables, variables_of_head, variables_of_all, value_in, image, Substitution, one_by_one}
-use Rattle.ab_term.proofs.Lists.{Contains-none, Contains-here, Contains-there, Contains-cases, Contains-map, Contains-from_map, AllPairs-parts, All-from_contains}
+use Rattle.ab_term.specs.Variables.{variables, variables_of_head, variables_of_all, value_in, image, one_by_one}
+use Rattle.ab_term.proofs.Lists.{Contains-map, Contains-from_map, AllPairs-parts}
 use Rattle.ab_term.proofs.Stands.{variables-image}
 use Rattle.ab_term.proofs.Comparisons.{same_variable-itself}
 use Rattle.ab_types.specs.Entries.{Table}
@@ -24,10 +22,10 @@ use Rattle.ab_store.specs.declared.node.Node.{Node}
 use Rattle.ab_store.specs.declared.node.Node.TheVariants.{Lam, Spine}
 use Rattle.ab_store.specs.declared.node.Binding.{Binding}
 use Rattle.ab_store.specs.Trees.{Read, Contents, Holds, HoldsCell, cell_in, cell_of, head_in, tree_of, node_tree}
-use Rattle.ab_store.specs.Reading.{bound_in, binding_of, cell_variable, pairs, reading}
-use Rattle.ab_store.specs.Bindings.{cells_of, IsUnbound, IsResolved, AreInOrder}
+use Rattle.ab_store.specs.Reading.{bound_in, cell_variable, pairs, reading}
+use Rattle.ab_store.specs.Bindings.{IsUnbound, IsResolved, AreInOrder}
 use Rattle.ab_store.specs.Growth.{IsExtendedBy}
-use Rattle.ab_store.proofs.Cells.{numbers, IsCell, stands, numbered, variables_are_cells}
+use Rattle.ab_store.proofs.Cells.{numbers, IsCell, stands, variables_are_cells}
 use Rattle.ab_store.proofs.Putting.{Pair, pair}
 use Rattle.ab_norm.specs.declared.memo.Seen.{Seen}
 use Rattle.ab_norm.specs.Remembering.{has_been}

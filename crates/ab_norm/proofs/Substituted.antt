@@ -1,23 +1,22 @@
 -- What a term reads as that is given its arguments one by one.
-use Rattle.std.proofs.Common.{◌≡◌, ℕ, suc, ◌+◌, ◌-◌, ◌<◌, List, [], ◌∷◌, None, map, take, drop, length, get_or, refl, sym, ◌∙◌, ap, arith}
+use Rattle.std.proofs.Common.{◌≡◌, ℕ, ◌-◌, ◌<◌, List, [], ◌∷◌, map, take, drop, length, get_or, refl, sym, ◌∙◌, ap, arith}
 use Rattle.std.specs.List.{All}
 use Rattle.std.proofs.lemmas.List.Elements.{All-drop}
 use Rattle.std.proofs.lemmas.List.{take_all}
-use Rattle.ab_term.specs.Types.{Ty, arrow}
-use Rattle.ab_term.specs.Terms.{lam, term, terms_of}
+use Rattle.ab_term.specs.Types.{arrow}
+use Rattle.ab_term.specs.Terms.{terms_of}
 use Rattle.ab_term.specs.Substitution as tree
 use Rattle.ab_term.specs.Reach.{raise}
-use Rattle.ab_term.proofs.Reaching.{raise-none, raise-more}
+use Rattle.ab_term.proofs.Reaching.{raise-none}
 use Rattle.ab_types.specs.Entries.{Table}
 use Rattle.ab_types.specs.Ids.{type_of}
 use Rattle.ab_types.specs.declared.ids.TypeId.{TypeId}
 use Rattle.ab_store.specs.declared.node.TermId.{TermId}
-use Rattle.ab_store.specs.declared.node.Head.{Head}
 use Rattle.ab_store.specs.declared.node.Node.{Node}
-use Rattle.ab_store.specs.declared.node.Node.TheVariants.{Lam, Spine}
-use Rattle.ab_store.specs.Trees.{Read, Contents, Holds, tree_of, head_reading, node_tree}
+use Rattle.ab_store.specs.declared.node.Node.TheVariants.{Lam}
+use Rattle.ab_store.specs.Trees.{Contents, Holds, tree_of, node_tree}
 use Rattle.ab_norm.specs.Growth.{AddsTerms}
-use Rattle.ab_norm.proofs.Frame.{same_head, still_read}
+use Rattle.ab_norm.proofs.Frame.{still_read}
 
 module _ (types : Table) (s0 s1 s2 : Contents) where
   pub applied : (ty from to : TypeId) (u : TermId) (v r : TermId) (n : Node) (b : TypeId) (x : List ℕ) (body d : TermId) (args rest : List TermId)

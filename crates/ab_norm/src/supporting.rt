@@ -22,9 +22,6 @@ use ab_types::laws::has_unique_ids;
 use std::alloc::{AllocError, Global};
 use std::collections::BTreeSet;
 
-#[cfg(test)]
-mod tests;
-
 /// The nominal constants that stand in the term, each once, in the order of their numbers.
 pub fn support(
     alloc: Global,

@@ -3,7 +3,7 @@ ghost use Rattle.ab_types.specs.Ids.{HoldsType, HoldsConstant};
 ghost use Rattle.ab_store.specs.Reading.{Holds};
 ghost use Rattle.ab_store.specs.Naming.{IsTypedBy};
 
-use super::{Symbols, atom, base, constant_once, identity, new_sorts, new_symbols};
+use super::{Symbols, atom, base, constant_once, identity, new_symbols};
 use crate::{Tree, equal, eta, reading};
 use ab_store::{Head, Store, TermId};
 use ab_types::{Name, TableFault, TypeId, TypeTable};
@@ -120,15 +120,5 @@ fn hints_are_not_compared(rt: HostRuntime) -> Result<(), TableFault> {
     let mut store = Store::new(rt.alloc());
     let same = are_equal(rt.alloc(), &types, &mut store, one, one);
     assert!(rt; same == Ok(true));
-    Ok(())
-}
-
-#[test]
-fn types_of_binders_are_compared(rt: HostRuntime) -> Result<(), TableFault> {
-    let mut types = TypeTable::new(rt.alloc())?;
-    let sorts = new_sorts(rt.alloc(), &mut types)?;
-    let mut store = Store::new(rt.alloc());
-    let same = are_equal(rt.alloc(), &types, &mut store, sorts.one, sorts.unary);
-    assert!(rt; same == Ok(false));
     Ok(())
 }

@@ -3,9 +3,7 @@ ghost use Rattle.ab_types.specs.Ids.{HoldsType, HoldsConstant};
 ghost use Rattle.ab_store.specs.Reading.{Contents, Holds};
 ghost use Rattle.ab_store.specs.Naming.{HoldsHead, HeadIsTyped, IsTypedBy};
 
-use super::{
-    Sorts, Symbols, applied, atom, base, constant_once, identity, new_symbols, pair, under,
-};
+use super::{Sorts, Symbols, applied, atom, base, constant_once, new_symbols, under};
 use crate::{equal, instantiate};
 use ab_store::{Head, Store, TermId};
 use ab_types::{ConstId, Steps, TableFault, TypeId, TypeTable};
@@ -32,25 +30,6 @@ fn gives(
     equal(alloc, types, store, made, wanted)
 }
 
-/// `f\ f (x\ x)`.
-fn given_identity(
-    alloc: Global,
-    types: &TypeTable,
-    store: &mut Store,
-    sorts: Sorts,
-) -> Result<TermId, AllocError>
-    requires store { IsTypedBy types.now store.old }
-    requires one { HoldsType types.now sorts.one }
-    requires second { HoldsType types.now sorts.second }
-    ensures held { IfOk result (λ id. Holds store.new id) }
-    ensures ids { (t : TermId) → Holds store.old t → Holds store.new t }
-    ensures typed { IsTypedBy types.now store.new }
-{
-    let arg = identity(alloc, types, store, sorts.one)?;
-    let body = applied(alloc, types, store, Head::Index(0), arg)?;
-    under(alloc, types, store, sorts.second, body)
-}
-
 /// `g\ g c`.
 fn at_constant(
     alloc: Global,
@@ -69,35 +48,6 @@ fn at_constant(
     let arg = atom(alloc, types, store, Head::Const(c))?;
     let body = applied(alloc, types, store, Head::Index(0), arg)?;
     under(alloc, types, store, ty, body)
-}
-
-/// Whether `f\ f (x\ x)` with `g\ g c` is `c`.
-fn reduces(
-    alloc: Global,
-    types: &TypeTable,
-    store: &mut Store,
-    symbols: Symbols,
-) -> Result<bool, AllocError>
-    requires store { IsTypedBy types.now store.old }
-    requires one { HoldsType types.now symbols.sorts.one }
-    requires unary { HoldsType types.now symbols.sorts.unary }
-    requires second { HoldsType types.now symbols.sorts.second }
-    requires c { HoldsConstant types.now symbols.c }
-{
-    let lam = given_identity(alloc, types, store, symbols.sorts)?;
-    let arg = at_constant(alloc, types, store, symbols.sorts.unary, symbols.c)?;
-    let wanted = atom(alloc, types, store, Head::Const(symbols.c))?;
-    gives(alloc, types, store, lam, arg, wanted)
-}
-
-#[test]
-fn redexes_that_arise_are_reduced(rt: HostRuntime) -> Result<(), TableFault> {
-    let mut types = TypeTable::new(rt.alloc())?;
-    let symbols = new_symbols(rt.alloc(), &mut types)?;
-    let mut store = Store::new(rt.alloc());
-    let same = reduces(rt.alloc(), &types, &mut store, symbols);
-    assert!(rt; same == Ok(true));
-    Ok(())
 }
 
 /// `h (h x)` for the head, where `x` is the name that is bound last.
@@ -284,67 +234,6 @@ fn reduces_on(
     gives(alloc, types, store, lam, arg, wanted)
 }
 
-/// `f\ n3 (f c) (f c)`, where the arguments are one id.
-fn shared(
-    alloc: Global,
-    types: &TypeTable,
-    store: &mut Store,
-    symbols: Symbols,
-) -> Result<TermId, AllocError>
-    requires store { IsTypedBy types.now store.old }
-    requires unary { HoldsType types.now symbols.sorts.unary }
-    requires binary { HoldsType types.now symbols.sorts.binary }
-    requires c { HoldsConstant types.now symbols.c }
-    ensures held { IfOk result (λ id. Holds store.new id) }
-    ensures ids { (t : TermId) → Holds store.old t → Holds store.new t }
-    ensures typed { IsTypedBy types.now store.new }
-{
-    let c = atom(alloc, types, store, Head::Const(symbols.c))?;
-    let arg = applied(alloc, types, store, Head::Index(0), c)?;
-    let body = pair(alloc, types, store, symbols.sorts.binary, arg, arg)?;
-    under(alloc, types, store, symbols.sorts.unary, body)
-}
-
-/// `n3 (s c) (s c)`.
-fn two_sums(
-    alloc: Global,
-    types: &TypeTable,
-    store: &mut Store,
-    symbols: Symbols,
-) -> Result<TermId, AllocError>
-    requires store { IsTypedBy types.now store.old }
-    requires binary { HoldsType types.now symbols.sorts.binary }
-    requires s { HoldsConstant types.now symbols.s }
-    requires c { HoldsConstant types.now symbols.c }
-    ensures held { IfOk result (λ id. Holds store.new id) }
-    ensures ids { (t : TermId) → Holds store.old t → Holds store.new t }
-    ensures typed { IsTypedBy types.now store.new }
-{
-    let first = application(alloc, types, store, symbols.s, symbols.c)?;
-    let second = application(alloc, types, store, symbols.s, symbols.c)?;
-    pair(alloc, types, store, symbols.sorts.binary, first, second)
-}
-
-/// Whether `f\ n3 (f c) (f c)` with `x\ s x` is `n3 (s c) (s c)`.
-fn reduces_shared(
-    alloc: Global,
-    types: &TypeTable,
-    store: &mut Store,
-    symbols: Symbols,
-) -> Result<bool, AllocError>
-    requires store { IsTypedBy types.now store.old }
-    requires one { HoldsType types.now symbols.sorts.one }
-    requires unary { HoldsType types.now symbols.sorts.unary }
-    requires binary { HoldsType types.now symbols.sorts.binary }
-    requires s { HoldsConstant types.now symbols.s }
-    requires c { HoldsConstant types.now symbols.c }
-{
-    let lam = shared(alloc, types, store, symbols)?;
-    let arg = constant_once(alloc, types, store, symbols.sorts.one, symbols.s)?;
-    let wanted = two_sums(alloc, types, store, symbols)?;
-    gives(alloc, types, store, lam, arg, wanted)
-}
-
 /// `y\ x`, for the name `x` that is bound around it.
 fn outer_name(
     alloc: Global,
@@ -384,16 +273,6 @@ fn redexes_of_third_order_are_reduced(rt: HostRuntime) -> Result<(), TableFault>
     let symbols = new_symbols(rt.alloc(), &mut types)?;
     let mut store = Store::new(rt.alloc());
     let same = reduces_on(rt.alloc(), &types, &mut store, symbols);
-    assert!(rt; same == Ok(true));
-    Ok(())
-}
-
-#[test]
-fn a_shared_argument_is_reduced_at_both_places(rt: HostRuntime) -> Result<(), TableFault> {
-    let mut types = TypeTable::new(rt.alloc())?;
-    let symbols = new_symbols(rt.alloc(), &mut types)?;
-    let mut store = Store::new(rt.alloc());
-    let same = reduces_shared(rt.alloc(), &types, &mut store, symbols);
     assert!(rt; same == Ok(true));
     Ok(())
 }

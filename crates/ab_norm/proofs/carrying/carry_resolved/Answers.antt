@@ -1,4 +1,4 @@
-use Rattle.std.proofs.Common.{◌<◌, ◌≤◌, arith, ap, refl, ◌∙◌, length, get_or}
+use Rattle.std.proofs.Common.{◌<◌, arith, ap, refl, ◌∙◌, length, get_or}
 use Rattle.ab_term.specs.Sameness.{same_number}
 use Rattle.ab_term.specs.Variables.{one_by_one}
 use Rattle.ab_store.specs.declared.node.Binding.{Binding}

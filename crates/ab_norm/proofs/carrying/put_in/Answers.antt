@@ -1,4 +1,3 @@
-use Rattle.std.proofs.Common.{◌∙◌}
 use Rattle.ab_store.specs.Reading.{tree_of, cell_variable}
 use Rattle.ab_norm.proofs.Frame.{typed_on}
 use Rattle.ab_norm.proofs.Changed.{always_ok}

@@ -1,4 +1,4 @@
-use Rattle.std.proofs.Common.{◌≡◌, ap, sym, ◌∙◌, subst, length}
+use Rattle.std.proofs.Common.{ap, sym, ◌∙◌, subst, length}
 use Rattle.ab_store.specs.Naming.{NodeNames, NodeIsTyped}
 use Rattle.ab_store.specs.Reading.{node_reading}
 use Rattle.ab_norm.specs.Heads.{BeginsFree}

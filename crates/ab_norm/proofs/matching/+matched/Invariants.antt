@@ -1,8 +1,4 @@
 use Rattle.std.proofs.Common.{◌≡◌, ◌+◌, ◌*◌, map, take, true}
-use Rattle.ab_types.specs.Entries.{Table}
-use Rattle.ab_types.specs.Sound.{IsTable}
-use Rattle.ab_store.specs.Naming.{IsTypedBy}
-use Rattle.ab_norm.specs.Nominals.{HoldsPairs}
 use Rattle.ab_norm.specs.Matching.{IsOneToOne, Found, AllMatch}
 use Rattle.ab_norm.proofs.Bounds.{ids_bound}
 use Rattle.ab_norm.proofs.Compared.{bare}

@@ -1,10 +1,6 @@
-use Rattle.std.proofs.Common.{ap, sym, ◌∙◌, subst, Option, None, Some}
-use Rattle.std.specs.Prelude.{IfSome, IsNone, ◌↔◌}
-use Rattle.ab_term.specs.Translation.{EqualPastHints}
-use Rattle.ab_term.specs.Names.{permute, EqualUpToNames}
-use Rattle.ab_store.specs.Trees.{Read, Contents}
+use Rattle.std.proofs.Common.{ap, sym, ◌∙◌}
+use Rattle.ab_store.specs.Trees.{Contents}
 use Rattle.ab_store.proofs.Putting.{resolved_reads}
-use Rattle.ab_norm.specs.Nominals.{pairs_of}
 use Rattle.ab_norm.proofs.Frame.{if_ok}
 use Rattle.ab_norm.proofs.UpTo.{sends_alike, none_alike}
 use Rattle.ab_norm.proofs.matching.equal_up_to_names.Goals as goal

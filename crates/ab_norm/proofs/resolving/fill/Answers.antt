@@ -1,4 +1,4 @@
-use Rattle.std.proofs.Common.{◌≡◌, ◌<◌, ◌≤◌, arith, ap, refl, length, ◌∙◌}
+use Rattle.std.proofs.Common.{◌<◌, arith, ap, refl, length}
 use Rattle.ab_store.specs.Reading.{reading}
 use Rattle.ab_norm.proofs.Frame.{adds_none, adds_on}
 use Rattle.ab_norm.proofs.Resolved.{reading_clear, fill_step, fill_done}

@@ -1,13 +1,13 @@
-use Rattle.std.proofs.Common.{◌≡◌, ◌<◌, ◌≤◌, arith, ap, sym, ◌∙◌, get_or, map, subst, length}
+use Rattle.std.proofs.Common.{◌<◌, ◌≤◌, arith, ap, sym, ◌∙◌, get_or, map, subst, length}
 use Rattle.std.specs.List.{All}
-use Rattle.std.proofs.lemmas.List.Elements.{All-nil, All-push, All-same, All-drop, All-weaker}
+use Rattle.std.proofs.lemmas.List.Elements.{All-push, All-same, All-drop, All-weaker}
 use Rattle.ab_term.specs.Terms.{terms_of}
 use Rattle.ab_term.specs.Substitution.{reduce}
-use Rattle.ab_types.specs.Ids.{HoldsType, type_of}
+use Rattle.ab_types.specs.Ids.{type_of}
 use Rattle.ab_store.specs.declared.node.TermId.{TermId}
-use Rattle.ab_store.specs.Naming.{HeadNames, HeadIsTyped, NodeIsTyped}
+use Rattle.ab_store.specs.Naming.{HeadNames, NodeIsTyped}
 use Rattle.ab_store.specs.Trees.{Holds, tree_of}
-use Rattle.ab_norm.specs.Changes.{changed, head_changed, Fits, Suits}
+use Rattle.ab_norm.specs.Changes.{changed, Fits, Suits}
 use Rattle.ab_norm.specs.Nominals.{HoldsPairs}
 use Rattle.ab_norm.specs.declared.walking.Change.TheVariants.{Raise, Put}
 use Rattle.ab_norm.proofs.Bounds.{ids_bound, bound_within, below_bound, size, size_positive, rank}
@@ -15,7 +15,7 @@ use Rattle.ab_store.proofs.Growing.{extended_on}
 use Rattle.ab_norm.proofs.Frame.{if_ok, adds_on, spine_names, lam_names}
 use Rattle.ab_norm.proofs.Renamed.{read_more_before}
 use Rattle.ab_norm.proofs.Substituted.{applied, rest_is}
-use Rattle.ab_norm.proofs.Changed.{changed_on, changed_there, fits_on, remembers_on, remembers_more, remembers_none, adds_for_none, adds_for_on, adds_terms, adds_for_lam, adds_for_spine, made_lam, made_spine, put_named, filled_here, filled_other, always_ok}
+use Rattle.ab_norm.proofs.Changed.{changed_on, changed_there, fits_on, remembers_on, remembers_more, remembers_none, adds_for_on, adds_terms, adds_for_lam, adds_for_spine, made_lam, made_spine, put_named, filled_here, filled_other, always_ok}
 use Rattle.ab_norm.proofs.walking.+walked.Goals as goal
 
 pub walk-returns-in-Some-clause-held : goal.walk-returns-in-Some-clause-held

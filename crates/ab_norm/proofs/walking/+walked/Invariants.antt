@@ -1,11 +1,8 @@
-use Rattle.std.proofs.Common.{◌≡◌, ℕ, ◌+◌, ◌*◌, ◌^◌, ◌≤◌, map, take}
+use Rattle.std.proofs.Common.{◌≡◌, ◌+◌, ◌*◌, ◌^◌, ◌≤◌, map, take}
 use Rattle.std.specs.List.{All}
-use Rattle.ab_types.specs.Entries.{Table}
 use Rattle.ab_types.specs.Ids.{type_of}
 use Rattle.ab_store.specs.Trees.{Holds, tree_of}
 use Rattle.ab_norm.specs.Changes.{changed, Remembers, AddsFor}
-use Rattle.ab_norm.specs.declared.walking.Change.{Change}
-use Rattle.ab_norm.specs.declared.walking.Change.TheVariants.{Raise, Put, Rename}
 use Rattle.ab_norm.proofs.Bounds.{ids_bound, size, rank}
 use Rattle.ab_norm.proofs.walking.+walked.Given as goal
 

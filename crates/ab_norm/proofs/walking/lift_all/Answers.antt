@@ -1,8 +1,7 @@
-use Rattle.std.proofs.Common.{◌<◌, ◌≤◌, arith, get_or}
-use Rattle.std.specs.List.{All}
+use Rattle.std.proofs.Common.{arith}
 use Rattle.std.proofs.lemmas.List.Elements.{All-push}
 use Rattle.ab_term.specs.Reach.{raise}
-use Rattle.ab_store.specs.Trees.{Holds, tree_of}
+use Rattle.ab_store.specs.Trees.{Holds}
 use Rattle.ab_norm.proofs.Frame.{adds_on, still_held, read_more}
 use Rattle.ab_norm.proofs.walking.lift_all.Goals as goal
 

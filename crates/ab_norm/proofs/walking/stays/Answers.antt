@@ -1,4 +1,4 @@
-use Rattle.std.proofs.Common.{◌≤◌, arith}
+use Rattle.std.proofs.Common.{arith}
 use Rattle.std.proofs.lemmas.Bool.{leb-true}
 use Rattle.ab_store.specs.Trees.{tree_of}
 use Rattle.ab_norm.proofs.Changed.{not_true, stays_by_none, stays_raised, stays_put, stays_renamed, stays_filled}
