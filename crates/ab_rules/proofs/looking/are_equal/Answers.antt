@@ -3,7 +3,7 @@ use Rattle.std.proofs.Common.{subst}
 use Rattle.std.proofs.lemmas.Result.{IfOk-weaker}
 use Rattle.ab_term.specs.Translation.{EqualPastHints}
 use Rattle.ab_store.specs.Reading.{reading}
-use Rattle.ab_store.proofs.Growing.{unbound_reads, unbound_resolved}
+use Rattle.ab_store.proofs.Growing.{unbound_reads}
 use Rattle.ab_logic.specs.Worlds.{read}
 use Rattle.ab_rules.proofs.looking.are_equal.Goals as goal
 
@@ -15,4 +15,4 @@ returns c =
     (λ yes is.
     subst (λ t. IsTrue yes ↔ EqualPastHints (read w c.args.a) t) (unbound_reads w.store none w.types c.args.b)
     (subst (λ t. IsTrue yes ↔ EqualPastHints t (reading w.types w.store c.args.b)) (unbound_reads w.store none w.types c.args.a) is))
-    (c.equal.ensures (unbound_resolved w.store none c.args.a) (unbound_resolved w.store none c.args.b))
+    c.equal.ensures

@@ -1,7 +1,7 @@
 use Rattle.std.proofs.Common.{map, subst}
 use Rattle.std.proofs.lemmas.Result.{IfOk-weaker}
 use Rattle.ab_term.specs.Names.{IsSupport}
-use Rattle.ab_store.proofs.Growing.{unbound_reads, unbound_resolved}
+use Rattle.ab_store.proofs.Growing.{unbound_reads}
 use Rattle.ab_norm.specs.Nominals.{nominal_of}
 use Rattle.ab_rules.proofs.looking.support_in.Goals as goal
 
@@ -11,4 +11,4 @@ returns-clause-support c =
     let none = c.requires.world.unbound in
     IfOk-weaker c.support.result _ _
     (λ list is. subst (λ t. IsSupport t (map (nominal_of w.types) list.items)) (unbound_reads w.store none w.types c.args.formula) is)
-    (c.support.ensures.reads (unbound_resolved w.store none c.args.formula))
+    c.support.ensures.reads
