@@ -3,10 +3,10 @@
 use Rattle.std.proofs.Common.{◌≡◌, ℕ, List, [], ◌∷◌, ◌++◌, get_or, refl, sym, ◌∙◌, ap}
 use Rattle.ab_term.specs.Types.{Ty, prop}
 use Rattle.ab_term.specs.Terms.{Head, nominal}
-use Rattle.ab_term.specs.Beta.{Plain, atom, abstraction, application}
+use Rattle.ab_term.specs.Beta.{atom, abstraction, application}
 use Rattle.ab_readings.specs.Names.{Name, Resolved}
 use Rattle.ab_readings.specs.Readings.{Raw, Reads, reads_bound, reads_known, reads_free, reads_apply, reads_abs, reads_equal, reads_bind}
-use Rattle.ab_readings.specs.Answers.{IsTheReading, HasNoReading, IsFirstOpen}
+use Rattle.ab_readings.specs.Answers.{IsTheReading, IsFirstOpen}
 use Rattle.ab_building.specs.Outcomes.{nominal_of}
 
 abbrev head_given : Head ℕ → Ty

@@ -1,6 +1,6 @@
 -- A reading is well-typed.
-use Rattle.std.proofs.Common.{◌≡◌, ℕ, List, [], ◌∷◌, Some, refl}
-use Rattle.ab_term.specs.Types.{Ty, arrow}
+use Rattle.std.proofs.Common.{List, ◌∷◌, refl}
+use Rattle.ab_term.specs.Types.{Ty}
 use Rattle.ab_term.specs.Typing.{Signature}
 use Rattle.ab_term.specs.Normal.{FitsType, fits_atom, fits_abstraction, fits_application}
 use Rattle.ab_grammar.specs.declared.Quant.TheVariants.{Forall, Exists, Nabla}

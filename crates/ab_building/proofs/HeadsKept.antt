@@ -1,5 +1,5 @@
 -- What holds of the heads of a typed term, and of every bound name, holds of the heads of its normal form.
-use Rattle.std.proofs.Common.{◌≡◌, ℕ, zero, suc, List, [], ◌∷◌, Option, Some, None, option_map, codes}
+use Rattle.std.proofs.Common.{ℕ, zero, suc, List, ◌∷◌, Option, Some, None, option_map, codes}
 use Rattle.ab_term.specs.Types.{Ty, kind, arrow}
 use Rattle.ab_term.specs.Terms.{Head, constant, logical, nominal, variable, index, Term, lam, spine, Terms, no_terms, term, with_last}
 use Rattle.ab_term.specs.Typing.{Signature, head_type}

@@ -1,7 +1,7 @@
 -- What values stand for when they are given arguments, and when the store grows.
 use Rattle.std.specs.List.{All}
-use Rattle.std.proofs.Common.{◌≡◌, ℕ, List, [], ◌∷◌, ◌++◌, map, length, codes, refl, sym, ap, ◌∙◌, subst}
-use Rattle.std.proofs.lemmas.List.Elements.{All-weaker, All-nil, All-cons, All-head, All-tail}
+use Rattle.std.proofs.Common.{◌≡◌, ℕ, List, [], ◌∷◌, ◌++◌, length, codes, refl, sym, ap, ◌∙◌, subst}
+use Rattle.std.proofs.lemmas.List.Elements.{All-weaker}
 use Rattle.ab_term.specs.Types.{Ty, kind, arrow}
 use Rattle.ab_term.specs.Terms.{Terms, no_terms, term, terms_of, joined}
 use Rattle.ab_term.specs.Expansion.{expansion_of}
@@ -9,8 +9,8 @@ use Rattle.ab_types.specs.Entries.{Table}
 use Rattle.ab_types.specs.Ids.{type_of}
 use Rattle.ab_store.specs.declared.node.TermId.{TermId}
 use Rattle.ab_store.specs.declared.node.Head.{Head}
-use Rattle.ab_store.specs.Trees.{Read, Contents, Holds, head_in, head_reading, tree_of}
-use Rattle.ab_store.specs.Naming.{HeadNames, HoldsHead, HeadIsTyped}
+use Rattle.ab_store.specs.Trees.{Contents, Holds, head_in, head_reading, tree_of}
+use Rattle.ab_store.specs.Naming.{HeadNames}
 use Rattle.ab_norm.specs.Growth.{AddsTypedTerms}
 use Rattle.ab_norm.proofs.Frame.{still_read_before}
 use Rattle.ab_readings.specs.Normal.{left_type, given_all}

@@ -1,12 +1,12 @@
 -- The normal form of a well-typed term is canonical, and past hints it is the one by instances.
-use Rattle.std.proofs.Common.{◌≡◌, ℕ, List, [], ◌∷◌, Option, Some, None, codes, refl, sym, ap, ◌∙◌, subst}
-use Rattle.ab_term.specs.Types.{Ty, kind, arrow, prop}
-use Rattle.ab_term.specs.Terms.{Head, Term, lam, Terms, no_terms, term}
-use Rattle.ab_term.specs.Typing.{Signature, head_type, HasType, TakeType, typed_lam, take_none, take_term}
+use Rattle.std.proofs.Common.{◌≡◌, ℕ, List, ◌∷◌, codes, refl, sym, ap, ◌∙◌, subst}
+use Rattle.ab_term.specs.Types.{Ty, arrow}
+use Rattle.ab_term.specs.Terms.{Term, lam, Terms, no_terms, term}
+use Rattle.ab_term.specs.Typing.{Signature, HasType, TakeType, typed_lam, take_none, take_term}
 use Rattle.ab_term.specs.Substitution.{reduce, instance}
 use Rattle.ab_term.specs.Expansion.{expansion_of}
 use Rattle.ab_term.specs.Translation.{translate_head, forget, forget_all, EqualPastHints}
-use Rattle.ab_term.specs.Beta.{Plain, atom, abstraction, application}
+use Rattle.ab_term.specs.Beta.{Plain}
 use Rattle.ab_term.specs.Normal.{FitsType, fits_atom, fits_abstraction, fits_application, normal}
 use Rattle.ab_term.specs.Normal as textbook
 use Rattle.ab_term.proofs.Preservation.{instance_typed}

@@ -1,5 +1,5 @@
 -- The heads of a reading, and terms without variables and nominal constants.
-use Rattle.std.proofs.Common.{◌≡◌, ℕ, List, [], ◌∷◌, ◌++◌, refl, ap, ◌∙◌}
+use Rattle.std.proofs.Common.{◌≡◌, ℕ, List, [], ◌++◌, refl, ap, ◌∙◌}
 use Rattle.ab_term.specs.Types.{Ty}
 use Rattle.ab_term.specs.Logical.{equality}
 use Rattle.ab_term.specs.Terms.{Head, constant, logical, nominal, variable, index, Term, lam, spine, Terms, no_terms, term}

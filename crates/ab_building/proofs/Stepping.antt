@@ -1,14 +1,13 @@
 -- Each step goes on from values that are right to values that are right.
 use Rattle.std.specs.List.{All}
 use Rattle.std.specs.Prelude.{MatchOption}
-use Rattle.std.proofs.Common.{◌≡◌, ℕ, zero, suc, ◌+◌, ◌<◌, List, [], ◌∷◌, ◌++◌, map, length, drop, codes, get_or, Option, Some, None, option_map, refl, sym, ap, ◌∙◌, subst}
+use Rattle.std.proofs.Common.{◌≡◌, ℕ, zero, suc, ◌+◌, ◌<◌, List, [], ◌∷◌, map, length, drop, codes, get_or, Option, Some, None, option_map, refl, sym, ap, ◌∙◌, subst}
 use Rattle.std.proofs.lemmas.List.Elements.{All-head, All-tail}
-use Rattle.ab_term.specs.Types.{Ty, kind, arrow, prop}
+use Rattle.ab_term.specs.Types.{Ty, prop}
 use Rattle.ab_term.specs.Logical.{logical_type, equality}
-use Rattle.ab_term.specs.Terms.{Head, index, logical, Terms, no_terms, term, lam}
+use Rattle.ab_term.specs.Terms.{index, logical, Terms, no_terms, term, lam}
 use Rattle.ab_term.specs.Typing.{type_at, head_type}
 use Rattle.ab_term.specs.Expansion.{expansion_of}
-use Rattle.ab_term.specs.Beta.{abstraction}
 use Rattle.ab_types.specs.Entries.{Table, signature}
 use Rattle.ab_types.specs.Ids.{type_of}
 use Rattle.ab_types.specs.declared.ids.TypeId.{TypeId}

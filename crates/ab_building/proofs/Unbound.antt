@@ -1,17 +1,17 @@
 -- A term with no bound cell reads as its tree.
 use Rattle.std.specs.List.{All}
-use Rattle.std.proofs.Common.{◌≡◌, ℕ, ◌<◌, List, [], ◌∷◌, ◌++◌, map, length, get_or, None, refl, sym, ap, ◌∙◌, subst, arith}
+use Rattle.std.proofs.Common.{◌≡◌, ℕ, List, [], map, None, sym, subst, arith}
 use Rattle.std.proofs.lemmas.List.{get_or-map, length-map}
 use Rattle.std.proofs.lemmas.List.Elements.{All-nil, All-cons, All-append, All-map}
 use Rattle.ab_term.specs.Types.{Ty}
-use Rattle.ab_term.specs.Terms.{Variable, Head, constant, logical, nominal, variable, index, Term, lam, spine, Terms, no_terms, term}
+use Rattle.ab_term.specs.Terms.{Variable, constant, logical, nominal, variable, index, lam, spine, Terms, no_terms, term}
 use Rattle.ab_term.specs.Variables.{variables, variables_of_all}
 use Rattle.ab_types.specs.Entries.{Table, signature}
 use Rattle.ab_store.specs.declared.node.TermId.{TermId}
 use Rattle.ab_store.specs.declared.node.CellId.{CellId}
 use Rattle.ab_store.specs.Trees.{Read, Contents, tree_of}
 use Rattle.ab_store.specs.Reading.{bound_in, reading}
-use Rattle.ab_store.specs.Bindings.{cells_of, IsUnbound, IsResolved}
+use Rattle.ab_store.specs.Bindings.{cells_of, IsResolved}
 use Rattle.ab_store.proofs.Cells.{cells_are}
 use Rattle.ab_store.proofs.Putting.{resolved_reads}
 use Rattle.ab_readings.specs.Names.{Resolved}

@@ -1,5 +1,5 @@
 -- What the heads of steps and of free names have to be, and the normal form that the steps make.
-use Rattle.std.specs.Prelude.{◌≡◌, ℕ, ◌+◌, ◌<◌, ◌≤◌, List, [], ◌∷◌, length, get_or, Option, Some, None, MatchOption}
+use Rattle.std.specs.Prelude.{◌≡◌, ℕ, ◌+◌, ◌<◌, List, [], length, get_or, Some}
 use Rattle.ab_term.specs.Types.{Ty}
 use Rattle.ab_term.specs.Typing.{head_type}
 use Rattle.ab_types.specs.Entries.{Table, signature}
@@ -15,8 +15,7 @@ use Rattle.ab_readings.specs.Readings.{Making}
 use Rattle.ab_readings.specs.Normal.{normal_form}
 use Rattle.ab_solving.specs.declared.settling.Settled.{Settled}
 use Rattle.ab_solving.specs.Settling.{settled_at}
-use Rattle.ab_infer.specs.Sketches.{Sketch, term_of, Fit}
-use Rattle.ab_infer.specs.Programs.{Runs, items_of}
+use Rattle.ab_infer.specs.Sketches.{Sketch, term_of}
 use Rattle.ab_infer.specs.Verdicts.{types_found}
 use Rattle.ab_infer.specs.declared.op.Op.{Op}
 use Rattle.ab_infer.specs.declared.op.Op.TheVariants as op

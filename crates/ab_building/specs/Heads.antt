@@ -1,5 +1,5 @@
 -- The heads of an expression whose names are resolved, and of terms.
-use Rattle.std.specs.Prelude.{◌≡◌, ℕ, List, Option, Some}
+use Rattle.std.specs.Prelude.{◌≡◌, ℕ, List, Some}
 use Rattle.ab_term.specs.Logical.{Logical, universal, existential, nabla, star, at_sign, plus, hash}
 use Rattle.ab_term.specs.Terms.{Head, logical, nominal, variable, Term, lam, spine, Terms, no_terms, term}
 use Rattle.ab_term.specs.Beta.{atom, abstraction, application}

@@ -1,5 +1,5 @@
 -- What steps have made so far, as functions of the arguments that are still to come. Only private contracts speak of this.
-use Rattle.std.specs.Prelude.{◌≡◌, ℕ, ◌+◌, ◌<◌, List, [], ◌∷◌, ◌++◌, map, length, codes, Option, MatchOption}
+use Rattle.std.specs.Prelude.{◌≡◌, ℕ, List, [], ◌∷◌, ◌++◌, map, codes, Option, MatchOption}
 use Rattle.std.specs.List.{All}
 use Rattle.ab_term.specs.Types.{Ty}
 use Rattle.ab_term.specs.Terms.{Terms, no_terms, terms_of, joined}
@@ -7,7 +7,6 @@ use Rattle.ab_term.specs.Expansion.{expansion_of}
 use Rattle.ab_types.specs.Entries.{Table, signature}
 use Rattle.ab_types.specs.Ids.{HoldsType, type_of}
 use Rattle.ab_store.specs.declared.node.TermId.{TermId}
-use Rattle.ab_store.specs.declared.node.Head.{Head}
 use Rattle.ab_store.specs.Trees.{Read, Contents, Holds, head_reading, tree_of}
 use Rattle.ab_store.specs.Naming.{HoldsHead, HeadIsTyped}
 use Rattle.ab_readings.specs.Names.{Name}

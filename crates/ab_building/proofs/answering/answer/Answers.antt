@@ -1,5 +1,4 @@
-use Rattle.std.proofs.Common.{refl, subst, sym}
-use Rattle.ab_building.specs.Outcomes.{IsOutcome}
+use Rattle.std.proofs.Common.{refl}
 use Rattle.ab_building.proofs.answering.answer.Goals as goal
 
 pub returns-in-One : goal.returns-in-One

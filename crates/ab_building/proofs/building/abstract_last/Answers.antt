@@ -1,4 +1,3 @@
-use Rattle.std.specs.Prelude.{MatchOption}
 use Rattle.ab_types.specs.Ids.{type_of}
 use Rattle.ab_term.specs.Terms.{lam}
 use Rattle.ab_building.specs.Values.{HoldsValue, turned, Popped}

@@ -1,9 +1,8 @@
-use Rattle.std.proofs.Common.{◌≡◌, ℕ, suc, ◌+◌, ◌<◌, ◌≤◌, List, [], ◌∷◌, length, drop, sym, ap, subst, ◌∙◌, add-one, arith}
+use Rattle.std.proofs.Common.{◌≡◌, suc, ◌∷◌, drop, sym, ap, subst, ◌∙◌, add-one, arith}
 use Rattle.std.proofs.lemmas.List.Elements.{All-push}
 use Rattle.ab_norm.proofs.Frame.{typed_on, if_ok}
 use Rattle.ab_infer.specs.Programs.{items_of}
 use Rattle.ab_infer.specs.Verdicts.{types_found}
-use Rattle.ab_building.specs.declared.value.Value.{Value}
 use Rattle.ab_building.specs.Values.{HoldsValue, Whole, Going, turned}
 use Rattle.ab_building.proofs.Turned.{turned_last, nothing_behind}
 use Rattle.ab_building.proofs.Stepping.{go_on, ended}

@@ -1,10 +1,6 @@
-use Rattle.std.proofs.Common.{◌≡◌, ℕ, ◌≤◌, List, [], ◌∷◌, drop}
+use Rattle.std.proofs.Common.{◌≤◌, [], ◌∷◌, drop}
 use Rattle.std.specs.List.{All}
-use Rattle.ab_term.specs.Types.{Ty}
 use Rattle.ab_norm.specs.Growth.{AddsTypedTerms}
-use Rattle.ab_readings.specs.Readings.{Making}
-use Rattle.ab_readings.specs.Names.{Name}
-use Rattle.ab_infer.specs.Sketches.{Sketch, Fit}
 use Rattle.ab_infer.specs.Programs.{Runs, items_of}
 use Rattle.ab_infer.specs.Verdicts.{types_found}
 use Rattle.ab_building.specs.Building.{BecomeHeads}

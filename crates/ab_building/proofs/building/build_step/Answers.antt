@@ -1,11 +1,10 @@
-use Rattle.std.proofs.Common.{◌≡◌, ℕ, ◌+◌, ◌<◌, List, [], ◌∷◌, length, get_or, refl, sym, ap, subst, arith}
+use Rattle.std.proofs.Common.{◌+◌, ◌<◌, ◌∷◌, length, refl, sym, subst, arith}
 use Rattle.std.proofs.lemmas.List.Elements.{All-nil}
 use Rattle.ab_store.specs.Trees.{Holds}
 use Rattle.ab_norm.proofs.Frame.{if_ok}
 use Rattle.ab_types.specs.Ids.{type_of}
-use Rattle.ab_store.specs.declared.node.Head.TheVariants.{Index}
 use Rattle.ab_solving.specs.Settling.{settled_at}
-use Rattle.ab_infer.specs.Programs.{item_of, binding_of, OpTyped}
+use Rattle.ab_infer.specs.Programs.{item_of, OpTyped}
 use Rattle.ab_infer.specs.Inferences.{written_type}
 use Rattle.ab_infer.specs.Verdicts.{types_found}
 use Rattle.ab_building.specs.Building.{HasHeadType, OpFits, head_at}

@@ -1,4 +1,4 @@
-use Rattle.std.proofs.Common.{◌≡◌, ℕ, List, [], ◌∷◌, length, sym, subst}
+use Rattle.std.proofs.Common.{[], ◌∷◌, length, sym, subst}
 use Rattle.ab_types.specs.Ids.{type_of}
 use Rattle.ab_norm.proofs.Frame.{typed_none, if_ok}
 use Rattle.ab_readings.specs.Answers.{IsTheReading}
