@@ -1,12 +1,22 @@
--- The type of a binder, where no type can end.
-use Rattle.std.proofs.Common.{◌≡◌, ℕ, List, Option, None, ap, ◌∙◌, ◌⊎◌, inl, inr}
+-- The type of a binder, where no type goes on.
+use Rattle.std.proofs.Common.{◌≡◌, ℕ, List, Option, Some, None, refl, ap, ◌∙◌, ◌⊎◌, inl, inr}
 use Rattle.ab_grammar.specs.declared.Quant.{Quant}
-use Rattle.ab_grammar.specs.Token.{right_paren}
+use Rattle.ab_grammar.specs.Token.{Token, right_paren}
 use Rattle.ab_grammar.specs.Tree.{Ty, Binder}
+use Rattle.ab_grammar.specs.Grammar.{typed}
 use Rattle.ab_grammar.specs.Language.{Follower, by_right_paren}
-use Rattle.ab_grammar.specs.Machine.{Frame, TypeState, type_step, type_finish, binder_on}
+use Rattle.ab_grammar.specs.Machine.{Frame, State, TypeState, type_step, type_finish, binder_on, binder_done, binder_closed}
 
-module _ (fs : List Frame) (q : Quant) (p : ℕ) (bs : List Binder) (x : List ℕ) (r : ℕ) (s : TypeState) where
-  pub never_closed : type_step s right_paren ≡ None → (type_finish s ≡ None) ⊎ (Follower right_paren → ⊥) → binder_on fs q p bs x r (type_step s right_paren) (type_finish s) right_paren ≡ None
-  never_closed e (inl f) = ap (λ o. binder_on fs q p bs x r o (type_finish s) right_paren) e ∙ ap (λ (A : Option Ty). binder_on fs q p bs x r None A right_paren) f
-  never_closed e (inr n) = absurd (n by_right_paren)
+module _ (fs : List Frame) (q : Quant) (p : ℕ) (bs : List Binder) (x : List ℕ) (r : ℕ) where
+  ended : (A : Option Ty) (k : Token) → (A ≡ None) ⊎ (Follower k → ⊥) → binder_done fs q p bs x r A k ≡ None
+  ended None k h = refl
+  ended (Some A) k (inl e) = absurd (cc)
+  ended (Some A) right_paren (inr n) = absurd (n by_right_paren)
+  ended (Some A) k (inr n) = refl
+
+  module _ (s : TypeState) where
+    pub never_closed : (k : Token) → type_step s k ≡ None → (type_finish s ≡ None) ⊎ (Follower k → ⊥) → binder_on fs q p bs x r (type_step s k) (type_finish s) k ≡ None
+    never_closed k e h = ap (λ o. binder_on fs q p bs x r o (type_finish s) k) e ∙ ended (type_finish s) k h
+
+    pub closed_by : (k : Token) (A : Ty) → type_step s k ≡ None → type_finish s ≡ Some A → binder_on fs q p bs x r (type_step s k) (type_finish s) k ≡ binder_closed fs q p bs (typed x r A) k
+    closed_by k A e f = ap (λ o. binder_on fs q p bs x r o (type_finish s) k) e ∙ ap (λ (B : Option Ty). binder_on fs q p bs x r None B k) f

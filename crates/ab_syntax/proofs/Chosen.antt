@@ -12,8 +12,7 @@ use Rattle.ab_grammar.proofs.WholeCommands.{plain_row, proof_row, labelled_row, 
 use Rattle.ab_syntax.specs.declared.text.Text.{Text}
 use Rattle.ab_syntax.specs.declared.stop.Stop.{Stop}
 use Rattle.ab_syntax.specs.declared.stop.Stop.TheVariants.{Syntax, TooNested, Memory}
-use Rattle.ab_syntax.specs.Reader.{rest, kind_of, IsWordAt, Refused}
-use Rattle.ab_syntax.proofs.Meanings.{IsWordKind}
+use Rattle.ab_syntax.specs.Reader.{rest, kind_of, IsWordAt, Refused, IsWordKind}
 use Rattle.ab_syntax.proofs.Places.{first_past, lexed_word}
 
 -- a token that isn't the end stands in the text

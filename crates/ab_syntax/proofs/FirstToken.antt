@@ -1,52 +1,28 @@
 -- The first token of a command.
 use Rattle.std.proofs.Common.{◌≡◌, ℕ, List, Some, None, codes, refl, ap, sym, ◌∙◌, subst}
-use Rattle.ab_grammar.specs.declared.Quant.{Quant}
-use Rattle.ab_grammar.specs.declared.Quant.TheVariants.{Exists}
 use Rattle.ab_grammar.specs.declared.head.Head.{Head}
 use Rattle.ab_grammar.specs.declared.head.ProofHead.{ProofHead}
-use Rattle.ab_grammar.specs.Token.{Token, word, quantifier}
+use Rattle.ab_grammar.specs.Token.{Token, word}
 use Rattle.ab_grammar.specs.CommandTable.{listed, command_words, proof_words, Opens, opens, opens_back, opens_reset, OpensProof, opens_proof, opens_exists, ShowsLabel, shows_label, BeginsCommand, begins_query}
 use Rattle.ab_syntax.specs.declared.text.Kind.TheVariants as kind
-use Rattle.ab_syntax.specs.declared.text.Mark.{Mark}
-use Rattle.ab_syntax.specs.declared.text.Mark.TheVariants as mark
-use Rattle.ab_syntax.specs.Reader.{kind_of, key_of}
-use Rattle.ab_syntax.proofs.Meanings.{mark_meant}
+use Rattle.ab_syntax.specs.Reader.{kind_of}
 use Rattle.ab_syntax.specs.Openings.{BeginsNothing}
 
-module _ (k : Token) (not_word : kind_of k ≡ kind.Word → ⊥) (not_back : kind_of k ≡ kind.Mark mark.Back → ⊥) (not_reset : kind_of k ≡ kind.Mark mark.Reset → ⊥) (not_quantifier : (q : Quant) → kind_of k ≡ kind.Quantifier q → ⊥) where
+module _ (k : Token) (not_word : kind_of k ≡ kind.Word → ⊥) (not_back : kind_of k ≡ kind.Back → ⊥) (not_reset : kind_of k ≡ kind.Reset → ⊥) (not_exists : kind_of k ≡ kind.Exists → ⊥) where
   no_plain_at : (j : Token) → k ≡ j → (h : Head) → Opens h j tt → ⊥
   no_plain_at _ e h (opens x p d) = let f : kind_of k ≡ kind.Word = cc in not_word f
-  no_plain_at _ e _ opens_back = let f : kind_of k ≡ kind.Mark mark.Back = cc in not_back f
-  no_plain_at _ e _ opens_reset = let f : kind_of k ≡ kind.Mark mark.Reset = cc in not_reset f
+  no_plain_at _ e _ opens_back = let f : kind_of k ≡ kind.Back = cc in not_back f
+  no_plain_at _ e _ opens_reset = let f : kind_of k ≡ kind.Reset = cc in not_reset f
 
   no_proof_at : (j : Token) → k ≡ j → (h : ProofHead) → OpensProof h j tt → ⊥
   no_proof_at _ e h (opens_proof x p d) = let f : kind_of k ≡ kind.Word = cc in not_word f
-  no_proof_at _ e _ (opens_exists p) = let f : kind_of k ≡ kind.Quantifier Exists = cc in not_quantifier Exists f
+  no_proof_at _ e _ (opens_exists p) = let f : kind_of k ≡ kind.Exists = cc in not_exists f
 
   no_label_at : (j : Token) → k ≡ j → (x : List ℕ) → ShowsLabel j x → ⊥
   no_label_at _ e _ (shows_label x p n) = let f : kind_of k ≡ kind.Word = cc in not_word f
 
   pub begins_nothing : BeginsNothing k
   begins_nothing = record { no_plain = no_plain_at k refl; no_proof = no_proof_at k refl; no_label = no_label_at k refl }
-
--- a mark other than #back and #reset begins nothing
-pub other_mark : (m : Mark) → (m ≡ mark.Back → ⊥) → (m ≡ mark.Reset → ⊥) → BeginsNothing (key_of m)
-other_mark m not_back not_reset =
-    let k = mark_meant m in
-    begins_nothing (key_of m) (λ e. absurd (cc)) (λ e. let f : m ≡ mark.Back = cc in not_back f) (λ e. let f : m ≡ mark.Reset = cc in not_reset f) (λ q e. absurd (cc))
-
--- a quantifier other than exists begins nothing
-no_plain_quantifier : (q : Quant) (p : ℕ) (h : Head) → Opens h (quantifier q p) tt → ⊥
-no_plain_quantifier q p h d = elim d [ ]
-
-no_label_quantifier : (q : Quant) (p : ℕ) (x : List ℕ) → ShowsLabel (quantifier q p) x → ⊥
-no_label_quantifier q p x d = elim d [ ]
-
-proof_quantifier : (q : Quant) (p : ℕ) (h : ProofHead) → OpensProof h (quantifier q p) tt → q ≡ Exists
-proof_quantifier _ _ _ (opens_exists p) = refl
-
-pub other_quantifier : (q : Quant) (p : ℕ) → (q ≡ Exists → ⊥) → BeginsNothing (quantifier q p)
-other_quantifier q p n = record { no_plain = no_plain_quantifier q p; no_proof = λ h d. n (proof_quantifier q p h d); no_label = no_label_quantifier q p }
 
 -- Query begins nothing that is read
 no_plain_word : (x : List ℕ) (p : ℕ) → listed command_words x ≡ None → (h : Head) → Opens h (word x p) tt → ⊥

@@ -1,11 +1,11 @@
 -- Parts that are one token: taken where the token shows a value, and refused where it shows none.
 use Rattle.std.proofs.Common.{◌≡◌, ℕ, ◌+◌, ◌<◌, ◌↔◌, Bool, true, false, List, ◌∷◌, Option, Some, None, MatchOption, IsTrue, length, refl, sym, ◌∙◌, ap, subst, bytes_eq, codes}
-use Rattle.ab_grammar.specs.Token.{Token, word, sign}
-use Rattle.ab_grammar.specs.Language.{Key, Anything}
+use Rattle.ab_grammar.specs.Token.{Token, word}
+use Rattle.ab_grammar.specs.Language.{Anything}
 use Rattle.ab_grammar.specs.Reading.{first, ReadsOff, StopsAt}
 use Rattle.ab_grammar.specs.CommandForms.{One}
 use Rattle.ab_grammar.proofs.Joining.{Example}
-use Rattle.ab_grammar.proofs.Choosing.{key_reads, one_reads, one_stops}
+use Rattle.ab_grammar.proofs.Choosing.{one_reads, one_stops}
 use Rattle.ab_grammar.proofs.Shown.{ShowsOne}
 use Rattle.ab_syntax.specs.declared.text.Text.{Text}
 use Rattle.ab_syntax.specs.Tokens.{token_of, is_text_byte, unquoted}
@@ -13,7 +13,6 @@ use Rattle.ab_syntax.specs.Reader.{IsText, rest, lexed_at, no_token, written, pl
 use Rattle.ab_syntax.proofs.Places.{rest_more, first_more}
 use Rattle.ab_syntax.specs.declared.text.Kind.TheVariants as kind
 use Rattle.ab_lex.specs.declared.token.TokenKind.TheVariants as lexed
-use Rattle.ab_grammar.specs.declared.Infix.{Infix}
 use Rattle.ab_grammar.specs.CommandTrees as tree
 use Rattle.ab_grammar.specs.CommandTable.{IsDeclarable, IsNominal, ShowsName, shows_name, ShowsDeclared, shows_declared, ShowsNominal, shows_nominal, ShowsArgument, shows_named, shows_hole, ShowsNumber, shows_number, ShowsText, shows_text, StandsAnywhere, stands_at}
 use Rattle.ab_syntax.specs.Numbers.{IsShort}
@@ -103,7 +102,3 @@ module _ (t : Text) (i : ℕ) where
 
   pub text_plain : i < length t.tokens.now → kind_of (first (rest t i)) ≡ kind.Text → ((lexed_at t i).kind ≡ lexed.Text) × (list_all is_text_byte (unquoted (written t i)) ≡ true)
   text_plain h e = text_alone (lexed_at t i).kind (written t i) (place_at t i) (ap kind_of (sym (first_more t i h)) ∙ e)
-
-  -- the equal sign
-  pub takes_sign : (o : Infix) → first (rest t i) ≡ sign o → i < length t.tokens.now → ReadsOff (Key (sign o)) Anything (rest t i) tt (rest t (i + 1))
-  takes_sign o e h = subst (λ (w : List Token). ReadsOff (Key (sign o)) Anything w tt (rest t (i + 1))) (sym (rest_more t i h ∙ ap (λ (k : Token). k ∷ rest t (i + 1)) (sym (first_more t i h) ∙ e))) (key_reads (sign o) (rest t (i + 1)))

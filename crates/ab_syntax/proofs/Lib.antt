@@ -28,3 +28,5 @@ pub mod FaultPlaces
 pub mod Told
 pub mod CommandEnds
 pub mod Chosen
+pub mod QuotedBytes
+pub mod Operands

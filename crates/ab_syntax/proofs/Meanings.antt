@@ -6,53 +6,59 @@ use Rattle.std.specs.Str.Parse.{digits_value}
 use Rattle.std.proofs.Math.Dec.{leb}
 use Rattle.ab_lex.specs.declared.token.TokenKind.{TokenKind}
 use Rattle.ab_lex.specs.declared.token.TokenKind.TheVariants as lexed
-use Rattle.ab_grammar.specs.Token.{Token, word, truth, other, Other, stop, semicolon, becomes, from, star, back, reset, by_word, to_word, with_word, on_word, type_word, number, text, unusable, end}
+use Rattle.ab_grammar.specs.Token.{Token, word, truth, quantifier, sign, other, Other, stop, semicolon, becomes, from, star, back, reset, by_word, to_word, with_word, on_word, type_word, number, text, unusable, end}
 use Rattle.ab_grammar.specs.CommandTable.{listed}
 use Rattle.ab_syntax.specs.declared.text.Kind.{Kind}
 use Rattle.ab_syntax.specs.declared.text.Kind.TheVariants as kind
-use Rattle.ab_syntax.specs.declared.text.Kind.TheVariants.{Mark}
-use Rattle.ab_syntax.specs.declared.text.Mark.{Mark as Marked}
-use Rattle.ab_syntax.specs.declared.text.Mark.TheVariants as mark
+use Rattle.ab_grammar.specs.declared.Infix.{Infix}
+use Rattle.ab_grammar.specs.declared.Infix.TheVariants as signs_of
+use Rattle.ab_grammar.specs.declared.Quant.{Quant}
+use Rattle.ab_grammar.specs.declared.Quant.TheVariants as quant
 use Rattle.ab_syntax.specs.declared.text.TheConstants.{RESERVED, SIGNS}
 use Rattle.ab_syntax.specs.Tokens.{reserved, signs, otherwise, plainly, is_text_byte, unquoted, token_by}
-use Rattle.ab_syntax.specs.Reader.{kind_of, kind_of_other, meaning, key_of}
+use Rattle.ab_syntax.specs.Reader.{kind_of, kind_of_other, kind_of_sign, kind_of_quantifier, meaning, IsWordKind}
 use Rattle.ab_syntax.proofs.Tables.{EachRow, listed_each, Agree, same_kind, no_kind}
-
-pub mark_meant : (m : Marked) → kind_of (key_of m) ≡ Mark m
-mark_meant mark.LeftParen = refl
-mark_meant mark.RightParen = refl
-mark_meant mark.RightBrace = refl
-mark_meant mark.LeftBracket = refl
-mark_meant mark.RightBracket = refl
-mark_meant mark.Turnstile = refl
-mark_meant mark.Backslash = refl
-mark_meant mark.Comma = refl
-mark_meant mark.Colon = refl
-mark_meant mark.Stop = refl
-mark_meant mark.Semicolon = refl
-mark_meant mark.Becomes = refl
-mark_meant mark.From = refl
-mark_meant mark.Star = refl
-mark_meant mark.Back = refl
-mark_meant mark.Reset = refl
-mark_meant mark.By = refl
-mark_meant mark.To = refl
-mark_meant mark.With = refl
-mark_meant mark.On = refl
-mark_meant mark.Type = refl
-mark_meant mark.Unusable = refl
-mark_meant mark.End = refl
 
 pub kind_meant : (k : Kind) (w : List ℕ) (p : ℕ) → kind_of (meaning k w p) ≡ k
 kind_meant kind.Word w p = refl
 kind_meant kind.Truth w p = refl
-kind_meant (kind.Quantifier q) w p = refl
+kind_meant kind.Forall w p = refl
+kind_meant kind.Exists w p = refl
+kind_meant kind.Nabla w p = refl
 kind_meant kind.Pi w p = refl
-kind_meant (kind.Sign o) w p = refl
+kind_meant kind.Arrow w p = refl
+kind_meant kind.Or w p = refl
+kind_meant kind.And w p = refl
+kind_meant kind.Equal w p = refl
+kind_meant kind.Imply w p = refl
+kind_meant kind.Both w p = refl
+kind_meant kind.Cons w p = refl
 kind_meant kind.LeftBrace w p = refl
+kind_meant kind.LeftParen w p = refl
+kind_meant kind.RightParen w p = refl
+kind_meant kind.RightBrace w p = refl
+kind_meant kind.LeftBracket w p = refl
+kind_meant kind.RightBracket w p = refl
+kind_meant kind.Turnstile w p = refl
+kind_meant kind.Backslash w p = refl
+kind_meant kind.Comma w p = refl
+kind_meant kind.Colon w p = refl
+kind_meant kind.Stop w p = refl
+kind_meant kind.Semicolon w p = refl
+kind_meant kind.Becomes w p = refl
+kind_meant kind.From w p = refl
+kind_meant kind.Star w p = refl
+kind_meant kind.Back w p = refl
+kind_meant kind.Reset w p = refl
+kind_meant kind.By w p = refl
+kind_meant kind.To w p = refl
+kind_meant kind.With w p = refl
+kind_meant kind.On w p = refl
+kind_meant kind.Type w p = refl
 kind_meant kind.Number w p = refl
 kind_meant kind.Text w p = refl
-kind_meant (Mark m) w p = mark_meant m
+kind_meant kind.Unusable w p = refl
+kind_meant kind.End w p = refl
 
 -- the tables of the program are those of the definitions
 
@@ -221,7 +227,7 @@ free_word x e p = ap (λ (o : Option (List ℕ → ℕ → Token)). otherwise o 
 pub known_sign : (x : List ℕ) (k : Kind) → listed known_signs x ≡ Some k → (p : ℕ) → token_by lexed.Sign x p ≡ meaning k x p
 known_sign x k e p = same_kind signs known_signs signs_agree x k e (plainly (other unusable)) x p
 
-pub unknown_sign : (x : List ℕ) → listed known_signs x ≡ None → (p : ℕ) → token_by lexed.Sign x p ≡ meaning (Mark mark.Unusable) x p
+pub unknown_sign : (x : List ℕ) → listed known_signs x ≡ None → (p : ℕ) → token_by lexed.Sign x p ≡ meaning kind.Unusable x p
 unknown_sign x e p = ap (λ (o : Option (List ℕ → ℕ → Token)). otherwise o (plainly (other unusable)) x p) (no_kind signs known_signs signs_agree x e)
 
 -- a token that is no word and not the end
@@ -294,12 +300,6 @@ text_is_mark x p = by_bytes (list_all is_text_byte (unquoted x))
     by_bytes true = tt
     by_bytes false = tt
 
--- a word or the words true and false
-abbrev pub IsWordKind : Kind → Type 0
-IsWordKind kind.Word = Unit {0}
-IsWordKind kind.Truth = Unit {0}
-IsWordKind k = ⊥
-
 no_other : (o : Other) → IsWordKind (kind_of_other o) → ⊥
 no_other stop w = w
 no_other semicolon w = w
@@ -318,10 +318,26 @@ no_other (text t) w = w
 no_other unusable w = w
 no_other end w = w
 
+no_sign : (o : Infix) → IsWordKind (kind_of_sign o) → ⊥
+no_sign signs_of.Arrow w = w
+no_sign signs_of.Or w = w
+no_sign signs_of.And w = w
+no_sign signs_of.Equal w = w
+no_sign signs_of.Imply w = w
+no_sign signs_of.With w = w
+no_sign signs_of.Cons w = w
+
+no_quantifier : (q : Quant) → IsWordKind (kind_of_quantifier q) → ⊥
+no_quantifier quant.Forall w = w
+no_quantifier quant.Exists w = w
+no_quantifier quant.Nabla w = w
+
 no_word : (k : Token) → IsMark k → IsWordKind (kind_of k) → ⊥
 no_word (word x p) h w = h
 no_word (truth x p) h w = h
 no_word (other o) h w = no_other o w
+no_word (sign o) h w = no_sign o w
+no_word (quantifier q p) h w = no_quantifier q w
 no_word k h w = w
 
 pub word_alone : (j : TokenKind) (x : List ℕ) (p : ℕ) → IsWordKind (kind_of (token_by j x p)) → j ≡ lexed.Word

@@ -1,15 +1,16 @@
 -- What a reader says of the whole where a part was refused.
-use Rattle.std.proofs.Common.{List, Result, Ok, Err}
+use Rattle.std.proofs.Common.{List, Result, Ok, Err, sym, subst}
 use Rattle.ab_grammar.specs.Token.{Token}
 use Rattle.ab_grammar.specs.Nesting.{Spot}
-use Rattle.ab_grammar.specs.Reading.{ungrammatical, too_nested}
+use Rattle.ab_grammar.specs.Language.{Key, Anything}
+use Rattle.ab_grammar.specs.Reading.{ReadsOff, ungrammatical, too_nested}
 use Rattle.ab_grammar.proofs.Choosing.{fewer_reads, fewer_refuses}
 use Rattle.ab_grammar.proofs.Continuing.{Continues}
 use Rattle.ab_grammar.proofs.Rows.{TwoParts}
 use Rattle.ab_syntax.specs.declared.stop.Stop.{Stop}
 use Rattle.ab_syntax.specs.declared.stop.Stop.TheVariants.{Syntax, TooNested, Memory}
 use Rattle.ab_syntax.specs.Lists.{IsMemory}
-use Rattle.ab_syntax.specs.Reader.{Refused, Found}
+use Rattle.ab_syntax.specs.Reader.{Refused, Found, IsClosedBy}
 
 -- a refusal of the last part is one of the whole
 pub refused_on : {A B : Type 0} {H : List Spot → A → Type 0} {R : List Spot → B → Type 0} {F : List Token → Type 0} {f : A → B} {ms ks : List Token} → Continues H R F f ms ks
@@ -46,3 +47,13 @@ pub memory_refuses : {A : Type 0} (G : List Spot → A → Type 0) (F : List Tok
 memory_refuses G F (Memory e) ks rest h = tt
 memory_refuses G F Syntax ks rest h = absurd h
 memory_refuses G F TooNested ks rest h = absurd h
+
+-- a part, and the key behind it
+pub closed_found : {A X : Type 0} (k : Token) {G : List Spot → A → Type 0} {E : List Token → Type 0} {R : List Spot → A → Type 0} {F : List Token → Type 0} → TwoParts G E (Key k) R F (λ a u. a)
+    → (value : X → A) (ks ms ns : List Token) (part r : Result X Stop) → Found G E value ks ms part → IsClosedBy k ms ns part r → Found R F value ks ns r
+closed_found {X = X} k {R = R} {F = F} p value ks ms ns (Err s) r f (e, same) =
+    let refused = refused_first p ks s ms f in
+    subst (λ (q : Result X Stop). Found R F value ks ns q) (sym e) (subst (λ (w : List Token). Refused R F s ks w) (sym same) refused)
+closed_found {X = X} k {R = R} {F = F} p value ks ms ns (Ok x) (Ok y) f (e, read) =
+    subst (λ (z : X). ReadsOff R F ks (value z) ns) (sym e) ((p.first_read ks ms (value x) f).reads tt ns (fewer_reads (Key k) Anything F (λ r f. tt) ms ns tt read))
+closed_found k {F = F} p value ks ms ns (Ok x) (Err s) f refused = refused_on (p.first_read ks ms (value x) f) s ns (refused_fewer (Key k) Anything F (λ r f. tt) ms ns s refused)

@@ -11,11 +11,10 @@ use Rattle.ab_grammar.proofs.Choosing.{key_reads, one_reads, one_stops}
 use Rattle.ab_grammar.proofs.Shown.{one_name, name_example}
 use Rattle.ab_syntax.specs.declared.text.Kind.{Kind}
 use Rattle.ab_syntax.specs.declared.text.Kind.TheVariants as kind
-use Rattle.ab_syntax.specs.declared.text.Mark.{Mark as Marked}
 use Rattle.ab_syntax.specs.declared.text.Text.{Text}
 use Rattle.ab_syntax.specs.Tokens.{token_of}
-use Rattle.ab_syntax.specs.Reader.{rest, lexed_at, no_token, written, place_at, kind_of, meaning, key_of}
-use Rattle.ab_syntax.proofs.Meanings.{kind_meant, IsWordKind, word_alone}
+use Rattle.ab_syntax.specs.Reader.{rest, lexed_at, no_token, written, place_at, kind_of, meaning, IsWordKind}
+use Rattle.ab_syntax.proofs.Meanings.{kind_meant, word_alone}
 
 module _ (t : Text) (i : ℕ) where
   pub rest_more : i < length t.tokens.now → rest t i ≡ token_of t.bytes.now t.origin (lexed_at t i) ∷ rest t (i + 1)
@@ -38,8 +37,9 @@ module _ (t : Text) (i : ℕ) where
     pub front : i < length t.tokens.now → rest t i ≡ meaning k (written t i) (place_at t i) ∷ rest t (i + 1)
     front h = rest_more h ∙ ap (λ (j : Token). j ∷ rest t (i + 1)) (sym (first_more h) ∙ token)
 
-  pub takes_key : (m : Marked) → first (rest t i) ≡ key_of m → i < length t.tokens.now → ReadsOff (Key (key_of m)) Anything (rest t i) tt (rest t (i + 1))
-  takes_key m e h = subst (λ (w : List Token). ReadsOff (Key (key_of m)) Anything w tt (rest t (i + 1))) (sym (front (kind.Mark m) e h)) (key_reads (key_of m) (rest t (i + 1)))
+  pub takes_key : (k : Token) → first (rest t i) ≡ k → i < length t.tokens.now → ReadsOff (Key k) Anything (rest t i) tt (rest t (i + 1))
+  takes_key k e h =
+      subst (λ (w : List Token). ReadsOff (Key k) Anything w tt (rest t (i + 1))) (sym (rest_more h ∙ ap (λ (j : Token). j ∷ rest t (i + 1)) (sym (first_more h) ∙ e))) (key_reads k (rest t (i + 1)))
 
   pub takes_name : i < length t.tokens.now → first (rest t i) ≡ word (written t i) (place_at t i) → ReadsOff Name Anything (rest t i) (written t i) (rest t (i + 1))
   takes_name h e = subst (λ (w : List Token). ReadsOff Name Anything w (written t i) (rest t (i + 1))) (sym (front kind.Word e h))

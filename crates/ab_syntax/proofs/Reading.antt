@@ -1,13 +1,10 @@
--- Reading along a text: what the next token does to a machine, where the program sees only that it is in no expression.
+-- Reading along a text: what the next token does to a machine.
 use Rattle.std.proofs.Common.{◌≡◌, ℕ, ◌+◌, ◌<◌, ◌≤◌, List, [], ◌∷◌, ◌++◌, length, map, drop, Option, Some, None, refl, ap, sym, ◌∙◌, ◌⊎◌, inl, inr, arith}
 use Rattle.ab_grammar.specs.Token.{Token, Other, other, end}
-use Rattle.ab_grammar.specs.Nesting.{Layer, nest}
-use Rattle.ab_grammar.specs.Language.{Follower, by_other}
 use Rattle.ab_grammar.specs.Reading.{first}
 use Rattle.ab_syntax.specs.declared.text.Text.{Text}
 use Rattle.ab_syntax.specs.Tokens.{token_of}
 use Rattle.ab_syntax.specs.Reader.{rest}
-use Rattle.ab_syntax.specs.Steps.{general}
 use Rattle.ab_syntax.proofs.Places.{rest_more, first_past}
 
 abbrev pub tail : List Token → List Token
@@ -22,28 +19,7 @@ ended (k ∷ ks) = refl
 pub next : (t : Text) (i : ℕ) → rest t i ≡ first (rest t i) ∷ tail (rest t i)
 next t i = ended (map (token_of t.bytes.now t.origin) (drop i t.tokens.now))
 
-pub same_nest : (ls : List Layer) (k : Token) → nest ls (general k) ≡ nest ls k
-same_nest [] (other o) = refl
-same_nest (l ∷ ls) (other o) = refl
-same_nest ls k = refl
-
-follower_general : (k : Token) → Follower k → Follower (general k)
-follower_general (other o) f = by_other end
-follower_general k f = f
-
-module _ {S A : Type 0} (step : S → Token → Option S) (finish : S → Option A) (other_stuck : (s : S) (o : Other) → step s (other o) ≡ None) (s : S) where
-  pub taken : (k : Token) (r : S) → step s (general k) ≡ Some r → step s k ≡ Some r
-  taken (other o) r e = let bad : None ≡ Some r = sym (other_stuck s end) ∙ e in absurd (cc)
-  taken k r e = e
-
-  pub stuck : (k : Token) → step s (general k) ≡ None → step s k ≡ None
-  stuck (other o) e = other_stuck s o
-  stuck k e = e
-
-  pub wrong : (k : Token) → (finish s ≡ None) ⊎ (Follower (general k) → ⊥) → (finish s ≡ None) ⊎ (Follower k → ⊥)
-  wrong k (inl e) = inl e
-  wrong k (inr n) = inr (λ f. n (follower_general k f))
-
+module _ {S : Type 0} (step : S → Token → Option S) (other_stuck : (s : S) (o : Other) → step s (other o) ≡ None) (s : S) where
   -- a token is taken only where there is one
   pub within : (t : Text) (i : ℕ) (r : S) → step s (first (rest t i)) ≡ Some r → i < length t.tokens.now
   within t i r e = by_place (search (arith))

@@ -1,5 +1,5 @@
 -- From the front of a text to all of it: what was read or refused says whether the tokens are a text.
-use Rattle.std.proofs.Common.{◌≡◌, ℕ, zero, suc, ◌<◌, ◌≤◌, List, [], ◌∷◌, ◌++◌, length, map, drop, min, refl, ap, sym, ◌∙◌, subst, ◌⊎◌, inl, inr, arith}
+use Rattle.std.proofs.Common.{◌≡◌, ℕ, zero, suc, ◌<◌, ◌≤◌, List, [], ◌∷◌, ◌++◌, length, map, drop, min, Result, Ok, Err, refl, ap, sym, ◌∙◌, subst, ◌⊎◌, inl, inr, arith}
 use Rattle.std.proofs.lemmas.List.{length-map}
 use Rattle.ab_lex.specs.declared.token.Token.{Token as Lexed}
 use Rattle.ab_grammar.specs.Token.{Token, other, end}
@@ -12,8 +12,8 @@ use Rattle.ab_syntax.specs.declared.text.Text.{Text}
 use Rattle.ab_syntax.specs.declared.stop.Stop.{Stop}
 use Rattle.ab_syntax.specs.declared.stop.Stop.TheVariants.{Syntax, TooNested, Memory}
 use Rattle.ab_syntax.specs.Tokens.{token_of}
-use Rattle.ab_syntax.specs.Reader.{rest, Refused}
-use Rattle.ab_syntax.specs.Wholes.{all_of, Tells}
+use Rattle.ab_syntax.specs.Reader.{rest, Refused, Found, IsComplete}
+use Rattle.ab_syntax.specs.Wholes.{all_of, Tells, Answers}
 use Rattle.ab_syntax.proofs.Meanings.{never_end}
 use Rattle.ab_syntax.proofs.NoEnds.{Endless}
 
@@ -110,3 +110,10 @@ module _ (t : Text) where
       -- for a reader that began at the front
       pub told_from : (n : ℕ) → n ≡ 0 → (s : Stop) (i : ℕ) → Refused G Followed s (rest t n) (rest t i) → Tells G (all_of t) i s
       told_from n z s i p = all_told s i (subst (λ (m : ℕ). Refused G Followed s (rest t m) (rest t i)) z p)
+
+      pub complete_answers : {X : Type 0} (value : X → A) (n : ℕ) → n ≡ 0 → (i : ℕ) (part r : Result X Stop) → Found G Followed value (rest t n) (rest t i) part → IsComplete (first (rest t i)) part r → Answers G value (all_of t) i r
+      complete_answers {X = X} value n z i (Err s) r f e = subst (λ (q : Result X Stop). Answers G value (all_of t) i q) (sym e) (told_from n z s i f)
+      complete_answers {X = X} value n z i (Ok x) (Ok y) f (e, last) =
+          subst (λ (v : X). Accepted G (all_of t) (value v)) (sym e) (all_accepted (value x) i (subst (λ (m : ℕ). ReadsOff G Followed (rest t m) (value x) (rest t i)) z f) last)
+      complete_answers value n z i (Ok x) (Err s) f (e, more) =
+          subst (λ (q : Stop). Tells G (all_of t) i q) (sym e) (all_refused (value x) i (subst (λ (m : ℕ). ReadsOff G Followed (rest t m) (value x) (rest t i)) z f) more)

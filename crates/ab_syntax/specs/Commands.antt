@@ -1,5 +1,5 @@
 -- The trees of the grammar that the program's commands stand for.
-use Rattle.std.specs.Prelude.{ℕ, List, Vec, option_map, map}
+use Rattle.std.specs.Prelude.{ℕ, List, Bool, true, false, Vec, option_map, map}
 use Rattle.std.specs.Global.{Global}
 use Rattle.ab_syntax.specs.declared.command.Defined.{Defined}
 use Rattle.ab_syntax.specs.declared.command.ClauseParse.{ClauseParse}
@@ -10,6 +10,8 @@ use Rattle.ab_syntax.specs.declared.command.ProofCommand.{ProofCommand}
 use Rattle.ab_syntax.specs.declared.command.ProofCommand.TheVariants as proof
 use Rattle.ab_syntax.specs.declared.command.Command.{Command}
 use Rattle.ab_syntax.specs.declared.command.Command.TheVariants as plain
+use Rattle.ab_grammar.specs.declared.head.Head.{Head}
+use Rattle.ab_grammar.specs.declared.head.Head.TheVariants as head
 use Rattle.ab_grammar.specs.CommandTrees as tree
 use Rattle.ab_syntax.specs.Items.{list_of}
 use Rattle.ab_syntax.specs.Trees.{type_of, tree_of}
@@ -71,3 +73,8 @@ block_of b = (map defined_of b.0.items, map clause_of b.1.items)
 
 abbrev pub applied_of : List ℕ × Vec Argument Global → List ℕ × List tree.Argument
 applied_of a = (a.0, map argument_of a.1.items)
+
+-- the head of a block, by whether it is inductive
+abbrev pub block_head : Bool → Head
+block_head true = head.Define
+block_head false = head.CoDefine

@@ -1,13 +1,15 @@
 -- What the reader of expressions keeps, in the words of the machine that reads the grammar. No public contract speaks of it.
-use Rattle.std.specs.Prelude.{List, map, option_map, Vec}
+use Rattle.std.specs.Prelude.{◌≡◌, List, [], ◌∷◌, ◌++◌, map, option_map, Bool, true, false, Option, Some, None, Vec}
 use Rattle.std.specs.Global.{Global}
 use Rattle.ab_grammar.specs.Machine as machine
 use Rattle.ab_syntax.specs.declared.frame.Bracket.{Bracket}
 use Rattle.ab_syntax.specs.declared.frame.Bracket.TheVariants as brackets
 use Rattle.ab_syntax.specs.declared.frame.Frame.{Frame}
 use Rattle.ab_syntax.specs.declared.frame.Frame.TheVariants as frame
-use Rattle.ab_syntax.specs.declared.frame.Below.{Below}
-use Rattle.ab_syntax.specs.declared.frame.Below.TheVariants as below
+use Rattle.ab_syntax.specs.declared.frame.Fate.{Fate}
+use Rattle.ab_syntax.specs.declared.frame.Fate.TheVariants as fate
+use Rattle.ab_grammar.specs.declared.Infix.{Infix}
+use Rattle.ab_grammar.specs.Tree.{Tree, joined, applied, pi_of, abs, bind}
 use Rattle.ab_syntax.specs.declared.frame.Inside.{Inside}
 use Rattle.ab_syntax.specs.Trees.{tree_of, binder_of}
 use Rattle.ab_syntax.specs.Steps.{stack}
@@ -30,9 +32,30 @@ frame_of (frame.Bracket b) = machine.bracket_at (bracket_of b)
 abbrev pub frames_of : Vec Frame Global → List machine.Frame
 frames_of v = stack frame_of v.items
 
-abbrev pub below_of : Below → machine.Below
-below_of below.Bottom = machine.bottom
-below_of (below.Bracket b fs) = machine.bracket (bracket_of b) (frames_of fs)
+-- what an operand is the last part of, in a frame; in a bracket the operand alone
+abbrev pub reduced : machine.Frame → Tree → Tree
+reduced (machine.infix_at p a) t = joined p a t
+reduced (machine.args_at f vs) t = applied f (vs ++ t ∷ [])
+reduced (machine.pi_at p) t = pi_of p t
+reduced (machine.abs_at x p) t = abs x t p
+reduced (machine.bind_at q p bs) t = bind q bs t p
+reduced (machine.bracket_at b) t = t
 
-abbrev pub shut_of : Inside → machine.Shut
-shut_of s = record { inner = tree_of s.inner; below = below_of s.below }
+-- what becomes of a frame where a sign comes
+abbrev pub IsFate : Infix → machine.Frame → Fate → Type 0
+IsFate o f fate.Stays = (t : Tree) (fs : List machine.Frame) → machine.pop o t (f ∷ fs) ≡ Some (machine.infix_at o t ∷ f ∷ fs)
+IsFate o f fate.Reduces = (t : Tree) (fs : List machine.Frame) → machine.pop o t (f ∷ fs) ≡ machine.pop o (reduced f t) fs
+IsFate o f fate.Refuses = (t : Tree) (fs : List machine.Frame) → machine.pop o t (f ∷ fs) ≡ None
+
+-- whether there are frames, and then which
+abbrev pub IsPopped : Option (List machine.Frame) → List machine.Frame → Bool → Type 0
+IsPopped o fs true = o ≡ Some fs
+IsPopped o fs false = o ≡ None
+
+-- below the bracket that was taken away are the frames that are left
+abbrev pub below_of : Option Bracket → List machine.Frame → machine.Below
+below_of None fs = machine.bottom
+below_of (Some b) fs = machine.bracket (bracket_of b) fs
+
+abbrev pub shut_of : Inside → List machine.Frame → machine.Shut
+shut_of s fs = record { inner = tree_of s.inner; below = below_of s.bracket fs }

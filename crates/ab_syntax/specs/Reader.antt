@@ -1,5 +1,5 @@
 -- What the reader's own functions say of tokens and of their answers. No public contract speaks of it.
-use Rattle.std.specs.Prelude.{◌≡◌, ◌<◌, ◌≤◌, ℕ, ◌-◌, List, [], ◌∷◌, ◌++◌, length, map, drop, get_or, All, true, Result, Ok, Err}
+use Rattle.std.specs.Prelude.{◌≡◌, ◌≢◌, ◌<◌, ◌≤◌, ℕ, ◌-◌, List, [], ◌∷◌, ◌++◌, length, map, drop, get_or, All, true, Result, Ok, Err}
 use Rattle.std.specs.List.{list_all}
 use Rattle.std.specs.Char.{is_ascii_digit}
 use Rattle.std.specs.Str.Parse.{digits_value}
@@ -8,13 +8,16 @@ use Rattle.ab_lex.specs.declared.token.TokenKind.TheVariants.{Word, Number, Text
 use Rattle.ab_lex.specs.Spans.{IsWithin, bytes_at}
 use Rattle.ab_grammar.specs.Token.{Token, word, truth, quantifier, pi_word, sign, left_paren, right_paren, left_brace, right_brace, left_bracket, right_bracket, turnstile, backslash, comma, colon, other, Other, stop, semicolon, becomes, from, star, back, reset, by_word, to_word, with_word, on_word, type_word, number, text, unusable, end}
 use Rattle.ab_grammar.specs.Nesting.{Spot}
+use Rattle.ab_grammar.specs.Language.{Key, Anything}
 use Rattle.ab_grammar.specs.Reading.{ReadsOff, RefusesAt, ungrammatical, too_nested}
 use Rattle.ab_syntax.specs.declared.text.Kind.{Kind}
 use Rattle.ab_syntax.specs.declared.text.Kind.TheVariants as kind
-use Rattle.ab_syntax.specs.declared.text.Kind.TheVariants.{Mark}
-use Rattle.ab_syntax.specs.declared.text.Mark.{Mark as Marked}
-use Rattle.ab_syntax.specs.declared.text.Mark.TheVariants as mark
+use Rattle.ab_grammar.specs.declared.Infix.{Infix}
+use Rattle.ab_grammar.specs.declared.Infix.TheVariants as signs_of
+use Rattle.ab_grammar.specs.declared.Quant.{Quant}
+use Rattle.ab_grammar.specs.declared.Quant.TheVariants as quant
 use Rattle.ab_syntax.specs.declared.text.Text.{Text}
+use Rattle.ab_syntax.specs.declared.text.Seen.{Seen}
 use Rattle.ab_syntax.specs.declared.stop.Stop.{Stop}
 use Rattle.ab_syntax.specs.declared.stop.Stop.TheVariants.{Syntax, TooNested, Memory}
 use Rattle.ab_syntax.specs.Tokens.{token_of, unquoted}
@@ -51,77 +54,116 @@ abbrev pub rest : Text → ℕ → List Token
 rest t i = map (token_of t.bytes.now t.origin) (drop i t.tokens.now) ++ other end ∷ []
 
 abbrev pub kind_of_other : Other → Kind
-kind_of_other stop = Mark mark.Stop
-kind_of_other semicolon = Mark mark.Semicolon
-kind_of_other becomes = Mark mark.Becomes
-kind_of_other from = Mark mark.From
-kind_of_other star = Mark mark.Star
-kind_of_other back = Mark mark.Back
-kind_of_other reset = Mark mark.Reset
-kind_of_other by_word = Mark mark.By
-kind_of_other to_word = Mark mark.To
-kind_of_other with_word = Mark mark.With
-kind_of_other on_word = Mark mark.On
-kind_of_other type_word = Mark mark.Type
+kind_of_other stop = kind.Stop
+kind_of_other semicolon = kind.Semicolon
+kind_of_other becomes = kind.Becomes
+kind_of_other from = kind.From
+kind_of_other star = kind.Star
+kind_of_other back = kind.Back
+kind_of_other reset = kind.Reset
+kind_of_other by_word = kind.By
+kind_of_other to_word = kind.To
+kind_of_other with_word = kind.With
+kind_of_other on_word = kind.On
+kind_of_other type_word = kind.Type
 kind_of_other (number n) = kind.Number
 kind_of_other (text t) = kind.Text
-kind_of_other unusable = Mark mark.Unusable
-kind_of_other end = Mark mark.End
+kind_of_other unusable = kind.Unusable
+kind_of_other end = kind.End
+
+abbrev pub kind_of_sign : Infix → Kind
+kind_of_sign signs_of.Arrow = kind.Arrow
+kind_of_sign signs_of.Or = kind.Or
+kind_of_sign signs_of.And = kind.And
+kind_of_sign signs_of.Equal = kind.Equal
+kind_of_sign signs_of.Imply = kind.Imply
+kind_of_sign signs_of.With = kind.Both
+kind_of_sign signs_of.Cons = kind.Cons
+
+abbrev pub kind_of_quantifier : Quant → Kind
+kind_of_quantifier quant.Forall = kind.Forall
+kind_of_quantifier quant.Exists = kind.Exists
+kind_of_quantifier quant.Nabla = kind.Nabla
 
 abbrev pub kind_of : Token → Kind
 kind_of (word x p) = kind.Word
 kind_of (truth x p) = kind.Truth
-kind_of (quantifier q p) = kind.Quantifier q
+kind_of (quantifier q p) = kind_of_quantifier q
 kind_of (pi_word p) = kind.Pi
-kind_of (sign o) = kind.Sign o
+kind_of (sign o) = kind_of_sign o
 kind_of (left_brace p) = kind.LeftBrace
-kind_of left_paren = Mark mark.LeftParen
-kind_of right_paren = Mark mark.RightParen
-kind_of right_brace = Mark mark.RightBrace
-kind_of left_bracket = Mark mark.LeftBracket
-kind_of right_bracket = Mark mark.RightBracket
-kind_of turnstile = Mark mark.Turnstile
-kind_of backslash = Mark mark.Backslash
-kind_of comma = Mark mark.Comma
-kind_of colon = Mark mark.Colon
+kind_of left_paren = kind.LeftParen
+kind_of right_paren = kind.RightParen
+kind_of right_brace = kind.RightBrace
+kind_of left_bracket = kind.LeftBracket
+kind_of right_bracket = kind.RightBracket
+kind_of turnstile = kind.Turnstile
+kind_of backslash = kind.Backslash
+kind_of comma = kind.Comma
+kind_of colon = kind.Colon
 kind_of (other o) = kind_of_other o
-
-abbrev pub key_of : Marked → Token
-key_of mark.LeftParen = left_paren
-key_of mark.RightParen = right_paren
-key_of mark.RightBrace = right_brace
-key_of mark.LeftBracket = left_bracket
-key_of mark.RightBracket = right_bracket
-key_of mark.Turnstile = turnstile
-key_of mark.Backslash = backslash
-key_of mark.Comma = comma
-key_of mark.Colon = colon
-key_of mark.Stop = other stop
-key_of mark.Semicolon = other semicolon
-key_of mark.Becomes = other becomes
-key_of mark.From = other from
-key_of mark.Star = other star
-key_of mark.Back = other back
-key_of mark.Reset = other reset
-key_of mark.By = other by_word
-key_of mark.To = other to_word
-key_of mark.With = other with_word
-key_of mark.On = other on_word
-key_of mark.Type = other type_word
-key_of mark.Unusable = other unusable
-key_of mark.End = other end
 
 -- the token of a kind, by its bytes and its place
 abbrev pub meaning : Kind → List ℕ → ℕ → Token
 meaning kind.Word w p = word w p
 meaning kind.Truth w p = truth w p
-meaning (kind.Quantifier q) w p = quantifier q p
+meaning kind.Forall w p = quantifier quant.Forall p
+meaning kind.Exists w p = quantifier quant.Exists p
+meaning kind.Nabla w p = quantifier quant.Nabla p
 meaning kind.Pi w p = pi_word p
-meaning (kind.Sign o) w p = sign o
+meaning kind.Arrow w p = sign signs_of.Arrow
+meaning kind.Or w p = sign signs_of.Or
+meaning kind.And w p = sign signs_of.And
+meaning kind.Equal w p = sign signs_of.Equal
+meaning kind.Imply w p = sign signs_of.Imply
+meaning kind.Both w p = sign signs_of.With
+meaning kind.Cons w p = sign signs_of.Cons
 meaning kind.LeftBrace w p = left_brace p
+meaning kind.LeftParen w p = left_paren
+meaning kind.RightParen w p = right_paren
+meaning kind.RightBrace w p = right_brace
+meaning kind.LeftBracket w p = left_bracket
+meaning kind.RightBracket w p = right_bracket
+meaning kind.Turnstile w p = turnstile
+meaning kind.Backslash w p = backslash
+meaning kind.Comma w p = comma
+meaning kind.Colon w p = colon
+meaning kind.Stop w p = other stop
+meaning kind.Semicolon w p = other semicolon
+meaning kind.Becomes w p = other becomes
+meaning kind.From w p = other from
+meaning kind.Star w p = other star
+meaning kind.Back w p = other back
+meaning kind.Reset w p = other reset
+meaning kind.By w p = other by_word
+meaning kind.To w p = other to_word
+meaning kind.With w p = other with_word
+meaning kind.On w p = other on_word
+meaning kind.Type w p = other type_word
 meaning kind.Number w p = other (number (digits_value 10 w))
 meaning kind.Text w p = other (text (unquoted w))
-meaning (Mark m) w p = key_of m
+meaning kind.Unusable w p = other unusable
+meaning kind.End w p = other end
+
+-- the token of a kind that is known by its kind alone
+abbrev pub key_of : Kind → Token
+key_of k = meaning k [] 0
+
+abbrev pub IsKey : Kind → Type 0
+IsKey k = (w : List ℕ) (p : ℕ) → meaning k w p ≡ key_of k
+
+-- a word, or the words true and false
+abbrev pub IsWordKind : Kind → Type 0
+IsWordKind kind.Word = Unit {0}
+IsWordKind kind.Truth = Unit {0}
+IsWordKind k = ⊥
+
+-- the token that was seen
+abbrev pub seen : Seen → Token
+seen s = meaning s.kind s.written.now s.place
+
+abbrev pub IsSpelled : Seen → Type 0
+IsSpelled s = IsWordKind s.kind → All (λ b. b < 128) s.written.now
 
 -- why a part was not read, and where; want of memory says nothing
 abbrev pub Refused : {A : Type 0} → (List Spot → A → Type 0) → (List Token → Type 0) → Stop → List Token → List Token → Type 0
@@ -133,3 +175,15 @@ Refused G F (Memory e) ks ms = Unit {0}
 abbrev pub Found : {A X : Type 0} → (List Spot → A → Type 0) → (List Token → Type 0) → (X → A) → List Token → List Token → Result X Stop → Type 0
 Found G F value ks ms (Ok x) = ReadsOff G F ks (value x) ms
 Found G F value ks ms (Err s) = Refused G F s ks ms
+
+-- the key was taken behind a part, if that was read
+abbrev pub IsClosedBy : {X : Type 0} → Token → List Token → List Token → Result X Stop → Result X Stop → Type 0
+IsClosedBy k ks ms (Err s) r = (r ≡ Err s) × (ms ≡ ks)
+IsClosedBy k ks ms (Ok x) (Ok y) = (y ≡ x) × ReadsOff (Key k) Anything ks tt ms
+IsClosedBy k ks ms (Ok x) (Err s) = Refused (Key k) Anything s ks ms
+
+-- a part that was read is all, if the next token is the end
+abbrev pub IsComplete : {X : Type 0} → Token → Result X Stop → Result X Stop → Type 0
+IsComplete k (Err s) r = r ≡ Err s
+IsComplete k (Ok x) (Ok y) = (y ≡ x) × (k ≡ other end)
+IsComplete k (Ok x) (Err s) = (s ≡ Syntax) × (k ≢ other end)

@@ -1,17 +1,18 @@
 -- The states of the reader of expressions, in the words of the machine that reads the grammar. No public contract speaks of it.
-use Rattle.std.specs.Prelude.{◌≡◌, List, map, Some, None, ◌⊎◌}
-use Rattle.ab_grammar.specs.Token.{Token}
+use Rattle.std.specs.Prelude.{◌≡◌, ◌≢◌, ℕ, List, map, Option, Some, None, ◌⊎◌}
+use Rattle.ab_grammar.specs.Token.{Token, sign}
 use Rattle.ab_grammar.specs.Tree.{name}
 use Rattle.ab_grammar.specs.Language.{Follower}
 use Rattle.ab_grammar.specs.Machine as machine
 use Rattle.ab_syntax.specs.declared.machine.State.{State}
 use Rattle.ab_syntax.specs.declared.machine.State.TheVariants as state
-use Rattle.ab_syntax.specs.declared.machine.Machine.{Machine}
+use Rattle.ab_grammar.specs.declared.Infix.{Infix}
+use Rattle.ab_syntax.specs.declared.text.Kind.{Kind}
+use Rattle.ab_syntax.specs.Reader.{meaning}
 use Rattle.ab_syntax.specs.declared.machine.Next.{Next}
 use Rattle.ab_syntax.specs.declared.machine.Next.TheVariants as next
 use Rattle.ab_syntax.specs.Trees.{tree_of, binder_of}
-use Rattle.ab_syntax.specs.Steps.{type_state_of}
-use Rattle.ab_syntax.specs.Frames.{frames_of}
+use Rattle.ab_syntax.specs.Steps.{type_frames_of, type_state}
 
 abbrev pub state_in : List machine.Frame → State → machine.State
 state_in fs state.Want = machine.want fs
@@ -25,25 +26,26 @@ state_in fs (state.FocusEnd c t) = machine.focus_end fs c.place (map tree_of c.i
 state_in fs (state.Binders q) = machine.binders fs q.quant q.place (map binder_of q.binders.items)
 state_in fs (state.BinderName q) = machine.binder_name fs q.quant q.place (map binder_of q.binders.items)
 state_in fs (state.BinderColon q x p) = machine.binder_colon fs q.quant q.place (map binder_of q.binders.items) x p
-state_in fs (state.BinderType q x p m) = machine.binder_type fs q.quant q.place (map binder_of q.binders.items) x p (type_state_of m)
+state_in fs (state.BinderType q x p gs s) = machine.binder_type fs q.quant q.place (map binder_of q.binders.items) x p (type_state (type_frames_of gs) s)
 
-abbrev pub state_of : Machine → machine.State
-state_of m = state_in (frames_of m.frames) m.state
+-- what a token does: the expression goes on with the frames that are left, or it ended before the token, or neither
+abbrev pub IsNext : machine.State → Token → List machine.Frame → Next → Type 0
+IsNext s k fs (next.On t) = machine.step s k ≡ Some (state_in fs t)
+IsNext s k fs (next.Done t) = (machine.step s k ≡ None) × (machine.finish s ≡ Some (tree_of t))
+IsNext s k fs next.Wrong = (machine.step s k ≡ None) × ((machine.finish s ≡ None) ⊎ (Follower k → ⊥))
 
--- what a token does: the expression goes on, or it ended before the token, or neither
-abbrev pub IsNext : machine.State → Token → Next → Type 0
-IsNext s k (next.On m) = machine.step s k ≡ Some (state_of m)
-IsNext s k (next.Done t) = (machine.step s k ≡ None) × (machine.finish s ≡ Some (tree_of t))
-IsNext s k next.Wrong = (machine.step s k ≡ None) × ((machine.finish s ≡ None) ⊎ (Follower k → ⊥))
+-- whether there is a state, and then which
+abbrev pub IsGone : Option machine.State → List machine.Frame → Option State → Type 0
+IsGone o fs (Some t) = o ≡ Some (state_in fs t)
+IsGone o fs None = o ≡ None
 
--- the expression goes on so
-abbrev pub IsBinder : machine.State → Next → Type 0
-IsBinder s (next.On m) = state_of m ≡ s
-IsBinder s (next.Done t) = ⊥
-IsBinder s next.Wrong = ⊥
+-- a token that can follow an expression, behind what was shut up to the innermost bracket
+abbrev pub IsClosed : machine.Shut → Token → List machine.Frame → Next → Type 0
+IsClosed s k fs (next.On t) = machine.closing s.below s.inner k ≡ Some (state_in fs t)
+IsClosed s k fs (next.Done t) = (machine.closing s.below s.inner k ≡ None) × (machine.whole_of s.inner s.below ≡ Some (tree_of t))
+IsClosed s k fs next.Wrong = (machine.closing s.below s.inner k ≡ None) × (machine.whole_of s.inner s.below ≡ None)
 
--- a token that can close a bracket or follow an expression, behind what was shut up to the innermost bracket
-abbrev pub IsClosed : machine.Shut → Token → Next → Type 0
-IsClosed s k (next.On m) = machine.closing s.below s.inner k ≡ Some (state_of m)
-IsClosed s k (next.Done t) = (machine.closing s.below s.inner k ≡ None) × (machine.whole_of s.inner s.below ≡ Some (tree_of t))
-IsClosed s k next.Wrong = (machine.closing s.below s.inner k ≡ None) × (machine.whole_of s.inner s.below ≡ None)
+-- the sign that a token of the kind is
+abbrev pub IsSign : Kind → Option Infix → Type 0
+IsSign k (Some o) = (w : List ℕ) (p : ℕ) → meaning k w p ≡ sign o
+IsSign k None = (o : Infix) (w : List ℕ) (p : ℕ) → meaning k w p ≢ sign o

@@ -2,14 +2,35 @@
 ghost use Rattle.std.specs.Prelude.{◌≡◌, ◌≢◌, ◌↔◌, ℕ, List, IsTrue, length, min};
 ghost use Rattle.ab_grammar.specs.Reading.{first};
 ghost use Rattle.ab_grammar.specs.CommandTable.{ShowsLabel};
-ghost use Rattle.ab_syntax.specs.Reader.{IsText, rest};
+ghost use Rattle.ab_syntax.specs.Reader.{IsText, rest, IsComplete};
 ghost use Rattle.ab_syntax.specs.Faults.{IsTold, blamed as blamed_of};
 ghost use Rattle.ab_syntax.specs.Wholes.{all_of, place_in, fault_of};
 
 use crate::fault::ParseFault;
 use crate::opening::{Opening, opening_at};
 use crate::stop::Stop;
-use crate::text::{Mark, Text, is_next};
+use crate::text::{Kind, Text, is_next};
+
+/// Whether a part that was read is all of the text.
+pub(crate) fn complete<T: Drop>(
+    text: &Text<'_>,
+    here: usize,
+    part: Result<T, Stop>,
+) -> Result<T, Stop>
+    requires { IsText text.now }
+    ensures { IsComplete (first (rest text.now here)) part result }
+{
+    match part {
+        Ok(value) => {
+            if is_next(text, here, Kind::End) {
+                Ok(value)
+            } else {
+                Err(Stop::Syntax)
+            }
+        }
+        Err(stop) => Err(stop),
+    }
+}
 
 /// The place of a token, or the number of the bytes behind them all.
 fn place_or_end(text: &Text<'_>, here: usize) -> usize
@@ -28,7 +49,7 @@ fn blamed(text: &Text<'_>, here: usize) -> usize
     requires { IsText text.now }
     ensures { result ≡ blamed_of (all_of text.now) here }
 {
-    if is_next(text, here, Mark::Backslash) {
+    if is_next(text, here, Kind::Backslash) {
         here.saturating_sub(1)
     } else {
         here

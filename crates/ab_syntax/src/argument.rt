@@ -13,7 +13,7 @@ use crate::command::Argument;
 use crate::leaf::{argument, is_argument, is_name, is_nominal, nominal_number};
 use crate::list::{add, one};
 use crate::stop::Stop;
-use crate::text::{Mark, Text, expect, is_next, name};
+use crate::text::{Kind, Text, expect, is_next, name};
 use ab_name::Name;
 use std::alloc::Global;
 
@@ -67,7 +67,7 @@ fn arguments(alloc: Global, text: &Text<'_>, here: &mut usize) -> Result<Vec<Arg
     requires { IsText text.now }
     ensures { Found Arguments ArgumentsEnd (λ vs. map argument_of vs.items) (rest text.now here.old) (rest text.now here.new) result }
 {
-    expect(text, here, Mark::To)?;
+    expect(text, here, Kind::To)?;
     some_arguments(alloc, text, here)
 }
 
@@ -80,7 +80,7 @@ fn optional_arguments(
     requires { IsText text.now }
     ensures { Found (Optional [] Arguments) ArgumentsEnd (λ vs. map argument_of vs.items) (rest text.now here.old) (rest text.now here.new) result }
 {
-    if is_next(text, *here, Mark::To) {
+    if is_next(text, *here, Kind::To) {
         return arguments(alloc, text, here);
     }
     Ok(Vec::new(alloc))
@@ -119,7 +119,7 @@ fn opened_nominals(alloc: Global, text: &Text<'_>, here: &mut usize) -> Result<V
     requires { IsText text.now }
     ensures { Found (Key left_paren ▸ OneOrMore (One ShowsNominal)) (Without ShowsNominal) (λ ns. ns.items) (rest text.now here.old) (rest text.now here.new) result }
 {
-    expect(text, here, Mark::LeftParen)?;
+    expect(text, here, Kind::LeftParen)?;
     some_nominals(alloc, text, here)
 }
 
@@ -129,7 +129,7 @@ pub(crate) fn nominals(alloc: Global, text: &Text<'_>, here: &mut usize) -> Resu
     ensures { Found Nominals Anything (λ ns. ns.items) (rest text.now here.old) (rest text.now here.new) result }
 {
     let numbers = opened_nominals(alloc, text, here)?;
-    expect(text, here, Mark::RightParen)?;
+    expect(text, here, Kind::RightParen)?;
     Ok(numbers)
 }
 

@@ -15,7 +15,7 @@ use crate::expression::read_expression;
 use crate::list::{add, one};
 use crate::part::declared_and_colon;
 use crate::stop::Stop;
-use crate::text::{Mark, Text, expect, is_next};
+use crate::text::{Kind, Text, expect, is_next};
 use crate::tree::Parse;
 use crate::types::read_type;
 use std::alloc::Global;
@@ -35,7 +35,7 @@ fn comma_definiendum(alloc: Global, text: &Text<'_>, here: &mut usize) -> Result
     requires { IsText text.now }
     ensures { Found (Key comma ▸ Definiendum) Followed defined_of (rest text.now here.old) (rest text.now here.new) result }
 {
-    expect(text, here, Mark::Comma)?;
+    expect(text, here, Kind::Comma)?;
     definiendum(alloc, text, here)
 }
 
@@ -46,7 +46,7 @@ fn definienda(alloc: Global, text: &Text<'_>, here: &mut usize) -> Result<Vec<De
 {
     let first = definiendum(alloc, text, here)?;
     let mut predicates = one(alloc, first)?;
-    'more: while is_next(text, *here, Mark::Comma) {
+    'more: while is_next(text, *here, Kind::Comma) {
         let predicate = comma_definiendum(alloc, text, here)?;
         add(&mut predicates, predicate)?;
     }
@@ -59,7 +59,7 @@ fn definienda_by(alloc: Global, text: &Text<'_>, here: &mut usize) -> Result<Vec
     ensures { Found (Definienda ◂ Sign by_word) Anything (λ ds. map defined_of ds.items) (rest text.now here.old) (rest text.now here.new) result }
 {
     let predicates = definienda(alloc, text, here)?;
-    expect(text, here, Mark::By)?;
+    expect(text, here, Kind::By)?;
     Ok(predicates)
 }
 
@@ -68,7 +68,7 @@ fn becomes_body(alloc: Global, text: &Text<'_>, here: &mut usize) -> Result<Pars
     requires { IsText text.now }
     ensures { Found (Sign becomes ▸ Expression) ClauseEnds tree_of (rest text.now here.old) (rest text.now here.new) result }
 {
-    expect(text, here, Mark::Becomes)?;
+    expect(text, here, Kind::Becomes)?;
     read_expression(alloc, text, here)
 }
 
@@ -77,7 +77,7 @@ fn clause_body(alloc: Global, text: &Text<'_>, here: &mut usize) -> Result<Optio
     requires { IsText text.now }
     ensures { Found ClauseBody ClauseEnds (option_map tree_of) (rest text.now here.old) (rest text.now here.new) result }
 {
-    if is_next(text, *here, Mark::Becomes) {
+    if is_next(text, *here, Kind::Becomes) {
         let body = becomes_body(alloc, text, here)?;
         return Ok(Some(body));
     }
@@ -100,7 +100,7 @@ fn semicolon_clause(alloc: Global, text: &Text<'_>, here: &mut usize) -> Result<
     requires { IsText text.now }
     ensures { Found (Sign semicolon ▸ ClauseForm) ClauseEnds clause_of (rest text.now here.old) (rest text.now here.new) result }
 {
-    expect(text, here, Mark::Semicolon)?;
+    expect(text, here, Kind::Semicolon)?;
     clause(alloc, text, here)
 }
 
@@ -111,7 +111,7 @@ fn clauses(alloc: Global, text: &Text<'_>, here: &mut usize) -> Result<Vec<Claus
 {
     let first = clause(alloc, text, here)?;
     let mut clauses = one(alloc, first)?;
-    'more: while is_next(text, *here, Mark::Semicolon) {
+    'more: while is_next(text, *here, Kind::Semicolon) {
         let clause = semicolon_clause(alloc, text, here)?;
         add(&mut clauses, clause)?;
     }
@@ -127,7 +127,7 @@ fn optional_clauses(
     requires { IsText text.now }
     ensures { Found (Optional [] Clauses) BeforeStop (λ cs. map clause_of cs.items) (rest text.now here.old) (rest text.now here.new) result }
 {
-    if is_next(text, *here, Mark::Stop) {
+    if is_next(text, *here, Kind::Stop) {
         return Ok(Vec::new(alloc));
     }
     clauses(alloc, text, here)

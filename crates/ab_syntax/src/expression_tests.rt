@@ -194,6 +194,16 @@ fn refuses_what_is_nested_above_the_limit(rt: HostRuntime) -> Result<(), Fail> {
 }
 
 #[test]
+fn refuses_what_pi_lacks_at_the_limit(rt: HostRuntime) -> Result<(), Fail> {
+    let text = repeated(rt.alloc(), "(", 200, "pi x )")?;
+    assert_eq!(rt;
+        expression(rt.alloc(), text.as_str())?.as_str(),
+        "Err(Syntax(205))"
+    );
+    Ok(())
+}
+
+#[test]
 fn reads_many_arguments(rt: HostRuntime) -> Result<(), Fail> {
     let text = repeated(rt.alloc(), "a ", 100_000, "a")?;
     let bytes = text.as_str().as_bytes();

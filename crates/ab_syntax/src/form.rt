@@ -12,7 +12,7 @@ use crate::opening::{Opening, opening_at};
 use crate::proof_row::proof_row;
 use crate::row::row;
 use crate::stop::Stop;
-use crate::text::{Mark, Text, expect, word};
+use crate::text::{Kind, Text, closed, expect, word};
 use crate::words::takes_label;
 use ab_grammar::{Head, ProofHead};
 use std::alloc::Global;
@@ -92,7 +92,7 @@ fn labelled(alloc: Global, text: &Text<'_>, here: &mut usize) -> Result<Command,
 {
     let label = word(alloc, text, *here)?;
     skip(text, here);
-    expect(text, here, Mark::Colon)?;
+    expect(text, here, Kind::Colon)?;
     let command = behind_label(alloc, text, here)?;
     Ok(Command::InProof(Some(label), command))
 }
@@ -119,7 +119,6 @@ pub(crate) fn read_command(
     requires { IsText text.now }
     ensures { Found CommandText Followed command_of (rest text.now here.old) (rest text.now here.new) result }
 {
-    let command = command_form(alloc, text, here)?;
-    expect(text, here, Mark::Stop)?;
-    Ok(command)
+    let command = command_form(alloc, text, here);
+    closed(text, here, Kind::Stop, command)
 }

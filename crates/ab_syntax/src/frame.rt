@@ -1,9 +1,10 @@
 //! What an expression that is being read stands in: a stack of what isn't finished yet.
-ghost use Rattle.std.specs.Prelude.{◌≡◌, ◌<◌, ◌∷◌, [], Some, IfOk, MatchOption, vec_len, option_map};
+ghost use Rattle.std.specs.Prelude.{◌≡◌, ◌<◌, ◌∷◌, [], true, IfOk, MatchOption, vec_len};
 ghost use Rattle.ab_grammar.specs.Grammar as grammar;
+ghost use Rattle.ab_grammar.specs.Tree.{Tree};
 ghost use Rattle.ab_grammar.specs.Machine as machine;
 ghost use Rattle.ab_syntax.specs.Trees.{tree_of};
-ghost use Rattle.ab_syntax.specs.Frames.{frame_of, frames_of, shut_of};
+ghost use Rattle.ab_syntax.specs.Frames.{frame_of, frames_of, reduced, shut_of, IsFate, IsPopped};
 
 use crate::build::{abstraction, apply, bind, join, pi};
 use crate::tree::{Binder, Parse};
@@ -53,18 +54,22 @@ pub(crate) enum Frame {
     Bracket(Bracket),
 }
 
-/// What is below a whole expression: nothing, or a bracket and what is below that.
-#[derive(Drop)]
-pub(crate) enum Below {
-    Bottom,
-    Bracket(Bracket, Vec<Frame>),
-}
-
-/// An expression up to its innermost bracket.
+/// An expression up to its innermost bracket, and that bracket, if there is one.
 #[derive(Drop)]
 pub(crate) struct Inside {
     pub(crate) inner: Parse,
-    pub(crate) below: Below,
+    pub(crate) bracket: Option<Bracket>,
+}
+
+/// What becomes of the innermost frame where a sign comes.
+#[derive(Clone, Copy, Drop)]
+pub(crate) enum Fate {
+    /// The operand stands in it, left of the sign.
+    Stays,
+    /// The operand is its last part.
+    Reduces,
+    /// No sign can come.
+    Refuses,
 }
 
 /// How tightly a sign binds.
@@ -102,13 +107,12 @@ fn right(sign: Infix) -> usize
     }
 }
 
-/// The frames with one more.
-pub(crate) fn with_frame(frames: Vec<Frame>, frame: Frame) -> Result<Vec<Frame>, AllocError>
-    ensures { IfOk result (λ r. frames_of r ≡ frame_of frame ∷ frames_of frames) }
+/// Puts a frame on top.
+pub(crate) fn push(frames: &mut Vec<Frame>, frame: Frame) -> Result<(), AllocError>
+    ensures { IfOk result (λ r. frames_of frames.new ≡ frame_of frame ∷ frames_of frames.old) }
 {
-    let mut frames = frames;
     frames.push(frame)?;
-    Ok(frames)
+    Ok(())
 }
 
 /// Takes the innermost frame.
@@ -123,166 +127,133 @@ fn take_frame(frames: &mut Vec<Frame>) -> Option<Frame>
     }
 }
 
-/// The frames with a frame, and a sign with its left operand in that.
-fn with_sign(
-    frames: Vec<Frame>,
-    frame: Frame,
-    sign: Infix,
-    operand: Parse,
-) -> Result<Option<Vec<Frame>>, AllocError>
-    ensures { IfOk result (λ r. option_map frames_of r ≡ Some (machine.infix_at sign (tree_of operand) ∷ frame_of frame ∷ frames_of frames)) }
+/// What an operand is the last part of, in a frame; in a bracket the operand alone.
+fn reduce(alloc: Global, frame: Frame, operand: Parse) -> Result<Parse, AllocError>
+    ensures { IfOk result (λ r. tree_of r ≡ reduced (frame_of frame) (tree_of operand)) }
 {
-    let frames = with_frame(frames, frame)?;
-    Ok(Some(with_frame(frames, Frame::Infix(sign, operand))?))
+    match frame {
+        Frame::Infix(sign, before) => join(alloc, sign, before, operand),
+        Frame::Args(head, args) => apply(alloc, head, args, operand),
+        Frame::Pi(place) => pi(alloc, place, operand),
+        Frame::Abs(name, place) => abstraction(alloc, name, operand, place),
+        Frame::Bind(prefix) => {
+            let Prefix {
+                quant,
+                place,
+                binders,
+            } = prefix;
+            bind(alloc, quant, binders, operand, place)
+        }
+        Frame::Bracket(_) => Ok(operand),
+    }
 }
 
-/// The frames where an operand, or what it is the last part of, stands left of a sign.
+/// What becomes of a sign where another comes.
 #[tactic(auto, using(crate::proofs::Signs::pop_pushes, crate::proofs::Signs::pop_stops, crate::proofs::Signs::pop_joins))]
+fn sign_fate(other: Infix, sign: Infix) -> Fate
+    ensures { (before : Tree) → IsFate sign (machine.infix_at other before) result }
+{
+    if right(other) <= level(sign) {
+        return Fate::Stays;
+    }
+    if level(other) < left(sign) {
+        return Fate::Refuses;
+    }
+    Fate::Reduces
+}
+
+/// What becomes of a frame where a sign comes.
+fn frame_fate(frame: &Frame, sign: Infix) -> Fate
+    ensures { IsFate sign (frame_of frame.now) result }
+{
+    match frame {
+        Frame::Infix(other, _) => sign_fate(*other, sign),
+        Frame::Args(_, _) => Fate::Reduces,
+        Frame::Pi(_) => Fate::Reduces,
+        Frame::Bracket(Bracket::PiParen) => Fate::Refuses,
+        Frame::Bracket(Bracket::Paren) => Fate::Stays,
+        Frame::Bracket(Bracket::Item(_)) => Fate::Stays,
+        Frame::Bracket(Bracket::Focus(_)) => Fate::Stays,
+        Frame::Bracket(Bracket::Goal(_, _)) => Fate::Stays,
+        Frame::Abs(_, _) => Fate::Stays,
+        Frame::Bind(_) => Fate::Stays,
+    }
+}
+
+/// Puts a sign behind an operand, or behind what it is the last part of, if a sign can stand there.
 pub(crate) fn pop(
     alloc: Global,
     sign: Infix,
     operand: Parse,
-    frames: Vec<Frame>,
-) -> Result<Option<Vec<Frame>>, AllocError>
-    ensures { IfOk result (λ r. option_map frames_of r ≡ machine.pop sign (tree_of operand) (frames_of frames)) }
+    frames: &mut Vec<Frame>,
+) -> Result<bool, AllocError>
+    ensures { IfOk result (λ r. IsPopped (machine.pop sign (tree_of operand) (frames_of frames.old)) (frames_of frames.new) r) }
 {
-    let mut frames = frames;
     let mut operand = operand;
-    loop {
-        match take_frame(&mut frames) {
-            Some(Frame::Infix(other, before)) => {
-                if right(other) <= level(sign) {
-                    return with_sign(frames, Frame::Infix(other, before), sign, operand);
+    'frames: loop {
+        match take_frame(frames) {
+            Some(frame) => match frame_fate(&frame, sign) {
+                Fate::Stays => {
+                    push(frames, frame)?;
+                    push(frames, Frame::Infix(sign, operand))?;
+                    return Ok(true);
                 }
-                if level(other) < left(sign) {
-                    return Ok(None);
+                Fate::Refuses => return Ok(false),
+                Fate::Reduces => {
+                    operand = reduce(alloc, frame, operand)?;
                 }
-                operand = join(alloc, other, before, operand)?;
-            }
-            Some(Frame::Args(head, args)) => {
-                operand = apply(alloc, head, args, operand)?;
-            }
-            Some(Frame::Pi(place)) => {
-                operand = pi(alloc, place, operand)?;
-            }
-            Some(Frame::Bracket(Bracket::PiParen)) => {
-                return Ok(None);
-            }
-            Some(Frame::Bracket(Bracket::Paren)) => {
-                return with_sign(frames, Frame::Bracket(Bracket::Paren), sign, operand);
-            }
-            Some(Frame::Bracket(Bracket::Item(context))) => {
-                return with_sign(
-                    frames,
-                    Frame::Bracket(Bracket::Item(context)),
-                    sign,
-                    operand,
-                );
-            }
-            Some(Frame::Bracket(Bracket::Focus(context))) => {
-                return with_sign(
-                    frames,
-                    Frame::Bracket(Bracket::Focus(context)),
-                    sign,
-                    operand,
-                );
-            }
-            Some(Frame::Bracket(Bracket::Goal(context, focus))) => {
-                return with_sign(
-                    frames,
-                    Frame::Bracket(Bracket::Goal(context, focus)),
-                    sign,
-                    operand,
-                );
-            }
-            Some(Frame::Abs(name, place)) => {
-                return with_sign(frames, Frame::Abs(name, place), sign, operand);
-            }
-            Some(Frame::Bind(prefix)) => {
-                return with_sign(frames, Frame::Bind(prefix), sign, operand);
-            }
+            },
             None => {
-                return Ok(Some(with_frame(frames, Frame::Infix(sign, operand))?));
+                push(frames, Frame::Infix(sign, operand))?;
+                return Ok(true);
             }
         }
     }
 }
 
-/// The expression up to the innermost bracket.
-pub(crate) fn shut(alloc: Global, last: Parse, frames: Vec<Frame>) -> Result<Inside, AllocError>
-    ensures { IfOk result (λ r. shut_of r ≡ machine.shut (tree_of last) (frames_of frames)) }
+/// The expression up to the innermost bracket, which is taken away.
+pub(crate) fn shut(
+    alloc: Global,
+    frames: &mut Vec<Frame>,
+    last: Parse,
+) -> Result<Inside, AllocError>
+    ensures { IfOk result (λ r. machine.shut (tree_of last) (frames_of frames.old) ≡ shut_of r (frames_of frames.new)) }
 {
-    let mut frames = frames;
     let mut last = last;
-    loop {
-        match take_frame(&mut frames) {
-            Some(Frame::Infix(sign, before)) => {
-                last = join(alloc, sign, before, last)?;
-            }
-            Some(Frame::Args(head, args)) => {
-                last = apply(alloc, head, args, last)?;
-            }
-            Some(Frame::Pi(place)) => {
-                last = pi(alloc, place, last)?;
-            }
-            Some(Frame::Abs(name, place)) => {
-                last = abstraction(alloc, name, last, place)?;
-            }
-            Some(Frame::Bind(prefix)) => {
-                let Prefix {
-                    quant,
-                    place,
-                    binders,
-                } = prefix;
-                last = bind(alloc, quant, binders, last, place)?;
-            }
+    'frames: loop {
+        match take_frame(frames) {
             Some(Frame::Bracket(bracket)) => {
                 return Ok(Inside {
                     inner: last,
-                    below: Below::Bracket(bracket, frames),
+                    bracket: Some(bracket),
                 });
+            }
+            Some(frame) => {
+                last = reduce(alloc, frame, last)?;
             }
             None => {
                 return Ok(Inside {
                     inner: last,
-                    below: Below::Bottom,
+                    bracket: None,
                 });
             }
         }
     }
 }
 
-/// The frames where an argument is read.
-fn with_args(
-    alloc: Global,
-    frames: Vec<Frame>,
-    frame: Frame,
-    head: Parse,
-) -> Result<Vec<Frame>, AllocError>
-    ensures { IfOk result (λ r. frames_of r ≡ machine.args_at (tree_of head) [] ∷ frame_of frame ∷ frames_of frames) }
+/// Goes where the argument behind a head, or behind another argument, is read.
+pub(crate) fn grow(alloc: Global, frames: &mut Vec<Frame>, last: Parse) -> Result<(), AllocError>
+    ensures { IfOk result (λ r. frames_of frames.new ≡ machine.grow (frames_of frames.old) (tree_of last)) }
 {
-    let frames = with_frame(frames, frame)?;
-    with_frame(frames, Frame::Args(head, Vec::new(alloc)))
-}
-
-/// The frames where the argument behind a head, or behind another argument, is read.
-pub(crate) fn grow(alloc: Global, frames: Vec<Frame>, last: Parse) -> Result<Vec<Frame>, AllocError>
-    ensures { IfOk result (λ r. frames_of r ≡ machine.grow (frames_of frames) (tree_of last)) }
-{
-    let mut frames = frames;
-    match take_frame(&mut frames) {
-        Some(Frame::Args(head, args)) => {
-            let mut args = args;
+    match take_frame(frames) {
+        Some(Frame::Args(head, mut args)) => {
             args.push(last)?;
-            with_frame(frames, Frame::Args(head, args))
+            push(frames, Frame::Args(head, args))
         }
-        Some(Frame::Infix(sign, before)) => {
-            with_args(alloc, frames, Frame::Infix(sign, before), last)
+        Some(frame) => {
+            push(frames, frame)?;
+            push(frames, Frame::Args(last, Vec::new(alloc)))
         }
-        Some(Frame::Pi(place)) => with_args(alloc, frames, Frame::Pi(place), last),
-        Some(Frame::Abs(name, place)) => with_args(alloc, frames, Frame::Abs(name, place), last),
-        Some(Frame::Bind(prefix)) => with_args(alloc, frames, Frame::Bind(prefix), last),
-        Some(Frame::Bracket(bracket)) => with_args(alloc, frames, Frame::Bracket(bracket), last),
-        None => with_frame(frames, Frame::Args(last, Vec::new(alloc))),
+        None => push(frames, Frame::Args(last, Vec::new(alloc))),
     }
 }

@@ -10,9 +10,9 @@ ghost use Rattle.ab_syntax.specs.Reader.{IsText, rest, Found};
 use crate::command::Instance;
 use crate::expression::read_expression;
 use crate::list::{add, one};
-use crate::part::name_and_equal;
+use crate::part::name_and;
 use crate::stop::Stop;
-use crate::text::{Mark, Text, expect, is_next};
+use crate::text::{Kind, Text, expect, is_next};
 use std::alloc::Global;
 
 /// Reads `X = e`.
@@ -20,7 +20,7 @@ fn instance(alloc: Global, text: &Text<'_>, here: &mut usize) -> Result<Instance
     requires { IsText text.now }
     ensures { Found InstanceForm Followed instance_of (rest text.now here.old) (rest text.now here.new) result }
 {
-    let name = name_and_equal(alloc, text, here)?;
+    let name = name_and(alloc, text, here, Kind::Equal)?;
     let term = read_expression(alloc, text, here)?;
     Ok(Instance { name, term })
 }
@@ -30,7 +30,7 @@ fn comma_instance(alloc: Global, text: &Text<'_>, here: &mut usize) -> Result<In
     requires { IsText text.now }
     ensures { Found (Key comma ▸ InstanceForm) Followed instance_of (rest text.now here.old) (rest text.now here.new) result }
 {
-    expect(text, here, Mark::Comma)?;
+    expect(text, here, Kind::Comma)?;
     instance(alloc, text, here)
 }
 
@@ -45,7 +45,7 @@ pub(crate) fn instance_list(
 {
     let first = instance(alloc, text, here)?;
     let mut instances = one(alloc, first)?;
-    'more: while is_next(text, *here, Mark::Comma) {
+    'more: while is_next(text, *here, Kind::Comma) {
         let instance = comma_instance(alloc, text, here)?;
         add(&mut instances, instance)?;
     }
@@ -57,7 +57,7 @@ fn instances(alloc: Global, text: &Text<'_>, here: &mut usize) -> Result<Vec<Ins
     requires { IsText text.now }
     ensures { Found Instances BeforeStop (λ is. map instance_of is.items) (rest text.now here.old) (rest text.now here.new) result }
 {
-    expect(text, here, Mark::With)?;
+    expect(text, here, Kind::With)?;
     instance_list(alloc, text, here)
 }
 
@@ -70,7 +70,7 @@ pub(crate) fn optional_instances(
     requires { IsText text.now }
     ensures { Found (Optional [] Instances) BeforeStop (λ is. map instance_of is.items) (rest text.now here.old) (rest text.now here.new) result }
 {
-    if is_next(text, *here, Mark::With) {
+    if is_next(text, *here, Kind::With) {
         return instances(alloc, text, here);
     }
     Ok(Vec::new(alloc))

@@ -1,22 +1,19 @@
 //! Parts that are one token.
-ghost use Rattle.std.specs.Prelude.{◌≡◌, ◌<◌, ◌≤◌, ◌↔◌, ℕ, true, length, IsTrue, IfOk, MatchOption};
-ghost use Rattle.std.specs.List.{list_all};
-ghost use Rattle.ab_grammar.specs.Token.{word as word_token, sign};
-ghost use Rattle.ab_grammar.specs.declared.Infix.TheVariants.{Equal};
-ghost use Rattle.ab_grammar.specs.Language.{Key, Anything};
+ghost use Rattle.std.specs.Prelude.{◌≡◌, ◌<◌, ◌≤◌, ◌↔◌, ℕ, All, length, IsTrue, IfOk, MatchOption};
+ghost use Rattle.ab_grammar.specs.Token.{word as word_token};
+ghost use Rattle.ab_grammar.specs.Language.{Anything};
 ghost use Rattle.ab_grammar.specs.Reading.{first};
 ghost use Rattle.ab_grammar.specs.CommandForms.{One};
 ghost use Rattle.ab_grammar.specs.CommandTable.{DeclaredName, Word as WordForm, ShowsName, ShowsDeclared, StandsAnywhere, ShowsNominal, ShowsArgument, ShowsNumber, ShowsDepth, ShowsText};
 ghost use Rattle.ab_syntax.specs.Commands.{argument_of};
 ghost use Rattle.ab_syntax.specs.Reader.{IsText, IsWordAt, written, rest, Found};
-ghost use Rattle.ab_syntax.specs.Tokens.{is_text_byte, unquoted};
+ghost use Rattle.ab_syntax.specs.Tokens.{unquoted};
 ghost use Rattle.ab_syntax.specs.Leaves.{IsShown, ShowsWhere, ShowsSome};
 
 use crate::command::Argument;
 use crate::numbers::{is_declarable, nominal, value};
 use crate::stop::Stop;
-use crate::text::{Kind, Text, peek, word, written_at};
-use ab_grammar::Infix;
+use crate::text::{Kind, Text, peek, spell, word, written_at};
 use ab_name::Name;
 use std::alloc::{AllocError, Global};
 
@@ -198,42 +195,11 @@ pub(crate) fn keyword(text: &Text<'_>, here: &mut usize, expected: &[u8]) -> Res
     Ok(())
 }
 
-/// Whether a sign is `=`.
-fn is_equal(sign: Infix) -> bool
-    ensures { IsTrue result ↔ (sign ≡ Equal) }
-{
-    sign == Infix::Equal
-}
-
-/// Whether the next token is `=`.
-fn is_equal_next(text: &Text<'_>, here: usize) -> bool
-    requires { IsText text.now }
-    ensures next { IsTrue result ↔ (first (rest text.now here) ≡ sign Equal) }
-    ensures within { IsTrue result → here < length text.now.tokens.now }
-{
-    match peek(text, here) {
-        Kind::Sign(sign) => is_equal(sign),
-        _ => false,
-    }
-}
-
-/// Takes the next token, if it is `=`.
-pub(crate) fn equal_sign(text: &Text<'_>, here: &mut usize) -> Result<(), Stop>
-    requires { IsText text.now }
-    ensures { Found (Key (sign Equal)) Anything (λ u. u) (rest text.now here.old) (rest text.now here.new) result }
-{
-    if !is_equal_next(text, *here) {
-        return Err(Stop::Syntax);
-    }
-    *here += 1;
-    Ok(())
-}
-
 /// The bytes in the quotes of the next token, if that is a quoted text.
 fn quoted_at<'a>(text: &Text<'a>, here: usize) -> Option<&'a [u8]>
     requires { IsText text.now }
     ensures shown { IsShown ShowsText (λ inner. inner.now) text.now here result }
-    ensures plain { MatchOption result (Unit {0}) (λ inner. list_all is_text_byte inner.now ≡ true) }
+    ensures plain { MatchOption result (Unit {0}) (λ inner. All (λ b. b < 128) inner.now) }
 {
     match peek(text, here) {
         Kind::Text => Some(inner(written_at(text, here))),
@@ -249,17 +215,6 @@ fn inner(quoted: &[u8]) -> &[u8]
     &quoted[1..quoted.len() - 1]
 }
 
-/// A name of bytes that a quoted text may hold.
-fn plain_name(alloc: Global, bytes: &[u8]) -> Result<Name, AllocError>
-    requires { list_all is_text_byte bytes.now ≡ true }
-    ensures { IfOk result (λ name. name ≡ bytes.now) }
-{
-    match str::from_utf8(bytes) {
-        Ok(text) => Name::from_text(alloc, text),
-        Err(_) => unreachable!(),
-    }
-}
-
 /// Takes the next token, if it is a quoted text.
 pub(crate) fn quoted_name(alloc: Global, text: &Text<'_>, here: &mut usize) -> Result<Name, Stop>
     requires { IsText text.now }
@@ -267,7 +222,7 @@ pub(crate) fn quoted_name(alloc: Global, text: &Text<'_>, here: &mut usize) -> R
 {
     match quoted_at(text, *here) {
         Some(inner) => {
-            let name = plain_name(alloc, inner)?;
+            let name = spell(alloc, inner)?;
             *here += 1;
             Ok(name)
         }

@@ -22,7 +22,6 @@ mod numbers;
 mod opening;
 mod parser;
 mod part;
-mod piece;
 mod proof_row;
 mod row;
 mod step;

@@ -1,15 +1,16 @@
 //! An expression that is being read, token by token.
-ghost use Rattle.std.specs.Prelude.{◌≡◌, IfOk, map, option_map};
+ghost use Rattle.std.specs.Prelude.{◌≡◌, List, [], IfOk, map};
 ghost use Rattle.ab_grammar.specs.Machine as machine;
 ghost use Rattle.ab_syntax.specs.Trees.{tree_of};
-ghost use Rattle.ab_syntax.specs.Steps.{token_of_piece};
+ghost use Rattle.ab_syntax.specs.Reader.{seen, IsSpelled};
 ghost use Rattle.ab_syntax.specs.Frames.{frames_of};
-ghost use Rattle.ab_syntax.specs.States.{state_of};
+ghost use Rattle.ab_syntax.specs.States.{state_in, IsGone};
 
-use crate::frame::{Bracket, Context, Frame, Prefix, with_frame};
-use crate::piece::Piece;
+use crate::frame::{Bracket, Context, Frame, Prefix, push};
+use crate::text::{Kind, Seen, name_of};
 use crate::tree::Parse;
-use crate::types::TypeMachine;
+use crate::types::{TypeFrame, TypeState};
+use ab_grammar::Quant;
 use ab_name::Name;
 use std::alloc::{AllocError, Global};
 
@@ -39,139 +40,94 @@ pub(crate) enum State {
     /// That name stands there.
     BinderColon(Prefix, Name, usize),
     /// That name's type is read.
-    BinderType(Prefix, Name, usize, TypeMachine),
-}
-
-/// The stack and what is on top of it.
-#[derive(Drop)]
-pub(crate) struct Machine {
-    pub(crate) frames: Vec<Frame>,
-    pub(crate) state: State,
+    BinderType(Prefix, Name, usize, Vec<TypeFrame>, TypeState),
 }
 
 /// What a token does.
 #[derive(Drop)]
 pub(crate) enum Next {
     /// The expression goes on.
-    On(Machine),
+    On(State),
     /// The expression ended before the token.
     Done(Parse),
     /// No expression goes on with the token, and none that ended before it is followed by it.
     Wrong,
 }
 
+/// A quantifier without binders.
+fn prefix(alloc: Global, quant: Quant, place: usize) -> State
+    ensures { (fs : List machine.Frame) → state_in fs result ≡ machine.binders fs quant place [] }
+{
+    State::Binders(Prefix {
+        quant,
+        place,
+        binders: Vec::new(alloc),
+    })
+}
+
 /// A token where an argument may begin.
 pub(crate) fn start_argument(
     alloc: Global,
-    frames: Vec<Frame>,
-    piece: Piece,
-) -> Result<Option<Machine>, AllocError>
-    ensures { IfOk result (λ r. option_map state_of r ≡ machine.starts (frames_of frames) (token_of_piece piece)) }
+    frames: &mut Vec<Frame>,
+    token: Seen<'_>,
+) -> Result<Option<State>, AllocError>
+    requires { IsSpelled token }
+    ensures { IfOk result (λ r. IsGone (machine.starts (frames_of frames.old) (seen token.entry)) (frames_of frames.new) r) }
 {
-    match piece {
-        Piece::Word(name, place) => Ok(Some(Machine {
-            frames,
-            state: State::Alone(name, place),
-        })),
-        Piece::Truth(name, place) => Ok(Some(Machine {
-            frames,
-            state: State::Have(Parse::Name(name, place)),
-        })),
-        Piece::LeftParen => Ok(Some(Machine {
-            frames: with_frame(frames, Frame::Bracket(Bracket::Paren))?,
-            state: State::Want,
-        })),
-        Piece::LeftBrace(place) => Ok(Some(Machine {
-            frames,
-            state: State::Item(Context {
-                place,
-                items: Vec::new(alloc),
-            }),
-        })),
-        Piece::Quantifier(quant, place) => Ok(Some(Machine {
-            frames,
-            state: State::Binders(Prefix {
-                quant,
-                place,
-                binders: Vec::new(alloc),
-            }),
-        })),
-        Piece::Pi(_)
-        | Piece::Sign(_)
-        | Piece::RightParen
-        | Piece::RightBrace
-        | Piece::LeftBracket
-        | Piece::RightBracket
-        | Piece::Turnstile
-        | Piece::Backslash
-        | Piece::Comma
-        | Piece::Colon
-        | Piece::Other => Ok(None),
+    match token.kind {
+        Kind::Word => Ok(Some(State::Alone(name_of(alloc, token)?, token.place))),
+        Kind::Truth => Ok(Some(State::Have(Parse::Name(name_of(alloc, token)?, token.place)))),
+        Kind::LeftParen => {
+            push(frames, Frame::Bracket(Bracket::Paren))?;
+            Ok(Some(State::Want))
+        }
+        Kind::LeftBrace => Ok(Some(State::Item(Context {
+            place: token.place,
+            items: Vec::new(alloc),
+        }))),
+        Kind::Forall => Ok(Some(prefix(alloc, Quant::Forall, token.place))),
+        Kind::Exists => Ok(Some(prefix(alloc, Quant::Exists, token.place))),
+        Kind::Nabla => Ok(Some(prefix(alloc, Quant::Nabla, token.place))),
+        _ => Ok(None),
     }
 }
 
 /// A token where an operand may begin.
 pub(crate) fn start_operand(
     alloc: Global,
-    frames: Vec<Frame>,
-    piece: Piece,
-) -> Result<Option<Machine>, AllocError>
-    ensures { IfOk result (λ r. option_map state_of r ≡ machine.starts_operand (frames_of frames) (token_of_piece piece)) }
+    frames: &mut Vec<Frame>,
+    token: Seen<'_>,
+) -> Result<Option<State>, AllocError>
+    requires { IsSpelled token }
+    ensures { IfOk result (λ r. IsGone (machine.starts_operand (frames_of frames.old) (seen token.entry)) (frames_of frames.new) r) }
 {
-    match piece {
-        Piece::Pi(place) => Ok(Some(Machine {
-            frames: with_frame(frames, Frame::Pi(place))?,
-            state: State::PiWant,
-        })),
-        Piece::Word(_, _)
-        | Piece::Truth(_, _)
-        | Piece::Quantifier(_, _)
-        | Piece::Sign(_)
-        | Piece::LeftParen
-        | Piece::RightParen
-        | Piece::LeftBrace(_)
-        | Piece::RightBrace
-        | Piece::LeftBracket
-        | Piece::RightBracket
-        | Piece::Turnstile
-        | Piece::Backslash
-        | Piece::Comma
-        | Piece::Colon
-        | Piece::Other => start_argument(alloc, frames, piece),
+    match token.kind {
+        Kind::Pi => {
+            push(frames, Frame::Pi(token.place))?;
+            Ok(Some(State::PiWant))
+        }
+        _ => start_argument(alloc, frames, token),
     }
 }
 
 /// A token where an item of a judgement may begin.
 pub(crate) fn start_item(
     alloc: Global,
-    frames: Vec<Frame>,
+    frames: &mut Vec<Frame>,
     context: Context,
-    piece: Piece,
-) -> Result<Option<Machine>, AllocError>
-    ensures { IfOk result (λ r. option_map state_of r ≡ machine.starts_item (frames_of frames) context.place (map tree_of context.items.items) (token_of_piece piece)) }
+    token: Seen<'_>,
+) -> Result<Option<State>, AllocError>
+    requires { IsSpelled token }
+    ensures { IfOk result (λ r. IsGone (machine.starts_item (frames_of frames.old) context.place (map tree_of context.items.items) (seen token.entry)) (frames_of frames.new) r) }
 {
-    match piece {
-        Piece::LeftBracket => Ok(Some(Machine {
-            frames: with_frame(frames, Frame::Bracket(Bracket::Focus(context)))?,
-            state: State::Want,
-        })),
-        Piece::Word(_, _)
-        | Piece::Truth(_, _)
-        | Piece::Quantifier(_, _)
-        | Piece::Pi(_)
-        | Piece::Sign(_)
-        | Piece::LeftParen
-        | Piece::RightParen
-        | Piece::LeftBrace(_)
-        | Piece::RightBrace
-        | Piece::RightBracket
-        | Piece::Turnstile
-        | Piece::Backslash
-        | Piece::Comma
-        | Piece::Colon
-        | Piece::Other => {
-            let frames = with_frame(frames, Frame::Bracket(Bracket::Item(context)))?;
-            start_operand(alloc, frames, piece)
+    match token.kind {
+        Kind::LeftBracket => {
+            push(frames, Frame::Bracket(Bracket::Focus(context)))?;
+            Ok(Some(State::Want))
+        }
+        _ => {
+            push(frames, Frame::Bracket(Bracket::Item(context)))?;
+            start_operand(alloc, frames, token)
         }
     }
 }

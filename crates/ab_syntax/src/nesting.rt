@@ -2,9 +2,10 @@
 ghost use Rattle.std.specs.Prelude.{◌≡◌, ◌≤◌, ◌∷◌, ℕ, List, IfOk};
 ghost use Rattle.ab_grammar.specs.Nesting.{nest as nest_by, outside as outside_all, naming_in, limit};
 ghost use Rattle.ab_grammar.specs.Token as Grammatical;
-ghost use Rattle.ab_syntax.specs.Steps.{layer_of, layers_of, stack, token_of_piece, IsMeasured};
+ghost use Rattle.ab_syntax.specs.Reader.{meaning};
+ghost use Rattle.ab_syntax.specs.Steps.{layer_of, layers_of, stack, IsMeasured};
 
-use crate::piece::Piece;
+use crate::text::Kind;
 use std::alloc::{AllocError, Global};
 
 /// The deepest nesting that a token may have.
@@ -44,124 +45,98 @@ pub(crate) fn outside(alloc: Global) -> Layers
 }
 
 /// One name or sign more in the innermost layer.
-fn counted(layers: Layers) -> Layers
-    requires measured { IsMeasured layers }
-    requires shallow { layers.depth ≤ limit }
-    ensures layers { layers_of result ≡ nest_by (layers_of layers) Grammatical.backslash }
-    ensures measured { IsMeasured result }
+fn count(layers: &mut Layers)
+    requires measured { IsMeasured layers.old }
+    requires shallow { layers.old.depth ≤ limit }
+    ensures layers { layers_of layers.new ≡ nest_by (layers_of layers.old) Grammatical.backslash }
+    ensures measured { IsMeasured layers.new }
 {
-    let Layers {
-        inner,
-        outer,
-        depth,
-    } = layers;
-    Layers {
-        inner: Layer {
-            count: inner.count + 1,
-            naming: inner.naming,
-        },
-        outer,
-        depth: depth + 1,
-    }
+    layers.inner.count += 1;
+    layers.depth += 1;
 }
 
 /// A word in the innermost layer, which is counted where it is a binder's name.
-fn with_word(layers: Layers) -> Layers
-    requires measured { IsMeasured layers }
-    requires shallow { layers.depth ≤ limit }
-    ensures layers { (x : List ℕ) (p : ℕ) → layers_of result ≡ nest_by (layers_of layers) (Grammatical.word x p) }
-    ensures measured { IsMeasured result }
+fn count_word(layers: &mut Layers)
+    requires measured { IsMeasured layers.old }
+    requires shallow { layers.old.depth ≤ limit }
+    ensures layers { (x : List ℕ) (p : ℕ) → layers_of layers.new ≡ nest_by (layers_of layers.old) (Grammatical.word x p) }
+    ensures measured { IsMeasured layers.new }
 {
     if layers.inner.naming {
-        counted(layers)
-    } else {
-        layers
+        count(layers)
     }
 }
 
 /// From now on the words of the innermost layer are names of binders, or no longer.
-fn naming(layers: Layers, naming: bool) -> Layers
-    requires { IsMeasured layers }
-    ensures layers { layers_of result ≡ naming_in naming (layer_of layers.inner) ∷ stack layer_of layers.outer.items }
-    ensures measured { IsMeasured result }
+fn set_naming(layers: &mut Layers, naming: bool)
+    requires { IsMeasured layers.old }
+    ensures layers { layers_of layers.new ≡ naming_in naming (layer_of layers.old.inner) ∷ stack layer_of layers.old.outer.items }
+    ensures measured { IsMeasured layers.new }
 {
-    let Layers {
-        inner,
-        outer,
-        depth,
-    } = layers;
-    Layers {
-        inner: Layer {
-            count: inner.count,
-            naming,
-        },
-        outer,
-        depth,
-    }
+    layers.inner.naming = naming;
 }
 
 /// A bracket opens.
-fn open(layers: Layers) -> Result<Layers, AllocError>
-    requires measured { IsMeasured layers }
-    requires shallow { layers.depth ≤ limit }
-    ensures layers { IfOk result (λ r. layers_of r ≡ nest_by (layers_of layers) Grammatical.left_paren) }
-    ensures measured { IfOk result IsMeasured }
+fn open(layers: &mut Layers) -> Result<(), AllocError>
+    requires measured { IsMeasured layers.old }
+    requires shallow { layers.old.depth ≤ limit }
+    ensures layers { IfOk result (λ r. layers_of layers.new ≡ nest_by (layers_of layers.old) Grammatical.left_paren) }
+    ensures measured { IfOk result (λ r. IsMeasured layers.new) }
 {
-    let Layers {
-        inner,
-        mut outer,
-        depth,
-    } = layers;
-    outer.push(inner)?;
-    Ok(Layers {
-        inner: Layer {
-            count: 0,
-            naming: inner.naming,
-        },
-        outer,
-        depth: depth + 1,
-    })
+    layers.outer.push(layers.inner)?;
+    layers.inner.count = 0;
+    layers.depth += 1;
+    Ok(())
 }
 
 /// A bracket closes, if one is open.
-fn close(layers: Layers) -> Layers
-    requires { IsMeasured layers }
-    ensures layers { layers_of result ≡ nest_by (layers_of layers) Grammatical.right_paren }
-    ensures measured { IsMeasured result }
+fn close(layers: &mut Layers)
+    requires { IsMeasured layers.old }
+    ensures layers { layers_of layers.new ≡ nest_by (layers_of layers.old) Grammatical.right_paren }
+    ensures measured { IsMeasured layers.new }
 {
-    let Layers {
-        inner,
-        mut outer,
-        depth,
-    } = layers;
-    match outer.pop() {
-        Some(layer) => Layers {
-            inner: layer,
-            outer,
-            depth: depth - inner.count - 1,
-        },
-        None => Layers {
-            inner,
-            outer,
-            depth,
-        },
+    if let Some(layer) = layers.outer.pop() {
+        layers.depth = layers.depth - layers.inner.count - 1;
+        layers.inner = layer;
     }
 }
 
-/// The layers behind a token.
-pub(crate) fn nest(layers: Layers, piece: &Piece) -> Result<Layers, AllocError>
-    requires measured { IsMeasured layers }
-    requires shallow { layers.depth ≤ limit }
-    ensures layers { IfOk result (λ r. layers_of r ≡ nest_by (layers_of layers) (token_of_piece piece.now)) }
-    ensures measured { IfOk result IsMeasured }
+/// Goes on to the layers behind a token.
+pub(crate) fn nest(layers: &mut Layers, kind: Kind) -> Result<(), AllocError>
+    requires measured { IsMeasured layers.old }
+    requires shallow { layers.old.depth ≤ limit }
+    ensures layers { IfOk result (λ r. (w : List ℕ) (p : ℕ) → layers_of layers.new ≡ nest_by (layers_of layers.old) (meaning kind w p)) }
+    ensures measured { IfOk result (λ r. IsMeasured layers.new) }
 {
-    match piece {
-        Piece::Word(_, _) => Ok(with_word(layers)),
-        Piece::Sign(_) | Piece::Backslash => Ok(counted(layers)),
-        Piece::Quantifier(_, _) => Ok(naming(layers, true)),
-        Piece::Comma | Piece::Colon => Ok(naming(layers, false)),
-        Piece::LeftParen | Piece::LeftBrace(_) | Piece::LeftBracket => open(layers),
-        Piece::RightParen | Piece::RightBrace | Piece::RightBracket => Ok(close(layers)),
-        Piece::Truth(_, _) | Piece::Pi(_) | Piece::Turnstile | Piece::Other => Ok(layers),
+    match kind {
+        Kind::Word => {
+            count_word(layers);
+            Ok(())
+        }
+        Kind::Arrow
+        | Kind::Or
+        | Kind::And
+        | Kind::Equal
+        | Kind::Imply
+        | Kind::Both
+        | Kind::Cons
+        | Kind::Backslash => {
+            count(layers);
+            Ok(())
+        }
+        Kind::Forall | Kind::Exists | Kind::Nabla => {
+            set_naming(layers, true);
+            Ok(())
+        }
+        Kind::Comma | Kind::Colon => {
+            set_naming(layers, false);
+            Ok(())
+        }
+        Kind::LeftParen | Kind::LeftBrace | Kind::LeftBracket => open(layers),
+        Kind::RightParen | Kind::RightBrace | Kind::RightBracket => {
+            close(layers);
+            Ok(())
+        }
+        _ => Ok(()),
     }
 }

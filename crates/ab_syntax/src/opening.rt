@@ -1,23 +1,23 @@
 //! What the first tokens of a command say of it, and so where it stands.
 ghost use Rattle.std.specs.Prelude.{◌≡◌, ◌≢◌, ◌↔◌, ℕ, List, MatchOption, Some};
 ghost use Rattle.ab_lex.specs.Tokens.{TokensOf};
-ghost use Rattle.ab_grammar.specs.Token.{word, quantifier, colon};
+ghost use Rattle.ab_grammar.specs.Token.{word, colon};
 ghost use Rattle.ab_grammar.specs.Reading.{first};
 ghost use Rattle.ab_grammar.specs.CommandTable.{stand_of as stand_of_head, StandsAt};
 ghost use Rattle.ab_grammar.specs.declared.head.Stand.{Stand};
 ghost use Rattle.ab_grammar.specs.declared.head.Stand.TheVariants.{Inside};
 ghost use Rattle.ab_syntax.specs.Tokens.{tokens_in};
-ghost use Rattle.ab_syntax.specs.Reader.{IsText, written, rest, key_of};
+ghost use Rattle.ab_syntax.specs.Reader.{IsText, written, rest};
 ghost use Rattle.ab_syntax.specs.Openings.{IsOpening};
 
-use crate::text::{Kind, Mark, Text, is_next, peek, written_at};
+use crate::text::{Kind, Text, is_next, peek, written_at};
 use crate::whole::whole;
 use crate::words::{command_head, proof_head};
-use ab_grammar::{Head, ProofHead, Quant, Stand};
+use ab_grammar::{Head, ProofHead, Stand};
 use ab_lex::Token;
 
 /// What the first token of a command says of it.
-#[derive(Clone, Copy, Debug, PartialEq, Eq)]
+#[derive(Clone, Copy)]
 pub(crate) enum Opening {
     /// A command that is no proof command.
     Plain(Head),
@@ -46,27 +46,6 @@ fn word_opening(written: &[u8]) -> Opening
     }
 }
 
-/// What a quantifier at the front of a command says of it.
-fn quantifier_opening(quant: Quant) -> Opening
-    ensures { (p : ℕ) (w : List ℕ) → IsOpening (quantifier quant p) w result }
-{
-    match quant {
-        Quant::Exists => Opening::Proof(ProofHead::Exists),
-        Quant::Forall | Quant::Nabla => Opening::Nothing,
-    }
-}
-
-/// What a mark at the front of a command says of it.
-fn mark_opening(mark: Mark) -> Opening
-    ensures { (w : List ℕ) → IsOpening (key_of mark) w result }
-{
-    match mark {
-        Mark::Back => Opening::Plain(Head::Back),
-        Mark::Reset => Opening::Plain(Head::Reset),
-        _ => Opening::Nothing,
-    }
-}
-
 /// What the next token says of a command that it begins.
 pub(crate) fn opening_at(text: &Text<'_>, here: usize) -> Opening
     requires { IsText text.now }
@@ -74,8 +53,9 @@ pub(crate) fn opening_at(text: &Text<'_>, here: usize) -> Opening
 {
     match peek(text, here) {
         Kind::Word => word_opening(written_at(text, here)),
-        Kind::Quantifier(quant) => quantifier_opening(quant),
-        Kind::Mark(mark) => mark_opening(mark),
+        Kind::Exists => Opening::Proof(ProofHead::Exists),
+        Kind::Back => Opening::Plain(Head::Back),
+        Kind::Reset => Opening::Plain(Head::Reset),
         _ => Opening::Nothing,
     }
 }
@@ -116,7 +96,7 @@ fn label_stand(text: &Text<'_>) -> Option<Stand>
     ensures { MatchOption result (first (rest text.now 1) ≢ colon)
         (λ s. (s ≡ Inside) × (first (rest text.now 1) ≡ colon)) }
 {
-    if is_next(text, 1, Mark::Colon) {
+    if is_next(text, 1, Kind::Colon) {
         Some(Stand::Inside)
     } else {
         None

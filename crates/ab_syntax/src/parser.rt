@@ -10,13 +10,13 @@ ghost use Rattle.ab_syntax.specs.Faults.{fault_place, nested_place, IsCommandPla
 ghost use Rattle.ab_syntax.specs.Reader.{IsText};
 ghost use Rattle.ab_syntax.specs.Wholes.{all_of, Answers};
 
-use crate::answer::{command_fault, fault};
+use crate::answer::{command_fault, complete, fault};
 use crate::command::Command;
 use crate::expression::read_expression;
 use crate::fault::ParseFault;
 use crate::form::read_command;
 use crate::stop::Stop;
-use crate::text::{Mark, Text, is_next};
+use crate::text::Text;
 use crate::tree::{Parse, TypeParse};
 use crate::types::read_type;
 use crate::whole::whole;
@@ -29,11 +29,8 @@ fn whole_expression(alloc: Global, text: &Text<'_>, here: &mut usize) -> Result<
     requires start { here.old ≡ 0 }
     ensures { Answers Expression tree_of (all_of text.now) here.new result }
 {
-    let parse = read_expression(alloc, text, here)?;
-    if !is_next(text, *here, Mark::End) {
-        return Err(Stop::Syntax);
-    }
-    Ok(parse)
+    let parse = read_expression(alloc, text, here);
+    complete(text, *here, parse)
 }
 
 /// Reads a type, which is all of a text.
@@ -42,11 +39,8 @@ fn whole_type(alloc: Global, text: &Text<'_>, here: &mut usize) -> Result<TypePa
     requires start { here.old ≡ 0 }
     ensures { Answers TypeExpression type_of (all_of text.now) here.new result }
 {
-    let parse = read_type(alloc, text, here)?;
-    if !is_next(text, *here, Mark::End) {
-        return Err(Stop::Syntax);
-    }
-    Ok(parse)
+    let parse = read_type(alloc, text, here);
+    complete(text, *here, parse)
 }
 
 /// Reads a command, which is all of a text.
@@ -55,11 +49,8 @@ fn whole_command(alloc: Global, text: &Text<'_>, here: &mut usize) -> Result<Com
     requires start { here.old ≡ 0 }
     ensures { Answers CommandText command_of (all_of text.now) here.new result }
 {
-    let command = read_command(alloc, text, here)?;
-    if !is_next(text, *here, Mark::End) {
-        return Err(Stop::Syntax);
-    }
-    Ok(command)
+    let command = read_command(alloc, text, here);
+    complete(text, *here, command)
 }
 
 /// Reads an expression, which is all of the tokens of the bytes.

@@ -1,43 +1,34 @@
 //! Parts of commands.
 ghost use Rattle.std.specs.Prelude.{◌≡◌, ◌≢◌};
-ghost use Rattle.ab_grammar.specs.declared.Infix.TheVariants.{Equal};
-ghost use Rattle.ab_grammar.specs.Token.{sign, colon, comma};
+ghost use Rattle.ab_grammar.specs.Token.{colon, comma};
 ghost use Rattle.ab_grammar.specs.Language.{Key, Anything};
 ghost use Rattle.ab_grammar.specs.Reading.{Except};
 ghost use Rattle.ab_grammar.specs.CommandForms.{◌▸◌, ◌◂◌};
 ghost use Rattle.ab_grammar.specs.CommandTable.{Name as NameForm, DeclaredName, DeclaredNames};
-ghost use Rattle.ab_syntax.specs.Reader.{IsText, rest, key_of, Found};
+ghost use Rattle.ab_syntax.specs.declared.text.Kind.{Kind};
+ghost use Rattle.ab_syntax.specs.Reader.{IsText, rest, key_of, IsKey, Found};
 
-use crate::leaf::{declared_name, equal_sign};
+use crate::leaf::declared_name;
 use crate::list::{add, one};
 use crate::stop::Stop;
-use crate::text::{Mark, Text, expect, is_next, name};
+use crate::text::{Kind, Text, expect, is_next, name};
 use ab_name::Name;
 use std::alloc::Global;
 
-/// Reads a name and a mark behind it.
+/// Reads a name and a key behind it.
 pub(crate) fn name_and(
     alloc: Global,
     text: &Text<'_>,
     here: &mut usize,
-    mark: Mark,
+    key: Kind,
 ) -> Result<Name, Stop>
     requires text { IsText text.now }
-    requires some { mark ≢ Mark.End }
-    ensures { Found (NameForm ◂ Key (key_of mark)) Anything (λ x. x) (rest text.now here.old) (rest text.now here.new) result }
+    requires key { IsKey key }
+    requires some { key ≢ Kind.End }
+    ensures { Found (NameForm ◂ Key (key_of key)) Anything (λ x. x) (rest text.now here.old) (rest text.now here.new) result }
 {
     let name = name(alloc, text, here)?;
-    expect(text, here, mark)?;
-    Ok(name)
-}
-
-/// Reads `X =`.
-pub(crate) fn name_and_equal(alloc: Global, text: &Text<'_>, here: &mut usize) -> Result<Name, Stop>
-    requires { IsText text.now }
-    ensures { Found (NameForm ◂ Key (sign Equal)) Anything (λ x. x) (rest text.now here.old) (rest text.now here.new) result }
-{
-    let name = name(alloc, text, here)?;
-    equal_sign(text, here)?;
+    expect(text, here, key)?;
     Ok(name)
 }
 
@@ -51,7 +42,7 @@ pub(crate) fn declared_and_colon(
     ensures { Found (DeclaredName ◂ Key colon) Anything (λ x. x) (rest text.now here.old) (rest text.now here.new) result }
 {
     let name = declared_name(alloc, text, here)?;
-    expect(text, here, Mark::Colon)?;
+    expect(text, here, Kind::Colon)?;
     Ok(name)
 }
 
@@ -60,7 +51,7 @@ fn comma_name(alloc: Global, text: &Text<'_>, here: &mut usize) -> Result<Name, 
     requires { IsText text.now }
     ensures { Found (Key comma ▸ DeclaredName) Anything (λ x. x) (rest text.now here.old) (rest text.now here.new) result }
 {
-    expect(text, here, Mark::Comma)?;
+    expect(text, here, Kind::Comma)?;
     declared_name(alloc, text, here)
 }
 
@@ -75,7 +66,7 @@ pub(crate) fn declared_names(
 {
     let first = declared_name(alloc, text, here)?;
     let mut names = one(alloc, first)?;
-    'more: while is_next(text, *here, Mark::Comma) {
+    'more: while is_next(text, *here, Kind::Comma) {
         let name = comma_name(alloc, text, here)?;
         add(&mut names, name)?;
     }

@@ -16,7 +16,7 @@ use crate::items::Items;
 use crate::leaf::{depth, keyword, number};
 use crate::part::name_and;
 use crate::stop::Stop;
-use crate::text::{Mark, Text, expect, is_next, name};
+use crate::text::{Kind, Text, expect, is_next, name};
 use ab_grammar::ProofHead;
 use std::alloc::Global;
 
@@ -35,7 +35,7 @@ fn induction(text: &Text<'_>, here: &mut usize) -> Result<ProofCommand, Stop>
     requires { IsText text.now }
     ensures { Found (ProofRow head.Induction) BeforeStop proof_command_of (rest text.now here.old) (rest text.now here.new) result }
 {
-    expect(text, here, Mark::On)?;
+    expect(text, here, Kind::On)?;
     let number = number(text, here)?;
     Ok(ProofCommand::Induction(number))
 }
@@ -46,7 +46,7 @@ fn keep_inside(text: &Text<'_>, here: &mut usize) -> Result<(), Stop>
     ensures { Found (Word (codes "keep") ▸ Key right_paren) Anything (λ u. u) (rest text.now here.old) (rest text.now here.new) result }
 {
     keyword(text, here, b"keep")?;
-    expect(text, here, Mark::RightParen)
+    expect(text, here, Kind::RightParen)
 }
 
 /// Reads `( keep )`.
@@ -54,7 +54,7 @@ fn keep(text: &Text<'_>, here: &mut usize) -> Result<(), Stop>
     requires { IsText text.now }
     ensures { Found (Key left_paren ▸ (Word (codes "keep") ▸ Key right_paren)) BeforeStop (λ u. u) (rest text.now here.old) (rest text.now here.new) result }
 {
-    expect(text, here, Mark::LeftParen)?;
+    expect(text, here, Kind::LeftParen)?;
     keep_inside(text, here)
 }
 
@@ -63,7 +63,7 @@ fn optional_keep(text: &Text<'_>, here: &mut usize) -> Result<bool, Stop>
     requires { IsText text.now }
     ensures { Found (Optional false Keep) BeforeStop (λ keep. keep) (rest text.now here.old) (rest text.now here.new) result }
 {
-    if is_next(text, *here, Mark::LeftParen) {
+    if is_next(text, *here, Kind::LeftParen) {
         keep(text, here)?;
         return Ok(true);
     }
@@ -108,7 +108,7 @@ fn cut(alloc: Global, text: &Text<'_>, here: &mut usize) -> Result<ProofCommand,
     requires { IsText text.now }
     ensures { Found (ProofRow head.Cut) BeforeStop proof_command_of (rest text.now here.old) (rest text.now here.new) result }
 {
-    let cut = name_and(alloc, text, here, Mark::With)?;
+    let cut = name_and(alloc, text, here, Kind::With)?;
     let with = name(alloc, text, here)?;
     Ok(ProofCommand::Cut(cut, with))
 }
@@ -118,7 +118,7 @@ fn inst(alloc: Global, text: &Text<'_>, here: &mut usize) -> Result<ProofCommand
     requires { IsText text.now }
     ensures { Found (ProofRow head.Inst) BeforeStop proof_command_of (rest text.now here.old) (rest text.now here.new) result }
 {
-    let name = name_and(alloc, text, here, Mark::With)?;
+    let name = name_and(alloc, text, here, Kind::With)?;
     let instances = instance_list(alloc, text, here)?;
     let instances = Items::from_vec(instances);
     Ok(ProofCommand::Inst(name, instances))
@@ -129,7 +129,7 @@ fn monotone(alloc: Global, text: &Text<'_>, here: &mut usize) -> Result<ProofCom
     requires { IsText text.now }
     ensures { Found (ProofRow head.Monotone) BeforeStop proof_command_of (rest text.now here.old) (rest text.now here.new) result }
 {
-    let name = name_and(alloc, text, here, Mark::With)?;
+    let name = name_and(alloc, text, here, Kind::With)?;
     let context = read_expression(alloc, text, here)?;
     Ok(ProofCommand::Monotone(name, context))
 }
@@ -139,7 +139,7 @@ fn optional_depth(text: &Text<'_>, here: &mut usize) -> Result<u32, Stop>
     requires { IsText text.now }
     ensures { Found (Optional 5 (One ShowsDepth)) BeforeStop (λ n. n) (rest text.now here.old) (rest text.now here.new) result }
 {
-    if is_next(text, *here, Mark::Stop) {
+    if is_next(text, *here, Kind::Stop) {
         return Ok(5);
     }
     depth(text, here)
@@ -159,8 +159,8 @@ fn split(text: &Text<'_>, here: &mut usize) -> Result<ProofCommand, Stop>
     requires { IsText text.now }
     ensures { Found (ProofRow head.Split) BeforeStop proof_command_of (rest text.now here.old) (rest text.now here.new) result }
 {
-    if is_next(text, *here, Mark::Star) {
-        expect(text, here, Mark::Star)?;
+    if is_next(text, *here, Kind::Star) {
+        expect(text, here, Kind::Star)?;
         return Ok(ProofCommand::SplitAll);
     }
     Ok(ProofCommand::Split)
@@ -169,16 +169,8 @@ fn split(text: &Text<'_>, here: &mut usize) -> Result<ProofCommand, Stop>
 /// Reads a term.
 fn exists(alloc: Global, text: &Text<'_>, here: &mut usize) -> Result<ProofCommand, Stop>
     requires { IsText text.now }
-    ensures { Found (ProofRow head.Exists) BeforeStop proof_command_of (rest text.now here.old) (rest text.now here.new) result }
-{
-    let term = read_expression(alloc, text, here)?;
-    Ok(ProofCommand::Exists(term))
-}
-
-/// Reads a term.
-fn witness(alloc: Global, text: &Text<'_>, here: &mut usize) -> Result<ProofCommand, Stop>
-    requires { IsText text.now }
-    ensures { Found (ProofRow head.Witness) BeforeStop proof_command_of (rest text.now here.old) (rest text.now here.new) result }
+    ensures exists { Found (ProofRow head.Exists) BeforeStop proof_command_of (rest text.now here.old) (rest text.now here.new) result }
+    ensures witness { Found (ProofRow head.Witness) BeforeStop proof_command_of (rest text.now here.old) (rest text.now here.new) result }
 {
     let term = read_expression(alloc, text, here)?;
     Ok(ProofCommand::Exists(term))
@@ -208,7 +200,7 @@ fn rename(alloc: Global, text: &Text<'_>, here: &mut usize) -> Result<ProofComma
     requires { IsText text.now }
     ensures { Found (ProofRow head.Rename) BeforeStop proof_command_of (rest text.now here.old) (rest text.now here.new) result }
 {
-    let from = name_and(alloc, text, here, Mark::To)?;
+    let from = name_and(alloc, text, here, Kind::To)?;
     let to = name(alloc, text, here)?;
     Ok(ProofCommand::Rename(from, to))
 }
@@ -249,7 +241,7 @@ pub(crate) fn proof_row(
         ProofHead::Left => Ok(ProofCommand::Left),
         ProofHead::Right => Ok(ProofCommand::Right),
         ProofHead::Exists => exists(alloc, text, here),
-        ProofHead::Witness => witness(alloc, text, here),
+        ProofHead::Witness => exists(alloc, text, here),
         ProofHead::Unfold => Ok(ProofCommand::Unfold),
         ProofHead::Assert => assert(alloc, text, here),
         ProofHead::Clear => clear(alloc, text, here),

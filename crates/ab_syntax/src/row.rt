@@ -2,7 +2,7 @@
 ghost use Rattle.std.specs.Prelude.{◌≡◌};
 ghost use Rattle.ab_grammar.specs.declared.head.Head.TheVariants as head;
 ghost use Rattle.ab_grammar.specs.CommandTable.{BeforeStop, Switch, Row};
-ghost use Rattle.ab_syntax.specs.Commands.{command_of};
+ghost use Rattle.ab_syntax.specs.Commands.{command_of, block_head};
 ghost use Rattle.ab_syntax.specs.Reader.{IsText, rest, Found};
 
 use crate::block::definition;
@@ -12,7 +12,7 @@ use crate::items::Items;
 use crate::leaf::{keyword, quoted_name};
 use crate::part::{declared_names, name_and};
 use crate::stop::Stop;
-use crate::text::{Mark, Text, expect, is_next, name};
+use crate::text::{Kind, Text, expect, is_next, name};
 use crate::types::read_type;
 use ab_grammar::Head;
 use std::alloc::Global;
@@ -23,7 +23,7 @@ fn kind(alloc: Global, text: &Text<'_>, here: &mut usize) -> Result<Command, Sto
     ensures { Found (Row head.Kind) BeforeStop command_of (rest text.now here.old) (rest text.now here.new) result }
 {
     let names = declared_names(alloc, text, here)?;
-    expect(text, here, Mark::Type)?;
+    expect(text, here, Kind::Type)?;
     let names = Items::from_vec(names);
     Ok(Command::Kind(names))
 }
@@ -39,26 +39,20 @@ fn typed(alloc: Global, text: &Text<'_>, here: &mut usize) -> Result<Command, St
     Ok(Command::Typed(names, ty))
 }
 
-/// Reads an inductive block.
-fn define(alloc: Global, text: &Text<'_>, here: &mut usize) -> Result<Command, Stop>
+/// Reads a block, and whether it is inductive.
+fn define(
+    alloc: Global,
+    text: &Text<'_>,
+    here: &mut usize,
+    inductive: bool,
+) -> Result<Command, Stop>
     requires { IsText text.now }
-    ensures { Found (Row head.Define) BeforeStop command_of (rest text.now here.old) (rest text.now here.new) result }
+    ensures { Found (Row (block_head inductive)) BeforeStop command_of (rest text.now here.old) (rest text.now here.new) result }
 {
     let (predicates, clauses) = definition(alloc, text, here)?;
     let predicates = Items::from_vec(predicates);
     let clauses = Items::from_vec(clauses);
-    Ok(Command::Define(true, predicates, clauses))
-}
-
-/// Reads a coinductive block.
-fn codefine(alloc: Global, text: &Text<'_>, here: &mut usize) -> Result<Command, Stop>
-    requires { IsText text.now }
-    ensures { Found (Row head.CoDefine) BeforeStop command_of (rest text.now here.old) (rest text.now here.new) result }
-{
-    let (predicates, clauses) = definition(alloc, text, here)?;
-    let predicates = Items::from_vec(predicates);
-    let clauses = Items::from_vec(clauses);
-    Ok(Command::Define(false, predicates, clauses))
+    Ok(Command::Define(inductive, predicates, clauses))
 }
 
 /// Reads `w : e`.
@@ -66,7 +60,7 @@ fn theorem(alloc: Global, text: &Text<'_>, here: &mut usize) -> Result<Command, 
     requires { IsText text.now }
     ensures { Found (Row head.Theorem) BeforeStop command_of (rest text.now here.old) (rest text.now here.new) result }
 {
-    let name = name_and(alloc, text, here, Mark::Colon)?;
+    let name = name_and(alloc, text, here, Kind::Colon)?;
     let formula = read_expression(alloc, text, here)?;
     Ok(Command::Theorem(name, formula))
 }
@@ -94,8 +88,8 @@ fn switch(text: &Text<'_>, here: &mut usize) -> Result<bool, Stop>
     requires { IsText text.now }
     ensures { Found Switch BeforeStop (λ on. on) (rest text.now here.old) (rest text.now here.new) result }
 {
-    if is_next(text, *here, Mark::On) {
-        expect(text, here, Mark::On)?;
+    if is_next(text, *here, Kind::On) {
+        expect(text, here, Kind::On)?;
         return Ok(true);
     }
     keyword(text, here, b"off")?;
@@ -125,8 +119,8 @@ pub(crate) fn row(
     match head {
         Head::Kind => kind(alloc, text, here),
         Head::Typed => typed(alloc, text, here),
-        Head::Define => define(alloc, text, here),
-        Head::CoDefine => codefine(alloc, text, here),
+        Head::Define => define(alloc, text, here, true),
+        Head::CoDefine => define(alloc, text, here, false),
         Head::Theorem => theorem(alloc, text, here),
         Head::Specification => specification(alloc, text, here),
         Head::Show => show(alloc, text, here),

@@ -3,7 +3,7 @@
 use std::alloc::AllocError;
 
 /// Why a reader stops. The next token is then the one at fault.
-#[derive(Clone, Copy, Debug, Drop, PartialEq, Eq)]
+#[derive(Clone, Copy, Drop)]
 pub(crate) enum Stop {
     /// No text goes on with the next token.
     Syntax,

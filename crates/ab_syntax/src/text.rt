@@ -4,17 +4,15 @@ ghost use Rattle.std.specs.List.{list_all};
 ghost use Rattle.ab_lex.specs.Spans.{bytes_at};
 ghost use Rattle.ab_lex.specs.declared.token.TokenKind.TheVariants as lexed;
 ghost use Rattle.ab_syntax.specs.declared.text.Kind.{Kind};
-ghost use Rattle.ab_syntax.specs.declared.text.Mark.{Mark};
 ghost use Rattle.ab_grammar.specs.Token.{Token as Grammatical};
 ghost use Rattle.ab_grammar.specs.Language.{Key, Anything};
 ghost use Rattle.ab_grammar.specs.Reading.{first};
 ghost use Rattle.ab_grammar.specs.CommandTable.{Name as NameForm};
 ghost use Rattle.ab_syntax.specs.Tokens.{token_by, is_text_byte as is_text_byte_of, unquoted};
-ghost use Rattle.ab_syntax.specs.Reader.{IsText, IsWordAt, lexed_at, written, place_at, rest, kind_of, meaning, key_of, Found};
+ghost use Rattle.ab_syntax.specs.Reader.{IsText, IsWordAt, lexed_at, written, place_at, rest, kind_of, meaning, key_of, IsKey, seen, IsSpelled, IsWordKind, Found, IsClosedBy};
 
 use crate::stop::Stop;
 use crate::words::lookup;
-use ab_grammar::{Infix, Quant};
 use ab_lex::{Token, TokenKind};
 use ab_name::Name;
 use std::alloc::{AllocError, Global};
@@ -27,11 +25,28 @@ pub(crate) struct Text<'a> {
     pub(crate) origin: usize,
 }
 
-/// A token that is known by its kind alone.
-#[derive(Clone, Copy, Debug, PartialEq, Eq)]
-pub(crate) enum Mark {
+/// A token, as the grammar sees it, without its bytes and its place.
+#[derive(Clone, Copy, PartialEq, Eq)]
+pub(crate) enum Kind {
+    /// A word that isn't reserved.
+    Word,
+    /// `true` or `false`
+    Truth,
+    Forall,
+    Exists,
+    Nabla,
+    Pi,
+    Arrow,
+    Or,
+    And,
+    Equal,
+    Imply,
+    /// `&`
+    Both,
+    Cons,
     LeftParen,
     RightParen,
+    LeftBrace,
     RightBrace,
     LeftBracket,
     RightBracket,
@@ -55,69 +70,55 @@ pub(crate) enum Mark {
     With,
     On,
     Type,
+    /// A number of at most nine digits.
+    Number,
+    /// A quoted text.
+    Text,
     /// A number of ten digits or more, or a quoted text with a byte that it may not hold.
     Unusable,
     /// The end of the tokens.
     End,
 }
 
-/// A token, as the grammar sees it, without its bytes and its place.
-#[derive(Clone, Copy, Debug, PartialEq, Eq)]
-pub(crate) enum Kind {
-    /// A word that isn't reserved.
-    Word,
-    /// `true` or `false`
-    Truth,
-    Quantifier(Quant),
-    Pi,
-    Sign(Infix),
-    LeftBrace,
-    /// A number of at most nine digits.
-    Number,
-    /// A quoted text.
-    Text,
-    Mark(Mark),
-}
-
 const RESERVED: [(&[u8], Kind); 11] = [
-    (b"forall", Kind::Quantifier(Quant::Forall)),
-    (b"exists", Kind::Quantifier(Quant::Exists)),
-    (b"nabla", Kind::Quantifier(Quant::Nabla)),
+    (b"forall", Kind::Forall),
+    (b"exists", Kind::Exists),
+    (b"nabla", Kind::Nabla),
     (b"true", Kind::Truth),
     (b"false", Kind::Truth),
     (b"pi", Kind::Pi),
-    (b"by", Kind::Mark(Mark::By)),
-    (b"to", Kind::Mark(Mark::To)),
-    (b"with", Kind::Mark(Mark::With)),
-    (b"on", Kind::Mark(Mark::On)),
-    (b"type", Kind::Mark(Mark::Type)),
+    (b"by", Kind::By),
+    (b"to", Kind::To),
+    (b"with", Kind::With),
+    (b"on", Kind::On),
+    (b"type", Kind::Type),
 ];
 
 const SIGNS: [(&[u8], Kind); 24] = [
-    (b"->", Kind::Sign(Infix::Arrow)),
-    (b"\\/", Kind::Sign(Infix::Or)),
-    (b"/\\", Kind::Sign(Infix::And)),
-    (b"=", Kind::Sign(Infix::Equal)),
-    (b"=>", Kind::Sign(Infix::Imply)),
-    (b"&", Kind::Sign(Infix::With)),
-    (b"::", Kind::Sign(Infix::Cons)),
-    (b"(", Kind::Mark(Mark::LeftParen)),
-    (b")", Kind::Mark(Mark::RightParen)),
+    (b"->", Kind::Arrow),
+    (b"\\/", Kind::Or),
+    (b"/\\", Kind::And),
+    (b"=", Kind::Equal),
+    (b"=>", Kind::Imply),
+    (b"&", Kind::Both),
+    (b"::", Kind::Cons),
+    (b"(", Kind::LeftParen),
+    (b")", Kind::RightParen),
     (b"{", Kind::LeftBrace),
-    (b"}", Kind::Mark(Mark::RightBrace)),
-    (b"[", Kind::Mark(Mark::LeftBracket)),
-    (b"]", Kind::Mark(Mark::RightBracket)),
-    (b"|-", Kind::Mark(Mark::Turnstile)),
-    (b"\\", Kind::Mark(Mark::Backslash)),
-    (b",", Kind::Mark(Mark::Comma)),
-    (b":", Kind::Mark(Mark::Colon)),
-    (b".", Kind::Mark(Mark::Stop)),
-    (b";", Kind::Mark(Mark::Semicolon)),
-    (b":=", Kind::Mark(Mark::Becomes)),
-    (b":-", Kind::Mark(Mark::From)),
-    (b"*", Kind::Mark(Mark::Star)),
-    (b"#back", Kind::Mark(Mark::Back)),
-    (b"#reset", Kind::Mark(Mark::Reset)),
+    (b"}", Kind::RightBrace),
+    (b"[", Kind::LeftBracket),
+    (b"]", Kind::RightBracket),
+    (b"|-", Kind::Turnstile),
+    (b"\\", Kind::Backslash),
+    (b",", Kind::Comma),
+    (b":", Kind::Colon),
+    (b".", Kind::Stop),
+    (b";", Kind::Semicolon),
+    (b":=", Kind::Becomes),
+    (b":-", Kind::From),
+    (b"*", Kind::Star),
+    (b"#back", Kind::Back),
+    (b"#reset", Kind::Reset),
 ];
 
 /// A word, as the grammar sees it.
@@ -136,7 +137,7 @@ fn sign_kind(written: &[u8]) -> Kind
 {
     match lookup(&SIGNS, written) {
         Some(kind) => kind,
-        None => Kind::Mark(Mark::Unusable),
+        None => Kind::Unusable,
     }
 }
 
@@ -147,7 +148,7 @@ fn number_kind(written: &[u8]) -> Kind
     if written.len() <= 9 {
         Kind::Number
     } else {
-        Kind::Mark(Mark::Unusable)
+        Kind::Unusable
     }
 }
 
@@ -173,7 +174,7 @@ fn text_kind(written: &[u8]) -> Kind
     if is_text(&written[1..written.len() - 1]) {
         Kind::Text
     } else {
-        Kind::Mark(Mark::Unusable)
+        Kind::Unusable
     }
 }
 
@@ -214,45 +215,115 @@ pub(crate) fn peek(text: &Text<'_>, here: usize) -> Kind
     requires { IsText text.now }
     ensures kind { result ≡ kind_of (first (rest text.now here)) }
     ensures token { first (rest text.now here) ≡ meaning result (written text.now here) (place_at text.now here) }
-    ensures within { result ≢ Kind.Mark Mark.End → here < length text.now.tokens.now }
+    ensures within { result ≢ Kind.End → here < length text.now.tokens.now }
 {
     if here < text.tokens.len() {
         kind_by(text.tokens[here].kind, written_at(text, here))
     } else {
-        Kind::Mark(Mark::End)
+        Kind::End
     }
 }
 
-/// Whether two marks are one.
-fn same(left: Mark, right: Mark) -> bool
+/// Whether two kinds are one.
+fn same(left: Kind, right: Kind) -> bool
     ensures { IsTrue result ↔ (left ≡ right) }
 {
     left == right
 }
 
-/// Whether the next token is the mark.
-pub(crate) fn is_next(text: &Text<'_>, here: usize, mark: Mark) -> bool
-    requires { IsText text.now }
-    ensures next { IsTrue result ↔ (first (rest text.now here) ≡ key_of mark) }
-    ensures within { IsTrue result → mark ≢ Mark.End → here < length text.now.tokens.now }
+/// Whether the next token is the key.
+pub(crate) fn is_next(text: &Text<'_>, here: usize, key: Kind) -> bool
+    requires text { IsText text.now }
+    requires key { IsKey key }
+    ensures next { IsTrue result ↔ (first (rest text.now here) ≡ key_of key) }
+    ensures within { IsTrue result → key ≢ Kind.End → here < length text.now.tokens.now }
 {
-    match peek(text, here) {
-        Kind::Mark(next) => same(next, mark),
-        _ => false,
-    }
+    same(peek(text, here), key)
 }
 
-/// Takes the next token, if it is the mark.
-pub(crate) fn expect(text: &Text<'_>, here: &mut usize, mark: Mark) -> Result<(), Stop>
+/// Takes the next token, if it is the key.
+pub(crate) fn expect(text: &Text<'_>, here: &mut usize, key: Kind) -> Result<(), Stop>
     requires text { IsText text.now }
-    requires some { mark ≢ Mark.End }
-    ensures { Found (Key (key_of mark)) Anything (λ u. u) (rest text.now here.old) (rest text.now here.new) result }
+    requires key { IsKey key }
+    requires some { key ≢ Kind.End }
+    ensures { Found (Key (key_of key)) Anything (λ u. u) (rest text.now here.old) (rest text.now here.new) result }
 {
-    if !is_next(text, *here, mark) {
+    if !is_next(text, *here, key) {
         return Err(Stop::Syntax);
     }
     *here += 1;
     Ok(())
+}
+
+/// Takes the key behind a part, if that was read.
+pub(crate) fn closed<T: Drop>(
+    text: &Text<'_>,
+    here: &mut usize,
+    key: Kind,
+    part: Result<T, Stop>,
+) -> Result<T, Stop>
+    requires text { IsText text.now }
+    requires key { IsKey key }
+    requires some { key ≢ Kind.End }
+    ensures { IsClosedBy (key_of key) (rest text.now here.old) (rest text.now here.new) part result }
+{
+    match part {
+        Ok(value) => match expect(text, here, key) {
+            Ok(()) => Ok(value),
+            Err(stop) => Err(stop),
+        },
+        Err(stop) => Err(stop),
+    }
+}
+
+/// A token, with its bytes and its place.
+#[derive(Clone, Copy, Drop)]
+pub(crate) struct Seen<'a> {
+    pub(crate) kind: Kind,
+    pub(crate) written: &'a [u8],
+    pub(crate) place: usize,
+}
+
+/// The next token.
+pub(crate) fn look<'a>(text: &Text<'a>, here: usize) -> Seen<'a>
+    requires { IsText text.now }
+    ensures token { first (rest text.now here) ≡ seen result }
+    ensures spelled { IsSpelled result }
+{
+    let kind = peek(text, here);
+    if here < text.tokens.len() {
+        Seen {
+            kind,
+            written: written_at(text, here),
+            place: place(text, here),
+        }
+    } else {
+        Seen {
+            kind,
+            written: b"",
+            place: 0,
+        }
+    }
+}
+
+/// A word that is ASCII, as a name.
+pub(crate) fn spell(alloc: Global, written: &[u8]) -> Result<Name, AllocError>
+    requires { All (λ b. b < 128) written.now }
+    ensures { IfOk result (λ name. name ≡ written.now) }
+{
+    match str::from_utf8(written) {
+        Ok(word) => Name::from_text(alloc, word),
+        Err(_) => unreachable!(),
+    }
+}
+
+/// The name of a token that is a word.
+pub(crate) fn name_of(alloc: Global, token: Seen<'_>) -> Result<Name, AllocError>
+    requires spelled { IsSpelled token }
+    requires word { IsWordKind token.kind }
+    ensures { IfOk result (λ name. name ≡ token.entry.written.now) }
+{
+    spell(alloc, token.written)
 }
 
 /// The next token, which is a word, as a name.
@@ -261,10 +332,7 @@ pub(crate) fn word(alloc: Global, text: &Text<'_>, here: usize) -> Result<Name, 
     requires word { IsWordAt text.now here }
     ensures { IfOk result (λ name. name ≡ written text.now here) }
 {
-    match str::from_utf8(written_at(text, here)) {
-        Ok(word) => Name::from_text(alloc, word),
-        Err(_) => unreachable!(),
-    }
+    spell(alloc, written_at(text, here))
 }
 
 /// Takes the next token, if it is a name.

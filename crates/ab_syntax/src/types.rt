@@ -1,19 +1,17 @@
 //! Types, read from tokens by a stack of what isn't finished yet.
-ghost use Rattle.std.specs.Prelude.{◌≡◌, ◌<◌, ◌++◌, ◌∷◌, [], Some, IfOk, MatchOption, option_map, vec_len};
-ghost use Rattle.ab_grammar.specs.Language.{TypeExpression, Followed};
+ghost use Rattle.std.specs.Prelude.{◌≡◌, ◌<◌, ◌∷◌, ℕ, List, [], IfOk, IsTrue, MatchOption, vec_len};
+ghost use Rattle.ab_grammar.specs.Language.{TypeExpression, Follower, Followed};
 ghost use Rattle.ab_grammar.specs.Machine as machine;
 ghost use Rattle.ab_grammar.specs.Tree as tree;
 ghost use Rattle.ab_grammar.specs.Token as Grammatical;
 ghost use Rattle.ab_syntax.specs.Trees.{type_of};
-ghost use Rattle.ab_syntax.specs.Reader.{IsText, rest, Found};
-ghost use Rattle.ab_syntax.specs.Steps.{token_of_piece, type_frame_of, type_frames_of, type_state_of, IsTypeNext};
+ghost use Rattle.ab_syntax.specs.Reader.{IsText, meaning, seen, IsSpelled, rest, Found};
+ghost use Rattle.ab_syntax.specs.Steps.{follows, type_frame_of, type_frames_of, type_shut_of, type_state, IsTypeNext};
 
 use crate::nesting::{LIMIT, nest, outside};
-use crate::piece::{Piece, next_piece};
 use crate::stop::Stop;
-use crate::text::Text;
+use crate::text::{Kind, Seen, Text, look, name_of};
 use crate::tree::TypeParse;
-use ab_grammar::Infix;
 use std::alloc::{AllocError, Global};
 
 /// What a type stands in.
@@ -25,45 +23,65 @@ pub(crate) enum TypeFrame {
     Arrow(TypeParse),
 }
 
-/// A type that is being read: what it stands in, and the type that was read last, where no other must come.
+/// What was read last, and what must come.
 #[derive(Drop)]
-pub(crate) struct TypeMachine {
-    pub(crate) frames: Vec<TypeFrame>,
-    pub(crate) last: Option<TypeParse>,
+pub(crate) enum TypeState {
+    /// A type must come.
+    Want,
+    /// A type stands there.
+    Have(TypeParse),
 }
 
 /// What a token does.
 #[derive(Drop)]
 pub(crate) enum TypeNext {
     /// The type goes on.
-    On(TypeMachine),
+    On(TypeState),
     /// The type ended before the token.
     Done(TypeParse),
     /// No type goes on with the token, and none that ended before it is followed by it.
     Wrong,
 }
 
-/// A type up to its innermost parenthesis, and what stands below that.
+/// A type up to its innermost parenthesis, and whether there is one.
 #[derive(Drop)]
-struct TypeInside {
-    inner: TypeParse,
-    below: Option<Vec<TypeFrame>>,
+pub(crate) struct TypeInside {
+    pub(crate) inner: TypeParse,
+    pub(crate) enclosed: bool,
 }
 
-/// `left -> right`
-fn arrow(alloc: Global, left: TypeParse, right: TypeParse) -> Result<TypeParse, AllocError>
-    ensures { IfOk result (λ r. type_of r ≡ tree.arrow (type_of left) (type_of right)) }
+/// Whether a token can stand behind a whole type and behind a whole expression.
+pub(crate) fn ends(kind: Kind) -> bool
+    ensures { result ≡ follows kind }
 {
-    Ok(TypeParse::Arrow(Box::new(alloc, left)?, Box::new(alloc, right)?))
+    match kind {
+        Kind::Word
+        | Kind::Truth
+        | Kind::Forall
+        | Kind::Exists
+        | Kind::Nabla
+        | Kind::Pi
+        | Kind::Arrow
+        | Kind::Or
+        | Kind::And
+        | Kind::Equal
+        | Kind::Imply
+        | Kind::Both
+        | Kind::Cons
+        | Kind::LeftParen
+        | Kind::LeftBrace
+        | Kind::LeftBracket
+        | Kind::Backslash => false,
+        _ => true,
+    }
 }
 
-/// The frames with one more.
-fn with_type_frame(frames: Vec<TypeFrame>, frame: TypeFrame) -> Result<Vec<TypeFrame>, AllocError>
-    ensures { IfOk result (λ r. type_frames_of r ≡ type_frame_of frame ∷ type_frames_of frames) }
+/// Puts a frame on top.
+fn push_type(frames: &mut Vec<TypeFrame>, frame: TypeFrame) -> Result<(), AllocError>
+    ensures { IfOk result (λ r. type_frames_of frames.new ≡ type_frame_of frame ∷ type_frames_of frames.old) }
 {
-    let mut frames = frames;
     frames.push(frame)?;
-    Ok(frames)
+    Ok(())
 }
 
 /// Takes the innermost frame.
@@ -78,32 +96,37 @@ fn take_type_frame(frames: &mut Vec<TypeFrame>) -> Option<TypeFrame>
     }
 }
 
-/// The type up to the innermost parenthesis.
+/// `left -> right`
+fn arrow(alloc: Global, left: TypeParse, right: TypeParse) -> Result<TypeParse, AllocError>
+    ensures { IfOk result (λ r. type_of r ≡ tree.arrow (type_of left) (type_of right)) }
+{
+    Ok(TypeParse::Arrow(Box::new(alloc, left)?, Box::new(alloc, right)?))
+}
+
+/// The type up to the innermost parenthesis, which is taken away.
 fn shut_type(
     alloc: Global,
+    frames: &mut Vec<TypeFrame>,
     last: TypeParse,
-    frames: Vec<TypeFrame>,
 ) -> Result<TypeInside, AllocError>
-    ensures inner { IfOk result (λ r. type_of r.inner ≡ (machine.type_shut (type_of last) (type_frames_of frames)).inner) }
-    ensures below { IfOk result (λ r. option_map type_frames_of r.below ≡ (machine.type_shut (type_of last) (type_frames_of frames)).below) }
+    ensures { IfOk result (λ r. machine.type_shut (type_of last) (type_frames_of frames.old) ≡ type_shut_of r (type_frames_of frames.new)) }
 {
-    let mut frames = frames;
     let mut last = last;
     loop {
-        match take_type_frame(&mut frames) {
+        match take_type_frame(frames) {
             Some(TypeFrame::Arrow(left)) => {
                 last = arrow(alloc, left, last)?;
             }
             Some(TypeFrame::Paren) => {
                 return Ok(TypeInside {
                     inner: last,
-                    below: Some(frames),
+                    enclosed: true,
                 });
             }
             None => {
                 return Ok(TypeInside {
                     inner: last,
-                    below: None,
+                    enclosed: false,
                 });
             }
         }
@@ -111,134 +134,107 @@ fn shut_type(
 }
 
 /// A token where a type must come.
-fn begin_type(frames: Vec<TypeFrame>, piece: Piece) -> Result<TypeNext, AllocError>
-    ensures { IfOk result (λ r. IsTypeNext (machine.type_want (type_frames_of frames)) (token_of_piece piece) r) }
+fn begin_type(
+    alloc: Global,
+    frames: &mut Vec<TypeFrame>,
+    token: Seen<'_>,
+) -> Result<TypeNext, AllocError>
+    requires { IsSpelled token }
+    ensures { IfOk result (λ r. IsTypeNext (machine.type_want (type_frames_of frames.old)) (seen token.entry) (type_frames_of frames.new) r) }
 {
-    match piece {
-        Piece::Word(name, place) => Ok(TypeNext::On(TypeMachine {
-            frames,
-            last: Some(TypeParse::Base(name, place)),
-        })),
-        Piece::LeftParen => Ok(TypeNext::On(TypeMachine {
-            frames: with_type_frame(frames, TypeFrame::Paren)?,
-            last: None,
-        })),
-        Piece::Truth(_, _)
-        | Piece::Quantifier(_, _)
-        | Piece::Pi(_)
-        | Piece::Sign(_)
-        | Piece::RightParen
-        | Piece::LeftBrace(_)
-        | Piece::RightBrace
-        | Piece::LeftBracket
-        | Piece::RightBracket
-        | Piece::Turnstile
-        | Piece::Backslash
-        | Piece::Comma
-        | Piece::Colon
-        | Piece::Other => Ok(TypeNext::Wrong),
+    match token.kind {
+        Kind::Word => {
+            let base = TypeParse::Base(name_of(alloc, token)?, token.place);
+            Ok(TypeNext::On(TypeState::Have(base)))
+        }
+        Kind::LeftParen => {
+            push_type(frames, TypeFrame::Paren)?;
+            Ok(TypeNext::On(TypeState::Want))
+        }
+        _ => Ok(TypeNext::Wrong),
     }
 }
 
 /// `)` behind a type.
 fn close_type(
     alloc: Global,
-    frames: Vec<TypeFrame>,
+    frames: &mut Vec<TypeFrame>,
     last: TypeParse,
 ) -> Result<TypeNext, AllocError>
-    ensures { IfOk result (λ r. IsTypeNext (machine.type_have (type_frames_of frames) (type_of last)) Grammatical.right_paren r) }
+    ensures { IfOk result (λ r. IsTypeNext (machine.type_have (type_frames_of frames.old) (type_of last)) Grammatical.right_paren (type_frames_of frames.new) r) }
 {
-    let TypeInside { inner, below } = shut_type(alloc, last, frames)?;
-    match below {
-        Some(frames) => Ok(TypeNext::On(TypeMachine {
-            frames,
-            last: Some(inner),
-        })),
-        None => Ok(TypeNext::Done(inner)),
+    let TypeInside { inner, enclosed } = shut_type(alloc, frames, last)?;
+    if enclosed {
+        Ok(TypeNext::On(TypeState::Have(inner)))
+    } else {
+        Ok(TypeNext::Done(inner))
     }
 }
 
 /// What can follow a type, but doesn't go on with it, behind one.
-fn end_type(alloc: Global, frames: Vec<TypeFrame>, last: TypeParse) -> Result<TypeNext, AllocError>
-    ensures { IfOk result (λ r. IsTypeNext (machine.type_have (type_frames_of frames) (type_of last)) Grammatical.comma r) }
+fn end_type(
+    alloc: Global,
+    frames: &mut Vec<TypeFrame>,
+    last: TypeParse,
+) -> Result<TypeNext, AllocError>
+    ensures { IfOk result (λ r. IsTypeNext (machine.type_have (type_frames_of frames.old) (type_of last)) Grammatical.comma (type_frames_of frames.new) r) }
 {
-    let TypeInside { inner, below } = shut_type(alloc, last, frames)?;
-    match below {
-        Some(_) => Ok(TypeNext::Wrong),
-        None => Ok(TypeNext::Done(inner)),
+    let TypeInside { inner, enclosed } = shut_type(alloc, frames, last)?;
+    if enclosed {
+        Ok(TypeNext::Wrong)
+    } else {
+        Ok(TypeNext::Done(inner))
     }
 }
 
-/// A sign behind a type.
-fn sign_behind_type(
-    frames: Vec<TypeFrame>,
+/// A token behind a type, other than `->` and `)`.
+fn leave_type(
+    alloc: Global,
+    frames: &mut Vec<TypeFrame>,
     last: TypeParse,
-    sign: Infix,
+    kind: Kind,
 ) -> Result<TypeNext, AllocError>
-    ensures { IfOk result (λ r. IsTypeNext (machine.type_have (type_frames_of frames) (type_of last)) (Grammatical.sign sign) r) }
+    ensures { IfOk result (λ r. (w : List ℕ) (p : ℕ) → machine.type_step (machine.type_have (type_frames_of frames.old) (type_of last)) (meaning kind w p) ≡ machine.type_step (machine.type_have (type_frames_of frames.old) (type_of last)) Grammatical.comma → IsTypeNext (machine.type_have (type_frames_of frames.old) (type_of last)) (meaning kind w p) (type_frames_of frames.new) r) }
 {
-    match sign {
-        Infix::Arrow => Ok(TypeNext::On(TypeMachine {
-            frames: with_type_frame(frames, TypeFrame::Arrow(last))?,
-            last: None,
-        })),
-        Infix::Or | Infix::And | Infix::Equal | Infix::Imply | Infix::With | Infix::Cons => {
-            Ok(TypeNext::Wrong)
-        }
+    if ends(kind) {
+        end_type(alloc, frames, last)
+    } else {
+        Ok(TypeNext::Wrong)
     }
 }
 
 /// A token behind a type.
 fn go_on_with_type(
     alloc: Global,
-    frames: Vec<TypeFrame>,
+    frames: &mut Vec<TypeFrame>,
     last: TypeParse,
-    piece: Piece,
+    token: Seen<'_>,
 ) -> Result<TypeNext, AllocError>
-    ensures { IfOk result (λ r. IsTypeNext (machine.type_have (type_frames_of frames) (type_of last)) (token_of_piece piece) r) }
+    ensures { IfOk result (λ r. IsTypeNext (machine.type_have (type_frames_of frames.old) (type_of last)) (seen token.entry) (type_frames_of frames.new) r) }
 {
-    match piece {
-        Piece::Sign(sign) => sign_behind_type(frames, last, sign),
-        Piece::RightParen => close_type(alloc, frames, last),
-        Piece::RightBrace
-        | Piece::RightBracket
-        | Piece::Turnstile
-        | Piece::Comma
-        | Piece::Colon
-        | Piece::Other => end_type(alloc, frames, last),
-        Piece::Word(_, _)
-        | Piece::Truth(_, _)
-        | Piece::Quantifier(_, _)
-        | Piece::Pi(_)
-        | Piece::LeftParen
-        | Piece::LeftBrace(_)
-        | Piece::LeftBracket
-        | Piece::Backslash => Ok(TypeNext::Wrong),
-    }
-}
-
-/// A type of which nothing was read.
-pub(crate) fn start_type(alloc: Global) -> TypeMachine
-    ensures { type_state_of result ≡ machine.type_start }
-{
-    TypeMachine {
-        frames: Vec::new(alloc),
-        last: None,
+    match token.kind {
+        Kind::Arrow => {
+            push_type(frames, TypeFrame::Arrow(last))?;
+            Ok(TypeNext::On(TypeState::Want))
+        }
+        Kind::RightParen => close_type(alloc, frames, last),
+        _ => leave_type(alloc, frames, last, token.kind),
     }
 }
 
 /// What a token does to a type that is being read.
 pub(crate) fn step_type(
     alloc: Global,
-    machine: TypeMachine,
-    piece: Piece,
+    frames: &mut Vec<TypeFrame>,
+    state: TypeState,
+    token: Seen<'_>,
 ) -> Result<TypeNext, AllocError>
-    ensures { IfOk result (λ r. IsTypeNext (type_state_of machine) (token_of_piece piece) r) }
+    requires { IsSpelled token }
+    ensures { IfOk result (λ r. IsTypeNext (type_state (type_frames_of frames.old) state) (seen token.entry) (type_frames_of frames.new) r) }
 {
-    let TypeMachine { frames, last } = machine;
-    match last {
-        None => begin_type(frames, piece),
-        Some(last) => go_on_with_type(alloc, frames, last, piece),
+    match state {
+        TypeState::Want => begin_type(alloc, frames, token),
+        TypeState::Have(last) => go_on_with_type(alloc, frames, last, token),
     }
 }
 
@@ -247,20 +243,20 @@ pub(crate) fn read_type(alloc: Global, text: &Text<'_>, here: &mut usize) -> Res
     requires { IsText text.now }
     ensures { Found TypeExpression Followed type_of (rest text.now here.old) (rest text.now here.new) result }
 {
-    let mut machine = start_type(alloc);
+    let mut frames = Vec::new(alloc);
+    let mut state = TypeState::Want;
     let mut layers = outside(alloc);
-    loop {
-        let piece = next_piece(alloc, text, *here)?;
-        let nested = nest(layers, &piece)?;
-        match step_type(alloc, machine, piece)? {
+    'tokens: loop {
+        let token = look(text, *here);
+        nest(&mut layers, token.kind)?;
+        match step_type(alloc, &mut frames, state, token)? {
             TypeNext::Done(found) => return Ok(found),
             TypeNext::Wrong => return Err(Stop::Syntax),
             TypeNext::On(next) => {
-                if nested.depth > LIMIT {
+                if layers.depth > LIMIT {
                     return Err(Stop::TooNested);
                 }
-                machine = next;
-                layers = nested;
+                state = next;
                 *here += 1;
             }
         }

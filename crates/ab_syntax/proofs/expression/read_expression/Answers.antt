@@ -1,47 +1,52 @@
-use Rattle.std.proofs.Common.{◌≤◌, subst, arith}
+use Rattle.std.proofs.Common.{◌≤◌, ap, subst, arith}
 use Rattle.ab_grammar.specs.Nesting.{limit}
 use Rattle.ab_syntax.specs.declared.machine.Next.{Next}
-use Rattle.ab_syntax.specs.Reader.{rest}
-use Rattle.ab_syntax.specs.Steps.{layers_of, token_of_piece}
-use Rattle.ab_syntax.specs.States.{state_of, IsNext}
+use Rattle.ab_syntax.specs.Reader.{rest, seen}
+use Rattle.ab_syntax.specs.Steps.{layers_of, stack}
+use Rattle.ab_syntax.specs.Frames.{frame_of, frames_of}
+use Rattle.ab_syntax.specs.States.{state_in, IsNext}
 use Rattle.ab_syntax.proofs.ExpressionReading.{expression_starts, expression_found, expression_refused, expression_nests, expression_on}
 use Rattle.ab_syntax.proofs.expression.read_expression.Goals as goal
 
-pub loop-layers-init : goal.loop-layers-init
-loop-layers-init c = record {
-  so_far = expression_starts (rest c.args.text.now c.args.here.now) (state_of c.start-machine.result) (layers_of c.outside-layers.result) c.start-machine.ensures c.outside-layers.ensures.outside;
+pub tokens-init : goal.tokens-init
+tokens-init c = record {
+  so_far = expression_starts (rest c.args.text.now c.args.here.now) (frames_of c.new-frames.result) (layers_of c.outside-layers.result) (ap (stack frame_of) c.new-frames.ensures.items) c.outside-layers.ensures.outside;
   measured = c.outside-layers.ensures.measured;
   shallow = omega (arith, c.outside-layers.ensures.depth);
 }
 
 pub returns-in-Done : goal.returns-in-Done
 returns-in-Done c =
-    let s = state_of c.loop-layers.machine in
-    expression_found (rest c.args.text.now c.args.here.now) c.args.text.now c.loop-layers.here s (layers_of c.loop-layers.layers) c.loop-layers.invariant.so_far c.in_ok-piece.piece c.in_ok-piece.ensures
-    c.in-Done.found (subst (λ (r : Next). IsNext s (token_of_piece c.in_ok-piece.piece) r) c.in-Done.is c.in_ok-found.ensures)
+    let s = state_in (frames_of c.tokens.frames) c.tokens.state in
+    let fs = frames_of c.step.new.frames in
+    expression_found (rest c.args.text.now c.args.here.now) c.args.text.now c.tokens.here s (layers_of c.tokens.layers) c.tokens.invariant.so_far (seen c.look-token.result) c.look-token.ensures.token fs
+    c.in-Done.found (subst (λ (r : Next). IsNext s (seen c.look-token.result) fs r) c.in-Done.is c.in_ok-found.ensures)
 
 pub returns-in-Wrong : goal.returns-in-Wrong
 returns-in-Wrong c =
-    let s = state_of c.loop-layers.machine in
-    expression_refused (rest c.args.text.now c.args.here.now) c.args.text.now c.loop-layers.here s (layers_of c.loop-layers.layers) c.loop-layers.invariant.so_far c.in_ok-piece.piece c.in_ok-piece.ensures
-    (subst (λ (r : Next). IsNext s (token_of_piece c.in_ok-piece.piece) r) c.in-Wrong.is c.in_ok-found.ensures)
+    let s = state_in (frames_of c.tokens.frames) c.tokens.state in
+    let fs = frames_of c.step.new.frames in
+    expression_refused (rest c.args.text.now c.args.here.now) c.args.text.now c.tokens.here s (layers_of c.tokens.layers) c.tokens.invariant.so_far (seen c.look-token.result) c.look-token.ensures.token fs
+    (subst (λ (r : Next). IsNext s (seen c.look-token.result) fs r) c.in-Wrong.is c.in_ok-found.ensures)
 
-pub returns-then-nested-gt-LIMIT : goal.returns-then-nested-gt-LIMIT
-returns-then-nested-gt-LIMIT c =
-    let s = state_of c.loop-layers.machine in
-    expression_nests (rest c.args.text.now c.args.here.now) c.args.text.now c.loop-layers.here s (layers_of c.loop-layers.layers) c.loop-layers.invariant.so_far c.in_ok-piece.piece c.in_ok-piece.ensures
-    c.in-On.next (subst (λ (r : Next). IsNext s (token_of_piece c.in_ok-piece.piece) r) c.in-On.is c.in_ok-found.ensures)
-    (layers_of c.in_ok-nested.nested) c.in_ok-nested.nested.depth c.in_ok-nested.ensures.layers c.in_ok-nested.ensures.measured (λ h. omega (arith, c.if-nested-gt-LIMIT.true))
+pub returns-then-layers-gt-LIMIT : goal.returns-then-layers-gt-LIMIT
+returns-then-layers-gt-LIMIT c =
+    let s = state_in (frames_of c.tokens.frames) c.tokens.state in
+    let fs = frames_of c.step.new.frames in
+    expression_nests (rest c.args.text.now c.args.here.now) c.args.text.now c.tokens.here s (layers_of c.tokens.layers) c.tokens.invariant.so_far (seen c.look-token.result) c.look-token.ensures.token fs
+    c.in-On.next (subst (λ (r : Next). IsNext s (seen c.look-token.result) fs r) c.in-On.is c.in_ok-found.ensures)
+    (layers_of c.nest.new.layers) c.nest.new.layers.depth (c.in_ok-nest.ensures.layers _ _) c.in_ok-nest.ensures.measured (λ h. omega (arith, c.if-layers-gt-LIMIT.true))
 
-pub loop-layers-preserved : goal.loop-layers-preserved
-loop-layers-preserved c =
-    let s = state_of c.loop-layers.machine in
-    let shallow : c.in_ok-nested.nested.depth ≤ limit = c.if-nested-gt-LIMIT.false in
+pub tokens-preserved : goal.tokens-preserved
+tokens-preserved c =
+    let s = state_in (frames_of c.tokens.frames) c.tokens.state in
+    let fs = frames_of c.step.new.frames in
+    let shallow : c.nest.new.layers.depth ≤ limit = c.if-layers-gt-LIMIT.false in
     record {
       so_far =
-          expression_on (rest c.args.text.now c.args.here.now) c.args.text.now c.loop-layers.here s (layers_of c.loop-layers.layers) c.loop-layers.invariant.so_far c.in_ok-piece.piece c.in_ok-piece.ensures
-          c.in-On.next (subst (λ (r : Next). IsNext s (token_of_piece c.in_ok-piece.piece) r) c.in-On.is c.in_ok-found.ensures)
-          (layers_of c.in_ok-nested.nested) c.in_ok-nested.nested.depth c.in_ok-nested.ensures.layers c.in_ok-nested.ensures.measured shallow;
-      measured = c.in_ok-nested.ensures.measured;
+          expression_on (rest c.args.text.now c.args.here.now) c.args.text.now c.tokens.here s (layers_of c.tokens.layers) c.tokens.invariant.so_far (seen c.look-token.result) c.look-token.ensures.token fs
+          c.in-On.next (subst (λ (r : Next). IsNext s (seen c.look-token.result) fs r) c.in-On.is c.in_ok-found.ensures)
+          (layers_of c.nest.new.layers) c.nest.new.layers.depth (c.in_ok-nest.ensures.layers _ _) c.in_ok-nest.ensures.measured shallow;
+      measured = c.in_ok-nest.ensures.measured;
       shallow = shallow;
     }

@@ -5,8 +5,8 @@ use Rattle.ab_syntax.specs.Frames.{frames_of}
 use Rattle.ab_syntax.proofs.frame.pop.Given as goal
 
 -- what is left to pop comes to the same
-abbrev pub invariant-loop-other : goal.invariant-loop-other
-invariant-loop-other l = machine.pop l.fn.sign (tree_of l.fn.operand) (frames_of l.fn.frames) ≡ machine.pop l.sign (tree_of l.operand) (frames_of l.frames)
+abbrev pub invariant-frames : goal.invariant-frames
+invariant-frames l = machine.pop l.fn.sign (tree_of l.fn.operand) (frames_of l.fn.frames) ≡ machine.pop l.sign (tree_of l.operand) (frames_of l.frames)
 
-abbrev pub decreases-loop-other : goal.decreases-loop-other
-decreases-loop-other l = length l.frames.items
+abbrev pub decreases-frames : goal.decreases-frames
+decreases-frames l = length l.frames.items

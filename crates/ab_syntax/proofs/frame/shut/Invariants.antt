@@ -5,8 +5,8 @@ use Rattle.ab_syntax.specs.Frames.{frames_of}
 use Rattle.ab_syntax.proofs.frame.shut.Given as goal
 
 -- what is left to shut comes to the same
-abbrev pub invariant-loop-sign : goal.invariant-loop-sign
-invariant-loop-sign l = machine.shut (tree_of l.fn.last) (frames_of l.fn.frames) ≡ machine.shut (tree_of l.last) (frames_of l.frames)
+abbrev pub invariant-frames : goal.invariant-frames
+invariant-frames l = machine.shut (tree_of l.fn.last) (frames_of l.fn.frames) ≡ machine.shut (tree_of l.last) (frames_of l.frames)
 
-abbrev pub decreases-loop-sign : goal.decreases-loop-sign
-decreases-loop-sign l = length l.frames.items
+abbrev pub decreases-frames : goal.decreases-frames
+decreases-frames l = length l.frames.items

@@ -3,15 +3,13 @@ use Rattle.ab_grammar.specs.Token.{Token}
 use Rattle.ab_grammar.specs.CommandTable.{ShowsArgument}
 use Rattle.ab_grammar.proofs.Shown.{one_argument, argument_example}
 use Rattle.ab_syntax.specs.declared.text.Kind.TheVariants as kind
-use Rattle.ab_syntax.specs.declared.text.Mark.TheVariants as mark
 use Rattle.ab_syntax.specs.Commands.{argument_of}
-use Rattle.ab_syntax.specs.Reader.{place_at}
-use Rattle.ab_syntax.proofs.Meanings.{IsWordKind}
+use Rattle.ab_syntax.specs.Reader.{place_at, IsWordKind}
 use Rattle.ab_syntax.proofs.Places.{lexed_word}
 use Rattle.ab_syntax.proofs.Leaves.{argument_kind, takes, takes_none}
 use Rattle.ab_syntax.proofs.leaf.argument.Goals as goal
 
-not_end : kind.Word ≡ kind.Mark mark.End → ⊥
+not_end : kind.Word ≡ kind.End → ⊥
 not_end e = absurd (cc)
 
 pub word_argument-requires-clause-word : goal.word_argument-requires-clause-word

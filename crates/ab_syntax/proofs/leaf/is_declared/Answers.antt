@@ -1,14 +1,12 @@
 use Rattle.std.proofs.Common.{◌≡◌, ◌↔◌, ℕ, List, IsTrue, ◌∙◌, subst}
 use Rattle.ab_grammar.specs.CommandTable.{IsDeclarable}
 use Rattle.ab_syntax.specs.declared.text.Kind.TheVariants as kind
-use Rattle.ab_syntax.specs.declared.text.Mark.TheVariants as mark
-use Rattle.ab_syntax.specs.Reader.{written, place_at}
-use Rattle.ab_syntax.proofs.Meanings.{IsWordKind}
+use Rattle.ab_syntax.specs.Reader.{written, place_at, IsWordKind}
 use Rattle.ab_syntax.proofs.Places.{lexed_word}
 use Rattle.ab_syntax.proofs.Leaves.{declared_kind, declared_where}
 use Rattle.ab_syntax.proofs.leaf.is_declared.Goals as goal
 
-not_end : kind.Word ≡ kind.Mark mark.End → ⊥
+not_end : kind.Word ≡ kind.End → ⊥
 not_end e = absurd (cc)
 
 pub returns-in-Word-clause-shown : goal.returns-in-Word-clause-shown

@@ -1,11 +1,10 @@
 use Rattle.std.proofs.Common.{◌≡◌, List, bytes_eq, ap, ◌∙◌}
 use Rattle.ab_syntax.specs.declared.text.Kind.TheVariants as kind
-use Rattle.ab_syntax.specs.declared.text.Mark.TheVariants as mark
 use Rattle.ab_syntax.specs.Reader.{written, place_at}
 use Rattle.ab_syntax.proofs.Leaves.{placed_kind, word_where}
 use Rattle.ab_syntax.proofs.leaf.is_word.Goals as goal
 
-not_end : kind.Word ≡ kind.Mark mark.End → ⊥
+not_end : kind.Word ≡ kind.End → ⊥
 not_end e = absurd (cc)
 
 pub returns-in-Word : goal.returns-in-Word

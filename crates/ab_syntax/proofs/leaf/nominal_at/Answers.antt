@@ -1,12 +1,11 @@
 use Rattle.std.proofs.Common.{◌≡◌, ℕ, List, ◌∙◌, subst, MatchOption}
 use Rattle.ab_grammar.specs.CommandTable.{IsNominal}
 use Rattle.ab_syntax.specs.declared.text.Kind.TheVariants as kind
-use Rattle.ab_syntax.specs.declared.text.Mark.TheVariants as mark
 use Rattle.ab_syntax.specs.Reader.{written, place_at}
 use Rattle.ab_syntax.proofs.Leaves.{nominal_kind, nominal_where}
 use Rattle.ab_syntax.proofs.leaf.nominal_at.Goals as goal
 
-not_end : kind.Word ≡ kind.Mark mark.End → ⊥
+not_end : kind.Word ≡ kind.End → ⊥
 not_end e = absurd (cc)
 
 pub returns-in-Word : goal.returns-in-Word

@@ -3,13 +3,12 @@ use Rattle.std.specs.Str.Parse.{digits_value}
 use Rattle.ab_grammar.specs.Token.{Token, other, number}
 use Rattle.ab_grammar.specs.CommandTable.{ShowsNumber, shows_number}
 use Rattle.ab_syntax.specs.declared.text.Kind.TheVariants as kind
-use Rattle.ab_syntax.specs.declared.text.Mark.TheVariants as mark
 use Rattle.ab_syntax.specs.Numbers.{IsShort}
 use Rattle.ab_syntax.specs.Reader.{written}
 use Rattle.ab_syntax.proofs.Leaves.{number_kind, number_short}
 use Rattle.ab_syntax.proofs.leaf.number_at.Goals as goal
 
-not_end : kind.Number ≡ kind.Mark mark.End → ⊥
+not_end : kind.Number ≡ kind.End → ⊥
 not_end e = absurd (cc)
 
 pub value-requires : goal.value-requires

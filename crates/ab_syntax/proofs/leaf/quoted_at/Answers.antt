@@ -1,15 +1,14 @@
-use Rattle.std.proofs.Common.{◌≡◌, ◌≤◌, ℕ, true, List, length, ap, sym, ◌∙◌, subst}
-use Rattle.std.specs.List.{list_all}
+use Rattle.std.proofs.Common.{◌≡◌, ◌≤◌, ◌<◌, ℕ, All, List, length, ap, sym, ◌∙◌, subst}
 use Rattle.ab_grammar.specs.Token.{Token, other, text}
 use Rattle.ab_grammar.specs.CommandTable.{ShowsText, shows_text}
 use Rattle.ab_syntax.specs.declared.text.Kind.TheVariants as kind
-use Rattle.ab_syntax.specs.declared.text.Mark.TheVariants as mark
-use Rattle.ab_syntax.specs.Tokens.{is_text_byte, unquoted}
+use Rattle.ab_syntax.specs.Tokens.{unquoted}
 use Rattle.ab_syntax.specs.Reader.{no_token}
+use Rattle.ab_syntax.proofs.QuotedBytes.{all_below}
 use Rattle.ab_syntax.proofs.Leaves.{text_kind, text_plain}
 use Rattle.ab_syntax.proofs.leaf.quoted_at.Goals as goal
 
-not_end : kind.Text ≡ kind.Mark mark.End → ⊥
+not_end : kind.Text ≡ kind.End → ⊥
 not_end e = absurd (cc)
 
 pub inner-requires : goal.inner-requires
@@ -25,7 +24,7 @@ returns-in-Text-clause-shown c =
 pub returns-in-Text-clause-plain : goal.returns-in-Text-clause-plain
 returns-in-Text-clause-plain c =
     let h = c.in-Text.ensures.within not_end in
-    subst (λ (w : List ℕ). list_all is_text_byte w ≡ true) (sym (c.inner.ensures ∙ ap unquoted c.written_at.ensures)) ((text_plain c.args.text.now c.args.here h (sym c.in-Text.ensures.kind)).1)
+    subst (λ (w : List ℕ). All (λ b. b < 128) w) (sym (c.inner.ensures ∙ ap unquoted c.written_at.ensures)) (all_below _ ((text_plain c.args.text.now c.args.here h (sym c.in-Text.ensures.kind)).1))
 
 pub returns-in_default : goal.returns-in_default
 returns-in_default c = record { shown = λ x s. c.in_default.not-Text (c.peek.ensures.kind ∙ text_kind _ x s); plain = tt }

@@ -33,10 +33,10 @@ pub returns-in-Split : goal.returns-in-Split
 returns-in-Split c = rw c.in-Split.is c.split.ensures
 
 pub returns-in-Exists : goal.returns-in-Exists
-returns-in-Exists c = rw c.in-Exists.is c.exists.ensures
+returns-in-Exists c = rw c.in-Exists.is c.exists.ensures.exists
 
 pub returns-in-Witness : goal.returns-in-Witness
-returns-in-Witness c = rw c.in-Witness.is c.witness.ensures
+returns-in-Witness c = rw c.in-Witness.is c.exists-in-Witness.ensures.witness
 
 pub returns-in-Assert : goal.returns-in-Assert
 returns-in-Assert c = rw c.in-Assert.is c.assert.ensures

@@ -12,7 +12,7 @@ pub returns-in-Define : goal.returns-in-Define
 returns-in-Define c = rw c.in-Define.is c.define.ensures
 
 pub returns-in-CoDefine : goal.returns-in-CoDefine
-returns-in-CoDefine c = rw c.in-CoDefine.is c.codefine.ensures
+returns-in-CoDefine c = rw c.in-CoDefine.is c.define-in-CoDefine.ensures
 
 pub returns-in-Theorem : goal.returns-in-Theorem
 returns-in-Theorem c = rw c.in-Theorem.is c.theorem.ensures

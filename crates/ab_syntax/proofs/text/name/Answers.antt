@@ -2,14 +2,12 @@ use Rattle.std.proofs.Common.{◌≡◌, ◌+◌, ℕ, List, sym, subst, ◌∙�
 use Rattle.ab_grammar.specs.Language.{Anything}
 use Rattle.ab_grammar.specs.Reading.{ReadsOff}
 use Rattle.ab_grammar.specs.CommandTable.{Name}
-use Rattle.ab_syntax.specs.declared.text.Kind.TheVariants.{Word, Mark}
-use Rattle.ab_syntax.specs.declared.text.Mark.TheVariants.{End}
-use Rattle.ab_syntax.specs.Reader.{rest}
-use Rattle.ab_syntax.proofs.Meanings.{IsWordKind}
+use Rattle.ab_syntax.specs.declared.text.Kind.TheVariants.{Word, End}
+use Rattle.ab_syntax.specs.Reader.{rest, IsWordKind}
 use Rattle.ab_syntax.proofs.Places.{takes_name, no_name, lexed_word}
 use Rattle.ab_syntax.proofs.text.name.Goals as goal
 
-not_end : Word ≡ Mark End → ⊥
+not_end : Word ≡ End → ⊥
 not_end e = absurd (cc)
 
 pub word-requires-clause-word : goal.word-requires-clause-word
