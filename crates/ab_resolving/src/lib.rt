@@ -1,0 +1,8 @@
+//! The names of an expression: what each stands for in a scope.
+#![tactic(auto)]
+
+mod naming;
+mod scope;
+
+pub use naming::{Named, nominal_number, resolve_name};
+pub use scope::{Bound, Place, Scope};

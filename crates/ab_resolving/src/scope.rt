@@ -1,0 +1,32 @@
+//! Scopes: what names may stand for.
+use ab_norm::Nominal;
+use ab_store::CellId;
+use ab_types::Name;
+
+/// Whose names may be free.
+#[derive(Clone, Copy, Debug, PartialEq, Eq)]
+pub enum Place {
+    /// In a proof command, nominal names.
+    Proof,
+    /// In a clause, words with a capital first letter.
+    Clause,
+    /// Nowhere else any.
+    Elsewhere,
+}
+
+/// What names may stand for, beside the table's constants.
+#[derive(Debug, Drop)]
+pub struct Scope {
+    /// The sequent's variables.
+    pub variables: Vec<CellId>,
+    /// The nominal constants whose types are settled.
+    pub nominals: Vec<Nominal>,
+    pub place: Place,
+}
+
+/// A bound name, and the type variable of its binder.
+#[derive(Debug, Drop)]
+pub struct Bound {
+    pub name: Name,
+    pub node: usize,
+}
