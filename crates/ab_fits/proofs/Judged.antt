@@ -15,8 +15,7 @@ use Rattle.ab_store.specs.declared.node.Head as kept
 use Rattle.ab_store.specs.declared.node.Node.{Node}
 use Rattle.ab_store.specs.declared.node.Node.TheVariants.{Lam, Spine}
 use Rattle.ab_store.specs.Trees.{Contents, tree_of, head_reading, node_tree}
-use Rattle.ab_store.specs.Naming.{IsTerm}
-use Rattle.ab_fits.specs.Taking.{IsKind, context}
+use Rattle.ab_fits.specs.Taking.{IsKind, context, IsOf}
 use Rattle.ab_fits.proofs.Contexts.{context_push}
 
 -- no free index: no context is needed
@@ -89,9 +88,6 @@ module _ (sg : Signature) {Var Hint : Type 0} where
   kind_takes_none G t ts (kind c) C k d = elim d [ ]
 
 -- the same on nodes
-
-abbrev IsOf : Table → Contents → List Ty → TermId → Ty → Type 0
-IsOf types s G t A = IsTerm types s G t A
 
 abbrev Takes : Table → Contents → List Ty → List TermId → Ty → Ty → Type 0
 Takes types s G ts A B = TakeType (signature types) G (terms_of (map (tree_of types s) ts)) A B

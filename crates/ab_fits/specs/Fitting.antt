@@ -1,20 +1,17 @@
 -- When a term may be put into a sequent, or into any list of terms over some variables: it is well-typed, holds no
 -- other variable, and gives no nominal number a second type.
-use Rattle.std.specs.Prelude.{◌≡◌, ℕ, List, [], ◌∷◌, ◌++◌, All, Contains}
+use Rattle.std.specs.Prelude.{ℕ, List, [], ◌∷◌, ◌++◌, All, Contains}
 use Rattle.ab_term.specs.Types.{Ty}
 use Rattle.ab_term.specs.Terms.{Nominal, Variable}
 use Rattle.ab_term.specs.Typing.{Signature, HasType}
 use Rattle.ab_term.specs.Names.{support}
+pub use Rattle.ab_term.specs.Names.{HasOneTypeEach}
 use Rattle.ab_term.specs.Variables.{variables}
 use Rattle.ab_store.specs.Trees.{Read}
 
 -- the term holds no variable but these
 abbrev pub HoldsOnly : List (Variable ℕ) → Read → Type 0
 HoldsOnly xs t = All (Contains xs) (variables t)
-
--- a nominal number has one type throughout
-abbrev pub HasOneTypeEach : List Nominal → Type 0
-HasOneTypeEach names = (a b : Nominal) → Contains names a → Contains names b → a.number ≡ b.number → a ≡ b
 
 -- the nominal constants of the terms
 abbrev pub names_of : List Read → List Nominal

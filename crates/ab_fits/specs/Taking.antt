@@ -2,11 +2,12 @@
 -- of this.
 use Rattle.std.specs.Prelude.{◌≡◌, List, [], ◌∷◌, ◌++◌, All}
 use Rattle.ab_term.specs.Types.{Ty, kind, arrow, prop, o, olist}
-use Rattle.ab_types.specs.Entries.{Table}
+use Rattle.ab_term.specs.Typing.{HasType}
+use Rattle.ab_types.specs.Entries.{Table, signature}
 use Rattle.ab_types.specs.Ids.{HoldsType, type_of}
 use Rattle.ab_types.specs.declared.ids.TypeId.{TypeId}
-use Rattle.ab_store.specs.Trees.{Contents}
-use Rattle.ab_store.specs.Naming.{IsTerm}
+use Rattle.ab_store.specs.Trees.{Contents, tree_of}
+use Rattle.ab_store.specs.declared.node.TermId.{TermId}
 use Rattle.ab_fits.specs.declared.built_in.BuiltIn.{BuiltIn}
 use Rattle.ab_fits.specs.declared.taking.Wanted.{Wanted}
 use Rattle.ab_fits.specs.declared.taking.Wanted.TheVariants.{Plain, Function}
@@ -26,6 +27,10 @@ pub record AreBuiltIn (types : Table) (built : BuiltIn) : Type 0 where
 abbrev pub IsKind : Ty → Type 0
 IsKind (kind k) = Unit {0}
 IsKind (arrow A B) = ⊥
+
+-- the id reads as a canonical term of the type
+abbrev pub IsOf : Table → Contents → List Ty → TermId → Ty → Type 0
+IsOf types store G t A = HasType (signature types) G (tree_of types store t) A
 
 module _ (types : Table) where
   abbrev pub wanted_type : Wanted → Ty
@@ -56,4 +61,4 @@ module _ (types : Table) where
 
   -- each pair is a closed term and its type
   abbrev pub AreTyped : Contents → List Typed → Type 0
-  AreTyped store = All (λ (k : Typed). IsTerm types store [] k.id (type_of types k.ty))
+  AreTyped store = All (λ (k : Typed). IsOf types store [] k.id (type_of types k.ty))

@@ -13,7 +13,7 @@ mod tests;
 mod typing;
 mod variables;
 
-pub use fitting::fits;
+pub use fitting::{fits, fits_as_formula};
 pub use formulas::is_formula;
 pub use numbers::have_one_type_each;
 pub use typing::has_type;

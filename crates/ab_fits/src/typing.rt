@@ -6,7 +6,7 @@ ghost use Rattle.ab_term.specs.Typing.{HasType, TakeType, head_type, type_at};
 ghost use Rattle.ab_types.specs.Entries.{Table, signature};
 ghost use Rattle.ab_types.specs.Ids.{HoldsType, type_of};
 ghost use Rattle.ab_store.specs.Trees.{Holds, tree_of, head_reading};
-ghost use Rattle.ab_store.specs.Naming.{HoldsHead, HeadIsTyped, IsTypedBy, IsTerm};
+ghost use Rattle.ab_store.specs.Naming.{HoldsHead, HeadIsTyped, IsTypedBy};
 ghost use Rattle.ab_fits.specs.Taking.{AreBuiltIn, IsKind, wanted_type, HoldsWanted, rest_type, HoldsRest, context, AreTyped};
 
 use crate::built_in::{BuiltIn, built_in};
@@ -37,7 +37,7 @@ pub fn has_type(
     requires store { IsTypedBy types.now store.now }
     requires id { Holds store.now id }
     requires ty { HoldsType types.now ty }
-    ensures { IfOk result (λ yes. IsTrue yes ↔ IsTerm types.now store.now [] id (type_of types.now ty)) }
+    ensures { IfOk result (λ yes. IsTrue yes ↔ HasType (signature types.now) [] (tree_of types.now store.now id) (type_of types.now ty)) }
 {
     let built = built_in(alloc, types)?;
     let mut scope = Scope {

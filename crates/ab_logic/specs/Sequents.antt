@@ -4,10 +4,9 @@ use Rattle.std.specs.Option.{IsSome}
 use Rattle.ab_term.specs.Types.{Ty}
 use Rattle.ab_term.specs.Terms.{Nominal}
 use Rattle.ab_term.specs.Terms as tree
-use Rattle.ab_term.specs.Typing.{HasType}
-use Rattle.ab_term.specs.Names.{support}
-use Rattle.ab_term.specs.Variables.{variables}
 use Rattle.ab_store.specs.Trees.{Read}
+use Rattle.ab_fits.specs.Fitting as term
+pub use Rattle.ab_fits.specs.Fitting.{names_of}
 use Rattle.ab_logic.specs.Formulas.{IsFormula, HasOneTypeEach}
 use Rattle.ab_logic.specs.Declarations.{Declarations, signature_in}
 
@@ -36,17 +35,16 @@ formulas (h ∷ hs) = h.formula ∷ formulas hs
 abbrev pub formulas_of : Sequent → List Read
 formulas_of s = s.conclusion ∷ formulas s.hypotheses
 
--- the nominal constants of formulas
-abbrev pub names_of : List Read → List Nominal
-names_of [] = []
-names_of (F ∷ Fs) = support F ++ names_of Fs
-
 abbrev pub goal_names : Sequent → List Nominal
 goal_names s = names_of (formulas_of s)
 
+-- the variable as it stands in terms
+abbrev pub in_terms : Variable → tree.Variable ℕ
+in_terms x = record { name = x.number; type = x.type }
+
 -- the term holds no variable but these
 abbrev pub HoldsOnly : List Variable → Read → Type 0
-HoldsOnly xs t = All (λ (v : tree.Variable ℕ). Contains (map (λ (x : Variable). record { name = x.number; type = x.type }) xs) v) (variables t)
+HoldsOnly xs t = term.HoldsOnly (map in_terms xs) t
 
 -- WHAT IS TRUE OF EVERY SEQUENT: formulas over the sequent's variables, of which no two have one number or one
 -- name; no two hypotheses of one name; and for each nominal number one type throughout
@@ -60,10 +58,8 @@ pub record IsSequent (D : Declarations) (s : Sequent) : Type 0 where
 
 -- THE TERM FITS the sequent at the type: it is well-typed, holds only the sequent's variables, and no nominal number
 -- stands at two types in the sequent and the term
-pub record Fits (D : Declarations) (s : Sequent) (t : Read) (A : Ty) : Type 0 where
-  pub typed : HasType (signature_in D) [] t A
-  pub closed : HoldsOnly s.variables t
-  pub one_type : HasOneTypeEach (goal_names s ++ support t)
+abbrev pub Fits : Declarations → Sequent → Read → Ty → Type 0
+Fits D s t A = term.Fits (signature_in D) (map in_terms s.variables) (formulas_of s) t A
 
 -- the formula of the hypothesis of that name
 abbrev pub named : List Hypothesis → List ℕ → Option Read
