@@ -1,21 +1,23 @@
 -- Rules keep what is true of every sequent.
 use Rattle.std.specs.Prelude.{All, Contains, if◌then◌else◌}
 use Rattle.std.proofs.Common.{◌≡◌, ◌≢◌, inl, inr, ℕ, List, [], ◌∷◌, ◌++◌, map, Bool, true, false, Some, refl, sym, ◌∙◌, ap, subst}
-use Rattle.std.proofs.lemmas.List.Elements.{All-cons, All-contains, Contains-append_left, Contains-push, Contains-push_cases}
-use Rattle.ab_term.specs.Types.{Ty}
+use Rattle.std.proofs.lemmas.List.Elements.{Contains-append_right, All-cons, All-contains, Contains-append_left, Contains-push, Contains-push_cases}
+use Rattle.ab_term.specs.Types.{Ty, prop}
 use Rattle.ab_term.specs.Terms.{Nominal}
+use Rattle.ab_term.specs.Names.{support}
 use Rattle.ab_term.specs.Variables.{variables}
 use Rattle.ab_term.specs.Substitution.{instance}
 use Rattle.ab_term.proofs.Lists.{Contains-none, All-from_contains}
 use Rattle.ab_store.specs.Trees.{Read}
-use Rattle.ab_logic.specs.Formulas.{HasOneTypeEach}
+use Rattle.ab_logic.specs.Formulas.{IsFormula, HasOneTypeEach}
 use Rattle.ab_logic.specs.Declarations.{Declarations, signature_in, theorem_in, HaveSentences}
-use Rattle.ab_logic.specs.Sequents.{Variable, Sequent, goal_names, IsSequent, formula_of, proving, assuming, without, over}
+use Rattle.ab_logic.specs.Sequents.{Fits, Variable, Sequent, goal_names, IsSequent, formula_of, proving, assuming, without, over}
+use Rattle.ab_logic.specs.Forms.{as_for_all, as_exists}
 use Rattle.ab_logic.specs.Names.{Label, Names}
 use Rattle.ab_rules.specs.Steps.{Step, initial, true_right, false_left, and_right, and_left, or_right, or_left, arrow_right, arrow_left, for_all_right, for_all_left, exists_right, exists_left, nabla_right, nabla_left, equal_right, equal_left, definition_right, definition_left, induction, coinduction, cut_formula, use_theorem, weaken, spec_cut, spec_instance, spec_monotone}
 use Rattle.ab_rules.specs.Row.{Takes}
 use Rattle.ab_rules.specs.Rules.{row, Rule, any_name, IsNew, IsSupport, MayName, name_term, raised, applied}
-use Rattle.ab_rules.proofs.Parts.{named_in, MayStand, IsScope, both_may, either_may, implies_may, for_all_scope, exists_scope, nabla_scope, instance_may, name_may, applied_may}
+use Rattle.ab_rules.proofs.Parts.{MayBePut, named_in, MayStand, IsScope, both_may, either_may, implies_may, for_all_scope, exists_scope, nabla_scope, instance_may, name_may, applied_may}
 use Rattle.ab_rules.proofs.Sequents.{IsGoal, goal_of, sequent_from, found_may, proving_goal, assuming_goal, without_goal, labelled_goal, scope_more, names_more, over_goal}
 
 module _ (D : Declarations) (sentences : HaveSentences D) (s : Sequent) (is : IsSequent D s) where
@@ -106,6 +108,55 @@ module _ (D : Declarations) (sentences : HaveSentences D) (s : Sequent) (is : Is
         (scope_more D N M more s.variables s.variables (λ x c. c) q scope)
         (name_may (signature_in D) s.variables M (record { number = n; type = q.0 }) (Contains-push N (record { number = n; type = q.0 })))
 
+  -- a term that fits, with the constants that stand in it
+  module _ (u : Read) (A : Ty) (fits : Fits D s u A) where
+    abbrev K : List Nominal
+    K = N ++ support u
+
+    more_names : (a : Nominal) → Contains N a → Contains K a
+    more_names a c = Contains-append_left N (support u) a c
+
+    fitting : MayBePut (signature_in D) s.variables K A u
+    fitting = record { typed = fits.typed; closed = fits.closed; names = λ a c. Contains-append_right N (support u) a c }
+
+  with_term : (u : Read) (q : Ty × Read) → IsScope (signature_in D) s.variables N q → (fits : Fits D s u q.0) → MayStand (signature_in D) s.variables (K u q.0 fits) (instance q.1 u)
+  with_term u q scope fits =
+      instance_may (signature_in D) s.variables (K u q.0 fits) q u
+      (scope_more D N (K u q.0 fits) (more_names u q.0 fits) s.variables s.variables (λ x c. c) q scope)
+      (fitting u q.0 fits)
+
+  -- an instance of a hypothesis, by a term that fits
+  told_left : (H : List ℕ) (u : Read) (l : Label) (F : Read) (q : Ty × Read) (L : List ℕ) (s1 : Sequent) (ps : List Sequent) → formula_of s H ≡ Some F → as_for_all F ≡ Some q → Fits D s u q.0 → Names l s L s1
+      → ps ≡ assuming L (instance q.1 u) s1 ∷ [] → All (IsSequent D) ps
+  told_left H u l F q L s1 ps e f fits n is_ps =
+      let scope = for_all_scope (signature_in D) s.variables N F q (found H F e) f in
+      let lab = labelled_goal D N l s s1 L goal n in
+      let M = N ++ support u in
+      one_from M fits.one_type ps (assuming L (instance q.1 u) s1) is_ps
+      (assuming_goal D M s1 L (instance q.1 u) (names_more D N M (more_names u q.0 fits) s1 lab.goal) lab.new
+      (subst (λ xs. MayStand (signature_in D) xs M (instance q.1 u)) (sym lab.variables) (with_term u q scope fits)))
+
+  -- an instance of the conclusion
+  told_right : (u : Read) (q : Ty × Read) (ps : List Sequent) → as_exists s.conclusion ≡ Some q → Fits D s u q.0 → ps ≡ proving (instance q.1 u) s ∷ [] → All (IsSequent D) ps
+  told_right u q ps f fits is_ps =
+      let scope = exists_scope (signature_in D) s.variables N s.conclusion q goal.conclusion f in
+      let M = N ++ support u in
+      one_from M fits.one_type ps (proving (instance q.1 u) s) is_ps
+      (proving_goal D M s (instance q.1 u) (names_more D N M (more_names u q.0 fits) s goal) (with_term u q scope fits))
+
+  -- a formula that fits, as a goal and as a hypothesis
+  cut_kept : (F : Read) (l : Label) (L : List ℕ) (s1 : Sequent) (ps : List Sequent) → Fits D s F prop → IsFormula (signature_in D) F → Names l s L s1
+      → ps ≡ proving F s ∷ assuming L F s1 ∷ [] → All (IsSequent D) ps
+  cut_kept F l L s1 ps fits formula n is_ps =
+      let M = N ++ support F in
+      let may : MayStand (signature_in D) s.variables M F = record { formula = formula; closed = fits.closed; names = λ a c. Contains-append_right N (support F) a c } in
+      let lab = labelled_goal D N l s s1 L goal n in
+      let first = proving_goal D M s F (names_more D N M (more_names F prop fits) s goal) may in
+      let second = assuming_goal D M s1 L F (names_more D N M (more_names F prop fits) s1 lab.goal) lab.new (subst (λ xs. MayStand (signature_in D) xs M F) (sym lab.variables) may) in
+      subst (All (IsSequent D)) (sym is_ps)
+      (All-cons (IsSequent D) (proving F s) (assuming L F s1 ∷ []) (sequent_from D M (proving F s) fits.one_type first)
+      (one_from M fits.one_type (assuming L F s1 ∷ []) (assuming L F s1) refl second))
+
   theorem_may : (n : List ℕ) (F : Read) → theorem_in D n ≡ Some F → May F
   theorem_may n F e =
       let sentence = sentences n F e in
@@ -159,8 +210,8 @@ module _ (D : Declarations) (sentences : HaveSentences D) (s : Sequent) (is : Is
       one_kept ps (proving (instance q.1 (applied x names)) (over x s)) t.2.2
       (proving_goal D N (over x s) (instance q.1 (applied x names)) (over_goal D N s x goal new t.2.1.1)
       (over_new number name s.conclusion q names goal.conclusion scope t.2.1.0))
-  kept_from number new (for_all_left H u l) ps t = absurd t.0
-  kept_from number new (exists_right u) ps t = absurd t.0
+  kept_from number new (for_all_left H u l) ps t = told_left H u l t.0 t.2.0 t.2.2.1.0 t.2.2.1.1 ps t.1 t.2.1 t.2.2.0 t.2.2.1.2 t.2.2.1.3
+  kept_from number new (exists_right u) ps t = told_right u t.0 ps t.1 t.2.0 t.2.1
   kept_from number new (exists_left H l) ps t =
       let q = t.2.0 in
       let L = t.2.2.0 in
@@ -202,7 +253,7 @@ module _ (D : Declarations) (sentences : HaveSentences D) (s : Sequent) (is : Is
   kept_from number new (definition_left H l) ps t = absurd t.0
   kept_from number new (induction n l) ps t = absurd t.0
   kept_from number new (coinduction l) ps t = absurd t.0
-  kept_from number new (cut_formula F l) ps t = absurd t.0
+  kept_from number new (cut_formula F l) ps t = cut_kept F l t.1.0 t.1.1 ps t.0.0 t.0.1 t.1.2 t.1.3
   kept_from number new (use_theorem n l) ps t =
       one_kept ps (assuming t.2.0 t.0 t.2.1) t.2.3 (added l s t.2.1 t.2.0 t.0 goal refl t.2.2 (theorem_may n t.0 t.1))
   kept_from number new (weaken H) ps t = one_kept ps (without H s) t.2 (without_it H)

@@ -4,6 +4,7 @@ pub mod Chosen
 pub mod Members
 pub mod OneAnswer
 pub mod Longer
+mod Words
 mod Finding
 pub mod Scopes
 pub mod Parts

@@ -3,11 +3,11 @@ use Rattle.std.proofs.Common.{◌≡◌, ℕ, List, Some, ◌++◌, refl, sym, a
 use Rattle.ab_term.proofs.Unique.{more_typed}
 use Rattle.ab_logic.specs.Declarations.{Declarations, Extends, signature_in}
 use Rattle.ab_logic.specs.Sequents.{Sequent, Fits}
-use Rattle.ab_term.specs.Types.{Ty}
+use Rattle.ab_term.specs.Types.{Ty, prop}
 use Rattle.ab_store.specs.Trees.{Read}
 use Rattle.ab_logic.specs.Names.{IsNoVariable, IsNamedFor}
 use Rattle.std.proofs.Common.{inl, inr}
-use Rattle.ab_logic.proofs.Declaring.{more_constants, still_theorem, extends_not}
+use Rattle.ab_logic.proofs.Declaring.{more_constants, still_formula, still_theorem, extends_not}
 use Rattle.ab_rules.specs.Steps.{Step, initial, true_right, false_left, and_right, and_left, or_right, or_left, arrow_right, arrow_left, for_all_right, for_all_left, exists_right, exists_left, nabla_right, nabla_left, equal_right, equal_left, definition_right, definition_left, induction, coinduction, cut_formula, use_theorem, weaken, spec_cut, spec_instance, spec_monotone}
 use Rattle.ab_rules.specs.Row.{Takes}
 use Rattle.ab_rules.specs.Rules.{row, Making, any_name, by_hint, Rule, NamedRule}
@@ -33,8 +33,8 @@ module _ (D E : Declarations) (more : Extends D E) (number : ℕ) (P Q : List �
   takes_on (arrow_right l) s ps t = t
   takes_on (arrow_left H l) s ps t = t
   takes_on for_all_right s ps t = (t.0, t.1, (t.2.0, (t.2.1.0, names _ _ t.2.1.1), t.2.2))
-  takes_on (for_all_left H u l) s ps t = t
-  takes_on (exists_right u) s ps t = t
+  takes_on (for_all_left H u l) s ps t = (t.0, t.1, (t.2.0, t.2.1, (still_fits D E more s u t.2.0.0 t.2.2.0, t.2.2.1)))
+  takes_on (exists_right u) s ps t = (t.0, t.1, (still_fits D E more s u t.0.0 t.2.0, t.2.1))
   takes_on (exists_left H l) s ps t = (t.0, t.1, (t.2.0, t.2.1, (t.2.2.0, t.2.2.1, t.2.2.2, (t.2.2.3.0, (t.2.2.3.1.0, names _ _ t.2.2.3.1.1), t.2.2.3.2))))
   takes_on nabla_right s ps t = t
   takes_on (nabla_left H l) s ps t = t
@@ -44,7 +44,7 @@ module _ (D E : Declarations) (more : Extends D E) (number : ℕ) (P Q : List �
   takes_on (definition_left H l) s ps t = t
   takes_on (induction n0 l) s ps t = t
   takes_on (coinduction l) s ps t = t
-  takes_on (cut_formula F l) s ps t = t
+  takes_on (cut_formula F l) s ps t = ((still_fits D E more s F prop t.0.0, still_formula D E more F t.0.1), t.1)
   takes_on (use_theorem n0 l) s ps t = (t.0, still_theorem D E more _ t.0 t.1, t.2)
   takes_on (weaken H) s ps t = t
   takes_on (spec_cut H K l) s ps t = t

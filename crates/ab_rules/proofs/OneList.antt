@@ -116,8 +116,8 @@ module _ (D : Declarations) (number : ℕ) (s : Sequent) (is : IsSequent D s) wh
   settled (arrow_left H l) = λ F e p f L s1 n. tt
   settled for_all_right = λ q e a b P Q. one_raise s.conclusion (hint_of q.1) (Contains-here s.conclusion (formulas s.hypotheses))
       (λ p. proving (instance q.1 (applied (raised number p.1 q.0 p.0) p.0)) (over (raised number p.1 q.0 p.0) s) ∷ []) a b P Q
-  settled (for_all_left H u l) = tt
-  settled (exists_right u) = tt
+  settled (for_all_left H u l) = λ F e q f L s1 n. tt
+  settled (exists_right u) = λ q e. tt
   settled (exists_left H l) = λ F e q f L s1 n a b P Q. one_raise F (hint_of q.1) (hypothesis_there H F e)
       (λ p. assuming L (instance q.1 (applied (raised number p.1 q.0 p.0) p.0)) (over (raised number p.1 q.0 p.0) s1) ∷ []) a b P Q
   settled nabla_right = λ q e a b P Q. one_constant s.conclusion q.0 (λ n. proving (instance q.1 (name_term (record { number = n; type = q.0 }))) s ∷ []) a b P Q
@@ -128,7 +128,7 @@ module _ (D : Declarations) (number : ℕ) (s : Sequent) (is : IsSequent D s) wh
   settled (definition_left H l) = tt
   settled (induction n l) = tt
   settled (coinduction l) = tt
-  settled (cut_formula F l) = tt
+  settled (cut_formula F l) = λ L s1 n. tt
   settled (use_theorem n l) = λ F e L s1 k. tt
   settled (weaken H) = λ F e. tt
   settled (spec_cut H K l) = tt

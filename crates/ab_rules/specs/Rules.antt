@@ -8,9 +8,9 @@ use Rattle.ab_term.specs.Translation.{EqualPastHints}
 use Rattle.ab_term.specs.Substitution.{instance, instance_by_all}
 use Rattle.ab_term.specs.Expansion.{expansion}
 use Rattle.ab_store.specs.Trees.{Read}
-use Rattle.ab_logic.specs.Formulas.{StandsIn, a_formula}
+use Rattle.ab_logic.specs.Formulas.{IsFormula}
 use Rattle.ab_logic.specs.Marks.{erased, MarksServeIn}
-use Rattle.ab_logic.specs.Declarations.{Declarations, theorem_in}
+use Rattle.ab_logic.specs.Declarations.{Declarations, signature_in, theorem_in}
 use Rattle.ab_logic.specs.Forms.{as_truth, as_falsity, as_both, as_either, as_implies, as_equal, as_for_all, as_exists, as_nabla}
 use Rattle.ab_logic.specs.Sequents.{Variable, Sequent, Fits, goal_names, formula_of, proving, assuming, without, over}
 use Rattle.ab_logic.specs.Names.{IsLeast, IsNoVariable, IsNamedFor}
@@ -96,8 +96,16 @@ row D new for_all_right s =
     leads_by (Raises new s.conclusion (hint_of q.1)) (λ p.
     let x = raised new.number p.1 q.0 p.0 in
     proving (instance q.1 (applied x p.0)) (over x s) ∷ []))
-row D new (for_all_left H t l) s = not_built
-row D new (exists_right t) s = not_built
+row D new (for_all_left H t l) s =
+    finds 1 (formula_of s H) (λ F.
+    finds 2 (as_for_all F) (λ q.
+    asks 3 (Fits D s t q.0) (
+    labelled 4 l s (λ L s1.
+    leads (assuming L (instance q.1 t) s1 ∷ [])))))
+row D new (exists_right t) s =
+    finds 1 (as_exists s.conclusion) (λ q.
+    asks 2 (Fits D s t q.0) (
+    leads (proving (instance q.1 t) s ∷ [])))
 row D new (exists_left H l) s =
     finds 1 (formula_of s H) (λ F.
     finds 2 (as_exists F) (λ q.
@@ -124,7 +132,10 @@ row D new (definition_right i) s = not_built
 row D new (definition_left H l) s = not_built
 row D new (induction n l) s = not_built
 row D new (coinduction l) s = not_built
-row D new (cut_formula F l) s = not_built
+row D new (cut_formula F l) s =
+    asks 1 (Fits D s F prop × IsFormula (signature_in D) F) (
+    labelled 2 l s (λ L s1.
+    leads (proving F s ∷ assuming L F s1 ∷ [])))
 row D new (use_theorem n l) s =
     finds 1 (theorem_in D n) (λ F.
     labelled 2 l s (λ L s1.

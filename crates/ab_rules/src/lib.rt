@@ -3,6 +3,7 @@
 
 mod choosing;
 mod closing;
+mod fitting;
 pub mod laws;
 mod left;
 mod lists;
@@ -12,6 +13,7 @@ mod replaces;
 mod right;
 mod step;
 mod taking;
+mod telling;
 mod terms;
 
 pub use ab_naming::Label;

@@ -10,6 +10,7 @@ use crate::left::{and_left, arrow_left, arrow_right, or_left, use_theorem, weake
 use crate::quantified::{exists_left, for_all_right, nabla_left, nabla_right};
 use crate::right::{and_right, or_right};
 use crate::step::{KernelFault, Step};
+use crate::telling::{cut_formula, exists_right, for_all_left};
 use ab_logic::{Sequent, World};
 use ab_types::Steps;
 use std::alloc::Global;
@@ -46,9 +47,11 @@ pub fn premises<L>(
         Step::UseTheorem(name, given) => use_theorem(alloc, world, name, given, sequent),
         Step::Weaken(name) => weaken(alloc, world, name, sequent),
         Step::Initial(name) => initial(alloc, world, name, sequent),
-        Step::ForallLeft(_, _, _) => Err(KernelFault::RuleFails(0)),
-        Step::ExistsRight(_) => Err(KernelFault::RuleFails(0)),
-        Step::CutFormula(_, _) => Err(KernelFault::RuleFails(0)),
+        Step::ForallLeft(name, term, given) => {
+            for_all_left(alloc, world, name, *term, given, sequent, steps)
+        }
+        Step::ExistsRight(term) => exists_right(alloc, world, *term, sequent, steps),
+        Step::CutFormula(formula, given) => cut_formula(alloc, world, *formula, given, sequent),
         Step::EqualLeft(_) => Err(KernelFault::RuleFails(0)),
         Step::DefRight(_) => Err(KernelFault::RuleFails(0)),
         Step::DefLeft(_, _) => Err(KernelFault::RuleFails(0)),

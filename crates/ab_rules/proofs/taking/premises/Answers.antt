@@ -51,13 +51,13 @@ pub returns-in-Initial-clause-answers : goal.returns-in-Initial-clause-answers
 returns-in-Initial-clause-answers g c = rw c.in-Initial.is c.initial.ensures.answers
 
 pub returns-in-ForallLeft-clause-answers : goal.returns-in-ForallLeft-clause-answers
-returns-in-ForallLeft-clause-answers g c = rw c.in-ForallLeft.is (inl (λ x. x, refl))
+returns-in-ForallLeft-clause-answers g c = rw c.in-ForallLeft.is c.for_all_left.ensures.answers
 
 pub returns-in-ExistsRight-clause-answers : goal.returns-in-ExistsRight-clause-answers
-returns-in-ExistsRight-clause-answers g c = rw c.in-ExistsRight.is (inl (λ x. x, refl))
+returns-in-ExistsRight-clause-answers g c = rw c.in-ExistsRight.is c.exists_right.ensures.answers
 
 pub returns-in-CutFormula-clause-answers : goal.returns-in-CutFormula-clause-answers
-returns-in-CutFormula-clause-answers g c = rw c.in-CutFormula.is (inl (λ x. x, refl))
+returns-in-CutFormula-clause-answers g c = rw c.in-CutFormula.is c.cut_formula.ensures
 
 pub returns-in-EqualLeft-clause-answers : goal.returns-in-EqualLeft-clause-answers
 returns-in-EqualLeft-clause-answers g c = rw c.in-EqualLeft.is (inl (λ x. x, refl))

@@ -1,0 +1,106 @@
+//! The rules that are told a term: what is put for the name of a quantifier, and the formula of a cut.
+ghost use Rattle.std.specs.Prelude.{◌≡◌, ◌≤◌};
+ghost use Rattle.ab_logic.specs.Readings.{HoldsSequent};
+ghost use Rattle.ab_logic.specs.Worlds.{IsWorld, Holds};
+ghost use Rattle.ab_logic.specs.Growth.{Grows};
+ghost use Rattle.ab_rules.specs.Steps as plain;
+ghost use Rattle.ab_logic.specs.Worlds.{read};
+ghost use Rattle.ab_rules.specs.Answers.{Answers, label_of, row_at};
+
+use crate::fitting::{fits_in, formula_fits_in};
+use crate::lists::{one, two};
+use crate::step::KernelFault;
+use crate::terms::instance_of;
+use ab_logic::{Sequent, World, as_exists, as_forall};
+use ab_naming::{Label, name_by};
+use ab_store::TermId;
+use ab_types::{Name, Steps};
+use std::alloc::Global;
+
+/// The body of a `forall` with the term becomes a hypothesis.
+pub(crate) fn for_all_left<L>(
+    alloc: Global,
+    world: &mut World,
+    hypothesis: &Name,
+    term: TermId,
+    given: &Label,
+    sequent: &Sequent,
+    steps: &mut Steps<L>,
+) -> Result<Vec<Sequent>, KernelFault>
+    requires world { IsWorld world.old }
+    requires held { HoldsSequent world.old sequent.now }
+    requires term { Holds world.old term }
+    ensures answers { Answers world.new (row_at world.old (plain.for_all_left hypothesis.now (read world.old term) (label_of given.now)) sequent.now) result }
+    ensures grows { Grows world.old world.new }
+    ensures steps { steps.old ≤ steps.new }
+{
+    let Some(formula) = sequent.look(hypothesis) else {
+        return Err(KernelFault::RuleFails(1));
+    };
+    let Some((ty, body)) = as_forall(world, formula) else {
+        return Err(KernelFault::RuleFails(2));
+    };
+    let fits = fits_in(alloc, world, sequent, term, ty)?;
+    if !fits {
+        return Err(KernelFault::RuleFails(3));
+    }
+    let Some(named) = name_by(alloc, given, sequent.copy(alloc)?)? else {
+        return Err(KernelFault::RuleFails(4));
+    };
+    let made = instance_of(alloc, world, body, &[term], steps)?;
+    let premise = named.sequent.assuming(named.name, made)?;
+    Ok(one(alloc, premise)?)
+}
+
+/// The body of an `exists` with the term is to be derived.
+pub(crate) fn exists_right<L>(
+    alloc: Global,
+    world: &mut World,
+    term: TermId,
+    sequent: &Sequent,
+    steps: &mut Steps<L>,
+) -> Result<Vec<Sequent>, KernelFault>
+    requires world { IsWorld world.old }
+    requires held { HoldsSequent world.old sequent.now }
+    requires term { Holds world.old term }
+    ensures answers { Answers world.new (row_at world.old (plain.exists_right (read world.old term)) sequent.now) result }
+    ensures grows { Grows world.old world.new }
+    ensures steps { steps.old ≤ steps.new }
+{
+    let Some((ty, body)) = as_exists(world, sequent.conclusion) else {
+        return Err(KernelFault::RuleFails(1));
+    };
+    let fits = fits_in(alloc, world, sequent, term, ty)?;
+    if !fits {
+        return Err(KernelFault::RuleFails(2));
+    }
+    let premise = sequent.copy(alloc)?;
+    let made = instance_of(alloc, world, body, &[term], steps)?;
+    let premise = premise.proving(made);
+    Ok(one(alloc, premise)?)
+}
+
+/// A formula is derived, and then assumed.
+pub(crate) fn cut_formula(
+    alloc: Global,
+    world: &World,
+    formula: TermId,
+    given: &Label,
+    sequent: &Sequent,
+) -> Result<Vec<Sequent>, KernelFault>
+    requires world { IsWorld world.now }
+    requires held { HoldsSequent world.now sequent.now }
+    requires formula { Holds world.now formula }
+    ensures { Answers world.now (row_at world.now (plain.cut_formula (read world.now formula) (label_of given.now)) sequent.now) result }
+{
+    let fits = formula_fits_in(alloc, world, sequent, formula)?;
+    if !fits {
+        return Err(KernelFault::RuleFails(1));
+    }
+    let Some(named) = name_by(alloc, given, sequent.copy(alloc)?)? else {
+        return Err(KernelFault::RuleFails(2));
+    };
+    let first = sequent.copy(alloc)?.proving(formula);
+    let second = named.sequent.assuming(named.name, formula)?;
+    Ok(two(alloc, first, second)?)
+}
