@@ -1,3 +1,4 @@
 pub mod Standing
 pub mod Bound
 pub mod Narrowed
+pub mod Made
