@@ -128,6 +128,7 @@ returns-clause-found c =
     let b = c.in_ok-shapes.ensures.items_if_clones_equal (λ y e. e) in
     let kept = rw c.in-Some.is at c.in_ok-root.ensures.kept in
     let sol : Solved c.args.types.now c.solve.new.types c.deref.result.now c.in-Some-2.found.items = rw c.in-Some-2.is at c.in_ok-found.ensures.solved in
-    let shapes = ap length c.deref.ensures.value in
-    (omega (arith, sol.len, shapes, c.equate.ensures.len, kept.longer, ap length b, length-replicate (c.args.base + c.args.frees) Open),
-      λ i l. sol.held i (omega (arith, l, sol.len)))
+    let shapes = ap length c.deref.ensures.value in (
+      omega (arith, sol.len, shapes, c.equate.ensures.len, kept.longer, ap length b, length-replicate (c.args.base + c.args.frees) Open),
+      λ i l. sol.held i (omega (arith, l, sol.len)),
+    )
