@@ -12,4 +12,4 @@ returns c =
     let store = c.args.store.now in
     if_ok c.equal.result (λ same told.
     subst (λ t. IsTrue same ↔ EqualPastHints t (tree_of types store c.args.b)) (resolved_reads types store c.args.a c.requires.resolved_a)
-    (subst (λ u. IsTrue same ↔ EqualPastHints (reading types store c.args.a) u) (resolved_reads types store c.args.b c.requires.resolved_b) told)) (c.equal.ensures c.requires.resolved_a c.requires.resolved_b)
+    (subst (λ u. IsTrue same ↔ EqualPastHints (reading types store c.args.a) u) (resolved_reads types store c.args.b c.requires.resolved_b) told)) c.equal.ensures
