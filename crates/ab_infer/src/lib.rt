@@ -14,4 +14,4 @@ pub use deciding::{Verdict, decide};
 pub use fault::InferFault;
 pub use inferring::Formulas;
 pub use op::{Binds, Mark, Op};
-pub use written::read_type;
+pub use written::{Written, read_type, read_written};

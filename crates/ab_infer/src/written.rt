@@ -1,6 +1,6 @@
 //! Written types.
 ghost use Rattle.std.specs.Prelude.{◌≡◌, bytes_eq, codes};
-ghost use Rattle.ab_types.specs.Entries.{kinds, IsExtendedBy};
+ghost use Rattle.ab_types.specs.Entries.{kinds, constants, IsExtendedBy};
 ghost use Rattle.ab_types.specs.Sound.{IsTable};
 ghost use Rattle.ab_syntax.specs.Trees as trees;
 ghost use Rattle.ab_readings.specs.Types.{type_place};
@@ -30,6 +30,7 @@ pub fn read_type(
 ) -> Result<TypeId, InferFault>
     ensures answer { TypeAnswers types.old types.new (trees.type_of parse.now) result }
     ensures kinds { kinds types.new ≡ kinds types.old }
+    ensures constants { constants types.new ≡ constants types.old }
     ensures kept { IsExtendedBy types.old types.new }
 {
     let written = match read_written(alloc, types, parse) {
@@ -54,13 +55,14 @@ fn place_of_type(parse: &TypeParse) -> usize
 }
 
 /// The type that is written so, in an expression.
-pub(crate) fn read_written(
+pub fn read_written(
     alloc: Global,
     types: &mut TypeTable,
     parse: &TypeParse,
 ) -> Result<Written, InferFault>
     ensures answer { WrittenAnswers types.old types.new (trees.type_of parse.now) result }
     ensures kinds { kinds types.new ≡ kinds types.old }
+    ensures constants { constants types.new ≡ constants types.old }
     ensures kept { IsExtendedBy types.old types.new }
 {
     match parse {
@@ -98,6 +100,7 @@ fn is_prop(name: &Name) -> bool
 fn read_kind(alloc: Global, types: &mut TypeTable, name: &Name) -> Result<Written, InferFault>
     ensures answer { KindAnswers types.old types.new name.now result }
     ensures kinds { kinds types.new ≡ kinds types.old }
+    ensures constants { constants types.new ≡ constants types.old }
     ensures kept { IsExtendedBy types.old types.new }
 {
     let is_free = !is_prop(name);

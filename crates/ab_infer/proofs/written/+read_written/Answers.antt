@@ -3,7 +3,7 @@ use Rattle.std.specs.Prelude.{Ok, ◌&&◌}
 use Rattle.ab_syntax.specs.Trees as trees
 use Rattle.ab_infer.specs.WrittenTypes.{WrittenAnswers}
 use Rattle.ab_solving.proofs.Tables.{still_held}
-use Rattle.ab_infer.proofs.WrittenTyping.{type_base, arrow_whole, arrow_answer, same_kinds}
+use Rattle.ab_infer.proofs.WrittenTyping.{type_base, arrow_whole, arrow_answer, same_kinds, same_constants}
 use Rattle.ab_infer.proofs.written.+read_written.Goals as goal
 
 pub arrow-requires-clause-from_held : goal.arrow-requires-clause-from_held
@@ -25,3 +25,6 @@ returns-in_ok-ty-in-Arrow-clause-answer t c =
 
 pub returns-in_ok-ty-in-Arrow-clause-kinds : goal.returns-in_ok-ty-in-Arrow-clause-kinds
 returns-in_ok-ty-in-Arrow-clause-kinds t c = same_kinds _ c.arrow.new.self _ c.in_ok-ty-in-Arrow.ensures.entries ∙ (c.read_written-in-Arrow.ensures.kinds ∙ c.read_written.ensures.kinds)
+
+pub returns-in_ok-ty-in-Arrow-clause-constants : goal.returns-in_ok-ty-in-Arrow-clause-constants
+returns-in_ok-ty-in-Arrow-clause-constants t c = same_constants _ c.arrow.new.self _ c.in_ok-ty-in-Arrow.ensures.entries ∙ (c.read_written-in-Arrow.ensures.constants ∙ c.read_written.ensures.constants)

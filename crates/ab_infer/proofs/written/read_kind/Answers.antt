@@ -3,7 +3,7 @@ use Rattle.ab_infer.specs.WrittenTypes.{KindAnswers}
 use Rattle.std.specs.Prelude.{Err}
 use Rattle.ab_types.specs.declared.fault.TableFault.TheVariants.{UnknownKind}
 use Rattle.ab_infer.specs.declared.fault.InferFault.TheVariants.{Unknown}
-use Rattle.ab_infer.proofs.WrittenTyping.{kind_answer, kind_none, same_kinds}
+use Rattle.ab_infer.proofs.WrittenTyping.{kind_answer, kind_none, same_kinds, same_constants}
 use Rattle.ab_infer.proofs.written.read_kind.Goals as goal
 
 pub returns-in-Ok-clause-answer : goal.returns-in-Ok-clause-answer
@@ -19,3 +19,6 @@ returns-in_ok-copy-in-Err-UnknownKind-clause-answer c =
     let e : c.base.result ≡ Err UnknownKind = cc in
     subst (λ x. KindAnswers c.args.types.now c.base.new.self c.args.name.now (Err (Unknown x))) (sym c.in_ok-copy-in-Err-UnknownKind.ensures)
     (kind_none c.args.types.now c.base.new.self c.args.name.now (c.base.ensures.unknown.0 e))
+
+pub returns-in-Ok-clause-constants : goal.returns-in-Ok-clause-constants
+returns-in-Ok-clause-constants c = same_constants c.args.types.now c.base.new.self _ c.in-Ok.ensures.entries
