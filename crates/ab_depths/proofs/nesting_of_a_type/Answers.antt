@@ -1,0 +1,5 @@
+use Rattle.ab_depths.proofs.Agreeing.{type_tokens, type_alike}
+use Rattle.ab_depths.proofs.nesting_of_a_type.Goals as goal
+
+pub returns : goal.returns
+returns c = record { tokens = λ ts a d. type_tokens d; nesting = type_alike }
