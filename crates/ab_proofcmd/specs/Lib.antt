@@ -1,0 +1,3 @@
+-- What a proof command leaves of a proof in progress.
+pub mod Progress
+pub mod Applied
