@@ -1,5 +1,5 @@
 //! A cell is bound, so that, given names, it is a certain term.
-ghost use Rattle.std.specs.Prelude.{◌≡◌, List, [], map, All, OnOk, OnErr, codes};
+ghost use Rattle.std.specs.Prelude.{◌≡◌, ◌≢◌, List, [], map, All, OnOk, OnErr, codes};
 ghost use Rattle.ab_term.specs.Types.{Ty};
 ghost use Rattle.ab_term.specs.Typing.{HasType};
 ghost use Rattle.ab_term.specs.Sameness.{same_number};
@@ -45,6 +45,7 @@ pub fn put<L>(
     ensures trees { (t : TermId) → Holds store.old t → Holds store.new t × (tree_of types.now store.new t ≡ tree_of types.now store.old t) }
     ensures terms { (G : List Ty) (t : TermId) (A : Ty) → IsTerm types.now store.old G t A → IsTerm types.now store.new G t A }
     ensures cells { store.new.cells ≡ store.old.cells }
+    ensures free { (c : CellId) → c ≢ cell → IsUnbound store.old c → IsUnbound store.new c }
     ensures typed { IsTypedBy types.now store.new }
     ensures marks { (m : Mark) → HasMark store.old m → KeepsMark store.old store.new m }
     ensures steps { steps.new ≡ steps.old }

@@ -1,9 +1,6 @@
-use Rattle.std.proofs.Common.{arith, ap, sym, ◌∙◌, subst}
+use Rattle.std.proofs.Common.{ap, ◌∙◌}
 use Rattle.ab_types.specs.Ids.{type_of}
-use Rattle.ab_norm.proofs.Frame.{if_ok, if_both}
-use Rattle.ab_store.proofs.Growing.{extended_itself}
-use Rattle.ab_store.proofs.Tables.{still_typed}
-use Rattle.ab_store.specs.Naming.{IsTypedBy}
+use Rattle.ab_norm.proofs.Frame.{if_ok}
 use Rattle.ab_solve.specs.Patterns.{kept_type}
 use Rattle.ab_unify.proofs.Made.{typed_by_more, youngest}
 use Rattle.ab_unify.proofs.making.make.Goals as goal

@@ -66,3 +66,9 @@ returns-in_err-term-clause-terms g c = λ G r A is. still_term c.args.types.now 
 
 pub returns-clause-terms : goal.returns-clause-terms
 returns-clause-terms g c = λ G r A is. c.put.ensures.terms G r A (still_term c.args.types.now c.args.store.now c.applied.new.store c.in_ok-term.ensures.adds.before G r A is)
+
+pub returns-in_err-term-clause-free : goal.returns-in_err-term-clause-free
+returns-in_err-term-clause-free g c = λ y other free. ap (λ bs. bound_in bs y) c.in_err-term.ensures.adds.before.bindings ∙ free
+
+pub returns-clause-free : goal.returns-clause-free
+returns-clause-free g c = λ y other free. c.put.ensures.free y other (ap (λ bs. bound_in bs y) c.in_ok-term.ensures.adds.before.bindings ∙ free)

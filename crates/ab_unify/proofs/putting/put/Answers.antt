@@ -1,6 +1,7 @@
-use Rattle.std.proofs.Common.{◌∙◌, ◌<◌, length, ap, sym, subst}
+use Rattle.std.proofs.Common.{ℕ, ◌∙◌, ◌<◌, length, ap, sym, subst}
 use Rattle.ab_store.specs.Reading.{bound_in}
 use Rattle.ab_store.proofs.Growing.{extended_on}
+use Rattle.ab_store.proofs.Rebinding.{bound_others}
 use Rattle.ab_unify.proofs.Bound.{still_term, same_nodes, made_apart, made_resolved, made_term, made_reads}
 use Rattle.ab_unify.proofs.putting.put.Goals as goal
 
@@ -64,3 +65,19 @@ returns-clause-terms g c = λ G r A is.
     let types = c.args.types.now in
     let more = extended_on c.args.store.now c.value.new.store c.reserve.new.self c.in_ok-made.ensures.adds.before c.in_ok-reserve.ensures.before in
     c.bind.ensures.terms types G r A (still_term types c.args.store.now c.reserve.new.self more G r A is)
+
+pub returns-in_err-made-clause-free : goal.returns-in_err-made-clause-free
+returns-in_err-made-clause-free g c = λ y other free. ap (λ bs. bound_in bs y) c.in_err-made.ensures.adds.before.bindings ∙ free
+
+pub returns-in_err-reserve-clause-free : goal.returns-in_err-reserve-clause-free
+returns-in_err-reserve-clause-free g c = λ y other free.
+    let more = extended_on c.args.store.now c.value.new.store c.reserve.new.self c.in_ok-made.ensures.adds.before c.in_err-reserve.ensures.before in
+    ap (λ bs. bound_in bs y) more.bindings ∙ free
+
+pub returns-clause-free : goal.returns-clause-free
+returns-clause-free g c = λ y other free.
+    let more = extended_on c.args.store.now c.value.new.store c.reserve.new.self c.in_ok-made.ensures.adds.before c.in_ok-reserve.ensures.before in
+    ap (λ bs. bound_in bs y) c.bind.ensures.bound
+    ∙ bound_others c.reserve.new.self.bindings (record { cell = c.args.cell; term = c.in_ok-made.made }) y (λ e. other (sym (ap (λ (n : ℕ). record { 0 = n }) e)))
+    ∙ ap (λ bs. bound_in bs y) more.bindings
+    ∙ free
