@@ -1,5 +1,5 @@
 -- THE PROOF COMMANDS, row by row: what is asked, in order, and the goals that take the first goal's place.
-use Rattle.std.specs.Prelude.{◌≡◌, ℕ, List, [], ◌∷◌, map, Bool, Option, Some, None, if◌then◌else◌, is_some, bytes_eq}
+use Rattle.std.specs.Prelude.{◌≡◌, ℕ, List, [], ◌∷◌, ◌++◌, map, Bool, ◌||◌, Option, Some, None, if◌then◌else◌, is_some, bytes_eq}
 use Rattle.std.specs.List.{list_any}
 use Rattle.ab_term.specs.Types.{Ty, prop}
 use Rattle.ab_term.specs.Substitution.{instance}
@@ -30,8 +30,7 @@ clashing (given x) s = if is_used s x then Some (clash x) else None
 abbrev pub clashing_names : List (List ℕ) → List (List ℕ) → Sequent → Option Refusal
 clashing_names before [] s = None
 clashing_names before (x ∷ xs) s =
-    if is_used s x then Some (clash x) else
-    (if list_any (bytes_eq x) before then Some (clash x) else clashing_names (x ∷ before) xs s)
+    if is_used s x || list_any (λ y. bytes_eq y x) before then Some (clash x) else clashing_names (before ++ x ∷ []) xs s
 
 -- the first of the names that no hypothesis has
 abbrev pub missing : List (List ℕ) → Sequent → Option Refusal
@@ -46,6 +45,13 @@ cleared (H ∷ Hs) s = cleared Hs (without H s)
 abbrev pub left_over : List (List ℕ) → Option Refusal
 left_over [] = None
 left_over (x ∷ xs) = Some wrong_shape
+
+-- all that can be taken off the goal's conclusion is taken off, with these names for the first hypotheses
+abbrev pub introducing : Declarations → List (List ℕ) → Sequent → Row
+introducing D xs s =
+    makes {A = List (List ℕ) × Sequent} (λ p. Introduced D xs s p.0 p.1) (λ f. Unnamed D xs s × (f ≡ names_spent)) (λ p.
+    unless (left_over p.0) (
+    leads (p.1 ∷ [])))
 
 -- the expression is to mean a term of the type in the goal
 abbrev pub reading : Declarations → Sequent → Tree → Ty → (Read → Row) → Row
@@ -82,9 +88,7 @@ abbrev pub effect : Declarations → Label → ProofCommand → Sequent → Row
 effect D l (command.intros xs) s =
     unless (clashing_names [] xs s) (
     finds wrong_shape (taken_off (form_of s.conclusion)) (λ o.
-    makes {A = List (List ℕ) × Sequent} (λ p. Introduced D xs s p.0 p.1) (λ f. Unnamed D xs s × (f ≡ names_spent)) (λ p.
-    unless (left_over p.0) (
-    leads (p.1 ∷ [])))))
+    introducing D xs s))
 effect D l command.split s =
     finds wrong_shape (as_both s.conclusion) (λ p.
     leads (proving p.0 s ∷ proving p.1 s ∷ []))

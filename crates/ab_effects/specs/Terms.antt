@@ -11,7 +11,7 @@ use Rattle.ab_readings.specs.Scopes.{Entry, Scope, in_proof, nominal_number, res
 use Rattle.ab_readings.specs.Readings.{Making, Raw}
 use Rattle.ab_readings.specs.Answers.{IsTheReading, HasNoReading, IsFirstOpen}
 use Rattle.ab_readings.specs.Normal.{normal_form}
-use Rattle.ab_effects.specs.Refusals.{Refusal, unknown, type_clash, untyped, clash, no_hypothesis, wrong_shape, names_spent}
+use Rattle.ab_effects.specs.Refusals.{Refusal, unknown, type_clash, untyped, clash, no_hypothesis, wrong_shape, mark, no_match, not_pattern, unresolved, names_spent}
 
 abbrev pub kinds_in : Declarations → List (List ℕ)
 kinds_in [] = []
@@ -62,6 +62,10 @@ MeansNothingIn scope e A (untyped p) = Resolves scope e (λ r. IsFirstOpen made 
 MeansNothingIn scope e A (clash x) = ⊥
 MeansNothingIn scope e A (no_hypothesis x) = ⊥
 MeansNothingIn scope e A wrong_shape = ⊥
+MeansNothingIn scope e A mark = ⊥
+MeansNothingIn scope e A no_match = ⊥
+MeansNothingIn scope e A (not_pattern i) = ⊥
+MeansNothingIn scope e A (unresolved x) = ⊥
 MeansNothingIn scope e A names_spent = ⊥
 
 -- the same in a goal

@@ -160,6 +160,7 @@ impl Proof {
         ensures proof { IsProof world.new self.new }
         ensures err { OnErr result (self.new ≡ self.old) }
         ensures grows { Grows world.old world.new }
+        ensures declared { declarations_of world.new ≡ declarations_of world.old }
         ensures work { IfOk result (λ n. steps.old + n ≤ steps.new) }
     {
         let at = self.open.len() - 1 - place;

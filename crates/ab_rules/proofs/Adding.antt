@@ -8,17 +8,22 @@ use Rattle.ab_logic.specs.declared.world.World.{World}
 use Rattle.ab_logic.specs.declared.theorems.Theorem.{Theorem}
 use Rattle.ab_logic.proofs.Growing.{grows_not, grows_on, grows_store}
 use Rattle.ab_rules.specs.Terms.{Adds}
+use Rattle.ab_rules.proofs.Declared.{declared_same}
 
 pub adds_not : (w : World) → IsWorld w → Adds w w
-adds_not w is = record { grows = grows_not w is; types = refl; cells = refl }
+adds_not w is = record { grows = grows_not w is; types = refl; cells = refl; declared = refl }
 
 pub adds_on : (u v w : World) → Adds u v → Adds v w → Adds u w
-adds_on u v w a b = record { grows = grows_on u v w a.grows b.grows; types = b.types ∙ a.types; cells = b.cells ∙ a.cells }
+adds_on u v w a b = record { grows = grows_on u v w a.grows b.grows; types = b.types ∙ a.types; cells = b.cells ∙ a.cells; declared = b.declared ∙ a.declared }
 
 pub adds_terms : (types : Table) (old new : Contents) (ts : List Theorem) → IsWorld (record { types = types; store = old; theorems = ts }) → AddsTerms old new
     → Adds (record { types = types; store = old; theorems = ts }) (record { types = types; store = new; theorems = ts })
-adds_terms types old new ts is a = record { grows = grows_store types old new ts is a.before (a.typed types is.typed); types = refl; cells = a.cells }
+adds_terms types old new ts is a =
+    let grown = grows_store types old new ts is a.before (a.typed types is.typed) in
+    record { grows = grown; types = refl; cells = a.cells; declared = declared_same (record { types = types; store = old; theorems = ts }) (record { types = types; store = new; theorems = ts }) is grown refl refl }
 
 pub adds_typed : (types : Table) (old new : Contents) (ts : List Theorem) → IsWorld (record { types = types; store = old; theorems = ts }) → AddsTypedTerms types old new
     → Adds (record { types = types; store = old; theorems = ts }) (record { types = types; store = new; theorems = ts })
-adds_typed types old new ts is a = record { grows = grows_store types old new ts is a.before a.typed; types = refl; cells = a.cells }
+adds_typed types old new ts is a =
+    let grown = grows_store types old new ts is a.before a.typed in
+    record { grows = grown; types = refl; cells = a.cells; declared = declared_same (record { types = types; store = old; theorems = ts }) (record { types = types; store = new; theorems = ts }) is grown refl refl }

@@ -1,3 +1,4 @@
+pub mod Declared
 pub mod Adding
 pub mod Making
 pub mod Chosen

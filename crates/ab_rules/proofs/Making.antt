@@ -11,7 +11,7 @@ use Rattle.ab_types.proofs.Entries.{same_type, holds_type}
 use Rattle.ab_store.specs.declared.node.TermId.{TermId}
 use Rattle.ab_norm.specs.declared.nominal.Nominal.{Nominal}
 use Rattle.ab_norm.specs.Nominals.{nominal_of, HoldsNominal}
-use Rattle.ab_logic.specs.Worlds.{Holds, read}
+use Rattle.ab_logic.specs.Worlds.{Holds, read, declarations_of}
 use Rattle.ab_logic.specs.Growth.{Grows}
 use Rattle.ab_logic.specs.declared.world.World.{World}
 use Rattle.ab_rules.specs.Rules.{name_term}
@@ -60,21 +60,23 @@ pub record Over (u w : World) (names : List Nominal) (ty : TypeId) (left : ℕ) 
   pub within : left ≤ length names
   pub grows : Grows u w
   pub store : w.store ≡ u.store
+  pub declared : declarations_of w ≡ declarations_of u
   pub part : IsPartOf u.types w.types
   pub held : HoldsType w.types over
   pub reads : type_of w.types over ≡ arrows (map (λ n. n.type) (map (nominal_of u.types) (drop left names))) (type_of u.types ty)
 
 pub over_more : (u w v : World) (names : List Nominal) (ty : TypeId) (left k : ℕ) (d : Nominal) (over new : TypeId)
     → Over u w names ty left over → k + 1 ≡ left → All (HoldsNominal u.types) names
-    → Grows w v → v.store ≡ w.store → IsPartOf w.types v.types → HoldsType v.types new
+    → Grows w v → v.store ≡ w.store → declarations_of v ≡ declarations_of w → IsPartOf w.types v.types → HoldsType v.types new
     → type_of v.types new ≡ arrow (type_of w.types (get_or names k d).ty) (type_of w.types over) → Over u v names ty k new
-over_more u w v names ty left k d over new so_far e all grows store part held reads =
+over_more u w v names ty left k d over new so_far e all grows store declared part held reads =
     let within = so_far.within in
     let inside : k < length names = omega arith in
     record {
       within = omega arith;
       grows = grows_on u w v so_far.grows grows;
       store = store ∙ so_far.store;
+      declared = declared ∙ so_far.declared;
       part = part_on u.types w.types v.types so_far.part part;
       held = held;
       reads =

@@ -1,7 +1,7 @@
 //! The rules that close a goal.
 ghost use Rattle.std.specs.Prelude.{◌≡◌, ◌↔◌, IfOk, IsTrue};
 ghost use Rattle.ab_logic.specs.Readings.{HoldsSequent};
-ghost use Rattle.ab_logic.specs.Worlds.{IsWorld, Holds, read};
+ghost use Rattle.ab_logic.specs.Worlds.{IsWorld, Holds, read, declarations_of};
 ghost use Rattle.ab_logic.specs.Growth.{Grows};
 ghost use Rattle.ab_logic.specs.Marks.{erased};
 ghost use Rattle.ab_term.specs.Names.{EqualUpToNames};
@@ -28,6 +28,7 @@ fn are_equal_without_marks(
     requires b { Holds world.old b }
     ensures decides { IfOk result (λ yes. IsTrue yes ↔ EqualUpToNames (erased (read world.old a)) (erased (read world.old b))) }
     ensures grows { Grows world.old world.new }
+    ensures declared { declarations_of world.new ≡ declarations_of world.old }
 {
     let first = without_marks(alloc, world, a)?;
     let second = without_marks(alloc, world, b)?;
@@ -45,6 +46,7 @@ pub(crate) fn initial(
     requires held { HoldsSequent world.old sequent.now }
     ensures answers { Answers world.new (row_at world.old (plain.initial name.now) sequent.now) result }
     ensures grows { Grows world.old world.new }
+    ensures declared { declarations_of world.new ≡ declarations_of world.old }
 {
     let Some(formula) = sequent.look(name) else {
         return Err(KernelFault::RuleFails(1));

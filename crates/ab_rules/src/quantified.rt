@@ -1,7 +1,7 @@
 //! The rules that put a new variable for the name of a quantifier, or a nominal constant for that of a `nabla`.
 ghost use Rattle.std.specs.Prelude.{◌≡◌, ◌≤◌};
 ghost use Rattle.ab_logic.specs.Readings.{HoldsSequent};
-ghost use Rattle.ab_logic.specs.Worlds.{IsWorld};
+ghost use Rattle.ab_logic.specs.Worlds.{IsWorld, declarations_of};
 ghost use Rattle.ab_logic.specs.Growth.{Grows};
 ghost use Rattle.ab_rules.specs.Steps as plain;
 ghost use Rattle.ab_rules.specs.Answers.{Answers, label_of, row_at};
@@ -28,6 +28,7 @@ pub(crate) fn for_all_right<L>(
     requires held { HoldsSequent world.old sequent.now }
     ensures answers { Answers world.new (row_at world.old plain.for_all_right sequent.now) result }
     ensures grows { Grows world.old world.new }
+    ensures declared { declarations_of world.new ≡ declarations_of world.old }
     ensures steps { steps.old ≤ steps.new }
 {
     let Some((ty, body)) = as_forall(world, sequent.conclusion) else {
@@ -55,6 +56,7 @@ pub(crate) fn exists_left<L>(
     requires held { HoldsSequent world.old sequent.now }
     ensures answers { Answers world.new (row_at world.old (plain.exists_left hypothesis.now (label_of given.now)) sequent.now) result }
     ensures grows { Grows world.old world.new }
+    ensures declared { declarations_of world.new ≡ declarations_of world.old }
     ensures steps { steps.old ≤ steps.new }
 {
     let Some(formula) = sequent.look(hypothesis) else {
@@ -88,6 +90,7 @@ pub(crate) fn nabla_right<L>(
     requires held { HoldsSequent world.old sequent.now }
     ensures answers { Answers world.new (row_at world.old plain.nabla_right sequent.now) result }
     ensures grows { Grows world.old world.new }
+    ensures declared { declarations_of world.new ≡ declarations_of world.old }
     ensures steps { steps.old ≤ steps.new }
 {
     let Some((ty, body)) = as_nabla(world, sequent.conclusion) else {
@@ -113,6 +116,7 @@ pub(crate) fn nabla_left<L>(
     requires held { HoldsSequent world.old sequent.now }
     ensures answers { Answers world.new (row_at world.old (plain.nabla_left hypothesis.now (label_of given.now)) sequent.now) result }
     ensures grows { Grows world.old world.new }
+    ensures declared { declarations_of world.new ≡ declarations_of world.old }
     ensures steps { steps.old ≤ steps.new }
 {
     let Some(formula) = sequent.look(hypothesis) else {

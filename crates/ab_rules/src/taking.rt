@@ -1,6 +1,6 @@
 //! The premises of a step: one function for each rule.
 ghost use Rattle.std.specs.Prelude.{◌≡◌, ◌≤◌};
-ghost use Rattle.ab_logic.specs.Worlds.{IsWorld};
+ghost use Rattle.ab_logic.specs.Worlds.{IsWorld, declarations_of};
 ghost use Rattle.ab_logic.specs.Growth.{Grows};
 ghost use Rattle.ab_logic.specs.Readings.{HoldsSequent};
 ghost use Rattle.ab_rules.specs.Answers.{Answers, row_at, step_of, HoldsStep};
@@ -28,6 +28,7 @@ pub fn premises<L>(
     requires held { HoldsSequent world.old sequent.now }
     ensures answers { Answers world.new (row_at world.old (step_of world.old step.now) sequent.now) result }
     ensures grows { Grows world.old world.new }
+    ensures declared { declarations_of world.new ≡ declarations_of world.old }
     ensures steps { steps.old ≤ steps.new }
 {
     match step {

@@ -1,7 +1,7 @@
 //! The rules that are told a term: what is put for the name of a quantifier, and the formula of a cut.
 ghost use Rattle.std.specs.Prelude.{◌≡◌, ◌≤◌};
 ghost use Rattle.ab_logic.specs.Readings.{HoldsSequent};
-ghost use Rattle.ab_logic.specs.Worlds.{IsWorld, Holds};
+ghost use Rattle.ab_logic.specs.Worlds.{IsWorld, Holds, declarations_of};
 ghost use Rattle.ab_logic.specs.Growth.{Grows};
 ghost use Rattle.ab_rules.specs.Steps as plain;
 ghost use Rattle.ab_logic.specs.Worlds.{read};
@@ -32,6 +32,7 @@ pub(crate) fn for_all_left<L>(
     requires term { Holds world.old term }
     ensures answers { Answers world.new (row_at world.old (plain.for_all_left hypothesis.now (read world.old term) (label_of given.now)) sequent.now) result }
     ensures grows { Grows world.old world.new }
+    ensures declared { declarations_of world.new ≡ declarations_of world.old }
     ensures steps { steps.old ≤ steps.new }
 {
     let Some(formula) = sequent.look(hypothesis) else {
@@ -65,6 +66,7 @@ pub(crate) fn exists_right<L>(
     requires term { Holds world.old term }
     ensures answers { Answers world.new (row_at world.old (plain.exists_right (read world.old term)) sequent.now) result }
     ensures grows { Grows world.old world.new }
+    ensures declared { declarations_of world.new ≡ declarations_of world.old }
     ensures steps { steps.old ≤ steps.new }
 {
     let Some((ty, body)) = as_exists(world, sequent.conclusion) else {

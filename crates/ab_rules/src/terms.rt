@@ -5,7 +5,7 @@ ghost use Rattle.ab_term.specs.Substitution.{instance, instance_by_all};
 ghost use Rattle.ab_types.specs.Entries.{IsExtendedBy as IsPartOf};
 ghost use Rattle.ab_types.specs.Ids.{HoldsType, type_of};
 ghost use Rattle.ab_norm.specs.Nominals.{nominal_of, HoldsNominal};
-ghost use Rattle.ab_logic.specs.Worlds.{IsWorld, Holds, HoldsCell, read, variable_of};
+ghost use Rattle.ab_logic.specs.Worlds.{IsWorld, Holds, HoldsCell, read, variable_of, declarations_of};
 ghost use Rattle.ab_logic.specs.Growth.{Grows};
 ghost use Rattle.ab_rules.specs.Rules.{name_term, variable_term, hint_of, raised, applied};
 ghost use Rattle.ab_rules.specs.Terms.{Adds};
@@ -81,6 +81,7 @@ fn type_over(world: &mut World, names: &[Nominal], ty: TypeId) -> Result<TypeId,
     requires names { All (HoldsNominal world.old.types) names.now }
     requires ty { HoldsType world.old.types ty }
     ensures grows { Grows world.old world.new }
+    ensures declared { declarations_of world.new ≡ declarations_of world.old }
     ensures store { world.new.store ≡ world.old.store }
     ensures part { IsPartOf world.old.types world.new.types }
     ensures held { IfOk result (HoldsType world.new.types) }
@@ -102,6 +103,7 @@ fn arrow_from(world: &mut World, from: TypeId, to: TypeId) -> Result<TypeId, All
     requires from { HoldsType world.old.types from }
     requires to { HoldsType world.old.types to }
     ensures grows { Grows world.old world.new }
+    ensures declared { declarations_of world.new ≡ declarations_of world.old }
     ensures store { world.new.store ≡ world.old.store }
     ensures part { IsPartOf world.old.types world.new.types }
     ensures held { IfOk result (HoldsType world.new.types) }
@@ -132,6 +134,7 @@ pub(crate) fn raised(
     requires ty { HoldsType world.old.types ty }
     requires names { All (HoldsNominal world.old.types) names.now }
     ensures grows { Grows world.old world.new }
+    ensures declared { declarations_of world.new ≡ declarations_of world.old }
     ensures part { IsPartOf world.old.types world.new.types }
     ensures held { IfOk result (HoldsCell world.new) }
     ensures reads { IfOk result (λ c. variable_of world.new c
@@ -146,6 +149,7 @@ fn new_cell(world: &mut World, name: Name, ty: TypeId) -> Result<CellId, AllocEr
     requires world { IsWorld world.old }
     requires ty { HoldsType world.old.types ty }
     ensures grows { Grows world.old world.new }
+    ensures declared { declarations_of world.new ≡ declarations_of world.old }
     ensures types { world.new.types ≡ world.old.types }
     ensures held { IfOk result (HoldsCell world.new) }
     ensures reads { IfOk result (λ c. variable_of world.new c
@@ -209,6 +213,7 @@ pub(crate) fn raise<L>(
     requires ty { HoldsType world.old.types ty }
     requires names { All (HoldsNominal world.old.types) names.now }
     ensures grows { Grows world.old world.new }
+    ensures declared { declarations_of world.new ≡ declarations_of world.old }
     ensures cell { IfOk result (λ r. HoldsCell world.new r.cell) }
     ensures formula { IfOk result (λ r. Holds world.new r.formula) }
     ensures variable { IfOk result (λ r. variable_of world.new r.cell

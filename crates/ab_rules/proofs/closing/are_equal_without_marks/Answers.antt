@@ -5,6 +5,7 @@ use Rattle.ab_term.specs.Names.{EqualUpToNames}
 use Rattle.ab_logic.specs.Marks.{erased}
 use Rattle.ab_logic.specs.Worlds.{read}
 use Rattle.ab_logic.proofs.Growing.{grows_on}
+use Rattle.ab_rules.proofs.Declared.{declared_same}
 use Rattle.ab_rules.proofs.closing.are_equal_without_marks.Goals as goal
 
 pub returns-in_err-second-clause-grows : goal.returns-in_err-second-clause-grows
@@ -24,3 +25,22 @@ returns-clause-decides c =
     (λ yes e.
     subst (λ t. IsTrue yes ↔ EqualUpToNames t (erased (read u c.args.b))) a
     (subst (λ t. IsTrue yes ↔ EqualUpToNames (read w c.in_ok-first.first) t) b e)) c.are_equal_up_to_names.ensures
+
+pub returns-in_err-first-clause-declared : goal.returns-in_err-first-clause-declared
+returns-in_err-first-clause-declared c =
+    let one = c.without_marks.ensures in
+    declared_same c.args.world.now c.without_marks.new.world c.requires.world one.grows one.theorems one.types
+
+pub returns-in_err-second-clause-declared : goal.returns-in_err-second-clause-declared
+returns-in_err-second-clause-declared c =
+    let one = c.without_marks.ensures in
+    let two = c.without_marks-2.ensures in
+    declared_same c.without_marks.new.world c.without_marks-2.new.world one.grows.world two.grows two.theorems two.types
+    ∙ declared_same c.args.world.now c.without_marks.new.world c.requires.world one.grows one.theorems one.types
+
+pub returns-clause-declared : goal.returns-clause-declared
+returns-clause-declared c =
+    let one = c.without_marks.ensures in
+    let two = c.without_marks-2.ensures in
+    declared_same c.without_marks.new.world c.without_marks-2.new.world one.grows.world two.grows two.theorems two.types
+    ∙ declared_same c.args.world.now c.without_marks.new.world c.requires.world one.grows one.theorems one.types

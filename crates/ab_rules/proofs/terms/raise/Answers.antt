@@ -45,3 +45,12 @@ returns-clause-reads g c =
     ∙ ap (instance (read u c.args.body)) (c.in_ok-variable.ensures.reads
     ∙ ap (λ x. applied x (map (nominal_of v.types) names)) c.in_ok-cell.ensures.reads
     ∙ ap (applied (raised (length u.store.cells) c.args.name (type_of u.types c.args.ty) (map (nominal_of u.types) names))) (names_stay _ _ names c.raised.ensures.part c.requires.names))
+
+pub returns-in_err-variable-clause-declared : goal.returns-in_err-variable-clause-declared
+returns-in_err-variable-clause-declared g c = c.applied.ensures.adds.declared ∙ c.raised.ensures.declared
+
+pub returns-in_err-formula-clause-declared : goal.returns-in_err-formula-clause-declared
+returns-in_err-formula-clause-declared g c = c.instance_of.ensures.adds.declared ∙ c.applied.ensures.adds.declared ∙ c.raised.ensures.declared
+
+pub returns-clause-declared : goal.returns-clause-declared
+returns-clause-declared g c = c.instance_of.ensures.adds.declared ∙ c.applied.ensures.adds.declared ∙ c.raised.ensures.declared

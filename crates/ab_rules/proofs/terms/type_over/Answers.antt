@@ -10,4 +10,4 @@ arrow_from-requires-clause-from c =
 pub loop-left-preserved : goal.loop-left-preserved
 loop-left-preserved c =
     over_more _ _ _ _ _ c.loop-left.left (c.loop-left.left - 1) (record { number = 0; ty = record { 0 = 0 } }) _ _
-    c.loop-left.invariant (omega arith) c.requires.names c.in_ok-over.ensures.grows c.in_ok-over.ensures.store c.in_ok-over.ensures.part c.in_ok-over.ensures.held c.in_ok-over.ensures.reads
+    c.loop-left.invariant (omega arith) c.requires.names c.in_ok-over.ensures.grows c.in_ok-over.ensures.store c.in_ok-over.ensures.declared c.in_ok-over.ensures.part c.in_ok-over.ensures.held c.in_ok-over.ensures.reads

@@ -1,0 +1,10 @@
+pub mod Hypotheses
+pub mod Owned
+pub mod Standing
+pub mod Marked
+pub mod Sure
+pub mod Steps
+pub mod Goes
+pub mod Moves
+pub mod Naming
+pub mod Rows

@@ -1,0 +1,3 @@
+-- What calls of the commands on hypotheses leave of a goal.
+pub mod Own
+pub mod Progress

@@ -1,0 +1,12 @@
+//! The proof commands that look at a goal's hypotheses.
+#![tactic(auto)]
+
+mod clearing;
+mod moving;
+mod opening;
+mod own;
+mod renaming;
+mod stop;
+
+pub use clearing::clear;
+pub use renaming::rename;

@@ -1,0 +1,69 @@
+use Rattle.std.proofs.Common.{◌≡◌, inl, inr, ◌+◌, ◌-◌, ◌∙◌, ap, length, arith}
+use Rattle.ab_logic.specs.declared.world.World.{World}
+use Rattle.ab_kernel.specs.Derivation.{History, undone}
+use Rattle.ab_kernel.specs.Layout.{history_of}
+use Rattle.ab_kernel.proofs.Back.{undone_more, undone_length}
+use Rattle.ab_progress.proofs.Following.{taken_back, follows_taken_back}
+use Rattle.ab_progress.proofs.advancing.take_back.Goals as goal
+
+pub loop-steps-preserved : goal.loop-steps-preserved
+loop-steps-preserved g c =
+    let shorter : (w : World) → length (history_of w c.unrefine.new.self).earlier ≡ length (history_of w c.loop-steps.proof).earlier - 1 =
+    λ w. ap (λ (h : History). length h.earlier) (c.unrefine.ensures.undone w) ∙ undone_length (history_of w c.loop-steps.proof) 1 in
+    record {
+      undone = λ w.
+          let was = length (history_of w c.args.proof.now).earlier in
+          let now = length (history_of w c.loop-steps.proof).earlier in
+          let next = length (history_of w c.unrefine.new.self).earlier in
+          let left : (was - now) + 1 ≡ was - next = omega (arith, shorter w, c.steps.ensures w, c.loop-steps-test.true, c.loop-steps.invariant.fewer w) in
+          c.unrefine.ensures.undone w
+          ∙ ap (undone 1) (c.loop-steps.invariant.undone w)
+          ∙ undone_more (history_of w c.args.proof.now) (was - now) 1
+          ∙ ap (λ n. undone n (history_of w c.args.proof.now)) left;
+      proof = λ w p. c.unrefine.ensures.proof w (c.loop-steps.invariant.proof w p);
+      world = c.unrefine.ensures.world ∙ c.loop-steps.invariant.world;
+      enough = λ w. inr (omega (arith, shorter w, c.steps.ensures w, c.loop-steps-test.true));
+      fewer = λ w. omega (arith, shorter w, c.loop-steps.invariant.fewer w);
+    }
+
+pub returns-clause-undone : goal.returns-clause-undone
+returns-clause-undone g c =
+    let undone_now : (w : World) → history_of w c.loop-steps.proof ≡ undone (length (history_of w c.args.proof.now).earlier - c.args.count) (history_of w c.args.proof.now) =
+    λ w.
+    let was = length (history_of w c.args.proof.now).earlier in
+    let now = length (history_of w c.loop-steps.proof).earlier in
+    let left : was - now ≡ was - c.args.count =
+    elim (c.loop-steps.invariant.enough w) [
+      | inl e ↦ omega (arith, e, c.steps.ensures w, c.loop-steps-test.false, c.loop-steps.invariant.fewer w)
+      | inr l ↦ omega (arith, l, c.steps.ensures w, c.loop-steps-test.false, c.loop-steps.invariant.fewer w)
+    ] in
+    c.loop-steps.invariant.undone w ∙ ap (λ n. undone n (history_of w c.args.proof.now)) left in
+    undone_now
+
+pub returns-clause-unchanged : goal.returns-clause-unchanged
+returns-clause-unchanged g c w p f counted =
+    let undone_now : (w : World) → history_of w c.loop-steps.proof ≡ undone (length (history_of w c.args.proof.now).earlier - c.args.count) (history_of w c.args.proof.now) =
+    λ w.
+    let was = length (history_of w c.args.proof.now).earlier in
+    let now = length (history_of w c.loop-steps.proof).earlier in
+    let left : was - now ≡ was - c.args.count =
+    elim (c.loop-steps.invariant.enough w) [
+      | inl e ↦ omega (arith, e, c.steps.ensures w, c.loop-steps-test.false, c.loop-steps.invariant.fewer w)
+      | inr l ↦ omega (arith, l, c.steps.ensures w, c.loop-steps-test.false, c.loop-steps.invariant.fewer w)
+    ] in
+    c.loop-steps.invariant.undone w ∙ ap (λ n. undone n (history_of w c.args.proof.now)) left in
+    taken_back w c.args.world.now c.loop-steps.world p c.args.proof.now c.loop-steps.proof c.args.count c.loop-steps.invariant.world undone_now f counted
+
+pub returns-clause-follows : goal.returns-clause-follows
+returns-clause-follows g c w p f counted =
+    let undone_now : (w : World) → history_of w c.loop-steps.proof ≡ undone (length (history_of w c.args.proof.now).earlier - c.args.count) (history_of w c.args.proof.now) =
+    λ w.
+    let was = length (history_of w c.args.proof.now).earlier in
+    let now = length (history_of w c.loop-steps.proof).earlier in
+    let left : was - now ≡ was - c.args.count =
+    elim (c.loop-steps.invariant.enough w) [
+      | inl e ↦ omega (arith, e, c.steps.ensures w, c.loop-steps-test.false, c.loop-steps.invariant.fewer w)
+      | inr l ↦ omega (arith, l, c.steps.ensures w, c.loop-steps-test.false, c.loop-steps.invariant.fewer w)
+    ] in
+    c.loop-steps.invariant.undone w ∙ ap (λ n. undone n (history_of w c.args.proof.now)) left in
+    follows_taken_back w c.args.world.now c.loop-steps.world p c.args.proof.now c.loop-steps.proof c.args.count c.loop-steps.invariant.world undone_now c.loop-steps.invariant.proof f counted

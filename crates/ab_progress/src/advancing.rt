@@ -1,0 +1,75 @@
+//! Steps of a proof, as the proof commands take them and take them back.
+ghost use Rattle.std.specs.Prelude.{◌≡◌, ◌<◌, ◌-◌, length, IfOk, OnOk, OnErr, IsTrue, IsFalse};
+ghost use Rattle.ab_logic.specs.Worlds.{IsWorld};
+ghost use Rattle.ab_logic.specs.declared.world.World.{World as AWorld};
+ghost use Rattle.ab_rules.specs.Answers.{step_of, HoldsStep};
+ghost use Rattle.ab_kernel.specs.Derivation.{undone};
+ghost use Rattle.ab_kernel.specs.Layout.{Held, history_of, IsProof};
+ghost use Rattle.ab_progress.specs.Progress.{goals_of, Follows, Took, FailsAt, Holds};
+
+use ab_kernel::{KernelFault, Proof, Step};
+use ab_logic::World;
+use ab_types::Steps;
+use std::alloc::AllocError;
+
+/// Takes a step at the goal of this place. It answers false, and changes nothing, where the step's rule fails there.
+pub fn attempt<L>(
+    world: &mut World,
+    proof: &mut Proof,
+    place: usize,
+    step: Step,
+    steps: &mut Steps<L>,
+) -> Result<bool, AllocError>
+    requires world { IsWorld world.old }
+    requires proof { IsProof world.old proof.old }
+    requires step { HoldsStep world.old step }
+    requires place { place < length (goals_of world.old proof.old) }
+    ensures follows { Follows world.old proof.old world.new proof.new }
+    ensures took { IfOk result (λ b. IsTrue b → Took world.old proof.old world.new proof.new place (step_of world.old step)) }
+    ensures failed { IfOk result (λ b. IsFalse b → FailsAt world.old proof.old place (step_of world.old step)) }
+    ensures same { IfOk result (λ b. IsFalse b → history_of world.new proof.new ≡ history_of world.old proof.old) }
+    ensures unchanged { OnErr result (history_of world.new proof.new ≡ history_of world.old proof.old) }
+{
+    match proof.refine(world, place, step, steps) {
+        Ok(_) => Ok(true),
+        Err(KernelFault::RuleFails(_)) => Ok(false),
+        Err(KernelFault::NotPattern(_)) => unreachable!(),
+        Err(KernelFault::Memory(fault)) => Err(fault),
+    }
+}
+
+/// Takes a step at the goal of this place, where its rule holds.
+pub fn surely<L>(
+    world: &mut World,
+    proof: &mut Proof,
+    place: usize,
+    step: Step,
+    steps: &mut Steps<L>,
+) -> Result<(), AllocError>
+    requires world { IsWorld world.old }
+    requires proof { IsProof world.old proof.old }
+    requires step { HoldsStep world.old step }
+    requires place { place < length (goals_of world.old proof.old) }
+    requires sure { Holds world.old proof.old place (step_of world.old step) }
+    ensures follows { Follows world.old proof.old world.new proof.new }
+    ensures took { OnOk result (Took world.old proof.old world.new proof.new place (step_of world.old step)) }
+    ensures unchanged { OnErr result (history_of world.new proof.new ≡ history_of world.old proof.old) }
+{
+    let taken = attempt(world, proof, place, step, steps)?;
+    if taken { Ok(()) } else { unreachable!() }
+}
+
+/// Takes steps back until only so many stand.
+pub fn take_back<L>(world: &mut World, proof: &mut Proof, count: usize, steps: &mut Steps<L>)
+    ensures undone { (w : AWorld) → history_of w proof.new ≡ undone (length (history_of w proof.old).earlier - count) (history_of w proof.old) }
+    ensures proof { (w : AWorld) → IsProof w proof.old → IsProof w proof.new }
+    ensures world { world.new ≡ world.old }
+    ensures unchanged { (w : AWorld) (p : Held) → Follows w p world.old proof.old → count ≡ length (history_of w p).earlier →
+        history_of world.new proof.new ≡ history_of w p }
+    ensures follows { (w : AWorld) (p : Held) → Follows w p world.old proof.old → count ≡ length (history_of w p).earlier →
+        Follows w p world.new proof.new }
+{
+    while proof.steps() > count {
+        let _ = proof.unrefine(world, steps);
+    }
+}

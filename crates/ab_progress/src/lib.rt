@@ -1,0 +1,10 @@
+//! What all proof commands share: why one is refused, what it works on, and steps of a proof as they take them.
+#![tactic(auto)]
+
+mod advancing;
+mod fault;
+mod looking;
+
+pub use advancing::{attempt, surely, take_back};
+pub use fault::ProofCommandFault;
+pub use looking::first_goal;

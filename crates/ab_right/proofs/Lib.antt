@@ -1,0 +1,3 @@
+mod OneStep
+pub mod PartingGoals
+pub mod Introduces

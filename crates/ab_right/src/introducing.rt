@@ -1,0 +1,202 @@
+//! How the conclusion's quantifiers and antecedents become variables, constants and hypotheses.
+ghost use Rattle.std.specs.Prelude.{◌≡◌, ◌≢◌, ◌≤◌, ◌<◌, [], ◌∷◌, ◌++◌, ℕ, List, Err, IfOk, IfSome, OnErr, IsTrue, IsFalse, Some, None, length, take, drop, get_or, ◌||◌, bytes_eq};
+ghost use Rattle.std.specs.List.{list_any};
+ghost use Rattle.std.specs.Option.{option_map};
+ghost use Rattle.ab_grammar.specs.CommandTrees as told;
+ghost use Rattle.ab_logic.specs.Forms.{form_read};
+ghost use Rattle.ab_logic.specs.Readings.{sequent_of};
+ghost use Rattle.ab_logic.specs.Sequents.{Sequent as AGoal};
+ghost use Rattle.ab_logic.specs.Worlds.{IsWorld, declarations_of};
+ghost use Rattle.ab_logic.specs.Names as plain;
+ghost use Rattle.ab_logic.specs.declared.world.World.{World as AWorld};
+ghost use Rattle.ab_kernel.specs.Layout.{history_of, IsProof};
+ghost use Rattle.ab_naming.specs.Labels.{label_of};
+ghost use Rattle.ab_effects.specs.Effect.{clashing_names, introducing, is_used};
+ghost use Rattle.ab_effects.specs.Introducing.{taken_off, first_label, others};
+ghost use Rattle.ab_effects.specs.Refusals.{clash};
+ghost use Rattle.ab_effects.specs.Row.{Leads};
+ghost use Rattle.ab_progress.specs.Progress.{goals_of, Follows};
+ghost use Rattle.ab_progress.specs.Applied.{IsApplied, IsRefused, RefusedBy};
+ghost use Rattle.ab_progress.specs.declared.fault.ProofCommandFault.{ProofCommandFault};
+ghost use Rattle.ab_right.specs.Introducing.{WasTaken};
+
+use ab_kernel::{Label, Proof, Step};
+use ab_logic::{Form, Sequent, World, shape};
+use ab_name::Name;
+use ab_progress::{ProofCommandFault, attempt, first_goal, surely, take_back};
+use ab_types::Steps;
+use std::alloc::{AllocError, Global};
+
+/// As long as the conclusion begins with `forall`, `nabla` or an antecedent, that is taken off: it becomes a variable, a
+/// nominal constant or a hypothesis. The names go to the first hypotheses.
+pub fn intros<L>(
+    alloc: Global,
+    world: &mut World,
+    proof: &mut Proof,
+    names: &[Name],
+    steps: &mut Steps<L>,
+) -> Result<(), ProofCommandFault>
+    requires world { IsWorld world.old }
+    requires proof { IsProof world.old proof.old }
+    requires open { goals_of world.old proof.old ≢ [] }
+    ensures follows { Follows world.old proof.old world.new proof.new }
+    ensures applied { IfOk result (λ u. (l : plain.Label) → IsApplied l (told.intros names.now) world.old proof.old world.new proof.new) }
+    ensures refused { (fault : ProofCommandFault) → result ≡ Err fault → (l : plain.Label) → IsRefused l (told.intros names.now) world.old proof.old fault }
+    ensures unchanged { OnErr result (history_of world.new proof.new ≡ history_of world.old proof.old) }
+{
+    let goal = first_goal(world, proof);
+    let conclusion = goal.conclusion;
+    if let Some(place) = first_clash(names, goal) {
+        return Err(ProofCommandFault::Clash(names[place].copy(alloc)?));
+    }
+    if !begins(shape(world, conclusion)) {
+        return Err(ProofCommandFault::WrongShape);
+    }
+    let count = proof.steps();
+    match introduce(alloc, world, proof, names, steps) {
+        Ok(()) => Ok(()),
+        Err(fault) => {
+            take_back(world, proof, count, steps);
+            Err(fault)
+        }
+    }
+}
+
+/// Whether something can be taken off a formula of this form.
+fn begins(form: Form) -> bool
+    ensures yes { (w : AWorld) → IsTrue result → taken_off (form_read w form) ≡ Some tt }
+    ensures no { (w : AWorld) → IsFalse result → taken_off (form_read w form) ≡ None }
+{
+    match form {
+        Form::Forall(_, _) => true,
+        Form::Nabla(_, _) => true,
+        Form::Arrow(_, _) => true,
+        _ => false,
+    }
+}
+
+/// The place of the first of the names that a hypothesis has, or that is among those before it.
+fn first_clash(names: &[Name], goal: &Sequent) -> Option<usize>
+    ensures within { IfSome result (λ k. k < length names.now) }
+    ensures first { (w : AWorld) → option_map (λ k. clash (get_or names.now k [])) result ≡ clashing_names [] names.now (sequent_of w goal.now) }
+{
+    for place in 0..names.len() {
+        if clashes(names, place, goal) {
+            return Some(place);
+        }
+    }
+    None
+}
+
+/// Whether a hypothesis has the name of this place, or it is among those before it.
+fn clashes(names: &[Name], place: usize, goal: &Sequent) -> bool
+    requires { place < length names.now }
+    ensures { (w : AWorld) → result ≡ (is_used (sequent_of w goal.now) (get_or names.now place [])
+        || list_any (λ y. bytes_eq y (get_or names.now place [])) (take place names.now)) }
+{
+    goal.uses(&names[place]) || names[..place].contains(&names[place])
+}
+
+/// What was taken off a conclusion.
+enum Taken {
+    /// There is nothing that can be.
+    Nothing,
+    /// A quantifier or an antecedent. So many names are given then.
+    Next(usize),
+    /// Nothing, since a new hypothesis gets no name.
+    Nameless,
+}
+
+/// Takes off the first goal's conclusion all that can be. A name that is left then is one too many. After a refusal the
+/// steps that were taken stand.
+fn introduce<L>(
+    alloc: Global,
+    world: &mut World,
+    proof: &mut Proof,
+    names: &[Name],
+    steps: &mut Steps<L>,
+) -> Result<(), ProofCommandFault>
+    requires world { IsWorld world.old }
+    requires proof { IsProof world.old proof.old }
+    requires open { goals_of world.old proof.old ≢ [] }
+    ensures follows { Follows world.old proof.old world.new proof.new }
+    ensures applied { IfOk result (λ u. (s : AGoal) (rest : List AGoal) → goals_of world.old proof.old ≡ s ∷ rest →
+        (ps : List AGoal) × Leads (introducing (declarations_of world.old) names.now s) ps × (goals_of world.new proof.new ≡ ps ++ rest)) }
+    ensures refused { (fault : ProofCommandFault) → result ≡ Err fault → (s : AGoal) (rest : List AGoal) → goals_of world.old proof.old ≡ s ∷ rest →
+        RefusedBy (introducing (declarations_of world.old) names.now s) fault }
+{
+    let mut given = 0;
+    'taking: loop {
+        match introduce_one(alloc, world, proof, names, given, steps)? {
+            Taken::Next(next) => given = next,
+            Taken::Nothing => break 'taking,
+            Taken::Nameless => return Err(ProofCommandFault::NamesSpent),
+        }
+    }
+    if given < names.len() {
+        return Err(ProofCommandFault::WrongShape);
+    }
+    Ok(())
+}
+
+/// Takes the outermost quantifier or antecedent off the first goal's conclusion, where it has one and so many of the
+/// names are given.
+fn introduce_one<L>(
+    alloc: Global,
+    world: &mut World,
+    proof: &mut Proof,
+    names: &[Name],
+    given: usize,
+    steps: &mut Steps<L>,
+) -> Result<Taken, AllocError>
+    requires world { IsWorld world.old }
+    requires proof { IsProof world.old proof.old }
+    requires open { goals_of world.old proof.old ≢ [] }
+    requires given { given ≤ length names.now }
+    ensures follows { Follows world.old proof.old world.new proof.new }
+    ensures taken { IfOk result (WasTaken names.now given world.old proof.old world.new proof.new) }
+{
+    match shape(world, first_goal(world, proof).conclusion) {
+        Form::Forall(_, _) => {
+            surely(world, proof, 0, Step::ForallRight, steps)?;
+            Ok(Taken::Next(given))
+        }
+        Form::Nabla(_, _) => {
+            surely(world, proof, 0, Step::NablaRight, steps)?;
+            Ok(Taken::Next(given))
+        }
+        Form::Arrow(_, _) => {
+            let label = next_label(alloc, names, given)?;
+            let taken = attempt(world, proof, 0, Step::ArrowRight(label), steps)?;
+            if taken {
+                Ok(Taken::Next(one_more(names, given)))
+            } else {
+                Ok(Taken::Nameless)
+            }
+        }
+        _ => Ok(Taken::Nothing),
+    }
+}
+
+/// The label of the next hypothesis, where so many of the names are given.
+fn next_label(alloc: Global, names: &[Name], given: usize) -> Result<Label, AllocError>
+    ensures { IfOk result (λ l. label_of l ≡ first_label (drop given names.now)) }
+{
+    match names.get(given) {
+        Some(name) => Ok(Label::Given(name.copy(alloc)?)),
+        None => Ok(Label::Auto),
+    }
+}
+
+/// How many of the names are given, once the next hypothesis has its name.
+fn one_more(names: &[Name], given: usize) -> usize
+    requires { given ≤ length names.now }
+    ensures within { result ≤ length names.now }
+    ensures others { drop result names.now ≡ others (drop given names.now) }
+{
+    if given < names.len() {
+        given + 1
+    } else {
+        given
+    }
+}
