@@ -1,0 +1,8 @@
+mod Finding
+mod Forms
+mod Leading
+mod Making
+mod Refuting
+mod Stepping
+mod Taken
+mod Reading

@@ -1,0 +1,45 @@
+-- The first goal, as the program sees it.
+use Rattle.std.specs.List.{All}
+use Rattle.std.proofs.Common.{◌≡◌, List, [], ◌∷◌, map, refl, sym, ◌∙◌, ap, subst}
+use Rattle.std.proofs.lemmas.List.Elements.{All-head, All-tail}
+use Rattle.ab_store.specs.Trees.{Read}
+use Rattle.ab_store.specs.declared.node.TermId.{TermId}
+use Rattle.ab_logic.specs.Growth.{Grows}
+use Rattle.ab_logic.specs.Readings.{hypothesis_of, sequent_of, HoldsSequent}
+use Rattle.ab_logic.specs.Sequents.{Sequent, IsSequent, formulas}
+use Rattle.ab_logic.specs.Worlds.{read, Holds, IsWorld, declarations_of}
+use Rattle.ab_logic.specs.declared.world.World.{World}
+use Rattle.ab_logic.specs.declared.sequent.Sequent.{Sequent as Kept}
+use Rattle.ab_logic.specs.declared.sequent.Hypothesis.{Hypothesis as KeptHypothesis}
+use Rattle.ab_kernel.specs.Layout.{Held, IsProof, history_of}
+use Rattle.ab_kernel.proofs.Rooted.{open_are_sequents}
+use Rattle.ab_progress.specs.Progress.{goals_of}
+use Rattle.ab_search.specs.Choices.{Assumes}
+use Rattle.ab_search.specs.declared.bare.Bare.{Bare}
+
+pub first_is_sequent : (w : World) (p : Held) → IsWorld w → IsProof w p → (s : Sequent) (rest : List Sequent) → goals_of w p ≡ s ∷ rest → IsSequent (declarations_of w) s
+first_is_sequent w p world proof s rest e =
+    All-head (IsSequent (declarations_of w)) s rest
+    (subst (All (IsSequent (declarations_of w))) e (open_are_sequents (declarations_of w) world.sentences (history_of w p).tree proof.valid proof.rooted))
+
+module _ (w v : World) (grows : Grows w v) where
+  same_formulas : (hs : List KeptHypothesis) (given : List Bare) → All (λ (h : KeptHypothesis). Holds w h.formula) hs
+      → map (λ (b : Bare). b.formula) given ≡ map (λ (h : KeptHypothesis). h.formula) hs
+      → formulas (map (hypothesis_of w) hs) ≡ map (λ (b : Bare). read v b.formula) given
+  same_formulas [] [] held e = refl
+  same_formulas [] (b ∷ bs) held e = cc
+  same_formulas (h ∷ hs) [] held e = cc
+  same_formulas (h ∷ hs) (b ∷ bs) held e =
+      let first : b.formula ≡ h.formula = cc in
+      let rest : map (λ (x : Bare). x.formula) bs ≡ map (λ (k : KeptHypothesis). k.formula) hs = cc in
+      ap (λ (t : Read). t ∷ formulas (map (hypothesis_of w) hs))
+      (sym (grows.readings h.formula (All-head (λ (k : KeptHypothesis). Holds w k.formula) h hs held)) ∙ ap (read v) (sym first))
+      ∙ ap (λ (ts : List Read). read v b.formula ∷ ts) (same_formulas hs bs (All-tail (λ (k : KeptHypothesis). Holds w k.formula) h hs held) rest)
+
+  -- the goal assumes what was made of its hypotheses
+  pub assumes : (g : Kept) (given : List Bare) → HoldsSequent w g → map (λ (b : Bare). b.formula) given ≡ map (λ (h : KeptHypothesis). h.formula) g.hypotheses
+      → Assumes v given (sequent_of w g)
+  assumes g given held e = same_formulas g.hypotheses given held.hypotheses e
+
+  pub same_conclusion : (g : Kept) (t : TermId) → HoldsSequent w g → t ≡ g.conclusion → read v t ≡ (sequent_of w g).conclusion
+  same_conclusion g t held e = ap (read v) e ∙ grows.readings g.conclusion held.conclusion

@@ -1,0 +1,4 @@
+-- When a goal can be closed outright, and how the program closes it.
+pub mod Closing
+pub mod Choices
+pub mod Steps
