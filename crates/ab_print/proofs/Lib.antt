@@ -1,6 +1,5 @@
-pub mod Adding
 pub mod Bounds
 pub mod Cutting
 pub mod Etas
 pub mod Scoped
-pub mod Drawn
+pub mod Seeing

@@ -1,39 +1,69 @@
--- A term taken out of a store, with what its names need: at each binder the heads that stand in it, each once, and at
--- each argument the name of which it is the eta-long form, where it is one.
-use Rattle.std.specs.Prelude.{◌≡◌, ℕ, List, map, option_map, All, IfSome}
-use Rattle.ab_term.specs.Terms.{lam, spine, Terms, no_terms, term}
+-- A term taken out of a store, with what its names need: all heads in order, each with the number of binders around it, at
+-- each binder where the heads of its body stand among them, and at each argument the name of which it is the eta-long
+-- form, where it is one.
+use Rattle.std.specs.Prelude.{◌≡◌, ◌≤◌, ◌+◌, ◌-◌, ◌++◌, ℕ, List, length, nat_lt, if◌then◌else◌, Option, Some, None, option_map, slice_range, All, IfSome}
+use Rattle.std.specs.List.{filter_map}
+use Rattle.ab_term.specs.Terms as tree
+use Rattle.ab_term.specs.Terms.{constant, logical, nominal, variable, index, lam, spine, Terms, no_terms, term}
 use Rattle.ab_types.specs.Entries.{Table}
 use Rattle.ab_types.specs.Ids.{type_of}
 use Rattle.ab_store.specs.declared.node.Head.{Head}
-use Rattle.ab_store.specs.Trees.{Read, Contents, head_reading, cell_of}
+use Rattle.ab_store.specs.Trees.{Read, Contents, head_reading}
 use Rattle.ab_store.specs.Naming.{HoldsHead, HeadIsTyped}
 use Rattle.ab_text.specs.Names.{free_heads}
 use Rattle.ab_text.specs.Naming.{alone}
-use Rattle.ab_print.specs.Members.{SameMembers}
+use Rattle.ab_print.specs.declared.drawing.Seen.{Seen}
 use Rattle.ab_print.specs.declared.drawing.Drawing.{Drawing, Lam', Spine'}
 use Rattle.ab_print.specs.declared.drawing.Drawings.{Drawings, End, More'}
+
+-- a head, where it is seen from outside so many binders; the names that these bind aren't seen there
+abbrev pub outside : ℕ → tree.Head ℕ → Option (tree.Head ℕ)
+outside n (constant c) = Some (constant c)
+outside n (logical l) = Some (logical l)
+outside n (nominal a) = Some (nominal a)
+outside n (variable x) = Some (variable x)
+outside n (index i) = if nat_lt i n then None else Some (index (i - n))
 
 module _ (types : Table) (store : Contents) where
   -- a constant and a cell that the head is are there
   abbrev pub IsHeld : Head → Type 0
   IsHeld h = HoldsHead store h × HeadIsTyped types h
 
+  abbrev pub AreHeld : List Seen → Type 0
+  AreHeld seen = All (λ s. IsHeld s.head) seen
+
+  -- a head that is seen, and heads, from where so many binders stand around
+  abbrev pub from : ℕ → Seen → Option (tree.Head ℕ)
+  from depth s = outside (s.binders - depth) (head_reading types store s.head)
+
+  abbrev pub all_from : ℕ → List Seen → List (tree.Head ℕ)
+  all_from depth seen = filter_map (from depth) seen
+
   -- the term that a drawing stands for
   abbrev mutual
     pub term_of : Drawing → Read
-    term_of (Lam' a x hs p d) = lam (type_of types a) x (term_of d)
+    term_of (Lam' a x start end p d) = lam (type_of types a) x (term_of d)
     term_of (Spine' h p ds) = spine (head_reading types store h) (terms_of ds)
 
     pub terms_of : Drawings → Terms ℕ (List ℕ)
     terms_of End = no_terms
     terms_of (More' p d name q ds) = term (term_of d) (terms_of ds)
 
-  -- WHAT IT HOLDS BESIDE is right, and all that it names is there
-  abbrev mutual
-    pub IsSound : Drawing → Type 0
-    IsSound (Lam' a x hs p d) = SameMembers (map (head_reading types store) hs.items) (free_heads (lam (type_of types a) x (term_of d))) × All IsHeld hs.items × IsSound d
-    IsSound (Spine' h p ds) = IsHeld h × AreSound ds
+  -- these heads, in order, stand under so many binders, and were put behind the others
+  pub record Puts (depth : ℕ) (old new : List Seen) (heads : List (tree.Head ℕ)) : Type 0 where
+    pub more : List Seen
+    pub behind : new ≡ old ++ more
+    pub under : All (λ s. depth ≤ s.binders) more
+    pub held : AreHeld more
+    pub same : all_from depth more ≡ heads
 
-    pub AreSound : Drawings → Type 0
-    AreSound End = Unit {0}
-    AreSound (More' p d name q ds) = (option_map (head_reading types store) name ≡ alone 0 (term_of d)) × IfSome name IsHeld × IsSound d × AreSound ds
+  module _ (seen : List Seen) where
+    -- WHAT IT HOLDS BESIDE is right, and all that it names is there
+    abbrev mutual
+      pub IsSound : ℕ → Drawing → Type 0
+      IsSound depth (Lam' a x start end p d) = (start ≤ end) × (end ≤ length seen) × (all_from depth (slice_range seen start end) ≡ free_heads (lam (type_of types a) x (term_of d))) × IsSound (depth + 1) d
+      IsSound depth (Spine' h p ds) = IsHeld h × AreSound depth ds
+
+      pub AreSound : ℕ → Drawings → Type 0
+      AreSound depth End = Unit {0}
+      AreSound depth (More' p d name q ds) = (option_map (head_reading types store) name ≡ alone 0 (term_of d)) × IfSome name IsHeld × IsSound depth d × AreSound depth ds

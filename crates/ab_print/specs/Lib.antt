@@ -1,5 +1,5 @@
 -- What is printed of the terms and the goals of a world.
 pub mod Drawings
-pub mod Members
 pub mod Shown
 pub mod Scopes
+pub mod Examples

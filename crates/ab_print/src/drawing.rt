@@ -2,12 +2,20 @@
 use ab_store::Head;
 use ab_types::{Name, TypeId};
 
+/// A head of a term, and the number of binders around it.
+#[derive(Clone, Copy)]
+pub struct Seen {
+    pub head: Head,
+    pub binders: usize,
+}
+
 /// A term.
 #[cycle(drawings)]
 #[derive(Drop)]
 pub enum Drawing {
-    /// An abstraction: its type, the hint of its binder, the heads that stand in it, each once, and its body.
-    Lam(TypeId, Name, Vec<Head>, Box<Drawing>),
+    /// An abstraction: its type, the hint of its binder, and its body. Among the heads of the whole term, those of the
+    /// body stand from the first number on, and before the second.
+    Lam(TypeId, Name, usize, usize, Box<Drawing>),
     /// A head with its arguments.
     Spine(Head, Box<Drawings>),
 }

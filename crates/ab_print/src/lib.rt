@@ -3,7 +3,7 @@
 
 mod drawing;
 mod eta;
-mod heads;
+pub mod examples;
 mod logic;
 mod naming;
 mod reading;

@@ -1,19 +1,19 @@
 //! Names are given to bound names, from the outside in.
-ghost use Rattle.std.specs.Prelude.{◌≡◌, ℕ, List, [], ◌++◌, map, All, codes, decimal, IfOk, IfSome, OnOk};
+ghost use Rattle.std.specs.Prelude.{◌≡◌, ℕ, List, [], ◌++◌, length, map, codes, decimal, IfOk, IfSome, OnOk};
 ghost use Rattle.std.specs.Option.{option_map};
-ghost use Rattle.std.specs.List.{cons_option};
+ghost use Rattle.std.specs.List.{filter_map, cons_option};
 ghost use Rattle.ab_term.specs.Terms as tree;
 ghost use Rattle.ab_term.specs.Types.{Ty};
-ghost use Rattle.ab_store.specs.Trees.{Read, head_reading};
-ghost use Rattle.ab_text.specs.Names.{name_of, free_heads};
+ghost use Rattle.ab_types.specs.Entries.{Table};
+ghost use Rattle.ab_store.specs.Trees.{Read, Contents, head_reading};
+ghost use Rattle.ab_text.specs.Names.{name_of, free_heads, is_in};
 ghost use Rattle.ab_text.specs.Naming as plain;
 ghost use Rattle.ab_text.specs.Values.{shape_of, shapes_of};
-ghost use Rattle.ab_print.specs.Drawings.{IsHeld, term_of, terms_of, IsSound, AreSound};
-ghost use Rattle.ab_print.specs.Members.{SameMembers};
-ghost use Rattle.ab_print.specs.Scopes.{names_in};
+ghost use Rattle.ab_print.specs.Drawings.{IsHeld, AreHeld, from, all_from, term_of, terms_of, IsSound, AreSound};
+ghost use Rattle.ab_print.specs.Scopes.{names_in, name_from, is_this};
 ghost use Rattle.ab_print.specs.Shown.{cell_name};
 
-use crate::drawing::{Drawing, Drawings};
+use crate::drawing::{Drawing, Drawings, Seen};
 use crate::logic::{logical_form, takes_binder};
 use ab_store::{Head, Store};
 use ab_text::{Shape, Shapes, fresh, with_constant, with_name};
@@ -68,19 +68,122 @@ fn head_name(
     }
 }
 
-/// The printed names of heads.
+/// A head that was seen, where it stands outside all but so many binders.
+fn outside(seen: Seen, binders: usize) -> Option<Head>
+    ensures from { (types : Table) (store : Contents) → option_map (head_reading types store) result ≡ from types store binders seen }
+    ensures held { (types : Table) (store : Contents) → IsHeld types store seen.head → IfSome result (IsHeld types store) }
+{
+    let inner = seen.binders.saturating_sub(binders);
+    match seen.head {
+        Head::Index(i) if i < inner => None,
+        Head::Index(i) => Some(Head::Index(i - inner)),
+        _ => Some(seen.head),
+    }
+}
+
+/// The printed name of a head that was seen, where it stands outside the binder that is to be named, and has one.
+fn seen_name(
+    alloc: Global,
+    types: &TypeTable,
+    store: &Store,
+    names: &[Vec<u8>],
+    seen: Seen,
+) -> Result<Option<Vec<u8>>, AllocError>
+    requires { IsHeld types.now store.now seen.head }
+    ensures { IfOk result (λ o. option_map (λ v. v.items) o ≡ name_from types.now store.now (names_in names.now) seen) }
+{
+    match outside(seen, names.len()) {
+        Some(head) => head_name(alloc, types, store, names, head),
+        None => Ok(None),
+    }
+}
+
+/// Whether the binder of that index has this name.
+fn is_bound_name(names: &[Vec<u8>], index: usize, name: &[u8]) -> bool
+    ensures { (variables : ℕ → List ℕ) → result ≡ is_this name.now (name_of variables (names_in names.now) (tree.index index)) }
+{
+    if names.len() <= index {
+        return false;
+    }
+    let own = names[names.len() - 1 - index].as_slice();
+    name == own
+}
+
+/// Whether the head's printed name is this one.
+fn is_called(
+    alloc: Global,
+    types: &TypeTable,
+    store: &Store,
+    names: &[Vec<u8>],
+    head: Head,
+    name: &[u8],
+) -> Result<bool, AllocError>
+    requires { IsHeld types.now store.now head }
+    ensures { IfOk result (λ b. b ≡ is_this name.now (name_of (cell_name store.now) (names_in names.now) (head_reading types.now store.now head))) }
+{
+    match head {
+        Head::Const(constant) => Ok(name == types.const_name(constant).as_str().as_bytes()),
+        Head::Logic(_) => Ok(false),
+        Head::Nominal(number, _) => {
+            let own = nominal_name(alloc, number)?;
+            Ok(name == own.as_slice())
+        }
+        Head::Cell(cell) => Ok(name == store.cell_name(cell).as_str().as_bytes()),
+        Head::Index(index) => Ok(is_bound_name(names, index, name)),
+    }
+}
+
+/// Whether a head that was seen is called so, where it stands outside the binder that is to be named.
+fn is_seen(
+    alloc: Global,
+    types: &TypeTable,
+    store: &Store,
+    names: &[Vec<u8>],
+    seen: Seen,
+    name: &[u8],
+) -> Result<bool, AllocError>
+    requires { IsHeld types.now store.now seen.head }
+    ensures { IfOk result (λ b. b ≡ is_this name.now (name_from types.now store.now (names_in names.now) seen)) }
+{
+    match outside(seen, names.len()) {
+        Some(head) => is_called(alloc, types, store, names, head, name),
+        None => Ok(false),
+    }
+}
+
+/// Whether one of the heads that were seen is called so.
+fn is_used(
+    alloc: Global,
+    types: &TypeTable,
+    store: &Store,
+    names: &[Vec<u8>],
+    seen: &[Seen],
+    name: &[u8],
+) -> Result<bool, AllocError>
+    requires { AreHeld types.now store.now seen.now }
+    ensures { IfOk result (λ b. b ≡ is_in (filter_map (name_from types.now store.now (names_in names.now)) seen.now) name.now) }
+{
+    for head in seen {
+        if is_seen(alloc, types, store, names, *head, name)? {
+            return Ok(true);
+        }
+    }
+    Ok(false)
+}
+
+/// The printed names of heads that were seen.
 fn used_names(
     alloc: Global,
     types: &TypeTable,
     store: &Store,
     names: &[Vec<u8>],
-    heads: &[Head],
+    seen: &[Seen],
 ) -> Result<Vec<Vec<u8>>, AllocError>
-    requires { All (IsHeld types.now store.now) heads.now }
-    ensures { IfOk result (λ used. map (λ v. v.items) used.items ≡ plain.names_in (cell_name store.now) (names_in names.now) (map (head_reading types.now store.now) heads.now)) }
+    requires { AreHeld types.now store.now seen.now }
+    ensures { IfOk result (λ used. map (λ v. v.items) used.items ≡ filter_map (name_from types.now store.now (names_in names.now)) seen.now) }
 {
     let mut used = Vec::new(alloc);
-    for head in heads {
+    for head in seen {
         push_name(alloc, types, store, names, *head, &mut used)?;
     }
     Ok(used)
@@ -92,14 +195,13 @@ fn push_name(
     types: &TypeTable,
     store: &Store,
     names: &[Vec<u8>],
-    head: Head,
+    seen: Seen,
     used: &mut Vec<Vec<u8>>,
 ) -> Result<(), AllocError>
-    requires { IsHeld types.now store.now head }
-    ensures { OnOk result (map (λ v. v.items) used.new.items ≡ map (λ v. v.items) used.old.items
-        ++ cons_option (name_of (cell_name store.now) (names_in names.now) (head_reading types.now store.now head)) []) }
+    requires { IsHeld types.now store.now seen.head }
+    ensures { OnOk result (map (λ v. v.items) used.new.items ≡ map (λ v. v.items) used.old.items ++ cons_option (name_from types.now store.now (names_in names.now) seen) []) }
 {
-    match head_name(alloc, types, store, names, head)? {
+    match seen_name(alloc, types, store, names, seen)? {
         Some(name) => {
             used.push(name)?;
             Ok(())
@@ -108,22 +210,27 @@ fn push_name(
     }
 }
 
-/// The name of a binder, by its hint and the heads that stand in it.
+/// The name of a binder, by its hint and the heads that were seen in it.
 fn choose(
     alloc: Global,
     types: &TypeTable,
     store: &Store,
     names: &[Vec<u8>],
-    heads: &[Head],
+    seen: &[Seen],
     hint: &Name,
 ) -> Result<Vec<u8>, AllocError>
-    requires { All (IsHeld types.now store.now) heads.now }
+    requires { AreHeld types.now store.now seen.now }
     ensures { IfOk result (λ name. (A : Ty) (t : Read) →
-        SameMembers (map (head_reading types.now store.now) heads.now) (free_heads (tree.lam A hint.now t)) →
+        all_from types.now store.now (length names.now) seen.now ≡ free_heads (tree.lam A hint.now t) →
         name.items ≡ plain.bound_name (cell_name store.now) (names_in names.now) hint.now t) }
 {
-    let used = used_names(alloc, types, store, names, heads)?;
-    let name = fresh(alloc, &used, hint.as_str().as_bytes())?;
+    let hint = hint.as_str().as_bytes();
+    if !is_used(alloc, types, store, names, seen, hint)? {
+        let name = Vec::from_slice(alloc, hint)?;
+        return Ok(name);
+    }
+    let used = used_names(alloc, types, store, names, seen)?;
+    let name = fresh(alloc, &used, hint)?;
     Ok(name)
 }
 
@@ -159,23 +266,33 @@ pub(crate) fn name(
     alloc: Global,
     types: &TypeTable,
     store: &Store,
+    seen: &[Seen],
     drawing: &Drawing,
     names: &mut Vec<Vec<u8>>,
 ) -> Result<Shape, AllocError>
-    requires { IsSound types.now store.now drawing.now }
+    requires sound { IsSound types.now store.now seen.now (length names.old.items) drawing.now }
+    requires held { AreHeld types.now store.now seen.now }
     ensures shape { IfOk result (λ s. shape_of s ≡ plain.named (cell_name store.now) (names_in names.old.items) (term_of types.now store.now drawing.now)) }
     ensures names { OnOk result (names.new.items ≡ names.old.items) }
 {
     match drawing {
-        Drawing::Lam(_, hint, heads, body) => {
-            let chosen = choose(alloc, types, store, names, heads, hint)?;
+        Drawing::Lam(_, hint, start, end, body) => {
+            let chosen = choose(alloc, types, store, names, &seen[*start..*end], hint)?;
             names.push(Vec::from_slice(alloc, &chosen)?)?;
-            let body = name(alloc, types, store, body, names)?;
+            let body = name(alloc, types, store, seen, body, names)?;
             let _ = names.pop();
             Ok(Shape::Abstraction(chosen, Box::new(alloc, body)?))
         }
         Drawing::Spine(head, drawings) => {
-            let arguments = name_all(alloc, types, store, takes_binder(*head), drawings, names)?;
+            let arguments = name_all(
+                alloc,
+                types,
+                store,
+                seen,
+                takes_binder(*head),
+                drawings,
+                names,
+            )?;
             head_form(alloc, types, store, names, *head, arguments)
         }
     }
@@ -187,11 +304,13 @@ fn name_all(
     alloc: Global,
     types: &TypeTable,
     store: &Store,
+    seen: &[Seen],
     binds: bool,
     drawings: &Drawings,
     names: &mut Vec<Vec<u8>>,
 ) -> Result<Shapes, AllocError>
-    requires { AreSound types.now store.now drawings.now }
+    requires sound { AreSound types.now store.now seen.now (length names.old.items) drawings.now }
+    requires held { AreHeld types.now store.now seen.now }
     ensures shapes { IfOk result (λ ss. shapes_of ss ≡ plain.named_all (cell_name store.now) binds (names_in names.old.items) (terms_of types.now store.now drawings.now)) }
     ensures names { OnOk result (names.new.items ≡ names.old.items) }
 {
@@ -199,11 +318,11 @@ fn name_all(
         Drawings::End => Ok(Shapes::End),
         Drawings::More(first, alone, others) => {
             let first = if binds {
-                name(alloc, types, store, first, names)?
+                name(alloc, types, store, seen, first, names)?
             } else {
-                name_alone(alloc, types, store, first, *alone, names)?
+                name_alone(alloc, types, store, seen, first, *alone, names)?
             };
-            let others = name_all(alloc, types, store, binds, others, names)?;
+            let others = name_all(alloc, types, store, seen, binds, others, names)?;
             Ok(Shapes::More(Box::new(alloc, first)?, Box::new(alloc, others)?))
         }
     }
@@ -215,11 +334,13 @@ pub(crate) fn name_alone(
     alloc: Global,
     types: &TypeTable,
     store: &Store,
+    seen: &[Seen],
     drawing: &Drawing,
     alone: Option<Head>,
     names: &mut Vec<Vec<u8>>,
 ) -> Result<Shape, AllocError>
-    requires drawing { IsSound types.now store.now drawing.now }
+    requires sound { IsSound types.now store.now seen.now (length names.old.items) drawing.now }
+    requires held { AreHeld types.now store.now seen.now }
     requires alone { IfSome alone (IsHeld types.now store.now) }
     ensures shape { IfOk result (λ s. shape_of s ≡ plain.contracted (cell_name store.now) (names_in names.old.items) (option_map (head_reading types.now store.now) alone)
         (plain.named (cell_name store.now) (names_in names.old.items) (term_of types.now store.now drawing.now))) }
@@ -227,6 +348,6 @@ pub(crate) fn name_alone(
 {
     match alone {
         Some(head) => head_form(alloc, types, store, names, head, Shapes::End),
-        None => name(alloc, types, store, drawing, names),
+        None => name(alloc, types, store, seen, drawing, names),
     }
 }

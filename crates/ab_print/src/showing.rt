@@ -28,11 +28,11 @@ pub(crate) fn write_term(
     requires held { terms.Holds store.now id }
     ensures { OnOk result (out.new.items ≡ out.old.items ++ shown (cell_name store.now) (terms.tree_of types.now store.now id)) }
 {
-    let mut heads = Vec::new(alloc);
+    let mut seen = Vec::new(alloc);
     let name = alone(types, store, id);
-    let drawing = draw(alloc, types, store, id, &mut heads)?;
+    let drawing = draw(alloc, types, store, id, 0, &mut seen)?;
     let mut names = Vec::new(alloc);
-    let shape = name_alone(alloc, types, store, &drawing, name, &mut names)?;
+    let shape = name_alone(alloc, types, store, &seen, &drawing, name, &mut names)?;
     write(&shape, out)
 }
 

@@ -1,6 +1,6 @@
 //! Terms and lines that are small enough to be written by hand.
 use crate::showing::write_term;
-use crate::{show_goal, show_other, show_reply};
+use crate::{show_goal, show_other, show_reply, show_term};
 use ab_logic::{Hypotheses, Hypothesis, Sequent, Variables, World};
 use ab_store::{Head, Logical, Store};
 use ab_types::{Name, TypeTable};
@@ -57,7 +57,9 @@ fn goals_are_printed(rt: HostRuntime) -> Result<(), AllocError> {
     let mut out = Vec::new(alloc);
     show_goal(alloc, &world, &goal, &mut out)?;
     show_other(alloc, &world, 2, truth, &mut out)?;
-    let lines: &[u8] = b"H1 : true\n============================\n true\nSubgoal 2 is:\n true\n";
+    show_term(alloc, &world, truth, &mut out)?;
+    let lines: &[u8] =
+        b"H1 : true\n============================\n true\nSubgoal 2 is:\n true\ntrue";
     assert!(rt; out.as_slice() == lines);
     Ok(())
 }

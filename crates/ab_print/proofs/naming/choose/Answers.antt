@@ -1,12 +1,18 @@
-use Rattle.std.proofs.Common.{map, ap, ◌∙◌}
-use Rattle.ab_store.specs.Trees.{head_reading}
-use Rattle.ab_text.specs.Names.{fresh}
-use Rattle.ab_print.specs.Scopes.{names_in}
-use Rattle.ab_print.specs.Shown.{cell_name}
-use Rattle.ab_print.proofs.Scoped.{chosen_is}
+use Rattle.std.proofs.Common.{◌≡◌, map, ap, sym, ◌∙◌}
+use Rattle.std.specs.List.{filter_map}
+use Rattle.ab_text.specs.Names.{is_in, fresh}
+use Rattle.ab_print.specs.Scopes.{names_in, name_from}
+use Rattle.ab_print.proofs.Scoped.{chosen_is, hint_is}
 use Rattle.ab_print.proofs.naming.choose.Goals as goal
+
+pub returns-then-not-branch : goal.returns-then-not-branch
+returns-then-not-branch c = λ A t same.
+    let text : c.as_bytes-hint.result.now ≡ c.args.hint.now = c.as_bytes-hint.ensures.value ∙ c.as_str.ensures in
+    hint_is c.args.types.now c.args.store.now c.args.names.now A c.args.hint.now t c.args.seen.now c.in_ok-name.name.items
+    (sym c.if-not-branch.true ∙ c.in_ok-is_used.ensures ∙ ap (is_in (filter_map (name_from c.args.types.now c.args.store.now (names_in c.args.names.now)) c.args.seen.now)) text)
+    (c.in_ok-name.ensures.items ∙ text) same
 
 pub returns : goal.returns
 returns c = λ A t same.
-    chosen_is (cell_name c.args.store.now) (names_in c.args.names.now) A c.args.hint.now t (map (head_reading c.args.types.now c.args.store.now) c.args.heads.now) (map (λ v. v.items) c.deref.result.now) c.in_ok-name.name.items
-    (ap (map (λ v. v.items)) c.deref.ensures.value ∙ c.in_ok-used.ensures) (λ other s. c.in_ok-name.ensures other s ∙ ap (fresh other) (c.as_bytes.ensures.value ∙ c.as_str.ensures)) same
+    chosen_is c.args.types.now c.args.store.now c.args.names.now A c.args.hint.now t c.args.seen.now (map (λ v. v.items) c.deref.result.now) c.in_ok-name-2.name.items
+    (ap (map (λ v. v.items)) c.deref.ensures.value ∙ c.in_ok-used.ensures) (λ other s. c.in_ok-name-2.ensures other s ∙ ap (fresh other) (c.as_bytes-hint.ensures.value ∙ c.as_str.ensures)) same
