@@ -1,0 +1,10 @@
+mod Bounds
+mod Walks
+mod Sets
+mod Names
+mod Looking
+mod Keeping
+mod Headed
+mod Faulty
+mod Single
+mod Cased

@@ -1,0 +1,14 @@
+//! The clauses of definitions: which heads they may have, and whether they are stratified, decided on ids.
+#![tactic(auto)]
+
+mod faults;
+mod heads;
+mod kept;
+pub mod laws;
+mod looked;
+mod stratified;
+#[cfg(test)]
+mod tests;
+
+pub use faults::{ClauseFault, first_fault};
+pub use kept::{Block, ClauseCells, ClauseTerm, ClauseTerms, Predicates};
