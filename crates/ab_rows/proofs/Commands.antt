@@ -1,0 +1,75 @@
+-- The rows of proof commands that open nothing are settled.
+use Rattle.std.proofs.Common.{◌≡◌, List, [], ◌∷◌, ◌++◌, Some, None, ℕ, refl, sym, ◌∙◌, ap, subst}
+use Rattle.ab_term.specs.Types.{Ty, prop}
+use Rattle.ab_term.specs.Substitution.{instance}
+use Rattle.ab_store.specs.Trees.{Read}
+use Rattle.ab_grammar.specs.Tree.{Tree}
+use Rattle.ab_grammar.specs.CommandTrees.{ProofCommand, intros, induction, coinduction, case, apply, backchain, cut, inst, monotone, search, split, split_all, left, right, exists, unfold_goal, assert, clear, rename, permute}
+use Rattle.ab_logic.specs.Declarations.{Declarations}
+use Rattle.ab_logic.specs.Sequents.{Sequent, proving, assuming}
+use Rattle.ab_logic.specs.Names.{Label, auto, given, Names, NoName}
+use Rattle.ab_rules.proofs.OneAnswer.{names_once}
+use Rattle.ab_effects.specs.Effect.{effect, reading, naming}
+use Rattle.ab_effects.specs.Introducing.{Parts, alone, parted}
+use Rattle.ab_effects.specs.Row.{Row, leads}
+use Rattle.ab_rows.specs.Opening.{OpensNothing}
+use Rattle.ab_rows.proofs.Settled.{Settled}
+use Rattle.ab_rows.proofs.OneReading.{means_or_not, one_meaning, one_cause}
+
+never_named : (l : Label) (s : Sequent) (x : List ℕ) (t : Sequent) → Names l s x t → NoName l s → ⊥
+never_named auto s x t a none = none a.0 a.1.has
+never_named (given z) s x t a used = a.0 used
+
+one_parting : {F : Read} {Fs Gs : List Read} → Parts F Fs → Parts F Gs → Fs ≡ Gs
+one_parting (alone e) (alone d) = refl
+one_parting (alone e) (parted {A = A} {B = B} d p q) = let clash : None ≡ Some (A, B) = sym e ∙ d in cc
+one_parting (parted {A = A} {B = B} d p q) (alone e) = let clash : None ≡ Some (A, B) = sym e ∙ d in cc
+one_parting (parted {A = A} {B = B} {Fs = Fs} {Gs = Gs} e p q) (parted {A = C} {B = E} {Fs = Hs} {Gs = Ks} d r t) =
+    let both : Some (C, E) ≡ Some (A, B) = sym d ∙ e in
+    let pairs : (C, E) ≡ (A, B) = cc in
+    let one : C ≡ A = ap (λ (p : Read × Read). p.0) pairs in
+    let two : E ≡ B = ap (λ (p : Read × Read). p.1) pairs in
+    let first = one_parting p (subst (λ X. Parts X Hs) one r) in
+    let second = one_parting q (subst (λ X. Parts X Ks) two t) in
+    ap (λ xs. xs ++ Gs) first ∙ ap (λ xs. Hs ++ xs) second
+
+reading_settled : (D : Declarations) (s : Sequent) (e : Tree) (A : Ty) (k : Read → Row) → ((t : Read) → Settled (k t)) → Settled (reading D s e A k)
+reading_settled D s e A k rest = (means_or_not D s e A, one_cause D s e A, one_meaning D s e A, rest)
+
+naming_settled : (l : Label) (s : Sequent) (k : List ℕ → Sequent → Row) → ((x : List ℕ) (t : Sequent) → Settled (k x t)) → Settled (naming l s k)
+naming_settled l s k rest = (
+  λ p f named none. never_named l s p.0 p.1 named none.0,
+  λ f g a b. a.1 ∙ sym b.1,
+  λ p q a b. let same = names_once l s p.0 q.0 p.1 q.1 a b in pairs p q same.0 same.1,
+  λ p. rest p.0 p.1,
+)
+  where
+    pairs : (p q : List ℕ × Sequent) → p.0 ≡ q.0 → p.1 ≡ q.1 → p ≡ q
+    pairs p q e d = ap (λ x. pair x p.1) e ∙ ap (pair q.0) d
+      where
+        pair : List ℕ → Sequent → List ℕ × Sequent
+        pair x t = (x, t)
+
+pub settled : (D : Declarations) (l : Label) (command : ProofCommand) (s : Sequent) → OpensNothing command → Settled (effect D l command s)
+settled D l (intros xs) s no_opening = absurd no_opening
+settled D l (case H keep) s no_opening = absurd no_opening
+settled D l split s so = λ p. tt
+settled D l split_all s so = λ p. (λ Fs f parts none. none, λ f g none more. absurd none, λ Fs Gs a b. one_parting a b, λ Fs. tt)
+settled D l left s so = λ p. tt
+settled D l right s so = λ p. tt
+settled D l (exists e) s so = λ q. reading_settled D s e q.0 (λ t. leads (proving (instance q.1 t) s ∷ [])) (λ t. tt)
+settled D l (assert e) s so =
+    reading_settled D s e prop (λ F. naming l s (λ name t. leads (proving F s ∷ assuming name F t ∷ [])))
+    (λ F. naming_settled l s (λ name t. leads (proving F s ∷ assuming name F t ∷ [])) (λ x t. tt))
+settled D l (clear Hs) s so = tt
+settled D l (rename H x) s so = λ F. tt
+settled D l (induction n) s so = tt
+settled D l coinduction s so = tt
+settled D l (apply H vs is) s so = tt
+settled D l (backchain H is) s so = tt
+settled D l (cut H K) s so = tt
+settled D l (inst H is) s so = tt
+settled D l (monotone H e) s so = tt
+settled D l (search n) s so = tt
+settled D l unfold_goal s so = tt
+settled D l (permute ns x) s so = tt

@@ -1,0 +1,4 @@
+mod Settled
+mod FreeNames
+mod OneReading
+mod Commands

@@ -1,0 +1,2 @@
+-- Which proof commands open formulas.
+pub mod Opening

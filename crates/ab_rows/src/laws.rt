@@ -1,0 +1,22 @@
+//! Each proof command has one answer at a goal.
+ghost use Rattle.std.specs.Prelude.{◌≡◌, List};
+ghost use Rattle.ab_grammar.specs.CommandTrees.{ProofCommand};
+ghost use Rattle.ab_logic.specs.Declarations.{Declarations};
+ghost use Rattle.ab_logic.specs.Names.{Label};
+ghost use Rattle.ab_logic.specs.Sequents.{Sequent};
+ghost use Rattle.ab_effects.specs.Effect.{effect};
+ghost use Rattle.ab_effects.specs.Refusals.{Refusal};
+ghost use Rattle.ab_effects.specs.Row.{Leads, Refuses};
+ghost use Rattle.ab_rows.specs.Opening.{OpensNothing};
+
+/// A proof command that opens no formula has one answer at a goal: where it leads to goals it isn't refused, it is refused for
+/// one cause at most, and the goals are one list. So each refusal comes exactly where what it speaks of is the first of what
+/// is asked that isn't there.
+pub fn proof_commands_have_one_answer()
+    ensures apart { (D : Declarations) (l : Label) (command : ProofCommand) (s : Sequent) (ps : List Sequent) (f : Refusal) → OpensNothing command →
+        Leads (effect D l command s) ps → Refuses (effect D l command s) f → ⊥ }
+    ensures one_refusal { (D : Declarations) (l : Label) (command : ProofCommand) (s : Sequent) (f g : Refusal) → OpensNothing command →
+        Refuses (effect D l command s) f → Refuses (effect D l command s) g → f ≡ g }
+    ensures one_list { (D : Declarations) (l : Label) (command : ProofCommand) (s : Sequent) (ps qs : List Sequent) → OpensNothing command →
+        Leads (effect D l command s) ps → Leads (effect D l command s) qs → ps ≡ qs }
+{}

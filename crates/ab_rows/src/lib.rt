@@ -1,0 +1,4 @@
+//! What proof commands do to a goal is one thing: laws of their rows.
+#![tactic(auto)]
+
+pub mod laws;
