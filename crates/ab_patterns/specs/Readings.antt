@@ -1,6 +1,6 @@
 -- What the solver's equations and results on shared terms stand for, as plain ones. The terms are looked at as they
 -- stand, so nothing of this speaks of bindings.
-use Rattle.std.specs.Prelude.{ℕ, List, map, Option, Some, None, Vec}
+use Rattle.std.specs.Prelude.{ℕ, List, map, Option, Some, None, Vec, All}
 use Rattle.std.specs.Global.{Global}
 use Rattle.ab_term.specs.Terms as tree
 use Rattle.ab_types.specs.Entries.{Table}
@@ -29,6 +29,12 @@ names_of types store (Some hs) = Some (map (head_reading types store) hs.items)
 
 abbrev pub HoldsEquation : Contents → Numbered → Type 0
 HoldsEquation store e = Holds store e.left × Holds store e.right
+
+-- the equations that take the place of one are between terms of the store
+abbrev pub HoldsParts : Contents → Simple → Type 0
+HoldsParts store NoRule = Unit {0}
+HoldsParts store Clash = Unit {0}
+HoldsParts store (Parts es) = All (HoldsEquation store) es.items
 
 -- no bound cell stands in its sides
 abbrev pub EquationIsResolved : Contents → Numbered → Type 0

@@ -32,7 +32,7 @@ fn shift_index(at: usize, index: usize) -> Result<usize, AllocError>
 }
 
 /// A head, where a binder is put in at `at`.
-fn shift_head(at: usize, head: Head) -> Result<Head, AllocError>
+pub fn shift_head(at: usize, head: Head) -> Result<Head, AllocError>
     ensures reads { IfOk result (λ h. (types : Table) (store : Contents) →
         head_reading types store h ≡ tree.shift_head at (head_reading types store head)) }
     ensures held { IfOk result (λ h. (store : Contents) → HoldsHead store head → HoldsHead store h) }

@@ -18,6 +18,7 @@ mod rigid;
 mod seen;
 
 pub use applying::{applied, keep_heads, value};
+pub use closing::shift_head;
 pub use equation::Numbered;
 pub use flexible::is_flexible;
 pub use foreign::has_no_foreign;

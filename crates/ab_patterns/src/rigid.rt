@@ -1,14 +1,14 @@
 //! The rules that replace no variable.
-ghost use Rattle.std.specs.Prelude.{◌≡◌, ◌↔◌, ◌++◌, ◌∷◌, [], Some, true, map, IfOk};
+ghost use Rattle.std.specs.Prelude.{◌≡◌, ◌↔◌, ◌++◌, ◌∷◌, [], Some, true, map, IfOk, OnOk, All};
 ghost use Rattle.ab_term.specs.Terms.{spine, terms_of};
 ghost use Rattle.ab_types.specs.Entries.{Table};
 ghost use Rattle.ab_types.specs.Sound.{IsTable};
-ghost use Rattle.ab_store.specs.Trees.{Contents, tree_of, head_reading};
+ghost use Rattle.ab_store.specs.Trees.{Contents, Holds, tree_of, head_reading};
 ghost use Rattle.ab_store.specs.Naming.{IsTypedBy, HeadIsTyped};
 ghost use Rattle.ab_solve.specs.Solving.{or_else, equal_sides, bodies as same_binder, rigid_heads, parts, paired};
 ghost use Rattle.ab_store.specs.Reading.{cell_variable};
 ghost use Rattle.ab_store.specs.Bindings.{IsResolved};
-ghost use Rattle.ab_patterns.specs.Readings.{equation_of, simple_of, HoldsEquation, EquationIsResolved};
+ghost use Rattle.ab_patterns.specs.Readings.{equation_of, simple_of, HoldsEquation, HoldsParts, EquationIsResolved};
 
 use crate::comparing::are_same;
 use crate::equation::Numbered;
@@ -39,7 +39,8 @@ pub fn try_simple_rules(
     requires store { IsTypedBy types.now store.now }
     requires equation { HoldsEquation store.now equation }
     requires resolved { EquationIsResolved store.now equation }
-    ensures { IfOk result (λ r. simple_of types.now store.now r ≡
+    ensures held { IfOk result (HoldsParts store.now) }
+    ensures rule { IfOk result (λ r. simple_of types.now store.now r ≡
         or_else (equal_sides (equation_of types.now store.now equation))
         (or_else (same_binder equation.place (tree_of types.now store.now equation.left) (tree_of types.now store.now equation.right))
         (rigid_heads (map (cell_variable types.now store.now) flexible.now) equation.place (tree_of types.now store.now equation.left) (tree_of types.now store.now equation.right)))) }
@@ -79,7 +80,8 @@ fn heads(
     other: Head,
     more: &[TermId],
 ) -> Result<Simple, AllocError>
-    ensures { IfOk result (λ r. (types : Table) (store : Contents) → IsTable types → HeadIsTyped types head → HeadIsTyped types other →
+    ensures held { IfOk result (λ r. (store : Contents) → All (Holds store) args.now → All (Holds store) more.now → HoldsParts store r) }
+    ensures rule { IfOk result (λ r. (types : Table) (store : Contents) → IsTable types → HeadIsTyped types head → HeadIsTyped types other →
         simple_of types store r ≡ rigid_heads (map (cell_variable types store) flexible.now) place
         (spine (head_reading types store head) (terms_of (map (tree_of types store) args.now)))
         (spine (head_reading types store other) (terms_of (map (tree_of types store) more.now)))) }
@@ -101,7 +103,8 @@ fn heads(
 
 /// The equation of the bodies of two abstractions.
 fn bodies(alloc: Global, place: usize, left: TermId, right: TermId) -> Result<Simple, AllocError>
-    ensures { IfOk result (λ r. (types : Table) (store : Contents) → simple_of types store r ≡
+    ensures held { IfOk result (λ r. (store : Contents) → Holds store left → Holds store right → HoldsParts store r) }
+    ensures rule { IfOk result (λ r. (types : Table) (store : Contents) → simple_of types store r ≡
         Some (parts (record { place = place; left = tree_of types store left; right = tree_of types store right } ∷ []))) }
 {
     let mut parts = Vec::new(alloc);
@@ -116,7 +119,9 @@ fn pair(
     those: &[TermId],
     into: &mut Vec<Numbered>,
 ) -> Result<(), AllocError>
-    ensures { IfOk result (λ r. (types : Table) (store : Contents) →
+    ensures held { OnOk result ((store : Contents) → All (Holds store) these.now → All (Holds store) those.now →
+        All (HoldsEquation store) into.old.items → All (HoldsEquation store) into.new.items) }
+    ensures pairs { IfOk result (λ r. (types : Table) (store : Contents) →
         map (equation_of types store) into.new.items ≡
         map (equation_of types store) into.old.items ++ paired place (terms_of (map (tree_of types store) these.now)) (terms_of (map (tree_of types store) those.now))) }
 {

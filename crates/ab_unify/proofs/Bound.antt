@@ -1,5 +1,6 @@
 -- What is put in for a cell: which cells stand in it, and what the readings become.
-use Rattle.std.proofs.Common.{◌≡◌, ◌⊎◌, inl, inr, List, [], ◌∷◌, map, false, codes, sym, ◌∙◌, ap, subst}
+use Rattle.std.proofs.Common.{◌≡◌, ◌⊎◌, inl, inr, List, [], ◌∷◌, ◌++◌, map, true, false, cond, ◌==◌, Some, None, codes, refl, sym, ◌∙◌, ap, subst}
+use Rattle.std.specs.Cmp.{unsigned_Decides}
 use Rattle.std.proofs.lemmas.Bool.{false≢true}
 use Rattle.std.proofs.lemmas.List.Elements.{All-contains}
 use Rattle.ab_term.specs.Types.{Ty}
@@ -12,12 +13,14 @@ use Rattle.ab_types.specs.Ids.{type_of}
 use Rattle.ab_store.specs.declared.node.TermId.{TermId}
 use Rattle.ab_store.specs.declared.node.CellId.{CellId}
 use Rattle.ab_store.specs.declared.node.Head.{Head}
+use Rattle.ab_store.specs.declared.node.Binding.{Binding}
 use Rattle.ab_store.specs.Trees.{Contents, Holds, HoldsCell, term_at, terms_from, cell_in, cell_of, tree_of, head_reading}
 use Rattle.ab_store.specs.Reading.{bound_in, reading, cell_variable}
 use Rattle.ab_store.specs.Bindings.{cells_of, StandsIn, IsUnbound, IsResolved}
 use Rattle.ab_store.specs.Growth.{IsExtendedBy}
 use Rattle.ab_store.specs.Naming.{IsTerm}
 use Rattle.ab_store.proofs.Putting.{resolved_reads}
+use Rattle.ab_store.proofs.Rebinding.{bound_behind}
 use Rattle.ab_solve.specs.Patterns.{value}
 use Rattle.ab_solve.specs.Replacing.{holds, one}
 use Rattle.ab_solve.proofs.Avoiding.{abstracted_avoids, avoids_if}
@@ -25,6 +28,13 @@ use Rattle.ab_unify.proofs.Standing.{avoids_then, stands_holds, stands_or_avoids
 
 pub same_cell : (types : Table) (s t : Contents) (c : CellId) → t.cells ≡ s.cells → cell_variable types t c ≡ cell_variable types s c
 same_cell types s t c e = ap (λ cs. record { name = c.0; type = type_of types (cell_in cs c).ty }) e
+
+-- a cell that was bound last is bound
+pub now_bound : (bs : List Binding) (c : CellId) (t : TermId) → bound_in bs c ≡ None → bound_in (bs ++ record { cell = c; term = t } ∷ []) c ≡ None → ⊥
+now_bound bs c t free e =
+    let itself : (c.0 == c.0) ≡ true = (unsigned_Decides c.0 c.0).1 refl in
+    let some : Some t ≡ None = sym (ap (λ k. cond k (Some t) None) itself) ∙ sym (bound_behind bs (record { cell = c; term = t } ∷ []) c free) ∙ e in
+    absurd (cc)
 
 pub still_term : (types : Table) (s t : Contents) → IsExtendedBy s t → (G : List Ty) (r : TermId) (A : Ty) → IsTerm types s G r A → IsTerm types t G r A
 still_term types s t more G r A is = (more.ids r is.0, subst (λ u. HasType (signature types) G u A) (sym (more.trees types r is.0)) is.1)

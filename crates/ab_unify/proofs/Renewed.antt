@@ -54,7 +54,7 @@ head_more old new more G A (tree.nominal a) e = e
 head_more old new more G A (tree.variable y) e = e
 head_more old new more G A (tree.index i) e = e
 
-named_still : {old new : typing.Signature} (more : typing.IsExtendedBy old new) {G : List Ty} {hs : List (tree.Head ℕ)} {A C : Ty} → Named old G hs A C → Named new G hs A C
+pub named_still : {old new : typing.Signature} (more : typing.IsExtendedBy old new) {G : List Ty} {hs : List (tree.Head ℕ)} {A C : Ty} → Named old G hs A C → Named new G hs A C
 named_still more named_none = named_none
 named_still {old = old} {new = new} more {G = G} (named_more {A = A} {h = h} e n) = named_more (head_more old new more G A h e) (named_still more n)
 

@@ -50,6 +50,7 @@ pub fn narrow<L>(
     ensures trees { (t : TermId) → Holds store.old t → Holds store.new t × (tree_of types.now store.new t ≡ tree_of types.now store.old t) }
     ensures terms { (G : List Ty) (t : TermId) (A : Ty) → IsTerm types.now store.old G t A → IsTerm types.now store.new G t A }
     ensures cells { store.new.cells ≡ store.old.cells }
+    ensures bound { OnOk result (¬ IsUnbound store.new cell) }
     ensures free { (c : CellId) → c ≢ cell → IsUnbound store.old c → IsUnbound store.new c }
     ensures typed { IsTypedBy types.now store.new }
     ensures marks { (m : Mark) → HasMark store.old m → KeepsMark store.old store.new m }

@@ -50,6 +50,7 @@ pub fn renew<L>(
         (solve.applied (codes "x") (record { name = length store.old.cells; type = solve.kept_type keep.now (cell_variable types.old store.old cell).type })
         (solve.kept keep.now (map (head_reading types.old store.old) names.now)))) (reading types.old store.old t)) }
     ensures cells { (c : CellId) → HoldsCell store.old c → HoldsCell store.new c × (cell_of store.new c ≡ cell_of store.old c) }
+    ensures bound { OnOk result (¬ IsUnbound store.new cell) }
     ensures free { (c : CellId) → c ≢ cell → IsUnbound store.old c → IsUnbound store.new c }
     ensures trees { (t : TermId) → Holds store.old t → Holds store.new t × (tree_of types.new store.new t ≡ tree_of types.old store.old t) }
     ensures terms { (G : List Ty) (t : TermId) (A : Ty) → IsTerm types.old store.old G t A → IsTerm types.new store.new G t A }

@@ -8,8 +8,8 @@ use Rattle.ab_patterns.specs.Readings.{equation_of, simple_of}
 use Rattle.ab_patterns.proofs.Rules.{at_equal, at_lams, at_spines, true_or_not}
 use Rattle.ab_patterns.proofs.rigid.try_simple_rules.Goals as goal
 
-pub returns-then-branch : goal.returns-then-branch
-returns-then-branch c =
+pub returns-then-branch-clause-rule : goal.returns-then-branch-clause-rule
+returns-then-branch-clause-rule c =
     let types = c.args.types.now in
     let store = c.args.store.now in
     let e = equation_of types store c.args.equation in
@@ -17,8 +17,8 @@ returns-then-branch c =
     ap (λ l. Some (parts (map (equation_of types store) l))) c.new.ensures.items
     ∙ at_equal ys e ((true_or_not c.in_ok-are_same.field-0 _ c.in_ok-are_same.ensures).0 c.if-branch.true) (or_else (bodies e.place e.left e.right) (rigid_heads ys e.place e.left e.right))
 
-pub returns-in-Lam-view : goal.returns-in-Lam-view
-returns-in-Lam-view c =
+pub returns-in-Lam-view-clause-rule : goal.returns-in-Lam-view-clause-rule
+returns-in-Lam-view-clause-rule c =
     let types = c.args.types.now in
     let store = c.args.store.now in
     let e = equation_of types store c.args.equation in
@@ -26,10 +26,10 @@ returns-in-Lam-view c =
     if_ok c.bodies.result (λ r made.
     at_lams ys e ((true_or_not c.in_ok-are_same.field-0 _ c.in_ok-are_same.ensures).1 c.if-branch.false) _ _ _ _ _ _
     (c.view.ensures.tree types ∙ ap (node_tree types store) c.in-Lam.is) (c.view-in-Lam.ensures.tree types ∙ ap (node_tree types store) c.in-Lam-view.is)
-    (simple_of types store r) (made types store)) c.bodies.ensures
+    (simple_of types store r) (made types store)) c.bodies.ensures.rule
 
-pub returns-in-Spine-view-2 : goal.returns-in-Spine-view-2
-returns-in-Spine-view-2 c =
+pub returns-in-Spine-view-2-clause-rule : goal.returns-in-Spine-view-2-clause-rule
+returns-in-Spine-view-2-clause-rule c =
     let types = c.args.types.now in
     let store = c.args.store.now in
     let e = equation_of types store c.args.equation in
@@ -39,4 +39,4 @@ returns-in-Spine-view-2 c =
     (c.view.ensures.tree types ∙ ap (node_tree types store) c.in-Spine.is) (c.view-in-Spine.ensures.tree types ∙ ap (node_tree types store) c.in-Spine-view-2.is)
     (simple_of types store r)
     (rw (← c.as_slice.ensures, ← c.as_slice-in-Spine-view-2.ensures) (made types store c.len.ensures.table
-    (subst (NodeIsTyped types) c.in-Spine.is (c.view.ensures.typed types c.requires.store)) (subst (NodeIsTyped types) c.in-Spine-view-2.is (c.view-in-Spine.ensures.typed types c.requires.store))))) c.heads.ensures
+    (subst (NodeIsTyped types) c.in-Spine.is (c.view.ensures.typed types c.requires.store)) (subst (NodeIsTyped types) c.in-Spine-view-2.is (c.view-in-Spine.ensures.typed types c.requires.store))))) c.heads.ensures.rule

@@ -2,7 +2,7 @@ use Rattle.std.proofs.Common.{ℕ, ◌∙◌, ◌<◌, length, ap, sym, subst}
 use Rattle.ab_store.specs.Reading.{bound_in}
 use Rattle.ab_store.proofs.Growing.{extended_on}
 use Rattle.ab_store.proofs.Rebinding.{bound_others}
-use Rattle.ab_unify.proofs.Bound.{still_term, same_nodes, made_apart, made_resolved, made_term, made_reads}
+use Rattle.ab_unify.proofs.Bound.{now_bound, still_term, same_nodes, made_apart, made_resolved, made_term, made_reads}
 use Rattle.ab_unify.proofs.putting.put.Goals as goal
 
 pub bind-requires-clause-unbound : goal.bind-requires-clause-unbound
@@ -81,3 +81,8 @@ returns-clause-free g c = λ y other free.
     ∙ bound_others c.reserve.new.self.bindings (record { cell = c.args.cell; term = c.in_ok-made.made }) y (λ e. other (sym (ap (λ (n : ℕ). record { 0 = n }) e)))
     ∙ ap (λ bs. bound_in bs y) more.bindings
     ∙ free
+
+pub returns-clause-bound : goal.returns-clause-bound
+returns-clause-bound g c = λ free.
+    let more = extended_on c.args.store.now c.value.new.store c.reserve.new.self c.in_ok-made.ensures.adds.before c.in_ok-reserve.ensures.before in
+    now_bound c.reserve.new.self.bindings c.args.cell c.in_ok-made.made (ap (λ bs. bound_in bs c.args.cell) more.bindings ∙ c.requires.unbound) (sym (ap (λ bs. bound_in bs c.args.cell) c.bind.ensures.bound) ∙ free)

@@ -1,0 +1,12 @@
+pub mod Growth
+pub mod Listed
+pub mod Cells
+pub mod Narrowed
+pub mod Put
+pub mod Pruned
+pub mod Other
+pub mod Joined
+pub mod Solved
+pub mod Under
+pub mod Ruled
+pub mod Chosen

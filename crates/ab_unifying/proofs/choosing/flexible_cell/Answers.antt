@@ -1,0 +1,10 @@
+use Rattle.std.proofs.Common.{[], sym, ◌∙◌}
+use Rattle.ab_store.specs.Trees.{Contents}
+use Rattle.ab_unifying.proofs.Pruned.{listed_if}
+use Rattle.ab_unifying.proofs.choosing.flexible_cell.Goals as goal
+
+abbrev nothing : Contents
+nothing = record { nodes = []; cells = []; bindings = []; room = 0 }
+
+pub returns-then-is_flexible-clause-some : goal.returns-then-is_flexible-clause-some
+returns-then-is_flexible-clause-some c = (c.in-Cell.is, listed_if [] nothing c.args.flexible.now c.in-Cell.cell (sym (c.is_flexible.ensures [] nothing) ∙ c.if-is_flexible.true))
