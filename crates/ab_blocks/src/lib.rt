@@ -1,0 +1,8 @@
+//! The block that answers a command, as bytes.
+#![tactic(auto)]
+
+mod goals;
+mod refusals;
+mod replies;
+
+pub use replies::block;

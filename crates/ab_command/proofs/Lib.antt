@@ -1,0 +1,2 @@
+pub mod Sayings
+mod Trees

@@ -1,0 +1,32 @@
+-- The commands that are built, of all that the grammar has.
+use Rattle.std.specs.Prelude.{◌≡◌, ℕ}
+use Rattle.ab_grammar.specs.CommandTrees.{Command, kinds, constants, theorem, show, quit, subgoals, abort, in_proof}
+use Rattle.ab_grammar.specs.CommandTrees.{ProofCommand, intros, split, split_all, left, right, exists, case, assert, clear, rename, search}
+use Rattle.ab_command.specs.Judgements.{HasNoJudgement}
+
+-- A proof command, read from so many tokens: `search` is built without its depth alone, of a word and a full stop.
+abbrev pub IsBuiltInProof : ℕ → ProofCommand → Type 0
+IsBuiltInProof count (intros xs) = Unit {0}
+IsBuiltInProof count split = Unit {0}
+IsBuiltInProof count split_all = Unit {0}
+IsBuiltInProof count left = Unit {0}
+IsBuiltInProof count right = Unit {0}
+IsBuiltInProof count (exists e) = HasNoJudgement e
+IsBuiltInProof count (case H keep) = Unit {0}
+IsBuiltInProof count (assert e) = HasNoJudgement e
+IsBuiltInProof count (clear Hs) = Unit {0}
+IsBuiltInProof count (rename H x) = Unit {0}
+IsBuiltInProof count (search depth) = count ≡ 2
+IsBuiltInProof count _ = ⊥
+
+-- THE COMMAND IS BUILT, read from so many tokens
+abbrev pub IsBuilt : ℕ → Command → Type 0
+IsBuilt count (kinds xs) = Unit {0}
+IsBuilt count (constants xs A) = Unit {0}
+IsBuilt count (theorem x e) = HasNoJudgement e
+IsBuilt count (show x) = Unit {0}
+IsBuilt count quit = Unit {0}
+IsBuilt count (subgoals on) = Unit {0}
+IsBuilt count abort = Unit {0}
+IsBuilt count (in_proof label c) = IsBuiltInProof count c
+IsBuilt count _ = ⊥

@@ -1,0 +1,44 @@
+//! The commands that are built.
+ghost use Rattle.std.specs.Prelude.{◌↔◌, IsTrue};
+ghost use Rattle.ab_syntax.specs.Commands.{proof_command_of, command_of};
+ghost use Rattle.ab_command.specs.Built.{IsBuilt, IsBuiltInProof};
+
+use crate::judging::holds_judgement;
+use ab_syntax::{Command, ProofCommand};
+
+/// Whether the proof command, which was read from so many tokens, is built.
+fn is_built_in_proof(command: &ProofCommand, count: usize) -> bool
+    ensures { IsTrue result ↔ IsBuiltInProof count (proof_command_of command.now) }
+{
+    match command {
+        ProofCommand::Intros(_)
+        | ProofCommand::Split
+        | ProofCommand::SplitAll
+        | ProofCommand::Left
+        | ProofCommand::Right
+        | ProofCommand::Case(_, _)
+        | ProofCommand::Clear(_)
+        | ProofCommand::Rename(_, _) => true,
+        ProofCommand::Exists(term) => !holds_judgement(term),
+        ProofCommand::Assert(formula) => !holds_judgement(formula),
+        ProofCommand::Search(_) => count == 2,
+        _ => false,
+    }
+}
+
+/// Whether the command, which was read from so many tokens, is built.
+pub(crate) fn is_built(command: &Command, count: usize) -> bool
+    ensures { IsTrue result ↔ IsBuilt count (command_of command.now) }
+{
+    match command {
+        Command::Kind(_)
+        | Command::Typed(_, _)
+        | Command::Show(_)
+        | Command::Quit
+        | Command::Subgoals(_)
+        | Command::Abort => true,
+        Command::Theorem(_, formula) => !holds_judgement(formula),
+        Command::InProof(_, command) => is_built_in_proof(command, count),
+        _ => false,
+    }
+}

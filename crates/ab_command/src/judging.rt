@@ -1,0 +1,28 @@
+//! Expressions in which a judgement stands.
+ghost use Rattle.std.specs.Prelude.{IsTrue, IsFalse};
+ghost use Rattle.ab_syntax.specs.Trees.{tree_of};
+ghost use Rattle.ab_command.specs.Judgements.{HasNoJudgement};
+
+use ab_syntax::Parse;
+
+/// Whether a judgement stands in the expression.
+pub fn holds_judgement(parse: &Parse) -> bool
+    ensures none { IsFalse result → HasNoJudgement (tree_of parse.now) }
+    ensures some { IsTrue result → HasNoJudgement (tree_of parse.now) → ⊥ }
+{
+    match parse {
+        Parse::Name(_, _) => false,
+        Parse::Apply(head, arguments, _) => {
+            for argument in arguments.as_slice() {
+                if holds_judgement(argument) {
+                    return true;
+                }
+            }
+            holds_judgement(head)
+        }
+        Parse::Abs(_, body, _) => holds_judgement(body),
+        Parse::Join(_, left, right, _) => holds_judgement(left) || holds_judgement(right),
+        Parse::Bind(_, _, body, _) => holds_judgement(body),
+        Parse::Judge(_, _, _, _) => true,
+    }
+}

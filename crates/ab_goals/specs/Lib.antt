@@ -1,0 +1,3 @@
+-- Goals whose variables go by their names, and what is printed of them.
+pub mod Goals
+pub mod Shown

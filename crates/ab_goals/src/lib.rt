@@ -1,0 +1,4 @@
+//! Goals whose variables go by their names, and what is printed of them.
+#![tactic(auto)]
+
+pub mod laws;

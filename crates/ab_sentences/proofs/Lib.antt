@@ -1,0 +1,4 @@
+pub mod Heads
+pub mod Standing
+pub mod Resolving
+pub mod Makings

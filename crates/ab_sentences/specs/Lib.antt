@@ -1,0 +1,2 @@
+-- Scopes in which an expression that reads as a formula says nothing of a goal.
+pub mod Closed

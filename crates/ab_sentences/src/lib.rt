@@ -1,0 +1,4 @@
+//! What an expression means at the type of formulas is a formula.
+#![tactic(auto)]
+
+pub mod laws;

@@ -1,0 +1,70 @@
+-- What a session answers to a command, over plain terms.
+use Rattle.std.specs.Prelude.{ℕ, List, Bool, true, false, None}
+use Rattle.ab_store.specs.Trees.{Read}
+use Rattle.ab_logic.specs.Worlds.{read, Holds}
+use Rattle.ab_logic.specs.declared.world.World.{World}
+use Rattle.ab_command.specs.declared.fault.Cause.{Cause}
+use Rattle.ab_command.specs.declared.fault.Cause.TheVariants as cause
+use Rattle.ab_effects.specs.Refusals as row
+use Rattle.ab_states.specs.declared.refusal.Place.{Place}
+use Rattle.ab_states.specs.declared.refusal.Refusal.{Refusal}
+use Rattle.ab_states.specs.declared.refusal.Refusal.TheVariants.{Syntax, TooNested, WrongPlace, NotBuilt, Unknown, Clash, TypeClash, Untyped, NoHypothesis, WrongShape, Mark, NoMatch, NotPattern, Unresolved, NamesSpent}
+use Rattle.ab_states.specs.declared.reply.Reply.{Reply as Kept}
+use Rattle.ab_states.specs.declared.reply.Reply.TheVariants.{Accepted, Completed, Shown, Quit, Refused}
+
+pub data Reply : Type 0 where
+  accepted : Reply
+  -- the last goal was closed: the theorem of this name is proved
+  completed : List ℕ → Reply
+  -- the theorem of this name has this formula
+  shown : List ℕ → Read → Reply
+  quit : Reply
+  refused : Refusal → Reply
+
+-- the reply that the program's stands for
+abbrev pub reply_of : World → Kept → Reply
+reply_of w Accepted = accepted
+reply_of w (Completed name) = completed name
+reply_of w (Shown name formula) = shown name (read w formula)
+reply_of w Quit = quit
+reply_of w (Refused r) = refused r
+
+-- what it names is there
+abbrev pub HoldsReply : World → Kept → Type 0
+HoldsReply w (Shown name formula) = Holds w formula
+HoldsReply w _ = Unit {0}
+
+abbrev pub is_refusal : Reply → Bool
+is_refusal (refused r) = true
+is_refusal _ = false
+
+-- whether a command with this reply is kept
+abbrev pub is_kept : Reply → Bool
+is_kept accepted = true
+is_kept (completed name) = true
+is_kept _ = false
+
+-- a place in the command itself
+abbrev pub here : ℕ → Place
+here n = record { at = n; file = None }
+
+-- the bytes say no command
+abbrev pub unread_for : Cause → Refusal
+unread_for (cause.Syntax p) = Syntax (here p)
+unread_for (cause.TooNested p) = TooNested (here p)
+unread_for cause.WrongPlace = WrongPlace
+unread_for cause.NotBuilt = NotBuilt
+
+-- a row of the proof commands refuses, or an expression means nothing
+abbrev pub refusal_for : row.Refusal → Refusal
+refusal_for (row.unknown x) = Unknown x None
+refusal_for (row.clash x) = Clash x None
+refusal_for (row.type_clash p) = TypeClash (here p)
+refusal_for (row.untyped p) = Untyped (here p)
+refusal_for (row.no_hypothesis x) = NoHypothesis x
+refusal_for row.wrong_shape = WrongShape
+refusal_for row.mark = Mark
+refusal_for row.no_match = NoMatch
+refusal_for (row.not_pattern i) = NotPattern i
+refusal_for (row.unresolved x) = Unresolved x
+refusal_for row.names_spent = NamesSpent

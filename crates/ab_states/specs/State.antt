@@ -1,0 +1,57 @@
+-- The state of a session: what was declared, the proof that is open, how goals are shown, and the commands that it keeps.
+use Rattle.std.specs.Prelude.{ℕ, List, [], ◌∷◌, ◌++◌, Bool, true, Option, Some, None, is_some}
+use Rattle.ab_types.specs.Entries.{first_entries}
+use Rattle.ab_store.specs.Trees.{Read}
+use Rattle.ab_logic.specs.Declarations.{Declarations}
+use Rattle.ab_logic.specs.Worlds.{declared}
+use Rattle.ab_goals.specs.Goals.{Goal}
+
+-- a proof that is being made: of which theorem, and the goals that are left of it, the current one first
+pub record Attempt : Type 0 where
+  pub name : List ℕ
+  pub formula : Read
+  pub goals : List Goal
+
+pub record State : Type 0 where
+  -- kinds, constants and theorems, in order, behind those that are built in
+  pub declarations : Declarations
+  pub attempt : Option Attempt
+  -- whether the goals behind the current one are shown
+  pub all_subgoals : Bool
+  -- the bytes of the commands that are kept, in order
+  pub kept : List (List ℕ)
+
+-- THE STATE IN WHICH A SESSION BEGINS
+abbrev pub empty : State
+empty = record { declarations = declared first_entries; attempt = None; all_subgoals = true; kept = [] }
+
+-- whether a proof is open
+abbrev pub is_open : State → Bool
+is_open s = is_some s.attempt
+
+-- one command more is kept
+abbrev pub keeping : List ℕ → State → State
+keeping bytes s = record s { kept = s.kept ++ bytes ∷ [] }
+
+-- these stand behind what was declared
+abbrev pub declaring : Declarations → State → State
+declaring more s = record s { declarations = s.declarations ++ more }
+
+-- a proof is open that has these goals left
+abbrev pub proving : Attempt → State → State
+proving a s = record s { attempt = Some a }
+
+-- no proof is open
+abbrev pub closed : State → State
+closed s = record s { attempt = None }
+
+abbrev pub showing : Bool → State → State
+showing all s = record s { all_subgoals = all }
+
+-- the goals of the proof that is open
+abbrev pub goals_left : Option Attempt → List Goal
+goals_left None = []
+goals_left (Some a) = a.goals
+
+abbrev pub goals_of : State → List Goal
+goals_of s = goals_left s.attempt

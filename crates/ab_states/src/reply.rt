@@ -1,0 +1,18 @@
+//! What a session answers to a command.
+
+use crate::refusal::Refusal;
+use ab_name::Name;
+use ab_store::TermId;
+
+/// What a session answers to a command.
+#[derive(Drop)]
+pub enum Reply {
+    Accepted,
+    /// The last goal was closed: the theorem of this name is proved.
+    Completed(Name),
+    /// The theorem of this name has this formula.
+    Shown(Name, TermId),
+    /// The script ends here.
+    Quit,
+    Refused(Refusal),
+}
