@@ -1,3 +1,2 @@
--- What a proof command leaves of a proof in progress.
-pub mod Progress
-pub mod Applied
+-- Which proof commands are built.
+pub mod Built

@@ -1,0 +1,7 @@
+//! Proof commands: what each does to the first open goal, by steps of the kernel alone.
+#![tactic(auto)]
+
+mod applying;
+
+pub use ab_progress::ProofCommandFault;
+pub use applying::{apply_proof_command, is_built};

@@ -1,0 +1,75 @@
+use Rattle.std.specs.Prelude.{IfOk}
+use Rattle.std.specs.Option.{option_copied}
+use Rattle.std.proofs.Common.{◌≡◌, ℕ, List, subst}
+use Rattle.ab_grammar.specs.CommandTrees as told
+use Rattle.ab_logic.specs.Names.{Label}
+use Rattle.ab_progress.specs.Applied.{IsApplied, IsRefused}
+use Rattle.ab_proofcmd.specs.Built.{given_label}
+use Rattle.ab_proofcmd.proofs.Answered.{at_label}
+use Rattle.ab_proofcmd.proofs.applying.apply_proof_command.Goals as goal
+
+pub returns-in-Intros-clause-applied : goal.returns-in-Intros-clause-applied
+returns-in-Intros-clause-applied g c =
+    let l = given_label (option_copied c.args.label) in
+    rw c.in-Intros.is
+    (subst (λ (xs : List (List ℕ)). IfOk c.intros.result (λ u. IsApplied l (told.intros xs) c.args.world.now c.args.proof.now c.intros.new.world c.intros.new.proof)) c.as_slice-given.ensures
+    (at_label (λ m. IsApplied m (told.intros c.as_slice-given.result.now) c.args.world.now c.args.proof.now c.intros.new.world c.intros.new.proof) c.intros.result l c.intros.ensures.applied))
+
+pub returns-in-Intros-clause-refused : goal.returns-in-Intros-clause-refused
+returns-in-Intros-clause-refused g c fault e =
+    let l = given_label (option_copied c.args.label) in
+    rw c.in-Intros.is
+    (subst (λ (xs : List (List ℕ)). IsRefused l (told.intros xs) c.args.world.now c.args.proof.now fault) c.as_slice-given.ensures (c.intros.ensures.refused fault e l))
+
+pub returns-in-Split-clause-applied : goal.returns-in-Split-clause-applied
+returns-in-Split-clause-applied g c =
+    let l = given_label (option_copied c.args.label) in
+    rw c.in-Split.is (at_label (λ m. IsApplied m told.split c.args.world.now c.args.proof.now c.split.new.world c.split.new.proof) c.split.result l c.split.ensures.applied)
+
+pub returns-in-Split-clause-refused : goal.returns-in-Split-clause-refused
+returns-in-Split-clause-refused g c fault e = rw c.in-Split.is (c.split.ensures.refused fault e (given_label (option_copied c.args.label)))
+
+pub returns-in-SplitAll-clause-applied : goal.returns-in-SplitAll-clause-applied
+returns-in-SplitAll-clause-applied g c =
+    let l = given_label (option_copied c.args.label) in
+    rw c.in-SplitAll.is (at_label (λ m. IsApplied m told.split_all c.args.world.now c.args.proof.now c.split_all.new.world c.split_all.new.proof) c.split_all.result l c.split_all.ensures.applied)
+
+pub returns-in-SplitAll-clause-refused : goal.returns-in-SplitAll-clause-refused
+returns-in-SplitAll-clause-refused g c fault e = rw c.in-SplitAll.is (c.split_all.ensures.refused fault e (given_label (option_copied c.args.label)))
+
+pub returns-in-Left-clause-applied : goal.returns-in-Left-clause-applied
+returns-in-Left-clause-applied g c =
+    let l = given_label (option_copied c.args.label) in
+    rw c.in-Left.is (at_label (λ m. IsApplied m told.left c.args.world.now c.args.proof.now c.left.new.world c.left.new.proof) c.left.result l c.left.ensures.applied)
+
+pub returns-in-Left-clause-refused : goal.returns-in-Left-clause-refused
+returns-in-Left-clause-refused g c fault e = rw c.in-Left.is (c.left.ensures.refused fault e (given_label (option_copied c.args.label)))
+
+pub returns-in-Right-clause-applied : goal.returns-in-Right-clause-applied
+returns-in-Right-clause-applied g c =
+    let l = given_label (option_copied c.args.label) in
+    rw c.in-Right.is (at_label (λ m. IsApplied m told.right c.args.world.now c.args.proof.now c.right.new.world c.right.new.proof) c.right.result l c.right.ensures.applied)
+
+pub returns-in-Right-clause-refused : goal.returns-in-Right-clause-refused
+returns-in-Right-clause-refused g c fault e = rw c.in-Right.is (c.right.ensures.refused fault e (given_label (option_copied c.args.label)))
+
+pub returns-in-Clear-clause-applied : goal.returns-in-Clear-clause-applied
+returns-in-Clear-clause-applied g c =
+    let l = given_label (option_copied c.args.label) in
+    rw c.in-Clear.is
+    (subst (λ (xs : List (List ℕ)). IfOk c.clear.result (λ u. IsApplied l (told.clear xs) c.args.world.now c.args.proof.now c.clear.new.world c.clear.new.proof)) c.as_slice-gone.ensures
+    (at_label (λ m. IsApplied m (told.clear c.as_slice-gone.result.now) c.args.world.now c.args.proof.now c.clear.new.world c.clear.new.proof) c.clear.result l c.clear.ensures.applied))
+
+pub returns-in-Clear-clause-refused : goal.returns-in-Clear-clause-refused
+returns-in-Clear-clause-refused g c fault e =
+    let l = given_label (option_copied c.args.label) in
+    rw c.in-Clear.is
+    (subst (λ (xs : List (List ℕ)). IsRefused l (told.clear xs) c.args.world.now c.args.proof.now fault) c.as_slice-gone.ensures (c.clear.ensures.refused fault e l))
+
+pub returns-in-Rename-clause-applied : goal.returns-in-Rename-clause-applied
+returns-in-Rename-clause-applied g c =
+    let l = given_label (option_copied c.args.label) in
+    rw c.in-Rename.is (at_label (λ m. IsApplied m (told.rename c.in-Rename.name c.in-Rename.to) c.args.world.now c.args.proof.now c.rename.new.world c.rename.new.proof) c.rename.result l c.rename.ensures.applied)
+
+pub returns-in-Rename-clause-refused : goal.returns-in-Rename-clause-refused
+returns-in-Rename-clause-refused g c fault e = rw c.in-Rename.is (c.rename.ensures.refused fault e (given_label (option_copied c.args.label)))

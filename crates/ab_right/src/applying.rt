@@ -1,0 +1,86 @@
+//! A proof command is carried out.
+ghost use Rattle.std.specs.Prelude.{◌≡◌, ◌≢◌, ◌↔◌, [], Err, IfOk, OnErr, IsTrue};
+ghost use Rattle.std.specs.Option.{option_copied};
+ghost use Rattle.ab_syntax.specs.Commands.{proof_command_of};
+ghost use Rattle.ab_logic.specs.Worlds.{IsWorld};
+ghost use Rattle.ab_kernel.specs.Layout.{history_of, IsProof};
+ghost use Rattle.ab_progress.specs.Applied.{IsApplied, IsRefused};
+ghost use Rattle.ab_progress.specs.Progress.{goals_of, Follows};
+ghost use Rattle.ab_progress.specs.declared.fault.ProofCommandFault.{ProofCommandFault as AFault};
+ghost use Rattle.ab_proofcmd.specs.Built.{given_label, IsBuilt};
+
+use ab_kernel::Proof;
+use ab_left::{clear, rename};
+use ab_logic::World;
+use ab_progress::ProofCommandFault;
+use ab_right::{intros, left, right, split, split_all};
+use ab_syntax::ProofCommand;
+use ab_types::{Name, Steps};
+use std::alloc::Global;
+
+/// Whether the command is built. What isn't may not be carried out.
+pub fn is_built(command: &ProofCommand) -> bool
+    ensures { IsTrue result ↔ IsBuilt (proof_command_of command.now) }
+{
+    match command {
+        ProofCommand::Intros(_)
+        | ProofCommand::Split
+        | ProofCommand::SplitAll
+        | ProofCommand::Left
+        | ProofCommand::Right
+        | ProofCommand::Clear(_)
+        | ProofCommand::Rename(_, _) => true,
+        ProofCommand::Induction(_)
+        | ProofCommand::Coinduction
+        | ProofCommand::Case(_, _)
+        | ProofCommand::Apply(_, _, _)
+        | ProofCommand::Backchain(_, _)
+        | ProofCommand::Cut(_, _)
+        | ProofCommand::Inst(_, _)
+        | ProofCommand::Monotone(_, _)
+        | ProofCommand::Search(_)
+        | ProofCommand::Exists(_)
+        | ProofCommand::Unfold
+        | ProofCommand::Assert(_)
+        | ProofCommand::Permute(_, _) => false,
+    }
+}
+
+/// Carries out a proof command at the first open goal, with the label before it. The premises of the command's row take
+/// that goal's place. What is refused leaves the proof as it was.
+pub fn apply_proof_command<L>(
+    alloc: Global,
+    world: &mut World,
+    proof: &mut Proof,
+    label: Option<&Name>,
+    command: &ProofCommand,
+    steps: &mut Steps<L>,
+) -> Result<(), ProofCommandFault>
+    requires world { IsWorld world.old }
+    requires proof { IsProof world.old proof.old }
+    requires open { goals_of world.old proof.old ≢ [] }
+    requires built { IsBuilt (proof_command_of command.now) }
+    ensures follows { Follows world.old proof.old world.new proof.new }
+    ensures applied { IfOk result (λ u. IsApplied (given_label (option_copied label.entry)) (proof_command_of command.now) world.old proof.old world.new proof.new) }
+    ensures refused { (fault : AFault) → result ≡ Err fault →
+        IsRefused (given_label (option_copied label.entry)) (proof_command_of command.now) world.old proof.old fault }
+    ensures unchanged { OnErr result (history_of world.new proof.new ≡ history_of world.old proof.old) }
+{
+    let _ = label;
+    match command {
+        ProofCommand::Intros(names) => {
+            let given = names.as_slice();
+            intros(alloc, world, proof, given, steps)
+        }
+        ProofCommand::Split => split(world, proof, steps),
+        ProofCommand::SplitAll => split_all(world, proof, steps),
+        ProofCommand::Left => left(world, proof, steps),
+        ProofCommand::Right => right(world, proof, steps),
+        ProofCommand::Clear(names) => {
+            let gone = names.as_slice();
+            clear(alloc, world, proof, gone, steps)
+        }
+        ProofCommand::Rename(name, to) => rename(alloc, world, proof, name, to, steps),
+        _ => unreachable!(),
+    }
+}
