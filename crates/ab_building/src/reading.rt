@@ -1,6 +1,6 @@
 //! What is read of a row of steps: a term in normal form, or that there is no reading, or several.
 ghost use Rattle.std.specs.Prelude.{◌≡◌, ℕ, ◌+◌, ◌<◌, ◌≤◌, ◌^◌, [], ◌∷◌, List, length, get_or, take, IfOk, All};
-ghost use Rattle.ab_types.specs.Entries.{signature, IsExtendedBy as IsPartOf};
+ghost use Rattle.ab_types.specs.Entries.{kinds, constants, signature, IsExtendedBy as IsPartOf};
 ghost use Rattle.ab_types.specs.Ids.{HoldsType, type_of};
 ghost use Rattle.ab_types.specs.Sound.{IsTable};
 ghost use Rattle.ab_store.specs.declared.node.Head.TheVariants.{Nominal};
@@ -113,6 +113,8 @@ pub fn read_steps<L>(
         Runs (items_of types.old store.old.cells names steps.now) [] (k ∷ []) → Fit names [] 0 k → base ≡ count_of k →
         AreApart names → AreNumbers names numbers.now → marks_in marks.now ≡ marks_of k →
         IsOutcome types.new store.new (erase k) (type_of types.old expected) outcome) }
+    ensures kinds { kinds types.new ≡ kinds types.old }
+    ensures constants { constants types.new ≡ constants types.old }
     ensures kept { IsPartOf types.old types.new }
     ensures table { IsTable types.new }
     ensures adds { AddsTypedTerms types.new store.old store.new }

@@ -3,7 +3,7 @@ use Rattle.std.proofs.Common.{◌≡◌, ◌≢◌, not, ◌⊎◌, inl, inr, �
 use Rattle.std.specs.Prelude.{Result, Ok, Err, Contains, codes, bytes_eq, ◌||◌, ◌&&◌}
 use Rattle.std.specs.Cmp.Lexicographic.{bytes_decides}
 use Rattle.ab_term.specs.Types.{Ty, kind, arrow, prop}
-use Rattle.ab_types.specs.Entries.{Table, kinds, constants, a_kind, a_type, a_constant, FindsOrAdds, IsExtendedBy}
+use Rattle.ab_types.specs.Entries.{Table, kinds, IsExtendedBy}
 use Rattle.ab_types.specs.Ids.{HoldsType, type_of}
 use Rattle.ab_types.specs.declared.ids.TypeId.{TypeId}
 use Rattle.ab_types.proofs.Entries.{extended_twice}
@@ -60,26 +60,6 @@ kind_unknown ks x p n = go (is_listed ks x) refl
     go : (b : Bool) → is_listed ks x ≡ b → written_type ks (tree.base x p) ≡ Err x
     go true e = absurd (n (contained ks x e))
     go false e = rw e
-
-pub kinds_stay : (t : Table) (A : Ty) → kinds (t ++ a_type A ∷ []) ≡ kinds t
-kinds_stay [] A = refl
-kinds_stay (a_kind k ∷ t) A = ap (λ ks. k ∷ ks) (kinds_stay t A)
-kinds_stay (a_type B ∷ t) A = kinds_stay t A
-kinds_stay (a_constant c ∷ t) A = kinds_stay t A
-
-pub same_kinds : (t new : Table) (A : Ty) → FindsOrAdds t (a_type A) new → kinds new ≡ kinds t
-same_kinds t new A (inl h) = ap kinds h.1
-same_kinds t new A (inr h) = ap kinds h.1 ∙ kinds_stay t A
-
-constants_stay : (t : Table) (A : Ty) → constants (t ++ a_type A ∷ []) ≡ constants t
-constants_stay [] A = refl
-constants_stay (a_kind k ∷ t) A = constants_stay t A
-constants_stay (a_type B ∷ t) A = constants_stay t A
-constants_stay (a_constant c ∷ t) A = ap (λ cs. c ∷ cs) (constants_stay t A)
-
-pub same_constants : (t new : Table) (A : Ty) → FindsOrAdds t (a_type A) new → constants new ≡ constants t
-same_constants t new A (inl h) = ap constants h.1
-same_constants t new A (inr h) = ap constants h.1 ∙ constants_stay t A
 
 -- a kind
 pub kind_answer : (old new : Table) (x : List ℕ) (is_free : Bool) (id : TypeId) → (¬ (¬ Contains (kinds old) x)) → HoldsType new id → type_of new id ≡ kind x → is_free ≡ not (bytes_eq x (codes "prop"))

@@ -1,7 +1,7 @@
 //! Whether an expression has one reading, none, or several.
 ghost use Rattle.std.specs.Prelude.{◌≡◌, ℕ, ◌+◌, ◌<◌, ◌^◌, ◌∷◌, [], List, length, true, false, IfOk, All, OnOk, MatchOption};
 ghost use Rattle.ab_term.specs.Types as plain;
-ghost use Rattle.ab_types.specs.Entries.{IsExtendedBy};
+ghost use Rattle.ab_types.specs.Entries.{kinds, constants, IsExtendedBy};
 ghost use Rattle.ab_types.specs.Ids.{HoldsType, type_of};
 ghost use Rattle.ab_types.specs.Sound.{IsTable};
 ghost use Rattle.ab_store.specs.declared.node.CellEntry.{CellEntry};
@@ -112,6 +112,8 @@ pub fn decide(
         Runs (items_of types.old cells names steps.now) [] (k ∷ []) → Fit names [] 0 k → base ≡ count k → frees ≡ length names → AreApart names → marks_in marks.now ≡ marks_of k →
         IsVerdict types.new made base k (type_of types.old expected) verdict) }
     ensures found { IfOk result (HasTypesFound types.new (base + frees)) }
+    ensures kinds { kinds types.new ≡ kinds types.old }
+    ensures constants { constants types.new ≡ constants types.old }
     ensures kept { IsExtendedBy types.old types.new }
     ensures table { IsTable types.new }
 {

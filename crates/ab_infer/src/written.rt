@@ -32,6 +32,7 @@ pub fn read_type(
     ensures kinds { kinds types.new ≡ kinds types.old }
     ensures constants { constants types.new ≡ constants types.old }
     ensures kept { IsExtendedBy types.old types.new }
+    ensures table { IsTable types.new }
 {
     let written = match read_written(alloc, types, parse) {
         Ok(written) => written,
@@ -64,6 +65,7 @@ pub fn read_written(
     ensures kinds { kinds types.new ≡ kinds types.old }
     ensures constants { constants types.new ≡ constants types.old }
     ensures kept { IsExtendedBy types.old types.new }
+    ensures table { IsTable types.new }
 {
     match parse {
         TypeParse::Base(name, _) => {
@@ -102,6 +104,7 @@ fn read_kind(alloc: Global, types: &mut TypeTable, name: &Name) -> Result<Writte
     ensures kinds { kinds types.new ≡ kinds types.old }
     ensures constants { constants types.new ≡ constants types.old }
     ensures kept { IsExtendedBy types.old types.new }
+    ensures table { IsTable types.new }
 {
     let is_free = !is_prop(name);
     match types.base(name) {

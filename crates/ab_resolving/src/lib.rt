@@ -1,4 +1,4 @@
-//! The names of an expression: what each stands for in a scope.
+//! The names of an expression: what each stands for, in a scope and under bound names.
 #![tactic(auto)]
 
 mod naming;

@@ -1,7 +1,7 @@
 -- What is known of variables, read in a longer table.
-use Rattle.std.proofs.Common.{◌≡◌, ℕ, ◌<◌, List, length, get_or, sym, ◌∙◌, ap, subst}
+use Rattle.std.proofs.Common.{◌≡◌, ℕ, ◌<◌, List, [], ◌∷◌, ◌++◌, length, get_or, refl, sym, ◌∙◌, ap, subst, inl, inr}
 use Rattle.ab_term.specs.Types.{Ty}
-use Rattle.ab_types.specs.Entries.{Table, IsExtendedBy}
+use Rattle.ab_types.specs.Entries.{Table, kinds, constants, a_kind, a_type, a_constant, FindsOrAdds, IsExtendedBy}
 use Rattle.ab_types.specs.Ids.{HoldsType, type_of}
 use Rattle.ab_types.specs.declared.ids.TypeId.{TypeId}
 use Rattle.ab_types.proofs.Entries.{holds_type, same_type}
@@ -43,3 +43,24 @@ module _ (old new : Table) (more : IsExtendedBy old new) where
 
     pub solves_back : (v : Assignment) → Solves new v shapes → Solves old v shapes
     solves_back v h = record { at = λ i l. fits_back v (v i) (shape_at shapes i) (held.held i) (h.at i l) }
+
+-- a type that is found or added changes neither kinds nor constants
+kinds_stay : (t : Table) (A : Ty) → kinds (t ++ a_type A ∷ []) ≡ kinds t
+kinds_stay [] A = refl
+kinds_stay (a_kind k ∷ t) A = ap (λ ks. k ∷ ks) (kinds_stay t A)
+kinds_stay (a_type B ∷ t) A = kinds_stay t A
+kinds_stay (a_constant c ∷ t) A = kinds_stay t A
+
+pub same_kinds : (t new : Table) (A : Ty) → FindsOrAdds t (a_type A) new → kinds new ≡ kinds t
+same_kinds t new A (inl h) = ap kinds h.1
+same_kinds t new A (inr h) = ap kinds h.1 ∙ kinds_stay t A
+
+constants_stay : (t : Table) (A : Ty) → constants (t ++ a_type A ∷ []) ≡ constants t
+constants_stay [] A = refl
+constants_stay (a_kind k ∷ t) A = constants_stay t A
+constants_stay (a_type B ∷ t) A = constants_stay t A
+constants_stay (a_constant c ∷ t) A = ap (λ cs. c ∷ cs) (constants_stay t A)
+
+pub same_constants : (t new : Table) (A : Ty) → FindsOrAdds t (a_type A) new → constants new ≡ constants t
+same_constants t new A (inl h) = ap constants h.1
+same_constants t new A (inr h) = ap constants h.1 ∙ constants_stay t A

@@ -1,7 +1,7 @@
 //! Whether types solve the equations, and which: one walk over the variables, each after those that it is made of.
 ghost use Rattle.std.specs.Prelude.{◌≡◌, ℕ, ◌<◌, ◌↔◌, length, true, false, IfOk, OnOk, OnErr, MatchOption, ⊤};
 ghost use Rattle.ab_term.specs.Types.{o};
-ghost use Rattle.ab_types.specs.Entries.{IsExtendedBy};
+ghost use Rattle.ab_types.specs.Entries.{kinds, constants, IsExtendedBy};
 ghost use Rattle.ab_types.specs.Ids.{HoldsType, type_of};
 ghost use Rattle.ab_types.specs.Sound.{IsTable};
 ghost use Rattle.ab_solving.specs.declared.settling.Mark.TheVariants.{Done, Unseen as NotSeen};
@@ -88,6 +88,8 @@ fn finish(
     requires parts { PartsDone marks.now (shape_at shapes.now i) }
     ensures held { IfOk result (λ s. HoldsType types.new s.ty) }
     ensures finishes { IfOk result (λ s. Finishes types.old types.new marks.now (shape_at shapes.now i) s) }
+    ensures kinds { kinds types.new ≡ kinds types.old }
+    ensures constants { constants types.new ≡ constants types.old }
     ensures kept { IsExtendedBy types.old types.new }
     ensures table { IsTable types.new }
 {
@@ -128,6 +130,8 @@ fn settle(
     requires unseen { mark_at marks.old i ≡ NotSeen }
     ensures settled { IfOk result (λ yes. yes ≡ true → IsSettled types.new shapes.now marks.old marks.new i) }
     ensures none { IfOk result (λ yes. yes ≡ false → HasNoSolution types.old shapes.now) }
+    ensures kinds { kinds types.new ≡ kinds types.old }
+    ensures constants { constants types.new ≡ constants types.old }
     ensures kept { IsExtendedBy types.old types.new }
     ensures table { IsTable types.new }
 {
@@ -167,6 +171,8 @@ pub fn solve(
     requires formed { AreFormed shapes.now }
     requires held { AreHeld types.old shapes.now }
     ensures solved { IfOk result (λ found. MatchOption found (HasNoSolution types.old shapes.now) (λ s. Solved types.old types.new shapes.now s.items)) }
+    ensures kinds { kinds types.new ≡ kinds types.old }
+    ensures constants { constants types.new ≡ constants types.old }
     ensures kept { IsExtendedBy types.old types.new }
     ensures table { IsTable types.new }
 {
@@ -197,6 +203,8 @@ fn settle_once(
     requires idle { AreIdle marks.old }
     ensures settled { IfOk result (λ yes. yes ≡ true → IsSettled types.new shapes.now marks.old marks.new i) }
     ensures none { IfOk result (λ yes. yes ≡ false → HasNoSolution types.old shapes.now) }
+    ensures kinds { kinds types.new ≡ kinds types.old }
+    ensures constants { constants types.new ≡ constants types.old }
     ensures kept { IsExtendedBy types.old types.new }
     ensures table { IsTable types.new }
 {

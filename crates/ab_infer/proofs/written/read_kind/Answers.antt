@@ -3,7 +3,8 @@ use Rattle.ab_infer.specs.WrittenTypes.{KindAnswers}
 use Rattle.std.specs.Prelude.{Err}
 use Rattle.ab_types.specs.declared.fault.TableFault.TheVariants.{UnknownKind}
 use Rattle.ab_infer.specs.declared.fault.InferFault.TheVariants.{Unknown}
-use Rattle.ab_infer.proofs.WrittenTyping.{kind_answer, kind_none, same_kinds, same_constants}
+use Rattle.ab_infer.proofs.WrittenTyping.{kind_answer, kind_none}
+use Rattle.ab_solving.proofs.Tables.{same_kinds, same_constants}
 use Rattle.ab_infer.proofs.written.read_kind.Goals as goal
 
 pub returns-in-Ok-clause-answer : goal.returns-in-Ok-clause-answer

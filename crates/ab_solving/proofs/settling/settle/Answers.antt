@@ -1,4 +1,4 @@
-use Rattle.std.proofs.Common.{◌≡◌, ◌++◌, [], ◌∷◌, length, sym, ◌∙◌, ap, subst, arith}
+use Rattle.std.proofs.Common.{◌≡◌, ◌++◌, [], ◌∷◌, length, refl, sym, ◌∙◌, ap, subst, arith}
 use Rattle.std.proofs.lemmas.List.{length-append}
 use Rattle.ab_solving.specs.declared.settling.Mark.TheVariants.{Done}
 use Rattle.ab_solving.proofs.Tables.{still_held, same_reading}
@@ -10,18 +10,22 @@ pub loop-top-init : goal.loop-top-init
 loop-top-init c = let r = c.requires in
     let e = c.in_ok-push.ensures.items in
     let f : c.push.new.self.items ≡ c.args.i ∷ [] = e ∙ ap (λ xs. xs ++ c.args.i ∷ []) c.new-path.ensures.items in
-    subst (Path c.args.types.now c.args.types.now c.args.shapes.now _ _) (sym f) (path_begins c.args.types.now c.args.shapes.now c.args.marks.now c.args.i r.table r.i_in r.unseen r.settling r.idle)
+    record {
+      path = subst (Path c.args.types.now c.args.types.now c.args.shapes.now _ _) (sym f) (path_begins c.args.types.now c.args.shapes.now c.args.marks.now c.args.i r.table r.i_in r.unseen r.settling r.idle);
+      kinds = refl;
+      constants = refl;
+    }
 
 pub finish-requires-clause-filler_held : goal.finish-requires-clause-filler_held
-finish-requires-clause-filler_held c = still_held c.args.types.now c.loop-top.types c.loop-top.invariant.more c.args.filler c.requires.filler_held
+finish-requires-clause-filler_held c = still_held c.args.types.now c.loop-top.types c.loop-top.invariant.path.more c.args.filler c.requires.filler_held
 
 pub finish-requires-clause-filler : goal.finish-requires-clause-filler
-finish-requires-clause-filler c = same_reading c.args.types.now c.loop-top.types c.loop-top.invariant.more c.args.filler c.requires.filler_held ∙ c.requires.filler
+finish-requires-clause-filler c = same_reading c.args.types.now c.loop-top.types c.loop-top.invariant.path.more c.args.filler c.requires.filler_held ∙ c.requires.filler
 
 pub loop-top-smaller-in-None : goal.loop-top-smaller-in-None
 loop-top-smaller-in-None c =
     let popped = rw c.in-Some.is at c.pop.ensures.items in
-    let p = c.loop-top.invariant in
+    let p = c.loop-top.invariant.path in
     let m = top_marked c.args.types.now c.loop-top.types c.args.shapes.now _ c.loop-top.marks c.loop-top.path.items c.pop.new.self.items c.in-Some.top c.requires.formed p popped in
     let n = unseen_no_more c.loop-top.marks c.in-Some.top c.in_ok-settled-in-None.settled m in
     let l = ap length popped ∙ length-append c.pop.new.self.items (c.in-Some.top ∷ []) in
@@ -30,35 +34,39 @@ loop-top-smaller-in-None c =
 pub loop-top-preserved-in-None : goal.loop-top-preserved-in-None
 loop-top-preserved-in-None c =
     let popped = rw c.in-Some.is at c.pop.ensures.items in
-    let p = c.loop-top.invariant in
+    let p = c.loop-top.invariant.path in
     let t = top_in c.args.types.now c.loop-top.types c.args.shapes.now _ c.loop-top.marks c.loop-top.path.items c.pop.new.self.items c.in-Some.top c.requires.formed p popped in
     let a = top_active c.args.types.now c.loop-top.types c.args.shapes.now _ c.loop-top.marks c.loop-top.path.items c.pop.new.self.items c.in-Some.top c.requires.formed p popped in
     let f = c.in_ok-settled-in-None.ensures in
-    path_shortens c.args.types.now c.loop-top.types c.args.shapes.now _ c.loop-top.marks c.loop-top.path.items c.pop.new.self.items c.in-Some.top c.requires.formed p popped
+    let q = path_shortens c.args.types.now c.loop-top.types c.args.shapes.now _ c.loop-top.marks c.loop-top.path.items c.pop.new.self.items c.in-Some.top c.requires.formed p popped
     c.finish.new.types c.in_ok-settled-in-None.settled c.finish.ensures.table c.finish.ensures.kept
     (finished c.loop-top.types c.finish.new.types c.args.shapes.now c.loop-top.marks c.in-Some.top c.in_ok-settled-in-None.settled c.finish.ensures.kept p.settling c.requires.formed t
-    (λ r e. active_is_not_done r (sym a ∙ e)) f.held c.in-None.ensures.part f.finishes)
+    (λ r e. active_is_not_done r (sym a ∙ e)) f.held c.in-None.ensures.part f.finishes) in
+    record { path = q; kinds = c.finish.ensures.kinds ∙ c.loop-top.invariant.kinds; constants = c.finish.ensures.constants ∙ c.loop-top.invariant.constants }
 
 pub loop-top-preserved : goal.loop-top-preserved
 loop-top-preserved c =
     let popped = rw c.in-Some.is at c.pop.ensures.items in
-    let p = c.loop-top.invariant in
+    let p = c.loop-top.invariant.path in
     let j = c.in-Some-next_part.part in
     let one = c.in_ok-push-in-Unseen.ensures.items in
     let two = c.in_ok-push-in-Unseen-2.ensures.items in
     let same : c.push-in-Unseen-2.new.self.items ≡ c.loop-top.path.items ++ j ∷ [] = two ∙ ap (λ xs. xs ++ j ∷ []) (one ∙ sym popped) in
-    subst (Path c.args.types.now c.loop-top.types c.args.shapes.now _ _) (sym same)
+    let q = subst (Path c.args.types.now c.loop-top.types c.args.shapes.now _ _) (sym same)
     (path_grows c.args.types.now c.loop-top.types c.args.shapes.now _ c.loop-top.marks c.loop-top.path.items c.pop.new.self.items c.in-Some.top c.requires.formed p popped
-    j c.in-Some-next_part.ensures.within c.in-Some-next_part.ensures.part.part c.in-Unseen.is)
+    j c.in-Some-next_part.ensures.within c.in-Some-next_part.ensures.part.part c.in-Unseen.is) in
+    record { path = q; kinds = c.loop-top.invariant.kinds; constants = c.loop-top.invariant.constants }
 
 pub returns-in-Active : goal.returns-in-Active
 returns-in-Active c =
     let popped = rw c.in-Some.is at c.pop.ensures.items in
-    let p = c.loop-top.invariant in
+    let p = c.loop-top.invariant.path in
     record {
       settled = λ no. absurd (cc);
       none = λ _. path_turns_back c.args.types.now c.loop-top.types c.args.shapes.now _ c.loop-top.marks c.loop-top.path.items c.pop.new.self.items c.in-Some.top c.requires.formed p popped
           c.in-Some-next_part.part c.in-Some-next_part.ensures.within c.in-Some-next_part.ensures.part.part c.in-Active.is c.requires.settling.held;
+      kinds = c.loop-top.invariant.kinds;
+      constants = c.loop-top.invariant.constants;
       kept = p.more;
       table = p.table;
     }
@@ -66,4 +74,4 @@ returns-in-Active c =
 pub returns-clause-settled : goal.returns-clause-settled
 returns-clause-settled c = λ _.
     let r = c.requires in
-    path_ends c.args.types.now c.loop-top.types c.args.shapes.now c.args.marks.now c.loop-top.marks c.loop-top.path.items c.args.i r.i_in r.settling.len c.loop-top.invariant (nothing_left c.loop-top.path.items (omega (arith, c.in_default.ensures.cases, c.loop-top.path.ok.0)))
+    path_ends c.args.types.now c.loop-top.types c.args.shapes.now c.args.marks.now c.loop-top.marks c.loop-top.path.items c.args.i r.i_in r.settling.len c.loop-top.invariant.path (nothing_left c.loop-top.path.items (omega (arith, c.in_default.ensures.cases, c.loop-top.path.ok.0)))

@@ -9,17 +9,21 @@ use Rattle.ab_solving.proofs.settling.solve.Goals as goal
 pub loop-i-init : goal.loop-i-init
 loop-i-init c =
     let b = c.in_ok-marks.ensures.items_if_clones_equal (λ y e. e) in
-    rw b (walking_begins c.args.types.now c.args.shapes.now (length c.args.shapes.now) c.requires.table c.requires.held refl)
+    record {
+      walking = rw b (walking_begins c.args.types.now c.args.shapes.now (length c.args.shapes.now) c.requires.table c.requires.held refl);
+      kinds = refl;
+      constants = refl;
+    }
 
 pub settle_once-requires-clause-filler_held : goal.settle_once-requires-clause-filler_held
-settle_once-requires-clause-filler_held c = still_held c.args.types.now c.loop-i.types c.loop-i.invariant.more c.args.filler c.requires.filler_held
+settle_once-requires-clause-filler_held c = still_held c.args.types.now c.loop-i.types c.loop-i.invariant.walking.more c.args.filler c.requires.filler_held
 
 pub settle_once-requires-clause-filler : goal.settle_once-requires-clause-filler
-settle_once-requires-clause-filler c = same_reading c.args.types.now c.loop-i.types c.loop-i.invariant.more c.args.filler c.requires.filler_held ∙ c.requires.filler
+settle_once-requires-clause-filler c = same_reading c.args.types.now c.loop-i.types c.loop-i.invariant.walking.more c.args.filler c.requires.filler_held ∙ c.requires.filler
 
 pub returns-then-not-branch-clause-solved : goal.returns-then-not-branch-clause-solved
 returns-then-not-branch-clause-solved c =
-    none_walked c.args.types.now c.loop-i.types c.args.shapes.now c.loop-i.marks.items c.loop-i.i c.requires.held c.loop-i.invariant (c.in_ok-settle_once.ensures.none c.if-not-branch.true)
+    none_walked c.args.types.now c.loop-i.types c.args.shapes.now c.loop-i.marks.items c.loop-i.i c.requires.held c.loop-i.invariant.walking (c.in_ok-settle_once.ensures.none c.if-not-branch.true)
 
 written : {X : Type 0} (n : ℕ) (xs ys : List X) → n ≡ length ys → length xs ≡ length ys → take n (xs ++ drop (length xs) ys) ≡ xs
 written n xs ys e l = take_at xs (drop (length xs) ys) n (omega arith)
@@ -32,13 +36,18 @@ loop-i-preserved c =
     subst (λ m. IsSettled c.settle_once.new.types s m c.settle_once.new.marks c.loop-i.i) d.value (c.in_ok-settle_once.ensures.settled c.if-not-branch.false) in
     let w : take c.loop-i.marks.len (c.settle_once.new.marks ++ drop (length c.settle_once.new.marks) c.loop-i.marks.items) ≡ c.settle_once.new.marks =
     written c.loop-i.marks.len c.settle_once.new.marks c.loop-i.marks.items c.loop-i.marks.ok.0 (omega (arith, c.settle_once.auto.marks, d.len, c.loop-i.marks.ok.0)) in
-    rw w (walking_more c.args.types.now c.loop-i.types c.settle_once.new.types s c.loop-i.marks.items c.settle_once.new.marks c.loop-i.i (omega (arith, c.loop-i-test.true)) c.loop-i.invariant c.settle_once.ensures.kept c.settle_once.ensures.table h)
+    let more = walking_more c.args.types.now c.loop-i.types c.settle_once.new.types s c.loop-i.marks.items c.settle_once.new.marks c.loop-i.i (omega (arith, c.loop-i-test.true)) c.loop-i.invariant.walking c.settle_once.ensures.kept c.settle_once.ensures.table h in
+    record {
+      walking = rw w more;
+      kinds = c.settle_once.ensures.kinds ∙ c.loop-i.invariant.kinds;
+      constants = c.settle_once.ensures.constants ∙ c.loop-i.invariant.constants;
+    }
 
 pub collected-requires-clause-done : goal.collected-requires-clause-done
-collected-requires-clause-done c = λ k l. subst (λ m. IsDone m k) (sym c.deref.ensures.value) (c.loop-i.invariant.walked.done k (omega (arith, c.loop-i-test.false, c.loop-i.auto.i-end)))
+collected-requires-clause-done c = λ k l. subst (λ m. IsDone m k) (sym c.deref.ensures.value) (c.loop-i.invariant.walking.walked.done k (omega (arith, c.loop-i-test.false, c.loop-i.auto.i-end)))
 
 pub returns-clause-solved : goal.returns-clause-solved
 returns-clause-solved c =
     let f = c.in_ok-collected.ensures in
-    all_walked c.args.types.now c.loop-i.types c.args.shapes.now c.loop-i.marks.items c.loop-i.i c.requires.held c.loop-i.invariant (omega (arith, c.loop-i-test.false, c.loop-i.auto.i-end))
+    all_walked c.args.types.now c.loop-i.types c.args.shapes.now c.loop-i.marks.items c.loop-i.i c.requires.held c.loop-i.invariant.walking (omega (arith, c.loop-i-test.false, c.loop-i.auto.i-end))
     c.in_ok-collected.field-0.items f.len (λ k l. subst (λ m. mark_at m k ≡ Done (settled_at c.in_ok-collected.field-0.items k)) c.deref.ensures.value (f.found k l))

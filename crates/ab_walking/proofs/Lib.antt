@@ -1,0 +1,10 @@
+pub mod Lists
+pub mod Growing
+pub mod Single
+pub mod Over
+pub mod Resolving
+pub mod Grounds
+pub mod Wholes
+pub mod Connectives
+pub mod Naming
+pub mod Cases

@@ -1,0 +1,3 @@
+-- What a walk over an expression makes of it.
+pub mod Rows
+pub mod Walking
