@@ -11,9 +11,9 @@ first_fault-requires-clause-block c =
     let types = c.args.types.now in
     let store = c.args.store.now in
     let first : HoldsClause types store c.without_variables-first.result = subst (HoldsClause types store) (sym c.without_variables-first.ensures)
-        (record { variables = All-nil (HoldsCell store); head = c.requires.atom; body = c.requires.atom }) in
+    (record { variables = All-nil (HoldsCell store); head = c.requires.atom; body = c.requires.atom }) in
     let second : HoldsClause types store c.without_variables-second.result = subst (HoldsClause types store) (sym c.without_variables-second.ensures)
-        (record { variables = All-nil (HoldsCell store); head = c.chosen-head.ensures store c.requires.arrow c.requires.atom; body = c.chosen-body.ensures store c.requires.arrow c.requires.atom }) in
+    (record { variables = All-nil (HoldsCell store); head = c.chosen-head.ensures store c.requires.arrow c.requires.atom; body = c.chosen-body.ensures store c.requires.arrow c.requires.atom }) in
     record {
       predicates = subst (All (HoldsConstant types)) (sym (c.from_vec.ensures ∙ c.in_ok-predicates.ensures.items)) (All-cons (HoldsConstant types) c.args.p [] c.requires.p (All-nil (HoldsConstant types)));
       clauses = subst (All (HoldsClause types store)) (sym (c.from_vec-2.ensures ∙ c.in_ok-clauses.ensures.items))
