@@ -1,2 +1,3 @@
--- Which proof commands are built.
-pub mod Built
+-- What a proof command leaves of a proof in progress.
+pub mod Progress
+pub mod Applied

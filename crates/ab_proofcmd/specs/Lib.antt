@@ -1,0 +1,2 @@
+-- Which proof commands are built.
+pub mod Built
