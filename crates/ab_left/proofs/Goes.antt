@@ -1,32 +1,31 @@
 -- From what a step did to a goal: what the call that took it leaves.
 use Rattle.std.specs.Prelude.{All, map}
-use Rattle.std.proofs.Common.{◌≡◌, ◌≢◌, ℕ, ◌+◌, ◌*◌, ◌<◌, List, [], ◌∷◌, ◌++◌, Some, None, length, refl, sym, ◌∙◌, ap, subst, arith}
-use Rattle.std.proofs.lemmas.List.Elements.{All-head, All-tail, All-cons, All-weaker, All-contains, Contains-append_right}
+use Rattle.std.proofs.Common.{◌≡◌, ℕ, ◌<◌, List, [], ◌∷◌, ◌++◌, Some, None, length, refl, sym, ◌∙◌, ap, subst, arith}
+use Rattle.std.proofs.lemmas.List.Elements.{All-tail, All-cons, All-weaker, All-contains, Contains-append_right}
 use Rattle.ab_term.specs.Types.{Ty}
 use Rattle.ab_term.proofs.Lists.{Contains-here}
 use Rattle.ab_store.specs.Trees.{Read}
 use Rattle.ab_store.specs.declared.node.TermId.{TermId}
 use Rattle.ab_logic.specs.Growth.{Grows}
-use Rattle.ab_logic.specs.Forms.{truth, both, exists, nabla, form_of, as_both, as_exists, as_nabla, both_in, exists_in, nabla_in}
-use Rattle.ab_logic.specs.Names.{Label, auto, given, Names, NoName}
+use Rattle.ab_logic.specs.Forms.{truth, both, exists, nabla, form_of, as_both, both_in, exists_in, nabla_in}
+use Rattle.ab_logic.specs.Names.{Label, auto, given, NoName}
 use Rattle.ab_logic.specs.Readings.{hypothesis_of}
 use Rattle.ab_logic.specs.Sequents.{Hypothesis, Sequent, IsSequent, formula_of, formulas, assuming, without}
 use Rattle.ab_logic.specs.Worlds.{IsWorld, Holds, read, declarations_of}
 use Rattle.ab_logic.specs.declared.world.World.{World}
 use Rattle.ab_logic.specs.declared.sequent.Hypothesis.{Hypothesis as Kept}
 use Rattle.ab_logic.proofs.Growing.{map_same}
-use Rattle.ab_rules.specs.Steps.{Step, weaken, and_left, exists_left, nabla_left}
+use Rattle.ab_rules.specs.Steps.{Step, and_left, exists_left, nabla_left}
 use Rattle.ab_rules.specs.Rules.{Fails}
 use Rattle.ab_kernel.specs.Layout.{Held, history_of, IsProof}
 use Rattle.ab_kernel.proofs.Rooted.{open_are_sequents}
-use Rattle.ab_effects.specs.Opening.{IsWhole, Opened, Nameless, none}
-use Rattle.ab_progress.specs.Progress.{goals_of, IsAt, Follows, Took, Holds as Sure}
+use Rattle.ab_effects.specs.Opening.{IsWhole, Nameless, none}
+use Rattle.ab_progress.specs.Progress.{IsAt, Follows, Took, Holds as Sure}
 use Rattle.ab_progress.proofs.Connectives.{connectives, fewer_both}
 use Rattle.ab_progress.proofs.Following.{one_goal}
 use Rattle.ab_left.specs.Own.{IsOwn, AreOwn, HasAll, besides, weight}
-use Rattle.ab_left.specs.Progress.{HasAt, Pending, Continues, OpensTo, Opens, Goes, CantOpen, OpenedTo, CopiedTo, MovedTo}
+use Rattle.ab_left.specs.Progress.{HasAt, Pending, OpensTo, Opens, Goes, CantOpen, OpenedTo, MovedTo}
 use Rattle.ab_left.proofs.Hypotheses.{entry}
-use Rattle.ab_left.proofs.Owned.{own_auto}
 use Rattle.ab_left.proofs.Standing.{LabelsDiffer}
 use Rattle.ab_left.proofs.Steps.{Went, one_premise, opens_nothing, opens_whole, opens_parts, opens_exists, opens_nabla, nameless_whole}
 use Rattle.ab_left.proofs.Sure.{splits, takes_exists, takes_nabla}

@@ -8,3 +8,4 @@ pub mod Goes
 pub mod Moves
 pub mod Naming
 pub mod Rows
+pub mod Taking

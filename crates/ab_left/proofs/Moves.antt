@@ -1,20 +1,20 @@
 -- A hypothesis is removed, put behind the others once more, or named anew there, step by step.
 use Rattle.std.specs.Prelude.{Result, Ok, Err, OnOk}
-use Rattle.std.proofs.Common.{◌≡◌, ℕ, List, [], ◌∷◌, ◌++◌, Some, None, length, sym, ◌∙◌, ap, subst, append_assoc}
+use Rattle.std.proofs.Common.{◌≡◌, ℕ, List, [], ◌∷◌, ◌++◌, Some, sym, ◌∙◌, ap, subst, append_assoc}
 use Rattle.ab_store.specs.Trees.{Read}
-use Rattle.ab_logic.specs.Names.{Label, given, Names, NoName}
-use Rattle.ab_logic.specs.Sequents.{Hypothesis, Sequent, named, formula_of, proving, assuming, without}
+use Rattle.ab_logic.specs.Names.{Label, Names, NoName}
+use Rattle.ab_logic.specs.Sequents.{Sequent, named, formula_of, proving, assuming, without}
 use Rattle.ab_logic.specs.Worlds.{IsWorld, declarations_of}
 use Rattle.ab_logic.specs.declared.world.World.{World}
-use Rattle.ab_rules.specs.Steps.{Step, weaken, initial, cut_formula}
+use Rattle.ab_rules.specs.Steps.{weaken, initial, cut_formula}
 use Rattle.ab_kernel.specs.Layout.{Held, IsProof}
-use Rattle.ab_progress.specs.Progress.{goals_of, IsAt, Follows, Took, FailsAt, Holds as Sure}
+use Rattle.ab_progress.specs.Progress.{IsAt, Took, FailsAt, Holds as Sure}
 use Rattle.ab_progress.proofs.Following.{one_goal}
 use Rattle.ab_left.specs.Progress.{HasAt, CopiedTo, MovedTo}
 use Rattle.ab_left.proofs.Hypotheses.{entry, named_stays}
 use Rattle.ab_left.proofs.Owned.{named_hypotheses}
 use Rattle.ab_left.proofs.Goes.{holds_at, is_sequent}
-use Rattle.ab_left.proofs.Steps.{Went, weakened}
+use Rattle.ab_left.proofs.Steps.{weakened}
 use Rattle.ab_left.proofs.Sure.{weakens, closes, uncut}
 
 pub on_ok : {A E P Q : Type 0} (r : Result A E) → (P → Q) → OnOk r P → OnOk r Q

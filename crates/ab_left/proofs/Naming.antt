@@ -1,10 +1,10 @@
 -- Names that a command makes for itself.
-use Rattle.std.specs.Prelude.{bytes_eq, codes, Contains, if◌then◌else◌, is_some, map}
+use Rattle.std.specs.Prelude.{codes, Contains, if◌then◌else◌, map}
 use Rattle.std.specs.Option.{IsSome}
-use Rattle.std.proofs.Common.{◌≡◌, ◌≢◌, ◌⊎◌, inl, inr, ℕ, ◌+◌, List, [], ◌∷◌, ◌++◌, true, false, Option, Some, None, length, get_or, decimal, refl, sym, ◌∙◌, ap, subst, arith}
+use Rattle.std.proofs.Common.{◌≡◌, ◌≢◌, ◌⊎◌, inl, inr, ℕ, ◌+◌, List, [], ◌∷◌, ◌++◌, true, false, Option, Some, length, get_or, decimal, refl, sym, ◌∙◌, ap, subst, arith}
 use Rattle.ab_term.proofs.Lists.{Contains-here, Contains-there}
 use Rattle.ab_store.specs.Trees.{Read}
-use Rattle.ab_logic.specs.Names.{Label, auto, given, automatic}
+use Rattle.ab_logic.specs.Names.{Label, auto, given}
 use Rattle.ab_logic.specs.Readings.{hypothesis_of, sequent_of}
 use Rattle.ab_logic.specs.Sequents.{named, IsUsed}
 use Rattle.ab_logic.specs.declared.world.World.{World}

@@ -1,14 +1,14 @@
 -- A goal with hypotheses of a command's own, and the goal without them.
-use Rattle.std.specs.Prelude.{All, AllPairs, Contains}
+use Rattle.std.specs.Prelude.{All}
 use Rattle.std.specs.Option.{IsSome}
-use Rattle.std.proofs.Common.{◌≡◌, ◌≢◌, ◌⊎◌, inl, inr, ℕ, ◌<◌, List, [], ◌∷◌, ◌++◌, Bool, true, false, Option, Some, None, refl, sym, ◌∙◌, ap, subst, decimal}
+use Rattle.std.proofs.Common.{◌≡◌, ◌≢◌, inl, inr, ℕ, ◌<◌, List, [], ◌∷◌, ◌++◌, Bool, true, false, Option, refl, sym, ◌∙◌, ap, subst, decimal}
 use Rattle.ab_store.specs.Trees.{Read}
 use Rattle.ab_logic.specs.Declarations.{Declarations}
-use Rattle.ab_logic.specs.Sequents.{Hypothesis, Variable, Sequent, named, others, formula_of, IsUsed, assuming, without, counted, over}
-use Rattle.ab_logic.specs.Names.{Label, auto, given, automatic, IsFree, IsLeast, Names, NoName, IsNoVariable, IsFreeName, IsNamedFor, IsStem}
-use Rattle.ab_left.specs.Own.{IsOwn, AreOwn, HasAll, besides}
+use Rattle.ab_logic.specs.Sequents.{Hypothesis, Variable, Sequent, named, others, formula_of, assuming, without, counted, over}
+use Rattle.ab_logic.specs.Names.{Label, auto, given, automatic, IsFree, Names, NoName, IsFreeName, IsNamedFor}
+use Rattle.ab_left.specs.Own.{AreOwn, HasAll, besides}
 use Rattle.ab_left.specs.Progress.{label_left}
-use Rattle.ab_left.proofs.Hypotheses.{entry, named_besides, named_past, others_past, turned}
+use Rattle.ab_left.proofs.Hypotheses.{named_besides, named_past, others_past, turned}
 
 -- no hypothesis of the list has the name
 abbrev pub NoneIs : List Hypothesis → List ℕ → Type 0

@@ -1,16 +1,13 @@
 -- The rows of the commands that remove hypotheses or name them anew.
 use Rattle.std.specs.Prelude.{if◌then◌else◌, is_some}
 use Rattle.std.specs.Option.{IsSome}
-use Rattle.std.proofs.Common.{◌≡◌, ◌≢◌, inl, inr, ℕ, ◌+◌, ◌<◌, List, [], ◌∷◌, ◌++◌, Bool, true, false, Option, Some, None, take, length, get_or, refl, sym, ◌∙◌, ap, subst, arith}
+use Rattle.std.proofs.Common.{◌≡◌, ◌≢◌, ℕ, ◌+◌, ◌<◌, List, [], ◌∷◌, ◌++◌, true, false, Option, Some, None, take, length, get_or, refl, sym, ◌∙◌, ap, subst}
 use Rattle.std.proofs.lemmas.List.{take_more}
 use Rattle.ab_store.specs.Trees.{Read}
-use Rattle.ab_grammar.specs.CommandTrees as told
-use Rattle.ab_logic.specs.Declarations.{Declarations}
-use Rattle.ab_logic.specs.Names.{Label, given, Names}
+use Rattle.ab_logic.specs.Names.{given, Names}
 use Rattle.ab_logic.specs.Sequents.{Sequent, formula_of, IsUsed, assuming, without}
-use Rattle.ab_effects.specs.Effect.{effect, missing, cleared, clashing}
-use Rattle.ab_effects.specs.Refusals.{Refusal, clash, no_hypothesis}
-use Rattle.ab_effects.specs.Row.{Leads, Refuses}
+use Rattle.ab_effects.specs.Effect.{cleared, clashing}
+use Rattle.ab_effects.specs.Refusals.{clash}
 use Rattle.ab_left.proofs.Hypotheses.{others_none}
 use Rattle.ab_left.proofs.Owned.{dressed, without_past}
 

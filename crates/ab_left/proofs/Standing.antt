@@ -8,7 +8,7 @@ use Rattle.ab_term.specs.Terms.{Nominal}
 use Rattle.ab_term.specs.Names.{support}
 use Rattle.ab_term.proofs.Lists.{Contains-none, AllPairs-parts, All-from_contains}
 use Rattle.ab_store.specs.Trees.{Read}
-use Rattle.ab_logic.specs.Sequents.{Hypothesis, Sequent, named, others, formulas, formula_of, goal_names, names_of, without}
+use Rattle.ab_logic.specs.Sequents.{Hypothesis, Sequent, named, others, formulas, goal_names, names_of, without}
 use Rattle.ab_logic.specs.Names.{IsLeast}
 use Rattle.ab_rules.specs.Rules.{MayName}
 use Rattle.ab_rules.proofs.Sequents.{others_all}

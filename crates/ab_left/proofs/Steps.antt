@@ -1,16 +1,16 @@
 -- What one step of the kernel does to a goal with hypotheses of a command's own.
 use Rattle.std.specs.Prelude.{All}
-use Rattle.std.proofs.Common.{◌≡◌, ◌≢◌, inl, inr, ℕ, ◌<◌, List, [], ◌∷◌, ◌++◌, Some, None, length, refl, sym, ◌∙◌, ap, subst, append_assoc}
+use Rattle.std.proofs.Common.{◌≡◌, ◌≢◌, ℕ, ◌<◌, List, [], ◌∷◌, ◌++◌, Some, None, length, refl, sym, ◌∙◌, ap, subst, append_assoc}
 use Rattle.ab_term.specs.Types.{Ty}
 use Rattle.ab_term.specs.Substitution.{instance}
 use Rattle.ab_store.specs.Trees.{Read}
 use Rattle.ab_logic.specs.Declarations.{Declarations}
-use Rattle.ab_logic.specs.Forms.{truth, both, exists, nabla, form_of, as_both, as_exists, as_nabla, both_in, exists_in, nabla_in}
+use Rattle.ab_logic.specs.Forms.{truth, both, exists, nabla, form_of, as_exists, as_nabla, exists_in, nabla_in}
 use Rattle.ab_logic.specs.Names.{Label, auto, given, Names, NoName, IsNamedFor, IsLeast}
-use Rattle.ab_logic.specs.Sequents.{Hypothesis, Variable, Sequent, named, formula_of, formulas, assuming, without, over}
+use Rattle.ab_logic.specs.Sequents.{Hypothesis, Variable, Sequent, formula_of, formulas, assuming, without, over}
 use Rattle.ab_logic.specs.declared.world.World.{World}
-use Rattle.ab_rules.specs.Steps.{Step, weaken, and_left, exists_left, nabla_left}
-use Rattle.ab_rules.specs.Rules.{NamedRule, IsNew, IsSupport, MayName, raised, applied, hint_of, name_term}
+use Rattle.ab_rules.specs.Steps.{Step, weaken, exists_left, nabla_left}
+use Rattle.ab_rules.specs.Rules.{NamedRule, IsSupport, MayName, raised, applied, hint_of, name_term}
 use Rattle.ab_kernel.specs.Layout.{Held}
 use Rattle.ab_effects.specs.Opening.{IsWhole, Taken, Opened, Nameless, nothing, parts, variable, constant, hypothesis, unnamed}
 use Rattle.ab_progress.specs.Progress.{goals_of, IsAt}
@@ -41,7 +41,7 @@ variables_beside : (hs : List Hypothesis) (k : Sequent) → (besides hs k).varia
 variables_beside hs k = ap (λ (s : Sequent). s.variables) (besides_is hs k)
 
 -- the hypothesis that was put last is removed
-without_last : (k : Sequent) (x : List ℕ) (F : Read) → formula_of k x ≡ None → without x (assuming x F k) ≡ k
+pub without_last : (k : Sequent) (x : List ℕ) (F : Read) → formula_of k x ≡ None → without x (assuming x F k) ≡ k
 without_last k x F none = ap (λ hs. dressed hs k) (others_last k.hypotheses x F none)
 
 module _ (D : Declarations) (h : Hypothesis) (hs : List Hypothesis) (l : Label) (k : Sequent) (all : HasAll (h ∷ hs) k) (v : World) (q : Held) (place : ℕ) (before behind : List Sequent) where

@@ -1,9 +1,9 @@
 -- Steps whose rules hold, since the goal has what they ask for.
-use Rattle.std.specs.Prelude.{All, Contains}
+use Rattle.std.specs.Prelude.{Contains}
 use Rattle.std.specs.Option.{IsSome}
-use Rattle.std.proofs.Common.{◌≡◌, ◌≢◌, inl, inr, ℕ, List, [], ◌∷◌, ◌++◌, true, false, Option, Some, None, sym, ◌∙◌, ap, subst}
-use Rattle.std.proofs.lemmas.List.Elements.{All-head, All-tail, All-contains, Contains-append_cases}
-use Rattle.ab_term.specs.Types.{Ty, prop}
+use Rattle.std.proofs.Common.{◌≡◌, ◌≢◌, inl, inr, ℕ, List, ◌++◌, true, false, Option, Some, None, sym, ◌∙◌, ap, subst}
+use Rattle.std.proofs.lemmas.List.Elements.{All-contains, Contains-append_cases}
+use Rattle.ab_term.specs.Types.{prop}
 use Rattle.ab_term.specs.Terms.{Nominal}
 use Rattle.ab_term.specs.Names.{support, EqualUpToNames}
 use Rattle.ab_term.proofs.Lists.{Contains-there}
@@ -13,8 +13,8 @@ use Rattle.ab_logic.specs.Declarations.{Declarations, signature_in}
 use Rattle.ab_logic.specs.Formulas.{IsFormula}
 use Rattle.ab_logic.specs.Forms.{as_both, as_either, as_exists, as_nabla, as_falsity}
 use Rattle.ab_logic.specs.Marks.{erased, MarksServeIn}
-use Rattle.ab_logic.specs.Names.{Label, auto, given, Names, NoName}
-use Rattle.ab_logic.specs.Sequents.{Sequent, IsSequent, Fits, HoldsOnly, formula_of, formulas, formulas_of, goal_names, named, proving, assuming, without, IsUsed}
+use Rattle.ab_logic.specs.Names.{Label, given, NoName}
+use Rattle.ab_logic.specs.Sequents.{Sequent, IsSequent, Fits, HoldsOnly, formula_of, formulas, formulas_of, goal_names, proving, assuming, without, IsUsed}
 use Rattle.ab_rules.specs.Steps.{initial, false_left, and_left, or_left, exists_left, nabla_left, cut_formula, weaken}
 use Rattle.ab_rules.specs.Rules.{Fails}
 use Rattle.ab_rules.proofs.Chosen.{in_goal}

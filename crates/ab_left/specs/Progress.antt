@@ -1,5 +1,5 @@
 -- What the calls that open formulas leave of a goal. Public contracts don't speak of this.
-use Rattle.std.specs.Prelude.{◌≡◌, ◌<◌, ℕ, List, [], ◌∷◌, map, All, Bool, Some, if◌then◌else◌}
+use Rattle.std.specs.Prelude.{◌≡◌, ◌<◌, ℕ, List, map, All, Bool, Some, if◌then◌else◌}
 use Rattle.ab_store.specs.Trees.{Read}
 use Rattle.ab_logic.specs.Declarations.{Declarations}
 use Rattle.ab_logic.specs.Names.{Label, auto, Names}

@@ -10,6 +10,7 @@ given_label (Some x) = given x
 
 abbrev pub IsBuilt : ProofCommand → Type 0
 IsBuilt (intros xs) = Unit {0}
+IsBuilt (case H keep) = Unit {0}
 IsBuilt split = Unit {0}
 IsBuilt split_all = Unit {0}
 IsBuilt left = Unit {0}

@@ -3,6 +3,7 @@ ghost use Rattle.std.specs.Prelude.{◌≡◌, ◌≢◌, ◌↔◌, [], Err, If
 ghost use Rattle.std.specs.Option.{option_copied};
 ghost use Rattle.ab_syntax.specs.Commands.{proof_command_of};
 ghost use Rattle.ab_logic.specs.Worlds.{IsWorld};
+ghost use Rattle.ab_naming.specs.Labels.{label_of};
 ghost use Rattle.ab_kernel.specs.Layout.{history_of, IsProof};
 ghost use Rattle.ab_progress.specs.Applied.{IsApplied, IsRefused};
 ghost use Rattle.ab_progress.specs.Progress.{goals_of, Follows};
@@ -10,13 +11,14 @@ ghost use Rattle.ab_progress.specs.declared.fault.ProofCommandFault.{ProofComman
 ghost use Rattle.ab_proofcmd.specs.Built.{given_label, IsBuilt};
 
 use ab_kernel::Proof;
-use ab_left::{clear, rename};
+use ab_left::{case, clear, rename};
 use ab_logic::World;
+use ab_naming::Label;
 use ab_progress::ProofCommandFault;
 use ab_right::{intros, left, right, split, split_all};
 use ab_syntax::ProofCommand;
 use ab_types::{Name, Steps};
-use std::alloc::Global;
+use std::alloc::{AllocError, Global};
 
 /// Whether the command is built. What isn't may not be carried out.
 pub fn is_built(command: &ProofCommand) -> bool
@@ -24,6 +26,7 @@ pub fn is_built(command: &ProofCommand) -> bool
 {
     match command {
         ProofCommand::Intros(_)
+        | ProofCommand::Case(_, _)
         | ProofCommand::Split
         | ProofCommand::SplitAll
         | ProofCommand::Left
@@ -32,7 +35,6 @@ pub fn is_built(command: &ProofCommand) -> bool
         | ProofCommand::Rename(_, _) => true,
         ProofCommand::Induction(_)
         | ProofCommand::Coinduction
-        | ProofCommand::Case(_, _)
         | ProofCommand::Apply(_, _, _)
         | ProofCommand::Backchain(_, _)
         | ProofCommand::Cut(_, _)
@@ -43,6 +45,16 @@ pub fn is_built(command: &ProofCommand) -> bool
         | ProofCommand::Unfold
         | ProofCommand::Assert(_)
         | ProofCommand::Permute(_, _) => false,
+    }
+}
+
+/// How the first new hypothesis is named.
+fn label_wanted(alloc: Global, label: Option<&Name>) -> Result<Label, AllocError>
+    ensures { IfOk result (λ wanted. label_of wanted ≡ given_label (option_copied label.entry)) }
+{
+    match label {
+        Some(name) => Ok(Label::Given(name.copy(alloc)?)),
+        None => Ok(Label::Auto),
     }
 }
 
@@ -66,11 +78,14 @@ pub fn apply_proof_command<L>(
         IsRefused (given_label (option_copied label.entry)) (proof_command_of command.now) world.old proof.old fault }
     ensures unchanged { OnErr result (history_of world.new proof.new ≡ history_of world.old proof.old) }
 {
-    let _ = label;
     match command {
         ProofCommand::Intros(names) => {
             let given = names.as_slice();
             intros(alloc, world, proof, given, steps)
+        }
+        ProofCommand::Case(name, keep) => {
+            let wanted = label_wanted(alloc, label)?;
+            case(alloc, world, proof, &wanted, name, *keep, steps)
         }
         ProofCommand::Split => split(world, proof, steps),
         ProofCommand::SplitAll => split_all(world, proof, steps),

@@ -1,7 +1,6 @@
-use Rattle.std.specs.Prelude.{reverse, map, Err}
-use Rattle.std.proofs.Common.{◌≡◌, ◌∷◌, [], ◌++◌, List, length, rules, sym, ◌∙◌, ap, subst, arith}
+use Rattle.std.specs.Prelude.{reverse, Err}
+use Rattle.std.proofs.Common.{◌≡◌, ◌∷◌, [], length, rules, ◌∙◌, ap, subst, arith}
 use Rattle.std.proofs.lemmas.List.{reverse-append}
-use Rattle.ab_logic.specs.declared.sequent.Hypothesis.{Hypothesis}
 use Rattle.ab_naming.specs.Labels.{label_of}
 use Rattle.ab_progress.proofs.Following.{follows_not, follows_on}
 use Rattle.ab_left.specs.Progress.{Opens, label_left}

@@ -1,5 +1,5 @@
 use Rattle.std.specs.Prelude.{reverse, Some}
-use Rattle.std.proofs.Common.{◌≡◌, ◌∷◌, [], ◌++◌, List, sym, ◌∙◌, ap, subst}
+use Rattle.std.proofs.Common.{◌≡◌, ◌∷◌, [], ◌++◌, sym, ◌∙◌, ap, subst}
 use Rattle.std.proofs.lemmas.List.{reverse-append}
 use Rattle.ab_logic.specs.Readings.{sequent_of}
 use Rattle.ab_logic.specs.Sequents.{formula_of}

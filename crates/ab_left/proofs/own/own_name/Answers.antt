@@ -1,5 +1,5 @@
 use Rattle.std.specs.Prelude.{codes, Contains}
-use Rattle.std.proofs.Common.{◌≡◌, ℕ, ◌+◌, ◌-◌, ◌<◌, ◌≤◌, ◌++◌, inl, inr, length, decimal, sym, ◌∙◌, ap, subst, arith}
+use Rattle.std.proofs.Common.{◌≡◌, ◌+◌, ◌++◌, inl, inr, length, decimal, subst, arith}
 use Rattle.std.proofs.lemmas.Bool.{cases_lt}
 use Rattle.ab_naming.specs.Labels.{label_of}
 use Rattle.ab_naming.proofs.Free.{too_many}

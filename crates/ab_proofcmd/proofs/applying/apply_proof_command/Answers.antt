@@ -1,6 +1,6 @@
 use Rattle.std.specs.Prelude.{IfOk}
 use Rattle.std.specs.Option.{option_copied}
-use Rattle.std.proofs.Common.{◌≡◌, ℕ, List, subst}
+use Rattle.std.proofs.Common.{ℕ, List, subst}
 use Rattle.ab_grammar.specs.CommandTrees as told
 use Rattle.ab_logic.specs.Names.{Label}
 use Rattle.ab_progress.specs.Applied.{IsApplied, IsRefused}
@@ -20,6 +20,17 @@ returns-in-Intros-clause-refused g c fault e =
     let l = given_label (option_copied c.args.label) in
     rw c.in-Intros.is
     (subst (λ (xs : List (List ℕ)). IsRefused l (told.intros xs) c.args.world.now c.args.proof.now fault) c.as_slice-given.ensures (c.intros.ensures.refused fault e l))
+
+pub returns-in_ok-wanted-in-Case-clause-applied : goal.returns-in_ok-wanted-in-Case-clause-applied
+returns-in_ok-wanted-in-Case-clause-applied g c =
+    rw c.in-Case.is
+    (subst (λ (m : Label). IfOk c.case.result (λ u. IsApplied m (told.case c.in-Case.name c.in-Case.keep) c.args.world.now c.args.proof.now c.case.new.world c.case.new.proof)) c.in_ok-wanted-in-Case.ensures
+    c.case.ensures.applied)
+
+pub returns-in_ok-wanted-in-Case-clause-refused : goal.returns-in_ok-wanted-in-Case-clause-refused
+returns-in_ok-wanted-in-Case-clause-refused g c fault e =
+    rw c.in-Case.is
+    (subst (λ (m : Label). IsRefused m (told.case c.in-Case.name c.in-Case.keep) c.args.world.now c.args.proof.now fault) c.in_ok-wanted-in-Case.ensures (c.case.ensures.refused fault e))
 
 pub returns-in-Split-clause-applied : goal.returns-in-Split-clause-applied
 returns-in-Split-clause-applied g c =

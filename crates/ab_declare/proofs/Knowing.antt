@@ -1,0 +1,79 @@
+-- What a world's table and its declarations have in common, and what is declared by entries of a table.
+use Rattle.std.specs.Prelude.{◌≡◌, ℕ, ◌+◌, ◌-◌, ◌≤◌, List, [], ◌∷◌, ◌++◌, map, take, drop}
+use Rattle.std.proofs.Common.{refl, sym, ◌∙◌, ap, arith, drop-drop}
+use Rattle.std.proofs.lemmas.List.{take-append-drop}
+use Rattle.ab_term.specs.Types.{Ty}
+use Rattle.ab_types.specs.Entries as table
+use Rattle.ab_types.specs.Entries.{Table, kinds, constants, names, constant}
+use Rattle.ab_types.proofs.Entries.{kinds-append}
+use Rattle.ab_effects.specs.Terms.{kinds_in}
+use Rattle.ab_logic.specs.Declarations.{Declarations, a_kind, a_constant, a_block, a_program_clause, a_theorem, constants_in}
+use Rattle.ab_logic.specs.Worlds.{read, declared, declared_from, declarations_of, CameInOrder, IsWorld}
+use Rattle.ab_logic.specs.declared.world.World.{World}
+use Rattle.ab_logic.specs.declared.theorems.Theorem.{Theorem}
+use Rattle.ab_logic.proofs.Declaring.{constants_are}
+use Rattle.ab_declare.specs.Answers.{Knows}
+
+pub kinds-declared : (s : Table) → kinds_in (declared s) ≡ kinds s
+kinds-declared [] = refl
+kinds-declared (table.a_kind k ∷ s) = ap (λ ks. k ∷ ks) (kinds-declared s)
+kinds-declared (table.a_type A ∷ s) = kinds-declared s
+kinds-declared (table.a_constant c ∷ s) = kinds-declared s
+
+pub kinds_in-append : (D E : Declarations) → kinds_in (D ++ E) ≡ kinds_in D ++ kinds_in E
+kinds_in-append [] E = refl
+kinds_in-append (a_kind k ∷ D) E = ap (λ ks. k ∷ ks) (kinds_in-append D E)
+kinds_in-append (a_constant c A ∷ D) E = kinds_in-append D E
+kinds_in-append (a_block b ∷ D) E = kinds_in-append D E
+kinds_in-append (a_program_clause c ∷ D) E = kinds_in-append D E
+kinds_in-append (a_theorem n F ∷ D) E = kinds_in-append D E
+
+kinds_split : (k : ℕ) (xs : Table) → kinds (take k xs) ++ kinds (drop k xs) ≡ kinds xs
+kinds_split k xs = sym (kinds-append (take k xs) (drop k xs)) ∙ ap kinds (take-append-drop k xs)
+
+drop_on : (done before : ℕ) (xs : Table) → done ≤ before → drop (before - done) (drop done xs) ≡ drop before xs
+drop_on done before xs l =
+    let e : done + (before - done) ≡ before = omega arith in
+    drop-drop (before - done) done xs ∙ ap (λ k. drop k xs) e
+
+kinds_are : (w : World) (done : ℕ) (ts : List Theorem) → CameInOrder w.types done ts → kinds_in (declared_from w done ts) ≡ kinds (drop done w.types)
+kinds_are w done [] order = kinds-declared (drop done w.types)
+kinds_are w done (t ∷ ts) order =
+    let xs = drop done w.types in
+    let k = t.before - done in
+    kinds_in-append (declared (take k xs)) (a_theorem t.entry.name (read w t.entry.formula) ∷ declared_from w t.before ts)
+    ∙ ap (λ cs. cs ++ kinds_in (declared_from w t.before ts)) (kinds-declared (take k xs))
+    ∙ ap (λ cs. kinds (take k xs) ++ cs) (kinds_are w t.before ts order.1 ∙ ap kinds (sym (drop_on done t.before w.types order.0)))
+    ∙ kinds_split k xs
+
+pub world_constants : (w : World) → IsWorld w → constants_in (declarations_of w) ≡ constants w.types
+world_constants w is = constants_are w 0 w.theorems is.order
+
+-- a world's table knows what its declarations do
+pub world_knows : (w : World) → IsWorld w → Knows w.types (declarations_of w)
+world_knows w is = record { kinds = kinds_are w 0 w.theorems is.order; constants = ap names (constants_are w 0 w.theorems is.order) }
+
+-- kinds and constants as they stand in a table
+
+pub declared-kinds : (xs : List (List ℕ)) → declared (map table.a_kind xs) ≡ map a_kind xs
+declared-kinds [] = refl
+declared-kinds (x ∷ xs) = ap (λ ds. a_kind x ∷ ds) (declared-kinds xs)
+
+pub declared-constants : (A : Ty) (xs : List (List ℕ)) → declared (map (λ x. table.a_constant (constant x A)) xs) ≡ map (λ x. a_constant x A) xs
+declared-constants A [] = refl
+declared-constants A (x ∷ xs) = ap (λ ds. a_constant x A ∷ ds) (declared-constants A xs)
+
+pub kinds-kinds : (xs : List (List ℕ)) → kinds (map table.a_kind xs) ≡ xs
+kinds-kinds [] = refl
+kinds-kinds (x ∷ xs) = ap (λ ks. x ∷ ks) (kinds-kinds xs)
+
+pub names-constants : (A : Ty) (xs : List (List ℕ)) → names (constants (map (λ x. table.a_constant (constant x A)) xs)) ≡ xs
+names-constants A [] = refl
+names-constants A (x ∷ xs) = ap (λ ks. x ∷ ks) (names-constants A xs)
+
+-- types are no declarations
+pub none_declared : (more : Table) → kinds more ≡ [] → constants more ≡ [] → declared more ≡ []
+none_declared [] k c = refl
+none_declared (table.a_kind x ∷ es) k c = let bad : x ∷ kinds es ≡ [] = k in absurd (cc)
+none_declared (table.a_type A ∷ es) k c = none_declared es k c
+none_declared (table.a_constant x ∷ es) k c = let bad : x ∷ constants es ≡ [] = c in absurd (cc)

@@ -1,0 +1,5 @@
+-- What the commands outside a proof declare and ask for, why they are refused, and worlds that are cut back.
+pub mod Refusals
+pub mod Declaring
+pub mod Moments
+pub mod Answers

@@ -1,0 +1,32 @@
+-- How much a world held at a moment, and worlds that grew since and are cut back.
+use Rattle.std.specs.Prelude.{◌≡◌, ◌≤◌, length}
+use Rattle.ab_types.specs.Entries as table
+use Rattle.ab_types.specs.Sound.{IsTable}
+use Rattle.ab_store.specs.Growth as store
+use Rattle.ab_store.specs.Marks.{HasMark}
+use Rattle.ab_logic.specs.declared.world.World.{World}
+use Rattle.ab_declare.specs.declared.moment.Moment.{Moment}
+
+-- the moment counts what the world holds
+pub record IsMoment (w : World) (m : Moment) : Type 0 where
+  pub types : m.types ≡ length w.types
+  pub begins : length table.first_entries ≤ length w.types
+  pub table : IsTable w.types
+  pub mark : HasMark w.store m.mark
+  pub bindings : m.mark.bindings ≡ length w.store.bindings
+  pub nodes : m.mark.nodes ≡ length w.store.nodes
+  pub cells : m.mark.cells ≡ length w.store.cells
+
+-- the second world has types and terms more, and no other theorem
+pub record HasMore (w v : World) : Type 0 where
+  pub types : table.IsExtendedBy w.types v.types
+  pub store : store.IsExtendedBy w.store v.store
+  pub theorems : v.theorems ≡ w.theorems
+
+-- THE WORLD IS AS IT WAS, but for room that was made
+pub record IsRestored (old new : World) : Type 0 where
+  pub types : new.types ≡ old.types
+  pub nodes : new.store.nodes ≡ old.store.nodes
+  pub cells : new.store.cells ≡ old.store.cells
+  pub bindings : new.store.bindings ≡ old.store.bindings
+  pub theorems : new.theorems ≡ old.theorems

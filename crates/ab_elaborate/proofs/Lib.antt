@@ -1,0 +1,4 @@
+pub mod Scopes
+mod Numbers
+mod Trees
+mod Answering

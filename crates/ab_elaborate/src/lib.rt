@@ -1,0 +1,11 @@
+//! Elaboration: the term that an expression means in a scope, or why it means none.
+#![tactic(auto)]
+
+mod elaborating;
+mod ids;
+mod judgements;
+mod scope;
+
+pub use elaborating::elaborate;
+pub use judgements::holds_judgement;
+pub use scope::Scope;

@@ -1,0 +1,50 @@
+use Rattle.std.specs.Prelude.{[], Err}
+use Rattle.std.specs.Option.{option_map}
+use Rattle.std.proofs.Common.{◌≡◌, rules, sym, ◌∙◌, ap, subst}
+use Rattle.ab_grammar.specs.CommandTrees as told
+use Rattle.ab_logic.specs.Sequents.{formula_of}
+use Rattle.ab_logic.specs.Worlds.{read}
+use Rattle.ab_naming.specs.Labels.{label_of}
+use Rattle.ab_effects.specs.Effect.{clashing}
+use Rattle.ab_effects.specs.Refusals.{clash}
+use Rattle.ab_progress.specs.Applied.{IsRefused}
+use Rattle.ab_progress.specs.Progress.{goals_of}
+use Rattle.ab_progress.specs.declared.fault.ProofCommandFault.{ProofCommandFault}
+use Rattle.ab_progress.proofs.Following.{first_at, one_at_least}
+use Rattle.ab_left.specs.declared.stop.Stop.{Stop}
+use Rattle.ab_left.proofs.Taking.{case_applied, case_stops}
+use Rattle.ab_left.proofs.cases.case.Goals as goal
+
+pub take_apart-requires-clause-there : goal.take_apart-requires-clause-there
+take_apart-requires-clause-there g c =
+    let w = c.args.world.now in
+    let p = c.args.proof.now in
+    let one = one_at_least (goals_of w p) c.requires.open in
+    record {
+      before = [];
+      behind = one.1;
+      goal = one.0;
+      at = first_at w p one.0 one.1 one.2;
+      has = ap (λ s. formula_of s c.args.name.now) (sym (c.first_goal-goal.ensures.reads one.0 one.1 one.2)) ∙ sym (c.in-Some-look.ensures.reads w);
+    }
+
+pub returns-in-Ok-clause-applied : goal.returns-in-Ok-clause-applied
+returns-in-Ok-clause-applied g c =
+    let w = c.args.world.now in
+    let l = label_of c.args.label.now in
+    case_applied w c.args.proof.now l c.args.keep c.args.name.now (read w c.in-Some-look.formula)
+    (λ s rest e. ap (clashing l) (sym (c.first_goal-goal.ensures.reads s rest e)) ∙ sym (c.in_ok-clash.ensures w) ∙ ap (option_map clash) c.in_default.is)
+    (λ s rest e. ap (λ k. formula_of k c.args.name.now) (sym (c.first_goal-goal.ensures.reads s rest e)) ∙ sym (c.in-Some-look.ensures.reads w))
+    c.take_apart.new.world c.take_apart.new.proof c.in-Ok.ensures.taken
+
+pub returns-in-Err-NamesSpent-clause-refused : goal.returns-in-Err-NamesSpent-clause-refused
+returns-in-Err-NamesSpent-clause-refused g c fault e =
+    let w = c.args.world.now in
+    let l = label_of c.args.label.now in
+    let spent : c.take_apart.result ≡ Err Stop.NamesSpent = search rules in
+    let is : ProofCommandFault.NamesSpent ≡ fault = cc in
+    subst (λ f. IsRefused l (told.case c.args.name.now c.args.keep) w c.args.proof.now f) is
+    (case_stops w c.args.proof.now l c.args.keep c.args.name.now (read w c.in-Some-look.formula)
+    (λ s rest e. ap (clashing l) (sym (c.first_goal-goal.ensures.reads s rest e)) ∙ sym (c.in_ok-clash.ensures w) ∙ ap (option_map clash) c.in_default.is)
+    (λ s rest e. ap (λ k. formula_of k c.args.name.now) (sym (c.first_goal-goal.ensures.reads s rest e)) ∙ sym (c.in-Some-look.ensures.reads w))
+    (c.take_apart.ensures.stopped spent))

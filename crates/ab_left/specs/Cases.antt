@@ -1,0 +1,50 @@
+-- What taking a hypothesis apart leaves of a proof. Public contracts don't speak of this.
+use Rattle.std.specs.Prelude.{◌≡◌, List, ◌∷◌, ◌++◌, Bool, None, ℕ, if◌then◌else◌}
+use Rattle.ab_store.specs.Trees.{Read}
+use Rattle.ab_logic.specs.Forms.{Form, truth, falsity, both, either, exists, nabla, form_of}
+use Rattle.ab_logic.specs.Names.{Label}
+use Rattle.ab_logic.specs.Sequents.{Sequent, formula_of, assuming, without}
+use Rattle.ab_logic.specs.Worlds.{declarations_of}
+use Rattle.ab_logic.specs.declared.world.World.{World}
+use Rattle.ab_kernel.specs.Layout.{Held}
+use Rattle.ab_effects.specs.Effect.{cases}
+use Rattle.ab_effects.specs.Refusals.{names_spent}
+use Rattle.ab_effects.specs.Row.{Leads, Refuses}
+use Rattle.ab_progress.specs.Progress.{goals_of}
+
+-- a formula of this form is opened in its goal
+abbrev pub IsOpened : Form → Type 0
+IsOpened truth = Unit {0}
+IsOpened (both A B) = Unit {0}
+IsOpened (exists A t) = Unit {0}
+IsOpened (nabla A t) = Unit {0}
+IsOpened _ = ⊥
+
+-- one of this form can be taken apart
+abbrev pub HasCases : Form → Type 0
+HasCases truth = Unit {0}
+HasCases falsity = Unit {0}
+HasCases (both A B) = Unit {0}
+HasCases (either A B) = Unit {0}
+HasCases (exists A t) = Unit {0}
+HasCases (nabla A t) = Unit {0}
+HasCases _ = ⊥
+
+-- the goal in which the hypothesis is taken apart
+abbrev pub rest_of : Bool → List ℕ → Sequent → Sequent
+rest_of keep H s = if keep then s else without H s
+
+-- there the formula stands as a hypothesis of the command's own
+abbrev pub Begun : World → Held → World → Held → Bool → List ℕ → List ℕ → Read → Type 0
+Begun w p v q keep H y F = (s : Sequent) (rest : List Sequent) → goals_of w p ≡ s ∷ rest →
+    (goals_of v q ≡ assuming y F (rest_of keep H s) ∷ rest) × (formula_of (rest_of keep H s) y ≡ None)
+
+-- the hypothesis was taken apart by its row
+abbrev pub TakenApart : World → Held → World → Held → Label → Bool → List ℕ → Read → Type 0
+TakenApart w p v q l keep H F = (s : Sequent) (rest : List Sequent) → goals_of w p ≡ s ∷ rest →
+    (ps : List Sequent) × Leads (cases (declarations_of w) (form_of F) F l (rest_of keep H s)) ps × (goals_of v q ≡ ps ++ rest)
+
+-- it can't be, since a new hypothesis gets no name
+abbrev pub CantTake : World → Held → Label → Bool → List ℕ → Read → Type 0
+CantTake w p l keep H F = (s : Sequent) (rest : List Sequent) → goals_of w p ≡ s ∷ rest →
+    Refuses (cases (declarations_of w) (form_of F) F l (rest_of keep H s)) names_spent
