@@ -125,7 +125,7 @@ fn write_detail(refusal: &Refusal, out: &mut Vec<u8>) -> Result<(), AllocError>
         | Refusal::FileTooLong(name)
         | Refusal::WrongTitle(name)
         | Refusal::TooManyFiles(name) => write_name(name, out),
-        Refusal::Circular(names) => write_names(names, out),
+        Refusal::Circular(names) => write_names(names.as_slice(), out),
         _ => Ok(()),
     }
 }

@@ -5,6 +5,7 @@ use Rattle.ab_types.specs.Entries.{Table, IsExtendedBy}
 use Rattle.ab_store.specs.Trees.{Contents}
 use Rattle.ab_store.specs.Naming.{IsTypedBy}
 use Rattle.ab_store.proofs.Growing.{extended_itself}
+use Rattle.ab_store.proofs.Marking.{keeps}
 use Rattle.ab_store.proofs.Tables.{still_typed}
 use Rattle.ab_norm.specs.Growth.{AddsTypedTerms}
 use Rattle.ab_logic.specs.Declarations.{a_theorem}
@@ -45,6 +46,8 @@ room_grows n w is =
       cell_ids = λ c h. h;
       cells = λ c h. refl;
       types = ([], sym (append-nil w.types));
+      marks = λ m has. keeps w.store (with_room n w).store m has has.bindings has.nodes has.cells refl refl refl;
+      theorems = ([], sym (append-nil w.theorems));
       declarations = ([], D ∙ sym (append-nil (declarations_of w)));
       world = record {
         typed = record { earlier = is.typed.earlier; nodes = is.typed.nodes; cells = is.typed.cells; bindings = is.typed.bindings };

@@ -2,8 +2,8 @@
 use Rattle.std.specs.Prelude.{◌≡◌, ◌≤◌, length}
 use Rattle.ab_types.specs.Entries as table
 use Rattle.ab_types.specs.Sound.{IsTable}
-use Rattle.ab_store.specs.Growth as store
-use Rattle.ab_store.specs.Marks.{HasMark}
+use Rattle.ab_store.specs.declared.mark.Mark.{Mark}
+use Rattle.ab_store.specs.Marks.{HasMark, KeepsMark}
 use Rattle.ab_logic.specs.declared.world.World.{World}
 use Rattle.ab_declare.specs.declared.moment.Moment.{Moment}
 
@@ -17,10 +17,10 @@ pub record IsMoment (w : World) (m : Moment) : Type 0 where
   pub nodes : m.mark.nodes ≡ length w.store.nodes
   pub cells : m.mark.cells ≡ length w.store.cells
 
--- the second world has types and terms more, and no other theorem
+-- the second world has types and terms more behind what marks count, and no other theorem
 pub record HasMore (w v : World) : Type 0 where
   pub types : table.IsExtendedBy w.types v.types
-  pub store : store.IsExtendedBy w.store v.store
+  pub marks : (m : Mark) → HasMark w.store m → KeepsMark w.store v.store m
   pub theorems : v.theorems ≡ w.theorems
 
 -- THE WORLD IS AS IT WAS, but for room that was made

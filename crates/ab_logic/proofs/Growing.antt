@@ -9,9 +9,12 @@ use Rattle.ab_types.proofs.Entries.{same_type}
 use Rattle.ab_store.specs.declared.node.TermId.{TermId}
 use Rattle.ab_store.specs.declared.node.CellId.{CellId}
 use Rattle.ab_store.specs.declared.node.CellEntry.{CellEntry}
+use Rattle.ab_store.specs.declared.mark.Mark.{Mark}
+use Rattle.ab_store.specs.Marks.{HasMark, KeepsMark}
 use Rattle.ab_store.specs.Trees.{Contents, cell_of}
 use Rattle.ab_store.specs.Growth.{IsExtendedBy}
 use Rattle.ab_store.specs.Naming.{IsTypedBy}
+use Rattle.ab_store.proofs.Marking.{kept_itself, kept_on}
 use Rattle.ab_store.proofs.Tables.{same_tree, still_typed}
 use Rattle.ab_logic.specs.Declarations.{a_theorem, Extends, signature_in}
 use Rattle.ab_logic.specs.Formulas.{IsSentence}
@@ -32,6 +35,8 @@ grows_not w is = record {
   cell_ids = λ c h. h;
   cells = λ c h. refl;
   types = ([], sym (append-nil w.types));
+  marks = λ m has. kept_itself w.store m has;
+  theorems = ([], sym (append-nil w.theorems));
   declarations = extends_not (declarations_of w);
   world = is;
 }
@@ -43,6 +48,8 @@ grows_on u v w a b = record {
   cell_ids = λ c h. b.cell_ids c (a.cell_ids c h);
   cells = λ c h. b.cells c (a.cell_ids c h) ∙ a.cells c h;
   types = (a.types.0 ++ b.types.0, b.types.1 ∙ ap (λ x. x ++ b.types.0) a.types.1 ∙ append_assoc u.types a.types.0 b.types.0);
+  marks = λ m has. let kept = a.marks m has in kept_on u.store v.store w.store m kept (b.marks m kept.has);
+  theorems = (a.theorems.0 ++ b.theorems.0, b.theorems.1 ∙ ap (λ x. x ++ b.theorems.0) a.theorems.1 ∙ append_assoc u.theorems a.theorems.0 b.theorems.0);
   declarations = extends_on (declarations_of u) (declarations_of v) (declarations_of w) a.declarations b.declarations;
   world = b.world;
 }
@@ -51,8 +58,8 @@ grows_on u v w a b = record {
 grown : (w v : World) (more : Table) → IsWorld w → v.types ≡ w.types ++ more → v.theorems ≡ w.theorems
     → ((t : TermId) → Holds w t → Holds v t) → ((t : TermId) → Holds w t → read v t ≡ read w t)
     → ((c : CellId) → HoldsCell w c → HoldsCell v c) → ((c : CellId) → HoldsCell w c → variable_of v c ≡ variable_of w c)
-    → IsTypedBy v.types v.store → v.store.bindings ≡ w.store.bindings → Grows w v
-grown w v more is types theorems ids reads cell_ids cells typed bindings =
+    → IsTypedBy v.types v.store → v.store.bindings ≡ w.store.bindings → ((m : Mark) → HasMark w.store m → KeepsMark w.store v.store m) → Grows w v
+grown w v more is types theorems ids reads cell_ids cells typed bindings marks =
     let D : declarations_of v ≡ declarations_of w ++ declared more =
     ap (declared_from v 0) theorems ∙ declared_more w v more types reads 0 w.theorems is.order is.theorems in
     record {
@@ -61,6 +68,8 @@ grown w v more is types theorems ids reads cell_ids cells typed bindings =
       cell_ids = cell_ids;
       cells = cells;
       types = (more, types);
+      marks = marks;
+      theorems = ([], theorems ∙ sym (append-nil w.theorems));
       declarations = (declared more, D);
       world = record {
         typed = typed;
@@ -78,7 +87,7 @@ pub grows_store : (types : Table) (old new : Contents) (ts : List Theorem) → I
 grows_store types old new ts is e typed =
     grown (record { types = types; store = old; theorems = ts }) (record { types = types; store = new; theorems = ts }) [] is
     (sym (append-nil types)) refl e.ids (e.trees types) e.cell_ids
-    (λ c h. ap (λ (k : CellEntry). record { number = c.0; type = type_of types k.ty; name = k.hint }) (e.cells c h)) typed e.bindings
+    (λ c h. ap (λ (k : CellEntry). record { number = c.0; type = type_of types k.ty; name = k.hint }) (e.cells c h)) typed e.bindings e.marks
 
 pub grows_types : (old new : Table) (store : Contents) (ts : List Theorem) → IsWorld (record { types = old; store = store; theorems = ts }) → table.IsExtendedBy old new
     → Grows (record { types = old; store = store; theorems = ts }) (record { types = new; store = store; theorems = ts })
@@ -87,7 +96,7 @@ grows_types old new store ts is part =
     (grown (record { types = old; store = store; theorems = ts }) (record { types = old ++ part.0; store = store; theorems = ts }) part.0 is
     refl refl (λ t h. h) (λ t h. same_tree old part.0 store is.typed t) (λ c h. h)
     (λ c h. ap (λ A. record { number = c.0; type = A; name = (cell_of store c).hint }) (same_type old part.0 (cell_of store c).ty (is.typed.cells c.0 _ h)))
-    (still_typed old part.0 store is.typed) refl)
+    (still_typed old part.0 store is.typed) refl (λ m has. kept_itself store m has))
 
 -- a theorem more
 pub declares_more : (w : World) (t : Theorem) → IsWorld w → t.before ≡ length w.types
@@ -105,6 +114,8 @@ grows_theorem w t is last held sentence =
       cell_ids = λ c h. h;
       cells = λ c h. refl;
       types = ([], sym (append-nil w.types));
+      marks = λ m has. kept_itself w.store m has;
+      theorems = (t ∷ [], refl);
       declarations = (a_theorem t.entry.name (read w t.entry.formula) ∷ [], D);
       world = record {
         typed = is.typed;

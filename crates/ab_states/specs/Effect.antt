@@ -10,13 +10,14 @@ use Rattle.ab_logic.specs.Sequents.{Sequent}
 use Rattle.ab_kernel.specs.Derivation.{proves}
 use Rattle.ab_command.specs.declared.fault.Cause.{Cause}
 use Rattle.ab_command.specs.Reading.{Says, Fails}
-use Rattle.ab_states.specs.declared.refusal.Refusal.{Refusal}
+use Rattle.ab_declare.specs.declared.refusal.Refusal.{Refusal}
 use Rattle.ab_goals.specs.Goals.{Goal, named, IsNumbered}
 use Rattle.ab_states.specs.State.{Attempt, State, is_open, keeping, declaring, proving, closed, showing}
 use Rattle.ab_states.specs.Reply as reply
 use Rattle.ab_states.specs.Reply.{Reply, accepted, completed, shown, refused, unread_for}
-use Rattle.ab_states.specs.Declaring.{States, Declares, Declines}
-use Rattle.ab_states.specs.Proving.{given_label, Makes, Denies}
+use Rattle.ab_declare.specs.Declaring.{States, Declares, Declines}
+use Rattle.ab_proofcmd.specs.Built.{given_label}
+use Rattle.ab_states.specs.Proving.{Makes, Denies}
 
 -- the bytes say the command, and it stands here
 abbrev pub Commands : State → List ℕ → Command → Type 0

@@ -1,21 +1,16 @@
 -- What a proof command makes of the current goal: `search` closes it, and each other command goes by its row.
-use Rattle.std.specs.Prelude.{◌≡◌, ℕ, List, [], Option, Some, None}
+use Rattle.std.specs.Prelude.{◌≡◌, ℕ, List, []}
 use Rattle.ab_grammar.specs.CommandTrees.{ProofCommand, search}
 use Rattle.ab_logic.specs.Declarations.{Declarations}
-use Rattle.ab_logic.specs.Names.{Label, auto, given}
+use Rattle.ab_logic.specs.Names.{Label}
 use Rattle.ab_logic.specs.Sequents.{Sequent}
 use Rattle.ab_effects.specs.Effect.{effect}
 use Rattle.ab_effects.specs.Refusals as row
 use Rattle.ab_effects.specs.Row.{Leads, Refuses}
 use Rattle.ab_search.specs.Closing.{CanBeClosed}
-use Rattle.ab_states.specs.declared.refusal.Refusal.{Refusal}
-use Rattle.ab_states.specs.declared.refusal.Refusal.TheVariants.{NotFound}
-use Rattle.ab_states.specs.Reply.{refusal_for}
-
--- the label that stands before a command, if one does
-abbrev pub given_label : Option (List ℕ) → Label
-given_label None = auto
-given_label (Some x) = given x
+use Rattle.ab_declare.specs.declared.refusal.Refusal.{Refusal}
+use Rattle.ab_declare.specs.declared.refusal.Refusal.TheVariants.{NotFound}
+use Rattle.ab_declare.specs.Refusals.{refusal_for}
 
 -- THESE TAKE THE GOAL'S PLACE
 abbrev pub Makes : Declarations → Label → ProofCommand → Sequent → List Sequent → Type 0

@@ -5,10 +5,9 @@ use Rattle.ab_logic.specs.Worlds.{read, Holds}
 use Rattle.ab_logic.specs.declared.world.World.{World}
 use Rattle.ab_command.specs.declared.fault.Cause.{Cause}
 use Rattle.ab_command.specs.declared.fault.Cause.TheVariants as cause
-use Rattle.ab_effects.specs.Refusals as row
-use Rattle.ab_states.specs.declared.refusal.Place.{Place}
-use Rattle.ab_states.specs.declared.refusal.Refusal.{Refusal}
-use Rattle.ab_states.specs.declared.refusal.Refusal.TheVariants.{Syntax, TooNested, WrongPlace, NotBuilt, Unknown, Clash, TypeClash, Untyped, NoHypothesis, WrongShape, Mark, NoMatch, NotPattern, Unresolved, NamesSpent}
+use Rattle.ab_declare.specs.declared.refusal.Refusal.{Refusal}
+use Rattle.ab_declare.specs.declared.refusal.Refusal.TheVariants.{Syntax, TooNested, WrongPlace, NotBuilt}
+use Rattle.ab_declare.specs.Refusals.{here}
 use Rattle.ab_states.specs.declared.reply.Reply.{Reply as Kept}
 use Rattle.ab_states.specs.declared.reply.Reply.TheVariants.{Accepted, Completed, Shown, Quit, Refused}
 
@@ -44,27 +43,9 @@ is_kept accepted = true
 is_kept (completed name) = true
 is_kept _ = false
 
--- a place in the command itself
-abbrev pub here : ℕ → Place
-here n = record { at = n; file = None }
-
 -- the bytes say no command
 abbrev pub unread_for : Cause → Refusal
 unread_for (cause.Syntax p) = Syntax (here p)
 unread_for (cause.TooNested p) = TooNested (here p)
 unread_for cause.WrongPlace = WrongPlace
 unread_for cause.NotBuilt = NotBuilt
-
--- a row of the proof commands refuses, or an expression means nothing
-abbrev pub refusal_for : row.Refusal → Refusal
-refusal_for (row.unknown x) = Unknown x None
-refusal_for (row.clash x) = Clash x None
-refusal_for (row.type_clash p) = TypeClash (here p)
-refusal_for (row.untyped p) = Untyped (here p)
-refusal_for (row.no_hypothesis x) = NoHypothesis x
-refusal_for row.wrong_shape = WrongShape
-refusal_for row.mark = Mark
-refusal_for row.no_match = NoMatch
-refusal_for (row.not_pattern i) = NotPattern i
-refusal_for (row.unresolved x) = Unresolved x
-refusal_for row.names_spent = NamesSpent

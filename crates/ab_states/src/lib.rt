@@ -1,8 +1,7 @@
-//! What a session is to whoever reads its replies: states, replies, refusals and the effect of each command.
+//! What a session is to whoever reads its replies: states, replies and the effect of each command.
 #![tactic(auto)]
 
-mod refusal;
 mod reply;
 
-pub use refusal::{Place, Refusal};
+pub use ab_declare::{Place, Refusal};
 pub use reply::Reply;

@@ -1,6 +1,6 @@
 //! What a session answers to a command.
 
-use crate::refusal::Refusal;
+use ab_declare::Refusal;
 use ab_name::Name;
 use ab_store::TermId;
 
