@@ -1,0 +1,36 @@
+"""Runs the program over a script and tells its time, its peak memory and its status."""
+import os
+import subprocess
+import sys
+import tempfile
+import time
+
+ROOT = os.path.dirname(os.path.dirname(os.path.abspath(__file__)))
+
+
+def program():
+    """The built program: the word of the line, or bin/abella."""
+    return sys.argv[1] if len(sys.argv) > 1 else f"{ROOT}/bin/abella"
+
+
+def measure(script):
+    """Returns seconds, peak memory in MB, the status and the last line of what the script prints."""
+    with tempfile.TemporaryFile() as text, tempfile.TemporaryFile() as out:
+        text.write(script.encode())
+        text.seek(0)
+        begun = time.monotonic()
+        with subprocess.Popen([program()], stdin=text, stdout=out) as ran:
+            _, status, used = os.wait4(ran.pid, 0)
+            ran.returncode = os.waitstatus_to_exitcode(status)
+        seconds = time.monotonic() - begun
+        out.seek(max(0, out.tell() - 200))
+        lines = out.read().decode(errors="replace").rstrip("\n").split("\n")
+    return seconds, used.ru_maxrss / 1024, ran.returncode, lines[-1]
+
+
+def table(title, sizes, make):
+    """Prints a line for each size: the time and the memory of the script that is made of it."""
+    print(title)
+    for size in sizes:
+        seconds, memory, status, last = measure(make(size))
+        print(f"  {size:>8}  {seconds:8.2f} s  {memory:8.0f} MB  status {status}  {last[:60]}", flush=True)
