@@ -1,3 +1,2 @@
 -- What is printed behind a command, as bytes, over plain states and replies.
 pub mod Blocks
-pub mod Held

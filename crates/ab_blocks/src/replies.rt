@@ -4,10 +4,9 @@ ghost use Rattle.std.specs.Option.{option_copied};
 ghost use Rattle.ab_term.specs.Variables.{variables};
 ghost use Rattle.ab_logic.specs.Worlds.{IsWorld};
 ghost use Rattle.ab_kernel.specs.Layout.{IsProof};
-ghost use Rattle.ab_states.specs.State.{State, goals_of};
-ghost use Rattle.ab_states.specs.Reply.{reply_of};
+ghost use Rattle.ab_states.specs.State.{State, goals_of, goals_in};
+ghost use Rattle.ab_states.specs.Reply.{SpeaksOfNoGoal, reply_of};
 ghost use Rattle.ab_blocks.specs.Blocks.{text, block};
-ghost use Rattle.ab_blocks.specs.Held.{SpeaksOfNoGoal, goals_in};
 
 use crate::goals::write_goals;
 use crate::refusals::write_refusal;

@@ -1,5 +1,6 @@
 -- What a session answers to a command, over plain terms.
-use Rattle.std.specs.Prelude.{ℕ, List, Bool, true, false, None}
+use Rattle.std.specs.Prelude.{◌≡◌, ℕ, List, [], Bool, true, false}
+use Rattle.ab_term.specs.Variables.{variables}
 use Rattle.ab_store.specs.Trees.{Read}
 use Rattle.ab_logic.specs.Worlds.{read, Holds}
 use Rattle.ab_logic.specs.declared.world.World.{World}
@@ -28,10 +29,10 @@ reply_of w (Shown name formula) = shown name (read w formula)
 reply_of w Quit = quit
 reply_of w (Refused r) = refused r
 
--- what it names is there
-abbrev pub HoldsReply : World → Kept → Type 0
-HoldsReply w (Shown name formula) = Holds w formula
-HoldsReply w _ = Unit {0}
+-- the formula that the reply shows, if it shows one, is there and holds no variable
+abbrev pub SpeaksOfNoGoal : World → Kept → Type 0
+SpeaksOfNoGoal w (Shown name formula) = Holds w formula × (variables (read w formula) ≡ [])
+SpeaksOfNoGoal w _ = Unit {0}
 
 abbrev pub is_refusal : Reply → Bool
 is_refusal (refused r) = true

@@ -1,10 +1,13 @@
 -- The state of a session: what was declared, the proof that is open, how goals are shown, and the commands that it keeps.
-use Rattle.std.specs.Prelude.{ℕ, List, [], ◌∷◌, ◌++◌, Bool, true, Option, Some, None, is_some}
+use Rattle.std.specs.Prelude.{ℕ, List, [], ◌∷◌, ◌++◌, map, Bool, true, Option, Some, None, is_some}
 use Rattle.ab_types.specs.Entries.{first_entries}
 use Rattle.ab_store.specs.Trees.{Read}
 use Rattle.ab_logic.specs.Declarations.{Declarations}
 use Rattle.ab_logic.specs.Worlds.{declared}
-use Rattle.ab_goals.specs.Goals.{Goal}
+use Rattle.ab_logic.specs.declared.world.World.{World}
+use Rattle.ab_kernel.specs.Derivation.{open_goals}
+use Rattle.ab_kernel.specs.Layout.{Held, history_of}
+use Rattle.ab_goals.specs.Goals.{Goal, named}
 
 -- a proof that is being made: of which theorem, and the goals that are left of it, the current one first
 pub record Attempt : Type 0 where
@@ -55,3 +58,8 @@ goals_left (Some a) = a.goals
 
 abbrev pub goals_of : State → List Goal
 goals_of s = goals_left s.attempt
+
+-- the goals of a proof that is held, if one is
+abbrev pub goals_in : World → Option Held → List Goal
+goals_in w None = []
+goals_in w (Some p) = map named (open_goals (history_of w p).tree)

@@ -2,9 +2,8 @@ use Rattle.std.proofs.Common.{◌≡◌, ◌++◌, codes, sym, ap, ◌∙◌, ap
 use Rattle.ab_logic.specs.Worlds.{read}
 use Rattle.ab_print.specs.Shown as by_number
 use Rattle.ab_print.specs.Shown.{cell_name}
-use Rattle.ab_states.specs.Reply.{reply_of}
+use Rattle.ab_states.specs.Reply.{SpeaksOfNoGoal, reply_of}
 use Rattle.ab_blocks.specs.Blocks.{closed_formula, text}
-use Rattle.ab_blocks.specs.Held.{SpeaksOfNoGoal}
 use Rattle.ab_blocks.proofs.Lines.{on_ok, closed_so, shown_text}
 use Rattle.ab_blocks.proofs.replies.write_text.Goals as goal
 
