@@ -66,6 +66,7 @@ put_is nodes whole new made node step children within is_whole is =
 pub record Put (nodes : List ProofNode) (js : List Refinement) (place node count : ℕ) (step : Step) (made : List Kept) (new : List ProofNode) : Type 0 where
   pub sequents : sequents_in new ≡ sequents_in nodes ++ made
   pub steps : steps_in new (record { place = place; node = node; premises = count } ∷ js) ≡ record { step = step; place = place; node = node; premises = count } ∷ steps_in nodes js
+  pub before : nodes_before (record { place = place; node = node; premises = count }) new ≡ nodes
 
 abbrev cons_step : StepAt → List StepAt → List StepAt
 cons_step r rs = r ∷ rs
@@ -82,6 +83,7 @@ put nodes new ns js made place at node count step children hand counted is =
       steps =
           ap (λ (n : ProofNode). cons_step (record { step = step_held n; place = place; node = node; premises = count }) (steps_in (nodes_before r new) js)) here
           ∙ ap (λ ns2. cons_step (record { step = step; place = place; node = node; premises = count }) (steps_in ns2 js)) again;
+      before = again;
     }
 
 pub layers_after : (w : World) (nodes new : List ProofNode) (ns ns' : List ℕ) (js : List Refinement) (made : List Kept) (place at node first count : ℕ) (step : Step) (children : List ℕ)

@@ -11,3 +11,4 @@ pub mod Refines
 pub mod Back
 pub mod Adding
 pub mod Rooted
+pub mod Earlier

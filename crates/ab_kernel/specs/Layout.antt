@@ -1,4 +1,5 @@
--- How the fields of a `Proof` stand for its history. Contracts name `Held`, `history_of` and `IsProof` alone.
+-- How the fields of a `Proof` stand for its history, and what they were before a step. Contracts name `Held`, `history_of`,
+-- `IsProof`, `before_last` and `Beyond` alone.
 use Rattle.std.specs.Prelude.{◌≡◌, ℕ, zero, suc, ◌+◌, ◌-◌, ◌≤◌, List, [], ◌∷◌, ◌++◌, length, map, take, drop, reverse, Some, slice_get, slice_set, vec_capacity, unwrap_or, ◌≢◌}
 use Rattle.std.specs.List.{All}
 use Rattle.ab_term.specs.Terms.{spine, index, no_terms}
@@ -33,6 +34,25 @@ abbrev pub nodes_before : Refinement → List ProofNode → List ProofNode
 nodes_before r nodes =
     let kept = take (length nodes - r.premises) nodes in
     slice_set kept r.node (cleared (node_at kept r.node))
+
+abbrev undoing : List ProofNode → List Refinement → Held
+undoing nodes [] = record { nodes = nodes; journal = [] }
+undoing nodes (r ∷ rs) = record { nodes = nodes_before r nodes; journal = rs }
+
+-- the proof before its latest step, where one stands: the premises' nodes are gone, and their goal's node has neither step
+-- nor children
+abbrev pub before_last : Held → Held
+before_last p = undoing p.nodes p.journal
+
+-- the proof before so many of its latest steps
+abbrev pub before_steps : ℕ → Held → Held
+before_steps zero p = p
+before_steps (suc n) p = before_steps n (before_last p)
+
+-- MORE STEPS STAND, or as many, and before those that came the proof was this one, to the number of each child
+pub record Beyond (old new : Held) : Type 0 where
+  pub more : length old.journal ≤ length new.journal
+  pub back : before_steps (length new.journal - length old.journal) new ≡ old
 
 -- the steps that stand, which the nodes hold
 abbrev pub steps_in : List ProofNode → List Refinement → List StepAt

@@ -11,12 +11,13 @@ use Rattle.ab_kernel.specs.declared.node.ProofNode.{ProofNode}
 use Rattle.ab_kernel.proofs.proving.Proof.refine.Given.{Over}
 use Rattle.ab_kernel.specs.Derivation.{open_goals, History}
 use Rattle.ab_kernel.specs.Nodes.{open_node, sequents_in}
-use Rattle.ab_kernel.specs.Layout.{Held, StepAt, steps_in, made_by, history_of, IsProof}
+use Rattle.ab_kernel.specs.Layout.{Held, StepAt, steps_in, made_by, history_of, IsProof, Beyond}
 use Rattle.ab_kernel.proofs.Hand.{AtHand, at_hand, filled_node, put_is, Put, put, layers_after}
 use Rattle.ab_kernel.proofs.Standing.{reads_now, as_many}
 use Rattle.ab_kernel.proofs.Taking.{Taken, in_range, goal_taken, taken, room_after}
 use Rattle.ab_kernel.proofs.Filling.{sequent_read}
 use Rattle.ab_kernel.proofs.Later.{still_proof}
+use Rattle.ab_kernel.proofs.Earlier.{beyond_one}
 use Rattle.ab_kernel.proofs.Refines.{here, history_now, refused, refuses, not_pattern, not_refused, by_rule, as_before, rule_now, proof_after}
 use Rattle.ab_kernel.proofs.proving.Proof.refine.Goals as goal
 
@@ -214,3 +215,13 @@ returns-clause-proof g c =
     steps g c ∙ ap (λ (p : Held). r ∷ steps_in p.nodes p.journal) c.self.view_is in
     proof_after w v c.in-Ok.ensures.grows c.args.self.now q c.requires.proof c.args.step c.requires.step c.in-Ok.made.items r c.args.place (sequent_of w c.index.result.now.sequent)
     t.made sequents taken_steps refl c.in-Ok.ensures.answers.1 h.is_goal rule
+
+pub returns-clause-layout : goal.returns-clause-layout
+returns-clause-layout g c =
+    let r : Refinement = record { place = c.args.place; node = c.index-node.result.now; premises = c.len-count.result } in
+    let js = reverse c.self.inside.journal.items in
+    let was : Held = record { nodes = c.self.inside.nodes.items; journal = js } in
+    let now : List Refinement → Held = λ ks. record { nodes = c.fill_at.new.nodes.items; journal = ks } in
+    subst (λ (p : Held). Beyond p (now (reverse c.push_reserved.new.self.items))) c.self.view_is
+    (subst (λ (ks : List Refinement). Beyond was (now ks)) (sym (journal g c))
+    (beyond_one c.self.inside.nodes.items c.fill_at.new.nodes.items r js (now_put g c).before))
