@@ -12,3 +12,5 @@ pub mod Back
 pub mod Adding
 pub mod Rooted
 pub mod Earlier
+pub mod Trees
+pub mod Growing

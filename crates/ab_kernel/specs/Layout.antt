@@ -15,6 +15,7 @@ use Rattle.ab_kernel.specs.Nodes.{cleared, IsClear, sequents_in, node_at, step_h
 use Rattle.ab_kernel.specs.declared.proving.Proof.TheInside.{Inside}
 use Rattle.ab_rules.specs.Answers.{step_of, HoldsStep}
 use Rattle.ab_kernel.specs.Derivation.{Derivation, root, Valid, open_goals, History, beginning, after, proves}
+use Rattle.ab_kernel.specs.Reading.{Tree}
 
 -- what contracts see of a proof: its nodes, the root first, and the steps that stand, the latest first
 pub record Held : Type 0 where
@@ -144,8 +145,16 @@ Layers nodes numbers (r ∷ rs) =
     AreOpen nodes numbers × AreDistinct numbers
     × Layers (nodes_before r nodes) (open_before (record { step = step_held (node_at nodes r.node); place = r.place; node = r.node; premises = r.premises }) numbers) rs
 
+-- the nodes stand for the derivation; and so it was before each step
+abbrev pub Grown : World → List ProofNode → List ℕ → List Refinement → Type 0
+Grown w nodes numbers [] = Tree w nodes numbers (history_of w (record { nodes = nodes; journal = [] })).tree
+Grown w nodes numbers (r ∷ rs) =
+    Tree w nodes numbers (history_of w (record { nodes = nodes; journal = r ∷ rs })).tree
+    × Grown w (nodes_before r nodes) (open_before (record { step = step_held (node_at nodes r.node); place = r.place; node = r.node; premises = r.premises }) numbers) rs
+
 pub record IsSound (p : Inside) : Type 0 where
   pub stands : (w : World) → Stands w (map (sequent_of w) (sequents_in p.nodes.items)) p.open.items (steps_in p.nodes.items (reverse p.journal.items))
   pub layers : Layers p.nodes.items p.open.items (reverse p.journal.items)
+  pub grown : (w : World) → Grown w p.nodes.items p.open.items (reverse p.journal.items)
   -- steps can be taken back without memory
   pub room : (w : World) → All (λ d. length (open_goals d) ≤ vec_capacity p.open) (history_of w (held p)).earlier

@@ -15,6 +15,7 @@ ghost use Rattle.ab_rules.specs.declared.step.KernelFault.{KernelFault};
 ghost use Rattle.ab_kernel.specs.Derivation.{root, Valid, open_goals, goal_at, IsDerivation, beginning, proves, IsStep, GoalFails, undone};
 ghost use Rattle.ab_kernel.specs.Layout.{history_of, IsProof, before_last, Beyond};
 ghost use Rattle.ab_kernel.specs.Nodes.{open_node, numbers_up};
+ghost use Rattle.ab_kernel.specs.Reading.{StandsFor};
 
 use crate::node::{Children, ProofNode, clear_at, fill_at, take_in};
 use crate::places::{replace_goal, restore_goal};
@@ -264,9 +265,11 @@ impl Proof {
         self.open.is_empty()
     }
 
-    /// The node of that number. The root has the number 0.
+    /// The node of that number. The root has the number 0, and the nodes are the derivation from
+    /// there on, by the numbers of each node's children.
     pub fn node(&self, place: usize) -> Option<&ProofNode>
-        ensures { option_copied result ≡ slice_get self.now.nodes place }
+        ensures node { option_copied result ≡ slice_get self.now.nodes place }
+        ensures tree { (w : AWorld) → StandsFor w self.now.nodes (history_of w self.now).tree 0 }
     {
         self.nodes.get(place)
     }

@@ -9,7 +9,7 @@ use Rattle.ab_kernel.specs.declared.node.ProofNode.{ProofNode}
 use Rattle.ab_kernel.specs.declared.proving.Refinement.{Refinement}
 use Rattle.ab_kernel.specs.Derivation.{open_goals, root, undone, History}
 use Rattle.ab_kernel.specs.Nodes.{cleared, sequents_in, node_at, step_held}
-use Rattle.ab_kernel.specs.Layout.{Held, StepAt, steps_in, nodes_before, open_before, start_of, made_by, Stands, Layers, history_of, IsProof, before_last}
+use Rattle.ab_kernel.specs.Layout.{Held, StepAt, steps_in, nodes_before, open_before, start_of, made_by, Stands, Layers, Grown, history_of, IsProof, before_last}
 use Rattle.ab_kernel.proofs.Standing.{some_world}
 use Rattle.ab_kernel.proofs.Filling.{sequents-before, length-before}
 use Rattle.ab_kernel.proofs.TakingBack.{TakenBack, last_step, room_to_go, node_there, taken_back, proof_before}
@@ -142,10 +142,13 @@ invariant_of-self-in-Some g c =
     let at : c.len.result - (r.place + r.premises) ≡ start_of (last_of nodes r) ns = omega arith in
     let numbers : c.restore_goal.new.numbers.items ≡ open_before (last_of nodes r) ns =
     c.restore_goal.ensures.items ∙ ap (λ n. take n ns ++ r.node ∷ drop (n + r.premises) ns) at in
+    let grown : (w : World) → Grown w nodes ns (r ∷ reverse c.pop.new.self.items) =
+    λ w. subst (λ (ks : List Refinement). Grown w nodes ns ks) (last_step c.self.inside.journal.items c.pop.new.self.items r c.in-Some.ensures.items) (c.self.invariant.grown w) in
     let layers = subst (λ (ks : List Refinement). Layers nodes ns ks) (last_step c.self.inside.journal.items c.pop.new.self.items r c.in-Some.ensures.items) c.self.invariant.layers in
     record {
       stands = λ w. subst (Stands w (map (sequent_of w) (sequents_in c.clear_at.new.nodes.items)) c.restore_goal.new.numbers.items) (steps g c) (back g c w).stands;
       layers = rw (numbers, before g c) layers.2;
+      grown = λ w. rw (numbers, before g c) (grown w).1;
       room = λ w. rw c.restore_goal.ensures.capacity (subst (λ (rs : List StepAt). All (λ d. length (open_goals d) ≤ vec_capacity c.self.inside.open) (made_by w (map (sequent_of w) (sequents_in c.clear_at.new.nodes.items)) rs).earlier) (steps g c) (back g c w).room_left);
     }
 
