@@ -67,6 +67,13 @@ pub again : (w v : World) (p q r : Held) (count : ℕ) → Follows w p v q → c
     → r ≡ before_steps (length q.journal - count) q → r ≡ p
 again w v p q r count f counted e = e ∙ ap (λ n. before_steps (length q.journal - n) q) (counted ∙ standing w p) ∙ f.beyond.back
 
+-- a proof that stands where it stood is as it was
+pub nothing_left : (w v : World) (p q : Held) → Follows w p v q → history_of v q ≡ history_of w p → q ≡ p
+nothing_left w v p q f same =
+    let none : length q.journal - length p.journal ≡ 0 =
+    omega (arith, standing v q, standing w p, ap (λ (h : History). length h.earlier) same) in
+    sym (ap (λ n. before_steps n q) none) ∙ f.beyond.back
+
 pub follows_back : (w v : World) (p q r : Held) → Follows w p v q → IsProof v r → history_of v r ≡ history_of w p → r ≡ p → Follows w p v r
 follows_back w v p q r f proof e same = record {
   grows = f.grows;
