@@ -124,11 +124,11 @@ below_parts : (k : ℕ) (xs ys : List ℕ) → AllBelow k (xs ++ ys) → AllBelo
 below_parts k [] ys all = (tt, all)
 below_parts k (x ∷ xs) ys all = let r = below_parts k xs ys all.1 in ((all.0, r.0), r.1)
 
-differs_parts : (n : ℕ) (xs ys : List ℕ) → Differs n (xs ++ ys) → Differs n xs × Differs n ys
+pub differs_parts : (n : ℕ) (xs ys : List ℕ) → Differs n (xs ++ ys) → Differs n xs × Differs n ys
 differs_parts n [] ys d = (tt, d)
 differs_parts n (x ∷ xs) ys d = let r = differs_parts n xs ys d.1 in ((d.0, r.0), r.1)
 
-differs_join : (n : ℕ) (xs ys : List ℕ) → Differs n xs → Differs n ys → Differs n (xs ++ ys)
+pub differs_join : (n : ℕ) (xs ys : List ℕ) → Differs n xs → Differs n ys → Differs n (xs ++ ys)
 differs_join n [] ys d e = e
 differs_join n (x ∷ xs) ys d e = (d.0, differs_join n xs ys d.1 e)
 
@@ -186,7 +186,7 @@ open_parts : (nodes : List ProofNode) (xs ys : List ℕ) → AreOpen nodes (xs +
 open_parts nodes [] ys o = (tt, o)
 open_parts nodes (x ∷ xs) ys o = let r = open_parts nodes xs ys o.1 in ((o.0, r.0), r.1)
 
-distinct_parts : (xs : List ℕ) (n : ℕ) (ys : List ℕ) → AreDistinct (xs ++ n ∷ ys) → Differs n xs × Differs n ys
+pub distinct_parts : (xs : List ℕ) (n : ℕ) (ys : List ℕ) → AreDistinct (xs ++ n ∷ ys) → Differs n xs × Differs n ys
 distinct_parts [] n ys d = (tt, d.0)
 distinct_parts (x ∷ xs) n ys d =
     let parts = differs_parts x xs (n ∷ ys) d.0 in

@@ -66,6 +66,7 @@ put_is nodes whole new made node step children within is_whole is =
 pub record Put (nodes : List ProofNode) (js : List Refinement) (place node count : ℕ) (step : Step) (made : List Kept) (new : List ProofNode) : Type 0 where
   pub sequents : sequents_in new ≡ sequents_in nodes ++ made
   pub steps : steps_in new (record { place = place; node = node; premises = count } ∷ js) ≡ record { step = step; place = place; node = node; premises = count } ∷ steps_in nodes js
+  pub before : nodes_before (record { place = place; node = node; premises = count }) new ≡ nodes
 
 abbrev cons_step : StepAt → List StepAt → List StepAt
 cons_step r rs = r ∷ rs
@@ -82,7 +83,31 @@ put nodes new ns js made place at node count step children hand counted is =
       steps =
           ap (λ (n : ProofNode). cons_step (record { step = step_held n; place = place; node = node; premises = count }) (steps_in (nodes_before r new) js)) here
           ∙ ap (λ ns2. cons_step (record { step = step; place = place; node = node; premises = count }) (steps_in ns2 js)) again;
+      before = again;
     }
+
+-- the open goals' numbers, once the step is taken back
+pub numbers_before : (w : World) (nodes : List ProofNode) (ns ns' : List ℕ) (js : List Refinement) (made : List Kept) (place at node first count : ℕ) (step taken : Step)
+    → Stands w (map (sequent_of w) (sequents_in nodes)) ns (steps_in nodes js) → place + at + 1 ≡ length ns → node ≡ get_or ns at node
+    → first ≡ length nodes → count ≡ length made
+    → ns' ≡ take at ns ++ numbers_down first count ++ drop (at + 1) ns
+    → open_before (record { step = taken; place = place; node = node; premises = count }) ns' ≡ ns
+numbers_before w nodes ns ns' js made place at node first count step taken stands e is_node is_first counted is_ns =
+    let items = sequents_in nodes in
+    let ss = map (sequent_of w) items in
+    let ps = map (sequent_of w) made in
+    let found = leads place at node (reads_now w ss ns (steps_in nodes js) stands) e is_node in
+    let many : length ss ≡ length nodes = length-map items (sequent_of w) ∙ length-map nodes (λ (n : ProofNode). n.sequent) in
+    let fresh : length ps ≡ length made = length-map made (sequent_of w) in
+    let whole : ns' ≡ take at ns ++ numbers_down (length ss) (length ps) ++ drop (at + 1) ns =
+    is_ns
+    ∙ ap (λ n. take at ns ++ numbers_down n count ++ drop (at + 1) ns) (is_first ∙ sym many)
+    ∙ ap (λ n. take at ns ++ numbers_down (length ss) n ++ drop (at + 1) ns) (counted ∙ sym fresh) in
+    let back : open_before (record { step = step; place = place; node = node; premises = length ps }) (take at ns ++ numbers_down (length ss) (length ps) ++ drop (at + 1) ns) ≡ ns =
+    restored w ss ns (steps_in nodes js) stands step ps place at node found.0 e found.3 found.2 in
+    ap (λ n. open_before (record { step = step; place = place; node = node; premises = n }) ns') (counted ∙ sym fresh)
+    ∙ ap (open_before (record { step = step; place = place; node = node; premises = length ps })) whole
+    ∙ back
 
 pub layers_after : (w : World) (nodes new : List ProofNode) (ns ns' : List ℕ) (js : List Refinement) (made : List Kept) (place at node first count : ℕ) (step : Step) (children : List ℕ)
     → Stands w (map (sequent_of w) (sequents_in nodes)) ns (steps_in nodes js) → Layers nodes ns js → place + at + 1 ≡ length ns → node ≡ get_or ns at node
@@ -93,28 +118,14 @@ pub layers_after : (w : World) (nodes new : List ProofNode) (ns ns' : List ℕ) 
 layers_after w nodes new ns ns' js made place at node first count step children stands layers e is_node is_first counted is is_ns =
     let r : Refinement = record { place = place; node = node; premises = count } in
     let x = filled_node nodes node step children in
-    let items = sequents_in nodes in
-    let ss = map (sequent_of w) items in
-    let ps = map (sequent_of w) made in
     let hand = at_hand w nodes ns js place at node stands layers e is_node in
-    let found = leads place at node (reads_now w ss ns (steps_in nodes js) stands) e is_node in
     let again : nodes_before r new ≡ nodes = before_again nodes made node x new hand.within hand.clear refl is r refl counted in
-    let many : length ss ≡ length nodes = length-map items (sequent_of w) ∙ length-map nodes (λ (n : ProofNode). n.sequent) in
-    let fresh : length ps ≡ length made = length-map made (sequent_of w) in
     let numbers : ns' ≡ take at ns ++ (numbers_down (length nodes) (length made) ++ drop (at + 1) ns) =
     is_ns ∙ append_assoc (take at ns) (numbers_down first count) (drop (at + 1) ns)
     ∙ ap (λ n. take at ns ++ (numbers_down n count ++ drop (at + 1) ns)) is_first
     ∙ ap (λ n. take at ns ++ (numbers_down (length nodes) n ++ drop (at + 1) ns)) counted in
-    let whole : ns' ≡ take at ns ++ numbers_down (length ss) (length ps) ++ drop (at + 1) ns =
-    is_ns
-    ∙ ap (λ n. take at ns ++ numbers_down n count ++ drop (at + 1) ns) (is_first ∙ sym many)
-    ∙ ap (λ n. take at ns ++ numbers_down (length ss) n ++ drop (at + 1) ns) (counted ∙ sym fresh) in
-    let back : open_before (record { step = step; place = place; node = node; premises = length ps }) (take at ns ++ numbers_down (length ss) (length ps) ++ drop (at + 1) ns) ≡ ns =
-    restored w ss ns (steps_in nodes js) stands step ps place at node found.0 e found.3 found.2 in
     let before : open_before (record { step = step_held (node_at new node); place = place; node = node; premises = count }) ns' ≡ ns =
-    ap (λ n. open_before (record { step = step; place = place; node = node; premises = n }) ns') (counted ∙ sym fresh)
-    ∙ ap (open_before (record { step = step; place = place; node = node; premises = length ps })) whole
-    ∙ back in
+    numbers_before w nodes ns ns' js made place at node first count step (step_held (node_at new node)) stands e is_node is_first counted is_ns in
     let opened : AreOpen new (take at ns ++ (numbers_down (length nodes) (length made) ++ drop (at + 1) ns)) =
     open_after nodes made node x new hand.within hand.clear refl is (take at ns) (drop (at + 1) ns)
     (subst (AllBelow (length nodes)) hand.split hand.below) (subst AreDistinct hand.split hand.distinct) (subst (AreOpen nodes) hand.split hand.are_open) in

@@ -11,3 +11,6 @@ pub mod Refines
 pub mod Back
 pub mod Adding
 pub mod Rooted
+pub mod Earlier
+pub mod Trees
+pub mod Growing

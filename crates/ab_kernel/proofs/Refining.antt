@@ -23,11 +23,11 @@ AllValid-goals D (s ∷ ss) = (tt, AllValid-goals D ss)
 
 module _ (step : Step) (premises : List Sequent) where
   -- the two cases of a step below several derivations
-  here : (p : ℕ) (d : Derivation) (ds : Derivations) → nat_lt p (length (open_goals d)) ≡ true
+  pub here : (p : ℕ) (d : Derivation) (ds : Derivations) → nat_lt p (length (open_goals d)) ≡ true
       → refined_in p step premises (more d ds) ≡ more (refined p step premises d) ds
   here p d ds e = ap (λ b. if b then more (refined p step premises d) ds else more d (refined_in (p - length (open_goals d)) step premises ds)) e
 
-  there : (p : ℕ) (d : Derivation) (ds : Derivations) → nat_lt p (length (open_goals d)) ≡ false
+  pub there : (p : ℕ) (d : Derivation) (ds : Derivations) → nat_lt p (length (open_goals d)) ≡ false
       → refined_in p step premises (more d ds) ≡ more d (refined_in (p - length (open_goals d)) step premises ds)
   there p d ds e = ap (λ b. if b then more (refined p step premises d) ds else more d (refined_in (p - length (open_goals d)) step premises ds)) e
 

@@ -1,4 +1,5 @@
--- How the fields of a `Proof` stand for its history. Contracts name `Held`, `history_of` and `IsProof` alone.
+-- How the fields of a `Proof` stand for its history, and what they were before a step. Contracts name `Held`, `history_of`,
+-- `IsProof`, `before_last` and `Beyond` alone.
 use Rattle.std.specs.Prelude.{◌≡◌, ℕ, zero, suc, ◌+◌, ◌-◌, ◌≤◌, List, [], ◌∷◌, ◌++◌, length, map, take, drop, reverse, Some, slice_get, slice_set, vec_capacity, unwrap_or, ◌≢◌}
 use Rattle.std.specs.List.{All}
 use Rattle.ab_term.specs.Terms.{spine, index, no_terms}
@@ -14,6 +15,7 @@ use Rattle.ab_kernel.specs.Nodes.{cleared, IsClear, sequents_in, node_at, step_h
 use Rattle.ab_kernel.specs.declared.proving.Proof.TheInside.{Inside}
 use Rattle.ab_rules.specs.Answers.{step_of, HoldsStep}
 use Rattle.ab_kernel.specs.Derivation.{Derivation, root, Valid, open_goals, History, beginning, after, proves}
+use Rattle.ab_kernel.specs.Reading.{Tree}
 
 -- what contracts see of a proof: its nodes, the root first, and the steps that stand, the latest first
 pub record Held : Type 0 where
@@ -33,6 +35,25 @@ abbrev pub nodes_before : Refinement → List ProofNode → List ProofNode
 nodes_before r nodes =
     let kept = take (length nodes - r.premises) nodes in
     slice_set kept r.node (cleared (node_at kept r.node))
+
+abbrev undoing : List ProofNode → List Refinement → Held
+undoing nodes [] = record { nodes = nodes; journal = [] }
+undoing nodes (r ∷ rs) = record { nodes = nodes_before r nodes; journal = rs }
+
+-- the proof before its latest step, where one stands: the premises' nodes are gone, and their goal's node has neither step
+-- nor children
+abbrev pub before_last : Held → Held
+before_last p = undoing p.nodes p.journal
+
+-- the proof before so many of its latest steps
+abbrev pub before_steps : ℕ → Held → Held
+before_steps zero p = p
+before_steps (suc n) p = before_steps n (before_last p)
+
+-- MORE STEPS STAND, or as many, and before those that came the proof was this one, to the number of each child
+pub record Beyond (old new : Held) : Type 0 where
+  pub more : length old.journal ≤ length new.journal
+  pub back : before_steps (length new.journal - length old.journal) new ≡ old
 
 -- the steps that stand, which the nodes hold
 abbrev pub steps_in : List ProofNode → List Refinement → List StepAt
@@ -124,8 +145,16 @@ Layers nodes numbers (r ∷ rs) =
     AreOpen nodes numbers × AreDistinct numbers
     × Layers (nodes_before r nodes) (open_before (record { step = step_held (node_at nodes r.node); place = r.place; node = r.node; premises = r.premises }) numbers) rs
 
+-- the nodes stand for the derivation; and so it was before each step
+abbrev pub Grown : World → List ProofNode → List ℕ → List Refinement → Type 0
+Grown w nodes numbers [] = Tree w nodes numbers (history_of w (record { nodes = nodes; journal = [] })).tree
+Grown w nodes numbers (r ∷ rs) =
+    Tree w nodes numbers (history_of w (record { nodes = nodes; journal = r ∷ rs })).tree
+    × Grown w (nodes_before r nodes) (open_before (record { step = step_held (node_at nodes r.node); place = r.place; node = r.node; premises = r.premises }) numbers) rs
+
 pub record IsSound (p : Inside) : Type 0 where
   pub stands : (w : World) → Stands w (map (sequent_of w) (sequents_in p.nodes.items)) p.open.items (steps_in p.nodes.items (reverse p.journal.items))
   pub layers : Layers p.nodes.items p.open.items (reverse p.journal.items)
+  pub grown : (w : World) → Grown w p.nodes.items p.open.items (reverse p.journal.items)
   -- steps can be taken back without memory
   pub room : (w : World) → All (λ d. length (open_goals d) ≤ vec_capacity p.open) (history_of w (held p)).earlier

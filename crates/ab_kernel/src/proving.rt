@@ -13,8 +13,9 @@ ghost use Rattle.ab_logic.specs.Formulas.{IsFormula, IsSentence, HasOneTypeEach}
 ghost use Rattle.ab_rules.specs.Answers.{step_of, HoldsStep, IsMemory};
 ghost use Rattle.ab_rules.specs.declared.step.KernelFault.{KernelFault};
 ghost use Rattle.ab_kernel.specs.Derivation.{root, Valid, open_goals, goal_at, IsDerivation, beginning, proves, IsStep, GoalFails, undone};
-ghost use Rattle.ab_kernel.specs.Layout.{history_of, IsProof};
+ghost use Rattle.ab_kernel.specs.Layout.{history_of, IsProof, before_last, Beyond};
 ghost use Rattle.ab_kernel.specs.Nodes.{open_node, numbers_up};
+ghost use Rattle.ab_kernel.specs.Reading.{StandsFor};
 
 use crate::node::{Children, ProofNode, clear_at, fill_at, take_in};
 use crate::places::{replace_goal, restore_goal};
@@ -141,7 +142,8 @@ impl Proof {
 
     /// Takes a step at the open goal of this place, counted from 0 at the left. Its premises take
     /// the goal's place in order, and their number is the answer. A rule that fails, and want of
-    /// memory, change nothing. No rule that is carried out solves equations.
+    /// memory, change nothing of the proof, and leave in the world what it declares and what ids
+    /// stand for. No rule that is carried out solves equations.
     pub fn refine<L>(
         &mut self,
         world: &mut World,
@@ -161,7 +163,9 @@ impl Proof {
         ensures err { OnErr result (self.new ≡ self.old) }
         ensures grows { Grows world.old world.new }
         ensures declared { declarations_of world.new ≡ declarations_of world.old }
+        ensures layout { OnOk result (Beyond self.old self.new) }
         ensures work { IfOk result (λ n. steps.old + n ≤ steps.new) }
+        ensures steps { steps.old ≤ steps.new }
     {
         let at = self.open.len() - 1 - place;
         let node = self.open[at];
@@ -200,16 +204,18 @@ impl Proof {
     }
 
     /// Takes the last step back that still stands. It answers false, and changes nothing, where
-    /// there is none. The work is that of the premises that go.
+    /// there is none. It takes no memory, costs what it undoes, and counts no step.
     pub fn unrefine<L>(&mut self, world: &mut World, steps: &mut Steps<L>) -> bool
         ensures some { (w : AWorld) → IsTrue result ↔ (0 < length (history_of w self.old).earlier) }
         ensures undone { (w : AWorld) → history_of w self.new ≡ undone 1 (history_of w self.old) }
+        ensures layout { self.new ≡ before_last self.old }
         ensures proof { (w : AWorld) → IsProof w self.old → IsProof w self.new }
         ensures root { (w : AWorld) → root (history_of w self.new).tree ≡ root (history_of w self.old).tree }
         ensures world { world.new ≡ world.old }
-        ensures work { steps.new + length self.new.nodes ≡ steps.old + length self.old.nodes }
+        ensures steps { steps.new ≡ steps.old }
     {
         let _ = world;
+        let _ = steps;
         match self.journal.pop() {
             None => false,
             Some(last) => {
@@ -217,7 +223,6 @@ impl Proof {
                 restore_goal(&mut self.open, at, last.premises, last.node);
                 self.nodes.truncate(self.nodes.len() - last.premises);
                 clear_at(&mut self.nodes, last.node);
-                count_premises(last.premises, steps);
                 true
             }
         }
@@ -260,9 +265,11 @@ impl Proof {
         self.open.is_empty()
     }
 
-    /// The node of that number. The root has the number 0.
+    /// The node of that number. The root has the number 0, and the nodes are the derivation from
+    /// there on, by the numbers of each node's children.
     pub fn node(&self, place: usize) -> Option<&ProofNode>
-        ensures { option_copied result ≡ slice_get self.now.nodes place }
+        ensures node { option_copied result ≡ slice_get self.now.nodes place }
+        ensures tree { (w : AWorld) → StandsFor w self.now.nodes (history_of w self.now).tree 0 }
     {
         self.nodes.get(place)
     }

@@ -9,8 +9,9 @@ use Rattle.ab_logic.proofs.Growing.{grows_on, grows_not}
 use Rattle.ab_rules.specs.Steps.{Step}
 use Rattle.ab_rules.specs.declared.step.KernelFault.{KernelFault}
 use Rattle.ab_kernel.specs.Derivation.{History, IsStep, GoalFails, undone, open_goals, Above}
-use Rattle.ab_kernel.specs.Layout.{Held, history_of, IsProof}
+use Rattle.ab_kernel.specs.Layout.{Held, history_of, IsProof, before_steps, Beyond}
 use Rattle.ab_kernel.proofs.Adding.{above_none, above_one, above_on, taken_at, failed_at}
+use Rattle.ab_kernel.proofs.Earlier.{standing, beyond_none, beyond_on}
 use Rattle.ab_kernel.proofs.Later.{same_history}
 use Rattle.ab_kernel.proofs.Splits.{within, at_place, get_here}
 use Rattle.ab_progress.specs.Progress.{goals_of, IsAt, Follows, Took, FailsAt}
@@ -21,11 +22,12 @@ follows_on w v u p q r a b = record {
   declared = b.declared ∙ a.declared;
   proof = b.proof;
   above = above_on (history_of w p) (history_of v q) (history_of u r) a.above b.above;
+  beyond = beyond_on p q r a.beyond b.beyond;
 }
 
 -- no step was taken
 pub follows_not : (w : World) (p : Held) → IsWorld w → IsProof w p → Follows w p w p
-follows_not w p world proof = record { grows = grows_not w world; declared = refl; proof = proof; above = above_none (history_of w p) }
+follows_not w p world proof = record { grows = grows_not w world; declared = refl; proof = proof; above = above_none (history_of w p); beyond = beyond_none p }
 
 -- the proof is as before, in a world that may have grown
 pub as_before : (w v : World) (p q : Held) → Grows w v → IsProof w p → q ≡ p → history_of v q ≡ history_of w p
@@ -33,11 +35,17 @@ as_before w v p q grows old same = ap (history_of v) same ∙ same_history w v g
 
 pub follows_same : (w v : World) (p q : Held) → Grows w v → declarations_of v ≡ declarations_of w → IsProof w p → IsProof v q → q ≡ p → Follows w p v q
 follows_same w v p q grows declared old new same =
-    record { grows = grows; declared = declared; proof = new; above = subst (Above (history_of w p)) (sym (as_before w v p q grows old same)) (above_none (history_of w p)) }
+    record {
+      grows = grows;
+      declared = declared;
+      proof = new;
+      above = subst (Above (history_of w p)) (sym (as_before w v p q grows old same)) (above_none (history_of w p));
+      beyond = subst (Beyond p) (sym same) (beyond_none p);
+    }
 
-pub follows_step : (w v : World) (p q : Held) (place n : ℕ) (step : Step) → Grows w v → declarations_of v ≡ declarations_of w → IsProof v q → IsStep (declarations_of w) place step n (history_of w p) (history_of v q) → Follows w p v q
-follows_step w v p q place n step grows declared new is =
-    record { grows = grows; declared = declared; proof = new; above = above_one (declarations_of w) place n step (history_of w p) (history_of v q) is }
+pub follows_step : (w v : World) (p q : Held) (place n : ℕ) (step : Step) → Grows w v → declarations_of v ≡ declarations_of w → IsProof v q → IsStep (declarations_of w) place step n (history_of w p) (history_of v q) → Beyond p q → Follows w p v q
+follows_step w v p q place n step grows declared new is beyond =
+    record { grows = grows; declared = declared; proof = new; above = above_one (declarations_of w) place n step (history_of w p) (history_of v q) is; beyond = beyond }
 
 pub took : (w v : World) (p q : Held) (place n : ℕ) (step : Step) → IsStep (declarations_of w) place step n (history_of w p) (history_of v q) → Took w p v q place step
 took w v p q place n step is before behind s at =
@@ -54,9 +62,26 @@ pub back : (w v : World) (p q r : Held) (count : ℕ) → Follows w p v q → co
 back w v p q r count f counted e =
     e ∙ ap (λ n. undone (length (history_of v q).earlier - n) (history_of v q)) counted ∙ f.above.back
 
-pub follows_back : (w v : World) (p q r : Held) → Follows w p v q → IsProof v r → history_of v r ≡ history_of w p → Follows w p v r
-follows_back w v p q r f proof e =
-    record { grows = f.grows; declared = f.declared; proof = proof; above = subst (Above (history_of w p)) (sym e) (above_none (history_of w p)) }
+-- and each node is as it was
+pub again : (w v : World) (p q r : Held) (count : ℕ) → Follows w p v q → count ≡ length (history_of w p).earlier
+    → r ≡ before_steps (length q.journal - count) q → r ≡ p
+again w v p q r count f counted e = e ∙ ap (λ n. before_steps (length q.journal - n) q) (counted ∙ standing w p) ∙ f.beyond.back
+
+-- a proof that stands where it stood is as it was
+pub nothing_left : (w v : World) (p q : Held) → Follows w p v q → history_of v q ≡ history_of w p → q ≡ p
+nothing_left w v p q f same =
+    let none : length q.journal - length p.journal ≡ 0 =
+    omega (arith, standing v q, standing w p, ap (λ (h : History). length h.earlier) same) in
+    sym (ap (λ n. before_steps n q) none) ∙ f.beyond.back
+
+pub follows_back : (w v : World) (p q r : Held) → Follows w p v q → IsProof v r → history_of v r ≡ history_of w p → r ≡ p → Follows w p v r
+follows_back w v p q r f proof e same = record {
+  grows = f.grows;
+  declared = f.declared;
+  proof = proof;
+  above = subst (Above (history_of w p)) (sym e) (above_none (history_of w p));
+  beyond = subst (Beyond p) (sym same) (beyond_none p);
+}
 
 pub record Somewhere (w : World) (p : Held) (place : ℕ) : Type 0 where
   pub before : List Sequent
@@ -110,9 +135,11 @@ taken_back w v u p q r count same undone f counted =
     ap (λ x. history_of x r) same ∙ back w v p q r count f counted (undone v)
 
 pub follows_taken_back : (w v u : World) (p q r : Held) (count : ℕ) → u ≡ v → ((x : World) → history_of x r ≡ undone (length (history_of x q).earlier - count) (history_of x q))
-    → ((x : World) → IsProof x q → IsProof x r) → Follows w p v q → count ≡ length (history_of w p).earlier → Follows w p u r
-follows_taken_back w v u p q r count same undone proof f counted =
-    subst (λ x. Follows w p x r) (sym same) (follows_back w v p q r f (proof v f.proof) (back w v p q r count f counted (undone v)))
+    → ((x : World) → IsProof x q → IsProof x r) → r ≡ before_steps (length q.journal - count) q
+    → Follows w p v q → count ≡ length (history_of w p).earlier → Follows w p u r
+follows_taken_back w v u p q r count same undone proof layout f counted =
+    subst (λ x. Follows w p x r) (sym same)
+    (follows_back w v p q r f (proof v f.proof) (back w v p q r count f counted (undone v)) (again w v p q r count f counted layout))
 
 -- the goal of place 0 is the first one
 pub at_first : (w : World) (p : Held) (before behind : List Sequent) (s : Sequent) → IsAt w p 0 before s behind → goals_of w p ≡ s ∷ behind

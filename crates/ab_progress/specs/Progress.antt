@@ -7,7 +7,7 @@ use Rattle.ab_logic.specs.declared.world.World.{World}
 use Rattle.ab_rules.specs.Steps.{Step}
 use Rattle.ab_rules.specs.Rules.{NamedRule, Fails}
 use Rattle.ab_kernel.specs.Derivation.{open_goals, Above}
-use Rattle.ab_kernel.specs.Layout.{Held, history_of, IsProof}
+use Rattle.ab_kernel.specs.Layout.{Held, history_of, IsProof, Beyond}
 
 -- the open goals, from left to right
 abbrev pub goals_of : World → Held → List Sequent
@@ -18,12 +18,14 @@ pub record IsAt (w : World) (p : Held) (place : ℕ) (before : List Sequent) (s 
   pub goals : goals_of w p ≡ before ++ s ∷ behind
   pub counted : length before ≡ place
 
--- THE PROOF IS STILL ONE, in a world that may have grown and declares the same, and the steps since then can be taken back
+-- THE PROOF IS STILL ONE, in a world that may have grown and declares the same, and the steps since then can be taken back,
+-- which leaves each node as it was
 pub record Follows (w : World) (p : Held) (v : World) (q : Held) : Type 0 where
   pub grows : Grows w v
   pub declared : declarations_of v ≡ declarations_of w
   pub proof : IsProof v q
   pub above : Above (history_of w p) (history_of v q)
+  pub beyond : Beyond p q
 
 -- the goal of this place gave way to goals that it has this to do with
 abbrev pub GaveWay : World → Held → World → Held → ℕ → (Sequent → List Sequent → Type 0) → Type 0

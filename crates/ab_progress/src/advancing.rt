@@ -1,5 +1,5 @@
 //! Steps of a proof, as the proof commands take them and take them back.
-ghost use Rattle.std.specs.Prelude.{◌≡◌, ◌<◌, ◌-◌, length, IfOk, OnOk, OnErr, IsTrue, IsFalse};
+ghost use Rattle.std.specs.Prelude.{◌≡◌, ◌<◌, ◌≤◌, ◌-◌, length, IfOk, OnOk, OnErr, IsTrue, IsFalse};
 ghost use Rattle.ab_logic.specs.Worlds.{IsWorld};
 ghost use Rattle.ab_logic.specs.declared.world.World.{World as AWorld};
 ghost use Rattle.ab_rules.specs.Answers.{step_of, HoldsStep};
@@ -28,7 +28,10 @@ pub fn attempt<L>(
     ensures took { IfOk result (λ b. IsTrue b → Took world.old proof.old world.new proof.new place (step_of world.old step)) }
     ensures failed { IfOk result (λ b. IsFalse b → FailsAt world.old proof.old place (step_of world.old step)) }
     ensures same { IfOk result (λ b. IsFalse b → history_of world.new proof.new ≡ history_of world.old proof.old) }
+    ensures kept { IfOk result (λ b. IsFalse b → proof.new ≡ proof.old) }
     ensures unchanged { OnErr result (history_of world.new proof.new ≡ history_of world.old proof.old) }
+    ensures err { OnErr result (proof.new ≡ proof.old) }
+    ensures steps { steps.old ≤ steps.new }
 {
     match proof.refine(world, place, step, steps) {
         Ok(_) => Ok(true),
@@ -54,6 +57,8 @@ pub fn surely<L>(
     ensures follows { Follows world.old proof.old world.new proof.new }
     ensures took { OnOk result (Took world.old proof.old world.new proof.new place (step_of world.old step)) }
     ensures unchanged { OnErr result (history_of world.new proof.new ≡ history_of world.old proof.old) }
+    ensures err { OnErr result (proof.new ≡ proof.old) }
+    ensures steps { steps.old ≤ steps.new }
 {
     let taken = attempt(world, proof, place, step, steps)?;
     if taken { Ok(()) } else { unreachable!() }
@@ -68,6 +73,8 @@ pub fn take_back<L>(world: &mut World, proof: &mut Proof, count: usize, steps: &
         history_of world.new proof.new ≡ history_of w p }
     ensures follows { (w : AWorld) (p : Held) → Follows w p world.old proof.old → count ≡ length (history_of w p).earlier →
         Follows w p world.new proof.new }
+    ensures kept { (w : AWorld) (p : Held) → Follows w p world.old proof.old → count ≡ length (history_of w p).earlier → proof.new ≡ p }
+    ensures steps { steps.new ≡ steps.old }
 {
     while proof.steps() > count {
         let _ = proof.unrefine(world, steps);

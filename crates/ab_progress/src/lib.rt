@@ -3,6 +3,7 @@
 
 mod advancing;
 mod fault;
+pub mod laws;
 mod looking;
 
 pub use advancing::{attempt, surely, take_back};

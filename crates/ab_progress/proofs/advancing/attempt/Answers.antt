@@ -7,7 +7,7 @@ use Rattle.ab_progress.proofs.advancing.attempt.Goals as goal
 pub returns-in-Ok-clause-follows : goal.returns-in-Ok-clause-follows
 returns-in-Ok-clause-follows g c =
     follows_step c.args.world.now c.refine.new.world c.args.proof.now c.refine.new.self c.args.place _ (step_of c.args.world.now c.args.step)
-    c.refine.ensures.grows c.refine.ensures.declared c.refine.ensures.proof c.in-Ok.ensures.step
+    c.refine.ensures.grows c.refine.ensures.declared c.refine.ensures.proof c.in-Ok.ensures.step c.in-Ok.ensures.layout
 
 pub returns-in-Ok-clause-took : goal.returns-in-Ok-clause-took
 returns-in-Ok-clause-took g c holds =

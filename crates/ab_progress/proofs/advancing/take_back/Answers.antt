@@ -1,9 +1,11 @@
 use Rattle.std.proofs.Common.{◌≡◌, inl, inr, ◌+◌, ◌-◌, ◌∙◌, ap, length, arith}
 use Rattle.ab_logic.specs.declared.world.World.{World}
 use Rattle.ab_kernel.specs.Derivation.{History, undone}
-use Rattle.ab_kernel.specs.Layout.{history_of}
+use Rattle.ab_kernel.specs.Layout.{Held, history_of, before_last, before_steps}
+use Rattle.ab_kernel.proofs.Standing.{some_world}
+use Rattle.ab_kernel.proofs.Earlier.{standing, shorter, before_more}
 use Rattle.ab_kernel.proofs.Back.{undone_more, undone_length}
-use Rattle.ab_progress.proofs.Following.{taken_back, follows_taken_back}
+use Rattle.ab_progress.proofs.Following.{again, taken_back, follows_taken_back}
 use Rattle.ab_progress.proofs.advancing.take_back.Goals as goal
 
 pub loop-steps-preserved : goal.loop-steps-preserved
@@ -21,7 +23,20 @@ loop-steps-preserved g c =
           ∙ undone_more (history_of w c.args.proof.now) (was - now) 1
           ∙ ap (λ n. undone n (history_of w c.args.proof.now)) left;
       proof = λ w p. c.unrefine.ensures.proof w (c.loop-steps.invariant.proof w p);
+      layout =
+          let w = some_world in
+          let was = length c.args.proof.now.journal in
+          let now = length c.loop-steps.proof.journal in
+          let next = length c.unrefine.new.self.journal in
+          let less : next ≡ now - 1 = ap (λ (p : Held). length p.journal) c.unrefine.ensures.layout ∙ shorter c.loop-steps.proof in
+          let left : (was - now) + 1 ≡ was - next =
+          omega (arith, less, standing w c.loop-steps.proof, standing w c.args.proof.now, c.steps.ensures w, c.loop-steps-test.true, c.loop-steps.invariant.fewer w) in
+          c.unrefine.ensures.layout
+          ∙ ap before_last c.loop-steps.invariant.layout
+          ∙ before_more c.args.proof.now (was - now) 1
+          ∙ ap (λ n. before_steps n c.args.proof.now) left;
       world = c.unrefine.ensures.world ∙ c.loop-steps.invariant.world;
+      steps = c.unrefine.ensures.steps ∙ c.loop-steps.invariant.steps;
       enough = λ w. inr (omega (arith, shorter w, c.steps.ensures w, c.loop-steps-test.true));
       fewer = λ w. omega (arith, shorter w, c.loop-steps.invariant.fewer w);
     }
@@ -66,4 +81,24 @@ returns-clause-follows g c w p f counted =
       | inr l ↦ omega (arith, l, c.steps.ensures w, c.loop-steps-test.false, c.loop-steps.invariant.fewer w)
     ] in
     c.loop-steps.invariant.undone w ∙ ap (λ n. undone n (history_of w c.args.proof.now)) left in
-    follows_taken_back w c.args.world.now c.loop-steps.world p c.args.proof.now c.loop-steps.proof c.args.count c.loop-steps.invariant.world undone_now c.loop-steps.invariant.proof f counted
+    let w0 = some_world in
+    let left : length c.args.proof.now.journal - length c.loop-steps.proof.journal ≡ length c.args.proof.now.journal - c.args.count =
+    elim (c.loop-steps.invariant.enough w0) [
+      | inl e ↦ omega (arith, e, standing w0 c.loop-steps.proof, standing w0 c.args.proof.now, c.steps.ensures w0, c.loop-steps-test.false, c.loop-steps.invariant.fewer w0)
+      | inr l ↦ omega (arith, l, standing w0 c.loop-steps.proof, standing w0 c.args.proof.now, c.steps.ensures w0, c.loop-steps-test.false, c.loop-steps.invariant.fewer w0)
+    ] in
+    let layout : c.loop-steps.proof ≡ before_steps (length c.args.proof.now.journal - c.args.count) c.args.proof.now =
+    c.loop-steps.invariant.layout ∙ ap (λ n. before_steps n c.args.proof.now) left in
+    follows_taken_back w c.args.world.now c.loop-steps.world p c.args.proof.now c.loop-steps.proof c.args.count c.loop-steps.invariant.world undone_now c.loop-steps.invariant.proof layout f counted
+
+pub returns-clause-kept : goal.returns-clause-kept
+returns-clause-kept g c w p f counted =
+    let w0 = some_world in
+    let left : length c.args.proof.now.journal - length c.loop-steps.proof.journal ≡ length c.args.proof.now.journal - c.args.count =
+    elim (c.loop-steps.invariant.enough w0) [
+      | inl e ↦ omega (arith, e, standing w0 c.loop-steps.proof, standing w0 c.args.proof.now, c.steps.ensures w0, c.loop-steps-test.false, c.loop-steps.invariant.fewer w0)
+      | inr l ↦ omega (arith, l, standing w0 c.loop-steps.proof, standing w0 c.args.proof.now, c.steps.ensures w0, c.loop-steps-test.false, c.loop-steps.invariant.fewer w0)
+    ] in
+    let layout : c.loop-steps.proof ≡ before_steps (length c.args.proof.now.journal - c.args.count) c.args.proof.now =
+    c.loop-steps.invariant.layout ∙ ap (λ n. before_steps n c.args.proof.now) left in
+    again w c.args.world.now p c.args.proof.now c.loop-steps.proof c.args.count f counted layout

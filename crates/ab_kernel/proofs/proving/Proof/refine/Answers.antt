@@ -5,18 +5,21 @@ use Rattle.std.proofs.lemmas.List.{length-map, reverse-append}
 use Rattle.ab_logic.specs.Sequents.{Sequent}
 use Rattle.ab_logic.specs.Readings.{sequent_of}
 use Rattle.ab_logic.specs.Worlds.{declarations_of}
+use Rattle.ab_rules.specs.Answers.{step_of}
 use Rattle.ab_logic.specs.declared.world.World.{World}
 use Rattle.ab_kernel.specs.declared.proving.Refinement.{Refinement}
 use Rattle.ab_kernel.specs.declared.node.ProofNode.{ProofNode}
 use Rattle.ab_kernel.proofs.proving.Proof.refine.Given.{Over}
-use Rattle.ab_kernel.specs.Derivation.{open_goals, History}
+use Rattle.ab_kernel.specs.Derivation.{open_goals, refined, History}
 use Rattle.ab_kernel.specs.Nodes.{open_node, sequents_in}
-use Rattle.ab_kernel.specs.Layout.{Held, StepAt, steps_in, made_by, history_of, IsProof}
+use Rattle.ab_kernel.specs.Layout.{Held, StepAt, steps_in, made_by, history_of, IsProof, Beyond}
 use Rattle.ab_kernel.proofs.Hand.{AtHand, at_hand, filled_node, put_is, Put, put, layers_after}
 use Rattle.ab_kernel.proofs.Standing.{reads_now, as_many}
 use Rattle.ab_kernel.proofs.Taking.{Taken, in_range, goal_taken, taken, room_after}
 use Rattle.ab_kernel.proofs.Filling.{sequent_read}
 use Rattle.ab_kernel.proofs.Later.{still_proof}
+use Rattle.ab_kernel.proofs.Growing.{grown_after}
+use Rattle.ab_kernel.proofs.Earlier.{beyond_one}
 use Rattle.ab_kernel.proofs.Refines.{here, history_now, refused, refuses, not_pattern, not_refused, by_rule, as_before, rule_now, proof_after}
 use Rattle.ab_kernel.proofs.proving.Proof.refine.Goals as goal
 
@@ -170,6 +173,18 @@ invariant_of-self-2 g c =
           (layers_after w c.self.inside.nodes.items c.fill_at.new.nodes.items c.self.inside.open.items c.replace_goal.new.numbers.items (reverse c.self.inside.journal.items) c.in-Ok.made.items
           c.args.place (c.len.result - 1 - c.args.place) c.index-node.result.now c.len-first.result c.len-count.result c.args.step c.in-Ok-prepare.children
           (c.self.invariant.stands w) c.self.invariant.layers (omega arith) c.index-node.ensures counted (omega arith) (whole g c) (rw c.prepare.ensures.numbers at c.replace_goal.ensures.items));
+      grown = λ u.
+          let r : Refinement = record { place = c.args.place; node = c.index-node.result.now; premises = c.len-count.result } in
+          let tree_is : (history_of u (record { nodes = c.fill_at.new.nodes.items; journal = r ∷ reverse c.self.inside.journal.items })).tree
+          ≡ refined c.args.place (step_of u c.args.step) (map (sequent_of u) c.in-Ok.made.items) (history_of u (record { nodes = c.self.inside.nodes.items; journal = reverse c.self.inside.journal.items })).tree =
+          ap (λ (ks : List Refinement). (history_of u (record { nodes = c.fill_at.new.nodes.items; journal = ks })).tree) (sym (journal g c))
+          ∙ ap (λ (h : History). h.tree) (at u).made
+          ∙ ap (λ (p : Held). refined c.args.place (step_of u c.args.step) (map (sequent_of u) c.in-Ok.made.items) (history_of u p).tree) (sym c.self.view_is) in
+          rw (journal g c)
+          (grown_after u c.self.inside.nodes.items c.fill_at.new.nodes.items c.self.inside.open.items c.replace_goal.new.numbers.items (reverse c.self.inside.journal.items) c.in-Ok.made.items
+          c.args.place (c.len.result - 1 - c.args.place) c.index-node.result.now c.len-first.result c.len-count.result c.args.step c.in-Ok-prepare.children
+          (c.self.invariant.stands u) c.self.invariant.layers (omega arith) c.index-node.ensures counted (omega arith) c.in-Ok-prepare.ensures.children (whole g c) (rw c.prepare.ensures.numbers at c.replace_goal.ensures.items)
+          tree_is (c.self.invariant.grown u));
       room = λ u.
           let many = as_many (reads_now u _ _ _ (c.self.invariant.stands u)) ∙ ap (λ p. length (open_goals (history_of u p).tree)) c.self.view_is in
           let old : All (λ d. length (open_goals d) ≤ vec_capacity c.self.inside.open) (history_of u c.args.self.now).earlier =
@@ -214,3 +229,13 @@ returns-clause-proof g c =
     steps g c ∙ ap (λ (p : Held). r ∷ steps_in p.nodes p.journal) c.self.view_is in
     proof_after w v c.in-Ok.ensures.grows c.args.self.now q c.requires.proof c.args.step c.requires.step c.in-Ok.made.items r c.args.place (sequent_of w c.index.result.now.sequent)
     t.made sequents taken_steps refl c.in-Ok.ensures.answers.1 h.is_goal rule
+
+pub returns-clause-layout : goal.returns-clause-layout
+returns-clause-layout g c =
+    let r : Refinement = record { place = c.args.place; node = c.index-node.result.now; premises = c.len-count.result } in
+    let js = reverse c.self.inside.journal.items in
+    let was : Held = record { nodes = c.self.inside.nodes.items; journal = js } in
+    let now : List Refinement → Held = λ ks. record { nodes = c.fill_at.new.nodes.items; journal = ks } in
+    subst (λ (p : Held). Beyond p (now (reverse c.push_reserved.new.self.items))) c.self.view_is
+    (subst (λ (ks : List Refinement). Beyond was (now ks)) (sym (journal g c))
+    (beyond_one c.self.inside.nodes.items c.fill_at.new.nodes.items r js (now_put g c).before))

@@ -9,7 +9,7 @@ use Rattle.ab_kernel.specs.declared.node.ProofNode.{ProofNode}
 use Rattle.ab_kernel.specs.declared.proving.Refinement.{Refinement}
 use Rattle.ab_kernel.specs.Derivation.{open_goals, root, undone, History}
 use Rattle.ab_kernel.specs.Nodes.{cleared, sequents_in, node_at, step_held}
-use Rattle.ab_kernel.specs.Layout.{Held, StepAt, steps_in, nodes_before, open_before, start_of, made_by, Stands, Layers, history_of, IsProof}
+use Rattle.ab_kernel.specs.Layout.{Held, StepAt, steps_in, nodes_before, open_before, start_of, made_by, Stands, Layers, Grown, history_of, IsProof, before_last}
 use Rattle.ab_kernel.proofs.Standing.{some_world}
 use Rattle.ab_kernel.proofs.Filling.{sequents-before, length-before}
 use Rattle.ab_kernel.proofs.TakingBack.{TakenBack, last_step, room_to_go, node_there, taken_back, proof_before}
@@ -102,7 +102,7 @@ clear_at-requires g c =
     omega (arith, inside, many, short)
 
 -- the nodes are those before the step
-before : (g : Over) (c : goal.After-count_premises g) → c.clear_at.new.nodes.items ≡ nodes_before c.in-Some.last c.self.inside.nodes.items
+before : (g : Over) (c : goal.After-clear_at g) → c.clear_at.new.nodes.items ≡ nodes_before c.in-Some.last c.self.inside.nodes.items
 before g c =
     let r = c.in-Some.last in
     let nodes = c.self.inside.nodes.items in
@@ -111,7 +111,7 @@ before g c =
     ∙ ap (λ (ns : List ProofNode). slice_set ns r.node (cleared (node_at ns r.node))) (c.truncate.ensures.items ∙ ap (λ n. take (n - r.premises) nodes) long)
 
 -- the fields stand for the proof before the step
-back : (g : Over) (c : goal.After-count_premises g) (w : World)
+back : (g : Over) (c : goal.After-clear_at g) (w : World)
     → TakenBack w (map (sequent_of w) (sequents_in c.clear_at.new.nodes.items)) c.restore_goal.new.numbers.items (steps_in (nodes_before c.in-Some.last c.self.inside.nodes.items) (reverse c.pop.new.self.items)) (vec_capacity c.self.inside.open) (history_of w c.args.self.now)
 back g c w =
     let r = c.in-Some.last in
@@ -128,10 +128,10 @@ back g c w =
     (ap sequents_in (before g c) ∙ sequents-before r nodes ∙ ap (λ n. take (n - r.premises) (sequents_in nodes)) (sym long))
     c.restore_goal.ensures.items
 
-steps : (g : Over) (c : goal.After-count_premises g) → steps_in (nodes_before c.in-Some.last c.self.inside.nodes.items) (reverse c.pop.new.self.items) ≡ steps_in c.clear_at.new.nodes.items (reverse c.pop.new.self.items)
+steps : (g : Over) (c : goal.After-clear_at g) → steps_in (nodes_before c.in-Some.last c.self.inside.nodes.items) (reverse c.pop.new.self.items) ≡ steps_in c.clear_at.new.nodes.items (reverse c.pop.new.self.items)
 steps g c = ap (λ (ns : List ProofNode). steps_in ns (reverse c.pop.new.self.items)) (sym (before g c))
 
-made : (g : Over) (c : goal.After-count_premises g) (w : World) → history_of w (record { nodes = c.clear_at.new.nodes.items; journal = reverse c.pop.new.self.items }) ≡ undone 1 (history_of w c.args.self.now)
+made : (g : Over) (c : goal.After-clear_at g) (w : World) → history_of w (record { nodes = c.clear_at.new.nodes.items; journal = reverse c.pop.new.self.items }) ≡ undone 1 (history_of w c.args.self.now)
 made g c w = ap (made_by w (map (sequent_of w) (sequents_in c.clear_at.new.nodes.items))) (sym (steps g c)) ∙ (back g c w).made
 
 pub invariant_of-self-in-Some : goal.invariant_of-self-in-Some
@@ -142,10 +142,13 @@ invariant_of-self-in-Some g c =
     let at : c.len.result - (r.place + r.premises) ≡ start_of (last_of nodes r) ns = omega arith in
     let numbers : c.restore_goal.new.numbers.items ≡ open_before (last_of nodes r) ns =
     c.restore_goal.ensures.items ∙ ap (λ n. take n ns ++ r.node ∷ drop (n + r.premises) ns) at in
+    let grown : (w : World) → Grown w nodes ns (r ∷ reverse c.pop.new.self.items) =
+    λ w. subst (λ (ks : List Refinement). Grown w nodes ns ks) (last_step c.self.inside.journal.items c.pop.new.self.items r c.in-Some.ensures.items) (c.self.invariant.grown w) in
     let layers = subst (λ (ks : List Refinement). Layers nodes ns ks) (last_step c.self.inside.journal.items c.pop.new.self.items r c.in-Some.ensures.items) c.self.invariant.layers in
     record {
       stands = λ w. subst (Stands w (map (sequent_of w) (sequents_in c.clear_at.new.nodes.items)) c.restore_goal.new.numbers.items) (steps g c) (back g c w).stands;
       layers = rw (numbers, before g c) layers.2;
+      grown = λ w. rw (numbers, before g c) (grown w).1;
       room = λ w. rw c.restore_goal.ensures.capacity (subst (λ (rs : List StepAt). All (λ d. length (open_goals d) ≤ vec_capacity c.self.inside.open) (made_by w (map (sequent_of w) (sequents_in c.clear_at.new.nodes.items)) rs).earlier) (steps g c) (back g c w).room_left);
     }
 
@@ -171,15 +174,11 @@ returns-in-Some-clause-proof g c =
     subst (λ (ns : List ProofNode). IsProof w (record { nodes = ns; journal = reverse c.pop.new.self.items })) (sym (before g c))
     (proof_before w nodes r (reverse c.pop.new.self.items) is rooted (subst (IsProof w) same proof))
 
-pub returns-in-Some-clause-work : goal.returns-in-Some-clause-work
-returns-in-Some-clause-work g c =
-    let w = some_world in
-    let nodes = c.self.inside.nodes.items in
+pub returns-in-Some-clause-layout : goal.returns-in-Some-clause-layout
+returns-in-Some-clause-layout g c =
     let r = c.in-Some.last in
-    let room = room_to_go w (sequents_in nodes) c.self.inside.open.items (last_of nodes r) (steps_in (nodes_before r nodes) (reverse c.pop.new.self.items)) (vec_capacity c.self.inside.open)
-    (there w nodes c.self.inside.open.items c.self.inside.journal.items c.pop.new.self.items r c.in-Some.ensures.items (c.self.invariant.stands w))
-    (room_left w nodes c.self.inside.open.items c.self.inside.journal.items c.pop.new.self.items r c.in-Some.ensures.items (vec_capacity c.self.inside.open) (c.self.invariant.room w)) in
-    let many = length-map nodes (λ (n : ProofNode). n.sequent) in
-    let left : length c.clear_at.new.nodes.items ≡ length nodes - r.premises = ap length (before g c) ∙ length-before r nodes in
-    let same : length nodes ≡ length c.args.self.now.nodes = ap (λ (p : Held). length p.nodes) c.self.view_is in
-    omega (arith, left, same, many, room.1, c.count_premises.ensures)
+    let rest = reverse c.pop.new.self.items in
+    let with_nodes : List ProofNode → Held = λ ns. record { nodes = ns; journal = rest } in
+    let same : c.args.self.now ≡ record { nodes = c.self.inside.nodes.items; journal = r ∷ rest } =
+    sym c.self.view_is ∙ ap (λ (ks : List Refinement). record { nodes = c.self.inside.nodes.items; journal = ks }) (last_step c.self.inside.journal.items c.pop.new.self.items r c.in-Some.ensures.items) in
+    ap with_nodes (before g c) ∙ ap before_last (sym same)
