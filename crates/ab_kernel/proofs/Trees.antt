@@ -20,7 +20,7 @@ use Rattle.ab_kernel.proofs.Filling.{filled, differs_parts, differs_join, distin
 use Rattle.ab_kernel.proofs.Refining.{here, there}
 
 -- so many numbers from the first on, the first of them first
-counting : ℕ → ℕ → List ℕ
+abbrev counting : ℕ → ℕ → List ℕ
 counting first zero = []
 counting first (suc n) = first ∷ counting (suc first) n
 
