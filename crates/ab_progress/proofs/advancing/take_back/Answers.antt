@@ -10,14 +10,14 @@ use Rattle.ab_progress.proofs.advancing.take_back.Goals as goal
 
 pub loop-steps-preserved : goal.loop-steps-preserved
 loop-steps-preserved g c =
-    let shorter : (w : World) → length (history_of w c.unrefine.new.self).earlier ≡ length (history_of w c.loop-steps.proof).earlier - 1 =
+    let fewer : (w : World) → length (history_of w c.unrefine.new.self).earlier ≡ length (history_of w c.loop-steps.proof).earlier - 1 =
     λ w. ap (λ (h : History). length h.earlier) (c.unrefine.ensures.undone w) ∙ undone_length (history_of w c.loop-steps.proof) 1 in
     record {
       undone = λ w.
           let was = length (history_of w c.args.proof.now).earlier in
           let now = length (history_of w c.loop-steps.proof).earlier in
           let next = length (history_of w c.unrefine.new.self).earlier in
-          let left : (was - now) + 1 ≡ was - next = omega (arith, shorter w, c.steps.ensures w, c.loop-steps-test.true, c.loop-steps.invariant.fewer w) in
+          let left : (was - now) + 1 ≡ was - next = omega (arith, fewer w, c.steps.ensures w, c.loop-steps-test.true, c.loop-steps.invariant.fewer w) in
           c.unrefine.ensures.undone w
           ∙ ap (undone 1) (c.loop-steps.invariant.undone w)
           ∙ undone_more (history_of w c.args.proof.now) (was - now) 1
@@ -37,8 +37,8 @@ loop-steps-preserved g c =
           ∙ ap (λ n. before_steps n c.args.proof.now) left;
       world = c.unrefine.ensures.world ∙ c.loop-steps.invariant.world;
       steps = c.unrefine.ensures.steps ∙ c.loop-steps.invariant.steps;
-      enough = λ w. inr (omega (arith, shorter w, c.steps.ensures w, c.loop-steps-test.true));
-      fewer = λ w. omega (arith, shorter w, c.loop-steps.invariant.fewer w);
+      enough = λ w. inr (omega (arith, fewer w, c.steps.ensures w, c.loop-steps-test.true));
+      fewer = λ w. omega (arith, fewer w, c.loop-steps.invariant.fewer w);
     }
 
 pub returns-clause-undone : goal.returns-clause-undone
