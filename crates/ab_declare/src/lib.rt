@@ -13,3 +13,4 @@ pub use kinds::declare_kinds;
 pub use moment::Moment;
 pub use refusal::{Place, Refusal};
 pub use stating::{Statement, state_formula};
+pub use types::formula_type;

@@ -10,7 +10,7 @@ use ab_types::{TableFault, TypeId, TypeTable};
 use std::alloc::{AllocError, Global};
 
 /// The type of formulas.
-pub(crate) fn formula_type(alloc: Global, types: &mut TypeTable) -> Result<TypeId, AllocError>
+pub fn formula_type(alloc: Global, types: &mut TypeTable) -> Result<TypeId, AllocError>
     requires { IsTable types.old }
     ensures held { IfOk result (HoldsType types.new) }
     ensures is { IfOk result (λ ty. type_of types.new ty ≡ prop) }

@@ -1,7 +1,7 @@
 -- THE PROOF COMMANDS, row by row: what is asked, in order, and the goals that take the first goal's place.
 use Rattle.std.specs.Prelude.{◌≡◌, ℕ, List, [], ◌∷◌, ◌++◌, map, Bool, ◌||◌, Option, Some, None, if◌then◌else◌, is_some, bytes_eq}
 use Rattle.std.specs.List.{list_any}
-use Rattle.ab_term.specs.Types.{Ty, prop}
+use Rattle.ab_term.specs.Types.{Ty}
 use Rattle.ab_term.specs.Substitution.{instance}
 use Rattle.ab_store.specs.Trees.{Read}
 use Rattle.ab_grammar.specs.Tree.{Tree}
@@ -13,9 +13,14 @@ use Rattle.ab_logic.specs.Sequents.{Sequent, formula_of, proving, assuming, with
 use Rattle.ab_logic.specs.Names.{Label, auto, given, Names, NoName}
 use Rattle.ab_effects.specs.Refusals.{Refusal, clash, no_hypothesis, wrong_shape, names_spent}
 use Rattle.ab_effects.specs.Row.{Row, leads, unless, finds, makes}
-use Rattle.ab_effects.specs.Terms.{Means, MeansNothing}
+use Rattle.ab_effects.specs.Terms.{Means, MeansNothing, Asserts, AssertsNothing}
 use Rattle.ab_effects.specs.Opening.{Opened, Nameless}
 use Rattle.ab_effects.specs.Introducing.{Introduced, Unnamed, taken_off, Parts}
+
+-- the label that stands before a command, if one does
+abbrev pub given_label : Option (List ℕ) → Label
+given_label None = auto
+given_label (Some x) = given x
 
 -- the name is that of a hypothesis
 abbrev pub is_used : Sequent → List ℕ → Bool
@@ -56,6 +61,10 @@ introducing D xs s =
 -- the expression is to mean a term of the type in the goal
 abbrev pub reading : Declarations → Sequent → Tree → Ty → (Read → Row) → Row
 reading D s e A k = makes (Means D s e A) (MeansNothing D s e A) k
+
+-- the expression is to state a formula in the goal
+abbrev pub stating : Declarations → Sequent → Tree → (Read → Row) → Row
+stating D s e k = makes (Asserts D s e) (AssertsNothing D s e) k
 
 -- a new hypothesis is to get its name
 abbrev pub naming : Label → Sequent → (List ℕ → Sequent → Row) → Row
@@ -112,7 +121,7 @@ effect D l (command.case H keep) s =
     cases D (form_of F) F l (if keep then s else without H s)))
 effect D l (command.assert e) s =
     unless (clashing l s) (
-    reading D s e prop (λ F.
+    stating D s e (λ F.
     naming l s (λ name t.
     leads (proving F s ∷ assuming name F t ∷ []))))
 effect D l (command.clear Hs) s =

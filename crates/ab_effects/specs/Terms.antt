@@ -1,10 +1,11 @@
 -- What the terms of a proof command mean: each is the normal form of the one reading of its expression in the goal.
-use Rattle.std.specs.Prelude.{◌≡◌, ℕ, List, [], ◌∷◌, map, Ok, Err, Some, None, Option}
-use Rattle.ab_term.specs.Types.{Ty}
+use Rattle.std.specs.Prelude.{◌≡◌, ◌⊎◌, ℕ, List, [], ◌∷◌, map, Ok, Err, Some, None, Option}
+use Rattle.ab_term.specs.Types.{Ty, prop}
 use Rattle.ab_term.specs.Terms.{Head, Nominal, nominal, constant}
 use Rattle.ab_store.specs.Trees.{Read}
 use Rattle.ab_grammar.specs.Tree.{Tree, place_of}
 use Rattle.ab_logic.specs.Declarations.{Declarations, a_kind, a_constant, a_block, a_program_clause, a_theorem, signature_in}
+use Rattle.ab_logic.specs.Formulas.{IsFormula}
 use Rattle.ab_logic.specs.Sequents.{Variable, Sequent, goal_names}
 use Rattle.ab_readings.specs.Names.{Resolved}
 use Rattle.ab_readings.specs.Scopes.{Entry, Scope, in_proof, nominal_number, resolved}
@@ -74,3 +75,14 @@ Means D s = MeansIn D (scope_of D s)
 
 abbrev pub MeansNothing : Declarations → Sequent → Tree → Ty → Refusal → Type 0
 MeansNothing D s = MeansNothingIn (scope_of D s)
+
+-- THE EXPRESSION STATES THE FORMULA in the goal
+abbrev pub Asserts : Declarations → Sequent → Tree → Read → Type 0
+Asserts D s e F = Means D s e prop F × IsFormula (signature_in D) F
+
+-- it states none, for this cause: it means nothing at the type of formulas, or a term that is no formula, since a
+-- variable of the goal that stands for formulas itself is one in it
+abbrev pub AssertsNothing : Declarations → Sequent → Tree → Refusal → Type 0
+AssertsNothing D s e f =
+    MeansNothing D s e prop f
+    ⊎ ((F : Read) × Means D s e prop F × (¬ IsFormula (signature_in D) F) × (f ≡ type_clash (place_of e)))

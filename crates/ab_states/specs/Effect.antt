@@ -16,7 +16,7 @@ use Rattle.ab_states.specs.State.{Attempt, State, is_open, keeping, declaring, p
 use Rattle.ab_states.specs.Reply as reply
 use Rattle.ab_states.specs.Reply.{Reply, accepted, completed, shown, refused, unread_for}
 use Rattle.ab_declare.specs.Declaring.{States, Declares, Declines}
-use Rattle.ab_proofcmd.specs.Built.{given_label}
+use Rattle.ab_effects.specs.Effect.{given_label}
 use Rattle.ab_states.specs.Proving.{Makes, Denies}
 
 -- the bytes say the command, and it stands here
