@@ -1,5 +1,5 @@
 -- Names in the place of what stands for variables go through everything that is printed of a term.
-use Rattle.std.specs.Prelude.{replicate, unwrap_or, bytes_eq, if◌then◌else◌, nat_lt, codes, option_map}
+use Rattle.std.specs.Prelude.{unwrap_or, if◌then◌else◌, nat_lt, option_map}
 use Rattle.std.proofs.Common.{◌≡◌, ℕ, zero, suc, ◌-◌, ◌==◌, List, [], ◌∷◌, ◌++◌, map, Bool, true, false, ◌&&◌, Option, Some, None, refl, sym, ap, ◌∙◌, subst}
 use Rattle.std.specs.List.{filter_map, cons_option}
 use Rattle.std.proofs.lemmas.List.{map-append}

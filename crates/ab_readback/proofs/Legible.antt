@@ -387,7 +387,7 @@ module _ {Var : Type 0} (sg : Signature) (lists : HasLists sg) (name : Var → L
 
     all_worded : (binds : Bool) (names : List (List ℕ)) {G : List Ty} {A B : Ty} {ts : Terms Var (List ℕ)} → TakeType sg G ts A B → length names ≡ length G → AreNames names → HaveWords name ts → AreWorded (named_all name binds names ts)
     all_worded binds names take_none n hs w = tt
-    all_worded binds names {G = G} (take_term {A = A} {t = t} d rest) n hs w = (argument_named binds names G n hs t A d w.0 (named name names t) (worded names d n hs w.0.1), all_worded binds names rest n hs w.1)
+    all_worded binds names {G = G} (take_term {A = A} {t = t} d rest) n hs w = (argument_named binds names G n hs t A d (w.0, w.1) (named name names t) (worded names d n hs w.1), all_worded binds names rest n hs w.2)
 
   pub printed_plain : (A : Ty) (t : Term Var (List ℕ)) → HasType sg [] t A → StandsInWords name t → IsFormed (printed name t) → IsPlain (printed name t)
   printed_plain A t d w f = plain_of (printed name t) f (contracted_named [] [] refl tt t A d w (named name [] t) (worded [] d refl tt w.1) (alone 0 t) refl)

@@ -28,6 +28,10 @@ module _ {Var : Type 0} (name : Var → List ℕ) where
   IsLegible (variable x) = IsName (name x.name)
   IsLegible (index i) = Unit {0}
 
+  -- as an argument or by itself it isn't printed `::` alone
+  abbrev pub IsNoSign : Term Var (List ℕ) → Type 0
+  IsNoSign t = alone 0 t ≢ Some (constant (codes "::"))
+
   abbrev mutual
     pub HasWords : Term Var (List ℕ) → Type 0
     HasWords (lam A x t) = IsHint x × HasWords t
@@ -35,8 +39,8 @@ module _ {Var : Type 0} (name : Var → List ℕ) where
 
     pub HaveWords : Terms Var (List ℕ) → Type 0
     HaveWords no_terms = Unit {0}
-    HaveWords (term t ts) = StandsInWords t × HaveWords ts
+    HaveWords (term t ts) = IsNoSign t × HasWords t × HaveWords ts
 
-    -- as an argument or by itself it isn't printed `::` alone
-    pub StandsInWords : Term Var (List ℕ) → Type 0
-    StandsInWords t = (alone 0 t ≢ Some (constant (codes "::"))) × HasWords t
+  -- the same of a term that stands by itself
+  abbrev pub StandsInWords : Term Var (List ℕ) → Type 0
+  StandsInWords t = IsNoSign t × HasWords t
