@@ -4,5 +4,7 @@
 mod goals;
 mod refusals;
 mod replies;
+#[cfg(test)]
+mod tests;
 
 pub use replies::block;

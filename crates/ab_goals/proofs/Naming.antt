@@ -1,5 +1,5 @@
 -- Names in the place of what stands for variables go through everything that is printed of a term.
-use Rattle.std.specs.Prelude.{replicate, unwrap_or, bytes_eq, if◌then◌else◌, nat_lt, codes, option_map}
+use Rattle.std.specs.Prelude.{unwrap_or, if◌then◌else◌, nat_lt, option_map}
 use Rattle.std.proofs.Common.{◌≡◌, ℕ, zero, suc, ◌-◌, ◌==◌, List, [], ◌∷◌, ◌++◌, map, Bool, true, false, ◌&&◌, Option, Some, None, refl, sym, ap, ◌∙◌, subst}
 use Rattle.std.specs.List.{filter_map, cons_option}
 use Rattle.std.proofs.lemmas.List.{map-append}
@@ -97,7 +97,7 @@ module _ {Var : Type 0} (f : Var → List ℕ) where
   unless false h = refl
 
   outside_told : (n : ℕ) (h : Head Var) → outside n (renamed h) ≡ option_map renamed (outside n h)
-  outside_told n (constant c) = unless (bytes_eq c (codes "::")) (constant c)
+  outside_told n (constant c) = refl
   outside_told n (logical l) = refl
   outside_told n (nominal a) = refl
   outside_told n (variable x) = refl

@@ -9,18 +9,13 @@ ghost use Rattle.ab_text.specs.Naming as plain;
 ghost use Rattle.ab_print.specs.Drawings.{IsHeld};
 
 use ab_store::{Head, Node, Store, TermId};
-use ab_types::TypeTable;
 
 /// A head, where it stands under this many binders and outside them, where it is a name that can stand alone.
-fn outside(types: &TypeTable, store: &Store, binders: usize, head: Head) -> Option<Head>
-    requires { IsHeld types.now store.now head }
-    ensures outside { option_map (head_reading types.now store.now) result ≡ plain.outside binders (head_reading types.now store.now head) }
-    ensures held { IfSome result (IsHeld types.now store.now) }
+fn outside(binders: usize, head: Head) -> Option<Head>
+    ensures outside { (types : Table) (store : Contents) → option_map (head_reading types store) result ≡ plain.outside binders (head_reading types store head) }
+    ensures held { (types : Table) (store : Contents) → IsHeld types store head → IfSome result (IsHeld types store) }
 {
-    let _ = store;
     match head {
-        Head::Const(constant)
-            if types.const_name(constant).as_str().as_bytes() == b"::".as_slice() => None,
         Head::Logic(_) => None,
         Head::Index(i) if i < binders => None,
         Head::Index(i) => Some(Head::Index(i - binders)),
@@ -78,18 +73,17 @@ fn is_index(head: Head, index: usize) -> bool
 }
 
 /// The name of which the term is the eta-long form, so many abstractions of it taken off, where it is one of a name.
-fn alone_under(types: &TypeTable, store: &Store, binders: usize, id: TermId) -> Option<Head>
-    requires typed { IsTypedBy types.now store.now }
+fn alone_under(store: &Store, binders: usize, id: TermId) -> Option<Head>
     requires held { Holds store.now id }
     requires room { binders + id.0 < 2 ^ 64 }
-    ensures alone { option_map (head_reading types.now store.now) result ≡ plain.alone binders (tree_of types.now store.now id) }
-    ensures held { IfSome result (IsHeld types.now store.now) }
+    ensures alone { (types : Table) → option_map (head_reading types store.now) result ≡ plain.alone binders (tree_of types store.now id) }
+    ensures held { (types : Table) → IsTypedBy types store.now → IfSome result (IsHeld types store.now) }
 {
     match store.view(id) {
-        Node::Lam(_, _, body) => alone_under(types, store, binders + 1, *body),
+        Node::Lam(_, _, body) => alone_under(store, binders + 1, *body),
         Node::Spine(head, args) => {
             if are_last(store, binders, args.as_slice()) {
-                outside(types, store, binders, *head)
+                outside(binders, *head)
             } else {
                 None
             }
@@ -98,12 +92,11 @@ fn alone_under(types: &TypeTable, store: &Store, binders: usize, id: TermId) -> 
 }
 
 /// The name of which the term is the eta-long form, where it is one of a name.
-pub(crate) fn alone(types: &TypeTable, store: &Store, id: TermId) -> Option<Head>
-    requires typed { IsTypedBy types.now store.now }
+pub(crate) fn alone(store: &Store, id: TermId) -> Option<Head>
     requires held { Holds store.now id }
-    ensures alone { option_map (head_reading types.now store.now) result ≡ plain.alone 0 (tree_of types.now store.now id) }
-    ensures held { IfSome result (IsHeld types.now store.now) }
+    ensures alone { (types : Table) → option_map (head_reading types store.now) result ≡ plain.alone 0 (tree_of types store.now id) }
+    ensures held { (types : Table) → IsTypedBy types store.now → IfSome result (IsHeld types store.now) }
 {
     let _ = store.view(id);
-    alone_under(types, store, 0, id)
+    alone_under(store, 0, id)
 }

@@ -68,7 +68,7 @@ fn draw_all(
     match ids {
         [] => Ok(Drawings::End),
         [first, rest @ ..] => {
-            let name = alone(types, store, *first);
+            let name = alone(store, *first);
             let drawing = draw(alloc, types, store, *first, binders, seen)?;
             let others = draw_all(alloc, types, store, rest, binders, seen)?;
             Ok(Drawings::More(Box::new(alloc, drawing)?, name, Box::new(alloc, others)?))

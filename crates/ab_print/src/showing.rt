@@ -29,7 +29,7 @@ pub(crate) fn write_term(
     ensures { OnOk result (out.new.items ≡ out.old.items ++ shown (cell_name store.now) (terms.tree_of types.now store.now id)) }
 {
     let mut seen = Vec::new(alloc);
-    let name = alone(types, store, id);
+    let name = alone(store, id);
     let drawing = draw(alloc, types, store, id, 0, &mut seen)?;
     let mut names = Vec::new(alloc);
     let shape = name_alone(alloc, types, store, &seen, &drawing, name, &mut names)?;

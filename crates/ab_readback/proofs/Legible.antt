@@ -29,7 +29,7 @@ use Rattle.ab_text.specs.Names.{name_of, free_heads, is_in, stem, numbered, firs
 use Rattle.ab_text.specs.Naming.{are_last, outside, alone, same_quantifier, joined_to, quantified, with_pi, constant_of, judged, judged_in_focus, between, written_from, guarded, ends_empty, written, logical_form, name_form, constant_form, takes_binder, logical_binds, head_form, bound_name, contracted, named, named_all, printed}
 use Rattle.ab_text.specs.Scopes.{HasLists}
 use Rattle.ab_readback.specs.Spelling.{IsName, IsTruth, AreNames, IsPlain, ArePlain}
-use Rattle.ab_readback.specs.Legible.{IsHint, IsNoMark, IsLegible, HasWords, HaveWords}
+use Rattle.ab_readback.specs.Legible.{IsHint, IsNoMark, IsLegible, HasWords, HaveWords, StandsInWords}
 use Rattle.ab_readback.proofs.Resolving.{by_guard, alone_free, stands, itself, listed as typed_there}
 
 -- Digits
@@ -337,58 +337,43 @@ module _ {Var : Type 0} (sg : Signature) (lists : HasLists sg) (name : Var → L
 
   alone_legible : (n : ℕ) (t : Term Var (List ℕ)) (g : Head Var) → alone n t ≡ Some g → HasWords name t → IsLegible name g
   alone_legible n (lam A x t) g e w = alone_legible (suc n) t g e w.1
-  alone_legible n (spine (constant c) ts) g e w = same_head (bytes_eq c (codes "::")) (constant c) g (by_guard name (are_last n ts) (outside n (constant c)) g e) w.0
+  alone_legible n (spine (constant c) ts) g e w = let same : Some (constant c) ≡ Some g = by_guard name (are_last n ts) (outside n (constant c)) g e in same_head false (constant c) g same w.0
   alone_legible n (spine (logical l) ts) g e w = absurd (let bad : None ≡ Some g = by_guard name (are_last n ts) (outside n (logical l)) g e in cc)
   alone_legible n (spine (nominal a) ts) g e w = let same : Some (nominal a) ≡ Some g = by_guard name (are_last n ts) (outside n (nominal a)) g e in same_head false (nominal a) g same tt
   alone_legible n (spine (variable x) ts) g e w = let same : Some (variable x) ≡ Some g = by_guard name (are_last n ts) (outside n (variable x)) g e in same_head false (variable x) g same w.0
   alone_legible n (spine (index i) ts) g e w = same_head (nat_lt i n) (index (i - n)) g (by_guard name (are_last n ts) (outside n (index i)) g e) tt
 
-  not_sign : (b : Bool) (c : List ℕ) (g : Head Var) → bytes_eq c (codes "::") ≡ b → (if b then None else (Some (constant c))) ≡ Some g → g ≡ constant (codes "::") → ⊥
-  not_sign true c g p e f = cc
-  not_sign false c g p e f =
-      let same : constant c ≡ constant (codes "::") = (let one : constant c ≡ g = cc in one ∙ f) in
-      let is : c ≡ codes "::" = cc in
-      let yes : bytes_eq c (codes "::") ≡ true = (bytes_decides c (codes "::")).1 is in
-      let bad : true ≡ false = sym yes ∙ p in cc
-
   never : (b : Bool) (h g : Head Var) (P : Head Var → Type 0) → (P h → ⊥) → (if b then None else (Some h)) ≡ Some g → P g → ⊥
   never true h g P other e p = cc
   never false h g P other e p = let same : h ≡ g = cc in other (subst P (sym same) p)
 
-  alone_no_sign : (n : ℕ) (t : Term Var (List ℕ)) (g : Head Var) → alone n t ≡ Some g → g ≡ constant (codes "::") → ⊥
-  alone_no_sign n (lam A x t) g e f = alone_no_sign (suc n) t g e f
-  alone_no_sign n (spine (constant c) ts) g e f = not_sign (bytes_eq c (codes "::")) c g refl (by_guard name (are_last n ts) (outside n (constant c)) g e) f
-  alone_no_sign n (spine (logical l) ts) g e f = let bad : None ≡ Some g = by_guard name (are_last n ts) (outside n (logical l)) g e in cc
-  alone_no_sign n (spine (nominal a) ts) g e f = never false (nominal a) g (λ h. h ≡ constant (codes "::")) (λ h. cc) (by_guard name (are_last n ts) (outside n (nominal a)) g e) f
-  alone_no_sign n (spine (variable x) ts) g e f = never false (variable x) g (λ h. h ≡ constant (codes "::")) (λ h. cc) (by_guard name (are_last n ts) (outside n (variable x)) g e) f
-  alone_no_sign n (spine (index i) ts) g e f = never (nat_lt i n) (index (i - n)) g (λ h. h ≡ constant (codes "::")) (λ h. cc) (by_guard name (are_last n ts) (outside n (index i)) g e) f
-
   alone_no_logical : (n : ℕ) (t : Term Var (List ℕ)) (g : Head Var) (l : Logical) → alone n t ≡ Some g → g ≡ logical l → ⊥
   alone_no_logical n (lam A x t) g l e f = alone_no_logical (suc n) t g l e f
-  alone_no_logical n (spine (constant c) ts) g l e f = never (bytes_eq c (codes "::")) (constant c) g (λ h. h ≡ logical l) (λ h. cc) (by_guard name (are_last n ts) (outside n (constant c)) g e) f
+  alone_no_logical n (spine (constant c) ts) g l e f = never false (constant c) g (λ h. h ≡ logical l) (λ h. cc) (by_guard name (are_last n ts) (outside n (constant c)) g e) f
   alone_no_logical n (spine (logical m) ts) g l e f = let bad : None ≡ Some g = by_guard name (are_last n ts) (outside n (logical m)) g e in cc
   alone_no_logical n (spine (nominal a) ts) g l e f = never false (nominal a) g (λ h. h ≡ logical l) (λ h. cc) (by_guard name (are_last n ts) (outside n (nominal a)) g e) f
   alone_no_logical n (spine (variable x) ts) g l e f = never false (variable x) g (λ h. h ≡ logical l) (λ h. cc) (by_guard name (are_last n ts) (outside n (variable x)) g e) f
   alone_no_logical n (spine (index i) ts) g l e f = never (nat_lt i n) (index (i - n)) g (λ h. h ≡ logical l) (λ h. cc) (by_guard name (are_last n ts) (outside n (index i)) g e) f
 
-  alone_named : (names : List (List ℕ)) (G : List Ty) → length names ≡ length G → AreNames names → (t : Term Var (List ℕ)) (A : Ty) → HasType sg G t A → (g : Head Var) → alone 0 t ≡ Some g → IsLegible name g → IsWorded (head_form name names g no_shapes)
-  alone_named names G n hs t A d (constant c) e l = nil_by (bytes_eq c (codes "nil")) c (lone_name c (λ f. alone_no_sign 0 t (constant c) e (ap constant f)) l)
-  alone_named names G n hs t A d (logical g) e l = absurd (alone_no_logical 0 t (logical g) g e refl)
-  alone_named names G n hs t A d (nominal a) e l = nominal_is_name a.number
-  alone_named names G n hs t A d (variable x) e l = l
-  alone_named names G n hs t A d (index i) e l = elim (alone_free name 0 t (index i) e) [
+  alone_named : (names : List (List ℕ)) (G : List Ty) → length names ≡ length G → AreNames names → (t : Term Var (List ℕ)) (A : Ty) → HasType sg G t A → (g : Head Var) → alone 0 t ≡ Some g → (alone 0 t ≢ Some (constant (codes "::"))) → IsLegible name g
+      → IsWorded (head_form name names g no_shapes)
+  alone_named names G n hs t A d (constant c) e other l = nil_by (bytes_eq c (codes "nil")) c (lone_name c (λ f. other (e ∙ ap (λ (x : List ℕ). Some (constant x)) f)) l)
+  alone_named names G n hs t A d (logical g) e other l = absurd (alone_no_logical 0 t (logical g) g e refl)
+  alone_named names G n hs t A d (nominal a) e other l = nominal_is_name a.number
+  alone_named names G n hs t A d (variable x) e other l = l
+  alone_named names G n hs t A d (index i) e other l = elim (alone_free name 0 t (index i) e) [
     | stands h in_t o ↦ (
         let r = typed_there sg d i (subst (λ (w : Head Var). Contains (free_heads t) w) (itself name h (index i) o) in_t) in
         bound_is_name names G n hs i r.0 r.1
         )
   ]
 
-  contracted_named : (names : List (List ℕ)) (G : List Ty) → length names ≡ length G → AreNames names → (t : Term Var (List ℕ)) (A : Ty) → HasType sg G t A → HasWords name t → (s : Shape) → IsWorded s
+  contracted_named : (names : List (List ℕ)) (G : List Ty) → length names ≡ length G → AreNames names → (t : Term Var (List ℕ)) (A : Ty) → HasType sg G t A → StandsInWords name t → (s : Shape) → IsWorded s
       → (a : Option (Head Var)) → alone 0 t ≡ a → IsWorded (contracted name names a s)
   contracted_named names G n hs t A d w s h None e = h
-  contracted_named names G n hs t A d w s h (Some g) e = alone_named names G n hs t A d g e (alone_legible 0 t g e w)
+  contracted_named names G n hs t A d w s h (Some g) e = alone_named names G n hs t A d g e w.0 (alone_legible 0 t g e w.1)
 
-  argument_named : (binds : Bool) (names : List (List ℕ)) (G : List Ty) → length names ≡ length G → AreNames names → (t : Term Var (List ℕ)) (A : Ty) → HasType sg G t A → HasWords name t → (s : Shape) → IsWorded s
+  argument_named : (binds : Bool) (names : List (List ℕ)) (G : List Ty) → length names ≡ length G → AreNames names → (t : Term Var (List ℕ)) (A : Ty) → HasType sg G t A → StandsInWords name t → (s : Shape) → IsWorded s
       → IsWorded (contracted name names (if binds then None else (alone 0 t)) s)
   argument_named true names G n hs t A d w s h = h
   argument_named false names G n hs t A d w s h = contracted_named names G n hs t A d w s h (alone 0 t) refl
@@ -402,7 +387,7 @@ module _ {Var : Type 0} (sg : Signature) (lists : HasLists sg) (name : Var → L
 
     all_worded : (binds : Bool) (names : List (List ℕ)) {G : List Ty} {A B : Ty} {ts : Terms Var (List ℕ)} → TakeType sg G ts A B → length names ≡ length G → AreNames names → HaveWords name ts → AreWorded (named_all name binds names ts)
     all_worded binds names take_none n hs w = tt
-    all_worded binds names {G = G} (take_term {A = A} {t = t} d rest) n hs w = (argument_named binds names G n hs t A d w.0 (named name names t) (worded names d n hs w.0), all_worded binds names rest n hs w.1)
+    all_worded binds names {G = G} (take_term {A = A} {t = t} d rest) n hs w = (argument_named binds names G n hs t A d (w.0, w.1) (named name names t) (worded names d n hs w.1), all_worded binds names rest n hs w.2)
 
-  pub printed_plain : (A : Ty) (t : Term Var (List ℕ)) → HasType sg [] t A → HasWords name t → IsFormed (printed name t) → IsPlain (printed name t)
-  printed_plain A t d w f = plain_of (printed name t) f (contracted_named [] [] refl tt t A d w (named name [] t) (worded [] d refl tt w) (alone 0 t) refl)
+  pub printed_plain : (A : Ty) (t : Term Var (List ℕ)) → HasType sg [] t A → StandsInWords name t → IsFormed (printed name t) → IsPlain (printed name t)
+  printed_plain A t d w f = plain_of (printed name t) f (contracted_named [] [] refl tt t A d w (named name [] t) (worded [] d refl tt w.1) (alone 0 t) refl)

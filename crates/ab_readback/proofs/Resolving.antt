@@ -176,7 +176,7 @@ module _ {Var : Type 0} (name : Var → List ℕ) where
   alone_free n (spine h ts) g e = stands h (Contains-here h (free_heads_of_all ts)) (by_guard (are_last n ts) (outside n h) g e)
 
   pub itself : (h g : Head Var) → outside 0 h ≡ Some g → h ≡ g
-  itself (constant c) g e = guarded (bytes_eq c (codes "::")) (constant c) g e
+  itself (constant c) g e = cc
   itself (logical l) g e = absurd (cc)
   itself (nominal a) g e = cc
   itself (variable v) g e = cc

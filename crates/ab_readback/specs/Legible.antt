@@ -1,8 +1,10 @@
--- Which terms hold nothing but names that are read as they stand, and no size mark, which the grammar doesn't have.
-use Rattle.std.specs.Prelude.{◌≡◌, ◌⊎◌, ℕ, List, [], ◌∷◌, true, codes}
+-- Which terms hold nothing but names that are read as they stand: no size mark, which the grammar doesn't have, and no
+-- `::` without its operands.
+use Rattle.std.specs.Prelude.{◌≡◌, ◌≢◌, ◌⊎◌, ℕ, List, [], ◌∷◌, true, Some, codes}
 use Rattle.std.specs.Char.{is_ascii_alphabetic}
 use Rattle.ab_term.specs.Logical.{Logical, star, at_sign, plus, hash}
 use Rattle.ab_term.specs.Terms.{Head, constant, logical, nominal, variable, index, Term, lam, spine, Terms, no_terms, term}
+use Rattle.ab_text.specs.Naming.{alone}
 use Rattle.ab_readback.specs.Spelling.{IsName}
 
 -- a word of letters and more, not `_` alone, and not reserved
@@ -26,6 +28,10 @@ module _ {Var : Type 0} (name : Var → List ℕ) where
   IsLegible (variable x) = IsName (name x.name)
   IsLegible (index i) = Unit {0}
 
+  -- as an argument or by itself it isn't printed `::` alone
+  abbrev pub IsNoSign : Term Var (List ℕ) → Type 0
+  IsNoSign t = alone 0 t ≢ Some (constant (codes "::"))
+
   abbrev mutual
     pub HasWords : Term Var (List ℕ) → Type 0
     HasWords (lam A x t) = IsHint x × HasWords t
@@ -33,4 +39,8 @@ module _ {Var : Type 0} (name : Var → List ℕ) where
 
     pub HaveWords : Terms Var (List ℕ) → Type 0
     HaveWords no_terms = Unit {0}
-    HaveWords (term t ts) = HasWords t × HaveWords ts
+    HaveWords (term t ts) = IsNoSign t × HasWords t × HaveWords ts
+
+  -- the same of a term that stands by itself
+  abbrev pub StandsInWords : Term Var (List ℕ) → Type 0
+  StandsInWords t = IsNoSign t × HasWords t

@@ -12,7 +12,7 @@ ghost use Rattle.ab_text.specs.Naming.{printed};
 ghost use Rattle.ab_grammar.specs.Grammar.{Text};
 ghost use Rattle.ab_text.specs.Scopes.{HasLists};
 ghost use Rattle.ab_text.specs.Trees.{tree_of};
-ghost use Rattle.ab_readback.specs.Legible.{HasWords};
+ghost use Rattle.ab_readback.specs.Legible.{StandsInWords};
 ghost use Rattle.ab_readback.specs.Resolution.{StandsAs};
 ghost use Rattle.ab_readback.specs.Spelling.{IsPlain, HasTokens};
 
@@ -30,9 +30,9 @@ pub fn bytes_split_into_tokens()
     ensures { (s : Shape) → IsPlain s → HasTokens (bytes s) (tokens s) }
 {}
 
-/// What is printed of a closed well-typed term reads back, where its names are words and no size mark stands in it: its
-/// bytes split into tokens that are a text of the grammar, and what this reads as is the printed tree.
+/// What is printed of a closed well-typed term reads back, where its names are words and neither a size mark nor `::`
+/// without its operands stands in it: its bytes split into tokens that are a text of the grammar, and what this reads as is the printed tree.
 pub fn printed_bytes_read_back<Var>()
-    ensures { (name : Var → List ℕ) (sg : Signature) (A : Ty) (t : Term Var (List ℕ)) → HasLists sg → HasType sg [] t A → HasWords name t →
+    ensures { (name : Var → List ℕ) (sg : Signature) (A : Ty) (t : Term Var (List ℕ)) → HasLists sg → HasType sg [] t A → StandsInWords name t →
         HasTokens (bytes (printed name t)) (tokens (printed name t)) × Text (tokens (printed name t)) (tree_of (printed name t)) }
 {}

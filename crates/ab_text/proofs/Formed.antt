@@ -120,14 +120,11 @@ module _ {Var : Type 0} (sg : Signature) (lists : HasLists sg) (name : Var → L
   not_by true h l other e = cc
   not_by false h l other e = let same : h ≡ logical l = cc in other same
 
-  no_constant : (c : List ℕ) (l : Logical) → (let h : Head Var = constant c in h) ≡ logical l → ⊥
-  no_constant c l e = cc
-
   no_index : (i : ℕ) (l : Logical) → (let h : Head Var = index i in h) ≡ logical l → ⊥
   no_index i l e = cc
 
   never_logical : (n : ℕ) (h : Head Var) (l : Logical) → outside n h ≡ Some (logical l) → ⊥
-  never_logical n (constant d) l e = not_by (bytes_eq d (codes "::")) (constant d) l (no_constant d l) e
+  never_logical n (constant d) l e = cc
   never_logical n (logical m) l e = cc
   never_logical n (nominal a) l e = cc
   never_logical n (variable x) l e = cc

@@ -34,10 +34,9 @@ module _ {Var Hint : Type 0} where
     is_bound_name n k (spine (variable x) ts) = false
 
 module _ {Var : Type 0} where
-  -- a head, where it stands under n binders and outside them; `::` and the logical constants are no names that
-  -- can stand alone
+  -- a head, where it stands under n binders and outside them; the logical constants are no names that can stand alone
   abbrev pub outside : ℕ → Head Var → Option (Head Var)
-  outside n (constant c) = if bytes_eq c (codes "::") then None else Some (constant c)
+  outside n (constant c) = Some (constant c)
   outside n (logical l) = None
   outside n (nominal a) = Some (nominal a)
   outside n (variable x) = Some (variable x)

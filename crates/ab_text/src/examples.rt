@@ -39,6 +39,8 @@ pub fn binders_compute()
         codes "p g" }
     ensures not_only_a_name { shown (p (under (codes "x") (of_two (known (codes "g")) (alone (known (codes "c"))) (alone (index 0))))) ≡
         codes "p x\\ g c x" }
+    ensures the_sign_of_lists { shown (p (under (codes "x") (under (codes "l") (cons (alone (index 1)) (alone (index 0)))))) ≡
+        codes "p ::" }
     // the body of an abstraction stays as it is
     ensures a_body { shown (p (under (codes "x") (under (codes "y") (of (known (codes "f")) (alone (index 0)))))) ≡
         codes "p x\\ y\\ f y" }
