@@ -1,5 +1,5 @@
 -- What an answer says of its problem: the laws of the rules, on shared terms.
-use Rattle.std.proofs.Common.{◌≡◌, ◌↔◌, ℕ, ◌+◌, List, [], ◌∷◌, map, Some, codes, refl, sym, ◌∙◌, ap, subst}
+use Rattle.std.proofs.Common.{◌≡◌, ◌↔◌, ℕ, ◌+◌, ◌≤◌, List, [], ◌∷◌, map, Some, codes, refl, sym, ◌∙◌, ap, subst}
 use Rattle.std.specs.Prelude.{All}
 use Rattle.std.proofs.lemmas.List.Elements.{All-nil, All-cons, All-head, All-tail}
 use Rattle.ab_term.specs.Types.{Ty}
@@ -30,6 +30,8 @@ use Rattle.ab_unifying.proofs.Solved.{known_cells}
 use Rattle.ab_solver.specs.declared.solved.Solved.{Solved}
 use Rattle.ab_solver.specs.declared.solved.Solved.TheVariants.{Unified, Apart, Stuck}
 use Rattle.ab_solver.specs.Answers.{IsTypedPair, HasSolution, IsUnified}
+use Rattle.ab_solver.specs.Counting.{Takes}
+use Rattle.ab_patterns.specs.declared.equation.Numbered.{Numbered}
 use Rattle.ab_solver.specs.States.{numbered_from, state_of, answer_of, verdict_of, Runs}
 use Rattle.ab_solver.proofs.Numbered.{numbered_read}
 use Rattle.ab_solver.proofs.Over.{reads_over}
@@ -49,7 +51,7 @@ module _ (types : Table) (store : Contents) (typed : IsTypedBy types store) wher
 
 -- where a run started and ended
 module _ (types : Table) (store : Contents) (F : List CellId) (es : List Equation) (more : Table) (now : Contents) (left : List CellId) where
-  same_problem : state_of types store (numbered_from 0 es) F [] ≡ problem types store es F
+  pub same_problem : state_of types store (numbered_from 0 es) F [] ≡ problem types store es F
   same_problem = ap (λ l. record { equations = l; cells = cells_read types store; flexible = variables_read types store F; pairs = [] }) (numbered_read types store 0 es)
 
   module _ (s : Solved) (run : Runs types store F (numbered_from 0 es) more now left (verdict_of s)) where
@@ -139,3 +141,9 @@ module _ (types : Table) (store : Contents) (F : List CellId) (es : List Equatio
                 m.2 G (reading types store t) A here (reads_over types store typed t term.0)
                 ∙ ap forget (image-composition (signature types) same_number run.pairs safe m.0 m.1 here ∙ ap (image same_number m.0) (sym (run.reached.reads G t A term))),
           )
+
+-- how many rules were carried out, from the queue that the run started with
+pub counts_so : (types : Table) (store : Contents) (F : List CellId) (es : List Equation) (l : List Numbered) (f : List CellId) → l ≡ numbered_from 0 es → f ≡ F → (i k : ℕ)
+    → ((n : ℕ) → Takes (codes "x") (state_of types store l f []) n → i + n ≤ k) → (n : ℕ) → Takes (codes "x") (problem types store es F) n → i + n ≤ k
+counts_so types store F es l f same_list same_cells i k counts n t =
+    counts n (subst (λ p. Takes (codes "x") p n) (sym (ap (λ m. state_of types store m f []) same_list ∙ ap (λ h. state_of types store (numbered_from 0 es) h []) same_cells ∙ same_problem types store F es types store F)) t)

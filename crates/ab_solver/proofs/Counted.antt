@@ -5,12 +5,12 @@ use Rattle.ab_solve.proofs.Unique.{not_both, one_step}
 use Rattle.ab_solver.specs.Counting.{Takes, no_rule, last_rule, one_rule}
 
 module _ {Hint : Type 0} (x : Hint) where
-  ends_so : {s : State Hint} → first_found (rule x s.cells s.flexible) s.equations ≡ None → next x s ≡ finished (ending s s.equations)
-  ends_so {s = s} e = ap (next_by s) e
+  ends_so : (s : State Hint) → first_found (rule x s.cells s.flexible) s.equations ≡ None → next x s ≡ finished (ending s s.equations)
+  ends_so s e = ap (next_by s) e
 
   -- a step that goes on is one rule
   pub takes_on : {s r : State Hint} (n : ℕ) → Takes x s n → next x s ≡ goes_on r → (m : ℕ) × (n ≡ suc m) × Takes x r m
-  takes_on n (no_rule e) f = absurd (not_both x (ends_so e) f)
+  takes_on {s = s} n (no_rule e) f = absurd (not_both x (ends_so s e) f)
   takes_on n (last_rule e) f = absurd (not_both x e f)
   takes_on n (one_rule {n = m} e t) f = (m, refl, subst (λ r. Takes x r m) (one_step x e f) t)
 

@@ -11,4 +11,5 @@ pub mod Sets
 pub mod Made
 pub mod Over
 pub mod Answered
+pub mod Cut
 pub mod Numbered

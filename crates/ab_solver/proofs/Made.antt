@@ -34,12 +34,12 @@ bound_cell (b ∷ bs) c t e = go (b.cell.0 == c.0) refl e (bound_cell bs c t)
 
 cell_bound : (bs : List Binding) (c : CellId) → Contains (Cells bs) c → bound_in bs c ≡ None → ⊥
 cell_bound [] c m e = Contains-none c m
-cell_bound (b ∷ bs) c m e = go (b.cell.0 == c.0) refl e (Contains-cases b.cell (Cells bs) c m)
+cell_bound (b ∷ bs) c m e = go (b.cell.0 == c.0) refl e (Contains-cases b.cell (Cells bs) c m) (cell_bound bs c)
   where
-    go : (k : Bool) → (b.cell.0 == c.0) ≡ k → cond k (Some b.term) (bound_in bs c) ≡ None → (b.cell ≡ c) ⊎ Contains (Cells bs) c → ⊥
-    go true s f which = absurd (cc)
-    go false s f (inl same) = absurd (let one : (b.cell.0 == c.0) ≡ true = (unsigned_Decides b.cell.0 c.0).1 (ap (λ (d : CellId). d.0) same) in let clash : false ≡ true = sym s ∙ one in cc)
-    go false s f (inr there) = cell_bound bs c there f
+    go : (k : Bool) → (b.cell.0 == c.0) ≡ k → cond k (Some b.term) (bound_in bs c) ≡ None → (b.cell ≡ c) ⊎ Contains (Cells bs) c → (Contains (Cells bs) c → bound_in bs c ≡ None → ⊥) → ⊥
+    go true s f which rest = absurd (cc)
+    go false s f (inl same) rest = absurd (let one : (b.cell.0 == c.0) ≡ true = (unsigned_Decides b.cell.0 c.0).1 (ap (λ (d : CellId). d.0) same) in let clash : false ≡ true = sym s ∙ one in cc)
+    go false s f (inr there) rest = rest there f
 
 -- none is bound twice
 twice : (bs cs : List Binding) (c : CellId) → AllPairs (λ (a b : Binding). a.cell ≢ b.cell) (bs ++ cs) → Contains (Cells bs) c → Contains (Cells cs) c → ⊥

@@ -56,7 +56,7 @@ module _ (types : Table) (store : Contents) (begun : List CellId) (es : List Num
           refl,
           same,
         );
-        rest = s.at_rest;
+        at_rest = s.at_rest;
       }
 
   module _ (e : Numbered) (rest : List Numbered) (s : IsSearch types store begun es T S F waiting (e ∷ rest)) where
@@ -104,7 +104,7 @@ module _ (types : Table) (store : Contents) (begun : List CellId) (es : List Num
             change = t.change;
             changed = keeps_then types T store S begun F s.keeps U V H t.change t.changed;
             says = (record { before = map (equation_read T S) waiting; result = clash; behind = map (equation_read T S) rest }, found_here clash t.says.0, refl, t.says.1 ∙ still_same types T store S begun F s.keeps);
-            rest = all_rest_on T U S V F H k waiting waiting_typed s.at_rest;
+            at_rest = all_rest_on T U S V F H k waiting waiting_typed s.at_rest;
           }
 
       pub settles_parts : (ps : Vec Numbered Global) → Tells T S F U V H (Parts ps) here → Settles types store begun es U V H waiting rest (Parts ps)
@@ -121,7 +121,7 @@ module _ (types : Table) (store : Contents) (begun : List CellId) (es : List Num
               t.says.1 ∙ still_same types T store S begun F s.keeps,
               t.says.2,
             );
-            rest = all_rest_on T U S V F H k waiting waiting_typed s.at_rest;
+            at_rest = all_rest_on T U S V F H k waiting waiting_typed s.at_rest;
           }
 
       pub settles_replaced : Tells T S F U V H Replaced here → Settles types store begun es U V H waiting rest Replaced
@@ -135,7 +135,7 @@ module _ (types : Table) (store : Contents) (begun : List CellId) (es : List Num
           changed_equations T U S V F H t.change t.changed waiting waiting_typed,
           changed_equations T U S V F H t.change t.changed rest rest_typed,
         );
-        rest = tt;
+        at_rest = tt;
       }
 
       pub settles_typed : (r : Step) → Tells T S F U V H r here → All (IsTypedEquation U V) (waiting ++ rest)

@@ -10,10 +10,13 @@ use Rattle.std.proofs.lemmas.Bool.{false≢true}
 use Rattle.std.proofs.lemmas.Cmp.{nat_cmp_total, on_total, tied_itself, ranked}
 use Rattle.std.proofs.lemmas.Map.Lookups.{CmpEqualImpliesEq, exact_unsigned}
 use Rattle.std.proofs.lemmas.Map.Views.{tells_apart, btree_set_contains_iff}
-use Rattle.std.proofs.lemmas.List.Elements.{All-from_recursion, All-weaker}
+use Rattle.std.proofs.lemmas.List.Elements.{All-from_recursion, All-weaker, Contains-append_left, Contains-push, Contains-push_cases}
+use Rattle.std.proofs.lemmas.List.{map-append}
 use Rattle.std.proofs.lemmas.List.Kept.{AllPairs-cons}
+use Rattle.ab_term.proofs.Lists.{AllPairs-none, Contains-none}
 use Rattle.ab_store.specs.declared.node.CellId.{CellId}
-use Rattle.ab_term.proofs.Lists.{AllPairs-none}
+use Rattle.ab_store.specs.declared.node.Binding.{Binding}
+use Rattle.ab_unifying.proofs.Under.{take_one_more}
 
 abbrev pub cell_cmp : CellId → CellId → Ordering
 cell_cmp a b = nat_cmp a.0 b.0
@@ -70,8 +73,43 @@ less_is : (a b : CellId) → cell_cmp a b ≡ Less → a.0 < b.0
 less_is a b e = subst (λ o. MatchOrdering o (a.0 < b.0) (a.0 ≡ b.0) (b.0 < a.0)) e (ranked a.0 b.0 (cell_cmp a b) refl)
 
 pub keys_ascend : (ks : List CellId) → IsStrictlySortedBy cell_cmp ks → AllPairs (λ (a b : CellId). a.0 < b.0) ks
+unfolding IsStrictlySortedBy
 keys_ascend [] s = AllPairs-none (λ (a b : CellId). a.0 < b.0)
 keys_ascend (k ∷ ks) s =
     AllPairs-cons (λ (a b : CellId). a.0 < b.0) k ks
     (All-weaker (λ b. cell_cmp k b ≡ Less) (λ b. k.0 < b.0) (λ b e. less_is k b e) ks (All-from_recursion (λ b. cell_cmp k b ≡ Less) ks s.0))
     (keys_ascend ks s.1)
+
+-- one cell more in a list
+pub push_iff : {X : Type 0} (xs : List X) (y c : X) → (Contains xs c ⊎ (y ≡ c)) ↔ Contains (xs ++ y ∷ []) c
+push_iff xs y c = (λ s. elim s [ inl m ↦ Contains-append_left xs (y ∷ []) c m | inr e ↦ subst (Contains (xs ++ y ∷ [])) e (Contains-push xs y) ], λ m. Contains-push_cases xs y c m)
+
+pub bound_more : (bs : List Binding) (i : ℕ) (d : Binding) → i < length bs → (c : CellId)
+    → (Contains (map (λ (b : Binding). b.cell) (take i bs)) c ⊎ ((get_or bs i d).cell ≡ c)) ↔ Contains (map (λ (b : Binding). b.cell) (take (i + 1) bs)) c
+bound_more bs i d l c =
+    subst (λ xs. (Contains (map (λ (b : Binding). b.cell) (take i bs)) c ⊎ ((get_or bs i d).cell ≡ c)) ↔ Contains xs c)
+    (sym (ap (map (λ (b : Binding). b.cell)) (take_one_more bs i d l) ∙ map-append (λ (b : Binding). b.cell) (take i bs) (get_or bs i d ∷ [])))
+    (push_iff (map (λ (b : Binding). b.cell) (take i bs)) (get_or bs i d).cell c)
+
+module _ (A : CellId → Type 0) where
+  pub left_none : (c : CellId) → A c ↔ (A c ⊎ Contains [] c)
+  left_none c = (λ a. inl a, λ s. elim s [ inl a ↦ a | inr n ↦ absurd (Contains-none c n) ])
+
+  pub left_more : (xs : List CellId) (i : ℕ) (d : CellId) → i < length xs → (c : CellId) → ((A c ⊎ Contains (take i xs) c) ⊎ (get_or xs i d ≡ c)) ↔ (A c ⊎ Contains (take (i + 1) xs) c)
+  left_more xs i d l c =
+      subst (λ ys. ((A c ⊎ Contains (take i xs) c) ⊎ (get_or xs i d ≡ c)) ↔ (A c ⊎ Contains ys c)) (sym (take_one_more xs i d l))
+      (λ s. elim s [ inl t ↦ elim t [ inl a ↦ inl a | inr m ↦ inr (iff.0 (inl m)) ] | inr e ↦ inr (iff.0 (inr e)) ], λ s. elim s [ inl a ↦ inl (inl a) | inr m ↦ elim (iff.1 m) [ inl n ↦ inl (inr n) | inr e ↦ inr e ] ])
+    where
+      iff : (Contains (take i xs) c ⊎ (get_or xs i d ≡ c)) ↔ Contains (take i xs ++ get_or xs i d ∷ []) c
+      iff = push_iff (take i xs) (get_or xs i d) c
+
+  pub given_none : (c : CellId) → A c ↔ (A c × (¬ Contains [] c))
+  given_none c = (λ a. (a, λ n. Contains-none c n), λ p. p.0)
+
+  pub given_more : (xs : List CellId) (i : ℕ) (d : CellId) → i < length xs → (c : CellId) → ((A c × (¬ Contains (take i xs) c)) × (¬ (get_or xs i d ≡ c))) ↔ (A c × (¬ Contains (take (i + 1) xs) c))
+  given_more xs i d l c =
+      subst (λ ys. ((A c × (¬ Contains (take i xs) c)) × (¬ (get_or xs i d ≡ c))) ↔ (A c × (¬ Contains ys c))) (sym (take_one_more xs i d l))
+      (λ p. (p.0.0, λ m. elim (iff.1 m) [ inl n ↦ p.0.1 n | inr e ↦ p.1 e ]), λ p. ((p.0, λ n. p.1 (iff.0 (inl n))), λ e. p.1 (iff.0 (inr e))))
+    where
+      iff : (Contains (take i xs) c ⊎ (get_or xs i d ≡ c)) ↔ Contains (take i xs ++ get_or xs i d ∷ []) c
+      iff = push_iff (take i xs) (get_or xs i d) c

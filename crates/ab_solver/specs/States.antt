@@ -63,7 +63,7 @@ pub record Settles (types : Table) (store : Contents) (begun : List CellId) (es 
   pub changed : Changed types store begun change more now flexible
   pub says : FindsBetween more now (map (equation_read types store) es) waiting rest r (still types store begun) change (found_in types store es begun)
   -- unless something was replaced, no rule applies to those that wait
-  pub rest : UnlessReplaced r (All (IsAtRest more now flexible) waiting)
+  pub at_rest : UnlessReplaced r (All (IsAtRest more now flexible) waiting)
 
 -- what the verdict says of a step from one state to another
 abbrev pub IsStep : Option Verdict → State (List ℕ) → State (List ℕ) → Type 0

@@ -1,5 +1,5 @@
 //! One step of a run.
-ghost use Rattle.std.specs.Prelude.{◌≤◌, ◌+◌, ◌++◌, All, IfOk, OnOk};
+ghost use Rattle.std.specs.Prelude.{◌≡◌, ◌≤◌, ◌+◌, ◌++◌, All, IfOk, OnOk};
 ghost use Rattle.ab_store.specs.Naming.{IsTypedBy};
 ghost use Rattle.ab_unifying.specs.Changed.{Grows, IsFree};
 ghost use Rattle.ab_unifying.specs.Outcome.{IsTypedEquation};
