@@ -1,5 +1,5 @@
 -- The search for the first equation to which a rule applies.
-use Rattle.std.proofs.Common.{◌≡◌, ℕ, List, [], ◌∷◌, ◌++◌, map, Option, Some, None, codes, refl, sym, ◌∙◌, ap, subst, append_assoc, append-nil}
+use Rattle.std.proofs.Common.{◌≡◌, ℕ, suc, List, [], ◌∷◌, ◌++◌, map, drop, length, arith, Option, Some, None, codes, refl, sym, ◌∙◌, ap, subst, append_assoc, append-nil}
 use Rattle.std.specs.Prelude.{All, Contains, Vec}
 use Rattle.std.specs.Global.{Global}
 use Rattle.std.proofs.lemmas.List.{map-append}
@@ -31,6 +31,11 @@ pub record IsSearch (types : Table) (store : Contents) (begun : List CellId) (es
 pub search_begins : (types : Table) (store : Contents) (F : List CellId) (waiting rest : List Numbered) → IsTypedBy types store → All (IsFree store) F → All (IsTypedEquation types store) (waiting ++ rest) → All (IsAtRest types store F) waiting
     → IsSearch types store F (waiting ++ rest) types store F waiting rest
 search_begins types store F waiting rest typed free equations at_rest = record { keeps = keeps_itself types store F typed free; same = refl; typed = equations; at_rest = at_rest }
+
+-- what has nothing in front of its rest is empty
+pub none_left : {X : Type 0} (xs ys : List X) → xs ≡ ys → ys ≡ drop 1 xs → ys ≡ []
+none_left xs [] e f = refl
+none_left xs (y ∷ ys) e f = absurd (let longer : suc (length ys) ≡ length ys = ap length (f ∙ ap (drop 1) e) in omega (arith, longer))
 
 pub all_left : {X : Type 0} (P : X → Type 0) (xs ys : List X) → All P (xs ++ ys) → All P xs
 all_left P xs ys all = All-from_contains P xs (λ x m. All-contains P (xs ++ ys) x all (Contains-append_left xs ys x m))

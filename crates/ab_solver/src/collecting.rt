@@ -1,11 +1,21 @@
 //! The cells that a run made.
-ghost use Rattle.std.specs.Prelude.{◌≡◌, ◌↔◌, ◌⊎◌, map, Contains, IfOk};
+ghost use Rattle.std.specs.Prelude.{◌≡◌, ◌≤◌, ◌↔◌, ◌⊎◌, map, length, drop, Contains, IfOk};
 ghost use Rattle.ab_store.specs.declared.node.CellId.{CellId};
+ghost use Rattle.ab_store.specs.Bindings.{AreInOrder};
 ghost use Rattle.ab_solver.specs.Answers.{AreInAge};
 
-use ab_store::{Binding, CellId};
+use ab_store::{Binding, CellId, Store};
 use std::alloc::{AllocError, Global};
 use std::collections::BTreeSet;
+
+/// The bindings made since there were so many.
+pub(crate) fn bindings_since(store: &Store, count: usize) -> &[Binding]
+    requires { count ≤ length store.now.bindings }
+    ensures list { result.now ≡ drop count store.now.bindings }
+    ensures order { AreInOrder store.now }
+{
+    &store.bindings()[count..]
+}
 
 /// The cells of the set, in their order.
 fn listed(alloc: Global, mut cells: BTreeSet<CellId>) -> Result<Vec<CellId>, AllocError>

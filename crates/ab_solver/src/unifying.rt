@@ -20,7 +20,7 @@ ghost use Rattle.ab_solver.specs.Answers.{IsTypedPair, HasSolution, IsUnified, I
 ghost use Rattle.ab_solver.specs.Counting.{Takes};
 ghost use Rattle.ab_solver.specs.States.{numbered_from, verdict_of, unified_is, Runs};
 
-use crate::collecting::made_cells;
+use crate::collecting::{bindings_since, made_cells};
 use crate::queueing::numbered;
 use crate::running::run;
 use crate::solved::{Cells, Solved};
@@ -50,7 +50,7 @@ fn solve<L>(
     ensures in_age { IfUnified result AreInAge }
 {
     let bound = store.bindings().len();
-    let mut left = flexible.iter().copied().collect(alloc)?;
+    let mut left = Vec::from_slice(alloc, flexible)?;
     let mut queue = numbered(alloc, equations)?;
     let mut waiting = Vec::new(alloc);
     match run(
@@ -63,7 +63,7 @@ fn solve<L>(
         steps,
     )? {
         Verdict::Unified => {
-            let made = made_cells(alloc, &store.bindings()[bound..], &left, flexible)?;
+            let made = made_cells(alloc, bindings_since(store, bound), &left, flexible)?;
             Ok(Solved::Unified(Cells::from_vec(made)))
         }
         Verdict::Apart => Ok(Solved::Apart),
