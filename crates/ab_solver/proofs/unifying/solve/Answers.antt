@@ -53,8 +53,8 @@ returns-in-Unified-clause-made g c =
     let order = c.bindings_since.ensures.order in
     let since = drop (length store.bindings) now.bindings in
     let bound = c.bindings_since.ensures.list ∙ ap (λ l. drop (length l) now.bindings) c.bindings-bound.ensures.list in
-    let first = subst (λ (h : List CellId). (d : CellId) → Contains c.in_ok-made.made.items d ↔ ((Contains (map (λ (b : Binding). b.cell) c.bindings_since.result.now) d ⊎ Contains h d) × (¬ Contains F d))) c.deref.ensures.value c.in_ok-made.ensures.which in
-    let second = subst (λ (bs : List Binding). (d : CellId) → Contains c.in_ok-made.made.items d ↔ ((Contains (map (λ (b : Binding). b.cell) bs) d ⊎ Contains H d) × (¬ Contains F d))) bound first in
-    let third = subst (λ (f : List CellId). (d : CellId) → Contains c.in_ok-made.made.items d ↔ ((Contains (map (λ (b : Binding). b.cell) since) d ⊎ Contains H d) × (¬ Contains f d))) (sym c.in_ok-left.ensures.items) second in
+    let first = subst (λ (h : List CellId). (d : CellId) → Contains c.in_ok-made-in-Unified.made.items d ↔ ((Contains (map (λ (b : Binding). b.cell) c.bindings_since.result.now) d ⊎ Contains h d) × (¬ Contains F d))) c.deref.ensures.value c.in_ok-made-in-Unified.ensures.which in
+    let second = subst (λ (bs : List Binding). (d : CellId) → Contains c.in_ok-made-in-Unified.made.items d ↔ ((Contains (map (λ (b : Binding). b.cell) bs) d ⊎ Contains H d) × (¬ Contains F d))) bound first in
+    let third = subst (λ (f : List CellId). (d : CellId) → Contains c.in_ok-made-in-Unified.made.items d ↔ ((Contains (map (λ (b : Binding). b.cell) since) d ⊎ Contains H d) × (¬ Contains f d))) (sym c.in_ok-left.ensures.items) second in
     let which = subst (λ (l : List CellId). (d : CellId) → Contains l d ↔ ((Contains (map (λ (b : Binding). b.cell) since) d ⊎ Contains H d) × (¬ Contains given d))) (sym c.from_vec.ensures) third in
     new_cells types more store now given H _ run.reached order (subst (All (IsFree store)) (sym c.in_ok-left.ensures.items) c.requires.flexible) cs which
