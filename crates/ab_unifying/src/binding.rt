@@ -1,5 +1,5 @@
 //! A cell that may be replaced is bound so that, given names, it is a certain term.
-ghost use Rattle.std.specs.Prelude.{◌≡◌, ◌≢◌, ℕ, List, [], map, All, OnOk, Contains, codes, true};
+ghost use Rattle.std.specs.Prelude.{◌≡◌, ◌≢◌, ℕ, ◌≤◌, List, [], map, All, OnOk, Contains, codes, true};
 ghost use Rattle.ab_term.specs.Types.{Ty, kind};
 ghost use Rattle.ab_term.specs.Terms as tree;
 ghost use Rattle.ab_term.specs.Typing.{HasType};
@@ -46,6 +46,7 @@ pub(crate) fn bind<L>(
         (solve.value (codes "x") (cell_variable types.now store.old cell) (map (head_reading types.now store.old) names.now) (tree_of types.now store.old term))
         (type_of types.now (cell_of store.old cell).ty) }
     ensures grows { Grows types.now store.old types.now store.new }
+    ensures steps { steps.old ≤ steps.new }
     ensures changed { OnOk result ((T : Table) (S : Contents) (F : List CellId) (c : Change (List ℕ)) →
         Changed T S (others_than cell F) c types.now store.old flexible.now → Contains F cell → ¬ Contains flexible.now cell →
         Changed T S F (record {
@@ -81,6 +82,7 @@ pub(crate) fn bind_to_cell<L>(
         × Named (signature types.now) G (map (head_reading types.now store.old) others.now) (type_of types.now (cell_of store.old other).ty) (kind k) }
     requires within { (g : tree.Head ℕ) → among (map (head_reading types.now store.old) others.now) g ≡ true → among (map (head_reading types.now store.old) names.now) g ≡ true }
     ensures grows { Grows types.now store.old types.now store.new }
+    ensures steps { steps.old ≤ steps.new }
     ensures changed { OnOk result (
         let cells = cells_read types.now store.old in
         let ys = variables_read types.now store.old flexible.old.items in

@@ -1,5 +1,5 @@
 //! The rule that applies to an equation with a flexible side.
-ghost use Rattle.std.specs.Prelude.{◌≡◌, ◌↔◌, ℕ, List, map, All, IfOk, IfSome, None, true, false, Contains};
+ghost use Rattle.std.specs.Prelude.{◌≡◌, ◌↔◌, ℕ, ◌≤◌, List, map, All, IfOk, IfSome, None, true, false, Contains};
 ghost use Rattle.ab_term.specs.Types.{Ty, kind};
 ghost use Rattle.ab_term.specs.Terms.{variable, spine, terms_of};
 ghost use Rattle.ab_term.specs.Typing.{TakeType};
@@ -70,6 +70,7 @@ fn solve_cells<L>(
     requires typed { (G : List Ty) × (k : List ℕ) × TakeType (signature types.old) G (terms_of (map (tree_of types.old store.old) args.now)) (type_of types.old (cell_of store.old first).ty) (kind k)
         × TakeType (signature types.old) G (terms_of (map (tree_of types.old store.old) more.now)) (type_of types.old (cell_of store.old second).ty) (kind k) }
     ensures grows { Grows types.old store.old types.new store.new }
+    ensures steps { steps.old ≤ steps.new }
     ensures tells { IfOk result (λ r. Tells types.old store.old flexible.old.items types.new store.new flexible.new.items r
         (last_rules (cells_read types.old store.old) (variables_read types.old store.old flexible.old.items)
         (spine (variable (cell_variable types.old store.old first)) (terms_of (map (tree_of types.old store.old) args.now)))
@@ -114,6 +115,7 @@ fn solve_heads<L>(
     requires typed { (G : List Ty) × (A : Ty) × IsTerm types.old store.old G left A × IsTerm types.old store.old G right A }
     requires stuck { rigid_heads (variables_read types.old store.old flexible.old.items) place (tree_of types.old store.old left) (tree_of types.old store.old right) ≡ None }
     ensures grows { Grows types.old store.old types.new store.new }
+    ensures steps { steps.old ≤ steps.new }
     ensures tells { IfOk result (λ r. Tells types.old store.old flexible.old.items types.new store.new flexible.new.items r
         (last_rules (cells_read types.old store.old) (variables_read types.old store.old flexible.old.items) (tree_of types.old store.old left) (tree_of types.old store.old right))) }
 {
@@ -150,6 +152,7 @@ pub fn solve_flexible<L>(
     requires typed { (G : List Ty) × (A : Ty) × IsTerm types.old store.old G left A × IsTerm types.old store.old G right A }
     requires stuck { rigid_heads (variables_read types.old store.old flexible.old.items) place (tree_of types.old store.old left) (tree_of types.old store.old right) ≡ None }
     ensures grows { Grows types.old store.old types.new store.new }
+    ensures steps { steps.old ≤ steps.new }
     ensures tells { IfOk result (λ r. Tells types.old store.old flexible.old.items types.new store.new flexible.new.items r
         (last_rules (cells_read types.old store.old) (variables_read types.old store.old flexible.old.items) (tree_of types.old store.old left) (tree_of types.old store.old right))) }
 {

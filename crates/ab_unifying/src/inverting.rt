@@ -1,5 +1,5 @@
 //! A pattern becomes a rigid term.
-ghost use Rattle.std.specs.Prelude.{◌≡◌, ℕ, List, map, All, OnOk, Contains, codes, Some, true, false};
+ghost use Rattle.std.specs.Prelude.{◌≡◌, ℕ, ◌≤◌, List, map, All, OnOk, Contains, codes, Some, true, false};
 ghost use Rattle.ab_term.specs.Types.{Ty, kind};
 ghost use Rattle.ab_term.specs.Terms.{Terms};
 ghost use Rattle.ab_term.specs.Typing.{TakeType};
@@ -46,6 +46,7 @@ pub(crate) fn invert<L>(
     requires absent { occurs (cell_variable types.old store.old cell) (tree_of types.old store.old term) ≡ false }
     requires own { no_foreign (variables_read types.old store.old flexible.old.items) (map (head_reading types.old store.old) names.now) (tree_of types.old store.old term) ≡ true }
     ensures grows { Grows types.old store.old types.new store.new }
+    ensures steps { steps.old ≤ steps.new }
     ensures changed { OnOk result (
         let cells = cells_read types.old store.old in
         let ys = variables_read types.old store.old flexible.old.items in

@@ -1,5 +1,5 @@
 //! Two patterns of different cells become the same.
-ghost use Rattle.std.specs.Prelude.{◌≡◌, ◌≢◌, ℕ, List, map, length, All, OnOk, Contains, codes};
+ghost use Rattle.std.specs.Prelude.{◌≡◌, ◌≢◌, ℕ, ◌≤◌, List, map, length, All, OnOk, Contains, codes};
 ghost use Rattle.ab_term.specs.Types.{Ty, kind};
 ghost use Rattle.ab_term.specs.Closing.{Named, among};
 ghost use Rattle.ab_types.specs.Entries.{Table, signature};
@@ -44,6 +44,7 @@ pub(crate) fn join<L>(
     requires fits { (G : List Ty) × (k : List ℕ) × Named (signature types.old) G (map (head_reading types.old store.old) names.now) (type_of types.old (cell_of store.old older).ty) (kind k)
         × Named (signature types.old) G (map (head_reading types.old store.old) others.now) (type_of types.old (cell_of store.old younger).ty) (kind k) }
     ensures grows { Grows types.old store.old types.new store.new }
+    ensures steps { steps.old ≤ steps.new }
     ensures changed { OnOk result (Changed types.old store.old flexible.old.items
         (two_joined (codes "x") (cells_read types.old store.old) (variables_read types.old store.old flexible.old.items)
         (cell_variable types.old store.old older) (map (head_reading types.old store.old) names.now)
@@ -92,6 +93,7 @@ fn join_both<L>(
         × Named (signature types.old) G (map (head_reading types.old store.old) others.now) (type_of types.old (cell_of store.old younger).ty) (kind k) }
     requires keep { keep.now ≡ map (among (map (head_reading types.old store.old) others.now)) (map (head_reading types.old store.old) names.now) }
     ensures grows { Grows types.old store.old types.new store.new }
+    ensures steps { steps.old ≤ steps.new }
     ensures changed { OnOk result (Changed types.old store.old flexible.old.items
         (joined_at (codes "x") (cells_read types.old store.old) (variables_read types.old store.old flexible.old.items)
         (cell_variable types.old store.old older) (map (head_reading types.old store.old) names.now)

@@ -1,5 +1,5 @@
 //! A cell that may be replaced becomes a new one over some of the names that it is given.
-ghost use Rattle.std.specs.Prelude.{◌≡◌, ◌≢◌, true, ℕ, List, map, length, All, IfOk, OnOk, Contains, codes};
+ghost use Rattle.std.specs.Prelude.{◌≡◌, ◌≢◌, true, ℕ, ◌≤◌, List, map, length, All, IfOk, OnOk, Contains, codes};
 ghost use Rattle.ab_term.specs.Types.{Ty, kind};
 ghost use Rattle.ab_term.specs.Closing.{Named, is_name};
 ghost use Rattle.ab_types.specs.Entries.{Table, signature};
@@ -37,6 +37,7 @@ pub(crate) fn narrow<L>(
     requires fits { (G : List Ty) × (k : List ℕ) × Named (signature types.old) G (map (head_reading types.old store.old) names.now) (type_of types.old (cell_of store.old cell).ty) (kind k) }
     requires flags { length keep.now ≡ length names.now }
     ensures grows { Grows types.old store.old types.new store.new }
+    ensures steps { steps.old ≤ steps.new }
     ensures free { OnOk result (All (IsFree store.new) flexible.new.items) }
     ensures made { IfOk result (λ z. IsFree store.new z) }
     ensures number { IfOk result (λ z. z.0 ≡ length store.old.cells) }

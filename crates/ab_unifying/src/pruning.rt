@@ -1,5 +1,5 @@
 //! Pruning: flexible cells lose the names that are foreign where they stand.
-ghost use Rattle.std.specs.Prelude.{◌≡◌, ℕ, List, map, All, IfOk, OnOk, Contains, codes};
+ghost use Rattle.std.specs.Prelude.{◌≡◌, ℕ, ◌≤◌, List, map, All, IfOk, OnOk, Contains, codes};
 ghost use Rattle.ab_term.specs.Types.{Ty, kind};
 ghost use Rattle.ab_term.specs.Terms.{terms_of};
 ghost use Rattle.ab_term.specs.Typing.{TakeType};
@@ -55,6 +55,7 @@ fn prune_cell<L>(
     requires resolved { All (IsResolved store.old) args.now }
     requires typed { (G : List Ty) × (k : List ℕ) × TakeType (signature types.old) G (terms_of (map (tree_of types.old store.old) args.now)) (type_of types.old (cell_of store.old cell).ty) (kind k) }
     ensures grows { Grows types.old store.old types.new store.new }
+    ensures steps { steps.old ≤ steps.new }
     ensures free { OnOk result (All (IsFree store.new) flexible.new.items) }
     ensures changed { OnOk result ((T : Table) (S : Contents) (F : List CellId) (c : Change (List ℕ)) →
         Changed T S F c types.old store.old flexible.old.items →
@@ -93,6 +94,7 @@ fn prune_here<L>(
     requires term { IsSomeTerm types.old store.old term }
     requires resolved { IsResolved store.old term }
     ensures grows { Grows types.old store.old types.new store.new }
+    ensures steps { steps.old ≤ steps.new }
     ensures free { OnOk result (All (IsFree store.new) flexible.new.items) }
     ensures changed { OnOk result ((T : Table) (S : Contents) (F : List CellId) (c : Change (List ℕ)) →
         Changed T S F c types.old store.old flexible.old.items →
@@ -140,6 +142,7 @@ pub(crate) fn prune<L>(
     requires names { AreNames types.old names.now }
     requires term { IsSomeTerm types.old store.old term }
     ensures grows { Grows types.old store.old types.new store.new }
+    ensures steps { steps.old ≤ steps.new }
     ensures free { OnOk result (All (IsFree store.new) flexible.new.items) }
     ensures changed { OnOk result ((T : Table) (S : Contents) (F : List CellId) (c : Change (List ℕ)) →
         Changed T S F c types.old store.old flexible.old.items →
@@ -189,6 +192,7 @@ fn prune_all<L>(
     requires names { AreNames types.old names.now }
     requires terms { All (IsSomeTerm types.old store.old) terms.now }
     ensures grows { Grows types.old store.old types.new store.new }
+    ensures steps { steps.old ≤ steps.new }
     ensures free { OnOk result (All (IsFree store.new) flexible.new.items) }
     ensures changed { OnOk result ((T : Table) (S : Contents) (F : List CellId) (c : Change (List ℕ)) →
         Changed T S F c types.old store.old flexible.old.items →

@@ -1,5 +1,5 @@
 //! The rules at flexible terms.
-ghost use Rattle.std.specs.Prelude.{◌≡◌, ◌≢◌, ℕ, List, map, All, IfOk, IfSome, Contains, codes};
+ghost use Rattle.std.specs.Prelude.{◌≡◌, ◌≢◌, ℕ, ◌≤◌, List, map, All, IfOk, IfSome, Contains, codes};
 ghost use Rattle.ab_term.specs.Types.{Ty, kind};
 ghost use Rattle.ab_term.specs.Terms.{terms_of};
 ghost use Rattle.ab_term.specs.Typing.{TakeType};
@@ -80,6 +80,7 @@ pub(crate) fn solve_rigid<L>(
     requires typed { (G : List Ty) × (k : List ℕ) × TakeType (signature types.old) G (terms_of (map (tree_of types.old store.old) args.now)) (type_of types.old (cell_of store.old cell).ty) (kind k)
         × IsTerm types.old store.old G term (kind k) }
     ensures grows { Grows types.old store.old types.new store.new }
+    ensures steps { steps.old ≤ steps.new }
     ensures tells { IfOk result (λ r. Tells types.old store.old flexible.old.items types.new store.new flexible.new.items r
         (pattern_of (codes "x") (cells_read types.old store.old) (variables_read types.old store.old flexible.old.items) (cell_variable types.old store.old cell) (tree_of types.old store.old term)
         (solve.pattern (type_of types.old (cell_of store.old cell).ty) (terms_of (map (tree_of types.old store.old) args.now))))) }
@@ -123,6 +124,7 @@ pub(crate) fn solve_one<L>(
     requires typed { (G : List Ty) × (k : List ℕ) × TakeType (signature types.old) G (terms_of (map (tree_of types.old store.old) args.now)) (type_of types.old (cell_of store.old cell).ty) (kind k)
         × TakeType (signature types.old) G (terms_of (map (tree_of types.old store.old) more.now)) (type_of types.old (cell_of store.old cell).ty) (kind k) }
     ensures grows { Grows types.old store.old types.new store.new }
+    ensures steps { steps.old ≤ steps.new }
     ensures tells { IfOk result (λ r. Tells types.old store.old flexible.old.items types.new store.new flexible.new.items r
         (same_variable_at (codes "x") (cells_read types.old store.old) (variables_read types.old store.old flexible.old.items) (cell_variable types.old store.old cell)
         (solve.pattern (type_of types.old (cell_of store.old cell).ty) (terms_of (map (tree_of types.old store.old) args.now)))
@@ -167,6 +169,7 @@ pub(crate) fn solve_two<L>(
     requires typed { (G : List Ty) × (k : List ℕ) × TakeType (signature types.old) G (terms_of (map (tree_of types.old store.old) args.now)) (type_of types.old (cell_of store.old older).ty) (kind k)
         × TakeType (signature types.old) G (terms_of (map (tree_of types.old store.old) more.now)) (type_of types.old (cell_of store.old younger).ty) (kind k) }
     ensures grows { Grows types.old store.old types.new store.new }
+    ensures steps { steps.old ≤ steps.new }
     ensures tells { IfOk result (λ r. Tells types.old store.old flexible.old.items types.new store.new flexible.new.items r
         (two_at (codes "x") (cells_read types.old store.old) (variables_read types.old store.old flexible.old.items)
         (cell_variable types.old store.old older) (solve.pattern (type_of types.old (cell_of store.old older).ty) (terms_of (map (tree_of types.old store.old) args.now)))

@@ -169,6 +169,7 @@ prune_all-loop-term-preserved g t c =
     let low : i < length terms = omega arith in
     record {
       grows = grows_on c.args.types.now c.loop-term.types c.prune.new.types c.args.store.now c.loop-term.store c.prune.new.store c.loop-term.invariant.grows c.in_ok-prune.ensures.grows;
+      steps = omega (arith, c.loop-term.invariant.steps, c.in_ok-prune.ensures.steps);
       free = c.in_ok-prune.ensures.free;
       changed = λ T S F change was named cells G A B held takes clear.
           let ys = variables_read T S c.args.cells.now in

@@ -1,4 +1,4 @@
-use Rattle.std.proofs.Common.{◌+◌, ◌*◌, List, ℕ, map, take, codes}
+use Rattle.std.proofs.Common.{◌+◌, ◌*◌, ◌≤◌, List, ℕ, map, take, codes}
 use Rattle.std.specs.List.{All}
 use Rattle.ab_term.specs.Types.{Ty}
 use Rattle.ab_term.specs.Terms.{terms_of}
@@ -21,6 +21,7 @@ decreases-prune_all g l = 2 * ids_bound l.terms.now
 abbrev pub invariant-prune_all-loop-term : goal.invariant-prune_all-loop-term
 invariant-prune_all-loop-term g l = record {
   grows : Grows l.fn.types l.fn.store l.types l.store;
+  steps : l.fn.steps ≤ l.steps;
   free : All (IsFree l.store) l.flexible.items;
   changed : (T : Table) (S : Contents) (F : List CellId) (c : Change (List ℕ)) → Changed T S F c l.fn.types l.fn.store l.fn.flexible.items →
       AreNames T l.names → All (IsFree S) l.cells → (G : List Ty) (A B : Ty) → All (Holds S) l.terms → TakeType (signature T) G (terms_of (map (tree_of T S) l.terms)) A B →

@@ -1,0 +1,15 @@
+pub mod Keeping
+pub mod Finding
+pub mod Parts
+pub mod Ruled
+pub mod Searching
+pub mod Advanced
+pub mod Measured
+pub mod Counted
+pub mod Ran
+pub mod Sets
+pub mod Made
+pub mod Over
+pub mod Answered
+pub mod Cut
+pub mod Numbered

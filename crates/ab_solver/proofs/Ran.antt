@@ -1,0 +1,77 @@
+-- A whole run, one step after another.
+use Rattle.std.proofs.Common.{◌≡◌, ℕ, ◌+◌, ◌<◌, ◌≤◌, List, [], Option, Some, None, codes, refl, arith}
+use Rattle.std.specs.Prelude.{All}
+use Rattle.ab_term.specs.Variables.{Substitution}
+use Rattle.ab_types.specs.Entries.{Table}
+use Rattle.ab_store.specs.declared.node.CellId.{CellId}
+use Rattle.ab_store.specs.Trees.{Contents}
+use Rattle.ab_store.specs.Naming.{IsTypedBy}
+use Rattle.ab_patterns.specs.declared.equation.Numbered.{Numbered}
+use Rattle.ab_solve.specs.Solving.{Answer, unified, apart, stuck, Solves, at_end, by_step}
+use Rattle.ab_solve.proofs.Ending.{steps_left}
+use Rattle.ab_unifying.specs.Changed.{IsFree}
+use Rattle.ab_unifying.proofs.Put.{starts}
+use Rattle.ab_unifying.specs.Problem.{variables_read}
+use Rattle.ab_solver.specs.declared.verdict.Verdict.{Verdict}
+use Rattle.ab_solver.specs.declared.verdict.Verdict.TheVariants.{Unified, Apart, Stuck}
+use Rattle.ab_solver.specs.Counting.{Takes}
+use Rattle.ab_solver.specs.States.{state_of, Reaches, IsStep, rules_in, Advances, answer_of, Runs}
+use Rattle.ab_solver.proofs.Measured.{fewer_left}
+use Rattle.ab_solver.proofs.Counted.{takes_on, takes_last, takes_no_more}
+
+-- what the state leads to now, it led to from the start; so many steps were counted then, and so many now
+pub record IsRun (types : Table) (store : Contents) (begun : List CellId) (es : List Numbered) (more : Table) (now : Contents) (flexible : List CellId) (left : List Numbered) (then_steps now_steps : ℕ) : Type 0 where
+  pub pairs : Substitution ℕ (List ℕ)
+  pub reached : Reaches types store begun more now flexible pairs
+  pub leads : (a : Answer (List ℕ)) → Solves (codes "x") (state_of more now left flexible pairs) a → Solves (codes "x") (state_of types store es begun []) a
+  pub counts : (n : ℕ) → Takes (codes "x") (state_of types store es begun []) n → (m : ℕ) × Takes (codes "x") (state_of more now left flexible pairs) m × (then_steps + n ≤ m + now_steps)
+
+pub run_begins : (types : Table) (store : Contents) (F : List CellId) (es : List Numbered) (k : ℕ) → IsTypedBy types store → All (IsFree store) F → IsRun types store F es types store F es k k
+run_begins types store F es k typed free = record {
+  pairs = [];
+  reached = starts types store typed F free (variables_read types store F) refl;
+  leads = λ a p. p;
+  counts = λ n t. (n, t, omega arith);
+}
+
+module _ (types : Table) (store : Contents) (begun : List CellId) (es : List Numbered) (T : Table) (S : Contents) (F : List CellId) (left : List Numbered) (U : Table) (V : Contents) (H : List CellId) (then_left : List Numbered) where
+  pub run_on : (i j k : ℕ) → IsRun types store begun es T S F left i j → Advances T S F left U V H then_left None → j + 1 ≤ k → IsRun types store begun es U V H then_left i k
+  run_on i j k run step more =
+      let a = step types store begun run.pairs run.reached in
+      record {
+        pairs = a.0;
+        reached = a.1;
+        leads = λ b p. run.leads b (by_step a.2 p);
+        counts = λ n t.
+            let c = run.counts n t in
+            let on = takes_on (codes "x") c.0 c.1 a.2 in
+            (on.0, on.2, omega (arith, c.2, on.1, more));
+      }
+
+  -- each step leaves fewer
+  pub step_less : IsTypedBy T S → All (IsFree S) F → Advances T S F left U V H then_left None → steps_left (codes "x") (state_of U V then_left H []) < steps_left (codes "x") (state_of T S left F [])
+  step_less typed free step =
+      let a = step T S F [] (starts T S typed F free (variables_read T S F) refl) in
+      fewer_left (codes "x") [] (state_of T S left F []) (state_of U V then_left H a.0) a.2
+
+  at_verdict : (v : Verdict) (s r : Substitution ℕ (List ℕ)) → IsStep (Some v) (state_of T S left F s) (state_of U V then_left H r) → Solves (codes "x") (state_of T S left F s) (answer_of v (state_of U V [] H r))
+  at_verdict Unified s r e = at_end e
+  at_verdict Apart s r e = at_end e
+  at_verdict (Stuck place) s r e = at_end e
+
+  last_counts : (v : Verdict) (s r : Substitution ℕ (List ℕ)) (n : ℕ) → IsStep (Some v) (state_of T S left F s) (state_of U V then_left H r) → Takes (codes "x") (state_of T S left F s) n → n ≤ rules_in (Some v)
+  last_counts Unified s r n e t = takes_no_more (codes "x") n _ (λ q. absurd (cc)) t e
+  last_counts Apart s r n e t = takes_last (codes "x") n _ t e
+  last_counts (Stuck place) s r n e t = takes_no_more (codes "x") n _ (λ q. absurd (cc)) t e
+
+  pub run_ends : (i j : ℕ) (v : Verdict) → IsRun types store begun es T S F left i j → Advances T S F left U V H then_left (Some v) → Runs types store begun es U V H v
+  run_ends i j v run step =
+      let a = step types store begun run.pairs run.reached in
+      record { pairs = a.0; reached = a.1; solves = run.leads (answer_of v (state_of U V [] H a.0)) (at_verdict v run.pairs a.0 a.2) }
+
+  pub run_counts : (i j k : ℕ) (v : Verdict) → IsRun types store begun es T S F left i j → Advances T S F left U V H then_left (Some v) → j + rules_in (Some v) ≤ k
+      → (n : ℕ) → Takes (codes "x") (state_of types store es begun []) n → i + n ≤ k
+  run_counts i j k v run step more n t =
+      let a = step types store begun run.pairs run.reached in
+      let c = run.counts n t in
+      omega (arith, c.2, last_counts v run.pairs a.0 c.0 a.2 c.1, more)

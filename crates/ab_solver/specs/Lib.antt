@@ -1,0 +1,5 @@
+-- Unification of shared terms as one call: `Answers` says what its answers mean, in the plain words of `ab_solve`, and
+-- `Counting` how many rules lead to one. The others serve private contracts.
+pub mod Answers
+pub mod Counting
+pub mod States
