@@ -1,17 +1,20 @@
 -- The rows of proof commands that open nothing are settled.
-use Rattle.std.proofs.Common.{◌≡◌, List, [], ◌∷◌, ◌++◌, Some, None, ℕ, refl, sym, ◌∙◌, ap, subst}
+use Rattle.std.proofs.Common.{◌≡◌, inl, inr, List, [], ◌∷◌, ◌++◌, Some, None, ℕ, refl, sym, ◌∙◌, ap, subst}
 use Rattle.ab_term.specs.Types.{Ty, prop}
 use Rattle.ab_term.specs.Substitution.{instance}
 use Rattle.ab_store.specs.Trees.{Read}
 use Rattle.ab_grammar.specs.Tree.{Tree}
 use Rattle.ab_grammar.specs.CommandTrees.{ProofCommand, intros, induction, coinduction, case, apply, backchain, cut, inst, monotone, search, split, split_all, left, right, exists, unfold_goal, assert, clear, rename, permute}
-use Rattle.ab_logic.specs.Declarations.{Declarations}
+use Rattle.ab_logic.specs.Declarations.{Declarations, signature_in}
+use Rattle.ab_logic.specs.Formulas.{IsFormula}
 use Rattle.ab_logic.specs.Sequents.{Sequent, proving, assuming}
 use Rattle.ab_logic.specs.Names.{Label, auto, given, Names, NoName}
 use Rattle.ab_rules.proofs.OneAnswer.{names_once}
-use Rattle.ab_effects.specs.Effect.{effect, reading, naming}
+use Rattle.ab_effects.specs.Effect.{effect, reading, stating, naming}
 use Rattle.ab_effects.specs.Introducing.{Parts, alone, parted}
+use Rattle.ab_effects.specs.Refusals.{Refusal}
 use Rattle.ab_effects.specs.Row.{Row, leads}
+use Rattle.ab_effects.specs.Terms.{Asserts, AssertsNothing}
 use Rattle.ab_rows.specs.Opening.{OpensNothing}
 use Rattle.ab_rows.proofs.Settled.{Settled}
 use Rattle.ab_rows.proofs.OneReading.{means_or_not, one_meaning, one_cause}
@@ -36,6 +39,20 @@ one_parting (parted {A = A} {B = B} {Fs = Fs} {Gs = Gs} e p q) (parted {A = C} {
 reading_settled : (D : Declarations) (s : Sequent) (e : Tree) (A : Ty) (k : Read → Row) → ((t : Read) → Settled (k t)) → Settled (reading D s e A k)
 reading_settled D s e A k rest = (means_or_not D s e A, one_cause D s e A, one_meaning D s e A, rest)
 
+module _ (D : Declarations) (s : Sequent) (e : Tree) where
+  states_or_not : (F : Read) (f : Refusal) → Asserts D s e F → AssertsNothing D s e f → ⊥
+  states_or_not F f a (inl n) = means_or_not D s e prop F f a.0 n
+  states_or_not F f a (inr (G, m, none, is)) = none (subst (IsFormula (signature_in D)) (one_meaning D s e prop F G a.0 m) a.1)
+
+  one_fault : (f g : Refusal) → AssertsNothing D s e f → AssertsNothing D s e g → f ≡ g
+  one_fault f g (inl n) (inl m) = one_cause D s e prop f g n m
+  one_fault f g (inl n) (inr (G, m, none, is)) = absurd (means_or_not D s e prop G f m n)
+  one_fault f g (inr (F, m, none, is)) (inl n) = absurd (means_or_not D s e prop F g m n)
+  one_fault f g (inr (F, m, none, is)) (inr (G, k, other, at)) = is ∙ sym at
+
+  stating_settled : (k : Read → Row) → ((F : Read) → Settled (k F)) → Settled (stating D s e k)
+  stating_settled k rest = (states_or_not, one_fault, λ F G a b. one_meaning D s e prop F G a.0 b.0, rest)
+
 naming_settled : (l : Label) (s : Sequent) (k : List ℕ → Sequent → Row) → ((x : List ℕ) (t : Sequent) → Settled (k x t)) → Settled (naming l s k)
 naming_settled l s k rest = (
   λ p f named none. never_named l s p.0 p.1 named none.0,
@@ -59,7 +76,7 @@ settled D l left s so = λ p. tt
 settled D l right s so = λ p. tt
 settled D l (exists e) s so = λ q. reading_settled D s e q.0 (λ t. leads (proving (instance q.1 t) s ∷ [])) (λ t. tt)
 settled D l (assert e) s so =
-    reading_settled D s e prop (λ F. naming l s (λ name t. leads (proving F s ∷ assuming name F t ∷ [])))
+    stating_settled D s e (λ F. naming l s (λ name t. leads (proving F s ∷ assuming name F t ∷ [])))
     (λ F. naming_settled l s (λ name t. leads (proving F s ∷ assuming name F t ∷ [])) (λ x t. tt))
 settled D l (clear Hs) s so = tt
 settled D l (rename H x) s so = λ F. tt

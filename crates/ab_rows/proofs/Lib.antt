@@ -1,4 +1,3 @@
 mod Settled
-mod FreeNames
 mod OneReading
 mod Commands

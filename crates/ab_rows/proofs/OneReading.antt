@@ -17,7 +17,7 @@ use Rattle.ab_readings.specs.Answers.{Reading, IsTheReading, IsFirstOpen}
 use Rattle.ab_readings.specs.Normal.{normal_form}
 use Rattle.ab_effects.specs.Refusals.{Refusal, unknown, type_clash, untyped, clash, no_hypothesis, wrong_shape, mark, no_match, not_pattern, unresolved, names_spent}
 use Rattle.ab_effects.specs.Terms.{made, constant_named, kinds_in, entry_of, scope_of, Means, MeansNothing}
-use Rattle.ab_rows.proofs.FreeNames.{FreeAreNominal, IfFound, free_are_nominal}
+use Rattle.ab_meanings.proofs.Names.{FreeAreNominal, free_are_nominal}
 
 abbrev head_given : Head ℕ → Ty
 head_given (nominal a) = a.type
@@ -87,7 +87,7 @@ module _ (D : Declarations) (s : Sequent) (e : Tree) (A : Ty) where
   one_named r q x y = let both : Ok q ≡ Ok r = sym y ∙ x in cc
 
   all_nominal : (r : Resolved) → resolved (scope_of D s) [] e ≡ Ok r → FreeAreNominal r
-  all_nominal r x = subst IfFound x (free_are_nominal (kinds_in D) (signature_in D) (map entry_of s.variables) (goal_names s) [] e)
+  all_nominal r x = free_are_nominal (kinds_in D) (signature_in D) (map entry_of s.variables) (goal_names s) e r x
 
   pub means_or_not : (t : Read) (f : Refusal) → Means D s e A t → MeansNothing D s e A f → ⊥
   means_or_not t (unknown x) m n = let clashing : Ok m.named ≡ Err x = sym m.names ∙ n in cc
