@@ -8,8 +8,11 @@ ghost use Rattle.ab_kernel.specs.Layout.{history_of, IsProof};
 ghost use Rattle.ab_progress.specs.Applied.{IsApplied, IsRefused};
 ghost use Rattle.ab_progress.specs.Progress.{goals_of, Follows};
 ghost use Rattle.ab_progress.specs.declared.fault.ProofCommandFault.{ProofCommandFault as AFault};
-ghost use Rattle.ab_proofcmd.specs.Built.{given_label, IsBuilt};
+ghost use Rattle.ab_effects.specs.Effect.{given_label};
+ghost use Rattle.ab_proofcmd.specs.Built.{IsBuilt};
 
+use ab_elaborate::holds_judgement;
+use ab_giving::{assert, exists};
 use ab_kernel::Proof;
 use ab_left::{case, clear, rename};
 use ab_logic::World;
@@ -33,6 +36,8 @@ pub fn is_built(command: &ProofCommand) -> bool
         | ProofCommand::Right
         | ProofCommand::Clear(_)
         | ProofCommand::Rename(_, _) => true,
+        ProofCommand::Exists(term) => !holds_judgement(term),
+        ProofCommand::Assert(formula) => !holds_judgement(formula),
         ProofCommand::Induction(_)
         | ProofCommand::Coinduction
         | ProofCommand::Apply(_, _, _)
@@ -41,9 +46,7 @@ pub fn is_built(command: &ProofCommand) -> bool
         | ProofCommand::Inst(_, _)
         | ProofCommand::Monotone(_, _)
         | ProofCommand::Search(_)
-        | ProofCommand::Exists(_)
         | ProofCommand::Unfold
-        | ProofCommand::Assert(_)
         | ProofCommand::Permute(_, _) => false,
     }
 }
@@ -91,6 +94,11 @@ pub fn apply_proof_command<L>(
         ProofCommand::SplitAll => split_all(world, proof, steps),
         ProofCommand::Left => left(world, proof, steps),
         ProofCommand::Right => right(world, proof, steps),
+        ProofCommand::Exists(term) => exists(alloc, world, proof, term, steps),
+        ProofCommand::Assert(formula) => {
+            let wanted = label_wanted(alloc, label)?;
+            assert(alloc, world, proof, &wanted, formula, steps)
+        }
         ProofCommand::Clear(names) => {
             let gone = names.as_slice();
             clear(alloc, world, proof, gone, steps)

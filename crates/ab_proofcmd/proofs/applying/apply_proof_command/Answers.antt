@@ -2,9 +2,10 @@ use Rattle.std.specs.Prelude.{IfOk}
 use Rattle.std.specs.Option.{option_copied}
 use Rattle.std.proofs.Common.{ℕ, List, subst}
 use Rattle.ab_grammar.specs.CommandTrees as told
+use Rattle.ab_syntax.specs.Trees.{tree_of}
 use Rattle.ab_logic.specs.Names.{Label}
 use Rattle.ab_progress.specs.Applied.{IsApplied, IsRefused}
-use Rattle.ab_proofcmd.specs.Built.{given_label}
+use Rattle.ab_effects.specs.Effect.{given_label}
 use Rattle.ab_proofcmd.proofs.Answered.{at_label}
 use Rattle.ab_proofcmd.proofs.applying.apply_proof_command.Goals as goal
 
@@ -84,3 +85,22 @@ returns-in-Rename-clause-applied g c =
 
 pub returns-in-Rename-clause-refused : goal.returns-in-Rename-clause-refused
 returns-in-Rename-clause-refused g c fault e = rw c.in-Rename.is (c.rename.ensures.refused fault e (given_label (option_copied c.args.label)))
+
+pub returns-in-Exists-clause-applied : goal.returns-in-Exists-clause-applied
+returns-in-Exists-clause-applied g c =
+    let l = given_label (option_copied c.args.label) in
+    rw c.in-Exists.is (at_label (λ m. IsApplied m (told.exists (tree_of c.in-Exists.term)) c.args.world.now c.args.proof.now c.exists.new.world c.exists.new.proof) c.exists.result l c.exists.ensures.applied)
+
+pub returns-in-Exists-clause-refused : goal.returns-in-Exists-clause-refused
+returns-in-Exists-clause-refused g c fault e = rw c.in-Exists.is (c.exists.ensures.refused fault e (given_label (option_copied c.args.label)))
+
+pub returns-in_ok-wanted-in-Assert-clause-applied : goal.returns-in_ok-wanted-in-Assert-clause-applied
+returns-in_ok-wanted-in-Assert-clause-applied g c =
+    rw c.in-Assert.is
+    (subst (λ (m : Label). IfOk c.assert.result (λ u. IsApplied m (told.assert (tree_of c.in-Assert.formula)) c.args.world.now c.args.proof.now c.assert.new.world c.assert.new.proof)) c.in_ok-wanted-in-Assert.ensures
+    c.assert.ensures.applied)
+
+pub returns-in_ok-wanted-in-Assert-clause-refused : goal.returns-in_ok-wanted-in-Assert-clause-refused
+returns-in_ok-wanted-in-Assert-clause-refused g c fault e =
+    rw c.in-Assert.is
+    (subst (λ (m : Label). IsRefused m (told.assert (tree_of c.in-Assert.formula)) c.args.world.now c.args.proof.now fault) c.in_ok-wanted-in-Assert.ensures (c.assert.ensures.refused fault e))

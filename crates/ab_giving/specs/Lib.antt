@@ -1,0 +1,4 @@
+-- What is read of the expressions of proof commands, and what comes of it.
+pub mod Scoping
+pub mod Reading
+pub mod Cutting

@@ -1,0 +1,88 @@
+//! The expressions of proof commands.
+ghost use Rattle.std.specs.Prelude.{◌≡◌};
+ghost use Rattle.ab_term.specs.Types.{prop};
+ghost use Rattle.ab_types.specs.Ids.{HoldsType, type_of};
+ghost use Rattle.ab_syntax.specs.Trees.{tree_of};
+ghost use Rattle.ab_elaborate.specs.Judgements.{HasNoJudgement};
+ghost use Rattle.ab_logic.specs.Growth.{Grows};
+ghost use Rattle.ab_logic.specs.Readings.{sequent_of, HoldsSequent};
+ghost use Rattle.ab_logic.specs.Sequents.{IsSequent};
+ghost use Rattle.ab_logic.specs.Worlds.{IsWorld, declarations_of};
+ghost use Rattle.ab_giving.specs.Reading as spec;
+ghost use Rattle.ab_giving.specs.Reading.{IsReadAs};
+
+use crate::scoping::scope_of;
+use ab_declare::formula_type;
+use ab_elaborate::elaborate;
+use ab_infer::InferFault;
+use ab_logic::{Sequent, World};
+use ab_progress::ProofCommandFault;
+use ab_store::TermId;
+use ab_syntax::Parse;
+use ab_types::laws::has_unique_ids;
+use ab_types::{Steps, TypeId};
+use std::alloc::Global;
+
+/// The term that the expression means in the goal at the type.
+pub(crate) fn read_term<L>(
+    alloc: Global,
+    world: &mut World,
+    goal: &Sequent,
+    parse: &Parse,
+    expected: TypeId,
+    steps: &mut Steps<L>,
+) -> Result<TermId, InferFault>
+    requires world { IsWorld world.old }
+    requires held { HoldsSequent world.old goal.now }
+    requires sequent { IsSequent (declarations_of world.old) (sequent_of world.old goal.now) }
+    requires judgement { HasNoJudgement (tree_of parse.now) }
+    requires expected { HoldsType world.old.types expected }
+    ensures reads { IsReadAs (declarations_of world.old) (sequent_of world.old goal.now) (tree_of parse.now) (type_of world.old.types expected) world.new result }
+    ensures grows { Grows world.old world.new }
+    ensures declared { declarations_of world.new ≡ declarations_of world.old }
+{
+    has_unique_ids(&world.types);
+    let scope = scope_of(alloc, world, goal)?;
+    elaborate(
+        alloc,
+        &mut world.types,
+        &mut world.store,
+        &scope,
+        parse,
+        expected,
+        steps,
+    )
+}
+
+/// The term that the expression means in the goal at the type of formulas.
+pub(crate) fn read_formula<L>(
+    alloc: Global,
+    world: &mut World,
+    goal: &Sequent,
+    parse: &Parse,
+    steps: &mut Steps<L>,
+) -> Result<TermId, InferFault>
+    requires world { IsWorld world.old }
+    requires held { HoldsSequent world.old goal.now }
+    requires sequent { IsSequent (declarations_of world.old) (sequent_of world.old goal.now) }
+    requires judgement { HasNoJudgement (tree_of parse.now) }
+    ensures reads { IsReadAs (declarations_of world.old) (sequent_of world.old goal.now) (tree_of parse.now) prop world.new result }
+    ensures grows { Grows world.old world.new }
+    ensures declared { declarations_of world.new ≡ declarations_of world.old }
+{
+    has_unique_ids(&world.types);
+    let expected = formula_type(alloc, &mut world.types)?;
+    read_term(alloc, world, goal, parse, expected, steps)
+}
+
+/// Why a command is refused whose expression isn't read.
+pub(crate) fn fault_for(fault: InferFault) -> ProofCommandFault
+    ensures { result ≡ spec.fault_for fault }
+{
+    match fault {
+        InferFault::Unknown(name) => ProofCommandFault::Unknown(name),
+        InferFault::TypeClash(place) => ProofCommandFault::TypeClash(place),
+        InferFault::Untyped(place) => ProofCommandFault::Untyped(place),
+        InferFault::Memory(error) => ProofCommandFault::Memory(error),
+    }
+}
