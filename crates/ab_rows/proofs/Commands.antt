@@ -23,10 +23,13 @@ never_named : (l : Label) (s : Sequent) (x : List ℕ) (t : Sequent) → Names l
 never_named auto s x t a none = none a.0 a.1.has
 never_named (given z) s x t a used = a.0 used
 
+none_some : {p : Read × Read} → None ≡ Some p → {X : Type 0} → X
+none_some e = absurd (cc)
+
 one_parting : {F : Read} {Fs Gs : List Read} → Parts F Fs → Parts F Gs → Fs ≡ Gs
 one_parting (alone e) (alone d) = refl
-one_parting (alone e) (parted {A = A} {B = B} d p q) = let clash : None ≡ Some (A, B) = sym e ∙ d in cc
-one_parting (parted {A = A} {B = B} d p q) (alone e) = let clash : None ≡ Some (A, B) = sym e ∙ d in cc
+one_parting (alone e) (parted {A = A} {B = B} d p q) = none_some (sym e ∙ d)
+one_parting (parted {A = A} {B = B} d p q) (alone e) = none_some (sym e ∙ d)
 one_parting (parted {A = A} {B = B} {Fs = Fs} {Gs = Gs} e p q) (parted {A = C} {B = E} {Fs = Hs} {Gs = Ks} d r t) =
     let both : Some (C, E) ≡ Some (A, B) = sym d ∙ e in
     let pairs : (C, E) ≡ (A, B) = cc in

@@ -1,3 +1,9 @@
 mod Settled
 mod OneReading
 mod Commands
+mod Outlines
+mod Namings
+mod Alike
+mod OneWay
+mod OneIntroduction
+mod Once

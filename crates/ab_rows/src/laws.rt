@@ -1,9 +1,10 @@
 //! Each proof command has one answer at a goal.
-ghost use Rattle.std.specs.Prelude.{◌≡◌, List};
+ghost use Rattle.std.specs.Prelude.{◌≡◌, List, map};
 ghost use Rattle.ab_grammar.specs.CommandTrees.{ProofCommand};
 ghost use Rattle.ab_logic.specs.Declarations.{Declarations};
 ghost use Rattle.ab_logic.specs.Names.{Label};
-ghost use Rattle.ab_logic.specs.Sequents.{Sequent};
+ghost use Rattle.ab_logic.specs.Sequents.{Sequent, IsSequent};
+ghost use Rattle.ab_goals.specs.Goals.{named};
 ghost use Rattle.ab_effects.specs.Effect.{effect};
 ghost use Rattle.ab_effects.specs.Refusals.{Refusal};
 ghost use Rattle.ab_effects.specs.Row.{Leads, Refuses};
@@ -19,4 +20,16 @@ pub fn proof_commands_have_one_answer()
         Refuses (effect D l command s) f → Refuses (effect D l command s) g → f ≡ g }
     ensures one_list { (D : Declarations) (l : Label) (command : ProofCommand) (s : Sequent) (ps qs : List Sequent) → OpensNothing command →
         Leads (effect D l command s) ps → Leads (effect D l command s) qs → ps ≡ qs }
+{}
+
+/// Each proof command has one answer at a sequent, also where it opens formulas or takes the conclusion apart: it leads to
+/// goals or is refused, for one cause, and the goals are one list with names for the numbers of their variables. A new
+/// variable may have any number that is free.
+pub fn every_proof_command_has_one_answer()
+    ensures apart { (D : Declarations) (l : Label) (command : ProofCommand) (s : Sequent) (ps : List Sequent) (f : Refusal) → IsSequent D s →
+        Leads (effect D l command s) ps → Refuses (effect D l command s) f → ⊥ }
+    ensures one_refusal { (D : Declarations) (l : Label) (command : ProofCommand) (s : Sequent) (f g : Refusal) → IsSequent D s →
+        Refuses (effect D l command s) f → Refuses (effect D l command s) g → f ≡ g }
+    ensures one_list { (D : Declarations) (l : Label) (command : ProofCommand) (s : Sequent) (ps qs : List Sequent) → IsSequent D s →
+        Leads (effect D l command s) ps → Leads (effect D l command s) qs → map named ps ≡ map named qs }
 {}
