@@ -5,6 +5,7 @@ use crate::block;
 use ab_logic::World;
 use ab_name::Name;
 use ab_states::{Place, Refusal, Reply};
+use ab_syntax::Items;
 use std::alloc::{AllocError, Global};
 
 fn refused(
@@ -46,7 +47,7 @@ fn refusals_are_printed(rt: HostRuntime) -> Result<(), AllocError> {
     let mut names = Vec::new(alloc);
     names.push(Name::from_text(alloc, "loop")?)?;
     names.push(Name::from_text(alloc, "loop")?)?;
-    let line = refused(alloc, &world, 0, Refusal::Circular(names))?;
+    let line = refused(alloc, &world, 0, Refusal::Circular(Items::from_vec(names)))?;
     assert!(rt; line.as_slice() == b"[0] Refused 22 Circular loop loop\n".as_slice());
     let line = refused(alloc, &world, 7, Refusal::NotPattern(1))?;
     assert!(rt; line.as_slice() == b"[7] Refused 13 NotPattern equation 1\n".as_slice());
