@@ -14,11 +14,12 @@ use Rattle.ab_io.proofs.Streams.{takes_none, takes_more, appends_none, appends_m
 use Rattle.abella.specs.declared.status.Status.{Status}
 use Rattle.abella.specs.declared.status.Status.TheVariants.{Done, Refused, ReadFault, WriteFault, NoMemory, Unfinished, TooLong}
 use Rattle.abella.specs.declared.running.TheConstants.{READ_FAULT, TOO_LONG, MAX_INPUT}
-use Rattle.abella.specs.State.{empty, IsFinished}
-use Rattle.abella.specs.Report.{none}
-use Rattle.abella.specs.Outcome.{ReportOf, EndsWith, WroteReport, WroteAll, IsLastLine, WroteSome, RanOver, Ran}
-use Rattle.abella.specs.Progress.{Standing, to_come, all_items, Answered, AnsweredSome, SameRest, FedPiece, TookPiece, Running, EndedWith, status_at_end, beginning}
-use Rattle.abella.proofs.Progress.{answered_more, some_more, front_after}
+use Rattle.ab_states.specs.State.{State, empty}
+use Rattle.abella.specs.Report.{Report, ReportOf, none, bytes_of, has_refusal, has_end, state_behind}
+use Rattle.abella.specs.Outcome.{IsFinished, HasNoRest, EndsWith, WroteReport, WroteAll, IsLastLine, WroteSome, RanOver, Ran}
+use Rattle.abella.specs.Progress.{Standing, to_come, all_items, Answered, AnsweredSome, AnsweredUpTo, SameRest, FedPiece, TookPiece, Running, EndedWith, status_at_end, beginning, handed_by, RanTo}
+use Rattle.abella.proofs.Reports.{report_of_items, reports_ended}
+use Rattle.abella.proofs.Progress.{answered_more, some_more, state_up_to, front_after, goes_on}
 
 take_most : (most : ℕ) (taken extra : List ℕ) → length taken ≤ most → take most (taken ++ extra) ≡ taken ++ take (most - length taken) extra
 take_most most taken extra l =
@@ -42,7 +43,7 @@ some_written all taken more out out' reads reads' e x = record {
   reports = x.reports;
   line = [];
   line_is = inl refl;
-  wrote = subst (λ q. AppendsFront out q out') (sym (append-nil x.report.bytes)) x.wrote;
+  wrote = subst (λ q. AppendsFront out q out') (sym (append-nil (bytes_of x.report))) x.wrote;
 }
 
 -- nothing was taken yet
@@ -52,27 +53,31 @@ starts left out p e b = record {
   takes = takes_none left;
   counted = refl;
   few = omega arith;
-  answered = record { answered = []; report = record { bytes = []; refused = false; state = empty }; reports = none; standing_is = refl; items_are = λ more. sym (e more); wrote = appends_none out };
+  answered = record { answered = []; report = []; reports = none; standing_is = refl; items_are = λ more. sym (e more); wrote = appends_none out };
+  goes_on = refl;
   none_ready = e [];
   blank_is = λ more. sym (b more);
 }
 
 -- there is no memory for a buffer
-pub ran_at_once : (left out : Option (List ℕ)) (reads writes : ℕ) → Ran NoMemory left left out out reads reads writes writes
+pub ran_at_once : (left out : Option (List ℕ)) (reads writes : ℕ) → Ran NoMemory None left left out out reads reads writes writes
 ran_at_once left out reads writes = record {
   taken = [];
   takes = takes_none left;
   few = omega arith;
-  over = record {
-    answered = [];
-    others = items [];
-    items_are = items_of COMMAND_LIMIT [];
-    report = record { bytes = []; refused = false; state = empty };
-    reports = none;
-    line = [];
-    line_is = inl refl;
-    wrote = record { count = 0; front = appends_none out };
-  };
+  over = (
+    refl,
+    record {
+      answered = [];
+      others = items [];
+      items_are = items_of COMMAND_LIMIT [];
+      report = [];
+      reports = none;
+      line = [];
+      line_is = inl refl;
+      wrote = record { count = 0; front = appends_none out };
+    },
+  );
 }
 
 module _ (left0 left out0 out : Option (List ℕ)) (p : Pending) (m : Standing) (count : ℕ) (h : Running left0 left out0 out p m count) where
@@ -87,7 +92,19 @@ module _ (left0 left out0 out : Option (List ℕ)) (p : Pending) (m : Standing) 
       ap items (sym (append-nil h.taken)) ∙ (h.answered.items_are [] ∙ (ap (λ q. h.answered.answered ++ q) h.none_ready ∙ append-nil h.answered.answered))
 
   report_of : ReportOf h.taken h.answered.report
-  report_of = record { items = h.answered.answered; items_are = items_from h.taken h.answered.answered all_answered; reports = h.answered.reports }
+  report_of = report_of_items h.taken h.answered.answered h.answered.report all_answered h.answered.reports
+
+  no_end : has_end h.answered.report ≡ false
+  no_end = goes_on out0 out (all_items h.taken) (to_come p) beginning m h.answered h.goes_on
+
+  state_is : m.state ≡ state_behind empty h.answered.report
+  state_is = ap (λ (x : Standing). x.state) h.answered.standing_is
+
+  refused_is : m.refused ≡ has_refusal h.answered.report
+  refused_is = ap (λ (x : Standing). x.refused) h.answered.standing_is
+
+  handed_is : Some m.state ≡ Some (state_behind empty h.answered.report)
+  handed_is = ap (λ (x : State). Some x) state_is
 
   -- a front of the report and of this last line
   line_cut : (line all : List ℕ) (out' : Option (List ℕ)) (reads reads' : ℕ) → take MAX_INPUT all ≡ h.taken → IsLastLine line all reads reads' → AppendsFront out line out' → WroteSome all out0 out' reads reads'
@@ -98,29 +115,37 @@ module _ (left0 left out0 out : Option (List ℕ)) (p : Pending) (m : Standing) 
     report = h.answered.report;
     reports = h.answered.reports;
     line = line;
-    line_is = inr (refl, last);
-    wrote = front_after out0 out out' h.answered.report.bytes line h.answered.wrote w;
+    line_is = inr (refl, no_end, last);
+    wrote = front_after out0 out out' (bytes_of h.answered.report) line h.answered.wrote w;
   }
 
-  with_line : (line : List ℕ) (out' : Option (List ℕ)) → Appends out line out' → WroteReport h.taken line out0 out'
-  with_line line out' w = record { report = h.answered.report; report_of = report_of; wrote = appends_more out0 out out' h.answered.report.bytes line h.answered.wrote w }
+  with_line : (line : List ℕ) (out' : Option (List ℕ)) → Appends out line out' → WroteReport h.taken line (Some m.state) out0 out'
+  with_line line out' w = record {
+    report = h.answered.report;
+    report_of = report_of;
+    goes_on = no_end;
+    hands_out = handed_is;
+    wrote = appends_more out0 out out' (bytes_of h.answered.report) line h.answered.wrote w;
+  }
 
   -- the last line was written, or a write of it has failed, or memory was wanted
   ended : (status result : Status) (line all : List ℕ) (left' out' : Option (List ℕ)) (reads reads' writes now writes' : ℕ)
       → EndedWith result status line out out' now writes' → writes ≤ now → IsLastLine line all reads reads' → take MAX_INPUT all ≡ h.taken
-      → (WroteReport h.taken line out0 out' → RanOver status all left' out0 out' reads reads' writes writes') → RanOver result all left' out0 out' reads reads' writes writes'
+      → (WroteReport h.taken line (Some m.state) out0 out' → RanOver status all left' (handed_by status m.state) out0 out' reads reads' writes writes')
+      → RanOver result all left' (handed_by result m.state) out0 out' reads reads' writes writes'
+  unfolding line_cut
   ended status result line all left' out' reads reads' writes now writes' (inl (e, w)) l last t f =
-      subst (λ s. RanOver s all left' out0 out' reads reads' writes writes') (sym e) (f (with_line line out' w))
+      subst (λ s. RanOver s all left' (handed_by s m.state) out0 out' reads reads' writes writes') (sym e) (f (with_line line out' w))
   ended status result line all left' out' reads reads' writes now writes' (inr (inl (e, w, r))) l last t f =
-      let x : RanOver WriteFault all left' out0 out' reads reads' writes writes' = (rose_more writes now writes' l r, line_cut line all out' reads reads' t last w) in
-      subst (λ s. RanOver s all left' out0 out' reads reads' writes writes') (sym e) x
+      let x : RanOver WriteFault all left' (Some m.state) out0 out' reads reads' writes writes' = (rose_more writes now writes' l r, line_cut line all out' reads reads' t last w, handed_is) in
+      subst (λ s. RanOver s all left' (handed_by s m.state) out0 out' reads reads' writes writes') (sym e) x
   ended status result line all left' out' reads reads' writes now writes' (inr (inr (e, w))) l last t f =
-      let x : RanOver NoMemory all left' out0 out' reads reads' writes writes' = line_cut line all out' reads reads' t last w in
-      subst (λ s. RanOver s all left' out0 out' reads reads' writes writes') (sym e) x
+      let x : RanOver NoMemory all left' None out0 out' reads reads' writes writes' = (refl, line_cut line all out' reads reads' t last w) in
+      subst (λ s. RanOver s all left' (handed_by s m.state) out0 out' reads reads' writes writes') (sym e) x
 
   -- the source has failed
   pub ran_read_fault : (result : Status) (left' out' : Option (List ℕ)) (reads before reads' writes now writes' : ℕ)
-      → left' ≡ left → Rose before reads' → reads ≤ before → writes ≤ now → EndedWith result ReadFault READ_FAULT out out' now writes' → Ran result left0 left' out0 out' reads reads' writes writes'
+      → left' ≡ left → Rose before reads' → reads ≤ before → writes ≤ now → EndedWith result ReadFault READ_FAULT out out' now writes' → RanTo result m.state left0 left' out0 out' reads reads' writes writes'
   ran_read_fault result left' out' reads before reads' writes now writes' e r k l x = record {
     taken = h.taken;
     takes = subst (λ q. Takes left0 h.taken q) (sym e) h.takes;
@@ -130,7 +155,7 @@ module _ (left0 left out0 out : Option (List ℕ)) (p : Pending) (m : Standing) 
 
   -- one byte too many came
   pub ran_too_long : (result : Status) (n : ℕ) (left' out' : Option (List ℕ)) (p' : Pending) (reads reads' writes now writes' : ℕ)
-      → FedPiece n left left' p p' → n ≡ 1 → count ≡ MAX_INPUT → writes ≤ now → EndedWith result TooLong TOO_LONG out out' now writes' → Ran result left0 left' out0 out' reads reads' writes writes'
+      → FedPiece n left left' p p' → n ≡ 1 → count ≡ MAX_INPUT → writes ≤ now → EndedWith result TooLong TOO_LONG out out' now writes' → RanTo result m.state left0 left' out0 out' reads reads' writes writes'
   ran_too_long result n left' out' p' reads reads' writes now writes' f one full l x =
       let exact : length h.taken ≡ MAX_INPUT = h.counted ∙ full in
       let size : length (h.taken ++ f.bytes) ≡ MAX_INPUT + 1 = let a = length-append h.taken f.bytes in let b = f.length_is in omega arith in
@@ -141,11 +166,11 @@ module _ (left0 left out0 out : Option (List ℕ)) (p : Pending) (m : Standing) 
         takes = takes_more left0 left left' h.taken f.bytes h.takes f.takes;
         few = omega arith;
         over = ended TooLong result TOO_LONG (h.taken ++ f.bytes) left' out' reads reads' writes now writes' x l (inr (refl, size)) front
-            (λ w. (size, subst (λ q. WroteReport q TOO_LONG out0 out') (sym front) w));
+            (λ w. (size, subst (λ q. WroteReport q TOO_LONG (Some m.state) out0 out') (sym front) w));
       }
 
   -- memory was wanted where a piece was read or fed
-  pub ran_no_memory : (most : ℕ) (left' : Option (List ℕ)) (reads reads' writes writes' : ℕ) → TookPiece most left left' → count + most ≤ MAX_INPUT + 1 → Ran NoMemory left0 left' out0 out reads reads' writes writes'
+  pub ran_no_memory : (most : ℕ) (left' : Option (List ℕ)) (reads reads' writes writes' : ℕ) → TookPiece most left left' → count + most ≤ MAX_INPUT + 1 → Ran NoMemory None left0 left' out0 out reads reads' writes writes'
   ran_no_memory most left' reads reads' writes writes' f room =
       let more : List ℕ = take (MAX_INPUT - length h.taken) f.bytes in
       let x : AnsweredSome out0 out (all_items h.taken) empty = record {
@@ -154,13 +179,13 @@ module _ (left0 left out0 out : Option (List ℕ)) (p : Pending) (m : Standing) 
         report = h.answered.report;
         reports = h.answered.reports;
         items_are = h.answered.items_are;
-        wrote = record { count = length h.answered.report.bytes; front = subst (λ q. Appends out0 q out) (sym (take_all (length h.answered.report.bytes) h.answered.report.bytes (omega arith))) h.answered.wrote };
+        wrote = record { count = length (bytes_of h.answered.report); front = subst (λ q. Appends out0 q out) (sym (take_all (length (bytes_of h.answered.report)) (bytes_of h.answered.report) (omega arith))) h.answered.wrote };
       } in
       record {
         taken = h.taken ++ f.bytes;
         takes = takes_more left0 left left' h.taken f.bytes h.takes f.takes;
         few = let a = length-append h.taken f.bytes in let b = f.few in let c = h.counted in omega arith;
-        over = some_written (h.taken ++ f.bytes) h.taken more out0 out reads reads' (take_most MAX_INPUT h.taken f.bytes within) x;
+        over = (refl, some_written (h.taken ++ f.bytes) h.taken more out0 out reads reads' (take_most MAX_INPUT h.taken f.bytes within) x);
       }
 
   -- the input has ended
@@ -178,38 +203,34 @@ module _ (left0 left out0 out : Option (List ℕ)) (p : Pending) (m : Standing) 
     rest_of_text =
         ap has_blank_rest (sym (append-nil h.taken)) ∙ (h.blank_is [] ∙ sym (f.blank_is [] ∙ ap (λ q. blank_after p (q ++ [])) nothing_came))
 
-    wrote_all : (status : Status) → EndsWith status h.taken h.answered.report → WroteAll status h.taken out0 out
-    wrote_all status e = record { report = h.answered.report; report_of = report_of; wrote = h.answered.wrote; status_is = e }
-
-    refused_is : m.refused ≡ h.answered.report.refused
-    refused_is = ap (λ (x : Standing). x.refused) h.answered.standing_is
-
-    state_is : m.state ≡ h.answered.report.state
-    state_is = ap (λ (x : Standing). x.state) h.answered.standing_is
+    wrote_all : (status : Status) → EndsWith status h.taken h.answered.report → WroteAll status h.taken left' (Some m.state) out0 out
+    wrote_all status e = record { report = h.answered.report; report_of = report_of; read = inr ends_there; hands_out = handed_is; wrote = h.answered.wrote; status_is = e }
 
     has_blank_end : blank_after p' [] ≡ true → HasBlankRest h.taken
     has_blank_end b = has_blank h.taken (rest_of_text ∙ b)
 
-    no_blank_end : blank_after p' [] ≡ false → ¬ HasBlankRest h.taken
-    no_blank_end b r = let e : true ≡ false = sym (blank_has h.taken r) ∙ (rest_of_text ∙ b) in cc
+    no_blank_end : blank_after p' [] ≡ false → ¬ HasNoRest h.taken h.answered.report
+    no_blank_end b (inl e) = let f = no_end in cc
+    no_blank_end b (inr r) = let e : true ≡ false = sym (blank_has h.taken r) ∙ (rest_of_text ∙ b) in cc
 
     few_taken : length h.taken ≤ MAX_INPUT + 1
     few_taken = let a = within in omega arith
 
-    pub ran_to_end : (refused finished blank : Bool) → m.refused ≡ refused → IsTrue finished ↔ IsFinished m.state → blank_after p' [] ≡ blank → Ran (status_at_end refused finished blank) left0 left' out0 out reads reads' writes writes'
-    ran_to_end true finished blank r d b = record { taken = h.taken; takes = takes_all; few = few_taken; over = (within, ends_there, wrote_all Refused (sym refused_is ∙ r)) }
+    pub ran_to_end : (refused finished blank : Bool) → m.refused ≡ refused → IsTrue finished ↔ IsFinished m.state → blank_after p' [] ≡ blank
+        → RanTo (status_at_end refused finished blank) m.state left0 left' out0 out reads reads' writes writes'
+    ran_to_end true finished blank r d b = record { taken = h.taken; takes = takes_all; few = few_taken; over = (within, wrote_all Refused (sym refused_is ∙ r)) }
     ran_to_end false true true r d b = record {
       taken = h.taken;
       takes = takes_all;
       few = few_taken;
-      over = (within, ends_there, wrote_all Done (sym refused_is ∙ r, subst IsFinished state_is (d.0 refl), has_blank_end b));
+      over = (within, wrote_all Done (sym refused_is ∙ r, subst IsFinished state_is (d.0 refl), inr (has_blank_end b)));
     }
-    ran_to_end false true false r d b = record { taken = h.taken; takes = takes_all; few = few_taken; over = (within, ends_there, wrote_all Unfinished (sym refused_is ∙ r, inr (no_blank_end b))) }
+    ran_to_end false true false r d b = record { taken = h.taken; takes = takes_all; few = few_taken; over = (within, wrote_all Unfinished (sym refused_is ∙ r, inr (no_blank_end b))) }
     ran_to_end false false blank r d b = record {
       taken = h.taken;
       takes = takes_all;
       few = few_taken;
-      over = (within, ends_there, wrote_all Unfinished (sym refused_is ∙ r, inl (λ z. let y : false ≡ true = d.1 (subst IsFinished (sym state_is) z) in cc)));
+      over = (within, wrote_all Unfinished (sym refused_is ∙ r, inl (λ z. let y : false ≡ true = d.1 (subst IsFinished (sym state_is) z) in cc)));
     }
 
   -- a piece was fed: what is to come is what comes behind it
@@ -234,27 +255,96 @@ module _ (left0 left out0 out : Option (List ℕ)) (p : Pending) (m : Standing) 
     few_fed : length (h.taken ++ f.bytes) ≤ MAX_INPUT + 1
     few_fed = let a = counted in omega arith
 
+    more_answered : (out' : Option (List ℕ)) → AnsweredSome out out' (to_come p') m.state → AnsweredSome out0 out' (all_items (h.taken ++ f.bytes)) empty
+    more_answered out' x = some_more out0 out out' (all_items (h.taken ++ f.bytes)) (to_come p') beginning m h.goes_on fed x
+
     -- some items that were ready were answered, and then a write has failed or memory was wanted
-    stopped_short : (out' : Option (List ℕ)) (reads reads' : ℕ) → AnsweredSome out out' (to_come p') m.state → WroteSome (h.taken ++ f.bytes) out0 out' reads reads'
-    stopped_short out' reads reads' x =
-        let y : AnsweredSome out0 out' (all_items (h.taken ++ f.bytes)) empty = some_more out0 out out' (all_items (h.taken ++ f.bytes)) (to_come p') beginning m fed x in
+    stopped_short : (out' : Option (List ℕ)) (reads reads' : ℕ) → AnsweredSome out0 out' (all_items (h.taken ++ f.bytes)) empty → WroteSome (h.taken ++ f.bytes) out0 out' reads reads'
+    stopped_short out' reads reads' y =
         let e : take MAX_INPUT (h.taken ++ f.bytes) ≡ (h.taken ++ f.bytes) ++ [] = take_all MAX_INPUT (h.taken ++ f.bytes) (let a = counted in omega arith) ∙ sym (append-nil (h.taken ++ f.bytes)) in
         some_written (h.taken ++ f.bytes) (h.taken ++ f.bytes) [] out0 out' reads reads' e y
 
-    pub ran_write_fault : (out' : Option (List ℕ)) (reads reads' writes now writes' : ℕ) → AnsweredSome out out' (to_come p') m.state → Rose now writes' → writes ≤ now → Ran WriteFault left0 left' out0 out' reads reads' writes writes'
-    ran_write_fault out' reads reads' writes now writes' x r l = record { taken = h.taken ++ f.bytes; takes = fed_takes; few = few_fed; over = (rose_more writes now writes' l r, stopped_short out' reads reads' x) }
+    short_report : (out' : Option (List ℕ)) (reads reads' : ℕ) (y : AnsweredSome out0 out' (all_items (h.taken ++ f.bytes)) empty) → (stopped_short out' reads reads' y).report ≡ y.report
+    unfolding stopped_short some_written
+    short_report out' reads reads' y = refl
 
-    pub ran_no_room : (out' : Option (List ℕ)) (reads reads' writes writes' : ℕ) → AnsweredSome out out' (to_come p') m.state → Ran NoMemory left0 left' out0 out' reads reads' writes writes'
-    ran_no_room out' reads reads' writes writes' x = record { taken = h.taken ++ f.bytes; takes = fed_takes; few = few_fed; over = stopped_short out' reads reads' x }
+    up_to : (s : State) (out' : Option (List ℕ)) (x : AnsweredUpTo out out' (to_come p') m.state s) → s ≡ state_behind empty (more_answered out' x.0).report
+    unfolding more_answered
+    up_to s out' x = state_up_to out0 out out' (all_items (h.taken ++ f.bytes)) (to_come p') beginning m s h.goes_on fed x.0 x.1
+
+    pub ran_write_fault : (s : State) (out' : Option (List ℕ)) (reads reads' writes now writes' : ℕ) → AnsweredUpTo out out' (to_come p') m.state s → Rose now writes' → writes ≤ now
+        → Ran WriteFault (Some s) left0 left' out0 out' reads reads' writes writes'
+    ran_write_fault s out' reads reads' writes now writes' x r l =
+        let y = more_answered out' x.0 in
+        let e : s ≡ state_behind empty (stopped_short out' reads reads' y).report = up_to s out' x ∙ ap (λ (q : Report). state_behind empty q) (sym (short_report out' reads reads' y)) in
+        record {
+          taken = h.taken ++ f.bytes;
+          takes = fed_takes;
+          few = few_fed;
+          over = (rose_more writes now writes' l r, stopped_short out' reads reads' y, ap (λ (q : State). Some q) e);
+        }
+
+    pub ran_no_room : (out' : Option (List ℕ)) (reads reads' writes writes' : ℕ) → AnsweredSome out out' (to_come p') m.state → Ran NoMemory None left0 left' out0 out' reads reads' writes writes'
+    ran_no_room out' reads reads' writes writes' x = record { taken = h.taken ++ f.bytes; takes = fed_takes; few = few_fed; over = (refl, stopped_short out' reads reads' (more_answered out' x)) }
+
+    all_more : (out' : Option (List ℕ)) (q : Pending) (k : Standing) → Answered out out' (to_come p') (to_come q) m k → Answered out0 out' (all_items (h.taken ++ f.bytes)) (to_come q) beginning k
+    all_more out' q k x = answered_more out0 out out' (all_items (h.taken ++ f.bytes)) (to_come p') (to_come q) beginning m k h.goes_on fed x
 
     -- every item that was ready was answered
-    pub runs_on : (out' : Option (List ℕ)) (q : Pending) (k : Standing) → Answered out out' (to_come p') (to_come q) m k → to_come q [] ≡ [] → SameRest p' q → Running left0 left' out0 out' q k (count + n)
-    runs_on out' q k x e b = record {
+    pub runs_on : (out' : Option (List ℕ)) (q : Pending) (k : Standing) → Answered out out' (to_come p') (to_come q) m k → k.ended ≡ false → to_come q [] ≡ [] → SameRest p' q → Running left0 left' out0 out' q k (count + n)
+    runs_on out' q k x g e b = record {
       taken = h.taken ++ f.bytes;
       takes = fed_takes;
       counted = counted;
       few = fits;
-      answered = answered_more out0 out out' (all_items (h.taken ++ f.bytes)) (to_come p') (to_come q) beginning m k fed x;
+      answered = all_more out' q k x;
+      goes_on = g;
       none_ready = e;
       blank_is = λ more. ap has_blank_rest (append_assoc h.taken f.bytes more) ∙ (h.blank_is (f.bytes ++ more) ∙ (sym (f.blank_is more) ∙ sym (b more)));
     }
+
+    -- a `Quit` was answered
+    module _ (out' : Option (List ℕ)) (q : Pending) (k : Standing) (x : Answered out out' (to_come p') (to_come q) m k) (g : k.ended ≡ true) (reads reads' writes writes' : ℕ) where
+      last_report : Report
+      last_report = (all_more out' q k x).report
+
+      is_ended : has_end last_report ≡ true
+      unfolding last_report
+      is_ended = sym (ap (λ (z : Standing). z.ended) (all_more out' q k x).standing_is) ∙ g
+
+      last_refused : k.refused ≡ has_refusal last_report
+      unfolding last_report
+      last_refused = ap (λ (z : Standing). z.refused) (all_more out' q k x).standing_is
+
+      last_state : k.state ≡ state_behind empty last_report
+      unfolding last_report
+      last_state = ap (λ (z : Standing). z.state) (all_more out' q k x).standing_is
+
+      last_report_of : ReportOf (h.taken ++ f.bytes) last_report
+      unfolding last_report
+      last_report_of =
+          let z = all_more out' q k x in
+          let t = h.taken ++ f.bytes in
+          report_of_items t (z.answered ++ to_come q []) z.report (ap items (sym (append-nil t)) ∙ z.items_are []) (reports_ended (to_come q []) z.reports is_ended)
+
+      wrote_last : (status : Status) → EndsWith status (h.taken ++ f.bytes) last_report → WroteAll status (h.taken ++ f.bytes) left' (Some k.state) out0 out'
+      unfolding last_report
+      wrote_last status e = record {
+        report = last_report;
+        report_of = last_report_of;
+        read = inl is_ended;
+        hands_out = ap (λ (z : State). Some z) last_state;
+        wrote = (all_more out' q k x).wrote;
+        status_is = e;
+      }
+
+      within_fed : length (h.taken ++ f.bytes) ≤ MAX_INPUT
+      within_fed = let a = counted in omega arith
+
+      ran_so : (status : Status) → RanOver status (h.taken ++ f.bytes) left' (handed_by status k.state) out0 out' reads reads' writes writes' → RanTo status k.state left0 left' out0 out' reads reads' writes writes'
+      ran_so status o = record { taken = h.taken ++ f.bytes; takes = fed_takes; few = few_fed; over = o }
+
+      pub ran_to_quit : (refused finished : Bool) → k.refused ≡ refused → IsTrue finished ↔ IsFinished k.state → RanTo (status_at_end refused finished true) k.state left0 left' out0 out' reads reads' writes writes'
+      ran_to_quit true finished r d = ran_so Refused (within_fed, wrote_last Refused (sym last_refused ∙ r))
+      ran_to_quit false true r d = ran_so Done (within_fed, wrote_last Done (sym last_refused ∙ r, subst IsFinished last_state (d.0 refl), inl is_ended))
+      ran_to_quit false false r d = ran_so Unfinished (within_fed, wrote_last Unfinished (sym last_refused ∙ r, inl (λ z. let y : false ≡ true = d.1 (subst IsFinished (sym last_state) z) in cc)))

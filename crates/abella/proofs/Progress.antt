@@ -2,68 +2,63 @@
 use Rattle.std.proofs.Common.{◌≡◌, ◌<◌, ◌+◌, ◌||◌, ℕ, Bool, true, false, List, [], ◌∷◌, ◌++◌, length, take, Option, refl, sym, ap, ◌∙◌, subst, arith, append_assoc}
 use Rattle.std.proofs.lemmas.List.{append-nil, take_all}
 use Rattle.std.proofs.Math.Seq.{take-append-add}
+use Rattle.std.specs.Prelude.{Err}
 use Rattle.ab_io.specs.Told.{Appends, AppendsFront}
+use Rattle.ab_io.specs.declared.sink.WriteFault.{WriteFault}
+use Rattle.ab_io.specs.declared.sink.WriteFault.TheVariants.{Failed, Memory}
 use Rattle.ab_io.proofs.Streams.{appends_none, appends_more}
 use Rattle.ab_lex.specs.Commands.{Item}
 use Rattle.ab_lex.specs.Pending.{Pending}
-use Rattle.abella.specs.declared.session.reply.Reply.{Reply}
-use Rattle.abella.specs.State.{State}
-use Rattle.abella.specs.Show.{block}
-use Rattle.abella.specs.Report.{Report, Reports, none, next, after, is_refusal}
-use Rattle.abella.specs.Progress.{Standing, to_come, Answered, AnsweredSome, AnswersItem, HasNone}
+use Rattle.ab_states.specs.State.{State}
+use Rattle.ab_states.specs.Reply.{is_refusal}
+use Rattle.ab_blocks.specs.Blocks.{block}
+use Rattle.abella.specs.Report.{Report, Reports, none, is_end, bytes_of, has_refusal, has_end, state_behind}
+use Rattle.abella.specs.Progress.{Standing, moment, to_come, standing_behind, Answered, AnsweredSome, AnsweredReady, AnswersItem, HasNone}
+use Rattle.abella.proofs.Reports.{or_assoc, or_false, neither_second, bytes_more, refusal_more, end_more, state_more, reports_more, reports_one}
 
-or_assoc : (a b c : Bool) → (a || b) || c ≡ a || (b || c)
-or_assoc true b c = refl
-or_assoc false b c = refl
+abbrev standing : State → Bool → Bool → Standing
+standing s refused ended = record { state = s; refused = refused; ended = ended }
 
-or_false : (a : Bool) → a || false ≡ a
-or_false true = refl
-or_false false = refl
+same_standing : (s t : State) (a b c d : Bool) → s ≡ t → a ≡ b → c ≡ d → standing s a c ≡ standing t b d
+same_standing s t a b c d e f g = ap (λ x. standing x a c) e ∙ (ap (λ x. standing t x c) f ∙ ap (λ x. standing t b x) g)
 
--- one report behind another
-abbrev pub joined : Report → Report → Report
-joined r q = record { bytes = r.bytes ++ q.bytes; refused = r.refused || q.refused; state = q.state }
+pub not_both : {A : Type 0} (b : Bool) → b ≡ true → b ≡ false → A
+not_both true e f = cc
+not_both false e f = cc
 
-after_joined : (reply : Reply) (s : State) (r q : Report) → joined (after reply s r) q ≡ after reply s (joined r q)
-after_joined reply s r q =
-    let e = append_assoc (block reply s) r.bytes q.bytes in
-    let f = or_assoc (is_refusal reply) r.refused q.refused in
-    cc
+-- a standing behind a report, and then behind another
+pub standing_more : (m : Standing) (r q : Report) → standing_behind (standing_behind m r) q ≡ standing_behind m (r ++ q)
+standing_more m r q =
+    same_standing (state_behind (state_behind m.state r) q) (state_behind m.state (r ++ q)) ((m.refused || has_refusal r) || has_refusal q) (m.refused || has_refusal (r ++ q))
+    ((m.ended || has_end r) || has_end q) (m.ended || has_end (r ++ q)) (sym (state_more m.state r q))
+    (or_assoc m.refused (has_refusal r) (has_refusal q) ∙ ap (λ x. m.refused || x) (sym (refusal_more r q)))
+    (or_assoc m.ended (has_end r) (has_end q) ∙ ap (λ x. m.ended || x) (sym (end_more r q)))
 
-pub reports_more : {s : State} {is js : List Item} {r q : Report} → Reports s is r → Reports r.state js q → Reports s (is ++ js) (joined r q)
-reports_more none y = y
-reports_more {s = s} {is = i ∷ is} {js = js} {q = q} (next {r = r} reply s' h x) y =
-    subst (λ (w : Report). Reports s (i ∷ (is ++ js)) w) (sym (after_joined reply s' r q)) (next reply s' h (reports_more x y))
+standing_none : (m : Standing) → m ≡ standing_behind m []
+standing_none m = same_standing m.state m.state m.refused (m.refused || false) m.ended (m.ended || false) refl (sym (or_false m.refused)) (sym (or_false m.ended))
 
-with_refused : (s : State) (a b : Bool) → a ≡ b → ◌≡◌ {A = Standing} (record { state = s; refused = a }) (record { state = s; refused = b })
-with_refused s a b e = ap (λ (q : Bool). let x : Standing = record { state = s; refused = q } in x) e
-
--- the report of no item
-abbrev nothing : State → Report
-nothing s = record { bytes = []; refused = false; state = s }
+-- where the script goes on, there is no `Quit` in what was answered
+pub goes_on : (a b : Option (List ℕ)) (f g : List ℕ → List Item) (m n : Standing) (x : Answered a b f g m n) → n.ended ≡ false → has_end x.report ≡ false
+goes_on a b f g m n x e = neither_second m.ended (has_end x.report) (sym (ap (λ (w : Standing). w.ended) x.standing_is) ∙ e)
 
 pub answered_none : (out : Option (List ℕ)) (f : List ℕ → List Item) (m : Standing) → Answered out out f f m m
 answered_none out f m = record {
   answered = [];
-  report = nothing m.state;
+  report = [];
   reports = none;
-  standing_is = with_refused m.state _ _ (sym (or_false m.refused));
+  standing_is = standing_none m;
   items_are = λ more. refl;
   wrote = appends_none out;
 }
 
-pub answered_more : (a b c : Option (List ℕ)) (f g h : List ℕ → List Item) (m n k : Standing) → Answered a b f g m n → Answered b c g h n k → Answered a c f h m k
-answered_more a b c f g h m n k x y = record {
+pub answered_more : (a b c : Option (List ℕ)) (f g h : List ℕ → List Item) (m n k : Standing) → n.ended ≡ false → Answered a b f g m n → Answered b c g h n k → Answered a c f h m k
+answered_more a b c f g h m n k e x y = record {
   answered = x.answered ++ y.answered;
-  report = joined x.report y.report;
-  reports = reports_more x.reports (subst (λ (w : Standing). Reports w.state y.answered y.report) x.standing_is y.reports);
-  standing_is =
-      let e = x.standing_is in
-      let d = y.standing_is in
-      let o = or_assoc m.refused x.report.refused y.report.refused in
-      cc;
+  report = x.report ++ y.report;
+  reports = reports_more x.reports (goes_on a b f g m n x e) (subst (λ (w : Standing). Reports w.state y.answered y.report) x.standing_is y.reports);
+  standing_is = y.standing_is ∙ (ap (λ w. standing_behind w y.report) x.standing_is ∙ standing_more m x.report y.report);
   items_are = λ more. x.items_are more ∙ (ap (λ q. x.answered ++ q) (y.items_are more) ∙ sym (append_assoc x.answered y.answered (h more)));
-  wrote = appends_more a b c x.report.bytes y.report.bytes x.wrote y.wrote;
+  wrote = subst (λ q. Appends a q c) (sym (bytes_more x.report y.report)) (appends_more a b c (bytes_of x.report) (bytes_of y.report) x.wrote y.wrote);
 }
 
 -- a front of what follows these bytes
@@ -75,39 +70,56 @@ front_after a b c t u x y = record {
 
 module _ (bytes : List ℕ) (m m' : Standing) (p p' : Pending) (h : AnswersItem bytes m m' p p') where
   one_report : Report
-  one_report = after h.reply m'.state (nothing m'.state)
+  one_report = moment h.reply m'.state ∷ []
 
   one_reports : Reports m.state (h.item ∷ []) one_report
   unfolding one_report
-  one_reports = next h.reply m'.state h.replies none
+  one_reports = reports_one (moment h.reply m'.state) h.replies
 
-  one_bytes : one_report.bytes ≡ bytes
+  one_bytes : bytes_of one_report ≡ bytes
   unfolding one_report
   one_bytes = append-nil (block h.reply m'.state) ∙ sym h.text_is
 
+  one_standing : m' ≡ standing_behind m one_report
+  unfolding one_report
+  one_standing =
+      same_standing m'.state m'.state m'.refused (m.refused || (is_refusal h.reply || false)) m'.ended (m.ended || (is_end h.reply || false)) refl
+      (h.refused_is ∙ ap (λ b. m.refused || b) (sym (or_false (is_refusal h.reply)))) (h.ended_is ∙ ap (λ b. m.ended || b) (sym (or_false (is_end h.reply))))
+
+  one_state : (s : State) → state_behind s one_report ≡ m'.state
+  unfolding one_report
+  one_state s = refl
+
   -- an item was answered, and its block written
   pub answered_item : (out out' : Option (List ℕ)) → Appends out bytes out' → Answered out out' (to_come p) (to_come p') m m'
-  unfolding one_report
   answered_item out out' w = record {
     answered = h.item ∷ [];
     report = one_report;
     reports = one_reports;
-    standing_is = with_refused m'.state _ _ (h.refused_is ∙ ap (λ b. m.refused || b) (sym (or_false (is_refusal h.reply))));
+    standing_is = one_standing;
     items_are = h.items_are;
     wrote = subst (λ q. Appends out q out') (sym one_bytes) w;
   }
 
+  module _ (a b c : Option (List ℕ)) (f : List ℕ → List Item) (k : Standing) (e : m.ended ≡ false) (x : Answered a b f (to_come p) k m) (w : AppendsFront b bytes c) where
+    cut_some : AnsweredSome a c f k.state
+    cut_some = record {
+      answered = x.answered ++ h.item ∷ [];
+      others = to_come p';
+      report = x.report ++ one_report;
+      reports = reports_more x.reports (goes_on a b f (to_come p) k m x e) (subst (λ (q : Standing). Reports q.state (h.item ∷ []) one_report) x.standing_is one_reports);
+      items_are = λ more. x.items_are more ∙ (ap (λ q. x.answered ++ q) (h.items_are more) ∙ sym (append_assoc x.answered (h.item ∷ []) (to_come p' more)));
+      wrote = subst (λ q. AppendsFront a q c) (sym (bytes_more x.report one_report)) (front_after a b c (bytes_of x.report) (bytes_of one_report) x.wrote (subst (λ q. AppendsFront b q c) (sym one_bytes) w));
+    }
+
+    cut_state : m'.state ≡ state_behind k.state cut_some.report
+    unfolding cut_some
+    cut_state = sym (one_state (state_behind k.state x.report)) ∙ sym (state_more k.state x.report one_report)
+
   -- a write of the next block has failed
-  pub cut_off : (a b c : Option (List ℕ)) (f : List ℕ → List Item) (k : Standing) → Answered a b f (to_come p) k m → AppendsFront b bytes c → AnsweredSome a c f k.state
-  unfolding one_report
-  cut_off a b c f k x w = record {
-    answered = x.answered ++ h.item ∷ [];
-    others = to_come p';
-    report = joined x.report one_report;
-    reports = reports_more x.reports (subst (λ (q : Standing). Reports q.state (h.item ∷ []) one_report) x.standing_is one_reports);
-    items_are = λ more. x.items_are more ∙ (ap (λ q. x.answered ++ q) (h.items_are more) ∙ sym (append_assoc x.answered (h.item ∷ []) (to_come p' more)));
-    wrote = front_after a b c x.report.bytes one_report.bytes x.wrote (subst (λ q. AppendsFront b q c) (sym one_bytes) w);
-  }
+  pub cut_off : (a b c : Option (List ℕ)) (p0 : Pending) (k : Standing) → m.ended ≡ false → Answered a b (to_come p0) (to_come p) k m → AppendsFront b bytes c → (fault : WriteFault) → AnsweredReady (Err fault) a c k m' p0 p'
+  cut_off a b c p0 k e x w Failed = (cut_some a b c (to_come p0) k e x w, cut_state a b c (to_come p0) k e x w)
+  cut_off a b c p0 k e x w (Memory f) = cut_some a b c (to_come p0) k e x w
 
   pub fewer : length (to_come p' []) < length (to_come p [])
   fewer = let e = ap length (h.items_are []) in omega arith
@@ -120,19 +132,26 @@ stopped a b f g m n x = record {
   report = x.report;
   reports = x.reports;
   items_are = x.items_are;
-  wrote = record { count = length x.report.bytes; front = subst (λ q. Appends a q b) (sym (take_all (length x.report.bytes) x.report.bytes (omega arith))) x.wrote };
+  wrote = record { count = length (bytes_of x.report); front = subst (λ q. Appends a q b) (sym (take_all (length (bytes_of x.report)) (bytes_of x.report) (omega arith))) x.wrote };
 }
 
 -- some items more were answered
-pub some_more : (a b c : Option (List ℕ)) (f g : List ℕ → List Item) (m n : Standing) → Answered a b f g m n → AnsweredSome b c g n.state → AnsweredSome a c f m.state
-some_more a b c f g m n x y = record {
+pub some_more : (a b c : Option (List ℕ)) (f g : List ℕ → List Item) (m n : Standing) → n.ended ≡ false → Answered a b f g m n → AnsweredSome b c g n.state → AnsweredSome a c f m.state
+some_more a b c f g m n e x y = record {
   answered = x.answered ++ y.answered;
   others = y.others;
-  report = joined x.report y.report;
-  reports = reports_more x.reports (subst (λ (w : Standing). Reports w.state y.answered y.report) x.standing_is y.reports);
+  report = x.report ++ y.report;
+  reports = reports_more x.reports (goes_on a b f g m n x e) (subst (λ (w : Standing). Reports w.state y.answered y.report) x.standing_is y.reports);
   items_are = λ more. x.items_are more ∙ (ap (λ q. x.answered ++ q) (y.items_are more) ∙ sym (append_assoc x.answered y.answered (y.others more)));
-  wrote = front_after a b c x.report.bytes y.report.bytes x.wrote y.wrote;
+  wrote = subst (λ q. AppendsFront a q c) (sym (bytes_more x.report y.report)) (front_after a b c (bytes_of x.report) (bytes_of y.report) x.wrote y.wrote);
 }
+
+-- and the state is the one behind them
+pub state_up_to : (a b c : Option (List ℕ)) (f g : List ℕ → List Item) (m n : Standing) (s : State) (e : n.ended ≡ false) (x : Answered a b f g m n) (y : AnsweredSome b c g n.state)
+    → s ≡ state_behind n.state y.report → s ≡ state_behind m.state (some_more a b c f g m n e x y).report
+unfolding some_more
+state_up_to a b c f g m n s e x y h =
+    h ∙ (ap (λ (w : Standing). state_behind w.state y.report) x.standing_is ∙ sym (state_more m.state x.report y.report))
 
 -- no item is ready any more
 pub answered_all : (a b : Option (List ℕ)) (f : List ℕ → List Item) (k m n : Standing) (p p' : Pending) → Answered a b f (to_come p) k m → HasNone m n p p' → Answered a b f (to_come p') k n

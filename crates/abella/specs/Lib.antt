@@ -1,11 +1,6 @@
+-- What a run of the program answers: the report of a script, and how the run ends.
 pub mod Status
-pub mod State
-pub mod Reading
-pub mod Built
-pub mod Effect
-pub mod Show
-pub mod Report
 pub mod Proved
+pub mod Report
 pub mod Outcome
-pub mod Session
 pub mod Progress

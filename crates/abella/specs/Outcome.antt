@@ -1,46 +1,57 @@
--- How a run ends: its status, the bytes that it took and wrote, and the counts of faults.
-use Rattle.std.specs.Prelude.{◌≡◌, ◌≤◌, ◌+◌, ◌⊎◌, ℕ, true, false, List, [], ◌++◌, length, take, Option, Some}
+-- How a run ends: its status, the bytes that it took and wrote, the counts of faults, and the state that it hands out.
+use Rattle.std.specs.Prelude.{◌≡◌, ◌≤◌, ◌+◌, ◌⊎◌, ℕ, true, false, List, [], ◌++◌, length, take, Option, Some, None}
 use Rattle.ab_lex.specs.Commands.{Item, ItemsOf, HasBlankRest}
 use Rattle.ab_io.specs.Count.{Rose}
 use Rattle.ab_io.specs.Told.{Takes, Appends, AppendsFront, AtEnd}
+use Rattle.ab_states.specs.State.{State, empty}
 use Rattle.abella.specs.declared.status.Status.{Status}
 use Rattle.abella.specs.declared.status.Status.TheVariants.{Done, Refused, BadLine, ReadFault, WriteFault, NoMemory, Unfinished, TooLong}
 use Rattle.abella.specs.declared.running.TheConstants.{MAX_INPUT, USAGE, READ_FAULT, TOO_LONG}
 use Rattle.abella.specs.Status.{number_of}
-use Rattle.abella.specs.State.{empty, IsFinished}
-use Rattle.abella.specs.Report.{Report, Reports}
+use Rattle.abella.specs.Report.{Report, Reports, ReportOf, bytes_of, has_refusal, has_end, state_behind}
 
--- the report of a text: of all its items, from the empty state on
-pub record ReportOf (text : List ℕ) (r : Report) : Type 0 where
-  pub items : List Item
-  pub items_are : ItemsOf text items
-  pub reports : Reports empty items r
+-- the state that a run hands out, if it does: that behind the last command of this report
+abbrev pub HandsOut : Option State → Report → Type 0
+HandsOut handed r = handed ≡ Some (state_behind empty r)
 
--- the status of a text that was read to its end, whose report is this
+-- no proof is open
+abbrev pub IsFinished : State → Type 0
+IsFinished s = s.attempt ≡ None
+
+-- behind the last command there is no rest: the script has ended by a `Quit`, or only blanks and whole comments follow
+abbrev pub HasNoRest : List ℕ → Report → Type 0
+HasNoRest text r = (has_end r ≡ true) ⊎ HasBlankRest text
+
+-- the status of a text that was read to its end or to a `Quit`, whose report is this
 abbrev pub EndsWith : Status → List ℕ → Report → Type 0
-EndsWith Done text r = (r.refused ≡ false) × IsFinished r.state × HasBlankRest text
-EndsWith Refused text r = r.refused ≡ true
-EndsWith Unfinished text r = (r.refused ≡ false) × (¬ IsFinished r.state ⊎ ¬ HasBlankRest text)
+EndsWith Done text r = (has_refusal r ≡ false) × IsFinished (state_behind empty r) × HasNoRest text r
+EndsWith Refused text r = has_refusal r ≡ true
+EndsWith Unfinished text r = (has_refusal r ≡ false) × (¬ IsFinished (state_behind empty r) ⊎ ¬ HasNoRest text r)
 EndsWith s text r = ⊥
 
--- the whole report of this text was written, and this line behind it
-pub record WroteReport (text line : List ℕ) (before after : Option (List ℕ)) : Type 0 where
+-- the whole report of this text, in which there is no `Quit`, was written, and this line behind it
+pub record WroteReport (text line : List ℕ) (handed : Option State) (before after : Option (List ℕ)) : Type 0 where
   pub report : Report
   pub report_of : ReportOf text report
-  pub wrote : Appends before (report.bytes ++ line) after
+  pub goes_on : has_end report ≡ false
+  pub hands_out : HandsOut handed report
+  pub wrote : Appends before (bytes_of report ++ line) after
 
--- the same, with a status of a text that was read to its end
-pub record WroteAll (status : Status) (text : List ℕ) (before after : Option (List ℕ)) : Type 0 where
+-- the whole report of this text was written; it was read to its end or to a `Quit`, and has this status
+pub record WroteAll (status : Status) (text : List ℕ) (left : Option (List ℕ)) (handed : Option State) (before after : Option (List ℕ)) : Type 0 where
   pub report : Report
   pub report_of : ReportOf text report
-  pub wrote : Appends before report.bytes after
+  pub read : (has_end report ≡ true) ⊎ AtEnd left
+  pub hands_out : HandsOut handed report
+  pub wrote : Appends before (bytes_of report) after
   pub status_is : EndsWith status text report
 
 -- the last line of a run that ends early, with its cause: the source failed, or a byte more was taken than is looked at
 abbrev pub IsLastLine : List ℕ → List ℕ → ℕ → ℕ → Type 0
 IsLastLine line taken reads reads' = ((line ≡ READ_FAULT) × Rose reads reads') ⊎ ((line ≡ TOO_LONG) × (length taken ≡ MAX_INPUT + 1))
 
--- what was written is a front of the report: some of the blocks of the first items and, where there are no others, of a last line
+-- what was written is a front of the report: some of the blocks of the first items and, where there are no others and no
+-- `Quit`, of a last line
 pub record WroteSome (taken : List ℕ) (before after : Option (List ℕ)) (reads reads' : ℕ) : Type 0 where
   pub answered : List Item
   pub others : List Item
@@ -48,18 +59,20 @@ pub record WroteSome (taken : List ℕ) (before after : Option (List ℕ)) (read
   pub report : Report
   pub reports : Reports empty answered report
   pub line : List ℕ
-  pub line_is : (line ≡ []) ⊎ ((others ≡ []) × IsLastLine line taken reads reads')
-  pub wrote : AppendsFront before (report.bytes ++ line) after
+  pub line_is : (line ≡ []) ⊎ ((others ≡ []) × (has_end report ≡ false) × IsLastLine line taken reads reads')
+  pub wrote : AppendsFront before (bytes_of report ++ line) after
 
--- what a run over a text has done, by its status: how the bytes taken, those left, those written and the counts of faults lie
-abbrev pub RanOver : Status → List ℕ → Option (List ℕ) → Option (List ℕ) → Option (List ℕ) → ℕ → ℕ → ℕ → ℕ → Type 0
-RanOver ReadFault taken left' out out' reads reads' writes writes' =
-    (length taken ≤ MAX_INPUT) × Rose reads reads' × WroteReport taken READ_FAULT out out'
-RanOver WriteFault taken left' out out' reads reads' writes writes' = Rose writes writes' × WroteSome taken out out' reads reads'
-RanOver NoMemory taken left' out out' reads reads' writes writes' = WroteSome taken out out' reads reads'
-RanOver TooLong taken left' out out' reads reads' writes writes' =
-    (length taken ≡ MAX_INPUT + 1) × WroteReport (take MAX_INPUT taken) TOO_LONG out out'
-RanOver status taken left' out out' reads reads' writes writes' = (length taken ≤ MAX_INPUT) × AtEnd left' × WroteAll status taken out out'
+-- what a run over a text has done, by its status: how the bytes taken, those left, those written, the counts of faults and
+-- the state that is handed out lie
+abbrev pub RanOver : Status → List ℕ → Option (List ℕ) → Option State → Option (List ℕ) → Option (List ℕ) → ℕ → ℕ → ℕ → ℕ → Type 0
+RanOver ReadFault taken left' handed out out' reads reads' writes writes' =
+    (length taken ≤ MAX_INPUT) × Rose reads reads' × WroteReport taken READ_FAULT handed out out'
+RanOver WriteFault taken left' handed out out' reads reads' writes writes' =
+    Rose writes writes' × (w : WroteSome taken out out' reads reads') × HandsOut handed w.report
+RanOver NoMemory taken left' handed out out' reads reads' writes writes' = (handed ≡ None) × WroteSome taken out out' reads reads'
+RanOver TooLong taken left' handed out out' reads reads' writes writes' =
+    (length taken ≡ MAX_INPUT + 1) × WroteReport (take MAX_INPUT taken) TOO_LONG handed out out'
+RanOver status taken left' handed out out' reads reads' writes writes' = (length taken ≤ MAX_INPUT) × WroteAll status taken left' handed out out'
 
 -- what a run has done whose line of words was refused
 abbrev pub RefusedLine : Status → Option (List ℕ) → Option (List ℕ) → ℕ → ℕ → Type 0
@@ -73,21 +86,23 @@ abbrev pub IsNameAlone : {A : Type 0} → List A → Type 0
 IsNameAlone words = length words ≡ 1
 
 -- some bytes were taken from the source, and the status says the rest
-pub record Ran (status : Status) (left left' out out' : Option (List ℕ)) (reads reads' writes writes' : ℕ) : Type 0 where
+pub record Ran (status : Status) (handed : Option State) (left left' out out' : Option (List ℕ)) (reads reads' writes writes' : ℕ) : Type 0 where
   pub taken : List ℕ
   pub takes : Takes left taken left'
   pub few : length taken ≤ MAX_INPUT + 1
-  pub over : RanOver status taken left' out out' reads reads' writes writes'
+  pub over : RanOver status taken left' handed out out' reads reads' writes writes'
 
 -- the status of this number is one of which P is said
 abbrev pub EndedBy : ℕ → (Status → Type 0) → Type 0
 EndedBy number P = (status : Status) × (number ≡ number_of status) × P status
 
--- what was written behind the bytes before is the whole report of this text, and the number is that of its status
-pub record IsReported (text before : List ℕ) (after : Option (List ℕ)) (number : ℕ) : Type 0 where
+-- what was written behind the bytes before is the whole report of this text, the state that is handed out is that behind its
+-- last command, and the number is that of its status
+pub record IsReported (text before : List ℕ) (handed : Option State) (after : Option (List ℕ)) (number : ℕ) : Type 0 where
   pub report : Report
   pub report_of : ReportOf text report
-  pub written : after ≡ Some (before ++ report.bytes)
+  pub hands_out : HandsOut handed report
+  pub written : after ≡ Some (before ++ bytes_of report)
   pub status : Status
   pub number_is : number ≡ number_of status
   pub status_is : EndsWith status text report

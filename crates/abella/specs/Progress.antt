@@ -6,26 +6,30 @@ use Rattle.ab_lex.specs.Pending.{Pending, items_after, blank_after}
 use Rattle.ab_io.specs.Count.{Rose}
 use Rattle.ab_io.specs.Told.{Takes, Appends, AppendsFront, AtEnd}
 use Rattle.ab_io.specs.declared.sink.WriteFault.{WriteFault}
-use Rattle.abella.specs.declared.session.reply.Reply.{Reply}
+use Rattle.ab_io.specs.declared.sink.WriteFault.TheVariants.{Failed, Memory}
+use Rattle.ab_states.specs.State.{State, empty}
+use Rattle.ab_states.specs.Reply.{Reply, is_refusal}
+use Rattle.ab_blocks.specs.Blocks.{block}
+use Rattle.ab_session.specs.Contents.{state_of}
 use Rattle.abella.specs.declared.input.ReadStop.{ReadStop}
 use Rattle.abella.specs.declared.input.ReadStop.TheVariants.{Failed as ReadFailed, Memory as ReadMemory}
 use Rattle.abella.specs.declared.output.Progress.{Progress}
 use Rattle.abella.specs.declared.running.TheConstants.{MAX_INPUT}
 use Rattle.abella.specs.declared.status.Status.{Status}
 use Rattle.abella.specs.declared.status.Status.TheVariants.{Done, Refused, WriteFault as FaultStatus, NoMemory, Unfinished}
-use Rattle.abella.specs.Session.{state_of}
-use Rattle.abella.specs.State.{State, empty}
-use Rattle.abella.specs.Show.{block}
-use Rattle.abella.specs.Report.{Report, Reports, Replies, is_refusal}
+use Rattle.abella.specs.Report.{Moment, Report, Reports, Replies, is_end, bytes_of, has_refusal, has_end, state_behind}
+use Rattle.abella.specs.Outcome.{Ran}
 
--- how a run stands between two commands: the session's state, and whether a command was refused
+-- how a run stands between two commands: the session's state, whether a command was refused, and whether the script has
+-- ended by a `Quit`
 pub record Standing : Type 0 where
   pub state : State
   pub refused : Bool
+  pub ended : Bool
 
 -- how a run begins
 abbrev pub beginning : Standing
-beginning = record { state = empty; refused = false }
+beginning = record { state = empty; refused = false; ended = false }
 
 -- the items that a splitter still gives, by the bytes that come
 abbrev pub to_come : Pending → List ℕ → List Item
@@ -37,7 +41,7 @@ all_items taken more = items (taken ++ more)
 
 -- the standing behind a report
 abbrev pub standing_behind : Standing → Report → Standing
-standing_behind m r = record { state = r.state; refused = m.refused || r.refused }
+standing_behind m r = record { state = state_behind m.state r; refused = m.refused || has_refusal r; ended = m.ended || has_end r }
 
 -- the same rest stands behind the last command
 abbrev pub SameRest : Pending → Pending → Type 0
@@ -50,7 +54,7 @@ pub record Answered (out out' : Option (List ℕ)) (from to : List ℕ → List 
   pub reports : Reports m.state answered report
   pub standing_is : m' ≡ standing_behind m report
   pub items_are : (more : List ℕ) → from more ≡ answered ++ to more
-  pub wrote : Appends out report.bytes out'
+  pub wrote : Appends out (bytes_of report) out'
 
 -- some items were answered, and a front of their blocks was written
 pub record AnsweredSome (out out' : Option (List ℕ)) (from : List ℕ → List Item) (s : State) : Type 0 where
@@ -59,21 +63,29 @@ pub record AnsweredSome (out out' : Option (List ℕ)) (from : List ℕ → List
   pub report : Report
   pub reports : Reports s answered report
   pub items_are : (more : List ℕ) → from more ≡ answered ++ others more
-  pub wrote : AppendsFront out report.bytes out'
+  pub wrote : AppendsFront out (bytes_of report) out'
+
+-- the same, and the state is the one behind them
+abbrev pub AnsweredUpTo : Option (List ℕ) → Option (List ℕ) → (List ℕ → List Item) → State → State → Type 0
+AnsweredUpTo out out' from s s' = (x : AnsweredSome out out' from s) × (s' ≡ state_behind s x.report)
+
+abbrev pub moment : Reply → State → Moment
+moment reply s = record { reply = reply; state = s }
 
 -- the text is the block that answers the next item
 pub record AnswersItem (bytes : List ℕ) (m m' : Standing) (p p' : Pending) : Type 0 where
   pub item : Item
   pub reply : Reply
-  pub replies : Replies m.state item reply m'.state
+  pub replies : Replies m.state item (moment reply m'.state)
   pub refused_is : m'.refused ≡ (m.refused || is_refusal reply)
+  pub ended_is : m'.ended ≡ (m.ended || is_end reply)
   pub text_is : bytes ≡ block reply m'.state
   pub items_are : (more : List ℕ) → to_come p more ≡ item ∷ to_come p' more
 
 -- the next item has this reply
 pub record RepliesItem (reply : Reply) (s s' : State) (p p' : Pending) : Type 0 where
   pub item : Item
-  pub replies : Replies s item reply s'
+  pub replies : Replies s item (moment reply s')
   pub items_are : (more : List ℕ) → to_come p more ≡ item ∷ to_come p' more
 
 -- no item is ready, and nothing has changed
@@ -94,17 +106,18 @@ pub record HasNone (m m' : Standing) (p p' : Pending) : Type 0 where
   pub items_are : (more : List ℕ) → to_come p more ≡ to_come p' more
 
 abbrev pub standing_of : Progress → Standing
-standing_of p = record { state = state_of p.session; refused = p.refused }
+standing_of p = record { state = state_of p.session; refused = p.refused; ended = p.ended }
 
 -- the next block, or none is ready
 abbrev pub AnswersNext : Option (List ℕ) → Standing → Standing → Pending → Pending → Type 0
 AnswersNext (Some bytes) m m' p p' = AnswersItem bytes m m' p p'
 AnswersNext None m m' p p' = HasNone m m' p p'
 
--- every item that was ready was answered, or a write has failed, or memory was wanted
+-- every item that was ready was answered, up to a `Quit`; or a write has failed, or memory was wanted
 abbrev pub AnsweredReady : Result (Unit {0}) WriteFault → Option (List ℕ) → Option (List ℕ) → Standing → Standing → Pending → Pending → Type 0
-AnsweredReady (Ok done) out out' m m' p p' = Answered out out' (to_come p) (to_come p') m m' × (to_come p' [] ≡ [])
-AnsweredReady (Err fault) out out' m m' p p' = AnsweredSome out out' (to_come p) m.state
+AnsweredReady (Ok done) out out' m m' p p' = Answered out out' (to_come p) (to_come p') m m' × (m'.ended ≡ false → to_come p' [] ≡ [])
+AnsweredReady (Err Failed) out out' m m' p p' = AnsweredUpTo out out' (to_come p) m.state m'.state
+AnsweredReady (Err (Memory e)) out out' m m' p p' = AnsweredSome out out' (to_come p) m.state
 
 -- a piece was read and fed
 pub record FedPiece (count : ℕ) (left left' : Option (List ℕ)) (p p' : Pending) : Type 0 where
@@ -132,6 +145,7 @@ pub record Running (left left' out out' : Option (List ℕ)) (p : Pending) (m : 
   pub counted : length taken ≡ count
   pub few : count ≤ MAX_INPUT
   pub answered : Answered out out' (all_items taken) (to_come p) beginning m
+  pub goes_on : m.ended ≡ false
   pub none_ready : to_come p [] ≡ []
   pub blank_is : (more : List ℕ) → has_blank_rest (taken ++ more) ≡ blank_after p more
 
@@ -142,7 +156,17 @@ EndedWith result status line out out' writes writes' =
     ⊎ (((result ≡ FaultStatus) × AppendsFront out line out' × Rose writes writes')
     ⊎ ((result ≡ NoMemory) × AppendsFront out line out'))
 
--- the status of a text that was read to its end: whether a command was refused, no proof is open, and the rest is blank
+-- the state that a run hands out, by its status
+abbrev pub handed_by : Status → State → Option State
+handed_by NoMemory s = None
+handed_by status s = Some s
+
+-- the run has ended so, with this state
+abbrev pub RanTo : Status → State → Option (List ℕ) → Option (List ℕ) → Option (List ℕ) → Option (List ℕ) → ℕ → ℕ → ℕ → ℕ → Type 0
+RanTo status s left left' out out' reads reads' writes writes' = Ran status (handed_by status s) left left' out out' reads reads' writes writes'
+
+-- the status of a text that was read to its end or to a `Quit`: whether a command was refused, no proof is open, and nothing
+-- but blanks is left
 abbrev pub status_at_end : Bool → Bool → Bool → Status
 status_at_end true finished blank = Refused
 status_at_end false true true = Done

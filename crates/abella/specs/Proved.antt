@@ -1,13 +1,17 @@
--- A theorem that is proved.
-use Rattle.std.specs.Prelude.{◌≡◌, ℕ, List, [], ◌∷◌, ◌++◌}
-use Rattle.ab_truth.specs.Formula.{Formula}
-use Rattle.ab_truth.specs.Derivation.{Derivation, IsDerivation}
-use Rattle.abella.specs.State.{State, Statement}
+-- Theorems that are proved, in terms of the kernel's derivations.
+use Rattle.std.specs.Prelude.{◌<◌, ℕ, length}
+use Rattle.ab_logic.specs.Declarations.{theorems_in}
+use Rattle.ab_kernel.specs.Derivation.{Derivation}
+use Rattle.ab_states.specs.State.{State}
+use Rattle.ab_states.specs.Reply.{Reply, completed}
+use Rattle.ab_states.specs.Derived.{IsDerived}
+use Rattle.ab_session.specs.Answers.{IsProvedLast}
 
--- the last theorem of the state has this name, and its formula has a closed derivation
-pub record IsProved (name : List ℕ) (s : State) : Type 0 where
-  pub earlier : List Statement
-  pub formula : Formula
-  pub last : s.theorems ≡ earlier ++ (record { name = name; formula = formula }) ∷ []
-  pub derivation : Derivation
-  pub derives : IsDerivation formula derivation
+-- where the reply says that a theorem is proved, it is the last of the state, and has a derivation
+abbrev pub IsBorneOut : Reply → State → Type 0
+IsBorneOut (completed name) s = IsProvedLast s.declarations name
+IsBorneOut reply s = Unit {0}
+
+-- EACH THEOREM of the state has a derivation, from what was declared before it
+abbrev pub AllDerived : State → Type 0
+AllDerived s = (place : ℕ) → place < length (theorems_in s.declarations) → (d : Derivation) × IsDerived s.declarations place d

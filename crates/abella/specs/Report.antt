@@ -1,46 +1,61 @@
--- The report of a text: its commands are answered in order, each from the state that the ones before it left.
+-- THE REPORT OF A TEXT: its commands are answered in order, each from the state that the ones before it left, up to a `Quit`.
 use Rattle.std.specs.Prelude.{◌≡◌, ℕ, Bool, true, false, ◌||◌, List, [], ◌∷◌, ◌++◌}
-use Rattle.ab_lex.specs.Commands.{Item, command, long}
-use Rattle.abella.specs.declared.session.reply.Reply.{Reply}
-use Rattle.abella.specs.declared.session.reply.Reply.TheVariants.{Accepted, Completed, Refused}
-use Rattle.abella.specs.declared.session.reply.Refusal.TheVariants.{TooLong}
-use Rattle.abella.specs.State.{State}
-use Rattle.abella.specs.Effect.{HasEffect}
-use Rattle.abella.specs.Show.{block}
+use Rattle.ab_lex.specs.Commands.{Item, ItemsOf, command, long}
+use Rattle.ab_declare.specs.declared.refusal.Refusal.TheVariants.{TooLong}
+use Rattle.ab_states.specs.State.{State, empty}
+use Rattle.ab_states.specs.Reply.{Reply, quit, refused, is_refusal}
+use Rattle.ab_states.specs.Effect.{HasEffect}
+use Rattle.ab_blocks.specs.Blocks.{block}
+use Rattle.abella.specs.Proved.{IsBorneOut}
 
--- the reply to an item of a text: a command has its effect, and one that is too long is dropped
-pub data Replies (s : State) : Item → Reply → State → Type 0 where
-  to_command : {bytes : List ℕ} {reply : Reply} {s' : State} → HasEffect s bytes reply s' → Replies s (command bytes) reply s'
-  to_long : Replies s long (Refused TooLong) s
-
-abbrev pub is_refusal : Reply → Bool
-is_refusal Accepted = false
-is_refusal (Completed name) = false
-is_refusal (Refused r) = true
-
-pub record Report : Type 0 where
-  -- the blocks, in order
-  pub bytes : List ℕ
-  -- whether a command was refused
-  pub refused : Bool
-  -- the state behind the last command
+-- a reply, and the state behind it
+pub record Moment : Type 0 where
+  pub reply : Reply
   pub state : State
 
--- a reply, with the state behind it, and then this report
-abbrev pub after : Reply → State → Report → Report
-after reply s r = record { bytes = block reply s ++ r.bytes; refused = is_refusal reply || r.refused; state = r.state }
+-- the reply to an item of a text: a command has its effect, by which a theorem stands only where it is derived, and one
+-- that is too long is dropped
+pub data Replies (s : State) : Item → Moment → Type 0 where
+  to_command : {bytes : List ℕ} (m : Moment) → HasEffect s bytes m.reply m.state → IsBorneOut m.reply m.state → Replies s (command bytes) m
+  to_long : (m : Moment) → m.reply ≡ refused TooLong → m.state ≡ s → Replies s long m
 
--- the report of these items, from this state on
+-- the moments behind the items, in order
+abbrev pub Report : Type 0
+Report = List Moment
+
+-- whether the script ends with this reply
+abbrev pub is_end : Reply → Bool
+is_end quit = true
+is_end reply = false
+
+-- THE REPORT OF THESE ITEMS, from this state on; those behind a `Quit` are not looked at
 pub data Reports : State → List Item → Report → Type 0 where
-  none : {s : State} → Reports s [] (record { bytes = []; refused = false; state = s })
-  next : {s : State} {i : Item} {is : List Item} {r : Report} (reply : Reply) (s' : State) → Replies s i reply s' → Reports s' is r → Reports s (i ∷ is) (after reply s' r)
+  none : {s : State} → Reports s [] []
+  next : {s : State} {i : Item} {is : List Item} {r : Report} (m : Moment) → Replies s i m → is_end m.reply ≡ false → Reports m.state is r → Reports s (i ∷ is) (m ∷ r)
+  last : {s : State} {i : Item} {is : List Item} (m : Moment) → Replies s i m → is_end m.reply ≡ true → Reports s (i ∷ is) (m ∷ [])
 
--- among the replies to these items, from this state on, is this one, with this state behind it
-pub data Moment : State → List Item → Reply → State → Type 0 where
-  here : {s s' : State} {i : Item} {is : List Item} {reply : Reply} → Replies s i reply s' → Moment s (i ∷ is) reply s'
-  later : {s s'' : State} {i : Item} {is : List Item} {reply : Reply} (first : Reply) (s' : State) → Replies s i first s' → Moment s' is reply s'' → Moment s (i ∷ is) reply s''
+-- the report of a text: of all its items, from the empty state on
+pub record ReportOf (text : List ℕ) (r : Report) : Type 0 where
+  pub items : List Item
+  pub items_are : ItemsOf text items
+  pub reports : Reports empty items r
 
--- these commands lead from one state to another, and none is refused
-pub data Replays : State → List (List ℕ) → State → Type 0 where
-  done : {s : State} → Replays s [] s
-  step : {s s'' : State} {c : List ℕ} {cs : List (List ℕ)} (reply : Reply) (s' : State) → HasEffect s c reply s' → is_refusal reply ≡ false → Replays s' cs s'' → Replays s (c ∷ cs) s''
+-- ITS BYTES: the blocks, in order
+abbrev pub bytes_of : Report → List ℕ
+bytes_of [] = []
+bytes_of (m ∷ r) = block m.reply m.state ++ bytes_of r
+
+-- whether a command was refused
+abbrev pub has_refusal : Report → Bool
+has_refusal [] = false
+has_refusal (m ∷ r) = is_refusal m.reply || has_refusal r
+
+-- whether the script has ended by a `Quit`
+abbrev pub has_end : Report → Bool
+has_end [] = false
+has_end (m ∷ r) = is_end m.reply || has_end r
+
+-- the state behind the last command, where the first found this one
+abbrev pub state_behind : State → Report → State
+state_behind s [] = s
+state_behind s (m ∷ r) = state_behind m.state r

@@ -1,29 +1,31 @@
 //! Laws of the definitions, each the contract of a function that does nothing.
-ghost use Rattle.std.specs.Prelude.{◌≡◌, ◌++◌, ℕ, List};
+ghost use Rattle.std.specs.Prelude.{◌≡◌, ◌++◌, ℕ, List, true};
+ghost use Rattle.std.specs.List.{All};
 ghost use Rattle.ab_lex.specs.Commands.{Item};
-ghost use Rattle.abella.specs.State.{State, empty};
-ghost use Rattle.abella.specs.Report.{Report, Reports, Replays};
-ghost use Rattle.abella.specs.Outcome.{ReportOf};
-ghost use Rattle.abella.specs.Reading.{SaysOrFails};
-ghost use Rattle.abella.specs.Effect.{is_open, HasEffect};
-ghost use Rattle.abella.specs.declared.session.reply.Reply.{Reply};
+ghost use Rattle.ab_states.specs.State.{State};
+ghost use Rattle.ab_states.specs.Replay.{IsReplayed};
+ghost use Rattle.ab_states.specs.Reply.{completed};
+ghost use Rattle.ab_session.specs.Answers.{IsProvedLast};
+ghost use Rattle.abella.specs.Report.{Moment, Report, ReportOf, Reports, has_end};
 
-/// A text has one report, and it begins with the report of the text's first items.
-pub fn one_report()
-    ensures only { (text : List ℕ) (r q : Report) → ReportOf text r → ReportOf text q → r ≡ q }
-    ensures front { (first others : List Item) (s : State) (r q : Report)
-        → Reports s (first ++ others) r → Reports s first q
-        → (rest : List ℕ) × (r.bytes ≡ q.bytes ++ rest) }
+/// The report of a text begins with a report of its first items.
+pub fn reports_begin_alike()
+    ensures { (first others : List Item) (s : State) (r : Report) → Reports s (first ++ others) r
+        → (q rest : Report) × Reports s first q × (r ≡ q ++ rest) }
 {}
 
-/// The last state of a report is the one that its kept commands lead to.
+/// What stands behind a `Quit` changes no report.
+pub fn quit_ends_a_report()
+    ensures { (text more : List ℕ) (r : Report) → ReportOf text r → has_end r ≡ true → ReportOf (text ++ more) r }
+{}
+
+/// Each state of a report is the one that its kept commands lead to.
 pub fn kept_commands_replay()
-    ensures { (text : List ℕ) (r : Report) → ReportOf text r → Replays empty r.state.kept r.state }
+    ensures { (text : List ℕ) (r : Report) → ReportOf text r → All (λ (m : Moment). IsReplayed m.state) r }
 {}
 
-/// Behind each report of a text, bytes that say a command, or that fail to for a cause, have an effect.
-pub fn an_effect_for_each_command()
-    ensures { (text : List ℕ) (r : Report) (bytes : List ℕ)
-        → ReportOf text r → SaysOrFails bytes (is_open r.state)
-        → (reply : Reply) × (s : State) × HasEffect r.state bytes reply s }
+/// Where a report says that a theorem is proved, it stands last in the state behind the command, and has a derivation.
+pub fn completions_are_derived()
+    ensures { (text name : List ℕ) (r : Report) → ReportOf text r
+        → All (λ (m : Moment). m.reply ≡ completed name → IsProvedLast m.state.declarations name) r }
 {}

@@ -8,10 +8,7 @@
 mod input;
 mod laws;
 mod output;
-mod reading;
 mod running;
-mod session;
-mod show;
 mod status;
 mod streams;
 #[cfg(test)]

@@ -2,132 +2,13 @@
 ghost use Rattle.std.specs.Prelude.{◌<◌, ◌≤◌, IsTrue};
 ghost use Rattle.ab_io.specs.Count.{Rose};
 
+mod scripts;
+
 use crate::running::run;
 use ab_io::{Failed, MemFiles, MemSink, MemSource, Sink, Source, WriteFault};
+use scripts::CASES;
 use std::alloc::{AllocError, Global};
 use std::test::Fail;
-
-/// A script, the status that it ends with, and what is printed.
-struct Case {
-    script: &'static [u8],
-    status: u8,
-    report: &'static [u8],
-}
-
-const PROVED: &[u8] = b"[1]\n============================\n true\n[2] Proof completed: t.\n";
-
-const CASES: [Case; 22] = [
-    Case {
-        script: b"",
-        status: 0,
-        report: b"",
-    },
-    Case {
-        script: b"Theorem t : true. search.",
-        status: 0,
-        report: PROVED,
-    },
-    Case {
-        script: b"Theorem t : true /\\ true. split. search. search.",
-        status: 0,
-        report: b"[1]\n============================\n true /\\ true\n[2]\n============================\n true\nSubgoal 2 is:\n true\n[3]\n============================\n true\n[4] Proof completed: t.\n",
-    },
-    Case {
-        script: b"split.",
-        status: 1,
-        report: b"[0] Refused 9 WrongPlace\n",
-    },
-    Case {
-        script: b"Theorem t : false.",
-        status: 6,
-        report: b"[1]\n============================\n false\n",
-    },
-    Case {
-        script: b"Theorem t : false. search.",
-        status: 1,
-        report: b"[1]\n============================\n false\n[1] Refused 16 NotFound\n============================\n false\n",
-    },
-    Case {
-        script: b"Theorem t : (true /\\ (false /\\ true)).",
-        status: 6,
-        report: b"[1]\n============================\n true /\\ (false /\\ true)\n",
-    },
-    Case {
-        script: b"Theorem : true.",
-        status: 1,
-        report: b"[0] Refused 1 Syntax at 8\n",
-    },
-    Case {
-        script: b"foo bar.",
-        status: 1,
-        report: b"[0] Refused 1 Syntax at 0\n",
-    },
-    Case {
-        script: b" Theorem x : @.",
-        status: 1,
-        report: b"[0] Refused 1 Syntax at 12\n",
-    },
-    Case {
-        script: b" @ intros.",
-        status: 1,
-        report: b"[0] Refused 1 Syntax at 0\n",
-    },
-    Case {
-        script: b"intros.",
-        status: 1,
-        report: b"[0] Refused 9 WrongPlace\n",
-    },
-    Case {
-        script: b"Theorem x : true. Kind k type.",
-        status: 1,
-        report: b"[1]\n============================\n true\n[1] Refused 9 WrongPlace\n============================\n true\n",
-    },
-    Case {
-        script: b"Theorem x : true. Kind.",
-        status: 1,
-        report: b"[1]\n============================\n true\n[1] Refused 9 WrongPlace\n============================\n true\n",
-    },
-    Case {
-        script: b"Theorem t : true \\/ true.",
-        status: 1,
-        report: b"[0] Refused 27 NotBuilt\n",
-    },
-    Case {
-        script: b"Kind k type.",
-        status: 1,
-        report: b"[0] Refused 27 NotBuilt\n",
-    },
-    Case {
-        script: b"Theorem t : true. search 3.",
-        status: 1,
-        report: b"[1]\n============================\n true\n[1] Refused 27 NotBuilt\n============================\n true\n",
-    },
-    Case {
-        script: b"Theorem t : true. split.",
-        status: 1,
-        report: b"[1]\n============================\n true\n[1] Refused 11 WrongShape\n============================\n true\n",
-    },
-    Case {
-        script: b"Theorem t : true /* a. /* b. */ c. */ . search.",
-        status: 0,
-        report: PROVED,
-    },
-    Case {
-        script: b"Theorem t : true. search",
-        status: 6,
-        report: b"[1]\n============================\n true\n",
-    },
-    Case {
-        script: b"Theorem t : true. search. /* open",
-        status: 6,
-        report: PROVED,
-    },
-    Case {
-        script: b"Theorem t : true. search. % end",
-        status: 0,
-        report: PROVED,
-    },
-];
 
 /// What a run over a script in pieces ends with, and what it writes; the reads and the writes of these numbers fail.
 fn outcome(
@@ -420,5 +301,38 @@ fn takes_a_write_of_nothing_for_a_fault(rt: HostRuntime) -> Result<(), Fail> {
     assert!(rt;
         shown.bytes() == b"Usage: abella [-q] [--drill N] [--check-cert] [FILE]\n".as_slice()
     );
+    Ok(())
+}
+
+/// Behind a `Quit` nothing is read.
+#[test]
+fn reads_nothing_behind_a_quit(rt: HostRuntime) -> Result<(), Fail> {
+    let (status, report) = outcome(rt.alloc(), b"Quit. abort. Kind", 5, &[2], &[])?;
+    assert_eq!(rt; status, 0);
+    assert!(rt; report.as_slice() == b"[0] Quit.\n".as_slice());
+    Ok(())
+}
+
+/// The session is handed out as its commands left it, and none where the line is refused.
+#[test]
+fn hands_out_the_session(rt: HostRuntime) -> Result<(), Fail> {
+    let alloc = rt.alloc();
+    let script = Vec::from_slice(
+        alloc,
+        b"Theorem t : true. search. Show t. Theorem u : true. ",
+    )?;
+    let mut input = MemSource::new(script, 5, Vec::new(alloc));
+    let mut files = MemFiles::new(alloc, Vec::new(alloc));
+    let mut out = MemSink::new(alloc, Vec::new(alloc));
+    let mut words = Vec::new(alloc);
+    words.push(String::from_str(alloc, "abella")?)?;
+    let left = match run(alloc, &words, &mut files, &mut input, &mut out).session {
+        None => None,
+        Some(session) => Some((session.kept(), session.theorems(), session.goal().is_some())),
+    };
+    assert_eq!(rt; left, Some((3, 1, true)));
+    words.push(String::from_str(alloc, "--nosuch")?)?;
+    let ended = run(alloc, &words, &mut files, &mut input, &mut out);
+    assert!(rt; ended.session.is_none());
     Ok(())
 }

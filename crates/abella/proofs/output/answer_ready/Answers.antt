@@ -1,14 +1,16 @@
 use Rattle.std.proofs.Common.{List, ℕ, refl, ◌∙◌, arith, subst}
 use Rattle.ab_io.specs.Told.{Appends, AppendsFront}
 use Rattle.abella.specs.Progress.{AnswersItem, to_come, standing_of}
-use Rattle.abella.proofs.Progress.{answered_none, answered_more, answered_item, cut_off, stopped}
+use Rattle.abella.proofs.Progress.{answered_none, answered_more, answered_item, cut_off, not_both, stopped}
 use Rattle.abella.proofs.output.answer_ready.Goals as goal
 
 pub items-init : goal.items-init
 items-init g c = record {
   answered = answered_none (g.O.Sink.written c.args.out.now) (to_come c.args.splitter.now) (standing_of c.args.progress.now);
+  goes_on = c.requires;
   rest = λ more. refl;
   faults_never_fall = omega arith;
+  files = refl;
 }
 
 pub returns-in-Err-clause-answered : goal.returns-in-Err-clause-answered
@@ -20,7 +22,7 @@ returns-in-Err-write_all-clause-answered g c =
     let h : AnswersItem c.in-Ok-Some.bytes.items (standing_of c.items.progress) (standing_of c.next_block.new.progress) c.items.splitter c.next_block.new.splitter = rw c.in-Ok-Some.field-0-is at c.in-Ok-Some.ensures.answered in
     let w = subst (λ (q : List ℕ). AppendsFront (g.O.Sink.written c.items.out) q (g.O.Sink.written c.write_all.new.out)) c.deref.ensures.value c.in-Err-write_all.ensures.front in
     cut_off c.in-Ok-Some.bytes.items (standing_of c.items.progress) (standing_of c.next_block.new.progress) c.items.splitter c.next_block.new.splitter h
-    (g.O.Sink.written c.args.out.now) (g.O.Sink.written c.items.out) (g.O.Sink.written c.write_all.new.out) (to_come c.args.splitter.now) (standing_of c.args.progress.now) c.items.invariant.answered w
+    (g.O.Sink.written c.args.out.now) (g.O.Sink.written c.items.out) (g.O.Sink.written c.write_all.new.out) c.args.splitter.now (standing_of c.args.progress.now) c.items.invariant.goes_on c.items.invariant.answered w c.in-Err-write_all.fault
 
 pub items-preserved : goal.items-preserved
 items-preserved g c =
@@ -28,8 +30,20 @@ items-preserved g c =
     let w = subst (λ (q : List ℕ). Appends (g.O.Sink.written c.items.out) q (g.O.Sink.written c.write_all.new.out)) c.deref.ensures.value c.in_default.ensures.wrote in
     record {
       answered = answered_more (g.O.Sink.written c.args.out.now) (g.O.Sink.written c.items.out) (g.O.Sink.written c.write_all.new.out) (to_come c.args.splitter.now) (to_come c.items.splitter) (to_come c.next_block.new.splitter)
-          (standing_of c.args.progress.now) (standing_of c.items.progress) (standing_of c.next_block.new.progress) c.items.invariant.answered
+          (standing_of c.args.progress.now) (standing_of c.items.progress) (standing_of c.next_block.new.progress) c.items.invariant.goes_on c.items.invariant.answered
           (answered_item c.in-Ok-Some.bytes.items (standing_of c.items.progress) (standing_of c.next_block.new.progress) c.items.splitter c.next_block.new.splitter h (g.O.Sink.written c.items.out) (g.O.Sink.written c.write_all.new.out) w);
+      goes_on = c.if-progress.false;
+      files = c.next_block.ensures.files ∙ c.items.invariant.files;
       rest = λ more. c.in-Ok-Some.ensures.rest more ∙ c.items.invariant.rest more;
       faults_never_fall = omega (arith, c.items.invariant.faults_never_fall, c.in_default.ensures.faults_never_fall);
     }
+
+pub returns-then-progress-clause-answered : goal.returns-then-progress-clause-answered
+returns-then-progress-clause-answered g c =
+    let h : AnswersItem c.in-Ok-Some.bytes.items (standing_of c.items.progress) (standing_of c.next_block.new.progress) c.items.splitter c.next_block.new.splitter = rw c.in-Ok-Some.field-0-is at c.in-Ok-Some.ensures.answered in
+    let w = subst (λ (q : List ℕ). Appends (g.O.Sink.written c.items.out) q (g.O.Sink.written c.write_all.new.out)) c.deref.ensures.value c.in_default.ensures.wrote in (
+      answered_more (g.O.Sink.written c.args.out.now) (g.O.Sink.written c.items.out) (g.O.Sink.written c.write_all.new.out) (to_come c.args.splitter.now) (to_come c.items.splitter) (to_come c.next_block.new.splitter)
+          (standing_of c.args.progress.now) (standing_of c.items.progress) (standing_of c.next_block.new.progress) c.items.invariant.goes_on c.items.invariant.answered
+          (answered_item c.in-Ok-Some.bytes.items (standing_of c.items.progress) (standing_of c.next_block.new.progress) c.items.splitter c.next_block.new.splitter h (g.O.Sink.written c.items.out) (g.O.Sink.written c.write_all.new.out) w),
+      λ e. not_both c.next_block.new.progress.ended c.if-progress.true e,
+    )

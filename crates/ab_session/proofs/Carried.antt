@@ -1,0 +1,206 @@
+-- What a proof command leaves of a proof, and of an attempt at a theorem.
+use Rattle.std.specs.Prelude.{IfSome, Result, Ok, Err, OnErr}
+use Rattle.std.proofs.Common.{◌≡◌, ◌≢◌, ℕ, List, [], ◌∷◌, ◌++◌, ◌+◌, suc, length, Option, Some, None, refl, sym, ◌∙◌, ap, subst, arith, append-nil, length-append}
+use Rattle.std.proofs.lemmas.List.{length-map}
+use Rattle.ab_store.specs.Trees.{Read}
+use Rattle.ab_grammar.specs.CommandTrees as told
+use Rattle.ab_grammar.specs.CommandTrees.{ProofCommand}
+use Rattle.ab_logic.specs.Declarations.{Declarations, a_theorem, signature_in, theorem_in, theorems_in}
+use Rattle.ab_logic.specs.Formulas.{IsSentence}
+use Rattle.ab_logic.specs.Growth.{Grows}
+use Rattle.ab_logic.specs.Names.{Label}
+use Rattle.ab_logic.specs.Sequents.{Sequent}
+use Rattle.ab_logic.specs.Worlds.{read, Holds, declarations_of, IsWorld}
+use Rattle.ab_logic.specs.declared.world.World.{World}
+use Rattle.ab_logic.proofs.Declaring.{theorems_are}
+use Rattle.ab_logic.proofs.Growing.{grows_on}
+use Rattle.ab_kernel.specs.Derivation.{History, Valid, root, proves, open_goals, IsDerivation}
+use Rattle.ab_kernel.specs.Layout.{Held, history_of, IsProof}
+use Rattle.ab_kernel.proofs.Later.{same_history, still_proof}
+use Rattle.ab_effects.specs.Effect.{effect}
+use Rattle.ab_effects.specs.Refusals as row
+use Rattle.ab_effects.specs.Row.{Row, Leads, Refuses}
+use Rattle.ab_progress.specs.Progress.{goals_of, Follows}
+use Rattle.ab_progress.specs.Applied.{IsApplied, IsRefused, RefusedBy}
+use Rattle.ab_progress.specs.declared.fault.ProofCommandFault.{ProofCommandFault}
+use Rattle.ab_progress.specs.declared.fault.ProofCommandFault.TheVariants.{Unknown, Clash, TypeClash, Untyped, NoHypothesis, WrongShape, Mark, NoMatch, NotPattern, Unresolved, NamesSpent, Memory}
+use Rattle.ab_proofcmd.specs.Built.{IsBuilt}
+use Rattle.ab_search.specs.Closing.{CanBeClosed}
+use Rattle.ab_declare.specs.declared.refusal.Refusal.{Refusal}
+use Rattle.ab_declare.specs.declared.refusal.Refusal.TheVariants.{NotFound}
+use Rattle.ab_declare.specs.Moments.{HasMore, IsRestored}
+use Rattle.ab_declare.specs.Refusals.{refusal_for}
+use Rattle.ab_declare.proofs.Restoring.{restored_grows, restored_declares}
+use Rattle.ab_states.specs.Proving.{Makes, RefusesSo, Denies}
+use Rattle.ab_session.specs.declared.attempt.Attempt.{Attempt}
+use Rattle.ab_session.specs.Sessions.{IsTried}
+use Rattle.ab_session.specs.Carrying.{TellsOf, IsMade, IsDenied, IsUnchanged, GoesOn, IsCompleted, IsRefusedSo}
+
+-- By rows
+
+told_refuses : (r : Row) (f : ProofCommandFault) (q : Refusal) → RefusedBy r f → TellsOf f q → (cause : row.Refusal) × Refuses r cause × (q ≡ refusal_for cause)
+told_refuses r (Unknown x) q h e = (row.unknown x, h, e)
+told_refuses r (Clash x) q h e = (row.clash x, h, e)
+told_refuses r (TypeClash p) q h e = (row.type_clash p, h, e)
+told_refuses r (Untyped p) q h e = (row.untyped p, h, e)
+told_refuses r (NoHypothesis x) q h e = (row.no_hypothesis x, h, e)
+told_refuses r WrongShape q h e = (row.wrong_shape, h, e)
+told_refuses r Mark q h e = (row.mark, h, e)
+told_refuses r NoMatch q h e = (row.no_match, h, e)
+told_refuses r (NotPattern i) q h e = (row.not_pattern i, h, e)
+told_refuses r (Unresolved x) q h e = (row.unresolved x, h, e)
+told_refuses r NamesSpent q h e = (row.names_spent, h, e)
+told_refuses r (Memory f) q h e = absurd e
+
+row_makes : (D : Declarations) (l : Label) (c : ProofCommand) (s : Sequent) (ps : List Sequent) → IsBuilt c → Leads (effect D l c s) ps → Makes D l c s ps
+row_makes D l (told.intros xs) s ps built h = h
+row_makes D l (told.induction n) s ps built h = h
+row_makes D l told.coinduction s ps built h = h
+row_makes D l (told.case H keep) s ps built h = h
+row_makes D l (told.apply H vs is) s ps built h = h
+row_makes D l (told.backchain H is) s ps built h = h
+row_makes D l (told.cut H K) s ps built h = h
+row_makes D l (told.inst H is) s ps built h = h
+row_makes D l (told.monotone H e) s ps built h = h
+row_makes D l (told.search n) s ps built h = absurd built
+row_makes D l told.split s ps built h = h
+row_makes D l told.split_all s ps built h = h
+row_makes D l told.left s ps built h = h
+row_makes D l told.right s ps built h = h
+row_makes D l (told.exists e) s ps built h = h
+row_makes D l told.unfold_goal s ps built h = h
+row_makes D l (told.assert e) s ps built h = h
+row_makes D l (told.clear Hs) s ps built h = h
+row_makes D l (told.rename H x) s ps built h = h
+row_makes D l (told.permute ns x) s ps built h = h
+
+row_denies : (D : Declarations) (l : Label) (c : ProofCommand) (s : Sequent) (q : Refusal) → IsBuilt c → RefusesSo D l c s q → Denies D l c s q
+row_denies D l (told.intros xs) s q built h = h
+row_denies D l (told.induction n) s q built h = h
+row_denies D l told.coinduction s q built h = h
+row_denies D l (told.case H keep) s q built h = h
+row_denies D l (told.apply H vs is) s q built h = h
+row_denies D l (told.backchain H is) s q built h = h
+row_denies D l (told.cut H K) s q built h = h
+row_denies D l (told.inst H is) s q built h = h
+row_denies D l (told.monotone H e) s q built h = h
+row_denies D l (told.search n) s q built h = absurd built
+row_denies D l told.split s q built h = h
+row_denies D l told.split_all s q built h = h
+row_denies D l told.left s q built h = h
+row_denies D l told.right s q built h = h
+row_denies D l (told.exists e) s q built h = h
+row_denies D l told.unfold_goal s q built h = h
+row_denies D l (told.assert e) s q built h = h
+row_denies D l (told.clear Hs) s q built h = h
+row_denies D l (told.rename H x) s q built h = h
+row_denies D l (told.permute ns x) s q built h = h
+
+pub made_by_row : (l : Label) (c : ProofCommand) (w v : World) (p q : Held) → IsBuilt c → IsApplied l c w p v q → IsMade l c w p v q
+made_by_row l c w v p q built applied s rest e =
+    let a = applied s rest e in
+    (a.0, row_makes (declarations_of w) l c s a.0 built a.1, a.2)
+
+pub denied_by_row : (l : Label) (c : ProofCommand) (w : World) (p : Held) (f : ProofCommandFault) (r : Refusal) → IsBuilt c → IsRefused l c w p f → TellsOf f r → IsDenied l c w p r
+denied_by_row l c w p f r built refused tells s rest e =
+    let t = told_refuses (effect (declarations_of w) l c s) f r (refused s rest e) tells in
+    row_denies (declarations_of w) l c s r built (record { cause = t.0; refuses = t.1; is = t.2 })
+
+-- By searching
+
+pub made_by_search : (l : Label) (n : ℕ) (w v : World) (p q : Held)
+    → ((s : Sequent) (rest : List Sequent) → goals_of w p ≡ s ∷ rest → CanBeClosed s × (goals_of v q ≡ rest)) → IsMade l (told.search n) w p v q
+made_by_search l n w v p q closed s rest e = let c = closed s rest e in ([], (c.0, refl), c.1)
+
+pub denied_by_search : (l : Label) (n : ℕ) (w : World) (p : Held)
+    → ((s : Sequent) (rest : List Sequent) → goals_of w p ≡ s ∷ rest → ¬ CanBeClosed s) → IsDenied l (told.search n) w p NotFound
+denied_by_search l n w p none s rest e = (none s rest e, refl)
+
+-- A world in which nothing was declared since
+
+nothing_more : {X : Type 0} (xs more ys : List X) → ys ≡ xs ++ more → length ys ≡ length xs → ys ≡ xs
+nothing_more xs [] ys e n = e ∙ append-nil xs
+nothing_more xs (x ∷ more) ys e n = let longer : length ys ≡ length xs + suc (length more) = ap length e ∙ length-append xs (x ∷ more) in absurd (omega (arith, longer, n))
+
+as_many : (w : World) → length (theorems_in (declarations_of w)) ≡ length w.theorems
+as_many w = ap length (theorems_are w 0 w.theorems) ∙ length-map _ _
+
+pub has_more : (w v : World) (p q : Held) → Follows w p v q → HasMore w v
+has_more w v p q f = record {
+  types = f.grows.types;
+  marks = f.grows.marks;
+  theorems = nothing_more w.theorems f.grows.theorems.0 v.theorems f.grows.theorems.1 (sym (as_many v) ∙ ap (λ D. length (theorems_in D)) f.declared ∙ as_many w);
+}
+
+-- what holds of a value, where it is there
+pub at_some : {A : Type 0} (P : A → Type 0) (o : Option A) (x : A) → o ≡ Some x → IfSome o P → P x
+at_some P o x e holds = subst (λ p. IfSome p P) e holds
+
+-- what holds, holds where there is an error
+pub on_error : {T E P : Type 0} (r : Result T E) → P → OnErr r P
+on_error (Ok x) p = tt
+on_error (Err e) p = p
+
+-- An attempt
+
+module _ (w v : World) (a : Attempt) (q : Held) (is : IsTried w a) (f : Follows w a.proof v q) where
+  abbrev pub with_proof : Attempt
+  with_proof = record { name = a.name; formula = a.formula; proof = q }
+
+  pub stayed : history_of v q ≡ history_of w a.proof → IsUnchanged w a v with_proof
+  stayed same = record { grows = f.grows; declared = f.declared; name = refl; formula = refl; proof = f.proof; history = same }
+
+  pub went_on : (l : Label) (c : ProofCommand) → IsMade l c w a.proof v q → goals_of v q ≢ [] → GoesOn l c w a v with_proof
+  went_on l c made left = record { made = made; follows = f; name = refl; formula = refl; goals = left }
+
+  -- what the theorem states is still a sentence of a new name
+
+  pub still_held : Holds v a.formula
+  still_held = f.grows.ids a.formula is.held
+
+  pub still_sentence : IsSentence (signature_in (declarations_of v)) (read v a.formula)
+  still_sentence =
+      subst (λ D. IsSentence (signature_in D) (read v a.formula)) (sym f.declared)
+      (subst (IsSentence (signature_in (declarations_of w))) (sym (f.grows.readings a.formula is.held)) is.sentence)
+
+  pub still_new : theorem_in (declarations_of v) a.name ≡ None
+  still_new = ap (λ D. theorem_in D a.name) f.declared ∙ is.new_name
+
+  pub completed : (u : World) (l : Label) (c : ProofCommand) → IsMade l c w a.proof v q → goals_of v q ≡ [] → Grows v u
+      → declarations_of u ≡ declarations_of v ++ a_theorem a.name (read v a.formula) ∷ [] → IsCompleted l c w a u with_proof
+  completed u l c made closed grows more =
+      let F = f.grows.readings a.formula is.held in
+      let h = same_history v u grows q f.proof in
+      record {
+        made = λ s rest e. let m = made s rest e in (m.0, m.1, ap (λ (k : History). open_goals k.tree) h ∙ m.2);
+        grows = grows_on w v u f.grows grows;
+        declared = more ∙ ap (λ D. D ++ a_theorem a.name (read v a.formula) ∷ []) f.declared ∙ ap (λ G. declarations_of w ++ a_theorem a.name G ∷ []) F;
+        name = refl;
+        proof = still_proof v u grows q f.proof;
+        derives =
+            subst (λ (k : History). IsDerivation (declarations_of w) (read w a.formula) k.tree) (sym h)
+            (record {
+              sentence = is.sentence;
+              valid = subst (λ D. Valid D (history_of v q).tree) f.declared f.proof.valid;
+              closed = closed;
+              derives = f.above.rooted ∙ is.begins;
+            });
+      }
+
+-- a refused command: the world is cut back, and the proof is the same
+pub refused_so : (l : Label) (c : ProofCommand) (w u : World) (a : Attempt) (q : Held) (r : Refusal) → IsWorld w → IsTried w a → IsDenied l c w a.proof r → IsRestored w u → q ≡ a.proof
+    → IsRefusedSo l c w a u (record { name = a.name; formula = a.formula; proof = q }) r
+refused_so l c w u a q r world is denied restored same =
+    let grows = restored_grows w u world restored in
+    record {
+      denied = denied;
+      unchanged = record {
+        grows = grows;
+        declared = restored_declares w u restored;
+        name = refl;
+        formula = refl;
+        proof = subst (IsProof u) (sym same) (still_proof w u grows a.proof is.proof);
+        history = ap (history_of u) same ∙ same_history w u grows a.proof is.proof;
+      };
+      restored = restored;
+    }

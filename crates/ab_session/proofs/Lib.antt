@@ -1,0 +1,5 @@
+mod Sayings
+mod Sessions
+mod Carried
+mod Effects
+mod Replaying

@@ -1,0 +1,92 @@
+-- Where commands stand that the bytes say, and which of them are built.
+use Rattle.std.specs.Prelude.{IfSome}
+use Rattle.std.proofs.Common.{◌≡◌, ℕ, Bool, true, false, List, length, Option, Some, None, is_some, option_map, refl, sym, ◌∙◌, ap, subst}
+use Rattle.ab_grammar.specs.declared.head.Stand.TheVariants.{Outside, Inside}
+use Rattle.ab_grammar.specs.Tree.{Tree, Trees, name, apply, abs, join, bind, judge, no_trees, tree}
+use Rattle.ab_grammar.specs.CommandTrees as told
+use Rattle.ab_grammar.specs.CommandTrees.{Command}
+use Rattle.ab_grammar.specs.CommandTable.{standing}
+use Rattle.ab_syntax.specs.declared.command.ProofCommand.{ProofCommand}
+use Rattle.ab_syntax.specs.declared.command.ProofCommand.TheVariants as plain
+use Rattle.ab_syntax.specs.Commands.{proof_command_of}
+use Rattle.ab_syntax.specs.Trees.{tree_of}
+use Rattle.ab_elaborate.specs.Judgements as elaborated
+use Rattle.ab_command.specs.Built.{IsBuiltInProof}
+use Rattle.ab_command.specs.Judgements.{HasNoJudgement, HaveNoJudgement}
+use Rattle.ab_command.specs.Reading.{StandsHere, Says}
+use Rattle.ab_command.proofs.Sayings.{said_stands}
+use Rattle.ab_proofcmd.specs.Built.{IsBuilt}
+use Rattle.ab_states.specs.State.{is_open}
+use Rattle.ab_states.specs.Effect.{Commands}
+use Rattle.ab_session.specs.declared.attempt.Attempt.{Attempt}
+use Rattle.ab_session.specs.Contents.{Contents, attempt_of, state_of}
+
+some_mapped : {X Y : Type 0} (f : X → Y) (o : Option X) → is_some (option_map f o) ≡ is_some o
+some_mapped f None = refl
+some_mapped f (Some x) = refl
+
+-- whether a proof is open
+pub open_as : (s : Contents) → is_open (state_of s) ≡ is_some s.attempt
+open_as s = some_mapped (attempt_of s.world) s.attempt
+
+none_there : {X : Type 0} (o : Option X) → is_some o ≡ false → o ≡ None
+none_there None e = refl
+none_there (Some x) e = cc
+
+none_open : {X : Type 0} (o : Option X) → o ≡ None → is_some o ≡ true → ⊥
+none_open None e h = cc
+none_open (Some x) e h = cc
+
+outside : (proving : Bool) → StandsHere Outside proving → proving ≡ false
+outside true h = absurd h
+outside false h = refl
+
+inside : (proving : Bool) → StandsHere Inside proving → proving ≡ true
+inside true h = refl
+inside false h = absurd h
+
+-- no proof is open where such a command stands
+pub none_tried : (s : Contents) (bytes : List ℕ) (c : Command) → Commands (state_of s) bytes c → standing c ≡ Outside → s.attempt ≡ None
+none_tried s bytes c said e =
+    none_there s.attempt (sym (open_as s) ∙ outside (is_open (state_of s)) (subst (λ d. StandsHere d (is_open (state_of s))) e (said_stands bytes (is_open (state_of s)) c said)))
+
+-- and one is where a proof command stands
+pub some_tried : (s : Contents) (bytes : List ℕ) (l : Option (List ℕ)) (c : told.ProofCommand) → Commands (state_of s) bytes (told.in_proof l c) → s.attempt ≡ None → ⊥
+some_tried s bytes l c said e =
+    none_open s.attempt e (sym (open_as s) ∙ inside (is_open (state_of s)) (said_stands bytes (is_open (state_of s)) (told.in_proof l c) said))
+
+mutual
+  pub no_judgement : (e : Tree) → HasNoJudgement e → elaborated.HasNoJudgement e
+  no_judgement (name x p) h = tt
+  no_judgement (apply f vs p) h = (no_judgement f h.0, no_judgements vs h.1)
+  no_judgement (abs x e p) h = no_judgement e h
+  no_judgement (join o e f p) h = (no_judgement e h.0, no_judgement f h.1)
+  no_judgement (bind q bs e p) h = no_judgement e h
+  no_judgement (judge cs f g p) h = h
+
+  no_judgements : (es : Trees) → HaveNoJudgement es → elaborated.HaveNoJudgement es
+  no_judgements no_trees h = tt
+  no_judgements (tree e es) h = (no_judgement e h.0, no_judgements es h.1)
+
+-- a proof command that is built, and isn't `search`, has its row
+pub has_row : (count : ℕ) (c : ProofCommand) → ((n : ℕ) → c ≡ plain.Search n → ⊥) → IsBuiltInProof count (proof_command_of c) → IsBuilt (proof_command_of c)
+has_row count (plain.Intros xs) n h = h
+has_row count (plain.Induction i) n h = h
+has_row count plain.Coinduction n h = h
+has_row count (plain.Case x keep) n h = h
+has_row count (plain.Apply x vs is) n h = h
+has_row count (plain.Backchain x is) n h = h
+has_row count (plain.Cut x y) n h = h
+has_row count (plain.Inst x is) n h = h
+has_row count (plain.Monotone x e) n h = h
+has_row count (plain.Search d) n h = absurd (n d refl)
+has_row count plain.Split n h = h
+has_row count plain.SplitAll n h = h
+has_row count plain.Left n h = h
+has_row count plain.Right n h = h
+has_row count (plain.Exists e) n h = no_judgement (tree_of e) h
+has_row count plain.Unfold n h = h
+has_row count (plain.Assert e) n h = no_judgement (tree_of e) h
+has_row count (plain.Clear xs) n h = h
+has_row count (plain.Rename x y) n h = h
+has_row count (plain.Permute ns x) n h = h

@@ -1,0 +1,166 @@
+-- What stays true of a session where its world grows.
+use Rattle.std.specs.Prelude.{slice_get, IfSome}
+use Rattle.std.proofs.Common.{◌≡◌, ◌≢◌, ◌⊎◌, inl, inr, true, ℕ, zero, suc, ◌+◌, List, [], ◌∷◌, ◌++◌, length, map, Option, Some, None, option_map, refl, sym, ◌∙◌, ap, subst, append_assoc, append-nil, length-append, arith}
+use Rattle.ab_term.specs.Types.{Ty}
+use Rattle.ab_types.specs.Entries.{first_entries}
+use Rattle.ab_store.specs.Trees.{Read}
+use Rattle.ab_grammar.specs.CommandTrees.{Command}
+use Rattle.ab_logic.specs.Declarations.{Declarations, Extends, a_kind, a_constant, a_theorem, signature_in, theorem_in, theorems_in}
+use Rattle.ab_logic.specs.Formulas.{IsSentence}
+use Rattle.ab_logic.specs.Growth.{Grows}
+use Rattle.ab_logic.specs.Sequents.{Sequent}
+use Rattle.ab_logic.specs.Worlds.{read, declared, declarations_of, IsWorld}
+use Rattle.ab_logic.specs.declared.world.World.{World}
+use Rattle.ab_logic.proofs.Declaring.{theorems_in-append, theorems-declared}
+use Rattle.ab_logic.proofs.Growing.{grows_not, grows_on}
+use Rattle.ab_kernel.specs.Derivation.{Derivation, History, root, proves, open_goals, IsDerivation}
+use Rattle.ab_kernel.specs.Layout.{Held, history_of, IsProof}
+use Rattle.ab_kernel.proofs.Later.{same_history, still_proof}
+use Rattle.ab_progress.specs.Progress.{goals_of}
+use Rattle.ab_goals.specs.Goals.{named}
+use Rattle.ab_declare.specs.Declaring.{Declares, new_kinds, new_constants}
+use Rattle.ab_states.specs.State as plain
+use Rattle.ab_states.specs.Derived.{IsDerived}
+use Rattle.ab_session.specs.declared.attempt.Attempt.{Attempt}
+use Rattle.ab_session.specs.Contents.{Contents, attempt_of, state_of}
+use Rattle.ab_session.specs.Sessions.{IsTried, IsProofOf, AreProofs, IsSession}
+
+-- a theorem stays derived where more is declared
+derived_on : (D more : Declarations) (place : ℕ) (d : Derivation) → IsDerived D place d → IsDerived (D ++ more) place d
+derived_on D more place d is = record {
+  name = is.name;
+  formula = is.formula;
+  before = is.before;
+  behind = is.behind ++ more;
+  declared = ap (λ ds. ds ++ more) is.declared ∙ append_assoc is.before (a_theorem is.name is.formula ∷ is.behind) more;
+  place_is = is.place_is;
+  derives = is.derives;
+}
+
+-- a proof stays that of its theorem in each later world
+later_proof : (w v : World) (place : ℕ) (p : Held) → Grows w v → IsProofOf w place p → IsProofOf v place p
+later_proof w v place p grows is = record {
+  proof = still_proof w v grows p is.proof;
+  derived =
+      subst (λ (h : History). IsDerived (declarations_of v) place h.tree) (sym (same_history w v grows p is.proof))
+      (subst (λ D. IsDerived D place (history_of w p).tree) (sym grows.declarations.1) (derived_on (declarations_of w) grows.declarations.0 place (history_of w p).tree is.derived));
+}
+
+-- no theorem more
+pub later_proofs : (w v : World) (ps : List Held) → Grows w v → length (theorems_in (declarations_of v)) ≡ length (theorems_in (declarations_of w)) → AreProofs w ps → AreProofs v ps
+later_proofs w v ps grows same are = record {
+  counted = are.counted ∙ sym same;
+  each = λ place p e. later_proof w v place p grows (are.each place p e);
+}
+
+pub same_proofs : (w v : World) (ps : List Held) → Grows w v → declarations_of v ≡ declarations_of w → AreProofs w ps → AreProofs v ps
+same_proofs w v ps grows same are = later_proofs w v ps grows (ap (λ D. length (theorems_in D)) same) are
+
+pushed : {X : Type 0} (xs : List X) (y x : X) (place : ℕ) → slice_get (xs ++ y ∷ []) place ≡ Some x → (slice_get xs place ≡ Some x) ⊎ ((place ≡ length xs) × (x ≡ y))
+pushed [] y x zero e = let same : y ≡ x = cc in inr (refl, sym same)
+pushed [] y x (suc n) e = cc
+pushed (z ∷ xs) y x zero e = inl e
+pushed (z ∷ xs) y x (suc n) e = elim (pushed xs y x n e) [ inl f ↦ inl f | inr p ↦ inr (ap suc p.0, p.1) ]
+
+pub one_more : (D : Declarations) (x : List ℕ) (F : Read) → length (theorems_in (D ++ a_theorem x F ∷ [])) ≡ length (theorems_in D) + 1
+one_more D x F = ap length (theorems_in-append D (a_theorem x F ∷ [])) ∙ length-append (theorems_in D) ((x, F) ∷ [])
+
+-- the theorem behind all that was declared is derived by what derives it from that
+pub derived_last : (D : Declarations) (x : List ℕ) (F : Read) (d : Derivation) (place : ℕ) → IsDerivation D F d → length (theorems_in D) ≡ place → IsDerived (D ++ a_theorem x F ∷ []) place d
+derived_last D x F d place is counted =
+    record { name = x; formula = F; before = D; behind = []; declared = refl; place_is = counted; derives = is }
+
+-- a theorem more, with its proof
+pub proved_proofs : (w v : World) (ps : List Held) (p : Held) (x : List ℕ) (F : Read) → Grows w v → declarations_of v ≡ declarations_of w ++ a_theorem x F ∷ []
+    → IsProof v p → IsDerivation (declarations_of w) F (history_of v p).tree → AreProofs w ps → AreProofs v (ps ++ p ∷ [])
+proved_proofs w v ps p x F grows more proof derives are = record {
+  counted = length-append ps (p ∷ []) ∙ ap (λ n. n + 1) are.counted ∙ sym (ap (λ D. length (theorems_in D)) more ∙ one_more (declarations_of w) x F);
+  each = λ place q e.
+      elim (pushed ps p q place e) [
+        | inl f ↦ later_proof w v place q grows (are.each place q f)
+        | inr l ↦ subst (λ r. IsProofOf v place r) (sym l.1) (record {
+          proof = proof;
+          derived =
+              subst (λ D. IsDerived D place (history_of v p).tree) (sym more)
+              (derived_last (declarations_of w) x F (history_of v p).tree place derives (sym (l.0 ∙ are.counted)));
+        })
+      ];
+}
+
+-- what is being tried, in a world that reads as the first and declares the same
+
+pub same_tried : (w v : World) (a : Attempt) → Grows w v → declarations_of v ≡ declarations_of w → IsTried w a → IsTried v a
+same_tried w v a grows same is =
+    let h = same_history w v grows a.proof is.proof in
+    let F = grows.readings a.formula is.held in
+    record {
+      proof = still_proof w v grows a.proof is.proof;
+      begins = ap (λ (k : History). root k.tree) h ∙ is.begins ∙ ap (λ G. proves G 0) (sym F);
+      held = grows.ids a.formula is.held;
+      sentence = subst (λ D. IsSentence (signature_in D) (read v a.formula)) (sym same) (subst (IsSentence (signature_in (declarations_of w))) (sym F) is.sentence);
+      new_name = ap (λ D. theorem_in D a.name) same ∙ is.new_name;
+      goals = λ none. is.goals (sym (ap (λ (k : History). open_goals k.tree) h) ∙ none);
+    }
+
+pub same_attempt : (w v : World) (a : Attempt) → Grows w v → IsTried w a → attempt_of v a ≡ attempt_of w a
+same_attempt w v a grows is =
+    ap (λ F. record { name = a.name; formula = F; goals = map named (goals_of v a.proof) }) (grows.readings a.formula is.held)
+    ∙ ap (λ (k : History). record { name = a.name; formula = read w a.formula; goals = map named (open_goals k.tree) }) (same_history w v grows a.proof is.proof)
+
+same_if : (w v : World) (o : Option Attempt) → Grows w v → declarations_of v ≡ declarations_of w → IfSome o (IsTried w) → IfSome o (IsTried v)
+same_if w v None grows same is = tt
+same_if w v (Some a) grows same is = same_tried w v a grows same is
+
+same_attempts : (w v : World) (o : Option Attempt) → Grows w v → IfSome o (IsTried w) → option_map (attempt_of v) o ≡ option_map (attempt_of w) o
+same_attempts w v None grows is = refl
+same_attempts w v (Some a) grows is = ap (λ b. Some b) (same_attempt w v a grows is)
+
+-- the session in another world
+abbrev pub in_world : World → Contents → Contents
+in_world v s = record { world = v; proofs = s.proofs; attempt = s.attempt; all_subgoals = s.all_subgoals; kept = s.kept }
+
+pub same_session : (s : Contents) (v : World) → Grows s.world v → declarations_of v ≡ declarations_of s.world → IsSession s → IsSession (in_world v s)
+same_session s v grows same is = record {
+  world = grows.world;
+  proofs = same_proofs s.world v s.proofs grows same is.proofs;
+  attempt = same_if s.world v s.attempt grows same is.attempt;
+}
+
+pub same_state : (s : Contents) (v : World) → Grows s.world v → declarations_of v ≡ declarations_of s.world → IsSession s → state_of (in_world v s) ≡ state_of s
+same_state s v grows same is =
+    ap (λ D. record { declarations = D; attempt = option_map (attempt_of v) s.attempt; all_subgoals = s.all_subgoals; kept = s.kept }) same
+    ∙ ap (λ a. record { declarations = declarations_of s.world; attempt = a; all_subgoals = s.all_subgoals; kept = s.kept }) (same_attempts s.world v s.attempt grows is.attempt)
+
+-- kinds and constants are no theorems
+
+kinds_no_theorem : (xs : List (List ℕ)) → theorems_in (map a_kind xs) ≡ []
+kinds_no_theorem [] = refl
+kinds_no_theorem (x ∷ xs) = kinds_no_theorem xs
+
+constants_no_theorem : (A : Ty) (xs : List (List ℕ)) → theorems_in (map (λ x. a_constant x A) xs) ≡ []
+constants_no_theorem A [] = refl
+constants_no_theorem A (x ∷ xs) = constants_no_theorem A xs
+
+no_theorem_more : (D : Declarations) (c : Command) (more : Declarations) → Declares D c more → theorems_in more ≡ []
+no_theorem_more D _ _ (new_kinds {xs = xs} n) = kinds_no_theorem xs
+no_theorem_more D _ _ (new_constants {xs = xs} {A = A} n t d) = constants_no_theorem A xs
+
+pub as_many : (D : Declarations) (c : Command) (more E : Declarations) → Declares D c more → E ≡ D ++ more → length (theorems_in E) ≡ length (theorems_in D)
+as_many D c more E declares e =
+    ap (λ C. length (theorems_in C)) e ∙ ap length (theorems_in-append D more)
+    ∙ ap (λ ts. length (theorems_in D ++ ts)) (no_theorem_more D c more declares) ∙ ap length (append-nil (theorems_in D))
+
+-- a session before its first command
+
+no_proofs : (w : World) → theorems_in (declarations_of w) ≡ [] → AreProofs w []
+no_proofs w none = record { counted = sym (ap length none); each = λ place p e. absurd (cc) }
+
+pub new_session : (w : World) → IsWorld w → declarations_of w ≡ declared first_entries → IsSession (record { world = w; proofs = []; attempt = None; all_subgoals = true; kept = [] })
+new_session w world says = record {
+  world = world;
+  proofs = no_proofs w (ap theorems_in says ∙ theorems-declared first_entries);
+  attempt = tt;
+}
+
+pub new_state : (w : World) → declarations_of w ≡ declared first_entries → state_of (record { world = w; proofs = []; attempt = None; all_subgoals = true; kept = [] }) ≡ plain.empty
+new_state w says = ap (λ D. record { declarations = D; attempt = None; all_subgoals = true; kept = [] }) says

@@ -1,0 +1,14 @@
+use Rattle.std.proofs.Common.{map}
+use Rattle.ab_grammar.specs.CommandTrees as told
+use Rattle.ab_states.specs.declared.reply.Reply.TheVariants.{Accepted}
+use Rattle.ab_session.specs.declared.kept.Kept.{Kept}
+use Rattle.ab_session.specs.Contents.{contents}
+use Rattle.ab_session.proofs.Effects.{kept_more, seen, meant, given_up_answer}
+use Rattle.ab_session.proofs.session.Session.abort.Goals as goal
+
+pub returns-clause-answer : goal.returns-clause-answer
+returns-clause-answer c =
+    let s = contents c.self.inside in
+    let more = kept_more (λ (k : Kept). k.bytes.items) c.self.inside.kept.items c.make_room.new.kept.items c.push_reserved.new.self.items c.in_ok-entry.entry c.args.bytes.now c.make_room.ensures.kept c.push_reserved.ensures.items c.in_ok-entry.ensures.command in
+    seen s c.args.self.now c.args.bytes.now _ Accepted c.self.view_is
+    (given_up_answer s c.args.bytes.now c.self.invariant (map (λ (k : Kept). k.bytes.items) c.push_reserved.new.self.items) more (meant s c.args.self.now c.args.bytes.now told.abort c.self.view_is c.requires))

@@ -1,0 +1,17 @@
+use Rattle.std.proofs.Common.{◌≡◌, sym, ap, ◌∙◌, subst}
+use Rattle.ab_command.specs.Reading.{Fails}
+use Rattle.ab_states.specs.State.{is_open}
+use Rattle.ab_states.specs.Reply as reply
+use Rattle.ab_states.specs.Effect.{HasEffect, unread}
+use Rattle.ab_session.specs.Contents.{contents, state_of}
+use Rattle.ab_session.proofs.Sayings.{open_as}
+use Rattle.ab_session.proofs.session.Session.accept.Goals as goal
+
+pub returns-in-Err-Refused-clause-effect : goal.returns-in-Err-Refused-clause-effect
+returns-in-Err-Refused-clause-effect g c =
+    let s = contents c.self.inside in
+    let cause = c.in-Err-Refused.cause in
+    let f : Fails c.args.command.now c.is_some.result cause = rw c.in-Err-Refused.field-0-is at c.in-Err-Refused.ensures.unread in
+    let e : c.is_some.result ≡ is_open (state_of c.args.self.now) = c.is_some.ensures ∙ sym (open_as s) ∙ ap (λ o. is_open (state_of o)) c.self.view_is in
+    subst (λ r. HasEffect (state_of c.args.self.now) c.args.command.now (reply.refused r) (state_of c.args.self.now)) (sym c.unread.ensures)
+    (unread cause (subst (λ b. Fails c.args.command.now b cause) e f))

@@ -1,0 +1,5 @@
+-- What a session holds, what is true of it, and what a command leaves of it.
+pub mod Contents
+pub mod Sessions
+pub mod Carrying
+pub mod Answers

@@ -1,0 +1,36 @@
+-- What is true of every session.
+use Rattle.std.specs.Prelude.{◌≡◌, ◌≢◌, ℕ, List, [], length, None, Some, IfSome, slice_get}
+use Rattle.ab_logic.specs.Declarations.{signature_in, theorem_in, theorems_in}
+use Rattle.ab_logic.specs.Formulas.{IsSentence}
+use Rattle.ab_logic.specs.Worlds.{read, Holds, declarations_of, IsWorld}
+use Rattle.ab_logic.specs.declared.world.World.{World}
+use Rattle.ab_kernel.specs.Derivation.{root, proves}
+use Rattle.ab_kernel.specs.Layout.{Held, history_of, IsProof}
+use Rattle.ab_progress.specs.Progress.{goals_of}
+use Rattle.ab_states.specs.Derived.{IsDerived}
+use Rattle.ab_session.specs.declared.attempt.Attempt.{Attempt}
+use Rattle.ab_session.specs.Contents.{Contents}
+
+-- THE PROOF OF A SENTENCE IS BEING MADE, under a name that no theorem has, and a goal is left
+pub record IsTried (w : World) (a : Attempt) : Type 0 where
+  pub proof : IsProof w a.proof
+  pub begins : root (history_of w a.proof).tree ≡ proves (read w a.formula) 0
+  pub held : Holds w a.formula
+  pub sentence : IsSentence (signature_in (declarations_of w)) (read w a.formula)
+  pub new_name : theorem_in (declarations_of w) a.name ≡ None
+  pub goals : goals_of w a.proof ≢ []
+
+-- THE THEOREM OF THIS PLACE IS DERIVED by the proof, from what was declared before it
+pub record IsProofOf (w : World) (place : ℕ) (p : Held) : Type 0 where
+  pub proof : IsProof w p
+  pub derived : IsDerived (declarations_of w) place (history_of w p).tree
+
+-- each theorem has its proof
+pub record AreProofs (w : World) (ps : List Held) : Type 0 where
+  pub counted : length ps ≡ length (theorems_in (declarations_of w))
+  pub each : (place : ℕ) (p : Held) → slice_get ps place ≡ Some p → IsProofOf w place p
+
+pub record IsSession (s : Contents) : Type 0 where
+  pub world : IsWorld s.world
+  pub proofs : AreProofs s.world s.proofs
+  pub attempt : IfSome s.attempt (IsTried s.world)

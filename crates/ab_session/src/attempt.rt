@@ -1,0 +1,14 @@
+//! A proof that is being made.
+
+use ab_kernel::Proof;
+use ab_name::Name;
+use ab_store::TermId;
+
+/// A proof that is being made, of the theorem of this name.
+#[derive(Drop)]
+pub struct Attempt {
+    pub(crate) name: Name,
+    /// What the theorem states.
+    pub(crate) formula: TermId,
+    pub(crate) proof: Proof,
+}

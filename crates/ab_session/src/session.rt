@@ -1,0 +1,374 @@
+//! A session: what the commands so far have led to.
+//!
+//! Every proof goes through the kernel, which alone makes derivations, and each theorem's proof stays as long as it does.
+ghost use Rattle.std.specs.Prelude.{◌≡◌, ◌↔◌, ◌<◌, ℕ, List, length, slice_get, is_some, IfOk, IfSome, IsSome, OnErr};
+ghost use Rattle.std.specs.Option.{option_map, option_copied};
+ghost use Rattle.ab_grammar.specs.CommandTrees as told;
+ghost use Rattle.ab_syntax.specs.Trees as trees;
+ghost use Rattle.ab_syntax.specs.Commands.{command_of, proof_command_of};
+ghost use Rattle.ab_logic.specs.Declarations.{theorems_in};
+ghost use Rattle.ab_logic.specs.Readings.{sequent_of, HoldsSequent};
+ghost use Rattle.ab_logic.specs.Worlds.{IsWorld};
+ghost use Rattle.ab_kernel.specs.Layout.{IsProof};
+ghost use Rattle.ab_declare.specs.declared.refusal.Refusal.{Refusal as ARefusal};
+ghost use Rattle.ab_declare.specs.Moments.{IsRestored};
+ghost use Rattle.ab_goals.specs.Goals.{named};
+ghost use Rattle.ab_states.specs.State.{empty, is_open, goals_of, goals_in};
+ghost use Rattle.ab_states.specs.Reply.{SpeaksOfNoGoal, reply_of};
+ghost use Rattle.ab_states.specs.Effect.{Commands, HasEffect};
+ghost use Rattle.ab_states.specs.declared.reply.Reply.TheVariants.{Completed, Refused};
+ghost use Rattle.ab_session.specs.Contents.{state_of};
+ghost use Rattle.ab_session.specs.Sessions.{IsProofOf};
+ghost use Rattle.ab_session.specs.Answers.{IsProvedLast, IsAnswer, IsBefore};
+
+use crate::advancing::{Outcome, advance};
+use crate::attempt::Attempt;
+use crate::kept::{Before, Kept, make_room};
+use crate::refusals::unread;
+use ab_command::{Command, Unread, read_command};
+use ab_declare::{Moment, Refusal, Statement, declare_constants, declare_kinds, state_formula};
+use ab_io::Files;
+use ab_kernel::Proof;
+use ab_logic::{Sequent, World};
+use ab_name::Name;
+use ab_states::Reply;
+use ab_store::TermId;
+use ab_syntax::{Parse, ProofCommand, TypeParse};
+use ab_types::Steps;
+use std::alloc::{AllocError, Global};
+use std::marker::Model;
+
+/// What the commands so far have led to.
+#[derive(Drop)]
+pub struct Session {
+    alloc: Global,
+    world: World,
+    /// Those of the theorems, in order.
+    proofs: Vec<Proof>,
+    attempt: Option<Attempt>,
+    all_subgoals: bool,
+    kept: Vec<Kept>,
+}
+
+impl Model for Session {
+    ghost use Rattle.std.specs.Coded.{codes};
+    ghost use Rattle.ab_types.specs.Codes.{entry_code};
+    ghost use Rattle.ab_session.specs.Contents.{Contents, contents};
+    ghost use Rattle.ab_session.specs.Sessions.{IsSession};
+
+    ghost Value = { Contents };
+
+    ghost coded = { Prim.hlevel (codes, entry_code) };
+
+    ghost view = { contents };
+
+    ghost invariant = { λ s. IsSession (contents s) };
+}
+
+impl Session {
+    /// A session before its first command.
+    pub fn new(alloc: Global) -> Result<Session, AllocError>
+        ensures { IfOk result (λ s. state_of s ≡ empty) }
+    {
+        Ok(Session {
+            alloc,
+            world: World::new(alloc)?,
+            proofs: Vec::new(alloc),
+            attempt: None,
+            all_subgoals: true,
+            kept: Vec::new(alloc),
+        })
+    }
+
+    /// How many commands are kept.
+    pub fn kept(&self) -> usize
+        ensures { result ≡ length (state_of self.now).kept }
+    {
+        self.kept.len()
+    }
+
+    /// How many theorems there are.
+    pub fn theorems(&self) -> usize
+        ensures { result ≡ length (theorems_in (state_of self.now).declarations) }
+    {
+        self.world.len()
+    }
+
+    /// What was declared, and the terms by which all is said.
+    pub fn world(&self) -> &World
+        ensures same { result.now ≡ self.now.world }
+        ensures world { IsWorld result.now }
+    {
+        &self.world
+    }
+
+    /// Whether the goals behind the current one are shown.
+    pub fn all_subgoals(&self) -> bool
+        ensures { result ≡ (state_of self.now).all_subgoals }
+    {
+        self.all_subgoals
+    }
+
+    /// The open proof, where one is open.
+    pub fn open_proof(&self) -> Option<&Proof>
+        ensures open { is_some (option_copied result) ≡ is_open (state_of self.now) }
+        ensures goals { goals_in self.now.world (option_copied result) ≡ goals_of (state_of self.now) }
+        ensures proof { IfSome (option_copied result) (IsProof self.now.world) }
+    {
+        match &self.attempt {
+            None => None,
+            Some(attempt) => Some(&attempt.proof),
+        }
+    }
+
+    /// The current goal: the first of the open proof.
+    pub fn goal(&self) -> Option<&Sequent>
+        ensures reads { option_map (λ s. named (sequent_of self.now.world s)) (option_copied result) ≡ slice_get (goals_of (state_of self.now)) 0 }
+        ensures held { IfSome (option_copied result) (HoldsSequent self.now.world) }
+    {
+        match &self.attempt {
+            None => None,
+            Some(attempt) => attempt.proof.current(),
+        }
+    }
+
+    /// The proof of the theorem of this place, counted from 0 in the order in which they were proved.
+    pub fn proof_of(&self, theorem: usize) -> Option<&Proof>
+        ensures there { IsSome (option_copied result) ↔ (theorem < length (theorems_in (state_of self.now).declarations)) }
+        ensures proof { IfSome (option_copied result) (IsProofOf self.now.world theorem) }
+    {
+        self.proofs.get(theorem)
+    }
+
+    /// Takes one command, its full stop included: the reply, and the next state. A command that is refused leaves the
+    /// session as it was, and so does want of memory. No file is read.
+    pub fn accept<F: Files, L>(
+        &mut self,
+        files: &mut F,
+        command: &[u8],
+        steps: &mut Steps<L>,
+    ) -> Result<Reply, AllocError>
+        ensures effect { IfOk result (λ reply. HasEffect (state_of self.old) command.now (reply_of self.new.world reply) (state_of self.new)) }
+        ensures reply { IfOk result (SpeaksOfNoGoal self.new.world) }
+        ensures completed { (name : List ℕ) → IfOk result (λ reply. reply ≡ Completed name → IsProvedLast (state_of self.new).declarations name) }
+        ensures refused { (r : ARefusal) → IfOk result (λ reply. reply ≡ Refused r → IsRestored self.old.world self.new.world) }
+        ensures err { OnErr result (state_of self.new ≡ state_of self.old) }
+        ensures files { files.new ≡ files.old }
+    {
+        let _ = files;
+        match read_command(self.alloc, command, self.attempt.is_some()) {
+            Ok(said) => self.carry_out(command, &said, steps),
+            Err(Unread::Refused(cause)) => Ok(Reply::Refused(unread(cause))),
+            Err(Unread::Memory(fault)) => Err(fault),
+        }
+    }
+
+    /// Carries out a command that the bytes say.
+    fn carry_out<L>(
+        &mut self,
+        bytes: &[u8],
+        command: &Command,
+        steps: &mut Steps<L>,
+    ) -> Result<Reply, AllocError>
+        requires { Commands (state_of self.old) bytes.now (command_of command.now) }
+        ensures answer { IfOk result (IsAnswer self.old bytes.now self.new) }
+        ensures err { OnErr result (state_of self.new ≡ state_of self.old) }
+    {
+        match command {
+            Command::Kind(names) => {
+                let names = names.as_slice();
+                self.declare_kinds(bytes, names, steps)
+            }
+            Command::Typed(names, parse) => {
+                let names = names.as_slice();
+                self.declare_constants(bytes, names, parse, steps)
+            }
+            Command::Theorem(name, parse) => self.state_theorem(bytes, name, parse, steps),
+            Command::Show(name) => self.show(bytes, name),
+            Command::Quit => Ok(Reply::Quit),
+            Command::Subgoals(on) => self.set_subgoals(bytes, *on),
+            Command::Abort => self.abort(bytes),
+            Command::InProof(label, command) => {
+                let label = label.as_ref();
+                self.prove(bytes, label, command, steps)
+            }
+            _ => unreachable!(),
+        }
+    }
+
+    /// How the session is now, so far as it takes to come back here.
+    fn before(&self) -> Before
+        ensures { IsBefore self.now result }
+    {
+        let steps = match &self.attempt {
+            None => 0,
+            Some(attempt) => attempt.proof.steps(),
+        };
+        Before {
+            moment: Moment::of(&self.world),
+            steps,
+            all_subgoals: self.all_subgoals,
+        }
+    }
+
+    /// `Kind w, .., w type`
+    fn declare_kinds<L>(
+        &mut self,
+        bytes: &[u8],
+        names: &[Name],
+        steps: &mut Steps<L>,
+    ) -> Result<Reply, AllocError>
+        requires { Commands (state_of self.old) bytes.now (told.kinds names.now) }
+        ensures answer { IfOk result (IsAnswer self.old bytes.now self.new) }
+        ensures err { OnErr result (state_of self.new ≡ state_of self.old) }
+    {
+        let before = self.before();
+        let entry = make_room(self.alloc, &mut self.kept, bytes, before)?;
+        match declare_kinds(self.alloc, &mut self.world, names, steps)? {
+            Some(refusal) => Ok(Reply::Refused(refusal)),
+            None => {
+                self.kept.push_reserved(entry);
+                Ok(Reply::Accepted)
+            }
+        }
+    }
+
+    /// `Type w, .., w ty`
+    fn declare_constants<L>(
+        &mut self,
+        bytes: &[u8],
+        names: &[Name],
+        parse: &TypeParse,
+        steps: &mut Steps<L>,
+    ) -> Result<Reply, AllocError>
+        requires { Commands (state_of self.old) bytes.now (told.constants names.now (trees.type_of parse.now)) }
+        ensures answer { IfOk result (IsAnswer self.old bytes.now self.new) }
+        ensures err { OnErr result (state_of self.new ≡ state_of self.old) }
+    {
+        let before = self.before();
+        let entry = make_room(self.alloc, &mut self.kept, bytes, before)?;
+        match declare_constants(self.alloc, &mut self.world, names, parse, steps)? {
+            Some(refusal) => Ok(Reply::Refused(refusal)),
+            None => {
+                self.kept.push_reserved(entry);
+                Ok(Reply::Accepted)
+            }
+        }
+    }
+
+    /// A theorem that is stated: its proof begins.
+    fn state_theorem<L>(
+        &mut self,
+        bytes: &[u8],
+        name: &Name,
+        parse: &Parse,
+        steps: &mut Steps<L>,
+    ) -> Result<Reply, AllocError>
+        requires { Commands (state_of self.old) bytes.now (told.theorem name.now (trees.tree_of parse.now)) }
+        ensures answer { IfOk result (IsAnswer self.old bytes.now self.new) }
+        ensures err { OnErr result (state_of self.new ≡ state_of self.old) }
+    {
+        let before = self.before();
+        let entry = make_room(self.alloc, &mut self.kept, bytes, before)?;
+        let copy = name.copy(self.alloc)?;
+        match state_formula(self.alloc, &mut self.world, name, parse, steps)? {
+            Statement::Refused(refusal) => Ok(Reply::Refused(refusal)),
+            Statement::Formula(formula) => {
+                let proof = Proof::start(self.alloc, &self.world, formula, 0)?;
+                self.kept.push_reserved(entry);
+                self.attempt = Some(Attempt {
+                    name: copy,
+                    formula,
+                    proof,
+                });
+                Ok(Reply::Accepted)
+            }
+        }
+    }
+
+    /// `Show w`
+    fn show(&self, bytes: &[u8], name: &Name) -> Result<Reply, AllocError>
+        requires { Commands (state_of self.now) bytes.now (told.show name.now) }
+        ensures { IfOk result (IsAnswer self.now bytes.now self.now) }
+    {
+        let _ = bytes;
+        let copy = name.copy(self.alloc)?;
+        match self.world.theorem(name) {
+            Some(formula) => Ok(Reply::Shown(copy, formula)),
+            None => Ok(Reply::Refused(Refusal::Unknown(copy, None))),
+        }
+    }
+
+    /// `Set subgoals on`, or off.
+    fn set_subgoals(&mut self, bytes: &[u8], on: bool) -> Result<Reply, AllocError>
+        requires { Commands (state_of self.old) bytes.now (told.subgoals on) }
+        ensures answer { IfOk result (IsAnswer self.old bytes.now self.new) }
+        ensures err { OnErr result (state_of self.new ≡ state_of self.old) }
+    {
+        let before = self.before();
+        let entry = make_room(self.alloc, &mut self.kept, bytes, before)?;
+        self.kept.push_reserved(entry);
+        self.all_subgoals = on;
+        Ok(Reply::Accepted)
+    }
+
+    /// `abort`: the open proof ends without a theorem.
+    fn abort(&mut self, bytes: &[u8]) -> Result<Reply, AllocError>
+        requires { Commands (state_of self.old) bytes.now told.abort }
+        ensures answer { IfOk result (IsAnswer self.old bytes.now self.new) }
+        ensures err { OnErr result (state_of self.new ≡ state_of self.old) }
+    {
+        let before = self.before();
+        let entry = make_room(self.alloc, &mut self.kept, bytes, before)?;
+        self.kept.push_reserved(entry);
+        self.attempt = None;
+        Ok(Reply::Accepted)
+    }
+
+    /// A proof command, with the label before it.
+    fn prove<L>(
+        &mut self,
+        bytes: &[u8],
+        label: Option<&Name>,
+        command: &ProofCommand,
+        steps: &mut Steps<L>,
+    ) -> Result<Reply, AllocError>
+        requires { Commands (state_of self.old) bytes.now (told.in_proof (option_copied label) (proof_command_of command.now)) }
+        ensures answer { IfOk result (IsAnswer self.old bytes.now self.new) }
+        ensures err { OnErr result (state_of self.new ≡ state_of self.old) }
+    {
+        let before = self.before();
+        let entry = make_room(self.alloc, &mut self.kept, bytes, before)?;
+        self.proofs.reserve(1)?;
+        let Some(mut attempt) = self.attempt.take() else {
+            unreachable!()
+        };
+        match advance(
+            self.alloc,
+            &mut self.world,
+            &mut attempt,
+            label,
+            command,
+            steps,
+        ) {
+            Ok(Outcome::Completed) => {
+                self.kept.push_reserved(entry);
+                self.proofs.push_reserved(attempt.proof);
+                Ok(Reply::Completed(attempt.name))
+            }
+            Ok(Outcome::Left) => {
+                self.kept.push_reserved(entry);
+                self.attempt = Some(attempt);
+                Ok(Reply::Accepted)
+            }
+            Ok(Outcome::Refused(refusal)) => {
+                self.attempt = Some(attempt);
+                Ok(Reply::Refused(refusal))
+            }
+            Err(fault) => {
+                self.attempt = Some(attempt);
+                Err(fault)
+            }
+        }
+    }
+}

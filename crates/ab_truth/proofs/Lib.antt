@@ -1,9 +1,0 @@
-pub mod Splits
-pub mod Placing
-pub mod Reading
-pub mod Refining
-pub mod Standing
-pub mod Taking
-pub mod TakingApart
-pub mod TakingBack
-pub mod Truths

@@ -1,6 +1,0 @@
-pub mod Formula
-pub mod Rules
-pub mod Derivation
-pub mod Truth
-pub mod Code
-pub mod Layout
