@@ -2,7 +2,6 @@
 use Rattle.std.specs.Prelude.{IfSome, Result, Ok, Err, OnErr}
 use Rattle.std.proofs.Common.{◌≡◌, ◌≢◌, ℕ, List, [], ◌∷◌, ◌++◌, ◌+◌, suc, length, Option, Some, None, refl, sym, ◌∙◌, ap, subst, arith, append-nil, length-append}
 use Rattle.std.proofs.lemmas.List.{length-map}
-use Rattle.ab_store.specs.Trees.{Read}
 use Rattle.ab_grammar.specs.CommandTrees as told
 use Rattle.ab_grammar.specs.CommandTrees.{ProofCommand}
 use Rattle.ab_logic.specs.Declarations.{Declarations, a_theorem, signature_in, theorem_in, theorems_in}
@@ -14,7 +13,7 @@ use Rattle.ab_logic.specs.Worlds.{read, Holds, declarations_of, IsWorld}
 use Rattle.ab_logic.specs.declared.world.World.{World}
 use Rattle.ab_logic.proofs.Declaring.{theorems_are}
 use Rattle.ab_logic.proofs.Growing.{grows_on}
-use Rattle.ab_kernel.specs.Derivation.{History, Valid, root, proves, open_goals, IsDerivation}
+use Rattle.ab_kernel.specs.Derivation.{History, Valid, open_goals, IsDerivation}
 use Rattle.ab_kernel.specs.Layout.{Held, history_of, IsProof}
 use Rattle.ab_kernel.proofs.Later.{same_history, still_proof}
 use Rattle.ab_effects.specs.Effect.{effect}

@@ -1,6 +1,6 @@
 -- The effects of commands on a session, from what the calls below say.
-use Rattle.std.specs.Prelude.{slice_get, IfSome}
-use Rattle.std.proofs.Common.{◌≡◌, ◌≢◌, ℕ, ◌+◌, Bool, List, [], ◌∷◌, ◌++◌, length, map, Option, Some, None, option_map, refl, sym, ◌∙◌, ap, subst}
+use Rattle.std.specs.Prelude.{IfSome}
+use Rattle.std.proofs.Common.{◌≡◌, ◌≢◌, ℕ, Bool, List, [], ◌∷◌, ◌++◌, length, map, Option, Some, None, option_map, refl, sym, ◌∙◌, ap, subst}
 use Rattle.std.proofs.lemmas.List.{map-append}
 use Rattle.std.specs.List.{All}
 use Rattle.std.proofs.lemmas.List.Elements.{All-head}
@@ -9,14 +9,13 @@ use Rattle.ab_grammar.specs.declared.head.Stand.TheVariants.{Outside}
 use Rattle.ab_grammar.specs.CommandTrees as told
 use Rattle.ab_grammar.specs.CommandTable.{standing}
 use Rattle.ab_grammar.specs.CommandTrees.{Command, ProofCommand}
-use Rattle.ab_store.specs.Trees.{Read}
 use Rattle.ab_store.specs.declared.node.TermId.{TermId}
 use Rattle.ab_term.specs.Variables.{variables}
-use Rattle.ab_logic.specs.Declarations.{Declarations, a_theorem, signature_in, theorem_in, theorems_in}
+use Rattle.ab_logic.specs.Declarations.{a_theorem, signature_in, theorem_in, theorems_in}
 use Rattle.ab_logic.specs.Formulas.{IsSentence}
 use Rattle.ab_logic.specs.Growth.{Grows}
 use Rattle.ab_logic.specs.Sequents.{Sequent, IsSequent}
-use Rattle.ab_logic.specs.Worlds.{read, Holds, declarations_of, IsWorld}
+use Rattle.ab_logic.specs.Worlds.{read, Holds, declarations_of}
 use Rattle.ab_logic.specs.declared.world.World.{World}
 use Rattle.ab_kernel.specs.Derivation.{History, root, proves, open_goals, beginning}
 use Rattle.ab_kernel.specs.Layout.{Held, history_of, IsProof}
@@ -25,7 +24,7 @@ use Rattle.ab_command.specs.declared.fault.Cause.{Cause}
 use Rattle.ab_command.specs.Reading.{Fails}
 use Rattle.ab_progress.specs.Progress.{goals_of}
 use Rattle.ab_progress.proofs.Following.{one_at_least}
-use Rattle.ab_goals.specs.Goals.{Goal, named}
+use Rattle.ab_goals.specs.Goals.{named}
 use Rattle.ab_declare.specs.declared.refusal.Refusal.{Refusal}
 use Rattle.ab_declare.specs.declared.refusal.Refusal.TheVariants.{Unknown}
 use Rattle.ab_declare.specs.Answers.{IsDeclared, IsDeclined, IsStated}
@@ -44,7 +43,7 @@ use Rattle.ab_states.specs.declared.reply.Reply.TheVariants.{Accepted, Completed
 use Rattle.ab_session.specs.declared.attempt.Attempt.{Attempt}
 use Rattle.ab_session.specs.Contents.{Contents, attempt_of, state_of}
 use Rattle.ab_session.specs.Sessions.{IsTried, AreProofs, IsSession}
-use Rattle.ab_session.specs.Carrying.{IsMade, IsUnchanged, GoesOn, IsCompleted, IsRefusedSo}
+use Rattle.ab_session.specs.Carrying.{IsUnchanged, GoesOn, IsCompleted, IsRefusedSo}
 use Rattle.ab_session.specs.Answers.{IsProvedLast, IsAnswer}
 use Rattle.ab_session.proofs.Sayings.{none_tried}
 use Rattle.ab_session.proofs.Sessions.{as_many, later_proofs, same_proofs, proved_proofs, same_session, same_state, in_world, one_more}

@@ -1,5 +1,5 @@
 -- The state behind a command is the one that its kept commands lead to.
-use Rattle.std.proofs.Common.{◌≡◌, ℕ, Bool, true, false, List, [], ◌∷◌, ◌++◌, refl}
+use Rattle.std.proofs.Common.{◌≡◌, ℕ, true, List, [], ◌∷◌, ◌++◌, refl}
 use Rattle.ab_states.specs.State.{State, empty}
 use Rattle.ab_states.specs.Reply.{Reply, is_kept}
 use Rattle.ab_states.specs.Effect.{HasEffect, unread, declined, declared, stated, showed, ended, switched, given_up, denied, led, proved}

@@ -1,6 +1,5 @@
 -- Where commands stand that the bytes say, and which of them are built.
-use Rattle.std.specs.Prelude.{IfSome}
-use Rattle.std.proofs.Common.{◌≡◌, ℕ, Bool, true, false, List, length, Option, Some, None, is_some, option_map, refl, sym, ◌∙◌, ap, subst}
+use Rattle.std.proofs.Common.{◌≡◌, ℕ, Bool, true, false, List, Option, Some, None, is_some, option_map, refl, sym, ◌∙◌, subst}
 use Rattle.ab_grammar.specs.declared.head.Stand.TheVariants.{Outside, Inside}
 use Rattle.ab_grammar.specs.Tree.{Tree, Trees, name, apply, abs, join, bind, judge, no_trees, tree}
 use Rattle.ab_grammar.specs.CommandTrees as told
@@ -13,12 +12,11 @@ use Rattle.ab_syntax.specs.Trees.{tree_of}
 use Rattle.ab_elaborate.specs.Judgements as elaborated
 use Rattle.ab_command.specs.Built.{IsBuiltInProof}
 use Rattle.ab_command.specs.Judgements.{HasNoJudgement, HaveNoJudgement}
-use Rattle.ab_command.specs.Reading.{StandsHere, Says}
+use Rattle.ab_command.specs.Reading.{StandsHere}
 use Rattle.ab_command.proofs.Sayings.{said_stands}
 use Rattle.ab_proofcmd.specs.Built.{IsBuilt}
 use Rattle.ab_states.specs.State.{is_open}
 use Rattle.ab_states.specs.Effect.{Commands}
-use Rattle.ab_session.specs.declared.attempt.Attempt.{Attempt}
 use Rattle.ab_session.specs.Contents.{Contents, attempt_of, state_of}
 
 some_mapped : {X Y : Type 0} (f : X → Y) (o : Option X) → is_some (option_map f o) ≡ is_some o

@@ -1,18 +1,16 @@
 -- What stays true of a session where its world grows.
 use Rattle.std.specs.Prelude.{slice_get, IfSome}
-use Rattle.std.proofs.Common.{◌≡◌, ◌≢◌, ◌⊎◌, inl, inr, true, ℕ, zero, suc, ◌+◌, List, [], ◌∷◌, ◌++◌, length, map, Option, Some, None, option_map, refl, sym, ◌∙◌, ap, subst, append_assoc, append-nil, length-append, arith}
+use Rattle.std.proofs.Common.{◌≡◌, ◌⊎◌, inl, inr, true, ℕ, zero, suc, ◌+◌, List, [], ◌∷◌, ◌++◌, length, map, Option, Some, None, option_map, refl, sym, ◌∙◌, ap, subst, append_assoc, append-nil, length-append}
 use Rattle.ab_term.specs.Types.{Ty}
 use Rattle.ab_types.specs.Entries.{first_entries}
 use Rattle.ab_store.specs.Trees.{Read}
 use Rattle.ab_grammar.specs.CommandTrees.{Command}
-use Rattle.ab_logic.specs.Declarations.{Declarations, Extends, a_kind, a_constant, a_theorem, signature_in, theorem_in, theorems_in}
+use Rattle.ab_logic.specs.Declarations.{Declarations, a_kind, a_constant, a_theorem, signature_in, theorem_in, theorems_in}
 use Rattle.ab_logic.specs.Formulas.{IsSentence}
 use Rattle.ab_logic.specs.Growth.{Grows}
-use Rattle.ab_logic.specs.Sequents.{Sequent}
 use Rattle.ab_logic.specs.Worlds.{read, declared, declarations_of, IsWorld}
 use Rattle.ab_logic.specs.declared.world.World.{World}
 use Rattle.ab_logic.proofs.Declaring.{theorems_in-append, theorems-declared}
-use Rattle.ab_logic.proofs.Growing.{grows_not, grows_on}
 use Rattle.ab_kernel.specs.Derivation.{Derivation, History, root, proves, open_goals, IsDerivation}
 use Rattle.ab_kernel.specs.Layout.{Held, history_of, IsProof}
 use Rattle.ab_kernel.proofs.Later.{same_history, still_proof}

@@ -1,5 +1,5 @@
 -- What a proof command does to a proof, and to an attempt. Public contracts don't speak of this.
-use Rattle.std.specs.Prelude.{◌≡◌, ◌≢◌, List, [], ◌∷◌, ◌++◌, None}
+use Rattle.std.specs.Prelude.{◌≡◌, ◌≢◌, List, [], ◌∷◌, ◌++◌}
 use Rattle.ab_grammar.specs.CommandTrees.{ProofCommand}
 use Rattle.ab_logic.specs.Declarations.{a_theorem}
 use Rattle.ab_logic.specs.Growth.{Grows}

@@ -10,6 +10,3 @@ mod refusals;
 mod session;
 
 pub use session::Session;
-
-#[cfg(test)]
-mod tests;
