@@ -1,5 +1,5 @@
 -- One step, from the rule that was carried out.
-use Rattle.std.proofs.Common.{◌≡◌, ℕ, List, [], ◌∷◌, ◌++◌, map, Option, Some, None, codes, refl, sym, ◌∙◌, ap, subst, append_assoc}
+use Rattle.std.proofs.Common.{◌≡◌, ℕ, List, [], ◌∷◌, ◌++◌, map, Some, None, sym, ◌∙◌, ap, subst, append_assoc}
 use Rattle.std.specs.Prelude.{Vec}
 use Rattle.std.specs.Global.{Global}
 use Rattle.std.proofs.lemmas.List.{map-append}
@@ -9,14 +9,13 @@ use Rattle.ab_types.specs.Entries.{Table}
 use Rattle.ab_store.specs.declared.node.CellId.{CellId}
 use Rattle.ab_store.specs.Trees.{Contents}
 use Rattle.ab_patterns.specs.declared.equation.Numbered.{Numbered}
-use Rattle.ab_solve.specs.Solving.{State, Equation, unified, apart, stuck, Found, clash, parts, replaced, image_of, Next, finished, goes_on, next, next_by, ending, carried}
+use Rattle.ab_solve.specs.Solving.{State, Equation, unified, image_of, Next, finished, goes_on, next_by, ending, carried}
 use Rattle.ab_unifying.specs.declared.ruling.Step.TheVariants.{NoRule, Clash, Parts, Replaced}
 use Rattle.ab_unifying.specs.Problem.{cells_read, variables_read}
 use Rattle.ab_unifying.specs.Changed.{Changed}
 use Rattle.ab_unifying.specs.Outcome.{equation_read}
-use Rattle.ab_solver.specs.declared.verdict.Verdict.{Verdict}
-use Rattle.ab_solver.specs.declared.verdict.Verdict.TheVariants.{Unified, Apart, Stuck}
-use Rattle.ab_solver.specs.States.{state_of, found_in, Reaches, Settles, IsStep, verdict_on, Advances}
+use Rattle.ab_solver.specs.declared.verdict.Verdict.TheVariants.{Apart}
+use Rattle.ab_solver.specs.States.{state_of, found_in, Settles, IsStep, verdict_on, Advances}
 use Rattle.ab_solver.proofs.Keeping.{Keeps, reaches_then, reaches_on}
 
 abbrev Equations : Type 0

@@ -1,9 +1,8 @@
 -- What an answer says of its problem: the laws of the rules, on shared terms.
-use Rattle.std.proofs.Common.{◌≡◌, ◌↔◌, ℕ, ◌+◌, ◌≤◌, List, [], ◌∷◌, map, Some, codes, refl, sym, ◌∙◌, ap, subst}
+use Rattle.std.proofs.Common.{◌≡◌, ◌↔◌, ℕ, ◌+◌, ◌≤◌, List, [], ◌∷◌, codes, refl, sym, ◌∙◌, ap, subst}
 use Rattle.std.specs.Prelude.{All}
 use Rattle.std.proofs.lemmas.List.Elements.{All-nil, All-cons, All-head, All-tail}
 use Rattle.ab_term.specs.Types.{Ty}
-use Rattle.ab_term.specs.Typing.{HasType}
 use Rattle.ab_term.specs.Translation.{forget, EqualPastHints}
 use Rattle.ab_term.specs.Variables.{Substitution, image, IsTyped}
 use Rattle.ab_term.specs.Sameness.{same_number}

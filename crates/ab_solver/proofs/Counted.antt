@@ -1,6 +1,6 @@
 -- How many rules a step carries out.
-use Rattle.std.proofs.Common.{◌≡◌, ℕ, suc, ◌+◌, ◌≤◌, Option, Some, None, refl, sym, ◌∙◌, ap, subst, arith}
-use Rattle.ab_solve.specs.Solving.{State, Answer, unified, apart, stuck, rule, first_found, Next, finished, goes_on, next_by, next, ending}
+use Rattle.std.proofs.Common.{◌≡◌, ℕ, suc, ◌≤◌, None, refl, sym, ◌∙◌, ap, subst, arith}
+use Rattle.ab_solve.specs.Solving.{State, Answer, apart, rule, first_found, finished, goes_on, next_by, next, ending}
 use Rattle.ab_solve.proofs.Unique.{not_both, one_step}
 use Rattle.ab_solver.specs.Counting.{Takes, no_rule, last_rule, one_rule}
 

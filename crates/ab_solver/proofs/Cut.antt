@@ -1,5 +1,5 @@
 -- A store that is cut back to where it was, and what is said of the answers that leave it otherwise.
-use Rattle.std.proofs.Common.{◌≡◌, ◌<◌, ◌≤◌, ℕ, List, map, take, length, Bool, true, false, Result, Ok, Err, IfOk, refl, sym, ◌∙◌, ap, subst, arith, take_all}
+use Rattle.std.proofs.Common.{◌≡◌, ◌<◌, ◌≤◌, List, take, length, true, false, Result, Ok, Err, IfOk, sym, ◌∙◌, ap, subst, arith, take_all}
 use Rattle.ab_types.specs.Entries.{Table}
 use Rattle.ab_store.specs.declared.node.Node.{Node}
 use Rattle.ab_store.specs.declared.node.TermId.{TermId}

@@ -1,9 +1,8 @@
 -- One change after another, and stores that have only got terms.
-use Rattle.std.proofs.Common.{◌≡◌, ◌⊎◌, inl, inr, ℕ, zero, suc, ◌<◌, List, [], ◌∷◌, ◌++◌, map, length, None, codes, refl, sym, ◌∙◌, ap, subst, arith}
+use Rattle.std.proofs.Common.{◌≡◌, ◌⊎◌, inl, inr, ℕ, zero, suc, ◌<◌, List, [], ◌∷◌, map, length, codes, refl, sym, ◌∙◌, ap, subst, arith}
 use Rattle.std.specs.Prelude.{All, Contains}
 use Rattle.std.proofs.lemmas.List.Elements.{All-nil, All-cons, All-head, All-tail, All-weaker}
 use Rattle.ab_term.specs.Types.{Ty}
-use Rattle.ab_term.specs.Terms.{Variable, Term}
 use Rattle.ab_term.specs.Variables.{Substitution, image, composition}
 use Rattle.ab_term.specs.Sameness.{same_number}
 use Rattle.ab_term.proofs.Compositions.{image-composition, composition_typed}
@@ -16,7 +15,7 @@ use Rattle.ab_store.specs.Naming.{IsTypedBy, IsTerm}
 use Rattle.ab_store.proofs.Putting.{read_typed}
 use Rattle.ab_patterns.specs.declared.equation.Numbered.{Numbered}
 use Rattle.ab_solve.specs.Replacing.{Change}
-use Rattle.ab_solve.specs.Solving.{Equation, image_of, rule, unchanged}
+use Rattle.ab_solve.specs.Solving.{image_of, rule, unchanged}
 use Rattle.ab_solve.proofs.Ruling.{image_none}
 use Rattle.ab_unifying.specs.Problem.{cells_read, variables_read}
 use Rattle.ab_unifying.specs.Changed.{Grows, IsFree, Changed}

@@ -1,5 +1,5 @@
 -- The cells that a run made are those that were bound since or may still be replaced, but for the given ones.
-use Rattle.std.proofs.Common.{◌≡◌, ◌≢◌, ◌⊎◌, ◌↔◌, inl, inr, ℕ, ◌<◌, List, [], ◌∷◌, ◌++◌, map, take, drop, length, get_or, Bool, true, false, cond, ◌==◌, Option, Some, None, refl, sym, ◌∙◌, ap, subst, arith, take-append-drop}
+use Rattle.std.proofs.Common.{◌≡◌, ◌≢◌, ◌⊎◌, ◌↔◌, inl, inr, ℕ, List, [], ◌∷◌, ◌++◌, map, drop, length, Bool, true, false, cond, ◌==◌, Option, Some, None, refl, sym, ◌∙◌, ap, subst, take-append-drop}
 use Rattle.std.specs.Prelude.{All, AllPairs, Contains}
 use Rattle.std.specs.Cmp.{unsigned_Decides}
 use Rattle.std.proofs.lemmas.List.{map-append}
@@ -13,7 +13,6 @@ use Rattle.ab_store.specs.Trees.{Contents, HoldsCell}
 use Rattle.ab_store.specs.Reading.{bound_in}
 use Rattle.ab_store.specs.Bindings.{AreInOrder}
 use Rattle.ab_store.specs.Naming.{BindingIsTyped}
-use Rattle.ab_store.proofs.Putting.{is_bound}
 use Rattle.ab_solve.specs.Replacing.{Change}
 use Rattle.ab_unifying.specs.Changed.{IsFree, Changed}
 use Rattle.ab_unifying.proofs.Growth.{front_bindings, was_unbound}

@@ -1,8 +1,7 @@
 -- The variables of what a term reads as are cells of its store.
-use Rattle.std.proofs.Common.{◌≡◌, ℕ, zero, suc, ◌<◌, List, [], ◌∷◌, map, length, get_or, Bool, true, false, cond, Option, Some, None, refl, sym, ◌∙◌, subst, arith}
+use Rattle.std.proofs.Common.{◌≡◌, ℕ, zero, suc, ◌<◌, List, [], ◌∷◌, map, length, get_or, Bool, true, false, cond, Some, sym, subst, arith}
 use Rattle.std.specs.Prelude.{All}
 use Rattle.std.proofs.lemmas.List.Elements.{All-nil, All-cons, All-head, All-tail, All-map, All-weaker}
-use Rattle.ab_term.specs.Types.{Ty}
 use Rattle.ab_term.specs.Terms as tree
 use Rattle.ab_term.specs.Terms.{Variable, Term, terms_of}
 use Rattle.ab_term.specs.Variables.{Substitution, variables, value_in, image, one_by_one}
@@ -10,13 +9,11 @@ use Rattle.ab_term.specs.Sameness.{same_numbered, same_number}
 use Rattle.ab_term.proofs.Standing.{HeadHas, Has, AllHave, image_by_has}
 use Rattle.ab_term.proofs.Stands.{Either, has_variables}
 use Rattle.ab_types.specs.Entries.{Table}
-use Rattle.ab_types.specs.Ids.{type_of}
 use Rattle.ab_store.specs.declared.node.TermId.{TermId}
 use Rattle.ab_store.specs.declared.node.Head.{Head}
 use Rattle.ab_store.specs.declared.node.Head.TheVariants.{Const, Logic, Nominal, Cell, Index}
 use Rattle.ab_store.specs.declared.node.Node.{Node}
 use Rattle.ab_store.specs.declared.node.Node.TheVariants.{Lam, Spine}
-use Rattle.ab_store.specs.declared.node.Binding.{Binding}
 use Rattle.ab_store.specs.Trees.{Read, Contents, Holds, head_in, tree_of, node_tree}
 use Rattle.ab_store.specs.Reading.{pairs, reading}
 use Rattle.ab_store.specs.Naming.{HeadNames, NodeNames, BindingIsTyped, IsTypedBy}

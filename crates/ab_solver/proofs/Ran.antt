@@ -1,5 +1,5 @@
 -- A whole run, one step after another.
-use Rattle.std.proofs.Common.{◌≡◌, ℕ, ◌+◌, ◌<◌, ◌≤◌, List, [], Option, Some, None, codes, refl, arith}
+use Rattle.std.proofs.Common.{ℕ, ◌+◌, ◌<◌, ◌≤◌, List, [], Some, None, codes, refl, arith}
 use Rattle.std.specs.Prelude.{All}
 use Rattle.ab_term.specs.Variables.{Substitution}
 use Rattle.ab_types.specs.Entries.{Table}
@@ -7,7 +7,7 @@ use Rattle.ab_store.specs.declared.node.CellId.{CellId}
 use Rattle.ab_store.specs.Trees.{Contents}
 use Rattle.ab_store.specs.Naming.{IsTypedBy}
 use Rattle.ab_patterns.specs.declared.equation.Numbered.{Numbered}
-use Rattle.ab_solve.specs.Solving.{Answer, unified, apart, stuck, Solves, at_end, by_step}
+use Rattle.ab_solve.specs.Solving.{Answer, Solves, at_end, by_step}
 use Rattle.ab_solve.proofs.Ending.{steps_left}
 use Rattle.ab_unifying.specs.Changed.{IsFree}
 use Rattle.ab_unifying.proofs.Put.{starts}

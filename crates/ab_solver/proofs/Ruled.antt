@@ -1,5 +1,5 @@
 -- All rules, from those that replace no variable and the others.
-use Rattle.std.proofs.Common.{◌≡◌, ℕ, List, map, Option, Some, None, codes, refl, sym, ◌∙◌, ap, subst}
+use Rattle.std.proofs.Common.{◌≡◌, ℕ, List, Option, Some, None, codes, refl, ◌∙◌, ap, subst}
 use Rattle.std.specs.Prelude.{All}
 use Rattle.ab_term.specs.Terms.{Variable}
 use Rattle.ab_types.specs.Entries.{Table}

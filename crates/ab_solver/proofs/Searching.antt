@@ -1,24 +1,23 @@
 -- The search for the first equation to which a rule applies.
 use Rattle.std.proofs.Common.{◌≡◌, ℕ, suc, List, [], ◌∷◌, ◌++◌, map, drop, length, arith, Option, Some, None, codes, refl, sym, ◌∙◌, ap, subst, append_assoc, append-nil}
-use Rattle.std.specs.Prelude.{All, Contains, Vec}
+use Rattle.std.specs.Prelude.{All, Vec}
 use Rattle.std.specs.Global.{Global}
 use Rattle.std.proofs.lemmas.List.{map-append}
 use Rattle.std.proofs.lemmas.List.Elements.{All-contains, All-append, All-map, All-push, Contains-append_left, Contains-append_right}
-use Rattle.ab_term.proofs.Lists.{Contains-here, Contains-there, All-from_contains}
+use Rattle.ab_term.proofs.Lists.{Contains-here, All-from_contains}
 use Rattle.ab_types.specs.Entries.{Table}
 use Rattle.ab_store.specs.declared.node.CellId.{CellId}
 use Rattle.ab_store.specs.Trees.{Contents}
 use Rattle.ab_store.specs.Naming.{IsTypedBy}
 use Rattle.ab_patterns.specs.declared.equation.Numbered.{Numbered}
-use Rattle.ab_solve.specs.Replacing.{Change}
-use Rattle.ab_solve.specs.Solving.{Equation, Result, clash, parts, replaced, image_of, rule, Found, first_found}
+use Rattle.ab_solve.specs.Solving.{Equation, Result, clash, parts, replaced, rule, Found, first_found}
 use Rattle.ab_unifying.specs.declared.ruling.Step.{Step}
 use Rattle.ab_unifying.specs.declared.ruling.Step.TheVariants.{NoRule, Clash, Parts, Replaced}
 use Rattle.ab_unifying.specs.Problem.{cells_read, variables_read}
-use Rattle.ab_unifying.specs.Changed.{Grows, IsFree, Changed}
+use Rattle.ab_unifying.specs.Changed.{IsFree, Changed}
 use Rattle.ab_unifying.specs.Outcome.{equation_read, IsTypedEquation, still, Tells}
-use Rattle.ab_solver.specs.States.{IsAtRest, found_in, FindsBetween, UnlessReplaced, Settles}
-use Rattle.ab_solver.proofs.Keeping.{Keeps, keeps_itself, still_same, keeps_then, keeps_on, keeps_equation, keeps_equations, rest_on, all_rest_on, typed_equation, typed_equations, changed_equations}
+use Rattle.ab_solver.specs.States.{IsAtRest, found_in, Settles}
+use Rattle.ab_solver.proofs.Keeping.{Keeps, keeps_itself, still_same, keeps_then, keeps_on, keeps_equations, rest_on, all_rest_on, typed_equations, changed_equations}
 use Rattle.ab_solver.proofs.Finding.{found_first, found_none}
 
 -- no rule was found so far: these equations wait, and those are left

@@ -1,4 +1,4 @@
-use Rattle.std.proofs.Common.{◌⊎◌, ◌↔◌, ◌+◌, ◌<◌, ◌≤◌, [], map, take, length, sym, subst, arith, take_all}
+use Rattle.std.proofs.Common.{◌⊎◌, ◌↔◌, ◌+◌, ◌<◌, [], map, take, sym, subst, arith, take_all}
 use Rattle.std.specs.Prelude.{AllPairs, Contains}
 use Rattle.ab_store.specs.declared.node.Binding.{Binding}
 use Rattle.ab_store.specs.declared.node.CellId.{CellId}
