@@ -1,0 +1,4 @@
+mod Kept
+mod Closings
+mod Over
+mod Splitting

@@ -1,0 +1,4 @@
+-- Clauses that are closed: variables that stand in the body alone become bound names.
+pub mod Quantified
+pub mod Closed
+pub mod Remembering
