@@ -1,5 +1,6 @@
 """Runs the program over a script and tells its time, its peak memory and its status."""
 import os
+import resource
 import subprocess
 import sys
 import tempfile
@@ -13,13 +14,19 @@ def program():
     return sys.argv[1] if len(sys.argv) > 1 else f"{ROOT}/bin/abella"
 
 
+def with_all_stack():
+    """As bin/abella does: the stack may be as large as the system allows, since recursion goes by the depth of terms."""
+    hard = resource.getrlimit(resource.RLIMIT_STACK)[1]
+    resource.setrlimit(resource.RLIMIT_STACK, (hard, hard))
+
+
 def measure(script):
     """Returns seconds, peak memory in MB, the status and the last line of what the script prints."""
     with tempfile.TemporaryFile() as text, tempfile.TemporaryFile() as out:
         text.write(script.encode())
         text.seek(0)
         begun = time.monotonic()
-        with subprocess.Popen([program()], stdin=text, stdout=out) as ran:
+        with subprocess.Popen([program()], stdin=text, stdout=out, preexec_fn=with_all_stack) as ran:
             _, status, used = os.wait4(ran.pid, 0)
             ran.returncode = os.waitstatus_to_exitcode(status)
         seconds = time.monotonic() - begun
