@@ -232,16 +232,29 @@ impl Sink for Counting {
     }
 }
 
-/// What a run over these ends with.
-fn status_over<S: Source, O: Sink>(
+/// What a run over these ends with, where the line has this word behind the program's name, or none.
+fn status_with<S: Source, O: Sink>(
     alloc: Global,
+    word: Option<&str>,
     input: &mut S,
     out: &mut O,
 ) -> Result<u8, AllocError> {
     let mut files = MemFiles::new(alloc, Vec::new(alloc));
     let mut words = Vec::new(alloc);
     words.push(String::from_str(alloc, "abella")?)?;
+    if let Some(word) = word {
+        words.push(String::from_str(alloc, word)?)?;
+    }
     Ok(run(alloc, &words, &mut files, input, out).status)
+}
+
+/// What a run over these ends with.
+fn status_over<S: Source, O: Sink>(
+    alloc: Global,
+    input: &mut S,
+    out: &mut O,
+) -> Result<u8, AllocError> {
+    status_with(alloc, None, input, out)
 }
 
 /// Behind a failed read nothing more is read, and behind a failed write nothing is read or written; the blocks of a
@@ -283,23 +296,27 @@ fn takes_a_write_of_nothing_for_a_fault(rt: HostRuntime) -> Result<(), Fail> {
     let alloc = rt.alloc();
     let script = Vec::from_slice(alloc, b"Theorem t : true.")?;
     let mut input = MemSource::new(script, 5, Vec::new(alloc));
-    let mut files = MemFiles::new(alloc, Vec::new(alloc));
     let mut out = FullSink { faults: 0 };
     assert_eq!(rt; status_over(alloc, &mut input, &mut out)?, 4);
-    let mut words = Vec::new(alloc);
-    words.push(String::from_str(alloc, "abella")?)?;
-    words.push(String::from_str(alloc, "--nosuch")?)?;
     assert_eq!(rt;
-        run(alloc, &words, &mut files, &mut input, &mut out).status,
+        status_with(alloc, Some("--nosuch"), &mut input, &mut out)?,
         4
     );
-    let mut shown = MemSink::new(alloc, Vec::new(alloc));
+    Ok(())
+}
+
+#[test]
+fn refuses_another_line(rt: HostRuntime) -> Result<(), Fail> {
+    let alloc = rt.alloc();
+    let mut input = Counting::NEW;
+    let mut out = MemSink::new(alloc, Vec::new(alloc));
     assert_eq!(rt;
-        run(alloc, &words, &mut files, &mut input, &mut shown).status,
+        status_with(alloc, Some("--nosuch"), &mut input, &mut out)?,
         2
     );
+    assert_eq!(rt; input.calls, 0);
     assert!(rt;
-        shown.bytes() == b"Usage: abella [-q] [--drill N] [--check-cert] [FILE]\n".as_slice()
+        out.bytes() == b"Usage: abella [-q] [--drill N] [--check-cert] [FILE]\n".as_slice()
     );
     Ok(())
 }
