@@ -4,7 +4,5 @@
 mod goals;
 mod refusals;
 mod replies;
-#[cfg(test)]
-mod tests;
 
 pub use replies::block;
