@@ -33,8 +33,8 @@ settles (a ∷ ns) n = go (a.number == n) refl (settles ns n)
     go : (b : Bool) → (a.number == n) ≡ b → Settles ns n → Settles (a ∷ ns) n
     go true e rest = let same : a.number ≡ n = grind arith in inr (a, (Contains-here a ns, same, rw e refl))
     go false e (inl none) = let other : a.number ≢ n = grind arith in (
-      inl (rw e none.0, λ b c f. elim (Contains-cases a ns b c) [ inl g ↦ other (ap (λ (m : Nominal). m.number) g ∙ f) | inr d ↦ none.1 b d f ])
-    )
+        inl (rw e none.0, λ b c f. elim (Contains-cases a ns b c) [ inl g ↦ other (ap (λ (m : Nominal). m.number) g ∙ f) | inr d ↦ none.1 b d f ])
+        )
     go false e (inr (b, (c, f, g))) = inr (b, (Contains-there a ns b c, f, rw e g))
 
 -- nothing is found exactly where there is none of the number
