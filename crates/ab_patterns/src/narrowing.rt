@@ -1,6 +1,6 @@
 //! Types with fewer arguments.
 ghost use Rattle.std.specs.Prelude.{◌≡◌, IfOk};
-ghost use Rattle.ab_types.specs.Entries.{IsExtendedBy};
+ghost use Rattle.ab_types.specs.Entries.{kinds, constants, IsExtendedBy};
 ghost use Rattle.ab_types.specs.Sound.{IsTable};
 ghost use Rattle.ab_types.specs.Ids.{HoldsType, type_of};
 ghost use Rattle.ab_solve.specs.Patterns as solve;
@@ -14,6 +14,8 @@ pub fn kept_type(types: &mut TypeTable, ty: TypeId, keep: &[bool]) -> Result<Typ
     ensures held { IfOk result (λ r. HoldsType types.new r) }
     ensures reads { IfOk result (λ r. type_of types.new r ≡ solve.kept_type keep.now (type_of types.old ty)) }
     ensures kept { IsExtendedBy types.old types.new }
+    ensures kinds { kinds types.new ≡ kinds types.old }
+    ensures constants { constants types.new ≡ constants types.old }
     ensures table { IsTable types.new }
 {
     // a table is one from the start

@@ -26,20 +26,22 @@ module _ (types : Table) (store : Contents) (begun : List CellId) (es : List Num
   before s = state_of types store es begun s
 
   -- no rule applies
-  at_rest : (left : List Numbered) (s : Substitution ℕ (List ℕ)) (ws : List Numbered) → map (equation_read more now) ws ≡ map (equation_read types store) es → cells_read more now ≡ cells_read types store → found_in types store es begun ≡ None
+  at_rest : (left : List Numbered) (s : Substitution ℕ (List ℕ)) (ws : List Numbered) → map (equation_read more now) ws ≡ map (equation_read types store) es → cells_read more now ≡ cells_read types store → found_in types store es begun ≡ None → variables_read more now flexible ≡ variables_read types store begun
       → IsStep (Some (verdict_on ws)) (before s) (state_of more now left flexible s)
-  at_rest left s [] same cells none =
-      ap (next_by (before s)) none
-      ∙ ap (λ l. finished (ending (before s) l)) (sym same)
-      ∙ ap (λ l. finished (unified l s)) (sym cells)
-  at_rest left s (w ∷ ws) same cells none =
+  at_rest left s [] same cells none still = (
+    ap (next_by (before s)) none
+        ∙ ap (λ l. finished (ending (before s) l)) (sym same)
+        ∙ ap (λ l. finished (unified l s)) (sym cells),
+    still,
+  )
+  at_rest left s (w ∷ ws) same cells none still =
       ap (next_by (before s)) none
       ∙ ap (λ l. finished (ending (before s) l)) (sym same)
 
   pub advances_none : Settles types store begun es more now flexible waiting rest NoRule → Advances types store begun es more now flexible (waiting ++ rest) (Some (verdict_on waiting))
   advances_none d T S F s r =
       let k : Keeps types store begun more now flexible = subst (λ c. Changed types store begun c more now flexible) d.says.1 d.changed in
-      (s, reaches_on T types more S store now F begun flexible s r k, at_rest (waiting ++ rest) s waiting d.says.3 k.cells d.says.0)
+      (s, reaches_on T types more S store now F begun flexible s r k, at_rest (waiting ++ rest) s waiting d.says.3 k.cells d.says.0 k.still)
 
   pub advances_clash : (left : List Numbered) → Settles types store begun es more now flexible waiting rest Clash → Advances types store begun es more now flexible left (Some Apart)
   advances_clash left d T S F s r =

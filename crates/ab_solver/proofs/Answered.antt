@@ -28,7 +28,7 @@ use Rattle.ab_unifying.specs.Changed.{IsFree}
 use Rattle.ab_unifying.proofs.Solved.{known_cells}
 use Rattle.ab_solver.specs.declared.solved.Solved.{Solved}
 use Rattle.ab_solver.specs.declared.solved.Solved.TheVariants.{Unified, Apart, Stuck}
-use Rattle.ab_solver.specs.Answers.{IsTypedPair, HasSolution, IsUnified}
+use Rattle.ab_solver.specs.Answers.{IsTypedPair, HasSolution, IsUnified, AreLeft}
 use Rattle.ab_solver.specs.Counting.{Takes}
 use Rattle.ab_patterns.specs.declared.equation.Numbered.{Numbered}
 use Rattle.ab_solver.specs.States.{numbered_from, state_of, answer_of, verdict_of, Runs}
@@ -110,6 +110,9 @@ module _ (types : Table) (store : Contents) (F : List CellId) (es : List Equatio
           let both = same_answer m s p in
           let pairs : run.pairs ≡ s = cc in
           run.reached.reads G t A is ∙ ap (λ q. image same_number q (reading types store t)) pairs
+
+      pub left_so : (m : List (Cell (List ℕ))) (s : Substitution ℕ (List ℕ)) → Solves (codes "x") (problem types store es F) (rules.unified m s) → AreLeft store F more now s
+      left_so m s p = let both = same_answer m s p in let pairs : run.pairs ≡ s = cc in subst (AreLeft store F more now) pairs run.leaves
 
       equal_from : (k : ℕ) (fs : List Equation) → All (IsTypedPair types store) fs → Unifies run.pairs (equations_from types store k fs) → All (λ (e : Equation). EqualPastHints (reading more now e.left) (reading more now e.right)) fs
       equal_from k [] all u = All-nil (λ (e : Equation). EqualPastHints (reading more now e.left) (reading more now e.right))

@@ -77,6 +77,8 @@ module _ (T U : Table) (S V X : Contents) (m : Mark) (typed : IsTypedBy T S) (g 
   pub cut_grows : ((types : Table) → IsTypedBy types S → IsTypedBy types (at_mark S m)) → ((types : Table) → IsTypedBy types (at_mark V m) → IsTypedBy types X) → ((k : Mark) → HasMark V k → IsNoLater k m → KeepsMark V X k) → Grows T S U X
   cut_grows at_typed cut_typed cut_marks = record {
     table = g.table;
+    kinds = g.kinds;
+    constants = g.constants;
     typed = cut_typed U (subst (IsTypedBy U) (sym same) (at_typed U (subst (λ W. IsTypedBy W S) (sym g.table.1) (still_typed T g.table.0 S typed))));
     trees = λ t h. (subst (λ (ns : List Node). t.0 < length ns) (sym same_nodes) h, tree_as_before t h);
     cells = λ c h. (subst (λ (cs : List CellEntry). c.0 < length cs) (sym same_cells) h, ap (λ (cs : List CellEntry). cell_in cs c) same_cells);

@@ -6,6 +6,8 @@ pub mod Searching
 pub mod Advanced
 pub mod Measured
 pub mod Counted
+pub mod Keyed
+pub mod Left
 pub mod Ran
 pub mod Sets
 pub mod Made

@@ -1,13 +1,16 @@
 -- What the answers of unification say, and what they leave of the store.
-use Rattle.std.specs.Prelude.{◌≡◌, ◌<◌, ◌↔◌, ℕ, List, AllPairs, Contains, Result, Ok, Err, codes}
+use Rattle.std.specs.Prelude.{◌≡◌, ◌<◌, ◌↔◌, ◌⊎◌, ℕ, false, List, AllPairs, Contains, Result, Ok, Err, codes}
 use Rattle.ab_term.specs.Types.{Ty}
 use Rattle.ab_term.specs.Variables.{Substitution}
 use Rattle.ab_types.specs.Entries.{Table}
 use Rattle.ab_store.specs.declared.node.CellId.{CellId}
 use Rattle.ab_store.specs.declared.node.Equation.{Equation}
 use Rattle.ab_store.specs.Trees.{Contents, HoldsCell}
+use Rattle.ab_store.specs.Reading.{cell_variable}
+use Rattle.ab_store.specs.Bindings.{IsUnbound}
 use Rattle.ab_store.specs.Naming.{IsTerm}
-use Rattle.ab_solve.specs.Replacing.{Cell}
+use Rattle.ab_solve.specs.Replacing.{Cell, holds}
+use Rattle.ab_solve.specs.Meaning.{keys}
 use Rattle.ab_solve.specs.Solving.{State, unified, Solves}
 use Rattle.ab_solver.specs.declared.solved.Solved.{Solved}
 use Rattle.ab_solver.specs.declared.solved.Solved.TheVariants.{Unified, Apart, Stuck}
@@ -50,6 +53,11 @@ AreNewCells old new cs = (c : CellId) → Contains cs c ↔ (HoldsCell new c × 
 -- cells in the order of their making, each once
 abbrev pub AreInAge : List CellId → Type 0
 AreInAge cs = AllPairs (λ a b. a.0 < b.0) cs
+
+-- Of the cells that might be bound, and of those that were made, just those are unbound that the substitution doesn't replace.
+abbrev pub AreLeft : Contents → List CellId → Table → Contents → Substitution ℕ (List ℕ) → Type 0
+AreLeft old flexible types new s =
+    (c : CellId) → Contains flexible c ⊎ (¬ HoldsCell old c) → HoldsCell new c → IsUnbound new c ↔ (holds (keys s) (cell_variable types new c) ≡ false)
 
 -- nothing is bound, made or added, but room
 abbrev pub IsAsBefore : Contents → Contents → Type 0

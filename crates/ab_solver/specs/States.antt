@@ -17,6 +17,7 @@ use Rattle.ab_solver.specs.declared.solved.Solved.{Solved}
 use Rattle.ab_solver.specs.declared.solved.Solved.TheVariants as answers
 use Rattle.ab_solver.specs.declared.verdict.Verdict.{Verdict}
 use Rattle.ab_solver.specs.declared.verdict.Verdict.TheVariants.{Unified, Apart, Stuck}
+use Rattle.ab_solver.specs.Answers.{AreLeft}
 
 -- the equations, numbered from k
 abbrev pub numbered_from : ℕ → List Given → List Numbered
@@ -68,7 +69,7 @@ pub record Settles (types : Table) (store : Contents) (begun : List CellId) (es 
 -- what the verdict says of a step from one state to another
 abbrev pub IsStep : Option Verdict → State (List ℕ) → State (List ℕ) → Type 0
 IsStep None s r = next (codes "x") s ≡ goes_on r
-IsStep (Some Unified) s r = next (codes "x") s ≡ finished (unified r.cells r.pairs)
+IsStep (Some Unified) s r = (next (codes "x") s ≡ finished (unified r.cells r.pairs)) × (r.flexible ≡ s.flexible)
 IsStep (Some Apart) s r = next (codes "x") s ≡ finished apart
 IsStep (Some (Stuck place)) s r = next (codes "x") s ≡ finished (stuck place)
 
@@ -108,8 +109,15 @@ unified_is (Ok answers.Apart) = false
 unified_is (Ok (answers.Stuck place)) = false
 unified_is (Err e) = false
 
+-- what a run leaves unbound
+abbrev pub Leaves : Contents → List CellId → Table → Contents → Verdict → Substitution ℕ (List ℕ) → Type 0
+Leaves store begun more now Unified s = AreLeft store begun more now s
+Leaves store begun more now Apart s = Unit {0}
+Leaves store begun more now (Stuck place) s = Unit {0}
+
 -- A WHOLE RUN IS MADE
 pub record Runs (types : Table) (store : Contents) (begun : List CellId) (es : List Numbered) (more : Table) (now : Contents) (flexible : List CellId) (v : Verdict) : Type 0 where
   pub pairs : Substitution ℕ (List ℕ)
   pub reached : Reaches types store begun more now flexible pairs
   pub solves : Solves (codes "x") (state_of types store es begun []) (answer_of v (state_of more now [] flexible pairs))
+  pub leaves : Leaves store begun more now v pairs

@@ -16,7 +16,7 @@ ghost use Rattle.ab_solve.specs.Meaning.{restricted, IsUnifier, IsMostGeneral};
 ghost use Rattle.ab_unifying.specs.Problem.{cells_read, variables_read, equations_read, problem};
 ghost use Rattle.ab_unifying.specs.Changed.{Grows, IsFree};
 ghost use Rattle.ab_solver.specs.declared.solved.Solved.TheVariants.{Apart, Stuck};
-ghost use Rattle.ab_solver.specs.Answers.{IsTypedPair, HasSolution, IsUnified, IfUnified, OnUnified, UnlessUnified, AreNewCells, AreInAge, IsAsBefore};
+ghost use Rattle.ab_solver.specs.Answers.{IsTypedPair, HasSolution, IsUnified, IfUnified, OnUnified, UnlessUnified, AreNewCells, AreInAge, AreLeft, IsAsBefore};
 ghost use Rattle.ab_solver.specs.Counting.{Takes};
 ghost use Rattle.ab_solver.specs.States.{numbered_from, verdict_of, unified_is, Runs};
 
@@ -109,6 +109,10 @@ pub fn unify<L>(
     ensures cells { OnUnified result ((cells : List (Cell (List ℕ))) (s : Substitution ℕ (List ℕ)) →
         Solves (codes "x") (problem types.old store.old equations.now flexible.now) (rules.unified cells s) →
         cells_read types.new store.new ≡ cells) }
+    // of the cells that might be bound, and of those that were made, just those are unbound that the answer doesn't replace
+    ensures left { OnUnified result ((cells : List (Cell (List ℕ))) (s : Substitution ℕ (List ℕ)) →
+        Solves (codes "x") (problem types.old store.old equations.now flexible.now) (rules.unified cells s) →
+        AreLeft store.old flexible.now types.new store.new s) }
     ensures equal { OnUnified result (All (λ e. EqualPastHints (reading types.new store.new e.left) (reading types.new store.new e.right)) equations.now) }
     // the answer is most general, and Apart has no unifier
     ensures most_general { OnUnified result ((cells : List (Cell (List ℕ))) (s : Substitution ℕ (List ℕ)) →

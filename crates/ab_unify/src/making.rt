@@ -1,6 +1,6 @@
 //! A cell that takes the place of another.
 ghost use Rattle.std.specs.Prelude.{◌≡◌, ◌+◌, length, IfOk, OnOk, OnErr};
-ghost use Rattle.ab_types.specs.Entries.{IsExtendedBy as IsPartOf};
+ghost use Rattle.ab_types.specs.Entries.{kinds, constants, IsExtendedBy as IsPartOf};
 ghost use Rattle.ab_types.specs.Ids.{type_of};
 ghost use Rattle.ab_store.specs.Trees.{HoldsCell, cell_of};
 ghost use Rattle.ab_store.specs.Bindings.{IsUnbound};
@@ -32,6 +32,8 @@ pub fn make(
     ensures nodes { store.new.nodes ≡ store.old.nodes }
     ensures typed { IsTypedBy types.new store.new }
     ensures kept { IsPartOf types.old types.new }
+    ensures kinds { kinds types.new ≡ kinds types.old }
+    ensures constants { constants types.new ≡ constants types.old }
     ensures err { OnErr result (store.new ≡ store.old) }
 {
     let ty = store.cell_type(cell);

@@ -4,7 +4,7 @@ ghost use Rattle.ab_term.specs.Types.{Ty, kind};
 ghost use Rattle.ab_term.specs.Sameness.{same_number};
 ghost use Rattle.ab_term.specs.Closing.{Named, is_name};
 ghost use Rattle.ab_term.specs.Variables.{image};
-ghost use Rattle.ab_types.specs.Entries.{signature, IsExtendedBy as IsPartOf};
+ghost use Rattle.ab_types.specs.Entries.{kinds, constants, signature, IsExtendedBy as IsPartOf};
 ghost use Rattle.ab_types.specs.Ids.{type_of};
 ghost use Rattle.ab_store.specs.Trees.{Holds, HoldsCell, cell_of, tree_of, head_reading};
 ghost use Rattle.ab_store.specs.Reading.{reading, cell_variable};
@@ -56,6 +56,8 @@ pub fn renew<L>(
     ensures terms { (G : List Ty) (t : TermId) (A : Ty) → IsTerm types.old store.old G t A → IsTerm types.new store.new G t A }
     ensures typed { IsTypedBy types.new store.new }
     ensures kept { IsPartOf types.old types.new }
+    ensures kinds { kinds types.new ≡ kinds types.old }
+    ensures constants { constants types.new ≡ constants types.old }
     ensures marks { (m : Mark) → HasMark store.old m → KeepsMark store.old store.new m }
     ensures steps { steps.new ≡ steps.old }
     ensures err { OnErr result (IsExtendedBy store.old store.new) }

@@ -28,6 +28,8 @@ use Rattle.ab_unifying.specs.Changed.{Grows}
 pub grows_none : (types : Table) (s : Contents) → IsTypedBy types s → Grows types s types s
 grows_none types s typed = record {
   table = extended_by_itself types;
+  kinds = refl;
+  constants = refl;
   typed = typed;
   trees = λ t h. (h, refl);
   cells = λ c h. (h, refl);
@@ -37,6 +39,8 @@ grows_none types s typed = record {
 pub grows_on : (T U W : Table) (S V X : Contents) → Grows T S U V → Grows U V W X → Grows T S W X
 grows_on T U W S V X a b = record {
   table = extended_twice T U W a.table b.table;
+  kinds = b.kinds ∙ a.kinds;
+  constants = b.constants ∙ a.constants;
   typed = b.typed;
   trees = λ t h. let u = a.trees t h in let v = b.trees t u.0 in (v.0, v.1 ∙ u.1);
   cells = λ c h. let u = a.cells c h in let v = b.cells c u.0 in (v.0, v.1 ∙ u.1);
@@ -46,6 +50,8 @@ grows_on T U W S V X a b = record {
 pub grows_terms : (types : Table) (s t : Contents) → AddsTypedTerms types s t → Grows types s types t
 grows_terms types s t adds = record {
   table = extended_by_itself types;
+  kinds = refl;
+  constants = refl;
   typed = adds.typed;
   trees = λ r h. (adds.before.ids r h, adds.before.trees types r h);
   cells = λ c h. (adds.before.cell_ids c h, adds.before.cells c h);

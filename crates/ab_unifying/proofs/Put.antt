@@ -61,6 +61,8 @@ on_ok_both (Err e) f p q = tt
 pub put_grows : (types : Table) (store now : Contents) → IsTypedBy types now → ((t : TermId) → Holds store t → Holds now t × (tree_of types now t ≡ tree_of types store t)) → now.cells ≡ store.cells → ((m : Mark) → HasMark store m → KeepsMark store now m) → Grows types store types now
 put_grows types store now typed trees cells marks = record {
   table = extended_by_itself types;
+  kinds = refl;
+  constants = refl;
   typed = typed;
   trees = trees;
   cells = λ d h. (subst (λ cs. d.0 < length cs) (sym cells) h, ap (λ cs. cell_in cs d) cells);

@@ -4,7 +4,7 @@ use Rattle.ab_term.specs.Types.{Ty}
 use Rattle.ab_term.specs.Terms.{Variable}
 use Rattle.ab_term.specs.Variables.{image, variables, IsTyped}
 use Rattle.ab_term.specs.Sameness.{same_number}
-use Rattle.ab_types.specs.Entries.{Table, signature, IsExtendedBy as IsPartOf}
+use Rattle.ab_types.specs.Entries.{Table, kinds, constants, signature, IsExtendedBy as IsPartOf}
 use Rattle.ab_store.specs.declared.node.TermId.{TermId}
 use Rattle.ab_store.specs.declared.node.CellId.{CellId}
 use Rattle.ab_store.specs.declared.node.Head.{Head}
@@ -22,9 +22,12 @@ use Rattle.ab_unifying.specs.Problem.{cells_read, variables_read}
 abbrev pub others_than : CellId → List CellId → List CellId
 others_than c ds = filter (λ d. not (d.0 == c.0)) ds
 
--- THE STORE GREW, and cells may have been bound: ids and cells stay what they were, and what marks count is as before
+-- THE STORE GREW, and cells may have been bound: ids and cells stay what they were, and what marks count is as before. The
+-- table got types at most: no kind, no constant
 pub record Grows (types : Table) (store : Contents) (more : Table) (now : Contents) : Type 0 where
   pub table : IsPartOf types more
+  pub kinds : kinds more ≡ kinds types
+  pub constants : constants more ≡ constants types
   pub typed : IsTypedBy more now
   pub trees : (t : TermId) → Holds store t → Holds now t × (tree_of more now t ≡ tree_of types store t)
   pub cells : (c : CellId) → HoldsCell store c → HoldsCell now c × (cell_of now c ≡ cell_of store c)

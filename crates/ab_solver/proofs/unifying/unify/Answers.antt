@@ -2,7 +2,7 @@ use Rattle.std.proofs.Common.{List}
 use Rattle.ab_store.specs.declared.node.CellId.{CellId}
 use Rattle.ab_norm.proofs.Frame.{if_ok}
 use Rattle.ab_solver.specs.States.{numbered_from, verdict_of, Runs}
-use Rattle.ab_solver.proofs.Answered.{exactly_apart, exactly_stuck, exactly_unified, no_unifier, is_general, same_cells, reads_so, sides_equal, each_unifier}
+use Rattle.ab_solver.proofs.Answered.{exactly_apart, exactly_stuck, exactly_unified, no_unifier, is_general, same_cells, reads_so, left_so, sides_equal, each_unifier}
 use Rattle.ab_solver.proofs.Cut.{unified_case, cut_grows}
 use Rattle.ab_solver.proofs.unifying.unify.Goals as goal
 
@@ -39,6 +39,17 @@ returns-then-is_unified-clause-cells g c =
     let now = c.solve-answer.new.store in
     unified_case (λ s. (left : List CellId) × Runs types store F (numbered_from 0 es) more now left (verdict_of s)) _ c.solve-answer.result c.solve-answer.ensures.runs
     (λ made run. same_cells types store F es more now run.0 c.requires.store c.requires.flexible c.requires.equations made run.1)
+
+pub returns-then-is_unified-clause-left : goal.returns-then-is_unified-clause-left
+returns-then-is_unified-clause-left g c =
+    let types = c.args.types.now in
+    let store = c.args.store.now in
+    let F = c.args.flexible.now in
+    let es = c.args.equations.now in
+    let more = c.solve-answer.new.types in
+    let now = c.solve-answer.new.store in
+    unified_case (λ s. (left : List CellId) × Runs types store F (numbered_from 0 es) more now left (verdict_of s)) _ c.solve-answer.result c.solve-answer.ensures.runs
+    (λ made run. left_so types store F es more now run.0 c.requires.store c.requires.flexible c.requires.equations made run.1)
 
 pub returns-then-is_unified-clause-equal : goal.returns-then-is_unified-clause-equal
 returns-then-is_unified-clause-equal g c =

@@ -22,7 +22,7 @@ returns-clause-free g c =
     let e = c.in_ok-made.ensures in
     let hs = map (head_reading types store) c.args.names.now in
     let n : IsNarrowed types store c.args.cell hs c.args.keep.now more now made = record {
-      grows = record { table = e.kept; typed = e.typed; trees = e.trees; cells = e.cells; marks = e.marks };
+      grows = record { table = e.kept; kinds = e.kinds; constants = e.constants; typed = e.typed; trees = e.trees; cells = e.cells; marks = e.marks };
       number = e.number;
       one = e.one;
       unbound = e.unbound;
@@ -46,7 +46,7 @@ returns-clause-changed g c = λ T S F change was.
     let e = c.in_ok-made.ensures in
     let hs = map (head_reading types store) c.args.names.now in
     let n : IsNarrowed types store c.args.cell hs c.args.keep.now more now made = record {
-      grows = record { table = e.kept; typed = e.typed; trees = e.trees; cells = e.cells; marks = e.marks };
+      grows = record { table = e.kept; kinds = e.kinds; constants = e.constants; typed = e.typed; trees = e.trees; cells = e.cells; marks = e.marks };
       number = e.number;
       one = e.one;
       unbound = e.unbound;
