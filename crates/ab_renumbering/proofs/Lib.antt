@@ -1,0 +1,5 @@
+pub mod Tests
+pub mod Names
+pub mod Changes
+pub mod Rules
+pub mod Runs

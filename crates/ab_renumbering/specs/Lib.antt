@@ -1,0 +1,2 @@
+-- Other numbers for the variables of a problem of unification.
+pub mod Renumbering
