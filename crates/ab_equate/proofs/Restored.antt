@@ -1,0 +1,130 @@
+-- The world in the end: no cell is bound, and all reads as before.
+use Rattle.std.specs.List.{All}
+use Rattle.std.proofs.Common.{◌≡◌, ◌<◌, ◌≤◌, List, [], ◌∷◌, ◌++◌, length, take, refl, sym, ◌∙◌, ap, subst, arith, append-nil, length-append}
+use Rattle.std.proofs.lemmas.List.Elements.{All-weaker}
+use Rattle.ab_types.specs.Entries.{Table, a_kind, a_type, a_constant, kinds, constants}
+use Rattle.ab_types.specs.Ids.{type_of}
+use Rattle.ab_types.proofs.Entries.{kinds-append, constants-append}
+use Rattle.ab_store.specs.declared.node.TermId.{TermId}
+use Rattle.ab_store.specs.declared.node.CellId.{CellId}
+use Rattle.ab_store.specs.declared.node.CellEntry.{CellEntry}
+use Rattle.ab_store.specs.declared.mark.Mark.{Mark}
+use Rattle.ab_store.specs.declared.node.Node.{Node}
+use Rattle.ab_logic.specs.Sequents.{Sequent}
+use Rattle.ab_store.specs.Trees.{Contents, cell_of}
+use Rattle.ab_store.specs.Marks.{HasMark, KeepsMark}
+use Rattle.ab_store.specs.Naming.{IsTypedBy}
+use Rattle.ab_store.proofs.Agreeing.{Agree, alike}
+use Rattle.ab_store.proofs.Marking.{kept_on}
+use Rattle.ab_unifying.specs.Changed.{Grows}
+use Rattle.ab_unifying.proofs.Growth.{grown_type}
+use Rattle.ab_logic.specs.Worlds.{read, Holds, HoldsCell, variable_of, declared, declared_from, declarations_of, IsWorld}
+use Rattle.ab_logic.specs.Readings.{sequent_of, HoldsSequent}
+use Rattle.ab_logic.specs.Growth as world
+use Rattle.ab_logic.specs.declared.world.World.{World}
+use Rattle.ab_logic.specs.declared.theorems.Theorem.{Theorem}
+use Rattle.ab_logic.specs.declared.sequent.Sequent.{Sequent as Kept}
+use Rattle.ab_logic.proofs.Declaring.{declared_more, order_more, sentences_declared}
+use Rattle.ab_equate.specs.Meanwhile.{IsMeanwhile}
+use Rattle.ab_equate.proofs.Going.{same_by, held_by}
+
+-- entries that are types declare nothing
+empty : {X : Type 0} (xs ys : List X) → xs ++ ys ≡ xs → ys ≡ []
+empty xs [] e = refl
+empty xs (y ∷ ys) e = let long = length-append xs (y ∷ ys) in absurd (omega (arith, long, ap length e))
+
+types_alone : (more : Table) → kinds more ≡ [] → constants more ≡ [] → declared more ≡ []
+types_alone [] k c = refl
+types_alone (a_kind n ∷ more) k c = absurd (cc)
+types_alone (a_type A ∷ more) k c = types_alone more k c
+types_alone (a_constant n ∷ more) k c = absurd (cc)
+
+module _ (w v : World) (is : IsWorld w) (g : Grows w.types w.store v.types v.store) (theorems : v.theorems ≡ w.theorems) where
+  ids : (t : TermId) → Holds w t → Holds v t
+  ids t h = (g.trees t h).0
+
+  reads : (t : TermId) → Holds w t → read v t ≡ read w t
+  reads t h = (g.trees t h).1
+
+  cell_ids : (c : CellId) → HoldsCell w c → HoldsCell v c
+  cell_ids c h = (g.cells c h).0
+
+  cells : (c : CellId) → HoldsCell w c → variable_of v c ≡ variable_of w c
+  cells c h =
+      ap (λ A. record { number = c.0; type = A; name = (cell_of v.store c).hint }) (grown_type w.types v.types w.store v.store g is.typed c h)
+      ∙ ap (λ (e : CellEntry). record { number = c.0; type = type_of w.types (cell_of w.store c).ty; name = e.hint }) (g.cells c h).1
+
+  D : declarations_of v ≡ declarations_of w ++ declared g.table.0
+  D = ap (declared_from v 0) theorems ∙ declared_more w v g.table.0 g.table.1 reads 0 w.theorems is.order is.theorems
+
+  pub goal_same : (s : Kept) → HoldsSequent w s → sequent_of v s ≡ sequent_of w s
+  goal_same = same_by w v ids reads cell_ids cells
+
+  pub goal_held : (s : Kept) → HoldsSequent w s → HoldsSequent v s
+  goal_held = held_by w v ids reads cell_ids cells
+
+  pub declarations_same : declarations_of v ≡ declarations_of w
+  declarations_same =
+      D
+      ∙ ap (λ ds. declarations_of w ++ ds)
+      (types_alone g.table.0
+      (empty (kinds w.types) (kinds g.table.0) (sym (kinds-append w.types g.table.0) ∙ ap kinds (sym g.table.1) ∙ g.kinds))
+      (empty (constants w.types) (constants g.table.0) (sym (constants-append w.types g.table.0) ∙ ap constants (sym g.table.1) ∙ g.constants)))
+      ∙ append-nil (declarations_of w)
+
+  theorems_there : All (λ (t : Theorem). Holds v t.entry.formula) v.theorems
+  theorems_there =
+      subst (λ (xs : List Theorem). All (λ (t : Theorem). Holds v t.entry.formula) xs) (sym theorems)
+      (All-weaker (λ (t : Theorem). Holds w t.entry.formula) (λ (t : Theorem). Holds v t.entry.formula) (λ t. ids t.entry.formula) w.theorems is.theorems)
+
+  pub then_meanwhile : IsMeanwhile v
+  then_meanwhile = record { typed = g.typed; theorems = theorems_there; order = rw theorems (order_more w v g.table.0 g.table.1 reads 0 w.theorems is.order) }
+
+  -- a world again, where no cell is bound
+  pub again : v.store.bindings ≡ [] → world.Grows w v
+  again bindings = record {
+    ids = ids;
+    readings = reads;
+    cell_ids = cell_ids;
+    cells = cells;
+    types = g.table;
+    marks = g.marks;
+    theorems = ([], theorems ∙ sym (append-nil w.theorems));
+    declarations = (declared g.table.0, D);
+    world = record {
+      typed = g.typed;
+      unbound = bindings;
+      theorems = theorems_there;
+      order = rw theorems (order_more w v g.table.0 g.table.1 reads 0 w.theorems is.order);
+      sentences = rw D (sentences_declared (declarations_of w) g.table.0 is.sentences);
+    };
+  }
+
+-- what was bound since the start is undone
+module _ (T U : Table) (S V X : Contents) (none : S.bindings ≡ []) (g : Grows T S U V) (m : Mark) (start : m.bindings ≡ length S.bindings)
+    (nodes : X.nodes ≡ V.nodes) (cells : X.cells ≡ V.cells) (bindings : X.bindings ≡ take m.bindings V.bindings) (typed : IsTypedBy U X)
+    (marks : (k : Mark) → HasMark V k → k.bindings ≤ m.bindings → KeepsMark V X k) where
+  agree : Agree V X (length V.nodes) (length V.cells)
+  agree = alike V X (length V.nodes) (length V.cells) nodes cells
+
+  pub undone_grows : Grows T S U X
+  undone_grows = record {
+    table = g.table;
+    kinds = g.kinds;
+    constants = g.constants;
+    typed = typed;
+    trees = λ t h. let there = g.trees t h in (subst (λ ns. t.0 < length ns) (sym nodes) there.0, agree.trees U t there.0 ∙ there.1);
+    cells = λ c h. let there = g.cells c h in (subst (λ cs. c.0 < length cs) (sym cells) there.0, agree.cells c there.0 ∙ there.1);
+    marks = λ k h. let kept = g.marks k h in let least = h.bindings in kept_on S V X k kept (marks k kept.has (omega (arith, least, start)));
+  }
+
+  pub undone_none : X.bindings ≡ []
+  undone_none = bindings ∙ ap (λ n. take n V.bindings) (start ∙ ap length none)
+
+-- a goal reads the same where nodes and cells are the same
+pub same_alike : (x v : World) → v.types ≡ x.types → v.store.nodes ≡ x.store.nodes → v.store.cells ≡ x.store.cells → (s : Kept) → sequent_of v s ≡ sequent_of x s
+same_alike x v types nodes cells s =
+    let over : Table → List Node → List CellEntry → Sequent = λ T ns cs. sequent_of (record { types = T; store = record { nodes = ns; cells = cs; bindings = v.store.bindings; room = v.store.room }; theorems = v.theorems }) s in
+    ap (λ T. over T v.store.nodes v.store.cells) types
+    ∙ ap (λ ns. over x.types ns v.store.cells) nodes
+    ∙ ap (λ cs. over x.types x.store.nodes cs) cells
