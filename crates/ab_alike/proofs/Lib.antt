@@ -1,0 +1,5 @@
+pub mod Namings
+pub mod Renumbered
+pub mod Carrying
+pub mod Thirds
+pub mod Outcomes
