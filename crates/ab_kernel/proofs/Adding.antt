@@ -1,12 +1,13 @@
 -- Steps that add up, and a step among the open goals.
 use Rattle.std.specs.Prelude.{slice_get}
-use Rattle.std.proofs.Common.{◌≡◌, ℕ, zero, suc, ◌+◌, ◌-◌, ◌≤◌, List, [], ◌∷◌, ◌++◌, Some, length, take, drop, refl, sym, ◌∙◌, ap, subst, arith}
-use Rattle.std.proofs.lemmas.List.{take_at, drop_at}
+use Rattle.std.proofs.Common.{◌≡◌, ℕ, suc, ◌+◌, ◌-◌, List, [], ◌∷◌, ◌++◌, Some, length, take, drop, refl, sym, ◌∙◌, ap, subst, arith}
+use Rattle.std.proofs.lemmas.List.{take_at}
+use Rattle.ab_solve.specs.Replacing.{Cell}
 use Rattle.ab_logic.specs.Declarations.{Declarations}
 use Rattle.ab_logic.specs.Sequents.{Sequent}
 use Rattle.ab_rules.specs.Steps.{Step}
-use Rattle.ab_rules.specs.Rules.{NamedRule, Fails}
-use Rattle.ab_kernel.specs.Derivation.{Derivation, root, open_goals, History, after, IsStep, GoalFails, undone, Above}
+use Rattle.ab_rules.specs.Rules.{NamedRule, Fails, Stuck}
+use Rattle.ab_kernel.specs.Derivation.{Derivation, root, open_goals, History, after, IsStep, GoalFails, GoalStuck, undone, Above}
 use Rattle.ab_kernel.proofs.Back.{undone_more}
 use Rattle.ab_kernel.proofs.Splits.{get_here}
 
@@ -65,3 +66,8 @@ pub failed_at : (D : Declarations) (place i : ℕ) (step : Step) (d : Derivation
     → GoalFails D place step i d → open_goals d ≡ before ++ s ∷ behind → length before ≡ place → Fails D step s i
 failed_at D place i step d before behind s f goals counted =
     subst (λ t. Fails D step t i) (goal_here d place before behind s f.0 f.1 goals counted) f.2
+
+pub stuck_at : (D : Declarations) (cells : List (Cell (List ℕ))) (place i : ℕ) (step : Step) (d : Derivation) (before behind : List Sequent) (s : Sequent)
+    → GoalStuck D cells place step i d → open_goals d ≡ before ++ s ∷ behind → length before ≡ place → Stuck D cells step s i
+stuck_at D cells place i step d before behind s f goals counted =
+    subst (λ t. Stuck D cells step t i) (goal_here d place before behind s f.0 f.1 goals counted) f.2

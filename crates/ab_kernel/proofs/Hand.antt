@@ -1,15 +1,14 @@
 -- The goal at which a step is taken, among a proof's nodes and numbers, and what these are after the step.
-use Rattle.std.specs.Prelude.{slice_get, slice_set}
-use Rattle.std.proofs.Common.{◌≡◌, ℕ, ◌+◌, ◌-◌, ◌<◌, ◌≤◌, List, [], ◌∷◌, ◌++◌, Some, length, map, reverse, take, drop, get_or, refl, sym, ◌∙◌, ap, subst, arith, append_assoc, length-append}
-use Rattle.std.proofs.lemmas.List.{length-map, reverse-append, set-append_left, get_or_append_left}
+use Rattle.std.specs.Prelude.{slice_set}
+use Rattle.std.proofs.Common.{◌≡◌, ℕ, ◌+◌, ◌<◌, List, [], ◌∷◌, ◌++◌, Some, length, map, take, drop, get_or, refl, sym, ◌∙◌, ap, subst, arith, append_assoc}
+use Rattle.std.proofs.lemmas.List.{length-map, set-append_left, get_or_append_left}
 use Rattle.std.proofs.lemmas.Option.{slice_get_within}
 use Rattle.ab_logic.specs.Readings.{sequent_of}
 use Rattle.ab_logic.specs.declared.world.World.{World}
 use Rattle.ab_logic.specs.declared.sequent.Sequent.{Sequent as Kept}
 use Rattle.ab_rules.specs.declared.step.Step.{Step}
-use Rattle.ab_kernel.specs.Derivation.{open_goals}
 use Rattle.ab_kernel.specs.Nodes.{open_node, IsClear, sequents_in, no_node, node_at, step_held}
-use Rattle.ab_kernel.specs.Layout.{StepAt, numbers_down, nodes_before, steps_in, open_before, made_by, Stands, AreOpen, AreDistinct, Layers}
+use Rattle.ab_kernel.specs.Layout.{StepAt, numbers_down, nodes_before, steps_in, open_before, Stands, AreOpen, AreDistinct, Layers}
 use Rattle.ab_kernel.specs.declared.node.ProofNode.{ProofNode}
 use Rattle.ab_kernel.specs.declared.proving.Refinement.{Refinement}
 use Rattle.ab_kernel.proofs.Splits.{at_place}

@@ -1,17 +1,15 @@
 -- A proof, where its world has grown.
 use Rattle.std.specs.List.{All}
-use Rattle.std.proofs.Common.{◌≡◌, ◌≢◌, List, [], ◌∷◌, length, map, refl, sym, ◌∙◌, ap, subst, arith}
-use Rattle.std.proofs.lemmas.List.Elements.{All-map, All-head, All-tail, All-weaker}
+use Rattle.std.proofs.Common.{◌≡◌, List, [], ◌∷◌, map, refl, sym, ◌∙◌, ap, subst}
+use Rattle.std.proofs.lemmas.List.Elements.{All-head, All-tail, All-weaker}
 use Rattle.ab_term.specs.Terms.{Nominal}
 use Rattle.ab_store.specs.Trees.{Read}
-use Rattle.ab_types.specs.Ids.{type_of}
 use Rattle.ab_types.proofs.Entries.{same_type, holds_type}
-use Rattle.ab_logic.specs.Worlds.{HoldsCell, Holds, variable_of, read, declarations_of}
+use Rattle.ab_logic.specs.Worlds.{Holds, read, declarations_of}
 use Rattle.ab_logic.specs.Growth.{Grows}
-use Rattle.ab_logic.specs.Sequents.{Variable, Sequent, IsSequent}
+use Rattle.ab_logic.specs.Sequents.{Sequent, IsSequent}
 use Rattle.ab_logic.specs.Readings.{sequent_of, HoldsSequent}
 use Rattle.ab_logic.specs.declared.world.World.{World}
-use Rattle.ab_logic.specs.declared.sequent.Sequent.{Sequent as Kept}
 use Rattle.ab_logic.proofs.Growing.{map_same, same_sequent, still_held}
 use Rattle.ab_norm.specs.Nominals.{nominal_of, HoldsNominal}
 use Rattle.ab_rules.specs.declared.replaces.Replace.{Replace}
@@ -21,17 +19,10 @@ use Rattle.ab_kernel.specs.Nodes.{sequents_in}
 use Rattle.ab_kernel.specs.Layout.{StepAt, steps_in}
 use Rattle.ab_rules.specs.Answers.{step_of, HoldsStep, label_of, replacements}
 use Rattle.ab_rules.specs.Steps as plain
-use Rattle.ab_rules.specs.Rules.{IsNew}
-use Rattle.ab_kernel.specs.Derivation.{Derivation, root, Valid, History, after}
+use Rattle.ab_kernel.specs.Derivation.{root, Valid, History, after}
 use Rattle.ab_kernel.specs.Layout.{Held, premises_of, sequents_before, made_by, history_of, IsProof}
 use Rattle.ab_kernel.proofs.Refining.{still_valid}
 use Rattle.ab_kernel.proofs.Rooted.{still_sequent}
-
--- the number of a new cell is no variable's
-pub new_number : (w : World) (s : Kept) → HoldsSequent w s → IsNew (length w.store.cells) (sequent_of w s)
-new_number w s h =
-    All-map (λ (x : Variable). x.number ≢ length w.store.cells) (variable_of w) s.variables
-    (All-weaker (HoldsCell w) (λ c. c.0 ≢ length w.store.cells) (λ c l e. omega arith) s.variables h.variables)
 
 module _ (w v : World) (grown : Grows w v) where
   same_nominal : (r : Replace) → HoldsNominal w.types r.from → nominal_of v.types r.from ≡ nominal_of w.types r.from

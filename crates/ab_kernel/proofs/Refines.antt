@@ -1,11 +1,13 @@
 -- What `refine` shows at its returns.
 use Rattle.std.specs.Prelude.{Result, Ok, Err}
 use Rattle.std.specs.List.{All}
-use Rattle.std.proofs.Common.{◌≡◌, ◌⊎◌, inl, inr, ℕ, ◌+◌, ◌<◌, Vec, Global, Some, List, ◌∷◌, ◌++◌, length, map, get_or, sym, ◌∙◌, ap, subst}
+use Rattle.std.proofs.Common.{◌≡◌, ◌⊎◌, inl, inr, ℕ, ◌+◌, ◌<◌, Vec, Global, Some, List, [], ◌∷◌, ◌++◌, length, map, get_or, sym, ◌∙◌, ap, subst}
 use Rattle.std.proofs.lemmas.List.Elements.{All-cons, All-append, All-weaker}
 use Rattle.ab_logic.specs.Growth.{Grows}
+use Rattle.ab_unifying.specs.Problem.{cells_read}
+use Rattle.ab_logic.specs.Names.{IsNoVariable, IsNamedFor}
 use Rattle.ab_logic.specs.Declarations.{Declarations}
-use Rattle.ab_logic.specs.Worlds.{declarations_of}
+use Rattle.ab_logic.specs.Worlds.{IsWorld, declarations_of}
 use Rattle.ab_logic.specs.Sequents.{Sequent, IsSequent}
 use Rattle.ab_logic.specs.Readings.{sequent_of, HoldsSequent}
 use Rattle.ab_logic.specs.declared.world.World.{World}
@@ -15,22 +17,23 @@ use Rattle.ab_rules.specs.declared.step.KernelFault.{KernelFault}
 use Rattle.ab_rules.specs.declared.step.KernelFault.TheVariants.{RuleFails, NotPattern, Memory}
 use Rattle.ab_kernel.specs.Nodes.{sequents_in}
 use Rattle.ab_kernel.specs.Layout.{StepAt, steps_in}
-use Rattle.ab_rules.specs.Row.{FailsFirst}
-use Rattle.ab_rules.specs.Rules.{row, Rule, NamedRule, Fails, any_name, by_hint}
+use Rattle.ab_rules.specs.Row.{FailsFirst, Sticks}
+use Rattle.ab_rules.specs.Rules.{row, NamedRule, Fails, Stuck, any_name, by_hint}
 use Rattle.ab_rules.proofs.Longer.{any_named}
 use Rattle.ab_rules.specs.Answers.{Answers, row_at, step_of, HoldsStep, IsMemory}
-use Rattle.ab_kernel.specs.Derivation.{Derivation, root, Valid, goal_at, GoalFails, History, after, refined, IsStep}
+use Rattle.ab_kernel.specs.Derivation.{Derivation, root, Valid, goal_at, open_goals, GoalFails, GoalStuck, History, after, refined, IsStep}
 use Rattle.ab_kernel.specs.Layout.{Held, Stands, history_of, IsProof}
 use Rattle.std.proofs.lemmas.List.{length-map}
-use Rattle.std.proofs.lemmas.Option.{slice_get_within}
+use Rattle.std.proofs.lemmas.Option.{slice_get_within, get_or_from_slice_get}
 use Rattle.ab_kernel.specs.declared.node.ProofNode.{ProofNode}
 use Rattle.ab_kernel.specs.declared.proving.Refinement.{Refinement}
 use Rattle.ab_kernel.proofs.Filling.{sequent_read}
-use Rattle.ab_kernel.proofs.Rooted.{still_sequent}
+use Rattle.ab_kernel.proofs.Rooted.{still_sequent, open_are_sequents}
 use Rattle.ab_kernel.proofs.Standing.{reads_now, leads}
 use Rattle.ab_kernel.proofs.Taking.{goal_taken}
-use Rattle.ab_rules.proofs.OneAnswer.{never_both, one_failure, any_new}
-use Rattle.ab_kernel.proofs.Later.{new_number, same_step, still_step, still_proof, same_history}
+use Rattle.ab_rules.proofs.NewNumbers.{over_cells}
+use Rattle.ab_rules.proofs.OneAnswer.{never_both, one_failure, any_new, any_names, taken_or_stuck, refused_or_stuck, one_equation}
+use Rattle.ab_kernel.proofs.Later.{same_step, still_step, still_proof, same_history}
 use Rattle.ab_kernel.proofs.Refining.{root-refined, Valid-refined, still_valid}
 
 -- the goal's sequent is there
@@ -38,20 +41,25 @@ pub held_at : (w : World) (items : List Kept) (n : ℕ) (x : Kept) → All (Hold
 held_at w items n x all l is = subst (HoldsSequent w) (sym is) (all n x l)
 
 module _ (w v : World) (x : Kept) (kept : Step) (place : ℕ) (d : Derivation) (is : goal_at d place ≡ Some (sequent_of w x)) where
-  s : Sequent
-  s = sequent_of w x
-
-  D : Declarations
-  D = declarations_of w
-
   failed : (i : ℕ) → GoalFails (declarations_of w) place (step_of w kept) i d → Fails (declarations_of w) (step_of w kept) (sequent_of w x) i
   failed i f =
       let same : Some f.0 ≡ Some (sequent_of w x) = sym f.1 ∙ is in
       let goal : f.0 ≡ sequent_of w x = cc in
       subst (λ t. Fails (declarations_of w) (step_of w kept) t i) goal f.2
 
+  stuck_here : (i : ℕ) → GoalStuck (declarations_of w) (cells_read w.types w.store) place (step_of w kept) i d → Sticks (row_at w (step_of w kept) x) i
+  stuck_here i f =
+      let same : Some f.0 ≡ Some (sequent_of w x) = sym f.1 ∙ is in
+      let goal : f.0 ≡ sequent_of w x = cc in
+      any_names (declarations_of w) (step_of w kept) (cells_read w.types w.store) (λ s hint name. IsNoVariable s name) (IsNamedFor (declarations_of w)) (sequent_of w x) i
+      (subst (λ t. Stuck (declarations_of w) (cells_read w.types w.store) (step_of w kept) t i) goal f.2)
+
+  fails_here : (i : ℕ) → GoalFails (declarations_of w) place (step_of w kept) i d → FailsFirst (row_at w (step_of w kept) x) i
+  fails_here i f =
+      any_new (declarations_of w) (step_of w kept) (any_name []) (by_hint (declarations_of w) (cells_read w.types w.store)) (sequent_of w x) i (failed i f)
+
   told : (j : ℕ) → FailsFirst (row_at w (step_of w kept) x) j → Fails (declarations_of w) (step_of w kept) (sequent_of w x) j
-  told j f = any_new (declarations_of w) (step_of w kept) (by_hint (declarations_of w) (length w.store.cells) (sequent_of w x)) (any_name 0 (sequent_of w x)) (sequent_of w x) j f
+  told j f = any_new (declarations_of w) (step_of w kept) (by_hint (declarations_of w) (cells_read w.types w.store)) (any_name []) (sequent_of w x) j f
 
   pub refused : (f : KernelFault) → Answers v (row_at w (step_of w kept) x) (Err f)
       → (i : ℕ) → ◌≡◌ {A = Result ℕ KernelFault} (Err f) (Err (RuleFails i)) → GoalFails (declarations_of w) place (step_of w kept) i d
@@ -64,24 +72,38 @@ module _ (w v : World) (x : Kept) (kept : Step) (place : ℕ) (d : Derivation) (
   pub refuses : (f : KernelFault) → Answers v (row_at w (step_of w kept) x) (Err f)
       → (i : ℕ) → GoalFails (declarations_of w) place (step_of w kept) i d → (◌≡◌ {A = Result ℕ KernelFault} (Err f) (Err (RuleFails i))) ⊎ IsMemory {A = ℕ} (Err f)
   refuses (RuleFails j) a i g =
-      inl (ap (λ k. Err (RuleFails k)) (one_failure (row (declarations_of w) (any_name 0 (sequent_of w x)) (step_of w kept) (sequent_of w x)) j i (told j a) (failed i g)))
-  refuses (NotPattern j) a i g = absurd a
+      inl (ap (λ k. Err (RuleFails k)) (one_failure (row (declarations_of w) (any_name []) (step_of w kept) (sequent_of w x)) j i (told j a) (failed i g)))
+  refuses (NotPattern j) a i g = absurd (refused_or_stuck (row_at w (step_of w kept) x) i j (fails_here i g) a)
   refuses (Memory m) a i g = inr tt
 
-  pub not_pattern : (f : KernelFault) → Answers v (row_at w (step_of w kept) x) (Err f) → (i : ℕ) → ◌≡◌ {A = Result ℕ KernelFault} (Err f) (Err (NotPattern i)) → ⊥
-  not_pattern (RuleFails j) a i e = cc
-  not_pattern (NotPattern j) a i e = a
-  not_pattern (Memory m) a i e = cc
+  pub stuck : (f : KernelFault) → Answers v (row_at w (step_of w kept) x) (Err f)
+      → (i : ℕ) → ◌≡◌ {A = Result ℕ KernelFault} (Err f) (Err (NotPattern i)) → GoalStuck (declarations_of w) (cells_read w.types w.store) place (step_of w kept) i d
+  stuck (RuleFails j) a i e = cc
+  stuck (NotPattern j) a i e =
+      let same : j ≡ i = cc in (
+        sequent_of w x,
+        is,
+        any_names (declarations_of w) (step_of w kept) (cells_read w.types w.store) (IsNamedFor (declarations_of w)) (λ s hint name. IsNoVariable s name) (sequent_of w x) i
+            (subst (Sticks (row_at w (step_of w kept) x)) same a),
+      )
+  stuck (Memory m) a i e = cc
+
+  pub sticks : (f : KernelFault) → Answers v (row_at w (step_of w kept) x) (Err f)
+      → (i : ℕ) → GoalStuck (declarations_of w) (cells_read w.types w.store) place (step_of w kept) i d → (◌≡◌ {A = Result ℕ KernelFault} (Err f) (Err (NotPattern i))) ⊎ IsMemory {A = ℕ} (Err f)
+  sticks (RuleFails j) a i g = absurd (refused_or_stuck (row_at w (step_of w kept) x) j i a (stuck_here i g))
+  sticks (NotPattern j) a i g = inl (ap (λ k. Err (NotPattern k)) (one_equation (row_at w (step_of w kept) x) j i a (stuck_here i g)))
+  sticks (Memory m) a i g = inr tt
+
+  pub not_stuck : (made : Vec Kept Global) → Answers v (row_at w (step_of w kept) x) (Ok made) → (i : ℕ) → GoalStuck (declarations_of w) (cells_read w.types w.store) place (step_of w kept) i d → ⊥
+  not_stuck made a i g = taken_or_stuck (row_at w (step_of w kept) x) _ i a.0 (stuck_here i g)
 
   pub not_refused : (made : Vec Kept Global) → Answers v (row_at w (step_of w kept) x) (Ok made) → (i : ℕ) → GoalFails (declarations_of w) place (step_of w kept) i d → ⊥
-  not_refused made a i g =
-      never_both (row_at w (step_of w kept) x) _ i a.0
-      (any_new (declarations_of w) (step_of w kept) (any_name 0 (sequent_of w x)) (by_hint (declarations_of w) (length w.store.cells) (sequent_of w x)) (sequent_of w x) i (failed i g))
+  not_refused made a i g = never_both (row_at w (step_of w kept) x) _ i a.0 (fails_here i g)
 
 -- the rule of the step, from the answer of its function
 pub by_rule : (w v : World) (x : Kept) (kept : Step) (made : Vec Kept Global) → HoldsSequent w x
     → Answers v (row_at w (step_of w kept) x) (Ok made) → NamedRule (declarations_of w) (step_of w kept) (sequent_of w x) (map (sequent_of v) made.items)
-by_rule w v x kept made held a = (length w.store.cells, new_number w x held, a.0)
+by_rule w v x kept made held a = (cells_read w.types w.store, over_cells w x held, a.0)
 
 module _ (w v : World) (grown : Grows w v) (p q : Held) (proof : IsProof w p) (kept : Step) (holds : HoldsStep w kept) where
   -- the step as it reads now
@@ -115,6 +137,13 @@ module _ (w v : World) (grown : Grows w v) (p q : Held) (proof : IsProof w p) (k
             (All-weaker (Valid (declarations_of w)) (Valid (declarations_of v)) (still_valid (declarations_of w) (declarations_of v) grown.declarations) ((history_of w p).tree ∷ (history_of w p).earlier)
             (All-cons (Valid (declarations_of w)) (history_of w p).tree (history_of w p).earlier proof.valid proof.was_valid));
       }
+
+-- an open goal is a sequent
+pub goal_sequent : (w : World) (p : Held) (place : ℕ) (s : Sequent) → IsWorld w → IsProof w p → goal_at (history_of w p).tree place ≡ Some s → IsSequent (declarations_of w) s
+goal_sequent w p place s world proof at =
+    let gs = open_goals (history_of w p).tree in
+    let all = open_are_sequents (declarations_of w) world.sentences (history_of w p).tree proof.valid proof.rooted in
+    subst (IsSequent (declarations_of w)) (get_or_from_slice_get gs place s s at) (all place s (slice_get_within gs place s at))
 
 -- the goal at which the step is taken
 pub record Here (w : World) (p : Held) (place : ℕ) (x : Kept) : Type 0 where

@@ -1,6 +1,6 @@
 -- A derivation whose root is a sequent has sequents throughout.
-use Rattle.std.specs.Prelude.{◌≢◌, All, AllPairs, Contains}
-use Rattle.std.proofs.Common.{◌≡◌, ℕ, List, [], ◌∷◌, ◌++◌, sym, subst, append-nil}
+use Rattle.std.specs.Prelude.{◌≢◌, All, Contains}
+use Rattle.std.proofs.Common.{◌≡◌, ℕ, [], sym, subst, append-nil}
 use Rattle.std.proofs.lemmas.List.Elements.{All-cons, All-head, All-tail, All-append, All-nil, All-weaker}
 use Rattle.ab_term.specs.Names.{support}
 use Rattle.ab_term.specs.Variables.{variables}

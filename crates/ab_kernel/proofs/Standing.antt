@@ -6,8 +6,7 @@ use Rattle.std.proofs.lemmas.Option.{slice_get_within, get_or_from_slice_get, sl
 use Rattle.std.proofs.lemmas.Bool.{eqb-true, eq-eqb}
 use Rattle.std.proofs.Math.Seq.{take-suc}
 use Rattle.ab_rules.specs.Steps.{Step}
-use Rattle.ab_kernel.specs.Nodes.{sequents_in}
-use Rattle.ab_kernel.specs.Layout.{StepAt, steps_in}
+use Rattle.ab_kernel.specs.Layout.{StepAt}
 use Rattle.std.specs.Option.{option_map}
 use Rattle.ab_logic.specs.declared.world.World.{World}
 use Rattle.ab_logic.specs.declared.sequent.Sequent.{Sequent as Kept}

@@ -12,7 +12,7 @@ use Rattle.ab_logic.specs.Readings.{sequent_of, HoldsSequent}
 use Rattle.ab_rules.specs.Answers.{HoldsStep}
 use Rattle.ab_logic.specs.Worlds.{declarations_of}
 use Rattle.ab_kernel.specs.Derivation.{root, Valid, open_goals, History, undone}
-use Rattle.ab_kernel.specs.Layout.{Held, history_of, IsProof, sequents_before, made_by, Reads, start_of, open_before, Stands}
+use Rattle.ab_kernel.specs.Layout.{history_of, IsProof, sequents_before, made_by, Reads, start_of, open_before, Stands}
 use Rattle.ab_kernel.specs.Nodes.{node_at, step_held}
 use Rattle.ab_kernel.specs.Layout.{nodes_before}
 use Rattle.ab_kernel.specs.declared.node.ProofNode.{ProofNode}

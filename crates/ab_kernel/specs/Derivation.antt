@@ -1,11 +1,12 @@
 -- Derivations with open goals, when they are valid, and when one derives a formula.
 use Rattle.std.specs.Prelude.{◌≡◌, ℕ, zero, suc, ◌+◌, ◌-◌, ◌≤◌, List, [], ◌∷◌, ◌++◌, length, take, drop, Option, Some, slice_get, nat_lt, if◌then◌else◌}
 use Rattle.ab_store.specs.Trees.{Read}
+use Rattle.ab_solve.specs.Replacing.{Cell}
 use Rattle.ab_logic.specs.Sequents.{Sequent}
 use Rattle.ab_logic.specs.Declarations.{Declarations, signature_in}
 use Rattle.ab_logic.specs.Formulas.{IsSentence}
 use Rattle.ab_rules.specs.Steps.{Step}
-use Rattle.ab_rules.specs.Rules.{Rule, NamedRule, Fails}
+use Rattle.ab_rules.specs.Rules.{Rule, NamedRule, Fails, Stuck}
 
 mutual
   -- an open goal, or a step from a sequent to the derivations of its premises
@@ -83,6 +84,12 @@ abbrev mutual
 abbrev pub GoalFails : Declarations → ℕ → Step → ℕ → Derivation → Type 0
 GoalFails D place step condition d =
     (s : Sequent) × (goal_at d place ≡ Some s) × Fails D step s condition
+
+-- the step's equation of this number is outside the patterns at the open goal of this place, where these are all variables
+-- that were ever made
+abbrev pub GoalStuck : Declarations → List (Cell (List ℕ)) → ℕ → Step → ℕ → Derivation → Type 0
+GoalStuck D cells place step equation d =
+    (s : Sequent) × (goal_at d place ≡ Some s) × Stuck D cells step s equation
 
 -- a proof in progress: its derivation, and what that was before each of the steps that stand, the
 -- latest first

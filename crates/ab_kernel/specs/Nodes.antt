@@ -1,5 +1,5 @@
 -- The nodes of a proof, by their numbers, and what they were before a step.
-use Rattle.std.specs.Prelude.{◌≡◌, ◌≢◌, ℕ, zero, suc, ◌+◌, ◌-◌, ◌<◌, List, [], ◌∷◌, ◌++◌, length, map, take, get_or, slice_set, All, AllPairs, Option, Some, None, unwrap_or}
+use Rattle.std.specs.Prelude.{◌≡◌, ℕ, zero, suc, ◌+◌, List, [], ◌∷◌, ◌++◌, map, get_or, None, unwrap_or}
 use Rattle.ab_logic.specs.declared.sequent.Sequent.{Sequent}
 use Rattle.ab_rules.specs.declared.step.Step.{Step}
 use Rattle.ab_rules.specs.declared.step.Step.TheVariants.{TrueRight}

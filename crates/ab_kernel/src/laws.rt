@@ -1,13 +1,14 @@
 //! Laws of derivations, which no other contract carries.
 ghost use Rattle.std.specs.Prelude.{◌≡◌, ℕ, ◌+◌, List, ◌∷◌, ◌++◌, length, Some, All};
+ghost use Rattle.ab_solve.specs.Replacing.{Cell};
 ghost use Rattle.ab_logic.specs.Declarations.{Declarations, Extends, HaveSentences};
 ghost use Rattle.ab_logic.specs.Worlds.{declarations_of, IsWorld};
 ghost use Rattle.ab_logic.specs.Growth.{Grows};
 ghost use Rattle.ab_logic.specs.Sequents.{Sequent, IsSequent};
 ghost use Rattle.ab_logic.specs.declared.world.World.{World};
 ghost use Rattle.ab_rules.specs.Steps.{Step};
-ghost use Rattle.ab_rules.specs.Rules.{Rule, NamedRule, Fails};
-ghost use Rattle.ab_kernel.specs.Derivation.{Derivation, root, Valid, goal_at, refined, open_goals, History, IsStep, GoalFails, undone, Above};
+ghost use Rattle.ab_rules.specs.Rules.{Rule, NamedRule, Fails, Stuck};
+ghost use Rattle.ab_kernel.specs.Derivation.{Derivation, root, Valid, goal_at, refined, open_goals, History, IsStep, GoalFails, GoalStuck, undone, Above};
 ghost use Rattle.ab_kernel.specs.Layout.{Held, IsProof, history_of};
 
 /// A step that is taken by its rule at an open goal keeps a derivation valid.
@@ -28,13 +29,15 @@ pub fn a_proof_outlives_its_world()
 {}
 
 /// A step, seen among the open goals: its premises take its goal's place between those before it and those behind it.
-/// Where its rule fails, it fails at that goal.
+/// Where its rule fails, it fails at that goal, and where its equation is outside the patterns, it is so there.
 pub fn a_step_at_a_split()
     ensures taken { (D : Declarations) (place n : ℕ) (step : Step) (old new : History) (before behind : List Sequent) (s : Sequent) →
         IsStep D place step n old new → open_goals old.tree ≡ before ++ s ∷ behind → length before ≡ place →
         (ps : List Sequent) × NamedRule D step s ps × (length ps ≡ n) × (open_goals new.tree ≡ before ++ ps ++ behind) }
     ensures failed { (D : Declarations) (place i : ℕ) (step : Step) (d : Derivation) (before behind : List Sequent) (s : Sequent) →
         GoalFails D place step i d → open_goals d ≡ before ++ s ∷ behind → length before ≡ place → Fails D step s i }
+    ensures stuck { (D : Declarations) (cells : List (Cell (List ℕ))) (place i : ℕ) (step : Step) (d : Derivation) (before behind : List Sequent) (s : Sequent) →
+        GoalStuck D cells place step i d → open_goals d ≡ before ++ s ∷ behind → length before ≡ place → Stuck D cells step s i }
 {}
 
 /// Steps add up, and as many taken back give the proof as it was.

@@ -6,13 +6,14 @@ ghost use Rattle.ab_logic.specs.Growth.{Grows};
 ghost use Rattle.ab_logic.specs.declared.world.World.{World as AWorld};
 ghost use Rattle.ab_logic.specs.Readings.{sequent_of, HoldsSequent};
 ghost use Rattle.ab_store.specs.Trees.{Read};
+ghost use Rattle.ab_unifying.specs.Problem.{cells_read};
 ghost use Rattle.ab_term.specs.Names.{support};
 ghost use Rattle.ab_term.specs.Variables.{variables};
 ghost use Rattle.ab_logic.specs.Declarations.{signature_in};
 ghost use Rattle.ab_logic.specs.Formulas.{IsFormula, IsSentence, HasOneTypeEach};
 ghost use Rattle.ab_rules.specs.Answers.{step_of, HoldsStep, IsMemory};
 ghost use Rattle.ab_rules.specs.declared.step.KernelFault.{KernelFault};
-ghost use Rattle.ab_kernel.specs.Derivation.{root, Valid, open_goals, goal_at, IsDerivation, beginning, proves, IsStep, GoalFails, undone};
+ghost use Rattle.ab_kernel.specs.Derivation.{root, Valid, open_goals, goal_at, IsDerivation, beginning, proves, IsStep, GoalFails, GoalStuck, undone};
 ghost use Rattle.ab_kernel.specs.Layout.{history_of, IsProof, before_last, Beyond};
 ghost use Rattle.ab_kernel.specs.Nodes.{open_node, numbers_up};
 ghost use Rattle.ab_kernel.specs.Reading.{StandsFor};
@@ -141,9 +142,9 @@ impl Proof {
     }
 
     /// Takes a step at the open goal of this place, counted from 0 at the left. Its premises take
-    /// the goal's place in order, and their number is the answer. A rule that fails, and want of
-    /// memory, change nothing of the proof, and leave in the world what it declares and what ids
-    /// stand for. No rule that is carried out solves equations.
+    /// the goal's place in order, and their number is the answer. A rule that fails, an equation
+    /// outside the patterns, and want of memory change nothing of the proof, and leave in the world
+    /// what it declares and what ids stand for.
     pub fn refine<L>(
         &mut self,
         world: &mut World,
@@ -158,7 +159,10 @@ impl Proof {
         ensures step { IfOk result (λ n. IsStep (declarations_of world.old) place (step_of world.old step) n (history_of world.old self.old) (history_of world.new self.new)) }
         ensures refused { (i : ℕ) → result ≡ Err (KernelFault.RuleFails i) → GoalFails (declarations_of world.old) place (step_of world.old step) i (history_of world.old self.old).tree }
         ensures refuses { (i : ℕ) → GoalFails (declarations_of world.old) place (step_of world.old step) i (history_of world.old self.old).tree → (result ≡ Err (KernelFault.RuleFails i)) ⊎ IsMemory result }
-        ensures not_pattern { (i : ℕ) → result ≡ Err (KernelFault.NotPattern i) → ⊥ }
+        ensures stuck { (i : ℕ) → result ≡ Err (KernelFault.NotPattern i) →
+            GoalStuck (declarations_of world.old) (cells_read world.old.types world.old.store) place (step_of world.old step) i (history_of world.old self.old).tree }
+        ensures sticks { (i : ℕ) → GoalStuck (declarations_of world.old) (cells_read world.old.types world.old.store) place (step_of world.old step) i (history_of world.old self.old).tree →
+            (result ≡ Err (KernelFault.NotPattern i)) ⊎ IsMemory result }
         ensures proof { IsProof world.new self.new }
         ensures err { OnErr result (self.new ≡ self.old) }
         ensures grows { Grows world.old world.new }

@@ -1,6 +1,7 @@
 -- One stretch of steps after another, where a goal is then, and the proof as it was.
 use Rattle.std.specs.Prelude.{Result, Ok, Err, IfOk, OnErr, slice_get}
 use Rattle.std.proofs.Common.{◌≡◌, ◌≢◌, ℕ, ◌+◌, ◌-◌, ◌<◌, List, [], ◌∷◌, ◌++◌, Some, None, length, take, drop, refl, sym, ◌∙◌, ap, subst, arith}
+use Rattle.ab_unifying.specs.Problem.{cells_read}
 use Rattle.ab_logic.specs.Worlds.{IsWorld, declarations_of}
 use Rattle.ab_logic.specs.Growth.{Grows}
 use Rattle.ab_logic.specs.Sequents.{Sequent}
@@ -8,13 +9,13 @@ use Rattle.ab_logic.specs.declared.world.World.{World}
 use Rattle.ab_logic.proofs.Growing.{grows_on, grows_not}
 use Rattle.ab_rules.specs.Steps.{Step}
 use Rattle.ab_rules.specs.declared.step.KernelFault.{KernelFault}
-use Rattle.ab_kernel.specs.Derivation.{History, IsStep, GoalFails, undone, open_goals, Above}
+use Rattle.ab_kernel.specs.Derivation.{History, IsStep, GoalFails, GoalStuck, undone, open_goals, Above}
 use Rattle.ab_kernel.specs.Layout.{Held, history_of, IsProof, before_steps, Beyond}
-use Rattle.ab_kernel.proofs.Adding.{above_none, above_one, above_on, taken_at, failed_at}
+use Rattle.ab_kernel.proofs.Adding.{above_none, above_one, above_on, taken_at, failed_at, stuck_at}
 use Rattle.ab_kernel.proofs.Earlier.{standing, beyond_none, beyond_on}
 use Rattle.ab_kernel.proofs.Later.{same_history}
 use Rattle.ab_kernel.proofs.Splits.{within, at_place, get_here}
-use Rattle.ab_progress.specs.Progress.{goals_of, IsAt, Follows, Took, FailsAt}
+use Rattle.ab_progress.specs.Progress.{goals_of, IsAt, Follows, Took, FailsAt, StuckAt}
 
 pub follows_on : (w v u : World) (p q r : Held) → Follows w p v q → Follows v q u r → Follows w p u r
 follows_on w v u p q r a b = record {
@@ -55,6 +56,10 @@ took w v p q place n step is before behind s at =
 pub failed : (w : World) (p : Held) (place i : ℕ) (step : Step) → GoalFails (declarations_of w) place step i (history_of w p).tree → FailsAt w p place step
 failed w p place i step f before behind s at =
     (i, failed_at (declarations_of w) place i step (history_of w p).tree before behind s f at.goals at.counted)
+
+pub sticks_there : (w : World) (p : Held) (place i : ℕ) (step : Step) → GoalStuck (declarations_of w) (cells_read w.types w.store) place step i (history_of w p).tree → StuckAt w p place step i
+sticks_there w p place i step f before behind s at =
+    stuck_at (declarations_of w) (cells_read w.types w.store) place i step (history_of w p).tree before behind s f at.goals at.counted
 
 -- what was taken since is taken back
 pub back : (w v : World) (p q r : Held) (count : ℕ) → Follows w p v q → count ≡ length (history_of w p).earlier

@@ -4,8 +4,9 @@ use Rattle.ab_logic.specs.Worlds.{declarations_of}
 use Rattle.ab_logic.specs.Growth.{Grows}
 use Rattle.ab_logic.specs.Sequents.{Sequent}
 use Rattle.ab_logic.specs.declared.world.World.{World}
-use Rattle.ab_rules.specs.Steps.{Step}
-use Rattle.ab_rules.specs.Rules.{NamedRule, Fails}
+use Rattle.ab_unifying.specs.Problem.{cells_read}
+use Rattle.ab_rules.specs.Steps.{Step, equal_left}
+use Rattle.ab_rules.specs.Rules.{NamedRule, Fails, Stuck}
 use Rattle.ab_kernel.specs.Derivation.{open_goals, Above}
 use Rattle.ab_kernel.specs.Layout.{Held, history_of, IsProof, Beyond}
 
@@ -45,3 +46,13 @@ FailsAt w p place step = (before behind : List Sequent) (s : Sequent) → IsAt w
 abbrev pub Holds : World → Held → ℕ → Step → Type 0
 Holds w p place step = (before behind : List Sequent) (s : Sequent) → IsAt w p place before s behind →
     (i : ℕ) → Fails (declarations_of w) step s i → ⊥
+
+-- the step's equation of this number is outside the patterns at the goal of this place
+abbrev pub StuckAt : World → Held → ℕ → Step → ℕ → Type 0
+StuckAt w p place step i = (before behind : List Sequent) (s : Sequent) → IsAt w p place before s behind →
+    Stuck (declarations_of w) (cells_read w.types w.store) step s i
+
+-- the step solves no equation
+abbrev pub SolvesNothing : Step → Type 0
+SolvesNothing (equal_left H) = ⊥
+SolvesNothing step = Unit {0}

@@ -1,18 +1,59 @@
 //! Steps of a proof, as the proof commands take them and take them back.
-ghost use Rattle.std.specs.Prelude.{◌≡◌, ◌<◌, ◌≤◌, ◌-◌, length, IfOk, OnOk, OnErr, IsTrue, IsFalse};
+ghost use Rattle.std.specs.Prelude.{◌≡◌, ◌≢◌, ℕ, ◌<◌, ◌≤◌, ◌-◌, length, Ok, IfOk, OnOk, OnErr, IsTrue, IsFalse};
 ghost use Rattle.ab_logic.specs.Worlds.{IsWorld};
 ghost use Rattle.ab_logic.specs.declared.world.World.{World as AWorld};
 ghost use Rattle.ab_rules.specs.Answers.{step_of, HoldsStep};
 ghost use Rattle.ab_kernel.specs.Derivation.{undone};
 ghost use Rattle.ab_kernel.specs.Layout.{Held, history_of, IsProof};
-ghost use Rattle.ab_progress.specs.Progress.{goals_of, Follows, Took, FailsAt, Holds};
+ghost use Rattle.ab_progress.specs.Progress.{goals_of, Follows, Took, FailsAt, Holds, StuckAt, SolvesNothing};
+ghost use Rattle.ab_progress.specs.declared.advancing.Attempted.TheVariants.{Taken, Failed, Stuck};
 
 use ab_kernel::{KernelFault, Proof, Step};
 use ab_logic::World;
 use ab_types::Steps;
 use std::alloc::AllocError;
 
-/// Takes a step at the goal of this place. It answers false, and changes nothing, where the step's rule fails there.
+/// What came of a step.
+#[derive(Clone, Copy)]
+pub enum Attempted {
+    /// It was taken, and led to so many premises.
+    Taken(usize),
+    /// Its rule fails.
+    Failed,
+    /// Its equation of this number, counted from 0, is outside the patterns.
+    Stuck(usize),
+}
+
+/// Takes a step at the goal of this place, which may solve an equation. Where it isn't taken the proof is as it was.
+pub fn attempt_solving<L>(
+    world: &mut World,
+    proof: &mut Proof,
+    place: usize,
+    step: Step,
+    steps: &mut Steps<L>,
+) -> Result<Attempted, AllocError>
+    requires world { IsWorld world.old }
+    requires proof { IsProof world.old proof.old }
+    requires step { HoldsStep world.old step }
+    requires place { place < length (goals_of world.old proof.old) }
+    ensures follows { Follows world.old proof.old world.new proof.new }
+    ensures took { (n : ℕ) → result ≡ Ok (Taken n) → Took world.old proof.old world.new proof.new place (step_of world.old step) }
+    ensures failed { result ≡ Ok Failed → FailsAt world.old proof.old place (step_of world.old step) }
+    ensures stuck { (i : ℕ) → result ≡ Ok (Stuck i) → StuckAt world.old proof.old place (step_of world.old step) i }
+    ensures unchanged { ((n : ℕ) → result ≢ Ok (Taken n)) → history_of world.new proof.new ≡ history_of world.old proof.old }
+    ensures kept { ((n : ℕ) → result ≢ Ok (Taken n)) → proof.new ≡ proof.old }
+    ensures steps { steps.old ≤ steps.new }
+{
+    match proof.refine(world, place, step, steps) {
+        Ok(count) => Ok(Attempted::Taken(count)),
+        Err(KernelFault::RuleFails(_)) => Ok(Attempted::Failed),
+        Err(KernelFault::NotPattern(equation)) => Ok(Attempted::Stuck(equation)),
+        Err(KernelFault::Memory(fault)) => Err(fault),
+    }
+}
+
+/// Takes a step that solves no equation at the goal of this place. It answers false, and changes nothing, where the
+/// step's rule fails there.
 pub fn attempt<L>(
     world: &mut World,
     proof: &mut Proof,
@@ -23,6 +64,7 @@ pub fn attempt<L>(
     requires world { IsWorld world.old }
     requires proof { IsProof world.old proof.old }
     requires step { HoldsStep world.old step }
+    requires plain { SolvesNothing (step_of world.old step) }
     requires place { place < length (goals_of world.old proof.old) }
     ensures follows { Follows world.old proof.old world.new proof.new }
     ensures took { IfOk result (λ b. IsTrue b → Took world.old proof.old world.new proof.new place (step_of world.old step)) }
@@ -41,7 +83,7 @@ pub fn attempt<L>(
     }
 }
 
-/// Takes a step at the goal of this place, where its rule holds.
+/// Takes a step that solves no equation at the goal of this place, where its rule holds.
 pub fn surely<L>(
     world: &mut World,
     proof: &mut Proof,
@@ -52,6 +94,7 @@ pub fn surely<L>(
     requires world { IsWorld world.old }
     requires proof { IsProof world.old proof.old }
     requires step { HoldsStep world.old step }
+    requires plain { SolvesNothing (step_of world.old step) }
     requires place { place < length (goals_of world.old proof.old) }
     requires sure { Holds world.old proof.old place (step_of world.old step) }
     ensures follows { Follows world.old proof.old world.new proof.new }

@@ -6,6 +6,6 @@ mod fault;
 pub mod laws;
 mod looking;
 
-pub use advancing::{attempt, surely, take_back};
+pub use advancing::{Attempted, attempt, attempt_solving, surely, take_back};
 pub use fault::ProofCommandFault;
 pub use looking::first_goal;

@@ -1,5 +1,5 @@
 -- What a call that makes terms leaves of a world, one call after another.
-use Rattle.std.proofs.Common.{◌≡◌, List, refl, ◌∙◌}
+use Rattle.std.proofs.Common.{List, refl, ◌∙◌}
 use Rattle.ab_types.specs.Entries.{Table}
 use Rattle.ab_store.specs.Trees.{Contents}
 use Rattle.ab_norm.specs.Growth.{AddsTerms, AddsTypedTerms}

@@ -1,6 +1,6 @@
 -- What is declared stays the same, where a table gets types alone and a store terms and cells.
 use Rattle.std.specs.Prelude.{Result, Ok, Err, OnOk, OnErr}
-use Rattle.std.proofs.Common.{◌≡◌, inl, inr, List, [], ◌∷◌, ◌++◌, refl, sym, ◌∙◌, ap, append-nil}
+use Rattle.std.proofs.Common.{◌≡◌, inl, inr, [], ◌∷◌, ◌++◌, refl, sym, ◌∙◌, ap, append-nil}
 use Rattle.ab_term.specs.Types.{Ty}
 use Rattle.ab_types.specs.Entries.{Table, a_type, FindsOrAdds}
 use Rattle.ab_logic.specs.Growth.{Grows}

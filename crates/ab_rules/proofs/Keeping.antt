@@ -1,6 +1,6 @@
 -- Rules keep what is true of every sequent.
 use Rattle.std.specs.Prelude.{All, Contains, if◌then◌else◌}
-use Rattle.std.proofs.Common.{◌≡◌, ◌≢◌, inl, inr, ℕ, List, [], ◌∷◌, ◌++◌, map, Bool, true, false, Some, refl, sym, ◌∙◌, ap, subst}
+use Rattle.std.proofs.Common.{◌≡◌, ◌≢◌, inl, inr, ℕ, List, [], ◌∷◌, ◌++◌, map, length, Bool, true, false, Some, refl, sym, ◌∙◌, ap, subst}
 use Rattle.std.proofs.lemmas.List.Elements.{Contains-append_right, All-cons, All-contains, Contains-append_left, Contains-push, Contains-push_cases}
 use Rattle.ab_term.specs.Types.{Ty, prop}
 use Rattle.ab_term.specs.Terms.{Nominal}
@@ -12,13 +12,18 @@ use Rattle.ab_store.specs.Trees.{Read}
 use Rattle.ab_logic.specs.Formulas.{IsFormula, HasOneTypeEach}
 use Rattle.ab_logic.specs.Declarations.{Declarations, signature_in, theorem_in, HaveSentences}
 use Rattle.ab_logic.specs.Sequents.{Fits, Variable, Sequent, goal_names, IsSequent, formula_of, proving, assuming, without, over}
-use Rattle.ab_logic.specs.Forms.{as_for_all, as_exists}
-use Rattle.ab_logic.specs.Names.{Label, Names}
+use Rattle.ab_logic.specs.Forms.{as_equal, as_for_all, as_exists}
+use Rattle.ab_logic.specs.Names.{Label, Names, IsNoVariable}
+use Rattle.ab_solve.specs.Replacing.{Cell}
+use Rattle.ab_equate.specs.Solved.{AreCells}
 use Rattle.ab_rules.specs.Steps.{Step, initial, true_right, false_left, and_right, and_left, or_right, or_left, arrow_right, arrow_left, for_all_right, for_all_left, exists_right, exists_left, nabla_right, nabla_left, equal_right, equal_left, definition_right, definition_left, induction, coinduction, cut_formula, use_theorem, weaken, spec_cut, spec_instance, spec_monotone}
-use Rattle.ab_rules.specs.Row.{Takes}
-use Rattle.ab_rules.specs.Rules.{row, Rule, any_name, IsNew, IsSupport, MayName, name_term, raised, applied}
+use Rattle.ab_rules.specs.Row.{solves, Takes}
+use Rattle.ab_rules.specs.Rules.{row, Rule, any_name, IsSupport, MayName, name_term, raised, applied}
 use Rattle.ab_rules.proofs.Parts.{MayBePut, named_in, MayStand, IsScope, both_may, either_may, implies_may, for_all_scope, exists_scope, nabla_scope, instance_may, name_may, applied_may}
-use Rattle.ab_rules.proofs.Sequents.{IsGoal, goal_of, sequent_from, found_may, proving_goal, assuming_goal, without_goal, labelled_goal, scope_more, names_more, over_goal}
+use Rattle.ab_rules.proofs.NewNumbers.{new_number}
+use Rattle.ab_equate.proofs.Sides.{equation_sides}
+use Rattle.ab_equate.proofs.Carried.{solved_is_sequent}
+use Rattle.ab_rules.proofs.Sequents.{IsGoal, goal_of, sequent_from, found_may, proving_goal, assuming_goal, without_goal, labelled_goal, scope_more, names_more, over_goal, without_sequent}
 
 module _ (D : Declarations) (sentences : HaveSentences D) (s : Sequent) (is : IsSequent D s) where
   abbrev N : List Nominal
@@ -166,68 +171,79 @@ module _ (D : Declarations) (sentences : HaveSentences D) (s : Sequent) (is : Is
         names = λ a c. absurd (Contains-none a (subst (λ ns. Contains ns a) sentence.nameless c));
       }
 
-  kept_from : (number : ℕ) (new : IsNew number s) (step : Step) (ps : List Sequent) → Takes (row D (any_name number s) step s) ps → All (IsSequent D) ps
-  kept_from number new (initial H) ps t = none_kept ps t.2.1.1
-  kept_from number new true_right ps t = none_kept ps t.2
-  kept_from number new (false_left H) ps t = none_kept ps t.2.2
-  kept_from number new and_right ps t =
+  -- the goal under the answer of an equation
+  solved_kept : (H : List ℕ) (cells : List (Cell (List ℕ))) → AreCells cells s → (F : Read) (p : Read × Read) → May F → as_equal F ≡ Some p
+      → (ps : List Sequent) → Takes (solves (λ s hint name. IsNoVariable s name) cells (without H s) p.0 p.1) ps → All (IsSequent D) ps
+  solved_kept H cells are F p may is_equal ps (inl a) =
+      let sides = equation_sides (signature_in D) s.variables F p may.formula.typed may.closed is_equal in
+      subst (All (IsSequent D)) (sym a.2)
+      (All-cons (IsSequent D) a.0 []
+      (solved_is_sequent D (λ s hint name. IsNoVariable s name) (λ s hint name new. new) cells (without H s) a.0 (without_sequent D s H is) are p.0 p.1 sides.type
+      sides.left sides.right sides.left_closed sides.right_closed a.1) (none_kept [] refl))
+  solved_kept H cells are F p may is_equal ps (inr a) = none_kept ps a.1
+
+  kept_from : (cells : List (Cell (List ℕ))) (are : AreCells cells s) (step : Step) (ps : List Sequent) → Takes (row D (any_name cells) step s) ps → All (IsSequent D) ps
+  kept_from cells are (initial H) ps t = none_kept ps t.2.1.1
+  kept_from cells are true_right ps t = none_kept ps t.2
+  kept_from cells are (false_left H) ps t = none_kept ps t.2.2
+  kept_from cells are and_right ps t =
       let both = both_may (signature_in D) s.variables N s.conclusion t.0 goal.conclusion t.1 in
       two_kept ps (proving t.0.0 s) (proving t.0.1 s) t.2 (proving_goal D N s t.0.0 goal both.0) (proving_goal D N s t.0.1 goal both.1)
-  kept_from number new (and_left H l m) ps t =
+  kept_from cells are (and_left H l m) ps t =
       let p = t.2.0 in
       let both = both_may (signature_in D) s.variables N t.0 p (found H t.0 t.1) t.2.1 in
       let first = added l (without H s) t.2.2.1 t.2.2.0 p.0 (without_it H) refl t.2.2.2 both.0 in
       let lab = labelled_goal D N l (without H s) t.2.2.1 t.2.2.0 (without_it H) t.2.2.2 in
       let second = added m (assuming t.2.2.0 p.0 t.2.2.1) t.2.2.3.1 t.2.2.3.0 p.1 first lab.variables t.2.2.3.2 both.1 in
       one_kept ps (assuming t.2.2.3.0 p.1 t.2.2.3.1) t.2.2.3.3 second
-  kept_from number new (or_right b) ps t =
+  kept_from cells are (or_right b) ps t =
       let either = either_may (signature_in D) s.variables N s.conclusion t.0 goal.conclusion t.1 in
       one_kept ps (proving (if b then t.0.0 else t.0.1) s) t.2 (proving_goal D N s (if b then t.0.0 else t.0.1) goal (chosen b t.0.0 t.0.1 either.0 either.1))
-  kept_from number new (or_left H l) ps t =
+  kept_from cells are (or_left H l) ps t =
       let p = t.2.0 in
       let either = either_may (signature_in D) s.variables N t.0 p (found H t.0 t.1) t.2.1 in
       two_kept ps (assuming t.2.2.0 p.0 t.2.2.1) (assuming t.2.2.0 p.1 t.2.2.1) t.2.2.3
       (added l (without H s) t.2.2.1 t.2.2.0 p.0 (without_it H) refl t.2.2.2 either.0)
       (added l (without H s) t.2.2.1 t.2.2.0 p.1 (without_it H) refl t.2.2.2 either.1)
-  kept_from number new (arrow_right l) ps t =
+  kept_from cells are (arrow_right l) ps t =
       let p = t.0 in
       let both = implies_may (signature_in D) s.variables N s.conclusion p goal.conclusion t.1 in
       let lab = labelled_goal D N l s t.2.1 t.2.0 goal t.2.2 in
       one_kept ps (proving p.1 (assuming t.2.0 p.0 t.2.1)) t.2.3
       (proving_goal D N (assuming t.2.0 p.0 t.2.1) p.1 (added l s t.2.1 t.2.0 p.0 goal refl t.2.2 both.0)
       (subst (λ xs. MayStand (signature_in D) xs N p.1) (sym lab.variables) both.1))
-  kept_from number new (arrow_left H l) ps t =
+  kept_from cells are (arrow_left H l) ps t =
       let p = t.2.0 in
       let both = implies_may (signature_in D) s.variables N t.0 p (found H t.0 t.1) t.2.1 in
       two_kept ps (proving p.0 s) (assuming t.2.2.0 p.1 t.2.2.1) t.2.2.3
       (proving_goal D N s p.0 goal both.0) (added l s t.2.2.1 t.2.2.0 p.1 goal refl t.2.2.2 both.1)
-  kept_from number new for_all_right ps t =
+  kept_from cells are for_all_right ps t =
       let q = t.0 in
       let names = t.2.0.0 in
       let name = t.2.0.1 in
-      let x = raised number name q.0 names in
+      let x = raised (length cells) name q.0 names in
       let scope = for_all_scope (signature_in D) s.variables N s.conclusion q goal.conclusion t.1 in
       one_kept ps (proving (instance q.1 (applied x names)) (over x s)) t.2.2
-      (proving_goal D N (over x s) (instance q.1 (applied x names)) (over_goal D N s x goal new t.2.1.1)
-      (over_new number name s.conclusion q names goal.conclusion scope t.2.1.0))
-  kept_from number new (for_all_left H u l) ps t = told_left H u l t.0 t.2.0 t.2.2.1.0 t.2.2.1.1 ps t.1 t.2.1 t.2.2.0 t.2.2.1.2 t.2.2.1.3
-  kept_from number new (exists_right u) ps t = told_right u t.0 ps t.1 t.2.0 t.2.1
-  kept_from number new (exists_left H l) ps t =
+      (proving_goal D N (over x s) (instance q.1 (applied x names)) (over_goal D N s x goal (new_number cells s are) t.2.1.1)
+      (over_new (length cells) name s.conclusion q names goal.conclusion scope t.2.1.0))
+  kept_from cells are (for_all_left H u l) ps t = told_left H u l t.0 t.2.0 t.2.2.1.0 t.2.2.1.1 ps t.1 t.2.1 t.2.2.0 t.2.2.1.2 t.2.2.1.3
+  kept_from cells are (exists_right u) ps t = told_right u t.0 ps t.1 t.2.0 t.2.1
+  kept_from cells are (exists_left H l) ps t =
       let q = t.2.0 in
       let L = t.2.2.0 in
       let s1 = t.2.2.1 in
       let names = t.2.2.3.0.0 in
       let name = t.2.2.3.0.1 in
-      let x = raised number name q.0 names in
+      let x = raised (length cells) name q.0 names in
       let m = found H t.0 t.1 in
       let scope = exists_scope (signature_in D) s.variables N t.0 q m t.2.1 in
       let lab = labelled_goal D N l (without H s) s1 L (without_it H) t.2.2.2 in
       one_kept ps (assuming L (instance q.1 (applied x names)) (over x s1)) t.2.2.3.2
       (assuming_goal D N (over x s1) L (instance q.1 (applied x names))
-      (over_goal D N s1 x lab.goal (subst (All (λ (y : Variable). y.number ≢ number)) (sym lab.variables) new) (subst (All (λ (y : Variable). y.name ≢ name)) (sym lab.variables) t.2.2.3.1.1))
+      (over_goal D N s1 x lab.goal (subst (All (λ (y : Variable). y.number ≢ length cells)) (sym lab.variables) (new_number cells s are)) (subst (All (λ (y : Variable). y.name ≢ name)) (sym lab.variables) t.2.2.3.1.1))
       lab.new
-      (subst (λ xs. MayStand (signature_in D) (xs ++ x ∷ []) N (instance q.1 (applied x names))) (sym lab.variables) (over_new number name t.0 q names m scope t.2.2.3.1.0)))
-  kept_from number new nabla_right ps t =
+      (subst (λ xs. MayStand (signature_in D) (xs ++ x ∷ []) N (instance q.1 (applied x names))) (sym lab.variables) (over_new (length cells) name t.0 q names m scope t.2.2.3.1.0)))
+  kept_from cells are nabla_right ps t =
       let q = t.0 in
       let n = t.2.0 in
       let may = t.2.1.has in
@@ -235,7 +251,7 @@ module _ (D : Declarations) (sentences : HaveSentences D) (s : Sequent) (is : Is
       let K = M s.conclusion q n scope may in
       one_from K (one s.conclusion q n scope may) ps (proving (instance q.1 (name_term (record { number = n; type = q.0 }))) s) t.2.2
       (proving_goal D K s (instance q.1 (name_term (record { number = n; type = q.0 }))) (names_more D N K (more s.conclusion q n scope may) s goal) (with_constant s.conclusion q n scope may))
-  kept_from number new (nabla_left H l) ps t =
+  kept_from cells are (nabla_left H l) ps t =
       let q = t.2.0 in
       let L = t.2.2.0 in
       let s1 = t.2.2.1 in
@@ -247,19 +263,19 @@ module _ (D : Declarations) (sentences : HaveSentences D) (s : Sequent) (is : Is
       one_from K (one t.0 q n scope may) ps (assuming L (instance q.1 (name_term (record { number = n; type = q.0 }))) s1) t.2.2.3.2
       (assuming_goal D K s1 L (instance q.1 (name_term (record { number = n; type = q.0 }))) (names_more D N K (more t.0 q n scope may) s1 lab.goal) lab.new
       (subst (λ xs. MayStand (signature_in D) xs K (instance q.1 (name_term (record { number = n; type = q.0 })))) (sym lab.variables) (with_constant t.0 q n scope may)))
-  kept_from number new equal_right ps t = none_kept ps t.2.1
-  kept_from number new (equal_left H) ps t = absurd t.0
-  kept_from number new (definition_right i) ps t = absurd t.0
-  kept_from number new (definition_left H l) ps t = absurd t.0
-  kept_from number new (induction n l) ps t = absurd t.0
-  kept_from number new (coinduction l) ps t = absurd t.0
-  kept_from number new (cut_formula F l) ps t = cut_kept F l t.1.0 t.1.1 ps t.0.0 t.0.1 t.1.2 t.1.3
-  kept_from number new (use_theorem n l) ps t =
+  kept_from cells are equal_right ps t = none_kept ps t.2.1
+  kept_from cells are (equal_left H) ps t = solved_kept H cells are t.0 t.2.0 (found H t.0 t.1) t.2.1 ps t.2.2
+  kept_from cells are (definition_right i) ps t = absurd t.0
+  kept_from cells are (definition_left H l) ps t = absurd t.0
+  kept_from cells are (induction n l) ps t = absurd t.0
+  kept_from cells are (coinduction l) ps t = absurd t.0
+  kept_from cells are (cut_formula F l) ps t = cut_kept F l t.1.0 t.1.1 ps t.0.0 t.0.1 t.1.2 t.1.3
+  kept_from cells are (use_theorem n l) ps t =
       one_kept ps (assuming t.2.0 t.0 t.2.1) t.2.3 (added l s t.2.1 t.2.0 t.0 goal refl t.2.2 (theorem_may n t.0 t.1))
-  kept_from number new (weaken H) ps t = one_kept ps (without H s) t.2 (without_it H)
-  kept_from number new (spec_cut H K l) ps t = absurd t.0
-  kept_from number new (spec_instance H rs l) ps t = absurd t.0
-  kept_from number new (spec_monotone H K l) ps t = absurd t.0
+  kept_from cells are (weaken H) ps t = one_kept ps (without H s) t.2 (without_it H)
+  kept_from cells are (spec_cut H K l) ps t = absurd t.0
+  kept_from cells are (spec_instance H rs l) ps t = absurd t.0
+  kept_from cells are (spec_monotone H K l) ps t = absurd t.0
 
 -- RULES KEEP WHAT IS TRUE OF EVERY SEQUENT
 pub kept_by_rule : (D : Declarations) → HaveSentences D → (step : Step) (s : Sequent) (ps : List Sequent) → IsSequent D s → Rule D step s ps → All (IsSequent D) ps

@@ -3,10 +3,12 @@ pub mod Adding
 pub mod Making
 pub mod Chosen
 pub mod Members
+pub mod NewNumbers
 pub mod OneAnswer
 pub mod Longer
 mod Words
 mod Finding
+mod Sides
 pub mod Scopes
 pub mod Parts
 pub mod Sequents

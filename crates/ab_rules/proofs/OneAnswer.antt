@@ -1,11 +1,14 @@
--- A row has one answer: its premises, or the first condition that fails.
+-- A row has one answer: its premises, or the first condition that fails, or the equation that is outside the patterns.
 use Rattle.std.proofs.Common.{◌≡◌, ◌⊎◌, inl, inr, ℕ, ◌<◌, List, Some, None, sym, ◌∙◌, ap, subst, arith}
 use Rattle.std.proofs.lemmas.Bool.{cases_lt}
 use Rattle.ab_logic.specs.Sequents.{Sequent, counted}
 use Rattle.ab_rules.specs.Steps.{Step, initial, true_right, false_left, and_right, and_left, or_right, or_left, arrow_right, arrow_left, for_all_right, for_all_left, exists_right, exists_left, nabla_right, nabla_left, equal_right, equal_left, definition_right, definition_left, induction, coinduction, cut_formula, use_theorem, weaken, spec_cut, spec_instance, spec_monotone}
 use Rattle.ab_logic.specs.Names.{Label, auto, given, IsLeast, IsFree, automatic, Names, NoName}
 use Rattle.ab_logic.specs.Declarations.{Declarations}
-use Rattle.ab_rules.specs.Row.{Row, leads, leads_by, finds, asks, labelled, Takes, FailsFirst}
+use Rattle.ab_rules.specs.Row.{Row, leads, leads_by, finds, asks, labelled, solves, Takes, FailsFirst, Sticks}
+use Rattle.ab_solve.specs.Replacing.{Cell}
+use Rattle.ab_equate.specs.Solved.{Naming}
+use Rattle.ab_equate.proofs.One.{not_stuck, apart_not_stuck}
 use Rattle.ab_rules.specs.Rules.{row, Making}
 
 order : (n m : ℕ) → (n < m) ⊎ ((n ≡ m) ⊎ (m < n))
@@ -46,6 +49,7 @@ never_both (labelled j l s k) ps i t (inl f) = never_named l s t.0 t.1 t.2 f.0
 never_both (labelled j l s k) ps i t (inr f) =
     let same = names_once l s f.0 t.0 f.1 t.1 f.2 t.2 in
     never_both (k t.0 t.1) ps i t.3 (subst (λ u. FailsFirst (k t.0 u) i) same.1 (subst (λ x. FailsFirst (k x f.1) i) same.0 f.3))
+never_both (solves N cells s t u) ps i a f = f
 
 pub one_failure : (r : Row) (i j : ℕ) → FailsFirst r i → FailsFirst r j → i ≡ j
 one_failure (leads qs) i j f g = absurd f
@@ -67,6 +71,50 @@ one_failure (labelled m l s k) i j (inr f) (inl g) = absurd (never_named l s f.0
 one_failure (labelled m l s k) i j (inr f) (inr g) =
     let same = names_once l s f.0 g.0 f.1 g.1 f.2 g.2 in
     one_failure (k g.0 g.1) i j (subst (λ u. FailsFirst (k g.0 u) i) same.1 (subst (λ x. FailsFirst (k x f.1) i) same.0 f.3)) g.3
+one_failure (solves N cells s t u) i j f g = absurd f
+
+pub taken_or_stuck : (r : Row) (ps : List Sequent) (i : ℕ) → Takes r ps → Sticks r i → ⊥
+taken_or_stuck (leads qs) ps i t f = f
+taken_or_stuck (leads_by P k) ps i t f = f
+taken_or_stuck (finds j o k) ps i t f =
+    let both : Some f.0 ≡ Some t.0 = sym f.1 ∙ t.1 in
+    let same : f.0 ≡ t.0 = cc in
+    taken_or_stuck (k t.0) ps i t.2 (subst (λ a. Sticks (k a) i) same f.2)
+taken_or_stuck (asks j P r) ps i t f = taken_or_stuck r ps i t.1 f.1
+taken_or_stuck (labelled j l s k) ps i t f =
+    let same = names_once l s f.0 t.0 f.1 t.1 f.2 t.2 in
+    taken_or_stuck (k t.0 t.1) ps i t.3 (subst (λ u. Sticks (k t.0 u) i) same.1 (subst (λ x. Sticks (k x f.1) i) same.0 f.3))
+taken_or_stuck (solves N cells s t u) ps i (inl a) f = not_stuck N cells s t u a.0 a.1 f.0
+taken_or_stuck (solves N cells s t u) ps i (inr a) f = apart_not_stuck N cells s t u a.0 f.0
+
+pub refused_or_stuck : (r : Row) (i j : ℕ) → FailsFirst r i → Sticks r j → ⊥
+refused_or_stuck (leads qs) i j f g = g
+refused_or_stuck (leads_by P k) i j f g = g
+refused_or_stuck (finds m o k) i j (inl f) g = let clash : None ≡ Some g.0 = sym f.0 ∙ g.1 in cc
+refused_or_stuck (finds m o k) i j (inr f) g =
+    let both : Some f.0 ≡ Some g.0 = sym f.1 ∙ g.1 in
+    let same : f.0 ≡ g.0 = cc in
+    refused_or_stuck (k g.0) i j (subst (λ a. FailsFirst (k a) i) same f.2) g.2
+refused_or_stuck (asks m P r) i j (inl f) g = f.0 g.0
+refused_or_stuck (asks m P r) i j (inr f) g = refused_or_stuck r i j f.1 g.1
+refused_or_stuck (labelled m l s k) i j (inl f) g = never_named l s g.0 g.1 g.2 f.0
+refused_or_stuck (labelled m l s k) i j (inr f) g =
+    let same = names_once l s f.0 g.0 f.1 g.1 f.2 g.2 in
+    refused_or_stuck (k g.0 g.1) i j (subst (λ u. FailsFirst (k g.0 u) i) same.1 (subst (λ x. FailsFirst (k x f.1) i) same.0 f.3)) g.3
+refused_or_stuck (solves N cells s t u) i j f g = f
+
+pub one_equation : (r : Row) (i j : ℕ) → Sticks r i → Sticks r j → i ≡ j
+one_equation (leads qs) i j f g = absurd f
+one_equation (leads_by P k) i j f g = absurd f
+one_equation (finds m o k) i j f g =
+    let both : Some f.0 ≡ Some g.0 = sym f.1 ∙ g.1 in
+    let same : f.0 ≡ g.0 = cc in
+    one_equation (k g.0) i j (subst (λ a. Sticks (k a) i) same f.2) g.2
+one_equation (asks m P r) i j f g = one_equation r i j f.1 g.1
+one_equation (labelled m l s k) i j f g =
+    let same = names_once l s f.0 g.0 f.1 g.1 f.2 g.2 in
+    one_equation (k g.0 g.1) i j (subst (λ u. Sticks (k g.0 u) i) same.1 (subst (λ x. Sticks (k x f.1) i) same.0 f.3)) g.3
+one_equation (solves N cells s t u) i j f g = f.1 ∙ sym g.1
 
 -- no condition speaks of a new variable
 pub any_new : (D : Declarations) (step : Step) (m n : Making) (s : Sequent) (i : ℕ) → FailsFirst (row D m step s) i → FailsFirst (row D n step s) i
@@ -97,3 +145,34 @@ any_new D (weaken H) m n s i f = f
 any_new D (spec_cut H K l) m n s i f = f
 any_new D (spec_instance H rs l) m n s i f = f
 any_new D (spec_monotone H K l) m n s i f = f
+
+-- nor does it matter for being outside the patterns how one is named
+pub any_names : (D : Declarations) (step : Step) (cells : List (Cell (List ℕ))) (N M : Naming) (s : Sequent) (i : ℕ)
+    → Sticks (row D (record { cells = cells; IsName = N }) step s) i → Sticks (row D (record { cells = cells; IsName = M }) step s) i
+any_names D (initial H) cells N M s i f = f
+any_names D true_right cells N M s i f = f
+any_names D (false_left H) cells N M s i f = f
+any_names D and_right cells N M s i f = f
+any_names D (and_left H l k) cells N M s i f = f
+any_names D (or_right b) cells N M s i f = f
+any_names D (or_left H l) cells N M s i f = f
+any_names D (arrow_right l) cells N M s i f = f
+any_names D (arrow_left H l) cells N M s i f = f
+any_names D for_all_right cells N M s i f = f
+any_names D (for_all_left H t l) cells N M s i f = f
+any_names D (exists_right t) cells N M s i f = f
+any_names D (exists_left H l) cells N M s i f = f
+any_names D nabla_right cells N M s i f = f
+any_names D (nabla_left H l) cells N M s i f = f
+any_names D equal_right cells N M s i f = f
+any_names D (equal_left H) cells N M s i f = f
+any_names D (definition_right k) cells N M s i f = f
+any_names D (definition_left H l) cells N M s i f = f
+any_names D (induction k l) cells N M s i f = f
+any_names D (coinduction l) cells N M s i f = f
+any_names D (cut_formula F l) cells N M s i f = f
+any_names D (use_theorem k l) cells N M s i f = f
+any_names D (weaken H) cells N M s i f = f
+any_names D (spec_cut H K l) cells N M s i f = f
+any_names D (spec_instance H rs l) cells N M s i f = f
+any_names D (spec_monotone H K l) cells N M s i f = f

@@ -1,8 +1,6 @@
 -- A step at a sequent has one list of premises, once the number of its new variable is chosen.
-use Rattle.std.specs.Prelude.{All, Contains}
-use Rattle.std.proofs.Common.{◌≡◌, inl, inr, ℕ, ◌≤◌, List, [], ◌∷◌, ◌++◌, Some, refl, sym, ◌∙◌, ap, subst}
-use Rattle.std.specs.Fmt.{decimal}
-use Rattle.std.proofs.lemmas.List.Elements.{All-contains, Contains-append_left, Contains-push}
+use Rattle.std.specs.Prelude.{Contains}
+use Rattle.std.proofs.Common.{◌≡◌, inl, inr, ℕ, List, [], ◌∷◌, length, Some, sym, ◌∙◌, ap, subst}
 use Rattle.ab_term.specs.Types.{Ty}
 use Rattle.ab_term.specs.Terms.{Nominal}
 use Rattle.ab_term.specs.Names.{support}
@@ -12,11 +10,15 @@ use Rattle.ab_term.proofs.Ordering.{order_unique}
 use Rattle.ab_store.specs.Trees.{Read}
 use Rattle.ab_logic.specs.Formulas.{HasOneTypeEach}
 use Rattle.ab_logic.specs.Declarations.{Declarations}
-use Rattle.ab_logic.specs.Sequents.{Sequent, formulas, formulas_of, IsSequent, formula_of, proving, assuming, over}
-use Rattle.ab_logic.specs.Names.{Names, IsLeast, IsStem, IsDigit, IsFreeName, IsNamedFor}
+use Rattle.ab_logic.specs.Sequents.{Sequent, formulas, formulas_of, IsSequent, formula_of, proving, assuming, without, over}
+use Rattle.ab_logic.specs.Names.{Names, IsLeast, IsNamedFor}
 use Rattle.ab_rules.specs.Steps.{Step, initial, true_right, false_left, and_right, and_left, or_right, or_left, arrow_right, arrow_left, for_all_right, for_all_left, exists_right, exists_left, nabla_right, nabla_left, equal_right, equal_left, definition_right, definition_left, induction, coinduction, cut_formula, use_theorem, weaken, spec_cut, spec_instance, spec_monotone}
-use Rattle.ab_rules.specs.Row.{Row, leads, leads_by, finds, asks, labelled, Takes}
+use Rattle.ab_rules.specs.Row.{Row, leads, leads_by, finds, asks, labelled, solves, Takes}
 use Rattle.ab_rules.specs.Rules.{row, by_hint, IsSupport, MayName, Raises, Making, name_term, raised, applied, hint_of}
+use Rattle.ab_solve.specs.Replacing.{Cell}
+use Rattle.ab_equate.specs.Solved.{Becomes}
+use Rattle.ab_equate.proofs.One.{one_goal, not_apart}
+pub use Rattle.ab_equate.proofs.Naming.{one_name}
 use Rattle.ab_rules.proofs.OneAnswer.{least_once, names_once}
 use Rattle.ab_rules.proofs.Sequents.{found_there, formula_names}
 
@@ -27,6 +29,7 @@ Settled (leads_by {A = A} P f) = (a b : A) → P a → P b → f a ≡ f b
 Settled (finds {A = A} i o k) = (a : A) → o ≡ Some a → Settled (k a)
 Settled (asks i P r) = Settled r
 Settled (labelled i l s k) = (name : List ℕ) (t : Sequent) → Names l s name t → Settled (k name t)
+Settled (solves N cells s t u) = (g h : Sequent) → Becomes N cells s t u g → Becomes N cells s t u h → g ≡ h
 
 one_list : (r : Row) → Settled r → (ps qs : List Sequent) → Takes r ps → Takes r qs → ps ≡ qs
 one_list (leads rs) s ps qs t u = t ∙ sym u
@@ -39,46 +42,10 @@ one_list (asks i P r) s ps qs t u = one_list r s ps qs t.1 u.1
 one_list (labelled i l r k) s ps qs t u =
     let same = names_once l r u.0 t.0 u.1 t.1 u.2 t.2 in
     one_list (k t.0 t.1) (s t.0 t.1 t.2) ps qs t.3 (subst (λ g. Takes (k t.0 g) qs) same.1 (subst (λ x. Takes (k x u.1) qs) same.0 u.3))
-
--- a list that isn't empty has a last element
-last_of : (b : ℕ) (bs : List ℕ) → (front : List ℕ) × (c : ℕ) × (b ∷ bs ≡ front ++ c ∷ [])
-last_of b [] = ([], b, refl)
-last_of b (c ∷ bs) = let rest = last_of c bs in (b ∷ rest.0, rest.1, ap (λ xs. b ∷ xs) rest.2)
-
-abbrev EndsInNone : List ℕ → Type 0
-EndsInNone stem = (front : List ℕ) (b : ℕ) → stem ≡ front ++ b ∷ [] → ¬ IsDigit b
-
-no_digits : (b : ℕ) (bs ds es : List ℕ) → ds ≡ (b ∷ bs) ++ es → All IsDigit ds → EndsInNone (b ∷ bs) → ⊥
-no_digits b bs ds es e all ends =
-    let last = last_of b bs in
-    let there : Contains ds last.1 =
-    subst (λ xs. Contains xs last.1) (sym e)
-    (Contains-append_left (b ∷ bs) es last.1 (subst (λ xs. Contains xs last.1) (sym last.2) (Contains-push last.0 last.1))) in
-    ends last.0 last.1 last.2 (All-contains IsDigit ds last.1 all there)
-
-same_stem : (xs ys ds es : List ℕ) → xs ++ ds ≡ ys ++ es → All IsDigit ds → All IsDigit es → EndsInNone xs → EndsInNone ys → xs ≡ ys
-same_stem [] [] ds es e p q m n = refl
-same_stem [] (y ∷ ys) ds es e p q m n = absurd (no_digits y ys ds es e p n)
-same_stem (x ∷ xs) [] ds es e p q m n = absurd (no_digits x xs es ds (sym e) q m)
-same_stem (x ∷ xs) (y ∷ ys) ds es e p q m n =
-    let first : x ≡ y = cc in
-    let rest : xs ++ ds ≡ ys ++ es = cc in
-    let inner = same_stem xs ys ds es rest p q (λ front b f. m (x ∷ front) b (ap (λ zs. x ∷ zs) f)) (λ front b f. n (y ∷ front) b (ap (λ zs. y ∷ zs) f)) in
-    ap (λ z. z ∷ xs) first ∙ ap (λ zs. y ∷ zs) inner
-
-one_stem : (hint xs ys : List ℕ) → IsStem hint xs → IsStem hint ys → xs ≡ ys
-one_stem hint xs ys a b = same_stem xs ys a.digits b.digits (sym a.whole ∙ b.whole) a.are_digits b.are_digits a.all_digits b.all_digits
-
--- a hint gives one name
-pub one_name : (D : Declarations) (s : Sequent) (hint x y : List ℕ) → IsNamedFor D s hint x → IsNamedFor D s hint y → x ≡ y
-one_name D s hint x y (inl a) (inl b) = a.1 ∙ sym b.1
-one_name D s hint x y (inl a) (inr b) = absurd (b.0 a.0)
-one_name D s hint x y (inr a) (inl b) = absurd (a.0 b.0)
-one_name D s hint x y (inr a) (inr b) =
-    let stem : b.1.0 ≡ a.1.0 = one_stem hint b.1.0 a.1.0 b.1.2 a.1.2 in
-    let least = subst (λ st. IsLeast (λ m. (1 ≤ m) × IsFreeName D s (st ++ decimal m)) b.1.1) stem b.1.3 in
-    let number : a.1.1 ≡ b.1.1 = least_once (λ m. (1 ≤ m) × IsFreeName D s (a.1.0 ++ decimal m)) a.1.1 b.1.1 a.1.3 least in
-    a.1.4 ∙ ap (λ n. a.1.0 ++ decimal n) number ∙ ap (λ st. st ++ decimal b.1.1) (sym stem) ∙ sym b.1.4
+one_list (solves N cells s t u) settled ps qs (inl a) (inl b) = a.2 ∙ ap (λ g. g ∷ []) (settled a.0 b.0 a.1 b.1) ∙ sym b.2
+one_list (solves N cells s t u) settled ps qs (inl a) (inr b) = absurd (not_apart N cells s t u a.0 a.1 b.0)
+one_list (solves N cells s t u) settled ps qs (inr a) (inl b) = absurd (not_apart N cells s t u b.0 b.1 a.0)
+one_list (solves N cells s t u) settled ps qs (inr a) (inr b) = a.1 ∙ sym b.1
 
 -- a formula's constants have one order
 one_support : (F : Read) (xs ys : List Nominal) → HasOneTypeEach (support F) → IsSupport F xs → IsSupport F ys → xs ≡ ys
@@ -87,9 +54,9 @@ one_support F xs ys one a b =
     (record { same = a.same; once = a.once; order = a.order })
     (record { same = b.same; once = b.once; order = b.order })
 
-module _ (D : Declarations) (number : ℕ) (s : Sequent) (is : IsSequent D s) where
+module _ (D : Declarations) (cells : List (Cell (List ℕ))) (s : Sequent) (is : IsSequent D s) where
   abbrev new : Making
-  new = by_hint D number s
+  new = by_hint D cells
 
   one_type : (F : Read) → Contains (formulas_of s) F → HasOneTypeEach (support F)
   one_type F there a b c d = is.one_type a b (formula_names (formulas_of s) F a there c) (formula_names (formulas_of s) F b there d)
@@ -97,14 +64,14 @@ module _ (D : Declarations) (number : ℕ) (s : Sequent) (is : IsSequent D s) wh
   hypothesis_there : (H : List ℕ) (F : Read) → formula_of s H ≡ Some F → Contains (formulas_of s) F
   hypothesis_there H F e = Contains-there s.conclusion (formulas s.hypotheses) F (found_there s.hypotheses H F e)
 
-  one_raise : (F : Read) (hint : List ℕ) → Contains (formulas_of s) F → (f : List Nominal × List ℕ → List Sequent) (p q : List Nominal × List ℕ) → Raises new F hint p → Raises new F hint q → f p ≡ f q
+  one_raise : (F : Read) (hint : List ℕ) → Contains (formulas_of s) F → (f : List Nominal × List ℕ → List Sequent) (p q : List Nominal × List ℕ) → Raises new s F hint p → Raises new s F hint q → f p ≡ f q
   one_raise F hint there f p q a b =
       ap (λ ns. f (ns, p.1)) (one_support F p.0 q.0 (one_type F there) a.0 b.0) ∙ ap (λ x. f (q.0, x)) (one_name D s hint p.1 q.1 a.1 b.1)
 
   one_constant : (F : Read) (A : Ty) (f : ℕ → List Sequent) (m n : ℕ) → IsLeast (MayName s F A) m → IsLeast (MayName s F A) n → f m ≡ f n
   one_constant F A f m n a b = ap f (least_once (MayName s F A) m n a b)
 
-  settled : (step : Step) → Settled (row D (by_hint D number s) step s)
+  settled : (step : Step) → Settled (row D (by_hint D cells) step s)
   settled (initial H) = λ F e. tt
   settled true_right = λ t e. tt
   settled (false_left H) = λ F e t f. tt
@@ -115,15 +82,15 @@ module _ (D : Declarations) (number : ℕ) (s : Sequent) (is : IsSequent D s) wh
   settled (arrow_right l) = λ p e L s1 n. tt
   settled (arrow_left H l) = λ F e p f L s1 n. tt
   settled for_all_right = λ q e a b P Q. one_raise s.conclusion (hint_of q.1) (Contains-here s.conclusion (formulas s.hypotheses))
-      (λ p. proving (instance q.1 (applied (raised number p.1 q.0 p.0) p.0)) (over (raised number p.1 q.0 p.0) s) ∷ []) a b P Q
+      (λ p. proving (instance q.1 (applied (raised (length cells) p.1 q.0 p.0) p.0)) (over (raised (length cells) p.1 q.0 p.0) s) ∷ []) a b P Q
   settled (for_all_left H u l) = λ F e q f L s1 n. tt
   settled (exists_right u) = λ q e. tt
   settled (exists_left H l) = λ F e q f L s1 n a b P Q. one_raise F (hint_of q.1) (hypothesis_there H F e)
-      (λ p. assuming L (instance q.1 (applied (raised number p.1 q.0 p.0) p.0)) (over (raised number p.1 q.0 p.0) s1) ∷ []) a b P Q
+      (λ p. assuming L (instance q.1 (applied (raised (length cells) p.1 q.0 p.0) p.0)) (over (raised (length cells) p.1 q.0 p.0) s1) ∷ []) a b P Q
   settled nabla_right = λ q e a b P Q. one_constant s.conclusion q.0 (λ n. proving (instance q.1 (name_term (record { number = n; type = q.0 }))) s ∷ []) a b P Q
   settled (nabla_left H l) = λ F e q f L s1 n a b P Q. one_constant F q.0 (λ m. assuming L (instance q.1 (name_term (record { number = m; type = q.0 }))) s1 ∷ []) a b P Q
   settled equal_right = λ p e. tt
-  settled (equal_left H) = tt
+  settled (equal_left H) = λ F e p f. one_goal (IsNamedFor D) cells (without H s) p.0 p.1 (one_name D)
   settled (definition_right i) = tt
   settled (definition_left H l) = tt
   settled (induction n l) = tt
@@ -135,5 +102,5 @@ module _ (D : Declarations) (number : ℕ) (s : Sequent) (is : IsSequent D s) wh
   settled (spec_instance H rs l) = tt
   settled (spec_monotone H K l) = tt
 
-  pub one_list_of : (step : Step) (ps qs : List Sequent) → Takes (row D (by_hint D number s) step s) ps → Takes (row D (by_hint D number s) step s) qs → ps ≡ qs
-  one_list_of step ps qs t u = one_list (row D (by_hint D number s) step s) (settled step) ps qs t u
+  pub one_list_of : (step : Step) (ps qs : List Sequent) → Takes (row D (by_hint D cells) step s) ps → Takes (row D (by_hint D cells) step s) qs → ps ≡ qs
+  one_list_of step ps qs t u = one_list (row D (by_hint D cells) step s) (settled step) ps qs t u

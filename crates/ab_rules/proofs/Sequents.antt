@@ -221,3 +221,7 @@ module _ (D : Declarations) (N : List Nominal) where
         names_differ = all_pairs_push (λ (y z : Variable). y.name ≢ z.name) s.variables x g.names_differ (λ k d l. All-get_or (λ (y : Variable). y.name ≢ x.name) s.variables k d l name);
         labels_differ = g.labels_differ;
       }
+
+-- a hypothesis less
+pub without_sequent : (D : Declarations) (s : Sequent) (name : List ℕ) → IsSequent D s → IsSequent D (without name s)
+without_sequent D s name is = sequent_from D (goal_names s) (without name s) is.one_type (without_goal D (goal_names s) s name (goal_of D s is))

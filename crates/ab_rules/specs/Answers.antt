@@ -1,16 +1,17 @@
 -- What a rule's function answers, by the rule's row.
-use Rattle.std.specs.Prelude.{◌≡◌, ℕ, List, map, Result, Ok, Err, length}
+use Rattle.std.specs.Prelude.{List, map, Result, Ok, Err}
 use Rattle.std.specs.List.{All}
 use Rattle.std.proofs.Common.{Vec, Global}
 use Rattle.ab_term.specs.Terms.{Nominal}
 use Rattle.ab_norm.specs.Nominals.{nominal_of, HoldsNominal}
 use Rattle.ab_store.specs.Trees.{Read}
+use Rattle.ab_unifying.specs.Problem.{cells_read}
 use Rattle.ab_logic.specs.Worlds.{read, Holds, declarations_of}
 use Rattle.ab_logic.specs.Readings.{sequent_of, HoldsSequent}
 use Rattle.ab_logic.specs.declared.world.World.{World}
 use Rattle.ab_logic.specs.declared.sequent.Sequent.{Sequent as Kept}
 use Rattle.ab_rules.specs.Steps as plain
-use Rattle.ab_rules.specs.Row.{Row, Takes, FailsFirst}
+use Rattle.ab_rules.specs.Row.{Row, Takes, FailsFirst, Sticks}
 use Rattle.ab_rules.specs.Rules.{row, by_hint}
 use Rattle.ab_rules.specs.declared.replaces.Replace.{Replace}
 pub use Rattle.ab_naming.specs.Labels.{label_of}
@@ -61,17 +62,17 @@ HoldsStep w (SpecInst H rs l) = All (λ (r : Replace). HoldsNominal w.types r.fr
 HoldsStep w (SpecMonotone H K l) = Holds w K
 HoldsStep w step = Unit {0}
 
--- THE ANSWER IS THE ROW'S: its premises where all conditions hold, and else the first that fails. Want of memory is
--- free. No rule that is built solves equations.
+-- THE ANSWER IS THE ROW'S: its premises where all conditions hold, and else the first that fails; or the number of the
+-- equation that is outside the patterns. Want of memory is free.
 abbrev pub Answers : World → Row → Result (Vec Kept Global) KernelFault → Type 0
 Answers w r (Ok v) = Takes r (map (sequent_of w) v.items) × All (HoldsSequent w) v.items
 Answers w r (Err (RuleFails i)) = FailsFirst r i
-Answers w r (Err (NotPattern i)) = ⊥
+Answers w r (Err (NotPattern i)) = Sticks r i
 Answers w r (Err (Memory fault)) = Unit {0}
 
--- the row of the step at the goal, where the next cell is the new variable
+-- the row of the step at the goal, where new variables stand behind the world's cells
 abbrev pub row_at : World → plain.Step → Kept → Row
-row_at w step s = row (declarations_of w) (by_hint (declarations_of w) (length w.store.cells) (sequent_of w s)) step (sequent_of w s)
+row_at w step s = row (declarations_of w) (by_hint (declarations_of w) (cells_read w.types w.store)) step (sequent_of w s)
 
 -- want of memory
 abbrev pub IsMemory : {A : Type 0} → Result A KernelFault → Type 0

@@ -1,21 +1,24 @@
 -- THE RULES OF THE LOGIC, row by row: conditions in order, then the premises. Replaced and added hypotheses stand last.
-use Rattle.std.specs.Prelude.{◌≡◌, ◌≢◌, ◌↔◌, ℕ, ◌≤◌, List, [], ◌∷◌, ◌++◌, map, codes, All, AllPairs, Contains, if◌then◌else◌}
+use Rattle.std.specs.Prelude.{◌≡◌, ◌≢◌, ℕ, ◌≤◌, List, [], ◌∷◌, map, length, codes, All, Contains, if◌then◌else◌}
 use Rattle.ab_term.specs.Types.{Ty, arrows, prop}
-use Rattle.ab_term.specs.Terms.{Nominal, nominal, variable, lam, spine}
+use Rattle.ab_term.specs.Terms.{Nominal, nominal, lam, spine}
 use Rattle.ab_term.specs.Names.{support, EqualUpToNames}
 pub use Rattle.ab_term.specs.Names.{IsSupport}
 use Rattle.ab_term.specs.Translation.{EqualPastHints}
 use Rattle.ab_term.specs.Substitution.{instance, instance_by_all}
 use Rattle.ab_term.specs.Expansion.{expansion}
 use Rattle.ab_store.specs.Trees.{Read}
+use Rattle.ab_solve.specs.Replacing.{Cell}
 use Rattle.ab_logic.specs.Formulas.{IsFormula}
 use Rattle.ab_logic.specs.Marks.{erased, MarksServeIn}
 use Rattle.ab_logic.specs.Declarations.{Declarations, signature_in, theorem_in}
 use Rattle.ab_logic.specs.Forms.{as_truth, as_falsity, as_both, as_either, as_implies, as_equal, as_for_all, as_exists, as_nabla}
 use Rattle.ab_logic.specs.Sequents.{Variable, Sequent, Fits, goal_names, formula_of, proving, assuming, without, over}
 use Rattle.ab_logic.specs.Names.{IsLeast, IsNoVariable, IsNamedFor}
+use Rattle.ab_equate.specs.Solved.{Naming, AreCells}
+pub use Rattle.ab_equate.specs.Solved.{variable_term}
 use Rattle.ab_rules.specs.Steps.{Step, initial, true_right, false_left, and_right, and_left, or_right, or_left, arrow_right, arrow_left, for_all_right, for_all_left, exists_right, exists_left, nabla_right, nabla_left, equal_right, equal_left, definition_right, definition_left, induction, coinduction, cut_formula, use_theorem, weaken, spec_cut, spec_instance, spec_monotone}
-use Rattle.ab_rules.specs.Row.{Row, leads, leads_by, finds, asks, labelled, not_built, Takes, FailsFirst}
+use Rattle.ab_rules.specs.Row.{Row, leads, leads_by, finds, asks, labelled, solves, not_built, Takes, FailsFirst, Sticks}
 
 -- a nominal constant as a term
 abbrev pub name_term : Nominal → Read
@@ -29,21 +32,18 @@ hint_of (spine h ts) = codes "x"
 abbrev pub raised : ℕ → List ℕ → Ty → List Nominal → Variable
 raised number name A names = record { number = number; type = arrows (map (λ a. a.type) names) A; name = name }
 
-abbrev pub variable_term : Variable → Read
-variable_term x = expansion (codes "x") x.type (variable (record { name = x.number; type = x.type }))
-
 abbrev pub applied : Variable → List Nominal → Read
 applied x names = instance_by_all (variable_term x) (map name_term names)
 
--- how a new variable is made of the name of a quantifier: its number, and what may be its name where that name asks
--- for this hint
+-- What new variables are made from: all variables that were ever made, each known by its place; and how a new one of a
+-- goal may be named, which asks for a hint. Its number is the place behind the others.
 pub record Making : Type 1 where
-  pub number : ℕ
-  pub IsName : List ℕ → List ℕ → Type 0
+  pub cells : List (Cell (List ℕ))
+  pub IsName : Naming
 
--- the constants that a formula's new variable depends on, and the variable's name
-abbrev pub Raises : Making → Read → List ℕ → List Nominal × List ℕ → Type 0
-Raises new F hint p = IsSupport F p.0 × new.IsName hint p.1
+-- the constants that a formula's new variable of the goal depends on, and the variable's name
+abbrev pub Raises : Making → Sequent → Read → List ℕ → List Nominal × List ℕ → Type 0
+Raises new s F hint p = IsSupport F p.0 × new.IsName s hint p.1
 
 -- the constant with this number may be put for the `nabla` name of the type in the formula, which is one of the goal
 pub record MayName (s : Sequent) (F : Read) (A : Ty) (n : ℕ) : Type 0 where
@@ -93,8 +93,8 @@ row D new (arrow_left H l) s =
     leads (proving p.0 s ∷ assuming L p.1 s1 ∷ []))))
 row D new for_all_right s =
     finds 1 (as_for_all s.conclusion) (λ q.
-    leads_by (Raises new s.conclusion (hint_of q.1)) (λ p.
-    let x = raised new.number p.1 q.0 p.0 in
+    leads_by (Raises new s s.conclusion (hint_of q.1)) (λ p.
+    let x = raised (length new.cells) p.1 q.0 p.0 in
     proving (instance q.1 (applied x p.0)) (over x s) ∷ []))
 row D new (for_all_left H t l) s =
     finds 1 (formula_of s H) (λ F.
@@ -110,8 +110,8 @@ row D new (exists_left H l) s =
     finds 1 (formula_of s H) (λ F.
     finds 2 (as_exists F) (λ q.
     labelled 3 l (without H s) (λ L s1.
-    leads_by (Raises new F (hint_of q.1)) (λ p.
-    let x = raised new.number p.1 q.0 p.0 in
+    leads_by (Raises new s F (hint_of q.1)) (λ p.
+    let x = raised (length new.cells) p.1 q.0 p.0 in
     assuming L (instance q.1 (applied x p.0)) (over x s1) ∷ []))))
 row D new nabla_right s =
     finds 1 (as_nabla s.conclusion) (λ q.
@@ -127,7 +127,10 @@ row D new equal_right s =
     finds 1 (as_equal s.conclusion) (λ p.
     asks 2 (EqualPastHints p.0 p.1) (
     leads []))
-row D new (equal_left H) s = not_built
+row D new (equal_left H) s =
+    finds 1 (formula_of s H) (λ F.
+    finds 2 (as_equal F) (λ p.
+    solves new.IsName new.cells (without H s) p.0 p.1))
 row D new (definition_right i) s = not_built
 row D new (definition_left H l) s = not_built
 row D new (induction n l) s = not_built
@@ -151,22 +154,26 @@ row D new (spec_monotone H K l) s = not_built
 abbrev pub IsNew : ℕ → Sequent → Type 0
 IsNew number s = All (λ (x : Variable). x.number ≢ number) s.variables
 
--- a new variable with this number, of any name that no variable of the goal has
-abbrev pub any_name : ℕ → Sequent → Making
-any_name number s = record { number = number; IsName = λ hint name. IsNoVariable s name }
+-- new variables behind these cells, of any name that no variable of the goal has
+abbrev pub any_name : List (Cell (List ℕ)) → Making
+any_name cells = record { cells = cells; IsName = λ s hint name. IsNoVariable s name }
 
 -- the same by the name that its hint asks for
-abbrev pub by_hint : Declarations → ℕ → Sequent → Making
-by_hint D number s = record { number = number; IsName = IsNamedFor D s }
+abbrev pub by_hint : Declarations → List (Cell (List ℕ)) → Making
+by_hint D cells = record { cells = cells; IsName = IsNamedFor D }
 
 -- THE STEP TAKES THE GOAL TO THESE PREMISES
 abbrev pub Rule : Declarations → Step → Sequent → List Sequent → Type 0
-Rule D step s premises = (number : ℕ) × IsNew number s × Takes (row D (any_name number s) step s) premises
+Rule D step s premises = (cells : List (Cell (List ℕ))) × AreCells cells s × Takes (row D (any_name cells) step s) premises
 
 -- the same, where new variables are named by their hints
 abbrev pub NamedRule : Declarations → Step → Sequent → List Sequent → Type 0
-NamedRule D step s premises = (number : ℕ) × IsNew number s × Takes (row D (by_hint D number s) step s) premises
+NamedRule D step s premises = (cells : List (Cell (List ℕ))) × AreCells cells s × Takes (row D (by_hint D cells) step s) premises
 
 -- THE STEP'S CONDITION OF THIS NUMBER IS THE FIRST THAT THE GOAL FAILS (no condition speaks of a new variable)
 abbrev pub Fails : Declarations → Step → Sequent → ℕ → Type 0
-Fails D step s condition = FailsFirst (row D (any_name 0 s) step s) condition
+Fails D step s condition = FailsFirst (row D (any_name []) step s) condition
+
+-- THE STEP'S EQUATION OF THIS NUMBER IS OUTSIDE THE PATTERNS, where these are all variables that were ever made
+abbrev pub Stuck : Declarations → List (Cell (List ℕ)) → Step → Sequent → ℕ → Type 0
+Stuck D cells step s equation = Sticks (row D (any_name cells) step s) equation

@@ -1,19 +1,25 @@
 //! Laws of the rules, which no other contract carries.
 ghost use Rattle.std.specs.Prelude.{◌≡◌, ℕ, List, All};
+ghost use Rattle.ab_solve.specs.Replacing.{Cell};
 ghost use Rattle.ab_logic.specs.Declarations.{Declarations, Extends, HaveSentences};
 ghost use Rattle.ab_logic.specs.Sequents.{Sequent, IsSequent};
 ghost use Rattle.ab_rules.specs.Steps.{Step};
 ghost use Rattle.ab_rules.specs.Row.{Takes};
-ghost use Rattle.ab_rules.specs.Rules.{row, by_hint, Rule, NamedRule, Fails};
+ghost use Rattle.ab_rules.specs.Rules.{row, any_name, by_hint, Rule, NamedRule, Fails, Stuck};
 
-/// A step at a goal has one answer: a list of premises, or one first condition that fails. Where a rule makes a new
-/// variable, its number is free; once it is chosen the list is one, with the variable's name, the constants that it may
-/// depend on, and the constant for the name of a `nabla`.
+/// A step at a goal has one answer: a list of premises, or one first condition that fails, or one equation that is
+/// outside the patterns. Where a rule makes new variables, it is free what other variables there are; once that is chosen
+/// the list is one, with the variables' names, the constants that one may depend on, and the constant for the name of a
+/// `nabla`.
 pub fn a_step_has_one_answer()
     ensures apart { (D : Declarations) (step : Step) (s : Sequent) (ps : List Sequent) (i : ℕ) → Rule D step s ps → Fails D step s i → ⊥ }
     ensures one_condition { (D : Declarations) (step : Step) (s : Sequent) (i j : ℕ) → Fails D step s i → Fails D step s j → i ≡ j }
-    ensures one_list { (D : Declarations) (number : ℕ) (step : Step) (s : Sequent) (ps qs : List Sequent) → IsSequent D s →
-        Takes (row D (by_hint D number s) step s) ps → Takes (row D (by_hint D number s) step s) qs → ps ≡ qs }
+    ensures one_list { (D : Declarations) (cells : List (Cell (List ℕ))) (step : Step) (s : Sequent) (ps qs : List Sequent) → IsSequent D s →
+        Takes (row D (by_hint D cells) step s) ps → Takes (row D (by_hint D cells) step s) qs → ps ≡ qs }
+    ensures taken_or_stuck { (D : Declarations) (cells : List (Cell (List ℕ))) (step : Step) (s : Sequent) (ps : List Sequent) (i : ℕ) →
+        Takes (row D (any_name cells) step s) ps → Stuck D cells step s i → ⊥ }
+    ensures refused_or_stuck { (D : Declarations) (cells : List (Cell (List ℕ))) (step : Step) (s : Sequent) (i j : ℕ) → Fails D step s i → Stuck D cells step s j → ⊥ }
+    ensures one_equation { (D : Declarations) (cells : List (Cell (List ℕ))) (step : Step) (s : Sequent) (i j : ℕ) → Stuck D cells step s i → Stuck D cells step s j → i ≡ j }
 {}
 
 /// What is taken by its rule from a list of declarations is taken by it from a longer one; and a variable that is named

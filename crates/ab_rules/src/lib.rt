@@ -3,6 +3,7 @@
 
 mod choosing;
 mod closing;
+mod equations;
 mod fitting;
 pub mod laws;
 mod left;

@@ -73,7 +73,7 @@ pub enum KernelFault {
     /// is that it is built.
     #[error("RuleFails")]
     RuleFails(usize),
-    /// The equation of this number, counted from 0, has no unifier that the rule may use.
+    /// All conditions hold, and the equation of this number, counted from 0, is outside the patterns.
     #[error("NotPattern")]
     NotPattern(usize),
     /// There was no memory for the step.

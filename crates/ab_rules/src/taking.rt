@@ -2,10 +2,12 @@
 ghost use Rattle.std.specs.Prelude.{◌≡◌, ◌≤◌};
 ghost use Rattle.ab_logic.specs.Worlds.{IsWorld, declarations_of};
 ghost use Rattle.ab_logic.specs.Growth.{Grows};
-ghost use Rattle.ab_logic.specs.Readings.{HoldsSequent};
+ghost use Rattle.ab_logic.specs.Readings.{sequent_of, HoldsSequent};
+ghost use Rattle.ab_logic.specs.Sequents.{IsSequent};
 ghost use Rattle.ab_rules.specs.Answers.{Answers, row_at, step_of, HoldsStep};
 
 use crate::closing::{equal_right, false_left, initial, true_right};
+use crate::equations::equal_left;
 use crate::left::{and_left, arrow_left, arrow_right, or_left, use_theorem, weaken};
 use crate::quantified::{exists_left, for_all_right, nabla_left, nabla_right};
 use crate::right::{and_right, or_right};
@@ -26,6 +28,7 @@ pub fn premises<L>(
     requires world { IsWorld world.old }
     requires step { HoldsStep world.old step.now }
     requires held { HoldsSequent world.old sequent.now }
+    requires sequent { IsSequent (declarations_of world.old) (sequent_of world.old sequent.now) }
     ensures answers { Answers world.new (row_at world.old (step_of world.old step.now) sequent.now) result }
     ensures grows { Grows world.old world.new }
     ensures declared { declarations_of world.new ≡ declarations_of world.old }
@@ -48,12 +51,12 @@ pub fn premises<L>(
         Step::UseTheorem(name, given) => use_theorem(alloc, world, name, given, sequent),
         Step::Weaken(name) => weaken(alloc, world, name, sequent),
         Step::Initial(name) => initial(alloc, world, name, sequent),
+        Step::EqualLeft(name) => equal_left(alloc, world, name, sequent, steps),
         Step::ForallLeft(name, term, given) => {
             for_all_left(alloc, world, name, *term, given, sequent, steps)
         }
         Step::ExistsRight(term) => exists_right(alloc, world, *term, sequent, steps),
         Step::CutFormula(formula, given) => cut_formula(alloc, world, *formula, given, sequent),
-        Step::EqualLeft(_) => Err(KernelFault::RuleFails(0)),
         Step::DefRight(_) => Err(KernelFault::RuleFails(0)),
         Step::DefLeft(_, _) => Err(KernelFault::RuleFails(0)),
         Step::Induction(_, _) => Err(KernelFault::RuleFails(0)),

@@ -13,6 +13,7 @@ use Rattle.ab_term.specs.Names.{EqualUpToNames}
 use Rattle.ab_term.specs.Translation.{EqualPastHints}
 use Rattle.ab_logic.specs.Marks.{erased, MarksServeIn}
 use Rattle.ab_rules.specs.Rules.{NamedRule, Fails}
+use Rattle.ab_progress.specs.Progress.{SolvesNothing}
 use Rattle.ab_search.proofs.Refuting.{at_place}
 use Rattle.ab_search.specs.Choices.{Takes}
 use Rattle.ab_search.specs.Steps.{step_for, name_of}
@@ -33,6 +34,15 @@ named_at (k ∷ ks) (suc place) h differ e =
     elim (bytes_eq k.name h.name) as (λ b. bytes_eq k.name h.name ≡ b → b ≡ false)
     [ true ↦ λ t. absurd (apart ((bytes_eq-Decides k.name h.name).0 t)) | false ↦ λ t. refl ] refl in
     ap (λ b. if b then Some k.formula else named ks h.name) no ∙ named_at ks place h two.1 e
+
+-- it solves no equation
+pub plain : (c : Choice) (s : Sequent) → SolvesNothing (step_for c s)
+plain Truth s = tt
+plain (ByHypothesis place) s = tt
+plain Equality s = tt
+plain Both s = tt
+plain Left s = tt
+plain Right s = tt
 
 module _ (D : Declarations) (s : Sequent) (is : IsSequent D s) where
   found : (place : ℕ) (h : Hypothesis) → slice_get s.hypotheses place ≡ Some h → formula_of s (name_of (slice_get s.hypotheses place)) ≡ Some h.formula

@@ -1,6 +1,9 @@
 use Rattle.std.specs.Prelude.{Err}
 use Rattle.std.proofs.Common.{◌∙◌, ap}
 use Rattle.ab_rules.specs.Answers.{step_of}
+use Rattle.ab_unifying.specs.Problem.{cells_read}
+use Rattle.ab_logic.specs.Worlds.{declarations_of}
+use Rattle.ab_progress.proofs.Plain.{never_stuck}
 use Rattle.ab_progress.proofs.Following.{follows_step, follows_same, as_before, took, failed}
 use Rattle.ab_progress.proofs.advancing.attempt.Goals as goal
 
@@ -29,8 +32,10 @@ returns-in-Err-RuleFails-clause-same g c fails =
 
 pub unreachable-requires : goal.unreachable-requires
 unreachable-requires g c =
+    let w = c.args.world.now in
     let i = c.in-Err-NotPattern.field-0-0 in
-    c.refine.ensures.not_pattern i (c.in-Err-NotPattern.is ∙ ap Err c.in-Err-NotPattern.field-0-is)
+    let f = c.refine.ensures.stuck i (c.in-Err-NotPattern.is ∙ ap Err c.in-Err-NotPattern.field-0-is) in
+    never_stuck (declarations_of w) (cells_read w.types w.store) (step_of w c.args.step) f.0 i c.requires.plain f.2
 
 pub returns-in-Err-Memory-clause-follows : goal.returns-in-Err-Memory-clause-follows
 returns-in-Err-Memory-clause-follows g c =

@@ -1,5 +1,4 @@
-use Rattle.std.specs.Prelude.{IsTrue}
-use Rattle.std.proofs.Common.{◌≡◌, inl, inr, refl, sym, subst, rules}
+use Rattle.std.proofs.Common.{inl, inr, refl, sym, subst, rules}
 use Rattle.ab_logic.specs.Marks.{MarksServeIn}
 use Rattle.ab_store.specs.declared.node.TermId.{TermId}
 use Rattle.ab_logic.specs.Worlds.{read, Holds}

@@ -1,17 +1,19 @@
 use Rattle.std.specs.List.{All}
-use Rattle.std.specs.Prelude.{MatchOption, IfSome}
-use Rattle.std.proofs.Common.{◌≡◌, length, List, [], ◌∷◌, Some, map, sym, ap, ◌∙◌, subst, arith}
+use Rattle.std.proofs.Common.{◌≡◌, ℕ, length, List, [], ◌∷◌, map, sym, ap, ◌∙◌, subst, arith}
+use Rattle.std.proofs.lemmas.List.{length-map}
 use Rattle.std.proofs.lemmas.List.Elements.{All-cons}
+use Rattle.ab_term.specs.Substitution.{instance}
+use Rattle.ab_unifying.specs.Problem.{cell_read, cells_read}
 use Rattle.ab_logic.specs.Worlds.{read, variable_of, declarations_of}
 use Rattle.ab_logic.specs.Sequents.{Sequent, assuming, without, over}
-use Rattle.ab_logic.specs.Names.{Names, NoName, IsNamedFor}
+use Rattle.ab_logic.specs.Names.{Names, IsNamedFor}
 use Rattle.ab_logic.specs.Readings.{sequent_of, HoldsSequent}
 use Rattle.ab_logic.specs.declared.sequent.Sequent.{Sequent as Kept}
 use Rattle.ab_logic.proofs.Growing.{same_sequent, still_held}
 use Rattle.ab_naming.specs.Labels.{label_of}
 use Rattle.ab_norm.specs.Nominals.{nominal_of}
 use Rattle.ab_types.specs.Ids.{type_of}
-use Rattle.ab_rules.specs.Rules.{IsSupport, raised, hint_of}
+use Rattle.ab_rules.specs.Rules.{IsSupport, raised, applied, hint_of}
 use Rattle.ab_rules.proofs.quantified.exists_left.Goals as goal
 
 pub returns-clause-answers : goal.returns-clause-answers
@@ -43,6 +45,10 @@ returns-clause-answers g c =
     ∙ ap (assuming L (read v c.in_ok-made.made.formula)) (c.in_ok-over.ensures.reads v ∙ ap (over (variable_of v c.in_ok-made.made.cell)) same)
     ∙ ap (λ y. assuming L (read v c.in_ok-made.made.formula) (over y (sequent_of w c.in-Some-2.named.sequent))) c.in_ok-made.ensures.variable
     ∙ ap (λ t. assuming L t (over x (sequent_of w c.in-Some-2.named.sequent))) c.in_ok-made.ensures.reads in
+    let now : ℕ → Sequent =
+    λ n. assuming L (instance (read w body) (applied (raised n name (type_of w.types c.in-Some-as_exists.ty) (map (nominal_of w.types) names)) (map (nominal_of w.types) names)))
+    (over (raised n name (type_of w.types c.in-Some-as_exists.ty) (map (nominal_of w.types) names)) (sequent_of w c.in-Some-2.named.sequent)) in
+    let numbered : now (length w.store.cells) ≡ now (length (cells_read w.types w.store)) = ap now (sym (length-map w.store.cells (cell_read w.types))) in
     let held = c.in_ok-premise.ensures.held v (c.in_ok-over.ensures.held v there c.in_ok-made.ensures.cell) c.in_ok-made.ensures.formula in (
       (
         _,
@@ -54,7 +60,7 @@ returns-clause-answers g c =
             _,
             _,
             labelled,
-            ((map (nominal_of w.types) names, name), (support, named), ap (map (sequent_of v)) c.in_ok-one.ensures ∙ ap (λ q. q ∷ []) reads),
+            ((map (nominal_of w.types) names, name), (support, named), ap (map (sequent_of v)) c.in_ok-one.ensures ∙ ap (λ q. q ∷ []) (reads ∙ numbered)),
           ),
         ),
       ),

@@ -1,14 +1,16 @@
 use Rattle.std.specs.List.{All}
-use Rattle.std.proofs.Common.{◌≡◌, ◌≢◌, ◌≤◌, length, List, [], ◌∷◌, map, sym, ap, ◌∙◌, subst, arith}
+use Rattle.std.proofs.Common.{◌≡◌, ℕ, length, List, [], ◌∷◌, map, sym, ap, ◌∙◌, subst, arith}
+use Rattle.std.proofs.lemmas.List.{length-map}
 use Rattle.std.proofs.lemmas.List.Elements.{All-cons}
+use Rattle.ab_term.specs.Substitution.{instance}
+use Rattle.ab_unifying.specs.Problem.{cell_read, cells_read}
 use Rattle.ab_norm.specs.Nominals.{nominal_of}
 use Rattle.ab_logic.specs.Names.{IsNamedFor}
 use Rattle.ab_logic.specs.Worlds.{read, variable_of, declarations_of}
-use Rattle.ab_logic.specs.Sequents.{proving, over}
+use Rattle.ab_logic.specs.Sequents.{Sequent, proving, over}
 use Rattle.ab_logic.specs.Readings.{sequent_of, HoldsSequent}
 use Rattle.ab_logic.specs.declared.sequent.Sequent.{Sequent as Kept}
-use Rattle.ab_rules.specs.Rules.{IsSupport, raised, hint_of}
-use Rattle.ab_term.specs.Terms as tree
+use Rattle.ab_rules.specs.Rules.{IsSupport, raised, applied, hint_of}
 use Rattle.ab_types.specs.Ids.{type_of}
 use Rattle.ab_logic.proofs.Growing.{same_sequent, still_held}
 use Rattle.ab_rules.proofs.quantified.for_all_right.Goals as goal
@@ -34,7 +36,11 @@ returns-clause-answers g c =
     ∙ ap (proving (read v c.in_ok-made.made.formula)) (c.in_ok-over.ensures.reads v ∙ ap (over (variable_of v c.in_ok-made.made.cell)) start)
     ∙ ap (λ y. proving (read v c.in_ok-made.made.formula) (over y (sequent_of w s))) c.in_ok-made.ensures.variable
     ∙ ap (λ t. proving t (over x (sequent_of w s))) c.in_ok-made.ensures.reads in
+    let now : ℕ → Sequent =
+    λ n. proving (instance (read w c.in-Some.body) (applied (raised n name (type_of w.types c.in-Some.ty) (map (nominal_of w.types) names)) (map (nominal_of w.types) names)))
+    (over (raised n name (type_of w.types c.in-Some.ty) (map (nominal_of w.types) names)) (sequent_of w s)) in
+    let numbered : now (length w.store.cells) ≡ now (length (cells_read w.types w.store)) = ap now (sym (length-map w.store.cells (cell_read w.types))) in
     let held = c.proving-premise.ensures.held v (c.in_ok-over.ensures.held v there c.in_ok-made.ensures.cell) c.in_ok-made.ensures.formula in (
-      (_, sym c.in-Some.ensures.reads, ((map (nominal_of w.types) names, name), (support, named), ap (map (sequent_of v)) c.in_ok-one.ensures ∙ ap (λ q. q ∷ []) reads)),
+      (_, sym c.in-Some.ensures.reads, ((map (nominal_of w.types) names, name), (support, named), ap (map (sequent_of v)) c.in_ok-one.ensures ∙ ap (λ q. q ∷ []) (reads ∙ numbered))),
       subst (λ (qs : List Kept). All (HoldsSequent v) qs) (sym c.in_ok-one.ensures) (All-cons (HoldsSequent v) c.proving-premise.result [] held (λ k d l. absurd (omega arith))),
     )

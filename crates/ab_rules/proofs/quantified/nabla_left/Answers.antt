@@ -1,10 +1,9 @@
 use Rattle.std.specs.List.{All}
-use Rattle.std.specs.Prelude.{MatchOption, IfSome}
-use Rattle.std.proofs.Common.{◌≡◌, length, List, [], ◌∷◌, Some, map, sym, ap, ◌∙◌, subst, arith}
+use Rattle.std.proofs.Common.{◌≡◌, List, [], ◌∷◌, map, sym, ap, ◌∙◌, subst, arith}
 use Rattle.std.proofs.lemmas.List.Elements.{All-cons}
-use Rattle.ab_logic.specs.Worlds.{read, variable_of, declarations_of}
-use Rattle.ab_logic.specs.Sequents.{Sequent, assuming, without, over}
-use Rattle.ab_logic.specs.Names.{Names, NoName, IsNamedFor}
+use Rattle.ab_logic.specs.Worlds.{read}
+use Rattle.ab_logic.specs.Sequents.{assuming, without}
+use Rattle.ab_logic.specs.Names.{Names}
 use Rattle.ab_logic.specs.Readings.{sequent_of, HoldsSequent}
 use Rattle.ab_logic.specs.declared.sequent.Sequent.{Sequent as Kept}
 use Rattle.ab_logic.proofs.Growing.{same_sequent, still_held}

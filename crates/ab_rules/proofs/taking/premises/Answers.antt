@@ -1,5 +1,4 @@
 use Rattle.std.proofs.Common.{inl, refl}
-use Rattle.ab_logic.proofs.Growing.{grows_not}
 use Rattle.ab_rules.proofs.taking.premises.Goals as goal
 
 pub returns-in-TrueRight-clause-answers : goal.returns-in-TrueRight-clause-answers
@@ -60,7 +59,7 @@ pub returns-in-CutFormula-clause-answers : goal.returns-in-CutFormula-clause-ans
 returns-in-CutFormula-clause-answers g c = rw c.in-CutFormula.is c.cut_formula.ensures
 
 pub returns-in-EqualLeft-clause-answers : goal.returns-in-EqualLeft-clause-answers
-returns-in-EqualLeft-clause-answers g c = rw c.in-EqualLeft.is (inl (λ x. x, refl))
+returns-in-EqualLeft-clause-answers g c = rw c.in-EqualLeft.is c.equal_left.ensures.answers
 
 pub returns-in-DefRight-clause-answers : goal.returns-in-DefRight-clause-answers
 returns-in-DefRight-clause-answers g c = rw c.in-DefRight.is (inl (λ x. x, refl))

@@ -1,11 +1,9 @@
 use Rattle.std.specs.List.{All}
-use Rattle.std.specs.Prelude.{MatchOption, IfSome, IsTrue}
-use Rattle.std.proofs.Common.{◌≡◌, length, List, [], ◌∷◌, Some, map, refl, inl, inr, sym, ap, ◌∙◌, subst, arith}
+use Rattle.std.proofs.Common.{◌≡◌, List, [], ◌∷◌, map, refl, inl, inr, sym, ap, ◌∙◌, subst, arith}
 use Rattle.std.proofs.lemmas.List.Elements.{All-cons}
-use Rattle.ab_term.specs.Substitution.{instance}
-use Rattle.ab_logic.specs.Worlds.{read, declarations_of}
-use Rattle.ab_logic.specs.Sequents.{Sequent, assuming}
-use Rattle.ab_logic.specs.Names.{Names, NoName}
+use Rattle.ab_logic.specs.Worlds.{read}
+use Rattle.ab_logic.specs.Sequents.{assuming}
+use Rattle.ab_logic.specs.Names.{Names}
 use Rattle.ab_logic.specs.Readings.{sequent_of, HoldsSequent}
 use Rattle.ab_logic.specs.declared.sequent.Sequent.{Sequent as Kept}
 use Rattle.ab_logic.proofs.Growing.{same_sequent, still_held}

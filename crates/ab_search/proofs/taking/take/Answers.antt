@@ -1,12 +1,14 @@
-use Rattle.std.proofs.Common.{◌≡◌, [], ◌++◌, ◌∙◌, ap, subst}
+use Rattle.std.proofs.Common.{◌≡◌, [], ◌++◌, sym, ◌∙◌, ap, subst}
 use Rattle.std.proofs.lemmas.Result.{on_ok_weaker}
 use Rattle.ab_logic.specs.Worlds.{declarations_of}
 use Rattle.ab_rules.specs.Answers.{step_of}
 use Rattle.ab_rules.specs.Rules.{NamedRule, Fails}
+use Rattle.ab_logic.specs.Readings.{sequent_of}
+use Rattle.ab_progress.specs.Progress.{SolvesNothing}
 use Rattle.ab_progress.proofs.Following.{at_first, first_at}
 use Rattle.ab_search.specs.Steps.{step_for}
 use Rattle.ab_search.proofs.Reading.{first_is_sequent}
-use Rattle.ab_search.proofs.Stepping.{leads_there, never_fails}
+use Rattle.ab_search.proofs.Stepping.{plain, leads_there, never_fails}
 use Rattle.ab_search.proofs.taking.take.Goals as goal
 
 pub surely-requires-clause-sure : goal.surely-requires-clause-sure
@@ -18,6 +20,11 @@ surely-requires-clause-sure g c before behind s at i fails =
     let step : step_of w c.in_ok-step.step ≡ step_for c.args.choice s = c.in_ok-step.ensures.step w ∙ ap (step_for c.args.choice) (c.first_goal.ensures.reads s behind e) in
     let t = c.requires.sure s behind e in
     never_fails D s (first_is_sequent w p c.requires.world c.requires.proof s behind e) c.args.choice t.0 i t.1 (subst (λ r. Fails D r s i) step fails)
+
+pub surely-requires-clause-plain : goal.surely-requires-clause-plain
+surely-requires-clause-plain g c =
+    let w = c.args.world.now in
+    subst SolvesNothing (sym (c.in_ok-step.ensures.step w)) (plain c.args.choice (sequent_of w c.first_goal.result.now))
 
 pub returns-clause-took : goal.returns-clause-took
 returns-clause-took g c =

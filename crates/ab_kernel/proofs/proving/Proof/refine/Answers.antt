@@ -1,6 +1,6 @@
 use Rattle.std.specs.Prelude.{vec_capacity, slice_get, slice_set}
 use Rattle.std.specs.List.{All}
-use Rattle.std.proofs.Common.{◌≡◌, ◌-◌, ◌<◌, ◌≤◌, Some, List, [], ◌∷◌, ◌++◌, refl, length, map, reverse, sym, ◌∙◌, ap, subst, arith, length-append}
+use Rattle.std.proofs.Common.{◌≡◌, ◌-◌, ◌≤◌, Some, List, [], ◌∷◌, ◌++◌, refl, length, map, reverse, sym, ◌∙◌, ap, subst, arith, length-append}
 use Rattle.std.proofs.lemmas.List.{length-map, reverse-append}
 use Rattle.ab_logic.specs.Sequents.{Sequent}
 use Rattle.ab_logic.specs.Readings.{sequent_of}
@@ -13,14 +13,14 @@ use Rattle.ab_kernel.proofs.proving.Proof.refine.Given.{Over}
 use Rattle.ab_kernel.specs.Derivation.{open_goals, refined, History}
 use Rattle.ab_kernel.specs.Nodes.{open_node, sequents_in}
 use Rattle.ab_kernel.specs.Layout.{Held, StepAt, steps_in, made_by, history_of, IsProof, Beyond}
-use Rattle.ab_kernel.proofs.Hand.{AtHand, at_hand, filled_node, put_is, Put, put, layers_after}
+use Rattle.ab_kernel.proofs.Hand.{at_hand, filled_node, put_is, Put, put, layers_after}
 use Rattle.ab_kernel.proofs.Standing.{reads_now, as_many}
 use Rattle.ab_kernel.proofs.Taking.{Taken, in_range, goal_taken, taken, room_after}
 use Rattle.ab_kernel.proofs.Filling.{sequent_read}
 use Rattle.ab_kernel.proofs.Later.{still_proof}
 use Rattle.ab_kernel.proofs.Growing.{grown_after}
 use Rattle.ab_kernel.proofs.Earlier.{beyond_one}
-use Rattle.ab_kernel.proofs.Refines.{here, history_now, refused, refuses, not_pattern, not_refused, by_rule, as_before, rule_now, proof_after}
+use Rattle.ab_kernel.proofs.Refines.{here, history_now, goal_sequent, refused, refuses, stuck, sticks, not_refused, not_stuck, by_rule, as_before, rule_now, proof_after}
 use Rattle.ab_kernel.proofs.proving.Proof.refine.Goals as goal
 
 pub overflow_sub-at : goal.overflow_sub-at
@@ -55,6 +55,13 @@ premises-requires-clause-held g c =
     let h = here w c.self.inside.nodes.items c.self.inside.open.items (reverse c.self.inside.journal.items) c.args.self.now c.args.place (c.len.result - 1 - c.args.place) c.index-node.result.now c.index.result.now (c.self.invariant.stands w) c.self.view_is c.requires.proof (omega arith) c.index-node.ensures c.index.ensures in
     h.held
 
+pub premises-requires-clause-sequent : goal.premises-requires-clause-sequent
+premises-requires-clause-sequent g c =
+    let w = c.args.world.now in
+    let inside = in_range w _ _ _ (history_of w c.args.self.now) c.args.place (c.self.invariant.stands w) (ap (history_of w) c.self.view_is) c.requires.place in
+    let h = here w c.self.inside.nodes.items c.self.inside.open.items (reverse c.self.inside.journal.items) c.args.self.now c.args.place (c.len.result - 1 - c.args.place) c.index-node.result.now c.index.result.now (c.self.invariant.stands w) c.self.view_is c.requires.proof (omega arith) c.index-node.ensures c.index.ensures in
+    goal_sequent w c.args.self.now c.args.place (sequent_of w c.index.result.now.sequent) c.requires.world c.requires.proof h.is_goal
+
 pub returns-in-Err-clause-refused : goal.returns-in-Err-clause-refused
 returns-in-Err-clause-refused g c =
     let w = c.args.world.now in
@@ -71,13 +78,21 @@ returns-in-Err-clause-refuses g c =
     let h = here w c.self.inside.nodes.items c.self.inside.open.items (reverse c.self.inside.journal.items) c.args.self.now c.args.place (c.len.result - 1 - c.args.place) c.index-node.result.now c.index.result.now (c.self.invariant.stands w) c.self.view_is c.requires.proof (omega arith) c.index-node.ensures c.index.ensures in
     refuses w v c.index.result.now.sequent c.args.step c.args.place (history_of w c.args.self.now).tree h.is_goal c.in-Err.fault c.in-Err.ensures.answers
 
-pub returns-in-Err-clause-not_pattern : goal.returns-in-Err-clause-not_pattern
-returns-in-Err-clause-not_pattern g c =
+pub returns-in-Err-clause-stuck : goal.returns-in-Err-clause-stuck
+returns-in-Err-clause-stuck g c =
     let w = c.args.world.now in
     let v = c.premises.new.world in
     let inside = in_range w _ _ _ (history_of w c.args.self.now) c.args.place (c.self.invariant.stands w) (ap (history_of w) c.self.view_is) c.requires.place in
     let h = here w c.self.inside.nodes.items c.self.inside.open.items (reverse c.self.inside.journal.items) c.args.self.now c.args.place (c.len.result - 1 - c.args.place) c.index-node.result.now c.index.result.now (c.self.invariant.stands w) c.self.view_is c.requires.proof (omega arith) c.index-node.ensures c.index.ensures in
-    not_pattern w v c.index.result.now.sequent c.args.step c.args.place (history_of w c.args.self.now).tree h.is_goal c.in-Err.fault c.in-Err.ensures.answers
+    stuck w v c.index.result.now.sequent c.args.step c.args.place (history_of w c.args.self.now).tree h.is_goal c.in-Err.fault c.in-Err.ensures.answers
+
+pub returns-in-Err-clause-sticks : goal.returns-in-Err-clause-sticks
+returns-in-Err-clause-sticks g c =
+    let w = c.args.world.now in
+    let v = c.premises.new.world in
+    let inside = in_range w _ _ _ (history_of w c.args.self.now) c.args.place (c.self.invariant.stands w) (ap (history_of w) c.self.view_is) c.requires.place in
+    let h = here w c.self.inside.nodes.items c.self.inside.open.items (reverse c.self.inside.journal.items) c.args.self.now c.args.place (c.len.result - 1 - c.args.place) c.index-node.result.now c.index.result.now (c.self.invariant.stands w) c.self.view_is c.requires.proof (omega arith) c.index-node.ensures c.index.ensures in
+    sticks w v c.index.result.now.sequent c.args.step c.args.place (history_of w c.args.self.now).tree h.is_goal c.in-Err.fault c.in-Err.ensures.answers
 
 pub returns-in-Err-clause-proof : goal.returns-in-Err-clause-proof
 returns-in-Err-clause-proof g c =
@@ -212,6 +227,14 @@ returns-clause-refuses g c =
     let inside = in_range w _ _ _ (history_of w c.args.self.now) c.args.place (c.self.invariant.stands w) (ap (history_of w) c.self.view_is) c.requires.place in
     let h = here w c.self.inside.nodes.items c.self.inside.open.items (reverse c.self.inside.journal.items) c.args.self.now c.args.place (c.len.result - 1 - c.args.place) c.index-node.result.now c.index.result.now (c.self.invariant.stands w) c.self.view_is c.requires.proof (omega arith) c.index-node.ensures c.index.ensures in
     λ i f. absurd (not_refused w v c.index.result.now.sequent c.args.step c.args.place (history_of w c.args.self.now).tree h.is_goal c.in-Ok.made c.in-Ok.ensures.answers i f)
+
+pub returns-clause-sticks : goal.returns-clause-sticks
+returns-clause-sticks g c =
+    let w = c.args.world.now in
+    let v = c.premises.new.world in
+    let inside = in_range w _ _ _ (history_of w c.args.self.now) c.args.place (c.self.invariant.stands w) (ap (history_of w) c.self.view_is) c.requires.place in
+    let h = here w c.self.inside.nodes.items c.self.inside.open.items (reverse c.self.inside.journal.items) c.args.self.now c.args.place (c.len.result - 1 - c.args.place) c.index-node.result.now c.index.result.now (c.self.invariant.stands w) c.self.view_is c.requires.proof (omega arith) c.index-node.ensures c.index.ensures in
+    λ i f. absurd (not_stuck w v c.index.result.now.sequent c.args.step c.args.place (history_of w c.args.self.now).tree h.is_goal c.in-Ok.made c.in-Ok.ensures.answers i f)
 
 pub returns-clause-proof : goal.returns-clause-proof
 returns-clause-proof g c =

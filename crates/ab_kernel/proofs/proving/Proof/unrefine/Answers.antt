@@ -1,17 +1,16 @@
 use Rattle.std.specs.Prelude.{vec_capacity, slice_set}
 use Rattle.std.specs.List.{All}
-use Rattle.std.proofs.Common.{◌≡◌, ◌+◌, ◌-◌, ◌<◌, ◌≤◌, ℕ, List, [], ◌∷◌, ◌++◌, map, take, drop, reverse, length, refl, sym, ◌∙◌, ap, subst, arith}
+use Rattle.std.proofs.Common.{◌≡◌, ◌+◌, ◌-◌, ◌≤◌, ℕ, List, [], ◌∷◌, ◌++◌, map, take, drop, reverse, length, sym, ◌∙◌, ap, subst, arith}
 use Rattle.std.proofs.lemmas.List.{length-map, length-take-le}
-use Rattle.ab_logic.specs.Sequents.{Sequent}
 use Rattle.ab_logic.specs.Readings.{sequent_of}
 use Rattle.ab_logic.specs.declared.world.World.{World}
 use Rattle.ab_kernel.specs.declared.node.ProofNode.{ProofNode}
 use Rattle.ab_kernel.specs.declared.proving.Refinement.{Refinement}
-use Rattle.ab_kernel.specs.Derivation.{open_goals, root, undone, History}
+use Rattle.ab_kernel.specs.Derivation.{open_goals, root, undone}
 use Rattle.ab_kernel.specs.Nodes.{cleared, sequents_in, node_at, step_held}
 use Rattle.ab_kernel.specs.Layout.{Held, StepAt, steps_in, nodes_before, open_before, start_of, made_by, Stands, Layers, Grown, history_of, IsProof, before_last}
 use Rattle.ab_kernel.proofs.Standing.{some_world}
-use Rattle.ab_kernel.proofs.Filling.{sequents-before, length-before}
+use Rattle.ab_kernel.proofs.Filling.{sequents-before}
 use Rattle.ab_kernel.proofs.TakingBack.{TakenBack, last_step, room_to_go, node_there, taken_back, proof_before}
 use Rattle.ab_kernel.proofs.proving.Proof.unrefine.Given.{Over}
 use Rattle.ab_kernel.proofs.proving.Proof.unrefine.Goals as goal
