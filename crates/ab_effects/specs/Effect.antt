@@ -11,10 +11,11 @@ use Rattle.ab_logic.specs.Declarations.{Declarations}
 use Rattle.ab_logic.specs.Forms.{Form, truth, falsity, both, either, implies, equal, for_all, exists, nabla, marked, other, form_of, as_both, as_either, as_exists}
 use Rattle.ab_logic.specs.Sequents.{Sequent, formula_of, proving, assuming, without}
 use Rattle.ab_logic.specs.Names.{Label, auto, given, Names, NoName}
-use Rattle.ab_effects.specs.Refusals.{Refusal, clash, no_hypothesis, wrong_shape, names_spent}
+use Rattle.ab_effects.specs.Refusals.{Refusal, clash, no_hypothesis, wrong_shape, not_pattern, names_spent}
 use Rattle.ab_effects.specs.Row.{Row, leads, unless, finds, makes}
 use Rattle.ab_effects.specs.Terms.{Means, MeansNothing, Asserts, AssertsNothing}
 use Rattle.ab_effects.specs.Opening.{Opened, Nameless}
+use Rattle.ab_effects.specs.Solving.{IsSolved, IsOutside}
 use Rattle.ab_effects.specs.Introducing.{Introduced, Unnamed, taken_off, Parts}
 
 -- the label that stands before a command, if one does
@@ -83,7 +84,7 @@ cases D (nabla A t) F l s = opening D F l s (λ t. leads (t ∷ []))
 cases D (either A B) F l s = opening D A l s (λ t. opening D B l s (λ u. leads (t ∷ u ∷ [])))
 cases D falsity F l s = leads []
 cases D (implies A B) F l s = unless (Some wrong_shape) (leads [])
-cases D (equal A t u) F l s = unless (Some wrong_shape) (leads [])
+cases D (equal A t u) F l s = makes {A = List Sequent} (IsSolved D s t u) (λ f. IsOutside s t u × (f ≡ not_pattern 1)) leads
 cases D (for_all A t) F l s = unless (Some wrong_shape) (leads [])
 cases D (marked m t) F l s = unless (Some wrong_shape) (leads [])
 cases D other F l s = unless (Some wrong_shape) (leads [])

@@ -5,4 +5,5 @@ pub mod Row
 pub mod Terms
 pub mod Opening
 pub mod Introducing
+pub mod Solving
 pub mod Effect

@@ -87,7 +87,7 @@ module _ (w m : World) (p : Held) (declared : declarations_of m ≡ declarations
       go : ((b : Read) × (as_exists s.conclusion ≡ Some (A, b)) × Means (declarations_of w) s e A t × Fits (declarations_of w) s t A)
           → ((ps : List Sequent) × NamedRule (declarations_of m) (exists_right t) s ps × (goals_of v q ≡ [] ++ ps ++ rest))
           → (ps : List Sequent) × Leads (effect (declarations_of w) l (told.exists e) s) ps × (goals_of v q ≡ ps ++ rest)
-      go (b, are, means, fits) (ps, (number, new, (z, is, (fit, led))), now) =
+      go (b, are, means, fits) (ps, (cells, are_cells, (z, is, (fit, led))), now) =
           let both : Some z ≡ Some (A, b) = sym is ∙ are in
           let same : z ≡ (A, b) = cc in
           (ps, (z, is, (t, subst (λ (y : Ty × Read). Means (declarations_of w) s e y.0 t) (sym same) means, led)), now)
@@ -114,7 +114,7 @@ module _ (w m : World) (p : Held) (declared : declarations_of m ≡ declarations
       go : ((clashing l s ≡ None) × Means (declarations_of w) s e prop F × Fits (declarations_of w) s F prop)
           → ((ps : List Sequent) × NamedRule (declarations_of m) (cut_formula F l) s ps × (goals_of v q ≡ [] ++ ps ++ rest))
           → (ps : List Sequent) × Leads (effect (declarations_of w) l (told.assert e) s) ps × (goals_of v q ≡ ps ++ rest)
-      go (free, means, fits) (ps, (number, new, ((fit, formula), (name, t, named, led))), now) =
+      go (free, means, fits) (ps, (cells, are_cells, ((fit, formula), (name, t, named, led))), now) =
           (ps, (free, (F, (means, subst (λ D. IsFormula (signature_in D) F) declared formula), ((name, t), named, led))), now)
 
   pub cut_refused : (s : Sequent) (rest : List Sequent) → goals_of w p ≡ s ∷ rest → (fault : ProofCommandFault) → CutFails (declarations_of m) F l (place_of e) s fault

@@ -149,7 +149,7 @@ module _ (w v : World) (p q : Held) (place : ℕ) (l : Label) (top : Kept) (rest
       parted : (h : Hypothesis) (k : Sequent) → formula_of k h.name ≡ Some h.formula → (A B : Read) (y : List ℕ) → form_of h.formula ≡ both A B → (before behind : List Sequent) → length before ≡ place
           → Went (declarations_of w) (and_left h.name (given h.name) (given y)) k v q before behind
           → IsAt v q place before (assuming y B (assuming h.name A (without h.name k))) behind
-      parted h k has A B y is before behind counted (ps, (number, new, (F, found, (pr, are, (L, t, first, (M, u, second, led))))), goals) =
+      parted h k has A B y is before behind counted (ps, (cells, are_cells, (F, found, (pr, are, (L, t, first, (M, u, second, led))))), goals) =
           let same : Some F ≡ Some h.formula = sym found ∙ has in
           let F_is : F ≡ h.formula = cc in
           let both_are : Some pr ≡ Some (A, B) = sym are ∙ ap as_both F_is ∙ ap both_in is in

@@ -9,3 +9,4 @@ pub mod Moves
 pub mod Naming
 pub mod Rows
 pub mod Taking
+pub mod Solving

@@ -11,6 +11,7 @@ use Rattle.ab_logic.specs.Sequents.{Hypothesis, Variable, Sequent, formula_of, f
 use Rattle.ab_logic.specs.declared.world.World.{World}
 use Rattle.ab_rules.specs.Steps.{Step, weaken, exists_left, nabla_left}
 use Rattle.ab_rules.specs.Rules.{NamedRule, IsSupport, MayName, raised, applied, hint_of, name_term}
+use Rattle.ab_rules.proofs.NewNumbers.{new_number}
 use Rattle.ab_kernel.specs.Layout.{Held}
 use Rattle.ab_effects.specs.Opening.{IsWhole, Taken, Opened, Nameless, nothing, parts, variable, constant, hypothesis, unnamed}
 use Rattle.ab_progress.specs.Progress.{goals_of, IsAt}
@@ -100,28 +101,28 @@ module _ (D : Declarations) (h : Hypothesis) (hs : List Hypothesis) (l : Label) 
 
   pub opens_exists : (A : Ty) (t : Read) → form_of h.formula ≡ exists A t → length before ≡ place → Went D (exists_left h.name (given h.name)) k v q before behind
       → (G : Read) × OpensTo D (h ∷ hs) l k (entry h.name G ∷ hs) l v q place before behind × (connectives G < connectives h.formula)
-  opens_exists A t is counted (ps, (number, new, (F, found, (q1, are, (L, s1, names, ((ns, name), (support, made), led))))), goals) =
+  opens_exists A t is counted (ps, (cells, are_cells, (F, found, (q1, are, (L, s1, names, ((ns, name), (support, made), led))))), goals) =
       let x = h.name in
       let F_is : F ≡ h.formula = found_once k x h.formula F all.0 found in
       let shown : Some q1 ≡ Some (A, t) = sym are ∙ ap as_exists F_is ∙ ap exists_in is in
       let pair : q1 ≡ (A, t) = cc in
       let base = without x k in
-      let X = raised number name A ns in
+      let X = raised (length cells) name A ns in
       let G = instance t (applied X ns) in
       let goal = assuming x G (over X base) in
       let gone : formula_of (over X base) x ≡ None = named_gone k.hypotheses x in
-      let led_to : assuming L (instance q1.1 (applied (raised number name q1.0 ns) ns)) (over (raised number name q1.0 ns) s1) ≡ goal =
-      ap (λ M. assuming M (instance q1.1 (applied (raised number name q1.0 ns) ns)) (over (raised number name q1.0 ns) s1)) names.1
-      ∙ ap (λ s. assuming x (instance q1.1 (applied (raised number name q1.0 ns) ns)) (over (raised number name q1.0 ns) s)) names.2
-      ∙ ap (λ (r : Ty × Read). assuming x (instance r.1 (applied (raised number name r.0 ns) ns)) (over (raised number name r.0 ns) base)) pair in
+      let led_to : assuming L (instance q1.1 (applied (raised (length cells) name q1.0 ns) ns)) (over (raised (length cells) name q1.0 ns) s1) ≡ goal =
+      ap (λ M. assuming M (instance q1.1 (applied (raised (length cells) name q1.0 ns) ns)) (over (raised (length cells) name q1.0 ns) s1)) names.1
+      ∙ ap (λ s. assuming x (instance q1.1 (applied (raised (length cells) name q1.0 ns) ns)) (over (raised (length cells) name q1.0 ns) s)) names.2
+      ∙ ap (λ (r : Ty × Read). assuming x (instance r.1 (applied (raised (length cells) name r.0 ns) ns)) (over (raised (length cells) name r.0 ns) base)) pair in
       let removed : without x goal ≡ over X base = without_last (over X base) x G gone in
       let same : besides hs (without x goal) ≡ over X (besides hs base) = ap (besides hs) removed ∙ besides_over hs X base in
       let vars : k.variables ≡ (besides (h ∷ hs) k).variables = sym (variables_beside (h ∷ hs) k) in
       let taken : Taken D (besides (h ∷ hs) k) h.formula A t G (over X (besides (h ∷ hs) k)) = record {
-        number = number;
+        number = length cells;
         name = name;
         names = ns;
-        new = subst (λ (xs : List Variable). All (λ (y : Variable). y.number ≢ number) xs) vars new;
+        new = subst (λ (xs : List Variable). All (λ (y : Variable). y.number ≢ length cells) xs) vars (new_number cells k are_cells);
         named = same_naming D k (besides (h ∷ hs) k) (hint_of t) name vars (subst (λ (r : Ty × Read). IsNamedFor D k (hint_of r.1) name) pair made);
         support_is = subst (λ H. IsSupport H ns) F_is support;
         body = refl;
@@ -142,7 +143,7 @@ module _ (D : Declarations) (h : Hypothesis) (hs : List Hypothesis) (l : Label) 
 
   pub opens_nabla : (A : Ty) (t : Read) → form_of h.formula ≡ nabla A t → LabelsDiffer k.hypotheses → length before ≡ place → Went D (nabla_left h.name (given h.name)) k v q before behind
       → (G : Read) × OpensTo D (h ∷ hs) l k (entry h.name G ∷ hs) l v q place before behind × (connectives G < connectives h.formula)
-  opens_nabla A t is differ counted (ps, (number, new, (F, found, (q1, are, (L, s1, names, (c, least, led))))), goals) =
+  opens_nabla A t is differ counted (ps, (cells, are_cells, (F, found, (q1, are, (L, s1, names, (c, least, led))))), goals) =
       let x = h.name in
       let F_is : F ≡ h.formula = found_once k x h.formula F all.0 found in
       let shown : Some q1 ≡ Some (A, t) = sym are ∙ ap as_nabla F_is ∙ ap nabla_in is in

@@ -11,11 +11,11 @@ use Rattle.ab_term.proofs.UpToNames.{up_to_names-itself}
 use Rattle.ab_store.specs.Trees.{Read}
 use Rattle.ab_logic.specs.Declarations.{Declarations, signature_in}
 use Rattle.ab_logic.specs.Formulas.{IsFormula}
-use Rattle.ab_logic.specs.Forms.{as_both, as_either, as_exists, as_nabla, as_falsity}
+use Rattle.ab_logic.specs.Forms.{as_both, as_either, as_exists, as_nabla, as_falsity, as_equal}
 use Rattle.ab_logic.specs.Marks.{erased, MarksServeIn}
 use Rattle.ab_logic.specs.Names.{Label, given, NoName}
 use Rattle.ab_logic.specs.Sequents.{Sequent, IsSequent, Fits, HoldsOnly, formula_of, formulas, formulas_of, goal_names, proving, assuming, without, IsUsed}
-use Rattle.ab_rules.specs.Steps.{initial, false_left, and_left, or_left, exists_left, nabla_left, cut_formula, weaken}
+use Rattle.ab_rules.specs.Steps.{initial, false_left, and_left, or_left, exists_left, nabla_left, equal_left, cut_formula, weaken}
 use Rattle.ab_rules.specs.Rules.{Fails}
 use Rattle.ab_rules.proofs.Chosen.{in_goal}
 use Rattle.ab_rules.proofs.Sequents.{found_there}
@@ -54,6 +54,11 @@ module _ (D : Declarations) (k : Sequent) (x : List ℕ) (F : Read) (has : formu
   closes_false some i (inl f) = let clash : Some F ≡ None = sym has ∙ f.0 in cc
   closes_false some i (inr (G, found, inl f)) = some (ap as_falsity (found_once k x F G has found) ∙ f.0)
   closes_false some i (inr (G, found, inr f)) = f.2
+
+  pub solves_equal : as_equal F ≢ None → (i : ℕ) → Fails D (equal_left x) k i → ⊥
+  solves_equal some i (inl f) = let clash : Some F ≡ None = sym has ∙ f.0 in cc
+  solves_equal some i (inr (G, found, inl f)) = some (ap as_equal (found_once k x F G has found) ∙ f.0)
+  solves_equal some i (inr (G, found, inr f)) = f.2
 
   pub takes_exists : as_exists F ≢ None → (i : ℕ) → Fails D (exists_left x (given x)) k i → ⊥
   takes_exists some i (inl f) = let clash : Some F ≡ None = sym has ∙ f.0 in cc

@@ -21,7 +21,7 @@ use Rattle.ab_progress.specs.Applied.{IsApplied, IsRefused}
 use Rattle.ab_progress.specs.declared.fault.ProofCommandFault.{ProofCommandFault}
 use Rattle.ab_progress.specs.Progress.{goals_of, IsAt, Took, Holds as Sure}
 use Rattle.ab_progress.proofs.Following.{first_at, one_at_least}
-use Rattle.ab_left.specs.Cases.{IsOpened, HasCases, rest_of, Begun, TakenApart, CantTake}
+use Rattle.ab_left.specs.Cases.{IsOpened, HasCases, rest_of, Begun, TakenApart, CantTake, CantSolve}
 use Rattle.ab_left.specs.Progress.{HasAt, CopiedTo, MovedTo, OpenedTo}
 use Rattle.ab_left.proofs.Hypotheses.{named_still_none, named_last}
 use Rattle.ab_left.proofs.Goes.{holds_at}
@@ -64,7 +64,7 @@ module _ (D : Declarations) (F : Read) (l : Label) (s : Sequent) where
   shapeless (exists A t) none = absurd (none tt)
   shapeless (nabla A t) none = absurd (none tt)
   shapeless (implies A B) none = inl refl
-  shapeless (equal A t u) none = inl refl
+  shapeless (equal A t u) none = absurd (none tt)
   shapeless (for_all A t) none = inl refl
   shapeless (marked x t) none = inl refl
   shapeless other none = inl refl
@@ -171,7 +171,7 @@ false_taken w v p q keep H x F l is took s rest goals =
 -- the parts of a disjunction
 pub or_parted : (D : Declarations) (s : Sequent) (y : List ℕ) (F A B : Read) (v : World) (q : Held) (rest : List Sequent) → formula_of s y ≡ Some F → form_of F ≡ either A B
     → Went D (or_left y (given y)) s v q [] rest → goals_of v q ≡ assuming y A (without y s) ∷ assuming y B (without y s) ∷ rest
-or_parted D s y F A B v q rest has is (ps, (number, new, (G, found, (pr, are, (L, t, names, led)))), goals) =
+or_parted D s y F A B v q rest has is (ps, (cells, are_cells, (G, found, (pr, are, (L, t, names, led)))), goals) =
     let same : Some G ≡ Some F = sym found ∙ has in
     let G_is : G ≡ F = cc in
     let both_are : Some pr ≡ Some (A, B) = sym are ∙ ap as_either G_is ∙ ap either_in is in
@@ -289,3 +289,6 @@ module _ (w : World) (p : Held) (l : Label) (keep : Bool) (H : List ℕ) (F : Re
 
   pub case_stops : CantTake w p l keep H F → IsRefused l (told.case H keep) w p ProofCommandFault.NamesSpent
   case_stops stops s rest goals = inr (free s rest goals, inr (F, has s rest goals, stops s rest goals))
+
+  pub case_stuck : CantSolve w p l keep H F → IsRefused l (told.case H keep) w p (ProofCommandFault.NotPattern 1)
+  case_stuck stuck s rest goals = inr (free s rest goals, inr (F, has s rest goals, stuck s rest goals))

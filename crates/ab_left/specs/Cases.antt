@@ -1,14 +1,14 @@
 -- What taking a hypothesis apart leaves of a proof. Public contracts don't speak of this.
 use Rattle.std.specs.Prelude.{◌≡◌, List, ◌∷◌, ◌++◌, Bool, None, ℕ, if◌then◌else◌}
 use Rattle.ab_store.specs.Trees.{Read}
-use Rattle.ab_logic.specs.Forms.{Form, truth, falsity, both, either, exists, nabla, form_of}
+use Rattle.ab_logic.specs.Forms.{Form, truth, falsity, both, either, equal, exists, nabla, form_of}
 use Rattle.ab_logic.specs.Names.{Label}
 use Rattle.ab_logic.specs.Sequents.{Sequent, formula_of, assuming, without}
 use Rattle.ab_logic.specs.Worlds.{declarations_of}
 use Rattle.ab_logic.specs.declared.world.World.{World}
 use Rattle.ab_kernel.specs.Layout.{Held}
 use Rattle.ab_effects.specs.Effect.{cases}
-use Rattle.ab_effects.specs.Refusals.{names_spent}
+use Rattle.ab_effects.specs.Refusals.{names_spent, not_pattern}
 use Rattle.ab_effects.specs.Row.{Leads, Refuses}
 use Rattle.ab_progress.specs.Progress.{goals_of}
 
@@ -20,12 +20,18 @@ IsOpened (exists A t) = Unit {0}
 IsOpened (nabla A t) = Unit {0}
 IsOpened _ = ⊥
 
+-- one of this form is solved in its goal
+abbrev pub IsEquation : Form → Type 0
+IsEquation (equal A t u) = Unit {0}
+IsEquation _ = ⊥
+
 -- one of this form can be taken apart
 abbrev pub HasCases : Form → Type 0
 HasCases truth = Unit {0}
 HasCases falsity = Unit {0}
 HasCases (both A B) = Unit {0}
 HasCases (either A B) = Unit {0}
+HasCases (equal A t u) = Unit {0}
 HasCases (exists A t) = Unit {0}
 HasCases (nabla A t) = Unit {0}
 HasCases _ = ⊥
@@ -48,3 +54,8 @@ TakenApart w p v q l keep H F = (s : Sequent) (rest : List Sequent) → goals_of
 abbrev pub CantTake : World → Held → Label → Bool → List ℕ → Read → Type 0
 CantTake w p l keep H F = (s : Sequent) (rest : List Sequent) → goals_of w p ≡ s ∷ rest →
     Refuses (cases (declarations_of w) (form_of F) F l (rest_of keep H s)) names_spent
+
+-- it can't be, since it is an equation outside the patterns
+abbrev pub CantSolve : World → Held → Label → Bool → List ℕ → Read → Type 0
+CantSolve w p l keep H F = (s : Sequent) (rest : List Sequent) → goals_of w p ≡ s ∷ rest →
+    Refuses (cases (declarations_of w) (form_of F) F l (rest_of keep H s)) (not_pattern 1)

@@ -1,5 +1,5 @@
 //! A hypothesis is taken apart.
-ghost use Rattle.std.specs.Prelude.{◌≡◌, ◌≢◌, ◌↔◌, [], ◌∷◌, List, Err, IfOk, OnOk, OnErr, IsTrue};
+ghost use Rattle.std.specs.Prelude.{◌≡◌, ◌≢◌, ◌↔◌, [], ◌∷◌, List, Err, IfOk, OnOk, OnErr, IsTrue, IsFalse};
 ghost use Rattle.std.specs.Option.{option_map};
 ghost use Rattle.ab_grammar.specs.CommandTrees as told;
 ghost use Rattle.ab_logic.specs.Forms.{form_of, either, falsity, HoldsParts};
@@ -10,6 +10,8 @@ ghost use Rattle.ab_effects.specs.Effect.{clashing};
 ghost use Rattle.ab_effects.specs.Refusals.{clash};
 ghost use Rattle.ab_logic.specs.Worlds.{IsWorld, Holds, declarations_of, read};
 ghost use Rattle.ab_naming.specs.Labels.{label_of};
+ghost use Rattle.ab_unifying.specs.Problem.{cells_read};
+ghost use Rattle.ab_equate.specs.Solved.{AreCells};
 ghost use Rattle.ab_kernel.specs.Layout.{history_of, IsProof};
 ghost use Rattle.ab_effects.specs.Opening.{Nameless};
 ghost use Rattle.ab_progress.specs.Applied.{IsApplied, IsRefused};
@@ -17,7 +19,7 @@ ghost use Rattle.ab_progress.specs.Progress.{goals_of, IsAt, Follows};
 ghost use Rattle.ab_progress.specs.declared.fault.ProofCommandFault.{ProofCommandFault as AFault};
 ghost use Rattle.ab_left.specs.Own.{IsOwn};
 ghost use Rattle.ab_left.specs.Progress.{HasAt, OpenedTo};
-ghost use Rattle.ab_left.specs.Cases.{HasCases, IsOpened, Begun, TakenApart, CantTake};
+ghost use Rattle.ab_left.specs.Cases.{HasCases, IsOpened, IsEquation, Begun, TakenApart, CantTake, CantSolve};
 ghost use Rattle.ab_left.specs.declared.stop.Stop.{Stop as AStop};
 
 use crate::moving::{copy, shift};
@@ -27,7 +29,7 @@ use crate::stop::Stop;
 use ab_kernel::{Proof, Step};
 use ab_logic::{Form, Hypothesis, Sequent, World, shape};
 use ab_naming::Label;
-use ab_progress::{ProofCommandFault, first_goal, surely, take_back};
+use ab_progress::{Attempted, ProofCommandFault, attempt_solving, first_goal, surely, take_back};
 use ab_store::TermId;
 use ab_types::{Name, Steps};
 use std::alloc::{AllocError, Global};
@@ -42,13 +44,10 @@ fn has_cases(world: &World, formula: TermId) -> bool
         | Form::False
         | Form::And(_, _)
         | Form::Or(_, _)
+        | Form::Equal(_, _, _)
         | Form::Exists(_, _)
         | Form::Nabla(_, _) => true,
-        Form::Arrow(_, _)
-        | Form::Equal(_, _, _)
-        | Form::Forall(_, _)
-        | Form::Marked(_, _)
-        | Form::Other => false,
+        Form::Arrow(_, _) | Form::Forall(_, _) | Form::Marked(_, _) | Form::Other => false,
     }
 }
 
@@ -248,7 +247,47 @@ fn take_false<L>(
     surely(world, proof, 0, Step::FalseLeft(own), steps)
 }
 
-/// Takes a hypothesis of the first goal apart.
+/// The variables of the first goal are cells of the world.
+fn first_over_cells(world: &World, proof: &Proof)
+    requires proof { IsProof world.now proof.now }
+    requires open { goals_of world.now proof.now ≢ [] }
+    ensures { (s : AGoal) (rest : List AGoal) → goals_of world.now proof.now ≡ s ∷ rest →
+        AreCells (cells_read world.now.types world.now.store) s }
+{
+    let _ = first_goal(world, proof);
+}
+
+/// Solves a hypothesis that is an equation in its goal. It answers false where the equation is outside the patterns.
+fn take_equal<L>(
+    alloc: Global,
+    world: &mut World,
+    proof: &mut Proof,
+    label: &Label,
+    name: &Name,
+    formula: TermId,
+    keep: bool,
+    steps: &mut Steps<L>,
+) -> Result<bool, AllocError>
+    requires world { IsWorld world.old }
+    requires proof { IsProof world.old proof.old }
+    requires open { goals_of world.old proof.old ≢ [] }
+    requires formula { Holds world.old formula }
+    requires there { HasAt world.old proof.old 0 name.now (read world.old formula) }
+    requires form { IsEquation (form_of (read world.old formula)) }
+    ensures follows { Follows world.old proof.old world.new proof.new }
+    ensures taken { IfOk result (λ b. IsTrue b → TakenApart world.old proof.old world.new proof.new (label_of label.now) keep name.now (read world.old formula)) }
+    ensures stuck { IfOk result (λ b. IsFalse b → CantSolve world.old proof.old (label_of label.now) keep name.now (read world.old formula)) }
+{
+    let own = begin(alloc, world, proof, label, name, formula, keep, steps)?;
+    first_over_cells(world, proof);
+    match attempt_solving(world, proof, 0, Step::EqualLeft(own), steps)? {
+        Attempted::Taken(_) => Ok(true),
+        Attempted::Failed => unreachable!(),
+        Attempted::Stuck(_) => Ok(false),
+    }
+}
+
+/// Takes a hypothesis of the first goal apart. It answers false where the hypothesis is an equation outside the patterns.
 fn take_apart<L>(
     alloc: Global,
     world: &mut World,
@@ -258,7 +297,7 @@ fn take_apart<L>(
     formula: TermId,
     keep: bool,
     steps: &mut Steps<L>,
-) -> Result<(), Stop>
+) -> Result<bool, Stop>
     requires world { IsWorld world.old }
     requires proof { IsProof world.old proof.old }
     requires open { goals_of world.old proof.old ≢ [] }
@@ -266,33 +305,38 @@ fn take_apart<L>(
     requires there { HasAt world.old proof.old 0 name.now (read world.old formula) }
     requires form { HasCases (form_of (read world.old formula)) }
     ensures follows { Follows world.old proof.old world.new proof.new }
-    ensures taken { OnOk result (TakenApart world.old proof.old world.new proof.new (label_of label.now) keep name.now (read world.old formula)) }
+    ensures taken { IfOk result (λ b. IsTrue b → TakenApart world.old proof.old world.new proof.new (label_of label.now) keep name.now (read world.old formula)) }
+    ensures stuck { IfOk result (λ b. IsFalse b → CantSolve world.old proof.old (label_of label.now) keep name.now (read world.old formula)) }
     ensures stopped { result ≡ Err AStop.NamesSpent → CantTake world.old proof.old (label_of label.now) keep name.now (read world.old formula) }
 {
     match shape(world, formula) {
         Form::False => {
             take_false(alloc, world, proof, label, name, formula, keep, steps)?;
-            Ok(())
+            Ok(true)
         }
-        Form::Or(first, second) => take_or(
-            alloc,
-            world,
-            proof,
-            label,
-            name,
-            formula,
-            (first, second),
-            keep,
-            steps,
-        ),
+        Form::Or(first, second) => {
+            take_or(
+                alloc,
+                world,
+                proof,
+                label,
+                name,
+                formula,
+                (first, second),
+                keep,
+                steps,
+            )?;
+            Ok(true)
+        }
         Form::True | Form::And(_, _) | Form::Exists(_, _) | Form::Nabla(_, _) => {
-            take_open(alloc, world, proof, label, name, formula, keep, steps)
+            take_open(alloc, world, proof, label, name, formula, keep, steps)?;
+            Ok(true)
         }
-        Form::Arrow(_, _)
-        | Form::Equal(_, _, _)
-        | Form::Forall(_, _)
-        | Form::Marked(_, _)
-        | Form::Other => unreachable!(),
+        Form::Equal(_, _, _) => {
+            let solved = take_equal(alloc, world, proof, label, name, formula, keep, steps)?;
+            Ok(solved)
+        }
+        Form::Arrow(_, _) | Form::Forall(_, _) | Form::Marked(_, _) | Form::Other => unreachable!(),
     }
 }
 
@@ -313,8 +357,9 @@ fn label_clash(alloc: Global, sequent: &Sequent, label: &Label) -> Result<Option
 }
 
 /// Takes a hypothesis of the first goal apart, with the label for the first new hypothesis of each goal. It is removed,
-/// unless it is to be kept. It is refused, and changes nothing, where the label is in use, no hypothesis has the name,
-/// the formula isn't of a form that is taken apart, or a new hypothesis gets no name.
+/// unless it is to be kept. An equation is solved in the goal. It is refused, and changes nothing, where the label is in
+/// use, no hypothesis has the name, the formula isn't of a form that is taken apart, the equation is outside the patterns,
+/// or a new hypothesis gets no name.
 pub fn case<L>(
     alloc: Global,
     world: &mut World,
@@ -345,7 +390,11 @@ pub fn case<L>(
     }
     let count = proof.steps();
     match take_apart(alloc, world, proof, label, name, formula, keep, steps) {
-        Ok(()) => Ok(()),
+        Ok(true) => Ok(()),
+        Ok(false) => {
+            take_back(world, proof, count, steps);
+            Err(ProofCommandFault::NotPattern(1))
+        }
         Err(Stop::NamesSpent) => {
             take_back(world, proof, count, steps);
             Err(ProofCommandFault::NamesSpent)

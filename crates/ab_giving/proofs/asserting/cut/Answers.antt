@@ -1,6 +1,10 @@
-use Rattle.ab_logic.specs.Worlds.{read}
+use Rattle.std.specs.Prelude.{Err}
+use Rattle.std.proofs.Common.{◌∙◌, ap}
+use Rattle.ab_unifying.specs.Problem.{cells_read}
+use Rattle.ab_logic.specs.Worlds.{read, declarations_of}
 use Rattle.ab_naming.specs.Labels.{label_of}
 use Rattle.ab_rules.specs.Steps.{cut_formula}
+use Rattle.ab_progress.proofs.Plain.{never_stuck}
 use Rattle.ab_progress.proofs.Following.{follows_same, as_before, took}
 use Rattle.ab_giving.proofs.asserting.cut.Goals as goal
 
@@ -23,6 +27,13 @@ returns-else-condition-eq1-clause-follows g c =
 pub returns-else-condition-eq1-clause-unchanged : goal.returns-else-condition-eq1-clause-unchanged
 returns-else-condition-eq1-clause-unchanged g c =
     as_before c.args.world.now c.refine.new.world c.args.proof.now c.refine.new.self c.refine.ensures.grows c.requires.proof c.in-Err-RuleFails.ensures.err
+
+pub unreachable-requires : goal.unreachable-requires
+unreachable-requires g c =
+    let w = c.args.world.now in
+    let i = c.in-Err-NotPattern.field-0-0 in
+    let f = c.refine.ensures.stuck i (c.in-Err-NotPattern.is ∙ ap Err c.in-Err-NotPattern.field-0-is) in
+    never_stuck (declarations_of w) (cells_read w.types w.store) (cut_formula (read w c.args.formula) (label_of c.args.label)) f.0 i tt f.2
 
 pub returns-in-Err-Memory-clause-follows : goal.returns-in-Err-Memory-clause-follows
 returns-in-Err-Memory-clause-follows g c =

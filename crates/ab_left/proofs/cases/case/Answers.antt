@@ -1,6 +1,6 @@
 use Rattle.std.specs.Prelude.{[], Err}
 use Rattle.std.specs.Option.{option_map}
-use Rattle.std.proofs.Common.{◌≡◌, rules, sym, ◌∙◌, ap, subst}
+use Rattle.std.proofs.Common.{◌≡◌, true, false, rules, sym, ◌∙◌, ap, subst}
 use Rattle.ab_grammar.specs.CommandTrees as told
 use Rattle.ab_logic.specs.Sequents.{formula_of}
 use Rattle.ab_logic.specs.Worlds.{read}
@@ -12,7 +12,7 @@ use Rattle.ab_progress.specs.Progress.{goals_of}
 use Rattle.ab_progress.specs.declared.fault.ProofCommandFault.{ProofCommandFault}
 use Rattle.ab_progress.proofs.Following.{first_at, one_at_least}
 use Rattle.ab_left.specs.declared.stop.Stop.{Stop}
-use Rattle.ab_left.proofs.Taking.{case_applied, case_stops}
+use Rattle.ab_left.proofs.Taking.{case_applied, case_stops, case_stuck}
 use Rattle.ab_left.proofs.cases.case.Goals as goal
 
 pub take_apart-requires-clause-there : goal.take_apart-requires-clause-there
@@ -28,14 +28,15 @@ take_apart-requires-clause-there g c =
       has = ap (λ s. formula_of s c.args.name.now) (sym (c.first_goal-goal.ensures.reads one.0 one.1 one.2)) ∙ sym (c.in-Some-look.ensures.reads w);
     }
 
-pub returns-in-Ok-clause-applied : goal.returns-in-Ok-clause-applied
-returns-in-Ok-clause-applied g c =
+pub returns-in-Ok-true-clause-applied : goal.returns-in-Ok-true-clause-applied
+returns-in-Ok-true-clause-applied g c =
     let w = c.args.world.now in
     let l = label_of c.args.label.now in
+    let taken : c.in-Ok-true.field-0 ≡ true = search rules in
     case_applied w c.args.proof.now l c.args.keep c.args.name.now (read w c.in-Some-look.formula)
     (λ s rest e. ap (clashing l) (sym (c.first_goal-goal.ensures.reads s rest e)) ∙ sym (c.in_ok-clash.ensures w) ∙ ap (option_map clash) c.in_default.is)
     (λ s rest e. ap (λ k. formula_of k c.args.name.now) (sym (c.first_goal-goal.ensures.reads s rest e)) ∙ sym (c.in-Some-look.ensures.reads w))
-    c.take_apart.new.world c.take_apart.new.proof c.in-Ok.ensures.taken
+    c.take_apart.new.world c.take_apart.new.proof (c.in-Ok-true.ensures.taken taken)
 
 pub returns-in-Err-NamesSpent-clause-refused : goal.returns-in-Err-NamesSpent-clause-refused
 returns-in-Err-NamesSpent-clause-refused g c fault e =
@@ -48,3 +49,15 @@ returns-in-Err-NamesSpent-clause-refused g c fault e =
     (λ s rest e. ap (clashing l) (sym (c.first_goal-goal.ensures.reads s rest e)) ∙ sym (c.in_ok-clash.ensures w) ∙ ap (option_map clash) c.in_default.is)
     (λ s rest e. ap (λ k. formula_of k c.args.name.now) (sym (c.first_goal-goal.ensures.reads s rest e)) ∙ sym (c.in-Some-look.ensures.reads w))
     (c.take_apart.ensures.stopped spent))
+
+pub returns-in-Ok-false-clause-refused : goal.returns-in-Ok-false-clause-refused
+returns-in-Ok-false-clause-refused g c fault e =
+    let w = c.args.world.now in
+    let l = label_of c.args.label.now in
+    let left : c.in-Ok-false.field-0 ≡ false = search rules in
+    let is : ProofCommandFault.NotPattern 1 ≡ fault = cc in
+    subst (λ f. IsRefused l (told.case c.args.name.now c.args.keep) w c.args.proof.now f) is
+    (case_stuck w c.args.proof.now l c.args.keep c.args.name.now (read w c.in-Some-look.formula)
+    (λ s rest e. ap (clashing l) (sym (c.first_goal-goal.ensures.reads s rest e)) ∙ sym (c.in_ok-clash.ensures w) ∙ ap (option_map clash) c.in_default.is)
+    (λ s rest e. ap (λ k. formula_of k c.args.name.now) (sym (c.first_goal-goal.ensures.reads s rest e)) ∙ sym (c.in-Some-look.ensures.reads w))
+    (c.in-Ok-false.ensures.stuck left))

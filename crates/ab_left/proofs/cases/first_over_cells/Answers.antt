@@ -1,0 +1,10 @@
+use Rattle.std.proofs.Common.{subst}
+use Rattle.ab_unifying.specs.Problem.{cells_read}
+use Rattle.ab_equate.specs.Solved.{AreCells}
+use Rattle.ab_rules.proofs.NewNumbers.{over_cells}
+use Rattle.ab_left.proofs.cases.first_over_cells.Goals as goal
+
+pub returns : goal.returns
+returns c s rest e =
+    let w = c.args.world.now in
+    subst (AreCells (cells_read w.types w.store)) (c.first_goal.ensures.reads s rest e) (over_cells w c.first_goal.result.now c.first_goal.ensures.held)
