@@ -13,6 +13,7 @@ use Rattle.ab_logic.specs.Worlds.{IsWorld, declarations_of}
 use Rattle.ab_logic.specs.declared.world.World.{World}
 use Rattle.ab_rules.specs.Steps.{for_all_right, nabla_right, arrow_right}
 use Rattle.ab_rules.specs.Rules.{NamedRule, Fails, raised, applied, name_term}
+use Rattle.ab_rules.proofs.NewNumbers.{new_number}
 use Rattle.ab_kernel.specs.Layout.{Held, IsProof}
 use Rattle.ab_effects.specs.Effect.{effect, introducing, left_over, clashing_names}
 use Rattle.ab_effects.specs.Introducing.{Introduced, Unnamed, first_label, others, taken_off}
@@ -55,14 +56,14 @@ for_all_on w v p q xs took s rest e = go (took [] rest s (first_at w p s rest e)
   where
     go : ((ps : List Sequent) × NamedRule (declarations_of w) for_all_right s ps × (goals_of v q ≡ [] ++ ps ++ rest))
         → (u : Sequent) × LeadsOn (declarations_of w) xs s xs u × (connectives u.conclusion < connectives s.conclusion) × (goals_of v q ≡ u ∷ rest)
-    go (ps, (number, new, (quantified, are, ((names, name), (support, named), led))), now) =
+    go (ps, (cells, are_cells, (quantified, are, ((names, name), (support, named), led))), now) =
         let A = quantified.0 in
         let t = quantified.1 in
-        let x = raised number name A names in
+        let x = raised (length cells) name A names in
         let is : form_of s.conclusion ≡ for_all A t = for_all_is s.conclusion A t are in
         let u = proving (instance t (applied x names)) (over x s) in
         let taken : Taken (declarations_of w) s s.conclusion A t (instance t (applied x names)) (over x s) =
-        record { number = number; name = name; names = names; new = new; named = named; support_is = support; body = refl; goal = refl } in
+        record { number = length cells; name = name; names = names; new = new_number cells s are_cells; named = named; support_is = support; body = refl; goal = refl } in
         let as_many = same_connectives t (applied x names) (rigid_applied x names) in
         let fewer = fewer_for_all s.conclusion t A is in (
           u,
@@ -76,7 +77,7 @@ constant_on w v p q xs took s rest e = go (took [] rest s (first_at w p s rest e
   where
     go : ((ps : List Sequent) × NamedRule (declarations_of w) nabla_right s ps × (goals_of v q ≡ [] ++ ps ++ rest))
         → (u : Sequent) × LeadsOn (declarations_of w) xs s xs u × (connectives u.conclusion < connectives s.conclusion) × (goals_of v q ≡ u ∷ rest)
-    go (ps, (number, new, (quantified, are, (n, least, led))), now) =
+    go (ps, (cells, are_cells, (quantified, are, (n, least, led))), now) =
         let A = quantified.0 in
         let t = quantified.1 in
         let c : Nominal = record { number = n; type = A } in
@@ -94,7 +95,7 @@ hypothesis_on w v p q xs l given took s rest e = go (took [] rest s (first_at w 
   where
     go : ((ps : List Sequent) × NamedRule (declarations_of w) (arrow_right l) s ps × (goals_of v q ≡ [] ++ ps ++ rest))
         → (u : Sequent) × LeadsOn (declarations_of w) xs s (others xs) u × (connectives u.conclusion < connectives s.conclusion) × (goals_of v q ≡ u ∷ rest)
-    go (ps, (number, new, (pair, are, (name, counted, named, led))), now) =
+    go (ps, (cells, are_cells, (pair, are, (name, counted, named, led))), now) =
         let A = pair.0 in
         let B = pair.1 in
         let is : form_of s.conclusion ≡ implies A B = implies_is s.conclusion A B are in

@@ -25,6 +25,7 @@ use ab_logic::{Form, Sequent, World, shape};
 use ab_name::Name;
 use ab_progress::{ProofCommandFault, attempt, first_goal, surely, take_back};
 use ab_types::Steps;
+use indexmap::IndexSet;
 use std::alloc::{AllocError, Global};
 
 /// As long as the conclusion begins with `forall`, `nabla` or an antecedent, that is taken off: it becomes a variable, a
@@ -46,7 +47,7 @@ pub fn intros<L>(
 {
     let goal = first_goal(world, proof);
     let conclusion = goal.conclusion;
-    if let Some(place) = first_clash(names, goal) {
+    if let Some(place) = first_clash(alloc, names, goal)? {
         return Err(ProofCommandFault::Clash(names[place].copy(alloc)?));
     }
     if !begins(shape(world, conclusion)) {
@@ -76,25 +77,37 @@ fn begins(form: Form) -> bool
 }
 
 /// The place of the first of the names that a hypothesis has, or that is among those before it.
-fn first_clash(names: &[Name], goal: &Sequent) -> Option<usize>
-    ensures within { IfSome result (λ k. k < length names.now) }
-    ensures first { (w : AWorld) → option_map (λ k. clash (get_or names.now k [])) result ≡ clashing_names [] names.now (sequent_of w goal.now) }
+fn first_clash(alloc: Global, names: &[Name], goal: &Sequent) -> Result<Option<usize>, AllocError>
+    ensures within { IfOk result (λ found. IfSome found (λ k. k < length names.now)) }
+    ensures first { IfOk result (λ found. (w : AWorld) →
+        option_map (λ k. clash (get_or names.now k [])) found ≡ clashing_names [] names.now (sequent_of w goal.now)) }
 {
+    let mut before = IndexSet::new(alloc);
     for place in 0..names.len() {
-        if clashes(names, place, goal) {
-            return Some(place);
+        if clashes(alloc, &names[place], goal, &mut before)? {
+            return Ok(Some(place));
         }
     }
-    None
+    Ok(None)
 }
 
-/// Whether a hypothesis has the name of this place, or it is among those before it.
-fn clashes(names: &[Name], place: usize, goal: &Sequent) -> bool
-    requires { place < length names.now }
-    ensures { (w : AWorld) → result ≡ (is_used (sequent_of w goal.now) (get_or names.now place [])
-        || list_any (λ y. bytes_eq y (get_or names.now place [])) (take place names.now)) }
+/// Whether a hypothesis has the name, or it is among those before it. If neither, it is behind them then.
+fn clashes(
+    alloc: Global,
+    name: &Name,
+    goal: &Sequent,
+    before: &mut IndexSet<Name>,
+) -> Result<bool, AllocError>
+    ensures clashes { IfOk result (λ yes. (w : AWorld) → yes ≡ (is_used (sequent_of w goal.now) name.now
+        || list_any (λ y. bytes_eq y name.now) before.old.keys)) }
+    ensures noted { IfOk result (λ yes. IsFalse yes → before.new.keys ≡ before.old.keys ++ name.now ∷ []) }
 {
-    goal.uses(&names[place]) || names[..place].contains(&names[place])
+    if goal.uses(name) {
+        return Ok(true);
+    }
+    let copy = name.copy(alloc)?;
+    let (_, added) = before.insert_full(copy)?;
+    Ok(!added)
 }
 
 /// What was taken off a conclusion.

@@ -5,4 +5,7 @@ use Rattle.ab_effects.specs.Effect.{clashing_names}
 use Rattle.ab_right.proofs.introducing.first_clash.Given as goal
 
 abbrev pub invariant-loop-place : goal.invariant-loop-place
-invariant-loop-place l = (w : World) → clashing_names (take l.place l.names) (drop l.place l.names) (sequent_of w l.goal) ≡ clashing_names [] l.names (sequent_of w l.goal)
+invariant-loop-place l = record {
+  noted : l.before.keys ≡ take l.place l.names;
+  left : (w : World) → clashing_names (take l.place l.names) (drop l.place l.names) (sequent_of w l.goal) ≡ clashing_names [] l.names (sequent_of w l.goal);
+}

@@ -14,7 +14,7 @@ returns-in-Err-clause-refused g c fault same l s rest e =
     let w = c.args.world.now in
     let xs = c.args.names.now in
     let goal : sequent_of w c.first_goal-goal.result.now ≡ s = c.first_goal-goal.ensures.reads s rest e in
-    let free : None ≡ clashing_names [] xs (sequent_of w c.first_goal-goal.result.now) = rw c.in_default.is at (c.first_clash.ensures.first w) in
+    let free : None ≡ clashing_names [] xs (sequent_of w c.first_goal-goal.result.now) = rw c.in_default.is at (c.in_ok-place.ensures.first w) in
     let begins : taken_off (form_of (sequent_of w c.first_goal-goal.result.now).conclusion) ≡ Some tt =
     ap taken_off (sym c.shape.ensures.reads) ∙ c.begins.ensures.yes w c.if-not-begins.false in
     let is : c.in-Err.fault ≡ fault = cc in
