@@ -2,6 +2,8 @@
 #![tactic(auto)]
 
 mod applying;
+#[cfg(test)]
+mod tests;
 
 pub use ab_progress::ProofCommandFault;
 pub use applying::{apply_proof_command, is_built};
