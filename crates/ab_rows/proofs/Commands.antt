@@ -19,14 +19,14 @@ use Rattle.ab_rows.specs.Opening.{OpensNothing}
 use Rattle.ab_rows.proofs.Settled.{Settled}
 use Rattle.ab_rows.proofs.OneReading.{means_or_not, one_meaning, one_cause}
 
-never_named : (l : Label) (s : Sequent) (x : List ℕ) (t : Sequent) → Names l s x t → NoName l s → ⊥
+pub never_named : (l : Label) (s : Sequent) (x : List ℕ) (t : Sequent) → Names l s x t → NoName l s → ⊥
 never_named auto s x t a none = none a.0 a.1.has
 never_named (given z) s x t a used = a.0 used
 
 none_some : {p : Read × Read} → None ≡ Some p → {X : Type 0} → X
 none_some e = absurd (cc)
 
-one_parting : {F : Read} {Fs Gs : List Read} → Parts F Fs → Parts F Gs → Fs ≡ Gs
+pub one_parting : {F : Read} {Fs Gs : List Read} → Parts F Fs → Parts F Gs → Fs ≡ Gs
 one_parting (alone e) (alone d) = refl
 one_parting (alone e) (parted {A = A} {B = B} d p q) = none_some (sym e ∙ d)
 one_parting (parted {A = A} {B = B} d p q) (alone e) = none_some (sym e ∙ d)

@@ -1,9 +1,14 @@
 mod Settled
-mod OneReading
+pub mod OneReading
 mod Commands
 mod Outlines
 mod Namings
 mod Alike
 mod OneWay
 mod OneIntroduction
-mod Once
+pub mod Renumbered
+mod Rescoped
+mod Reread
+pub mod Retold
+mod Equations
+pub mod Once

@@ -1,192 +1,374 @@
--- Each row of a proof command has one answer, with names for the numbers of new variables.
-use Rattle.std.proofs.Common.{◌≡◌, inl, inr, ℕ, List, [], ◌∷◌, map, Bool, true, false, Option, Some, None, refl, sym, ◌∙◌, ap, subst}
+-- Each row of a proof command has one answer, with names for the numbers of variables: in goals that are one with names for
+-- numbers, and so in one goal.
+use Rattle.std.proofs.Common.{◌≡◌, inl, inr, ℕ, List, [], ◌∷◌, map, Bool, true, false, Option, Some, None, option_map, refl, sym, ◌∙◌, ap, subst}
 use Rattle.std.proofs.lemmas.List.Elements.{All-nil, All-cons}
+use Rattle.ab_term.specs.Types.{Ty, prop}
 use Rattle.ab_term.specs.Terms.{Nominal}
+use Rattle.ab_term.specs.Names.{HasOneTypeEach}
+use Rattle.ab_term.specs.Substitution.{instance}
+use Rattle.ab_term.proofs.Translations.{translate-instance}
 use Rattle.ab_store.specs.Trees.{Read}
+use Rattle.ab_grammar.specs.Tree.{Tree}
 use Rattle.ab_grammar.specs.CommandTrees.{ProofCommand, intros, induction, coinduction, case, apply, backchain, cut, inst, monotone, search, split, split_all, left, right, exists, unfold_goal, assert, clear, rename, permute}
 use Rattle.ab_logic.specs.Declarations.{Declarations, signature_in}
 use Rattle.ab_logic.specs.Forms as form
-use Rattle.ab_logic.specs.Forms.{Form, form_of, either_in}
-use Rattle.ab_logic.specs.Names.{Label}
-use Rattle.ab_logic.specs.Sequents.{Sequent, IsSequent, formula_of, goal_names, without}
+use Rattle.ab_logic.specs.Forms.{Form, form_of, either_in, equal_in, as_both, as_either, as_exists}
+use Rattle.ab_logic.specs.Names.{Label, given, Names}
+use Rattle.ab_logic.specs.Sequents.{Sequent, IsSequent, HoldsOnly, formula_of, goal_names, without, proving, assuming}
 use Rattle.ab_rules.proofs.Parts.{MayStand, either_may}
-use Rattle.ab_rules.proofs.Sequents.{IsGoal, goal_of, found_may, without_goal}
-use Rattle.ab_goals.specs.Goals.{named}
-use Rattle.ab_effects.specs.Effect.{effect, opening, cases, introducing, left_over, clashing, clashing_names}
-use Rattle.ab_effects.specs.Introducing.{taken_off, Introduced}
-use Rattle.ab_effects.specs.Refusals.{Refusal, no_hypothesis, wrong_shape, names_spent}
-use Rattle.ab_effects.specs.Row.{Row, leads, unless, finds, Leads, Refuses}
-use Rattle.ab_rows.proofs.Settled.{Settled, never_both, one_refusal, one_list}
-use Rattle.ab_rows.proofs.Commands.{settled}
-use Rattle.ab_rows.proofs.Alike.{IsFine, Alike}
+use Rattle.ab_rules.proofs.Sequents.{IsGoal, goal_of, found_may, without_goal, sequent_from}
+use Rattle.ab_goals.specs.Goals.{name_in, with_names, named}
+use Rattle.ab_effects.specs.Effect.{effect, opening, cases, introducing, reading, naming, left_over, clashing, clashing_names, missing, cleared}
+use Rattle.ab_effects.specs.Introducing.{taken_off, Parts}
+use Rattle.ab_effects.specs.Refusals.{Refusal, no_hypothesis, wrong_shape, not_pattern}
+use Rattle.ab_effects.specs.Solving.{IsSolved, IsOutside}
+use Rattle.ab_effects.specs.Row.{Row, leads, unless, finds, makes, Leads, Refuses}
+use Rattle.ab_equate.proofs.Sides.{equation_sides}
+use Rattle.ab_alike.specs.Alike.{IsSameTerm, IsSameEquation}
+use Rattle.ab_rows.proofs.Equations.{turned, solved_or_not, solved_once}
+use Rattle.ab_rows.proofs.Commands.{never_named, one_parting}
+use Rattle.ab_rows.proofs.Namings.{same_constants, names_alike, nameless_also}
+use Rattle.ab_rows.proofs.Alike.{Alike, assumed_alike}
 use Rattle.ab_rows.proofs.OneWay.{opened_once, opened_or_not}
 use Rattle.ab_rows.proofs.OneIntroduction.{introduced_once, introduced_or_not}
+use Rattle.ab_rows.proofs.Renumbered.{Renumbering, renumber, renumber_variable, renumbered, renumbering}
+use Rattle.ab_rows.proofs.Reread.{meaning_or_not, not_or_means, same_meaning, cause_alike, states_or_not, not_or_states, faults_alike}
+use Rattle.ab_rows.proofs.Retold.{form_told, form_retold, as_both_told, as_either_told, as_exists_told, taken_off_told, parts_told, formula_told, clashing_told, clashing_names_told, missing_told, without_told, cleared_told, cleared_variables, KeepsNames, formula_named, goal_named}
 
--- the row leads or refuses, for one cause, and its goals are one list with names for numbers
-pub record IsOnce (r : Row) : Type 0 where
-  pub apart : (ps : List Sequent) (f : Refusal) → Leads r ps → Refuses r f → ⊥
-  pub refusal : (f g : Refusal) → Refuses r f → Refuses r g → f ≡ g
-  pub goals : (ps qs : List Sequent) → Leads r ps → Leads r qs → map named ps ≡ map named qs
+-- the rows lead or refuse alike, for one cause, and their goals are one list with names for numbers
+pub record AreOnce (r q : Row) : Type 0 where
+  pub apart : (ps : List Sequent) (f : Refusal) → Leads r ps → Refuses q f → ⊥
+  pub refusal : (f g : Refusal) → Refuses r f → Refuses q g → f ≡ g
+  pub goals : (ps qs : List Sequent) → Leads r ps → Leads q qs → map named ps ≡ map named qs
 
-once_settled : (r : Row) → Settled r → IsOnce r
-once_settled r s = record { apart = never_both r s; refusal = one_refusal r s; goals = λ ps qs a b. ap (map named) (one_list r s ps qs a b) }
+once_leads : (ps qs : List Sequent) → map named ps ≡ map named qs → AreOnce (leads ps) (leads qs)
+once_leads ps qs same = record {
+  apart = λ rs f led refused. refused;
+  refusal = λ f g a b. absurd a;
+  goals = λ rs ts a b. ap (map named) a ∙ same ∙ sym (ap (map named) b);
+}
 
-once_unless : (o : Option Refusal) (k : Row) → IsOnce k → IsOnce (unless o k)
-once_unless o k once = record {
-  apart = λ ps f led refused. elim refused [ inl r ↦ (let clash : None ≡ Some f = sym led.0 ∙ r in cc) | inr r ↦ once.apart ps f led.1 r.1 ];
+once_unless : (o p : Option Refusal) (k j : Row) → o ≡ p → AreOnce k j → AreOnce (unless o k) (unless p j)
+once_unless o p k j same once = record {
+  apart = λ ps f led refused. elim refused [ inl r ↦ (let clash : None ≡ Some f = sym led.0 ∙ same ∙ r in cc) | inr r ↦ once.apart ps f led.1 r.1 ];
   refusal = refusal;
   goals = λ ps qs a b. once.goals ps qs a.1 b.1;
 }
   where
-    refusal : (f g : Refusal) → Refuses (unless o k) f → Refuses (unless o k) g → f ≡ g
-    refusal f g (inl a) (inl b) = let both : Some f ≡ Some g = sym a ∙ b in cc
-    refusal f g (inl a) (inr b) = let clash : None ≡ Some f = sym b.0 ∙ a in absurd (cc)
-    refusal f g (inr a) (inl b) = let clash : None ≡ Some g = sym a.0 ∙ b in absurd (cc)
+    refusal : (f g : Refusal) → Refuses (unless o k) f → Refuses (unless p j) g → f ≡ g
+    refusal f g (inl a) (inl b) = let both : Some f ≡ Some g = sym a ∙ same ∙ b in cc
+    refusal f g (inl a) (inr b) = let clash : None ≡ Some f = sym b.0 ∙ sym same ∙ a in absurd (cc)
+    refusal f g (inr a) (inl b) = let clash : None ≡ Some g = sym a.0 ∙ same ∙ b in absurd (cc)
     refusal f g (inr a) (inr b) = once.refusal f g a.1 b.1
 
-once_finds : {A : Type 0} (c : Refusal) (o : Option A) (k : A → Row) → ((a : A) → o ≡ Some a → IsOnce (k a)) → IsOnce (finds c o k)
-once_finds {A = A} c o k once = record { apart = apart; refusal = refusal; goals = goals }
+once_finds : {A B : Type 0} (c : Refusal) (o : Option A) (p : Option B) (h : A → B) → p ≡ option_map h o → (k : A → Row) (j : B → Row) → ((a : A) → o ≡ Some a → AreOnce (k a) (j (h a))) → AreOnce (finds c o k) (finds c p j)
+once_finds {A = A} {B = B} c o p h same k j once = record { apart = apart; refusal = refusal; goals = goals }
   where
-    same : (a b : A) → o ≡ Some a → o ≡ Some b → b ≡ a
-    same a b e d = let both : Some b ≡ Some a = sym d ∙ e in cc
+    there : (a : A) → o ≡ Some a → p ≡ Some (h a)
+    there a e = same ∙ ap (option_map h) e
 
-    apart : (ps : List Sequent) (f : Refusal) → Leads (finds c o k) ps → Refuses (finds c o k) f → ⊥
-    apart ps f led (inl r) = let clash : None ≡ Some led.0 = sym r.0 ∙ led.1 in cc
-    apart ps f led (inr r) = (once led.0 led.1).apart ps f led.2 (subst (λ a. Refuses (k a) f) (same led.0 r.0 led.1 r.1) r.2)
+    found : (a : A) (b : B) → o ≡ Some a → p ≡ Some b → b ≡ h a
+    found a b e d = let both : Some b ≡ Some (h a) = sym d ∙ there a e in cc
 
-    refusal : (f g : Refusal) → Refuses (finds c o k) f → Refuses (finds c o k) g → f ≡ g
+    apart : (ps : List Sequent) (f : Refusal) → Leads (finds c o k) ps → Refuses (finds c p j) f → ⊥
+    apart ps f led (inl r) = let clash : None ≡ Some (h led.0) = sym r.0 ∙ there led.0 led.1 in cc
+    apart ps f led (inr r) = (once led.0 led.1).apart ps f led.2 (subst (λ b. Refuses (j b) f) (found led.0 r.0 led.1 r.1) r.2)
+
+    refusal : (f g : Refusal) → Refuses (finds c o k) f → Refuses (finds c p j) g → f ≡ g
     refusal f g (inl a) (inl b) = a.1 ∙ sym b.1
-    refusal f g (inl a) (inr b) = let clash : None ≡ Some b.0 = sym a.0 ∙ b.1 in absurd (cc)
-    refusal f g (inr a) (inl b) = let clash : None ≡ Some a.0 = sym b.0 ∙ a.1 in absurd (cc)
-    refusal f g (inr a) (inr b) = (once b.0 b.1).refusal f g (subst (λ x. Refuses (k x) f) (same b.0 a.0 b.1 a.1) a.2) b.2
+    refusal f g (inl a) (inr b) = let clash : None ≡ Some b.0 = sym (same ∙ ap (option_map h) a.0) ∙ b.1 in absurd (cc)
+    refusal f g (inr a) (inl b) = let clash : None ≡ Some (h a.0) = sym b.0 ∙ there a.0 a.1 in absurd (cc)
+    refusal f g (inr a) (inr b) = (once a.0 a.1).refusal f g a.2 (subst (λ x. Refuses (j x) g) (found a.0 b.0 a.1 b.1) b.2)
 
-    goals : (ps qs : List Sequent) → Leads (finds c o k) ps → Leads (finds c o k) qs → map named ps ≡ map named qs
-    goals ps qs a b = (once b.0 b.1).goals ps qs (subst (λ x. Leads (k x) ps) (same b.0 a.0 b.1 a.1) a.2) b.2
+    goals : (ps qs : List Sequent) → Leads (finds c o k) ps → Leads (finds c p j) qs → map named ps ≡ map named qs
+    goals ps qs a b = (once a.0 a.1).goals ps qs a.2 (subst (λ x. Leads (j x) qs) (found a.0 b.0 a.1 b.1) b.2)
 
-two_same : {X : Type 0} (x y z w : X) → x ≡ y → z ≡ w → x ∷ z ∷ [] ≡ y ∷ w ∷ []
-two_same x y z w e f = ap (λ a. a ∷ z ∷ []) e ∙ ap (λ b. y ∷ b ∷ []) f
+once_makes : {A B : Type 0} (P : A → Type 0) (N : Refusal → Type 0) (Q : B → Type 0) (M : Refusal → Type 0) (k : A → Row) (j : B → Row)
+    → ((a : A) (g : Refusal) → P a → M g → ⊥) → ((f : Refusal) (b : B) → N f → Q b → ⊥) → ((f g : Refusal) → N f → M g → f ≡ g) → ((a : A) (b : B) → P a → Q b → AreOnce (k a) (j b))
+    → AreOnce (makes P N k) (makes Q M j)
+once_makes P N Q M k j or_not not_or cause once = record { apart = apart; refusal = refusal; goals = goals }
+  where
+    apart : (ps : List Sequent) (f : Refusal) → Leads (makes P N k) ps → Refuses (makes Q M j) f → ⊥
+    apart ps f (a, m, led) (inl n) = or_not a f m n
+    apart ps f (a, m, led) (inr (b, n, refused)) = (once a b m n).apart ps f led refused
 
-module _ (D : Declarations) (l : Label) (N : List Nominal) (s : Sequent) where
-  -- a formula is opened
-  once_opening : (F : Read) → Alike D N s (F ∷ []) s (F ∷ []) → IsOnce (opening D F l s (λ t. leads (t ∷ [])))
-  once_opening F alike = record {
-    apart = λ ps f led refused. elim refused [ inl n ↦ opened_or_not led.1 N s (F ∷ []) alike n.0 | inr r ↦ r.2 ];
-    refusal = λ f g a b. elim a [ inl n ↦ elim b [ inl m ↦ n.1 ∙ sym m.1 | inr r ↦ absurd r.2 ] | inr r ↦ absurd r.2 ];
-    goals = λ ps qs a b.
-        ap (map named) a.2 ∙ ap (λ x. x ∷ []) (opened_once a.1 N s (F ∷ []) alike b.0.0 b.0.1 b.1).1 ∙ sym (ap (map named) b.2);
-  }
+    refusal : (f g : Refusal) → Refuses (makes P N k) f → Refuses (makes Q M j) g → f ≡ g
+    refusal f g (inl m) (inl n) = cause f g m n
+    refusal f g (inl m) (inr (b, n, r)) = absurd (not_or f b m n)
+    refusal f g (inr (a, m, r)) (inl n) = absurd (or_not a g m n)
+    refusal f g (inr (a, m, r)) (inr (b, n, q)) = (once a b m n).refusal f g r q
 
-  -- two formulas are opened, each in the goal as it was
-  once_two : (F G : Read) → Alike D N s (F ∷ []) s (F ∷ []) → Alike D N s (G ∷ []) s (G ∷ []) → IsOnce (opening D F l s (λ t. opening D G l s (λ u. leads (t ∷ u ∷ []))))
-  once_two F G one two = record { apart = apart; refusal = refusal; goals = goals }
-    where
-      apart : (ps : List Sequent) (f : Refusal) → Leads (opening D F l s (λ t. opening D G l s (λ u. leads (t ∷ u ∷ [])))) ps → Refuses (opening D F l s (λ t. opening D G l s (λ u. leads (t ∷ u ∷ [])))) f → ⊥
-      apart ps f led (inl n) = opened_or_not led.1 N s (F ∷ []) one n.0
-      apart ps f led (inr (t, d, inl n)) = opened_or_not led.2.1 N s (G ∷ []) two n.0
-      apart ps f led (inr (t, d, inr (u, e, none))) = none
+    goals : (ps qs : List Sequent) → Leads (makes P N k) ps → Leads (makes Q M j) qs → map named ps ≡ map named qs
+    goals ps qs (a, m, led) (b, n, to) = (once a b m n).goals ps qs led to
 
-      refusal : (f g : Refusal) → Refuses (opening D F l s (λ t. opening D G l s (λ u. leads (t ∷ u ∷ [])))) f → Refuses (opening D F l s (λ t. opening D G l s (λ u. leads (t ∷ u ∷ [])))) g → f ≡ g
-      refusal f g a b = spent f a ∙ sym (spent g b)
-        where
-          spent : (h : Refusal) → Refuses (opening D F l s (λ t. opening D G l s (λ u. leads (t ∷ u ∷ [])))) h → h ≡ names_spent
-          spent h (inl n) = n.1
-          spent h (inr (t, d, inl n)) = n.1
-          spent h (inr (t, d, inr (u, e, none))) = absurd none
+-- no answer depends on the goal
+once_alone : (o : Option Refusal) → AreOnce (unless o (leads [])) (unless o (leads []))
+once_alone o = once_unless o o (leads []) (leads []) refl (once_leads [] [] refl)
 
-      goals : (ps qs : List Sequent) → Leads (opening D F l s (λ t. opening D G l s (λ u. leads (t ∷ u ∷ [])))) ps → Leads (opening D F l s (λ t. opening D G l s (λ u. leads (t ∷ u ∷ [])))) qs → map named ps ≡ map named qs
-      goals ps qs (t, d, (u, e, f)) (v, h, (w, i, j)) =
-          ap (map named) f
-          ∙ two_same _ _ _ _ (opened_once d N s (F ∷ []) one v.0 v.1 h).1 (opened_once e N s (G ∷ []) two w.0 w.1 i).1
-          ∙ sym (ap (map named) j)
+one_same : (x y : Sequent) → named x ≡ named y → map named (x ∷ []) ≡ map named (y ∷ [])
+one_same x y e = ap (λ a. a ∷ []) e
 
--- what a proof command opens in a goal may stand there
-module _ (D : Declarations) (s : Sequent) (is : IsSequent D s) where
+two_same : (x y z w : Sequent) → named x ≡ named y → named z ≡ named w → map named (x ∷ z ∷ []) ≡ map named (y ∷ w ∷ [])
+two_same x y z w e f = ap (λ a. a ∷ named z ∷ []) e ∙ ap (λ b. named y ∷ b ∷ []) f
+
+flipped : (D : Declarations) (N : List Nominal) (s u : Sequent) (Fs Gs : List Read) → Alike D N s Fs u Gs → Alike D N u Gs s Fs
+flipped D N s u Fs Gs a = record { goals = sym a.goals; formulas = sym a.formulas; one = a.one; first = a.second; second = a.first }
+
+-- a formula is opened
+once_opening : (D : Declarations) (l : Label) (N : List Nominal) (s u : Sequent) (F G : Read) → Alike D N s (F ∷ []) u (G ∷ []) → (k j : Sequent → Row) → ((t v : Sequent) → named t ≡ named v → AreOnce (k t) (j v))
+    → AreOnce (opening D F l s k) (opening D G l u j)
+once_opening D l N s u F G alike k j once =
+    once_makes _ _ _ _ _ _
+    (λ a g m n. opened_or_not m N u (G ∷ []) alike n.0)
+    (λ f b m n. opened_or_not n N s (F ∷ []) (flipped D N s u (F ∷ []) (G ∷ []) alike) m.0)
+    (λ f g m n. m.1 ∙ sym n.1)
+    (λ a b m n. once a.1 b.1 (opened_once m N u (G ∷ []) alike b.0 b.1 n).1)
+
+-- TWO GOALS that are one but for the numbers
+module _ (D : Declarations) (s : Sequent) (f : ℕ → ℕ) (is : IsSequent D s) (its : IsSequent D (renumbered f s)) (names : KeepsNames f s.variables) where
+  abbrev u : Sequent
+  u = renumbered f s
+
+  same : named s ≡ named u
+  same = goal_named f s names
+
+  one_type : HasOneTypeEach (goal_names s)
+  one_type = is.one_type
+
+  abbrev r : Renumbering s u
+  r = record { by = f; is = refl; names = names }
+
+  -- so for goals over the same variables
+  also : (b : Sequent) → b.variables ≡ s.variables → named b ≡ named (renumbered f b)
+  also b e = goal_named f b (subst (KeepsNames f) (sym e) names)
+
+  first : IsGoal D (goal_names s) s
+  first = goal_of D s is
+
+  second : IsGoal D (goal_names s) u
+  second = subst (λ N. IsGoal D N u) (sym (same_constants s u same)) (goal_of D u its)
+
   abbrev May : Read → Type 0
   May = MayStand (signature_in D) s.variables (goal_names s)
 
-  alike_itself : (b : Sequent) → b.variables ≡ s.variables → IsGoal D (goal_names s) b → (F : Read) → May F → Alike D (goal_names s) b (F ∷ []) b (F ∷ [])
-  alike_itself b same g F may =
-      let can = subst (λ xs. MayStand (signature_in D) xs (goal_names s) F) (sym same) may in
-      let fine : IsFine D (goal_names s) b (F ∷ []) = record { goal = g; formulas = All-cons (MayStand (signature_in D) b.variables (goal_names s)) F [] can (All-nil (MayStand (signature_in D) b.variables (goal_names s))) } in
-      record { goals = refl; formulas = refl; one = is.one_type; first = fine; second = fine }
+  abbrev Can : Read → Type 0
+  Can = MayStand (signature_in D) (map (renumber_variable f) s.variables) (goal_names s)
 
-  alike_goal : Alike D (goal_names s) s [] s []
-  alike_goal =
-      let fine : IsFine D (goal_names s) s [] = record { goal = goal_of D s is; formulas = All-nil May } in
-      record { goals = refl; formulas = refl; one = is.one_type; first = fine; second = fine }
+  alike_goals : Alike D (goal_names s) s [] u []
+  alike_goals = record {
+    goals = same;
+    formulas = refl;
+    one = is.one_type;
+    first = record { goal = first; formulas = All-nil May };
+    second = record { goal = second; formulas = All-nil Can };
+  }
 
-  once_cases : (l : Label) (b : Sequent) → b.variables ≡ s.variables → IsGoal D (goal_names s) b → (F : Read) → May F → (g : Form) → form_of F ≡ g → IsOnce (cases D g F l b)
-  once_cases l b same goal F may form.truth e = once_opening D l (goal_names s) b F (alike_itself b same goal F may)
-  once_cases l b same goal F may (form.both A B) e = once_opening D l (goal_names s) b F (alike_itself b same goal F may)
-  once_cases l b same goal F may (form.exists A t) e = once_opening D l (goal_names s) b F (alike_itself b same goal F may)
-  once_cases l b same goal F may (form.nabla A t) e = once_opening D l (goal_names s) b F (alike_itself b same goal F may)
-  once_cases l b same goal F may (form.either A B) e =
-      let parts = either_may (signature_in D) s.variables (goal_names s) F (A, B) may (ap either_in e) in
-      once_two D l (goal_names s) b A B (alike_itself b same goal A parts.0) (alike_itself b same goal B parts.1)
-  once_cases l b same goal F may form.falsity e = once_settled (cases D form.falsity F l b) tt
-  once_cases l b same goal F may (form.implies A B) e = once_settled (cases D (form.implies A B) F l b) tt
-  once_cases l b same goal F may (form.equal A t u) e = once_settled (cases D (form.equal A t u) F l b) tt
-  once_cases l b same goal F may (form.for_all A t) e = once_settled (cases D (form.for_all A t) F l b) tt
-  once_cases l b same goal F may (form.marked m t) e = once_settled (cases D (form.marked m t) F l b) tt
-  once_cases l b same goal F may form.other e = once_settled (cases D form.other F l b) tt
+  alike_formulas : (b : Sequent) → b.variables ≡ s.variables → IsGoal D (goal_names s) b → IsGoal D (goal_names s) (renumbered f b) → (F : Read) → May F → Can (renumber f F)
+      → Alike D (goal_names s) b (F ∷ []) (renumbered f b) (renumber f F ∷ [])
+  alike_formulas b e g h F may can = record {
+    goals = also b e;
+    formulas = ap (λ G. G ∷ []) (formula_named f b (subst (KeepsNames f) (sym e) names) F);
+    one = is.one_type;
+    first = record {
+      goal = g;
+      formulas = All-cons (MayStand (signature_in D) b.variables (goal_names s)) F [] (subst (λ xs. MayStand (signature_in D) xs (goal_names s) F) (sym e) may) (All-nil (MayStand (signature_in D) b.variables (goal_names s)));
+    };
+    second = record {
+      goal = h;
+      formulas = All-cons (MayStand (signature_in D) (map (renumber_variable f) b.variables) (goal_names s)) (renumber f F) []
+          (subst (λ xs. MayStand (signature_in D) (map (renumber_variable f) xs) (goal_names s) (renumber f F)) (sym e) can) (All-nil (MayStand (signature_in D) (map (renumber_variable f) b.variables) (goal_names s)));
+    };
+  }
 
-  once_case : (l : Label) (H : List ℕ) (keep : Bool) → IsOnce (effect D l (case H keep) s)
+  module _ (l : Label) (b : Sequent) (e : b.variables ≡ s.variables) (g : IsGoal D (goal_names s) b) (h : IsGoal D (goal_names s) (renumbered f b)) (F : Read) (may : May F) (can : Can (renumber f F)) where
+    whole : AreOnce (opening D F l b (λ t. leads (t ∷ []))) (opening D (renumber f F) l (renumbered f b) (λ t. leads (t ∷ [])))
+    whole =
+        once_opening D l (goal_names s) b (renumbered f b) F (renumber f F) (alike_formulas b e g h F may can) (λ t. leads (t ∷ [])) (λ t. leads (t ∷ []))
+        (λ t v same. once_leads (t ∷ []) (v ∷ []) (one_same t v same))
+
+    -- the sides of an equation
+    side : (t : Read) → HoldsOnly s.variables t → HoldsOnly (map (renumber_variable f) s.variables) (renumber f t) → IsSameTerm b (renumbered f b) t (renumber f t)
+    side t may can = record {
+      first = subst (λ xs. HoldsOnly xs t) (sym e) may;
+      second = subst (λ xs. HoldsOnly (map (renumber_variable f) xs) (renumber f t)) (sym e) can;
+      same = formula_named f b (subst (KeepsNames f) (sym e) names) t;
+    }
+
+    equation : (A : Ty) (t v : Read) → form_of F ≡ form.equal A t v → IsSameEquation D b (renumbered f b) t v (renumber f t) (renumber f v)
+    equation A t v is =
+        let sides = equation_sides (signature_in D) s.variables F (t, v) may.formula.typed may.closed (ap equal_in is) in
+        let others = equation_sides (signature_in D) (map (renumber_variable f) s.variables) (renumber f F) (renumber f t, renumber f v) can.formula.typed can.closed (ap equal_in (form_retold f F ∙ ap (form_told f) is)) in
+        record {
+          first = sequent_from D (goal_names s) b one_type g;
+          second = sequent_from D (goal_names s) (renumbered f b) one_type h;
+          goals = also b e;
+          left = side t sides.left_closed others.left_closed;
+          right = side v sides.right_closed others.right_closed;
+        }
+
+    once_cases : (k : Form) → form_of F ≡ k → AreOnce (cases D k F l b) (cases D (form_told f k) (renumber f F) l (renumbered f b))
+    once_cases form.truth is = whole
+    once_cases (form.both A B) is = whole
+    once_cases (form.exists A t) is = whole
+    once_cases (form.nabla A t) is = whole
+    once_cases (form.either A B) is =
+        let parts = either_may (signature_in D) s.variables (goal_names s) F (A, B) may (ap either_in is) in
+        let others = either_may (signature_in D) (map (renumber_variable f) s.variables) (goal_names s) (renumber f F) (renumber f A, renumber f B) can (ap either_in (form_retold f F ∙ ap (form_told f) is)) in
+        once_opening D l (goal_names s) b (renumbered f b) A (renumber f A) (alike_formulas b e g h A parts.0 others.0) (λ t. opening D B l b (λ v. leads (t ∷ v ∷ []))) (λ t. opening D (renumber f B) l (renumbered f b) (λ v. leads (t ∷ v ∷ [])))
+        (λ t w one. once_opening D l (goal_names s) b (renumbered f b) B (renumber f B) (alike_formulas b e g h B parts.1 others.1) (λ v. leads (t ∷ v ∷ [])) (λ v. leads (w ∷ v ∷ []))
+        (λ v x two. once_leads (t ∷ v ∷ []) (w ∷ x ∷ []) (two_same t w v x one two)))
+    once_cases form.falsity is = once_leads [] [] refl
+    once_cases (form.implies A B) is = once_alone (Some wrong_shape)
+    once_cases (form.equal A t v) is =
+        once_makes (IsSolved D b t v) (λ c. IsOutside b t v × (c ≡ not_pattern 1)) (IsSolved D (renumbered f b) (renumber f t) (renumber f v)) (λ c. IsOutside (renumbered f b) (renumber f t) (renumber f v) × (c ≡ not_pattern 1)) leads leads
+        (λ gs c m n. solved_or_not D b (renumbered f b) t v (renumber f t) (renumber f v) (equation A t v is) gs m n.0)
+        (λ c gs m n. solved_or_not D (renumbered f b) b (renumber f t) (renumber f v) t v (turned D b (renumbered f b) t v (renumber f t) (renumber f v) (equation A t v is)) gs n m.0)
+        (λ c d m n. m.1 ∙ sym n.1)
+        (λ gs hs m n. once_leads gs hs (solved_once D b (renumbered f b) t v (renumber f t) (renumber f v) (equation A t v is) gs hs m n))
+    once_cases (form.for_all A t) is = once_alone (Some wrong_shape)
+    once_cases (form.marked m t) is = once_alone (Some wrong_shape)
+    once_cases form.other is = once_alone (Some wrong_shape)
+
+    once_case_of : AreOnce (cases D (form_of F) F l b) (cases D (form_of (renumber f F)) (renumber f F) l (renumbered f b))
+    once_case_of = subst (λ k. AreOnce (cases D (form_of F) F l b) (cases D k (renumber f F) l (renumbered f b))) (sym (form_retold f F)) (once_cases (form_of F) refl)
+
+  module _ (H : List ℕ) (F : Read) (there : formula_of s H ≡ Some F) where
+    found_first : May F
+    found_first = found_may D (goal_names s) s H F first there
+
+    found_second : Can (renumber f F)
+    found_second = found_may D (goal_names s) u H (renumber f F) second (formula_told f s H ∙ ap (option_map (renumber f)) there)
+
+  once_case : (l : Label) (H : List ℕ) (keep : Bool) → AreOnce (effect D l (case H keep) s) (effect D l (case H keep) u)
   once_case l H true =
-      once_unless (clashing l s) (finds (no_hypothesis H) (formula_of s H) (λ F. cases D (form_of F) F l s))
-      (once_finds (no_hypothesis H) (formula_of s H) (λ F. cases D (form_of F) F l s)
-      (λ F e. once_cases l s refl (goal_of D s is) F (found_may D (goal_names s) s H F (goal_of D s is) e) (form_of F) refl))
+      once_unless (clashing l s) (clashing l u) _ _ (sym (clashing_told f l s))
+      (once_finds (no_hypothesis H) (formula_of s H) (formula_of u H) (renumber f) (formula_told f s H) (λ F. cases D (form_of F) F l s) (λ F. cases D (form_of F) F l u)
+      (λ F e. once_case_of l s refl first second F (found_first H F e) (found_second H F e)))
   once_case l H false =
-      once_unless (clashing l s) (finds (no_hypothesis H) (formula_of s H) (λ F. cases D (form_of F) F l (without H s)))
-      (once_finds (no_hypothesis H) (formula_of s H) (λ F. cases D (form_of F) F l (without H s))
-      (λ F e. once_cases l (without H s) refl (without_goal D (goal_names s) s H (goal_of D s is)) F (found_may D (goal_names s) s H F (goal_of D s is) e) (form_of F) refl))
+      let gone : IsGoal D (goal_names s) (renumbered f (without H s)) = subst (IsGoal D (goal_names s)) (without_told f H s) (without_goal D (goal_names s) u H second) in
+      once_unless (clashing l s) (clashing l u) _ _ (sym (clashing_told f l s))
+      (once_finds (no_hypothesis H) (formula_of s H) (formula_of u H) (renumber f) (formula_told f s H) (λ F. cases D (form_of F) F l (without H s)) (λ F. cases D (form_of F) F l (without H u))
+      (λ F e. subst (λ w. AreOnce (cases D (form_of F) F l (without H s)) (cases D (form_of (renumber f F)) (renumber f F) l w)) (sym (without_told f H s))
+      (once_case_of l (without H s) refl (without_goal D (goal_names s) s H first) gone F (found_first H F e) (found_second H F e))))
 
-  once_introducing : (xs : List (List ℕ)) → IsOnce (introducing D xs s)
-  once_introducing xs = record { apart = apart; refusal = refusal; goals = goals }
-    where
-      same_left : (ys zs : List (List ℕ)) (v w : Sequent) → Introduced D xs s ys v → Introduced D xs s zs w → ys ≡ zs
-      same_left ys zs v w d e = (introduced_once d (goal_names s) s alike_goal zs w e).0
+  -- a conclusion is taken apart
+  once_introducing : (xs : List (List ℕ)) → AreOnce (introducing D xs s) (introducing D xs u)
+  once_introducing xs =
+      once_makes _ _ _ _ _ _
+      (λ a g m n. introduced_or_not m (goal_names s) u alike_goals n.0)
+      (λ g b m n. introduced_or_not n (goal_names s) s (flipped D (goal_names s) s u [] [] alike_goals) m.0)
+      (λ g h m n. m.1 ∙ sym n.1)
+      (λ a b m n.
+      let one = introduced_once m (goal_names s) u alike_goals b.0 b.1 n in
+      once_unless (left_over a.0) (left_over b.0) (leads (a.1 ∷ [])) (leads (b.1 ∷ [])) (ap left_over one.0) (once_leads (a.1 ∷ []) (b.1 ∷ []) (one_same a.1 b.1 one.1)))
 
-      apart : (ps : List Sequent) (f : Refusal) → Leads (introducing D xs s) ps → Refuses (introducing D xs s) f → ⊥
-      apart ps f (p, d, led) (inl n) = introduced_or_not d (goal_names s) s alike_goal n.0
-      apart ps f (p, d, led) (inr (q, e, inl r)) = let clash : None ≡ Some f = sym led.0 ∙ ap left_over (same_left p.0 q.0 p.1 q.1 d e) ∙ r in cc
-      apart ps f (p, d, led) (inr (q, e, inr r)) = r.1
-
-      refusal : (f g : Refusal) → Refuses (introducing D xs s) f → Refuses (introducing D xs s) g → f ≡ g
-      refusal f g (inl n) (inl m) = n.1 ∙ sym m.1
-      refusal f g (inl n) (inr (q, e, r)) = absurd (introduced_or_not e (goal_names s) s alike_goal n.0)
-      refusal f g (inr (p, d, r)) (inl m) = absurd (introduced_or_not d (goal_names s) s alike_goal m.0)
-      refusal f g (inr (p, d, inr r)) (inr (q, e, t)) = absurd r.1
-      refusal f g (inr (p, d, inl r)) (inr (q, e, inr t)) = absurd t.1
-      refusal f g (inr (p, d, inl r)) (inr (q, e, inl t)) = let both : Some f ≡ Some g = sym r ∙ ap left_over (same_left p.0 q.0 p.1 q.1 d e) ∙ t in cc
-
-      goals : (ps qs : List Sequent) → Leads (introducing D xs s) ps → Leads (introducing D xs s) qs → map named ps ≡ map named qs
-      goals ps qs (p, d, led) (q, e, to) =
-          ap (map named) led.1 ∙ ap (λ x. x ∷ []) (introduced_once d (goal_names s) s alike_goal q.0 q.1 e).1 ∙ sym (ap (map named) to.1)
-
-  once_intros : (l : Label) (xs : List (List ℕ)) → IsOnce (effect D l (intros xs) s)
+  once_intros : (l : Label) (xs : List (List ℕ)) → AreOnce (effect D l (intros xs) s) (effect D l (intros xs) u)
   once_intros l xs =
-      once_unless (clashing_names [] xs s) (finds wrong_shape (taken_off (form_of s.conclusion)) (λ o. introducing D xs s))
-      (once_finds wrong_shape (taken_off (form_of s.conclusion)) (λ o. introducing D xs s) (λ o e. once_introducing xs))
+      once_unless (clashing_names [] xs s) (clashing_names [] xs u) _ _ (sym (clashing_names_told f [] xs s))
+      (once_finds wrong_shape (taken_off (form_of s.conclusion)) (taken_off (form_of u.conclusion)) (λ o. o) (taken_off_told f s.conclusion) (λ o. introducing D xs s) (λ o. introducing D xs u) (λ o e. once_introducing xs))
 
-  -- EACH PROOF COMMAND has one answer at a sequent
-  pub once : (l : Label) (command : ProofCommand) → IsOnce (effect D l command s)
-  once l (intros xs) = once_intros l xs
-  once l (case H keep) = once_case l H keep
-  once l split = once_settled (effect D l split s) (settled D l split s tt)
-  once l split_all = once_settled (effect D l split_all s) (settled D l split_all s tt)
-  once l left = once_settled (effect D l left s) (settled D l left s tt)
-  once l right = once_settled (effect D l right s) (settled D l right s tt)
-  once l (exists e) = once_settled (effect D l (exists e) s) (settled D l (exists e) s tt)
-  once l (assert e) = once_settled (effect D l (assert e) s) (settled D l (assert e) s tt)
-  once l (clear Hs) = once_settled (effect D l (clear Hs) s) (settled D l (clear Hs) s tt)
-  once l (rename H x) = once_settled (effect D l (rename H x) s) (settled D l (rename H x) s tt)
-  once l (induction n) = once_settled (effect D l (induction n) s) (settled D l (induction n) s tt)
-  once l coinduction = once_settled (effect D l coinduction s) (settled D l coinduction s tt)
-  once l (apply H vs ws) = once_settled (effect D l (apply H vs ws) s) (settled D l (apply H vs ws) s tt)
-  once l (backchain H ws) = once_settled (effect D l (backchain H ws) s) (settled D l (backchain H ws) s tt)
-  once l (cut H K) = once_settled (effect D l (cut H K) s) (settled D l (cut H K) s tt)
-  once l (inst H ws) = once_settled (effect D l (inst H ws) s) (settled D l (inst H ws) s tt)
-  once l (monotone H e) = once_settled (effect D l (monotone H e) s) (settled D l (monotone H e) s tt)
-  once l (search n) = once_settled (effect D l (search n) s) (settled D l (search n) s tt)
-  once l unfold_goal = once_settled (effect D l unfold_goal s) (settled D l unfold_goal s tt)
-  once l (permute ns x) = once_settled (effect D l (permute ns x) s) (settled D l (permute ns x) s tt)
+  -- the goal with another conclusion
+  proving_also : (F : Read) → named (proving F s) ≡ named (proving (renumber f F) u)
+  proving_also F = also (proving F s) refl
+
+  once_split : (l : Label) → AreOnce (effect D l split s) (effect D l split u)
+  once_split l =
+      once_finds wrong_shape (as_both s.conclusion) (as_both u.conclusion) _ (as_both_told f s.conclusion) _ _
+      (λ p e. once_leads _ _ (two_same (proving p.0 s) (proving (renumber f p.0) u) (proving p.1 s) (proving (renumber f p.1) u) (proving_also p.0) (proving_also p.1)))
+
+  all_proving : (Fs : List Read) → map named (map (λ F. proving F s) Fs) ≡ map named (map (λ F. proving F u) (map (renumber f) Fs))
+  all_proving [] = refl
+  all_proving (F ∷ Fs) = ap (λ g. g ∷ map named (map (λ F. proving F s) Fs)) (proving_also F) ∙ ap (λ l. named (proving (renumber f F) u) ∷ l) (all_proving Fs)
+
+  once_split_all : (l : Label) → AreOnce (effect D l split_all s) (effect D l split_all u)
+  once_split_all l =
+      once_finds wrong_shape (as_both s.conclusion) (as_both u.conclusion) _ (as_both_told f s.conclusion) _ _
+      (λ p e. once_makes (Parts s.conclusion) (λ g. ⊥) (Parts u.conclusion) (λ g. ⊥) (λ Fs. leads (map (λ F. proving F s) Fs)) (λ Fs. leads (map (λ F. proving F u) Fs))
+      (λ Fs g m n. n) (λ g Fs m n. m) (λ g h m n. absurd m)
+      (λ Fs Gs m n. once_leads _ _ (all_proving Fs ∙ ap (λ Hs. map named (map (λ F. proving F u) Hs)) (one_parting (parts_told f m) n))))
+
+  once_left : (l : Label) → AreOnce (effect D l left s) (effect D l left u)
+  once_left l =
+      once_finds wrong_shape (as_either s.conclusion) (as_either u.conclusion) _ (as_either_told f s.conclusion) _ _
+      (λ p e. once_leads _ _ (one_same (proving p.0 s) (proving (renumber f p.0) u) (proving_also p.0)))
+
+  once_right : (l : Label) → AreOnce (effect D l right s) (effect D l right u)
+  once_right l =
+      once_finds wrong_shape (as_either s.conclusion) (as_either u.conclusion) _ (as_either_told f s.conclusion) _ _
+      (λ p e. once_leads _ _ (one_same (proving p.1 s) (proving (renumber f p.1) u) (proving_also p.1)))
+
+  -- a term is read
+  once_reading : (e : Tree) (A : Ty) (k j : Read → Row) → ((t v : Read) → v ≡ renumber f t → AreOnce (k t) (j v)) → AreOnce (reading D s e A k) (reading D u e A j)
+  once_reading e A k j once =
+      once_makes _ _ _ _ k j (meaning_or_not D s u is its same e A) (λ g v m n. not_or_means D s u is its same e A v g m n) (cause_alike D s u is its same e A) (λ t v m n. once t v (same_meaning D s u r same e A t v m n))
+
+  once_exists : (l : Label) (e : Tree) → AreOnce (effect D l (exists e) s) (effect D l (exists e) u)
+  once_exists l e =
+      once_finds wrong_shape (as_exists s.conclusion) (as_exists u.conclusion) _ (as_exists_told f s.conclusion) _ _
+      (λ q d. once_reading e q.0 _ _
+      (λ t v same. once_leads _ _ (one_same (proving (instance q.1 t) s) (proving (instance (renumber f q.1) v) u)
+      (proving_also (instance q.1 t) ∙ ap (λ F. named (proving F u)) (translate-instance f (λ h. h) q.1 t ∙ ap (instance (renumber f q.1)) (sym same))))))
+
+  -- a formula is stated, and gets a name
+  once_naming : (l : Label) (k j : List ℕ → Sequent → Row) → ((x y : List ℕ) (t v : Sequent) → Names l s x t → Names l u y v → AreOnce (k x t) (j y v)) → AreOnce (naming l s k) (naming l u j)
+  once_naming l k j once =
+      once_makes _ _ _ _ _ _
+      (λ a g m n. never_named l s a.0 a.1 m (nameless_also u s (sym same) l n.0))
+      (λ g b m n. never_named l u b.0 b.1 n (nameless_also s u same l m.0))
+      (λ g h m n. m.1 ∙ sym n.1)
+      (λ a b m n. once a.0 b.0 a.1 b.1 m n)
+
+  once_assert : (l : Label) (e : Tree) → AreOnce (effect D l (assert e) s) (effect D l (assert e) u)
+  once_assert l e =
+      once_unless (clashing l s) (clashing l u) _ _ (sym (clashing_told f l s))
+      (once_makes _ _ _ _ _ _ (states_or_not D s u is its same e) (λ g F m n. not_or_states D s u is its same e F g m n) (faults_alike D s u is its same e)
+      (λ F G m n.
+      let one : G ≡ renumber f F = same_meaning D s u r same e prop F G m.0 n.0 in
+      once_naming l (λ x t. leads (proving F s ∷ assuming x F t ∷ [])) (λ y v. leads (proving G u ∷ assuming y G v ∷ []))
+      (λ x y t v a b.
+      let so = names_alike s u same l x y t v a b in
+      once_leads _ _
+      (two_same (proving F s) (proving G u) (assuming x F t) (assuming y G v) (proving_also F ∙ ap (λ H. named (proving H u)) (sym one))
+      (assumed_alike s u t v x y F G so.name so.goals so.first so.second (formula_named f s names F ∙ ap (with_names (map (renumber_variable f) s.variables)) (sym one)))))))
+
+  once_clear : (l : Label) (Hs : List (List ℕ)) → AreOnce (effect D l (clear Hs) s) (effect D l (clear Hs) u)
+  once_clear l Hs =
+      once_unless (missing Hs s) (missing Hs u) _ _ (sym (missing_told f Hs s))
+      (once_leads _ _ (one_same (cleared Hs s) (cleared Hs u) (also (cleared Hs s) (cleared_variables f Hs s) ∙ ap named (sym (cleared_told f Hs s)))))
+
+  once_rename : (l : Label) (H x : List ℕ) → AreOnce (effect D l (rename H x) s) (effect D l (rename H x) u)
+  once_rename l H x =
+      once_unless (clashing (given x) s) (clashing (given x) u) _ _ (sym (clashing_told f (given x) s))
+      (once_finds (no_hypothesis H) (formula_of s H) (formula_of u H) (renumber f) (formula_told f s H) _ _
+      (λ F e. once_leads _ _
+      (one_same (assuming x F (without H s)) (assuming x (renumber f F) (without H u))
+      (assumed_alike s u (without H s) (without H u) x x F (renumber f F) refl (also (without H s) refl ∙ ap named (sym (without_told f H s))) refl refl (formula_named f s names F)))))
+
+  once_renumbered : (l : Label) (command : ProofCommand) → AreOnce (effect D l command s) (effect D l command u)
+  once_renumbered l (intros xs) = once_intros l xs
+  once_renumbered l (case H keep) = once_case l H keep
+  once_renumbered l split = once_split l
+  once_renumbered l split_all = once_split_all l
+  once_renumbered l left = once_left l
+  once_renumbered l right = once_right l
+  once_renumbered l (exists e) = once_exists l e
+  once_renumbered l (assert e) = once_assert l e
+  once_renumbered l (clear Hs) = once_clear l Hs
+  once_renumbered l (rename H x) = once_rename l H x
+  once_renumbered l (induction n) = once_alone (Some wrong_shape)
+  once_renumbered l coinduction = once_alone (Some wrong_shape)
+  once_renumbered l (apply H vs ws) = once_alone (Some wrong_shape)
+  once_renumbered l (backchain H ws) = once_alone (Some wrong_shape)
+  once_renumbered l (cut H K) = once_alone (Some wrong_shape)
+  once_renumbered l (inst H ws) = once_alone (Some wrong_shape)
+  once_renumbered l (monotone H e) = once_alone (Some wrong_shape)
+  once_renumbered l (search n) = once_alone (Some wrong_shape)
+  once_renumbered l unfold_goal = once_alone (Some wrong_shape)
+  once_renumbered l (permute ns x) = once_alone (Some wrong_shape)
+
+-- EACH PROOF COMMAND has one answer in goals that are one with names for numbers
+pub once : (D : Declarations) (s u : Sequent) → IsSequent D s → IsSequent D u → named s ≡ named u → (l : Label) (command : ProofCommand) → AreOnce (effect D l command s) (effect D l command u)
+once D s u is its same l command =
+    let r = renumbering D s u is its same in
+    let names : KeepsNames r.by s.variables = subst (λ (v : Sequent). (n : ℕ) → name_in v.variables (r.by n) ≡ name_in s.variables n) r.is r.names in
+    subst (λ v. AreOnce (effect D l command s) (effect D l command v)) (sym r.is) (once_renumbered D s r.by is (subst (IsSequent D) r.is its) names l command)

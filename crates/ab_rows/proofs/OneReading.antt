@@ -11,12 +11,12 @@ use Rattle.ab_logic.specs.Declarations.{Declarations, signature_in}
 use Rattle.ab_logic.specs.Sequents.{Sequent, goal_names}
 use Rattle.std.specs.Prelude.{map}
 use Rattle.ab_readings.specs.Names.{Name, Resolved, places_of}
-use Rattle.ab_readings.specs.Scopes.{resolved, nominal_number}
+use Rattle.ab_readings.specs.Scopes.{Scope, resolved, nominal_number}
 use Rattle.ab_readings.specs.Readings.{Raw, Reads, reads_bound, reads_known, reads_free, reads_apply, reads_abs, reads_equal, reads_bind}
 use Rattle.ab_readings.specs.Answers.{Reading, IsTheReading, IsFirstOpen}
 use Rattle.ab_readings.specs.Normal.{normal_form}
 use Rattle.ab_effects.specs.Refusals.{Refusal, unknown, type_clash, untyped, clash, no_hypothesis, wrong_shape, mark, no_match, not_pattern, unresolved, names_spent}
-use Rattle.ab_effects.specs.Terms.{made, constant_named, kinds_in, entry_of, scope_of, Means, MeansNothing}
+use Rattle.ab_effects.specs.Terms.{made, constant_named, kinds_in, entry_of, scope_of, MeansIn, MeansNothingIn, Means, MeansNothing}
 use Rattle.ab_meanings.proofs.Names.{FreeAreNominal, free_are_nominal}
 
 abbrev head_given : Head ℕ → Ty
@@ -82,60 +82,72 @@ one_place e A p q a b =
     ] in
     a.place_is ∙ ap (λ n. get_or (places_of e) n 0) same ∙ sym b.place_is
 
-module _ (D : Declarations) (s : Sequent) (e : Tree) (A : Ty) where
-  one_named : (r q : Resolved) → resolved (scope_of D s) [] e ≡ Ok r → resolved (scope_of D s) [] e ≡ Ok q → q ≡ r
+-- in a scope in which each name that is free is a nominal name
+module _ (D : Declarations) (scope : Scope) (e : Tree) (A : Ty) (all_nominal : (r : Resolved) → resolved scope [] e ≡ Ok r → FreeAreNominal r) where
+  one_named : (r q : Resolved) → resolved scope [] e ≡ Ok r → resolved scope [] e ≡ Ok q → q ≡ r
   one_named r q x y = let both : Ok q ≡ Ok r = sym y ∙ x in cc
 
-  all_nominal : (r : Resolved) → resolved (scope_of D s) [] e ≡ Ok r → FreeAreNominal r
-  all_nominal r x = free_are_nominal (kinds_in D) (signature_in D) (map entry_of s.variables) (goal_names s) e r x
-
-  pub means_or_not : (t : Read) (f : Refusal) → Means D s e A t → MeansNothing D s e A f → ⊥
-  means_or_not t (unknown x) m n = let clashing : Ok m.named ≡ Err x = sym m.names ∙ n in cc
-  means_or_not t (type_clash p) m n =
+  pub means_or_not_in : (t : Read) (f : Refusal) → MeansIn D scope e A t → MeansNothingIn scope e A f → ⊥
+  means_or_not_in t (unknown x) m n = let clashing : Ok m.named ≡ Err x = sym m.names ∙ n in cc
+  means_or_not_in t (type_clash p) m n =
       n.0.2 (subst (λ r. Reading made r A) (sym (one_named m.named n.0.0 m.names n.0.1)) m.reading.reading)
-  means_or_not t (untyped p) m n =
+  means_or_not_in t (untyped p) m n =
       one_not_several m.named (all_nominal m.named m.names) A m.raw p m.reading (subst (λ r. IsFirstOpen made r A p) (one_named m.named n.0 m.names n.1) n.2)
-  means_or_not t (clash x) m n = n
-  means_or_not t (no_hypothesis x) m n = n
-  means_or_not t wrong_shape m n = n
-  means_or_not t mark m n = n
-  means_or_not t no_match m n = n
-  means_or_not t (not_pattern i) m n = n
-  means_or_not t (unresolved x) m n = n
-  means_or_not t names_spent m n = n
+  means_or_not_in t (clash x) m n = n
+  means_or_not_in t (no_hypothesis x) m n = n
+  means_or_not_in t wrong_shape m n = n
+  means_or_not_in t mark m n = n
+  means_or_not_in t no_match m n = n
+  means_or_not_in t (not_pattern i) m n = n
+  means_or_not_in t (unresolved x) m n = n
+  means_or_not_in t names_spent m n = n
 
-  pub one_meaning : (t u : Read) → Means D s e A t → Means D s e A u → t ≡ u
-  one_meaning t u m k =
+  pub one_meaning_in : (t u : Read) → MeansIn D scope e A t → MeansIn D scope e A u → t ≡ u
+  one_meaning_in t u m k =
       let reading = subst (λ r. IsTheReading made r A k.raw) (one_named m.named k.named m.names k.names) k.reading in
       let same : k.raw ≡ m.raw = sym reading.is ∙ m.reading.alone reading.reading in
       m.normal ∙ ap (normal_form (signature_in D) []) (sym same) ∙ sym k.normal
 
-  pub one_cause : (f g : Refusal) → MeansNothing D s e A f → MeansNothing D s e A g → f ≡ g
-  one_cause (unknown x) (unknown y) m n = let both : Err x ≡ Err y = sym m ∙ n in cc
-  one_cause (unknown x) (type_clash p) m n = let clashing : Err x ≡ Ok n.0.0 = sym m ∙ n.0.1 in cc
-  one_cause (unknown x) (untyped p) m n = let clashing : Err x ≡ Ok n.0 = sym m ∙ n.1 in cc
-  one_cause (type_clash p) (unknown y) m n = let clashing : Err y ≡ Ok m.0.0 = sym n ∙ m.0.1 in cc
-  one_cause (type_clash p) (type_clash q) m n = ap type_clash (m.1 ∙ sym n.1)
-  one_cause (type_clash p) (untyped q) m n =
+  pub one_cause_in : (f g : Refusal) → MeansNothingIn scope e A f → MeansNothingIn scope e A g → f ≡ g
+  one_cause_in (unknown x) (unknown y) m n = let both : Err x ≡ Err y = sym m ∙ n in cc
+  one_cause_in (unknown x) (type_clash p) m n = let clashing : Err x ≡ Ok n.0.0 = sym m ∙ n.0.1 in cc
+  one_cause_in (unknown x) (untyped p) m n = let clashing : Err x ≡ Ok n.0 = sym m ∙ n.1 in cc
+  one_cause_in (type_clash p) (unknown y) m n = let clashing : Err y ≡ Ok m.0.0 = sym n ∙ m.0.1 in cc
+  one_cause_in (type_clash p) (type_clash q) m n = ap type_clash (m.1 ∙ sym n.1)
+  one_cause_in (type_clash p) (untyped q) m n =
       absurd (m.0.2 (subst (λ r. Reading made r A) (one_named m.0.0 n.0 m.0.1 n.1) n.2.differ.one))
-  one_cause (untyped p) (unknown y) m n = let clashing : Err y ≡ Ok m.0 = sym n ∙ m.1 in cc
-  one_cause (untyped p) (type_clash q) m n =
+  one_cause_in (untyped p) (unknown y) m n = let clashing : Err y ≡ Ok m.0 = sym n ∙ m.1 in cc
+  one_cause_in (untyped p) (type_clash q) m n =
       absurd (n.0.2 (subst (λ r. Reading made r A) (one_named n.0.0 m.0 n.0.1 m.1) m.2.differ.one))
-  one_cause (untyped p) (untyped q) m n =
+  one_cause_in (untyped p) (untyped q) m n =
       ap untyped (one_place m.0 A p q m.2 (subst (λ r. IsFirstOpen made r A q) (one_named m.0 n.0 m.1 n.1) n.2))
-  one_cause (clash x) g m n = absurd m
-  one_cause (no_hypothesis x) g m n = absurd m
-  one_cause wrong_shape g m n = absurd m
-  one_cause mark g m n = absurd m
-  one_cause no_match g m n = absurd m
-  one_cause (not_pattern i) g m n = absurd m
-  one_cause (unresolved x) g m n = absurd m
-  one_cause names_spent g m n = absurd m
-  one_cause f (clash x) m n = absurd n
-  one_cause f (no_hypothesis x) m n = absurd n
-  one_cause f wrong_shape m n = absurd n
-  one_cause f mark m n = absurd n
-  one_cause f no_match m n = absurd n
-  one_cause f (not_pattern i) m n = absurd n
-  one_cause f (unresolved x) m n = absurd n
-  one_cause f names_spent m n = absurd n
+  one_cause_in (clash x) g m n = absurd m
+  one_cause_in (no_hypothesis x) g m n = absurd m
+  one_cause_in wrong_shape g m n = absurd m
+  one_cause_in mark g m n = absurd m
+  one_cause_in no_match g m n = absurd m
+  one_cause_in (not_pattern i) g m n = absurd m
+  one_cause_in (unresolved x) g m n = absurd m
+  one_cause_in names_spent g m n = absurd m
+  one_cause_in f (clash x) m n = absurd n
+  one_cause_in f (no_hypothesis x) m n = absurd n
+  one_cause_in f wrong_shape m n = absurd n
+  one_cause_in f mark m n = absurd n
+  one_cause_in f no_match m n = absurd n
+  one_cause_in f (not_pattern i) m n = absurd n
+  one_cause_in f (unresolved x) m n = absurd n
+  one_cause_in f names_spent m n = absurd n
+
+-- in a goal
+module _ (D : Declarations) (s : Sequent) (e : Tree) (A : Ty) where
+  all_nominal : (r : Resolved) → resolved (scope_of D s) [] e ≡ Ok r → FreeAreNominal r
+  all_nominal r x = free_are_nominal (kinds_in D) (signature_in D) (map entry_of s.variables) (goal_names s) e r x
+
+  pub means_or_not : (t : Read) (f : Refusal) → Means D s e A t → MeansNothing D s e A f → ⊥
+  means_or_not = means_or_not_in D (scope_of D s) e A all_nominal
+
+  pub one_meaning : (t u : Read) → Means D s e A t → Means D s e A u → t ≡ u
+  one_meaning = one_meaning_in D (scope_of D s) e A all_nominal
+
+  pub one_cause : (f g : Refusal) → MeansNothing D s e A f → MeansNothing D s e A g → f ≡ g
+  one_cause = one_cause_in D (scope_of D s) e A all_nominal

@@ -24,12 +24,13 @@ pub fn proof_commands_have_one_answer()
 
 /// Each proof command has one answer at a sequent, also where it opens formulas or takes the conclusion apart: it leads to
 /// goals or is refused, for one cause, and the goals are one list with names for the numbers of their variables. A new
-/// variable may have any number that is free.
+/// variable may have any number that is free. The numbers of the sequent's own variables change nothing either: the answer is
+/// one at any two sequents that are one goal with names for numbers.
 pub fn every_proof_command_has_one_answer()
-    ensures apart { (D : Declarations) (l : Label) (command : ProofCommand) (s : Sequent) (ps : List Sequent) (f : Refusal) → IsSequent D s →
-        Leads (effect D l command s) ps → Refuses (effect D l command s) f → ⊥ }
-    ensures one_refusal { (D : Declarations) (l : Label) (command : ProofCommand) (s : Sequent) (f g : Refusal) → IsSequent D s →
-        Refuses (effect D l command s) f → Refuses (effect D l command s) g → f ≡ g }
-    ensures one_list { (D : Declarations) (l : Label) (command : ProofCommand) (s : Sequent) (ps qs : List Sequent) → IsSequent D s →
-        Leads (effect D l command s) ps → Leads (effect D l command s) qs → map named ps ≡ map named qs }
+    ensures apart { (D : Declarations) (l : Label) (command : ProofCommand) (s u : Sequent) (ps : List Sequent) (f : Refusal) → IsSequent D s → IsSequent D u → named s ≡ named u →
+        Leads (effect D l command s) ps → Refuses (effect D l command u) f → ⊥ }
+    ensures one_refusal { (D : Declarations) (l : Label) (command : ProofCommand) (s u : Sequent) (f g : Refusal) → IsSequent D s → IsSequent D u → named s ≡ named u →
+        Refuses (effect D l command s) f → Refuses (effect D l command u) g → f ≡ g }
+    ensures one_list { (D : Declarations) (l : Label) (command : ProofCommand) (s u : Sequent) (ps qs : List Sequent) → IsSequent D s → IsSequent D u → named s ≡ named u →
+        Leads (effect D l command s) ps → Leads (effect D l command u) qs → map named ps ≡ map named qs }
 {}

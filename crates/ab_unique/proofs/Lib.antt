@@ -1,0 +1,3 @@
+mod Closing
+mod Declaring
+pub mod Effects
