@@ -2,4 +2,5 @@
 pub mod Drawings
 pub mod Shown
 pub mod Scopes
+pub mod Known
 pub mod Examples

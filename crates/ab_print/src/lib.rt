@@ -4,6 +4,7 @@
 mod drawing;
 mod eta;
 pub mod examples;
+mod known;
 mod logic;
 mod naming;
 mod reading;

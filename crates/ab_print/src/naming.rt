@@ -1,5 +1,5 @@
 //! Names are given to bound names, from the outside in.
-ghost use Rattle.std.specs.Prelude.{◌≡◌, ℕ, List, [], ◌++◌, length, map, codes, decimal, IfOk, IfSome, OnOk};
+ghost use Rattle.std.specs.Prelude.{◌≡◌, ℕ, List, [], ◌++◌, length, map, codes, decimal, IfOk, IfSome, OnOk, None, if◌then◌else◌};
 ghost use Rattle.std.specs.Option.{option_map};
 ghost use Rattle.std.specs.List.{filter_map, cons_option};
 ghost use Rattle.ab_term.specs.Terms as tree;
@@ -10,14 +10,17 @@ ghost use Rattle.ab_text.specs.Names.{name_of, free_heads, is_in};
 ghost use Rattle.ab_text.specs.Naming as plain;
 ghost use Rattle.ab_text.specs.Values.{shape_of, shapes_of};
 ghost use Rattle.ab_print.specs.Drawings.{IsHeld, AreHeld, from, all_from, term_of, terms_of, IsSound, AreSound};
+ghost use Rattle.ab_print.specs.Known.{own_name, AreKnown};
 ghost use Rattle.ab_print.specs.Scopes.{names_in, name_from, is_this};
 ghost use Rattle.ab_print.specs.Shown.{cell_name};
 
 use crate::drawing::{Drawing, Drawings, Seen};
+use crate::known::{forget, is_known, learn};
 use crate::logic::{logical_form, takes_binder};
 use ab_store::{Head, Store};
 use ab_text::{Shape, Shapes, fresh, with_constant, with_name};
 use ab_types::{Name, TypeTable};
+use indexmap::IndexSet;
 use itoa::Buffer;
 use std::alloc::{AllocError, Global};
 
@@ -43,7 +46,7 @@ fn bound_name(alloc: Global, names: &[Vec<u8>], index: usize) -> Result<Option<V
 }
 
 /// The printed name of a head, where it has one.
-fn head_name(
+pub(crate) fn head_name(
     alloc: Global,
     types: &TypeTable,
     store: &Store,
@@ -171,6 +174,26 @@ fn is_used(
     Ok(false)
 }
 
+/// Whether one of the heads that were seen is called so. They are gone through only where the name is known.
+fn is_taken(
+    alloc: Global,
+    types: &TypeTable,
+    store: &Store,
+    names: &[Vec<u8>],
+    known: &IndexSet<Vec<u8>>,
+    seen: &[Seen],
+    name: &[u8],
+) -> Result<bool, AllocError>
+    requires held { AreHeld types.now store.now seen.now }
+    requires known { AreKnown known.now.keys (filter_map (name_from types.now store.now (names_in names.now)) seen.now) }
+    ensures { IfOk result (λ b. b ≡ is_in (filter_map (name_from types.now store.now (names_in names.now)) seen.now) name.now) }
+{
+    if !is_known(known, name) {
+        return Ok(false);
+    }
+    is_used(alloc, types, store, names, seen, name)
+}
+
 /// The printed names of heads that were seen.
 fn used_names(
     alloc: Global,
@@ -216,16 +239,18 @@ fn choose(
     types: &TypeTable,
     store: &Store,
     names: &[Vec<u8>],
+    known: &IndexSet<Vec<u8>>,
     seen: &[Seen],
     hint: &Name,
 ) -> Result<Vec<u8>, AllocError>
-    requires { AreHeld types.now store.now seen.now }
+    requires held { AreHeld types.now store.now seen.now }
+    requires known { AreKnown known.now.keys (filter_map (name_from types.now store.now (names_in names.now)) seen.now) }
     ensures { IfOk result (λ name. (A : Ty) (t : Read) →
         all_from types.now store.now (length names.now) seen.now ≡ free_heads (tree.lam A hint.now t) →
         name.items ≡ plain.bound_name (cell_name store.now) (names_in names.now) hint.now t) }
 {
     let hint = hint.as_str().as_bytes();
-    if !is_used(alloc, types, store, names, seen, hint)? {
+    if !is_taken(alloc, types, store, names, known, seen, hint)? {
         let name = Vec::from_slice(alloc, hint)?;
         return Ok(name);
     }
@@ -269,18 +294,24 @@ pub(crate) fn name(
     seen: &[Seen],
     drawing: &Drawing,
     names: &mut Vec<Vec<u8>>,
+    known: &mut IndexSet<Vec<u8>>,
 ) -> Result<Shape, AllocError>
     requires sound { IsSound types.now store.now seen.now (length names.old.items) drawing.now }
     requires held { AreHeld types.now store.now seen.now }
+    requires own { AreKnown known.old.keys (filter_map (own_name types.now store.now) seen.now) }
+    requires bound { AreKnown known.old.keys (names_in names.old.items) }
     ensures shape { IfOk result (λ s. shape_of s ≡ plain.named (cell_name store.now) (names_in names.old.items) (term_of types.now store.now drawing.now)) }
     ensures names { OnOk result (names.new.items ≡ names.old.items) }
+    ensures known { OnOk result (known.new.keys ≡ known.old.keys) }
 {
     match drawing {
         Drawing::Lam(_, hint, start, end, body) => {
-            let chosen = choose(alloc, types, store, names, &seen[*start..*end], hint)?;
+            let chosen = choose(alloc, types, store, names, known, &seen[*start..*end], hint)?;
+            let added = learn(alloc, known, &chosen)?;
             names.push(Vec::from_slice(alloc, &chosen)?)?;
-            let body = name(alloc, types, store, seen, body, names)?;
+            let body = name(alloc, types, store, seen, body, names, known)?;
             let _ = names.pop();
+            forget(known, added);
             Ok(Shape::Abstraction(chosen, Box::new(alloc, body)?))
         }
         Drawing::Spine(head, drawings) => {
@@ -292,10 +323,19 @@ pub(crate) fn name(
                 takes_binder(*head),
                 drawings,
                 names,
+                known,
             )?;
             head_form(alloc, types, store, names, *head, arguments)
         }
     }
+}
+
+/// The name that an argument is, but none for the abstraction that a quantifier stands before.
+fn unless_bound(binds: bool, alone: Option<Head>) -> Option<Head>
+    ensures alone { (types : Table) (store : Contents) → option_map (head_reading types store) result ≡ (if binds then None else (option_map (head_reading types store) alone)) }
+    ensures held { (types : Table) (store : Contents) → IfSome alone (IsHeld types store) → IfSome result (IsHeld types store) }
+{
+    if binds { None } else { alone }
 }
 
 /// Arguments: those that are eta-long names as the names, but not the abstraction that a quantifier stands before.
@@ -308,21 +348,22 @@ fn name_all(
     binds: bool,
     drawings: &Drawings,
     names: &mut Vec<Vec<u8>>,
+    known: &mut IndexSet<Vec<u8>>,
 ) -> Result<Shapes, AllocError>
     requires sound { AreSound types.now store.now seen.now (length names.old.items) drawings.now }
     requires held { AreHeld types.now store.now seen.now }
+    requires own { AreKnown known.old.keys (filter_map (own_name types.now store.now) seen.now) }
+    requires bound { AreKnown known.old.keys (names_in names.old.items) }
     ensures shapes { IfOk result (λ ss. shapes_of ss ≡ plain.named_all (cell_name store.now) binds (names_in names.old.items) (terms_of types.now store.now drawings.now)) }
     ensures names { OnOk result (names.new.items ≡ names.old.items) }
+    ensures known { OnOk result (known.new.keys ≡ known.old.keys) }
 {
     match drawings {
         Drawings::End => Ok(Shapes::End),
         Drawings::More(first, alone, others) => {
-            let first = if binds {
-                name(alloc, types, store, seen, first, names)?
-            } else {
-                name_alone(alloc, types, store, seen, first, *alone, names)?
-            };
-            let others = name_all(alloc, types, store, seen, binds, others, names)?;
+            let alone = unless_bound(binds, *alone);
+            let first = name_alone(alloc, types, store, seen, first, alone, names, known)?;
+            let others = name_all(alloc, types, store, seen, binds, others, names, known)?;
             Ok(Shapes::More(Box::new(alloc, first)?, Box::new(alloc, others)?))
         }
     }
@@ -338,16 +379,20 @@ pub(crate) fn name_alone(
     drawing: &Drawing,
     alone: Option<Head>,
     names: &mut Vec<Vec<u8>>,
+    known: &mut IndexSet<Vec<u8>>,
 ) -> Result<Shape, AllocError>
     requires sound { IsSound types.now store.now seen.now (length names.old.items) drawing.now }
     requires held { AreHeld types.now store.now seen.now }
+    requires own { AreKnown known.old.keys (filter_map (own_name types.now store.now) seen.now) }
+    requires bound { AreKnown known.old.keys (names_in names.old.items) }
     requires alone { IfSome alone (IsHeld types.now store.now) }
     ensures shape { IfOk result (λ s. shape_of s ≡ plain.contracted (cell_name store.now) (names_in names.old.items) (option_map (head_reading types.now store.now) alone)
         (plain.named (cell_name store.now) (names_in names.old.items) (term_of types.now store.now drawing.now))) }
     ensures names { OnOk result (names.new.items ≡ names.old.items) }
+    ensures known { OnOk result (known.new.keys ≡ known.old.keys) }
 {
     match alone {
         Some(head) => head_form(alloc, types, store, names, head, Shapes::End),
-        None => name(alloc, types, store, seen, drawing, names),
+        None => name(alloc, types, store, seen, drawing, names, known),
     }
 }

@@ -7,6 +7,7 @@ ghost use Rattle.ab_logic.specs.Readings.{HoldsSequent, sequent_of, hypothesis_o
 ghost use Rattle.ab_print.specs.Shown.{cell_name, names_line, variables_line, shown, conclusion_line, hypothesis_lines, goal_lines, other_goal, reply_line};
 
 use crate::eta::alone;
+use crate::known::known_heads;
 use crate::naming::name_alone;
 use crate::reading::draw;
 use ab_logic::{Hypothesis, Sequent, World};
@@ -32,7 +33,10 @@ pub(crate) fn write_term(
     let name = alone(store, id);
     let drawing = draw(alloc, types, store, id, 0, &mut seen)?;
     let mut names = Vec::new(alloc);
-    let shape = name_alone(alloc, types, store, &seen, &drawing, name, &mut names)?;
+    let mut known = known_heads(alloc, types, store, &seen)?;
+    let shape = name_alone(
+        alloc, types, store, &seen, &drawing, name, &mut names, &mut known,
+    )?;
     write(&shape, out)
 }
 

@@ -9,7 +9,7 @@ pub returns-then-not-branch : goal.returns-then-not-branch
 returns-then-not-branch c = λ A t same.
     let text : c.as_bytes-hint.result.now ≡ c.args.hint.now = c.as_bytes-hint.ensures.value ∙ c.as_str.ensures in
     hint_is c.args.types.now c.args.store.now c.args.names.now A c.args.hint.now t c.args.seen.now c.in_ok-name.name.items
-    (sym c.if-not-branch.true ∙ c.in_ok-is_used.ensures ∙ ap (is_in (filter_map (name_from c.args.types.now c.args.store.now (names_in c.args.names.now)) c.args.seen.now)) text)
+    (sym c.if-not-branch.true ∙ c.in_ok-is_taken.ensures ∙ ap (is_in (filter_map (name_from c.args.types.now c.args.store.now (names_in c.args.names.now)) c.args.seen.now)) text)
     (c.in_ok-name.ensures.items ∙ text) same
 
 pub returns : goal.returns

@@ -6,5 +6,5 @@ use Rattle.ab_print.proofs.showing.write_term.Goals as goal
 
 pub name_alone-requires-clause-sound : goal.name_alone-requires-clause-sound
 name_alone-requires-clause-sound c =
-    subst (λ (n : ℕ). IsSound c.args.types.now c.args.store.now c.deref.result.now n c.in_ok-drawing.drawing) (sym (ap length c.new-names.ensures.items))
-    (subst (λ (w : List Seen). IsSound c.args.types.now c.args.store.now w 0 c.in_ok-drawing.drawing) (append-nil c.draw.new.seen.items ∙ sym c.deref.ensures.value) (c.in_ok-drawing.ensures.sound []))
+    subst (λ (n : ℕ). IsSound c.args.types.now c.args.store.now c.deref-2.result.now n c.in_ok-drawing.drawing) (sym (ap length c.new-names.ensures.items))
+    (subst (λ (w : List Seen). IsSound c.args.types.now c.args.store.now w 0 c.in_ok-drawing.drawing) (append-nil c.draw.new.seen.items ∙ sym c.deref-2.ensures.value) (c.in_ok-drawing.ensures.sound []))
