@@ -16,6 +16,7 @@ use Rattle.abella.specs.declared.status.Status.TheVariants.{Done, Refused, ReadF
 use Rattle.abella.specs.declared.running.TheConstants.{READ_FAULT, TOO_LONG, MAX_INPUT}
 use Rattle.ab_states.specs.State.{State, empty}
 use Rattle.abella.specs.Report.{Report, ReportOf, none, bytes_of, has_refusal, has_end, state_behind}
+use Rattle.abella.specs.Outside.{outside}
 use Rattle.abella.specs.Outcome.{IsFinished, HasNoRest, EndsWith, WroteReport, WroteAll, IsLastLine, WroteSome, RanOver, Ran}
 use Rattle.abella.specs.Progress.{Standing, to_come, all_items, Answered, AnsweredSome, AnsweredUpTo, SameRest, FedPiece, TookPiece, Running, EndedWith, status_at_end, beginning, handed_by, RanTo}
 use Rattle.abella.proofs.Reports.{report_of_items, reports_ended}
@@ -60,7 +61,7 @@ starts left out p e b = record {
 }
 
 -- there is no memory for a buffer
-pub ran_at_once : (left out : Option (List ℕ)) (reads writes : ℕ) → Ran NoMemory None left left out out reads reads writes writes
+pub ran_at_once : (left out : Option (List ℕ)) (reads writes : ℕ) → Ran NoMemory None (outside left out reads writes) (outside left out reads writes)
 ran_at_once left out reads writes = record {
   taken = [];
   takes = takes_none left;
@@ -131,21 +132,21 @@ module _ (left0 left out0 out : Option (List ℕ)) (p : Pending) (m : Standing) 
   -- the last line was written, or a write of it has failed, or memory was wanted
   ended : (status result : Status) (line all : List ℕ) (left' out' : Option (List ℕ)) (reads reads' writes now writes' : ℕ)
       → EndedWith result status line out out' now writes' → writes ≤ now → IsLastLine line all reads reads' → take MAX_INPUT all ≡ h.taken
-      → (WroteReport h.taken line (Some m.state) out0 out' → RanOver status all left' (handed_by status m.state) out0 out' reads reads' writes writes')
-      → RanOver result all left' (handed_by result m.state) out0 out' reads reads' writes writes'
+      → (WroteReport h.taken line (Some m.state) out0 out' → RanOver status all (handed_by status m.state) (outside left0 out0 reads writes) (outside left' out' reads' writes'))
+      → RanOver result all (handed_by result m.state) (outside left0 out0 reads writes) (outside left' out' reads' writes')
   unfolding line_cut
   ended status result line all left' out' reads reads' writes now writes' (inl (e, w)) l last t f =
-      subst (λ s. RanOver s all left' (handed_by s m.state) out0 out' reads reads' writes writes') (sym e) (f (with_line line out' w))
+      subst (λ s. RanOver s all (handed_by s m.state) (outside left0 out0 reads writes) (outside left' out' reads' writes')) (sym e) (f (with_line line out' w))
   ended status result line all left' out' reads reads' writes now writes' (inr (inl (e, w, r))) l last t f =
-      let x : RanOver WriteFault all left' (Some m.state) out0 out' reads reads' writes writes' = (rose_more writes now writes' l r, line_cut line all out' reads reads' t last w, handed_is) in
-      subst (λ s. RanOver s all left' (handed_by s m.state) out0 out' reads reads' writes writes') (sym e) x
+      let x : RanOver WriteFault all (Some m.state) (outside left0 out0 reads writes) (outside left' out' reads' writes') = (rose_more writes now writes' l r, line_cut line all out' reads reads' t last w, handed_is) in
+      subst (λ s. RanOver s all (handed_by s m.state) (outside left0 out0 reads writes) (outside left' out' reads' writes')) (sym e) x
   ended status result line all left' out' reads reads' writes now writes' (inr (inr (e, w))) l last t f =
-      let x : RanOver NoMemory all left' None out0 out' reads reads' writes writes' = (refl, line_cut line all out' reads reads' t last w) in
-      subst (λ s. RanOver s all left' (handed_by s m.state) out0 out' reads reads' writes writes') (sym e) x
+      let x : RanOver NoMemory all None (outside left0 out0 reads writes) (outside left' out' reads' writes') = (refl, line_cut line all out' reads reads' t last w) in
+      subst (λ s. RanOver s all (handed_by s m.state) (outside left0 out0 reads writes) (outside left' out' reads' writes')) (sym e) x
 
   -- the source has failed
   pub ran_read_fault : (result : Status) (left' out' : Option (List ℕ)) (reads before reads' writes now writes' : ℕ)
-      → left' ≡ left → Rose before reads' → reads ≤ before → writes ≤ now → EndedWith result ReadFault READ_FAULT out out' now writes' → RanTo result m.state left0 left' out0 out' reads reads' writes writes'
+      → left' ≡ left → Rose before reads' → reads ≤ before → writes ≤ now → EndedWith result ReadFault READ_FAULT out out' now writes' → RanTo result m.state (outside left0 out0 reads writes) (outside left' out' reads' writes')
   ran_read_fault result left' out' reads before reads' writes now writes' e r k l x = record {
     taken = h.taken;
     takes = subst (λ q. Takes left0 h.taken q) (sym e) h.takes;
@@ -155,7 +156,7 @@ module _ (left0 left out0 out : Option (List ℕ)) (p : Pending) (m : Standing) 
 
   -- one byte too many came
   pub ran_too_long : (result : Status) (n : ℕ) (left' out' : Option (List ℕ)) (p' : Pending) (reads reads' writes now writes' : ℕ)
-      → FedPiece n left left' p p' → n ≡ 1 → count ≡ MAX_INPUT → writes ≤ now → EndedWith result TooLong TOO_LONG out out' now writes' → RanTo result m.state left0 left' out0 out' reads reads' writes writes'
+      → FedPiece n left left' p p' → n ≡ 1 → count ≡ MAX_INPUT → writes ≤ now → EndedWith result TooLong TOO_LONG out out' now writes' → RanTo result m.state (outside left0 out0 reads writes) (outside left' out' reads' writes')
   ran_too_long result n left' out' p' reads reads' writes now writes' f one full l x =
       let exact : length h.taken ≡ MAX_INPUT = h.counted ∙ full in
       let size : length (h.taken ++ f.bytes) ≡ MAX_INPUT + 1 = let a = length-append h.taken f.bytes in let b = f.length_is in omega arith in
@@ -170,7 +171,7 @@ module _ (left0 left out0 out : Option (List ℕ)) (p : Pending) (m : Standing) 
       }
 
   -- memory was wanted where a piece was read or fed
-  pub ran_no_memory : (most : ℕ) (left' : Option (List ℕ)) (reads reads' writes writes' : ℕ) → TookPiece most left left' → count + most ≤ MAX_INPUT + 1 → Ran NoMemory None left0 left' out0 out reads reads' writes writes'
+  pub ran_no_memory : (most : ℕ) (left' : Option (List ℕ)) (reads reads' writes writes' : ℕ) → TookPiece most left left' → count + most ≤ MAX_INPUT + 1 → Ran NoMemory None (outside left0 out0 reads writes) (outside left' out reads' writes')
   ran_no_memory most left' reads reads' writes writes' f room =
       let more : List ℕ = take (MAX_INPUT - length h.taken) f.bytes in
       let x : AnsweredSome out0 out (all_items h.taken) empty = record {
@@ -217,7 +218,7 @@ module _ (left0 left out0 out : Option (List ℕ)) (p : Pending) (m : Standing) 
     few_taken = let a = within in omega arith
 
     pub ran_to_end : (refused finished blank : Bool) → m.refused ≡ refused → IsTrue finished ↔ IsFinished m.state → blank_after p' [] ≡ blank
-        → RanTo (status_at_end refused finished blank) m.state left0 left' out0 out reads reads' writes writes'
+        → RanTo (status_at_end refused finished blank) m.state (outside left0 out0 reads writes) (outside left' out reads' writes')
     ran_to_end true finished blank r d b = record { taken = h.taken; takes = takes_all; few = few_taken; over = (within, wrote_all Refused (sym refused_is ∙ r)) }
     ran_to_end false true true r d b = record {
       taken = h.taken;
@@ -273,7 +274,7 @@ module _ (left0 left out0 out : Option (List ℕ)) (p : Pending) (m : Standing) 
     up_to s out' x = state_up_to out0 out out' (all_items (h.taken ++ f.bytes)) (to_come p') beginning m s h.goes_on fed x.0 x.1
 
     pub ran_write_fault : (s : State) (out' : Option (List ℕ)) (reads reads' writes now writes' : ℕ) → AnsweredUpTo out out' (to_come p') m.state s → Rose now writes' → writes ≤ now
-        → Ran WriteFault (Some s) left0 left' out0 out' reads reads' writes writes'
+        → Ran WriteFault (Some s) (outside left0 out0 reads writes) (outside left' out' reads' writes')
     ran_write_fault s out' reads reads' writes now writes' x r l =
         let y = more_answered out' x.0 in
         let e : s ≡ state_behind empty (stopped_short out' reads reads' y).report = up_to s out' x ∙ ap (λ (q : Report). state_behind empty q) (sym (short_report out' reads reads' y)) in
@@ -284,7 +285,7 @@ module _ (left0 left out0 out : Option (List ℕ)) (p : Pending) (m : Standing) 
           over = (rose_more writes now writes' l r, stopped_short out' reads reads' y, ap (λ (q : State). Some q) e);
         }
 
-    pub ran_no_room : (out' : Option (List ℕ)) (reads reads' writes writes' : ℕ) → AnsweredSome out out' (to_come p') m.state → Ran NoMemory None left0 left' out0 out' reads reads' writes writes'
+    pub ran_no_room : (out' : Option (List ℕ)) (reads reads' writes writes' : ℕ) → AnsweredSome out out' (to_come p') m.state → Ran NoMemory None (outside left0 out0 reads writes) (outside left' out' reads' writes')
     ran_no_room out' reads reads' writes writes' x = record { taken = h.taken ++ f.bytes; takes = fed_takes; few = few_fed; over = (refl, stopped_short out' reads reads' (more_answered out' x)) }
 
     all_more : (out' : Option (List ℕ)) (q : Pending) (k : Standing) → Answered out out' (to_come p') (to_come q) m k → Answered out0 out' (all_items (h.taken ++ f.bytes)) (to_come q) beginning k
@@ -341,10 +342,10 @@ module _ (left0 left out0 out : Option (List ℕ)) (p : Pending) (m : Standing) 
       within_fed : length (h.taken ++ f.bytes) ≤ MAX_INPUT
       within_fed = let a = counted in omega arith
 
-      ran_so : (status : Status) → RanOver status (h.taken ++ f.bytes) left' (handed_by status k.state) out0 out' reads reads' writes writes' → RanTo status k.state left0 left' out0 out' reads reads' writes writes'
+      ran_so : (status : Status) → RanOver status (h.taken ++ f.bytes) (handed_by status k.state) (outside left0 out0 reads writes) (outside left' out' reads' writes') → RanTo status k.state (outside left0 out0 reads writes) (outside left' out' reads' writes')
       ran_so status o = record { taken = h.taken ++ f.bytes; takes = fed_takes; few = few_fed; over = o }
 
-      pub ran_to_quit : (refused finished : Bool) → k.refused ≡ refused → IsTrue finished ↔ IsFinished k.state → RanTo (status_at_end refused finished true) k.state left0 left' out0 out' reads reads' writes writes'
+      pub ran_to_quit : (refused finished : Bool) → k.refused ≡ refused → IsTrue finished ↔ IsFinished k.state → RanTo (status_at_end refused finished true) k.state (outside left0 out0 reads writes) (outside left' out' reads' writes')
       ran_to_quit true finished r d = ran_so Refused (within_fed, wrote_last Refused (sym last_refused ∙ r))
       ran_to_quit false true r d = ran_so Done (within_fed, wrote_last Done (sym last_refused ∙ r, subst IsFinished last_state (d.0 refl), inl is_ended))
       ran_to_quit false false r d = ran_so Unfinished (within_fed, wrote_last Unfinished (sym last_refused ∙ r, inl (λ z. let y : false ≡ true = d.1 (subst IsFinished (sym last_state) z) in cc)))

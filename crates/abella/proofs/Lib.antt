@@ -1,4 +1,5 @@
 pub mod Reports
+pub mod OneReport
 pub mod Replaying
 pub mod Derived
 pub mod Progress

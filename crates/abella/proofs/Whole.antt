@@ -12,6 +12,7 @@ use Rattle.std.specs.Prelude.{true, IfSome}
 use Rattle.ab_states.specs.State.{State, empty}
 use Rattle.abella.specs.Proved.{AllDerived}
 use Rattle.abella.specs.Report.{Report, Reports, ReportOf, has_end}
+use Rattle.abella.specs.Outside.{outside}
 use Rattle.abella.specs.Outcome.{HandsOut, EndsWith, WroteAll, RanOver, Ran, RefusedLine, IsReported}
 use Rattle.abella.specs.Progress.{EndedWith}
 use Rattle.abella.proofs.Reports.{ended_text}
@@ -76,11 +77,11 @@ module _ (text before : List ℕ) (left' after : Option (List ℕ)) (handed : Op
   ]
 
 pub reported : (status : Status) (handed : Option State) (text before : List ℕ) (left left' out out' : Option (List ℕ)) (reads reads' writes writes' number : ℕ) → number ≡ number_of status → left ≡ Some text → length text ≤ MAX_INPUT → out ≡ Some before
-    → ¬ Rose reads reads' → ¬ Rose writes writes' → ¬ (number ≡ 5) → Ran status handed left left' out out' reads reads' writes writes' → IsReported text before handed out' number
+    → ¬ Rose reads reads' → ¬ Rose writes writes' → ¬ (number ≡ 5) → Ran status handed (outside left out reads writes) (outside left' out' reads' writes') → IsReported text before handed out' number
 reported status handed text before left left' out out' reads reads' writes writes' number n e few o noreads nowrites nomemory r =
-    over status r.taken n (subst (λ x. Takes x r.taken left') e r.takes) (subst (λ x. RanOver status r.taken left' handed x out' reads reads' writes writes') o r.over)
+    over status r.taken n (subst (λ x. Takes x r.taken left') e r.takes) (subst (λ x. RanOver status r.taken handed (outside left x reads writes) (outside left' out' reads' writes')) o r.over)
   where
-    over : (status : Status) (taken : List ℕ) → number ≡ number_of status → Takes (Some text) taken left' → RanOver status taken left' handed (Some before) out' reads reads' writes writes' → IsReported text before handed out' number
+    over : (status : Status) (taken : List ℕ) → number ≡ number_of status → Takes (Some text) taken left' → RanOver status taken handed (outside left (Some before) reads writes) (outside left' out' reads' writes') → IsReported text before handed out' number
     over Done taken n t v = all_reported text before left' out' handed Done taken number n t v.1
     over Refused taken n t v = all_reported text before left' out' handed Refused taken number n t v.1
     over BadLine taken n t v = all_reported text before left' out' handed BadLine taken number n t v.1
@@ -94,13 +95,13 @@ handed_derived : (handed : Option State) (is : List Item) (r : Report) → Hands
 handed_derived handed is r e x = subst (λ o. IfSome o AllDerived) (sym e) (all_derived x none_yet)
 
 -- each theorem of the state that is handed out has a derivation
-pub theorems_derived : (status : Status) (handed : Option State) (left left' out out' : Option (List ℕ)) (reads reads' writes writes' : ℕ) → Ran status handed left left' out out' reads reads' writes writes' → IfSome handed AllDerived
+pub theorems_derived : (status : Status) (handed : Option State) (left left' out out' : Option (List ℕ)) (reads reads' writes writes' : ℕ) → Ran status handed (outside left out reads writes) (outside left' out' reads' writes') → IfSome handed AllDerived
 theorems_derived status handed left left' out out' reads reads' writes writes' r = over status r.taken r.over
   where
     of_all : (status : Status) (taken : List ℕ) → WroteAll status taken left' handed out out' → IfSome handed AllDerived
     of_all status taken w = handed_derived handed w.report_of.items w.report w.hands_out w.report_of.reports
 
-    over : (status : Status) (taken : List ℕ) → RanOver status taken left' handed out out' reads reads' writes writes' → IfSome handed AllDerived
+    over : (status : Status) (taken : List ℕ) → RanOver status taken handed (outside left out reads writes) (outside left' out' reads' writes') → IfSome handed AllDerived
     over Done taken v = of_all Done taken v.1
     over Refused taken v = of_all Refused taken v.1
     over BadLine taken v = of_all BadLine taken v.1
@@ -111,7 +112,14 @@ theorems_derived status handed left left' out out' reads reads' writes writes' r
     over NoMemory taken v = subst (λ o. IfSome o AllDerived) (sym v.0) tt
 
 -- the usage line was written, or a write of it has failed, or memory was wanted
-pub refused_line : (result : Status) (out out' : Option (List ℕ)) (writes writes' : ℕ) → EndedWith result BadLine USAGE out out' writes writes' → RefusedLine result out out' writes writes'
-refused_line result out out' writes writes' (inl (e, w)) = subst (λ s. RefusedLine s out out' writes writes') (sym e) w
-refused_line result out out' writes writes' (inr (inl (e, w, r))) = let x : RefusedLine WriteFault out out' writes writes' = (r, w) in subst (λ s. RefusedLine s out out' writes writes') (sym e) x
-refused_line result out out' writes writes' (inr (inr (e, w))) = let x : RefusedLine NoMemory out out' writes writes' = w in subst (λ s. RefusedLine s out out' writes writes') (sym e) x
+pub refused_line : (result : Status) (left left' out out' : Option (List ℕ)) (reads reads' writes writes' : ℕ) → EndedWith result BadLine USAGE out out' writes writes'
+    → RefusedLine result (outside left out reads writes) (outside left' out' reads' writes')
+refused_line result left left' out out' reads reads' writes writes' x = go x
+  where
+    Line : Status → Type 0
+    Line s = RefusedLine s (outside left out reads writes) (outside left' out' reads' writes')
+
+    go : EndedWith result BadLine USAGE out out' writes writes' → Line result
+    go (inl (e, w)) = subst Line (sym e) w
+    go (inr (inl (e, w, r))) = let x : Line WriteFault = (r, w) in subst Line (sym e) x
+    go (inr (inr (e, w))) = let x : Line NoMemory = w in subst Line (sym e) x

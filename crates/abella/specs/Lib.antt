@@ -2,5 +2,6 @@
 pub mod Status
 pub mod Proved
 pub mod Report
+pub mod Outside
 pub mod Outcome
 pub mod Progress

@@ -1,4 +1,4 @@
--- How a run ends: its status, the bytes that it took and wrote, the counts of faults, and the state that it hands out.
+-- How a run ends: its status, what stands outside before and after it, and the state that it hands out.
 use Rattle.std.specs.Prelude.{◌≡◌, ◌≤◌, ◌+◌, ◌⊎◌, ℕ, true, false, List, [], ◌++◌, length, take, Option, Some, None}
 use Rattle.ab_lex.specs.Commands.{Item, ItemsOf, HasBlankRest}
 use Rattle.ab_io.specs.Count.{Rose}
@@ -8,6 +8,7 @@ use Rattle.abella.specs.declared.status.Status.{Status}
 use Rattle.abella.specs.declared.status.Status.TheVariants.{Done, Refused, BadLine, ReadFault, WriteFault, NoMemory, Unfinished, TooLong}
 use Rattle.abella.specs.declared.running.TheConstants.{MAX_INPUT, USAGE, READ_FAULT, TOO_LONG}
 use Rattle.abella.specs.Status.{number_of}
+use Rattle.abella.specs.Outside.{Outside}
 use Rattle.abella.specs.Report.{Report, Reports, ReportOf, bytes_of, has_refusal, has_end, state_behind}
 
 -- the state that a run hands out, if it does: that behind the last command of this report
@@ -62,35 +63,33 @@ pub record WroteSome (taken : List ℕ) (before after : Option (List ℕ)) (read
   pub line_is : (line ≡ []) ⊎ ((others ≡ []) × (has_end report ≡ false) × IsLastLine line taken reads reads')
   pub wrote : AppendsFront before (bytes_of report ++ line) after
 
--- what a run over a text has done, by its status: how the bytes taken, those left, those written, the counts of faults and
--- the state that is handed out lie
-abbrev pub RanOver : Status → List ℕ → Option (List ℕ) → Option State → Option (List ℕ) → Option (List ℕ) → ℕ → ℕ → ℕ → ℕ → Type 0
-RanOver ReadFault taken left' handed out out' reads reads' writes writes' =
-    (length taken ≤ MAX_INPUT) × Rose reads reads' × WroteReport taken READ_FAULT handed out out'
-RanOver WriteFault taken left' handed out out' reads reads' writes writes' =
-    Rose writes writes' × (w : WroteSome taken out out' reads reads') × HandsOut handed w.report
-RanOver NoMemory taken left' handed out out' reads reads' writes writes' = (handed ≡ None) × WroteSome taken out out' reads reads'
-RanOver TooLong taken left' handed out out' reads reads' writes writes' =
-    (length taken ≡ MAX_INPUT + 1) × WroteReport (take MAX_INPUT taken) TOO_LONG handed out out'
-RanOver status taken left' handed out out' reads reads' writes writes' = (length taken ≤ MAX_INPUT) × WroteAll status taken left' handed out out'
+-- what a run over a text has done, by its status: how the bytes taken, what stands outside before and after, and the state that
+-- is handed out lie
+abbrev pub RanOver : Status → List ℕ → Option State → Outside → Outside → Type 0
+RanOver ReadFault taken handed o o' = (length taken ≤ MAX_INPUT) × Rose o.reads o'.reads × WroteReport taken READ_FAULT handed o.written o'.written
+RanOver WriteFault taken handed o o' =
+    Rose o.writes o'.writes × (w : WroteSome taken o.written o'.written o.reads o'.reads) × HandsOut handed w.report
+RanOver NoMemory taken handed o o' = (handed ≡ None) × WroteSome taken o.written o'.written o.reads o'.reads
+RanOver TooLong taken handed o o' = (length taken ≡ MAX_INPUT + 1) × WroteReport (take MAX_INPUT taken) TOO_LONG handed o.written o'.written
+RanOver status taken handed o o' = (length taken ≤ MAX_INPUT) × WroteAll status taken o'.left handed o.written o'.written
 
 -- what a run has done whose line of words was refused
-abbrev pub RefusedLine : Status → Option (List ℕ) → Option (List ℕ) → ℕ → ℕ → Type 0
-RefusedLine BadLine out out' writes writes' = Appends out USAGE out'
-RefusedLine WriteFault out out' writes writes' = Rose writes writes' × AppendsFront out USAGE out'
-RefusedLine NoMemory out out' writes writes' = AppendsFront out USAGE out'
-RefusedLine status out out' writes writes' = ⊥
+abbrev pub RefusedLine : Status → Outside → Outside → Type 0
+RefusedLine BadLine o o' = Appends o.written USAGE o'.written
+RefusedLine WriteFault o o' = Rose o.writes o'.writes × AppendsFront o.written USAGE o'.written
+RefusedLine NoMemory o o' = AppendsFront o.written USAGE o'.written
+RefusedLine status o o' = ⊥
 
 -- the line of words is the program's name alone
 abbrev pub IsNameAlone : {A : Type 0} → List A → Type 0
 IsNameAlone words = length words ≡ 1
 
 -- some bytes were taken from the source, and the status says the rest
-pub record Ran (status : Status) (handed : Option State) (left left' out out' : Option (List ℕ)) (reads reads' writes writes' : ℕ) : Type 0 where
+pub record Ran (status : Status) (handed : Option State) (o o' : Outside) : Type 0 where
   pub taken : List ℕ
-  pub takes : Takes left taken left'
+  pub takes : Takes o.left taken o'.left
   pub few : length taken ≤ MAX_INPUT + 1
-  pub over : RanOver status taken left' handed out out' reads reads' writes writes'
+  pub over : RanOver status taken handed o o'
 
 -- the status of this number is one of which P is said
 abbrev pub EndedBy : ℕ → (Status → Type 0) → Type 0

@@ -18,6 +18,7 @@ use Rattle.abella.specs.declared.running.TheConstants.{MAX_INPUT}
 use Rattle.abella.specs.declared.status.Status.{Status}
 use Rattle.abella.specs.declared.status.Status.TheVariants.{Done, Refused, WriteFault as FaultStatus, NoMemory, Unfinished}
 use Rattle.abella.specs.Report.{Moment, Report, Reports, Replies, is_end, bytes_of, has_refusal, has_end, state_behind}
+use Rattle.abella.specs.Outside.{Outside}
 use Rattle.abella.specs.Outcome.{Ran}
 
 -- how a run stands between two commands: the session's state, whether a command was refused, and whether the script has
@@ -162,8 +163,8 @@ handed_by NoMemory s = None
 handed_by status s = Some s
 
 -- the run has ended so, with this state
-abbrev pub RanTo : Status → State → Option (List ℕ) → Option (List ℕ) → Option (List ℕ) → Option (List ℕ) → ℕ → ℕ → ℕ → ℕ → Type 0
-RanTo status s left left' out out' reads reads' writes writes' = Ran status (handed_by status s) left left' out out' reads reads' writes writes'
+abbrev pub RanTo : Status → State → Outside → Outside → Type 0
+RanTo status s o o' = Ran status (handed_by status s) o o'
 
 -- the status of a text that was read to its end or to a `Quit`: whether a command was refused, no proof is open, and nothing
 -- but blanks is left

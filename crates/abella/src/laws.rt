@@ -8,6 +8,11 @@ ghost use Rattle.ab_states.specs.Reply.{completed};
 ghost use Rattle.ab_session.specs.Answers.{IsProvedLast};
 ghost use Rattle.abella.specs.Report.{Moment, Report, ReportOf, Reports, has_end};
 
+/// A text has one report: one reply to each of its commands, and one state behind it. So it has one output and one status.
+pub fn texts_have_one_report()
+    ensures { (text : List ℕ) (r q : Report) → ReportOf text r → ReportOf text q → r ≡ q }
+{}
+
 /// The report of a text begins with a report of its first items.
 pub fn reports_begin_alike()
     ensures { (first others : List Item) (s : State) (r : Report) → Reports s (first ++ others) r

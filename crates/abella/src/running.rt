@@ -7,6 +7,7 @@ ghost use Rattle.ab_session.specs.Contents.{state_of};
 ghost use Rattle.ab_session.specs.Answers.{IsProvedLast};
 ghost use Rattle.abella.specs.Proved.{AllDerived};
 ghost use Rattle.abella.specs.Report.{Moment, Report, ReportOf};
+ghost use Rattle.abella.specs.Outside.{outside};
 ghost use Rattle.abella.specs.Outcome.{IsNameAlone, EndedBy, IsFinished, RefusedLine, Ran, IsReported};
 ghost use Rattle.abella.specs.Progress.{EndedWith, RanTo, beginning, handed_by, standing_of, status_at_end};
 
@@ -100,9 +101,9 @@ fn answer_input<F: Files, S: Source, O: Sink>(
 ) -> Status
     requires room { length piece.old ≡ PIECE }
     requires begins { standing_of progress.old ≡ beginning }
-    ensures ran { RanTo result (state_of progress.new.session) (S.left input.old) (S.left input.new)
-        (O.written out.old) (O.written out.new)
-        (S.faults input.old) (S.faults input.new) (O.faults out.old) (O.faults out.new) }
+    ensures ran { RanTo result (state_of progress.new.session)
+        (outside (S.left input.old) (O.written out.old) (S.faults input.old) (O.faults out.old))
+        (outside (S.left input.new) (O.written out.new) (S.faults input.new) (O.faults out.new)) }
     ensures files { files.new ≡ files.old }
 {
     let mut splitter = Splitter::new(alloc);
@@ -147,9 +148,9 @@ fn run_over<F: Files, S: Source, O: Sink>(
     input: &mut S,
     out: &mut O,
 ) -> (Status, Option<Session>)
-    ensures ran { Ran result.0 (option_map state_of result.1) (S.left input.old) (S.left input.new)
-        (O.written out.old) (O.written out.new)
-        (S.faults input.old) (S.faults input.new) (O.faults out.old) (O.faults out.new) }
+    ensures ran { Ran result.0 (option_map state_of result.1)
+        (outside (S.left input.old) (O.written out.old) (S.faults input.old) (O.faults out.old))
+        (outside (S.left input.new) (O.written out.new) (S.faults input.new) (O.faults out.new)) }
     ensures theorems { IfSome (option_map state_of result.1) AllDerived }
     ensures files { files.new ≡ files.old }
 {
@@ -184,10 +185,11 @@ fn run_line<F: Files, S: Source, O: Sink>(
     out: &mut O,
 ) -> (Status, Option<Session>)
     ensures ran { IsNameAlone words.now → Ran result.0 (option_map state_of result.1)
-        (S.left input.old) (S.left input.new) (O.written out.old) (O.written out.new)
-        (S.faults input.old) (S.faults input.new) (O.faults out.old) (O.faults out.new) }
+        (outside (S.left input.old) (O.written out.old) (S.faults input.old) (O.faults out.old))
+        (outside (S.left input.new) (O.written out.new) (S.faults input.new) (O.faults out.new)) }
     ensures line_refused { ¬ IsNameAlone words.now → RefusedLine result.0
-        (O.written out.old) (O.written out.new) (O.faults out.old) (O.faults out.new) }
+        (outside (S.left input.old) (O.written out.old) (S.faults input.old) (O.faults out.old))
+        (outside (S.left input.new) (O.written out.new) (S.faults input.new) (O.faults out.new)) }
     ensures no_session { ¬ IsNameAlone words.now → result.1 ≡ None }
     ensures theorems { IfSome (option_map state_of result.1) AllDerived }
     ensures unread { ¬ IsNameAlone words.now → input.new ≡ input.old }
@@ -213,10 +215,11 @@ pub fn run<F: Files, S: Source, O: Sink>(
 ) -> Ended
     // What was taken and written, and the state that is handed out, by the status.
     ensures ran { IsNameAlone words.now → EndedBy result.status (λ status. Ran status (option_map state_of result.session)
-        (S.left input.old) (S.left input.new) (O.written out.old) (O.written out.new)
-        (S.faults input.old) (S.faults input.new) (O.faults out.old) (O.faults out.new)) }
+        (outside (S.left input.old) (O.written out.old) (S.faults input.old) (O.faults out.old))
+        (outside (S.left input.new) (O.written out.new) (S.faults input.new) (O.faults out.new))) }
     ensures line_refused { ¬ IsNameAlone words.now → EndedBy result.status (λ status. RefusedLine status
-        (O.written out.old) (O.written out.new) (O.faults out.old) (O.faults out.new)) }
+        (outside (S.left input.old) (O.written out.old) (S.faults input.old) (O.faults out.old))
+        (outside (S.left input.new) (O.written out.new) (S.faults input.new) (O.faults out.new))) }
     ensures no_session { ¬ IsNameAlone words.now → result.session ≡ None }
     ensures unread { ¬ IsNameAlone words.now → input.new ≡ input.old }
 

@@ -7,7 +7,7 @@ pub struct Case {
     pub report: &'static [u8],
 }
 
-pub const CASES: [Case; 39] = [
+pub const CASES: [Case; 44] = [
     Case {
         script: b"",
         status: 0,
@@ -202,5 +202,30 @@ pub const CASES: [Case; 39] = [
         script: b"Kind i type. Type c i. Theorem w : exists X, X = c. exists c. search.",
         status: 0,
         report: b"[1]\n[2]\n[3]\n============================\n exists X, X = c\n[4]\n============================\n c = c\n[5] Proof completed: w.\n",
+    },
+    Case {
+        script: b"Kind i type. Theorem pr : forall (X : i -> i -> i) (Y : i -> i), nabla a b, X a b = Y b -> X b a = Y a. intros. case H1. search. Theorem pr2 : forall (X : i -> i -> i) (Y : i -> i -> i), nabla a b c, X a b = Y b c -> X a b = X c b. intros. case H1. search.",
+        status: 0,
+        report: b"[1]\n[2]\n============================\n forall X Y, nabla a b, X a b = Y b -> X b a = Y a\n[3]\nVariables: X Y\nH1 : X n1 n2 = Y n2\n============================\n X n2 n1 = Y n1\n[4]\nVariables: Y\n============================\n Y n1 = Y n1\n[5] Proof completed: pr.\n[6]\n============================\n forall X Y, nabla a b c, X a b = Y b c -> X a b = X c b\n[7]\nVariables: X Y\nH1 : X n1 n2 = Y n2 n3\n============================\n X n1 n2 = X n3 n2\n[8]\nVariables: X1\n============================\n X1 n2 = X1 n2\n[9] Proof completed: pr2.\n",
+    },
+    Case {
+        script: b"Kind i type. Theorem np : forall (X : i -> i -> i), nabla a, X a a = a -> false. intros. case H1. clear H1.",
+        status: 1,
+        report: b"[1]\n[2]\n============================\n forall X, nabla a, X a a = a -> false\n[3]\nVariables: X\nH1 : X n1 n1 = n1\n============================\n false\n[3] Refused 13 NotPattern equation 1\nVariables: X\nH1 : X n1 n1 = n1\n============================\n false\n[4]\nVariables: X\n============================\n false\n",
+    },
+    Case {
+        script: b"Kind nat type. Type s nat -> nat. Theorem oc : forall X, X = s X -> false. intros. case H1.",
+        status: 0,
+        report: b"[1]\n[2]\n[3]\n============================\n forall X, X = s X -> false\n[4]\nVariables: X\nH1 : X = s X\n============================\n false\n[5] Proof completed: oc.\n",
+    },
+    Case {
+        script: b"Kind i type. Type c i. Type d i. Type f i -> i. Theorem k : forall X Y, f X = f Y -> c = d -> X = Y. intros. K: case H1 (keep). case K. case H2.",
+        status: 1,
+        report: b"[1]\n[2]\n[3]\n[4]\n[5]\n============================\n forall X Y, f X = f Y -> c = d -> X = Y\n[6]\nVariables: X Y\nH1 : f X = f Y\nH2 : c = d\n============================\n X = Y\n[7]\nVariables: X\nH1 : f X = f X\nH2 : c = d\n============================\n X = X\n[7] Refused 10 NoHypothesis K\nVariables: X\nH1 : f X = f X\nH2 : c = d\n============================\n X = X\n[8] Proof completed: k.\n",
+    },
+    Case {
+        script: b"Kind i type. Type h (i -> i) -> i. Theorem q : forall (M : i -> i) N X1, nabla a, h (x\\ M x) = h (y\\ N) -> M a = X1 -> false. intros. case H1. case H2 (keep). case H2 (keep). case H9.",
+        status: 1,
+        report: b"[1]\n[2]\n[3]\n============================\n forall M N X1, nabla a, h M = h (y\\ N) -> M a = X1 -> false\n[4]\nVariables: M N X1\nH1 : h M = h y\\ N\nH2 : M n1 = X1\n============================\n false\n[5]\nVariables: N X1\nH2 : N = X1\n============================\n false\n[6]\nVariables: N\nH2 : N = N\n============================\n false\n[7]\nVariables: N\nH2 : N = N\n============================\n false\n[7] Refused 10 NoHypothesis H9\nVariables: N\nH2 : N = N\n============================\n false\n",
     },
 ];

@@ -1,6 +1,7 @@
 use Rattle.std.proofs.Common.{◌≡◌, ◌≤◌, ◌+◌, ℕ, refl, sym, ◌∙◌, subst, arith}
 use Rattle.std.proofs.lemmas.List.{length-take, length-drop, length-append}
 use Rattle.abella.specs.declared.running.TheConstants.{MAX_INPUT}
+use Rattle.abella.specs.Outside.{outside}
 use Rattle.abella.specs.Progress.{RanTo, Running, standing_of}
 use Rattle.abella.proofs.Endings.{starts, ran_no_memory, ran_read_fault, ran_to_end, ran_to_quit, ran_too_long, ran_write_fault, ran_no_room, runs_on}
 use Rattle.abella.proofs.running.answer_input.Goals as goal
@@ -35,7 +36,7 @@ returns-in-Ok-eq0-clause-ran g c =
     c.in-Ok-eq0.field-0 (g.S.Source.left c.read_piece.new.input) c.read_piece.new.splitter c.in-Ok-eq0.ensures.fed c.in-Ok-eq0.field-0-test
     (g.S.Source.faults c.args.input.now) (g.S.Source.faults c.read_piece.new.input) (g.O.Sink.faults c.args.out.now) (g.O.Sink.faults c.pieces.out)
     c.pieces.progress.refused c.is_finished.result c.rest_is_blank.result refl c.is_finished.ensures (sym c.rest_is_blank.ensures) in
-    subst (λ s. RanTo s (standing_of c.pieces.progress).state (g.S.Source.left c.args.input.now) (g.S.Source.left c.read_piece.new.input) (g.O.Sink.written c.args.out.now) (g.O.Sink.written c.pieces.out) (g.S.Source.faults c.args.input.now) (g.S.Source.faults c.read_piece.new.input) (g.O.Sink.faults c.args.out.now) (g.O.Sink.faults c.pieces.out)) (sym c.end_status.ensures) r
+    subst (λ s. RanTo s (standing_of c.pieces.progress).state (outside (g.S.Source.left c.args.input.now) (g.O.Sink.written c.args.out.now) (g.S.Source.faults c.args.input.now) (g.O.Sink.faults c.args.out.now)) (outside (g.S.Source.left c.read_piece.new.input) (g.O.Sink.written c.pieces.out) (g.S.Source.faults c.read_piece.new.input) (g.O.Sink.faults c.pieces.out))) (sym c.end_status.ensures) r
 
 pub returns-in-Ok-clause-ran : goal.returns-in-Ok-clause-ran
 returns-in-Ok-clause-ran g c =
@@ -91,4 +92,4 @@ returns-then-progress-clause-ran g c =
     c.in-Ok-answer_ready.ensures.answered.0 c.if-progress.true
     (g.S.Source.faults c.args.input.now) (g.S.Source.faults c.read_piece.new.input) (g.O.Sink.faults c.args.out.now) (g.O.Sink.faults c.answer_ready.new.out)
     c.answer_ready.new.progress.refused c.is_finished-then-progress.result refl c.is_finished-then-progress.ensures in
-    subst (λ s. RanTo s (standing_of c.answer_ready.new.progress).state (g.S.Source.left c.args.input.now) (g.S.Source.left c.read_piece.new.input) (g.O.Sink.written c.args.out.now) (g.O.Sink.written c.answer_ready.new.out) (g.S.Source.faults c.args.input.now) (g.S.Source.faults c.read_piece.new.input) (g.O.Sink.faults c.args.out.now) (g.O.Sink.faults c.answer_ready.new.out)) (sym c.end_status-then-progress.ensures) r
+    subst (λ s. RanTo s (standing_of c.answer_ready.new.progress).state (outside (g.S.Source.left c.args.input.now) (g.O.Sink.written c.args.out.now) (g.S.Source.faults c.args.input.now) (g.O.Sink.faults c.args.out.now)) (outside (g.S.Source.left c.read_piece.new.input) (g.O.Sink.written c.answer_ready.new.out) (g.S.Source.faults c.read_piece.new.input) (g.O.Sink.faults c.answer_ready.new.out))) (sym c.end_status-then-progress.ensures) r

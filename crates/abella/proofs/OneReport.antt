@@ -1,0 +1,39 @@
+-- A text has one report.
+use Rattle.std.proofs.Common.{◌≡◌, ℕ, List, [], ◌∷◌, true, false, refl, sym, ◌∙◌, ap, subst}
+use Rattle.ab_lex.specs.declared.TheConstants.{COMMAND_LIMIT}
+use Rattle.ab_lex.specs.Commands.{Item}
+use Rattle.ab_lex.proofs.Cuts.{only_items}
+use Rattle.ab_states.specs.State.{State, empty}
+use Rattle.ab_states.specs.Reply.{Reply}
+use Rattle.ab_unique.proofs.Effects.{one_effect}
+use Rattle.abella.specs.Report.{Moment, Replies, to_command, to_long, Report, Reports, none, next, last, ReportOf, is_end}
+
+moment_by : Reply → State → Moment
+moment_by r s = record { reply = r; state = s }
+
+same_moment : (m k : Moment) → m.reply ≡ k.reply → m.state ≡ k.state → m ≡ k
+unfolding moment_by
+same_moment m k e f = ap (λ r. moment_by r m.state) e ∙ ap (moment_by k.reply) f
+
+one_moment : {s : State} {i : Item} {m k : Moment} → Replies s i m → Replies s i k → m ≡ k
+one_moment {s = s} (to_command {bytes = bytes} m e b) (to_command k f c) = let same = one_effect s bytes e f in same_moment m k same.0 same.1
+one_moment (to_long m e f) (to_long k g h) = same_moment m k (e ∙ sym g) (f ∙ sym h)
+
+goes_or_ends : (m k : Moment) → m ≡ k → is_end m.reply ≡ false → is_end k.reply ≡ true → ⊥
+goes_or_ends m k same e f = let both : false ≡ true = sym e ∙ ap (λ (x : Moment). is_end x.reply) same ∙ f in cc
+
+-- ONE REPORT of these items
+one_report : {s : State} {is : List Item} {r q : Report} → Reports s is r → Reports s is q → r ≡ q
+one_report none none = refl
+one_report (next {is = is} {r = r} m h k x) (next {r = q} n g j y) =
+    let same : m ≡ n = one_moment h g in
+    ap (λ z. z ∷ r) same ∙ ap (λ z. n ∷ z) (one_report (subst (λ (z : Moment). Reports z.state is r) same x) y)
+one_report (next m h k x) (last n g j) = absurd (goes_or_ends m n (one_moment h g) k j)
+one_report (last m h k) (next n g j y) = absurd (goes_or_ends n m (one_moment g h) j k)
+one_report (last m h k) (last n g j) = ap (λ z. z ∷ []) (one_moment h g)
+
+-- AND OF A TEXT
+pub one_report_of : (text : List ℕ) (r q : Report) → ReportOf text r → ReportOf text q → r ≡ q
+one_report_of text r q a b =
+    let same : a.items ≡ b.items = only_items COMMAND_LIMIT text a.items a.items_are ∙ sym (only_items COMMAND_LIMIT text b.items b.items_are) in
+    one_report (subst (λ is. Reports empty is r) same a.reports) b.reports
