@@ -13,20 +13,21 @@ use std::cmp::Ordering;
 use std::fmt::{self, Debug, Display, Formatter, Write};
 use std::hash::{Hash, Hasher};
 use std::marker::Model;
+use std::rc::RcStr;
 
-/// A name. Contracts see it as the list of its bytes, which are UTF-8.
+/// A name, whose text is shared by its copies. Contracts see it as the list of its bytes, which are UTF-8.
 #[derive(Drop)]
 pub struct Name {
-    text: String,
+    text: RcStr,
 }
 
 impl Model for Name {
     ghost use Rattle.std.specs.Prelude.{ℕ, List};
-    ghost use Rattle.std.specs.String.{string_bytes};
+    ghost use Rattle.std.specs.Rc.{rc_str_bytes};
 
     ghost Value = { List ℕ };
 
-    ghost view = { λ name. string_bytes name.text };
+    ghost view = { λ name. rc_str_bytes name.text };
 }
 
 impl Name {
@@ -35,7 +36,7 @@ impl Name {
         ensures { IfOk result (λ name. name ≡ text.now) }
     {
         Ok(Name {
-            text: String::from_str(alloc, text)?,
+            text: RcStr::from_str(alloc, text)?,
         })
     }
 
@@ -46,11 +47,11 @@ impl Name {
         self.text.as_str()
     }
 
-    /// The same name again.
-    pub fn copy(&self, alloc: Global) -> Result<Name, AllocError>
+    /// The same name again, with the same text.
+    pub fn copy(&self, _alloc: Global) -> Result<Name, AllocError>
         ensures { IfOk result (λ name. name ≡ self.now) }
     {
-        Name::from_text(alloc, self.as_str())
+        self.clone()
     }
 }
 
@@ -129,7 +130,7 @@ impl Debug for Name {
     ghost debug_output = { debug_str };
 
     fn fmt<W: Write>(&self, f: &mut Formatter<W>) -> fmt::Result {
-        Debug::fmt(&self.text, f)
+        Debug::fmt(self.as_str(), f)
     }
 }
 
