@@ -1,4 +1,2 @@
-mod Kept
-mod Closings
 mod Over
 mod Splitting

@@ -1,9 +1,7 @@
 //! Variables of a clause that become bound names: those that stand in its body alone are closed by `exists`.
 #![tactic(auto)]
 
-mod closing;
 mod keeping;
-mod memo;
 mod quantifying;
 
 pub use keeping::close_clause;

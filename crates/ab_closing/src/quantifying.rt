@@ -6,8 +6,7 @@ ghost use Rattle.ab_norm.specs.Growth.{AddsTerms};
 ghost use Rattle.ab_clauses.specs.Readings.{variable_of};
 ghost use Rattle.ab_closing.specs.Quantified as quantified;
 
-use crate::closing::close;
-use crate::memo::Memo;
+use ab_patterns::close;
 use ab_store::{CellId, Head, Logical, Store, TermId};
 use std::alloc::{AllocError, Global};
 
@@ -27,8 +26,7 @@ fn exists_over(
 {
     let ty = store.cell_type(cell);
     let hint = store.cell_name(cell).copy(alloc)?;
-    let mut memo = Memo::new(alloc);
-    let closed = close(alloc, store, 0, cell, body, &mut memo)?;
+    let closed = close(alloc, store, Head::Cell(cell), body)?;
     let abstraction = store.lam(ty, hint, closed)?;
     let args = Vec::from_array(alloc, [abstraction])?;
     store.spine(Head::Logic(Logical::Exists(ty)), args)

@@ -20,34 +20,50 @@ use Rattle.ab_store.specs.Trees.{Read, Contents, tree_of, head_reading, node_tre
 use Rattle.ab_norm.specs.Growth.{AddsTerms}
 use Rattle.ab_norm.proofs.Frame.{same_head}
 use Rattle.ab_term.specs.Closing as closing
+use Rattle.ab_patterns.specs.Closing.{sunk}
+
+pub sunk_none : (h : tree.Head ℕ) → sunk zero h ≡ h
+sunk_none (tree.constant k) = refl
+sunk_none (tree.logical l) = refl
+sunk_none (tree.nominal a) = refl
+sunk_none (tree.variable y) = refl
+sunk_none (tree.index i) = let e : i + 0 ≡ i = omega arith in ap tree.index e
+
+sunk_more : (k : ℕ) (h : tree.Head ℕ) → sunk (suc k) h ≡ shift_head zero (sunk k h)
+sunk_more k (tree.constant j) = refl
+sunk_more k (tree.logical l) = refl
+sunk_more k (tree.nominal a) = refl
+sunk_more k (tree.variable y) = refl
+sunk_more k (tree.index i) = let e : i + suc k ≡ suc (i + k) = omega arith in ap tree.index e
 
 close_all_read : (at : ℕ) (h : tree.Head ℕ) (f : TermId → Read) (ts : List TermId) → closing.close_all at h (terms_of (map f ts)) ≡ terms_of (map (λ t. closing.close at h (f t)) ts)
 close_all_read at h f [] = refl
 close_all_read at h f (t ∷ ts) = ap (term (closing.close at h (f t))) (close_all_read at h f ts)
 
 module _ (types : Table) (s0 s1 s2 : Contents) (t r : TermId) (n : Node) (reads : tree_of types s0 t ≡ node_tree types s0 n) (at : ℕ) (name : Head) where
-  pub closed_lam : (deeper : ℕ) (shifted : Head) (ty : TypeId) (x : List ℕ) (body inner : TermId) → n ≡ Lam ty x body → deeper ≡ at + 1
-      → head_reading types s0 shifted ≡ shift_head 0 (head_reading types s0 name)
-      → tree_of types s1 inner ≡ closing.close deeper (head_reading types s0 shifted) (tree_of types s0 body)
+  pub closed_lam : (deeper : ℕ) (ty : TypeId) (x : List ℕ) (body inner : TermId) → n ≡ Lam ty x body → deeper ≡ at + 1
+      → tree_of types s1 inner ≡ closing.close deeper (sunk deeper (head_reading types s0 name)) (tree_of types s0 body)
       → tree_of types s2 r ≡ lam (type_of types ty) x (tree_of types s1 inner)
-      → tree_of types s2 r ≡ closing.close at (head_reading types s0 name) (tree_of types s0 t)
-  closed_lam deeper shifted ty x body inner is one up here made =
+      → tree_of types s2 r ≡ closing.close at (sunk at (head_reading types s0 name)) (tree_of types s0 t)
+  closed_lam deeper ty x body inner is one here made =
       let d : deeper ≡ suc at = omega arith in
       made
-      ∙ ap (lam (type_of types ty) x) (here ∙ ap (λ k. closing.close k (head_reading types s0 shifted) (tree_of types s0 body)) d ∙ ap (λ h. closing.close (suc at) h (tree_of types s0 body)) up)
-      ∙ sym (ap (closing.close at (head_reading types s0 name)) (reads ∙ ap (node_tree types s0) is))
+      ∙ ap (lam (type_of types ty) x) (here ∙ ap (λ k. closing.close k (sunk k (head_reading types s0 name)) (tree_of types s0 body)) d ∙ ap (λ h. closing.close (suc at) h (tree_of types s0 body)) (sunk_more at (head_reading types s0 name)))
+      ∙ sym (ap (closing.close at (sunk at (head_reading types s0 name))) (reads ∙ ap (node_tree types s0) is))
 
   pub closed_spine : (h g : Head) (args given closed : List TermId) → n ≡ Spine h args → AddsTerms s0 s1 → given ≡ args
-      → head_reading types s1 g ≡ closing.close_head at (head_reading types s1 name) (head_reading types s1 h)
-      → map (tree_of types s1) closed ≡ map (λ t. closing.close at (head_reading types s0 name) (tree_of types s0 t)) given
+      → head_reading types s1 g ≡ closing.close_head at (sunk at (head_reading types s1 name)) (head_reading types s1 h)
+      → map (tree_of types s1) closed ≡ map (λ t. closing.close at (sunk at (head_reading types s0 name)) (tree_of types s0 t)) given
       → tree_of types s2 r ≡ spine (head_reading types s1 g) (terms_of (map (tree_of types s1) closed))
-      → tree_of types s2 r ≡ closing.close at (head_reading types s0 name) (tree_of types s0 t)
+      → tree_of types s2 r ≡ closing.close at (sunk at (head_reading types s0 name)) (tree_of types s0 t)
   closed_spine h g args given closed is adds same head here made =
+      let by = sunk at (head_reading types s0 name) in
       made
-      ∙ ap (λ x. spine x (terms_of (map (tree_of types s1) closed))) (head ∙ ap (λ y. closing.close_head at y (head_reading types s1 h)) (same_head types s0 s1 name adds) ∙ ap (closing.close_head at (head_reading types s0 name)) (same_head types s0 s1 h adds))
-      ∙ ap (λ l. spine (closing.close_head at (head_reading types s0 name) (head_reading types s0 h)) (terms_of l)) (here ∙ ap (map (λ t. closing.close at (head_reading types s0 name) (tree_of types s0 t))) same)
-      ∙ ap (spine (closing.close_head at (head_reading types s0 name) (head_reading types s0 h))) (sym (close_all_read at (head_reading types s0 name) (tree_of types s0) args))
-      ∙ sym (ap (closing.close at (head_reading types s0 name)) (reads ∙ ap (node_tree types s0) is))
+      ∙ ap (λ x. spine x (terms_of (map (tree_of types s1) closed)))
+      (head ∙ ap (λ y. closing.close_head at (sunk at y) (head_reading types s1 h)) (same_head types s0 s1 name adds) ∙ ap (closing.close_head at by) (same_head types s0 s1 h adds))
+      ∙ ap (λ l. spine (closing.close_head at by (head_reading types s0 h)) (terms_of l)) (here ∙ ap (map (λ t. closing.close at by (tree_of types s0 t))) same)
+      ∙ ap (spine (closing.close_head at by (head_reading types s0 h))) (sym (close_all_read at by (tree_of types s0) args))
+      ∙ sym (ap (closing.close at by) (reads ∙ ap (node_tree types s0) is))
 
 pub shift_index-below : (k i : ℕ) → i < k → i ≡ shift_index k i
 shift_index-below zero i l = absurd (omega (arith, l))

@@ -9,4 +9,6 @@ pub mod Named
 pub mod Among
 pub mod ArgumentNames
 pub mod Closed
+pub mod ToldApart
+pub mod Closings
 pub mod Keeping

@@ -1,5 +1,6 @@
 -- What is found out of shared terms, in the plain words of `ab_solve`: `Readings` says what equations, names and results
--- stand for; the others serve private contracts.
+-- stand for, and `Closing` which names may become bound; the others serve private contracts.
 pub mod Readings
 pub mod Naming
 pub mod Walking
+pub mod Closing

@@ -12,14 +12,14 @@ const FREE: u8 = 32;
 
 /// Terms that a walk has been through, each at the number of binders around it.
 #[derive(Drop)]
-pub(crate) struct Seen {
+pub struct Seen {
     skipped: u8,
     terms: HashSet<(TermId, usize)>,
 }
 
 impl Seen {
     /// Nothing is kept yet.
-    pub(crate) fn new(alloc: Global) -> Seen
+    pub fn new(alloc: Global) -> Seen
         ensures { (t : TermId) (k : ℕ) → has_been result t k ≡ false }
     {
         Seen {
@@ -29,14 +29,14 @@ impl Seen {
     }
 
     /// Whether the term is kept.
-    pub(crate) fn has(&self, term: TermId, depth: usize) -> bool
+    pub fn has(&self, term: TermId, depth: usize) -> bool
         ensures { result ≡ has_been self.now term depth }
     {
         self.terms.contains(&(term, depth))
     }
 
     /// Keeps the term, once the walk is no short one.
-    pub(crate) fn keep(&mut self, term: TermId, depth: usize) -> Result<(), AllocError>
+    pub fn keep(&mut self, term: TermId, depth: usize) -> Result<(), AllocError>
         ensures { (t : TermId) (k : ℕ) → (has_been self.new t k ≡ has_been self.old t k) ⊎ ((t ≡ term) × (k ≡ depth)) }
     {
         if self.skipped < FREE {

@@ -2,6 +2,7 @@ use Rattle.std.proofs.Common.{arith}
 use Rattle.ab_types.specs.Ids.{type_of}
 use Rattle.ab_norm.proofs.Frame.{if_ok, typed_on, typed_from, typed_more}
 use Rattle.ab_patterns.proofs.Among.{abstracted_reads}
+use Rattle.ab_patterns.proofs.ToldApart.{told_by}
 use Rattle.ab_patterns.proofs.closing.+abstracted.Goals as goal
 
 pub returns-in_err-closed-in-Arrow-clause-adds : goal.returns-in_err-closed-in-Arrow-clause-adds
@@ -31,5 +32,6 @@ returns-in_ok-from_text-in-Arrow-clause-reads t c =
     abstracted_reads types c.args.store.now c.abstracted.new.store c.close.new.store c.lam.new.self (type_of types c.in-Arrow.from) (type_of types c.in-Arrow.to) (type_of types c.args.ty)
     c.in_ok-from_text-in-Arrow.field-0 c.args.names.now _ c.args.term c.in_ok-inner-in-Arrow.inner c.in_ok-closed-in-Arrow.closed r c.in-len1-up.len_at_least c.in-Arrow.ensures.reads c.in_ok-inner-in-Arrow.ensures.adds.cells
     c.in_ok-inner-in-Arrow.ensures.reads
-    (c.in_ok-closed-in-Arrow.ensures.reads types c.len.ensures.table c.in_ok-inner-in-Arrow.ensures.adds.typed (c.requires.names 0 _ (omega (arith, c.in-len1-up.len_at_least))))
+    (c.in_ok-closed-in-Arrow.ensures.reads types
+    (told_by types c.abstracted.new.store _ c.len.ensures.table c.in_ok-inner-in-Arrow.ensures.adds.typed (c.requires.names 0 _ (omega (arith, c.in-len1-up.len_at_least)))))
     c.in_ok-from_text-in-Arrow.ensures (made types)) c.lam.ensures.tree

@@ -1,4 +1,4 @@
-use Rattle.std.proofs.Common.{◌-◌, length, slice_index_or, take, drop, arith, sym, subst}
+use Rattle.std.proofs.Common.{◌-◌, length, drop, sym, subst}
 use Rattle.std.specs.List.{All}
 use Rattle.std.proofs.lemmas.List.Elements.{All-take, All-drop, All-push, All-get_or}
 use Rattle.std.proofs.lemmas.Result.{on_ok_weaker}

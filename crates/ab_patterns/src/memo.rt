@@ -1,7 +1,7 @@
 //! What a walk through shared terms keeps, so that it visits each node once at each number of binders.
 ghost use Rattle.std.specs.Prelude.{◌≡◌, ◌⊎◌, ℕ, Some, None};
 ghost use Rattle.ab_store.specs.declared.node.TermId.{TermId};
-ghost use Rattle.ab_closing.specs.Remembering.{answer_of};
+ghost use Rattle.ab_patterns.specs.Closing.{answer_of};
 
 use ab_store::TermId;
 use std::alloc::{AllocError, Global};

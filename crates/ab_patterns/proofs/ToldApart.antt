@@ -1,0 +1,63 @@
+-- Names that are told from other heads.
+use Rattle.std.proofs.Common.{◌≡◌, ◌≢◌, ℕ, Bool, true, false, cond, ◌==◌, ◌&&◌, Decides, refl, ap}
+use Rattle.std.proofs.lemmas.Bool.Decides.{Decides-eqb}
+use Rattle.ab_term.specs.Types.{same_type}
+use Rattle.ab_term.specs.Terms as tree
+use Rattle.ab_term.specs.Substitution.{shift_head}
+use Rattle.ab_term.specs.Closing as closing
+use Rattle.ab_types.specs.Entries.{Table}
+use Rattle.ab_types.specs.Sound.{IsTable}
+use Rattle.ab_types.specs.Ids.{type_of}
+use Rattle.ab_store.specs.declared.node.CellId.{CellId}
+use Rattle.ab_store.specs.declared.node.Head.{Head}
+use Rattle.ab_store.specs.declared.node.Head.TheVariants.{Const, Logic, Nominal, Cell, Index}
+use Rattle.ab_store.specs.Trees.{Contents, head_reading, cell_in}
+use Rattle.ab_store.specs.Naming.{HeadIsTyped, IsTypedBy}
+use Rattle.ab_norm.specs.Growth.{AddsTerms}
+use Rattle.ab_patterns.specs.Closing.{IsToldApart, AreToldApart}
+use Rattle.ab_patterns.proofs.Closed.{closed_other}
+
+pub told_by : (types : Table) (store : Contents) (name : Head) → IsTable types → IsTypedBy types store → HeadIsTyped types name → IsToldApart types store name
+told_by types store (Const k) ok typed named = (ok, typed, named)
+told_by types store (Logic l) ok typed named = (ok, typed, named)
+told_by types store (Nominal m a) ok typed named = (ok, typed, named)
+told_by types store (Index i) ok typed named = (ok, typed, named)
+told_by types store (Cell c) ok typed named = tt
+
+-- in a store with more terms
+pub told_on : (types : Table) (s t : Contents) (name : Head) → AddsTerms s t → IsToldApart types s name → IsToldApart types t name
+told_on types s t (Const k) a h = (h.0, a.typed types h.1, h.2)
+told_on types s t (Logic l) a h = (h.0, a.typed types h.1, h.2)
+told_on types s t (Nominal m b) a h = (h.0, a.typed types h.1, h.2)
+told_on types s t (Index i) a h = (h.0, a.typed types h.1, h.2)
+told_on types s t (Cell c) a h = tt
+
+-- from a head of the store
+pub told_here : (types : Table) (store : Contents) (name head : Head) → IsToldApart types store name → (IsTypedBy types store → HeadIsTyped types head) → AreToldApart types name head
+told_here types store (Const k) head h typed = (h.0, h.2, typed h.1)
+told_here types store (Logic l) head h typed = (h.0, h.2, typed h.1)
+told_here types store (Nominal m a) head h typed = (h.0, h.2, typed h.1)
+told_here types store (Index i) head h typed = (h.0, h.2, typed h.1)
+told_here types store (Cell c) head h typed = tt
+
+-- another head than a cell is only shifted
+other_head : (types : Table) (store : Contents) (at : ℕ) (c : CellId) (h : Head) → h ≢ Cell c → shift_head at (head_reading types store h) ≡ closing.close_head at (head_reading types store (Cell c)) (head_reading types store h)
+other_head types store at c (Const k) n = refl
+other_head types store at c (Logic l) n = refl
+other_head types store at c (Nominal m a) n = refl
+other_head types store at c (Index i) n = refl
+other_head types store at c (Cell d) n = go (d.0 == c.0) (Decides-eqb d.0 c.0)
+  where
+    go : (b : Bool) → Decides b (d.0 ≡ c.0)
+        → tree.variable (record { name = d.0; type = type_of types (cell_in store.cells d).ty })
+        ≡ cond (b && same_type (type_of types (cell_in store.cells d).ty) (type_of types (cell_in store.cells c).ty)) (tree.index at) (tree.variable (record { name = d.0; type = type_of types (cell_in store.cells d).ty }))
+    go true e = absurd (n (ap (λ i. Cell (record { 0 = i })) (e.0 refl)))
+    go false e = refl
+
+-- another head than the name is only shifted
+pub closed_told : (types : Table) (store : Contents) (at : ℕ) (name h : Head) → AreToldApart types name h → h ≢ name → shift_head at (head_reading types store h) ≡ closing.close_head at (head_reading types store name) (head_reading types store h)
+closed_told types store at (Const k) h t n = closed_other types store at (Const k) h t.0 t.1 t.2 n
+closed_told types store at (Logic l) h t n = closed_other types store at (Logic l) h t.0 t.1 t.2 n
+closed_told types store at (Nominal m a) h t n = closed_other types store at (Nominal m a) h t.0 t.1 t.2 n
+closed_told types store at (Index i) h t n = closed_other types store at (Index i) h t.0 t.1 t.2 n
+closed_told types store at (Cell c) h t n = other_head types store at c h n
