@@ -1,13 +1,15 @@
 -- A GOAL IS SPLIT INTO CASES: each case is the goal with what holds there, where some equations are solved. A case may
 -- bring variables of its own. It is made over all variables that were ever made until then.
-use Rattle.std.specs.Prelude.{◌≡◌, ℕ, List, [], ◌∷◌, ◌++◌, map, length, codes}
+use Rattle.std.specs.Prelude.{◌≡◌, ◌≢◌, ℕ, List, [], ◌∷◌, ◌++◌, map, length, All, AllPairs, Contains, codes}
 use Rattle.ab_term.specs.Terms as tree
 use Rattle.ab_term.specs.Variables.{Substitution}
 use Rattle.ab_solve.specs.Replacing.{Cell}
 use Rattle.ab_solve.specs.Solving.{Equation, State, unified, apart, stuck, Solves}
-use Rattle.ab_solve.specs.Meaning.{given}
-use Rattle.ab_logic.specs.Sequents.{Variable, Sequent}
-use Rattle.ab_equate.specs.Solved.{Naming, Named, made, under}
+use Rattle.ab_solve.specs.Meaning.{given, sides, AreTyped}
+use Rattle.ab_logic.specs.Formulas.{IsFormula, HasOneTypeEach}
+use Rattle.ab_logic.specs.Declarations.{Declarations, signature_in}
+use Rattle.ab_logic.specs.Sequents.{Variable, Hypothesis, Sequent, formulas_of, goal_names, in_terms, HoldsOnly}
+use Rattle.ab_equate.specs.Solved.{AreCells, Naming, Named, variables_from, made, under}
 
 pub record Case : Type 0 where
   -- the variables that were there, each known by its place, the goal's among them; and behind them those of the case
@@ -21,6 +23,24 @@ pub record Case : Type 0 where
 
 abbrev pub problem_of : Case → State (List ℕ)
 problem_of c = given c.equations (c.before ++ c.own) c.flexible
+
+-- the variables of the goal, and those of the case
+abbrev pub variables_of : Case → List Variable
+variables_of c = c.goal.variables ++ variables_from (length c.before) c.own
+
+-- THE CASE IS WELL MADE: the formulas of its goal are formulas over these variables, and its equations are typed and over
+-- them; the goal's variables are among those that were there. Names differ as in each sequent.
+pub record IsCase (D : Declarations) (c : Case) : Type 0 where
+  pub cells : AreCells c.before c.goal
+  pub formulas : All (IsFormula (signature_in D)) (formulas_of c.goal)
+  pub closed : All (HoldsOnly (variables_of c)) (formulas_of c.goal)
+  pub numbers_differ : AllPairs (λ (x y : Variable). x.number ≢ y.number) c.goal.variables
+  pub names_differ : AllPairs (λ (x y : Variable). x.name ≢ y.name) c.goal.variables
+  pub labels_differ : AllPairs (λ (h k : Hypothesis). h.name ≢ k.name) c.goal.hypotheses
+  pub one_type : HasOneTypeEach (goal_names c.goal)
+  pub typed : AreTyped (signature_in D) c.equations
+  pub over : All (HoldsOnly (variables_of c)) (sides c.equations)
+  pub flexible : All (Contains (map in_terms (variables_of c))) c.flexible
 
 -- a variable, as it is known by its place
 abbrev pub cell_for : Variable → Cell (List ℕ)
@@ -49,6 +69,10 @@ IsOpen c i = Solves (codes "x") (problem_of c) (stuck i)
 -- a case, by the variables that were made until then
 abbrev pub CaseOver : Type 0
 CaseOver = List (Cell (List ℕ)) → Case
+
+-- the case is well made over all variables that there may be by then: these, and any that were made behind them
+abbrev pub IsCaseOver : Declarations → List (Cell (List ℕ)) → CaseOver → Type 0
+IsCaseOver D cells c = (more : List (Cell (List ℕ))) → ((c (cells ++ more)).before ≡ cells ++ more) × IsCase D (c (cells ++ more))
 
 -- THE GOALS: one for each case that arises, in order
 pub data Split (IsName : Naming) : List (Cell (List ℕ)) → List CaseOver → List Sequent → Type 0 where
