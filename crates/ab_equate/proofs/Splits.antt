@@ -144,3 +144,33 @@ split_sequents D IsName new cells (c ∷ cs) (g ∷ gs) all (arises {after = aft
     let grown : after ≡ cells ++ ((c cells).own ++ r.2.0) = r.2.1 ∙ append_assoc (c cells).before (c cells).own r.2.0 ∙ ap (λ (l : Cells). l ++ ((c cells).own ++ r.2.0)) well.0 in
     All-cons (IsSequent D) g gs r.0
     (split_sequents D IsName new after cs gs (subst (λ (l : Cells). All (IsCaseOver D l) cs) (sym grown) (more_cases D cells ((c cells).own ++ r.2.0) cs (All-tail (IsCaseOver D cells) c cs all))) rest)
+
+-- SO FAR: these goals came of these cases, and over these variables go on all that are still to come
+pub record Passes (IsName : Naming) (cells : Cells) (cs : List CaseOver) (gs : List Sequent) (after : Cells) : Type 0 where
+  pub splits : (ds : List CaseOver) (hs : List Sequent) → Split IsName after ds hs → Split IsName cells (cs ++ ds) (gs ++ hs)
+  pub stops : (ds : List CaseOver) (i : ℕ) → IsUnsplit IsName after ds i → IsUnsplit IsName cells (cs ++ ds) i
+
+pub passes_none : (IsName : Naming) (cells : Cells) → Passes IsName cells [] [] cells
+passes_none IsName cells = record { splits = λ ds hs d. d; stops = λ ds i u. u }
+
+module _ (IsName : Naming) (cells : Cells) (cs : List CaseOver) (gs : List Sequent) (after : Cells) (so_far : Passes IsName cells cs gs after) where
+  pub passes_never : (c : CaseOver) → NeverArises (c after) → Passes IsName cells (cs ++ c ∷ []) gs after
+  passes_never c n = record {
+    splits = λ ds hs d. subst (λ l. Split IsName cells l (gs ++ hs)) (sym (append_assoc cs (c ∷ []) ds)) (so_far.splits (c ∷ ds) hs (never n d));
+    stops = λ ds i u. subst (λ l. IsUnsplit IsName cells l i) (sym (append_assoc cs (c ∷ []) ds)) (so_far.stops (c ∷ ds) i (past_never n u));
+  }
+
+  pub passes_goal : (c : CaseOver) (more : Cells) (g : Sequent) → Arises IsName (c after) more g → Passes IsName cells (cs ++ c ∷ []) (gs ++ g ∷ []) more
+  passes_goal c more g a = record {
+    splits = λ ds hs d.
+        subst (λ l. Split IsName cells l ((gs ++ g ∷ []) ++ hs)) (sym (append_assoc cs (c ∷ []) ds))
+        (subst (Split IsName cells (cs ++ c ∷ ds)) (sym (append_assoc gs (g ∷ []) hs)) (so_far.splits (c ∷ ds) (g ∷ hs) (arises a d)));
+    stops = λ ds i u. subst (λ l. IsUnsplit IsName cells l i) (sym (append_assoc cs (c ∷ []) ds)) (so_far.stops (c ∷ ds) i (past_goal a u));
+  }
+
+  -- all cases, or one that is open
+  pub passed_all : Split IsName cells cs gs
+  passed_all = subst (λ l. Split IsName cells l gs) (append-nil cs) (subst (Split IsName cells (cs ++ [])) (append-nil gs) (so_far.splits [] [] done))
+
+  pub passed_open : (c : CaseOver) (ds : List CaseOver) (i : ℕ) → IsOpen (c after) i → IsUnsplit IsName cells (cs ++ c ∷ ds) i
+  passed_open c ds i o = so_far.stops (c ∷ ds) i (here o)
