@@ -59,10 +59,9 @@ fn carry_behind<L>(
 }
 
 /// Solves a case of the goal: the equations, in which the flexible cells may be replaced, and puts the goal under the answer.
-/// `own` are the cells that the case itself brings, in order of age: no cell is younger. Each is flexible, and in the goal
-/// new variables take their places, and those of cells that solving makes, where they are left. Cells may be bound when it
-/// is called, and just those are in the end; in the goal that is answered none of them stands. Unless there is a goal, no
-/// cell is added.
+/// `own` are the cells that the case itself brings, in order of age: no cell is younger, and each is flexible. In the goal
+/// new variables take their places, and those of the cells that solving makes, where they are left. Cells may be bound when
+/// it is called, and just those are in the end. Unless a goal is answered, no cell is added.
 pub fn solve_case<L>(
     alloc: Global,
     world: &mut World,
