@@ -17,5 +17,6 @@ pub mod One
 pub mod Sides
 pub mod Restored
 pub mod Outcomes
+pub mod Splits
 pub mod AtOnce
 pub mod Answering

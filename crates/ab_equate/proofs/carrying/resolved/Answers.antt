@@ -42,3 +42,12 @@ returns-clause-put_in g c =
     (c.from_vec.ensures ∙ c.in_ok-variables.ensures ∙ ap (unbound_of w.store) c.as_slice.ensures) held c.in_ok-conclusion.ensures.held c.requires.goal refl
     (ap (map (hypothesis_at w.types mid)) c.from_vec-2.ensures ∙ c.in_ok-hypotheses.ensures.reads ∙ ap (map (hypothesis_read w.types w.store)) c.as_slice-2.ensures)
     c.in_ok-conclusion.ensures.tree
+
+pub returns-in_err-hypotheses-clause-cells : goal.returns-in_err-hypotheses-clause-cells
+returns-in_err-hypotheses-clause-cells g c = c.resolved_hypotheses.ensures.adds.cells
+
+pub returns-in_err-conclusion-clause-cells : goal.returns-in_err-conclusion-clause-cells
+returns-in_err-conclusion-clause-cells g c = c.copy_resolved.ensures.adds.cells ∙ c.resolved_hypotheses.ensures.adds.cells
+
+pub returns-clause-cells : goal.returns-clause-cells
+returns-clause-cells g c = c.copy_resolved.ensures.adds.cells ∙ c.resolved_hypotheses.ensures.adds.cells
