@@ -108,7 +108,7 @@ filter_alike p q (x ∷ xs) all =
 
 -- the formulas of a sequent are terms
 same_signature : (w : World) → IsMeanwhile w → signature_in (declarations_of w) ≡ signature w.types
-same_signature w is = ap type_in (constants_are w 0 w.theorems is.order)
+same_signature w is = ap type_in (constants_are w 0 w.additions is.order)
 
 formula_term : (w : World) → IsMeanwhile w → (t : TermId) → Holds w t → IsFormula (signature_in (declarations_of w)) (read w t) → IsTerm w.types w.store [] t prop
 formula_term w is t h f = (h, subst (λ sg. HasType sg [] (read w t) prop) (same_signature w is) f.typed)

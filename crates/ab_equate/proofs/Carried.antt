@@ -28,7 +28,7 @@ use Rattle.ab_logic.specs.Names.{IsNoVariable}
 use Rattle.ab_equate.specs.Solved.{AreCells, stays, made, Naming, Named, variable_term, renaming, under, Becomes, AreApart, AreStuck, variables_from}
 use Rattle.ab_equate.specs.Cases.{Case, problem_of, variables_of, cell_for, IsCase, Arises, NeverArises, IsOpen}
 use Rattle.ab_equate.proofs.Idempotent.{none_replaced, where_from}
-use Rattle.ab_equate.proofs.Images.{image_formula}
+use Rattle.ab_logic.proofs.Images.{image_formula}
 use Rattle.ab_equate.proofs.One.{one_place}
 use Rattle.ab_equate.proofs.Renaming.{behind_cell, made_listed, renamed_some, renamed_value, renaming_typed, renamed_numbers, renamed_names}
 

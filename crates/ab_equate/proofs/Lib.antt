@@ -8,7 +8,6 @@ pub mod CarryingOver
 pub mod Live
 pub mod Leaves
 pub mod Idempotent
-pub mod Images
 pub mod Renaming
 pub mod Carried
 pub mod Places

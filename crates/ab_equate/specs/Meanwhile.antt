@@ -12,11 +12,11 @@ use Rattle.ab_store.specs.Naming.{IsTypedBy}
 use Rattle.ab_unifying.specs.Problem.{cells_read, variables_read, equations_read}
 use Rattle.ab_unifying.specs.Changed.{Grows}
 use Rattle.ab_logic.specs.Sequents.{Variable, Hypothesis, Sequent, in_terms, over}
-use Rattle.ab_logic.specs.Worlds.{Holds, variable_of, CameInOrder, declarations_of}
+use Rattle.ab_logic.specs.Worlds.{variable_of, CameInOrder, IsKept, declarations_of}
 use Rattle.ab_logic.specs.Readings.{sequent_of, HoldsSequent}
 use Rattle.ab_logic.specs.Names.{IsNamedFor}
 use Rattle.ab_logic.specs.declared.world.World.{World}
-use Rattle.ab_logic.specs.declared.theorems.Theorem.{Theorem}
+use Rattle.ab_logic.specs.declared.additions.Added.{Added}
 use Rattle.ab_logic.specs.declared.sequent.Sequent.{Sequent as Kept}
 use Rattle.ab_logic.specs.declared.sequent.Hypothesis.{Hypothesis as KeptHypothesis}
 use Rattle.ab_equate.specs.Solved.{Named, variable_term, renaming, changed}
@@ -25,14 +25,14 @@ use Rattle.ab_equate.specs.Cases.{Case, cell_for}
 -- all that is true of every world, but that no cell is bound
 pub record IsMeanwhile (w : World) : Type 0 where
   pub typed : IsTypedBy w.types w.store
-  pub theorems : All (λ (t : Theorem). Holds w t.entry.formula) w.theorems
-  pub order : CameInOrder w.types 0 w.theorems
+  pub additions : All (λ (a : Added). IsKept w.types w.store a.what) w.additions
+  pub order : CameInOrder w.types 0 w.additions
 
 -- what a call leaves: types, terms and cells are added at most, and just those cells are bound that were before
 pub record ComesBack (old new : World) : Type 0 where
   pub grows : Grows old.types old.store new.types new.store
   pub bindings : new.store.bindings ≡ old.store.bindings
-  pub theorems : new.theorems ≡ old.theorems
+  pub additions : new.additions ≡ old.additions
 
 module _ (types : Table) (store : Contents) where
   -- a hypothesis as it stands, and with the bindings put in
@@ -76,7 +76,7 @@ module _ (w : World) where
 -- terms and cells are added, and cells may get bound
 pub record GoesOn (old new : World) : Type 0 where
   pub types : new.types ≡ old.types
-  pub theorems : new.theorems ≡ old.theorems
+  pub additions : new.additions ≡ old.additions
   pub grows : Grows old.types old.store new.types new.store
 
 -- the variable's cell is bound to nothing

@@ -31,7 +31,7 @@ returns-in_err-made-clause-no_cell g c = λ none.
 pub returns-in_err-made-clause-declared : goal.returns-in_err-made-clause-declared
 returns-in_err-made-clause-declared g c =
     let w = c.args.world.now in
-    let u : World = record { types = c.unify.new.types; store = c.unify.new.store; theorems = w.theorems } in
+    let u : World = record { types = c.unify.new.types; store = c.unify.new.store; additions = w.additions } in
     declarations_same w u c.requires.world c.unify.ensures.grows refl
 
 pub returns-in-Apart-clause-no_cell : goal.returns-in-Apart-clause-no_cell
@@ -43,7 +43,7 @@ returns-in-Apart-clause-no_cell g c = λ none.
 pub returns-in-Apart-clause-declared : goal.returns-in-Apart-clause-declared
 returns-in-Apart-clause-declared g c =
     let w = c.args.world.now in
-    let u : World = record { types = c.unify.new.types; store = c.unify.new.store; theorems = w.theorems } in
+    let u : World = record { types = c.unify.new.types; store = c.unify.new.store; additions = w.additions } in
     declarations_same w u c.requires.world c.unify.ensures.grows refl
 
 pub returns-clause-no_cell : goal.returns-clause-no_cell
@@ -55,14 +55,14 @@ returns-clause-no_cell g c = λ none.
 pub returns-clause-declared : goal.returns-clause-declared
 returns-clause-declared g c =
     let w = c.args.world.now in
-    let u : World = record { types = c.unify.new.types; store = c.unify.new.store; theorems = w.theorems } in
+    let u : World = record { types = c.unify.new.types; store = c.unify.new.store; additions = w.additions } in
     declarations_same w u c.requires.world c.unify.ensures.grows refl
 
 -- WHERE IT HAS ONE
 pub carry_behind-requires-clause-world : goal.carry_behind-requires-clause-world
 carry_behind-requires-clause-world g c =
     let w = c.args.world.now in
-    let u : World = record { types = c.unify.new.types; store = c.unify.new.store; theorems = w.theorems } in
+    let u : World = record { types = c.unify.new.types; store = c.unify.new.store; additions = w.additions } in
     then_meanwhile w u c.requires.world c.unify.ensures.grows refl
 
 pub carry_behind-requires-clause-behind : goal.carry_behind-requires-clause-behind
@@ -116,20 +116,20 @@ returns-in-Ok-clause-back g c =
     record {
       grows = undone_grows w.types x.types w.store x.store c.rewind.new.self g1 c.mark-mark.result m.has m.bindings e.nodes e.cells e.bindings (e.typed x.types goes.grows.typed) e.marks;
       bindings = undone_bindings w.types x.types w.store x.store c.rewind.new.self g1 c.mark-mark.result m.has m.bindings e.nodes e.cells e.bindings (e.typed x.types goes.grows.typed) e.marks;
-      theorems = goes.theorems;
+      additions = goes.additions;
     }
 
 pub returns-in-Ok-clause-declared : goal.returns-in-Ok-clause-declared
 returns-in-Ok-clause-declared g c =
     let w = c.args.world.now in
     let x = c.carry_behind.new.world in
-    let v : World = record { types = x.types; store = c.rewind.new.self; theorems = x.theorems } in
+    let v : World = record { types = x.types; store = c.rewind.new.self; additions = x.additions } in
     let goes = c.carry_behind.ensures.goes in
     let e = c.rewind.ensures in
     let m = c.mark-mark.ensures in
     let g1 : Grows w.types w.store x.types x.store = grows_on w.types c.unify.new.types x.types w.store c.unify.new.store x.store c.unify.ensures.grows goes.grows in
     declarations_same w v c.requires.world
-    (undone_grows w.types x.types w.store x.store c.rewind.new.self g1 c.mark-mark.result m.has m.bindings e.nodes e.cells e.bindings (e.typed x.types goes.grows.typed) e.marks) goes.theorems
+    (undone_grows w.types x.types w.store x.store c.rewind.new.self g1 c.mark-mark.result m.has m.bindings e.nodes e.cells e.bindings (e.typed x.types goes.grows.typed) e.marks) goes.additions
 
 pub returns-in-Ok-clause-no_cell : goal.returns-in-Ok-clause-no_cell
 returns-in-Ok-clause-no_cell g c = λ none. absurd (none c.in-Ok.carried refl)
@@ -139,9 +139,9 @@ returns-in-Ok-clause-unified g c = λ k is.
     let w = c.args.world.now in
     let more = c.unify.new.types in
     let now = c.unify.new.store in
-    let u : World = record { types = more; store = now; theorems = w.theorems } in
+    let u : World = record { types = more; store = now; additions = w.additions } in
     let x = c.carry_behind.new.world in
-    let v : World = record { types = x.types; store = c.rewind.new.self; theorems = x.theorems } in
+    let v : World = record { types = x.types; store = c.rewind.new.self; additions = x.additions } in
     let s = c.args.goal in
     let own = c.args.own.now in
     let made = c.in-Unified.made in
@@ -181,20 +181,20 @@ returns-in-Unified-clause-back g c =
     record {
       grows = cut_grows w.types x.types w.store x.store c.cut_to.new.self c.mark-mark.result c.requires.world.typed g1 m.has m.bindings m.nodes m.cells e.bindings e.nodes e.cells m.typed e.typed e.marks;
       bindings = (cut_as_before w.types x.types w.store x.store c.cut_to.new.self c.mark-mark.result c.requires.world.typed g1 m.has m.bindings m.nodes m.cells e.bindings e.nodes e.cells).2;
-      theorems = goes.theorems;
+      additions = goes.additions;
     }
 
 pub returns-in-Unified-clause-declared : goal.returns-in-Unified-clause-declared
 returns-in-Unified-clause-declared g c =
     let w = c.args.world.now in
     let x = c.carry_behind.new.world in
-    let v : World = record { types = x.types; store = c.cut_to.new.self; theorems = x.theorems } in
+    let v : World = record { types = x.types; store = c.cut_to.new.self; additions = x.additions } in
     let goes = c.carry_behind.ensures.goes in
     let e = c.cut_to.ensures in
     let m = c.mark-mark.ensures in
     let g1 : Grows w.types w.store x.types x.store = grows_on w.types c.unify.new.types x.types w.store c.unify.new.store x.store c.unify.ensures.grows goes.grows in
     declarations_same w v c.requires.world
-    (cut_grows w.types x.types w.store x.store c.cut_to.new.self c.mark-mark.result c.requires.world.typed g1 m.has m.bindings m.nodes m.cells e.bindings e.nodes e.cells m.typed e.typed e.marks) goes.theorems
+    (cut_grows w.types x.types w.store x.store c.cut_to.new.self c.mark-mark.result c.requires.world.typed g1 m.has m.bindings m.nodes m.cells e.bindings e.nodes e.cells m.typed e.typed e.marks) goes.additions
 
 pub returns-in-Unified-clause-no_cell : goal.returns-in-Unified-clause-no_cell
 returns-in-Unified-clause-no_cell g c = λ none.
