@@ -1,6 +1,6 @@
 -- What is kept is a clause of case analysis. Hints make no difference to that.
-use Rattle.std.proofs.Common.{◌≡◌, ℕ, suc, List, [], ◌∷◌, ◌++◌, map, length, codes, refl, sym, ap, ◌∙◌, subst}
-use Rattle.ab_term.specs.Terms.{Term, Variable}
+use Rattle.std.proofs.Common.{◌≡◌, ℕ, suc, List, [], ◌∷◌, ◌++◌, map, length, codes, refl, ap, subst}
+use Rattle.ab_term.specs.Terms.{Variable}
 use Rattle.ab_term.specs.Typing.{Signature}
 use Rattle.ab_term.specs.Variables.{image, variables, variables_of_all}
 use Rattle.ab_term.specs.Sameness.{same_number}
@@ -9,7 +9,7 @@ use Rattle.ab_solve.specs.Replacing.{Cell}
 use Rattle.ab_cases.specs.Clauses as cases
 use Rattle.ab_cases.specs.Clauses.{numbered, put_together, IsClause, Within}
 use Rattle.ab_cases.specs.Alternatives.{cells_of}
-use Rattle.ab_cases.specs.Prefixes.{prefix, opened, predicate_of, arguments_of, own_terms, clause_of}
+use Rattle.ab_cases.specs.Prefixes.{prefix, opened, predicate_of, arguments_of, own_terms}
 use Rattle.ab_cases.proofs.Prefixed.{kept_clause}
 use Rattle.ab_clauses.specs.Kept.{ClauseVariable, Clause}
 use Rattle.ab_clauses.specs.Cases.{in_terms, cell_of, case_of, IsWellKept}

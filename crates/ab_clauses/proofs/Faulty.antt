@@ -1,5 +1,5 @@
 -- The first fault of a list of clauses, found at a place.
-use Rattle.std.proofs.Common.{◌≡◌, ◌↔◌, ℕ, zero, suc, ◌+◌, ◌<◌, ◌≤◌, List, [], ◌∷◌, map, take, length, get_or, Option, Some, None, arith, refl, sym, ap, ◌∙◌, subst}
+use Rattle.std.proofs.Common.{◌≡◌, ◌↔◌, ℕ, zero, suc, ◌+◌, ◌<◌, ◌≤◌, List, [], ◌∷◌, map, take, length, get_or, Some, None, arith, refl, sym, ap, ◌∙◌, subst}
 use Rattle.std.specs.List.{All}
 use Rattle.std.proofs.lemmas.List.{length-map}
 use Rattle.std.proofs.lemmas.List.Elements.{All-head, All-tail, All-more}
@@ -8,7 +8,7 @@ use Rattle.ab_types.specs.declared.ids.ConstId.{ConstId}
 use Rattle.ab_store.specs.Trees.{Contents}
 use Rattle.ab_clauses.specs.Kept.{Clause}
 use Rattle.ab_clauses.specs.Faults.{Fault, IsRight, HasFault, FirstFault, here, later, IsRightBlock, IsFaultOf}
-use Rattle.ab_clauses.specs.Readings.{name_of, fault_of, clause_of, block_of}
+use Rattle.ab_clauses.specs.Readings.{name_of, clause_of, block_of}
 use Rattle.ab_clauses.specs.declared.kept.ClauseTerm.{ClauseTerm}
 use Rattle.ab_clauses.specs.declared.kept.Block.{Block}
 use Rattle.ab_clauses.specs.declared.faults.ClauseFault.{ClauseFault}

@@ -3,7 +3,7 @@ use Rattle.std.proofs.Common.{◌≡◌, ◌≢◌, ◌↔◌, ℕ, List, [], �
 use Rattle.std.specs.List.{All, list_any}
 use Rattle.ab_term.specs.Types.{Ty}
 use Rattle.ab_term.specs.Logical as plain
-use Rattle.ab_term.specs.Terms.{logical, lam, spine, Terms, no_terms, term, terms_of}
+use Rattle.ab_term.specs.Terms.{logical, lam, spine, Terms, term, terms_of}
 use Rattle.ab_types.specs.Entries.{Table}
 use Rattle.ab_types.specs.Ids.{type_of}
 use Rattle.ab_types.specs.declared.ids.ConstId.{ConstId}

@@ -1,10 +1,11 @@
 mod Bounds
 mod Walks
 mod Sets
-mod Names
+pub mod Names
 mod Looking
 mod Keeping
 mod Headed
 mod Faulty
 mod Single
-mod Cased
+pub mod Cased
+pub mod Proposing

@@ -1,10 +1,10 @@
 -- A definition's first fault is one.
-use Rattle.std.proofs.Common.{◌≡◌, ℕ, suc, List, [], ◌∷◌, refl, sym, ap, ◌∙◌}
+use Rattle.std.proofs.Common.{◌≡◌, ℕ, suc, List, [], ◌∷◌, refl, ap}
 use Rattle.std.specs.List.{All}
 use Rattle.std.proofs.lemmas.List.Elements.{All-head, All-tail}
 use Rattle.ab_clauses.specs.Kept.{Clause}
 use Rattle.ab_clauses.specs.Stratification.{left_of_arrows, constants}
-use Rattle.ab_clauses.specs.Faults.{Fault, bad_head, not_stratified, IsRight, HasFault, in_head, in_body, FirstFault, here, later}
+use Rattle.ab_clauses.specs.Faults.{Fault, not_stratified, IsRight, HasFault, in_head, in_body, FirstFault, here, later}
 use Rattle.ab_clauses.proofs.Names.{not_avoided, one_first}
 
 module _ (ps : List (List ℕ)) where

@@ -1,6 +1,6 @@
 -- What may be wrong with the clauses of a definition, and what is told of them: the first fault, clause by clause, in
 -- each the head before the body.
-use Rattle.std.specs.Prelude.{ℕ, suc, List, [], ◌∷◌, All}
+use Rattle.std.specs.Prelude.{ℕ, suc, List, ◌∷◌, All}
 use Rattle.ab_clauses.specs.Kept.{Clause, Block}
 use Rattle.ab_clauses.specs.Stratification.{left_of_arrows, constants, AvoidAll, IsFirstOf}
 use Rattle.ab_clauses.specs.Heads.{IsHeadOf}

@@ -5,5 +5,6 @@ pub mod Heads
 pub mod Faults
 pub mod Readings
 pub mod Cases
+pub mod Proposed
 pub mod Parts
 pub mod Looked

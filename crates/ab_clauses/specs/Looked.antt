@@ -1,5 +1,5 @@
 -- What is known of terms that were looked at. Public contracts don't speak of this.
-use Rattle.std.specs.Prelude.{◌≡◌, ℕ, List, find, bytes_eq, Option, Some, None, All}
+use Rattle.std.specs.Prelude.{◌≡◌, ℕ, List, find, bytes_eq, Option, None, All}
 use Rattle.std.specs.List.{list_any}
 use Rattle.ab_types.specs.Entries.{Table}
 use Rattle.ab_store.specs.Trees.{Contents, tree_of}

@@ -20,6 +20,11 @@ module _ (types : Table) where
   fault_of (BadHead number) = bad_head number
   fault_of (NotStratified p) = not_stratified (name_of p)
 
+  -- the predicate that it names is the table's
+  abbrev pub HoldsFault : ClauseFault → Type 0
+  HoldsFault (BadHead number) = Unit {0}
+  HoldsFault (NotStratified p) = HoldsConstant types p
+
   module _ (store : Contents) where
     abbrev pub variable_of : CellId → ClauseVariable
     variable_of c = record { number = c.0; type = type_of types (cell_of store c).ty; hint = (cell_of store c).hint }

@@ -1,9 +1,9 @@
 //! The first fault of a definition's clauses.
-ghost use Rattle.std.specs.Prelude.{◌≡◌, ◌↔◌, map, Option, Some, None, IfOk, OnOk, All};
+ghost use Rattle.std.specs.Prelude.{◌≡◌, ◌↔◌, map, Option, Some, None, IfOk, IfSome, OnOk, All};
 ghost use Rattle.ab_types.specs.Ids.{HoldsConstant};
 ghost use Rattle.ab_store.specs.Naming.{IsTypedBy};
 ghost use Rattle.ab_clauses.specs.Faults.{IsRight, HasFault, IsRightBlock, IsFaultOf};
-ghost use Rattle.ab_clauses.specs.Readings.{name_of, fault_of, clause_of, block_of, HoldsClause, HoldsBlock};
+ghost use Rattle.ab_clauses.specs.Readings.{name_of, fault_of, clause_of, block_of, HoldsFault, HoldsClause, HoldsBlock};
 ghost use Rattle.ab_clauses.specs.Looked.{AreClear, AreKeeping};
 ghost use Rattle.ab_clauses.specs.declared.faults.ClauseFault.{ClauseFault as AFault};
 
@@ -35,6 +35,7 @@ pub fn first_fault(
     requires block { HoldsBlock types.now store.now block.now }
     ensures none { IfOk result (λ fault. (fault ≡ None) ↔ IsRightBlock (block_of types.now store.now block.now)) }
     ensures first { IfOk result (λ fault. (f : AFault) → fault ≡ Some f → IsFaultOf (block_of types.now store.now block.now) (fault_of types.now f)) }
+    ensures held { IfOk result (λ fault. IfSome fault (HoldsFault types.now)) }
 {
     let predicates = block.predicates.as_slice();
     let clauses = block.clauses.as_slice();
@@ -75,6 +76,7 @@ fn clause_fault(
     ensures none { IfOk result (λ fault. fault ≡ None → IsRight (map (name_of types.now) predicates.now) (clause_of types.now store.now clause.now)) }
     ensures some { IfOk result (λ fault. (f : AFault) → fault ≡ Some f →
         HasFault (map (name_of types.now) predicates.now) number (clause_of types.now store.now clause.now) (fault_of types.now f)) }
+    ensures held { IfOk result (λ fault. IfSome fault (HoldsFault types.now)) }
     ensures cleared { OnOk result (AreClear (map (name_of types.now) predicates.now) types.now store.now cleared.new) }
     ensures spots { OnOk result (AreKeeping store.now spots.new) }
 {

@@ -1,5 +1,5 @@
 //! Which predicate stands to the left of an arrow.
-ghost use Rattle.std.specs.Prelude.{◌≡◌, List, map, IfOk, OnOk, All, bytes_eq};
+ghost use Rattle.std.specs.Prelude.{◌≡◌, List, map, IfOk, IfSome, OnOk, All, bytes_eq};
 ghost use Rattle.std.specs.List.{list_any};
 ghost use Rattle.std.specs.Option.{option_map};
 ghost use Rattle.ab_types.specs.Entries.{Table};
@@ -44,6 +44,7 @@ pub fn first_in(
     requires cleared { AreClear (map (name_of types.now) predicates.now) types.now store.now cleared.old }
     ensures first { IfOk result (λ found. option_map (name_of types.now) found
         ≡ first_of (map (name_of types.now) predicates.now) (constants (part_of part) (tree_of types.now store.now id))) }
+    ensures held { IfOk result (λ found. IfSome found (HoldsConstant types.now)) }
     ensures cleared { OnOk result (AreClear (map (name_of types.now) predicates.now) types.now store.now cleared.new) }
 {
     if cleared.has(part, id) {
@@ -73,6 +74,7 @@ fn first_in_node(
     requires cleared { AreClear (map (name_of types.now) predicates.now) types.now store.now cleared.old }
     ensures first { IfOk result (λ found. option_map (name_of types.now) found
         ≡ first_of (map (name_of types.now) predicates.now) (constants (part_of part) (tree_of types.now store.now id))) }
+    ensures held { IfOk result (λ found. IfSome found (HoldsConstant types.now)) }
     ensures cleared { OnOk result (AreClear (map (name_of types.now) predicates.now) types.now store.now cleared.new) }
 {
     match store.view(id) {
@@ -113,6 +115,7 @@ fn first_in_all(
     ensures first { IfOk result (λ found. option_map (name_of types.now) found
         ≡ first_of (map (name_of types.now) predicates.now)
         (constants_of_all (part_of first) (part_of others) (terms_of (map (tree_of types.now store.now) ids.now)))) }
+    ensures held { IfOk result (λ found. IfSome found (HoldsConstant types.now)) }
     ensures cleared { OnOk result (AreClear (map (name_of types.now) predicates.now) types.now store.now cleared.new) }
 {
     let mut part = first;
@@ -134,8 +137,9 @@ fn own_constant(
 ) -> Option<ConstId>
     requires predicates { All (HoldsConstant types.now) predicates.now }
     requires head { HeadIsTyped types.now head }
-    ensures { (cells : List CellEntry) → option_map (name_of types.now) result
+    ensures reads { (cells : List CellEntry) → option_map (name_of types.now) result
         ≡ first_of (map (name_of types.now) predicates.now) (own_constant (part_of part) (head_in types.now cells head)) }
+    ensures held { IfSome result (HoldsConstant types.now) }
 {
     match part {
         Part::LeftOfArrows => None,

@@ -14,6 +14,7 @@ use Rattle.ab_store.specs.Trees.{Read, Contents, HoldsCell}
 use Rattle.ab_store.specs.Reading.{binding_of}
 use Rattle.ab_store.specs.Bindings.{IsUnbound}
 use Rattle.ab_store.proofs.Kept.{unbound_above}
+use Rattle.ab_unifying.specs.Problem.{cell_read}
 use Rattle.ab_logic.specs.Sequents.{Variable, Hypothesis, Sequent}
 use Rattle.ab_logic.specs.Worlds.{variable_of, declarations_of}
 use Rattle.ab_logic.specs.Readings.{sequent_of, HoldsSequent}
@@ -78,7 +79,7 @@ same_changed f g same xs s =
     ∙ ap (λ F. record { variables = xs; hypotheses = with g s.hypotheses; conclusion = F; counter = s.counter }) (same s.conclusion)
 
 module _ (w v u : World) (made : List CellId) (s k g : Kept) (is : IsMeanwhile w) (held : HoldsSequent w s) (there : All (HoldsCell w.store) made) (apart : All (λ (c : CellId). All (λ (d : CellId). d.0 < c.0) s.variables) made)
-    (stand : StandForAll w (map (variable_of w) (unbound_of w.store made)) s v k) (put : IsPutIn v k u g) where
+    (stand : StandForAll w (map (variable_of w) (unbound_of w.store made)) s v k) (put : IsPutIn v k u g) (types : u.types ≡ v.types) (cells : u.store.cells ≡ v.store.cells) where
   abbrev xs : List Variable
   xs = map (variable_of w) (unbound_of w.store made)
 
@@ -129,4 +130,5 @@ module _ (w v u : World) (made : List CellId) (s k g : Kept) (is : IsMeanwhile w
             ∙ ap (λ ps. changed (λ F. one_by_one same_number ps F) (filter (is_left w.store) S.variables ++ ys) S) stand.pairs
             ∙ same_changed (λ F. one_by_one same_number (bound_in w ++ renaming xs ys) F) (both xs) (λ F. one_by_one-append same_number (bound_in w) (renaming xs ys) F) (filter (is_left w.store) S.variables ++ ys) S
             ∙ ap (λ ps. changed (both ps) (filter (is_left w.store) S.variables ++ ys) S) listed,
+        ap (λ cs. map (cell_read u.types) cs) cells ∙ ap (λ T. map (cell_read T) v.store.cells) types ∙ stand.cells,
       )

@@ -18,18 +18,18 @@ use Rattle.ab_norm.specs.Growth.{AddsTerms}
 use Rattle.ab_unifying.specs.Changed.{Grows}
 use Rattle.ab_unifying.proofs.Growth.{grows_none, grows_on}
 use Rattle.ab_unifying.proofs.Put.{put_grows}
-use Rattle.ab_logic.specs.Worlds.{read, Holds, HoldsCell, variable_of, declared_from, declarations_of, IsWorld}
+use Rattle.ab_logic.specs.Worlds.{read, Holds, HoldsCell, variable_of, declared_from, declarations_of, IsKept, IsWorld}
 use Rattle.ab_logic.specs.Readings.{hypothesis_of, sequent_of, HoldsSequent}
 use Rattle.ab_logic.specs.declared.world.World.{World}
-use Rattle.ab_logic.specs.declared.theorems.Theorem.{Theorem}
+use Rattle.ab_logic.specs.declared.additions.Added.{Added}
 use Rattle.ab_logic.specs.declared.sequent.Sequent.{Sequent as Kept}
 use Rattle.ab_logic.specs.declared.sequent.Hypothesis.{Hypothesis}
-use Rattle.ab_logic.proofs.Declaring.{declared_more, order_more}
+use Rattle.ab_logic.proofs.Blocks.{all_kept, declared_more, order_more}
 use Rattle.ab_logic.proofs.Growing.{map_same}
 use Rattle.ab_equate.specs.Meanwhile.{IsMeanwhile, GoesOn}
 
 pub world_meanwhile : (w : World) → IsWorld w → IsMeanwhile w
-world_meanwhile w is = record { typed = is.typed; theorems = is.theorems; order = is.order }
+world_meanwhile w is = record { typed = is.typed; additions = is.additions; order = is.order }
 
 -- goals read as before, where their terms and cells do
 module _ (w v : World) (ids : (t : TermId) → Holds w t → Holds v t) (reads : (t : TermId) → Holds w t → read v t ≡ read w t)
@@ -82,25 +82,25 @@ module _ (w v : World) (goes : GoesOn w v) where
     pub still_meanwhile : IsMeanwhile v
     still_meanwhile = record {
       typed = goes.grows.typed;
-      theorems =
-          subst (λ (xs : List Theorem). All (λ (t : Theorem). Holds v t.entry.formula) xs) (sym goes.theorems)
-          (All-weaker (λ (t : Theorem). Holds w t.entry.formula) (λ (t : Theorem). Holds v t.entry.formula) (λ t. goes_ids t.entry.formula) w.theorems is.theorems);
-      order = rw goes.theorems (order_more w v [] none_more goes_reads 0 w.theorems is.order);
+      additions =
+          subst (λ (xs : List Added). All (λ (a : Added). IsKept v.types v.store a.what) xs) (sym goes.additions)
+          (all_kept w v [] none_more goes_ids goes_reads goes_cell_ids goes_cells w.additions is.additions);
+      order = rw goes.additions (order_more w v [] none_more goes_ids goes_reads goes_cell_ids goes_cells 0 w.additions is.order);
     }
 
     pub same_declarations : declarations_of v ≡ declarations_of w
     same_declarations =
-        ap (declared_from v 0) goes.theorems
-        ∙ declared_more w v [] none_more goes_reads 0 w.theorems is.order is.theorems
+        ap (declared_from v 0) goes.additions
+        ∙ declared_more w v [] none_more goes_ids goes_reads goes_cell_ids goes_cells 0 w.additions is.order is.additions
         ∙ append-nil (declarations_of w)
 
 pub goes_not : (w : World) → IsMeanwhile w → GoesOn w w
-goes_not w is = record { types = refl; theorems = refl; grows = grows_none w.types w.store is.typed }
+goes_not w is = record { types = refl; additions = refl; grows = grows_none w.types w.store is.typed }
 
 pub goes_on : (u v w : World) → GoesOn u v → GoesOn v w → GoesOn u w
 goes_on u v w a b = record {
   types = b.types ∙ a.types;
-  theorems = b.theorems ∙ a.theorems;
+  additions = b.additions ∙ a.additions;
   grows = grows_on u.types v.types w.types u.store v.store w.store a.grows b.grows;
 }
 
@@ -116,24 +116,24 @@ grows_extended types s t e typed = record {
   marks = λ m h. e.marks m h;
 }
 
-pub goes_extended : (w v : World) → v.types ≡ w.types → v.theorems ≡ w.theorems → IsExtendedBy w.store v.store → IsTypedBy v.types v.store → GoesOn w v
-goes_extended w v types theorems e typed = record {
+pub goes_extended : (w v : World) → v.types ≡ w.types → v.additions ≡ w.additions → IsExtendedBy w.store v.store → IsTypedBy v.types v.store → GoesOn w v
+goes_extended w v types additions e typed = record {
   types = types;
-  theorems = theorems;
+  additions = additions;
   grows = subst (λ T. Grows w.types w.store T v.store) (sym types) (grows_extended w.types w.store v.store e (subst (λ T. IsTypedBy T v.store) types typed));
 }
 
 -- a binding more
-pub goes_put : (types : Table) (old new : Contents) (ts : List Theorem) → IsTypedBy types new → new.nodes ≡ old.nodes → new.cells ≡ old.cells → ((m : Mark) → HasMark old m → KeepsMark old new m)
-    → GoesOn (record { types = types; store = old; theorems = ts }) (record { types = types; store = new; theorems = ts })
+pub goes_put : (types : Table) (old new : Contents) (ts : List Added) → IsTypedBy types new → new.nodes ≡ old.nodes → new.cells ≡ old.cells → ((m : Mark) → HasMark old m → KeepsMark old new m)
+    → GoesOn (record { types = types; store = old; additions = ts }) (record { types = types; store = new; additions = ts })
 goes_put types old new ts typed nodes cells marks =
     let same = alike old new (length old.nodes) (length old.cells) nodes cells in
     record {
       types = refl;
-      theorems = refl;
+      additions = refl;
       grows = put_grows types old new typed (λ t h. (subst (λ ns. t.0 < length ns) (sym nodes) h, same.trees types t h)) cells marks;
     }
 
-pub goes_terms : (types : Table) (old new : Contents) (ts : List Theorem) → IsTypedBy types old → AddsTerms old new
-    → GoesOn (record { types = types; store = old; theorems = ts }) (record { types = types; store = new; theorems = ts })
-goes_terms types old new ts typed adds = record { types = refl; theorems = refl; grows = grows_extended types old new adds.before (adds.typed types typed) }
+pub goes_terms : (types : Table) (old new : Contents) (ts : List Added) → IsTypedBy types old → AddsTerms old new
+    → GoesOn (record { types = types; store = old; additions = ts }) (record { types = types; store = new; additions = ts })
+goes_terms types old new ts typed adds = record { types = refl; additions = refl; grows = grows_extended types old new adds.before (adds.typed types typed) }

@@ -8,7 +8,6 @@ pub mod CarryingOver
 pub mod Live
 pub mod Leaves
 pub mod Idempotent
-pub mod Images
 pub mod Renaming
 pub mod Carried
 pub mod Places
@@ -17,5 +16,6 @@ pub mod One
 pub mod Sides
 pub mod Restored
 pub mod Outcomes
+pub mod Splits
 pub mod AtOnce
 pub mod Answering

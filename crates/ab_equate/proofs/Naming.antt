@@ -1,12 +1,13 @@
 -- A hint gives one name, which is no variable's.
 use Rattle.std.specs.Prelude.{All, Contains}
-use Rattle.std.proofs.Common.{◌≡◌, inl, inr, ℕ, ◌≤◌, List, [], ◌∷◌, ◌++◌, refl, sym, ◌∙◌, ap, subst}
+use Rattle.std.proofs.Common.{◌≡◌, ◌≢◌, inl, inr, ℕ, ◌+◌, ◌≤◌, List, [], ◌∷◌, ◌++◌, refl, sym, ◌∙◌, ap, subst}
 use Rattle.std.specs.Fmt.{decimal}
 use Rattle.std.proofs.lemmas.Bool.{cases_order}
 use Rattle.std.proofs.lemmas.List.Elements.{All-contains, Contains-append_left, Contains-push}
 use Rattle.ab_logic.specs.Declarations.{Declarations}
-use Rattle.ab_logic.specs.Sequents.{Sequent}
+use Rattle.ab_logic.specs.Sequents.{Variable, Sequent, over}
 use Rattle.ab_logic.specs.Names.{IsLeast, IsNoVariable, IsStem, IsDigit, IsFreeName, IsNamedFor}
+use Rattle.ab_equate.specs.Solved.{Named}
 
 least_once : (P : ℕ → Type 0) (n m : ℕ) → IsLeast P n → IsLeast P m → n ≡ m
 least_once P n m a b = elim (cases_order n m) [ inl e ↦ e | inr r ↦ elim r [ inl l ↦ absurd (b.first n l a.has) | inr l ↦ absurd (a.first m l b.has) ] ]
@@ -55,3 +56,31 @@ one_name D s hint x y (inr a) (inr b) =
 pub named_new : (D : Declarations) (s : Sequent) (hint name : List ℕ) → IsNamedFor D s hint name → IsNoVariable s name
 named_new D s hint name (inl n) = subst (IsNoVariable s) (sym n.1) n.0.no_variable
 named_new D s hint name (inr n) = subst (IsNoVariable s) (sym n.1.4) n.1.3.has.1.no_variable
+
+-- sequents with the same variables take the same names
+free_alike : (D : Declarations) (s t : Sequent) (name : List ℕ) → s.variables ≡ t.variables → IsFreeName D s name → IsFreeName D t name
+free_alike D s t name e f = record { no_variable = subst (All (λ (x : Variable). x.name ≢ name)) e f.no_variable; no_constant = f.no_constant; no_nominal = f.no_nominal }
+
+named_for_alike : (D : Declarations) (s t : Sequent) (hint name : List ℕ) → s.variables ≡ t.variables → IsNamedFor D s hint name → IsNamedFor D t hint name
+named_for_alike D s t hint name e (inl n) = inl (free_alike D s t hint e n.0, n.1)
+named_for_alike D s t hint name e (inr n) =
+    let numbered = n.1 in
+    inr (
+      λ f. n.0 (free_alike D t s hint (sym e) f),
+      (
+        numbered.0,
+        numbered.1,
+        numbered.2,
+        record {
+          has = (numbered.3.has.0, free_alike D s t (numbered.0 ++ decimal numbered.1) e numbered.3.has.1);
+          first = λ m l p. numbered.3.first m l (p.0, free_alike D t s (numbered.0 ++ decimal m) (sym e) p.1);
+        },
+        numbered.4,
+      ),
+    )
+
+pub named_alike : (D : Declarations) (s t : Sequent) (n : ℕ) (xs ys : List Variable) → s.variables ≡ t.variables → Named (IsNamedFor D) s n xs ys → Named (IsNamedFor D) t n xs ys
+named_alike D s t n [] [] e d = tt
+named_alike D s t n [] (y ∷ ys) e d = absurd d
+named_alike D s t n (x ∷ xs) [] e d = absurd d
+named_alike D s t n (x ∷ xs) (y ∷ ys) e d = (d.0, d.1, named_for_alike D s t x.name y.name e d.2, named_alike D (over y s) (over y t) (n + 1) xs ys (ap (λ l. l ++ y ∷ []) e) d.3)

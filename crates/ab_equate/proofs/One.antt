@@ -22,7 +22,7 @@ GivesOne IsName = (s : Sequent) (hint a b : List ℕ) → IsName s hint a → Is
 one_variable : (x y : Variable) → x.number ≡ y.number → x.type ≡ y.type → x.name ≡ y.name → x ≡ y
 one_variable x y a b c = ap (λ n. record { number = n; type = x.type; name = x.name }) a ∙ ap (λ A. record { number = y.number; type = A; name = x.name }) b ∙ ap (λ h. record { number = y.number; type = y.type; name = h }) c
 
-named_once : (IsName : Naming) → GivesOne IsName → (s : Sequent) (n : ℕ) (xs ys zs : List Variable) → Named IsName s n xs ys → Named IsName s n xs zs → ys ≡ zs
+pub named_once : (IsName : Naming) → GivesOne IsName → (s : Sequent) (n : ℕ) (xs ys zs : List Variable) → Named IsName s n xs ys → Named IsName s n xs zs → ys ≡ zs
 named_once IsName one s n [] [] [] a b = refl
 named_once IsName one s n [] [] (z ∷ zs) a b = absurd b
 named_once IsName one s n [] (y ∷ ys) zs a b = absurd a
@@ -68,7 +68,7 @@ pub one_place : (cells : List (Cell (List ℕ))) (s : Sequent) (t u : Read) (i :
 one_place cells s t u i p = subst (λ n. Solves (codes "x") (problem cells s t u) (stuck n)) (stuck_at (codes "x") 0 (record { place = 0; left = t; right = u } ∷ []) cells (map in_terms s.variables) i (refl, tt) p) p
 
 -- WHERE A HINT ALWAYS GIVES A NAME, one of the three always comes
-named_always : (IsName : Naming) → ((s : Sequent) (hint : List ℕ) → (name : List ℕ) × IsName s hint name) → (s : Sequent) (n : ℕ) (xs : List Variable) → (ys : List Variable) × Named IsName s n xs ys
+pub named_always : (IsName : Naming) → ((s : Sequent) (hint : List ℕ) → (name : List ℕ) × IsName s hint name) → (s : Sequent) (n : ℕ) (xs : List Variable) → (ys : List Variable) × Named IsName s n xs ys
 named_always IsName total s n [] = ([], tt)
 named_always IsName total s n (x ∷ xs) =
     let name = total s x.name in

@@ -15,7 +15,7 @@ use Rattle.ab_logic.specs.Sequents.{Hypothesis}
 use Rattle.ab_logic.specs.Worlds.{read, variable_of}
 use Rattle.ab_logic.specs.Readings.{hypothesis_of, HoldsSequent}
 use Rattle.ab_logic.specs.declared.world.World.{World}
-use Rattle.ab_logic.specs.declared.theorems.Theorem.{Theorem}
+use Rattle.ab_logic.specs.declared.additions.Added.{Added}
 use Rattle.ab_logic.specs.declared.sequent.Sequent.{Sequent as Kept}
 use Rattle.ab_logic.specs.declared.sequent.Hypothesis.{Hypothesis as KeptHypothesis}
 use Rattle.ab_logic.proofs.Growing.{map_same}
@@ -35,14 +35,14 @@ put_in_all : (w : World) (hs : List KeptHypothesis) → map (hypothesis_read w.t
 put_in_all w [] = refl
 put_in_all w (h ∷ hs) = ap (λ l. hypothesis_read w.types w.store h ∷ l) (put_in_all w hs)
 
-module _ (types : Table) (old mid now : Contents) (ts : List Theorem) (s : Kept) (first : AddsTerms old mid) (more : AddsTerms mid now)
+module _ (types : Table) (old mid now : Contents) (ts : List Added) (s : Kept) (first : AddsTerms old mid) (more : AddsTerms mid now)
     (variables : List CellId) (hypotheses : List KeptHypothesis) (conclusion : TermId) (counter : ℕ)
     (kept : variables ≡ unbound_of old s.variables) (held_hypotheses : All (λ (h : KeptHypothesis). Holds mid h.formula) hypotheses) (held_conclusion : Holds now conclusion) where
   abbrev w : World
-  w = record { types = types; store = old; theorems = ts }
+  w = record { types = types; store = old; additions = ts }
 
   abbrev v : World
-  v = record { types = types; store = now; theorems = ts }
+  v = record { types = types; store = now; additions = ts }
 
   abbrev g : Kept
   g = record { variables = variables; hypotheses = hypotheses; conclusion = conclusion; counter = counter }

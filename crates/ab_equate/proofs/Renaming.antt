@@ -20,7 +20,7 @@ use Rattle.ab_logic.specs.Names.{IsNoVariable}
 use Rattle.ab_equate.specs.Solved.{Naming, Named, variables_from, variable_term, renaming}
 
 -- the cell behind the first ones is one of the others
-behind_cell : (cells made : List (Cell (List ℕ))) (k : ℕ) → length cells ≤ k → (j : ℕ) × (length cells + j ≡ k) × (slice_get (cells ++ made) k ≡ slice_get made j)
+pub behind_cell : (cells made : List (Cell (List ℕ))) (k : ℕ) → length cells ≤ k → (j : ℕ) × (length cells + j ≡ k) × (slice_get (cells ++ made) k ≡ slice_get made j)
 behind_cell [] made k l = (k, omega arith, refl)
 behind_cell (c ∷ cells) made zero l = absurd (omega (arith, l))
 behind_cell (c ∷ cells) made (suc k) l = let rest = behind_cell cells made k (omega (arith, l)) in (rest.0, omega (arith, rest.1), rest.2)

@@ -1,10 +1,10 @@
 -- The world in the end: no cell is bound, and all reads as before.
 use Rattle.std.specs.List.{All}
-use Rattle.std.proofs.Common.{◌≡◌, ◌<◌, ◌≤◌, List, [], ◌∷◌, ◌++◌, length, take, refl, sym, ◌∙◌, ap, subst, arith, append-nil, length-append}
-use Rattle.std.proofs.lemmas.List.Elements.{All-weaker}
-use Rattle.ab_types.specs.Entries.{Table, a_kind, a_type, a_constant, kinds, constants}
-use Rattle.ab_types.specs.Ids.{type_of}
-use Rattle.ab_types.proofs.Entries.{kinds-append, constants-append}
+use Rattle.std.proofs.Common.{◌≡◌, ◌<◌, ◌≤◌, List, [], ◌∷◌, ◌++◌, map, length, take, refl, sym, ◌∙◌, ap, subst, arith, append-nil, length-append, take_all}
+use Rattle.std.proofs.lemmas.List.Elements.{All-head, All-tail}
+use Rattle.ab_types.specs.Entries.{Table, a_kind, a_type, a_constant, kinds, constants, IsExtendedBy as IsPartOf}
+use Rattle.ab_types.specs.Ids.{HoldsType, type_of}
+use Rattle.ab_types.proofs.Entries.{kinds-append, constants-append, same_type}
 use Rattle.ab_store.specs.declared.node.TermId.{TermId}
 use Rattle.ab_store.specs.declared.node.CellId.{CellId}
 use Rattle.ab_store.specs.declared.node.CellEntry.{CellEntry}
@@ -16,17 +16,20 @@ use Rattle.ab_store.specs.Marks.{HasMark, KeepsMark}
 use Rattle.ab_store.specs.Naming.{IsTypedBy}
 use Rattle.ab_store.proofs.Agreeing.{Agree, alike}
 use Rattle.ab_store.proofs.Marking.{kept_on}
+use Rattle.ab_unifying.specs.Problem.{cell_read, cells_read}
 use Rattle.ab_unifying.specs.Changed.{Grows}
 use Rattle.ab_unifying.proofs.Growth.{grown_type}
-use Rattle.ab_logic.specs.Worlds.{read, Holds, HoldsCell, variable_of, declared, declared_from, declarations_of, IsWorld}
+use Rattle.ab_logic.specs.Declarations.{HaveSentences, HaveDefinitions}
+use Rattle.ab_logic.specs.Worlds.{read, Holds, HoldsCell, variable_of, declared, declared_from, declarations_of, CameInOrder, IsKept, IsWorld}
 use Rattle.ab_logic.specs.Readings.{sequent_of, HoldsSequent}
 use Rattle.ab_logic.specs.Growth as world
 use Rattle.ab_logic.specs.declared.world.World.{World}
-use Rattle.ab_logic.specs.declared.theorems.Theorem.{Theorem}
+use Rattle.ab_logic.specs.declared.additions.Added.{Added}
 use Rattle.ab_logic.specs.declared.sequent.Sequent.{Sequent as Kept}
-use Rattle.ab_logic.proofs.Declaring.{declared_more, order_more, sentences_declared}
-use Rattle.ab_equate.specs.Meanwhile.{IsMeanwhile}
-use Rattle.ab_equate.proofs.Going.{same_by, held_by}
+use Rattle.ab_logic.proofs.Declaring.{sentences_declared, definitions_declared}
+use Rattle.ab_logic.proofs.Blocks.{all_kept, declared_more, order_more}
+use Rattle.ab_equate.specs.Meanwhile.{IsMeanwhile, ComesBack}
+use Rattle.ab_equate.proofs.Going.{same_by, held_by, world_meanwhile}
 
 -- entries that are types declare nothing
 empty : {X : Type 0} (xs ys : List X) → xs ++ ys ≡ xs → ys ≡ []
@@ -39,7 +42,7 @@ types_alone (a_kind n ∷ more) k c = absurd (cc)
 types_alone (a_type A ∷ more) k c = types_alone more k c
 types_alone (a_constant n ∷ more) k c = absurd (cc)
 
-module _ (w v : World) (is : IsWorld w) (g : Grows w.types w.store v.types v.store) (theorems : v.theorems ≡ w.theorems) where
+module _ (w v : World) (is : IsMeanwhile w) (g : Grows w.types w.store v.types v.store) (additions : v.additions ≡ w.additions) where
   ids : (t : TermId) → Holds w t → Holds v t
   ids t h = (g.trees t h).0
 
@@ -55,7 +58,7 @@ module _ (w v : World) (is : IsWorld w) (g : Grows w.types w.store v.types v.sto
       ∙ ap (λ (e : CellEntry). record { number = c.0; type = type_of w.types (cell_of w.store c).ty; name = e.hint }) (g.cells c h).1
 
   D : declarations_of v ≡ declarations_of w ++ declared g.table.0
-  D = ap (declared_from v 0) theorems ∙ declared_more w v g.table.0 g.table.1 reads 0 w.theorems is.order is.theorems
+  D = ap (declared_from v 0) additions ∙ declared_more w v g.table.0 g.table.1 ids reads cell_ids cells 0 w.additions is.order is.additions
 
   pub goal_same : (s : Kept) → HoldsSequent w s → sequent_of v s ≡ sequent_of w s
   goal_same = same_by w v ids reads cell_ids cells
@@ -72,36 +75,40 @@ module _ (w v : World) (is : IsWorld w) (g : Grows w.types w.store v.types v.sto
       (empty (constants w.types) (constants g.table.0) (sym (constants-append w.types g.table.0) ∙ ap constants (sym g.table.1) ∙ g.constants)))
       ∙ append-nil (declarations_of w)
 
-  theorems_there : All (λ (t : Theorem). Holds v t.entry.formula) v.theorems
-  theorems_there =
-      subst (λ (xs : List Theorem). All (λ (t : Theorem). Holds v t.entry.formula) xs) (sym theorems)
-      (All-weaker (λ (t : Theorem). Holds w t.entry.formula) (λ (t : Theorem). Holds v t.entry.formula) (λ t. ids t.entry.formula) w.theorems is.theorems)
+  additions_there : All (λ (a : Added). IsKept v.types v.store a.what) v.additions
+  additions_there =
+      subst (λ (xs : List Added). All (λ (a : Added). IsKept v.types v.store a.what) xs) (sym additions)
+      (all_kept w v g.table.0 g.table.1 ids reads cell_ids cells w.additions is.additions)
+
+  in_order : CameInOrder v.types 0 v.additions
+  in_order = rw additions (order_more w v g.table.0 g.table.1 ids reads cell_ids cells 0 w.additions is.order)
 
   pub then_meanwhile : IsMeanwhile v
-  then_meanwhile = record { typed = g.typed; theorems = theorems_there; order = rw theorems (order_more w v g.table.0 g.table.1 reads 0 w.theorems is.order) }
+  then_meanwhile = record { typed = g.typed; additions = additions_there; order = in_order }
 
   -- a world again, where no cell is bound
-  pub again : v.store.bindings ≡ [] → world.Grows w v
-  again bindings = record {
+  pub again : HaveSentences (declarations_of w) → HaveDefinitions (declarations_of w) → v.store.bindings ≡ [] → world.Grows w v
+  again sentences definitions bindings = record {
     ids = ids;
     readings = reads;
     cell_ids = cell_ids;
     cells = cells;
     types = g.table;
     marks = g.marks;
-    theorems = ([], theorems ∙ sym (append-nil w.theorems));
+    additions = ([], additions ∙ sym (append-nil w.additions));
     declarations = (declared g.table.0, D);
     world = record {
       typed = g.typed;
       unbound = bindings;
-      theorems = theorems_there;
-      order = rw theorems (order_more w v g.table.0 g.table.1 reads 0 w.theorems is.order);
-      sentences = rw D (sentences_declared (declarations_of w) g.table.0 is.sentences);
+      additions = additions_there;
+      order = in_order;
+      sentences = rw D (sentences_declared (declarations_of w) g.table.0 sentences);
+      definitions = rw D (definitions_declared (declarations_of w) g.table.0 definitions);
     };
   }
 
 -- what was bound since the start is undone
-module _ (T U : Table) (S V X : Contents) (none : S.bindings ≡ []) (g : Grows T S U V) (m : Mark) (start : m.bindings ≡ length S.bindings)
+module _ (T U : Table) (S V X : Contents) (g : Grows T S U V) (m : Mark) (has : HasMark S m) (start : m.bindings ≡ length S.bindings)
     (nodes : X.nodes ≡ V.nodes) (cells : X.cells ≡ V.cells) (bindings : X.bindings ≡ take m.bindings V.bindings) (typed : IsTypedBy U X)
     (marks : (k : Mark) → HasMark V k → k.bindings ≤ m.bindings → KeepsMark V X k) where
   agree : Agree V X (length V.nodes) (length V.cells)
@@ -118,13 +125,37 @@ module _ (T U : Table) (S V X : Contents) (none : S.bindings ≡ []) (g : Grows 
     marks = λ k h. let kept = g.marks k h in let least = h.bindings in kept_on S V X k kept (marks k kept.has (omega (arith, least, start)));
   }
 
-  pub undone_none : X.bindings ≡ []
-  undone_none = bindings ∙ ap (λ n. take n V.bindings) (start ∙ ap length none)
+  -- so just those cells are bound that were
+  pub undone_bindings : X.bindings ≡ S.bindings
+  undone_bindings = bindings ∙ ap (λ (s : Contents). s.bindings) (g.marks m has).same ∙ take_all m.bindings S.bindings (omega (arith, start))
 
 -- a goal reads the same where nodes and cells are the same
 pub same_alike : (x v : World) → v.types ≡ x.types → v.store.nodes ≡ x.store.nodes → v.store.cells ≡ x.store.cells → (s : Kept) → sequent_of v s ≡ sequent_of x s
 same_alike x v types nodes cells s =
-    let over : Table → List Node → List CellEntry → Sequent = λ T ns cs. sequent_of (record { types = T; store = record { nodes = ns; cells = cs; bindings = v.store.bindings; room = v.store.room }; theorems = v.theorems }) s in
+    let over : Table → List Node → List CellEntry → Sequent = λ T ns cs. sequent_of (record { types = T; store = record { nodes = ns; cells = cs; bindings = v.store.bindings; room = v.store.room }; additions = v.additions }) s in
     ap (λ T. over T v.store.nodes v.store.cells) types
     ∙ ap (λ ns. over x.types ns v.store.cells) nodes
     ∙ ap (λ cs. over x.types x.store.nodes cs) cells
+
+-- where no cell was bound, a call that comes back leaves a world
+pub came_back : (w v : World) → IsWorld w → ComesBack w v → world.Grows w v
+came_back w v is back = again w v (world_meanwhile w is) back.grows back.additions is.sentences is.definitions (back.bindings ∙ is.unbound)
+
+pub back_meanwhile : (w v : World) → IsMeanwhile w → ComesBack w v → IsMeanwhile v
+back_meanwhile w v is back = then_meanwhile w v is back.grows back.additions
+
+pub back_declared : (w v : World) → IsMeanwhile w → ComesBack w v → declarations_of v ≡ declarations_of w
+back_declared w v is back = declarations_same w v is back.grows back.additions
+
+-- the same cells read the same in a larger table
+cells_stay : (T more : Table) (cs : List CellEntry) → All (λ (c : CellEntry). HoldsType T c.ty) cs → map (cell_read (T ++ more)) cs ≡ map (cell_read T) cs
+cells_stay T more [] all = refl
+cells_stay T more (c ∷ cs) all =
+    ap (λ A. record { hint = c.hint; type = A } ∷ map (cell_read (T ++ more)) cs) (same_type T more c.ty (All-head (λ (c : CellEntry). HoldsType T c.ty) c cs all))
+    ∙ ap (λ l. cell_read T c ∷ l) (cells_stay T more cs (All-tail (λ (c : CellEntry). HoldsType T c.ty) c cs all))
+
+pub same_cells_read : (T U : Table) (S V : Contents) → IsTypedBy T S → IsPartOf T U → V.cells ≡ S.cells → cells_read U V ≡ cells_read T S
+same_cells_read T U S V typed part same =
+    ap (map (cell_read U)) same
+    ∙ ap (λ X. map (cell_read X) S.cells) part.1
+    ∙ cells_stay T part.0 S.cells typed.cells

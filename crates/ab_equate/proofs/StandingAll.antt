@@ -5,10 +5,13 @@ use Rattle.std.proofs.Common.{◌≡◌, ◌≢◌, ℕ, zero, suc, ◌+◌, ◌
 use Rattle.std.proofs.lemmas.List.{map_more, length-map, get_or-take}
 use Rattle.std.proofs.lemmas.List.Elements.{All-map, All-contains, Contains-push}
 use Rattle.ab_store.proofs.Fronts.{All-front, front_push}
+use Rattle.ab_types.specs.Entries.{Table}
 use Rattle.ab_store.specs.declared.node.CellId.{CellId}
+use Rattle.ab_store.specs.declared.node.CellEntry.{CellEntry}
 use Rattle.ab_store.specs.Reading.{bound_in as first_bound, pairs}
 use Rattle.ab_store.specs.Growth.{IsExtendedBy}
 use Rattle.ab_store.specs.Bindings.{IsUnbound}
+use Rattle.ab_unifying.specs.Problem.{cell_read, cells_read}
 use Rattle.ab_logic.specs.Sequents.{Variable, in_terms, over}
 use Rattle.ab_logic.specs.Worlds.{HoldsCell, variable_of, declarations_of}
 use Rattle.ab_logic.specs.Readings.{sequent_of, HoldsSequent}
@@ -16,6 +19,7 @@ use Rattle.ab_logic.specs.Names.{IsNamedFor}
 use Rattle.ab_logic.specs.declared.world.World.{World}
 use Rattle.ab_logic.specs.declared.sequent.Sequent.{Sequent as Kept}
 use Rattle.ab_equate.specs.Solved.{variable_term, renaming}
+use Rattle.ab_equate.specs.Cases.{cell_for}
 use Rattle.ab_equate.specs.Meanwhile.{IsMeanwhile, GoesOn, bound_in, over_all, StandsFor, StandForAll}
 use Rattle.ab_equate.proofs.Going.{goes_on, same_declarations, goes_cells, goes_cell_ids, same_goal, still_goal}
 use Rattle.ab_equate.proofs.NewVariables.{pairs_extended, over_one_more, over_none, named_one_more, named_length, renaming_one_more}
@@ -24,6 +28,34 @@ any_default : {X : Type 0} (xs : List X) (i : ℕ) (d e : X) → i < length xs �
 any_default [] i d e l = absurd (omega (arith, l))
 any_default (x ∷ xs) zero d e l = refl
 any_default (x ∷ xs) (suc i) d e l = any_default xs i d e (omega (arith, l))
+
+-- a list that is longer by one
+longer : {X : Type 0} (old new : List X) (d : X) → length new ≡ length old + 1 → ((i : ℕ) → i < length old → get_or new i d ≡ get_or old i d) → new ≡ old ++ get_or new (length old) d ∷ []
+longer [] [] d e same = absurd (omega (arith, e))
+longer [] (y ∷ []) d e same = refl
+longer [] (y ∷ z ∷ zs) d e same = absurd (omega (arith, e))
+longer (x ∷ xs) [] d e same = absurd (omega (arith, e))
+longer (x ∷ xs) (y ∷ ys) d e same =
+    ap (λ v. v ∷ ys) (same 0 (omega arith)) ∙ ap (λ l. x ∷ l) (longer xs ys d (omega (arith, e)) (λ i l. same (suc i) (omega (arith, l))))
+
+mapped_one_more : (ys : List Variable) (y : Variable) → map cell_for (ys ++ y ∷ []) ≡ map cell_for ys ++ cell_for y ∷ []
+mapped_one_more [] y = refl
+mapped_one_more (z ∷ zs) y = ap (λ l. cell_for z ∷ l) (mapped_one_more zs y)
+
+mapped_behind : (types : Table) (cs : List CellEntry) (c : CellEntry) → map (cell_read types) (cs ++ c ∷ []) ≡ map (cell_read types) cs ++ cell_read types c ∷ []
+mapped_behind types [] c = refl
+mapped_behind types (d ∷ cs) c = ap (λ l. cell_read types d ∷ l) (mapped_behind types cs c)
+
+-- a world with one cell more
+one_more_cell : (w v : World) (new : CellId) → GoesOn w v → new.0 ≡ length w.store.cells → length v.store.cells ≡ length w.store.cells + 1
+    → cells_read v.types v.store ≡ cells_read w.types w.store ++ cell_for (variable_of v new) ∷ []
+one_more_cell w v new goes number one =
+    let none : CellEntry = record { hint = []; ty = record { 0 = 0 } } in
+    let listed = longer w.store.cells v.store.cells none one (λ i l. (goes.grows.cells (record { 0 = i }) l).1) in
+    ap (map (cell_read v.types)) listed
+    ∙ mapped_behind v.types w.store.cells (get_or v.store.cells (length w.store.cells) none)
+    ∙ ap (λ T. map (cell_read T) w.store.cells ++ cell_read v.types (get_or v.store.cells (length w.store.cells) none) ∷ []) goes.types
+    ∙ ap (λ n. cells_read w.types w.store ++ cell_read v.types (get_or v.store.cells n none) ∷ []) (sym number)
 
 -- new variables stand for the first i of the cells
 pub record Stood (u : World) (cells : List CellId) (i : ℕ) (s : Kept) (w : World) (g : Kept) : Type 0 where
@@ -44,6 +76,7 @@ stood_none u w cells s is goes held before same room = record {
         ap (λ T. pairs T w.store) goes.types
         ∙ pairs_extended u.types u.store w.store is.typed before
         ∙ sym (append-nil (bound_in u));
+    cells = ap (map (cell_read w.types)) same ∙ ap (λ T. map (cell_read T) u.store.cells) goes.types ∙ sym (append-nil (cells_read u.types u.store));
     others = λ d all. ap (λ bs. first_bound bs d) before.bindings;
   };
   count = let size = ap length same in omega (arith, size);
@@ -105,6 +138,11 @@ module _ (u w : World) (cells : List CellId) (i : ℕ) (d : CellId) (s g : Kept)
               ∙ ap (λ ps. ps ++ (in_terms x, variable_term y) ∷ []) first.pairs
               ∙ append_assoc (bound_in u) (renaming xs first.new) ((in_terms x, variable_term y) ∷ [])
               ∙ ap (λ ps. bound_in u ++ ps) (sym (renaming_one_more xs first.new x y long));
+          cells =
+              one_more_cell w v one.new goes one.number one.one
+              ∙ ap (λ l. l ++ cell_for y ∷ []) first.cells
+              ∙ append_assoc (cells_read u.types u.store) (map cell_for first.new) (cell_for y ∷ [])
+              ∙ ap (λ l. cells_read u.types u.store ++ l) (sym (mapped_one_more first.new y));
           others = λ e all.
               one.others e (All-contains (λ (z : Variable). e.0 ≢ z.number) (xs ++ x ∷ []) x all (Contains-push xs x))
               ∙ first.others e (All-front (λ (z : Variable). e.0 ≢ z.number) xs (xs ++ x ∷ []) (front_push xs x) all);

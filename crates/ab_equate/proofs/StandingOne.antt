@@ -54,7 +54,7 @@ module _ (w v : World) (now : Contents) (c new : CellId) (term : TermId) (s : Ke
     (tree_is : tree_of v.types v.store term ≡ variable_term (variable_of v new)) (held : HoldsCell w.store c)
     (nodes : now.nodes ≡ v.store.nodes) (cells : now.cells ≡ v.store.cells) (bindings : now.bindings ≡ v.store.bindings ++ record { cell = c; term = term } ∷ []) where
   abbrev u : World
-  u = record { types = v.types; store = now; theorems = v.theorems }
+  u = record { types = v.types; store = now; additions = v.additions }
 
   new_same : variable_of u new ≡ variable_of v new
   new_same = ap (λ cs. record { number = new.0; type = type_of v.types (cell_in cs new).ty; name = (cell_in cs new).hint }) cells

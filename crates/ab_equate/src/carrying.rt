@@ -51,6 +51,7 @@ fn resolved<L>(
     ensures goes { GoesOn world.old world.new }
     ensures held { IfOk result (λ g. HoldsSequent world.new g) }
     ensures put_in { IfOk result (λ g. IsPutIn world.old goal.now world.new g) }
+    ensures cells { world.new.store.cells ≡ world.old.store.cells }
     ensures steps { steps.old ≤ steps.new }
 {
     let variables = unbound(alloc, &world.store, goal.variables.as_slice())?;

@@ -11,9 +11,8 @@ ghost use Rattle.ab_solver.specs.Answers.{IsTypedPair};
 ghost use Rattle.ab_equate.specs.declared.solving.Solution.TheVariants.{Unified, Apart, Stuck};
 ghost use Rattle.ab_equate.specs.Solved.{Becomes, AreApart, AreStuck};
 
-use crate::carrying::carry;
+use crate::cases::{CaseSolution, solve_case};
 use ab_logic::{Sequent, World};
-use ab_solver::{Solved, unify};
 use ab_store::{Equation, TermId};
 use ab_types::Steps;
 use std::alloc::{AllocError, Global};
@@ -55,23 +54,19 @@ pub fn solve_in<L>(
     ensures declared { declarations_of world.new ≡ declarations_of world.old }
     ensures steps { steps.old ≤ steps.new }
 {
-    let mark = world.store.mark();
     let equation = Equation { left, right };
-    let flexible = goal.variables.as_slice();
-    match unify(
+    let flexible = Vec::from_slice(alloc, goal.variables.as_slice())?;
+    match solve_case(
         alloc,
-        &mut world.types,
-        &mut world.store,
+        world,
         &[equation],
-        flexible,
+        flexible.as_slice(),
+        &[],
+        goal,
         steps,
     )? {
-        Solved::Unified(made) => {
-            let carried = carry(alloc, world, made.as_slice(), goal, steps);
-            world.store.rewind(&mark, steps);
-            Ok(Solution::Unified(carried?))
-        }
-        Solved::Apart => Ok(Solution::Apart),
-        Solved::Stuck(_) => Ok(Solution::Stuck),
+        CaseSolution::Unified(carried) => Ok(Solution::Unified(carried)),
+        CaseSolution::Apart => Ok(Solution::Apart),
+        CaseSolution::Stuck(_) => Ok(Solution::Stuck),
     }
 }

@@ -35,7 +35,7 @@ fn new_for(
     requires cell { HoldsCell world.old.store cell }
     requires goal { HoldsSequent world.old goal.now }
     ensures types { world.new.types ≡ world.old.types }
-    ensures theorems { world.new.theorems ≡ world.old.theorems }
+    ensures additions { world.new.additions ≡ world.old.additions }
     ensures typed { IsTypedBy world.new.types world.new.store }
     ensures before { IsExtendedBy world.old.store world.new.store }
     ensures held { IfOk result (λ s. HoldsCell world.new.store s.cell) }

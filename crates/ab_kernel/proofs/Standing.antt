@@ -243,4 +243,4 @@ closed_exactly w ss ns rs h n b stands made counted is =
 
 -- any world
 abbrev pub some_world : World
-some_world = record { types = []; store = record { nodes = []; cells = []; bindings = []; room = 0 }; theorems = [] }
+some_world = record { types = []; store = record { nodes = []; cells = []; bindings = []; room = 0 }; additions = [] }

@@ -1,10 +1,9 @@
--- What the declarations of a world say, where it is new, where its table has grown, and where a theorem was added.
-use Rattle.std.specs.Prelude.{IsSome, slice_get}
+-- What the declarations of a world say, where it is new, where its table has grown, and where something was added.
 use Rattle.std.specs.Option.{option_map}
-use Rattle.std.specs.List.{All}
-use Rattle.std.proofs.Common.{◌≡◌, ◌⊎◌, inl, inr, ℕ, ◌+◌, ◌-◌, ◌≤◌, Bool, true, false, if◌then◌else◌, Option, Some, None, List, [], ◌∷◌, ◌++◌, length, map, take, drop, bytes_eq, refl, sym, ◌∙◌, ap, subst, arith, append_assoc, append-nil, length-drop, length-append}
+use Rattle.std.specs.List.{All, list_any}
+use Rattle.std.proofs.Common.{◌≡◌, ℕ, ◌+◌, ◌-◌, ◌≤◌, Bool, true, false, if◌then◌else◌, Option, Some, None, List, [], ◌∷◌, ◌++◌, length, map, take, drop, bytes_eq, refl, sym, ◌∙◌, ap, subst, arith, append_assoc, append-nil, length-drop, length-append}
 use Rattle.std.proofs.lemmas.List.{take_all, take-append-le, drop-append-le, take-append-drop, drop-drop}
-use Rattle.std.proofs.lemmas.List.Elements.{All-head, All-tail}
+use Rattle.std.proofs.lemmas.List.Elements.{All-head, All-tail, All-weaker}
 use Rattle.ab_term.specs.Types.{Ty}
 use Rattle.ab_term.specs.Typing as typing
 use Rattle.ab_term.proofs.Unique.{more_typed}
@@ -12,14 +11,16 @@ use Rattle.ab_types.specs.Entries as table
 use Rattle.ab_types.specs.Entries.{Table}
 use Rattle.ab_types.proofs.Entries.{constants-append}
 use Rattle.ab_store.specs.Trees.{Read}
-use Rattle.ab_store.specs.declared.node.TermId.{TermId}
+use Rattle.ab_cases.specs.Clauses.{Clause}
 use Rattle.ab_logic.specs.Formulas.{IsFormula, IsSentence}
-use Rattle.ab_logic.specs.Declarations.{Declaration, Declarations, a_kind, a_constant, a_block, a_program_clause, a_theorem, Extends, constants_in, signature_in, theorem_in, theorems_in, HaveSentences}
-use Rattle.ab_logic.specs.Theorems.{entry_in}
-use Rattle.ab_logic.specs.Worlds.{read, Holds, declared, declared_from, CameInOrder}
+use Rattle.ab_logic.specs.Declarations.{Declarations, Block, a_kind, a_constant, a_block, a_program_clause, a_theorem, Extends, constants_in, signature_in, theorem_in, theorems_in, block_in, IsDefining, HaveSentences, HaveDefinitions}
+use Rattle.ab_logic.specs.Additions.{entry_or, entry_in, entries_with, entries_of}
+use Rattle.ab_logic.specs.Worlds.{read, declared, declaration_of, declared_from, CameInOrder}
 use Rattle.ab_logic.specs.declared.world.World.{World}
-use Rattle.ab_logic.specs.declared.theorems.Theorem.{Theorem}
-use Rattle.ab_logic.specs.declared.theorems.TheoremEntry.{TheoremEntry}
+use Rattle.ab_logic.specs.declared.additions.Added.{Added}
+use Rattle.ab_logic.specs.declared.additions.Addition.{Addition}
+use Rattle.ab_logic.specs.declared.additions.Addition.TheVariants.{Theorem, Definition}
+use Rattle.ab_logic.specs.declared.additions.TheoremEntry.{TheoremEntry}
 
 -- lists of declarations, one behind another
 
@@ -58,11 +59,11 @@ theorems-declared (table.a_type A ∷ s) = theorems-declared s
 theorems-declared (table.a_constant c ∷ s) = theorems-declared s
 
 -- the first of two, if there is one
-abbrev pub or_else : Option Read → Option Read → Option Read
+abbrev pub or_else : {X : Type 0} → Option X → Option X → Option X
 or_else None o = o
 or_else (Some F) o = Some F
 
-or_else_test : (b : Bool) (F : Read) (o p : Option Read) → (if b then Some F else (or_else o p)) ≡ or_else (if b then Some F else o) p
+or_else_test : {X : Type 0} (b : Bool) (F : X) (o p : Option X) → (if b then Some F else (or_else o p)) ≡ or_else (if b then Some F else o) p
 or_else_test true F o p = refl
 or_else_test false F o p = refl
 
@@ -81,6 +82,22 @@ theorem-declared [] name = refl
 theorem-declared (table.a_kind k ∷ s) name = theorem-declared s name
 theorem-declared (table.a_type A ∷ s) name = theorem-declared s name
 theorem-declared (table.a_constant c ∷ s) name = theorem-declared s name
+
+pub block_in-append : (D E : Declarations) (p : List ℕ) → block_in (D ++ E) p ≡ or_else (block_in D p) (block_in E p)
+block_in-append [] E p = refl
+block_in-append (a_kind k ∷ D) E p = block_in-append D E p
+block_in-append (a_constant c A ∷ D) E p = block_in-append D E p
+block_in-append (a_block b ∷ D) E p =
+    ap (λ o. if list_any (bytes_eq p) b.predicates then Some b else o) (block_in-append D E p)
+    ∙ or_else_test (list_any (bytes_eq p) b.predicates) b (block_in D p) (block_in E p)
+block_in-append (a_program_clause c ∷ D) E p = block_in-append D E p
+block_in-append (a_theorem n F ∷ D) E p = block_in-append D E p
+
+pub block-declared : (s : Table) (p : List ℕ) → block_in (declared s) p ≡ None
+block-declared [] p = refl
+block-declared (table.a_kind k ∷ s) p = block-declared s p
+block-declared (table.a_type A ∷ s) p = block-declared s p
+block-declared (table.a_constant c ∷ s) p = block-declared s p
 
 -- what stands in a list stands in a longer one
 
@@ -114,53 +131,116 @@ extends_not D = ([], sym (append-nil D))
 pub extends_on : (C D E : Declarations) → Extends C D → Extends D E → Extends C E
 extends_on C D E a b = (a.0 ++ b.0, b.1 ∙ ap (λ x. x ++ b.0) a.1 ∙ append_assoc C a.0 b.0)
 
--- sentences behind sentences: of a table's entries, or of one theorem
+pub still_defining : (D E : Declarations) → Extends D E → (c : Clause (List ℕ)) → IsDefining (signature_in D) c → IsDefining (signature_in E) c
+still_defining D E more c d =
+    let larger = more_constants D E more in
+    record {
+      clause = record {
+        head = more_typed (signature_in D) (signature_in E) larger d.clause.head;
+        body = more_typed (signature_in D) (signature_in E) larger d.clause.body;
+        head_without_constants = d.clause.head_without_constants;
+        body_without_constants = d.clause.body_without_constants;
+        head_variables = d.clause.head_variables;
+        body_variables = d.clause.body_variables;
+      };
+      body = still_formula D E more c.body d.body;
+    }
+
+-- sentences behind sentences, and definitions behind definitions
+
+pub sentences_behind : (D E : Declarations) → HaveSentences D → ((name : List ℕ) (F : Read) → theorem_in E name ≡ Some F → IsSentence (signature_in (D ++ E)) F) → HaveSentences (D ++ E)
+sentences_behind D E all more name F e = go (theorem_in D name) refl (sym (theorem_in-append D E name) ∙ e)
+  where
+    go : (o : Option Read) → theorem_in D name ≡ o → or_else o (theorem_in E name) ≡ Some F → IsSentence (signature_in (D ++ E)) F
+    go None q p = more name F p
+    go (Some H) q p = still_sentence D (D ++ E) (E, refl) F (all name F (q ∙ p))
+
+pub definitions_behind : (D E : Declarations) → HaveDefinitions D → ((p : List ℕ) (b : Block) → block_in E p ≡ Some b → All (IsDefining (signature_in (D ++ E))) b.clauses) → HaveDefinitions (D ++ E)
+definitions_behind D E all more p b e = go (block_in D p) refl (sym (block_in-append D E p) ∙ e)
+  where
+    go : (o : Option Block) → block_in D p ≡ o → or_else o (block_in E p) ≡ Some b → All (IsDefining (signature_in (D ++ E))) b.clauses
+    go None q r = more p b r
+    go (Some c) q r = All-weaker (IsDefining (signature_in D)) (IsDefining (signature_in (D ++ E))) (still_defining D (D ++ E) (E, refl)) b.clauses (all p b (q ∙ r))
+
+-- of a table's entries, of one theorem, or of one definition
 
 pub sentences_declared : (D : Declarations) (s : Table) → HaveSentences D → HaveSentences (D ++ declared s)
-sentences_declared D s all name F e =
-    still_sentence D (D ++ declared s) (declared s, refl) F (all name F (front (theorem_in D name) (sym (theorem_in-append D (declared s) name ∙ ap (or_else (theorem_in D name)) (theorem-declared s name)) ∙ e)))
-  where
-    front : (o : Option Read) → or_else o None ≡ Some F → o ≡ Some F
-    front None p = cc
-    front (Some G) p = p
+sentences_declared D s all = sentences_behind D (declared s) all (λ name F e. let none = sym (theorem-declared s name) ∙ e in absurd (cc))
 
 pub sentences_added : (D : Declarations) (n : List ℕ) (G : Read) → HaveSentences D → IsSentence (signature_in D) G → HaveSentences (D ++ a_theorem n G ∷ [])
-sentences_added D n G all own name F e =
-    still_sentence D (D ++ a_theorem n G ∷ []) (a_theorem n G ∷ [], refl) F
-    (front (theorem_in D name) (bytes_eq name n) refl (sym (theorem_in-append D (a_theorem n G ∷ []) name) ∙ e))
+sentences_added D n G all own = sentences_behind D (a_theorem n G ∷ []) all (λ name F e. go (bytes_eq name n) F e)
   where
-    front : (o : Option Read) (b : Bool) → theorem_in D name ≡ o → or_else o (if b then Some G else None) ≡ Some F → IsSentence (signature_in D) F
-    front None true q p = subst (IsSentence (signature_in D)) (same p) own
-      where
-        same : Some G ≡ Some F → G ≡ F
-        same p = cc
-    front None false q p = cc
-    front (Some H) b q p = all name F (q ∙ p)
+    E : Declarations
+    E = a_theorem n G ∷ []
 
--- the declarations of a world
+    go : (b : Bool) (F : Read) → (if b then Some G else None) ≡ Some F → IsSentence (signature_in (D ++ E)) F
+    go true F p = let same : G ≡ F = cc in subst (IsSentence (signature_in (D ++ E))) same (still_sentence D (D ++ E) (E, refl) G own)
+    go false F p = absurd (cc)
 
-pub theorem_found : (w : World) (done : ℕ) (ts : List Theorem) (name : List ℕ) → theorem_in (declared_from w done ts) name ≡ option_map (λ (e : TheoremEntry). read w e.formula) (entry_in ts name)
+pub sentences_defined : (D : Declarations) (b : Block) → HaveSentences D → HaveSentences (D ++ a_block b ∷ [])
+sentences_defined D b all = sentences_behind D (a_block b ∷ []) all (λ name F e. absurd (cc))
+
+pub definitions_declared : (D : Declarations) (s : Table) → HaveDefinitions D → HaveDefinitions (D ++ declared s)
+definitions_declared D s all = definitions_behind D (declared s) all (λ p b e. let none = sym (block-declared s p) ∙ e in absurd (cc))
+
+pub definitions_added : (D : Declarations) (n : List ℕ) (G : Read) → HaveDefinitions D → HaveDefinitions (D ++ a_theorem n G ∷ [])
+definitions_added D n G all = definitions_behind D (a_theorem n G ∷ []) all (λ p b e. absurd (cc))
+
+pub definitions_defined : (D : Declarations) (b : Block) → HaveDefinitions D → All (IsDefining (signature_in D)) b.clauses → HaveDefinitions (D ++ a_block b ∷ [])
+definitions_defined D b all own = definitions_behind D (a_block b ∷ []) all (λ p c e. go (list_any (bytes_eq p) b.predicates) c e)
+  where
+    E : Declarations
+    E = a_block b ∷ []
+
+    go : (t : Bool) (c : Block) → (if t then Some b else None) ≡ Some c → All (IsDefining (signature_in (D ++ E))) c.clauses
+    go true c r =
+        let same : b ≡ c = cc in
+        subst (λ (x : Block). All (IsDefining (signature_in (D ++ E))) x.clauses) same
+        (All-weaker (IsDefining (signature_in D)) (IsDefining (signature_in (D ++ E))) (still_defining D (D ++ E) (E, refl)) b.clauses own)
+    go false c r = absurd (cc)
+
+-- the declarations of a world, one addition after another
+
+constant_in_none : (w : World) (what : Addition) (ds : Declarations) → constants_in (declaration_of w what ∷ ds) ≡ constants_in ds
+constant_in_none w (Theorem e) ds = refl
+constant_in_none w (Definition b) ds = refl
+
+pub theorem_found : (w : World) (done : ℕ) (xs : List Added) (name : List ℕ) → theorem_in (declared_from w done xs) name ≡ option_map (λ (e : TheoremEntry). read w e.formula) (entry_in xs name)
 theorem_found w done [] name = theorem-declared (drop done w.types) name
-theorem_found w done (t ∷ ts) name =
-    theorem_in-append (declared (take (t.before - done) (drop done w.types))) (a_theorem t.entry.name (read w t.entry.formula) ∷ declared_from w t.before ts) name
-    ∙ ap (λ o. or_else o (if bytes_eq name t.entry.name then Some (read w t.entry.formula) else theorem_in (declared_from w t.before ts) name)) (theorem-declared (take (t.before - done) (drop done w.types)) name)
-    ∙ go (bytes_eq name t.entry.name) (theorem_found w t.before ts name)
+theorem_found w done (a ∷ xs) name =
+    let front = declared (take (a.before - done) (drop done w.types)) in
+    theorem_in-append front (declaration_of w a.what ∷ declared_from w a.before xs) name
+    ∙ ap (λ o. or_else o (theorem_in (declaration_of w a.what ∷ declared_from w a.before xs) name)) (theorem-declared (take (a.before - done) (drop done w.types)) name)
+    ∙ one a.what (theorem_found w a.before xs name)
   where
-    go : (b : Bool) → theorem_in (declared_from w t.before ts) name ≡ option_map (λ (e : TheoremEntry). read w e.formula) (entry_in ts name)
-        → (if b then Some (read w t.entry.formula) else theorem_in (declared_from w t.before ts) name) ≡ option_map (λ (e : TheoremEntry). read w e.formula) (if b then Some t.entry else entry_in ts name)
-    go true e = refl
-    go false e = e
+    test : (e : TheoremEntry) (b : Bool) → theorem_in (declared_from w a.before xs) name ≡ option_map (λ (e : TheoremEntry). read w e.formula) (entry_in xs name)
+        → (if b then Some (read w e.formula) else theorem_in (declared_from w a.before xs) name) ≡ option_map (λ (e : TheoremEntry). read w e.formula) (if b then Some e else entry_in xs name)
+    test e true rest = refl
+    test e false rest = rest
 
-pub theorems_are : (w : World) (done : ℕ) (ts : List Theorem) → theorems_in (declared_from w done ts) ≡ map (λ (t : Theorem). (t.entry.name, read w t.entry.formula)) ts
+    one : (what : Addition) → theorem_in (declared_from w a.before xs) name ≡ option_map (λ (e : TheoremEntry). read w e.formula) (entry_in xs name)
+        → theorem_in (declaration_of w what ∷ declared_from w a.before xs) name ≡ option_map (λ (e : TheoremEntry). read w e.formula) (entry_or what name (entry_in xs name))
+    one (Theorem e) rest = test e (bytes_eq name e.name) rest
+    one (Definition b) rest = rest
+
+abbrev pub shown : World → TheoremEntry → List ℕ × Read
+shown w e = (e.name, read w e.formula)
+
+pub theorems_are : (w : World) (done : ℕ) (xs : List Added) → theorems_in (declared_from w done xs) ≡ map (shown w) (entries_of xs)
 theorems_are w done [] = theorems-declared (drop done w.types)
-theorems_are w done (t ∷ ts) =
-    theorems_in-append (declared (take (t.before - done) (drop done w.types))) (a_theorem t.entry.name (read w t.entry.formula) ∷ declared_from w t.before ts)
-    ∙ ap (λ xs. xs ++ (t.entry.name, read w t.entry.formula) ∷ theorems_in (declared_from w t.before ts)) (theorems-declared (take (t.before - done) (drop done w.types)))
-    ∙ ap (λ xs. (t.entry.name, read w t.entry.formula) ∷ xs) (theorems_are w t.before ts)
+theorems_are w done (a ∷ xs) =
+    theorems_in-append (declared (take (a.before - done) (drop done w.types))) (declaration_of w a.what ∷ declared_from w a.before xs)
+    ∙ ap (λ ts. ts ++ theorems_in (declaration_of w a.what ∷ declared_from w a.before xs)) (theorems-declared (take (a.before - done) (drop done w.types)))
+    ∙ one a.what (theorems_are w a.before xs)
+  where
+    one : (what : Addition) → theorems_in (declared_from w a.before xs) ≡ map (shown w) (entries_of xs)
+        → theorems_in (declaration_of w what ∷ declared_from w a.before xs) ≡ map (shown w) (entries_with what (entries_of xs))
+    one (Theorem e) rest = ap (λ ts. shown w e ∷ ts) rest
+    one (Definition b) rest = rest
 
-pub order_within : (types : Table) (done : ℕ) (ts : List Theorem) → CameInOrder types done ts → done ≤ length types
+pub order_within : (types : Table) (done : ℕ) (xs : List Added) → CameInOrder types done xs → done ≤ length types
 order_within types done [] order = order
-order_within types done (t ∷ ts) order = omega (arith, order.0, order_within types t.before ts order.1)
+order_within types done (a ∷ xs) order = omega (arith, order.0, order_within types a.before xs order.1)
 
 constants_split : (k : ℕ) (xs : Table) → table.constants (take k xs) ++ table.constants (drop k xs) ≡ table.constants xs
 constants_split k xs = sym (constants-append (take k xs) (drop k xs)) ∙ ap table.constants (take-append-drop k xs)
@@ -170,25 +250,25 @@ drop_on done before xs l =
     let e : done + (before - done) ≡ before = omega arith in
     drop-drop (before - done) done xs ∙ ap (λ k. drop k xs) e
 
-pub constants_are : (w : World) (done : ℕ) (ts : List Theorem) → CameInOrder w.types done ts → constants_in (declared_from w done ts) ≡ table.constants (drop done w.types)
+pub constants_are : (w : World) (done : ℕ) (xs : List Added) → CameInOrder w.types done xs → constants_in (declared_from w done xs) ≡ table.constants (drop done w.types)
 constants_are w done [] order = constants-declared (drop done w.types)
-constants_are w done (t ∷ ts) order =
-    let xs = drop done w.types in
-    let k = t.before - done in
-    constants_in-append (declared (take k xs)) (a_theorem t.entry.name (read w t.entry.formula) ∷ declared_from w t.before ts)
-    ∙ ap (λ cs. cs ++ constants_in (declared_from w t.before ts)) (constants-declared (take k xs))
-    ∙ ap (λ cs. table.constants (take k xs) ++ cs) (constants_are w t.before ts order.1 ∙ ap table.constants (sym (drop_on done t.before w.types order.0)))
-    ∙ constants_split k xs
+constants_are w done (a ∷ xs) order =
+    let es = drop done w.types in
+    let k = a.before - done in
+    constants_in-append (declared (take k es)) (declaration_of w a.what ∷ declared_from w a.before xs)
+    ∙ ap (λ cs. cs ++ constants_in (declaration_of w a.what ∷ declared_from w a.before xs)) (constants-declared (take k es))
+    ∙ ap (λ cs. table.constants (take k es) ++ cs) (constant_in_none w a.what (declared_from w a.before xs) ∙ constants_are w a.before xs order.1 ∙ ap table.constants (sym (drop_on done a.before w.types order.0)))
+    ∙ constants_split k es
 
--- a theorem is added behind all
-pub declared_added : (w : World) (done : ℕ) (ts : List Theorem) (t : Theorem) → CameInOrder w.types done ts → t.before ≡ length w.types
-    → declared_from w done (ts ++ t ∷ []) ≡ declared_from w done ts ++ a_theorem t.entry.name (read w t.entry.formula) ∷ []
-declared_added w done [] t order e =
-    let xs = drop done w.types in
-    let long : t.before - done ≡ length xs = omega (arith, length-drop done w.types) in
-    ap (λ k. declared (take k xs) ++ a_theorem t.entry.name (read w t.entry.formula) ∷ declared (drop t.before w.types)) long
-    ∙ ap (λ zs. declared zs ++ a_theorem t.entry.name (read w t.entry.formula) ∷ declared (drop t.before w.types)) (take_all (length xs) xs (omega arith))
-    ∙ ap (λ zs. declared xs ++ a_theorem t.entry.name (read w t.entry.formula) ∷ declared zs) (nothing w.types t.before e)
+-- an addition is put behind all
+pub declared_added : (w : World) (done : ℕ) (xs : List Added) (a : Added) → CameInOrder w.types done xs → a.before ≡ length w.types
+    → declared_from w done (xs ++ a ∷ []) ≡ declared_from w done xs ++ declaration_of w a.what ∷ []
+declared_added w done [] a order e =
+    let es = drop done w.types in
+    let long : a.before - done ≡ length es = omega (arith, length-drop done w.types) in
+    ap (λ k. declared (take k es) ++ declaration_of w a.what ∷ declared (drop a.before w.types)) long
+    ∙ ap (λ zs. declared zs ++ declaration_of w a.what ∷ declared (drop a.before w.types)) (take_all (length es) es (omega arith))
+    ∙ ap (λ zs. declared es ++ declaration_of w a.what ∷ declared zs) (nothing w.types a.before e)
   where
     nothing : (ys : Table) (n : ℕ) → n ≡ length ys → drop n ys ≡ []
     nothing ys n q = empty (drop n ys) (length-drop n ys ∙ omega arith)
@@ -196,35 +276,38 @@ declared_added w done [] t order e =
         empty : (zs : Table) → length zs ≡ 0 → zs ≡ []
         empty [] p = refl
         empty (z ∷ zs) p = absurd (omega arith)
-declared_added w done (u ∷ ts) t order e =
+declared_added w done (u ∷ xs) a order e =
     let front = declared (take (u.before - done) (drop done w.types)) in
-    ap (λ ds. front ++ a_theorem u.entry.name (read w u.entry.formula) ∷ ds) (declared_added w u.before ts t order.1 e)
-    ∙ sym (append_assoc front (a_theorem u.entry.name (read w u.entry.formula) ∷ declared_from w u.before ts) (a_theorem t.entry.name (read w t.entry.formula) ∷ []))
+    ap (λ ds. front ++ declaration_of w u.what ∷ ds) (declared_added w u.before xs a order.1 e)
+    ∙ sym (append_assoc front (declaration_of w u.what ∷ declared_from w u.before xs) (declaration_of w a.what ∷ []))
 
-pub order_added : (types : Table) (done : ℕ) (ts : List Theorem) (t : Theorem) → CameInOrder types done ts → t.before ≡ length types → CameInOrder types done (ts ++ t ∷ [])
-order_added types done [] t order e = (omega (arith, order, e), omega (arith, e))
-order_added types done (u ∷ ts) t order e = (order.0, order_added types u.before ts t order.1 e)
+pub order_added : (types : Table) (done : ℕ) (xs : List Added) (a : Added) → CameInOrder types done xs → a.before ≡ length types → CameInOrder types done (xs ++ a ∷ [])
+order_added types done [] a order e = (omega (arith, order, e), omega (arith, e))
+order_added types done (u ∷ xs) a order e = (order.0, order_added types u.before xs a order.1 e)
 
--- the table has grown, and what was read reads as before
-module _ (w v : World) (more : Table) (grown : v.types ≡ w.types ++ more) (reads : (t : TermId) → Holds w t → read v t ≡ read w t) where
-  pub declared_more : (done : ℕ) (ts : List Theorem) → CameInOrder w.types done ts → All (λ (t : Theorem). Holds w t.entry.formula) ts
-      → declared_from v done ts ≡ declared_from w done ts ++ declared more
-  declared_more done [] order held =
-      ap (λ xs. declared (drop done xs)) grown
+-- the table has grown, and what was added reads as before
+module _ (w v : World) (more : Table) (grown : v.types ≡ w.types ++ more) where
+  abbrev pub ReadsSame : Added → Type 0
+  ReadsSame a = declaration_of v a.what ≡ declaration_of w a.what
+
+  pub declared_on : (done : ℕ) (xs : List Added) → CameInOrder w.types done xs → All ReadsSame xs
+      → declared_from v done xs ≡ declared_from w done xs ++ declared more
+  declared_on done [] order same =
+      ap (λ es. declared (drop done es)) grown
       ∙ ap declared (drop-append-le done w.types more order)
       ∙ declared-append (drop done w.types) more
-  declared_more done (t ∷ ts) order held =
-      let k = t.before - done in
-      let xs = drop done w.types in
-      let within = order_within w.types t.before ts order.1 in
-      let far : k ≤ length xs = omega (arith, length-drop done w.types, within) in
-      let front : take k (drop done v.types) ≡ take k xs =
-      ap (λ ys. take k (drop done ys)) grown ∙ ap (take k) (drop-append-le done w.types more (omega (arith, within, order.0))) ∙ take-append-le k xs more far in
-      ap (λ zs. declared zs ++ a_theorem t.entry.name (read v t.entry.formula) ∷ declared_from v t.before ts) front
-      ∙ ap (λ F. declared (take k xs) ++ a_theorem t.entry.name F ∷ declared_from v t.before ts) (reads t.entry.formula (All-head (λ (u : Theorem). Holds w u.entry.formula) t ts held))
-      ∙ ap (λ ds. declared (take k xs) ++ a_theorem t.entry.name (read w t.entry.formula) ∷ ds) (declared_more t.before ts order.1 (All-tail (λ (u : Theorem). Holds w u.entry.formula) t ts held))
-      ∙ sym (append_assoc (declared (take k xs)) (a_theorem t.entry.name (read w t.entry.formula) ∷ declared_from w t.before ts) (declared more))
+  declared_on done (a ∷ xs) order same =
+      let k = a.before - done in
+      let es = drop done w.types in
+      let within = order_within w.types a.before xs order.1 in
+      let far : k ≤ length es = omega (arith, length-drop done w.types, within) in
+      let front : take k (drop done v.types) ≡ take k es =
+      ap (λ ys. take k (drop done ys)) grown ∙ ap (take k) (drop-append-le done w.types more (omega (arith, within, order.0))) ∙ take-append-le k es more far in
+      ap (λ zs. declared zs ++ declaration_of v a.what ∷ declared_from v a.before xs) front
+      ∙ ap (λ d. declared (take k es) ++ d ∷ declared_from v a.before xs) (All-head ReadsSame a xs same)
+      ∙ ap (λ ds. declared (take k es) ++ declaration_of w a.what ∷ ds) (declared_on a.before xs order.1 (All-tail ReadsSame a xs same))
+      ∙ sym (append_assoc (declared (take k es)) (declaration_of w a.what ∷ declared_from w a.before xs) (declared more))
 
-  pub order_more : (done : ℕ) (ts : List Theorem) → CameInOrder w.types done ts → CameInOrder v.types done ts
-  order_more done [] order = omega (arith, order, ap length grown, length-append w.types more)
-  order_more done (t ∷ ts) order = (order.0, order_more t.before ts order.1)
+  pub order_on : (done : ℕ) (xs : List Added) → CameInOrder w.types done xs → CameInOrder v.types done xs
+  order_on done [] order = omega (arith, order, ap length grown, length-append w.types more)
+  order_on done (a ∷ xs) order = (order.0, order_on a.before xs order.1)

@@ -1,9 +1,9 @@
 -- How a world grows: by its store, by its types, step by step.
 use Rattle.std.specs.List.{All}
-use Rattle.std.proofs.Common.{◌≡◌, List, [], ◌∷◌, ◌++◌, map, length, refl, sym, ◌∙◌, ap, subst, append_assoc, append-nil}
-use Rattle.std.proofs.lemmas.List.Elements.{All-head, All-tail, All-weaker, All-push}
+use Rattle.std.proofs.Common.{◌≡◌, ℕ, arith, List, [], ◌∷◌, ◌++◌, map, length, refl, sym, ◌∙◌, ap, subst, append_assoc, append-nil}
+use Rattle.std.proofs.lemmas.List.Elements.{All-nil, All-head, All-tail, All-weaker, All-push}
 use Rattle.ab_types.specs.Entries as table
-use Rattle.ab_types.specs.Entries.{Table}
+use Rattle.ab_types.specs.Entries.{Table, signature}
 use Rattle.ab_types.specs.Ids.{type_of}
 use Rattle.ab_types.proofs.Entries.{same_type}
 use Rattle.ab_store.specs.declared.node.TermId.{TermId}
@@ -16,17 +16,20 @@ use Rattle.ab_store.specs.Growth.{IsExtendedBy}
 use Rattle.ab_store.specs.Naming.{IsTypedBy}
 use Rattle.ab_store.proofs.Marking.{kept_itself, kept_on}
 use Rattle.ab_store.proofs.Tables.{same_tree, still_typed}
-use Rattle.ab_logic.specs.Declarations.{a_theorem, Extends, signature_in}
+use Rattle.ab_clauses.specs.declared.kept.Block.{Block}
+use Rattle.ab_logic.specs.Declarations.{signature_in, IsDefining, HaveSentences, HaveDefinitions}
 use Rattle.ab_logic.specs.Formulas.{IsSentence}
-use Rattle.ab_logic.specs.Sequents.{Sequent}
-use Rattle.ab_logic.specs.Worlds.{read, Holds, HoldsCell, variable_of, declared, declared_from, declarations_of, IsWorld}
+use Rattle.ab_logic.specs.Worlds.{read, Holds, HoldsCell, variable_of, declared, definition_of, declaration_of, declared_from, declarations_of, IsKeptBlock, IsKept, IsWorld}
 use Rattle.ab_logic.specs.Readings.{hypothesis_of, sequent_of, HoldsSequent}
 use Rattle.ab_logic.specs.Growth.{Grows}
 use Rattle.ab_logic.specs.declared.world.World.{World}
-use Rattle.ab_logic.specs.declared.theorems.Theorem.{Theorem}
+use Rattle.ab_logic.specs.declared.additions.Added.{Added}
+use Rattle.ab_logic.specs.declared.additions.Addition.TheVariants.{Theorem, Definition}
+use Rattle.ab_logic.specs.declared.additions.TheoremEntry.{TheoremEntry}
 use Rattle.ab_logic.specs.declared.sequent.Sequent.{Sequent as Kept}
 use Rattle.ab_logic.specs.declared.sequent.Hypothesis.{Hypothesis}
-use Rattle.ab_logic.proofs.Declaring.{declared_more, order_more, declared_added, order_added, sentences_declared, sentences_added, extends_not, extends_on}
+use Rattle.ab_logic.proofs.Declaring.{constants_are, theorem-declared, block-declared, declared_added, order_added, sentences_declared, sentences_added, sentences_defined, definitions_declared, definitions_added, definitions_defined, extends_not, extends_on}
+use Rattle.ab_logic.proofs.Blocks.{all_kept, declared_more, order_more, block_defines}
 
 pub grows_not : (w : World) → IsWorld w → Grows w w
 grows_not w is = record {
@@ -36,7 +39,7 @@ grows_not w is = record {
   cells = λ c h. refl;
   types = ([], sym (append-nil w.types));
   marks = λ m has. kept_itself w.store m has;
-  theorems = ([], sym (append-nil w.theorems));
+  additions = ([], sym (append-nil w.additions));
   declarations = extends_not (declarations_of w);
   world = is;
 }
@@ -49,19 +52,19 @@ grows_on u v w a b = record {
   cells = λ c h. b.cells c (a.cell_ids c h) ∙ a.cells c h;
   types = (a.types.0 ++ b.types.0, b.types.1 ∙ ap (λ x. x ++ b.types.0) a.types.1 ∙ append_assoc u.types a.types.0 b.types.0);
   marks = λ m has. let kept = a.marks m has in kept_on u.store v.store w.store m kept (b.marks m kept.has);
-  theorems = (a.theorems.0 ++ b.theorems.0, b.theorems.1 ∙ ap (λ x. x ++ b.theorems.0) a.theorems.1 ∙ append_assoc u.theorems a.theorems.0 b.theorems.0);
+  additions = (a.additions.0 ++ b.additions.0, b.additions.1 ∙ ap (λ x. x ++ b.additions.0) a.additions.1 ∙ append_assoc u.additions a.additions.0 b.additions.0);
   declarations = extends_on (declarations_of u) (declarations_of v) (declarations_of w) a.declarations b.declarations;
   world = b.world;
 }
 
 -- any world with more types and more terms, where these read as before
-grown : (w v : World) (more : Table) → IsWorld w → v.types ≡ w.types ++ more → v.theorems ≡ w.theorems
+grown : (w v : World) (more : Table) → IsWorld w → v.types ≡ w.types ++ more → v.additions ≡ w.additions
     → ((t : TermId) → Holds w t → Holds v t) → ((t : TermId) → Holds w t → read v t ≡ read w t)
     → ((c : CellId) → HoldsCell w c → HoldsCell v c) → ((c : CellId) → HoldsCell w c → variable_of v c ≡ variable_of w c)
     → IsTypedBy v.types v.store → v.store.bindings ≡ w.store.bindings → ((m : Mark) → HasMark w.store m → KeepsMark w.store v.store m) → Grows w v
-grown w v more is types theorems ids reads cell_ids cells typed bindings marks =
+grown w v more is types additions ids reads cell_ids cells typed bindings marks =
     let D : declarations_of v ≡ declarations_of w ++ declared more =
-    ap (declared_from v 0) theorems ∙ declared_more w v more types reads 0 w.theorems is.order is.theorems in
+    ap (declared_from v 0) additions ∙ declared_more w v more types ids reads cell_ids cells 0 w.additions is.order is.additions in
     record {
       ids = ids;
       readings = reads;
@@ -69,45 +72,46 @@ grown w v more is types theorems ids reads cell_ids cells typed bindings marks =
       cells = cells;
       types = (more, types);
       marks = marks;
-      theorems = ([], theorems ∙ sym (append-nil w.theorems));
+      additions = ([], additions ∙ sym (append-nil w.additions));
       declarations = (declared more, D);
       world = record {
         typed = typed;
         unbound = bindings ∙ is.unbound;
-        theorems =
-            subst (λ (xs : List Theorem). All (λ (t : Theorem). Holds v t.entry.formula) xs) (sym theorems)
-            (All-weaker (λ (t : Theorem). Holds w t.entry.formula) (λ (t : Theorem). Holds v t.entry.formula) (λ t. ids t.entry.formula) w.theorems is.theorems);
-        order = rw theorems (order_more w v more types reads 0 w.theorems is.order);
+        additions =
+            subst (λ (xs : List Added). All (λ (a : Added). IsKept v.types v.store a.what) xs) (sym additions)
+            (all_kept w v more types ids reads cell_ids cells w.additions is.additions);
+        order = rw additions (order_more w v more types ids reads cell_ids cells 0 w.additions is.order);
         sentences = rw D (sentences_declared (declarations_of w) more is.sentences);
+        definitions = rw D (definitions_declared (declarations_of w) more is.definitions);
       };
     }
 
-pub grows_store : (types : Table) (old new : Contents) (ts : List Theorem) → IsWorld (record { types = types; store = old; theorems = ts }) → IsExtendedBy old new → IsTypedBy types new
-    → Grows (record { types = types; store = old; theorems = ts }) (record { types = types; store = new; theorems = ts })
-grows_store types old new ts is e typed =
-    grown (record { types = types; store = old; theorems = ts }) (record { types = types; store = new; theorems = ts }) [] is
+pub grows_store : (types : Table) (old new : Contents) (xs : List Added) → IsWorld (record { types = types; store = old; additions = xs }) → IsExtendedBy old new → IsTypedBy types new
+    → Grows (record { types = types; store = old; additions = xs }) (record { types = types; store = new; additions = xs })
+grows_store types old new xs is e typed =
+    grown (record { types = types; store = old; additions = xs }) (record { types = types; store = new; additions = xs }) [] is
     (sym (append-nil types)) refl e.ids (e.trees types) e.cell_ids
     (λ c h. ap (λ (k : CellEntry). record { number = c.0; type = type_of types k.ty; name = k.hint }) (e.cells c h)) typed e.bindings e.marks
 
-pub grows_types : (old new : Table) (store : Contents) (ts : List Theorem) → IsWorld (record { types = old; store = store; theorems = ts }) → table.IsExtendedBy old new
-    → Grows (record { types = old; store = store; theorems = ts }) (record { types = new; store = store; theorems = ts })
-grows_types old new store ts is part =
-    subst (λ t. Grows (record { types = old; store = store; theorems = ts }) (record { types = t; store = store; theorems = ts })) (sym part.1)
-    (grown (record { types = old; store = store; theorems = ts }) (record { types = old ++ part.0; store = store; theorems = ts }) part.0 is
+pub grows_types : (old new : Table) (store : Contents) (xs : List Added) → IsWorld (record { types = old; store = store; additions = xs }) → table.IsExtendedBy old new
+    → Grows (record { types = old; store = store; additions = xs }) (record { types = new; store = store; additions = xs })
+grows_types old new store xs is part =
+    subst (λ t. Grows (record { types = old; store = store; additions = xs }) (record { types = t; store = store; additions = xs })) (sym part.1)
+    (grown (record { types = old; store = store; additions = xs }) (record { types = old ++ part.0; store = store; additions = xs }) part.0 is
     refl refl (λ t h. h) (λ t h. same_tree old part.0 store is.typed t) (λ c h. h)
     (λ c h. ap (λ A. record { number = c.0; type = A; name = (cell_of store c).hint }) (same_type old part.0 (cell_of store c).ty (is.typed.cells c.0 _ h)))
     (still_typed old part.0 store is.typed) refl (λ m has. kept_itself store m has))
 
--- a theorem more
-pub declares_more : (w : World) (t : Theorem) → IsWorld w → t.before ≡ length w.types
-    → declarations_of (record { types = w.types; store = w.store; theorems = w.theorems ++ t ∷ [] }) ≡ declarations_of w ++ a_theorem t.entry.name (read w t.entry.formula) ∷ []
-declares_more w t is last = declared_added w 0 w.theorems t is.order last
+-- one addition more
+pub declares_more : (w : World) (a : Added) → IsWorld w → a.before ≡ length w.types
+    → declarations_of (record { types = w.types; store = w.store; additions = w.additions ++ a ∷ [] }) ≡ declarations_of w ++ declaration_of w a.what ∷ []
+declares_more w a is last = declared_added w 0 w.additions a is.order last
 
-pub grows_theorem : (w : World) (t : Theorem) → IsWorld w → t.before ≡ length w.types → Holds w t.entry.formula
-    → IsSentence (signature_in (declarations_of w)) (read w t.entry.formula)
-    → Grows w (record { types = w.types; store = w.store; theorems = w.theorems ++ t ∷ [] })
-grows_theorem w t is last held sentence =
-    let D = declares_more w t is last in
+grows_added : (w : World) (a : Added) → IsWorld w → a.before ≡ length w.types → IsKept w.types w.store a.what
+    → HaveSentences (declarations_of w ++ declaration_of w a.what ∷ []) → HaveDefinitions (declarations_of w ++ declaration_of w a.what ∷ [])
+    → Grows w (record { types = w.types; store = w.store; additions = w.additions ++ a ∷ [] })
+grows_added w a is last held sentences definitions =
+    let D = declares_more w a is last in
     record {
       ids = λ u h. h;
       readings = λ u h. refl;
@@ -115,16 +119,47 @@ grows_theorem w t is last held sentence =
       cells = λ c h. refl;
       types = ([], sym (append-nil w.types));
       marks = λ m has. kept_itself w.store m has;
-      theorems = (t ∷ [], refl);
-      declarations = (a_theorem t.entry.name (read w t.entry.formula) ∷ [], D);
+      additions = (a ∷ [], refl);
+      declarations = (declaration_of w a.what ∷ [], D);
       world = record {
         typed = is.typed;
         unbound = is.unbound;
-        theorems = All-push (λ (u : Theorem). Holds w u.entry.formula) w.theorems t is.theorems held;
-        order = order_added w.types 0 w.theorems t is.order last;
-        sentences = rw D (sentences_added (declarations_of w) t.entry.name (read w t.entry.formula) is.sentences sentence);
+        additions = All-push (λ (u : Added). IsKept w.types w.store u.what) w.additions a is.additions held;
+        order = order_added w.types 0 w.additions a is.order last;
+        sentences = rw D sentences;
+        definitions = rw D definitions;
       };
     }
+
+pub grows_theorem : (w : World) (e : TheoremEntry) (before : ℕ) → IsWorld w → before ≡ length w.types → Holds w e.formula
+    → IsSentence (signature_in (declarations_of w)) (read w e.formula)
+    → Grows w (record { types = w.types; store = w.store; additions = w.additions ++ record { what = Theorem e; before = before } ∷ [] })
+grows_theorem w e before is last held sentence =
+    grows_added w (record { what = Theorem e; before = before }) is last held
+    (sentences_added (declarations_of w) e.name (read w e.formula) is.sentences sentence)
+    (definitions_added (declarations_of w) e.name (read w e.formula) is.definitions)
+
+pub same_constants : (w : World) → IsWorld w → signature w.types ≡ signature_in (declarations_of w)
+same_constants w is = ap table.type_in (sym (constants_are w 0 w.additions is.order))
+
+pub grows_block : (w : World) (b : Block) (before : ℕ) → IsWorld w → before ≡ length w.types → IsKeptBlock w.types w.store b
+    → Grows w (record { types = w.types; store = w.store; additions = w.additions ++ record { what = Definition b; before = before } ∷ [] })
+grows_block w b before is last held =
+    grows_added w (record { what = Definition b; before = before }) is last held
+    (sentences_defined (declarations_of w) (definition_of w b) is.sentences)
+    (definitions_defined (declarations_of w) (definition_of w b) is.definitions
+    (subst (λ sg. All (IsDefining sg) (definition_of w b).clauses) (same_constants w is) (block_defines w b held)))
+
+-- nothing was added
+pub bare_world : (types : Table) (store : Contents) → IsTypedBy types store → store.bindings ≡ [] → IsWorld (record { types = types; store = store; additions = [] })
+bare_world types store typed unbound = record {
+  typed = typed;
+  unbound = unbound;
+  additions = All-nil (λ (a : Added). IsKept types store a.what);
+  order = omega arith;
+  sentences = λ name F e. let none = sym (theorem-declared types name) ∙ e in absurd (cc);
+  definitions = λ p b e. let none = sym (block-declared types p) ∙ e in absurd (cc);
+}
 
 pub map_same : {X Y : Type 0} (f g : X → Y) (P : X → Type 0) → ((x : X) → P x → f x ≡ g x) → (xs : List X) → All P xs → map f xs ≡ map g xs
 map_same f g P same [] all = refl

@@ -1,5 +1,9 @@
 pub mod Counts
 pub mod Removing
 pub mod Lookups
+pub mod Images
 pub mod Declaring
+pub mod Blocks
 pub mod Growing
+pub mod Members
+mod Firsts

@@ -1,30 +1,26 @@
 -- What was declared, as one list in order. A derivation is judged from such a list: a theorem that stands in it was
 -- derived from what stands before it.
-use Rattle.std.specs.Prelude.{◌≡◌, ℕ, List, [], ◌∷◌, ◌++◌, map, Bool, Option, Some, None, if◌then◌else◌, bytes_eq, All}
+use Rattle.std.specs.Prelude.{◌≡◌, ℕ, List, [], ◌∷◌, ◌++◌, Bool, Option, Some, None, if◌then◌else◌, bytes_eq, All}
+use Rattle.std.specs.List.{list_any}
 use Rattle.ab_term.specs.Types.{Ty}
-use Rattle.ab_term.specs.Terms.{Variable}
 use Rattle.ab_term.specs.Typing.{Signature}
 use Rattle.ab_types.specs.Entries as table
 use Rattle.ab_store.specs.Trees.{Read}
-use Rattle.ab_logic.specs.Formulas.{IsSentence}
+use Rattle.ab_cases.specs.Clauses.{Clause, IsClause}
+use Rattle.ab_logic.specs.Formulas.{IsFormula, IsSentence}
 
--- a clause of a definition or of a program: whatever stands for the variables, its body gives its head
-pub record Clause : Type 0 where
-  pub variables : List (Variable ℕ)
-  pub head : Read
-  pub body : Read
-
--- a definition, inductive or else coinductive, of predicates by clauses
+-- a definition, inductive or else coinductive, of predicates by clauses: whatever stands for a clause's variables, its
+-- body gives its head
 pub record Block : Type 0 where
   pub inductive : Bool
   pub predicates : List (List ℕ)
-  pub clauses : List Clause
+  pub clauses : List (Clause (List ℕ))
 
 pub data Declaration : Type 0 where
   a_kind : List ℕ → Declaration
   a_constant : List ℕ → Ty → Declaration
   a_block : Block → Declaration
-  a_program_clause : Clause → Declaration
+  a_program_clause : Clause (List ℕ) → Declaration
   a_theorem : List ℕ → Read → Declaration
 
 abbrev pub Declarations : Type 0
@@ -68,6 +64,24 @@ theorems_in (a_constant c A ∷ ds) = theorems_in ds
 theorems_in (a_block b ∷ ds) = theorems_in ds
 theorems_in (a_program_clause c ∷ ds) = theorems_in ds
 
+-- the definition of the predicate: the first that names it
+abbrev pub block_in : Declarations → List ℕ → Option Block
+block_in [] p = None
+block_in (a_block b ∷ ds) p = if list_any (bytes_eq p) b.predicates then Some b else block_in ds p
+block_in (a_kind k ∷ ds) p = block_in ds p
+block_in (a_constant c A ∷ ds) p = block_in ds p
+block_in (a_program_clause c ∷ ds) p = block_in ds p
+block_in (a_theorem n F ∷ ds) p = block_in ds p
+
 -- each theorem is a formula that speaks of no goal
 abbrev pub HaveSentences : Declarations → Type 0
 HaveSentences D = (name : List ℕ) (F : Read) → theorem_in D name ≡ Some F → IsSentence (signature_in D) F
+
+-- a clause that defines: one of case analysis, with a formula for its body
+pub record IsDefining (sg : Signature) (c : Clause (List ℕ)) : Type 0 where
+  pub clause : IsClause sg c
+  pub body : IsFormula sg c.body
+
+-- each definition is by such clauses
+abbrev pub HaveDefinitions : Declarations → Type 0
+HaveDefinitions D = (p : List ℕ) (b : Block) → block_in D p ≡ Some b → All (IsDefining (signature_in D)) b.clauses

@@ -3,7 +3,7 @@ use Rattle.std.specs.Prelude.{ℕ, Option, Some, None, List}
 use Rattle.ab_term.specs.Types.{Ty}
 use Rattle.ab_term.specs.Logical as plain
 use Rattle.ab_term.specs.Logical.{Logical}
-use Rattle.ab_term.specs.Terms.{Head, logical, Term, lam, spine, Terms, no_terms, term}
+use Rattle.ab_term.specs.Terms.{Head, logical, lam, spine, Terms, no_terms, term}
 use Rattle.ab_store.specs.Trees.{Read}
 use Rattle.ab_logic.specs.Marks as marks
 use Rattle.ab_logic.specs.Marks.{Sign, star_of, at_of, plus_of, hash_of}

@@ -1,5 +1,5 @@
 -- What any later world keeps of an earlier one: ids and cells stay, and stand for what they stood for; what was
--- declared stays, in its order, and so do theorems and what marks count.
+-- declared stays, in its order, and so does what marks count.
 use Rattle.std.specs.Prelude.{◌≡◌, List, ◌++◌}
 use Rattle.ab_types.specs.Entries as table
 use Rattle.ab_store.specs.declared.node.TermId.{TermId}
@@ -9,7 +9,7 @@ use Rattle.ab_store.specs.Marks.{HasMark, KeepsMark}
 use Rattle.ab_logic.specs.Declarations.{Extends}
 use Rattle.ab_logic.specs.Worlds.{read, Holds, variable_of, HoldsCell, declarations_of, IsWorld}
 use Rattle.ab_logic.specs.declared.world.World.{World}
-use Rattle.ab_logic.specs.declared.theorems.Theorem.{Theorem}
+use Rattle.ab_logic.specs.declared.additions.Added.{Added}
 
 pub record Grows (old new : World) : Type 0 where
   pub ids : (t : TermId) → Holds old t → Holds new t
@@ -18,6 +18,6 @@ pub record Grows (old new : World) : Type 0 where
   pub cells : (c : CellId) → HoldsCell old c → variable_of new c ≡ variable_of old c
   pub types : table.IsExtendedBy old.types new.types
   pub marks : (m : Mark) → HasMark old.store m → KeepsMark old.store new.store m
-  pub theorems : (more : List Theorem) × (new.theorems ≡ old.theorems ++ more)
+  pub additions : (more : List Added) × (new.additions ≡ old.additions ++ more)
   pub declarations : Extends (declarations_of old) (declarations_of new)
   pub world : IsWorld new

@@ -9,4 +9,6 @@ pub mod Worlds
 pub mod Growth
 pub mod Readings
 pub mod Forms
-pub mod Theorems
+pub mod Additions
+pub mod Defining
+pub mod Built

@@ -1,8 +1,8 @@
 -- Size marks: the mark of an atom or a judgement, formulas without their marks, and when the marks of a hypothesis
 -- serve a formula that is asked for.
 use Rattle.std.specs.Prelude.{◌≡◌, ℕ, List, [], ◌∷◌}
-use Rattle.ab_term.specs.Logical.{Logical, truth, falsity, conjunction, disjunction, implication, equality, universal, existential, nabla, judgement, focused_judgement, star, at_sign, plus, hash}
-use Rattle.ab_term.specs.Terms.{Head, constant, logical, nominal, variable, index, Term, lam, spine, Terms, no_terms, term}
+use Rattle.ab_term.specs.Logical.{Logical, conjunction, disjunction, implication, universal, existential, nabla, judgement, focused_judgement, star, at_sign, plus, hash}
+use Rattle.ab_term.specs.Terms.{Head, constant, logical, nominal, lam, spine, Terms, no_terms, term}
 use Rattle.ab_store.specs.Trees.{Read}
 
 -- the mark of an atom or a judgement, with its level, if there is one

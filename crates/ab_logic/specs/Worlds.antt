@@ -1,17 +1,26 @@
 -- What a world stands for: what its ids read as, and the declarations in it.
-use Rattle.std.specs.Prelude.{◌≡◌, ℕ, ◌+◌, ◌-◌, ◌≤◌, List, [], ◌∷◌, ◌++◌, length, take, drop, All}
-use Rattle.ab_types.specs.Ids.{type_of}
+use Rattle.std.specs.Prelude.{◌≡◌, ℕ, ◌-◌, ◌≤◌, List, [], ◌∷◌, ◌++◌, map, length, take, drop, codes, true, All}
+use Rattle.ab_types.specs.Ids.{type_of, HoldsConstant}
 use Rattle.ab_types.specs.Entries as table
-use Rattle.ab_types.specs.Entries.{Table}
+use Rattle.ab_types.specs.Entries.{Table, signature, first_entries}
 use Rattle.ab_store.specs.declared.node.TermId.{TermId}
 use Rattle.ab_store.specs.declared.node.CellId.{CellId}
 use Rattle.ab_store.specs.Trees as store
-use Rattle.ab_store.specs.Trees.{Read, tree_of}
+use Rattle.ab_store.specs.Trees.{Read, Contents, tree_of}
 use Rattle.ab_store.specs.Naming.{IsTypedBy}
-use Rattle.ab_logic.specs.Declarations.{Declarations, a_kind, a_constant, a_theorem, HaveSentences}
+use Rattle.ab_cases.specs.Member.{member_clauses}
+use Rattle.ab_clauses.specs.Kept as kept
+use Rattle.ab_clauses.specs.Cases.{case_of, IsWellKept}
+use Rattle.ab_clauses.specs.Readings.{clause_of, block_of, HoldsClause}
+use Rattle.ab_clauses.specs.declared.kept.Block.{Block as KeptBlock}
+use Rattle.ab_clauses.specs.declared.kept.ClauseTerm.{ClauseTerm}
+use Rattle.ab_logic.specs.Formulas.{IsFormula}
+use Rattle.ab_logic.specs.Declarations.{Declaration, Declarations, Block, a_kind, a_constant, a_block, a_theorem, HaveSentences, HaveDefinitions}
 use Rattle.ab_logic.specs.Sequents.{Variable}
 use Rattle.ab_logic.specs.declared.world.World.{World}
-use Rattle.ab_logic.specs.declared.theorems.Theorem.{Theorem}
+use Rattle.ab_logic.specs.declared.additions.Added.{Added}
+use Rattle.ab_logic.specs.declared.additions.Addition.{Addition}
+use Rattle.ab_logic.specs.declared.additions.Addition.TheVariants.{Theorem, Definition}
 
 -- THE READING of an id. Cells are bound only while a command runs, so between two commands an id reads as its tree.
 abbrev pub read : World → TermId → Read
@@ -37,28 +46,63 @@ declared (table.a_kind k ∷ es) = a_kind k ∷ declared es
 declared (table.a_type A ∷ es) = declared es
 declared (table.a_constant c ∷ es) = a_constant c.name c.type ∷ declared es
 
--- what was declared behind the first `done` entries of the table: each theorem stands behind the entries that were
--- there when it was added
-abbrev pub declared_from : World → ℕ → List Theorem → Declarations
+-- a definition, its clauses as case analysis has them
+abbrev pub defined : kept.Block → Block
+defined b = record { inductive = b.inductive; predicates = b.predicates; clauses = map case_of b.clauses }
+
+-- THE READING of a definition
+abbrev pub definition_of : World → KeptBlock → Block
+definition_of w b = defined (block_of w.types w.store b)
+
+-- what is added, as it is declared
+abbrev pub declaration_of : World → Addition → Declaration
+declaration_of w (Theorem e) = a_theorem e.name (read w e.formula)
+declaration_of w (Definition b) = a_block (definition_of w b)
+
+-- what was declared behind the first `done` entries of the table: each addition stands behind the entries that were
+-- there when it was made
+abbrev pub declared_from : World → ℕ → List Added → Declarations
 declared_from w done [] = declared (drop done w.types)
-declared_from w done (t ∷ ts) =
-    declared (take (t.before - done) (drop done w.types))
-    ++ a_theorem t.entry.name (read w t.entry.formula) ∷ declared_from w t.before ts
+declared_from w done (a ∷ xs) = declared (take (a.before - done) (drop done w.types)) ++ declaration_of w a.what ∷ declared_from w a.before xs
 
 -- THE DECLARATIONS of a world, in order
 abbrev pub declarations_of : World → Declarations
-declarations_of w = declared_from w 0 w.theorems
+declarations_of w = declared_from w 0 w.additions
 
--- theorems were added one after another, while the table grew
-abbrev pub CameInOrder : Table → ℕ → List Theorem → Type 0
+-- what a new world declares: its table's entries, and `member`
+abbrev pub member_block : Block
+member_block = record { inductive = true; predicates = codes "member" ∷ []; clauses = member_clauses }
+
+abbrev pub first_declarations : Declarations
+first_declarations = declared first_entries ++ a_block member_block ∷ []
+
+-- additions were made one after another, while the table grew
+abbrev pub CameInOrder : Table → ℕ → List Added → Type 0
 CameInOrder types done [] = done ≤ length types
-CameInOrder types done (t ∷ ts) = (done ≤ t.before) × CameInOrder types t.before ts
+CameInOrder types done (a ∷ xs) = (done ≤ a.before) × CameInOrder types a.before xs
 
--- WHAT IS TRUE OF EVERY WORLD: its store is of its table, no cell is bound, and each theorem is a formula that speaks of
--- no goal
+module _ (types : Table) (terms : Contents) where
+  -- a clause of a definition: what it names is there, it is well kept, and its body is a formula
+  pub record IsKeptClause (c : ClauseTerm) : Type 0 where
+    pub held : HoldsClause types terms c
+    pub well : IsWellKept (signature types) (clause_of types terms c)
+    pub body : IsFormula (signature types) (tree_of types terms c.body)
+
+  pub record IsKeptBlock (b : KeptBlock) : Type 0 where
+    pub predicates : All (HoldsConstant types) b.predicates
+    pub clauses : All IsKeptClause b.clauses
+
+  -- what is added is there
+  abbrev pub IsKept : Addition → Type 0
+  IsKept (Theorem e) = store.Holds terms e.formula
+  IsKept (Definition b) = IsKeptBlock b
+
+-- WHAT IS TRUE OF EVERY WORLD: its store is of its table, no cell is bound, each theorem is a formula that speaks of no
+-- goal, and each definition is by clauses that define
 pub record IsWorld (w : World) : Type 0 where
   pub typed : IsTypedBy w.types w.store
   pub unbound : w.store.bindings ≡ []
-  pub theorems : All (λ (t : Theorem). Holds w t.entry.formula) w.theorems
-  pub order : CameInOrder w.types 0 w.theorems
+  pub additions : All (λ (a : Added). IsKept w.types w.store a.what) w.additions
+  pub order : CameInOrder w.types 0 w.additions
   pub sentences : HaveSentences (declarations_of w)
+  pub definitions : HaveDefinitions (declarations_of w)

@@ -1,14 +1,16 @@
 //! What the logic speaks of: declarations, formulas and sequents over shared terms.
 #![tactic(auto)]
 
+mod additions;
 mod form;
 pub mod laws;
 mod lists;
 mod marks;
+mod member;
 mod sequent;
-mod theorems;
 mod world;
 
+pub use additions::TheoremEntry;
 pub use form::{
     Form, as_and, as_arrow, as_equal, as_exists, as_forall, as_nabla, as_or, is_false, is_true,
     shape,
@@ -16,5 +18,4 @@ pub use form::{
 pub use lists::{Hypotheses, Variables};
 pub use marks::{Sign, marks_serve};
 pub use sequent::{Hypothesis, Sequent, SequentFault};
-pub use theorems::TheoremEntry;
 pub use world::{DefineFault, World};

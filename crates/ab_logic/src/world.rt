@@ -1,32 +1,41 @@
 //! Worlds: what was declared, and the terms that are shared.
-ghost use Rattle.std.specs.Prelude.{◌≡◌, [], ◌∷◌, ◌++◌, length, IfOk, IfSome, OnOk, OnErr, IsSome, slice_get, None, Err};
+ghost use Rattle.std.specs.Prelude.{◌≡◌, [], ◌∷◌, ◌++◌, map, length, IfOk, IfSome, OnOk, OnErr, IfErr, IsSome, slice_get, Some, None, Err, All};
 ghost use Rattle.std.specs.Option.{option_map, option_copied};
 ghost use Rattle.ab_types.specs.Entries.{first_entries};
-ghost use Rattle.ab_logic.specs.Declarations.{signature_in, theorem_in, theorems_in, a_theorem};
+ghost use Rattle.ab_types.specs.Ids.{HoldsConstant};
+ghost use Rattle.ab_clauses.specs.Proposed.{IsProposed};
+ghost use Rattle.ab_clauses.specs.Readings.{name_of, block_of, fault_of, HoldsFault, HoldsBlock};
+ghost use Rattle.ab_clauses.specs.Faults.{IsFaultOf};
+ghost use Rattle.ab_clauses.specs.Kept.{Block as ABlock};
+ghost use Rattle.ab_logic.specs.Declarations.{Declarations, signature_in, theorem_in, theorems_in, block_in, a_theorem, a_block};
 ghost use Rattle.ab_logic.specs.Formulas.{IsSentence};
-ghost use Rattle.ab_logic.specs.Theorems.{entry_in, IsMemory};
-ghost use Rattle.ab_logic.specs.Worlds.{read, Holds, declarations_of, declared, IsWorld};
+ghost use Rattle.ab_logic.specs.Additions.{entry_in, block_kept, IsMemory};
+ghost use Rattle.ab_logic.specs.Defining.{AreNew, IsFirstDefined, IsDefinable, IsDefineFault};
+ghost use Rattle.ab_logic.specs.Worlds.{read, Holds, definition_of, declarations_of, first_declarations, IsKeptBlock, IsWorld};
 ghost use Rattle.ab_logic.specs.Growth.{Grows};
 ghost use Rattle.ab_logic.specs.declared.world.DefineFault.{DefineFault as AFault};
 
-use crate::theorems::{TheoremEntry, Theorems};
+use crate::additions::{Additions, TheoremEntry};
+use crate::member::member_definition;
+use ab_clauses::{Block, ClauseFault, first_fault};
 use ab_store::{Store, TermId};
-use ab_types::{Name, TypeTable};
+use ab_types::laws::has_unique_ids;
+use ab_types::{ConstId, Name, Steps, TypeTable};
 use std::alloc::{AllocError, Global};
 
 /// What was declared, and the terms by which all is said: the types with the declared kinds and constants, the
-/// shared terms, and the theorems.
+/// shared terms, and theorems and definitions in order.
 #[derive(Drop)]
 pub struct World {
     pub types: TypeTable,
     pub store: Store,
-    theorems: Theorems,
+    additions: Additions,
 }
 
 /// Why something isn't declared.
 #[derive(Debug, Drop)]
 pub enum DefineFault {
-    /// The name has been taken.
+    /// There is a theorem of that name already, or a definition of that predicate.
     Clash(Name),
     /// A predicate stands to the left of an arrow in the body of its own definition.
     NotStratified(Name),
@@ -51,14 +60,104 @@ impl World {
     /// A world in which only what is built in is declared.
     pub fn new(alloc: Global) -> Result<World, AllocError>
         ensures world { IfOk result IsWorld }
-        ensures declares { IfOk result (λ w. declarations_of w ≡ declared first_entries) }
+        ensures declares { IfOk result (λ w. declarations_of w ≡ first_declarations) }
         ensures types { IfOk result (λ w. w.types ≡ first_entries) }
     {
-        Ok(World {
-            types: TypeTable::new(alloc)?,
-            store: Store::new(alloc),
-            theorems: Theorems::new(alloc),
-        })
+        let types = TypeTable::new(alloc)?;
+        let mut store = Store::new(alloc);
+        let member = member_definition(alloc, &types, &mut store)?;
+        let mut world = World {
+            types,
+            store,
+            additions: Additions::new(alloc),
+        };
+        world.put(member)?;
+        Ok(world)
+    }
+
+    /// Adds a definition behind all that was declared. Refused exactly where one of its predicates has a definition, and
+    /// else where its clauses have a fault: the first is told. Nothing is counted.
+    pub fn define<L>(&mut self, block: Block, steps: &mut Steps<L>) -> Result<(), DefineFault>
+        requires world { IsWorld self.old }
+        requires held { HoldsBlock self.old.types self.old.store block }
+        requires proposed { All (IsProposed (signature_in (declarations_of self.old))) (block_of self.old.types self.old.store block).clauses }
+
+        ensures added { OnOk result (declarations_of self.new ≡ declarations_of self.old ++ a_block (definition_of self.old block) ∷ []) }
+        ensures grows { OnOk result (Grows self.old self.new) }
+        ensures right { OnOk result (IsDefinable (declarations_of self.old) (block_of self.old.types self.old.store block)) }
+
+        ensures refused { IfErr result (λ fault. IsDefineFault (declarations_of self.old) (block_of self.old.types self.old.store block) fault) }
+        ensures err { OnErr result (self.new ≡ self.old) }
+        ensures steps { steps.new ≡ steps.old }
+    {
+        let _ = steps;
+        if let Some(predicate) = self.first_defined(block.predicates.as_slice()) {
+            let name = self.types.const_name(predicate).clone()?;
+            return Err(DefineFault::Clash(name));
+        }
+        let alloc = self.additions.alloc();
+        if let Some(fault) = first_fault(alloc, &self.types, &self.store, &block)? {
+            return Err(self.told(fault)?);
+        }
+        self.put(block)?;
+        Ok(())
+    }
+
+    /// The definition of the predicate.
+    pub fn block(&self, predicate: ConstId) -> Option<&Block>
+        requires world { IsWorld self.now }
+        requires predicate { HoldsConstant self.now.types predicate }
+        ensures reads { option_map (definition_of self.now) (option_copied result) ≡ block_in (declarations_of self.now) (name_of self.now.types predicate) }
+        ensures kept { option_copied result ≡ block_kept self.now.additions predicate }
+    {
+        has_unique_ids(&self.types);
+        self.additions.block(predicate)
+    }
+
+    /// The first of the predicates that has a definition.
+    fn first_defined(&self, predicates: &[ConstId]) -> Option<ConstId>
+        requires world { IsWorld self.now }
+        requires predicates { All (HoldsConstant self.now.types) predicates.now }
+        ensures none { result ≡ None → All (λ p. block_kept self.now.additions p ≡ None) predicates.now }
+        ensures new { result ≡ None → AreNew (declarations_of self.now) (map (name_of self.now.types) predicates.now) }
+        ensures held { IfSome result (HoldsConstant self.now.types) }
+        ensures first { IfSome result (λ p. IsFirstDefined (declarations_of self.now) (map (name_of self.now.types) predicates.now) (name_of self.now.types p)) }
+    {
+        for predicate in predicates {
+            if self.block(*predicate).is_some() {
+                return Some(*predicate);
+            }
+        }
+        None
+    }
+
+    /// What is told of the fault of a definition's clauses.
+    fn told(&self, fault: ClauseFault) -> Result<DefineFault, AllocError>
+        requires { HoldsFault self.now.types fault }
+        ensures { IfOk result (λ told. (b : ABlock) (D : Declarations) → AreNew D b.predicates → IsFaultOf b (fault_of self.now.types fault) → IsDefineFault D b told) }
+    {
+        match fault {
+            ClauseFault::NotStratified(predicate) => {
+                let name = self.types.const_name(predicate).clone()?;
+                Ok(DefineFault::NotStratified(name))
+            }
+            ClauseFault::BadHead(number) => Ok(DefineFault::BadHead(number)),
+        }
+    }
+
+    /// Puts a definition, of whose predicates there is none, behind all that was declared.
+    fn put(&mut self, block: Block) -> Result<(), AllocError>
+        requires world { IsWorld self.old }
+        requires new { All (λ p. block_kept self.old.additions p ≡ None) block.predicates }
+        requires kept { IsKeptBlock self.old.types self.old.store block }
+        ensures added { OnOk result (declarations_of self.new ≡ declarations_of self.old ++ a_block (definition_of self.old block) ∷ []) }
+        ensures grows { OnOk result (Grows self.old self.new) }
+        ensures types { self.new.types ≡ self.old.types }
+        ensures err { OnErr result (self.new ≡ self.old) }
+    {
+        let before = self.types.len();
+        self.additions.add_definition(block, before)?;
+        Ok(())
     }
 
     /// Adds a theorem behind all that was declared. Refused exactly where there is a theorem of that name.
@@ -79,7 +178,7 @@ impl World {
             return Err(DefineFault::Clash(name));
         }
         let before = self.types.len();
-        self.theorems.add(name, formula, before)?;
+        self.additions.add_theorem(name, formula, before)?;
         Ok(())
     }
 
@@ -88,22 +187,22 @@ impl World {
         requires { IsWorld self.now }
         ensures reads { option_map (read self.now) result ≡ theorem_in (declarations_of self.now) name.now }
         ensures held { IfSome result (Holds self.now) }
-        ensures kept { result ≡ option_map (λ e. e.formula) (entry_in self.now.theorems name.now) }
+        ensures kept { result ≡ option_map (λ e. e.formula) (entry_in self.now.additions name.now) }
     {
-        self.theorems.formula(name)
+        self.additions.formula(name)
     }
 
     /// The theorem of this place, counted from 0 in the order in which they were added.
     pub fn theorem_at(&self, place: usize) -> Option<&TheoremEntry>
         ensures { option_map (λ e. (e.name, read self.now e.formula)) (option_copied result) ≡ slice_get (theorems_in (declarations_of self.now)) place }
     {
-        self.theorems.at(place)
+        self.additions.theorem_at(place)
     }
 
     /// How many theorems there are.
     pub fn len(&self) -> usize
         ensures { result ≡ length (theorems_in (declarations_of self.now)) }
     {
-        self.theorems.len()
+        self.additions.len()
     }
 }

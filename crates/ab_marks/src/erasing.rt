@@ -26,7 +26,7 @@ pub fn without_marks(
     ensures reads { IfOk result (λ t. read world.new t ≡ erased (read world.old formula)) }
     ensures grows { Grows world.old world.new }
     ensures types { world.new.types ≡ world.old.types }
-    ensures theorems { world.new.theorems ≡ world.old.theorems }
+    ensures additions { world.new.additions ≡ world.old.additions }
 {
     erase(alloc, &world.types, &mut world.store, formula)
 }

@@ -29,7 +29,7 @@ fn is_variable(world: &World, sequent: &Sequent, name: &Name) -> bool
 
 /// Whether a constant is declared under the name.
 fn is_constant(world: &World, name: &Name) -> bool
-    requires { CameInOrder world.now.types 0 world.now.theorems }
+    requires { CameInOrder world.now.types 0 world.now.additions }
     ensures { IsTrue result ↔ Contains (constant_names (declarations_of world.now)) name.now }
 {
     world.types.look(name).is_some()
@@ -37,7 +37,7 @@ fn is_constant(world: &World, name: &Name) -> bool
 
 /// Whether a new variable of the goal may have the name.
 fn is_free(world: &World, sequent: &Sequent, name: &Name) -> bool
-    requires order { CameInOrder world.now.types 0 world.now.theorems }
+    requires order { CameInOrder world.now.types 0 world.now.additions }
     requires held { HoldsSequent world.now sequent.now }
     ensures free { IsTrue result → IsFreeName (declarations_of world.now) (sequent_of world.now sequent.now) name.now }
     ensures taken { IsFalse result → Contains (taken_names (declarations_of world.now) (sequent_of world.now sequent.now)) name.now ⊎ IsNominalName name.now }
@@ -68,7 +68,7 @@ fn first_free(
     first: u128,
     last: u128,
 ) -> Result<Name, AllocError>
-    requires order { CameInOrder world.now.types 0 world.now.theorems }
+    requires order { CameInOrder world.now.types 0 world.now.additions }
     requires held { HoldsSequent world.now sequent.now }
     requires start { MayBeFrom (declarations_of world.now) (sequent_of world.now sequent.now) stem.now first }
     requires room { first + length (taken_names (declarations_of world.now) (sequent_of world.now sequent.now)) ≤ last }
@@ -105,7 +105,7 @@ pub fn variable_name(
     sequent: &Sequent,
     hint: &Name,
 ) -> Result<Name, AllocError>
-    requires order { CameInOrder world.now.types 0 world.now.theorems }
+    requires order { CameInOrder world.now.types 0 world.now.additions }
     requires held { HoldsSequent world.now sequent.now }
     ensures { IfOk result (λ name. IsNamedFor (declarations_of world.now) (sequent_of world.now sequent.now) hint.now name) }
 {

@@ -5,7 +5,7 @@ use Rattle.ab_store.specs.Trees.{Contents}
 use Rattle.ab_norm.specs.Growth.{AddsTerms, AddsTypedTerms}
 use Rattle.ab_logic.specs.Worlds.{IsWorld}
 use Rattle.ab_logic.specs.declared.world.World.{World}
-use Rattle.ab_logic.specs.declared.theorems.Theorem.{Theorem}
+use Rattle.ab_logic.specs.declared.additions.Added.{Added}
 use Rattle.ab_logic.proofs.Growing.{grows_not, grows_on, grows_store}
 use Rattle.ab_rules.specs.Terms.{Adds}
 use Rattle.ab_rules.proofs.Declared.{declared_same}
@@ -16,14 +16,14 @@ adds_not w is = record { grows = grows_not w is; types = refl; cells = refl; dec
 pub adds_on : (u v w : World) → Adds u v → Adds v w → Adds u w
 adds_on u v w a b = record { grows = grows_on u v w a.grows b.grows; types = b.types ∙ a.types; cells = b.cells ∙ a.cells; declared = b.declared ∙ a.declared }
 
-pub adds_terms : (types : Table) (old new : Contents) (ts : List Theorem) → IsWorld (record { types = types; store = old; theorems = ts }) → AddsTerms old new
-    → Adds (record { types = types; store = old; theorems = ts }) (record { types = types; store = new; theorems = ts })
-adds_terms types old new ts is a =
-    let grown = grows_store types old new ts is a.before (a.typed types is.typed) in
-    record { grows = grown; types = refl; cells = a.cells; declared = declared_same (record { types = types; store = old; theorems = ts }) (record { types = types; store = new; theorems = ts }) is grown refl refl }
+pub adds_terms : (types : Table) (old new : Contents) (xs : List Added) → IsWorld (record { types = types; store = old; additions = xs }) → AddsTerms old new
+    → Adds (record { types = types; store = old; additions = xs }) (record { types = types; store = new; additions = xs })
+adds_terms types old new xs is a =
+    let grown = grows_store types old new xs is a.before (a.typed types is.typed) in
+    record { grows = grown; types = refl; cells = a.cells; declared = declared_same (record { types = types; store = old; additions = xs }) (record { types = types; store = new; additions = xs }) is grown refl refl }
 
-pub adds_typed : (types : Table) (old new : Contents) (ts : List Theorem) → IsWorld (record { types = types; store = old; theorems = ts }) → AddsTypedTerms types old new
-    → Adds (record { types = types; store = old; theorems = ts }) (record { types = types; store = new; theorems = ts })
-adds_typed types old new ts is a =
-    let grown = grows_store types old new ts is a.before a.typed in
-    record { grows = grown; types = refl; cells = a.cells; declared = declared_same (record { types = types; store = old; theorems = ts }) (record { types = types; store = new; theorems = ts }) is grown refl refl }
+pub adds_typed : (types : Table) (old new : Contents) (xs : List Added) → IsWorld (record { types = types; store = old; additions = xs }) → AddsTypedTerms types old new
+    → Adds (record { types = types; store = old; additions = xs }) (record { types = types; store = new; additions = xs })
+adds_typed types old new xs is a =
+    let grown = grows_store types old new xs is a.before a.typed in
+    record { grows = grown; types = refl; cells = a.cells; declared = declared_same (record { types = types; store = old; additions = xs }) (record { types = types; store = new; additions = xs }) is grown refl refl }

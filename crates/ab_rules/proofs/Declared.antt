@@ -6,13 +6,13 @@ use Rattle.ab_types.specs.Entries.{Table, a_type, FindsOrAdds}
 use Rattle.ab_logic.specs.Growth.{Grows}
 use Rattle.ab_logic.specs.Worlds.{IsWorld, declared, declared_from, declarations_of}
 use Rattle.ab_logic.specs.declared.world.World.{World}
-use Rattle.ab_logic.proofs.Declaring.{declared_more}
+use Rattle.ab_logic.proofs.Blocks.{declared_more}
 
-module _ (w v : World) (is : IsWorld w) (grows : Grows w v) (theorems : v.theorems ≡ w.theorems) where
+module _ (w v : World) (is : IsWorld w) (grows : Grows w v) (additions : v.additions ≡ w.additions) where
   same_with : (more : Table) → v.types ≡ w.types ++ more → declared more ≡ [] → declarations_of v ≡ declarations_of w
   same_with more types none =
-      ap (declared_from v 0) theorems
-      ∙ declared_more w v more types grows.readings 0 w.theorems is.order is.theorems
+      ap (declared_from v 0) additions
+      ∙ declared_more w v more types grows.ids grows.readings grows.cell_ids grows.cells 0 w.additions is.order is.additions
       ∙ ap (λ ds. declarations_of w ++ ds) none
       ∙ append-nil (declarations_of w)
 

@@ -20,7 +20,7 @@ use Rattle.ab_logic.specs.declared.sequent.Hypothesis.{Hypothesis}
 use Rattle.ab_logic.proofs.Declaring.{constants_are}
 
 pub same_signature : (w : World) → IsWorld w → signature w.types ≡ signature_in (declarations_of w)
-same_signature w is = ap table.type_in (sym (constants_are w 0 w.theorems is.order))
+same_signature w is = ap table.type_in (sym (constants_are w 0 w.additions is.order))
 
 module _ (w : World) where
   pub same_variables : (xs : List CellId) → map (cells.variable_of w.types w.store) xs ≡ map in_terms (map (variable_of w) xs)

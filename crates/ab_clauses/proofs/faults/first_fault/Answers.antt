@@ -1,4 +1,4 @@
-use Rattle.std.proofs.Common.{◌≡◌, ◌+◌, map, arith, subst, refl}
+use Rattle.std.proofs.Common.{◌≡◌, map, arith, subst, refl}
 use Rattle.ab_clauses.specs.Faults.{IsFaultOf}
 use Rattle.ab_clauses.specs.Readings.{name_of, fault_of, block_of}
 use Rattle.ab_clauses.specs.declared.faults.ClauseFault.{ClauseFault}

@@ -1,4 +1,4 @@
-use Rattle.std.proofs.Common.{◌≡◌, ◌+◌, ◌<◌, ◌≤◌, arith, get_or, refl, sym, ap, ◌∙◌, Option, Some, None, map, drop, subst}
+use Rattle.std.proofs.Common.{◌+◌, ◌<◌, ◌≤◌, arith, get_or, refl, sym, ap, ◌∙◌, map, drop, subst}
 use Rattle.std.specs.List.{All}
 use Rattle.std.specs.Option.{option_map}
 use Rattle.std.proofs.lemmas.List.Elements.{All-same}
@@ -81,4 +81,4 @@ first_in_node-returns-in_default-clause-first t c =
     below
     ∙ ap (λ q. first_of ps (constants_of_all q p rest)) (c.part_of_first-first.ensures types store.cells)
     ∙ sym (ap (first_of ps) (spine_constants ps types store p c.args.id c.view.result.now (c.view.ensures.tree types) c.in-Spine.head c.in-Spine.args c.as_slice.result.now c.in-Spine.is c.as_slice.ensures)
-    ∙ behind ps own (constants_of_all (part_of_first p h) p rest) (first_of ps own) refl (sym (c.own_constant.ensures store.cells) ∙ ap (option_map (name_of types)) c.in_default.is))) c.first_in_all.ensures.first
+    ∙ behind ps own (constants_of_all (part_of_first p h) p rest) (first_of ps own) refl (sym (c.own_constant.ensures.reads store.cells) ∙ ap (option_map (name_of types)) c.in_default.is))) c.first_in_all.ensures.first

@@ -40,4 +40,4 @@ returns-clause-carried g c =
     let v = c.stand_for_all.new.world in
     let stand : StandForAll w (map (variable_of w) (unbound_of w.store c.args.made.now)) c.args.goal v c.in_ok-over.over =
     subst (λ (l : List CellId). StandForAll w (map (variable_of w) l) c.args.goal v c.in_ok-over.over) (c.deref.ensures.value ∙ c.in_ok-left.ensures) c.in_ok-over.ensures.stand in
-    if_ok c.resolved.result (λ k put. is_carried w v c.resolved.new.world c.args.made.now c.args.goal c.in_ok-over.over k c.requires.world c.requires.goal c.requires.made c.requires.apart stand put) c.resolved.ensures.put_in
+    if_ok c.resolved.result (λ k put. is_carried w v c.resolved.new.world c.args.made.now c.args.goal c.in_ok-over.over k c.requires.world c.requires.goal c.requires.made c.requires.apart stand put c.resolved.ensures.goes.types c.resolved.ensures.cells) c.resolved.ensures.put_in

@@ -11,7 +11,7 @@ pub loop-cell-init : goal.loop-cell-init
 loop-cell-init g c =
     let w = c.args.world.now in
     let e = c.reserve.ensures in
-    let v : World = record { types = w.types; store = c.reserve.new.self; theorems = w.theorems } in
+    let v : World = record { types = w.types; store = c.reserve.new.self; additions = w.additions } in
     let goes : GoesOn w v = goes_extended w v refl refl e.before (e.typed w.types c.requires.world.typed) in
     record { stood = stood_none w v c.args.cells.now c.args.goal c.requires.world goes c.requires.goal e.before e.cells c.in_ok-reserve.ensures.room; counted = refl }
 

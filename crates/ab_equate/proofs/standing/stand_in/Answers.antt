@@ -9,7 +9,7 @@ use Rattle.ab_equate.proofs.standing.stand_in.Goals as goal
 pub returns-in_err-made-clause-goes : goal.returns-in_err-made-clause-goes
 returns-in_err-made-clause-goes g c =
     let e = c.new_for.ensures in
-    goes_extended c.args.world.now c.new_for.new.world e.types e.theorems e.before e.typed
+    goes_extended c.args.world.now c.new_for.new.world e.types e.additions e.before e.typed
 
 pub bind-requires-clause-apart : goal.bind-requires-clause-apart
 bind-requires-clause-apart g c =
@@ -29,9 +29,9 @@ returns-clause-goes g c =
     let v = c.new_for.new.world in
     let e = c.in_ok-made.ensures in
     let b = c.bind.ensures in
-    let u : World = record { types = v.types; store = c.bind.new.self; theorems = v.theorems } in
-    goes_on w v u (goes_extended w v e.types e.theorems e.before e.typed)
-    (goes_put v.types v.store c.bind.new.self v.theorems (b.typed v.types e.typed (bound_typed w v c.args.cell c.in_ok-made.made.term e.types e.before c.requires.cell e.term)) b.nodes b.cells b.marks)
+    let u : World = record { types = v.types; store = c.bind.new.self; additions = v.additions } in
+    goes_on w v u (goes_extended w v e.types e.additions e.before e.typed)
+    (goes_put v.types v.store c.bind.new.self v.additions (b.typed v.types e.typed (bound_typed w v c.args.cell c.in_ok-made.made.term e.types e.before c.requires.cell e.term)) b.nodes b.cells b.marks)
 
 pub returns-clause-stands : goal.returns-clause-stands
 returns-clause-stands g c =
@@ -39,10 +39,10 @@ returns-clause-stands g c =
     let v = c.new_for.new.world in
     let e = c.in_ok-made.ensures in
     let b = c.bind.ensures in
-    let u : World = record { types = v.types; store = c.bind.new.self; theorems = v.theorems } in
+    let u : World = record { types = v.types; store = c.bind.new.self; additions = v.additions } in
     let goes : GoesOn w u =
-    goes_on w v u (goes_extended w v e.types e.theorems e.before e.typed)
-    (goes_put v.types v.store c.bind.new.self v.theorems (b.typed v.types e.typed (bound_typed w v c.args.cell c.in_ok-made.made.term e.types e.before c.requires.cell e.term)) b.nodes b.cells b.marks) in
+    goes_on w v u (goes_extended w v e.types e.additions e.before e.typed)
+    (goes_put v.types v.store c.bind.new.self v.additions (b.typed v.types e.typed (bound_typed w v c.args.cell c.in_ok-made.made.term e.types e.before c.requires.cell e.term)) b.nodes b.cells b.marks) in
     let new = c.in_ok-made.made.cell in
     let size = ap length b.cells in
     let there : new.0 < length c.bind.new.self.cells = (let h = e.held in omega (arith, h, size)) in

@@ -22,6 +22,6 @@ by_look table name (Some id) held same absent b e = (λ t. subst (Contains (name
 pub returns : goal.returns
 returns c =
     let w = c.args.world.now in
-    let same : constant_names (declarations_of w) ≡ names (constants w.types) = ap names (constants_are w 0 w.theorems c.requires) in
+    let same : constant_names (declarations_of w) ≡ names (constants w.types) = ap names (constants_are w 0 w.additions c.requires) in
     subst (λ ns. IsTrue c.is_some.result ↔ Contains ns c.args.name.now) (sym same)
     (by_look w.types c.args.name.now c.look.result c.look.ensures.held c.look.ensures.name c.look.ensures.absent c.is_some.result c.is_some.ensures)

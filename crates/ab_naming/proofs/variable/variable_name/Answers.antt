@@ -31,7 +31,7 @@ first_free-requires-clause-room c =
     length-map (map (variable_of w) c.args.sequent.now.variables) (λ (x : Variable). x.name) ∙ length-map c.args.sequent.now.variables (variable_of w) in
     let same : length c.as_slice.result.now ≡ length c.args.sequent.now.variables = ap length c.as_slice.ensures in
     let known : length (constant_names D) ≡ length (constants w.types) =
-    length-names _ ∙ ap length (constants_are w 0 w.theorems c.requires.order) in
+    length-names _ ∙ ap length (constants_are w 0 w.additions c.requires.order) in
     let few = few_constants w.types in
     let counted = c.len.ensures.len in
     omega (arith, length-append (variable_names s) (constant_names D), variables, same, known, few, counted)

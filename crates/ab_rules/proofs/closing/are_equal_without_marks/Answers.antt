@@ -29,18 +29,18 @@ returns-clause-decides c =
 pub returns-in_err-first-clause-declared : goal.returns-in_err-first-clause-declared
 returns-in_err-first-clause-declared c =
     let one = c.without_marks.ensures in
-    declared_same c.args.world.now c.without_marks.new.world c.requires.world one.grows one.theorems one.types
+    declared_same c.args.world.now c.without_marks.new.world c.requires.world one.grows one.additions one.types
 
 pub returns-in_err-second-clause-declared : goal.returns-in_err-second-clause-declared
 returns-in_err-second-clause-declared c =
     let one = c.without_marks.ensures in
     let two = c.without_marks-2.ensures in
-    declared_same c.without_marks.new.world c.without_marks-2.new.world one.grows.world two.grows two.theorems two.types
-    ∙ declared_same c.args.world.now c.without_marks.new.world c.requires.world one.grows one.theorems one.types
+    declared_same c.without_marks.new.world c.without_marks-2.new.world one.grows.world two.grows two.additions two.types
+    ∙ declared_same c.args.world.now c.without_marks.new.world c.requires.world one.grows one.additions one.types
 
 pub returns-clause-declared : goal.returns-clause-declared
 returns-clause-declared c =
     let one = c.without_marks.ensures in
     let two = c.without_marks-2.ensures in
-    declared_same c.without_marks.new.world c.without_marks-2.new.world one.grows.world two.grows two.theorems two.types
-    ∙ declared_same c.args.world.now c.without_marks.new.world c.requires.world one.grows one.theorems one.types
+    declared_same c.without_marks.new.world c.without_marks-2.new.world one.grows.world two.grows two.additions two.types
+    ∙ declared_same c.args.world.now c.without_marks.new.world c.requires.world one.grows one.additions one.types

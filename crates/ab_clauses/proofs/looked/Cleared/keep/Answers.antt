@@ -1,4 +1,4 @@
-use Rattle.std.proofs.Common.{ap, subst}
+use Rattle.std.proofs.Common.{subst}
 use Rattle.ab_clauses.proofs.Sets.{term_cmp, one_term, gains_only, all_gained}
 use Rattle.ab_clauses.specs.Stratification.{everywhere, left_of_arrows}
 use Rattle.ab_clauses.specs.Looked.{IsClear}

@@ -1,4 +1,4 @@
-use Rattle.std.proofs.Common.{ap, subst}
+use Rattle.std.proofs.Common.{subst}
 use Rattle.ab_clauses.proofs.Sets.{spot_cmp, one_spot, gains_only, all_gained}
 use Rattle.ab_clauses.specs.Heads.{in_the_atom, under_a_variable}
 use Rattle.ab_clauses.specs.Looked.{IsKeeping}

@@ -5,4 +5,4 @@ use Rattle.ab_logic.proofs.Declaring.{theorems_are}
 use Rattle.ab_logic.proofs.world.World.len.Goals as goal
 
 pub returns : goal.returns
-returns c = c.len.ensures ∙ sym (length-map _ _) ∙ ap length (sym (theorems_are c.args.self.now 0 c.args.self.now.theorems))
+returns c = c.len.ensures ∙ sym (length-map _ _) ∙ ap length (sym (theorems_are c.args.self.now 0 c.args.self.now.additions))

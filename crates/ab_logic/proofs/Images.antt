@@ -10,7 +10,7 @@ use Rattle.ab_logic.specs.Formulas.{Place, a_formula, a_scope, a_marked, any, pl
 
 module _ (f : Variable ℕ → Option Read) where
   mutual
-    image_stands : (p : Place) (t : Read) → StandsIn p t → StandsIn p (image_by f t)
+    pub image_stands : (p : Place) (t : Read) → StandsIn p t → StandsIn p (image_by f t)
     image_stands any t s = tt
     image_stands a_formula (lam A x t) s = absurd s
     image_stands a_formula (spine (constant c) ts) s = (tt, image_all_stand any ts s.1)

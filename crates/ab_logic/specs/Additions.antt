@@ -1,0 +1,82 @@
+-- How what was added to a world is kept. Public contracts don't speak of this.
+use Rattle.std.specs.Prelude.{◌≡◌, ℕ, suc, ◌==◌, Bool, List, [], ◌∷◌, Option, Some, None, if◌then◌else◌, bytes_eq, slice_get}
+use Rattle.std.specs.Option.{option_and_then}
+use Rattle.std.specs.List.{list_any}
+use Rattle.ab_types.specs.declared.ids.ConstId.{ConstId}
+use Rattle.ab_clauses.specs.declared.kept.Block.{Block}
+use Rattle.ab_logic.specs.declared.additions.TheoremEntry.{TheoremEntry}
+use Rattle.ab_logic.specs.declared.additions.Addition.{Addition}
+use Rattle.ab_logic.specs.declared.additions.Addition.TheVariants.{Theorem, Definition}
+use Rattle.ab_logic.specs.declared.additions.Added.{Added}
+use Rattle.ab_logic.specs.declared.world.DefineFault.{DefineFault}
+use Rattle.ab_logic.specs.declared.world.DefineFault.TheVariants.{Memory}
+
+-- the theorem of that name, or else the rest
+abbrev pub entry_or : Addition → List ℕ → Option TheoremEntry → Option TheoremEntry
+entry_or (Theorem e) name rest = if bytes_eq name e.name then Some e else rest
+entry_or (Definition b) name rest = rest
+
+-- the theorem of that name
+abbrev pub entry_in : List Added → List ℕ → Option TheoremEntry
+entry_in [] name = None
+entry_in (a ∷ xs) name = entry_or a.what name (entry_in xs name)
+
+abbrev pub entries_with : Addition → List TheoremEntry → List TheoremEntry
+entries_with (Theorem e) rest = e ∷ rest
+entries_with (Definition b) rest = rest
+
+-- the theorems, in order
+abbrev pub entries_of : List Added → List TheoremEntry
+entries_of [] = []
+entries_of (a ∷ xs) = entries_with a.what (entries_of xs)
+
+abbrev pub same_constant : ConstId → ConstId → Bool
+same_constant p q = p.0 == q.0
+
+-- the constant is one of these
+abbrev pub is_among : List ConstId → ConstId → Bool
+is_among ps p = list_any (λ q. same_constant q p) ps
+
+-- the definition, if it is one of the predicate, or else the rest
+abbrev pub block_or : Addition → ConstId → Option Block → Option Block
+block_or (Theorem e) p rest = rest
+block_or (Definition b) p rest = if is_among b.predicates p then Some b else rest
+
+-- the definition of the predicate
+abbrev pub block_kept : List Added → ConstId → Option Block
+block_kept [] p = None
+block_kept (a ∷ xs) p = block_or a.what p (block_kept xs p)
+
+abbrev pub as_theorem : Addition → Option TheoremEntry
+as_theorem (Theorem e) = Some e
+as_theorem (Definition b) = None
+
+abbrev pub as_block : Addition → ConstId → Option Block
+as_block a p = block_or a p None
+
+-- the theorem at a place, if one stands there
+abbrev pub theorem_at_place : List Added → ℕ → Option TheoremEntry
+theorem_at_place xs place = option_and_then (λ a. as_theorem a.what) (slice_get xs place)
+
+-- the definition at a place, if one of the predicate stands there
+abbrev pub block_at_place : List Added → ConstId → ℕ → Option Block
+block_at_place xs p place = option_and_then (λ a. as_block a.what p) (slice_get xs place)
+
+abbrev pub places_with : Addition → ℕ → List (List ℕ × ℕ) → List (List ℕ × ℕ)
+places_with (Theorem e) place rest = (e.name, place) ∷ rest
+places_with (Definition b) place rest = rest
+
+-- the names of theorems, each with its place, where the list begins at the first place
+abbrev pub places_from : ℕ → List Added → List (List ℕ × ℕ)
+places_from place [] = []
+places_from place (a ∷ xs) = places_with a.what place (places_from (suc place) xs)
+
+-- the places that are noted lead to the theorems, in order, and to each predicate's definition
+pub record IsFiled (xs : List Added) (by_name : List (List ℕ × ℕ)) (by_predicate : ConstId → Option ℕ) : Type 0 where
+  pub theorems : by_name ≡ places_from 0 xs
+  pub definitions : (p : ConstId) → option_and_then (block_at_place xs p) (by_predicate p) ≡ block_kept xs p
+
+-- the fault is want of memory
+abbrev pub IsMemory : DefineFault → Type 0
+IsMemory (Memory fault) = Unit {0}
+IsMemory _ = ⊥

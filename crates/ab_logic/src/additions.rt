@@ -1,0 +1,225 @@
+//! What was added to a world behind kinds and constants, in order: theorems and definitions.
+ghost use Rattle.std.specs.Prelude.{◌≡◌, ◌⊎◌, [], ◌∷◌, ◌++◌, length, OnOk, OnErr, slice_get, true, None, Some, All, if◌then◌else◌};
+ghost use Rattle.std.specs.HashMap.{get};
+ghost use Rattle.std.specs.Option.{option_map, option_copied};
+ghost use Rattle.ab_logic.specs.Additions.{same_constant, is_among, as_theorem, as_block, theorem_at_place, block_at_place, entry_in, entries_of, block_kept};
+ghost use Rattle.ab_logic.specs.declared.additions.Addition.TheVariants.{Theorem, Definition};
+
+use ab_clauses::Block;
+use ab_store::TermId;
+use ab_types::{ConstId, Name};
+use indexmap::IndexMap;
+use std::alloc::{AllocError, Global};
+use std::collections::HashMap;
+use std::marker::Model;
+
+/// A theorem: its name and its formula.
+#[derive(Debug, Drop)]
+pub struct TheoremEntry {
+    pub name: Name,
+    pub formula: TermId,
+}
+
+/// What is added to a world.
+#[derive(Debug, Drop)]
+pub enum Addition {
+    Theorem(TheoremEntry),
+    Definition(Block),
+}
+
+impl Addition {
+    /// The theorem, if it is one.
+    fn theorem(&self) -> Option<&TheoremEntry>
+        ensures { option_copied result ≡ as_theorem self.now }
+    {
+        match self {
+            Addition::Theorem(entry) => Some(entry),
+            Addition::Definition(_) => None,
+        }
+    }
+
+    /// The definition, if it is one of the predicate.
+    fn block(&self, predicate: ConstId) -> Option<&Block>
+        ensures { option_copied result ≡ as_block self.now predicate }
+    {
+        match self {
+            Addition::Theorem(_) => None,
+            Addition::Definition(block) => {
+                if block.predicates.as_slice().contains(&predicate) {
+                    Some(block)
+                } else {
+                    None
+                }
+            }
+        }
+    }
+}
+
+/// What was added, and how many entries the table of types had then.
+#[derive(Debug, Drop)]
+pub struct Added {
+    pub(crate) what: Addition,
+    pub(crate) before: usize,
+}
+
+/// Theorems and definitions in order, looked up by name and by predicate. Contracts see the list.
+#[derive(Drop)]
+pub(crate) struct Additions {
+    list: Vec<Added>,
+    by_name: IndexMap<Name, usize>,
+    by_predicate: HashMap<ConstId, usize>,
+}
+
+impl Model for Additions {
+    ghost use Rattle.std.specs.Prelude.{List};
+    ghost use Rattle.std.specs.HashMap.{get};
+    ghost use Rattle.ab_logic.specs.declared.additions.Added.{Added};
+
+    ghost Value = { List Added };
+
+    ghost use Rattle.ab_logic.specs.Additions.{same_constant, IsFiled};
+
+    ghost view = { λ a. a.list.items };
+
+    ghost invariant = { λ a. IsFiled a.list.items a.by_name.entries (get same_constant a.by_predicate) };
+}
+
+impl Additions {
+    /// No addition.
+    pub(crate) fn new(alloc: Global) -> Additions
+        ensures { result ≡ [] }
+    {
+        Additions {
+            list: Vec::new(alloc),
+            by_name: IndexMap::new(alloc),
+            by_predicate: HashMap::new(alloc),
+        }
+    }
+
+    /// Where memory for it comes from.
+    pub(crate) fn alloc(&self) -> Global {
+        *self.list.allocator()
+    }
+
+    /// How many theorems there are.
+    pub(crate) fn len(&self) -> usize
+        ensures { result ≡ length (entries_of self.now) }
+    {
+        self.by_name.len()
+    }
+
+    /// The theorem of this place among theorems.
+    pub(crate) fn theorem_at(&self, place: usize) -> Option<&TheoremEntry>
+        ensures { option_copied result ≡ slice_get (entries_of self.now) place }
+    {
+        match self.by_name.get_index(place) {
+            None => None,
+            Some((_, place)) => self.theorem_in(*place),
+        }
+    }
+
+    /// The formula of the theorem of that name.
+    pub(crate) fn formula(&self, name: &Name) -> Option<TermId>
+        ensures { result ≡ option_map (λ e. e.formula) (entry_in self.now name.now) }
+    {
+        match self.theorem(name) {
+            None => None,
+            Some(entry) => Some(entry.formula),
+        }
+    }
+
+    /// The theorem of that name.
+    fn theorem(&self, name: &Name) -> Option<&TheoremEntry>
+        ensures { option_copied result ≡ entry_in self.now name.now }
+    {
+        match self.by_name.get(name) {
+            None => None,
+            Some(place) => self.theorem_in(*place),
+        }
+    }
+
+    /// The definition of the predicate.
+    pub(crate) fn block(&self, predicate: ConstId) -> Option<&Block>
+        ensures { option_copied result ≡ block_kept self.now predicate }
+    {
+        match self.by_predicate.get(&predicate) {
+            None => None,
+            Some(place) => self.block_in(*place, predicate),
+        }
+    }
+
+    /// The theorem at this place of the list, if one stands there.
+    fn theorem_in(&self, place: usize) -> Option<&TheoremEntry>
+        ensures { option_copied result ≡ theorem_at_place self.now place }
+    {
+        match self.list.get(place) {
+            None => None,
+            Some(added) => added.what.theorem(),
+        }
+    }
+
+    /// The definition at this place of the list, if one of the predicate stands there.
+    fn block_in(&self, place: usize, predicate: ConstId) -> Option<&Block>
+        ensures { option_copied result ≡ block_at_place self.now predicate place }
+    {
+        match self.list.get(place) {
+            None => None,
+            Some(added) => added.what.block(predicate),
+        }
+    }
+
+    /// Puts a theorem, of whose name there is none, behind the others.
+    pub(crate) fn add_theorem(
+        &mut self,
+        name: Name,
+        formula: TermId,
+        before: usize,
+    ) -> Result<(), AllocError>
+        requires { entry_in self.old name ≡ None }
+        ensures added { OnOk result (self.new ≡ self.old
+            ++ record { what = Theorem (record { name = name; formula = formula }); before = before } ∷ []) }
+        ensures err { OnErr result (self.new ≡ self.old) }
+    {
+        let entry = TheoremEntry {
+            name: name.clone()?,
+            formula,
+        };
+        let place = self.list.len();
+        self.list.reserve(1)?;
+        self.by_name.insert(name, place)?;
+        let what = Addition::Theorem(entry);
+        self.list.push_reserved(Added { what, before });
+        Ok(())
+    }
+
+    /// Puts a definition, of whose predicates there is none, behind the others.
+    pub(crate) fn add_definition(&mut self, block: Block, before: usize) -> Result<(), AllocError>
+        requires { All (λ p. block_kept self.old p ≡ None) block.predicates }
+        ensures added { OnOk result (self.new ≡ self.old ++ record { what = Definition block; before = before } ∷ []) }
+        ensures err { OnErr result (self.new ≡ self.old) }
+    {
+        let place = self.list.len();
+        self.list.reserve(1)?;
+        file_all(&mut self.by_predicate, block.predicates.as_slice(), place)?;
+        let what = Addition::Definition(block);
+        self.list.push_reserved(Added { what, before });
+        Ok(())
+    }
+}
+
+/// Notes the place for each of the predicates.
+fn file_all(
+    places: &mut HashMap<ConstId, usize>,
+    predicates: &[ConstId],
+    place: usize,
+) -> Result<(), AllocError>
+    ensures filed { OnOk result ((p : ConstId) → get same_constant places.new p
+        ≡ (if is_among predicates.now p then Some place else (get same_constant places.old p))) }
+    ensures part { (p : ConstId) → (get same_constant places.new p ≡ get same_constant places.old p)
+        ⊎ ((get same_constant places.new p ≡ Some place) × (is_among predicates.now p ≡ true)) }
+{
+    for predicate in predicates {
+        places.insert(*predicate, place)?;
+    }
+    Ok(())
+}
