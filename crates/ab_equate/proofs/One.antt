@@ -22,7 +22,7 @@ GivesOne IsName = (s : Sequent) (hint a b : List ℕ) → IsName s hint a → Is
 one_variable : (x y : Variable) → x.number ≡ y.number → x.type ≡ y.type → x.name ≡ y.name → x ≡ y
 one_variable x y a b c = ap (λ n. record { number = n; type = x.type; name = x.name }) a ∙ ap (λ A. record { number = y.number; type = A; name = x.name }) b ∙ ap (λ h. record { number = y.number; type = y.type; name = h }) c
 
-named_once : (IsName : Naming) → GivesOne IsName → (s : Sequent) (n : ℕ) (xs ys zs : List Variable) → Named IsName s n xs ys → Named IsName s n xs zs → ys ≡ zs
+pub named_once : (IsName : Naming) → GivesOne IsName → (s : Sequent) (n : ℕ) (xs ys zs : List Variable) → Named IsName s n xs ys → Named IsName s n xs zs → ys ≡ zs
 named_once IsName one s n [] [] [] a b = refl
 named_once IsName one s n [] [] (z ∷ zs) a b = absurd b
 named_once IsName one s n [] (y ∷ ys) zs a b = absurd a

@@ -174,6 +174,7 @@ NamedRule D step s premises = (cells : List (Cell (List ℕ))) × AreCells cells
 abbrev pub Fails : Declarations → List (Cell (List ℕ)) → Step → Sequent → ℕ → Type 0
 Fails D cells step s condition = FailsFirst (row D (any_name cells) step s) condition
 
--- THE STEP'S EQUATION OF THIS NUMBER IS OUTSIDE THE PATTERNS, where these are all variables that were ever made
+-- THE STEP'S EQUATION OF THIS NUMBER IS OUTSIDE THE PATTERNS, where these are all variables that were ever made, and new
+-- ones are named by their hints
 abbrev pub Stuck : Declarations → List (Cell (List ℕ)) → Step → Sequent → ℕ → Type 0
-Stuck D cells step s equation = Sticks (row D (any_name cells) step s) equation
+Stuck D cells step s equation = Sticks (row D (by_hint D cells) step s) equation
