@@ -6,6 +6,7 @@ use Rattle.ab_term.specs.Types.{Ty, prop}
 use Rattle.ab_grammar.specs.Tree.{Tree, place_of}
 use Rattle.ab_grammar.specs.CommandTrees as told
 use Rattle.ab_store.specs.Trees.{Read}
+use Rattle.ab_unifying.specs.Problem.{cells_read}
 use Rattle.ab_infer.specs.declared.fault.InferFault.{InferFault}
 use Rattle.ab_infer.specs.declared.fault.InferFault.TheVariants as infer
 use Rattle.ab_logic.specs.Declarations.{Declarations, signature_in}
@@ -71,9 +72,9 @@ Gives w p e A t = (s : Sequent) (rest : List Sequent) → goals_of w p ≡ s ∷
 
 module _ (w m : World) (p : Held) (declared : declarations_of m ≡ declarations_of w) (goals : goals_of m p ≡ goals_of w p) (e : Tree) (A : Ty) (t : Read) (gives : Gives w p e A t) where
   pub exists_sure : Holds m p 0 (exists_right t)
-  exists_sure before behind s at i fails = go (gives s behind (sym goals ∙ at_first m p before behind s at)) (subst (λ D. Fails D (exists_right t) s i) declared fails)
+  exists_sure before behind s at i fails = go (gives s behind (sym goals ∙ at_first m p before behind s at)) (subst (λ D. Fails D (cells_read m.types m.store) (exists_right t) s i) declared fails)
     where
-      go : ((b : Read) × (as_exists s.conclusion ≡ Some (A, b)) × Means (declarations_of w) s e A t × Fits (declarations_of w) s t A) → Fails (declarations_of w) (exists_right t) s i → ⊥
+      go : ((b : Read) × (as_exists s.conclusion ≡ Some (A, b)) × Means (declarations_of w) s e A t × Fits (declarations_of w) s t A) → Fails (declarations_of w) (cells_read m.types m.store) (exists_right t) s i → ⊥
       go (b, are, means, fits) (inl (none, j)) = none_some (as_exists s.conclusion) (A, b) none are
       go (b, are, means, fits) (inr (q, is, inl (unfit, j))) =
           let both : Some q ≡ Some (A, b) = sym is ∙ are in

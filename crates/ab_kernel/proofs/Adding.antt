@@ -62,10 +62,10 @@ taken_at D place n step old new before behind s is goals counted =
         let f : k ≡ suc (length xs + 1) = omega (arith, e) in
         ap (λ j. drop j (x ∷ (xs ++ t ∷ ys))) f ∙ drop_behind xs t ys (length xs + 1) refl
 
-pub failed_at : (D : Declarations) (place i : ℕ) (step : Step) (d : Derivation) (before behind : List Sequent) (s : Sequent)
-    → GoalFails D place step i d → open_goals d ≡ before ++ s ∷ behind → length before ≡ place → Fails D step s i
-failed_at D place i step d before behind s f goals counted =
-    subst (λ t. Fails D step t i) (goal_here d place before behind s f.0 f.1 goals counted) f.2
+pub failed_at : (D : Declarations) (cells : List (Cell (List ℕ))) (place i : ℕ) (step : Step) (d : Derivation) (before behind : List Sequent) (s : Sequent)
+    → GoalFails D cells place step i d → open_goals d ≡ before ++ s ∷ behind → length before ≡ place → Fails D cells step s i
+failed_at D cells place i step d before behind s f goals counted =
+    subst (λ t. Fails D cells step t i) (goal_here d place before behind s f.0 f.1 goals counted) f.2
 
 pub stuck_at : (D : Declarations) (cells : List (Cell (List ℕ))) (place i : ℕ) (step : Step) (d : Derivation) (before behind : List Sequent) (s : Sequent)
     → GoalStuck D cells place step i d → open_goals d ≡ before ++ s ∷ behind → length before ≡ place → Stuck D cells step s i

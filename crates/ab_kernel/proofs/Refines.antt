@@ -18,7 +18,7 @@ use Rattle.ab_rules.specs.declared.step.KernelFault.TheVariants.{RuleFails, NotP
 use Rattle.ab_kernel.specs.Nodes.{sequents_in}
 use Rattle.ab_kernel.specs.Layout.{StepAt, steps_in}
 use Rattle.ab_rules.specs.Row.{FailsFirst, Sticks}
-use Rattle.ab_rules.specs.Rules.{row, NamedRule, Fails, Stuck, any_name, by_hint}
+use Rattle.ab_rules.specs.Rules.{NamedRule, Fails, Stuck}
 use Rattle.ab_rules.proofs.Longer.{any_named}
 use Rattle.ab_rules.specs.Answers.{Answers, row_at, step_of, HoldsStep, IsMemory}
 use Rattle.ab_kernel.specs.Derivation.{Derivation, root, Valid, goal_at, open_goals, GoalFails, GoalStuck, History, after, refined, IsStep}
@@ -32,7 +32,7 @@ use Rattle.ab_kernel.proofs.Rooted.{still_sequent, open_are_sequents}
 use Rattle.ab_kernel.proofs.Standing.{reads_now, leads}
 use Rattle.ab_kernel.proofs.Taking.{goal_taken}
 use Rattle.ab_rules.proofs.NewNumbers.{over_cells}
-use Rattle.ab_rules.proofs.OneAnswer.{never_both, one_failure, any_new, any_names, taken_or_stuck, refused_or_stuck, one_equation}
+use Rattle.ab_rules.proofs.OneAnswer.{NamesOnce, never_both, one_failure, any_names, names_by_hint, taken_or_stuck, refused_or_stuck, one_equation}
 use Rattle.ab_kernel.proofs.Later.{same_step, still_step, still_proof, same_history}
 use Rattle.ab_kernel.proofs.Refining.{root-refined, Valid-refined, still_valid}
 
@@ -41,38 +41,40 @@ pub held_at : (w : World) (items : List Kept) (n : ℕ) (x : Kept) → All (Hold
 held_at w items n x all l is = subst (HoldsSequent w) (sym is) (all n x l)
 
 module _ (w v : World) (x : Kept) (kept : Step) (place : ℕ) (d : Derivation) (is : goal_at d place ≡ Some (sequent_of w x)) where
-  failed : (i : ℕ) → GoalFails (declarations_of w) place (step_of w kept) i d → Fails (declarations_of w) (step_of w kept) (sequent_of w x) i
+  failed : (i : ℕ) → GoalFails (declarations_of w) (cells_read w.types w.store) place (step_of w kept) i d → Fails (declarations_of w) (cells_read w.types w.store) (step_of w kept) (sequent_of w x) i
   failed i f =
       let same : Some f.0 ≡ Some (sequent_of w x) = sym f.1 ∙ is in
       let goal : f.0 ≡ sequent_of w x = cc in
-      subst (λ t. Fails (declarations_of w) (step_of w kept) t i) goal f.2
+      subst (λ t. Fails (declarations_of w) (cells_read w.types w.store) (step_of w kept) t i) goal f.2
 
   stuck_here : (i : ℕ) → GoalStuck (declarations_of w) (cells_read w.types w.store) place (step_of w kept) i d → Sticks (row_at w (step_of w kept) x) i
   stuck_here i f =
       let same : Some f.0 ≡ Some (sequent_of w x) = sym f.1 ∙ is in
       let goal : f.0 ≡ sequent_of w x = cc in
-      any_names (declarations_of w) (step_of w kept) (cells_read w.types w.store) (λ s hint name. IsNoVariable s name) (IsNamedFor (declarations_of w)) (sequent_of w x) i
-      (subst (λ t. Stuck (declarations_of w) (cells_read w.types w.store) (step_of w kept) t i) goal f.2)
+      subst (λ t. Stuck (declarations_of w) (cells_read w.types w.store) (step_of w kept) t i) goal f.2
 
-  fails_here : (i : ℕ) → GoalFails (declarations_of w) place (step_of w kept) i d → FailsFirst (row_at w (step_of w kept) x) i
+  fails_here : (i : ℕ) → GoalFails (declarations_of w) (cells_read w.types w.store) place (step_of w kept) i d → FailsFirst (row_at w (step_of w kept) x) i
   fails_here i f =
-      any_new (declarations_of w) (step_of w kept) (any_name []) (by_hint (declarations_of w) (cells_read w.types w.store)) (sequent_of w x) i (failed i f)
+      any_names (declarations_of w) (step_of w kept) (cells_read w.types w.store) (λ s hint name. IsNoVariable s name) (IsNamedFor (declarations_of w)) (sequent_of w x) i (failed i f)
 
-  told : (j : ℕ) → FailsFirst (row_at w (step_of w kept) x) j → Fails (declarations_of w) (step_of w kept) (sequent_of w x) j
-  told j f = any_new (declarations_of w) (step_of w kept) (by_hint (declarations_of w) (cells_read w.types w.store)) (any_name []) (sequent_of w x) j f
+  told : (j : ℕ) → FailsFirst (row_at w (step_of w kept) x) j → Fails (declarations_of w) (cells_read w.types w.store) (step_of w kept) (sequent_of w x) j
+  told j f = any_names (declarations_of w) (step_of w kept) (cells_read w.types w.store) (IsNamedFor (declarations_of w)) (λ s hint name. IsNoVariable s name) (sequent_of w x) j f
+
+  one_name_each : NamesOnce (row_at w (step_of w kept) x)
+  one_name_each = names_by_hint (declarations_of w) (cells_read w.types w.store) (step_of w kept) (sequent_of w x)
 
   pub refused : (f : KernelFault) → Answers v (row_at w (step_of w kept) x) (Err f)
-      → (i : ℕ) → ◌≡◌ {A = Result ℕ KernelFault} (Err f) (Err (RuleFails i)) → GoalFails (declarations_of w) place (step_of w kept) i d
+      → (i : ℕ) → ◌≡◌ {A = Result ℕ KernelFault} (Err f) (Err (RuleFails i)) → GoalFails (declarations_of w) (cells_read w.types w.store) place (step_of w kept) i d
   refused (RuleFails j) a i e =
       let same : j ≡ i = cc in
-      (sequent_of w x, is, subst (Fails (declarations_of w) (step_of w kept) (sequent_of w x)) same (told j a))
+      (sequent_of w x, is, subst (Fails (declarations_of w) (cells_read w.types w.store) (step_of w kept) (sequent_of w x)) same (told j a))
   refused (NotPattern j) a i e = cc
   refused (Memory m) a i e = cc
 
   pub refuses : (f : KernelFault) → Answers v (row_at w (step_of w kept) x) (Err f)
-      → (i : ℕ) → GoalFails (declarations_of w) place (step_of w kept) i d → (◌≡◌ {A = Result ℕ KernelFault} (Err f) (Err (RuleFails i))) ⊎ IsMemory {A = ℕ} (Err f)
+      → (i : ℕ) → GoalFails (declarations_of w) (cells_read w.types w.store) place (step_of w kept) i d → (◌≡◌ {A = Result ℕ KernelFault} (Err f) (Err (RuleFails i))) ⊎ IsMemory {A = ℕ} (Err f)
   refuses (RuleFails j) a i g =
-      inl (ap (λ k. Err (RuleFails k)) (one_failure (row (declarations_of w) (any_name []) (step_of w kept) (sequent_of w x)) j i (told j a) (failed i g)))
+      inl (ap (λ k. Err (RuleFails k)) (one_failure (row_at w (step_of w kept) x) j i a (fails_here i g)))
   refuses (NotPattern j) a i g = absurd (refused_or_stuck (row_at w (step_of w kept) x) i j (fails_here i g) a)
   refuses (Memory m) a i g = inr tt
 
@@ -80,24 +82,20 @@ module _ (w v : World) (x : Kept) (kept : Step) (place : ℕ) (d : Derivation) (
       → (i : ℕ) → ◌≡◌ {A = Result ℕ KernelFault} (Err f) (Err (NotPattern i)) → GoalStuck (declarations_of w) (cells_read w.types w.store) place (step_of w kept) i d
   stuck (RuleFails j) a i e = cc
   stuck (NotPattern j) a i e =
-      let same : j ≡ i = cc in (
-        sequent_of w x,
-        is,
-        any_names (declarations_of w) (step_of w kept) (cells_read w.types w.store) (IsNamedFor (declarations_of w)) (λ s hint name. IsNoVariable s name) (sequent_of w x) i
-            (subst (Sticks (row_at w (step_of w kept) x)) same a),
-      )
+      let same : j ≡ i = cc in
+      (sequent_of w x, is, subst (Sticks (row_at w (step_of w kept) x)) same a)
   stuck (Memory m) a i e = cc
 
   pub sticks : (f : KernelFault) → Answers v (row_at w (step_of w kept) x) (Err f)
       → (i : ℕ) → GoalStuck (declarations_of w) (cells_read w.types w.store) place (step_of w kept) i d → (◌≡◌ {A = Result ℕ KernelFault} (Err f) (Err (NotPattern i))) ⊎ IsMemory {A = ℕ} (Err f)
   sticks (RuleFails j) a i g = absurd (refused_or_stuck (row_at w (step_of w kept) x) j i a (stuck_here i g))
-  sticks (NotPattern j) a i g = inl (ap (λ k. Err (NotPattern k)) (one_equation (row_at w (step_of w kept) x) j i a (stuck_here i g)))
+  sticks (NotPattern j) a i g = inl (ap (λ k. Err (NotPattern k)) (one_equation (row_at w (step_of w kept) x) one_name_each j i a (stuck_here i g)))
   sticks (Memory m) a i g = inr tt
 
   pub not_stuck : (made : Vec Kept Global) → Answers v (row_at w (step_of w kept) x) (Ok made) → (i : ℕ) → GoalStuck (declarations_of w) (cells_read w.types w.store) place (step_of w kept) i d → ⊥
-  not_stuck made a i g = taken_or_stuck (row_at w (step_of w kept) x) _ i a.0 (stuck_here i g)
+  not_stuck made a i g = taken_or_stuck (row_at w (step_of w kept) x) one_name_each _ i a.0 (stuck_here i g)
 
-  pub not_refused : (made : Vec Kept Global) → Answers v (row_at w (step_of w kept) x) (Ok made) → (i : ℕ) → GoalFails (declarations_of w) place (step_of w kept) i d → ⊥
+  pub not_refused : (made : Vec Kept Global) → Answers v (row_at w (step_of w kept) x) (Ok made) → (i : ℕ) → GoalFails (declarations_of w) (cells_read w.types w.store) place (step_of w kept) i d → ⊥
   not_refused made a i g = never_both (row_at w (step_of w kept) x) _ i a.0 (fails_here i g)
 
 -- the rule of the step, from the answer of its function

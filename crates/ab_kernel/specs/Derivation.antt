@@ -80,10 +80,11 @@ abbrev mutual
       then more (refined place step premises d) ds
       else more d (refined_in (place - length (open_goals d)) step premises ds)
 
--- the step's rule fails at the open goal of this place, by its condition of this number first
-abbrev pub GoalFails : Declarations → ℕ → Step → ℕ → Derivation → Type 0
-GoalFails D place step condition d =
-    (s : Sequent) × (goal_at d place ≡ Some s) × Fails D step s condition
+-- the step's rule fails at the open goal of this place, by its condition of this number first, where these are all
+-- variables that were ever made
+abbrev pub GoalFails : Declarations → List (Cell (List ℕ)) → ℕ → Step → ℕ → Derivation → Type 0
+GoalFails D cells place step condition d =
+    (s : Sequent) × (goal_at d place ≡ Some s) × Fails D cells step s condition
 
 -- the step's equation of this number is outside the patterns at the open goal of this place, where these are all variables
 -- that were ever made

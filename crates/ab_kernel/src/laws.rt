@@ -34,8 +34,8 @@ pub fn a_step_at_a_split()
     ensures taken { (D : Declarations) (place n : ℕ) (step : Step) (old new : History) (before behind : List Sequent) (s : Sequent) →
         IsStep D place step n old new → open_goals old.tree ≡ before ++ s ∷ behind → length before ≡ place →
         (ps : List Sequent) × NamedRule D step s ps × (length ps ≡ n) × (open_goals new.tree ≡ before ++ ps ++ behind) }
-    ensures failed { (D : Declarations) (place i : ℕ) (step : Step) (d : Derivation) (before behind : List Sequent) (s : Sequent) →
-        GoalFails D place step i d → open_goals d ≡ before ++ s ∷ behind → length before ≡ place → Fails D step s i }
+    ensures failed { (D : Declarations) (cells : List (Cell (List ℕ))) (place i : ℕ) (step : Step) (d : Derivation) (before behind : List Sequent) (s : Sequent) →
+        GoalFails D cells place step i d → open_goals d ≡ before ++ s ∷ behind → length before ≡ place → Fails D cells step s i }
     ensures stuck { (D : Declarations) (cells : List (Cell (List ℕ))) (place i : ℕ) (step : Step) (d : Derivation) (before behind : List Sequent) (s : Sequent) →
         GoalStuck D cells place step i d → open_goals d ≡ before ++ s ∷ behind → length before ≡ place → Stuck D cells step s i }
 {}

@@ -157,8 +157,8 @@ impl Proof {
         requires step { HoldsStep world.old step }
         requires place { place < length (open_goals (history_of world.old self.old).tree) }
         ensures step { IfOk result (λ n. IsStep (declarations_of world.old) place (step_of world.old step) n (history_of world.old self.old) (history_of world.new self.new)) }
-        ensures refused { (i : ℕ) → result ≡ Err (KernelFault.RuleFails i) → GoalFails (declarations_of world.old) place (step_of world.old step) i (history_of world.old self.old).tree }
-        ensures refuses { (i : ℕ) → GoalFails (declarations_of world.old) place (step_of world.old step) i (history_of world.old self.old).tree → (result ≡ Err (KernelFault.RuleFails i)) ⊎ IsMemory result }
+        ensures refused { (i : ℕ) → result ≡ Err (KernelFault.RuleFails i) → GoalFails (declarations_of world.old) (cells_read world.old.types world.old.store) place (step_of world.old step) i (history_of world.old self.old).tree }
+        ensures refuses { (i : ℕ) → GoalFails (declarations_of world.old) (cells_read world.old.types world.old.store) place (step_of world.old step) i (history_of world.old self.old).tree → (result ≡ Err (KernelFault.RuleFails i)) ⊎ IsMemory result }
         ensures stuck { (i : ℕ) → result ≡ Err (KernelFault.NotPattern i) →
             GoalStuck (declarations_of world.old) (cells_read world.old.types world.old.store) place (step_of world.old step) i (history_of world.old self.old).tree }
         ensures sticks { (i : ℕ) → GoalStuck (declarations_of world.old) (cells_read world.old.types world.old.store) place (step_of world.old step) i (history_of world.old self.old).tree →

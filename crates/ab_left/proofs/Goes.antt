@@ -5,6 +5,7 @@ use Rattle.std.proofs.lemmas.List.Elements.{All-tail, All-cons, All-weaker, All-
 use Rattle.ab_term.specs.Types.{Ty}
 use Rattle.ab_term.proofs.Lists.{Contains-here}
 use Rattle.ab_store.specs.Trees.{Read}
+use Rattle.ab_unifying.specs.Problem.{cells_read}
 use Rattle.ab_store.specs.declared.node.TermId.{TermId}
 use Rattle.ab_logic.specs.Growth.{Grows}
 use Rattle.ab_logic.specs.Forms.{truth, both, exists, nabla, form_of, as_both, both_in, exists_in, nabla_in}
@@ -32,9 +33,9 @@ use Rattle.ab_left.proofs.Sure.{splits, takes_exists, takes_nabla}
 
 -- a rule that holds at the goal of a place
 pub holds_at : (w : World) (p : Held) (place : ℕ) (step : Step) (before behind : List Sequent) (k : Sequent) → IsAt w p place before k behind
-    → ((i : ℕ) → Fails (declarations_of w) step k i → ⊥) → Sure w p place step
+    → ((i : ℕ) → Fails (declarations_of w) (cells_read w.types w.store) step k i → ⊥) → Sure w p place step
 holds_at w p place step before behind k at sure b e s x i f =
-    sure i (subst (λ t. Fails (declarations_of w) step t i) (one_goal w p place b e before behind s k x at) f)
+    sure i (subst (λ t. Fails (declarations_of w) (cells_read w.types w.store) step t i) (one_goal w p place b e before behind s k x at) f)
 
 -- the goals of a proof are sequents
 pub is_sequent : (w : World) (p : Held) (place : ℕ) (before behind : List Sequent) (k : Sequent) → IsWorld w → IsProof w p → IsAt w p place before k behind → IsSequent (declarations_of w) k
@@ -113,7 +114,7 @@ module _ (w v : World) (p q : Held) (place : ℕ) (l : Label) (top : Kept) (rest
       subst (λ z. Sure w p place (and_left z (given x1) (given y))) (sym e)
       (subst (λ z. Sure w p place (and_left top.name (given z) (given y))) (sym e1)
       (holds_at w p place (and_left top.name (given top.name) (given y)) pending.before pending.behind pending.goal pending.at
-      (splits (declarations_of w) pending.goal top.name (read w top.formula) pending.all.0 y new
+      (splits (declarations_of w) (cells_read w.types w.store) pending.goal top.name (read w top.formula) pending.all.0 y new
       (λ e2. let clash : Some (read w a, read w b) ≡ None = sym (ap both_in is) ∙ e2 in cc))))
 
   pub both_goes : (a b : TermId) (x x1 y y1 : List ℕ) (js : List Kept) → form_of (read w top.formula) ≡ both (read w a) (read w b) → x ≡ top.name → x1 ≡ top.name → y1 ≡ y
@@ -200,7 +201,7 @@ module _ (w v : World) (p q : Held) (place : ℕ) (l : Label) (top : Kept) (rest
       subst (λ z. Sure w p place (exists_left z (given x1))) (sym e)
       (subst (λ z. Sure w p place (exists_left top.name (given z))) (sym e1)
       (holds_at w p place (exists_left top.name (given top.name)) pending.before pending.behind pending.goal pending.at
-      (takes_exists (declarations_of w) pending.goal top.name (read w top.formula) pending.all.0
+      (takes_exists (declarations_of w) (cells_read w.types w.store) pending.goal top.name (read w top.formula) pending.all.0
       (λ e2. let clash : Some (A, t) ≡ None = sym (ap exists_in is) ∙ e2 in cc))))
 
   exists_opens : (A : Ty) (t : Read) (x x1 : List ℕ) → form_of (read w top.formula) ≡ exists A t → x ≡ top.name → x1 ≡ top.name → Took w p v q place (exists_left x (given x1))
@@ -226,7 +227,7 @@ module _ (w v : World) (p q : Held) (place : ℕ) (l : Label) (top : Kept) (rest
       subst (λ z. Sure w p place (nabla_left z (given x1))) (sym e)
       (subst (λ z. Sure w p place (nabla_left top.name (given z))) (sym e1)
       (holds_at w p place (nabla_left top.name (given top.name)) pending.before pending.behind pending.goal pending.at
-      (takes_nabla (declarations_of w) pending.goal top.name (read w top.formula) pending.all.0
+      (takes_nabla (declarations_of w) (cells_read w.types w.store) pending.goal top.name (read w top.formula) pending.all.0
       (λ e2. let clash : Some (A, t) ≡ None = sym (ap nabla_in is) ∙ e2 in cc))))
 
   nabla_opens : (A : Ty) (t : Read) (x x1 : List ℕ) → IsWorld w → IsProof w p → form_of (read w top.formula) ≡ nabla A t → x ≡ top.name → x1 ≡ top.name → Took w p v q place (nabla_left x (given x1))

@@ -2,6 +2,7 @@
 use Rattle.std.specs.Prelude.{Result, Ok, Err, OnOk}
 use Rattle.std.proofs.Common.{◌≡◌, ℕ, List, [], ◌∷◌, ◌++◌, Some, sym, ◌∙◌, ap, subst, append_assoc}
 use Rattle.ab_store.specs.Trees.{Read}
+use Rattle.ab_unifying.specs.Problem.{cells_read}
 use Rattle.ab_logic.specs.Names.{Label, Names, NoName}
 use Rattle.ab_logic.specs.Sequents.{Sequent, named, formula_of, proving, assuming, without}
 use Rattle.ab_logic.specs.Worlds.{IsWorld, declarations_of}
@@ -30,7 +31,7 @@ module _ (w : World) (p : Held) (place : ℕ) (name : List ℕ) (F : Read) (ther
   pub weaken_sure : (x : List ℕ) → x ≡ name → Sure w p place (weaken x)
   weaken_sure x e =
       subst (λ z. Sure w p place (weaken z)) (sym e)
-      (holds_at w p place (weaken name) there.before there.behind there.goal there.at (weakens (declarations_of w) there.goal name F there.has))
+      (holds_at w p place (weaken name) there.before there.behind there.goal there.at (weakens (declarations_of w) (cells_read w.types w.store) there.goal name F there.has))
 
   pub forgotten : (v : World) (q : Held) (x : List ℕ) → x ≡ name → Took w p v q place (weaken x)
       → (before behind : List Sequent) (k : Sequent) → IsAt w p place before k behind → IsAt v q place before (without name k) behind
@@ -65,7 +66,7 @@ module _ (w : World) (p : Held) (place : ℕ) (name : List ℕ) (F : Read) (ther
       let cut = cut_at v q l took there.before there.behind there.goal there.at in
       subst (λ z. Sure v q place (initial z)) (sym e)
       (holds_at v q place (initial name) there.before (assuming cut.label F cut.base ∷ there.behind) (proving F there.goal) cut.first
-      (closes (declarations_of v) there.goal name F there.has))
+      (closes (declarations_of v) (cells_read v.types v.store) there.goal name F there.has))
 
   pub copied : (v u : World) (q r : Held) (l : Label) → Took w p v q place (cut_formula F l) → (x : List ℕ) → x ≡ name → Took v q u r place (initial x)
       → (before behind : List Sequent) (k : Sequent) → IsAt w p place before k behind → CopiedTo l F k u r place before behind
@@ -87,7 +88,7 @@ module _ (w : World) (p : Held) (place : ℕ) (name : List ℕ) (F : Read) (ther
       → (before behind : List Sequent) (k : Sequent) → IsAt w p place before k behind → NoName l k
   not_named l world proof fails before behind k at =
       let f = fails before behind k at in
-      uncut (declarations_of w) k name F (has_at before behind k at) l (is_sequent w p place before behind k world proof at) f.0 f.1
+      uncut (declarations_of w) (cells_read w.types w.store) k name F (has_at before behind k at) l (is_sequent w p place before behind k world proof at) f.0 f.1
 
   -- it is still there with the copy behind it
   pub still_at : (v : World) (q : Held) (l : Label)

@@ -122,7 +122,7 @@ module _ (w v : World) (p q : Held) (keep : Bool) (H y x : List ℕ) (F : Read) 
       let b = begun one.0 one.1 one.2 in
       let f = fails [] one.1 (assuming y F k) (first_at v q (assuming y F k) one.1 b.0) in
       let has : formula_of (assuming y F k) x ≡ Some F = ap (formula_of (assuming y F k)) e ∙ named_last k.hypotheses y F b.1 in
-      solves_equal (declarations_of v) (assuming y F k) x F has (some_sides (form_of F) form) f.0 f.1
+      solves_equal (declarations_of v) (cells_read v.types v.store) (assuming y F k) x F has (some_sides (form_of F) form) f.0 f.1
 
 -- the goal is still open
 pub first_there : (w : World) (p : Held) (y : List ℕ) (F : Read) → HasAt w p 0 y F → 0 < length (goals_of w p)

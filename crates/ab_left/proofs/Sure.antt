@@ -9,6 +9,7 @@ use Rattle.ab_term.specs.Names.{support, EqualUpToNames}
 use Rattle.ab_term.proofs.Lists.{Contains-there}
 use Rattle.ab_term.proofs.UpToNames.{up_to_names-itself}
 use Rattle.ab_store.specs.Trees.{Read}
+use Rattle.ab_solve.specs.Replacing.{Cell}
 use Rattle.ab_logic.specs.Declarations.{Declarations, signature_in}
 use Rattle.ab_logic.specs.Formulas.{IsFormula}
 use Rattle.ab_logic.specs.Forms.{as_both, as_either, as_exists, as_nabla, as_falsity, as_equal}
@@ -28,12 +29,12 @@ not_used s x none used = let clash : false ≡ true = subst (λ (o : Option Read
 found_once : (k : Sequent) (x : List ℕ) (F G : Read) → formula_of k x ≡ Some F → formula_of k x ≡ Some G → F ≡ G
 found_once k x F G a b = let both : Some F ≡ Some G = sym a ∙ b in cc
 
-module _ (D : Declarations) (k : Sequent) (x : List ℕ) (F : Read) (has : formula_of k x ≡ Some F) where
-  pub weakens : (i : ℕ) → Fails D (weaken x) k i → ⊥
+module _ (D : Declarations) (cells : List (Cell (List ℕ))) (k : Sequent) (x : List ℕ) (F : Read) (has : formula_of k x ≡ Some F) where
+  pub weakens : (i : ℕ) → Fails D cells (weaken x) k i → ⊥
   weakens i (inl f) = let clash : Some F ≡ None = sym has ∙ f.0 in cc
   weakens i (inr f) = f.2
 
-  pub splits : (y : List ℕ) → formula_of k y ≡ None → as_both F ≢ None → (i : ℕ) → Fails D (and_left x (given x) (given y)) k i → ⊥
+  pub splits : (y : List ℕ) → formula_of k y ≡ None → as_both F ≢ None → (i : ℕ) → Fails D cells (and_left x (given x) (given y)) k i → ⊥
   splits y new both i (inl f) = let clash : Some F ≡ None = sym has ∙ f.0 in cc
   splits y new both i (inr (G, found, inl f)) = both (ap as_both (found_once k x F G has found) ∙ f.0)
   splits y new both i (inr (G, found, inr (p, parts, inl f))) = not_used (without x k) x (named_gone k.hypotheses x) f.0
@@ -44,36 +45,36 @@ module _ (D : Declarations) (k : Sequent) (x : List ℕ) (F : Read) (has : formu
       (subst (λ s. IsUsed s y) here f.0)
   splits y new both i (inr (G, found, inr (p, parts, inr (L, t, names, inr f)))) = f.3
 
-  pub parts_or : as_either F ≢ None → (i : ℕ) → Fails D (or_left x (given x)) k i → ⊥
+  pub parts_or : as_either F ≢ None → (i : ℕ) → Fails D cells (or_left x (given x)) k i → ⊥
   parts_or either i (inl f) = let clash : Some F ≡ None = sym has ∙ f.0 in cc
   parts_or either i (inr (G, found, inl f)) = either (ap as_either (found_once k x F G has found) ∙ f.0)
   parts_or either i (inr (G, found, inr (p, parts, inl f))) = not_used (without x k) x (named_gone k.hypotheses x) f.0
   parts_or either i (inr (G, found, inr (p, parts, inr f))) = f.3
 
-  pub closes_false : as_falsity F ≢ None → (i : ℕ) → Fails D (false_left x) k i → ⊥
+  pub closes_false : as_falsity F ≢ None → (i : ℕ) → Fails D cells (false_left x) k i → ⊥
   closes_false some i (inl f) = let clash : Some F ≡ None = sym has ∙ f.0 in cc
   closes_false some i (inr (G, found, inl f)) = some (ap as_falsity (found_once k x F G has found) ∙ f.0)
   closes_false some i (inr (G, found, inr f)) = f.2
 
-  pub solves_equal : as_equal F ≢ None → (i : ℕ) → Fails D (equal_left x) k i → ⊥
+  pub solves_equal : as_equal F ≢ None → (i : ℕ) → Fails D cells (equal_left x) k i → ⊥
   solves_equal some i (inl f) = let clash : Some F ≡ None = sym has ∙ f.0 in cc
   solves_equal some i (inr (G, found, inl f)) = some (ap as_equal (found_once k x F G has found) ∙ f.0)
   solves_equal some i (inr (G, found, inr f)) = f.2
 
-  pub takes_exists : as_exists F ≢ None → (i : ℕ) → Fails D (exists_left x (given x)) k i → ⊥
+  pub takes_exists : as_exists F ≢ None → (i : ℕ) → Fails D cells (exists_left x (given x)) k i → ⊥
   takes_exists some i (inl f) = let clash : Some F ≡ None = sym has ∙ f.0 in cc
   takes_exists some i (inr (G, found, inl f)) = some (ap as_exists (found_once k x F G has found) ∙ f.0)
   takes_exists some i (inr (G, found, inr (p, parts, inl f))) = not_used (without x k) x (named_gone k.hypotheses x) f.0
   takes_exists some i (inr (G, found, inr (p, parts, inr f))) = f.3
 
-  pub takes_nabla : as_nabla F ≢ None → (i : ℕ) → Fails D (nabla_left x (given x)) k i → ⊥
+  pub takes_nabla : as_nabla F ≢ None → (i : ℕ) → Fails D cells (nabla_left x (given x)) k i → ⊥
   takes_nabla some i (inl f) = let clash : Some F ≡ None = sym has ∙ f.0 in cc
   takes_nabla some i (inr (G, found, inl f)) = some (ap as_nabla (found_once k x F G has found) ∙ f.0)
   takes_nabla some i (inr (G, found, inr (p, parts, inl f))) = not_used (without x k) x (named_gone k.hypotheses x) f.0
   takes_nabla some i (inr (G, found, inr (p, parts, inr f))) = f.3
 
   -- a hypothesis closes the goal that asks for it
-  pub closes : (i : ℕ) → Fails D (initial x) (proving F k) i → ⊥
+  pub closes : (i : ℕ) → Fails D cells (initial x) (proving F k) i → ⊥
   closes i (inl f) = let clash : Some F ≡ None = sym has ∙ f.0 in cc
   closes i (inr (G, found, inl f)) =
       f.0 (subst (λ H. EqualUpToNames (erased H) (erased F)) (found_once k x F G has found) (up_to_names-itself (erased F)))
@@ -95,7 +96,7 @@ module _ (D : Declarations) (k : Sequent) (x : List ℕ) (F : Read) (has : formu
         formula,
       )
 
-  pub uncut : (l : Label) → IsSequent D k → (i : ℕ) → Fails D (cut_formula F l) k i → NoName l k
+  pub uncut : (l : Label) → IsSequent D k → (i : ℕ) → Fails D cells (cut_formula F l) k i → NoName l k
   uncut l is i (inl f) = absurd (f.0 (fits is))
   uncut l is i (inr (ok, inl f)) = f.0
   uncut l is i (inr (ok, inr f)) = absurd f.3

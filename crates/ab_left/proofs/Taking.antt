@@ -2,6 +2,7 @@
 use Rattle.std.specs.Option.{IsSome}
 use Rattle.std.proofs.Common.{◌≡◌, ◌≢◌, inl, inr, ℕ, List, [], ◌∷◌, ◌++◌, Bool, true, false, Option, Some, None, refl, sym, ◌∙◌, ap, subst}
 use Rattle.ab_store.specs.Trees.{Read}
+use Rattle.ab_unifying.specs.Problem.{cells_read}
 use Rattle.ab_store.specs.declared.node.TermId.{TermId}
 use Rattle.ab_grammar.specs.CommandTrees as told
 use Rattle.ab_logic.specs.Declarations.{Declarations}
@@ -154,13 +155,13 @@ or_sure w p y F A B there is x x1 e e1 =
     subst (λ z. Sure w p 0 (or_left z (given x1))) (sym e)
     (subst (λ z. Sure w p 0 (or_left y (given z))) (sym e1)
     (holds_at w p 0 (or_left y (given y)) there.before there.behind there.goal there.at
-    (parts_or (declarations_of w) there.goal y F there.has (λ e2. let clash : Some (A, B) ≡ None = sym (ap either_in is) ∙ e2 in cc))))
+    (parts_or (declarations_of w) (cells_read w.types w.store) there.goal y F there.has (λ e2. let clash : Some (A, B) ≡ None = sym (ap either_in is) ∙ e2 in cc))))
 
 pub false_sure : (w : World) (p : Held) (y : List ℕ) (F : Read) → HasAt w p 0 y F → form_of F ≡ falsity → (x : List ℕ) → x ≡ y → Sure w p 0 (false_left x)
 false_sure w p y F there is x e =
     subst (λ z. Sure w p 0 (false_left z)) (sym e)
     (holds_at w p 0 (false_left y) there.before there.behind there.goal there.at
-    (closes_false (declarations_of w) there.goal y F there.has (λ e2. let clash : Some tt ≡ None = sym (ap falsity_in is) ∙ e2 in cc)))
+    (closes_false (declarations_of w) (cells_read w.types w.store) there.goal y F there.has (λ e2. let clash : Some tt ≡ None = sym (ap falsity_in is) ∙ e2 in cc)))
 
 pub false_taken : (w v : World) (p q : Held) (keep : Bool) (H x : List ℕ) (F : Read) (l : Label) → form_of F ≡ falsity → Took w p v q 0 (false_left x) → TakenApart w p v q l keep H F
 false_taken w v p q keep H x F l is took s rest goals =

@@ -53,9 +53,9 @@ took w v p q place n step is before behind s at =
     let t = taken_at (declarations_of w) place n step (history_of w p) (history_of v q) before behind s is at.goals at.counted in
     (t.0, t.1, t.3)
 
-pub failed : (w : World) (p : Held) (place i : ℕ) (step : Step) → GoalFails (declarations_of w) place step i (history_of w p).tree → FailsAt w p place step
+pub failed : (w : World) (p : Held) (place i : ℕ) (step : Step) → GoalFails (declarations_of w) (cells_read w.types w.store) place step i (history_of w p).tree → FailsAt w p place step
 failed w p place i step f before behind s at =
-    (i, failed_at (declarations_of w) place i step (history_of w p).tree before behind s f at.goals at.counted)
+    (i, failed_at (declarations_of w) (cells_read w.types w.store) place i step (history_of w p).tree before behind s f at.goals at.counted)
 
 pub sticks_there : (w : World) (p : Held) (place i : ℕ) (step : Step) → GoalStuck (declarations_of w) (cells_read w.types w.store) place step i (history_of w p).tree → StuckAt w p place step i
 sticks_there w p place i step f before behind s at =

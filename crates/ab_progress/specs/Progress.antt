@@ -40,12 +40,12 @@ Took w p v q place step = GaveWay w p v q place (NamedRule (declarations_of w) s
 -- the step's rule fails at the goal of this place
 abbrev pub FailsAt : World → Held → ℕ → Step → Type 0
 FailsAt w p place step = (before behind : List Sequent) (s : Sequent) → IsAt w p place before s behind →
-    (i : ℕ) × Fails (declarations_of w) step s i
+    (i : ℕ) × Fails (declarations_of w) (cells_read w.types w.store) step s i
 
 -- the step's rule holds at the goal of this place
 abbrev pub Holds : World → Held → ℕ → Step → Type 0
 Holds w p place step = (before behind : List Sequent) (s : Sequent) → IsAt w p place before s behind →
-    (i : ℕ) → Fails (declarations_of w) step s i → ⊥
+    (i : ℕ) → Fails (declarations_of w) (cells_read w.types w.store) step s i → ⊥
 
 -- the step's equation of this number is outside the patterns at the goal of this place
 abbrev pub StuckAt : World → Held → ℕ → Step → ℕ → Type 0

@@ -5,6 +5,7 @@ use Rattle.ab_term.specs.Types.{Ty}
 use Rattle.ab_term.specs.Terms.{Nominal}
 use Rattle.ab_term.specs.Substitution.{instance}
 use Rattle.ab_store.specs.Trees.{Read}
+use Rattle.ab_unifying.specs.Problem.{cells_read}
 use Rattle.ab_logic.specs.Declarations.{Declarations}
 use Rattle.ab_logic.specs.Forms.{for_all, nabla, implies, form_of, implies_in, as_implies, for_all_in, as_for_all, nabla_in, as_nabla}
 use Rattle.ab_logic.specs.Names.{Label, Names, NoName}
@@ -115,7 +116,7 @@ nameless w p xs l F A B given asks form fails s rest e = go (fails [] rest s (fi
     is : form_of s.conclusion ≡ implies A B
     is = ap form_of (asks s rest e) ∙ form
 
-    go : ((i : ℕ) × Fails (declarations_of w) (arrow_right l) s i) → Unnamed (declarations_of w) xs s
+    go : ((i : ℕ) × Fails (declarations_of w) (cells_read w.types w.store) (arrow_right l) s i) → Unnamed (declarations_of w) xs s
     go (i, inl (none, j)) = let some : as_implies s.conclusion ≡ Some (A, B) = ap implies_in is in absurd (some_none (A, B) (as_implies s.conclusion) some none)
     go (i, inr (pair, are, inl (none, j))) = Unnamed.unnamed is (subst (λ m. NoName m s) given none)
     go (i, inr (pair, are, inr (name, counted, named, led))) = absurd led

@@ -3,6 +3,8 @@ use Rattle.std.proofs.Common.{◌≡◌, inl, inr, ℕ, ◌+◌, ◌-◌, ◌<�
 use Rattle.std.proofs.lemmas.List.{drop_at}
 use Rattle.ab_grammar.specs.CommandTrees.{split_all}
 use Rattle.ab_store.specs.Trees.{Read}
+use Rattle.ab_solve.specs.Replacing.{Cell}
+use Rattle.ab_unifying.specs.Problem.{cells_read}
 use Rattle.ab_logic.specs.Declarations.{Declarations}
 use Rattle.ab_logic.specs.Forms.{as_both}
 use Rattle.ab_logic.specs.Names.{Label}
@@ -77,7 +79,7 @@ next_whole v u q r ss rest place done [] goals counted parts l fails same =
 next_whole v u q r ss rest place done (g ∷ gs) goals counted parts l fails same =
     stays (fails done (gs ++ rest) g (record { goals = goals; counted = counted }))
   where
-    stays : ((i : ℕ) × Fails (declarations_of v) and_right g i) → Reached ss rest (place + 1) (goals_of u r)
+    stays : ((i : ℕ) × Fails (declarations_of v) (cells_read v.types v.store) and_right g i) → Reached ss rest (place + 1) (goals_of u r)
     stays (i, inl f) = record {
       done = done ++ g ∷ [];
       pending = gs;
@@ -221,9 +223,9 @@ split_all_leads D l s pair ts is x =
     let all = parts_in s (s ∷ []) ts (halves {A = pair.0} {B = pair.1} is x) (s.conclusion ∷ []) refl in
     (pair, is, (all.0, one_formula s.conclusion all.0 all.1, all.2))
 
-pub split_all_fails : (D : Declarations) (l : Label) (s : Sequent) (i : ℕ) → Fails D and_right s i → Refuses (effect D l split_all s) wrong_shape
-split_all_fails D l s i (inl f) = inl (f.0, refl)
-split_all_fails D l s i (inr f) = absurd f.2
+pub split_all_fails : (D : Declarations) (cells : List (Cell (List ℕ))) (l : Label) (s : Sequent) (i : ℕ) → Fails D cells and_right s i → Refuses (effect D l split_all s) wrong_shape
+split_all_fails D cells l s i (inl f) = inl (f.0, refl)
+split_all_fails D cells l s i (inr f) = absurd f.2
 
 -- the first goal was taken apart, and then its halves
 pub split_apart : (w v u : World) (p q r : Held) (behind : ℕ) (l : Label) (s : Sequent) (rest : List Sequent) → goals_of w p ≡ s ∷ rest → behind + 1 ≡ length (goals_of w p)

@@ -4,6 +4,7 @@ pub mod Making
 pub mod Chosen
 pub mod Members
 pub mod NewNumbers
+mod Splitting
 pub mod OneAnswer
 pub mod Longer
 mod Words

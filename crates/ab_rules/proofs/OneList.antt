@@ -13,13 +13,15 @@ use Rattle.ab_logic.specs.Declarations.{Declarations}
 use Rattle.ab_logic.specs.Sequents.{Sequent, formulas, formulas_of, IsSequent, formula_of, proving, assuming, without, over}
 use Rattle.ab_logic.specs.Names.{Names, IsLeast, IsNamedFor}
 use Rattle.ab_rules.specs.Steps.{Step, initial, true_right, false_left, and_right, and_left, or_right, or_left, arrow_right, arrow_left, for_all_right, for_all_left, exists_right, exists_left, nabla_right, nabla_left, equal_right, equal_left, definition_right, definition_left, induction, coinduction, cut_formula, use_theorem, weaken, spec_cut, spec_instance, spec_monotone}
-use Rattle.ab_rules.specs.Row.{Row, leads, leads_by, finds, asks, labelled, solves, Takes}
+use Rattle.ab_rules.specs.Row.{Row, leads, leads_by, finds, asks, labelled, solves, splits, unifies, Takes}
 use Rattle.ab_rules.specs.Rules.{row, by_hint, IsSupport, MayName, Raises, Making, name_term, raised, applied, hint_of}
 use Rattle.ab_solve.specs.Replacing.{Cell}
+use Rattle.ab_solve.specs.Solving.{unified}
 use Rattle.ab_equate.specs.Solved.{Becomes}
-use Rattle.ab_equate.proofs.One.{one_goal, not_apart}
+use Rattle.ab_equate.proofs.One.{GivesOne, one_goal, not_apart}
 pub use Rattle.ab_equate.proofs.Naming.{one_name}
 use Rattle.ab_rules.proofs.OneAnswer.{least_once, names_once}
+use Rattle.ab_rules.proofs.Splitting.{one_answer, split_once}
 use Rattle.ab_rules.proofs.Sequents.{found_there, formula_names}
 
 -- what the premises are made of leaves no choice
@@ -30,6 +32,8 @@ Settled (finds {A = A} i o k) = (a : A) → o ≡ Some a → Settled (k a)
 Settled (asks i P r) = Settled r
 Settled (labelled i l s k) = (name : List ℕ) (t : Sequent) → Names l s name t → Settled (k name t)
 Settled (solves N cells s t u) = (g h : Sequent) → Becomes N cells s t u g → Becomes N cells s t u h → g ≡ h
+Settled (splits N cells cs) = GivesOne N
+Settled (unifies i c f) = Unit {0}
 
 one_list : (r : Row) → Settled r → (ps qs : List Sequent) → Takes r ps → Takes r qs → ps ≡ qs
 one_list (leads rs) s ps qs t u = t ∙ sym u
@@ -46,6 +50,12 @@ one_list (solves N cells s t u) settled ps qs (inl a) (inl b) = a.2 ∙ ap (λ g
 one_list (solves N cells s t u) settled ps qs (inl a) (inr b) = absurd (not_apart N cells s t u a.0 a.1 b.0)
 one_list (solves N cells s t u) settled ps qs (inr a) (inl b) = absurd (not_apart N cells s t u b.0 b.1 a.0)
 one_list (solves N cells s t u) settled ps qs (inr a) (inr b) = a.1 ∙ sym b.1
+one_list (splits N cells cs) one ps qs t u = split_once N one t u
+one_list (unifies i c f) s ps qs t u =
+    let same : unified t.0 t.1 ≡ unified u.0 u.1 = one_answer c (unified t.0 t.1) (unified u.0 u.1) t.2 u.2 in
+    let more : t.0 ≡ u.0 = cc in
+    let answer : t.1 ≡ u.1 = cc in
+    t.3 ∙ ap (λ m. f m t.1) more ∙ ap (f u.0) answer ∙ sym u.3
 
 -- a formula's constants have one order
 one_support : (F : Read) (xs ys : List Nominal) → HasOneTypeEach (support F) → IsSupport F xs → IsSupport F ys → xs ≡ ys

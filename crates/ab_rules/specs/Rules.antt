@@ -170,10 +170,11 @@ Rule D step s premises = (cells : List (Cell (List ℕ))) × AreCells cells s ×
 abbrev pub NamedRule : Declarations → Step → Sequent → List Sequent → Type 0
 NamedRule D step s premises = (cells : List (Cell (List ℕ))) × AreCells cells s × Takes (row D (by_hint D cells) step s) premises
 
--- THE STEP'S CONDITION OF THIS NUMBER IS THE FIRST THAT THE GOAL FAILS (no condition speaks of a new variable)
-abbrev pub Fails : Declarations → Step → Sequent → ℕ → Type 0
-Fails D step s condition = FailsFirst (row D (any_name []) step s) condition
+-- THE STEP'S CONDITION OF THIS NUMBER IS THE FIRST THAT THE GOAL FAILS, where these are all variables that were ever made
+abbrev pub Fails : Declarations → List (Cell (List ℕ)) → Step → Sequent → ℕ → Type 0
+Fails D cells step s condition = FailsFirst (row D (any_name cells) step s) condition
 
--- THE STEP'S EQUATION OF THIS NUMBER IS OUTSIDE THE PATTERNS, where these are all variables that were ever made
+-- THE STEP'S EQUATION OF THIS NUMBER IS OUTSIDE THE PATTERNS, where these are all variables that were ever made, and new
+-- ones are named by their hints
 abbrev pub Stuck : Declarations → List (Cell (List ℕ)) → Step → Sequent → ℕ → Type 0
-Stuck D cells step s equation = Sticks (row D (any_name cells) step s) equation
+Stuck D cells step s equation = Sticks (row D (by_hint D cells) step s) equation

@@ -8,17 +8,17 @@ ghost use Rattle.ab_rules.specs.Row.{Takes};
 ghost use Rattle.ab_rules.specs.Rules.{row, any_name, by_hint, Rule, NamedRule, Fails, Stuck};
 
 /// A step at a goal has one answer: a list of premises, or one first condition that fails, or one equation that is
-/// outside the patterns. Where a rule makes new variables, it is free what other variables there are; once that is chosen
-/// the list is one, with the variables' names, the constants that one may depend on, and the constant for the name of a
-/// `nabla`.
+/// outside the patterns. What other variables there are is given; the list is one, with the variables' names, the constants
+/// that one may depend on, and the constant for the name of a `nabla`, where a variable is named by its hint.
 pub fn a_step_has_one_answer()
-    ensures apart { (D : Declarations) (step : Step) (s : Sequent) (ps : List Sequent) (i : ℕ) → Rule D step s ps → Fails D step s i → ⊥ }
-    ensures one_condition { (D : Declarations) (step : Step) (s : Sequent) (i j : ℕ) → Fails D step s i → Fails D step s j → i ≡ j }
+    ensures taken_or_refused { (D : Declarations) (cells : List (Cell (List ℕ))) (step : Step) (s : Sequent) (ps : List Sequent) (i : ℕ) →
+        Takes (row D (any_name cells) step s) ps → Fails D cells step s i → ⊥ }
+    ensures one_condition { (D : Declarations) (cells : List (Cell (List ℕ))) (step : Step) (s : Sequent) (i j : ℕ) → Fails D cells step s i → Fails D cells step s j → i ≡ j }
     ensures one_list { (D : Declarations) (cells : List (Cell (List ℕ))) (step : Step) (s : Sequent) (ps qs : List Sequent) → IsSequent D s →
         Takes (row D (by_hint D cells) step s) ps → Takes (row D (by_hint D cells) step s) qs → ps ≡ qs }
     ensures taken_or_stuck { (D : Declarations) (cells : List (Cell (List ℕ))) (step : Step) (s : Sequent) (ps : List Sequent) (i : ℕ) →
-        Takes (row D (any_name cells) step s) ps → Stuck D cells step s i → ⊥ }
-    ensures refused_or_stuck { (D : Declarations) (cells : List (Cell (List ℕ))) (step : Step) (s : Sequent) (i j : ℕ) → Fails D step s i → Stuck D cells step s j → ⊥ }
+        Takes (row D (by_hint D cells) step s) ps → Stuck D cells step s i → ⊥ }
+    ensures refused_or_stuck { (D : Declarations) (cells : List (Cell (List ℕ))) (step : Step) (s : Sequent) (i j : ℕ) → Fails D cells step s i → Stuck D cells step s j → ⊥ }
     ensures one_equation { (D : Declarations) (cells : List (Cell (List ℕ))) (step : Step) (s : Sequent) (i j : ℕ) → Stuck D cells step s i → Stuck D cells step s j → i ≡ j }
 {}
 

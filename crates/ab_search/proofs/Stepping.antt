@@ -6,6 +6,7 @@ use Rattle.std.proofs.lemmas.List.Elements.{All-contains}
 use Rattle.std.proofs.lemmas.Slice.Eq.{bytes_eq-Decides}
 use Rattle.ab_term.proofs.Lists.{AllPairs-parts}
 use Rattle.ab_store.specs.Trees.{Read}
+use Rattle.ab_solve.specs.Replacing.{Cell}
 use Rattle.ab_logic.specs.Declarations.{Declarations}
 use Rattle.ab_logic.specs.Forms.{truth_in, both_in, either_in, equal_in}
 use Rattle.ab_logic.specs.Sequents.{Hypothesis, Sequent, IsSequent, named, formula_of, proving}
@@ -67,12 +68,12 @@ module _ (D : Declarations) (s : Sequent) (is : IsSequent D s) where
       rule.2.2 ∙ ap (λ (q : Read × Read). proving q.1 s ∷ []) p ∙ sym t.3
 
   -- it can't fail
-  pub never_fails : (c : Choice) (ps : List Sequent) (i : ℕ) → Takes c s ps → Fails D (step_for c s) s i → ⊥
-  never_fails Truth ps i t (inl f) = let clash : None ≡ Some tt = sym f.0 ∙ ap truth_in t.0 in cc
-  never_fails Truth ps i t (inr f) = f.2
-  never_fails (ByHypothesis place) ps i t (inl f) =
+  pub never_fails : (cells : List (Cell (List ℕ))) (c : Choice) (ps : List Sequent) (i : ℕ) → Takes c s ps → Fails D cells (step_for c s) s i → ⊥
+  never_fails cells Truth ps i t (inl f) = let clash : None ≡ Some tt = sym f.0 ∙ ap truth_in t.0 in cc
+  never_fails cells Truth ps i t (inr f) = f.2
+  never_fails cells (ByHypothesis place) ps i t (inl f) =
       let clash : None ≡ Some t.0.formula = sym f.0 ∙ found place t.0 t.1 in cc
-  never_fails (ByHypothesis place) ps i t (inr f) =
+  never_fails cells (ByHypothesis place) ps i t (inr f) =
       let both : Some f.0 ≡ Some t.0.formula = sym f.1 ∙ found place t.0 t.1 in
       let same : f.0 ≡ t.0.formula = cc in
       elim f.2 [
@@ -82,17 +83,17 @@ module _ (D : Declarations) (s : Sequent) (is : IsSequent D s) where
           | inr none ↦ none.1
         ]
       ]
-  never_fails Equality ps i t (inl f) = let clash : None ≡ Some (t.1, t.2) = sym f.0 ∙ ap equal_in t.3 in cc
-  never_fails Equality ps i t (inr f) =
+  never_fails cells Equality ps i t (inl f) = let clash : None ≡ Some (t.1, t.2) = sym f.0 ∙ ap equal_in t.3 in cc
+  never_fails cells Equality ps i t (inr f) =
       let both : Some f.0 ≡ Some (t.1, t.2) = sym f.1 ∙ ap equal_in t.3 in
       let p : f.0 ≡ (t.1, t.2) = cc in
       elim f.2 [
         | inl n ↦ n.0 (subst (λ (q : Read × Read). EqualPastHints q.0 q.1) (sym p) t.4)
         | inr none ↦ none.1
       ]
-  never_fails Both ps i t (inl f) = let clash : None ≡ Some (t.0, t.1) = sym f.0 ∙ ap both_in t.2 in cc
-  never_fails Both ps i t (inr f) = f.2
-  never_fails Left ps i t (inl f) = let clash : None ≡ Some (t.0, t.1) = sym f.0 ∙ ap either_in t.2 in cc
-  never_fails Left ps i t (inr f) = f.2
-  never_fails Right ps i t (inl f) = let clash : None ≡ Some (t.0, t.1) = sym f.0 ∙ ap either_in t.2 in cc
-  never_fails Right ps i t (inr f) = f.2
+  never_fails cells Both ps i t (inl f) = let clash : None ≡ Some (t.0, t.1) = sym f.0 ∙ ap both_in t.2 in cc
+  never_fails cells Both ps i t (inr f) = f.2
+  never_fails cells Left ps i t (inl f) = let clash : None ≡ Some (t.0, t.1) = sym f.0 ∙ ap either_in t.2 in cc
+  never_fails cells Left ps i t (inr f) = f.2
+  never_fails cells Right ps i t (inl f) = let clash : None ≡ Some (t.0, t.1) = sym f.0 ∙ ap either_in t.2 in cc
+  never_fails cells Right ps i t (inr f) = f.2

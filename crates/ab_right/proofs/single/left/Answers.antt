@@ -1,6 +1,7 @@
 use Rattle.std.specs.Prelude.{[]}
 use Rattle.std.proofs.Common.{◌≡◌, subst}
 use Rattle.ab_grammar.specs.CommandTrees as told
+use Rattle.ab_unifying.specs.Problem.{cells_read}
 use Rattle.ab_logic.specs.Worlds.{declarations_of}
 use Rattle.ab_effects.specs.Effect.{effect}
 use Rattle.ab_progress.specs.Applied.{RefusedBy}
@@ -22,4 +23,4 @@ returns-else-taken-clause-refused g c fault same l s rest e =
     let t = c.in_ok-taken.ensures.failed c.if-taken.false [] rest s (first_at c.args.world.now c.args.proof.now s rest e) in
     let is : WrongShape ≡ fault = cc in
     subst (RefusedBy (effect (declarations_of c.args.world.now) l told.left s)) is
-    (left_fails (declarations_of c.args.world.now) l s t.0 t.1)
+    (left_fails (declarations_of c.args.world.now) (cells_read c.args.world.now.types c.args.world.now.store) l s t.0 t.1)

@@ -1,5 +1,6 @@
 use Rattle.std.proofs.Common.{◌≡◌, ◌+◌, ◌-◌, [], length, subst, arith}
 use Rattle.ab_grammar.specs.CommandTrees as told
+use Rattle.ab_unifying.specs.Problem.{cells_read}
 use Rattle.ab_logic.specs.Worlds.{declarations_of}
 use Rattle.ab_effects.specs.Effect.{effect}
 use Rattle.ab_progress.specs.Progress.{goals_of}
@@ -23,7 +24,7 @@ returns-then-not-taken-clause-refused g c fault same l s rest e =
     let t = c.in_ok-taken.ensures.failed c.if-not-taken.true [] rest s (first_at c.args.world.now c.args.proof.now s rest e) in
     let is : WrongShape ≡ fault = cc in
     subst (RefusedBy (effect (declarations_of c.args.world.now) l told.split_all s)) is
-    (split_all_fails (declarations_of c.args.world.now) l s t.0 t.1)
+    (split_all_fails (declarations_of c.args.world.now) (cells_read c.args.world.now.types c.args.world.now.store) l s t.0 t.1)
 
 pub returns-in-Ok-clause-follows : goal.returns-in-Ok-clause-follows
 returns-in-Ok-clause-follows g c = follows_on _ _ _ _ _ _ c.attempt.ensures.follows c.split_before.ensures.follows

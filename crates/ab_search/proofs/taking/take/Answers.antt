@@ -1,5 +1,6 @@
 use Rattle.std.proofs.Common.{◌≡◌, [], ◌++◌, sym, ◌∙◌, ap, subst}
 use Rattle.std.proofs.lemmas.Result.{on_ok_weaker}
+use Rattle.ab_unifying.specs.Problem.{cells_read}
 use Rattle.ab_logic.specs.Worlds.{declarations_of}
 use Rattle.ab_rules.specs.Answers.{step_of}
 use Rattle.ab_rules.specs.Rules.{NamedRule, Fails}
@@ -15,11 +16,12 @@ pub surely-requires-clause-sure : goal.surely-requires-clause-sure
 surely-requires-clause-sure g c before behind s at i fails =
     let w = c.args.world.now in
     let D = declarations_of w in
+    let cells = cells_read w.types w.store in
     let p = c.args.proof.now in
     let e = at_first w p before behind s at in
     let step : step_of w c.in_ok-step.step ≡ step_for c.args.choice s = c.in_ok-step.ensures.step w ∙ ap (step_for c.args.choice) (c.first_goal.ensures.reads s behind e) in
     let t = c.requires.sure s behind e in
-    never_fails D s (first_is_sequent w p c.requires.world c.requires.proof s behind e) c.args.choice t.0 i t.1 (subst (λ r. Fails D r s i) step fails)
+    never_fails D s (first_is_sequent w p c.requires.world c.requires.proof s behind e) cells c.args.choice t.0 i t.1 (subst (λ r. Fails D cells r s i) step fails)
 
 pub surely-requires-clause-plain : goal.surely-requires-clause-plain
 surely-requires-clause-plain g c =
