@@ -1,0 +1,11 @@
+mod Dressed
+mod Instanced
+mod Listed
+mod Chosen
+mod Made
+mod Bound
+mod Noted
+mod Opened
+mod Fitting
+mod Assembled
+mod Raised

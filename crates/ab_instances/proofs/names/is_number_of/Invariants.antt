@@ -1,0 +1,8 @@
+use Rattle.std.proofs.Common.{◌≡◌, false, take}
+use Rattle.ab_types.specs.Entries.{Table}
+use Rattle.ab_cases.specs.Choices as choices
+use Rattle.ab_instances.specs.Readings.{names_read}
+use Rattle.ab_instances.proofs.names.is_number_of.Given as goal
+
+abbrev pub invariant-loop-a : goal.invariant-loop-a
+invariant-loop-a l = (types : Table) → choices.is_number_of (names_read types (take l.a-index l.names)) l.number ≡ false

@@ -1,0 +1,8 @@
+use Rattle.std.proofs.Common.{◌≡◌, ◌+◌, ◌-◌, length}
+use Rattle.ab_types.specs.Entries.{Table}
+use Rattle.ab_cases.specs.Choices as choices
+use Rattle.ab_instances.specs.Readings.{names_read}
+use Rattle.ab_instances.proofs.names.new_constant.Given as goal
+
+abbrev pub invariant-loop-tried : goal.invariant-loop-tried
+invariant-loop-tried l = (types : Table) → choices.free_number (length l.held) 1 (names_read types l.held) ≡ choices.free_number (length l.held - l.tried) (l.tried + 1) (names_read types l.held)
