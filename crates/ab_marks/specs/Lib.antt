@@ -1,2 +1,4 @@
--- How the program looks at the marks of formulas. Public contracts don't speak of this.
+-- What becomes of size marks where an atom gives way to the body of its definition. And how the program looks at marks
+-- (`Views`), of which public contracts don't speak.
 pub mod Views
+pub mod Marking

@@ -1,6 +1,8 @@
 -- How a head makes the marks of a formula, and where marks stand in a formula, as the program sees it.
-use Rattle.std.specs.Prelude.{ℕ, ◌<◌}
+use Rattle.std.specs.Prelude.{ℕ, ◌<◌, List, map}
 use Rattle.ab_types.specs.Entries.{Table}
+use Rattle.ab_types.specs.Ids.{constant_of}
+use Rattle.ab_types.specs.declared.ids.ConstId.{ConstId}
 use Rattle.ab_store.specs.declared.node.TermId.{TermId}
 use Rattle.ab_store.specs.Trees.{Contents, Holds, tree_of}
 use Rattle.ab_logic.specs.Forms.{sign_of}
@@ -16,6 +18,10 @@ making_read ByHead = plain.by_head
 making_read ByScope = plain.by_scope
 making_read ByParts = plain.by_parts
 making_read (ByMark m) = plain.by_mark (sign_of m)
+
+-- the names of predicates
+abbrev pub names_of : Table → List ConstId → List (List ℕ)
+names_of types ps = map (λ p. (constant_of types p).name) ps
 
 -- the marks, where those of parts are read from the store
 abbrev pub marks_seen : Table → Contents → Seen → plain.Marks

@@ -3,7 +3,9 @@
 
 mod erasing;
 mod making;
+mod marking;
 mod serving;
 
 pub use erasing::without_marks;
+pub use marking::{mark_atoms, marked};
 pub use serving::marks_serve_in;
