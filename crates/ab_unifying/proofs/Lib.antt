@@ -4,6 +4,7 @@ pub mod Cells
 pub mod Narrowed
 pub mod Put
 pub mod Pruned
+pub mod Losing
 pub mod Other
 pub mod Joined
 pub mod Solved

@@ -1,7 +1,8 @@
 -- What the rules of unification do to shared terms, in the plain words of `ab_solve`: `Problem` says what problems on
 -- shared terms stand for, `Changed` when a change of the definition is carried out on a store, and `Outcome` what an
--- answer tells of a rule. `Joined` serves private contracts.
+-- answer tells of a rule. `Joined` and `Pruning` serve private contracts.
 pub mod Problem
 pub mod Changed
 pub mod Joined
+pub mod Pruning
 pub mod Outcome

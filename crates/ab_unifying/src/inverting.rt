@@ -19,6 +19,7 @@ use crate::binding::bind;
 use crate::listing::without;
 use crate::pruning::prune;
 use ab_norm::copy_resolved;
+use ab_patterns::Seen;
 use ab_store::{CellId, Head, Store, TermId};
 use ab_types::{Steps, TypeTable};
 use std::alloc::{AllocError, Global};
@@ -56,7 +57,10 @@ pub(crate) fn invert<L>(
         Changed types.old store.old flexible.old.items (put_in (codes "x") cells ys y hs t (pruned (codes "x") ys hs t (begun (codes "x") cells ys y))) types.new store.new flexible.new.items) }
 {
     let mut rest = without(alloc, flexible, cell)?;
-    prune(alloc, types, store, flexible, &mut rest, names, term, steps)?;
+    let mut seen = Seen::new(alloc);
+    prune(
+        alloc, types, store, flexible, &mut rest, names, term, &mut seen, steps,
+    )?;
     let plain = copy_resolved(alloc, types, store, term, steps)?;
     bind(alloc, types, store, &rest, cell, names, plain, steps)?;
     *flexible = rest;

@@ -1,7 +1,10 @@
 //! Pruning: flexible cells lose the names that are foreign where they stand.
-ghost use Rattle.std.specs.Prelude.{◌≡◌, ℕ, ◌≤◌, List, map, All, IfOk, OnOk, Contains, codes};
+ghost use Rattle.std.specs.Prelude.{◌≡◌, ℕ, ◌≤◌, List, map, false, All, IfOk, OnOk, Contains, codes};
 ghost use Rattle.ab_term.specs.Types.{Ty, kind};
+ghost use Rattle.ab_term.specs.Terms as tree;
 ghost use Rattle.ab_term.specs.Terms.{terms_of};
+ghost use Rattle.ab_term.specs.Variables.{image};
+ghost use Rattle.ab_term.specs.Sameness.{same_number};
 ghost use Rattle.ab_term.specs.Typing.{TakeType};
 ghost use Rattle.ab_term.specs.Closing as closing;
 ghost use Rattle.ab_types.specs.Entries.{Table, signature};
@@ -12,11 +15,13 @@ ghost use Rattle.ab_store.specs.Bindings.{IsResolved};
 ghost use Rattle.ab_store.specs.Naming.{IsTypedBy, IsTerm};
 ghost use Rattle.ab_solve.specs.Patterns as solve;
 ghost use Rattle.ab_solve.specs.Replacing.{Change, pruned_names, pruned_here, pruned, pruned_all};
+ghost use Rattle.ab_patterns.specs.Walking.{deep};
+ghost use Rattle.ab_unifying.specs.Pruning.{AllPruned};
 ghost use Rattle.ab_unifying.specs.Changed.{Grows, IsFree, Changed, IsSomeTerm, AllUnbound, AreNames};
 
 use crate::narrowing::narrow;
 use ab_norm::copy_resolved;
-use ab_patterns::{is_flexible, pattern, shift_head};
+use ab_patterns::{Seen, is_flexible, pattern, shift_head};
 use ab_store::{CellId, Head, Node, Store, TermId};
 use ab_types::{Steps, TypeTable};
 use ab_unify::{common, keeps_all};
@@ -36,7 +41,8 @@ fn under(alloc: Global, names: &[Head]) -> Result<Vec<Head>, AllocError>
     Ok(inner)
 }
 
-/// Where the cell is given different names, and some of them are foreign: it loses these.
+/// Where the cell is given different names, and some of them are foreign: it loses these. The answer says whether it lost
+/// some.
 fn prune_cell<L>(
     alloc: Global,
     types: &mut TypeTable,
@@ -46,7 +52,7 @@ fn prune_cell<L>(
     cell: CellId,
     args: &[TermId],
     steps: &mut Steps<L>,
-) -> Result<(), AllocError>
+) -> Result<bool, AllocError>
     requires store { IsTypedBy types.old store.old }
     requires free { All (IsFree store.old) flexible.old.items }
     requires listed { Contains flexible.old.items cell }
@@ -57,6 +63,7 @@ fn prune_cell<L>(
     ensures grows { Grows types.old store.old types.new store.new }
     ensures steps { steps.old ≤ steps.new }
     ensures free { OnOk result (All (IsFree store.new) flexible.new.items) }
+    ensures still { IfOk result (λ lost. lost ≡ false → store.new.cells ≡ store.old.cells) }
     ensures changed { OnOk result ((T : Table) (S : Contents) (F : List CellId) (c : Change (List ℕ)) →
         Changed T S F c types.old store.old flexible.old.items →
         Changed T S F (pruned_names (codes "x") (map (head_reading types.old store.old) names.now) (cell_variable types.old store.old cell)
@@ -66,19 +73,20 @@ fn prune_cell<L>(
     let _ = types.len();
     let ty = store.cell_type(cell);
     match pattern(alloc, types, store, ty, args)? {
-        None => Ok(()),
+        None => Ok(false),
         Some(others) => {
             let keep = common(alloc, &others, names)?;
             if keeps_all(&keep) {
-                return Ok(());
+                return Ok(false);
             }
             narrow(alloc, types, store, flexible, cell, &others, &keep, steps)?;
-            Ok(())
+            Ok(true)
         }
     }
 }
 
 /// Where the term is a flexible cell that is given different names, and some of them are foreign: the cell loses these.
+/// The answer says whether it lost some.
 fn prune_here<L>(
     alloc: Global,
     types: &mut TypeTable,
@@ -87,7 +95,7 @@ fn prune_here<L>(
     names: &[Head],
     term: TermId,
     steps: &mut Steps<L>,
-) -> Result<(), AllocError>
+) -> Result<bool, AllocError>
     requires store { IsTypedBy types.old store.old }
     requires free { All (IsFree store.old) flexible.old.items }
     requires names { AreNames types.old names.now }
@@ -96,12 +104,13 @@ fn prune_here<L>(
     ensures grows { Grows types.old store.old types.new store.new }
     ensures steps { steps.old ≤ steps.new }
     ensures free { OnOk result (All (IsFree store.new) flexible.new.items) }
+    ensures still { IfOk result (λ lost. lost ≡ false → store.new.cells ≡ store.old.cells) }
     ensures changed { OnOk result ((T : Table) (S : Contents) (F : List CellId) (c : Change (List ℕ)) →
         Changed T S F c types.old store.old flexible.old.items →
         Changed T S F (pruned_here (codes "x") (map (head_reading types.old store.old) names.now) (tree_of types.old store.old term) c) types.new store.new flexible.new.items) }
 {
     match store.view(term).copy(alloc)? {
-        Node::Lam(_, _, _) => Ok(()),
+        Node::Lam(_, _, _) => Ok(false),
         Node::Spine(head, args) => match head {
             Head::Cell(cell) => {
                 if is_flexible(flexible, head) {
@@ -116,16 +125,51 @@ fn prune_here<L>(
                         steps,
                     )
                 } else {
-                    Ok(())
+                    Ok(false)
                 }
             }
-            Head::Const(_) | Head::Logic(_) | Head::Nominal(_, _) | Head::Index(_) => Ok(()),
+            Head::Const(_) | Head::Logic(_) | Head::Nominal(_, _) | Head::Index(_) => Ok(false),
         },
     }
 }
 
+/// The same of a term in which cells may be bound by now. What was seen counts no more once the cell has lost names.
+fn prune_flexible<L>(
+    alloc: Global,
+    types: &mut TypeTable,
+    store: &mut Store,
+    flexible: &mut Vec<CellId>,
+    names: &[Head],
+    term: TermId,
+    seen: &mut Seen,
+    steps: &mut Steps<L>,
+) -> Result<bool, AllocError>
+    requires store { IsTypedBy types.old store.old }
+    requires free { All (IsFree store.old) flexible.old.items }
+    requires names { AreNames types.old names.now }
+    requires term { IsSomeTerm types.old store.old term }
+    ensures grows { Grows types.old store.old types.new store.new }
+    ensures steps { steps.old ≤ steps.new }
+    ensures free { OnOk result (All (IsFree store.new) flexible.new.items) }
+    ensures still { IfOk result (λ lost. lost ≡ false → store.new.cells ≡ store.old.cells) }
+    ensures changed { OnOk result ((T : Table) (S : Contents) (F : List CellId) (c : Change (List ℕ)) →
+        Changed T S F c types.old store.old flexible.old.items →
+        AreNames T names.now → (G : List Ty) (A : Ty) → IsTerm T S G term A → AllUnbound S (tree_of T S term) →
+        (cells : List CellId) (outer : List (tree.Head ℕ)) → AllPruned T S cells outer c seen.old →
+        let d = pruned_here (codes "x") (map (head_reading T S) names.now) (image same_number c.pairs (tree_of T S term)) c in
+        Changed T S F d types.new store.new flexible.new.items × AllPruned T S cells outer d seen.new) }
+{
+    let here = copy_resolved(alloc, types, store, term, steps)?;
+    let lost = prune_here(alloc, types, store, flexible, names, here, steps)?;
+    if lost {
+        *seen = Seen::new(alloc);
+    }
+    Ok(lost)
+}
+
 /// Each of the cells in the term, from left to right, loses the names that are not among those listed and not bound in
-/// the term.
+/// the term. The answer says whether one lost some. A part that is shared is walked once under each number of names, and
+/// again once a cell has lost names since.
 #[cycle(pruned)]
 pub(crate) fn prune<L>(
     alloc: Global,
@@ -135,8 +179,9 @@ pub(crate) fn prune<L>(
     flexible: &mut Vec<CellId>,
     names: &[Head],
     term: TermId,
+    seen: &mut Seen,
     steps: &mut Steps<L>,
-) -> Result<(), AllocError>
+) -> Result<bool, AllocError>
     requires store { IsTypedBy types.old store.old }
     requires free { All (IsFree store.old) flexible.old.items }
     requires names { AreNames types.old names.now }
@@ -144,20 +189,64 @@ pub(crate) fn prune<L>(
     ensures grows { Grows types.old store.old types.new store.new }
     ensures steps { steps.old ≤ steps.new }
     ensures free { OnOk result (All (IsFree store.new) flexible.new.items) }
+    ensures still { IfOk result (λ lost. lost ≡ false → store.new.cells ≡ store.old.cells) }
     ensures changed { OnOk result ((T : Table) (S : Contents) (F : List CellId) (c : Change (List ℕ)) →
         Changed T S F c types.old store.old flexible.old.items →
         AreNames T names.now → All (IsFree S) cells.now → (G : List Ty) (A : Ty) → IsTerm T S G term A → AllUnbound S (tree_of T S term) →
-        Changed T S F (pruned (codes "x") (map (cell_variable T S) cells.now) (map (head_reading T S) names.now) (tree_of T S term) c) types.new store.new flexible.new.items) }
+        (outer : List (tree.Head ℕ)) (depth : ℕ) → map (head_reading T S) names.now ≡ deep depth outer → AllPruned T S cells.now outer c seen.old →
+        let d = pruned (codes "x") (map (cell_variable T S) cells.now) (map (head_reading T S) names.now) (tree_of T S term) c in
+        Changed T S F d types.new store.new flexible.new.items × AllPruned T S cells.now outer d seen.new) }
+{
+    if seen.has(term, names.len()) {
+        return Ok(false);
+    }
+    let lost = prune_node(
+        alloc, types, store, cells, flexible, names, term, seen, steps,
+    )?;
+    if !lost {
+        seen.keep(term, names.len())?;
+    }
+    Ok(lost)
+}
+
+/// The same of a term that hasn't been seen.
+#[cycle(pruned)]
+fn prune_node<L>(
+    alloc: Global,
+    types: &mut TypeTable,
+    store: &mut Store,
+    cells: &[CellId],
+    flexible: &mut Vec<CellId>,
+    names: &[Head],
+    term: TermId,
+    seen: &mut Seen,
+    steps: &mut Steps<L>,
+) -> Result<bool, AllocError>
+    requires store { IsTypedBy types.old store.old }
+    requires free { All (IsFree store.old) flexible.old.items }
+    requires names { AreNames types.old names.now }
+    requires term { IsSomeTerm types.old store.old term }
+    ensures grows { Grows types.old store.old types.new store.new }
+    ensures steps { steps.old ≤ steps.new }
+    ensures free { OnOk result (All (IsFree store.new) flexible.new.items) }
+    ensures still { IfOk result (λ lost. lost ≡ false → store.new.cells ≡ store.old.cells) }
+    ensures changed { OnOk result ((T : Table) (S : Contents) (F : List CellId) (c : Change (List ℕ)) →
+        Changed T S F c types.old store.old flexible.old.items →
+        AreNames T names.now → All (IsFree S) cells.now → (G : List Ty) (A : Ty) → IsTerm T S G term A → AllUnbound S (tree_of T S term) →
+        (outer : List (tree.Head ℕ)) (depth : ℕ) → map (head_reading T S) names.now ≡ deep depth outer → AllPruned T S cells.now outer c seen.old →
+        let d = pruned (codes "x") (map (cell_variable T S) cells.now) (map (head_reading T S) names.now) (tree_of T S term) c in
+        Changed T S F d types.new store.new flexible.new.items × AllPruned T S cells.now outer d seen.new) }
 {
     match store.view(term).copy(alloc)? {
         Node::Lam(_, _, body) => {
             let inner = under(alloc, names)?;
-            prune(alloc, types, store, cells, flexible, &inner, body, steps)
+            prune(
+                alloc, types, store, cells, flexible, &inner, body, seen, steps,
+            )
         }
         Node::Spine(head, args) => {
             if is_flexible(cells, head) {
-                let here = copy_resolved(alloc, types, store, term, steps)?;
-                prune_here(alloc, types, store, flexible, names, here, steps)
+                prune_flexible(alloc, types, store, flexible, names, term, seen, steps)
             } else {
                 prune_all(
                     alloc,
@@ -167,6 +256,7 @@ pub(crate) fn prune<L>(
                     flexible,
                     names,
                     args.as_slice(),
+                    seen,
                     steps,
                 )
             }
@@ -174,8 +264,14 @@ pub(crate) fn prune<L>(
     }
 }
 
-/// Each of the cells in the terms, from left to right, loses the names that are not among those listed and not bound in
-/// them.
+/// Whether one of the two is so.
+fn is_either(one: bool, other: bool) -> bool
+    ensures { result ≡ false → (one ≡ false) × (other ≡ false) }
+{
+    one || other
+}
+
+/// The same of several terms, from left to right.
 #[cycle(pruned)]
 fn prune_all<L>(
     alloc: Global,
@@ -185,8 +281,9 @@ fn prune_all<L>(
     flexible: &mut Vec<CellId>,
     names: &[Head],
     terms: &[TermId],
+    seen: &mut Seen,
     steps: &mut Steps<L>,
-) -> Result<(), AllocError>
+) -> Result<bool, AllocError>
     requires store { IsTypedBy types.old store.old }
     requires free { All (IsFree store.old) flexible.old.items }
     requires names { AreNames types.old names.now }
@@ -194,14 +291,21 @@ fn prune_all<L>(
     ensures grows { Grows types.old store.old types.new store.new }
     ensures steps { steps.old ≤ steps.new }
     ensures free { OnOk result (All (IsFree store.new) flexible.new.items) }
+    ensures still { IfOk result (λ lost. lost ≡ false → store.new.cells ≡ store.old.cells) }
     ensures changed { OnOk result ((T : Table) (S : Contents) (F : List CellId) (c : Change (List ℕ)) →
         Changed T S F c types.old store.old flexible.old.items →
         AreNames T names.now → All (IsFree S) cells.now → (G : List Ty) (A B : Ty) → All (Holds S) terms.now → TakeType (signature T) G (terms_of (map (tree_of T S) terms.now)) A B →
         All (λ t. AllUnbound S (tree_of T S t)) terms.now →
-        Changed T S F (pruned_all (codes "x") (map (cell_variable T S) cells.now) (map (head_reading T S) names.now) (terms_of (map (tree_of T S) terms.now)) c) types.new store.new flexible.new.items) }
+        (outer : List (tree.Head ℕ)) (depth : ℕ) → map (head_reading T S) names.now ≡ deep depth outer → AllPruned T S cells.now outer c seen.old →
+        let d = pruned_all (codes "x") (map (cell_variable T S) cells.now) (map (head_reading T S) names.now) (terms_of (map (tree_of T S) terms.now)) c in
+        Changed T S F d types.new store.new flexible.new.items × AllPruned T S cells.now outer d seen.new) }
 {
+    let mut lost = false;
     for term in terms {
-        prune(alloc, types, store, cells, flexible, names, *term, steps)?;
+        let pruned = prune(
+            alloc, types, store, cells, flexible, names, *term, seen, steps,
+        )?;
+        lost = is_either(lost, pruned);
     }
-    Ok(())
+    Ok(lost)
 }

@@ -24,6 +24,7 @@ use Rattle.ab_unifying.proofs.Listed.{was_other, all_others}
 use Rattle.ab_unifying.proofs.Put.{begins}
 use Rattle.ab_unifying.proofs.Pruned.{changed_on, typed_names, same_names, resolved_unbound, unbound_reads}
 use Rattle.ab_unifying.proofs.Joined.{names_more}
+use Rattle.ab_unifying.proofs.Losing.{none_seen}
 use Rattle.ab_unifying.proofs.Solved.{known_cells, solved_parts}
 use Rattle.ab_unifying.proofs.inverting.invert.Goals as goal
 
@@ -75,7 +76,7 @@ bind-requires-clause-cell g c =
     let was0 : Changed types store (others_than cell F) start types store c.in_ok-rest.rest.items = subst (λ l. Changed types store (others_than cell F) start types store l) (sym rest_is) (begins types store c.requires.store F c.requires.free cell) in
     let was1 : Changed types store (others_than cell F) after more middle c.prune.new.flexible.items =
     subst (λ l. Changed types store (others_than cell F) (pruned (codes "x") (map (cell_variable types store) l) hs t start) more middle c.prune.new.flexible.items) c.deref-2.ensures.value
-    (c.in_ok-prune.ensures.changed types store (others_than cell F) start was0 c.requires.names (subst (All (IsFree store)) (sym c.deref-2.ensures.value) c.requires.free) fits.0 (kind fits.1) fits.5 (resolved_unbound types store term c.requires.resolved)) in
+    (c.in_ok-prune.ensures.changed types store (others_than cell F) start was0 c.requires.names (subst (All (IsFree store)) (sym c.deref-2.ensures.value) c.requires.free) fits.0 (kind fits.1) fits.5 (resolved_unbound types store term c.requires.resolved) hs 0 refl (none_seen types store c.deref-2.result.now hs start c.new-seen.result c.new-seen.ensures)).0 in
     let apart = was1.others cell held (λ q. (was_other cell cell F q).1 refl) in
     let next = c.copy_resolved.new.store in
     let adds = typed_terms more middle next was1.grows.typed c.in_ok-plain.ensures.adds in
@@ -117,7 +118,7 @@ bind-requires-clause-apart g c =
     let was0 : Changed types store (others_than cell F) start types store c.in_ok-rest.rest.items = subst (λ l. Changed types store (others_than cell F) start types store l) (sym rest_is) (begins types store c.requires.store F c.requires.free cell) in
     let was1 : Changed types store (others_than cell F) after more middle c.prune.new.flexible.items =
     subst (λ l. Changed types store (others_than cell F) (pruned (codes "x") (map (cell_variable types store) l) hs t start) more middle c.prune.new.flexible.items) c.deref-2.ensures.value
-    (c.in_ok-prune.ensures.changed types store (others_than cell F) start was0 c.requires.names (subst (All (IsFree store)) (sym c.deref-2.ensures.value) c.requires.free) fits.0 (kind fits.1) fits.5 (resolved_unbound types store term c.requires.resolved)) in
+    (c.in_ok-prune.ensures.changed types store (others_than cell F) start was0 c.requires.names (subst (All (IsFree store)) (sym c.deref-2.ensures.value) c.requires.free) fits.0 (kind fits.1) fits.5 (resolved_unbound types store term c.requires.resolved) hs 0 refl (none_seen types store c.deref-2.result.now hs start c.new-seen.result c.new-seen.ensures)).0 in
     let apart = was1.others cell held (λ q. (was_other cell cell F q).1 refl) in
     let next = c.copy_resolved.new.store in
     let adds = typed_terms more middle next was1.grows.typed c.in_ok-plain.ensures.adds in
@@ -158,7 +159,7 @@ bind-requires-clause-fits g c =
     let was0 : Changed types store (others_than cell F) start types store c.in_ok-rest.rest.items = subst (λ l. Changed types store (others_than cell F) start types store l) (sym rest_is) (begins types store c.requires.store F c.requires.free cell) in
     let was1 : Changed types store (others_than cell F) after more middle c.prune.new.flexible.items =
     subst (λ l. Changed types store (others_than cell F) (pruned (codes "x") (map (cell_variable types store) l) hs t start) more middle c.prune.new.flexible.items) c.deref-2.ensures.value
-    (c.in_ok-prune.ensures.changed types store (others_than cell F) start was0 c.requires.names (subst (All (IsFree store)) (sym c.deref-2.ensures.value) c.requires.free) fits.0 (kind fits.1) fits.5 (resolved_unbound types store term c.requires.resolved)) in
+    (c.in_ok-prune.ensures.changed types store (others_than cell F) start was0 c.requires.names (subst (All (IsFree store)) (sym c.deref-2.ensures.value) c.requires.free) fits.0 (kind fits.1) fits.5 (resolved_unbound types store term c.requires.resolved) hs 0 refl (none_seen types store c.deref-2.result.now hs start c.new-seen.result c.new-seen.ensures)).0 in
     let apart = was1.others cell held (λ q. (was_other cell cell F q).1 refl) in
     let next = c.copy_resolved.new.store in
     let adds = typed_terms more middle next was1.grows.typed c.in_ok-plain.ensures.adds in
@@ -209,7 +210,7 @@ returns-clause-changed g c =
     let was0 : Changed types store (others_than cell F) start types store c.in_ok-rest.rest.items = subst (λ l. Changed types store (others_than cell F) start types store l) (sym rest_is) (begins types store c.requires.store F c.requires.free cell) in
     let was1 : Changed types store (others_than cell F) after more middle c.prune.new.flexible.items =
     subst (λ l. Changed types store (others_than cell F) (pruned (codes "x") (map (cell_variable types store) l) hs t start) more middle c.prune.new.flexible.items) c.deref-2.ensures.value
-    (c.in_ok-prune.ensures.changed types store (others_than cell F) start was0 c.requires.names (subst (All (IsFree store)) (sym c.deref-2.ensures.value) c.requires.free) fits.0 (kind fits.1) fits.5 (resolved_unbound types store term c.requires.resolved)) in
+    (c.in_ok-prune.ensures.changed types store (others_than cell F) start was0 c.requires.names (subst (All (IsFree store)) (sym c.deref-2.ensures.value) c.requires.free) fits.0 (kind fits.1) fits.5 (resolved_unbound types store term c.requires.resolved) hs 0 refl (none_seen types store c.deref-2.result.now hs start c.new-seen.result c.new-seen.ensures)).0 in
     let apart = was1.others cell held (λ q. (was_other cell cell F q).1 refl) in
     let next = c.copy_resolved.new.store in
     let adds = typed_terms more middle next was1.grows.typed c.in_ok-plain.ensures.adds in

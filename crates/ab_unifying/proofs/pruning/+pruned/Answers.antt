@@ -1,4 +1,4 @@
-use Rattle.std.proofs.Common.{◌≡◌, ◌<◌, ◌≤◌, ◌∷◌, List, map, take, length, get_or, cond, true, false, codes, arith, sym, ◌∙◌, ap, subst, take_all}
+use Rattle.std.proofs.Common.{◌≡◌, ◌+◌, ◌<◌, ◌≤◌, ◌∷◌, ℕ, suc, refl, List, map, take, length, get_or, cond, true, false, codes, arith, sym, ◌∙◌, ap, subst, take_all}
 use Rattle.std.specs.Prelude.{All}
 use Rattle.std.proofs.lemmas.List.Elements.{All-same}
 use Rattle.std.proofs.lemmas.Result.{on_ok_weaker}
@@ -15,18 +15,48 @@ use Rattle.ab_store.specs.declared.node.Node.TheVariants.{Lam, Spine}
 use Rattle.ab_store.specs.Trees.{Holds, node_tree, tree_of, head_reading}
 use Rattle.ab_norm.proofs.Bounds.{ids_bound, bound_within, below_bound}
 use Rattle.ab_norm.proofs.Frame.{lam_names, spine_names}
-use Rattle.ab_solve.specs.Replacing.{is_flexible, pruned_here, pruned, pruned_all}
+use Rattle.ab_solve.specs.Replacing.{Change, is_flexible, pruned_here, pruned, pruned_all}
+use Rattle.ab_patterns.specs.Walking.{has_been}
 use Rattle.ab_unifying.specs.Problem.{variables_read}
+use Rattle.ab_unifying.specs.Pruning.{AllPruned}
 use Rattle.ab_unifying.specs.Changed.{Changed, AllUnbound, AreNames, IsSomeTerm}
-use Rattle.ab_unifying.proofs.Growth.{grows_on, grows_terms, typed_terms, grown_term}
+use Rattle.ab_unifying.proofs.Growth.{grows_none, grows_on, grown_term}
 use Rattle.ab_unifying.proofs.Cells.{variables_same}
-use Rattle.ab_unifying.proofs.Pruned.{changed_on, same_names, unbound_reads, args_unbound, lam_typed, spine_typed, args_typed, pruned_next, same_trees}
+use Rattle.ab_unifying.proofs.Losing.{nothing_made, names_deep, pruned_more, seen_more}
+use Rattle.ab_unifying.proofs.Pruned.{args_unbound, lam_typed, spine_typed, args_typed, pruned_next, same_trees}
 use Rattle.ab_unifying.proofs.Joined.{names_more}
 use Rattle.ab_unifying.proofs.Under.{take_one_more}
 use Rattle.ab_unifying.proofs.pruning.+pruned.Goals as goal
 
-pub prune-prune-requires : goal.prune-prune-requires
-prune-prune-requires g t c = λ κs out.
+pub prune-returns-then-has-clause-grows : goal.prune-returns-then-has-clause-grows
+prune-returns-then-has-clause-grows g t c = grows_none c.args.types.now c.args.store.now c.requires.store
+
+pub prune-returns-then-has-clause-changed : goal.prune-returns-then-has-clause-changed
+prune-returns-then-has-clause-changed g t c = λ T S F change was named cells G B is clear outer depth names_are all.
+    let ys = variables_read T S c.args.cells.now in
+    let long : length c.args.names.now ≡ depth + length outer = names_deep (head_reading T S) c.args.names.now depth outer names_are in
+    let seen : has_been c.args.seen.now c.args.term (depth + length outer) ≡ true = ap (has_been c.args.seen.now c.args.term) (sym long) ∙ sym c.has.ensures ∙ c.if-has.true in
+    let same : change ≡ pruned (codes "x") ys (map (head_reading T S) c.args.names.now) (tree_of T S c.args.term) change =
+    sym (ap (λ hs. pruned (codes "x") ys hs (tree_of T S c.args.term) change) names_are ∙ all c.args.term depth seen) in (
+      subst (λ d. Changed T S F d c.args.types.now c.args.store.now c.args.flexible.now.items) same was,
+      subst (λ d. AllPruned T S c.args.cells.now outer d c.args.seen.now) same all,
+    )
+
+pub prune-returns-in_ok-keep-clause-changed : goal.prune-returns-in_ok-keep-clause-changed
+prune-returns-in_ok-keep-clause-changed g t c = λ T S F change was named cells G B is clear outer depth names_are all.
+    let ys = variables_read T S c.args.cells.now in
+    let hs = map (head_reading T S) c.args.names.now in
+    let d = pruned (codes "x") ys hs (tree_of T S c.args.term) change in
+    let done = c.in_ok-lost.ensures.changed T S F change was named cells G B is clear outer depth names_are all in
+    let same : d ≡ change = nothing_made T S F change d c.args.types.now c.prune_node.new.types c.args.store.now c.prune_node.new.store c.args.flexible.now.items c.prune_node.new.flexible.items was done.0
+    (c.in_ok-lost.ensures.still c.if-not-lost.true) (pruned_more (codes "x") ys hs (tree_of T S c.args.term) change) in (
+      done.0,
+      seen_more T S c.args.cells.now outer change d c.prune_node.new.seen c.keep.new.self c.args.term (length c.args.names.now) depth hs names_are
+          (names_deep (head_reading T S) c.args.names.now depth outer names_are) refl same done.1 c.in_ok-keep.ensures,
+    )
+
+pub prune_node-prune-requires : goal.prune_node-prune-requires
+prune_node-prune-requires g t c = λ κs out.
     let types = c.args.types.now in
     let store = c.args.store.now in
     let node : c.view.result.now ≡ Lam c.in-Lam.field-0 c.in-Lam.field-1 c.in-Lam.body = sym c.in_ok-body.ensures ∙ c.in-Lam.is in
@@ -39,8 +69,8 @@ prune-prune-requires g t c = λ κs out.
     let held : body.0 < length store.nodes = omega (arith, low, c.requires.term.2.0) in
     (omega (arith, low, c.decreases), (out, (c.requires.store, (c.requires.free, (subst (AreNames types) (sym c.deref.ensures.value) (c.in_ok-inner-in-Lam.ensures.names types c.requires.names), (A ∷ c.requires.term.0, r.0, (held, r.1)))))))
 
-pub prune-returns-in-Lam-clause-changed : goal.prune-returns-in-Lam-clause-changed
-prune-returns-in-Lam-clause-changed g t c = on_ok_weaker c.prune.result (λ done T S F change was named cells G B is clear.
+pub prune_node-returns-in-Lam-clause-changed : goal.prune_node-returns-in-Lam-clause-changed
+prune_node-returns-in-Lam-clause-changed g t c = on_ok_weaker c.prune.result (λ done T S F change was named cells G B is clear outer depth names_are all.
     let types = c.args.types.now in
     let store = c.args.store.now in
     let node : c.view.result.now ≡ Lam c.in-Lam.field-0 c.in-Lam.field-1 c.in-Lam.body = sym c.in_ok-body.ensures ∙ c.in-Lam.is in
@@ -55,46 +85,32 @@ prune-returns-in-Lam-clause-changed g t c = on_ok_weaker c.prune.result (λ done
     let ys = variables_read T S c.args.cells.now in
     let inner_names : AreNames T c.deref.result.now = subst (AreNames T) (sym c.deref.ensures.value) (c.in_ok-inner-in-Lam.ensures.names T named) in
     let inner_is : map (head_reading T S) c.deref.result.now ≡ under (map (head_reading T S) c.args.names.now) = ap (map (head_reading T S)) c.deref.ensures.value ∙ c.in_ok-inner-in-Lam.ensures.reads T S in
-    subst (λ u. Changed T S F (pruned (codes "x") ys (map (head_reading T S) c.args.names.now) u change) c.prune.new.types c.prune.new.store c.prune.new.flexible.items) (sym same)
-    (subst (λ hs. Changed T S F (pruned (codes "x") ys hs (tree_of T S body) change) c.prune.new.types c.prune.new.store c.prune.new.flexible.items) inner_is
-    (done T S F change was inner_names cells (A ∷ G) r.0 (here, r.1) (subst (AllUnbound S) same clear)))) c.prune.ensures.changed
+    let Left : Change (List ℕ) → Type 0 = λ d. Changed T S F d c.prune.new.types c.prune.new.store c.prune.new.flexible.items × AllPruned T S c.args.cells.now outer d c.prune.new.seen in
+    subst (λ u. Left (pruned (codes "x") ys (map (head_reading T S) c.args.names.now) u change)) (sym same)
+    (subst (λ hs. Left (pruned (codes "x") ys hs (tree_of T S body) change)) inner_is
+    (done T S F change was inner_names cells (A ∷ G) r.0 (here, r.1) (subst (AllUnbound S) same clear) outer (suc depth) (inner_is ∙ ap under names_are) all))) c.prune.ensures.changed
 
-pub prune-returns-in_err-here-in-Spine-clause-grows : goal.prune-returns-in_err-here-in-Spine-clause-grows
-prune-returns-in_err-here-in-Spine-clause-grows g t c =
-    grows_terms c.args.types.now c.args.store.now c.copy_resolved.new.store (typed_terms c.args.types.now c.args.store.now c.copy_resolved.new.store c.requires.store c.in_err-here-in-Spine.ensures.adds)
-
-pub prune-returns-then-is_flexible-clause-grows : goal.prune-returns-then-is_flexible-clause-grows
-prune-returns-then-is_flexible-clause-grows g t c =
-    let types = c.args.types.now in
-    grows_on types types c.prune_here.new.types c.args.store.now c.copy_resolved.new.store c.prune_here.new.store
-    (grows_terms types c.args.store.now c.copy_resolved.new.store (typed_terms types c.args.store.now c.copy_resolved.new.store c.requires.store c.in_ok-here-in-Spine.ensures.adds)) c.prune_here.ensures.grows
-
-pub prune-returns-then-is_flexible-clause-changed : goal.prune-returns-then-is_flexible-clause-changed
-prune-returns-then-is_flexible-clause-changed g t c = on_ok_weaker c.prune_here.result (λ done T S F change was named cells G B is clear.
+pub prune_node-returns-then-is_flexible-clause-changed : goal.prune_node-returns-then-is_flexible-clause-changed
+prune_node-returns-then-is_flexible-clause-changed g t c = on_ok_weaker c.prune_flexible.result (λ done T S F change was named cells G B is clear outer depth names_are all.
     let types = c.args.types.now in
     let store = c.args.store.now in
     let node : c.view.result.now ≡ Spine c.in-Spine.head c.in-Spine.args = sym c.in_ok-body.ensures ∙ c.in-Spine.is in
     let args = c.in-Spine.args in
     let h = head_reading types store c.in-Spine.head in
-    let tree_is : tree_of types store c.args.term ≡ spine h (terms_of (map (tree_of types store) args)) = c.view.ensures.tree types ∙ ap (node_tree types store) node in
-    let middle = c.copy_resolved.new.store in
-    let adds = typed_terms types store middle c.requires.store c.in_ok-here-in-Spine.ensures.adds in
-    let same : tree_of T S c.args.term ≡ spine h (terms_of (map (tree_of types store) args)) = sym (was.grows.trees c.args.term is.0).1 ∙ tree_is in
+    let us = terms_of (map (tree_of types store) args) in
+    let same : tree_of T S c.args.term ≡ spine h us = sym (was.grows.trees c.args.term is.0).1 ∙ c.view.ensures.tree types ∙ ap (node_tree types store) node in
     let ys = variables_read T S c.args.cells.now in
     let hs = map (head_reading T S) c.args.names.now in
-    let here = c.in_ok-here-in-Spine.here in
-    let here_is : tree_of types middle here ≡ image same_number change.pairs (spine h (terms_of (map (tree_of types store) args))) =
-    c.in_ok-here-in-Spine.ensures.tree ∙ was.reads G c.args.term B is ∙ ap (image same_number change.pairs) (unbound_reads T S c.args.term clear ∙ same) in
     let flex : is_flexible ys h ≡ true = ap (λ l. is_flexible l h) (sym (variables_same T types S store was.grows was.start c.args.cells.now cells)) ∙ sym (c.is_flexible.ensures types store) ∙ c.if-is_flexible.true in
-    subst (λ d. Changed T S F d c.prune_here.new.types c.prune_here.new.store c.prune_here.new.flexible.items)
-    (ap (λ l. pruned_here (codes "x") l (tree_of types middle here) change) (same_names T types S middle was.grows.table c.args.names.now named)
-    ∙ ap (λ u. pruned_here (codes "x") hs u change) here_is
+    let Left : Change (List ℕ) → Type 0 = λ d. Changed T S F d c.prune_flexible.new.types c.prune_flexible.new.store c.prune_flexible.new.flexible.items × AllPruned T S c.args.cells.now outer d c.prune_flexible.new.seen in
+    subst Left
+    (ap (λ u. pruned_here (codes "x") hs (image same_number change.pairs u) change) same
     ∙ sym (ap (λ u. pruned (codes "x") ys hs u change) same
-    ∙ ap (λ b. cond b (pruned_here (codes "x") hs (image same_number change.pairs (spine h (terms_of (map (tree_of types store) args)))) change) (pruned_all (codes "x") ys hs (terms_of (map (tree_of types store) args)) change)) flex))
-    (done T S F change (changed_on T S F change types store middle c.args.flexible.now.items was adds))) c.prune_here.ensures.changed
+    ∙ ap (λ b. cond b (pruned_here (codes "x") hs (image same_number change.pairs (spine h us)) change) (pruned_all (codes "x") ys hs us change)) flex))
+    (done T S F change was named G B is clear c.args.cells.now outer all)) c.prune_flexible.ensures.changed
 
-pub prune-prune_all-requires : goal.prune-prune_all-requires
-prune-prune_all-requires g t c = λ κs out.
+pub prune_node-prune_all-requires : goal.prune_node-prune_all-requires
+prune_node-prune_all-requires g t c = λ κs out.
     let types = c.args.types.now in
     let store = c.args.store.now in
     let node : c.view.result.now ≡ Spine c.in-Spine.head c.in-Spine.args = sym c.in_ok-body.ensures ∙ c.in-Spine.is in
@@ -110,8 +126,8 @@ prune-prune_all-requires g t c = λ κs out.
     let terms : All (IsSomeTerm types store) args = λ k d l. let p = typed k d l in let held : (get_or args k d).0 < length store.nodes = omega (arith, below k d l, c.requires.term.2.0) in (G, p.0, (held, p.1)) in
     (omega (arith, bound, c.decreases), (out, (c.requires.store, (c.requires.free, (c.requires.names, All-same (IsSomeTerm types store) _ _ c.as_slice.ensures terms)))))
 
-pub prune-returns-clause-changed : goal.prune-returns-clause-changed
-prune-returns-clause-changed g t c = on_ok_weaker c.prune_all.result (λ done T S F change was named cells G B is clear.
+pub prune_node-returns-clause-changed : goal.prune_node-returns-clause-changed
+prune_node-returns-clause-changed g t c = on_ok_weaker c.prune_all.result (λ done T S F change was named cells G B is clear outer depth names_are all.
     let types = c.args.types.now in
     let store = c.args.store.now in
     let node : c.view.result.now ≡ Spine c.in-Spine.head c.in-Spine.args = sym c.in_ok-body.ensures ∙ c.in-Spine.is in
@@ -126,9 +142,10 @@ prune-returns-clause-changed g t c = on_ok_weaker c.prune_all.result (λ done T 
     let hs = map (head_reading T S) c.args.names.now in
     let r = spine_typed (signature T) G B h (terms_of (map (tree_of T S) args)) (subst (λ u. HasType (signature T) G u B) same is.1) in
     let flex : is_flexible ys h ≡ false = ap (λ l. is_flexible l h) (sym (variables_same T types S store was.grows was.start c.args.cells.now cells)) ∙ sym (c.is_flexible.ensures types store) ∙ c.if-is_flexible.false in
+    let Left : Change (List ℕ) → Type 0 = λ d. Changed T S F d c.prune_all.new.types c.prune_all.new.store c.prune_all.new.flexible.items × AllPruned T S c.args.cells.now outer d c.prune_all.new.seen in
     let whole = subst (λ l. (H : List Ty) (C D : Ty) → All (Holds S) l → TakeType (signature T) H (terms_of (map (tree_of T S) l)) C D → All (λ t. AllUnbound S (tree_of T S t)) l
-    → Changed T S F (pruned_all (codes "x") ys hs (terms_of (map (tree_of T S) l)) change) c.prune_all.new.types c.prune_all.new.store c.prune_all.new.flexible.items) c.as_slice.ensures (done T S F change was named cells) in
-    subst (λ d. Changed T S F d c.prune_all.new.types c.prune_all.new.store c.prune_all.new.flexible.items)
+    → Left (pruned_all (codes "x") ys hs (terms_of (map (tree_of T S) l)) change)) c.as_slice.ensures (λ H C D l takes free. done T S F change was named cells H C D l takes free outer depth names_are all) in
+    subst Left
     (sym (ap (λ u. pruned (codes "x") ys hs u change) same
     ∙ ap (λ b. cond b (pruned_here (codes "x") hs (image same_number change.pairs (spine h (terms_of (map (tree_of T S) args)))) change) (pruned_all (codes "x") ys hs (terms_of (map (tree_of T S) args)) change)) flex))
     (whole G r.0 r.1 held r.2 (args_unbound types S (tree_of T S) h args (subst (AllUnbound S) same clear)))) c.prune_all.ensures.changed
@@ -157,9 +174,9 @@ prune_all-prune-requires g t c = λ κs out.
       ),
     )
 
-pub prune_all-returns-in_err-prune-clause-grows : goal.prune_all-returns-in_err-prune-clause-grows
-prune_all-returns-in_err-prune-clause-grows g t c =
-    grows_on c.args.types.now c.loop-term.types c.prune.new.types c.args.store.now c.loop-term.store c.prune.new.store c.loop-term.invariant.grows c.in_err-prune.ensures.grows
+pub prune_all-returns-in_err-pruned-clause-grows : goal.prune_all-returns-in_err-pruned-clause-grows
+prune_all-returns-in_err-pruned-clause-grows g t c =
+    grows_on c.args.types.now c.loop-term.types c.prune.new.types c.args.store.now c.loop-term.store c.prune.new.store c.loop-term.invariant.grows c.in_err-pruned.ensures.grows
 
 pub prune_all-loop-term-preserved : goal.prune_all-loop-term-preserved
 prune_all-loop-term-preserved g t c =
@@ -167,21 +184,25 @@ prune_all-loop-term-preserved g t c =
     let i = c.loop-term.term-index in
     let terms = c.args.terms.now in
     let low : i < length terms = omega arith in
+    let here = c.loop-term.invariant in
     record {
-      grows = grows_on c.args.types.now c.loop-term.types c.prune.new.types c.args.store.now c.loop-term.store c.prune.new.store c.loop-term.invariant.grows c.in_ok-prune.ensures.grows;
-      steps = omega (arith, c.loop-term.invariant.steps, c.in_ok-prune.ensures.steps);
-      free = c.in_ok-prune.ensures.free;
-      changed = λ T S F change was named cells G A B held takes clear.
+      grows = grows_on c.args.types.now c.loop-term.types c.prune.new.types c.args.store.now c.loop-term.store c.prune.new.store here.grows c.in_ok-pruned.ensures.grows;
+      steps = omega (arith, here.steps, c.in_ok-pruned.ensures.steps);
+      free = c.in_ok-pruned.ensures.free;
+      still = λ e. let both = c.is_either-lost.ensures e in c.in_ok-pruned.ensures.still both.1 ∙ here.still both.0;
+      changed = λ T S F change was named cells G A B held takes clear outer depth names_are all.
           let ys = variables_read T S c.args.cells.now in
           let hs = map (head_reading T S) c.args.names.now in
-          let so_far = c.loop-term.invariant.changed T S F change was named cells G A B held takes clear in
+          let so_far = here.changed T S F change was named cells G A B held takes clear outer depth names_are all in
           let typed = args_typed (signature T) G (tree_of T S) terms A B takes i d low in
-          let next = c.in_ok-prune.ensures.changed T S F (pruned_all (codes "x") ys hs (terms_of (map (tree_of T S) (take i terms))) change) so_far named cells G typed.0 (held i d low, typed.1) (clear i d low) in
-          subst (λ e. Changed T S F e c.prune.new.types c.prune.new.store c.prune.new.flexible.items)
+          let next = c.in_ok-pruned.ensures.changed T S F (pruned_all (codes "x") ys hs (terms_of (map (tree_of T S) (take i terms))) change) so_far.0 named cells G typed.0 (held i d low, typed.1) (clear i d low) outer depth names_are so_far.1 in
+          subst (λ e. Changed T S F e c.prune.new.types c.prune.new.store c.prune.new.flexible.items × AllPruned T S c.args.cells.now outer e c.prune.new.seen)
           (sym (ap (λ l. pruned_all (codes "x") ys hs (terms_of (map (tree_of T S) l)) change) (take_one_more terms i d low) ∙ pruned_next (codes "x") ys hs (tree_of T S) (take i terms) (get_or terms i d) change)) next;
     }
 
 pub prune_all-returns-clause-changed : goal.prune_all-returns-clause-changed
-prune_all-returns-clause-changed g t c = λ T S F change was named cells G A B held takes clear.
-    subst (λ l. Changed T S F (pruned_all (codes "x") (variables_read T S c.args.cells.now) (map (head_reading T S) c.args.names.now) (terms_of (map (tree_of T S) l)) change) c.loop-term.types c.loop-term.store c.loop-term.flexible.items)
-    (take_all c.loop-term.term-index c.args.terms.now (omega arith)) (c.loop-term.invariant.changed T S F change was named cells G A B held takes clear)
+prune_all-returns-clause-changed g t c = λ T S F change was named cells G A B held takes clear outer depth names_are all.
+    subst (λ l.
+    let e = pruned_all (codes "x") (variables_read T S c.args.cells.now) (map (head_reading T S) c.args.names.now) (terms_of (map (tree_of T S) l)) change in
+    Changed T S F e c.loop-term.types c.loop-term.store c.loop-term.flexible.items × AllPruned T S c.args.cells.now outer e c.loop-term.seen)
+    (take_all c.loop-term.term-index c.args.terms.now (omega arith)) (c.loop-term.invariant.changed T S F change was named cells G A B held takes clear outer depth names_are all)

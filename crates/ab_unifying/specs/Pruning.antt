@@ -1,0 +1,17 @@
+-- What a walk that prunes keeps of terms that it has been through. Only private contracts speak of this.
+use Rattle.std.specs.Prelude.{◌≡◌, ℕ, ◌+◌, List, map, length, true, codes}
+use Rattle.ab_term.specs.Terms as tree
+use Rattle.ab_types.specs.Entries.{Table}
+use Rattle.ab_store.specs.declared.node.TermId.{TermId}
+use Rattle.ab_store.specs.declared.node.CellId.{CellId}
+use Rattle.ab_store.specs.Trees.{Contents, tree_of}
+use Rattle.ab_store.specs.Reading.{cell_variable}
+use Rattle.ab_patterns.specs.declared.seen.Seen.{Seen}
+use Rattle.ab_patterns.specs.Walking.{has_been, deep}
+use Rattle.ab_solve.specs.Replacing.{Change, pruned}
+
+-- pruning a term that was seen under so many names changes nothing any more; the names are `outer`, under binders
+abbrev pub AllPruned : Table → Contents → List CellId → List (tree.Head ℕ) → Change (List ℕ) → Seen → Type 0
+AllPruned types store cells outer c seen =
+    (t : TermId) (k : ℕ) → has_been seen t (k + length outer) ≡ true
+    → pruned (codes "x") (map (cell_variable types store) cells) (deep k outer) (tree_of types store t) c ≡ c
