@@ -1,6 +1,10 @@
 pub mod Bounds
+pub mod Chosen
 pub mod Cutting
 pub mod Etas
-pub mod Knowing
+pub mod Placing
+pub mod Putting
 pub mod Scoped
 pub mod Seeing
+pub mod Stems
+pub mod Telling

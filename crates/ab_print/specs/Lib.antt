@@ -2,5 +2,6 @@
 pub mod Drawings
 pub mod Shown
 pub mod Scopes
-pub mod Known
+pub mod Places
+pub mod Told
 pub mod Examples

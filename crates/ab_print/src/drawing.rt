@@ -9,13 +9,21 @@ pub struct Seen {
     pub binders: usize,
 }
 
+/// The part of a binder: among the heads of the whole term, those of its body stand from the first number on, and before
+/// the second; and the numbers of those that are its bound name, in order.
+#[derive(Drop)]
+pub struct Part {
+    pub start: usize,
+    pub end: usize,
+    pub bound: Vec<usize>,
+}
+
 /// A term.
 #[cycle(drawings)]
 #[derive(Drop)]
 pub enum Drawing {
-    /// An abstraction: its type, the hint of its binder, and its body. Among the heads of the whole term, those of the
-    /// body stand from the first number on, and before the second.
-    Lam(TypeId, Name, usize, usize, Box<Drawing>),
+    /// An abstraction: its type, the hint of its binder, the binder's part, and its body.
+    Lam(TypeId, Name, Part, Box<Drawing>),
     /// A head with its arguments.
     Spine(Head, Box<Drawings>),
 }

@@ -1,12 +1,13 @@
 //! Terms and goals of a world, and replies, as bytes.
 #![tactic(auto)]
 
+mod choosing;
 mod drawing;
 mod eta;
 pub mod examples;
-mod known;
 mod logic;
 mod naming;
+mod places;
 mod reading;
 mod showing;
 #[cfg(test)]

@@ -7,8 +7,8 @@ ghost use Rattle.ab_logic.specs.Readings.{HoldsSequent, sequent_of, hypothesis_o
 ghost use Rattle.ab_print.specs.Shown.{cell_name, names_line, variables_line, shown, conclusion_line, hypothesis_lines, goal_lines, other_goal, reply_line};
 
 use crate::eta::alone;
-use crate::known::known_heads;
 use crate::naming::name_alone;
+use crate::places::own_places;
 use crate::reading::draw;
 use ab_logic::{Hypothesis, Sequent, World};
 use ab_store::{CellId, Store, TermId};
@@ -30,13 +30,12 @@ pub(crate) fn write_term(
     ensures { OnOk result (out.new.items ≡ out.old.items ++ shown (cell_name store.now) (terms.tree_of types.now store.now id)) }
 {
     let mut seen = Vec::new(alloc);
+    let mut bound = Vec::new(alloc);
     let name = alone(store, id);
-    let drawing = draw(alloc, types, store, id, 0, &mut seen)?;
+    let drawing = draw(alloc, types, store, id, 0, &mut seen, &mut bound)?;
+    let mut places = own_places(alloc, types, store, &seen)?;
     let mut names = Vec::new(alloc);
-    let mut known = known_heads(alloc, types, store, &seen)?;
-    let shape = name_alone(
-        alloc, types, store, &seen, &drawing, name, &mut names, &mut known,
-    )?;
+    let shape = name_alone(alloc, types, store, &drawing, name, &mut names, &mut places)?;
     write(&shape, out)
 }
 

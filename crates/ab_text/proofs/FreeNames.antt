@@ -1,11 +1,11 @@
--- The name that is chosen is free, and depends on which names are used alone.
+-- The name that is chosen is free, and a longer search finds no other.
 use Rattle.std.proofs.Common.{◌≡◌, ℕ, zero, suc, ◌+◌, ◌-◌, ◌^◌, ◌≤◌, ◌<◌, length, List, ◌∷◌, ◌++◌, Bool, true, false, ◌⊎◌, inl, inr, Contains, decimal, refl, sym, ◌∙◌, ap, subst, arith, length-append}
-use Rattle.std.specs.Prelude.{if◌then◌else◌, ◌↔◌}
+use Rattle.std.specs.Prelude.{if◌then◌else◌}
 use Rattle.std.proofs.lemmas.Fmt.{decimal_injective}
 use Rattle.std.proofs.lemmas.Bool.{cases_lt}
 use Rattle.std.proofs.lemmas.List.{append_cancel_left}
 use Rattle.ab_text.specs.Names.{is_in, first_from, stem, numbered, fresh}
-use Rattle.ab_text.proofs.Membership.{split, in_rest, is_in-true, true-is_in, is_in-same}
+use Rattle.ab_text.proofs.Membership.{split, in_rest, is_in-true, true-is_in}
 
 -- as many different things as the first number says, from n on, are at most as many as the list that holds them has
 holes : {X : Type 0} (f : ℕ → X) (n : ℕ) → (most : ℕ) (xs : List X)
@@ -81,9 +81,6 @@ reaches : (test : ℕ → Bool) (most n r : ℕ) → IsFirst test n r → r ≤ 
 reaches test zero n r f h = let from : n ≤ r = f.from in omega arith
 reaches test (suc most) n r f h = reached_by test most n r (test n) refl f h (λ low g. reaches test most (n + 1) r g low)
 
-same_first : (test other : ℕ → Bool) (n r : ℕ) → ((i : ℕ) → test i ≡ other i) → IsFirst test n r → IsFirst other n r
-same_first test other n r same f = record { from = f.from; fails = sym (same r) ∙ f.fails; before = λ i a b. sym (same i) ∙ f.before i a b }
-
 -- numbers make different names of one stem
 numbers_differ : (x : List ℕ) (i j : ℕ) → i < 2 ^ 64 → j < 2 ^ 64 → numbered x i ≡ numbered x j → i ≡ j
 numbers_differ x i j a b e = decimal_injective i j a b (append_cancel_left (stem x) (decimal i) (decimal j) e)
@@ -120,15 +117,9 @@ free_by used x false small e = ap (λ (b : Bool). is_in used (if b then (numbere
 pub fresh_is_free : (used : List (List ℕ)) (x : List ℕ) → length used + 1 < 2 ^ 64 - 1 → Contains used (fresh used x) → ⊥
 fresh_is_free used x small h = not_both (is_in used (fresh used x)) (true-is_in used (fresh used x) h) (free_by used x (is_in used x) small refl)
 
--- it depends on which names are used alone
-pub fresh-same : (used other : List (List ℕ)) (x : List ℕ) → length used + 1 < 2 ^ 64 - 1 → ((y : List ℕ) → Contains used y ↔ Contains other y) → fresh used x ≡ fresh other x
-fresh-same used other x small same =
-    let test : (y : List ℕ) → is_in used y ≡ is_in other y = is_in-same used other same in
-    let f : IsFirst (taken used x) 1 (first_from (taken used x) (length used) 1) = first_is used x small in
-    let g : IsFirst (taken other x) 1 (first_from (taken used x) (length used) 1) = same_first (taken used x) (taken other x) 1 (first_from (taken used x) (length used) 1) (λ i. test (numbered x i)) f in
+-- and a search that may go on for longer finds no other number
+pub first_free-longer : (used : List (List ℕ)) (x : List ℕ) (most : ℕ) → length used + 1 < 2 ^ 64 - 1 → length used ≤ most
+    → first_from (λ n. is_in used (numbered x n)) most 1 ≡ first_from (λ n. is_in used (numbered x n)) (length used) 1
+first_free-longer used x most small more =
     let low : first_from (taken used x) (length used) 1 ≤ 1 + length used = first_low used x in
-    let from : 1 ≤ first_from (taken used x) (length used) 1 = f.from in
-    let few : first_from (taken used x) (length used) 1 - 1 ≤ length other = few_taken other x (first_from (taken used x) (length used) 1 - 1) (omega arith) (λ i a b. g.before i a (omega arith)) in
-    let e : first_from (taken other x) (length other) 1 ≡ first_from (taken used x) (length used) 1 = reaches (taken other x) (length other) 1 (first_from (taken used x) (length used) 1) g (omega arith) in
-    ap (λ (b : Bool). if b then (numbered x (first_from (taken used x) (length used) 1)) else x) (test x)
-    ∙ ap (λ (k : ℕ). if (is_in other x) then (numbered x k) else x) (sym e)
+    reaches (taken used x) most 1 (first_from (taken used x) (length used) 1) (first_is used x small) (omega arith)

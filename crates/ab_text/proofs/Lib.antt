@@ -3,5 +3,3 @@ pub mod Membership
 pub mod FreeNames
 pub mod Scoping
 pub mod Formed
-pub mod Stems
-pub mod Chosen

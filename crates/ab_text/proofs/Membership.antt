@@ -1,6 +1,6 @@
 -- Lists as sets.
 use Rattle.std.proofs.Common.{◌≡◌, ℕ, List, [], ◌∷◌, ◌++◌, Bool, true, false, Option, Some, None, ◌⊎◌, inl, inr, ◌||◌, Contains, refl, sym, ◌∙◌, ap, subst}
-use Rattle.std.specs.Prelude.{bytes_eq, ◌↔◌}
+use Rattle.std.specs.Prelude.{bytes_eq}
 use Rattle.std.specs.List.{filter_map, cons_option}
 use Rattle.std.proofs.lemmas.List.Elements.{Contains-append_left, Contains-append_right, Contains-append_cases}
 use Rattle.std.specs.Cmp.Lexicographic.{bytes_decides}
@@ -48,12 +48,6 @@ module _ {X Y : Type 0} (f : X → Option Y) where
     | inr later ↦ value_there (f z) (filter_map f xs) y (to_filter_map xs x y later e)
   ]
 
-  pub filter_map_same : (xs ys : List X) → ((x : X) → Contains xs x ↔ Contains ys x) → (y : Y) → Contains (filter_map f xs) y ↔ Contains (filter_map f ys) y
-  filter_map_same xs ys same y = (
-    (λ h. let r = from_filter_map xs y h in to_filter_map ys r.0 y ((same r.0).0 r.1) r.2),
-    (λ h. let r = from_filter_map ys y h in to_filter_map xs r.0 y ((same r.0).1 r.1) r.2),
-  )
-
 -- the test of whether a name is among others
 
 or_cases : (a b : Bool) → (a || b) ≡ true → (a ≡ true) ⊎ (b ≡ true)
@@ -83,13 +77,3 @@ true-is_in (y ∷ used) x h = elim (Contains-cases y used x h) [
   | inl e ↦ subst (λ (w : List ℕ). (bytes_eq w y || is_in used w) ≡ true) e (ap (λ (b : Bool). b || is_in used y) (bytes_self y))
   | inr later ↦ or_right (bytes_eq x y) (is_in used x) (true-is_in used x later)
 ]
-
-bool_same : (a b : Bool) → (a ≡ true → b ≡ true) → (b ≡ true → a ≡ true) → a ≡ b
-bool_same true b f g = sym (f refl)
-bool_same false true f g = g refl
-bool_same false false f g = refl
-
-pub is_in-same : (xs ys : List (List ℕ)) → ((x : List ℕ) → Contains xs x ↔ Contains ys x) → (x : List ℕ) → is_in xs x ≡ is_in ys x
-is_in-same xs ys same x = bool_same (is_in xs x) (is_in ys x)
-    (λ h. true-is_in ys x ((same x).0 (is_in-true xs x h)))
-    (λ h. true-is_in xs x ((same x).1 (is_in-true ys x h)))

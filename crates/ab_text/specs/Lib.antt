@@ -3,7 +3,6 @@
 pub mod Shapes
 pub mod Layout
 pub mod Trees
-pub mod Members
 pub mod Names
 pub mod Naming
 pub mod Values

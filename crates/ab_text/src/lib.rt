@@ -2,7 +2,6 @@
 //! bytes, with the laws of both.
 #![tactic(auto)]
 
-mod choosing;
 pub mod examples;
 mod forming;
 mod levels;
@@ -13,7 +12,6 @@ mod shape;
 mod tests;
 mod writing;
 
-pub use choosing::fresh;
 pub use forming::{
     between, judged, judged_in_focus, quantified, truth_value, with_constant, with_mark, with_name,
     with_pi,

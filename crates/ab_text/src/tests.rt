@@ -1,5 +1,5 @@
-//! Shapes and names that are written by hand, with their bytes.
-use crate::{Shape, Shapes, fresh, write};
+//! Shapes that are written by hand, with their bytes.
+use crate::{Shape, Shapes, write};
 use ab_grammar::{Infix, Quant};
 use std::alloc::{AllocError, Global};
 
@@ -51,16 +51,5 @@ fn a_mark_stands_behind_an_atom_after_a_space(rt: HostRuntime) -> Result<(), All
     let alloc = rt.alloc();
     let shape = Shape::Marked(b'@', 2, applied(alloc, b"nat", word(alloc, b"N")?)?);
     assert!(rt; text(alloc, &shape)?.as_slice() == b"nat N @@".as_slice());
-    Ok(())
-}
-
-#[test]
-fn a_hint_that_is_used_gets_the_first_free_number(rt: HostRuntime) -> Result<(), AllocError> {
-    let alloc = rt.alloc();
-    let mut used = Vec::new(alloc);
-    used.push(Vec::from_slice(alloc, b"X2")?)?;
-    used.push(Vec::from_slice(alloc, b"X1")?)?;
-    let name = fresh(alloc, &used, b"X2")?;
-    assert!(rt; name.as_slice() == b"X3".as_slice());
     Ok(())
 }

@@ -1,4 +1,4 @@
-use Rattle.std.proofs.Common.{◌≡◌, ◌<◌, ◌≤◌, ◌+◌, ◌∙◌, ◌&&◌, refl, ap, sym, map, arith}
+use Rattle.std.proofs.Common.{◌<◌, ◌≤◌, ◌∙◌, ◌&&◌, refl, ap, sym, map, arith}
 use Rattle.std.specs.List.{All}
 use Rattle.std.proofs.lemmas.List.Elements.{All-same}
 use Rattle.ab_term.specs.Terms.{terms_of}
@@ -8,7 +8,7 @@ use Rattle.ab_store.specs.Trees.{tree_of}
 use Rattle.ab_text.specs.Naming.{is_bound_name, are_last}
 use Rattle.ab_print.proofs.Bounds.{ids_bound, bound_within}
 use Rattle.ab_print.proofs.Cutting.{whole}
-use Rattle.ab_print.proofs.Etas.{lam_name, lam_reads, spine_reads, last_more, bound_spine, spine_names}
+use Rattle.ab_print.proofs.Etas.{lam_name, lam_reads, last_more, bound_spine, spine_names}
 use Rattle.ab_print.proofs.eta.+lasts.Goals as goal
 
 pub are_last-returns-then-is_bound_name : goal.are_last-returns-then-is_bound_name
