@@ -1,10 +1,11 @@
-//! Every list of tokens has one of three answers, as an expression and as a type: a tree, a refusal for its form at a token,
-//! or one for its depth at a token. That it has no two of them are laws of the grammar's crate.
+//! Every list of tokens has one of three answers, as an expression, as a type and as a command: a tree, a refusal for its form at a
+//! token, or one for its depth at a token. That it has no two of them are laws of the grammar's crate.
 #![tactic(auto)]
 
 ghost use Rattle.std.specs.Prelude.{List};
 ghost use Rattle.ab_grammar.specs.Token.{Token};
 ghost use Rattle.ab_grammar.specs.Language.{Expression, TypeExpression};
+ghost use Rattle.ab_grammar.specs.CommandTable.{CommandText};
 ghost use Rattle.ab_totality.specs.Answers.{HasAnswer, AreWritten};
 
 /// Tokens have an answer as an expression.
@@ -15,4 +16,9 @@ pub fn an_answer_for_an_expression()
 /// Tokens have an answer as a type.
 pub fn an_answer_for_a_type()
     ensures { (ts : List Token) → AreWritten ts → HasAnswer TypeExpression ts }
+{}
+
+/// Tokens have an answer as a command.
+pub fn an_answer_for_a_command()
+    ensures { (ts : List Token) → AreWritten ts → HasAnswer CommandText ts }
 {}
