@@ -13,7 +13,7 @@ use Rattle.ab_grammar.specs.CommandTrees.{Command}
 use Rattle.ab_logic.specs.Growth.{Grows}
 use Rattle.ab_logic.specs.Worlds.{declared, declarations_of, IsWorld}
 use Rattle.ab_logic.specs.declared.world.World.{World}
-use Rattle.ab_logic.proofs.Declaring.{declared_more}
+use Rattle.ab_logic.proofs.Blocks.{declared_more}
 use Rattle.ab_logic.proofs.Growing.{grows_types}
 use Rattle.ab_declare.specs.Declaring.{first_taken}
 use Rattle.ab_declare.specs.Answers.{TableDeclared, IsDeclared}
@@ -105,13 +105,13 @@ found_constants old new A (inl (c, e)) = ap constants e
 found_constants old new A (inr (n, e)) = ap constants e ∙ constants-append old (table.a_type A ∷ []) ∙ append-nil (constants old)
 
 -- what the table got is declared by the world
-pub world_declared : (w : World) (new : Table) (c : Command) → IsWorld w → TableDeclared w.types new c None → IsDeclared w (record { types = new; store = w.store; theorems = w.theorems }) c
+pub world_declared : (w : World) (new : Table) (c : Command) → IsWorld w → TableDeclared w.types new c None → IsDeclared w (record { types = new; store = w.store; additions = w.additions }) c
 world_declared w new c is got =
-    let v : World = record { types = new; store = w.store; theorems = w.theorems } in
-    let grows : Grows w v = grows_types w.types new w.store w.theorems is (got.0, got.1) in
+    let v : World = record { types = new; store = w.store; additions = w.additions } in
+    let grows : Grows w v = grows_types w.types new w.store w.additions is (got.0, got.1) in
     record {
       more = declared got.0;
       declares = got.2 (declarations_of w) (world_knows w is);
-      declared = declared_more w v got.0 got.1 grows.readings 0 w.theorems is.order is.theorems;
+      declared = declared_more w v got.0 got.1 grows.ids grows.readings grows.cell_ids grows.cells 0 w.additions is.order is.additions;
       grows = grows;
     }

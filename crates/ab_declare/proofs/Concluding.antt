@@ -93,10 +93,10 @@ type_refused t u v xs w (fault.Memory m) r free a is = absurd is
 
 -- the world is declined what its table is
 pub world_declined : (w : World) (new u : Table) (c : Command) (r : Refusal) → IsWorld w → new ≡ w.types → TableDeclared w.types u c (Some r)
-    → IsDeclined w (record { types = new; store = w.store; theorems = w.theorems }) c r
+    → IsDeclined w (record { types = new; store = w.store; additions = w.additions }) c r
 world_declined w new u c r is same a = record {
   declines = a (declarations_of w) (world_knows w is);
-  restored = record { types = same; nodes = refl; cells = refl; bindings = refl; theorems = refl };
+  restored = record { types = same; nodes = refl; cells = refl; bindings = refl; additions = refl };
 }
 
 pub some_read : {X : Type 0} (o : Option X) (f : X → Read) (q : Option Read) → is_some o ≡ true → option_map f o ≡ q → (F : Read) × (q ≡ Some F)

@@ -8,9 +8,11 @@ use Rattle.ab_types.specs.Entries.{Table, kinds, constants, names, constant}
 use Rattle.ab_types.proofs.Entries.{kinds-append}
 use Rattle.ab_effects.specs.Terms.{kinds_in}
 use Rattle.ab_logic.specs.Declarations.{Declarations, a_kind, a_constant, a_block, a_program_clause, a_theorem, constants_in}
-use Rattle.ab_logic.specs.Worlds.{read, declared, declared_from, declarations_of, CameInOrder, IsWorld}
+use Rattle.ab_logic.specs.Worlds.{declared, declaration_of, declared_from, declarations_of, CameInOrder, IsWorld}
 use Rattle.ab_logic.specs.declared.world.World.{World}
-use Rattle.ab_logic.specs.declared.theorems.Theorem.{Theorem}
+use Rattle.ab_logic.specs.declared.additions.Added.{Added}
+use Rattle.ab_logic.specs.declared.additions.Addition.{Addition}
+use Rattle.ab_logic.specs.declared.additions.Addition.TheVariants.{Theorem, Definition}
 use Rattle.ab_logic.proofs.Declaring.{constants_are}
 use Rattle.ab_declare.specs.Answers.{Knows}
 
@@ -36,22 +38,27 @@ drop_on done before xs l =
     let e : done + (before - done) ≡ before = omega arith in
     drop-drop (before - done) done xs ∙ ap (λ k. drop k xs) e
 
-kinds_are : (w : World) (done : ℕ) (ts : List Theorem) → CameInOrder w.types done ts → kinds_in (declared_from w done ts) ≡ kinds (drop done w.types)
+-- what is added behind a table's entries is no kind
+no_kind : (w : World) (what : Addition) (ds : Declarations) → kinds_in (declaration_of w what ∷ ds) ≡ kinds_in ds
+no_kind w (Theorem e) ds = refl
+no_kind w (Definition b) ds = refl
+
+kinds_are : (w : World) (done : ℕ) (xs : List Added) → CameInOrder w.types done xs → kinds_in (declared_from w done xs) ≡ kinds (drop done w.types)
 kinds_are w done [] order = kinds-declared (drop done w.types)
-kinds_are w done (t ∷ ts) order =
-    let xs = drop done w.types in
-    let k = t.before - done in
-    kinds_in-append (declared (take k xs)) (a_theorem t.entry.name (read w t.entry.formula) ∷ declared_from w t.before ts)
-    ∙ ap (λ cs. cs ++ kinds_in (declared_from w t.before ts)) (kinds-declared (take k xs))
-    ∙ ap (λ cs. kinds (take k xs) ++ cs) (kinds_are w t.before ts order.1 ∙ ap kinds (sym (drop_on done t.before w.types order.0)))
-    ∙ kinds_split k xs
+kinds_are w done (a ∷ xs) order =
+    let es = drop done w.types in
+    let k = a.before - done in
+    kinds_in-append (declared (take k es)) (declaration_of w a.what ∷ declared_from w a.before xs)
+    ∙ ap (λ cs. cs ++ kinds_in (declaration_of w a.what ∷ declared_from w a.before xs)) (kinds-declared (take k es))
+    ∙ ap (λ cs. kinds (take k es) ++ cs) (no_kind w a.what (declared_from w a.before xs) ∙ kinds_are w a.before xs order.1 ∙ ap kinds (sym (drop_on done a.before w.types order.0)))
+    ∙ kinds_split k es
 
 pub world_constants : (w : World) → IsWorld w → constants_in (declarations_of w) ≡ constants w.types
-world_constants w is = constants_are w 0 w.theorems is.order
+world_constants w is = constants_are w 0 w.additions is.order
 
 -- a world's table knows what its declarations do
 pub world_knows : (w : World) → IsWorld w → Knows w.types (declarations_of w)
-world_knows w is = record { kinds = kinds_are w 0 w.theorems is.order; constants = ap names (constants_are w 0 w.theorems is.order) }
+world_knows w is = record { kinds = kinds_are w 0 w.additions is.order; constants = ap names (constants_are w 0 w.additions is.order) }
 
 -- kinds and constants as they stand in a table
 

@@ -8,11 +8,13 @@ use Rattle.ab_store.proofs.Growing.{extended_itself}
 use Rattle.ab_store.proofs.Marking.{keeps}
 use Rattle.ab_store.proofs.Tables.{still_typed}
 use Rattle.ab_norm.specs.Growth.{AddsTypedTerms}
-use Rattle.ab_logic.specs.Declarations.{a_theorem}
 use Rattle.ab_logic.specs.Growth.{Grows}
-use Rattle.ab_logic.specs.Worlds.{read, declared, declared_from, declarations_of, IsWorld}
+use Rattle.ab_logic.specs.Worlds.{declared, declaration_of, declared_from, declarations_of, IsWorld}
 use Rattle.ab_logic.specs.declared.world.World.{World}
-use Rattle.ab_logic.specs.declared.theorems.Theorem.{Theorem}
+use Rattle.ab_logic.specs.declared.additions.Added.{Added}
+use Rattle.ab_logic.specs.declared.additions.Addition.{Addition}
+use Rattle.ab_logic.specs.declared.additions.Addition.TheVariants.{Theorem, Definition}
+use Rattle.ab_logic.proofs.Blocks.{all_kept}
 use Rattle.ab_declare.specs.Moments.{IsRestored}
 
 -- a larger table, and no term more
@@ -24,18 +26,25 @@ abbrev pub with_room : ℕ → World → World
 with_room n w = record {
   types = w.types;
   store = record { nodes = w.store.nodes; cells = w.store.cells; bindings = w.store.bindings; room = n };
-  theorems = w.theorems;
+  additions = w.additions;
 }
 
 pub restored_is : (old new : World) → IsRestored old new → new ≡ with_room new.store.room old
-restored_is old new r = rw (sym r.types, sym r.nodes, sym r.cells, sym r.bindings, sym r.theorems) refl
+restored_is old new r = rw (sym r.types, sym r.nodes, sym r.cells, sym r.bindings, sym r.additions) refl
 
-same_declared : (n : ℕ) (w : World) (done : ℕ) (ts : List Theorem) → declared_from (with_room n w) done ts ≡ declared_from w done ts
+same_addition : (n : ℕ) (w : World) (what : Addition) → declaration_of (with_room n w) what ≡ declaration_of w what
+same_addition n w (Theorem e) = refl
+same_addition n w (Definition b) = refl
+
+same_declared : (n : ℕ) (w : World) (done : ℕ) (xs : List Added) → declared_from (with_room n w) done xs ≡ declared_from w done xs
 same_declared n w done [] = refl
-same_declared n w done (t ∷ ts) = ap (λ ds. declared (take (t.before - done) (drop done w.types)) ++ a_theorem t.entry.name (read w t.entry.formula) ∷ ds) (same_declared n w t.before ts)
+same_declared n w done (a ∷ xs) =
+    let front = declared (take (a.before - done) (drop done w.types)) in
+    ap (λ d. front ++ d ∷ declared_from (with_room n w) a.before xs) (same_addition n w a.what)
+    ∙ ap (λ ds. front ++ declaration_of w a.what ∷ ds) (same_declared n w a.before xs)
 
 room_declares : (n : ℕ) (w : World) → declarations_of (with_room n w) ≡ declarations_of w
-room_declares n w = same_declared n w 0 w.theorems
+room_declares n w = same_declared n w 0 w.additions
 
 room_grows : (n : ℕ) (w : World) → IsWorld w → Grows w (with_room n w)
 room_grows n w is =
@@ -47,14 +56,15 @@ room_grows n w is =
       cells = λ c h. refl;
       types = ([], sym (append-nil w.types));
       marks = λ m has. keeps w.store (with_room n w).store m has has.bindings has.nodes has.cells refl refl refl;
-      theorems = ([], sym (append-nil w.theorems));
+      additions = ([], sym (append-nil w.additions));
       declarations = ([], D ∙ sym (append-nil (declarations_of w)));
       world = record {
         typed = record { earlier = is.typed.earlier; nodes = is.typed.nodes; cells = is.typed.cells; bindings = is.typed.bindings };
         unbound = is.unbound;
-        theorems = is.theorems;
+        additions = all_kept w (with_room n w) [] (sym (append-nil w.types)) (λ t h. h) (λ t h. refl) (λ c h. h) (λ c h. refl) w.additions is.additions;
         order = is.order;
         sentences = rw D is.sentences;
+        definitions = rw D is.definitions;
       };
     }
 
@@ -66,4 +76,4 @@ pub restored_declares : (old new : World) → IsRestored old new → declaration
 restored_declares old new r = ap declarations_of (restored_is old new r) ∙ room_declares new.store.room old
 
 pub restored_itself : (w : World) → IsRestored w w
-restored_itself w = record { types = refl; nodes = refl; cells = refl; bindings = refl; theorems = refl }
+restored_itself w = record { types = refl; nodes = refl; cells = refl; bindings = refl; additions = refl }

@@ -24,7 +24,7 @@ use Rattle.ab_logic.specs.Formulas.{IsSentence}
 use Rattle.ab_logic.specs.Growth.{Grows}
 use Rattle.ab_logic.specs.Worlds.{declared, declarations_of, IsWorld}
 use Rattle.ab_logic.specs.declared.world.World.{World}
-use Rattle.ab_logic.proofs.Declaring.{declared_more}
+use Rattle.ab_logic.proofs.Blocks.{declared_more}
 use Rattle.ab_logic.proofs.Growing.{grows_types, grows_store, grows_on}
 use Rattle.ab_sentences.specs.Closed.{IsClosedScope}
 use Rattle.ab_sentences.proofs.Heads.{reads_has, normal_form_has, RawHas}
@@ -86,26 +86,26 @@ module _ (w : World) (is : IsWorld w) where
   module _ (types : Table) (store : Contents) (part : IsExtendedBy w.types types) (same_kinds : kinds types ≡ kinds w.types) (same_constants : constants types ≡ constants w.types)
       (adds : AddsTypedTerms types w.store store) where
     abbrev pub later : World
-    later = record { types = types; store = store; theorems = w.theorems }
+    later = record { types = types; store = store; additions = w.additions }
 
-    grows_first : Grows w (record { types = types; store = w.store; theorems = w.theorems })
-    grows_first = grows_types w.types types w.store w.theorems is part
+    grows_first : Grows w (record { types = types; store = w.store; additions = w.additions })
+    grows_first = grows_types w.types types w.store w.additions is part
 
-    pub grows_later : Grows w (record { types = types; store = store; theorems = w.theorems })
-    grows_later = grows_on w (record { types = types; store = w.store; theorems = w.theorems }) (record { types = types; store = store; theorems = w.theorems }) grows_first
-        (grows_store types w.store store w.theorems grows_first.world adds.before adds.typed)
+    pub grows_later : Grows w (record { types = types; store = store; additions = w.additions })
+    grows_later = grows_on w (record { types = types; store = w.store; additions = w.additions }) (record { types = types; store = store; additions = w.additions }) grows_first
+        (grows_store types w.store store w.additions grows_first.world adds.before adds.typed)
 
     nothing_more : declared part.0 ≡ []
     nothing_more = none_declared part.0 (empty_of (kinds w.types) (kinds part.0) (sym (kinds-append w.types part.0) ∙ (sym (ap kinds part.1) ∙ same_kinds)))
         (empty_of (constants w.types) (constants part.0) (sym (constants-append w.types part.0) ∙ (sym (ap constants part.1) ∙ same_constants)))
 
-    pub declares_same : declarations_of (record { types = types; store = store; theorems = w.theorems }) ≡ declarations_of w
+    pub declares_same : declarations_of (record { types = types; store = store; additions = w.additions }) ≡ declarations_of w
     declares_same =
-        declared_more w (record { types = types; store = store; theorems = w.theorems }) part.0 part.1 grows_later.readings 0 w.theorems is.order is.theorems
+        declared_more w (record { types = types; store = store; additions = w.additions }) part.0 part.1 grows_later.ids grows_later.readings grows_later.cell_ids grows_later.cells 0 w.additions is.order is.additions
         ∙ ap (λ ds. declarations_of w ++ ds) nothing_more ∙ append-nil (declarations_of w)
 
     pub stated : (x : List ℕ) (e : Tree) (t : TermId) → theorem_in (declarations_of w) x ≡ None → IsAnswer types store (resolved (scope_in w.types) [] e) prop (place_of e) (Ok t)
-        → IsStated w (record { types = types; store = store; theorems = w.theorems }) x e t
+        → IsStated w (record { types = types; store = store; additions = w.additions }) x e t
     stated x e t free (r, names, n) = record {
       new_name = free;
       states = means e r names types store t same_constants n;

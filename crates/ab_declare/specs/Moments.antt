@@ -17,11 +17,11 @@ pub record IsMoment (w : World) (m : Moment) : Type 0 where
   pub nodes : m.mark.nodes ≡ length w.store.nodes
   pub cells : m.mark.cells ≡ length w.store.cells
 
--- the second world has types and terms more behind what marks count, and no other theorem
+-- the second world has types and terms more behind what marks count, and nothing else was added
 pub record HasMore (w v : World) : Type 0 where
   pub types : table.IsExtendedBy w.types v.types
   pub marks : (m : Mark) → HasMark w.store m → KeepsMark w.store v.store m
-  pub theorems : v.theorems ≡ w.theorems
+  pub additions : v.additions ≡ w.additions
 
 -- THE WORLD IS AS IT WAS, but for room that was made
 pub record IsRestored (old new : World) : Type 0 where
@@ -29,4 +29,4 @@ pub record IsRestored (old new : World) : Type 0 where
   pub nodes : new.store.nodes ≡ old.store.nodes
   pub cells : new.store.cells ≡ old.store.cells
   pub bindings : new.store.bindings ≡ old.store.bindings
-  pub theorems : new.theorems ≡ old.theorems
+  pub additions : new.additions ≡ old.additions

@@ -1,9 +1,8 @@
 -- The state of a session: what was declared, the proof that is open, how goals are shown, and the commands that it keeps.
 use Rattle.std.specs.Prelude.{ℕ, List, [], ◌∷◌, ◌++◌, map, Bool, true, Option, Some, None, is_some}
-use Rattle.ab_types.specs.Entries.{first_entries}
 use Rattle.ab_store.specs.Trees.{Read}
 use Rattle.ab_logic.specs.Declarations.{Declarations}
-use Rattle.ab_logic.specs.Worlds.{declared}
+use Rattle.ab_logic.specs.Worlds.{first_declarations}
 use Rattle.ab_logic.specs.declared.world.World.{World}
 use Rattle.ab_kernel.specs.Derivation.{open_goals}
 use Rattle.ab_kernel.specs.Layout.{Held, history_of}
@@ -16,7 +15,7 @@ pub record Attempt : Type 0 where
   pub goals : List Goal
 
 pub record State : Type 0 where
-  -- kinds, constants and theorems, in order, behind those that are built in
+  -- kinds, constants, definitions and theorems, in order, behind those that are built in
   pub declarations : Declarations
   pub attempt : Option Attempt
   -- whether the goals behind the current one are shown
@@ -26,7 +25,7 @@ pub record State : Type 0 where
 
 -- THE STATE IN WHICH A SESSION BEGINS
 abbrev pub empty : State
-empty = record { declarations = declared first_entries; attempt = None; all_subgoals = true; kept = [] }
+empty = record { declarations = first_declarations; attempt = None; all_subgoals = true; kept = [] }
 
 -- whether a proof is open
 abbrev pub is_open : State → Bool

@@ -32,4 +32,4 @@ returns-in_ok-refusal_for-in-Err-clause-answer g c =
     let free = none_read c.theorem.result (read c.args.world.now) _ (sym c.is_some.ensures ∙ c.if-is_some.false) c.theorem.ensures.reads in
     statement_declined c.args.world.now c.requires.world c.read_formula.new.types c.read_formula.new.store c.cut_back.new.world c.args.name.now (tree_of c.args.parse.now) c.in-Err.fault _ free
     c.in-Err.ensures.answer c.in_ok-refusal_for-in-Err.ensures
-    (c.cut_back.ensures c.args.world.now c.requires.world c.of-moment.ensures (record { types = c.read_formula.ensures.kept; marks = c.read_formula.ensures.adds.before.marks; theorems = refl }))
+    (c.cut_back.ensures c.args.world.now c.requires.world c.of-moment.ensures (record { types = c.read_formula.ensures.kept; marks = c.read_formula.ensures.adds.before.marks; additions = refl }))
