@@ -49,7 +49,7 @@ fn kind_type(alloc: Global, types: &mut TypeTable, text: &str) -> Result<TypeId,
 }
 
 /// The types of formulas.
-pub(crate) fn formulas(alloc: Global, types: &mut TypeTable) -> Result<Formulas, AllocError>
+pub fn formulas(alloc: Global, types: &mut TypeTable) -> Result<Formulas, AllocError>
     requires { IsTable types.old }
     ensures formulas { IfOk result (IsFormulas types.new) }
     ensures adds { AddsTypes types.old types.new }

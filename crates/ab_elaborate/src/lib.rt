@@ -7,5 +7,6 @@ mod judgements;
 mod scope;
 
 pub use elaborating::elaborate;
+pub use ids::formulas;
 pub use judgements::holds_judgement;
 pub use scope::Scope;

@@ -29,7 +29,9 @@ use Rattle.ab_resolving.specs.Scoping.{nodes_in}
 use Rattle.ab_building.specs.Building.{OpFits}
 use Rattle.ab_walking.specs.declared.row.Row.{Row}
 use Rattle.ab_walking.specs.Rows.{steps_of, Become, AreOf, Grew}
+use Rattle.ab_walking.specs.Occurrences.{free_names, with_names}
 use Rattle.ab_walking.specs.Walking.{Puts, BindsName, Unbinds, EquationMet}
+use Rattle.ab_walking.proofs.Occurring.{names_twice}
 use Rattle.ab_walking.proofs.Lists.{behind_twice, both_behind, all_one, nodes_last}
 
 pub become_less : (s t T : Table) (xs ys F : List Name) (n m N : ℕ) (more : List Name) → IsExtendedBy s t → ys ≡ xs ++ more → n ≤ m → Become t ys m T F N → Become s xs n T F N
@@ -141,6 +143,7 @@ module _ (store : Contents) where
     names = a.names ++ b.names;
     names_are = p.names ∙ behind_twice r0.names.items r1.names.items r2.names.items a.names b.names a.names_are b.names_are;
     apart = λ h. subst AreApart (sym p.names) (b.apart (a.apart h));
+    order = p.names ∙ names_twice r0.names.items r1.names.items r2.names.items (free_names (erase a.sketch)) (free_names (erase b.sketch)) a.order b.order;
     variables = omega (arith, p.variables, b.variables, a.variables);
     of = λ T F N later.
         let l = put_becomes t T r2 r3 op.Apply F N p later in
@@ -164,6 +167,7 @@ module _ (store : Contents) where
     names = a.names ++ b.names;
     names_are = p.names ∙ behind_twice r0.names.items r1.names.items r2.names.items a.names b.names (a.names_are ∙ ap (λ zs. zs ++ a.names) m.names) b.names_are;
     apart = λ h. subst AreApart (sym p.names) (b.apart (a.apart (subst AreApart (sym m.names) h)));
+    order = p.names ∙ names_twice r0.names.items r1.names.items r2.names.items (free_names (erase a.sketch)) (free_names (erase b.sketch)) (a.order ∙ ap (λ zs. with_names zs (free_names (erase a.sketch))) m.names) b.order;
     variables = omega (arith, p.variables, b.variables, a.variables, m.variables);
     of = λ T F N later.
         let l = put_becomes t T r2 r3 (op.Equal n) F N p later in
@@ -214,6 +218,7 @@ module _ (store : Contents) where
       names = a.names;
       names_are = names_under;
       apart = λ k. subst AreApart (sym u.names) (a.apart (subst AreApart (sym h.names) k));
+      order = u.names ∙ (a.order ∙ ap (λ zs. with_names zs (free_names (erase a.sketch))) h.names);
       variables = omega (arith, u.variables, a.variables, h.variables);
       of = λ T F N later. of_abs T store.cells F N (nodes_in r0.bound.items) (length r0.variables.items) x p a.steps a.marks a.sketch (within_all T F N later) (body_of T F N later);
       room = room_under;
@@ -233,6 +238,7 @@ module _ (store : Contents) where
       names = a.names;
       names_are = names_under;
       apart = λ k. subst AreApart (sym u.names) (a.apart (subst AreApart (sym h.names) k));
+      order = u.names ∙ (a.order ∙ ap (λ zs. with_names zs (free_names (erase a.sketch))) h.names);
       variables = omega (arith, u.variables, a.variables, h.variables);
       of = λ T F N later.
           let there = written T later.table in

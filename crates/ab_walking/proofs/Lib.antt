@@ -1,4 +1,5 @@
 pub mod Lists
+pub mod Occurring
 pub mod Growing
 pub mod Single
 pub mod Over

@@ -18,6 +18,7 @@ use Rattle.ab_infer.specs.Programs.{Item, bound_item, known_item, free_item, app
 use Rattle.ab_building.specs.Building.{OpFits}
 use Rattle.ab_walking.specs.declared.row.Row.{Row}
 use Rattle.ab_walking.specs.Rows.{steps_of, Become, AreOf, Grew}
+use Rattle.ab_walking.specs.Occurrences.{free_names, with_names}
 use Rattle.ab_infer.specs.Verdicts.{AreApart}
 use Rattle.ab_resolving.specs.Scoping.{nodes_in}
 use Rattle.ab_walking.proofs.Lists.{all_one, same_last, ends, all_front, all_end}
@@ -136,6 +137,7 @@ module _ (t : Table) (store : Contents) (r0 r1 : Row) (f : Found) (a : Grew t st
         names = a.names;
         names_are = names ∙ a.names_are;
         apart = λ h. subst AreApart (sym names) (a.apart h);
+        order = names ∙ (a.order ∙ ap (λ j. with_names r0.names.items (free_names (erase j))) k.1);
         variables = variables ∙ (a.variables ∙ ap (λ j. length r0.variables.items + count j) k.1);
         of = λ T F N later.
             let now : Become t r1.names.items (length r1.variables.items) T F N = record { table = later.table; more = later.more; names_are = later.names_are ∙ ap (λ zs. zs ++ later.more) names; variables = omega (arith, later.variables) } in

@@ -27,6 +27,7 @@ use Rattle.ab_building.proofs.Larger.{fits_more, items_more}
 use Rattle.ab_walking.specs.declared.row.Row.{Row}
 use Rattle.ab_walking.specs.Rows.{Grew}
 use Rattle.ab_walking.specs.Walking.{Puts, IsNumbered, was_there, is_new}
+use Rattle.ab_walking.proofs.Occurring.{numbered_order}
 use Rattle.ab_walking.proofs.Lists.{all_one}
 
 -- the variable of a bound name is one that there is
@@ -48,6 +49,7 @@ module _ (t : Table) (store : Contents) (old new : Row) where
     names = [];
     names_are = p.names ∙ sym (append-nil old.names.items);
     apart = λ h. subst AreApart (sym p.names) h;
+    order = p.names;
     variables = omega (arith, p.variables);
     of = λ T F N later. record {
       items = refl;
@@ -75,6 +77,7 @@ module _ (t : Table) (store : Contents) (old new : Row) where
         names = [];
         names_are = p.names ∙ sym (append-nil old.names.items);
         apart = λ k. subst AreApart (sym p.names) k;
+        order = p.names;
         variables = omega (arith, p.variables);
         of = λ T F N later. record {
           items = items_more t T later.table store typed 0 0 F (op.Known h id ∷ []) one fit;
@@ -137,6 +140,7 @@ grew_free t store old new x j p f is numbered steps marks variables outer =
       names = n.more;
       names_are = n.are;
       apart = n.apart;
+      order = numbered_order old.names.items new.names.items x j numbered;
       variables = omega (arith, variables);
       of = λ T F N later.
           let there : get_or F j [] ≡ x = ap (λ zs. get_or zs j []) later.names_are ∙ (get_front new.names.items later.more j n.within ∙ n.at) in

@@ -6,13 +6,14 @@ use Rattle.ab_types.proofs.Entries.{extended_by_itself}
 use Rattle.ab_store.specs.Trees.{Contents}
 use Rattle.ab_readings.specs.Names.{Name}
 use Rattle.ab_readings.specs.Scopes.{Found}
-use Rattle.ab_infer.specs.Sketches.{Sketch, bound, known, free, apply, abs, equal, bind, variable_of}
+use Rattle.ab_infer.specs.Sketches.{Sketch, bound, known, free, apply, abs, equal, bind, erase, variable_of}
 use Rattle.ab_infer.specs.Programs.{Item, apply_item, abs_item, equal_item, bind_item, Runs, no_item, run_bound, run_known, run_free, run_apply, run_abs, run_equal, run_bind, items_of, OpTyped}
 use Rattle.ab_infer.specs.Verdicts.{marks_in, mark_of, AreApart}
 use Rattle.ab_resolving.specs.Scoping.{nodes_in}
 use Rattle.ab_building.specs.Building.{OpFits}
 use Rattle.ab_walking.specs.declared.row.Row.{Row}
 use Rattle.ab_walking.specs.Rows.{steps_of, Become, AreOf, Grew, Makes}
+use Rattle.ab_walking.specs.Occurrences.{free_names, with_names}
 
 -- its steps make an expression
 makes : (k : Sketch) (rest : List Item) (st out : List Sketch) → Runs rest (k ∷ st) out → Runs (steps_of k ++ rest) st out
@@ -54,6 +55,7 @@ grew_whole t store r0 r1 f steps marks names variables outer g =
       fit = a.fit;
       count = omega (arith, g.variables, none);
       apart = g.apart (apart_empty r0.names.items names);
+      order = g.order ∙ ap (λ zs. with_names zs (free_names (erase g.sketch))) names;
       marks = ap marks_in m ∙ a.marks_are;
       typed = subst (All (OpTyped t (length r1.variables.items) (length r1.names.items))) (sym s) (a.typed tt);
       fits = subst (All (OpFits t store.cells)) (sym s) a.fits;

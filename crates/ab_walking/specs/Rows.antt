@@ -20,6 +20,7 @@ use Rattle.ab_resolving.specs.declared.scope.Scope.{Scope}
 use Rattle.ab_resolving.specs.Scoping.{nodes_in, HoldsScope}
 use Rattle.ab_building.specs.Building.{OpFits}
 use Rattle.ab_walking.specs.declared.row.Row.{Row}
+use Rattle.ab_walking.specs.Occurrences.{free_names, with_names}
 
 -- the steps that make an expression, those of its parts before its own
 abbrev pub steps_of : Sketch → List Item
@@ -72,6 +73,7 @@ pub record Grew (types : Table) (store : Contents) (old new : Row) (found : Foun
   pub names : List Name
   pub names_are : new.names.items ≡ old.names.items ++ names
   pub apart : AreApart old.names.items → AreApart new.names.items
+  pub order : new.names.items ≡ with_names old.names.items (free_names (erase sketch))
   pub variables : length new.variables.items ≡ length old.variables.items + count sketch
   pub of : (T : Table) (F : List Name) (N : ℕ) → Become types new.names.items (length new.variables.items) T F N →
       AreOf T store.cells F N (nodes_in old.bound.items) (length old.variables.items) steps marks sketch
@@ -86,6 +88,8 @@ pub record Makes (types : Table) (store : Contents) (row : Row) (found : Found) 
   pub fit : Fit row.names.items [] 0 sketch
   pub count : length row.variables.items ≡ count sketch
   pub apart : AreApart row.names.items
+  -- in the order in which they first stand
+  pub order : row.names.items ≡ with_names [] (free_names (erase sketch))
   pub marks : marks_in row.marks.items ≡ marks_of sketch
   pub typed : All (OpTyped types (length row.variables.items) (length row.names.items)) row.steps.items
   pub fits : All (OpFits types store.cells) row.steps.items

@@ -41,7 +41,7 @@ impl Row {
     }
 
     /// One step is put behind the row.
-    pub(crate) fn put(&mut self, op: Op) -> Result<(), AllocError>
+    pub fn put(&mut self, op: Op) -> Result<(), AllocError>
         ensures { OnOk result (Puts self.old self.new op) }
     {
         self.steps.push(op)?;

@@ -1,0 +1,68 @@
+//! Elaboration of a clause.
+ghost use Rattle.std.specs.Prelude.{◌≡◌, ◌≤◌, length, IfOk};
+ghost use Rattle.ab_types.specs.Entries.{Table, kinds, constants, signature, IsExtendedBy};
+ghost use Rattle.ab_types.specs.Ids.{HoldsType, type_of};
+ghost use Rattle.ab_types.specs.Sound.{IsTable};
+ghost use Rattle.ab_store.specs.Trees.{Contents};
+ghost use Rattle.ab_store.specs.Naming.{IsTypedBy};
+ghost use Rattle.ab_syntax.specs.Commands.{clause_of};
+ghost use Rattle.ab_resolving.specs.Scoping.{scope_of, HoldsScope};
+ghost use Rattle.ab_clauses.specs.Readings.{HoldsClause};
+ghost use Rattle.ab_clausal.specs.Answers.{IsClauseAnswer};
+ghost use Rattle.ab_clausal.specs.Meanings as meanings;
+ghost use Rattle.ab_clausal.specs.Growth.{AddsVariables};
+
+use crate::reading::read_clause;
+use crate::rows::row_of_clause;
+use ab_clauses::ClauseTerm;
+use ab_elaborate::formulas;
+use ab_infer::InferFault;
+use ab_resolving::{Place, Scope};
+use ab_store::Store;
+use ab_syntax::ClauseParse;
+use ab_types::{Steps, TypeId, TypeTable};
+use std::alloc::Global;
+
+/// What a clause may name beside its variables: what is declared.
+fn clause_scope(alloc: Global) -> Scope
+    ensures is { (types : Table) (store : Contents) → scope_of types store result ≡ meanings.clause_scope (kinds types) (signature types) }
+    ensures held { (types : Table) (store : Contents) → HoldsScope types store result }
+{
+    Scope {
+        variables: Vec::new(alloc),
+        nominals: Vec::new(alloc),
+        place: Place::Clause,
+    }
+}
+
+/// The clause that is written, its head and its body being of the type; a body that isn't written is `true`. Its variables are
+/// the words with a capital first letter, in the order in which they first stand in the text, each a new cell; those that stand
+/// in the body alone are closed by `exists` there, where the head has no prefix of `nabla` binders. `Unknown` has the first
+/// name in the text that stands for nothing, `TypeClash` the place of the clause, which has no reading, and `Untyped` the place
+/// of the first name to which two readings give different types, in bytes. `Memory` says that there was none.
+pub fn elaborate_clause<L>(
+    alloc: Global,
+    types: &mut TypeTable,
+    store: &mut Store,
+    parse: &ClauseParse,
+    expected: TypeId,
+    steps: &mut Steps<L>,
+) -> Result<ClauseTerm, InferFault>
+    requires table { IsTable types.old }
+    requires store { IsTypedBy types.old store.old }
+    requires judgement { meanings.ClauseHasNoJudgement (clause_of parse.now) }
+    requires expected { HoldsType types.old expected }
+    ensures answer { IsClauseAnswer types.old types.new store.new (length store.old.cells) (clause_of parse.now) (type_of types.old expected) result }
+    ensures held { IfOk result (HoldsClause types.new store.new) }
+    ensures kinds { kinds types.new ≡ kinds types.old }
+    ensures constants { constants types.new ≡ constants types.old }
+    ensures kept { IsExtendedBy types.old types.new }
+    ensures table { IsTable types.new }
+    ensures adds { AddsVariables types.new store.old store.new }
+    ensures steps { steps.old ≤ steps.new }
+{
+    let scope = clause_scope(alloc);
+    let formulas = formulas(alloc, types)?;
+    let row = row_of_clause(alloc, types, store, formulas, &scope, parse, expected)?;
+    read_clause(alloc, types, store, formulas, &row, parse.place, steps)
+}

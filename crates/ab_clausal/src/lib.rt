@@ -1,0 +1,10 @@
+//! Clauses of definitions: what a written clause means, its head and its body read together.
+#![tactic(auto)]
+
+mod cells;
+mod elaborating;
+mod parting;
+mod reading;
+mod rows;
+
+pub use elaborating::elaborate_clause;
