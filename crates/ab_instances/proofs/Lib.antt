@@ -1,11 +1,11 @@
-mod Dressed
-mod Instanced
-mod Listed
-mod Chosen
-mod Made
-mod Bound
-mod Noted
-mod Opened
-mod Fitting
-mod Assembled
-mod Raised
+pub mod Dressed
+pub mod Instanced
+pub mod Listed
+pub mod Chosen
+pub mod Made
+pub mod Bound
+pub mod Noted
+pub mod Opened
+pub mod Fitting
+pub mod Assembled
+pub mod Raised
