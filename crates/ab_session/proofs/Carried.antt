@@ -1,17 +1,16 @@
 -- What a proof command leaves of a proof, and of an attempt at a theorem.
 use Rattle.std.specs.Prelude.{IfSome, Result, Ok, Err, OnErr}
 use Rattle.std.proofs.Common.{◌≡◌, ◌≢◌, ℕ, List, [], ◌∷◌, ◌++◌, ◌+◌, suc, length, Option, Some, None, refl, sym, ◌∙◌, ap, subst, arith, append-nil, length-append}
-use Rattle.std.proofs.lemmas.List.{length-map}
 use Rattle.ab_grammar.specs.CommandTrees as told
 use Rattle.ab_grammar.specs.CommandTrees.{ProofCommand}
-use Rattle.ab_logic.specs.Declarations.{Declarations, a_theorem, signature_in, theorem_in, theorems_in}
+use Rattle.ab_logic.specs.Declarations.{Declarations, a_theorem, signature_in, theorem_in}
 use Rattle.ab_logic.specs.Formulas.{IsSentence}
 use Rattle.ab_logic.specs.Growth.{Grows}
 use Rattle.ab_logic.specs.Names.{Label}
 use Rattle.ab_logic.specs.Sequents.{Sequent}
 use Rattle.ab_logic.specs.Worlds.{read, Holds, declarations_of, IsWorld}
 use Rattle.ab_logic.specs.declared.world.World.{World}
-use Rattle.ab_logic.proofs.Declaring.{theorems_are}
+use Rattle.ab_session.proofs.Counted.{added_in, as_many}
 use Rattle.ab_logic.proofs.Growing.{grows_on}
 use Rattle.ab_kernel.specs.Derivation.{History, Valid, open_goals, IsDerivation}
 use Rattle.ab_kernel.specs.Layout.{Held, history_of, IsProof}
@@ -121,14 +120,11 @@ nothing_more : {X : Type 0} (xs more ys : List X) → ys ≡ xs ++ more → leng
 nothing_more xs [] ys e n = e ∙ append-nil xs
 nothing_more xs (x ∷ more) ys e n = let longer : length ys ≡ length xs + suc (length more) = ap length e ∙ length-append xs (x ∷ more) in absurd (omega (arith, longer, n))
 
-as_many : (w : World) → length (theorems_in (declarations_of w)) ≡ length w.theorems
-as_many w = ap length (theorems_are w 0 w.theorems) ∙ length-map _ _
-
 pub has_more : (w v : World) (p q : Held) → Follows w p v q → HasMore w v
 has_more w v p q f = record {
   types = f.grows.types;
   marks = f.grows.marks;
-  theorems = nothing_more w.theorems f.grows.theorems.0 v.theorems f.grows.theorems.1 (sym (as_many v) ∙ ap (λ D. length (theorems_in D)) f.declared ∙ as_many w);
+  additions = nothing_more w.additions f.grows.additions.0 v.additions f.grows.additions.1 (sym (as_many v 0 v.additions) ∙ ap added_in f.declared ∙ as_many w 0 w.additions);
 }
 
 -- what holds of a value, where it is there

@@ -1,3 +1,4 @@
+mod Counted
 mod Sayings
 mod Sessions
 mod Carried

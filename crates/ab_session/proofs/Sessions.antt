@@ -2,15 +2,14 @@
 use Rattle.std.specs.Prelude.{slice_get, IfSome}
 use Rattle.std.proofs.Common.{◌≡◌, ◌⊎◌, inl, inr, true, ℕ, zero, suc, ◌+◌, List, [], ◌∷◌, ◌++◌, length, map, Option, Some, None, option_map, refl, sym, ◌∙◌, ap, subst, append_assoc, append-nil, length-append}
 use Rattle.ab_term.specs.Types.{Ty}
-use Rattle.ab_types.specs.Entries.{first_entries}
 use Rattle.ab_store.specs.Trees.{Read}
 use Rattle.ab_grammar.specs.CommandTrees.{Command}
 use Rattle.ab_logic.specs.Declarations.{Declarations, a_kind, a_constant, a_theorem, signature_in, theorem_in, theorems_in}
 use Rattle.ab_logic.specs.Formulas.{IsSentence}
 use Rattle.ab_logic.specs.Growth.{Grows}
-use Rattle.ab_logic.specs.Worlds.{read, declared, declarations_of, IsWorld}
+use Rattle.ab_logic.specs.Worlds.{read, first_declarations, declarations_of, IsWorld}
 use Rattle.ab_logic.specs.declared.world.World.{World}
-use Rattle.ab_logic.proofs.Declaring.{theorems_in-append, theorems-declared}
+use Rattle.ab_logic.proofs.Declaring.{theorems_in-append}
 use Rattle.ab_kernel.specs.Derivation.{Derivation, History, root, proves, open_goals, IsDerivation}
 use Rattle.ab_kernel.specs.Layout.{Held, history_of, IsProof}
 use Rattle.ab_kernel.proofs.Later.{same_history, still_proof}
@@ -153,12 +152,12 @@ as_many D c more E declares e =
 no_proofs : (w : World) → theorems_in (declarations_of w) ≡ [] → AreProofs w []
 no_proofs w none = record { counted = sym (ap length none); each = λ place p e. absurd (cc) }
 
-pub new_session : (w : World) → IsWorld w → declarations_of w ≡ declared first_entries → IsSession (record { world = w; proofs = []; attempt = None; all_subgoals = true; kept = [] })
+pub new_session : (w : World) → IsWorld w → declarations_of w ≡ first_declarations → IsSession (record { world = w; proofs = []; attempt = None; all_subgoals = true; kept = [] })
 new_session w world says = record {
   world = world;
-  proofs = no_proofs w (ap theorems_in says ∙ theorems-declared first_entries);
+  proofs = no_proofs w (ap theorems_in says);
   attempt = tt;
 }
 
-pub new_state : (w : World) → declarations_of w ≡ declared first_entries → state_of (record { world = w; proofs = []; attempt = None; all_subgoals = true; kept = [] }) ≡ plain.empty
+pub new_state : (w : World) → declarations_of w ≡ first_declarations → state_of (record { world = w; proofs = []; attempt = None; all_subgoals = true; kept = [] }) ≡ plain.empty
 new_state w says = ap (λ D. record { declarations = D; attempt = None; all_subgoals = true; kept = [] }) says

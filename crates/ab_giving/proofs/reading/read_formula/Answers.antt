@@ -33,7 +33,7 @@ read_term-requires-clause-sequent g c =
     let none = adds_nothing w.types c.formula_type.new.types w.store c.formula_type.ensures.kept c.requires.world.typed in
     let grows = grows_later w c.requires.world c.formula_type.new.types w.store c.formula_type.ensures.kept c.formula_type.ensures.kinds c.formula_type.ensures.constants none in
     let declared = declares_same w c.requires.world c.formula_type.new.types w.store c.formula_type.ensures.kept c.formula_type.ensures.kinds c.formula_type.ensures.constants none in
-    let m : World = record { types = c.formula_type.new.types; store = w.store; theorems = w.theorems } in
+    let m : World = record { types = c.formula_type.new.types; store = w.store; additions = w.additions } in
     subst (λ D. IsSequent D (sequent_of m s)) (sym declared)
     (subst (IsSequent (declarations_of w)) (sym (same_sequent w m grows s c.requires.held)) c.requires.sequent)
 
@@ -47,7 +47,7 @@ returns-clause-reads g c =
     let none = adds_nothing w.types c.formula_type.new.types w.store c.formula_type.ensures.kept c.requires.world.typed in
     let grows = grows_later w c.requires.world c.formula_type.new.types w.store c.formula_type.ensures.kept c.formula_type.ensures.kinds c.formula_type.ensures.constants none in
     let declared = declares_same w c.requires.world c.formula_type.new.types w.store c.formula_type.ensures.kept c.formula_type.ensures.kinds c.formula_type.ensures.constants none in
-    let m : World = record { types = c.formula_type.new.types; store = w.store; theorems = w.theorems } in
+    let m : World = record { types = c.formula_type.new.types; store = w.store; additions = w.additions } in
     let A = type_of c.formula_type.new.types c.in_ok-expected.expected in
     subst (λ B. IsReadAs (declarations_of w) (sequent_of w s) e B v r) c.in_ok-expected.ensures.is
     (subst (λ S. IsReadAs (declarations_of w) S e A v r) (same_sequent w m grows s c.requires.held)
@@ -57,7 +57,7 @@ pub returns-clause-grows : goal.returns-clause-grows
 returns-clause-grows g c =
     let w = c.args.world.now in
     let none = adds_nothing w.types c.formula_type.new.types w.store c.formula_type.ensures.kept c.requires.world.typed in
-    grows_on w (record { types = c.formula_type.new.types; store = w.store; theorems = w.theorems }) c.read_term.new.world
+    grows_on w (record { types = c.formula_type.new.types; store = w.store; additions = w.additions }) c.read_term.new.world
     (grows_later w c.requires.world c.formula_type.new.types w.store c.formula_type.ensures.kept c.formula_type.ensures.kinds c.formula_type.ensures.constants none) c.read_term.ensures.grows
 
 pub returns-clause-declared : goal.returns-clause-declared

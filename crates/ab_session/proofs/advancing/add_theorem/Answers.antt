@@ -1,6 +1,6 @@
 use Rattle.std.proofs.Common.{◌∙◌, ap, subst}
 use Rattle.ab_logic.specs.Declarations.{theorem_in}
-use Rattle.ab_logic.specs.Theorems.{IsMemory}
+use Rattle.ab_logic.specs.Additions.{IsMemory}
 use Rattle.ab_logic.specs.Worlds.{declarations_of}
 use Rattle.ab_session.proofs.advancing.add_theorem.Goals as goal
 
