@@ -148,12 +148,12 @@ assert_refused D v l s e (infer.Untyped p) free n = inr (free, inl (inl n))
 assert_refused D v l s e (infer.Memory m) free n = tt
 
 -- why the cut isn't taken
-pub cut_fails : (D : Declarations) (F : Read) (l : Label) (place : ℕ) (s : Sequent) → Fails D (cut_formula F l) s 1 → CutFails D F l place s (TypeClash place)
-cut_fails D F l place s (inl (unfit, j)) = (refl, unfit)
-cut_fails D F l place s (inr (is, inl (none, j))) = absurd (omega (arith, j))
-cut_fails D F l place s (inr (is, inr (name, t, named, none))) = absurd none
+pub cut_fails : (D : Declarations) (w : World) (F : Read) (l : Label) (place : ℕ) (s : Sequent) → Fails D (cells_read w.types w.store) (cut_formula F l) s 1 → CutFails D F l place s (TypeClash place)
+cut_fails D w F l place s (inl (unfit, j)) = (refl, unfit)
+cut_fails D w F l place s (inr (is, inl (none, j))) = absurd (omega (arith, j))
+cut_fails D w F l place s (inr (is, inr (name, t, named, none))) = absurd none
 
-pub cut_nameless : (D : Declarations) (F : Read) (l : Label) (place i : ℕ) (s : Sequent) → (i ≡ 1 → ⊥) → Fails D (cut_formula F l) s i → CutFails D F l place s NamesSpent
-cut_nameless D F l place i s other (inl (unfit, j)) = absurd (other j)
-cut_nameless D F l place i s other (inr (is, inl (none, j))) = (is.1, none)
-cut_nameless D F l place i s other (inr (is, inr (name, t, named, none))) = absurd none
+pub cut_nameless : (D : Declarations) (w : World) (F : Read) (l : Label) (place i : ℕ) (s : Sequent) → (i ≡ 1 → ⊥) → Fails D (cells_read w.types w.store) (cut_formula F l) s i → CutFails D F l place s NamesSpent
+cut_nameless D w F l place i s other (inl (unfit, j)) = absurd (other j)
+cut_nameless D w F l place i s other (inr (is, inl (none, j))) = (is.1, none)
+cut_nameless D w F l place i s other (inr (is, inr (name, t, named, none))) = absurd none
