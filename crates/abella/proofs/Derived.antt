@@ -8,12 +8,12 @@ use Rattle.ab_lex.specs.Commands.{Item}
 use Rattle.ab_term.specs.Types.{Ty}
 use Rattle.ab_store.specs.Trees.{Read}
 use Rattle.ab_logic.specs.Declarations.{Declarations, a_kind, a_constant, a_theorem, theorems_in}
-use Rattle.ab_logic.proofs.Declaring.{theorems_in-append, theorems-declared}
-use Rattle.ab_types.specs.Entries.{first_entries}
+use Rattle.ab_logic.proofs.Declaring.{theorems_in-append}
 use Rattle.ab_grammar.specs.CommandTrees.{Command}
 use Rattle.ab_declare.specs.Declaring.{Declares, new_kinds, new_constants}
 use Rattle.ab_kernel.specs.Derivation.{Derivation}
 use Rattle.ab_states.specs.State.{State, empty}
+use Rattle.ab_logic.specs.Worlds.{first_declarations}
 use Rattle.ab_logic.specs.declared.world.World.{World}
 use Rattle.ab_states.specs.declared.reply.Reply.{Reply as Kept}
 use Rattle.ab_states.specs.declared.reply.Reply.TheVariants.{Accepted, Completed, Shown, Quit, Refused}
@@ -94,7 +94,7 @@ all_derived (next m h k z) x = all_derived z (replied h x)
 all_derived (last m h k) x = replied h x
 
 pub none_yet : AllDerived empty
-none_yet place l = let e = ap (λ (q : List (List ℕ × Read)). length q) (theorems-declared first_entries) in absurd (omega (arith, e, l))
+none_yet place l = let e : length (theorems_in first_declarations) ≡ 0 = refl in absurd (omega (arith, e, l))
 
 -- a completion brings its derivation
 borne_out : {s : State} {i : Item} {m : Moment} (name : List ℕ) → Replies s i m → m.reply ≡ completed name → IsProvedLast m.state.declarations name
