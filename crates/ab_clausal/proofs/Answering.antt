@@ -1,12 +1,15 @@
 -- What is answered to a clause, from what is read of its row.
-use Rattle.std.specs.Prelude.{Ok, Err, Result}
-use Rattle.std.proofs.Common.{◌≡◌, ℕ, [], sym, ap, ◌∙◌, subst}
-use Rattle.ab_term.specs.Types.{Ty}
-use Rattle.ab_types.specs.Entries.{Table, kinds, signature, type_in, IsExtendedBy}
+use Rattle.std.specs.Prelude.{Ok, Err, Result, IfOk, Option, Some, None, codes}
+use Rattle.std.proofs.Common.{◌≡◌, ℕ, [], refl, sym, ap, ◌∙◌, subst}
+use Rattle.ab_term.specs.Types.{Ty, arrow, prop, o, olist}
+use Rattle.ab_types.specs.Entries.{Table, kinds, signature, type_in, first_entries, IsExtendedBy}
+use Rattle.ab_types.specs.Sound.{IsTable}
+use Rattle.ab_types.proofs.Entries.{same_signature as same_entries}
 use Rattle.ab_store.specs.Trees.{Contents}
 use Rattle.ab_store.specs.Naming.{IsTypedBy}
 use Rattle.ab_store.proofs.Growing.{extended_itself}
 use Rattle.ab_grammar.specs.CommandTrees as written
+use Rattle.ab_grammar.specs.Tree.{Tree}
 use Rattle.ab_readings.specs.Scopes.{Scope, Found, resolved}
 use Rattle.ab_infer.specs.declared.fault.InferFault.{InferFault}
 use Rattle.ab_infer.specs.declared.fault.InferFault.TheVariants.{Unknown, TypeClash, Untyped, Memory}
@@ -15,13 +18,18 @@ use Rattle.ab_building.proofs.Larger.{store_more}
 use Rattle.ab_walking.specs.declared.row.Row.{Row}
 use Rattle.ab_walking.specs.Rows.{Makes, Fails, AddsTypes}
 use Rattle.ab_clauses.specs.declared.kept.ClauseTerm.{ClauseTerm}
+use Rattle.ab_clauses.specs.Cases.{case_of}
+use Rattle.ab_clauses.specs.Proposed.{IsProposed}
 use Rattle.ab_clauses.specs.Readings.{clause_of}
 use Rattle.ab_clausal.specs.Readings.{Parts}
-use Rattle.ab_clausal.specs.Meanings.{clause_scope, body_found, body_type, both_found, parts_found, IsKeptAs, ClauseMeansNothing}
+use Rattle.ab_clausal.specs.Meanings.{clause_scope, body_found, body_type, both_found, parts_found, IsKeptAs, ClauseMeans, ClauseMeansNothing}
 use Rattle.ab_clausal.specs.Answers.{IsClauseAnswer}
 use Rattle.ab_clausal.specs.Growth.{AddsVariables}
 use Rattle.ab_clausal.specs.Joining.{joined, joined_found, IsRead}
 use Rattle.ab_clausal.proofs.Joined.{parts_joined, none_joined}
+use Rattle.ab_clausal.proofs.Resolving.{IsFine, parts_fine}
+use Rattle.ab_clausal.proofs.Proposed.{kept_proposed}
+use Rattle.ab_clausal.proofs.Renaming.{means}
 
 pub adds_nothing : (old new : Table) (store : Contents) → IsExtendedBy old new → IsTypedBy old store → AddsVariables new store store
 adds_nothing old new store more typed = record { before = extended_itself store; typed = store_more old new more store typed }
@@ -58,3 +66,30 @@ answered old new store n c e A C (Err (Unknown x)) found same is h = absurd h
 answered old new store n c e A C (Err (TypeClash p)) found same is h = subst (λ D. ClauseMeansNothing (kinds old) (signature old) c D (TypeClash p)) is (e, found, h)
 answered old new store n c e A C (Err (Untyped p)) found same is h = subst (λ D. ClauseMeansNothing (kinds old) (signature old) c D (Untyped p)) is (e, found, h)
 answered old new store n c e A C (Err (Memory m)) found same is h = tt
+
+-- what is kept is meant, and at the type of formulas it may be proposed
+
+pub fine_parts : (types : Table) → IsTable types → (c : written.Clause) (e : Parts) → parts_found (kinds types) (signature types) c ≡ Ok e → IsFine (signature types) e.head × IsFine (signature types) e.body
+fine_parts types table =
+    let conses : signature types (codes "::") ≡ Some (arrow o (arrow olist olist)) =
+    ap (λ u. signature u (codes "::")) table.begins.1 ∙ same_entries first_entries table.begins.0 (codes "::") (arrow o (arrow olist olist)) refl in
+    parts_fine (signature types) (kinds types) conses
+
+pub meant : (old new : Table) (store : Contents) (n : ℕ) (c : written.Clause) (A : Ty) (r : Result ClauseTerm InferFault) → IsTable old → IsClauseAnswer old new store n c A r
+    → IfOk r (λ k. ClauseMeans (kinds old) (signature old) c A (case_of (clause_of new store k)))
+meant old new store n c A (Err f) table h = tt
+meant old new store n c A (Ok k) table h =
+    let fine = fine_parts old table c h.0 h.1 in
+    means (kinds old) (signature old) c A n h.0 (clause_of new store k) fine.0 fine.1 h.1 h.2
+
+pub proposed : (old new : Table) (store : Contents) (n : ℕ) (c : written.Clause) (A : Ty) (r : Result ClauseTerm InferFault) → IsTable old → signature new ≡ signature old → A ≡ prop → IsClauseAnswer old new store n c A r
+    → IfOk r (λ k. IsProposed (signature new) (clause_of new store k))
+proposed old new store n c A (Err f) table same is h = tt
+proposed old new store n c A (Ok k) table same is h =
+    let fine = fine_parts old table c h.0 h.1 in
+    subst (λ sg. IsProposed sg (clause_of new store k)) (sym same)
+    (kept_proposed (signature old) n h.0 A (body_type A c.body) (clause_of new store k) is (of_formulas c.body) fine.0 fine.1 h.2)
+  where
+    of_formulas : (b : Option Tree) → body_type A b ≡ prop
+    of_formulas None = refl
+    of_formulas (Some b) = is

@@ -4,3 +4,10 @@ pub mod Types
 pub mod Numbering
 pub mod Kept
 pub mod Answering
+pub mod Resolving
+pub mod Heads
+pub mod Closed
+pub mod Proposed
+pub mod Renumbered
+pub mod Faulty
+pub mod Renaming

@@ -2,5 +2,6 @@
 pub mod Readings
 pub mod Meanings
 pub mod Answers
+pub mod Numbers
 pub mod Growth
 pub mod Joining

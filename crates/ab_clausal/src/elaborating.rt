@@ -1,5 +1,6 @@
 //! Elaboration of a clause.
 ghost use Rattle.std.specs.Prelude.{◌≡◌, ◌≤◌, length, IfOk};
+ghost use Rattle.ab_term.specs.Types.{prop};
 ghost use Rattle.ab_types.specs.Entries.{Table, kinds, constants, signature, IsExtendedBy};
 ghost use Rattle.ab_types.specs.Ids.{HoldsType, type_of};
 ghost use Rattle.ab_types.specs.Sound.{IsTable};
@@ -7,6 +8,9 @@ ghost use Rattle.ab_store.specs.Trees.{Contents};
 ghost use Rattle.ab_store.specs.Naming.{IsTypedBy};
 ghost use Rattle.ab_syntax.specs.Commands.{clause_of};
 ghost use Rattle.ab_resolving.specs.Scoping.{scope_of, HoldsScope};
+ghost use Rattle.ab_clauses.specs.Cases.{case_of};
+ghost use Rattle.ab_clauses.specs.Proposed.{IsProposed};
+ghost use Rattle.ab_clauses.specs.Readings as kept;
 ghost use Rattle.ab_clauses.specs.Readings.{HoldsClause};
 ghost use Rattle.ab_clausal.specs.Answers.{IsClauseAnswer};
 ghost use Rattle.ab_clausal.specs.Meanings as meanings;
@@ -53,6 +57,9 @@ pub fn elaborate_clause<L>(
     requires judgement { meanings.ClauseHasNoJudgement (clause_of parse.now) }
     requires expected { HoldsType types.old expected }
     ensures answer { IsClauseAnswer types.old types.new store.new (length store.old.cells) (clause_of parse.now) (type_of types.old expected) result }
+    ensures means { IfOk result (λ k. meanings.ClauseMeans (kinds types.old) (signature types.old) (clause_of parse.now) (type_of types.old expected)
+        (case_of (kept.clause_of types.new store.new k))) }
+    ensures proposed { type_of types.old expected ≡ prop → IfOk result (λ k. IsProposed (signature types.new) (kept.clause_of types.new store.new k)) }
     ensures held { IfOk result (HoldsClause types.new store.new) }
     ensures kinds { kinds types.new ≡ kinds types.old }
     ensures constants { constants types.new ≡ constants types.old }

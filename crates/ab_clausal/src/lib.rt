@@ -3,6 +3,7 @@
 
 mod cells;
 mod elaborating;
+pub mod laws;
 mod parting;
 mod reading;
 mod rows;

@@ -1,6 +1,5 @@
 -- From the solution to the verdict.
-use Rattle.std.proofs.Common.{◌≡◌, ◌≢◌, ℕ, zero, suc, ◌+◌, ◌-◌, ◌<◌, ◌≤◌, ◌⊎◌, inl, inr, List, [], ◌∷◌, ◌++◌, length, map, get_or, replicate, Bool, true, false, Option, Some, None, refl, sym, ◌∙◌, ap, subst, arith}
-use Rattle.std.proofs.lemmas.Bool.{cases_lt}
+use Rattle.std.proofs.Common.{◌≡◌, ℕ, zero, suc, ◌+◌, ◌-◌, ◌<◌, ◌≤◌, List, [], ◌∷◌, ◌++◌, length, map, get_or, replicate, Bool, true, false, refl, sym, ◌∙◌, ap, subst, arith}
 use Rattle.std.proofs.lemmas.List.{get_or-map, length-map, ext_get_or, map-append, length-replicate, get_or-replicate}
 use Rattle.std.specs.Prelude.{bytes_eq, cond}
 use Rattle.std.specs.Cmp.Lexicographic.{bytes_decides}
@@ -11,20 +10,20 @@ use Rattle.ab_types.specs.declared.ids.TypeId.{TypeId}
 use Rattle.ab_readings.specs.Types.{PropFree}
 use Rattle.ab_readings.specs.Names.{Name, Resolved, places_of}
 use Rattle.ab_readings.specs.Readings.{Raw, Making, Reads, reads_bound, reads_known, reads_free, reads_apply, reads_abs, reads_equal, reads_bind}
-use Rattle.ab_readings.specs.Answers.{Reading, IsTheReading, HasNoReading, Differ, IsFirstOpen}
-use Rattle.ab_readings.proofs.Members.{one_term, as_many}
+use Rattle.ab_readings.specs.Answers.{Reading, IsTheReading, HasNoReading, IsFirstOpen}
+use Rattle.ab_readings.proofs.Members.{one_term}
 use Rattle.ab_solving.specs.declared.shape.Shape.{Shape}
 use Rattle.ab_solving.specs.declared.shape.Shape.TheVariants.{Open}
 use Rattle.ab_solving.specs.declared.settling.Settled.{Settled}
 use Rattle.ab_solving.specs.declared.work.Wanted.TheVariants.{Is}
-use Rattle.ab_solving.specs.Solutions.{Assignment, Fits, Solves, HasNoSolution, shape_at}
+use Rattle.ab_solving.specs.Solutions.{Assignment, Fits, Solves, HasNoSolution}
 use Rattle.ab_solving.specs.Work.{Meeting, Part}
-use Rattle.ab_solving.specs.Settling.{Tells, Solved, settled_at}
+use Rattle.ab_solving.specs.Settling.{Tells, Solved}
 use Rattle.ab_infer.specs.declared.op.Mark as declared
-use Rattle.ab_infer.specs.Sketches.{Sketch, bound, known, free, apply, abs, equal, bind, erase, count, Fit, Typed, AllTyped, given, term_of, AreFree, Mark, binder_mark, free_mark, marks_of, variable_of, mark_place}
+use Rattle.ab_infer.specs.Sketches.{Sketch, bound, known, free, apply, abs, equal, bind, erase, count, Fit, Typed, given, term_of, AreFree, marks_of, variable_of, mark_place}
 use Rattle.ab_infer.specs.Inferences.{Inferring, HasNoTyping}
-use Rattle.ab_infer.specs.Verdicts.{mark_of, marks_in, AreApart, mark_at, no_mark, variable_found, type_found, IsOpenAt, HasPropAt, IsFirstOpenMark, types_found}
-use Rattle.ab_infer.proofs.Readings.{sound, complete, Agree, Comes, given_along, term_along}
+use Rattle.ab_infer.specs.Verdicts.{mark_of, marks_in, AreApart, no_mark, variable_found, type_found, IsOpenAt, HasPropAt, IsFirstOpenMark, types_found}
+use Rattle.ab_infer.proofs.Readings.{sound, complete, Comes, given_along, term_along}
 
 free_both : (As Bs : List Ty) → AreFree As → AreFree Bs → AreFree (As ++ Bs)
 free_both [] Bs f g = g

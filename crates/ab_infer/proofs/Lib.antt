@@ -3,3 +3,4 @@ pub mod Turned
 pub mod WrittenTyping
 pub mod Readings
 pub mod Judging
+mod Freed

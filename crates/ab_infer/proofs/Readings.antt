@@ -1,13 +1,12 @@
 -- The readings of an expression are its terms under the assignments that give it the type.
-use Rattle.std.proofs.Common.{◌≡◌, ◌≢◌, ℕ, zero, suc, ◌+◌, ◌-◌, ◌<◌, ◌≤◌, ◌⊎◌, inl, inr, List, [], ◌∷◌, ◌++◌, length, map, get_or, Option, Some, None, refl, sym, ◌∙◌, ap, subst, arith}
-use Rattle.std.proofs.lemmas.Bool.{cases_lt}
-use Rattle.ab_term.specs.Types.{Ty, arrow, prop}
+use Rattle.std.proofs.Common.{◌≡◌, ℕ, zero, suc, ◌+◌, ◌<◌, ◌≤◌, List, [], ◌∷◌, ◌++◌, length, map, get_or, Some, refl, sym, ◌∙◌, ap, subst, arith}
+use Rattle.ab_term.specs.Types.{Ty, arrow}
 use Rattle.ab_term.specs.Beta.{atom, abstraction, application}
 use Rattle.ab_term.specs.Typing.{type_at}
 use Rattle.ab_solving.specs.Solutions.{Assignment}
 use Rattle.ab_solving.proofs.Marking.{put, put_same, put_other}
 use Rattle.ab_readings.specs.Types.{PropFree}
-use Rattle.ab_readings.specs.Names.{Name, Binding, binding_type}
+use Rattle.ab_readings.specs.Names.{Name, binding_type}
 use Rattle.ab_readings.specs.Readings.{Raw, Making, Keeps, equation, bound_term, Reads, reads_bound, reads_known, reads_free, reads_apply, reads_abs, reads_equal, reads_bind}
 use Rattle.ab_infer.specs.Sketches.{Sketch, bound, known, free, apply, abs, equal, bind, erase, count, variable_at, Fit, Typed, given, term_of, AreFree}
 

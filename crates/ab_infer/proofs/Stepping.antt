@@ -1,20 +1,18 @@
 -- One step of a row of expressions, and what the type variables say after it.
-use Rattle.std.proofs.Common.{◌≡◌, ℕ, ◌+◌, ◌<◌, ◌≤◌, List, [], ◌∷◌, ◌++◌, length, map, Option, Some, None, refl, sym, ◌∙◌, ap, subst, arith}
+use Rattle.std.proofs.Common.{◌≡◌, ℕ, ◌+◌, ◌<◌, ◌≤◌, List, [], ◌∷◌, length, map, Option, Some, None, refl, sym, ◌∙◌, ap, subst, arith}
 use Rattle.std.proofs.lemmas.List.{length-map}
-use Rattle.std.specs.Prelude.{MatchOption, IfSome, option_map}
+use Rattle.std.specs.Prelude.{MatchOption, IfSome}
 use Rattle.ab_term.specs.Types.{Ty, arrow, prop}
 use Rattle.ab_term.specs.Terms.{Head}
 use Rattle.ab_types.specs.Entries.{Table}
-use Rattle.ab_types.specs.Ids.{HoldsType, type_of}
-use Rattle.ab_types.specs.declared.ids.TypeId.{TypeId}
 use Rattle.ab_solving.specs.declared.shape.Shape.{Shape}
 use Rattle.ab_solving.specs.Solutions.{Assignment, Solves, AreFormed, AreHeld}
-use Rattle.ab_solving.specs.Steps.{Extended, Step, NoStep, IsApplied}
+use Rattle.ab_solving.specs.Steps.{Step, NoStep}
 use Rattle.ab_readings.specs.Names.{Name, Binding, binding_type}
 use Rattle.ab_readings.specs.Readings.{Keeps}
 use Rattle.ab_infer.specs.Sketches.{Sketch, bound, known, free, apply, abs, equal, bind, Typed, AllTyped}
 use Rattle.ab_infer.specs.Programs.{Item, bound_item, known_item, free_item, apply_item, abs_item, equal_item, bind_item, Runs, no_item, run_bound, run_known, run_free, run_apply, run_abs, run_equal, run_bind}
-use Rattle.ab_infer.specs.Inferences.{AreBelow, Given, Inferring, HasNoTyping, Running, Kept, IsBinder, written_type, turned}
+use Rattle.ab_infer.specs.Inferences.{AreBelow, Given, Inferring, HasNoTyping, Running, Kept}
 
 leaf_before : (base : ℕ) (v : Assignment) (k : Sketch) (st : List Sketch) → (Bs : List Ty) × AllTyped base v (k ∷ st) Bs → (Bs : List Ty) × AllTyped base v st Bs
 leaf_before base v k st ([], h) = absurd h

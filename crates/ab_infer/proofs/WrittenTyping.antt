@@ -1,13 +1,12 @@
 -- Written types, from their parts.
-use Rattle.std.proofs.Common.{◌≡◌, ◌≢◌, not, ◌⊎◌, inl, inr, ℕ, zero, suc, ◌<◌, List, [], ◌∷◌, ◌++◌, length, get_or, Bool, true, false, refl, sym, ◌∙◌, ap, subst, arith, Box, Global}
-use Rattle.std.specs.Prelude.{Result, Ok, Err, Contains, codes, bytes_eq, ◌||◌, ◌&&◌}
+use Rattle.std.proofs.Common.{◌≡◌, not, ◌⊎◌, inl, inr, ℕ, zero, suc, ◌<◌, List, [], ◌∷◌, length, get_or, Bool, true, false, refl, sym, ◌∙◌, ap, arith, Box, Global}
+use Rattle.std.specs.Prelude.{Ok, Err, Contains, codes, bytes_eq, ◌||◌, ◌&&◌}
 use Rattle.std.specs.Cmp.Lexicographic.{bytes_decides}
-use Rattle.ab_term.specs.Types.{Ty, kind, arrow, prop}
+use Rattle.ab_term.specs.Types.{Ty, kind, arrow}
 use Rattle.ab_types.specs.Entries.{Table, kinds, IsExtendedBy}
 use Rattle.ab_types.specs.Ids.{HoldsType, type_of}
 use Rattle.ab_types.specs.declared.ids.TypeId.{TypeId}
-use Rattle.ab_types.proofs.Entries.{extended_twice}
-use Rattle.ab_solving.proofs.Tables.{still_held, same_reading}
+use Rattle.ab_solving.proofs.Tables.{same_reading}
 use Rattle.ab_grammar.specs.Tree as tree
 use Rattle.ab_syntax.specs.Trees.{type_step}
 use Rattle.ab_syntax.specs.Trees as trees
@@ -15,11 +14,11 @@ use Rattle.ab_syntax.specs.declared.tree.TypeParse.{TypeParse}
 use Rattle.ab_syntax.specs.declared.tree.TypeParse.TheVariants.{rolls-Base, rolls-Arrow}
 use Rattle.ab_syntax.specs.declared.tree.TypeParse.TheVariants as parse
 use Rattle.ab_syntax.specs.declared.tree.TypeParse.TheFolds.{fold-roll-TypeParse}
-use Rattle.ab_readings.specs.Types.{PropFree, IsDeclarable, is_listed, written_type, arrow_of}
+use Rattle.ab_readings.specs.Types.{is_listed, written_type, arrow_of}
 use Rattle.ab_infer.specs.declared.fault.InferFault.{InferFault}
 use Rattle.ab_infer.specs.declared.fault.InferFault.TheVariants.{Unknown, TypeClash, Untyped, Memory}
 use Rattle.ab_infer.specs.declared.written.Written.{Written}
-use Rattle.ab_infer.specs.WrittenTypes.{IsWritten, TypeAnswers, WrittenAnswers, KindAnswers}
+use Rattle.ab_infer.specs.WrittenTypes.{WrittenAnswers, KindAnswers}
 
 pub type_base : (x : List ℕ) (p : ℕ) → trees.type_of (parse.Base x p) ≡ tree.base x p
 type_base x p = ap trees.type_of (sym (rolls-Base x p)) ∙ fold-roll-TypeParse tree.Ty type_step _

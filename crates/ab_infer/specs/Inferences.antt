@@ -9,7 +9,7 @@ use Rattle.ab_infer.specs.declared.inferring.Formulas.{Formulas}
 use Rattle.ab_types.specs.Entries.{Table}
 use Rattle.ab_solving.specs.declared.shape.Shape.{Shape}
 use Rattle.ab_solving.specs.Solutions.{Assignment, Solves, AreFormed, AreHeld}
-use Rattle.ab_infer.specs.Sketches.{Sketch, Typed, AllTyped}
+use Rattle.ab_infer.specs.Sketches.{Sketch, AllTyped}
 use Rattle.ab_infer.specs.Programs.{Item, Runs}
 
 abbrev pub AreBelow : ℕ → List ℕ → Type 0

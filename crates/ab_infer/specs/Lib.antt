@@ -4,3 +4,4 @@ pub mod Programs
 pub mod Inferences
 pub mod WrittenTypes
 pub mod Verdicts
+pub mod Freedom

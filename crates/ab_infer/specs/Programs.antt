@@ -1,5 +1,5 @@
 -- Expressions as rows of steps that make them: each step takes the last expressions made, and makes one.
-use Rattle.std.specs.Prelude.{◌≡◌, ℕ, ◌+◌, ◌<◌, List, [], ◌∷◌, length, get_or, map, Option, Some, None, option_map, All}
+use Rattle.std.specs.Prelude.{ℕ, ◌<◌, List, [], ◌∷◌, length, get_or, map, Option, Some, None, option_map}
 use Rattle.ab_term.specs.Types.{Ty}
 use Rattle.ab_term.specs.Terms.{Head}
 use Rattle.ab_types.specs.Entries.{Table}

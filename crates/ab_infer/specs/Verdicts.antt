@@ -1,6 +1,6 @@
 -- What is found of an expression's readings, from the types at its marks.
-use Rattle.std.specs.Prelude.{◌≡◌, ◌≢◌, ℕ, ◌+◌, ◌<◌, ◌≤◌, List, [], ◌∷◌, length, get_or, map, Bool, true, false}
-use Rattle.ab_term.specs.Types.{Ty, prop}
+use Rattle.std.specs.Prelude.{◌≡◌, ℕ, ◌<◌, ◌≤◌, List, [], length, get_or, map, Bool, true, false}
+use Rattle.ab_term.specs.Types.{Ty}
 use Rattle.ab_types.specs.Entries.{Table}
 use Rattle.ab_types.specs.Ids.{HoldsType, type_of}
 use Rattle.ab_readings.specs.Types.{PropFree}

@@ -14,10 +14,11 @@ ghost use Rattle.ab_infer.specs.Programs.{Runs, items_of, OpTyped};
 ghost use Rattle.ab_infer.specs.Inferences.{IsFormulas};
 ghost use Rattle.ab_infer.specs.Verdicts.{marks_in, mark_of, IsVerdict, AreApart, type_found, IsFirstOpenMark, IsOpenAt, HasPropAt, HasTypesFound};
 
+use crate::free::{Free, is_prop_free};
 use crate::inferring::{Formulas, infer};
 use crate::op::{Mark, Op};
 use ab_solving::{Settled, Shape, Wanted, equate, solve};
-use ab_types::{TypeId, TypeTable, TypeView};
+use ab_types::{TypeId, TypeTable};
 use std::alloc::{AllocError, Global};
 
 /// What is found of an expression's readings.
@@ -29,22 +30,6 @@ pub enum Verdict {
     Nothing,
     /// Several: the place of the first name to which two of them give different types.
     Open(usize),
-}
-
-/// Whether `prop` stands nowhere in the type.
-fn is_prop_free(types: &TypeTable, prop: TypeId, ty: TypeId) -> bool
-    requires table { IsTable types.now }
-    requires prop_held { HoldsType types.now prop }
-    requires prop { type_of types.now prop ≡ plain.prop }
-    requires ty { HoldsType types.now ty }
-    ensures free { result ≡ true → PropFree (type_of types.now ty) }
-    ensures bound { result ≡ false → PropFree (type_of types.now ty) → ⊥ }
-{
-    match types.view(ty) {
-        TypeView::Base(_) => ty != prop,
-        TypeView::Arrow(from, to) => is_prop_free(types, prop, from)
-            && is_prop_free(types, prop, to),
-    }
 }
 
 /// What the variable at a mark is in the end.
@@ -59,22 +44,30 @@ fn found_at(base: usize, found: &[Settled], mark: &Mark) -> Settled
 }
 
 /// Whether `prop` stands in a type at a mark.
-fn has_prop(types: &TypeTable, prop: TypeId, base: usize, found: &[Settled], marks: &[Mark]) -> bool
+fn has_prop(
+    alloc: Global,
+    types: &TypeTable,
+    prop: TypeId,
+    base: usize,
+    found: &[Settled],
+    marks: &[Mark],
+) -> Result<bool, AllocError>
     requires table { IsTable types.now }
     requires prop_held { HoldsType types.now prop }
     requires prop { type_of types.now prop ≡ plain.prop }
     requires marks { All (λ m. variable_of base (mark_of m) < length found.now) marks.now }
     requires held { (i : ℕ) → i < length found.now → HoldsType types.now (settled_at found.now i).ty }
-    ensures some { result ≡ true → HasPropAt types.now base found.now marks.now }
-    ensures none { result ≡ false → (i : ℕ) → i < length marks.now → PropFree (type_found types.now base found.now marks.now i) }
+    ensures some { IfOk result (λ has. has ≡ true → HasPropAt types.now base found.now marks.now) }
+    ensures none { IfOk result (λ has. has ≡ false → (i : ℕ) → i < length marks.now → PropFree (type_found types.now base found.now marks.now i)) }
 {
+    let mut free = Free::new(alloc);
     for mark in marks {
         let settled = found_at(base, found, mark);
-        if !is_prop_free(types, prop, settled.ty) {
-            return true;
+        if !is_prop_free(types, prop, settled.ty, &mut free)? {
+            return Ok(true);
         }
     }
-    false
+    Ok(false)
 }
 
 /// The place of the first mark whose type is open.
@@ -127,7 +120,7 @@ pub fn decide(
     let Some(found) = solve(alloc, types, formulas.o, &shapes)? else {
         return Ok(Verdict::Nothing);
     };
-    if has_prop(types, formulas.prop, base, &found, marks) {
+    if has_prop(alloc, types, formulas.prop, base, &found, marks)? {
         return Ok(Verdict::Nothing);
     }
     match first_open(base, &found, marks) {

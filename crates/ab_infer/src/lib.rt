@@ -6,6 +6,7 @@
 
 mod deciding;
 mod fault;
+mod free;
 mod inferring;
 mod op;
 mod written;

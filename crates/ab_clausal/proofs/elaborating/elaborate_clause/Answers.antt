@@ -9,7 +9,7 @@ use Rattle.ab_resolving.specs.Scoping.{scope_of}
 use Rattle.ab_building.proofs.Larger.{type_more}
 use Rattle.ab_elaborate.proofs.Scopes.{ground}
 use Rattle.ab_clausal.specs.Meanings.{body_type, body_found}
-use Rattle.ab_clausal.proofs.Answering.{adds_nothing, same_parts, none_found, row_parts, answered}
+use Rattle.ab_clausal.proofs.Answering.{adds_nothing, same_parts, none_found, row_parts, answered, meant, proposed}
 use Rattle.ab_clausal.proofs.elaborating.elaborate_clause.Goals as goal
 
 pub returns-in_err-formulas-clause-adds : goal.returns-in_err-formulas-clause-adds
@@ -60,3 +60,14 @@ returns-clause-answer g c =
     let constants = c.read_clause.ensures.constants ∙ (c.in_ok-row.ensures.adds.constants ∙ c.in_ok-formulas.ensures.adds.constants) in
     answered t0 t3 c.read_clause.new.store (length S.cells) clause r.0 A (type_of t0 c.args.expected) c.read_clause.result found (ap type_in constants)
     (type_more t0 t1 c.in_ok-formulas.ensures.adds.kept c.args.expected c.requires.expected) (c.read_clause.ensures.read r.0 A B r.2)
+
+pub returns-clause-means : goal.returns-clause-means
+returns-clause-means g c =
+    meant c.args.types.now c.read_clause.new.types c.read_clause.new.store (length c.args.store.now.cells) (clause_of c.args.parse.now) (type_of c.args.types.now c.args.expected) c.read_clause.result c.requires.table
+    (returns-clause-answer g c)
+
+pub returns-clause-proposed : goal.returns-clause-proposed
+returns-clause-proposed g c is =
+    let constants = c.read_clause.ensures.constants ∙ (c.in_ok-row.ensures.adds.constants ∙ c.in_ok-formulas.ensures.adds.constants) in
+    proposed c.args.types.now c.read_clause.new.types c.read_clause.new.store (length c.args.store.now.cells) (clause_of c.args.parse.now) (type_of c.args.types.now c.args.expected) c.read_clause.result c.requires.table
+    (ap type_in constants) is (returns-clause-answer g c)

@@ -1,14 +1,12 @@
-use Rattle.std.proofs.Common.{◌≡◌, ℕ, false, ◌+◌, ◌<◌, ◌≤◌, List, [], ◌∷◌, length, replicate, sym, ◌∙◌, ap, subst, refl, arith}
-use Rattle.std.specs.Prelude.{MatchOption}
+use Rattle.std.proofs.Common.{◌≡◌, ℕ, false, ◌+◌, ◌<◌, [], ◌∷◌, length, replicate, ◌∙◌, ap, subst, refl, arith}
 use Rattle.std.proofs.lemmas.List.{length-replicate}
-use Rattle.ab_types.specs.Ids.{HoldsType, type_of}
-use Rattle.ab_solving.specs.declared.shape.Shape.{Shape}
+use Rattle.ab_types.specs.Ids.{type_of}
 use Rattle.ab_solving.specs.declared.shape.Shape.TheVariants.{Open}
 use Rattle.ab_solving.specs.Settling.{Solved}
 use Rattle.ab_solving.specs.Solutions.{HasNoSolution}
 use Rattle.ab_solving.proofs.Tables.{still_held, same_reading}
 use Rattle.ab_infer.specs.Inferences.{Inferring, HasNoTyping}
-use Rattle.ab_infer.specs.Verdicts.{variable_found, HasPropAt, IsFirstOpenMark, IsOpenAt, type_found, no_mark}
+use Rattle.ab_infer.specs.Verdicts.{HasPropAt, IsFirstOpenMark, IsOpenAt, type_found, no_mark}
 use Rattle.ab_readings.specs.Types.{PropFree}
 use Rattle.ab_infer.proofs.Judging.{no_typing, no_root, no_solution, some_prop, some_open, the_reading_found}
 use Rattle.ab_infer.proofs.deciding.decide.Goals as goal
@@ -74,8 +72,8 @@ first_open-requires c = record {
       omega (arith, m, sol.len, ap length c.deref.ensures.value, c.equate.ensures.len, kept.longer, ap length b, length-replicate (c.args.base + c.args.frees) Open, ap length c.deref-3.ensures.value);
 }
 
-pub returns-then-has_prop-clause-verdict : goal.returns-then-has_prop-clause-verdict
-returns-then-has_prop-clause-verdict c = λ made cells names k runs fit base_is frees_is apart marks_are.
+pub returns-then-branch-clause-verdict : goal.returns-then-branch-clause-verdict
+returns-then-branch-clause-verdict c = λ made cells names k runs fit base_is frees_is apart marks_are.
     let t = c.args.types.now in
     let b = c.in_ok-shapes.ensures.items_if_clones_equal (λ y e. e) in
     let first_is = b ∙ ap (λ n. replicate (c.args.base + n) Open) frees_is in
@@ -87,7 +85,7 @@ returns-then-has_prop-clause-verdict c = λ made cells names k runs fit base_is 
     c.equate.new.shapes.items (c.in_ok-equate.ensures.met c.if-not-branch.false)
     c.solve.new.types c.in-Some-2.found.items (subst (λ s. Solved t c.solve.new.types s c.in-Some-2.found.items) c.deref.ensures.value sol) c.args.marks.now marks_are
     (λ i l. let m = c.requires.marks i no_mark l in omega (arith, m, c.equate.ensures.len, kept.longer, ap length b, length-replicate (c.args.base + c.args.frees) Open))
-    (subst (λ f. HasPropAt c.solve.new.types c.args.base f c.args.marks.now) c.deref-2.ensures.value (c.has_prop.ensures.some c.if-has_prop.true))
+    (subst (λ f. HasPropAt c.solve.new.types c.args.base f c.args.marks.now) c.deref-2.ensures.value (c.in_ok-has_prop.ensures.some c.if-branch.true))
 
 pub returns-in-Some-first_open-clause-verdict : goal.returns-in-Some-first_open-clause-verdict
 returns-in-Some-first_open-clause-verdict c = λ made cells names k runs fit base_is frees_is apart marks_are.
@@ -102,7 +100,7 @@ returns-in-Some-first_open-clause-verdict c = λ made cells names k runs fit bas
     c.equate.new.shapes.items (c.in_ok-equate.ensures.met c.if-not-branch.false)
     c.solve.new.types c.in-Some-2.found.items (subst (λ s. Solved t c.solve.new.types s c.in-Some-2.found.items) c.deref.ensures.value sol) c.args.marks.now marks_are
     (λ i l. let m = c.requires.marks i no_mark l in omega (arith, m, c.equate.ensures.len, kept.longer, ap length b, length-replicate (c.args.base + c.args.frees) Open))
-    (subst (λ f. (i : ℕ) → i < length c.args.marks.now → PropFree (type_found c.solve.new.types c.args.base f c.args.marks.now i)) c.deref-2.ensures.value (c.has_prop.ensures.none c.if-has_prop.false))
+    (subst (λ f. (i : ℕ) → i < length c.args.marks.now → PropFree (type_found c.solve.new.types c.args.base f c.args.marks.now i)) c.deref-2.ensures.value (c.in_ok-has_prop.ensures.none c.if-branch.false))
     c.in-Some-first_open.place
     (subst (λ f. IsFirstOpenMark c.args.base f c.args.marks.now c.in-Some-first_open.place) c.deref-3.ensures.value c.in-Some-first_open.ensures)
 
@@ -119,7 +117,7 @@ returns-clause-verdict c = λ made cells names k runs fit base_is frees_is apart
     c.equate.new.shapes.items (c.in_ok-equate.ensures.met c.if-not-branch.false)
     c.solve.new.types c.in-Some-2.found.items (subst (λ s. Solved t c.solve.new.types s c.in-Some-2.found.items) c.deref.ensures.value sol) c.args.marks.now marks_are
     (λ i l. let m = c.requires.marks i no_mark l in omega (arith, m, c.equate.ensures.len, kept.longer, ap length b, length-replicate (c.args.base + c.args.frees) Open))
-    (subst (λ f. (i : ℕ) → i < length c.args.marks.now → PropFree (type_found c.solve.new.types c.args.base f c.args.marks.now i)) c.deref-2.ensures.value (c.has_prop.ensures.none c.if-has_prop.false))
+    (subst (λ f. (i : ℕ) → i < length c.args.marks.now → PropFree (type_found c.solve.new.types c.args.base f c.args.marks.now i)) c.deref-2.ensures.value (c.in_ok-has_prop.ensures.none c.if-branch.false))
     (subst (λ f. (i : ℕ) → i < length c.args.marks.now → IsOpenAt c.args.base f c.args.marks.now i ≡ false) c.deref-3.ensures.value c.in-None.ensures)
     (omega (arith, c.equate.ensures.len, kept.longer, ap length first_is))
 

@@ -1,8 +1,6 @@
-use Rattle.std.proofs.Common.{◌≡◌, ℕ, suc, ◌+◌, ◌<◌, ◌≤◌, List, [], ◌∷◌, ◌++◌, length, drop, map, sym, ◌∙◌, ap, subst, refl, add-one, arith}
-use Rattle.std.specs.Prelude.{MatchOption}
-use Rattle.ab_infer.specs.Sketches.{Sketch}
-use Rattle.ab_infer.specs.Programs.{Runs, item_of, items_of, OpTyped}
-use Rattle.ab_infer.specs.Inferences.{Running, Inferring, HasNoTyping, AreBelow, Kept, turned}
+use Rattle.std.proofs.Common.{◌≡◌, suc, [], ◌∷◌, length, drop, sym, ◌∙◌, ap, subst, add-one, arith}
+use Rattle.ab_infer.specs.Programs.{items_of}
+use Rattle.ab_infer.specs.Inferences.{Running, AreBelow, turned}
 use Rattle.ab_infer.proofs.Stepping.{at_start, at_end, kept_last}
 use Rattle.ab_infer.proofs.Turned.{turned_last, turned_pop, from_here, nothing_behind}
 use Rattle.ab_infer.proofs.inferring.infer.Goals as goal

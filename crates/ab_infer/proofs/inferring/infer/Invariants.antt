@@ -1,4 +1,4 @@
-use Rattle.std.proofs.Common.{◌≡◌, ℕ, ◌≤◌, ◌+◌, List, [], ◌∷◌, length, drop}
+use Rattle.std.proofs.Common.{◌≤◌, List, [], ◌∷◌, length, drop}
 use Rattle.ab_store.specs.declared.node.CellEntry.{CellEntry}
 use Rattle.ab_solving.specs.Solutions.{AreFormed, AreHeld}
 use Rattle.ab_readings.specs.Names.{Name}

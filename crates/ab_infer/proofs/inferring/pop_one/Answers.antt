@@ -1,6 +1,4 @@
-use Rattle.std.proofs.Common.{◌≡◌, ℕ, ◌∷◌, [], List, length, Option, Some, None, arith, ap, ◌∙◌}
-use Rattle.std.specs.Prelude.{MatchOption, option_to_list, ◌++◌}
-use Rattle.ab_infer.specs.Inferences.{turned}
+use Rattle.std.proofs.Common.{arith}
 use Rattle.ab_infer.proofs.Turned.{turned_pop}
 use Rattle.ab_infer.proofs.inferring.pop_one.Goals as goal
 

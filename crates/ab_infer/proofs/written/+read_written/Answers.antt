@@ -1,4 +1,4 @@
-use Rattle.std.proofs.Common.{◌≡◌, sym, ◌∙◌, ap, subst, refl}
+use Rattle.std.proofs.Common.{sym, ◌∙◌, ap, subst, refl}
 use Rattle.std.specs.Prelude.{Ok, ◌&&◌}
 use Rattle.ab_syntax.specs.Trees as trees
 use Rattle.ab_infer.specs.WrittenTypes.{WrittenAnswers}
