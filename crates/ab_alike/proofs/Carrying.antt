@@ -63,7 +63,7 @@ names_more s u y z same one =
     ∙ ap (λ v. map variable_named u.variables ++ v ∷ []) one
     ∙ sym (map-append variable_named u.variables (z ∷ []))
 
-named_list : (IsName : Naming) → IsByNames IsName → (f : ℕ → ℕ) (s u : Sequent) (n m : ℕ) (xs ys : List Variable) → HaveSameNames s u → GoOn f n m → Named IsName s n xs ys → Named IsName u m (map (moved_variable f) xs) (map (moved_variable f) ys)
+pub named_list : (IsName : Naming) → IsByNames IsName → (f : ℕ → ℕ) (s u : Sequent) (n m : ℕ) (xs ys : List Variable) → HaveSameNames s u → GoOn f n m → Named IsName s n xs ys → Named IsName u m (map (moved_variable f) xs) (map (moved_variable f) ys)
 named_list IsName by f s u n m [] [] same on d = tt
 named_list IsName by f s u n m [] (y ∷ ys) same on d = absurd d
 named_list IsName by f s u n m (x ∷ xs) [] same on d = absurd d

@@ -54,12 +54,12 @@ module _ (xs : List Variable) (cells others : List (Cell (List ℕ))) where
       let there : j ≡ length (map cell_of xs) + i = omega (arith, three, e) in
       ap (slice_get third) there ∙ rear (map cell_of xs) (cells ++ others) i
 
-  first_numbering : All (λ (x : Variable). slice_get cells x.number ≡ Some (cell_of x)) xs → IsRenumbering (by_place xs cells (length xs) (length third)) cells third
+  pub first_numbering : All (λ (x : Variable). slice_get cells x.number ≡ Some (cell_of x)) xs → IsRenumbering (by_place xs cells (length xs) (length third)) cells third
   first_numbering are =
       numbering xs cells third (length xs) are (omega arith) (omega (arith, third_length)) listed
       (λ i c e. behind_listed (length xs + i) i refl ∙ front cells others i c e)
 
-  second_numbering : (ys : List Variable) → map variable_named xs ≡ map variable_named ys → All (λ (y : Variable). slice_get others y.number ≡ Some (cell_of y)) ys
+  pub second_numbering : (ys : List Variable) → map variable_named xs ≡ map variable_named ys → All (λ (y : Variable). slice_get others y.number ≡ Some (cell_of y)) ys
       → IsRenumbering (by_place ys others (length xs + length cells) (length third)) others third
   second_numbering ys same are =
       let cells_same : map cell_of xs ≡ map cell_of ys = cells_named xs ∙ ap (map named_cell) same ∙ sym (cells_named ys) in
@@ -72,7 +72,7 @@ module _ (xs : List Variable) (cells others : List (Cell (List ℕ))) where
 
 -- THE PROBLEM with other numbers
 
-flexible_moved : (f : ℕ → ℕ) (xs : List Variable) → map (translate_variable f) (map in_terms xs) ≡ map in_terms (map (moved_variable f) xs)
+pub flexible_moved : (f : ℕ → ℕ) (xs : List Variable) → map (translate_variable f) (map in_terms xs) ≡ map in_terms (map (moved_variable f) xs)
 flexible_moved f [] = refl
 flexible_moved f (x ∷ xs) = ap (λ l. in_terms (moved_variable f x) ∷ l) (flexible_moved f xs)
 
@@ -85,7 +85,7 @@ problem_moved f cells others s t r =
 abbrev placed_hypothesis : List (tree.Variable (List ℕ)) → shown.Hypothesis → Hypothesis
 placed_hypothesis vs h = record { name = h.name; formula = translate (named_place vs 0) (λ x. x) h.formula }
 
-abbrev placed_goal : Goal → Sequent
+abbrev pub placed_goal : Goal → Sequent
 placed_goal g = record {
   variables = indexed 0 g.variables;
   hypotheses = map (placed_hypothesis g.variables) g.hypotheses;
@@ -115,7 +115,7 @@ module _ (D : Declarations) (s : Sequent) (sequent : IsSequent D s) (cells third
 
 -- NEW VARIABLES, numbered afresh
 
-named_again : (IsName : Naming) → IsByNames IsName → (s u : Sequent) (n m : ℕ) (xs ys zs : List Variable) → HaveSameNames s u → map variable_named xs ≡ map variable_named ys → Named IsName s n xs zs → Named IsName u m ys (indexed m (map variable_named zs))
+pub named_again : (IsName : Naming) → IsByNames IsName → (s u : Sequent) (n m : ℕ) (xs ys zs : List Variable) → HaveSameNames s u → map variable_named xs ≡ map variable_named ys → Named IsName s n xs zs → Named IsName u m ys (indexed m (map variable_named zs))
 named_again IsName by s u n m [] [] [] same alike d = tt
 named_again IsName by s u n m [] [] (z ∷ zs) same alike d = absurd d
 named_again IsName by s u n m [] (y ∷ ys) zs same alike d = absurd (cc)

@@ -1,2 +1,2 @@
--- Equations of two goals that are the same with names for numbers.
+-- Equations and defined atoms of two goals that are the same with names for numbers.
 pub mod Alike

@@ -1,14 +1,21 @@
-//! Laws of equations of two goals that are the same with names for numbers.
+//! Laws of equations and of defined atoms of two goals that are the same with names for numbers.
 
-ghost use Rattle.std.specs.Prelude.{◌≡◌, ℕ, List};
+ghost use Rattle.std.specs.Prelude.{◌≡◌, ◌≢◌, ℕ, List, map, All, Contains, codes};
+ghost use Rattle.ab_term.specs.Variables.{Substitution, image};
+ghost use Rattle.ab_term.specs.Sameness.{same_number};
 ghost use Rattle.ab_store.specs.Trees.{Read};
 ghost use Rattle.ab_solve.specs.Replacing.{Cell};
+ghost use Rattle.ab_solve.specs.Solving.{unified, Solves};
 ghost use Rattle.ab_logic.specs.Declarations.{Declarations};
-ghost use Rattle.ab_logic.specs.Sequents.{Sequent};
+ghost use Rattle.ab_logic.specs.Sequents.{Hypothesis, Sequent, goal_names};
 ghost use Rattle.ab_logic.specs.Names.{IsNoVariable, IsNamedFor};
-ghost use Rattle.ab_goals.specs.Goals.{named};
-ghost use Rattle.ab_equate.specs.Solved.{AreCells, Becomes, AreApart, AreStuck};
-ghost use Rattle.ab_alike.specs.Alike.{IsSameEquation};
+ghost use Rattle.ab_goals.specs.Goals.{with_names, variable_named, named};
+ghost use Rattle.ab_equate.specs.Solved.{AreCells, made, Becomes, AreApart, AreStuck};
+ghost use Rattle.ab_equate.specs.Cases.{problem_of, NeverArises, IsOpen, Split, IsUnsplit};
+ghost use Rattle.ab_analysis.specs.Atoms.{Defined, Choice, choices_of};
+ghost use Rattle.ab_analysis.specs.Left.{cases_of};
+ghost use Rattle.ab_analysis.specs.Right.{unfolding_case};
+ghost use Rattle.ab_alike.specs.Alike.{IsSameEquation, IsSameAtom, IsSameRest, relabelled};
 
 /// AN EQUATION HAS ONE OUTCOME, whatever the numbers: where the first goal becomes another one, so does the second, and
 /// these are the same with names for numbers; one that is apart, or stuck, is so over other numbers too.
@@ -48,4 +55,72 @@ pub fn outcomes_exclude_each_other()
     ensures apart_or_stuck { (D : Declarations) (s u : Sequent) (t r v w : Read) (cells others : List (Cell (List ℕ))) →
         IsSameEquation D s u t r v w → AreCells cells s → AreCells others u →
         AreApart cells s t r → AreStuck others u v w → ⊥ }
+{}
+
+/// A DEFINED ATOM SPLITS A GOAL IN ONE WAY, whatever the numbers: where it splits the first goal, it splits the second, and
+/// the lists are the same with names for numbers; where an equation is outside the patterns there, the one of the same
+/// number is so here. And not both come.
+pub fn defined_atoms_split_goals_in_one_way()
+    ensures split { (D : Declarations) (s u rest left : Sequent) (name : List ℕ) (d e : Defined) (cells others : List (Cell (List ℕ)))
+        (gs : List Sequent) →
+        IsSameAtom D s u d e → IsSameRest D s u rest left → AreCells cells s → AreCells others u →
+        Split (IsNamedFor D) cells (cases_of s rest name d) gs →
+        (hs : List Sequent) × Split (IsNamedFor D) others (cases_of u left name e) hs × (map named gs ≡ map named hs) }
+    ensures one { (D : Declarations) (s u rest left : Sequent) (name : List ℕ) (d e : Defined) (cells others : List (Cell (List ℕ)))
+        (gs hs : List Sequent) →
+        IsSameAtom D s u d e → IsSameRest D s u rest left → AreCells cells s → AreCells others u →
+        Split (IsNamedFor D) cells (cases_of s rest name d) gs → Split (IsNamedFor D) others (cases_of u left name e) hs →
+        map named gs ≡ map named hs }
+    ensures freely { (D : Declarations) (s u rest left : Sequent) (name : List ℕ) (d e : Defined) (cells others : List (Cell (List ℕ)))
+        (gs : List Sequent) →
+        IsSameAtom D s u d e → IsSameRest D s u rest left → AreCells cells s → AreCells others u →
+        Split (λ k hint x. IsNoVariable k x) cells (cases_of s rest name d) gs →
+        (hs : List Sequent) × Split (λ k hint x. IsNoVariable k x) others (cases_of u left name e) hs × (map named gs ≡ map named hs) }
+    ensures unsplit { (D : Declarations) (s u rest left : Sequent) (name : List ℕ) (d e : Defined) (cells others : List (Cell (List ℕ)))
+        (i : ℕ) →
+        IsSameAtom D s u d e → IsSameRest D s u rest left → AreCells cells s → AreCells others u →
+        IsUnsplit (IsNamedFor D) cells (cases_of s rest name d) i → IsUnsplit (IsNamedFor D) others (cases_of u left name e) i }
+    ensures one_place { (D : Declarations) (s u rest left : Sequent) (name : List ℕ) (d e : Defined) (cells others : List (Cell (List ℕ)))
+        (i j : ℕ) →
+        IsSameAtom D s u d e → IsSameRest D s u rest left → AreCells cells s → AreCells others u →
+        IsUnsplit (IsNamedFor D) cells (cases_of s rest name d) i → IsUnsplit (IsNamedFor D) others (cases_of u left name e) j →
+        i ≡ j }
+    ensures split_or_not { (D : Declarations) (s u rest left : Sequent) (name : List ℕ) (d e : Defined) (cells others : List (Cell (List ℕ)))
+        (gs : List Sequent) (i : ℕ) →
+        IsSameAtom D s u d e → IsSameRest D s u rest left → AreCells cells s → AreCells others u →
+        Split (IsNamedFor D) cells (cases_of s rest name d) gs → IsUnsplit (IsNamedFor D) others (cases_of u left name e) i → ⊥ }
+{}
+
+/// The name under which the bodies of clauses are assumed, which no hypothesis has that is left of the goal, changes nothing
+/// but that name.
+pub fn names_of_bodies_change_nothing_else()
+    ensures split { (D : Declarations) (s rest : Sequent) (x y : List ℕ) (d : Defined) (cells : List (Cell (List ℕ))) (gs : List Sequent) →
+        All (λ (h : Hypothesis). h.name ≢ x) rest.hypotheses →
+        Split (IsNamedFor D) cells (cases_of s rest x d) gs → Split (IsNamedFor D) cells (cases_of s rest y d) (map (relabelled x y) gs) }
+    ensures unsplit { (D : Declarations) (s rest : Sequent) (x y : List ℕ) (d : Defined) (cells : List (Cell (List ℕ))) (i : ℕ) →
+        All (λ (h : Hypothesis). h.name ≢ x) rest.hypotheses →
+        IsUnsplit (IsNamedFor D) cells (cases_of s rest x d) i → IsUnsplit (IsNamedFor D) cells (cases_of s rest y d) i }
+{}
+
+/// A CHOICE UNFOLDS A DEFINED ATOM IN ONE WAY, whatever the numbers: both atoms have the same choices, and each has the
+/// same outcome for both. Where it is answered the variables that are left open have the same names, and the conclusion
+/// is the same with names for numbers.
+pub fn choices_unfold_in_one_way()
+    ensures choices { (D : Declarations) (s u : Sequent) (d e : Defined) (cells others : List (Cell (List ℕ))) →
+        IsSameAtom D s u d e → AreCells cells s → AreCells others u → choices_of (goal_names s) d ≡ choices_of (goal_names u) e }
+    ensures never { (D : Declarations) (s u : Sequent) (d e : Defined) (cells others : List (Cell (List ℕ))) (c : Choice) →
+        IsSameAtom D s u d e → AreCells cells s → AreCells others u → Contains (choices_of (goal_names s) d) c →
+        NeverArises (unfolding_case cells s d c) → NeverArises (unfolding_case others u e c) }
+    ensures open { (D : Declarations) (s u : Sequent) (d e : Defined) (cells others : List (Cell (List ℕ))) (c : Choice) (i : ℕ) →
+        IsSameAtom D s u d e → AreCells cells s → AreCells others u → Contains (choices_of (goal_names s) d) c →
+        IsOpen (unfolding_case cells s d c) i → IsOpen (unfolding_case others u e c) i }
+    ensures answered { (D : Declarations) (s u : Sequent) (d e : Defined) (cells others : List (Cell (List ℕ))) (c : Choice)
+        (more : List (Cell (List ℕ))) (p : Substitution ℕ (List ℕ)) →
+        IsSameAtom D s u d e → AreCells cells s → AreCells others u → Contains (choices_of (goal_names s) d) c →
+        Solves (codes "x") (problem_of (unfolding_case cells s d c)) (unified more p) →
+        (most : List (Cell (List ℕ))) × (q : Substitution ℕ (List ℕ)) ×
+        Solves (codes "x") (problem_of (unfolding_case others u e c)) (unified most q) ×
+        (map variable_named (made cells more p) ≡ map variable_named (made others most q)) ×
+        (with_names s.variables (image same_number p (unfolding_case cells s d c).goal.conclusion) ≡
+        with_names u.variables (image same_number q (unfolding_case others u e c).goal.conclusion)) }
 {}

@@ -40,7 +40,7 @@ use Rattle.ab_giving.specs.Cutting.{CutFails}
 pub first_is_sequent : (w : World) → IsWorld w → (p : Held) → IsProof w p → (s : Sequent) (rest : List Sequent) → goals_of w p ≡ s ∷ rest → IsSequent (declarations_of w) s
 first_is_sequent w world p proof s rest e =
     All-head (IsSequent (declarations_of w)) s rest
-    (subst (All (IsSequent (declarations_of w))) e (open_are_sequents (declarations_of w) world.sentences (history_of w p).tree proof.valid proof.rooted))
+    (subst (All (IsSequent (declarations_of w))) e (open_are_sequents (declarations_of w) world.sentences world.definitions (history_of w p).tree proof.valid proof.rooted))
 
 pub same_goals : (w m : World) (p : Held) → Grows w m → IsProof w p → goals_of m p ≡ goals_of w p
 same_goals w m p grows proof = ap (λ (h : History). open_goals h.tree) (same_history w m grows p proof)

@@ -1,7 +1,7 @@
 -- What `refine` shows at its returns.
 use Rattle.std.specs.Prelude.{Result, Ok, Err}
 use Rattle.std.specs.List.{All}
-use Rattle.std.proofs.Common.{◌≡◌, ◌⊎◌, inl, inr, ℕ, ◌+◌, ◌<◌, Vec, Global, Some, List, [], ◌∷◌, ◌++◌, length, map, get_or, sym, ◌∙◌, ap, subst}
+use Rattle.std.proofs.Common.{◌≡◌, ◌⊎◌, inl, inr, ℕ, ◌+◌, ◌<◌, Vec, Global, Some, List, ◌∷◌, ◌++◌, length, map, get_or, sym, ◌∙◌, ap, subst}
 use Rattle.std.proofs.lemmas.List.Elements.{All-cons, All-append, All-weaker}
 use Rattle.ab_logic.specs.Growth.{Grows}
 use Rattle.ab_unifying.specs.Problem.{cells_read}
@@ -140,7 +140,7 @@ module _ (w v : World) (grown : Grows w v) (p q : Held) (proof : IsProof w p) (k
 pub goal_sequent : (w : World) (p : Held) (place : ℕ) (s : Sequent) → IsWorld w → IsProof w p → goal_at (history_of w p).tree place ≡ Some s → IsSequent (declarations_of w) s
 goal_sequent w p place s world proof at =
     let gs = open_goals (history_of w p).tree in
-    let all = open_are_sequents (declarations_of w) world.sentences (history_of w p).tree proof.valid proof.rooted in
+    let all = open_are_sequents (declarations_of w) world.sentences world.definitions (history_of w p).tree proof.valid proof.rooted in
     subst (IsSequent (declarations_of w)) (get_or_from_slice_get gs place s s at) (all place s (slice_get_within gs place s at))
 
 -- the goal at which the step is taken

@@ -7,7 +7,7 @@ use Rattle.ab_term.specs.Variables.{variables}
 use Rattle.ab_term.proofs.Lists.{Contains-none, All-from_contains, AllPairs-none}
 use Rattle.ab_store.specs.Trees.{Read}
 use Rattle.ab_logic.specs.Formulas.{IsFormula, HasOneTypeEach}
-use Rattle.ab_logic.specs.Declarations.{Declarations, Extends, signature_in, HaveSentences}
+use Rattle.ab_logic.specs.Declarations.{Declarations, Extends, signature_in, HaveSentences, HaveDefinitions}
 use Rattle.ab_logic.specs.Sequents.{Variable, Hypothesis, Sequent, formulas_of, HoldsOnly, IsSequent}
 use Rattle.ab_logic.proofs.Declaring.{still_formula}
 use Rattle.ab_rules.proofs.Keeping.{kept_by_rule}
@@ -35,11 +35,11 @@ first_sequent D F counter formula closed one = record {
   one_type = subst HasOneTypeEach (sym (append-nil (support F))) one;
 }
 
-module _ (D : Declarations) (sentences : HaveSentences D) where
+module _ (D : Declarations) (sentences : HaveSentences D) (definitions : HaveDefinitions D) where
   mutual
     pub open_are_sequents : (d : Derivation) → Valid D d → IsSequent D (root d) → All (IsSequent D) (open_goals d)
     open_are_sequents (goal s) v is = All-cons (IsSequent D) s [] is (All-nil (IsSequent D))
-    open_are_sequents (by step s ds) v is = all_open_are_sequents ds v.1 (kept_by_rule D sentences step s (roots ds) is v.0)
+    open_are_sequents (by step s ds) v is = all_open_are_sequents ds v.1 (kept_by_rule D sentences definitions step s (roots ds) is v.0)
 
     all_open_are_sequents : (ds : Derivations) → AllValid D ds → All (IsSequent D) (roots ds) → All (IsSequent D) (all_open_goals ds)
     all_open_are_sequents none v all = All-nil (IsSequent D)

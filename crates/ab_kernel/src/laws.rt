@@ -1,7 +1,7 @@
 //! Laws of derivations, which no other contract carries.
 ghost use Rattle.std.specs.Prelude.{◌≡◌, ℕ, ◌+◌, List, ◌∷◌, ◌++◌, length, Some, All};
 ghost use Rattle.ab_solve.specs.Replacing.{Cell};
-ghost use Rattle.ab_logic.specs.Declarations.{Declarations, Extends, HaveSentences};
+ghost use Rattle.ab_logic.specs.Declarations.{Declarations, Extends, HaveSentences, HaveDefinitions};
 ghost use Rattle.ab_logic.specs.Worlds.{declarations_of, IsWorld};
 ghost use Rattle.ab_logic.specs.Growth.{Grows};
 ghost use Rattle.ab_logic.specs.Sequents.{Sequent, IsSequent};
@@ -50,6 +50,6 @@ pub fn steps_add_up()
 
 /// The goals that are open in a valid derivation are sequents, where its root is one; so are those of a proof.
 pub fn open_goals_are_sequents()
-    ensures derivation { (D : Declarations) → HaveSentences D → (d : Derivation) → Valid D d → IsSequent D (root d) → All (IsSequent D) (open_goals d) }
+    ensures derivation { (D : Declarations) → HaveSentences D → HaveDefinitions D → (d : Derivation) → Valid D d → IsSequent D (root d) → All (IsSequent D) (open_goals d) }
     ensures proof { (w : World) → IsWorld w → (p : Held) → IsProof w p → All (IsSequent (declarations_of w)) (open_goals (history_of w p).tree) }
 {}

@@ -5,7 +5,7 @@ use Rattle.ab_logic.specs.Growth.{Grows}
 use Rattle.ab_logic.specs.Sequents.{Sequent}
 use Rattle.ab_logic.specs.declared.world.World.{World}
 use Rattle.ab_unifying.specs.Problem.{cells_read}
-use Rattle.ab_rules.specs.Steps.{Step, equal_left}
+use Rattle.ab_rules.specs.Steps.{Step, equal_left, definition_right, definition_left}
 use Rattle.ab_rules.specs.Rules.{NamedRule, Fails, Stuck}
 use Rattle.ab_kernel.specs.Derivation.{open_goals, Above}
 use Rattle.ab_kernel.specs.Layout.{Held, history_of, IsProof, Beyond}
@@ -55,4 +55,6 @@ StuckAt w p place step i = (before behind : List Sequent) (s : Sequent) → IsAt
 -- the step solves no equation
 abbrev pub SolvesNothing : Step → Type 0
 SolvesNothing (equal_left H) = ⊥
+SolvesNothing (definition_right i) = ⊥
+SolvesNothing (definition_left H l) = ⊥
 SolvesNothing step = Unit {0}

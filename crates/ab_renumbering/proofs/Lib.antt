@@ -3,3 +3,5 @@ pub mod Names
 pub mod Changes
 pub mod Rules
 pub mod Runs
+pub mod Putting
+pub mod Alternatives

@@ -1,31 +1,69 @@
 -- Rules keep what is true of every sequent.
-use Rattle.std.specs.Prelude.{All, Contains, if◌then◌else◌}
-use Rattle.std.proofs.Common.{◌≡◌, ◌≢◌, inl, inr, ℕ, List, [], ◌∷◌, ◌++◌, map, length, Bool, true, false, Some, refl, sym, ◌∙◌, ap, subst}
-use Rattle.std.proofs.lemmas.List.Elements.{Contains-append_right, All-cons, All-contains, Contains-append_left, Contains-push, Contains-push_cases}
+use Rattle.std.specs.Prelude.{All, Contains, if◌then◌else◌, filter, bytes_eq, codes, slice_get}
+use Rattle.std.proofs.Common.{◌≡◌, ◌≢◌, inl, inr, ℕ, ◌-◌, List, [], ◌∷◌, ◌++◌, map, take, drop, length, Bool, true, false, Some, refl, sym, ◌∙◌, ap, subst}
+use Rattle.std.proofs.lemmas.List.Elements.{Contains-get_or, Contains-append_right, All-map, All-cons, All-contains, Contains-append_left, Contains-push, Contains-push_cases}
+use Rattle.std.proofs.lemmas.Slice.Eq.{bytes_eq-Decides}
 use Rattle.ab_term.specs.Types.{Ty, prop}
-use Rattle.ab_term.specs.Terms.{Nominal}
-use Rattle.ab_term.specs.Names.{support}
+use Rattle.ab_term.specs.Terms.{Nominal, constant, spine}
+use Rattle.ab_term.specs.Names.{support, support_of_all}
 use Rattle.ab_term.specs.Variables.{variables}
 use Rattle.ab_term.specs.Substitution.{instance}
-use Rattle.ab_term.proofs.Lists.{Contains-none, All-from_contains}
+use Rattle.ab_term.proofs.Lists.{Contains-none, Contains-from_map, All-from_contains}
 use Rattle.ab_store.specs.Trees.{Read}
 use Rattle.ab_logic.specs.Formulas.{IsFormula, HasOneTypeEach}
-use Rattle.ab_logic.specs.Declarations.{Declarations, signature_in, theorem_in, HaveSentences}
-use Rattle.ab_logic.specs.Sequents.{Fits, Variable, Sequent, goal_names, IsSequent, formula_of, proving, assuming, without, over}
+use Rattle.ab_logic.specs.Declarations.{Declarations, signature_in, theorem_in, HaveSentences, HaveDefinitions, IsDefining}
+use Rattle.ab_logic.specs.Sequents.{Fits, Variable, Sequent, HoldsOnly, in_terms, goal_names, IsSequent, formula_of, proving, assuming, without, over}
 use Rattle.ab_logic.specs.Forms.{as_equal, as_for_all, as_exists}
 use Rattle.ab_logic.specs.Names.{Label, Names, IsNoVariable}
 use Rattle.ab_solve.specs.Replacing.{Cell}
 use Rattle.ab_equate.specs.Solved.{AreCells}
+use Rattle.ab_equate.specs.Cases.{CaseOver, problem_of, Split}
+use Rattle.ab_equate.proofs.Carried.{cells_in_front}
+use Rattle.ab_cases.specs.Clauses.{Clause}
+use Rattle.ab_cases.specs.Choices.{in_order, choices}
+use Rattle.ab_cases.specs.Alternatives.{alternative, on_left}
+use Rattle.ab_cases.proofs.Choosing.{contains_kept, gathered_from}
+use Rattle.ab_marks.specs.Marking.{mark_below, marked_in}
+use Rattle.ab_analysis.specs.Atoms.{Defined, Choice, defined_atom, choices_of}
+use Rattle.ab_analysis.specs.Left.{raised_goal, case_of, cases_of}
+use Rattle.ab_analysis.specs.Right.{unfolding_case, unfolded}
+use Rattle.std.proofs.lemmas.Option.{get_or_from_slice_get, slice_get_within}
+use Rattle.ab_solve.specs.Solving.{unified, Solves}
+use Rattle.ab_term.specs.Variables.{Substitution}
 use Rattle.ab_rules.specs.Steps.{Step, initial, true_right, false_left, and_right, and_left, or_right, or_left, arrow_right, arrow_left, for_all_right, for_all_left, exists_right, exists_left, nabla_right, nabla_left, equal_right, equal_left, definition_right, definition_left, induction, coinduction, cut_formula, use_theorem, weaken, spec_cut, spec_instance, spec_monotone}
 use Rattle.ab_rules.specs.Row.{solves, Takes}
 use Rattle.ab_rules.specs.Rules.{row, Rule, any_name, IsSupport, MayName, name_term, raised, applied}
 use Rattle.ab_rules.proofs.Parts.{MayBePut, named_in, MayStand, IsScope, both_may, either_may, implies_may, for_all_scope, exists_scope, nabla_scope, instance_may, name_may, applied_may}
 use Rattle.ab_rules.proofs.NewNumbers.{new_number}
+use Rattle.ab_logic.specs.Marks.{Sign, star_of, at_of, plus_of, hash_of}
+use Rattle.ab_induction.specs.Levels.{next_level, inductive_level, coinductive_level}
+use Rattle.ab_induction.specs.Places.{marked_antecedent, marked_consequent}
+use Rattle.ab_rules.proofs.Cased.{IsBehind, case_is_behind, split_sequents}
+use Rattle.ab_rules.proofs.Raised.{AreThere}
+use Rattle.ab_rules.proofs.Unfolding.{chosen_one_type, unfolded_may}
+use Rattle.ab_rules.proofs.Sized.{IsAtomOver, atom_of, atom_over, antecedent_may, consequent_may}
 use Rattle.ab_equate.proofs.Sides.{equation_sides}
 use Rattle.ab_equate.proofs.Carried.{solved_is_sequent}
-use Rattle.ab_rules.proofs.Sequents.{IsGoal, goal_of, sequent_from, found_may, proving_goal, assuming_goal, without_goal, labelled_goal, scope_more, names_more, over_goal, without_sequent}
+use Rattle.ab_rules.proofs.Sequents.{IsGoal, goal_of, sequent_from, found_may, proving_goal, assuming_goal, without_goal, IsLabelled, labelled_goal, scope_more, names_more, over_goal, without_sequent}
 
-module _ (D : Declarations) (sentences : HaveSentences D) (s : Sequent) (is : IsSequent D s) where
+-- where a choice comes from
+record Chosen (N : List Nominal) (d : Defined) (h : Choice) : Type 0 where
+  clause : Clause (List ℕ)
+  names : List Nominal
+  is : record { clause = clause; names = names } ≡ h
+  listed : Contains d.block.clauses clause
+  of_it : clause.predicate ≡ d.predicate
+  choice : Contains (choices (map (λ z. z.type) clause.names) (in_order (support_of_all d.arguments)) N) names
+
+chosen_from : (N : List Nominal) (d : Defined) (h : Choice) → Contains (choices_of N d) h → Chosen N d h
+chosen_from N d h m =
+    let from = gathered_from (λ (c : Clause (List ℕ)). map (λ (ns : List Nominal). record { clause = c; names = ns }) (choices (map (λ z. z.type) c.names) (in_order (support_of_all d.arguments)) N))
+    (filter (λ (c : Clause (List ℕ)). bytes_eq c.predicate d.predicate) d.block.clauses) h m in
+    let kept = contains_kept (λ (c : Clause (List ℕ)). bytes_eq c.predicate d.predicate) d.block.clauses from.0 from.1 in
+    let names = Contains-from_map (λ (ns : List Nominal). record { clause = from.0; names = ns }) (choices (map (λ z. z.type) from.0.names) (in_order (support_of_all d.arguments)) N) h from.2 in
+    record { clause = from.0; names = names.0; is = names.2; listed = kept.0; of_it = (bytes_eq-Decides from.0.predicate d.predicate).0 kept.1; choice = names.1 }
+
+module _ (D : Declarations) (sentences : HaveSentences D) (definitions : HaveDefinitions D) (s : Sequent) (is : IsSequent D s) where
   abbrev N : List Nominal
   N = goal_names s
 
@@ -182,6 +220,62 @@ module _ (D : Declarations) (sentences : HaveSentences D) (s : Sequent) (is : Is
       sides.left sides.right sides.left_closed sides.right_closed a.1) (none_kept [] refl))
   solved_kept H cells are F p may is_equal ps (inr a) = none_kept ps a.1
 
+  -- a formula is assumed, and another one proved
+  sized_kept : (F C : Read) → May F → May C → (l : Label) (L : List ℕ) (s1 : Sequent) → Names l s L s1 → (ps : List Sequent) → ps ≡ proving C (assuming L F s1) ∷ [] → All (IsSequent D) ps
+  sized_kept F C f c l L s1 n ps e =
+      let lab = labelled_goal D N l s s1 L goal n in
+      one_kept ps (proving C (assuming L F s1)) e
+      (proving_goal D N (assuming L F s1) C (added l s s1 L F goal refl n f) (subst (λ xs. MayStand (signature_in D) xs N C) (sym lab.variables) c))
+
+  -- the cases of an analysed atom
+  analysed_kept : (H : List ℕ) (F : Read) (d : Defined) (l : Label) (L : List ℕ) (s1 : Sequent) → formula_of s H ≡ Some F → defined_atom D F ≡ Some d → Names l (without H s) L s1
+      → (cells : List (Cell (List ℕ))) → AreCells cells s → (ps : List Sequent) → Split (λ k hint name. IsNoVariable k name) cells (cases_of s s1 L d) ps → All (IsSequent D) ps
+  analysed_kept H F d l L s1 e is_atom n cells are ps split =
+      split_sequents D (λ k hint name. IsNoVariable k name) (λ k hint name new. new) cells (cases_of s s1 L d) ps
+      (All-map (λ (c : CaseOver). (more : List (Cell (List ℕ))) → IsBehind D (cells ++ more) (c (cells ++ more))) (case_of s s1 L d) (choices_of N d)
+      (All-from_contains (λ (h : Choice). (more : List (Cell (List ℕ))) → IsBehind D (cells ++ more) (case_of s s1 L d h (cells ++ more))) (choices_of N d) well)) split
+    where
+      lab : IsLabelled D N (without H s) s1 L
+      lab = labelled_goal D N l (without H s) s1 L (without_it H) n
+
+      atom : IsAtomOver (signature_in D) s.variables N d
+      atom = atom_over D s.variables N F d (found H F e) is_atom
+
+      well : (h : Choice) → Contains (choices_of N d) h → (more : List (Cell (List ℕ))) → IsBehind D (cells ++ more) (case_of s s1 L d h (cells ++ more))
+      well h m more =
+          let all : List (Cell (List ℕ)) = cells ++ more in
+          let chosen = chosen_from N d h m in
+          let c = chosen.clause in
+          let ns = chosen.names in
+          subst (λ h. IsBehind D all (case_of s s1 L d h all)) chosen.is
+          (subst (λ (xs : List Variable). IsBehind D all
+          (let alt = alternative (codes "x") (record { cells = all; variables = map in_terms xs; constants = N }) d.arguments c ns on_left in record {
+            before = take (length alt.cells - length c.variables) alt.cells;
+            own = drop (length alt.cells - length c.variables) alt.cells;
+            equations = alt.equations;
+            flexible = alt.flexible;
+            goal = assuming L (marked_in d.block.predicates (mark_below d.sign) alt.body) (raised_goal alt s1);
+          })) lab.variables
+          (case_is_behind D s1 N lab.goal is.one_type all (subst (AreThere all) (sym lab.variables) (cells_in_front cells more s.variables are))
+          d.predicate d.arguments atom.typed (subst (λ xs. HoldsOnly xs (spine (constant d.predicate) d.arguments)) (sym lab.variables) atom.closed) atom.held
+          c (All-contains (IsDefining (signature_in D)) d.block.clauses c (definitions d.predicate d.block (atom_of D F d is_atom).block) chosen.listed) chosen.of_it ns chosen.choice
+          L lab.new d.block.predicates (mark_below d.sign)))
+
+  -- what the conclusion unfolds to
+  unfolded_kept : (i : ℕ) (d : Defined) (h : Choice) → defined_atom D s.conclusion ≡ Some d → slice_get (choices_of N d) i ≡ Some h → (cells : List (Cell (List ℕ))) → AreCells cells s
+      → (more : List (Cell (List ℕ))) (answer : Substitution ℕ (List ℕ)) (ps : List Sequent) → Solves (codes "x") (problem_of (unfolding_case cells s d h)) (unified more answer)
+      → ps ≡ proving (unfolded (unfolding_case cells s d h) h more answer) s ∷ [] → All (IsSequent D) ps
+  unfolded_kept i d h is_atom at cells are more answer ps =
+      let there : Contains (choices_of N d) h = subst (Contains (choices_of N d)) (get_or_from_slice_get (choices_of N d) i h h at) (Contains-get_or (choices_of N d) i h (slice_get_within (choices_of N d) i h at)) in
+      let chosen = chosen_from N d h there in
+      let c = chosen.clause in
+      let ns = chosen.names in
+      let well : IsDefining (signature_in D) c = All-contains (IsDefining (signature_in D)) d.block.clauses c (definitions d.predicate d.block (atom_of D s.conclusion d is_atom).block) chosen.listed in
+      let atom = atom_over D s.variables N s.conclusion d goal.conclusion is_atom in
+      subst (λ (h : Choice). Solves (codes "x") (problem_of (unfolding_case cells s d h)) (unified more answer) → ps ≡ proving (unfolded (unfolding_case cells s d h) h more answer) s ∷ [] → All (IsSequent D) ps) chosen.is
+      (λ solves e. one_from (ns ++ N) (chosen_one_type D s N is.one_type cells are d atom c well chosen.of_it ns chosen.choice) ps _ e
+      (proving_goal D (ns ++ N) s _ (names_more D N (ns ++ N) (λ a k. Contains-append_right ns N a k) s goal) (unfolded_may D s N is.one_type cells are d atom c well chosen.of_it ns chosen.choice more answer solves)))
+
   kept_from : (cells : List (Cell (List ℕ))) (are : AreCells cells s) (step : Step) (ps : List Sequent) → Takes (row D (any_name cells) step s) ps → All (IsSequent D) ps
   kept_from cells are (initial H) ps t = none_kept ps t.2.1.1
   kept_from cells are true_right ps t = none_kept ps t.2
@@ -265,10 +359,16 @@ module _ (D : Declarations) (sentences : HaveSentences D) (s : Sequent) (is : Is
       (subst (λ xs. MayStand (signature_in D) xs K (instance q.1 (name_term (record { number = n; type = q.0 })))) (sym lab.variables) (with_constant t.0 q n scope may)))
   kept_from cells are equal_right ps t = none_kept ps t.2.1
   kept_from cells are (equal_left H) ps t = solved_kept H cells are t.0 t.2.0 (found H t.0 t.1) t.2.1 ps t.2.2
-  kept_from cells are (definition_right i) ps t = absurd t.0
-  kept_from cells are (definition_left H l) ps t = absurd t.0
-  kept_from cells are (induction n l) ps t = absurd t.0
-  kept_from cells are (coinduction l) ps t = absurd t.0
+  kept_from cells are (definition_right i) ps t = unfolded_kept i t.0 t.2.1.0 t.1 t.2.1.1 cells are t.2.1.2.0 t.2.1.2.1 ps t.2.1.2.2 t.2.1.2.3
+  kept_from cells are (definition_left H l) ps t = analysed_kept H t.0 t.2.0 l t.2.2.1.0 t.2.2.1.1 t.1 t.2.1 t.2.2.1.2 cells are ps t.2.2.1.3
+  kept_from cells are (induction n l) ps t =
+      let i = next_level inductive_level s in
+      let may = λ (m : Sign). antecedent_may D s.variables N s.conclusion t.0 m n t.1 t.2.0 goal.conclusion in
+      sized_kept (marked_antecedent n (star_of i) s.conclusion) (marked_antecedent n (at_of i) s.conclusion) (may (star_of i)) (may (at_of i)) l t.2.1.0 t.2.1.1 t.2.1.2 ps t.2.1.3
+  kept_from cells are (coinduction l) ps t =
+      let i = next_level coinductive_level s in
+      let may = λ (m : Sign). consequent_may D s.variables N s.conclusion t.0 m t.1 t.2.0 goal.conclusion in
+      sized_kept (marked_consequent (plus_of i) s.conclusion) (marked_consequent (hash_of i) s.conclusion) (may (plus_of i)) (may (hash_of i)) l t.2.1.0 t.2.1.1 t.2.1.2 ps t.2.1.3
   kept_from cells are (cut_formula F l) ps t = cut_kept F l t.1.0 t.1.1 ps t.0.0 t.0.1 t.1.2 t.1.3
   kept_from cells are (use_theorem n l) ps t =
       one_kept ps (assuming t.2.0 t.0 t.2.1) t.2.3 (added l s t.2.1 t.2.0 t.0 goal refl t.2.2 (theorem_may n t.0 t.1))
@@ -278,5 +378,5 @@ module _ (D : Declarations) (sentences : HaveSentences D) (s : Sequent) (is : Is
   kept_from cells are (spec_monotone H K l) ps t = absurd t.0
 
 -- RULES KEEP WHAT IS TRUE OF EVERY SEQUENT
-pub kept_by_rule : (D : Declarations) → HaveSentences D → (step : Step) (s : Sequent) (ps : List Sequent) → IsSequent D s → Rule D step s ps → All (IsSequent D) ps
-kept_by_rule D sentences step s ps is r = kept_from D sentences s is r.0 r.1 step ps r.2
+pub kept_by_rule : (D : Declarations) → HaveSentences D → HaveDefinitions D → (step : Step) (s : Sequent) (ps : List Sequent) → IsSequent D s → Rule D step s ps → All (IsSequent D) ps
+kept_by_rule D sentences definitions step s ps is r = kept_from D sentences definitions s is r.0 r.1 step ps r.2

@@ -6,12 +6,22 @@ pub mod Members
 pub mod NewNumbers
 mod Splitting
 pub mod OneAnswer
+mod Lasting
 pub mod Longer
 mod Words
 mod Finding
 mod Sides
 pub mod Scopes
 pub mod Parts
+mod Marked
+mod Sized
+mod OneType
+mod Putting
+mod Raised
+mod Firm
+mod Unfolded
+mod Unfolding
 pub mod Sequents
+mod Cased
 pub mod Keeping
 pub mod OneList

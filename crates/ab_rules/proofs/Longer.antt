@@ -15,6 +15,8 @@ use Rattle.ab_logic.proofs.Declaring.{more_constants, still_formula, still_theor
 use Rattle.ab_rules.specs.Steps.{Step, initial, true_right, false_left, and_right, and_left, or_right, or_left, arrow_right, arrow_left, for_all_right, for_all_left, exists_right, exists_left, nabla_right, nabla_left, equal_right, equal_left, definition_right, definition_left, induction, coinduction, cut_formula, use_theorem, weaken, spec_cut, spec_instance, spec_monotone}
 use Rattle.ab_rules.specs.Row.{solves, Takes}
 use Rattle.ab_rules.specs.Rules.{row, Making, Rule, NamedRule}
+use Rattle.ab_rules.proofs.Lasting.{still_atom, still_inductive, still_coinductive}
+use Rattle.ab_rules.proofs.Splitting.{split_more}
 
 pub still_fits : (D E : Declarations) → Extends D E → (s : Sequent) (t : Read) (A : Ty) → Fits D s t A → Fits E s t A
 still_fits D E more s t A f = record { typed = more_typed (signature_in D) (signature_in E) (more_constants D E more) f.typed; closed = f.closed; one_type = f.one_type }
@@ -48,10 +50,10 @@ module _ (D E : Declarations) (more : Extends D E) (cells : List (Cell (List ℕ
   takes_on (nabla_left H l) s ps t = t
   takes_on equal_right s ps t = t
   takes_on (equal_left H) s ps t = (t.0, t.1, (t.2.0, t.2.1, solved_on (without H s) t.2.0.0 t.2.0.1 ps t.2.2))
-  takes_on (definition_right i0) s ps t = t
-  takes_on (definition_left H l) s ps t = t
-  takes_on (induction n0 l) s ps t = t
-  takes_on (coinduction l) s ps t = t
+  takes_on (definition_right i0) s ps t = (t.0, still_atom D E more s.conclusion t.0 t.1, t.2)
+  takes_on (definition_left H l) s ps t = (t.0, t.1, (t.2.0, still_atom D E more t.0 t.2.0 t.2.1, (t.2.2.0, (t.2.2.1.0, t.2.2.1.1, t.2.2.1.2, split_more P Q names t.2.2.1.3))))
+  takes_on (induction n0 l) s ps t = (t.0, still_inductive D E more n0 s.conclusion t.0 t.1, t.2)
+  takes_on (coinduction l) s ps t = (t.0, still_coinductive D E more s.conclusion t.0 t.1, t.2)
   takes_on (cut_formula F l) s ps t = ((still_fits D E more s F prop t.0.0, still_formula D E more F t.0.1), t.1)
   takes_on (use_theorem n0 l) s ps t = (t.0, still_theorem D E more _ t.0 t.1, t.2)
   takes_on (weaken H) s ps t = t

@@ -10,6 +10,7 @@ use Rattle.ab_solve.specs.Replacing.{Cell}
 use Rattle.ab_solve.specs.Solving.{unified, apart, stuck}
 use Rattle.ab_equate.specs.Solved.{Naming}
 use Rattle.ab_equate.proofs.One.{GivesOne, not_stuck, apart_not_stuck}
+use Rattle.ab_equate.proofs.Naming.{one_name}
 use Rattle.ab_rules.specs.Rules.{row, by_hint}
 use Rattle.ab_rules.proofs.Splitting.{one_answer, never_open, one_open, split_or_not, unsplit_once}
 
@@ -189,10 +190,10 @@ names_by_hint D cells nabla_right s = λ q. tt
 names_by_hint D cells (nabla_left H l) s = λ F q L t. tt
 names_by_hint D cells equal_right s = λ p. tt
 names_by_hint D cells (equal_left H) s = λ F p. tt
-names_by_hint D cells (definition_right k) s = tt
-names_by_hint D cells (definition_left H l) s = tt
-names_by_hint D cells (induction k l) s = tt
-names_by_hint D cells (coinduction l) s = tt
+names_by_hint D cells (definition_right k) s = λ d c. tt
+names_by_hint D cells (definition_left H l) s = λ F d L t. one_name D
+names_by_hint D cells (induction k l) s = λ d L t. tt
+names_by_hint D cells (coinduction l) s = λ d L t. tt
 names_by_hint D cells (cut_formula F l) s = λ L t. tt
 names_by_hint D cells (use_theorem k l) s = λ F L t. tt
 names_by_hint D cells (weaken H) s = λ F. tt

@@ -101,10 +101,10 @@ module _ (D : Declarations) (cells : List (Cell (List ℕ))) (s : Sequent) (is :
   settled (nabla_left H l) = λ F e q f L s1 n a b P Q. one_constant F q.0 (λ m. assuming L (instance q.1 (name_term (record { number = m; type = q.0 }))) s1 ∷ []) a b P Q
   settled equal_right = λ p e. tt
   settled (equal_left H) = λ F e p f. one_goal (IsNamedFor D) cells (without H s) p.0 p.1 (one_name D)
-  settled (definition_right i) = tt
-  settled (definition_left H l) = tt
-  settled (induction n l) = tt
-  settled (coinduction l) = tt
+  settled (definition_right i) = λ d e c f. tt
+  settled (definition_left H l) = λ F e d f L s1 n. one_name D
+  settled (induction n l) = λ d e L s1 k. tt
+  settled (coinduction l) = λ d e L s1 k. tt
   settled (cut_formula F l) = λ L s1 n. tt
   settled (use_theorem n l) = λ F e L s1 k. tt
   settled (weaken H) = λ F e. tt

@@ -90,7 +90,7 @@ formulas_all : (P : Read → Type 0) (hs : List Hypothesis) → All P (formulas 
 formulas_all P [] all = All-from_contains (λ (h : Hypothesis). P h.formula) [] (λ h c. absurd (Contains-none h c))
 formulas_all P (h ∷ hs) all = All-cons (λ (k : Hypothesis). P k.formula) h hs (All-head P h.formula (formulas hs) all) (formulas_all P hs (All-tail P h.formula (formulas hs) all))
 
-all_formulas : (P : Read → Type 0) (hs : List Hypothesis) → AllFormulas P hs → All P (formulas hs)
+pub all_formulas : (P : Read → Type 0) (hs : List Hypothesis) → AllFormulas P hs → All P (formulas hs)
 all_formulas P [] all = All-from_contains P [] (λ F c. absurd (Contains-none F c))
 all_formulas P (h ∷ hs) all = All-cons P h.formula (formulas hs) (All-head (λ (k : Hypothesis). P k.formula) h hs all) (all_formulas P hs (All-tail (λ (k : Hypothesis). P k.formula) h hs all))
 

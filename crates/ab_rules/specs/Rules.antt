@@ -1,5 +1,5 @@
 -- THE RULES OF THE LOGIC, row by row: conditions in order, then the premises. Replaced and added hypotheses stand last.
-use Rattle.std.specs.Prelude.{◌≡◌, ◌≢◌, ℕ, ◌≤◌, List, [], ◌∷◌, map, length, codes, All, Contains, if◌then◌else◌}
+use Rattle.std.specs.Prelude.{◌≡◌, ◌≢◌, ℕ, ◌≤◌, List, [], ◌∷◌, map, length, codes, All, Contains, if◌then◌else◌, slice_get}
 use Rattle.ab_term.specs.Types.{Ty, arrows, prop}
 use Rattle.ab_term.specs.Terms.{Nominal, nominal, lam, spine}
 use Rattle.ab_term.specs.Names.{support, EqualUpToNames}
@@ -10,7 +10,7 @@ use Rattle.ab_term.specs.Expansion.{expansion}
 use Rattle.ab_store.specs.Trees.{Read}
 use Rattle.ab_solve.specs.Replacing.{Cell}
 use Rattle.ab_logic.specs.Formulas.{IsFormula}
-use Rattle.ab_logic.specs.Marks.{erased, MarksServeIn}
+use Rattle.ab_logic.specs.Marks.{plain, star_of, at_of, plus_of, hash_of, erased, MarksServeIn}
 use Rattle.ab_logic.specs.Declarations.{Declarations, signature_in, theorem_in}
 use Rattle.ab_logic.specs.Forms.{as_truth, as_falsity, as_both, as_either, as_implies, as_equal, as_for_all, as_exists, as_nabla}
 use Rattle.ab_logic.specs.Sequents.{Variable, Sequent, Fits, goal_names, formula_of, proving, assuming, without, over}
@@ -18,7 +18,13 @@ use Rattle.ab_logic.specs.Names.{IsLeast, IsNoVariable, IsNamedFor}
 use Rattle.ab_equate.specs.Solved.{Naming, AreCells}
 pub use Rattle.ab_equate.specs.Solved.{variable_term}
 use Rattle.ab_rules.specs.Steps.{Step, initial, true_right, false_left, and_right, and_left, or_right, or_left, arrow_right, arrow_left, for_all_right, for_all_left, exists_right, exists_left, nabla_right, nabla_left, equal_right, equal_left, definition_right, definition_left, induction, coinduction, cut_formula, use_theorem, weaken, spec_cut, spec_instance, spec_monotone}
-use Rattle.ab_rules.specs.Row.{Row, leads, leads_by, finds, asks, labelled, solves, not_built, Takes, FailsFirst, Sticks}
+use Rattle.ab_analysis.specs.Atoms.{defined_atom, choices_of}
+use Rattle.ab_marks.specs.Marking.{MayBeAnalysed, MayBeUnfolded}
+use Rattle.ab_analysis.specs.Left.{cases_of}
+use Rattle.ab_analysis.specs.Right.{unfolding_case, unfolded}
+use Rattle.ab_induction.specs.Places.{inductive_at, coinductive_in, marked_antecedent, marked_consequent}
+use Rattle.ab_induction.specs.Levels.{next_level, inductive_level, coinductive_level}
+use Rattle.ab_rules.specs.Row.{Row, leads, leads_by, finds, asks, labelled, solves, splits, unifies, not_built, Takes, FailsFirst, Sticks}
 
 -- a nominal constant as a term
 abbrev pub name_term : Nominal → Read
@@ -131,10 +137,30 @@ row D new (equal_left H) s =
     finds 1 (formula_of s H) (λ F.
     finds 2 (as_equal F) (λ p.
     solves new.IsName new.cells (without H s) p.0 p.1))
-row D new (definition_right i) s = not_built
-row D new (definition_left H l) s = not_built
-row D new (induction n l) s = not_built
-row D new (coinduction l) s = not_built
+row D new (definition_right i) s =
+    finds 1 (defined_atom D s.conclusion) (λ d.
+    asks 2 (MayBeUnfolded d.sign) (
+    finds 3 (slice_get (choices_of (goal_names s) d) i) (λ c.
+    let u = unfolding_case new.cells s d c in
+    unifies 4 u (λ more answer. proving (unfolded u c more answer) s ∷ []))))
+row D new (definition_left H l) s =
+    finds 1 (formula_of s H) (λ F.
+    finds 2 (defined_atom D F) (λ d.
+    asks 3 (MayBeAnalysed d.sign) (
+    labelled 4 l (without H s) (λ L s1.
+    splits new.IsName new.cells (cases_of s s1 L d)))))
+row D new (induction n l) s =
+    finds 1 (inductive_at D n s.conclusion) (λ d.
+    asks 2 (d.sign ≡ plain) (
+    labelled 3 l s (λ L s1.
+    let i = next_level inductive_level s in
+    leads (proving (marked_antecedent n (at_of i) s.conclusion) (assuming L (marked_antecedent n (star_of i) s.conclusion) s1) ∷ []))))
+row D new (coinduction l) s =
+    finds 1 (coinductive_in D s.conclusion) (λ d.
+    asks 2 (d.sign ≡ plain) (
+    labelled 3 l s (λ L s1.
+    let i = next_level coinductive_level s in
+    leads (proving (marked_consequent (hash_of i) s.conclusion) (assuming L (marked_consequent (plus_of i) s.conclusion) s1) ∷ []))))
 row D new (cut_formula F l) s =
     asks 1 (Fits D s F prop × IsFormula (signature_in D) F) (
     labelled 2 l s (λ L s1.

@@ -1,7 +1,7 @@
 //! Laws of the rules, which no other contract carries.
 ghost use Rattle.std.specs.Prelude.{◌≡◌, ℕ, List, All};
 ghost use Rattle.ab_solve.specs.Replacing.{Cell};
-ghost use Rattle.ab_logic.specs.Declarations.{Declarations, Extends, HaveSentences};
+ghost use Rattle.ab_logic.specs.Declarations.{Declarations, Extends, HaveSentences, HaveDefinitions};
 ghost use Rattle.ab_logic.specs.Sequents.{Sequent, IsSequent};
 ghost use Rattle.ab_rules.specs.Steps.{Step};
 ghost use Rattle.ab_rules.specs.Row.{Takes};
@@ -30,7 +30,8 @@ pub fn rules_outlive_declarations()
 {}
 
 /// Rules keep what is true of every sequent: their premises are formulas over their own variables, no two of one name,
-/// and each nominal number has one type throughout. The theorems that are used speak of no goal.
+/// and each nominal number has one type throughout. The theorems that are used speak of no goal,
+/// and what is defined is so by clauses of case analysis.
 pub fn rules_keep_sequents()
-    ensures { (D : Declarations) → HaveSentences D → (step : Step) (s : Sequent) (ps : List Sequent) → IsSequent D s → Rule D step s ps → All (IsSequent D) ps }
+    ensures { (D : Declarations) → HaveSentences D → HaveDefinitions D → (step : Step) (s : Sequent) (ps : List Sequent) → IsSequent D s → Rule D step s ps → All (IsSequent D) ps }
 {}

@@ -3,6 +3,7 @@
 
 mod choosing;
 mod closing;
+mod defined;
 mod equations;
 mod fitting;
 pub mod laws;
@@ -12,6 +13,7 @@ mod looking;
 mod quantified;
 mod replaces;
 mod right;
+mod sizes;
 mod step;
 mod taking;
 mod telling;

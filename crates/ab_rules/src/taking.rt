@@ -7,10 +7,12 @@ ghost use Rattle.ab_logic.specs.Sequents.{IsSequent};
 ghost use Rattle.ab_rules.specs.Answers.{Answers, row_at, step_of, HoldsStep};
 
 use crate::closing::{equal_right, false_left, initial, true_right};
+use crate::defined::{definition_left, definition_right};
 use crate::equations::equal_left;
 use crate::left::{and_left, arrow_left, arrow_right, or_left, use_theorem, weaken};
 use crate::quantified::{exists_left, for_all_right, nabla_left, nabla_right};
 use crate::right::{and_right, or_right};
+use crate::sizes::{coinduction, induction};
 use crate::step::{KernelFault, Step};
 use crate::telling::{cut_formula, exists_right, for_all_left};
 use ab_logic::{Sequent, World};
@@ -57,10 +59,10 @@ pub fn premises<L>(
         }
         Step::ExistsRight(term) => exists_right(alloc, world, *term, sequent, steps),
         Step::CutFormula(formula, given) => cut_formula(alloc, world, *formula, given, sequent),
-        Step::DefRight(_) => Err(KernelFault::RuleFails(0)),
-        Step::DefLeft(_, _) => Err(KernelFault::RuleFails(0)),
-        Step::Induction(_, _) => Err(KernelFault::RuleFails(0)),
-        Step::Coinduction(_) => Err(KernelFault::RuleFails(0)),
+        Step::DefRight(place) => definition_right(alloc, world, *place, sequent, steps),
+        Step::DefLeft(name, given) => definition_left(alloc, world, name, given, sequent, steps),
+        Step::Induction(place, given) => induction(alloc, world, *place, given, sequent),
+        Step::Coinduction(given) => coinduction(alloc, world, given, sequent),
         Step::SpecCut(_, _, _) => Err(KernelFault::RuleFails(0)),
         Step::SpecInst(_, _, _) => Err(KernelFault::RuleFails(0)),
         Step::SpecMonotone(_, _, _) => Err(KernelFault::RuleFails(0)),

@@ -228,7 +228,7 @@ module _ (s : Contents) (bytes : List ℕ) (l : Option (List ℕ)) (c : ProofCom
       is = refl;
       sequent =
           All-head (IsSequent (declarations_of s.world)) t rest
-          (subst (All (IsSequent (declarations_of s.world))) e (open_are_sequents (declarations_of s.world) is.world.sentences (history_of s.world a.proof).tree tried.proof.valid tried.proof.rooted));
+          (subst (All (IsSequent (declarations_of s.world))) e (open_are_sequents (declarations_of s.world) is.world.sentences is.world.definitions (history_of s.world a.proof).tree tried.proof.valid tried.proof.rooted));
     };
   }
 

@@ -62,16 +62,16 @@ pub returns-in-EqualLeft-clause-answers : goal.returns-in-EqualLeft-clause-answe
 returns-in-EqualLeft-clause-answers g c = rw c.in-EqualLeft.is c.equal_left.ensures.answers
 
 pub returns-in-DefRight-clause-answers : goal.returns-in-DefRight-clause-answers
-returns-in-DefRight-clause-answers g c = rw c.in-DefRight.is (inl (λ x. x, refl))
+returns-in-DefRight-clause-answers g c = rw c.in-DefRight.is c.definition_right.ensures.answers
 
 pub returns-in-DefLeft-clause-answers : goal.returns-in-DefLeft-clause-answers
-returns-in-DefLeft-clause-answers g c = rw c.in-DefLeft.is (inl (λ x. x, refl))
+returns-in-DefLeft-clause-answers g c = rw c.in-DefLeft.is c.definition_left.ensures.answers
 
 pub returns-in-Induction-clause-answers : goal.returns-in-Induction-clause-answers
-returns-in-Induction-clause-answers g c = rw c.in-Induction.is (inl (λ x. x, refl))
+returns-in-Induction-clause-answers g c = rw c.in-Induction.is c.induction.ensures.answers
 
 pub returns-in-Coinduction-clause-answers : goal.returns-in-Coinduction-clause-answers
-returns-in-Coinduction-clause-answers g c = rw c.in-Coinduction.is (inl (λ x. x, refl))
+returns-in-Coinduction-clause-answers g c = rw c.in-Coinduction.is c.coinduction.ensures.answers
 
 pub returns-in-SpecCut-clause-answers : goal.returns-in-SpecCut-clause-answers
 returns-in-SpecCut-clause-answers g c = rw c.in-SpecCut.is (inl (λ x. x, refl))

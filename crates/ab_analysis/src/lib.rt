@@ -1,0 +1,2 @@
+//! Defined atoms in a goal: the cases into which one splits it, and what it unfolds to.
+#![tactic(auto)]

@@ -1,0 +1,2 @@
+//! Induction and coinduction: where a formula is given a size, and the formula with it.
+#![tactic(auto)]

@@ -1,0 +1,165 @@
+-- What a conclusion unfolds to: under the answer to the equations its formula is over the goal's variables and those that
+-- were made and are left.
+use Rattle.std.proofs.Common.{◌≡◌, inl, inr, ℕ, ◌+◌, ◌<◌, ◌≤◌, List, [], ◌∷◌, ◌++◌, map, length, Bool, true, false, cond, not, ◌||◌, Option, Some, None, option_map, codes, refl, sym, ◌∙◌, ap, subst, arith, length-append, append_assoc}
+use Rattle.std.specs.Prelude.{All, Contains, slice_get, drop}
+use Rattle.std.proofs.lemmas.Option.{slice_get_within}
+use Rattle.std.proofs.lemmas.List.Elements.{All-nil, All-cons, All-head, All-tail, All-weaker, All-contains, All-append, Contains-append_left, Contains-append_right, Contains-append_cases}
+use Rattle.ab_term.specs.Terms as tree
+use Rattle.ab_term.specs.Terms.{Nominal}
+use Rattle.ab_term.specs.Typing.{Signature}
+use Rattle.ab_term.specs.Variables.{Substitution, variables, value_in}
+use Rattle.ab_term.specs.Sameness.{same_numbered, same_number}
+use Rattle.ab_term.proofs.Lists.{Contains-none, Contains-cases, Contains-map, Contains-from_map, All-from_contains}
+use Rattle.ab_store.specs.Trees.{Read}
+use Rattle.ab_solve.specs.Replacing.{Cell, holds}
+use Rattle.ab_solve.specs.Solving.{Equation, unified, Solves}
+use Rattle.ab_solve.specs.Meaning.{given, AreTyped, AreKnown, IsOver, AreOver, IsCell, HoldsCells, AllHoldCells, keys, sides}
+use Rattle.ab_solve.proofs.Problems.{answer_typed, answer_clean}
+use Rattle.ab_solve.proofs.Cells.{Grows, answer_cells, cell_kept}
+use Rattle.ab_cases.proofs.Choosing.{kept_contains}
+use Rattle.ab_cases.proofs.Covered.{found_of_all}
+use Rattle.ab_cases.proofs.Variables.{holds_contains}
+use Rattle.ab_logic.specs.Sequents.{Variable, HoldsOnly, in_terms}
+use Rattle.ab_equate.specs.Solved.{stays, made, variables_from}
+use Rattle.ab_equate.specs.Cases.{cell_for}
+use Rattle.ab_equate.proofs.Carried.{cells_in_front}
+use Rattle.ab_equate.proofs.Idempotent.{none_replaced, where_from}
+use Rattle.ab_equate.proofs.Renaming.{behind_cell, made_listed}
+use Rattle.ab_rules.proofs.Putting.{IsPut}
+use Rattle.ab_rules.proofs.Raised.{AreThere}
+
+abbrev Cells : Type 0
+Cells = List (Cell (List ℕ))
+
+cell_of : (cells : Cells) (xs : List Variable) → AreThere cells xs → (z : tree.Variable ℕ) → Contains (map in_terms xs) z → IsCell cells z
+cell_of cells xs all z m =
+    let found = Contains-from_map in_terms xs z m in
+    let is = All-contains (λ (x : Variable). slice_get cells x.number ≡ Some (cell_for x)) xs found.0 all found.1 in
+    subst (IsCell cells) found.2 (ap (option_map (λ (c : Cell (List ℕ)). c.type)) is)
+
+below_cells : (cells : Cells) (z : tree.Variable ℕ) → IsCell cells z → z.name < length cells
+below_cells cells z e = go (slice_get cells z.name) refl e
+  where
+    go : (o : Option (Cell (List ℕ))) → slice_get cells z.name ≡ o → option_map (λ (c : Cell (List ℕ)). c.type) o ≡ Some z.type → z.name < length cells
+    go None d e = absurd (cc)
+    go (Some c) d e = slice_get_within cells z.name c d
+
+from_there : (front cells : Cells) (n : ℕ) → length front ≡ n → AreThere (front ++ cells) (variables_from n cells)
+from_there front [] n e = All-nil (λ (x : Variable). slice_get (front ++ []) x.number ≡ Some (cell_for x))
+from_there front (c ∷ cells) n e =
+    let long : length (front ++ c ∷ []) ≡ n + 1 = length-append front (c ∷ []) ∙ ap (λ k. k + 1) e in
+    All-cons (λ (x : Variable). slice_get (front ++ c ∷ cells) x.number ≡ Some (cell_for x)) (record { number = n; type = c.type; name = c.hint }) (variables_from (n + 1) cells)
+    (let found = behind_cell front (c ∷ cells) n (omega (arith, e)) in
+    found.2 ∙ ap (slice_get (c ∷ cells)) (let at : found.0 ≡ 0 = omega (arith, found.1, e) in at))
+    (subst (λ cs. AreThere cs (variables_from (n + 1) cells)) (append_assoc front (c ∷ []) cells) (from_there (front ++ c ∷ []) cells (n + 1) long))
+
+from_numbers : (n : ℕ) (cells : Cells) (x : Variable) → Contains (variables_from n cells) x → n ≤ x.number
+from_numbers n [] x m = absurd (Contains-none x m)
+from_numbers n (c ∷ cells) x m = elim (Contains-cases (record { number = n; type = c.type; name = c.hint }) (variables_from (n + 1) cells) x m) [
+  | inl e ↦ (let same : n ≡ x.number = ap (λ (y : Variable). y.number) e in omega (arith, same))
+  | inr r ↦ (let less = from_numbers (n + 1) cells x r in omega (arith, less))
+]
+
+none_key : (s : Substitution ℕ (List ℕ)) (y : tree.Variable ℕ) → value_in same_number s y ≡ None → holds (keys s) y ≡ false
+none_key [] y e = refl
+none_key (p ∷ s) y e = go (same_numbered p.0 y) e (none_key s y)
+  where
+    go : (b : Bool) → cond b (Some p.1) (value_in same_number s y) ≡ None → (value_in same_number s y ≡ None → holds (keys s) y ≡ false) → (b || holds (keys s) y) ≡ false
+    go true e rest = absurd (cc)
+    go false e rest = rest e
+
+over_sides : (cells : Cells) (P : tree.Variable ℕ → Type 0) → ((z : tree.Variable ℕ) → P z → IsCell cells z) → (es : List (Equation (List ℕ))) → All (λ t. All P (variables t)) (sides es) → AllHoldCells cells es × AreOver cells es
+over_sides cells P cell [] all = (tt, tt)
+over_sides cells P cell (e ∷ es) all =
+    let Over : Read → Type 0 = λ t. All P (variables t) in
+    let first = All-head Over e.left (e.right ∷ sides es) all in
+    let others = All-tail Over e.left (e.right ∷ sides es) all in
+    let second = All-head Over e.right (sides es) others in
+    let rest = over_sides cells P cell es (All-tail Over e.right (sides es) others) in
+    let held : (t : Read) → Over t → HoldsCells cells t = λ t over z m. cell z (All-contains P (variables t) z over m) in
+    let known : (t : Read) → Over t → IsOver cells t = λ t over z h. below_cells cells z (held t over z (holds_contains (variables t) z h)) in
+    ((held e.left first, held e.right second, rest.0), (known e.left first, known e.right second, rest.1))
+
+module _ (sg : Signature) (front own : Cells) (xs : List Variable) (es : List (Equation (List ℕ))) (ys : List (tree.Variable ℕ)) (there : AreThere front xs) (typed : AreTyped sg es)
+    (over : All (HoldsOnly (xs ++ variables_from (length front) own)) (sides es)) (flexible : (z : tree.Variable ℕ) → holds ys z ≡ true → Contains (map in_terms (xs ++ variables_from (length front) own)) z)
+    (more : Cells) (answer : Substitution ℕ (List ℕ)) (solves : Solves (codes "x") (given es (front ++ own) ys) (unified more answer)) where
+  abbrev Z : List Variable
+  Z = xs ++ variables_from (length front) own
+
+  abbrev cells : Cells
+  cells = front ++ own
+
+  abbrev IsKnown : tree.Variable ℕ → Type 0
+  IsKnown z = Contains (map in_terms Z) z
+
+  known_cell : (z : tree.Variable ℕ) → IsKnown z → IsCell cells z
+  known_cell = cell_of cells Z (All-append (λ (x : Variable). slice_get cells x.number ≡ Some (cell_for x)) xs (variables_from (length front) own) (cells_in_front front own xs there) (from_there front own (length front) refl))
+
+  flexible_cell : (z : tree.Variable ℕ) → holds ys z ≡ true → IsCell cells z
+  flexible_cell z h = known_cell z (flexible z h)
+
+  known : AreKnown cells ys
+  known z h = below_cells cells z (flexible_cell z h)
+
+  both : AllHoldCells cells es × AreOver cells es
+  both = over_sides cells IsKnown known_cell es over
+
+  all_cells : Grows cells more × All (λ p. IsCell more p.0 × HoldsCells more p.1) answer
+  all_cells = answer_cells (codes "x") es cells ys flexible_cell both.0 more answer solves
+
+  abbrev added : Cells
+  added = own ++ all_cells.0.0
+
+  more_is : more ≡ front ++ added
+  more_is = let grown = all_cells.0 in grown.1 ∙ append_assoc front own grown.0
+
+  -- the variables that were made and are left
+  abbrev left : List Variable
+  left = made front more answer
+
+  abbrev IsLeft : tree.Variable ℕ → Type 0
+  IsLeft z = Contains (map in_terms (xs ++ left)) z
+
+  in_front : (x : Variable) → Contains xs x → IsLeft (in_terms x)
+  in_front x m = Contains-map in_terms (xs ++ left) x (Contains-append_left xs left x m)
+
+  new_left : (z : tree.Variable ℕ) → length front ≤ z.name → IsCell more z → holds (keys answer) z ≡ false → IsLeft z
+  new_left z l cell k =
+      let new : List Variable = variables_from (length front) (drop (length front) more) in
+      let listed : Contains (map in_terms new) z =
+      subst (λ cs. Contains (map in_terms (variables_from (length front) (drop (length front) cs))) z) (sym more_is) (made_listed front added z l (subst (λ cs. IsCell cs z) more_is cell)) in
+      let found = Contains-from_map in_terms new z listed in
+      let stay : stays answer found.0 ≡ true = ap (λ v. not (holds (keys answer) v)) found.2 ∙ ap not k in
+      subst IsLeft found.2 (Contains-map in_terms (xs ++ left) found.0 (Contains-append_right xs left found.0 (kept_contains (stays answer) new found.0 found.1 stay)))
+
+  known_left : (z : tree.Variable ℕ) → IsKnown z → holds (keys answer) z ≡ false → IsLeft z
+  known_left z m k =
+      let found = Contains-from_map in_terms Z z m in
+      elim (Contains-append_cases xs (variables_from (length front) own) found.0 found.1) [
+        | inl a ↦ subst IsLeft found.2 (in_front found.0 a)
+        | inr a ↦ (let low : length front ≤ found.0.number = from_numbers (length front) own found.0 a in
+            let number : found.0.number ≡ z.name = ap (λ (v : tree.Variable ℕ). v.name) found.2 in
+            new_left z (omega (arith, low, number)) (cell_kept cells more all_cells.0 z (known_cell z m)) k)
+      ]
+
+  of_value : (w : tree.Variable ℕ) (v : Read) → value_in same_number answer w ≡ Some v → (z : tree.Variable ℕ) → Contains (variables v) z → IsLeft z
+  of_value w v e z m =
+      let free : holds (keys answer) z ≡ false = none_replaced (codes "x") es cells ys known both.1 more answer solves w v e z m in
+      let is_cell : IsCell more z =
+      found_of_all (HoldsCells more) answer (All-weaker (λ p. IsCell more p.0 × HoldsCells more p.1) (λ p. HoldsCells more p.1) (λ p q. q.1) answer all_cells.1) w v e z m in
+      elim (where_from (codes "x") es cells ys known both.1 more answer solves w v e z m) [
+        | inl a ↦ elim a [
+          | inl b ↦ known_left z (flexible z b) free
+          | inr b ↦ (let high = b.0 in let long = length-append front own in new_left z (omega (arith, high, long)) is_cell free)
+        ]
+        | inr a ↦ known_left z (All-contains IsKnown (variables a.0) z (All-contains (λ t. All IsKnown (variables t)) (sides es) a.0 over a.1) a.2) free
+      ]
+
+  -- WHAT THE ANSWER PUTS IN may stand over the variables that are left
+  pub answer_put : (M : List Nominal) → IsPut sg (xs ++ made front more answer) M (Contains (map in_terms (xs ++ variables_from (length front) own))) answer
+  answer_put M = record {
+    typed = answer_typed sg (codes "x") es cells ys typed known more answer solves;
+    stays = λ y m e. known_left y m (none_key answer y e);
+    closed = λ y v e. All-from_contains IsLeft (variables v) (of_value y v e);
+    names = λ y v e a m. absurd (Contains-none a (subst (λ l. Contains l a) (answer_clean sg (codes "x") es cells ys typed known more answer solves y v e) m));
+  }

