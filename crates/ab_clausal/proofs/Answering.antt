@@ -51,6 +51,13 @@ module _ (s : Scope) (old new : Table) (adds : AddsTypes old new) (is : s ≡ cl
   none_found store A B C (Untyped p) h = absurd h
   none_found store A B C (Memory m) h = tt
 
+  -- of the names alone
+  pub names_failed : (A B : Ty) (f : InferFault) → Fails (joined_found A B (resolved s [] c.head) (body_found s c.body)) f → Fails (parts_found (kinds old) (signature old) c) f
+  names_failed A B (Unknown x) h = sym same_parts ∙ none_joined A B (resolved s [] c.head) (body_found s c.body) x h
+  names_failed A B (TypeClash p) h = absurd h
+  names_failed A B (Untyped p) h = absurd h
+  names_failed A B (Memory m) h = tt
+
 -- what a row makes is a head and a body, joined
 pub row_parts : (types : Table) (store : Contents) (row : Row) (A B : Ty) (f g : Found) → Makes types store row (joined_found A B f g) → (e : Parts) × (both_found f g ≡ Ok e) × Makes types store row (Ok (joined e A B))
 row_parts types store row A B f g m =

@@ -1,5 +1,5 @@
 //! Elaboration of a clause.
-ghost use Rattle.std.specs.Prelude.{◌≡◌, ◌≤◌, length, IfOk};
+ghost use Rattle.std.specs.Prelude.{◌≡◌, ◌≤◌, length, Ok, IfOk, MatchResult};
 ghost use Rattle.ab_term.specs.Types.{prop};
 ghost use Rattle.ab_types.specs.Entries.{Table, kinds, constants, signature, IsExtendedBy};
 ghost use Rattle.ab_types.specs.Ids.{HoldsType, type_of};
@@ -11,8 +11,10 @@ ghost use Rattle.ab_resolving.specs.Scoping.{scope_of, HoldsScope};
 ghost use Rattle.ab_clauses.specs.Cases.{case_of};
 ghost use Rattle.ab_clauses.specs.Proposed.{IsProposed};
 ghost use Rattle.ab_clauses.specs.Readings as kept;
+ghost use Rattle.ab_walking.specs.Rows.{Fails};
 ghost use Rattle.ab_clauses.specs.Readings.{HoldsClause};
 ghost use Rattle.ab_clausal.specs.Answers.{IsClauseAnswer};
+ghost use Rattle.ab_clausal.specs.Readings.{Parts};
 ghost use Rattle.ab_clausal.specs.Meanings as meanings;
 ghost use Rattle.ab_clausal.specs.Growth.{AddsVariables};
 
@@ -37,6 +39,30 @@ fn clause_scope(alloc: Global) -> Scope
         nominals: Vec::new(alloc),
         place: Place::Clause,
     }
+}
+
+/// Looks at the names of a clause alone. `Unknown` has the first name in the text that stands for nothing; no other fault but
+/// want of memory comes.
+pub fn look_at_names(
+    alloc: Global,
+    types: &mut TypeTable,
+    store: &Store,
+    parse: &ClauseParse,
+) -> Result<(), InferFault>
+    requires table { IsTable types.old }
+    requires store { IsTypedBy types.old store.now }
+    ensures names { let found = meanings.parts_found (kinds types.old) (signature types.old) (clause_of parse.now) in
+        MatchResult result (λ u. (e : Parts) × (found ≡ Ok e)) (Fails found) }
+    ensures kinds { kinds types.new ≡ kinds types.old }
+    ensures constants { constants types.new ≡ constants types.old }
+    ensures kept { IsExtendedBy types.old types.new }
+    ensures table { IsTable types.new }
+{
+    let scope = clause_scope(alloc);
+    let formulas = formulas(alloc, types)?;
+    let prop = formulas.prop;
+    row_of_clause(alloc, types, store, formulas, &scope, parse, prop)?;
+    Ok(())
 }
 
 /// The clause that is written, its head and its body being of the type; a body that isn't written is `true`. Its variables are

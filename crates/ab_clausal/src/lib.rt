@@ -8,4 +8,4 @@ mod parting;
 mod reading;
 mod rows;
 
-pub use elaborating::elaborate_clause;
+pub use elaborating::{elaborate_clause, look_at_names};
