@@ -1,11 +1,10 @@
-pub mod Dressed
-pub mod Instanced
-pub mod Listed
-pub mod Chosen
+mod Dressed
+mod Instanced
+mod Listed
+mod Chosen
 pub mod Made
 pub mod Bound
-pub mod Noted
-pub mod Opened
+mod Noted
+mod Opened
 pub mod Fitting
-pub mod Assembled
-pub mod Raised
+mod Assembled

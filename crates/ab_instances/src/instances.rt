@@ -4,7 +4,7 @@ ghost use Rattle.ab_term.specs.Types.{Ty, prop};
 ghost use Rattle.ab_term.specs.Sameness.{same_number};
 ghost use Rattle.ab_term.specs.Variables.{image, image_all};
 ghost use Rattle.ab_types.specs.Entries.{signature};
-ghost use Rattle.ab_store.specs.Trees.{tree_of};
+ghost use Rattle.ab_store.specs.Trees.{Holds, tree_of};
 ghost use Rattle.ab_store.specs.Naming.{IsTypedBy, IsTerm};
 ghost use Rattle.ab_norm.specs.Nominals.{HoldsNominal};
 ghost use Rattle.ab_norm.specs.Taking.{AreTaken};
@@ -67,6 +67,7 @@ pub fn instance_of<L>(
     ensures arguments_typed { IfOk result (λ made. (A : Ty) →
         signature types.new (case_of (clause_of types.old store.old clause.now)).predicate ≡ Some A →
         AreTaken types.new store.new [] made.arguments.items A prop) }
+    ensures arguments_held { IfOk result (λ made. All (Holds store.new) made.arguments.items) }
     ensures body_typed { IfOk result (λ made. IsTerm types.new store.new [] made.body prop) }
     ensures steps { steps.old ≤ steps.new }
 {

@@ -16,4 +16,4 @@ pub use constants::constants_of;
 pub use instances::{Instance, instance_of};
 pub use making::{Over, as_terms, make_over};
 pub use names::{Choices, Names, outside};
-pub use raising::raise;
+pub use raising::bind_to;

@@ -1,0 +1,109 @@
+//! One alternative on the left is solved in the goal that is over its raised variables.
+ghost use Rattle.std.specs.Prelude.{◌≡◌, ◌<◌, ◌≤◌, ◌++◌, [], ℕ, Ok, Some, map, length, take, All, Contains, List, IfOk, OnOk, OnErr};
+ghost use Rattle.ab_term.specs.Types.{prop, Ty};
+ghost use Rattle.ab_term.specs.Variables.{image};
+ghost use Rattle.ab_term.specs.Sameness.{same_number};
+ghost use Rattle.ab_types.specs.Entries.{signature};
+ghost use Rattle.ab_store.specs.Naming.{IsTypedBy, IsTerm};
+ghost use Rattle.ab_store.specs.Reading.{reading};
+ghost use Rattle.ab_store.specs.Trees.{tree_of};
+ghost use Rattle.ab_norm.specs.Nominals.{HoldsNominal};
+ghost use Rattle.ab_norm.specs.Taking.{AreTaken};
+ghost use Rattle.ab_clauses.specs.Cases as kept;
+ghost use Rattle.ab_clauses.specs.Readings.{clause_of, name_of};
+ghost use Rattle.ab_unifying.specs.Problem.{cells_read};
+ghost use Rattle.ab_unifying.specs.Changed as changed;
+ghost use Rattle.ab_solver.specs.Answers.{IsTypedPair};
+ghost use Rattle.ab_instances.specs.Binding.{bound_to, CanBeBound};
+ghost use Rattle.ab_instances.specs.Readings.{names_read, given_at};
+ghost use Rattle.ab_logic.specs.Declarations.{signature_in, IsDefining};
+ghost use Rattle.ab_logic.specs.Formulas.{IsFormula};
+ghost use Rattle.ab_logic.specs.Growth.{Grows};
+ghost use Rattle.ab_logic.specs.Names.{IsNamedFor};
+ghost use Rattle.ab_logic.specs.Sequents.{IsSequent, formulas_of};
+ghost use Rattle.ab_logic.specs.Worlds.{IsWorld, IsKeptClause, HoldsCell, Holds, declarations_of};
+ghost use Rattle.ab_logic.specs.Readings.{HoldsSequent, sequent_of};
+ghost use Rattle.ab_logic.specs.declared.world.World.{World as AWorld};
+ghost use Rattle.ab_logic.specs.declared.sequent.Sequent.{Sequent as AGoal};
+ghost use Rattle.ab_equate.specs.Cases.{Arises, NeverArises, IsOpen};
+ghost use Rattle.ab_equate.specs.Meanwhile.{AreFrom, count_before};
+ghost use Rattle.ab_equate.specs.declared.cases.CaseSolution.TheVariants.{Unified, Apart, Stuck};
+ghost use Rattle.ab_analysis.specs.Left.{case_of};
+ghost use Rattle.ab_alternatives.specs.Made.{constants_in, raising, case_put, goal_for};
+ghost use Rattle.ab_alternatives.specs.Readings.{defined_read, HoldsDefined, choice_read};
+
+use crate::alternatives::Alternative;
+use ab_equate::{CaseSolution, solve_case};
+use ab_instances::{Over, bind_to};
+use ab_logic::{Sequent, World};
+use ab_store::{CellId, Store, TermId};
+use ab_types::{Steps, TypeTable};
+use std::alloc::{AllocError, Global};
+
+/// The first cells, and then the others.
+pub(crate) fn both(alloc: Global, first: &[CellId], second: &[CellId]) -> Result<Vec<CellId>, AllocError>
+    ensures { IfOk result (λ cells. cells.items ≡ first.now ++ second.now) }
+{
+    let mut cells = Vec::from_slice(alloc, first)?;
+    cells.extend_from_slice(second)?;
+    Ok(cells)
+}
+
+/// Binds the variables to the terms over the raised ones, where there are such.
+fn bind_raised<L>(
+    types: &TypeTable,
+    store: &mut Store,
+    variables: &[CellId],
+    over: &Over,
+    steps: &mut Steps<L>,
+) -> Result<(), AllocError>
+    requires store { IsTypedBy types.now store.old }
+    requires unbound { store.old.bindings ≡ [] }
+    requires few { length over.now.terms.items ≤ length variables.now }
+    requires fit { CanBeBound types.now store.old (take (length over.now.terms.items) variables.now) over.now.terms.items }
+    ensures grows { changed.Grows types.now store.old types.now store.new }
+    ensures nodes { store.new.nodes ≡ store.old.nodes }
+    ensures cells { store.new.cells ≡ store.old.cells }
+    ensures reads { OnOk result ((G : List Ty) (t : TermId) (A : Ty) → IsTerm types.now store.old G t A →
+        reading types.now store.new t ≡ image same_number (raising types.now store.old variables.now over.now) (tree_of types.now store.old t)) }
+    ensures bound { OnOk result (store.new.bindings ≡ bound_to (take (length over.now.terms.items) variables.now) over.now.terms.items) }
+    ensures err { OnErr result (store.new.bindings ≡ []) }
+    ensures steps { steps.new ≡ steps.old }
+{
+    let terms = over.terms.as_slice();
+    bind_to(types, store, &variables[..terms.len()], terms, steps)
+}
+
+/// The alternative is solved in the goal, which is over its raised variables. These variables are bound to them then.
+pub fn solve_alternative<L>(
+    alloc: Global,
+    world: &mut World,
+    made: &Alternative,
+    variables: &[CellId],
+    goal: Sequent,
+    steps: &mut Steps<L>,
+) -> Result<CaseSolution, AllocError>
+    requires world { IsWorld world.old }
+    requires held { HoldsSequent world.old goal }
+    requires formulas { All (IsFormula (signature_in (declarations_of world.old))) (formulas_of (sequent_of world.old goal)) }
+    requires over { goal.variables ≡ made.now.raised.cells.items }
+    requires few { length made.now.raised.terms.items ≤ length variables.now }
+    requires fit { CanBeBound world.old.types world.old.store (take (length made.now.raised.terms.items) variables.now) made.now.raised.terms.items }
+    requires free { All (λ c. HoldsCell world.old c × ¬ Contains (take (length made.now.raised.terms.items) variables.now) c) (made.now.raised.cells.items ++ made.now.own.items) }
+    requires before { All (λ c. c.0 < count_before world.old made.now.own.items) goal.variables }
+    requires equations { All (IsTypedPair world.old.types world.old.store) made.now.equations.items }
+    requires own { AreFrom world.old.store (count_before world.old made.now.own.items) made.now.own.items }
+    ensures unified { (g : AGoal) → result ≡ Ok (Unified g) →
+        Arises (IsNamedFor (declarations_of world.old)) (case_put world.old variables.now made.now goal)
+        (cells_read world.new.types world.new.store) (sequent_of world.new g) }
+    ensures held { (g : AGoal) → result ≡ Ok (Unified g) → HoldsSequent world.new g }
+    ensures apart { result ≡ Ok Apart → NeverArises (case_put world.old variables.now made.now goal) }
+    ensures stuck { (i : ℕ) → result ≡ Ok (Stuck i) → IsOpen (case_put world.old variables.now made.now goal) i }
+    ensures grows { changed.Grows world.old.types world.old.store world.new.types world.new.store }
+    ensures additions { world.new.additions ≡ world.old.additions }
+    ensures steps { steps.old ≤ steps.new }
+{
+    let flexible = both(alloc, &made.raised.cells, &made.own)?;
+    bind_raised(&world.types, &mut world.store, variables, &made.raised, steps)?;
+    solve_case(alloc, world, &made.equations, &flexible, &made.own, goal, steps)
+}
