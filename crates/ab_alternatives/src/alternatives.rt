@@ -89,7 +89,11 @@ fn add_equations(
 }
 
 /// The terms of the first list with those of the second, one against one.
-pub(crate) fn equated(alloc: Global, left: &[TermId], right: &[TermId]) -> Result<Vec<Equation>, AllocError>
+pub(crate) fn equated(
+    alloc: Global,
+    left: &[TermId],
+    right: &[TermId],
+) -> Result<Vec<Equation>, AllocError>
     ensures { IfOk result (λ es. es.items ≡ equate left.now right.now) }
 {
     let mut equations = Vec::new(alloc);

@@ -18,4 +18,4 @@ pub use alternatives::{Alternative, make_alternative};
 pub use atoms::{DefinedAtom, defined_atom};
 pub use heads::{predicate_under, prefix_types};
 pub use right::unfold;
-pub use trying::solve_alternative;
+pub use trying::{solve_alternative, try_case};

@@ -107,8 +107,8 @@ returns-clause-made g c =
     let first = c.in_ok-raised.ensures.cells in
     let A = c.requires.taken.0 in
     let predicate : signature T2 (case_of k1).predicate ≡ Some A =
-        ap (λ (k : Case (List ℕ)). signature T2 k.predicate) same_c ∙ ap (signature T2) c.requires.predicate
-        ∙ ap (λ (sg : Signature). sg (name_of T0 c.args.atom.now.predicate)) (same_signature T0 T2 S0 S2 (whole.g02 T0 T1 T2 S0 S1 S2 S3 g1 g2 adds)) ∙ c.requires.taken.1 in
+    ap (λ (k : Case (List ℕ)). signature T2 k.predicate) same_c ∙ ap (signature T2) c.requires.predicate
+    ∙ ap (λ (sg : Signature). sg (name_of T0 c.args.atom.now.predicate)) (same_signature T0 T2 S0 S2 (whole.g02 T0 T1 T2 S0 S1 S2 S3 g1 g2 adds)) ∙ c.requires.taken.1 in
     record {
       cells = whole.cells_are T0 T1 T2 S0 S1 S2 S3 g1 g2 adds ys ts us held made_held (case_of k0) (case_of k1) ns ns1 (names_read T0 fresh_d) unchosen same_c same_ns is_fresh_d is_unchosen first c.in_ok-made.ensures.cells;
       raised = whole.raised_are T0 T1 T2 S0 S1 S2 S3 g1 g2 adds ys ts us held made_held (case_of k0) (case_of k1) ns ns1 (names_read T0 fresh_d) unchosen same_c same_ns is_fresh_d is_unchosen first g1.typed over c.in_ok-raised.ensures.held c.in_ok-raised.ensures.raised;

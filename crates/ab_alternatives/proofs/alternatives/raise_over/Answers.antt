@@ -14,7 +14,7 @@ pub returns-clause-raised : goal.returns-clause-raised
 returns-clause-raised c =
     let T = c.args.types.now in
     let ns = names_read T c.args.fresh.now in
-    let some : ns ≢ [] = λ (none : ns ≡ []). 
+    let some : ns ≢ [] = λ (none : ns ≡ []).
     let zero : length c.args.fresh.now ≡ 0 = sym (length-map c.args.fresh.now (nominal_of T)) ∙ ap length none in
     let clash : false ≡ true = sym c.if-is_empty.false ∙ c.is_empty.ensures ∙ ap (λ n. n == 0) zero in cc in
     let e = c.make_over.ensures in

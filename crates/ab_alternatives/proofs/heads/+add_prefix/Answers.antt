@@ -28,9 +28,13 @@ add_prefix-requires t c =
     let given = c.as_slice.result.now in
     let d : TermId = record { 0 = 0 } in
     let scope : (get_or given 0 d).0 < c.args.id.0 = All-same (λ (r : TermId). r.0 < c.args.id.0) _ _ c.as_slice.ensures names.1 0 d (omega (arith, c.in-len1.len_at_least)) in
-    let inner : c.in-Lam-view.body.0 < (get_or given 0 d).0 = lam_names _ _ c.view-in-len1.result.now _ _ c.in-Lam-view.body c.in-Lam-view.is c.view-in-len1.ensures.earlier in
-    (
+    let inner : c.in-Lam-view.body.0 < (get_or given 0 d).0 = lam_names _ _ c.view-in-len1.result.now _ _ c.in-Lam-view.body c.in-Lam-view.is c.view-in-len1.ensures.earlier in (
       omega (arith, scope, inner, c.decreases),
-      (c.requires.store, (omega (arith, scope, inner, c.requires.id),
-      subst (All (HoldsType types)) (sym c.in_ok-push-in-Lam-view.ensures.items) (All-push (HoldsType types) c.args.list.now.items c.in-Nabla.ty c.requires.list typed))),
+      (
+        c.requires.store,
+        (
+          omega (arith, scope, inner, c.requires.id),
+          subst (All (HoldsType types)) (sym c.in_ok-push-in-Lam-view.ensures.items) (All-push (HoldsType types) c.args.list.now.items c.in-Nabla.ty c.requires.list typed),
+        ),
+      ),
     )
