@@ -1,4 +1,4 @@
-//! The rules of defined atoms.
+//! The rules of defined atoms. They aren't carried out yet: each answers want of memory.
 ghost use Rattle.std.specs.Prelude.{◌≡◌, ◌≤◌};
 ghost use Rattle.ab_logic.specs.Growth.{Grows};
 ghost use Rattle.ab_logic.specs.Readings.{sequent_of, HoldsSequent};

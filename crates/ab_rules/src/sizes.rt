@@ -1,4 +1,4 @@
-//! The rules that give an atom of the conclusion a size.
+//! The rules that give an atom of the conclusion a size. They aren't carried out yet: each answers want of memory.
 ghost use Rattle.std.specs.Prelude.{◌≡◌, ◌≤◌};
 ghost use Rattle.ab_logic.specs.Growth.{Grows};
 ghost use Rattle.ab_logic.specs.Readings.{HoldsSequent};
