@@ -22,7 +22,7 @@ returns-in_err-row_of_clause-clause-names c =
     let clause = clause_of c.args.parse.now in
     let A = type_of t1 c.in_ok-formulas.formulas.prop in
     rw (p.1, p.2)
-        (names_failed (scope_of t1 S c.clause_scope-scope.result) c.args.types.now t1 c.in_ok-formulas.ensures.adds (c.clause_scope-scope.ensures.is t1 S) clause A (body_type A clause.body) c.in_err-row_of_clause.field-0.0 c.in_err-row_of_clause.ensures.row)
+    (names_failed (scope_of t1 S c.clause_scope-scope.result) c.args.types.now t1 c.in_ok-formulas.ensures.adds (c.clause_scope-scope.ensures.is t1 S) clause A (body_type A clause.body) c.in_err-row_of_clause.field-0.0 c.in_err-row_of_clause.ensures.row)
 
 pub returns-clause-names : goal.returns-clause-names
 returns-clause-names c =
