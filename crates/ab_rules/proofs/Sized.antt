@@ -181,9 +181,9 @@ module _ (sg : Signature) (m : Sign) where
   mark_stands : (F : Read) → IsAtom F → StandsIn a_formula F → StandsIn a_formula (with_mark m F)
   mark_stands F a s = subst (λ t. StandsIn a_formula (with_mark m t)) (sym a.2) (with_mark_stands m (constant a.0) a.1 tt (subst (StandsIn a_formula) a.2 s))
 
-  two_typed : (G : List Ty) (A B C D2 : Read) → (HasType sg G A prop → HasType sg G C prop) → (HasType sg G B prop → HasType sg G D2 prop)
-      → HasType sg G (spine (logical implication) (term A (term B no_terms))) prop → HasType sg G (spine (logical implication) (term C (term D2 no_terms))) prop
-  two_typed G A B C D2 f g (typed_spine {A = W} e (take_term {A = X} {B = V} d (take_term {A = Y} {B = U} b take_none))) =
+  two_typed : (G : List Ty) (A B C E : Read) → (HasType sg G A prop → HasType sg G C prop) → (HasType sg G B prop → HasType sg G E prop)
+      → HasType sg G (spine (logical implication) (term A (term B no_terms))) prop → HasType sg G (spine (logical implication) (term C (term E no_terms))) prop
+  two_typed G A B C E f g (typed_spine {A = W} e (take_term {A = X} {B = V} d (take_term {A = Y} {B = U} b take_none))) =
       let whole : Some (arrow X (arrow Y prop)) ≡ Some (arrow prop (arrow prop prop)) = sym e in
       let one : X ≡ prop = cc in
       let two : Y ≡ prop = cc in
