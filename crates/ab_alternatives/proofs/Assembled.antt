@@ -1,33 +1,27 @@
 -- An alternative is put together: what was made before, as it is in the end.
 use Rattle.std.specs.Prelude.{slice_index_or}
 use Rattle.std.specs.List.{All}
-use Rattle.std.proofs.Common.{◌≡◌, ℕ, suc, ◌+◌, List, [], ◌∷◌, ◌++◌, Some, map, length, codes, refl, sym, ◌∙◌, ap, subst, arith}
-use Rattle.std.proofs.lemmas.List.{length-map}
+use Rattle.std.proofs.Common.{◌≡◌, ℕ, suc, ◌+◌, List, [], ◌∷◌, map, codes, refl, sym, ◌∙◌, ap, subst, arith}
 use Rattle.std.proofs.lemmas.List.Elements.{All-nil, All-cons, All-head, All-tail}
 use Rattle.ab_term.specs.Types.{Ty, kind, prop, arrow}
-use Rattle.ab_term.specs.Terms as tree
-use Rattle.ab_term.specs.Terms.{Nominal, Terms, terms_of}
-use Rattle.ab_term.specs.Typing.{Signature, HasType, TakeType, take_none, take_term}
-use Rattle.ab_term.specs.Variables.{image, image_all}
-use Rattle.ab_term.specs.Sameness.{same_number}
+use Rattle.ab_term.specs.Terms.{terms_of}
+use Rattle.ab_term.specs.Typing.{TakeType, take_term}
 use Rattle.ab_types.specs.Entries.{Constant, Table, signature, type_in}
 use Rattle.ab_types.specs.Ids.{type_of}
 use Rattle.ab_types.specs.declared.ids.ConstId.{ConstId}
 use Rattle.ab_store.specs.declared.node.TermId.{TermId}
 use Rattle.ab_store.specs.declared.node.CellId.{CellId}
 use Rattle.ab_store.specs.declared.node.CellEntry.{CellEntry}
-use Rattle.ab_store.specs.declared.node.Equation.{Equation}
 use Rattle.ab_store.specs.Trees.{Contents, Holds, HoldsCell, tree_of, cell_of}
-use Rattle.ab_store.specs.Naming.{IsTypedBy, IsTerm}
+use Rattle.ab_store.specs.Naming.{IsTypedBy}
 use Rattle.ab_norm.specs.Taking.{AreTaken}
-use Rattle.ab_solve.specs.Solving as solve
 use Rattle.ab_solver.specs.Answers.{IsTypedPair}
 use Rattle.ab_cases.specs.Alternatives.{arguments_equal}
-use Rattle.ab_clauses.specs.Readings.{name_of, variable_of, clause_of, HoldsClause}
+use Rattle.ab_clauses.specs.Readings.{name_of, clause_of, HoldsClause}
 use Rattle.ab_clauses.specs.declared.kept.ClauseTerm.{ClauseTerm}
 use Rattle.ab_unifying.specs.Problem.{cell_read, cells_read, variables_read}
 use Rattle.ab_unifying.specs.Changed.{Grows}
-use Rattle.ab_unifying.proofs.Growth.{grown_type, lifted}
+use Rattle.ab_unifying.proofs.Growth.{grown_type}
 use Rattle.ab_instances.specs.Readings.{given_at}
 use Rattle.ab_logic.specs.declared.world.World.{World}
 use Rattle.ab_logic.proofs.Blocks.{same_clause}

@@ -1,34 +1,32 @@
 -- The case that is solved is that of the choice, as it reads.
 use Rattle.std.specs.Prelude.{Contains}
 use Rattle.std.specs.List.{All}
-use Rattle.std.proofs.Common.{◌≡◌, ℕ, suc, ◌+◌, ◌-◌, ◌<◌, ◌≤◌, List, [], ◌∷◌, ◌++◌, map, take, drop, length, codes, true, refl, sym, ◌∙◌, ap, subst, arith, length-append}
+use Rattle.std.proofs.Common.{◌≡◌, ℕ, suc, ◌+◌, ◌<◌, ◌≤◌, List, [], ◌∷◌, ◌++◌, map, take, drop, length, codes, true, refl, sym, ◌∙◌, ap, subst, arith, length-append}
 use Rattle.std.proofs.Math.Seq.{take-append_seam, drop-append_seam}
 use Rattle.std.proofs.lemmas.List.{length-map, map-append}
 use Rattle.std.proofs.lemmas.List.Elements.{All-nil, All-cons, All-head, All-tail, All-contains, All-weaker, All-append, All-take}
-use Rattle.ab_term.specs.Types.{Ty, prop}
 use Rattle.ab_term.specs.Terms as tree
 use Rattle.ab_term.specs.Terms.{Nominal, Terms}
 use Rattle.ab_term.specs.Typing.{Signature, HasType}
-use Rattle.ab_term.specs.Variables.{Substitution, IsTyped, image, image_all, variables}
+use Rattle.ab_term.specs.Variables.{Substitution, IsTyped, image, image_all}
 use Rattle.ab_term.specs.Sameness.{same_number}
-use Rattle.ab_types.specs.Entries.{Table, signature}
-use Rattle.ab_store.specs.declared.node.TermId.{TermId}
+use Rattle.ab_types.specs.Entries.{Table}
 use Rattle.ab_store.specs.declared.node.CellId.{CellId}
-use Rattle.ab_store.specs.Trees.{Read, Contents, HoldsCell, cell_of, tree_of}
+use Rattle.ab_store.specs.Trees.{Read, Contents, HoldsCell}
 use Rattle.ab_norm.specs.declared.nominal.Nominal.{Nominal as KeptNominal}
 use Rattle.ab_solve.specs.Replacing.{Cell, holds}
 use Rattle.ab_solve.specs.Solving.{Equation}
-use Rattle.ab_cases.specs.Clauses.{Clause, Each, IsClause, numbered, put_together, clause_variables, clause_names, name_term, filled}
+use Rattle.ab_cases.specs.Clauses.{Each, numbered, put_together, clause_variables, clause_names, name_term, filled}
 use Rattle.ab_cases.specs.Alternatives.{cells_over, made_over, made_terms, cells_of, arguments_equal}
 use Rattle.ab_cases.proofs.Covered.{names_typed}
 use Rattle.ab_cases.proofs.Lifting.{OfCells, made_terms_typed}
-use Rattle.ab_cases.proofs.Rows.{together_typed, numbered_within}
+use Rattle.ab_cases.proofs.Rows.{together_typed}
 use Rattle.ab_cases.proofs.Variables.{Has, held_has, has_held}
 use Rattle.ab_clauses.specs.declared.kept.ClauseTerm.{ClauseTerm}
 use Rattle.ab_unifying.specs.Problem.{cell_read, cells_read, variables_read}
 use Rattle.ab_unifying.specs.Changed.{Grows}
 use Rattle.ab_store.specs.Reading.{cell_variable}
-use Rattle.ab_instances.specs.Readings.{cells_at, trees_at}
+use Rattle.ab_instances.specs.Readings.{cells_at}
 use Rattle.ab_instances.proofs.Fitting.{variables_stay}
 use Rattle.ab_logic.specs.Formulas.{IsFormula}
 use Rattle.ab_logic.specs.Declarations.{IsDefining, signature_in}
@@ -49,11 +47,11 @@ use Rattle.ab_equate.proofs.Restored.{goal_same, goal_held, declarations_same}
 use Rattle.ab_analysis.specs.Atoms.{Defined, Choice}
 use Rattle.ab_analysis.specs.Left.{raised_variables, case_of}
 use Rattle.ab_alternatives.specs.Raising.{raised_cells, raised_to, raised_terms}
-use Rattle.ab_alternatives.specs.Made.{constants_in, fresh_in, unchosen_in, base_in, own_in, filled_in, trees_from, images_from, raising, goal_for, case_put, IsMade}
+use Rattle.ab_alternatives.specs.Made.{fresh_in, unchosen_in, base_in, own_in, filled_in, images_from, raising, goal_for, case_put, IsMade}
 use Rattle.ab_alternatives.specs.Readings.{defined_read, choice_read}
 use Rattle.ab_alternatives.specs.declared.alternatives.Alternative.{Alternative}
 use Rattle.ab_alternatives.specs.declared.atoms.DefinedAtom.{DefinedAtom}
-use Rattle.ab_alternatives.proofs.Parts.{parts, case_is}
+use Rattle.ab_alternatives.proofs.Parts.{case_is}
 use Rattle.ab_alternatives.proofs.Put.{in_terms_are, olds_are, below, renamed, put_same, both, images_are, equal_images, two_maps, raised_below}
 use Rattle.ab_alternatives.proofs.Raised.{AreAt, are_at}
 use Rattle.ab_alternatives.proofs.Untouched as untouched

@@ -1,8 +1,7 @@
 -- The atom under the prefix of a head keeps its predicate, whatever is put in for the names.
-use Rattle.std.proofs.Common.{◌≡◌, ℕ, zero, suc, List, [], ◌∷◌, map, length, codes, Option, refl, ap, subst, ◌∙◌}
+use Rattle.std.proofs.Common.{◌≡◌, ℕ, zero, suc, List, [], ◌∷◌, map, length, codes, Option, refl, ap}
 use Rattle.ab_term.specs.Types.{Ty}
-use Rattle.ab_term.specs.Logical.{nabla}
-use Rattle.ab_term.specs.Terms.{Variable, constant, logical, Term, lam, spine, Terms, no_terms, term}
+use Rattle.ab_term.specs.Terms.{Variable}
 use Rattle.ab_term.specs.Substitution.{shift, substitute}
 use Rattle.ab_term.specs.Variables.{value_in, image_by}
 use Rattle.ab_term.specs.Sameness.{same_number}

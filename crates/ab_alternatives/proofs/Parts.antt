@@ -1,5 +1,5 @@
 -- The case of a choice, part by part.
-use Rattle.std.proofs.Common.{◌≡◌, ℕ, suc, ◌+◌, ◌-◌, List, [], ◌∷◌, ◌++◌, map, length, take, drop, codes, refl, sym, ◌∙◌, ap, arith, append-nil, append_assoc, length-append}
+use Rattle.std.proofs.Common.{◌≡◌, ℕ, suc, ◌-◌, List, [], ◌∷◌, ◌++◌, map, length, take, drop, codes, refl, sym, ◌∙◌, ap, arith, append-nil, length-append}
 use Rattle.std.proofs.lemmas.List.{length-map}
 use Rattle.std.proofs.Math.Seq.{take-append_seam, drop-append_seam}
 use Rattle.ab_term.specs.Terms as tree
@@ -7,10 +7,8 @@ use Rattle.ab_term.specs.Terms.{Nominal, Terms}
 use Rattle.ab_term.specs.Names.{support_of_all}
 use Rattle.ab_term.specs.Variables.{Substitution, image, image_all}
 use Rattle.ab_term.specs.Sameness.{same_number}
-use Rattle.ab_store.specs.Trees.{Read}
 use Rattle.ab_solve.specs.Replacing.{Cell}
-use Rattle.ab_solve.specs.Solving.{Equation}
-use Rattle.ab_cases.specs.Clauses.{Clause, numbered, put_together, filled}
+use Rattle.ab_cases.specs.Clauses.{numbered, put_together, filled}
 use Rattle.ab_cases.specs.Choices.{in_order, outside}
 use Rattle.ab_cases.specs.Alternatives.{Scope, Alternative, cells_over, made_over, made_terms, arguments_equal, cells_of, analysed, alternative_with}
 use Rattle.ab_logic.specs.Sequents.{Variable, Sequent, in_terms, assuming}

@@ -1,36 +1,32 @@
 -- What is solved while the goal's variables are bound to their raised terms is the case of the choice.
-use Rattle.std.specs.Prelude.{Contains}
 use Rattle.std.specs.List.{All}
-use Rattle.std.proofs.Common.{◌≡◌, ℕ, suc, ◌+◌, ◌-◌, ◌<◌, ◌≤◌, List, [], ◌∷◌, ◌++◌, map, take, drop, length, get_or, codes, true, refl, sym, ◌∙◌, ap, subst, arith, length-append, take_all, append_assoc}
-use Rattle.std.proofs.Math.Seq.{take-append_seam, drop-append_seam}
-use Rattle.std.proofs.lemmas.List.{length-map, get_or-map, map-append}
-use Rattle.std.proofs.lemmas.List.Elements.{All-nil, All-cons, All-head, All-tail, All-contains, All-weaker, All-append}
-use Rattle.ab_term.specs.Types.{Ty}
+use Rattle.std.proofs.Common.{◌≡◌, ℕ, suc, ◌+◌, ◌<◌, List, [], ◌∷◌, ◌++◌, map, take, length, codes, true, refl, sym, ◌∙◌, ap, arith, length-append, take_all}
+use Rattle.std.proofs.lemmas.List.{length-map, get_or-map}
+use Rattle.std.proofs.lemmas.List.Elements.{All-nil, All-cons, All-head, All-tail, All-contains, All-weaker}
 use Rattle.ab_term.specs.Terms as tree
 use Rattle.ab_term.specs.Terms.{Nominal, Terms, no_terms, term}
 use Rattle.ab_term.specs.Variables.{Substitution, image, image_all}
 use Rattle.ab_term.specs.Sameness.{same_number}
-use Rattle.ab_types.specs.Entries.{Table, signature}
+use Rattle.ab_types.specs.Entries.{Table}
 use Rattle.ab_types.specs.Ids.{type_of}
 use Rattle.ab_store.specs.declared.node.TermId.{TermId}
 use Rattle.ab_store.specs.declared.node.CellId.{CellId}
-use Rattle.ab_store.specs.declared.node.CellEntry.{CellEntry}
 use Rattle.ab_store.specs.declared.node.Equation.{Equation}
-use Rattle.ab_store.specs.Trees.{Read, Contents, HoldsCell, cell_of, tree_of}
+use Rattle.ab_store.specs.Trees.{Contents, HoldsCell, cell_of, tree_of}
 use Rattle.ab_store.specs.Reading.{cell_variable}
 use Rattle.ab_solve.specs.Replacing.{Cell, holds, hint_of}
 use Rattle.ab_solve.specs.Solving as solve
-use Rattle.ab_cases.specs.Clauses.{Clause, IsClause, numbered, put_together}
-use Rattle.ab_cases.specs.Alternatives.{cells_over, made_over, made_terms, cells_of, arguments_equal}
+use Rattle.ab_cases.specs.Clauses.{numbered, put_together}
+use Rattle.ab_cases.specs.Alternatives.{cells_over, made_terms, cells_of, arguments_equal}
 use Rattle.ab_cases.proofs.Variables.{holds_contains}
 use Rattle.ab_unifying.specs.Problem.{cell_read, cells_read, variables_read}
 use Rattle.ab_instances.specs.Readings.{cells_at, trees_at}
-use Rattle.ab_logic.specs.Sequents.{Variable, Hypothesis, Sequent, in_terms, assuming}
+use Rattle.ab_logic.specs.Sequents.{in_terms}
 use Rattle.ab_logic.specs.Worlds.{variable_of}
 use Rattle.ab_logic.specs.declared.world.World.{World}
 use Rattle.ab_analysis.specs.Left.{raised_variables}
 use Rattle.ab_alternatives.specs.Raising.{raised_cells, raised_to, raised_terms}
-use Rattle.ab_alternatives.specs.Made.{trees_from, images_from, raising}
+use Rattle.ab_alternatives.specs.Made.{trees_from, images_from}
 use Rattle.ab_alternatives.proofs.Parts.{together_none}
 
 abbrev x : List ℕ

@@ -27,7 +27,6 @@ use Rattle.ab_instances.proofs.Bound.{each_length}
 use Rattle.ab_instances.proofs.Fitting.{can_bind, variables_stay}
 use Rattle.ab_cases.proofs.Rows.{each_weaker}
 use Rattle.ab_unifying.proofs.Growth.{grown_term}
-use Rattle.ab_alternatives.specs.Raising.{raised_cells, raised_to, raised_terms}
 use Rattle.ab_alternatives.specs.Made.{IsRaised}
 
 abbrev x : List ℕ

@@ -1,8 +1,8 @@
 -- The case that stands in a world while the raised cells are bound.
 use Rattle.std.specs.Prelude.{Contains}
 use Rattle.std.specs.List.{All}
-use Rattle.std.proofs.Common.{◌≡◌, ℕ, ◌+◌, ◌<◌, List, [], ◌∷◌, ◌++◌, map, take, drop, length, None, refl, sym, ◌∙◌, ap, subst}
-use Rattle.std.proofs.lemmas.List.Elements.{All-head, All-tail, All-weaker, All-contains}
+use Rattle.std.proofs.Common.{◌≡◌, ℕ, ◌+◌, List, [], ◌∷◌, ◌++◌, map, refl, sym, ◌∙◌, ap, subst}
+use Rattle.std.proofs.lemmas.List.Elements.{All-head, All-tail, All-weaker}
 use Rattle.ab_term.specs.Types.{Ty, prop}
 use Rattle.ab_term.specs.Typing.{Signature, HasType}
 use Rattle.ab_term.specs.Variables.{Substitution, image}
@@ -12,15 +12,14 @@ use Rattle.ab_store.specs.declared.node.TermId.{TermId}
 use Rattle.ab_store.specs.declared.node.CellId.{CellId}
 use Rattle.ab_store.specs.declared.node.CellEntry.{CellEntry}
 use Rattle.ab_store.specs.declared.node.Equation.{Equation}
-use Rattle.ab_store.specs.Trees.{Read, Contents, tree_of}
+use Rattle.ab_store.specs.Trees.{Contents, tree_of}
 use Rattle.ab_store.specs.Reading.{bound_in, reading}
-use Rattle.ab_store.specs.Bindings.{IsUnbound}
 use Rattle.ab_store.specs.Naming.{IsTerm}
 use Rattle.ab_solver.specs.Answers.{IsTypedPair}
 use Rattle.ab_unifying.specs.Problem.{equations_from}
 use Rattle.ab_unifying.specs.Changed.{Grows, IsFree}
 use Rattle.ab_instances.specs.Binding.{bound_to}
-use Rattle.ab_instances.proofs.Bound.{bound_to_none, same_tree}
+use Rattle.ab_instances.proofs.Bound.{bound_to_none}
 use Rattle.ab_logic.specs.Declarations.{signature_in}
 use Rattle.ab_logic.specs.Formulas.{IsFormula}
 use Rattle.ab_logic.specs.Sequents.{Hypothesis, formulas, formulas_of}
@@ -31,7 +30,7 @@ use Rattle.ab_logic.specs.declared.sequent.Sequent.{Sequent as Kept}
 use Rattle.ab_logic.specs.declared.sequent.Hypothesis.{Hypothesis as KeptHypothesis}
 use Rattle.ab_logic.proofs.Growing.{same_constants}
 use Rattle.ab_equate.specs.Cases.{Case}
-use Rattle.ab_equate.specs.Meanwhile.{IsMeanwhile, hypothesis_read, goal_read, count_before, case_read}
+use Rattle.ab_equate.specs.Meanwhile.{IsMeanwhile, hypothesis_read, case_read}
 use Rattle.ab_equate.proofs.Going.{world_meanwhile}
 use Rattle.ab_equate.proofs.Restored.{declarations_same, then_meanwhile, same_alike}
 use Rattle.ab_alternatives.specs.Made.{images_from, raising, case_put}

@@ -1,8 +1,8 @@
 -- Heads of clauses, node by node.
-use Rattle.std.proofs.Common.{◌≡◌, ◌≢◌, ℕ, ◌<◌, ◌≤◌, List, [], ◌∷◌, ◌++◌, map, length, get_or, refl, sym, ap, ◌∙◌, subst, arith, append-nil}
+use Rattle.std.proofs.Common.{◌≡◌, ◌≢◌, ℕ, ◌<◌, ◌≤◌, List, [], ◌∷◌, map, length, get_or, refl, sym, ap, ◌∙◌, subst, arith}
 use Rattle.ab_term.specs.Types.{Ty}
 use Rattle.ab_term.specs.Logical as plain
-use Rattle.ab_term.specs.Terms.{constant, logical, lam, spine, Terms, no_terms, term, terms_of}
+use Rattle.ab_term.specs.Terms.{logical, lam, spine, no_terms, term, terms_of}
 use Rattle.ab_types.specs.Entries.{Table}
 use Rattle.ab_types.specs.Ids.{type_of}
 use Rattle.ab_types.specs.declared.ids.ConstId.{ConstId}

@@ -1,17 +1,16 @@
 -- An alternative is what it should be, once its instance is made and its body marked.
 use Rattle.std.specs.List.{All}
-use Rattle.std.proofs.Common.{◌≡◌, ℕ, List, [], ◌∷◌, ◌++◌, map, length, codes, refl, sym, ◌∙◌, ap, subst, append_assoc}
+use Rattle.std.proofs.Common.{◌≡◌, ℕ, List, [], ◌++◌, map, length, codes, refl, sym, ◌∙◌, ap, subst}
 use Rattle.std.proofs.lemmas.List.{length-map}
-use Rattle.ab_term.specs.Types.{Ty, kind, prop}
-use Rattle.ab_term.specs.Terms.{Nominal, Terms}
+use Rattle.ab_term.specs.Types.{Ty, prop}
+use Rattle.ab_term.specs.Terms.{Nominal}
 use Rattle.ab_term.specs.Variables.{image, image_all, Substitution}
 use Rattle.ab_term.specs.Sameness.{same_number}
-use Rattle.ab_types.specs.Entries.{Table, signature}
+use Rattle.ab_types.specs.Entries.{Table}
 use Rattle.ab_types.specs.declared.ids.ConstId.{ConstId}
 use Rattle.ab_store.specs.declared.node.TermId.{TermId}
 use Rattle.ab_store.specs.declared.node.CellId.{CellId}
-use Rattle.ab_store.specs.declared.node.Equation.{Equation}
-use Rattle.ab_store.specs.Trees.{Contents, Holds, HoldsCell, tree_of, cell_of}
+use Rattle.ab_store.specs.Trees.{Contents, Holds, tree_of}
 use Rattle.ab_store.specs.Naming.{IsTypedBy}
 use Rattle.ab_norm.specs.Growth.{AddsTypedTerms}
 use Rattle.ab_norm.specs.Taking.{AreTaken}
@@ -29,10 +28,9 @@ use Rattle.ab_instances.specs.Readings.{given_at, cells_at}
 use Rattle.ab_instances.specs.declared.making.Over.{Over}
 use Rattle.ab_analysis.specs.Atoms.{Choice}
 use Rattle.ab_alternatives.specs.Raising.{raised_cells}
-use Rattle.ab_alternatives.specs.Made.{equate, trees_from, fresh_in, unchosen_in, base_in, own_in, filled_in, IsRaised, IsMade}
-use Rattle.ab_alternatives.specs.declared.alternatives.Alternative.{Alternative}
+use Rattle.ab_alternatives.specs.Made.{equate, trees_from, fresh_in, unchosen_in, base_in, own_in, filled_in, IsRaised}
 use Rattle.ab_alternatives.proofs.Raised.{raised_on}
-use Rattle.ab_alternatives.proofs.Assembled.{equate_trees, equate_typed, given_stays, still_held, same_signature, names_same, taken_on, cells_same, variables_same}
+use Rattle.ab_alternatives.proofs.Assembled.{equate_trees, equate_typed, given_stays, still_held, names_same, taken_on, cells_same, variables_same}
 
 abbrev x : List ℕ
 x = codes "x"

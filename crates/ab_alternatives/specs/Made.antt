@@ -9,7 +9,7 @@ use Rattle.ab_store.specs.declared.node.TermId.{TermId}
 use Rattle.ab_store.specs.declared.node.CellId.{CellId}
 use Rattle.ab_store.specs.declared.node.Equation.{Equation}
 use Rattle.ab_types.specs.Ids.{type_of}
-use Rattle.ab_store.specs.Trees.{Read, Contents, Holds, HoldsCell, cell_of, tree_of}
+use Rattle.ab_store.specs.Trees.{Contents, Holds, HoldsCell, cell_of, tree_of}
 use Rattle.ab_store.specs.Naming.{IsTerm}
 use Rattle.ab_solve.specs.Replacing.{Cell}
 use Rattle.ab_solve.specs.Solving as solve

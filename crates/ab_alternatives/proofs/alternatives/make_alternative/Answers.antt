@@ -1,9 +1,7 @@
-use Rattle.std.proofs.Common.{◌≡◌, List, ℕ, codes, map, Some, length, sym, ◌∙◌, ap, subst}
-use Rattle.ab_term.specs.Types.{Ty, prop}
+use Rattle.std.proofs.Common.{◌≡◌, List, ℕ, map, Some, sym, ◌∙◌, ap, subst}
 use Rattle.ab_term.specs.Typing.{Signature}
 use Rattle.ab_term.specs.Terms.{Nominal}
-use Rattle.ab_types.specs.Entries.{Table, signature}
-use Rattle.ab_store.specs.Trees.{Contents}
+use Rattle.ab_types.specs.Entries.{signature}
 use Rattle.ab_norm.specs.Nominals.{HoldsNominal}
 use Rattle.std.specs.List.{All}
 use Rattle.ab_cases.specs.Choices.{outside}
@@ -15,8 +13,8 @@ use Rattle.ab_store.specs.Trees.{tree_of}
 use Rattle.ab_clauses.specs.Kept.{Clause}
 use Rattle.ab_clauses.specs.Cases.{case_of, IsWellKept}
 use Rattle.ab_clauses.specs.Readings.{clause_of, name_of}
-use Rattle.ab_unifying.proofs.Growth.{grows_on, grows_terms}
-use Rattle.ab_instances.specs.Readings.{names_read, given_at}
+use Rattle.ab_unifying.proofs.Growth.{grows_on}
+use Rattle.ab_instances.specs.Readings.{names_read}
 use Rattle.ab_instances.proofs.Made.{names_stay, names_held}
 use Rattle.ab_alternatives.specs.Made.{equate, trees_from}
 use Rattle.ab_alternatives.proofs.Assembled.{clause_stays, clause_held, same_signature}

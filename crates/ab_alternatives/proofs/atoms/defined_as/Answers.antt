@@ -1,5 +1,5 @@
 use Rattle.std.specs.Option.{option_copied}
-use Rattle.std.proofs.Common.{rules, ◌≡◌, Some, sym, ◌∙◌, ap, subst}
+use Rattle.std.proofs.Common.{rules, sym, ◌∙◌, ap, subst}
 use Rattle.ab_store.specs.Naming.{NodeIsTyped, HeadIsTyped}
 use Rattle.ab_logic.specs.Worlds.{IsKeptBlock}
 use Rattle.ab_alternatives.proofs.Kept.{kept_block}

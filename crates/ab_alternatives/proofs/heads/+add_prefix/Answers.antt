@@ -1,13 +1,12 @@
-use Rattle.std.proofs.Common.{◌≡◌, ◌≤◌, ◌<◌, [], ◌∷◌, ◌++◌, map, length, get_or, arith, ap, sym, ◌∙◌, subst, append_assoc, append-nil}
+use Rattle.std.proofs.Common.{◌≤◌, ◌<◌, ◌++◌, map, length, get_or, arith, ap, sym, ◌∙◌, subst, append-nil}
 use Rattle.ab_norm.proofs.Frame.{spine_names, lam_names}
 use Rattle.ab_store.specs.declared.node.TermId.{TermId}
 use Rattle.std.specs.List.{All}
-use Rattle.std.proofs.lemmas.List.{map-append}
 use Rattle.std.proofs.lemmas.List.Elements.{All-push, All-same}
 use Rattle.ab_types.specs.Ids.{HoldsType, type_of}
 use Rattle.ab_store.specs.declared.node.Head.TheVariants.{Logic}
 use Rattle.ab_store.specs.Naming.{NodeIsTyped, HeadIsTyped}
-use Rattle.ab_alternatives.proofs.Walks.{no_prefix, prefix_below}
+use Rattle.ab_alternatives.proofs.Walks.{no_prefix}
 use Rattle.ab_alternatives.proofs.heads.+add_prefix.Goals as goal
 
 pub returns-in_default-as_slice-2-clause-types : goal.returns-in_default-as_slice-2-clause-types

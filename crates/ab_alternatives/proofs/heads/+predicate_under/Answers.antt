@@ -1,6 +1,5 @@
 use Rattle.std.proofs.Common.{◌≤◌, length, arith, ap, ◌∙◌, subst}
 use Rattle.std.specs.Prelude.{IfSome}
-use Rattle.std.specs.Option.{IsSome}
 use Rattle.std.proofs.Common.{Option, Some, None}
 use Rattle.ab_store.specs.declared.node.Head.TheVariants.{Logic}
 use Rattle.ab_store.specs.Naming.{NodeIsTyped, HeadIsTyped}

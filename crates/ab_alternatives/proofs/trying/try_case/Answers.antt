@@ -1,17 +1,11 @@
 use Rattle.std.specs.List.{All}
 use Rattle.std.specs.Prelude.{AllPairs, Contains}
-use Rattle.std.proofs.Common.{◌≡◌, ◌≢◌, ◌≤◌, ◌<◌, List, ◌++◌, Ok, map, length, take, refl, sym, ◌∙◌, ap, subst}
-use Rattle.ab_types.specs.Entries.{Table}
+use Rattle.std.proofs.Common.{◌≢◌, ◌≤◌, ◌<◌, List, ◌++◌, Ok, map, length, take, refl, sym, ◌∙◌, ap, subst}
 use Rattle.ab_store.specs.declared.node.CellId.{CellId}
-use Rattle.ab_store.specs.Trees.{Contents}
-use Rattle.ab_unifying.specs.Changed as changed
 use Rattle.ab_unifying.proofs.Growth.{grows_on}
-use Rattle.ab_logic.specs.Growth.{Grows}
-use Rattle.ab_logic.specs.Sequents.{Variable}
-use Rattle.ab_logic.specs.Worlds.{IsWorld, variable_of, declarations_of}
+use Rattle.ab_logic.specs.Worlds.{declarations_of}
 use Rattle.ab_logic.specs.declared.world.World.{World}
 use Rattle.ab_logic.specs.declared.sequent.Sequent.{Sequent as Kept}
-use Rattle.ab_equate.proofs.Going.{world_meanwhile}
 use Rattle.ab_equate.proofs.Restored as restored
 use Rattle.ab_solver.proofs.Cut.{cut_as_before, cut_grows}
 use Rattle.ab_logic.specs.Formulas.{IsFormula}
@@ -21,7 +15,6 @@ use Rattle.ab_logic.specs.Readings.{sequent_of, HoldsSequent}
 use Rattle.ab_store.specs.Trees.{HoldsCell}
 use Rattle.ab_instances.specs.Binding.{CanBeBound}
 use Rattle.ab_equate.specs.Meanwhile.{count_before}
-use Rattle.ab_equate.specs.declared.cases.CaseSolution.TheVariants.{Unified, Apart, Stuck}
 use Rattle.ab_logic.specs.Names.{IsNamedFor}
 use Rattle.ab_equate.specs.Cases.{Arises, NeverArises, IsOpen}
 use Rattle.ab_unifying.specs.Problem.{cell_read, cells_read}
