@@ -8,4 +8,4 @@ mod serving;
 
 pub use erasing::without_marks;
 pub use marking::{mark_atoms, marked};
-pub use serving::marks_serve_in;
+pub use serving::{Seen, look_at, marks_serve_in};

@@ -229,7 +229,7 @@ fn made(store: &Store, making: Making, head: Head, args: &[TermId]) -> Seen
 }
 
 /// Where the marks of a formula stand. Those of an abstraction are those of its body.
-fn look_at(store: &Store, id: TermId) -> Seen
+pub fn look_at(store: &Store, id: TermId) -> Seen
     requires { Holds store.now id }
     ensures seen { (types : Table) → marks_seen types store.now result ≡ marks_of (tree_of types store.now id) }
     ensures below { PartsBelow id.0 result }
