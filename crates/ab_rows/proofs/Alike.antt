@@ -36,6 +36,9 @@ pub record Alike (D : Declarations) (N : List Nominal) (s : Sequent) (Fs : List 
   pub first : IsFine D N s Fs
   pub second : IsFine D N u Gs
 
+pub flipped : (D : Declarations) (N : List Nominal) (s u : Sequent) (Fs Gs : List Read) → Alike D N s Fs u Gs → Alike D N u Gs s Fs
+flipped D N s u Fs Gs a = record { goals = sym a.goals; formulas = sym a.formulas; one = a.one; first = a.second; second = a.first }
+
 pub closed_goal : (D : Declarations) (N : List Nominal) (s : Sequent) → IsGoal D N s → IsClosed s
 closed_goal D N s g = record {
   conclusion = g.conclusion.closed;

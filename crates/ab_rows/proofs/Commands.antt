@@ -1,4 +1,5 @@
 -- The rows of proof commands that open nothing are settled.
+use Rattle.std.specs.Prelude.{codes}
 use Rattle.std.proofs.Common.{◌≡◌, inl, inr, List, [], ◌∷◌, ◌++◌, Some, None, ℕ, refl, sym, ◌∙◌, ap, subst}
 use Rattle.ab_term.specs.Types.{Ty, prop}
 use Rattle.ab_term.specs.Substitution.{instance}
@@ -7,16 +8,21 @@ use Rattle.ab_grammar.specs.Tree.{Tree}
 use Rattle.ab_grammar.specs.CommandTrees.{ProofCommand, intros, induction, coinduction, case, apply, backchain, cut, inst, monotone, search, split, split_all, left, right, exists, unfold_goal, assert, clear, rename, permute}
 use Rattle.ab_logic.specs.Declarations.{Declarations, signature_in}
 use Rattle.ab_logic.specs.Formulas.{IsFormula}
-use Rattle.ab_logic.specs.Sequents.{Sequent, proving, assuming}
-use Rattle.ab_logic.specs.Names.{Label, auto, given, Names, NoName}
-use Rattle.ab_rules.proofs.OneAnswer.{names_once}
-use Rattle.ab_effects.specs.Effect.{effect, reading, stating, naming}
+use Rattle.ab_logic.specs.Marks.{plain, star_of, at_of, plus_of, hash_of}
+use Rattle.ab_logic.specs.Sequents.{Sequent, IsUsed, proving, assuming}
+use Rattle.ab_logic.specs.Names.{Label, auto, given, Names, NoName, IsLeast}
+use Rattle.ab_induction.specs.Places.{marked_antecedent, marked_consequent}
+use Rattle.ab_induction.specs.Levels.{next_level, inductive_level, coinductive_level}
+use Rattle.ab_rules.proofs.OneAnswer.{least_once, names_once}
+use Rattle.ab_goals.specs.Goals.{named}
+use Rattle.ab_effects.specs.Effect.{effect, reading, stating, naming, marked_so, numbered, IsNamedBy, hypothesis_named}
 use Rattle.ab_effects.specs.Introducing.{Parts, alone, parted}
 use Rattle.ab_effects.specs.Refusals.{Refusal}
 use Rattle.ab_effects.specs.Row.{Row, leads}
 use Rattle.ab_effects.specs.Terms.{Asserts, AssertsNothing}
 use Rattle.ab_rows.specs.Opening.{OpensNothing}
 use Rattle.ab_rows.proofs.Settled.{Settled}
+use Rattle.ab_rows.proofs.Namings.{used_also}
 use Rattle.ab_rows.proofs.OneReading.{means_or_not, one_meaning, one_cause}
 
 pub never_named : (l : Label) (s : Sequent) (x : List ℕ) (t : Sequent) → Names l s x t → NoName l s → ⊥
@@ -70,6 +76,23 @@ naming_settled l s k rest = (
         pair : List ℕ → Sequent → List ℕ × Sequent
         pair x t = (x, t)
 
+-- a hypothesis of induction gets one name, in goals that are one with names for numbers
+pub named_by_once : (word : List ℕ) (l : Label) (s u : Sequent) → named s ≡ named u → (x y : List ℕ) → IsNamedBy word l s x → IsNamedBy word l u y → x ≡ y
+named_by_once word auto s u same x y a b =
+    let Free : ℕ → Type 0 = λ m. ¬ IsUsed u (numbered word m) in
+    let also : IsLeast Free a.0 = record {
+      has = λ used. a.1.has (used_also u s (sym same) (numbered word a.0) used);
+      first = λ m l free. a.1.first m l (λ used. free (used_also s u same (numbered word m) used));
+    } in
+    a.2 ∙ ap (numbered word) (least_once Free a.0 b.0 also b.1) ∙ sym b.2
+named_by_once word (given z) s u same x y a b = a ∙ sym b
+
+marked_settled : (P : Type 0) (k : Row) → Settled k → Settled (marked_so P k)
+marked_settled P k rest = (λ u f p n. n.0 p, λ f g m n. m.1 ∙ sym n.1, λ u v p q. refl, λ u. rest)
+
+sized_settled : (word : List ℕ) (l : Label) (s : Sequent) (k : List ℕ → Sequent) → Settled (hypothesis_named word l s (λ name. leads (k name ∷ [])))
+sized_settled word l s k = (λ x f m n. n, λ f g m n. absurd m, λ x y m n. named_by_once word l s s refl x y m n, λ x. tt)
+
 pub settled : (D : Declarations) (l : Label) (command : ProofCommand) (s : Sequent) → OpensNothing command → Settled (effect D l command s)
 settled D l (intros xs) s no_opening = absurd no_opening
 settled D l (case H keep) s no_opening = absurd no_opening
@@ -83,13 +106,19 @@ settled D l (assert e) s so =
     (λ F. naming_settled l s (λ name t. leads (proving F s ∷ assuming name F t ∷ [])) (λ x t. tt))
 settled D l (clear Hs) s so = tt
 settled D l (rename H x) s so = λ F. tt
-settled D l (induction n) s so = tt
-settled D l coinduction s so = tt
+settled D l (induction n) s so = λ d.
+    let i = next_level inductive_level s in
+    let premise : List ℕ → Sequent = λ x. proving (marked_antecedent n (at_of i) s.conclusion) (assuming x (marked_antecedent n (star_of i) s.conclusion) s) in
+    marked_settled (d.sign ≡ plain) (hypothesis_named (codes "IH") l s (λ x. leads (premise x ∷ []))) (sized_settled (codes "IH") l s premise)
+settled D l coinduction s so = λ d.
+    let i = next_level coinductive_level s in
+    let premise : List ℕ → Sequent = λ x. proving (marked_consequent (hash_of i) s.conclusion) (assuming x (marked_consequent (plus_of i) s.conclusion) s) in
+    marked_settled (d.sign ≡ plain) (hypothesis_named (codes "CH") l s (λ x. leads (premise x ∷ []))) (sized_settled (codes "CH") l s premise)
 settled D l (apply H vs is) s so = tt
 settled D l (backchain H is) s so = tt
 settled D l (cut H K) s so = tt
 settled D l (inst H is) s so = tt
 settled D l (monotone H e) s so = tt
 settled D l (search n) s so = tt
-settled D l unfold_goal s so = tt
+settled D l unfold_goal s no_opening = absurd no_opening
 settled D l (permute ns x) s so = tt

@@ -11,4 +11,8 @@ mod Rescoped
 mod Reread
 pub mod Retold
 mod Equations
+mod Bodies
+mod Parting
+mod Unfolded
+pub mod Remarked
 pub mod Once

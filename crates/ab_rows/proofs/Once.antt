@@ -1,39 +1,54 @@
 -- Each row of a proof command has one answer, with names for the numbers of variables: in goals that are one with names for
 -- numbers, and so in one goal.
+use Rattle.std.specs.Prelude.{codes}
 use Rattle.std.proofs.Common.{◌≡◌, inl, inr, ℕ, List, [], ◌∷◌, map, Bool, true, false, Option, Some, None, option_map, refl, sym, ◌∙◌, ap, subst}
-use Rattle.std.proofs.lemmas.List.Elements.{All-nil, All-cons}
+use Rattle.std.proofs.lemmas.List.Elements.{All-nil, All-cons, All-weaker}
 use Rattle.ab_term.specs.Types.{Ty, prop}
-use Rattle.ab_term.specs.Terms.{Nominal}
+use Rattle.ab_term.specs.Terms.{Nominal, constant, spine}
 use Rattle.ab_term.specs.Names.{HasOneTypeEach}
 use Rattle.ab_term.specs.Substitution.{instance}
-use Rattle.ab_term.proofs.Translations.{translate-instance}
+use Rattle.ab_term.proofs.Translations.{map-append, translate-instance}
 use Rattle.ab_store.specs.Trees.{Read}
 use Rattle.ab_grammar.specs.Tree.{Tree}
 use Rattle.ab_grammar.specs.CommandTrees.{ProofCommand, intros, induction, coinduction, case, apply, backchain, cut, inst, monotone, search, split, split_all, left, right, exists, unfold_goal, assert, clear, rename, permute}
-use Rattle.ab_logic.specs.Declarations.{Declarations, signature_in}
+use Rattle.ab_cases.specs.Clauses.{IsClause}
+use Rattle.ab_logic.specs.Declarations.{Declarations, signature_in, IsDefining, HaveDefinitions}
 use Rattle.ab_logic.specs.Forms as form
 use Rattle.ab_logic.specs.Forms.{Form, form_of, either_in, equal_in, as_both, as_either, as_exists}
 use Rattle.ab_logic.specs.Names.{Label, given, Names}
 use Rattle.ab_logic.specs.Sequents.{Sequent, IsSequent, HoldsOnly, formula_of, goal_names, without, proving, assuming}
+use Rattle.ab_logic.specs.Marks.{plain, star_of, at_of, plus_of, hash_of}
+use Rattle.ab_marks.specs.Marking.{MayBeAnalysed, MayBeUnfolded}
+use Rattle.ab_analysis.specs.Atoms.{Defined, defined_atom}
+use Rattle.ab_induction.specs.Places.{inductive_at, coinductive_in, marked_antecedent, marked_consequent}
+use Rattle.ab_induction.specs.Levels.{next_level, inductive_level, coinductive_level}
 use Rattle.ab_rules.proofs.Parts.{MayStand, either_may}
 use Rattle.ab_rules.proofs.Sequents.{IsGoal, goal_of, found_may, without_goal, sequent_from}
+use Rattle.ab_rules.proofs.Sized.{atom_of, atom_over}
 use Rattle.ab_goals.specs.Goals.{name_in, with_names, named}
-use Rattle.ab_effects.specs.Effect.{effect, opening, cases, introducing, reading, naming, left_over, clashing, clashing_names, missing, cleared}
+use Rattle.ab_effects.specs.Effect.{effect, opening, cases, analysing, marked_so, IsNamedBy, hypothesis_named, introducing, reading, naming, left_over, clashing, clashing_names, missing, cleared}
+use Rattle.ab_effects.specs.Analysing.{IsParted, IsUnparted, AllOpened, SomeNameless}
+use Rattle.ab_effects.specs.Unfolding.{IsUnfolded, IsNotUnfolded}
 use Rattle.ab_effects.specs.Introducing.{taken_off, Parts}
-use Rattle.ab_effects.specs.Refusals.{Refusal, no_hypothesis, wrong_shape, not_pattern}
+use Rattle.ab_effects.specs.Refusals.{Refusal, no_hypothesis, wrong_shape, mark, not_pattern, names_spent}
 use Rattle.ab_effects.specs.Solving.{IsSolved, IsOutside}
 use Rattle.ab_effects.specs.Row.{Row, leads, unless, finds, makes, Leads, Refuses}
 use Rattle.ab_equate.proofs.Sides.{equation_sides}
-use Rattle.ab_alike.specs.Alike.{IsSameTerm, IsSameEquation}
+use Rattle.ab_alike.specs.Alike.{IsSameTerm, IsSameEquation, IsSameAtom, IsSameRest}
+use Rattle.ab_alike.proofs.Following.{moved_atom}
 use Rattle.ab_rows.proofs.Equations.{turned, solved_or_not, solved_once}
-use Rattle.ab_rows.proofs.Commands.{never_named, one_parting}
+use Rattle.ab_rows.proofs.Commands.{never_named, one_parting, named_by_once}
 use Rattle.ab_rows.proofs.Namings.{same_constants, names_alike, nameless_also}
-use Rattle.ab_rows.proofs.Alike.{Alike, assumed_alike}
+use Rattle.ab_rows.proofs.Alike.{Alike, flipped, assumed_alike}
 use Rattle.ab_rows.proofs.OneWay.{opened_once, opened_or_not}
+use Rattle.ab_rows.proofs.Bodies.{bodies_turned, all_opened_once, all_opened_or_not}
+use Rattle.ab_rows.proofs.Parting.{MayBeSplit, turned_rest, parted_alike, parted_or_not, one_unparting}
+use Rattle.ab_rows.proofs.Unfolded.{turned_atom, unfolded_once, unfolded_or_not, not_unfolded, one_cause}
 use Rattle.ab_rows.proofs.OneIntroduction.{introduced_once, introduced_or_not}
-use Rattle.ab_rows.proofs.Renumbered.{Renumbering, renumber, renumber_variable, renumbered, renumbering}
+use Rattle.ab_rows.proofs.Renumbered.{Renumbering, renumber, renumber_variable, renumber_hypothesis, renumbered, renumbering}
 use Rattle.ab_rows.proofs.Reread.{meaning_or_not, not_or_means, same_meaning, cause_alike, states_or_not, not_or_states, faults_alike}
 use Rattle.ab_rows.proofs.Retold.{form_told, form_retold, as_both_told, as_either_told, as_exists_told, taken_off_told, parts_told, formula_told, clashing_told, clashing_names_told, missing_told, without_told, cleared_told, cleared_variables, KeepsNames, formula_named, goal_named}
+use Rattle.ab_rows.proofs.Remarked.{level_told, atom_told, inductive_told, coinductive_told, marked_antecedent_told, marked_consequent_told}
 
 -- the rows lead or refuse alike, for one cause, and their goals are one list with names for numbers
 pub record AreOnce (r q : Row) : Type 0 where
@@ -105,14 +120,17 @@ once_makes P N Q M k j or_not not_or cause once = record { apart = apart; refusa
 once_alone : (o : Option Refusal) → AreOnce (unless o (leads [])) (unless o (leads []))
 once_alone o = once_unless o o (leads []) (leads []) refl (once_leads [] [] refl)
 
+-- a mark is to be as is asked of both
+once_marked : (P : Type 0) (k j : Row) → AreOnce k j → AreOnce (marked_so P k) (marked_so P j)
+once_marked P k j once =
+    once_makes {A = Unit {0}} {B = Unit {0}} (λ u. P) (λ f. (¬ P) × (f ≡ mark)) (λ u. P) (λ f. (¬ P) × (f ≡ mark)) (λ u. k) (λ u. j)
+    (λ u g p n. n.0 p) (λ g u n p. n.0 p) (λ f g m n. m.1 ∙ sym n.1) (λ u v p q. once)
+
 one_same : (x y : Sequent) → named x ≡ named y → map named (x ∷ []) ≡ map named (y ∷ [])
 one_same x y e = ap (λ a. a ∷ []) e
 
 two_same : (x y z w : Sequent) → named x ≡ named y → named z ≡ named w → map named (x ∷ z ∷ []) ≡ map named (y ∷ w ∷ [])
 two_same x y z w e f = ap (λ a. a ∷ named z ∷ []) e ∙ ap (λ b. named y ∷ b ∷ []) f
-
-flipped : (D : Declarations) (N : List Nominal) (s u : Sequent) (Fs Gs : List Read) → Alike D N s Fs u Gs → Alike D N u Gs s Fs
-flipped D N s u Fs Gs a = record { goals = sym a.goals; formulas = sym a.formulas; one = a.one; first = a.second; second = a.first }
 
 -- a formula is opened
 once_opening : (D : Declarations) (l : Label) (N : List Nominal) (s u : Sequent) (F G : Read) → Alike D N s (F ∷ []) u (G ∷ []) → (k j : Sequent → Row) → ((t v : Sequent) → named t ≡ named v → AreOnce (k t) (j v))
@@ -125,7 +143,7 @@ once_opening D l N s u F G alike k j once =
     (λ a b m n. once a.1 b.1 (opened_once m N u (G ∷ []) alike b.0 b.1 n).1)
 
 -- TWO GOALS that are one but for the numbers
-module _ (D : Declarations) (s : Sequent) (f : ℕ → ℕ) (is : IsSequent D s) (its : IsSequent D (renumbered f s)) (names : KeepsNames f s.variables) where
+module _ (D : Declarations) (definitions : HaveDefinitions D) (s : Sequent) (f : ℕ → ℕ) (is : IsSequent D s) (its : IsSequent D (renumbered f s)) (names : KeepsNames f s.variables) where
   abbrev u : Sequent
   u = renumbered f s
 
@@ -153,6 +171,24 @@ module _ (D : Declarations) (s : Sequent) (f : ℕ → ℕ) (is : IsSequent D s)
 
   abbrev Can : Read → Type 0
   Can = MayStand (signature_in D) (map (renumber_variable f) s.variables) (goal_names s)
+
+  -- an atom that is defined, of a formula that may stand in the goal
+  same_atom : (F : Read) → May F → Can (renumber f F) → (d : Defined) → defined_atom D F ≡ Some d → IsSameAtom D s u d (moved_atom f d)
+  same_atom F may can d is_atom =
+      let atom : Read = spine (constant d.predicate) d.arguments in
+      record {
+        first = is;
+        second = its;
+        goals = same;
+        atoms = record {
+          first = (atom_over D s.variables (goal_names s) F d may is_atom).closed;
+          second = (atom_over D (map (renumber_variable f) s.variables) (goal_names s) (renumber f F) (moved_atom f d) can (atom_told f D F ∙ ap (option_map (moved_atom f)) is_atom)).closed;
+          same = formula_named f s names atom;
+        };
+        signs = refl;
+        blocks = refl;
+        clauses = All-weaker (IsDefining (signature_in D)) (IsClause (signature_in D)) (λ c well. well.clause) d.block.clauses (definitions d.predicate d.block (atom_of D F d is_atom).block);
+      }
 
   alike_goals : Alike D (goal_names s) s [] u []
   alike_goals = record {
@@ -206,7 +242,67 @@ module _ (D : Declarations) (s : Sequent) (f : ℕ → ℕ) (is : IsSequent D s)
           right = side v sides.right_closed others.right_closed;
         }
 
-    once_cases : (k : Form) → form_of F ≡ k → AreOnce (cases D k F l b) (cases D (form_told f k) (renumber f F) l (renumbered f b))
+    -- an atom of the formula
+    module _ (d : Defined) (is_atom : defined_atom D F ≡ Some d) where
+      abbrev e2 : Defined
+      e2 = moved_atom f d
+
+      atom_there : defined_atom D (renumber f F) ≡ Some e2
+      atom_there = atom_told f D F ∙ ap (option_map (moved_atom f)) is_atom
+
+      first_split : MayBeSplit D s b d
+      first_split = record { goal = is; left = g; over = e; atom = atom_over D s.variables (goal_names s) F d may is_atom; block = (atom_of D F d is_atom).block }
+
+      second_split : MayBeSplit D u (renumbered f b) e2
+      second_split =
+          let constants = same_constants s u same in
+          record {
+            goal = its;
+            left = subst (λ N. IsGoal D N (renumbered f b)) constants h;
+            over = ap (map (renumber_variable f)) e;
+            atom = atom_over D u.variables (goal_names u) (renumber f F) e2 (subst (λ N. MayStand (signature_in D) u.variables N (renumber f F)) constants can) atom_there;
+            block = (atom_of D (renumber f F) e2 atom_there).block;
+          }
+
+      atoms : IsSameAtom D s u d e2
+      atoms = same_atom F may can d is_atom
+
+      rests : IsSameRest D s u b (renumbered f b)
+      rests = record {
+        first = sequent_from D (goal_names s) b one_type g;
+        second = sequent_from D (goal_names s) (renumbered f b) one_type h;
+        goals = also b e;
+        first_over = e;
+        second_over = ap (map (renumber_variable f)) e;
+      }
+
+      abbrev opened_all : List Sequent → Row
+      opened_all gs = makes {A = List Sequent} (AllOpened D l gs) (λ c. SomeNameless D l gs × (c ≡ names_spent)) leads
+
+      once_opened : (gs hs : List Sequent) → IsParted D s b d gs → IsParted D u (renumbered f b) e2 hs → AreOnce (opened_all gs) (opened_all hs)
+      once_opened gs hs m n =
+          let bodies = parted_alike D s u b (renumbered f b) d e2 atoms rests definitions first_split second_split gs hs m n in
+          once_makes (AllOpened D l gs) (λ c. SomeNameless D l gs × (c ≡ names_spent)) (AllOpened D l hs) (λ c. SomeNameless D l hs × (c ≡ names_spent)) leads leads
+          (λ us c m n. all_opened_or_not m n.0 bodies)
+          (λ c vs m n. all_opened_or_not n m.0 (bodies_turned D gs hs bodies))
+          (λ c k m n. m.1 ∙ sym n.1)
+          (λ us vs m n. once_leads us vs (all_opened_once m n bodies))
+
+      once_split_so :
+          AreOnce (marked_so (MayBeAnalysed d.sign) (makes {A = List Sequent} (IsParted D s b d) (IsUnparted D s b d) opened_all))
+          (marked_so (MayBeAnalysed e2.sign) (makes {A = List Sequent} (IsParted D u (renumbered f b) e2) (IsUnparted D u (renumbered f b) e2) opened_all))
+      once_split_so =
+          once_marked (MayBeAnalysed d.sign) _ _
+          (once_makes (IsParted D s b d) (IsUnparted D s b d) (IsParted D u (renumbered f b) e2) (IsUnparted D u (renumbered f b) e2) opened_all opened_all
+          (λ gs c m n. parted_or_not D s u b (renumbered f b) d e2 atoms rests gs c m n)
+          (λ c hs m n. parted_or_not D u s (renumbered f b) b e2 d (turned_atom D s u d e2 atoms) (turned_rest D s u b (renumbered f b) rests) hs c n m)
+          (λ c k m n. one_unparting D s u b (renumbered f b) d e2 atoms rests c k m n)
+          once_opened)
+
+    once_analysing : AreOnce (analysing D F l s b) (analysing D (renumber f F) l u (renumbered f b))
+    once_analysing = once_finds wrong_shape (defined_atom D F) (defined_atom D (renumber f F)) (moved_atom f) (atom_told f D F) _ _ (λ d is_atom. once_split_so d is_atom)
+
+    once_cases : (k : Form) → form_of F ≡ k → AreOnce (cases D k F l s b) (cases D (form_told f k) (renumber f F) l u (renumbered f b))
     once_cases form.truth is = whole
     once_cases (form.both A B) is = whole
     once_cases (form.exists A t) is = whole
@@ -226,11 +322,11 @@ module _ (D : Declarations) (s : Sequent) (f : ℕ → ℕ) (is : IsSequent D s)
         (λ c d m n. m.1 ∙ sym n.1)
         (λ gs hs m n. once_leads gs hs (solved_once D b (renumbered f b) t v (renumber f t) (renumber f v) (equation A t v is) gs hs m n))
     once_cases (form.for_all A t) is = once_alone (Some wrong_shape)
-    once_cases (form.marked m t) is = once_alone (Some wrong_shape)
-    once_cases form.other is = once_alone (Some wrong_shape)
+    once_cases (form.marked m t) is = once_analysing
+    once_cases form.other is = once_analysing
 
-    once_case_of : AreOnce (cases D (form_of F) F l b) (cases D (form_of (renumber f F)) (renumber f F) l (renumbered f b))
-    once_case_of = subst (λ k. AreOnce (cases D (form_of F) F l b) (cases D k (renumber f F) l (renumbered f b))) (sym (form_retold f F)) (once_cases (form_of F) refl)
+    once_case_of : AreOnce (cases D (form_of F) F l s b) (cases D (form_of (renumber f F)) (renumber f F) l u (renumbered f b))
+    once_case_of = subst (λ k. AreOnce (cases D (form_of F) F l s b) (cases D k (renumber f F) l u (renumbered f b))) (sym (form_retold f F)) (once_cases (form_of F) refl)
 
   module _ (H : List ℕ) (F : Read) (there : formula_of s H ≡ Some F) where
     found_first : May F
@@ -242,13 +338,13 @@ module _ (D : Declarations) (s : Sequent) (f : ℕ → ℕ) (is : IsSequent D s)
   once_case : (l : Label) (H : List ℕ) (keep : Bool) → AreOnce (effect D l (case H keep) s) (effect D l (case H keep) u)
   once_case l H true =
       once_unless (clashing l s) (clashing l u) _ _ (sym (clashing_told f l s))
-      (once_finds (no_hypothesis H) (formula_of s H) (formula_of u H) (renumber f) (formula_told f s H) (λ F. cases D (form_of F) F l s) (λ F. cases D (form_of F) F l u)
+      (once_finds (no_hypothesis H) (formula_of s H) (formula_of u H) (renumber f) (formula_told f s H) (λ F. cases D (form_of F) F l s s) (λ F. cases D (form_of F) F l u u)
       (λ F e. once_case_of l s refl first second F (found_first H F e) (found_second H F e)))
   once_case l H false =
       let gone : IsGoal D (goal_names s) (renumbered f (without H s)) = subst (IsGoal D (goal_names s)) (without_told f H s) (without_goal D (goal_names s) u H second) in
       once_unless (clashing l s) (clashing l u) _ _ (sym (clashing_told f l s))
-      (once_finds (no_hypothesis H) (formula_of s H) (formula_of u H) (renumber f) (formula_told f s H) (λ F. cases D (form_of F) F l (without H s)) (λ F. cases D (form_of F) F l (without H u))
-      (λ F e. subst (λ w. AreOnce (cases D (form_of F) F l (without H s)) (cases D (form_of (renumber f F)) (renumber f F) l w)) (sym (without_told f H s))
+      (once_finds (no_hypothesis H) (formula_of s H) (formula_of u H) (renumber f) (formula_told f s H) (λ F. cases D (form_of F) F l s (without H s)) (λ F. cases D (form_of F) F l u (without H u))
+      (λ F e. subst (λ w. AreOnce (cases D (form_of F) F l s (without H s)) (cases D (form_of (renumber f F)) (renumber f F) l u w)) (sym (without_told f H s))
       (once_case_of l (without H s) refl (without_goal D (goal_names s) s H first) gone F (found_first H F e) (found_second H F e))))
 
   -- a conclusion is taken apart
@@ -344,6 +440,62 @@ module _ (D : Declarations) (s : Sequent) (f : ℕ → ℕ) (is : IsSequent D s)
       (one_same (assuming x F (without H s)) (assuming x (renumber f F) (without H u))
       (assumed_alike s u (without H s) (without H u) x x F (renumber f F) refl (also (without H s) refl ∙ ap named (sym (without_told f H s))) refl refl (formula_named f s names F)))))
 
+  -- the conclusion is unfolded
+  once_unfold : (l : Label) → AreOnce (effect D l unfold_goal s) (effect D l unfold_goal u)
+  once_unfold l =
+      once_finds wrong_shape (defined_atom D s.conclusion) (defined_atom D u.conclusion) (moved_atom f) (atom_told f D s.conclusion) _ _
+      (λ d is_atom.
+      let atoms = same_atom s.conclusion first.conclusion second.conclusion d is_atom in
+      once_marked (MayBeUnfolded d.sign) _ _
+      (once_makes (IsUnfolded s d) (IsNotUnfolded s d) (IsUnfolded u (moved_atom f d)) (IsNotUnfolded u (moved_atom f d)) (λ t. leads (t ∷ [])) (λ t. leads (t ∷ []))
+      (λ t c m n. unfolded_or_not D s u d (moved_atom f d) atoms t c m n)
+      (λ c t m n. not_unfolded D s u d (moved_atom f d) atoms t c m n)
+      (λ c k m n. one_cause D s u d (moved_atom f d) atoms c k m n)
+      (λ t v m n. once_leads (t ∷ []) (v ∷ []) (one_same t v (unfolded_once D s u d (moved_atom f d) atoms t v m n)))))
+
+  -- a formula is assumed, by its name, and another one proved
+  sized_same : (x : List ℕ) (F C G E : Read) → G ≡ renumber f F → E ≡ renumber f C → named (proving C (assuming x F s)) ≡ named (proving E (assuming x G u))
+  sized_same x F C G E first_is second_is =
+      also (proving C (assuming x F s)) refl
+      ∙ ap (λ hs. named (record { variables = u.variables; hypotheses = hs; conclusion = renumber f C; counter = s.counter })) (map-append (renumber_hypothesis f) s.hypotheses (record { name = x; formula = F } ∷ []))
+      ∙ ap (λ H. named (proving (renumber f C) (assuming x H u))) (sym first_is)
+      ∙ ap (λ H. named (proving H (assuming x G u))) (sym second_is)
+
+  once_sized : (word : List ℕ) (l : Label) (k j : List ℕ → Sequent) → ((x : List ℕ) → named (k x) ≡ named (j x))
+      → AreOnce (hypothesis_named word l s (λ x. leads (k x ∷ []))) (hypothesis_named word l u (λ x. leads (j x ∷ [])))
+  once_sized word l k j one =
+      once_makes (IsNamedBy word l s) (λ c. ⊥) (IsNamedBy word l u) (λ c. ⊥) (λ x. leads (k x ∷ [])) (λ x. leads (j x ∷ []))
+      (λ x c m n. n) (λ c x m n. m) (λ c d m n. absurd m)
+      (λ x y m n. once_leads (k x ∷ []) (j y ∷ []) (one_same (k x) (j y) (one x ∙ ap (λ z. named (j z)) (named_by_once word l s u same x y m n))))
+
+  once_induction : (l : Label) (n : ℕ) → AreOnce (effect D l (induction n) s) (effect D l (induction n) u)
+  once_induction l n =
+      let i = next_level inductive_level s in
+      let j = next_level inductive_level u in
+      once_unless (clashing l s) (clashing l u) _ _ (sym (clashing_told f l s))
+      (once_finds wrong_shape (inductive_at D n s.conclusion) (inductive_at D n u.conclusion) (moved_atom f) (inductive_told f D n s.conclusion) _ _
+      (λ d e. once_marked (d.sign ≡ plain) _ _
+      (once_sized (codes "IH") l
+      (λ x. proving (marked_antecedent n (at_of i) s.conclusion) (assuming x (marked_antecedent n (star_of i) s.conclusion) s))
+      (λ x. proving (marked_antecedent n (at_of j) u.conclusion) (assuming x (marked_antecedent n (star_of j) u.conclusion) u))
+      (λ x. sized_same x (marked_antecedent n (star_of i) s.conclusion) (marked_antecedent n (at_of i) s.conclusion) (marked_antecedent n (star_of j) u.conclusion) (marked_antecedent n (at_of j) u.conclusion)
+      (ap (λ m. marked_antecedent n (star_of m) u.conclusion) (level_told f inductive_level s) ∙ marked_antecedent_told f n (star_of i) s.conclusion)
+      (ap (λ m. marked_antecedent n (at_of m) u.conclusion) (level_told f inductive_level s) ∙ marked_antecedent_told f n (at_of i) s.conclusion)))))
+
+  once_coinduction : (l : Label) → AreOnce (effect D l coinduction s) (effect D l coinduction u)
+  once_coinduction l =
+      let i = next_level coinductive_level s in
+      let j = next_level coinductive_level u in
+      once_unless (clashing l s) (clashing l u) _ _ (sym (clashing_told f l s))
+      (once_finds wrong_shape (coinductive_in D s.conclusion) (coinductive_in D u.conclusion) (moved_atom f) (coinductive_told f D s.conclusion) _ _
+      (λ d e. once_marked (d.sign ≡ plain) _ _
+      (once_sized (codes "CH") l
+      (λ x. proving (marked_consequent (hash_of i) s.conclusion) (assuming x (marked_consequent (plus_of i) s.conclusion) s))
+      (λ x. proving (marked_consequent (hash_of j) u.conclusion) (assuming x (marked_consequent (plus_of j) u.conclusion) u))
+      (λ x. sized_same x (marked_consequent (plus_of i) s.conclusion) (marked_consequent (hash_of i) s.conclusion) (marked_consequent (plus_of j) u.conclusion) (marked_consequent (hash_of j) u.conclusion)
+      (ap (λ m. marked_consequent (plus_of m) u.conclusion) (level_told f coinductive_level s) ∙ marked_consequent_told f (plus_of i) s.conclusion)
+      (ap (λ m. marked_consequent (hash_of m) u.conclusion) (level_told f coinductive_level s) ∙ marked_consequent_told f (hash_of i) s.conclusion)))))
+
   once_renumbered : (l : Label) (command : ProofCommand) → AreOnce (effect D l command s) (effect D l command u)
   once_renumbered l (intros xs) = once_intros l xs
   once_renumbered l (case H keep) = once_case l H keep
@@ -355,20 +507,20 @@ module _ (D : Declarations) (s : Sequent) (f : ℕ → ℕ) (is : IsSequent D s)
   once_renumbered l (assert e) = once_assert l e
   once_renumbered l (clear Hs) = once_clear l Hs
   once_renumbered l (rename H x) = once_rename l H x
-  once_renumbered l (induction n) = once_alone (Some wrong_shape)
-  once_renumbered l coinduction = once_alone (Some wrong_shape)
+  once_renumbered l (induction n) = once_induction l n
+  once_renumbered l coinduction = once_coinduction l
   once_renumbered l (apply H vs ws) = once_alone (Some wrong_shape)
   once_renumbered l (backchain H ws) = once_alone (Some wrong_shape)
   once_renumbered l (cut H K) = once_alone (Some wrong_shape)
   once_renumbered l (inst H ws) = once_alone (Some wrong_shape)
   once_renumbered l (monotone H e) = once_alone (Some wrong_shape)
   once_renumbered l (search n) = once_alone (Some wrong_shape)
-  once_renumbered l unfold_goal = once_alone (Some wrong_shape)
+  once_renumbered l unfold_goal = once_unfold l
   once_renumbered l (permute ns x) = once_alone (Some wrong_shape)
 
 -- EACH PROOF COMMAND has one answer in goals that are one with names for numbers
-pub once : (D : Declarations) (s u : Sequent) → IsSequent D s → IsSequent D u → named s ≡ named u → (l : Label) (command : ProofCommand) → AreOnce (effect D l command s) (effect D l command u)
-once D s u is its same l command =
+pub once : (D : Declarations) → HaveDefinitions D → (s u : Sequent) → IsSequent D s → IsSequent D u → named s ≡ named u → (l : Label) (command : ProofCommand) → AreOnce (effect D l command s) (effect D l command u)
+once D definitions s u is its same l command =
     let r = renumbering D s u is its same in
     let names : KeepsNames r.by s.variables = subst (λ (v : Sequent). (n : ℕ) → name_in v.variables (r.by n) ≡ name_in s.variables n) r.is r.names in
-    subst (λ v. AreOnce (effect D l command s) (effect D l command v)) (sym r.is) (once_renumbered D s r.by is (subst (IsSequent D) r.is its) names l command)
+    subst (λ v. AreOnce (effect D l command s) (effect D l command v)) (sym r.is) (once_renumbered D definitions s r.by is (subst (IsSequent D) r.is its) names l command)

@@ -14,7 +14,7 @@ mod Sides
 pub mod Scopes
 pub mod Parts
 mod Marked
-mod Sized
+pub mod Sized
 mod OneType
 mod Putting
 mod Raised
@@ -23,5 +23,6 @@ mod Unfolded
 mod Unfolding
 pub mod Sequents
 mod Cased
+pub mod Analysed
 pub mod Keeping
 pub mod OneList
