@@ -1,31 +1,24 @@
 -- Rules keep what is true of every sequent.
-use Rattle.std.specs.Prelude.{All, Contains, if◌then◌else◌, filter, bytes_eq, codes, slice_get}
-use Rattle.std.proofs.Common.{◌≡◌, ◌≢◌, inl, inr, ℕ, ◌-◌, List, [], ◌∷◌, ◌++◌, map, take, drop, length, Bool, true, false, Some, refl, sym, ◌∙◌, ap, subst}
-use Rattle.std.proofs.lemmas.List.Elements.{Contains-get_or, Contains-append_right, All-map, All-cons, All-contains, Contains-append_left, Contains-push, Contains-push_cases}
-use Rattle.std.proofs.lemmas.Slice.Eq.{bytes_eq-Decides}
+use Rattle.std.specs.Prelude.{All, Contains, if◌then◌else◌, codes, slice_get}
+use Rattle.std.proofs.Common.{◌≡◌, ◌≢◌, inl, inr, ℕ, List, [], ◌∷◌, ◌++◌, map, length, Bool, true, false, Some, refl, sym, ◌∙◌, ap, subst}
+use Rattle.std.proofs.lemmas.List.Elements.{Contains-get_or, Contains-append_right, All-cons, All-contains, Contains-append_left, Contains-push, Contains-push_cases}
 use Rattle.ab_term.specs.Types.{Ty, prop}
-use Rattle.ab_term.specs.Terms.{Nominal, constant, spine}
-use Rattle.ab_term.specs.Names.{support, support_of_all}
+use Rattle.ab_term.specs.Terms.{Nominal}
+use Rattle.ab_term.specs.Names.{support}
 use Rattle.ab_term.specs.Variables.{variables}
 use Rattle.ab_term.specs.Substitution.{instance}
-use Rattle.ab_term.proofs.Lists.{Contains-none, Contains-from_map, All-from_contains}
+use Rattle.ab_term.proofs.Lists.{Contains-none, All-from_contains}
 use Rattle.ab_store.specs.Trees.{Read}
 use Rattle.ab_logic.specs.Formulas.{IsFormula, HasOneTypeEach}
 use Rattle.ab_logic.specs.Declarations.{Declarations, signature_in, theorem_in, HaveSentences, HaveDefinitions, IsDefining}
-use Rattle.ab_logic.specs.Sequents.{Fits, Variable, Sequent, HoldsOnly, in_terms, goal_names, IsSequent, formula_of, proving, assuming, without, over}
+use Rattle.ab_logic.specs.Sequents.{Fits, Variable, Sequent, goal_names, IsSequent, formula_of, proving, assuming, without, over}
 use Rattle.ab_logic.specs.Forms.{as_equal, as_for_all, as_exists}
 use Rattle.ab_logic.specs.Names.{Label, Names, IsNoVariable}
 use Rattle.ab_solve.specs.Replacing.{Cell}
 use Rattle.ab_equate.specs.Solved.{AreCells}
-use Rattle.ab_equate.specs.Cases.{CaseOver, problem_of, Split}
-use Rattle.ab_equate.proofs.Carried.{cells_in_front}
-use Rattle.ab_cases.specs.Clauses.{Clause}
-use Rattle.ab_cases.specs.Choices.{in_order, choices}
-use Rattle.ab_cases.specs.Alternatives.{alternative, on_left}
-use Rattle.ab_cases.proofs.Choosing.{contains_kept, gathered_from}
-use Rattle.ab_marks.specs.Marking.{mark_below, marked_in}
+use Rattle.ab_equate.specs.Cases.{problem_of, Split}
 use Rattle.ab_analysis.specs.Atoms.{Defined, Choice, defined_atom, choices_of}
-use Rattle.ab_analysis.specs.Left.{raised_goal, case_of, cases_of}
+use Rattle.ab_analysis.specs.Left.{cases_of}
 use Rattle.ab_analysis.specs.Right.{unfolding_case, unfolded}
 use Rattle.std.proofs.lemmas.Option.{get_or_from_slice_get, slice_get_within}
 use Rattle.ab_solve.specs.Solving.{unified, Solves}
@@ -40,7 +33,7 @@ use Rattle.ab_induction.specs.Levels.{next_level, inductive_level, coinductive_l
 use Rattle.ab_induction.specs.Places.{marked_antecedent, marked_consequent}
 use Rattle.ab_rules.proofs.Analysed.{chosen_from, analysed_sequents}
 use Rattle.ab_rules.proofs.Unfolding.{chosen_one_type, unfolded_may}
-use Rattle.ab_rules.proofs.Sized.{IsAtomOver, atom_of, atom_over, antecedent_may, consequent_may}
+use Rattle.ab_rules.proofs.Sized.{atom_of, atom_over, antecedent_may, consequent_may}
 use Rattle.ab_equate.proofs.Sides.{equation_sides}
 use Rattle.ab_equate.proofs.Carried.{solved_is_sequent}
 use Rattle.ab_rules.proofs.Sequents.{IsGoal, goal_of, sequent_from, found_may, proving_goal, assuming_goal, without_goal, IsLabelled, labelled_goal, scope_more, names_more, over_goal, without_sequent}
