@@ -1,5 +1,6 @@
 //! Terms in short: a letter for each symbol, which stands before its arguments.
 ghost use Rattle.std.specs.Prelude.{IfOk, IfSome, OnOk, All};
+ghost use Rattle.ab_types.specs.Entries.{Table};
 ghost use Rattle.ab_types.specs.Ids.{HoldsType};
 ghost use Rattle.ab_store.specs.declared.node.TermId.{TermId};
 ghost use Rattle.ab_store.specs.Reading.{Contents, Holds, HoldsCell};
@@ -22,10 +23,16 @@ struct Letter {
 }
 
 /// The constant of the name.
-fn constant(alloc: Global, types: &TypeTable, text: &str) -> Result<Option<Head>, AllocError>
-    ensures held { IfOk result (λ found. IfSome found (λ head. (store : Contents) → HoldsHead store head)) }
+fn constant(
+    alloc: Global,
+    types: &TypeTable,
+    store: &Store,
+    text: &str,
+) -> Result<Option<Head>, AllocError>
+    ensures held { IfOk result (λ found. IfSome found (HoldsHead store.now)) }
     ensures typed { IfOk result (λ found. IfSome found (HeadIsTyped types.now)) }
 {
+    let _ = store;
     let name = Name::from_text(alloc, text)?;
     match types.look(&name) {
         None => Ok(None),
@@ -48,12 +55,14 @@ fn type_like(alloc: Global, types: &TypeTable, text: &str) -> Result<Option<Type
 fn nominal(
     alloc: Global,
     types: &TypeTable,
+    store: &Store,
     number: u8,
     like: &str,
 ) -> Result<Option<Head>, AllocError>
-    ensures held { IfOk result (λ found. IfSome found (λ head. (store : Contents) → HoldsHead store head)) }
+    ensures held { IfOk result (λ found. IfSome found (HoldsHead store.now)) }
     ensures typed { IfOk result (λ found. IfSome found (HeadIsTyped types.now)) }
 {
+    let _ = store;
     match type_like(alloc, types, like)? {
         None => Ok(None),
         Some(ty) => Ok(Some(Head::Nominal(u128::from(number), ty))),
@@ -63,7 +72,8 @@ fn nominal(
 /// The cell of the letter.
 fn cell_of(store: &Store, letters: &[Letter], letter: u8) -> Option<Head>
     requires { All (λ l. HoldsCell store.now l.cell) letters.now }
-    ensures { IfSome result (HoldsHead store.now) }
+    ensures held { IfSome result (HoldsHead store.now) }
+    ensures typed { (types : Table) → IfSome result (HeadIsTyped types) }
 {
     let _ = store;
     for one in letters {
@@ -72,6 +82,17 @@ fn cell_of(store: &Store, letters: &[Letter], letter: u8) -> Option<Head>
         }
     }
     None
+}
+
+/// The name of the constant that the letter stands for.
+fn name_of(letter: u8) -> &'static str {
+    match letter {
+        b'd' => "d",
+        b'g' => "g",
+        b'l' => "l",
+        b's' => "s",
+        _ => "c",
+    }
 }
 
 /// What a letter stands for: a name that is bound by the last binder or by the one around it, a nominal constant, a
@@ -90,15 +111,9 @@ fn symbol(
     match letter {
         b'a' => Ok(Some(Head::Index(0))),
         b'b' => Ok(Some(Head::Index(1))),
-        b'1' => nominal(alloc, types, 1, "c"),
-        b'2' => nominal(alloc, types, 2, "c"),
-        b'3' => nominal(alloc, types, 3, "c"),
-        b'4' => nominal(alloc, types, 4, "s"),
-        b'c' => constant(alloc, types, "c"),
-        b'd' => constant(alloc, types, "d"),
-        b's' => constant(alloc, types, "s"),
-        b'g' => constant(alloc, types, "g"),
-        b'l' => constant(alloc, types, "l"),
+        b'1' | b'2' | b'3' => nominal(alloc, types, store, letter - b'0', "c"),
+        b'4' => nominal(alloc, types, store, 4, "s"),
+        b'c' | b'd' | b'g' | b'l' | b's' => constant(alloc, types, store, name_of(letter)),
         _ => Ok(cell_of(store, letters, letter)),
     }
 }
@@ -280,7 +295,7 @@ fn read(
     ensures before { IsExtendedBy store.old store.new }
 {
     let mut stack = Vec::new(alloc);
-    'letters: for letter in text.as_bytes().iter().rev() {
+    for letter in text.as_bytes().iter().rev() {
         if matches!(*letter, b'=' | b',') {
             continue;
         }

@@ -61,7 +61,7 @@ fn copy_of(
     requires id { Holds store.old id }
     ensures held { IfOk result (λ r. Holds store.new r.0) }
     ensures typed { IsTypedBy types.now store.new }
-    ensures before { IsExtendedBy store.old store.new }
+    ensures ids { (t : TermId) → Holds store.old t → Holds store.new t }
 {
     let mut steps = Steps::<Bindings>::new();
     let copy = copy_resolved(alloc, types, store, id, &mut steps)?;
@@ -160,7 +160,7 @@ fn twice(
     ensures typed { IsTypedBy types.now store.new }
     ensures before { IsExtendedBy store.old store.new }
 {
-    match constant(alloc, types, "g")? {
+    match constant(alloc, types, store, "g")? {
         None => Ok(None),
         Some(head) => {
             let args = Vec::from_array(alloc, [id, id])?;
@@ -231,7 +231,7 @@ fn tower(
     requires ground { Holds store.old ground }
     ensures held { IfOk result (λ id. Holds store.new id) }
     ensures typed { IsTypedBy types.now store.new }
-    ensures before { IsExtendedBy store.old store.new }
+    ensures ids { (t : TermId) → Holds store.old t → Holds store.new t }
 {
     let mut top = ground;
     for _ in 0..64 {

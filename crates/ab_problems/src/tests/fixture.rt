@@ -98,7 +98,7 @@ pub(super) fn new_letters(
     ensures typed { IsTypedBy types.now store.new }
 {
     let mut letters = Vec::new(alloc);
-    'letters: for letter in text.as_bytes() {
+    for letter in text.as_bytes() {
         if let Some(one) = new_letter(alloc, types, store, *letter)? {
             letters.push(one)?;
         }
