@@ -1,0 +1,12 @@
+use Rattle.std.specs.Prelude.{All}
+use Rattle.ab_store.specs.Reading.{Holds}
+use Rattle.ab_store.specs.Growth.{IsExtendedBy}
+use Rattle.ab_store.specs.Naming.{IsTypedBy}
+use Rattle.ab_problems.proofs.tests.read.Given as goal
+
+abbrev pub invariant-loop-letter : goal.invariant-loop-letter
+invariant-loop-letter l = record {
+  stack : All (Holds l.store) l.stack.items;
+  typed : IsTypedBy l.types l.store;
+  before : IsExtendedBy l.fn.store l.store;
+}
