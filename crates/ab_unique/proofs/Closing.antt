@@ -7,61 +7,17 @@ use Rattle.ab_term.proofs.Lists.{Contains-map}
 use Rattle.ab_term.proofs.Translations.{translate-rename}
 use Rattle.ab_store.specs.Trees.{Read}
 use Rattle.ab_logic.specs.Declarations.{Declarations}
-use Rattle.ab_logic.specs.Marks as marks
-use Rattle.ab_logic.specs.Marks.{Sign, Marks, marks_of_head, marked, Making, by_head, by_scope, by_parts, by_mark, making_of, marks_made, marks_of, marks_of_all, MarksServe, MarksServeIn, unmarked, erased, erased_all}
+use Rattle.ab_logic.specs.Marks.{Making, by_head, by_scope, by_parts, by_mark, making_of, marks_of, MarksServe, unmarked, erased, erased_all}
 use Rattle.ab_logic.specs.Sequents.{Sequent, IsSequent}
 use Rattle.ab_goals.specs.Goals.{named}
 use Rattle.ab_search.specs.Closing.{Closes, CanBeClosed, by_truth, by_hypothesis, by_equality, by_both, by_left, by_right}
 use Rattle.ab_rows.proofs.Renumbered.{renumber, renumber_hypothesis, renumbered, renumbering}
 use Rattle.ab_rows.proofs.Retold.{form_told, form_retold}
+use Rattle.ab_rows.proofs.Remarked.{making_told, marks_told}
 
 module _ (f : ℕ → ℕ) where
   abbrev all : Terms ℕ (List ℕ) → Terms ℕ (List ℕ)
   all = translate_all f (λ h. h)
-
-  making_told : (h : Head ℕ) → making_of (translate_head f h) ≡ making_of h
-  making_told (constant c) = refl
-  making_told (logical l) = refl
-  making_told (nominal a) = refl
-  making_told (variable x) = refl
-  making_told (index i) = refl
-
-  head_told : (m : Sign) (h : Head ℕ) → marks_of_head m (translate_head f h) ≡ marks_of_head m h
-  head_told m (constant c) = refl
-  head_told m (logical l) = refl
-  head_told m (nominal a) = refl
-  head_told m (variable x) = refl
-  head_told m (index i) = refl
-
-  marked_told : (m : Sign) (t : Read) → marked m (renumber f t) ≡ marked m t
-  marked_told m (lam A x t) = refl
-  marked_told m (spine h ts) = head_told m h
-
-  -- MARKS
-
-  made_told : (k : Making) (h : Head ℕ) (ts : Terms ℕ (List ℕ)) (ms : List Marks) → marks_made k (translate_head f h) (all ts) ms ≡ marks_made k h ts ms
-  made_told by_head h ts ms = head_told marks.plain h
-  made_told (by_mark m) h no_terms ms = refl
-  made_told (by_mark m) h (term t ts) ms = marked_told m t
-  made_told by_scope h ts [] = refl
-  made_told by_scope h ts (m ∷ []) = refl
-  made_told by_scope h ts (m ∷ n ∷ ms) = refl
-  made_told by_parts h ts [] = refl
-  made_told by_parts h ts (m ∷ []) = refl
-  made_told by_parts h ts (m ∷ n ∷ []) = refl
-  made_told by_parts h ts (m ∷ n ∷ k ∷ ms) = refl
-
-  mutual
-    marks_told : (t : Read) → marks_of (renumber f t) ≡ marks_of t
-    marks_told (lam A x t) = marks_told t
-    marks_told (spine h ts) =
-        ap (λ k. marks_made k (translate_head f h) (all ts) (marks_of_all (all ts))) (making_told h)
-        ∙ ap (marks_made (making_of h) (translate_head f h) (all ts)) (all_marks_told ts)
-        ∙ made_told (making_of h) h ts (marks_of_all ts)
-
-    all_marks_told : (ts : Terms ℕ (List ℕ)) → marks_of_all (all ts) ≡ marks_of_all ts
-    all_marks_told no_terms = refl
-    all_marks_told (term t ts) = ap (λ m. m ∷ marks_of_all (all ts)) (marks_told t) ∙ ap (λ ms. marks_of t ∷ ms) (all_marks_told ts)
 
   unmarked_told : (k : Making) (h : Head ℕ) (ts us : Terms ℕ (List ℕ)) → unmarked k (translate_head f h) (all ts) (all us) ≡ renumber f (unmarked k h ts us)
   unmarked_told by_head h ts us = refl
@@ -74,7 +30,7 @@ module _ (f : ℕ → ℕ) where
     erased_told : (t : Read) → erased (renumber f t) ≡ renumber f (erased t)
     erased_told (lam A x t) = ap (lam A x) (erased_told t)
     erased_told (spine h ts) =
-        ap (λ k. unmarked k (translate_head f h) (all ts) (erased_all (all ts))) (making_told h)
+        ap (λ k. unmarked k (translate_head f h) (all ts) (erased_all (all ts))) (making_told f h)
         ∙ ap (unmarked (making_of h) (translate_head f h) (all ts)) (all_erased_told ts)
         ∙ unmarked_told (making_of h) h ts (erased_all ts)
 
@@ -110,7 +66,7 @@ module _ (f : ℕ → ℕ) where
   closes_told : (F C : Read) → Closes F C → Closes (renumber f F) (renumber f C)
   closes_told F C c = (
     subst (λ z. EqualUpToNames z (erased (renumber f C))) (sym (erased_told F)) (subst (EqualUpToNames (renumber f (erased F))) (sym (erased_told C)) (equal_told (erased F) (erased C) c.0)),
-    subst (λ m. MarksServe m (marks_of (renumber f F))) (sym (marks_told C)) (subst (MarksServe (marks_of C)) (sym (marks_told F)) c.1),
+    subst (λ m. MarksServe m (marks_of (renumber f F))) (sym (marks_told f C)) (subst (MarksServe (marks_of C)) (sym (marks_told f F)) c.1),
   )
 
   closed_told : {s : Sequent} → CanBeClosed s → CanBeClosed (renumbered f s)

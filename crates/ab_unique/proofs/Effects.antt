@@ -3,7 +3,7 @@ use Rattle.std.proofs.Common.{◌≡◌, ◌⊎◌, inl, inr, ℕ, List, [], ◌
 use Rattle.ab_grammar.specs.CommandTrees.{Command, kinds, constants, theorem, show, quit, subgoals, abort, in_proof}
 use Rattle.ab_grammar.specs.CommandTrees.{ProofCommand, search}
 use Rattle.ab_store.specs.Trees.{Read}
-use Rattle.ab_logic.specs.Declarations.{Declarations, a_theorem, theorem_in}
+use Rattle.ab_logic.specs.Declarations.{Declarations, HaveDefinitions, a_theorem, theorem_in}
 use Rattle.ab_logic.specs.Names.{Label}
 use Rattle.ab_logic.specs.Sequents.{Sequent, IsSequent}
 use Rattle.ab_command.specs.declared.fault.Cause.{Cause}
@@ -21,25 +21,27 @@ use Rattle.ab_states.specs.Reply.{Reply, accepted, completed, shown, refused, un
 use Rattle.ab_states.specs.Proving.{Makes, Denies}
 use Rattle.ab_states.specs.Effect.{Commands, Faces, beginning, left_with, HasEffect, unread, declined, declared, stated, showed, ended, switched, given_up, denied, led, proved}
 use Rattle.ab_states.specs.Replay.{Replays, none, next}
+use Rattle.ab_unique.specs.Sound.{AreSound}
+use Rattle.ab_unique.proofs.Sound.{sound_effect}
 use Rattle.ab_unique.proofs.Closing.{closed_also}
 use Rattle.ab_unique.proofs.Declaring.{one_statement, one_declaring, one_declining, declares_or_not, states_or_not, shows_or_not}
 
 -- A PROOF COMMAND at two sequents that are one goal with names for numbers
-module _ (D : Declarations) (l : Label) (s u : Sequent) (is : IsSequent D s) (its : IsSequent D u) (same : named s ≡ named u) where
+module _ (D : Declarations) (definitions : HaveDefinitions D) (l : Label) (s u : Sequent) (is : IsSequent D s) (its : IsSequent D u) (same : named s ≡ named u) where
   one_making : (c : ProofCommand) (ps qs : List Sequent) → Makes D l c s ps → Makes D l c u qs → map named ps ≡ map named qs
   one_making (search n) ps qs a b = ap (map named) (a.1 ∙ sym b.1)
-  one_making c ps qs a b = (once D s u is its same l c).goals ps qs a b
+  one_making c ps qs a b = (once D definitions s u is its same l c).goals ps qs a b
 
   one_denial : (c : ProofCommand) (r q : Refusal) → Denies D l c s r → Denies D l c u q → r ≡ q
   one_denial (search n) r q a b = a.1 ∙ sym b.1
-  one_denial c r q a b = a.is ∙ ap refusal_for ((once D s u is its same l c).refusal a.cause b.cause a.refuses b.refuses) ∙ sym b.is
+  one_denial c r q a b = a.is ∙ ap refusal_for ((once D definitions s u is its same l c).refusal a.cause b.cause a.refuses b.refuses) ∙ sym b.is
 
   makes_or_denies : (c : ProofCommand) (ps : List Sequent) (r : Refusal) → Makes D l c s ps → Denies D l c u r → ⊥
   makes_or_denies (search n) ps r a b = b.0 (closed_also D s u is its same a.0)
-  makes_or_denies c ps r a b = (once D s u is its same l c).apart ps b.cause a b.refuses
+  makes_or_denies c ps r a b = (once D definitions s u is its same l c).apart ps b.cause a b.refuses
 
--- WHAT A COMMAND DOES, by what it says
-module _ (s : State) (bytes : List ℕ) where
+-- WHAT A COMMAND DOES, by what it says, where what was declared is sound
+module _ (s : State) (sound : AreSound s.declarations) (bytes : List ℕ) where
   abbrev Leaves : Refusal → Reply → State → Type 0
   Leaves v r t = (r ≡ refused v) × (t ≡ s)
 
@@ -128,11 +130,11 @@ module _ (s : State) (bytes : List ℕ) where
   module _ (l : Option (List ℕ)) (c : ProofCommand) (a : Attempt) (x y : Sequent) (gs : List Goal) (f : Faces s bytes l c a x gs) (g : Faces s bytes l c a y gs) (same : named x ≡ named y) where
     one_proof : (r q : Reply) (t u : State) → Denying l c x r t ⊎ Making l c a x gs r t → Denying l c y q u ⊎ Making l c a y gs q u → Same r t q u
     one_proof r q t u (inl (v, d, k)) (inl (w, e, j)) =
-        leaves_same v w r q t u (one_denial s.declarations (given_label l) x y f.numbered.sequent g.numbered.sequent same c v w d e) k j
-    one_proof r q t u (inl (v, d, k)) (inr (ps, m, j)) = absurd (makes_or_denies s.declarations (given_label l) y x g.numbered.sequent f.numbered.sequent (sym same) c ps v m d)
-    one_proof r q t u (inr (ps, m, k)) (inl (w, e, j)) = absurd (makes_or_denies s.declarations (given_label l) x y f.numbered.sequent g.numbered.sequent same c ps w m e)
+        leaves_same v w r q t u (one_denial s.declarations sound.definitions (given_label l) x y f.numbered.sequent g.numbered.sequent same c v w d e) k j
+    one_proof r q t u (inl (v, d, k)) (inr (ps, m, j)) = absurd (makes_or_denies s.declarations sound.definitions (given_label l) y x g.numbered.sequent f.numbered.sequent (sym same) c ps v m d)
+    one_proof r q t u (inr (ps, m, k)) (inl (w, e, j)) = absurd (makes_or_denies s.declarations sound.definitions (given_label l) x y f.numbered.sequent g.numbered.sequent same c ps w m e)
     one_proof r q t u (inr (ps, m, k)) (inr (qs, n, j)) =
-        let goals = one_making s.declarations (given_label l) x y f.numbered.sequent g.numbered.sequent same c ps qs m n in
+        let goals = one_making s.declarations sound.definitions (given_label l) x y f.numbered.sequent g.numbered.sequent same c ps qs m n in
         leading_same a (map named qs ++ gs) r q t u (subst (λ ks. Leading a (ks ++ gs) r t) goals k) j
 
   first_same : {X : Type 0} {x y : X} {xs ys : List X} → x ∷ xs ≡ y ∷ ys → x ≡ y
@@ -180,10 +182,10 @@ module _ (s : State) (bytes : List ℕ) where
       one_doing d r q t u (subst (λ e. Does e r t) (says_one bytes (is_open s) c d k j) a) b
 
 -- THE BYTES OF A COMMAND HAVE ONE EFFECT on a state
-pub one_effect : (s : State) (bytes : List ℕ) {r q : Reply} {t u : State} → HasEffect s bytes r t → HasEffect s bytes q u → (r ≡ q) × (t ≡ u)
-one_effect s bytes a b = one_saying s bytes (said s bytes a) (said s bytes b)
+pub one_effect : (s : State) → AreSound s.declarations → (bytes : List ℕ) {r q : Reply} {t u : State} → HasEffect s bytes r t → HasEffect s bytes q u → (r ≡ q) × (t ≡ u)
+one_effect s sound bytes a b = one_saying s sound bytes (said s sound bytes a) (said s sound bytes b)
 
-pub one_replay : {s t u : State} {cs : List (List ℕ)} → Replays s cs t → Replays s cs u → t ≡ u
-one_replay none none = refl
-one_replay {u = u} (next {s = s} {c = c} {cs = cs} r e k x) (next q f j y) =
-    one_replay x (subst (λ v. Replays v cs u) (sym (one_effect s c e f).1) y)
+pub one_replay : {s t u : State} {cs : List (List ℕ)} → AreSound s.declarations → Replays s cs t → Replays s cs u → t ≡ u
+one_replay sound none none = refl
+one_replay {u = u} sound (next {s = s} {c = c} {cs = cs} r e k x) (next q f j y) =
+    one_replay (sound_effect e sound) x (subst (λ v. Replays v cs u) (sym (one_effect s sound c e f).1) y)

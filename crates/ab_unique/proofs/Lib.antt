@@ -1,3 +1,4 @@
 mod Closing
 mod Declaring
+pub mod Sound
 pub mod Effects

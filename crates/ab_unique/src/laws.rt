@@ -1,18 +1,26 @@
 //! Each command has one effect on a state.
 ghost use Rattle.std.specs.Prelude.{◌≡◌, ℕ, List};
-ghost use Rattle.ab_states.specs.State.{State};
+ghost use Rattle.ab_states.specs.State.{State, empty};
 ghost use Rattle.ab_states.specs.Reply.{Reply};
 ghost use Rattle.ab_states.specs.Effect.{HasEffect};
 ghost use Rattle.ab_states.specs.Replay.{Replays};
+ghost use Rattle.ab_unique.specs.Sound.{AreSound};
 
 /// The bytes of a command have one effect on a state: one reply, and one state behind it. What numbers a goal's variables
-/// are given meanwhile makes no difference, since a state speaks of names alone.
+/// are given meanwhile makes no difference, since a state speaks of names alone. What was declared is to be sound, as it is
+/// in each state that a session reaches.
 pub fn commands_have_one_effect()
-    ensures replies { (s : State) (bytes : List ℕ) (r q : Reply) (t u : State) → HasEffect s bytes r t → HasEffect s bytes q u → r ≡ q }
-    ensures states { (s : State) (bytes : List ℕ) (r q : Reply) (t u : State) → HasEffect s bytes r t → HasEffect s bytes q u → t ≡ u }
+    ensures replies { (s : State) (bytes : List ℕ) (r q : Reply) (t u : State) → AreSound s.declarations → HasEffect s bytes r t → HasEffect s bytes q u → r ≡ q }
+    ensures states { (s : State) (bytes : List ℕ) (r q : Reply) (t u : State) → AreSound s.declarations → HasEffect s bytes r t → HasEffect s bytes q u → t ≡ u }
+{}
+
+/// What is declared in the beginning is sound, and effects keep it so.
+pub fn effects_keep_declarations_sound()
+    ensures kept { (s : State) (bytes : List ℕ) (r : Reply) (t : State) → AreSound s.declarations → HasEffect s bytes r t → AreSound t.declarations }
+    ensures beginning { AreSound empty.declarations }
 {}
 
 /// So replaying commands leads to one state.
 pub fn commands_replay_to_one_state()
-    ensures { (s t u : State) (commands : List (List ℕ)) → Replays s commands t → Replays s commands u → t ≡ u }
+    ensures { (s t u : State) (commands : List (List ℕ)) → AreSound s.declarations → Replays s commands t → Replays s commands u → t ≡ u }
 {}

@@ -5,6 +5,8 @@ use Rattle.ab_lex.specs.Commands.{Item}
 use Rattle.ab_lex.proofs.Cuts.{only_items}
 use Rattle.ab_states.specs.State.{State, empty}
 use Rattle.ab_states.specs.Reply.{Reply}
+use Rattle.ab_unique.specs.Sound.{AreSound}
+use Rattle.ab_unique.proofs.Sound.{sound_effect, sound_beginning}
 use Rattle.ab_unique.proofs.Effects.{one_effect}
 use Rattle.abella.specs.Report.{Moment, Replies, to_command, to_long, Report, Reports, none, next, last, ReportOf, is_end}
 
@@ -15,25 +17,33 @@ same_moment : (m k : Moment) → m.reply ≡ k.reply → m.state ≡ k.state →
 unfolding moment_by
 same_moment m k e f = ap (λ r. moment_by r m.state) e ∙ ap (moment_by k.reply) f
 
-one_moment : {s : State} {i : Item} {m k : Moment} → Replies s i m → Replies s i k → m ≡ k
-one_moment {s = s} (to_command {bytes = bytes} m e b) (to_command k f c) = let same = one_effect s bytes e f in same_moment m k same.0 same.1
-one_moment (to_long m e f) (to_long k g h) = same_moment m k (e ∙ sym g) (f ∙ sym h)
+-- what was declared is sound
+abbrev IsSound : State → Type 0
+IsSound s = AreSound s.declarations
+
+one_moment : {s : State} {i : Item} {m k : Moment} → IsSound s → Replies s i m → Replies s i k → m ≡ k
+one_moment {s = s} sound (to_command {bytes = bytes} m e b) (to_command k f c) = let same = one_effect s sound bytes e f in same_moment m k same.0 same.1
+one_moment sound (to_long m e f) (to_long k g h) = same_moment m k (e ∙ sym g) (f ∙ sym h)
 
 goes_or_ends : (m k : Moment) → m ≡ k → is_end m.reply ≡ false → is_end k.reply ≡ true → ⊥
 goes_or_ends m k same e f = let both : false ≡ true = sym e ∙ ap (λ (x : Moment). is_end x.reply) same ∙ f in cc
 
+replied_soundly : {s : State} {i : Item} {m : Moment} → IsSound s → Replies s i m → IsSound m.state
+replied_soundly sound (to_command m e b) = sound_effect e sound
+replied_soundly sound (to_long m e f) = subst IsSound (sym f) sound
+
 -- ONE REPORT of these items
-one_report : {s : State} {is : List Item} {r q : Report} → Reports s is r → Reports s is q → r ≡ q
-one_report none none = refl
-one_report (next {is = is} {r = r} m h k x) (next {r = q} n g j y) =
-    let same : m ≡ n = one_moment h g in
-    ap (λ z. z ∷ r) same ∙ ap (λ z. n ∷ z) (one_report (subst (λ (z : Moment). Reports z.state is r) same x) y)
-one_report (next m h k x) (last n g j) = absurd (goes_or_ends m n (one_moment h g) k j)
-one_report (last m h k) (next n g j y) = absurd (goes_or_ends n m (one_moment g h) j k)
-one_report (last m h k) (last n g j) = ap (λ z. z ∷ []) (one_moment h g)
+one_report : {s : State} {is : List Item} {r q : Report} → IsSound s → Reports s is r → Reports s is q → r ≡ q
+one_report sound none none = refl
+one_report sound (next {is = is} {r = r} m h k x) (next {r = q} n g j y) =
+    let same : m ≡ n = one_moment sound h g in
+    ap (λ z. z ∷ r) same ∙ ap (λ z. n ∷ z) (one_report (replied_soundly sound g) (subst (λ (z : Moment). Reports z.state is r) same x) y)
+one_report sound (next m h k x) (last n g j) = absurd (goes_or_ends m n (one_moment sound h g) k j)
+one_report sound (last m h k) (next n g j y) = absurd (goes_or_ends n m (one_moment sound g h) j k)
+one_report sound (last m h k) (last n g j) = ap (λ z. z ∷ []) (one_moment sound h g)
 
 -- AND OF A TEXT
 pub one_report_of : (text : List ℕ) (r q : Report) → ReportOf text r → ReportOf text q → r ≡ q
 one_report_of text r q a b =
     let same : a.items ≡ b.items = only_items COMMAND_LIMIT text a.items a.items_are ∙ sym (only_items COMMAND_LIMIT text b.items b.items_are) in
-    one_report (subst (λ is. Reports empty is r) same a.reports) b.reports
+    one_report sound_beginning (subst (λ is. Reports empty is r) same a.reports) b.reports

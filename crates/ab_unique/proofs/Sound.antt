@@ -1,0 +1,83 @@
+-- What a session declares is sound in the beginning, and behind each effect.
+use Rattle.std.specs.Prelude.{codes, All}
+use Rattle.std.proofs.Common.{◌≡◌, ℕ, List, [], ◌∷◌, ◌++◌, map, Some, None, refl, sym, ◌∙◌}
+use Rattle.std.proofs.lemmas.List.Elements.{All-nil, All-cons, All-head, All-tail}
+use Rattle.ab_term.specs.Types.{Ty}
+use Rattle.ab_term.specs.Typing.{typed_spine, take_none, take_term}
+use Rattle.ab_types.specs.Entries.{first_entries}
+use Rattle.ab_grammar.specs.CommandTrees.{Command}
+use Rattle.ab_cases.specs.Clauses.{IsClause}
+use Rattle.ab_cases.specs.Member.{member_first, member_later, member_clauses}
+use Rattle.ab_cases.proofs.Membership.{member_defined}
+use Rattle.ab_store.specs.Trees.{Read}
+use Rattle.ab_logic.specs.Declarations.{Declarations, a_kind, a_constant, a_theorem, signature_in, block_in, IsDefining, HaveDefinitions}
+use Rattle.ab_logic.specs.Worlds.{declared, member_block, first_declarations}
+use Rattle.ab_logic.proofs.Declaring.{block-declared, definitions_behind, definitions_added, definitions_defined, extends_not, extends_on}
+use Rattle.ab_declare.specs.Declaring.{Declares, new_kinds, new_constants}
+use Rattle.ab_states.specs.State.{State, empty}
+use Rattle.ab_states.specs.Reply.{Reply}
+use Rattle.ab_states.specs.Effect as effect
+use Rattle.ab_states.specs.Effect.{HasEffect}
+use Rattle.ab_unique.specs.Sound.{AreSound}
+
+-- kinds and constants define nothing
+
+no_kind : (xs : List (List ℕ)) (p : List ℕ) → block_in (map a_kind xs) p ≡ None
+no_kind [] p = refl
+no_kind (x ∷ xs) p = no_kind xs p
+
+no_constant : (A : Ty) (xs : List (List ℕ)) (p : List ℕ) → block_in (map (λ x. a_constant x A) xs) p ≡ None
+no_constant A [] p = refl
+no_constant A (x ∷ xs) p = no_constant A xs p
+
+-- what is declared behind them keeps what begins
+
+module _ (D : Declarations) (sound : AreSound D) where
+  sound_behind : (E : Declarations) → HaveDefinitions (D ++ E) → AreSound (D ++ E)
+  sound_behind E definitions = record { first = extends_on first_declarations D (D ++ E) sound.first (E, refl); definitions = definitions }
+
+  nothing_defined : (E : Declarations) → ((p : List ℕ) → block_in E p ≡ None) → AreSound (D ++ E)
+  nothing_defined E none = sound_behind E (definitions_behind D E sound.definitions (λ p b e. let clash : None ≡ Some b = sym (none p) ∙ e in absurd (cc)))
+
+  sound_declared : {c : Command} {more : Declarations} → Declares D c more → AreSound (D ++ more)
+  sound_declared (new_kinds {xs = xs} e) = nothing_defined (map a_kind xs) (no_kind xs)
+  sound_declared (new_constants {xs = xs} {A = A} e t d) = nothing_defined (map (λ x. a_constant x A) xs) (no_constant A xs)
+
+  sound_theorem : (n : List ℕ) (F : Read) → AreSound (D ++ a_theorem n F ∷ [])
+  sound_theorem n F = sound_behind (a_theorem n F ∷ []) (definitions_added D n F sound.definitions)
+
+-- BEHIND EACH EFFECT
+pub sound_effect : {s t : State} {bytes : List ℕ} {r : Reply} → HasEffect s bytes r t → AreSound s.declarations → AreSound t.declarations
+sound_effect (effect.unread c f) sound = sound
+sound_effect (effect.declined c r k d) sound = sound
+sound_effect {s = s} (effect.declared c more k d) sound = sound_declared s.declarations sound d
+sound_effect (effect.stated x e F k n d) sound = sound
+sound_effect (effect.showed x F k e) sound = sound
+sound_effect (effect.ended k) sound = sound
+sound_effect (effect.switched on k) sound = sound
+sound_effect (effect.given_up k) sound = sound
+sound_effect (effect.denied l c a q gs v f d) sound = sound
+sound_effect (effect.led l c a q gs ps h hs f m e) sound = sound
+sound_effect {s = s} (effect.proved l c a q gs ps f m e) sound = sound_theorem s.declarations sound a.name a.formula
+
+-- IN THE BEGINNING `member` is defined
+first_defined : HaveDefinitions first_declarations
+first_defined =
+    let D : Declarations = declared first_entries in
+    let Defining = IsDefining (signature_in D) in
+    let clauses : All (IsClause (signature_in D)) member_clauses = member_defined (signature_in D) (record { member = refl; cons = refl }) in
+    definitions_defined D member_block (λ p b e. let clash : None ≡ Some b = sym (block-declared first_entries p) ∙ e in absurd (cc))
+    (All-cons Defining member_first (member_later ∷ [])
+    (record {
+      clause = All-head (IsClause (signature_in D)) member_first (member_later ∷ []) clauses;
+      body = record { typed = typed_spine refl take_none; stands = (tt, tt) };
+    })
+    (All-cons Defining member_later []
+    (record {
+      clause = All-head (IsClause (signature_in D)) member_later [] (All-tail (IsClause (signature_in D)) member_first (member_later ∷ []) clauses);
+      body = record { typed = typed_spine refl (take_term (typed_spine refl take_none) (take_term (typed_spine refl take_none) take_none)); stands = (tt, (tt, (tt, tt))) };
+    })
+    (All-nil Defining)))
+
+pub sound_beginning : AreSound empty.declarations
+sound_beginning = record { first = extends_not first_declarations; definitions = first_defined }

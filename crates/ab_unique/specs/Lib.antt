@@ -1,0 +1,2 @@
+-- What is true of all that a session declares.
+pub mod Sound
