@@ -4,3 +4,7 @@ pub mod Restoring
 pub mod Adding
 pub mod Concluding
 pub mod Statements
+pub mod Putting
+pub mod Ending
+pub mod Turns
+pub mod Undefined

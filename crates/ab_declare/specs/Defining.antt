@@ -3,6 +3,7 @@
 use Rattle.std.specs.Prelude.{◌≡◌, ℕ, List, [], ◌∷◌, ◌++◌, map, Bool, None, Result, Ok, Err, if◌then◌else◌, bytes_eq, All}
 use Rattle.std.specs.List.{list_any}
 use Rattle.ab_term.specs.Types.{Ty, kind, arrow, prop}
+use Rattle.ab_term.specs.Typing.{Signature}
 use Rattle.ab_types.specs.Entries.{Constant, constant, names}
 use Rattle.ab_grammar.specs.CommandTrees.{Defined, Clause}
 use Rattle.ab_readings.specs.Types.{IsDeclarable, written_type, type_place}
@@ -11,7 +12,7 @@ use Rattle.ab_clauses.specs.Kept as kept
 use Rattle.ab_clauses.specs.Faults.{Fault, bad_head, not_stratified, IsRightBlock, IsFaultOf}
 use Rattle.ab_clausal.specs.Readings.{Parts}
 use Rattle.ab_clausal.specs.Meanings.{parts_found, body_type, Finds, IsKeptAs, ClauseMeansNothing}
-use Rattle.ab_logic.specs.Declarations.{Declarations, a_constant, a_block, signature_in, constant_names}
+use Rattle.ab_logic.specs.Declarations.{Declaration, Declarations, a_constant, a_block, signature_in, constant_names}
 use Rattle.ab_logic.specs.Worlds.{defined}
 use Rattle.ab_effects.specs.Terms.{kinds_in}
 use Rattle.ab_declare.specs.declared.refusal.Refusal.{Refusal}
@@ -57,20 +58,20 @@ IsPredicate kinds d = (A : Ty) × (written_type kinds d.type_of ≡ Ok A) × IsP
 abbrev pub IsNoPredicate : List (List ℕ) → Defined → Refusal → Type 0
 IsNoPredicate kinds d r = (A : Ty) × (written_type kinds d.type_of ≡ Ok A) × (¬ IsPredicateType A) × (r ≡ TypeClash (here (type_place d.type_of)))
 
--- THE CLAUSES, where this is declared, the predicates among it
+-- THE CLAUSES, where these kinds and constants are declared, the predicates among them
 
-module _ (D : Declarations) where
+module _ (kinds : List (List ℕ)) (sg : Signature) where
   -- all names of the clause stand for something
   abbrev pub IsNamed : Clause → Type 0
-  IsNamed c = (e : Parts) × (parts_found (kinds_in D) (signature_in D) c ≡ Ok e)
+  IsNamed c = (e : Parts) × (parts_found kinds sg c ≡ Ok e)
 
   -- this one doesn't, and is the first
   abbrev pub IsUnnamed : Clause → Refusal → Type 0
-  IsUnnamed c r = (x : List ℕ) × (parts_found (kinds_in D) (signature_in D) c ≡ Err x) × (r ≡ Unknown x None)
+  IsUnnamed c r = (x : List ℕ) × (parts_found kinds sg c ≡ Err x) × (r ≡ Unknown x None)
 
   -- the clause means what is kept so: head and body are formulas
   abbrev pub MeansKept : Clause → kept.Clause → Type 0
-  MeansKept c k = Finds (kinds_in D) (signature_in D) c (λ e. IsKeptAs (signature_in D) 0 e prop (body_type prop c.body) k)
+  MeansKept c k = Finds kinds sg c (λ e. IsKeptAs sg 0 e prop (body_type prop c.body) k)
 
   abbrev pub MeanKept : List Clause → List kept.Clause → Type 0
   MeanKept [] [] = Unit {0}
@@ -83,7 +84,7 @@ module _ (D : Declarations) where
 
   -- it has none, or several
   abbrev pub IsUnread : Clause → Refusal → Type 0
-  IsUnread c r = (f : InferFault) × ClauseMeansNothing (kinds_in D) (signature_in D) c prop f × RefusedFor f r
+  IsUnread c r = (f : InferFault) × ClauseMeansNothing kinds sg c prop f × RefusedFor f r
 
 abbrev pub refusal_of : Fault → Refusal
 refusal_of (bad_head number) = BadHead number None
@@ -91,45 +92,50 @@ refusal_of (not_stratified p) = NotStratified p
 
 -- THE COMMAND, where this was declared
 
-abbrev pub block_of : Bool → List Constant → List kept.Clause → kept.Block
-block_of inductive ps ks = record { inductive = inductive; predicates = names ps; clauses = ks }
+abbrev pub predicate_of : Constant → Declaration
+predicate_of p = a_constant p.name p.type
+
+-- the block of the predicates
+abbrev pub block_with : Bool → List Constant → List kept.Clause → kept.Block
+block_with inductive ps ks = record { inductive = inductive; predicates = names ps; clauses = ks }
 
 module _ (D : Declarations) (inductive : Bool) (ds : List Defined) (cs : List Clause) where
-  -- the names of the predicates and in their types
+  -- the types of the constants, with the predicates
+  abbrev pub signature_with : List Constant → Signature
+  signature_with ps = signature_in (D ++ map predicate_of ps)
+
+  -- the names of the predicates are new, and those in their types are kinds
   abbrev pub HasPredicates : List Constant → Type 0
   HasPredicates ps = predicates_found (kinds_in D) (constant_names D) ds ≡ Ok ps
 
-  -- what the clauses are read with
-  abbrev pub with_predicates : List Constant → Declarations
-  with_predicates ps = D ++ map (λ p. a_constant p.name p.type) ps
-
-  -- all names stand for something
+  -- all names in clauses stand for something too
   abbrev pub HasNames : List Constant → Type 0
-  HasNames ps = HasPredicates ps × All (IsNamed (with_predicates ps)) cs
+  HasNames ps = HasPredicates ps × All (IsNamed (kinds_in D) (signature_with ps)) cs
 
-  -- and all types are right
+  -- and the types are those of predicates
   abbrev pub HasTypes : List Constant → Type 0
   HasTypes ps = HasNames ps × All (IsPredicate (kinds_in D)) ds
 
-  -- IT DEFINES THESE: the predicates are constants, and the block stands behind them
+  -- IT DEFINES THESE: the predicates are constants, and their block stands behind them
   pub record Defines (more : Declarations) : Type 0 where
     pub predicates : List Constant
     pub clauses : List kept.Clause
     pub types : HasTypes predicates
-    pub kept : MeanKept (with_predicates predicates) cs clauses
-    pub right : IsRightBlock (block_of inductive predicates clauses)
-    pub is : more ≡ map (λ p. a_constant p.name p.type) predicates ++ a_block (defined (block_of inductive predicates clauses)) ∷ []
+    pub meant : MeanKept (kinds_in D) (signature_with predicates) cs clauses
+    pub right : IsRightBlock (block_with inductive predicates clauses)
+    pub is : more ≡ map predicate_of predicates ++ a_block (defined (block_with inductive predicates clauses)) ∷ []
 
   -- IT IS REFUSED, by the first of its faults
   pub data DefinesNothing : Refusal → Type 0 where
     -- a predicate's name is taken, or a name in the type of one is no kind
     predicate_unnamed : {r : Refusal} → predicates_found (kinds_in D) (constant_names D) ds ≡ Err r → DefinesNothing r
     -- a name in a clause stands for nothing
-    clause_unnamed : {ps : List Constant} {r : Refusal} → HasPredicates ps → FirstTold (IsNamed (with_predicates ps)) (IsUnnamed (with_predicates ps)) cs r → DefinesNothing r
+    clause_unnamed : {ps : List Constant} {r : Refusal} → HasPredicates ps → FirstTold (IsNamed (kinds_in D) (signature_with ps)) (IsUnnamed (kinds_in D) (signature_with ps)) cs r
+        → DefinesNothing r
     -- a type isn't that of a predicate
     no_predicate : {ps : List Constant} {r : Refusal} → HasNames ps → FirstTold (IsPredicate (kinds_in D)) (IsNoPredicate (kinds_in D)) ds r → DefinesNothing r
     -- a clause has no reading, or several
-    clause_unread : {ps : List Constant} {r : Refusal} → HasTypes ps → FirstTold (IsRead (with_predicates ps)) (IsUnread (with_predicates ps)) cs r → DefinesNothing r
-    -- a head isn't one for a clause of these predicates, or a predicate stands to the left of an arrow in a body
-    faulty : {ps : List Constant} {ks : List kept.Clause} {f : Fault} → HasTypes ps → MeanKept (with_predicates ps) cs ks → IsFaultOf (block_of inductive ps ks) f
+    clause_unread : {ps : List Constant} {r : Refusal} → HasTypes ps → FirstTold (IsRead (kinds_in D) (signature_with ps)) (IsUnread (kinds_in D) (signature_with ps)) cs r → DefinesNothing r
+    -- a head isn't one for a clause of these predicates, or one of them stands to the left of an arrow in a body
+    faulty : {ps : List Constant} {ks : List kept.Clause} {f : Fault} → HasTypes ps → MeanKept (kinds_in D) (signature_with ps) cs ks → IsFaultOf (block_with inductive ps ks) f
         → DefinesNothing (refusal_of f)

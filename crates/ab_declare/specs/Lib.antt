@@ -4,3 +4,4 @@ pub mod Defining
 pub mod Declaring
 pub mod Moments
 pub mod Answers
+pub mod Halting
