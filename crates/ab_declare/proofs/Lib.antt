@@ -8,3 +8,5 @@ pub mod Putting
 pub mod Ending
 pub mod Turns
 pub mod Undefined
+pub mod Meant
+pub mod Behind

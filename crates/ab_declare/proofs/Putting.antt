@@ -135,13 +135,13 @@ no_kind_more mid new c e = ap kinds e ∙ kinds-append mid (a_constant c ∷ [])
 -- PUT BEHIND A TABLE
 
 module _ (t u : Table) (part : IsExtendedBy t u) where
-  still_held : (c : ConstId) → HoldsConstant t c → HoldsConstant u c
+  pub still_held : (c : ConstId) → HoldsConstant t c → HoldsConstant u c
   still_held c h = subst (λ w. HoldsConstant w c) (sym part.1) (holds_constant t part.0 c h)
 
   still_all : (cs : List ConstId) → All (HoldsConstant t) cs → All (HoldsConstant u) cs
   still_all = All-weaker (HoldsConstant t) (HoldsConstant u) still_held
 
-  still_are : (cs : List ConstId) → All (HoldsConstant t) cs → map (constant_of u) cs ≡ map (constant_of t) cs
+  pub still_are : (cs : List ConstId) → All (HoldsConstant t) cs → map (constant_of u) cs ≡ map (constant_of t) cs
   still_are [] all = refl
   still_are (c ∷ cs) all =
       ap (λ x. x ∷ map (constant_of u) cs) (ap (λ w. constant_of w c) part.1 ∙ same_constant t part.0 c (All-head (HoldsConstant t) c cs all))

@@ -99,29 +99,30 @@ predicate_of p = a_constant p.name p.type
 abbrev pub block_with : Bool → List Constant → List kept.Clause → kept.Block
 block_with inductive ps ks = record { inductive = inductive; predicates = names ps; clauses = ks }
 
-module _ (D : Declarations) (inductive : Bool) (ds : List Defined) (cs : List Clause) where
-  -- the types of the constants, with the predicates
-  abbrev pub signature_with : List Constant → Signature
-  signature_with ps = signature_in (D ++ map predicate_of ps)
+-- the types of the constants, with the predicates
+abbrev pub signature_with : Declarations → List Constant → Signature
+signature_with D ps = signature_in (D ++ map predicate_of ps)
 
+module _ (D : Declarations) (ds : List Defined) (cs : List Clause) where
   -- the names of the predicates are new, and those in their types are kinds
   abbrev pub HasPredicates : List Constant → Type 0
   HasPredicates ps = predicates_found (kinds_in D) (constant_names D) ds ≡ Ok ps
 
   -- all names in clauses stand for something too
   abbrev pub HasNames : List Constant → Type 0
-  HasNames ps = HasPredicates ps × All (IsNamed (kinds_in D) (signature_with ps)) cs
+  HasNames ps = HasPredicates ps × All (IsNamed (kinds_in D) (signature_with D ps)) cs
 
   -- and the types are those of predicates
   abbrev pub HasTypes : List Constant → Type 0
   HasTypes ps = HasNames ps × All (IsPredicate (kinds_in D)) ds
 
+module _ (D : Declarations) (inductive : Bool) (ds : List Defined) (cs : List Clause) where
   -- IT DEFINES THESE: the predicates are constants, and their block stands behind them
   pub record Defines (more : Declarations) : Type 0 where
     pub predicates : List Constant
     pub clauses : List kept.Clause
-    pub types : HasTypes predicates
-    pub meant : MeanKept (kinds_in D) (signature_with predicates) cs clauses
+    pub types : HasTypes D ds cs predicates
+    pub meant : MeanKept (kinds_in D) (signature_with D predicates) cs clauses
     pub right : IsRightBlock (block_with inductive predicates clauses)
     pub is : more ≡ map predicate_of predicates ++ a_block (defined (block_with inductive predicates clauses)) ∷ []
 
@@ -130,12 +131,13 @@ module _ (D : Declarations) (inductive : Bool) (ds : List Defined) (cs : List Cl
     -- a predicate's name is taken, or a name in the type of one is no kind
     predicate_unnamed : {r : Refusal} → predicates_found (kinds_in D) (constant_names D) ds ≡ Err r → DefinesNothing r
     -- a name in a clause stands for nothing
-    clause_unnamed : {ps : List Constant} {r : Refusal} → HasPredicates ps → FirstTold (IsNamed (kinds_in D) (signature_with ps)) (IsUnnamed (kinds_in D) (signature_with ps)) cs r
-        → DefinesNothing r
+    clause_unnamed : {ps : List Constant} {r : Refusal} → HasPredicates D ds cs ps
+        → FirstTold (IsNamed (kinds_in D) (signature_with D ps)) (IsUnnamed (kinds_in D) (signature_with D ps)) cs r → DefinesNothing r
     -- a type isn't that of a predicate
-    no_predicate : {ps : List Constant} {r : Refusal} → HasNames ps → FirstTold (IsPredicate (kinds_in D)) (IsNoPredicate (kinds_in D)) ds r → DefinesNothing r
+    no_predicate : {ps : List Constant} {r : Refusal} → HasNames D ds cs ps → FirstTold (IsPredicate (kinds_in D)) (IsNoPredicate (kinds_in D)) ds r → DefinesNothing r
     -- a clause has no reading, or several
-    clause_unread : {ps : List Constant} {r : Refusal} → HasTypes ps → FirstTold (IsRead (kinds_in D) (signature_with ps)) (IsUnread (kinds_in D) (signature_with ps)) cs r → DefinesNothing r
+    clause_unread : {ps : List Constant} {r : Refusal} → HasTypes D ds cs ps
+        → FirstTold (IsRead (kinds_in D) (signature_with D ps)) (IsUnread (kinds_in D) (signature_with D ps)) cs r → DefinesNothing r
     -- a head isn't one for a clause of these predicates, or one of them stands to the left of an arrow in a body
-    faulty : {ps : List Constant} {ks : List kept.Clause} {f : Fault} → HasTypes ps → MeanKept (kinds_in D) (signature_with ps) cs ks → IsFaultOf (block_with inductive ps ks) f
-        → DefinesNothing (refusal_of f)
+    faulty : {ps : List Constant} {ks : List kept.Clause} {f : Fault} → HasTypes D ds cs ps → MeanKept (kinds_in D) (signature_with D ps) cs ks
+        → IsFaultOf (block_with inductive ps ks) f → DefinesNothing (refusal_of f)

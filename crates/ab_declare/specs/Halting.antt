@@ -1,7 +1,6 @@
 -- What the steps of a definition leave, over a table and a store. Public contracts don't speak of this.
 use Rattle.std.specs.Prelude.{◌≡◌, ℕ, List, [], ◌∷◌, ◌++◌, map, None, Ok, Err, All}
 use Rattle.ab_term.specs.Types.{Ty, prop}
-use Rattle.ab_types.specs.Entries as table
 use Rattle.ab_types.specs.Entries.{Table, kinds, constants, names, signature}
 use Rattle.ab_types.specs.Ids.{HoldsConstant, constant_of}
 use Rattle.ab_types.specs.declared.ids.ConstId.{ConstId}
@@ -14,8 +13,10 @@ use Rattle.ab_clauses.specs.Proposed.{IsProposed}
 use Rattle.ab_clauses.specs.Readings.{clause_of, HoldsClause}
 use Rattle.ab_clauses.specs.declared.kept.ClauseTerm.{ClauseTerm}
 use Rattle.ab_clausal.specs.Meanings.{body_type, Finds, IsKeptAs}
+use Rattle.ab_logic.specs.declared.world.DefineFault.{DefineFault}
+use Rattle.ab_logic.specs.declared.world.DefineFault.TheVariants as define
 use Rattle.ab_declare.specs.declared.refusal.Refusal.{Refusal}
-use Rattle.ab_declare.specs.declared.refusal.Refusal.TheVariants.{Unknown, TypeClash, Untyped}
+use Rattle.ab_declare.specs.declared.refusal.Refusal.TheVariants.{Unknown, Clash, TypeClash, Untyped, NotStratified, BadHead}
 use Rattle.ab_declare.specs.declared.halt.Halt.{Halt}
 use Rattle.ab_declare.specs.declared.halt.Halt.TheVariants.{Refused, Memory}
 use Rattle.ab_declare.specs.Refusals.{here}
@@ -27,6 +28,13 @@ halt_for (fault.Unknown x) = Refused (Unknown x None)
 halt_for (fault.TypeClash p) = Refused (TypeClash (here p))
 halt_for (fault.Untyped p) = Refused (Untyped (here p))
 halt_for (fault.Memory m) = Memory m
+
+-- and a definition that isn't put in
+abbrev pub halt_by : DefineFault → Halt
+halt_by (define.Clash x) = Refused (Clash x None)
+halt_by (define.NotStratified p) = Refused (NotStratified p)
+halt_by (define.BadHead number) = Refused (BadHead number None)
+halt_by (define.Memory m) = Memory m
 
 -- the refusal is such a one; want of memory says nothing
 abbrev pub Halts : (Refusal → Type 0) → Halt → Type 0

@@ -7,7 +7,7 @@ ghost use Rattle.ab_logic.specs.Growth.{Grows};
 ghost use Rattle.ab_logic.specs.Worlds.{IsWorld, declarations_of};
 ghost use Rattle.ab_declare.specs.Answers.{Declared, IsDeclared};
 ghost use Rattle.ab_declare.specs.Defining.{DefinesNothing};
-ghost use Rattle.ab_declare.specs.Halting.{Halts};
+ghost use Rattle.ab_declare.specs.Halting.{halt_by, Halts};
 ghost use Rattle.ab_declare.specs.Moments.{HasMore, IsRestored};
 
 use crate::clauses::{look_at_clauses, read_clauses};
@@ -23,7 +23,7 @@ use std::alloc::{AllocError, Global};
 
 /// What is told of the fault of a definition.
 fn halted(fault: DefineFault) -> Halt
-    ensures { HaltedBy fault result }
+    ensures { result ≡ halt_by fault }
 {
     match fault {
         DefineFault::Clash(name) => Halt::Refused(Refusal::Clash(name, None)),
