@@ -1,5 +1,6 @@
 //! Definitions that are declared.
-ghost use Rattle.std.specs.Prelude.{◌≡◌, ◌++◌, map, IfOk, OnErr, MatchResult, All};
+ghost use Rattle.std.specs.Prelude.{◌≡◌, map, IfOk, OnErr, MatchResult, All};
+ghost use Rattle.ab_types.specs.Sound.{IsTable};
 ghost use Rattle.ab_grammar.specs.CommandTrees as command;
 ghost use Rattle.ab_syntax.specs.Commands.{defined_of, clause_of};
 ghost use Rattle.ab_clausal.specs.Meanings.{ClauseHasNoJudgement};
@@ -15,10 +16,10 @@ use crate::halt::Halt;
 use crate::moment::Moment;
 use crate::predicates::{look_at_types, put_predicates};
 use crate::refusal::Refusal;
-use ab_clauses::{Block, ClauseTerms, Predicates};
+use ab_clauses::{Block, ClauseTerm, ClauseTerms, Predicates};
 use ab_logic::{DefineFault, World};
 use ab_syntax::{ClauseParse, Defined};
-use ab_types::Steps;
+use ab_types::{ConstId, Steps};
 use std::alloc::{AllocError, Global};
 
 /// What is told of the fault of a definition.
@@ -33,6 +34,17 @@ fn halted(fault: DefineFault) -> Halt
     }
 }
 
+/// The block of the predicates and the clauses.
+fn block_of(inductive: bool, predicates: Vec<ConstId>, clauses: Vec<ClauseTerm>) -> Block
+    ensures { result ≡ record { inductive = inductive; predicates = predicates.items; clauses = clauses.items } }
+{
+    Block {
+        inductive,
+        predicates: Predicates::from_vec(predicates),
+        clauses: ClauseTerms::from_vec(clauses),
+    }
+}
+
 /// Puts a definition behind all that was declared. What was put before a fault stays.
 fn try_definition<L>(
     alloc: Global,
@@ -43,6 +55,7 @@ fn try_definition<L>(
     steps: &mut Steps<L>,
 ) -> Result<(), Halt>
     requires world { IsWorld world.old }
+    requires table { IsTable world.old.types }
     requires judgements { All ClauseHasNoJudgement (map clause_of clauses.now) }
     ensures defined { MatchResult result (λ u. IsDeclared world.old world.new (command.define inductive (map defined_of predicates.now) (map clause_of clauses.now)))
         (Halts (DefinesNothing (declarations_of world.old) inductive (map defined_of predicates.now) (map clause_of clauses.now))) }
@@ -52,11 +65,7 @@ fn try_definition<L>(
     look_at_clauses(alloc, &mut world.types, &world.store, clauses)?;
     look_at_types(alloc, &mut world.types, predicates)?;
     let terms = read_clauses(alloc, &mut world.types, &mut world.store, clauses, steps)?;
-    let block = Block {
-        inductive,
-        predicates: Predicates::from_vec(ids),
-        clauses: ClauseTerms::from_vec(terms),
-    };
+    let block = block_of(inductive, ids, terms);
     match world.define(block, steps) {
         Ok(()) => Ok(()),
         Err(fault) => Err(halted(fault)),

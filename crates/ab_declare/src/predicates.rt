@@ -26,6 +26,7 @@ fn put_predicate(
     ensures put { MatchResult result (λ id. ArePut types.old types.new (defined_of predicate.now ∷ []) (id ∷ [])) (Halts (ArentPut types.old (defined_of predicate.now ∷ []))) }
     ensures kinds { kinds types.new ≡ kinds types.old }
     ensures kept { IsExtendedBy types.old types.new }
+    ensures table { IsTable types.new }
 {
     if types.look(&predicate.name).is_some() {
         let name = predicate.name.copy(alloc)?;
@@ -47,9 +48,11 @@ pub(crate) fn put_predicates(
     types: &mut TypeTable,
     predicates: &[Defined],
 ) -> Result<Vec<ConstId>, Halt>
+    requires { IsTable types.old }
     ensures put { MatchResult result (λ ids. ArePut types.old types.new (map defined_of predicates.now) ids.items) (Halts (ArentPut types.old (map defined_of predicates.now))) }
     ensures kinds { kinds types.new ≡ kinds types.old }
     ensures kept { IsExtendedBy types.old types.new }
+    ensures table { IsTable types.new }
 {
     let mut ids = Vec::new(alloc);
     for predicate in predicates {

@@ -36,4 +36,5 @@ loop-predicate-preserved c =
       put = rw (behind_item defined_of xs i c.predicate-item.result c.loop-predicate-test.true c.predicate-item.is, c.in_ok-put_last.ensures) more;
       kinds = c.in_ok-id.ensures.kinds ∙ inv.kinds;
       kept = extended_twice t u v inv.kept c.in_ok-id.ensures.kept;
+      table = c.in_ok-id.ensures.table;
     }
