@@ -254,7 +254,7 @@ module _ (w : World) (is : IsWorld w) (inductive : Bool) (ds : List Defined) (cs
       pub not_put_in : (f : DefineFault) → IsDefineFault (declarations_of (record { types = u; store = r; additions = w.additions })) (block_of u r (record { inductive = inductive; predicates = ids; clauses = terms })) f → Refuses (halt_by f)
       not_put_in (define.Clash x) h =
           let new : IsNew (names (constants w.types)) x = of_middle (IsNew (names (constants w.types))) h.before h.after x
-              (subst (All (IsNew (names (constants w.types)))) (sym names_are ∙ h.whole) (new_names (kinds w.types) (names (constants w.types)) ds ps put.found)) in
+          (subst (All (IsNew (names (constants w.types)))) (sym names_are ∙ h.whole) (new_names (kinds w.types) (names (constants w.types)) ds ps put.found)) in
           let some = subst IsSome (undefined_there x new) h.defined in
           let bad : false ≡ true = some in
           absurd (cc)

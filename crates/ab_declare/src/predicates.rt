@@ -18,11 +18,7 @@ use ab_types::{ConstId, TableFault, TypeTable};
 use std::alloc::Global;
 
 /// Puts a predicate of the written type behind what the table holds.
-fn put_predicate(
-    alloc: Global,
-    types: &mut TypeTable,
-    predicate: &Defined,
-) -> Result<ConstId, Halt>
+fn put_predicate(alloc: Global, types: &mut TypeTable, predicate: &Defined) -> Result<ConstId, Halt>
     ensures put { MatchResult result (λ id. ArePut types.old types.new (defined_of predicate.now ∷ []) (id ∷ [])) (Halts (ArentPut types.old (defined_of predicate.now ∷ []))) }
     ensures kinds { kinds types.new ≡ kinds types.old }
     ensures kept { IsExtendedBy types.old types.new }
@@ -120,4 +116,3 @@ pub(crate) fn look_at_types(
     }
     Ok(())
 }
-
