@@ -1,8 +1,8 @@
 -- The commands that are built, of all that the grammar has.
-use Rattle.std.specs.Prelude.{◌≡◌, ℕ}
-use Rattle.ab_grammar.specs.CommandTrees.{Command, kinds, constants, theorem, show, quit, subgoals, abort, in_proof}
+use Rattle.std.specs.Prelude.{◌≡◌, ℕ, All}
+use Rattle.ab_grammar.specs.CommandTrees.{Command, kinds, constants, define, theorem, show, quit, subgoals, abort, in_proof}
 use Rattle.ab_grammar.specs.CommandTrees.{ProofCommand, intros, split, split_all, left, right, exists, case, assert, clear, rename, search}
-use Rattle.ab_command.specs.Judgements.{HasNoJudgement}
+use Rattle.ab_command.specs.Judgements.{HasNoJudgement, ClauseHasNoJudgement}
 
 -- A proof command, read from so many tokens: `search` is built without its depth alone, of a word and a full stop.
 abbrev pub IsBuiltInProof : ℕ → ProofCommand → Type 0
@@ -23,6 +23,7 @@ IsBuiltInProof count _ = ⊥
 abbrev pub IsBuilt : ℕ → Command → Type 0
 IsBuilt count (kinds xs) = Unit {0}
 IsBuilt count (constants xs A) = Unit {0}
+IsBuilt count (define inductive ds cs) = All ClauseHasNoJudgement cs
 IsBuilt count (theorem x e) = HasNoJudgement e
 IsBuilt count (show x) = Unit {0}
 IsBuilt count quit = Unit {0}

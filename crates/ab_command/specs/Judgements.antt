@@ -1,4 +1,6 @@
--- Expressions in which no judgement stands. Judgements aren't read yet.
+-- Expressions and clauses in which no judgement stands. Judgements aren't read yet.
+use Rattle.std.specs.Prelude.{Option, Some, None}
+use Rattle.ab_grammar.specs.CommandTrees.{Clause}
 use Rattle.ab_grammar.specs.Tree.{Tree, name, apply, abs, join, bind, judge, Trees, no_trees, tree}
 
 abbrev mutual
@@ -13,3 +15,10 @@ abbrev mutual
   pub HaveNoJudgement : Trees → Type 0
   HaveNoJudgement no_trees = Unit {0}
   HaveNoJudgement (tree e es) = HasNoJudgement e × HaveNoJudgement es
+
+abbrev pub BodyHasNoJudgement : Option Tree → Type 0
+BodyHasNoJudgement None = Unit {0}
+BodyHasNoJudgement (Some b) = HasNoJudgement b
+
+abbrev pub ClauseHasNoJudgement : Clause → Type 0
+ClauseHasNoJudgement c = HasNoJudgement c.head × BodyHasNoJudgement c.body

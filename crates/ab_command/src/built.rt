@@ -3,7 +3,7 @@ ghost use Rattle.std.specs.Prelude.{◌↔◌, IsTrue};
 ghost use Rattle.ab_syntax.specs.Commands.{proof_command_of, command_of};
 ghost use Rattle.ab_command.specs.Built.{IsBuilt, IsBuiltInProof};
 
-use crate::judging::holds_judgement;
+use crate::judging::{clauses_hold_judgement, holds_judgement};
 use ab_syntax::{Command, ProofCommand};
 
 /// Whether the proof command, which was read from so many tokens, is built.
@@ -37,6 +37,7 @@ pub(crate) fn is_built(command: &Command, count: usize) -> bool
         | Command::Quit
         | Command::Subgoals(_)
         | Command::Abort => true,
+        Command::Define(_, _, clauses) => !clauses_hold_judgement(clauses.as_slice()),
         Command::Theorem(_, formula) => !holds_judgement(formula),
         Command::InProof(_, command) => is_built_in_proof(command, count),
         _ => false,

@@ -1,9 +1,10 @@
-//! Expressions in which a judgement stands.
-ghost use Rattle.std.specs.Prelude.{IsTrue, IsFalse};
+//! Expressions and clauses in which a judgement stands.
+ghost use Rattle.std.specs.Prelude.{IsTrue, IsFalse, All, map, option_map};
+ghost use Rattle.ab_syntax.specs.Commands.{clause_of};
 ghost use Rattle.ab_syntax.specs.Trees.{tree_of};
-ghost use Rattle.ab_command.specs.Judgements.{HasNoJudgement};
+ghost use Rattle.ab_command.specs.Judgements.{HasNoJudgement, BodyHasNoJudgement, ClauseHasNoJudgement};
 
-use ab_syntax::Parse;
+use ab_syntax::{ClauseParse, Parse};
 
 /// Whether a judgement stands in the expression.
 pub fn holds_judgement(parse: &Parse) -> bool
@@ -25,4 +26,36 @@ pub fn holds_judgement(parse: &Parse) -> bool
         Parse::Bind(_, _, body, _) => holds_judgement(body),
         Parse::Judge(_, _, _, _) => true,
     }
+}
+
+/// Whether a judgement stands in a body, where one is written.
+fn body_holds_judgement(body: &Option<Parse>) -> bool
+    ensures none { IsFalse result → BodyHasNoJudgement (option_map tree_of body.now) }
+    ensures some { IsTrue result → BodyHasNoJudgement (option_map tree_of body.now) → ⊥ }
+{
+    match body {
+        Some(body) => holds_judgement(body),
+        None => false,
+    }
+}
+
+/// Whether a judgement stands in a clause.
+fn clause_holds_judgement(clause: &ClauseParse) -> bool
+    ensures none { IsFalse result → ClauseHasNoJudgement (clause_of clause.now) }
+    ensures some { IsTrue result → ClauseHasNoJudgement (clause_of clause.now) → ⊥ }
+{
+    holds_judgement(&clause.head) || body_holds_judgement(&clause.body)
+}
+
+/// Whether a judgement stands in one of the clauses.
+pub(crate) fn clauses_hold_judgement(clauses: &[ClauseParse]) -> bool
+    ensures none { IsFalse result → All ClauseHasNoJudgement (map clause_of clauses.now) }
+    ensures some { IsTrue result → All ClauseHasNoJudgement (map clause_of clauses.now) → ⊥ }
+{
+    for clause in clauses {
+        if clause_holds_judgement(clause) {
+            return true;
+        }
+    }
+    false
 }

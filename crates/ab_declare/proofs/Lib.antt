@@ -4,3 +4,9 @@ pub mod Restoring
 pub mod Adding
 pub mod Concluding
 pub mod Statements
+pub mod Putting
+pub mod Ending
+pub mod Turns
+pub mod Undefined
+pub mod Meant
+pub mod Behind

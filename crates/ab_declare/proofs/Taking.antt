@@ -12,7 +12,7 @@ Name = List ℕ
 
 -- whether a name is in use
 
-contains_any : (x : Name) (us : List Name) → Contains us x → list_any (bytes_eq x) us ≡ true
+pub contains_any : (x : Name) (us : List Name) → Contains us x → list_any (bytes_eq x) us ≡ true
 contains_any x [] c = absurd (Contains-none x c)
 contains_any x (u ∷ us) c = go (contains_any x us) (bytes_eq x u) refl (Contains-cases u us x c)
   where
@@ -21,7 +21,7 @@ contains_any x (u ∷ us) c = go (contains_any x us) (bytes_eq x u) refl (Contai
     go rest false e (inl h) = let bad : bytes_eq x u ≡ true = (bytes_eq-Decides x u).1 (sym h) in absurd (cc)
     go rest false e (inr m) = ap (λ r. r || list_any (bytes_eq x) us) e ∙ rest m
 
-any_contains : (x : Name) (us : List Name) → list_any (bytes_eq x) us ≡ true → Contains us x
+pub any_contains : (x : Name) (us : List Name) → list_any (bytes_eq x) us ≡ true → Contains us x
 any_contains x [] e = absurd (cc)
 any_contains x (u ∷ us) e = go (any_contains x us) (bytes_eq x u) refl
   where

@@ -105,7 +105,7 @@ module _ (s : Contents) (bytes : List ℕ) where
     given_up_answer said = accepted s bytes (made s.world s.proofs None s.all_subgoals ks)
         (subst (λ xs. HasEffect (state_of s) bytes reply.accepted (state_of (made s.world s.proofs None s.all_subgoals xs))) (sym more) (given_up said))
 
-    -- kinds or constants are declared
+    -- kinds, constants or a definition are declared
     pub declared_answer : (c : Command) (v : World) → s.attempt ≡ None → Commands (state_of s) bytes c → IsDeclared s.world v c → IsAnswer s bytes (made v s.proofs s.attempt s.all_subgoals ks) Accepted
     declared_answer c v none said d = accepted s bytes (made v s.proofs s.attempt s.all_subgoals ks)
         (subst (λ (t : State). HasEffect (state_of s) bytes reply.accepted t) same (declared c d.more said d.declares))
@@ -176,7 +176,7 @@ session_stated s x y e t v p ks is copied d proof begins = record {
   };
 }
 
--- Kinds and constants, in a session that made room
+-- What is declared, in a session that made room
 
 module _ (s old : Contents) (bytes : List ℕ) (c : Command) (v : World) (ks : List (List ℕ)) (same : s ≡ old) (is : IsSession s) (said : Commands (state_of old) bytes c) where
   pub session_declined : (r : Refusal) → IsDeclined s.world v c r → IsSession (made v s.proofs s.attempt s.all_subgoals ks)

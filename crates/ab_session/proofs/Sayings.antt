@@ -1,21 +1,24 @@
 -- Where commands stand that the bytes say, and which of them are built.
 use Rattle.std.proofs.Common.{◌≡◌, ℕ, Bool, true, false, List, Option, Some, None, is_some, option_map, refl, sym, ◌∙◌, subst}
+use Rattle.std.specs.List.{All}
+use Rattle.std.proofs.lemmas.List.Elements.{All-weaker}
 use Rattle.ab_grammar.specs.declared.head.Stand.TheVariants.{Outside, Inside}
 use Rattle.ab_grammar.specs.Tree.{Tree, Trees, name, apply, abs, join, bind, judge, no_trees, tree}
 use Rattle.ab_grammar.specs.CommandTrees as told
-use Rattle.ab_grammar.specs.CommandTrees.{Command}
+use Rattle.ab_grammar.specs.CommandTrees.{Command, Defined, Clause}
 use Rattle.ab_grammar.specs.CommandTable.{standing}
 use Rattle.ab_syntax.specs.declared.command.ProofCommand.{ProofCommand}
 use Rattle.ab_syntax.specs.declared.command.ProofCommand.TheVariants as plain
 use Rattle.ab_syntax.specs.Commands.{proof_command_of}
 use Rattle.ab_syntax.specs.Trees.{tree_of}
 use Rattle.ab_elaborate.specs.Judgements as elaborated
+use Rattle.ab_clausal.specs.Meanings as clausal
 use Rattle.ab_command.specs.Built.{IsBuiltInProof}
-use Rattle.ab_command.specs.Judgements.{HasNoJudgement, HaveNoJudgement}
+use Rattle.ab_command.specs.Judgements.{HasNoJudgement, HaveNoJudgement, BodyHasNoJudgement, ClauseHasNoJudgement}
 use Rattle.ab_command.specs.Reading.{StandsHere}
 use Rattle.ab_command.proofs.Sayings.{said_stands}
 use Rattle.ab_proofcmd.specs.Built.{IsBuilt}
-use Rattle.ab_states.specs.State.{is_open}
+use Rattle.ab_states.specs.State.{State, is_open}
 use Rattle.ab_states.specs.Effect.{Commands}
 use Rattle.ab_session.specs.Contents.{Contents, attempt_of, state_of}
 
@@ -65,6 +68,17 @@ mutual
   no_judgements : (es : Trees) → HaveNoJudgement es → elaborated.HaveNoJudgement es
   no_judgements no_trees h = tt
   no_judgements (tree e es) h = (no_judgement e h.0, no_judgements es h.1)
+
+no_body_judgement : (b : Option Tree) → BodyHasNoJudgement b → clausal.BodyHasNoJudgement b
+no_body_judgement None h = tt
+no_body_judgement (Some b) h = no_judgement b h
+
+no_clause_judgement : (c : Clause) → ClauseHasNoJudgement c → clausal.ClauseHasNoJudgement c
+no_clause_judgement c h = (no_judgement c.head h.0, no_body_judgement c.body h.1)
+
+-- no judgement stands in the clauses of a definition that is said
+pub no_judgement_said : (s : State) (bytes : List ℕ) (inductive : Bool) (ds : List Defined) (cs : List Clause) → Commands s bytes (told.define inductive ds cs) → All clausal.ClauseHasNoJudgement cs
+no_judgement_said s bytes inductive ds cs said = All-weaker ClauseHasNoJudgement clausal.ClauseHasNoJudgement no_clause_judgement cs said.built
 
 -- a proof command that is built, and isn't `search`, has its row
 pub has_row : (count : ℕ) (c : ProofCommand) → ((n : ℕ) → c ≡ plain.Search n → ⊥) → IsBuiltInProof count (proof_command_of c) → IsBuilt (proof_command_of c)

@@ -2,12 +2,13 @@
 use Rattle.std.specs.Prelude.{slice_get, IfSome}
 use Rattle.std.proofs.Common.{◌≡◌, ◌⊎◌, inl, inr, true, ℕ, zero, suc, ◌+◌, List, [], ◌∷◌, ◌++◌, length, map, Option, Some, None, option_map, refl, sym, ◌∙◌, ap, subst, append_assoc, append-nil, length-append}
 use Rattle.ab_term.specs.Types.{Ty}
+use Rattle.ab_types.specs.Entries.{Constant}
 use Rattle.ab_store.specs.Trees.{Read}
 use Rattle.ab_grammar.specs.CommandTrees.{Command}
-use Rattle.ab_logic.specs.Declarations.{Declarations, a_kind, a_constant, a_theorem, signature_in, theorem_in, theorems_in}
+use Rattle.ab_logic.specs.Declarations.{Declarations, Block, a_kind, a_constant, a_block, a_theorem, signature_in, theorem_in, theorems_in}
 use Rattle.ab_logic.specs.Formulas.{IsSentence}
 use Rattle.ab_logic.specs.Growth.{Grows}
-use Rattle.ab_logic.specs.Worlds.{read, first_declarations, declarations_of, IsWorld}
+use Rattle.ab_logic.specs.Worlds.{read, first_declarations, declarations_of, defined, IsWorld}
 use Rattle.ab_logic.specs.declared.world.World.{World}
 use Rattle.ab_logic.proofs.Declaring.{theorems_in-append}
 use Rattle.ab_kernel.specs.Derivation.{Derivation, History, root, proves, open_goals, IsDerivation}
@@ -15,7 +16,8 @@ use Rattle.ab_kernel.specs.Layout.{Held, history_of, IsProof}
 use Rattle.ab_kernel.proofs.Later.{same_history, still_proof}
 use Rattle.ab_progress.specs.Progress.{goals_of}
 use Rattle.ab_goals.specs.Goals.{named}
-use Rattle.ab_declare.specs.Declaring.{Declares, new_kinds, new_constants}
+use Rattle.ab_declare.specs.Declaring.{Declares, new_kinds, new_constants, new_predicates}
+use Rattle.ab_declare.specs.Defining.{predicate_of, block_with}
 use Rattle.ab_states.specs.State as plain
 use Rattle.ab_states.specs.Derived.{IsDerived}
 use Rattle.ab_session.specs.declared.attempt.Attempt.{Attempt}
@@ -128,7 +130,7 @@ same_state s v grows same is =
     ap (λ D. record { declarations = D; attempt = option_map (attempt_of v) s.attempt; all_subgoals = s.all_subgoals; kept = s.kept }) same
     ∙ ap (λ a. record { declarations = declarations_of s.world; attempt = a; all_subgoals = s.all_subgoals; kept = s.kept }) (same_attempts s.world v s.attempt grows is.attempt)
 
--- kinds and constants are no theorems
+-- kinds, constants and definitions are no theorems
 
 kinds_no_theorem : (xs : List (List ℕ)) → theorems_in (map a_kind xs) ≡ []
 kinds_no_theorem [] = refl
@@ -138,9 +140,15 @@ constants_no_theorem : (A : Ty) (xs : List (List ℕ)) → theorems_in (map (λ 
 constants_no_theorem A [] = refl
 constants_no_theorem A (x ∷ xs) = constants_no_theorem A xs
 
+definition_no_theorem : (ps : List Constant) (b : Block) → theorems_in (map predicate_of ps ++ a_block b ∷ []) ≡ []
+definition_no_theorem [] b = refl
+definition_no_theorem (p ∷ ps) b = definition_no_theorem ps b
+
 no_theorem_more : (D : Declarations) (c : Command) (more : Declarations) → Declares D c more → theorems_in more ≡ []
 no_theorem_more D _ _ (new_kinds {xs = xs} n) = kinds_no_theorem xs
 no_theorem_more D _ _ (new_constants {xs = xs} {A = A} n t d) = constants_no_theorem A xs
+no_theorem_more D _ _ (new_predicates {inductive = inductive} d) =
+    ap theorems_in d.is ∙ definition_no_theorem d.predicates (defined (block_with inductive d.predicates d.clauses))
 
 pub as_many : (D : Declarations) (c : Command) (more E : Declarations) → Declares D c more → E ≡ D ++ more → length (theorems_in E) ≡ length (theorems_in D)
 as_many D c more E declares e =

@@ -1,11 +1,11 @@
 //! A session: what the commands so far have led to.
 //!
 //! Every proof goes through the kernel, which alone makes derivations, and each theorem's proof stays as long as it does.
-ghost use Rattle.std.specs.Prelude.{◌≡◌, ◌↔◌, ◌<◌, ℕ, List, length, slice_get, is_some, IfOk, IfSome, IsSome, OnErr};
+ghost use Rattle.std.specs.Prelude.{◌≡◌, ◌↔◌, ◌<◌, ℕ, List, length, map, slice_get, is_some, IfOk, IfSome, IsSome, OnErr};
 ghost use Rattle.std.specs.Option.{option_map, option_copied};
 ghost use Rattle.ab_grammar.specs.CommandTrees as told;
 ghost use Rattle.ab_syntax.specs.Trees as trees;
-ghost use Rattle.ab_syntax.specs.Commands.{command_of, proof_command_of};
+ghost use Rattle.ab_syntax.specs.Commands.{command_of, proof_command_of, defined_of, clause_of};
 ghost use Rattle.ab_logic.specs.Declarations.{theorems_in};
 ghost use Rattle.ab_logic.specs.Readings.{sequent_of, HoldsSequent};
 ghost use Rattle.ab_logic.specs.Worlds.{IsWorld};
@@ -26,14 +26,16 @@ use crate::attempt::Attempt;
 use crate::kept::{Before, Kept, make_room};
 use crate::refusals::unread;
 use ab_command::{Command, Unread, read_command};
-use ab_declare::{Moment, Refusal, Statement, declare_constants, declare_kinds, state_formula};
+use ab_declare::{
+    Moment, Refusal, Statement, declare_constants, declare_definition, declare_kinds, state_formula,
+};
 use ab_io::Files;
 use ab_kernel::Proof;
 use ab_logic::{Sequent, World};
 use ab_name::Name;
 use ab_states::Reply;
 use ab_store::TermId;
-use ab_syntax::{Parse, ProofCommand, TypeParse};
+use ab_syntax::{ClauseParse, Defined, Parse, ProofCommand, TypeParse};
 use ab_types::Steps;
 use std::alloc::{AllocError, Global};
 use std::marker::Model;
@@ -183,6 +185,11 @@ impl Session {
                 let names = names.as_slice();
                 self.declare_constants(bytes, names, parse, steps)
             }
+            Command::Define(inductive, predicates, clauses) => {
+                let predicates = predicates.as_slice();
+                let clauses = clauses.as_slice();
+                self.declare_definition(bytes, *inductive, predicates, clauses, steps)
+            }
             Command::Theorem(name, parse) => self.state_theorem(bytes, name, parse, steps),
             Command::Show(name) => self.show(bytes, name),
             Command::Quit => Ok(Reply::Quit),
@@ -248,6 +255,37 @@ impl Session {
         let before = self.before();
         let entry = make_room(self.alloc, &mut self.kept, bytes, before)?;
         match declare_constants(self.alloc, &mut self.world, names, parse, steps)? {
+            Some(refusal) => Ok(Reply::Refused(refusal)),
+            None => {
+                self.kept.push_reserved(entry);
+                Ok(Reply::Accepted)
+            }
+        }
+    }
+
+    /// `Define w : ty, .., w : ty by c ; .. ; c`, and `CoDefine` likewise.
+    fn declare_definition<L>(
+        &mut self,
+        bytes: &[u8],
+        inductive: bool,
+        predicates: &[Defined],
+        clauses: &[ClauseParse],
+        steps: &mut Steps<L>,
+    ) -> Result<Reply, AllocError>
+        requires { Commands (state_of self.old) bytes.now (told.define inductive (map defined_of predicates.now) (map clause_of clauses.now)) }
+        ensures answer { IfOk result (IsAnswer self.old bytes.now self.new) }
+        ensures err { OnErr result (state_of self.new ≡ state_of self.old) }
+    {
+        let before = self.before();
+        let entry = make_room(self.alloc, &mut self.kept, bytes, before)?;
+        match declare_definition(
+            self.alloc,
+            &mut self.world,
+            inductive,
+            predicates,
+            clauses,
+            steps,
+        )? {
             Some(refusal) => Ok(Reply::Refused(refusal)),
             None => {
                 self.kept.push_reserved(entry);

@@ -45,7 +45,7 @@ pub data HasEffect (s : State) (bytes : List ℕ) : Reply → State → Type 0 w
   unread : (c : Cause) → Fails bytes (is_open s) c → HasEffect s bytes (refused (unread_for c)) s
   -- the command isn't one that what is declared admits
   declined : (c : Command) (r : Refusal) → Commands s bytes c → Declines s.declarations c r → HasEffect s bytes (refused r) s
-  -- kinds or constants are declared
+  -- kinds, constants or a definition are declared
   declared : (c : Command) (more : Declarations) → Commands s bytes c → Declares s.declarations c more
       → HasEffect s bytes accepted (keeping bytes (declaring more s))
   -- a theorem of a new name is stated: its formula is the one goal

@@ -16,7 +16,8 @@ use Rattle.ab_sentences.proofs.Resolving.{names_are_declared}
 use Rattle.ab_rows.proofs.OneReading.{means_or_not_in, one_meaning_in, one_cause_in}
 use Rattle.ab_declare.specs.declared.refusal.Refusal.{Refusal}
 use Rattle.ab_declare.specs.Refusals.{refusal_for}
-use Rattle.ab_declare.specs.Declaring.{scope_of, States, Declares, new_kinds, new_constants, Declines, kind_taken, constant_taken, type_unknown, type_unfit, theorem_taken, states_nothing, no_theorem}
+use Rattle.ab_declare.specs.Declaring.{scope_of, States, Declares, new_kinds, new_constants, new_predicates, Declines, kind_taken, constant_taken, type_unknown, type_unfit, defines_nothing, theorem_taken, states_nothing, no_theorem}
+use Rattle.ab_unique.proofs.Definitions.{one_defining, one_refusal, defines_or_not}
 
 no_free : (e : Resolved) → ResolvedHas IsDeclared e → FreeAreNominal e
 no_free (bound i) h = tt
@@ -42,6 +43,7 @@ module _ (D : Declarations) where
       let both : Ok A ≡ Ok B = sym t ∙ u in
       let same : A ≡ B = cc in
       ap (λ C. map (λ x. a_constant x C) xs) same
+  one_declaring {more = more} {others = others} (new_predicates {inductive = i} {ds = ds} {cs = cs} a) (new_predicates b) = one_defining D i ds cs more others a b
 
   -- IT IS REFUSED for one cause
 
@@ -56,6 +58,7 @@ module _ (D : Declarations) where
   one_declining (type_unfit e t m) (constant_taken {x = y} f) = let bad : Some y ≡ None = sym f ∙ e in absurd (cc)
   one_declining (type_unfit {A = A} e t m) (type_unknown {x = y} f u) = let bad : Err y ≡ Ok A = sym u ∙ t in absurd (cc)
   one_declining (type_unfit e t m) (type_unfit f u n) = refl
+  one_declining {r = r} {q = q} (defines_nothing {inductive = i} {ds = ds} {cs = cs} a) (defines_nothing b) = one_refusal D i ds cs r q a b
   one_declining (theorem_taken e) (theorem_taken f) = refl
   one_declining (theorem_taken {F = F} e) (states_nothing g f n) = let bad : Some F ≡ None = sym e ∙ f in absurd (cc)
   one_declining (states_nothing g e m) (theorem_taken {F = F} f) = let bad : Some F ≡ None = sym f ∙ e in absurd (cc)
@@ -72,6 +75,7 @@ module _ (D : Declarations) where
       let both : Ok A ≡ Ok B = sym t ∙ u in
       let same : A ≡ B = cc in
       n (subst IsDeclarable same d)
+  declares_or_not {more = more} {r = r} (new_predicates {inductive = i} {ds = ds} {cs = cs} a) (defines_nothing b) = defines_or_not D i ds cs more r a b
 
   pub states_or_not : {x : List ℕ} {e : Tree} {F : Read} {r : Refusal} → theorem_in D x ≡ None → States D e F → Declines D (theorem x e) r → ⊥
   states_or_not {F = F} none m (theorem_taken {F = G} f) = let bad : Some G ≡ None = sym f ∙ none in cc

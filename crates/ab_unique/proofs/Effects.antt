@@ -1,6 +1,6 @@
 -- Each command has one effect on a state.
 use Rattle.std.proofs.Common.{◌≡◌, ◌⊎◌, inl, inr, ℕ, List, [], ◌∷◌, ◌++◌, map, Option, Some, None, refl, sym, ◌∙◌, ap, subst}
-use Rattle.ab_grammar.specs.CommandTrees.{Command, kinds, constants, theorem, show, quit, subgoals, abort, in_proof}
+use Rattle.ab_grammar.specs.CommandTrees.{Command, kinds, constants, define, theorem, show, quit, subgoals, abort, in_proof}
 use Rattle.ab_grammar.specs.CommandTrees.{ProofCommand, search}
 use Rattle.ab_store.specs.Trees.{Read}
 use Rattle.ab_logic.specs.Declarations.{Declarations, HaveDefinitions, a_theorem, theorem_in}
@@ -11,7 +11,7 @@ use Rattle.ab_command.specs.Reading.{Fails}
 use Rattle.ab_command.proofs.Sayings.{says_one, fails_one, says_or_fails}
 use Rattle.ab_declare.specs.declared.refusal.Refusal.{Refusal}
 use Rattle.ab_declare.specs.Refusals.{refusal_for}
-use Rattle.ab_declare.specs.Declaring.{States, Declares, Declines, new_kinds, new_constants, kind_taken, constant_taken, type_unknown, type_unfit, theorem_taken, states_nothing, no_theorem}
+use Rattle.ab_declare.specs.Declaring.{States, Declares, Declines, new_kinds, new_constants, new_predicates, kind_taken, constant_taken, type_unknown, type_unfit, defines_nothing, theorem_taken, states_nothing, no_theorem}
 use Rattle.ab_goals.specs.Goals.{Goal, named}
 use Rattle.ab_effects.specs.Effect.{given_label}
 use Rattle.ab_rows.proofs.Once.{once}
@@ -65,6 +65,7 @@ module _ (s : State) (sound : AreSound s.declarations) (bytes : List ℕ) where
   abbrev Does : Command → Reply → State → Type 0
   Does (kinds xs) r t = Refusing (kinds xs) r t ⊎ Declaring (kinds xs) r t
   Does (constants xs A) r t = Refusing (constants xs A) r t ⊎ Declaring (constants xs A) r t
+  Does (define i ds cs) r t = Refusing (define i ds cs) r t ⊎ Declaring (define i ds cs) r t
   Does (theorem x e) r t =
       Refusing (theorem x e) r t
       ⊎ ((F : Read) × (theorem_in s.declarations x ≡ None) × States s.declarations e F × (r ≡ accepted) × (t ≡ keeping bytes (proving (beginning x F) s)))
@@ -80,6 +81,7 @@ module _ (s : State) (sound : AreSound s.declarations) (bytes : List ℕ) where
   refusing_does {v = v} (constant_taken e) = inl (v, constant_taken e, (refl, refl))
   refusing_does {v = v} (type_unknown e f) = inl (v, type_unknown e f, (refl, refl))
   refusing_does {v = v} (type_unfit e f n) = inl (v, type_unfit e f n, (refl, refl))
+  refusing_does {v = v} (defines_nothing d) = inl (v, defines_nothing d, (refl, refl))
   refusing_does {v = v} (theorem_taken e) = inl (v, theorem_taken e, (refl, refl))
   refusing_does {v = v} (states_nothing f e n) = inl (v, states_nothing f e n, (refl, refl))
   refusing_does {v = v} (no_theorem e) = inl (v, no_theorem e, (refl, refl))
@@ -87,6 +89,7 @@ module _ (s : State) (sound : AreSound s.declarations) (bytes : List ℕ) where
   declaring_does : {c : Command} {more : Declarations} → Declares s.declarations c more → Does c accepted (keeping bytes (declaring more s))
   declaring_does {more = more} (new_kinds e) = inr (more, new_kinds e, refl, refl)
   declaring_does {more = more} (new_constants e f d) = inr (more, new_constants e f d, refl, refl)
+  declaring_does {more = more} (new_predicates d) = inr (more, new_predicates d, refl, refl)
 
   -- an effect, by what the bytes say
   abbrev Says : Reply → State → Type 0
@@ -156,6 +159,7 @@ module _ (s : State) (sound : AreSound s.declarations) (bytes : List ℕ) where
   one_doing : (c : Command) (r q : Reply) (t u : State) → Does c r t → Does c q u → Same r t q u
   one_doing (kinds xs) r q t u a b = one_declared (kinds xs) r q t u a b
   one_doing (constants xs A) r q t u a b = one_declared (constants xs A) r q t u a b
+  one_doing (define i ds cs) r q t u a b = one_declared (define i ds cs) r q t u a b
   one_doing (theorem x e) r q t u (inl (v, d, a)) (inl (w, f, b)) = leaves_same v w r q t u (one_declining s.declarations d f) a b
   one_doing (theorem x e) r q t u (inl (v, d, a)) (inr (F, n, m, k, j)) = absurd (states_or_not s.declarations n m d)
   one_doing (theorem x e) r q t u (inr (F, n, m, k, j)) (inl (w, f, b)) = absurd (states_or_not s.declarations n m f)

@@ -1,3 +1,6 @@
+mod Faults
+mod Clauses
+mod Definitions
 mod Closing
 mod Declaring
 pub mod Sound

@@ -7,7 +7,7 @@ pub struct Case {
     pub report: &'static [u8],
 }
 
-pub const CASES: [Case; 44] = [
+pub const CASES: [Case; 48] = [
     Case {
         script: b"",
         status: 0,
@@ -227,5 +227,25 @@ pub const CASES: [Case; 44] = [
         script: b"Kind i type. Type h (i -> i) -> i. Theorem q : forall (M : i -> i) N X1, nabla a, h (x\\ M x) = h (y\\ N) -> M a = X1 -> false. intros. case H1. case H2 (keep). case H2 (keep). case H9.",
         status: 1,
         report: b"[1]\n[2]\n[3]\n============================\n forall M N X1, nabla a, h M = h (y\\ N) -> M a = X1 -> false\n[4]\nVariables: M N X1\nH1 : h M = h y\\ N\nH2 : M n1 = X1\n============================\n false\n[5]\nVariables: N X1\nH2 : N = X1\n============================\n false\n[6]\nVariables: N\nH2 : N = N\n============================\n false\n[7]\nVariables: N\nH2 : N = N\n============================\n false\n[7] Refused 10 NoHypothesis H9\nVariables: N\nH2 : N = N\n============================\n false\n",
+    },
+    Case {
+        script: b"Kind nat type. Type z nat. Type s nat -> nat. Define nat : nat -> prop by nat z ; nat (s N) := nat N. Define plus : nat -> nat -> nat -> prop by plus z N N ; plus (s M) N (s K) := plus M N K. Define q : nat -> prop by plus z N N. Theorem x : nat.",
+        status: 1,
+        report: b"[1]\n[2]\n[3]\n[4]\n[5]\n[5] Refused 8 BadHead clause 1\n[5] Refused 5 TypeClash at 12\n",
+    },
+    Case {
+        script: b"Kind i type. Define bad : i -> prop by bad X := bad X -> false. Define bad : i -> prop by bad X.",
+        status: 1,
+        report: b"[1]\n[1] Refused 7 NotStratified bad\n[2]\n",
+    },
+    Case {
+        script: b"Kind i type. CoDefine q : i -> prop, r : i -> prop by q X := r X ; r X := q X. Theorem t : forall X, q X -> q X. intros. search.",
+        status: 0,
+        report: b"[1]\n[2]\n[3]\n============================\n forall X, q X -> q X\n[4]\nVariables: X\nH1 : q X\n============================\n q X\n[5] Proof completed: t.\n",
+    },
+    Case {
+        script: b"Kind i type. Define p : i -> prop, p : foo by. Define p : i -> i by p zzz. Define p : i -> i by p Z. Define p : i -> prop by p X := X ; X = X. Define p : i -> prop by p X := p X ; X. Define p : i -> prop by nabla x, p x.",
+        status: 1,
+        report: b"[1]\n[1] Refused 4 Clash p\n[1] Refused 3 Unknown zzz\n[1] Refused 5 TypeClash at 11\n[1] Refused 5 TypeClash at 24\n[1] Refused 5 TypeClash at 37\n[2]\n",
     },
 ];
