@@ -1,0 +1,6 @@
+mod Listed
+mod Chosen
+mod Passed
+pub mod Later
+mod PlainChoice
+mod ByChoice
