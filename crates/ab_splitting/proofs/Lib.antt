@@ -2,5 +2,6 @@ mod Listed
 mod Chosen
 mod Passed
 pub mod Later
+mod Tried
 mod PlainChoice
 mod ByChoice

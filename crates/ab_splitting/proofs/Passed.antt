@@ -88,6 +88,13 @@ passed_goal w v later gs now g pushed held there c arises =
 pub stopped_here : (w : World) (c : CaseOver) (i : ℕ) → IsOpen (c (cells_read w.types w.store)) i → AreStopped w (c ∷ []) i
 stopped_here w c i open_there ds = here open_there
 
+-- whatever stands behind
+pub stopped_more : (w : World) (cs ds : List CaseOver) (i : ℕ) → AreStopped w cs i → AreStopped w (cs ++ ds) i
+stopped_more w cs ds i stopped es = subst (λ l. IsUnsplit (IsNamedFor (declarations_of w)) (cells_read w.types w.store) l i) (sym (append_assoc cs ds es)) (stopped (ds ++ es))
+
+pub stopped_in : (w : World) (cs ds : List CaseOver) (i : ℕ) → AreStopped w cs i → (all : List CaseOver) → all ≡ cs ++ ds → AreStopped w all i
+stopped_in w cs ds i stopped all e = subst (λ l. AreStopped w l i) (sym e) (stopped_more w cs ds i stopped)
+
 -- cases behind cases
 module _ (u v : World) (later : IsLater u v) (a b : List Kept) (cs : List CaseOver) (p : ArePassed u a cs v b) where
   abbrev N : Declarations → Naming

@@ -37,11 +37,7 @@ fn formulas_of(alloc: Global, goal: &Sequent) -> Result<Vec<TermId>, AllocError>
 }
 
 /// The constants of the goal, each once.
-fn goal_constants(
-    alloc: Global,
-    world: &World,
-    goal: &Sequent,
-) -> Result<Vec<Nominal>, AllocError>
+fn goal_constants(alloc: Global, world: &World, goal: &Sequent) -> Result<Vec<Nominal>, AllocError>
     requires world { IsWorld world.now }
     requires goal { HoldsSequent world.now goal.now }
     ensures list { IfOk result (λ list. SameMembers (names_read world.now.types list.items) (goal_names (sequent_of world.now goal.now))) }

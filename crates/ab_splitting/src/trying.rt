@@ -140,21 +140,11 @@ fn try_choices<L>(
     ensures steps { steps.old ≤ steps.new }
 {
     for names in choices {
-        let stopped = try_choice(
-            alloc,
-            world,
-            atom,
-            constants,
-            clause,
-            names.as_slice(),
-            goal,
-            rest,
-            name,
-            goals,
-            steps,
-        )?;
-        if stopped.is_some() {
-            return Ok(stopped);
+        let names = names.as_slice();
+        if let Some(place) = try_choice(
+            alloc, world, atom, constants, clause, names, goal, rest, name, goals, steps,
+        )? {
+            return Ok(Some(place));
         }
     }
     Ok(None)
