@@ -23,5 +23,6 @@ mod Unfolded
 mod Unfolding
 pub mod Sequents
 mod Cased
+mod Analysed
 pub mod Keeping
 pub mod OneList

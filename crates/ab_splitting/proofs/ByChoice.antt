@@ -1,25 +1,23 @@
 -- Cover by one choice: the guess for an instance is renamed, so that its constants are those of the choice. Which choice it
 -- is doesn't depend on cells.
-use Rattle.std.proofs.Common.{◌≡◌, ◌≢◌, ◌⊎◌, inl, inr, ℕ, suc, List, [], ◌∷◌, ◌++◌, map, length, Some, refl, sym, ◌∙◌, ap, subst}
+use Rattle.std.proofs.Common.{◌≡◌, ◌≢◌, ◌⊎◌, inl, inr, ℕ, List, [], ◌∷◌, ◌++◌, map, length, Some, refl, sym, ◌∙◌, ap, subst}
 use Rattle.std.specs.Prelude.{All, AllPairs, Contains}
 use Rattle.std.proofs.lemmas.List.Elements.{All-contains, All-map, All-weaker, Contains-append_left, Contains-append_right}
 use Rattle.ab_term.specs.Types.{Ty}
-use Rattle.ab_term.specs.Terms.{Nominal, Variable, constant, nominal, Term, spine, Terms, no_terms}
+use Rattle.ab_term.specs.Terms.{Nominal, Variable, constant, Term, spine, Terms}
 use Rattle.ab_term.specs.Typing.{Signature, HasType}
-use Rattle.ab_term.specs.Expansion.{expansion}
 use Rattle.ab_term.specs.Translation.{forget, EqualPastHints}
 use Rattle.ab_term.specs.Names.{same_nominal, support, support_of_all, rename, EqualUpToNames}
 use Rattle.ab_term.specs.Variables.{Substitution, value_in, image, IsTyped}
 use Rattle.ab_term.proofs.Comparisons.{same_nominal-Decides}
-use Rattle.ab_term.proofs.Translations.{translate-rename, map-append}
-use Rattle.ab_term.proofs.Renamings.{renamed, rename-image, rename_typed, rename-expansion_of, support-rename}
+use Rattle.ab_term.proofs.Renamings.{renamed, rename-image, rename_typed}
 use Rattle.ab_term.proofs.UpToNames.{rename-itself, up_to_names-symmetric, up_to_names-transitive}
-use Rattle.ab_term.proofs.Lists.{Contains-none, Contains-here, Contains-there, Contains-cases, Contains-from_map, contains_or_not}
+use Rattle.ab_term.proofs.Lists.{Contains-none, Contains-here, Contains-there, Contains-cases, contains_or_not}
 use Rattle.ab_term.specs.Sameness.{same_number}
 use Rattle.ab_solve.specs.Replacing.{Cell}
 use Rattle.ab_solve.specs.Solving.{Answer, unified, apart, stuck, Solves}
 use Rattle.ab_solve.specs.Meaning.{AreKnown, given}
-use Rattle.ab_cases.specs.Clauses.{Clause, Each, numbered, clause_variables, clause_names, put_together, name_term, filled, head_of, IsClause, AreFor, Instance, instance_by}
+use Rattle.ab_cases.specs.Clauses.{Clause, Each, filled, head_of, IsClause, Instance, instance_by}
 use Rattle.ab_cases.specs.Choices.{in_order, outside, choices}
 use Rattle.ab_cases.specs.Alternatives.{Scope, Alternative, on_left, alternative}
 use Rattle.ab_cases.specs.Covering.{Covers, IsCleanFor}
@@ -29,7 +27,7 @@ use Rattle.ab_cases.proofs.Choosing.{in_or_outside, outside_contains, contains_o
 use Rattle.ab_cases.proofs.Matching.{Matches, matched}
 use Rattle.ab_term.proofs.Permuting.{Each as Placed, moved, moved_type, moved_each, moved_stays, moved_injective, OfOneType, rename_agrees, same_up_to_names}
 use Rattle.ab_cases.proofs.Left.{LeftGives, left_gives}
-use Rattle.ab_cases.proofs.Covered.{found_of_all, hold_none, names_typed, alternative_listed, same_predicate}
+use Rattle.ab_cases.proofs.Covered.{found_of_all, hold_none, names_typed, same_predicate}
 use Rattle.ab_cases.proofs.Swapped.{Guess, renamed_has, renamed_guess}
 use Rattle.ab_splitting.specs.Covering.{over_cells, HasCover}
 

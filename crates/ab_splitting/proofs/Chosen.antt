@@ -1,11 +1,11 @@
 -- Choices are of the types of the names; and a goal's constants are those of its formulas.
-use Rattle.std.proofs.Common.{◌≡◌, ◌⊎◌, inl, inr, ℕ, List, [], ◌∷◌, ◌++◌, map, Bool, true, false, cond, bytes_eq, refl, sym, ◌∙◌, ap, subst}
-use Rattle.std.specs.Prelude.{All, Contains, filter, ◌↔◌, None}
+use Rattle.std.proofs.Common.{◌≡◌, ℕ, List, [], ◌∷◌, ◌++◌, map, Bool, true, false, cond, bytes_eq, refl, sym, ◌∙◌, ap, subst}
+use Rattle.std.specs.Prelude.{All, Contains, ◌↔◌}
 use Rattle.std.proofs.lemmas.Bool.{false≢true}
-use Rattle.std.proofs.lemmas.List.Elements.{All-nil, All-cons, All-append, All-map, All-weaker, All-filter, All-head, All-tail}
+use Rattle.std.proofs.lemmas.List.Elements.{All-nil, All-cons, All-append, All-map, All-weaker, All-head, All-tail}
 use Rattle.std.proofs.lemmas.Slice.Eq.{bytes_eq-Decides}
 use Rattle.ab_term.specs.Types.{Ty, same_type}
-use Rattle.ab_term.specs.Terms.{Nominal, Terms, terms_of}
+use Rattle.ab_term.specs.Terms.{Nominal, terms_of}
 use Rattle.ab_term.specs.Names.{support, support_of_all}
 use Rattle.ab_term.proofs.Comparisons.{same_type-Decides}
 use Rattle.ab_term.proofs.Lists.{All-from_contains}

@@ -1,5 +1,5 @@
 -- A goal and its atom in a later world: they read as before, and so do the cases.
-use Rattle.std.proofs.Common.{◌≡◌, ℕ, List, [], ◌∷◌, map, Some, refl, sym, ◌∙◌, ap, subst}
+use Rattle.std.proofs.Common.{◌≡◌, ℕ, List, [], ◌∷◌, map, Some, sym, ◌∙◌, ap, subst}
 use Rattle.std.specs.Prelude.{All, true}
 use Rattle.std.proofs.lemmas.List.Elements.{All-nil, All-cons, All-head, All-weaker}
 use Rattle.ab_term.specs.Types.{Ty, prop}
@@ -10,8 +10,6 @@ use Rattle.ab_types.specs.Entries.{signature}
 use Rattle.ab_types.specs.Ids.{HoldsConstant}
 use Rattle.ab_types.specs.declared.ids.ConstId.{ConstId}
 use Rattle.ab_store.specs.declared.node.TermId.{TermId}
-use Rattle.ab_store.specs.declared.node.CellId.{CellId}
-use Rattle.ab_store.specs.Trees.{Read}
 use Rattle.ab_norm.specs.Nominals.{HoldsNominal}
 use Rattle.ab_norm.specs.Taking.{AreTaken}
 use Rattle.ab_norm.specs.declared.nominal.Nominal.{Nominal}
@@ -26,16 +24,16 @@ use Rattle.ab_instances.proofs.Made.{names_stay, names_held}
 use Rattle.ab_logic.specs.Declarations as declared
 use Rattle.ab_logic.specs.Declarations.{Declarations, signature_in, IsDefining}
 use Rattle.ab_logic.specs.Formulas.{IsFormula}
-use Rattle.ab_logic.specs.Sequents.{Variable, Sequent, IsSequent, formulas_of, goal_names}
-use Rattle.ab_logic.specs.Worlds.{IsWorld, Holds, read, variable_of, declarations_of, definition_of, IsKeptClause, IsKeptBlock}
-use Rattle.ab_logic.specs.Readings.{HoldsSequent, sequent_of}
+use Rattle.ab_logic.specs.Sequents.{Sequent, IsSequent, formulas_of, goal_names}
+use Rattle.ab_logic.specs.Worlds.{IsWorld, Holds, read, declarations_of, definition_of, IsKeptClause, IsKeptBlock}
+use Rattle.ab_logic.specs.Readings.{sequent_of}
 use Rattle.ab_logic.specs.declared.world.World.{World}
 use Rattle.ab_logic.specs.declared.additions.Addition.TheVariants.{Definition}
 use Rattle.ab_logic.specs.declared.sequent.Sequent.{Sequent as Kept}
 use Rattle.ab_logic.proofs.Growing.{map_same, same_sequent, still_held, same_constants}
 use Rattle.ab_logic.proofs.Blocks.{same_clause, same_definition, still_kept, block_defines}
 use Rattle.ab_equate.specs.Cases.{CaseOver}
-use Rattle.ab_analysis.specs.Atoms.{Defined, Choice}
+use Rattle.ab_analysis.specs.Atoms.{Defined}
 use Rattle.ab_analysis.specs.Left.{case_of}
 use Rattle.ab_alternatives.specs.Members.{SameMembers}
 use Rattle.ab_alternatives.specs.Readings.{defined_read, HoldsDefined, choice_read}

@@ -1,5 +1,5 @@
 -- The cases of a goal, clause by clause, and choice by choice.
-use Rattle.std.proofs.Common.{◌≡◌, ℕ, zero, suc, ◌+◌, ◌<◌, ◌≤◌, List, [], ◌∷◌, ◌++◌, map, take, drop, length, get_or, Bool, true, false, cond, bytes_eq, refl, sym, ◌∙◌, ap, arith, append_assoc, append-nil}
+use Rattle.std.proofs.Common.{◌≡◌, ℕ, zero, suc, ◌+◌, ◌<◌, List, [], ◌∷◌, ◌++◌, map, take, length, get_or, Bool, true, false, cond, bytes_eq, refl, sym, ◌∙◌, ap, arith, append_assoc, append-nil}
 use Rattle.std.specs.Prelude.{filter}
 use Rattle.std.proofs.lemmas.List.{map-append, take_more}
 use Rattle.ab_term.specs.Terms.{Nominal}
@@ -7,7 +7,6 @@ use Rattle.ab_term.specs.Names.{support_of_all}
 use Rattle.ab_cases.specs.Clauses.{Clause}
 use Rattle.ab_cases.specs.Choices.{in_order, choices, for_each}
 use Rattle.ab_logic.specs.Sequents.{Sequent, goal_names}
-use Rattle.ab_equate.specs.Cases.{CaseOver}
 use Rattle.ab_analysis.specs.Atoms.{Defined, Choice}
 use Rattle.ab_analysis.specs.Left.{case_of, cases_of}
 use Rattle.ab_splitting.specs.Going.{clause_cases}

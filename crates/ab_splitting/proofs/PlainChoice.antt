@@ -2,7 +2,7 @@
 use Rattle.std.proofs.Common.{◌≡◌, ℕ, suc, List, [], ◌∷◌, map, length, refl, sym, ◌∙◌, ap, subst, arith}
 use Rattle.std.specs.Prelude.{All, Contains}
 use Rattle.std.proofs.lemmas.List.Elements.{All-contains}
-use Rattle.ab_term.specs.Terms.{Nominal, constant, Term, spine, Terms}
+use Rattle.ab_term.specs.Terms.{constant, Term, spine, Terms}
 use Rattle.ab_term.specs.Typing.{Signature}
 use Rattle.ab_term.specs.Translation.{EqualPastHints}
 use Rattle.ab_term.specs.Names.{support_of_all}

@@ -15,7 +15,7 @@ use Rattle.ab_instances.specs.Readings.{names_read}
 use Rattle.ab_instances.proofs.Made.{names_stay, names_held}
 use Rattle.ab_logic.specs.Sequents.{Variable}
 use Rattle.ab_logic.specs.Worlds.{IsKeptClause, variable_of}
-use Rattle.ab_logic.specs.Readings.{HoldsSequent, sequent_of}
+use Rattle.ab_logic.specs.Readings.{sequent_of}
 use Rattle.ab_logic.specs.declared.world.World.{World}
 use Rattle.ab_logic.specs.declared.sequent.Sequent.{Sequent as Kept}
 use Rattle.ab_equate.specs.Cases.{CaseOver}

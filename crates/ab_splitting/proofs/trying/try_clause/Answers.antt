@@ -1,14 +1,11 @@
 use Rattle.std.proofs.Common.{◌≡◌, List, map, bytes_eq, true, sym, ◌∙◌, ap, subst}
-use Rattle.ab_norm.specs.declared.nominal.Nominal.{Nominal}
 use Rattle.ab_clauses.specs.Cases as kept
 use Rattle.ab_clauses.specs.Readings.{clause_of}
-use Rattle.ab_cases.specs.Choices as plain
 use Rattle.ab_instances.specs.Readings.{names_read}
 use Rattle.ab_logic.specs.Readings.{sequent_of}
 use Rattle.ab_equate.specs.Cases.{CaseOver}
-use Rattle.ab_analysis.specs.Left.{case_of}
-use Rattle.ab_alternatives.specs.Readings.{defined_read, choice_read}
-use Rattle.ab_splitting.specs.Going.{clause_cases, ArePassed, AreStopped}
+use Rattle.ab_alternatives.specs.Readings.{defined_read}
+use Rattle.ab_splitting.specs.Going.{ArePassed, AreStopped}
 use Rattle.ab_splitting.proofs.Chosen.{listed_fit, clause_cases_are}
 use Rattle.ab_splitting.proofs.trying.try_clause.Goals as goal
 
