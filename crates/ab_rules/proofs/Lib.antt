@@ -24,5 +24,6 @@ mod Unfolding
 pub mod Sequents
 mod Cased
 pub mod Analysed
+mod Analysable
 pub mod Keeping
 pub mod OneList

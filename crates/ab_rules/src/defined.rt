@@ -1,4 +1,4 @@
-//! The rules of defined atoms. They aren't carried out yet: each answers want of memory.
+//! The rules of defined atoms. That on the right isn't carried out yet: it answers want of memory.
 ghost use Rattle.std.specs.Prelude.{◌≡◌, ◌≤◌};
 ghost use Rattle.ab_logic.specs.Growth.{Grows};
 ghost use Rattle.ab_logic.specs.Readings.{sequent_of, HoldsSequent};
@@ -8,8 +8,10 @@ ghost use Rattle.ab_rules.specs.Steps as plain;
 ghost use Rattle.ab_rules.specs.Answers.{Answers, label_of, row_at};
 
 use crate::step::KernelFault;
+use ab_alternatives::{defined_atom, may_be_analysed};
 use ab_logic::{Sequent, World};
-use ab_naming::Label;
+use ab_naming::{Label, name_by};
+use ab_splitting::{Splitting, split};
 use ab_types::{Name, Steps};
 use std::alloc::{AllocError, Global};
 
@@ -51,7 +53,21 @@ pub(crate) fn definition_left<L>(
     ensures declared { declarations_of world.new ≡ declarations_of world.old }
     ensures steps { steps.old ≤ steps.new }
 {
-    let _ = world;
-    let _ = steps;
-    Err(KernelFault::Memory(AllocError))
+    let Some(formula) = sequent.look(name) else {
+        return Err(KernelFault::RuleFails(1));
+    };
+    let Some(atom) = defined_atom(alloc, world, formula)? else {
+        return Err(KernelFault::RuleFails(2));
+    };
+    if !may_be_analysed(atom.sign) {
+        return Err(KernelFault::RuleFails(3));
+    }
+    let Some(named) = name_by(alloc, given, sequent.copy_without(alloc, name)?)? else {
+        return Err(KernelFault::RuleFails(4));
+    };
+    let rest = &named.sequent;
+    match split(alloc, world, &atom, sequent, rest, &named.name, steps)? {
+        Splitting::Goals(premises) => Ok(premises),
+        Splitting::Stuck(place) => Err(KernelFault::NotPattern(place)),
+    }
 }

@@ -1,0 +1,7 @@
+mod Listed
+mod Chosen
+mod Passed
+pub mod Later
+mod Tried
+mod PlainChoice
+mod ByChoice
