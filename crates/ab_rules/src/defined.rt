@@ -1,4 +1,4 @@
-//! The rules of defined atoms. That on the right isn't carried out yet: it answers want of memory.
+//! The rules of defined atoms.
 ghost use Rattle.std.specs.Prelude.{◌≡◌, ◌≤◌};
 ghost use Rattle.ab_logic.specs.Growth.{Grows};
 ghost use Rattle.ab_logic.specs.Readings.{sequent_of, HoldsSequent};
@@ -7,12 +7,15 @@ ghost use Rattle.ab_logic.specs.Worlds.{IsWorld, declarations_of};
 ghost use Rattle.ab_rules.specs.Steps as plain;
 ghost use Rattle.ab_rules.specs.Answers.{Answers, label_of, row_at};
 
+use crate::lists::one;
 use crate::step::KernelFault;
-use ab_alternatives::{defined_atom, may_be_analysed};
+use ab_alternatives::{defined_atom, may_be_analysed, may_be_unfolded};
+use ab_equate::CaseSolution;
 use ab_logic::{Sequent, World};
 use ab_naming::{Label, name_by};
 use ab_splitting::{Splitting, split};
 use ab_types::{Name, Steps};
+use ab_unfolding::unfold_at;
 use std::alloc::{AllocError, Global};
 
 /// The conclusion is unfolded by the choice of this place.
@@ -31,9 +34,20 @@ pub(crate) fn definition_right<L>(
     ensures declared { declarations_of world.new ≡ declarations_of world.old }
     ensures steps { steps.old ≤ steps.new }
 {
-    let _ = world;
-    let _ = steps;
-    Err(KernelFault::Memory(AllocError))
+    let Some(atom) = defined_atom(alloc, world, sequent.conclusion)? else {
+        return Err(KernelFault::RuleFails(1));
+    };
+    if !may_be_unfolded(atom.sign) {
+        return Err(KernelFault::RuleFails(2));
+    }
+    let Some(solved) = unfold_at(alloc, world, &atom, sequent, place, steps)? else {
+        return Err(KernelFault::RuleFails(3));
+    };
+    match solved {
+        CaseSolution::Unified(premise) => Ok(one(alloc, premise)?),
+        CaseSolution::Apart => Err(KernelFault::RuleFails(4)),
+        CaseSolution::Stuck(equation) => Err(KernelFault::NotPattern(equation)),
+    }
 }
 
 /// A goal for each choice by which a hypothesis may hold.

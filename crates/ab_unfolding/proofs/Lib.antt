@@ -1,0 +1,6 @@
+pub mod Counted
+pub mod Taken
+pub mod GoalNames
+pub mod Placed
+pub mod Unfoldable
+pub mod Lasting

@@ -1,0 +1,3 @@
+-- The choices of a defined atom on shared terms: what one stands for. `Counting` serves private contracts.
+pub mod Readings
+pub mod Counting
