@@ -1,0 +1,2 @@
+-- Which levels count for a new mark.
+pub mod Kinds
