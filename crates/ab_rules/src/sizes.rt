@@ -1,17 +1,31 @@
-//! The rules that give an atom of the conclusion a size. They aren't carried out yet: each answers want of memory.
-ghost use Rattle.std.specs.Prelude.{◌≡◌, ◌≤◌};
+//! The rules that give an atom of the conclusion a size: it is to be derived with that size, and holds where it is smaller.
+ghost use Rattle.std.specs.Prelude.{◌≡◌, IfOk};
+ghost use Rattle.ab_induction.specs.Places.{marked_antecedent, marked_consequent};
 ghost use Rattle.ab_logic.specs.Growth.{Grows};
+ghost use Rattle.ab_logic.specs.Marks as mark;
 ghost use Rattle.ab_logic.specs.Readings.{HoldsSequent};
-ghost use Rattle.ab_logic.specs.Worlds.{IsWorld, declarations_of};
+ghost use Rattle.ab_logic.specs.Worlds.{IsWorld, Holds, read, declarations_of};
 ghost use Rattle.ab_rules.specs.Steps as plain;
 ghost use Rattle.ab_rules.specs.Answers.{Answers, label_of, row_at};
 
+use crate::lists::one;
 use crate::step::KernelFault;
-use ab_logic::{Sequent, World};
-use ab_naming::Label;
+use ab_levels::{Kind, next_level};
+use ab_logic::{Sequent, Sign, World};
+use ab_naming::{Label, name_by};
+use ab_sizing::{coinductive_in, inductive_at, marked_antecedent, marked_consequent};
+use ab_store::TermId;
 use std::alloc::{AllocError, Global};
 
-/// The conclusion is to be derived where an antecedent has a size, and holds where it is smaller.
+/// A formula as it is assumed, with the mark of what is smaller, and as it is to be derived.
+#[derive(Clone, Copy)]
+struct Sizes {
+    assumed: TermId,
+    derived: TermId,
+}
+
+/// The conclusion is to be derived where an antecedent has a size, and holds where it is smaller. A level that passes the
+/// greatest number of 128 bits is want of memory.
 pub(crate) fn induction(
     alloc: Global,
     world: &mut World,
@@ -25,11 +39,25 @@ pub(crate) fn induction(
     ensures grows { Grows world.old world.new }
     ensures declared { declarations_of world.new ≡ declarations_of world.old }
 {
-    let _ = world.types.len();
-    Err(KernelFault::Memory(AllocError))
+    let Some(sign) = inductive_at(world, place, sequent.conclusion) else {
+        return Err(KernelFault::RuleFails(1));
+    };
+    let Sign::Plain = sign else {
+        return Err(KernelFault::RuleFails(2));
+    };
+    let Some(named) = name_by(alloc, given, sequent.copy(alloc)?)? else {
+        return Err(KernelFault::RuleFails(3));
+    };
+    let Some(level) = next_level(world, Kind::Induction, sequent) else {
+        return Err(KernelFault::Memory(AllocError));
+    };
+    let sizes = sizes_of_antecedent(alloc, world, place, level, sequent.conclusion)?;
+    let premise = named.sequent.assuming(named.name, sizes.assumed)?;
+    Ok(one(alloc, premise.proving(sizes.derived))?)
 }
 
-/// The conclusion is to be derived with a size, and holds where it is smaller.
+/// The conclusion is to be derived with a size, and holds where it is smaller. A level that passes the greatest number of
+/// 128 bits is want of memory.
 pub(crate) fn coinduction(
     alloc: Global,
     world: &mut World,
@@ -42,6 +70,58 @@ pub(crate) fn coinduction(
     ensures grows { Grows world.old world.new }
     ensures declared { declarations_of world.new ≡ declarations_of world.old }
 {
-    let _ = world.types.len();
-    Err(KernelFault::Memory(AllocError))
+    let Some(sign) = coinductive_in(world, sequent.conclusion) else {
+        return Err(KernelFault::RuleFails(1));
+    };
+    let Sign::Plain = sign else {
+        return Err(KernelFault::RuleFails(2));
+    };
+    let Some(named) = name_by(alloc, given, sequent.copy(alloc)?)? else {
+        return Err(KernelFault::RuleFails(3));
+    };
+    let Some(level) = next_level(world, Kind::Coinduction, sequent) else {
+        return Err(KernelFault::Memory(AllocError));
+    };
+    let sizes = sizes_of_consequent(alloc, world, level, sequent.conclusion)?;
+    let premise = named.sequent.assuming(named.name, sizes.assumed)?;
+    Ok(one(alloc, premise.proving(sizes.derived))?)
+}
+
+/// The formula with both marks of induction at the antecedent of this place.
+fn sizes_of_antecedent(
+    alloc: Global,
+    world: &mut World,
+    place: u32,
+    level: u128,
+    formula: TermId,
+) -> Result<Sizes, AllocError>
+    requires world { IsWorld world.old }
+    requires formula { Holds world.old formula }
+    ensures assumed { IfOk result (λ s. Holds world.new s.assumed × (read world.new s.assumed ≡ marked_antecedent place (mark.star_of level) (read world.old formula))) }
+    ensures derived { IfOk result (λ s. Holds world.new s.derived × (read world.new s.derived ≡ marked_antecedent place (mark.at_of level) (read world.old formula))) }
+    ensures grows { Grows world.old world.new }
+    ensures declared { declarations_of world.new ≡ declarations_of world.old }
+{
+    let assumed = marked_antecedent(alloc, world, place, Sign::Star(level), formula)?;
+    let derived = marked_antecedent(alloc, world, place, Sign::At(level), formula)?;
+    Ok(Sizes { assumed, derived })
+}
+
+/// The formula with both marks of coinduction behind all antecedents.
+fn sizes_of_consequent(
+    alloc: Global,
+    world: &mut World,
+    level: u128,
+    formula: TermId,
+) -> Result<Sizes, AllocError>
+    requires world { IsWorld world.old }
+    requires formula { Holds world.old formula }
+    ensures assumed { IfOk result (λ s. Holds world.new s.assumed × (read world.new s.assumed ≡ marked_consequent (mark.plus_of level) (read world.old formula))) }
+    ensures derived { IfOk result (λ s. Holds world.new s.derived × (read world.new s.derived ≡ marked_consequent (mark.hash_of level) (read world.old formula))) }
+    ensures grows { Grows world.old world.new }
+    ensures declared { declarations_of world.new ≡ declarations_of world.old }
+{
+    let assumed = marked_consequent(alloc, world, Sign::Plus(level), formula)?;
+    let derived = marked_consequent(alloc, world, Sign::Hash(level), formula)?;
+    Ok(Sizes { assumed, derived })
 }
