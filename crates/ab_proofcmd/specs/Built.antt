@@ -1,9 +1,11 @@
 -- The proof commands that are built.
-use Rattle.ab_grammar.specs.CommandTrees.{ProofCommand, intros, case, split, split_all, left, right, exists, assert, clear, rename}
+use Rattle.ab_grammar.specs.CommandTrees.{ProofCommand, intros, induction, coinduction, case, split, split_all, left, right, exists, assert, clear, rename}
 use Rattle.ab_elaborate.specs.Judgements.{HasNoJudgement}
 
 abbrev pub IsBuilt : ProofCommand → Type 0
 IsBuilt (intros xs) = Unit {0}
+IsBuilt (induction n) = Unit {0}
+IsBuilt coinduction = Unit {0}
 IsBuilt (case H keep) = Unit {0}
 IsBuilt split = Unit {0}
 IsBuilt split_all = Unit {0}

@@ -18,7 +18,7 @@ use ab_left::{case, clear, rename};
 use ab_logic::World;
 use ab_naming::Label;
 use ab_progress::ProofCommandFault;
-use ab_right::{intros, left, right, split, split_all};
+use ab_right::{coinduction, induction, intros, left, right, split, split_all};
 use ab_syntax::ProofCommand;
 use ab_types::{Name, Steps};
 use std::alloc::{AllocError, Global};
@@ -29,6 +29,8 @@ pub fn is_built(command: &ProofCommand) -> bool
 {
     match command {
         ProofCommand::Intros(_)
+        | ProofCommand::Induction(_)
+        | ProofCommand::Coinduction
         | ProofCommand::Case(_, _)
         | ProofCommand::Split
         | ProofCommand::SplitAll
@@ -38,9 +40,7 @@ pub fn is_built(command: &ProofCommand) -> bool
         | ProofCommand::Rename(_, _) => true,
         ProofCommand::Exists(term) => !holds_judgement(term),
         ProofCommand::Assert(formula) => !holds_judgement(formula),
-        ProofCommand::Induction(_)
-        | ProofCommand::Coinduction
-        | ProofCommand::Apply(_, _, _)
+        ProofCommand::Apply(_, _, _)
         | ProofCommand::Backchain(_, _)
         | ProofCommand::Cut(_, _)
         | ProofCommand::Inst(_, _)
@@ -85,6 +85,14 @@ pub fn apply_proof_command<L>(
         ProofCommand::Intros(names) => {
             let given = names.as_slice();
             intros(alloc, world, proof, given, steps)
+        }
+        ProofCommand::Induction(place) => {
+            let wanted = label_wanted(alloc, label)?;
+            induction(alloc, world, proof, &wanted, *place, steps)
+        }
+        ProofCommand::Coinduction => {
+            let wanted = label_wanted(alloc, label)?;
+            coinduction(alloc, world, proof, &wanted, steps)
         }
         ProofCommand::Case(name, keep) => {
             let wanted = label_wanted(alloc, label)?;

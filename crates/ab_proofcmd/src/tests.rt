@@ -86,7 +86,7 @@ fn ended(
 }
 
 /// A theorem, the last number that was given to a hypothesis, commands, and what the last of them ends with.
-const CASES: [(&str, u32, &[&str], &str); 42] = [
+const CASES: [(&str, u32, &[&str], &str); 48] = [
     (
         "Theorem t : true -> true.",
         0,
@@ -332,6 +332,42 @@ const CASES: [(&str, u32, &[&str], &str); 42] = [
         0,
         &["rename H9 to K."],
         "Some(Err(NoHypothesis(\"H9\"))), 1",
+    ),
+    (
+        "Theorem t : forall F L, member F L -> true.",
+        0,
+        &["induction on 1."],
+        "Some(Ok(())), 1",
+    ),
+    (
+        "Theorem t : forall F L, member F L -> true.",
+        0,
+        &["induction on 2."],
+        "Some(Err(WrongShape)), 1",
+    ),
+    (
+        "Theorem t : forall F L, member F L -> true.",
+        0,
+        &["induction on 1.", "induction on 1."],
+        "Some(Err(Mark)), 1",
+    ),
+    (
+        "Theorem t : forall F L, member F L -> true.",
+        0,
+        &["A : induction on 1.", "A : induction on 1."],
+        "Some(Err(Clash(\"A\"))), 1",
+    ),
+    (
+        "Theorem t : forall F L, member F L -> member F L -> true.",
+        LAST,
+        &["induction on 1.", "induction on 2.", "clear IH IH1."],
+        "Some(Ok(())), 1",
+    ),
+    (
+        "Theorem t : forall F L, member F L -> true.",
+        0,
+        &["coinduction."],
+        "Some(Err(WrongShape)), 1",
     ),
     ("Theorem t : true.", 0, &["unfold."], "None, 1"),
 ];

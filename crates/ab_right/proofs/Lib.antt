@@ -1,3 +1,5 @@
+mod Numbering
 mod OneStep
 pub mod PartingGoals
 pub mod Introduces
+mod Sizes

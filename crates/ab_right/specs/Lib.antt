@@ -1,3 +1,4 @@
 -- What the parts of a proof command's work leave of a proof.
 pub mod Parting
 pub mod Introducing
+pub mod Sizing

@@ -2,9 +2,12 @@
 #![tactic(auto)]
 
 mod introducing;
+mod naming;
 mod single;
+mod sizing;
 mod splitting;
 
 pub use introducing::intros;
 pub use single::{left, right, split};
+pub use sizing::{coinduction, induction};
 pub use splitting::split_all;

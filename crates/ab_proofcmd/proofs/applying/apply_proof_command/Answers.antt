@@ -22,6 +22,28 @@ returns-in-Intros-clause-refused g c fault e =
     rw c.in-Intros.is
     (subst (λ (xs : List (List ℕ)). IsRefused l (told.intros xs) c.args.world.now c.args.proof.now fault) c.as_slice-given.ensures (c.intros.ensures.refused fault e l))
 
+pub returns-in_ok-wanted-in-Induction-clause-applied : goal.returns-in_ok-wanted-in-Induction-clause-applied
+returns-in_ok-wanted-in-Induction-clause-applied g c =
+    rw c.in-Induction.is
+    (subst (λ (m : Label). IfOk c.induction.result (λ u. IsApplied m (told.induction c.in-Induction.place) c.args.world.now c.args.proof.now c.induction.new.world c.induction.new.proof)) c.in_ok-wanted-in-Induction.ensures
+    c.induction.ensures.applied)
+
+pub returns-in_ok-wanted-in-Induction-clause-refused : goal.returns-in_ok-wanted-in-Induction-clause-refused
+returns-in_ok-wanted-in-Induction-clause-refused g c fault e =
+    rw c.in-Induction.is
+    (subst (λ (m : Label). IsRefused m (told.induction c.in-Induction.place) c.args.world.now c.args.proof.now fault) c.in_ok-wanted-in-Induction.ensures (c.induction.ensures.refused fault e))
+
+pub returns-in_ok-wanted-in-Coinduction-clause-applied : goal.returns-in_ok-wanted-in-Coinduction-clause-applied
+returns-in_ok-wanted-in-Coinduction-clause-applied g c =
+    rw c.in-Coinduction.is
+    (subst (λ (m : Label). IfOk c.coinduction.result (λ u. IsApplied m told.coinduction c.args.world.now c.args.proof.now c.coinduction.new.world c.coinduction.new.proof)) c.in_ok-wanted-in-Coinduction.ensures
+    c.coinduction.ensures.applied)
+
+pub returns-in_ok-wanted-in-Coinduction-clause-refused : goal.returns-in_ok-wanted-in-Coinduction-clause-refused
+returns-in_ok-wanted-in-Coinduction-clause-refused g c fault e =
+    rw c.in-Coinduction.is
+    (subst (λ (m : Label). IsRefused m told.coinduction c.args.world.now c.args.proof.now fault) c.in_ok-wanted-in-Coinduction.ensures (c.coinduction.ensures.refused fault e))
+
 pub returns-in_ok-wanted-in-Case-clause-applied : goal.returns-in_ok-wanted-in-Case-clause-applied
 returns-in_ok-wanted-in-Case-clause-applied g c =
     rw c.in-Case.is
