@@ -1,6 +1,7 @@
 -- THE PROOF COMMANDS, row by row: what is asked, in order, and the goals that take the first goal's place.
-use Rattle.std.specs.Prelude.{◌≡◌, ℕ, List, [], ◌∷◌, ◌++◌, map, Bool, ◌||◌, Option, Some, None, if◌then◌else◌, is_some, bytes_eq}
+use Rattle.std.specs.Prelude.{◌≡◌, ℕ, zero, suc, List, [], ◌∷◌, ◌++◌, map, codes, Bool, ◌||◌, Option, Some, None, if◌then◌else◌, is_some, bytes_eq}
 use Rattle.std.specs.List.{list_any}
+use Rattle.std.specs.Fmt.{decimal}
 use Rattle.ab_term.specs.Types.{Ty}
 use Rattle.ab_term.specs.Substitution.{instance}
 use Rattle.ab_store.specs.Trees.{Read}
@@ -9,14 +10,21 @@ use Rattle.ab_grammar.specs.CommandTrees as command
 use Rattle.ab_grammar.specs.CommandTrees.{ProofCommand}
 use Rattle.ab_logic.specs.Declarations.{Declarations}
 use Rattle.ab_logic.specs.Forms.{Form, truth, falsity, both, either, implies, equal, for_all, exists, nabla, marked, other, form_of, as_both, as_either, as_exists}
-use Rattle.ab_logic.specs.Sequents.{Sequent, formula_of, proving, assuming, without}
-use Rattle.ab_logic.specs.Names.{Label, auto, given, Names, NoName}
-use Rattle.ab_effects.specs.Refusals.{Refusal, clash, no_hypothesis, wrong_shape, not_pattern, names_spent}
+use Rattle.ab_logic.specs.Marks.{plain, star_of, at_of, plus_of, hash_of}
+use Rattle.ab_logic.specs.Sequents.{Sequent, IsUsed, formula_of, proving, assuming, without}
+use Rattle.ab_logic.specs.Names.{Label, auto, given, Names, NoName, IsLeast}
+use Rattle.ab_marks.specs.Marking.{MayBeAnalysed, MayBeUnfolded}
+use Rattle.ab_analysis.specs.Atoms.{defined_atom}
+use Rattle.ab_induction.specs.Places.{inductive_at, coinductive_in, marked_antecedent, marked_consequent}
+use Rattle.ab_induction.specs.Levels.{next_level, inductive_level, coinductive_level}
+use Rattle.ab_effects.specs.Refusals.{Refusal, clash, no_hypothesis, wrong_shape, mark, not_pattern, names_spent}
 use Rattle.ab_effects.specs.Row.{Row, leads, unless, finds, makes}
 use Rattle.ab_effects.specs.Terms.{Means, MeansNothing, Asserts, AssertsNothing}
 use Rattle.ab_effects.specs.Opening.{Opened, Nameless}
 use Rattle.ab_effects.specs.Solving.{IsSolved, IsOutside}
 use Rattle.ab_effects.specs.Introducing.{Introduced, Unnamed, taken_off, Parts}
+use Rattle.ab_effects.specs.Analysing.{IsParted, IsUnparted, AllOpened, SomeNameless}
+use Rattle.ab_effects.specs.Unfolding.{IsUnfolded, IsNotUnfolded}
 
 -- the label that stands before a command, if one does
 abbrev pub given_label : Option (List ℕ) → Label
@@ -75,19 +83,46 @@ naming l s k = makes {A = List ℕ × Sequent} (λ p. Names l s p.0 p.1) (λ f. 
 abbrev pub opening : Declarations → Read → Label → Sequent → (Sequent → Row) → Row
 opening D F l s k = makes {A = Label × Sequent} (λ p. Opened D (F ∷ []) l s p.0 p.1) (λ f. Nameless D (F ∷ []) l s × (f ≡ names_spent)) (λ p. k p.1)
 
--- What `case` does to a hypothesis of that form, in the goal in which it stood. What isn't built yet has no shape for it.
-abbrev pub cases : Declarations → Form → Read → Label → Sequent → Row
-cases D truth F l s = opening D F l s (λ t. leads (t ∷ []))
-cases D (both A B) F l s = opening D F l s (λ t. leads (t ∷ []))
-cases D (exists A t) F l s = opening D F l s (λ t. leads (t ∷ []))
-cases D (nabla A t) F l s = opening D F l s (λ t. leads (t ∷ []))
-cases D (either A B) F l s = opening D A l s (λ t. opening D B l s (λ u. leads (t ∷ u ∷ [])))
-cases D falsity F l s = leads []
-cases D (implies A B) F l s = unless (Some wrong_shape) (leads [])
-cases D (equal A t u) F l s = makes {A = List Sequent} (IsSolved D s t u) (λ f. IsOutside s t u × (f ≡ not_pattern 1)) leads
-cases D (for_all A t) F l s = unless (Some wrong_shape) (leads [])
-cases D (marked m t) F l s = unless (Some wrong_shape) (leads [])
-cases D other F l s = unless (Some wrong_shape) (leads [])
+-- the mark is to be as is asked
+abbrev pub marked_so : Type 0 → Row → Row
+marked_so P k = makes {A = Unit {0}} (λ u. P) (λ f. (¬ P) × (f ≡ mark)) (λ u. k)
+
+-- an atom of the goal whose predicate is defined is analysed; the rest is what stays of the goal
+abbrev pub analysing : Declarations → Read → Label → Sequent → Sequent → Row
+analysing D F l goal rest =
+    finds wrong_shape (defined_atom D F) (λ d.
+    marked_so (MayBeAnalysed d.sign) (
+    makes {A = List Sequent} (IsParted D goal rest d) (IsUnparted D goal rest d) (λ gs.
+    makes {A = List Sequent} (AllOpened D l gs) (λ f. SomeNameless D l gs × (f ≡ names_spent)) leads)))
+
+-- the name that a hypothesis of induction takes by itself: the word, or the word with a number
+abbrev pub numbered : List ℕ → ℕ → List ℕ
+numbered word zero = word
+numbered word (suc n) = word ++ decimal (suc n)
+
+-- a hypothesis of induction gets its name: the label, or the first free name of the word
+abbrev pub IsNamedBy : List ℕ → Label → Sequent → List ℕ → Type 0
+IsNamedBy word auto s name = (n : ℕ) × IsLeast (λ m. ¬ IsUsed s (numbered word m)) n × (name ≡ numbered word n)
+IsNamedBy word (given x) s name = name ≡ x
+
+-- the goal then has a hypothesis of induction, which is named by the word or by the label
+abbrev pub hypothesis_named : List ℕ → Label → Sequent → (List ℕ → Row) → Row
+hypothesis_named word l s k = makes {A = List ℕ} (IsNamedBy word l s) (λ f. ⊥) k
+
+-- What `case` does to a hypothesis of that form of the goal, of which the last is what stays. A judgement has no shape for
+-- it yet.
+abbrev pub cases : Declarations → Form → Read → Label → Sequent → Sequent → Row
+cases D truth F l goal s = opening D F l s (λ t. leads (t ∷ []))
+cases D (both A B) F l goal s = opening D F l s (λ t. leads (t ∷ []))
+cases D (exists A t) F l goal s = opening D F l s (λ t. leads (t ∷ []))
+cases D (nabla A t) F l goal s = opening D F l s (λ t. leads (t ∷ []))
+cases D (either A B) F l goal s = opening D A l s (λ t. opening D B l s (λ u. leads (t ∷ u ∷ [])))
+cases D falsity F l goal s = leads []
+cases D (implies A B) F l goal s = unless (Some wrong_shape) (leads [])
+cases D (equal A t u) F l goal s = makes {A = List Sequent} (IsSolved D s t u) (λ f. IsOutside s t u × (f ≡ not_pattern 1)) leads
+cases D (for_all A t) F l goal s = unless (Some wrong_shape) (leads [])
+cases D (marked m t) F l goal s = analysing D F l goal s
+cases D other F l goal s = analysing D F l goal s
 
 -- no such proof command is built yet
 abbrev pub not_built : Row
@@ -119,7 +154,7 @@ effect D l (command.exists e) s =
 effect D l (command.case H keep) s =
     unless (clashing l s) (
     finds (no_hypothesis H) (formula_of s H) (λ F.
-    cases D (form_of F) F l (if keep then s else without H s)))
+    cases D (form_of F) F l s (if keep then s else without H s)))
 effect D l (command.assert e) s =
     unless (clashing l s) (
     stating D s e (λ F.
@@ -132,13 +167,28 @@ effect D l (command.rename H x) s =
     unless (clashing (given x) s) (
     finds (no_hypothesis H) (formula_of s H) (λ F.
     leads (assuming x F (without H s) ∷ [])))
-effect D l (command.induction n) s = not_built
-effect D l command.coinduction s = not_built
+effect D l (command.induction n) s =
+    unless (clashing l s) (
+    finds wrong_shape (inductive_at D n s.conclusion) (λ d.
+    marked_so (d.sign ≡ plain) (
+    hypothesis_named (codes "IH") l s (λ name.
+    let i = next_level inductive_level s in
+    leads (proving (marked_antecedent n (at_of i) s.conclusion) (assuming name (marked_antecedent n (star_of i) s.conclusion) s) ∷ [])))))
+effect D l command.coinduction s =
+    unless (clashing l s) (
+    finds wrong_shape (coinductive_in D s.conclusion) (λ d.
+    marked_so (d.sign ≡ plain) (
+    hypothesis_named (codes "CH") l s (λ name.
+    let i = next_level coinductive_level s in
+    leads (proving (marked_consequent (hash_of i) s.conclusion) (assuming name (marked_consequent (plus_of i) s.conclusion) s) ∷ [])))))
 effect D l (command.apply H vs is) s = not_built
 effect D l (command.backchain H is) s = not_built
 effect D l (command.cut H K) s = not_built
 effect D l (command.inst H is) s = not_built
 effect D l (command.monotone H e) s = not_built
 effect D l (command.search n) s = not_built
-effect D l command.unfold_goal s = not_built
+effect D l command.unfold_goal s =
+    finds wrong_shape (defined_atom D s.conclusion) (λ d.
+    marked_so (MayBeUnfolded d.sign) (
+    makes {A = Sequent} (IsUnfolded s d) (IsNotUnfolded s d) (λ t. leads (t ∷ []))))
 effect D l (command.permute ns x) s = not_built

@@ -6,4 +6,6 @@ pub mod Terms
 pub mod Opening
 pub mod Introducing
 pub mod Solving
+pub mod Analysing
+pub mod Unfolding
 pub mod Effect
