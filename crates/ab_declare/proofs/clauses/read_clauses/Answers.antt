@@ -1,5 +1,5 @@
 use Rattle.std.specs.Prelude.{All}
-use Rattle.std.proofs.Common.{◌∙◌, map, take, length, sym, subst, ap, arith}
+use Rattle.std.proofs.Common.{◌∙◌, [], map, take, length, sym, subst, ap, arith}
 use Rattle.std.proofs.lemmas.Result.{err_from_is_err_and}
 use Rattle.ab_term.specs.Types.{prop}
 use Rattle.ab_types.specs.Entries.{kinds, signature, type_in}
@@ -18,7 +18,7 @@ use Rattle.ab_declare.proofs.clauses.read_clauses.Goals as goal
 
 pub loop-clause-init : goal.loop-clause-init
 loop-clause-init g c = record {
-  read = tt;
+  read = subst (AreReadAs c.formula_type.new.types c.args.store.now []) (sym c.new-terms.ensures.items) tt;
   kinds = c.in_ok-formula.ensures.kinds;
   constants = c.in_ok-formula.ensures.constants;
   kept = c.in_ok-formula.ensures.kept;
@@ -27,6 +27,19 @@ loop-clause-init g c = record {
   formula_held = c.in_ok-formula.ensures.held;
   formula_is = c.in_ok-formula.ensures.is;
 }
+
+pub returns-in_err-formula-clause-adds : goal.returns-in_err-formula-clause-adds
+returns-in_err-formula-clause-adds g c = adds_nothing c.args.types.now c.formula_type.new.types c.args.store.now c.in_err-formula.ensures.kept c.requires.store
+
+pub returns-in_err-term-clause-adds : goal.returns-in_err-term-clause-adds
+returns-in_err-term-clause-adds g c =
+    let adds = c.in_err-term.ensures.adds in
+    record { before = extended_on c.args.store.now c.loop-clause.store c.elaborate_clause.new.store c.loop-clause.invariant.adds.before adds.before; typed = adds.typed }
+
+pub returns-in_err-put_last-clause-adds : goal.returns-in_err-put_last-clause-adds
+returns-in_err-put_last-clause-adds g c =
+    let adds = c.in_ok-term.ensures.adds in
+    record { before = extended_on c.args.store.now c.loop-clause.store c.elaborate_clause.new.store c.loop-clause.invariant.adds.before adds.before; typed = adds.typed }
 
 pub elaborate_clause-requires-clause-judgement : goal.elaborate_clause-requires-clause-judgement
 elaborate_clause-requires-clause-judgement g c =

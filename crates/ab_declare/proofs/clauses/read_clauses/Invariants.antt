@@ -9,7 +9,7 @@ use Rattle.ab_declare.specs.Halting.{AreReadAs}
 use Rattle.ab_declare.proofs.clauses.read_clauses.Given as goal
 
 abbrev pub invariant-loop-clause : goal.invariant-loop-clause
-invariant-loop-clause l = record {
+invariant-loop-clause g l = record {
   read : AreReadAs l.types l.store (map clause_of (take l.clause-index l.clauses)) l.terms.items;
   kinds : kinds l.types ≡ kinds l.fn.types;
   constants : constants l.types ≡ constants l.fn.types;

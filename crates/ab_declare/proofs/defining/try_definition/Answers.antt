@@ -22,7 +22,7 @@ use Rattle.ab_declare.proofs.defining.try_definition.Goals as goal
 
 pub returns-in_err-ids-clause-defined : goal.returns-in_err-ids-clause-defined
 returns-in_err-ids-clause-defined g c =
-    let p = err_from_is_err_and c.from_residual-in_err-ids.result c.from_residual-in_err-ids.ensures.1 in
+    let p = err_from_is_err_and c.from_residual.result c.from_residual.ensures.1 in
     let w = c.args.world.now in
     let ds = map defined_of c.args.predicates.now in
     let cs = map clause_of c.args.clauses.now in
@@ -30,7 +30,7 @@ returns-in_err-ids-clause-defined g c =
 
 pub returns-in_err-ids-clause-more : goal.returns-in_err-ids-clause-more
 returns-in_err-ids-clause-more g c =
-    let p = err_from_is_err_and c.from_residual-in_err-ids.result c.from_residual-in_err-ids.ensures.1 in
+    let p = err_from_is_err_and c.from_residual.result c.from_residual.ensures.1 in
     rw p.1 (record { types = c.in_err-ids.ensures.kept; marks = (extended_itself c.args.world.now.store).marks; additions = refl })
 
 pub look_at_clauses-requires-clause-store : goal.look_at_clauses-requires-clause-store
