@@ -3,3 +3,6 @@ mod OneStep
 pub mod PartingGoals
 pub mod Introduces
 mod Sizes
+pub mod AnyCells
+pub mod Unfolds
+pub mod UnfoldingGoals

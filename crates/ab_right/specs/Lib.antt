@@ -2,3 +2,4 @@
 pub mod Parting
 pub mod Introducing
 pub mod Sizing
+pub mod Unfolding
