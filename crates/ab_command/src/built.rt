@@ -12,10 +12,13 @@ fn is_built_in_proof(command: &ProofCommand, count: usize) -> bool
 {
     match command {
         ProofCommand::Intros(_)
+        | ProofCommand::Induction(_)
+        | ProofCommand::Coinduction
         | ProofCommand::Split
         | ProofCommand::SplitAll
         | ProofCommand::Left
         | ProofCommand::Right
+        | ProofCommand::Unfold
         | ProofCommand::Case(_, _)
         | ProofCommand::Clear(_)
         | ProofCommand::Rename(_, _) => true,

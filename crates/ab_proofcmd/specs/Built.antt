@@ -1,5 +1,5 @@
 -- The proof commands that are built.
-use Rattle.ab_grammar.specs.CommandTrees.{ProofCommand, intros, induction, coinduction, case, split, split_all, left, right, exists, assert, clear, rename}
+use Rattle.ab_grammar.specs.CommandTrees.{ProofCommand, intros, induction, coinduction, case, split, split_all, left, right, unfold_goal, exists, assert, clear, rename}
 use Rattle.ab_elaborate.specs.Judgements.{HasNoJudgement}
 
 abbrev pub IsBuilt : ProofCommand → Type 0
@@ -11,6 +11,7 @@ IsBuilt split = Unit {0}
 IsBuilt split_all = Unit {0}
 IsBuilt left = Unit {0}
 IsBuilt right = Unit {0}
+IsBuilt unfold_goal = Unit {0}
 IsBuilt (exists e) = HasNoJudgement e
 IsBuilt (assert e) = HasNoJudgement e
 IsBuilt (clear Hs) = Unit {0}

@@ -18,7 +18,7 @@ use ab_left::{case, clear, rename};
 use ab_logic::World;
 use ab_naming::Label;
 use ab_progress::ProofCommandFault;
-use ab_right::{coinduction, induction, intros, left, right, split, split_all};
+use ab_right::{coinduction, induction, intros, left, right, split, split_all, unfold};
 use ab_syntax::ProofCommand;
 use ab_types::{Name, Steps};
 use std::alloc::{AllocError, Global};
@@ -36,6 +36,7 @@ pub fn is_built(command: &ProofCommand) -> bool
         | ProofCommand::SplitAll
         | ProofCommand::Left
         | ProofCommand::Right
+        | ProofCommand::Unfold
         | ProofCommand::Clear(_)
         | ProofCommand::Rename(_, _) => true,
         ProofCommand::Exists(term) => !holds_judgement(term),
@@ -46,7 +47,6 @@ pub fn is_built(command: &ProofCommand) -> bool
         | ProofCommand::Inst(_, _)
         | ProofCommand::Monotone(_, _)
         | ProofCommand::Search(_)
-        | ProofCommand::Unfold
         | ProofCommand::Permute(_, _) => false,
     }
 }
@@ -102,6 +102,7 @@ pub fn apply_proof_command<L>(
         ProofCommand::SplitAll => split_all(world, proof, steps),
         ProofCommand::Left => left(world, proof, steps),
         ProofCommand::Right => right(world, proof, steps),
+        ProofCommand::Unfold => unfold(alloc, world, proof, steps),
         ProofCommand::Exists(term) => exists(alloc, world, proof, term, steps),
         ProofCommand::Assert(formula) => {
             let wanted = label_wanted(alloc, label)?;

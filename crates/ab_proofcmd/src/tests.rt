@@ -86,7 +86,7 @@ fn ended(
 }
 
 /// A theorem, the last number that was given to a hypothesis, commands, and what the last of them ends with.
-const CASES: [(&str, u32, &[&str], &str); 48] = [
+const CASES: [(&str, u32, &[&str], &str); 51] = [
     (
         "Theorem t : true -> true.",
         0,
@@ -369,7 +369,25 @@ const CASES: [(&str, u32, &[&str], &str); 48] = [
         &["coinduction."],
         "Some(Err(WrongShape)), 1",
     ),
-    ("Theorem t : true.", 0, &["unfold."], "None, 1"),
+    (
+        "Theorem t : forall F G L, member F (G :: F :: L).",
+        0,
+        &["intros.", "unfold."],
+        "Some(Ok(())), 1",
+    ),
+    (
+        "Theorem t : true.",
+        0,
+        &["unfold."],
+        "Some(Err(WrongShape)), 1",
+    ),
+    (
+        "Theorem t : forall F L, member F L.",
+        0,
+        &["intros.", "unfold."],
+        "Some(Err(NoMatch)), 1",
+    ),
+    ("Theorem t : true.", 0, &["permute (n1 n2)."], "None, 1"),
 ];
 
 #[test]

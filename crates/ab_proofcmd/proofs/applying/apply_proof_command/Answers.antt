@@ -87,6 +87,14 @@ returns-in-Right-clause-applied g c =
 pub returns-in-Right-clause-refused : goal.returns-in-Right-clause-refused
 returns-in-Right-clause-refused g c fault e = rw c.in-Right.is (c.right.ensures.refused fault e (given_label (option_copied c.args.label)))
 
+pub returns-in-Unfold-clause-applied : goal.returns-in-Unfold-clause-applied
+returns-in-Unfold-clause-applied g c =
+    let l = given_label (option_copied c.args.label) in
+    rw c.in-Unfold.is (at_label (λ m. IsApplied m told.unfold_goal c.args.world.now c.args.proof.now c.unfold.new.world c.unfold.new.proof) c.unfold.result l c.unfold.ensures.applied)
+
+pub returns-in-Unfold-clause-refused : goal.returns-in-Unfold-clause-refused
+returns-in-Unfold-clause-refused g c fault e = rw c.in-Unfold.is (c.unfold.ensures.refused fault e (given_label (option_copied c.args.label)))
+
 pub returns-in-Clear-clause-applied : goal.returns-in-Clear-clause-applied
 returns-in-Clear-clause-applied g c =
     let l = given_label (option_copied c.args.label) in
