@@ -1,6 +1,6 @@
 -- WHAT COMES OF AN ATOM OF A HYPOTHESIS whose predicate is defined: the goal is split by the choices of its definition, and in
 -- each case that arises the body of the clause is opened.
-use Rattle.std.specs.Prelude.{◌≡◌, ◌⊎◌, ℕ, suc, List, [], ◌∷◌}
+use Rattle.std.specs.Prelude.{◌≡◌, ℕ, suc, List, [], ◌∷◌}
 use Rattle.ab_store.specs.Trees.{Read}
 use Rattle.ab_solve.specs.Replacing.{Cell}
 use Rattle.ab_logic.specs.Declarations.{Declarations}
@@ -10,7 +10,7 @@ use Rattle.ab_equate.specs.Solved.{AreCells}
 use Rattle.ab_equate.specs.Cases.{Split, IsUnsplit}
 use Rattle.ab_analysis.specs.Atoms.{Defined}
 use Rattle.ab_analysis.specs.Left.{cases_of}
-use Rattle.ab_effects.specs.Refusals.{Refusal, not_pattern, names_spent}
+use Rattle.ab_effects.specs.Refusals.{Refusal, not_pattern}
 use Rattle.ab_effects.specs.Opening.{Opened, Nameless}
 
 -- THE GOAL IS SPLIT by the atom, of which the rest stays: these are the cases that arise, in each of which the body is the
@@ -28,11 +28,11 @@ IsUnparted D goal rest d f =
 -- THE LAST HYPOTHESIS OF EACH GOAL IS OPENED there, with the label for the first hypothesis that comes of it
 pub data AllOpened (D : Declarations) (l : Label) : List Sequent → List Sequent → Type 0 where
   none : AllOpened D l [] []
-  one : {name : List ℕ} {F : Read} {m : Label} {s u : Sequent} {gs us : List Sequent}
+  one : (name : List ℕ) {F : Read} {m : Label} {s u : Sequent} {gs us : List Sequent}
       → Opened D (F ∷ []) l s m u → AllOpened D l gs us → AllOpened D l (assuming name F s ∷ gs) (u ∷ us)
 
 -- one can't be, since a new hypothesis gets no name
 pub data SomeNameless (D : Declarations) (l : Label) : List Sequent → Type 0 where
-  here : {name : List ℕ} {F : Read} {s : Sequent} {gs : List Sequent} → Nameless D (F ∷ []) l s → SomeNameless D l (assuming name F s ∷ gs)
-  behind : {name : List ℕ} {F : Read} {m : Label} {s u : Sequent} {gs : List Sequent}
+  here : (name : List ℕ) {F : Read} {s : Sequent} {gs : List Sequent} → Nameless D (F ∷ []) l s → SomeNameless D l (assuming name F s ∷ gs)
+  behind : (name : List ℕ) {F : Read} {m : Label} {s u : Sequent} {gs : List Sequent}
       → Opened D (F ∷ []) l s m u → SomeNameless D l gs → SomeNameless D l (assuming name F s ∷ gs)

@@ -5,7 +5,7 @@ use Rattle.ab_term.specs.Types.{Ty}
 use Rattle.ab_term.specs.Substitution.{instance}
 use Rattle.ab_store.specs.Trees.{Read}
 use Rattle.ab_logic.specs.Declarations.{Declarations}
-use Rattle.ab_logic.specs.Forms.{Form, for_all, nabla, implies, both, form_of, as_both}
+use Rattle.ab_logic.specs.Forms.{Form, for_all, nabla, implies, form_of, as_both}
 use Rattle.ab_logic.specs.Sequents.{Sequent, assuming, proving}
 use Rattle.ab_logic.specs.Names.{Label, auto, given, Names, NoName, IsLeast}
 use Rattle.ab_rules.specs.Rules.{MayName, name_term}

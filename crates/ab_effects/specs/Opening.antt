@@ -1,6 +1,6 @@
 -- FORMULAS ARE OPENED in a goal, one after another: what they are made of becomes hypotheses of the goal. Conjunctions
 -- give way to their parts, `exists` and `nabla` to their bodies with something new put in, and `true` to nothing.
-use Rattle.std.specs.Prelude.{◌≡◌, ℕ, ◌≤◌, List, [], ◌∷◌, ◌++◌, All, Contains, Some, None, Option}
+use Rattle.std.specs.Prelude.{◌≡◌, ℕ, ◌≤◌, List, [], ◌∷◌, ◌++◌, All, Contains}
 use Rattle.ab_term.specs.Types.{Ty}
 use Rattle.ab_term.specs.Terms.{Nominal}
 use Rattle.ab_term.specs.Names.{support}

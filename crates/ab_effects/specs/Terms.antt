@@ -1,7 +1,7 @@
 -- What the terms of a proof command mean: each is the normal form of the one reading of its expression in the goal.
 use Rattle.std.specs.Prelude.{◌≡◌, ◌⊎◌, ℕ, List, [], ◌∷◌, map, Ok, Err, Some, None, Option}
 use Rattle.ab_term.specs.Types.{Ty, prop}
-use Rattle.ab_term.specs.Terms.{Head, Nominal, nominal, constant}
+use Rattle.ab_term.specs.Terms.{Head, nominal, constant}
 use Rattle.ab_store.specs.Trees.{Read}
 use Rattle.ab_grammar.specs.Tree.{Tree, place_of}
 use Rattle.ab_logic.specs.Declarations.{Declarations, a_kind, a_constant, a_block, a_program_clause, a_theorem, signature_in}
