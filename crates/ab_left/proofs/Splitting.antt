@@ -8,12 +8,13 @@ use Rattle.ab_term.specs.Variables.{Substitution, image}
 use Rattle.ab_term.specs.Sameness.{same_number}
 use Rattle.ab_store.specs.Trees.{Read}
 use Rattle.ab_solve.specs.Replacing.{Cell}
+use Rattle.ab_cases.specs.Alternatives.{alternative, on_left}
 use Rattle.ab_logic.specs.Declarations.{Declarations}
 use Rattle.ab_logic.specs.Names.{Label, given, IsNamedFor, IsNoVariable}
 use Rattle.ab_logic.specs.Sequents.{Variable, Hypothesis, Sequent, IsSequent, named, formula_of, goal_names, assuming, without, IsUsed}
 use Rattle.ab_marks.specs.Marking.{MayBeAnalysed, mark_below, marked_in}
 use Rattle.ab_equate.specs.Solved.{Naming, AreCells, changed, under, renaming, made, stays}
-use Rattle.ab_equate.specs.Cases.{CaseOver, Split, done, never, arises, IsUnsplit}
+use Rattle.ab_equate.specs.Cases.{Arises, Split, never, arises, IsUnsplit}
 use Rattle.ab_analysis.specs.Atoms.{Defined, Choice, defined_atom, choices_of}
 use Rattle.ab_analysis.specs.Left.{scope_of, raised_goal, case_of, cases_of}
 use Rattle.ab_rules.specs.Rules.{NamedRule, Fails, Stuck}
@@ -30,11 +31,10 @@ use Rattle.ab_left.proofs.SameCases.{rest_variables, same_members, split_here, u
 still_none : (f : Read → Read) (hs : List Hypothesis) (x : List ℕ) → named hs x ≡ None → named (map (λ (h : Hypothesis). record { name = h.name; formula = f h.formula }) hs) x ≡ None
 still_none f [] x none = refl
 still_none f (h ∷ hs) x none =
-    let more = map (λ (g : Hypothesis). record { name = g.name; formula = f g.formula }) hs in
     elim (same_or_not h.name x) [
       | inl s ↦ let clash : Some h.formula ≡ None = sym (ap (λ b. if b then Some h.formula else named hs x) s.1) ∙ none in cc
       | inr d ↦
-          ap (λ b. if b then Some (f h.formula) else named more x) d.1
+          ap (λ b. if b then Some (f h.formula) else named (map (λ (g : Hypothesis). record { name = g.name; formula = f g.formula }) hs) x) d.1
           ∙ still_none f hs x (sym (ap (λ b. if b then Some h.formula else named hs x) d.1) ∙ none)
     ]
 
@@ -47,13 +47,23 @@ changed_waits : (f : Read → Read) (xs : List Variable) (name : List ℕ) (F : 
 changed_waits f xs name F s g none is =
     record { formula = f F; rest = changed f xs s; is = is ∙ changed_last f xs name F s; new = still_none f s.hypotheses name none }
 
+-- the goal of a case
+case_waits : (IsName : Naming) (goal rest : Sequent) (name : List ℕ) (d : Defined) (c : Choice) (cells after : List (Cell (List ℕ))) (g : Sequent) → formula_of rest name ≡ None
+    → Arises IsName (case_of goal rest name d c cells) after g → Waits name g
+case_waits IsName goal rest name d c cells after g new a =
+    let alt = alternative (codes "x") (scope_of cells goal) d.arguments c.clause c.names on_left in
+    let k = case_of goal rest name d c cells in
+    let xs = filter (stays a.answer) (raised_goal alt rest).variables ++ a.new in
+    changed_waits (λ F. image same_number (renaming (made k.before a.more a.answer) a.new) (image same_number a.answer F)) xs name
+    (marked_in d.block.predicates (mark_below d.sign) alt.body) (raised_goal alt rest) g (still_none (image same_number alt.raised) rest.hypotheses name new) a.goal
+
 all_wait : (IsName : Naming) (cells : List (Cell (List ℕ))) (goal rest : Sequent) (name : List ℕ) (d : Defined) → formula_of rest name ≡ None
     → (cs : List Choice) (gs : List Sequent) → Split IsName cells (map (case_of goal rest name d) cs) gs → AllWait name gs
 all_wait IsName cells goal rest name d new [] [] s = tt
 all_wait IsName cells goal rest name d new [] (g ∷ gs) s = elim s [ ]
 all_wait IsName cells goal rest name d new (c ∷ cs) gs (never n s) = all_wait IsName cells goal rest name d new cs gs s
 all_wait IsName cells goal rest name d new (c ∷ cs) (g ∷ gs) (arises {after = after} a s) = (
-  changed_waits _ _ name _ _ g (still_none _ rest.hypotheses name new) a.goal,
+  case_waits IsName goal rest name d c cells after g new a,
   all_wait IsName after goal rest name d new cs gs s,
 )
 

@@ -19,17 +19,17 @@ use Rattle.ab_left.proofs.Steps.{without_last}
 -- what was opened, and one more
 all_opened_more : (D : Declarations) (l m : Label) (gs us : List Sequent) (name : List ℕ) (F : Read) (s u : Sequent) → AllOpened D l gs us → Opened D (F ∷ []) l s m u
     → AllOpened D l (gs ++ assuming name F s ∷ []) (us ++ u ∷ [])
-all_opened_more D l m [] [] name F s u none o = one o none
+all_opened_more D l m [] [] name F s u none o = one name o none
 all_opened_more D l m [] (v ∷ us) name F s u a o = elim a [ ]
 all_opened_more D l m (g ∷ gs) [] name F s u a o = elim a [ ]
-all_opened_more D l m (g ∷ gs) (v ∷ us) name F s u (one first rest) o = one first (all_opened_more D l m gs us name F s u rest o)
+all_opened_more D l m (g ∷ gs) (v ∷ us) name F s u (one x first rest) o = one x first (all_opened_more D l m gs us name F s u rest o)
 
 -- and one that can't be
 nameless_behind : (D : Declarations) (l : Label) (gs us more : List Sequent) → AllOpened D l gs us → SomeNameless D l more → SomeNameless D l (gs ++ more)
 nameless_behind D l [] [] more none n = n
 nameless_behind D l [] (v ∷ us) more a n = elim a [ ]
 nameless_behind D l (g ∷ gs) [] more a n = elim a [ ]
-nameless_behind D l (g ∷ gs) (v ∷ us) more (one first rest) n = behind first (nameless_behind D l gs us more rest n)
+nameless_behind D l (g ∷ gs) (v ∷ us) more (one x first rest) n = behind x first (nameless_behind D l gs us more rest n)
 
 -- two lists that are one, parted at one place
 pub same_parts : (xs ys us vs : List Sequent) → length xs ≡ length ys → xs ++ us ≡ ys ++ vs → (xs ≡ ys) × (us ≡ vs)
@@ -148,7 +148,7 @@ module _ (w : World) (p : Held) (l : Label) (name : List ℕ) (count : ℕ) wher
           behind = so.behind;
           are = so.were ∙ ap (λ hs. so.first ++ (hs ++ so.behind)) n.waiting ∙ sym (append_assoc so.first (k ∷ n.more) so.behind);
           counted = omega (arith, long, these, of_first, in_all, some);
-          one = nameless_behind (declarations_of w) l so.first so.opened (k ∷ n.more) so.all (here nameless);
+          one = nameless_behind (declarations_of w) l so.first so.opened (k ∷ n.more) so.all (here name nameless);
         }
 
     -- all are
