@@ -1,13 +1,10 @@
 //! What came of a hypothesis that was to be taken apart, and why its command is refused then.
-ghost use Rattle.std.specs.Prelude.{◌≡◌, ◌⊎◌, ◌+◌, Ok, None, IfSome};
-ghost use Rattle.std.specs.declared.alloc.AllocError.{AllocError as AFault};
-ghost use Rattle.ab_progress.specs.declared.fault.ProofCommandFault.TheVariants.{NotPattern, Memory};
+ghost use Rattle.std.specs.Prelude.{◌≡◌, Ok, None, IfSome};
 ghost use Rattle.ab_left.specs.Outcomes.{IsFaultOf};
 ghost use Rattle.ab_left.specs.declared.outcome.Outcome.{Outcome as AnOutcome};
 
 use crate::stop::Stop;
-use ab_progress::ProofCommandFault;
-use std::alloc::AllocError;
+use ab_progress::{ProofCommandFault, not_pattern};
 
 /// What came of a hypothesis that was to be taken apart.
 #[derive(Clone, Copy)]
@@ -20,16 +17,6 @@ pub(crate) enum Outcome {
     Marked,
     /// The equation of this number, counted from 0, is outside the patterns.
     Stuck(usize),
-}
-
-/// The refusal by an equation of this number, counted from 0. A number that none is behind is want of memory.
-fn not_pattern(place: usize) -> ProofCommandFault
-    ensures { (result ≡ NotPattern (place + 1)) ⊎ ((fault : AFault) × (result ≡ Memory fault)) }
-{
-    match place.checked_add(1) {
-        Some(number) => ProofCommandFault::NotPattern(number),
-        None => ProofCommandFault::Memory(AllocError),
-    }
 }
 
 /// Why the command is refused, unless the hypothesis was taken apart.
