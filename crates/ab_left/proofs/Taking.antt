@@ -1,7 +1,7 @@
 -- The rows of the forms that `case` takes apart.
 use Rattle.std.specs.Prelude.{Result, Ok, Err}
 use Rattle.std.specs.Option.{IsSome}
-use Rattle.std.proofs.Common.{◌≡◌, ◌≢◌, inl, inr, ℕ, suc, List, [], ◌∷◌, ◌++◌, Bool, true, false, Option, Some, None, refl, sym, ◌∙◌, ap, subst}
+use Rattle.std.proofs.Common.{◌≡◌, ◌≢◌, inl, inr, ℕ, ◌+◌, List, [], ◌∷◌, ◌++◌, Bool, true, false, Option, Some, None, refl, sym, ◌∙◌, ap, subst}
 use Rattle.ab_store.specs.Trees.{Read}
 use Rattle.ab_unifying.specs.Problem.{cells_read}
 use Rattle.ab_store.specs.declared.node.TermId.{TermId}
@@ -298,7 +298,7 @@ module _ (w : World) (p : Held) (l : Label) (keep : Bool) (H : List ℕ) (F : Re
 
   pub case_refused : (came : Result Outcome Stop) (fault : ProofCommandFault) → IsFaultOf came fault
       → (came ≡ Ok Outcome.Shapeless → CantTake w p l keep H F wrong_shape) → (came ≡ Ok Outcome.Marked → CantTake w p l keep H F mark)
-      → ((i : ℕ) → came ≡ Ok (Outcome.Stuck i) → CantTake w p l keep H F (not_pattern (suc i))) → (came ≡ Err Stop.NamesSpent → CantTake w p l keep H F names_spent)
+      → ((i : ℕ) → came ≡ Ok (Outcome.Stuck i) → CantTake w p l keep H F (not_pattern (i + 1))) → (came ≡ Err Stop.NamesSpent → CantTake w p l keep H F names_spent)
       → IsRefused l (told.case H keep) w p fault
   case_refused (Ok Outcome.Taken) fault is shapeless marked stuck spent = absurd is
   case_refused (Ok Outcome.Shapeless) fault is shapeless marked stuck spent s rest goals =
@@ -306,7 +306,7 @@ module _ (w : World) (p : Held) (l : Label) (keep : Bool) (H : List ℕ) (F : Re
   case_refused (Ok Outcome.Marked) fault is shapeless marked stuck spent s rest goals =
       subst (RefusedBy (effect (declarations_of w) l (told.case H keep) s)) (sym is) (refused mark s rest goals (marked refl))
   case_refused (Ok (Outcome.Stuck i)) fault (inl is) shapeless marked stuck spent s rest goals =
-      subst (RefusedBy (effect (declarations_of w) l (told.case H keep) s)) (sym is) (refused (not_pattern (suc i)) s rest goals (stuck i refl))
+      subst (RefusedBy (effect (declarations_of w) l (told.case H keep) s)) (sym is) (refused (not_pattern (i + 1)) s rest goals (stuck i refl))
   case_refused (Ok (Outcome.Stuck i)) fault (inr is) shapeless marked stuck spent s rest goals =
       subst (RefusedBy (effect (declarations_of w) l (told.case H keep) s)) (sym is.1) tt
   case_refused (Err Stop.NamesSpent) fault is shapeless marked stuck spent s rest goals =

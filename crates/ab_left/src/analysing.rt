@@ -73,19 +73,6 @@ fn open_each<L>(
     Ok(())
 }
 
-/// Why the goal isn't split, by the condition of the rule that fails: the second asks for an atom whose predicate is
-/// defined, and the third for a mark that allows it.
-fn unsplit(condition: usize) -> Outcome
-    ensures shapeless { condition ≡ 2 → result ≡ AnOutcome.Shapeless }
-    ensures marked { condition ≢ 2 → result ≡ AnOutcome.Marked }
-{
-    if condition == 2 {
-        Outcome::Shapeless
-    } else {
-        Outcome::Marked
-    }
-}
-
 /// Splits the first goal by a hypothesis that is an atom, and opens what each case assumes.
 pub(crate) fn analyse<L>(
     alloc: Global,
@@ -117,7 +104,14 @@ pub(crate) fn analyse<L>(
             open_each(alloc, world, proof, label, &own, count, steps)?;
             Ok(Outcome::Taken)
         }
-        Attempted::Failed(condition) => Ok(unsplit(condition)),
+        // The rule's second condition asks for an atom whose predicate is defined, the third for a mark that allows it.
+        Attempted::Failed(condition) => {
+            if condition == 2 {
+                Ok(Outcome::Shapeless)
+            } else {
+                Ok(Outcome::Marked)
+            }
+        }
         Attempted::Stuck(place) => Ok(Outcome::Stuck(place)),
     }
 }

@@ -23,3 +23,36 @@ split_by-requires-clause-open g c =
 
 pub returns-in_err-split_by-clause-follows : goal.returns-in_err-split_by-clause-follows
 returns-in_err-split_by-clause-follows g c = follows_on _ _ _ _ _ _ c.begin.ensures.follows c.split_by.ensures.follows
+
+pub open_each-requires-clause-wait : goal.open_each-requires-clause-wait
+open_each-requires-clause-wait g c =
+    let w = c.args.world.now in
+    they_wait w c.begin.new.world c.args.proof.now c.begin.new.proof c.args.keep c.args.name.now c.in_ok-own.own (read w c.args.formula) (label_of c.args.label.now)
+    c.requires.world c.requires.proof c.requires.there c.requires.form c.begin.ensures.follows.declared c.in_ok-own.ensures.begun
+    c.split_by.new.world c.split_by.new.proof c.in-Taken.count (c.split_by.ensures.took c.in-Taken.count (c.in_ok-split_by.was ∙ ap Ok c.in-Taken.is)) c.requires.open
+
+pub returns-in_err-open_each-clause-follows : goal.returns-in_err-open_each-clause-follows
+returns-in_err-open_each-clause-follows g c =
+    follows_on _ _ _ _ _ _ c.begin.ensures.follows (follows_on _ _ _ _ _ _ c.split_by.ensures.follows c.open_each.ensures.follows)
+
+pub returns-in_err-open_each-clause-stopped : goal.returns-in_err-open_each-clause-stopped
+returns-in_err-open_each-clause-stopped g c e =
+    let w = c.args.world.now in
+    let two = follows_on _ _ _ _ _ _ c.begin.ensures.follows c.split_by.ensures.follows in
+    let spent : c.open_each.result ≡ Err Stop.NamesSpent = search rules in
+    atom_nameless w c.begin.new.world c.args.proof.now c.begin.new.proof c.args.keep c.args.name.now c.in_ok-own.own (read w c.args.formula) (label_of c.args.label.now)
+    c.requires.world c.requires.proof c.requires.there c.requires.form c.begin.ensures.follows.declared c.in_ok-own.ensures.begun
+    c.split_by.new.world c.split_by.new.proof c.in-Taken.count (c.split_by.ensures.took c.in-Taken.count (c.in_ok-split_by.was ∙ ap Ok c.in-Taken.is)) two.declared (c.open_each.ensures.stopped spent)
+
+pub returns-in_ok-open_each-in-Taken-clause-follows : goal.returns-in_ok-open_each-in-Taken-clause-follows
+returns-in_ok-open_each-in-Taken-clause-follows g c =
+    follows_on _ _ _ _ _ _ c.begin.ensures.follows (follows_on _ _ _ _ _ _ c.split_by.ensures.follows c.open_each.ensures.follows)
+
+pub returns-in_ok-open_each-in-Taken-clause-taken : goal.returns-in_ok-open_each-in-Taken-clause-taken
+returns-in_ok-open_each-in-Taken-clause-taken g c e =
+    let w = c.args.world.now in
+    let two = follows_on _ _ _ _ _ _ c.begin.ensures.follows c.split_by.ensures.follows in
+    atom_taken w c.begin.new.world c.args.proof.now c.begin.new.proof c.args.keep c.args.name.now c.in_ok-own.own (read w c.args.formula) (label_of c.args.label.now)
+    c.requires.world c.requires.proof c.requires.there c.requires.form c.begin.ensures.follows.declared c.in_ok-own.ensures.begun
+    c.split_by.new.world c.split_by.new.proof c.in-Taken.count (c.split_by.ensures.took c.in-Taken.count (c.in_ok-split_by.was ∙ ap Ok c.in-Taken.is))
+    c.open_each.new.world c.open_each.new.proof two.declared c.in_ok-open_each-in-Taken.ensures.opened
