@@ -13,4 +13,4 @@ pub mod Solving
 pub mod SameCases
 pub mod Waiting
 pub mod Splitting
-pub mod Analysing
+pub mod AtomRows

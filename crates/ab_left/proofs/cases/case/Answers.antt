@@ -13,8 +13,8 @@ use Rattle.ab_progress.proofs.Following.{first_at, one_at_least}
 use Rattle.ab_left.proofs.Taking.{case_applied, case_refused}
 use Rattle.ab_left.proofs.cases.case.Goals as goal
 
-pub take_apart-requires-clause-there : goal.take_apart-requires-clause-there
-take_apart-requires-clause-there g c =
+pub take_apart-came-requires-clause-there : goal.take_apart-came-requires-clause-there
+take_apart-came-requires-clause-there g c =
     let w = c.args.world.now in
     let p = c.args.proof.now in
     let one = one_at_least (goals_of w p) c.requires.open in
@@ -46,3 +46,11 @@ returns-in-Some-fault_of-clause-refused g c fault e =
     (λ s rest e. ap (clashing l) (sym (c.first_goal-goal.ensures.reads s rest e)) ∙ sym (c.in_ok-clash.ensures w) ∙ ap (option_map clash) c.in_default.is)
     (λ s rest e. ap (λ k. formula_of k c.args.name.now) (sym (c.first_goal-goal.ensures.reads s rest e)) ∙ sym (c.in-Some-look.ensures.reads w))
     c.take_apart-came.result c.in-Some-fault_of.fault c.in-Some-fault_of.ensures.refused came.shapeless came.marked came.stuck came.stopped)
+
+pub returns-in-Some-fault_of-clause-follows : goal.returns-in-Some-fault_of-clause-follows
+returns-in-Some-fault_of-clause-follows g c =
+    c.take_back.ensures.follows c.args.world.now c.args.proof.now c.take_apart-came.ensures.follows (c.steps-count.ensures c.args.world.now)
+
+pub returns-in-Some-fault_of-clause-unchanged : goal.returns-in-Some-fault_of-clause-unchanged
+returns-in-Some-fault_of-clause-unchanged g c =
+    c.take_back.ensures.unchanged c.args.world.now c.args.proof.now c.take_apart-came.ensures.follows (c.steps-count.ensures c.args.world.now)
