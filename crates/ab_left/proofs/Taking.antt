@@ -300,16 +300,16 @@ module _ (w : World) (p : Held) (l : Label) (keep : Bool) (H : List ℕ) (F : Re
       → (came ≡ Ok Outcome.Shapeless → CantTake w p l keep H F wrong_shape) → (came ≡ Ok Outcome.Marked → CantTake w p l keep H F mark)
       → ((i : ℕ) → came ≡ Ok (Outcome.Stuck i) → CantTake w p l keep H F (not_pattern (i + 1))) → (came ≡ Err Stop.NamesSpent → CantTake w p l keep H F names_spent)
       → IsRefused l (told.case H keep) w p fault
-  case_refused (Ok Outcome.Taken) fault is unshaped marked stuck spent s rest goals = absurd is
-  case_refused (Ok Outcome.Shapeless) fault is unshaped marked stuck spent s rest goals =
+  case_refused (Ok Outcome.Taken) fault is unshaped unmarked stuck spent s rest goals = absurd is
+  case_refused (Ok Outcome.Shapeless) fault is unshaped unmarked stuck spent s rest goals =
       subst (RefusedBy (effect (declarations_of w) l (told.case H keep) s)) (sym is) (refused wrong_shape s rest goals (unshaped refl))
-  case_refused (Ok Outcome.Marked) fault is unshaped marked stuck spent s rest goals =
-      subst (RefusedBy (effect (declarations_of w) l (told.case H keep) s)) (sym is) (refused mark s rest goals (marked refl))
-  case_refused (Ok (Outcome.Stuck i)) fault (inl is) unshaped marked stuck spent s rest goals =
+  case_refused (Ok Outcome.Marked) fault is unshaped unmarked stuck spent s rest goals =
+      subst (RefusedBy (effect (declarations_of w) l (told.case H keep) s)) (sym is) (refused mark s rest goals (unmarked refl))
+  case_refused (Ok (Outcome.Stuck i)) fault (inl is) unshaped unmarked stuck spent s rest goals =
       subst (RefusedBy (effect (declarations_of w) l (told.case H keep) s)) (sym is) (refused (not_pattern (i + 1)) s rest goals (stuck i refl))
-  case_refused (Ok (Outcome.Stuck i)) fault (inr is) unshaped marked stuck spent s rest goals =
+  case_refused (Ok (Outcome.Stuck i)) fault (inr is) unshaped unmarked stuck spent s rest goals =
       subst (RefusedBy (effect (declarations_of w) l (told.case H keep) s)) (sym is.1) tt
-  case_refused (Err Stop.NamesSpent) fault is unshaped marked stuck spent s rest goals =
+  case_refused (Err Stop.NamesSpent) fault is unshaped unmarked stuck spent s rest goals =
       subst (RefusedBy (effect (declarations_of w) l (told.case H keep) s)) (sym is) (refused names_spent s rest goals (spent refl))
-  case_refused (Err (Stop.Memory e)) fault is unshaped marked stuck spent s rest goals =
+  case_refused (Err (Stop.Memory e)) fault is unshaped unmarked stuck spent s rest goals =
       subst (RefusedBy (effect (declarations_of w) l (told.case H keep) s)) (sym is) tt
