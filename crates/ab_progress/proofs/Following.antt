@@ -15,7 +15,7 @@ use Rattle.ab_kernel.proofs.Adding.{above_none, above_one, above_on, taken_at, f
 use Rattle.ab_kernel.proofs.Earlier.{standing, beyond_none, beyond_on}
 use Rattle.ab_kernel.proofs.Later.{same_history}
 use Rattle.ab_kernel.proofs.Splits.{within, at_place, get_here}
-use Rattle.ab_progress.specs.Progress.{goals_of, IsAt, Follows, Took, FailsAt, StuckAt}
+use Rattle.ab_progress.specs.Progress.{goals_of, IsAt, Follows, Took, TookInto, FailsAt, FailsBy, StuckAt}
 
 pub follows_on : (w v u : World) (p q r : Held) → Follows w p v q → Follows v q u r → Follows w p u r
 follows_on w v u p q r a b = record {
@@ -53,9 +53,19 @@ took w v p q place n step is before behind s at =
     let t = taken_at (declarations_of w) place n step (history_of w p) (history_of v q) before behind s is at.goals at.counted in
     (t.0, t.1, t.3)
 
+-- the same, with the number of premises
+pub took_into : (w v : World) (p q : Held) (place n : ℕ) (step : Step) → IsStep (declarations_of w) place step n (history_of w p) (history_of v q) → TookInto w p v q place step n
+took_into w v p q place n step is before behind s at =
+    let t = taken_at (declarations_of w) place n step (history_of w p) (history_of v q) before behind s is at.goals at.counted in
+    (t.0, (t.1, t.2), t.3)
+
 pub failed : (w : World) (p : Held) (place i : ℕ) (step : Step) → GoalFails (declarations_of w) (cells_read w.types w.store) place step i (history_of w p).tree → FailsAt w p place step
 failed w p place i step f before behind s at =
     (i, failed_at (declarations_of w) (cells_read w.types w.store) place i step (history_of w p).tree before behind s f at.goals at.counted)
+
+pub failed_by : (w : World) (p : Held) (place i : ℕ) (step : Step) → GoalFails (declarations_of w) (cells_read w.types w.store) place step i (history_of w p).tree → FailsBy w p place step i
+failed_by w p place i step f before behind s at =
+    failed_at (declarations_of w) (cells_read w.types w.store) place i step (history_of w p).tree before behind s f at.goals at.counted
 
 pub sticks_there : (w : World) (p : Held) (place i : ℕ) (step : Step) → GoalStuck (declarations_of w) (cells_read w.types w.store) place step i (history_of w p).tree → StuckAt w p place step i
 sticks_there w p place i step f before behind s at =

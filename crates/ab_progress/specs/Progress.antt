@@ -37,10 +37,19 @@ GaveWay w p v q place P = (before behind : List Sequent) (s : Sequent) → IsAt 
 abbrev pub Took : World → Held → World → Held → ℕ → Step → Type 0
 Took w p v q place step = GaveWay w p v q place (NamedRule (declarations_of w) step)
 
+-- the same, and there are so many premises
+abbrev pub TookInto : World → Held → World → Held → ℕ → Step → ℕ → Type 0
+TookInto w p v q place step count = GaveWay w p v q place (λ s ps. NamedRule (declarations_of w) step s ps × (length ps ≡ count))
+
 -- the step's rule fails at the goal of this place
 abbrev pub FailsAt : World → Held → ℕ → Step → Type 0
 FailsAt w p place step = (before behind : List Sequent) (s : Sequent) → IsAt w p place before s behind →
     (i : ℕ) × Fails (declarations_of w) (cells_read w.types w.store) step s i
+
+-- the condition of this number is the first of the step's rule that fails at the goal of this place
+abbrev pub FailsBy : World → Held → ℕ → Step → ℕ → Type 0
+FailsBy w p place step i = (before behind : List Sequent) (s : Sequent) → IsAt w p place before s behind →
+    Fails (declarations_of w) (cells_read w.types w.store) step s i
 
 -- the step's rule holds at the goal of this place
 abbrev pub Holds : World → Held → ℕ → Step → Type 0

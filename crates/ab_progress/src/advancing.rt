@@ -5,7 +5,7 @@ ghost use Rattle.ab_logic.specs.declared.world.World.{World as AWorld};
 ghost use Rattle.ab_rules.specs.Answers.{step_of, HoldsStep};
 ghost use Rattle.ab_kernel.specs.Derivation.{undone};
 ghost use Rattle.ab_kernel.specs.Layout.{Held, history_of, IsProof};
-ghost use Rattle.ab_progress.specs.Progress.{goals_of, Follows, Took, FailsAt, Holds, StuckAt, SolvesNothing};
+ghost use Rattle.ab_progress.specs.Progress.{goals_of, Follows, Took, TookInto, FailsAt, FailsBy, Holds, StuckAt, SolvesNothing};
 ghost use Rattle.ab_progress.specs.declared.advancing.Attempted.TheVariants.{Taken, Failed, Stuck};
 
 use ab_kernel::{KernelFault, Proof, Step};
@@ -18,8 +18,8 @@ use std::alloc::AllocError;
 pub enum Attempted {
     /// It was taken, and led to so many premises.
     Taken(usize),
-    /// Its rule fails.
-    Failed,
+    /// Of its rule the condition of this number, counted from 1, is the first that fails.
+    Failed(usize),
     /// Its equation of this number, counted from 0, is outside the patterns.
     Stuck(usize),
 }
@@ -37,8 +37,8 @@ pub fn attempt_solving<L>(
     requires step { HoldsStep world.old step }
     requires place { place < length (goals_of world.old proof.old) }
     ensures follows { Follows world.old proof.old world.new proof.new }
-    ensures took { (n : ℕ) → result ≡ Ok (Taken n) → Took world.old proof.old world.new proof.new place (step_of world.old step) }
-    ensures failed { result ≡ Ok Failed → FailsAt world.old proof.old place (step_of world.old step) }
+    ensures took { (n : ℕ) → result ≡ Ok (Taken n) → TookInto world.old proof.old world.new proof.new place (step_of world.old step) n }
+    ensures failed { (i : ℕ) → result ≡ Ok (Failed i) → FailsBy world.old proof.old place (step_of world.old step) i }
     ensures stuck { (i : ℕ) → result ≡ Ok (Stuck i) → StuckAt world.old proof.old place (step_of world.old step) i }
     ensures unchanged { ((n : ℕ) → result ≢ Ok (Taken n)) → history_of world.new proof.new ≡ history_of world.old proof.old }
     ensures kept { ((n : ℕ) → result ≢ Ok (Taken n)) → proof.new ≡ proof.old }
@@ -46,7 +46,7 @@ pub fn attempt_solving<L>(
 {
     match proof.refine(world, place, step, steps) {
         Ok(count) => Ok(Attempted::Taken(count)),
-        Err(KernelFault::RuleFails(_)) => Ok(Attempted::Failed),
+        Err(KernelFault::RuleFails(condition)) => Ok(Attempted::Failed(condition)),
         Err(KernelFault::NotPattern(equation)) => Ok(Attempted::Stuck(equation)),
         Err(KernelFault::Memory(fault)) => Err(fault),
     }

@@ -1,4 +1,7 @@
 //! Why a proof command is refused.
+ghost use Rattle.std.specs.Prelude.{◌≡◌, ◌⊎◌, ◌+◌};
+ghost use Rattle.std.specs.declared.alloc.AllocError.{AllocError as AFault};
+ghost use Rattle.ab_progress.specs.declared.fault.ProofCommandFault.TheVariants.{NotPattern, Memory};
 
 use ab_name::Name;
 use std::alloc::AllocError;
@@ -43,6 +46,16 @@ pub enum ProofCommandFault {
     /// There was no memory.
     #[error("Memory")]
     Memory(AllocError),
+}
+
+/// The refusal by the equation of this place, counted from 0. A place that no number is behind is want of memory.
+pub fn not_pattern(place: usize) -> ProofCommandFault
+    ensures { (result ≡ NotPattern (place + 1)) ⊎ ((fault : AFault) × (result ≡ Memory fault)) }
+{
+    match place.checked_add(1) {
+        Some(number) => ProofCommandFault::NotPattern(number),
+        None => ProofCommandFault::Memory(AllocError),
+    }
 }
 
 impl From<AllocError> for ProofCommandFault {

@@ -7,5 +7,5 @@ pub mod laws;
 mod looking;
 
 pub use advancing::{Attempted, attempt, attempt_solving, surely, take_back};
-pub use fault::ProofCommandFault;
+pub use fault::{ProofCommandFault, not_pattern};
 pub use looking::first_goal;

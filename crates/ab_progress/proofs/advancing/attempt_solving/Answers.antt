@@ -1,8 +1,8 @@
 use Rattle.std.specs.Prelude.{Err}
 use Rattle.std.proofs.Common.{◌≡◌, refl, ◌∙◌, ap, subst}
 use Rattle.ab_rules.specs.Answers.{step_of}
-use Rattle.ab_progress.specs.Progress.{StuckAt}
-use Rattle.ab_progress.proofs.Following.{follows_step, follows_same, as_before, took, failed, sticks_there}
+use Rattle.ab_progress.specs.Progress.{TookInto, FailsBy, StuckAt}
+use Rattle.ab_progress.proofs.Following.{follows_step, follows_same, as_before, took_into, failed_by, sticks_there}
 use Rattle.ab_progress.proofs.advancing.attempt_solving.Goals as goal
 
 pub returns-in-Ok-clause-follows : goal.returns-in-Ok-clause-follows
@@ -12,17 +12,22 @@ returns-in-Ok-clause-follows g c =
 
 pub returns-in-Ok-clause-took : goal.returns-in-Ok-clause-took
 returns-in-Ok-clause-took g c n e =
-    took c.args.world.now c.refine.new.world c.args.proof.now c.refine.new.self c.args.place _ (step_of c.args.world.now c.args.step) c.in-Ok.ensures.step
+    let count = c.in-Ok.count in
+    let same : count ≡ n = cc in
+    subst (TookInto c.args.world.now c.args.proof.now c.refine.new.world c.refine.new.self c.args.place (step_of c.args.world.now c.args.step)) same
+    (took_into c.args.world.now c.refine.new.world c.args.proof.now c.refine.new.self c.args.place count (step_of c.args.world.now c.args.step) c.in-Ok.ensures.step)
 
 pub returns-in-Err-RuleFails-clause-follows : goal.returns-in-Err-RuleFails-clause-follows
 returns-in-Err-RuleFails-clause-follows g c =
     follows_same c.args.world.now c.refine.new.world c.args.proof.now c.refine.new.self c.refine.ensures.grows c.refine.ensures.declared c.requires.proof c.refine.ensures.proof c.in-Err-RuleFails.ensures.err
 
 pub returns-in-Err-RuleFails-clause-failed : goal.returns-in-Err-RuleFails-clause-failed
-returns-in-Err-RuleFails-clause-failed g c fails =
-    let i = c.in-Err-RuleFails.field-0-0 in
-    failed c.args.world.now c.args.proof.now c.args.place i (step_of c.args.world.now c.args.step)
-    (c.refine.ensures.refused i (c.in-Err-RuleFails.is ∙ ap Err c.in-Err-RuleFails.field-0-is))
+returns-in-Err-RuleFails-clause-failed g c i e =
+    let j = c.in-Err-RuleFails.condition in
+    let same : j ≡ i = cc in
+    subst (FailsBy c.args.world.now c.args.proof.now c.args.place (step_of c.args.world.now c.args.step)) same
+    (failed_by c.args.world.now c.args.proof.now c.args.place j (step_of c.args.world.now c.args.step)
+    (c.refine.ensures.refused j (c.in-Err-RuleFails.is ∙ ap Err c.in-Err-RuleFails.field-0-is)))
 
 pub returns-in-Err-RuleFails-clause-unchanged : goal.returns-in-Err-RuleFails-clause-unchanged
 returns-in-Err-RuleFails-clause-unchanged g c other =
