@@ -10,6 +10,7 @@ pub mod Assembled
 pub mod Whole
 pub mod LeftOpen
 pub mod Concluded
+pub mod Matched
 pub mod UnfoldingCase
 pub mod Undone
 pub mod Put

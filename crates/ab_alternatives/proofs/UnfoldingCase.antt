@@ -123,7 +123,8 @@ module _ (T U : Table) (S V : Contents) (s : Sequent) (d : Defined) (c : Choice)
       let n_is : length S.cells ≡ length V.cells - length made_one.own.items = omega (arith, whole, own_many, many) in
       subst (λ n. AreFrom V n made_one.own.items) n_is (numbered_from U V (length S.cells) own_cells made_one.own.items o.own (omega (arith, whole, many)))
 
-  before_is : take (length V.cells - length made_one.own.items) (cells_read U V) ≡ there
+  -- and the others are those that were there
+  pub before_is : take (length V.cells - length made_one.own.items) (cells_read U V) ≡ there
   before_is =
       let whole = sym (length-map V.cells (cell_read U)) ∙ ap length o.cells ∙ length-append there own_cells in
       let own_many = own_count in

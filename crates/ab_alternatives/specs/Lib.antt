@@ -3,5 +3,6 @@ pub mod Readings
 pub mod Raising
 pub mod Made
 pub mod Unfolding
+pub mod Matching
 pub mod Headed
 pub mod Members

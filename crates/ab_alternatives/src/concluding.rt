@@ -39,7 +39,11 @@ pub(crate) enum Conclusion {
 }
 
 /// The cells that are bound to nothing, in their order.
-fn unbound(alloc: Global, store: &Store, cells: &[CellId]) -> Result<Vec<CellId>, AllocError>
+pub(crate) fn unbound(
+    alloc: Global,
+    store: &Store,
+    cells: &[CellId],
+) -> Result<Vec<CellId>, AllocError>
     requires { All (HoldsCell store.now) cells.now }
     ensures { IfOk result (λ kept. kept.items ≡ unbound_of store.now cells.now) }
 {

@@ -4,3 +4,4 @@ pub mod GoalNames
 pub mod Placed
 pub mod Unfoldable
 pub mod Lasting
+pub mod Searched
