@@ -5,3 +5,4 @@ pub mod Later
 mod Tried
 mod PlainChoice
 mod ByChoice
+pub mod Walked
