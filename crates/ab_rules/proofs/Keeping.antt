@@ -38,30 +38,14 @@ use Rattle.ab_rules.proofs.NewNumbers.{new_number}
 use Rattle.ab_logic.specs.Marks.{Sign, star_of, at_of, plus_of, hash_of}
 use Rattle.ab_induction.specs.Levels.{next_level, inductive_level, coinductive_level}
 use Rattle.ab_induction.specs.Places.{marked_antecedent, marked_consequent}
-use Rattle.ab_rules.proofs.Cased.{IsBehind, case_is_behind, split_sequents}
+use Rattle.ab_rules.proofs.Cased.{IsBehind, split_sequents}
+use Rattle.ab_rules.proofs.Analysed.{chosen_from, cases_behind}
 use Rattle.ab_rules.proofs.Raised.{AreThere}
 use Rattle.ab_rules.proofs.Unfolding.{chosen_one_type, unfolded_may}
 use Rattle.ab_rules.proofs.Sized.{IsAtomOver, atom_of, atom_over, antecedent_may, consequent_may}
 use Rattle.ab_equate.proofs.Sides.{equation_sides}
 use Rattle.ab_equate.proofs.Carried.{solved_is_sequent}
 use Rattle.ab_rules.proofs.Sequents.{IsGoal, goal_of, sequent_from, found_may, proving_goal, assuming_goal, without_goal, IsLabelled, labelled_goal, scope_more, names_more, over_goal, without_sequent}
-
--- where a choice comes from
-record Chosen (N : List Nominal) (d : Defined) (h : Choice) : Type 0 where
-  clause : Clause (List ℕ)
-  names : List Nominal
-  is : record { clause = clause; names = names } ≡ h
-  listed : Contains d.block.clauses clause
-  of_it : clause.predicate ≡ d.predicate
-  choice : Contains (choices (map (λ z. z.type) clause.names) (in_order (support_of_all d.arguments)) N) names
-
-chosen_from : (N : List Nominal) (d : Defined) (h : Choice) → Contains (choices_of N d) h → Chosen N d h
-chosen_from N d h m =
-    let from = gathered_from (λ (c : Clause (List ℕ)). map (λ (ns : List Nominal). record { clause = c; names = ns }) (choices (map (λ z. z.type) c.names) (in_order (support_of_all d.arguments)) N))
-    (filter (λ (c : Clause (List ℕ)). bytes_eq c.predicate d.predicate) d.block.clauses) h m in
-    let kept = contains_kept (λ (c : Clause (List ℕ)). bytes_eq c.predicate d.predicate) d.block.clauses from.0 from.1 in
-    let names = Contains-from_map (λ (ns : List Nominal). record { clause = from.0; names = ns }) (choices (map (λ z. z.type) from.0.names) (in_order (support_of_all d.arguments)) N) h from.2 in
-    record { clause = from.0; names = names.0; is = names.2; listed = kept.0; of_it = (bytes_eq-Decides from.0.predicate d.predicate).0 kept.1; choice = names.1 }
 
 module _ (D : Declarations) (sentences : HaveSentences D) (definitions : HaveDefinitions D) (s : Sequent) (is : IsSequent D s) where
   abbrev N : List Nominal
@@ -233,33 +217,8 @@ module _ (D : Declarations) (sentences : HaveSentences D) (definitions : HaveDef
   analysed_kept H F d l L s1 e is_atom n cells are ps split =
       split_sequents D (λ k hint name. IsNoVariable k name) (λ k hint name new. new) cells (cases_of s s1 L d) ps
       (All-map (λ (c : CaseOver). (more : List (Cell (List ℕ))) → IsBehind D (cells ++ more) (c (cells ++ more))) (case_of s s1 L d) (choices_of N d)
-      (All-from_contains (λ (h : Choice). (more : List (Cell (List ℕ))) → IsBehind D (cells ++ more) (case_of s s1 L d h (cells ++ more))) (choices_of N d) well)) split
-    where
-      lab : IsLabelled D N (without H s) s1 L
-      lab = labelled_goal D N l (without H s) s1 L (without_it H) n
-
-      atom : IsAtomOver (signature_in D) s.variables N d
-      atom = atom_over D s.variables N F d (found H F e) is_atom
-
-      well : (h : Choice) → Contains (choices_of N d) h → (more : List (Cell (List ℕ))) → IsBehind D (cells ++ more) (case_of s s1 L d h (cells ++ more))
-      well h m more =
-          let all : List (Cell (List ℕ)) = cells ++ more in
-          let chosen = chosen_from N d h m in
-          let c = chosen.clause in
-          let ns = chosen.names in
-          subst (λ h. IsBehind D all (case_of s s1 L d h all)) chosen.is
-          (subst (λ (xs : List Variable). IsBehind D all
-          (let alt = alternative (codes "x") (record { cells = all; variables = map in_terms xs; constants = N }) d.arguments c ns on_left in record {
-            before = take (length alt.cells - length c.variables) alt.cells;
-            own = drop (length alt.cells - length c.variables) alt.cells;
-            equations = alt.equations;
-            flexible = alt.flexible;
-            goal = assuming L (marked_in d.block.predicates (mark_below d.sign) alt.body) (raised_goal alt s1);
-          })) lab.variables
-          (case_is_behind D s1 N lab.goal is.one_type all (subst (AreThere all) (sym lab.variables) (cells_in_front cells more s.variables are))
-          d.predicate d.arguments atom.typed (subst (λ xs. HoldsOnly xs (spine (constant d.predicate) d.arguments)) (sym lab.variables) atom.closed) atom.held
-          c (All-contains (IsDefining (signature_in D)) d.block.clauses c (definitions d.predicate d.block (atom_of D F d is_atom).block) chosen.listed) chosen.of_it ns chosen.choice
-          L lab.new d.block.predicates (mark_below d.sign)))
+      (All-from_contains (λ (h : Choice). (more : List (Cell (List ℕ))) → IsBehind D (cells ++ more) (case_of s s1 L d h (cells ++ more))) (choices_of N d)
+      (cases_behind D s is H definitions F d e is_atom l L s1 n cells are))) split
 
   -- what the conclusion unfolds to
   unfolded_kept : (i : ℕ) (d : Defined) (h : Choice) → defined_atom D s.conclusion ≡ Some d → slice_get (choices_of N d) i ≡ Some h → (cells : List (Cell (List ℕ))) → AreCells cells s

@@ -24,5 +24,6 @@ mod Unfolding
 pub mod Sequents
 mod Cased
 mod Analysed
+mod Covered
 pub mod Keeping
 pub mod OneList
