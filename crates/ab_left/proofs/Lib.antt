@@ -10,3 +10,7 @@ pub mod Naming
 pub mod Rows
 pub mod Taking
 pub mod Solving
+pub mod SameCases
+pub mod Waiting
+pub mod Splitting
+pub mod AtomRows

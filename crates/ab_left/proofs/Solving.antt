@@ -19,9 +19,9 @@ use Rattle.ab_effects.specs.Effect.{cases}
 use Rattle.ab_effects.specs.Refusals.{not_pattern}
 use Rattle.ab_effects.specs.Row.{Leads, Refuses}
 use Rattle.ab_effects.specs.Solving.{IsSolved, IsOutside}
-use Rattle.ab_progress.specs.Progress.{goals_of, Took, FailsAt, StuckAt}
+use Rattle.ab_progress.specs.Progress.{goals_of, TookInto, FailsBy, StuckAt}
 use Rattle.ab_progress.proofs.Following.{first_at, one_at_least, place_of}
-use Rattle.ab_left.specs.Cases.{IsEquation, rest_of, Begun, TakenApart, CantSolve}
+use Rattle.ab_left.specs.Cases.{IsEquation, rest_of, Begun, TakenApart, CantTake}
 use Rattle.ab_left.specs.Progress.{HasAt}
 use Rattle.ab_left.proofs.Hypotheses.{named_last}
 use Rattle.ab_left.proofs.Steps.{without_last}
@@ -51,33 +51,33 @@ module _ (D : Declarations) (k : Sequent) (y : List ℕ) (F t u : Read) (none : 
       (cells, are_cells, moved.0)
 
 -- by the row of the formula
-leads : (D : Declarations) (F : Read) (l : Label) (k : Sequent) (ps : List Sequent) (f : Form) → IsEquation f
-    → ((t u : Read) → equal_in f ≡ Some (t, u) → IsSolved D k t u ps) → Leads (cases D f F l k) ps
-leads D F l k ps (equal A t u) is solved = (ps, solved t u refl, refl)
-leads D F l k ps truth is solved = absurd is
-leads D F l k ps falsity is solved = absurd is
-leads D F l k ps (both A B) is solved = absurd is
-leads D F l k ps (either A B) is solved = absurd is
-leads D F l k ps (implies A B) is solved = absurd is
-leads D F l k ps (for_all A t) is solved = absurd is
-leads D F l k ps (exists A t) is solved = absurd is
-leads D F l k ps (nabla A t) is solved = absurd is
-leads D F l k ps (marked m t) is solved = absurd is
-leads D F l k ps other is solved = absurd is
+leads : (D : Declarations) (F : Read) (l : Label) (goal k : Sequent) (ps : List Sequent) (f : Form) → IsEquation f
+    → ((t u : Read) → equal_in f ≡ Some (t, u) → IsSolved D k t u ps) → Leads (cases D f F l goal k) ps
+leads D F l goal k ps (equal A t u) is solved = (ps, solved t u refl, refl)
+leads D F l goal k ps truth is solved = absurd is
+leads D F l goal k ps falsity is solved = absurd is
+leads D F l goal k ps (both A B) is solved = absurd is
+leads D F l goal k ps (either A B) is solved = absurd is
+leads D F l goal k ps (implies A B) is solved = absurd is
+leads D F l goal k ps (for_all A t) is solved = absurd is
+leads D F l goal k ps (exists A t) is solved = absurd is
+leads D F l goal k ps (nabla A t) is solved = absurd is
+leads D F l goal k ps (marked m t) is solved = absurd is
+leads D F l goal k ps other is solved = absurd is
 
-refuses : (D : Declarations) (F : Read) (l : Label) (k : Sequent) (f : Form) → IsEquation f
-    → ((t u : Read) → equal_in f ≡ Some (t, u) → IsOutside k t u) → Refuses (cases D f F l k) (not_pattern 1)
-refuses D F l k (equal A t u) is outside = inl (outside t u refl, refl)
-refuses D F l k truth is outside = absurd is
-refuses D F l k falsity is outside = absurd is
-refuses D F l k (both A B) is outside = absurd is
-refuses D F l k (either A B) is outside = absurd is
-refuses D F l k (implies A B) is outside = absurd is
-refuses D F l k (for_all A t) is outside = absurd is
-refuses D F l k (exists A t) is outside = absurd is
-refuses D F l k (nabla A t) is outside = absurd is
-refuses D F l k (marked m t) is outside = absurd is
-refuses D F l k other is outside = absurd is
+refuses : (D : Declarations) (F : Read) (l : Label) (goal k : Sequent) (f : Form) → IsEquation f
+    → ((t u : Read) → equal_in f ≡ Some (t, u) → IsOutside k t u) → Refuses (cases D f F l goal k) (not_pattern 1)
+refuses D F l goal k (equal A t u) is outside = inl (outside t u refl, refl)
+refuses D F l goal k truth is outside = absurd is
+refuses D F l goal k falsity is outside = absurd is
+refuses D F l goal k (both A B) is outside = absurd is
+refuses D F l goal k (either A B) is outside = absurd is
+refuses D F l goal k (implies A B) is outside = absurd is
+refuses D F l goal k (for_all A t) is outside = absurd is
+refuses D F l goal k (exists A t) is outside = absurd is
+refuses D F l goal k (nabla A t) is outside = absurd is
+refuses D F l goal k (marked m t) is outside = absurd is
+refuses D F l goal k other is outside = absurd is
 
 some_sides : (f : Form) → IsEquation f → equal_in f ≢ None
 some_sides (equal A t u) is none = cc
@@ -93,18 +93,18 @@ some_sides (marked m t) is none = is
 some_sides other is none = is
 
 module _ (w v : World) (p q : Held) (keep : Bool) (H y x : List ℕ) (F : Read) (l : Label) (form : IsEquation (form_of F)) (e : x ≡ y) (declared : declarations_of v ≡ declarations_of w) (begun : Begun w p v q keep H y F) where
-  pub equal_taken : (u : World) (r : Held) → Took v q u r 0 (equal_left x) → TakenApart w p u r l keep H F
-  equal_taken u r took s rest goals =
+  pub equal_taken : (u : World) (r : Held) (n : ℕ) → TookInto v q u r 0 (equal_left x) n → TakenApart w p u r l keep H F
+  equal_taken u r n took s rest goals =
       let k = rest_of keep H s in
       let b = begun s rest goals in
       let t = took [] rest (assuming y F k) (first_at v q (assuming y F k) rest b.0) in
       let rule : NamedRule (declarations_of w) (equal_left y) (assuming y F k) t.0 =
       subst (λ D. NamedRule D (equal_left y) (assuming y F k) t.0) declared
-      (subst (λ z. NamedRule (declarations_of v) (equal_left z) (assuming y F k) t.0) e t.1) in
-      (t.0, leads (declarations_of w) F l k t.0 (form_of F) form (λ a c is. solved (declarations_of w) k y F a c b.1 is t.0 rule), t.2)
+      (subst (λ z. NamedRule (declarations_of v) (equal_left z) (assuming y F k) t.0) e t.1.0) in
+      (t.0, leads (declarations_of w) F l s k t.0 (form_of F) form (λ a c is. solved (declarations_of w) k y F a c b.1 is t.0 rule), t.2)
 
   pub equal_stuck : ((s : Sequent) (rest : List Sequent) → goals_of v q ≡ s ∷ rest → AreCells (cells_read v.types v.store) s)
-      → (i : ℕ) → StuckAt v q 0 (equal_left x) i → CantSolve w p l keep H F
+      → (i : ℕ) → StuckAt v q 0 (equal_left x) i → CantTake w p l keep H F (not_pattern 1)
   equal_stuck over i stuck s rest goals =
       let k = rest_of keep H s in
       let b = begun s rest goals in
@@ -112,17 +112,17 @@ module _ (w v : World) (p q : Held) (keep : Bool) (H y x : List ℕ) (F : Read) 
       let here : Stuck (declarations_of w) cells (equal_left y) (assuming y F k) i =
       subst (λ D. Stuck D cells (equal_left y) (assuming y F k) i) declared
       (subst (λ z. Stuck (declarations_of v) cells (equal_left z) (assuming y F k) i) e (stuck [] rest (assuming y F k) (first_at v q (assuming y F k) rest b.0))) in
-      refuses (declarations_of w) F l k (form_of F) form
+      refuses (declarations_of w) F l s k (form_of F) form
       (λ a c is. outside (declarations_of w) k y F a c b.1 is cells i (over (assuming y F k) rest b.0) here)
 
-  pub equal_never_fails : goals_of w p ≢ [] → FailsAt v q 0 (equal_left x) → ⊥
-  equal_never_fails some fails =
+  pub equal_never_fails : goals_of w p ≢ [] → (i : ℕ) → FailsBy v q 0 (equal_left x) i → ⊥
+  equal_never_fails some i fails =
       let one = one_at_least (goals_of w p) some in
       let k = rest_of keep H one.0 in
       let b = begun one.0 one.1 one.2 in
       let f = fails [] one.1 (assuming y F k) (first_at v q (assuming y F k) one.1 b.0) in
       let has : formula_of (assuming y F k) x ≡ Some F = ap (formula_of (assuming y F k)) e ∙ named_last k.hypotheses y F b.1 in
-      solves_equal (declarations_of v) (cells_read v.types v.store) (assuming y F k) x F has (some_sides (form_of F) form) f.0 f.1
+      solves_equal (declarations_of v) (cells_read v.types v.store) (assuming y F k) x F has (some_sides (form_of F) form) i f
 
 -- the goal is still open
 pub first_there : (w : World) (p : Held) (y : List ℕ) (F : Read) → HasAt w p 0 y F → 0 < length (goals_of w p)

@@ -1,6 +1,7 @@
 -- The rows of the forms that `case` takes apart.
+use Rattle.std.specs.Prelude.{Result, Ok, Err}
 use Rattle.std.specs.Option.{IsSome}
-use Rattle.std.proofs.Common.{◌≡◌, ◌≢◌, inl, inr, ℕ, List, [], ◌∷◌, ◌++◌, Bool, true, false, Option, Some, None, refl, sym, ◌∙◌, ap, subst}
+use Rattle.std.proofs.Common.{◌≡◌, ◌≢◌, inl, inr, ℕ, ◌+◌, List, [], ◌∷◌, ◌++◌, Bool, true, false, Option, Some, None, refl, sym, ◌∙◌, ap, subst}
 use Rattle.ab_store.specs.Trees.{Read}
 use Rattle.ab_unifying.specs.Problem.{cells_read}
 use Rattle.ab_store.specs.declared.node.TermId.{TermId}
@@ -14,15 +15,18 @@ use Rattle.ab_logic.specs.Worlds.{declarations_of, Holds, read}
 use Rattle.ab_logic.specs.declared.world.World.{World}
 use Rattle.ab_rules.specs.Steps.{or_left, false_left}
 use Rattle.ab_kernel.specs.Layout.{Held}
-use Rattle.ab_effects.specs.Effect.{cases, clashing}
+use Rattle.ab_effects.specs.Effect.{effect, cases, clashing}
 use Rattle.ab_effects.specs.Opening.{Opened, Nameless}
-use Rattle.ab_effects.specs.Refusals.{names_spent, wrong_shape}
+use Rattle.ab_effects.specs.Refusals.{Refusal, names_spent, wrong_shape, mark, not_pattern}
 use Rattle.ab_effects.specs.Row.{Leads, Refuses}
-use Rattle.ab_progress.specs.Applied.{IsApplied, IsRefused}
+use Rattle.ab_progress.specs.Applied.{IsApplied, IsRefused, RefusedBy}
 use Rattle.ab_progress.specs.declared.fault.ProofCommandFault.{ProofCommandFault}
 use Rattle.ab_progress.specs.Progress.{goals_of, IsAt, Took, Holds as Sure}
 use Rattle.ab_progress.proofs.Following.{first_at, one_at_least}
-use Rattle.ab_left.specs.Cases.{IsOpened, HasCases, rest_of, Begun, TakenApart, CantTake, CantSolve}
+use Rattle.ab_left.specs.Cases.{IsOpened, HasCases, rest_of, Begun, TakenApart, CantTake}
+use Rattle.ab_left.specs.Outcomes.{IsFaultOf}
+use Rattle.ab_left.specs.declared.outcome.Outcome.{Outcome}
+use Rattle.ab_left.specs.declared.stop.Stop.{Stop}
 use Rattle.ab_left.specs.Progress.{HasAt, CopiedTo, MovedTo, OpenedTo}
 use Rattle.ab_left.proofs.Hypotheses.{named_still_none, named_last}
 use Rattle.ab_left.proofs.Goes.{holds_at}
@@ -30,8 +34,8 @@ use Rattle.ab_left.proofs.Rows.{renamed}
 use Rattle.ab_left.proofs.Sure.{parts_or, closes_false}
 use Rattle.ab_left.proofs.Steps.{Went, without_last}
 
-module _ (D : Declarations) (F : Read) (l : Label) (s : Sequent) where
-  pub opened_leads : (f : Form) → IsOpened f → (m : Label) (u : Sequent) → Opened D (F ∷ []) l s m u → Leads (cases D f F l s) (u ∷ [])
+module _ (D : Declarations) (F : Read) (l : Label) (goal s : Sequent) where
+  pub opened_leads : (f : Form) → IsOpened f → (m : Label) (u : Sequent) → Opened D (F ∷ []) l s m u → Leads (cases D f F l goal s) (u ∷ [])
   opened_leads truth is m u o = ((m, u), o, refl)
   opened_leads (both A B) is m u o = ((m, u), o, refl)
   opened_leads (exists A t) is m u o = ((m, u), o, refl)
@@ -44,7 +48,7 @@ module _ (D : Declarations) (F : Read) (l : Label) (s : Sequent) where
   opened_leads (marked x t) is m u o = absurd is
   opened_leads other is m u o = absurd is
 
-  pub opened_refuses : (f : Form) → IsOpened f → Nameless D (F ∷ []) l s → Refuses (cases D f F l s) names_spent
+  pub opened_refuses : (f : Form) → IsOpened f → Nameless D (F ∷ []) l s → Refuses (cases D f F l goal s) names_spent
   opened_refuses truth is o = inl (o, refl)
   opened_refuses (both A B) is o = inl (o, refl)
   opened_refuses (exists A t) is o = inl (o, refl)
@@ -57,7 +61,7 @@ module _ (D : Declarations) (F : Read) (l : Label) (s : Sequent) where
   opened_refuses (marked x t) is o = absurd is
   opened_refuses other is o = absurd is
 
-  pub shapeless : (f : Form) → (HasCases f → ⊥) → Refuses (cases D f F l s) wrong_shape
+  pub shapeless : (f : Form) → (HasCases f → ⊥) → Refuses (cases D f F l goal s) wrong_shape
   shapeless truth none = absurd (none tt)
   shapeless falsity none = absurd (none tt)
   shapeless (both A B) none = absurd (none tt)
@@ -67,8 +71,8 @@ module _ (D : Declarations) (F : Read) (l : Label) (s : Sequent) where
   shapeless (implies A B) none = inl refl
   shapeless (equal A t u) none = absurd (none tt)
   shapeless (for_all A t) none = inl refl
-  shapeless (marked x t) none = inl refl
-  shapeless other none = inl refl
+  shapeless (marked x t) none = absurd (none tt)
+  shapeless other none = absurd (none tt)
 
 -- a copy under a name of the command's own
 pub begun_kept : (w v : World) (p q : Held) (keep : Bool) (H y g : List ℕ) (F : Read) → keep ≡ true → g ≡ y
@@ -125,9 +129,9 @@ module _ (w v u : World) (p q r : Held) (keep : Bool) (H y : List ℕ) (F G : Re
       subst (λ D. Opened D (F ∷ []) l k to.label to.goal) declared
       (subst (λ E. Opened (declarations_of v) (E ∷ []) l k to.label to.goal) same
       (subst (λ t. Opened (declarations_of v) (G ∷ []) l t to.label to.goal) (without_last k y F b.1) to.opened)) in
-      (to.goal ∷ [], opened_leads (declarations_of w) F l k (form_of F) form to.label to.goal here, to.at.goals)
+      (to.goal ∷ [], opened_leads (declarations_of w) F l s k (form_of F) form to.label to.goal here, to.at.goals)
 
-  pub opened_stops : StopsAt v q 0 l y G → CantTake w p l keep H F
+  pub opened_stops : StopsAt v q 0 l y G → CantTake w p l keep H F names_spent
   opened_stops stops s rest goals =
       let k = rest_of keep H s in
       let b = begun s rest goals in
@@ -135,7 +139,7 @@ module _ (w v u : World) (p q r : Held) (keep : Bool) (H y : List ℕ) (F G : Re
       subst (λ D. Nameless D (F ∷ []) l k) declared
       (subst (λ E. Nameless (declarations_of v) (E ∷ []) l k) same
       (subst (λ t. Nameless (declarations_of v) (G ∷ []) l t) (without_last k y F b.1) (stops [] rest (assuming y F k) (first_at v q (assuming y F k) rest b.0)))) in
-      opened_refuses (declarations_of w) F l k (form_of F) form here
+      opened_refuses (declarations_of w) F l s k (form_of F) form here
 
 pub begun_there : (w v : World) (p q : Held) (keep : Bool) (H y : List ℕ) (F G : Read) → G ≡ F → goals_of w p ≢ [] → Begun w p v q keep H y F → HasAt v q 0 y G
 begun_there w v p q keep H y F G same some begun =
@@ -167,7 +171,7 @@ pub false_taken : (w v : World) (p q : Held) (keep : Bool) (H x : List ℕ) (F :
 false_taken w v p q keep H x F l is took s rest goals =
     let t = took [] rest s (first_at w p s rest goals) in
     let none : t.0 ≡ [] = t.1.2.2.2 in
-    ([], subst (λ f. Leads (cases (declarations_of w) f F l (rest_of keep H s)) []) (sym is) refl, t.2 ∙ ap (λ qs. qs ++ rest) none)
+    ([], subst (λ f. Leads (cases (declarations_of w) f F l s (rest_of keep H s)) []) (sym is) refl, t.2 ∙ ap (λ qs. qs ++ rest) none)
 
 -- the parts of a disjunction
 pub or_parted : (D : Declarations) (s : Sequent) (y : List ℕ) (F A B : Read) (v : World) (q : Held) (rest : List Sequent) → formula_of s y ≡ Some F → form_of F ≡ either A B
@@ -224,7 +228,7 @@ module _ (w v u : World) (p q r : Held) (keep : Bool) (H y : List ℕ) (F A B A1
       (subst (λ t. OpenedTo (declarations_of u) (A2 ∷ []) l t x o 0 [] (assuming y B k ∷ rest)) (without_last k y A b.1)
       (opens [] (assuming y B k ∷ rest) (assuming y A k) (record { goals = two_goals s rest goals; counted = refl }))))
 
-  pub first_stops : (A2 : Read) → A2 ≡ A → declarations_of u ≡ declarations_of w → StopsAt u r 0 l y A2 → CantTake w p l keep H F
+  pub first_stops : (A2 : Read) → A2 ≡ A → declarations_of u ≡ declarations_of w → StopsAt u r 0 l y A2 → CantTake w p l keep H F names_spent
   first_stops A2 e declared stops s rest goals =
       let k = rest_of keep H s in
       let b = begun s rest goals in
@@ -233,7 +237,7 @@ module _ (w v u : World) (p q r : Held) (keep : Bool) (H y : List ℕ) (F A B A1
       (subst (λ E. Nameless (declarations_of u) (E ∷ []) l k) e
       (subst (λ t. Nameless (declarations_of u) (A2 ∷ []) l t) (without_last k y A b.1)
       (stops [] (assuming y B k ∷ rest) (assuming y A k) (record { goals = two_goals s rest goals; counted = refl })))) in
-      subst (λ f. Refuses (cases (declarations_of w) f F l k) names_spent) (sym is) (inl (here, refl))
+      subst (λ f. Refuses (cases (declarations_of w) f F l s k) names_spent) (sym is) (inl (here, refl))
 
   module _ (x : World) (o : Held) (A2 : Read) (eA2 : A2 ≡ A) (declared : declarations_of u ≡ declarations_of w) (first : OpensAt u r x o 0 l y A2) (B2 : Read) (eB2 : B2 ≡ B) (also : declarations_of x ≡ declarations_of w) where
     pub second_there : goals_of w p ≢ [] → (y1 : List ℕ) → y1 ≡ y → HasAt x o 1 y1 B2
@@ -261,10 +265,10 @@ module _ (w v u : World) (p q r : Held) (keep : Bool) (H y : List ℕ) (F A B A1
         (subst (λ E. OpenedTo (declarations_of x) (E ∷ []) l k z n 1 (one.goal ∷ []) rest) eB2
         (subst (λ t. OpenedTo (declarations_of x) (B2 ∷ []) l t z n 1 (one.goal ∷ []) rest) (without_last k y B b.1)
         (opens (one.goal ∷ []) rest (assuming y B k) (record { goals = one.at.goals; counted = refl })))) in
-        let leads : Leads (cases (declarations_of w) (either A B) F l k) (one.goal ∷ to.goal ∷ []) = ((one.label, one.goal), one.opened, ((to.label, to.goal), to.opened, refl)) in
-        (one.goal ∷ to.goal ∷ [], subst (λ f. Leads (cases (declarations_of w) f F l k) (one.goal ∷ to.goal ∷ [])) (sym is) leads, to.at.goals)
+        let leads : Leads (cases (declarations_of w) (either A B) F l s k) (one.goal ∷ to.goal ∷ []) = ((one.label, one.goal), one.opened, ((to.label, to.goal), to.opened, refl)) in
+        (one.goal ∷ to.goal ∷ [], subst (λ f. Leads (cases (declarations_of w) f F l s k) (one.goal ∷ to.goal ∷ [])) (sym is) leads, to.at.goals)
 
-    pub second_stops : StopsAt x o 1 l y B2 → CantTake w p l keep H F
+    pub second_stops : StopsAt x o 1 l y B2 → CantTake w p l keep H F names_spent
     second_stops stops s rest goals =
         let k = rest_of keep H s in
         let b = begun s rest goals in
@@ -274,8 +278,8 @@ module _ (w v u : World) (p q r : Held) (keep : Bool) (H y : List ℕ) (F A B A1
         (subst (λ E. Nameless (declarations_of x) (E ∷ []) l k) eB2
         (subst (λ t. Nameless (declarations_of x) (B2 ∷ []) l t) (without_last k y B b.1)
         (stops (one.goal ∷ []) rest (assuming y B k) (record { goals = one.at.goals; counted = refl })))) in
-        let refuses : Refuses (cases (declarations_of w) (either A B) F l k) names_spent = inr ((one.label, one.goal), one.opened, inl (here, refl)) in
-        subst (λ f. Refuses (cases (declarations_of w) f F l k) names_spent) (sym is) refuses
+        let refuses : Refuses (cases (declarations_of w) (either A B) F l s k) names_spent = inr ((one.label, one.goal), one.opened, inl (here, refl)) in
+        subst (λ f. Refuses (cases (declarations_of w) f F l s k) names_spent) (sym is) refuses
 
 -- the command's row
 
@@ -285,11 +289,27 @@ module _ (w : World) (p : Held) (l : Label) (keep : Bool) (H : List ℕ) (F : Re
   pub case_applied : (v : World) (q : Held) → TakenApart w p v q l keep H F → IsApplied l (told.case H keep) w p v q
   case_applied v q taken s rest goals = let t = taken s rest goals in (t.0, (free s rest goals, (F, has s rest goals, t.1)), t.2)
 
+  refused : (refusal : Refusal) (s : Sequent) (rest : List Sequent) → goals_of w p ≡ s ∷ rest → CantTake w p l keep H F refusal
+      → Refuses (effect (declarations_of w) l (told.case H keep) s) refusal
+  refused refusal s rest goals cant = inr (free s rest goals, inr (F, has s rest goals, cant s rest goals))
+
   pub case_shapeless : (HasCases (form_of F) → ⊥) → IsRefused l (told.case H keep) w p ProofCommandFault.WrongShape
-  case_shapeless none s rest goals = inr (free s rest goals, inr (F, has s rest goals, shapeless (declarations_of w) F l (rest_of keep H s) (form_of F) none))
+  case_shapeless none s rest goals = inr (free s rest goals, inr (F, has s rest goals, shapeless (declarations_of w) F l s (rest_of keep H s) (form_of F) none))
 
-  pub case_stops : CantTake w p l keep H F → IsRefused l (told.case H keep) w p ProofCommandFault.NamesSpent
-  case_stops stops s rest goals = inr (free s rest goals, inr (F, has s rest goals, stops s rest goals))
-
-  pub case_stuck : CantSolve w p l keep H F → IsRefused l (told.case H keep) w p (ProofCommandFault.NotPattern 1)
-  case_stuck stuck s rest goals = inr (free s rest goals, inr (F, has s rest goals, stuck s rest goals))
+  pub case_refused : (came : Result Outcome Stop) (fault : ProofCommandFault) → IsFaultOf came fault
+      → (came ≡ Ok Outcome.Shapeless → CantTake w p l keep H F wrong_shape) → (came ≡ Ok Outcome.Marked → CantTake w p l keep H F mark)
+      → ((i : ℕ) → came ≡ Ok (Outcome.Stuck i) → CantTake w p l keep H F (not_pattern (i + 1))) → (came ≡ Err Stop.NamesSpent → CantTake w p l keep H F names_spent)
+      → IsRefused l (told.case H keep) w p fault
+  case_refused (Ok Outcome.Taken) fault is unshaped unmarked stuck spent s rest goals = absurd is
+  case_refused (Ok Outcome.Shapeless) fault is unshaped unmarked stuck spent s rest goals =
+      subst (RefusedBy (effect (declarations_of w) l (told.case H keep) s)) (sym is) (refused wrong_shape s rest goals (unshaped refl))
+  case_refused (Ok Outcome.Marked) fault is unshaped unmarked stuck spent s rest goals =
+      subst (RefusedBy (effect (declarations_of w) l (told.case H keep) s)) (sym is) (refused mark s rest goals (unmarked refl))
+  case_refused (Ok (Outcome.Stuck i)) fault (inl is) unshaped unmarked stuck spent s rest goals =
+      subst (RefusedBy (effect (declarations_of w) l (told.case H keep) s)) (sym is) (refused (not_pattern (i + 1)) s rest goals (stuck i refl))
+  case_refused (Ok (Outcome.Stuck i)) fault (inr is) unshaped unmarked stuck spent s rest goals =
+      subst (RefusedBy (effect (declarations_of w) l (told.case H keep) s)) (sym is.1) tt
+  case_refused (Err Stop.NamesSpent) fault is unshaped unmarked stuck spent s rest goals =
+      subst (RefusedBy (effect (declarations_of w) l (told.case H keep) s)) (sym is) (refused names_spent s rest goals (spent refl))
+  case_refused (Err (Stop.Memory e)) fault is unshaped unmarked stuck spent s rest goals =
+      subst (RefusedBy (effect (declarations_of w) l (told.case H keep) s)) (sym is) tt

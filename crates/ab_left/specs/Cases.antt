@@ -1,14 +1,14 @@
 -- What taking a hypothesis apart leaves of a proof. Public contracts don't speak of this.
 use Rattle.std.specs.Prelude.{◌≡◌, List, ◌∷◌, ◌++◌, Bool, None, ℕ, if◌then◌else◌}
 use Rattle.ab_store.specs.Trees.{Read}
-use Rattle.ab_logic.specs.Forms.{Form, truth, falsity, both, either, equal, exists, nabla, form_of}
+use Rattle.ab_logic.specs.Forms.{Form, truth, falsity, both, either, equal, exists, nabla, marked, other, form_of}
 use Rattle.ab_logic.specs.Names.{Label}
 use Rattle.ab_logic.specs.Sequents.{Sequent, formula_of, assuming, without}
 use Rattle.ab_logic.specs.Worlds.{declarations_of}
 use Rattle.ab_logic.specs.declared.world.World.{World}
 use Rattle.ab_kernel.specs.Layout.{Held}
 use Rattle.ab_effects.specs.Effect.{cases}
-use Rattle.ab_effects.specs.Refusals.{names_spent, not_pattern}
+use Rattle.ab_effects.specs.Refusals.{Refusal}
 use Rattle.ab_effects.specs.Row.{Leads, Refuses}
 use Rattle.ab_progress.specs.Progress.{goals_of}
 
@@ -25,7 +25,13 @@ abbrev pub IsEquation : Form → Type 0
 IsEquation (equal A t u) = Unit {0}
 IsEquation _ = ⊥
 
--- one of this form can be taken apart
+-- one of this form may be an atom whose predicate is defined
+abbrev pub IsAtom : Form → Type 0
+IsAtom (marked m t) = Unit {0}
+IsAtom other = Unit {0}
+IsAtom _ = ⊥
+
+-- one of this form may be taken apart
 abbrev pub HasCases : Form → Type 0
 HasCases truth = Unit {0}
 HasCases falsity = Unit {0}
@@ -34,6 +40,8 @@ HasCases (either A B) = Unit {0}
 HasCases (equal A t u) = Unit {0}
 HasCases (exists A t) = Unit {0}
 HasCases (nabla A t) = Unit {0}
+HasCases (marked m t) = Unit {0}
+HasCases other = Unit {0}
 HasCases _ = ⊥
 
 -- the goal in which the hypothesis is taken apart
@@ -48,14 +56,9 @@ Begun w p v q keep H y F = (s : Sequent) (rest : List Sequent) → goals_of w p 
 -- the hypothesis was taken apart by its row
 abbrev pub TakenApart : World → Held → World → Held → Label → Bool → List ℕ → Read → Type 0
 TakenApart w p v q l keep H F = (s : Sequent) (rest : List Sequent) → goals_of w p ≡ s ∷ rest →
-    (ps : List Sequent) × Leads (cases (declarations_of w) (form_of F) F l (rest_of keep H s)) ps × (goals_of v q ≡ ps ++ rest)
+    (ps : List Sequent) × Leads (cases (declarations_of w) (form_of F) F l s (rest_of keep H s)) ps × (goals_of v q ≡ ps ++ rest)
 
--- it can't be, since a new hypothesis gets no name
-abbrev pub CantTake : World → Held → Label → Bool → List ℕ → Read → Type 0
-CantTake w p l keep H F = (s : Sequent) (rest : List Sequent) → goals_of w p ≡ s ∷ rest →
-    Refuses (cases (declarations_of w) (form_of F) F l (rest_of keep H s)) names_spent
-
--- it can't be, since it is an equation outside the patterns
-abbrev pub CantSolve : World → Held → Label → Bool → List ℕ → Read → Type 0
-CantSolve w p l keep H F = (s : Sequent) (rest : List Sequent) → goals_of w p ≡ s ∷ rest →
-    Refuses (cases (declarations_of w) (form_of F) F l (rest_of keep H s)) (not_pattern 1)
+-- it can't be, and its row says so
+abbrev pub CantTake : World → Held → Label → Bool → List ℕ → Read → Refusal → Type 0
+CantTake w p l keep H F refusal = (s : Sequent) (rest : List Sequent) → goals_of w p ≡ s ∷ rest →
+    Refuses (cases (declarations_of w) (form_of F) F l s (rest_of keep H s)) refusal

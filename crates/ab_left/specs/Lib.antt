@@ -2,3 +2,5 @@
 pub mod Own
 pub mod Progress
 pub mod Cases
+pub mod Outcomes
+pub mod Analysed

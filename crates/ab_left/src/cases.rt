@@ -1,5 +1,5 @@
 //! A hypothesis is taken apart.
-ghost use Rattle.std.specs.Prelude.{◌≡◌, ◌≢◌, ◌↔◌, [], ◌∷◌, List, Err, IfOk, OnOk, OnErr, IsTrue, IsFalse};
+ghost use Rattle.std.specs.Prelude.{◌≡◌, ◌≢◌, ◌↔◌, ◌+◌, ℕ, [], ◌∷◌, List, Ok, Err, IfOk, OnOk, OnErr, IsTrue, IsFalse};
 ghost use Rattle.std.specs.Option.{option_map};
 ghost use Rattle.ab_grammar.specs.CommandTrees as told;
 ghost use Rattle.ab_logic.specs.Forms.{form_of, either, falsity, HoldsParts};
@@ -7,7 +7,7 @@ ghost use Rattle.ab_logic.specs.Readings.{sequent_of};
 ghost use Rattle.ab_logic.specs.Sequents.{Sequent as AGoal, assuming, without};
 ghost use Rattle.ab_logic.specs.declared.world.World.{World as AWorld};
 ghost use Rattle.ab_effects.specs.Effect.{clashing};
-ghost use Rattle.ab_effects.specs.Refusals.{clash};
+ghost use Rattle.ab_effects.specs.Refusals.{clash, wrong_shape, mark, not_pattern, names_spent};
 ghost use Rattle.ab_logic.specs.Worlds.{IsWorld, Holds, declarations_of, read};
 ghost use Rattle.ab_naming.specs.Labels.{label_of};
 ghost use Rattle.ab_unifying.specs.Problem.{cells_read};
@@ -19,22 +19,24 @@ ghost use Rattle.ab_progress.specs.Progress.{goals_of, IsAt, Follows};
 ghost use Rattle.ab_progress.specs.declared.fault.ProofCommandFault.{ProofCommandFault as AFault};
 ghost use Rattle.ab_left.specs.Own.{IsOwn};
 ghost use Rattle.ab_left.specs.Progress.{HasAt, OpenedTo};
-ghost use Rattle.ab_left.specs.Cases.{HasCases, IsOpened, IsEquation, Begun, TakenApart, CantTake, CantSolve};
+ghost use Rattle.ab_left.specs.Cases.{HasCases, IsOpened, IsEquation, Begun, TakenApart, CantTake};
+ghost use Rattle.ab_left.specs.declared.outcome.Outcome.{Outcome as AnOutcome};
 ghost use Rattle.ab_left.specs.declared.stop.Stop.{Stop as AStop};
 
-use crate::moving::{copy, shift};
-use crate::opening::open;
-use crate::own::own_name;
+use crate::analysing::analyse;
+use crate::beginning::{begin, first_over_cells};
+use crate::opening::open_one;
+use crate::outcome::{Outcome, fault_of};
 use crate::stop::Stop;
 use ab_kernel::{Proof, Step};
-use ab_logic::{Form, Hypothesis, Sequent, World, shape};
+use ab_logic::{Form, Sequent, World, shape};
 use ab_naming::Label;
 use ab_progress::{Attempted, ProofCommandFault, attempt_solving, first_goal, surely, take_back};
 use ab_store::TermId;
 use ab_types::{Name, Steps};
 use std::alloc::{AllocError, Global};
 
-/// Whether a hypothesis of that formula can be taken apart.
+/// Whether a hypothesis of a formula of that form may be taken apart.
 fn has_cases(world: &World, formula: TermId) -> bool
     requires { Holds world.now formula }
     ensures { IsTrue result ↔ HasCases (form_of (read world.now formula)) }
@@ -46,94 +48,11 @@ fn has_cases(world: &World, formula: TermId) -> bool
         | Form::Or(_, _)
         | Form::Equal(_, _, _)
         | Form::Exists(_, _)
-        | Form::Nabla(_, _) => true,
-        Form::Arrow(_, _) | Form::Forall(_, _) | Form::Marked(_, _) | Form::Other => false,
+        | Form::Nabla(_, _)
+        | Form::Marked(_, _)
+        | Form::Other => true,
+        Form::Arrow(_, _) | Form::Forall(_, _) => false,
     }
-}
-
-/// Puts the formula of a hypothesis of the first goal behind the others, under a name of the command's own, which is the
-/// answer. The hypothesis goes, unless it is to be kept.
-fn begin<L>(
-    alloc: Global,
-    world: &mut World,
-    proof: &mut Proof,
-    label: &Label,
-    name: &Name,
-    formula: TermId,
-    keep: bool,
-    steps: &mut Steps<L>,
-) -> Result<Name, AllocError>
-    requires world { IsWorld world.old }
-    requires proof { IsProof world.old proof.old }
-    requires open { goals_of world.old proof.old ≢ [] }
-    requires formula { Holds world.old formula }
-    requires there { HasAt world.old proof.old 0 name.now (read world.old formula) }
-    ensures follows { Follows world.old proof.old world.new proof.new }
-    ensures own { IfOk result (IsOwn (label_of label.now)) }
-    ensures begun { IfOk result (λ own. Begun world.old proof.old world.new proof.new keep name.now own (read world.old formula)) }
-{
-    let own = own_name(alloc, world, first_goal(world, proof), label)?;
-    let given = own.copy(alloc)?;
-    if keep {
-        let copied = copy(
-            alloc,
-            world,
-            proof,
-            0,
-            name,
-            formula,
-            Label::Given(given),
-            steps,
-        )?;
-        if copied { Ok(own) } else { unreachable!() }
-    } else {
-        let moved = shift(
-            alloc,
-            world,
-            proof,
-            0,
-            name,
-            formula,
-            Label::Given(given),
-            steps,
-        )?;
-        if moved { Ok(own) } else { unreachable!() }
-    }
-}
-
-/// The hypothesis alone.
-fn alone(alloc: Global, hypothesis: Hypothesis) -> Result<Vec<Hypothesis>, AllocError>
-    ensures { IfOk result (λ list. list.items ≡ hypothesis ∷ []) }
-{
-    let mut list = Vec::new(alloc);
-    list.push(hypothesis)?;
-    Ok(list)
-}
-
-/// Opens one hypothesis of the command's own in the goal of this place.
-fn open_one<L>(
-    alloc: Global,
-    world: &mut World,
-    proof: &mut Proof,
-    place: usize,
-    label: &Label,
-    name: Name,
-    formula: TermId,
-    steps: &mut Steps<L>,
-) -> Result<(), Stop>
-    requires world { IsWorld world.old }
-    requires proof { IsProof world.old proof.old }
-    requires formula { Holds world.old formula }
-    requires there { HasAt world.old proof.old place name (read world.old formula) }
-    requires own { IsOwn (label_of label.now) name }
-    ensures follows { Follows world.old proof.old world.new proof.new }
-    ensures opened { OnOk result ((before behind : List AGoal) (k : AGoal) → IsAt world.old proof.old place before k behind →
-        OpenedTo (declarations_of world.old) (read world.old formula ∷ []) (label_of label.now) (without name k) world.new proof.new place before behind) }
-    ensures stopped { result ≡ Err AStop.NamesSpent → (before behind : List AGoal) (k : AGoal) → IsAt world.old proof.old place before k behind →
-        Nameless (declarations_of world.old) (read world.old formula ∷ []) (label_of label.now) (without name k) }
-{
-    let pending = alone(alloc, Hypothesis { name, formula })?;
-    open(alloc, world, proof, place, label, pending, steps)
 }
 
 /// Opens a hypothesis in its goal.
@@ -155,7 +74,7 @@ fn take_open<L>(
     requires form { IsOpened (form_of (read world.old formula)) }
     ensures follows { Follows world.old proof.old world.new proof.new }
     ensures taken { OnOk result (TakenApart world.old proof.old world.new proof.new (label_of label.now) keep name.now (read world.old formula)) }
-    ensures stopped { result ≡ Err AStop.NamesSpent → CantTake world.old proof.old (label_of label.now) keep name.now (read world.old formula) }
+    ensures stopped { result ≡ Err AStop.NamesSpent → CantTake world.old proof.old (label_of label.now) keep name.now (read world.old formula) names_spent }
 {
     let own = begin(alloc, world, proof, label, name, formula, keep, steps)?;
     open_one(alloc, world, proof, 0, label, own, formula, steps)
@@ -182,7 +101,7 @@ fn take_or<L>(
     requires form { form_of (read world.old formula) ≡ either (read world.old parts.0) (read world.old parts.1) }
     ensures follows { Follows world.old proof.old world.new proof.new }
     ensures taken { OnOk result (TakenApart world.old proof.old world.new proof.new (label_of label.now) keep name.now (read world.old formula)) }
-    ensures stopped { result ≡ Err AStop.NamesSpent → CantTake world.old proof.old (label_of label.now) keep name.now (read world.old formula) }
+    ensures stopped { result ≡ Err AStop.NamesSpent → CantTake world.old proof.old (label_of label.now) keep name.now (read world.old formula) names_spent }
 {
     let own = begin(alloc, world, proof, label, name, formula, keep, steps)?;
     let other = own.copy(alloc)?;
@@ -247,16 +166,6 @@ fn take_false<L>(
     surely(world, proof, 0, Step::FalseLeft(own), steps)
 }
 
-/// The variables of the first goal are cells of the world.
-fn first_over_cells(world: &World, proof: &Proof)
-    requires proof { IsProof world.now proof.now }
-    requires open { goals_of world.now proof.now ≢ [] }
-    ensures { (s : AGoal) (rest : List AGoal) → goals_of world.now proof.now ≡ s ∷ rest →
-        AreCells (cells_read world.now.types world.now.store) s }
-{
-    let _ = first_goal(world, proof);
-}
-
 /// Solves a hypothesis that is an equation in its goal. It answers false where the equation is outside the patterns.
 fn take_equal<L>(
     alloc: Global,
@@ -276,18 +185,18 @@ fn take_equal<L>(
     requires form { IsEquation (form_of (read world.old formula)) }
     ensures follows { Follows world.old proof.old world.new proof.new }
     ensures taken { IfOk result (λ b. IsTrue b → TakenApart world.old proof.old world.new proof.new (label_of label.now) keep name.now (read world.old formula)) }
-    ensures stuck { IfOk result (λ b. IsFalse b → CantSolve world.old proof.old (label_of label.now) keep name.now (read world.old formula)) }
+    ensures stuck { IfOk result (λ b. IsFalse b → CantTake world.old proof.old (label_of label.now) keep name.now (read world.old formula) (not_pattern 1)) }
 {
     let own = begin(alloc, world, proof, label, name, formula, keep, steps)?;
     first_over_cells(world, proof);
     match attempt_solving(world, proof, 0, Step::EqualLeft(own), steps)? {
         Attempted::Taken(_) => Ok(true),
-        Attempted::Failed => unreachable!(),
+        Attempted::Failed(_) => unreachable!(),
         Attempted::Stuck(_) => Ok(false),
     }
 }
 
-/// Takes a hypothesis of the first goal apart. It answers false where the hypothesis is an equation outside the patterns.
+/// Takes a hypothesis of the first goal apart.
 fn take_apart<L>(
     alloc: Global,
     world: &mut World,
@@ -297,7 +206,7 @@ fn take_apart<L>(
     formula: TermId,
     keep: bool,
     steps: &mut Steps<L>,
-) -> Result<bool, Stop>
+) -> Result<Outcome, Stop>
     requires world { IsWorld world.old }
     requires proof { IsProof world.old proof.old }
     requires open { goals_of world.old proof.old ≢ [] }
@@ -305,14 +214,16 @@ fn take_apart<L>(
     requires there { HasAt world.old proof.old 0 name.now (read world.old formula) }
     requires form { HasCases (form_of (read world.old formula)) }
     ensures follows { Follows world.old proof.old world.new proof.new }
-    ensures taken { IfOk result (λ b. IsTrue b → TakenApart world.old proof.old world.new proof.new (label_of label.now) keep name.now (read world.old formula)) }
-    ensures stuck { IfOk result (λ b. IsFalse b → CantSolve world.old proof.old (label_of label.now) keep name.now (read world.old formula)) }
-    ensures stopped { result ≡ Err AStop.NamesSpent → CantTake world.old proof.old (label_of label.now) keep name.now (read world.old formula) }
+    ensures taken { result ≡ Ok AnOutcome.Taken → TakenApart world.old proof.old world.new proof.new (label_of label.now) keep name.now (read world.old formula) }
+    ensures shapeless { result ≡ Ok AnOutcome.Shapeless → CantTake world.old proof.old (label_of label.now) keep name.now (read world.old formula) wrong_shape }
+    ensures marked { result ≡ Ok AnOutcome.Marked → CantTake world.old proof.old (label_of label.now) keep name.now (read world.old formula) mark }
+    ensures stuck { (i : ℕ) → result ≡ Ok (AnOutcome.Stuck i) → CantTake world.old proof.old (label_of label.now) keep name.now (read world.old formula) (not_pattern (i + 1)) }
+    ensures stopped { result ≡ Err AStop.NamesSpent → CantTake world.old proof.old (label_of label.now) keep name.now (read world.old formula) names_spent }
 {
     match shape(world, formula) {
         Form::False => {
             take_false(alloc, world, proof, label, name, formula, keep, steps)?;
-            Ok(true)
+            Ok(Outcome::Taken)
         }
         Form::Or(first, second) => {
             take_or(
@@ -326,17 +237,24 @@ fn take_apart<L>(
                 keep,
                 steps,
             )?;
-            Ok(true)
+            Ok(Outcome::Taken)
         }
         Form::True | Form::And(_, _) | Form::Exists(_, _) | Form::Nabla(_, _) => {
             take_open(alloc, world, proof, label, name, formula, keep, steps)?;
-            Ok(true)
+            Ok(Outcome::Taken)
         }
         Form::Equal(_, _, _) => {
             let solved = take_equal(alloc, world, proof, label, name, formula, keep, steps)?;
-            Ok(solved)
+            if solved {
+                Ok(Outcome::Taken)
+            } else {
+                Ok(Outcome::Stuck(0))
+            }
         }
-        Form::Arrow(_, _) | Form::Forall(_, _) | Form::Marked(_, _) | Form::Other => unreachable!(),
+        Form::Marked(_, _) | Form::Other => {
+            analyse(alloc, world, proof, label, name, formula, keep, steps)
+        }
+        Form::Arrow(_, _) | Form::Forall(_, _) => unreachable!(),
     }
 }
 
@@ -357,9 +275,10 @@ fn label_clash(alloc: Global, sequent: &Sequent, label: &Label) -> Result<Option
 }
 
 /// Takes a hypothesis of the first goal apart, with the label for the first new hypothesis of each goal. It is removed,
-/// unless it is to be kept. An equation is solved in the goal. It is refused, and changes nothing, where the label is in
-/// use, no hypothesis has the name, the formula isn't of a form that is taken apart, the equation is outside the patterns,
-/// or a new hypothesis gets no name.
+/// unless it is to be kept. An equation is solved in the goal, and an atom whose predicate is defined splits the goal into
+/// the cases of its definition. It is refused, and changes nothing, where the label is in use, no hypothesis has the name,
+/// the formula isn't of a form that is taken apart or its predicate isn't defined, a mark doesn't allow it, an equation is
+/// outside the patterns, or a new hypothesis gets no name.
 pub fn case<L>(
     alloc: Global,
     world: &mut World,
@@ -389,19 +308,12 @@ pub fn case<L>(
         return Err(ProofCommandFault::WrongShape);
     }
     let count = proof.steps();
-    match take_apart(alloc, world, proof, label, name, formula, keep, steps) {
-        Ok(true) => Ok(()),
-        Ok(false) => {
+    let came = take_apart(alloc, world, proof, label, name, formula, keep, steps);
+    match fault_of(came) {
+        None => Ok(()),
+        Some(fault) => {
             take_back(world, proof, count, steps);
-            Err(ProofCommandFault::NotPattern(1))
-        }
-        Err(Stop::NamesSpent) => {
-            take_back(world, proof, count, steps);
-            Err(ProofCommandFault::NamesSpent)
-        }
-        Err(Stop::Memory(fault)) => {
-            take_back(world, proof, count, steps);
-            Err(ProofCommandFault::Memory(fault))
+            Err(fault)
         }
     }
 }

@@ -1,18 +1,18 @@
 //! How formulas become hypotheses.
-ghost use Rattle.std.specs.Prelude.{◌≡◌, ◌∷◌, List, Err, map, reverse, IfOk, OnOk};
+ghost use Rattle.std.specs.Prelude.{◌≡◌, [], ◌∷◌, List, Some, Err, map, reverse, IfOk, OnOk};
 ghost use Rattle.ab_term.specs.Types.{Ty};
 ghost use Rattle.ab_store.specs.Trees.{Read};
 ghost use Rattle.ab_logic.specs.Forms.{form_of, both, truth, exists, nabla, HoldsParts};
 ghost use Rattle.ab_logic.specs.Names.{auto, Label as AName};
 ghost use Rattle.ab_logic.specs.Readings.{hypothesis_of};
-ghost use Rattle.ab_logic.specs.Sequents.{Sequent as AGoal, formulas};
-ghost use Rattle.ab_logic.specs.Worlds.{IsWorld, declarations_of, read};
+ghost use Rattle.ab_logic.specs.Sequents.{Sequent as AGoal, formula_of, formulas, without};
+ghost use Rattle.ab_logic.specs.Worlds.{IsWorld, Holds, declarations_of, read};
 ghost use Rattle.ab_naming.specs.Labels.{label_of};
 ghost use Rattle.ab_kernel.specs.Layout.{IsProof};
-ghost use Rattle.ab_effects.specs.Opening.{IsWhole};
+ghost use Rattle.ab_effects.specs.Opening.{IsWhole, Nameless};
 ghost use Rattle.ab_progress.specs.Progress.{IsAt, Follows};
-ghost use Rattle.ab_left.specs.Own.{besides};
-ghost use Rattle.ab_left.specs.Progress.{Pending, Goes, CantOpen, OpenedTo, label_left};
+ghost use Rattle.ab_left.specs.Own.{IsOwn, besides};
+ghost use Rattle.ab_left.specs.Progress.{HasAt, Pending, Goes, CantOpen, OpenedTo, label_left};
 ghost use Rattle.ab_left.specs.declared.stop.Stop.{Stop};
 
 use crate::moving::{forget, formula_at, shift};
@@ -297,4 +297,64 @@ pub(crate) fn open<L>(
     }
     let _ = left;
     Ok(())
+}
+
+/// The hypothesis alone.
+fn alone(alloc: Global, hypothesis: Hypothesis) -> Result<Vec<Hypothesis>, AllocError>
+    ensures { IfOk result (λ list. list.items ≡ hypothesis ∷ []) }
+{
+    let mut list = Vec::new(alloc);
+    list.push(hypothesis)?;
+    Ok(list)
+}
+
+/// Opens one hypothesis of the command's own in the goal of this place.
+pub(crate) fn open_one<L>(
+    alloc: Global,
+    world: &mut World,
+    proof: &mut Proof,
+    place: usize,
+    label: &Label,
+    name: Name,
+    formula: TermId,
+    steps: &mut Steps<L>,
+) -> Result<(), Stop>
+    requires world { IsWorld world.old }
+    requires proof { IsProof world.old proof.old }
+    requires formula { Holds world.old formula }
+    requires there { HasAt world.old proof.old place name (read world.old formula) }
+    requires own { IsOwn (label_of label.now) name }
+    ensures follows { Follows world.old proof.old world.new proof.new }
+    ensures opened { OnOk result ((before behind : List AGoal) (k : AGoal) → IsAt world.old proof.old place before k behind →
+        OpenedTo (declarations_of world.old) (read world.old formula ∷ []) (label_of label.now) (without name k) world.new proof.new place before behind) }
+    ensures stopped { result ≡ Err Stop.NamesSpent → (before behind : List AGoal) (k : AGoal) → IsAt world.old proof.old place before k behind →
+        Nameless (declarations_of world.old) (read world.old formula ∷ []) (label_of label.now) (without name k) }
+{
+    let pending = alone(alloc, Hypothesis { name, formula })?;
+    open(alloc, world, proof, place, label, pending, steps)
+}
+
+/// Opens the hypothesis of this name, which is of the command's own, in the goal of this place.
+pub(crate) fn open_named<L>(
+    alloc: Global,
+    world: &mut World,
+    proof: &mut Proof,
+    place: usize,
+    label: &Label,
+    own: &Name,
+    steps: &mut Steps<L>,
+) -> Result<(), Stop>
+    requires world { IsWorld world.old }
+    requires proof { IsProof world.old proof.old }
+    requires there { (F : Read) × HasAt world.old proof.old place own.now F }
+    requires own { IsOwn (label_of label.now) own.now }
+    ensures follows { Follows world.old proof.old world.new proof.new }
+    ensures opened { OnOk result ((before behind : List AGoal) (k : AGoal) (F : Read) → IsAt world.old proof.old place before k behind → formula_of k own.now ≡ Some F →
+        OpenedTo (declarations_of world.old) (F ∷ []) (label_of label.now) (without own.now k) world.new proof.new place before behind) }
+    ensures stopped { result ≡ Err Stop.NamesSpent → (before behind : List AGoal) (k : AGoal) (F : Read) → IsAt world.old proof.old place before k behind → formula_of k own.now ≡ Some F →
+        Nameless (declarations_of world.old) (F ∷ []) (label_of label.now) (without own.now k) }
+{
+    let formula = formula_at(world, proof, place, own);
+    let name = own.copy(alloc)?;
+    open_one(alloc, world, proof, place, label, name, formula, steps)
 }

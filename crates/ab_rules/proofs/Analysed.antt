@@ -49,7 +49,7 @@ module _ (D : Declarations) (definitions : HaveDefinitions D) (s rest : Sequent)
   abbrev N : List Nominal
   N = goal_names s
 
-  well : (h : Choice) → Contains (choices_of N d) h → (more : List (Cell (List ℕ))) → IsBehind D (cells ++ more) (case_of s rest L d h (cells ++ more))
+  pub well : (h : Choice) → Contains (choices_of N d) h → (more : List (Cell (List ℕ))) → IsBehind D (cells ++ more) (case_of s rest L d h (cells ++ more))
   well h m more =
       let all : List (Cell (List ℕ)) = cells ++ more in
       let chosen = chosen_from N d h m in

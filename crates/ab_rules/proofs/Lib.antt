@@ -25,5 +25,6 @@ pub mod Sequents
 mod Cased
 pub mod Analysed
 mod Analysable
+mod Covered
 pub mod Keeping
 pub mod OneList

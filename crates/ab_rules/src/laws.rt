@@ -1,8 +1,21 @@
 //! Laws of the rules, which no other contract carries.
-ghost use Rattle.std.specs.Prelude.{◌≡◌, ℕ, List, All};
+ghost use Rattle.std.specs.Prelude.{◌≡◌, ℕ, List, Some, codes, All};
+ghost use Rattle.ab_term.specs.Names.{EqualUpToNames};
+ghost use Rattle.ab_term.specs.Terms.{constant, spine};
+ghost use Rattle.ab_term.specs.Variables.{Substitution, image, IsTyped};
+ghost use Rattle.ab_term.specs.Sameness.{same_number};
+ghost use Rattle.ab_store.specs.Trees.{Read};
 ghost use Rattle.ab_solve.specs.Replacing.{Cell};
-ghost use Rattle.ab_logic.specs.Declarations.{Declarations, Extends, HaveSentences, HaveDefinitions};
-ghost use Rattle.ab_logic.specs.Sequents.{Sequent, IsSequent};
+ghost use Rattle.ab_cases.specs.Clauses.{Instance};
+ghost use Rattle.ab_cases.specs.Covering.{IsCleanFor};
+ghost use Rattle.ab_logic.specs.Declarations.{Declarations, Extends, HaveSentences, HaveDefinitions, signature_in};
+ghost use Rattle.ab_logic.specs.Names.{Label, Names, IsNoVariable};
+ghost use Rattle.ab_logic.specs.Sequents.{Sequent, IsSequent, formula_of, without};
+ghost use Rattle.ab_equate.specs.Solved.{AreCells};
+ghost use Rattle.ab_equate.specs.Cases.{Split};
+ghost use Rattle.ab_analysis.specs.Atoms.{Defined, defined_atom};
+ghost use Rattle.ab_analysis.specs.Left.{scope_of, cases_of};
+ghost use Rattle.ab_splitting.specs.Met.{IsMetByOne};
 ghost use Rattle.ab_rules.specs.Steps.{Step};
 ghost use Rattle.ab_rules.specs.Row.{Takes};
 ghost use Rattle.ab_rules.specs.Rules.{row, any_name, by_hint, Rule, NamedRule, Fails, Stuck};
@@ -34,4 +47,15 @@ pub fn rules_outlive_declarations()
 /// and what is defined is so by clauses of case analysis.
 pub fn rules_keep_sequents()
     ensures { (D : Declarations) → HaveSentences D → HaveDefinitions D → (step : Step) (s : Sequent) (ps : List Sequent) → IsSequent D s → Rule D step s ps → All (IsSequent D) ps }
+{}
+
+/// COVER: where a hypothesis that is a defined atom is analysed, each instance of the atom under a clean substitution is met by
+/// one of the goals that come of it, up to permutations of constants.
+pub fn analysed_atoms_are_covered()
+    ensures { (D : Declarations) → HaveDefinitions D → (cells : List (Cell (List ℕ))) (s t : Sequent) (H name : List ℕ) (l : Label) (F : Read) (d : Defined) (ps : List Sequent) →
+        IsSequent D s → AreCells cells s → formula_of s H ≡ Some F → defined_atom D F ≡ Some d → Names l (without H s) name t →
+        Split (λ k hint x. IsNoVariable k x) cells (cases_of s t name d) ps →
+        (q : Substitution ℕ (List ℕ)) → IsTyped (signature_in D) q → IsCleanFor (scope_of cells s) q →
+        (B : Read) → Instance (signature_in D) (codes "x") d.block.clauses (image same_number q (spine (constant d.predicate) d.arguments)) B →
+        IsMetByOne EqualUpToNames (signature_in D) (λ k hint x. IsNoVariable k x) s t name d ps q B }
 {}

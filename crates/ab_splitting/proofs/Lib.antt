@@ -4,4 +4,5 @@ mod Passed
 pub mod Later
 mod Tried
 mod PlainChoice
-mod ByChoice
+pub mod ByChoice
+pub mod Walked

@@ -1,25 +1,23 @@
 -- A clause has one meaning, or none for one cause.
-use Rattle.std.specs.Prelude.{None, Ok, Err, All, not, bytes_eq, if◌then◌else◌}
-use Rattle.std.proofs.Common.{◌≡◌, ◌⊎◌, inl, inr, ℕ, suc, List, [], ◌∷◌, ◌++◌, Bool, true, false, get_or, refl, sym, ◌∙◌, ap, subst, arith}
+use Rattle.std.specs.Prelude.{None, Ok, Err, All, not, if◌then◌else◌}
+use Rattle.std.proofs.Common.{◌≡◌, inl, inr, ℕ, suc, List, [], ◌∷◌, ◌++◌, Bool, true, false, get_or, refl, sym, ◌∙◌, ap, subst, arith}
 use Rattle.std.proofs.lemmas.Bool.{cases_lt}
 use Rattle.std.proofs.lemmas.List.Elements.{All-nil, All-cons, All-head, All-tail, All-append, All-push}
 use Rattle.ab_term.specs.Types.{Ty, prop}
 use Rattle.ab_term.specs.Terms.{Head, variable}
 use Rattle.ab_term.specs.Typing.{Signature}
 use Rattle.ab_term.specs.Beta.{atom, abstraction, application}
-use Rattle.ab_store.specs.Trees.{Read}
 use Rattle.ab_grammar.specs.CommandTrees as written
 use Rattle.ab_readings.specs.Names.{Name, Resolved}
 use Rattle.ab_readings.specs.Normal.{normal_form}
 use Rattle.ab_readings.specs.Readings.{Raw, Reads, reads_bound, reads_known, reads_free, reads_apply, reads_abs, reads_equal, reads_bind}
 use Rattle.ab_readings.specs.Types.{is_listed}
-use Rattle.ab_infer.specs.declared.fault.InferFault.{InferFault}
 use Rattle.ab_infer.specs.declared.fault.InferFault.TheVariants.{Unknown, TypeClash, Untyped, Memory}
 use Rattle.ab_walking.specs.Occurrences.{free_names, with_name, with_names}
-use Rattle.ab_clauses.specs.Kept.{ClauseVariable, Clause}
+use Rattle.ab_clauses.specs.Kept.{Clause}
 use Rattle.ab_closing.specs.Closed.{kept_clause}
-use Rattle.ab_clausal.specs.Readings.{Parts, places_in, ClauseReading, types_given, HasOneReading, HasNoReading, Differ, IsFirstOpen}
-use Rattle.ab_clausal.specs.Meanings.{parts_found, body_type, variable_names, variable_from, variables_from, is_under_nabla, numbered_names, IsKeptAs, ClauseMeansNothing}
+use Rattle.ab_clausal.specs.Readings.{Parts, places_in, ClauseReading, HasOneReading, IsFirstOpen}
+use Rattle.ab_clausal.specs.Meanings.{parts_found, body_type, variable_names, variable_from, variables_from, is_under_nabla, numbered_names, IsKeptAs}
 use Rattle.ab_declare.specs.declared.refusal.Refusal.{Refusal}
 use Rattle.ab_declare.specs.declared.refusal.Refusal.TheVariants as refusal
 use Rattle.ab_declare.specs.Refusals.{here}
@@ -100,7 +98,7 @@ one_kept sg n e A B k l a b =
     let same = b.one.alone r in
     let names = variable_names e in
     let typed = all_with (λ x. r.types x ≡ q.types x) [] (free_names e.head ++ free_names e.body) (All-nil (λ x. r.types x ≡ q.types x))
-        (All-append (λ x. r.types x ≡ q.types x) (free_names e.head) (free_names e.body) (typed_same n names r.reads_head q.reads_head same.0) (typed_same n names r.reads_body q.reads_body same.1)) in
+    (All-append (λ x. r.types x ≡ q.types x) (free_names e.head) (free_names e.body) (typed_same n names r.reads_head q.reads_head same.0) (typed_same n names r.reads_body q.reads_body same.1)) in
     a.is
     ∙ (ap (λ h. kept_clause (not (is_under_nabla (normal_form sg [] h))) (variables_from n r.types names) (normal_form sg [] h) (normal_form sg [] r.body)) same.0
     ∙ (ap (λ t. kept_clause (not (is_under_nabla (normal_form sg [] q.head))) (variables_from n r.types names) (normal_form sg [] q.head) (normal_form sg [] t)) same.1

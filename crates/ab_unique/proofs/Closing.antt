@@ -1,5 +1,5 @@
 -- A goal that can be closed outright can be, whatever the numbers of its variables.
-use Rattle.std.proofs.Common.{◌≡◌, ℕ, List, [], ◌∷◌, refl, sym, ◌∙◌, ap, subst}
+use Rattle.std.proofs.Common.{◌≡◌, ℕ, List, refl, sym, ◌∙◌, ap, subst}
 use Rattle.ab_term.specs.Terms.{Head, constant, logical, nominal, variable, index, lam, spine, Terms, no_terms, term}
 use Rattle.ab_term.specs.Names.{EqualUpToNames, permute, moved_by}
 use Rattle.ab_term.specs.Translation.{translate_head, translate, translate_all, forget, forget_all, EqualPastHints}

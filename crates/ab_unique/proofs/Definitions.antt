@@ -1,15 +1,12 @@
 -- What a definition declares is one thing, and it is refused for one cause, and never both.
-use Rattle.std.specs.Prelude.{None, Result, Ok, Err, Bool, All}
-use Rattle.std.proofs.Common.{◌≡◌, ℕ, List, [], ◌∷◌, ◌++◌, map, refl, sym, ◌∙◌, ap, subst}
+use Rattle.std.specs.Prelude.{None, Ok, Err, Bool, All}
+use Rattle.std.proofs.Common.{◌≡◌, ℕ, List, [], ◌∷◌, ◌++◌, map, sym, ◌∙◌, ap, subst}
 use Rattle.std.proofs.lemmas.List.Elements.{All-head, All-tail}
-use Rattle.ab_term.specs.Types.{Ty}
 use Rattle.ab_types.specs.Entries.{Constant, names}
 use Rattle.ab_grammar.specs.CommandTrees.{Defined, Clause}
-use Rattle.ab_readings.specs.Types.{written_type, type_place}
 use Rattle.ab_clauses.specs.Kept as kept
-use Rattle.ab_clauses.specs.Faults.{Fault, IsRight, FirstFault}
+use Rattle.ab_clauses.specs.Faults.{IsRight, FirstFault}
 use Rattle.ab_unique.proofs.Faults.{one_first_fault, no_fault}
-use Rattle.ab_clausal.specs.Meanings.{parts_found}
 use Rattle.ab_logic.specs.Declarations.{Declarations, a_block, constant_names}
 use Rattle.ab_logic.specs.Worlds.{defined}
 use Rattle.ab_effects.specs.Terms.{kinds_in}

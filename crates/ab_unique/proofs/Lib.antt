@@ -1,6 +1,7 @@
 mod Faults
 mod Clauses
 mod Definitions
+mod Defining
 mod Closing
 mod Declaring
 pub mod Sound

@@ -1,26 +1,29 @@
 -- What a session declares is sound in the beginning, and behind each effect.
 use Rattle.std.specs.Prelude.{codes, All}
-use Rattle.std.proofs.Common.{◌≡◌, ℕ, List, [], ◌∷◌, ◌++◌, map, Some, None, refl, sym, ◌∙◌}
+use Rattle.std.proofs.Common.{◌≡◌, ℕ, List, [], ◌∷◌, ◌++◌, map, Bool, Some, None, refl, sym, ◌∙◌, ap, subst, append_assoc}
 use Rattle.std.proofs.lemmas.List.Elements.{All-nil, All-cons, All-head, All-tail}
-use Rattle.ab_term.specs.Types.{Ty}
+use Rattle.ab_term.specs.Types.{Ty, o, olist, arrows}
 use Rattle.ab_term.specs.Typing.{typed_spine, take_none, take_term}
-use Rattle.ab_types.specs.Entries.{first_entries}
-use Rattle.ab_grammar.specs.CommandTrees.{Command}
+use Rattle.ab_types.specs.Entries.{Constant, names, first_entries}
+use Rattle.ab_grammar.specs.CommandTrees.{Command, Defined, Clause}
 use Rattle.ab_cases.specs.Clauses.{IsClause}
 use Rattle.ab_cases.specs.Member.{member_first, member_later, member_clauses}
 use Rattle.ab_cases.proofs.Membership.{member_defined}
 use Rattle.ab_store.specs.Trees.{Read}
-use Rattle.ab_logic.specs.Declarations.{Declarations, a_kind, a_constant, a_theorem, signature_in, block_in, IsDefining, HaveDefinitions}
-use Rattle.ab_logic.specs.Worlds.{declared, member_block, first_declarations}
-use Rattle.ab_logic.proofs.Declaring.{block-declared, definitions_behind, definitions_added, definitions_defined, extends_not, extends_on}
-use Rattle.ab_declare.specs.Declaring.{Declares, new_kinds, new_constants}
+use Rattle.ab_logic.specs.Declarations.{Declarations, Block, a_kind, a_constant, a_block, a_theorem, signature_in, block_in, IsDefining, HaveDefinitions}
+use Rattle.ab_logic.specs.Worlds.{declared, defined, member_block, first_declarations}
+use Rattle.ab_logic.proofs.Declaring.{block-declared, definitions_behind, definitions_added, definitions_defined, extends_not, extends_on, more_constants}
+use Rattle.ab_effects.specs.Terms.{kinds_in}
+use Rattle.ab_declare.specs.Declaring.{Declares, new_kinds, new_constants, new_predicates}
+use Rattle.ab_declare.specs.Defining.{Defines, predicate_of, block_with}
 use Rattle.ab_states.specs.State.{State, empty}
 use Rattle.ab_states.specs.Reply.{Reply}
 use Rattle.ab_states.specs.Effect as effect
 use Rattle.ab_states.specs.Effect.{HasEffect}
 use Rattle.ab_unique.specs.Sound.{AreSound}
+use Rattle.ab_unique.proofs.Defining.{all_define}
 
--- kinds and constants define nothing
+-- kinds and constants define nothing, and neither do predicates without their block
 
 no_kind : (xs : List (List ℕ)) (p : List ℕ) → block_in (map a_kind xs) p ≡ None
 no_kind [] p = refl
@@ -29,6 +32,10 @@ no_kind (x ∷ xs) p = no_kind xs p
 no_constant : (A : Ty) (xs : List (List ℕ)) (p : List ℕ) → block_in (map (λ x. a_constant x A) xs) p ≡ None
 no_constant A [] p = refl
 no_constant A (x ∷ xs) p = no_constant A xs p
+
+no_predicate : (ps : List Constant) (p : List ℕ) → block_in (map predicate_of ps) p ≡ None
+no_predicate [] p = refl
+no_predicate (d ∷ ps) p = no_predicate ps p
 
 -- what is declared behind them keeps what begins
 
@@ -39,9 +46,22 @@ module _ (D : Declarations) (sound : AreSound D) where
   nothing_defined : (E : Declarations) → ((p : List ℕ) → block_in E p ≡ None) → AreSound (D ++ E)
   nothing_defined E none = sound_behind E (definitions_behind D E sound.definitions (λ p b e. let clash : None ≡ Some b = sym (none p) ∙ e in absurd (cc)))
 
+  -- a definition's predicates, and its block behind them
+  sound_defined : (inductive : Bool) (ds : List Defined) (cs : List Clause) (more : Declarations) → Defines D inductive ds cs more → AreSound (D ++ more)
+  sound_defined inductive ds cs more d =
+      let ps = d.predicates in
+      let E : Declarations = map predicate_of ps in
+      let B : Block = defined (block_with inductive ps d.clauses) in
+      let conses : signature_in (D ++ E) (codes "::") ≡ Some (arrows (o ∷ olist ∷ []) olist) =
+      more_constants D (D ++ E) (E, refl) (codes "::") (arrows (o ∷ olist ∷ []) olist) (more_constants first_declarations D sound.first (codes "::") (arrows (o ∷ olist ∷ []) olist) refl) in
+      let whole : HaveDefinitions ((D ++ E) ++ a_block B ∷ []) =
+      definitions_defined (D ++ E) B (nothing_defined E (no_predicate ps)).definitions (all_define (names ps) (kinds_in D) (signature_in (D ++ E)) conses cs d.clauses d.meant d.right) in
+      sound_behind more (subst HaveDefinitions (append_assoc D E (a_block B ∷ []) ∙ ap (λ F. D ++ F) (sym d.is)) whole)
+
   sound_declared : {c : Command} {more : Declarations} → Declares D c more → AreSound (D ++ more)
   sound_declared (new_kinds {xs = xs} e) = nothing_defined (map a_kind xs) (no_kind xs)
   sound_declared (new_constants {xs = xs} {A = A} e t d) = nothing_defined (map (λ x. a_constant x A) xs) (no_constant A xs)
+  sound_declared {more = more} (new_predicates {inductive = i} {ds = ds} {cs = cs} d) = sound_defined i ds cs more d
 
   sound_theorem : (n : List ℕ) (F : Read) → AreSound (D ++ a_theorem n F ∷ [])
   sound_theorem n F = sound_behind (a_theorem n F ∷ []) (definitions_added D n F sound.definitions)

@@ -7,7 +7,7 @@ pub struct Case {
     pub report: &'static [u8],
 }
 
-pub const CASES: [Case; 48] = [
+pub const CASES: [Case; 56] = [
     Case {
         script: b"",
         status: 0,
@@ -247,5 +247,45 @@ pub const CASES: [Case; 48] = [
         script: b"Kind i type. Define p : i -> prop, p : foo by. Define p : i -> i by p zzz. Define p : i -> i by p Z. Define p : i -> prop by p X := X ; X = X. Define p : i -> prop by p X := p X ; X. Define p : i -> prop by nabla x, p x.",
         status: 1,
         report: b"[1]\n[1] Refused 4 Clash p\n[1] Refused 3 Unknown zzz\n[1] Refused 5 TypeClash at 11\n[1] Refused 5 TypeClash at 24\n[1] Refused 5 TypeClash at 37\n[2]\n",
+    },
+    Case {
+        script: b"Kind nat type. Type z nat. Type s nat -> nat. Define nat : nat -> prop by nat z ; nat (s N) := nat N. Define plus : nat -> nat -> nat -> prop by plus z N N ; plus (s M) N (s K) := plus M N K. Theorem x : nat (s z) -> plus z z z. intros. case H1. unfold. search.",
+        status: 0,
+        report: b"[1]\n[2]\n[3]\n[4]\n[5]\n[6]\n============================\n nat (s z) -> plus z z z\n[7]\nH1 : nat (s z)\n============================\n plus z z z\n[8]\nH2 : nat z\n============================\n plus z z z\n[9]\nH2 : nat z\n============================\n true\n[10] Proof completed: x.\n",
+    },
+    Case {
+        script: b"Kind i type. Define dis : i -> i -> prop by nabla x y, dis x y. Theorem d : forall (X : i -> i) (Y : i -> i), nabla a, dis (X a) (Y a) -> X a = Y a. intros. case H1. Set subgoals off.",
+        status: 6,
+        report: b"[1]\n[2]\n[3]\n============================\n forall X Y, nabla a, dis (X a) (Y a) -> X a = Y a\n[4]\nVariables: X Y\nH1 : dis (X n1) (Y n1)\n============================\n X n1 = Y n1\n[5]\n============================\n n1 = n2\nSubgoal 2 is:\n n2 = n1\nSubgoal 3 is:\n n2 = n3\n[6]\n============================\n n1 = n2\n",
+    },
+    Case {
+        script: b"Kind nat type. Type z nat. Type s nat -> nat. Define nat : nat -> prop by nat z ; nat (s N) := nat N. Define plus : nat -> nat -> nat -> prop by plus z N N ; plus (s M) N (s K) := plus M N K. Theorem e : exists N, plus z N N \\/ false. exists z. left. unfold. search.",
+        status: 0,
+        report: b"[1]\n[2]\n[3]\n[4]\n[5]\n[6]\n============================\n exists N, plus z N N \\/ false\n[7]\n============================\n plus z z z \\/ false\n[8]\n============================\n plus z z z\n[9]\n============================\n true\n[10] Proof completed: e.\n",
+    },
+    Case {
+        script: b"Kind nat type. Type z nat. Type s nat -> nat. Define nat : nat -> prop by nat z ; nat (s N) := nat N. Define plus : nat -> nat -> nat -> prop by plus z N N ; plus (s M) N (s K) := plus M N K. Theorem plus_zero : forall N, nat N -> plus N z N. induction on 1. intros. case H1. unfold. search.",
+        status: 6,
+        report: b"[1]\n[2]\n[3]\n[4]\n[5]\n[6]\n============================\n forall N, nat N -> plus N z N\n[7]\nIH : forall N, nat N * -> plus N z N\n============================\n forall N, nat N @ -> plus N z N\n[8]\nVariables: N\nIH : forall N, nat N * -> plus N z N\nH1 : nat N @\n============================\n plus N z N\n[9]\nIH : forall N, nat N * -> plus N z N\n============================\n plus z z z\nSubgoal 2 is:\n plus (s N1) z (s N1)\n[10]\nIH : forall N, nat N * -> plus N z N\n============================\n true\nSubgoal 2 is:\n plus (s N1) z (s N1)\n[11]\nVariables: N1\nIH : forall N, nat N * -> plus N z N\nH2 : nat N1 *\n============================\n plus (s N1) z (s N1)\n",
+    },
+    Case {
+        script: b"Kind nat, str type. Type cons nat -> str -> str. CoDefine st : str -> prop by st (cons N S) := st S. CoDefine eqs : str -> str -> prop by eqs (cons N S) (cons N T) := eqs S T. Theorem refl : forall S, st S -> eqs S S. coinduction. intros. unfold. case H1. unfold. abort.",
+        status: 1,
+        report: b"[1]\n[2]\n[3]\n[4]\n[5]\n============================\n forall S, st S -> eqs S S\n[6]\nCH : forall S, st S -> eqs S S +\n============================\n forall S, st S -> eqs S S #\n[7]\nVariables: S\nCH : forall S, st S -> eqs S S +\nH1 : st S\n============================\n eqs S S #\n[7] Refused 12 NoMatch\nVariables: S\nCH : forall S, st S -> eqs S S +\nH1 : st S\n============================\n eqs S S #\n[8]\nVariables: N S1\nCH : forall S, st S -> eqs S S +\nH2 : st S1\n============================\n eqs (cons N S1) (cons N S1) #\n[9]\nVariables: N S1\nCH : forall S, st S -> eqs S S +\nH2 : st S1\n============================\n eqs S1 S1 +\n[10]\n",
+    },
+    Case {
+        script: b"Kind nat type. Type z nat. Type s nat -> nat. Define nat : nat -> prop by nat z ; nat (s N) := nat N. Theorem both : forall M N, nat M -> nat N -> nat M. induction on 1. induction on 1. induction on 2. intros. case H1 (keep). search.",
+        status: 1,
+        report: b"[1]\n[2]\n[3]\n[4]\n[5]\n============================\n forall M N, nat M -> nat N -> nat M\n[6]\nIH : forall M N, nat M * -> nat N -> nat M\n============================\n forall M N, nat M @ -> nat N -> nat M\n[6] Refused 15 Mark\nIH : forall M N, nat M * -> nat N -> nat M\n============================\n forall M N, nat M @ -> nat N -> nat M\n[7]\nIH : forall M N, nat M * -> nat N -> nat M\nIH1 : forall M N, nat M @ -> nat N ** -> nat M\n============================\n forall M N, nat M @ -> nat N @@ -> nat M\n[8]\nVariables: M N\nIH : forall M N, nat M * -> nat N -> nat M\nIH1 : forall M N, nat M @ -> nat N ** -> nat M\nH1 : nat M @\nH2 : nat N @@\n============================\n nat M\n[9]\nVariables: N\nIH : forall M N, nat M * -> nat N -> nat M\nIH1 : forall M N, nat M @ -> nat N ** -> nat M\nH1 : nat z @\nH2 : nat N @@\n============================\n nat z\nSubgoal 2 is:\n nat (s N1)\n[10]\nVariables: N N1\nIH : forall M N, nat M * -> nat N -> nat M\nIH1 : forall M N, nat M @ -> nat N ** -> nat M\nH1 : nat (s N1) @\nH2 : nat N @@\nH3 : nat N1 *\n============================\n nat (s N1)\n",
+    },
+    Case {
+        script: b"Kind nat type. Type z nat. Type s nat -> nat. Define nat : nat -> prop by nat z ; nat (s N) := nat N. Define o : nat -> prop by o ((x\\ z) (s M)) := nat z. Define e : (nat -> nat) -> prop by e (x\\ F z x). Theorem t : forall X, nat X -> o z. intros. unfold. K : case H1. induction on 1. case H9. abort. Theorem u : forall N, nat N -> nat N -> true. K : induction on 2. intros. case K. case H2. K : case H1.",
+        status: 1,
+        report: b"[1]\n[2]\n[3]\n[4]\n[5]\n[6]\n[7]\n============================\n forall X, nat X -> o z\n[8]\nVariables: X\nH1 : nat X\n============================\n o z\n[8] Refused 14 Unresolved M\nVariables: X\nH1 : nat X\n============================\n o z\n[9]\n============================\n o z\nSubgoal 2 is:\n o z\n[9] Refused 11 WrongShape\n============================\n o z\nSubgoal 2 is:\n o z\n[9] Refused 10 NoHypothesis H9\n============================\n o z\nSubgoal 2 is:\n o z\n[10]\n[11]\n============================\n forall N, nat N -> nat N -> true\n[12]\nK : forall N, nat N -> nat N * -> true\n============================\n forall N, nat N -> nat N @ -> true\n[13]\nVariables: N\nK : forall N, nat N -> nat N * -> true\nH1 : nat N\nH2 : nat N @\n============================\n true\n[13] Refused 11 WrongShape\nVariables: N\nK : forall N, nat N -> nat N * -> true\nH1 : nat N\nH2 : nat N @\n============================\n true\n[14]\nK : forall N, nat N -> nat N * -> true\nH1 : nat z\n============================\n true\nSubgoal 2 is:\n true\n[14] Refused 4 Clash K\nK : forall N, nat N -> nat N * -> true\nH1 : nat z\n============================\n true\nSubgoal 2 is:\n true\n",
+    },
+    Case {
+        script: b"Kind i type. Type c i. Define p : i -> prop by nabla x, p x ; p c := true /\\ exists Y, Y = c. Theorem t : forall X, p X -> p X. intros. L : case H1. unfold. search. case L. unfold. split. search. exists c. search. Theorem v : forall X, nabla a, p X -> p a -> false. intros. case H1 (keep). case H2. abort. Theorem w : forall X, (forall Y, p Y) -> p X. intros. case H1. unfold.",
+        status: 1,
+        report: b"[1]\n[2]\n[3]\n[4]\n============================\n forall X, p X -> p X\n[5]\nVariables: X\nH1 : p X\n============================\n p X\n[6]\n============================\n p n1\nSubgoal 2 is:\n p c\n[7]\n============================\n true\nSubgoal 2 is:\n p c\n[8]\nVariables: Y\nL : Y = c\n============================\n p c\n[9]\n============================\n p c\n[10]\n============================\n true /\\ exists Y, Y = c\n[11]\n============================\n true\nSubgoal 2 is:\n exists Y, Y = c\n[12]\n============================\n exists Y, Y = c\n[13]\n============================\n c = c\n[14] Proof completed: t.\n[15]\n============================\n forall X, nabla a, p X -> p a -> false\n[16]\nVariables: X\nH1 : p X\nH2 : p n1\n============================\n false\n[17]\nH1 : p n2\nH2 : p n1\n============================\n false\nSubgoal 2 is:\n false\n[18]\nH1 : p n2\n============================\n false\nSubgoal 2 is:\n false\n[19]\n[20]\n============================\n forall X, (forall Y, p Y) -> p X\n[21]\nVariables: X\nH1 : forall Y, p Y\n============================\n p X\n[21] Refused 11 WrongShape\nVariables: X\nH1 : forall Y, p Y\n============================\n p X\n[21] Refused 12 NoMatch\nVariables: X\nH1 : forall Y, p Y\n============================\n p X\n",
     },
 ];

@@ -1,6 +1,6 @@
-use Rattle.std.specs.Prelude.{[], Err}
+use Rattle.std.specs.Prelude.{[]}
 use Rattle.std.specs.Option.{option_map}
-use Rattle.std.proofs.Common.{◌≡◌, true, false, rules, sym, ◌∙◌, ap, subst}
+use Rattle.std.proofs.Common.{◌≡◌, sym, ◌∙◌, ap, subst}
 use Rattle.ab_grammar.specs.CommandTrees as told
 use Rattle.ab_logic.specs.Sequents.{formula_of}
 use Rattle.ab_logic.specs.Worlds.{read}
@@ -9,14 +9,12 @@ use Rattle.ab_effects.specs.Effect.{clashing}
 use Rattle.ab_effects.specs.Refusals.{clash}
 use Rattle.ab_progress.specs.Applied.{IsRefused}
 use Rattle.ab_progress.specs.Progress.{goals_of}
-use Rattle.ab_progress.specs.declared.fault.ProofCommandFault.{ProofCommandFault}
 use Rattle.ab_progress.proofs.Following.{first_at, one_at_least}
-use Rattle.ab_left.specs.declared.stop.Stop.{Stop}
-use Rattle.ab_left.proofs.Taking.{case_applied, case_stops, case_stuck}
+use Rattle.ab_left.proofs.Taking.{case_applied, case_refused}
 use Rattle.ab_left.proofs.cases.case.Goals as goal
 
-pub take_apart-requires-clause-there : goal.take_apart-requires-clause-there
-take_apart-requires-clause-there g c =
+pub take_apart-came-requires-clause-there : goal.take_apart-came-requires-clause-there
+take_apart-came-requires-clause-there g c =
     let w = c.args.world.now in
     let p = c.args.proof.now in
     let one = one_at_least (goals_of w p) c.requires.open in
@@ -28,36 +26,31 @@ take_apart-requires-clause-there g c =
       has = ap (λ s. formula_of s c.args.name.now) (sym (c.first_goal-goal.ensures.reads one.0 one.1 one.2)) ∙ sym (c.in-Some-look.ensures.reads w);
     }
 
-pub returns-in-Ok-true-clause-applied : goal.returns-in-Ok-true-clause-applied
-returns-in-Ok-true-clause-applied g c =
+pub returns-in-None-clause-applied : goal.returns-in-None-clause-applied
+returns-in-None-clause-applied g c =
     let w = c.args.world.now in
     let l = label_of c.args.label.now in
-    let taken : c.in-Ok-true.field-0 ≡ true = search rules in
     case_applied w c.args.proof.now l c.args.keep c.args.name.now (read w c.in-Some-look.formula)
     (λ s rest e. ap (clashing l) (sym (c.first_goal-goal.ensures.reads s rest e)) ∙ sym (c.in_ok-clash.ensures w) ∙ ap (option_map clash) c.in_default.is)
     (λ s rest e. ap (λ k. formula_of k c.args.name.now) (sym (c.first_goal-goal.ensures.reads s rest e)) ∙ sym (c.in-Some-look.ensures.reads w))
-    c.take_apart.new.world c.take_apart.new.proof (c.in-Ok-true.ensures.taken taken)
+    c.take_apart-came.new.world c.take_apart-came.new.proof (c.take_apart-came.ensures.taken (c.fault_of.ensures.taken c.in-None.is))
 
-pub returns-in-Err-NamesSpent-clause-refused : goal.returns-in-Err-NamesSpent-clause-refused
-returns-in-Err-NamesSpent-clause-refused g c fault e =
+pub returns-in-Some-fault_of-clause-refused : goal.returns-in-Some-fault_of-clause-refused
+returns-in-Some-fault_of-clause-refused g c fault e =
     let w = c.args.world.now in
     let l = label_of c.args.label.now in
-    let spent : c.take_apart.result ≡ Err Stop.NamesSpent = search rules in
-    let is : ProofCommandFault.NamesSpent ≡ fault = cc in
+    let came = c.take_apart-came.ensures in
+    let is : c.in-Some-fault_of.fault ≡ fault = cc in
     subst (λ f. IsRefused l (told.case c.args.name.now c.args.keep) w c.args.proof.now f) is
-    (case_stops w c.args.proof.now l c.args.keep c.args.name.now (read w c.in-Some-look.formula)
+    (case_refused w c.args.proof.now l c.args.keep c.args.name.now (read w c.in-Some-look.formula)
     (λ s rest e. ap (clashing l) (sym (c.first_goal-goal.ensures.reads s rest e)) ∙ sym (c.in_ok-clash.ensures w) ∙ ap (option_map clash) c.in_default.is)
     (λ s rest e. ap (λ k. formula_of k c.args.name.now) (sym (c.first_goal-goal.ensures.reads s rest e)) ∙ sym (c.in-Some-look.ensures.reads w))
-    (c.take_apart.ensures.stopped spent))
+    c.take_apart-came.result c.in-Some-fault_of.fault c.in-Some-fault_of.ensures.refused came.shapeless came.marked came.stuck came.stopped)
 
-pub returns-in-Ok-false-clause-refused : goal.returns-in-Ok-false-clause-refused
-returns-in-Ok-false-clause-refused g c fault e =
-    let w = c.args.world.now in
-    let l = label_of c.args.label.now in
-    let left : c.in-Ok-false.field-0 ≡ false = search rules in
-    let is : ProofCommandFault.NotPattern 1 ≡ fault = cc in
-    subst (λ f. IsRefused l (told.case c.args.name.now c.args.keep) w c.args.proof.now f) is
-    (case_stuck w c.args.proof.now l c.args.keep c.args.name.now (read w c.in-Some-look.formula)
-    (λ s rest e. ap (clashing l) (sym (c.first_goal-goal.ensures.reads s rest e)) ∙ sym (c.in_ok-clash.ensures w) ∙ ap (option_map clash) c.in_default.is)
-    (λ s rest e. ap (λ k. formula_of k c.args.name.now) (sym (c.first_goal-goal.ensures.reads s rest e)) ∙ sym (c.in-Some-look.ensures.reads w))
-    (c.in-Ok-false.ensures.stuck left))
+pub returns-in-Some-fault_of-clause-follows : goal.returns-in-Some-fault_of-clause-follows
+returns-in-Some-fault_of-clause-follows g c =
+    c.take_back.ensures.follows c.args.world.now c.args.proof.now c.take_apart-came.ensures.follows (c.steps-count.ensures c.args.world.now)
+
+pub returns-in-Some-fault_of-clause-unchanged : goal.returns-in-Some-fault_of-clause-unchanged
+returns-in-Some-fault_of-clause-unchanged g c =
+    c.take_back.ensures.unchanged c.args.world.now c.args.proof.now c.take_apart-came.ensures.follows (c.steps-count.ensures c.args.world.now)

@@ -25,8 +25,8 @@ returns-in_err-attempt_solving-clause-follows g c = follows_on _ _ _ _ _ _ c.beg
 pub unreachable-requires : goal.unreachable-requires
 unreachable-requires g c =
     equal_never_fails c.args.world.now c.begin.new.world c.args.proof.now c.begin.new.proof c.args.keep c.args.name.now c.in_ok-own.own c.in_ok-own.own (read c.args.world.now c.args.formula)
-    (label_of c.args.label.now) c.requires.form refl c.begin.ensures.follows.declared c.in_ok-own.ensures.begun c.requires.open
-    (c.attempt_solving.ensures.failed (c.in_ok-attempt_solving.was ∙ ap Ok c.in-Failed.is))
+    (label_of c.args.label.now) c.requires.form refl c.begin.ensures.follows.declared c.in_ok-own.ensures.begun c.requires.open c.in-Failed.field-0
+    (c.attempt_solving.ensures.failed c.in-Failed.field-0 (c.in_ok-attempt_solving.was ∙ ap Ok c.in-Failed.is))
 
 pub returns-in-Taken-clause-follows : goal.returns-in-Taken-clause-follows
 returns-in-Taken-clause-follows g c = follows_on _ _ _ _ _ _ c.begin.ensures.follows c.attempt_solving.ensures.follows
@@ -34,7 +34,7 @@ returns-in-Taken-clause-follows g c = follows_on _ _ _ _ _ _ c.begin.ensures.fol
 pub returns-in-Taken-clause-taken : goal.returns-in-Taken-clause-taken
 returns-in-Taken-clause-taken g c holds =
     equal_taken c.args.world.now c.begin.new.world c.args.proof.now c.begin.new.proof c.args.keep c.args.name.now c.in_ok-own.own c.in_ok-own.own (read c.args.world.now c.args.formula)
-    (label_of c.args.label.now) c.requires.form refl c.begin.ensures.follows.declared c.in_ok-own.ensures.begun c.attempt_solving.new.world c.attempt_solving.new.proof
+    (label_of c.args.label.now) c.requires.form refl c.begin.ensures.follows.declared c.in_ok-own.ensures.begun c.attempt_solving.new.world c.attempt_solving.new.proof c.in-Taken.field-0
     (c.attempt_solving.ensures.took c.in-Taken.field-0 (c.in_ok-attempt_solving.was ∙ ap Ok c.in-Taken.is))
 
 pub returns-in-Stuck-clause-follows : goal.returns-in-Stuck-clause-follows

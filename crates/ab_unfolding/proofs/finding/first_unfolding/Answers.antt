@@ -1,4 +1,4 @@
-use Rattle.std.proofs.Common.{◌≤◌, Some, Ok, ◌∙◌, ap, arith}
+use Rattle.std.proofs.Common.{Some, Ok, ◌∙◌, ap, arith}
 use Rattle.ab_unifying.specs.Problem.{cells_read}
 use Rattle.ab_logic.specs.Readings.{sequent_of}
 use Rattle.ab_logic.proofs.Growing.{grows_on}
@@ -47,21 +47,21 @@ pub returns-in-Some-Closed-clause-found : goal.returns-in-Some-Closed-clause-fou
 returns-in-Some-Closed-clause-found g c =
     let i = c.loop-place.invariant in
     let x = matched_here c.args.world.now c.loop-place.world i.grows i.declared i.cells c.args.atom.now c.requires.atom c.args.goal.now c.requires.goal c.loop-place.place Closed
-        (c.in_ok-match_at.ensures.matched Closed (ap Ok (c.in-Some-Closed.is ∙ ap Some c.in-Some-Closed.field-0-is))) in
+    (c.in_ok-match_at.ensures.matched Closed (ap Ok (c.in-Some-Closed.is ∙ ap Some c.in-Some-Closed.field-0-is))) in
     (x.0, record { there = x.1; none_before = i.before }, x.2)
 
 pub returns-in-Some-Open-clause-found : goal.returns-in-Some-Open-clause-found
 returns-in-Some-Open-clause-found g c =
     let i = c.loop-place.invariant in
     let x = matched_here c.args.world.now c.loop-place.world i.grows i.declared i.cells c.args.atom.now c.requires.atom c.args.goal.now c.requires.goal c.loop-place.place (Open c.in-Some-Open.name)
-        (c.in_ok-match_at.ensures.matched (Open c.in-Some-Open.name) (ap Ok (c.in-Some-Open.is ∙ ap Some c.in-Some-Open.field-0-is))) in
+    (c.in_ok-match_at.ensures.matched (Open c.in-Some-Open.name) (ap Ok (c.in-Some-Open.is ∙ ap Some c.in-Some-Open.field-0-is))) in
     (x.0, record { there = x.1; none_before = i.before }, x.2.0, x.2.1, x.2.2, x.2.3)
 
 pub returns-in-Some-Stuck-clause-found : goal.returns-in-Some-Stuck-clause-found
 returns-in-Some-Stuck-clause-found g c =
     let i = c.loop-place.invariant in
     let x = matched_here c.args.world.now c.loop-place.world i.grows i.declared i.cells c.args.atom.now c.requires.atom c.args.goal.now c.requires.goal c.loop-place.place (Stuck c.in-Some-Stuck.equation)
-        (c.in_ok-match_at.ensures.matched (Stuck c.in-Some-Stuck.equation) (ap Ok (c.in-Some-Stuck.is ∙ ap Some c.in-Some-Stuck.field-0-is))) in
+    (c.in_ok-match_at.ensures.matched (Stuck c.in-Some-Stuck.equation) (ap Ok (c.in-Some-Stuck.is ∙ ap Some c.in-Some-Stuck.field-0-is))) in
     (x.0, record { there = x.1; none_before = i.before }, x.2)
 
 pub loop-place-preserved : goal.loop-place-preserved
@@ -69,7 +69,7 @@ loop-place-preserved g c =
     let w = c.args.world.now in
     let i = c.loop-place.invariant in
     let x = matched_here w c.loop-place.world i.grows i.declared i.cells c.args.atom.now c.requires.atom c.args.goal.now c.requires.goal c.loop-place.place Apart
-        (c.in_ok-match_at.ensures.matched Apart (ap Ok (c.in-Some-Apart.is ∙ ap Some c.in-Some-Apart.field-0-is))) in
+    (c.in_ok-match_at.ensures.matched Apart (ap Ok (c.in-Some-Apart.is ∙ ap Some c.in-Some-Apart.field-0-is))) in
     record {
       before = one_more (cells_read w.types w.store) (sequent_of w c.args.goal.now) (defined_read w c.args.atom.now) c.loop-place.place i.before x.0 x.1 x.2;
       cells = c.match_at.ensures.cells ∙ i.cells;

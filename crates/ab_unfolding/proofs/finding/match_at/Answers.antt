@@ -1,6 +1,6 @@
 use Rattle.std.specs.Prelude.{IfSome, slice_get}
 use Rattle.std.specs.Option.{option_map}
-use Rattle.std.proofs.Common.{◌≡◌, List, Ok, sym, ◌∙◌, ap, subst}
+use Rattle.std.proofs.Common.{◌≡◌, List, sym, ◌∙◌, ap, subst}
 use Rattle.std.proofs.lemmas.List.Elements.{All-head}
 use Rattle.ab_norm.specs.declared.nominal.Nominal.{Nominal}
 use Rattle.ab_unifying.specs.Problem.{cells_read}

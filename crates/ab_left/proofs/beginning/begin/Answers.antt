@@ -5,7 +5,7 @@ use Rattle.ab_logic.specs.Worlds.{read}
 use Rattle.ab_progress.proofs.Following.{first_at}
 use Rattle.ab_left.proofs.Moves.{has_at}
 use Rattle.ab_left.proofs.Taking.{begun_kept, begun_moved, never_unnamed}
-use Rattle.ab_left.proofs.cases.begin.Goals as goal
+use Rattle.ab_left.proofs.beginning.begin.Goals as goal
 
 pub unreachable-requires : goal.unreachable-requires
 unreachable-requires g c =
