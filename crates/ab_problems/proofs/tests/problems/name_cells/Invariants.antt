@@ -1,8 +1,0 @@
-use Rattle.std.specs.Prelude.{All}
-use Rattle.ab_store.specs.Reading.{Contents, HoldsCell}
-use Rattle.ab_problems.specs.declared.tests.Letter.{Letter}
-use Rattle.ab_problems.proofs.tests.problems.name_cells.Given as goal
-
-abbrev pub invariant-loop-cell : goal.invariant-loop-cell
-invariant-loop-cell l = (store : Contents) → All (λ (x : Letter). HoldsCell store x.cell) l.fn.letters.items → All (HoldsCell store) l.cells →
-    All (λ (x : Letter). HoldsCell store x.cell) l.letters.items
