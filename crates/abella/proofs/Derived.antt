@@ -6,14 +6,16 @@ use Rattle.std.proofs.lemmas.List.{append-nil, length-append}
 use Rattle.std.proofs.lemmas.Bool.{cases_order}
 use Rattle.ab_lex.specs.Commands.{Item}
 use Rattle.ab_term.specs.Types.{Ty}
+use Rattle.ab_types.specs.Entries.{Constant}
 use Rattle.ab_store.specs.Trees.{Read}
-use Rattle.ab_logic.specs.Declarations.{Declarations, a_kind, a_constant, a_theorem, theorems_in}
+use Rattle.ab_logic.specs.Declarations.{Declarations, Block, a_kind, a_constant, a_block, a_theorem, theorems_in}
 use Rattle.ab_logic.proofs.Declaring.{theorems_in-append}
 use Rattle.ab_grammar.specs.CommandTrees.{Command}
-use Rattle.ab_declare.specs.Declaring.{Declares, new_kinds, new_constants}
+use Rattle.ab_declare.specs.Declaring.{Declares, new_kinds, new_constants, new_predicates}
+use Rattle.ab_declare.specs.Defining.{block_with, predicate_of}
 use Rattle.ab_kernel.specs.Derivation.{Derivation}
 use Rattle.ab_states.specs.State.{State, empty}
-use Rattle.ab_logic.specs.Worlds.{first_declarations}
+use Rattle.ab_logic.specs.Worlds.{defined, first_declarations}
 use Rattle.ab_logic.specs.declared.world.World.{World}
 use Rattle.ab_states.specs.declared.reply.Reply.{Reply as Kept}
 use Rattle.ab_states.specs.declared.reply.Reply.TheVariants.{Accepted, Completed, Shown, Quit, Refused}
@@ -47,9 +49,15 @@ no_constants : (A : Ty) (xs : List (List ℕ)) → theorems_in (map (λ x. a_con
 no_constants A [] = refl
 no_constants A (x ∷ xs) = no_constants A xs
 
+no_definition : (ps : List Constant) (b : Block) → theorems_in (map predicate_of ps ++ a_block b ∷ []) ≡ []
+no_definition [] b = refl
+no_definition (p ∷ ps) b = no_definition ps b
+
 no_theorems : {D : Declarations} {c : Command} {more : Declarations} → Declares D c more → theorems_in more ≡ []
 no_theorems (new_kinds {xs = xs} e) = no_kinds xs
 no_theorems (new_constants {xs = xs} {A = A} e f d) = no_constants A xs
+no_theorems (new_predicates {inductive = inductive} d) =
+    ap theorems_in d.is ∙ no_definition d.predicates (defined (block_with inductive d.predicates d.clauses))
 
 declared_on : (D more : Declarations) → theorems_in more ≡ [] → AllIn D → AllIn (D ++ more)
 declared_on D more n x place l =
