@@ -17,3 +17,18 @@ pub mod Put
 pub mod CasePut
 pub mod Tried
 pub mod MarkedFormulas
+pub mod Counted
+pub mod Taken
+pub mod GoalNames
+pub mod Placed
+pub mod Unfoldable
+pub mod Lasting
+pub mod Searched
+mod Listed
+mod Chosen
+mod Passed
+pub mod Later
+mod NextChoice
+mod PlainChoice
+pub mod ByChoice
+pub mod Walked

@@ -1,4 +1,6 @@
--- Alternatives of defined atoms on shared terms: how they read, what one is made of, and what a choice unfolds to.
+-- Alternatives of defined atoms on shared terms: how they read, what one is made of, and what a choice unfolds to; by which
+-- choice a conclusion unfolds first; and that no instance of an atom is lost where a goal is split by it into its cases. What
+-- the cases are is told by `ab_equate` and `ab_analysis`. `Going` and `Counting` serve private contracts.
 pub mod Readings
 pub mod Raising
 pub mod Made
@@ -6,3 +8,9 @@ pub mod Unfolding
 pub mod Matching
 pub mod Headed
 pub mod Members
+pub mod Choices
+pub mod Finding
+pub mod Counting
+pub mod Covering
+pub mod Met
+pub mod Going

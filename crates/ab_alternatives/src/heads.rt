@@ -1,14 +1,19 @@
-//! Heads of clauses: the atom under the prefix of `nabla` binders, and the types of the names that these bind.
-ghost use Rattle.std.specs.Prelude.{◌≡◌, ◌++◌, map, All, IfOk, IfSome, OnOk, None};
+//! Heads of clauses: the atom under the prefix of `nabla` binders, whether it is of a predicate, and the types of the names
+//! that the binders bind.
+ghost use Rattle.std.specs.Prelude.{◌≡◌, ◌↔◌, ◌++◌, map, bytes_eq, true, All, IfOk, IfSome, OnOk, None};
 ghost use Rattle.ab_types.specs.Entries.{Table};
 ghost use Rattle.ab_types.specs.Ids.{HoldsType, HoldsConstant, type_of};
 ghost use Rattle.ab_store.specs.Trees.{Holds, tree_of};
 ghost use Rattle.ab_store.specs.Naming.{IsTypedBy};
 ghost use Rattle.ab_cases.specs.Prefixes.{prefix, IsHead};
-ghost use Rattle.ab_clauses.specs.Readings.{name_of};
+ghost use Rattle.ab_clauses.specs.Cases.{case_of};
+ghost use Rattle.ab_clauses.specs.Readings.{clause_of, name_of};
+ghost use Rattle.ab_logic.specs.Worlds.{IsKeptClause};
 ghost use Rattle.ab_alternatives.specs.Headed.{HeadedBy};
 
+use ab_clauses::ClauseTerm;
 use ab_store::{Head, Logical, Node, Store, TermId};
+use ab_types::laws::has_unique_ids;
 use ab_types::{ConstId, TypeId, TypeTable};
 use std::alloc::{AllocError, Global};
 
@@ -36,6 +41,32 @@ pub fn predicate_under(types: &TypeTable, store: &Store, id: TermId) -> Option<C
             },
             _ => None,
         },
+    }
+}
+
+/// Whether the two constants are the same.
+fn are_same(a: ConstId, b: ConstId) -> bool
+    ensures { (result ≡ true) ↔ (a ≡ b) }
+{
+    a == b
+}
+
+/// Whether the clause is one of the predicate.
+pub(crate) fn is_of(
+    types: &TypeTable,
+    store: &Store,
+    clause: &ClauseTerm,
+    predicate: ConstId,
+) -> bool
+    requires store { IsTypedBy types.now store.now }
+    requires clause { IsKeptClause types.now store.now clause.now }
+    requires predicate { HoldsConstant types.now predicate }
+    ensures { result ≡ bytes_eq (case_of (clause_of types.now store.now clause.now)).predicate (name_of types.now predicate) }
+{
+    has_unique_ids(types);
+    match predicate_under(types, store, clause.head) {
+        Some(found) => are_same(found, predicate),
+        None => false,
     }
 }
 

@@ -1,3 +1,4 @@
 pub mod Counts
 pub mod Looks
 pub mod Signs
+pub mod Greatest

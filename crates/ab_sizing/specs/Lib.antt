@@ -1,2 +1,3 @@
--- A formula as the program sees it where an atom of it is given a size.
+-- A formula as the program sees it where an atom of it is given a size, and which levels count for a new mark.
 pub mod Views
+pub mod Kinds

@@ -1,2 +1,0 @@
--- Which levels count for a new mark.
-pub mod Kinds

@@ -1,0 +1,10 @@
+use Rattle.std.proofs.Common.{◌≡◌, ◌∷◌, map, take}
+use Rattle.ab_logic.specs.Worlds.{read}
+use Rattle.ab_logic.specs.Sequents.{formulas}
+use Rattle.ab_logic.specs.Readings.{hypothesis_of}
+use Rattle.ab_induction.specs.Levels.{greatest, signs_of_all}
+use Rattle.ab_sizing.specs.Kinds.{level_by}
+use Rattle.ab_sizing.proofs.levels.next_level.Given as goal
+
+abbrev pub invariant-loop-h : goal.invariant-loop-h
+invariant-loop-h l = l.level ≡ greatest (level_by l.kind) (signs_of_all (read l.world l.sequent.conclusion ∷ formulas (map (hypothesis_of l.world) (take l.h-index l.h-items))))
