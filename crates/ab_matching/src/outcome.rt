@@ -1,0 +1,18 @@
+//! What comes of a choice of constants.
+use crate::found::Use;
+use ab_types::Name;
+
+/// What comes of a choice of constants. Equations are counted from 0.
+#[derive(Debug, Drop)]
+pub(crate) enum Outcome {
+    /// A constant stands in the formula that its name is taken off.
+    PassedOver,
+    /// Nothing makes the sides equal.
+    Apart,
+    /// The equation of this number is outside the patterns.
+    Stuck(usize),
+    /// What is left holds a variable that is open; the oldest one has this name.
+    Open(Name),
+    /// The formula is used so.
+    Used(Use),
+}

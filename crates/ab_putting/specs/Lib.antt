@@ -1,0 +1,3 @@
+-- What the program holds of the parts of a formula that is used, and of what one choice of constants makes of it.
+pub mod Making
+pub mod Parting

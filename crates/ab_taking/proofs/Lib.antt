@@ -1,0 +1,5 @@
+-- Lemmas of what is taken off a formula.
+mod Counts
+pub mod Layers
+mod Named
+mod Serving

@@ -1,0 +1,11 @@
+//! Terms that are given for bound names.
+use ab_store::TermId;
+use ab_types::{Name, TypeId};
+
+/// A term that is given for the outermost name of a `forall` that is written so, and the type of that name.
+#[derive(Debug, Drop)]
+pub struct GivenTerm {
+    pub name: Name,
+    pub ty: TypeId,
+    pub value: TermId,
+}
