@@ -1,30 +1,36 @@
 -- THE PROOF COMMANDS, row by row: what is asked, in order, and the goals that take the first goal's place.
-use Rattle.std.specs.Prelude.{◌≡◌, ℕ, zero, suc, List, [], ◌∷◌, ◌++◌, map, codes, Bool, ◌||◌, Option, Some, None, if◌then◌else◌, is_some, bytes_eq}
+use Rattle.std.specs.Prelude.{◌≡◌, ℕ, zero, suc, List, [], ◌∷◌, ◌++◌, map, length, codes, Bool, false, ◌||◌, Option, Some, None, if◌then◌else◌, is_some, bytes_eq, nat_lt}
 use Rattle.std.specs.List.{list_any}
 use Rattle.std.specs.Fmt.{decimal}
 use Rattle.ab_term.specs.Types.{Ty}
+use Rattle.ab_term.specs.Terms.{Nominal}
+use Rattle.ab_term.specs.Names.{support, permute}
 use Rattle.ab_term.specs.Substitution.{instance}
 use Rattle.ab_store.specs.Trees.{Read}
 use Rattle.ab_grammar.specs.Tree.{Tree}
 use Rattle.ab_grammar.specs.CommandTrees as command
-use Rattle.ab_grammar.specs.CommandTrees.{ProofCommand}
+use Rattle.ab_grammar.specs.CommandTrees.{ProofCommand, Instance}
 use Rattle.ab_logic.specs.Declarations.{Declarations}
 use Rattle.ab_logic.specs.Forms.{Form, truth, falsity, both, either, implies, equal, for_all, exists, nabla, marked, other, form_of, as_both, as_either, as_exists}
-use Rattle.ab_logic.specs.Marks.{plain, star_of, at_of, plus_of, hash_of}
+use Rattle.ab_logic.specs.Marks.{plain, star_of, at_of, plus_of, hash_of, MarksServeIn}
 use Rattle.ab_logic.specs.Sequents.{Sequent, IsUsed, formula_of, proving, assuming, without}
 use Rattle.ab_logic.specs.Names.{Label, auto, given, Names, NoName, IsLeast}
 use Rattle.ab_marks.specs.Marking.{MayBeAnalysed, MayBeUnfolded}
 use Rattle.ab_analysis.specs.Atoms.{defined_atom}
 use Rattle.ab_induction.specs.Places.{inductive_at, coinductive_in, marked_antecedent, marked_consequent}
 use Rattle.ab_induction.specs.Levels.{next_level, inductive_level, coinductive_level}
-use Rattle.ab_effects.specs.Refusals.{Refusal, clash, no_hypothesis, wrong_shape, mark, not_pattern, names_spent}
+use Rattle.ab_using.specs.Pieces.{Piece, Given, pieces, behind, antecedent_count, type_named, AllServe}
+use Rattle.ab_using.specs.Answers.{Using, IsUsedFor, awaited, result_in}
+use Rattle.ab_effects.specs.Refusals.{Refusal, unknown, clash, no_hypothesis, wrong_shape, mark, not_pattern, names_spent}
 use Rattle.ab_effects.specs.Row.{Row, leads, unless, finds, makes}
-use Rattle.ab_effects.specs.Terms.{Means, MeansNothing, Asserts, AssertsNothing}
+use Rattle.ab_effects.specs.Terms.{MeansIn, MeansNothingIn, Means, MeansNothing, Asserts, AssertsNothing}
 use Rattle.ab_effects.specs.Opening.{Opened, Nameless}
 use Rattle.ab_effects.specs.Solving.{IsSolved, IsOutside}
 use Rattle.ab_effects.specs.Introducing.{Introduced, Unnamed, taken_off, Parts}
 use Rattle.ab_effects.specs.Analysing.{IsParted, IsUnparted, AllOpened, SomeNameless}
 use Rattle.ab_effects.specs.Unfolding.{IsUnfolded, IsNotUnfolded}
+use Rattle.ab_effects.specs.Permuting.{of_one_type, cycling}
+use Rattle.ab_effects.specs.Using.{formula_named, names_in, formulas_in, strange, given_twice, scope_with, using, OpenedBeside, NamelessBeside, IsNotUsed}
 
 -- the label that stands before a command, if one does
 abbrev pub given_label : Option (List ℕ) → Label
@@ -124,6 +130,31 @@ cases D (for_all A t) F l goal s = unless (Some wrong_shape) (leads [])
 cases D (marked m t) F l goal s = analysing D F l goal s
 cases D other F l goal s = analysing D F l goal s
 
+-- the terms are read in order, each at the type of its name's `forall`, where the constants of those before it are known
+abbrev pub reading_each : Declarations → Sequent → List Nominal → List Piece → List Instance → (List Given → Row) → Row
+reading_each D s names ps [] k = k []
+reading_each D s names ps (i ∷ is) k =
+    finds (unknown i.name) (type_named i.name ps) (λ A.
+    makes {A = Read} (MeansIn D (scope_with D s names) i.term A) (MeansNothingIn (scope_with D s names) i.term A) (λ t.
+    reading_each D s (names ++ support t) ps is (λ gs. k (record { name = i.name; type = A; value = t } ∷ gs))))
+
+-- the names that terms are given for are looked up, and the terms read; none is given twice, and there aren't too many arguments
+abbrev pub giving : Declarations → Sequent → List Piece → List Instance → Bool → (List Given → Row) → Row
+giving D s ps is too_many k =
+    unless (strange ps is) (
+    reading_each D s [] ps is (λ gs.
+    unless (if given_twice is || too_many then Some wrong_shape else None) (
+    k gs)))
+
+-- the formula is to be used, and what is left to show is given on
+abbrev pub left_to_show : Using → (Read → Row) → Row
+left_to_show u k = makes (IsUsedFor u) (IsNotUsed u) k
+
+-- nothing is given for any of so many antecedents
+abbrev pub repeated : ℕ → List (Option Read)
+repeated zero = []
+repeated (suc n) = None ∷ repeated n
+
 -- no such proof command is built yet
 abbrev pub not_built : Row
 not_built = unless (Some wrong_shape) (leads [])
@@ -181,8 +212,25 @@ effect D l command.coinduction s =
     hypothesis_named (codes "CH") l s (λ name.
     let i = next_level coinductive_level s in
     leads (proving (marked_consequent (hash_of i) s.conclusion) (assuming name (marked_consequent (plus_of i) s.conclusion) s) ∷ [])))))
-effect D l (command.apply H vs is) s = not_built
-effect D l (command.backchain H is) s = not_built
+effect D l (command.apply H vs is) s =
+    unless (clashing l s) (
+    finds (no_hypothesis H) (formula_named D s H) (λ F.
+    unless (missing (names_in vs) s) (
+    let n = length vs in
+    giving D s (pieces n F) is (nat_lt (antecedent_count F) n) (λ gs.
+    let hs = formulas_in s vs in
+    marked_so (AllServe (pieces n F) hs) (
+    left_to_show (using s gs (pieces n F) (record { hypotheses = hs; conclusion = None }) F) (λ K.
+    makes {A = Sequent} (OpenedBeside D gs (result_in hs K) l s) (λ f. NamelessBeside D gs (result_in hs K) l s × (f ≡ names_spent)) (λ t.
+    leads (map (λ A. proving A s) (awaited hs K) ++ t ∷ []))))))))
+effect D l (command.backchain H is) s =
+    finds (no_hypothesis H) (formula_named D s H) (λ F.
+    let n = antecedent_count F in
+    giving D s (pieces n F) is false (λ gs.
+    marked_so (MarksServeIn s.conclusion (behind n F)) (
+    let hs = repeated n in
+    left_to_show (using s gs (pieces n F) (record { hypotheses = hs; conclusion = Some s.conclusion }) F) (λ K.
+    leads (map (λ A. proving A s) (awaited hs K))))))
 effect D l (command.cut H K) s = not_built
 effect D l (command.inst H is) s = not_built
 effect D l (command.monotone H e) s = not_built
@@ -191,4 +239,12 @@ effect D l command.unfold_goal s =
     finds wrong_shape (defined_atom D s.conclusion) (λ d.
     marked_so (MayBeUnfolded d.sign) (
     makes {A = Sequent} (IsUnfolded s d) (IsNotUnfolded s d) (λ t. leads (t ∷ []))))
-effect D l (command.permute ns x) s = not_built
+effect D l (command.permute ns None) s =
+    of_one_type ns s (
+    cycling ns s (λ ps.
+    leads (proving (permute ps s.conclusion) s ∷ [])))
+effect D l (command.permute ns (Some H)) s =
+    of_one_type ns s (
+    finds (no_hypothesis H) (formula_of s H) (λ F.
+    cycling ns s (λ ps.
+    leads (assuming H (permute ps F) (without H s) ∷ []))))

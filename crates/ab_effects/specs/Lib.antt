@@ -8,4 +8,6 @@ pub mod Introducing
 pub mod Solving
 pub mod Analysing
 pub mod Unfolding
+pub mod Using
+pub mod Permuting
 pub mod Effect

@@ -1,3 +1,5 @@
 mod Gathering
 mod Meaning
 mod Rows
+pub mod Given
+mod Terms

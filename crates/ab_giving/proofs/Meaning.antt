@@ -22,8 +22,8 @@ use Rattle.ab_resolving.specs.Scoping.{entries_in}
 use Rattle.ab_elaborate.specs.Scoping as elaborate
 use Rattle.ab_elaborate.specs.declared.scope.Scope as given
 use Rattle.ab_logic.specs.Declarations.{Declarations, signature_in}
-use Rattle.ab_logic.specs.Readings.{sequent_of}
-use Rattle.ab_logic.specs.Sequents.{Sequent, IsSequent, goal_names}
+use Rattle.ab_logic.specs.Formulas.{HasOneTypeEach}
+use Rattle.ab_logic.specs.Sequents.{Sequent, goal_names}
 use Rattle.ab_logic.specs.Worlds.{IsWorld, read, variable_of, declarations_of}
 use Rattle.ab_logic.specs.declared.world.World.{World}
 use Rattle.ab_logic.specs.declared.sequent.Sequent.{Sequent as Kept}
@@ -45,12 +45,9 @@ same_entries : (w : World) (cs : List CellId) → entries_in w.types w.store cs 
 same_entries w [] = refl
 same_entries w (c ∷ cs) = ap (λ es. entry_of (variable_of w c) ∷ es) (same_entries w cs)
 
-module _ (w : World) (is : IsWorld w) (table : IsTable w.types) (s : Kept) (one : IsSequent (declarations_of w) (sequent_of w s)) (scope : given.Scope) (of_goal : IsScopeOf w s scope) where
+module _ (w : World) (is : IsWorld w) (table : IsTable w.types) (s : Kept) (S : Sequent) (same : S.variables ≡ map (variable_of w) s.variables) (one : HasOneTypeEach (goal_names S)) (scope : given.Scope) (of_goal : IsScopeOf w s (goal_names S) scope) where
   abbrev D : Declarations
   D = declarations_of w
-
-  abbrev S : Sequent
-  S = sequent_of w s
 
   scope_by : List Name → Signature → List Entry → List Nominal → Place → Scope
   scope_by ks sg es ns place = record { kinds = ks; constants = sg; variables = es; nominals = ns; place = place }
@@ -67,13 +64,13 @@ module _ (w : World) (is : IsWorld w) (table : IsTable w.types) (s : Kept) (one 
       let place = elaborate.place_in scope.in_proof in
       ap (λ ks. scope_by ks (signature w.types) es ns place) (sym (world_knows w is).kinds)
       ∙ ap (λ cs. scope_by (kinds_in D) (type_in cs) es ns place) (sym (world_constants w is))
-      ∙ ap (λ vs. scope_by (kinds_in D) (signature_in D) vs ns place) (ap (entries_in w.types w.store) of_goal.variables ∙ same_entries w s.variables)
+      ∙ ap (λ vs. scope_by (kinds_in D) (signature_in D) vs ns place) (ap (entries_in w.types w.store) of_goal.variables ∙ same_entries w s.variables ∙ ap (map entry_of) (sym same))
       ∙ ap (λ b. scope_by (kinds_in D) (signature_in D) (map entry_of S.variables) ns (elaborate.place_in b)) of_goal.in_proof
 
   same_names : (e : Tree) → resolved (scope_of D S) [] e ≡ resolved (elaborate.scope_of w.types w.store scope) [] e
   same_names e =
       same_resolved (kinds_in D) (signature_in D) (map entry_of S.variables) (goal_names S) (map (nominal_of w.types) scope.nominals.items)
-      (same_settled (goal_names S) (map (nominal_of w.types) scope.nominals.items) one.one_type of_goal.nominals) [] e
+      (same_settled (goal_names S) (map (nominal_of w.types) scope.nominals.items) one of_goal.nominals) [] e
       ∙ ap (λ z. resolved z [] e) (sym same_scope)
 
   made_back : (x : Name) → IsFree D S x → (A : Ty) → making.nominal_of x A ≡ made x A
@@ -81,10 +78,10 @@ module _ (w : World) (is : IsWorld w) (table : IsTable w.types) (s : Kept) (one 
 
   pub is_read : (types : Table) (store : Contents) (v : World) (e : Tree) (A : Ty) (r : Result TermId InferFault) → v.types ≡ types → v.store ≡ store → constants types ≡ constants w.types
       → IsAnswer types store (resolved (elaborate.scope_of w.types w.store scope) [] e) A (place_of e) r → IsReadAs D S e A v r
-  is_read types store v e A (Ok t) in_types in_store same (n, names, normal) =
+  is_read types store v e A (Ok t) in_types in_store kept (n, names, normal) =
       let here = same_names e ∙ names in
       let whole = names_known D S (world_lists w is table) e n here in
-      let constants_same : signature types ≡ signature_in D = ap type_in (same ∙ sym (world_constants w is)) in
+      let constants_same : signature types ≡ signature_in D = ap type_in (kept ∙ sym (world_constants w is)) in
       let means : Means D S e A (read v t) = record {
         named = n;
         names = here;
@@ -92,7 +89,7 @@ module _ (w : World) (is : IsWorld w) (table : IsTable w.types) (s : Kept) (one 
         reading = one_too (IsKnown D S) (IsFree D S) making.nominal_of made made_back n A whole normal.reading normal.one;
         normal = ap (λ ts. tree_of ts v.store t) in_types ∙ ap (λ st. tree_of types st t) in_store ∙ normal.is ∙ ap (λ sg. normal_form sg [] normal.reading) constants_same;
       } in
-      (means, fits D S (world_lists w is table) e A (read v t) means one.one_type, subst (λ st. Holds st t) (sym in_store) normal.term.0)
+      (means, fits D S (world_lists w is table) e A (read v t) means one, subst (λ st. Holds st t) (sym in_store) normal.term.0)
   is_read types store v e A (Err (Unknown x)) in_types in_store same names = same_names e ∙ names
   is_read types store v e A (Err (TypeClash p)) in_types in_store same (n, names, (none, at)) =
       let here = same_names e ∙ names in

@@ -2,3 +2,4 @@
 pub mod Scoping
 pub mod Reading
 pub mod Cutting
+pub mod Giving

@@ -5,8 +5,6 @@ use Rattle.ab_term.specs.Names.{IsSupport}
 use Rattle.ab_norm.specs.Nominals.{nominal_of, HoldsNominal}
 use Rattle.ab_norm.specs.declared.nominal.Nominal.{Nominal}
 use Rattle.ab_store.specs.Trees.{Read}
-use Rattle.ab_logic.specs.Readings.{sequent_of}
-use Rattle.ab_logic.specs.Sequents.{goal_names}
 use Rattle.ab_logic.specs.declared.sequent.Sequent.{Sequent}
 use Rattle.ab_logic.specs.declared.world.World.{World}
 use Rattle.ab_elaborate.specs.Scoping.{HoldsScope}
@@ -23,9 +21,9 @@ pub record AddsSupport (w : World) (t : Read) (old new : List Nominal) : Type 0 
   pub support : IsSupport t (map (nominal_of w.types) names)
   pub held : All (HoldsNominal w.types) names
 
--- the goal's variables and constants, in a proof command
-pub record IsScopeOf (w : World) (s : Sequent) (scope : Scope) : Type 0 where
+-- the goal's variables and these constants, in a proof command
+pub record IsScopeOf (w : World) (s : Sequent) (names : List tree.Nominal) (scope : Scope) : Type 0 where
   pub variables : scope.variables.items ≡ s.variables
-  pub nominals : HaveSame (goal_names (sequent_of w s)) (map (nominal_of w.types) scope.nominals.items)
+  pub nominals : HaveSame names (map (nominal_of w.types) scope.nominals.items)
   pub in_proof : scope.in_proof ≡ true
   pub held : HoldsScope w.types w.store scope

@@ -1,10 +1,13 @@
-//! Proof commands that are given an expression: a term for the name of an `exists`, and a formula that is derived first.
+//! Proof commands that are given an expression: a term for the name of an `exists`, a formula that is derived first, and
+//! terms for names of `forall`.
 #![tactic(auto)]
 
 mod asserting;
 mod existing;
+mod giving;
 mod reading;
 mod scoping;
 
 pub use asserting::assert;
 pub use existing::exists;
+pub use giving::read_given;

@@ -1,13 +1,15 @@
 //! The expressions of proof commands.
-ghost use Rattle.std.specs.Prelude.{◌≡◌};
+ghost use Rattle.std.specs.Prelude.{◌≡◌, All};
 ghost use Rattle.ab_term.specs.Types.{prop};
 ghost use Rattle.ab_types.specs.Ids.{HoldsType, type_of};
 ghost use Rattle.ab_syntax.specs.Trees.{tree_of};
 ghost use Rattle.ab_elaborate.specs.Judgements.{HasNoJudgement};
+ghost use Rattle.ab_logic.specs.Formulas.{HasOneTypeEach};
 ghost use Rattle.ab_logic.specs.Growth.{Grows};
 ghost use Rattle.ab_logic.specs.Readings.{sequent_of, HoldsSequent};
-ghost use Rattle.ab_logic.specs.Sequents.{IsSequent};
+ghost use Rattle.ab_logic.specs.Sequents.{IsSequent, goal_names};
 ghost use Rattle.ab_logic.specs.Worlds.{IsWorld, declarations_of};
+ghost use Rattle.ab_giving.specs.Giving.{HoldsGiven, values_in, beside};
 ghost use Rattle.ab_giving.specs.Reading as spec;
 ghost use Rattle.ab_giving.specs.Reading.{IsReadAs};
 
@@ -19,9 +21,44 @@ use ab_logic::{Sequent, World};
 use ab_progress::ProofCommandFault;
 use ab_store::TermId;
 use ab_syntax::Parse;
+use ab_taking::GivenTerm;
 use ab_types::laws::has_unique_ids;
 use ab_types::{Steps, TypeId};
 use std::alloc::Global;
+
+/// The term that the expression means at the type in the goal, where these terms were given before.
+pub(crate) fn read_beside<L>(
+    alloc: Global,
+    world: &mut World,
+    goal: &Sequent,
+    given: &[GivenTerm],
+    parse: &Parse,
+    expected: TypeId,
+    steps: &mut Steps<L>,
+) -> Result<TermId, InferFault>
+    requires world { IsWorld world.old }
+    requires held { HoldsSequent world.old goal.now }
+    requires given { All (HoldsGiven world.old) given.now }
+    requires one_type { HasOneTypeEach (goal_names (beside (sequent_of world.old goal.now) (values_in world.old given.now))) }
+    requires judgement { HasNoJudgement (tree_of parse.now) }
+    requires expected { HoldsType world.old.types expected }
+    ensures reads { IsReadAs (declarations_of world.old) (beside (sequent_of world.old goal.now) (values_in world.old given.now))
+        (tree_of parse.now) (type_of world.old.types expected) world.new result }
+    ensures grows { Grows world.old world.new }
+    ensures declared { declarations_of world.new ≡ declarations_of world.old }
+{
+    has_unique_ids(&world.types);
+    let scope = scope_of(alloc, world, goal, given)?;
+    elaborate(
+        alloc,
+        &mut world.types,
+        &mut world.store,
+        &scope,
+        parse,
+        expected,
+        steps,
+    )
+}
 
 /// The term that the expression means in the goal at the type.
 pub(crate) fn read_term<L>(
@@ -41,17 +78,7 @@ pub(crate) fn read_term<L>(
     ensures grows { Grows world.old world.new }
     ensures declared { declarations_of world.new ≡ declarations_of world.old }
 {
-    has_unique_ids(&world.types);
-    let scope = scope_of(alloc, world, goal)?;
-    elaborate(
-        alloc,
-        &mut world.types,
-        &mut world.store,
-        &scope,
-        parse,
-        expected,
-        steps,
-    )
+    read_beside(alloc, world, goal, &[], parse, expected, steps)
 }
 
 /// The term that the expression means in the goal at the type of formulas.

@@ -4,14 +4,16 @@ ghost use Rattle.ab_term.specs.Names.{IsSupport};
 ghost use Rattle.ab_norm.specs.Nominals.{nominal_of, HoldsNominal};
 ghost use Rattle.ab_norm.specs.declared.nominal.Nominal.{Nominal as AName};
 ghost use Rattle.ab_logic.specs.Readings.{sequent_of, HoldsSequent};
-ghost use Rattle.ab_logic.specs.Sequents.{goal_names};
+ghost use Rattle.ab_logic.specs.Sequents.{goal_names, names_of};
 ghost use Rattle.ab_logic.specs.Worlds.{IsWorld, Holds, read};
+ghost use Rattle.ab_giving.specs.Giving.{HoldsGiven, values_in};
 ghost use Rattle.ab_giving.specs.Scoping.{HaveSame, IsScopeOf, AddsSupport};
 
 use ab_elaborate::Scope;
 use ab_logic::{Sequent, World};
 use ab_norm::{Nominal, support};
 use ab_store::TermId;
+use ab_taking::GivenTerm;
 use std::alloc::{AllocError, Global};
 
 /// Puts the nominal constants of the formula behind the others.
@@ -44,13 +46,39 @@ fn constants_of(alloc: Global, world: &World, goal: &Sequent) -> Result<Vec<Nomi
     Ok(found)
 }
 
-/// The scope in which the expressions of a proof command are read.
-pub(crate) fn scope_of(alloc: Global, world: &World, goal: &Sequent) -> Result<Scope, AllocError>
+/// The nominal constants of the goal, and those of the terms that are given behind them.
+fn constants_beside(
+    alloc: Global,
+    world: &World,
+    goal: &Sequent,
+    given: &[GivenTerm],
+) -> Result<Vec<Nominal>, AllocError>
     requires world { IsWorld world.now }
     requires held { HoldsSequent world.now goal.now }
-    ensures { IfOk result (IsScopeOf world.now goal.now) }
+    requires given { All (HoldsGiven world.now) given.now }
+    ensures same { IfOk result (λ found. HaveSame (goal_names (sequent_of world.now goal.now) ++ names_of (values_in world.now given.now)) (map (nominal_of world.now.types) found.items)) }
+    ensures held { IfOk result (λ found. All (HoldsNominal world.now.types) found.items) }
 {
-    let nominals = constants_of(alloc, world, goal)?;
+    let mut found = constants_of(alloc, world, goal)?;
+    for term in given {
+        add_support(alloc, world, term.value, &mut found)?;
+    }
+    Ok(found)
+}
+
+/// The scope in which the expressions of a proof command are read, where these terms were given before.
+pub(crate) fn scope_of(
+    alloc: Global,
+    world: &World,
+    goal: &Sequent,
+    given: &[GivenTerm],
+) -> Result<Scope, AllocError>
+    requires world { IsWorld world.now }
+    requires held { HoldsSequent world.now goal.now }
+    requires given { All (HoldsGiven world.now) given.now }
+    ensures { IfOk result (IsScopeOf world.now goal.now (goal_names (sequent_of world.now goal.now) ++ names_of (values_in world.now given.now))) }
+{
+    let nominals = constants_beside(alloc, world, goal, given)?;
     let variables = goal.variables.copy(alloc)?.into_vec();
     Ok(Scope {
         variables,

@@ -114,11 +114,12 @@ settled D l coinduction s so = λ d.
     let i = next_level coinductive_level s in
     let premise : List ℕ → Sequent = λ x. proving (marked_consequent (hash_of i) s.conclusion) (assuming x (marked_consequent (plus_of i) s.conclusion) s) in
     marked_settled (d.sign ≡ plain) (hypothesis_named (codes "CH") l s (λ x. leads (premise x ∷ []))) (sized_settled (codes "CH") l s premise)
-settled D l (apply H vs is) s so = tt
-settled D l (backchain H is) s so = tt
+settled D l (apply H vs is) s no_opening = absurd no_opening
+settled D l (backchain H is) s no_opening = absurd no_opening
 settled D l (cut H K) s so = tt
 settled D l (inst H is) s so = tt
 settled D l (monotone H e) s so = tt
 settled D l (search n) s so = tt
 settled D l unfold_goal s no_opening = absurd no_opening
-settled D l (permute ns x) s so = tt
+settled D l (permute ns None) s so = (λ u f p n. n.0 p, λ f g m n. m.1 ∙ sym n.1, λ u v p q. refl, λ u A. tt)
+settled D l (permute ns (Some H)) s so = (λ u f p n. n.0 p, λ f g m n. m.1 ∙ sym n.1, λ u v p q. refl, λ u F A. tt)

@@ -5,9 +5,10 @@ use Rattle.std.proofs.Common.{◌≡◌, inl, inr, ℕ, List, [], ◌∷◌, map
 use Rattle.std.proofs.lemmas.List.Elements.{All-nil, All-cons, All-weaker}
 use Rattle.ab_term.specs.Types.{Ty, prop}
 use Rattle.ab_term.specs.Terms.{Nominal, constant, spine}
-use Rattle.ab_term.specs.Names.{HasOneTypeEach}
+use Rattle.ab_term.specs.Names as tree
+use Rattle.ab_term.specs.Names.{HasOneTypeEach, moved_by}
 use Rattle.ab_term.specs.Substitution.{instance}
-use Rattle.ab_term.proofs.Translations.{map-append, translate-instance}
+use Rattle.ab_term.proofs.Translations.{map-append, translate-instance, translate-rename}
 use Rattle.ab_store.specs.Trees.{Read}
 use Rattle.ab_grammar.specs.Tree.{Tree}
 use Rattle.ab_grammar.specs.CommandTrees.{ProofCommand, intros, induction, coinduction, case, apply, backchain, cut, inst, monotone, search, split, split_all, left, right, exists, unfold_goal, assert, clear, rename, permute}
@@ -30,13 +31,16 @@ use Rattle.ab_effects.specs.Effect.{effect, opening, cases, analysing, marked_so
 use Rattle.ab_effects.specs.Analysing.{IsParted, IsUnparted, AllOpened, SomeNameless}
 use Rattle.ab_effects.specs.Unfolding.{IsUnfolded, IsNotUnfolded}
 use Rattle.ab_effects.specs.Introducing.{taken_off, Parts}
-use Rattle.ab_effects.specs.Refusals.{Refusal, no_hypothesis, wrong_shape, mark, not_pattern, names_spent}
+use Rattle.ab_effects.specs.Permuting.{of_one_type, cycling}
+use Rattle.ab_permuting.specs.Cycles.{MayCycle, type_among, cycle}
+use Rattle.ab_effects.specs.Refusals.{Refusal, type_clash, no_hypothesis, wrong_shape, mark, not_pattern, names_spent}
 use Rattle.ab_effects.specs.Solving.{IsSolved, IsOutside}
 use Rattle.ab_effects.specs.Row.{Row, leads, unless, finds, makes, Leads, Refuses}
 use Rattle.ab_equate.proofs.Sides.{equation_sides}
 use Rattle.ab_alike.specs.Alike.{IsSameTerm, IsSameEquation, IsSameAtom, IsSameRest}
 use Rattle.ab_alike.proofs.Following.{moved_atom}
 use Rattle.ab_rows.proofs.Equations.{turned, solved_or_not, solved_once}
+use Rattle.ab_rows.specs.Opening.{UsesNothing}
 use Rattle.ab_rows.proofs.Commands.{never_named, one_parting, named_by_once}
 use Rattle.ab_rows.proofs.Namings.{same_constants, names_alike, nameless_also}
 use Rattle.ab_rows.proofs.Alike.{Alike, flipped, assumed_alike}
@@ -141,6 +145,10 @@ once_opening D l N s u F G alike k j once =
     (λ f b m n. opened_or_not n N s (F ∷ []) (flipped D N s u (F ∷ []) (G ∷ []) alike) m.0)
     (λ f g m n. m.1 ∙ sym n.1)
     (λ a b m n. once a.1 b.1 (opened_once m N u (G ∷ []) alike b.0 b.1 n).1)
+
+mapped_same : {A : Type 0} (o : Option A) → option_map (λ a. a) o ≡ o
+mapped_same (Some a) = refl
+mapped_same None = refl
 
 -- TWO GOALS that are one but for the numbers
 module _ (D : Declarations) (definitions : HaveDefinitions D) (s : Sequent) (f : ℕ → ℕ) (is : IsSequent D s) (its : IsSequent D (renumbered f s)) (names : KeepsNames f s.variables) where
@@ -496,31 +504,68 @@ module _ (D : Declarations) (definitions : HaveDefinitions D) (s : Sequent) (f :
       (ap (λ m. marked_consequent (plus_of m) u.conclusion) (level_told f coinductive_level s) ∙ marked_consequent_told f (plus_of i) s.conclusion)
       (ap (λ m. marked_consequent (hash_of m) u.conclusion) (level_told f coinductive_level s) ∙ marked_consequent_told f (hash_of i) s.conclusion)))))
 
-  once_renumbered : (l : Label) (command : ProofCommand) → AreOnce (effect D l command s) (effect D l command u)
-  once_renumbered l (intros xs) = once_intros l xs
-  once_renumbered l (case H keep) = once_case l H keep
-  once_renumbered l split = once_split l
-  once_renumbered l split_all = once_split_all l
-  once_renumbered l left = once_left l
-  once_renumbered l right = once_right l
-  once_renumbered l (exists e) = once_exists l e
-  once_renumbered l (assert e) = once_assert l e
-  once_renumbered l (clear Hs) = once_clear l Hs
-  once_renumbered l (rename H x) = once_rename l H x
-  once_renumbered l (induction n) = once_induction l n
-  once_renumbered l coinduction = once_coinduction l
-  once_renumbered l (apply H vs ws) = once_alone (Some wrong_shape)
-  once_renumbered l (backchain H ws) = once_alone (Some wrong_shape)
-  once_renumbered l (cut H K) = once_alone (Some wrong_shape)
-  once_renumbered l (inst H ws) = once_alone (Some wrong_shape)
-  once_renumbered l (monotone H e) = once_alone (Some wrong_shape)
-  once_renumbered l (search n) = once_alone (Some wrong_shape)
-  once_renumbered l unfold_goal = once_unfold l
-  once_renumbered l (permute ns x) = once_alone (Some wrong_shape)
+  -- constants change places
+  constants : goal_names s ≡ goal_names u
+  constants = same_constants s u same
+
+  once_of_one_type : (ns : List ℕ) (k j : Row) → AreOnce k j → AreOnce (of_one_type ns s k) (of_one_type ns u j)
+  once_of_one_type ns k j once =
+      once_makes {A = Unit {0}} {B = Unit {0}} (λ x. MayCycle ns (goal_names s)) (λ c. (¬ MayCycle ns (goal_names s)) × (c ≡ type_clash 0))
+      (λ x. MayCycle ns (goal_names u)) (λ c. (¬ MayCycle ns (goal_names u)) × (c ≡ type_clash 0)) (λ x. k) (λ x. j)
+      (λ x g p n. n.0 (subst (MayCycle ns) constants p)) (λ g x n q. n.0 (subst (MayCycle ns) (sym constants) q)) (λ g h m n. m.1 ∙ sym n.1) (λ x y p q. once)
+
+  once_cycling : (ns : List ℕ) (k j : List (Nominal × Nominal) → Row) → ((ps : List (Nominal × Nominal)) → AreOnce (k ps) (j ps)) → AreOnce (cycling ns s k) (cycling ns u j)
+  once_cycling ns k j once =
+      once_finds wrong_shape (type_among ns (goal_names s)) (type_among ns (goal_names u)) (λ A. A) (ap (type_among ns) (sym constants) ∙ sym (mapped_same (type_among ns (goal_names s))))
+      (λ A. k (cycle A ns)) (λ A. j (cycle A ns)) (λ A e. once (cycle A ns))
+
+  permuted_told : (ps : List (Nominal × Nominal)) (t : Read) → renumber f (tree.permute ps t) ≡ tree.permute ps (renumber f t)
+  permuted_told ps t = translate-rename f (λ h. h) (moved_by ps) t
+
+  once_permute_conclusion : (l : Label) (ns : List ℕ) → AreOnce (effect D l (permute ns None) s) (effect D l (permute ns None) u)
+  once_permute_conclusion l ns =
+      once_of_one_type ns _ _
+      (once_cycling ns (λ ps. leads (proving (tree.permute ps s.conclusion) s ∷ [])) (λ ps. leads (proving (tree.permute ps u.conclusion) u ∷ []))
+      (λ ps. once_leads _ _
+      (one_same (proving (tree.permute ps s.conclusion) s) (proving (tree.permute ps u.conclusion) u)
+      (proving_also (tree.permute ps s.conclusion) ∙ ap (λ F. named (proving F u)) (permuted_told ps s.conclusion)))))
+
+  once_permute_hypothesis : (l : Label) (ns H : List ℕ) → AreOnce (effect D l (permute ns (Some H)) s) (effect D l (permute ns (Some H)) u)
+  once_permute_hypothesis l ns H =
+      once_of_one_type ns _ _
+      (once_finds (no_hypothesis H) (formula_of s H) (formula_of u H) (renumber f) (formula_told f s H) _ _
+      (λ F e. once_cycling ns (λ ps. leads (assuming H (tree.permute ps F) (without H s) ∷ [])) (λ ps. leads (assuming H (tree.permute ps (renumber f F)) (without H u) ∷ []))
+      (λ ps. once_leads _ _
+      (one_same (assuming H (tree.permute ps F) (without H s)) (assuming H (tree.permute ps (renumber f F)) (without H u))
+      (assumed_alike s u (without H s) (without H u) H H (tree.permute ps F) (tree.permute ps (renumber f F)) refl (also (without H s) refl ∙ ap named (sym (without_told f H s))) refl refl
+      (formula_named f s names (tree.permute ps F) ∙ ap (with_names (map (renumber_variable f) s.variables)) (permuted_told ps F)))))))
+
+  once_renumbered : (l : Label) (command : ProofCommand) → UsesNothing command → AreOnce (effect D l command s) (effect D l command u)
+  once_renumbered l (intros xs) so = once_intros l xs
+  once_renumbered l (case H keep) so = once_case l H keep
+  once_renumbered l split so = once_split l
+  once_renumbered l split_all so = once_split_all l
+  once_renumbered l left so = once_left l
+  once_renumbered l right so = once_right l
+  once_renumbered l (exists e) so = once_exists l e
+  once_renumbered l (assert e) so = once_assert l e
+  once_renumbered l (clear Hs) so = once_clear l Hs
+  once_renumbered l (rename H x) so = once_rename l H x
+  once_renumbered l (induction n) so = once_induction l n
+  once_renumbered l coinduction so = once_coinduction l
+  once_renumbered l (apply H vs ws) so = absurd so
+  once_renumbered l (backchain H ws) so = absurd so
+  once_renumbered l (cut H K) so = once_alone (Some wrong_shape)
+  once_renumbered l (inst H ws) so = once_alone (Some wrong_shape)
+  once_renumbered l (monotone H e) so = once_alone (Some wrong_shape)
+  once_renumbered l (search n) so = once_alone (Some wrong_shape)
+  once_renumbered l unfold_goal so = once_unfold l
+  once_renumbered l (permute ns None) so = once_permute_conclusion l ns
+  once_renumbered l (permute ns (Some H)) so = once_permute_hypothesis l ns H
 
 -- EACH PROOF COMMAND has one answer in goals that are one with names for numbers
-pub once : (D : Declarations) → HaveDefinitions D → (s u : Sequent) → IsSequent D s → IsSequent D u → named s ≡ named u → (l : Label) (command : ProofCommand) → AreOnce (effect D l command s) (effect D l command u)
-once D definitions s u is its same l command =
+pub once : (D : Declarations) → HaveDefinitions D → (s u : Sequent) → IsSequent D s → IsSequent D u → named s ≡ named u → (l : Label) (command : ProofCommand) → UsesNothing command → AreOnce (effect D l command s) (effect D l command u)
+once D definitions s u is its same l command so =
     let r = renumbering D s u is its same in
     let names : KeepsNames r.by s.variables = subst (λ (v : Sequent). (n : ℕ) → name_in v.variables (r.by n) ≡ name_in s.variables n) r.is r.names in
-    subst (λ v. AreOnce (effect D l command s) (effect D l command v)) (sym r.is) (once_renumbered D definitions s r.by is (subst (IsSequent D) r.is its) names l command)
+    subst (λ v. AreOnce (effect D l command s) (effect D l command v)) (sym r.is) (once_renumbered D definitions s r.by is (subst (IsSequent D) r.is its) names l command so)

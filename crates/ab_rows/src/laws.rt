@@ -8,7 +8,7 @@ ghost use Rattle.ab_goals.specs.Goals.{named};
 ghost use Rattle.ab_effects.specs.Effect.{effect};
 ghost use Rattle.ab_effects.specs.Refusals.{Refusal};
 ghost use Rattle.ab_effects.specs.Row.{Leads, Refuses};
-ghost use Rattle.ab_rows.specs.Opening.{OpensNothing};
+ghost use Rattle.ab_rows.specs.Opening.{OpensNothing, UsesNothing};
 
 /// A proof command that opens no formula, and unfolds none, has one answer at a goal: where it leads to goals it isn't
 /// refused, it is refused for one cause at most, and the goals are one list. So each refusal comes exactly where what it
@@ -26,12 +26,13 @@ pub fn proof_commands_have_one_answer()
 /// goal by a defined atom or unfolds one: it leads to goals or is refused, for one cause, and the goals are one list with
 /// names for the numbers of their variables. A new variable may have any number that is free. The numbers of the sequent's
 /// own variables change nothing either: the answer is one at any two sequents that are one goal with names for numbers.
-/// What is defined is to be defined by clauses of case analysis.
+/// What is defined is to be defined by clauses of case analysis. Of the commands that use a formula by its instances, which
+/// aren't carried out yet, this isn't said.
 pub fn every_proof_command_has_one_answer()
-    ensures apart { (D : Declarations) (l : Label) (command : ProofCommand) (s u : Sequent) (ps : List Sequent) (f : Refusal) → HaveDefinitions D → IsSequent D s → IsSequent D u → named s ≡ named u →
+    ensures apart { (D : Declarations) (l : Label) (command : ProofCommand) (s u : Sequent) (ps : List Sequent) (f : Refusal) → UsesNothing command → HaveDefinitions D → IsSequent D s → IsSequent D u → named s ≡ named u →
         Leads (effect D l command s) ps → Refuses (effect D l command u) f → ⊥ }
-    ensures one_refusal { (D : Declarations) (l : Label) (command : ProofCommand) (s u : Sequent) (f g : Refusal) → HaveDefinitions D → IsSequent D s → IsSequent D u → named s ≡ named u →
+    ensures one_refusal { (D : Declarations) (l : Label) (command : ProofCommand) (s u : Sequent) (f g : Refusal) → UsesNothing command → HaveDefinitions D → IsSequent D s → IsSequent D u → named s ≡ named u →
         Refuses (effect D l command s) f → Refuses (effect D l command u) g → f ≡ g }
-    ensures one_list { (D : Declarations) (l : Label) (command : ProofCommand) (s u : Sequent) (ps qs : List Sequent) → HaveDefinitions D → IsSequent D s → IsSequent D u → named s ≡ named u →
+    ensures one_list { (D : Declarations) (l : Label) (command : ProofCommand) (s u : Sequent) (ps qs : List Sequent) → UsesNothing command → HaveDefinitions D → IsSequent D s → IsSequent D u → named s ≡ named u →
         Leads (effect D l command s) ps → Leads (effect D l command u) qs → map named ps ≡ map named qs }
 {}
