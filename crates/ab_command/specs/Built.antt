@@ -1,7 +1,7 @@
 -- The commands that are built, of all that the grammar has.
 use Rattle.std.specs.Prelude.{◌≡◌, ℕ, All}
 use Rattle.ab_grammar.specs.CommandTrees.{Command, kinds, constants, define, theorem, show, quit, subgoals, abort, in_proof}
-use Rattle.ab_grammar.specs.CommandTrees.{ProofCommand, intros, induction, coinduction, split, split_all, left, right, exists, unfold_goal, case, assert, clear, rename, search}
+use Rattle.ab_grammar.specs.CommandTrees.{ProofCommand, intros, induction, coinduction, split, split_all, left, right, exists, unfold_goal, case, assert, clear, rename, permute, search}
 use Rattle.ab_command.specs.Judgements.{HasNoJudgement, ClauseHasNoJudgement}
 
 -- A proof command, read from so many tokens: `search` is built without its depth alone, of a word and a full stop.
@@ -19,6 +19,7 @@ IsBuiltInProof count (case H keep) = Unit {0}
 IsBuiltInProof count (assert e) = HasNoJudgement e
 IsBuiltInProof count (clear Hs) = Unit {0}
 IsBuiltInProof count (rename H x) = Unit {0}
+IsBuiltInProof count (permute ns x) = Unit {0}
 IsBuiltInProof count (search depth) = count ≡ 2
 IsBuiltInProof count _ = ⊥
 

@@ -21,7 +21,8 @@ fn is_built_in_proof(command: &ProofCommand, count: usize) -> bool
         | ProofCommand::Unfold
         | ProofCommand::Case(_, _)
         | ProofCommand::Clear(_)
-        | ProofCommand::Rename(_, _) => true,
+        | ProofCommand::Rename(_, _)
+        | ProofCommand::Permute(_, _) => true,
         ProofCommand::Exists(term) => !holds_judgement(term),
         ProofCommand::Assert(formula) => !holds_judgement(formula),
         ProofCommand::Search(_) => count == 2,

@@ -1,4 +1,4 @@
--- Hypotheses that a command makes for itself and removes again. Public contracts don't speak of this.
+-- Hypotheses that a command makes for itself and removes again. The contracts of commands don't speak of this.
 use Rattle.std.specs.Prelude.{◌≡◌, ◌≢◌, ℕ, ◌+◌, ◌*◌, List, [], ◌∷◌, Some}
 use Rattle.ab_logic.specs.Sequents.{Hypothesis, Sequent, formula_of, without}
 use Rattle.ab_logic.specs.Names.{Label, given, automatic}

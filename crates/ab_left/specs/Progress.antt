@@ -1,4 +1,4 @@
--- What the calls that open formulas leave of a goal. Public contracts don't speak of this.
+-- What the calls that open formulas leave of a goal. The contracts of commands don't speak of this.
 use Rattle.std.specs.Prelude.{◌≡◌, ◌<◌, ℕ, List, map, All, Bool, Some, if◌then◌else◌}
 use Rattle.ab_store.specs.Trees.{Read}
 use Rattle.ab_logic.specs.Declarations.{Declarations}

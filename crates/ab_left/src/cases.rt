@@ -259,7 +259,11 @@ fn take_apart<L>(
 }
 
 /// The label's name, where a hypothesis of the goal has it already.
-fn label_clash(alloc: Global, sequent: &Sequent, label: &Label) -> Result<Option<Name>, AllocError>
+pub fn label_clash(
+    alloc: Global,
+    sequent: &Sequent,
+    label: &Label,
+) -> Result<Option<Name>, AllocError>
     ensures { IfOk result (λ found. (w : AWorld) → option_map clash found ≡ clashing (label_of label.now) (sequent_of w sequent.now)) }
 {
     match label {

@@ -12,6 +12,10 @@ mod own;
 mod renaming;
 mod stop;
 
-pub use cases::case;
+pub use cases::{case, label_clash};
 pub use clearing::clear;
+pub use moving::{forget, shift};
+pub use opening::open_one;
+pub use own::own_name;
 pub use renaming::rename;
+pub use stop::Stop;

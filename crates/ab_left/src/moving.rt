@@ -35,7 +35,7 @@ pub(crate) fn formula_at(world: &World, proof: &Proof, place: usize, name: &Name
 }
 
 /// Removes a hypothesis of the goal of this place.
-pub(crate) fn forget<L>(
+pub fn forget<L>(
     alloc: Global,
     world: &mut World,
     proof: &mut Proof,
@@ -89,7 +89,7 @@ pub(crate) fn copy<L>(
 
 /// Puts a hypothesis behind the others, and names it by the label. It answers false, and changes nothing, where the
 /// label gives no name.
-pub(crate) fn shift<L>(
+pub fn shift<L>(
     alloc: Global,
     world: &mut World,
     proof: &mut Proof,

@@ -309,7 +309,7 @@ fn alone(alloc: Global, hypothesis: Hypothesis) -> Result<Vec<Hypothesis>, Alloc
 }
 
 /// Opens one hypothesis of the command's own in the goal of this place.
-pub(crate) fn open_one<L>(
+pub fn open_one<L>(
     alloc: Global,
     world: &mut World,
     proof: &mut Proof,

@@ -53,7 +53,7 @@ fn last_number(sequent: &Sequent) -> u128
 }
 
 /// The first of the names `_1`, `_2`, .. that no hypothesis of the goal has, and that isn't the label.
-pub(crate) fn own_name(
+pub fn own_name(
     alloc: Global,
     world: &World,
     sequent: &Sequent,

@@ -4,8 +4,8 @@ use ab_progress::ProofCommandFault;
 use std::alloc::AllocError;
 
 /// Why a command stops on its way.
-#[derive(Drop)]
-pub(crate) enum Stop {
+#[derive(Debug, Drop)]
+pub enum Stop {
     /// A new hypothesis gets no name.
     NamesSpent,
     /// There was no memory.

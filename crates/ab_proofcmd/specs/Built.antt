@@ -1,5 +1,5 @@
 -- The proof commands that are built.
-use Rattle.ab_grammar.specs.CommandTrees.{ProofCommand, intros, induction, coinduction, case, split, split_all, left, right, unfold_goal, exists, assert, clear, rename}
+use Rattle.ab_grammar.specs.CommandTrees.{ProofCommand, intros, induction, coinduction, case, split, split_all, left, right, unfold_goal, exists, assert, clear, rename, permute}
 use Rattle.ab_elaborate.specs.Judgements.{HasNoJudgement}
 
 abbrev pub IsBuilt : ProofCommand → Type 0
@@ -16,4 +16,5 @@ IsBuilt (exists e) = HasNoJudgement e
 IsBuilt (assert e) = HasNoJudgement e
 IsBuilt (clear Hs) = Unit {0}
 IsBuilt (rename H x) = Unit {0}
+IsBuilt (permute ns x) = Unit {0}
 IsBuilt _ = ⊥

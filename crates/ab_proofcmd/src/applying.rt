@@ -12,6 +12,7 @@ ghost use Rattle.ab_effects.specs.Effect.{given_label};
 ghost use Rattle.ab_proofcmd.specs.Built.{IsBuilt};
 
 use ab_elaborate::holds_judgement;
+use ab_exchanging::permute;
 use ab_giving::{assert, exists};
 use ab_kernel::Proof;
 use ab_left::{case, clear, rename};
@@ -38,7 +39,8 @@ pub fn is_built(command: &ProofCommand) -> bool
         | ProofCommand::Right
         | ProofCommand::Unfold
         | ProofCommand::Clear(_)
-        | ProofCommand::Rename(_, _) => true,
+        | ProofCommand::Rename(_, _)
+        | ProofCommand::Permute(_, _) => true,
         ProofCommand::Exists(term) => !holds_judgement(term),
         ProofCommand::Assert(formula) => !holds_judgement(formula),
         ProofCommand::Apply(_, _, _)
@@ -46,8 +48,7 @@ pub fn is_built(command: &ProofCommand) -> bool
         | ProofCommand::Cut(_, _)
         | ProofCommand::Inst(_, _)
         | ProofCommand::Monotone(_, _)
-        | ProofCommand::Search(_)
-        | ProofCommand::Permute(_, _) => false,
+        | ProofCommand::Search(_) => false,
     }
 }
 
@@ -113,6 +114,10 @@ pub fn apply_proof_command<L>(
             clear(alloc, world, proof, gone, steps)
         }
         ProofCommand::Rename(name, to) => rename(alloc, world, proof, name, to, steps),
+        ProofCommand::Permute(numbers, name) => {
+            let cycle = numbers.as_slice();
+            permute(alloc, world, proof, cycle, name.as_ref(), steps)
+        }
         _ => unreachable!(),
     }
 }

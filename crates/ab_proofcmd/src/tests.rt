@@ -387,7 +387,12 @@ const CASES: [(&str, u32, &[&str], &str); 51] = [
         &["intros.", "unfold."],
         "Some(Err(NoMatch)), 1",
     ),
-    ("Theorem t : true.", 0, &["permute (n1 n2)."], "None, 1"),
+    (
+        "Theorem t : true.",
+        0,
+        &["permute (n1 n2)."],
+        "Some(Err(WrongShape)), 1",
+    ),
 ];
 
 #[test]

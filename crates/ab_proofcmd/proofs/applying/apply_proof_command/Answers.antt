@@ -1,6 +1,6 @@
 use Rattle.std.specs.Prelude.{IfOk}
 use Rattle.std.specs.Option.{option_copied}
-use Rattle.std.proofs.Common.{ℕ, List, subst}
+use Rattle.std.proofs.Common.{ℕ, List, Option, subst}
 use Rattle.ab_grammar.specs.CommandTrees as told
 use Rattle.ab_syntax.specs.Trees.{tree_of}
 use Rattle.ab_logic.specs.Names.{Label}
@@ -134,3 +134,19 @@ pub returns-in_ok-wanted-in-Assert-clause-refused : goal.returns-in_ok-wanted-in
 returns-in_ok-wanted-in-Assert-clause-refused g c fault e =
     rw c.in-Assert.is
     (subst (λ (m : Label). IsRefused m (told.assert (tree_of c.in-Assert.formula)) c.args.world.now c.args.proof.now fault) c.in_ok-wanted-in-Assert.ensures (c.assert.ensures.refused fault e))
+
+pub returns-in-Permute-clause-applied : goal.returns-in-Permute-clause-applied
+returns-in-Permute-clause-applied g c =
+    let l = given_label (option_copied c.args.label) in
+    rw c.in-Permute.is
+    (subst (λ (xs : List ℕ). IfOk c.permute.result (λ u. IsApplied l (told.permute xs c.in-Permute.name) c.args.world.now c.args.proof.now c.permute.new.world c.permute.new.proof)) c.as_slice-cycle.ensures
+    (subst (λ (x : Option (List ℕ)). IfOk c.permute.result (λ u. IsApplied l (told.permute c.as_slice-cycle.result.now x) c.args.world.now c.args.proof.now c.permute.new.world c.permute.new.proof)) c.as_ref.ensures.value
+    (at_label (λ m. IsApplied m (told.permute c.as_slice-cycle.result.now (option_copied c.as_ref.result)) c.args.world.now c.args.proof.now c.permute.new.world c.permute.new.proof) c.permute.result l c.permute.ensures.applied)))
+
+pub returns-in-Permute-clause-refused : goal.returns-in-Permute-clause-refused
+returns-in-Permute-clause-refused g c fault e =
+    let l = given_label (option_copied c.args.label) in
+    rw c.in-Permute.is
+    (subst (λ (xs : List ℕ). IsRefused l (told.permute xs c.in-Permute.name) c.args.world.now c.args.proof.now fault) c.as_slice-cycle.ensures
+    (subst (λ (x : Option (List ℕ)). IsRefused l (told.permute c.as_slice-cycle.result.now x) c.args.world.now c.args.proof.now fault) c.as_ref.ensures.value
+    (c.permute.ensures.refused fault e l)))
