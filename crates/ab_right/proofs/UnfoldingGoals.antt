@@ -30,8 +30,8 @@ use Rattle.ab_progress.specs.declared.fault.ProofCommandFault.{ProofCommandFault
 use Rattle.ab_progress.specs.declared.fault.ProofCommandFault.TheVariants.{NoMatch, NotPattern, Unresolved, Memory}
 use Rattle.ab_progress.specs.Progress.{goals_of, Follows, TookInto, FailsBy, StuckAt}
 use Rattle.ab_progress.proofs.Following.{first_at, one_at_least, follows_same}
-use Rattle.ab_unfolding.specs.Finding.{Finds}
-use Rattle.ab_unfolding.specs.declared.finding.Found.TheVariants.{Closed, Open, Stuck, Nothing}
+use Rattle.ab_alternatives.specs.Finding.{Finds}
+use Rattle.ab_alternatives.specs.declared.finding.Found.TheVariants.{Closed, Open, Stuck, Nothing}
 use Rattle.ab_right.specs.Unfolding.{UnfoldsBy}
 use Rattle.ab_right.proofs.Unfolds.{nothing_refuses, stuck_refuses, open_refuses, closed_leads, closed_never_fails, closed_never_sticks}
 

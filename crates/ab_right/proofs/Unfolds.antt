@@ -23,8 +23,8 @@ use Rattle.ab_effects.specs.Refusals.{Refusal, no_match, not_pattern, unresolved
 use Rattle.ab_effects.specs.Row.{Leads, Refuses}
 use Rattle.ab_effects.specs.Unfolding.{IsFirst, IsNotUnfolded}
 use Rattle.ab_right.proofs.AnyCells.{first_also, none_left_also}
-use Rattle.ab_unfolding.specs.Finding.{IsFirstAt, Finds}
-use Rattle.ab_unfolding.specs.declared.finding.Found.TheVariants.{Closed, Open, Stuck, Nothing}
+use Rattle.ab_alternatives.specs.Finding.{IsFirstAt, Finds}
+use Rattle.ab_alternatives.specs.declared.finding.Found.TheVariants.{Closed, Open, Stuck, Nothing}
 
 module _ (D : Declarations) (l : Label) (cells : List (Cell (List ℕ))) (s : Sequent) (d : Defined) (are_cells : AreCells cells s) (is : defined_atom D s.conclusion ≡ Some d) (may : MayBeUnfolded d.sign) where
   is_first : (place : ℕ) (c : Choice) → IsFirstAt cells s d place c → IsFirst cells s d c

@@ -7,8 +7,8 @@ use Rattle.ab_logic.specs.declared.world.World.{World}
 use Rattle.ab_marks.specs.Marking.{MayBeUnfolded}
 use Rattle.ab_equate.specs.Solved.{AreCells}
 use Rattle.ab_analysis.specs.Atoms.{Defined, defined_atom}
-use Rattle.ab_unfolding.specs.Finding.{Finds}
-use Rattle.ab_unfolding.specs.declared.finding.Found.TheVariants.{Closed}
+use Rattle.ab_alternatives.specs.Finding.{Finds}
+use Rattle.ab_alternatives.specs.declared.finding.Found.TheVariants.{Closed}
 use Rattle.ab_kernel.specs.Layout.{Held}
 use Rattle.ab_progress.specs.Progress.{goals_of}
 

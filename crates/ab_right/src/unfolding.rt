@@ -10,12 +10,11 @@ ghost use Rattle.ab_progress.specs.Progress.{goals_of, Follows};
 ghost use Rattle.ab_progress.specs.declared.fault.ProofCommandFault.{ProofCommandFault};
 ghost use Rattle.ab_right.specs.Unfolding.{UnfoldsBy};
 
-use ab_alternatives::{defined_atom, may_be_unfolded};
+use ab_alternatives::{Found, defined_atom, first_unfolding, may_be_unfolded};
 use ab_kernel::{Proof, Step};
 use ab_logic::World;
 use ab_progress::{Attempted, ProofCommandFault, attempt_solving, first_goal, not_pattern};
 use ab_types::Steps;
-use ab_unfolding::{Found, first_unfolding};
 use std::alloc::{AllocError, Global};
 
 /// The place of the choice by which the first goal's conclusion unfolds, or why it doesn't.

@@ -23,7 +23,7 @@ use Rattle.ab_equate.specs.Solved.{AreCells}
 use Rattle.ab_equate.proofs.Carried.{arising_is_sequent}
 use Rattle.ab_analysis.specs.Atoms.{Defined, Choice, defined_atom, choices_of}
 use Rattle.ab_analysis.specs.Left.{scope_of, case_of}
-use Rattle.ab_splitting.specs.Met.{AddsBehind}
+use Rattle.ab_alternatives.specs.Met.{AddsBehind}
 use Rattle.ab_rules.proofs.Analysable.{atom, cases_behind}
 use Rattle.ab_rules.proofs.Raised.{known_there}
 use Rattle.ab_rules.proofs.Sized.{atom_of}

@@ -9,13 +9,13 @@ ghost use Rattle.ab_rules.specs.Answers.{Answers, label_of, row_at};
 
 use crate::lists::one;
 use crate::step::KernelFault;
-use ab_alternatives::{defined_atom, may_be_analysed, may_be_unfolded};
+use ab_alternatives::{
+    Splitting, defined_atom, may_be_analysed, may_be_unfolded, split, unfold_at,
+};
 use ab_equate::CaseSolution;
 use ab_logic::{Sequent, World};
 use ab_naming::{Label, name_by};
-use ab_splitting::{Splitting, split};
 use ab_types::{Name, Steps};
-use ab_unfolding::unfold_at;
 use std::alloc::{AllocError, Global};
 
 /// The conclusion is unfolded by the choice of this place.

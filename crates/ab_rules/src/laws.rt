@@ -15,7 +15,7 @@ ghost use Rattle.ab_equate.specs.Solved.{AreCells};
 ghost use Rattle.ab_equate.specs.Cases.{Split};
 ghost use Rattle.ab_analysis.specs.Atoms.{Defined, defined_atom};
 ghost use Rattle.ab_analysis.specs.Left.{scope_of, cases_of};
-ghost use Rattle.ab_splitting.specs.Met.{IsMetByOne};
+ghost use Rattle.ab_alternatives.specs.Met.{IsMetByOne};
 ghost use Rattle.ab_rules.specs.Steps.{Step};
 ghost use Rattle.ab_rules.specs.Row.{Takes};
 ghost use Rattle.ab_rules.specs.Rules.{row, any_name, by_hint, Rule, NamedRule, Fails, Stuck};

@@ -10,10 +10,11 @@ ghost use Rattle.ab_rules.specs.Answers.{Answers, label_of, row_at};
 
 use crate::lists::one;
 use crate::step::KernelFault;
-use ab_levels::{Kind, next_level};
 use ab_logic::{Sequent, Sign, World};
 use ab_naming::{Label, name_by};
-use ab_sizing::{coinductive_in, inductive_at, marked_antecedent, marked_consequent};
+use ab_sizing::{
+    Kind, coinductive_in, inductive_at, marked_antecedent, marked_consequent, next_level,
+};
 use ab_store::TermId;
 use std::alloc::{AllocError, Global};
 
