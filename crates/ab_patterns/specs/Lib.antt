@@ -4,4 +4,3 @@ pub mod Readings
 pub mod Naming
 pub mod Walking
 pub mod Closing
-pub mod Flexible

@@ -1,6 +1,5 @@
 -- The proof commands that are built.
-use Rattle.std.specs.Prelude.{All}
-use Rattle.ab_grammar.specs.CommandTrees.{ProofCommand, Instance, intros, induction, coinduction, case, apply, backchain, split, split_all, left, right, unfold_goal, exists, assert, clear, rename, permute}
+use Rattle.ab_grammar.specs.CommandTrees.{ProofCommand, intros, induction, coinduction, case, split, split_all, left, right, unfold_goal, exists, assert, clear, rename, permute}
 use Rattle.ab_elaborate.specs.Judgements.{HasNoJudgement}
 
 abbrev pub IsBuilt : ProofCommand → Type 0
@@ -8,8 +7,6 @@ IsBuilt (intros xs) = Unit {0}
 IsBuilt (induction n) = Unit {0}
 IsBuilt coinduction = Unit {0}
 IsBuilt (case H keep) = Unit {0}
-IsBuilt (apply H vs is) = All (λ (i : Instance). HasNoJudgement i.term) is
-IsBuilt (backchain H is) = All (λ (i : Instance). HasNoJudgement i.term) is
 IsBuilt split = Unit {0}
 IsBuilt split_all = Unit {0}
 IsBuilt left = Unit {0}

@@ -2,7 +2,6 @@
 #![tactic(auto)]
 
 mod applying;
-mod judging;
 #[cfg(test)]
 mod tests;
 

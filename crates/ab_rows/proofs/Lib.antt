@@ -13,14 +13,6 @@ pub mod Retold
 mod Equations
 mod Bodies
 mod Parting
-mod First
 mod Unfolded
-pub mod Pieces
-pub mod Uses
-pub mod Matching
-pub mod OneUse
-mod Rows
-mod Giving
-mod Chaining
 pub mod Remarked
 pub mod Once

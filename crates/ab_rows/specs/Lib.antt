@@ -1,3 +1,2 @@
--- Which proof commands open formulas; and one use of one formula, in two goals.
+-- Which proof commands open formulas.
 pub mod Opening
-pub mod Using

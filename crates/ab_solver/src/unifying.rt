@@ -25,7 +25,6 @@ use crate::queueing::numbered;
 use crate::running::run;
 use crate::solved::{Cells, Solved};
 use crate::verdict::Verdict;
-use ab_patterns::FlexibleCells;
 use ab_store::{CellId, Equation, Store};
 use ab_types::{Steps, TypeTable};
 use std::alloc::{AllocError, Global};
@@ -51,8 +50,7 @@ fn solve<L>(
     ensures in_age { IfUnified result AreInAge }
 {
     let bound = store.bindings().len();
-    let given = Vec::from_slice(alloc, flexible)?;
-    let mut left = FlexibleCells::from_vec(alloc, given)?;
+    let mut left = Vec::from_slice(alloc, flexible)?;
     let mut queue = numbered(alloc, equations)?;
     let mut waiting = Vec::new(alloc);
     match run(
@@ -65,12 +63,7 @@ fn solve<L>(
         steps,
     )? {
         Verdict::Unified => {
-            let made = made_cells(
-                alloc,
-                bindings_since(store, bound),
-                left.as_slice(),
-                flexible,
-            )?;
+            let made = made_cells(alloc, bindings_since(store, bound), &left, flexible)?;
             Ok(Solved::Unified(Cells::from_vec(made)))
         }
         Verdict::Apart => Ok(Solved::Apart),

@@ -6,25 +6,24 @@ ghost use Rattle.ab_store.specs.Reading.{cell_variable};
 ghost use Rattle.ab_solve.specs.Solving as solve;
 ghost use Rattle.ab_unifying.specs.Changed.{others_than};
 
-use ab_patterns::FlexibleCells;
 use ab_store::CellId;
 use std::alloc::{AllocError, Global};
 
 /// The cells other than this one, in their order.
 pub(crate) fn without(
     alloc: Global,
-    cells: &FlexibleCells,
+    cells: &[CellId],
     cell: CellId,
-) -> Result<FlexibleCells, AllocError>
-    ensures { IfOk result (λ rest. rest.items ≡ others_than cell cells.now.items) }
+) -> Result<Vec<CellId>, AllocError>
+    ensures { IfOk result (λ rest. rest.items ≡ others_than cell cells.now) }
 {
     let mut rest = Vec::new(alloc);
-    for other in cells.as_slice() {
+    for other in cells {
         if *other != cell {
             rest.push(*other)?;
         }
     }
-    FlexibleCells::from_vec(alloc, rest)
+    Ok(rest)
 }
 
 /// Whether the first cell comes before the second in the list.

@@ -1,10 +1,7 @@
 use Rattle.std.specs.Prelude.{IfOk}
 use Rattle.std.specs.Option.{option_copied}
-use Rattle.std.proofs.Common.{ℕ, List, map, subst}
+use Rattle.std.proofs.Common.{ℕ, List, Option, subst}
 use Rattle.ab_grammar.specs.CommandTrees as told
-use Rattle.ab_syntax.specs.declared.command.Argument.{Argument}
-use Rattle.ab_syntax.specs.declared.command.Instance.{Instance}
-use Rattle.ab_syntax.specs.Commands.{argument_of, instance_of}
 use Rattle.ab_syntax.specs.Trees.{tree_of}
 use Rattle.ab_logic.specs.Names.{Label}
 use Rattle.ab_progress.specs.Applied.{IsApplied, IsRefused}
@@ -138,34 +135,18 @@ returns-in_ok-wanted-in-Assert-clause-refused g c fault e =
     rw c.in-Assert.is
     (subst (λ (m : Label). IsRefused m (told.assert (tree_of c.in-Assert.formula)) c.args.world.now c.args.proof.now fault) c.in_ok-wanted-in-Assert.ensures (c.assert.ensures.refused fault e))
 
-pub returns-in_ok-wanted-in-Apply-clause-applied : goal.returns-in_ok-wanted-in-Apply-clause-applied
-returns-in_ok-wanted-in-Apply-clause-applied g c =
-    let name = c.in-Apply.name in
-    rw c.in-Apply.is
-    (subst (λ (vs : List Argument). IfOk c.apply.result (λ u. IsApplied (given_label (option_copied c.args.label)) (told.apply name (map argument_of vs) (map instance_of c.in-Apply.given.items)) c.args.world.now c.args.proof.now c.apply.new.world c.apply.new.proof)) c.as_slice-list.ensures
-    (subst (λ (is : List Instance). IfOk c.apply.result (λ u. IsApplied (given_label (option_copied c.args.label)) (told.apply name (map argument_of c.as_slice-list.result.now) (map instance_of is)) c.args.world.now c.args.proof.now c.apply.new.world c.apply.new.proof)) c.as_slice-terms.ensures
-    (subst (λ (m : Label). IfOk c.apply.result (λ u. IsApplied m (told.apply name (map argument_of c.as_slice-list.result.now) (map instance_of c.as_slice-terms.result.now)) c.args.world.now c.args.proof.now c.apply.new.world c.apply.new.proof)) c.in_ok-wanted-in-Apply.ensures
-    c.apply.ensures.applied)))
-
-pub returns-in_ok-wanted-in-Apply-clause-refused : goal.returns-in_ok-wanted-in-Apply-clause-refused
-returns-in_ok-wanted-in-Apply-clause-refused g c fault e =
-    let name = c.in-Apply.name in
-    rw c.in-Apply.is
-    (subst (λ (vs : List Argument). IsRefused (given_label (option_copied c.args.label)) (told.apply name (map argument_of vs) (map instance_of c.in-Apply.given.items)) c.args.world.now c.args.proof.now fault) c.as_slice-list.ensures
-    (subst (λ (is : List Instance). IsRefused (given_label (option_copied c.args.label)) (told.apply name (map argument_of c.as_slice-list.result.now) (map instance_of is)) c.args.world.now c.args.proof.now fault) c.as_slice-terms.ensures
-    (subst (λ (m : Label). IsRefused m (told.apply name (map argument_of c.as_slice-list.result.now) (map instance_of c.as_slice-terms.result.now)) c.args.world.now c.args.proof.now fault) c.in_ok-wanted-in-Apply.ensures
-    (c.apply.ensures.refused fault e))))
-
-pub returns-in-Backchain-clause-applied : goal.returns-in-Backchain-clause-applied
-returns-in-Backchain-clause-applied g c =
+pub returns-in-Permute-clause-applied : goal.returns-in-Permute-clause-applied
+returns-in-Permute-clause-applied g c =
     let l = given_label (option_copied c.args.label) in
-    let name = c.in-Backchain.name in
-    rw c.in-Backchain.is
-    (subst (λ (is : List Instance). IfOk c.backchain.result (λ u. IsApplied l (told.backchain name (map instance_of is)) c.args.world.now c.args.proof.now c.backchain.new.world c.backchain.new.proof)) c.as_slice-instances.ensures
-    (at_label (λ m. IsApplied m (told.backchain name (map instance_of c.as_slice-instances.result.now)) c.args.world.now c.args.proof.now c.backchain.new.world c.backchain.new.proof) c.backchain.result l c.backchain.ensures.applied))
+    rw c.in-Permute.is
+    (subst (λ (xs : List ℕ). IfOk c.permute.result (λ u. IsApplied l (told.permute xs c.in-Permute.name) c.args.world.now c.args.proof.now c.permute.new.world c.permute.new.proof)) c.as_slice-cycle.ensures
+    (subst (λ (x : Option (List ℕ)). IfOk c.permute.result (λ u. IsApplied l (told.permute c.as_slice-cycle.result.now x) c.args.world.now c.args.proof.now c.permute.new.world c.permute.new.proof)) c.as_ref.ensures.value
+    (at_label (λ m. IsApplied m (told.permute c.as_slice-cycle.result.now (option_copied c.as_ref.result)) c.args.world.now c.args.proof.now c.permute.new.world c.permute.new.proof) c.permute.result l c.permute.ensures.applied)))
 
-pub returns-in-Backchain-clause-refused : goal.returns-in-Backchain-clause-refused
-returns-in-Backchain-clause-refused g c fault e =
+pub returns-in-Permute-clause-refused : goal.returns-in-Permute-clause-refused
+returns-in-Permute-clause-refused g c fault e =
     let l = given_label (option_copied c.args.label) in
-    rw c.in-Backchain.is
-    (subst (λ (is : List Instance). IsRefused l (told.backchain c.in-Backchain.name (map instance_of is)) c.args.world.now c.args.proof.now fault) c.as_slice-instances.ensures (c.backchain.ensures.refused fault e l))
+    rw c.in-Permute.is
+    (subst (λ (xs : List ℕ). IsRefused l (told.permute xs c.in-Permute.name) c.args.world.now c.args.proof.now fault) c.as_slice-cycle.ensures
+    (subst (λ (x : Option (List ℕ)). IsRefused l (told.permute c.as_slice-cycle.result.now x) c.args.world.now c.args.proof.now fault) c.as_ref.ensures.value
+    (c.permute.ensures.refused fault e l)))

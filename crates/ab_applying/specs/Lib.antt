@@ -1,4 +1,0 @@
--- What calls of `apply` and `backchain` leave of a proof.
-pub mod Standing
-pub mod Asked
-pub mod Left
