@@ -1,19 +1,52 @@
--- A cell that is first in a list is in it.
-use Rattle.std.proofs.Common.{◌≡◌, ℕ, ◌≤◌, List, [], ◌∷◌, map, length, true, slice_index_or, sym, ap, arith}
-use Rattle.std.specs.Prelude.{nat_eq}
+-- A cell is in a list where its variable is among those of the list, and what is looked up once a cell is added.
+use Rattle.std.proofs.Common.{◌≡◌, ℕ, List, [], ◌∷◌, map, Bool, true, false, ◌==◌, ◌||◌, ◌++◌, cond, refl, sym, ◌∙◌, ap}
 use Rattle.std.specs.Cmp.{unsigned_Decides}
-use Rattle.std.proofs.lemmas.Bool.{or_left}
+use Rattle.std.specs.List.{list_any}
+use Rattle.std.proofs.lemmas.List.Folds.{list_any-append}
+use Rattle.std.proofs.lemmas.Bool.{false≢true, false_from_ne_true}
+use Rattle.ab_term.specs.Terms.{Variable}
+use Rattle.ab_term.specs.Sameness.{same_numbered}
+use Rattle.ab_term.proofs.Same.{same_numbered-Decides}
 use Rattle.ab_types.specs.Entries.{Table}
 use Rattle.ab_store.specs.declared.node.CellId.{CellId}
 use Rattle.ab_store.specs.Trees.{Contents}
-use Rattle.ab_term.specs.Sameness.{same_numbered}
-use Rattle.ab_solve.specs.Replacing.{holds}
-use Rattle.ab_term.proofs.Same.{same_numbered-Decides}
 use Rattle.ab_store.specs.Reading.{cell_variable}
+use Rattle.ab_solve.specs.Replacing.{holds}
+use Rattle.ab_patterns.specs.Flexible.{same_cell}
 
-pub first_listed : (types : Table) (store : Contents) (cells : List CellId) (c : CellId) (d : CellId) → 1 ≤ length cells → nat_eq (slice_index_or cells 0 d).0 c.0 ≡ true → true ≡ holds (map (cell_variable types store) cells) (cell_variable types store c)
-first_listed types store [] c d l e = absurd (omega (arith, l))
-first_listed types store (b ∷ bs) c d l e =
-    let number : b.0 ≡ c.0 = (unsigned_Decides b.0 c.0).0 e in
-    let equal : cell_variable types store b ≡ cell_variable types store c = ap (λ (n : ℕ). cell_variable types store (record { 0 = n })) number in
-    sym (or_left (same_numbered (cell_variable types store b) (cell_variable types store c)) (holds (map (cell_variable types store) bs) (cell_variable types store c)) ((same_numbered-Decides (cell_variable types store b) (cell_variable types store c)).1 equal))
+last_or : (s o : Bool) → cond s true o ≡ (o || (s || false))
+last_or true true = refl
+last_or true false = refl
+last_or false true = refl
+last_or false false = refl
+
+turned : (c q : CellId) → same_cell c q ≡ same_cell q c
+turned c q = go (c.0 == q.0) refl
+  where
+    go : (b : Bool) → (c.0 == q.0) ≡ b → b ≡ same_cell q c
+    go true e = sym ((unsigned_Decides q.0 c.0).1 (sym ((unsigned_Decides c.0 q.0).0 e)))
+    go false e = sym (false_from_ne_true (same_cell q c) (λ f. false≢true (sym e ∙ (unsigned_Decides c.0 q.0).1 (sym ((unsigned_Decides q.0 c.0).0 f)))))
+
+pub listed_more : (c q : CellId) (cells : List CellId) (found now : Bool) → found ≡ list_any (same_cell q) cells → now ≡ cond (same_cell c q) true found → now ≡ list_any (same_cell q) (cells ++ c ∷ [])
+listed_more c q cells found now was is =
+    is
+    ∙ ap (λ b. cond b true found) (turned c q)
+    ∙ ap (cond (same_cell q c) true) was
+    ∙ last_or (same_cell q c) (list_any (same_cell q) cells)
+    ∙ sym (list_any-append (same_cell q) cells (c ∷ []))
+
+module _ (types : Table) (store : Contents) where
+  one_test : (c d : CellId) → (c.0 == d.0) ≡ same_numbered (cell_variable types store d) (cell_variable types store c)
+  one_test c d = go (c.0 == d.0) refl
+    where
+      go : (b : Bool) → (c.0 == d.0) ≡ b → b ≡ same_numbered (cell_variable types store d) (cell_variable types store c)
+      go true e = sym ((same_numbered-Decides (cell_variable types store d) (cell_variable types store c)).1 (ap (λ (n : ℕ). cell_variable types store (record { 0 = n })) (sym ((unsigned_Decides c.0 d.0).0 e))))
+      go false e = sym (false_from_ne_true (same_numbered (cell_variable types store d) (cell_variable types store c)) (λ f.
+          let one : d.0 ≡ c.0 = ap (λ (v : Variable ℕ). v.name) ((same_numbered-Decides (cell_variable types store d) (cell_variable types store c)).0 f) in
+          false≢true (sym e ∙ (unsigned_Decides c.0 d.0).1 (sym one))))
+
+  pub listed_holds : (c : CellId) (cells : List CellId) → list_any (same_cell c) cells ≡ holds (map (cell_variable types store) cells) (cell_variable types store c)
+  listed_holds c [] = refl
+  listed_holds c (d ∷ ds) =
+      ap (λ b. b || list_any (same_cell c) ds) (one_test c d)
+      ∙ ap (λ b. same_numbered (cell_variable types store d) (cell_variable types store c) || b) (listed_holds c ds)

@@ -4,3 +4,4 @@ pub mod Readings
 pub mod Naming
 pub mod Walking
 pub mod Closing
+pub mod Flexible

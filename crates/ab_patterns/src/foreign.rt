@@ -10,10 +10,10 @@ ghost use Rattle.ab_solve.specs.Replacing as solve;
 ghost use Rattle.ab_patterns.specs.Walking.{deep, IsOwn, AllOwn};
 
 use crate::closing::next;
-use crate::flexible::is_flexible;
+use crate::flexible::{FlexibleCells, is_flexible};
 use crate::names::is_among;
 use crate::seen::Seen;
-use ab_store::{CellId, Head, Node, Store, TermId};
+use ab_store::{Head, Node, Store, TermId};
 use ab_types::TypeTable;
 use std::alloc::{AllocError, Global};
 
@@ -23,14 +23,14 @@ pub fn has_no_foreign(
     alloc: Global,
     types: &TypeTable,
     store: &Store,
-    cells: &[CellId],
+    cells: &FlexibleCells,
     names: &[Head],
     term: TermId,
 ) -> Result<bool, AllocError>
     requires store { IsTypedBy types.now store.now }
     requires names { All (HeadIsTyped types.now) names.now }
     requires term { Holds store.now term }
-    ensures { IfOk result (λ r. r ≡ solve.no_foreign (map (cell_variable types.now store.now) cells.now)
+    ensures { IfOk result (λ r. r ≡ solve.no_foreign (map (cell_variable types.now store.now) cells.now.items)
         (map (head_reading types.now store.now) names.now) (tree_of types.now store.now term)) }
 {
     // no two ids of a table stand for one type
@@ -62,7 +62,7 @@ fn may_stand(names: &[Head], depth: usize, head: Head) -> bool
 fn is_own(
     types: &TypeTable,
     store: &Store,
-    cells: &[CellId],
+    cells: &FlexibleCells,
     names: &[Head],
     depth: usize,
     id: TermId,
@@ -72,9 +72,9 @@ fn is_own(
     requires store { IsTypedBy types.now store.now }
     requires names { All (HeadIsTyped types.now) names.now }
     requires id { Holds store.now id }
-    requires seen { AllOwn types.now store.now cells.now names.now seen.old }
-    ensures own { IfOk result (λ r. (r ≡ true) ↔ IsOwn types.now store.now cells.now names.now depth id) }
-    ensures seen { OnOk result (AllOwn types.now store.now cells.now names.now seen.new) }
+    requires seen { AllOwn types.now store.now cells.now.items names.now seen.old }
+    ensures own { IfOk result (λ r. (r ≡ true) ↔ IsOwn types.now store.now cells.now.items names.now depth id) }
+    ensures seen { OnOk result (AllOwn types.now store.now cells.now.items names.now seen.new) }
 {
     if seen.has(id, depth) {
         return Ok(true);
@@ -91,7 +91,7 @@ fn is_own(
 fn is_own_node(
     types: &TypeTable,
     store: &Store,
-    cells: &[CellId],
+    cells: &FlexibleCells,
     names: &[Head],
     depth: usize,
     id: TermId,
@@ -101,9 +101,9 @@ fn is_own_node(
     requires store { IsTypedBy types.now store.now }
     requires names { All (HeadIsTyped types.now) names.now }
     requires id { Holds store.now id }
-    requires seen { AllOwn types.now store.now cells.now names.now seen.old }
-    ensures own { IfOk result (λ r. (r ≡ true) ↔ IsOwn types.now store.now cells.now names.now depth id) }
-    ensures seen { OnOk result (AllOwn types.now store.now cells.now names.now seen.new) }
+    requires seen { AllOwn types.now store.now cells.now.items names.now seen.old }
+    ensures own { IfOk result (λ r. (r ≡ true) ↔ IsOwn types.now store.now cells.now.items names.now depth id) }
+    ensures seen { OnOk result (AllOwn types.now store.now cells.now.items names.now seen.new) }
 {
     match store.view(id) {
         Node::Lam(_, _, body) => {
@@ -128,7 +128,7 @@ fn is_own_node(
 fn are_own(
     types: &TypeTable,
     store: &Store,
-    cells: &[CellId],
+    cells: &FlexibleCells,
     names: &[Head],
     depth: usize,
     ids: &[TermId],
@@ -138,9 +138,9 @@ fn are_own(
     requires store { IsTypedBy types.now store.now }
     requires names { All (HeadIsTyped types.now) names.now }
     requires ids { All (Holds store.now) ids.now }
-    requires seen { AllOwn types.now store.now cells.now names.now seen.old }
-    ensures own { IfOk result (λ r. (r ≡ true) ↔ All (IsOwn types.now store.now cells.now names.now depth) ids.now) }
-    ensures seen { OnOk result (AllOwn types.now store.now cells.now names.now seen.new) }
+    requires seen { AllOwn types.now store.now cells.now.items names.now seen.old }
+    ensures own { IfOk result (λ r. (r ≡ true) ↔ All (IsOwn types.now store.now cells.now.items names.now depth) ids.now) }
+    ensures seen { OnOk result (AllOwn types.now store.now cells.now.items names.now seen.new) }
 {
     for id in ids {
         if !is_own(types, store, cells, names, depth, *id, seen)? {

@@ -21,7 +21,7 @@ mod seen;
 pub use applying::{applied, keep_heads, value};
 pub use closing::{close, shift_head};
 pub use equation::Numbered;
-pub use flexible::is_flexible;
+pub use flexible::{FlexibleCells, is_flexible};
 pub use foreign::has_no_foreign;
 pub use names::pattern;
 pub use narrowing::kept_type;

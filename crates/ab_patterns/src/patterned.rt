@@ -10,10 +10,10 @@ ghost use Rattle.ab_norm.specs.Growth.{AddsTypedTerms};
 ghost use Rattle.ab_solve.specs.Replacing as solve;
 ghost use Rattle.ab_patterns.specs.Walking.{IsPatterned, AllPatterned, given_names};
 
-use crate::flexible::is_flexible;
+use crate::flexible::{FlexibleCells, is_flexible};
 use crate::names::pattern;
 use crate::seen::Seen;
-use ab_store::{CellId, Head, Node, Store, TermId};
+use ab_store::{Head, Node, Store, TermId};
 use ab_types::TypeTable;
 use std::alloc::{AllocError, Global};
 
@@ -23,14 +23,14 @@ pub fn has_patterns(
     alloc: Global,
     types: &TypeTable,
     store: &mut Store,
-    cells: &[CellId],
+    cells: &FlexibleCells,
     term: TermId,
 ) -> Result<bool, AllocError>
     requires store { IsTypedBy types.now store.old }
     requires term { Holds store.old term }
     requires resolved { IsResolved store.old term }
     ensures adds { AddsTypedTerms types.now store.old store.new }
-    ensures reads { IfOk result (λ r. r ≡ solve.has_patterns (map (cell_variable types.now store.old) cells.now) (tree_of types.now store.old term)) }
+    ensures reads { IfOk result (λ r. r ≡ solve.has_patterns (map (cell_variable types.now store.old) cells.now.items) (tree_of types.now store.old term)) }
 {
     let mut seen = Seen::new(alloc);
     is_patterned(alloc, types, store, cells, term, &mut seen)
@@ -67,17 +67,17 @@ fn is_patterned(
     alloc: Global,
     types: &TypeTable,
     store: &mut Store,
-    cells: &[CellId],
+    cells: &FlexibleCells,
     id: TermId,
     seen: &mut Seen,
 ) -> Result<bool, AllocError>
     requires store { IsTypedBy types.now store.old }
     requires id { Holds store.old id }
     requires resolved { IsResolved store.old id }
-    requires seen { AllPatterned types.now store.old cells.now seen.old }
+    requires seen { AllPatterned types.now store.old cells.now.items seen.old }
     ensures adds { AddsTypedTerms types.now store.old store.new }
-    ensures patterned { IfOk result (λ r. (r ≡ true) ↔ IsPatterned types.now store.old cells.now id) }
-    ensures seen { OnOk result (AllPatterned types.now store.new cells.now seen.new) }
+    ensures patterned { IfOk result (λ r. (r ≡ true) ↔ IsPatterned types.now store.old cells.now.items id) }
+    ensures seen { OnOk result (AllPatterned types.now store.new cells.now.items seen.new) }
 {
     if seen.has(id, 0) {
         return Ok(true);
@@ -95,17 +95,17 @@ fn is_patterned_node(
     alloc: Global,
     types: &TypeTable,
     store: &mut Store,
-    cells: &[CellId],
+    cells: &FlexibleCells,
     id: TermId,
     seen: &mut Seen,
 ) -> Result<bool, AllocError>
     requires store { IsTypedBy types.now store.old }
     requires id { Holds store.old id }
     requires resolved { IsResolved store.old id }
-    requires seen { AllPatterned types.now store.old cells.now seen.old }
+    requires seen { AllPatterned types.now store.old cells.now.items seen.old }
     ensures adds { AddsTypedTerms types.now store.old store.new }
-    ensures patterned { IfOk result (λ r. (r ≡ true) ↔ IsPatterned types.now store.old cells.now id) }
-    ensures seen { OnOk result (AllPatterned types.now store.new cells.now seen.new) }
+    ensures patterned { IfOk result (λ r. (r ≡ true) ↔ IsPatterned types.now store.old cells.now.items id) }
+    ensures seen { OnOk result (AllPatterned types.now store.new cells.now.items seen.new) }
 {
     let node = store.view(id).copy(alloc)?;
     is_patterned_in(alloc, types, store, cells, id, &node, seen)
@@ -117,7 +117,7 @@ fn is_patterned_in(
     alloc: Global,
     types: &TypeTable,
     store: &mut Store,
-    cells: &[CellId],
+    cells: &FlexibleCells,
     id: TermId,
     node: &Node,
     seen: &mut Seen,
@@ -127,10 +127,10 @@ fn is_patterned_in(
     requires resolved { IsResolved store.old id }
     requires node { (t : Table) → tree_of t store.old id ≡ node_tree t store.old node.now }
     requires names { NodeNames id.0 (length store.old.cells) node.now }
-    requires seen { AllPatterned types.now store.old cells.now seen.old }
+    requires seen { AllPatterned types.now store.old cells.now.items seen.old }
     ensures adds { AddsTypedTerms types.now store.old store.new }
-    ensures patterned { IfOk result (λ r. (r ≡ true) ↔ IsPatterned types.now store.old cells.now id) }
-    ensures seen { OnOk result (AllPatterned types.now store.new cells.now seen.new) }
+    ensures patterned { IfOk result (λ r. (r ≡ true) ↔ IsPatterned types.now store.old cells.now.items id) }
+    ensures seen { OnOk result (AllPatterned types.now store.new cells.now.items seen.new) }
 {
     match node {
         Node::Lam(_, _, body) => is_patterned(alloc, types, store, cells, *body, seen),
@@ -150,17 +150,17 @@ fn are_patterned(
     alloc: Global,
     types: &TypeTable,
     store: &mut Store,
-    cells: &[CellId],
+    cells: &FlexibleCells,
     ids: &[TermId],
     seen: &mut Seen,
 ) -> Result<bool, AllocError>
     requires store { IsTypedBy types.now store.old }
     requires ids { All (Holds store.old) ids.now }
     requires resolved { All (IsResolved store.old) ids.now }
-    requires seen { AllPatterned types.now store.old cells.now seen.old }
+    requires seen { AllPatterned types.now store.old cells.now.items seen.old }
     ensures adds { AddsTypedTerms types.now store.old store.new }
-    ensures patterned { IfOk result (λ r. (r ≡ true) ↔ All (IsPatterned types.now store.old cells.now) ids.now) }
-    ensures seen { OnOk result (AllPatterned types.now store.new cells.now seen.new) }
+    ensures patterned { IfOk result (λ r. (r ≡ true) ↔ All (IsPatterned types.now store.old cells.now.items) ids.now) }
+    ensures seen { OnOk result (AllPatterned types.now store.new cells.now.items seen.new) }
 {
     for id in ids {
         if !is_patterned(alloc, types, store, cells, *id, seen)? {

@@ -12,8 +12,8 @@ ghost use Rattle.ab_patterns.specs.Readings.{equation_of, simple_of, HoldsEquati
 
 use crate::comparing::are_same;
 use crate::equation::Numbered;
-use crate::flexible::is_flexible;
-use ab_store::{CellId, Head, Node, Store, TermId};
+use crate::flexible::{FlexibleCells, is_flexible};
+use ab_store::{Head, Node, Store, TermId};
 use ab_types::TypeTable;
 use std::alloc::{AllocError, Global};
 
@@ -33,7 +33,7 @@ pub fn try_simple_rules(
     alloc: Global,
     types: &TypeTable,
     store: &Store,
-    flexible: &[CellId],
+    flexible: &FlexibleCells,
     equation: Numbered,
 ) -> Result<Simple, AllocError>
     requires store { IsTypedBy types.now store.now }
@@ -43,7 +43,7 @@ pub fn try_simple_rules(
     ensures rule { IfOk result (λ r. simple_of types.now store.now r ≡
         or_else (equal_sides (equation_of types.now store.now equation))
         (or_else (same_binder equation.place (tree_of types.now store.now equation.left) (tree_of types.now store.now equation.right))
-        (rigid_heads (map (cell_variable types.now store.now) flexible.now) equation.place (tree_of types.now store.now equation.left) (tree_of types.now store.now equation.right)))) }
+        (rigid_heads (map (cell_variable types.now store.now) flexible.now.items) equation.place (tree_of types.now store.now equation.left) (tree_of types.now store.now equation.right)))) }
 {
     // no two ids of a table stand for one type
     let _ = types.len();
@@ -73,7 +73,7 @@ pub fn try_simple_rules(
 /// The rule on two heads, neither of which may be replaced.
 fn heads(
     alloc: Global,
-    flexible: &[CellId],
+    flexible: &FlexibleCells,
     place: usize,
     head: Head,
     args: &[TermId],
@@ -82,7 +82,7 @@ fn heads(
 ) -> Result<Simple, AllocError>
     ensures held { IfOk result (λ r. (store : Contents) → All (Holds store) args.now → All (Holds store) more.now → HoldsParts store r) }
     ensures rule { IfOk result (λ r. (types : Table) (store : Contents) → IsTable types → HeadIsTyped types head → HeadIsTyped types other →
-        simple_of types store r ≡ rigid_heads (map (cell_variable types store) flexible.now) place
+        simple_of types store r ≡ rigid_heads (map (cell_variable types store) flexible.now.items) place
         (spine (head_reading types store head) (terms_of (map (tree_of types store) args.now)))
         (spine (head_reading types store other) (terms_of (map (tree_of types store) more.now)))) }
 {

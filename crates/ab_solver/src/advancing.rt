@@ -8,8 +8,8 @@ ghost use Rattle.ab_solver.specs.States.{IsAtRest, IsStep, rules_in, Advances, v
 use crate::queueing::put_back;
 use crate::settling::settle;
 use crate::verdict::Verdict;
-use ab_patterns::Numbered;
-use ab_store::{CellId, Store};
+use ab_patterns::{FlexibleCells, Numbered};
+use ab_store::Store;
 use ab_types::{Steps, TypeTable};
 use ab_unifying::Step;
 use std::alloc::{AllocError, Global};
@@ -31,7 +31,7 @@ pub(crate) fn advance<L>(
     alloc: Global,
     types: &mut TypeTable,
     store: &mut Store,
-    flexible: &mut Vec<CellId>,
+    flexible: &mut FlexibleCells,
     waiting: &mut Vec<Numbered>,
     queue: &mut VecDeque<Numbered>,
     steps: &mut Steps<L>,

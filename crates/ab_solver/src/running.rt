@@ -8,8 +8,8 @@ ghost use Rattle.ab_solver.specs.States.{IsAtRest, state_of, Runs};
 
 use crate::advancing::advance;
 use crate::verdict::Verdict;
-use ab_patterns::Numbered;
-use ab_store::{CellId, Store};
+use ab_patterns::{FlexibleCells, Numbered};
+use ab_store::Store;
 use ab_types::{Steps, TypeTable};
 use std::alloc::{AllocError, Global};
 use std::collections::VecDeque;
@@ -19,7 +19,7 @@ pub(crate) fn run<L>(
     alloc: Global,
     types: &mut TypeTable,
     store: &mut Store,
-    flexible: &mut Vec<CellId>,
+    flexible: &mut FlexibleCells,
     waiting: &mut Vec<Numbered>,
     queue: &mut VecDeque<Numbered>,
     steps: &mut Steps<L>,

@@ -6,8 +6,8 @@ ghost use Rattle.ab_unifying.specs.Outcome.{IsTypedEquation};
 ghost use Rattle.ab_solver.specs.States.{IsAtRest, Settles};
 
 use crate::stepping::apply_rule;
-use ab_patterns::Numbered;
-use ab_store::{CellId, Store};
+use ab_patterns::{FlexibleCells, Numbered};
+use ab_store::Store;
 use ab_types::{Steps, TypeTable};
 use ab_unifying::Step;
 use std::alloc::{AllocError, Global};
@@ -19,7 +19,7 @@ pub(crate) fn settle<L>(
     alloc: Global,
     types: &mut TypeTable,
     store: &mut Store,
-    flexible: &mut Vec<CellId>,
+    flexible: &mut FlexibleCells,
     waiting: &mut Vec<Numbered>,
     queue: &mut VecDeque<Numbered>,
     steps: &mut Steps<L>,

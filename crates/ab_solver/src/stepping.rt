@@ -10,8 +10,8 @@ ghost use Rattle.ab_unifying.specs.Changed.{Grows, IsFree};
 ghost use Rattle.ab_unifying.specs.Outcome.{equation_read, IsTypedEquation, Tells};
 
 use ab_norm::copy_resolved;
-use ab_patterns::{Numbered, Simple, try_simple_rules};
-use ab_store::{CellId, Store};
+use ab_patterns::{FlexibleCells, Numbered, Simple, try_simple_rules};
+use ab_store::Store;
 use ab_types::{Steps, TypeTable};
 use ab_unifying::{Step, solve_flexible};
 use std::alloc::{AllocError, Global};
@@ -46,7 +46,7 @@ fn apply_to_resolved<L>(
     alloc: Global,
     types: &mut TypeTable,
     store: &mut Store,
-    flexible: &mut Vec<CellId>,
+    flexible: &mut FlexibleCells,
     equation: Numbered,
     steps: &mut Steps<L>,
 ) -> Result<Step, AllocError>
@@ -80,7 +80,7 @@ pub(crate) fn apply_rule<L>(
     alloc: Global,
     types: &mut TypeTable,
     store: &mut Store,
-    flexible: &mut Vec<CellId>,
+    flexible: &mut FlexibleCells,
     equation: Numbered,
     steps: &mut Steps<L>,
 ) -> Result<Step, AllocError>

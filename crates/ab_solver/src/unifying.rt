@@ -25,6 +25,7 @@ use crate::queueing::numbered;
 use crate::running::run;
 use crate::solved::{Cells, Solved};
 use crate::verdict::Verdict;
+use ab_patterns::FlexibleCells;
 use ab_store::{CellId, Equation, Store};
 use ab_types::{Steps, TypeTable};
 use std::alloc::{AllocError, Global};
@@ -50,7 +51,8 @@ fn solve<L>(
     ensures in_age { IfUnified result AreInAge }
 {
     let bound = store.bindings().len();
-    let mut left = Vec::from_slice(alloc, flexible)?;
+    let given = Vec::from_slice(alloc, flexible)?;
+    let mut left = FlexibleCells::from_vec(alloc, given)?;
     let mut queue = numbered(alloc, equations)?;
     let mut waiting = Vec::new(alloc);
     match run(
@@ -63,7 +65,12 @@ fn solve<L>(
         steps,
     )? {
         Verdict::Unified => {
-            let made = made_cells(alloc, bindings_since(store, bound), &left, flexible)?;
+            let made = made_cells(
+                alloc,
+                bindings_since(store, bound),
+                left.as_slice(),
+                flexible,
+            )?;
             Ok(Solved::Unified(Cells::from_vec(made)))
         }
         Verdict::Apart => Ok(Solved::Apart),

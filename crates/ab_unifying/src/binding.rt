@@ -19,7 +19,7 @@ ghost use Rattle.ab_unifying.specs.Problem.{cells_read, variables_read};
 ghost use Rattle.ab_unifying.specs.Changed.{Grows, IsFree, Changed, others_than, AreNames};
 
 use crate::listing::without;
-use ab_patterns::applied;
+use ab_patterns::{FlexibleCells, applied};
 use ab_store::{CellId, Head, Store, TermId};
 use ab_types::{Steps, TypeTable};
 use ab_unify::put;
@@ -30,7 +30,7 @@ pub(crate) fn bind<L>(
     alloc: Global,
     types: &TypeTable,
     store: &mut Store,
-    flexible: &[CellId],
+    flexible: &FlexibleCells,
     cell: CellId,
     names: &[Head],
     term: TermId,
@@ -48,12 +48,12 @@ pub(crate) fn bind<L>(
     ensures grows { Grows types.now store.old types.now store.new }
     ensures steps { steps.old ≤ steps.new }
     ensures changed { OnOk result ((T : Table) (S : Contents) (F : List CellId) (c : Change (List ℕ)) →
-        Changed T S (others_than cell F) c types.now store.old flexible.now → Contains F cell → ¬ Contains flexible.now cell →
+        Changed T S (others_than cell F) c types.now store.old flexible.now.items → Contains F cell → ¬ Contains flexible.now.items cell →
         Changed T S F (record {
           cells = c.cells;
           flexible = c.flexible;
           pairs = composition same_number c.pairs (one (codes "x") (cell_variable types.now store.old cell) (map (head_reading types.now store.old) names.now) (tree_of types.now store.old term));
-        }) types.now store.new flexible.now) }
+        }) types.now store.new flexible.now.items) }
 {
     let _ = flexible;
     put(alloc, types, store, cell, names, term, steps)
@@ -64,7 +64,7 @@ pub(crate) fn bind_to_cell<L>(
     alloc: Global,
     types: &TypeTable,
     store: &mut Store,
-    flexible: &mut Vec<CellId>,
+    flexible: &mut FlexibleCells,
     cell: CellId,
     names: &[Head],
     other: CellId,

@@ -18,7 +18,7 @@ ghost use Rattle.ab_unifying.specs.Outcome.{Tells, last_rules};
 
 use crate::listing::is_older;
 use crate::ruling::{Step, solve_one, solve_rigid, solve_two};
-use ab_patterns::is_flexible;
+use ab_patterns::{FlexibleCells, is_flexible};
 use ab_store::{CellId, Head, Node, Store, TermId};
 use ab_types::{Steps, TypeTable};
 use std::alloc::{AllocError, Global};
@@ -31,9 +31,9 @@ fn is_same_cell(a: CellId, b: CellId) -> bool
 }
 
 /// The cell that the head is, where it is one of these.
-fn flexible_cell(flexible: &[CellId], head: Head) -> Option<CellId>
-    ensures some { IfSome result (λ c. (head ≡ Cell c) × Contains flexible.now c) }
-    ensures none { result ≡ None → (types : Table) (store : Contents) → solve.is_flexible (map (cell_variable types store) flexible.now) (head_reading types store head) ≡ false }
+fn flexible_cell(flexible: &FlexibleCells, head: Head) -> Option<CellId>
+    ensures some { IfSome result (λ c. (head ≡ Cell c) × Contains flexible.now.items c) }
+    ensures none { result ≡ None → (types : Table) (store : Contents) → solve.is_flexible (map (cell_variable types store) flexible.now.items) (head_reading types store head) ≡ false }
 {
     match head {
         Head::Cell(cell) => {
@@ -52,7 +52,7 @@ fn solve_cells<L>(
     alloc: Global,
     types: &mut TypeTable,
     store: &mut Store,
-    flexible: &mut Vec<CellId>,
+    flexible: &mut FlexibleCells,
     first: CellId,
     args: &[TermId],
     second: CellId,
@@ -79,7 +79,7 @@ fn solve_cells<L>(
     if is_same_cell(first, second) {
         return solve_one(alloc, types, store, flexible, first, args, more, steps);
     }
-    if is_older(flexible, first, second) {
+    if is_older(flexible.as_slice(), first, second) {
         return solve_two(
             alloc, types, store, flexible, first, args, second, more, steps,
         );
@@ -94,7 +94,7 @@ fn solve_heads<L>(
     alloc: Global,
     types: &mut TypeTable,
     store: &mut Store,
-    flexible: &mut Vec<CellId>,
+    flexible: &mut FlexibleCells,
     place: usize,
     left: TermId,
     head: Head,
@@ -139,7 +139,7 @@ pub fn solve_flexible<L>(
     alloc: Global,
     types: &mut TypeTable,
     store: &mut Store,
-    flexible: &mut Vec<CellId>,
+    flexible: &mut FlexibleCells,
     place: usize,
     left: TermId,
     right: TermId,

@@ -19,7 +19,7 @@ use crate::binding::bind;
 use crate::listing::without;
 use crate::pruning::prune;
 use ab_norm::copy_resolved;
-use ab_patterns::Seen;
+use ab_patterns::{FlexibleCells, Seen};
 use ab_store::{CellId, Head, Store, TermId};
 use ab_types::{Steps, TypeTable};
 use std::alloc::{AllocError, Global};
@@ -30,7 +30,7 @@ pub(crate) fn invert<L>(
     alloc: Global,
     types: &mut TypeTable,
     store: &mut Store,
-    flexible: &mut Vec<CellId>,
+    flexible: &mut FlexibleCells,
     cell: CellId,
     names: &[Head],
     term: TermId,

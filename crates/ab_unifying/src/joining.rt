@@ -15,7 +15,7 @@ ghost use Rattle.ab_unifying.specs.Joined.{two_joined};
 use crate::binding::{bind, bind_to_cell};
 use crate::listing::without;
 use crate::narrowing::narrow;
-use ab_patterns::{applied, keep_heads};
+use ab_patterns::{FlexibleCells, applied, keep_heads};
 use ab_store::{CellId, Head, Store};
 use ab_types::{Steps, TypeTable};
 use ab_unify::{common, keeps_all};
@@ -27,7 +27,7 @@ pub(crate) fn join<L>(
     alloc: Global,
     types: &mut TypeTable,
     store: &mut Store,
-    flexible: &mut Vec<CellId>,
+    flexible: &mut FlexibleCells,
     older: CellId,
     names: &[Head],
     younger: CellId,
@@ -74,7 +74,7 @@ fn join_both<L>(
     alloc: Global,
     types: &mut TypeTable,
     store: &mut Store,
-    flexible: &mut Vec<CellId>,
+    flexible: &mut FlexibleCells,
     older: CellId,
     names: &[Head],
     younger: CellId,

@@ -6,24 +6,25 @@ ghost use Rattle.ab_store.specs.Reading.{cell_variable};
 ghost use Rattle.ab_solve.specs.Solving as solve;
 ghost use Rattle.ab_unifying.specs.Changed.{others_than};
 
+use ab_patterns::FlexibleCells;
 use ab_store::CellId;
 use std::alloc::{AllocError, Global};
 
 /// The cells other than this one, in their order.
 pub(crate) fn without(
     alloc: Global,
-    cells: &[CellId],
+    cells: &FlexibleCells,
     cell: CellId,
-) -> Result<Vec<CellId>, AllocError>
-    ensures { IfOk result (λ rest. rest.items ≡ others_than cell cells.now) }
+) -> Result<FlexibleCells, AllocError>
+    ensures { IfOk result (λ rest. rest.items ≡ others_than cell cells.now.items) }
 {
     let mut rest = Vec::new(alloc);
-    for other in cells {
+    for other in cells.as_slice() {
         if *other != cell {
             rest.push(*other)?;
         }
     }
-    Ok(rest)
+    FlexibleCells::from_vec(alloc, rest)
 }
 
 /// Whether the first cell comes before the second in the list.

@@ -12,6 +12,7 @@ ghost use Rattle.ab_solve.specs.Replacing.{Change, narrowed};
 ghost use Rattle.ab_unifying.specs.Changed.{Grows, IsFree, Changed};
 
 use crate::listing::without;
+use ab_patterns::FlexibleCells;
 use ab_store::{CellId, Head, Store};
 use ab_types::{Steps, TypeTable};
 use ab_unify::renew;
@@ -23,7 +24,7 @@ pub(crate) fn narrow<L>(
     alloc: Global,
     types: &mut TypeTable,
     store: &mut Store,
-    flexible: &mut Vec<CellId>,
+    flexible: &mut FlexibleCells,
     cell: CellId,
     names: &[Head],
     keep: &[bool],

@@ -21,7 +21,7 @@ ghost use Rattle.ab_unifying.specs.Changed.{Grows, IsFree, Changed, IsSomeTerm, 
 
 use crate::narrowing::narrow;
 use ab_norm::copy_resolved;
-use ab_patterns::{Seen, is_flexible, pattern, shift_head};
+use ab_patterns::{FlexibleCells, Seen, is_flexible, pattern, shift_head};
 use ab_store::{CellId, Head, Node, Store, TermId};
 use ab_types::{Steps, TypeTable};
 use ab_unify::{common, keeps_all};
@@ -47,7 +47,7 @@ fn prune_cell<L>(
     alloc: Global,
     types: &mut TypeTable,
     store: &mut Store,
-    flexible: &mut Vec<CellId>,
+    flexible: &mut FlexibleCells,
     names: &[Head],
     cell: CellId,
     args: &[TermId],
@@ -91,7 +91,7 @@ fn prune_here<L>(
     alloc: Global,
     types: &mut TypeTable,
     store: &mut Store,
-    flexible: &mut Vec<CellId>,
+    flexible: &mut FlexibleCells,
     names: &[Head],
     term: TermId,
     steps: &mut Steps<L>,
@@ -138,7 +138,7 @@ fn prune_flexible<L>(
     alloc: Global,
     types: &mut TypeTable,
     store: &mut Store,
-    flexible: &mut Vec<CellId>,
+    flexible: &mut FlexibleCells,
     names: &[Head],
     term: TermId,
     seen: &mut Seen,
@@ -175,8 +175,8 @@ pub(crate) fn prune<L>(
     alloc: Global,
     types: &mut TypeTable,
     store: &mut Store,
-    cells: &[CellId],
-    flexible: &mut Vec<CellId>,
+    cells: &FlexibleCells,
+    flexible: &mut FlexibleCells,
     names: &[Head],
     term: TermId,
     seen: &mut Seen,
@@ -192,10 +192,10 @@ pub(crate) fn prune<L>(
     ensures still { IfOk result (λ lost. lost ≡ false → store.new.cells ≡ store.old.cells) }
     ensures changed { OnOk result ((T : Table) (S : Contents) (F : List CellId) (c : Change (List ℕ)) →
         Changed T S F c types.old store.old flexible.old.items →
-        AreNames T names.now → All (IsFree S) cells.now → (G : List Ty) (A : Ty) → IsTerm T S G term A → AllUnbound S (tree_of T S term) →
-        (outer : List (tree.Head ℕ)) (depth : ℕ) → map (head_reading T S) names.now ≡ deep depth outer → AllPruned T S cells.now outer c seen.old →
-        let d = pruned (codes "x") (map (cell_variable T S) cells.now) (map (head_reading T S) names.now) (tree_of T S term) c in
-        Changed T S F d types.new store.new flexible.new.items × AllPruned T S cells.now outer d seen.new) }
+        AreNames T names.now → All (IsFree S) cells.now.items → (G : List Ty) (A : Ty) → IsTerm T S G term A → AllUnbound S (tree_of T S term) →
+        (outer : List (tree.Head ℕ)) (depth : ℕ) → map (head_reading T S) names.now ≡ deep depth outer → AllPruned T S cells.now.items outer c seen.old →
+        let d = pruned (codes "x") (map (cell_variable T S) cells.now.items) (map (head_reading T S) names.now) (tree_of T S term) c in
+        Changed T S F d types.new store.new flexible.new.items × AllPruned T S cells.now.items outer d seen.new) }
 {
     if seen.has(term, names.len()) {
         return Ok(false);
@@ -215,8 +215,8 @@ fn prune_node<L>(
     alloc: Global,
     types: &mut TypeTable,
     store: &mut Store,
-    cells: &[CellId],
-    flexible: &mut Vec<CellId>,
+    cells: &FlexibleCells,
+    flexible: &mut FlexibleCells,
     names: &[Head],
     term: TermId,
     seen: &mut Seen,
@@ -232,10 +232,10 @@ fn prune_node<L>(
     ensures still { IfOk result (λ lost. lost ≡ false → store.new.cells ≡ store.old.cells) }
     ensures changed { OnOk result ((T : Table) (S : Contents) (F : List CellId) (c : Change (List ℕ)) →
         Changed T S F c types.old store.old flexible.old.items →
-        AreNames T names.now → All (IsFree S) cells.now → (G : List Ty) (A : Ty) → IsTerm T S G term A → AllUnbound S (tree_of T S term) →
-        (outer : List (tree.Head ℕ)) (depth : ℕ) → map (head_reading T S) names.now ≡ deep depth outer → AllPruned T S cells.now outer c seen.old →
-        let d = pruned (codes "x") (map (cell_variable T S) cells.now) (map (head_reading T S) names.now) (tree_of T S term) c in
-        Changed T S F d types.new store.new flexible.new.items × AllPruned T S cells.now outer d seen.new) }
+        AreNames T names.now → All (IsFree S) cells.now.items → (G : List Ty) (A : Ty) → IsTerm T S G term A → AllUnbound S (tree_of T S term) →
+        (outer : List (tree.Head ℕ)) (depth : ℕ) → map (head_reading T S) names.now ≡ deep depth outer → AllPruned T S cells.now.items outer c seen.old →
+        let d = pruned (codes "x") (map (cell_variable T S) cells.now.items) (map (head_reading T S) names.now) (tree_of T S term) c in
+        Changed T S F d types.new store.new flexible.new.items × AllPruned T S cells.now.items outer d seen.new) }
 {
     match store.view(term).copy(alloc)? {
         Node::Lam(_, _, body) => {
@@ -277,8 +277,8 @@ fn prune_all<L>(
     alloc: Global,
     types: &mut TypeTable,
     store: &mut Store,
-    cells: &[CellId],
-    flexible: &mut Vec<CellId>,
+    cells: &FlexibleCells,
+    flexible: &mut FlexibleCells,
     names: &[Head],
     terms: &[TermId],
     seen: &mut Seen,
@@ -294,11 +294,11 @@ fn prune_all<L>(
     ensures still { IfOk result (λ lost. lost ≡ false → store.new.cells ≡ store.old.cells) }
     ensures changed { OnOk result ((T : Table) (S : Contents) (F : List CellId) (c : Change (List ℕ)) →
         Changed T S F c types.old store.old flexible.old.items →
-        AreNames T names.now → All (IsFree S) cells.now → (G : List Ty) (A B : Ty) → All (Holds S) terms.now → TakeType (signature T) G (terms_of (map (tree_of T S) terms.now)) A B →
+        AreNames T names.now → All (IsFree S) cells.now.items → (G : List Ty) (A B : Ty) → All (Holds S) terms.now → TakeType (signature T) G (terms_of (map (tree_of T S) terms.now)) A B →
         All (λ t. AllUnbound S (tree_of T S t)) terms.now →
-        (outer : List (tree.Head ℕ)) (depth : ℕ) → map (head_reading T S) names.now ≡ deep depth outer → AllPruned T S cells.now outer c seen.old →
-        let d = pruned_all (codes "x") (map (cell_variable T S) cells.now) (map (head_reading T S) names.now) (terms_of (map (tree_of T S) terms.now)) c in
-        Changed T S F d types.new store.new flexible.new.items × AllPruned T S cells.now outer d seen.new) }
+        (outer : List (tree.Head ℕ)) (depth : ℕ) → map (head_reading T S) names.now ≡ deep depth outer → AllPruned T S cells.now.items outer c seen.old →
+        let d = pruned_all (codes "x") (map (cell_variable T S) cells.now.items) (map (head_reading T S) names.now) (terms_of (map (tree_of T S) terms.now)) c in
+        Changed T S F d types.new store.new flexible.new.items × AllPruned T S cells.now.items outer d seen.new) }
 {
     let mut lost = false;
     for term in terms {

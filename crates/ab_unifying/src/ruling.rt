@@ -20,7 +20,7 @@ ghost use Rattle.ab_unifying.specs.Outcome.{Tells};
 use crate::inverting::invert;
 use crate::joining::join;
 use crate::narrowing::narrow;
-use ab_patterns::{Numbered, has_no_foreign, has_patterns, occurs, pattern};
+use ab_patterns::{FlexibleCells, Numbered, has_no_foreign, has_patterns, occurs, pattern};
 use ab_store::{CellId, Head, Store, TermId};
 use ab_types::{Steps, TypeTable};
 use ab_unify::agreeing;
@@ -65,7 +65,7 @@ pub(crate) fn solve_rigid<L>(
     alloc: Global,
     types: &mut TypeTable,
     store: &mut Store,
-    flexible: &mut Vec<CellId>,
+    flexible: &mut FlexibleCells,
     cell: CellId,
     args: &[TermId],
     term: TermId,
@@ -108,7 +108,7 @@ pub(crate) fn solve_one<L>(
     alloc: Global,
     types: &mut TypeTable,
     store: &mut Store,
-    flexible: &mut Vec<CellId>,
+    flexible: &mut FlexibleCells,
     cell: CellId,
     args: &[TermId],
     more: &[TermId],
@@ -150,7 +150,7 @@ pub(crate) fn solve_two<L>(
     alloc: Global,
     types: &mut TypeTable,
     store: &mut Store,
-    flexible: &mut Vec<CellId>,
+    flexible: &mut FlexibleCells,
     older: CellId,
     args: &[TermId],
     younger: CellId,

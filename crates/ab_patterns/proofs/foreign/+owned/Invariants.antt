@@ -15,6 +15,6 @@ decreases-are_own l = 3 * ids_bound l.ids.now
 
 abbrev pub invariant-are_own-loop-id : goal.invariant-are_own-loop-id
 invariant-are_own-loop-id l = record {
-  own : All (IsOwn l.types l.store l.cells l.names l.depth) (take l.id-index l.ids);
-  seen : AllOwn l.types l.store l.cells l.names l.seen;
+  own : All (IsOwn l.types l.store l.cells.items l.names l.depth) (take l.id-index l.ids);
+  seen : AllOwn l.types l.store l.cells.items l.names l.seen;
 }

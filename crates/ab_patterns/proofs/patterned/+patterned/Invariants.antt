@@ -20,6 +20,6 @@ decreases-are_patterned l = 4 * ids_bound l.ids.now
 abbrev pub invariant-are_patterned-loop-id : goal.invariant-are_patterned-loop-id
 invariant-are_patterned-loop-id l = record {
   adds : AddsTypedTerms l.types l.fn.store l.store;
-  patterned : All (IsPatterned l.types l.fn.store l.cells) (take l.id-index l.ids);
-  seen : AllPatterned l.types l.store l.cells l.seen;
+  patterned : All (IsPatterned l.types l.fn.store l.cells.items) (take l.id-index l.ids);
+  seen : AllPatterned l.types l.store l.cells.items l.seen;
 }

@@ -13,7 +13,7 @@ returns-then-branch-clause-rule c =
     let types = c.args.types.now in
     let store = c.args.store.now in
     let e = equation_of types store c.args.equation in
-    let ys = map (cell_variable types store) c.args.flexible.now in
+    let ys = map (cell_variable types store) c.args.flexible.now.items in
     ap (λ l. Some (parts (map (equation_of types store) l))) c.new.ensures.items
     ∙ at_equal ys e ((true_or_not c.in_ok-are_same.field-0 _ c.in_ok-are_same.ensures).0 c.if-branch.true) (or_else (bodies e.place e.left e.right) (rigid_heads ys e.place e.left e.right))
 
@@ -22,7 +22,7 @@ returns-in-Lam-view-clause-rule c =
     let types = c.args.types.now in
     let store = c.args.store.now in
     let e = equation_of types store c.args.equation in
-    let ys = map (cell_variable types store) c.args.flexible.now in
+    let ys = map (cell_variable types store) c.args.flexible.now.items in
     if_ok c.bodies.result (λ r made.
     at_lams ys e ((true_or_not c.in_ok-are_same.field-0 _ c.in_ok-are_same.ensures).1 c.if-branch.false) _ _ _ _ _ _
     (c.view.ensures.tree types ∙ ap (node_tree types store) c.in-Lam.is) (c.view-in-Lam.ensures.tree types ∙ ap (node_tree types store) c.in-Lam-view.is)
@@ -33,7 +33,7 @@ returns-in-Spine-view-2-clause-rule c =
     let types = c.args.types.now in
     let store = c.args.store.now in
     let e = equation_of types store c.args.equation in
-    let ys = map (cell_variable types store) c.args.flexible.now in
+    let ys = map (cell_variable types store) c.args.flexible.now.items in
     if_ok c.heads.result (λ r made.
     at_spines ys e ((true_or_not c.in_ok-are_same.field-0 _ c.in_ok-are_same.ensures).1 c.if-branch.false) _ _ _ _
     (c.view.ensures.tree types ∙ ap (node_tree types store) c.in-Spine.is) (c.view-in-Spine.ensures.tree types ∙ ap (node_tree types store) c.in-Spine-view-2.is)

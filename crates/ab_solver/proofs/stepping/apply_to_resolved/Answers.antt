@@ -1,5 +1,4 @@
 use Rattle.std.proofs.Common.{◌≡◌, map, Some, refl, sym, ◌∙◌, ap, subst}
-use Rattle.ab_store.specs.Reading.{cell_variable}
 use Rattle.ab_norm.proofs.Frame.{typed_none}
 use Rattle.ab_patterns.specs.Readings.{equation_of, simple_of, HoldsParts}
 use Rattle.ab_solve.specs.Solving.{clash, parts, rule}
@@ -21,8 +20,7 @@ returns-in-Clash-clause-tells g c =
     let ys = variables_read types store F in
     let e = equation_of types store c.args.equation in
     let first : first_rules ys e ≡ Some clash =
-    ap (λ l. first_rules (map (cell_variable types store) l) e) (sym c.deref.ensures.value)
-    ∙ sym c.in_ok-try_simple_rules.ensures.rule
+    sym c.in_ok-try_simple_rules.ensures.rule
     ∙ ap (simple_of types store) c.in-Clash.is in
     tells_clash types store store F c.requires.store c.requires.free (typed_none types store c.requires.store) (rule _ cells ys e) (rule_some cells ys e clash first)
 
@@ -36,8 +34,7 @@ returns-in-Parts-clause-tells g c =
     let e = equation_of types store c.args.equation in
     let ps = c.in-Parts.parts.items in
     let first : first_rules ys e ≡ Some (parts (map (equation_of types store) ps)) =
-    ap (λ l. first_rules (map (cell_variable types store) l) e) (sym c.deref.ensures.value)
-    ∙ sym c.in_ok-try_simple_rules.ensures.rule
+    sym c.in_ok-try_simple_rules.ensures.rule
     ∙ ap (simple_of types store) c.in-Parts.is in
     let fine = parts_fine types store cells ys c.args.equation c.requires.equation
     (resolved_unbound types store c.args.equation.left c.requires.resolved.0)

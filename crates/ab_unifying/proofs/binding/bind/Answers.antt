@@ -16,4 +16,4 @@ returns-clause-changed g c =
       bound = bound;
       free = e.free;
       reads = reads;
-    }) T S F c.args.flexible.now change was listed out) e.reads e.bound
+    }) T S F c.args.flexible.now.items change was listed out) e.reads e.bound

@@ -1,9 +1,9 @@
-use Rattle.std.proofs.Common.{◌≡◌, map, codes, refl, sym, ◌∙◌, ap, subst}
+use Rattle.std.proofs.Common.{◌≡◌, codes, refl, sym, subst}
 use Rattle.std.specs.Prelude.{Contains}
-use Rattle.ab_store.specs.Trees.{tree_of, head_reading}
+use Rattle.ab_store.specs.Trees.{head_reading}
 use Rattle.ab_store.specs.Reading.{cell_variable}
 use Rattle.ab_solve.specs.Solving.{begun}
-use Rattle.ab_solve.specs.Replacing.{without, one}
+use Rattle.ab_solve.specs.Replacing.{without}
 use Rattle.ab_unify.proofs.Narrowed.{are_names}
 use Rattle.ab_unifying.specs.Problem.{cells_read, variables_read}
 use Rattle.ab_unifying.specs.Changed.{Changed, others_than}
@@ -36,6 +36,9 @@ bind-requires-clause-fits g c =
     let fits = c.requires.fits in
     other_fits c.args.types.now c.args.store.now c.applied.new.store e.adds c.args.cell c.args.other c.args.names.now c.args.others.now c.in_ok-term.term e.reads fits.0 fits.1 fits.2 fits.3 c.requires.within
 
+pub returns-in_err-term-clause-grows : goal.returns-in_err-term-clause-grows
+returns-in_err-term-clause-grows g c = grows_terms c.args.types.now c.args.store.now c.applied.new.store c.in_err-term.ensures.adds
+
 pub returns-in_err-bind-clause-grows : goal.returns-in_err-bind-clause-grows
 returns-in_err-bind-clause-grows g c =
     let types = c.args.types.now in
@@ -55,15 +58,11 @@ returns-clause-changed g c =
     let cell = c.args.cell in
     let y = cell_variable types store cell in
     let change = begun (codes "x") (cells_read types store) (variables_read types store F) y in
-    let rest_is : c.deref-2.result.now ≡ others_than cell F = c.deref-2.ensures.value ∙ c.in_ok-rest.ensures ∙ ap (others_than cell) c.deref.ensures.value in
-    let was : Changed types store (others_than cell F) change types middle c.deref-2.result.now =
+    let rest_is : c.in_ok-rest.rest.items ≡ others_than cell F = c.in_ok-rest.ensures in
+    let was : Changed types store (others_than cell F) change types middle c.in_ok-rest.rest.items =
     subst (λ l. Changed types store (others_than cell F) change types middle l) (sym rest_is)
     (changed_on types store (others_than cell F) change types store middle (others_than cell F) (begins types store c.requires.store F c.requires.free cell) c.in_ok-term.ensures.adds) in
     let done = c.in_ok-bind.ensures.changed types store F change was c.requires.listed (λ m. (was_other cell cell F (subst (λ l. Contains l cell) rest_is m)).1 refl) in
     subst (λ p. Changed types store F (record { cells = cells_read types store; flexible = without y (variables_read types store F); pairs = p }) types c.bind.new.store c.in_ok-rest.rest.items)
     (same_pair types store middle c.in_ok-term.ensures.adds cell c.args.other c.args.names.now c.args.others.now c.in_ok-term.term c.in_ok-term.ensures.reads)
-    (subst (λ l. Changed types store F (record {
-      cells = cells_read types store;
-      flexible = without y (variables_read types store F);
-      pairs = one (codes "x") (cell_variable types middle cell) (map (head_reading types middle) c.args.names.now) (tree_of types middle c.in_ok-term.term);
-    }) types c.bind.new.store l) c.deref-2.ensures.value done)
+    done

@@ -7,4 +7,4 @@ abbrev nothing : Contents
 nothing = record { nodes = []; cells = []; bindings = []; room = 0 }
 
 pub returns-then-is_flexible-clause-some : goal.returns-then-is_flexible-clause-some
-returns-then-is_flexible-clause-some c = (c.in-Cell.is, listed_if [] nothing c.args.flexible.now c.in-Cell.cell (sym (c.is_flexible.ensures [] nothing) ∙ c.if-is_flexible.true))
+returns-then-is_flexible-clause-some c = (c.in-Cell.is, listed_if [] nothing c.args.flexible.now.items c.in-Cell.cell (sym (c.is_flexible.ensures [] nothing) ∙ c.if-is_flexible.true))

@@ -1,5 +1,4 @@
 use Rattle.std.proofs.Common.{◌≡◌, map, codes, false, sym, ◌∙◌, ap, subst}
-use Rattle.std.specs.Prelude.{Contains}
 use Rattle.std.proofs.lemmas.List.Elements.{All-weaker}
 use Rattle.ab_term.specs.Types.{kind}
 use Rattle.ab_term.specs.Terms.{variable, spine, terms_of}
@@ -58,7 +57,7 @@ solve_rigid-requires-clause-typed g c =
     let G = typed.0 in
     let z = cell_variable types store c.in-Some-flexible_cell.cell in
     let right_is : tree c.args.right ≡ spine (variable z) us = c.requires.right_is ∙ ap (λ h. spine (read h) us) c.in-Some-flexible_cell.ensures.some.0 in
-    let held_z = contains_holds ys z (Contains-map (cell_variable types store) F c.in-Some-flexible_cell.cell (subst (λ l. Contains l c.in-Some-flexible_cell.cell) c.deref-in-None.ensures.value c.in-Some-flexible_cell.ensures.some.1)) in
+    let held_z = contains_holds ys z (Contains-map (cell_variable types store) F c.in-Some-flexible_cell.cell c.in-Some-flexible_cell.ensures.some.1) in
     let q = spine_args (signature types) G z us typed.1 (subst (λ u. HasType (signature types) G u typed.1) right_is typed.3.1) in
     (G, q.0, q.2, subst (λ C. IsTerm types store G c.args.left C) q.1 typed.2)
 
@@ -79,8 +78,8 @@ returns-in-Some-flexible_cell-clause-tells g c =
     let G = typed.0 in
     let z = cell_variable types store c.in-Some-flexible_cell.cell in
     let right_is : tree c.args.right ≡ spine (variable z) us = c.requires.right_is ∙ ap (λ h. spine (read h) us) c.in-Some-flexible_cell.ensures.some.0 in
-    let held_z = contains_holds ys z (Contains-map (cell_variable types store) F c.in-Some-flexible_cell.cell (subst (λ l. Contains l c.in-Some-flexible_cell.cell) c.deref-in-None.ensures.value c.in-Some-flexible_cell.ensures.some.1)) in
-    let rigid : is_flexible ys (read c.args.head) ≡ false = ap (λ l. is_flexible (map (cell_variable types store) l) (read c.args.head)) (sym c.deref.ensures.value) ∙ c.flexible_cell.ensures.none c.in-None.is types store in
+    let held_z = contains_holds ys z (Contains-map (cell_variable types store) F c.in-Some-flexible_cell.cell c.in-Some-flexible_cell.ensures.some.1) in
+    let rigid : is_flexible ys (read c.args.head) ≡ false = c.flexible_cell.ensures.none c.in-None.is types store in
     let P = pattern z.type us in
     if_ok c.solve_rigid.result (λ r done.
     subst (λ o. Tells types store F c.solve_rigid.new.types c.solve_rigid.new.store c.solve_rigid.new.flexible.items r o)
@@ -123,7 +122,7 @@ solve_rigid-requires-in-None-flexible_cell-2-clause-typed g c =
     let G = typed.0 in
     let y = cell_variable types store c.in-Some.first in
     let left_is : tree c.args.left ≡ spine (variable y) ts = c.requires.left_is ∙ ap (λ h. spine (read h) ts) c.in-Some.ensures.some.0 in
-    let held_y = contains_holds ys y (Contains-map (cell_variable types store) F c.in-Some.first (subst (λ l. Contains l c.in-Some.first) c.deref.ensures.value c.in-Some.ensures.some.1)) in
+    let held_y = contains_holds ys y (Contains-map (cell_variable types store) F c.in-Some.first c.in-Some.ensures.some.1) in
     let r = spine_args (signature types) G y ts typed.1 (subst (λ u. HasType (signature types) G u typed.1) left_is typed.2.1) in
     (G, r.0, r.2, subst (λ C. IsTerm types store G c.args.right C) r.1 typed.3)
 
@@ -144,9 +143,9 @@ returns-in-None-flexible_cell-2-clause-tells g c =
     let G = typed.0 in
     let y = cell_variable types store c.in-Some.first in
     let left_is : tree c.args.left ≡ spine (variable y) ts = c.requires.left_is ∙ ap (λ h. spine (read h) ts) c.in-Some.ensures.some.0 in
-    let held_y = contains_holds ys y (Contains-map (cell_variable types store) F c.in-Some.first (subst (λ l. Contains l c.in-Some.first) c.deref.ensures.value c.in-Some.ensures.some.1)) in
+    let held_y = contains_holds ys y (Contains-map (cell_variable types store) F c.in-Some.first c.in-Some.ensures.some.1) in
     let r = spine_args (signature types) G y ts typed.1 (subst (λ u. HasType (signature types) G u typed.1) left_is typed.2.1) in
-    let rigid : is_flexible ys (read c.args.other) ≡ false = ap (λ l. is_flexible (map (cell_variable types store) l) (read c.args.other)) (sym c.deref-in-Some.ensures.value) ∙ c.flexible_cell-in-Some.ensures.none c.in-None-flexible_cell-2.is types store in
+    let rigid : is_flexible ys (read c.args.other) ≡ false = c.flexible_cell-in-Some.ensures.none c.in-None-flexible_cell-2.is types store in
     let P = pattern y.type ts in
     if_ok c.solve_rigid-in-None-flexible_cell-2.result (λ r done.
     subst (λ o. Tells types store F c.solve_rigid-in-None-flexible_cell-2.new.types c.solve_rigid-in-None-flexible_cell-2.new.store c.solve_rigid-in-None-flexible_cell-2.new.flexible.items r o)
@@ -207,10 +206,10 @@ solve_cells-requires-clause-typed g c =
     let G = typed.0 in
     let y = cell_variable types store c.in-Some.first in
     let left_is : tree c.args.left ≡ spine (variable y) ts = c.requires.left_is ∙ ap (λ h. spine (read h) ts) c.in-Some.ensures.some.0 in
-    let held_y = contains_holds ys y (Contains-map (cell_variable types store) F c.in-Some.first (subst (λ l. Contains l c.in-Some.first) c.deref.ensures.value c.in-Some.ensures.some.1)) in
+    let held_y = contains_holds ys y (Contains-map (cell_variable types store) F c.in-Some.first c.in-Some.ensures.some.1) in
     let r = spine_args (signature types) G y ts typed.1 (subst (λ u. HasType (signature types) G u typed.1) left_is typed.2.1) in
     let z = cell_variable types store c.in-Some-flexible_cell-2.second in
     let right_is : tree c.args.right ≡ spine (variable z) us = c.requires.right_is ∙ ap (λ h. spine (read h) us) c.in-Some-flexible_cell-2.ensures.some.0 in
-    let held_z = contains_holds ys z (Contains-map (cell_variable types store) F c.in-Some-flexible_cell-2.second (subst (λ l. Contains l c.in-Some-flexible_cell-2.second) c.deref-in-Some.ensures.value c.in-Some-flexible_cell-2.ensures.some.1)) in
+    let held_z = contains_holds ys z (Contains-map (cell_variable types store) F c.in-Some-flexible_cell-2.second c.in-Some-flexible_cell-2.ensures.some.1) in
     let q = spine_args (signature types) G z us (kind r.0) (subst (λ C. HasType (signature types) G (spine (variable z) us) C) r.1 (subst (λ u. HasType (signature types) G u typed.1) right_is typed.3.1)) in
     (G, r.0, r.2, subst (λ C. TakeType (signature types) G us z.type C) (sym q.1) q.2)

@@ -44,7 +44,7 @@ prune-requires-clause-free g c =
     let ys = variables_read types store F in
     let start = begun (codes "x") cells ys y in
     let after = pruned (codes "x") ys hs t start in
-    let rest_is : c.in_ok-rest.rest.items ≡ others_than cell F = c.in_ok-rest.ensures ∙ ap (others_than cell) c.deref.ensures.value in
+    let rest_is : c.in_ok-rest.rest.items ≡ others_than cell F = c.in_ok-rest.ensures in
     subst (All (IsFree store)) (sym rest_is) (all_others (IsFree store) cell F c.requires.free)
 
 pub returns-in_err-plain-clause-grows : goal.returns-in_err-plain-clause-grows
@@ -69,14 +69,13 @@ bind-requires-clause-cell g c =
     let ys = variables_read types store F in
     let start = begun (codes "x") cells ys y in
     let after = pruned (codes "x") ys hs t start in
-    let rest_is : c.in_ok-rest.rest.items ≡ others_than cell F = c.in_ok-rest.ensures ∙ ap (others_than cell) c.deref.ensures.value in
+    let rest_is : c.in_ok-rest.rest.items ≡ others_than cell F = c.in_ok-rest.ensures in
     let more = c.prune.new.types in
     let middle = c.prune.new.store in
     let held : IsFree store cell = All-contains (IsFree store) F cell c.requires.free c.requires.listed in
     let was0 : Changed types store (others_than cell F) start types store c.in_ok-rest.rest.items = subst (λ l. Changed types store (others_than cell F) start types store l) (sym rest_is) (begins types store c.requires.store F c.requires.free cell) in
     let was1 : Changed types store (others_than cell F) after more middle c.prune.new.flexible.items =
-    subst (λ l. Changed types store (others_than cell F) (pruned (codes "x") (map (cell_variable types store) l) hs t start) more middle c.prune.new.flexible.items) c.deref-2.ensures.value
-    (c.in_ok-prune.ensures.changed types store (others_than cell F) start was0 c.requires.names (subst (All (IsFree store)) (sym c.deref-2.ensures.value) c.requires.free) fits.0 (kind fits.1) fits.5 (resolved_unbound types store term c.requires.resolved) hs 0 refl (none_seen types store c.deref-2.result.now hs start c.new-seen.result c.new-seen.ensures)).0 in
+    (c.in_ok-prune.ensures.changed types store (others_than cell F) start was0 c.requires.names c.requires.free fits.0 (kind fits.1) fits.5 (resolved_unbound types store term c.requires.resolved) hs 0 refl (none_seen types store F hs start c.new-seen.result c.new-seen.ensures)).0 in
     let apart = was1.others cell held (λ q. (was_other cell cell F q).1 refl) in
     let next = c.copy_resolved.new.store in
     let adds = typed_terms more middle next was1.grows.typed c.in_ok-plain.ensures.adds in
@@ -111,14 +110,13 @@ bind-requires-clause-apart g c =
     let ys = variables_read types store F in
     let start = begun (codes "x") cells ys y in
     let after = pruned (codes "x") ys hs t start in
-    let rest_is : c.in_ok-rest.rest.items ≡ others_than cell F = c.in_ok-rest.ensures ∙ ap (others_than cell) c.deref.ensures.value in
+    let rest_is : c.in_ok-rest.rest.items ≡ others_than cell F = c.in_ok-rest.ensures in
     let more = c.prune.new.types in
     let middle = c.prune.new.store in
     let held : IsFree store cell = All-contains (IsFree store) F cell c.requires.free c.requires.listed in
     let was0 : Changed types store (others_than cell F) start types store c.in_ok-rest.rest.items = subst (λ l. Changed types store (others_than cell F) start types store l) (sym rest_is) (begins types store c.requires.store F c.requires.free cell) in
     let was1 : Changed types store (others_than cell F) after more middle c.prune.new.flexible.items =
-    subst (λ l. Changed types store (others_than cell F) (pruned (codes "x") (map (cell_variable types store) l) hs t start) more middle c.prune.new.flexible.items) c.deref-2.ensures.value
-    (c.in_ok-prune.ensures.changed types store (others_than cell F) start was0 c.requires.names (subst (All (IsFree store)) (sym c.deref-2.ensures.value) c.requires.free) fits.0 (kind fits.1) fits.5 (resolved_unbound types store term c.requires.resolved) hs 0 refl (none_seen types store c.deref-2.result.now hs start c.new-seen.result c.new-seen.ensures)).0 in
+    (c.in_ok-prune.ensures.changed types store (others_than cell F) start was0 c.requires.names c.requires.free fits.0 (kind fits.1) fits.5 (resolved_unbound types store term c.requires.resolved) hs 0 refl (none_seen types store F hs start c.new-seen.result c.new-seen.ensures)).0 in
     let apart = was1.others cell held (λ q. (was_other cell cell F q).1 refl) in
     let next = c.copy_resolved.new.store in
     let adds = typed_terms more middle next was1.grows.typed c.in_ok-plain.ensures.adds in
@@ -152,14 +150,13 @@ bind-requires-clause-fits g c =
     let ys = variables_read types store F in
     let start = begun (codes "x") cells ys y in
     let after = pruned (codes "x") ys hs t start in
-    let rest_is : c.in_ok-rest.rest.items ≡ others_than cell F = c.in_ok-rest.ensures ∙ ap (others_than cell) c.deref.ensures.value in
+    let rest_is : c.in_ok-rest.rest.items ≡ others_than cell F = c.in_ok-rest.ensures in
     let more = c.prune.new.types in
     let middle = c.prune.new.store in
     let held : IsFree store cell = All-contains (IsFree store) F cell c.requires.free c.requires.listed in
     let was0 : Changed types store (others_than cell F) start types store c.in_ok-rest.rest.items = subst (λ l. Changed types store (others_than cell F) start types store l) (sym rest_is) (begins types store c.requires.store F c.requires.free cell) in
     let was1 : Changed types store (others_than cell F) after more middle c.prune.new.flexible.items =
-    subst (λ l. Changed types store (others_than cell F) (pruned (codes "x") (map (cell_variable types store) l) hs t start) more middle c.prune.new.flexible.items) c.deref-2.ensures.value
-    (c.in_ok-prune.ensures.changed types store (others_than cell F) start was0 c.requires.names (subst (All (IsFree store)) (sym c.deref-2.ensures.value) c.requires.free) fits.0 (kind fits.1) fits.5 (resolved_unbound types store term c.requires.resolved) hs 0 refl (none_seen types store c.deref-2.result.now hs start c.new-seen.result c.new-seen.ensures)).0 in
+    (c.in_ok-prune.ensures.changed types store (others_than cell F) start was0 c.requires.names c.requires.free fits.0 (kind fits.1) fits.5 (resolved_unbound types store term c.requires.resolved) hs 0 refl (none_seen types store F hs start c.new-seen.result c.new-seen.ensures)).0 in
     let apart = was1.others cell held (λ q. (was_other cell cell F q).1 refl) in
     let next = c.copy_resolved.new.store in
     let adds = typed_terms more middle next was1.grows.typed c.in_ok-plain.ensures.adds in
@@ -203,14 +200,13 @@ returns-clause-changed g c =
     let ys = variables_read types store F in
     let start = begun (codes "x") cells ys y in
     let after = pruned (codes "x") ys hs t start in
-    let rest_is : c.in_ok-rest.rest.items ≡ others_than cell F = c.in_ok-rest.ensures ∙ ap (others_than cell) c.deref.ensures.value in
+    let rest_is : c.in_ok-rest.rest.items ≡ others_than cell F = c.in_ok-rest.ensures in
     let more = c.prune.new.types in
     let middle = c.prune.new.store in
     let held : IsFree store cell = All-contains (IsFree store) F cell c.requires.free c.requires.listed in
     let was0 : Changed types store (others_than cell F) start types store c.in_ok-rest.rest.items = subst (λ l. Changed types store (others_than cell F) start types store l) (sym rest_is) (begins types store c.requires.store F c.requires.free cell) in
     let was1 : Changed types store (others_than cell F) after more middle c.prune.new.flexible.items =
-    subst (λ l. Changed types store (others_than cell F) (pruned (codes "x") (map (cell_variable types store) l) hs t start) more middle c.prune.new.flexible.items) c.deref-2.ensures.value
-    (c.in_ok-prune.ensures.changed types store (others_than cell F) start was0 c.requires.names (subst (All (IsFree store)) (sym c.deref-2.ensures.value) c.requires.free) fits.0 (kind fits.1) fits.5 (resolved_unbound types store term c.requires.resolved) hs 0 refl (none_seen types store c.deref-2.result.now hs start c.new-seen.result c.new-seen.ensures)).0 in
+    (c.in_ok-prune.ensures.changed types store (others_than cell F) start was0 c.requires.names c.requires.free fits.0 (kind fits.1) fits.5 (resolved_unbound types store term c.requires.resolved) hs 0 refl (none_seen types store F hs start c.new-seen.result c.new-seen.ensures)).0 in
     let apart = was1.others cell held (λ q. (was_other cell cell F q).1 refl) in
     let next = c.copy_resolved.new.store in
     let adds = typed_terms more middle next was1.grows.typed c.in_ok-plain.ensures.adds in
@@ -222,12 +218,12 @@ returns-clause-changed g c =
     let same_y = grown_variable types more store next whole c.requires.store cell held.0 in
     let parts = solved_parts (signature types) cells ys (known_cells types store F c.requires.free) fits.0 fits.1 y fits.2 hs t
     (contains_holds ys y (Contains-map (cell_variable types store) F cell c.requires.listed)) (is_pattern y.type fits.2 hs fits.3) fits.4 fits.5.1 c.requires.patterns c.requires.absent c.requires.own in
-    let was2 : Changed types store (others_than cell F) after more next c.deref-3.result.now = subst (λ l. Changed types store (others_than cell F) after more next l) (sym c.deref-3.ensures.value) (changed_on types store (others_than cell F) after more middle next c.prune.new.flexible.items was1 adds) in
-    let out : ¬ Contains c.deref-3.result.now cell = (was2.others cell held (λ q. (was_other cell cell F q).1 refl)).1 in
+    let was2 : Changed types store (others_than cell F) after more next c.prune.new.flexible.items = changed_on types store (others_than cell F) after more middle next c.prune.new.flexible.items was1 adds in
+    let out : ¬ Contains c.prune.new.flexible.items cell = (was2.others cell held (λ q. (was_other cell cell F q).1 refl)).1 in
     let pair = solve.one (codes "x") (cell_variable more next cell) (map (head_reading more next) names) (tree_of more next plain) in
-    let done : Changed types store F (record { cells = after.cells; flexible = after.flexible; pairs = composition same_number after.pairs pair }) more c.bind.new.store c.deref-3.result.now = c.in_ok-bind.ensures.changed types store F after was2 c.requires.listed out in
+    let done : Changed types store F (record { cells = after.cells; flexible = after.flexible; pairs = composition same_number after.pairs pair }) more c.bind.new.store c.prune.new.flexible.items = c.in_ok-bind.ensures.changed types store F after was2 c.requires.listed out in
     subst (λ p. Changed types store F (record { cells = after.cells; flexible = after.flexible; pairs = composition same_number after.pairs p }) more c.bind.new.store c.prune.new.flexible.items)
     (ap (λ v. solve.one (codes "x") v (map (head_reading more next) names) (tree_of more next plain)) same_y
     ∙ ap (λ l. solve.one (codes "x") y l (tree_of more next plain)) named
     ∙ ap (λ v. solve.one (codes "x") y hs v) is)
-    (subst (λ l. Changed types store F (record { cells = after.cells; flexible = after.flexible; pairs = composition same_number after.pairs pair }) more c.bind.new.store l) c.deref-3.ensures.value done)
+    done

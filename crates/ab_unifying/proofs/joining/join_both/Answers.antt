@@ -36,7 +36,7 @@ narrow-requires-clause-listed g c =
     let names = c.args.names.now in
     let others = c.args.others.now in
     let keep = c.args.keep.now in
-    let rest_is : c.in_ok-rest.rest.items ≡ others_than younger F = c.in_ok-rest.ensures ∙ ap (others_than younger) c.deref.ensures.value in
+    let rest_is : c.in_ok-rest.rest.items ≡ others_than younger F = c.in_ok-rest.ensures in
     subst (λ l. Contains l older) (sym rest_is) (still_other younger older F (λ e. c.requires.differ (same_cell older younger e)) c.requires.older_listed)
 
 pub narrow-requires-clause-free : goal.narrow-requires-clause-free
@@ -49,7 +49,7 @@ narrow-requires-clause-free g c =
     let names = c.args.names.now in
     let others = c.args.others.now in
     let keep = c.args.keep.now in
-    let rest_is : c.in_ok-rest.rest.items ≡ others_than younger F = c.in_ok-rest.ensures ∙ ap (others_than younger) c.deref.ensures.value in
+    let rest_is : c.in_ok-rest.rest.items ≡ others_than younger F = c.in_ok-rest.ensures in
     subst (All (IsFree store)) (sym rest_is) (all_others (IsFree store) younger F c.requires.free)
 
 pub applied-requires-clause-names : goal.applied-requires-clause-names
@@ -66,8 +66,8 @@ applied-requires-clause-names g c =
     let middle = c.narrow.new.store in
     let made = c.in_ok-made.made in
     let part = c.in_ok-made.ensures.grows.table in
-    let left = c.deref-2.result.now in
-    let which : left ≡ kept keep names = c.deref-2.ensures.value ∙ c.in_ok-keep_heads.ensures ∙ ap (λ l. l ++ kept keep names) c.new-left.ensures.items in
+    let left = c.deref.result.now in
+    let which : left ≡ kept keep names = c.deref.ensures.value ∙ c.in_ok-keep_heads.ensures ∙ ap (λ l. l ++ kept keep names) c.new-left.ensures.items in
     subst (All (HoldsHead middle)) (sym which) (held_names more middle (kept keep names) (kept_are_names more keep names (names_more types more part names c.requires.names)))
 
 pub applied-requires-clause-typed_names : goal.applied-requires-clause-typed_names
@@ -84,8 +84,8 @@ applied-requires-clause-typed_names g c =
     let middle = c.narrow.new.store in
     let made = c.in_ok-made.made in
     let part = c.in_ok-made.ensures.grows.table in
-    let left = c.deref-2.result.now in
-    let which : left ≡ kept keep names = c.deref-2.ensures.value ∙ c.in_ok-keep_heads.ensures ∙ ap (λ l. l ++ kept keep names) c.new-left.ensures.items in
+    let left = c.deref.result.now in
+    let which : left ≡ kept keep names = c.deref.ensures.value ∙ c.in_ok-keep_heads.ensures ∙ ap (λ l. l ++ kept keep names) c.new-left.ensures.items in
     subst (All (HeadIsTyped more)) (sym which) (typed_names more (kept keep names) (kept_are_names more keep names (names_more types more part names c.requires.names)))
 
 pub returns-in_err-term-clause-grows : goal.returns-in_err-term-clause-grows
@@ -126,8 +126,8 @@ bind-requires-clause-resolved g c =
     let middle = c.narrow.new.store in
     let made = c.in_ok-made.made in
     let part = c.in_ok-made.ensures.grows.table in
-    let left = c.deref-2.result.now in
-    let which : left ≡ kept keep names = c.deref-2.ensures.value ∙ c.in_ok-keep_heads.ensures ∙ ap (λ l. l ++ kept keep names) c.new-left.ensures.items in
+    let left = c.deref.result.now in
+    let which : left ≡ kept keep names = c.deref.ensures.value ∙ c.in_ok-keep_heads.ensures ∙ ap (λ l. l ++ kept keep names) c.new-left.ensures.items in
     let next = c.applied.new.store in
     let adds = c.in_ok-term.ensures.adds in
     let is = c.in_ok-term.ensures.reads in
@@ -149,8 +149,8 @@ bind-requires-clause-apart g c =
     let middle = c.narrow.new.store in
     let made = c.in_ok-made.made in
     let part = c.in_ok-made.ensures.grows.table in
-    let left = c.deref-2.result.now in
-    let which : left ≡ kept keep names = c.deref-2.ensures.value ∙ c.in_ok-keep_heads.ensures ∙ ap (λ l. l ++ kept keep names) c.new-left.ensures.items in
+    let left = c.deref.result.now in
+    let which : left ≡ kept keep names = c.deref.ensures.value ∙ c.in_ok-keep_heads.ensures ∙ ap (λ l. l ++ kept keep names) c.new-left.ensures.items in
     let next = c.applied.new.store in
     let adds = c.in_ok-term.ensures.adds in
     let is = c.in_ok-term.ensures.reads in
@@ -174,8 +174,8 @@ bind-requires-clause-fits g c =
     let middle = c.narrow.new.store in
     let made = c.in_ok-made.made in
     let part = c.in_ok-made.ensures.grows.table in
-    let left = c.deref-2.result.now in
-    let which : left ≡ kept keep names = c.deref-2.ensures.value ∙ c.in_ok-keep_heads.ensures ∙ ap (λ l. l ++ kept keep names) c.new-left.ensures.items in
+    let left = c.deref.result.now in
+    let which : left ≡ kept keep names = c.deref.ensures.value ∙ c.in_ok-keep_heads.ensures ∙ ap (λ l. l ++ kept keep names) c.new-left.ensures.items in
     let next = c.applied.new.store in
     let adds = c.in_ok-term.ensures.adds in
     let is = c.in_ok-term.ensures.reads in
@@ -203,8 +203,8 @@ returns-in_err-bind-clause-grows g c =
     let middle = c.narrow.new.store in
     let made = c.in_ok-made.made in
     let part = c.in_ok-made.ensures.grows.table in
-    let left = c.deref-2.result.now in
-    let which : left ≡ kept keep names = c.deref-2.ensures.value ∙ c.in_ok-keep_heads.ensures ∙ ap (λ l. l ++ kept keep names) c.new-left.ensures.items in
+    let left = c.deref.result.now in
+    let which : left ≡ kept keep names = c.deref.ensures.value ∙ c.in_ok-keep_heads.ensures ∙ ap (λ l. l ++ kept keep names) c.new-left.ensures.items in
     let next = c.applied.new.store in
     let adds = c.in_ok-term.ensures.adds in
     let is = c.in_ok-term.ensures.reads in
@@ -225,8 +225,8 @@ returns-clause-grows g c =
     let middle = c.narrow.new.store in
     let made = c.in_ok-made.made in
     let part = c.in_ok-made.ensures.grows.table in
-    let left = c.deref-2.result.now in
-    let which : left ≡ kept keep names = c.deref-2.ensures.value ∙ c.in_ok-keep_heads.ensures ∙ ap (λ l. l ++ kept keep names) c.new-left.ensures.items in
+    let left = c.deref.result.now in
+    let which : left ≡ kept keep names = c.deref.ensures.value ∙ c.in_ok-keep_heads.ensures ∙ ap (λ l. l ++ kept keep names) c.new-left.ensures.items in
     let next = c.applied.new.store in
     let adds = c.in_ok-term.ensures.adds in
     let is = c.in_ok-term.ensures.reads in
@@ -243,13 +243,13 @@ returns-clause-changed g c =
     let names = c.args.names.now in
     let others = c.args.others.now in
     let keep = c.args.keep.now in
-    let rest_is : c.in_ok-rest.rest.items ≡ others_than younger F = c.in_ok-rest.ensures ∙ ap (others_than younger) c.deref.ensures.value in
+    let rest_is : c.in_ok-rest.rest.items ≡ others_than younger F = c.in_ok-rest.ensures in
     let more = c.narrow.new.types in
     let middle = c.narrow.new.store in
     let made = c.in_ok-made.made in
     let part = c.in_ok-made.ensures.grows.table in
-    let left = c.deref-2.result.now in
-    let which : left ≡ kept keep names = c.deref-2.ensures.value ∙ c.in_ok-keep_heads.ensures ∙ ap (λ l. l ++ kept keep names) c.new-left.ensures.items in
+    let left = c.deref.result.now in
+    let which : left ≡ kept keep names = c.deref.ensures.value ∙ c.in_ok-keep_heads.ensures ∙ ap (λ l. l ++ kept keep names) c.new-left.ensures.items in
     let next = c.applied.new.store in
     let adds = c.in_ok-term.ensures.adds in
     let is = c.in_ok-term.ensures.reads in
@@ -266,10 +266,10 @@ returns-clause-changed g c =
     let first = narrowed (codes "x") y hs keep start in
     let was0 : Changed types store (others_than younger F) start types store c.in_ok-rest.rest.items = subst (λ l. Changed types store (others_than younger F) start types store l) (sym rest_is) (begins types store c.requires.store F c.requires.free younger) in
     let was1 = c.in_ok-made.ensures.changed types store (others_than younger F) start was0 in
-    let was2 : Changed types store (others_than younger F) first more next c.deref-3.result.now = subst (λ l. Changed types store (others_than younger F) first more next l) (sym c.deref-3.ensures.value) (changed_on types store (others_than younger F) first more middle next c.narrow.new.flexible.items was1 adds) in
-    let out : ¬ Contains c.deref-3.result.now younger = (was2.others younger held (λ q. (was_other younger younger F q).1 refl)).1 in
+    let was2 : Changed types store (others_than younger F) first more next c.narrow.new.flexible.items = changed_on types store (others_than younger F) first more middle next c.narrow.new.flexible.items was1 adds in
+    let out : ¬ Contains c.narrow.new.flexible.items younger = (was2.others younger held (λ q. (was_other younger younger F q).1 refl)).1 in
     let pair = solve.one (codes "x") (cell_variable more next younger) (map (head_reading more next) others) (tree_of more next term) in
-    let done : Changed types store F (record { cells = first.cells; flexible = first.flexible; pairs = composition same_number first.pairs pair }) more c.bind.new.store c.deref-3.result.now = c.in_ok-bind.ensures.changed types store F first was2 c.requires.younger_listed out in
+    let done : Changed types store F (record { cells = first.cells; flexible = first.flexible; pairs = composition same_number first.pairs pair }) more c.bind.new.store c.narrow.new.flexible.items = c.in_ok-bind.ensures.changed types store F first was2 c.requires.younger_listed out in
     let low : z.name < length cells = subst (λ n. younger.0 < n) (sym (map_length (cell_read types) store.cells)) held.0 in
     subst (λ d. Changed types store F d more c.bind.new.store c.narrow.new.flexible.items)
     (ap (λ p. record { cells = first.cells; flexible = first.flexible; pairs = composition same_number first.pairs p })
@@ -281,4 +281,4 @@ returns-clause-changed g c =
       pairs = composition same_number (narrowed (codes "x") y hs k start).pairs (solve.one (codes "x") z gs (applied (codes "x") (next_variable (codes "x") cells (kept_type k y.type)) (kept k hs)));
     }) c.requires.keep
     ∙ joined_is cells ys y z hs gs (kept_read_names types store (map (among gs) hs) names c.requires.names) low)
-    (subst (λ l. Changed types store F (record { cells = first.cells; flexible = first.flexible; pairs = composition same_number first.pairs pair }) more c.bind.new.store l) c.deref-3.ensures.value done)
+    done

@@ -30,8 +30,7 @@ prune_cell-requires-clause-listed g c =
     let tree_is : tree c.args.term ≡ spine (variable y) (terms_of (map tree args)) =
     c.view.ensures.tree types ∙ ap (node_tree types store) node ∙ ap (λ h. spine (head_reading types store h) (terms_of (map tree args))) c.in-Cell.is in
     let held : holds (map (cell_variable types store) c.args.flexible.now.items) y ≡ true =
-    ap (λ l. holds (map (cell_variable types store) l) y) (sym c.deref.ensures.value)
-    ∙ sym (c.is_flexible.ensures types store) ∙ c.if-is_flexible.true in
+    sym (c.is_flexible.ensures types store) ∙ c.if-is_flexible.true in
     listed_if types store c.args.flexible.now.items cell held
 
 pub prune_cell-requires-clause-resolved : goal.prune_cell-requires-clause-resolved
@@ -76,8 +75,7 @@ returns-then-is_flexible-clause-changed g c =
     let tree_is : tree c.args.term ≡ spine (variable y) (terms_of (map tree args)) =
     c.view.ensures.tree types ∙ ap (node_tree types store) node ∙ ap (λ h. spine (head_reading types store h) (terms_of (map tree args))) c.in-Cell.is in
     let held : holds (map (cell_variable types store) c.args.flexible.now.items) y ≡ true =
-    ap (λ l. holds (map (cell_variable types store) l) y) (sym c.deref.ensures.value)
-    ∙ sym (c.is_flexible.ensures types store) ∙ c.if-is_flexible.true in
+    sym (c.is_flexible.ensures types store) ∙ c.if-is_flexible.true in
     let hs = map (head_reading types store) c.args.names.now in
     let A = type_of types (cell_of store cell).ty in
     on_ok_weaker c.prune_cell.result (λ done T S F change was.

@@ -81,7 +81,6 @@ returns-then-not-branch-clause-grows g c =
     let rule = pattern_of (codes "x") cells ys y t in
     let patterns : c.in_ok-has_patterns-in-Some.field-0 ≡ has_patterns ys t =
     c.in_ok-has_patterns-in-Some.ensures.reads
-    ∙ ap (λ l. has_patterns (variables_read types middle l) (tree_of types middle term)) c.deref.ensures.value
     ∙ ap (λ l. has_patterns l (tree_of types middle term)) (same_variables types store middle adds1.cells F)
     ∙ ap (has_patterns ys) (adds1.before.trees types term held) in
     grows_terms types store next adds
@@ -111,7 +110,6 @@ returns-then-not-branch-clause-tells g c =
     let rule = pattern_of (codes "x") cells ys y t in
     let patterns : c.in_ok-has_patterns-in-Some.field-0 ≡ has_patterns ys t =
     c.in_ok-has_patterns-in-Some.ensures.reads
-    ∙ ap (λ l. has_patterns (variables_read types middle l) (tree_of types middle term)) c.deref.ensures.value
     ∙ ap (λ l. has_patterns l (tree_of types middle term)) (same_variables types store middle adds1.cells F)
     ∙ ap (has_patterns ys) (adds1.before.trees types term held) in
     tells_none types store next F c.requires.store c.requires.free adds (rule (pattern A ts)) (sym (ap rule found) ∙ no_patterns cells ys y hs t (sym patterns ∙ c.if-not-branch.true))
@@ -141,7 +139,6 @@ returns-in_err-occurs-in-Some-clause-grows g c =
     let rule = pattern_of (codes "x") cells ys y t in
     let patterns : c.in_ok-has_patterns-in-Some.field-0 ≡ has_patterns ys t =
     c.in_ok-has_patterns-in-Some.ensures.reads
-    ∙ ap (λ l. has_patterns (variables_read types middle l) (tree_of types middle term)) c.deref.ensures.value
     ∙ ap (λ l. has_patterns l (tree_of types middle term)) (same_variables types store middle adds1.cells F)
     ∙ ap (has_patterns ys) (adds1.before.trees types term held) in
     grows_terms types store next adds
@@ -171,7 +168,6 @@ returns-then-branch-clause-grows g c =
     let rule = pattern_of (codes "x") cells ys y t in
     let patterns : c.in_ok-has_patterns-in-Some.field-0 ≡ has_patterns ys t =
     c.in_ok-has_patterns-in-Some.ensures.reads
-    ∙ ap (λ l. has_patterns (variables_read types middle l) (tree_of types middle term)) c.deref.ensures.value
     ∙ ap (λ l. has_patterns l (tree_of types middle term)) (same_variables types store middle adds1.cells F)
     ∙ ap (has_patterns ys) (adds1.before.trees types term held) in
     grows_terms types store next adds
@@ -201,7 +197,6 @@ returns-then-branch-clause-tells g c =
     let rule = pattern_of (codes "x") cells ys y t in
     let patterns : c.in_ok-has_patterns-in-Some.field-0 ≡ has_patterns ys t =
     c.in_ok-has_patterns-in-Some.ensures.reads
-    ∙ ap (λ l. has_patterns (variables_read types middle l) (tree_of types middle term)) c.deref.ensures.value
     ∙ ap (λ l. has_patterns l (tree_of types middle term)) (same_variables types store middle adds1.cells F)
     ∙ ap (has_patterns ys) (adds1.before.trees types term held) in
     let there : c.in_ok-occurs-in-Some.field-0 ≡ occurs y t =
@@ -235,7 +230,6 @@ returns-in_err-has_no_foreign-in-Some-clause-grows g c =
     let rule = pattern_of (codes "x") cells ys y t in
     let patterns : c.in_ok-has_patterns-in-Some.field-0 ≡ has_patterns ys t =
     c.in_ok-has_patterns-in-Some.ensures.reads
-    ∙ ap (λ l. has_patterns (variables_read types middle l) (tree_of types middle term)) c.deref.ensures.value
     ∙ ap (λ l. has_patterns l (tree_of types middle term)) (same_variables types store middle adds1.cells F)
     ∙ ap (has_patterns ys) (adds1.before.trees types term held) in
     grows_terms types store next adds
@@ -265,7 +259,6 @@ returns-then-not-branch-2-clause-grows g c =
     let rule = pattern_of (codes "x") cells ys y t in
     let patterns : c.in_ok-has_patterns-in-Some.field-0 ≡ has_patterns ys t =
     c.in_ok-has_patterns-in-Some.ensures.reads
-    ∙ ap (λ l. has_patterns (variables_read types middle l) (tree_of types middle term)) c.deref.ensures.value
     ∙ ap (λ l. has_patterns l (tree_of types middle term)) (same_variables types store middle adds1.cells F)
     ∙ ap (has_patterns ys) (adds1.before.trees types term held) in
     grows_terms types store next adds
@@ -295,7 +288,6 @@ returns-then-not-branch-2-clause-tells g c =
     let rule = pattern_of (codes "x") cells ys y t in
     let patterns : c.in_ok-has_patterns-in-Some.field-0 ≡ has_patterns ys t =
     c.in_ok-has_patterns-in-Some.ensures.reads
-    ∙ ap (λ l. has_patterns (variables_read types middle l) (tree_of types middle term)) c.deref.ensures.value
     ∙ ap (λ l. has_patterns l (tree_of types middle term)) (same_variables types store middle adds1.cells F)
     ∙ ap (has_patterns ys) (adds1.before.trees types term held) in
     let there : c.in_ok-occurs-in-Some.field-0 ≡ occurs y t =
@@ -304,9 +296,8 @@ returns-then-not-branch-2-clause-tells g c =
     ∙ ap (occurs y) (adds.before.trees types term held) in
     let own : c.in_ok-has_no_foreign-in-Some.field-0 ≡ no_foreign ys hs t =
     c.in_ok-has_no_foreign-in-Some.ensures
-    ∙ ap (λ l. no_foreign (variables_read types next l) (map (head_reading types next) c.deref-in-Some-2.result.now) (tree_of types next term)) c.deref-in-Some.ensures.value
-    ∙ ap (λ l. no_foreign l (map (head_reading types next) c.deref-in-Some-2.result.now) (tree_of types next term)) (same_variables types store next adds.cells F)
-    ∙ ap (λ l. no_foreign ys l (tree_of types next term)) (ap (map (head_reading types next)) c.deref-in-Some-2.ensures.value ∙ same_heads types store next adds.cells names)
+    ∙ ap (λ l. no_foreign l (map (head_reading types next) c.deref.result.now) (tree_of types next term)) (same_variables types store next adds.cells F)
+    ∙ ap (λ l. no_foreign ys l (tree_of types next term)) (ap (map (head_reading types next)) c.deref.ensures.value ∙ same_heads types store next adds.cells names)
     ∙ ap (no_foreign ys hs) (adds.before.trees types term held) in
     tells_clash types store next F c.requires.store c.requires.free adds (rule (pattern A ts)) (sym (ap rule found) ∙ is_foreign cells ys y hs t (sym patterns ∙ c.if-not-branch.false) (sym there ∙ c.if-branch.false) (sym own ∙ c.if-not-branch-2.true))
 
@@ -335,14 +326,13 @@ invert-requires-clause-fits g c =
     let rule = pattern_of (codes "x") cells ys y t in
     let patterns : c.in_ok-has_patterns-in-Some.field-0 ≡ has_patterns ys t =
     c.in_ok-has_patterns-in-Some.ensures.reads
-    ∙ ap (λ l. has_patterns (variables_read types middle l) (tree_of types middle term)) c.deref.ensures.value
     ∙ ap (λ l. has_patterns l (tree_of types middle term)) (same_variables types store middle adds1.cells F)
     ∙ ap (has_patterns ys) (adds1.before.trees types term held) in
     let typed = c.requires.typed in
     let is : IsTerm types next typed.0 term (kind typed.1) = grown_term types types store next (grows_terms types store next adds) typed.0 term (kind typed.1) typed.3 in
     let takes : TakeType (signature types) typed.0 ts (type_of types (cell_of next cell).ty) (kind typed.1) = subst (λ cs. TakeType (signature types) typed.0 ts (type_of types (cell_in cs cell).ty) (kind typed.1)) (sym adds.cells) typed.2 in
-    let again : pattern (type_of types (cell_of next cell).ty) ts ≡ Some (map (head_reading types next) c.deref-in-Some-3.result.now) =
-    ap (λ cs. pattern (type_of types (cell_in cs cell).ty) ts) adds.cells ∙ sym found ∙ ap Some (sym (ap (map (head_reading types next)) c.deref-in-Some-3.ensures.value ∙ same_heads types store next adds.cells names)) in
+    let again : pattern (type_of types (cell_of next cell).ty) ts ≡ Some (map (head_reading types next) c.deref-in-Some.result.now) =
+    ap (λ cs. pattern (type_of types (cell_in cs cell).ty) ts) adds.cells ∙ sym found ∙ ap Some (sym (ap (map (head_reading types next)) c.deref-in-Some.ensures.value ∙ same_heads types store next adds.cells names)) in
     (typed.0, typed.1, ts, again, takes, is)
 
 pub returns-in_err-invert-in-Some-clause-grows : goal.returns-in_err-invert-in-Some-clause-grows
@@ -370,7 +360,6 @@ returns-in_err-invert-in-Some-clause-grows g c =
     let rule = pattern_of (codes "x") cells ys y t in
     let patterns : c.in_ok-has_patterns-in-Some.field-0 ≡ has_patterns ys t =
     c.in_ok-has_patterns-in-Some.ensures.reads
-    ∙ ap (λ l. has_patterns (variables_read types middle l) (tree_of types middle term)) c.deref.ensures.value
     ∙ ap (λ l. has_patterns l (tree_of types middle term)) (same_variables types store middle adds1.cells F)
     ∙ ap (has_patterns ys) (adds1.before.trees types term held) in
     grows_on types types c.invert.new.types store next c.invert.new.store (grows_terms types store next adds) c.in_err-invert-in-Some.ensures.grows
@@ -437,7 +426,6 @@ returns-in_ok-invert-in-Some-clause-grows g c =
     let rule = pattern_of (codes "x") cells ys y t in
     let patterns : c.in_ok-has_patterns-in-Some.field-0 ≡ has_patterns ys t =
     c.in_ok-has_patterns-in-Some.ensures.reads
-    ∙ ap (λ l. has_patterns (variables_read types middle l) (tree_of types middle term)) c.deref.ensures.value
     ∙ ap (λ l. has_patterns l (tree_of types middle term)) (same_variables types store middle adds1.cells F)
     ∙ ap (has_patterns ys) (adds1.before.trees types term held) in
     grows_on types types c.invert.new.types store next c.invert.new.store (grows_terms types store next adds) c.in_ok-invert-in-Some.ensures.grows
@@ -467,7 +455,6 @@ returns-in_ok-invert-in-Some-clause-tells g c =
     let rule = pattern_of (codes "x") cells ys y t in
     let patterns : c.in_ok-has_patterns-in-Some.field-0 ≡ has_patterns ys t =
     c.in_ok-has_patterns-in-Some.ensures.reads
-    ∙ ap (λ l. has_patterns (variables_read types middle l) (tree_of types middle term)) c.deref.ensures.value
     ∙ ap (λ l. has_patterns l (tree_of types middle term)) (same_variables types store middle adds1.cells F)
     ∙ ap (has_patterns ys) (adds1.before.trees types term held) in
     let there : c.in_ok-occurs-in-Some.field-0 ≡ occurs y t =
@@ -476,11 +463,10 @@ returns-in_ok-invert-in-Some-clause-tells g c =
     ∙ ap (occurs y) (adds.before.trees types term held) in
     let own : c.in_ok-has_no_foreign-in-Some.field-0 ≡ no_foreign ys hs t =
     c.in_ok-has_no_foreign-in-Some.ensures
-    ∙ ap (λ l. no_foreign (variables_read types next l) (map (head_reading types next) c.deref-in-Some-2.result.now) (tree_of types next term)) c.deref-in-Some.ensures.value
-    ∙ ap (λ l. no_foreign l (map (head_reading types next) c.deref-in-Some-2.result.now) (tree_of types next term)) (same_variables types store next adds.cells F)
-    ∙ ap (λ l. no_foreign ys l (tree_of types next term)) (ap (map (head_reading types next)) c.deref-in-Some-2.ensures.value ∙ same_heads types store next adds.cells names)
+    ∙ ap (λ l. no_foreign l (map (head_reading types next) c.deref.result.now) (tree_of types next term)) (same_variables types store next adds.cells F)
+    ∙ ap (λ l. no_foreign ys l (tree_of types next term)) (ap (map (head_reading types next)) c.deref.ensures.value ∙ same_heads types store next adds.cells names)
     ∙ ap (no_foreign ys hs) (adds.before.trees types term held) in
-    let ms = map (head_reading types next) c.deref-in-Some-3.result.now in
+    let ms = map (head_reading types next) c.deref-in-Some.result.now in
     let made = λ (l : List (Cell (List ℕ))) (vs : List (Variable ℕ)) (v : Variable ℕ) (ns : List (Head ℕ)) (u : Term ℕ (List ℕ)). Some (replaced (inverted l vs v ns u)) in
     tells_replaced types store next F c.requires.store c.requires.free adds (rule (pattern A ts)) c.invert.new.types c.invert.new.store c.invert.new.flexible.items
     (inverted (cells_read types next) (variables_read types next F) (cell_variable types next cell) ms (tree_of types next term)) c.in_ok-invert-in-Some.ensures.changed
@@ -489,5 +475,5 @@ returns-in_ok-invert-in-Some-clause-tells g c =
     ∙ sym (ap (λ l. made l (variables_read types next F) (cell_variable types next cell) ms (tree_of types next term)) (ap (map (cell_read types)) adds.cells)
     ∙ ap (λ l. made cells l (cell_variable types next cell) ms (tree_of types next term)) (same_variables types store next adds.cells F)
     ∙ ap (λ v. made cells ys v ms (tree_of types next term)) (same_cell types store next cell adds.cells)
-    ∙ ap (λ l. made cells ys y l (tree_of types next term)) (ap (map (head_reading types next)) c.deref-in-Some-3.ensures.value ∙ same_heads types store next adds.cells names)
+    ∙ ap (λ l. made cells ys y l (tree_of types next term)) (ap (map (head_reading types next)) c.deref-in-Some.ensures.value ∙ same_heads types store next adds.cells names)
     ∙ ap (made cells ys y hs) (adds.before.trees types term held)))
