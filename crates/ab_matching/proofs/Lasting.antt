@@ -34,7 +34,7 @@ use Rattle.ab_matching.specs.declared.aim.Aim.{Aim}
 use Rattle.ab_matching.specs.declared.question.Question.{Question}
 
 module _ (T U : Table) (part : IsPartOf T U) where
-  type_stays : (a : TypeId) → HoldsType T a → type_of U a ≡ type_of T a
+  pub type_stays : (a : TypeId) → HoldsType T a → type_of U a ≡ type_of T a
   type_stays a h = ap (λ t. type_of t a) part.1 ∙ same_type T part.0 a h
 
   -- the parts in front, by a larger table

@@ -6,10 +6,13 @@ pub mod Concluding
 pub mod ErasedTyped
 pub mod Equations
 pub mod Known
+pub mod Items
 pub mod First
+pub mod Branches
 pub mod Solved
 pub mod UseMade
 pub mod Lasting
+pub mod Tried
 pub mod Searched
 pub mod Posed
 pub mod Undone

@@ -5,3 +5,4 @@ pub mod Solving
 pub mod Choosing
 pub mod Posing
 pub mod Named
+pub mod Trying

@@ -1,7 +1,6 @@
 //! The first choice of constants by which a formula can be used.
 ghost use Rattle.std.specs.Prelude.{◌≡◌, ◌≤◌, ◌∷◌, ◌++◌, [], map, IfOk, OnOk, All};
 ghost use Rattle.ab_norm.specs.Nominals.{HoldsNominal};
-ghost use Rattle.ab_cases.specs.Choices as plain;
 ghost use Rattle.ab_cases.specs.Choices.{in_order};
 ghost use Rattle.ab_instances.specs.Readings.{names_read};
 ghost use Rattle.ab_types.specs.Ids.{HoldsType};
@@ -11,21 +10,21 @@ ghost use Rattle.ab_logic.specs.Sequents.{IsSequent, goal_names};
 ghost use Rattle.ab_logic.specs.Worlds.{IsWorld, Holds, read, declarations_of};
 ghost use Rattle.ab_taking.specs.Readings.{given_of, HoldsIfAny};
 ghost use Rattle.ab_using.specs.Pieces.{pieces, parts};
-ghost use Rattle.ab_using.specs.Uses.{types_chosen, given_constants};
+ghost use Rattle.ab_using.specs.Uses.{given_constants};
 ghost use Rattle.ab_putting.specs.Making.{HoldsPart, parts_read};
 ghost use Rattle.ab_matching.specs.Named.{terms_named, types_named};
 ghost use Rattle.ab_matching.specs.Posing.{IsPosed, using_at};
 ghost use Rattle.ab_matching.specs.Readings.{aim_of, using_of, MayBeUsed, Finds};
 
 use crate::aim::Aim;
-use crate::choosing::try_choice;
+use crate::begun::begin;
 use crate::found::Found;
 use crate::outcome::Outcome;
 use crate::question::Question;
+use crate::trying::try_from;
 use ab_alternatives::goal_constants;
-use ab_instances::{Choices, choices, constants_of};
+use ab_instances::constants_of;
 use ab_logic::{Sequent, World};
-use ab_norm::Nominal;
 use ab_putting::{Part, parts_of};
 use ab_store::TermId;
 use ab_taking::GivenTerm;
@@ -120,20 +119,6 @@ fn pose(
     })
 }
 
-/// All choices of constants, in order.
-fn choices_for(alloc: Global, world: &World, question: &Question) -> Result<Choices, AllocError>
-    requires parts { All (HoldsPart world.now.types world.now.store) question.now.parts.items }
-    requires held { All (HoldsNominal world.now.types) question.now.held.items }
-    requires known { All (HoldsNominal world.now.types) question.now.known.items }
-    ensures list { IfOk result (λ list. map (names_read world.now.types) list
-        ≡ plain.choices (types_chosen (parts_read world.now.types world.now.store question.now.parts.items)) (names_read world.now.types question.now.held.items)
-        (names_read world.now.types question.now.known.items)) }
-    ensures held { IfOk result (λ list. All (All (HoldsNominal world.now.types)) list) }
-{
-    let types = types_in(alloc, &question.parts)?;
-    choices(alloc, &world.types, &types, &question.held, &question.known)
-}
-
 /// What comes of using a formula in the goal: it is taken apart up to the antecedent of the number, the terms that are given
 /// are put for names of `forall`, and constants for names of `nabla`, by the first choice whose equations aren't apart. No
 /// cell is bound in the end.
@@ -161,14 +146,12 @@ pub fn find_use<L>(
     ensures steps { steps.old ≤ steps.new }
 {
     let question = pose(alloc, world, goal, formula, count, given)?;
-    let list = choices_for(alloc, world, &question)?;
-    for names in list.as_slice() {
-        match try_choice(alloc, world, goal, &question, aim, names.as_slice(), steps)? {
-            Outcome::PassedOver | Outcome::Apart => {}
-            Outcome::Stuck(place) => return Ok(Found::NotPattern(place)),
-            Outcome::Open(name) => return Ok(Found::Unresolved(name)),
-            Outcome::Used(used) => return Ok(Found::Used(used)),
-        }
+    let types = types_in(alloc, &question.parts)?;
+    let begun = begin(alloc, &question)?;
+    match try_from(alloc, world, goal, &question, aim, &types, &begun, steps)? {
+        Outcome::PassedOver | Outcome::Apart => Ok(Found::NoMatch),
+        Outcome::Stuck(place) => Ok(Found::NotPattern(place)),
+        Outcome::Open(name) => Ok(Found::Unresolved(name)),
+        Outcome::Used(used) => Ok(Found::Used(used)),
     }
-    Ok(Found::NoMatch)
 }

@@ -3,6 +3,7 @@
 #![tactic(auto)]
 
 mod aim;
+mod begun;
 mod choosing;
 mod closing;
 mod equating;
@@ -14,6 +15,7 @@ mod marking;
 mod outcome;
 mod question;
 mod solving;
+mod trying;
 
 pub use aim::Aim;
 pub use finding::find_use;

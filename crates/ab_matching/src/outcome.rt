@@ -1,4 +1,7 @@
 //! What comes of a choice of constants.
+ghost use Rattle.std.specs.Prelude.{◌≡◌};
+ghost use Rattle.ab_matching.specs.Trying.{decides};
+
 use crate::found::Use;
 use ab_types::Name;
 
@@ -15,4 +18,16 @@ pub(crate) enum Outcome {
     Open(Name),
     /// The formula is used so.
     Used(Use),
+}
+
+impl Outcome {
+    /// Whether no choice behind this one is tried.
+    pub(crate) fn decides(&self) -> bool
+        ensures { result ≡ decides self.now }
+    {
+        match self {
+            Outcome::PassedOver | Outcome::Apart => false,
+            Outcome::Stuck(_) | Outcome::Open(_) | Outcome::Used(_) => true,
+        }
+    }
 }

@@ -1,5 +1,4 @@
--- A use, made on shared terms: what parts stand for, which formula has them, and what is read of what was made. Public
--- contracts don't speak of this.
+-- A use, made on shared terms: what parts stand for, which formula has them, and what is read of what was made.
 use Rattle.std.specs.Prelude.{◌≡◌, ℕ, List, [], ◌∷◌, ◌++◌, map, length, true, Bool, ◌&&◌, All}
 use Rattle.ab_term.specs.Types.{Ty, prop}
 use Rattle.ab_term.specs.Logical.{universal, nabla, implication}

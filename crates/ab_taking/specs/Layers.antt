@@ -1,4 +1,4 @@
--- What is taken off a formula next, as the program sees it. Public contracts don't speak of it.
+-- What is taken off a formula next, as the program sees it, in the words of terms.
 use Rattle.std.specs.Prelude.{ℕ, ◌<◌, List, [], Option, Some, None}
 use Rattle.ab_term.specs.Types.{Ty}
 use Rattle.ab_term.specs.Logical.{Logical, universal, nabla, implication}
