@@ -13,6 +13,20 @@ pub mod Retold
 mod Equations
 mod Bodies
 mod Parting
+mod First
 mod Unfolded
+pub mod Pieces
+pub mod Uses
+pub mod Matching
+pub mod OneUse
+pub mod Rows
+mod Giving
+mod Fronts
+mod Unmarked
+mod Constants
+mod Answered
+mod LeftOver
+mod Chaining
+mod Applying
 pub mod Remarked
 pub mod Once

@@ -1,7 +1,7 @@
 -- Each row of a proof command has one answer, with names for the numbers of variables: in goals that are one with names for
 -- numbers, and so in one goal.
 use Rattle.std.specs.Prelude.{codes}
-use Rattle.std.proofs.Common.{◌≡◌, inl, inr, ℕ, List, [], ◌∷◌, map, Bool, true, false, Option, Some, None, option_map, refl, sym, ◌∙◌, ap, subst}
+use Rattle.std.proofs.Common.{◌≡◌, ℕ, List, [], ◌∷◌, map, Bool, true, false, Option, Some, None, option_map, refl, sym, ◌∙◌, ap, subst}
 use Rattle.std.proofs.lemmas.List.Elements.{All-nil, All-cons, All-weaker}
 use Rattle.ab_term.specs.Types.{Ty, prop}
 use Rattle.ab_term.specs.Terms.{Nominal, constant, spine}
@@ -13,7 +13,7 @@ use Rattle.ab_store.specs.Trees.{Read}
 use Rattle.ab_grammar.specs.Tree.{Tree}
 use Rattle.ab_grammar.specs.CommandTrees.{ProofCommand, intros, induction, coinduction, case, apply, backchain, cut, inst, monotone, search, split, split_all, left, right, exists, unfold_goal, assert, clear, rename, permute}
 use Rattle.ab_cases.specs.Clauses.{IsClause}
-use Rattle.ab_logic.specs.Declarations.{Declarations, signature_in, IsDefining, HaveDefinitions}
+use Rattle.ab_logic.specs.Declarations.{Declarations, signature_in, IsDefining, HaveDefinitions, HaveSentences}
 use Rattle.ab_logic.specs.Forms as form
 use Rattle.ab_logic.specs.Forms.{Form, form_of, either_in, equal_in, as_both, as_either, as_exists}
 use Rattle.ab_logic.specs.Names.{Label, given, Names}
@@ -27,20 +27,22 @@ use Rattle.ab_rules.proofs.Parts.{MayStand, either_may}
 use Rattle.ab_rules.proofs.Sequents.{IsGoal, goal_of, found_may, without_goal, sequent_from}
 use Rattle.ab_rules.proofs.Sized.{atom_of, atom_over}
 use Rattle.ab_goals.specs.Goals.{name_in, with_names, named}
+use Rattle.ab_meanings.specs.Lists.{HasLists}
 use Rattle.ab_effects.specs.Effect.{effect, opening, cases, analysing, marked_so, IsNamedBy, hypothesis_named, introducing, reading, naming, left_over, clashing, clashing_names, missing, cleared}
 use Rattle.ab_effects.specs.Analysing.{IsParted, IsUnparted, AllOpened, SomeNameless}
 use Rattle.ab_effects.specs.Unfolding.{IsUnfolded, IsNotUnfolded}
 use Rattle.ab_effects.specs.Introducing.{taken_off, Parts}
 use Rattle.ab_effects.specs.Permuting.{of_one_type, cycling}
 use Rattle.ab_permuting.specs.Cycles.{MayCycle, type_among, cycle}
-use Rattle.ab_effects.specs.Refusals.{Refusal, type_clash, no_hypothesis, wrong_shape, mark, not_pattern, names_spent}
+use Rattle.ab_effects.specs.Refusals.{type_clash, no_hypothesis, wrong_shape, not_pattern, names_spent}
 use Rattle.ab_effects.specs.Solving.{IsSolved, IsOutside}
-use Rattle.ab_effects.specs.Row.{Row, leads, unless, finds, makes, Leads, Refuses}
+use Rattle.ab_effects.specs.Row.{Row, leads, makes}
 use Rattle.ab_equate.proofs.Sides.{equation_sides}
 use Rattle.ab_alike.specs.Alike.{IsSameTerm, IsSameEquation, IsSameAtom, IsSameRest}
 use Rattle.ab_alike.proofs.Following.{moved_atom}
+pub use Rattle.ab_rows.proofs.Rows.{AreOnce}
+use Rattle.ab_rows.proofs.Rows.{once_leads, once_unless, once_finds, once_makes, once_alone, once_marked, one_same, two_same}
 use Rattle.ab_rows.proofs.Equations.{turned, solved_or_not, solved_once}
-use Rattle.ab_rows.specs.Opening.{UsesNothing}
 use Rattle.ab_rows.proofs.Commands.{never_named, one_parting, named_by_once}
 use Rattle.ab_rows.proofs.Namings.{same_constants, names_alike, nameless_also}
 use Rattle.ab_rows.proofs.Alike.{Alike, flipped, assumed_alike}
@@ -48,93 +50,13 @@ use Rattle.ab_rows.proofs.OneWay.{opened_once, opened_or_not}
 use Rattle.ab_rows.proofs.Bodies.{bodies_turned, all_opened_once, all_opened_or_not}
 use Rattle.ab_rows.proofs.Parting.{MayBeSplit, turned_rest, parted_alike, parted_or_not, one_unparting}
 use Rattle.ab_rows.proofs.Unfolded.{turned_atom, unfolded_once, unfolded_or_not, not_unfolded, one_cause}
+use Rattle.ab_rows.proofs.Chaining.{once_backchain}
+use Rattle.ab_rows.proofs.Applying.{once_apply}
 use Rattle.ab_rows.proofs.OneIntroduction.{introduced_once, introduced_or_not}
 use Rattle.ab_rows.proofs.Renumbered.{Renumbering, renumber, renumber_variable, renumber_hypothesis, renumbered, renumbering}
 use Rattle.ab_rows.proofs.Reread.{meaning_or_not, not_or_means, same_meaning, cause_alike, states_or_not, not_or_states, faults_alike}
 use Rattle.ab_rows.proofs.Retold.{form_told, form_retold, as_both_told, as_either_told, as_exists_told, taken_off_told, parts_told, formula_told, clashing_told, clashing_names_told, missing_told, without_told, cleared_told, cleared_variables, KeepsNames, formula_named, goal_named}
 use Rattle.ab_rows.proofs.Remarked.{level_told, atom_told, inductive_told, coinductive_told, marked_antecedent_told, marked_consequent_told}
-
--- the rows lead or refuse alike, for one cause, and their goals are one list with names for numbers
-pub record AreOnce (r q : Row) : Type 0 where
-  pub apart : (ps : List Sequent) (f : Refusal) → Leads r ps → Refuses q f → ⊥
-  pub refusal : (f g : Refusal) → Refuses r f → Refuses q g → f ≡ g
-  pub goals : (ps qs : List Sequent) → Leads r ps → Leads q qs → map named ps ≡ map named qs
-
-once_leads : (ps qs : List Sequent) → map named ps ≡ map named qs → AreOnce (leads ps) (leads qs)
-once_leads ps qs same = record {
-  apart = λ rs f led refused. refused;
-  refusal = λ f g a b. absurd a;
-  goals = λ rs ts a b. ap (map named) a ∙ same ∙ sym (ap (map named) b);
-}
-
-once_unless : (o p : Option Refusal) (k j : Row) → o ≡ p → AreOnce k j → AreOnce (unless o k) (unless p j)
-once_unless o p k j same once = record {
-  apart = λ ps f led refused. elim refused [ inl r ↦ (let clash : None ≡ Some f = sym led.0 ∙ same ∙ r in cc) | inr r ↦ once.apart ps f led.1 r.1 ];
-  refusal = refusal;
-  goals = λ ps qs a b. once.goals ps qs a.1 b.1;
-}
-  where
-    refusal : (f g : Refusal) → Refuses (unless o k) f → Refuses (unless p j) g → f ≡ g
-    refusal f g (inl a) (inl b) = let both : Some f ≡ Some g = sym a ∙ same ∙ b in cc
-    refusal f g (inl a) (inr b) = let clash : None ≡ Some f = sym b.0 ∙ sym same ∙ a in absurd (cc)
-    refusal f g (inr a) (inl b) = let clash : None ≡ Some g = sym a.0 ∙ same ∙ b in absurd (cc)
-    refusal f g (inr a) (inr b) = once.refusal f g a.1 b.1
-
-once_finds : {A B : Type 0} (c : Refusal) (o : Option A) (p : Option B) (h : A → B) → p ≡ option_map h o → (k : A → Row) (j : B → Row) → ((a : A) → o ≡ Some a → AreOnce (k a) (j (h a))) → AreOnce (finds c o k) (finds c p j)
-once_finds {A = A} {B = B} c o p h same k j once = record { apart = apart; refusal = refusal; goals = goals }
-  where
-    there : (a : A) → o ≡ Some a → p ≡ Some (h a)
-    there a e = same ∙ ap (option_map h) e
-
-    found : (a : A) (b : B) → o ≡ Some a → p ≡ Some b → b ≡ h a
-    found a b e d = let both : Some b ≡ Some (h a) = sym d ∙ there a e in cc
-
-    apart : (ps : List Sequent) (f : Refusal) → Leads (finds c o k) ps → Refuses (finds c p j) f → ⊥
-    apart ps f led (inl r) = let clash : None ≡ Some (h led.0) = sym r.0 ∙ there led.0 led.1 in cc
-    apart ps f led (inr r) = (once led.0 led.1).apart ps f led.2 (subst (λ b. Refuses (j b) f) (found led.0 r.0 led.1 r.1) r.2)
-
-    refusal : (f g : Refusal) → Refuses (finds c o k) f → Refuses (finds c p j) g → f ≡ g
-    refusal f g (inl a) (inl b) = a.1 ∙ sym b.1
-    refusal f g (inl a) (inr b) = let clash : None ≡ Some b.0 = sym (same ∙ ap (option_map h) a.0) ∙ b.1 in absurd (cc)
-    refusal f g (inr a) (inl b) = let clash : None ≡ Some (h a.0) = sym b.0 ∙ there a.0 a.1 in absurd (cc)
-    refusal f g (inr a) (inr b) = (once a.0 a.1).refusal f g a.2 (subst (λ x. Refuses (j x) g) (found a.0 b.0 a.1 b.1) b.2)
-
-    goals : (ps qs : List Sequent) → Leads (finds c o k) ps → Leads (finds c p j) qs → map named ps ≡ map named qs
-    goals ps qs a b = (once a.0 a.1).goals ps qs a.2 (subst (λ x. Leads (j x) qs) (found a.0 b.0 a.1 b.1) b.2)
-
-once_makes : {A B : Type 0} (P : A → Type 0) (N : Refusal → Type 0) (Q : B → Type 0) (M : Refusal → Type 0) (k : A → Row) (j : B → Row)
-    → ((a : A) (g : Refusal) → P a → M g → ⊥) → ((f : Refusal) (b : B) → N f → Q b → ⊥) → ((f g : Refusal) → N f → M g → f ≡ g) → ((a : A) (b : B) → P a → Q b → AreOnce (k a) (j b))
-    → AreOnce (makes P N k) (makes Q M j)
-once_makes P N Q M k j or_not not_or cause once = record { apart = apart; refusal = refusal; goals = goals }
-  where
-    apart : (ps : List Sequent) (f : Refusal) → Leads (makes P N k) ps → Refuses (makes Q M j) f → ⊥
-    apart ps f (a, m, led) (inl n) = or_not a f m n
-    apart ps f (a, m, led) (inr (b, n, refused)) = (once a b m n).apart ps f led refused
-
-    refusal : (f g : Refusal) → Refuses (makes P N k) f → Refuses (makes Q M j) g → f ≡ g
-    refusal f g (inl m) (inl n) = cause f g m n
-    refusal f g (inl m) (inr (b, n, r)) = absurd (not_or f b m n)
-    refusal f g (inr (a, m, r)) (inl n) = absurd (or_not a g m n)
-    refusal f g (inr (a, m, r)) (inr (b, n, q)) = (once a b m n).refusal f g r q
-
-    goals : (ps qs : List Sequent) → Leads (makes P N k) ps → Leads (makes Q M j) qs → map named ps ≡ map named qs
-    goals ps qs (a, m, led) (b, n, to) = (once a b m n).goals ps qs led to
-
--- no answer depends on the goal
-once_alone : (o : Option Refusal) → AreOnce (unless o (leads [])) (unless o (leads []))
-once_alone o = once_unless o o (leads []) (leads []) refl (once_leads [] [] refl)
-
--- a mark is to be as is asked of both
-once_marked : (P : Type 0) (k j : Row) → AreOnce k j → AreOnce (marked_so P k) (marked_so P j)
-once_marked P k j once =
-    once_makes {A = Unit {0}} {B = Unit {0}} (λ u. P) (λ f. (¬ P) × (f ≡ mark)) (λ u. P) (λ f. (¬ P) × (f ≡ mark)) (λ u. k) (λ u. j)
-    (λ u g p n. n.0 p) (λ g u n p. n.0 p) (λ f g m n. m.1 ∙ sym n.1) (λ u v p q. once)
-
-one_same : (x y : Sequent) → named x ≡ named y → map named (x ∷ []) ≡ map named (y ∷ [])
-one_same x y e = ap (λ a. a ∷ []) e
-
-two_same : (x y z w : Sequent) → named x ≡ named y → named z ≡ named w → map named (x ∷ z ∷ []) ≡ map named (y ∷ w ∷ [])
-two_same x y z w e f = ap (λ a. a ∷ named z ∷ []) e ∙ ap (λ b. named y ∷ b ∷ []) f
 
 -- a formula is opened
 once_opening : (D : Declarations) (l : Label) (N : List Nominal) (s u : Sequent) (F G : Read) → Alike D N s (F ∷ []) u (G ∷ []) → (k j : Sequent → Row) → ((t v : Sequent) → named t ≡ named v → AreOnce (k t) (j v))
@@ -540,32 +462,32 @@ module _ (D : Declarations) (definitions : HaveDefinitions D) (s : Sequent) (f :
       (assumed_alike s u (without H s) (without H u) H H (tree.permute ps F) (tree.permute ps (renumber f F)) refl (also (without H s) refl ∙ ap named (sym (without_told f H s))) refl refl
       (formula_named f s names (tree.permute ps F) ∙ ap (with_names (map (renumber_variable f) s.variables)) (permuted_told ps F)))))))
 
-  once_renumbered : (l : Label) (command : ProofCommand) → UsesNothing command → AreOnce (effect D l command s) (effect D l command u)
-  once_renumbered l (intros xs) so = once_intros l xs
-  once_renumbered l (case H keep) so = once_case l H keep
-  once_renumbered l split so = once_split l
-  once_renumbered l split_all so = once_split_all l
-  once_renumbered l left so = once_left l
-  once_renumbered l right so = once_right l
-  once_renumbered l (exists e) so = once_exists l e
-  once_renumbered l (assert e) so = once_assert l e
-  once_renumbered l (clear Hs) so = once_clear l Hs
-  once_renumbered l (rename H x) so = once_rename l H x
-  once_renumbered l (induction n) so = once_induction l n
-  once_renumbered l coinduction so = once_coinduction l
-  once_renumbered l (apply H vs ws) so = absurd so
-  once_renumbered l (backchain H ws) so = absurd so
-  once_renumbered l (cut H K) so = once_alone (Some wrong_shape)
-  once_renumbered l (inst H ws) so = once_alone (Some wrong_shape)
-  once_renumbered l (monotone H e) so = once_alone (Some wrong_shape)
-  once_renumbered l (search n) so = once_alone (Some wrong_shape)
-  once_renumbered l unfold_goal so = once_unfold l
-  once_renumbered l (permute ns None) so = once_permute_conclusion l ns
-  once_renumbered l (permute ns (Some H)) so = once_permute_hypothesis l ns H
+  once_renumbered : HasLists D → HaveSentences D → (l : Label) (command : ProofCommand) → AreOnce (effect D l command s) (effect D l command u)
+  once_renumbered lists sentences l (intros xs) = once_intros l xs
+  once_renumbered lists sentences l (case H keep) = once_case l H keep
+  once_renumbered lists sentences l split = once_split l
+  once_renumbered lists sentences l split_all = once_split_all l
+  once_renumbered lists sentences l left = once_left l
+  once_renumbered lists sentences l right = once_right l
+  once_renumbered lists sentences l (exists e) = once_exists l e
+  once_renumbered lists sentences l (assert e) = once_assert l e
+  once_renumbered lists sentences l (clear Hs) = once_clear l Hs
+  once_renumbered lists sentences l (rename H x) = once_rename l H x
+  once_renumbered lists sentences l (induction n) = once_induction l n
+  once_renumbered lists sentences l coinduction = once_coinduction l
+  once_renumbered lists sentences l (apply H vs ws) = once_apply D lists sentences s f is its names l H vs ws
+  once_renumbered lists sentences l (backchain H ws) = once_backchain D lists sentences s f is its names l H ws
+  once_renumbered lists sentences l (cut H K) = once_alone (Some wrong_shape)
+  once_renumbered lists sentences l (inst H ws) = once_alone (Some wrong_shape)
+  once_renumbered lists sentences l (monotone H e) = once_alone (Some wrong_shape)
+  once_renumbered lists sentences l (search n) = once_alone (Some wrong_shape)
+  once_renumbered lists sentences l unfold_goal = once_unfold l
+  once_renumbered lists sentences l (permute ns None) = once_permute_conclusion l ns
+  once_renumbered lists sentences l (permute ns (Some H)) = once_permute_hypothesis l ns H
 
 -- EACH PROOF COMMAND has one answer in goals that are one with names for numbers
-pub once : (D : Declarations) → HaveDefinitions D → (s u : Sequent) → IsSequent D s → IsSequent D u → named s ≡ named u → (l : Label) (command : ProofCommand) → UsesNothing command → AreOnce (effect D l command s) (effect D l command u)
-once D definitions s u is its same l command so =
+pub once : (D : Declarations) → HasLists D → HaveSentences D → HaveDefinitions D → (s u : Sequent) → IsSequent D s → IsSequent D u → named s ≡ named u → (l : Label) (command : ProofCommand) → AreOnce (effect D l command s) (effect D l command u)
+once D lists sentences definitions s u is its same l command =
     let r = renumbering D s u is its same in
     let names : KeepsNames r.by s.variables = subst (λ (v : Sequent). (n : ℕ) → name_in v.variables (r.by n) ≡ name_in s.variables n) r.is r.names in
-    subst (λ v. AreOnce (effect D l command s) (effect D l command v)) (sym r.is) (once_renumbered D definitions s r.by is (subst (IsSequent D) r.is its) names l command so)
+    subst (λ v. AreOnce (effect D l command s) (effect D l command v)) (sym r.is) (once_renumbered D definitions s r.by is (subst (IsSequent D) r.is its) names lists sentences l command)

@@ -65,7 +65,7 @@ module _ {A : Type 0} where
   head_itself (index i) = refl
 
   mutual
-    itself : (t : Term A (List ℕ)) → translate (λ n. n) (λ h. h) t ≡ t
+    pub itself : (t : Term A (List ℕ)) → translate (λ n. n) (λ h. h) t ≡ t
     itself (lam A x t) = ap (lam A x) (itself t)
     itself (spine h ts) = ap (λ k. spine k (translate_all (λ n. n) (λ h. h) ts)) (head_itself h) ∙ ap (spine h) (all_itself ts)
 

@@ -1,9 +1,9 @@
 -- What an expression means in goals that are one but for the numbers of their variables: one term but for these numbers, or
 -- nothing for one cause.
 use Rattle.std.specs.Prelude.{Ok}
-use Rattle.std.proofs.Common.{◌≡◌, inl, inr, ℕ, ◌<◌, List, [], ◌∷◌, length, codes, get_or, Option, Some, None, refl, sym, ◌∙◌, ap, subst}
+use Rattle.std.proofs.Common.{◌≡◌, inl, inr, ℕ, ◌<◌, List, [], ◌∷◌, ◌++◌, map, length, codes, get_or, Option, Some, None, refl, sym, ◌∙◌, ap, subst}
 use Rattle.ab_term.specs.Types.{Ty, kind, arrow, prop}
-use Rattle.ab_term.specs.Terms.{Head, constant, logical, nominal, variable, index, lam, spine, Terms, no_terms, term}
+use Rattle.ab_term.specs.Terms.{Nominal, Head, constant, logical, nominal, variable, index, lam, spine, Terms, no_terms, term}
 use Rattle.ab_term.specs.Typing.{Signature, head_type}
 use Rattle.ab_term.specs.Substitution.{instance}
 use Rattle.ab_term.specs.Expansion.{expansion_of}
@@ -14,18 +14,20 @@ use Rattle.ab_store.specs.Trees.{Read}
 use Rattle.ab_grammar.specs.Tree.{Tree}
 use Rattle.ab_logic.specs.Formulas.{Place, a_formula, a_scope, a_marked, any, places_of, IsRigid, IsAtomic, StandsIn, AllStandIn, IsFormula}
 use Rattle.ab_readings.specs.Names.{Name, Resolved, free}
-use Rattle.ab_readings.specs.Scopes.{resolved, nominal_number, made_of}
+use Rattle.ab_readings.specs.Scopes.{Scope, resolved, nominal_number, made_of}
 use Rattle.ab_readings.specs.Readings.{Raw, Reads, reads_bound, reads_known, reads_free, reads_apply, reads_abs, reads_equal, reads_bind}
 use Rattle.ab_readings.specs.Answers.{Reading, IsTheReading, Differ}
 use Rattle.ab_readings.specs.Normal.{left_type, given_all, long_form, normal_given, normal_form}
 use Rattle.ab_logic.specs.Declarations.{Declarations, signature_in}
-use Rattle.ab_logic.specs.Sequents.{Sequent, IsSequent}
+use Rattle.ab_logic.specs.Sequents.{Sequent, IsSequent, goal_names}
 use Rattle.ab_goals.specs.Goals.{named}
 use Rattle.ab_effects.specs.Refusals.{Refusal, unknown, type_clash, untyped, clash, no_hypothesis, wrong_shape, mark, no_match, not_pattern, unresolved, names_spent}
-use Rattle.ab_effects.specs.Terms.{made, constant_named, scope_of, Means, MeansNothing, Asserts, AssertsNothing}
-use Rattle.ab_rows.proofs.OneReading.{means_or_not, one_cause}
+use Rattle.ab_effects.specs.Terms.{made, kinds_in, entry_of, constant_named, scope_of, MeansIn, MeansNothingIn, Means, MeansNothing, Asserts, AssertsNothing}
+use Rattle.ab_effects.specs.Using.{scope_with}
+use Rattle.ab_meanings.proofs.Names.{free_are_nominal}
+use Rattle.ab_rows.proofs.OneReading.{means_or_not_in, one_cause_in, means_or_not, one_cause}
 use Rattle.ab_rows.proofs.Renumbered.{Renumbering, renumber, renumbering}
-use Rattle.ab_rows.proofs.Rescoped.{told, places_told, resolved_there}
+use Rattle.ab_rows.proofs.Rescoped.{told, places_told, resolved_there, resolved_with}
 
 -- READINGS with other numbers
 module _ (f : ℕ → ℕ) where
@@ -126,58 +128,67 @@ module _ (f : ℕ → ℕ) where
   pub formula_told : (sg : Signature) (F : Read) → IsFormula sg F → IsFormula sg (renumber f F)
   formula_told sg F is = record { typed = translate_typed sg f (λ h. h) is.typed; stands = stands_told a_formula F is.stands }
 
--- IN TWO GOALS
-module _ (D : Declarations) (s u : Sequent) (r : Renumbering s u) (same : named s ≡ named u) (e : Tree) (A : Ty) where
-  told_name : (q : Resolved) → resolved (scope_of D s) [] e ≡ Ok q → resolved (scope_of D u) [] e ≡ Ok (told r.by q)
-  told_name q is = resolved_there D s u r same e ∙ ap (made_of (told r.by)) is
+-- IN TWO SCOPES, where each name stands for the same but for the numbers
+module _ (D : Declarations) (f : ℕ → ℕ) (here there : Scope) (e : Tree) (A : Ty) (goes : resolved there [] e ≡ made_of (told f) (resolved here [] e)) where
+  told_name : (q : Resolved) → resolved here [] e ≡ Ok q → resolved there [] e ≡ Ok (told f q)
+  told_name q is = goes ∙ ap (made_of (told f)) is
 
-  named_there : (q v : Resolved) → resolved (scope_of D s) [] e ≡ Ok q → resolved (scope_of D u) [] e ≡ Ok v → told r.by q ≡ v
-  named_there q v x y = let both : Ok (told r.by q) ≡ Ok v = sym (told_name q x) ∙ y in cc
+  named_there : (q v : Resolved) → resolved here [] e ≡ Ok q → resolved there [] e ≡ Ok v → told f q ≡ v
+  named_there q v x y = let both : Ok (told f q) ≡ Ok v = sym (told_name q x) ∙ y in cc
 
-  -- a reading in the one goal is the reading in the other
-  one_term : (q v : Resolved) (t w : Raw) → told r.by q ≡ v → IsTheReading made q A t → IsTheReading made v A w → raw_told r.by t ≡ w
+  -- a reading in the one is the reading in the other
+  one_term : (q v : Resolved) (t w : Raw) → told f q ≡ v → IsTheReading made q A t → IsTheReading made v A w → raw_told f t ≡ w
   unfolding reading_told
   one_term q v t w is m k =
-      let there = subst (λ z. IsTheReading made z A w) (sym is) k in
-      ap (raw_told r.by) (sym m.is) ∙ there.alone (reading_told r.by q A m.reading)
+      let back = subst (λ z. IsTheReading made z A w) (sym is) k in
+      ap (raw_told f) (sym m.is) ∙ back.alone (reading_told f q A m.reading)
 
-  pub same_meaning : (t v : Read) → Means D s e A t → Means D u e A v → v ≡ renumber r.by t
-  same_meaning t v m k =
-      let is : raw_told r.by m.raw ≡ k.raw = one_term m.named k.named m.raw k.raw (named_there m.named k.named m.names k.names) m.reading k.reading in
-      k.normal ∙ ap (normal_form (signature_in D) []) (sym is) ∙ normal_told r.by (signature_in D) [] m.raw no_terms ∙ ap (renumber r.by) (sym m.normal)
+  pub same_meaning_in : (t v : Read) → MeansIn D here e A t → MeansIn D there e A v → v ≡ renumber f t
+  same_meaning_in t v m k =
+      let is : raw_told f m.raw ≡ k.raw = one_term m.named k.named m.raw k.raw (named_there m.named k.named m.names k.names) m.reading k.reading in
+      k.normal ∙ ap (normal_form (signature_in D) []) (sym is) ∙ normal_told f (signature_in D) [] m.raw no_terms ∙ ap (renumber f) (sym m.normal)
 
-module _ (D : Declarations) (s u : Sequent) (r : Renumbering s u) (b : Renumbering u s) (same : named s ≡ named u) (e : Tree) (A : Ty) where
-  -- the expression in the other goal, and back
-  told_back : (q : Resolved) → resolved (scope_of D s) [] e ≡ Ok q → told b.by (told r.by q) ≡ q
+module _ (D : Declarations) (f b : ℕ → ℕ) (here there : Scope) (e : Tree) (A : Ty) (goes : resolved there [] e ≡ made_of (told f) (resolved here [] e)) (back : resolved here [] e ≡ made_of (told b) (resolved there [] e)) where
+  -- the expression in the other scope, and back
+  told_back : (q : Resolved) → resolved here [] e ≡ Ok q → told b (told f q) ≡ q
   told_back q is =
-      let both : Ok (told b.by (told r.by q)) ≡ Ok q = sym (told_name D u s b (sym same) e A (told r.by q) (told_name D s u r same e A q is)) ∙ is in
+      let both : Ok (told b (told f q)) ≡ Ok q = sym (told_name D b there here e A back (told f q) (told_name D f here there e A goes q is)) ∙ is in
       cc
 
-  pub nothing_there : (f : Refusal) → MeansNothing D s e A f → MeansNothing D u e A f
-  nothing_there (unknown x) n = resolved_there D s u r same e ∙ ap (made_of (told r.by)) n
-  nothing_there (type_clash p) n =
+  pub nothing_in : (c : Refusal) → MeansNothingIn here e A c → MeansNothingIn there e A c
+  nothing_in (unknown x) n = goes ∙ ap (made_of (told f)) n
+  nothing_in (type_clash p) n =
       let q = n.0.0 in
-      ((told r.by q, told_name D s u r same e A q n.0.1, λ d. n.0.2 (subst (λ w. Reading made w A) (told_back q n.0.1) (reading_told b.by (told r.by q) A d))), n.1)
-  nothing_there (untyped p) n =
+      ((told f q, told_name D f here there e A goes q n.0.1, λ d. n.0.2 (subst (λ w. Reading made w A) (told_back q n.0.1) (reading_told b (told f q) A d))), n.1)
+  nothing_in (untyped p) n =
       let q = n.0 in (
-        told r.by q,
-        told_name D s u r same e A q n.1,
+        told f q,
+        told_name D f here there e A goes q n.1,
         record {
           number = n.2.number;
-          within = subst (λ l. n.2.number < length l) (sym (places_told r.by q)) n.2.within;
-          place_is = n.2.place_is ∙ ap (λ l. get_or l n.2.number 0) (sym (places_told r.by q));
-          differ = differ_told r.by q A n.2.number n.2.differ;
-          first = λ k l d. n.2.first k l (subst (λ w. Differ made w A k) (told_back q n.1) (differ_told b.by (told r.by q) A k d));
+          within = subst (λ l. n.2.number < length l) (sym (places_told f q)) n.2.within;
+          place_is = n.2.place_is ∙ ap (λ l. get_or l n.2.number 0) (sym (places_told f q));
+          differ = differ_told f q A n.2.number n.2.differ;
+          first = λ k l d. n.2.first k l (subst (λ w. Differ made w A k) (told_back q n.1) (differ_told b (told f q) A k d));
         },
       )
-  nothing_there (clash x) n = n
-  nothing_there (no_hypothesis x) n = n
-  nothing_there wrong_shape n = n
-  nothing_there mark n = n
-  nothing_there no_match n = n
-  nothing_there (not_pattern i) n = n
-  nothing_there (unresolved x) n = n
-  nothing_there names_spent n = n
+  nothing_in (clash x) n = n
+  nothing_in (no_hypothesis x) n = n
+  nothing_in wrong_shape n = n
+  nothing_in mark n = n
+  nothing_in no_match n = n
+  nothing_in (not_pattern i) n = n
+  nothing_in (unresolved x) n = n
+  nothing_in names_spent n = n
+
+-- IN TWO GOALS
+module _ (D : Declarations) (s u : Sequent) (r : Renumbering s u) (same : named s ≡ named u) (e : Tree) (A : Ty) where
+  pub same_meaning : (t v : Read) → Means D s e A t → Means D u e A v → v ≡ renumber r.by t
+  same_meaning = same_meaning_in D r.by (scope_of D s) (scope_of D u) e A (resolved_there D s u r same e)
+
+module _ (D : Declarations) (s u : Sequent) (r : Renumbering s u) (b : Renumbering u s) (same : named s ≡ named u) (e : Tree) (A : Ty) where
+  pub nothing_there : (c : Refusal) → MeansNothing D s e A c → MeansNothing D u e A c
+  nothing_there = nothing_in D r.by b.by (scope_of D s) (scope_of D u) e A (resolved_there D s u r same e) (resolved_there D u s b (sym same) e)
 
 -- what it means, and what it states, in goals that are one with names for numbers
 module _ (D : Declarations) (s u : Sequent) (is : IsSequent D s) (its : IsSequent D u) (same : named s ≡ named u) (e : Tree) where
@@ -186,6 +197,23 @@ module _ (D : Declarations) (s u : Sequent) (is : IsSequent D s) (its : IsSequen
 
   b : Renumbering u s
   b = renumbering D u s its is (sym same)
+
+  -- where further constants are known
+  module _ (more : List Nominal) (A : Ty) where
+    pub meaning_or_not_with : (t : Read) (f : Refusal) → MeansIn D (scope_with D s more) e A t → MeansNothingIn (scope_with D u more) e A f → ⊥
+    meaning_or_not_with t f m n =
+        means_or_not_in D (scope_with D s more) e A (λ q x. free_are_nominal (kinds_in D) (signature_in D) (map entry_of s.variables) (goal_names s ++ more) e q x) t f m
+        (nothing_in D b.by r.by (scope_with D u more) (scope_with D s more) e A (resolved_with D u s b (sym same) more e) (resolved_with D s u r same more e) f n)
+
+    pub not_or_meaning_with : (t : Read) (f : Refusal) → MeansNothingIn (scope_with D s more) e A f → MeansIn D (scope_with D u more) e A t → ⊥
+    not_or_meaning_with t f n m =
+        means_or_not_in D (scope_with D u more) e A (λ q x. free_are_nominal (kinds_in D) (signature_in D) (map entry_of u.variables) (goal_names u ++ more) e q x) t f m
+        (nothing_in D r.by b.by (scope_with D s more) (scope_with D u more) e A (resolved_with D s u r same more e) (resolved_with D u s b (sym same) more e) f n)
+
+    pub cause_alike_with : (f g : Refusal) → MeansNothingIn (scope_with D s more) e A f → MeansNothingIn (scope_with D u more) e A g → f ≡ g
+    cause_alike_with f g m n =
+        one_cause_in D (scope_with D s more) e A (λ q x. free_are_nominal (kinds_in D) (signature_in D) (map entry_of s.variables) (goal_names s ++ more) e q x) f g m
+        (nothing_in D b.by r.by (scope_with D u more) (scope_with D s more) e A (resolved_with D u s b (sym same) more e) (resolved_with D s u r same more e) g n)
 
   pub meaning_or_not : (A : Ty) (t : Read) (f : Refusal) → Means D s e A t → MeansNothing D u e A f → ⊥
   meaning_or_not A t f m n = means_or_not D s e A t f m (nothing_there D u s b r (sym same) e A f n)
@@ -215,3 +243,7 @@ module _ (D : Declarations) (s u : Sequent) (is : IsSequent D s) (its : IsSequen
   faults_alike f g (inl n) (inr (G, m, none, at)) = absurd (not_or_means prop G f n m)
   faults_alike f g (inr (F, m, none, at)) (inl n) = absurd (meaning_or_not prop F g m n)
   faults_alike f g (inr (F, m, none, at)) (inr (G, k, other, there)) = at ∙ sym there
+
+pub same_meaning_with : (D : Declarations) (s u : Sequent) (r : Renumbering s u) → named s ≡ named u → (more : List Nominal) (e : Tree) (A : Ty) (t v : Read) → MeansIn D (scope_with D s more) e A t → MeansIn D (scope_with D u more) e A v
+    → v ≡ renumber r.by t
+same_meaning_with D s u r same more e A = same_meaning_in D r.by (scope_with D s more) (scope_with D u more) e A (resolved_with D s u r same more e)

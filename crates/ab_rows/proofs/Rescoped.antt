@@ -17,6 +17,7 @@ use Rattle.ab_logic.specs.Declarations.{Declarations, signature_in}
 use Rattle.ab_logic.specs.Sequents.{Variable, Sequent, goal_names}
 use Rattle.ab_goals.specs.Goals.{named}
 use Rattle.ab_effects.specs.Terms.{kinds_in, entry_of, scope_of}
+use Rattle.ab_effects.specs.Using.{scope_with}
 use Rattle.ab_rows.proofs.Namings.{same_constants}
 use Rattle.ab_rows.proofs.Renumbered.{Renumbering, renumber_variable}
 
@@ -174,7 +175,16 @@ module _ (f : ℕ → ℕ) where
       given_pi_told bs (tree.tree v no_trees) = ap (after pi_over) (resolved_told bs v) ∙ after_told (resolved one bs v)
       given_pi_told bs (tree.tree v (tree.tree u us)) = refl
 
--- in goals that are one but for the numbers
+-- in goals that are one but for the numbers, where further constants are known
+pub resolved_with : (D : Declarations) (s u : Sequent) (r : Renumbering s u) → named s ≡ named u → (more : List Nominal) (e : Tree) → resolved (scope_with D u more) [] e ≡ made_of (told r.by) (resolved (scope_with D s more) [] e)
+resolved_with D s u r same more e =
+    ap (λ (xs : List Variable). resolved (scope_by xs (goal_names u ++ more)) [] e) (ap (λ (g : Sequent). g.variables) r.is)
+    ∙ ap (λ ns. resolved (scope_by (map (renumber_variable r.by) s.variables) (ns ++ more)) [] e) (sym (same_constants s u same))
+    ∙ resolved_told r.by (kinds_in D) (signature_in D) s.variables (goal_names s ++ more) [] e
+  where
+    scope_by : List Variable → List Nominal → Scope
+    scope_by xs ns = record { kinds = kinds_in D; constants = signature_in D; variables = map entry_of xs; nominals = ns; place = in_proof }
+
 pub resolved_there : (D : Declarations) (s u : Sequent) (r : Renumbering s u) → named s ≡ named u → (e : Tree) → resolved (scope_of D u) [] e ≡ made_of (told r.by) (resolved (scope_of D s) [] e)
 resolved_there D s u r same e =
     ap (λ (xs : List Variable). resolved (scope_by xs (goal_names u)) [] e) (ap (λ (g : Sequent). g.variables) r.is)

@@ -1,8 +1,8 @@
 -- A conclusion is unfolded in one way, in goals that are one with names for numbers: the first choice that may unfold it is
 -- one, and so is what comes of it; or none does, for one cause.
 use Rattle.std.specs.Prelude.{All, Contains}
-use Rattle.std.proofs.Common.{◌≡◌, inl, inr, ℕ, suc, List, [], ◌∷◌, ◌++◌, map, codes, sym, ◌∙◌, ap, subst}
-use Rattle.std.proofs.lemmas.List.Elements.{All-head, All-tail, All-contains, Contains-append_left, Contains-append_right}
+use Rattle.std.proofs.Common.{◌≡◌, inl, inr, ℕ, suc, List, [], ◌∷◌, map, codes, sym, ◌∙◌, ap, subst}
+use Rattle.std.proofs.lemmas.List.Elements.{All-contains, Contains-append_left, Contains-append_right}
 use Rattle.ab_term.specs.Terms as tree
 use Rattle.ab_term.specs.Variables.{Substitution, image}
 use Rattle.ab_term.specs.Sameness.{same_number}
@@ -23,25 +23,11 @@ use Rattle.ab_alike.specs.Alike.{IsSameAtom}
 use Rattle.ab_alike.proofs.Splitting.{choices_meet}
 use Rattle.ab_alike.proofs.Unfolding.{never_also, open_also, answered_also}
 use Rattle.ab_effects.specs.Refusals.{Refusal, not_pattern, unresolved}
+use Rattle.ab_rows.proofs.First.{one_first}
 use Rattle.ab_effects.specs.Unfolding.{IsFirst, IsMatched, IsUnfolded, HasNoMatch, IsOutsideAt, IsLeftOpen, IsNotUnfolded}
 
 abbrev Cells : Type 0
 Cells = List (Cell (List ℕ))
-
--- THE FIRST ELEMENT WITHOUT A PROPERTY is one
-module _ {X : Type 0} (P : X → Type 0) where
-  first_same : {x y : X} {xs ys : List X} → x ∷ xs ≡ y ∷ ys → x ≡ y
-  first_same e = cc
-
-  rest_same : {x y : X} {xs ys : List X} → x ∷ xs ≡ y ∷ ys → xs ≡ ys
-  rest_same e = cc
-
-  one_first : (xs ys zs ws : List X) (x y : X) → xs ++ x ∷ zs ≡ ys ++ y ∷ ws → All P xs → (P x → ⊥) → All P ys → (P y → ⊥) → x ≡ y
-  one_first [] [] zs ws x y e before not after nor = first_same e
-  one_first [] (b ∷ ys) zs ws x y e before not after nor = absurd (not (subst P (sym (first_same e)) (All-head P b ys after)))
-  one_first (a ∷ xs) [] zs ws x y e before not after nor = absurd (nor (subst P (first_same e) (All-head P a xs before)))
-  one_first (a ∷ xs) (b ∷ ys) zs ws x y e before not after nor =
-      one_first xs ys zs ws x y (rest_same e) (All-tail P a xs before) not (All-tail P b ys after) nor
 
 -- ONE CASE has one answer
 module _ (cells : Cells) (s : Sequent) (d : Defined) (c : Choice) where

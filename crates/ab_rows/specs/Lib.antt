@@ -1,2 +1,3 @@
--- Which proof commands open formulas.
+-- Which proof commands open formulas; and one use of one formula, in two goals.
 pub mod Opening
+pub mod Using

@@ -1,21 +1,20 @@
 -- Each command has one effect on a state.
 use Rattle.std.proofs.Common.{◌≡◌, ◌⊎◌, inl, inr, ℕ, List, [], ◌∷◌, ◌++◌, map, Option, Some, None, refl, sym, ◌∙◌, ap, subst}
 use Rattle.ab_grammar.specs.CommandTrees.{Command, kinds, constants, define, theorem, show, quit, subgoals, abort, in_proof}
-use Rattle.ab_grammar.specs.CommandTrees.{ProofCommand, intros, induction, coinduction, case, apply, backchain, cut, inst, monotone, search, split, split_all, left, right, exists, unfold_goal, assert, clear, rename, permute}
+use Rattle.ab_grammar.specs.CommandTrees.{ProofCommand, search}
 use Rattle.ab_store.specs.Trees.{Read}
-use Rattle.ab_logic.specs.Declarations.{Declarations, HaveDefinitions, a_theorem, theorem_in}
+use Rattle.ab_logic.specs.Declarations.{Declarations, a_theorem, theorem_in}
 use Rattle.ab_logic.specs.Names.{Label}
 use Rattle.ab_logic.specs.Sequents.{Sequent, IsSequent}
 use Rattle.ab_command.specs.declared.fault.Cause.{Cause}
-use Rattle.ab_command.specs.Built.{IsBuiltInProof}
 use Rattle.ab_command.specs.Reading.{Fails}
 use Rattle.ab_command.proofs.Sayings.{says_one, fails_one, says_or_fails}
 use Rattle.ab_declare.specs.declared.refusal.Refusal.{Refusal}
 use Rattle.ab_declare.specs.Refusals.{refusal_for}
 use Rattle.ab_declare.specs.Declaring.{States, Declares, Declines, new_kinds, new_constants, new_predicates, kind_taken, constant_taken, type_unknown, type_unfit, defines_nothing, theorem_taken, states_nothing, no_theorem}
 use Rattle.ab_goals.specs.Goals.{Goal, named}
-use Rattle.ab_effects.specs.Effect.{given_label}
-use Rattle.ab_rows.specs.Opening.{UsesNothing}
+use Rattle.ab_effects.specs.Effect.{given_label, effect}
+use Rattle.ab_rows.proofs.Rows.{AreOnce}
 use Rattle.ab_rows.proofs.Once.{once}
 use Rattle.ab_states.specs.State.{Attempt, State, is_open, keeping, declaring, proving, closed, showing}
 use Rattle.ab_states.specs.Reply as reply
@@ -23,47 +22,27 @@ use Rattle.ab_states.specs.Reply.{Reply, accepted, completed, shown, refused, un
 use Rattle.ab_states.specs.Proving.{Makes, Denies}
 use Rattle.ab_states.specs.Effect.{Commands, Faces, beginning, left_with, HasEffect, unread, declined, declared, stated, showed, ended, switched, given_up, denied, led, proved}
 use Rattle.ab_states.specs.Replay.{Replays, none, next}
-use Rattle.ab_unique.specs.Sound.{AreSound}
-use Rattle.ab_unique.proofs.Sound.{sound_effect}
+use Rattle.ab_unique.specs.Sound.{AreSound, IsSound}
+use Rattle.ab_unique.proofs.Sound.{has_lists, sound_effect}
 use Rattle.ab_unique.proofs.Closing.{closed_also}
 use Rattle.ab_unique.proofs.Declaring.{one_statement, one_declaring, one_declining, declares_or_not, states_or_not, shows_or_not}
 
--- what is built uses no formula by its instances
-uses_nothing : (count : ℕ) (c : ProofCommand) → IsBuiltInProof count c → UsesNothing c
-uses_nothing count (intros xs) built = tt
-uses_nothing count (induction n) built = tt
-uses_nothing count coinduction built = tt
-uses_nothing count (case H keep) built = tt
-uses_nothing count (apply H vs ws) built = absurd built
-uses_nothing count (backchain H ws) built = absurd built
-uses_nothing count (cut H K) built = tt
-uses_nothing count (inst H ws) built = tt
-uses_nothing count (monotone H e) built = tt
-uses_nothing count (search n) built = tt
-uses_nothing count split built = tt
-uses_nothing count split_all built = tt
-uses_nothing count left built = tt
-uses_nothing count right built = tt
-uses_nothing count (exists e) built = tt
-uses_nothing count unfold_goal built = tt
-uses_nothing count (assert e) built = tt
-uses_nothing count (clear Hs) built = tt
-uses_nothing count (rename H x) built = tt
-uses_nothing count (permute ns x) built = tt
-
 -- A PROOF COMMAND at two sequents that are one goal with names for numbers
-module _ (D : Declarations) (definitions : HaveDefinitions D) (l : Label) (s u : Sequent) (is : IsSequent D s) (its : IsSequent D u) (same : named s ≡ named u) where
-  one_making : (c : ProofCommand) → UsesNothing c → (ps qs : List Sequent) → Makes D l c s ps → Makes D l c u qs → map named ps ≡ map named qs
-  one_making (search n) so ps qs a b = ap (map named) (a.1 ∙ sym b.1)
-  one_making c so ps qs a b = (once D definitions s u is its same l c so).goals ps qs a b
+module _ (D : Declarations) (sound : AreSound D) (l : Label) (s u : Sequent) (is : IsSequent D s) (its : IsSequent D u) (same : named s ≡ named u) where
+  both_once : (c : ProofCommand) → AreOnce (effect D l c s) (effect D l c u)
+  both_once c = once D (has_lists D sound) sound.sentences sound.definitions s u is its same l c
 
-  one_denial : (c : ProofCommand) → UsesNothing c → (r q : Refusal) → Denies D l c s r → Denies D l c u q → r ≡ q
-  one_denial (search n) so r q a b = a.1 ∙ sym b.1
-  one_denial c so r q a b = a.is ∙ ap refusal_for ((once D definitions s u is its same l c so).refusal a.cause b.cause a.refuses b.refuses) ∙ sym b.is
+  one_making : (c : ProofCommand) → (ps qs : List Sequent) → Makes D l c s ps → Makes D l c u qs → map named ps ≡ map named qs
+  one_making (search n) ps qs a b = ap (map named) (a.1 ∙ sym b.1)
+  one_making c ps qs a b = (both_once c).goals ps qs a b
 
-  makes_or_denies : (c : ProofCommand) → UsesNothing c → (ps : List Sequent) (r : Refusal) → Makes D l c s ps → Denies D l c u r → ⊥
-  makes_or_denies (search n) so ps r a b = b.0 (closed_also D s u is its same a.0)
-  makes_or_denies c so ps r a b = (once D definitions s u is its same l c so).apart ps b.cause a b.refuses
+  one_denial : (c : ProofCommand) → (r q : Refusal) → Denies D l c s r → Denies D l c u q → r ≡ q
+  one_denial (search n) r q a b = a.1 ∙ sym b.1
+  one_denial c r q a b = a.is ∙ ap refusal_for ((both_once c).refusal a.cause b.cause a.refuses b.refuses) ∙ sym b.is
+
+  makes_or_denies : (c : ProofCommand) → (ps : List Sequent) (r : Refusal) → Makes D l c s ps → Denies D l c u r → ⊥
+  makes_or_denies (search n) ps r a b = b.0 (closed_also D s u is its same a.0)
+  makes_or_denies c ps r a b = (both_once c).apart ps b.cause a b.refuses
 
 -- WHAT A COMMAND DOES, by what it says, where what was declared is sound
 module _ (s : State) (sound : AreSound s.declarations) (bytes : List ℕ) where
@@ -158,11 +137,11 @@ module _ (s : State) (sound : AreSound s.declarations) (bytes : List ℕ) where
   module _ (l : Option (List ℕ)) (c : ProofCommand) (a : Attempt) (x y : Sequent) (gs : List Goal) (f : Faces s bytes l c a x gs) (g : Faces s bytes l c a y gs) (same : named x ≡ named y) where
     one_proof : (r q : Reply) (t u : State) → Denying l c x r t ⊎ Making l c a x gs r t → Denying l c y q u ⊎ Making l c a y gs q u → Same r t q u
     one_proof r q t u (inl (v, d, k)) (inl (w, e, j)) =
-        leaves_same v w r q t u (one_denial s.declarations sound.definitions (given_label l) x y f.numbered.sequent g.numbered.sequent same c (uses_nothing _ c f.says.built) v w d e) k j
-    one_proof r q t u (inl (v, d, k)) (inr (ps, m, j)) = absurd (makes_or_denies s.declarations sound.definitions (given_label l) y x g.numbered.sequent f.numbered.sequent (sym same) c (uses_nothing _ c f.says.built) ps v m d)
-    one_proof r q t u (inr (ps, m, k)) (inl (w, e, j)) = absurd (makes_or_denies s.declarations sound.definitions (given_label l) x y f.numbered.sequent g.numbered.sequent same c (uses_nothing _ c f.says.built) ps w m e)
+        leaves_same v w r q t u (one_denial s.declarations sound (given_label l) x y f.numbered.sequent g.numbered.sequent same c v w d e) k j
+    one_proof r q t u (inl (v, d, k)) (inr (ps, m, j)) = absurd (makes_or_denies s.declarations sound (given_label l) y x g.numbered.sequent f.numbered.sequent (sym same) c ps v m d)
+    one_proof r q t u (inr (ps, m, k)) (inl (w, e, j)) = absurd (makes_or_denies s.declarations sound (given_label l) x y f.numbered.sequent g.numbered.sequent same c ps w m e)
     one_proof r q t u (inr (ps, m, k)) (inr (qs, n, j)) =
-        let goals = one_making s.declarations sound.definitions (given_label l) x y f.numbered.sequent g.numbered.sequent same c (uses_nothing _ c f.says.built) ps qs m n in
+        let goals = one_making s.declarations sound (given_label l) x y f.numbered.sequent g.numbered.sequent same c ps qs m n in
         leading_same a (map named qs ++ gs) r q t u (subst (λ ks. Leading a (ks ++ gs) r t) goals k) j
 
   first_same : {X : Type 0} {x y : X} {xs ys : List X} → x ∷ xs ≡ y ∷ ys → x ≡ y
@@ -214,7 +193,7 @@ module _ (s : State) (sound : AreSound s.declarations) (bytes : List ℕ) where
 pub one_effect : (s : State) → AreSound s.declarations → (bytes : List ℕ) {r q : Reply} {t u : State} → HasEffect s bytes r t → HasEffect s bytes q u → (r ≡ q) × (t ≡ u)
 one_effect s sound bytes a b = one_saying s sound bytes (said s sound bytes a) (said s sound bytes b)
 
-pub one_replay : {s t u : State} {cs : List (List ℕ)} → AreSound s.declarations → Replays s cs t → Replays s cs u → t ≡ u
+pub one_replay : {s t u : State} {cs : List (List ℕ)} → IsSound s → Replays s cs t → Replays s cs u → t ≡ u
 one_replay sound none none = refl
 one_replay {u = u} sound (next {s = s} {c = c} {cs = cs} r e k x) (next q f j y) =
-    one_replay (sound_effect e sound) x (subst (λ v. Replays v cs u) (sym (one_effect s sound c e f).1) y)
+    one_replay (sound_effect e sound) x (subst (λ v. Replays v cs u) (sym (one_effect s sound.declarations c e f).1) y)

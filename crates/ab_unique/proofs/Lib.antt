@@ -4,5 +4,6 @@ mod Definitions
 mod Defining
 mod Closing
 mod Declaring
+mod Statements
 pub mod Sound
 pub mod Effects

@@ -1,2 +1,2 @@
--- What is true of all that a session declares.
+-- What is true of all that a session declares, and of its states.
 pub mod Sound

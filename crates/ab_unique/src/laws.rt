@@ -4,7 +4,7 @@ ghost use Rattle.ab_states.specs.State.{State, empty};
 ghost use Rattle.ab_states.specs.Reply.{Reply};
 ghost use Rattle.ab_states.specs.Effect.{HasEffect};
 ghost use Rattle.ab_states.specs.Replay.{Replays};
-ghost use Rattle.ab_unique.specs.Sound.{AreSound};
+ghost use Rattle.ab_unique.specs.Sound.{AreSound, IsSound};
 
 /// The bytes of a command have one effect on a state: one reply, and one state behind it. What numbers a goal's variables
 /// are given meanwhile makes no difference, since a state speaks of names alone. What was declared is to be sound, as it is
@@ -14,13 +14,14 @@ pub fn commands_have_one_effect()
     ensures states { (s : State) (bytes : List ℕ) (r q : Reply) (t u : State) → AreSound s.declarations → HasEffect s bytes r t → HasEffect s bytes q u → t ≡ u }
 {}
 
-/// What is declared in the beginning is sound, and effects keep it so.
-pub fn effects_keep_declarations_sound()
-    ensures kept { (s : State) (bytes : List ℕ) (r : Reply) (t : State) → AreSound s.declarations → HasEffect s bytes r t → AreSound t.declarations }
-    ensures beginning { AreSound empty.declarations }
+/// A session begins in a sound state, and effects keep states sound: what is declared is, and a formula that is being proved
+/// is a sentence.
+pub fn effects_keep_states_sound()
+    ensures kept { (s : State) (bytes : List ℕ) (r : Reply) (t : State) → IsSound s → HasEffect s bytes r t → IsSound t }
+    ensures beginning { IsSound empty }
 {}
 
 /// So replaying commands leads to one state.
 pub fn commands_replay_to_one_state()
-    ensures { (s t u : State) (commands : List (List ℕ)) → AreSound s.declarations → Replays s commands t → Replays s commands u → t ≡ u }
+    ensures { (s t u : State) (commands : List (List ℕ)) → IsSound s → Replays s commands t → Replays s commands u → t ≡ u }
 {}

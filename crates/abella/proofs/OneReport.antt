@@ -5,7 +5,7 @@ use Rattle.ab_lex.specs.Commands.{Item}
 use Rattle.ab_lex.proofs.Cuts.{only_items}
 use Rattle.ab_states.specs.State.{State, empty}
 use Rattle.ab_states.specs.Reply.{Reply}
-use Rattle.ab_unique.specs.Sound.{AreSound}
+use Rattle.ab_unique.specs.Sound.{IsSound}
 use Rattle.ab_unique.proofs.Sound.{sound_effect, sound_beginning}
 use Rattle.ab_unique.proofs.Effects.{one_effect}
 use Rattle.abella.specs.Report.{Moment, Replies, to_command, to_long, Report, Reports, none, next, last, ReportOf, is_end}
@@ -17,12 +17,8 @@ same_moment : (m k : Moment) → m.reply ≡ k.reply → m.state ≡ k.state →
 unfolding moment_by
 same_moment m k e f = ap (λ r. moment_by r m.state) e ∙ ap (moment_by k.reply) f
 
--- what was declared is sound
-abbrev IsSound : State → Type 0
-IsSound s = AreSound s.declarations
-
 one_moment : {s : State} {i : Item} {m k : Moment} → IsSound s → Replies s i m → Replies s i k → m ≡ k
-one_moment {s = s} sound (to_command {bytes = bytes} m e b) (to_command k f c) = let same = one_effect s sound bytes e f in same_moment m k same.0 same.1
+one_moment {s = s} sound (to_command {bytes = bytes} m e b) (to_command k f c) = let same = one_effect s sound.declarations bytes e f in same_moment m k same.0 same.1
 one_moment sound (to_long m e f) (to_long k g h) = same_moment m k (e ∙ sym g) (f ∙ sym h)
 
 goes_or_ends : (m k : Moment) → m ≡ k → is_end m.reply ≡ false → is_end k.reply ≡ true → ⊥

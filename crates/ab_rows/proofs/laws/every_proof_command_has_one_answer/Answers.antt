@@ -3,7 +3,7 @@ use Rattle.ab_rows.proofs.laws.every_proof_command_has_one_answer.Goals as goal
 
 pub returns : goal.returns
 returns c = record {
-  apart = λ D l command s u ps f so definitions is its same. (once D definitions s u is its same l command so).apart ps f;
-  one_refusal = λ D l command s u f g so definitions is its same. (once D definitions s u is its same l command so).refusal f g;
-  one_list = λ D l command s u ps qs so definitions is its same. (once D definitions s u is its same l command so).goals ps qs;
+  apart = λ D l command s u ps f lists sentences definitions is its same. (once D lists sentences definitions s u is its same l command).apart ps f;
+  one_refusal = λ D l command s u f g lists sentences definitions is its same. (once D lists sentences definitions s u is its same l command).refusal f g;
+  one_list = λ D l command s u ps qs lists sentences definitions is its same. (once D lists sentences definitions s u is its same l command).goals ps qs;
 }
