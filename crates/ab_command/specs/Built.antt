@@ -1,8 +1,8 @@
 -- The commands that are built, of all that the grammar has.
 use Rattle.std.specs.Prelude.{◌≡◌, ℕ, All}
 use Rattle.ab_grammar.specs.CommandTrees.{Command, kinds, constants, define, theorem, show, quit, subgoals, abort, in_proof}
-use Rattle.ab_grammar.specs.CommandTrees.{ProofCommand, intros, induction, coinduction, split, split_all, left, right, exists, unfold_goal, case, assert, clear, rename, permute, search}
-use Rattle.ab_command.specs.Judgements.{HasNoJudgement, ClauseHasNoJudgement}
+use Rattle.ab_grammar.specs.CommandTrees.{ProofCommand, intros, induction, coinduction, split, split_all, left, right, exists, unfold_goal, case, apply, backchain, assert, clear, rename, permute, search}
+use Rattle.ab_command.specs.Judgements.{HasNoJudgement, InstanceHasNoJudgement, ClauseHasNoJudgement}
 
 -- A proof command, read from so many tokens: `search` is built without its depth alone, of a word and a full stop.
 abbrev pub IsBuiltInProof : ℕ → ProofCommand → Type 0
@@ -16,6 +16,8 @@ IsBuiltInProof count right = Unit {0}
 IsBuiltInProof count (exists e) = HasNoJudgement e
 IsBuiltInProof count unfold_goal = Unit {0}
 IsBuiltInProof count (case H keep) = Unit {0}
+IsBuiltInProof count (apply H vs is) = All InstanceHasNoJudgement is
+IsBuiltInProof count (backchain H is) = All InstanceHasNoJudgement is
 IsBuiltInProof count (assert e) = HasNoJudgement e
 IsBuiltInProof count (clear Hs) = Unit {0}
 IsBuiltInProof count (rename H x) = Unit {0}

@@ -1,6 +1,6 @@
--- Expressions and clauses in which no judgement stands. Judgements aren't read yet.
+-- Expressions, terms that are given and clauses in which no judgement stands. Judgements aren't read yet.
 use Rattle.std.specs.Prelude.{Option, Some, None}
-use Rattle.ab_grammar.specs.CommandTrees.{Clause}
+use Rattle.ab_grammar.specs.CommandTrees.{Clause, Instance}
 use Rattle.ab_grammar.specs.Tree.{Tree, name, apply, abs, join, bind, judge, Trees, no_trees, tree}
 
 abbrev mutual
@@ -15,6 +15,9 @@ abbrev mutual
   pub HaveNoJudgement : Trees → Type 0
   HaveNoJudgement no_trees = Unit {0}
   HaveNoJudgement (tree e es) = HasNoJudgement e × HaveNoJudgement es
+
+abbrev pub InstanceHasNoJudgement : Instance → Type 0
+InstanceHasNoJudgement i = HasNoJudgement i.term
 
 abbrev pub BodyHasNoJudgement : Option Tree → Type 0
 BodyHasNoJudgement None = Unit {0}

@@ -3,7 +3,7 @@ ghost use Rattle.std.specs.Prelude.{◌↔◌, IsTrue};
 ghost use Rattle.ab_syntax.specs.Commands.{proof_command_of, command_of};
 ghost use Rattle.ab_command.specs.Built.{IsBuilt, IsBuiltInProof};
 
-use crate::judging::{clauses_hold_judgement, holds_judgement};
+use crate::judging::{clauses_hold_judgement, holds_judgement, instances_hold_judgement};
 use ab_syntax::{Command, ProofCommand};
 
 /// Whether the proof command, which was read from so many tokens, is built.
@@ -25,6 +25,9 @@ fn is_built_in_proof(command: &ProofCommand, count: usize) -> bool
         | ProofCommand::Permute(_, _) => true,
         ProofCommand::Exists(term) => !holds_judgement(term),
         ProofCommand::Assert(formula) => !holds_judgement(formula),
+        ProofCommand::Apply(_, _, given) | ProofCommand::Backchain(_, given) => {
+            !instances_hold_judgement(given.as_slice())
+        }
         ProofCommand::Search(_) => count == 2,
         _ => false,
     }

@@ -1,10 +1,10 @@
-//! Expressions and clauses in which a judgement stands.
+//! Expressions, terms that are given and clauses in which a judgement stands.
 ghost use Rattle.std.specs.Prelude.{IsTrue, IsFalse, All, map, option_map};
-ghost use Rattle.ab_syntax.specs.Commands.{clause_of};
+ghost use Rattle.ab_syntax.specs.Commands.{clause_of, instance_of};
 ghost use Rattle.ab_syntax.specs.Trees.{tree_of};
-ghost use Rattle.ab_command.specs.Judgements.{HasNoJudgement, BodyHasNoJudgement, ClauseHasNoJudgement};
+ghost use Rattle.ab_command.specs.Judgements.{HasNoJudgement, InstanceHasNoJudgement, BodyHasNoJudgement, ClauseHasNoJudgement};
 
-use ab_syntax::{ClauseParse, Parse};
+use ab_syntax::{ClauseParse, Instance, Parse};
 
 /// Whether a judgement stands in the expression.
 pub fn holds_judgement(parse: &Parse) -> bool
@@ -26,6 +26,19 @@ pub fn holds_judgement(parse: &Parse) -> bool
         Parse::Bind(_, _, body, _) => holds_judgement(body),
         Parse::Judge(_, _, _, _) => true,
     }
+}
+
+/// Whether a judgement stands in one of the terms that are given.
+pub(crate) fn instances_hold_judgement(given: &[Instance]) -> bool
+    ensures none { IsFalse result → All InstanceHasNoJudgement (map instance_of given.now) }
+    ensures some { IsTrue result → All InstanceHasNoJudgement (map instance_of given.now) → ⊥ }
+{
+    for instance in given {
+        if holds_judgement(&instance.term) {
+            return true;
+        }
+    }
+    false
 }
 
 /// Whether a judgement stands in a body, where one is written.

@@ -1,12 +1,18 @@
 -- The proof commands that are built.
-use Rattle.ab_grammar.specs.CommandTrees.{ProofCommand, intros, induction, coinduction, case, split, split_all, left, right, unfold_goal, exists, assert, clear, rename, permute}
+use Rattle.std.specs.Prelude.{All}
+use Rattle.ab_grammar.specs.CommandTrees.{ProofCommand, Instance, intros, induction, coinduction, case, apply, backchain, split, split_all, left, right, unfold_goal, exists, assert, clear, rename, permute}
 use Rattle.ab_elaborate.specs.Judgements.{HasNoJudgement}
+
+abbrev pub InstanceHasNoJudgement : Instance → Type 0
+InstanceHasNoJudgement i = HasNoJudgement i.term
 
 abbrev pub IsBuilt : ProofCommand → Type 0
 IsBuilt (intros xs) = Unit {0}
 IsBuilt (induction n) = Unit {0}
 IsBuilt coinduction = Unit {0}
 IsBuilt (case H keep) = Unit {0}
+IsBuilt (apply H vs is) = All InstanceHasNoJudgement is
+IsBuilt (backchain H is) = All InstanceHasNoJudgement is
 IsBuilt split = Unit {0}
 IsBuilt split_all = Unit {0}
 IsBuilt left = Unit {0}

@@ -11,6 +11,8 @@ ghost use Rattle.ab_progress.specs.declared.fault.ProofCommandFault.{ProofComman
 ghost use Rattle.ab_effects.specs.Effect.{given_label};
 ghost use Rattle.ab_proofcmd.specs.Built.{IsBuilt};
 
+use crate::judging::terms_hold_judgement;
+use ab_applying::{apply, backchain};
 use ab_elaborate::holds_judgement;
 use ab_exchanging::permute;
 use ab_giving::{assert, exists};
@@ -43,9 +45,10 @@ pub fn is_built(command: &ProofCommand) -> bool
         | ProofCommand::Permute(_, _) => true,
         ProofCommand::Exists(term) => !holds_judgement(term),
         ProofCommand::Assert(formula) => !holds_judgement(formula),
-        ProofCommand::Apply(_, _, _)
-        | ProofCommand::Backchain(_, _)
-        | ProofCommand::Cut(_, _)
+        ProofCommand::Apply(_, _, given) | ProofCommand::Backchain(_, given) => {
+            !terms_hold_judgement(given.as_slice())
+        }
+        ProofCommand::Cut(_, _)
         | ProofCommand::Inst(_, _)
         | ProofCommand::Monotone(_, _)
         | ProofCommand::Search(_) => false,
@@ -114,6 +117,16 @@ pub fn apply_proof_command<L>(
             clear(alloc, world, proof, gone, steps)
         }
         ProofCommand::Rename(name, to) => rename(alloc, world, proof, name, to, steps),
+        ProofCommand::Apply(name, arguments, given) => {
+            let wanted = label_wanted(alloc, label)?;
+            let list = arguments.as_slice();
+            let terms = given.as_slice();
+            apply(alloc, world, proof, &wanted, name, list, terms, steps)
+        }
+        ProofCommand::Backchain(name, given) => {
+            let instances = given.as_slice();
+            backchain(alloc, world, proof, name, instances, steps)
+        }
         ProofCommand::Permute(numbers, name) => {
             let cycle = numbers.as_slice();
             permute(alloc, world, proof, cycle, name.as_ref(), steps)

@@ -2,6 +2,7 @@
 #![tactic(auto)]
 
 mod applying;
+mod judging;
 #[cfg(test)]
 mod tests;
 

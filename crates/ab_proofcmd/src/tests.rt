@@ -86,7 +86,7 @@ fn ended(
 }
 
 /// A theorem, the last number that was given to a hypothesis, commands, and what the last of them ends with.
-const CASES: [(&str, u32, &[&str], &str); 51] = [
+const CASES: [(&str, u32, &[&str], &str); 52] = [
     (
         "Theorem t : true -> true.",
         0,
@@ -393,6 +393,7 @@ const CASES: [(&str, u32, &[&str], &str); 51] = [
         &["permute (n1 n2)."],
         "Some(Err(WrongShape)), 1",
     ),
+    ("Theorem t : true.", 0, &["search."], "None, 1"),
 ];
 
 #[test]

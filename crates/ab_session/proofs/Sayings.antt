@@ -1,22 +1,24 @@
 -- Where commands stand that the bytes say, and which of them are built.
-use Rattle.std.proofs.Common.{◌≡◌, ℕ, Bool, true, false, List, Option, Some, None, is_some, option_map, refl, sym, ◌∙◌, subst}
+use Rattle.std.proofs.Common.{◌≡◌, ℕ, Bool, true, false, List, map, Option, Some, None, is_some, option_map, refl, sym, ◌∙◌, subst}
 use Rattle.std.specs.List.{All}
 use Rattle.std.proofs.lemmas.List.Elements.{All-weaker}
 use Rattle.ab_grammar.specs.declared.head.Stand.TheVariants.{Outside, Inside}
 use Rattle.ab_grammar.specs.Tree.{Tree, Trees, name, apply, abs, join, bind, judge, no_trees, tree}
 use Rattle.ab_grammar.specs.CommandTrees as told
-use Rattle.ab_grammar.specs.CommandTrees.{Command, Defined, Clause}
+use Rattle.ab_grammar.specs.CommandTrees.{Command, Defined, Clause, Instance}
 use Rattle.ab_grammar.specs.CommandTable.{standing}
 use Rattle.ab_syntax.specs.declared.command.ProofCommand.{ProofCommand}
 use Rattle.ab_syntax.specs.declared.command.ProofCommand.TheVariants as plain
-use Rattle.ab_syntax.specs.Commands.{proof_command_of}
+use Rattle.ab_syntax.specs.Commands.{proof_command_of, instance_of}
+use Rattle.ab_syntax.specs.Items.{list_of}
 use Rattle.ab_syntax.specs.Trees.{tree_of}
 use Rattle.ab_elaborate.specs.Judgements as elaborated
 use Rattle.ab_clausal.specs.Meanings as clausal
 use Rattle.ab_command.specs.Built.{IsBuiltInProof}
-use Rattle.ab_command.specs.Judgements.{HasNoJudgement, HaveNoJudgement, BodyHasNoJudgement, ClauseHasNoJudgement}
+use Rattle.ab_command.specs.Judgements.{HasNoJudgement, HaveNoJudgement, InstanceHasNoJudgement, BodyHasNoJudgement, ClauseHasNoJudgement}
 use Rattle.ab_command.specs.Reading.{StandsHere}
 use Rattle.ab_command.proofs.Sayings.{said_stands}
+use Rattle.ab_proofcmd.specs.Built as carried
 use Rattle.ab_proofcmd.specs.Built.{IsBuilt}
 use Rattle.ab_states.specs.State.{State, is_open}
 use Rattle.ab_states.specs.Effect.{Commands}
@@ -69,6 +71,10 @@ mutual
   no_judgements no_trees h = tt
   no_judgements (tree e es) h = (no_judgement e h.0, no_judgements es h.1)
 
+-- nor does one in terms that are given
+no_instance_judgement : (is : List Instance) → All InstanceHasNoJudgement is → All carried.InstanceHasNoJudgement is
+no_instance_judgement is h = All-weaker InstanceHasNoJudgement carried.InstanceHasNoJudgement (λ i given. no_judgement i.term given) is h
+
 no_body_judgement : (b : Option Tree) → BodyHasNoJudgement b → clausal.BodyHasNoJudgement b
 no_body_judgement None h = tt
 no_body_judgement (Some b) h = no_judgement b h
@@ -86,8 +92,8 @@ has_row count (plain.Intros xs) n h = h
 has_row count (plain.Induction i) n h = h
 has_row count plain.Coinduction n h = h
 has_row count (plain.Case x keep) n h = h
-has_row count (plain.Apply x vs is) n h = h
-has_row count (plain.Backchain x is) n h = h
+has_row count (plain.Apply x vs is) n h = no_instance_judgement (map instance_of (list_of is)) h
+has_row count (plain.Backchain x is) n h = no_instance_judgement (map instance_of (list_of is)) h
 has_row count (plain.Cut x y) n h = h
 has_row count (plain.Inst x is) n h = h
 has_row count (plain.Monotone x e) n h = h

@@ -1,12 +1,20 @@
-use Rattle.std.specs.Prelude.{IfOk}
+use Rattle.std.specs.Prelude.{IfOk, All}
 use Rattle.std.specs.Option.{option_copied}
-use Rattle.std.proofs.Common.{ℕ, List, Option, subst}
+use Rattle.std.proofs.Common.{ℕ, List, Option, map, sym, subst}
 use Rattle.ab_grammar.specs.CommandTrees as told
+use Rattle.ab_syntax.specs.declared.command.Argument.{Argument}
+use Rattle.ab_syntax.specs.declared.command.Instance.{Instance}
+use Rattle.ab_syntax.specs.declared.command.ProofCommand.{ProofCommand}
+use Rattle.ab_syntax.specs.Commands.{argument_of, instance_of, proof_command_of}
+use Rattle.ab_syntax.specs.Items.{list_of}
 use Rattle.ab_syntax.specs.Trees.{tree_of}
+use Rattle.ab_elaborate.specs.Judgements.{HasNoJudgement}
 use Rattle.ab_logic.specs.Names.{Label}
 use Rattle.ab_progress.specs.Applied.{IsApplied, IsRefused}
 use Rattle.ab_effects.specs.Effect.{given_label}
+use Rattle.ab_proofcmd.specs.Built.{IsBuilt}
 use Rattle.ab_proofcmd.proofs.Answered.{at_label}
+use Rattle.ab_proofcmd.proofs.Terms.{none_given}
 use Rattle.ab_proofcmd.proofs.applying.apply_proof_command.Goals as goal
 
 pub returns-in-Intros-clause-applied : goal.returns-in-Intros-clause-applied
@@ -150,3 +158,49 @@ returns-in-Permute-clause-refused g c fault e =
     (subst (λ (xs : List ℕ). IsRefused l (told.permute xs c.in-Permute.name) c.args.world.now c.args.proof.now fault) c.as_slice-cycle.ensures
     (subst (λ (x : Option (List ℕ)). IsRefused l (told.permute c.as_slice-cycle.result.now x) c.args.world.now c.args.proof.now fault) c.as_ref.ensures.value
     (c.permute.ensures.refused fault e l)))
+
+pub apply-requires-clause-judgement : goal.apply-requires-clause-judgement
+apply-requires-clause-judgement g c =
+    subst (All (λ (i : Instance). HasNoJudgement (tree_of i.term))) (sym c.as_slice-terms.ensures)
+    (none_given (list_of c.in-Apply.given) (subst (λ (k : ProofCommand). IsBuilt (proof_command_of k)) c.in-Apply.is c.requires.built))
+
+pub returns-in_ok-wanted-in-Apply-clause-applied : goal.returns-in_ok-wanted-in-Apply-clause-applied
+returns-in_ok-wanted-in-Apply-clause-applied g c =
+    let name = c.in-Apply.name in
+    let l = given_label (option_copied c.args.label) in
+    let done = λ (m : Label) (vs : List Argument) (is : List Instance). IfOk c.apply.result (λ u. IsApplied m (told.apply name (map argument_of vs) (map instance_of is)) c.args.world.now c.args.proof.now c.apply.new.world c.apply.new.proof) in
+    rw c.in-Apply.is
+    (subst (λ (vs : List Argument). done l vs (list_of c.in-Apply.given)) c.as_slice-list.ensures
+    (subst (λ (is : List Instance). done l c.as_slice-list.result.now is) c.as_slice-terms.ensures
+    (subst (λ (m : Label). done m c.as_slice-list.result.now c.as_slice-terms.result.now) c.in_ok-wanted-in-Apply.ensures
+    c.apply.ensures.applied)))
+
+pub returns-in_ok-wanted-in-Apply-clause-refused : goal.returns-in_ok-wanted-in-Apply-clause-refused
+returns-in_ok-wanted-in-Apply-clause-refused g c fault e =
+    let name = c.in-Apply.name in
+    let l = given_label (option_copied c.args.label) in
+    let refused = λ (m : Label) (vs : List Argument) (is : List Instance). IsRefused m (told.apply name (map argument_of vs) (map instance_of is)) c.args.world.now c.args.proof.now fault in
+    rw c.in-Apply.is
+    (subst (λ (vs : List Argument). refused l vs (list_of c.in-Apply.given)) c.as_slice-list.ensures
+    (subst (λ (is : List Instance). refused l c.as_slice-list.result.now is) c.as_slice-terms.ensures
+    (subst (λ (m : Label). refused m c.as_slice-list.result.now c.as_slice-terms.result.now) c.in_ok-wanted-in-Apply.ensures
+    (c.apply.ensures.refused fault e))))
+
+pub backchain-requires-clause-judgement : goal.backchain-requires-clause-judgement
+backchain-requires-clause-judgement g c =
+    subst (All (λ (i : Instance). HasNoJudgement (tree_of i.term))) (sym c.as_slice-instances.ensures)
+    (none_given (list_of c.in-Backchain.given) (subst (λ (k : ProofCommand). IsBuilt (proof_command_of k)) c.in-Backchain.is c.requires.built))
+
+pub returns-in-Backchain-clause-applied : goal.returns-in-Backchain-clause-applied
+returns-in-Backchain-clause-applied g c =
+    let l = given_label (option_copied c.args.label) in
+    let name = c.in-Backchain.name in
+    rw c.in-Backchain.is
+    (subst (λ (is : List Instance). IfOk c.backchain.result (λ u. IsApplied l (told.backchain name (map instance_of is)) c.args.world.now c.args.proof.now c.backchain.new.world c.backchain.new.proof)) c.as_slice-instances.ensures
+    (at_label (λ m. IsApplied m (told.backchain name (map instance_of c.as_slice-instances.result.now)) c.args.world.now c.args.proof.now c.backchain.new.world c.backchain.new.proof) c.backchain.result l c.backchain.ensures.applied))
+
+pub returns-in-Backchain-clause-refused : goal.returns-in-Backchain-clause-refused
+returns-in-Backchain-clause-refused g c fault e =
+    let l = given_label (option_copied c.args.label) in
+    rw c.in-Backchain.is
+    (subst (λ (is : List Instance). IsRefused l (told.backchain c.in-Backchain.name (map instance_of is)) c.args.world.now c.args.proof.now fault) c.as_slice-instances.ensures (c.backchain.ensures.refused fault e l))

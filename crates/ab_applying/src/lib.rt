@@ -1,0 +1,9 @@
+//! The proof commands that use a hypothesis or a theorem: `apply` and `backchain`.
+#![tactic(auto)]
+
+mod applying;
+mod asking;
+mod backchaining;
+
+pub use applying::apply;
+pub use backchaining::backchain;

@@ -1,0 +1,5 @@
+pub mod Places
+pub mod Bared
+pub mod Staged
+pub mod Awaited
+pub mod Turned

@@ -1,0 +1,2 @@
+-- What steps leave of the goals of a proof.
+pub mod Standing
