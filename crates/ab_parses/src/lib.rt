@@ -1,0 +1,5 @@
+//! What expressions mean, by a table: tests alone.
+#![tactic(auto)]
+
+#[cfg(test)]
+mod tests;
