@@ -1,7 +1,7 @@
 -- The commands that are built, of all that the grammar has.
 use Rattle.std.specs.Prelude.{◌≡◌, ℕ, All}
-use Rattle.ab_grammar.specs.CommandTrees.{Command, kinds, constants, define, theorem, show, quit, subgoals, abort, in_proof}
-use Rattle.ab_grammar.specs.CommandTrees.{ProofCommand, intros, induction, coinduction, split, split_all, left, right, exists, unfold_goal, case, apply, backchain, assert, clear, rename, permute, search}
+use Rattle.ab_grammar.specs.CommandTrees.{Command, kinds, constants, define, theorem, specification, show, quit, subgoals, back, reset, undo, abort, in_proof}
+use Rattle.ab_grammar.specs.CommandTrees.{ProofCommand, intros, induction, coinduction, split, split_all, left, right, exists, unfold_goal, case, apply, backchain, assert, clear, rename, permute, search, cut, inst, monotone}
 use Rattle.ab_command.specs.Judgements.{HasNoJudgement, InstanceHasNoJudgement, ClauseHasNoJudgement}
 
 -- A proof command, read from so many tokens: `search` is built without its depth alone, of a word and a full stop.
@@ -23,7 +23,9 @@ IsBuiltInProof count (clear Hs) = Unit {0}
 IsBuiltInProof count (rename H x) = Unit {0}
 IsBuiltInProof count (permute ns x) = Unit {0}
 IsBuiltInProof count (search depth) = count ≡ 2
-IsBuiltInProof count _ = ⊥
+IsBuiltInProof count (cut H K) = ⊥
+IsBuiltInProof count (inst H is) = ⊥
+IsBuiltInProof count (monotone H e) = ⊥
 
 -- THE COMMAND IS BUILT, read from so many tokens
 abbrev pub IsBuilt : ℕ → Command → Type 0
@@ -36,4 +38,7 @@ IsBuilt count quit = Unit {0}
 IsBuilt count (subgoals on) = Unit {0}
 IsBuilt count abort = Unit {0}
 IsBuilt count (in_proof label c) = IsBuiltInProof count c
-IsBuilt count _ = ⊥
+IsBuilt count (specification x) = ⊥
+IsBuilt count back = ⊥
+IsBuilt count reset = ⊥
+IsBuilt count undo = ⊥

@@ -29,7 +29,7 @@ fn is_built_in_proof(command: &ProofCommand, count: usize) -> bool
             !instances_hold_judgement(given.as_slice())
         }
         ProofCommand::Search(_) => count == 2,
-        _ => false,
+        ProofCommand::Cut(_, _) | ProofCommand::Inst(_, _) | ProofCommand::Monotone(_, _) => false,
     }
 }
 
@@ -47,6 +47,6 @@ pub(crate) fn is_built(command: &Command, count: usize) -> bool
         Command::Define(_, _, clauses) => !clauses_hold_judgement(clauses.as_slice()),
         Command::Theorem(_, formula) => !holds_judgement(formula),
         Command::InProof(_, command) => is_built_in_proof(command, count),
-        _ => false,
+        Command::Specification(_) | Command::Back | Command::Reset | Command::Undo => false,
     }
 }

@@ -2,12 +2,12 @@
 use Rattle.std.proofs.Common.{◌≡◌, ℕ, List, [], ◌∷◌, ◌++◌, refl, ap, sym, subst, append_assoc}
 use Rattle.ab_grammar.specs.declared.Infix.TheVariants.{Arrow}
 use Rattle.ab_grammar.specs.declared.Quant.{Quant}
-use Rattle.ab_grammar.specs.Token.{Token, word, truth, quantifier, pi_word, sign, left_paren, left_brace, comma, other, Other, stop, end}
+use Rattle.ab_grammar.specs.Token.{Token, word, truth, quantifier, pi_word, sign, left_paren, left_brace, comma, other, Other, stop, end, first}
 use Rattle.ab_grammar.specs.Tree.{Ty, Tree, name, base}
 use Rattle.ab_grammar.specs.Nesting.{Spot, spots, spots_from, Layer, outside}
 use Rattle.ab_grammar.specs.Grammar.{Ends, closed, Reads, looser, infixed, application, pi_applied, named, true_or_false, grouped, abstracted, quantified, judged, judged_from, ReadsType, named_type, grouped_type, arrow_type, looser_type}
-use Rattle.ab_grammar.specs.Language.{tokens_of, nested, Expression, TypeExpression, Follower, by_other, Followed}
-use Rattle.ab_grammar.specs.Reading.{first, Comes}
+use Rattle.ab_grammar.specs.Language.{tokens_of, nested, Expression, TypeExpression}
+use Rattle.ab_grammar.proofs.Following.{Follower, by_other, Followed, Comes}
 use Rattle.ab_grammar.proofs.Joining.{Example}
 
 -- a token with which an expression or a type can begin

@@ -2,14 +2,15 @@
 use Rattle.std.proofs.Common.{◌≡◌, ℕ, List, [], ◌++◌, Bool, true, false, Some, None, refl, sym, ◌∙◌, subst, codes, inl, inr}
 use Rattle.ab_grammar.specs.declared.head.Head.TheVariants as head
 use Rattle.ab_grammar.specs.declared.head.ProofHead.TheVariants as proof
-use Rattle.ab_grammar.specs.Token.{Token, word, left_paren, right_paren, other, Other, stop, becomes, star, to_word, with_word, on_word}
+use Rattle.ab_grammar.specs.Token.{Token, word, left_paren, right_paren, other, Other, stop, becomes, star, to_word, with_word, on_word, first}
 use Rattle.ab_grammar.specs.Tree.{Tree}
 use Rattle.ab_grammar.specs.Nesting.{Spot}
 use Rattle.ab_grammar.specs.Language.{tokens_of, Key, Expression}
-use Rattle.ab_grammar.specs.Reading.{first, ReadsOff}
+use Rattle.ab_grammar.proofs.Reading.{ReadsOff}
 use Rattle.ab_grammar.specs.CommandTrees as tree
 use Rattle.ab_grammar.specs.CommandForms.{One, Nothing, nothing, joined, Valued, valued, Optional, Many, OneOrMore, ◌▸◌}
-use Rattle.ab_grammar.specs.CommandTable.{BeforeStop, ClauseEnds, ArgumentsEnd, Row, ProofRow, Name, Word, Sign, ClauseBody, ClauseForm, Clauses, Definition, InstanceList, Instances, Arguments, Keep, kept, OptionalName, Switch, switched_on, switched_off, ShowsName, shows_name, ShowsArgument, ShowsDepth, shows_depth, ShowsText, StandsAnywhere, stands_at, define_row, codefine_row, specification_row, show_row, quit_row, back_row, reset_row, undo_row, abort_row, intros_row, coinduction_row, search_row, split_row, split_all_row, left_row, right_row, exists_row, witness_row, unfold_row, assert_row, clear_row}
+use Rattle.ab_grammar.proofs.Following.{BeforeStop, ClauseEnds, ArgumentsEnd}
+use Rattle.ab_grammar.specs.CommandTable.{Row, ProofRow, Name, Word, Sign, ClauseBody, ClauseForm, Clauses, Definition, InstanceList, Instances, Arguments, Keep, kept, OptionalName, Switch, switched_on, switched_off, ShowsName, shows_name, ShowsArgument, ShowsDepth, shows_depth, ShowsText, StandsAnywhere, stands_at, define_row, codefine_row, specification_row, show_row, quit_row, back_row, reset_row, undo_row, abort_row, intros_row, coinduction_row, search_row, split_row, split_all_row, left_row, right_row, exists_row, witness_row, unfold_row, assert_row, clear_row}
 use Rattle.ab_grammar.proofs.Lists.{regroup}
 use Rattle.ab_grammar.proofs.Choosing.{key_begins, one_shown, nothing_reads}
 use Rattle.ab_grammar.proofs.Continuing.{Continues, onwards, chosen, same_texts, with_value, is_present, is_absent, Apart, Missing}

@@ -1,10 +1,11 @@
 -- What is read or refused of a form that is one of several, or the same texts with another value; and of one token.
 use Rattle.std.proofs.Common.{◌≡◌, List, [], ◌∷◌, ◌++◌, All, refl, ap, sym, ◌∙◌, subst, lit≤}
 use Rattle.std.proofs.lemmas.List.Elements.{All-nil, All-cons}
-use Rattle.ab_grammar.specs.Token.{Token}
+use Rattle.ab_grammar.specs.Token.{Token, first}
 use Rattle.ab_grammar.specs.Nesting.{Spot, IsShallow, lone}
-use Rattle.ab_grammar.specs.Language.{tokens_of, Begins, Anything, Key, the_key}
-use Rattle.ab_grammar.specs.Reading.{first, ReadsOff, StopsAt, Cause, ungrammatical, too_nested, RefusesAt}
+use Rattle.ab_grammar.specs.Language.{tokens_of, Begins, Key, the_key}
+use Rattle.ab_grammar.proofs.Following.{Anything}
+use Rattle.ab_grammar.proofs.Reading.{ReadsOff, StopsAt, Cause, ungrammatical, too_nested, RefusesAt}
 use Rattle.ab_grammar.specs.CommandForms.{One, one}
 use Rattle.ab_grammar.proofs.Lists.{begins_like}
 use Rattle.ab_grammar.proofs.Joining.{Example}

@@ -7,7 +7,7 @@ use Rattle.ab_grammar.specs.declared.Quant.{Quant}
 use Rattle.ab_grammar.specs.Token.{Token, word, truth, quantifier, pi_word, sign, left_paren, right_paren, left_brace, right_brace, left_bracket, right_bracket, turnstile, comma}
 use Rattle.ab_grammar.specs.Tree.{Ty, Binder, Tree, name, applied, joined, judgement}
 use Rattle.ab_grammar.specs.Grammar.{level, left, right, typed, Ends, closed, ReadsBinder, plain_binder, typed_binder, ReadsBinders, no_binders, more_binders, Reads, looser, infixed, application, pi_applied, named, true_or_false, grouped, abstracted, quantified, judged, judged_from, Args, last_arg, more_args, Abs, bare_abs, grouped_abs, Front, listed, with_focus, Items, no_items, more_items, Text}
-use Rattle.ab_grammar.specs.Machine.{run, found, TypeState, TypeShut, type_have, type_step, type_finish, type_start, type_closed, type_shut, type_whole, TypeFrame, Bracket, paren, pi_paren, item_in, focus_in, goal_in, Frame, infix_at, args_at, pi_at, abs_at, bind_at, bracket_at, Bare, compound, alone, State, want, have, pi_want, enclosed, item, binders, binder_type, binder_on, grow, choose, pop, Shut, shut, close, closing, want_in, step, whole_of, finish, start}
+use Rattle.ab_grammar.proofs.Machine.{run, found, TypeState, TypeShut, type_have, type_step, type_finish, type_start, type_closed, type_shut, type_whole, TypeFrame, Bracket, paren, pi_paren, item_in, focus_in, goal_in, Frame, infix_at, args_at, pi_at, abs_at, bind_at, bracket_at, Bare, compound, alone, State, want, have, pi_want, enclosed, item, binders, binder_type, binder_on, grow, choose, pop, Shut, shut, close, closing, want_in, step, whole_of, finish, start}
 use Rattle.ab_grammar.proofs.Table.{level_high, left_low, right_low, left_high, not_both}
 use Rattle.ab_grammar.proofs.Runs.{then_run, run_none}
 use Rattle.ab_grammar.proofs.Types.{reached_type}

@@ -1,9 +1,10 @@
 -- Reading goes on behind a part: what is read or refused from there on is read or refused of the whole.
 use Rattle.std.proofs.Common.{◌≡◌, List, [], ◌∷◌, ◌++◌, refl, ap, sym, ◌∙◌}
-use Rattle.ab_grammar.specs.Token.{Token}
+use Rattle.ab_grammar.specs.Token.{Token, first}
 use Rattle.ab_grammar.specs.Nesting.{Spot}
-use Rattle.ab_grammar.specs.Language.{tokens_of, Follow, follow}
-use Rattle.ab_grammar.specs.Reading.{first, ReadsOff, Cause, RefusesAt}
+use Rattle.ab_grammar.specs.Language.{tokens_of}
+use Rattle.ab_grammar.proofs.Following.{Follow, follow}
+use Rattle.ab_grammar.proofs.Reading.{ReadsOff, Cause, RefusesAt}
 use Rattle.ab_grammar.specs.CommandForms.{Joined, joined, Valued, valued, Optional, left_out, present, Many, no_more, one_more}
 use Rattle.ab_grammar.proofs.Lists.{regroup}
 use Rattle.ab_grammar.proofs.Joining.{Example, joined_reads, second_refuses, first_refuses}

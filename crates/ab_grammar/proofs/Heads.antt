@@ -6,14 +6,15 @@ use Rattle.ab_grammar.specs.declared.head.Head.TheVariants as head
 use Rattle.ab_grammar.specs.declared.head.ProofHead.{ProofHead}
 use Rattle.ab_grammar.specs.declared.head.ProofHead.TheVariants as proof
 use Rattle.ab_grammar.specs.declared.Quant.TheVariants.{Exists}
-use Rattle.ab_grammar.specs.Token.{Token, word, quantifier, other, colon, Other}
+use Rattle.ab_grammar.specs.Token.{Token, word, quantifier, other, colon, Other, first}
 use Rattle.ab_grammar.specs.Token as token
 use Rattle.ab_grammar.specs.Nesting.{Spot, lone}
 use Rattle.ab_grammar.specs.Language.{tokens_of, Key}
-use Rattle.ab_grammar.specs.Reading.{first, StopsAt}
+use Rattle.ab_grammar.proofs.Reading.{StopsAt}
 use Rattle.ab_grammar.specs.CommandTrees as tree
 use Rattle.ab_grammar.specs.CommandForms.{One, one, nothing, Joined, joined, ◌▹◌, ◌▸◌, ◌◂◌}
-use Rattle.ab_grammar.specs.CommandTable.{BeforeStop, Row, ProofRow, command_words, proof_words, listed, Opens, opens, opens_back, opens_reset, OpensProof, opens_proof, opens_exists, takes_label, begins_plain, begins_proof, ShowsLabel, shows_label, LabelledForm, labelled_form, CommandForm, plain, unlabelled, labelled, quit_row, coinduction_row}
+use Rattle.ab_grammar.proofs.Following.{BeforeStop}
+use Rattle.ab_grammar.specs.CommandTable.{Row, ProofRow, command_words, proof_words, listed, Opens, opens, opens_back, opens_reset, OpensProof, opens_proof, opens_exists, takes_label, begins_plain, begins_proof, ShowsLabel, shows_label, LabelledForm, labelled_form, CommandForm, plain, unlabelled, labelled, quit_row, coinduction_row}
 use Rattle.ab_grammar.proofs.Lists.{regroup}
 use Rattle.ab_grammar.proofs.Joining.{Example}
 use Rattle.ab_grammar.proofs.Choosing.{one_shown, nothing_begins}

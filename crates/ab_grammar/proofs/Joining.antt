@@ -1,10 +1,11 @@
 -- What is read or refused of two forms, one behind the other.
 use Rattle.std.proofs.Common.{◌≡◌, List, [], ◌∷◌, ◌++◌, ap, sym, ◌∙◌, subst, append_assoc}
 use Rattle.std.proofs.lemmas.List.Elements.{All-append}
-use Rattle.ab_grammar.specs.Token.{Token}
+use Rattle.ab_grammar.specs.Token.{Token, first}
 use Rattle.ab_grammar.specs.Nesting.{Spot, IsShallow}
-use Rattle.ab_grammar.specs.Language.{tokens_of, Follow, follow, Begins, Read, Fails}
-use Rattle.ab_grammar.specs.Reading.{first, ReadsOff, NestsAt, Cause, ungrammatical, too_nested, RefusesAt}
+use Rattle.ab_grammar.specs.Language.{tokens_of, Begins}
+use Rattle.ab_grammar.proofs.Following.{Follow, follow}
+use Rattle.ab_grammar.proofs.Reading.{Read, Fails, ReadsOff, NestsAt, Cause, ungrammatical, too_nested, RefusesAt}
 use Rattle.ab_grammar.specs.CommandForms.{Joined, joined}
 use Rattle.ab_grammar.proofs.Lists.{begins_like, cut_in_two, regroup, cancel}
 

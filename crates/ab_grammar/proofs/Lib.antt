@@ -1,3 +1,6 @@
+pub mod Machine
+pub mod Following
+pub mod Reading
 pub mod Table
 pub mod Runs
 pub mod Types

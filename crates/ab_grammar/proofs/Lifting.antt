@@ -2,10 +2,11 @@
 use Rattle.std.proofs.Common.{◌≡◌, ℕ, zero, suc, ◌<◌, ◌≤◌, List, [], ◌∷◌, ◌++◌, length, take, drop, All, refl, ap, sym, ◌∙◌, subst, arith, append_assoc, append-nil, take-append-drop, inl, inr, ◌⊎◌}
 use Rattle.std.proofs.lemmas.List.Elements.{All-nil, All-cons, All-head, All-tail}
 use Rattle.std.proofs.lemmas.List.{append_cancel_right}
-use Rattle.ab_grammar.specs.Token.{Token, other, end}
+use Rattle.ab_grammar.specs.Token.{Token, other, end, first}
 use Rattle.ab_grammar.specs.Nesting.{Spot, IsShallow, lone}
-use Rattle.ab_grammar.specs.Language.{tokens_of, Anything, Begins, Key, the_key, Accepted, SyntaxAt, TooNestedAt}
-use Rattle.ab_grammar.specs.Reading.{first, ReadsOff, StopsAt, NestsAt}
+use Rattle.ab_grammar.specs.Language.{tokens_of, Begins, Key, the_key, Accepted, SyntaxAt, TooNestedAt}
+use Rattle.ab_grammar.proofs.Following.{Anything}
+use Rattle.ab_grammar.proofs.Reading.{ReadsOff, StopsAt, NestsAt}
 use Rattle.ab_grammar.specs.CommandForms.{joined, ◌◂◌}
 use Rattle.ab_grammar.proofs.Lists.{tokens_of-append}
 

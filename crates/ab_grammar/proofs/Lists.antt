@@ -1,10 +1,9 @@
 -- Lists of tokens and spots, cut and joined.
 use Rattle.std.proofs.Common.{◌≡◌, List, [], ◌∷◌, ◌++◌, ap, sym, ◌∙◌, append_assoc}
 use Rattle.std.proofs.lemmas.List.{map-append, append_cancel_left}
-use Rattle.ab_grammar.specs.Token.{Token}
+use Rattle.ab_grammar.specs.Token.{Token, first}
 use Rattle.ab_grammar.specs.Nesting.{Spot}
 use Rattle.ab_grammar.specs.Language.{tokens_of}
-use Rattle.ab_grammar.specs.Reading.{first}
 
 pub tokens_of-append : (us vs : List Spot) → tokens_of (us ++ vs) ≡ tokens_of us ++ tokens_of vs
 tokens_of-append us vs = map-append (λ s. s.token) us vs

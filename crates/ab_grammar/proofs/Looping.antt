@@ -1,10 +1,11 @@
 -- Reading a list item by item: what a loop finds from where it stands.
 use Rattle.std.proofs.Common.{◌≡◌, List, [], ◌∷◌, ◌++◌, refl, ap, sym, ◌∙◌, subst, append_assoc, append-nil, ◌⊎◌, inl, inr}
-use Rattle.ab_grammar.specs.Token.{Token}
+use Rattle.ab_grammar.specs.Token.{Token, first}
 use Rattle.std.proofs.lemmas.List.Elements.{All-nil}
 use Rattle.ab_grammar.specs.Nesting.{Spot, IsShallow}
-use Rattle.ab_grammar.specs.Language.{tokens_of, Follow, follow, Anything, Key}
-use Rattle.ab_grammar.specs.Reading.{first, ReadsOff, StopsAt, Cause, RefusesAt, Without, Comes}
+use Rattle.ab_grammar.specs.Language.{tokens_of, Key}
+use Rattle.ab_grammar.proofs.Following.{Follow, follow, Anything, Without, Comes}
+use Rattle.ab_grammar.proofs.Reading.{ReadsOff, StopsAt, Cause, RefusesAt}
 use Rattle.ab_grammar.specs.CommandForms.{One, Joined, joined, Many, no_more, one_more, OneOrMore, ◌▸◌}
 use Rattle.ab_grammar.proofs.Lists.{regroup}
 use Rattle.ab_grammar.proofs.Joining.{Example, joined_reads, second_refuses}

@@ -5,14 +5,14 @@ use Rattle.ab_grammar.specs.declared.head.Head.{Head}
 use Rattle.ab_grammar.specs.declared.head.Head.TheVariants as head
 use Rattle.ab_grammar.specs.declared.head.ProofHead.{ProofHead}
 use Rattle.ab_grammar.specs.declared.head.ProofHead.TheVariants as proof
-use Rattle.ab_grammar.specs.Token.{Token, Other, word, sign, left_paren, right_paren, comma, colon, other, stop, semicolon, becomes, star, by_word, to_word, with_word, on_word, type_word}
+use Rattle.ab_grammar.specs.Token.{Token, Other, word, sign, left_paren, right_paren, comma, colon, other, stop, semicolon, becomes, star, by_word, to_word, with_word, on_word, type_word, first}
 use Rattle.ab_grammar.specs.Nesting.{Spot}
 use Rattle.ab_grammar.specs.Tree.{Tree}
-use Rattle.ab_grammar.specs.Language.{tokens_of, Key, the_key, Follow, follow, Anything, Expression, TypeExpression, Followed, by_comma, by_other, Accepted}
-use Rattle.ab_grammar.specs.Reading.{first, Comes, Except, Without}
+use Rattle.ab_grammar.specs.Language.{tokens_of, Key, the_key, Expression, TypeExpression, Accepted}
+use Rattle.ab_grammar.proofs.Following.{Follow, follow, Anything, Followed, by_comma, by_other, Comes, Except, Without, BeforeStop, ClauseEnds, ArgumentsEnd}
 use Rattle.ab_grammar.specs.CommandTrees as tree
 use Rattle.ab_grammar.specs.CommandForms.{One, one, Nothing, nothing, joined, Valued, valued, Optional, left_out, present, Many, OneOrMore, ◌▹◌, ◌▸◌, ◌◂◌}
-use Rattle.ab_grammar.specs.CommandTable.{BeforeStop, ClauseEnds, ArgumentsEnd, ShowsName, shows_name, ShowsDeclared, ShowsNominal, shows_nominal, ShowsArgument, shows_named, shows_hole, ShowsNumber, ShowsDepth, shows_depth, ShowsText, ShowsLabel, StandsAnywhere, stands_at, Name, DeclaredName, DeclaredNames, Word, Sign, Definiendum, defined_of, Definienda, ClauseBody, ClauseForm, clause_of, Clauses, Definition, InstanceForm, instance_of, InstanceList, Instances, Arguments, Keep, kept, Nominals, OptionalName, Switch, switched_on, switched_off, Row, kind_row, typed_row, define_row, codefine_row, theorem_row, specification_row, show_row, quit_row, set_row, back_row, reset_row, undo_row, abort_row, ProofRow, intros_row, induction_row, coinduction_row, case_row, apply_row, backchain_row, cut_row, inst_row, monotone_row, search_row, split_row, split_all_row, left_row, right_row, exists_row, witness_row, unfold_row, assert_row, clear_row, rename_row, permute_row, Opens, OpensProof, LabelledForm, labelled_form, CommandForm, plain, unlabelled, labelled, CommandText}
+use Rattle.ab_grammar.specs.CommandTable.{ShowsName, shows_name, ShowsDeclared, ShowsNominal, shows_nominal, ShowsArgument, shows_named, shows_hole, ShowsNumber, ShowsDepth, shows_depth, ShowsText, ShowsLabel, StandsAnywhere, stands_at, Name, DeclaredName, DeclaredNames, Word, Sign, Definiendum, defined_of, Definienda, ClauseBody, ClauseForm, clause_of, Clauses, Definition, InstanceForm, instance_of, InstanceList, Instances, Arguments, Keep, kept, Nominals, OptionalName, Switch, switched_on, switched_off, Row, kind_row, typed_row, define_row, codefine_row, theorem_row, specification_row, show_row, quit_row, set_row, back_row, reset_row, undo_row, abort_row, ProofRow, intros_row, induction_row, coinduction_row, case_row, apply_row, backchain_row, cut_row, inst_row, monotone_row, search_row, split_row, split_all_row, left_row, right_row, exists_row, witness_row, unfold_row, assert_row, clear_row, rename_row, permute_row, Opens, OpensProof, LabelledForm, labelled_form, CommandForm, plain, unlabelled, labelled, CommandText}
 use Rattle.ab_grammar.proofs.Shown.{one_name, one_declared, one_nominal, one_argument, one_number, one_depth, one_text, one_placed, one_label}
 use Rattle.ab_grammar.proofs.Choosing.{key_begins}
 use Rattle.ab_grammar.proofs.Beginnings.{begins_no_other, begins_no_comma, expression_begins, type_begins, followed_by, followed_by_stop}

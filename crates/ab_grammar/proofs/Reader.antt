@@ -4,9 +4,10 @@ use Rattle.std.specs.Prelude.{All}
 use Rattle.std.proofs.lemmas.List.Elements.{All-append, All-push}
 use Rattle.ab_grammar.specs.Token.{Token}
 use Rattle.ab_grammar.specs.Nesting.{Layer, nest, depth_of, outside, Spot, spots_from, spots, limit, IsShallow}
-use Rattle.ab_grammar.specs.Language.{tokens_of, Nested, nested, Follower, Followed, Begins, Read, Fails}
-use Rattle.ab_grammar.specs.Reading.{ReadsOff, StopsAt, NestsAt}
-use Rattle.ab_grammar.specs.Machine.{run, found}
+use Rattle.ab_grammar.specs.Language.{tokens_of, Nested, nested, Begins}
+use Rattle.ab_grammar.proofs.Following.{Follower, Followed}
+use Rattle.ab_grammar.proofs.Reading.{Read, Fails, ReadsOff, StopsAt, NestsAt}
+use Rattle.ab_grammar.proofs.Machine.{run, found}
 use Rattle.ab_grammar.proofs.Runs.{run_append, run_none}
 
 -- the layers behind tokens

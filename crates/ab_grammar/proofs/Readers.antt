@@ -5,9 +5,10 @@ use Rattle.ab_grammar.specs.Token.{Token, Other, other}
 use Rattle.ab_grammar.specs.Tree.{Ty, Binder, Tree}
 use Rattle.ab_grammar.specs.Grammar.{Text, TypeText}
 use Rattle.ab_grammar.specs.Nesting.{Spot, Layer, nest, depth_of, outside, limit}
-use Rattle.ab_grammar.specs.Language.{tokens_of, Expression, TypeExpression, Follower, Followed}
-use Rattle.ab_grammar.specs.Reading.{ReadsOff, StopsAt, NestsAt}
-use Rattle.ab_grammar.specs.Machine.{run, found, State, want, have, pi_want, pi_name, enclosed, item, focus_end, binders, binder_name, binder_colon, binder_type, binder_done, Frame, step, finish, start, TypeState, type_want, type_have, type_step, type_finish, type_start}
+use Rattle.ab_grammar.specs.Language.{tokens_of, Expression, TypeExpression}
+use Rattle.ab_grammar.proofs.Following.{Follower, Followed}
+use Rattle.ab_grammar.proofs.Reading.{ReadsOff, StopsAt, NestsAt}
+use Rattle.ab_grammar.proofs.Machine.{run, found, State, want, have, pi_want, pi_name, enclosed, item, focus_end, binders, binder_name, binder_colon, binder_type, binder_done, Frame, step, finish, start, TypeState, type_want, type_have, type_step, type_finish, type_start}
 use Rattle.ab_grammar.proofs.Complete.{reads_text}
 use Rattle.ab_grammar.proofs.Sound.{accepted}
 use Rattle.ab_grammar.proofs.Types.{reads_type, accepted_type, type_goes_on}

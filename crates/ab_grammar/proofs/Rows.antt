@@ -3,14 +3,15 @@ use Rattle.std.proofs.Common.{◌≡◌, ℕ, List, [], ◌∷◌, ◌++◌, Boo
 use Rattle.ab_grammar.specs.declared.Infix.TheVariants.{Equal}
 use Rattle.ab_grammar.specs.declared.head.Head.TheVariants as head
 use Rattle.ab_grammar.specs.declared.head.ProofHead.TheVariants as proof
-use Rattle.ab_grammar.specs.Token.{Token, word, sign, left_paren, right_paren, comma, colon, other, semicolon, becomes, by_word, to_word, with_word, on_word, type_word}
+use Rattle.ab_grammar.specs.Token.{Token, word, sign, left_paren, right_paren, comma, colon, other, semicolon, becomes, by_word, to_word, with_word, on_word, type_word, first}
 use Rattle.ab_grammar.specs.Tree.{Ty, Tree}
 use Rattle.ab_grammar.specs.Nesting.{Spot, lone}
-use Rattle.ab_grammar.specs.Language.{tokens_of, Key, the_key, Follow, follow, Anything, Expression, TypeExpression, Followed, by_other}
-use Rattle.ab_grammar.specs.Reading.{first, ReadsOff, Cause, RefusesAt, Comes, Except, Without}
+use Rattle.ab_grammar.specs.Language.{tokens_of, Key, the_key, Expression, TypeExpression}
+use Rattle.ab_grammar.proofs.Following.{Follow, follow, Anything, Followed, by_other, Comes, Except, Without, BeforeStop, ClauseEnds, ArgumentsEnd}
+use Rattle.ab_grammar.proofs.Reading.{ReadsOff, Cause, RefusesAt}
 use Rattle.ab_grammar.specs.CommandTrees as tree
 use Rattle.ab_grammar.specs.CommandForms.{One, Joined, joined, Valued, valued, Optional, left_out, present, no_more, OneOrMore, ◌▹◌, ◌▸◌, ◌◂◌}
-use Rattle.ab_grammar.specs.CommandTable.{BeforeStop, ClauseEnds, ArgumentsEnd, Row, ProofRow, Name, DeclaredName, DeclaredNames, Word, Sign, Definiendum, defined_of, Definienda, ClauseBody, ClauseForm, clause_of, Clauses, Definition, InstanceForm, instance_of, InstanceList, Instances, Arguments, Keep, Nominals, OptionalName, Switch, switched_on, ShowsNumber, ShowsNominal, kind_row, typed_row, theorem_row, set_row, induction_row, case_row, apply_row, backchain_row, inst_row, cut_row, rename_row, monotone_row, permute_row, shows_nominal}
+use Rattle.ab_grammar.specs.CommandTable.{Row, ProofRow, Name, DeclaredName, DeclaredNames, Word, Sign, Definiendum, defined_of, Definienda, ClauseBody, ClauseForm, clause_of, Clauses, Definition, InstanceForm, instance_of, InstanceList, Instances, Arguments, Keep, Nominals, OptionalName, Switch, switched_on, ShowsNumber, ShowsNominal, kind_row, typed_row, theorem_row, set_row, induction_row, case_row, apply_row, backchain_row, inst_row, cut_row, rename_row, monotone_row, permute_row, shows_nominal}
 use Rattle.ab_grammar.proofs.Lists.{regroup}
 use Rattle.ab_grammar.proofs.Joining.{Example}
 use Rattle.ab_grammar.proofs.Choosing.{key_begins, key_example}

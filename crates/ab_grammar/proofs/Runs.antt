@@ -1,7 +1,7 @@
 -- Runs of a machine over tokens.
 use Rattle.std.proofs.Common.{◌≡◌, List, [], ◌∷◌, ◌++◌, Option, None, refl, ap, ◌∙◌}
 use Rattle.ab_grammar.specs.Token.{Token}
-use Rattle.ab_grammar.specs.Machine.{step_in, run}
+use Rattle.ab_grammar.proofs.Machine.{step_in, run}
 
 module _ {S : Type 0} (step : S → Token → Option S) where
   pub run_append : (s : Option S) (ts us : List Token) → run step s (ts ++ us) ≡ run step (run step s ts) us

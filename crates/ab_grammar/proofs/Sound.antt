@@ -7,7 +7,7 @@ use Rattle.ab_grammar.specs.declared.Quant.{Quant}
 use Rattle.ab_grammar.specs.Token.{Token, word, truth, quantifier, pi_word, sign, left_paren, right_paren, left_brace, right_brace, left_bracket, right_bracket, turnstile, backslash, comma, colon}
 use Rattle.ab_grammar.specs.Tree.{Ty, Binder, Tree, name, abs, bind, applied, joined, judgement, pi_of}
 use Rattle.ab_grammar.specs.Grammar.{level, left, right, plain, typed, Ends, closed, TypeText, ReadsBinder, plain_binder, typed_binder, ReadsBinders, no_binders, more_binders, Reads, looser, infixed, application, pi_applied, named, true_or_false, grouped, abstracted, quantified, judged, judged_from, Args, last_arg, more_args, Abs, bare_abs, grouped_abs, Front, listed, with_focus, Items, no_items, more_items, Text}
-use Rattle.ab_grammar.specs.Machine.{run, step_in, found, TypeState, type_step, type_finish, type_start, Bracket, paren, pi_paren, item_in, focus_in, goal_in, Frame, infix_at, args_at, pi_at, abs_at, bind_at, bracket_at, Bare, compound, alone, State, want, have, pi_want, pi_name, enclosed, item, focus_end, binders, binder_name, binder_colon, binder_type, binder_done, binder_on, grow, choose, pop, Below, bottom, bracket, Shut, shut, close, closing, want_in, starts, starts_operand, starts_item, bound_name, bind_body, step_have, step_enclosed, step_pi, step_pi_name, step_focus_end, step_binders, step_binder_name, step_binder_colon, step, whole_of, finish, start}
+use Rattle.ab_grammar.proofs.Machine.{run, step_in, found, TypeState, type_step, type_finish, type_start, Bracket, paren, pi_paren, item_in, focus_in, goal_in, Frame, infix_at, args_at, pi_at, abs_at, bind_at, bracket_at, Bare, compound, alone, State, want, have, pi_want, pi_name, enclosed, item, focus_end, binders, binder_name, binder_colon, binder_type, binder_done, binder_on, grow, choose, pop, Below, bottom, bracket, Shut, shut, close, closing, want_in, starts, starts_operand, starts_item, bound_name, bind_body, step_have, step_enclosed, step_pi, step_pi_name, step_focus_end, step_binders, step_binder_name, step_binder_colon, step, whole_of, finish, start}
 use Rattle.ab_grammar.proofs.Table.{level_low, level_high, left_high, right_high}
 use Rattle.ab_grammar.proofs.Types.{ValidType, ValidTypeIn, valid_type_want, ty_start, type_step_sound, type_finish_sound}
 

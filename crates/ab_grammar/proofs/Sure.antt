@@ -1,9 +1,9 @@
 -- Forms of which two texts, each with what may follow it, are one where they agree as tokens, and have one value.
 use Rattle.std.proofs.Common.{◌≡◌, List, [], ◌∷◌, ◌++◌, refl, ap, sym, ◌∙◌, subst, ◌⊎◌, inl, inr}
-use Rattle.ab_grammar.specs.Token.{Token}
+use Rattle.ab_grammar.specs.Token.{Token, first}
 use Rattle.ab_grammar.specs.Nesting.{Spot, lone}
-use Rattle.ab_grammar.specs.Language.{tokens_of, Key, the_key, Follow, follow, Anything}
-use Rattle.ab_grammar.specs.Reading.{first}
+use Rattle.ab_grammar.specs.Language.{tokens_of, Key, the_key}
+use Rattle.ab_grammar.proofs.Following.{Follow, follow, Anything}
 use Rattle.ab_grammar.specs.CommandForms.{One, one, Nothing, nothing, Joined, joined, Valued, valued, Optional, left_out, present, Many, no_more, one_more, OneOrMore, Separated, ◌▸◌}
 use Rattle.ab_grammar.proofs.Lists.{regroup, cancel}
 use Rattle.ab_grammar.proofs.Shown.{ShowsOne}

@@ -5,7 +5,7 @@ use Rattle.ab_grammar.specs.declared.Infix.TheVariants.{Arrow}
 use Rattle.ab_grammar.specs.Token.{Token, word, sign, left_paren, right_paren}
 use Rattle.ab_grammar.specs.Tree.{Ty, base, arrow}
 use Rattle.ab_grammar.specs.Grammar.{ReadsType, named_type, grouped_type, arrow_type, looser_type, TypeText}
-use Rattle.ab_grammar.specs.Machine.{run, step_in, found, TypeFrame, type_paren, type_arrow, TypeState, type_want, type_have, TypeShut, type_shut, type_closed, type_whole, step_type_want, step_type_sign, step_type_have, type_step, type_finish, type_start}
+use Rattle.ab_grammar.proofs.Machine.{run, step_in, found, TypeFrame, type_paren, type_arrow, TypeState, type_want, type_have, TypeShut, type_shut, type_closed, type_whole, step_type_want, step_type_sign, step_type_have, type_step, type_finish, type_start}
 use Rattle.ab_grammar.proofs.Runs.{then_run}
 
 -- complete

@@ -4,8 +4,8 @@ use Rattle.ab_grammar.specs.declared.Quant.{Quant}
 use Rattle.ab_grammar.specs.Token.{Token, word, right_paren, right_brace, right_bracket, turnstile, backslash, comma, colon}
 use Rattle.ab_grammar.specs.Tree.{Ty, base, arrow, Binder, Tree, name, abs, bind, applied, joined, judgement, pi_of}
 use Rattle.ab_grammar.specs.Grammar.{plain, typed}
-use Rattle.ab_grammar.specs.Language.{Follower, by_right_paren, by_right_brace, by_right_bracket, by_turnstile, by_comma, by_colon, by_other}
-use Rattle.ab_grammar.specs.Machine.{run, found, TypeFrame, type_paren, type_arrow, TypeShut, type_shut, type_closed, type_whole, TypeState, type_want, type_have, type_step, type_finish, type_start, Bracket, paren, pi_paren, item_in, focus_in, goal_in, Frame, infix_at, args_at, pi_at, abs_at, bind_at, bracket_at, Bare, compound, alone, State, want, have, pi_want, pi_name, enclosed, item, focus_end, binders, binder_name, binder_colon, binder_type, binder_on, Shut, shut, Below, bottom, bracket, close, closing, step, whole_of, finish}
+use Rattle.ab_grammar.proofs.Following.{Follower, by_right_paren, by_right_brace, by_right_bracket, by_turnstile, by_comma, by_colon, by_other}
+use Rattle.ab_grammar.proofs.Machine.{run, found, TypeFrame, type_paren, type_arrow, TypeShut, type_shut, type_closed, type_whole, TypeState, type_want, type_have, type_step, type_finish, type_start, Bracket, paren, pi_paren, item_in, focus_in, goal_in, Frame, infix_at, args_at, pi_at, abs_at, bind_at, bracket_at, Bare, compound, alone, State, want, have, pi_want, pi_name, enclosed, item, focus_end, binders, binder_name, binder_colon, binder_type, binder_on, Shut, shut, Below, bottom, bracket, close, closing, step, whole_of, finish}
 use Rattle.ab_grammar.proofs.Complete.{operand, Closer, c_right_paren, c_right_brace, c_right_bracket, c_turnstile, step_close, finish_operand}
 
 abbrev go : State → List Token → Option State

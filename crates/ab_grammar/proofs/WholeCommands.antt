@@ -3,11 +3,12 @@ use Rattle.std.proofs.Common.{◌≡◌, ℕ, List, ◌∷◌, Some, None, IsTru
 use Rattle.ab_grammar.specs.declared.head.Head.{Head}
 use Rattle.ab_grammar.specs.declared.head.ProofHead.{ProofHead}
 use Rattle.ab_grammar.specs.Token.{Token, word, other, stop, colon}
-use Rattle.ab_grammar.specs.Language.{Key, Follow, Anything, Followed}
-use Rattle.ab_grammar.specs.Reading.{ReadsOff, Cause, RefusesAt}
+use Rattle.ab_grammar.specs.Language.{Key}
+use Rattle.ab_grammar.proofs.Following.{Follow, Anything, Followed, BeforeStop}
+use Rattle.ab_grammar.proofs.Reading.{ReadsOff, Cause, RefusesAt}
 use Rattle.ab_grammar.specs.CommandTrees as tree
 use Rattle.ab_grammar.specs.CommandForms.{One, ◌▸◌, ◌◂◌}
-use Rattle.ab_grammar.specs.CommandTable.{BeforeStop, Row, ProofRow, Sign, listed, command_words, proof_words, Opens, opens, OpensProof, opens_proof, takes_label, BeginsCommand, begins_plain, begins_proof, begins_query, ShowsLabel, shows_label, LabelledForm, CommandForm, CommandText}
+use Rattle.ab_grammar.specs.CommandTable.{Row, ProofRow, Sign, listed, command_words, proof_words, Opens, opens, OpensProof, opens_proof, takes_label, BeginsCommand, begins_plain, begins_proof, begins_query, ShowsLabel, shows_label, LabelledForm, CommandForm, CommandText}
 use Rattle.ab_grammar.proofs.Choosing.{one_reads, key_example}
 use Rattle.ab_grammar.proofs.Continuing.{Continues, onwards, behind}
 use Rattle.ab_grammar.proofs.Shown.{one_label}

@@ -1,9 +1,10 @@
 -- A reader of a form at the front of all tokens says whether they are a text of the form.
 use Rattle.std.proofs.Common.{◌≡◌, ℕ, zero, suc, ◌<◌, ◌≤◌, List, [], ◌∷◌, ◌++◌, length, drop, refl, sym, subst, arith}
-use Rattle.ab_grammar.specs.Token.{Token, other, end}
+use Rattle.ab_grammar.specs.Token.{Token, other, end, first}
 use Rattle.ab_grammar.specs.Nesting.{Spot}
-use Rattle.ab_grammar.specs.Language.{Anything, Key, the_key, Follow, follow, Followed, by_other, Accepted, SyntaxAt, TooNestedAt}
-use Rattle.ab_grammar.specs.Reading.{first, ReadsOff, StopsAt, NestsAt, ungrammatical, too_nested}
+use Rattle.ab_grammar.proofs.Following.{Anything, Follow, follow, Followed, by_other}
+use Rattle.ab_grammar.specs.Language.{Key, the_key, Accepted, SyntaxAt, TooNestedAt}
+use Rattle.ab_grammar.proofs.Reading.{ReadsOff, StopsAt, NestsAt, ungrammatical, too_nested}
 use Rattle.ab_grammar.proofs.Joining.{Example}
 use Rattle.ab_grammar.proofs.Choosing.{key_reads, key_stops}
 use Rattle.ab_grammar.proofs.Continuing.{behind, before}

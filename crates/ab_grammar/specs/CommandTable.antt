@@ -1,5 +1,5 @@
 -- The table of commands and of proof commands: with which token each begins, where it stands, and its form.
-use Rattle.std.specs.Prelude.{◌≡◌, ◌≢◌, ℕ, ◌<◌, ◌≤◌, List, [], ◌∷◌, ◌++◌, Bool, true, false, Option, Some, None, IsTrue, codes, decimal, bytes_eq, if◌then◌else◌, ◌⊎◌}
+use Rattle.std.specs.Prelude.{◌≡◌, ◌≢◌, ℕ, ◌<◌, ◌≤◌, List, [], ◌∷◌, ◌++◌, Bool, true, false, Option, Some, None, IsTrue, codes, decimal, bytes_eq, if◌then◌else◌}
 use Rattle.ab_grammar.specs.declared.Infix.TheVariants.{Equal}
 use Rattle.ab_grammar.specs.declared.head.Head.{Head}
 use Rattle.ab_grammar.specs.declared.head.Head.TheVariants as head
@@ -13,7 +13,6 @@ use Rattle.ab_grammar.specs.Token as token
 use Rattle.ab_grammar.specs.Tree.{Ty, Tree, place_of}
 use Rattle.ab_grammar.specs.Nesting.{Spot}
 use Rattle.ab_grammar.specs.Language.{Key, Expression, TypeExpression}
-use Rattle.ab_grammar.specs.Reading.{Comes}
 use Rattle.ab_grammar.specs.CommandTrees.{Defined, Clause, Instance, Argument, named, hole, ProofCommand, Command, kinds, constants, subgoals, in_proof, split_all, unfold_goal}
 use Rattle.ab_grammar.specs.CommandTrees as tree
 use Rattle.ab_grammar.specs.CommandForms.{Form, One, Nothing, Valued, Optional, Many, ◌▹◌, ◌▸◌, ◌◂◌, OneOrMore, Separated}
@@ -145,19 +144,6 @@ OptionalName = Optional None (Valued Some Name)
 pub data Switch : List Spot → Bool → Type 0 where
   switched_on : {us : List Spot} → Sign on_word us tt → Switch us true
   switched_off : {us : List Spot} → Word (codes "off") us tt → Switch us false
-
--- What follows the parts
-
-abbrev pub BeforeStop : List Token → Type 0
-BeforeStop = Comes (other stop)
-
--- a clause ends before a semicolon or a full stop
-abbrev pub ClauseEnds : List Token → Type 0
-ClauseEnds r = (Comes (other semicolon) r) ⊎ BeforeStop r
-
--- the arguments of `apply` end before `with` or a full stop
-abbrev pub ArgumentsEnd : List Token → Type 0
-ArgumentsEnd r = (Comes (other with_word) r) ⊎ BeforeStop r
 
 -- The table
 

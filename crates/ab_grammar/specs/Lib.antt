@@ -4,8 +4,6 @@ pub mod Grammar
 pub mod Parentheses
 pub mod Nesting
 pub mod Language
-pub mod Reading
-pub mod Machine
 pub mod CommandTrees
 pub mod CommandForms
 pub mod CommandTable

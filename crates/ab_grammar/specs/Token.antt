@@ -1,6 +1,6 @@
 -- The tokens that the grammar speaks of: words, reserved words, numbers, quoted texts and signs.
 -- A token with which a tree can begin carries its place, in bytes.
-use Rattle.std.specs.Prelude.{ℕ, List}
+use Rattle.std.specs.Prelude.{ℕ, List, [], ◌∷◌}
 use Rattle.ab_grammar.specs.declared.Infix.{Infix}
 use Rattle.ab_grammar.specs.declared.Quant.{Quant}
 
@@ -40,3 +40,8 @@ pub data Token : Type 0 where
   comma : Token
   colon : Token
   other : Other → Token
+
+-- the first token, where the end is one too
+abbrev pub first : List Token → Token
+first [] = other end
+first (k ∷ ks) = k

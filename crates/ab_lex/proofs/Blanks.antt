@@ -1,12 +1,13 @@
 -- The scanner's test of a blank rest is what the units of the text give.
-use Rattle.std.proofs.Common.{◌≡◌, ◌≢◌, ◌==◌, ◌&&◌, ◌||◌, ℕ, Bool, true, false, List, [], ◌∷◌, ◌++◌, Option, Some, None, refl, sym, ap, ◌∙◌, inl, inr}
+use Rattle.std.proofs.Common.{◌≡◌, ◌≢◌, ◌==◌, ◌&&◌, ◌||◌, ◌⊎◌, ℕ, Bool, true, false, List, [], ◌∷◌, ◌++◌, Option, Some, None, refl, sym, ap, ◌∙◌, inl, inr}
 use Rattle.std.proofs.lemmas.Bool.{ne_eqb, eqb-true, cases_eq, cases_Bool, and_parts, or_cases}
 use Rattle.ab_lex.specs.declared.scanner.Mode.{Mode}
 use Rattle.ab_lex.specs.declared.scanner.Mode.TheVariants.{Plain, Slash, Line, Quoted, Block, BlockSlash, BlockStar}
 use Rattle.ab_lex.specs.declared.scanner.Scan.{Scan}
-use Rattle.ab_lex.specs.Scanner.{from_plain, step, ends, behind, keeps_blank, is_whole, fresh, after_byte, run, commands, rest, blank_from, has_blank_rest}
+use Rattle.ab_lex.specs.Scanner.{from_plain, step, ends, behind, keeps_blank, is_whole, fresh, after_byte, run, blank_from}
 use Rattle.ab_lex.specs.Units.{is_blank, LineEnds, at_end, BlocksEnd, GapAt, blank, line_comment, block_comment, IsBlank, empty, gap}
 use Rattle.ab_lex.specs.Commands.{CommandAt, Splits, no_more, one_more, HasBlankRest}
+use Rattle.ab_lex.proofs.Found.{commands, rest}
 use Rattle.ab_lex.proofs.Inside.{Ahead, line_byte, quoted_byte, block_byte, block_slash_byte, block_star_byte}
 use Rattle.ab_lex.proofs.Folds.{fold_line, fold_blocks, mode_of}
 use Rattle.ab_lex.proofs.Unique.{found}
@@ -117,18 +118,25 @@ blank_of_rest k (b ∷ s) e =
           rw t (blank_of_rest (after_byte k b) s f ∙ and_assoc k.blank (keeps_blank k.mode b) (all_blank (step k.mode b) s))
     ]
 
-blank_split : {text left : List ℕ} {cs : List (List ℕ)} → Splits text cs left → has_blank_rest text ≡ all_blank Plain left
+blank_split : {text left : List ℕ} {cs : List (List ℕ)} → Splits text cs left → blank_from fresh text ≡ all_blank Plain left
 blank_split (no_more {s = s} n) = none s (behind Plain s) refl n
   where
-    none : (s : List ℕ) (o : Option (List ℕ)) → behind Plain s ≡ o → ((r : List ℕ) → ¬ CommandAt s r) → has_blank_rest s ≡ all_blank Plain s
+    none : (s : List ℕ) (o : Option (List ℕ)) → behind Plain s ≡ o → ((r : List ℕ) → ¬ CommandAt s r) → blank_from fresh s ≡ all_blank Plain s
     none s None e n = blank_of_rest fresh s e
     none s (Some r) e n = absurd (n r (exists s r e))
 blank_split (one_more {s = s} {r = r} c e h) = blank_behind fresh s r (found c) ∙ blank_split h
 
-pub has_blank : (text : List ℕ) → has_blank_rest text ≡ true → HasBlankRest text
+pub has_blank : (text : List ℕ) → blank_from fresh text ≡ true → HasBlankRest text
 has_blank text e =
     let h = splits text in
     record { whole = commands text; rest = rest text; splits = h; blank = blank_ahead Plain (rest text) (sym (blank_split h) ∙ e) }
 
-pub blank_has : (text : List ℕ) → HasBlankRest text → has_blank_rest text ≡ true
+pub blank_has : (text : List ℕ) → HasBlankRest text → blank_from fresh text ≡ true
 blank_has text h = blank_split h.splits ∙ blank_holds h.blank
+
+pub blank_or_not : (text : List ℕ) → HasBlankRest text ⊎ ¬ HasBlankRest text
+blank_or_not text =
+    elim (cases_Bool (blank_from fresh text)) [
+      | inl e ↦ inl (has_blank text e)
+      | inr e ↦ inr (λ h. let f : true ≡ false = sym (blank_has text h) ∙ e in cc)
+    ]

@@ -2,10 +2,12 @@
 use Rattle.std.proofs.Common.{◌≡◌, ℕ, zero, suc, List, [], ◌∷◌, ◌++◌, Option, Some, None, refl, sym, ap, ◌∙◌, subst, arith, inl, inr, append_assoc, ◌≤◌, ◌<◌, length, map}
 use Rattle.std.proofs.lemmas.List.{append-nil, append_cancel_right, length-append}
 use Rattle.std.proofs.lemmas.Bool.{cases_Bool}
+use Rattle.ab_lex.specs.declared.TheConstants.{COMMAND_LIMIT}
 use Rattle.ab_lex.specs.declared.scanner.Mode.{Mode}
 use Rattle.ab_lex.specs.declared.scanner.Mode.TheVariants.{Plain}
-use Rattle.ab_lex.specs.Scanner.{ends, step, behind, commands_from, rest_from, commands, rest, items_within}
-use Rattle.ab_lex.specs.Commands.{CommandAt, Splits, no_more, one_more, Item, item_of, items_of_rest, ItemsWithin}
+use Rattle.ab_lex.specs.Scanner.{ends, step, behind}
+use Rattle.ab_lex.specs.Commands.{CommandAt, Splits, no_more, one_more, Item, item_of, items_of_rest, ItemsWithin, ItemsOf}
+use Rattle.ab_lex.proofs.Found.{commands_from, rest_from, commands, rest, items_within}
 use Rattle.ab_lex.proofs.Unique.{found, first_unique}
 use Rattle.ab_lex.proofs.Exists.{exists}
 
@@ -95,3 +97,9 @@ pub only_items : (limit : ℕ) (text : List ℕ) (is : List Item) → ItemsWithi
 only_items limit text is h =
     let e = only_one h.splits (splits text) in
     h.items_are ∙ (ap (λ cs. map (item_of limit) cs ++ items_of_rest limit h.rest) e.0 ∙ ap (λ r. map (item_of limit) (commands text) ++ items_of_rest limit r) e.1)
+
+pub items_there : (limit : ℕ) (text : List ℕ) → (is : List Item) × ItemsWithin limit text is
+items_there limit text = (items_within limit text, items_of limit text)
+
+pub no_items : (is : List Item) → ItemsOf [] is → is ≡ []
+no_items is h = only_items COMMAND_LIMIT [] is h

@@ -3,7 +3,7 @@ use Rattle.std.proofs.Common.{◌≡◌, ◌+◌, ◌-◌, ◌^◌, ◌≤◌, �
 use Rattle.std.proofs.lemmas.List.{length-drop, length-append, drop-drop, drop-append-le, take-append-le}
 use Rattle.ab_lex.specs.declared.scanner.Scan.{Scan}
 use Rattle.ab_lex.specs.Scanner.{depth}
-use Rattle.ab_lex.specs.Pending.{IsKept}
+use Rattle.ab_lex.specs.Kept.{IsKept}
 
 module _ (buffer : List ℕ) (start dropped : ℕ) (piece : List ℕ) (given : dropped ≤ start) (fits : start ≤ length buffer) where
   -- the bytes to come are those from before, and then the piece
@@ -32,5 +32,6 @@ kept_fed buffer start scanned dropped scan skips piece given kept few =
       nothing_kept = λ t. let z = kept.nothing_kept t in omega arith;
       no_end = λ t. rw e (kept.no_end t);
       scan_is = λ t. rw e (kept.scan_is t);
+      reached = kept.reached;
       shallow = omega (arith, length-append {A = ℕ}, length-drop {A = ℕ});
     }

@@ -3,11 +3,12 @@ use Rattle.std.proofs.Common.{◌≡◌, ℕ, List, ◌++◌, length, map, nat_l
 use Rattle.std.proofs.lemmas.List.{map-append}
 use Rattle.std.proofs.lemmas.Bool.{cases_Bool, leb-true}
 use Rattle.ab_lex.specs.declared.scanner.Mode.TheVariants.{Plain}
-use Rattle.ab_lex.specs.Scanner.{behind, run, fresh, commands, rest, items_within, items_behind}
-use Rattle.ab_lex.specs.Commands.{CommandAt, Splits, no_more, one_more, Item, item_of, items_of_rest, GoesOn}
+use Rattle.ab_lex.specs.Scanner.{behind, run, fresh}
+use Rattle.ab_lex.specs.Commands.{CommandAt, Splits, no_more, one_more, Item, item_of, items_of_rest, ItemsWithin, GoesOn}
+use Rattle.ab_lex.proofs.Found.{commands, rest, items_within, items_behind}
 use Rattle.ab_lex.proofs.Unique.{found}
 use Rattle.ab_lex.proofs.Exists.{exists}
-use Rattle.ab_lex.proofs.Cuts.{splits, only_one}
+use Rattle.ab_lex.proofs.Cuts.{splits, only_one, only_items}
 use Rattle.ab_lex.proofs.Items.{behind_append, items_long_rest}
 
 command_on : {s r : List ℕ} (more : List ℕ) → CommandAt s r → CommandAt (s ++ more) (r ++ more)
@@ -34,8 +35,8 @@ rest_items limit s more e =
       | inr t ↦ (items_within limit (s ++ more), rw t)
     ]
 
-pub items_on : (limit : ℕ) (text more : List ℕ) → GoesOn (items_within limit text) (items_within limit (text ++ more))
-items_on limit text more =
+found_on : (limit : ℕ) (text more : List ℕ) → GoesOn (items_within limit text) (items_within limit (text ++ more))
+found_on limit text more =
     let h = splits text in
     let g = splits (rest text ++ more) in
     let e = only_one (splits (text ++ more)) (splits_on more h g) in
@@ -51,3 +52,8 @@ items_on limit text more =
           ∙ (append_assoc a b z
           ∙ (ap (λ q. a ++ q) k.1 ∙ sym (append_assoc a (items_of_rest limit (rest text)) k.0))))),
     )
+
+pub items_on : (limit : ℕ) (text more : List ℕ) (is js : List Item) → ItemsWithin limit text is → ItemsWithin limit (text ++ more) js → GoesOn is js
+items_on limit text more is js h k =
+    let g = found_on limit text more in
+    (g.0, only_items limit (text ++ more) js k ∙ (g.1 ∙ ap (λ q. q ++ g.0) (sym (only_items limit text is h))))

@@ -5,8 +5,9 @@ use Rattle.std.proofs.lemmas.Bool.{cases_Bool, le-leb, lt-leb}
 use Rattle.ab_lex.specs.declared.scanner.Mode.{Mode}
 use Rattle.ab_lex.specs.declared.scanner.Mode.TheVariants.{Plain}
 use Rattle.ab_lex.specs.declared.scanner.Scan.{Scan}
-use Rattle.ab_lex.specs.Scanner.{ends, step, behind, fresh, after_byte, run, commands, items_within, items_behind}
+use Rattle.ab_lex.specs.Scanner.{ends, step, behind, fresh, after_byte, run}
 use Rattle.ab_lex.specs.Commands.{command, long, item_of}
+use Rattle.ab_lex.proofs.Found.{commands, items_within, items_behind}
 use Rattle.ab_lex.proofs.Cuts.{first_of_text, no_rest}
 
 pub behind_append : (m : Mode) (s r more : List ℕ) → behind m s ≡ Some r → behind m (s ++ more) ≡ Some (r ++ more)

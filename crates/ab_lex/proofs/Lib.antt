@@ -1,3 +1,4 @@
+pub mod Found
 pub mod Folds
 pub mod Inside
 pub mod Unique
@@ -7,6 +8,8 @@ pub mod Items
 pub mod Blanks
 pub mod GoesOn
 pub mod Steps
+pub mod Openings
+pub mod Awaiting
 pub mod Feeding
 pub mod Past
 pub mod FirstByte

@@ -1,53 +1,47 @@
--- What a splitter holds of a text: the bytes that its spans stand for, and what is still to be reported.
-use Rattle.std.specs.Prelude.{◌≡◌, ◌<◌, ◌≤◌, ◌+◌, ◌-◌, ◌^◌, ◌++◌, ◌∷◌, [], ℕ, Bool, true, false, if◌then◌else◌, List, length, drop, take, Option, Some, None}
-use Rattle.ab_lex.specs.declared.TheConstants.{COMMAND_LIMIT}
-use Rattle.ab_lex.specs.declared.scanner.Scan.{Scan}
+-- What a caller sees of a splitter: the bytes that its spans stand for, and the text that is still to be split.
+use Rattle.std.specs.Prelude.{◌↔◌, ◌++◌, ◌∷◌, [], ℕ, Bool, true, false, List, length}
 use Rattle.ab_lex.specs.declared.splitter.Next.{Next}
 use Rattle.ab_lex.specs.declared.splitter.Next.TheVariants.{Whole, More, TooLong}
 use Rattle.ab_lex.specs.Spans.{IsWithin, bytes_at}
-use Rattle.ab_lex.specs.Commands.{Item, command, long}
-use Rattle.ab_lex.specs.Scanner.{behind, run, fresh, depth, items_within, items_behind, blank_from}
+use Rattle.ab_lex.specs.Commands.{CommandAt, Item, command, long, ItemsOf, HasBlankRest}
 
 pub record Pending : Type 0 where
-  -- bytes that were given, and from `start` on bytes to come
+  -- the bytes that spans stand for
   pub buffer : List ℕ
-  pub start : ℕ
-  -- where the bytes to come are the end of a command that was told to be long: how far its scan has come
-  pub in_long : Option Scan
+  -- what is still to be split, behind which comes what is fed later
+  pub text : List ℕ
+  -- whether the first command of the text was told to be too long before its end came; of its bytes that were passed, the
+  -- text then has some that leave open what they did
+  pub in_long : Bool
 
-abbrev pub items_from : ℕ → Option Scan → List ℕ → List Item
-items_from limit None s = items_within limit s
-items_from limit (Some k) s = items_behind limit (behind k.mode s)
+-- the items behind the end of a text's first command, where it ends
+pub data ItemsBehind : List ℕ → List Item → Type 0 where
+  no_end : {s : List ℕ} → ((r : List ℕ) → ¬ CommandAt s r) → ItemsBehind s []
+  an_end : {s r : List ℕ} {is : List Item} → CommandAt s r → ItemsOf r is → ItemsBehind s is
 
-abbrev pub rest_is_blank_from : Option Scan → List ℕ → Bool
-rest_is_blank_from None s = blank_from fresh s
-rest_is_blank_from (Some k) s = blank_from k s
+-- the items of a text; behind its first command, where that was told
+abbrev pub ItemsFrom : Bool → List ℕ → List Item → Type 0
+ItemsFrom false s is = ItemsOf s is
+ItemsFrom true s is = ItemsBehind s is
 
--- the items still to be reported, where these bytes are fed too
-abbrev pub items_after : Pending → List ℕ → List Item
-items_after p more = items_from COMMAND_LIMIT p.in_long (drop p.start p.buffer ++ more)
+-- these items are still to be reported, where these bytes are fed too
+abbrev pub Awaits : Pending → List ℕ → List Item → Type 0
+Awaits p more is = ItemsFrom p.in_long (p.text ++ more) is
 
--- whether what stands behind the last command is blanks and whole comments, where these bytes are fed too
-abbrev pub blank_after : Pending → List ℕ → Bool
-blank_after p more = rest_is_blank_from p.in_long (drop p.start p.buffer ++ more)
+-- whatever is fed later, the same items are to be reported
+abbrev pub SameItems : Pending → Pending → Type 0
+SameItems old new = (more : List ℕ) (is : List Item) → Awaits new more is → Awaits old more is
 
--- the answer is the next item, whatever is fed later; or there is none in what was fed
+-- whatever is fed later, this item is to be reported, and then those that are left
+abbrev pub NextItem : Pending → Item → Pending → Type 0
+NextItem old item new = (more : List ℕ) (is : List Item) → Awaits new more is → Awaits old more (item ∷ is)
+
+-- whatever is fed later, what stands behind the last command is blanks and whole comments, or is more
+abbrev pub SameRest : Pending → Pending → Type 0
+SameRest old new = (more : List ℕ) → HasBlankRest (old.text ++ more) ↔ HasBlankRest (new.text ++ more)
+
+-- the answer is the next item; or there is none in what was fed
 abbrev pub Answers : Pending → Next → Pending → Type 0
-Answers old (Whole span) new =
-    IsWithin (length new.buffer) span × ((more : List ℕ) → items_after old more ≡ command (bytes_at new.buffer span) ∷ items_after new more)
-Answers old TooLong new = (more : List ℕ) → items_after old more ≡ long ∷ items_after new more
-Answers old More new = (items_after old [] ≡ []) × ((more : List ℕ) → items_after new more ≡ items_after old more)
-
--- the fields, seen from outside
-abbrev pub view_of : List ℕ → ℕ → Scan → Bool → Pending
-view_of buffer start scan skips = record { buffer = buffer; start = start; in_long = if skips then Some scan else None }
-
--- between `start` and `scanned` no command ends, and the scan has come from `start` to `scanned`
-pub record IsKept (buffer : List ℕ) (start scanned : ℕ) (scan : Scan) (skips : Bool) : Type 0 where
-  pub in_order : start ≤ scanned
-  pub in_buffer : scanned ≤ length buffer
-  pub nothing_kept : skips ≡ true → start ≡ scanned
-  pub no_end : skips ≡ false → behind fresh.mode (take (scanned - start) (drop start buffer)) ≡ None
-  pub scan_is : skips ≡ false → scan ≡ run fresh (take (scanned - start) (drop start buffer))
-  -- so many comments as may come to be open can be counted
-  pub shallow : depth scan.mode + (length buffer - scanned) < 2 ^ 64
+Answers old (Whole span) new = IsWithin (length new.buffer) span × NextItem old (command (bytes_at new.buffer span)) new
+Answers old TooLong new = NextItem old long new
+Answers old More new = Awaits new [] [] × SameItems old new

@@ -1,12 +1,10 @@
--- The scanner's own description, byte by byte: a tool of the splitter and of the proofs, not what a text means.
--- That it finds the commands, the items and the blank rest of `Commands` is what `one_splitting` ensures.
-use Rattle.std.specs.Prelude.{◌==◌, ◌&&◌, ◌||◌, ℕ, zero, suc, Bool, true, false, if◌then◌else◌, List, [], ◌∷◌, ◌++◌, map, Option, Some, None}
-use Rattle.ab_lex.specs.declared.TheConstants.{COMMAND_LIMIT}
+-- The scanner's own description, byte by byte: a tool of the scanner's functions and of the proofs, not what a text means.
+-- That it finds the commands, the items and the blank rest of `Commands` is proved, and no public clause speaks of it.
+use Rattle.std.specs.Prelude.{◌==◌, ◌&&◌, ◌||◌, ℕ, zero, suc, Bool, true, false, if◌then◌else◌, List, [], ◌∷◌, Option, Some, None}
 use Rattle.ab_lex.specs.declared.scanner.Mode.{Mode}
 use Rattle.ab_lex.specs.declared.scanner.Mode.TheVariants.{Plain, Slash, Line, Quoted, Block, BlockSlash, BlockStar}
 use Rattle.ab_lex.specs.declared.scanner.Scan.{Scan}
 use Rattle.ab_lex.specs.Units.{newline, quote, percent, star, full_stop, slash, is_blank}
-use Rattle.ab_lex.specs.Commands.{Item, item_of, items_of_rest}
 
 -- the byte ends a command
 abbrev pub ends : Mode → ℕ → Bool
@@ -92,39 +90,7 @@ abbrev pub run : Scan → List ℕ → Scan
 run k [] = k
 run k (b ∷ s) = run (after_byte k b) s
 
--- the commands, where these bytes of the first have come before
-abbrev pub commands_from : Mode → List ℕ → List ℕ → List (List ℕ)
-commands_from m c [] = []
-commands_from m c (b ∷ s) =
-    if ends m b then (c ++ b ∷ []) ∷ commands_from Plain [] s else commands_from (step m b) (c ++ b ∷ []) s
-
--- what is left behind the last of them
-abbrev pub rest_from : Mode → List ℕ → List ℕ → List ℕ
-rest_from m c [] = c
-rest_from m c (b ∷ s) = if ends m b then rest_from Plain [] s else rest_from (step m b) (c ++ b ∷ []) s
-
-abbrev pub commands : List ℕ → List (List ℕ)
-commands s = commands_from Plain [] s
-
-abbrev pub rest : List ℕ → List ℕ
-rest s = rest_from Plain [] s
-
-abbrev pub items_within : ℕ → List ℕ → List Item
-items_within limit s = map (item_of limit) (commands s) ++ items_of_rest limit (rest s)
-
--- the items of a text
-abbrev pub items : List ℕ → List Item
-items s = items_within COMMAND_LIMIT s
-
--- the items behind the end of a command that was told to be long, where its end came
-abbrev pub items_behind : ℕ → Option (List ℕ) → List Item
-items_behind limit None = []
-items_behind limit (Some r) = items_within limit r
-
 -- the bytes behind the last command are blanks and whole comments, from this scan on
 abbrev pub blank_from : Scan → List ℕ → Bool
 blank_from k [] = k.blank && is_whole k.mode
 blank_from k (b ∷ s) = if ends k.mode b then blank_from fresh s else blank_from (after_byte k b) s
-
-abbrev pub has_blank_rest : List ℕ → Bool
-has_blank_rest s = blank_from fresh s

@@ -1,14 +1,14 @@
 //! Laws of the definitions, each the contract of a function that does nothing.
 
-ghost use Rattle.std.specs.Prelude.{◌≡◌, ◌≤◌, ◌∷◌, ◌++◌, ◌↔◌, List, ℕ, IsTrue, Contains};
+ghost use Rattle.std.specs.Prelude.{◌≡◌, ◌≤◌, ◌∷◌, ◌++◌, ◌⊎◌, List, ℕ, Contains};
 ghost use Rattle.std.specs.Str.{IsAscii};
 ghost use Rattle.ab_lex.specs.Units.{Units, UnitRow};
 ghost use Rattle.ab_lex.specs.Commands.{Splits, Item, ItemsWithin, HasBlankRest, GoesOn};
+ghost use Rattle.ab_lex.specs.Pending.{Pending, Awaits};
 ghost use Rattle.ab_lex.specs.Tokens.{IsWord, IsNumber, signs, TokensOf, FaultOf, place_of, BeginsAt, HasReading};
 ghost use Rattle.ab_lex.specs.Spacing.{Lexeme, Spaced, Spells};
 ghost use Rattle.ab_lex.specs.declared.token.Token.{Token};
 ghost use Rattle.ab_lex.specs.declared.token.LexFault.{LexFault};
-ghost use Rattle.ab_lex.specs.Scanner.{commands, rest, items_within, has_blank_rest};
 
 /// Each text has one row of units and one rest that begins none.
 pub fn one_row_of_units()
@@ -16,20 +16,26 @@ pub fn one_row_of_units()
     ensures only { (text left other : List ℕ) (units others : List (List ℕ)) → Units text units left → Units text others other → (units ≡ others) × (left ≡ other) }
 {}
 
-/// Each text has one row of commands and one rest, and one list of items: those that the scanner finds.
+/// Each text has one row of commands and one rest, and one list of items; and what is left is blank or is not.
 pub fn one_splitting()
-    ensures splits { (text : List ℕ) → Splits text (commands text) (rest text) }
-    ensures only { (text : List ℕ) (others : List (List ℕ)) (left : List ℕ) → Splits text others left → (others ≡ commands text) × (left ≡ rest text) }
-    ensures items { (limit : ℕ) (text : List ℕ) → ItemsWithin limit text (items_within limit text) }
-    ensures only_items { (limit : ℕ) (text : List ℕ) (others : List Item) → ItemsWithin limit text others → others ≡ items_within limit text }
-    ensures blank { (text : List ℕ) → IsTrue (has_blank_rest text) ↔ HasBlankRest text }
+    ensures splits { (text : List ℕ) → (cs : List (List ℕ)) × (left : List ℕ) × Splits text cs left }
+    ensures only { (text left other : List ℕ) (cs others : List (List ℕ)) → Splits text cs left → Splits text others other → (cs ≡ others) × (left ≡ other) }
+    ensures items { (limit : ℕ) (text : List ℕ) → (is : List Item) × ItemsWithin limit text is }
+    ensures only_items { (limit : ℕ) (text : List ℕ) (is others : List Item) → ItemsWithin limit text is → ItemsWithin limit text others → is ≡ others }
+    ensures blank { (text : List ℕ) → HasBlankRest text ⊎ ¬ HasBlankRest text }
+{}
+
+/// A splitter awaits one list of items, whatever bytes come.
+pub fn one_list_is_awaited()
+    ensures some { (p : Pending) (more : List ℕ) → (is : List Item) × Awaits p more is }
+    ensures only { (p : Pending) (more : List ℕ) (is others : List Item) → Awaits p more is → Awaits p more others → is ≡ others }
 {}
 
 /// Where a text is cut changes nothing: its commands are those of its first part, and then those of that part's rest
 /// and what follows; and the items of a first part stay where the text goes on.
 pub fn same_for_every_cut()
     ensures commands { (text more left left' : List ℕ) (cs ds : List (List ℕ)) → Splits text cs left → Splits (left ++ more) ds left' → Splits (text ++ more) (cs ++ ds) left' }
-    ensures items { (limit : ℕ) (text more : List ℕ) → GoesOn (items_within limit text) (items_within limit (text ++ more)) }
+    ensures items { (limit : ℕ) (text more : List ℕ) (is js : List Item) → ItemsWithin limit text is → ItemsWithin limit (text ++ more) js → GoesOn is js }
 {}
 
 /// Each text has one list of tokens or one fault, and never both.

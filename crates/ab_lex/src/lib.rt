@@ -13,8 +13,8 @@ mod token;
 mod tokenizer;
 
 pub use laws::{
-    one_beginning, one_reading, one_row_of_units, one_splitting, only_strings_are_more_than_ascii,
-    same_for_every_cut, spacing_changes_no_token,
+    one_beginning, one_list_is_awaited, one_reading, one_row_of_units, one_splitting,
+    only_strings_are_more_than_ascii, same_for_every_cut, spacing_changes_no_token,
 };
 pub use splitter::{Next, Splitter};
 pub use token::{LexFault, Span, Token, TokenKind};

@@ -3,10 +3,10 @@
 //! Its work is linear in the bytes fed, whatever the pieces: `next_command` scans from where the scan had come to,
 //! `feed` scans nothing, and moves the bytes that are left only when at least as many were given since the last move.
 
-ghost use Rattle.std.specs.Prelude.{◌≡◌, ◌<◌, ◌≤◌, ◌+◌, ◌++◌, ◌∷◌, [], ◌^◌, length, drop, List, ℕ, OnOk, OnErr, IsTrue, IsFalse, ◌-◌, vec_capacity};
+ghost use Rattle.std.specs.Prelude.{◌≡◌, ◌<◌, ◌≤◌, ◌+◌, ◌++◌, ◌∷◌, [], ◌^◌, ◌↔◌, false, length, drop, List, ℕ, OnOk, OnErr, IsTrue, IsFalse, ◌-◌, vec_capacity};
 ghost use Rattle.ab_lex.specs.Spans.{IsWithin, bytes_at};
-ghost use Rattle.ab_lex.specs.Scanner.{items, has_blank_rest};
-ghost use Rattle.ab_lex.specs.Pending.{items_after, blank_after, Answers};
+ghost use Rattle.ab_lex.specs.Commands.{HasBlankRest};
+ghost use Rattle.ab_lex.specs.Pending.{Awaits, SameItems, SameRest, Answers};
 
 use crate::COMMAND_LIMIT;
 use crate::scanner::{FRESH, Scan, command_end, ends_blank, open_comments};
@@ -40,9 +40,11 @@ pub struct Splitter {
 }
 
 impl Model for Splitter {
-    ghost use Rattle.ab_lex.specs.Pending.{Pending, view_of, IsKept};
+    ghost use Rattle.ab_lex.specs.Pending.{Pending};
 
     ghost Value = { Pending };
+
+    ghost use Rattle.ab_lex.specs.Kept.{view_of, IsKept};
 
     ghost view = { λ s. view_of s.buffer.items s.start s.scan s.skips };
 
@@ -86,8 +88,8 @@ fn dropped_now(start: usize, count: usize) -> usize
 impl Splitter {
     /// A splitter that was fed nothing. It takes no memory.
     pub fn new(alloc: Global) -> Splitter
-        ensures items { (text : List ℕ) → items_after result text ≡ items text }
-        ensures blank { (text : List ℕ) → blank_after result text ≡ has_blank_rest text }
+        ensures text { result.text ≡ [] }
+        ensures in_long { result.in_long ≡ false }
     {
         Splitter {
             buffer: Vec::new(alloc),
@@ -101,8 +103,8 @@ impl Splitter {
     /// Takes the next piece of the text. The spans given so far are good no longer, except where memory was wanted:
     /// then all is as before.
     pub fn feed(&mut self, piece: &[u8]) -> Result<(), AllocError>
-        ensures items { OnOk result ((more : List ℕ) → items_after self.new more ≡ items_after self.old (piece.now ++ more)) }
-        ensures blank { OnOk result ((more : List ℕ) → blank_after self.new more ≡ blank_after self.old (piece.now ++ more)) }
+        ensures text { OnOk result (self.new.text ≡ self.old.text ++ piece.now) }
+        ensures in_long { OnOk result (self.new.in_long ≡ self.old.in_long) }
         ensures err { OnErr result (self.new ≡ self.old) }
     {
         let open = open_comments(self.scan.mode) + (self.buffer.len() - self.scanned);
@@ -119,7 +121,7 @@ impl Splitter {
     /// The next item of the text.
     pub fn next_command(&mut self) -> Next
         ensures items { Answers self.old result self.new }
-        ensures blank { (more : List ℕ) → blank_after self.new more ≡ blank_after self.old more }
+        ensures rest { SameRest self.old self.new }
         ensures kept { self.new.buffer ≡ self.old.buffer }
     {
         if self.is_past_long() {
@@ -131,10 +133,10 @@ impl Splitter {
 
     /// Goes to the end of a command that was told to be long: whether it came.
     fn is_past_long(&mut self) -> bool
-        ensures past { IsTrue result → self.new.in_long ≡ None }
-        ensures inside { IsFalse result → items_after self.new [] ≡ [] }
-        ensures items { (more : List ℕ) → items_after self.new more ≡ items_after self.old more }
-        ensures blank { (more : List ℕ) → blank_after self.new more ≡ blank_after self.old more }
+        ensures past { IsTrue result → self.new.in_long ≡ false }
+        ensures inside { IsFalse result → Awaits self.new [] [] }
+        ensures items { SameItems self.old self.new }
+        ensures rest { SameRest self.old self.new }
         ensures kept { self.new.buffer ≡ self.old.buffer }
     {
         if !self.skips {
@@ -160,9 +162,9 @@ impl Splitter {
 
     /// The next item, where no long command goes on.
     fn scan_command(&mut self) -> Next
-        requires { self.old.in_long ≡ None }
+        requires { self.old.in_long ≡ false }
         ensures items { Answers self.old result self.new }
-        ensures blank { (more : List ℕ) → blank_after self.new more ≡ blank_after self.old more }
+        ensures rest { SameRest self.old self.new }
         ensures kept { self.new.buffer ≡ self.old.buffer }
     {
         let mut scan = self.scan;
@@ -206,7 +208,7 @@ impl Splitter {
     /// Whether the bytes behind the last command of what was fed are blanks and whole comments. A `%` comment is whole
     /// at the end of what was fed too.
     pub fn rest_is_blank(&self) -> bool
-        ensures { result ≡ blank_after self.now [] }
+        ensures { IsTrue result ↔ HasBlankRest self.now.text }
     {
         ends_blank(self.scan, &self.buffer[self.scanned..])
     }

@@ -4,6 +4,7 @@ pub mod PatternedTerms
 pub mod GivenNames
 pub mod Resolved
 pub mod Listed
+pub mod Placed
 pub mod Rules
 pub mod Named
 pub mod Among

@@ -1,8 +1,7 @@
--- A cell is in a list where its variable is among those of the list, and what is looked up once a cell is added.
-use Rattle.std.proofs.Common.{◌≡◌, ℕ, List, [], ◌∷◌, map, Bool, true, false, ◌==◌, ◌||◌, ◌++◌, cond, refl, sym, ◌∙◌, ap}
+-- A cell is in a list where its variable is among those of the list.
+use Rattle.std.proofs.Common.{◌≡◌, ℕ, List, [], ◌∷◌, map, Bool, true, false, ◌==◌, ◌||◌, refl, sym, ◌∙◌, ap}
 use Rattle.std.specs.Cmp.{unsigned_Decides}
 use Rattle.std.specs.List.{list_any}
-use Rattle.std.proofs.lemmas.List.Folds.{list_any-append}
 use Rattle.std.proofs.lemmas.Bool.{false≢true, false_from_ne_true}
 use Rattle.ab_term.specs.Terms.{Variable}
 use Rattle.ab_term.specs.Sameness.{same_numbered}
@@ -14,29 +13,15 @@ use Rattle.ab_store.specs.Reading.{cell_variable}
 use Rattle.ab_solve.specs.Replacing.{holds}
 use Rattle.ab_patterns.specs.Flexible.{same_cell}
 
-last_or : (s o : Bool) → cond s true o ≡ (o || (s || false))
-last_or true true = refl
-last_or true false = refl
-last_or false true = refl
-last_or false false = refl
-
-turned : (c q : CellId) → same_cell c q ≡ same_cell q c
+pub turned : (c q : CellId) → same_cell c q ≡ same_cell q c
 turned c q = go (c.0 == q.0) refl
   where
     go : (b : Bool) → (c.0 == q.0) ≡ b → b ≡ same_cell q c
     go true e = sym ((unsigned_Decides q.0 c.0).1 (sym ((unsigned_Decides c.0 q.0).0 e)))
     go false e = sym (false_from_ne_true (same_cell q c) (λ f. false≢true (sym e ∙ (unsigned_Decides c.0 q.0).1 (sym ((unsigned_Decides q.0 c.0).0 f)))))
 
-pub listed_more : (c q : CellId) (cells : List CellId) (found now : Bool) → found ≡ list_any (same_cell q) cells → now ≡ cond (same_cell c q) true found → now ≡ list_any (same_cell q) (cells ++ c ∷ [])
-listed_more c q cells found now was is =
-    is
-    ∙ ap (λ b. cond b true found) (turned c q)
-    ∙ ap (cond (same_cell q c) true) was
-    ∙ last_or (same_cell q c) (list_any (same_cell q) cells)
-    ∙ sym (list_any-append (same_cell q) cells (c ∷ []))
-
 module _ (types : Table) (store : Contents) where
-  one_test : (c d : CellId) → (c.0 == d.0) ≡ same_numbered (cell_variable types store d) (cell_variable types store c)
+  pub one_test : (c d : CellId) → (c.0 == d.0) ≡ same_numbered (cell_variable types store d) (cell_variable types store c)
   one_test c d = go (c.0 == d.0) refl
     where
       go : (b : Bool) → (c.0 == d.0) ≡ b → b ≡ same_numbered (cell_variable types store d) (cell_variable types store c)

@@ -1,8 +1,6 @@
--- Cells that may be replaced, as contracts see them: a list in order of age. Beside it a set has just those cells.
-use Rattle.std.specs.Prelude.{◌≡◌, List, Bool, ◌==◌}
-use Rattle.std.specs.List.{list_any}
-use Rattle.std.specs.HashSet as bag
-use Rattle.std.specs.HashSet.{HashSet}
+-- Cells that may be replaced, as contracts see them: a list in order of age. Behind it stands a row of all cells that were
+-- ever listed, and each that still is has a place in the row; only private contracts speak of rows.
+use Rattle.std.specs.Prelude.{◌≡◌, ◌⊎◌, ℕ, suc, List, [], ◌∷◌, filter, Bool, true, false, cond, not, ◌==◌, Option, Some, None, nat_le, nat_lt}
 use Rattle.ab_store.specs.declared.node.CellId.{CellId}
 
 pub record InAge : Type 0 where
@@ -11,6 +9,30 @@ pub record InAge : Type 0 where
 abbrev pub same_cell : CellId → CellId → Bool
 same_cell c d = c.0 == d.0
 
--- the set has just the cells of the list
-abbrev pub Lists : {S : Type 0} → List CellId → HashSet CellId S → Type 0
-Lists cells set = (c : CellId) → bag.contains same_cell set c ≡ list_any (same_cell c) cells
+-- the others, in their order
+abbrev pub others_than : CellId → List CellId → List CellId
+others_than c ds = filter (λ d. not (d.0 == c.0)) ds
+
+-- a cell with this place counts there, and wherever it stands behind it
+abbrev pub counts : Option ℕ → ℕ → Bool
+counts None at = false
+counts (Some place) at = nat_le place at
+
+-- the first place comes before the second, or there is no second
+abbrev pub is_earlier : Option ℕ → Option ℕ → Bool
+is_earlier None other = false
+is_earlier (Some place) None = true
+is_earlier (Some place) (Some other) = nat_lt place other
+
+-- the cells of the row that count, where its first stands at `at`
+abbrev pub listed_from : (CellId → Option ℕ) → ℕ → List CellId → List CellId
+listed_from places at [] = []
+listed_from places at (c ∷ row) = cond (counts (places c) at) (c ∷ listed_from places (suc at) row) (listed_from places (suc at) row)
+
+abbrev pub StandsAt : ℕ → List CellId → CellId → ℕ → Type 0
+StandsAt at [] c place = ⊥
+StandsAt at (d ∷ row) c place = ((d ≡ c) × (place ≡ at)) ⊎ StandsAt (suc at) row c place
+
+-- each cell stands at its place
+abbrev pub HavePlaces : (CellId → Option ℕ) → List CellId → Type 0
+HavePlaces places row = (c : CellId) (place : ℕ) → places c ≡ Some place → StandsAt 0 row c place

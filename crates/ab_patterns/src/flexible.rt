@@ -1,61 +1,89 @@
 //! Variables that may be replaced.
-ghost use Rattle.std.specs.Prelude.{◌≡◌, ◌++◌, ◌∷◌, [], map, IfOk, OnOk};
+ghost use Rattle.std.specs.Prelude.{◌≡◌, ◌++◌, ◌∷◌, [], map, IfOk, OnOk, OnErr};
+ghost use Rattle.std.specs.HashMap.{get};
 ghost use Rattle.ab_types.specs.Entries.{Table};
 ghost use Rattle.ab_store.specs.Trees.{Contents, head_reading};
 ghost use Rattle.ab_store.specs.Reading.{cell_variable};
 ghost use Rattle.ab_solve.specs.Replacing as solve;
+ghost use Rattle.ab_solve.specs.Solving as solving;
+ghost use Rattle.ab_patterns.specs.Flexible as flexible;
+ghost use Rattle.ab_patterns.specs.Flexible.{same_cell, others_than};
 
 use ab_store::{CellId, Head};
 use std::alloc::{AllocError, Global};
-use std::collections::HashSet;
+use std::collections::HashMap;
 use std::marker::Model;
 
-/// Cells that may be replaced, in order of age. Whether a cell is one of them is one look-up. Contracts see the list.
+/// Cells that may be replaced, in order of age. To add one, to take one out and to ask for one is a look-up each: a cell that
+/// is taken out stays in the row, without a place there. Contracts see the list.
 #[derive(Drop)]
 pub struct FlexibleCells {
-    cells: Vec<CellId>,
-    listed: HashSet<CellId>,
+    row: Vec<CellId>,
+    places: HashMap<CellId, usize>,
 }
 
 impl Model for FlexibleCells {
-    ghost use Rattle.ab_patterns.specs.Flexible.{InAge, Lists};
+    ghost use Rattle.std.specs.HashMap.{get};
+    ghost use Rattle.ab_patterns.specs.Flexible.{InAge, same_cell, listed_from, HavePlaces};
 
     ghost Value = { InAge };
 
-    ghost view = { λ inside. record { items = inside.cells.items } };
+    ghost view = { λ inside. record { items = listed_from (get same_cell inside.places) 0 inside.row.items } };
 
-    ghost invariant = { λ inside. Lists inside.cells.items inside.listed };
+    ghost invariant = { λ inside. HavePlaces (get same_cell inside.places) inside.row.items };
 }
 
 impl FlexibleCells {
-    /// The cells of a vector, in its memory.
-    pub fn from_vec(alloc: Global, cells: Vec<CellId>) -> Result<FlexibleCells, AllocError>
-        ensures { IfOk result (λ made. made.items ≡ cells.items) }
+    /// The cells of a slice.
+    pub fn from_slice(alloc: Global, cells: &[CellId]) -> Result<FlexibleCells, AllocError>
+        ensures { IfOk result (λ made. made.items ≡ cells.now) }
     {
-        let mut listed = HashSet::new(alloc);
-        for cell in &cells {
-            listed.insert(*cell)?;
+        let mut flexible = FlexibleCells {
+            row: Vec::new(alloc),
+            places: HashMap::new(alloc),
+        };
+        for cell in cells {
+            flexible.push(*cell)?;
         }
-        Ok(FlexibleCells { cells, listed })
+        Ok(flexible)
     }
 
-    /// The cells as a slice.
-    pub fn as_slice(&self) -> &[CellId]
-        ensures { result.now ≡ self.now.items }
+    /// The cells as a vector.
+    pub fn to_vec(&self, alloc: Global) -> Result<Vec<CellId>, AllocError>
+        ensures { IfOk result (λ cells. cells.items ≡ self.now.items) }
     {
-        &self.cells
+        listed(alloc, &self.row, &self.places)
     }
 
     /// Adds a cell, the youngest. Where memory runs out the cells stay as they were.
     pub fn push(&mut self, cell: CellId) -> Result<(), AllocError>
         ensures items { OnOk result (self.new.items ≡ self.old.items ++ cell ∷ []) }
+        ensures err { OnErr result (self.new.items ≡ self.old.items) }
     {
-        self.cells.push(cell)?;
-        if self.listed.insert(cell).is_err() {
-            self.cells.pop();
-            return Err(AllocError);
+        let place = self.row.len();
+        self.row.push(cell)?;
+        if !self.places.contains_key(&cell) {
+            self.places.insert(cell, place)?;
         }
         Ok(())
+    }
+
+    /// Takes a cell out.
+    pub fn remove(&mut self, cell: CellId)
+        ensures { self.new.items ≡ others_than cell self.old.items }
+    {
+        self.places.remove(&cell);
+    }
+
+    /// Whether the first cell comes before the second.
+    pub fn is_older(&self, first: CellId, second: CellId) -> bool
+        ensures { (types : Table) (store : Contents) →
+            result ≡ solving.is_older (map (cell_variable types store) self.now.items) (cell_variable types store first) (cell_variable types store second) }
+    {
+        is_earlier(
+            self.places.get(&first).copied(),
+            self.places.get(&second).copied(),
+        )
     }
 
     /// Whether the cell is one of these.
@@ -63,7 +91,45 @@ impl FlexibleCells {
         ensures { (types : Table) (store : Contents) →
             result ≡ solve.holds (map (cell_variable types store) self.now.items) (cell_variable types store cell) }
     {
-        self.listed.contains(&cell)
+        self.places.contains_key(&cell)
+    }
+}
+
+/// The cells of the row that count where they stand.
+fn listed(
+    alloc: Global,
+    row: &[CellId],
+    places: &HashMap<CellId, usize>,
+) -> Result<Vec<CellId>, AllocError>
+    ensures { IfOk result (λ cells. cells.items ≡ flexible.listed_from (get same_cell places.now) 0 row.now) }
+{
+    let mut cells = Vec::new(alloc);
+    for (at, cell) in row.iter().enumerate() {
+        if counts(places.get(cell).copied(), at) {
+            cells.push(*cell)?;
+        }
+    }
+    Ok(cells)
+}
+
+/// Whether a cell with this place counts where it stands.
+fn counts(place: Option<usize>, at: usize) -> bool
+    ensures { result ≡ flexible.counts place at }
+{
+    match place {
+        None => false,
+        Some(place) => place <= at,
+    }
+}
+
+/// Whether the first place comes before the second, or there is no second.
+fn is_earlier(first: Option<usize>, second: Option<usize>) -> bool
+    ensures { result ≡ flexible.is_earlier first second }
+{
+    match (first, second) {
+        (None, _) => false,
+        (Some(_), None) => true,
+        (Some(place), Some(other)) => place < other,
     }
 }
 

@@ -1,9 +1,8 @@
--- Conjunctions and disjunctions as trees: their parts are smaller.
-use Rattle.std.proofs.Common.{◌≡◌, ℕ, suc, ◌+◌, ◌<◌, List, ap, arith}
+-- Conjunctions and disjunctions as trees.
+use Rattle.std.proofs.Common.{◌≡◌, ℕ, List}
 use Rattle.ab_term.specs.Logical as plain
 use Rattle.ab_term.specs.Logical.{Logical, conjunction, disjunction}
 use Rattle.ab_term.specs.Terms.{constant, logical, nominal, variable, index, lam, spine, Terms, no_terms, term}
-use Rattle.ab_term.specs.Sizes.{size}
 use Rattle.ab_store.specs.Trees.{Read}
 use Rattle.ab_logic.specs.Forms.{both, either, form_alone, form_with, form_between, form_given, form_of}
 
@@ -81,15 +80,3 @@ is_either (spine (nominal a) ts) A B e = cc
 is_either (spine (variable x) ts) A B e = cc
 is_either (spine (index i) ts) A B e = cc
 is_either (spine (logical l) ts) A B e = either_given l ts A B e
-
--- the parts are smaller
-joined_size : (l : Logical) (F A B : Read) → F ≡ Joined l A B → (size A < size F) × (size B < size F)
-joined_size l F A B e =
-    let n : size F ≡ suc (size A + (size B + 0)) = ap size e in
-    (omega (arith, n), omega (arith, n))
-
-pub both_smaller : (F A B : Read) → form_of F ≡ both A B → (size A < size F) × (size B < size F)
-both_smaller F A B e = joined_size conjunction F A B (is_both F A B e)
-
-pub either_smaller : (F A B : Read) → form_of F ≡ either A B → (size A < size F) × (size B < size F)
-either_smaller F A B e = joined_size disjunction F A B (is_either F A B e)

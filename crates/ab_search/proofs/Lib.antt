@@ -1,8 +1,12 @@
 mod Finding
 mod Forms
-mod Leading
+mod Going
+mod Layers
 mod Making
-mod Refuting
-mod Stepping
-mod Taken
+mod Numbered
+mod Parting
 mod Reading
+mod Refuting
+mod Seen
+mod Stepping
+pub mod Unfoldings

@@ -1,6 +1,6 @@
--- What the program chooses for a goal, one choice for each step of the kernel, and where choices lead. Public contracts
+-- What the program chooses for a goal, one choice for each step of the kernel, and where a choice leads. Public contracts
 -- don't speak of this.
-use Rattle.std.specs.Prelude.{◌≡◌, ◌≢◌, List, [], ◌∷◌, ◌++◌, map, All, Some, slice_get}
+use Rattle.std.specs.Prelude.{◌≡◌, ◌≢◌, List, [], ◌∷◌, map, All, Some, slice_get}
 use Rattle.ab_term.specs.Types.{Ty}
 use Rattle.ab_term.specs.Translation.{EqualPastHints}
 use Rattle.ab_store.specs.Trees.{Read}
@@ -34,12 +34,6 @@ Takes Equality s ps = (A : Ty) × (t : Read) × (u : Read) × (form_of s.conclus
 Takes Both s ps = (A : Read) × (B : Read) × (form_of s.conclusion ≡ both A B) × (ps ≡ proving A s ∷ proving B s ∷ [])
 Takes Left s ps = (A : Read) × (B : Read) × (form_of s.conclusion ≡ either A B) × (ps ≡ proving A s ∷ [])
 Takes Right s ps = (A : Read) × (B : Read) × (form_of s.conclusion ≡ either A B) × (ps ≡ proving B s ∷ [])
-
--- the choices, each taken at the first goal, lead from the first goals to the second
-abbrev pub Leads : List Choice → List Sequent → List Sequent → Type 0
-Leads [] gs hs = hs ≡ gs
-Leads (c ∷ cs) [] hs = ⊥
-Leads (c ∷ cs) (g ∷ gs) hs = (ps : List Sequent) × Takes c g ps × Leads cs (ps ++ gs) hs
 
 -- nothing closes a goal with the conclusion at once, where these formulas are assumed
 pub record Stays (w : World) (given : List Bare) (C : Read) : Type 0 where

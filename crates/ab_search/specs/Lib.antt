@@ -2,3 +2,5 @@
 pub mod Closing
 pub mod Choices
 pub mod Steps
+pub mod Asked
+pub mod Layers

@@ -1,18 +1,16 @@
-//! What closes a goal, found before the first step.
-ghost use Rattle.std.specs.Prelude.{◌≡◌, ◌≢◌, [], ◌∷◌, IfOk, IfSome, IsNone, IsTrue, IsFalse, List, All, length, take};
+//! What closes a goal at once.
+ghost use Rattle.std.specs.Prelude.{◌≡◌, ◌≢◌, [], IfOk, IfSome, IsNone, All};
 ghost use Rattle.ab_term.specs.Types.{Ty};
 ghost use Rattle.ab_term.specs.Translation.{EqualPastHints};
 ghost use Rattle.ab_store.specs.Trees.{Read};
 ghost use Rattle.ab_logic.specs.Forms.{form_of, truth, equal};
 ghost use Rattle.ab_logic.specs.Sequents.{Sequent, proving};
 ghost use Rattle.ab_logic.specs.Worlds.{IsWorld, Holds, read};
-ghost use Rattle.ab_search.specs.Closing.{CanBeClosed};
-ghost use Rattle.ab_search.specs.Choices.{IsBare, Assumes, Takes, Leads, Stays};
+ghost use Rattle.ab_search.specs.Choices.{IsBare, Assumes, Takes, Stays};
 
 use crate::bare::Bare;
 use crate::choice::Choice;
 use crate::comparing::{are_equal, closing};
-use crate::viewing::{View, look};
 use ab_logic::{Form, World, shape};
 use ab_store::TermId;
 use std::alloc::{AllocError, Global};
@@ -40,7 +38,7 @@ fn by_form(alloc: Global, world: &World, conclusion: TermId) -> Result<Option<Ch
 }
 
 /// What closes a goal at once.
-fn at_once(
+pub(crate) fn at_once(
     alloc: Global,
     world: &World,
     given: &[Bare],
@@ -59,53 +57,5 @@ fn at_once(
     match closing(alloc, world, given, asked)? {
         Some(place) => Ok(Some(Choice::Hypothesis(place))),
         None => Ok(None),
-    }
-}
-
-/// Whether a goal with the conclusion can be closed, where the formulas are assumed. Then what closes it is put behind
-/// what was chosen.
-pub(crate) fn decide(
-    alloc: Global,
-    world: &World,
-    given: &[Bare],
-    asked: Bare,
-    chosen: &mut Vec<Choice>,
-) -> Result<bool, AllocError>
-    requires world { IsWorld world.now }
-    requires given { All (IsBare world.now) given.now }
-    requires asked { IsBare world.now asked }
-    ensures kept { take (length chosen.old.items) chosen.new.items ≡ chosen.old.items }
-    ensures closes { IfOk result (λ b. IsTrue b → (s : Sequent) (gs rest : List Sequent) → Assumes world.now given.now s →
-        Leads chosen.old.items gs (proving (read world.now asked.formula) s ∷ rest) → Leads chosen.new.items gs rest) }
-    ensures closed { IfOk result (λ b. IsTrue b → (s : Sequent) → Assumes world.now given.now s →
-        CanBeClosed (proving (read world.now asked.formula) s)) }
-    ensures open { IfOk result (λ b. IsFalse b → (s : Sequent) → Assumes world.now given.now s →
-        ¬ CanBeClosed (proving (read world.now asked.formula) s)) }
-{
-    if let Some(choice) = at_once(alloc, world, given, asked)? {
-        chosen.push(choice)?;
-        return Ok(true);
-    }
-    match look(world, asked) {
-        View::BothOf(left, right) => {
-            chosen.push(Choice::Both)?;
-            let first = decide(alloc, world, given, left, chosen)?;
-            if !first {
-                return Ok(false);
-            }
-            decide(alloc, world, given, right, chosen)
-        }
-        View::EitherOf(left, right) => {
-            let mark = chosen.len();
-            chosen.push(Choice::Left)?;
-            let either = decide(alloc, world, given, left, chosen)?;
-            if either {
-                return Ok(true);
-            }
-            chosen.truncate(mark);
-            chosen.push(Choice::Right)?;
-            decide(alloc, world, given, right, chosen)
-        }
-        View::NoParts => Ok(false),
     }
 }

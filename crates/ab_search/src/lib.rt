@@ -1,13 +1,15 @@
-//! Closing a goal outright: by its hypotheses and the form of its conclusion, without anything new.
+//! Closing a goal outright: by its hypotheses, the form of its conclusion and definitions, without guessing a term.
 #![tactic(auto)]
 
 mod bare;
 mod choice;
+mod closing;
 mod comparing;
 mod deciding;
 mod fault;
 mod searching;
 mod taking;
+mod unfolding;
 mod viewing;
 
 pub use fault::SearchFault;

@@ -1,5 +1,5 @@
 //! Choices as steps of the kernel.
-ghost use Rattle.std.specs.Prelude.{◌≡◌, ◌≢◌, [], ◌∷◌, ◌++◌, IfOk, OnOk, List, drop, slice_get};
+ghost use Rattle.std.specs.Prelude.{◌≡◌, ◌≢◌, [], ◌∷◌, ◌++◌, IfOk, OnOk, List, slice_get};
 ghost use Rattle.ab_logic.specs.Readings.{sequent_of};
 ghost use Rattle.ab_logic.specs.Sequents.{Sequent as AGoal};
 ghost use Rattle.ab_logic.specs.Worlds.{IsWorld};
@@ -7,7 +7,7 @@ ghost use Rattle.ab_logic.specs.declared.world.World.{World as AWorld};
 ghost use Rattle.ab_rules.specs.Answers.{step_of, HoldsStep};
 ghost use Rattle.ab_kernel.specs.Layout.{IsProof};
 ghost use Rattle.ab_progress.specs.Progress.{goals_of, Follows};
-ghost use Rattle.ab_search.specs.Choices.{Takes, Leads};
+ghost use Rattle.ab_search.specs.Choices.{Takes};
 ghost use Rattle.ab_search.specs.Steps.{name_of, step_for};
 
 use crate::choice::Choice;
@@ -47,7 +47,7 @@ fn step_for(alloc: Global, goal: &Sequent, choice: Choice) -> Result<Step, Alloc
 }
 
 /// Takes the choice at the first goal.
-fn take<L>(
+pub(crate) fn take<L>(
     alloc: Global,
     world: &mut World,
     proof: &mut Proof,
@@ -64,24 +64,4 @@ fn take<L>(
 {
     let step = step_for(alloc, first_goal(world, proof), choice)?;
     surely(world, proof, 0, step, steps)
-}
-
-/// Takes the choices, one after another, each at the first goal. They close it.
-pub(crate) fn take_all<L>(
-    alloc: Global,
-    world: &mut World,
-    proof: &mut Proof,
-    choices: &[Choice],
-    steps: &mut Steps<L>,
-) -> Result<(), AllocError>
-    requires world { IsWorld world.old }
-    requires proof { IsProof world.old proof.old }
-    requires leads { Leads choices.now (goals_of world.old proof.old) (drop 1 (goals_of world.old proof.old)) }
-    ensures follows { Follows world.old proof.old world.new proof.new }
-    ensures closed { OnOk result (goals_of world.new proof.new ≡ drop 1 (goals_of world.old proof.old)) }
-{
-    for choice in choices {
-        take(alloc, world, proof, *choice, steps)?;
-    }
-    Ok(())
 }

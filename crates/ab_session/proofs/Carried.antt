@@ -107,11 +107,11 @@ denied_by_row l c w p f r built refused tells s rest e =
 -- By searching
 
 pub made_by_search : (l : Label) (n : ℕ) (w v : World) (p q : Held)
-    → ((s : Sequent) (rest : List Sequent) → goals_of w p ≡ s ∷ rest → CanBeClosed s × (goals_of v q ≡ rest)) → IsMade l (told.search n) w p v q
+    → ((s : Sequent) (rest : List Sequent) → goals_of w p ≡ s ∷ rest → CanBeClosed (declarations_of w) n s × (goals_of v q ≡ rest)) → IsMade l (told.search n) w p v q
 made_by_search l n w v p q closed s rest e = let c = closed s rest e in ([], (c.0, refl), c.1)
 
 pub denied_by_search : (l : Label) (n : ℕ) (w : World) (p : Held)
-    → ((s : Sequent) (rest : List Sequent) → goals_of w p ≡ s ∷ rest → ¬ CanBeClosed s) → IsDenied l (told.search n) w p NotFound
+    → ((s : Sequent) (rest : List Sequent) → goals_of w p ≡ s ∷ rest → ¬ CanBeClosed (declarations_of w) n s) → IsDenied l (told.search n) w p NotFound
 denied_by_search l n w p none s rest e = (none s rest e, refl)
 
 -- A world in which nothing was declared since

@@ -27,18 +27,19 @@ fn by_search<L>(
     alloc: Global,
     world: &mut World,
     proof: &mut Proof,
+    depth: u32,
     steps: &mut Steps<L>,
 ) -> Result<Option<Refusal>, AllocError>
     requires world { IsWorld world.old }
     requires proof { IsProof world.old proof.old }
     requires open { goals_of world.old proof.old ≢ [] }
     ensures follows { Follows world.old proof.old world.new proof.new }
-    ensures made { (l : Label) (depth : ℕ) → IfOk result (λ o. IsNone o → IsMade l (search depth) world.old proof.old world.new proof.new) }
-    ensures denied { (l : Label) (depth : ℕ) → IfOk result (λ o. IfSome o (IsDenied l (search depth) world.old proof.old)) }
+    ensures made { (l : Label) → IfOk result (λ o. IsNone o → IsMade l (search depth) world.old proof.old world.new proof.new) }
+    ensures denied { (l : Label) → IfOk result (λ o. IfSome o (IsDenied l (search depth) world.old proof.old)) }
     ensures same { IfOk result (λ o. IfSome o (λ r. history_of world.new proof.new ≡ history_of world.old proof.old)) }
     ensures err { OnErr result (history_of world.new proof.new ≡ history_of world.old proof.old) }
 {
-    match search(alloc, world, proof, steps) {
+    match search(alloc, world, proof, depth, steps) {
         Ok(()) => Ok(None),
         Err(SearchFault::NotFound) => Ok(Some(Refusal::NotFound)),
         Err(SearchFault::Memory(fault)) => Err(fault),
@@ -90,7 +91,7 @@ pub(crate) fn carry_out<L>(
     ensures err { OnErr result (history_of world.new proof.new ≡ history_of world.old proof.old) }
 {
     match command {
-        ProofCommand::Search(_) => by_search(alloc, world, proof, steps),
+        ProofCommand::Search(depth) => by_search(alloc, world, proof, *depth, steps),
         _ => by_row(alloc, world, proof, label, command, steps),
     }
 }

@@ -51,8 +51,7 @@ fn solve<L>(
     ensures in_age { IfUnified result AreInAge }
 {
     let bound = store.bindings().len();
-    let given = Vec::from_slice(alloc, flexible)?;
-    let mut left = FlexibleCells::from_vec(alloc, given)?;
+    let mut left = FlexibleCells::from_slice(alloc, flexible)?;
     let mut queue = numbered(alloc, equations)?;
     let mut waiting = Vec::new(alloc);
     match run(
@@ -65,12 +64,8 @@ fn solve<L>(
         steps,
     )? {
         Verdict::Unified => {
-            let made = made_cells(
-                alloc,
-                bindings_since(store, bound),
-                left.as_slice(),
-                flexible,
-            )?;
+            let unbound = left.to_vec(alloc)?;
+            let made = made_cells(alloc, bindings_since(store, bound), &unbound, flexible)?;
             Ok(Solved::Unified(Cells::from_vec(made)))
         }
         Verdict::Apart => Ok(Solved::Apart),

@@ -14,7 +14,7 @@ use Rattle.ab_declare.specs.Refusals.{refusal_for}
 
 -- THESE TAKE THE GOAL'S PLACE
 abbrev pub Makes : Declarations → Label → ProofCommand → Sequent → List Sequent → Type 0
-Makes D l (search depth) s ps = CanBeClosed s × (ps ≡ [])
+Makes D l (search depth) s ps = CanBeClosed D depth s × (ps ≡ [])
 Makes D l c s ps = Leads (effect D l c s) ps
 
 -- the row refuses so
@@ -25,5 +25,5 @@ pub record RefusesSo (D : Declarations) (l : Label) (c : ProofCommand) (s : Sequ
 
 -- THE COMMAND IS REFUSED
 abbrev pub Denies : Declarations → Label → ProofCommand → Sequent → Refusal → Type 0
-Denies D l (search depth) s r = (¬ CanBeClosed s) × (r ≡ NotFound)
+Denies D l (search depth) s r = (¬ CanBeClosed D depth s) × (r ≡ NotFound)
 Denies D l c s r = RefusesSo D l c s r

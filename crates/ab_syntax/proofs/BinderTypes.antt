@@ -4,8 +4,8 @@ use Rattle.ab_grammar.specs.declared.Quant.{Quant}
 use Rattle.ab_grammar.specs.Token.{Token, right_paren}
 use Rattle.ab_grammar.specs.Tree.{Ty, Binder}
 use Rattle.ab_grammar.specs.Grammar.{typed}
-use Rattle.ab_grammar.specs.Language.{Follower, by_right_paren}
-use Rattle.ab_grammar.specs.Machine.{Frame, State, TypeState, type_step, type_finish, binder_on, binder_done, binder_closed}
+use Rattle.ab_grammar.proofs.Following.{Follower, by_right_paren}
+use Rattle.ab_grammar.proofs.Machine.{Frame, TypeState, type_step, type_finish, binder_on, binder_done, binder_closed}
 
 module _ (fs : List Frame) (q : Quant) (p : ℕ) (bs : List Binder) (x : List ℕ) (r : ℕ) where
   ended : (A : Option Ty) (k : Token) → (A ≡ None) ⊎ (Follower k → ⊥) → binder_done fs q p bs x r A k ≡ None

@@ -2,11 +2,12 @@
 use Rattle.std.proofs.Common.{◌≡◌, ◌≢◌, ℕ, ◌<◌, ◌≤◌, List, ◌∷◌, length, Some, None, IsTrue, sym, subst, ◌⊎◌, inl, inr, arith}
 use Rattle.ab_grammar.specs.declared.head.Head.{Head}
 use Rattle.ab_grammar.specs.declared.head.ProofHead.{ProofHead}
-use Rattle.ab_grammar.specs.Token.{Token, other, end, colon}
-use Rattle.ab_grammar.specs.Language.{Key, Anything}
-use Rattle.ab_grammar.specs.Reading.{first, ReadsOff, ungrammatical, too_nested}
+use Rattle.ab_grammar.specs.Token.{Token, other, end, colon, first}
+use Rattle.ab_grammar.specs.Language.{Key}
+use Rattle.ab_grammar.proofs.Following.{Anything, BeforeStop}
+use Rattle.ab_grammar.proofs.Reading.{ReadsOff, ungrammatical, too_nested}
 use Rattle.ab_grammar.specs.CommandTrees as tree
-use Rattle.ab_grammar.specs.CommandTable.{BeforeStop, Row, ProofRow, Opens, OpensProof, ShowsLabel, shows_label, takes_label, LabelledForm, CommandForm}
+use Rattle.ab_grammar.specs.CommandTable.{Row, ProofRow, Opens, OpensProof, ShowsLabel, shows_label, takes_label, LabelledForm, CommandForm}
 use Rattle.ab_grammar.proofs.Continuing.{Continues}
 use Rattle.ab_grammar.proofs.WholeCommands.{plain_row, proof_row, labelled_row, label_row, colon_refused}
 use Rattle.ab_syntax.specs.declared.text.Text.{Text}

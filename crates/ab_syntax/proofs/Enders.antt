@@ -1,16 +1,15 @@
 -- What can follow a type and an expression, by its kind.
-use Rattle.std.proofs.Common.{◌≡◌, ℕ, List, Bool, true, false, None, Result, Ok, Err, IfOk, sym, ◌∙◌, ◌⊎◌, inl, inr}
-use Rattle.ab_grammar.specs.Token.{Token, comma}
+use Rattle.std.proofs.Common.{◌≡◌, ℕ, List, true, false, Some, None, Result, Ok, Err, IfOk, refl, ap, sym, subst, inl, inr}
+use Rattle.ab_grammar.specs.Token.{Token, right_paren, comma}
 use Rattle.ab_grammar.specs.Tree.{Ty}
-use Rattle.ab_grammar.specs.Language.{Follower, by_right_paren, by_right_brace, by_right_bracket, by_turnstile, by_comma, by_colon, by_other}
-use Rattle.ab_grammar.specs.Machine.{TypeFrame, type_have, type_step}
+use Rattle.ab_grammar.proofs.Following.{Follower, by_right_paren, by_right_brace, by_right_bracket, by_turnstile, by_comma, by_colon, by_other}
+use Rattle.ab_grammar.proofs.Machine.{TypeFrame, TypeShut, type_have, type_shut, type_closed, type_whole, type_step, type_finish}
 use Rattle.ab_syntax.specs.declared.text.Kind.{Kind}
 use Rattle.ab_syntax.specs.declared.text.Kind.TheVariants as kind
+use Rattle.ab_syntax.specs.Reader.{meaning}
+use Rattle.ab_syntax.specs.Steps.{follows, IsTypeNext}
 use Rattle.ab_syntax.specs.declared.types.TypeNext.{TypeNext}
 use Rattle.ab_syntax.specs.declared.types.TypeNext.TheVariants.{On, Done, Wrong}
-use Rattle.ab_syntax.specs.Reader.{meaning, kind_of}
-use Rattle.ab_syntax.specs.Steps.{follows, IsTypeNext}
-use Rattle.ab_syntax.proofs.Meanings.{kind_meant}
 
 pub if_ok : {X E : Type 0} {P Q : X → Type 0} (r : Result X E) → ((x : X) → P x → Q x) → IfOk r P → IfOk r Q
 if_ok (Ok x) f h = f x h
@@ -98,10 +97,61 @@ no_follower kind.LeftBrace w p e f = elim f [ ]
 no_follower kind.LeftBracket w p e f = elim f [ ]
 no_follower kind.Backslash w p e f = elim f [ ]
 
--- each token that ends a type does what a comma does
-module _ (gs hs : List TypeFrame) (A : Ty) (k : Token) (stuck : type_step (type_have gs A) k ≡ type_step (type_have gs A) comma) where
-  pub type_ends : Follower k → (r : TypeNext) → IsTypeNext (type_have gs A) comma hs r → IsTypeNext (type_have gs A) k hs r
-  type_ends f (On m) h = absurd (cc)
-  type_ends f (Done a) h = (stuck, h.1)
-  type_ends f Wrong (e, inl g) = (stuck, inl g)
-  type_ends f Wrong (e, inr n) = absurd (n by_comma)
+-- what can follow a type, behind one that is shut
+module _ (gs : List TypeFrame) (A B : Ty) where
+  stopped : (k : Token) → Follower k → (k ≡ right_paren → type_step (type_have gs A) k ≡ None) → type_step (type_have gs A) k ≡ None
+  stopped _ by_right_paren h = h refl
+  stopped _ by_right_brace h = refl
+  stopped _ by_right_bracket h = refl
+  stopped _ by_turnstile h = refl
+  stopped _ by_comma h = refl
+  stopped _ by_colon h = refl
+  stopped _ (by_other o) h = refl
+
+  pub type_ended : (k : Token) → Follower k → type_shut A gs ≡ record { inner = B; below = None } → (type_step (type_have gs A) k ≡ None) × (type_finish (type_have gs A) ≡ Some B)
+  type_ended k f e = (stopped k f (λ q. subst (λ (j : Token). type_step (type_have gs A) j ≡ None) (sym q) (ap (λ (s : TypeShut). type_closed s.below s.inner) e)), ap (λ (s : TypeShut). type_whole s.below s.inner) e)
+
+  pub type_enclosed : (k : Token) (hs : List TypeFrame) → Follower k → (k ≡ right_paren → ⊥) → type_shut A gs ≡ record { inner = B; below = Some hs } → (type_step (type_have gs A) k ≡ None) × (type_finish (type_have gs A) ≡ None)
+  type_enclosed k hs f n e = (stopped k f (λ q. absurd (n q)), ap (λ (s : TypeShut). type_whole s.below s.inner) e)
+
+-- what neither goes on with a type nor can follow one
+pub type_stuck : (gs : List TypeFrame) (A : Ty) (k : Kind) (w : List ℕ) (p : ℕ) → follows k ≡ false → (k ≡ kind.Arrow → ⊥) → type_step (type_have gs A) (meaning k w p) ≡ None
+type_stuck gs A kind.Arrow w p e n = absurd (n refl)
+type_stuck gs A kind.RightParen w p e n = let bad : true ≡ false = e in absurd (cc)
+type_stuck gs A kind.Word w p e n = refl
+type_stuck gs A kind.Truth w p e n = refl
+type_stuck gs A kind.Forall w p e n = refl
+type_stuck gs A kind.Exists w p e n = refl
+type_stuck gs A kind.Nabla w p e n = refl
+type_stuck gs A kind.Pi w p e n = refl
+type_stuck gs A kind.Or w p e n = refl
+type_stuck gs A kind.And w p e n = refl
+type_stuck gs A kind.Equal w p e n = refl
+type_stuck gs A kind.Imply w p e n = refl
+type_stuck gs A kind.Both w p e n = refl
+type_stuck gs A kind.Cons w p e n = refl
+type_stuck gs A kind.LeftParen w p e n = refl
+type_stuck gs A kind.LeftBrace w p e n = refl
+type_stuck gs A kind.RightBrace w p e n = refl
+type_stuck gs A kind.LeftBracket w p e n = refl
+type_stuck gs A kind.RightBracket w p e n = refl
+type_stuck gs A kind.Turnstile w p e n = refl
+type_stuck gs A kind.Backslash w p e n = refl
+type_stuck gs A kind.Comma w p e n = refl
+type_stuck gs A kind.Colon w p e n = refl
+type_stuck gs A kind.Stop w p e n = refl
+type_stuck gs A kind.Semicolon w p e n = refl
+type_stuck gs A kind.Becomes w p e n = refl
+type_stuck gs A kind.From w p e n = refl
+type_stuck gs A kind.Star w p e n = refl
+type_stuck gs A kind.Back w p e n = refl
+type_stuck gs A kind.Reset w p e n = refl
+type_stuck gs A kind.By w p e n = refl
+type_stuck gs A kind.To w p e n = refl
+type_stuck gs A kind.With w p e n = refl
+type_stuck gs A kind.On w p e n = refl
+type_stuck gs A kind.Type w p e n = refl
+type_stuck gs A kind.Number w p e n = refl
+type_stuck gs A kind.Text w p e n = refl
+type_stuck gs A kind.Unusable w p e n = refl
+type_stuck gs A kind.End w p e n = refl

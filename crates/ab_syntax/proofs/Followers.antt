@@ -1,11 +1,11 @@
 -- What follows the items of lists.
 use Rattle.std.proofs.Common.{◌≡◌, ℕ, List, refl, sym, ◌∙◌, ◌⊎◌, inl, inr}
-use Rattle.ab_grammar.specs.Token.{Token, word, comma, other, stop, semicolon, by_word, with_word}
-use Rattle.ab_grammar.specs.Language.{Key, Follow, Followed, Anything, by_comma, by_other}
-use Rattle.ab_grammar.specs.Reading.{first, Comes}
+use Rattle.ab_grammar.specs.Token.{Token, word, comma, other, stop, semicolon, by_word, with_word, first}
+use Rattle.ab_grammar.specs.Language.{Key}
+use Rattle.ab_grammar.proofs.Following.{Follow, Followed, Anything, by_comma, by_other, Comes, Without, BeforeStop, ClauseEnds, ArgumentsEnd}
 use Rattle.ab_grammar.specs.CommandTrees as tree
 use Rattle.ab_grammar.specs.CommandForms.{Many, ◌▸◌}
-use Rattle.ab_grammar.specs.CommandTable.{BeforeStop, ClauseEnds, ArgumentsEnd, Definiendum, InstanceForm, ClauseForm, ShowsName, shows_name, ShowsArgument, shows_named, shows_hole}
+use Rattle.ab_grammar.specs.CommandTable.{Definiendum, InstanceForm, ClauseForm, ShowsName, shows_name, ShowsArgument, shows_named, shows_hole}
 use Rattle.ab_grammar.proofs.Looping.{follows_item}
 use Rattle.ab_grammar.proofs.Continuing.{Apart}
 use Rattle.ab_grammar.proofs.Beginnings.{followed_by, followed_by_stop}
@@ -53,3 +53,10 @@ argument_is_word _ _ (shows_hole p) = (_, p, refl)
 pub arguments_end : (ms : List Token) (a : tree.Argument) → ShowsArgument (first ms) a → Apart ArgumentsEnd ms
 arguments_end ms a s r (inl e) f = let w = argument_is_word (first ms) a s in let bad : other with_word ≡ word (w.0) (w.1) = sym e ∙ f ∙ w.2 in absurd (cc)
 arguments_end ms a s r (inr e) f = let w = argument_is_word (first ms) a s in let bad : other stop ≡ word (w.0) (w.1) = sym e ∙ f ∙ w.2 in absurd (cc)
+
+-- so none shows a name or an argument
+pub no_name_at_end : (r : List Token) → BeforeStop r → Without ShowsName r
+no_name_at_end r f x s = names_end r x s r f refl
+
+pub no_argument_at_end : (r : List Token) → ArgumentsEnd r → Without ShowsArgument r
+no_argument_at_end r f a s = arguments_end r a s r f refl

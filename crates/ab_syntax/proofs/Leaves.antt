@@ -1,8 +1,8 @@
 -- Parts that are one token: taken where the token shows a value, and refused where it shows none.
-use Rattle.std.proofs.Common.{◌≡◌, ℕ, ◌+◌, ◌<◌, ◌↔◌, Bool, true, false, List, ◌∷◌, Option, Some, None, MatchOption, IsTrue, length, refl, sym, ◌∙◌, ap, subst, bytes_eq, codes}
-use Rattle.ab_grammar.specs.Token.{Token, word}
-use Rattle.ab_grammar.specs.Language.{Anything}
-use Rattle.ab_grammar.specs.Reading.{first, ReadsOff, StopsAt}
+use Rattle.std.proofs.Common.{◌≡◌, ℕ, ◌+◌, ◌<◌, true, List, Option, Some, None, MatchOption, length, refl, sym, ◌∙◌, ap, subst}
+use Rattle.ab_grammar.specs.Token.{Token, word, first}
+use Rattle.ab_grammar.proofs.Following.{Anything}
+use Rattle.ab_grammar.proofs.Reading.{ReadsOff, StopsAt}
 use Rattle.ab_grammar.specs.CommandForms.{One}
 use Rattle.ab_grammar.proofs.Joining.{Example}
 use Rattle.ab_grammar.proofs.Choosing.{one_reads, one_stops}
@@ -16,10 +16,9 @@ use Rattle.ab_lex.specs.declared.token.TokenKind.TheVariants as lexed
 use Rattle.ab_grammar.specs.CommandTrees as tree
 use Rattle.ab_grammar.specs.CommandTable.{IsDeclarable, IsNominal, ShowsName, shows_name, ShowsDeclared, shows_declared, ShowsNominal, shows_nominal, ShowsArgument, shows_named, shows_hole, ShowsNumber, shows_number, ShowsText, shows_text, StandsAnywhere, stands_at}
 use Rattle.ab_syntax.specs.Numbers.{IsShort}
-use Rattle.ab_syntax.specs.Leaves.{IsShown, ShowsWhere, ShowsSome}
+use Rattle.ab_syntax.specs.Leaves.{IsShown}
 use Rattle.ab_syntax.proofs.NumberTokens.{number_alone, text_alone}
 use Rattle.std.specs.List.{list_all}
-use Rattle.std.proofs.lemmas.Slice.Eq.{bytes_eq-Decides}
 
 module _ {A : Type 0} (Shows : Token → A → Type 0) (shows : ShowsOne Shows) (t : Text) (i : ℕ) where
   pub takes : (a : A) → Shows (first (rest t i)) a → i < length t.tokens.now → ReadsOff (One Shows) Anything (rest t i) a (rest t (i + 1))
@@ -54,31 +53,13 @@ text_kind _ _ (shows_text x) = refl
 pub placed_kind : (x : List ℕ) (k : Token) (u : Unit {0}) → StandsAnywhere (word x) k u → kind_of k ≡ kind.Word
 placed_kind x _ _ (stands_at p) = refl
 
--- each word is an argument
-word_argument : (x : List ℕ) (p : ℕ) (b : Bool) → bytes_eq x (codes "_") ≡ b → ShowsSome ShowsArgument (word x p)
-word_argument x p true e = let same : x ≡ codes "_" = (bytes_eq-Decides x (codes "_")).0 e in (tree.hole, subst (λ (y : List ℕ). ShowsArgument (word y p) tree.hole) (sym same) (shows_hole p))
-word_argument x p false e = (tree.named x, shows_named x p (λ f. let bad : true ≡ false = sym ((bytes_eq-Decides x (codes "_")).1 f) ∙ e in absurd (cc)))
-
-pub name_argument : (k : Token) → ShowsSome ShowsName k → ShowsSome ShowsArgument k
-name_argument k (y, s) = from_name k y s
-  where
-    from_name : (k : Token) (y : List ℕ) → ShowsName k y → ShowsSome ShowsArgument k
-    from_name _ _ (shows_name x p) = word_argument x p (bytes_eq x (codes "_")) refl
-
-pub argument_name : (k : Token) → ShowsSome ShowsArgument k → ShowsSome ShowsName k
-argument_name k (a, s) = from_argument k a s
-  where
-    from_argument : (k : Token) (a : tree.Argument) → ShowsArgument k a → ShowsSome ShowsName k
-    from_argument _ _ (shows_named x p n) = (x, shows_name x p)
-    from_argument _ _ (shows_hole p) = (codes "_", shows_name (codes "_") p)
-
 module _ (t : Text) (i : ℕ) where
-  declared_in : (w : List ℕ) (p : ℕ) (k : Token) → k ≡ word w p → (x : List ℕ) → ShowsDeclared k x → IsDeclarable w
-  declared_in w p _ e _ (shows_declared x q d) = let same : x ≡ w = cc in subst IsDeclarable same d
+  -- what the word that stands there shows
+  pub word_shown : {A : Type 0} (Shows : Token → A → Type 0) (a : A) (x w : List ℕ) (p : ℕ) → first (rest t i) ≡ word w p → x ≡ w → Shows (word x p) a → Shows (first (rest t i)) a
+  word_shown Shows a x w p e s d = subst (λ (k : Token). Shows k a) (sym (e ∙ ap (λ (y : List ℕ). word y p) (sym s))) d
 
-  pub declared_where : (w : List ℕ) (p : ℕ) (b : Bool) → first (rest t i) ≡ word w p → IsTrue b ↔ IsDeclarable w → i < length t.tokens.now → ShowsWhere ShowsDeclared w t i b
-  declared_where w p true e d h = (subst (λ (k : Token). ShowsDeclared k w) (sym e) (shows_declared w p (d.0 refl)), h)
-  declared_where w p false e d h = λ x s. let bad = d.1 (declared_in w p (first (rest t i)) e x s) in absurd (cc)
+  pub declared_in : (w : List ℕ) (p : ℕ) (k : Token) → k ≡ word w p → (x : List ℕ) → ShowsDeclared k x → IsDeclarable w
+  declared_in w p _ e _ (shows_declared x q d) = let same : x ≡ w = cc in subst IsDeclarable same d
 
   nominal_in : (w : List ℕ) (p : ℕ) (k : Token) → k ≡ word w p → (n : ℕ) → ShowsNominal k n → IsNominal w n
   nominal_in w p _ e _ (shows_nominal x q n d) = let same : x ≡ w = cc in subst (λ (y : List ℕ). IsNominal y n) same d
@@ -87,12 +68,8 @@ module _ (t : Text) (i : ℕ) where
   nominal_where w p (Some n) e d h = (subst (λ (k : Token). ShowsNominal k n) (sym e) (shows_nominal w p n d), h)
   nominal_where w p None e d h = λ n s. d n (nominal_in w p (first (rest t i)) e n s)
 
-  placed_in : (x w : List ℕ) (p : ℕ) (k : Token) → k ≡ word w p → (u : Unit {0}) → StandsAnywhere (word x) k u → w ≡ x
+  pub placed_in : (x w : List ℕ) (p : ℕ) (k : Token) → k ≡ word w p → (u : Unit {0}) → StandsAnywhere (word x) k u → w ≡ x
   placed_in x w p _ e _ (stands_at q) = cc
-
-  pub word_where : (x w : List ℕ) (p : ℕ) (b : Bool) → first (rest t i) ≡ word w p → b ≡ bytes_eq w x → i < length t.tokens.now → ShowsWhere (StandsAnywhere (word x)) tt t i b
-  word_where x w p true e d h = let same : w ≡ x = (bytes_eq-Decides w x).0 (sym d) in (subst (λ (k : Token). StandsAnywhere (word x) k tt) (sym (e ∙ ap (λ (y : List ℕ). word y p) same)) (stands_at p), h)
-  word_where x w p false e d h = λ u s. let bad : false ≡ true = d ∙ (bytes_eq-Decides w x).1 (placed_in x w p (first (rest t i)) e u s) in absurd (cc)
 
   -- a number or a quoted text that stands there was read as one
   pub number_short : IsText t → i < length t.tokens.now → kind_of (first (rest t i)) ≡ kind.Number → IsShort (written t i)

@@ -5,7 +5,6 @@ pub mod Digits
 pub mod Lookup
 pub mod FirstToken
 pub mod Standing
-pub mod WholeText
 pub mod Utf8
 pub mod Stacks
 pub mod Enders
@@ -16,6 +15,7 @@ pub mod Standings
 pub mod Passing
 pub mod NumberTokens
 pub mod Leaves
+pub mod Taking
 pub mod Repeating
 pub mod Signs
 pub mod Followers

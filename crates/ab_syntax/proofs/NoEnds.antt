@@ -3,7 +3,7 @@ use Rattle.std.proofs.Common.{◌≡◌, List, [], ◌∷◌, Option, Some, None
 use Rattle.ab_grammar.specs.Token.{Token, Other, other, end}
 use Rattle.ab_grammar.specs.Nesting.{Spot, outside}
 use Rattle.ab_grammar.specs.Language.{tokens_of, nested, Expression, TypeExpression}
-use Rattle.ab_grammar.specs.Machine.{run, step_in, found, step, finish, start, type_step, type_finish, type_start}
+use Rattle.ab_grammar.proofs.Machine.{run, step_in, found, step, finish, start, type_step, type_finish, type_start}
 use Rattle.ab_grammar.proofs.Lifting.{NoEnd}
 use Rattle.ab_grammar.proofs.Runs.{run_none}
 use Rattle.ab_grammar.proofs.Reader.{tokens_of-spots}

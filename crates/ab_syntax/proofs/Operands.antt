@@ -1,25 +1,28 @@
 -- What a token does behind an operand, by its kind.
-use Rattle.std.proofs.Common.{◌≡◌, ◌≢◌, ℕ, List, [], ◌∷◌, Bool, true, false, Some, None, refl, sym, ◌∙◌, ◌⊎◌, inl, inr}
+use Rattle.std.proofs.Common.{◌≡◌, ◌≢◌, ℕ, List, [], ◌∷◌, length, map, true, false, Option, Some, None, refl, ap, sym, subst, inr, arith, ◌∙◌, inl}
 use Rattle.ab_grammar.specs.declared.Infix.{Infix}
 use Rattle.ab_grammar.specs.declared.Infix.TheVariants as signs_of
-use Rattle.ab_grammar.specs.Token.{Token, Other, colon, other, sign}
-use Rattle.ab_grammar.specs.Tree.{Tree}
-use Rattle.ab_grammar.specs.Language.{Follower, by_right_paren, by_right_brace, by_right_bracket, by_turnstile, by_comma, by_colon, by_other}
-use Rattle.ab_grammar.specs.Machine.{Frame, State, Bare, compound, alone, have, enclosed, step, finish, step_enclosed, shut, Below, bottom, bracket, Bracket, paren, pi_paren, item_in, focus_in, goal_in, close, closing}
+use Rattle.ab_grammar.specs.Token.{Token, Other, right_brace, colon, other, sign}
+use Rattle.ab_grammar.specs.Tree.{Tree, judgement}
+use Rattle.ab_grammar.proofs.Following.{Follower, by_right_paren, by_right_brace, by_right_bracket, by_turnstile, by_comma, by_colon, by_other}
+use Rattle.ab_grammar.proofs.Machine.{Frame, State, Bare, compound, have, enclosed, step, finish, starts, grow, step_have, step_enclosed, shut, Below, bottom, bracket, Bracket, paren, pi_paren, item_in, focus_in, goal_in, close, closing}
 use Rattle.ab_syntax.specs.declared.text.Kind.{Kind}
 use Rattle.ab_syntax.specs.declared.text.Kind.TheVariants as kind
 use Rattle.ab_syntax.specs.declared.machine.Next.{Next}
 use Rattle.ab_syntax.specs.declared.machine.Next.TheVariants.{On, Done, Wrong}
 use Rattle.ab_syntax.specs.Reader.{meaning}
-use Rattle.ab_syntax.specs.Steps.{follows}
-use Rattle.ab_syntax.specs.States.{IsNext, IsClosed}
+use Rattle.ab_syntax.specs.Steps.{follows, begins}
+use Rattle.ab_syntax.specs.States.{Says, IsNext, IsClosed}
 
--- two states that go on alike and end alike
-pub next_same : (s u : State) (k : Token) (fs : List Frame) → step s k ≡ step u k → finish s ≡ finish u → (r : Next) → IsNext u k fs r → IsNext s k fs r
-next_same s u k fs e f (On t) h = e ∙ h
-next_same s u k fs e f (Done t) h = (e ∙ h.0, f ∙ h.1)
-next_same s u k fs e f Wrong (h, inl g) = (e ∙ h, inl (f ∙ g))
-next_same s u k fs e f Wrong (h, inr n) = (e ∙ h, inr n)
+-- what goes on alike and has read alike
+pub says_same : (o u : Option State) (x y : Option Tree) (k : Token) (fs : List Frame) (r : Next) → o ≡ u → x ≡ y → Says u y k fs r → Says o x k fs r
+says_same o u x y k fs r e f h = subst (λ (z : Option State). Says z x k fs r) (sym e) (subst (λ (z : Option Tree). Says u z k fs r) (sym f) h)
+
+-- a token that can't follow an expression ends none
+pub says_within : (o : Option State) (x : Option Tree) (k : Token) (fs : List Frame) (r : Next) → (Follower k → ⊥) → Says o None k fs r → Says o x k fs r
+says_within o x k fs (On t) n h = h
+says_within o x k fs (Done t) n h = let bad = h.1 in absurd (cc)
+says_within o x k fs Wrong n h = (h.0, inr n)
 
 no_close_colon : (b : Bracket) (fs : List Frame) (t : Tree) → close b fs t colon ≡ None
 no_close_colon paren fs t = refl
@@ -47,28 +50,22 @@ no_closing_other o (bracket b fs) t = no_close_other o b fs t
 
 module _ (t : Tree) (fs gs : List Frame) where
   -- what can follow an expression closes a bracket, or nothing goes on
+  closes : (k : Token) → Follower k → step_enclosed fs t k ≡ closing (shut t fs).below (shut t fs).inner k
+  closes _ by_right_paren = refl
+  closes _ by_right_brace = refl
+  closes _ by_right_bracket = refl
+  closes _ by_turnstile = refl
+  closes _ by_comma = refl
+  closes _ by_colon = sym (no_closing_colon (shut t fs).below (shut t fs).inner)
+  closes _ (by_other o) = sym (no_closing_other o (shut t fs).below (shut t fs).inner)
+
   pub closed_next : (k : Token) → Follower k → (r : Next) → IsClosed (shut t fs) k gs r → IsNext (enclosed fs t) k gs r
-  closed_next _ by_right_paren (On m) h = h
-  closed_next _ by_right_paren (Done a) h = h
-  closed_next _ by_right_paren Wrong h = (h.0, inl h.1)
-  closed_next _ by_right_brace (On m) h = h
-  closed_next _ by_right_brace (Done a) h = h
-  closed_next _ by_right_brace Wrong h = (h.0, inl h.1)
-  closed_next _ by_right_bracket (On m) h = h
-  closed_next _ by_right_bracket (Done a) h = h
-  closed_next _ by_right_bracket Wrong h = (h.0, inl h.1)
-  closed_next _ by_turnstile (On m) h = h
-  closed_next _ by_turnstile (Done a) h = h
-  closed_next _ by_turnstile Wrong h = (h.0, inl h.1)
-  closed_next _ by_comma (On m) h = h
-  closed_next _ by_comma (Done a) h = h
-  closed_next _ by_comma Wrong h = (h.0, inl h.1)
-  closed_next _ by_colon (On m) h = let bad = sym (no_closing_colon (shut t fs).below (shut t fs).inner) ∙ h in absurd (cc)
-  closed_next _ by_colon (Done a) h = (refl, h.1)
-  closed_next _ by_colon Wrong h = (refl, inl h.1)
-  closed_next _ (by_other o) (On m) h = let bad = sym (no_closing_other o (shut t fs).below (shut t fs).inner) ∙ h in absurd (cc)
-  closed_next _ (by_other o) (Done a) h = (refl, h.1)
-  closed_next _ (by_other o) Wrong h = (refl, inl h.1)
+  closed_next k f r h = says_same (step_enclosed fs t k) _ (finish (enclosed fs t)) (finish (enclosed fs t)) k gs r (closes k f) refl h
+
+  -- a judgement with no context ends
+  pub closes_alone : {A : Type 0} (f : A → Tree) (xs : List A) (p : ℕ) (r : Tree) → length xs ≡ 0 → r ≡ judgement (map f xs) None t p → close (item_in p (map f xs)) fs t right_brace ≡ Some (have compound fs r)
+  closes_alone f [] p r e h = ap (λ (u : Tree). Some (have compound fs u)) (sym h)
+  closes_alone f (x ∷ xs) p r e h = absurd (omega (arith, e))
 
   -- neither a sign nor what can follow
   pub stuck_enclosed : (k : Kind) → follows k ≡ false → ((o : Infix) (w : List ℕ) (p : ℕ) → meaning k w p ≢ sign o) → (w : List ℕ) (p : ℕ) → step_enclosed fs t (meaning k w p) ≡ None
@@ -112,47 +109,97 @@ module _ (t : Tree) (fs gs : List Frame) where
   stuck_enclosed kind.Unusable e n w p = let bad : true ≡ false = e in absurd (cc)
   stuck_enclosed kind.End e n w p = let bad : true ≡ false = e in absurd (cc)
 
+  -- where an argument begins
+  begun : (k : Kind) → begins k ≡ true → (w : List ℕ) (p : ℕ) → (step_have compound fs t (meaning k w p) ≡ starts (grow fs t) (meaning k w p)) × (Follower (meaning k w p) → ⊥)
+  begun kind.Word e w p = (refl, λ f. elim f [ ])
+  begun kind.Truth e w p = (refl, λ f. elim f [ ])
+  begun kind.Forall e w p = (refl, λ f. elim f [ ])
+  begun kind.Exists e w p = (refl, λ f. elim f [ ])
+  begun kind.Nabla e w p = (refl, λ f. elim f [ ])
+  begun kind.Pi e w p = let bad : false ≡ true = e in absurd (cc)
+  begun kind.Arrow e w p = let bad : false ≡ true = e in absurd (cc)
+  begun kind.Or e w p = let bad : false ≡ true = e in absurd (cc)
+  begun kind.And e w p = let bad : false ≡ true = e in absurd (cc)
+  begun kind.Equal e w p = let bad : false ≡ true = e in absurd (cc)
+  begun kind.Imply e w p = let bad : false ≡ true = e in absurd (cc)
+  begun kind.Both e w p = let bad : false ≡ true = e in absurd (cc)
+  begun kind.Cons e w p = let bad : false ≡ true = e in absurd (cc)
+  begun kind.LeftParen e w p = (refl, λ f. elim f [ ])
+  begun kind.LeftBrace e w p = (refl, λ f. elim f [ ])
+  begun kind.RightParen e w p = let bad : false ≡ true = e in absurd (cc)
+  begun kind.RightBrace e w p = let bad : false ≡ true = e in absurd (cc)
+  begun kind.LeftBracket e w p = let bad : false ≡ true = e in absurd (cc)
+  begun kind.RightBracket e w p = let bad : false ≡ true = e in absurd (cc)
+  begun kind.Turnstile e w p = let bad : false ≡ true = e in absurd (cc)
+  begun kind.Backslash e w p = let bad : false ≡ true = e in absurd (cc)
+  begun kind.Comma e w p = let bad : false ≡ true = e in absurd (cc)
+  begun kind.Colon e w p = let bad : false ≡ true = e in absurd (cc)
+  begun kind.Stop e w p = let bad : false ≡ true = e in absurd (cc)
+  begun kind.Semicolon e w p = let bad : false ≡ true = e in absurd (cc)
+  begun kind.Becomes e w p = let bad : false ≡ true = e in absurd (cc)
+  begun kind.From e w p = let bad : false ≡ true = e in absurd (cc)
+  begun kind.Star e w p = let bad : false ≡ true = e in absurd (cc)
+  begun kind.Back e w p = let bad : false ≡ true = e in absurd (cc)
+  begun kind.Reset e w p = let bad : false ≡ true = e in absurd (cc)
+  begun kind.By e w p = let bad : false ≡ true = e in absurd (cc)
+  begun kind.To e w p = let bad : false ≡ true = e in absurd (cc)
+  begun kind.With e w p = let bad : false ≡ true = e in absurd (cc)
+  begun kind.On e w p = let bad : false ≡ true = e in absurd (cc)
+  begun kind.Type e w p = let bad : false ≡ true = e in absurd (cc)
+  begun kind.Number e w p = let bad : false ≡ true = e in absurd (cc)
+  begun kind.Text e w p = let bad : false ≡ true = e in absurd (cc)
+  begun kind.Unusable e w p = let bad : false ≡ true = e in absurd (cc)
+  begun kind.End e w p = let bad : false ≡ true = e in absurd (cc)
+
+  pub have_begun : (k : Kind) → begins k ≡ true → (w : List ℕ) (p : ℕ) → (r : Next) → Says (starts (grow fs t) (meaning k w p)) None (meaning k w p) gs r → IsNext (have compound fs t) (meaning k w p) gs r
+  have_begun k e w p r h =
+      let b = begun k e w p in
+      says_within (step_have compound fs t (meaning k w p)) (finish (have compound fs t)) (meaning k w p) gs r b.1 (says_same _ _ None None (meaning k w p) gs r b.0 refl h)
+
   -- where no argument begins
-  pub same_have : (k : Kind) (n0 : k ≡ kind.Word → ⊥) (n1 : k ≡ kind.Truth → ⊥) (n2 : k ≡ kind.Forall → ⊥) (n3 : k ≡ kind.Exists → ⊥) (n4 : k ≡ kind.Nabla → ⊥) (n5 : k ≡ kind.LeftParen → ⊥) (n6 : k ≡ kind.LeftBrace → ⊥) → (w : List ℕ) (p : ℕ) → step (have compound fs t) (meaning k w p) ≡ step (enclosed fs t) (meaning k w p)
-  same_have kind.Word n0 n1 n2 n3 n4 n5 n6 w p = absurd (n0 refl)
-  same_have kind.Truth n0 n1 n2 n3 n4 n5 n6 w p = absurd (n1 refl)
-  same_have kind.Forall n0 n1 n2 n3 n4 n5 n6 w p = absurd (n2 refl)
-  same_have kind.Exists n0 n1 n2 n3 n4 n5 n6 w p = absurd (n3 refl)
-  same_have kind.Nabla n0 n1 n2 n3 n4 n5 n6 w p = absurd (n4 refl)
-  same_have kind.Pi n0 n1 n2 n3 n4 n5 n6 w p = refl
-  same_have kind.Arrow n0 n1 n2 n3 n4 n5 n6 w p = refl
-  same_have kind.Or n0 n1 n2 n3 n4 n5 n6 w p = refl
-  same_have kind.And n0 n1 n2 n3 n4 n5 n6 w p = refl
-  same_have kind.Equal n0 n1 n2 n3 n4 n5 n6 w p = refl
-  same_have kind.Imply n0 n1 n2 n3 n4 n5 n6 w p = refl
-  same_have kind.Both n0 n1 n2 n3 n4 n5 n6 w p = refl
-  same_have kind.Cons n0 n1 n2 n3 n4 n5 n6 w p = refl
-  same_have kind.LeftParen n0 n1 n2 n3 n4 n5 n6 w p = absurd (n5 refl)
-  same_have kind.LeftBrace n0 n1 n2 n3 n4 n5 n6 w p = absurd (n6 refl)
-  same_have kind.RightParen n0 n1 n2 n3 n4 n5 n6 w p = refl
-  same_have kind.RightBrace n0 n1 n2 n3 n4 n5 n6 w p = refl
-  same_have kind.LeftBracket n0 n1 n2 n3 n4 n5 n6 w p = refl
-  same_have kind.RightBracket n0 n1 n2 n3 n4 n5 n6 w p = refl
-  same_have kind.Turnstile n0 n1 n2 n3 n4 n5 n6 w p = refl
-  same_have kind.Backslash n0 n1 n2 n3 n4 n5 n6 w p = refl
-  same_have kind.Comma n0 n1 n2 n3 n4 n5 n6 w p = refl
-  same_have kind.Colon n0 n1 n2 n3 n4 n5 n6 w p = refl
-  same_have kind.Stop n0 n1 n2 n3 n4 n5 n6 w p = refl
-  same_have kind.Semicolon n0 n1 n2 n3 n4 n5 n6 w p = refl
-  same_have kind.Becomes n0 n1 n2 n3 n4 n5 n6 w p = refl
-  same_have kind.From n0 n1 n2 n3 n4 n5 n6 w p = refl
-  same_have kind.Star n0 n1 n2 n3 n4 n5 n6 w p = refl
-  same_have kind.Back n0 n1 n2 n3 n4 n5 n6 w p = refl
-  same_have kind.Reset n0 n1 n2 n3 n4 n5 n6 w p = refl
-  same_have kind.By n0 n1 n2 n3 n4 n5 n6 w p = refl
-  same_have kind.To n0 n1 n2 n3 n4 n5 n6 w p = refl
-  same_have kind.With n0 n1 n2 n3 n4 n5 n6 w p = refl
-  same_have kind.On n0 n1 n2 n3 n4 n5 n6 w p = refl
-  same_have kind.Type n0 n1 n2 n3 n4 n5 n6 w p = refl
-  same_have kind.Number n0 n1 n2 n3 n4 n5 n6 w p = refl
-  same_have kind.Text n0 n1 n2 n3 n4 n5 n6 w p = refl
-  same_have kind.Unusable n0 n1 n2 n3 n4 n5 n6 w p = refl
-  same_have kind.End n0 n1 n2 n3 n4 n5 n6 w p = refl
+  same_have : (k : Kind) → begins k ≡ false → (w : List ℕ) (p : ℕ) → step_have compound fs t (meaning k w p) ≡ step_enclosed fs t (meaning k w p)
+  same_have kind.Word e w p = let bad : true ≡ false = e in absurd (cc)
+  same_have kind.Truth e w p = let bad : true ≡ false = e in absurd (cc)
+  same_have kind.Forall e w p = let bad : true ≡ false = e in absurd (cc)
+  same_have kind.Exists e w p = let bad : true ≡ false = e in absurd (cc)
+  same_have kind.Nabla e w p = let bad : true ≡ false = e in absurd (cc)
+  same_have kind.Pi e w p = refl
+  same_have kind.Arrow e w p = refl
+  same_have kind.Or e w p = refl
+  same_have kind.And e w p = refl
+  same_have kind.Equal e w p = refl
+  same_have kind.Imply e w p = refl
+  same_have kind.Both e w p = refl
+  same_have kind.Cons e w p = refl
+  same_have kind.LeftParen e w p = let bad : true ≡ false = e in absurd (cc)
+  same_have kind.LeftBrace e w p = let bad : true ≡ false = e in absurd (cc)
+  same_have kind.RightParen e w p = refl
+  same_have kind.RightBrace e w p = refl
+  same_have kind.LeftBracket e w p = refl
+  same_have kind.RightBracket e w p = refl
+  same_have kind.Turnstile e w p = refl
+  same_have kind.Backslash e w p = refl
+  same_have kind.Comma e w p = refl
+  same_have kind.Colon e w p = refl
+  same_have kind.Stop e w p = refl
+  same_have kind.Semicolon e w p = refl
+  same_have kind.Becomes e w p = refl
+  same_have kind.From e w p = refl
+  same_have kind.Star e w p = refl
+  same_have kind.Back e w p = refl
+  same_have kind.Reset e w p = refl
+  same_have kind.By e w p = refl
+  same_have kind.To e w p = refl
+  same_have kind.With e w p = refl
+  same_have kind.On e w p = refl
+  same_have kind.Type e w p = refl
+  same_have kind.Number e w p = refl
+  same_have kind.Text e w p = refl
+  same_have kind.Unusable e w p = refl
+  same_have kind.End e w p = refl
+
+  pub have_enclosed : (k : Kind) → begins k ≡ false → (w : List ℕ) (p : ℕ) → (r : Next) → IsNext (enclosed fs t) (meaning k w p) gs r → IsNext (have compound fs t) (meaning k w p) gs r
+  have_enclosed k e w p r h = says_same (step_have compound fs t (meaning k w p)) _ (finish (have compound fs t)) (finish (enclosed fs t)) (meaning k w p) gs r (same_have k e w p) refl h
 
   -- where no backslash comes
   pub same_alone : (b : Bare) (k : Kind) → (k ≡ kind.Backslash → ⊥) → (w : List ℕ) (p : ℕ) → step (have b fs t) (meaning k w p) ≡ step (have compound fs t) (meaning k w p)

@@ -1,9 +1,11 @@
 -- What a reader says of the whole where a part was refused.
-use Rattle.std.proofs.Common.{List, Result, Ok, Err, sym, subst}
+use Rattle.std.proofs.Common.{List, map, Result, Ok, Err, sym, subst}
+use Rattle.std.proofs.lemmas.List.{map-id}
 use Rattle.ab_grammar.specs.Token.{Token}
 use Rattle.ab_grammar.specs.Nesting.{Spot}
-use Rattle.ab_grammar.specs.Language.{Key, Anything}
-use Rattle.ab_grammar.specs.Reading.{ReadsOff, ungrammatical, too_nested}
+use Rattle.ab_grammar.specs.Language.{Key}
+use Rattle.ab_grammar.proofs.Following.{Anything}
+use Rattle.ab_grammar.proofs.Reading.{ReadsOff, ungrammatical, too_nested}
 use Rattle.ab_grammar.proofs.Choosing.{fewer_reads, fewer_refuses}
 use Rattle.ab_grammar.proofs.Continuing.{Continues}
 use Rattle.ab_grammar.proofs.Rows.{TwoParts}
@@ -47,6 +49,10 @@ pub memory_refuses : {A : Type 0} (G : List Spot → A → Type 0) (F : List Tok
 memory_refuses G F (Memory e) ks rest h = tt
 memory_refuses G F Syntax ks rest h = absurd h
 memory_refuses G F TooNested ks rest h = absurd h
+
+-- items that stand for themselves
+pub as_they_are : {A : Type 0} (G : List Spot → List A → Type 0) (F : List Token → Type 0) (ks ms : List Token) (xs : List A) → ReadsOff G F ks (map (λ x. x) xs) ms → ReadsOff G F ks xs ms
+as_they_are G F ks ms xs p = subst (λ (v : List _). ReadsOff G F ks v ms) (map-id xs) p
 
 -- a part, and the key behind it
 pub closed_found : {A X : Type 0} (k : Token) {G : List Spot → A → Type 0} {E : List Token → Type 0} {R : List Spot → A → Type 0} {F : List Token → Type 0} → TwoParts G E (Key k) R F (λ a u. a)

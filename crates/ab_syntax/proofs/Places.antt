@@ -3,9 +3,10 @@ use Rattle.std.proofs.Common.{◌≡◌, ℕ, ◌+◌, ◌<◌, ◌≤◌, List,
 use Rattle.std.proofs.lemmas.List.{drop_more, drop_all}
 use Rattle.ab_lex.specs.declared.token.Token.{Token as Lexed}
 use Rattle.ab_lex.specs.declared.token.TokenKind.TheVariants as lexed
-use Rattle.ab_grammar.specs.Token.{Token, word, other, end}
-use Rattle.ab_grammar.specs.Language.{Key, Anything}
-use Rattle.ab_grammar.specs.Reading.{first, ReadsOff, StopsAt}
+use Rattle.ab_grammar.specs.Token.{Token, word, other, end, first}
+use Rattle.ab_grammar.specs.Language.{Key}
+use Rattle.ab_grammar.proofs.Following.{Anything}
+use Rattle.ab_grammar.proofs.Reading.{ReadsOff, StopsAt}
 use Rattle.ab_grammar.specs.CommandTable.{Name, ShowsName, shows_name}
 use Rattle.ab_grammar.proofs.Choosing.{key_reads, one_reads, one_stops}
 use Rattle.ab_grammar.proofs.Shown.{one_name, name_example}
@@ -37,9 +38,11 @@ module _ (t : Text) (i : ℕ) where
     pub front : i < length t.tokens.now → rest t i ≡ meaning k (written t i) (place_at t i) ∷ rest t (i + 1)
     front h = rest_more h ∙ ap (λ (j : Token). j ∷ rest t (i + 1)) (sym (first_more h) ∙ token)
 
+  pub rest_key : (k : Token) → first (rest t i) ≡ k → i < length t.tokens.now → rest t i ≡ k ∷ rest t (i + 1)
+  rest_key k e h = rest_more h ∙ ap (λ (j : Token). j ∷ rest t (i + 1)) (sym (first_more h) ∙ e)
+
   pub takes_key : (k : Token) → first (rest t i) ≡ k → i < length t.tokens.now → ReadsOff (Key k) Anything (rest t i) tt (rest t (i + 1))
-  takes_key k e h =
-      subst (λ (w : List Token). ReadsOff (Key k) Anything w tt (rest t (i + 1))) (sym (rest_more h ∙ ap (λ (j : Token). j ∷ rest t (i + 1)) (sym (first_more h) ∙ e))) (key_reads k (rest t (i + 1)))
+  takes_key k e h = subst (λ (w : List Token). ReadsOff (Key k) Anything w tt (rest t (i + 1))) (sym (rest_key k e h)) (key_reads k (rest t (i + 1)))
 
   pub takes_name : i < length t.tokens.now → first (rest t i) ≡ word (written t i) (place_at t i) → ReadsOff Name Anything (rest t i) (written t i) (rest t (i + 1))
   takes_name h e = subst (λ (w : List Token). ReadsOff Name Anything w (written t i) (rest t (i + 1))) (sym (front kind.Word e h))

@@ -1,7 +1,6 @@
 -- Reading along a text: what the next token does to a machine.
 use Rattle.std.proofs.Common.{◌≡◌, ℕ, ◌+◌, ◌<◌, ◌≤◌, List, [], ◌∷◌, ◌++◌, length, map, drop, Option, Some, None, refl, ap, sym, ◌∙◌, ◌⊎◌, inl, inr, arith}
-use Rattle.ab_grammar.specs.Token.{Token, Other, other, end}
-use Rattle.ab_grammar.specs.Reading.{first}
+use Rattle.ab_grammar.specs.Token.{Token, Other, other, end, first}
 use Rattle.ab_syntax.specs.declared.text.Text.{Text}
 use Rattle.ab_syntax.specs.Tokens.{token_of}
 use Rattle.ab_syntax.specs.Reader.{rest}

@@ -1,11 +1,10 @@
 -- Where a command stands, as its first tokens say.
-use Rattle.std.proofs.Common.{◌≡◌, ℕ, List, [], ◌∷◌, ◌++◌, ◌↔◌, Some, refl, ap, sym, subst, drop}
+use Rattle.std.proofs.Common.{◌≡◌, ℕ, List, [], ◌∷◌, ◌++◌, ◌↔◌, Some, refl, ap, sym, subst, drop, map}
 use Rattle.ab_grammar.specs.declared.head.Head.{Head}
 use Rattle.ab_grammar.specs.declared.head.ProofHead.{ProofHead}
 use Rattle.ab_grammar.specs.declared.head.Stand.{Stand}
 use Rattle.ab_grammar.specs.declared.head.Stand.TheVariants.{Inside}
-use Rattle.ab_grammar.specs.Token.{Token, other, end, colon}
-use Rattle.ab_grammar.specs.Reading.{first}
+use Rattle.ab_grammar.specs.Token.{Token, other, end, colon, first}
 use Rattle.ab_grammar.specs.CommandTable.{Opens, OpensProof, ShowsLabel, stand_of, StandsAt, by_head, by_proof_head, by_label}
 use Rattle.ab_grammar.proofs.Heads.{plain_no_label, proof_no_label}
 use Rattle.ab_grammar.proofs.Standing.{one_stand}
@@ -50,3 +49,8 @@ no_colon_stands _ _ x l n (by_label y ks s) = n refl
 -- the one place that the tokens say
 pub exactly : (ts : List Token) (a s : Stand) → StandsAt ts a → (Some a ≡ Some s) ↔ StandsAt ts s
 exactly ts a s d = (λ e. let same : a ≡ s = cc in subst (StandsAt ts) same d, λ f. ap Some (one_stand ts a s d f))
+
+-- the second token
+pub second : {L : Type 0} (f : L → Token) (ts : List L) → first (map f (drop 1 ts) ++ other end ∷ []) ≡ first (drop 1 (ended (map f ts)))
+second f [] = refl
+second f (t ∷ ts) = refl

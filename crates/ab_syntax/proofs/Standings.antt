@@ -9,11 +9,7 @@ use Rattle.ab_lex.specs.declared.token.TokenKind.{TokenKind}
 use Rattle.ab_lex.specs.declared.token.TokenKind.TheVariants.{Word, Number, Text, Sign}
 use Rattle.ab_lex.specs.Tokens.{is_word_byte, IsWordTail, ends, byte, joined, IsWord, alone, letters, IsNumber, last_digit, digit, IsString, IsToken, TokenAt, token_at, TokensFrom, no_more, gap, token}
 use Rattle.ab_lex.specs.Units.{StringEnds, at_quote, in_string}
-use Rattle.ab_syntax.specs.Tokens.{origin_of}
-use Rattle.ab_syntax.specs.Reader.{IsTokenOf}
-
-abbrev pub AreTokensFrom : List ℕ → ℕ → List Token → Type 0
-AreTokensFrom bytes origin tokens = All (IsTokenOf bytes origin) tokens
+use Rattle.ab_syntax.specs.Tokens.{origin_of, IsTokenOf, StandIn}
 
 module _ {X : Type 0} (P : X → Type 0) where
   all_cons : (x : X) (xs : List X) → P x → All P xs → All P (x ∷ xs)
@@ -68,7 +64,7 @@ form_quoted Number c r h e = absurd (cc)
 form_quoted Text c r h e = quoted_text c h
 form_quoted Sign c r h e = absurd (cc)
 
-later : (bytes : List ℕ) (low high : ℕ) (ts : List Token) → low ≤ high → AreTokensFrom bytes high ts → AreTokensFrom bytes low ts
+later : (bytes : List ℕ) (low high : ℕ) (ts : List Token) → low ≤ high → StandIn bytes high ts → StandIn bytes low ts
 later bytes low high ts h r i d k = let s = r i d k in record { within = s.within; from_origin = omega arith; plain_word = s.plain_word; digits = s.digits; quoted = s.quoted }
 
 module _ (bytes : List ℕ) where
@@ -84,7 +80,7 @@ module _ (bytes : List ℕ) where
         quoted = λ w. subst (λ (x : List ℕ). 2 ≤ length x) (sym text) (form_quoted kind c r (t.form) w);
       }
 
-  pub tokens_stand : {place : ℕ} {s : List ℕ} {ts : List Token} → TokensFrom place s ts → (front : List ℕ) → length front ≡ place → bytes ≡ front ++ s → AreTokensFrom bytes place ts
+  pub tokens_stand : {place : ℕ} {s : List ℕ} {ts : List Token} → TokensFrom place s ts → (front : List ℕ) → length front ≡ place → bytes ≡ front ++ s → StandIn bytes place ts
   tokens_stand no_more front h e = λ i d k. absurd (omega arith)
   tokens_stand (gap {place = place} {s = s} {r = r} {ts = ts} c split g rest) front h e =
       later bytes place (place + length c) ts (omega arith)
@@ -95,10 +91,10 @@ module _ (bytes : List ℕ) where
       (subst (λ (n : ℕ). IsTokenOf bytes n (token_at kind n (length c))) h (one_stands kind front c r whole t))
       (later bytes place (place + length c) ts (omega arith) (tokens_stand rest (front ++ c) (omega (arith, length-append front c)) (whole ∙ sym (append_assoc front c r))))
 
-  from_first : {place : ℕ} {s : List ℕ} {ts : List Token} → TokensFrom place s ts → (front : List ℕ) → length front ≡ place → bytes ≡ front ++ s → AreTokensFrom bytes (origin_of ts) ts
+  from_first : {place : ℕ} {s : List ℕ} {ts : List Token} → TokensFrom place s ts → (front : List ℕ) → length front ≡ place → bytes ≡ front ++ s → StandIn bytes (origin_of ts) ts
   from_first no_more front h e = λ i d k. absurd (omega arith)
   from_first (gap {r = r} c split g rest) front h e = from_first rest (front ++ c) (omega (arith, length-append front c)) (e ∙ ap (λ (x : List ℕ). front ++ x) split ∙ sym (append_assoc front c r))
   from_first (token split t rest) front h e = tokens_stand (token split t rest) front h e
 
-  pub tokens_of_stand : (ts : List Token) → TokensFrom 0 bytes ts → AreTokensFrom bytes (origin_of ts) ts
+  pub tokens_of_stand : (ts : List Token) → TokensFrom 0 bytes ts → StandIn bytes (origin_of ts) ts
   tokens_of_stand ts d = from_first d [] refl refl

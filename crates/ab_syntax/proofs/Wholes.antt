@@ -2,10 +2,11 @@
 use Rattle.std.proofs.Common.{◌≡◌, ℕ, zero, suc, ◌<◌, ◌≤◌, List, [], ◌∷◌, ◌++◌, length, map, drop, min, Result, Ok, Err, refl, ap, sym, ◌∙◌, subst, ◌⊎◌, inl, inr, arith}
 use Rattle.std.proofs.lemmas.List.{length-map}
 use Rattle.ab_lex.specs.declared.token.Token.{Token as Lexed}
-use Rattle.ab_grammar.specs.Token.{Token, other, end}
+use Rattle.ab_grammar.specs.Token.{Token, other, end, first}
 use Rattle.ab_grammar.specs.Nesting.{Spot}
-use Rattle.ab_grammar.specs.Language.{tokens_of, Followed, Accepted, SyntaxAt, TooNestedAt}
-use Rattle.ab_grammar.specs.Reading.{first, ReadsOff, StopsAt, NestsAt}
+use Rattle.ab_grammar.specs.Language.{tokens_of, Accepted, SyntaxAt, TooNestedAt}
+use Rattle.ab_grammar.proofs.Following.{Followed}
+use Rattle.ab_grammar.proofs.Reading.{ReadsOff, StopsAt, NestsAt}
 use Rattle.ab_grammar.proofs.Lifting.{NoEnd}
 use Rattle.ab_grammar.proofs.WholeTexts.{all_read, more_behind, stopped, nested}
 use Rattle.ab_syntax.specs.declared.text.Text.{Text}

@@ -1,6 +1,5 @@
 -- The trees of the grammar that the program's commands stand for.
-use Rattle.std.specs.Prelude.{ℕ, List, Bool, true, false, Vec, option_map, map}
-use Rattle.std.specs.Global.{Global}
+use Rattle.std.specs.Prelude.{Bool, true, false, option_map, map}
 use Rattle.ab_syntax.specs.declared.command.Defined.{Defined}
 use Rattle.ab_syntax.specs.declared.command.ClauseParse.{ClauseParse}
 use Rattle.ab_syntax.specs.declared.command.Instance.{Instance}
@@ -66,13 +65,6 @@ command_of plain.Reset = tree.reset
 command_of plain.Undo = tree.undo
 command_of plain.Abort = tree.abort
 command_of (plain.InProof label c) = tree.in_proof label (proof_command_of c)
-
--- parts of commands that are pairs
-abbrev pub block_of : Vec Defined Global × Vec ClauseParse Global → List tree.Defined × List tree.Clause
-block_of b = (map defined_of b.0.items, map clause_of b.1.items)
-
-abbrev pub applied_of : List ℕ × Vec Argument Global → List ℕ × List tree.Argument
-applied_of a = (a.0, map argument_of a.1.items)
 
 -- the head of a block, by whether it is inductive
 abbrev pub block_head : Bool → Head

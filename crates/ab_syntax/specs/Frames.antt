@@ -1,7 +1,7 @@
 -- What the reader of expressions keeps, in the words of the machine that reads the grammar. No public contract speaks of it.
 use Rattle.std.specs.Prelude.{◌≡◌, List, [], ◌∷◌, ◌++◌, map, option_map, Bool, true, false, Option, Some, None, Vec}
 use Rattle.std.specs.Global.{Global}
-use Rattle.ab_grammar.specs.Machine as machine
+use Rattle.ab_grammar.proofs.Machine as machine
 use Rattle.ab_syntax.specs.declared.frame.Bracket.{Bracket}
 use Rattle.ab_syntax.specs.declared.frame.Bracket.TheVariants as brackets
 use Rattle.ab_syntax.specs.declared.frame.Frame.{Frame}
@@ -19,11 +19,11 @@ bracket_of brackets.Paren = machine.paren
 bracket_of brackets.PiParen = machine.pi_paren
 bracket_of (brackets.Item c) = machine.item_in c.place (map tree_of c.items.items)
 bracket_of (brackets.Focus c) = machine.focus_in c.place (map tree_of c.items.items)
-bracket_of (brackets.Goal c f) = machine.goal_in c.place (map tree_of c.items.items) (option_map tree_of f)
+bracket_of (brackets.Goal c f) = machine.goal_in c.place (map tree_of c.items.items) (option_map (λ b. tree_of b.value) f)
 
 abbrev pub frame_of : Frame → machine.Frame
-frame_of (frame.Infix o t) = machine.infix_at o (tree_of t)
-frame_of (frame.Args f vs) = machine.args_at (tree_of f) (map tree_of vs.items)
+frame_of (frame.Infix o t) = machine.infix_at o (tree_of t.value)
+frame_of (frame.Args f vs) = machine.args_at (tree_of f.value) (map tree_of vs.items)
 frame_of (frame.Pi p) = machine.pi_at p
 frame_of (frame.Abs x p) = machine.abs_at x p
 frame_of (frame.Bind q) = machine.bind_at q.quant q.place (map binder_of q.binders.items)
@@ -47,6 +47,17 @@ IsFate o f fate.Stays = (t : Tree) (fs : List machine.Frame) → machine.pop o t
 IsFate o f fate.Reduces = (t : Tree) (fs : List machine.Frame) → machine.pop o t (f ∷ fs) ≡ machine.pop o (reduced f t) fs
 IsFate o f fate.Refuses = (t : Tree) (fs : List machine.Frame) → machine.pop o t (f ∷ fs) ≡ None
 
+-- what becomes of the innermost frame; where there is none, a sign can come
+abbrev pub IsTopFate : Infix → List machine.Frame → Fate → Type 0
+IsTopFate o [] fate.Stays = Unit {0}
+IsTopFate o [] r = ⊥
+IsTopFate o (f ∷ fs) r = IsFate o f r
+
+-- the innermost frame was taken away, and an operand is what it is the last part of
+abbrev pub IsReduced : List machine.Frame → Tree → List machine.Frame → Tree → Type 0
+IsReduced [] t gs r = (r ≡ t) × (gs ≡ [])
+IsReduced (f ∷ fs) t gs r = (r ≡ reduced f t) × (gs ≡ fs)
+
 -- whether there are frames, and then which
 abbrev pub IsPopped : Option (List machine.Frame) → List machine.Frame → Bool → Type 0
 IsPopped o fs true = o ≡ Some fs
@@ -58,4 +69,4 @@ below_of None fs = machine.bottom
 below_of (Some b) fs = machine.bracket (bracket_of b) fs
 
 abbrev pub shut_of : Inside → List machine.Frame → machine.Shut
-shut_of s fs = record { inner = tree_of s.inner; below = below_of s.bracket fs }
+shut_of s fs = record { inner = tree_of s.inner.value; below = below_of s.bracket fs }

@@ -1,13 +1,14 @@
-pub mod Numbers
+-- what has to be believed
 pub mod Tokens
 pub mod Items
 pub mod Trees
 pub mod Commands
 pub mod Faults
+-- tools of the private functions' clauses and of the proofs
+pub mod Numbers
 pub mod Reader
 pub mod Steps
 pub mod Openings
-pub mod Texts
 pub mod Leaves
 pub mod Lists
 pub mod Frames

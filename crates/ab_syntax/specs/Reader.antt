@@ -1,15 +1,14 @@
 -- What the reader's own functions say of tokens and of their answers. No public contract speaks of it.
-use Rattle.std.specs.Prelude.{◌≡◌, ◌≢◌, ◌<◌, ◌≤◌, ℕ, ◌-◌, List, [], ◌∷◌, ◌++◌, length, map, drop, get_or, All, true, Result, Ok, Err}
-use Rattle.std.specs.List.{list_all}
-use Rattle.std.specs.Char.{is_ascii_digit}
+use Rattle.std.specs.Prelude.{◌≡◌, ◌≢◌, ◌<◌, ℕ, ◌-◌, List, [], ◌∷◌, ◌++◌, length, map, drop, get_or, All, Result, Ok, Err}
 use Rattle.std.specs.Str.Parse.{digits_value}
 use Rattle.ab_lex.specs.declared.token.Token.{Token as Lexed}
-use Rattle.ab_lex.specs.declared.token.TokenKind.TheVariants.{Word, Number, Text as Quoted}
-use Rattle.ab_lex.specs.Spans.{IsWithin, bytes_at}
+use Rattle.ab_lex.specs.declared.token.TokenKind.TheVariants.{Word}
+use Rattle.ab_lex.specs.Spans.{bytes_at}
 use Rattle.ab_grammar.specs.Token.{Token, word, truth, quantifier, pi_word, sign, left_paren, right_paren, left_brace, right_brace, left_bracket, right_bracket, turnstile, backslash, comma, colon, other, Other, stop, semicolon, becomes, from, star, back, reset, by_word, to_word, with_word, on_word, type_word, number, text, unusable, end}
 use Rattle.ab_grammar.specs.Nesting.{Spot}
-use Rattle.ab_grammar.specs.Language.{Key, Anything}
-use Rattle.ab_grammar.specs.Reading.{ReadsOff, RefusesAt, ungrammatical, too_nested}
+use Rattle.ab_grammar.specs.Language.{Key}
+use Rattle.ab_grammar.proofs.Following.{Anything}
+use Rattle.ab_grammar.proofs.Reading.{ReadsOff, RefusesAt, ungrammatical, too_nested}
 use Rattle.ab_syntax.specs.declared.text.Kind.{Kind}
 use Rattle.ab_syntax.specs.declared.text.Kind.TheVariants as kind
 use Rattle.ab_grammar.specs.declared.Infix.{Infix}
@@ -20,18 +19,10 @@ use Rattle.ab_syntax.specs.declared.text.Text.{Text}
 use Rattle.ab_syntax.specs.declared.text.Seen.{Seen}
 use Rattle.ab_syntax.specs.declared.stop.Stop.{Stop}
 use Rattle.ab_syntax.specs.declared.stop.Stop.TheVariants.{Syntax, TooNested, Memory}
-use Rattle.ab_syntax.specs.Tokens.{token_of, unquoted}
-
--- a token that stands in the bytes, not before the origin; a word is ASCII, a number is made of digits, and a quoted text has its two quotes
-pub record IsTokenOf (bytes : List ℕ) (origin : ℕ) (token : Lexed) : Type 0 where
-  pub within : IsWithin (length bytes) token.span
-  pub from_origin : origin ≤ token.span.start
-  pub plain_word : token.kind ≡ Word → All (λ b. b < 128) (bytes_at bytes token.span)
-  pub digits : token.kind ≡ Number → list_all is_ascii_digit (bytes_at bytes token.span) ≡ true
-  pub quoted : token.kind ≡ Quoted → 2 ≤ length (bytes_at bytes token.span)
+use Rattle.ab_syntax.specs.Tokens.{token_of, unquoted, StandIn}
 
 abbrev pub IsText : Text → Type 0
-IsText t = All (IsTokenOf t.bytes.now t.origin) t.tokens.now
+IsText t = StandIn t.bytes.now t.origin t.tokens.now
 
 -- what stands past the end of a list of tokens
 abbrev pub no_token : Lexed

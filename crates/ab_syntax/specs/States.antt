@@ -1,9 +1,9 @@
 -- The states of the reader of expressions, in the words of the machine that reads the grammar. No public contract speaks of it.
 use Rattle.std.specs.Prelude.{◌≡◌, ◌≢◌, ℕ, List, map, Option, Some, None, ◌⊎◌}
 use Rattle.ab_grammar.specs.Token.{Token, sign}
-use Rattle.ab_grammar.specs.Tree.{name}
-use Rattle.ab_grammar.specs.Language.{Follower}
-use Rattle.ab_grammar.specs.Machine as machine
+use Rattle.ab_grammar.specs.Tree.{Tree, name}
+use Rattle.ab_grammar.proofs.Following.{Follower}
+use Rattle.ab_grammar.proofs.Machine as machine
 use Rattle.ab_syntax.specs.declared.machine.State.{State}
 use Rattle.ab_syntax.specs.declared.machine.State.TheVariants as state
 use Rattle.ab_grammar.specs.declared.Infix.{Infix}
@@ -17,33 +17,29 @@ use Rattle.ab_syntax.specs.Steps.{type_frames_of, type_state}
 abbrev pub state_in : List machine.Frame → State → machine.State
 state_in fs state.Want = machine.want fs
 state_in fs (state.Alone x p) = machine.have (machine.alone x p) fs (name x p)
-state_in fs (state.Have t) = machine.have machine.compound fs (tree_of t)
+state_in fs (state.Have t) = machine.have machine.compound fs (tree_of t.value)
 state_in fs state.PiWant = machine.pi_want fs
 state_in fs (state.PiName x p) = machine.pi_name fs x p
-state_in fs (state.Enclosed t) = machine.enclosed fs (tree_of t)
+state_in fs (state.Enclosed t) = machine.enclosed fs (tree_of t.value)
 state_in fs (state.Item c) = machine.item fs c.place (map tree_of c.items.items)
-state_in fs (state.FocusEnd c t) = machine.focus_end fs c.place (map tree_of c.items.items) (tree_of t)
+state_in fs (state.FocusEnd c t) = machine.focus_end fs c.place (map tree_of c.items.items) (tree_of t.value)
 state_in fs (state.Binders q) = machine.binders fs q.quant q.place (map binder_of q.binders.items)
 state_in fs (state.BinderName q) = machine.binder_name fs q.quant q.place (map binder_of q.binders.items)
 state_in fs (state.BinderColon q x p) = machine.binder_colon fs q.quant q.place (map binder_of q.binders.items) x p
 state_in fs (state.BinderType q x p gs s) = machine.binder_type fs q.quant q.place (map binder_of q.binders.items) x p (type_state (type_frames_of gs) s)
 
--- what a token does: the expression goes on with the frames that are left, or it ended before the token, or neither
-abbrev pub IsNext : machine.State → Token → List machine.Frame → Next → Type 0
-IsNext s k fs (next.On t) = machine.step s k ≡ Some (state_in fs t)
-IsNext s k fs (next.Done t) = (machine.step s k ≡ None) × (machine.finish s ≡ Some (tree_of t))
-IsNext s k fs next.Wrong = (machine.step s k ≡ None) × ((machine.finish s ≡ None) ⊎ (Follower k → ⊥))
+-- what a token does, where the machine goes on so and has read that much: the expression goes on with the frames that are left, or it ended before the token, or neither
+abbrev pub Says : Option machine.State → Option Tree → Token → List machine.Frame → Next → Type 0
+Says on whole k fs (next.On t) = on ≡ Some (state_in fs t)
+Says on whole k fs (next.Done t) = (on ≡ None) × (whole ≡ Some (tree_of t.value))
+Says on whole k fs next.Wrong = (on ≡ None) × ((whole ≡ None) ⊎ (Follower k → ⊥))
 
--- whether there is a state, and then which
-abbrev pub IsGone : Option machine.State → List machine.Frame → Option State → Type 0
-IsGone o fs (Some t) = o ≡ Some (state_in fs t)
-IsGone o fs None = o ≡ None
+abbrev pub IsNext : machine.State → Token → List machine.Frame → Next → Type 0
+IsNext s k fs r = Says (machine.step s k) (machine.finish s) k fs r
 
 -- a token that can follow an expression, behind what was shut up to the innermost bracket
 abbrev pub IsClosed : machine.Shut → Token → List machine.Frame → Next → Type 0
-IsClosed s k fs (next.On t) = machine.closing s.below s.inner k ≡ Some (state_in fs t)
-IsClosed s k fs (next.Done t) = (machine.closing s.below s.inner k ≡ None) × (machine.whole_of s.inner s.below ≡ Some (tree_of t))
-IsClosed s k fs next.Wrong = (machine.closing s.below s.inner k ≡ None) × (machine.whole_of s.inner s.below ≡ None)
+IsClosed s k fs r = Says (machine.closing s.below s.inner k) (machine.whole_of s.inner s.below) k fs r
 
 -- the sign that a token of the kind is
 abbrev pub IsSign : Kind → Option Infix → Type 0

@@ -1,11 +1,11 @@
 -- What the steps of the reader's machines keep, in the words of the machines that read the grammar. No public contract speaks of it.
-use Rattle.std.specs.Prelude.{◌≡◌, List, [], ◌∷◌, ◌++◌, Bool, true, false, Option, Some, None, Vec, ◌⊎◌}
+use Rattle.std.specs.Prelude.{◌≡◌, ◌≤◌, List, [], ◌∷◌, ◌++◌, Bool, true, false, Option, Some, None, Vec, ◌⊎◌}
 use Rattle.std.specs.Global.{Global}
 use Rattle.ab_grammar.specs.Token.{Token}
 use Rattle.ab_grammar.specs.Nesting as nesting
-use Rattle.ab_grammar.specs.Nesting.{depth_of}
-use Rattle.ab_grammar.specs.Language.{Follower}
-use Rattle.ab_grammar.specs.Machine as machine
+use Rattle.ab_grammar.specs.Nesting.{depth_of, limit}
+use Rattle.ab_grammar.proofs.Following.{Follower}
+use Rattle.ab_grammar.proofs.Machine as machine
 use Rattle.ab_syntax.specs.declared.nesting.Layer.{Layer}
 use Rattle.ab_syntax.specs.declared.nesting.Layers.{Layers}
 use Rattle.ab_syntax.specs.declared.types.TypeFrame.{TypeFrame}
@@ -17,6 +17,8 @@ use Rattle.ab_syntax.specs.declared.text.Kind.{Kind}
 use Rattle.ab_syntax.specs.declared.text.Kind.TheVariants as kind
 use Rattle.ab_syntax.specs.declared.types.TypeNext.{TypeNext}
 use Rattle.ab_syntax.specs.declared.types.TypeNext.TheVariants as type_next
+use Rattle.ab_syntax.specs.declared.stop.Stop.{Stop}
+use Rattle.ab_syntax.specs.declared.stop.Stop.TheVariants.{Syntax, TooNested, Memory}
 use Rattle.ab_syntax.specs.Trees.{type_of}
 
 -- whether a token of the kind can stand behind a whole expression and a whole type
@@ -40,6 +42,17 @@ follows kind.LeftBracket = false
 follows kind.Backslash = false
 follows k = true
 
+-- whether a token of the kind can begin an argument
+abbrev pub begins : Kind → Bool
+begins kind.Word = true
+begins kind.Truth = true
+begins kind.Forall = true
+begins kind.Exists = true
+begins kind.Nabla = true
+begins kind.LeftParen = true
+begins kind.LeftBrace = true
+begins k = false
+
 -- the last item of the program's stack is the first of the machine's
 abbrev pub stack : {A B : Type 0} → (A → B) → List A → List B
 stack f [] = []
@@ -56,18 +69,24 @@ layers_of l = layer_of l.inner ∷ stack layer_of l.outer.items
 abbrev pub IsMeasured : Layers → Type 0
 IsMeasured l = l.depth ≡ depth_of (layers_of l)
 
+-- why nothing is read behind layers: they are too deep, or there was no memory for them
+abbrev pub IsTooDeep : List nesting.Layer → Stop → Type 0
+IsTooDeep ls Syntax = ⊥
+IsTooDeep ls TooNested = depth_of ls ≤ limit → ⊥
+IsTooDeep ls (Memory e) = Unit {0}
+
 -- types
 
 abbrev pub type_frame_of : TypeFrame → machine.TypeFrame
 type_frame_of type_frame.Paren = machine.type_paren
-type_frame_of (type_frame.Arrow a) = machine.type_arrow (type_of a)
+type_frame_of (type_frame.Arrow a) = machine.type_arrow (type_of a.value)
 
 abbrev pub type_frames_of : Vec TypeFrame Global → List machine.TypeFrame
 type_frames_of v = stack type_frame_of v.items
 
 abbrev pub type_state : List machine.TypeFrame → TypeState → machine.TypeState
 type_state gs state.Want = machine.type_want gs
-type_state gs (state.Have A) = machine.type_have gs (type_of A)
+type_state gs (state.Have A) = machine.type_have gs (type_of A.value)
 
 -- below the parenthesis that was taken away are the frames that are left
 abbrev pub below_type : Bool → List machine.TypeFrame → Option (List machine.TypeFrame)
@@ -75,10 +94,10 @@ below_type true gs = Some gs
 below_type false gs = None
 
 abbrev pub type_shut_of : TypeInside → List machine.TypeFrame → machine.TypeShut
-type_shut_of s gs = record { inner = type_of s.inner; below = below_type s.enclosed gs }
+type_shut_of s gs = record { inner = type_of s.inner.value; below = below_type s.enclosed gs }
 
 -- what a token does: the type goes on with the frames that are left, or it ended before the token, or neither
 abbrev pub IsTypeNext : machine.TypeState → Token → List machine.TypeFrame → TypeNext → Type 0
 IsTypeNext s k gs (type_next.On t) = machine.type_step s k ≡ Some (type_state gs t)
-IsTypeNext s k gs (type_next.Done a) = (machine.type_step s k ≡ None) × (machine.type_finish s ≡ Some (type_of a))
+IsTypeNext s k gs (type_next.Done a) = (machine.type_step s k ≡ None) × (machine.type_finish s ≡ Some (type_of a.value))
 IsTypeNext s k gs type_next.Wrong = (machine.type_step s k ≡ None) × ((machine.type_finish s ≡ None) ⊎ (Follower k → ⊥))

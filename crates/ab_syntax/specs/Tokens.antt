@@ -1,13 +1,13 @@
 -- The tokens of the grammar that a text's tokens are: reserved words and signs by two tables, numbers and quoted texts by their bytes.
-use Rattle.std.specs.Prelude.{ℕ, ◌-◌, ◌==◌, ◌||◌, Bool, List, [], ◌∷◌, Option, Some, None, length, map, slice_range, codes, if◌then◌else◌}
+use Rattle.std.specs.Prelude.{◌≡◌, ◌<◌, ◌≤◌, ℕ, ◌-◌, ◌==◌, ◌||◌, Bool, true, All, List, [], ◌∷◌, Option, Some, None, length, map, slice_range, codes, if◌then◌else◌}
 use Rattle.std.specs.List.{list_all}
-use Rattle.std.specs.Char.{is_ascii_alphanumeric}
+use Rattle.std.specs.Char.{is_ascii_alphanumeric, is_ascii_digit}
 use Rattle.std.specs.Str.Parse.{digits_value}
 use Rattle.std.proofs.Math.Dec.{leb}
 use Rattle.ab_lex.specs.declared.token.Token.{Token as Lexed}
 use Rattle.ab_lex.specs.declared.token.TokenKind.{TokenKind}
 use Rattle.ab_lex.specs.declared.token.TokenKind.TheVariants.{Word, Number, Text, Sign}
-use Rattle.ab_lex.specs.Spans.{bytes_at}
+use Rattle.ab_lex.specs.Spans.{IsWithin, bytes_at}
 use Rattle.ab_grammar.specs.declared.Infix.TheVariants.{Arrow, Or, And, Equal, Imply, With, Cons}
 use Rattle.ab_grammar.specs.declared.Quant.TheVariants.{Forall, Exists, Nabla}
 use Rattle.ab_grammar.specs.Token.{Token, word, truth, quantifier, pi_word, sign, left_paren, right_paren, left_brace, right_brace, left_bracket, right_bracket, turnstile, backslash, comma, colon, other, stop, semicolon, becomes, from, star, back, reset, by_word, to_word, with_word, on_word, type_word, number, text, unusable}
@@ -74,6 +74,22 @@ abbrev pub origin_of : List Lexed → ℕ
 origin_of [] = 0
 origin_of (t ∷ ts) = t.span.start
 
+-- a token that stands in the bytes, not before the origin; a word is ASCII, a number is made of digits, and a quoted text has its two quotes
+pub record IsTokenOf (bytes : List ℕ) (origin : ℕ) (token : Lexed) : Type 0 where
+  pub within : IsWithin (length bytes) token.span
+  pub from_origin : origin ≤ token.span.start
+  pub plain_word : token.kind ≡ Word → All (λ b. b < 128) (bytes_at bytes token.span)
+  pub digits : token.kind ≡ Number → list_all is_ascii_digit (bytes_at bytes token.span) ≡ true
+  pub quoted : token.kind ≡ Text → 2 ≤ length (bytes_at bytes token.span)
+
+-- tokens that stand in the bytes, as all of them or a slice of them do
+abbrev pub StandIn : List ℕ → ℕ → List Lexed → Type 0
+StandIn bytes origin ts = All (IsTokenOf bytes origin) ts
+
+-- the tokens, with their places counted from the origin
+abbrev pub tokens_from : List ℕ → ℕ → List Lexed → List Token
+tokens_from bytes origin ts = map (token_of bytes origin) ts
+
 -- the tokens of a text, with their places counted from the first byte of the first
 abbrev pub tokens_in : List ℕ → List Lexed → List Token
-tokens_in bytes ts = map (token_of bytes (origin_of ts)) ts
+tokens_in bytes ts = tokens_from bytes (origin_of ts) ts

@@ -1,5 +1,5 @@
 -- What the readers of whole texts say of their answers, before a place is told in bytes. No public contract speaks of it.
-use Rattle.std.specs.Prelude.{ℕ, List, length, map, min, Result, Ok, Err}
+use Rattle.std.specs.Prelude.{ℕ, List, length, min, Result, Ok, Err}
 use Rattle.ab_grammar.specs.Token.{Token}
 use Rattle.ab_grammar.specs.Nesting.{Spot}
 use Rattle.ab_grammar.specs.Language.{Accepted, SyntaxAt, TooNestedAt}
@@ -8,11 +8,11 @@ use Rattle.ab_syntax.specs.declared.stop.Stop.{Stop}
 use Rattle.ab_syntax.specs.declared.stop.Stop.TheVariants.{Syntax, TooNested, Memory}
 use Rattle.ab_syntax.specs.declared.fault.ParseFault.{ParseFault}
 use Rattle.ab_syntax.specs.declared.fault.ParseFault.TheVariants as fault
-use Rattle.ab_syntax.specs.Tokens.{token_of}
+use Rattle.ab_syntax.specs.Tokens.{tokens_from}
 use Rattle.ab_syntax.specs.Faults.{place_from, blamed}
 
 abbrev pub all_of : Text → List Token
-all_of t = map (token_of t.bytes.now t.origin) t.tokens.now
+all_of t = tokens_from t.bytes.now t.origin t.tokens.now
 
 -- why the tokens are no text of G, where the i-th was the next
 abbrev pub Tells : {A : Type 0} → (List Spot → A → Type 0) → List Token → ℕ → Stop → Type 0

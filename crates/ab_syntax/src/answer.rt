@@ -1,6 +1,6 @@
 //! What is told of a text that isn't read.
 ghost use Rattle.std.specs.Prelude.{◌≡◌, ◌≢◌, ◌↔◌, ℕ, List, IsTrue, length, min};
-ghost use Rattle.ab_grammar.specs.Reading.{first};
+ghost use Rattle.ab_grammar.specs.Token.{first};
 ghost use Rattle.ab_grammar.specs.CommandTable.{ShowsLabel};
 ghost use Rattle.ab_syntax.specs.Reader.{IsText, rest, IsComplete};
 ghost use Rattle.ab_syntax.specs.Faults.{IsTold, blamed as blamed_of};
@@ -88,8 +88,8 @@ fn opens_with_label(text: &Text<'_>) -> bool
 {
     match opening_at(text, 0) {
         Opening::Label => true,
-        Opening::Plain(_head) => false,
-        Opening::Proof(_head) => false,
+        Opening::Plain(_) => false,
+        Opening::Proof(_) => false,
         Opening::Nothing => false,
     }
 }
@@ -102,7 +102,6 @@ pub(crate) fn command_fault(text: &Text<'_>, here: usize, stop: Stop) -> ParseFa
 {
     match stop {
         Stop::Syntax => ParseFault::Syntax(place_or_end(text, told(text, here))),
-        Stop::TooNested => fault(text, here, stop),
-        Stop::Memory(_) => fault(text, here, stop),
+        Stop::TooNested | Stop::Memory(_) => fault(text, here, stop),
     }
 }

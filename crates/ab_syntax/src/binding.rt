@@ -1,15 +1,15 @@
 //! What each token does to the binders of a quantifier that are being read.
-ghost use Rattle.std.specs.Prelude.{◌≡◌, ◌++◌, ◌∷◌, ℕ, List, [], IfOk, map};
+ghost use Rattle.std.specs.Prelude.{List, None, IfOk, map};
 ghost use Rattle.ab_grammar.specs.Grammar as grammar;
-ghost use Rattle.ab_grammar.specs.Machine as machine;
+ghost use Rattle.ab_grammar.proofs.Machine as machine;
 ghost use Rattle.ab_syntax.specs.Trees.{binder_of, type_of};
-ghost use Rattle.ab_syntax.specs.Reader.{meaning, seen, IsSpelled};
+ghost use Rattle.ab_syntax.specs.Reader.{seen, IsSpelled};
 ghost use Rattle.ab_syntax.specs.Steps.{type_frames_of, type_state};
 ghost use Rattle.ab_syntax.specs.Frames.{frames_of};
-ghost use Rattle.ab_syntax.specs.States.{IsGone};
+ghost use Rattle.ab_syntax.specs.States.{Says};
 
 use crate::frame::{Frame, Prefix, push};
-use crate::machine::State;
+use crate::machine::{Next, State};
 use crate::text::{Kind, Seen, name_of};
 use crate::tree::{Binder, TypeParse};
 use crate::types::{TypeFrame, TypeNext, TypeState, step_type};
@@ -22,9 +22,9 @@ pub(crate) fn step_binders(
     frames: &mut Vec<Frame>,
     prefix: Prefix,
     token: Seen<'_>,
-) -> Result<Option<State>, AllocError>
+) -> Result<Next, AllocError>
     requires { IsSpelled token }
-    ensures { IfOk result (λ r. IsGone (machine.step_binders (frames_of frames.old) prefix.quant prefix.place (map binder_of prefix.binders.items) (seen token.entry)) (frames_of frames.new) r) }
+    ensures { IfOk result (λ r. Says (machine.step_binders (frames_of frames.old) prefix.quant prefix.place (map binder_of prefix.binders.items) (seen token.entry)) None (seen token.entry) (frames_of frames.new) r) }
 {
     let mut prefix = prefix;
     match token.kind {
@@ -34,17 +34,17 @@ pub(crate) fn step_binders(
                 ty: None,
                 place: token.place,
             })?;
-            Ok(Some(State::Binders(prefix)))
+            Ok(Next::On(State::Binders(prefix)))
         }
-        Kind::LeftParen => Ok(Some(State::BinderName(prefix))),
+        Kind::LeftParen => Ok(Next::On(State::BinderName(prefix))),
         Kind::Comma => {
             if prefix.binders.is_empty() {
-                return Ok(None);
+                return Ok(Next::Wrong);
             }
             push(frames, Frame::Bind(prefix))?;
-            Ok(Some(State::Want))
+            Ok(Next::On(State::Want))
         }
-        _ => Ok(None),
+        _ => Ok(Next::Wrong),
     }
 }
 
@@ -53,13 +53,13 @@ pub(crate) fn step_binder_name(
     alloc: Global,
     prefix: Prefix,
     token: Seen<'_>,
-) -> Result<Option<State>, AllocError>
+) -> Result<Next, AllocError>
     requires { IsSpelled token }
-    ensures { IfOk result (λ r. (fs : List machine.Frame) → IsGone (machine.step_binder_name fs prefix.quant prefix.place (map binder_of prefix.binders.items) (seen token.entry)) fs r) }
+    ensures { IfOk result (λ r. (fs : List machine.Frame) → Says (machine.step_binder_name fs prefix.quant prefix.place (map binder_of prefix.binders.items) (seen token.entry)) None (seen token.entry) fs r) }
 {
     match token.kind {
-        Kind::Word => Ok(Some(State::BinderColon(prefix, name_of(alloc, token)?, token.place))),
-        _ => Ok(None),
+        Kind::Word => Ok(Next::On(State::BinderColon(prefix, name_of(alloc, token)?, token.place))),
+        _ => Ok(Next::Wrong),
     }
 }
 
@@ -69,19 +69,19 @@ pub(crate) fn step_binder_colon(
     prefix: Prefix,
     name: Name,
     place: usize,
-    kind: Kind,
-) -> Option<State>
-    ensures { (fs : List machine.Frame) (w : List ℕ) (p : ℕ) → IsGone (machine.step_binder_colon fs prefix.quant prefix.place (map binder_of prefix.binders.items) name place (meaning kind w p)) fs result }
+    token: Seen<'_>,
+) -> Next
+    ensures { (fs : List machine.Frame) → Says (machine.step_binder_colon fs prefix.quant prefix.place (map binder_of prefix.binders.items) name place (seen token.entry)) None (seen token.entry) fs result }
 {
-    match kind {
-        Kind::Colon => Some(State::BinderType(
+    match token.kind {
+        Kind::Colon => Next::On(State::BinderType(
             prefix,
             name,
             place,
             Vec::new(alloc),
             TypeState::Want,
         )),
-        _ => None,
+        _ => Next::Wrong,
     }
 }
 
@@ -90,22 +90,22 @@ fn close_binder(
     prefix: Prefix,
     name: Name,
     place: usize,
-    ty: TypeParse,
-    kind: Kind,
-) -> Result<Option<State>, AllocError>
-    ensures { IfOk result (λ r. (fs : List machine.Frame) (w : List ℕ) (p : ℕ) → IsGone (machine.binder_closed fs prefix.quant prefix.place (map binder_of prefix.binders.items) (grammar.typed name place (type_of ty)) (meaning kind w p)) fs r) }
+    ty: Box<TypeParse>,
+    token: Seen<'_>,
+) -> Result<Next, AllocError>
+    ensures { IfOk result (λ r. (fs : List machine.Frame) → Says (machine.binder_closed fs prefix.quant prefix.place (map binder_of prefix.binders.items) (grammar.typed name place (type_of ty.value)) (seen token.entry)) None (seen token.entry) fs r) }
 {
     let mut prefix = prefix;
-    match kind {
+    match token.kind {
         Kind::RightParen => {
             prefix.binders.push(Binder {
                 name,
-                ty: Some(ty),
+                ty: Some(Box::into_inner(ty)),
                 place,
             })?;
-            Ok(Some(State::Binders(prefix)))
+            Ok(Next::On(State::Binders(prefix)))
         }
-        _ => Ok(None),
+        _ => Ok(Next::Wrong),
     }
 }
 
@@ -118,14 +118,14 @@ pub(crate) fn step_binder_type(
     types: Vec<TypeFrame>,
     state: TypeState,
     token: Seen<'_>,
-) -> Result<Option<State>, AllocError>
+) -> Result<Next, AllocError>
     requires { IsSpelled token }
-    ensures { IfOk result (λ r. (fs : List machine.Frame) → IsGone (machine.step (machine.binder_type fs prefix.quant prefix.place (map binder_of prefix.binders.items) name place (type_state (type_frames_of types) state)) (seen token.entry)) fs r) }
+    ensures { IfOk result (λ r. (fs : List machine.Frame) → Says (machine.step (machine.binder_type fs prefix.quant prefix.place (map binder_of prefix.binders.items) name place (type_state (type_frames_of types) state)) (seen token.entry)) None (seen token.entry) fs r) }
 {
     let mut types = types;
     match step_type(alloc, &mut types, state, token)? {
-        TypeNext::On(state) => Ok(Some(State::BinderType(prefix, name, place, types, state))),
-        TypeNext::Done(ty) => close_binder(prefix, name, place, ty, token.kind),
-        TypeNext::Wrong => Ok(None),
+        TypeNext::On(state) => Ok(Next::On(State::BinderType(prefix, name, place, types, state))),
+        TypeNext::Done(ty) => close_binder(prefix, name, place, ty, token),
+        TypeNext::Wrong => Ok(Next::Wrong),
     }
 }

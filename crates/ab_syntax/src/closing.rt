@@ -1,49 +1,58 @@
 //! What a token does behind the last expression in a bracket.
-ghost use Rattle.std.specs.Prelude.{◌≡◌, ◌++◌, ◌∷◌, ℕ, List, [], None, Some, IfOk, map, option_map};
-ghost use Rattle.ab_grammar.specs.Machine as machine;
+ghost use Rattle.std.specs.Prelude.{◌≡◌, None, IfOk, map, option_map};
+ghost use Rattle.ab_grammar.specs.Tree as tree;
+ghost use Rattle.ab_grammar.proofs.Machine as machine;
 ghost use Rattle.ab_syntax.specs.Trees.{tree_of};
-ghost use Rattle.ab_syntax.specs.Reader.{meaning};
+ghost use Rattle.ab_syntax.specs.Reader.{seen};
 ghost use Rattle.ab_syntax.specs.Frames.{bracket_of, frames_of};
-ghost use Rattle.ab_syntax.specs.States.{IsGone};
+ghost use Rattle.ab_syntax.specs.States.{Says};
 
-use crate::build::judge;
+use crate::build::boxed;
 use crate::frame::{Bracket, Context, Frame, push};
-use crate::machine::State;
-use crate::text::Kind;
+use crate::items::Items;
+use crate::machine::{Next, State};
+use crate::text::{Kind, Seen};
 use crate::tree::Parse;
 use std::alloc::{AllocError, Global};
+
+/// A judgement.
+fn judge(
+    alloc: Global,
+    context: Context,
+    focus: Option<Box<Parse>>,
+    goal: Box<Parse>,
+) -> Result<Box<Parse>, AllocError>
+    ensures { IfOk result (λ r. tree_of r.value ≡ tree.judgement (map tree_of context.items.items) (option_map (λ b. tree_of b.value) focus) (tree_of goal.value) context.place) }
+{
+    let items = Items::from_vec(context.items);
+    boxed(alloc, Parse::Judge(items, focus, goal, context.place))
+}
 
 /// Behind an item of a context.
 fn close_item(
     alloc: Global,
     frames: &mut Vec<Frame>,
     context: Context,
-    last: Parse,
-    kind: Kind,
-) -> Result<Option<State>, AllocError>
-    ensures { IfOk result (λ r. (w : List ℕ) (p : ℕ) → IsGone (machine.close (machine.item_in context.place (map tree_of context.items.items)) (frames_of frames.old) (tree_of last) (meaning kind w p)) (frames_of frames.new) r) }
+    last: Box<Parse>,
+    token: Seen<'_>,
+) -> Result<Next, AllocError>
+    ensures { IfOk result (λ r. Says (machine.close (machine.item_in context.place (map tree_of context.items.items)) (frames_of frames.old) (tree_of last.value) (seen token.entry)) None (seen token.entry) (frames_of frames.new) r) }
 {
-    let Context { place, mut items } = context;
-    match kind {
+    let mut context = context;
+    match token.kind {
         Kind::Comma => {
-            items.push(last)?;
-            Ok(Some(State::Item(Context { place, items })))
+            context.items.push(Box::into_inner(last))?;
+            Ok(Next::On(State::Item(context)))
         }
         Kind::Turnstile => {
-            items.push(last)?;
-            push(
-                frames,
-                Frame::Bracket(Bracket::Goal(Context { place, items }, None)),
-            )?;
-            Ok(Some(State::Want))
+            context.items.push(Box::into_inner(last))?;
+            push(frames, Frame::Bracket(Bracket::Goal(context, None)))?;
+            Ok(Next::On(State::Want))
         }
-        Kind::RightBrace => {
-            if !items.is_empty() {
-                return Ok(None);
-            }
-            Ok(Some(State::Have(judge(alloc, items, None, last, place)?)))
+        Kind::RightBrace if context.items.is_empty() => {
+            Ok(Next::On(State::Have(judge(alloc, context, None, last)?)))
         }
-        _ => Ok(None),
+        _ => Ok(Next::Wrong),
     }
 }
 
@@ -52,31 +61,28 @@ pub(crate) fn close(
     alloc: Global,
     frames: &mut Vec<Frame>,
     bracket: Bracket,
-    last: Parse,
-    kind: Kind,
-) -> Result<Option<State>, AllocError>
-    ensures { IfOk result (λ r. (w : List ℕ) (p : ℕ) → IsGone (machine.close (bracket_of bracket) (frames_of frames.old) (tree_of last) (meaning kind w p)) (frames_of frames.new) r) }
+    last: Box<Parse>,
+    token: Seen<'_>,
+) -> Result<Next, AllocError>
+    ensures { IfOk result (λ r. Says (machine.close (bracket_of bracket) (frames_of frames.old) (tree_of last.value) (seen token.entry)) None (seen token.entry) (frames_of frames.new) r) }
 {
     match bracket {
-        Bracket::Paren => match kind {
-            Kind::RightParen => Ok(Some(State::Have(last))),
-            _ => Ok(None),
+        Bracket::Paren => match token.kind {
+            Kind::RightParen => Ok(Next::On(State::Have(last))),
+            _ => Ok(Next::Wrong),
         },
-        Bracket::PiParen => match kind {
-            Kind::RightParen => Ok(Some(State::Enclosed(last))),
-            _ => Ok(None),
+        Bracket::PiParen => match token.kind {
+            Kind::RightParen => Ok(Next::On(State::Enclosed(last))),
+            _ => Ok(Next::Wrong),
         },
-        Bracket::Item(context) => close_item(alloc, frames, context, last, kind),
-        Bracket::Focus(context) => match kind {
-            Kind::RightBracket => Ok(Some(State::FocusEnd(context, last))),
-            _ => Ok(None),
+        Bracket::Item(context) => close_item(alloc, frames, context, last, token),
+        Bracket::Focus(context) => match token.kind {
+            Kind::RightBracket => Ok(Next::On(State::FocusEnd(context, last))),
+            _ => Ok(Next::Wrong),
         },
-        Bracket::Goal(context, focus) => match kind {
-            Kind::RightBrace => {
-                let Context { place, items } = context;
-                Ok(Some(State::Have(judge(alloc, items, focus, last, place)?)))
-            }
-            _ => Ok(None),
+        Bracket::Goal(context, focus) => match token.kind {
+            Kind::RightBrace => Ok(Next::On(State::Have(judge(alloc, context, focus, last)?))),
+            _ => Ok(Next::Wrong),
         },
     }
 }

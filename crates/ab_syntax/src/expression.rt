@@ -1,11 +1,12 @@
 //! Expressions, read from tokens.
 ghost use Rattle.std.specs.Prelude.{◌≡◌};
-ghost use Rattle.ab_grammar.specs.Language.{Expression, Followed};
+ghost use Rattle.ab_grammar.specs.Language.{Expression};
+ghost use Rattle.ab_grammar.proofs.Following.{Followed};
 ghost use Rattle.ab_syntax.specs.Trees.{tree_of};
 ghost use Rattle.ab_syntax.specs.Reader.{IsText, rest, Found};
 
 use crate::machine::{Next, State};
-use crate::nesting::{LIMIT, nest, outside};
+use crate::nesting::{nested, outside};
 use crate::step::step;
 use crate::stop::Stop;
 use crate::text::{Text, look};
@@ -24,17 +25,13 @@ pub(crate) fn read_expression(
     let mut frames = Vec::new(alloc);
     let mut state = State::Want;
     let mut layers = outside(alloc);
-    'tokens: loop {
+    loop {
         let token = look(text, *here);
-        nest(&mut layers, token.kind)?;
         match step(alloc, &mut frames, state, token)? {
-            Next::Done(found) => return Ok(found),
+            Next::Done(found) => return Ok(Box::into_inner(found)),
             Next::Wrong => return Err(Stop::Syntax),
             Next::On(next) => {
-                if layers.depth > LIMIT {
-                    return Err(Stop::TooNested);
-                }
-                state = next;
+                state = nested(&mut layers, token.kind, next)?;
                 *here += 1;
             }
         }

@@ -1,12 +1,14 @@
 //! What an expression that is being read stands in: a stack of what isn't finished yet.
-ghost use Rattle.std.specs.Prelude.{◌≡◌, ◌<◌, ◌∷◌, [], true, IfOk, MatchOption, vec_len};
+ghost use Rattle.std.specs.Prelude.{◌≡◌, ◌<◌, ◌∷◌, [], IfOk, MatchOption, vec_len};
 ghost use Rattle.ab_grammar.specs.Grammar as grammar;
 ghost use Rattle.ab_grammar.specs.Tree.{Tree};
-ghost use Rattle.ab_grammar.specs.Machine as machine;
+ghost use Rattle.ab_grammar.proofs.Machine as machine;
 ghost use Rattle.ab_syntax.specs.Trees.{tree_of};
-ghost use Rattle.ab_syntax.specs.Frames.{frame_of, frames_of, reduced, shut_of, IsFate, IsPopped};
+ghost use Rattle.ab_syntax.specs.Steps.{stack};
+ghost use Rattle.ab_syntax.specs.Frames.{frame_of, frames_of, reduced, shut_of, IsFate, IsTopFate, IsReduced, IsPopped};
 
-use crate::build::{abstraction, apply, bind, join, pi};
+use crate::build::{apply, boxed, pi, place_of};
+use crate::items::Items;
 use crate::tree::{Binder, Parse};
 use ab_grammar::{Infix, Quant};
 use ab_name::Name;
@@ -38,16 +40,16 @@ pub(crate) enum Bracket {
     /// Around the focused formula.
     Focus(Context),
     /// A brace, where the goal behind `|-` is read; with the focused formula, where there is one.
-    Goal(Context, Option<Parse>),
+    Goal(Context, Option<Box<Parse>>),
 }
 
 /// What an operand stands in.
 #[derive(Drop)]
 pub(crate) enum Frame {
     /// A sign, with what stands left of it.
-    Infix(Infix, Parse),
+    Infix(Infix, Box<Parse>),
     /// A head, with its arguments so far.
-    Args(Parse, Vec<Parse>),
+    Args(Box<Parse>, Vec<Parse>),
     Pi(usize),
     Abs(Name, usize),
     Bind(Prefix),
@@ -57,7 +59,7 @@ pub(crate) enum Frame {
 /// An expression up to its innermost bracket, and that bracket, if there is one.
 #[derive(Drop)]
 pub(crate) struct Inside {
-    pub(crate) inner: Parse,
+    pub(crate) inner: Box<Parse>,
     pub(crate) bracket: Option<Bracket>,
 }
 
@@ -128,21 +130,23 @@ fn take_frame(frames: &mut Vec<Frame>) -> Option<Frame>
 }
 
 /// What an operand is the last part of, in a frame; in a bracket the operand alone.
-fn reduce(alloc: Global, frame: Frame, operand: Parse) -> Result<Parse, AllocError>
-    ensures { IfOk result (λ r. tree_of r ≡ reduced (frame_of frame) (tree_of operand)) }
+fn reduce(alloc: Global, frame: Frame, operand: Box<Parse>) -> Result<Box<Parse>, AllocError>
+    ensures { IfOk result (λ r. tree_of r.value ≡ reduced (frame_of frame) (tree_of operand.value)) }
 {
     match frame {
-        Frame::Infix(sign, before) => join(alloc, sign, before, operand),
+        Frame::Infix(sign, before) => {
+            let place = place_of(&before);
+            boxed(alloc, Parse::Join(sign, before, operand, place))
+        }
         Frame::Args(head, args) => apply(alloc, head, args, operand),
         Frame::Pi(place) => pi(alloc, place, operand),
-        Frame::Abs(name, place) => abstraction(alloc, name, operand, place),
+        Frame::Abs(name, place) => boxed(alloc, Parse::Abs(name, operand, place)),
         Frame::Bind(prefix) => {
-            let Prefix {
-                quant,
-                place,
-                binders,
-            } = prefix;
-            bind(alloc, quant, binders, operand, place)
+            let binders = Items::from_vec(prefix.binders);
+            boxed(
+                alloc,
+                Parse::Bind(prefix.quant, binders, operand, prefix.place),
+            )
         }
         Frame::Bracket(_) => Ok(operand),
     }
@@ -171,12 +175,33 @@ fn frame_fate(frame: &Frame, sign: Infix) -> Fate
         Frame::Args(_, _) => Fate::Reduces,
         Frame::Pi(_) => Fate::Reduces,
         Frame::Bracket(Bracket::PiParen) => Fate::Refuses,
-        Frame::Bracket(Bracket::Paren) => Fate::Stays,
-        Frame::Bracket(Bracket::Item(_)) => Fate::Stays,
-        Frame::Bracket(Bracket::Focus(_)) => Fate::Stays,
-        Frame::Bracket(Bracket::Goal(_, _)) => Fate::Stays,
+        Frame::Bracket(_) => Fate::Stays,
         Frame::Abs(_, _) => Fate::Stays,
         Frame::Bind(_) => Fate::Stays,
+    }
+}
+
+/// What becomes of the innermost frame where a sign comes; where there is none, the sign can come.
+fn top_fate(frames: &[Frame], sign: Infix) -> Fate
+    ensures { IsTopFate sign (stack frame_of frames.now) result }
+{
+    match frames.last() {
+        Some(frame) => frame_fate(frame, sign),
+        None => Fate::Stays,
+    }
+}
+
+/// What an operand is the last part of, in the innermost frame, which is taken away.
+fn reduce_top(
+    alloc: Global,
+    frames: &mut Vec<Frame>,
+    operand: Box<Parse>,
+) -> Result<Box<Parse>, AllocError>
+    ensures { IfOk result (λ r. IsReduced (frames_of frames.old) (tree_of operand.value) (frames_of frames.new) (tree_of r.value)) }
+{
+    match take_frame(frames) {
+        Some(frame) => reduce(alloc, frame, operand),
+        None => Ok(operand),
     }
 }
 
@@ -184,28 +209,21 @@ fn frame_fate(frame: &Frame, sign: Infix) -> Fate
 pub(crate) fn pop(
     alloc: Global,
     sign: Infix,
-    operand: Parse,
+    operand: Box<Parse>,
     frames: &mut Vec<Frame>,
 ) -> Result<bool, AllocError>
-    ensures { IfOk result (λ r. IsPopped (machine.pop sign (tree_of operand) (frames_of frames.old)) (frames_of frames.new) r) }
+    ensures { IfOk result (λ r. IsPopped (machine.pop sign (tree_of operand.value) (frames_of frames.old)) (frames_of frames.new) r) }
 {
     let mut operand = operand;
-    'frames: loop {
-        match take_frame(frames) {
-            Some(frame) => match frame_fate(&frame, sign) {
-                Fate::Stays => {
-                    push(frames, frame)?;
-                    push(frames, Frame::Infix(sign, operand))?;
-                    return Ok(true);
-                }
-                Fate::Refuses => return Ok(false),
-                Fate::Reduces => {
-                    operand = reduce(alloc, frame, operand)?;
-                }
-            },
-            None => {
+    loop {
+        match top_fate(frames.as_slice(), sign) {
+            Fate::Stays => {
                 push(frames, Frame::Infix(sign, operand))?;
                 return Ok(true);
+            }
+            Fate::Refuses => return Ok(false),
+            Fate::Reduces => {
+                operand = reduce_top(alloc, frames, operand)?;
             }
         }
     }
@@ -215,39 +233,39 @@ pub(crate) fn pop(
 pub(crate) fn shut(
     alloc: Global,
     frames: &mut Vec<Frame>,
-    last: Parse,
+    last: Box<Parse>,
 ) -> Result<Inside, AllocError>
-    ensures { IfOk result (λ r. machine.shut (tree_of last) (frames_of frames.old) ≡ shut_of r (frames_of frames.new)) }
+    ensures { IfOk result (λ r. machine.shut (tree_of last.value) (frames_of frames.old) ≡ shut_of r (frames_of frames.new)) }
 {
-    let mut last = last;
-    'frames: loop {
+    let mut inner = last;
+    loop {
         match take_frame(frames) {
             Some(Frame::Bracket(bracket)) => {
-                return Ok(Inside {
-                    inner: last,
-                    bracket: Some(bracket),
-                });
+                let bracket = Some(bracket);
+                return Ok(Inside { inner, bracket });
             }
             Some(frame) => {
-                last = reduce(alloc, frame, last)?;
+                inner = reduce(alloc, frame, inner)?;
             }
             None => {
-                return Ok(Inside {
-                    inner: last,
-                    bracket: None,
-                });
+                let bracket = None;
+                return Ok(Inside { inner, bracket });
             }
         }
     }
 }
 
 /// Goes where the argument behind a head, or behind another argument, is read.
-pub(crate) fn grow(alloc: Global, frames: &mut Vec<Frame>, last: Parse) -> Result<(), AllocError>
-    ensures { IfOk result (λ r. frames_of frames.new ≡ machine.grow (frames_of frames.old) (tree_of last)) }
+pub(crate) fn grow(
+    alloc: Global,
+    frames: &mut Vec<Frame>,
+    last: Box<Parse>,
+) -> Result<(), AllocError>
+    ensures { IfOk result (λ r. frames_of frames.new ≡ machine.grow (frames_of frames.old) (tree_of last.value)) }
 {
     match take_frame(frames) {
         Some(Frame::Args(head, mut args)) => {
-            args.push(last)?;
+            args.push(Box::into_inner(last))?;
             push(frames, Frame::Args(head, args))
         }
         Some(frame) => {

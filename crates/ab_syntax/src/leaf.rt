@@ -1,210 +1,164 @@
-//! Parts that are one token.
-ghost use Rattle.std.specs.Prelude.{◌≡◌, ◌<◌, ◌≤◌, ◌↔◌, ℕ, All, length, IsTrue, IfOk, MatchOption};
-ghost use Rattle.ab_grammar.specs.Token.{word as word_token};
-ghost use Rattle.ab_grammar.specs.Language.{Anything};
-ghost use Rattle.ab_grammar.specs.Reading.{first};
-ghost use Rattle.ab_grammar.specs.CommandForms.{One};
-ghost use Rattle.ab_grammar.specs.CommandTable.{DeclaredName, Word as WordForm, ShowsName, ShowsDeclared, StandsAnywhere, ShowsNominal, ShowsArgument, ShowsNumber, ShowsDepth, ShowsText};
+//! The forms of one token that commands have.
+ghost use Rattle.std.specs.Prelude.{◌≡◌, ◌≤◌, ◌↔◌, ℕ, List, length, IsTrue, IfOk};
+ghost use Rattle.ab_grammar.specs.Token.{word as word_token, first};
+ghost use Rattle.ab_grammar.proofs.Following.{Anything};
+ghost use Rattle.ab_grammar.specs.CommandTrees as tree;
+ghost use Rattle.ab_grammar.specs.CommandTable.{Word as WordForm, ShowsName, ShowsDeclared, ShowsNominal, ShowsArgument, ShowsNumber, ShowsDepth, ShowsText, StandsAnywhere};
+ghost use Rattle.ab_grammar.proofs.Shown.{one_name, name_example, one_declared, declared_example, one_nominal, nominal_example, one_argument, argument_example, one_number, number_example, one_depth, depth_example, one_text, text_example};
 ghost use Rattle.ab_syntax.specs.Commands.{argument_of};
-ghost use Rattle.ab_syntax.specs.Reader.{IsText, IsWordAt, written, rest, Found};
+ghost use Rattle.ab_syntax.specs.Reader.{IsText, rest, Found};
 ghost use Rattle.ab_syntax.specs.Tokens.{unquoted};
-ghost use Rattle.ab_syntax.specs.Leaves.{IsShown, ShowsWhere, ShowsSome};
 
 use crate::command::Argument;
 use crate::numbers::{is_declarable, nominal, value};
+use crate::shown::Shown;
 use crate::stop::Stop;
 use crate::text::{Kind, Text, peek, spell, word, written_at};
 use ab_name::Name;
 use std::alloc::{AllocError, Global};
 
-/// Whether the next token is a word that isn't reserved.
-pub(crate) fn is_name(text: &Text<'_>, here: usize) -> bool
-    requires { IsText text.now }
-    ensures { IsTrue result ↔ ShowsSome ShowsName (first (rest text.now here)) }
-{
-    match peek(text, here) {
-        Kind::Word => true,
-        _ => false,
-    }
-}
+/// A word that isn't reserved.
+pub(crate) struct AnyName;
 
-/// Whether the next token is an argument of `apply`.
-pub(crate) fn is_argument(text: &Text<'_>, here: usize) -> bool
-    requires { IsText text.now }
-    ensures { IsTrue result ↔ ShowsSome ShowsArgument (first (rest text.now here)) }
-{
-    is_name(text, here)
-}
+impl Shown for AnyName {
+    type Value = Name;
 
-/// Whether the next token is a nominal name.
-pub(crate) fn is_nominal(text: &Text<'_>, here: usize) -> bool
-    requires { IsText text.now }
-    ensures { IsTrue result ↔ ShowsSome ShowsNominal (first (rest text.now here)) }
-{
-    nominal_at(text, here).is_some()
-}
+    ghost Meant = { List ℕ };
 
-/// Whether the next token is a word that may name a kind, a constant or a predicate.
-fn is_declared(text: &Text<'_>, here: usize) -> bool
-    requires { IsText text.now }
-    ensures shown { ShowsWhere ShowsDeclared (written text.now here) text.now here result }
-    ensures word { IsTrue result → IsWordAt text.now here }
-{
-    match peek(text, here) {
-        Kind::Word => is_declarable(written_at(text, here)),
-        _ => false,
-    }
-}
+    ghost shows = { ShowsName };
 
-/// Takes the next token, if it is a word that may name a kind, a constant or a predicate.
-pub(crate) fn declared_name(alloc: Global, text: &Text<'_>, here: &mut usize) -> Result<Name, Stop>
-    requires { IsText text.now }
-    ensures { Found DeclaredName Anything (λ x. x) (rest text.now here.old) (rest text.now here.new) result }
-{
-    if !is_declared(text, *here) {
-        return Err(Stop::Syntax);
-    }
-    let name = word(alloc, text, *here)?;
-    *here += 1;
-    Ok(name)
-}
+    ghost meant = { λ name. name };
 
-/// The number of the next token, if that is a nominal name.
-fn nominal_at(text: &Text<'_>, here: usize) -> Option<u32>
-    requires { IsText text.now }
-    ensures { IsShown ShowsNominal (λ n. n) text.now here result }
-{
-    match peek(text, here) {
-        Kind::Word => nominal(written_at(text, here)),
-        _ => None,
-    }
-}
-
-/// Takes the next token, if it is a nominal name: its number.
-pub(crate) fn nominal_number(text: &Text<'_>, here: &mut usize) -> Result<u32, Stop>
-    requires { IsText text.now }
-    ensures { Found (One ShowsNominal) Anything (λ n. n) (rest text.now here.old) (rest text.now here.new) result }
-{
-    match nominal_at(text, *here) {
-        Some(number) => {
-            *here += 1;
-            Ok(number)
+    fn seen(alloc: Global, text: &Text<'_>, here: usize) -> Result<Option<Name>, AllocError> {
+        match peek(text, here) {
+            Kind::Word => Ok(Some(word(alloc, text, here)?)),
+            _ => Ok(None),
         }
-        None => Err(Stop::Syntax),
     }
+
+    ghost one = { one_name };
+
+    ghost example = { name_example };
 }
 
-/// What a word stands for, as an argument of `apply`.
-fn word_argument(alloc: Global, text: &Text<'_>, here: usize) -> Result<Argument, AllocError>
-    requires text { IsText text.now }
-    requires word { IsWordAt text.now here }
-    ensures { IfOk result (λ a. (p : ℕ) → ShowsArgument (word_token (written text.now here) p) (argument_of a)) }
-{
-    if written_at(text, here) == b"_".as_slice() {
-        return Ok(Argument::Hole);
-    }
-    let name = word(alloc, text, here)?;
-    Ok(Argument::Named(name))
-}
+/// A word that may name a kind, a constant or a predicate.
+pub(crate) struct DeclaredName;
 
-/// Takes the next token, if it is an argument of `apply`.
-pub(crate) fn argument(alloc: Global, text: &Text<'_>, here: &mut usize) -> Result<Argument, Stop>
-    requires { IsText text.now }
-    ensures { Found (One ShowsArgument) Anything argument_of (rest text.now here.old) (rest text.now here.new) result }
-{
-    match peek(text, *here) {
-        Kind::Word => {
-            let argument = word_argument(alloc, text, *here)?;
-            *here += 1;
-            Ok(argument)
+impl Shown for DeclaredName {
+    type Value = Name;
+
+    ghost Meant = { List ℕ };
+
+    ghost shows = { ShowsDeclared };
+
+    ghost meant = { λ name. name };
+
+    fn seen(alloc: Global, text: &Text<'_>, here: usize) -> Result<Option<Name>, AllocError> {
+        match peek(text, here) {
+            Kind::Word if is_declarable(written_at(text, here)) => {
+                Ok(Some(word(alloc, text, here)?))
+            }
+            _ => Ok(None),
         }
-        _ => Err(Stop::Syntax),
     }
+
+    ghost one = { one_declared };
+
+    ghost example = { declared_example };
 }
 
-/// The value of the next token, if that is a number of at most nine digits.
-fn number_at(text: &Text<'_>, here: usize) -> Option<u32>
-    requires { IsText text.now }
-    ensures { IsShown ShowsNumber (λ n. n) text.now here result }
-{
-    match peek(text, here) {
-        Kind::Number => Some(value(written_at(text, here))),
-        _ => None,
-    }
-}
+/// A nominal name, of which its number is kept.
+pub(crate) struct NominalName;
 
-/// Takes the next token, if it is a number of at most nine digits.
-pub(crate) fn number(text: &Text<'_>, here: &mut usize) -> Result<u32, Stop>
-    requires { IsText text.now }
-    ensures { Found (One ShowsNumber) Anything (λ n. n) (rest text.now here.old) (rest text.now here.new) result }
-{
-    match number_at(text, *here) {
-        Some(number) => {
-            *here += 1;
-            Ok(number)
+impl Shown for NominalName {
+    type Value = u32;
+
+    ghost Meant = { ℕ };
+
+    ghost shows = { ShowsNominal };
+
+    ghost meant = { λ n. n };
+
+    fn seen(_alloc: Global, text: &Text<'_>, here: usize) -> Result<Option<u32>, AllocError> {
+        match peek(text, here) {
+            Kind::Word => Ok(nominal(written_at(text, here))),
+            _ => Ok(None),
         }
-        None => Err(Stop::Syntax),
     }
+
+    ghost one = { one_nominal };
+
+    ghost example = { nominal_example };
 }
 
-/// The value of the next token, if that is a depth of `search`.
-fn depth_at(text: &Text<'_>, here: usize) -> Option<u32>
-    requires { IsText text.now }
-    ensures { IsShown ShowsDepth (λ n. n) text.now here result }
-{
-    match number_at(text, here) {
-        Some(depth) if depth <= 1000 => Some(depth),
-        _ => None,
-    }
-}
+impl Shown for Argument {
+    type Value = Argument;
 
-/// Takes the next token, if it is a depth of `search`.
-pub(crate) fn depth(text: &Text<'_>, here: &mut usize) -> Result<u32, Stop>
-    requires { IsText text.now }
-    ensures { Found (One ShowsDepth) Anything (λ n. n) (rest text.now here.old) (rest text.now here.new) result }
-{
-    match depth_at(text, *here) {
-        Some(depth) => {
-            *here += 1;
-            Ok(depth)
+    ghost Meant = { tree.Argument };
+
+    ghost shows = { ShowsArgument };
+
+    ghost meant = { argument_of };
+
+    fn seen(alloc: Global, text: &Text<'_>, here: usize) -> Result<Option<Argument>, AllocError> {
+        match peek(text, here) {
+            Kind::Word if written_at(text, here) == b"_".as_slice() => Ok(Some(Argument::Hole)),
+            Kind::Word => Ok(Some(Argument::Named(word(alloc, text, here)?))),
+            _ => Ok(None),
         }
-        None => Err(Stop::Syntax),
     }
+
+    ghost one = { one_argument };
+
+    ghost example = { argument_example };
 }
 
-/// Whether the next token is this word.
-fn is_word(text: &Text<'_>, here: usize, expected: &[u8]) -> bool
-    requires { IsText text.now }
-    ensures { ShowsWhere (StandsAnywhere (word_token expected.now)) tt text.now here result }
-{
-    match peek(text, here) {
-        Kind::Word => written_at(text, here) == expected,
-        _ => false,
+/// A number of at most nine digits.
+pub(crate) struct Number;
+
+impl Shown for Number {
+    type Value = u32;
+
+    ghost Meant = { ℕ };
+
+    ghost shows = { ShowsNumber };
+
+    ghost meant = { λ n. n };
+
+    fn seen(_alloc: Global, text: &Text<'_>, here: usize) -> Result<Option<u32>, AllocError> {
+        match peek(text, here) {
+            Kind::Number => Ok(Some(value(written_at(text, here)))),
+            _ => Ok(None),
+        }
     }
+
+    ghost one = { one_number };
+
+    ghost example = { number_example };
 }
 
-/// Takes the next token, if it is this word.
-pub(crate) fn keyword(text: &Text<'_>, here: &mut usize, expected: &[u8]) -> Result<(), Stop>
-    requires { IsText text.now }
-    ensures { Found (WordForm expected.now) Anything (λ u. u) (rest text.now here.old) (rest text.now here.new) result }
-{
-    if !is_word(text, *here, expected) {
-        return Err(Stop::Syntax);
-    }
-    *here += 1;
-    Ok(())
-}
+/// A depth of `search`.
+pub(crate) struct Depth;
 
-/// The bytes in the quotes of the next token, if that is a quoted text.
-fn quoted_at<'a>(text: &Text<'a>, here: usize) -> Option<&'a [u8]>
-    requires { IsText text.now }
-    ensures shown { IsShown ShowsText (λ inner. inner.now) text.now here result }
-    ensures plain { MatchOption result (Unit {0}) (λ inner. All (λ b. b < 128) inner.now) }
-{
-    match peek(text, here) {
-        Kind::Text => Some(inner(written_at(text, here))),
-        _ => None,
+impl Shown for Depth {
+    type Value = u32;
+
+    ghost Meant = { ℕ };
+
+    ghost shows = { ShowsDepth };
+
+    ghost meant = { λ n. n };
+
+    fn seen(alloc: Global, text: &Text<'_>, here: usize) -> Result<Option<u32>, AllocError> {
+        match Number::seen(alloc, text, here)? {
+            Some(depth) if depth <= 1000 => Ok(Some(depth)),
+            _ => Ok(None),
+        }
     }
+
+    ghost one = { one_depth };
+
+    ghost example = { depth_example };
 }
 
 /// What stands between quotes.
@@ -215,17 +169,43 @@ fn inner(quoted: &[u8]) -> &[u8]
     &quoted[1..quoted.len() - 1]
 }
 
-/// Takes the next token, if it is a quoted text.
-pub(crate) fn quoted_name(alloc: Global, text: &Text<'_>, here: &mut usize) -> Result<Name, Stop>
-    requires { IsText text.now }
-    ensures { Found (One ShowsText) Anything (λ x. x) (rest text.now here.old) (rest text.now here.new) result }
-{
-    match quoted_at(text, *here) {
-        Some(inner) => {
-            let name = spell(alloc, inner)?;
-            *here += 1;
-            Ok(name)
+/// A quoted text, without its quotes.
+pub(crate) struct Quoted;
+
+impl Shown for Quoted {
+    type Value = Name;
+
+    ghost Meant = { List ℕ };
+
+    ghost shows = { ShowsText };
+
+    ghost meant = { λ name. name };
+
+    fn seen(alloc: Global, text: &Text<'_>, here: usize) -> Result<Option<Name>, AllocError> {
+        match peek(text, here) {
+            Kind::Text => Ok(Some(spell(alloc, inner(written_at(text, here)))?)),
+            _ => Ok(None),
         }
-        None => Err(Stop::Syntax),
+    }
+
+    ghost one = { one_text };
+
+    ghost example = { text_example };
+}
+
+/// Takes the next token, if it is this word.
+pub(crate) fn keyword(text: &Text<'_>, here: &mut usize, expected: &[u8]) -> Result<(), Stop>
+    requires { IsText text.now }
+    ensures { Found (WordForm expected.now) Anything (λ u. u) (rest text.now here.old) (rest text.now here.new) result }
+{
+    match peek(text, *here) {
+        Kind::Word => {
+            if written_at(text, *here) != expected {
+                return Err(Stop::Syntax);
+            }
+            *here += 1;
+            Ok(())
+        }
+        _ => Err(Stop::Syntax),
     }
 }

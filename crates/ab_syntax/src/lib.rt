@@ -24,6 +24,7 @@ mod parser;
 mod part;
 mod proof_row;
 mod row;
+mod shown;
 mod step;
 mod stop;
 mod text;
@@ -36,8 +37,10 @@ pub use ab_grammar::{Infix, Quant, Stand};
 pub use command::{Argument, ClauseParse, Command, Defined, Instance, ProofCommand};
 pub use fault::ParseFault;
 pub use items::Items;
-pub use opening::stand_of;
-pub use parser::{parse_command, parse_expr, parse_type};
+pub use opening::{stand_of, stand_of_from};
+pub use parser::{
+    parse_command, parse_command_from, parse_expr, parse_expr_from, parse_type, parse_type_from,
+};
 pub use tree::{Binder, Parse, TypeParse};
 
 #[cfg(test)]

@@ -1,11 +1,12 @@
 //! An expression that is being read, token by token.
-ghost use Rattle.std.specs.Prelude.{◌≡◌, List, [], IfOk, map};
-ghost use Rattle.ab_grammar.specs.Machine as machine;
+ghost use Rattle.std.specs.Prelude.{◌≡◌, List, [], None, IfOk, map};
+ghost use Rattle.ab_grammar.proofs.Machine as machine;
 ghost use Rattle.ab_syntax.specs.Trees.{tree_of};
 ghost use Rattle.ab_syntax.specs.Reader.{seen, IsSpelled};
 ghost use Rattle.ab_syntax.specs.Frames.{frames_of};
-ghost use Rattle.ab_syntax.specs.States.{state_in, IsGone};
+ghost use Rattle.ab_syntax.specs.States.{state_in, Says};
 
+use crate::build::boxed;
 use crate::frame::{Bracket, Context, Frame, Prefix, push};
 use crate::text::{Kind, Seen, name_of};
 use crate::tree::Parse;
@@ -22,17 +23,17 @@ pub(crate) enum State {
     /// A name stands there, which a backslash can follow.
     Alone(Name, usize),
     /// Another operand stands there.
-    Have(Parse),
+    Have(Box<Parse>),
     /// An abstraction must come, behind `pi`.
     PiWant,
     /// A name stands there, behind `pi`.
     PiName(Name, usize),
     /// What `pi` takes stands there, in parentheses.
-    Enclosed(Parse),
+    Enclosed(Box<Parse>),
     /// An item of a judgement must come.
     Item(Context),
     /// The focused formula stands there, in its brackets.
-    FocusEnd(Context, Parse),
+    FocusEnd(Context, Box<Parse>),
     /// A binder or a comma must come.
     Binders(Prefix),
     /// The name of a binder with a type must come.
@@ -49,7 +50,7 @@ pub(crate) enum Next {
     /// The expression goes on.
     On(State),
     /// The expression ended before the token.
-    Done(Parse),
+    Done(Box<Parse>),
     /// No expression goes on with the token, and none that ended before it is followed by it.
     Wrong,
 }
@@ -70,25 +71,29 @@ pub(crate) fn start_argument(
     alloc: Global,
     frames: &mut Vec<Frame>,
     token: Seen<'_>,
-) -> Result<Option<State>, AllocError>
+) -> Result<Next, AllocError>
     requires { IsSpelled token }
-    ensures { IfOk result (λ r. IsGone (machine.starts (frames_of frames.old) (seen token.entry)) (frames_of frames.new) r) }
+    ensures { IfOk result (λ r. Says (machine.starts (frames_of frames.old) (seen token.entry)) None (seen token.entry) (frames_of frames.new) r) }
 {
     match token.kind {
-        Kind::Word => Ok(Some(State::Alone(name_of(alloc, token)?, token.place))),
-        Kind::Truth => Ok(Some(State::Have(Parse::Name(name_of(alloc, token)?, token.place)))),
+        Kind::Word => Ok(Next::On(State::Alone(name_of(alloc, token)?, token.place))),
+        Kind::Truth => {
+            let name = name_of(alloc, token)?;
+            let operand = boxed(alloc, Parse::Name(name, token.place))?;
+            Ok(Next::On(State::Have(operand)))
+        }
         Kind::LeftParen => {
             push(frames, Frame::Bracket(Bracket::Paren))?;
-            Ok(Some(State::Want))
+            Ok(Next::On(State::Want))
         }
-        Kind::LeftBrace => Ok(Some(State::Item(Context {
+        Kind::LeftBrace => Ok(Next::On(State::Item(Context {
             place: token.place,
             items: Vec::new(alloc),
         }))),
-        Kind::Forall => Ok(Some(prefix(alloc, Quant::Forall, token.place))),
-        Kind::Exists => Ok(Some(prefix(alloc, Quant::Exists, token.place))),
-        Kind::Nabla => Ok(Some(prefix(alloc, Quant::Nabla, token.place))),
-        _ => Ok(None),
+        Kind::Forall => Ok(Next::On(prefix(alloc, Quant::Forall, token.place))),
+        Kind::Exists => Ok(Next::On(prefix(alloc, Quant::Exists, token.place))),
+        Kind::Nabla => Ok(Next::On(prefix(alloc, Quant::Nabla, token.place))),
+        _ => Ok(Next::Wrong),
     }
 }
 
@@ -97,14 +102,14 @@ pub(crate) fn start_operand(
     alloc: Global,
     frames: &mut Vec<Frame>,
     token: Seen<'_>,
-) -> Result<Option<State>, AllocError>
+) -> Result<Next, AllocError>
     requires { IsSpelled token }
-    ensures { IfOk result (λ r. IsGone (machine.starts_operand (frames_of frames.old) (seen token.entry)) (frames_of frames.new) r) }
+    ensures { IfOk result (λ r. Says (machine.starts_operand (frames_of frames.old) (seen token.entry)) None (seen token.entry) (frames_of frames.new) r) }
 {
     match token.kind {
         Kind::Pi => {
             push(frames, Frame::Pi(token.place))?;
-            Ok(Some(State::PiWant))
+            Ok(Next::On(State::PiWant))
         }
         _ => start_argument(alloc, frames, token),
     }
@@ -116,14 +121,14 @@ pub(crate) fn start_item(
     frames: &mut Vec<Frame>,
     context: Context,
     token: Seen<'_>,
-) -> Result<Option<State>, AllocError>
+) -> Result<Next, AllocError>
     requires { IsSpelled token }
-    ensures { IfOk result (λ r. IsGone (machine.starts_item (frames_of frames.old) context.place (map tree_of context.items.items) (seen token.entry)) (frames_of frames.new) r) }
+    ensures { IfOk result (λ r. Says (machine.starts_item (frames_of frames.old) context.place (map tree_of context.items.items) (seen token.entry)) None (seen token.entry) (frames_of frames.new) r) }
 {
     match token.kind {
         Kind::LeftBracket => {
             push(frames, Frame::Bracket(Bracket::Focus(context)))?;
-            Ok(Some(State::Want))
+            Ok(Next::On(State::Want))
         }
         _ => {
             push(frames, Frame::Bracket(Bracket::Item(context)))?;

@@ -1,15 +1,16 @@
 //! How deep a token of an expression or a type is nested.
-ghost use Rattle.std.specs.Prelude.{◌≡◌, ◌≤◌, ◌∷◌, ℕ, List, IfOk};
+ghost use Rattle.std.specs.Prelude.{◌≡◌, ◌≤◌, ◌∷◌, ℕ, List, IfOk, IfErr};
 ghost use Rattle.ab_grammar.specs.Nesting.{nest as nest_by, outside as outside_all, naming_in, limit};
 ghost use Rattle.ab_grammar.specs.Token as Grammatical;
 ghost use Rattle.ab_syntax.specs.Reader.{meaning};
-ghost use Rattle.ab_syntax.specs.Steps.{layer_of, layers_of, stack, IsMeasured};
+ghost use Rattle.ab_syntax.specs.Steps.{layer_of, layers_of, stack, IsMeasured, IsTooDeep};
 
+use crate::stop::Stop;
 use crate::text::Kind;
 use std::alloc::{AllocError, Global};
 
 /// The deepest nesting that a token may have.
-pub(crate) const LIMIT: usize = 200;
+const LIMIT: usize = 200;
 
 /// An open bracket, or what is outside all.
 #[derive(Clone, Copy, Drop)]
@@ -102,7 +103,7 @@ fn close(layers: &mut Layers)
 }
 
 /// Goes on to the layers behind a token.
-pub(crate) fn nest(layers: &mut Layers, kind: Kind) -> Result<(), AllocError>
+fn nest(layers: &mut Layers, kind: Kind) -> Result<(), AllocError>
     requires measured { IsMeasured layers.old }
     requires shallow { layers.old.depth ≤ limit }
     ensures layers { IfOk result (λ r. (w : List ℕ) (p : ℕ) → layers_of layers.new ≡ nest_by (layers_of layers.old) (meaning kind w p)) }
@@ -139,4 +140,21 @@ pub(crate) fn nest(layers: &mut Layers, kind: Kind) -> Result<(), AllocError>
         }
         _ => Ok(()),
     }
+}
+
+/// What was read up to a token and with it, unless the token is nested too deeply.
+pub(crate) fn nested<T: Drop>(layers: &mut Layers, kind: Kind, read: T) -> Result<T, Stop>
+    requires measured { IsMeasured layers.old }
+    requires shallow { layers.old.depth ≤ limit }
+    ensures read { IfOk result (λ r. r ≡ read) }
+    ensures layers { IfOk result (λ r. (w : List ℕ) (p : ℕ) → layers_of layers.new ≡ nest_by (layers_of layers.old) (meaning kind w p)) }
+    ensures measured { IfOk result (λ r. IsMeasured layers.new) }
+    ensures shallow { IfOk result (λ r. layers.new.depth ≤ limit) }
+    ensures deep { IfErr result (λ stop. (w : List ℕ) (p : ℕ) → IsTooDeep (nest_by (layers_of layers.old) (meaning kind w p)) stop) }
+{
+    nest(layers, kind)?;
+    if layers.depth > LIMIT {
+        return Err(Stop::TooNested);
+    }
+    Ok(read)
 }

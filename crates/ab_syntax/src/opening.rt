@@ -1,17 +1,16 @@
 //! What the first tokens of a command say of it, and so where it stands.
 ghost use Rattle.std.specs.Prelude.{◌≡◌, ◌≢◌, ◌↔◌, ℕ, List, MatchOption, Some};
 ghost use Rattle.ab_lex.specs.Tokens.{TokensOf};
-ghost use Rattle.ab_grammar.specs.Token.{word, colon};
-ghost use Rattle.ab_grammar.specs.Reading.{first};
+ghost use Rattle.ab_grammar.specs.Token.{word, colon, first};
 ghost use Rattle.ab_grammar.specs.CommandTable.{stand_of as stand_of_head, StandsAt};
 ghost use Rattle.ab_grammar.specs.declared.head.Stand.{Stand};
 ghost use Rattle.ab_grammar.specs.declared.head.Stand.TheVariants.{Inside};
-ghost use Rattle.ab_syntax.specs.Tokens.{tokens_in};
+ghost use Rattle.ab_syntax.specs.Tokens.{StandIn, tokens_from, tokens_in};
 ghost use Rattle.ab_syntax.specs.Reader.{IsText, written, rest};
 ghost use Rattle.ab_syntax.specs.Openings.{IsOpening};
 
 use crate::text::{Kind, Text, is_next, peek, written_at};
-use crate::whole::whole;
+use crate::whole::origin;
 use crate::words::{command_head, proof_head};
 use ab_grammar::{Head, ProofHead, Stand};
 use ab_lex::Token;
@@ -76,18 +75,30 @@ fn stand(head: Head) -> Stand
     }
 }
 
-/// Where a command stands: known by its first token, or by a word and a colon. None where no command begins so.
+/// Where a command stands that is spelled by some tokens of the bytes: known by its first token, or by a word and a colon. None where no command begins so.
+pub fn stand_of_from(bytes: &[u8], tokens: &[Token], origin: usize) -> Option<Stand>
+    requires { StandIn bytes.now origin tokens.now }
+    ensures { (s : Stand) → (result ≡ Some s) ↔ StandsAt (tokens_from bytes.now origin tokens.now) s }
+{
+    let text = Text {
+        bytes,
+        tokens,
+        origin,
+    };
+    match opening_at(&text, 0) {
+        Opening::Plain(head) => Some(stand(head)),
+        Opening::Proof(_) => Some(Stand::Inside),
+        Opening::Label => label_stand(&text),
+        Opening::Nothing => None,
+    }
+}
+
+/// Where a command stands that is spelled by all tokens of the bytes.
 pub fn stand_of(bytes: &[u8], tokens: &[Token]) -> Option<Stand>
     requires { TokensOf bytes.now tokens.now }
     ensures { (s : Stand) → (result ≡ Some s) ↔ StandsAt (tokens_in bytes.now tokens.now) s }
 {
-    let text = whole(bytes, tokens);
-    match opening_at(&text, 0) {
-        Opening::Plain(head) => Some(stand(head)),
-        Opening::Proof(_head) => Some(Stand::Inside),
-        Opening::Label => label_stand(&text),
-        Opening::Nothing => None,
-    }
+    stand_of_from(bytes, tokens, origin(tokens))
 }
 
 /// Where a command that begins with a label stands, if a colon is behind the label.

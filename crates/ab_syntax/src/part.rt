@@ -1,19 +1,35 @@
 //! Parts of commands.
-ghost use Rattle.std.specs.Prelude.{◌≡◌, ◌≢◌};
-ghost use Rattle.ab_grammar.specs.Token.{colon, comma};
-ghost use Rattle.ab_grammar.specs.Language.{Key, Anything};
-ghost use Rattle.ab_grammar.specs.Reading.{Except};
-ghost use Rattle.ab_grammar.specs.CommandForms.{◌▸◌, ◌◂◌};
-ghost use Rattle.ab_grammar.specs.CommandTable.{Name as NameForm, DeclaredName, DeclaredNames};
+ghost use Rattle.std.specs.Prelude.{◌≡◌, ◌≢◌, ℕ, List};
+ghost use Rattle.ab_grammar.specs.Token.{comma};
+ghost use Rattle.ab_grammar.specs.Language.{Key};
+ghost use Rattle.ab_grammar.proofs.Following.{Anything, Except, BeforeStop};
+ghost use Rattle.ab_grammar.specs.CommandForms.{◌◂◌};
+ghost use Rattle.ab_grammar.specs.CommandTable.{Name as NameForm, DeclaredName as DeclaredForm, OptionalName};
 ghost use Rattle.ab_syntax.specs.declared.text.Kind.{Kind};
+ghost use Rattle.ab_syntax.specs.Leaves.{IsTaken};
 ghost use Rattle.ab_syntax.specs.Reader.{IsText, rest, key_of, IsKey, Found};
 
-use crate::leaf::declared_name;
-use crate::list::{add, one};
+use crate::leaf::{AnyName, DeclaredName};
+use crate::list::Item;
+use crate::shown::{Shown, take};
 use crate::stop::Stop;
 use crate::text::{Kind, Text, expect, is_next, name};
 use ab_name::Name;
 use std::alloc::Global;
+
+/// Takes the next token where it is the key, and says whether it is.
+pub(crate) fn takes(text: &Text<'_>, here: &mut usize, key: Kind) -> bool
+    requires text { IsText text.now }
+    requires key { IsKey key }
+    requires some { key ≢ Kind.End }
+    ensures { IsTaken (key_of key) (rest text.now here.old) (rest text.now here.new) result }
+{
+    let there = is_next(text, *here, key);
+    if there {
+        *here += 1;
+    }
+    there
+}
 
 /// Reads a name and a key behind it.
 pub(crate) fn name_and(
@@ -32,43 +48,39 @@ pub(crate) fn name_and(
     Ok(name)
 }
 
-/// Reads `w :`, where w is declared.
-pub(crate) fn declared_and_colon(
+/// Reads a name, where one is there.
+pub(crate) fn optional_name(
     alloc: Global,
     text: &Text<'_>,
     here: &mut usize,
-) -> Result<Name, Stop>
+) -> Result<Option<Name>, Stop>
     requires { IsText text.now }
-    ensures { Found (DeclaredName ◂ Key colon) Anything (λ x. x) (rest text.now here.old) (rest text.now here.new) result }
+    ensures { Found OptionalName BeforeStop (λ x. x) (rest text.now here.old) (rest text.now here.new) result }
 {
-    let name = declared_name(alloc, text, here)?;
-    expect(text, here, Kind::Colon)?;
-    Ok(name)
-}
-
-/// Reads `, w`.
-fn comma_name(alloc: Global, text: &Text<'_>, here: &mut usize) -> Result<Name, Stop>
-    requires { IsText text.now }
-    ensures { Found (Key comma ▸ DeclaredName) Anything (λ x. x) (rest text.now here.old) (rest text.now here.new) result }
-{
-    expect(text, here, Kind::Comma)?;
-    declared_name(alloc, text, here)
-}
-
-/// Reads `w, .., w`, where each w is declared.
-pub(crate) fn declared_names(
-    alloc: Global,
-    text: &Text<'_>,
-    here: &mut usize,
-) -> Result<Vec<Name>, Stop>
-    requires { IsText text.now }
-    ensures { Found DeclaredNames (Except comma) (λ names. names.items) (rest text.now here.old) (rest text.now here.new) result }
-{
-    let first = declared_name(alloc, text, here)?;
-    let mut names = one(alloc, first)?;
-    'more: while is_next(text, *here, Kind::Comma) {
-        let name = comma_name(alloc, text, here)?;
-        add(&mut names, name)?;
+    match AnyName::seen(alloc, text, *here)? {
+        Some(name) => {
+            *here += 1;
+            Ok(Some(name))
+        }
+        None => Ok(None),
     }
-    Ok(names)
+}
+
+impl Item for Name {
+    ghost Meant = { List ℕ };
+
+    ghost meant = { λ name. name };
+
+    ghost form = { DeclaredForm };
+
+    ghost sign = { comma };
+
+    ghost ends = { Anything };
+
+    ghost list_ends = { Except comma };
+
+    /// Reads a name that is declared.
+    fn item(alloc: Global, text: &Text<'_>, here: &mut usize) -> Result<Name, Stop> {
+        take::<DeclaredName>(alloc, text, here)
+    }
 }

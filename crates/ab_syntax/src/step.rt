@@ -1,14 +1,16 @@
 //! What each token does to an expression that is being read.
-ghost use Rattle.std.specs.Prelude.{◌≡◌, ℕ, List, None, IfOk, map};
-ghost use Rattle.ab_grammar.specs.Token.{Token};
+ghost use Rattle.std.specs.Prelude.{◌≡◌, IfOk, map};
+ghost use Rattle.ab_grammar.specs.Token as grammatical;
 ghost use Rattle.ab_grammar.specs.Tree as tree;
-ghost use Rattle.ab_grammar.specs.Machine as machine;
+ghost use Rattle.ab_grammar.proofs.Machine as machine;
 ghost use Rattle.ab_syntax.specs.Trees.{tree_of};
-ghost use Rattle.ab_syntax.specs.Reader.{meaning, seen, IsSpelled};
+ghost use Rattle.ab_syntax.specs.Reader.{seen, IsSpelled};
+ghost use Rattle.ab_syntax.specs.Steps.{begins};
 ghost use Rattle.ab_syntax.specs.Frames.{frames_of};
-ghost use Rattle.ab_syntax.specs.States.{state_in, IsGone, IsNext, IsClosed, IsSign};
+ghost use Rattle.ab_syntax.specs.States.{state_in, IsNext, IsClosed, IsSign};
 
 use crate::binding::{step_binder_colon, step_binder_name, step_binder_type, step_binders};
+use crate::build::boxed;
 use crate::closing::close;
 use crate::frame::{Bracket, Context, Frame, Inside, grow, pop, push, shut};
 use crate::machine::{Next, State, start_argument, start_item, start_operand};
@@ -35,19 +37,35 @@ fn sign_of(kind: Kind) -> Option<Infix>
     }
 }
 
+/// Whether a token can begin an argument.
+fn begins_argument(kind: Kind) -> bool
+    ensures { result ≡ begins kind }
+{
+    match kind {
+        Kind::Word
+        | Kind::Truth
+        | Kind::Forall
+        | Kind::Exists
+        | Kind::Nabla
+        | Kind::LeftParen
+        | Kind::LeftBrace => true,
+        _ => false,
+    }
+}
+
 /// A sign behind an operand.
 fn step_sign(
     alloc: Global,
     frames: &mut Vec<Frame>,
-    operand: Parse,
+    operand: Box<Parse>,
     sign: Infix,
-) -> Result<Option<State>, AllocError>
-    ensures { IfOk result (λ r. IsGone (machine.want_in (machine.pop sign (tree_of operand) (frames_of frames.old))) (frames_of frames.new) r) }
+) -> Result<Next, AllocError>
+    ensures { IfOk result (λ r. IsNext (machine.enclosed (frames_of frames.old) (tree_of operand.value)) (grammatical.sign sign) (frames_of frames.new) r) }
 {
     if pop(alloc, sign, operand, frames)? {
-        Ok(Some(State::Want))
+        Ok(Next::On(State::Want))
     } else {
-        Ok(None)
+        Ok(Next::Wrong)
     }
 }
 
@@ -55,15 +73,15 @@ fn step_sign(
 fn step_closer(
     alloc: Global,
     frames: &mut Vec<Frame>,
-    operand: Parse,
-    kind: Kind,
+    operand: Box<Parse>,
+    token: Seen<'_>,
 ) -> Result<Next, AllocError>
-    ensures { IfOk result (λ r. (w : List ℕ) (p : ℕ) → IsClosed (machine.shut (tree_of operand) (frames_of frames.old)) (meaning kind w p) (frames_of frames.new) r) }
+    ensures { IfOk result (λ r. IsClosed (machine.shut (tree_of operand.value) (frames_of frames.old)) (seen token.entry) (frames_of frames.new) r) }
 {
     let Inside { inner, bracket } = shut(alloc, frames, operand)?;
     match bracket {
         None => Ok(Next::Done(inner)),
-        Some(bracket) => Ok(gone(close(alloc, frames, bracket, inner, kind)?)),
+        Some(bracket) => close(alloc, frames, bracket, inner, token),
     }
 }
 
@@ -71,60 +89,35 @@ fn step_closer(
 fn step_enclosed(
     alloc: Global,
     frames: &mut Vec<Frame>,
-    operand: Parse,
-    kind: Kind,
+    operand: Box<Parse>,
+    token: Seen<'_>,
 ) -> Result<Next, AllocError>
-    ensures { IfOk result (λ r. (w : List ℕ) (p : ℕ) → IsNext (machine.enclosed (frames_of frames.old) (tree_of operand)) (meaning kind w p) (frames_of frames.new) r) }
+    ensures { IfOk result (λ r. IsNext (machine.enclosed (frames_of frames.old) (tree_of operand.value)) (seen token.entry) (frames_of frames.new) r) }
 {
-    if ends(kind) {
-        return step_closer(alloc, frames, operand, kind);
+    if ends(token.kind) {
+        return step_closer(alloc, frames, operand, token);
     }
-    match sign_of(kind) {
-        Some(sign) => match step_sign(alloc, frames, operand, sign)? {
-            Some(state) => Ok(Next::On(state)),
-            None => Ok(Next::Wrong),
-        },
+    match sign_of(token.kind) {
+        Some(sign) => step_sign(alloc, frames, operand, sign),
         None => Ok(Next::Wrong),
     }
-}
-
-/// An argument begins behind an operand.
-fn step_argument(
-    alloc: Global,
-    frames: &mut Vec<Frame>,
-    operand: Parse,
-    token: Seen<'_>,
-) -> Result<Option<State>, AllocError>
-    requires { IsSpelled token }
-    ensures { IfOk result (λ r. IsGone (machine.starts (machine.grow (frames_of frames.old) (tree_of operand)) (seen token.entry)) (frames_of frames.new) r) }
-{
-    grow(alloc, frames, operand)?;
-    start_argument(alloc, frames, token)
 }
 
 /// A token behind an operand that is no name alone.
 fn step_have(
     alloc: Global,
     frames: &mut Vec<Frame>,
-    operand: Parse,
+    operand: Box<Parse>,
     token: Seen<'_>,
 ) -> Result<Next, AllocError>
     requires { IsSpelled token }
-    ensures { IfOk result (λ r. IsNext (machine.have machine.compound (frames_of frames.old) (tree_of operand)) (seen token.entry) (frames_of frames.new) r) }
+    ensures { IfOk result (λ r. IsNext (machine.have machine.compound (frames_of frames.old) (tree_of operand.value)) (seen token.entry) (frames_of frames.new) r) }
 {
-    match token.kind {
-        Kind::Word
-        | Kind::Truth
-        | Kind::Forall
-        | Kind::Exists
-        | Kind::Nabla
-        | Kind::LeftParen
-        | Kind::LeftBrace => match step_argument(alloc, frames, operand, token)? {
-            Some(state) => Ok(Next::On(state)),
-            None => Ok(Next::Wrong),
-        },
-        _ => step_enclosed(alloc, frames, operand, token.kind),
+    if !begins_argument(token.kind) {
+        return step_enclosed(alloc, frames, operand, token);
     }
+    grow(alloc, frames, operand)?;
+    start_argument(alloc, frames, token)
 }
 
 /// A token behind a name alone.
@@ -144,28 +137,24 @@ fn step_alone(
             Ok(Next::On(State::Want))
         }
         _ => {
-            let operand = Parse::Name(name, place);
+            let operand = boxed(alloc, Parse::Name(name, place))?;
             step_have(alloc, frames, operand, token)
         }
     }
 }
 
 /// A token behind `pi`.
-fn step_pi(
-    alloc: Global,
-    frames: &mut Vec<Frame>,
-    token: Seen<'_>,
-) -> Result<Option<State>, AllocError>
+fn step_pi(alloc: Global, frames: &mut Vec<Frame>, token: Seen<'_>) -> Result<Next, AllocError>
     requires { IsSpelled token }
-    ensures { IfOk result (λ r. IsGone (machine.step_pi (frames_of frames.old) (seen token.entry)) (frames_of frames.new) r) }
+    ensures { IfOk result (λ r. IsNext (machine.pi_want (frames_of frames.old)) (seen token.entry) (frames_of frames.new) r) }
 {
     match token.kind {
-        Kind::Word => Ok(Some(State::PiName(name_of(alloc, token)?, token.place))),
+        Kind::Word => Ok(Next::On(State::PiName(name_of(alloc, token)?, token.place))),
         Kind::LeftParen => {
             push(frames, Frame::Bracket(Bracket::PiParen))?;
-            Ok(Some(State::PiWant))
+            Ok(Next::On(State::PiWant))
         }
-        _ => Ok(None),
+        _ => Ok(Next::Wrong),
     }
 }
 
@@ -174,16 +163,16 @@ fn step_pi_name(
     frames: &mut Vec<Frame>,
     name: Name,
     place: usize,
-    kind: Kind,
-) -> Result<Option<State>, AllocError>
-    ensures { IfOk result (λ r. (w : List ℕ) (p : ℕ) → IsGone (machine.step_pi_name (frames_of frames.old) name place (meaning kind w p)) (frames_of frames.new) r) }
+    token: Seen<'_>,
+) -> Result<Next, AllocError>
+    ensures { IfOk result (λ r. IsNext (machine.pi_name (frames_of frames.old) name place) (seen token.entry) (frames_of frames.new) r) }
 {
-    match kind {
+    match token.kind {
         Kind::Backslash => {
             push(frames, Frame::Abs(name, place))?;
-            Ok(Some(State::Want))
+            Ok(Next::On(State::Want))
         }
-        _ => Ok(None),
+        _ => Ok(Next::Wrong),
     }
 }
 
@@ -191,28 +180,17 @@ fn step_pi_name(
 fn step_focus_end(
     frames: &mut Vec<Frame>,
     context: Context,
-    focus: Parse,
-    kind: Kind,
-) -> Result<Option<State>, AllocError>
-    ensures { IfOk result (λ r. (w : List ℕ) (p : ℕ) → IsGone (machine.step_focus_end (frames_of frames.old) context.place (map tree_of context.items.items) (tree_of focus) (meaning kind w p)) (frames_of frames.new) r) }
+    focus: Box<Parse>,
+    token: Seen<'_>,
+) -> Result<Next, AllocError>
+    ensures { IfOk result (λ r. IsNext (machine.focus_end (frames_of frames.old) context.place (map tree_of context.items.items) (tree_of focus.value)) (seen token.entry) (frames_of frames.new) r) }
 {
-    match kind {
+    match token.kind {
         Kind::Turnstile => {
             push(frames, Frame::Bracket(Bracket::Goal(context, Some(focus))))?;
-            Ok(Some(State::Want))
+            Ok(Next::On(State::Want))
         }
-        _ => Ok(None),
-    }
-}
-
-/// What a token does where no expression can end before it.
-fn gone(state: Option<State>) -> Next
-    ensures next { (s : machine.State) (k : Token) (fs : List machine.Frame) → machine.finish s ≡ None → IsGone (machine.step s k) fs state → IsNext s k fs result }
-    ensures closed { (s : machine.Shut) (k : Token) (fs : List machine.Frame) → machine.whole_of s.inner s.below ≡ None → IsGone (machine.closing s.below s.inner k) fs state → IsClosed s k fs result }
-{
-    match state {
-        Some(state) => Next::On(state),
-        None => Next::Wrong,
+        _ => Ok(Next::Wrong),
     }
 }
 
@@ -227,23 +205,21 @@ pub(crate) fn step(
     ensures { IfOk result (λ r. IsNext (state_in (frames_of frames.old) state) (seen token.entry) (frames_of frames.new) r) }
 {
     match state {
-        State::Want => Ok(gone(start_operand(alloc, frames, token)?)),
+        State::Want => start_operand(alloc, frames, token),
         State::Alone(name, place) => step_alone(alloc, frames, name, place, token),
         State::Have(operand) => step_have(alloc, frames, operand, token),
-        State::PiWant => Ok(gone(step_pi(alloc, frames, token)?)),
-        State::PiName(name, place) => Ok(gone(step_pi_name(frames, name, place, token.kind)?)),
-        State::Enclosed(operand) => step_enclosed(alloc, frames, operand, token.kind),
-        State::Item(context) => Ok(gone(start_item(alloc, frames, context, token)?)),
-        State::FocusEnd(context, focus) => {
-            Ok(gone(step_focus_end(frames, context, focus, token.kind)?))
-        }
-        State::Binders(prefix) => Ok(gone(step_binders(alloc, frames, prefix, token)?)),
-        State::BinderName(prefix) => Ok(gone(step_binder_name(alloc, prefix, token)?)),
+        State::PiWant => step_pi(alloc, frames, token),
+        State::PiName(name, place) => step_pi_name(frames, name, place, token),
+        State::Enclosed(operand) => step_enclosed(alloc, frames, operand, token),
+        State::Item(context) => start_item(alloc, frames, context, token),
+        State::FocusEnd(context, focus) => step_focus_end(frames, context, focus, token),
+        State::Binders(prefix) => step_binders(alloc, frames, prefix, token),
+        State::BinderName(prefix) => step_binder_name(alloc, prefix, token),
         State::BinderColon(prefix, name, place) => {
-            Ok(gone(step_binder_colon(alloc, prefix, name, place, token.kind)))
+            Ok(step_binder_colon(alloc, prefix, name, place, token))
         }
-        State::BinderType(prefix, name, place, types, state) => Ok(gone(step_binder_type(
-            alloc, prefix, name, place, types, state, token,
-        )?)),
+        State::BinderType(prefix, name, place, types, state) => {
+            step_binder_type(alloc, prefix, name, place, types, state, token)
+        }
     }
 }

@@ -1,14 +1,14 @@
 //! Types, read from tokens by a stack of what isn't finished yet.
-ghost use Rattle.std.specs.Prelude.{◌≡◌, ◌<◌, ◌∷◌, ℕ, List, [], IfOk, IsTrue, MatchOption, vec_len};
-ghost use Rattle.ab_grammar.specs.Language.{TypeExpression, Follower, Followed};
-ghost use Rattle.ab_grammar.specs.Machine as machine;
-ghost use Rattle.ab_grammar.specs.Tree as tree;
-ghost use Rattle.ab_grammar.specs.Token as Grammatical;
+ghost use Rattle.std.specs.Prelude.{◌≡◌, ◌<◌, ◌∷◌, [], true, IfOk, MatchOption, vec_len};
+ghost use Rattle.ab_grammar.specs.Language.{TypeExpression};
+ghost use Rattle.ab_grammar.proofs.Following.{Followed};
+ghost use Rattle.ab_grammar.proofs.Machine as machine;
 ghost use Rattle.ab_syntax.specs.Trees.{type_of};
-ghost use Rattle.ab_syntax.specs.Reader.{IsText, meaning, seen, IsSpelled, rest, Found};
+ghost use Rattle.ab_syntax.specs.Reader.{IsText, seen, IsSpelled, rest, Found};
 ghost use Rattle.ab_syntax.specs.Steps.{follows, type_frame_of, type_frames_of, type_shut_of, type_state, IsTypeNext};
 
-use crate::nesting::{LIMIT, nest, outside};
+use crate::build::boxed;
+use crate::nesting::{nested, outside};
 use crate::stop::Stop;
 use crate::text::{Kind, Seen, Text, look, name_of};
 use crate::tree::TypeParse;
@@ -20,7 +20,7 @@ pub(crate) enum TypeFrame {
     /// An open parenthesis.
     Paren,
     /// What stands left of an arrow.
-    Arrow(TypeParse),
+    Arrow(Box<TypeParse>),
 }
 
 /// What was read last, and what must come.
@@ -29,7 +29,7 @@ pub(crate) enum TypeState {
     /// A type must come.
     Want,
     /// A type stands there.
-    Have(TypeParse),
+    Have(Box<TypeParse>),
 }
 
 /// What a token does.
@@ -38,7 +38,7 @@ pub(crate) enum TypeNext {
     /// The type goes on.
     On(TypeState),
     /// The type ended before the token.
-    Done(TypeParse),
+    Done(Box<TypeParse>),
     /// No type goes on with the token, and none that ended before it is followed by it.
     Wrong,
 }
@@ -46,7 +46,7 @@ pub(crate) enum TypeNext {
 /// A type up to its innermost parenthesis, and whether there is one.
 #[derive(Drop)]
 pub(crate) struct TypeInside {
-    pub(crate) inner: TypeParse,
+    pub(crate) inner: Box<TypeParse>,
     pub(crate) enclosed: bool,
 }
 
@@ -96,38 +96,27 @@ fn take_type_frame(frames: &mut Vec<TypeFrame>) -> Option<TypeFrame>
     }
 }
 
-/// `left -> right`
-fn arrow(alloc: Global, left: TypeParse, right: TypeParse) -> Result<TypeParse, AllocError>
-    ensures { IfOk result (λ r. type_of r ≡ tree.arrow (type_of left) (type_of right)) }
-{
-    Ok(TypeParse::Arrow(Box::new(alloc, left)?, Box::new(alloc, right)?))
-}
-
 /// The type up to the innermost parenthesis, which is taken away.
 fn shut_type(
     alloc: Global,
     frames: &mut Vec<TypeFrame>,
-    last: TypeParse,
+    last: Box<TypeParse>,
 ) -> Result<TypeInside, AllocError>
-    ensures { IfOk result (λ r. machine.type_shut (type_of last) (type_frames_of frames.old) ≡ type_shut_of r (type_frames_of frames.new)) }
+    ensures { IfOk result (λ r. machine.type_shut (type_of last.value) (type_frames_of frames.old) ≡ type_shut_of r (type_frames_of frames.new)) }
 {
-    let mut last = last;
+    let mut inner = last;
     loop {
         match take_type_frame(frames) {
             Some(TypeFrame::Arrow(left)) => {
-                last = arrow(alloc, left, last)?;
+                inner = boxed(alloc, TypeParse::Arrow(left, inner))?;
             }
             Some(TypeFrame::Paren) => {
-                return Ok(TypeInside {
-                    inner: last,
-                    enclosed: true,
-                });
+                let enclosed = true;
+                return Ok(TypeInside { inner, enclosed });
             }
             None => {
-                return Ok(TypeInside {
-                    inner: last,
-                    enclosed: false,
-                });
+                let enclosed = false;
+                return Ok(TypeInside { inner, enclosed });
             }
         }
     }
@@ -144,7 +133,8 @@ fn begin_type(
 {
     match token.kind {
         Kind::Word => {
-            let base = TypeParse::Base(name_of(alloc, token)?, token.place);
+            let name = name_of(alloc, token)?;
+            let base = boxed(alloc, TypeParse::Base(name, token.place))?;
             Ok(TypeNext::On(TypeState::Have(base)))
         }
         Kind::LeftParen => {
@@ -155,51 +145,23 @@ fn begin_type(
     }
 }
 
-/// `)` behind a type.
-fn close_type(
-    alloc: Global,
-    frames: &mut Vec<TypeFrame>,
-    last: TypeParse,
-) -> Result<TypeNext, AllocError>
-    ensures { IfOk result (λ r. IsTypeNext (machine.type_have (type_frames_of frames.old) (type_of last)) Grammatical.right_paren (type_frames_of frames.new) r) }
-{
-    let TypeInside { inner, enclosed } = shut_type(alloc, frames, last)?;
-    if enclosed {
-        Ok(TypeNext::On(TypeState::Have(inner)))
-    } else {
-        Ok(TypeNext::Done(inner))
-    }
-}
-
-/// What can follow a type, but doesn't go on with it, behind one.
+/// What can follow a type, behind one.
 fn end_type(
     alloc: Global,
     frames: &mut Vec<TypeFrame>,
-    last: TypeParse,
+    last: Box<TypeParse>,
+    token: Seen<'_>,
 ) -> Result<TypeNext, AllocError>
-    ensures { IfOk result (λ r. IsTypeNext (machine.type_have (type_frames_of frames.old) (type_of last)) Grammatical.comma (type_frames_of frames.new) r) }
+    requires { follows token.kind ≡ true }
+    ensures { IfOk result (λ r. IsTypeNext (machine.type_have (type_frames_of frames.old) (type_of last.value)) (seen token.entry) (type_frames_of frames.new) r) }
 {
     let TypeInside { inner, enclosed } = shut_type(alloc, frames, last)?;
-    if enclosed {
-        Ok(TypeNext::Wrong)
-    } else {
-        Ok(TypeNext::Done(inner))
+    if !enclosed {
+        return Ok(TypeNext::Done(inner));
     }
-}
-
-/// A token behind a type, other than `->` and `)`.
-fn leave_type(
-    alloc: Global,
-    frames: &mut Vec<TypeFrame>,
-    last: TypeParse,
-    kind: Kind,
-) -> Result<TypeNext, AllocError>
-    ensures { IfOk result (λ r. (w : List ℕ) (p : ℕ) → machine.type_step (machine.type_have (type_frames_of frames.old) (type_of last)) (meaning kind w p) ≡ machine.type_step (machine.type_have (type_frames_of frames.old) (type_of last)) Grammatical.comma → IsTypeNext (machine.type_have (type_frames_of frames.old) (type_of last)) (meaning kind w p) (type_frames_of frames.new) r) }
-{
-    if ends(kind) {
-        end_type(alloc, frames, last)
-    } else {
-        Ok(TypeNext::Wrong)
+    match token.kind {
+        Kind::RightParen => Ok(TypeNext::On(TypeState::Have(inner))),
+        _ => Ok(TypeNext::Wrong),
     }
 }
 
@@ -207,18 +169,20 @@ fn leave_type(
 fn go_on_with_type(
     alloc: Global,
     frames: &mut Vec<TypeFrame>,
-    last: TypeParse,
+    last: Box<TypeParse>,
     token: Seen<'_>,
 ) -> Result<TypeNext, AllocError>
-    ensures { IfOk result (λ r. IsTypeNext (machine.type_have (type_frames_of frames.old) (type_of last)) (seen token.entry) (type_frames_of frames.new) r) }
+    ensures { IfOk result (λ r. IsTypeNext (machine.type_have (type_frames_of frames.old) (type_of last.value)) (seen token.entry) (type_frames_of frames.new) r) }
 {
+    if ends(token.kind) {
+        return end_type(alloc, frames, last, token);
+    }
     match token.kind {
         Kind::Arrow => {
             push_type(frames, TypeFrame::Arrow(last))?;
             Ok(TypeNext::On(TypeState::Want))
         }
-        Kind::RightParen => close_type(alloc, frames, last),
-        _ => leave_type(alloc, frames, last, token.kind),
+        _ => Ok(TypeNext::Wrong),
     }
 }
 
@@ -246,17 +210,13 @@ pub(crate) fn read_type(alloc: Global, text: &Text<'_>, here: &mut usize) -> Res
     let mut frames = Vec::new(alloc);
     let mut state = TypeState::Want;
     let mut layers = outside(alloc);
-    'tokens: loop {
+    loop {
         let token = look(text, *here);
-        nest(&mut layers, token.kind)?;
         match step_type(alloc, &mut frames, state, token)? {
-            TypeNext::Done(found) => return Ok(found),
+            TypeNext::Done(found) => return Ok(Box::into_inner(found)),
             TypeNext::Wrong => return Err(Stop::Syntax),
             TypeNext::On(next) => {
-                if layers.depth > LIMIT {
-                    return Err(Stop::TooNested);
-                }
-                state = next;
+                state = nested(&mut layers, token.kind, next)?;
                 *here += 1;
             }
         }

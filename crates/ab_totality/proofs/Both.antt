@@ -3,8 +3,8 @@ use Rattle.std.proofs.Common.{List}
 use Rattle.ab_grammar.specs.Token.{Token}
 use Rattle.ab_grammar.specs.Nesting.{outside}
 use Rattle.ab_grammar.specs.Language.{Expression, TypeExpression}
-use Rattle.ab_grammar.specs.Language.{Followed}
-use Rattle.ab_grammar.specs.Machine.{step, finish, start, type_step, type_finish, type_start}
+use Rattle.ab_grammar.proofs.Following.{Followed}
+use Rattle.ab_grammar.proofs.Machine.{step, finish, start, type_step, type_finish, type_start}
 use Rattle.ab_grammar.proofs.Readers.{SoFar, at_start, goes, done, wrong, too_deep, other_stuck, TypeSoFar, type_at_start, type_goes, type_done, type_wrong, type_too_deep, type_other_stuck}
 use Rattle.ab_totality.specs.Answers.{HasAnswer, AreWritten}
 use Rattle.ab_totality.proofs.Outcomes.{Total}

@@ -5,16 +5,14 @@ use Rattle.ab_grammar.specs.declared.head.Head.{Head}
 use Rattle.ab_grammar.specs.declared.head.Head.TheVariants as head
 use Rattle.ab_grammar.specs.declared.head.ProofHead.{ProofHead}
 use Rattle.ab_grammar.specs.declared.head.ProofHead.TheVariants as proof
-use Rattle.ab_grammar.specs.Token.{Token, word, sign, left_paren, right_paren, comma, colon, other, stop, semicolon, becomes, star, by_word, to_word, with_word, on_word, type_word, end}
+use Rattle.ab_grammar.specs.Token.{Token, word, sign, left_paren, right_paren, comma, colon, other, stop, semicolon, becomes, star, by_word, to_word, with_word, on_word, type_word, end, first}
 use Rattle.ab_grammar.specs.Nesting.{Spot, lone}
 use Rattle.ab_grammar.specs.Language.{Key, the_key, Expression, TypeExpression}
 use Rattle.ab_grammar.specs.CommandTrees as tree
 use Rattle.ab_grammar.specs.CommandForms.{One, joined, Optional, Many, no_more, OneOrMore, ◌▸◌, ◌◂◌}
 use Rattle.ab_grammar.specs.CommandTable.{Row, ProofRow, Name, DeclaredName, DeclaredNames, Word, Sign, Definiendum, Definienda, ClauseBody, ClauseForm, Clauses, Definition, InstanceForm, InstanceList, Instances, Arguments, Keep, Nominals, OptionalName, Switch, ShowsName, ShowsDeclared, ShowsNominal, ShowsArgument, ShowsNumber, ShowsDepth, ShowsText, StandsAnywhere, takes_label, ShowsLabel, LabelledForm, CommandForm, CommandText}
-use Rattle.ab_grammar.specs.Reading.{first, Comes, Except, Without}
-use Rattle.ab_grammar.specs.Language.{Anything, Followed}
-use Rattle.ab_grammar.specs.CommandTable.{BeforeStop, ClauseEnds, ArgumentsEnd}
-use Rattle.ab_grammar.specs.Reading.{ungrammatical, too_nested}
+use Rattle.ab_grammar.proofs.Following.{Comes, Except, Without, Anything, Followed, BeforeStop, ClauseEnds, ArgumentsEnd}
+use Rattle.ab_grammar.proofs.Reading.{ungrammatical, too_nested}
 use Rattle.ab_grammar.proofs.Joining.{Example}
 use Rattle.ab_grammar.proofs.Shown.{one_name, name_example, one_declared, declared_example, one_nominal, nominal_example, one_argument, argument_example, one_number, number_example, one_depth, depth_example, one_text, text_example, one_placed, placed_example}
 use Rattle.ab_grammar.proofs.Looping.{token_apart}

@@ -1,11 +1,11 @@
 -- What follows the items of lists.
 use Rattle.std.proofs.Common.{◌≡◌, ℕ, List, refl, sym, ◌∙◌, ◌⊎◌, inl, inr}
-use Rattle.ab_grammar.specs.Token.{Token, word, comma, other, stop, semicolon, by_word, with_word}
-use Rattle.ab_grammar.specs.Language.{Key, Follow, Followed, Anything, by_comma, by_other}
-use Rattle.ab_grammar.specs.Reading.{first, Comes}
+use Rattle.ab_grammar.specs.Token.{Token, word, comma, other, stop, semicolon, by_word, with_word, first}
+use Rattle.ab_grammar.specs.Language.{Key}
+use Rattle.ab_grammar.proofs.Following.{Follow, Followed, Anything, by_comma, by_other, Comes, BeforeStop, ClauseEnds, ArgumentsEnd}
 use Rattle.ab_grammar.specs.CommandTrees as tree
 use Rattle.ab_grammar.specs.CommandForms.{Many, ◌▸◌}
-use Rattle.ab_grammar.specs.CommandTable.{BeforeStop, ClauseEnds, ArgumentsEnd, Definiendum, InstanceForm, ClauseForm, ShowsName, shows_name, ShowsArgument, shows_named, shows_hole}
+use Rattle.ab_grammar.specs.CommandTable.{Definiendum, InstanceForm, ClauseForm, ShowsName, shows_name, ShowsArgument, shows_named, shows_hole}
 use Rattle.ab_grammar.proofs.Looping.{follows_item}
 use Rattle.ab_grammar.proofs.Continuing.{Apart}
 use Rattle.ab_grammar.proofs.Beginnings.{followed_by, followed_by_stop}

@@ -1,10 +1,9 @@
 -- What a reader of one part finds at the front of tokens and their end: a text of the part, or why there is none. A form is total
 -- where something is found for all tokens.
 use Rattle.std.proofs.Common.{◌≡◌, List, [], ◌∷◌}
-use Rattle.ab_grammar.specs.Token.{Token, other, end}
+use Rattle.ab_grammar.specs.Token.{Token, other, end, first}
 use Rattle.ab_grammar.specs.Nesting.{Spot}
-use Rattle.ab_grammar.specs.Reading.{first}
-use Rattle.ab_grammar.specs.Reading.{ReadsOff, StopsAt, NestsAt, ungrammatical, too_nested}
+use Rattle.ab_grammar.proofs.Reading.{ReadsOff, StopsAt, NestsAt, ungrammatical, too_nested}
 use Rattle.ab_grammar.proofs.Choosing.{fewer_reads, fewer_refuses}
 use Rattle.ab_grammar.proofs.Continuing.{Continues}
 use Rattle.ab_grammar.proofs.Rows.{TwoParts}

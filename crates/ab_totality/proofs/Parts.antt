@@ -1,12 +1,11 @@
 -- Tokens, keys, and rows of them: something is found of each.
 use Rattle.std.proofs.Common.{◌≡◌, ℕ, zero, suc, ◌≤◌, List, [], ◌∷◌, ◌++◌, length, refl, ap, sym, subst, ◌⊎◌, inl, inr, arith, length-append}
-use Rattle.ab_grammar.specs.Token.{Token, other, end}
+use Rattle.ab_grammar.specs.Token.{Token, other, end, first}
 use Rattle.ab_grammar.specs.Nesting.{Spot}
 use Rattle.ab_grammar.specs.Language.{tokens_of, Key}
 use Rattle.ab_grammar.specs.CommandForms.{One, Many, OneOrMore, Separated, ◌▸◌}
-use Rattle.ab_grammar.specs.Reading.{first}
-use Rattle.ab_grammar.specs.Language.{Follow, Anything}
-use Rattle.ab_grammar.specs.Reading.{ReadsOff, ungrammatical, too_nested}
+use Rattle.ab_grammar.proofs.Following.{Follow, Anything}
+use Rattle.ab_grammar.proofs.Reading.{ReadsOff, ungrammatical, too_nested}
 use Rattle.ab_grammar.proofs.Joining.{Example}
 use Rattle.ab_grammar.proofs.Shown.{ShowsOne}
 use Rattle.ab_grammar.proofs.Choosing.{one_reads, one_stops, key_reads, key_stops, fewer_reads}

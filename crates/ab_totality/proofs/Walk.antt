@@ -1,12 +1,11 @@
 -- A machine that reads a language goes through all tokens, or stops at one: what is found is found there. And what is found of a
 -- language in front of the end is the answer of all tokens.
 use Rattle.std.proofs.Common.{◌≡◌, ℕ, zero, suc, ◌+◌, ◌<◌, ◌≤◌, List, [], ◌∷◌, ◌++◌, Option, Some, None, length, drop, refl, ap, sym, ◌∙◌, subst, length-append, ◌⊎◌, inl, inr, arith}
-use Rattle.ab_grammar.specs.Token.{Token, Other, word, truth, quantifier, pi_word, sign, left_paren, right_paren, left_brace, right_brace, left_bracket, right_bracket, turnstile, backslash, comma, colon, other, end}
+use Rattle.ab_grammar.specs.Token.{Token, Other, word, truth, quantifier, pi_word, sign, left_paren, right_paren, left_brace, right_brace, left_bracket, right_bracket, turnstile, backslash, comma, colon, other, end, first}
 use Rattle.ab_grammar.specs.Nesting.{Spot, Layer, nest, depth_of, limit}
 use Rattle.ab_grammar.specs.Language.{tokens_of}
-use Rattle.ab_grammar.specs.Reading.{first}
-use Rattle.ab_grammar.specs.Language.{Follower, by_right_paren, by_right_brace, by_right_bracket, by_turnstile, by_comma, by_colon, by_other, Followed}
-use Rattle.ab_grammar.specs.Reading.{ReadsOff, StopsAt, NestsAt}
+use Rattle.ab_grammar.proofs.Following.{Follower, by_right_paren, by_right_brace, by_right_bracket, by_turnstile, by_comma, by_colon, by_other, Followed}
+use Rattle.ab_grammar.proofs.Reading.{ReadsOff, StopsAt, NestsAt}
 use Rattle.ab_grammar.proofs.Lifting.{NoEnd}
 use Rattle.ab_grammar.proofs.WholeTexts.{all_read, more_behind, stopped, nested}
 use Rattle.ab_totality.specs.Answers.{HasAnswer, accepted, refused, too_nested, AreWritten}

@@ -5,6 +5,8 @@ pub mod Narrowed
 pub mod Put
 pub mod Pruned
 pub mod Losing
+pub mod Without
+pub mod Walked
 pub mod Other
 pub mod Joined
 pub mod Solved

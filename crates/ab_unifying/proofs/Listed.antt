@@ -1,5 +1,5 @@
 -- Lists of cells, as variables.
-use Rattle.std.proofs.Common.{◌≡◌, ◌⊎◌, inl, inr, ℕ, ◌+◌, ◌≤◌, List, [], ◌∷◌, ◌++◌, map, length, take, get_or, slice_index_or, Bool, true, false, cond, not, ◌==◌, refl, sym, ◌∙◌, ap, subst, arith}
+use Rattle.std.proofs.Common.{◌≡◌, ◌⊎◌, inl, inr, ℕ, List, [], ◌∷◌, map, Bool, true, false, cond, not, ◌==◌, refl, sym, ◌∙◌, ap, subst}
 use Rattle.std.specs.Prelude.{All, Contains}
 use Rattle.std.specs.Cmp.{unsigned_Decides}
 use Rattle.std.proofs.lemmas.Bool.{false≢true, false_from_ne_true}
@@ -13,7 +13,6 @@ use Rattle.ab_store.specs.declared.node.CellId.{CellId}
 use Rattle.ab_store.specs.Trees.{Contents}
 use Rattle.ab_store.specs.Reading.{cell_variable}
 use Rattle.ab_solve.specs.Replacing.{without}
-use Rattle.ab_solve.specs.Solving.{is_older}
 use Rattle.ab_unifying.specs.Changed.{others_than}
 
 pub same_cell : (c d : CellId) → c.0 ≡ d.0 → c ≡ d
@@ -68,36 +67,3 @@ all_others P c (e ∷ es) all = go (e.0 == c.0) (all_others P c es (All-tail P e
     go : (b : Bool) → All P (others_than c es) → All P (cond (not b) (e ∷ others_than c es) (others_than c es))
     go true rest = rest
     go false rest = All-cons P e (others_than c es) (All-head P e es all) rest
-
-others_append : (c : CellId) (ds es : List CellId) → others_than c (ds ++ es) ≡ others_than c ds ++ others_than c es
-others_append c [] es = refl
-others_append c (d ∷ ds) es = go (d.0 == c.0) (others_append c ds es)
-  where
-    go : (b : Bool) → others_than c (ds ++ es) ≡ others_than c ds ++ others_than c es → cond (not b) (d ∷ others_than c (ds ++ es)) (others_than c (ds ++ es)) ≡ cond (not b) (d ∷ others_than c ds) (others_than c ds) ++ others_than c es
-    go true e = e
-    go false e = ap (λ l. d ∷ l) e
-
--- one cell more is looked at
-pub other_next : (c : CellId) (ds : List CellId) (i : ℕ) (d : CellId) (b : Bool) → (b ≡ ((get_or ds i d).0 == c.0)) → take (i + 1) ds ≡ take i ds ++ get_or ds i d ∷ [] → others_than c (take (i + 1) ds) ≡ others_than c (take i ds) ++ cond (not b) (get_or ds i d ∷ []) []
-other_next c ds i d b e step = ap (others_than c) step ∙ others_append c (take i ds) (get_or ds i d ∷ []) ∙ ap (λ k. others_than c (take i ds) ++ cond (not k) (get_or ds i d ∷ []) []) (sym e)
-
--- which of two cells comes first, by the first cell of the list
-pub older_first : (types : Table) (store : Contents) (cells : List CellId) (a b d : CellId) → 1 ≤ length cells → ((slice_index_or cells 0 d).0 == a.0) ≡ true
-    → not ((slice_index_or cells 0 d).0 == b.0) ≡ is_older (map (cell_variable types store) cells) (cell_variable types store a) (cell_variable types store b)
-older_first types store [] a b d l e = absurd (omega (arith, l))
-older_first types store (c ∷ cs) a b d l e =
-    let u = cell_variable types store a in
-    let v = cell_variable types store b in
-    let w = cell_variable types store c in
-    ap not (sym (one_test types store c b))
-    ∙ sym (ap (λ k. cond k (not (same_numbered w v)) (cond (same_numbered w v) false (is_older (map (cell_variable types store) cs) u v))) (one_test types store c a ∙ e))
-
-pub older_second : (types : Table) (store : Contents) (cells : List CellId) (a b d : CellId) → 1 ≤ length cells → ((slice_index_or cells 0 d).0 == a.0) ≡ false → ((slice_index_or cells 0 d).0 == b.0) ≡ true
-    → false ≡ is_older (map (cell_variable types store) cells) (cell_variable types store a) (cell_variable types store b)
-older_second types store [] a b d l e f = absurd (omega (arith, l))
-older_second types store (c ∷ cs) a b d l e f =
-    let u = cell_variable types store a in
-    let v = cell_variable types store b in
-    let w = cell_variable types store c in
-    sym (ap (λ k. cond k (not (same_numbered w v)) (cond (same_numbered w v) false (is_older (map (cell_variable types store) cs) u v))) (one_test types store c a ∙ e)
-    ∙ ap (λ k. cond k false (is_older (map (cell_variable types store) cs) u v)) (one_test types store c b ∙ f))

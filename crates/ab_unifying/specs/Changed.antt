@@ -1,5 +1,5 @@
 -- What rules do to a store: it grows, and cells are bound, so that each term reads as its image.
-use Rattle.std.specs.Prelude.{◌≡◌, ◌⊎◌, ℕ, ◌==◌, not, List, filter, All, Contains}
+use Rattle.std.specs.Prelude.{◌≡◌, ◌⊎◌, ℕ, List, All, Contains}
 use Rattle.ab_term.specs.Types.{Ty}
 use Rattle.ab_term.specs.Terms.{Variable}
 use Rattle.ab_term.specs.Variables.{image, variables, IsTyped}
@@ -16,11 +16,8 @@ use Rattle.ab_store.specs.Bindings.{IsUnbound}
 use Rattle.ab_store.specs.Marks.{HasMark, KeepsMark}
 use Rattle.ab_store.specs.Naming.{HeadIsTyped, IsTypedBy, IsTerm}
 use Rattle.ab_solve.specs.Replacing.{Change}
+pub use Rattle.ab_patterns.specs.Flexible.{others_than}
 use Rattle.ab_unifying.specs.Problem.{cells_read, variables_read}
-
--- the others, in their order
-abbrev pub others_than : CellId → List CellId → List CellId
-others_than c ds = filter (λ d. not (d.0 == c.0)) ds
 
 -- THE STORE GREW, and cells may have been bound: ids and cells stay what they were, and what marks count is as before. The
 -- table got types at most: no kind, no constant

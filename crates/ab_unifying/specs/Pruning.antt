@@ -1,14 +1,23 @@
--- What a walk that prunes keeps of terms that it has been through. Only private contracts speak of this.
+-- What a walk that prunes keeps of terms that it has been through, and what it asks of heads. Only private contracts speak
+-- of this.
 use Rattle.std.specs.Prelude.{◌≡◌, ℕ, ◌+◌, List, map, length, true, codes}
 use Rattle.ab_term.specs.Terms as tree
 use Rattle.ab_types.specs.Entries.{Table}
 use Rattle.ab_store.specs.declared.node.TermId.{TermId}
 use Rattle.ab_store.specs.declared.node.CellId.{CellId}
+use Rattle.ab_store.specs.declared.node.Head.{Head}
+use Rattle.ab_store.specs.declared.node.Head.TheVariants.{Cell}
 use Rattle.ab_store.specs.Trees.{Contents, tree_of}
 use Rattle.ab_store.specs.Reading.{cell_variable}
 use Rattle.ab_patterns.specs.declared.seen.Seen.{Seen}
 use Rattle.ab_patterns.specs.Walking.{has_been, deep}
 use Rattle.ab_solve.specs.Replacing.{Change, pruned}
+use Rattle.ab_unifying.specs.Changed.{IsFree}
+
+-- a cell that the head is, if it is one, may be bound
+abbrev pub HeadIsFree : Contents → Head → Type 0
+HeadIsFree store (Cell c) = IsFree store c
+HeadIsFree store _ = Unit {0}
 
 -- pruning a term that was seen under so many names changes nothing any more; the names are `outer`, under binders
 abbrev pub AllPruned : Table → Contents → List CellId → List (tree.Head ℕ) → Change (List ℕ) → Seen → Type 0

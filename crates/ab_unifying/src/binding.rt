@@ -18,7 +18,6 @@ ghost use Rattle.ab_solve.specs.Solving.{begun, put_in};
 ghost use Rattle.ab_unifying.specs.Problem.{cells_read, variables_read};
 ghost use Rattle.ab_unifying.specs.Changed.{Grows, IsFree, Changed, others_than, AreNames};
 
-use crate::listing::without;
 use ab_patterns::{FlexibleCells, applied};
 use ab_store::{CellId, Head, Store, TermId};
 use ab_types::{Steps, TypeTable};
@@ -30,7 +29,6 @@ pub(crate) fn bind<L>(
     alloc: Global,
     types: &TypeTable,
     store: &mut Store,
-    flexible: &FlexibleCells,
     cell: CellId,
     names: &[Head],
     term: TermId,
@@ -47,15 +45,14 @@ pub(crate) fn bind<L>(
         (type_of types.now (cell_of store.old cell).ty) }
     ensures grows { Grows types.now store.old types.now store.new }
     ensures steps { steps.old ≤ steps.new }
-    ensures changed { OnOk result ((T : Table) (S : Contents) (F : List CellId) (c : Change (List ℕ)) →
-        Changed T S (others_than cell F) c types.now store.old flexible.now.items → Contains F cell → ¬ Contains flexible.now.items cell →
+    ensures changed { OnOk result ((T : Table) (S : Contents) (F flexible : List CellId) (c : Change (List ℕ)) →
+        Changed T S (others_than cell F) c types.now store.old flexible → Contains F cell → ¬ Contains flexible cell →
         Changed T S F (record {
           cells = c.cells;
           flexible = c.flexible;
           pairs = composition same_number c.pairs (one (codes "x") (cell_variable types.now store.old cell) (map (head_reading types.now store.old) names.now) (tree_of types.now store.old term));
-        }) types.now store.new flexible.now.items) }
+        }) types.now store.new flexible) }
 {
-    let _ = flexible;
     put(alloc, types, store, cell, names, term, steps)
 }
 
@@ -90,9 +87,8 @@ pub(crate) fn bind_to_cell<L>(
         Changed types.now store.old flexible.old.items (put_in (codes "x") cells ys y (map (head_reading types.now store.old) names.now)
         (solve.applied (codes "x") (cell_variable types.now store.old other) (map (head_reading types.now store.old) others.now)) (begun (codes "x") cells ys y)) types.now store.new flexible.new.items) }
 {
-    let rest = without(alloc, flexible, cell)?;
     let term = applied(alloc, types, store, other, others)?;
-    bind(alloc, types, store, &rest, cell, names, term, steps)?;
-    *flexible = rest;
+    bind(alloc, types, store, cell, names, term, steps)?;
+    flexible.remove(cell);
     Ok(())
 }

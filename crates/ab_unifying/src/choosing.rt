@@ -16,7 +16,6 @@ ghost use Rattle.ab_unifying.specs.Problem.{cells_read, variables_read};
 ghost use Rattle.ab_unifying.specs.Changed.{Grows, IsFree};
 ghost use Rattle.ab_unifying.specs.Outcome.{Tells, last_rules};
 
-use crate::listing::is_older;
 use crate::ruling::{Step, solve_one, solve_rigid, solve_two};
 use ab_patterns::{FlexibleCells, is_flexible};
 use ab_store::{CellId, Head, Node, Store, TermId};
@@ -79,7 +78,7 @@ fn solve_cells<L>(
     if is_same_cell(first, second) {
         return solve_one(alloc, types, store, flexible, first, args, more, steps);
     }
-    if is_older(flexible.as_slice(), first, second) {
+    if flexible.is_older(first, second) {
         return solve_two(
             alloc, types, store, flexible, first, args, second, more, steps,
         );

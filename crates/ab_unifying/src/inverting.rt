@@ -16,7 +16,6 @@ ghost use Rattle.ab_unifying.specs.Problem.{cells_read, variables_read};
 ghost use Rattle.ab_unifying.specs.Changed.{Grows, IsFree, Changed, AreNames};
 
 use crate::binding::bind;
-use crate::listing::without;
 use crate::pruning::prune;
 use ab_norm::copy_resolved;
 use ab_patterns::{FlexibleCells, Seen};
@@ -56,13 +55,9 @@ pub(crate) fn invert<L>(
         let t = tree_of types.old store.old term in
         Changed types.old store.old flexible.old.items (put_in (codes "x") cells ys y hs t (pruned (codes "x") ys hs t (begun (codes "x") cells ys y))) types.new store.new flexible.new.items) }
 {
-    let mut rest = without(alloc, flexible, cell)?;
+    flexible.remove(cell);
     let mut seen = Seen::new(alloc);
-    prune(
-        alloc, types, store, flexible, &mut rest, names, term, &mut seen, steps,
-    )?;
+    prune(alloc, types, store, flexible, names, term, &mut seen, steps)?;
     let plain = copy_resolved(alloc, types, store, term, steps)?;
-    bind(alloc, types, store, &rest, cell, names, plain, steps)?;
-    *flexible = rest;
-    Ok(())
+    bind(alloc, types, store, cell, names, plain, steps)
 }

@@ -13,7 +13,6 @@ ghost use Rattle.ab_unifying.specs.Changed.{Grows, IsFree, Changed, AreNames};
 ghost use Rattle.ab_unifying.specs.Joined.{two_joined};
 
 use crate::binding::{bind, bind_to_cell};
-use crate::listing::without;
 use crate::narrowing::narrow;
 use ab_patterns::{FlexibleCells, applied, keep_heads};
 use ab_store::{CellId, Head, Store};
@@ -99,12 +98,10 @@ fn join_both<L>(
         (cell_variable types.old store.old older) (map (head_reading types.old store.old) names.now)
         (cell_variable types.old store.old younger) (map (head_reading types.old store.old) others.now)) types.new store.new flexible.new.items) }
 {
-    let mut rest = without(alloc, flexible, younger)?;
-    let made = narrow(alloc, types, store, &mut rest, older, names, keep, steps)?;
+    flexible.remove(younger);
+    let made = narrow(alloc, types, store, flexible, older, names, keep, steps)?;
     let mut left = Vec::new(alloc);
     keep_heads(names, keep, &mut left)?;
     let term = applied(alloc, types, store, made, &left)?;
-    bind(alloc, types, store, &rest, younger, others, term, steps)?;
-    *flexible = rest;
-    Ok(())
+    bind(alloc, types, store, younger, others, term, steps)
 }

@@ -6,7 +6,6 @@ mod binding;
 mod choosing;
 mod inverting;
 mod joining;
-mod listing;
 mod narrowing;
 mod pruning;
 mod ruling;

@@ -11,7 +11,6 @@ ghost use Rattle.ab_solve.specs.Patterns as solve;
 ghost use Rattle.ab_solve.specs.Replacing.{Change, narrowed};
 ghost use Rattle.ab_unifying.specs.Changed.{Grows, IsFree, Changed};
 
-use crate::listing::without;
 use ab_patterns::FlexibleCells;
 use ab_store::{CellId, Head, Store};
 use ab_types::{Steps, TypeTable};
@@ -48,9 +47,8 @@ pub(crate) fn narrow<L>(
         Changed T S F c types.old store.old flexible.old.items →
         Changed T S F (narrowed (codes "x") (cell_variable types.old store.old cell) (map (head_reading types.old store.old) names.now) keep.now c) types.new store.new flexible.new.items) }
 {
-    let mut left = without(alloc, flexible, cell)?;
     let made = renew(alloc, types, store, cell, names, keep, steps)?;
-    left.push(made)?;
-    *flexible = left;
+    flexible.remove(cell);
+    flexible.push(made)?;
     Ok(made)
 }

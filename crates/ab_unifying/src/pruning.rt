@@ -12,11 +12,13 @@ ghost use Rattle.ab_types.specs.Ids.{type_of};
 ghost use Rattle.ab_store.specs.Trees.{Contents, Holds, cell_of, tree_of, head_reading};
 ghost use Rattle.ab_store.specs.Reading.{cell_variable};
 ghost use Rattle.ab_store.specs.Bindings.{IsResolved};
-ghost use Rattle.ab_store.specs.Naming.{IsTypedBy, IsTerm};
+ghost use Rattle.ab_store.specs.Naming.{HoldsHead, IsTypedBy, IsTerm};
 ghost use Rattle.ab_solve.specs.Patterns as solve;
+ghost use Rattle.ab_solve.specs.Replacing as replacing;
 ghost use Rattle.ab_solve.specs.Replacing.{Change, pruned_names, pruned_here, pruned, pruned_all};
 ghost use Rattle.ab_patterns.specs.Walking.{deep};
-ghost use Rattle.ab_unifying.specs.Pruning.{AllPruned};
+ghost use Rattle.ab_unifying.specs.Problem.{variables_read};
+ghost use Rattle.ab_unifying.specs.Pruning.{AllPruned, HeadIsFree};
 ghost use Rattle.ab_unifying.specs.Changed.{Grows, IsFree, Changed, IsSomeTerm, AllUnbound, AreNames};
 
 use crate::narrowing::narrow;
@@ -167,6 +169,20 @@ fn prune_flexible<L>(
     Ok(lost)
 }
 
+/// Whether the head is a cell that may be replaced, or one that is bound: at a term in which no bound cell stood once, that
+/// is whether the head might be replaced then.
+fn was_flexible(store: &Store, flexible: &FlexibleCells, head: Head) -> bool
+    requires { HoldsHead store.now head }
+    ensures { (T : Table) (S : Contents) (F : List CellId) (c : Change (List ℕ)) (types : Table) →
+        Changed T S F c types store.now flexible.now.items → HeadIsFree S head →
+        result ≡ replacing.is_flexible (variables_read T S F) (head_reading types store.now head) }
+{
+    match head {
+        Head::Cell(cell) => is_flexible(flexible, head) || store.binding(cell).is_some(),
+        Head::Const(_) | Head::Logic(_) | Head::Nominal(_, _) | Head::Index(_) => false,
+    }
+}
+
 /// Each of the cells in the term, from left to right, loses the names that are not among those listed and not bound in
 /// the term. The answer says whether one lost some. A part that is shared is walked once under each number of names, and
 /// again once a cell has lost names since.
@@ -175,7 +191,6 @@ pub(crate) fn prune<L>(
     alloc: Global,
     types: &mut TypeTable,
     store: &mut Store,
-    cells: &FlexibleCells,
     flexible: &mut FlexibleCells,
     names: &[Head],
     term: TermId,
@@ -192,17 +207,15 @@ pub(crate) fn prune<L>(
     ensures still { IfOk result (λ lost. lost ≡ false → store.new.cells ≡ store.old.cells) }
     ensures changed { OnOk result ((T : Table) (S : Contents) (F : List CellId) (c : Change (List ℕ)) →
         Changed T S F c types.old store.old flexible.old.items →
-        AreNames T names.now → All (IsFree S) cells.now.items → (G : List Ty) (A : Ty) → IsTerm T S G term A → AllUnbound S (tree_of T S term) →
-        (outer : List (tree.Head ℕ)) (depth : ℕ) → map (head_reading T S) names.now ≡ deep depth outer → AllPruned T S cells.now.items outer c seen.old →
-        let d = pruned (codes "x") (map (cell_variable T S) cells.now.items) (map (head_reading T S) names.now) (tree_of T S term) c in
-        Changed T S F d types.new store.new flexible.new.items × AllPruned T S cells.now.items outer d seen.new) }
+        AreNames T names.now → (G : List Ty) (A : Ty) → IsTerm T S G term A → AllUnbound S (tree_of T S term) →
+        (outer : List (tree.Head ℕ)) (depth : ℕ) → map (head_reading T S) names.now ≡ deep depth outer → AllPruned T S F outer c seen.old →
+        let d = pruned (codes "x") (map (cell_variable T S) F) (map (head_reading T S) names.now) (tree_of T S term) c in
+        Changed T S F d types.new store.new flexible.new.items × AllPruned T S F outer d seen.new) }
 {
     if seen.has(term, names.len()) {
         return Ok(false);
     }
-    let lost = prune_node(
-        alloc, types, store, cells, flexible, names, term, seen, steps,
-    )?;
+    let lost = prune_node(alloc, types, store, flexible, names, term, seen, steps)?;
     if !lost {
         seen.keep(term, names.len())?;
     }
@@ -215,7 +228,6 @@ fn prune_node<L>(
     alloc: Global,
     types: &mut TypeTable,
     store: &mut Store,
-    cells: &FlexibleCells,
     flexible: &mut FlexibleCells,
     names: &[Head],
     term: TermId,
@@ -232,27 +244,24 @@ fn prune_node<L>(
     ensures still { IfOk result (λ lost. lost ≡ false → store.new.cells ≡ store.old.cells) }
     ensures changed { OnOk result ((T : Table) (S : Contents) (F : List CellId) (c : Change (List ℕ)) →
         Changed T S F c types.old store.old flexible.old.items →
-        AreNames T names.now → All (IsFree S) cells.now.items → (G : List Ty) (A : Ty) → IsTerm T S G term A → AllUnbound S (tree_of T S term) →
-        (outer : List (tree.Head ℕ)) (depth : ℕ) → map (head_reading T S) names.now ≡ deep depth outer → AllPruned T S cells.now.items outer c seen.old →
-        let d = pruned (codes "x") (map (cell_variable T S) cells.now.items) (map (head_reading T S) names.now) (tree_of T S term) c in
-        Changed T S F d types.new store.new flexible.new.items × AllPruned T S cells.now.items outer d seen.new) }
+        AreNames T names.now → (G : List Ty) (A : Ty) → IsTerm T S G term A → AllUnbound S (tree_of T S term) →
+        (outer : List (tree.Head ℕ)) (depth : ℕ) → map (head_reading T S) names.now ≡ deep depth outer → AllPruned T S F outer c seen.old →
+        let d = pruned (codes "x") (map (cell_variable T S) F) (map (head_reading T S) names.now) (tree_of T S term) c in
+        Changed T S F d types.new store.new flexible.new.items × AllPruned T S F outer d seen.new) }
 {
     match store.view(term).copy(alloc)? {
         Node::Lam(_, _, body) => {
             let inner = under(alloc, names)?;
-            prune(
-                alloc, types, store, cells, flexible, &inner, body, seen, steps,
-            )
+            prune(alloc, types, store, flexible, &inner, body, seen, steps)
         }
         Node::Spine(head, args) => {
-            if is_flexible(cells, head) {
+            if was_flexible(store, flexible, head) {
                 prune_flexible(alloc, types, store, flexible, names, term, seen, steps)
             } else {
                 prune_all(
                     alloc,
                     types,
                     store,
-                    cells,
                     flexible,
                     names,
                     args.as_slice(),
@@ -277,7 +286,6 @@ fn prune_all<L>(
     alloc: Global,
     types: &mut TypeTable,
     store: &mut Store,
-    cells: &FlexibleCells,
     flexible: &mut FlexibleCells,
     names: &[Head],
     terms: &[TermId],
@@ -294,17 +302,15 @@ fn prune_all<L>(
     ensures still { IfOk result (λ lost. lost ≡ false → store.new.cells ≡ store.old.cells) }
     ensures changed { OnOk result ((T : Table) (S : Contents) (F : List CellId) (c : Change (List ℕ)) →
         Changed T S F c types.old store.old flexible.old.items →
-        AreNames T names.now → All (IsFree S) cells.now.items → (G : List Ty) (A B : Ty) → All (Holds S) terms.now → TakeType (signature T) G (terms_of (map (tree_of T S) terms.now)) A B →
+        AreNames T names.now → (G : List Ty) (A B : Ty) → All (Holds S) terms.now → TakeType (signature T) G (terms_of (map (tree_of T S) terms.now)) A B →
         All (λ t. AllUnbound S (tree_of T S t)) terms.now →
-        (outer : List (tree.Head ℕ)) (depth : ℕ) → map (head_reading T S) names.now ≡ deep depth outer → AllPruned T S cells.now.items outer c seen.old →
-        let d = pruned_all (codes "x") (map (cell_variable T S) cells.now.items) (map (head_reading T S) names.now) (terms_of (map (tree_of T S) terms.now)) c in
-        Changed T S F d types.new store.new flexible.new.items × AllPruned T S cells.now.items outer d seen.new) }
+        (outer : List (tree.Head ℕ)) (depth : ℕ) → map (head_reading T S) names.now ≡ deep depth outer → AllPruned T S F outer c seen.old →
+        let d = pruned_all (codes "x") (map (cell_variable T S) F) (map (head_reading T S) names.now) (terms_of (map (tree_of T S) terms.now)) c in
+        Changed T S F d types.new store.new flexible.new.items × AllPruned T S F outer d seen.new) }
 {
     let mut lost = false;
     for term in terms {
-        let pruned = prune(
-            alloc, types, store, cells, flexible, names, *term, seen, steps,
-        )?;
+        let pruned = prune(alloc, types, store, flexible, names, *term, seen, steps)?;
         lost = is_either(lost, pruned);
     }
     Ok(lost)

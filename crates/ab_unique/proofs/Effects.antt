@@ -41,7 +41,7 @@ module _ (D : Declarations) (sound : AreSound D) (l : Label) (s u : Sequent) (is
   one_denial c r q a b = a.is ∙ ap refusal_for ((both_once c).refusal a.cause b.cause a.refuses b.refuses) ∙ sym b.is
 
   makes_or_denies : (c : ProofCommand) → (ps : List Sequent) (r : Refusal) → Makes D l c s ps → Denies D l c u r → ⊥
-  makes_or_denies (search n) ps r a b = b.0 (closed_also D s u is its same a.0)
+  makes_or_denies (search n) ps r a b = b.0 (closed_also D sound.sentences sound.definitions n s u is its same a.0)
   makes_or_denies c ps r a b = (both_once c).apart ps b.cause a b.refuses
 
 -- WHAT A COMMAND DOES, by what it says, where what was declared is sound

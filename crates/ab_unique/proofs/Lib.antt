@@ -2,6 +2,7 @@ mod Faults
 mod Clauses
 mod Definitions
 mod Defining
+mod Places
 mod Closing
 mod Declaring
 mod Statements

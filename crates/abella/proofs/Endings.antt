@@ -4,10 +4,9 @@ use Rattle.std.proofs.lemmas.List.{append-nil, take_all, length-append, nil_from
 use Rattle.std.proofs.Math.Seq.{take-append-add}
 use Rattle.ab_lex.specs.declared.TheConstants.{COMMAND_LIMIT}
 use Rattle.ab_lex.specs.Commands.{Item, ItemsOf, HasBlankRest}
-use Rattle.ab_lex.specs.Scanner.{items, has_blank_rest}
-use Rattle.ab_lex.proofs.Cuts.{items_of}
-use Rattle.ab_lex.proofs.Blanks.{has_blank, blank_has}
-use Rattle.ab_lex.specs.Pending.{Pending, blank_after}
+use Rattle.ab_lex.proofs.Cuts.{items_there, no_items}
+use Rattle.ab_lex.specs.Pending.{Pending, ItemsFrom, Awaits, SameRest}
+use Rattle.ab_lex.proofs.Awaiting.{awaits_there, none_awaited, items_none, items_fed}
 use Rattle.ab_io.specs.Count.{Rose}
 use Rattle.ab_io.specs.Told.{Takes, Appends, AppendsFront, AtEnd}
 use Rattle.ab_io.proofs.Streams.{takes_none, takes_more, appends_none, appends_more, rose_more}
@@ -18,7 +17,7 @@ use Rattle.ab_states.specs.State.{State, empty}
 use Rattle.abella.specs.Report.{Report, ReportOf, none, bytes_of, has_refusal, has_end, state_behind}
 use Rattle.abella.specs.Outside.{outside}
 use Rattle.abella.specs.Outcome.{IsFinished, HasNoRest, EndsWith, WroteReport, WroteAll, IsLastLine, WroteSome, RanOver, Ran}
-use Rattle.abella.specs.Progress.{Standing, to_come, all_items, Answered, AnsweredSome, AnsweredUpTo, SameRest, FedPiece, TookPiece, Running, EndedWith, status_at_end, beginning, handed_by, RanTo}
+use Rattle.abella.specs.Progress.{Standing, to_come, Answered, AnsweredSome, AnsweredUpTo, FedPiece, TookPiece, Running, EndedWith, status_at_end, beginning, handed_by, RanTo}
 use Rattle.abella.proofs.Reports.{report_of_items, reports_ended}
 use Rattle.abella.proofs.Progress.{answered_more, some_more, state_up_to, front_after, goes_on}
 
@@ -31,15 +30,17 @@ end_after : (left left' : Option (List ℕ)) → Takes left [] left' → AtEnd l
 end_after left None t e = tt
 end_after left (Some r) t e = subst AtEnd t e
 
-items_from : (text : List ℕ) (is : List Item) → items text ≡ is → ItemsOf text is
-items_from text is e = subst (λ q. ItemsOf text q) e (items_of COMMAND_LIMIT text)
+-- the items of a text, where these bytes come first
+abbrev behind_piece : (List ℕ → List Item) → List ℕ → List ℕ → List Item
+behind_piece all bytes more = all (bytes ++ more)
 
 -- some items of what was taken, and of what more of it there is, were answered
-some_written : (all taken more : List ℕ) (out out' : Option (List ℕ)) (reads reads' : ℕ) → take MAX_INPUT all ≡ taken ++ more → AnsweredSome out out' (all_items taken) empty → WroteSome all out out' reads reads'
-some_written all taken more out out' reads reads' e x = record {
+some_written : (all taken more : List ℕ) (out out' : Option (List ℕ)) (reads reads' : ℕ) (from : List ℕ → List Item) → ((bytes : List ℕ) → ItemsOf (taken ++ bytes) (from bytes)) → take MAX_INPUT all ≡ taken ++ more
+    → AnsweredSome out out' from empty → WroteSome all out out' reads reads'
+some_written all taken more out out' reads reads' from f e x = record {
   answered = x.answered;
   others = x.others more;
-  items_are = subst (λ q. ItemsOf q (x.answered ++ x.others more)) (sym e) (items_from (taken ++ more) (x.answered ++ x.others more) (x.items_are more));
+  items_are = subst (λ q. ItemsOf q (x.answered ++ x.others more)) (sym e) (subst (λ q. ItemsOf (taken ++ more) q) (x.items_are more) (f more));
   report = x.report;
   reports = x.reports;
   line = [];
@@ -48,16 +49,21 @@ some_written all taken more out out' reads reads' e x = record {
 }
 
 -- nothing was taken yet
-pub starts : (left out : Option (List ℕ)) (p : Pending) → ((text : List ℕ) → to_come p text ≡ items text) → ((text : List ℕ) → blank_after p text ≡ has_blank_rest text) → Running left left out out p beginning 0
-starts left out p e b = record {
+whole_text : (p : Pending) → p.text ≡ [] → p.in_long ≡ false → (more : List ℕ) → ItemsOf more (to_come p more)
+whole_text p e f more = subst (λ s. ItemsOf (s ++ more) (to_come p more)) e (subst (λ b. ItemsFrom b (p.text ++ more) (to_come p more)) f (awaits_there p more))
+
+pub starts : (left out : Option (List ℕ)) (p : Pending) → p.text ≡ [] → p.in_long ≡ false → Running left left out out p beginning 0
+starts left out p e f = record {
   taken = [];
   takes = takes_none left;
   counted = refl;
   few = omega arith;
-  answered = record { answered = []; report = []; reports = none; standing_is = refl; items_are = λ more. sym (e more); wrote = appends_none out };
+  all_items = to_come p;
+  all_are = whole_text p e f;
+  answered = record { answered = []; report = []; reports = none; standing_is = refl; items_are = λ more. refl; wrote = appends_none out };
   goes_on = refl;
-  none_ready = e [];
-  blank_is = λ more. sym (b more);
+  none_ready = none_awaited p (no_items (to_come p []) (whole_text p e f []));
+  blank_is = λ more. subst (λ s. HasBlankRest (s ++ more) ↔ HasBlankRest more) (sym e) (λ h. h, λ h. h);
 }
 
 -- there is no memory for a buffer
@@ -70,8 +76,8 @@ ran_at_once left out reads writes = record {
     refl,
     record {
       answered = [];
-      others = items [];
-      items_are = items_of COMMAND_LIMIT [];
+      others = (items_there COMMAND_LIMIT []).0;
+      items_are = (items_there COMMAND_LIMIT []).1;
       report = [];
       reports = none;
       line = [];
@@ -88,15 +94,16 @@ module _ (left0 left out0 out : Option (List ℕ)) (p : Pending) (m : Standing) 
   whole : take MAX_INPUT h.taken ≡ h.taken
   whole = take_all MAX_INPUT h.taken within
 
-  all_answered : items h.taken ≡ h.answered.answered
+  all_answered : ItemsOf h.taken h.answered.answered
   all_answered =
-      ap items (sym (append-nil h.taken)) ∙ (h.answered.items_are [] ∙ (ap (λ q. h.answered.answered ++ q) h.none_ready ∙ append-nil h.answered.answered))
+      let e : h.all_items [] ≡ h.answered.answered = h.answered.items_are [] ∙ (ap (λ q. h.answered.answered ++ q) (items_none p h.none_ready) ∙ append-nil h.answered.answered) in
+      subst (λ t. ItemsOf t h.answered.answered) (append-nil h.taken) (subst (λ q. ItemsOf (h.taken ++ []) q) e (h.all_are []))
 
   report_of : ReportOf h.taken h.answered.report
   report_of = report_of_items h.taken h.answered.answered h.answered.report all_answered h.answered.reports
 
   no_end : has_end h.answered.report ≡ false
-  no_end = goes_on out0 out (all_items h.taken) (to_come p) beginning m h.answered h.goes_on
+  no_end = goes_on out0 out h.all_items (to_come p) beginning m h.answered h.goes_on
 
   state_is : m.state ≡ state_behind empty h.answered.report
   state_is = ap (λ (x : Standing). x.state) h.answered.standing_is
@@ -112,7 +119,7 @@ module _ (left0 left out0 out : Option (List ℕ)) (p : Pending) (m : Standing) 
   line_cut line all out' reads reads' e last w = record {
     answered = h.answered.answered;
     others = [];
-    items_are = subst (λ q. ItemsOf q (h.answered.answered ++ [])) (sym e) (items_from h.taken (h.answered.answered ++ []) (all_answered ∙ sym (append-nil h.answered.answered)));
+    items_are = subst (λ q. ItemsOf q (h.answered.answered ++ [])) (sym e) (subst (λ q. ItemsOf h.taken q) (sym (append-nil h.answered.answered)) all_answered);
     report = h.answered.report;
     reports = h.answered.reports;
     line = line;
@@ -174,7 +181,7 @@ module _ (left0 left out0 out : Option (List ℕ)) (p : Pending) (m : Standing) 
   pub ran_no_memory : (most : ℕ) (left' : Option (List ℕ)) (reads reads' writes writes' : ℕ) → TookPiece most left left' → count + most ≤ MAX_INPUT + 1 → Ran NoMemory None (outside left0 out0 reads writes) (outside left' out reads' writes')
   ran_no_memory most left' reads reads' writes writes' f room =
       let more : List ℕ = take (MAX_INPUT - length h.taken) f.bytes in
-      let x : AnsweredSome out0 out (all_items h.taken) empty = record {
+      let x : AnsweredSome out0 out h.all_items empty = record {
         answered = h.answered.answered;
         others = to_come p;
         report = h.answered.report;
@@ -186,7 +193,7 @@ module _ (left0 left out0 out : Option (List ℕ)) (p : Pending) (m : Standing) 
         taken = h.taken ++ f.bytes;
         takes = takes_more left0 left left' h.taken f.bytes h.takes f.takes;
         few = let a = length-append h.taken f.bytes in let b = f.few in let c = h.counted in omega arith;
-        over = (refl, some_written (h.taken ++ f.bytes) h.taken more out0 out reads reads' (take_most MAX_INPUT h.taken f.bytes within) x);
+        over = (refl, some_written (h.taken ++ f.bytes) h.taken more out0 out reads reads' h.all_items h.all_are (take_most MAX_INPUT h.taken f.bytes within) x);
       }
 
   -- the input has ended
@@ -200,24 +207,25 @@ module _ (left0 left out0 out : Option (List ℕ)) (p : Pending) (m : Standing) 
     takes_all : Takes left0 h.taken left'
     takes_all = subst (λ q. Takes left0 q left') (ap (λ q. h.taken ++ q) nothing_came ∙ append-nil h.taken) (takes_more left0 left left' h.taken f.bytes h.takes f.takes)
 
-    rest_of_text : has_blank_rest h.taken ≡ blank_after p' []
+    rest_of_text : HasBlankRest p'.text ↔ HasBlankRest h.taken
     rest_of_text =
-        ap has_blank_rest (sym (append-nil h.taken)) ∙ (h.blank_is [] ∙ sym (f.blank_is [] ∙ ap (λ q. blank_after p (q ++ [])) nothing_came))
+        let e : p'.text ≡ p.text ++ [] = f.text_is ∙ ap (λ q. p.text ++ q) nothing_came in
+        subst (λ t. HasBlankRest t ↔ HasBlankRest h.taken) (sym e) (subst (λ t. HasBlankRest (p.text ++ []) ↔ HasBlankRest t) (append-nil h.taken) (h.blank_is []))
 
     wrote_all : (status : Status) → EndsWith status h.taken h.answered.report → WroteAll status h.taken left' (Some m.state) out0 out
     wrote_all status e = record { report = h.answered.report; report_of = report_of; read = inr ends_there; hands_out = handed_is; wrote = h.answered.wrote; status_is = e }
 
-    has_blank_end : blank_after p' [] ≡ true → HasBlankRest h.taken
-    has_blank_end b = has_blank h.taken (rest_of_text ∙ b)
+    has_blank_end : IsTrue true ↔ HasBlankRest p'.text → HasBlankRest h.taken
+    has_blank_end b = rest_of_text.0 (b.0 refl)
 
-    no_blank_end : blank_after p' [] ≡ false → ¬ HasNoRest h.taken h.answered.report
+    no_blank_end : IsTrue false ↔ HasBlankRest p'.text → ¬ HasNoRest h.taken h.answered.report
     no_blank_end b (inl e) = let f = no_end in cc
-    no_blank_end b (inr r) = let e : true ≡ false = sym (blank_has h.taken r) ∙ (rest_of_text ∙ b) in cc
+    no_blank_end b (inr r) = let e : false ≡ true = b.1 (rest_of_text.1 r) in cc
 
     few_taken : length h.taken ≤ MAX_INPUT + 1
     few_taken = let a = within in omega arith
 
-    pub ran_to_end : (refused finished blank : Bool) → m.refused ≡ refused → IsTrue finished ↔ IsFinished m.state → blank_after p' [] ≡ blank
+    pub ran_to_end : (refused finished blank : Bool) → m.refused ≡ refused → IsTrue finished ↔ IsFinished m.state → IsTrue blank ↔ HasBlankRest p'.text
         → RanTo (status_at_end refused finished blank) m.state (outside left0 out0 reads writes) (outside left' out reads' writes')
     ran_to_end true finished blank r d b = record { taken = h.taken; takes = takes_all; few = few_taken; over = (within, wrote_all Refused (sym refused_is ∙ r)) }
     ran_to_end false true true r d b = record {
@@ -236,14 +244,16 @@ module _ (left0 left out0 out : Option (List ℕ)) (p : Pending) (m : Standing) 
 
   -- a piece was fed: what is to come is what comes behind it
   module _ (n : ℕ) (left' : Option (List ℕ)) (p' : Pending) (f : FedPiece n left left' p p') (fits : count + n ≤ MAX_INPUT) where
-    fed : Answered out0 out (all_items (h.taken ++ f.bytes)) (to_come p') beginning m
+    fed_are : (more : List ℕ) → ItemsOf ((h.taken ++ f.bytes) ++ more) (behind_piece h.all_items f.bytes more)
+    fed_are more = subst (λ t. ItemsOf t (h.all_items (f.bytes ++ more))) (sym (append_assoc h.taken f.bytes more)) (h.all_are (f.bytes ++ more))
+
+    fed : Answered out0 out (behind_piece h.all_items f.bytes) (to_come p') beginning m
     fed = record {
       answered = h.answered.answered;
       report = h.answered.report;
       reports = h.answered.reports;
       standing_is = h.answered.standing_is;
-      items_are = λ more.
-          ap items (append_assoc h.taken f.bytes more) ∙ (h.answered.items_are (f.bytes ++ more) ∙ ap (λ q. h.answered.answered ++ q) (sym (f.items_are more)));
+      items_are = λ more. h.answered.items_are (f.bytes ++ more) ∙ ap (λ q. h.answered.answered ++ q) (sym (items_fed p p' f.bytes f.text_is f.in_long_is more));
       wrote = h.answered.wrote;
     }
 
@@ -256,22 +266,22 @@ module _ (left0 left out0 out : Option (List ℕ)) (p : Pending) (m : Standing) 
     few_fed : length (h.taken ++ f.bytes) ≤ MAX_INPUT + 1
     few_fed = let a = counted in omega arith
 
-    more_answered : (out' : Option (List ℕ)) → AnsweredSome out out' (to_come p') m.state → AnsweredSome out0 out' (all_items (h.taken ++ f.bytes)) empty
-    more_answered out' x = some_more out0 out out' (all_items (h.taken ++ f.bytes)) (to_come p') beginning m h.goes_on fed x
+    more_answered : (out' : Option (List ℕ)) → AnsweredSome out out' (to_come p') m.state → AnsweredSome out0 out' (behind_piece h.all_items f.bytes) empty
+    more_answered out' x = some_more out0 out out' (behind_piece h.all_items f.bytes) (to_come p') beginning m h.goes_on fed x
 
     -- some items that were ready were answered, and then a write has failed or memory was wanted
-    stopped_short : (out' : Option (List ℕ)) (reads reads' : ℕ) → AnsweredSome out0 out' (all_items (h.taken ++ f.bytes)) empty → WroteSome (h.taken ++ f.bytes) out0 out' reads reads'
+    stopped_short : (out' : Option (List ℕ)) (reads reads' : ℕ) → AnsweredSome out0 out' (behind_piece h.all_items f.bytes) empty → WroteSome (h.taken ++ f.bytes) out0 out' reads reads'
     stopped_short out' reads reads' y =
         let e : take MAX_INPUT (h.taken ++ f.bytes) ≡ (h.taken ++ f.bytes) ++ [] = take_all MAX_INPUT (h.taken ++ f.bytes) (let a = counted in omega arith) ∙ sym (append-nil (h.taken ++ f.bytes)) in
-        some_written (h.taken ++ f.bytes) (h.taken ++ f.bytes) [] out0 out' reads reads' e y
+        some_written (h.taken ++ f.bytes) (h.taken ++ f.bytes) [] out0 out' reads reads' (behind_piece h.all_items f.bytes) fed_are e y
 
-    short_report : (out' : Option (List ℕ)) (reads reads' : ℕ) (y : AnsweredSome out0 out' (all_items (h.taken ++ f.bytes)) empty) → (stopped_short out' reads reads' y).report ≡ y.report
+    short_report : (out' : Option (List ℕ)) (reads reads' : ℕ) (y : AnsweredSome out0 out' (behind_piece h.all_items f.bytes) empty) → (stopped_short out' reads reads' y).report ≡ y.report
     unfolding stopped_short some_written
     short_report out' reads reads' y = refl
 
     up_to : (s : State) (out' : Option (List ℕ)) (x : AnsweredUpTo out out' (to_come p') m.state s) → s ≡ state_behind empty (more_answered out' x.0).report
     unfolding more_answered
-    up_to s out' x = state_up_to out0 out out' (all_items (h.taken ++ f.bytes)) (to_come p') beginning m s h.goes_on fed x.0 x.1
+    up_to s out' x = state_up_to out0 out out' (behind_piece h.all_items f.bytes) (to_come p') beginning m s h.goes_on fed x.0 x.1
 
     pub ran_write_fault : (s : State) (out' : Option (List ℕ)) (reads reads' writes now writes' : ℕ) → AnsweredUpTo out out' (to_come p') m.state s → Rose now writes' → writes ≤ now
         → Ran WriteFault (Some s) (outside left0 out0 reads writes) (outside left' out' reads' writes')
@@ -288,20 +298,28 @@ module _ (left0 left out0 out : Option (List ℕ)) (p : Pending) (m : Standing) 
     pub ran_no_room : (out' : Option (List ℕ)) (reads reads' writes writes' : ℕ) → AnsweredSome out out' (to_come p') m.state → Ran NoMemory None (outside left0 out0 reads writes) (outside left' out' reads' writes')
     ran_no_room out' reads reads' writes writes' x = record { taken = h.taken ++ f.bytes; takes = fed_takes; few = few_fed; over = (refl, stopped_short out' reads reads' (more_answered out' x)) }
 
-    all_more : (out' : Option (List ℕ)) (q : Pending) (k : Standing) → Answered out out' (to_come p') (to_come q) m k → Answered out0 out' (all_items (h.taken ++ f.bytes)) (to_come q) beginning k
-    all_more out' q k x = answered_more out0 out out' (all_items (h.taken ++ f.bytes)) (to_come p') (to_come q) beginning m k h.goes_on fed x
+    all_more : (out' : Option (List ℕ)) (q : Pending) (k : Standing) → Answered out out' (to_come p') (to_come q) m k → Answered out0 out' (behind_piece h.all_items f.bytes) (to_come q) beginning k
+    all_more out' q k x = answered_more out0 out out' (behind_piece h.all_items f.bytes) (to_come p') (to_come q) beginning m k h.goes_on fed x
+
+    fed_rest : (more : List ℕ) → HasBlankRest (p'.text ++ more) ↔ HasBlankRest ((h.taken ++ f.bytes) ++ more)
+    fed_rest more =
+        let e : p'.text ++ more ≡ p.text ++ (f.bytes ++ more) = ap (λ t. t ++ more) f.text_is ∙ append_assoc p.text f.bytes more in
+        subst (λ t. HasBlankRest (p'.text ++ more) ↔ HasBlankRest t) (sym (append_assoc h.taken f.bytes more))
+        (subst (λ t. HasBlankRest t ↔ HasBlankRest (h.taken ++ (f.bytes ++ more))) (sym e) (h.blank_is (f.bytes ++ more)))
 
     -- every item that was ready was answered
-    pub runs_on : (out' : Option (List ℕ)) (q : Pending) (k : Standing) → Answered out out' (to_come p') (to_come q) m k → k.ended ≡ false → to_come q [] ≡ [] → SameRest p' q → Running left0 left' out0 out' q k (count + n)
+    pub runs_on : (out' : Option (List ℕ)) (q : Pending) (k : Standing) → Answered out out' (to_come p') (to_come q) m k → k.ended ≡ false → Awaits q [] [] → SameRest p' q → Running left0 left' out0 out' q k (count + n)
     runs_on out' q k x g e b = record {
       taken = h.taken ++ f.bytes;
       takes = fed_takes;
       counted = counted;
       few = fits;
+      all_items = behind_piece h.all_items f.bytes;
+      all_are = fed_are;
       answered = all_more out' q k x;
       goes_on = g;
       none_ready = e;
-      blank_is = λ more. ap has_blank_rest (append_assoc h.taken f.bytes more) ∙ (h.blank_is (f.bytes ++ more) ∙ (sym (f.blank_is more) ∙ sym (b more)));
+      blank_is = λ more. (λ t. (fed_rest more).0 ((b more).1 t), λ t. (b more).0 ((fed_rest more).1 t));
     }
 
     -- a `Quit` was answered
@@ -326,7 +344,7 @@ module _ (left0 left out0 out : Option (List ℕ)) (p : Pending) (m : Standing) 
       last_report_of =
           let z = all_more out' q k x in
           let t = h.taken ++ f.bytes in
-          report_of_items t (z.answered ++ to_come q []) z.report (ap items (sym (append-nil t)) ∙ z.items_are []) (reports_ended (to_come q []) z.reports is_ended)
+          report_of_items t (z.answered ++ to_come q []) z.report (subst (λ s. ItemsOf s (z.answered ++ to_come q [])) (append-nil t) (subst (λ i. ItemsOf (t ++ []) i) (z.items_are []) (fed_are []))) (reports_ended (to_come q []) z.reports is_ended)
 
       wrote_last : (status : Status) → EndsWith status (h.taken ++ f.bytes) last_report → WroteAll status (h.taken ++ f.bytes) left' (Some k.state) out0 out'
       unfolding last_report

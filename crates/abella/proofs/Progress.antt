@@ -9,6 +9,7 @@ use Rattle.ab_io.specs.declared.sink.WriteFault.TheVariants.{Failed, Memory}
 use Rattle.ab_io.proofs.Streams.{appends_none, appends_more}
 use Rattle.ab_lex.specs.Commands.{Item}
 use Rattle.ab_lex.specs.Pending.{Pending}
+use Rattle.ab_lex.proofs.Awaiting.{items_same, items_next}
 use Rattle.ab_states.specs.State.{State}
 use Rattle.ab_states.specs.Reply.{is_refusal}
 use Rattle.ab_blocks.specs.Blocks.{block}
@@ -97,7 +98,7 @@ module _ (bytes : List ℕ) (m m' : Standing) (p p' : Pending) (h : AnswersItem 
     report = one_report;
     reports = one_reports;
     standing_is = one_standing;
-    items_are = h.items_are;
+    items_are = items_next p p' h.item h.items_are;
     wrote = subst (λ q. Appends out q out') (sym one_bytes) w;
   }
 
@@ -108,7 +109,7 @@ module _ (bytes : List ℕ) (m m' : Standing) (p p' : Pending) (h : AnswersItem 
       others = to_come p';
       report = x.report ++ one_report;
       reports = reports_more x.reports (goes_on a b f (to_come p) k m x e) (subst (λ (q : Standing). Reports q.state (h.item ∷ []) one_report) x.standing_is one_reports);
-      items_are = λ more. x.items_are more ∙ (ap (λ q. x.answered ++ q) (h.items_are more) ∙ sym (append_assoc x.answered (h.item ∷ []) (to_come p' more)));
+      items_are = λ more. x.items_are more ∙ (ap (λ q. x.answered ++ q) (items_next p p' h.item h.items_are more) ∙ sym (append_assoc x.answered (h.item ∷ []) (to_come p' more)));
       wrote = subst (λ q. AppendsFront a q c) (sym (bytes_more x.report one_report)) (front_after a b c (bytes_of x.report) (bytes_of one_report) x.wrote (subst (λ q. AppendsFront b q c) (sym one_bytes) w));
     }
 
@@ -122,7 +123,7 @@ module _ (bytes : List ℕ) (m m' : Standing) (p p' : Pending) (h : AnswersItem 
   cut_off a b c p0 k e x w (Memory f) = cut_some a b c (to_come p0) k e x w
 
   pub fewer : length (to_come p' []) < length (to_come p [])
-  fewer = let e = ap length (h.items_are []) in omega arith
+  fewer = let e = ap length (items_next p p' h.item h.items_are []) in omega arith
 
 -- nothing more was written
 pub stopped : (a b : Option (List ℕ)) (f g : List ℕ → List Item) (m n : Standing) → Answered a b f g m n → AnsweredSome a b f m.state
@@ -160,6 +161,6 @@ answered_all a b f k m n p p' x h = record {
   report = x.report;
   reports = x.reports;
   standing_is = h.standing_is ∙ x.standing_is;
-  items_are = λ more. x.items_are more ∙ ap (λ q. x.answered ++ q) (h.items_are more);
+  items_are = λ more. x.items_are more ∙ ap (λ q. x.answered ++ q) (sym (items_same p p' h.items_are more));
   wrote = x.wrote;
 }

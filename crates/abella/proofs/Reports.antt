@@ -2,9 +2,8 @@
 use Rattle.std.proofs.Common.{◌≡◌, ◌||◌, ℕ, Bool, true, false, List, [], ◌∷◌, ◌++◌, refl, sym, ap, ◌∙◌, subst, append_assoc, inl, inr}
 use Rattle.std.proofs.lemmas.Bool.{cases_Bool}
 use Rattle.ab_lex.specs.declared.TheConstants.{COMMAND_LIMIT}
-use Rattle.ab_lex.specs.Commands.{Item}
-use Rattle.ab_lex.specs.Scanner.{items}
-use Rattle.ab_lex.proofs.Cuts.{items_of, only_items}
+use Rattle.ab_lex.specs.Commands.{Item, ItemsOf}
+use Rattle.ab_lex.proofs.Cuts.{items_there}
 use Rattle.ab_lex.proofs.GoesOn.{items_on}
 use Rattle.ab_states.specs.State.{State, empty}
 use Rattle.ab_states.specs.Reply.{is_refusal}
@@ -61,14 +60,15 @@ reports_ended js (last m h k) e = last m h k
 pub reports_one : {s : State} {i : Item} (m : Moment) → Replies s i m → Reports s (i ∷ []) (m ∷ [])
 reports_one m h = elim (cases_Bool (is_end m.reply)) [ inl e ↦ last m h e | inr e ↦ next m h e none ]
 
-pub report_of_items : (text : List ℕ) (is : List Item) (r : Report) → items text ≡ is → Reports empty is r → ReportOf text r
-report_of_items text is r e x = record { items = items text; items_are = items_of COMMAND_LIMIT text; reports = subst (λ q. Reports empty q r) (sym e) x }
+pub report_of_items : (text : List ℕ) (is : List Item) (r : Report) → ItemsOf text is → Reports empty is r → ReportOf text r
+report_of_items text is r h x = record { items = is; items_are = h; reports = x }
 
 -- a text that goes on behind a `Quit` has the same report
 pub ended_text : (text more : List ℕ) (r : Report) → ReportOf text r → has_end r ≡ true → ReportOf (text ++ more) r
 ended_text text more r x e =
-    let g = items_on COMMAND_LIMIT text more in
-    report_of_items (text ++ more) (x.items ++ g.0) r (g.1 ∙ ap (λ q. q ++ g.0) (sym (only_items COMMAND_LIMIT text x.items x.items_are))) (reports_ended g.0 x.reports e)
+    let k = items_there COMMAND_LIMIT (text ++ more) in
+    let g = items_on COMMAND_LIMIT text more x.items k.0 x.items_are k.1 in
+    report_of_items (text ++ more) (x.items ++ g.0) r (subst (λ q. ItemsOf (text ++ more) q) g.1 k.1) (reports_ended g.0 x.reports e)
 
 -- the report of the first items, and what of the whole report stands behind it
 pub begins : (is js : List Item) (s : State) (r : Report) → Reports s (is ++ js) r → (q : Report) × (rest : Report) × Reports s is q × (r ≡ q ++ rest)

@@ -1,8 +1,8 @@
 -- How far a run has come: the items that were answered, and those that are to come.
-use Rattle.std.specs.Prelude.{◌≡◌, ◌≤◌, ◌||◌, ℕ, Bool, true, false, List, [], ◌∷◌, ◌++◌, ◌⊎◌, length, Option, Some, None, Result, Ok, Err}
-use Rattle.ab_lex.specs.Commands.{Item}
-use Rattle.ab_lex.specs.Scanner.{items, has_blank_rest}
-use Rattle.ab_lex.specs.Pending.{Pending, items_after, blank_after}
+use Rattle.std.specs.Prelude.{◌≡◌, ◌≤◌, ◌||◌, ◌↔◌, ℕ, Bool, true, false, List, [], ◌++◌, ◌⊎◌, length, Option, Some, None, Result, Ok, Err}
+use Rattle.ab_lex.specs.Commands.{Item, ItemsOf, HasBlankRest}
+use Rattle.ab_lex.specs.Pending.{Pending, Awaits, SameItems, NextItem}
+use Rattle.ab_lex.proofs.Awaiting.{items_after}
 use Rattle.ab_io.specs.Count.{Rose}
 use Rattle.ab_io.specs.Told.{Takes, Appends, AppendsFront, AtEnd}
 use Rattle.ab_io.specs.declared.sink.WriteFault.{WriteFault}
@@ -36,17 +36,9 @@ beginning = record { state = empty; refused = false; ended = false }
 abbrev pub to_come : Pending → List ℕ → List Item
 to_come p more = items_after p more
 
--- all the items of a text that begins with these bytes
-abbrev pub all_items : List ℕ → List ℕ → List Item
-all_items taken more = items (taken ++ more)
-
 -- the standing behind a report
 abbrev pub standing_behind : Standing → Report → Standing
 standing_behind m r = record { state = state_behind m.state r; refused = m.refused || has_refusal r; ended = m.ended || has_end r }
-
--- the same rest stands behind the last command
-abbrev pub SameRest : Pending → Pending → Type 0
-SameRest p p' = (more : List ℕ) → blank_after p' more ≡ blank_after p more
 
 -- from one moment to another: these items were answered, their blocks written, and those are to come
 pub record Answered (out out' : Option (List ℕ)) (from to : List ℕ → List Item) (m m' : Standing) : Type 0 where
@@ -81,19 +73,19 @@ pub record AnswersItem (bytes : List ℕ) (m m' : Standing) (p p' : Pending) : T
   pub refused_is : m'.refused ≡ (m.refused || is_refusal reply)
   pub ended_is : m'.ended ≡ (m.ended || is_end reply)
   pub text_is : bytes ≡ block reply m'.state
-  pub items_are : (more : List ℕ) → to_come p more ≡ item ∷ to_come p' more
+  pub items_are : NextItem p item p'
 
 -- the next item has this reply
 pub record RepliesItem (reply : Reply) (s s' : State) (p p' : Pending) : Type 0 where
   pub item : Item
   pub replies : Replies s item (moment reply s')
-  pub items_are : (more : List ℕ) → to_come p more ≡ item ∷ to_come p' more
+  pub items_are : NextItem p item p'
 
 -- no item is ready, and nothing has changed
 pub record StaysReady (s s' : State) (p p' : Pending) : Type 0 where
   pub state_is : s' ≡ s
-  pub none : to_come p' [] ≡ []
-  pub items_are : (more : List ℕ) → to_come p more ≡ to_come p' more
+  pub none : Awaits p' [] []
+  pub items_are : SameItems p p'
 
 -- the reply to the next item, or none is ready
 abbrev pub RepliesNext : Option Reply → State → State → Pending → Pending → Type 0
@@ -103,8 +95,8 @@ RepliesNext None s s' p p' = StaysReady s s' p p'
 -- no item is ready
 pub record HasNone (m m' : Standing) (p p' : Pending) : Type 0 where
   pub standing_is : m' ≡ m
-  pub none : to_come p' [] ≡ []
-  pub items_are : (more : List ℕ) → to_come p more ≡ to_come p' more
+  pub none : Awaits p' [] []
+  pub items_are : SameItems p p'
 
 abbrev pub standing_of : Progress → Standing
 standing_of p = record { state = state_of p.session; refused = p.refused; ended = p.ended }
@@ -116,7 +108,7 @@ AnswersNext None m m' p p' = HasNone m m' p p'
 
 -- every item that was ready was answered, up to a `Quit`; or a write has failed, or memory was wanted
 abbrev pub AnsweredReady : Result (Unit {0}) WriteFault → Option (List ℕ) → Option (List ℕ) → Standing → Standing → Pending → Pending → Type 0
-AnsweredReady (Ok done) out out' m m' p p' = Answered out out' (to_come p) (to_come p') m m' × (m'.ended ≡ false → to_come p' [] ≡ [])
+AnsweredReady (Ok done) out out' m m' p p' = Answered out out' (to_come p) (to_come p') m m' × (m'.ended ≡ false → Awaits p' [] [])
 AnsweredReady (Err Failed) out out' m m' p p' = AnsweredUpTo out out' (to_come p) m.state m'.state
 AnsweredReady (Err (Memory e)) out out' m m' p p' = AnsweredSome out out' (to_come p) m.state
 
@@ -125,8 +117,8 @@ pub record FedPiece (count : ℕ) (left left' : Option (List ℕ)) (p p' : Pendi
   pub bytes : List ℕ
   pub length_is : length bytes ≡ count
   pub takes : Takes left bytes left'
-  pub items_are : (more : List ℕ) → to_come p' more ≡ to_come p (bytes ++ more)
-  pub blank_is : (more : List ℕ) → blank_after p' more ≡ blank_after p (bytes ++ more)
+  pub text_is : p'.text ≡ p.text ++ bytes
+  pub in_long_is : p'.in_long ≡ p.in_long
   pub at_end : count ≡ 0 → AtEnd left
 
 -- some bytes were taken, and not more than these
@@ -145,10 +137,13 @@ pub record Running (left left' out out' : Option (List ℕ)) (p : Pending) (m : 
   pub takes : Takes left taken left'
   pub counted : length taken ≡ count
   pub few : count ≤ MAX_INPUT
-  pub answered : Answered out out' (all_items taken) (to_come p) beginning m
+  -- the items of the whole text, by the bytes that come
+  pub all_items : List ℕ → List Item
+  pub all_are : (more : List ℕ) → ItemsOf (taken ++ more) (all_items more)
+  pub answered : Answered out out' all_items (to_come p) beginning m
   pub goes_on : m.ended ≡ false
-  pub none_ready : to_come p [] ≡ []
-  pub blank_is : (more : List ℕ) → has_blank_rest (taken ++ more) ≡ blank_after p more
+  pub none_ready : Awaits p [] []
+  pub blank_is : (more : List ℕ) → HasBlankRest (p.text ++ more) ↔ HasBlankRest (taken ++ more)
 
 -- the last line was written, or the status says why not
 abbrev pub EndedWith : Status → Status → List ℕ → Option (List ℕ) → Option (List ℕ) → ℕ → ℕ → Type 0

@@ -32,7 +32,7 @@ fn outcome(
 
 #[test]
 fn reports_scripts_however_they_are_cut(rt: HostRuntime) -> Result<(), Fail> {
-    for case in CASES.iter() {
+    for case in &CASES {
         for piece in [1usize, 2, 65_536].iter() {
             assert!(rt; *piece > 0);
             if *piece > 0 {
@@ -118,7 +118,7 @@ struct Faults {
     report: &'static [u8],
 }
 
-const FAULTS: [Faults; 6] = [
+static FAULTS: [Faults; 6] = [
     Faults {
         reads: &[4],
         writes: &[],
@@ -159,7 +159,7 @@ const FAULTS: [Faults; 6] = [
 
 #[test]
 fn ends_at_a_fault(rt: HostRuntime) -> Result<(), Fail> {
-    for faults in FAULTS.iter() {
+    for faults in &FAULTS {
         let (status, report) = outcome(
             rt.alloc(),
             b"Theorem t : true. search.",

@@ -185,7 +185,7 @@ fn means(alloc: Global, text: &str, answer: Answer) -> Result<bool, Fail> {
 }
 
 /// Clauses, and what they mean. Each stands behind the 19 bytes of `Define q : prop by `, from which places are counted.
-const CLAUSES: [(&str, Answer); 24] = [
+static CLAUSES: [(&str, Answer); 24] = [
     // a body that isn't written, and variables that stand in the body alone
     (r"nat z", Same(r"nat z := true")),
     (r"nat z := nat Y", Same(r"nat z := exists Y, nat Y")),
@@ -226,7 +226,8 @@ const CLAUSES: [(&str, Answer); 24] = [
 
 #[test]
 fn clauses_mean_so(rt: HostRuntime) -> Result<(), Fail> {
-    for (text, answer) in CLAUSES {
+    for case in &CLAUSES {
+        let (text, answer) = *case;
         assert!(rt; means(rt.alloc(), text, answer)?, "{text}");
     }
     Ok(())

@@ -145,7 +145,7 @@ fn means(alloc: Global, text: &str, answer: Answer) -> Result<bool, Fail> {
 }
 
 /// Expressions, and what they mean. Each stands behind the 12 bytes of `Theorem x : `, from which places are counted.
-const EXPRESSIONS: [(&str, Answer); 36] = [
+static EXPRESSIONS: [(&str, Answer); 36] = [
     // eta-long forms, redexes and types that are found
     (r"l s = z", Same(r"l (x\ s x) = z")),
     (r"l n2 = z", Same(r"l (x\ n2 x) = z")),
@@ -192,7 +192,8 @@ const EXPRESSIONS: [(&str, Answer); 36] = [
 
 #[test]
 fn expressions_mean_so(rt: HostRuntime) -> Result<(), Fail> {
-    for (text, answer) in EXPRESSIONS {
+    for case in &EXPRESSIONS {
+        let (text, answer) = *case;
         assert!(rt; means(rt.alloc(), text, answer)?, "{text}");
     }
     Ok(())

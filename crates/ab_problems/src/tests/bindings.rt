@@ -125,7 +125,7 @@ use Copied::{Other, Same};
 
 /// Letters for cells, a problem that binds them, a term, what its copy without bound cells is and reads as, and how many
 /// arguments the constant at its head is given.
-const COPIES: [(&str, &str, &str, Copied, &str, Option<usize>); 7] = [
+static COPIES: [(&str, &str, &str, Copied, &str, Option<usize>); 7] = [
     // a head that is bound takes its arguments
     ("F", "F1=s1", "Fc", Other, "sc", Some(1)),
     ("X", "X12=g21", "Xcd", Other, "gdc", Some(2)),
@@ -140,8 +140,8 @@ const COPIES: [(&str, &str, &str, Copied, &str, Option<usize>); 7] = [
 
 #[test]
 fn bound_cells_give_way(rt: HostRuntime) -> Result<(), TableFault> {
-    for case in COPIES {
-        assert!(rt; is_copied(rt.alloc(), case)?, "{}", case.1);
+    for case in &COPIES {
+        assert!(rt; is_copied(rt.alloc(), *case)?, "{}", case.1);
     }
     Ok(())
 }

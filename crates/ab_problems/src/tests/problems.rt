@@ -111,14 +111,14 @@ pub(super) enum Answer {
     Untyped,
 }
 
-/// Gives the letters `W`, `V`, `U` and so on to the cells.
+/// Gives the letters `V`, `U`, `T` and so on to the cells.
 fn name_cells(store: &Store, letters: &mut Vec<Letter>, cells: &[CellId]) -> Result<(), AllocError>
     requires letters { All (λ l. HoldsCell store.now l.cell) letters.old.items }
     requires cells { All (HoldsCell store.now) cells.now }
     ensures { All (λ l. HoldsCell store.now l.cell) letters.new.items }
 {
     let _ = store;
-    let mut letter = b'W';
+    let mut letter = b'V';
     for cell in cells {
         let cell = *cell;
         add_letter(store, letters, Letter { letter, cell })?;
@@ -227,7 +227,7 @@ fn is_answered(alloc: Global, case: (&str, &str, Answer, &str)) -> Result<bool, 
 }
 
 /// Letters for cells, all of which but `R` may be bound, a problem, its answer, and what is the same after it.
-const PROBLEMS: [(&str, &str, Answer, &str); 38] = [
+static PROBLEMS: [(&str, &str, Answer, &str); 38] = [
     // equal sides, abstractions and rigid heads
     ("", "gcd=gcd", Made(0), ""),
     ("PQ", "gPQ=gcd", Made(0), "P=c,Q=d"),
@@ -253,17 +253,17 @@ const PROBLEMS: [(&str, &str, Answer, &str); 38] = [
     ("P", "\\P=\\a", Apart, ""),
     ("F", "F1=l\\ga2", Apart, ""),
     // names that a variable loses, since the one that is bound isn't given them
-    ("PF", "P=sF1", Made(1), "P=sW,F2=W"),
-    ("PFH", "P=gF1H2", Made(2), "P=gWV,F3=W,H3=V"),
-    ("FX", "F1=sX12", Made(1), "F3=sW3,X13=W1"),
-    ("PX", "P=l\\Xa1", Made(1), "P=l\\Wa,X12=W1"),
+    ("PF", "P=sF1", Made(1), "P=sV,F2=V"),
+    ("PFH", "P=gF1H2", Made(2), "P=gVU,F3=V,H3=U"),
+    ("FX", "F1=sX12", Made(1), "F3=sV3,X13=V1"),
+    ("PX", "P=l\\Xa1", Made(1), "P=l\\Va,X12=V1"),
     // one variable on both sides
-    ("X", "X12=X13", Made(1), "X12=W1,X32=W3"),
-    ("X", "X12=X21", Made(1), "X12=W,X33=W"),
+    ("X", "X12=X13", Made(1), "X12=V1,X32=V3"),
+    ("X", "X12=X21", Made(1), "X12=V,X33=V"),
     // two variables
     ("XF", "X12=F2", Made(0), "X12=F2,X21=F1"),
     ("FX", "F2=X12", Made(0), "X12=F2,X21=F1"),
-    ("XY", "X12=Y23", Made(1), "X12=W2,Y23=W2,X12=X32"),
+    ("XY", "X12=Y23", Made(1), "X12=V2,Y23=V2,X12=X32"),
     // what waits until another equation is solved
     ("FH", "FH1=s1,H1=1", Made(0), "F2=s2,H2=2"),
     ("X", "X11=1,c=d", Apart, ""),
@@ -277,8 +277,8 @@ const PROBLEMS: [(&str, &str, Answer, &str); 38] = [
 
 #[test]
 fn problems_are_answered(rt: HostRuntime) -> Result<(), TableFault> {
-    for problem in PROBLEMS {
-        assert!(rt; is_answered(rt.alloc(), problem)?, "{}", problem.1);
+    for problem in &PROBLEMS {
+        assert!(rt; is_answered(rt.alloc(), *problem)?, "{}", problem.1);
     }
     Ok(())
 }

@@ -7,7 +7,7 @@ pub struct Case {
     pub report: &'static [u8],
 }
 
-pub const CASES: [Case; 69] = [
+pub static CASES: [Case; 69] = [
     Case {
         script: b"",
         status: 0,
@@ -324,9 +324,9 @@ pub const CASES: [Case; 69] = [
         report: b"[1]\n[2]\n[3]\n[4]\n[5]\n[6]\n============================\n (forall N M, nat N -> plus N M M) -> nat z -> true\n[7]\nH1 : forall N M, nat N -> plus N M M\nH2 : nat z\n============================\n true\n[7] Refused 14 Unresolved M\nH1 : forall N M, nat N -> plus N M M\nH2 : nat z\n============================\n true\n[8]\nH1 : forall N M, nat N -> plus N M M\nH2 : nat z\nH3 : plus z z z\n============================\n true\n",
     },
     Case {
-        script: b"Kind nat type. Type z nat. Type s nat -> nat. Define nat : nat -> prop by nat z ; nat (s N) := nat N. Define plus : nat -> nat -> nat -> prop by plus z N N ; plus (s M) N (s K) := plus M N K. Theorem b : (forall N, nat N -> plus N z N) -> nat z -> plus z z z. intros. backchain H1. assert nat (s z). unfold. search. rename H3 to K. search.",
+        script: b"Kind nat type. Type z nat. Type s nat -> nat. Define nat : nat -> prop by nat z ; nat (s N) := nat N. Define plus : nat -> nat -> nat -> prop by plus z N N ; plus (s M) N (s K) := plus M N K. Theorem b : (forall N, nat N -> plus N z N) -> nat z -> plus z z z. intros. backchain H1. assert nat (s z). search. rename H3 to K. search.",
         status: 0,
-        report: b"[1]\n[2]\n[3]\n[4]\n[5]\n[6]\n============================\n (forall N, nat N -> plus N z N) -> nat z -> plus z z z\n[7]\nH1 : forall N, nat N -> plus N z N\nH2 : nat z\n============================\n plus z z z\n[8]\nH1 : forall N, nat N -> plus N z N\nH2 : nat z\n============================\n nat z\n[9]\nH1 : forall N, nat N -> plus N z N\nH2 : nat z\n============================\n nat (s z)\nSubgoal 2 is:\n nat z\n[10]\nH1 : forall N, nat N -> plus N z N\nH2 : nat z\n============================\n nat z\nSubgoal 2 is:\n nat z\n[11]\nH1 : forall N, nat N -> plus N z N\nH2 : nat z\nH3 : nat (s z)\n============================\n nat z\n[12]\nH1 : forall N, nat N -> plus N z N\nH2 : nat z\nK : nat (s z)\n============================\n nat z\n[13] Proof completed: b.\n",
+        report: b"[1]\n[2]\n[3]\n[4]\n[5]\n[6]\n============================\n (forall N, nat N -> plus N z N) -> nat z -> plus z z z\n[7]\nH1 : forall N, nat N -> plus N z N\nH2 : nat z\n============================\n plus z z z\n[8]\nH1 : forall N, nat N -> plus N z N\nH2 : nat z\n============================\n nat z\n[9]\nH1 : forall N, nat N -> plus N z N\nH2 : nat z\n============================\n nat (s z)\nSubgoal 2 is:\n nat z\n[10]\nH1 : forall N, nat N -> plus N z N\nH2 : nat z\nH3 : nat (s z)\n============================\n nat z\n[11]\nH1 : forall N, nat N -> plus N z N\nH2 : nat z\nK : nat (s z)\n============================\n nat z\n[12] Proof completed: b.\n",
     },
     Case {
         script: b"Kind i type. Define p : i -> i -> prop by p A B := p A B. Theorem perm : nabla a b c, p a b -> p b c. intros. permute (n1 n2 n3) H1. search. Theorem noperm : nabla a b, p a a -> p a b. intros. search.",

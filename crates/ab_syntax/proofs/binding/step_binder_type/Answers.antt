@@ -1,4 +1,4 @@
-use Rattle.std.proofs.Common.{map, subst}
+use Rattle.std.proofs.Common.{map, subst, inl, refl}
 use Rattle.ab_syntax.specs.declared.types.TypeNext.{TypeNext}
 use Rattle.ab_syntax.specs.Trees.{binder_of}
 use Rattle.ab_syntax.specs.Reader.{seen}
@@ -10,4 +10,4 @@ pub returns-in-Wrong : goal.returns-in-Wrong
 returns-in-Wrong c = λ fs.
     let s = type_state (type_frames_of c.args.types) c.args.state in
     let h = subst (λ (r : TypeNext). IsTypeNext s (seen c.args.token) (type_frames_of c.step_type.new.frames) r) c.in-Wrong.is c.in_ok-state.ensures in
-    never_closed fs c.args.prefix.quant c.args.prefix.place (map binder_of c.args.prefix.binders.items) c.args.name c.args.place s (seen c.args.token) h.0 h.1
+    (never_closed fs c.args.prefix.quant c.args.prefix.place (map binder_of c.args.prefix.binders.items) c.args.name c.args.place s (seen c.args.token) h.0 h.1, inl refl)

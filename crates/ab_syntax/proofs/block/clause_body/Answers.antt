@@ -1,16 +1,31 @@
 use Rattle.std.proofs.lemmas.Result.{err_from_is_err_and}
-use Rattle.ab_syntax.specs.Reader.{rest}
+use Rattle.std.proofs.Common.{ap}
+use Rattle.ab_grammar.specs.Token.{other, becomes, first}
+use Rattle.ab_grammar.specs.Language.{Expression}
+use Rattle.ab_grammar.proofs.Following.{Followed, ClauseEnds}
+use Rattle.ab_grammar.proofs.Beginnings.{expression_example}
 use Rattle.ab_grammar.proofs.Choices.{with_body, no_body}
-use Rattle.ab_syntax.proofs.Passing.{refused_on}
+use Rattle.ab_grammar.proofs.Choosing.{fewer_reads}
+use Rattle.ab_grammar.proofs.Rows.{clause_end_follows}
+use Rattle.ab_syntax.specs.Reader.{rest}
+use Rattle.ab_syntax.proofs.Passing.{refused_on, refused_fewer}
+use Rattle.ab_syntax.proofs.Repeating.{keyed, taken, left_there, key_taken}
 use Rattle.ab_syntax.proofs.block.clause_body.Goals as goal
 
 pub returns-in_err-body : goal.returns-in_err-body
 returns-in_err-body c =
     let p = err_from_is_err_and c.from_residual.result c.from_residual.ensures.1 in
-    rw (p.1, p.2) (refused_on (with_body (rest c.args.text.now c.args.here.now) (c.is_next.ensures.next.0 c.if-is_next.true)) _ _ c.in_err-body.ensures)
+    let there = taken (other becomes) (rest c.args.text.now c.args.here.now) (rest c.args.text.now c.takes.new.here) c.takes.result c.if-takes.true c.takes.ensures in
+    let behind = (keyed (other becomes) Expression ClauseEnds expression_example).first_read _ _ tt (key_taken _ _ _ there) in
+    rw (p.1, p.2) (refused_on (with_body (rest c.args.text.now c.args.here.now) (ap first there)) _ _ (refused_on behind _ _ (refused_fewer Expression Followed ClauseEnds clause_end_follows _ _ _ c.in_err-body.ensures)))
 
-pub returns-then-is_next : goal.returns-then-is_next
-returns-then-is_next c = (with_body (rest c.args.text.now c.args.here.now) (c.is_next.ensures.next.0 c.if-is_next.true)).reads _ _ c.in_ok-body.ensures
+pub returns-then-takes : goal.returns-then-takes
+returns-then-takes c =
+    let there = taken (other becomes) (rest c.args.text.now c.args.here.now) (rest c.args.text.now c.takes.new.here) c.takes.result c.if-takes.true c.takes.ensures in
+    let behind = (keyed (other becomes) Expression ClauseEnds expression_example).first_read _ _ tt (key_taken _ _ _ there) in
+    (with_body (rest c.args.text.now c.args.here.now) (ap first there)).reads _ _ (behind.reads _ _ (fewer_reads Expression Followed ClauseEnds clause_end_follows _ _ _ c.in_ok-body.ensures))
 
 pub returns : goal.returns
-returns c = no_body (rest c.args.text.now c.args.here.now) (λ e. let h = c.is_next.ensures.next.1 e in let n = c.if-is_next.false in cc)
+returns c =
+    let left = left_there (other becomes) (rest c.args.text.now c.args.here.now) (rest c.args.text.now c.takes.new.here) c.takes.result c.if-takes.false c.takes.ensures in
+    rw left.1 (no_body (rest c.args.text.now c.args.here.now) (left.0))

@@ -1,14 +1,22 @@
-use Rattle.std.proofs.Common.{map, Vec}
-use Rattle.std.specs.Global.{Global}
-use Rattle.ab_syntax.specs.declared.command.ClauseParse.{ClauseParse}
-use Rattle.ab_syntax.specs.Commands.{clause_of}
-use Rattle.ab_syntax.specs.Reader.{rest}
+use Rattle.std.proofs.Common.{map}
 use Rattle.ab_grammar.proofs.Choices.{with_clauses, no_clauses}
+use Rattle.ab_syntax.specs.declared.command.ClauseParse.{ClauseParse}
+use Rattle.ab_syntax.specs.declared.items.Items.{Items}
+use Rattle.ab_syntax.specs.Commands.{clause_of}
+use Rattle.ab_syntax.specs.Items.{list_of}
+use Rattle.ab_syntax.specs.Reader.{rest}
+use Rattle.ab_syntax.proofs.Followers.{stop_no_semicolon, clause_ends}
 use Rattle.ab_syntax.proofs.Passing.{found_on}
 use Rattle.ab_syntax.proofs.block.optional_clauses.Goals as goal
 
+pub items-requires-clause-apart : goal.items-requires-clause-apart
+items-requires-clause-apart c = stop_no_semicolon
+
+pub items-requires-clause-within : goal.items-requires-clause-within
+items-requires-clause-within c = clause_ends
+
 pub returns-then-is_next : goal.returns-then-is_next
-returns-then-is_next c = rw c.new.ensures.items (no_clauses (rest c.args.text.now c.args.here.now) (c.is_next.ensures.next.0 c.if-is_next.true))
+returns-then-is_next c = rw (c.from_vec.ensures, c.new.ensures.items) (no_clauses (rest c.args.text.now c.args.here.now) (c.is_next.ensures.next.0 c.if-is_next.true))
 
 pub returns : goal.returns
-returns c = found_on (with_clauses (rest c.args.text.now c.args.here.now) (λ e. let h = c.is_next.ensures.next.1 e in let n = c.if-is_next.false in cc)) (λ (cs : Vec ClauseParse Global). map clause_of cs.items) _ c.clauses.result c.clauses.ensures
+returns c = found_on (with_clauses (rest c.args.text.now c.args.here.now) (λ e. let h = c.is_next.ensures.next.1 e in let n = c.if-is_next.false in cc)) (λ (cs : Items ClauseParse). map clause_of (list_of cs)) _ c.items.result c.items.ensures

@@ -8,12 +8,12 @@ use Rattle.ab_syntax.specs.States.{state_in}
 use Rattle.ab_syntax.proofs.expression.read_expression.Given as goal
 
 -- the tokens before this place begin an expression, nowhere nested above the limit
-abbrev pub invariant-tokens : goal.invariant-tokens
-invariant-tokens l = record {
+abbrev pub invariant-loop-layers : goal.invariant-loop-layers
+invariant-loop-layers l = record {
   so_far : SoFar (rest l.text l.fn.here) (rest l.text l.here) (state_in (frames_of l.frames) l.state) (layers_of l.layers);
   measured : IsMeasured l.layers;
   shallow : l.layers.depth ≤ limit;
 }
 
-abbrev pub decreases-tokens : goal.decreases-tokens
-decreases-tokens l = length l.text.tokens.now - l.here
+abbrev pub decreases-loop-layers : goal.decreases-loop-layers
+decreases-loop-layers l = length l.text.tokens.now - l.here

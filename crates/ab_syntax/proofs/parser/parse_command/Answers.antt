@@ -1,20 +1,16 @@
-use Rattle.std.proofs.Common.{◌≡◌}
-use Rattle.ab_grammar.specs.CommandTable.{CommandText}
-use Rattle.ab_syntax.specs.declared.fault.ParseFault.TheVariants.{Syntax, TooNested}
-use Rattle.ab_syntax.proofs.Told.{told_read, told_no_command, told_command_nested}
+use Rattle.std.proofs.Common.{ℕ, sym, subst}
+use Rattle.ab_syntax.specs.Tokens.{StandIn}
+use Rattle.ab_syntax.proofs.Standings.{tokens_of_stand}
 use Rattle.ab_syntax.proofs.parser.parse_command.Goals as goal
 
-pub returns-in-Ok-clause-read : goal.returns-in-Ok-clause-read
-returns-in-Ok-clause-read c = told_read CommandText c.whole-text.result c.args.bytes.now c.args.tokens.now c.whole-text.ensures.whole _ c.in-Ok.ensures
+pub parse_command_from-requires : goal.parse_command_from-requires
+parse_command_from-requires c = subst (λ (n : ℕ). StandIn c.args.bytes.now n c.args.tokens.now) (sym c.origin.ensures) (tokens_of_stand c.args.bytes.now c.args.tokens.now c.requires)
 
-pub returns-in-Err-clause-syntax : goal.returns-in-Err-clause-syntax
-returns-in-Err-clause-syntax c = λ place e.
-    let told : c.command_fault.result ≡ Syntax place = cc in
-    told_no_command CommandText c.whole-text.result c.args.bytes.now c.args.tokens.now c.whole-text.ensures.whole c.in-Err.stop c.whole_command.new.here c.in-Err.ensures
-    c.command_fault.result c.command_fault.ensures.syntax c.command_fault.ensures.other place told
+pub returns-clause-read : goal.returns-clause-read
+returns-clause-read c = rw c.origin.ensures at c.parse_command_from.ensures.read
 
-pub returns-in-Err-clause-nested : goal.returns-in-Err-clause-nested
-returns-in-Err-clause-nested c = λ place e.
-    let told : c.command_fault.result ≡ TooNested place = cc in
-    told_command_nested CommandText c.whole-text.result c.args.bytes.now c.args.tokens.now c.whole-text.ensures.whole c.in-Err.stop c.whole_command.new.here c.in-Err.ensures
-    c.command_fault.result c.command_fault.ensures.syntax c.command_fault.ensures.other place told
+pub returns-clause-syntax : goal.returns-clause-syntax
+returns-clause-syntax c = rw c.origin.ensures at c.parse_command_from.ensures.syntax
+
+pub returns-clause-nested : goal.returns-clause-nested
+returns-clause-nested c = rw c.origin.ensures at c.parse_command_from.ensures.nested

@@ -1,18 +1,16 @@
-use Rattle.std.proofs.Common.{◌≡◌, sym, ◌∙◌}
-use Rattle.ab_grammar.specs.Language.{Expression}
-use Rattle.ab_syntax.specs.declared.fault.ParseFault.TheVariants.{Syntax, TooNested}
-use Rattle.ab_syntax.proofs.Told.{told_read, told_syntax, told_nested}
+use Rattle.std.proofs.Common.{ℕ, sym, subst}
+use Rattle.ab_syntax.specs.Tokens.{StandIn}
+use Rattle.ab_syntax.proofs.Standings.{tokens_of_stand}
 use Rattle.ab_syntax.proofs.parser.parse_expr.Goals as goal
 
-pub returns-in-Ok-clause-read : goal.returns-in-Ok-clause-read
-returns-in-Ok-clause-read c = told_read Expression c.whole-text.result c.args.bytes.now c.args.tokens.now c.whole-text.ensures.whole _ c.in-Ok.ensures
+pub parse_expr_from-requires : goal.parse_expr_from-requires
+parse_expr_from-requires c = subst (λ (n : ℕ). StandIn c.args.bytes.now n c.args.tokens.now) (sym c.origin.ensures) (tokens_of_stand c.args.bytes.now c.args.tokens.now c.requires)
 
-pub returns-in-Err-clause-syntax : goal.returns-in-Err-clause-syntax
-returns-in-Err-clause-syntax c = λ place e.
-    let told : c.fault.result ≡ Syntax place = cc in
-    told_syntax Expression c.whole-text.result c.args.bytes.now c.args.tokens.now c.whole-text.ensures.whole c.in-Err.stop c.whole_expression.new.here c.in-Err.ensures place (sym c.fault.ensures ∙ told)
+pub returns-clause-read : goal.returns-clause-read
+returns-clause-read c = rw c.origin.ensures at c.parse_expr_from.ensures.read
 
-pub returns-in-Err-clause-nested : goal.returns-in-Err-clause-nested
-returns-in-Err-clause-nested c = λ place e.
-    let told : c.fault.result ≡ TooNested place = cc in
-    told_nested Expression c.whole-text.result c.args.bytes.now c.args.tokens.now c.whole-text.ensures.whole c.in-Err.stop c.whole_expression.new.here c.in-Err.ensures place (sym c.fault.ensures ∙ told)
+pub returns-clause-syntax : goal.returns-clause-syntax
+returns-clause-syntax c = rw c.origin.ensures at c.parse_expr_from.ensures.syntax
+
+pub returns-clause-nested : goal.returns-clause-nested
+returns-clause-nested c = rw c.origin.ensures at c.parse_expr_from.ensures.nested

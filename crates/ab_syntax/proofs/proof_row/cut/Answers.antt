@@ -1,9 +1,9 @@
 use Rattle.std.proofs.lemmas.Result.{err_from_is_err_and}
+use Rattle.ab_grammar.proofs.Rows.{cut}
+use Rattle.ab_grammar.proofs.Following.{Anything, BeforeStop}
+use Rattle.ab_grammar.specs.CommandTable.{Name}
 use Rattle.ab_syntax.proofs.Passing.{refused_on, refused_first, refused_fewer}
 use Rattle.ab_grammar.proofs.Choosing.{fewer_reads}
-use Rattle.ab_grammar.specs.Language.{Anything}
-use Rattle.ab_grammar.specs.CommandTable.{BeforeStop, Name}
-use Rattle.ab_grammar.proofs.Rows.{cut}
 use Rattle.ab_syntax.proofs.proof_row.cut.Goals as goal
 
 pub returns-in_err-cut : goal.returns-in_err-cut
@@ -11,10 +11,10 @@ returns-in_err-cut c =
     let p = err_from_is_err_and c.from_residual.result c.from_residual.ensures.1 in
     rw (p.1, p.2) (refused_first cut _ _ _ c.in_err-cut.ensures)
 
-pub returns-in_err-with : goal.returns-in_err-with
-returns-in_err-with c =
-    let p = err_from_is_err_and c.from_residual-in_err-with.result c.from_residual-in_err-with.ensures.1 in
-    rw (p.1, p.2) (refused_on ((cut).first_read _ _ _ c.in_ok-cut.ensures) _ _ (refused_fewer Name Anything BeforeStop (λ r f. tt) _ _ _ c.in_err-with.ensures))
+pub returns-in_err-name : goal.returns-in_err-name
+returns-in_err-name c =
+    let p = err_from_is_err_and c.from_residual-in_err-name.result c.from_residual-in_err-name.ensures.1 in
+    rw (p.1, p.2) (refused_on (cut.first_read _ _ _ c.in_ok-cut.ensures) _ _ (refused_fewer Name Anything BeforeStop (λ r f. tt) _ _ _ c.in_err-name.ensures))
 
 pub returns : goal.returns
-returns c = ((cut).first_read _ _ _ c.in_ok-cut.ensures).reads _ _ (fewer_reads Name Anything BeforeStop (λ r f. tt) _ _ _ c.in_ok-with.ensures)
+returns c = (cut.first_read _ _ _ c.in_ok-cut.ensures).reads _ _ (fewer_reads Name Anything BeforeStop (λ r f. tt) _ _ _ c.in_ok-name.ensures)

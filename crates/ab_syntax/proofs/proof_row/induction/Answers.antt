@@ -1,10 +1,10 @@
 use Rattle.std.proofs.lemmas.Result.{err_from_is_err_and}
+use Rattle.ab_grammar.proofs.Rows.{induction}
+use Rattle.ab_grammar.proofs.Following.{Anything, BeforeStop}
+use Rattle.ab_grammar.specs.CommandForms.{One}
+use Rattle.ab_grammar.specs.CommandTable.{ShowsNumber}
 use Rattle.ab_syntax.proofs.Passing.{refused_on, refused_first, refused_fewer}
 use Rattle.ab_grammar.proofs.Choosing.{fewer_reads}
-use Rattle.ab_grammar.specs.Language.{Anything}
-use Rattle.ab_grammar.specs.CommandForms.{One}
-use Rattle.ab_grammar.specs.CommandTable.{BeforeStop, ShowsNumber}
-use Rattle.ab_grammar.proofs.Rows.{induction}
 use Rattle.ab_syntax.proofs.proof_row.induction.Goals as goal
 
 pub returns-in_err-expect : goal.returns-in_err-expect
@@ -12,10 +12,10 @@ returns-in_err-expect c =
     let p = err_from_is_err_and c.from_residual.result c.from_residual.ensures.1 in
     rw (p.1, p.2) (refused_first induction _ _ _ c.in_err-expect.ensures)
 
-pub returns-in_err-number : goal.returns-in_err-number
-returns-in_err-number c =
-    let p = err_from_is_err_and c.from_residual-in_err-number.result c.from_residual-in_err-number.ensures.1 in
-    rw (p.1, p.2) (refused_on ((induction).first_read _ _ _ c.in_ok-expect.ensures) _ _ (refused_fewer (One ShowsNumber) Anything BeforeStop (λ r f. tt) _ _ _ c.in_err-number.ensures))
+pub returns-in_err-take : goal.returns-in_err-take
+returns-in_err-take c =
+    let p = err_from_is_err_and c.from_residual-in_err-take.result c.from_residual-in_err-take.ensures.1 in
+    rw (p.1, p.2) (refused_on (induction.first_read _ _ _ c.in_ok-expect.ensures) _ _ (refused_fewer (One ShowsNumber) Anything BeforeStop (λ r f. tt) _ _ _ c.in_err-take.ensures))
 
 pub returns : goal.returns
-returns c = ((induction).first_read _ _ _ c.in_ok-expect.ensures).reads _ _ (fewer_reads (One ShowsNumber) Anything BeforeStop (λ r f. tt) _ _ _ c.in_ok-number.ensures)
+returns c = (induction.first_read _ _ _ c.in_ok-expect.ensures).reads _ _ (fewer_reads (One ShowsNumber) Anything BeforeStop (λ r f. tt) _ _ _ c.in_ok-take.ensures)

@@ -1,17 +1,24 @@
 use Rattle.std.proofs.lemmas.Result.{err_from_is_err_and}
-use Rattle.ab_syntax.proofs.Passing.{refused_on, refused_first}
 use Rattle.ab_grammar.proofs.Rows.{inst}
+use Rattle.ab_syntax.proofs.Passing.{refused_on, refused_first}
+use Rattle.ab_syntax.proofs.Followers.{stop_no_comma, instance_ends}
 use Rattle.ab_syntax.proofs.proof_row.inst.Goals as goal
+
+pub items-requires-clause-apart : goal.items-requires-clause-apart
+items-requires-clause-apart c = stop_no_comma
+
+pub items-requires-clause-within : goal.items-requires-clause-within
+items-requires-clause-within c = instance_ends
 
 pub returns-in_err-name : goal.returns-in_err-name
 returns-in_err-name c =
     let p = err_from_is_err_and c.from_residual.result c.from_residual.ensures.1 in
     rw (p.1, p.2) (refused_first inst _ _ _ c.in_err-name.ensures)
 
-pub returns-in_err-instances : goal.returns-in_err-instances
-returns-in_err-instances c =
-    let p = err_from_is_err_and c.from_residual-in_err-instances.result c.from_residual-in_err-instances.ensures.1 in
-    rw (p.1, p.2) (refused_on ((inst).first_read _ _ _ c.in_ok-name.ensures) _ _ c.in_err-instances.ensures)
+pub returns-in_err-items : goal.returns-in_err-items
+returns-in_err-items c =
+    let p = err_from_is_err_and c.from_residual-in_err-items.result c.from_residual-in_err-items.ensures.1 in
+    rw (p.1, p.2) (refused_on (inst.first_read _ _ _ c.in_ok-name.ensures) _ _ c.in_err-items.ensures)
 
 pub returns : goal.returns
-returns c = rw c.from_vec-instances.ensures (((inst).first_read _ _ _ c.in_ok-name.ensures).reads _ _ c.in_ok-instances.ensures)
+returns c = (inst.first_read _ _ _ c.in_ok-name.ensures).reads _ _ c.in_ok-items.ensures

@@ -1,18 +1,22 @@
-use Rattle.std.proofs.Common.{refl}
-use Rattle.ab_grammar.specs.Machine as machine
+use Rattle.std.proofs.Common.{List, sym, subst, ◌∙◌, None}
+use Rattle.ab_grammar.proofs.Machine.{Frame, starts}
 use Rattle.ab_syntax.specs.Trees.{tree_of}
 use Rattle.ab_syntax.specs.Reader.{seen}
 use Rattle.ab_syntax.specs.Frames.{frames_of}
+use Rattle.ab_syntax.specs.States.{Says}
 use Rattle.ab_syntax.proofs.Enders.{if_ok}
-use Rattle.ab_syntax.proofs.Operands.{next_same, same_have}
+use Rattle.ab_syntax.proofs.Operands.{have_begun, have_enclosed}
 use Rattle.ab_syntax.proofs.step.step_have.Goals as goal
 
-pub returns-in_default : goal.returns-in_default
-returns-in_default c =
-    let t = tree_of c.args.operand in
-    let fs = frames_of c.args.frames.now in
-    let k = c.args.token.kind in
-    if_ok c.step_enclosed.result
-    (λ r h. next_same (machine.have machine.compound fs t) (machine.enclosed fs t) (seen c.args.token) (frames_of c.step_enclosed.new.frames)
-    (same_have t fs fs k c.in_default.not-Word c.in_default.not-Truth c.in_default.not-Forall c.in_default.not-Exists c.in_default.not-Nabla c.in_default.not-LeftParen c.in_default.not-LeftBrace c.args.token.written.now c.args.token.place) refl r (h c.args.token.written.now c.args.token.place))
+pub returns-then-not-begins_argument : goal.returns-then-not-begins_argument
+returns-then-not-begins_argument c = if_ok c.step_enclosed.result
+    (λ r h. have_enclosed (tree_of c.args.operand.value) (frames_of c.args.frames.now) (frames_of c.step_enclosed.new.frames) c.args.token.kind (sym c.begins_argument.ensures ∙ c.if-not-begins_argument.true) _ _ r h)
     c.step_enclosed.ensures
+
+pub returns : goal.returns
+returns c =
+    let k = seen c.args.token in
+    if_ok c.start_argument.result
+    (λ r h. have_begun (tree_of c.args.operand.value) (frames_of c.args.frames.now) (frames_of c.start_argument.new.frames) c.args.token.kind (sym c.begins_argument.ensures ∙ c.if-not-begins_argument.false) _ _ r
+    (subst (λ (fs : List Frame). Says (starts fs k) None k (frames_of c.start_argument.new.frames) r) c.in_ok-grow.ensures h))
+    c.start_argument.ensures

@@ -1,6 +1,4 @@
 use Rattle.std.proofs.Common.{◌<◌, ℕ, List, All, sym, ◌∙◌, ap, subst}
-use Rattle.ab_grammar.specs.Token.{Token}
-use Rattle.ab_syntax.specs.declared.text.Kind.{Kind}
 use Rattle.ab_syntax.specs.Reader.{no_token, meaning, place_at, IsWordKind}
 use Rattle.ab_syntax.proofs.Places.{lexed_word}
 use Rattle.ab_syntax.proofs.text.look.Goals as goal

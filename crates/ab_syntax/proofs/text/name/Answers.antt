@@ -1,6 +1,6 @@
 use Rattle.std.proofs.Common.{◌≡◌, ◌+◌, ℕ, List, sym, subst, ◌∙◌}
-use Rattle.ab_grammar.specs.Language.{Anything}
-use Rattle.ab_grammar.specs.Reading.{ReadsOff}
+use Rattle.ab_grammar.proofs.Following.{Anything}
+use Rattle.ab_grammar.proofs.Reading.{ReadsOff}
 use Rattle.ab_grammar.specs.CommandTable.{Name}
 use Rattle.ab_syntax.specs.declared.text.Kind.TheVariants.{Word, End}
 use Rattle.ab_syntax.specs.Reader.{rest, IsWordKind}

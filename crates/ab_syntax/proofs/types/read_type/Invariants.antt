@@ -6,12 +6,12 @@ use Rattle.ab_syntax.specs.Steps.{layers_of, IsMeasured, type_frames_of, type_st
 use Rattle.ab_syntax.proofs.types.read_type.Given as goal
 
 -- the tokens before this place begin a type, nowhere nested above the limit
-abbrev pub invariant-tokens : goal.invariant-tokens
-invariant-tokens l = record {
+abbrev pub invariant-loop-layers : goal.invariant-loop-layers
+invariant-loop-layers l = record {
   so_far : TypeSoFar (rest l.text l.fn.here) (rest l.text l.here) (type_state (type_frames_of l.frames) l.state) (layers_of l.layers);
   measured : IsMeasured l.layers;
   shallow : l.layers.depth ≤ limit;
 }
 
-abbrev pub decreases-tokens : goal.decreases-tokens
-decreases-tokens l = length l.text.tokens.now - l.here
+abbrev pub decreases-loop-layers : goal.decreases-loop-layers
+decreases-loop-layers l = length l.text.tokens.now - l.here

@@ -8,7 +8,7 @@ returns-clause-changed g c =
     let types = c.args.types.now in
     let store = c.args.store.now in
     let e = c.put.ensures in
-    on_ok_both c.put.result (λ reads bound T S F change was listed out.
+    on_ok_both c.put.result (λ reads bound T S F flexible change was listed out.
     put_changed types store c.put.new.store c.requires.store c.args.cell (map (head_reading types store) c.args.names.now) (tree_of types store c.args.term) (record {
       grows = put_grows types store c.put.new.store e.typed e.trees e.cells e.marks;
       cells = e.cells;
@@ -16,4 +16,4 @@ returns-clause-changed g c =
       bound = bound;
       free = e.free;
       reads = reads;
-    }) T S F c.args.flexible.now.items change was listed out) e.reads e.bound
+    }) T S F flexible change was listed out) e.reads e.bound

@@ -58,11 +58,11 @@ returns-clause-changed g c =
     let cell = c.args.cell in
     let y = cell_variable types store cell in
     let change = begun (codes "x") (cells_read types store) (variables_read types store F) y in
-    let rest_is : c.in_ok-rest.rest.items ≡ others_than cell F = c.in_ok-rest.ensures in
-    let was : Changed types store (others_than cell F) change types middle c.in_ok-rest.rest.items =
+    let rest_is : c.remove.new.self.items ≡ others_than cell F = c.remove.ensures in
+    let was : Changed types store (others_than cell F) change types middle c.remove.new.self.items =
     subst (λ l. Changed types store (others_than cell F) change types middle l) (sym rest_is)
     (changed_on types store (others_than cell F) change types store middle (others_than cell F) (begins types store c.requires.store F c.requires.free cell) c.in_ok-term.ensures.adds) in
-    let done = c.in_ok-bind.ensures.changed types store F change was c.requires.listed (λ m. (was_other cell cell F (subst (λ l. Contains l cell) rest_is m)).1 refl) in
-    subst (λ p. Changed types store F (record { cells = cells_read types store; flexible = without y (variables_read types store F); pairs = p }) types c.bind.new.store c.in_ok-rest.rest.items)
+    let done = c.in_ok-bind.ensures.changed types store F c.remove.new.self.items change was c.requires.listed (λ m. (was_other cell cell F (subst (λ l. Contains l cell) rest_is m)).1 refl) in
+    subst (λ p. Changed types store F (record { cells = cells_read types store; flexible = without y (variables_read types store F); pairs = p }) types c.bind.new.store c.remove.new.self.items)
     (same_pair types store middle c.in_ok-term.ensures.adds cell c.args.other c.args.names.now c.args.others.now c.in_ok-term.term c.in_ok-term.ensures.reads)
     done

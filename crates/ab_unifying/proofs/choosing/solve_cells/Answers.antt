@@ -73,7 +73,7 @@ returns-then-is_older-clause-tells g c =
     let held_z = contains_holds ys z (Contains-map (cell_variable types store) F second c.requires.second_listed) in
     let apart : first ≢ second = λ e. false≢true (sym c.if-is_same_cell.false ∙ c.is_same_cell.ensures.1 e) in
     let differ : y ≢ z = λ e. apart (same_cell first second (ap (λ (v : Variable ℕ). v.name) e)) in
-    let older : is_older ys y z ≡ true = ap (λ l. is_older (map (cell_variable types store) l) y z) (sym c.as_slice.ensures) ∙ sym (c.is_older.ensures types store) ∙ c.if-is_older.true in
+    let older : is_older ys y z ≡ true = sym (c.is_older.ensures types store) ∙ c.if-is_older.true in
     let younger : is_older ys z y ≡ not true = one_is_older ys y z held_y held_z differ ∙ ap not older in
     if_ok c.solve_two.result (λ r done.
     subst (λ o. Tells types store F c.solve_two.new.types c.solve_two.new.store c.solve_two.new.flexible.items r o) (sym (older_on_left cells ys y z ts us differ held_y held_z older younger)) done) c.solve_two.ensures.tells
@@ -95,7 +95,7 @@ returns-clause-tells g c =
     let held_z = contains_holds ys z (Contains-map (cell_variable types store) F second c.requires.second_listed) in
     let apart : first ≢ second = λ e. false≢true (sym c.if-is_same_cell.false ∙ c.is_same_cell.ensures.1 e) in
     let differ : y ≢ z = λ e. apart (same_cell first second (ap (λ (v : Variable ℕ). v.name) e)) in
-    let older : is_older ys y z ≡ false = ap (λ l. is_older (map (cell_variable types store) l) y z) (sym c.as_slice.ensures) ∙ sym (c.is_older.ensures types store) ∙ c.if-is_older.false in
+    let older : is_older ys y z ≡ false = sym (c.is_older.ensures types store) ∙ c.if-is_older.false in
     let younger : is_older ys z y ≡ not false = one_is_older ys y z held_y held_z differ ∙ ap not older in
     if_ok c.solve_two-2.result (λ r done.
     subst (λ o. Tells types store F c.solve_two-2.new.types c.solve_two-2.new.store c.solve_two-2.new.flexible.items r o) (sym (older_on_right cells ys y z ts us differ held_y held_z older younger)) done) c.solve_two-2.ensures.tells

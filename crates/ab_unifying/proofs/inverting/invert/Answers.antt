@@ -2,6 +2,7 @@ use Rattle.std.proofs.Common.{◌≡◌, map, [], codes, refl, sym, ◌∙◌, a
 use Rattle.std.specs.Prelude.{All, Contains}
 use Rattle.std.proofs.lemmas.Bool.{false≢true}
 use Rattle.std.proofs.lemmas.List.Elements.{All-contains}
+use Rattle.std.proofs.lemmas.Result.{on_ok_weaker}
 use Rattle.ab_term.specs.Types.{kind}
 use Rattle.ab_term.specs.Typing.{HasType}
 use Rattle.ab_term.specs.Variables.{variables, image, composition}
@@ -25,6 +26,7 @@ use Rattle.ab_unifying.proofs.Put.{begins}
 use Rattle.ab_unifying.proofs.Pruned.{changed_on, typed_names, same_names, resolved_unbound, unbound_reads}
 use Rattle.ab_unifying.proofs.Joined.{names_more}
 use Rattle.ab_unifying.proofs.Losing.{none_seen}
+use Rattle.ab_unifying.proofs.Without.{pruned_others}
 use Rattle.ab_unifying.proofs.Solved.{known_cells, solved_parts}
 use Rattle.ab_unifying.proofs.inverting.invert.Goals as goal
 
@@ -44,7 +46,7 @@ prune-requires-clause-free g c =
     let ys = variables_read types store F in
     let start = begun (codes "x") cells ys y in
     let after = pruned (codes "x") ys hs t start in
-    let rest_is : c.in_ok-rest.rest.items ≡ others_than cell F = c.in_ok-rest.ensures in
+    let rest_is : c.remove.new.self.items ≡ others_than cell F = c.remove.ensures in
     subst (All (IsFree store)) (sym rest_is) (all_others (IsFree store) cell F c.requires.free)
 
 pub returns-in_err-plain-clause-grows : goal.returns-in_err-plain-clause-grows
@@ -69,13 +71,14 @@ bind-requires-clause-cell g c =
     let ys = variables_read types store F in
     let start = begun (codes "x") cells ys y in
     let after = pruned (codes "x") ys hs t start in
-    let rest_is : c.in_ok-rest.rest.items ≡ others_than cell F = c.in_ok-rest.ensures in
+    let rest_is : c.remove.new.self.items ≡ others_than cell F = c.remove.ensures in
     let more = c.prune.new.types in
     let middle = c.prune.new.store in
     let held : IsFree store cell = All-contains (IsFree store) F cell c.requires.free c.requires.listed in
-    let was0 : Changed types store (others_than cell F) start types store c.in_ok-rest.rest.items = subst (λ l. Changed types store (others_than cell F) start types store l) (sym rest_is) (begins types store c.requires.store F c.requires.free cell) in
+    let was0 : Changed types store (others_than cell F) start types store c.remove.new.self.items = subst (λ l. Changed types store (others_than cell F) start types store l) (sym rest_is) (begins types store c.requires.store F c.requires.free cell) in
     let was1 : Changed types store (others_than cell F) after more middle c.prune.new.flexible.items =
-    (c.in_ok-prune.ensures.changed types store (others_than cell F) start was0 c.requires.names c.requires.free fits.0 (kind fits.1) fits.5 (resolved_unbound types store term c.requires.resolved) hs 0 refl (none_seen types store F hs start c.new-seen.result c.new-seen.ensures)).0 in
+    subst (λ d. Changed types store (others_than cell F) d more middle c.prune.new.flexible.items) (pruned_others types store cell F hs t start c.requires.absent)
+    (c.in_ok-prune.ensures.changed types store (others_than cell F) start was0 c.requires.names fits.0 (kind fits.1) fits.5 (resolved_unbound types store term c.requires.resolved) hs 0 refl (none_seen types store (others_than cell F) hs start c.new-seen.result c.new-seen.ensures)).0 in
     let apart = was1.others cell held (λ q. (was_other cell cell F q).1 refl) in
     let next = c.copy_resolved.new.store in
     let adds = typed_terms more middle next was1.grows.typed c.in_ok-plain.ensures.adds in
@@ -110,13 +113,14 @@ bind-requires-clause-apart g c =
     let ys = variables_read types store F in
     let start = begun (codes "x") cells ys y in
     let after = pruned (codes "x") ys hs t start in
-    let rest_is : c.in_ok-rest.rest.items ≡ others_than cell F = c.in_ok-rest.ensures in
+    let rest_is : c.remove.new.self.items ≡ others_than cell F = c.remove.ensures in
     let more = c.prune.new.types in
     let middle = c.prune.new.store in
     let held : IsFree store cell = All-contains (IsFree store) F cell c.requires.free c.requires.listed in
-    let was0 : Changed types store (others_than cell F) start types store c.in_ok-rest.rest.items = subst (λ l. Changed types store (others_than cell F) start types store l) (sym rest_is) (begins types store c.requires.store F c.requires.free cell) in
+    let was0 : Changed types store (others_than cell F) start types store c.remove.new.self.items = subst (λ l. Changed types store (others_than cell F) start types store l) (sym rest_is) (begins types store c.requires.store F c.requires.free cell) in
     let was1 : Changed types store (others_than cell F) after more middle c.prune.new.flexible.items =
-    (c.in_ok-prune.ensures.changed types store (others_than cell F) start was0 c.requires.names c.requires.free fits.0 (kind fits.1) fits.5 (resolved_unbound types store term c.requires.resolved) hs 0 refl (none_seen types store F hs start c.new-seen.result c.new-seen.ensures)).0 in
+    subst (λ d. Changed types store (others_than cell F) d more middle c.prune.new.flexible.items) (pruned_others types store cell F hs t start c.requires.absent)
+    (c.in_ok-prune.ensures.changed types store (others_than cell F) start was0 c.requires.names fits.0 (kind fits.1) fits.5 (resolved_unbound types store term c.requires.resolved) hs 0 refl (none_seen types store (others_than cell F) hs start c.new-seen.result c.new-seen.ensures)).0 in
     let apart = was1.others cell held (λ q. (was_other cell cell F q).1 refl) in
     let next = c.copy_resolved.new.store in
     let adds = typed_terms more middle next was1.grows.typed c.in_ok-plain.ensures.adds in
@@ -150,13 +154,14 @@ bind-requires-clause-fits g c =
     let ys = variables_read types store F in
     let start = begun (codes "x") cells ys y in
     let after = pruned (codes "x") ys hs t start in
-    let rest_is : c.in_ok-rest.rest.items ≡ others_than cell F = c.in_ok-rest.ensures in
+    let rest_is : c.remove.new.self.items ≡ others_than cell F = c.remove.ensures in
     let more = c.prune.new.types in
     let middle = c.prune.new.store in
     let held : IsFree store cell = All-contains (IsFree store) F cell c.requires.free c.requires.listed in
-    let was0 : Changed types store (others_than cell F) start types store c.in_ok-rest.rest.items = subst (λ l. Changed types store (others_than cell F) start types store l) (sym rest_is) (begins types store c.requires.store F c.requires.free cell) in
+    let was0 : Changed types store (others_than cell F) start types store c.remove.new.self.items = subst (λ l. Changed types store (others_than cell F) start types store l) (sym rest_is) (begins types store c.requires.store F c.requires.free cell) in
     let was1 : Changed types store (others_than cell F) after more middle c.prune.new.flexible.items =
-    (c.in_ok-prune.ensures.changed types store (others_than cell F) start was0 c.requires.names c.requires.free fits.0 (kind fits.1) fits.5 (resolved_unbound types store term c.requires.resolved) hs 0 refl (none_seen types store F hs start c.new-seen.result c.new-seen.ensures)).0 in
+    subst (λ d. Changed types store (others_than cell F) d more middle c.prune.new.flexible.items) (pruned_others types store cell F hs t start c.requires.absent)
+    (c.in_ok-prune.ensures.changed types store (others_than cell F) start was0 c.requires.names fits.0 (kind fits.1) fits.5 (resolved_unbound types store term c.requires.resolved) hs 0 refl (none_seen types store (others_than cell F) hs start c.new-seen.result c.new-seen.ensures)).0 in
     let apart = was1.others cell held (λ q. (was_other cell cell F q).1 refl) in
     let next = c.copy_resolved.new.store in
     let adds = typed_terms more middle next was1.grows.typed c.in_ok-plain.ensures.adds in
@@ -172,20 +177,14 @@ bind-requires-clause-fits g c =
     (subst (λ l. HasType (signature more) [] (value (codes "x") y l (tree_of more next plain)) y.type) (sym named)
     (subst (λ v. HasType (signature more) [] (value (codes "x") y hs v) y.type) (sym is) (lifted types more whole.table parts.0)))
 
-pub returns-in_err-bind-clause-grows : goal.returns-in_err-bind-clause-grows
-returns-in_err-bind-clause-grows g c =
-    let more = c.prune.new.types in
-    let grows = c.in_ok-prune.ensures.grows in
-    grows_on c.args.types.now more more c.args.store.now c.copy_resolved.new.store c.bind.new.store (grows_on c.args.types.now more more c.args.store.now c.prune.new.store c.copy_resolved.new.store grows (grows_terms more c.prune.new.store c.copy_resolved.new.store (typed_terms more c.prune.new.store c.copy_resolved.new.store grows.typed c.in_ok-plain.ensures.adds))) c.in_err-bind.ensures.grows
-
 pub returns-clause-grows : goal.returns-clause-grows
 returns-clause-grows g c =
     let more = c.prune.new.types in
     let grows = c.in_ok-prune.ensures.grows in
-    grows_on c.args.types.now more more c.args.store.now c.copy_resolved.new.store c.bind.new.store (grows_on c.args.types.now more more c.args.store.now c.prune.new.store c.copy_resolved.new.store grows (grows_terms more c.prune.new.store c.copy_resolved.new.store (typed_terms more c.prune.new.store c.copy_resolved.new.store grows.typed c.in_ok-plain.ensures.adds))) c.in_ok-bind.ensures.grows
+    grows_on c.args.types.now more more c.args.store.now c.copy_resolved.new.store c.bind.new.store (grows_on c.args.types.now more more c.args.store.now c.prune.new.store c.copy_resolved.new.store grows (grows_terms more c.prune.new.store c.copy_resolved.new.store (typed_terms more c.prune.new.store c.copy_resolved.new.store grows.typed c.in_ok-plain.ensures.adds))) c.bind.ensures.grows
 
 pub returns-clause-changed : goal.returns-clause-changed
-returns-clause-changed g c =
+returns-clause-changed g c = on_ok_weaker c.bind.result (λ bound.
     let types = c.args.types.now in
     let store = c.args.store.now in
     let F = c.args.flexible.now.items in
@@ -200,13 +199,14 @@ returns-clause-changed g c =
     let ys = variables_read types store F in
     let start = begun (codes "x") cells ys y in
     let after = pruned (codes "x") ys hs t start in
-    let rest_is : c.in_ok-rest.rest.items ≡ others_than cell F = c.in_ok-rest.ensures in
+    let rest_is : c.remove.new.self.items ≡ others_than cell F = c.remove.ensures in
     let more = c.prune.new.types in
     let middle = c.prune.new.store in
     let held : IsFree store cell = All-contains (IsFree store) F cell c.requires.free c.requires.listed in
-    let was0 : Changed types store (others_than cell F) start types store c.in_ok-rest.rest.items = subst (λ l. Changed types store (others_than cell F) start types store l) (sym rest_is) (begins types store c.requires.store F c.requires.free cell) in
+    let was0 : Changed types store (others_than cell F) start types store c.remove.new.self.items = subst (λ l. Changed types store (others_than cell F) start types store l) (sym rest_is) (begins types store c.requires.store F c.requires.free cell) in
     let was1 : Changed types store (others_than cell F) after more middle c.prune.new.flexible.items =
-    (c.in_ok-prune.ensures.changed types store (others_than cell F) start was0 c.requires.names c.requires.free fits.0 (kind fits.1) fits.5 (resolved_unbound types store term c.requires.resolved) hs 0 refl (none_seen types store F hs start c.new-seen.result c.new-seen.ensures)).0 in
+    subst (λ d. Changed types store (others_than cell F) d more middle c.prune.new.flexible.items) (pruned_others types store cell F hs t start c.requires.absent)
+    (c.in_ok-prune.ensures.changed types store (others_than cell F) start was0 c.requires.names fits.0 (kind fits.1) fits.5 (resolved_unbound types store term c.requires.resolved) hs 0 refl (none_seen types store (others_than cell F) hs start c.new-seen.result c.new-seen.ensures)).0 in
     let apart = was1.others cell held (λ q. (was_other cell cell F q).1 refl) in
     let next = c.copy_resolved.new.store in
     let adds = typed_terms more middle next was1.grows.typed c.in_ok-plain.ensures.adds in
@@ -221,9 +221,9 @@ returns-clause-changed g c =
     let was2 : Changed types store (others_than cell F) after more next c.prune.new.flexible.items = changed_on types store (others_than cell F) after more middle next c.prune.new.flexible.items was1 adds in
     let out : ¬ Contains c.prune.new.flexible.items cell = (was2.others cell held (λ q. (was_other cell cell F q).1 refl)).1 in
     let pair = solve.one (codes "x") (cell_variable more next cell) (map (head_reading more next) names) (tree_of more next plain) in
-    let done : Changed types store F (record { cells = after.cells; flexible = after.flexible; pairs = composition same_number after.pairs pair }) more c.bind.new.store c.prune.new.flexible.items = c.in_ok-bind.ensures.changed types store F after was2 c.requires.listed out in
+    let done : Changed types store F (record { cells = after.cells; flexible = after.flexible; pairs = composition same_number after.pairs pair }) more c.bind.new.store c.prune.new.flexible.items = bound types store F c.prune.new.flexible.items after was2 c.requires.listed out in
     subst (λ p. Changed types store F (record { cells = after.cells; flexible = after.flexible; pairs = composition same_number after.pairs p }) more c.bind.new.store c.prune.new.flexible.items)
     (ap (λ v. solve.one (codes "x") v (map (head_reading more next) names) (tree_of more next plain)) same_y
     ∙ ap (λ l. solve.one (codes "x") y l (tree_of more next plain)) named
     ∙ ap (λ v. solve.one (codes "x") y hs v) is)
-    done
+    done) c.bind.ensures.changed

@@ -2,6 +2,7 @@ use Rattle.std.proofs.Common.{◌≡◌, ℕ, ◌<◌, ◌++◌, map, length, co
 use Rattle.std.specs.Prelude.{All, Contains}
 use Rattle.std.proofs.lemmas.List.{length-map}
 use Rattle.std.proofs.lemmas.List.Elements.{All-contains}
+use Rattle.std.proofs.lemmas.Result.{on_ok_weaker}
 use Rattle.ab_term.specs.Closing.{among}
 use Rattle.ab_term.specs.Variables.{composition}
 use Rattle.ab_term.specs.Sameness.{same_number}
@@ -36,7 +37,7 @@ narrow-requires-clause-listed g c =
     let names = c.args.names.now in
     let others = c.args.others.now in
     let keep = c.args.keep.now in
-    let rest_is : c.in_ok-rest.rest.items ≡ others_than younger F = c.in_ok-rest.ensures in
+    let rest_is : c.remove.new.self.items ≡ others_than younger F = c.remove.ensures in
     subst (λ l. Contains l older) (sym rest_is) (still_other younger older F (λ e. c.requires.differ (same_cell older younger e)) c.requires.older_listed)
 
 pub narrow-requires-clause-free : goal.narrow-requires-clause-free
@@ -49,7 +50,7 @@ narrow-requires-clause-free g c =
     let names = c.args.names.now in
     let others = c.args.others.now in
     let keep = c.args.keep.now in
-    let rest_is : c.in_ok-rest.rest.items ≡ others_than younger F = c.in_ok-rest.ensures in
+    let rest_is : c.remove.new.self.items ≡ others_than younger F = c.remove.ensures in
     subst (All (IsFree store)) (sym rest_is) (all_others (IsFree store) younger F c.requires.free)
 
 pub applied-requires-clause-names : goal.applied-requires-clause-names
@@ -189,28 +190,6 @@ bind-requires-clause-fits g c =
     (left_named types more store middle next c.requires.store c.in_ok-made.ensures.grows adds younger made held.0 names others left c.requires.names c.requires.others keep B term which c.in_ok-made.ensures.number c.in_ok-made.ensures.ty is fits.0 fits.1 older fits.2 flags refl)
     (left_within types more store middle next c.requires.store c.in_ok-made.ensures.grows adds younger made held.0 names others left c.requires.names c.requires.others keep B term which c.in_ok-made.ensures.number c.in_ok-made.ensures.ty is c.requires.keep)
 
-pub returns-in_err-bind-clause-grows : goal.returns-in_err-bind-clause-grows
-returns-in_err-bind-clause-grows g c =
-    let types = c.args.types.now in
-    let store = c.args.store.now in
-    let F = c.args.flexible.now.items in
-    let younger = c.args.younger in
-    let older = c.args.older in
-    let names = c.args.names.now in
-    let others = c.args.others.now in
-    let keep = c.args.keep.now in
-    let more = c.narrow.new.types in
-    let middle = c.narrow.new.store in
-    let made = c.in_ok-made.made in
-    let part = c.in_ok-made.ensures.grows.table in
-    let left = c.deref.result.now in
-    let which : left ≡ kept keep names = c.deref.ensures.value ∙ c.in_ok-keep_heads.ensures ∙ ap (λ l. l ++ kept keep names) c.new-left.ensures.items in
-    let next = c.applied.new.store in
-    let adds = c.in_ok-term.ensures.adds in
-    let is = c.in_ok-term.ensures.reads in
-    let term = c.in_ok-term.term in
-    grows_on types more more store next c.bind.new.store (grows_on types more more store middle next c.in_ok-made.ensures.grows (grows_terms more middle next adds)) c.in_err-bind.ensures.grows
-
 pub returns-clause-grows : goal.returns-clause-grows
 returns-clause-grows g c =
     let types = c.args.types.now in
@@ -231,10 +210,10 @@ returns-clause-grows g c =
     let adds = c.in_ok-term.ensures.adds in
     let is = c.in_ok-term.ensures.reads in
     let term = c.in_ok-term.term in
-    grows_on types more more store next c.bind.new.store (grows_on types more more store middle next c.in_ok-made.ensures.grows (grows_terms more middle next adds)) c.in_ok-bind.ensures.grows
+    grows_on types more more store next c.bind.new.store (grows_on types more more store middle next c.in_ok-made.ensures.grows (grows_terms more middle next adds)) c.bind.ensures.grows
 
 pub returns-clause-changed : goal.returns-clause-changed
-returns-clause-changed g c =
+returns-clause-changed g c = on_ok_weaker c.bind.result (λ bound.
     let types = c.args.types.now in
     let store = c.args.store.now in
     let F = c.args.flexible.now.items in
@@ -243,7 +222,7 @@ returns-clause-changed g c =
     let names = c.args.names.now in
     let others = c.args.others.now in
     let keep = c.args.keep.now in
-    let rest_is : c.in_ok-rest.rest.items ≡ others_than younger F = c.in_ok-rest.ensures in
+    let rest_is : c.remove.new.self.items ≡ others_than younger F = c.remove.ensures in
     let more = c.narrow.new.types in
     let middle = c.narrow.new.store in
     let made = c.in_ok-made.made in
@@ -264,12 +243,12 @@ returns-clause-changed g c =
     let gs = map (head_reading types store) others in
     let start = begun (codes "x") cells ys z in
     let first = narrowed (codes "x") y hs keep start in
-    let was0 : Changed types store (others_than younger F) start types store c.in_ok-rest.rest.items = subst (λ l. Changed types store (others_than younger F) start types store l) (sym rest_is) (begins types store c.requires.store F c.requires.free younger) in
+    let was0 : Changed types store (others_than younger F) start types store c.remove.new.self.items = subst (λ l. Changed types store (others_than younger F) start types store l) (sym rest_is) (begins types store c.requires.store F c.requires.free younger) in
     let was1 = c.in_ok-made.ensures.changed types store (others_than younger F) start was0 in
     let was2 : Changed types store (others_than younger F) first more next c.narrow.new.flexible.items = changed_on types store (others_than younger F) first more middle next c.narrow.new.flexible.items was1 adds in
     let out : ¬ Contains c.narrow.new.flexible.items younger = (was2.others younger held (λ q. (was_other younger younger F q).1 refl)).1 in
     let pair = solve.one (codes "x") (cell_variable more next younger) (map (head_reading more next) others) (tree_of more next term) in
-    let done : Changed types store F (record { cells = first.cells; flexible = first.flexible; pairs = composition same_number first.pairs pair }) more c.bind.new.store c.narrow.new.flexible.items = c.in_ok-bind.ensures.changed types store F first was2 c.requires.younger_listed out in
+    let done : Changed types store F (record { cells = first.cells; flexible = first.flexible; pairs = composition same_number first.pairs pair }) more c.bind.new.store c.narrow.new.flexible.items = bound types store F c.narrow.new.flexible.items first was2 c.requires.younger_listed out in
     let low : z.name < length cells = subst (λ n. younger.0 < n) (sym (map_length (cell_read types) store.cells)) held.0 in
     subst (λ d. Changed types store F d more c.bind.new.store c.narrow.new.flexible.items)
     (ap (λ p. record { cells = first.cells; flexible = first.flexible; pairs = composition same_number first.pairs p })
@@ -281,4 +260,4 @@ returns-clause-changed g c =
       pairs = composition same_number (narrowed (codes "x") y hs k start).pairs (solve.one (codes "x") z gs (applied (codes "x") (next_variable (codes "x") cells (kept_type k y.type)) (kept k hs)));
     }) c.requires.keep
     ∙ joined_is cells ys y z hs gs (kept_read_names types store (map (among gs) hs) names c.requires.names) low)
-    done
+    done) c.bind.ensures.changed

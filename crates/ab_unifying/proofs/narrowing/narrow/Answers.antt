@@ -33,7 +33,7 @@ returns-clause-free g c =
       reads = e.reads;
     } in
     let items : c.push.new.self.items ≡ others_than c.args.cell c.args.flexible.now.items ++ made ∷ [] =
-    c.in_ok-push.ensures.items ∙ ap (λ l. l ++ made ∷ []) c.in_ok-left.ensures in
+    c.in_ok-push.ensures.items ∙ ap (λ l. l ++ made ∷ []) c.remove.ensures in
     subst (All (IsFree now)) (sym items) (narrowed_free types more store now c.requires.store c.args.cell made hs c.args.keep.now n c.args.flexible.now.items c.requires.free)
 
 pub returns-clause-changed : goal.returns-clause-changed
@@ -57,7 +57,7 @@ returns-clause-changed g c = λ T S F change was.
       reads = e.reads;
     } in
     let items : c.push.new.self.items ≡ others_than c.args.cell c.args.flexible.now.items ++ made ∷ [] =
-    c.in_ok-push.ensures.items ∙ ap (λ l. l ++ made ∷ []) c.in_ok-left.ensures in
+    c.in_ok-push.ensures.items ∙ ap (λ l. l ++ made ∷ []) c.remove.ensures in
     subst (λ l. Changed T S F (solve.narrowed (codes "x") (cell_variable types store c.args.cell) hs c.args.keep.now change) more now l) (sym items)
     (narrowed_changed types more store now c.requires.store c.args.cell made hs c.args.keep.now n T S F c.args.flexible.now.items change was c.requires.listed
     c.requires.fits.0 c.requires.fits.1 c.requires.fits.2 (c.requires.flags ∙ sym (length-map c.args.names.now (head_reading types store))))

@@ -21,37 +21,37 @@ use Rattle.ab_unifying.specs.Problem.{variables_read}
 use Rattle.ab_unifying.specs.Pruning.{AllPruned}
 use Rattle.ab_unifying.specs.Changed.{Changed, AllUnbound, AreNames, IsSomeTerm}
 use Rattle.ab_unifying.proofs.Growth.{grows_none, grows_on, grown_term}
-use Rattle.ab_unifying.proofs.Cells.{variables_same}
 use Rattle.ab_unifying.proofs.Losing.{nothing_made, names_deep, pruned_more, seen_more}
 use Rattle.ab_unifying.proofs.Pruned.{args_unbound, lam_typed, spine_typed, args_typed, pruned_next, same_trees}
 use Rattle.ab_unifying.proofs.Joined.{names_more}
 use Rattle.ab_unifying.proofs.Under.{take_one_more}
+use Rattle.ab_unifying.proofs.Walked.{head_free}
 use Rattle.ab_unifying.proofs.pruning.+pruned.Goals as goal
 
 pub prune-returns-then-has-clause-grows : goal.prune-returns-then-has-clause-grows
 prune-returns-then-has-clause-grows g t c = grows_none c.args.types.now c.args.store.now c.requires.store
 
 pub prune-returns-then-has-clause-changed : goal.prune-returns-then-has-clause-changed
-prune-returns-then-has-clause-changed g t c = λ T S F change was named cells G B is clear outer depth names_are all.
-    let ys = variables_read T S c.args.cells.now.items in
+prune-returns-then-has-clause-changed g t c = λ T S F change was named G B is clear outer depth names_are all.
+    let ys = variables_read T S F in
     let long : length c.args.names.now ≡ depth + length outer = names_deep (head_reading T S) c.args.names.now depth outer names_are in
     let seen : has_been c.args.seen.now c.args.term (depth + length outer) ≡ true = ap (has_been c.args.seen.now c.args.term) (sym long) ∙ sym c.has.ensures ∙ c.if-has.true in
     let same : change ≡ pruned (codes "x") ys (map (head_reading T S) c.args.names.now) (tree_of T S c.args.term) change =
     sym (ap (λ hs. pruned (codes "x") ys hs (tree_of T S c.args.term) change) names_are ∙ all c.args.term depth seen) in (
       subst (λ d. Changed T S F d c.args.types.now c.args.store.now c.args.flexible.now.items) same was,
-      subst (λ d. AllPruned T S c.args.cells.now.items outer d c.args.seen.now) same all,
+      subst (λ d. AllPruned T S F outer d c.args.seen.now) same all,
     )
 
 pub prune-returns-in_ok-keep-clause-changed : goal.prune-returns-in_ok-keep-clause-changed
-prune-returns-in_ok-keep-clause-changed g t c = λ T S F change was named cells G B is clear outer depth names_are all.
-    let ys = variables_read T S c.args.cells.now.items in
+prune-returns-in_ok-keep-clause-changed g t c = λ T S F change was named G B is clear outer depth names_are all.
+    let ys = variables_read T S F in
     let hs = map (head_reading T S) c.args.names.now in
     let d = pruned (codes "x") ys hs (tree_of T S c.args.term) change in
-    let done = c.in_ok-lost.ensures.changed T S F change was named cells G B is clear outer depth names_are all in
+    let done = c.in_ok-lost.ensures.changed T S F change was named G B is clear outer depth names_are all in
     let same : d ≡ change = nothing_made T S F change d c.args.types.now c.prune_node.new.types c.args.store.now c.prune_node.new.store c.args.flexible.now.items c.prune_node.new.flexible.items was done.0
     (c.in_ok-lost.ensures.still c.if-not-lost.true) (pruned_more (codes "x") ys hs (tree_of T S c.args.term) change) in (
       done.0,
-      seen_more T S c.args.cells.now.items outer change d c.prune_node.new.seen c.keep.new.self c.args.term (length c.args.names.now) depth hs names_are
+      seen_more T S F outer change d c.prune_node.new.seen c.keep.new.self c.args.term (length c.args.names.now) depth hs names_are
           (names_deep (head_reading T S) c.args.names.now depth outer names_are) refl same done.1 c.in_ok-keep.ensures,
     )
 
@@ -70,7 +70,7 @@ prune_node-prune-requires g t c = λ κs out.
     (omega (arith, low, c.decreases), (out, (c.requires.store, (c.requires.free, (subst (AreNames types) (sym c.deref.ensures.value) (c.in_ok-inner-in-Lam.ensures.names types c.requires.names), (A ∷ c.requires.term.0, r.0, (held, r.1)))))))
 
 pub prune_node-returns-in-Lam-clause-changed : goal.prune_node-returns-in-Lam-clause-changed
-prune_node-returns-in-Lam-clause-changed g t c = on_ok_weaker c.prune.result (λ done T S F change was named cells G B is clear outer depth names_are all.
+prune_node-returns-in-Lam-clause-changed g t c = on_ok_weaker c.prune.result (λ done T S F change was named G B is clear outer depth names_are all.
     let types = c.args.types.now in
     let store = c.args.store.now in
     let node : c.view.result.now ≡ Lam c.in-Lam.field-0 c.in-Lam.field-1 c.in-Lam.body = sym c.in_ok-body.ensures ∙ c.in-Lam.is in
@@ -82,16 +82,16 @@ prune_node-returns-in-Lam-clause-changed g t c = on_ok_weaker c.prune.result (λ
     let here : body.0 < length S.nodes = omega (arith, low, is.0) in
     let same : tree_of T S c.args.term ≡ lam A x (tree_of T S body) = sym (was.grows.trees c.args.term is.0).1 ∙ tree_is ∙ ap (lam A x) (was.grows.trees body here).1 in
     let r = lam_typed (signature T) G A B x (tree_of T S body) (subst (λ u. HasType (signature T) G u B) same is.1) in
-    let ys = variables_read T S c.args.cells.now.items in
+    let ys = variables_read T S F in
     let inner_names : AreNames T c.deref.result.now = subst (AreNames T) (sym c.deref.ensures.value) (c.in_ok-inner-in-Lam.ensures.names T named) in
     let inner_is : map (head_reading T S) c.deref.result.now ≡ under (map (head_reading T S) c.args.names.now) = ap (map (head_reading T S)) c.deref.ensures.value ∙ c.in_ok-inner-in-Lam.ensures.reads T S in
-    let Left : Change (List ℕ) → Type 0 = λ d. Changed T S F d c.prune.new.types c.prune.new.store c.prune.new.flexible.items × AllPruned T S c.args.cells.now.items outer d c.prune.new.seen in
+    let Left : Change (List ℕ) → Type 0 = λ d. Changed T S F d c.prune.new.types c.prune.new.store c.prune.new.flexible.items × AllPruned T S F outer d c.prune.new.seen in
     subst (λ u. Left (pruned (codes "x") ys (map (head_reading T S) c.args.names.now) u change)) (sym same)
     (subst (λ hs. Left (pruned (codes "x") ys hs (tree_of T S body) change)) inner_is
-    (done T S F change was inner_names cells (A ∷ G) r.0 (here, r.1) (subst (AllUnbound S) same clear) outer (suc depth) (inner_is ∙ ap under names_are) all))) c.prune.ensures.changed
+    (done T S F change was inner_names (A ∷ G) r.0 (here, r.1) (subst (AllUnbound S) same clear) outer (suc depth) (inner_is ∙ ap under names_are) all))) c.prune.ensures.changed
 
-pub prune_node-returns-then-is_flexible-clause-changed : goal.prune_node-returns-then-is_flexible-clause-changed
-prune_node-returns-then-is_flexible-clause-changed g t c = on_ok_weaker c.prune_flexible.result (λ done T S F change was named cells G B is clear outer depth names_are all.
+pub prune_node-returns-then-was_flexible-clause-changed : goal.prune_node-returns-then-was_flexible-clause-changed
+prune_node-returns-then-was_flexible-clause-changed g t c = on_ok_weaker c.prune_flexible.result (λ done T S F change was named G B is clear outer depth names_are all.
     let types = c.args.types.now in
     let store = c.args.store.now in
     let node : c.view.result.now ≡ Spine c.in-Spine.head c.in-Spine.args = sym c.in_ok-body.ensures ∙ c.in-Spine.is in
@@ -99,15 +99,16 @@ prune_node-returns-then-is_flexible-clause-changed g t c = on_ok_weaker c.prune_
     let h = head_reading types store c.in-Spine.head in
     let us = terms_of (map (tree_of types store) args) in
     let same : tree_of T S c.args.term ≡ spine h us = sym (was.grows.trees c.args.term is.0).1 ∙ c.view.ensures.tree types ∙ ap (node_tree types store) node in
-    let ys = variables_read T S c.args.cells.now.items in
+    let ys = variables_read T S F in
     let hs = map (head_reading T S) c.args.names.now in
-    let flex : is_flexible ys h ≡ true = ap (λ l. is_flexible l h) (sym (variables_same T types S store was.grows was.start c.args.cells.now.items cells)) ∙ sym (c.is_flexible.ensures types store) ∙ c.if-is_flexible.true in
-    let Left : Change (List ℕ) → Type 0 = λ d. Changed T S F d c.prune_flexible.new.types c.prune_flexible.new.store c.prune_flexible.new.flexible.items × AllPruned T S c.args.cells.now.items outer d c.prune_flexible.new.seen in
+    let free = head_free T S F change types store c.args.flexible.now.items was c.args.term is.0 clear c.in-Spine.head us same in
+    let flex : is_flexible ys h ≡ true = sym (c.was_flexible.ensures T S F change types was free) ∙ c.if-was_flexible.true in
+    let Left : Change (List ℕ) → Type 0 = λ d. Changed T S F d c.prune_flexible.new.types c.prune_flexible.new.store c.prune_flexible.new.flexible.items × AllPruned T S F outer d c.prune_flexible.new.seen in
     subst Left
     (ap (λ u. pruned_here (codes "x") hs (image same_number change.pairs u) change) same
     ∙ sym (ap (λ u. pruned (codes "x") ys hs u change) same
     ∙ ap (λ b. cond b (pruned_here (codes "x") hs (image same_number change.pairs (spine h us)) change) (pruned_all (codes "x") ys hs us change)) flex))
-    (done T S F change was named G B is clear c.args.cells.now.items outer all)) c.prune_flexible.ensures.changed
+    (done T S F change was named G B is clear F outer all)) c.prune_flexible.ensures.changed
 
 pub prune_node-prune_all-requires : goal.prune_node-prune_all-requires
 prune_node-prune_all-requires g t c = λ κs out.
@@ -127,7 +128,7 @@ prune_node-prune_all-requires g t c = λ κs out.
     (omega (arith, bound, c.decreases), (out, (c.requires.store, (c.requires.free, (c.requires.names, All-same (IsSomeTerm types store) _ _ c.as_slice.ensures terms)))))
 
 pub prune_node-returns-clause-changed : goal.prune_node-returns-clause-changed
-prune_node-returns-clause-changed g t c = on_ok_weaker c.prune_all.result (λ done T S F change was named cells G B is clear outer depth names_are all.
+prune_node-returns-clause-changed g t c = on_ok_weaker c.prune_all.result (λ done T S F change was named G B is clear outer depth names_are all.
     let types = c.args.types.now in
     let store = c.args.store.now in
     let node : c.view.result.now ≡ Spine c.in-Spine.head c.in-Spine.args = sym c.in_ok-body.ensures ∙ c.in-Spine.is in
@@ -138,13 +139,14 @@ prune_node-returns-clause-changed g t c = on_ok_weaker c.prune_all.result (λ do
     let held : All (Holds S) args = λ k d l. omega (arith, below k d l, is.0) in
     let same : tree_of T S c.args.term ≡ spine h (terms_of (map (tree_of T S) args)) =
     sym (was.grows.trees c.args.term is.0).1 ∙ tree_is ∙ ap (λ l. spine h (terms_of l)) (same_trees (tree_of types store) (tree_of T S) args (λ k d l. (was.grows.trees (get_or args k d) (held k d l)).1)) in
-    let ys = variables_read T S c.args.cells.now.items in
+    let ys = variables_read T S F in
     let hs = map (head_reading T S) c.args.names.now in
     let r = spine_typed (signature T) G B h (terms_of (map (tree_of T S) args)) (subst (λ u. HasType (signature T) G u B) same is.1) in
-    let flex : is_flexible ys h ≡ false = ap (λ l. is_flexible l h) (sym (variables_same T types S store was.grows was.start c.args.cells.now.items cells)) ∙ sym (c.is_flexible.ensures types store) ∙ c.if-is_flexible.false in
-    let Left : Change (List ℕ) → Type 0 = λ d. Changed T S F d c.prune_all.new.types c.prune_all.new.store c.prune_all.new.flexible.items × AllPruned T S c.args.cells.now.items outer d c.prune_all.new.seen in
+    let free = head_free T S F change types store c.args.flexible.now.items was c.args.term is.0 clear c.in-Spine.head (terms_of (map (tree_of T S) args)) same in
+    let flex : is_flexible ys h ≡ false = sym (c.was_flexible.ensures T S F change types was free) ∙ c.if-was_flexible.false in
+    let Left : Change (List ℕ) → Type 0 = λ d. Changed T S F d c.prune_all.new.types c.prune_all.new.store c.prune_all.new.flexible.items × AllPruned T S F outer d c.prune_all.new.seen in
     let whole = subst (λ l. (H : List Ty) (C D : Ty) → All (Holds S) l → TakeType (signature T) H (terms_of (map (tree_of T S) l)) C D → All (λ t. AllUnbound S (tree_of T S t)) l
-    → Left (pruned_all (codes "x") ys hs (terms_of (map (tree_of T S) l)) change)) c.as_slice.ensures (λ H C D l takes free. done T S F change was named cells H C D l takes free outer depth names_are all) in
+    → Left (pruned_all (codes "x") ys hs (terms_of (map (tree_of T S) l)) change)) c.as_slice.ensures (λ H C D l takes free. done T S F change was named H C D l takes free outer depth names_are all) in
     subst Left
     (sym (ap (λ u. pruned (codes "x") ys hs u change) same
     ∙ ap (λ b. cond b (pruned_here (codes "x") hs (image same_number change.pairs (spine h (terms_of (map (tree_of T S) args)))) change) (pruned_all (codes "x") ys hs (terms_of (map (tree_of T S) args)) change)) flex))
@@ -190,19 +192,19 @@ prune_all-loop-term-preserved g t c =
       steps = omega (arith, here.steps, c.in_ok-pruned.ensures.steps);
       free = c.in_ok-pruned.ensures.free;
       still = λ e. let both = c.is_either-lost.ensures e in c.in_ok-pruned.ensures.still both.1 ∙ here.still both.0;
-      changed = λ T S F change was named cells G A B held takes clear outer depth names_are all.
-          let ys = variables_read T S c.args.cells.now.items in
+      changed = λ T S F change was named G A B held takes clear outer depth names_are all.
+          let ys = variables_read T S F in
           let hs = map (head_reading T S) c.args.names.now in
-          let so_far = here.changed T S F change was named cells G A B held takes clear outer depth names_are all in
+          let so_far = here.changed T S F change was named G A B held takes clear outer depth names_are all in
           let typed = args_typed (signature T) G (tree_of T S) terms A B takes i d low in
-          let next = c.in_ok-pruned.ensures.changed T S F (pruned_all (codes "x") ys hs (terms_of (map (tree_of T S) (take i terms))) change) so_far.0 named cells G typed.0 (held i d low, typed.1) (clear i d low) outer depth names_are so_far.1 in
-          subst (λ e. Changed T S F e c.prune.new.types c.prune.new.store c.prune.new.flexible.items × AllPruned T S c.args.cells.now.items outer e c.prune.new.seen)
+          let next = c.in_ok-pruned.ensures.changed T S F (pruned_all (codes "x") ys hs (terms_of (map (tree_of T S) (take i terms))) change) so_far.0 named G typed.0 (held i d low, typed.1) (clear i d low) outer depth names_are so_far.1 in
+          subst (λ e. Changed T S F e c.prune.new.types c.prune.new.store c.prune.new.flexible.items × AllPruned T S F outer e c.prune.new.seen)
           (sym (ap (λ l. pruned_all (codes "x") ys hs (terms_of (map (tree_of T S) l)) change) (take_one_more terms i d low) ∙ pruned_next (codes "x") ys hs (tree_of T S) (take i terms) (get_or terms i d) change)) next;
     }
 
 pub prune_all-returns-clause-changed : goal.prune_all-returns-clause-changed
-prune_all-returns-clause-changed g t c = λ T S F change was named cells G A B held takes clear outer depth names_are all.
+prune_all-returns-clause-changed g t c = λ T S F change was named G A B held takes clear outer depth names_are all.
     subst (λ l.
-    let e = pruned_all (codes "x") (variables_read T S c.args.cells.now.items) (map (head_reading T S) c.args.names.now) (terms_of (map (tree_of T S) l)) change in
-    Changed T S F e c.loop-term.types c.loop-term.store c.loop-term.flexible.items × AllPruned T S c.args.cells.now.items outer e c.loop-term.seen)
-    (take_all c.loop-term.term-index c.args.terms.now (omega arith)) (c.loop-term.invariant.changed T S F change was named cells G A B held takes clear outer depth names_are all)
+    let e = pruned_all (codes "x") (variables_read T S F) (map (head_reading T S) c.args.names.now) (terms_of (map (tree_of T S) l)) change in
+    Changed T S F e c.loop-term.types c.loop-term.store c.loop-term.flexible.items × AllPruned T S F outer e c.loop-term.seen)
+    (take_all c.loop-term.term-index c.args.terms.now (omega arith)) (c.loop-term.invariant.changed T S F change was named G A B held takes clear outer depth names_are all)

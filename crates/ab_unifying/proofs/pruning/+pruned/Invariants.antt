@@ -31,9 +31,9 @@ invariant-prune_all-loop-term g l = record {
   free : All (IsFree l.store) l.flexible.items;
   still : l.lost ≡ false → l.store.cells ≡ l.fn.store.cells;
   changed : (T : Table) (S : Contents) (F : List CellId) (c : Change (List ℕ)) → Changed T S F c l.fn.types l.fn.store l.fn.flexible.items →
-      AreNames T l.names → All (IsFree S) l.cells.items → (G : List Ty) (A B : Ty) → All (Holds S) l.terms → TakeType (signature T) G (terms_of (map (tree_of T S) l.terms)) A B →
+      AreNames T l.names → (G : List Ty) (A B : Ty) → All (Holds S) l.terms → TakeType (signature T) G (terms_of (map (tree_of T S) l.terms)) A B →
       All (λ t. AllUnbound S (tree_of T S t)) l.terms →
-      (outer : List (tree.Head ℕ)) (depth : ℕ) → map (head_reading T S) l.names ≡ deep depth outer → AllPruned T S l.cells.items outer c l.fn.seen →
-      let d = pruned_all (codes "x") (map (cell_variable T S) l.cells.items) (map (head_reading T S) l.names) (terms_of (map (tree_of T S) (take l.term-index l.terms))) c in
-      Changed T S F d l.types l.store l.flexible.items × AllPruned T S l.cells.items outer d l.seen;
+      (outer : List (tree.Head ℕ)) (depth : ℕ) → map (head_reading T S) l.names ≡ deep depth outer → AllPruned T S F outer c l.fn.seen →
+      let d = pruned_all (codes "x") (map (cell_variable T S) F) (map (head_reading T S) l.names) (terms_of (map (tree_of T S) (take l.term-index l.terms))) c in
+      Changed T S F d l.types l.store l.flexible.items × AllPruned T S F outer d l.seen;
 }

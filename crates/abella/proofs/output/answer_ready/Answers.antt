@@ -1,17 +1,34 @@
 use Rattle.std.proofs.Common.{List, ℕ, refl, ◌∙◌, arith, subst}
 use Rattle.ab_io.specs.Told.{Appends, AppendsFront}
-use Rattle.abella.specs.Progress.{AnswersItem, to_come, standing_of}
-use Rattle.abella.proofs.Progress.{answered_none, answered_more, answered_item, cut_off, not_both, stopped}
+use Rattle.ab_lex.proofs.Awaiting.{rest_behind}
+use Rattle.abella.specs.Progress.{AnswersItem, HasNone, to_come, standing_of}
+use Rattle.abella.proofs.Progress.{answered_none, answered_more, answered_all, answered_item, cut_off, fewer, not_both, stopped}
 use Rattle.abella.proofs.output.answer_ready.Goals as goal
 
 pub items-init : goal.items-init
 items-init g c = record {
   answered = answered_none (g.O.Sink.written c.args.out.now) (to_come c.args.splitter.now) (standing_of c.args.progress.now);
   goes_on = c.requires;
-  rest = λ more. refl;
+  rest = λ more. (λ h. h, λ h. h);
   faults_never_fall = omega arith;
   files = refl;
 }
+
+pub items-smaller : goal.items-smaller
+items-smaller g c =
+    let h : AnswersItem c.in-Ok-Some.bytes.items (standing_of c.items.progress) (standing_of c.next_block.new.progress) c.items.splitter c.next_block.new.splitter = rw c.in-Ok-Some.field-0-is at c.in-Ok-Some.ensures.answered in
+    fewer c.in-Ok-Some.bytes.items (standing_of c.items.progress) (standing_of c.next_block.new.progress) c.items.splitter c.next_block.new.splitter h
+
+pub returns-in-Ok-None-clause-answered : goal.returns-in-Ok-None-clause-answered
+returns-in-Ok-None-clause-answered g c =
+    let h : HasNone (standing_of c.items.progress) (standing_of c.next_block.new.progress) c.items.splitter c.next_block.new.splitter = rw c.in-Ok-None.field-0-is at c.in-Ok-None.ensures.answered in (
+      answered_all (g.O.Sink.written c.args.out.now) (g.O.Sink.written c.items.out) (to_come c.args.splitter.now) (standing_of c.args.progress.now) (standing_of c.items.progress) (standing_of c.next_block.new.progress)
+          c.items.splitter c.next_block.new.splitter c.items.invariant.answered h,
+      λ e. h.none,
+    )
+
+pub returns-in-Ok-None-clause-rest : goal.returns-in-Ok-None-clause-rest
+returns-in-Ok-None-clause-rest g c = rest_behind c.args.splitter.now c.items.splitter c.next_block.new.splitter c.items.invariant.rest c.in-Ok-None.ensures.rest
 
 pub returns-in-Err-clause-answered : goal.returns-in-Err-clause-answered
 returns-in-Err-clause-answered g c =
@@ -34,7 +51,7 @@ items-preserved g c =
           (answered_item c.in-Ok-Some.bytes.items (standing_of c.items.progress) (standing_of c.next_block.new.progress) c.items.splitter c.next_block.new.splitter h (g.O.Sink.written c.items.out) (g.O.Sink.written c.write_all.new.out) w);
       goes_on = c.if-progress.false;
       files = c.next_block.ensures.files ∙ c.items.invariant.files;
-      rest = λ more. c.in-Ok-Some.ensures.rest more ∙ c.items.invariant.rest more;
+      rest = rest_behind c.args.splitter.now c.items.splitter c.next_block.new.splitter c.items.invariant.rest c.in-Ok-Some.ensures.rest;
       faults_never_fall = omega (arith, c.items.invariant.faults_never_fall, c.in_default.ensures.faults_never_fall);
     }
 

@@ -1,5 +1,6 @@
 use Rattle.std.proofs.Common.{◌≡◌, ◌≤◌, false, [], length}
-use Rattle.abella.specs.Progress.{Answered, SameRest, to_come, standing_of}
+use Rattle.ab_lex.specs.Pending.{SameRest}
+use Rattle.abella.specs.Progress.{Answered, to_come, standing_of}
 use Rattle.abella.proofs.output.answer_ready.Given as goal
 
 abbrev pub invariant-items : goal.invariant-items

@@ -1,8 +1,9 @@
-use Rattle.std.proofs.Common.{◌∷◌, sym, ap, ◌∙◌, refl}
+use Rattle.std.proofs.Common.{◌∷◌, sym, refl, subst}
 use Rattle.ab_lex.specs.Commands.{command, long}
+use Rattle.ab_lex.specs.Pending.{Awaits}
 use Rattle.ab_states.specs.Reply.{reply_of}
 use Rattle.ab_session.specs.Contents.{state_of}
-use Rattle.abella.specs.Progress.{moment, to_come}
+use Rattle.abella.specs.Progress.{moment}
 use Rattle.abella.specs.Report.{to_command, to_long}
 use Rattle.abella.proofs.Derived.{borne}
 use Rattle.abella.proofs.output.next_reply.Goals as goal
@@ -14,7 +15,7 @@ returns-in_ok-reply-in-Whole-clause-replied g c =
     record {
       item = command c.bytes.result.now;
       replies = to_command (moment (reply_of s.world r) (state_of s)) c.in_ok-reply-in-Whole.ensures.effect (borne s.world r (state_of s) c.in_ok-reply-in-Whole.ensures.completed);
-      items_are = λ more. c.in-Whole.ensures.items.1 more ∙ ap (λ q. command q ∷ to_come c.next_command.new.self more) (sym c.bytes.ensures);
+      items_are = λ more is h. subst (λ q. Awaits c.args.splitter.now more (command q ∷ is)) (sym c.bytes.ensures) (c.in-Whole.ensures.items.1 more is h);
     }
 
 pub returns-in-TooLong-clause-replied : goal.returns-in-TooLong-clause-replied

@@ -10,7 +10,7 @@ pub pieces-init : goal.pieces-init
 pieces-init g c = record {
   running =
       subst (λ m. Running (g.S.Source.left c.args.input.now) (g.S.Source.left c.args.input.now) (g.O.Sink.written c.args.out.now) (g.O.Sink.written c.args.out.now) c.new-splitter.result m 0) (sym c.requires.begins)
-      (starts (g.S.Source.left c.args.input.now) (g.O.Sink.written c.args.out.now) c.new-splitter.result c.new-splitter.ensures.items c.new-splitter.ensures.blank);
+      (starts (g.S.Source.left c.args.input.now) (g.O.Sink.written c.args.out.now) c.new-splitter.result c.new-splitter.ensures.text c.new-splitter.ensures.in_long);
   room = c.requires.room;
   reads = omega arith;
   writes = omega arith;
@@ -35,7 +35,7 @@ returns-in-Ok-eq0-clause-ran g c =
     let r = ran_to_end (g.S.Source.left c.args.input.now) (g.S.Source.left c.pieces.input) (g.O.Sink.written c.args.out.now) (g.O.Sink.written c.pieces.out) c.pieces.splitter (standing_of c.pieces.progress) c.pieces.taken c.pieces.invariant.running
     c.in-Ok-eq0.field-0 (g.S.Source.left c.read_piece.new.input) c.read_piece.new.splitter c.in-Ok-eq0.ensures.fed c.in-Ok-eq0.field-0-test
     (g.S.Source.faults c.args.input.now) (g.S.Source.faults c.read_piece.new.input) (g.O.Sink.faults c.args.out.now) (g.O.Sink.faults c.pieces.out)
-    c.pieces.progress.refused c.is_finished.result c.rest_is_blank.result refl c.is_finished.ensures (sym c.rest_is_blank.ensures) in
+    c.pieces.progress.refused c.is_finished.result c.rest_is_blank.result refl c.is_finished.ensures c.rest_is_blank.ensures in
     subst (λ s. RanTo s (standing_of c.pieces.progress).state (outside (g.S.Source.left c.args.input.now) (g.O.Sink.written c.args.out.now) (g.S.Source.faults c.args.input.now) (g.O.Sink.faults c.args.out.now)) (outside (g.S.Source.left c.read_piece.new.input) (g.O.Sink.written c.pieces.out) (g.S.Source.faults c.read_piece.new.input) (g.O.Sink.faults c.pieces.out))) (sym c.end_status.ensures) r
 
 pub returns-in-Ok-clause-ran : goal.returns-in-Ok-clause-ran

@@ -1,0 +1,42 @@
+use Rattle.std.proofs.lemmas.Result.{err_from_is_err_and}
+use Rattle.std.proofs.Common.{List, Bool, true, false}
+use Rattle.ab_grammar.specs.Token.{Token}
+use Rattle.ab_grammar.proofs.Following.{BeforeStop}
+use Rattle.ab_grammar.specs.CommandTable.{Definition, Row}
+use Rattle.ab_grammar.specs.CommandTrees as tree
+use Rattle.ab_grammar.proofs.Choices.{define, codefine}
+use Rattle.ab_grammar.proofs.Continuing.{Continues}
+use Rattle.ab_grammar.proofs.Rows.{definienda_by, definition}
+use Rattle.ab_syntax.specs.Commands.{block_head}
+use Rattle.ab_syntax.specs.Reader.{rest}
+use Rattle.ab_syntax.proofs.Followers.{by_no_comma, definiendum_ends}
+use Rattle.ab_syntax.proofs.Passing.{refused_on, refused_first}
+use Rattle.ab_syntax.proofs.block.block.Goals as goal
+
+block : (b : Bool) (ks : List Token) → Continues Definition (Row (block_head b)) BeforeStop (λ d. tree.define b d.0 d.1) ks ks
+block true ks = define ks
+block false ks = codefine ks
+
+pub items-requires-clause-apart : goal.items-requires-clause-apart
+items-requires-clause-apart c = by_no_comma
+
+pub items-requires-clause-within : goal.items-requires-clause-within
+items-requires-clause-within c = definiendum_ends
+
+pub returns-in_err-predicates : goal.returns-in_err-predicates
+returns-in_err-predicates c =
+    let p = err_from_is_err_and c.from_residual.result c.from_residual.ensures.1 in
+    rw (p.1, p.2) (refused_on (block c.args.inductive (rest c.args.text.now c.args.here.now)) _ _ (refused_first definition _ _ _ (refused_first definienda_by _ _ _ c.in_err-predicates.ensures)))
+
+pub returns-in_err-expect : goal.returns-in_err-expect
+returns-in_err-expect c =
+    let p = err_from_is_err_and c.from_residual-in_err-expect.result c.from_residual-in_err-expect.ensures.1 in
+    rw (p.1, p.2) (refused_on (block c.args.inductive (rest c.args.text.now c.args.here.now)) _ _ (refused_first definition _ _ _ (refused_on (definienda_by.first_read _ _ _ c.in_ok-predicates.ensures) _ _ c.in_err-expect.ensures)))
+
+pub returns-in_err-clauses : goal.returns-in_err-clauses
+returns-in_err-clauses c =
+    let p = err_from_is_err_and c.from_residual-in_err-clauses.result c.from_residual-in_err-clauses.ensures.1 in
+    rw (p.1, p.2) (refused_on (block c.args.inductive (rest c.args.text.now c.args.here.now)) _ _ (refused_on (definition.first_read _ _ _ ((definienda_by.first_read _ _ _ c.in_ok-predicates.ensures).reads _ _ c.in_ok-expect.ensures)) _ _ c.in_err-clauses.ensures))
+
+pub returns : goal.returns
+returns c = (block c.args.inductive (rest c.args.text.now c.args.here.now)).reads _ _ ((definition.first_read _ _ _ ((definienda_by.first_read _ _ _ c.in_ok-predicates.ensures).reads _ _ c.in_ok-expect.ensures)).reads _ _ c.in_ok-clauses.ensures)

@@ -1,0 +1,11 @@
+use Rattle.std.proofs.Common.{length, map}
+use Rattle.ab_syntax.specs.Reader.{rest}
+use Rattle.ab_syntax.proofs.Repeating.{ItemsTo}
+use Rattle.ab_syntax.proofs.list.items.Given as goal
+
+-- the items so far were read, from the first on
+abbrev pub invariant-loop-alloc : goal.invariant-loop-alloc
+invariant-loop-alloc g l = ItemsTo g.T.Item.sign g.T.Item.form g.T.Item.list_ends (rest l.text l.fn.here) (map g.T.Item.meant l.items.items) (rest l.text l.here)
+
+abbrev pub decreases-loop-alloc : goal.decreases-loop-alloc
+decreases-loop-alloc g l = length (rest l.text l.here)

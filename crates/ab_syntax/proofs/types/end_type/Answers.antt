@@ -1,0 +1,27 @@
+use Rattle.std.proofs.Common.{◌≡◌, Bool, true, false, inl, ap, sym, ◌∙◌}
+use Rattle.ab_grammar.proofs.Machine.{TypeShut, type_closed}
+use Rattle.ab_syntax.specs.Trees.{type_of}
+use Rattle.ab_syntax.specs.Reader.{seen, kind_of}
+use Rattle.ab_syntax.specs.Steps.{type_frames_of, below_type}
+use Rattle.ab_syntax.proofs.Enders.{follower, type_ended, type_enclosed}
+use Rattle.ab_syntax.proofs.Meanings.{kind_meant}
+use Rattle.ab_syntax.proofs.types.end_type.Goals as goal
+
+pub returns-then-not-enclosed : goal.returns-then-not-enclosed
+returns-then-not-enclosed c =
+    let f : Bool → TypeShut = λ b. record { inner = type_of c.in_ok-inner.field-0.inner.value; below = below_type b (type_frames_of c.shut_type.new.frames) } in
+    let e : c.in_ok-inner.field-0.enclosed ≡ false = (let p = c.in_ok-inner.enclosed-is in let q = c.if-not-enclosed.true in cc) in
+    type_ended (type_frames_of c.args.frames.now) (type_of c.args.last.value) _ (seen c.args.token) (follower c.args.token.kind _ _ c.requires) (c.in_ok-inner.ensures ∙ ap f e)
+
+pub returns-in-RightParen : goal.returns-in-RightParen
+returns-in-RightParen c =
+    let f : Bool → TypeShut = λ b. record { inner = type_of c.in_ok-inner.field-0.inner.value; below = below_type b (type_frames_of c.shut_type.new.frames) } in
+    let e : c.in_ok-inner.field-0.enclosed ≡ true = (let p = c.in_ok-inner.enclosed-is in let q = c.if-not-enclosed.false in cc) in
+    rw c.in-RightParen.is (ap (λ (s : TypeShut). type_closed s.below s.inner) (c.in_ok-inner.ensures ∙ ap f e))
+
+pub returns-in_default : goal.returns-in_default
+returns-in_default c =
+    let f : Bool → TypeShut = λ b. record { inner = type_of c.in_ok-inner.field-0.inner.value; below = below_type b (type_frames_of c.shut_type.new.frames) } in
+    let e : c.in_ok-inner.field-0.enclosed ≡ true = (let p = c.in_ok-inner.enclosed-is in let q = c.if-not-enclosed.false in cc) in
+    let h = type_enclosed (type_frames_of c.args.frames.now) (type_of c.args.last.value) _ (seen c.args.token) (type_frames_of c.shut_type.new.frames) (follower c.args.token.kind _ _ c.requires) (λ q. c.in_default.not-RightParen (sym (kind_meant c.args.token.kind _ _) ∙ ap kind_of q)) (c.in_ok-inner.ensures ∙ ap f e) in
+    (h.0, inl h.1)
