@@ -4,15 +4,15 @@ use Rattle.std.proofs.Math.Seq.{drop-append_seam}
 use Rattle.ab_term.specs.Terms as tree
 use Rattle.ab_term.specs.Translation.{translate_variable}
 use Rattle.ab_term.specs.Variables.{Substitution}
-use Rattle.ab_solve.specs.Replacing.{Cell}
-use Rattle.ab_solve.specs.Solving.{Answer, unified, apart, stuck, Solves}
-use Rattle.ab_solve.proofs.Unique.{unique}
-use Rattle.ab_solve.proofs.Ending.{answered}
-use Rattle.ab_cases.specs.Clauses.{Each}
-use Rattle.ab_logic.specs.Sequents.{Variable, Sequent, over}
+use Rattle.ab_renumbering.specs.ab_solve.specs.Replacing.{Cell}
+use Rattle.ab_renumbering.specs.ab_solve.specs.Solving.{Answer, unified, apart, stuck, Solves}
+use Rattle.ab_renumbering.specs.ab_solve.proofs.Unique.{unique}
+use Rattle.ab_renumbering.specs.ab_solve.proofs.Ending.{answered}
+use Rattle.ab_renumbering.specs.ab_cases.specs.Clauses.{Each}
+use Rattle.ab_goals.specs.ab_logic.specs.Sequents.{Variable, Sequent, over}
 use Rattle.ab_goals.specs.Goals.{variable_named}
-use Rattle.ab_equate.specs.Solved.{made, Naming, Named, under}
-use Rattle.ab_equate.specs.Cases.{Case, problem_of, cell_for, Arises, NeverArises, IsOpen, CaseOver, Split, done, never, arises, IsUnsplit, here, past_never, past_goal}
+use Rattle.ab_analysis.specs.ab_equate.specs.Solved.{made, Naming, Named, under}
+use Rattle.ab_analysis.specs.ab_equate.specs.Cases.{Case, problem_of, cell_for, Arises, NeverArises, IsOpen, CaseOver, Split, done, never, arises, IsUnsplit, here, past_never, past_goal}
 use Rattle.ab_renumbering.specs.Renumbering.{renumbered_equation, renumbered_pairs, renumbered_state, renumbered_answer, IsRenumbering}
 use Rattle.ab_renumbering.proofs.Changes.{extended}
 use Rattle.ab_renumbering.proofs.Runs.{renumbered_solves, cells_kept}

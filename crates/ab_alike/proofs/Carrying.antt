@@ -7,12 +7,12 @@ use Rattle.ab_term.specs.Variables.{Substitution, image}
 use Rattle.ab_term.specs.Sameness.{same_number}
 use Rattle.ab_term.proofs.Translations.{map-append, translate-expansion}
 use Rattle.ab_term.proofs.ImageTranslations.{translate-image}
-use Rattle.ab_store.specs.Trees.{Read}
-use Rattle.ab_solve.specs.Replacing.{Cell, holds}
-use Rattle.ab_solve.specs.Meaning.{keys}
-use Rattle.ab_logic.specs.Sequents.{Variable, Hypothesis, Sequent, in_terms, over}
+use Rattle.ab_goals.specs.ab_store.specs.Trees.{Read}
+use Rattle.ab_renumbering.specs.ab_solve.specs.Replacing.{Cell, holds}
+use Rattle.ab_renumbering.specs.ab_solve.specs.Meaning.{keys}
+use Rattle.ab_goals.specs.ab_logic.specs.Sequents.{Variable, Hypothesis, Sequent, in_terms, over}
 use Rattle.ab_goals.specs.Goals.{variable_named}
-use Rattle.ab_equate.specs.Solved.{stays, variables_from, made, Naming, Named, variable_term, renaming, under, Carried}
+use Rattle.ab_analysis.specs.ab_equate.specs.Solved.{stays, variables_from, made, Naming, Named, variable_term, renaming, under, Carried}
 use Rattle.ab_renumbering.specs.Renumbering.{renumbered, renumbered_pairs, IsRenumbering}
 use Rattle.ab_renumbering.proofs.Tests.{holds_moved}
 use Rattle.ab_renumbering.proofs.Changes.{agreeing}

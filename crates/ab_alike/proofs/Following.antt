@@ -15,18 +15,18 @@ use Rattle.ab_term.specs.Sameness.{same_number}
 use Rattle.ab_term.proofs.Lists.{Contains-none, Contains-cases, Contains-from_map, All-from_contains}
 use Rattle.ab_term.proofs.Translations.{map-append, support-translate}
 use Rattle.ab_term.proofs.ImageTranslations.{translate-image}
-use Rattle.ab_store.specs.Trees.{Read}
-use Rattle.ab_solve.specs.Replacing.{Cell}
-use Rattle.ab_cases.specs.Clauses.{Clause, IsClause}
-use Rattle.ab_cases.specs.Choices.{in_order, choices, for_each, others, new_constant, of_type}
-use Rattle.ab_cases.specs.Alternatives.{Alternative, alternative, on_left, on_right}
-use Rattle.ab_cases.proofs.Choosing.{contains_kept, gathered_from}
-use Rattle.ab_logic.specs.Sequents.{Variable, Hypothesis, Sequent, in_terms, names_of, formulas, goal_names, assuming, proving}
-use Rattle.ab_equate.specs.Solved.{changed}
+use Rattle.ab_goals.specs.ab_store.specs.Trees.{Read}
+use Rattle.ab_renumbering.specs.ab_solve.specs.Replacing.{Cell}
+use Rattle.ab_renumbering.specs.ab_cases.specs.Clauses.{Clause, IsClause}
+use Rattle.ab_renumbering.specs.ab_cases.specs.Choices.{in_order, choices, for_each, others, new_constant, of_type}
+use Rattle.ab_renumbering.specs.ab_cases.specs.Alternatives.{Alternative, alternative, on_left, on_right}
+use Rattle.ab_renumbering.specs.ab_cases.proofs.Choosing.{contains_kept, gathered_from}
+use Rattle.ab_goals.specs.ab_logic.specs.Sequents.{Variable, Hypothesis, Sequent, in_terms, names_of, formulas, goal_names, assuming, proving}
+use Rattle.ab_analysis.specs.ab_equate.specs.Solved.{changed}
 use Rattle.ab_analysis.specs.Atoms.{Defined, Choice, choices_of}
 use Rattle.ab_analysis.specs.Left.{scope_of, raised_variables, raised_goal, case_of}
 use Rattle.ab_analysis.specs.Right.{unfolding_case}
-use Rattle.ab_marks.specs.Marking.{mark_below, mark_above, marked_in}
+use Rattle.ab_analysis.specs.ab_marks.specs.Marking.{mark_below, mark_above, marked_in}
 use Rattle.ab_renumbering.specs.Renumbering.{renumbered, renumbered_pairs, IsRenumbering}
 use Rattle.ab_renumbering.proofs.Changes.{agreeing}
 use Rattle.ab_renumbering.proofs.Alternatives.{IsChosen, alternative_moved}

@@ -3,9 +3,9 @@ use Rattle.std.proofs.Common.{◌≡◌, ℕ, List, Bool, true, false, refl, sym
 use Rattle.std.specs.Prelude.{if◌then◌else◌}
 use Rattle.ab_term.specs.Terms.{Head, constant, logical, nominal, variable, index, lam, spine, Terms, no_terms, term}
 use Rattle.ab_term.specs.Translation.{translate_head, translate_all}
-use Rattle.ab_store.specs.Trees.{Read}
-use Rattle.ab_logic.specs.Marks.{Sign, plain, star_of, at_of, plus_of, hash_of, Making, by_head, by_scope, by_parts, by_mark, making_of}
-use Rattle.ab_marks.specs.Marking.{with_mark, is_one_of, marked_by, marked_in, all_marked_in}
+use Rattle.ab_goals.specs.ab_store.specs.Trees.{Read}
+use Rattle.ab_goals.specs.ab_logic.specs.Marks.{Sign, plain, star_of, at_of, plus_of, hash_of, Making, by_head, by_scope, by_parts, by_mark, making_of}
+use Rattle.ab_analysis.specs.ab_marks.specs.Marking.{with_mark, is_one_of, marked_by, marked_in, all_marked_in}
 use Rattle.ab_renumbering.specs.Renumbering.{renumbered}
 
 module _ (f : ℕ → ℕ) where

@@ -3,11 +3,11 @@ use Rattle.std.proofs.Common.{◌≡◌, ◌≢◌, inl, inr, ℕ, List, [], ◌
 use Rattle.std.specs.Prelude.{All}
 use Rattle.std.proofs.lemmas.List.Elements.{All-nil, All-cons, All-head, All-tail}
 use Rattle.ab_term.specs.Terms as tree
-use Rattle.ab_logic.specs.Declarations.{Declarations}
-use Rattle.ab_logic.specs.Sequents.{Variable, Sequent}
-use Rattle.ab_logic.specs.Names.{IsNoVariable, IsFreeName, IsNamedFor}
+use Rattle.ab_goals.specs.ab_logic.specs.Declarations.{Declarations}
+use Rattle.ab_goals.specs.ab_logic.specs.Sequents.{Variable, Sequent}
+use Rattle.ab_goals.specs.ab_logic.specs.Names.{IsNoVariable, IsFreeName, IsNamedFor}
 use Rattle.ab_goals.specs.Goals.{variable_named}
-use Rattle.ab_equate.specs.Solved.{Naming}
+use Rattle.ab_analysis.specs.ab_equate.specs.Solved.{Naming}
 
 -- the goals' variables have the same names, in order
 abbrev pub HaveSameNames : Sequent → Sequent → Type 0

@@ -7,15 +7,15 @@ use Rattle.std.proofs.lemmas.Option.{slice_get-map}
 use Rattle.ab_term.specs.Terms as tree
 use Rattle.ab_term.specs.Translation.{translate_variable, translate}
 use Rattle.ab_term.specs.Variables.{Substitution}
-use Rattle.ab_store.specs.Trees.{Read}
-use Rattle.ab_solve.specs.Replacing.{Cell}
-use Rattle.ab_solve.specs.Solving.{Answer, unified, apart, stuck, Solves}
-use Rattle.ab_solve.proofs.Ending.{answered}
-use Rattle.ab_logic.specs.Declarations.{Declarations}
-use Rattle.ab_logic.specs.Sequents.{Variable, Hypothesis, Sequent, IsSequent, HoldsOnly, in_terms, over, formulas}
+use Rattle.ab_goals.specs.ab_store.specs.Trees.{Read}
+use Rattle.ab_renumbering.specs.ab_solve.specs.Replacing.{Cell}
+use Rattle.ab_renumbering.specs.ab_solve.specs.Solving.{Answer, unified, apart, stuck, Solves}
+use Rattle.ab_renumbering.specs.ab_solve.proofs.Ending.{answered}
+use Rattle.ab_goals.specs.ab_logic.specs.Declarations.{Declarations}
+use Rattle.ab_goals.specs.ab_logic.specs.Sequents.{Variable, Hypothesis, Sequent, IsSequent, HoldsOnly, in_terms, over, formulas}
 use Rattle.ab_goals.specs.Goals.{Goal, with_names, variable_named, hypothesis_named, named}
 use Rattle.ab_goals.specs.Goals as shown
-use Rattle.ab_equate.specs.Solved.{AreCells, problem, made, Naming, Named, under, Carried, Becomes, AreApart, AreStuck}
+use Rattle.ab_analysis.specs.ab_equate.specs.Solved.{AreCells, problem, made, Naming, Named, under, Carried, Becomes, AreApart, AreStuck}
 use Rattle.ab_renumbering.specs.Renumbering.{renumbered, renumbered_pairs, renumbered_state, renumbered_answer, IsRenumbering}
 use Rattle.ab_renumbering.proofs.Changes.{front, rear, agreeing}
 use Rattle.ab_renumbering.proofs.Runs.{same_answers, cells_kept}

@@ -7,15 +7,15 @@ use Rattle.std.proofs.lemmas.Slice.Eq.{bytes_eq-Decides}
 use Rattle.ab_term.specs.Variables.{Substitution, image}
 use Rattle.ab_term.specs.Sameness.{same_number}
 use Rattle.ab_term.proofs.Translations.{map-append}
-use Rattle.ab_store.specs.Trees.{Read}
-use Rattle.ab_solve.specs.Replacing.{Cell}
-use Rattle.ab_cases.specs.Alternatives.{Alternative, alternative, on_left}
-use Rattle.ab_logic.specs.Sequents.{Variable, Hypothesis, Sequent, over, assuming}
-use Rattle.ab_equate.specs.Solved.{made, Naming, Named, changed, under}
-use Rattle.ab_equate.specs.Cases.{Case, Arises, Split, done, never, arises, IsUnsplit, here, past_never, past_goal}
+use Rattle.ab_goals.specs.ab_store.specs.Trees.{Read}
+use Rattle.ab_renumbering.specs.ab_solve.specs.Replacing.{Cell}
+use Rattle.ab_renumbering.specs.ab_cases.specs.Alternatives.{Alternative, alternative, on_left}
+use Rattle.ab_goals.specs.ab_logic.specs.Sequents.{Variable, Hypothesis, Sequent, over, assuming}
+use Rattle.ab_analysis.specs.ab_equate.specs.Solved.{made, Naming, Named, changed, under}
+use Rattle.ab_analysis.specs.ab_equate.specs.Cases.{Case, Arises, Split, done, never, arises, IsUnsplit, here, past_never, past_goal}
 use Rattle.ab_analysis.specs.Atoms.{Defined, Choice}
 use Rattle.ab_analysis.specs.Left.{scope_of, raised_goal, case_of}
-use Rattle.ab_marks.specs.Marking.{mark_below, marked_in}
+use Rattle.ab_analysis.specs.ab_marks.specs.Marking.{mark_below, marked_in}
 use Rattle.ab_alike.specs.Alike.{relabelled_hypothesis, relabelled}
 use Rattle.ab_alike.proofs.Namings.{HaveSameNames, IsByNames}
 use Rattle.ab_alike.proofs.Carrying.{names_more}

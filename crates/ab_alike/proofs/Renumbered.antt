@@ -4,8 +4,8 @@ use Rattle.std.specs.Prelude.{if◌then◌else◌, ◌==◌}
 use Rattle.ab_term.specs.Terms.{Head, constant, logical, nominal, variable, index, Term, lam, spine, Terms, no_terms, term}
 use Rattle.ab_term.specs.Translation.{translate_head, translate, translate_all}
 use Rattle.ab_term.specs.Sameness.{same_number}
-use Rattle.ab_store.specs.Trees.{Read}
-use Rattle.ab_logic.specs.Sequents.{Variable, Hypothesis, Sequent}
+use Rattle.ab_goals.specs.ab_store.specs.Trees.{Read}
+use Rattle.ab_goals.specs.ab_logic.specs.Sequents.{Variable, Hypothesis, Sequent}
 use Rattle.ab_goals.specs.Goals.{name_in, with_names, variable_named, hypothesis_named, named}
 use Rattle.ab_goals.proofs.Agreeing.{translate_agrees}
 use Rattle.ab_renumbering.specs.Renumbering.{renumbered}

@@ -4,16 +4,16 @@ use Rattle.std.specs.Prelude.{All}
 use Rattle.std.proofs.lemmas.List.Elements.{All-head, All-tail}
 use Rattle.ab_term.specs.Terms.{constant, lam, spine, Terms, no_terms}
 use Rattle.ab_term.specs.Translation.{translate, translate_all}
-use Rattle.ab_store.specs.Trees.{Read}
-use Rattle.ab_solve.specs.Replacing.{Cell}
-use Rattle.ab_cases.specs.Clauses.{Each}
-use Rattle.ab_logic.specs.Declarations.{Declarations}
-use Rattle.ab_logic.specs.Sequents.{Sequent, goal_names}
+use Rattle.ab_goals.specs.ab_store.specs.Trees.{Read}
+use Rattle.ab_renumbering.specs.ab_solve.specs.Replacing.{Cell}
+use Rattle.ab_renumbering.specs.ab_cases.specs.Clauses.{Each}
+use Rattle.ab_goals.specs.ab_logic.specs.Declarations.{Declarations}
+use Rattle.ab_goals.specs.ab_logic.specs.Sequents.{Sequent, goal_names}
 use Rattle.ab_goals.specs.Goals.{Goal, with_names, variable_named, named}
-use Rattle.ab_equate.specs.Solved.{AreCells, Naming}
-use Rattle.ab_equate.specs.Cases.{CaseOver, Split, IsUnsplit}
-use Rattle.ab_equate.proofs.One.{GivesOne}
-use Rattle.ab_equate.proofs.Splits.{split_once, not_both, one_place_unsplit}
+use Rattle.ab_analysis.specs.ab_equate.specs.Solved.{AreCells, Naming}
+use Rattle.ab_analysis.specs.ab_equate.specs.Cases.{CaseOver, Split, IsUnsplit}
+use Rattle.ab_analysis.specs.ab_equate.proofs.One.{GivesOne}
+use Rattle.ab_analysis.specs.ab_equate.proofs.Splits.{split_once, not_both, one_place_unsplit}
 use Rattle.ab_analysis.specs.Atoms.{Defined, Choice, choices_of}
 use Rattle.ab_analysis.specs.Left.{case_of, cases_of}
 use Rattle.ab_renumbering.specs.Renumbering.{renumbered, IsRenumbering}

@@ -11,9 +11,9 @@ use Rattle.ab_term.specs.Terms as tree
 use Rattle.ab_term.specs.Translation.{translate}
 use Rattle.ab_term.specs.Variables.{variables}
 use Rattle.ab_term.proofs.Lists.{Contains-none, Contains-cases, AllPairs-parts}
-use Rattle.ab_store.specs.Trees.{Read}
-use Rattle.ab_solve.specs.Replacing.{Cell}
-use Rattle.ab_logic.specs.Sequents.{Variable, in_terms, HoldsOnly}
+use Rattle.ab_goals.specs.ab_store.specs.Trees.{Read}
+use Rattle.ab_renumbering.specs.ab_solve.specs.Replacing.{Cell}
+use Rattle.ab_goals.specs.ab_logic.specs.Sequents.{Variable, in_terms, HoldsOnly}
 use Rattle.ab_goals.specs.Goals.{name_in, with_names, variable_named}
 use Rattle.ab_goals.proofs.Agreeing.{translate_agrees}
 use Rattle.ab_renumbering.specs.Renumbering.{renumbered, IsRenumbering}

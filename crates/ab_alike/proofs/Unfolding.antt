@@ -5,13 +5,13 @@ use Rattle.std.proofs.lemmas.List.Elements.{All-contains}
 use Rattle.ab_term.specs.Variables.{Substitution, image}
 use Rattle.ab_term.specs.Sameness.{same_number}
 use Rattle.ab_term.proofs.ImageTranslations.{translate-image}
-use Rattle.ab_solve.specs.Replacing.{Cell}
-use Rattle.ab_solve.specs.Solving.{Answer, unified, apart, stuck, Solves}
-use Rattle.ab_logic.specs.Declarations.{Declarations}
-use Rattle.ab_logic.specs.Sequents.{Sequent}
+use Rattle.ab_renumbering.specs.ab_solve.specs.Replacing.{Cell}
+use Rattle.ab_renumbering.specs.ab_solve.specs.Solving.{Answer, unified, apart, stuck, Solves}
+use Rattle.ab_goals.specs.ab_logic.specs.Declarations.{Declarations}
+use Rattle.ab_goals.specs.ab_logic.specs.Sequents.{Sequent}
 use Rattle.ab_goals.specs.Goals.{with_names, variable_named}
-use Rattle.ab_equate.specs.Solved.{AreCells, made}
-use Rattle.ab_equate.specs.Cases.{Case, problem_of, NeverArises, IsOpen}
+use Rattle.ab_analysis.specs.ab_equate.specs.Solved.{AreCells, made}
+use Rattle.ab_analysis.specs.ab_equate.specs.Cases.{Case, problem_of, NeverArises, IsOpen}
 use Rattle.ab_analysis.specs.Atoms.{Defined, Choice}
 use Rattle.ab_analysis.specs.Right.{unfolding_case}
 use Rattle.ab_renumbering.specs.Renumbering.{renumbered, renumbered_pairs, IsRenumbering}

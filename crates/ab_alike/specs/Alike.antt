@@ -2,10 +2,10 @@
 -- same, and so are the two terms that are equated.
 use Rattle.std.specs.Prelude.{◌≡◌, ℕ, List, map, bytes_eq, if◌then◌else◌, All}
 use Rattle.ab_term.specs.Terms.{constant, spine}
-use Rattle.ab_store.specs.Trees.{Read}
-use Rattle.ab_cases.specs.Clauses.{IsClause}
-use Rattle.ab_logic.specs.Declarations.{Declarations, signature_in}
-use Rattle.ab_logic.specs.Sequents.{Hypothesis, Sequent, IsSequent, HoldsOnly}
+use Rattle.ab_goals.specs.ab_store.specs.Trees.{Read}
+use Rattle.ab_renumbering.specs.ab_cases.specs.Clauses.{IsClause}
+use Rattle.ab_goals.specs.ab_logic.specs.Declarations.{Declarations, signature_in}
+use Rattle.ab_goals.specs.ab_logic.specs.Sequents.{Hypothesis, Sequent, IsSequent, HoldsOnly}
 use Rattle.ab_goals.specs.Goals.{with_names, named}
 use Rattle.ab_analysis.specs.Atoms.{Defined}
 

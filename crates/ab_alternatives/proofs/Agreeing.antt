@@ -6,10 +6,10 @@ use Rattle.std.proofs.lemmas.Bool.{false≢true, or_left, or_right, cases_order}
 use Rattle.ab_term.specs.Types.{Ty}
 use Rattle.ab_term.specs.Terms.{Nominal}
 use Rattle.ab_term.proofs.Lists.{Contains-none, Contains-here, Contains-there, Contains-cases}
-use Rattle.ab_cases.specs.Choices.{others, of_type, is_number_of, free_number, for_each, choices, new_constant}
-use Rattle.ab_cases.proofs.Constants.{either}
-use Rattle.ab_cases.proofs.Matching.{new_is_new}
-use Rattle.ab_cases.proofs.Ordered.{new_is_least}
+use Rattle.ab_instances.specs.ab_cases.specs.Choices.{others, of_type, is_number_of, free_number, for_each, choices, new_constant}
+use Rattle.ab_instances.specs.ab_cases.proofs.Constants.{either}
+use Rattle.ab_instances.specs.ab_cases.proofs.Matching.{new_is_new}
+use Rattle.ab_instances.specs.ab_cases.proofs.Ordered.{new_is_least}
 use Rattle.ab_alternatives.specs.Members.{SameMembers}
 
 holder : (xs : List Nominal) (n : ℕ) → is_number_of xs n ≡ true → (b : Nominal) × Contains xs b × (b.number ≡ n)

@@ -14,21 +14,21 @@ use Rattle.ab_term.proofs.Renamings.{renamed, rename-image, rename_typed}
 use Rattle.ab_term.proofs.UpToNames.{rename-itself, up_to_names-symmetric, up_to_names-transitive}
 use Rattle.ab_term.proofs.Lists.{Contains-none, Contains-here, Contains-there, Contains-cases, contains_or_not}
 use Rattle.ab_term.specs.Sameness.{same_number}
-use Rattle.ab_solve.specs.Replacing.{Cell}
-use Rattle.ab_solve.specs.Solving.{Answer, unified, apart, stuck, Solves}
-use Rattle.ab_solve.specs.Meaning.{AreKnown, given}
-use Rattle.ab_cases.specs.Clauses.{Clause, Each, filled, head_of, IsClause, Instance, instance_by}
-use Rattle.ab_cases.specs.Choices.{in_order, outside, choices}
-use Rattle.ab_cases.specs.Alternatives.{Scope, Alternative, on_left, alternative}
-use Rattle.ab_cases.specs.Covering.{Covers, IsCleanFor}
-use Rattle.ab_cases.proofs.Atoms.{IsAtomOf}
-use Rattle.ab_cases.proofs.Constants.{either, Has, has_support, support_has, image_by_has}
-use Rattle.ab_cases.proofs.Choosing.{in_or_outside, outside_contains, contains_ordered, ordered_contains}
-use Rattle.ab_cases.proofs.Matching.{Matches, matched}
+use Rattle.ab_instances.specs.ab_solve.specs.Replacing.{Cell}
+use Rattle.ab_instances.specs.ab_solve.specs.Solving.{Answer, unified, apart, stuck, Solves}
+use Rattle.ab_instances.specs.ab_solve.specs.Meaning.{AreKnown, given}
+use Rattle.ab_instances.specs.ab_cases.specs.Clauses.{Clause, Each, filled, head_of, IsClause, Instance, instance_by}
+use Rattle.ab_instances.specs.ab_cases.specs.Choices.{in_order, outside, choices}
+use Rattle.ab_instances.specs.ab_cases.specs.Alternatives.{Scope, Alternative, on_left, alternative}
+use Rattle.ab_instances.specs.ab_cases.specs.Covering.{Covers, IsCleanFor}
+use Rattle.ab_instances.specs.ab_cases.proofs.Atoms.{IsAtomOf}
+use Rattle.ab_instances.specs.ab_cases.proofs.Constants.{either, Has, has_support, support_has, image_by_has}
+use Rattle.ab_instances.specs.ab_cases.proofs.Choosing.{in_or_outside, outside_contains, contains_ordered, ordered_contains}
+use Rattle.ab_instances.specs.ab_cases.proofs.Matching.{Matches, matched}
 use Rattle.ab_term.proofs.Permuting.{Each as Placed, moved, moved_type, moved_each, moved_stays, moved_injective, OfOneType, rename_agrees, same_up_to_names}
-use Rattle.ab_cases.proofs.Left.{LeftGives, left_gives}
-use Rattle.ab_cases.proofs.Covered.{found_of_all, hold_none, names_typed, same_predicate}
-use Rattle.ab_cases.proofs.Swapped.{Guess, renamed_has, renamed_guess}
+use Rattle.ab_instances.specs.ab_cases.proofs.Left.{LeftGives, left_gives}
+use Rattle.ab_instances.specs.ab_cases.proofs.Covered.{found_of_all, hold_none, names_typed, same_predicate}
+use Rattle.ab_instances.specs.ab_cases.proofs.Swapped.{Guess, renamed_has, renamed_guess}
 use Rattle.ab_alternatives.specs.Covering.{over_cells, HasCover}
 
 -- a term none of whose constants is moved

@@ -10,40 +10,40 @@ use Rattle.ab_term.specs.Terms.{Nominal, Terms}
 use Rattle.ab_term.specs.Typing.{Signature, HasType}
 use Rattle.ab_term.specs.Variables.{Substitution, IsTyped, image, image_all}
 use Rattle.ab_term.specs.Sameness.{same_number}
-use Rattle.ab_types.specs.Entries.{Table}
-use Rattle.ab_store.specs.declared.node.CellId.{CellId}
-use Rattle.ab_store.specs.Trees.{Read, Contents, HoldsCell}
-use Rattle.ab_norm.specs.declared.nominal.Nominal.{Nominal as KeptNominal}
-use Rattle.ab_solve.specs.Replacing.{Cell, holds}
-use Rattle.ab_solve.specs.Solving.{Equation}
-use Rattle.ab_cases.specs.Clauses.{Each, numbered, put_together, clause_variables, clause_names, name_term, filled}
-use Rattle.ab_cases.specs.Alternatives.{cells_over, made_over, made_terms, cells_of, arguments_equal}
-use Rattle.ab_cases.proofs.Covered.{names_typed}
-use Rattle.ab_cases.proofs.Lifting.{OfCells, made_terms_typed}
-use Rattle.ab_cases.proofs.Rows.{together_typed}
-use Rattle.ab_cases.proofs.Variables.{Has, held_has, has_held}
-use Rattle.ab_clauses.specs.declared.kept.ClauseTerm.{ClauseTerm}
-use Rattle.ab_unifying.specs.Problem.{cell_read, cells_read, variables_read}
-use Rattle.ab_unifying.specs.Changed.{Grows}
-use Rattle.ab_store.specs.Reading.{cell_variable}
+use Rattle.ab_instances.specs.ab_types.specs.Entries.{Table}
+use Rattle.ab_instances.specs.ab_store.specs.declared.node.CellId.{CellId}
+use Rattle.ab_instances.specs.ab_store.specs.Trees.{Read, Contents, HoldsCell}
+use Rattle.ab_instances.specs.ab_norm.specs.declared.nominal.Nominal.{Nominal as KeptNominal}
+use Rattle.ab_instances.specs.ab_solve.specs.Replacing.{Cell, holds}
+use Rattle.ab_instances.specs.ab_solve.specs.Solving.{Equation}
+use Rattle.ab_instances.specs.ab_cases.specs.Clauses.{Each, numbered, put_together, clause_variables, clause_names, name_term, filled}
+use Rattle.ab_instances.specs.ab_cases.specs.Alternatives.{cells_over, made_over, made_terms, cells_of, arguments_equal}
+use Rattle.ab_instances.specs.ab_cases.proofs.Covered.{names_typed}
+use Rattle.ab_instances.specs.ab_cases.proofs.Lifting.{OfCells, made_terms_typed}
+use Rattle.ab_instances.specs.ab_cases.proofs.Rows.{together_typed}
+use Rattle.ab_instances.specs.ab_cases.proofs.Variables.{Has, held_has, has_held}
+use Rattle.ab_instances.specs.ab_clauses.specs.declared.kept.ClauseTerm.{ClauseTerm}
+use Rattle.ab_instances.specs.ab_unifying.specs.Problem.{cell_read, cells_read, variables_read}
+use Rattle.ab_instances.specs.ab_unifying.specs.Changed.{Grows}
+use Rattle.ab_instances.specs.ab_store.specs.Reading.{cell_variable}
 use Rattle.ab_instances.specs.Readings.{cells_at}
 use Rattle.ab_instances.proofs.Fitting.{variables_stay}
-use Rattle.ab_logic.specs.Formulas.{IsFormula}
-use Rattle.ab_logic.specs.Declarations.{IsDefining, signature_in}
-use Rattle.ab_logic.specs.Sequents.{Variable, Hypothesis, Sequent, formulas, formulas_of, in_terms, assuming}
-use Rattle.ab_logic.specs.Worlds.{IsWorld, Holds, variable_of, declarations_of, read}
-use Rattle.ab_logic.specs.Readings.{sequent_of, hypothesis_of, HoldsSequent}
-use Rattle.ab_logic.specs.declared.world.World.{World}
-use Rattle.ab_logic.specs.declared.sequent.Sequent.{Sequent as Kept}
-use Rattle.ab_logic.specs.declared.sequent.Hypothesis.{Hypothesis as KeptHypothesis}
-use Rattle.ab_logic.proofs.Images.{image_formula}
-use Rattle.ab_marks.specs.Marking.{mark_below, marked_in}
+use Rattle.ab_analysis.specs.ab_logic.specs.Formulas.{IsFormula}
+use Rattle.ab_analysis.specs.ab_logic.specs.Declarations.{IsDefining, signature_in}
+use Rattle.ab_analysis.specs.ab_logic.specs.Sequents.{Variable, Hypothesis, Sequent, formulas, formulas_of, in_terms, assuming}
+use Rattle.ab_analysis.specs.ab_logic.specs.Worlds.{IsWorld, Holds, variable_of, declarations_of, read}
+use Rattle.ab_analysis.specs.ab_logic.specs.Readings.{sequent_of, hypothesis_of, HoldsSequent}
+use Rattle.ab_analysis.specs.ab_logic.specs.declared.world.World.{World}
+use Rattle.ab_analysis.specs.ab_logic.specs.declared.sequent.Sequent.{Sequent as Kept}
+use Rattle.ab_analysis.specs.ab_logic.specs.declared.sequent.Hypothesis.{Hypothesis as KeptHypothesis}
+use Rattle.ab_analysis.specs.ab_logic.proofs.Images.{image_formula}
+use Rattle.ab_analysis.specs.ab_marks.specs.Marking.{mark_below, marked_in}
 use Rattle.ab_alternatives.proofs.MarkedFormulas.{marked_formula, marked_variables}
-use Rattle.ab_equate.specs.Solved.{changed}
-use Rattle.ab_equate.specs.Cases.{Case}
-use Rattle.ab_equate.specs.Meanwhile.{AreFrom, IsMeanwhile, count_before}
-use Rattle.ab_equate.proofs.Going.{world_meanwhile}
-use Rattle.ab_equate.proofs.Restored.{goal_same, goal_held, declarations_same}
+use Rattle.ab_analysis.specs.ab_equate.specs.Solved.{changed}
+use Rattle.ab_analysis.specs.ab_equate.specs.Cases.{Case}
+use Rattle.ab_analysis.specs.ab_equate.specs.Meanwhile.{AreFrom, IsMeanwhile, count_before}
+use Rattle.ab_analysis.specs.ab_equate.proofs.Going.{world_meanwhile}
+use Rattle.ab_analysis.specs.ab_equate.proofs.Restored.{goal_same, goal_held, declarations_same}
 use Rattle.ab_analysis.specs.Atoms.{Defined, Choice}
 use Rattle.ab_analysis.specs.Left.{raised_variables, case_of}
 use Rattle.ab_alternatives.specs.Raising.{raised_cells, raised_to, raised_terms}

@@ -7,14 +7,14 @@ use Rattle.ab_term.specs.Terms.{Nominal}
 use Rattle.ab_term.specs.Names.{support_of_all}
 use Rattle.ab_term.proofs.Comparisons.{same_type-Decides}
 use Rattle.ab_term.proofs.Lists.{All-from_contains}
-use Rattle.ab_types.specs.Entries.{Table}
-use Rattle.ab_cases.specs.Choices.{others, of_type, new_constant, for_each, choices, in_order}
-use Rattle.ab_cases.proofs.Choosing.{contains_kept}
-use Rattle.ab_norm.specs.declared.nominal.Nominal.{Nominal as KeptNominal}
-use Rattle.ab_cases.specs.Clauses.{Clause}
+use Rattle.ab_instances.specs.ab_types.specs.Entries.{Table}
+use Rattle.ab_instances.specs.ab_cases.specs.Choices.{others, of_type, new_constant, for_each, choices, in_order}
+use Rattle.ab_instances.specs.ab_cases.proofs.Choosing.{contains_kept}
+use Rattle.ab_instances.specs.ab_norm.specs.declared.nominal.Nominal.{Nominal as KeptNominal}
+use Rattle.ab_instances.specs.ab_cases.specs.Clauses.{Clause}
 use Rattle.ab_instances.specs.Readings.{names_read}
-use Rattle.ab_logic.specs.Sequents.{Sequent, goal_names}
-use Rattle.ab_equate.specs.Cases.{CaseOver}
+use Rattle.ab_analysis.specs.ab_logic.specs.Sequents.{Sequent, goal_names}
+use Rattle.ab_analysis.specs.ab_equate.specs.Cases.{CaseOver}
 use Rattle.ab_analysis.specs.Atoms.{Defined}
 use Rattle.ab_analysis.specs.Left.{case_of}
 use Rattle.ab_alternatives.specs.Members.{SameMembers}

@@ -5,12 +5,12 @@ use Rattle.ab_term.specs.Terms.{Variable}
 use Rattle.ab_term.specs.Substitution.{shift, substitute}
 use Rattle.ab_term.specs.Variables.{value_in, image_by}
 use Rattle.ab_term.specs.Sameness.{same_number}
-use Rattle.ab_store.specs.Trees.{Read}
-use Rattle.ab_solve.specs.Replacing.{Cell}
-use Rattle.ab_cases.specs.Clauses.{numbered, put_together}
-use Rattle.ab_cases.specs.Prefixes.{prefix, opened, predicate_of, own_terms}
-use Rattle.ab_clauses.specs.Kept.{Clause}
-use Rattle.ab_clauses.specs.Cases.{in_terms, cell_of, case_of}
+use Rattle.ab_instances.specs.ab_store.specs.Trees.{Read}
+use Rattle.ab_instances.specs.ab_solve.specs.Replacing.{Cell}
+use Rattle.ab_instances.specs.ab_cases.specs.Clauses.{numbered, put_together}
+use Rattle.ab_instances.specs.ab_cases.specs.Prefixes.{prefix, opened, predicate_of, own_terms}
+use Rattle.ab_instances.specs.ab_clauses.specs.Kept.{Clause}
+use Rattle.ab_instances.specs.ab_clauses.specs.Cases.{in_terms, cell_of, case_of}
 use Rattle.ab_alternatives.specs.Headed.{HeadedBy, an_atom, a_nabla}
 
 substituted : (A : Ty) {t : Read} {c : List ℕ} {zs : List (Cell (List ℕ))} → HeadedBy t c zs → (u : Read) (k : ℕ) → HeadedBy (substitute A u k t) c zs

@@ -7,10 +7,10 @@ use Rattle.ab_term.specs.Terms.{Head, constant, logical, nominal, variable, inde
 use Rattle.ab_term.specs.Typing.{Signature, HasType, typed_lam, typed_spine, TakeType, take_none, take_term}
 use Rattle.ab_term.specs.Names.{support_of_head, support, support_of_all}
 use Rattle.ab_term.specs.Variables.{variables_of_head, variables, variables_of_all}
-use Rattle.ab_store.specs.Trees.{Read}
-use Rattle.ab_logic.specs.Formulas.{Place, a_formula, a_scope, a_marked, any, IsAtomic, StandsIn, AllStandIn, IsFormula}
-use Rattle.ab_logic.specs.Marks.{Sign, plain, star_of, at_of, plus_of, hash_of, Making, by_head, by_scope, by_parts, by_mark, making_of}
-use Rattle.ab_marks.specs.Marking.{with_mark, is_one_of, marked_by, marked_in, all_marked_in}
+use Rattle.ab_instances.specs.ab_store.specs.Trees.{Read}
+use Rattle.ab_analysis.specs.ab_logic.specs.Formulas.{Place, a_formula, a_scope, a_marked, any, IsAtomic, StandsIn, AllStandIn, IsFormula}
+use Rattle.ab_analysis.specs.ab_logic.specs.Marks.{Sign, plain, star_of, at_of, plus_of, hash_of, Making, by_head, by_scope, by_parts, by_mark, making_of}
+use Rattle.ab_analysis.specs.ab_marks.specs.Marking.{with_mark, is_one_of, marked_by, marked_in, all_marked_in}
 
 -- what is true of a term where an atom has a mark or has none
 either_way : (P : Read → Type 0) (m : Sign) (t : Read) (b : Bool) → P (with_mark m t) → P t → P (if b then with_mark m t else t)

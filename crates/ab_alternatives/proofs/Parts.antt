@@ -7,14 +7,14 @@ use Rattle.ab_term.specs.Terms.{Nominal, Terms}
 use Rattle.ab_term.specs.Names.{support_of_all}
 use Rattle.ab_term.specs.Variables.{Substitution, image, image_all}
 use Rattle.ab_term.specs.Sameness.{same_number}
-use Rattle.ab_solve.specs.Replacing.{Cell}
-use Rattle.ab_cases.specs.Clauses.{numbered, put_together, filled}
-use Rattle.ab_cases.specs.Choices.{in_order, outside}
-use Rattle.ab_cases.specs.Alternatives.{Scope, Alternative, cells_over, made_over, made_terms, arguments_equal, cells_of, analysed, alternative_with}
-use Rattle.ab_logic.specs.Sequents.{Variable, Sequent, in_terms, assuming}
-use Rattle.ab_equate.specs.Solved.{changed}
-use Rattle.ab_equate.specs.Cases.{Case}
-use Rattle.ab_marks.specs.Marking.{mark_below, marked_in}
+use Rattle.ab_instances.specs.ab_solve.specs.Replacing.{Cell}
+use Rattle.ab_instances.specs.ab_cases.specs.Clauses.{numbered, put_together, filled}
+use Rattle.ab_instances.specs.ab_cases.specs.Choices.{in_order, outside}
+use Rattle.ab_instances.specs.ab_cases.specs.Alternatives.{Scope, Alternative, cells_over, made_over, made_terms, arguments_equal, cells_of, analysed, alternative_with}
+use Rattle.ab_analysis.specs.ab_logic.specs.Sequents.{Variable, Sequent, in_terms, assuming}
+use Rattle.ab_analysis.specs.ab_equate.specs.Solved.{changed}
+use Rattle.ab_analysis.specs.ab_equate.specs.Cases.{Case}
+use Rattle.ab_analysis.specs.ab_marks.specs.Marking.{mark_below, marked_in}
 use Rattle.ab_analysis.specs.Atoms.{Defined, Choice}
 use Rattle.ab_analysis.specs.Left.{scope_of, raised_variables, case_of}
 use Rattle.ab_alternatives.specs.Raising.{raised_cells, raised_to, raised_terms}

@@ -9,24 +9,24 @@ use Rattle.std.proofs.lemmas.List.Elements.{All-get_or, Contains-get_or}
 use Rattle.std.proofs.lemmas.Option.{slice_get-map, slice_get-get_or}
 use Rattle.std.proofs.lemmas.Slice.Eq.{bytes_eq-Decides}
 use Rattle.ab_term.specs.Terms as tree
-use Rattle.ab_types.specs.Entries.{Table}
-use Rattle.ab_types.specs.Ids.{HoldsConstant, type_of}
-use Rattle.ab_types.specs.Sound.{IsTable}
-use Rattle.ab_types.specs.declared.ids.ConstId.{ConstId}
-use Rattle.ab_types.specs.declared.ids.TypeId.{TypeId}
-use Rattle.ab_types.proofs.Kept.{one_constant}
-use Rattle.ab_store.specs.Trees.{tree_of}
-use Rattle.ab_norm.specs.Nominals.{HoldsNominal}
-use Rattle.ab_norm.specs.declared.nominal.Nominal.{Nominal}
-use Rattle.ab_cases.specs.Choices.{choices}
-use Rattle.ab_cases.specs.Clauses as clauses
-use Rattle.ab_cases.specs.Prefixes.{prefix}
-use Rattle.ab_clauses.specs.Cases.{case_of}
-use Rattle.ab_clauses.specs.Readings.{clause_of, name_of}
-use Rattle.ab_clauses.specs.declared.kept.ClauseTerm.{ClauseTerm}
+use Rattle.ab_instances.specs.ab_types.specs.Entries.{Table}
+use Rattle.ab_instances.specs.ab_types.specs.Ids.{HoldsConstant, type_of}
+use Rattle.ab_instances.specs.ab_types.specs.Sound.{IsTable}
+use Rattle.ab_instances.specs.ab_types.specs.declared.ids.ConstId.{ConstId}
+use Rattle.ab_instances.specs.ab_types.specs.declared.ids.TypeId.{TypeId}
+use Rattle.ab_instances.specs.ab_types.proofs.Kept.{one_constant}
+use Rattle.ab_instances.specs.ab_store.specs.Trees.{tree_of}
+use Rattle.ab_instances.specs.ab_norm.specs.Nominals.{HoldsNominal}
+use Rattle.ab_instances.specs.ab_norm.specs.declared.nominal.Nominal.{Nominal}
+use Rattle.ab_instances.specs.ab_cases.specs.Choices.{choices}
+use Rattle.ab_instances.specs.ab_cases.specs.Clauses as clauses
+use Rattle.ab_instances.specs.ab_cases.specs.Prefixes.{prefix}
+use Rattle.ab_instances.specs.ab_clauses.specs.Cases.{case_of}
+use Rattle.ab_instances.specs.ab_clauses.specs.Readings.{clause_of, name_of}
+use Rattle.ab_instances.specs.ab_clauses.specs.declared.kept.ClauseTerm.{ClauseTerm}
 use Rattle.ab_instances.specs.Readings.{names_read, given_at}
-use Rattle.ab_logic.specs.Worlds.{IsKeptClause}
-use Rattle.ab_logic.specs.declared.world.World.{World}
+use Rattle.ab_analysis.specs.ab_logic.specs.Worlds.{IsKeptClause}
+use Rattle.ab_analysis.specs.ab_logic.specs.declared.world.World.{World}
 use Rattle.ab_analysis.specs.Atoms.{Choice, choices_of}
 use Rattle.ab_alternatives.specs.Made.{constants_in}
 use Rattle.ab_alternatives.specs.Readings.{defined_read, HoldsDefined, choice_read}

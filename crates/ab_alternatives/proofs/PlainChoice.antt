@@ -9,17 +9,17 @@ use Rattle.ab_term.specs.Names.{support_of_all}
 use Rattle.ab_term.specs.Variables.{Substitution, image, IsTyped}
 use Rattle.ab_term.specs.Sameness.{same_number}
 use Rattle.ab_term.proofs.Lists.{Contains-here}
-use Rattle.ab_solve.specs.Replacing.{Cell}
-use Rattle.ab_solve.specs.Solving.{Answer, unified, apart, stuck, Solves}
-use Rattle.ab_solve.specs.Meaning.{AreKnown, given}
-use Rattle.ab_cases.specs.Clauses.{Clause, Each, numbered, clause_variables, clause_names, name_term, filled, head_of, IsClause, AreFor, Instance, instance_by}
-use Rattle.ab_cases.specs.Choices.{in_order, choices}
-use Rattle.ab_cases.specs.Alternatives.{Scope, Alternative, on_left, alternative}
-use Rattle.ab_cases.specs.Covering.{Covers, IsCleanFor}
-use Rattle.ab_cases.proofs.Atoms.{IsAtomOf}
-use Rattle.ab_cases.proofs.Constants.{Has, support_has}
-use Rattle.ab_cases.proofs.Left.{LeftGives, left_gives}
-use Rattle.ab_cases.proofs.Covered.{holds_none_of, same_predicate}
+use Rattle.ab_instances.specs.ab_solve.specs.Replacing.{Cell}
+use Rattle.ab_instances.specs.ab_solve.specs.Solving.{Answer, unified, apart, stuck, Solves}
+use Rattle.ab_instances.specs.ab_solve.specs.Meaning.{AreKnown, given}
+use Rattle.ab_instances.specs.ab_cases.specs.Clauses.{Clause, Each, numbered, clause_variables, clause_names, name_term, filled, head_of, IsClause, AreFor, Instance, instance_by}
+use Rattle.ab_instances.specs.ab_cases.specs.Choices.{in_order, choices}
+use Rattle.ab_instances.specs.ab_cases.specs.Alternatives.{Scope, Alternative, on_left, alternative}
+use Rattle.ab_instances.specs.ab_cases.specs.Covering.{Covers, IsCleanFor}
+use Rattle.ab_instances.specs.ab_cases.proofs.Atoms.{IsAtomOf}
+use Rattle.ab_instances.specs.ab_cases.proofs.Constants.{Has, support_has}
+use Rattle.ab_instances.specs.ab_cases.proofs.Left.{LeftGives, left_gives}
+use Rattle.ab_instances.specs.ab_cases.proofs.Covered.{holds_none_of, same_predicate}
 use Rattle.ab_alternatives.specs.Covering.{over_cells, HasCover}
 
 module _ (sg : Signature) {Hint : Type 0} (x : Hint) (sequent : Scope Hint) (clauses : List (Clause Hint)) (well : All (IsClause sg) clauses) (s : Substitution ℕ Hint) (s_typed : IsTyped sg s) (s_clean : IsCleanFor sequent s) (B : Term ℕ Hint) where

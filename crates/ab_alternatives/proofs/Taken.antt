@@ -7,10 +7,10 @@ use Rattle.ab_term.specs.Logical as plain
 use Rattle.ab_term.specs.Logical.{Logical}
 use Rattle.ab_term.specs.Terms.{constant, logical, nominal, variable, index, lam, spine, Terms, no_terms, term}
 use Rattle.ab_term.specs.Typing.{Signature, HasType, typed_spine, TakeType, take_none, take_term}
-use Rattle.ab_store.specs.Trees.{Read}
-use Rattle.ab_logic.specs.Declarations.{Declarations, Block, block_in}
-use Rattle.ab_logic.specs.Forms.{form_alone, form_with, form_between}
-use Rattle.ab_logic.specs.Marks.{Sign, plain as no_mark, star_of, at_of, plus_of, hash_of}
+use Rattle.ab_instances.specs.ab_store.specs.Trees.{Read}
+use Rattle.ab_analysis.specs.ab_logic.specs.Declarations.{Declarations, Block, block_in}
+use Rattle.ab_analysis.specs.ab_logic.specs.Forms.{form_alone, form_with, form_between}
+use Rattle.ab_analysis.specs.ab_logic.specs.Marks.{Sign, plain as no_mark, star_of, at_of, plus_of, hash_of}
 use Rattle.ab_analysis.specs.Atoms.{Defined, defined_as, defined_form, defined_atom}
 
 -- what is true of a defined atom of a formula

@@ -6,19 +6,19 @@ use Rattle.std.proofs.lemmas.List.Elements.{All-contains}
 use Rattle.ab_term.specs.Types.{Ty, prop}
 use Rattle.ab_term.specs.Typing.{Signature}
 use Rattle.ab_term.proofs.Lists.{Contains-map}
-use Rattle.ab_types.specs.Entries as table
-use Rattle.ab_types.specs.Entries.{signature}
-use Rattle.ab_norm.specs.Taking.{AreTaken}
-use Rattle.ab_store.specs.Trees.{Read}
-use Rattle.ab_clauses.specs.Cases.{case_of}
-use Rattle.ab_clauses.specs.Readings.{clause_of, name_of}
-use Rattle.ab_clauses.specs.declared.kept.ClauseTerm.{ClauseTerm}
-use Rattle.ab_logic.specs.Declarations.{signature_in, IsDefining}
-use Rattle.ab_logic.specs.Formulas.{IsFormula}
-use Rattle.ab_logic.specs.Worlds.{IsWorld, declarations_of}
-use Rattle.ab_logic.specs.declared.world.World.{World}
-use Rattle.ab_logic.proofs.Blocks.{block_defines}
-use Rattle.ab_logic.proofs.Declaring.{constants_are}
+use Rattle.ab_instances.specs.ab_types.specs.Entries as table
+use Rattle.ab_instances.specs.ab_types.specs.Entries.{signature}
+use Rattle.ab_instances.specs.ab_norm.specs.Taking.{AreTaken}
+use Rattle.ab_instances.specs.ab_store.specs.Trees.{Read}
+use Rattle.ab_instances.specs.ab_clauses.specs.Cases.{case_of}
+use Rattle.ab_instances.specs.ab_clauses.specs.Readings.{clause_of, name_of}
+use Rattle.ab_instances.specs.ab_clauses.specs.declared.kept.ClauseTerm.{ClauseTerm}
+use Rattle.ab_analysis.specs.ab_logic.specs.Declarations.{signature_in, IsDefining}
+use Rattle.ab_analysis.specs.ab_logic.specs.Formulas.{IsFormula}
+use Rattle.ab_analysis.specs.ab_logic.specs.Worlds.{IsWorld, declarations_of}
+use Rattle.ab_analysis.specs.ab_logic.specs.declared.world.World.{World}
+use Rattle.ab_analysis.specs.ab_logic.proofs.Blocks.{block_defines}
+use Rattle.ab_analysis.specs.ab_logic.proofs.Declaring.{constants_are}
 use Rattle.ab_analysis.specs.Atoms.{defined_atom}
 use Rattle.ab_alternatives.specs.Readings.{defined_read, HoldsDefined}
 use Rattle.ab_alternatives.specs.declared.atoms.DefinedAtom.{DefinedAtom}

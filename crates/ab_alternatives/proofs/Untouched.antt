@@ -3,19 +3,19 @@ use Rattle.std.proofs.Common.{◌≡◌, inl, inr, ℕ, ◌<◌, List, [], ◌++
 use Rattle.std.proofs.lemmas.Bool.{false≢true, false_from_ne_true}
 use Rattle.ab_term.specs.Terms.{Nominal, Variable, Terms, no_terms, term}
 use Rattle.ab_term.proofs.Depends.{image_unmoved}
-use Rattle.ab_solve.proofs.Agreeing.{holds_front}
+use Rattle.ab_instances.specs.ab_solve.proofs.Agreeing.{holds_front}
 use Rattle.ab_term.specs.Typing.{Signature}
 use Rattle.ab_term.specs.Variables.{Substitution, value_in, image, image_all}
 use Rattle.ab_term.specs.Sameness.{same_number}
 use Rattle.ab_term.proofs.Stands as stands
-use Rattle.ab_store.specs.Trees.{Read}
-use Rattle.ab_solve.specs.Replacing.{holds}
-use Rattle.ab_cases.specs.Clauses.{Clause, Each, clause_variables, clause_names, put_together, name_term, filled, IsClause, AreFor}
-use Rattle.ab_cases.specs.Alternatives.{cells_over, made_over, made_terms}
-use Rattle.ab_cases.proofs.Variables.{Any, Has, AllHave, held_has, held_all_have, image_by_has, image_all_by_have}
-use Rattle.ab_cases.proofs.Rows.{each_any, found_has, found_none, nothing_found, held_append, value_behind, numbered_within}
-use Rattle.ab_cases.proofs.Unifier.{made_over_vars, names_over_vars, append-none}
-use Rattle.ab_cases.proofs.Covered.{names_typed}
+use Rattle.ab_instances.specs.ab_store.specs.Trees.{Read}
+use Rattle.ab_instances.specs.ab_solve.specs.Replacing.{holds}
+use Rattle.ab_instances.specs.ab_cases.specs.Clauses.{Clause, Each, clause_variables, clause_names, put_together, name_term, filled, IsClause, AreFor}
+use Rattle.ab_instances.specs.ab_cases.specs.Alternatives.{cells_over, made_over, made_terms}
+use Rattle.ab_instances.specs.ab_cases.proofs.Variables.{Any, Has, AllHave, held_has, held_all_have, image_by_has, image_all_by_have}
+use Rattle.ab_instances.specs.ab_cases.proofs.Rows.{each_any, found_has, found_none, nothing_found, held_append, value_behind, numbered_within}
+use Rattle.ab_instances.specs.ab_cases.proofs.Unifier.{made_over_vars, names_over_vars, append-none}
+use Rattle.ab_instances.specs.ab_cases.proofs.Covered.{names_typed}
 
 abbrev x : List ℕ
 x = codes "x"

@@ -8,16 +8,16 @@ use Rattle.ab_term.specs.Typing.{Signature}
 use Rattle.ab_term.specs.Names.{support_of_all}
 use Rattle.ab_term.specs.Variables.{Substitution}
 use Rattle.ab_term.proofs.Lists.{Contains-none, Contains-here, Contains-there, Contains-cases, Contains-map}
-use Rattle.ab_store.specs.Trees.{Read}
-use Rattle.ab_solve.specs.Replacing.{Cell}
-use Rattle.ab_solve.specs.Solving.{Answer, apart, unified, Solves}
-use Rattle.ab_solve.specs.Meaning.{AreKnown, given}
-use Rattle.ab_cases.specs.Clauses.{Clause}
-use Rattle.ab_cases.specs.Choices.{in_order, choices}
-use Rattle.ab_cases.proofs.Choosing.{gathered, kept_contains}
-use Rattle.ab_logic.specs.Sequents.{Sequent, goal_names, in_terms}
-use Rattle.ab_equate.specs.Solved.{Naming}
-use Rattle.ab_equate.specs.Cases.{CaseOver, Arises, NeverArises, Split, never, arises}
+use Rattle.ab_instances.specs.ab_store.specs.Trees.{Read}
+use Rattle.ab_instances.specs.ab_solve.specs.Replacing.{Cell}
+use Rattle.ab_instances.specs.ab_solve.specs.Solving.{Answer, apart, unified, Solves}
+use Rattle.ab_instances.specs.ab_solve.specs.Meaning.{AreKnown, given}
+use Rattle.ab_instances.specs.ab_cases.specs.Clauses.{Clause}
+use Rattle.ab_instances.specs.ab_cases.specs.Choices.{in_order, choices}
+use Rattle.ab_instances.specs.ab_cases.proofs.Choosing.{gathered, kept_contains}
+use Rattle.ab_analysis.specs.ab_logic.specs.Sequents.{Sequent, goal_names, in_terms}
+use Rattle.ab_analysis.specs.ab_equate.specs.Solved.{Naming}
+use Rattle.ab_analysis.specs.ab_equate.specs.Cases.{CaseOver, Arises, NeverArises, Split, never, arises}
 use Rattle.ab_analysis.specs.Atoms.{Defined, Choice, choices_of}
 use Rattle.ab_analysis.specs.Left.{scope_of, case_of, count_before}
 use Rattle.ab_alternatives.specs.Covering.{HasCover}

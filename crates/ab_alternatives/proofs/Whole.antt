@@ -6,24 +6,24 @@ use Rattle.ab_term.specs.Types.{Ty, prop}
 use Rattle.ab_term.specs.Terms.{Nominal}
 use Rattle.ab_term.specs.Variables.{image, image_all, Substitution}
 use Rattle.ab_term.specs.Sameness.{same_number}
-use Rattle.ab_types.specs.Entries.{Table}
-use Rattle.ab_types.specs.declared.ids.ConstId.{ConstId}
-use Rattle.ab_store.specs.declared.node.TermId.{TermId}
-use Rattle.ab_store.specs.declared.node.CellId.{CellId}
-use Rattle.ab_store.specs.Trees.{Contents, Holds, tree_of}
-use Rattle.ab_store.specs.Naming.{IsTypedBy}
-use Rattle.ab_norm.specs.Growth.{AddsTypedTerms}
-use Rattle.ab_norm.specs.Taking.{AreTaken}
-use Rattle.ab_solve.specs.Replacing.{Cell}
-use Rattle.ab_solver.specs.Answers.{IsTypedPair}
-use Rattle.ab_cases.specs.Clauses.{Clause, filled}
-use Rattle.ab_cases.specs.Alternatives.{cells_over, made_over, made_terms, arguments_equal}
-use Rattle.ab_clauses.specs.Readings.{name_of}
-use Rattle.ab_logic.specs.Marks.{Sign}
-use Rattle.ab_marks.specs.Marking.{mark_below, marked_in}
-use Rattle.ab_unifying.specs.Problem.{cell_read, cells_read, variables_read}
-use Rattle.ab_unifying.specs.Changed.{Grows}
-use Rattle.ab_unifying.proofs.Growth.{grows_on, grows_terms}
+use Rattle.ab_instances.specs.ab_types.specs.Entries.{Table}
+use Rattle.ab_instances.specs.ab_types.specs.declared.ids.ConstId.{ConstId}
+use Rattle.ab_instances.specs.ab_store.specs.declared.node.TermId.{TermId}
+use Rattle.ab_instances.specs.ab_store.specs.declared.node.CellId.{CellId}
+use Rattle.ab_instances.specs.ab_store.specs.Trees.{Contents, Holds, tree_of}
+use Rattle.ab_instances.specs.ab_store.specs.Naming.{IsTypedBy}
+use Rattle.ab_instances.specs.ab_norm.specs.Growth.{AddsTypedTerms}
+use Rattle.ab_instances.specs.ab_norm.specs.Taking.{AreTaken}
+use Rattle.ab_instances.specs.ab_solve.specs.Replacing.{Cell}
+use Rattle.ab_analysis.specs.ab_solver.specs.Answers.{IsTypedPair}
+use Rattle.ab_instances.specs.ab_cases.specs.Clauses.{Clause, filled}
+use Rattle.ab_instances.specs.ab_cases.specs.Alternatives.{cells_over, made_over, made_terms, arguments_equal}
+use Rattle.ab_instances.specs.ab_clauses.specs.Readings.{name_of}
+use Rattle.ab_analysis.specs.ab_logic.specs.Marks.{Sign}
+use Rattle.ab_analysis.specs.ab_marks.specs.Marking.{mark_below, marked_in}
+use Rattle.ab_instances.specs.ab_unifying.specs.Problem.{cell_read, cells_read, variables_read}
+use Rattle.ab_instances.specs.ab_unifying.specs.Changed.{Grows}
+use Rattle.ab_instances.specs.ab_unifying.proofs.Growth.{grows_on, grows_terms}
 use Rattle.ab_instances.specs.Readings.{given_at, cells_at}
 use Rattle.ab_instances.specs.declared.making.Over.{Over}
 use Rattle.ab_analysis.specs.Atoms.{Choice}

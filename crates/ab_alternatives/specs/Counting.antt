@@ -2,11 +2,11 @@
 use Rattle.std.specs.Prelude.{◌≡◌, ◌+◌, ℕ, List, [], map, filter, length, bytes_eq, cond, slice_get, Option, Some, None, All}
 use Rattle.ab_term.specs.Terms.{Nominal}
 use Rattle.ab_term.specs.Names.{support_of_all}
-use Rattle.ab_norm.specs.Nominals.{HoldsNominal}
-use Rattle.ab_cases.specs.Clauses.{Clause}
-use Rattle.ab_cases.specs.Choices.{in_order, choices, for_each}
-use Rattle.ab_clauses.specs.declared.kept.ClauseTerm.{ClauseTerm}
-use Rattle.ab_logic.specs.declared.world.World.{World}
+use Rattle.ab_instances.specs.ab_norm.specs.Nominals.{HoldsNominal}
+use Rattle.ab_instances.specs.ab_cases.specs.Clauses.{Clause}
+use Rattle.ab_instances.specs.ab_cases.specs.Choices.{in_order, choices, for_each}
+use Rattle.ab_instances.specs.ab_clauses.specs.declared.kept.ClauseTerm.{ClauseTerm}
+use Rattle.ab_analysis.specs.ab_logic.specs.declared.world.World.{World}
 use Rattle.ab_analysis.specs.Atoms.{Defined, Choice}
 use Rattle.ab_alternatives.specs.Readings.{choice_read}
 use Rattle.ab_alternatives.specs.declared.choosing.Place.{Place}

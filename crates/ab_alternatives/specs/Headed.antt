@@ -3,8 +3,8 @@ use Rattle.std.specs.Prelude.{ℕ, List, [], ◌∷◌}
 use Rattle.ab_term.specs.Types.{Ty}
 use Rattle.ab_term.specs.Logical.{nabla}
 use Rattle.ab_term.specs.Terms.{constant, logical, lam, spine, Terms, no_terms, term}
-use Rattle.ab_store.specs.Trees.{Read}
-use Rattle.ab_solve.specs.Replacing.{Cell}
+use Rattle.ab_instances.specs.ab_store.specs.Trees.{Read}
+use Rattle.ab_instances.specs.ab_solve.specs.Replacing.{Cell}
 
 -- under binders of these names stands an atom of the predicate
 pub data HeadedBy : Read → List ℕ → List (Cell (List ℕ)) → Type 0 where

@@ -14,3 +14,19 @@ pub mod Counting
 pub mod Covering
 pub mod Met
 pub mod Going
+-- Libraries that the crates above name through this one.
+pub use Rattle.ab_instances.specs.ab_solve
+pub use Rattle.ab_instances.specs.ab_cases
+pub use Rattle.ab_instances.specs.ab_types
+pub use Rattle.ab_instances.specs.ab_store
+pub use Rattle.ab_instances.specs.ab_fits
+pub use Rattle.ab_instances.specs.ab_norm
+pub use Rattle.ab_instances.specs.ab_unify
+pub use Rattle.ab_analysis.specs.ab_logic
+pub use Rattle.ab_instances.specs.ab_unifying
+pub use Rattle.ab_analysis.specs.ab_naming
+pub use Rattle.ab_analysis.specs.ab_solver
+pub use Rattle.ab_analysis.specs.ab_marks
+pub use Rattle.ab_instances
+pub use Rattle.ab_analysis.specs.ab_equate
+pub use Rattle.ab_analysis

@@ -4,31 +4,31 @@ use Rattle.ab_term.specs.Terms.{Nominal, Terms}
 use Rattle.ab_term.specs.Names.{support_of_all}
 use Rattle.ab_term.specs.Variables.{Substitution, image, image_all}
 use Rattle.ab_term.specs.Sameness.{same_number}
-use Rattle.ab_types.specs.Entries.{Table}
-use Rattle.ab_store.specs.declared.node.TermId.{TermId}
-use Rattle.ab_store.specs.declared.node.CellId.{CellId}
-use Rattle.ab_store.specs.declared.node.Equation.{Equation}
-use Rattle.ab_types.specs.Ids.{type_of}
-use Rattle.ab_store.specs.Trees.{Contents, Holds, HoldsCell, cell_of, tree_of}
-use Rattle.ab_store.specs.Naming.{IsTerm}
-use Rattle.ab_solve.specs.Replacing.{Cell}
-use Rattle.ab_solve.specs.Solving as solve
-use Rattle.ab_solver.specs.Answers.{IsTypedPair}
-use Rattle.ab_cases.specs.Clauses.{Each, put_together, filled}
-use Rattle.ab_cases.specs.Choices.{in_order, outside}
-use Rattle.ab_cases.specs.Alternatives.{cells_over, made_over, made_terms, arguments_equal}
-use Rattle.ab_unifying.specs.Problem.{cells_read, variables_read}
+use Rattle.ab_instances.specs.ab_types.specs.Entries.{Table}
+use Rattle.ab_instances.specs.ab_store.specs.declared.node.TermId.{TermId}
+use Rattle.ab_instances.specs.ab_store.specs.declared.node.CellId.{CellId}
+use Rattle.ab_instances.specs.ab_store.specs.declared.node.Equation.{Equation}
+use Rattle.ab_instances.specs.ab_types.specs.Ids.{type_of}
+use Rattle.ab_instances.specs.ab_store.specs.Trees.{Contents, Holds, HoldsCell, cell_of, tree_of}
+use Rattle.ab_instances.specs.ab_store.specs.Naming.{IsTerm}
+use Rattle.ab_instances.specs.ab_solve.specs.Replacing.{Cell}
+use Rattle.ab_instances.specs.ab_solve.specs.Solving as solve
+use Rattle.ab_analysis.specs.ab_solver.specs.Answers.{IsTypedPair}
+use Rattle.ab_instances.specs.ab_cases.specs.Clauses.{Each, put_together, filled}
+use Rattle.ab_instances.specs.ab_cases.specs.Choices.{in_order, outside}
+use Rattle.ab_instances.specs.ab_cases.specs.Alternatives.{cells_over, made_over, made_terms, arguments_equal}
+use Rattle.ab_instances.specs.ab_unifying.specs.Problem.{cells_read, variables_read}
 use Rattle.ab_instances.specs.Readings.{cells_at, trees_at}
 use Rattle.ab_instances.specs.declared.making.Over.{Over}
-use Rattle.ab_logic.specs.Marks.{Sign}
-use Rattle.ab_logic.specs.Worlds.{variable_of}
-use Rattle.ab_logic.specs.Readings.{sequent_of}
-use Rattle.ab_logic.specs.declared.world.World.{World}
-use Rattle.ab_logic.specs.declared.sequent.Sequent.{Sequent as Kept}
-use Rattle.ab_marks.specs.Marking.{mark_below, marked_in}
-use Rattle.ab_equate.specs.Solved.{changed}
-use Rattle.ab_equate.specs.Cases.{Case}
-use Rattle.ab_equate.specs.Meanwhile.{count_before}
+use Rattle.ab_analysis.specs.ab_logic.specs.Marks.{Sign}
+use Rattle.ab_analysis.specs.ab_logic.specs.Worlds.{variable_of}
+use Rattle.ab_analysis.specs.ab_logic.specs.Readings.{sequent_of}
+use Rattle.ab_analysis.specs.ab_logic.specs.declared.world.World.{World}
+use Rattle.ab_analysis.specs.ab_logic.specs.declared.sequent.Sequent.{Sequent as Kept}
+use Rattle.ab_analysis.specs.ab_marks.specs.Marking.{mark_below, marked_in}
+use Rattle.ab_analysis.specs.ab_equate.specs.Solved.{changed}
+use Rattle.ab_analysis.specs.ab_equate.specs.Cases.{Case}
+use Rattle.ab_analysis.specs.ab_equate.specs.Meanwhile.{count_before}
 use Rattle.ab_analysis.specs.Atoms.{Choice}
 use Rattle.ab_alternatives.specs.Raising.{raised_cells, raised_to, raised_terms}
 use Rattle.ab_alternatives.specs.declared.alternatives.Alternative.{Alternative}

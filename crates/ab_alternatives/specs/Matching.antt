@@ -2,15 +2,15 @@
 -- clause brought are left open.
 use Rattle.std.specs.Prelude.{◌≡◌, ℕ, ◌-◌, List, [], ◌∷◌, length, take, codes}
 use Rattle.ab_term.specs.Variables.{Substitution}
-use Rattle.ab_types.specs.Entries.{Table}
-use Rattle.ab_store.specs.declared.node.CellId.{CellId}
-use Rattle.ab_store.specs.Trees.{Contents, cell_of}
-use Rattle.ab_solve.specs.Replacing.{Cell}
-use Rattle.ab_solve.specs.Solving.{State, unified, apart, stuck, Solves}
-use Rattle.ab_unifying.specs.Problem.{cells_read}
-use Rattle.ab_logic.specs.Sequents.{Variable, Sequent}
-use Rattle.ab_equate.specs.Solved.{made}
-use Rattle.ab_equate.specs.Cases.{problem_of}
+use Rattle.ab_instances.specs.ab_types.specs.Entries.{Table}
+use Rattle.ab_instances.specs.ab_store.specs.declared.node.CellId.{CellId}
+use Rattle.ab_instances.specs.ab_store.specs.Trees.{Contents, cell_of}
+use Rattle.ab_instances.specs.ab_solve.specs.Replacing.{Cell}
+use Rattle.ab_instances.specs.ab_solve.specs.Solving.{State, unified, apart, stuck, Solves}
+use Rattle.ab_instances.specs.ab_unifying.specs.Problem.{cells_read}
+use Rattle.ab_analysis.specs.ab_logic.specs.Sequents.{Variable, Sequent}
+use Rattle.ab_analysis.specs.ab_equate.specs.Solved.{made}
+use Rattle.ab_analysis.specs.ab_equate.specs.Cases.{problem_of}
 use Rattle.ab_analysis.specs.Atoms.{Defined, Choice}
 use Rattle.ab_analysis.specs.Right.{unfolding_case}
 use Rattle.ab_alternatives.specs.declared.matching.Match.{Match}

@@ -4,13 +4,13 @@ use Rattle.ab_term.specs.Types.{Ty}
 use Rattle.ab_term.specs.Typing.{Signature}
 use Rattle.ab_term.specs.Variables.{Substitution, image, IsTyped}
 use Rattle.ab_term.specs.Sameness.{same_number}
-use Rattle.ab_store.specs.Trees.{Read}
-use Rattle.ab_solve.specs.Replacing.{Cell}
-use Rattle.ab_cases.specs.Alternatives.{Alternative, alternative, on_left}
-use Rattle.ab_cases.specs.Covering.{IsOf}
-use Rattle.ab_logic.specs.Sequents.{Sequent, goal_names}
-use Rattle.ab_equate.specs.Solved.{Naming}
-use Rattle.ab_equate.specs.Cases.{CaseOver, Arises}
+use Rattle.ab_instances.specs.ab_store.specs.Trees.{Read}
+use Rattle.ab_instances.specs.ab_solve.specs.Replacing.{Cell}
+use Rattle.ab_instances.specs.ab_cases.specs.Alternatives.{Alternative, alternative, on_left}
+use Rattle.ab_instances.specs.ab_cases.specs.Covering.{IsOf}
+use Rattle.ab_analysis.specs.ab_logic.specs.Sequents.{Sequent, goal_names}
+use Rattle.ab_analysis.specs.ab_equate.specs.Solved.{Naming}
+use Rattle.ab_analysis.specs.ab_equate.specs.Cases.{CaseOver, Arises}
 use Rattle.ab_analysis.specs.Atoms.{Defined, Choice, choices_of}
 use Rattle.ab_analysis.specs.Left.{scope_of, case_of}
 

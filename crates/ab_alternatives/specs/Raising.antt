@@ -2,9 +2,9 @@
 -- speak of this.
 use Rattle.std.specs.Prelude.{ℕ, List, [], ◌∷◌, codes}
 use Rattle.ab_term.specs.Terms.{Nominal, Variable}
-use Rattle.ab_store.specs.Trees.{Read}
-use Rattle.ab_solve.specs.Replacing.{Cell}
-use Rattle.ab_cases.specs.Alternatives.{cells_over, made_over, made_terms}
+use Rattle.ab_instances.specs.ab_store.specs.Trees.{Read}
+use Rattle.ab_instances.specs.ab_solve.specs.Replacing.{Cell}
+use Rattle.ab_instances.specs.ab_cases.specs.Alternatives.{cells_over, made_over, made_terms}
 
 -- new variables over the constants, where there are such
 abbrev pub raised_cells : List Nominal → List (Cell (List ℕ)) → List (Cell (List ℕ))

@@ -1,13 +1,13 @@
 //! The cases by one clause, tried one after another.
 ghost use Rattle.std.specs.Prelude.{◌≡◌, ◌≤◌, ◌∷◌, [], ℕ, Ok, Some, None, map, All, IfOk};
-ghost use Rattle.ab_store.specs.Naming.{IsTypedBy};
-ghost use Rattle.ab_norm.specs.Nominals.{HoldsNominal};
-ghost use Rattle.ab_cases.specs.Choices as plain;
-ghost use Rattle.ab_clauses.specs.Cases as kept;
-ghost use Rattle.ab_clauses.specs.Readings.{clause_of, name_of};
+ghost use Rattle.ab_instances.specs.ab_store.specs.Naming.{IsTypedBy};
+ghost use Rattle.ab_instances.specs.ab_norm.specs.Nominals.{HoldsNominal};
+ghost use Rattle.ab_instances.specs.ab_cases.specs.Choices as plain;
+ghost use Rattle.ab_instances.specs.ab_clauses.specs.Cases as kept;
+ghost use Rattle.ab_instances.specs.ab_clauses.specs.Readings.{clause_of, name_of};
 ghost use Rattle.ab_instances.specs.Readings.{names_read};
-ghost use Rattle.ab_logic.specs.Worlds.{IsKeptClause};
-ghost use Rattle.ab_logic.specs.Readings.{HoldsSequent, sequent_of};
+ghost use Rattle.ab_analysis.specs.ab_logic.specs.Worlds.{IsKeptClause};
+ghost use Rattle.ab_analysis.specs.ab_logic.specs.Readings.{HoldsSequent, sequent_of};
 ghost use Rattle.ab_analysis.specs.Left.{case_of};
 ghost use Rattle.ab_alternatives.specs.Readings.{defined_read, choice_read};
 ghost use Rattle.ab_alternatives.specs.Going.{clause_cases, IsLater, IsReady, ArePassed, AreStopped};
@@ -16,13 +16,13 @@ use crate::atoms::DefinedAtom;
 use crate::constants::Constants;
 use crate::heads::{is_of, prefix_types};
 use crate::trying::try_case;
-use ab_clauses::ClauseTerm;
-use ab_equate::CaseSolution;
+use ab_analysis::below::equate::CaseSolution;
+use ab_analysis::below::logic::{Sequent, World};
+use ab_instances::below::clauses::ClauseTerm;
+use ab_instances::below::norm::Nominal;
+use ab_instances::below::store::Store;
+use ab_instances::below::types::{Name, Steps, TypeTable};
 use ab_instances::{Choices, Names, choices};
-use ab_logic::{Sequent, World};
-use ab_norm::Nominal;
-use ab_store::Store;
-use ab_types::{Name, Steps, TypeTable};
 use std::alloc::{AllocError, Global};
 
 /// The choices for the clause's names.

@@ -1,11 +1,11 @@
 //! The choices of a defined atom, counted.
 ghost use Rattle.std.specs.Prelude.{◌≡◌, map, slice_get, None, Some, Ok, All, IfOk, IfSome};
 ghost use Rattle.std.specs.Option.{option_map};
-ghost use Rattle.ab_norm.specs.Nominals.{HoldsNominal};
-ghost use Rattle.ab_clauses.specs.Cases.{case_of};
-ghost use Rattle.ab_clauses.specs.Readings.{clause_of};
+ghost use Rattle.ab_instances.specs.ab_norm.specs.Nominals.{HoldsNominal};
+ghost use Rattle.ab_instances.specs.ab_clauses.specs.Cases.{case_of};
+ghost use Rattle.ab_instances.specs.ab_clauses.specs.Readings.{clause_of};
 ghost use Rattle.ab_instances.specs.Readings.{names_read, given_at};
-ghost use Rattle.ab_logic.specs.Worlds.{IsWorld, IsKeptClause};
+ghost use Rattle.ab_analysis.specs.ab_logic.specs.Worlds.{IsWorld, IsKeptClause};
 ghost use Rattle.ab_analysis.specs.Atoms.{choices_of};
 ghost use Rattle.ab_alternatives.specs.Made.{constants_in};
 ghost use Rattle.ab_alternatives.specs.Readings.{defined_read, HoldsDefined, choice_read};
@@ -14,10 +14,10 @@ ghost use Rattle.ab_alternatives.specs.Choices.{read_choice, IsHeldFor};
 
 use crate::atoms::DefinedAtom;
 use crate::heads::{is_of, prefix_types};
-use ab_clauses::ClauseTerm;
+use ab_analysis::below::logic::World;
+use ab_instances::below::clauses::ClauseTerm;
+use ab_instances::below::norm::Nominal;
 use ab_instances::{Choices, choices};
-use ab_logic::World;
-use ab_norm::Nominal;
 use std::alloc::{AllocError, Global};
 
 /// A clause of an atom's definition, with constants for its names.

@@ -1,30 +1,30 @@
 //! The conclusion to which an atom gives way, once its equations are solved.
 ghost use Rattle.std.specs.Prelude.{◌≡◌, ◌≤◌, ◌-◌, ◌++◌, [], ℕ, map, length, All, IfOk, Ok};
 ghost use Rattle.ab_term.specs.Types.{prop};
-ghost use Rattle.ab_solve.specs.Solving as rules;
-ghost use Rattle.ab_solve.specs.Solving.{Solves};
+ghost use Rattle.ab_instances.specs.ab_solve.specs.Solving as rules;
+ghost use Rattle.ab_instances.specs.ab_solve.specs.Solving.{Solves};
 ghost use Rattle.std.specs.Prelude.{codes};
-ghost use Rattle.ab_store.specs.declared.node.TermId.{TermId as ATerm};
-ghost use Rattle.ab_store.specs.Trees.{Holds, HoldsCell, tree_of};
-ghost use Rattle.ab_store.specs.Reading.{reading};
-ghost use Rattle.ab_store.specs.Naming.{IsTypedBy, IsTerm};
-ghost use Rattle.ab_norm.specs.Growth.{AddsTypedTerms};
-ghost use Rattle.ab_norm.specs.Nominals.{HoldsNominal};
-ghost use Rattle.ab_solver.specs.Answers.{IsTypedPair};
-ghost use Rattle.ab_unifying.specs.Problem.{problem};
-ghost use Rattle.ab_unifying.specs.Changed.{Grows};
+ghost use Rattle.ab_instances.specs.ab_store.specs.declared.node.TermId.{TermId as ATerm};
+ghost use Rattle.ab_instances.specs.ab_store.specs.Trees.{Holds, HoldsCell, tree_of};
+ghost use Rattle.ab_instances.specs.ab_store.specs.Reading.{reading};
+ghost use Rattle.ab_instances.specs.ab_store.specs.Naming.{IsTypedBy, IsTerm};
+ghost use Rattle.ab_instances.specs.ab_norm.specs.Growth.{AddsTypedTerms};
+ghost use Rattle.ab_instances.specs.ab_norm.specs.Nominals.{HoldsNominal};
+ghost use Rattle.ab_analysis.specs.ab_solver.specs.Answers.{IsTypedPair};
+ghost use Rattle.ab_instances.specs.ab_unifying.specs.Problem.{problem};
+ghost use Rattle.ab_instances.specs.ab_unifying.specs.Changed.{Grows};
 ghost use Rattle.ab_instances.specs.Readings.{names_read};
-ghost use Rattle.ab_equate.specs.Meanwhile.{AreFrom, unbound_of};
+ghost use Rattle.ab_analysis.specs.ab_equate.specs.Meanwhile.{AreFrom, unbound_of};
 ghost use Rattle.ab_alternatives.specs.Unfolding.{variable_at, closed_by, Becomes};
 ghost use Rattle.ab_alternatives.specs.declared.concluding.Conclusion.TheVariants.{Formula, Apart, Stuck};
 
 use crate::quantifying::{exists_all, nabla_all};
 use crate::trying::both;
 use crate::unfolding::Unfolding;
-use ab_norm::{Nominal, copy_resolved};
-use ab_solver::{Solved, unify};
-use ab_store::{CellId, Store, TermId};
-use ab_types::{Name, Steps, TypeTable};
+use ab_analysis::below::solver::{Solved, unify};
+use ab_instances::below::norm::{Nominal, copy_resolved};
+use ab_instances::below::store::{CellId, Store, TermId};
+use ab_instances::below::types::{Name, Steps, TypeTable};
 use std::alloc::{AllocError, Global};
 
 /// What comes of unfolding a conclusion.

@@ -1,10 +1,10 @@
 //! The first choice by which a conclusion unfolds.
 ghost use Rattle.std.specs.Prelude.{◌≡◌, ◌≤◌, slice_get, Ok, Some, None, IfOk};
-ghost use Rattle.ab_unifying.specs.Problem.{cells_read};
-ghost use Rattle.ab_logic.specs.Growth.{Grows};
-ghost use Rattle.ab_logic.specs.Worlds.{IsWorld, declarations_of};
-ghost use Rattle.ab_logic.specs.Readings.{HoldsSequent, sequent_of};
-ghost use Rattle.ab_logic.specs.Sequents.{IsSequent, goal_names};
+ghost use Rattle.ab_instances.specs.ab_unifying.specs.Problem.{cells_read};
+ghost use Rattle.ab_analysis.specs.ab_logic.specs.Growth.{Grows};
+ghost use Rattle.ab_analysis.specs.ab_logic.specs.Worlds.{IsWorld, declarations_of};
+ghost use Rattle.ab_analysis.specs.ab_logic.specs.Readings.{HoldsSequent, sequent_of};
+ghost use Rattle.ab_analysis.specs.ab_logic.specs.Sequents.{IsSequent, goal_names};
 ghost use Rattle.ab_analysis.specs.Atoms.{Choice as APlainChoice, defined_atom, choices_of};
 ghost use Rattle.ab_alternatives.specs.Matching.{Matches};
 ghost use Rattle.ab_alternatives.specs.Readings.{defined_read, HoldsDefined};
@@ -15,9 +15,9 @@ use crate::atoms::DefinedAtom;
 use crate::choosing::choice_at;
 use crate::constants::goal_constants;
 use crate::matching::{Match, match_choice};
+use ab_analysis::below::logic::{Sequent, World};
+use ab_instances::below::types::{Name, Steps};
 use ab_instances::constants_of;
-use ab_logic::{Sequent, World};
-use ab_types::{Name, Steps};
 use std::alloc::{AllocError, Global};
 
 /// What is found among the choices of a conclusion's atom. Places and equations are counted from 0.

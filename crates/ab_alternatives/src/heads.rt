@@ -1,20 +1,19 @@
 //! Heads of clauses: the atom under the prefix of `nabla` binders, whether it is of a predicate, and the types of the names
 //! that the binders bind.
 ghost use Rattle.std.specs.Prelude.{◌≡◌, ◌↔◌, ◌++◌, map, bytes_eq, true, All, IfOk, IfSome, OnOk, None};
-ghost use Rattle.ab_types.specs.Entries.{Table};
-ghost use Rattle.ab_types.specs.Ids.{HoldsType, HoldsConstant, type_of};
-ghost use Rattle.ab_store.specs.Trees.{Holds, tree_of};
-ghost use Rattle.ab_store.specs.Naming.{IsTypedBy};
-ghost use Rattle.ab_cases.specs.Prefixes.{prefix, IsHead};
-ghost use Rattle.ab_clauses.specs.Cases.{case_of};
-ghost use Rattle.ab_clauses.specs.Readings.{clause_of, name_of};
-ghost use Rattle.ab_logic.specs.Worlds.{IsKeptClause};
+ghost use Rattle.ab_instances.specs.ab_types.specs.Entries.{Table};
+ghost use Rattle.ab_instances.specs.ab_types.specs.Ids.{HoldsType, HoldsConstant, type_of};
+ghost use Rattle.ab_instances.specs.ab_store.specs.Trees.{Holds, tree_of};
+ghost use Rattle.ab_instances.specs.ab_store.specs.Naming.{IsTypedBy};
+ghost use Rattle.ab_instances.specs.ab_cases.specs.Prefixes.{prefix, IsHead};
+ghost use Rattle.ab_instances.specs.ab_clauses.specs.Cases.{case_of};
+ghost use Rattle.ab_instances.specs.ab_clauses.specs.Readings.{clause_of, name_of};
+ghost use Rattle.ab_analysis.specs.ab_logic.specs.Worlds.{IsKeptClause};
 ghost use Rattle.ab_alternatives.specs.Headed.{HeadedBy};
 
-use ab_clauses::ClauseTerm;
-use ab_store::{Head, Logical, Node, Store, TermId};
-use ab_types::laws::has_unique_ids;
-use ab_types::{ConstId, TypeId, TypeTable};
+use ab_instances::below::clauses::ClauseTerm;
+use ab_instances::below::store::{Head, Logical, Node, Store, TermId};
+use ab_instances::below::types::{ConstId, TypeId, TypeTable, has_unique_ids};
 use std::alloc::{AllocError, Global};
 
 /// The predicate of the atom under the prefix, if there is such an atom.

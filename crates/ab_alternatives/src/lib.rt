@@ -7,6 +7,7 @@
 mod allowed;
 mod alternatives;
 mod atoms;
+pub mod below;
 mod by_clause;
 mod choosing;
 mod concluding;

@@ -1,13 +1,13 @@
 //! A conclusion is unfolded by the choice of a place.
 ghost use Rattle.std.specs.Prelude.{◌≡◌, ◌≤◌, ℕ, slice_get, Ok, Some, None};
-ghost use Rattle.ab_unifying.specs.Problem.{cells_read};
-ghost use Rattle.ab_logic.specs.Growth.{Grows};
-ghost use Rattle.ab_logic.specs.Worlds.{IsWorld, declarations_of};
-ghost use Rattle.ab_logic.specs.Readings.{HoldsSequent, sequent_of};
-ghost use Rattle.ab_logic.specs.Sequents.{IsSequent, goal_names};
-ghost use Rattle.ab_logic.specs.declared.sequent.Sequent.{Sequent as AGoal};
-ghost use Rattle.ab_equate.specs.Cases.{NeverArises, IsOpen};
-ghost use Rattle.ab_equate.specs.declared.cases.CaseSolution.TheVariants.{Unified, Apart, Stuck};
+ghost use Rattle.ab_instances.specs.ab_unifying.specs.Problem.{cells_read};
+ghost use Rattle.ab_analysis.specs.ab_logic.specs.Growth.{Grows};
+ghost use Rattle.ab_analysis.specs.ab_logic.specs.Worlds.{IsWorld, declarations_of};
+ghost use Rattle.ab_analysis.specs.ab_logic.specs.Readings.{HoldsSequent, sequent_of};
+ghost use Rattle.ab_analysis.specs.ab_logic.specs.Sequents.{IsSequent, goal_names};
+ghost use Rattle.ab_analysis.specs.ab_logic.specs.declared.sequent.Sequent.{Sequent as AGoal};
+ghost use Rattle.ab_analysis.specs.ab_equate.specs.Cases.{NeverArises, IsOpen};
+ghost use Rattle.ab_analysis.specs.ab_equate.specs.declared.cases.CaseSolution.TheVariants.{Unified, Apart, Stuck};
 ghost use Rattle.ab_analysis.specs.Atoms.{Choice as APlainChoice, defined_atom, choices_of};
 ghost use Rattle.ab_analysis.specs.Right.{unfolding_case};
 ghost use Rattle.ab_alternatives.specs.Unfolding.{IsUnfolded};
@@ -17,10 +17,10 @@ use crate::atoms::DefinedAtom;
 use crate::choosing::choice_at;
 use crate::constants::goal_constants;
 use crate::right::unfold;
-use ab_equate::CaseSolution;
+use ab_analysis::below::equate::CaseSolution;
+use ab_analysis::below::logic::{Sequent, World};
+use ab_instances::below::types::Steps;
 use ab_instances::constants_of;
-use ab_logic::{Sequent, World};
-use ab_types::Steps;
 use std::alloc::{AllocError, Global};
 
 /// The goal with its conclusion unfolded by the choice of this place, counted from 0, if there are so many. The atom is the

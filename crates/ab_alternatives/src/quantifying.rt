@@ -2,20 +2,19 @@
 ghost use Rattle.std.specs.Prelude.{◌≡◌, [], map, All, IfOk};
 ghost use Rattle.ab_term.specs.Closing as closing;
 ghost use Rattle.ab_term.specs.Terms.{logical, lam, spine, term, no_terms};
-ghost use Rattle.ab_types.specs.Ids.{HoldsType, type_of};
-ghost use Rattle.ab_store.specs.Trees.{Holds, HoldsCell, tree_of, head_reading, logical_of};
-ghost use Rattle.ab_store.specs.Naming.{IsTypedBy, LogicalIsTyped, HeadIsTyped};
-ghost use Rattle.ab_norm.specs.Growth.{AddsTypedTerms};
-ghost use Rattle.ab_norm.specs.Nominals.{HoldsNominal};
+ghost use Rattle.ab_instances.specs.ab_types.specs.Ids.{HoldsType, type_of};
+ghost use Rattle.ab_instances.specs.ab_store.specs.Trees.{Holds, HoldsCell, tree_of, head_reading, logical_of};
+ghost use Rattle.ab_instances.specs.ab_store.specs.Naming.{IsTypedBy, LogicalIsTyped, HeadIsTyped};
+ghost use Rattle.ab_instances.specs.ab_norm.specs.Growth.{AddsTypedTerms};
+ghost use Rattle.ab_instances.specs.ab_norm.specs.Nominals.{HoldsNominal};
 ghost use Rattle.ab_instances.specs.Readings.{names_read};
 ghost use Rattle.ab_analysis.specs.Right.{exists_all};
 ghost use Rattle.ab_alternatives.specs.Unfolding.{variable_at, nabla_by};
 
-use ab_norm::Nominal;
-use ab_patterns::close;
-use ab_store::{CellId, Head, Logical, Store, TermId};
-use ab_types::laws::has_unique_ids;
-use ab_types::{Name, TypeId, TypeTable};
+use ab_instances::below::norm::Nominal;
+use ab_instances::below::patterns::close;
+use ab_instances::below::store::{CellId, Head, Logical, Store, TermId};
+use ab_instances::below::types::{Name, TypeId, TypeTable, has_unique_ids};
 use std::alloc::{AllocError, Global};
 
 /// The formula under the quantifier, which binds the name, of this type, under the hint.

@@ -4,16 +4,16 @@ ghost use Rattle.std.proofs.Common.{Vec as AVec, Global as AllocGlobal};
 ghost use Rattle.ab_term.specs.Types.{prop};
 ghost use Rattle.ab_term.specs.Typing.{HasType};
 ghost use Rattle.ab_term.specs.Terms.{constant, spine};
-ghost use Rattle.ab_unifying.specs.Problem.{cells_read};
-ghost use Rattle.ab_logic.specs.Declarations.{signature_in};
-ghost use Rattle.ab_logic.specs.Formulas.{IsFormula};
-ghost use Rattle.ab_logic.specs.Growth.{Grows};
-ghost use Rattle.ab_logic.specs.Names.{IsNamedFor};
-ghost use Rattle.ab_logic.specs.Sequents.{IsSequent, formulas_of};
-ghost use Rattle.ab_logic.specs.Worlds.{IsWorld, declarations_of};
-ghost use Rattle.ab_logic.specs.Readings.{HoldsSequent, sequent_of};
-ghost use Rattle.ab_logic.specs.declared.sequent.Sequent.{Sequent as AGoal};
-ghost use Rattle.ab_equate.specs.Cases.{Split, IsUnsplit};
+ghost use Rattle.ab_instances.specs.ab_unifying.specs.Problem.{cells_read};
+ghost use Rattle.ab_analysis.specs.ab_logic.specs.Declarations.{signature_in};
+ghost use Rattle.ab_analysis.specs.ab_logic.specs.Formulas.{IsFormula};
+ghost use Rattle.ab_analysis.specs.ab_logic.specs.Growth.{Grows};
+ghost use Rattle.ab_analysis.specs.ab_logic.specs.Names.{IsNamedFor};
+ghost use Rattle.ab_analysis.specs.ab_logic.specs.Sequents.{IsSequent, formulas_of};
+ghost use Rattle.ab_analysis.specs.ab_logic.specs.Worlds.{IsWorld, declarations_of};
+ghost use Rattle.ab_analysis.specs.ab_logic.specs.Readings.{HoldsSequent, sequent_of};
+ghost use Rattle.ab_analysis.specs.ab_logic.specs.declared.sequent.Sequent.{Sequent as AGoal};
+ghost use Rattle.ab_analysis.specs.ab_equate.specs.Cases.{Split, IsUnsplit};
 ghost use Rattle.ab_analysis.specs.Left.{cases_of};
 ghost use Rattle.ab_alternatives.specs.Readings.{defined_read, HoldsDefined};
 ghost use Rattle.ab_alternatives.specs.declared.splitting.Splitting.TheVariants.{Goals, Stuck};
@@ -21,8 +21,8 @@ ghost use Rattle.ab_alternatives.specs.declared.splitting.Splitting.TheVariants.
 use crate::atoms::DefinedAtom;
 use crate::by_clause::try_clause;
 use crate::constants::constants_in;
-use ab_logic::{Sequent, World};
-use ab_types::{Name, Steps};
+use ab_analysis::below::logic::{Sequent, World};
+use ab_instances::below::types::{Name, Steps};
 use std::alloc::{AllocError, Global};
 
 /// What comes of splitting a goal into cases.

@@ -1,31 +1,31 @@
 //! An atom of a conclusion gives way to the body of a clause.
 ghost use Rattle.std.specs.Prelude.{◌≡◌, ◌≤◌, ◌++◌, [], Some, map, length, All, IfOk, OnOk};
 ghost use Rattle.ab_term.specs.Types.{Ty, prop};
-ghost use Rattle.ab_types.specs.Entries.{signature};
-ghost use Rattle.ab_types.specs.Ids.{HoldsConstant};
-ghost use Rattle.ab_store.specs.Trees.{Holds};
-ghost use Rattle.ab_store.specs.Naming.{IsTypedBy};
-ghost use Rattle.ab_norm.specs.Nominals.{HoldsNominal};
-ghost use Rattle.ab_norm.specs.Taking.{AreTaken};
-ghost use Rattle.ab_clauses.specs.Cases.{case_of};
-ghost use Rattle.ab_clauses.specs.Readings.{clause_of, name_of};
-ghost use Rattle.ab_unifying.specs.Changed.{Grows};
+ghost use Rattle.ab_instances.specs.ab_types.specs.Entries.{signature};
+ghost use Rattle.ab_instances.specs.ab_types.specs.Ids.{HoldsConstant};
+ghost use Rattle.ab_instances.specs.ab_store.specs.Trees.{Holds};
+ghost use Rattle.ab_instances.specs.ab_store.specs.Naming.{IsTypedBy};
+ghost use Rattle.ab_instances.specs.ab_norm.specs.Nominals.{HoldsNominal};
+ghost use Rattle.ab_instances.specs.ab_norm.specs.Taking.{AreTaken};
+ghost use Rattle.ab_instances.specs.ab_clauses.specs.Cases.{case_of};
+ghost use Rattle.ab_instances.specs.ab_clauses.specs.Readings.{clause_of, name_of};
+ghost use Rattle.ab_instances.specs.ab_unifying.specs.Changed.{Grows};
 ghost use Rattle.ab_instances.specs.Readings.{names_read, given_at};
-ghost use Rattle.ab_logic.specs.Forms.{sign_of};
-ghost use Rattle.ab_logic.specs.Formulas.{IsFormula};
-ghost use Rattle.ab_logic.specs.Worlds.{IsKeptClause};
+ghost use Rattle.ab_analysis.specs.ab_logic.specs.Forms.{sign_of};
+ghost use Rattle.ab_analysis.specs.ab_logic.specs.Formulas.{IsFormula};
+ghost use Rattle.ab_analysis.specs.ab_logic.specs.Worlds.{IsKeptClause};
 ghost use Rattle.ab_alternatives.specs.Made.{constants_in};
 ghost use Rattle.ab_alternatives.specs.Unfolding.{IsOpened};
 
 use crate::allowed::mark_above;
 use crate::alternatives::equated;
 use crate::atoms::DefinedAtom;
-use ab_clauses::ClauseTerm;
+use ab_analysis::below::marks::mark_atoms;
+use ab_instances::below::clauses::ClauseTerm;
+use ab_instances::below::norm::Nominal;
+use ab_instances::below::store::{CellId, Equation, Store, TermId};
+use ab_instances::below::types::{Steps, TypeTable};
 use ab_instances::{instance_of, outside};
-use ab_marks::mark_atoms;
-use ab_norm::Nominal;
-use ab_store::{CellId, Equation, Store, TermId};
-use ab_types::{Steps, TypeTable};
 use std::alloc::{AllocError, Global};
 
 /// What an atom of a conclusion may become: the clause's own variables, the equations, and the clause's body, with its

@@ -4,12 +4,12 @@ use Rattle.std.specs.Prelude.{ℕ, List, map, filter, bytes_eq, Option, None}
 use Rattle.std.specs.Option.{option_map}
 use Rattle.ab_term.specs.Terms.{Nominal, constant, Terms, spine}
 use Rattle.ab_term.specs.Names.{support_of_all}
-use Rattle.ab_store.specs.Trees.{Read}
-use Rattle.ab_cases.specs.Clauses.{Clause}
-use Rattle.ab_cases.specs.Choices.{in_order, choices, for_each}
-use Rattle.ab_logic.specs.Declarations.{Declarations, Block, block_in}
-use Rattle.ab_logic.specs.Forms.{Form, marked, other, form_of}
-use Rattle.ab_logic.specs.Marks.{Sign, plain}
+use Rattle.ab_marks.specs.ab_store.specs.Trees.{Read}
+use Rattle.ab_marks.specs.ab_cases.specs.Clauses.{Clause}
+use Rattle.ab_marks.specs.ab_cases.specs.Choices.{in_order, choices, for_each}
+use Rattle.ab_marks.specs.ab_logic.specs.Declarations.{Declarations, Block, block_in}
+use Rattle.ab_marks.specs.ab_logic.specs.Forms.{Form, marked, other, form_of}
+use Rattle.ab_marks.specs.ab_logic.specs.Marks.{Sign, plain}
 
 -- an atom whose predicate is defined, with its mark
 pub record Defined : Type 0 where

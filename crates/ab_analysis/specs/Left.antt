@@ -4,9 +4,9 @@ use Rattle.std.specs.Prelude.{ℕ, ◌-◌, List, [], ◌∷◌, map, length, ta
 use Rattle.ab_term.specs.Terms as tree
 use Rattle.ab_term.specs.Variables.{Substitution, image}
 use Rattle.ab_term.specs.Sameness.{same_number}
-use Rattle.ab_solve.specs.Replacing.{Cell}
-use Rattle.ab_cases.specs.Alternatives.{Scope, Alternative, alternative, on_left}
-use Rattle.ab_logic.specs.Sequents.{Variable, Sequent, in_terms, goal_names, assuming}
+use Rattle.ab_marks.specs.ab_solve.specs.Replacing.{Cell}
+use Rattle.ab_marks.specs.ab_cases.specs.Alternatives.{Scope, Alternative, alternative, on_left}
+use Rattle.ab_marks.specs.ab_logic.specs.Sequents.{Variable, Sequent, in_terms, goal_names, assuming}
 use Rattle.ab_equate.specs.Solved.{changed}
 use Rattle.ab_equate.specs.Cases.{Case, CaseOver}
 use Rattle.ab_analysis.specs.Atoms.{Defined, Choice, choices_of}

@@ -6,10 +6,10 @@ use Rattle.ab_term.specs.Terms.{Nominal, nominal, logical, variable, lam, spine,
 use Rattle.ab_term.specs.Closing.{close}
 use Rattle.ab_term.specs.Variables.{Substitution, image}
 use Rattle.ab_term.specs.Sameness.{same_number}
-use Rattle.ab_store.specs.Trees.{Read}
-use Rattle.ab_solve.specs.Replacing.{Cell}
-use Rattle.ab_cases.specs.Alternatives.{alternative, on_right}
-use Rattle.ab_logic.specs.Sequents.{Variable, Sequent, in_terms, proving}
+use Rattle.ab_marks.specs.ab_store.specs.Trees.{Read}
+use Rattle.ab_marks.specs.ab_solve.specs.Replacing.{Cell}
+use Rattle.ab_marks.specs.ab_cases.specs.Alternatives.{alternative, on_right}
+use Rattle.ab_marks.specs.ab_logic.specs.Sequents.{Variable, Sequent, in_terms, proving}
 use Rattle.ab_equate.specs.Solved.{made}
 use Rattle.ab_equate.specs.Cases.{Case}
 use Rattle.ab_analysis.specs.Atoms.{Defined, Choice}

@@ -4,42 +4,42 @@ use Rattle.std.specs.Global.{Global}
 use Rattle.std.proofs.Common.{◌≡◌, ◌≢◌, ℕ, List, [], ◌∷◌, ◌++◌, map, length, refl, sym, ◌∙◌, ap, subst, append_assoc}
 use Rattle.std.proofs.lemmas.List.{length-map}
 use Rattle.std.proofs.lemmas.List.Elements.{All-head, All-weaker}
-use Rattle.ab_store.specs.Trees.{Read}
-use Rattle.ab_store.specs.declared.node.TermId.{TermId}
+use Rattle.ab_staging.specs.ab_store.specs.Trees.{Read}
+use Rattle.ab_staging.specs.ab_store.specs.declared.node.TermId.{TermId}
 use Rattle.ab_grammar.specs.CommandTrees as told
 use Rattle.ab_grammar.specs.CommandTrees.{Instance, Argument}
-use Rattle.ab_logic.specs.Declarations.{Declarations}
-use Rattle.ab_logic.specs.Growth.{Grows}
-use Rattle.ab_logic.specs.Names.{Label, given}
-use Rattle.ab_logic.specs.Readings.{sequent_of}
-use Rattle.ab_logic.specs.Sequents.{Sequent, IsSequent, formula_of, proving, assuming, without}
-use Rattle.ab_logic.specs.Worlds.{IsWorld, Holds, read, declarations_of}
-use Rattle.ab_logic.specs.declared.world.World.{World}
-use Rattle.ab_logic.specs.declared.sequent.Sequent.{Sequent as Kept}
-use Rattle.ab_rules.specs.Rules.{NamedRule}
-use Rattle.ab_rules.specs.Steps.{cut_formula}
-use Rattle.ab_kernel.specs.Derivation.{History, open_goals}
-use Rattle.ab_kernel.specs.Layout.{Held, history_of, IsProof}
-use Rattle.ab_kernel.proofs.Later.{same_history, still_proof}
-use Rattle.ab_kernel.proofs.Rooted.{open_are_sequents}
-use Rattle.ab_using.specs.Pieces.{Given, antecedent_count}
-use Rattle.ab_using.specs.Answers.{awaited, result_in}
-use Rattle.ab_taking.specs.Readings.{given_of}
-use Rattle.ab_taking.specs.declared.given.GivenTerm.{GivenTerm}
-use Rattle.ab_putting.specs.declared.stage.Stage.{Stage}
-use Rattle.ab_putting.specs.declared.stage.Stage.TheVariants.{Instance as AnInstance, Chosen, Antecedent}
-use Rattle.ab_matching.specs.Readings.{HoldsStage}
-use Rattle.ab_matching.specs.declared.found.Use.{Use}
-use Rattle.ab_effects.specs.Effect.{effect, repeated}
-use Rattle.ab_effects.specs.Using.{formulas_in, OpenedBeside, NamelessBeside}
-use Rattle.ab_progress.specs.Applied.{IsApplied, IsRefused, RefusedBy}
-use Rattle.ab_progress.specs.Progress.{goals_of, IsAt, TookInto, Follows}
-use Rattle.ab_progress.specs.declared.fault.ProofCommandFault.{ProofCommandFault}
-use Rattle.ab_progress.specs.declared.fault.ProofCommandFault.TheVariants.{NamesSpent}
-use Rattle.ab_progress.proofs.Following.{first_at, one_at_least, follows_same}
-use Rattle.ab_left.specs.Progress.{HasAt}
-use Rattle.ab_left.proofs.Hypotheses.{named_last}
-use Rattle.ab_left.proofs.Steps.{without_last}
+use Rattle.ab_staging.specs.ab_logic.specs.Declarations.{Declarations}
+use Rattle.ab_staging.specs.ab_logic.specs.Growth.{Grows}
+use Rattle.ab_staging.specs.ab_logic.specs.Names.{Label, given}
+use Rattle.ab_staging.specs.ab_logic.specs.Readings.{sequent_of}
+use Rattle.ab_staging.specs.ab_logic.specs.Sequents.{Sequent, IsSequent, formula_of, proving, assuming, without}
+use Rattle.ab_staging.specs.ab_logic.specs.Worlds.{IsWorld, Holds, read, declarations_of}
+use Rattle.ab_staging.specs.ab_logic.specs.declared.world.World.{World}
+use Rattle.ab_staging.specs.ab_logic.specs.declared.sequent.Sequent.{Sequent as Kept}
+use Rattle.ab_staging.specs.ab_rules.specs.Rules.{NamedRule}
+use Rattle.ab_staging.specs.ab_rules.specs.Steps.{cut_formula}
+use Rattle.ab_staging.specs.ab_kernel.specs.Derivation.{History, open_goals}
+use Rattle.ab_staging.specs.ab_kernel.specs.Layout.{Held, history_of, IsProof}
+use Rattle.ab_staging.specs.ab_kernel.proofs.Later.{same_history, still_proof}
+use Rattle.ab_staging.specs.ab_kernel.proofs.Rooted.{open_are_sequents}
+use Rattle.ab_staging.specs.ab_using.specs.Pieces.{Given, antecedent_count}
+use Rattle.ab_staging.specs.ab_using.specs.Answers.{awaited, result_in}
+use Rattle.ab_staging.specs.ab_taking.specs.Readings.{given_of}
+use Rattle.ab_staging.specs.ab_taking.specs.declared.given.GivenTerm.{GivenTerm}
+use Rattle.ab_staging.specs.ab_putting.specs.declared.stage.Stage.{Stage}
+use Rattle.ab_staging.specs.ab_putting.specs.declared.stage.Stage.TheVariants.{Instance as AnInstance, Chosen, Antecedent}
+use Rattle.ab_staging.specs.ab_matching.specs.Readings.{HoldsStage}
+use Rattle.ab_staging.specs.ab_matching.specs.declared.found.Use.{Use}
+use Rattle.ab_staging.specs.ab_effects.specs.Effect.{effect, repeated}
+use Rattle.ab_staging.specs.ab_effects.specs.Using.{formulas_in, OpenedBeside, NamelessBeside}
+use Rattle.ab_staging.specs.ab_progress.specs.Applied.{IsApplied, IsRefused, RefusedBy}
+use Rattle.ab_staging.specs.ab_progress.specs.Progress.{goals_of, IsAt, TookInto, Follows}
+use Rattle.ab_staging.specs.ab_progress.specs.declared.fault.ProofCommandFault.{ProofCommandFault}
+use Rattle.ab_staging.specs.ab_progress.specs.declared.fault.ProofCommandFault.TheVariants.{NamesSpent}
+use Rattle.ab_staging.specs.ab_progress.proofs.Following.{first_at, one_at_least, follows_same}
+use Rattle.ab_staging.specs.ab_left.specs.Progress.{HasAt}
+use Rattle.ab_staging.specs.ab_left.proofs.Hypotheses.{named_last}
+use Rattle.ab_staging.specs.ab_left.proofs.Steps.{without_last}
 use Rattle.ab_staging.specs.Standing.{ShowsAll, OpensBeside, CantOpenBeside}
 use Rattle.ab_applying.specs.Asked.{MayApply, MayBackchain, HoldsUse, HoldsAsked, Reads, AsksApply, AsksBackchain}
 use Rattle.ab_applying.specs.Left.{LeavesOpened, CantOpenResult}

@@ -4,18 +4,18 @@ use Rattle.std.specs.Option.{option_map}
 use Rattle.std.proofs.Common.{◌≡◌, ℕ, zero, suc, ◌+◌, ◌<◌, List, [], ◌∷◌, ◌++◌, map, length, take, drop, get_or, refl, sym, ◌∙◌, ap, arith, append_assoc}
 use Rattle.std.proofs.lemmas.List.{map-append, map_more, drop_more}
 use Rattle.std.proofs.lemmas.List.Elements.{All-cons, All-nil}
-use Rattle.ab_store.specs.Trees.{Read}
-use Rattle.ab_store.specs.declared.node.TermId.{TermId}
+use Rattle.ab_staging.specs.ab_store.specs.Trees.{Read}
+use Rattle.ab_staging.specs.ab_store.specs.declared.node.TermId.{TermId}
 use Rattle.ab_grammar.specs.CommandTrees.{Argument, named, hole}
 use Rattle.ab_syntax.specs.Commands.{argument_of}
 use Rattle.ab_syntax.specs.declared.command.Argument.{Argument as KeptArgument}
-use Rattle.ab_logic.specs.Sequents.{Sequent, formula_of}
-use Rattle.ab_logic.specs.Worlds.{read}
-use Rattle.ab_logic.specs.declared.world.World.{World}
-use Rattle.ab_taking.specs.Readings.{HoldsIfAny}
-use Rattle.ab_effects.specs.Effect.{is_used, missing, repeated}
-use Rattle.ab_effects.specs.Refusals.{Refusal, no_hypothesis}
-use Rattle.ab_effects.specs.Using.{names_in, formulas_in}
+use Rattle.ab_staging.specs.ab_logic.specs.Sequents.{Sequent, formula_of}
+use Rattle.ab_staging.specs.ab_logic.specs.Worlds.{read}
+use Rattle.ab_staging.specs.ab_logic.specs.declared.world.World.{World}
+use Rattle.ab_staging.specs.ab_taking.specs.Readings.{HoldsIfAny}
+use Rattle.ab_staging.specs.ab_effects.specs.Effect.{is_used, missing, repeated}
+use Rattle.ab_staging.specs.ab_effects.specs.Refusals.{Refusal, no_hypothesis}
+use Rattle.ab_staging.specs.ab_effects.specs.Using.{names_in, formulas_in}
 
 -- THE FIRST THAT IS MISSING: that of the first argument, or else of the others
 

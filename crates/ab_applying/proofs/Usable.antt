@@ -2,38 +2,38 @@
 use Rattle.std.specs.Prelude.{Option, Some, None, All, Contains}
 use Rattle.std.proofs.Common.{◌≡◌, ℕ, zero, suc, List, [], ◌∷◌, map, refl, sym, ◌∙◌, ap, subst}
 use Rattle.std.proofs.lemmas.List.Elements.{All-cons, All-nil, All-head, All-tail, All-weaker, All-contains}
-use Rattle.ab_types.specs.Entries as table
-use Rattle.ab_types.specs.Entries.{Table}
-use Rattle.ab_types.specs.Ids.{type_of, HoldsType}
-use Rattle.ab_types.specs.declared.ids.TypeId.{TypeId}
-use Rattle.ab_types.proofs.Entries.{same_type, type_still_held}
+use Rattle.ab_staging.specs.ab_types.specs.Entries as table
+use Rattle.ab_staging.specs.ab_types.specs.Entries.{Table}
+use Rattle.ab_staging.specs.ab_types.specs.Ids.{type_of, HoldsType}
+use Rattle.ab_staging.specs.ab_types.specs.declared.ids.TypeId.{TypeId}
+use Rattle.ab_staging.specs.ab_types.proofs.Entries.{same_type, type_still_held}
 use Rattle.ab_term.specs.Variables.{variables}
 use Rattle.ab_term.proofs.Lists.{Contains-none, All-from_contains}
-use Rattle.ab_store.specs.Trees.{Read}
-use Rattle.ab_store.specs.declared.node.TermId.{TermId}
+use Rattle.ab_staging.specs.ab_store.specs.Trees.{Read}
+use Rattle.ab_staging.specs.ab_store.specs.declared.node.TermId.{TermId}
 use Rattle.ab_grammar.specs.CommandTrees.{Argument, named, hole}
-use Rattle.ab_logic.specs.Declarations.{Declarations, signature_in, theorem_in, HaveSentences}
-use Rattle.ab_logic.specs.Formulas.{IsFormula}
-use Rattle.ab_logic.specs.Growth.{Grows}
-use Rattle.ab_logic.specs.Readings.{sequent_of, HoldsSequent}
-use Rattle.ab_logic.specs.Sequents.{Sequent, IsSequent, HoldsOnly, Fits, formulas, formulas_of, formula_of, in_terms}
-use Rattle.ab_logic.specs.Worlds.{Holds, read, declarations_of}
-use Rattle.ab_logic.specs.declared.world.World.{World}
-use Rattle.ab_logic.specs.declared.sequent.Sequent.{Sequent as Kept}
-use Rattle.ab_logic.proofs.Growing.{map_same, same_sequent}
-use Rattle.ab_rules.proofs.Sequents.{found_there}
-use Rattle.ab_using.specs.Pieces.{Given, pieces, behind, type_named, AllServe}
-use Rattle.ab_using.specs.Uses.{Aim}
-use Rattle.ab_using.specs.Answers.{Using, IsUsedFor}
-use Rattle.ab_taking.specs.Readings.{given_of, HoldsIfAny}
-use Rattle.ab_taking.specs.declared.given.GivenTerm.{GivenTerm}
-use Rattle.ab_matching.specs.Readings.{aim_of, using_of, IsOfGoal, IsOfGoalIfAny, MayBeUsed}
-use Rattle.ab_matching.specs.declared.aim.Aim.{Aim as KeptAim}
-use Rattle.ab_effects.specs.Effect.{repeated, left_to_show}
-use Rattle.ab_effects.specs.Row.{leads}
-use Rattle.ab_effects.specs.Using.{formula_or, formula_named, formulas_in, using}
-use Rattle.ab_progress.specs.Applied.{RefusedBy}
-use Rattle.ab_progress.specs.declared.fault.ProofCommandFault.{ProofCommandFault}
+use Rattle.ab_staging.specs.ab_logic.specs.Declarations.{Declarations, signature_in, theorem_in, HaveSentences}
+use Rattle.ab_staging.specs.ab_logic.specs.Formulas.{IsFormula}
+use Rattle.ab_staging.specs.ab_logic.specs.Growth.{Grows}
+use Rattle.ab_staging.specs.ab_logic.specs.Readings.{sequent_of, HoldsSequent}
+use Rattle.ab_staging.specs.ab_logic.specs.Sequents.{Sequent, IsSequent, HoldsOnly, Fits, formulas, formulas_of, formula_of, in_terms}
+use Rattle.ab_staging.specs.ab_logic.specs.Worlds.{Holds, read, declarations_of}
+use Rattle.ab_staging.specs.ab_logic.specs.declared.world.World.{World}
+use Rattle.ab_staging.specs.ab_logic.specs.declared.sequent.Sequent.{Sequent as Kept}
+use Rattle.ab_staging.specs.ab_logic.proofs.Growing.{map_same, same_sequent}
+use Rattle.ab_staging.specs.ab_rules.proofs.Sequents.{found_there}
+use Rattle.ab_staging.specs.ab_using.specs.Pieces.{Given, pieces, behind, type_named, AllServe}
+use Rattle.ab_staging.specs.ab_using.specs.Uses.{Aim}
+use Rattle.ab_staging.specs.ab_using.specs.Answers.{Using, IsUsedFor}
+use Rattle.ab_staging.specs.ab_taking.specs.Readings.{given_of, HoldsIfAny}
+use Rattle.ab_staging.specs.ab_taking.specs.declared.given.GivenTerm.{GivenTerm}
+use Rattle.ab_staging.specs.ab_matching.specs.Readings.{aim_of, using_of, IsOfGoal, IsOfGoalIfAny, MayBeUsed}
+use Rattle.ab_staging.specs.ab_matching.specs.declared.aim.Aim.{Aim as KeptAim}
+use Rattle.ab_staging.specs.ab_effects.specs.Effect.{repeated, left_to_show}
+use Rattle.ab_staging.specs.ab_effects.specs.Row.{leads}
+use Rattle.ab_staging.specs.ab_effects.specs.Using.{formula_or, formula_named, formulas_in, using}
+use Rattle.ab_staging.specs.ab_progress.specs.Applied.{RefusedBy}
+use Rattle.ab_staging.specs.ab_progress.specs.declared.fault.ProofCommandFault.{ProofCommandFault}
 
 -- FORMULAS OF THE GOAL: its conclusion, its hypotheses, and each theorem
 module _ (D : Declarations) (s : Sequent) (is : IsSequent D s) where

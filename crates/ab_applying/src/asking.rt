@@ -1,34 +1,34 @@
 //! What is asked before a formula is used.
 ghost use Rattle.std.specs.Prelude.{◌≡◌, ◌++◌, ◌∷◌, [], map, None, Err, IfOk, OnOk, IfSome, All, nat_lt, Option};
 ghost use Rattle.std.specs.Option.{option_map, option_copied};
-ghost use Rattle.ab_types.specs.Ids.{HoldsType};
-ghost use Rattle.ab_store.specs.Trees.{Read};
+ghost use Rattle.ab_staging.specs.ab_types.specs.Ids.{HoldsType};
+ghost use Rattle.ab_staging.specs.ab_store.specs.Trees.{Read};
 ghost use Rattle.ab_syntax.specs.Commands.{argument_of};
-ghost use Rattle.ab_logic.specs.Growth.{Grows};
-ghost use Rattle.ab_logic.specs.Readings.{sequent_of, HoldsSequent};
-ghost use Rattle.ab_logic.specs.Sequents.{IsSequent};
-ghost use Rattle.ab_logic.specs.Worlds.{IsWorld, Holds, read, declarations_of};
-ghost use Rattle.ab_logic.specs.declared.world.World.{World as AWorld};
-ghost use Rattle.ab_taking.specs.Readings.{given_of, HoldsIfAny};
-ghost use Rattle.ab_matching.specs.Readings.{aim_of, using_of, MayBeUsed};
-ghost use Rattle.ab_effects.specs.Effect.{missing};
-ghost use Rattle.ab_effects.specs.Refusals.{no_hypothesis};
-ghost use Rattle.ab_effects.specs.Row.{leads};
-ghost use Rattle.ab_effects.specs.Effect.{left_to_show};
-ghost use Rattle.ab_effects.specs.Using as spec;
-ghost use Rattle.ab_effects.specs.Using.{names_in, formulas_in};
-ghost use Rattle.ab_using.specs.Answers.{IsUsedFor};
-ghost use Rattle.ab_progress.specs.Applied.{RefusedBy};
-ghost use Rattle.ab_progress.specs.declared.fault.ProofCommandFault.{ProofCommandFault as AFault};
+ghost use Rattle.ab_staging.specs.ab_logic.specs.Growth.{Grows};
+ghost use Rattle.ab_staging.specs.ab_logic.specs.Readings.{sequent_of, HoldsSequent};
+ghost use Rattle.ab_staging.specs.ab_logic.specs.Sequents.{IsSequent};
+ghost use Rattle.ab_staging.specs.ab_logic.specs.Worlds.{IsWorld, Holds, read, declarations_of};
+ghost use Rattle.ab_staging.specs.ab_logic.specs.declared.world.World.{World as AWorld};
+ghost use Rattle.ab_staging.specs.ab_taking.specs.Readings.{given_of, HoldsIfAny};
+ghost use Rattle.ab_staging.specs.ab_matching.specs.Readings.{aim_of, using_of, MayBeUsed};
+ghost use Rattle.ab_staging.specs.ab_effects.specs.Effect.{missing};
+ghost use Rattle.ab_staging.specs.ab_effects.specs.Refusals.{no_hypothesis};
+ghost use Rattle.ab_staging.specs.ab_effects.specs.Row.{leads};
+ghost use Rattle.ab_staging.specs.ab_effects.specs.Effect.{left_to_show};
+ghost use Rattle.ab_staging.specs.ab_effects.specs.Using as spec;
+ghost use Rattle.ab_staging.specs.ab_effects.specs.Using.{names_in, formulas_in};
+ghost use Rattle.ab_staging.specs.ab_using.specs.Answers.{IsUsedFor};
+ghost use Rattle.ab_staging.specs.ab_progress.specs.Applied.{RefusedBy};
+ghost use Rattle.ab_staging.specs.ab_progress.specs.declared.fault.ProofCommandFault.{ProofCommandFault as AFault};
 ghost use Rattle.ab_applying.specs.Asked.{HoldsUse, Reads};
 
-use ab_logic::{Sequent, World};
-use ab_matching::{Aim, Found, Use, find_use};
-use ab_progress::{ProofCommandFault, not_pattern};
-use ab_store::TermId;
+use ab_staging::below::logic::{Sequent, World};
+use ab_staging::below::matching::{Aim, Found, Use, find_use};
+use ab_staging::below::progress::{ProofCommandFault, not_pattern};
+use ab_staging::below::store::TermId;
+use ab_staging::below::taking::GivenTerm;
+use ab_staging::below::types::{Name, Steps};
 use ab_syntax::Argument;
-use ab_taking::GivenTerm;
-use ab_types::{Name, Steps};
 use std::alloc::{AllocError, Global};
 
 /// What was asked, and is there.

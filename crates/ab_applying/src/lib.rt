@@ -4,6 +4,7 @@
 mod applying;
 mod asking;
 mod backchaining;
+pub mod below;
 
 pub use applying::apply;
 pub use backchaining::backchain;

@@ -1,6 +1,7 @@
 //! The block that answers a command, as bytes.
 #![tactic(auto)]
 
+pub mod below;
 mod goals;
 mod refusals;
 mod replies;

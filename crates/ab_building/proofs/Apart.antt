@@ -4,9 +4,9 @@ use Rattle.std.proofs.Common.{◌≡◌, ℕ, List, [], ◌∷◌, ◌++◌, get
 use Rattle.ab_term.specs.Types.{Ty, prop}
 use Rattle.ab_term.specs.Terms.{Head, nominal}
 use Rattle.ab_term.specs.Beta.{atom, abstraction, application}
-use Rattle.ab_readings.specs.Names.{Name, Resolved}
-use Rattle.ab_readings.specs.Readings.{Raw, Reads, reads_bound, reads_known, reads_free, reads_apply, reads_abs, reads_equal, reads_bind}
-use Rattle.ab_readings.specs.Answers.{IsTheReading, IsFirstOpen}
+use Rattle.ab_infer.specs.ab_readings.specs.Names.{Name, Resolved}
+use Rattle.ab_infer.specs.ab_readings.specs.Readings.{Raw, Reads, reads_bound, reads_known, reads_free, reads_apply, reads_abs, reads_equal, reads_bind}
+use Rattle.ab_infer.specs.ab_readings.specs.Answers.{IsTheReading, IsFirstOpen}
 use Rattle.ab_building.specs.Outcomes.{nominal_of}
 
 abbrev head_given : Head ℕ → Ty

@@ -4,8 +4,8 @@ use Rattle.ab_term.specs.Types.{Ty}
 use Rattle.ab_term.specs.Typing.{Signature}
 use Rattle.ab_term.specs.Normal.{FitsType, fits_atom, fits_abstraction, fits_application}
 use Rattle.ab_grammar.specs.declared.Quant.TheVariants.{Forall, Exists, Nabla}
-use Rattle.ab_readings.specs.Names.{Name, Resolved, Binding, quantified, pi, binding_type}
-use Rattle.ab_readings.specs.Readings.{Raw, Making, Reads, reads_bound, reads_known, reads_free, reads_apply, reads_abs, reads_equal, reads_bind, bound_term}
+use Rattle.ab_infer.specs.ab_readings.specs.Names.{Name, Resolved, Binding, quantified, pi, binding_type}
+use Rattle.ab_infer.specs.ab_readings.specs.Readings.{Raw, Making, Reads, reads_bound, reads_known, reads_free, reads_apply, reads_abs, reads_equal, reads_bind, bound_term}
 use Rattle.ab_building.specs.Heads.{HeadsFit, MakesTyped}
 
 module _ (sg : Signature) (made : Making) (types : Name → Ty) (good : MakesTyped sg made) where

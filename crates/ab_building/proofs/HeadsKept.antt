@@ -6,7 +6,7 @@ use Rattle.ab_term.specs.Typing.{Signature, head_type}
 use Rattle.ab_term.specs.Substitution.{shift_index, lower_index, shift_head, lower_head, shift, shift_all, put, substitute_by, substitute_all_by, reduce, instance}
 use Rattle.ab_term.specs.Expansion.{expansion_of}
 use Rattle.ab_term.specs.Beta.{Plain, atom, abstraction, application}
-use Rattle.ab_readings.specs.Normal.{left_type, given_all, long_form, normal_given, normal_form}
+use Rattle.ab_infer.specs.ab_readings.specs.Normal.{left_type, given_all, long_form, normal_given, normal_form}
 use Rattle.ab_building.specs.Heads.{AreHeads, AreAllHeads, AreRawHeads}
 
 module _ (P : Head ℕ → Type 0) (free : (i : ℕ) → P (index i)) where

@@ -6,20 +6,20 @@ use Rattle.ab_term.specs.Types.{Ty}
 use Rattle.ab_term.specs.Logical as plain
 use Rattle.ab_term.specs.Terms as tree
 use Rattle.ab_term.specs.Typing.{Signature, head_type, IsExtendedBy}
-use Rattle.ab_types.specs.Entries as entries
-use Rattle.ab_types.specs.Entries.{Table, signature}
-use Rattle.ab_types.specs.Ids.{HoldsType, type_of}
-use Rattle.ab_types.specs.declared.ids.TypeId.{TypeId}
-use Rattle.ab_types.proofs.Entries.{holds_type, same_type, same_constant, same_signature}
-use Rattle.ab_store.specs.declared.node.CellEntry.{CellEntry}
-use Rattle.ab_store.specs.declared.node.Logical.{Logical}
-use Rattle.ab_store.specs.declared.node.Logical.TheVariants.{True, False, And, Or, Arrow, Equal, Forall, Exists, Nabla, Judge, Focus, Star, At, Plus, Hash, Pi, Imply, With}
-use Rattle.ab_store.specs.declared.node.Head.{Head}
-use Rattle.ab_store.specs.declared.node.Head.TheVariants.{Const, Logic, Nominal, Cell, Index}
-use Rattle.ab_store.specs.Trees.{Contents, cell_in, logical_of, head_in}
-use Rattle.ab_store.specs.Naming.{HeadNames, LogicalIsTyped, HeadIsTyped, IsTypedBy}
-use Rattle.ab_store.proofs.Tables.{head_typed, still_typed}
-use Rattle.ab_readings.specs.Names.{Name}
+use Rattle.ab_fits.specs.ab_types.specs.Entries as entries
+use Rattle.ab_fits.specs.ab_types.specs.Entries.{Table, signature}
+use Rattle.ab_fits.specs.ab_types.specs.Ids.{HoldsType, type_of}
+use Rattle.ab_fits.specs.ab_types.specs.declared.ids.TypeId.{TypeId}
+use Rattle.ab_fits.specs.ab_types.proofs.Entries.{holds_type, same_type, same_constant, same_signature}
+use Rattle.ab_fits.specs.ab_store.specs.declared.node.CellEntry.{CellEntry}
+use Rattle.ab_fits.specs.ab_store.specs.declared.node.Logical.{Logical}
+use Rattle.ab_fits.specs.ab_store.specs.declared.node.Logical.TheVariants.{True, False, And, Or, Arrow, Equal, Forall, Exists, Nabla, Judge, Focus, Star, At, Plus, Hash, Pi, Imply, With}
+use Rattle.ab_fits.specs.ab_store.specs.declared.node.Head.{Head}
+use Rattle.ab_fits.specs.ab_store.specs.declared.node.Head.TheVariants.{Const, Logic, Nominal, Cell, Index}
+use Rattle.ab_fits.specs.ab_store.specs.Trees.{Contents, cell_in, logical_of, head_in}
+use Rattle.ab_fits.specs.ab_store.specs.Naming.{HeadNames, LogicalIsTyped, HeadIsTyped, IsTypedBy}
+use Rattle.ab_fits.specs.ab_store.proofs.Tables.{head_typed, still_typed}
+use Rattle.ab_infer.specs.ab_readings.specs.Names.{Name}
 use Rattle.ab_infer.specs.declared.op.Op.{Op}
 use Rattle.ab_infer.specs.declared.op.Op.TheVariants as op
 use Rattle.ab_infer.specs.declared.inferring.Formulas.{Formulas}

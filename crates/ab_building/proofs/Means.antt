@@ -5,15 +5,15 @@ use Rattle.std.proofs.lemmas.List.Elements.{All-weaker}
 use Rattle.ab_term.specs.Types.{Ty, kind, arrow}
 use Rattle.ab_term.specs.Terms.{Terms, no_terms, term, terms_of, joined}
 use Rattle.ab_term.specs.Expansion.{expansion_of}
-use Rattle.ab_types.specs.Entries.{Table}
-use Rattle.ab_types.specs.Ids.{type_of}
-use Rattle.ab_store.specs.declared.node.TermId.{TermId}
-use Rattle.ab_store.specs.declared.node.Head.{Head}
-use Rattle.ab_store.specs.Trees.{Contents, Holds, head_in, head_reading, tree_of}
-use Rattle.ab_store.specs.Naming.{HeadNames}
+use Rattle.ab_fits.specs.ab_types.specs.Entries.{Table}
+use Rattle.ab_fits.specs.ab_types.specs.Ids.{type_of}
+use Rattle.ab_fits.specs.ab_store.specs.declared.node.TermId.{TermId}
+use Rattle.ab_fits.specs.ab_store.specs.declared.node.Head.{Head}
+use Rattle.ab_fits.specs.ab_store.specs.Trees.{Contents, Holds, head_in, head_reading, tree_of}
+use Rattle.ab_fits.specs.ab_store.specs.Naming.{HeadNames}
 use Rattle.ab_norm.specs.Growth.{AddsTypedTerms}
 use Rattle.ab_norm.proofs.Frame.{still_read_before}
-use Rattle.ab_readings.specs.Normal.{left_type, given_all}
+use Rattle.ab_infer.specs.ab_readings.specs.Normal.{left_type, given_all}
 use Rattle.ab_building.specs.declared.value.Value.{Value}
 use Rattle.ab_building.specs.declared.value.Value.TheVariants.{Given, Done}
 use Rattle.ab_building.specs.Values.{trees_of, means, HoldsValue}

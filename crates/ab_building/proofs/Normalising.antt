@@ -13,7 +13,7 @@ use Rattle.ab_term.proofs.Preservation.{instance_typed}
 use Rattle.ab_term.proofs.Expansions.{expansion_of_typed, reduce-some, reduce-no_terms}
 use Rattle.ab_term.proofs.Translations.{translate-instance, translate-expansion_of, translate-expansion, translate_typed, translate_all_typed}
 use Rattle.ab_term.proofs.Normalising.{normal_typed}
-use Rattle.ab_readings.specs.Normal.{left_type, given_all, long_form, normal_given, normal_form}
+use Rattle.ab_infer.specs.ab_readings.specs.Normal.{left_type, given_all, long_form, normal_given, normal_form}
 use Rattle.ab_building.proofs.Means.{left_none}
 
 module _ (sg : Signature) where

@@ -6,16 +6,16 @@ use Rattle.ab_term.specs.Types.{Ty}
 use Rattle.ab_term.specs.Terms.{nominal}
 use Rattle.ab_term.specs.Typing.{Signature, head_type, HasType}
 use Rattle.ab_term.specs.Normal.{FitsType}
-use Rattle.ab_types.specs.Entries.{Table, signature}
-use Rattle.ab_store.specs.declared.node.CellEntry.{CellEntry}
-use Rattle.ab_store.specs.declared.node.TermId.{TermId}
-use Rattle.ab_store.specs.declared.node.Head.{Head}
-use Rattle.ab_store.specs.declared.node.Head.TheVariants.{Nominal}
-use Rattle.ab_store.specs.Trees.{Contents, head_in}
-use Rattle.ab_solving.specs.declared.settling.Settled.{Settled}
-use Rattle.ab_solving.specs.Settling.{settled_at}
-use Rattle.ab_readings.specs.Names.{Name}
-use Rattle.ab_readings.specs.Answers.{IsTheReading}
+use Rattle.ab_fits.specs.ab_types.specs.Entries.{Table, signature}
+use Rattle.ab_fits.specs.ab_store.specs.declared.node.CellEntry.{CellEntry}
+use Rattle.ab_fits.specs.ab_store.specs.declared.node.TermId.{TermId}
+use Rattle.ab_fits.specs.ab_store.specs.declared.node.Head.{Head}
+use Rattle.ab_fits.specs.ab_store.specs.declared.node.Head.TheVariants.{Nominal}
+use Rattle.ab_fits.specs.ab_store.specs.Trees.{Contents, head_in}
+use Rattle.ab_infer.specs.ab_solving.specs.declared.settling.Settled.{Settled}
+use Rattle.ab_infer.specs.ab_solving.specs.Settling.{settled_at}
+use Rattle.ab_infer.specs.ab_readings.specs.Names.{Name}
+use Rattle.ab_infer.specs.ab_readings.specs.Answers.{IsTheReading}
 use Rattle.ab_infer.specs.declared.op.Op.{Op}
 use Rattle.ab_infer.specs.declared.op.Op.TheVariants as op
 use Rattle.ab_infer.specs.Sketches.{Sketch, erase, term_of}

@@ -6,9 +6,9 @@ use Rattle.ab_term.specs.Terms.{Head, constant, logical, nominal, variable, inde
 use Rattle.ab_term.specs.Names.{support, support_of_all}
 use Rattle.ab_term.specs.Variables.{variables, variables_of_all}
 use Rattle.ab_grammar.specs.declared.Quant.TheVariants.{Forall, Exists, Nabla}
-use Rattle.ab_readings.specs.Types.{PropFree}
-use Rattle.ab_readings.specs.Names.{Name, Resolved, Binding, quantified, pi, binding_head}
-use Rattle.ab_readings.specs.Readings.{Raw, Making, Reads, reads_bound, reads_known, reads_free, reads_apply, reads_abs, reads_equal, reads_bind}
+use Rattle.ab_infer.specs.ab_readings.specs.Types.{PropFree}
+use Rattle.ab_infer.specs.ab_readings.specs.Names.{Name, Resolved, Binding, quantified, pi, binding_head}
+use Rattle.ab_infer.specs.ab_readings.specs.Readings.{Raw, Making, Reads, reads_bound, reads_known, reads_free, reads_apply, reads_abs, reads_equal, reads_bind}
 use Rattle.ab_building.specs.Heads.{AreHeads, AreAllHeads, AreRawHeads, KnownAre, IsOrdinary, IsFixed}
 
 module _ (P : Head ℕ → Type 0) (FreeNames : Type 0) (made : Making) (types : Name → Ty) (indices : (i : ℕ) → P (index i)) (equations : (A : Ty) → P (logical (equality A)))

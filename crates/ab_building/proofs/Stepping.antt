@@ -8,20 +8,20 @@ use Rattle.ab_term.specs.Logical.{logical_type, equality}
 use Rattle.ab_term.specs.Terms.{index, logical, Terms, no_terms, term, lam}
 use Rattle.ab_term.specs.Typing.{type_at, head_type}
 use Rattle.ab_term.specs.Expansion.{expansion_of}
-use Rattle.ab_types.specs.Entries.{Table, signature}
-use Rattle.ab_types.specs.Ids.{type_of}
-use Rattle.ab_types.specs.declared.ids.TypeId.{TypeId}
-use Rattle.ab_store.specs.declared.node.TermId.{TermId}
-use Rattle.ab_store.specs.declared.node.CellEntry.{CellEntry}
-use Rattle.ab_store.specs.declared.node.Head as declared
-use Rattle.ab_store.specs.declared.node.Head.TheVariants.{Index, Logic}
-use Rattle.ab_store.specs.declared.node.Logical as store
-use Rattle.ab_store.specs.declared.node.Logical.TheVariants.{Equal}
-use Rattle.ab_store.specs.Trees.{Read, Contents, Holds, head_reading, logical_of, tree_of}
+use Rattle.ab_fits.specs.ab_types.specs.Entries.{Table, signature}
+use Rattle.ab_fits.specs.ab_types.specs.Ids.{type_of}
+use Rattle.ab_fits.specs.ab_types.specs.declared.ids.TypeId.{TypeId}
+use Rattle.ab_fits.specs.ab_store.specs.declared.node.TermId.{TermId}
+use Rattle.ab_fits.specs.ab_store.specs.declared.node.CellEntry.{CellEntry}
+use Rattle.ab_fits.specs.ab_store.specs.declared.node.Head as declared
+use Rattle.ab_fits.specs.ab_store.specs.declared.node.Head.TheVariants.{Index, Logic}
+use Rattle.ab_fits.specs.ab_store.specs.declared.node.Logical as store
+use Rattle.ab_fits.specs.ab_store.specs.declared.node.Logical.TheVariants.{Equal}
+use Rattle.ab_fits.specs.ab_store.specs.Trees.{Read, Contents, Holds, head_reading, logical_of, tree_of}
 use Rattle.ab_norm.specs.Growth.{AddsTypedTerms}
-use Rattle.ab_readings.specs.Names.{Name, Binding, quantified, pi, binding_head, binding_type}
+use Rattle.ab_infer.specs.ab_readings.specs.Names.{Name, Binding, quantified, pi, binding_head, binding_type}
 use Rattle.ab_grammar.specs.declared.Quant.TheVariants.{Forall, Exists, Nabla}
-use Rattle.ab_readings.specs.Normal.{left_type, given_all, long_form, normal_given}
+use Rattle.ab_infer.specs.ab_readings.specs.Normal.{left_type, given_all, long_form, normal_given}
 use Rattle.ab_infer.specs.Sketches as sketch
 use Rattle.ab_infer.specs.Sketches.{Sketch, term_of, Fit, variable_at, count}
 use Rattle.ab_infer.specs.declared.op.Op.{Op}

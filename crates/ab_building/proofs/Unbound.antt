@@ -6,15 +6,15 @@ use Rattle.std.proofs.lemmas.List.Elements.{All-nil, All-cons, All-append, All-m
 use Rattle.ab_term.specs.Types.{Ty}
 use Rattle.ab_term.specs.Terms.{Variable, constant, logical, nominal, variable, index, lam, spine, Terms, no_terms, term}
 use Rattle.ab_term.specs.Variables.{variables, variables_of_all}
-use Rattle.ab_types.specs.Entries.{Table, signature}
-use Rattle.ab_store.specs.declared.node.TermId.{TermId}
-use Rattle.ab_store.specs.declared.node.CellId.{CellId}
-use Rattle.ab_store.specs.Trees.{Read, Contents, tree_of}
-use Rattle.ab_store.specs.Reading.{bound_in, reading}
-use Rattle.ab_store.specs.Bindings.{cells_of, IsResolved}
-use Rattle.ab_store.proofs.Cells.{cells_are}
-use Rattle.ab_store.proofs.Putting.{resolved_reads}
-use Rattle.ab_readings.specs.Names.{Resolved}
+use Rattle.ab_fits.specs.ab_types.specs.Entries.{Table, signature}
+use Rattle.ab_fits.specs.ab_store.specs.declared.node.TermId.{TermId}
+use Rattle.ab_fits.specs.ab_store.specs.declared.node.CellId.{CellId}
+use Rattle.ab_fits.specs.ab_store.specs.Trees.{Read, Contents, tree_of}
+use Rattle.ab_fits.specs.ab_store.specs.Reading.{bound_in, reading}
+use Rattle.ab_fits.specs.ab_store.specs.Bindings.{cells_of, IsResolved}
+use Rattle.ab_fits.specs.ab_store.proofs.Cells.{cells_are}
+use Rattle.ab_fits.specs.ab_store.proofs.Putting.{resolved_reads}
+use Rattle.ab_infer.specs.ab_readings.specs.Names.{Resolved}
 use Rattle.ab_building.specs.Heads.{AreHeads, AreAllHeads, AreRawHeads, KnownAre}
 use Rattle.ab_building.specs.Outcomes.{nominal_of, IsNormal, IsUnboundHead}
 use Rattle.ab_building.proofs.HeadsKept.{heads_kept}

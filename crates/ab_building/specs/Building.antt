@@ -2,19 +2,19 @@
 use Rattle.std.specs.Prelude.{◌≡◌, ℕ, ◌+◌, ◌<◌, List, [], length, get_or, Some}
 use Rattle.ab_term.specs.Types.{Ty}
 use Rattle.ab_term.specs.Typing.{head_type}
-use Rattle.ab_types.specs.Entries.{Table, signature}
-use Rattle.ab_types.specs.Ids.{HoldsType, type_of}
-use Rattle.ab_store.specs.declared.node.Head.{Head}
-use Rattle.ab_store.specs.declared.node.Head.TheVariants.{Index}
-use Rattle.ab_store.specs.declared.node.TermId.{TermId}
-use Rattle.ab_store.specs.declared.node.CellEntry.{CellEntry}
-use Rattle.ab_store.specs.Trees.{Contents, Holds, head_in, tree_of}
-use Rattle.ab_store.specs.Naming.{HeadNames, HeadIsTyped}
-use Rattle.ab_readings.specs.Names.{Name}
-use Rattle.ab_readings.specs.Readings.{Making}
-use Rattle.ab_readings.specs.Normal.{normal_form}
-use Rattle.ab_solving.specs.declared.settling.Settled.{Settled}
-use Rattle.ab_solving.specs.Settling.{settled_at}
+use Rattle.ab_fits.specs.ab_types.specs.Entries.{Table, signature}
+use Rattle.ab_fits.specs.ab_types.specs.Ids.{HoldsType, type_of}
+use Rattle.ab_fits.specs.ab_store.specs.declared.node.Head.{Head}
+use Rattle.ab_fits.specs.ab_store.specs.declared.node.Head.TheVariants.{Index}
+use Rattle.ab_fits.specs.ab_store.specs.declared.node.TermId.{TermId}
+use Rattle.ab_fits.specs.ab_store.specs.declared.node.CellEntry.{CellEntry}
+use Rattle.ab_fits.specs.ab_store.specs.Trees.{Contents, Holds, head_in, tree_of}
+use Rattle.ab_fits.specs.ab_store.specs.Naming.{HeadNames, HeadIsTyped}
+use Rattle.ab_infer.specs.ab_readings.specs.Names.{Name}
+use Rattle.ab_infer.specs.ab_readings.specs.Readings.{Making}
+use Rattle.ab_infer.specs.ab_readings.specs.Normal.{normal_form}
+use Rattle.ab_infer.specs.ab_solving.specs.declared.settling.Settled.{Settled}
+use Rattle.ab_infer.specs.ab_solving.specs.Settling.{settled_at}
 use Rattle.ab_infer.specs.Sketches.{Sketch, term_of}
 use Rattle.ab_infer.specs.Verdicts.{types_found}
 use Rattle.ab_infer.specs.declared.op.Op.{Op}

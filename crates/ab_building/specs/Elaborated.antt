@@ -2,12 +2,12 @@
 -- names stand for comes first; `place` is where the expression begins.
 use Rattle.std.specs.Prelude.{◌≡◌, ℕ, Result, Ok, Err}
 use Rattle.ab_term.specs.Types.{Ty}
-use Rattle.ab_types.specs.Entries.{Table}
-use Rattle.ab_store.specs.declared.node.TermId.{TermId}
-use Rattle.ab_store.specs.Trees.{Contents}
-use Rattle.ab_readings.specs.Names.{Resolved}
-use Rattle.ab_readings.specs.Scopes.{Found}
-use Rattle.ab_readings.specs.Answers.{HasNoReading, IsFirstOpen}
+use Rattle.ab_fits.specs.ab_types.specs.Entries.{Table}
+use Rattle.ab_fits.specs.ab_store.specs.declared.node.TermId.{TermId}
+use Rattle.ab_fits.specs.ab_store.specs.Trees.{Contents}
+use Rattle.ab_infer.specs.ab_readings.specs.Names.{Resolved}
+use Rattle.ab_infer.specs.ab_readings.specs.Scopes.{Found}
+use Rattle.ab_infer.specs.ab_readings.specs.Answers.{HasNoReading, IsFirstOpen}
 use Rattle.ab_infer.specs.declared.fault.InferFault.{InferFault}
 use Rattle.ab_infer.specs.declared.fault.InferFault.TheVariants.{Unknown, TypeClash, Untyped, Memory}
 use Rattle.ab_building.specs.Outcomes.{nominal_of, IsNormal}

@@ -5,9 +5,9 @@ use Rattle.ab_term.specs.Terms.{Head, logical, nominal, variable, Term, lam, spi
 use Rattle.ab_term.specs.Beta.{atom, abstraction, application}
 use Rattle.ab_term.specs.Types.{Ty}
 use Rattle.ab_term.specs.Typing.{Signature, head_type}
-use Rattle.ab_readings.specs.Names.{Name, Resolved, bound, known, free, apply, abs, equal, bind}
-use Rattle.ab_readings.specs.Types.{PropFree}
-use Rattle.ab_readings.specs.Readings.{Raw, Making}
+use Rattle.ab_infer.specs.ab_readings.specs.Names.{Name, Resolved, bound, known, free, apply, abs, equal, bind}
+use Rattle.ab_infer.specs.ab_readings.specs.Types.{PropFree}
+use Rattle.ab_infer.specs.ab_readings.specs.Readings.{Raw, Making}
 
 -- each head has the type with which it is known, whatever names are bound around it
 abbrev pub HeadsFit : Signature → Resolved → Type 0

@@ -4,3 +4,7 @@ pub mod Values
 pub mod Heads
 pub mod Outcomes
 pub mod Elaborated
+-- Libraries that the crates above name through this one.
+pub use Rattle.ab_infer.specs.ab_readings
+pub use Rattle.ab_fits.specs.ab_store
+pub use Rattle.ab_infer

@@ -3,16 +3,16 @@
 use Rattle.std.specs.Prelude.{◌≡◌, ℕ, ◌<◌, List, [], length, get_or, unwrap_or, None}
 use Rattle.ab_term.specs.Types.{Ty}
 use Rattle.ab_term.specs.Terms.{Head, nominal, variable}
-use Rattle.ab_types.specs.Entries.{Table, signature}
-use Rattle.ab_store.specs.declared.node.TermId.{TermId}
-use Rattle.ab_store.specs.Trees.{Contents, tree_of}
-use Rattle.ab_store.specs.Reading.{bound_in}
-use Rattle.ab_store.specs.Naming.{IsTerm}
-use Rattle.ab_readings.specs.Names.{Name, Resolved}
-use Rattle.ab_readings.specs.Scopes.{nominal_number}
-use Rattle.ab_readings.specs.Readings.{Raw, Making}
-use Rattle.ab_readings.specs.Answers.{IsTheReading, HasNoReading, IsFirstOpen}
-use Rattle.ab_readings.specs.Normal.{normal_form}
+use Rattle.ab_fits.specs.ab_types.specs.Entries.{Table, signature}
+use Rattle.ab_fits.specs.ab_store.specs.declared.node.TermId.{TermId}
+use Rattle.ab_fits.specs.ab_store.specs.Trees.{Contents, tree_of}
+use Rattle.ab_fits.specs.ab_store.specs.Reading.{bound_in}
+use Rattle.ab_fits.specs.ab_store.specs.Naming.{IsTerm}
+use Rattle.ab_infer.specs.ab_readings.specs.Names.{Name, Resolved}
+use Rattle.ab_infer.specs.ab_readings.specs.Scopes.{nominal_number}
+use Rattle.ab_infer.specs.ab_readings.specs.Readings.{Raw, Making}
+use Rattle.ab_infer.specs.ab_readings.specs.Answers.{IsTheReading, HasNoReading, IsFirstOpen}
+use Rattle.ab_infer.specs.ab_readings.specs.Normal.{normal_form}
 use Rattle.ab_building.specs.declared.reading.Outcome.{Outcome}
 use Rattle.ab_building.specs.declared.reading.Outcome.TheVariants.{One, Nothing, Open}
 

@@ -4,14 +4,14 @@ use Rattle.std.specs.List.{All}
 use Rattle.ab_term.specs.Types.{Ty}
 use Rattle.ab_term.specs.Terms.{Terms, no_terms, terms_of, joined}
 use Rattle.ab_term.specs.Expansion.{expansion_of}
-use Rattle.ab_types.specs.Entries.{Table, signature}
-use Rattle.ab_types.specs.Ids.{HoldsType, type_of}
-use Rattle.ab_store.specs.declared.node.TermId.{TermId}
-use Rattle.ab_store.specs.Trees.{Read, Contents, Holds, head_reading, tree_of}
-use Rattle.ab_store.specs.Naming.{HoldsHead, HeadIsTyped}
-use Rattle.ab_readings.specs.Names.{Name}
-use Rattle.ab_readings.specs.Readings.{Making}
-use Rattle.ab_readings.specs.Normal.{left_type, given_all, normal_given}
+use Rattle.ab_fits.specs.ab_types.specs.Entries.{Table, signature}
+use Rattle.ab_fits.specs.ab_types.specs.Ids.{HoldsType, type_of}
+use Rattle.ab_fits.specs.ab_store.specs.declared.node.TermId.{TermId}
+use Rattle.ab_fits.specs.ab_store.specs.Trees.{Read, Contents, Holds, head_reading, tree_of}
+use Rattle.ab_fits.specs.ab_store.specs.Naming.{HoldsHead, HeadIsTyped}
+use Rattle.ab_infer.specs.ab_readings.specs.Names.{Name}
+use Rattle.ab_infer.specs.ab_readings.specs.Readings.{Making}
+use Rattle.ab_infer.specs.ab_readings.specs.Normal.{left_type, given_all, normal_given}
 use Rattle.ab_infer.specs.Sketches.{Sketch, term_of, Fit}
 use Rattle.ab_infer.specs.Programs.{Item, Runs}
 use Rattle.ab_building.specs.declared.value.Value.{Value}

@@ -3,30 +3,30 @@ ghost use Rattle.std.specs.Prelude.{◌≡◌, ℕ, ◌+◌, ◌<◌, ◌≤◌,
 ghost use Rattle.ab_term.specs.Types as plain;
 ghost use Rattle.ab_term.specs.Types.{Ty};
 ghost use Rattle.ab_term.specs.Terms.{lam};
-ghost use Rattle.ab_types.specs.Entries.{Table};
-ghost use Rattle.ab_types.specs.Ids.{HoldsType, type_of};
-ghost use Rattle.ab_types.specs.Sound.{IsTable};
-ghost use Rattle.ab_store.specs.declared.node.CellEntry.{CellEntry};
-ghost use Rattle.ab_store.specs.Trees.{logical_of};
-ghost use Rattle.ab_store.specs.Naming.{HeadNames, HeadIsTyped, LogicalIsTyped, IsTypedBy};
+ghost use Rattle.ab_fits.specs.ab_types.specs.Entries.{Table};
+ghost use Rattle.ab_fits.specs.ab_types.specs.Ids.{HoldsType, type_of};
+ghost use Rattle.ab_fits.specs.ab_types.specs.Sound.{IsTable};
+ghost use Rattle.ab_fits.specs.ab_store.specs.declared.node.CellEntry.{CellEntry};
+ghost use Rattle.ab_fits.specs.ab_store.specs.Trees.{logical_of};
+ghost use Rattle.ab_fits.specs.ab_store.specs.Naming.{HeadNames, HeadIsTyped, LogicalIsTyped, IsTypedBy};
 ghost use Rattle.ab_norm.specs.Growth.{AddsTypedTerms};
-ghost use Rattle.ab_readings.specs.Names.{Name as AName, binding_head, binding_type};
-ghost use Rattle.ab_readings.specs.Readings.{Making};
+ghost use Rattle.ab_infer.specs.ab_readings.specs.Names.{Name as AName, binding_head, binding_type};
+ghost use Rattle.ab_infer.specs.ab_readings.specs.Readings.{Making};
 ghost use Rattle.ab_infer.specs.Sketches.{Sketch, Fit};
 ghost use Rattle.ab_infer.specs.Programs.{Runs, items_of, item_of, OpTyped, binding_of, apply_item, abs_item, equal_item, bind_item};
 ghost use Rattle.ab_infer.specs.Inferences.{IsFormulas, written_type};
 ghost use Rattle.ab_infer.specs.Verdicts.{types_found};
 ghost use Rattle.ab_building.specs.declared.value.Value.TheVariants.{Given};
-ghost use Rattle.ab_store.specs.declared.node.Head.TheVariants.{Index};
-ghost use Rattle.ab_solving.specs.Settling.{settled_at};
+ghost use Rattle.ab_fits.specs.ab_store.specs.declared.node.Head.TheVariants.{Index};
+ghost use Rattle.ab_infer.specs.ab_solving.specs.Settling.{settled_at};
 ghost use Rattle.ab_building.specs.Building.{OpFits, AreFreeHeads, AreTypes, BecomeHeads, IsBuilt, head_at};
 ghost use Rattle.ab_building.specs.Values.{HoldsValue, turned, Popped, Advances};
 
 use crate::value::{Value, given, one, pop, pop_term, two};
+use ab_fits::below::store::{Arguments, Head, Logical, Store, TermId};
+use ab_fits::below::types::{Name, Steps, TypeId, TypeTable};
+use ab_infer::below::solving::Settled;
 use ab_infer::{Binds, Formulas, Op};
-use ab_solving::Settled;
-use ab_store::{Arguments, Head, Logical, Store, TermId};
-use ab_types::{Name, Steps, TypeId, TypeTable};
 use std::alloc::{AllocError, Global};
 
 /// The last term under a binder of the name.

@@ -6,19 +6,19 @@ ghost use Rattle.ab_term.specs.Translation.{EqualPastHints};
 ghost use Rattle.ab_term.specs.Types.{Ty, prop};
 ghost use Rattle.ab_term.specs.Typing.{Signature, HasType};
 ghost use Rattle.ab_term.specs.Variables.{variables};
-ghost use Rattle.ab_types.specs.Entries.{Table};
-ghost use Rattle.ab_store.specs.Reading.{reading};
-ghost use Rattle.ab_store.specs.Trees.{Contents, tree_of};
+ghost use Rattle.ab_fits.specs.ab_types.specs.Entries.{Table};
+ghost use Rattle.ab_fits.specs.ab_store.specs.Reading.{reading};
+ghost use Rattle.ab_fits.specs.ab_store.specs.Trees.{Contents, tree_of};
 ghost use Rattle.ab_fits.specs.Formulas.{IsFormula};
-ghost use Rattle.ab_readings.specs.Answers.{IsTheReading, HasNoReading, IsFirstOpen};
-ghost use Rattle.ab_readings.specs.Names.{Name, Resolved};
-ghost use Rattle.ab_readings.specs.Normal.{normal_form};
-ghost use Rattle.ab_readings.specs.Readings.{Raw, Making, Reads};
-ghost use Rattle.ab_readings.specs.Types.{PropFree};
+ghost use Rattle.ab_infer.specs.ab_readings.specs.Answers.{IsTheReading, HasNoReading, IsFirstOpen};
+ghost use Rattle.ab_infer.specs.ab_readings.specs.Names.{Name, Resolved};
+ghost use Rattle.ab_infer.specs.ab_readings.specs.Normal.{normal_form};
+ghost use Rattle.ab_infer.specs.ab_readings.specs.Readings.{Raw, Making, Reads};
+ghost use Rattle.ab_infer.specs.ab_readings.specs.Types.{PropFree};
 ghost use Rattle.ab_building.specs.Heads.{HeadsFit, MakesTyped, AreRawHeads, KnownAre, IsOrdinary, IsFixed};
 ghost use Rattle.ab_building.specs.Outcomes.{nominal_of, IsNormal, IsUnboundHead};
 
-use ab_store::TermId;
+use ab_fits::below::store::TermId;
 
 /// The normal form of a well-typed term is canonical, of its type; and past hints it is the one by instances.
 pub fn normal_forms_are_canonical()

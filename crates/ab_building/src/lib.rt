@@ -2,6 +2,7 @@
 #![tactic(auto)]
 
 mod answering;
+pub mod below;
 mod building;
 pub mod laws;
 mod reading;

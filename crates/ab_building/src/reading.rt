@@ -1,13 +1,13 @@
 //! What is read of a row of steps: a term in normal form, or that there is no reading, or several.
 ghost use Rattle.std.specs.Prelude.{◌≡◌, ℕ, ◌+◌, ◌<◌, ◌≤◌, ◌^◌, [], ◌∷◌, List, length, get_or, take, IfOk, All};
-ghost use Rattle.ab_types.specs.Entries.{kinds, constants, signature, IsExtendedBy as IsPartOf};
-ghost use Rattle.ab_types.specs.Ids.{HoldsType, type_of};
-ghost use Rattle.ab_types.specs.Sound.{IsTable};
-ghost use Rattle.ab_store.specs.declared.node.Head.TheVariants.{Nominal};
-ghost use Rattle.ab_store.specs.Naming.{IsTypedBy};
+ghost use Rattle.ab_fits.specs.ab_types.specs.Entries.{kinds, constants, signature, IsExtendedBy as IsPartOf};
+ghost use Rattle.ab_fits.specs.ab_types.specs.Ids.{HoldsType, type_of};
+ghost use Rattle.ab_fits.specs.ab_types.specs.Sound.{IsTable};
+ghost use Rattle.ab_fits.specs.ab_store.specs.declared.node.Head.TheVariants.{Nominal};
+ghost use Rattle.ab_fits.specs.ab_store.specs.Naming.{IsTypedBy};
 ghost use Rattle.ab_norm.specs.Growth.{AddsTypedTerms};
-ghost use Rattle.ab_readings.specs.Names.{Name as AName};
-ghost use Rattle.ab_solving.specs.Settling.{settled_at};
+ghost use Rattle.ab_infer.specs.ab_readings.specs.Names.{Name as AName};
+ghost use Rattle.ab_infer.specs.ab_solving.specs.Settling.{settled_at};
 ghost use Rattle.ab_infer.specs.Sketches.{Sketch, Fit, count as count_of, erase, term_of, variable_of, marks_of};
 ghost use Rattle.ab_infer.specs.Programs.{Runs, items_of, OpTyped};
 ghost use Rattle.ab_infer.specs.Inferences.{IsFormulas};
@@ -15,13 +15,13 @@ ghost use Rattle.ab_infer.specs.Verdicts.{AreApart, AreFound, marks_in, mark_of,
 ghost use Rattle.ab_building.specs.Building.{OpFits, head_at};
 ghost use Rattle.ab_building.specs.Outcomes.{AreNumbers, IsOutcome, nominal_of};
 ghost use Rattle.ab_term.specs.Types.{Ty};
-ghost use Rattle.ab_readings.specs.Answers.{IsTheReading};
+ghost use Rattle.ab_infer.specs.ab_readings.specs.Answers.{IsTheReading};
 
 use crate::building::build;
+use ab_fits::below::store::{Head, Store, TermId};
+use ab_fits::below::types::{Steps, TypeId, TypeTable};
+use ab_infer::below::solving::Settled;
 use ab_infer::{Formulas, Mark, Op, Verdict, decide};
-use ab_solving::Settled;
-use ab_store::{Head, Store, TermId};
-use ab_types::{Steps, TypeId, TypeTable};
 use std::alloc::{AllocError, Global};
 
 /// What is read of an expression.

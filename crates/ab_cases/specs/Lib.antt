@@ -8,3 +8,5 @@ pub mod Premises
 pub mod Member
 pub mod Prefixes
 pub mod Examples
+-- Libraries that the crates above name through this one.
+pub use Rattle.ab_solve

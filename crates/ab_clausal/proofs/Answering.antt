@@ -2,25 +2,25 @@
 use Rattle.std.specs.Prelude.{Ok, Err, Result, IfOk, Option, Some, None, codes}
 use Rattle.std.proofs.Common.{◌≡◌, ℕ, [], refl, sym, ap, ◌∙◌, subst}
 use Rattle.ab_term.specs.Types.{Ty, arrow, prop, o, olist}
-use Rattle.ab_types.specs.Entries.{Table, kinds, signature, type_in, first_entries, IsExtendedBy}
-use Rattle.ab_types.specs.Sound.{IsTable}
-use Rattle.ab_types.proofs.Entries.{same_signature as same_entries}
-use Rattle.ab_store.specs.Trees.{Contents}
-use Rattle.ab_store.specs.Naming.{IsTypedBy}
-use Rattle.ab_store.proofs.Growing.{extended_itself}
+use Rattle.ab_closing.specs.ab_types.specs.Entries.{Table, kinds, signature, type_in, first_entries, IsExtendedBy}
+use Rattle.ab_closing.specs.ab_types.specs.Sound.{IsTable}
+use Rattle.ab_closing.specs.ab_types.proofs.Entries.{same_signature as same_entries}
+use Rattle.ab_closing.specs.ab_store.specs.Trees.{Contents}
+use Rattle.ab_closing.specs.ab_store.specs.Naming.{IsTypedBy}
+use Rattle.ab_closing.specs.ab_store.proofs.Growing.{extended_itself}
 use Rattle.ab_grammar.specs.CommandTrees as written
 use Rattle.ab_grammar.specs.Tree.{Tree}
-use Rattle.ab_readings.specs.Scopes.{Scope, Found, resolved}
-use Rattle.ab_infer.specs.declared.fault.InferFault.{InferFault}
-use Rattle.ab_infer.specs.declared.fault.InferFault.TheVariants.{Unknown, TypeClash, Untyped, Memory}
-use Rattle.ab_infer.specs.Sketches.{erase}
-use Rattle.ab_building.proofs.Larger.{store_more}
-use Rattle.ab_walking.specs.declared.row.Row.{Row}
-use Rattle.ab_walking.specs.Rows.{Makes, Fails, AddsTypes}
-use Rattle.ab_clauses.specs.declared.kept.ClauseTerm.{ClauseTerm}
-use Rattle.ab_clauses.specs.Cases.{case_of}
-use Rattle.ab_clauses.specs.Proposed.{IsProposed}
-use Rattle.ab_clauses.specs.Readings.{clause_of}
+use Rattle.ab_elaborate.specs.ab_readings.specs.Scopes.{Scope, Found, resolved}
+use Rattle.ab_elaborate.specs.ab_infer.specs.declared.fault.InferFault.{InferFault}
+use Rattle.ab_elaborate.specs.ab_infer.specs.declared.fault.InferFault.TheVariants.{Unknown, TypeClash, Untyped, Memory}
+use Rattle.ab_elaborate.specs.ab_infer.specs.Sketches.{erase}
+use Rattle.ab_elaborate.specs.ab_building.proofs.Larger.{store_more}
+use Rattle.ab_elaborate.specs.ab_walking.specs.declared.row.Row.{Row}
+use Rattle.ab_elaborate.specs.ab_walking.specs.Rows.{Makes, Fails, AddsTypes}
+use Rattle.ab_closing.specs.ab_clauses.specs.declared.kept.ClauseTerm.{ClauseTerm}
+use Rattle.ab_closing.specs.ab_clauses.specs.Cases.{case_of}
+use Rattle.ab_closing.specs.ab_clauses.specs.Proposed.{IsProposed}
+use Rattle.ab_closing.specs.ab_clauses.specs.Readings.{clause_of}
 use Rattle.ab_clausal.specs.Readings.{Parts}
 use Rattle.ab_clausal.specs.Meanings.{clause_scope, body_found, body_type, both_found, parts_found, IsKeptAs, ClauseMeans, ClauseMeansNothing}
 use Rattle.ab_clausal.specs.Answers.{IsClauseAnswer}

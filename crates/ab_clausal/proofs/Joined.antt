@@ -4,10 +4,10 @@ use Rattle.std.proofs.Common.{◌≡◌, ℕ, List, [], ◌++◌, get_or, refl, 
 use Rattle.ab_term.specs.Types.{Ty, arrow, prop}
 use Rattle.ab_term.specs.Terms.{Head}
 use Rattle.ab_term.specs.Beta.{atom, application}
-use Rattle.ab_readings.specs.Names.{Name, Resolved, known, apply}
-use Rattle.ab_readings.specs.Scopes.{Found}
-use Rattle.ab_readings.specs.Readings.{Raw, Making, Reads, reads_known, reads_apply}
-use Rattle.ab_readings.specs.Answers as single
+use Rattle.ab_elaborate.specs.ab_readings.specs.Names.{Name, Resolved, known, apply}
+use Rattle.ab_elaborate.specs.ab_readings.specs.Scopes.{Found}
+use Rattle.ab_elaborate.specs.ab_readings.specs.Readings.{Raw, Making, Reads, reads_known, reads_apply}
+use Rattle.ab_elaborate.specs.ab_readings.specs.Answers as single
 use Rattle.ab_clausal.specs.Readings.{Parts, ClauseReading, types_given, HasOneReading, HasNoReading, Differ, IsFirstOpen}
 use Rattle.ab_clausal.specs.Meanings.{both_found}
 use Rattle.ab_clausal.specs.Joining.{joiner_type, joiner, joined, joined_found}

@@ -4,37 +4,37 @@ use Rattle.std.proofs.Common.{◌≡◌, ℕ, ◌+◌, ◌<◌, Bool, List, [], 
 use Rattle.ab_term.specs.Types.{Ty, prop}
 use Rattle.ab_term.specs.Terms.{Head, variable, spine, no_terms, term}
 use Rattle.ab_term.specs.Typing.{Signature}
-use Rattle.ab_types.specs.Entries.{Table, signature, IsExtendedBy}
-use Rattle.ab_types.specs.Ids.{type_of}
-use Rattle.ab_types.specs.declared.ids.TypeId.{TypeId}
-use Rattle.ab_store.specs.declared.node.CellId.{CellId}
-use Rattle.ab_store.specs.declared.node.TermId.{TermId}
-use Rattle.ab_store.specs.Trees.{Read, Contents, cell_in, tree_of}
-use Rattle.ab_store.specs.Naming.{IsTypedBy}
-use Rattle.ab_store.specs.Growth.{IsExtendedBy as IsExtended}
-use Rattle.ab_store.specs.declared.node.CellEntry.{CellEntry}
-use Rattle.ab_readings.specs.Names.{Name, Resolved}
-use Rattle.ab_readings.specs.Scopes.{Found}
-use Rattle.ab_readings.specs.Readings.{Making, Reads}
-use Rattle.ab_readings.specs.Answers as single
-use Rattle.ab_readings.specs.Normal.{normal_form}
-use Rattle.ab_solving.specs.declared.settling.Settled.{Settled}
-use Rattle.ab_solving.specs.Settling.{settled_at}
-use Rattle.ab_infer.specs.Sketches.{Sketch, erase, count, term_of, Fit, marks_of}
-use Rattle.ab_infer.specs.declared.op.Op.{Op}
-use Rattle.ab_infer.specs.declared.op.Mark.{Mark}
-use Rattle.ab_infer.specs.declared.deciding.Verdict.{Verdict}
-use Rattle.ab_infer.specs.Programs.{Runs, items_of}
-use Rattle.ab_infer.specs.Verdicts.{types_found, AreApart, marks_in, IsVerdict}
-use Rattle.ab_store.specs.declared.node.Head.{Head as AHead}
-use Rattle.ab_store.specs.declared.node.Head.TheVariants.{Cell}
-use Rattle.ab_building.specs.Building.{IsBuilt, BecomeHeads}
-use Rattle.ab_building.proofs.Larger.{typed_more_steps, fits_more, items_more}
-use Rattle.ab_walking.specs.declared.row.Row.{Row}
-use Rattle.ab_walking.specs.Rows.{Makes}
-use Rattle.ab_walking.specs.Occurrences.{free_names, with_names}
-use Rattle.ab_clauses.specs.Kept.{Clause}
-use Rattle.ab_clauses.specs.Readings.{variable_of}
+use Rattle.ab_closing.specs.ab_types.specs.Entries.{Table, signature, IsExtendedBy}
+use Rattle.ab_closing.specs.ab_types.specs.Ids.{type_of}
+use Rattle.ab_closing.specs.ab_types.specs.declared.ids.TypeId.{TypeId}
+use Rattle.ab_closing.specs.ab_store.specs.declared.node.CellId.{CellId}
+use Rattle.ab_closing.specs.ab_store.specs.declared.node.TermId.{TermId}
+use Rattle.ab_closing.specs.ab_store.specs.Trees.{Read, Contents, cell_in, tree_of}
+use Rattle.ab_closing.specs.ab_store.specs.Naming.{IsTypedBy}
+use Rattle.ab_closing.specs.ab_store.specs.Growth.{IsExtendedBy as IsExtended}
+use Rattle.ab_closing.specs.ab_store.specs.declared.node.CellEntry.{CellEntry}
+use Rattle.ab_elaborate.specs.ab_readings.specs.Names.{Name, Resolved}
+use Rattle.ab_elaborate.specs.ab_readings.specs.Scopes.{Found}
+use Rattle.ab_elaborate.specs.ab_readings.specs.Readings.{Making, Reads}
+use Rattle.ab_elaborate.specs.ab_readings.specs.Answers as single
+use Rattle.ab_elaborate.specs.ab_readings.specs.Normal.{normal_form}
+use Rattle.ab_elaborate.specs.ab_solving.specs.declared.settling.Settled.{Settled}
+use Rattle.ab_elaborate.specs.ab_solving.specs.Settling.{settled_at}
+use Rattle.ab_elaborate.specs.ab_infer.specs.Sketches.{Sketch, erase, count, term_of, Fit, marks_of}
+use Rattle.ab_elaborate.specs.ab_infer.specs.declared.op.Op.{Op}
+use Rattle.ab_elaborate.specs.ab_infer.specs.declared.op.Mark.{Mark}
+use Rattle.ab_elaborate.specs.ab_infer.specs.declared.deciding.Verdict.{Verdict}
+use Rattle.ab_elaborate.specs.ab_infer.specs.Programs.{Runs, items_of}
+use Rattle.ab_elaborate.specs.ab_infer.specs.Verdicts.{types_found, AreApart, marks_in, IsVerdict}
+use Rattle.ab_closing.specs.ab_store.specs.declared.node.Head.{Head as AHead}
+use Rattle.ab_closing.specs.ab_store.specs.declared.node.Head.TheVariants.{Cell}
+use Rattle.ab_elaborate.specs.ab_building.specs.Building.{IsBuilt, BecomeHeads}
+use Rattle.ab_elaborate.specs.ab_building.proofs.Larger.{typed_more_steps, fits_more, items_more}
+use Rattle.ab_elaborate.specs.ab_walking.specs.declared.row.Row.{Row}
+use Rattle.ab_elaborate.specs.ab_walking.specs.Rows.{Makes}
+use Rattle.ab_elaborate.specs.ab_walking.specs.Occurrences.{free_names, with_names}
+use Rattle.ab_closing.specs.ab_clauses.specs.Kept.{Clause}
+use Rattle.ab_closing.specs.ab_clauses.specs.Readings.{variable_of}
 use Rattle.ab_closing.specs.Closed.{kept_clause}
 use Rattle.ab_clausal.specs.Readings.{Parts, HasOneReading, HasNoReading, IsFirstOpen}
 use Rattle.ab_clausal.specs.Meanings.{variable_names, variable_from, variables_from, is_under_nabla, IsKeptAs}

@@ -8,27 +8,27 @@ use Rattle.std.proofs.lemmas.List.Elements.{All-nil, All-cons, All-head, All-tai
 use Rattle.ab_term.specs.Types.{Ty}
 use Rattle.ab_term.specs.Terms as tree
 use Rattle.ab_term.specs.Typing.{head_type}
-use Rattle.ab_types.specs.Entries.{Table, signature}
-use Rattle.ab_types.specs.Ids.{type_of}
-use Rattle.ab_types.specs.declared.ids.TypeId.{TypeId}
-use Rattle.ab_store.specs.declared.node.CellId.{CellId}
-use Rattle.ab_store.specs.declared.node.CellEntry.{CellEntry}
-use Rattle.ab_store.specs.declared.node.Head.{Head}
-use Rattle.ab_store.specs.declared.node.Head.TheVariants.{Const, Logic, Nominal, Cell, Index}
-use Rattle.ab_store.specs.Trees.{Contents, HoldsCell, cell_of, head_in}
-use Rattle.ab_store.specs.Growth.{IsExtendedBy}
-use Rattle.ab_store.specs.Naming.{HeadNames}
-use Rattle.ab_readings.specs.Names.{Name}
-use Rattle.ab_solving.specs.declared.settling.Settled.{Settled}
-use Rattle.ab_solving.specs.Settling.{settled_at}
-use Rattle.ab_infer.specs.declared.op.Op.{Op}
-use Rattle.ab_infer.specs.declared.op.Op.TheVariants as op
-use Rattle.ab_infer.specs.Programs.{item_of, items_of, known_item}
-use Rattle.ab_infer.specs.Verdicts.{AreApart, types_found}
-use Rattle.ab_infer.proofs.Judging.{number_in, own_number}
-use Rattle.ab_building.specs.Building.{OpFits, HasHeadType, AreFreeHeads, BecomeHeads, head_at}
-use Rattle.ab_clauses.specs.Kept.{ClauseVariable}
-use Rattle.ab_clauses.specs.Readings.{variable_of}
+use Rattle.ab_closing.specs.ab_types.specs.Entries.{Table, signature}
+use Rattle.ab_closing.specs.ab_types.specs.Ids.{type_of}
+use Rattle.ab_closing.specs.ab_types.specs.declared.ids.TypeId.{TypeId}
+use Rattle.ab_closing.specs.ab_store.specs.declared.node.CellId.{CellId}
+use Rattle.ab_closing.specs.ab_store.specs.declared.node.CellEntry.{CellEntry}
+use Rattle.ab_closing.specs.ab_store.specs.declared.node.Head.{Head}
+use Rattle.ab_closing.specs.ab_store.specs.declared.node.Head.TheVariants.{Const, Logic, Nominal, Cell, Index}
+use Rattle.ab_closing.specs.ab_store.specs.Trees.{Contents, HoldsCell, cell_of, head_in}
+use Rattle.ab_closing.specs.ab_store.specs.Growth.{IsExtendedBy}
+use Rattle.ab_closing.specs.ab_store.specs.Naming.{HeadNames}
+use Rattle.ab_elaborate.specs.ab_readings.specs.Names.{Name}
+use Rattle.ab_elaborate.specs.ab_solving.specs.declared.settling.Settled.{Settled}
+use Rattle.ab_elaborate.specs.ab_solving.specs.Settling.{settled_at}
+use Rattle.ab_elaborate.specs.ab_infer.specs.declared.op.Op.{Op}
+use Rattle.ab_elaborate.specs.ab_infer.specs.declared.op.Op.TheVariants as op
+use Rattle.ab_elaborate.specs.ab_infer.specs.Programs.{item_of, items_of, known_item}
+use Rattle.ab_elaborate.specs.ab_infer.specs.Verdicts.{AreApart, types_found}
+use Rattle.ab_elaborate.specs.ab_infer.proofs.Judging.{number_in, own_number}
+use Rattle.ab_elaborate.specs.ab_building.specs.Building.{OpFits, HasHeadType, AreFreeHeads, BecomeHeads, head_at}
+use Rattle.ab_closing.specs.ab_clauses.specs.Kept.{ClauseVariable}
+use Rattle.ab_closing.specs.ab_clauses.specs.Readings.{variable_of}
 use Rattle.ab_clausal.specs.Meanings.{place_in, variable_from, variables_from}
 use Rattle.ab_clausal.specs.Joining.{AreCells, cell_at}
 

@@ -15,16 +15,16 @@ use Rattle.ab_term.specs.Closing.{close_head, close, close_all}
 use Rattle.ab_term.proofs.Lists.{Contains-here}
 use Rattle.ab_term.proofs.Translations.{translate-instance, translate-expansion_of}
 use Rattle.std.proofs.lemmas.List.Elements.{Contains-append_left, Contains-append_right}
-use Rattle.ab_store.specs.Trees.{Read}
-use Rattle.ab_solve.specs.Replacing.{Cell, holds, occurs}
-use Rattle.ab_cases.specs.Clauses as cases
-use Rattle.ab_cases.specs.Clauses.{numbered, put_together}
-use Rattle.ab_cases.specs.Prefixes.{prefix, opened, predicate_of, arguments_of, own_terms}
+use Rattle.ab_closing.specs.ab_store.specs.Trees.{Read}
+use Rattle.ab_renumbering.specs.ab_solve.specs.Replacing.{Cell, holds, occurs}
+use Rattle.ab_renumbering.specs.ab_cases.specs.Clauses as cases
+use Rattle.ab_renumbering.specs.ab_cases.specs.Clauses.{numbered, put_together}
+use Rattle.ab_renumbering.specs.ab_cases.specs.Prefixes.{prefix, opened, predicate_of, arguments_of, own_terms}
 use Rattle.ab_renumbering.proofs.Tests.{numbered_moved, head_moved, shift_moved, occurs_moved}
-use Rattle.ab_readings.specs.Readings.{Raw}
-use Rattle.ab_readings.specs.Normal.{left_type, given_all, long_form, normal_given, normal_form}
-use Rattle.ab_clauses.specs.Kept.{ClauseVariable, Clause}
-use Rattle.ab_clauses.specs.Cases.{in_terms, cell_of, case_of}
+use Rattle.ab_elaborate.specs.ab_readings.specs.Readings.{Raw}
+use Rattle.ab_elaborate.specs.ab_readings.specs.Normal.{left_type, given_all, long_form, normal_given, normal_form}
+use Rattle.ab_closing.specs.ab_clauses.specs.Kept.{ClauseVariable, Clause}
+use Rattle.ab_closing.specs.ab_clauses.specs.Cases.{in_terms, cell_of, case_of}
 use Rattle.ab_closing.specs.Quantified.{exists_over, exists_all}
 use Rattle.ab_closing.specs.Closed.{stands_in_body_alone, kept_clause}
 

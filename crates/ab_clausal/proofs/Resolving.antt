@@ -11,9 +11,9 @@ use Rattle.ab_grammar.specs.declared.Infix.TheVariants.{Arrow, Or, And, Equal, I
 use Rattle.ab_grammar.specs.declared.Quant.{Quant}
 use Rattle.ab_grammar.specs.Tree as tree
 use Rattle.ab_grammar.specs.Tree.{Tree, Trees, no_trees}
-use Rattle.ab_readings.specs.Names.{Name, Resolved, bound, known, free, apply, abs, equal, bind}
-use Rattle.ab_readings.specs.Scopes.{Scope, or_else, index_of, truth_named, constant_at, clause_variable, begins_with_capital, in_clause, head_named, Found, or_unknown, made_of, made_of_both, connective, joined, pi_over, after, written, with_binder, with_binders, under, is_pi, resolved, applied, pi_applied}
-use Rattle.ab_building.specs.Heads.{IsFixed, IsOrdinary, HeadsFit, KnownAre}
+use Rattle.ab_elaborate.specs.ab_readings.specs.Names.{Name, Resolved, bound, known, free, apply, abs, equal, bind}
+use Rattle.ab_elaborate.specs.ab_readings.specs.Scopes.{Scope, or_else, index_of, truth_named, constant_at, clause_variable, begins_with_capital, in_clause, head_named, Found, or_unknown, made_of, made_of_both, connective, joined, pi_over, after, written, with_binder, with_binders, under, is_pi, resolved, applied, pi_applied}
+use Rattle.ab_elaborate.specs.ab_building.specs.Heads.{IsFixed, IsOrdinary, HeadsFit, KnownAre}
 use Rattle.ab_clausal.specs.Readings.{Parts}
 use Rattle.ab_clausal.specs.Meanings.{clause_scope, body_found, both_found, parts_found}
 use Rattle.ab_grammar.specs.CommandTrees as command

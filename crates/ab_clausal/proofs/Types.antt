@@ -5,13 +5,13 @@ use Rattle.std.proofs.lemmas.List.Elements.{All-nil, All-cons, All-head, All-tai
 use Rattle.ab_term.specs.Types.{Ty}
 use Rattle.ab_term.specs.Terms.{Head}
 use Rattle.ab_term.specs.Beta.{atom, abstraction, application}
-use Rattle.ab_readings.specs.Types.{is_listed}
-use Rattle.ab_readings.specs.Names as resolved
-use Rattle.ab_readings.specs.Names.{Name, Binding}
-use Rattle.ab_readings.specs.Readings.{Raw, Making, Reads, reads_free, reads_apply, reads_abs, reads_equal, reads_bind}
-use Rattle.ab_infer.specs.Sketches.{Sketch, bound, known, free, apply, abs, equal, bind, erase, term_of, Fit, count}
-use Rattle.ab_infer.specs.Verdicts.{AreApart}
-use Rattle.ab_walking.specs.Occurrences.{free_names, with_name, with_names}
+use Rattle.ab_elaborate.specs.ab_readings.specs.Types.{is_listed}
+use Rattle.ab_elaborate.specs.ab_readings.specs.Names as resolved
+use Rattle.ab_elaborate.specs.ab_readings.specs.Names.{Name, Binding}
+use Rattle.ab_elaborate.specs.ab_readings.specs.Readings.{Raw, Making, Reads, reads_free, reads_apply, reads_abs, reads_equal, reads_bind}
+use Rattle.ab_elaborate.specs.ab_infer.specs.Sketches.{Sketch, bound, known, free, apply, abs, equal, bind, erase, term_of, Fit, count}
+use Rattle.ab_elaborate.specs.ab_infer.specs.Verdicts.{AreApart}
+use Rattle.ab_elaborate.specs.ab_walking.specs.Occurrences.{free_names, with_name, with_names}
 
 module _ (made : Making) (base : ℕ) (v : ℕ → Ty) (types : Name → Ty) where
   -- each free name has the type of its variable

@@ -5,25 +5,25 @@ use Rattle.ab_term.specs.Types.{Ty, arrow, prop}
 use Rattle.ab_term.specs.Logical.{truth}
 use Rattle.ab_term.specs.Terms as tree
 use Rattle.ab_term.specs.Terms.{Term, spine, no_terms, term, terms_of}
-use Rattle.ab_types.specs.Entries.{Table, IsExtendedBy}
-use Rattle.ab_types.specs.Ids.{HoldsType, type_of}
-use Rattle.ab_types.specs.declared.ids.TypeId.{TypeId}
-use Rattle.ab_store.specs.declared.node.TermId.{TermId}
-use Rattle.ab_store.specs.declared.node.Head.TheVariants.{Nominal, Logic}
-use Rattle.ab_store.specs.declared.node.Logical.TheVariants.{True}
-use Rattle.ab_store.specs.Trees.{Read, Contents}
-use Rattle.ab_store.specs.Naming.{IsTypedBy}
-use Rattle.ab_readings.specs.Names.{Name, known, apply}
-use Rattle.ab_readings.specs.Scopes.{Scope, Found, made_of_both}
-use Rattle.ab_infer.specs.declared.op.Op.TheVariants as op
-use Rattle.ab_infer.specs.Sketches.{erase}
-use Rattle.ab_building.proofs.Larger.{type_more}
-use Rattle.ab_walking.specs.declared.row.Row.{Row}
-use Rattle.ab_walking.specs.Rows.{Grew, Makes}
-use Rattle.ab_walking.specs.Walking.{Puts}
-use Rattle.ab_walking.proofs.Single.{grew_known}
-use Rattle.ab_walking.proofs.Growing.{grew_apply}
-use Rattle.ab_walking.proofs.Wholes.{grew_whole}
+use Rattle.ab_closing.specs.ab_types.specs.Entries.{Table, IsExtendedBy}
+use Rattle.ab_closing.specs.ab_types.specs.Ids.{HoldsType, type_of}
+use Rattle.ab_closing.specs.ab_types.specs.declared.ids.TypeId.{TypeId}
+use Rattle.ab_closing.specs.ab_store.specs.declared.node.TermId.{TermId}
+use Rattle.ab_closing.specs.ab_store.specs.declared.node.Head.TheVariants.{Nominal, Logic}
+use Rattle.ab_closing.specs.ab_store.specs.declared.node.Logical.TheVariants.{True}
+use Rattle.ab_closing.specs.ab_store.specs.Trees.{Read, Contents}
+use Rattle.ab_closing.specs.ab_store.specs.Naming.{IsTypedBy}
+use Rattle.ab_elaborate.specs.ab_readings.specs.Names.{Name, known, apply}
+use Rattle.ab_elaborate.specs.ab_readings.specs.Scopes.{Scope, Found, made_of_both}
+use Rattle.ab_elaborate.specs.ab_infer.specs.declared.op.Op.TheVariants as op
+use Rattle.ab_elaborate.specs.ab_infer.specs.Sketches.{erase}
+use Rattle.ab_elaborate.specs.ab_building.proofs.Larger.{type_more}
+use Rattle.ab_elaborate.specs.ab_walking.specs.declared.row.Row.{Row}
+use Rattle.ab_elaborate.specs.ab_walking.specs.Rows.{Grew, Makes}
+use Rattle.ab_elaborate.specs.ab_walking.specs.Walking.{Puts}
+use Rattle.ab_elaborate.specs.ab_walking.proofs.Single.{grew_known}
+use Rattle.ab_elaborate.specs.ab_walking.proofs.Growing.{grew_apply}
+use Rattle.ab_elaborate.specs.ab_walking.proofs.Wholes.{grew_whole}
 use Rattle.ab_clausal.specs.Meanings.{body_found}
 use Rattle.ab_clausal.specs.Joining.{joiner, joiner_type, joined_found}
 

@@ -1,12 +1,12 @@
 -- The answers to a written clause at a type: exactly one of these holds, and want of memory alone is free.
 use Rattle.std.specs.Prelude.{ℕ, Result, Ok, Err}
 use Rattle.ab_term.specs.Types.{Ty}
-use Rattle.ab_types.specs.Entries.{Table, kinds, signature}
-use Rattle.ab_store.specs.Trees.{Contents}
+use Rattle.ab_closing.specs.ab_types.specs.Entries.{Table, kinds, signature}
+use Rattle.ab_closing.specs.ab_store.specs.Trees.{Contents}
 use Rattle.ab_grammar.specs.CommandTrees as written
-use Rattle.ab_clauses.specs.declared.kept.ClauseTerm.{ClauseTerm}
-use Rattle.ab_clauses.specs.Readings.{clause_of}
-use Rattle.ab_infer.specs.declared.fault.InferFault.{InferFault}
+use Rattle.ab_closing.specs.ab_clauses.specs.declared.kept.ClauseTerm.{ClauseTerm}
+use Rattle.ab_closing.specs.ab_clauses.specs.Readings.{clause_of}
+use Rattle.ab_elaborate.specs.ab_infer.specs.declared.fault.InferFault.{InferFault}
 use Rattle.ab_clausal.specs.Meanings.{Finds, body_type, IsKeptAs, ClauseMeansNothing}
 
 -- a clause is kept with new cells, numbered from n on, for its variables

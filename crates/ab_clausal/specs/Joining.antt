@@ -2,21 +2,21 @@
 use Rattle.std.specs.Prelude.{◌≡◌, ℕ, ◌+◌, ◌<◌, List, [], length, get_or, Result, Ok, Err}
 use Rattle.ab_term.specs.Types.{Ty, arrow, prop}
 use Rattle.ab_term.specs.Terms.{Head, nominal}
-use Rattle.ab_types.specs.Entries.{Table, signature}
-use Rattle.ab_types.specs.declared.ids.TypeId.{TypeId}
-use Rattle.ab_store.specs.declared.node.CellId.{CellId}
-use Rattle.ab_store.specs.declared.node.TermId.{TermId}
-use Rattle.ab_store.specs.Trees.{Read, Contents, HoldsCell, cell_of, Holds, tree_of}
-use Rattle.ab_readings.specs.Names.{Name, Resolved, known, apply}
-use Rattle.ab_readings.specs.Scopes.{Found, made_of_both}
-use Rattle.ab_clauses.specs.declared.kept.ClauseTerm.{ClauseTerm}
-use Rattle.ab_clauses.specs.Readings.{clause_of}
-use Rattle.ab_infer.specs.declared.fault.InferFault.{InferFault}
-use Rattle.ab_infer.specs.declared.fault.InferFault.TheVariants.{Unknown, TypeClash, Untyped, Memory}
-use Rattle.ab_readings.specs.Answers.{IsTheReading}
-use Rattle.ab_infer.specs.Sketches.{Sketch, erase, term_of}
-use Rattle.ab_infer.specs.Verdicts.{types_found}
-use Rattle.ab_solving.specs.declared.settling.Settled.{Settled}
+use Rattle.ab_closing.specs.ab_types.specs.Entries.{Table, signature}
+use Rattle.ab_closing.specs.ab_types.specs.declared.ids.TypeId.{TypeId}
+use Rattle.ab_closing.specs.ab_store.specs.declared.node.CellId.{CellId}
+use Rattle.ab_closing.specs.ab_store.specs.declared.node.TermId.{TermId}
+use Rattle.ab_closing.specs.ab_store.specs.Trees.{Read, Contents, HoldsCell, cell_of, Holds, tree_of}
+use Rattle.ab_elaborate.specs.ab_readings.specs.Names.{Name, Resolved, known, apply}
+use Rattle.ab_elaborate.specs.ab_readings.specs.Scopes.{Found, made_of_both}
+use Rattle.ab_closing.specs.ab_clauses.specs.declared.kept.ClauseTerm.{ClauseTerm}
+use Rattle.ab_closing.specs.ab_clauses.specs.Readings.{clause_of}
+use Rattle.ab_elaborate.specs.ab_infer.specs.declared.fault.InferFault.{InferFault}
+use Rattle.ab_elaborate.specs.ab_infer.specs.declared.fault.InferFault.TheVariants.{Unknown, TypeClash, Untyped, Memory}
+use Rattle.ab_elaborate.specs.ab_readings.specs.Answers.{IsTheReading}
+use Rattle.ab_elaborate.specs.ab_infer.specs.Sketches.{Sketch, erase, term_of}
+use Rattle.ab_elaborate.specs.ab_infer.specs.Verdicts.{types_found}
+use Rattle.ab_elaborate.specs.ab_solving.specs.declared.settling.Settled.{Settled}
 use Rattle.ab_clausal.specs.Readings.{Parts, HasNoReading, IsFirstOpen}
 use Rattle.ab_clausal.specs.Meanings.{IsKeptAs, numbered_names, variable_from}
 

@@ -6,20 +6,20 @@ use Rattle.ab_term.specs.Types.{Ty, prop}
 use Rattle.ab_term.specs.Logical.{truth, nabla}
 use Rattle.ab_term.specs.Terms.{Head, logical, variable, lam, spine}
 use Rattle.ab_term.specs.Typing.{Signature}
-use Rattle.ab_store.specs.Trees.{Read}
+use Rattle.ab_closing.specs.ab_store.specs.Trees.{Read}
 use Rattle.ab_grammar.specs.Tree.{Tree}
 use Rattle.ab_grammar.specs.CommandTrees as written
-use Rattle.ab_cases.specs.Clauses as cases
-use Rattle.ab_readings.specs.Names.{Name, known}
-use Rattle.ab_readings.specs.Scopes.{Scope, in_clause, Found, resolved}
-use Rattle.ab_readings.specs.Readings.{Making}
-use Rattle.ab_readings.specs.Normal.{normal_form}
-use Rattle.ab_infer.specs.declared.fault.InferFault.{InferFault}
-use Rattle.ab_infer.specs.declared.fault.InferFault.TheVariants.{Unknown, TypeClash, Untyped, Memory}
+use Rattle.ab_renumbering.specs.ab_cases.specs.Clauses as cases
+use Rattle.ab_elaborate.specs.ab_readings.specs.Names.{Name, known}
+use Rattle.ab_elaborate.specs.ab_readings.specs.Scopes.{Scope, in_clause, Found, resolved}
+use Rattle.ab_elaborate.specs.ab_readings.specs.Readings.{Making}
+use Rattle.ab_elaborate.specs.ab_readings.specs.Normal.{normal_form}
+use Rattle.ab_elaborate.specs.ab_infer.specs.declared.fault.InferFault.{InferFault}
+use Rattle.ab_elaborate.specs.ab_infer.specs.declared.fault.InferFault.TheVariants.{Unknown, TypeClash, Untyped, Memory}
 use Rattle.ab_elaborate.specs.Judgements.{HasNoJudgement}
-use Rattle.ab_walking.specs.Occurrences.{free_names, with_names}
-use Rattle.ab_clauses.specs.Kept.{ClauseVariable, Clause}
-use Rattle.ab_clauses.specs.Cases.{case_of}
+use Rattle.ab_elaborate.specs.ab_walking.specs.Occurrences.{free_names, with_names}
+use Rattle.ab_closing.specs.ab_clauses.specs.Kept.{ClauseVariable, Clause}
+use Rattle.ab_closing.specs.ab_clauses.specs.Cases.{case_of}
 use Rattle.ab_closing.specs.Closed.{kept_clause}
 use Rattle.ab_clausal.specs.Readings.{Parts, HasOneReading, HasNoReading, IsFirstOpen}
 

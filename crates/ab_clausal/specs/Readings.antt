@@ -2,8 +2,8 @@
 -- at binders and free names are counted over both, the head's first.
 use Rattle.std.specs.Prelude.{◌≡◌, ◌≢◌, ℕ, ◌<◌, List, [], ◌++◌, length, get_or}
 use Rattle.ab_term.specs.Types.{Ty, prop}
-use Rattle.ab_readings.specs.Names.{Name, Resolved, places_of}
-use Rattle.ab_readings.specs.Readings.{Raw, Making, Reads}
+use Rattle.ab_elaborate.specs.ab_readings.specs.Names.{Name, Resolved, places_of}
+use Rattle.ab_elaborate.specs.ab_readings.specs.Readings.{Raw, Making, Reads}
 
 -- head and body, whose names are resolved
 pub record Parts : Type 0 where

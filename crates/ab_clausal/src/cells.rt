@@ -1,17 +1,17 @@
 //! The cells that stand for the variables of a clause.
 ghost use Rattle.std.specs.Prelude.{◌≡◌, ◌+◌, ◌<◌, ◌≤◌, length, map, IfOk};
-ghost use Rattle.ab_types.specs.Ids.{HoldsType};
-ghost use Rattle.ab_store.specs.Growth.{IsExtendedBy};
-ghost use Rattle.ab_store.specs.Naming.{IsTypedBy};
-ghost use Rattle.ab_store.specs.declared.node.Head.TheVariants.{Cell};
-ghost use Rattle.ab_solving.specs.Settling.{settled_at};
-ghost use Rattle.ab_infer.specs.Verdicts.{AreFound};
+ghost use Rattle.ab_closing.specs.ab_types.specs.Ids.{HoldsType};
+ghost use Rattle.ab_closing.specs.ab_store.specs.Growth.{IsExtendedBy};
+ghost use Rattle.ab_closing.specs.ab_store.specs.Naming.{IsTypedBy};
+ghost use Rattle.ab_closing.specs.ab_store.specs.declared.node.Head.TheVariants.{Cell};
+ghost use Rattle.ab_elaborate.specs.ab_solving.specs.Settling.{settled_at};
+ghost use Rattle.ab_elaborate.specs.ab_infer.specs.Verdicts.{AreFound};
 ghost use Rattle.ab_clausal.specs.Growth.{AddsVariables};
 ghost use Rattle.ab_clausal.specs.Joining.{AreCells};
 
-use ab_solving::Settled;
-use ab_store::{CellId, Head, Store};
-use ab_types::{Name, TypeTable};
+use ab_closing::below::store::{CellId, Head, Store};
+use ab_closing::below::types::{Name, TypeTable};
+use ab_elaborate::below::solving::Settled;
 use std::alloc::{AllocError, Global};
 
 /// A new cell for each of the names, at the type that is found for it.

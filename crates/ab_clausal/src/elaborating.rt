@@ -1,18 +1,18 @@
 //! Elaboration of a clause.
 ghost use Rattle.std.specs.Prelude.{◌≡◌, ◌≤◌, length, Ok, IfOk, MatchResult};
 ghost use Rattle.ab_term.specs.Types.{prop};
-ghost use Rattle.ab_types.specs.Entries.{Table, kinds, constants, signature, IsExtendedBy};
-ghost use Rattle.ab_types.specs.Ids.{HoldsType, type_of};
-ghost use Rattle.ab_types.specs.Sound.{IsTable};
-ghost use Rattle.ab_store.specs.Trees.{Contents};
-ghost use Rattle.ab_store.specs.Naming.{IsTypedBy};
+ghost use Rattle.ab_closing.specs.ab_types.specs.Entries.{Table, kinds, constants, signature, IsExtendedBy};
+ghost use Rattle.ab_closing.specs.ab_types.specs.Ids.{HoldsType, type_of};
+ghost use Rattle.ab_closing.specs.ab_types.specs.Sound.{IsTable};
+ghost use Rattle.ab_closing.specs.ab_store.specs.Trees.{Contents};
+ghost use Rattle.ab_closing.specs.ab_store.specs.Naming.{IsTypedBy};
 ghost use Rattle.ab_syntax.specs.Commands.{clause_of};
-ghost use Rattle.ab_resolving.specs.Scoping.{scope_of, HoldsScope};
-ghost use Rattle.ab_clauses.specs.Cases.{case_of};
-ghost use Rattle.ab_clauses.specs.Proposed.{IsProposed};
-ghost use Rattle.ab_clauses.specs.Readings as kept;
-ghost use Rattle.ab_walking.specs.Rows.{Fails};
-ghost use Rattle.ab_clauses.specs.Readings.{HoldsClause};
+ghost use Rattle.ab_elaborate.specs.ab_resolving.specs.Scoping.{scope_of, HoldsScope};
+ghost use Rattle.ab_closing.specs.ab_clauses.specs.Cases.{case_of};
+ghost use Rattle.ab_closing.specs.ab_clauses.specs.Proposed.{IsProposed};
+ghost use Rattle.ab_closing.specs.ab_clauses.specs.Readings as kept;
+ghost use Rattle.ab_elaborate.specs.ab_walking.specs.Rows.{Fails};
+ghost use Rattle.ab_closing.specs.ab_clauses.specs.Readings.{HoldsClause};
 ghost use Rattle.ab_clausal.specs.Answers.{IsClauseAnswer};
 ghost use Rattle.ab_clausal.specs.Readings.{Parts};
 ghost use Rattle.ab_clausal.specs.Meanings as meanings;
@@ -20,13 +20,13 @@ ghost use Rattle.ab_clausal.specs.Growth.{AddsVariables};
 
 use crate::reading::read_clause;
 use crate::rows::row_of_clause;
-use ab_clauses::ClauseTerm;
+use ab_closing::below::clauses::ClauseTerm;
+use ab_closing::below::store::Store;
+use ab_closing::below::types::{Steps, TypeId, TypeTable};
+use ab_elaborate::below::infer::InferFault;
+use ab_elaborate::below::resolving::{Place, Scope};
 use ab_elaborate::formulas;
-use ab_infer::InferFault;
-use ab_resolving::{Place, Scope};
-use ab_store::Store;
 use ab_syntax::ClauseParse;
-use ab_types::{Steps, TypeId, TypeTable};
 use std::alloc::Global;
 
 /// What a clause may name beside its variables: what is declared.

@@ -1,6 +1,7 @@
 //! Clauses of definitions: what a written clause means, its head and its body read together.
 #![tactic(auto)]
 
+pub mod below;
 mod cells;
 mod elaborating;
 pub mod laws;

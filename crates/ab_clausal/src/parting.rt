@@ -2,12 +2,12 @@
 ghost use Rattle.std.specs.Prelude.{◌≡◌, ℕ, MatchOption};
 ghost use Rattle.ab_term.specs.Terms as tree;
 ghost use Rattle.ab_term.specs.Terms.{spine, no_terms, term};
-ghost use Rattle.ab_types.specs.Entries.{Table};
-ghost use Rattle.ab_store.specs.Trees.{Read, Holds, tree_of};
+ghost use Rattle.ab_closing.specs.ab_types.specs.Entries.{Table};
+ghost use Rattle.ab_closing.specs.ab_store.specs.Trees.{Read, Holds, tree_of};
 ghost use Rattle.ab_clausal.specs.Joining.{IsPair};
 ghost use Rattle.ab_clausal.specs.Meanings as meanings;
 
-use ab_store::{Head, Logical, Node, Store, TermId};
+use ab_closing::below::store::{Head, Logical, Node, Store, TermId};
 
 /// The two terms that the head of a term is given.
 pub(crate) fn two_of(store: &Store, id: TermId) -> Option<(TermId, TermId)>

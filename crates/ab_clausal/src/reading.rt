@@ -1,13 +1,13 @@
 //! What is read of the row of a clause.
 ghost use Rattle.std.specs.Prelude.{◌≡◌, ◌+◌, ◌≤◌, Ok, length, IfOk};
 ghost use Rattle.ab_term.specs.Types.{Ty};
-ghost use Rattle.ab_types.specs.Entries.{signature, kinds, constants, IsExtendedBy};
-ghost use Rattle.ab_types.specs.Sound.{IsTable};
-ghost use Rattle.ab_store.specs.Naming.{IsTypedBy};
-ghost use Rattle.ab_infer.specs.Inferences.{IsFormulas};
-ghost use Rattle.ab_infer.specs.Verdicts.{AreFound};
-ghost use Rattle.ab_walking.specs.Rows.{Makes};
-ghost use Rattle.ab_clauses.specs.Readings.{clause_of, HoldsClause};
+ghost use Rattle.ab_closing.specs.ab_types.specs.Entries.{signature, kinds, constants, IsExtendedBy};
+ghost use Rattle.ab_closing.specs.ab_types.specs.Sound.{IsTable};
+ghost use Rattle.ab_closing.specs.ab_store.specs.Naming.{IsTypedBy};
+ghost use Rattle.ab_elaborate.specs.ab_infer.specs.Inferences.{IsFormulas};
+ghost use Rattle.ab_elaborate.specs.ab_infer.specs.Verdicts.{AreFound};
+ghost use Rattle.ab_elaborate.specs.ab_walking.specs.Rows.{Makes};
+ghost use Rattle.ab_closing.specs.ab_clauses.specs.Readings.{clause_of, HoldsClause};
 ghost use Rattle.ab_clausal.specs.Growth.{AddsVariables};
 ghost use Rattle.ab_clausal.specs.Readings.{Parts};
 ghost use Rattle.ab_clausal.specs.Meanings.{IsKeptAs};
@@ -15,14 +15,14 @@ ghost use Rattle.ab_clausal.specs.Joining.{joined, IsRead, HasReading};
 
 use crate::cells::{cells_for, heads_of};
 use crate::parting::{is_under_nabla, two_of};
-use ab_building::build;
-use ab_clauses::ClauseTerm;
+use ab_closing::below::clauses::ClauseTerm;
+use ab_closing::below::store::Store;
+use ab_closing::below::types::{Steps, TypeTable};
 use ab_closing::close_clause;
-use ab_infer::{Formulas, InferFault, Verdict, decide};
-use ab_solving::Settled;
-use ab_store::Store;
-use ab_types::{Steps, TypeTable};
-use ab_walking::Row;
+use ab_elaborate::below::building::build;
+use ab_elaborate::below::infer::{Formulas, InferFault, Verdict, decide};
+use ab_elaborate::below::solving::Settled;
+use ab_elaborate::below::walking::Row;
 use std::alloc::{AllocError, Global};
 
 /// The clause, where the types are found. Its variables get cells, and head and body are built as one term.

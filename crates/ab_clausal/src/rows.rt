@@ -1,24 +1,24 @@
 //! Head and body of a clause as one row of steps.
 ghost use Rattle.std.specs.Prelude.{◌≡◌, [], IfOk, MatchResult, option_map};
 ghost use Rattle.ab_term.specs.Types.{arrow, prop};
-ghost use Rattle.ab_types.specs.Entries.{Table};
-ghost use Rattle.ab_types.specs.Sound.{IsTable};
-ghost use Rattle.ab_types.specs.Ids.{HoldsType, type_of};
+ghost use Rattle.ab_closing.specs.ab_types.specs.Entries.{Table};
+ghost use Rattle.ab_closing.specs.ab_types.specs.Sound.{IsTable};
+ghost use Rattle.ab_closing.specs.ab_types.specs.Ids.{HoldsType, type_of};
 ghost use Rattle.ab_syntax.specs.Trees.{tree_of};
-ghost use Rattle.ab_readings.specs.Scopes.{resolved};
-ghost use Rattle.ab_infer.specs.Inferences.{IsFormulas};
-ghost use Rattle.ab_resolving.specs.Scoping.{scope_of};
-ghost use Rattle.ab_walking.specs.Rows.{IsGround, AddsTypes, Grew, Makes, Fails};
+ghost use Rattle.ab_elaborate.specs.ab_readings.specs.Scopes.{resolved};
+ghost use Rattle.ab_elaborate.specs.ab_infer.specs.Inferences.{IsFormulas};
+ghost use Rattle.ab_elaborate.specs.ab_resolving.specs.Scoping.{scope_of};
+ghost use Rattle.ab_elaborate.specs.ab_walking.specs.Rows.{IsGround, AddsTypes, Grew, Makes, Fails};
 ghost use Rattle.ab_clausal.specs.Meanings as meanings;
 ghost use Rattle.ab_clausal.specs.Meanings.{body_found};
 ghost use Rattle.ab_clausal.specs.Joining.{joined_found};
 
-use ab_infer::{Formulas, InferFault, Op};
-use ab_resolving::Scope;
-use ab_store::{Head, Logical, Store};
+use ab_closing::below::store::{Head, Logical, Store};
+use ab_closing::below::types::{TypeId, TypeTable};
+use ab_elaborate::below::infer::{Formulas, InferFault, Op};
+use ab_elaborate::below::resolving::Scope;
+use ab_elaborate::below::walking::{Row, walk};
 use ab_syntax::{ClauseParse, Parse};
-use ab_types::{TypeId, TypeTable};
-use ab_walking::{Row, walk};
 use std::alloc::{AllocError, Global};
 
 /// The type of what takes terms of two types to a third.

@@ -2,12 +2,12 @@
 use Rattle.std.proofs.Common.{◌≡◌, ℕ, zero, suc, ◌+◌, ◌<◌, ◌≤◌, max, List, [], ◌∷◌, length, get_or, arith, subst}
 use Rattle.std.specs.List.{All}
 use Rattle.std.proofs.lemmas.List.Elements.{All-head, All-tail}
-use Rattle.ab_store.specs.declared.node.TermId.{TermId}
-use Rattle.ab_store.specs.declared.node.Head.{Head}
-use Rattle.ab_store.specs.declared.node.Node.{Node}
-use Rattle.ab_store.specs.declared.node.Node.TheVariants.{Lam, Spine}
-use Rattle.ab_types.specs.declared.ids.TypeId.{TypeId}
-use Rattle.ab_store.specs.Naming.{HeadNames, NodeNames}
+use Rattle.ab_fits.specs.ab_store.specs.declared.node.TermId.{TermId}
+use Rattle.ab_fits.specs.ab_store.specs.declared.node.Head.{Head}
+use Rattle.ab_fits.specs.ab_store.specs.declared.node.Node.{Node}
+use Rattle.ab_fits.specs.ab_store.specs.declared.node.Node.TheVariants.{Lam, Spine}
+use Rattle.ab_fits.specs.ab_types.specs.declared.ids.TypeId.{TypeId}
+use Rattle.ab_fits.specs.ab_store.specs.Naming.{HeadNames, NodeNames}
 
 -- one more than the largest
 abbrev pub ids_bound : List TermId → ℕ

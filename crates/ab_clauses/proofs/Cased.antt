@@ -4,8 +4,8 @@ use Rattle.ab_term.specs.Terms.{Variable}
 use Rattle.ab_term.specs.Typing.{Signature}
 use Rattle.ab_term.specs.Variables.{image, variables, variables_of_all}
 use Rattle.ab_term.specs.Sameness.{same_number}
-use Rattle.ab_store.specs.Trees.{Read}
-use Rattle.ab_solve.specs.Replacing.{Cell}
+use Rattle.ab_fits.specs.ab_store.specs.Trees.{Read}
+use Rattle.ab_cases.specs.ab_solve.specs.Replacing.{Cell}
 use Rattle.ab_cases.specs.Clauses as cases
 use Rattle.ab_cases.specs.Clauses.{numbered, put_together, IsClause, Within}
 use Rattle.ab_cases.specs.Alternatives.{cells_of}

@@ -3,9 +3,9 @@ use Rattle.std.proofs.Common.{◌≡◌, ◌↔◌, ℕ, zero, suc, ◌+◌, ◌
 use Rattle.std.specs.List.{All}
 use Rattle.std.proofs.lemmas.List.{length-map}
 use Rattle.std.proofs.lemmas.List.Elements.{All-head, All-tail, All-more}
-use Rattle.ab_types.specs.Entries.{Table}
-use Rattle.ab_types.specs.declared.ids.ConstId.{ConstId}
-use Rattle.ab_store.specs.Trees.{Contents}
+use Rattle.ab_fits.specs.ab_types.specs.Entries.{Table}
+use Rattle.ab_fits.specs.ab_types.specs.declared.ids.ConstId.{ConstId}
+use Rattle.ab_fits.specs.ab_store.specs.Trees.{Contents}
 use Rattle.ab_clauses.specs.Kept.{Clause}
 use Rattle.ab_clauses.specs.Faults.{Fault, IsRight, HasFault, FirstFault, here, later, IsRightBlock, IsFaultOf}
 use Rattle.ab_clauses.specs.Readings.{name_of, clause_of, block_of}

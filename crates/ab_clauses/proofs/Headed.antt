@@ -4,17 +4,17 @@ use Rattle.std.specs.List.{All, list_any}
 use Rattle.ab_term.specs.Types.{Ty}
 use Rattle.ab_term.specs.Logical as plain
 use Rattle.ab_term.specs.Terms.{logical, lam, spine, Terms, term, terms_of}
-use Rattle.ab_types.specs.Entries.{Table}
-use Rattle.ab_types.specs.Ids.{type_of}
-use Rattle.ab_types.specs.declared.ids.ConstId.{ConstId}
-use Rattle.ab_types.specs.declared.ids.TypeId.{TypeId}
-use Rattle.ab_store.specs.declared.node.TermId.{TermId}
-use Rattle.ab_store.specs.declared.node.Head.{Head}
-use Rattle.ab_store.specs.declared.node.Head.TheVariants.{Const, Logic}
-use Rattle.ab_store.specs.declared.node.Logical.TheVariants.{Nabla}
-use Rattle.ab_store.specs.declared.node.Node.{Node}
-use Rattle.ab_store.specs.declared.node.Node.TheVariants.{Spine}
-use Rattle.ab_store.specs.Trees.{Read, Contents, tree_of, node_tree}
+use Rattle.ab_fits.specs.ab_types.specs.Entries.{Table}
+use Rattle.ab_fits.specs.ab_types.specs.Ids.{type_of}
+use Rattle.ab_fits.specs.ab_types.specs.declared.ids.ConstId.{ConstId}
+use Rattle.ab_fits.specs.ab_types.specs.declared.ids.TypeId.{TypeId}
+use Rattle.ab_fits.specs.ab_store.specs.declared.node.TermId.{TermId}
+use Rattle.ab_fits.specs.ab_store.specs.declared.node.Head.{Head}
+use Rattle.ab_fits.specs.ab_store.specs.declared.node.Head.TheVariants.{Const, Logic}
+use Rattle.ab_fits.specs.ab_store.specs.declared.node.Logical.TheVariants.{Nabla}
+use Rattle.ab_fits.specs.ab_store.specs.declared.node.Node.{Node}
+use Rattle.ab_fits.specs.ab_store.specs.declared.node.Node.TheVariants.{Spine}
+use Rattle.ab_fits.specs.ab_store.specs.Trees.{Read, Contents, tree_of, node_tree}
 use Rattle.ab_clauses.specs.Heads.{in_the_atom, KeepsNames, AllKeepNames, IsHeadOf}
 use Rattle.ab_clauses.specs.Readings.{name_of}
 use Rattle.ab_clauses.proofs.Keeping.{all_keep, each_keeps}

@@ -4,13 +4,13 @@ use Rattle.std.specs.List.{list_any}
 use Rattle.std.specs.Option.{option_or}
 use Rattle.std.proofs.lemmas.List.Folds.{find-append}
 use Rattle.ab_term.specs.Terms.{terms_of}
-use Rattle.ab_types.specs.Entries.{Table}
-use Rattle.ab_types.specs.declared.ids.TypeId.{TypeId}
-use Rattle.ab_store.specs.declared.node.TermId.{TermId}
-use Rattle.ab_store.specs.declared.node.Head.{Head}
-use Rattle.ab_store.specs.declared.node.Node.{Node}
-use Rattle.ab_store.specs.declared.node.Node.TheVariants.{Lam, Spine}
-use Rattle.ab_store.specs.Trees.{Read, Contents, tree_of, head_reading, node_tree}
+use Rattle.ab_fits.specs.ab_types.specs.Entries.{Table}
+use Rattle.ab_fits.specs.ab_types.specs.declared.ids.TypeId.{TypeId}
+use Rattle.ab_fits.specs.ab_store.specs.declared.node.TermId.{TermId}
+use Rattle.ab_fits.specs.ab_store.specs.declared.node.Head.{Head}
+use Rattle.ab_fits.specs.ab_store.specs.declared.node.Node.{Node}
+use Rattle.ab_fits.specs.ab_store.specs.declared.node.Node.TheVariants.{Lam, Spine}
+use Rattle.ab_fits.specs.ab_store.specs.Trees.{Read, Contents, tree_of, head_reading, node_tree}
 use Rattle.ab_clauses.specs.Stratification.{Part, constants, constants_of_all, own_constant, part_of_first}
 use Rattle.ab_clauses.specs.Looked.{first_of}
 

@@ -6,9 +6,9 @@ use Rattle.std.proofs.lemmas.Bool.Decides.{Decides-eqb}
 use Rattle.std.proofs.lemmas.Slice.Eq.{bytes_eq-Decides}
 use lib.Dec.{eqb}
 use Rattle.ab_term.proofs.Lists.{Contains-none, Contains-here, Contains-there, Contains-cases}
-use Rattle.ab_types.specs.Entries.{Table}
-use Rattle.ab_types.specs.Ids.{HoldsConstant, constant_of}
-use Rattle.ab_types.specs.declared.ids.ConstId.{ConstId}
+use Rattle.ab_fits.specs.ab_types.specs.Entries.{Table}
+use Rattle.ab_fits.specs.ab_types.specs.Ids.{HoldsConstant, constant_of}
+use Rattle.ab_fits.specs.ab_types.specs.declared.ids.ConstId.{ConstId}
 use Rattle.ab_clauses.specs.Stratification.{AvoidAll, IsFirstOf}
 use Rattle.ab_clauses.specs.Readings.{name_of}
 use Rattle.ab_clauses.specs.Looked.{first_of}

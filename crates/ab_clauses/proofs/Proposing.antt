@@ -3,7 +3,7 @@ use Rattle.std.proofs.Common.{ℕ, List}
 use Rattle.ab_term.specs.Logical.{truth, falsity, conjunction, disjunction, implication, equality, universal, existential, nabla, judgement, focused_judgement, star, at_sign, plus, hash, spec_universal, spec_implication, spec_conjunction}
 use Rattle.ab_term.specs.Terms.{constant, logical, nominal, variable, index, lam, spine, no_terms, term}
 use Rattle.ab_term.specs.Typing.{Signature}
-use Rattle.ab_store.specs.Trees.{Read}
+use Rattle.ab_fits.specs.ab_store.specs.Trees.{Read}
 use Rattle.ab_cases.specs.Prefixes.{IsHead}
 use Rattle.ab_clauses.specs.Kept.{Clause}
 use Rattle.ab_clauses.specs.Heads.{IsHeadOf}

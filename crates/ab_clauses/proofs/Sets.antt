@@ -7,7 +7,7 @@ use Rattle.std.proofs.lemmas.Map.Lookups.{CmpEqualImpliesEq, exact_unsigned}
 use Rattle.std.proofs.lemmas.Map.Views.{Contains-from_any, tells_apart}
 use Rattle.ab_term.proofs.Lists.{Contains-here, Contains-there, Contains-cases, All-from_contains}
 use Rattle.std.proofs.lemmas.List.Elements.{All-contains}
-use Rattle.ab_store.specs.declared.node.TermId.{TermId}
+use Rattle.ab_fits.specs.ab_store.specs.declared.node.TermId.{TermId}
 use Rattle.ab_clauses.specs.declared.looked.Spot.{Spot}
 
 -- the second holds nothing but what the first holds, and the one

@@ -5,7 +5,7 @@ use Rattle.ab_term.specs.Terms.{Variable}
 use Rattle.ab_term.specs.Variables.{image}
 use Rattle.ab_term.specs.Typing.{Signature}
 use Rattle.ab_term.specs.Sameness.{same_number}
-use Rattle.ab_solve.specs.Replacing.{Cell}
+use Rattle.ab_cases.specs.ab_solve.specs.Replacing.{Cell}
 use Rattle.ab_cases.specs.Clauses as cases
 use Rattle.ab_cases.specs.Clauses.{numbered, put_together}
 use Rattle.ab_cases.specs.Prefixes.{prefix, opened, predicate_of, arguments_of, own_terms, IsKept}

@@ -3,7 +3,7 @@
 use Rattle.std.specs.Prelude.{ℕ, suc, ◌<◌, List, Contains}
 use Rattle.ab_term.specs.Logical.{nabla}
 use Rattle.ab_term.specs.Terms.{Head, constant, logical, variable, index, lam, spine, Terms, no_terms, term}
-use Rattle.ab_store.specs.Trees.{Read}
+use Rattle.ab_fits.specs.ab_store.specs.Trees.{Read}
 
 -- where a part of the atom stands
 pub data Place : Type 0 where

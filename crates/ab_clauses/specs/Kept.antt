@@ -1,7 +1,7 @@
 -- A definition as it is kept.
 use Rattle.std.specs.Prelude.{ℕ, List, Bool}
 use Rattle.ab_term.specs.Types.{Ty}
-use Rattle.ab_store.specs.Trees.{Read}
+use Rattle.ab_fits.specs.ab_store.specs.Trees.{Read}
 
 -- a variable is known by its number; the hint is its name as it was written
 pub record ClauseVariable : Type 0 where

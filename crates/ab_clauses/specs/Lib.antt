@@ -8,3 +8,9 @@ pub mod Cases
 pub mod Proposed
 pub mod Parts
 pub mod Looked
+-- Libraries that the crates above name through this one.
+pub use Rattle.ab_cases.specs.ab_solve
+pub use Rattle.ab_cases
+pub use Rattle.ab_fits.specs.ab_types
+pub use Rattle.ab_fits.specs.ab_store
+pub use Rattle.ab_fits

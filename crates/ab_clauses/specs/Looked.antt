@@ -1,9 +1,9 @@
 -- What is known of terms that were looked at. Public contracts don't speak of this.
 use Rattle.std.specs.Prelude.{◌≡◌, ℕ, List, find, bytes_eq, Option, None, All}
 use Rattle.std.specs.List.{list_any}
-use Rattle.ab_types.specs.Entries.{Table}
-use Rattle.ab_store.specs.Trees.{Contents, tree_of}
-use Rattle.ab_store.specs.declared.node.TermId.{TermId}
+use Rattle.ab_fits.specs.ab_types.specs.Entries.{Table}
+use Rattle.ab_fits.specs.ab_store.specs.Trees.{Contents, tree_of}
+use Rattle.ab_fits.specs.ab_store.specs.declared.node.TermId.{TermId}
 use Rattle.ab_clauses.specs.Stratification.{Part, everywhere, left_of_arrows, constants}
 use Rattle.ab_clauses.specs.Heads.{Place, in_the_atom, under_a_variable, KeepsNames}
 use Rattle.ab_clauses.specs.declared.looked.Spot.{Spot}

@@ -5,7 +5,7 @@ use Rattle.ab_term.specs.Typing.{Signature, HasType}
 use Rattle.ab_term.specs.Names.{support}
 use Rattle.ab_term.specs.Variables.{variables}
 use Rattle.ab_fits.specs.Formulas.{IsFormula}
-use Rattle.ab_solve.specs.Meaning.{AreDifferent}
+use Rattle.ab_cases.specs.ab_solve.specs.Meaning.{AreDifferent}
 use Rattle.ab_cases.specs.Clauses.{Within}
 use Rattle.ab_clauses.specs.Kept.{Clause}
 use Rattle.ab_clauses.specs.Cases.{in_terms}

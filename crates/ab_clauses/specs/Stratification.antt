@@ -3,7 +3,7 @@
 use Rattle.std.specs.Prelude.{◌≡◌, ℕ, List, [], ◌∷◌, ◌++◌, All, Contains}
 use Rattle.ab_term.specs.Logical.{implication}
 use Rattle.ab_term.specs.Terms.{Head, constant, logical, lam, spine, Terms, no_terms, term}
-use Rattle.ab_store.specs.Trees.{Read}
+use Rattle.ab_fits.specs.ab_store.specs.Trees.{Read}
 use Rattle.ab_clauses.specs.Kept.{Clause}
 
 -- the constants that are asked for: all of them, or those that stand anywhere in the left part of an arrow

@@ -1,7 +1,7 @@
 //! The first fault of a definition's clauses.
 ghost use Rattle.std.specs.Prelude.{◌≡◌, ◌↔◌, map, Option, Some, None, IfOk, IfSome, OnOk, All};
-ghost use Rattle.ab_types.specs.Ids.{HoldsConstant};
-ghost use Rattle.ab_store.specs.Naming.{IsTypedBy};
+ghost use Rattle.ab_fits.specs.ab_types.specs.Ids.{HoldsConstant};
+ghost use Rattle.ab_fits.specs.ab_store.specs.Naming.{IsTypedBy};
 ghost use Rattle.ab_clauses.specs.Faults.{IsRight, HasFault, IsRightBlock, IsFaultOf};
 ghost use Rattle.ab_clauses.specs.Readings.{name_of, fault_of, clause_of, block_of, HoldsFault, HoldsClause, HoldsBlock};
 ghost use Rattle.ab_clauses.specs.Looked.{AreClear, AreKeeping};
@@ -11,8 +11,8 @@ use crate::heads::is_head;
 use crate::kept::{Block, ClauseTerm};
 use crate::looked::{Cleared, Spots};
 use crate::stratified::{Part, first_in};
-use ab_store::Store;
-use ab_types::{ConstId, TypeTable};
+use ab_fits::below::store::Store;
+use ab_fits::below::types::{ConstId, TypeTable};
 use std::alloc::{AllocError, Global};
 
 /// What is wrong with a definition's clauses.

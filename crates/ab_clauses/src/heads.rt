@@ -1,10 +1,10 @@
 //! Whether a term is a head for a clause.
 ghost use Rattle.std.specs.Prelude.{◌≡◌, ◌+◌, ◌↔◌, true, List, map, IfOk, OnOk, All};
-ghost use Rattle.ab_types.specs.Entries.{Table};
-ghost use Rattle.ab_types.specs.Ids.{HoldsConstant};
-ghost use Rattle.ab_store.specs.declared.node.CellEntry.{CellEntry};
-ghost use Rattle.ab_store.specs.Trees.{Holds, tree_of, head_in};
-ghost use Rattle.ab_store.specs.Naming.{IsTypedBy};
+ghost use Rattle.ab_fits.specs.ab_types.specs.Entries.{Table};
+ghost use Rattle.ab_fits.specs.ab_types.specs.Ids.{HoldsConstant};
+ghost use Rattle.ab_fits.specs.ab_store.specs.declared.node.CellEntry.{CellEntry};
+ghost use Rattle.ab_fits.specs.ab_store.specs.Trees.{Holds, tree_of, head_in};
+ghost use Rattle.ab_fits.specs.ab_store.specs.Naming.{IsTypedBy};
 ghost use Rattle.ab_clauses.specs.Heads.{KeepsNames, IsNoPrefixName, place_under, IsHeadOf, in_the_atom};
 ghost use Rattle.ab_clauses.specs.Readings.{name_of};
 ghost use Rattle.ab_clauses.specs.Looked.{AreKeeping};
@@ -12,8 +12,8 @@ ghost use Rattle.ab_clauses.specs.Parts.{place_of};
 
 use crate::looked::{Spot, Spots};
 use crate::stratified::is_predicate;
-use ab_store::{Head, Logical, Node, Store, TermId};
-use ab_types::{ConstId, TypeTable};
+use ab_fits::below::store::{Head, Logical, Node, Store, TermId};
+use ab_fits::below::types::{ConstId, TypeTable};
 use std::alloc::AllocError;
 
 /// Where a part of an atom stands.

@@ -1,8 +1,8 @@
 //! Definitions as they are kept.
 ghost use Rattle.std.specs.Prelude.{◌≡◌};
 
-use ab_store::{CellId, TermId};
-use ab_types::ConstId;
+use ab_fits::below::store::{CellId, TermId};
+use ab_fits::below::types::ConstId;
 use std::marker::Model;
 
 /// A list of cells. Contracts see it as the list.
@@ -13,7 +13,7 @@ pub struct ClauseCells {
 
 impl Model for ClauseCells {
     ghost use Rattle.std.specs.Prelude.{List};
-    ghost use Rattle.ab_store.specs.declared.node.CellId.{CellId};
+    ghost use Rattle.ab_fits.specs.ab_store.specs.declared.node.CellId.{CellId};
 
     ghost Value = { List CellId };
 
@@ -51,7 +51,7 @@ pub struct Predicates {
 
 impl Model for Predicates {
     ghost use Rattle.std.specs.Prelude.{List};
-    ghost use Rattle.ab_types.specs.declared.ids.ConstId.{ConstId};
+    ghost use Rattle.ab_fits.specs.ab_types.specs.declared.ids.ConstId.{ConstId};
 
     ghost Value = { List ConstId };
 

@@ -1,6 +1,7 @@
 //! The clauses of definitions: which heads they may have, and whether they are stratified, decided on ids.
 #![tactic(auto)]
 
+pub mod below;
 mod faults;
 mod heads;
 mod kept;

@@ -1,14 +1,14 @@
 //! Terms that were looked at, so that a part that is shared is looked at once.
 ghost use Rattle.std.specs.Prelude.{◌≡◌, ◌≢◌, ℕ, List, [], true, Contains, OnOk};
-ghost use Rattle.ab_types.specs.Entries.{Table};
-ghost use Rattle.ab_store.specs.Trees.{Contents};
-ghost use Rattle.ab_store.specs.declared.node.TermId.{TermId as AnId};
+ghost use Rattle.ab_fits.specs.ab_types.specs.Entries.{Table};
+ghost use Rattle.ab_fits.specs.ab_store.specs.Trees.{Contents};
+ghost use Rattle.ab_fits.specs.ab_store.specs.declared.node.TermId.{TermId as AnId};
 ghost use Rattle.ab_clauses.specs.Looked.{AreClear, IsClear, AreKeeping, IsKeeping};
 ghost use Rattle.ab_clauses.specs.Parts.{part_of, place_of};
 
 use crate::heads::Place;
 use crate::stratified::Part;
-use ab_store::TermId;
+use ab_fits::below::store::TermId;
 use std::alloc::{AllocError, Global};
 use std::collections::BTreeSet;
 

@@ -2,11 +2,11 @@
 ghost use Rattle.std.specs.Prelude.{◌≡◌, List, map, IfOk, IfSome, OnOk, All, bytes_eq};
 ghost use Rattle.std.specs.List.{list_any};
 ghost use Rattle.std.specs.Option.{option_map};
-ghost use Rattle.ab_types.specs.Entries.{Table};
-ghost use Rattle.ab_types.specs.Ids.{HoldsConstant};
-ghost use Rattle.ab_store.specs.declared.node.CellEntry.{CellEntry};
-ghost use Rattle.ab_store.specs.Trees.{Holds, tree_of, head_in};
-ghost use Rattle.ab_store.specs.Naming.{IsTypedBy, HeadIsTyped};
+ghost use Rattle.ab_fits.specs.ab_types.specs.Entries.{Table};
+ghost use Rattle.ab_fits.specs.ab_types.specs.Ids.{HoldsConstant};
+ghost use Rattle.ab_fits.specs.ab_store.specs.declared.node.CellEntry.{CellEntry};
+ghost use Rattle.ab_fits.specs.ab_store.specs.Trees.{Holds, tree_of, head_in};
+ghost use Rattle.ab_fits.specs.ab_store.specs.Naming.{IsTypedBy, HeadIsTyped};
 ghost use Rattle.ab_term.specs.Terms.{terms_of};
 ghost use Rattle.ab_clauses.specs.Stratification.{constants, constants_of_all, own_constant, part_of_first};
 ghost use Rattle.ab_clauses.specs.Readings.{name_of};
@@ -14,9 +14,8 @@ ghost use Rattle.ab_clauses.specs.Looked.{AreClear, first_of};
 ghost use Rattle.ab_clauses.specs.Parts.{part_of};
 
 use crate::looked::Cleared;
-use ab_store::{Head, Logical, Node, Store, TermId};
-use ab_types::laws::has_unique_ids;
-use ab_types::{ConstId, TypeTable};
+use ab_fits::below::store::{Head, Logical, Node, Store, TermId};
+use ab_fits::below::types::{ConstId, TypeTable, has_unique_ids};
 use std::alloc::AllocError;
 
 /// Which constants of a term are asked for.

@@ -1,12 +1,12 @@
 //! Definitions of `member`, each judged by one call.
 ghost use Rattle.std.specs.Prelude.{◌≡◌, [], IfOk};
-ghost use Rattle.ab_store.specs.Trees.{Contents, Holds};
-ghost use Rattle.ab_store.specs.Naming.{HoldsHead, HeadIsTyped, LogicalIsTyped, IsTypedBy};
-ghost use Rattle.ab_types.specs.Ids.{HoldsConstant};
+ghost use Rattle.ab_fits.specs.ab_store.specs.Trees.{Contents, Holds};
+ghost use Rattle.ab_fits.specs.ab_store.specs.Naming.{HoldsHead, HeadIsTyped, LogicalIsTyped, IsTypedBy};
+ghost use Rattle.ab_fits.specs.ab_types.specs.Ids.{HoldsConstant};
 
 use crate::{Block, ClauseCells, ClauseFault, ClauseTerm, ClauseTerms, Predicates, first_fault};
-use ab_store::{Head, Logical, Store, TermId};
-use ab_types::{ConstId, Name, TypeTable};
+use ab_fits::below::store::{Head, Logical, Store, TermId};
+use ab_fits::below::types::{ConstId, Name, TypeTable};
 use std::alloc::{AllocError, Global};
 
 /// The head, given nothing.

@@ -1,7 +1,7 @@
 -- How a clause is kept. Which variables stand in a term is said of normal forms.
 use Rattle.std.specs.Prelude.{List, Bool, true, false, ◌&&◌, not, filter}
-use Rattle.ab_solve.specs.Replacing.{occurs}
-use Rattle.ab_store.specs.Trees.{Read}
+use Rattle.ab_patterns.specs.ab_solve.specs.Replacing.{occurs}
+use Rattle.ab_patterns.specs.ab_store.specs.Trees.{Read}
 use Rattle.ab_clauses.specs.Kept.{ClauseVariable, Clause}
 use Rattle.ab_clauses.specs.Cases.{in_terms}
 use Rattle.ab_closing.specs.Quantified.{exists_all}

@@ -3,7 +3,7 @@ use Rattle.std.specs.Prelude.{zero, List, [], ◌∷◌}
 use Rattle.ab_term.specs.Logical.{existential}
 use Rattle.ab_term.specs.Terms.{logical, variable, lam, spine, no_terms, term}
 use Rattle.ab_term.specs.Closing.{close}
-use Rattle.ab_store.specs.Trees.{Read}
+use Rattle.ab_patterns.specs.ab_store.specs.Trees.{Read}
 use Rattle.ab_clauses.specs.Kept.{ClauseVariable}
 use Rattle.ab_clauses.specs.Cases.{in_terms}
 

@@ -1,15 +1,15 @@
 //! Clauses as they are kept.
 ghost use Rattle.std.specs.Prelude.{◌≡◌, map, not, filter, All, IfOk};
-ghost use Rattle.ab_types.specs.Entries.{Table};
-ghost use Rattle.ab_store.specs.Trees.{Holds, HoldsCell, tree_of};
-ghost use Rattle.ab_norm.specs.Growth.{AddsTerms};
+ghost use Rattle.ab_patterns.specs.ab_types.specs.Entries.{Table};
+ghost use Rattle.ab_patterns.specs.ab_store.specs.Trees.{Holds, HoldsCell, tree_of};
+ghost use Rattle.ab_patterns.specs.ab_norm.specs.Growth.{AddsTerms};
 ghost use Rattle.ab_clauses.specs.Readings.{variable_of, clause_of, HoldsClause};
 ghost use Rattle.ab_closing.specs.Closed.{stands_in_body_alone, kept_clause};
 
 use crate::quantifying::exists_all;
 use ab_clauses::{ClauseCells, ClauseTerm};
+use ab_patterns::below::store::{CellId, Store, TermId};
 use ab_patterns::occurs;
-use ab_store::{CellId, Store, TermId};
 use std::alloc::{AllocError, Global};
 
 /// Cells that stand in a body alone, and the others.

@@ -1,13 +1,13 @@
 //! `exists` over cells.
 ghost use Rattle.std.specs.Prelude.{◌≡◌, map, All, IfOk};
-ghost use Rattle.ab_types.specs.Entries.{Table};
-ghost use Rattle.ab_store.specs.Trees.{Holds, HoldsCell, tree_of};
-ghost use Rattle.ab_norm.specs.Growth.{AddsTerms};
+ghost use Rattle.ab_patterns.specs.ab_types.specs.Entries.{Table};
+ghost use Rattle.ab_patterns.specs.ab_store.specs.Trees.{Holds, HoldsCell, tree_of};
+ghost use Rattle.ab_patterns.specs.ab_norm.specs.Growth.{AddsTerms};
 ghost use Rattle.ab_clauses.specs.Readings.{variable_of};
 ghost use Rattle.ab_closing.specs.Quantified as quantified;
 
+use ab_patterns::below::store::{CellId, Head, Logical, Store, TermId};
 use ab_patterns::close;
-use ab_store::{CellId, Head, Logical, Store, TermId};
 use std::alloc::{AllocError, Global};
 
 /// The formula under `exists` over the cell.

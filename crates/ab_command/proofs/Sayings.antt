@@ -1,9 +1,9 @@
 -- What bytes say is one command or one cause why they say none, and a command that they say stands there.
 use Rattle.std.proofs.Common.{◌≡◌, ◌↔◌, ◌+◌, ℕ, Bool, List, length, Option, Some, None, refl, sym, ap, ◌∙◌, subst, arith, inl, inr}
-use Rattle.ab_lex.specs.declared.token.Token.{Token}
-use Rattle.ab_lex.specs.Tokens.{TokensOf, place_of}
-use Rattle.ab_lex.proofs.OneReading.{tokens_unique, fault_unique, fault_excludes}
-use Rattle.ab_lex.proofs.Beginning.{one_beginning}
+use Rattle.ab_syntax.specs.ab_lex.specs.declared.token.Token.{Token}
+use Rattle.ab_syntax.specs.ab_lex.specs.Tokens.{TokensOf, place_of}
+use Rattle.ab_syntax.specs.ab_lex.proofs.OneReading.{tokens_unique, fault_unique, fault_excludes}
+use Rattle.ab_syntax.specs.ab_lex.proofs.Beginning.{one_beginning}
 use Rattle.ab_grammar.specs.declared.head.Stand.{Stand}
 use Rattle.ab_grammar.specs.Token.{Token as Term}
 use Rattle.ab_grammar.specs.CommandTrees.{Command}

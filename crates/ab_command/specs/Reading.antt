@@ -1,8 +1,8 @@
 -- What the bytes of a command say: the command, as the grammar's tree, or the first cause why they say none.
 use Rattle.std.specs.Prelude.{◌≡◌, ◌+◌, ℕ, Bool, true, false, List, length}
-use Rattle.ab_lex.specs.declared.token.Token.{Token}
-use Rattle.ab_lex.specs.declared.token.LexFault.{LexFault}
-use Rattle.ab_lex.specs.Tokens.{TokensOf, FaultOf, BeginsAt, place_of}
+use Rattle.ab_syntax.specs.ab_lex.specs.declared.token.Token.{Token}
+use Rattle.ab_syntax.specs.ab_lex.specs.declared.token.LexFault.{LexFault}
+use Rattle.ab_syntax.specs.ab_lex.specs.Tokens.{TokensOf, FaultOf, BeginsAt, place_of}
 use Rattle.ab_grammar.specs.declared.head.Stand.{Stand}
 use Rattle.ab_grammar.specs.declared.head.Stand.TheVariants.{Outside, Inside, Anywhere}
 use Rattle.ab_grammar.specs.CommandTrees.{Command}

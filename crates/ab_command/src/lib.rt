@@ -1,6 +1,7 @@
 //! What the bytes of a command say, where a proof is open or none is.
 #![tactic(auto)]
 
+pub mod below;
 mod built;
 mod fault;
 mod judging;

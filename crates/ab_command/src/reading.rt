@@ -1,7 +1,7 @@
 //! Reading a command.
 ghost use Rattle.std.specs.Prelude.{◌≡◌, ◌↔◌, Bool, false, IsTrue, IfOk, IfErr};
-ghost use Rattle.ab_lex.specs.declared.token.LexFault.{LexFault};
-ghost use Rattle.ab_lex.specs.Tokens.{TokensOf, FaultOf, place_of};
+ghost use Rattle.ab_syntax.specs.ab_lex.specs.declared.token.LexFault.{LexFault};
+ghost use Rattle.ab_syntax.specs.ab_lex.specs.Tokens.{TokensOf, FaultOf, place_of};
 ghost use Rattle.ab_grammar.specs.CommandTable.{CommandText};
 ghost use Rattle.ab_grammar.specs.Language.{Accepted};
 ghost use Rattle.ab_syntax.specs.Tokens.{tokens_in};
@@ -10,7 +10,7 @@ ghost use Rattle.ab_command.specs.Reading.{StandsHere, Fits, Says, Fails, FailsB
 
 use crate::built::is_built;
 use crate::fault::{Cause, Unread};
-use ab_lex::{LexFault, Token, first_place, tokens};
+use ab_syntax::below::lex::{LexFault, Token, first_place, tokens};
 use ab_syntax::{Command, ParseFault, Stand, parse_command, stand_of};
 use std::alloc::Global;
 

@@ -4,17 +4,17 @@ use Rattle.std.proofs.Common.{sym, ◌∙◌, ap, subst, inl, inr, get_or, appen
 use Rattle.std.proofs.lemmas.List.{map-append}
 use Rattle.std.proofs.lemmas.List.{take-append-drop, take_more}
 use Rattle.ab_term.specs.Types.{Ty}
-use Rattle.ab_types.specs.Entries as table
-use Rattle.ab_types.specs.Entries.{Table, Entry, kinds, types, constants, names, constant, IsExtendedBy, FindsOrAdds}
-use Rattle.ab_types.specs.Ids.{HoldsType, type_of}
-use Rattle.ab_types.specs.declared.ids.TypeId.{TypeId}
-use Rattle.ab_types.proofs.Entries.{kinds-append, constants-append, names-append, holds_type, same_type}
+use Rattle.ab_sentences.specs.ab_types.specs.Entries as table
+use Rattle.ab_sentences.specs.ab_types.specs.Entries.{Table, Entry, kinds, types, constants, names, constant, IsExtendedBy, FindsOrAdds}
+use Rattle.ab_sentences.specs.ab_types.specs.Ids.{HoldsType, type_of}
+use Rattle.ab_sentences.specs.ab_types.specs.declared.ids.TypeId.{TypeId}
+use Rattle.ab_sentences.specs.ab_types.proofs.Entries.{kinds-append, constants-append, names-append, holds_type, same_type}
 use Rattle.ab_grammar.specs.CommandTrees.{Command}
-use Rattle.ab_logic.specs.Growth.{Grows}
-use Rattle.ab_logic.specs.Worlds.{declared, declarations_of, IsWorld}
-use Rattle.ab_logic.specs.declared.world.World.{World}
-use Rattle.ab_logic.proofs.Blocks.{declared_more}
-use Rattle.ab_logic.proofs.Growing.{grows_types}
+use Rattle.ab_sentences.specs.ab_logic.specs.Growth.{Grows}
+use Rattle.ab_sentences.specs.ab_logic.specs.Worlds.{declared, declarations_of, IsWorld}
+use Rattle.ab_sentences.specs.ab_logic.specs.declared.world.World.{World}
+use Rattle.ab_sentences.specs.ab_logic.proofs.Blocks.{declared_more}
+use Rattle.ab_sentences.specs.ab_logic.proofs.Growing.{grows_types}
 use Rattle.ab_declare.specs.Declaring.{first_taken}
 use Rattle.ab_declare.specs.Answers.{TableDeclared, IsDeclared}
 use Rattle.ab_declare.proofs.Taking.{taken_at, untaken}

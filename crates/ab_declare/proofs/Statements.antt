@@ -3,29 +3,29 @@ use Rattle.std.specs.Prelude.{◌≡◌, ℕ, List, [], ◌∷◌, ◌++◌, Non
 use Rattle.std.proofs.Common.{refl, sym, ◌∙◌, ap, subst, append-nil}
 use Rattle.ab_term.specs.Types.{prop}
 use Rattle.ab_term.specs.Typing.{HasType}
-use Rattle.ab_types.specs.Entries.{Table, kinds, constants, signature, type_in, IsExtendedBy}
-use Rattle.ab_types.proofs.Entries.{kinds-append, constants-append}
-use Rattle.ab_store.specs.declared.node.TermId.{TermId}
-use Rattle.ab_store.specs.Trees.{Contents, tree_of}
-use Rattle.ab_norm.specs.Growth.{AddsTypedTerms}
+use Rattle.ab_sentences.specs.ab_types.specs.Entries.{Table, kinds, constants, signature, type_in, IsExtendedBy}
+use Rattle.ab_sentences.specs.ab_types.proofs.Entries.{kinds-append, constants-append}
+use Rattle.ab_sentences.specs.ab_store.specs.declared.node.TermId.{TermId}
+use Rattle.ab_sentences.specs.ab_store.specs.Trees.{Contents, tree_of}
+use Rattle.ab_clausal.specs.ab_norm.specs.Growth.{AddsTypedTerms}
 use Rattle.ab_grammar.specs.Tree.{Tree, place_of}
 use Rattle.ab_grammar.specs.CommandTrees as command
-use Rattle.ab_readings.specs.Names.{Resolved}
-use Rattle.ab_readings.specs.Scopes.{Scope, elsewhere, resolved}
-use Rattle.ab_readings.specs.Normal.{normal_form}
-use Rattle.ab_building.specs.Elaborated.{IsAnswer}
-use Rattle.ab_building.specs.Outcomes.{nominal_of, IsNormal}
-use Rattle.ab_infer.specs.declared.fault.InferFault.{InferFault}
-use Rattle.ab_infer.specs.declared.fault.InferFault.TheVariants as fault
+use Rattle.ab_sentences.specs.ab_readings.specs.Names.{Resolved}
+use Rattle.ab_sentences.specs.ab_readings.specs.Scopes.{Scope, elsewhere, resolved}
+use Rattle.ab_sentences.specs.ab_readings.specs.Normal.{normal_form}
+use Rattle.ab_clausal.specs.ab_building.specs.Elaborated.{IsAnswer}
+use Rattle.ab_clausal.specs.ab_building.specs.Outcomes.{nominal_of, IsNormal}
+use Rattle.ab_clausal.specs.ab_infer.specs.declared.fault.InferFault.{InferFault}
+use Rattle.ab_clausal.specs.ab_infer.specs.declared.fault.InferFault.TheVariants as fault
 use Rattle.ab_effects.specs.Terms.{made, MeansNothingIn}
 use Rattle.ab_effects.specs.Refusals as row
-use Rattle.ab_logic.specs.Declarations.{Declarations, signature_in, theorem_in}
-use Rattle.ab_logic.specs.Formulas.{IsSentence}
-use Rattle.ab_logic.specs.Growth.{Grows}
-use Rattle.ab_logic.specs.Worlds.{declared, declarations_of, IsWorld}
-use Rattle.ab_logic.specs.declared.world.World.{World}
-use Rattle.ab_logic.proofs.Blocks.{declared_more}
-use Rattle.ab_logic.proofs.Growing.{grows_types, grows_store, grows_on}
+use Rattle.ab_sentences.specs.ab_logic.specs.Declarations.{Declarations, signature_in, theorem_in}
+use Rattle.ab_sentences.specs.ab_logic.specs.Formulas.{IsSentence}
+use Rattle.ab_sentences.specs.ab_logic.specs.Growth.{Grows}
+use Rattle.ab_sentences.specs.ab_logic.specs.Worlds.{declared, declarations_of, IsWorld}
+use Rattle.ab_sentences.specs.ab_logic.specs.declared.world.World.{World}
+use Rattle.ab_sentences.specs.ab_logic.proofs.Blocks.{declared_more}
+use Rattle.ab_sentences.specs.ab_logic.proofs.Growing.{grows_types, grows_store, grows_on}
 use Rattle.ab_sentences.specs.Closed.{IsClosedScope}
 use Rattle.ab_sentences.proofs.Heads.{reads_has, normal_form_has, RawHas}
 use Rattle.ab_sentences.proofs.Standing.{IsDeclared, admits_declared, sentence}

@@ -2,15 +2,15 @@
 use Rattle.std.specs.Prelude.{◌≡◌, ℕ, List, ◌++◌, Option, Some, None}
 use Rattle.ab_grammar.specs.Tree.{Tree}
 use Rattle.ab_grammar.specs.CommandTrees.{Command, theorem}
-use Rattle.ab_types.specs.Entries as table
-use Rattle.ab_types.specs.Entries.{Table}
+use Rattle.ab_sentences.specs.ab_types.specs.Entries as table
+use Rattle.ab_sentences.specs.ab_types.specs.Entries.{Table}
 use Rattle.ab_effects.specs.Terms.{kinds_in}
-use Rattle.ab_logic.specs.Declarations.{Declarations, constant_names, signature_in, theorem_in}
-use Rattle.ab_logic.specs.Formulas.{IsSentence}
-use Rattle.ab_logic.specs.Growth.{Grows}
-use Rattle.ab_logic.specs.Worlds.{read, Holds, declared, declarations_of}
-use Rattle.ab_logic.specs.declared.world.World.{World}
-use Rattle.ab_store.specs.declared.node.TermId.{TermId}
+use Rattle.ab_sentences.specs.ab_logic.specs.Declarations.{Declarations, constant_names, signature_in, theorem_in}
+use Rattle.ab_sentences.specs.ab_logic.specs.Formulas.{IsSentence}
+use Rattle.ab_sentences.specs.ab_logic.specs.Growth.{Grows}
+use Rattle.ab_sentences.specs.ab_logic.specs.Worlds.{read, Holds, declared, declarations_of}
+use Rattle.ab_sentences.specs.ab_logic.specs.declared.world.World.{World}
+use Rattle.ab_sentences.specs.ab_store.specs.declared.node.TermId.{TermId}
 use Rattle.ab_declare.specs.declared.refusal.Refusal.{Refusal}
 use Rattle.ab_declare.specs.declared.stating.Statement.{Statement}
 use Rattle.ab_declare.specs.declared.stating.Statement.TheVariants.{Formula, Refused}

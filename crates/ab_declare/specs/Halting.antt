@@ -1,20 +1,20 @@
 -- What the steps of a definition leave, over a table and a store. Public contracts don't speak of this.
 use Rattle.std.specs.Prelude.{◌≡◌, ℕ, List, [], ◌∷◌, ◌++◌, map, None, Ok, Err, All}
 use Rattle.ab_term.specs.Types.{Ty, prop}
-use Rattle.ab_types.specs.Entries.{Table, kinds, constants, names, signature}
-use Rattle.ab_types.specs.Ids.{HoldsConstant, constant_of}
-use Rattle.ab_types.specs.declared.ids.ConstId.{ConstId}
-use Rattle.ab_store.specs.Trees.{Contents}
+use Rattle.ab_sentences.specs.ab_types.specs.Entries.{Table, kinds, constants, names, signature}
+use Rattle.ab_sentences.specs.ab_types.specs.Ids.{HoldsConstant, constant_of}
+use Rattle.ab_sentences.specs.ab_types.specs.declared.ids.ConstId.{ConstId}
+use Rattle.ab_sentences.specs.ab_store.specs.Trees.{Contents}
 use Rattle.ab_grammar.specs.CommandTrees.{Defined, Clause}
-use Rattle.ab_readings.specs.Types.{written_type}
-use Rattle.ab_infer.specs.declared.fault.InferFault.{InferFault}
-use Rattle.ab_infer.specs.declared.fault.InferFault.TheVariants as fault
-use Rattle.ab_clauses.specs.Proposed.{IsProposed}
-use Rattle.ab_clauses.specs.Readings.{clause_of, HoldsClause}
-use Rattle.ab_clauses.specs.declared.kept.ClauseTerm.{ClauseTerm}
+use Rattle.ab_sentences.specs.ab_readings.specs.Types.{written_type}
+use Rattle.ab_clausal.specs.ab_infer.specs.declared.fault.InferFault.{InferFault}
+use Rattle.ab_clausal.specs.ab_infer.specs.declared.fault.InferFault.TheVariants as fault
+use Rattle.ab_sentences.specs.ab_clauses.specs.Proposed.{IsProposed}
+use Rattle.ab_sentences.specs.ab_clauses.specs.Readings.{clause_of, HoldsClause}
+use Rattle.ab_sentences.specs.ab_clauses.specs.declared.kept.ClauseTerm.{ClauseTerm}
 use Rattle.ab_clausal.specs.Meanings.{body_type, Finds, IsKeptAs}
-use Rattle.ab_logic.specs.declared.world.DefineFault.{DefineFault}
-use Rattle.ab_logic.specs.declared.world.DefineFault.TheVariants as define
+use Rattle.ab_sentences.specs.ab_logic.specs.declared.world.DefineFault.{DefineFault}
+use Rattle.ab_sentences.specs.ab_logic.specs.declared.world.DefineFault.TheVariants as define
 use Rattle.ab_declare.specs.declared.refusal.Refusal.{Refusal}
 use Rattle.ab_declare.specs.declared.refusal.Refusal.TheVariants.{Unknown, Clash, TypeClash, Untyped, NotStratified, BadHead}
 use Rattle.ab_declare.specs.declared.halt.Halt.{Halt}

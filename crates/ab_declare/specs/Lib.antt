@@ -5,3 +5,10 @@ pub mod Declaring
 pub mod Moments
 pub mod Answers
 pub mod Halting
+-- Libraries that the crates above name through this one.
+pub use Rattle.ab_clausal.specs.ab_closing
+pub use Rattle.ab_clausal.specs.ab_resolving
+pub use Rattle.ab_sentences
+pub use Rattle.ab_clausal.specs.ab_walking
+pub use Rattle.ab_clausal.specs.ab_elaborate
+pub use Rattle.ab_clausal

@@ -1,11 +1,11 @@
 //! Definitions that are declared.
 ghost use Rattle.std.specs.Prelude.{◌≡◌, map, IfOk, OnErr, MatchResult, All};
-ghost use Rattle.ab_types.specs.Sound.{IsTable};
+ghost use Rattle.ab_sentences.specs.ab_types.specs.Sound.{IsTable};
 ghost use Rattle.ab_grammar.specs.CommandTrees as command;
 ghost use Rattle.ab_syntax.specs.Commands.{defined_of, clause_of};
 ghost use Rattle.ab_clausal.specs.Meanings.{ClauseHasNoJudgement};
-ghost use Rattle.ab_logic.specs.Growth.{Grows};
-ghost use Rattle.ab_logic.specs.Worlds.{IsWorld, declarations_of};
+ghost use Rattle.ab_sentences.specs.ab_logic.specs.Growth.{Grows};
+ghost use Rattle.ab_sentences.specs.ab_logic.specs.Worlds.{IsWorld, declarations_of};
 ghost use Rattle.ab_declare.specs.Answers.{Declared, IsDeclared};
 ghost use Rattle.ab_declare.specs.Defining.{DefinesNothing};
 ghost use Rattle.ab_declare.specs.Halting.{halt_by, Halts};
@@ -16,10 +16,10 @@ use crate::halt::Halt;
 use crate::moment::Moment;
 use crate::predicates::{look_at_types, put_predicates};
 use crate::refusal::Refusal;
-use ab_clauses::{Block, ClauseTerm, ClauseTerms, Predicates};
-use ab_logic::{DefineFault, World};
+use ab_sentences::below::clauses::{Block, ClauseTerm, ClauseTerms, Predicates};
+use ab_sentences::below::logic::{DefineFault, World};
+use ab_sentences::below::types::{ConstId, Steps};
 use ab_syntax::{ClauseParse, Defined};
-use ab_types::{ConstId, Steps};
 use std::alloc::{AllocError, Global};
 
 /// What is told of the fault of a definition.

@@ -1,6 +1,6 @@
 //! Why a command doesn't come to its end.
 use crate::refusal::{Place, Refusal};
-use ab_infer::InferFault;
+use ab_clausal::below::infer::InferFault;
 use std::alloc::AllocError;
 
 /// Why a command doesn't come to its end.

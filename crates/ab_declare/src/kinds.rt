@@ -1,16 +1,16 @@
 //! Kinds that are declared.
 ghost use Rattle.std.specs.Prelude.{◌≡◌, ◌++◌, List, ℕ, map, IfOk, OnErr, MatchOption, Some, None};
-ghost use Rattle.ab_types.specs.Entries.{kinds, a_kind, IsExtendedBy};
+ghost use Rattle.ab_sentences.specs.ab_types.specs.Entries.{kinds, a_kind, IsExtendedBy};
 ghost use Rattle.ab_grammar.specs.CommandTrees as command;
-ghost use Rattle.ab_logic.specs.Worlds.{IsWorld};
+ghost use Rattle.ab_sentences.specs.ab_logic.specs.Worlds.{IsWorld};
 ghost use Rattle.ab_declare.specs.declared.refusal.Refusal.TheVariants.{Clash};
 ghost use Rattle.ab_declare.specs.Declaring.{first_taken};
 ghost use Rattle.ab_declare.specs.Answers.{Declared};
 
 use crate::refusal::Refusal;
-use ab_logic::World;
-use ab_name::Name;
-use ab_types::{Steps, TableFault, TypeTable};
+use ab_sentences::below::logic::World;
+use ab_sentences::below::types::{Steps, TableFault, TypeTable};
+use ab_syntax::below::name::Name;
 use std::alloc::{AllocError, Global};
 
 /// Puts kinds behind what the table holds, up to the first whose name is taken.

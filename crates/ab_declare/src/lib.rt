@@ -1,6 +1,7 @@
 //! What the commands outside a proof declare: kinds, constants, definitions, and the formulas of theorems.
 #![tactic(auto)]
 
+pub mod below;
 mod clauses;
 mod constants;
 mod defining;

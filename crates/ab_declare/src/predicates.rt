@@ -1,9 +1,9 @@
 //! The predicates of a definition.
 ghost use Rattle.std.specs.Prelude.{◌≡◌, ◌↔◌, ℕ, List, [], ◌∷◌, map, Ok, IsTrue, MatchResult, All};
 ghost use Rattle.ab_term.specs.Types.{Ty};
-ghost use Rattle.ab_types.specs.Entries.{kinds, constants, IsExtendedBy};
-ghost use Rattle.ab_types.specs.Sound.{IsTable};
-ghost use Rattle.ab_readings.specs.Types.{written_type, type_place};
+ghost use Rattle.ab_sentences.specs.ab_types.specs.Entries.{kinds, constants, IsExtendedBy};
+ghost use Rattle.ab_sentences.specs.ab_types.specs.Sound.{IsTable};
+ghost use Rattle.ab_sentences.specs.ab_readings.specs.Types.{written_type, type_place};
 ghost use Rattle.ab_syntax.specs.Trees as trees;
 ghost use Rattle.ab_syntax.specs.Commands.{defined_of};
 ghost use Rattle.ab_declare.specs.Defining.{EndsInProp, IsPredicate, IsNoPredicate, FirstTold};
@@ -12,9 +12,9 @@ ghost use Rattle.ab_declare.specs.Halting.{Halts, HasKinds, ArePut, ArentPut};
 use crate::halt::Halt;
 use crate::pushing::put_last;
 use crate::refusal::{Place, Refusal};
-use ab_infer::{read_type, read_written};
+use ab_clausal::below::infer::{read_type, read_written};
+use ab_sentences::below::types::{ConstId, TableFault, TypeTable};
 use ab_syntax::{Defined, TypeParse};
-use ab_types::{ConstId, TableFault, TypeTable};
 use std::alloc::Global;
 
 /// Puts a predicate of the written type behind what the table holds.

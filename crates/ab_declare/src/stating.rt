@@ -1,29 +1,29 @@
 //! The formulas that theorems state.
 ghost use Rattle.std.specs.Prelude.{◌≡◌, [], IfOk, OnErr};
 ghost use Rattle.ab_term.specs.Types.{prop};
-ghost use Rattle.ab_types.specs.Entries.{kinds, constants, signature, IsExtendedBy};
-ghost use Rattle.ab_types.specs.Sound.{IsTable};
-ghost use Rattle.ab_store.specs.Naming.{IsTypedBy};
-ghost use Rattle.ab_norm.specs.Growth.{AddsTypedTerms};
+ghost use Rattle.ab_sentences.specs.ab_types.specs.Entries.{kinds, constants, signature, IsExtendedBy};
+ghost use Rattle.ab_sentences.specs.ab_types.specs.Sound.{IsTable};
+ghost use Rattle.ab_sentences.specs.ab_store.specs.Naming.{IsTypedBy};
+ghost use Rattle.ab_clausal.specs.ab_norm.specs.Growth.{AddsTypedTerms};
 ghost use Rattle.ab_grammar.specs.Tree.{place_of};
 ghost use Rattle.ab_syntax.specs.Trees.{tree_of};
-ghost use Rattle.ab_readings.specs.Scopes.{resolved, elsewhere};
-ghost use Rattle.ab_building.specs.Elaborated.{IsAnswer};
-ghost use Rattle.ab_elaborate.specs.Judgements.{HasNoJudgement};
-ghost use Rattle.ab_logic.specs.Worlds.{IsWorld};
+ghost use Rattle.ab_sentences.specs.ab_readings.specs.Scopes.{resolved, elsewhere};
+ghost use Rattle.ab_clausal.specs.ab_building.specs.Elaborated.{IsAnswer};
+ghost use Rattle.ab_clausal.specs.ab_elaborate.specs.Judgements.{HasNoJudgement};
+ghost use Rattle.ab_sentences.specs.ab_logic.specs.Worlds.{IsWorld};
 ghost use Rattle.ab_declare.specs.Answers.{Stated};
 ghost use Rattle.ab_declare.specs.Moments.{IsRestored};
 
 use crate::moment::Moment;
 use crate::refusal::{Refusal, refusal_for};
 use crate::types::formula_type;
-use ab_elaborate::{Scope, elaborate};
-use ab_infer::InferFault;
-use ab_logic::World;
-use ab_name::Name;
-use ab_store::{Store, TermId};
+use ab_clausal::below::elaborate::{Scope, elaborate};
+use ab_clausal::below::infer::InferFault;
+use ab_sentences::below::logic::World;
+use ab_sentences::below::store::{Store, TermId};
+use ab_sentences::below::types::{Steps, TypeTable};
 use ab_syntax::Parse;
-use ab_types::{Steps, TypeTable};
+use ab_syntax::below::name::Name;
 use std::alloc::{AllocError, Global};
 
 /// What is stated under a name.

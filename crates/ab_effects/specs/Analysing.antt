@@ -1,15 +1,15 @@
 -- WHAT COMES OF AN ATOM OF A HYPOTHESIS whose predicate is defined: the goal is split by the choices of its definition, and in
 -- each case that arises the body of the clause is opened.
 use Rattle.std.specs.Prelude.{◌≡◌, ℕ, suc, List, [], ◌∷◌}
-use Rattle.ab_store.specs.Trees.{Read}
-use Rattle.ab_solve.specs.Replacing.{Cell}
-use Rattle.ab_logic.specs.Declarations.{Declarations}
-use Rattle.ab_logic.specs.Names.{Label, IsNamedFor}
-use Rattle.ab_logic.specs.Sequents.{Sequent, assuming}
-use Rattle.ab_equate.specs.Solved.{AreCells}
-use Rattle.ab_equate.specs.Cases.{Split, IsUnsplit}
-use Rattle.ab_analysis.specs.Atoms.{Defined}
-use Rattle.ab_analysis.specs.Left.{cases_of}
+use Rattle.ab_permuting.specs.ab_store.specs.Trees.{Read}
+use Rattle.ab_permuting.specs.ab_solve.specs.Replacing.{Cell}
+use Rattle.ab_permuting.specs.ab_logic.specs.Declarations.{Declarations}
+use Rattle.ab_permuting.specs.ab_logic.specs.Names.{Label, IsNamedFor}
+use Rattle.ab_permuting.specs.ab_logic.specs.Sequents.{Sequent, assuming}
+use Rattle.ab_using.specs.ab_equate.specs.Solved.{AreCells}
+use Rattle.ab_using.specs.ab_equate.specs.Cases.{Split, IsUnsplit}
+use Rattle.ab_rules.specs.ab_analysis.specs.Atoms.{Defined}
+use Rattle.ab_rules.specs.ab_analysis.specs.Left.{cases_of}
 use Rattle.ab_effects.specs.Refusals.{Refusal, not_pattern}
 use Rattle.ab_effects.specs.Opening.{Opened, Nameless}
 

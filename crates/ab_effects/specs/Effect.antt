@@ -6,19 +6,19 @@ use Rattle.ab_term.specs.Types.{Ty}
 use Rattle.ab_term.specs.Terms.{Nominal}
 use Rattle.ab_term.specs.Names.{support, permute}
 use Rattle.ab_term.specs.Substitution.{instance}
-use Rattle.ab_store.specs.Trees.{Read}
+use Rattle.ab_permuting.specs.ab_store.specs.Trees.{Read}
 use Rattle.ab_grammar.specs.Tree.{Tree}
 use Rattle.ab_grammar.specs.CommandTrees as command
 use Rattle.ab_grammar.specs.CommandTrees.{ProofCommand, Instance}
-use Rattle.ab_logic.specs.Declarations.{Declarations}
-use Rattle.ab_logic.specs.Forms.{Form, truth, falsity, both, either, implies, equal, for_all, exists, nabla, marked, other, form_of, as_both, as_either, as_exists}
-use Rattle.ab_logic.specs.Marks.{plain, star_of, at_of, plus_of, hash_of, MarksServeIn}
-use Rattle.ab_logic.specs.Sequents.{Sequent, IsUsed, formula_of, proving, assuming, without}
-use Rattle.ab_logic.specs.Names.{Label, auto, given, Names, NoName, IsLeast}
-use Rattle.ab_marks.specs.Marking.{MayBeAnalysed, MayBeUnfolded}
-use Rattle.ab_analysis.specs.Atoms.{defined_atom}
-use Rattle.ab_induction.specs.Places.{inductive_at, coinductive_in, marked_antecedent, marked_consequent}
-use Rattle.ab_induction.specs.Levels.{next_level, inductive_level, coinductive_level}
+use Rattle.ab_permuting.specs.ab_logic.specs.Declarations.{Declarations}
+use Rattle.ab_permuting.specs.ab_logic.specs.Forms.{Form, truth, falsity, both, either, implies, equal, for_all, exists, nabla, marked, other, form_of, as_both, as_either, as_exists}
+use Rattle.ab_permuting.specs.ab_logic.specs.Marks.{plain, star_of, at_of, plus_of, hash_of, MarksServeIn}
+use Rattle.ab_permuting.specs.ab_logic.specs.Sequents.{Sequent, IsUsed, formula_of, proving, assuming, without}
+use Rattle.ab_permuting.specs.ab_logic.specs.Names.{Label, auto, given, Names, NoName, IsLeast}
+use Rattle.ab_rules.specs.ab_marks.specs.Marking.{MayBeAnalysed, MayBeUnfolded}
+use Rattle.ab_rules.specs.ab_analysis.specs.Atoms.{defined_atom}
+use Rattle.ab_rules.specs.ab_induction.specs.Places.{inductive_at, coinductive_in, marked_antecedent, marked_consequent}
+use Rattle.ab_rules.specs.ab_induction.specs.Levels.{next_level, inductive_level, coinductive_level}
 use Rattle.ab_using.specs.Pieces.{Piece, Given, pieces, behind, antecedent_count, type_named, AllServe}
 use Rattle.ab_using.specs.Answers.{Using, IsUsedFor, awaited, result_in}
 use Rattle.ab_effects.specs.Refusals.{Refusal, unknown, clash, no_hypothesis, wrong_shape, mark, not_pattern, names_spent}

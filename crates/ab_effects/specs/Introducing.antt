@@ -3,11 +3,11 @@
 use Rattle.std.specs.Prelude.{◌≡◌, ℕ, List, [], ◌∷◌, ◌++◌, Option, Some, None}
 use Rattle.ab_term.specs.Types.{Ty}
 use Rattle.ab_term.specs.Substitution.{instance}
-use Rattle.ab_store.specs.Trees.{Read}
-use Rattle.ab_logic.specs.Declarations.{Declarations}
-use Rattle.ab_logic.specs.Forms.{Form, for_all, nabla, implies, form_of, as_both}
-use Rattle.ab_logic.specs.Sequents.{Sequent, assuming, proving}
-use Rattle.ab_logic.specs.Names.{Label, auto, given, Names, NoName, IsLeast}
+use Rattle.ab_permuting.specs.ab_store.specs.Trees.{Read}
+use Rattle.ab_permuting.specs.ab_logic.specs.Declarations.{Declarations}
+use Rattle.ab_permuting.specs.ab_logic.specs.Forms.{Form, for_all, nabla, implies, form_of, as_both}
+use Rattle.ab_permuting.specs.ab_logic.specs.Sequents.{Sequent, assuming, proving}
+use Rattle.ab_permuting.specs.ab_logic.specs.Names.{Label, auto, given, Names, NoName, IsLeast}
 use Rattle.ab_rules.specs.Rules.{MayName, name_term}
 use Rattle.ab_effects.specs.Opening.{Taken}
 

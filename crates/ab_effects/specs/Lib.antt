@@ -11,3 +11,10 @@ pub mod Unfolding
 pub mod Using
 pub mod Permuting
 pub mod Effect
+-- Libraries that the crates above name through this one.
+pub use Rattle.ab_readings
+pub use Rattle.ab_permuting.specs.ab_logic
+pub use Rattle.ab_permuting
+pub use Rattle.ab_using
+pub use Rattle.ab_rules.specs.ab_induction
+pub use Rattle.ab_rules

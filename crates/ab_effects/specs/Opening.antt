@@ -5,11 +5,11 @@ use Rattle.ab_term.specs.Types.{Ty}
 use Rattle.ab_term.specs.Terms.{Nominal}
 use Rattle.ab_term.specs.Names.{support}
 use Rattle.ab_term.specs.Substitution.{instance}
-use Rattle.ab_store.specs.Trees.{Read}
-use Rattle.ab_logic.specs.Declarations.{Declarations}
-use Rattle.ab_logic.specs.Forms.{Form, truth, both, exists, nabla, form_of}
-use Rattle.ab_logic.specs.Sequents.{Sequent, goal_names, names_of, assuming, over}
-use Rattle.ab_logic.specs.Names.{Label, auto, Names, NoName, IsLeast, IsNamedFor}
+use Rattle.ab_permuting.specs.ab_store.specs.Trees.{Read}
+use Rattle.ab_permuting.specs.ab_logic.specs.Declarations.{Declarations}
+use Rattle.ab_permuting.specs.ab_logic.specs.Forms.{Form, truth, both, exists, nabla, form_of}
+use Rattle.ab_permuting.specs.ab_logic.specs.Sequents.{Sequent, goal_names, names_of, assuming, over}
+use Rattle.ab_permuting.specs.ab_logic.specs.Names.{Label, auto, Names, NoName, IsLeast, IsNamedFor}
 use Rattle.ab_rules.specs.Rules.{IsSupport, IsNew, hint_of, name_term, raised, applied}
 
 -- the formula isn't taken apart: it becomes a hypothesis as it is

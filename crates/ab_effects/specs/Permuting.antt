@@ -1,7 +1,7 @@
 -- Nominal constants of a goal change places: of some numbers each becomes the next, and the last the first.
 use Rattle.std.specs.Prelude.{◌≡◌, ℕ, List}
 use Rattle.ab_term.specs.Terms.{Nominal}
-use Rattle.ab_logic.specs.Sequents.{Sequent, goal_names}
+use Rattle.ab_permuting.specs.ab_logic.specs.Sequents.{Sequent, goal_names}
 use Rattle.ab_permuting.specs.Cycles.{MayCycle, type_among, cycle}
 use Rattle.ab_effects.specs.Refusals.{Refusal, type_clash, wrong_shape}
 use Rattle.ab_effects.specs.Row.{Row, finds, makes}

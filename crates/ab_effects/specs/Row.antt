@@ -1,7 +1,7 @@
 -- THE SHAPE OF A ROW: what a proof command asks, in the order in which it is asked, and then the goals that take the
 -- goal's place.
 use Rattle.std.specs.Prelude.{◌≡◌, ◌⊎◌, List, Option, Some, None}
-use Rattle.ab_logic.specs.Sequents.{Sequent}
+use Rattle.ab_permuting.specs.ab_logic.specs.Sequents.{Sequent}
 use Rattle.ab_effects.specs.Refusals.{Refusal}
 
 pub data Row : Type 1 where

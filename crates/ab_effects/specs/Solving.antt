@@ -1,11 +1,11 @@
 -- What comes of solving an equation of a goal, whatever the numbers of the goal's variables.
 use Rattle.std.specs.Prelude.{◌≡◌, ◌⊎◌, ℕ, List, [], ◌∷◌}
-use Rattle.ab_store.specs.Trees.{Read}
-use Rattle.ab_solve.specs.Replacing.{Cell}
-use Rattle.ab_logic.specs.Declarations.{Declarations}
-use Rattle.ab_logic.specs.Names.{IsNamedFor}
-use Rattle.ab_logic.specs.Sequents.{Sequent}
-use Rattle.ab_equate.specs.Solved.{AreCells, Becomes, AreApart, AreStuck}
+use Rattle.ab_permuting.specs.ab_store.specs.Trees.{Read}
+use Rattle.ab_permuting.specs.ab_solve.specs.Replacing.{Cell}
+use Rattle.ab_permuting.specs.ab_logic.specs.Declarations.{Declarations}
+use Rattle.ab_permuting.specs.ab_logic.specs.Names.{IsNamedFor}
+use Rattle.ab_permuting.specs.ab_logic.specs.Sequents.{Sequent}
+use Rattle.ab_using.specs.ab_equate.specs.Solved.{AreCells, Becomes, AreApart, AreStuck}
 
 -- IT IS SOLVED, with these goals in the goal's place: the goal under the answer, where the two sides are made equal, and none
 -- where nothing makes them equal

@@ -2,11 +2,11 @@
 use Rattle.std.specs.Prelude.{◌≡◌, ◌⊎◌, ℕ, List, [], ◌∷◌, map, Ok, Err, Some, None, Option}
 use Rattle.ab_term.specs.Types.{Ty, prop}
 use Rattle.ab_term.specs.Terms.{Head, nominal, constant}
-use Rattle.ab_store.specs.Trees.{Read}
+use Rattle.ab_permuting.specs.ab_store.specs.Trees.{Read}
 use Rattle.ab_grammar.specs.Tree.{Tree, place_of}
-use Rattle.ab_logic.specs.Declarations.{Declarations, a_kind, a_constant, a_block, a_program_clause, a_theorem, signature_in}
-use Rattle.ab_logic.specs.Formulas.{IsFormula}
-use Rattle.ab_logic.specs.Sequents.{Variable, Sequent, goal_names}
+use Rattle.ab_permuting.specs.ab_logic.specs.Declarations.{Declarations, a_kind, a_constant, a_block, a_program_clause, a_theorem, signature_in}
+use Rattle.ab_permuting.specs.ab_logic.specs.Formulas.{IsFormula}
+use Rattle.ab_permuting.specs.ab_logic.specs.Sequents.{Variable, Sequent, goal_names}
 use Rattle.ab_readings.specs.Names.{Resolved}
 use Rattle.ab_readings.specs.Scopes.{Entry, Scope, in_proof, nominal_number, resolved}
 use Rattle.ab_readings.specs.Readings.{Making, Raw}

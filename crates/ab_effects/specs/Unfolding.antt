@@ -3,13 +3,13 @@
 use Rattle.std.specs.Prelude.{◌≡◌, ◌⊎◌, ℕ, suc, List, [], ◌∷◌, ◌++◌, All, codes}
 use Rattle.ab_term.specs.Variables.{Substitution, image}
 use Rattle.ab_term.specs.Sameness.{same_number}
-use Rattle.ab_solve.specs.Replacing.{Cell}
-use Rattle.ab_solve.specs.Solving.{unified, Solves}
-use Rattle.ab_logic.specs.Sequents.{Variable, Sequent, goal_names, proving}
-use Rattle.ab_equate.specs.Solved.{AreCells, made}
-use Rattle.ab_equate.specs.Cases.{problem_of, NeverArises, IsOpen}
-use Rattle.ab_analysis.specs.Atoms.{Defined, Choice, choices_of}
-use Rattle.ab_analysis.specs.Right.{unfolding_case}
+use Rattle.ab_permuting.specs.ab_solve.specs.Replacing.{Cell}
+use Rattle.ab_permuting.specs.ab_solve.specs.Solving.{unified, Solves}
+use Rattle.ab_permuting.specs.ab_logic.specs.Sequents.{Variable, Sequent, goal_names, proving}
+use Rattle.ab_using.specs.ab_equate.specs.Solved.{AreCells, made}
+use Rattle.ab_using.specs.ab_equate.specs.Cases.{problem_of, NeverArises, IsOpen}
+use Rattle.ab_rules.specs.ab_analysis.specs.Atoms.{Defined, Choice, choices_of}
+use Rattle.ab_rules.specs.ab_analysis.specs.Right.{unfolding_case}
 use Rattle.ab_effects.specs.Refusals.{Refusal, no_match, not_pattern, unresolved}
 
 -- the choice is among those of the atom, and none before it can make the atom an instance

@@ -6,12 +6,12 @@ use Rattle.ab_term.specs.Types.{Ty}
 use Rattle.ab_term.specs.Terms.{Nominal, logical, spine, no_terms, term}
 use Rattle.ab_term.specs.Logical.{equality}
 use Rattle.ab_term.specs.Names.{support}
-use Rattle.ab_store.specs.Trees.{Read}
+use Rattle.ab_permuting.specs.ab_store.specs.Trees.{Read}
 use Rattle.ab_grammar.specs.CommandTrees.{Instance, Argument, named, hole}
 use Rattle.ab_readings.specs.Scopes.{Scope}
-use Rattle.ab_logic.specs.Declarations.{Declarations, theorem_in}
-use Rattle.ab_logic.specs.Sequents.{Sequent, formula_of, proving}
-use Rattle.ab_logic.specs.Names.{Label}
+use Rattle.ab_permuting.specs.ab_logic.specs.Declarations.{Declarations, theorem_in}
+use Rattle.ab_permuting.specs.ab_logic.specs.Sequents.{Sequent, formula_of, proving}
+use Rattle.ab_permuting.specs.ab_logic.specs.Names.{Label}
 use Rattle.ab_using.specs.Pieces.{Piece, Given, type_named, parts}
 use Rattle.ab_using.specs.Uses.{implied, Aim}
 use Rattle.ab_using.specs.Answers.{Using, IsUsedFor, NothingMatches, IsOutsideAt, IsLeftOpen}

@@ -1,9 +1,9 @@
 //! Laws of what proof commands do.
 ghost use Rattle.std.specs.Prelude.{◌≡◌, ◌∷◌, [], ℕ, List, None};
-ghost use Rattle.ab_logic.specs.Declarations.{Declarations};
-ghost use Rattle.ab_logic.specs.Names.{Label};
-ghost use Rattle.ab_logic.specs.Forms.{as_both};
-ghost use Rattle.ab_logic.specs.Sequents.{Sequent, proving};
+ghost use Rattle.ab_permuting.specs.ab_logic.specs.Declarations.{Declarations};
+ghost use Rattle.ab_permuting.specs.ab_logic.specs.Names.{Label};
+ghost use Rattle.ab_permuting.specs.ab_logic.specs.Forms.{as_both};
+ghost use Rattle.ab_permuting.specs.ab_logic.specs.Sequents.{Sequent, proving};
 ghost use Rattle.ab_grammar.specs.CommandTrees as command;
 ghost use Rattle.ab_effects.specs.Effect.{effect};
 ghost use Rattle.ab_effects.specs.Refusals.{Refusal, wrong_shape};

@@ -3,24 +3,24 @@ use Rattle.std.specs.List.{All}
 use Rattle.std.specs.Prelude.{Ok, Err, Result}
 use Rattle.std.proofs.Common.{◌≡◌, ℕ, ◌+◌, ◌<◌, ◌^◌, List, [], ◌∷◌, length, sym, ap, ◌∙◌, subst, arith}
 use Rattle.ab_term.specs.Types.{Ty}
-use Rattle.ab_types.specs.Entries.{Table}
-use Rattle.ab_store.specs.Trees.{Contents}
-use Rattle.ab_store.specs.declared.node.TermId.{TermId}
+use Rattle.ab_walking.specs.ab_types.specs.Entries.{Table}
+use Rattle.ab_walking.specs.ab_store.specs.Trees.{Contents}
+use Rattle.ab_walking.specs.ab_store.specs.declared.node.TermId.{TermId}
 use Rattle.ab_grammar.specs.Tree.{Tree}
-use Rattle.ab_readings.specs.Names.{Name, Resolved}
-use Rattle.ab_readings.specs.Scopes.{Found, resolved}
-use Rattle.ab_infer.specs.declared.fault.InferFault.{InferFault}
-use Rattle.ab_infer.specs.declared.fault.InferFault.TheVariants.{Unknown, TypeClash, Untyped, Memory}
-use Rattle.ab_infer.specs.declared.op.Op.{Op}
-use Rattle.ab_infer.specs.declared.op.Mark.{Mark}
-use Rattle.ab_infer.specs.Sketches.{Sketch, Fit, count, erase, variable_of, marks_of}
-use Rattle.ab_infer.specs.Programs.{Runs, items_of, OpTyped}
-use Rattle.ab_infer.specs.Verdicts.{AreApart, marks_in, mark_of}
-use Rattle.ab_resolving.specs.declared.scope.Scope as inner
-use Rattle.ab_resolving.specs.Scoping as resolving
-use Rattle.ab_building.specs.Building.{OpFits}
-use Rattle.ab_building.specs.Outcomes.{AreNumbers}
-use Rattle.ab_building.specs.Elaborated.{IsAnswer}
+use Rattle.ab_walking.specs.ab_readings.specs.Names.{Name, Resolved}
+use Rattle.ab_walking.specs.ab_readings.specs.Scopes.{Found, resolved}
+use Rattle.ab_walking.specs.ab_infer.specs.declared.fault.InferFault.{InferFault}
+use Rattle.ab_walking.specs.ab_infer.specs.declared.fault.InferFault.TheVariants.{Unknown, TypeClash, Untyped, Memory}
+use Rattle.ab_walking.specs.ab_infer.specs.declared.op.Op.{Op}
+use Rattle.ab_walking.specs.ab_infer.specs.declared.op.Mark.{Mark}
+use Rattle.ab_walking.specs.ab_infer.specs.Sketches.{Sketch, Fit, count, erase, variable_of, marks_of}
+use Rattle.ab_walking.specs.ab_infer.specs.Programs.{Runs, items_of, OpTyped}
+use Rattle.ab_walking.specs.ab_infer.specs.Verdicts.{AreApart, marks_in, mark_of}
+use Rattle.ab_walking.specs.ab_resolving.specs.declared.scope.Scope as inner
+use Rattle.ab_walking.specs.ab_resolving.specs.Scoping as resolving
+use Rattle.ab_walking.specs.ab_building.specs.Building.{OpFits}
+use Rattle.ab_walking.specs.ab_building.specs.Outcomes.{AreNumbers}
+use Rattle.ab_walking.specs.ab_building.specs.Elaborated.{IsAnswer}
 use Rattle.ab_walking.specs.declared.row.Row.{Row}
 use Rattle.ab_walking.specs.Rows.{AddsTypes, Makes, Fails}
 use Rattle.ab_walking.proofs.Grounds.{same_scope}

@@ -1,8 +1,8 @@
 -- The numbers of nominal names, as a list.
 use Rattle.std.proofs.Common.{◌≡◌, ℕ, ◌+◌, ◌<◌, List, [], ◌∷◌, ◌++◌, map, take, length, get_or, sym, ap, ◌∙◌}
 use Rattle.std.proofs.lemmas.List.{length-map, get_or-map, map_more}
-use Rattle.ab_readings.specs.Names.{Name}
-use Rattle.ab_building.specs.Outcomes.{AreNumbers, number_of}
+use Rattle.ab_walking.specs.ab_readings.specs.Names.{Name}
+use Rattle.ab_walking.specs.ab_building.specs.Outcomes.{AreNumbers, number_of}
 
 pub are_numbers : (names : List Name) (numbers : List ℕ) → numbers ≡ map number_of names → AreNumbers names numbers
 are_numbers names numbers e = record {

@@ -1,13 +1,13 @@
 -- What a walk stands on, from what elaboration is given.
-use Rattle.ab_types.specs.Entries.{Table}
-use Rattle.ab_types.specs.Sound.{IsTable}
-use Rattle.ab_store.specs.Trees.{Contents}
-use Rattle.ab_store.specs.Naming.{IsTypedBy}
-use Rattle.ab_infer.specs.declared.inferring.Formulas.{Formulas}
-use Rattle.ab_infer.specs.Inferences.{IsFormulas}
-use Rattle.ab_resolving.specs.declared.scope.Scope.{Scope}
-use Rattle.ab_resolving.specs.Scoping.{HoldsScope}
-use Rattle.ab_building.proofs.Larger.{store_more}
+use Rattle.ab_walking.specs.ab_types.specs.Entries.{Table}
+use Rattle.ab_walking.specs.ab_types.specs.Sound.{IsTable}
+use Rattle.ab_walking.specs.ab_store.specs.Trees.{Contents}
+use Rattle.ab_walking.specs.ab_store.specs.Naming.{IsTypedBy}
+use Rattle.ab_walking.specs.ab_infer.specs.declared.inferring.Formulas.{Formulas}
+use Rattle.ab_walking.specs.ab_infer.specs.Inferences.{IsFormulas}
+use Rattle.ab_walking.specs.ab_resolving.specs.declared.scope.Scope.{Scope}
+use Rattle.ab_walking.specs.ab_resolving.specs.Scoping.{HoldsScope}
+use Rattle.ab_walking.specs.ab_building.proofs.Larger.{store_more}
 use Rattle.ab_walking.specs.Rows.{IsGround, AddsTypes}
 use Rattle.ab_walking.proofs.Grounds.{scope_more}
 

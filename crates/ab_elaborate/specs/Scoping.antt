@@ -1,9 +1,9 @@
 -- The scopes that the program's stand for.
 use Rattle.std.specs.Prelude.{Bool, true, false}
-use Rattle.ab_types.specs.Entries.{Table, kinds, signature}
-use Rattle.ab_store.specs.Trees.{Contents}
-use Rattle.ab_readings.specs.Scopes as scopes
-use Rattle.ab_resolving.specs.Scoping.{entries_in, nominals_in, HoldsCells, HoldsNominals}
+use Rattle.ab_walking.specs.ab_types.specs.Entries.{Table, kinds, signature}
+use Rattle.ab_walking.specs.ab_store.specs.Trees.{Contents}
+use Rattle.ab_walking.specs.ab_readings.specs.Scopes as scopes
+use Rattle.ab_walking.specs.ab_resolving.specs.Scoping.{entries_in, nominals_in, HoldsCells, HoldsNominals}
 use Rattle.ab_elaborate.specs.declared.scope.Scope.{Scope}
 
 -- in a proof command nominal names may be used

@@ -1,24 +1,24 @@
 //! Elaboration of an expression.
 ghost use Rattle.std.specs.Prelude.{◌≡◌, ◌≤◌, []};
-ghost use Rattle.ab_types.specs.Entries.{kinds, constants, IsExtendedBy};
-ghost use Rattle.ab_types.specs.Ids.{HoldsType, type_of};
-ghost use Rattle.ab_types.specs.Sound.{IsTable};
-ghost use Rattle.ab_store.specs.Naming.{IsTypedBy};
-ghost use Rattle.ab_norm.specs.Growth.{AddsTypedTerms};
+ghost use Rattle.ab_walking.specs.ab_types.specs.Entries.{kinds, constants, IsExtendedBy};
+ghost use Rattle.ab_walking.specs.ab_types.specs.Ids.{HoldsType, type_of};
+ghost use Rattle.ab_walking.specs.ab_types.specs.Sound.{IsTable};
+ghost use Rattle.ab_walking.specs.ab_store.specs.Naming.{IsTypedBy};
+ghost use Rattle.ab_walking.specs.ab_norm.specs.Growth.{AddsTypedTerms};
 ghost use Rattle.ab_grammar.specs.Tree as tree;
 ghost use Rattle.ab_syntax.specs.Trees.{tree_of};
-ghost use Rattle.ab_readings.specs.Scopes.{resolved};
-ghost use Rattle.ab_building.specs.Elaborated.{IsAnswer};
+ghost use Rattle.ab_walking.specs.ab_readings.specs.Scopes.{resolved};
+ghost use Rattle.ab_walking.specs.ab_building.specs.Elaborated.{IsAnswer};
 ghost use Rattle.ab_elaborate.specs.Scoping.{scope_of, HoldsScope};
 ghost use Rattle.ab_elaborate.specs.Judgements.{HasNoJudgement};
 
 use crate::ids::{formulas, numbers};
 use crate::scope::{Scope, resolving};
-use ab_building::{answer, read_steps};
-use ab_infer::InferFault;
-use ab_store::{Store, TermId};
 use ab_syntax::Parse;
-use ab_types::{Steps, TypeId, TypeTable};
+use ab_walking::below::building::{answer, read_steps};
+use ab_walking::below::infer::InferFault;
+use ab_walking::below::store::{Store, TermId};
+use ab_walking::below::types::{Steps, TypeId, TypeTable};
 use ab_walking::row_of;
 use std::alloc::Global;
 

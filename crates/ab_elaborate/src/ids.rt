@@ -1,16 +1,16 @@
 //! The ids and numbers that elaboration asks for.
 ghost use Rattle.std.specs.Prelude.{◌≡◌, IfOk, Contains};
-ghost use Rattle.ab_types.specs.Entries.{kinds, first_entries};
-ghost use Rattle.ab_types.specs.Sound.{IsTable};
-ghost use Rattle.ab_types.specs.Ids.{HoldsType, type_of};
+ghost use Rattle.ab_walking.specs.ab_types.specs.Entries.{kinds, first_entries};
+ghost use Rattle.ab_walking.specs.ab_types.specs.Sound.{IsTable};
+ghost use Rattle.ab_walking.specs.ab_types.specs.Ids.{HoldsType, type_of};
 ghost use Rattle.ab_term.specs.Types.{kind};
-ghost use Rattle.ab_infer.specs.Inferences.{IsFormulas};
+ghost use Rattle.ab_walking.specs.ab_infer.specs.Inferences.{IsFormulas};
 ghost use Rattle.ab_walking.specs.Rows.{AddsTypes};
-ghost use Rattle.ab_building.specs.Outcomes.{AreNumbers, number_of};
+ghost use Rattle.ab_walking.specs.ab_building.specs.Outcomes.{AreNumbers, number_of};
 
-use ab_infer::Formulas;
-use ab_resolving::nominal_number;
-use ab_types::{Name, TableFault, TypeId, TypeTable};
+use ab_walking::below::infer::Formulas;
+use ab_walking::below::resolving::nominal_number;
+use ab_walking::below::types::{Name, TableFault, TypeId, TypeTable};
 use std::alloc::{AllocError, Global};
 
 /// The number of a nominal name, and 0 of any other.

@@ -1,6 +1,7 @@
 //! Elaboration: the term that an expression means in a scope, or why it means none.
 #![tactic(auto)]
 
+pub mod below;
 mod elaborating;
 mod ids;
 mod judgements;

@@ -1,13 +1,13 @@
 //! Scopes.
 ghost use Rattle.std.specs.Prelude.{◌≡◌, IfOk, true, false};
-ghost use Rattle.ab_types.specs.Entries.{Table};
-ghost use Rattle.ab_store.specs.Trees.{Contents};
-ghost use Rattle.ab_resolving.specs.Scoping as resolving;
+ghost use Rattle.ab_walking.specs.ab_types.specs.Entries.{Table};
+ghost use Rattle.ab_walking.specs.ab_store.specs.Trees.{Contents};
+ghost use Rattle.ab_walking.specs.ab_resolving.specs.Scoping as resolving;
 ghost use Rattle.ab_elaborate.specs.Scoping.{scope_of, HoldsScope};
 
-use ab_norm::Nominal;
-use ab_resolving::Place;
-use ab_store::CellId;
+use ab_walking::below::norm::Nominal;
+use ab_walking::below::resolving::Place;
+use ab_walking::below::store::CellId;
 use std::alloc::{AllocError, Global};
 
 /// What an expression may name beside bound names and the table's constants.
@@ -22,7 +22,10 @@ pub struct Scope {
 }
 
 /// The scope in which names are resolved.
-pub(crate) fn resolving(alloc: Global, scope: &Scope) -> Result<ab_resolving::Scope, AllocError>
+pub(crate) fn resolving(
+    alloc: Global,
+    scope: &Scope,
+) -> Result<ab_walking::below::resolving::Scope, AllocError>
     ensures same { IfOk result (λ inner. (types : Table) (store : Contents) → resolving.scope_of types store inner ≡ scope_of types store scope.now) }
     ensures held { IfOk result (λ inner. (types : Table) (store : Contents) → HoldsScope types store scope.now → resolving.HoldsScope types store inner) }
 {
@@ -35,7 +38,7 @@ pub(crate) fn resolving(alloc: Global, scope: &Scope) -> Result<ab_resolving::Sc
     } else {
         Place::Elsewhere
     };
-    Ok(ab_resolving::Scope {
+    Ok(ab_walking::below::resolving::Scope {
         variables,
         nominals,
         place,

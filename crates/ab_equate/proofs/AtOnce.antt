@@ -13,8 +13,8 @@ use Rattle.ab_term.proofs.Lists.{Contains-none, Contains-cases}
 use Rattle.ab_term.proofs.Depends.{image_unmoved}
 use Rattle.ab_term.proofs.Stands.{variables-expansion_of}
 use Rattle.ab_term.proofs.InOrder.{one_by_one-at_once}
-use Rattle.ab_store.specs.Trees.{Read}
-use Rattle.ab_logic.specs.Sequents.{Variable, in_terms}
+use Rattle.ab_naming.specs.ab_store.specs.Trees.{Read}
+use Rattle.ab_naming.specs.ab_logic.specs.Sequents.{Variable, in_terms}
 use Rattle.ab_equate.specs.Solved.{variable_term, renaming}
 
 -- a younger variable isn't among them

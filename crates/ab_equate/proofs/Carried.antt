@@ -15,20 +15,20 @@ use Rattle.ab_term.specs.Sameness.{same_numbered, same_number}
 use Rattle.ab_term.proofs.Lists.{Contains-none, Contains-cases, Contains-here, Contains-there, Contains-map, Contains-from_map, All-from_contains, AllPairs-parts, AllPairs-map}
 use Rattle.ab_term.proofs.Same.{same_numbered-Decides}
 use Rattle.ab_term.proofs.Stands.{support-image, variables-image, support-expansion_of, variables-expansion_of}
-use Rattle.ab_store.specs.Trees.{Read}
-use Rattle.ab_solve.specs.Replacing.{Cell, holds}
-use Rattle.ab_solve.specs.Solving.{Equation, unified, apart, stuck, Solves}
-use Rattle.ab_solve.specs.Meaning.{given, AreKnown, IsOver, AreOver, IsCell, HoldsCells, AllHoldCells, keys, sides}
-use Rattle.ab_solve.proofs.Problems.{answer_typed, answer_clean}
-use Rattle.ab_solve.proofs.Cells.{Grows, answer_cells}
-use Rattle.ab_logic.specs.Formulas.{IsFormula}
-use Rattle.ab_logic.specs.Declarations.{Declarations, signature_in}
-use Rattle.ab_logic.specs.Sequents.{Variable, Hypothesis, Sequent, formulas, formulas_of, names_of, goal_names, in_terms, over, HoldsOnly, IsSequent}
-use Rattle.ab_logic.specs.Names.{IsNoVariable}
+use Rattle.ab_naming.specs.ab_store.specs.Trees.{Read}
+use Rattle.ab_naming.specs.ab_solve.specs.Replacing.{Cell, holds}
+use Rattle.ab_naming.specs.ab_solve.specs.Solving.{Equation, unified, apart, stuck, Solves}
+use Rattle.ab_naming.specs.ab_solve.specs.Meaning.{given, AreKnown, IsOver, AreOver, IsCell, HoldsCells, AllHoldCells, keys, sides}
+use Rattle.ab_naming.specs.ab_solve.proofs.Problems.{answer_typed, answer_clean}
+use Rattle.ab_naming.specs.ab_solve.proofs.Cells.{Grows, answer_cells}
+use Rattle.ab_naming.specs.ab_logic.specs.Formulas.{IsFormula}
+use Rattle.ab_naming.specs.ab_logic.specs.Declarations.{Declarations, signature_in}
+use Rattle.ab_naming.specs.ab_logic.specs.Sequents.{Variable, Hypothesis, Sequent, formulas, formulas_of, names_of, goal_names, in_terms, over, HoldsOnly, IsSequent}
+use Rattle.ab_naming.specs.ab_logic.specs.Names.{IsNoVariable}
 use Rattle.ab_equate.specs.Solved.{AreCells, stays, made, Naming, Named, variable_term, renaming, under, Becomes, AreApart, AreStuck, variables_from}
 use Rattle.ab_equate.specs.Cases.{Case, problem_of, variables_of, cell_for, IsCase, Arises, NeverArises, IsOpen}
 use Rattle.ab_equate.proofs.Idempotent.{none_replaced, where_from}
-use Rattle.ab_logic.proofs.Images.{image_formula}
+use Rattle.ab_naming.specs.ab_logic.proofs.Images.{image_formula}
 use Rattle.ab_equate.proofs.One.{one_place}
 use Rattle.ab_equate.proofs.Renaming.{behind_cell, made_listed, renamed_some, renamed_value, renaming_typed, renamed_numbers, renamed_names}
 

@@ -2,30 +2,30 @@
 use Rattle.std.specs.List.{All}
 use Rattle.std.proofs.Common.{◌≡◌, ◌<◌, List, [], ◌++◌, map, length, refl, sym, ◌∙◌, ap, subst, append-nil}
 use Rattle.std.proofs.lemmas.List.Elements.{All-weaker}
-use Rattle.ab_types.specs.Entries.{Table}
-use Rattle.ab_types.specs.Ids.{type_of}
-use Rattle.ab_types.proofs.Entries.{extended_by_itself}
-use Rattle.ab_store.specs.declared.node.TermId.{TermId}
-use Rattle.ab_store.specs.declared.node.CellId.{CellId}
-use Rattle.ab_store.specs.declared.node.CellEntry.{CellEntry}
-use Rattle.ab_store.specs.Trees.{Contents, cell_of}
-use Rattle.ab_store.specs.declared.mark.Mark.{Mark}
-use Rattle.ab_store.specs.Marks.{HasMark, KeepsMark}
-use Rattle.ab_store.specs.Growth.{IsExtendedBy}
-use Rattle.ab_store.proofs.Agreeing.{alike}
-use Rattle.ab_store.specs.Naming.{IsTypedBy}
-use Rattle.ab_norm.specs.Growth.{AddsTerms}
-use Rattle.ab_unifying.specs.Changed.{Grows}
-use Rattle.ab_unifying.proofs.Growth.{grows_none, grows_on}
-use Rattle.ab_unifying.proofs.Put.{put_grows}
-use Rattle.ab_logic.specs.Worlds.{read, Holds, HoldsCell, variable_of, declared_from, declarations_of, IsKept, IsWorld}
-use Rattle.ab_logic.specs.Readings.{hypothesis_of, sequent_of, HoldsSequent}
-use Rattle.ab_logic.specs.declared.world.World.{World}
-use Rattle.ab_logic.specs.declared.additions.Added.{Added}
-use Rattle.ab_logic.specs.declared.sequent.Sequent.{Sequent as Kept}
-use Rattle.ab_logic.specs.declared.sequent.Hypothesis.{Hypothesis}
-use Rattle.ab_logic.proofs.Blocks.{all_kept, declared_more, order_more}
-use Rattle.ab_logic.proofs.Growing.{map_same}
+use Rattle.ab_naming.specs.ab_types.specs.Entries.{Table}
+use Rattle.ab_naming.specs.ab_types.specs.Ids.{type_of}
+use Rattle.ab_naming.specs.ab_types.proofs.Entries.{extended_by_itself}
+use Rattle.ab_naming.specs.ab_store.specs.declared.node.TermId.{TermId}
+use Rattle.ab_naming.specs.ab_store.specs.declared.node.CellId.{CellId}
+use Rattle.ab_naming.specs.ab_store.specs.declared.node.CellEntry.{CellEntry}
+use Rattle.ab_naming.specs.ab_store.specs.Trees.{Contents, cell_of}
+use Rattle.ab_naming.specs.ab_store.specs.declared.mark.Mark.{Mark}
+use Rattle.ab_naming.specs.ab_store.specs.Marks.{HasMark, KeepsMark}
+use Rattle.ab_naming.specs.ab_store.specs.Growth.{IsExtendedBy}
+use Rattle.ab_naming.specs.ab_store.proofs.Agreeing.{alike}
+use Rattle.ab_naming.specs.ab_store.specs.Naming.{IsTypedBy}
+use Rattle.ab_solver.specs.ab_norm.specs.Growth.{AddsTerms}
+use Rattle.ab_solver.specs.ab_unifying.specs.Changed.{Grows}
+use Rattle.ab_solver.specs.ab_unifying.proofs.Growth.{grows_none, grows_on}
+use Rattle.ab_solver.specs.ab_unifying.proofs.Put.{put_grows}
+use Rattle.ab_naming.specs.ab_logic.specs.Worlds.{read, Holds, HoldsCell, variable_of, declared_from, declarations_of, IsKept, IsWorld}
+use Rattle.ab_naming.specs.ab_logic.specs.Readings.{hypothesis_of, sequent_of, HoldsSequent}
+use Rattle.ab_naming.specs.ab_logic.specs.declared.world.World.{World}
+use Rattle.ab_naming.specs.ab_logic.specs.declared.additions.Added.{Added}
+use Rattle.ab_naming.specs.ab_logic.specs.declared.sequent.Sequent.{Sequent as Kept}
+use Rattle.ab_naming.specs.ab_logic.specs.declared.sequent.Hypothesis.{Hypothesis}
+use Rattle.ab_naming.specs.ab_logic.proofs.Blocks.{all_kept, declared_more, order_more}
+use Rattle.ab_naming.specs.ab_logic.proofs.Growing.{map_same}
 use Rattle.ab_equate.specs.Meanwhile.{IsMeanwhile, GoesOn}
 
 pub world_meanwhile : (w : World) → IsWorld w → IsMeanwhile w

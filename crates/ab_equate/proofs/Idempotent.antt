@@ -9,17 +9,17 @@ use Rattle.ab_term.specs.Variables.{Substitution, variables, value_in, compositi
 use Rattle.ab_term.specs.Sameness.{same_numbered, same_head, same_number, same_term}
 use Rattle.ab_term.specs.Closing.{among}
 use Rattle.ab_term.proofs.Standing.{AllHave}
-use Rattle.ab_solve.specs.Patterns.{pattern, applied}
-use Rattle.ab_solve.specs.Replacing.{Cell, Change, without, holds, is_flexible, has_patterns, occurs, no_foreign, pruned}
-use Rattle.ab_solve.specs.Solving.{Equation, State, Answer, unified, apart, stuck, Result, clash, parts, replaced, paired, equal_sides, bodies, rigid_heads, is_older, agreeing, begun, unchanged, put_in, pattern_of, pattern_and_rigid, same_variable_at, one_variable, joined_at, two_at, two_variables, either_way, rule, Found, first_found, found_at, finished, goes_on, carried, next_by, image_of, ending, Solves, at_end, by_step}
-use Rattle.ab_solve.specs.Meaning.{AreKnown, IsOver, AreOver, sides, given, keys, Comes}
+use Rattle.ab_naming.specs.ab_solve.specs.Patterns.{pattern, applied}
+use Rattle.ab_naming.specs.ab_solve.specs.Replacing.{Cell, Change, without, holds, is_flexible, has_patterns, occurs, no_foreign, pruned}
+use Rattle.ab_naming.specs.ab_solve.specs.Solving.{Equation, State, Answer, unified, apart, stuck, Result, clash, parts, replaced, paired, equal_sides, bodies, rigid_heads, is_older, agreeing, begun, unchanged, put_in, pattern_of, pattern_and_rigid, same_variable_at, one_variable, joined_at, two_at, two_variables, either_way, rule, Found, first_found, found_at, finished, goes_on, carried, next_by, image_of, ending, Solves, at_end, by_step}
+use Rattle.ab_naming.specs.ab_solve.specs.Meaning.{AreKnown, IsOver, AreOver, sides, given, keys, Comes}
 use Rattle.ab_term.proofs.Lists.{Contains-here, Contains-there}
-use Rattle.ab_solve.proofs.Agreeing.{contains_holds}
-use Rattle.ab_solve.proofs.Avoiding.{AreNames, not_held}
-use Rattle.ab_solve.proofs.Falling.{older_holds, holds_without}
-use Rattle.ab_solve.proofs.Keys.{KeysFine, keys-composition}
-use Rattle.ab_solve.proofs.Once.{first_once, answer_once}
-use Rattle.ab_solve.proofs.Steps.{OnResult, OnFound, on_or_else, on_cond}
+use Rattle.ab_naming.specs.ab_solve.proofs.Agreeing.{contains_holds}
+use Rattle.ab_naming.specs.ab_solve.proofs.Avoiding.{AreNames, not_held}
+use Rattle.ab_naming.specs.ab_solve.proofs.Falling.{older_holds, holds_without}
+use Rattle.ab_naming.specs.ab_solve.proofs.Keys.{KeysFine, keys-composition}
+use Rattle.ab_naming.specs.ab_solve.proofs.Once.{first_once, answer_once}
+use Rattle.ab_naming.specs.ab_solve.proofs.Steps.{OnResult, OnFound, on_or_else, on_cond}
 use Rattle.ab_equate.proofs.Live.{Over, IsOf, of_variables, variables_of, applied_of, pattern_names, Live, Leads, leads_none, image_live, leads_then}
 use Rattle.ab_equate.proofs.Leaves.{Leaves, narrowed_leaves, pruned_leaves, begun_leaves, unchanged_leaves, live_without, put_leaves, joined_leaves}
 

@@ -7,12 +7,12 @@ use Rattle.ab_term.specs.Variables.{variables, value_in, image}
 use Rattle.ab_term.specs.Sameness.{same_numbered, same_number}
 use Rattle.ab_term.specs.Closing.{among, under}
 use Rattle.ab_term.proofs.Same.{same_numbered-Decides}
-use Rattle.ab_solve.specs.Patterns.{pattern, applied, value, kept, kept_type}
-use Rattle.ab_solve.specs.Replacing.{Cell, Change, without, holds, is_flexible, occurs, next_variable, one, narrowed, pruned_names, pruned_here, pruned, pruned_all}
-use Rattle.ab_solve.specs.Solving.{begun, unchanged, put_in, joined_at}
-use Rattle.ab_solve.proofs.Agreeing.{holds_front, holds_behind, holds_itself, contains_holds}
-use Rattle.ab_solve.proofs.Avoiding.{AreNames}
-use Rattle.ab_solve.proofs.Falling.{holds_without}
+use Rattle.ab_naming.specs.ab_solve.specs.Patterns.{pattern, applied, value, kept, kept_type}
+use Rattle.ab_naming.specs.ab_solve.specs.Replacing.{Cell, Change, without, holds, is_flexible, occurs, next_variable, one, narrowed, pruned_names, pruned_here, pruned, pruned_all}
+use Rattle.ab_naming.specs.ab_solve.specs.Solving.{begun, unchanged, put_in, joined_at}
+use Rattle.ab_naming.specs.ab_solve.proofs.Agreeing.{holds_front, holds_behind, holds_itself, contains_holds}
+use Rattle.ab_naming.specs.ab_solve.proofs.Avoiding.{AreNames}
+use Rattle.ab_naming.specs.ab_solve.proofs.Falling.{holds_without}
 use Rattle.ab_equate.proofs.Live.{IsOf, of_more, of_variables, variables_of, applied_of, abstracted_of, pattern_names, Live, live_more, Leads, leads_none, image_live, leads_then, leads_one}
 
 pub kept_names : (keep : List Bool) (hs : List (Head ℕ)) → AreNames hs → AreNames (kept keep hs)

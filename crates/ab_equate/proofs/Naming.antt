@@ -4,9 +4,9 @@ use Rattle.std.proofs.Common.{◌≡◌, ◌≢◌, inl, inr, ℕ, ◌+◌, ◌�
 use Rattle.std.specs.Fmt.{decimal}
 use Rattle.std.proofs.lemmas.Bool.{cases_order}
 use Rattle.std.proofs.lemmas.List.Elements.{All-contains, Contains-append_left, Contains-push}
-use Rattle.ab_logic.specs.Declarations.{Declarations}
-use Rattle.ab_logic.specs.Sequents.{Variable, Sequent, over}
-use Rattle.ab_logic.specs.Names.{IsLeast, IsNoVariable, IsStem, IsDigit, IsFreeName, IsNamedFor}
+use Rattle.ab_naming.specs.ab_logic.specs.Declarations.{Declarations}
+use Rattle.ab_naming.specs.ab_logic.specs.Sequents.{Variable, Sequent, over}
+use Rattle.ab_naming.specs.ab_logic.specs.Names.{IsLeast, IsNoVariable, IsStem, IsDigit, IsFreeName, IsNamedFor}
 use Rattle.ab_equate.specs.Solved.{Named}
 
 least_once : (P : ℕ → Type 0) (n m : ℕ) → IsLeast P n → IsLeast P m → n ≡ m

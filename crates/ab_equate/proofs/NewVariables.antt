@@ -1,15 +1,15 @@
 -- New variables that stand for cells.
 use Rattle.std.specs.List.{All}
 use Rattle.std.proofs.Common.{◌≡◌, ℕ, ◌+◌, List, [], ◌∷◌, ◌++◌, map, length, refl, sym, ◌∙◌, ap, subst, arith, append_assoc, append-nil}
-use Rattle.ab_types.specs.Entries.{Table}
-use Rattle.ab_store.specs.declared.node.Binding.{Binding}
-use Rattle.ab_store.specs.Trees.{Contents}
-use Rattle.ab_store.specs.Reading.{pairs}
-use Rattle.ab_store.specs.Growth.{IsExtendedBy}
-use Rattle.ab_store.specs.Naming.{BindingIsTyped, IsTypedBy}
-use Rattle.ab_store.proofs.Putting.{pair}
-use Rattle.ab_store.proofs.Agreeing.{Agree, Within, same_pairs}
-use Rattle.ab_logic.specs.Sequents.{Variable, Sequent, in_terms, over}
+use Rattle.ab_naming.specs.ab_types.specs.Entries.{Table}
+use Rattle.ab_naming.specs.ab_store.specs.declared.node.Binding.{Binding}
+use Rattle.ab_naming.specs.ab_store.specs.Trees.{Contents}
+use Rattle.ab_naming.specs.ab_store.specs.Reading.{pairs}
+use Rattle.ab_naming.specs.ab_store.specs.Growth.{IsExtendedBy}
+use Rattle.ab_naming.specs.ab_store.specs.Naming.{BindingIsTyped, IsTypedBy}
+use Rattle.ab_naming.specs.ab_store.proofs.Putting.{pair}
+use Rattle.ab_naming.specs.ab_store.proofs.Agreeing.{Agree, Within, same_pairs}
+use Rattle.ab_naming.specs.ab_logic.specs.Sequents.{Variable, Sequent, in_terms, over}
 use Rattle.ab_equate.specs.Solved.{Naming, Named, variable_term, renaming}
 use Rattle.ab_equate.specs.Meanwhile.{over_all}
 use Rattle.std.proofs.lemmas.List.{map-append}

@@ -2,13 +2,13 @@
 use Rattle.std.proofs.Common.{◌≡◌, ◌≢◌, ◌⊎◌, inl, inr, ℕ, zero, suc, ◌+◌, ◌<◌, List, [], ◌∷◌, map, length, codes, refl, sym, ◌∙◌, ap, subst, arith}
 use Rattle.std.specs.Prelude.{All}
 use Rattle.std.proofs.lemmas.List.Elements.{All-nil, All-cons}
-use Rattle.ab_store.specs.Trees.{Read}
-use Rattle.ab_solve.specs.Replacing.{Cell}
-use Rattle.ab_solve.specs.Solving.{Answer, unified, apart, stuck, Solves}
-use Rattle.ab_solve.proofs.Unique.{unique}
-use Rattle.ab_solve.proofs.Ending.{answered}
-use Rattle.ab_logic.specs.Sequents.{Variable, Sequent, in_terms, over}
-use Rattle.ab_logic.specs.Names.{IsNoVariable}
+use Rattle.ab_naming.specs.ab_store.specs.Trees.{Read}
+use Rattle.ab_naming.specs.ab_solve.specs.Replacing.{Cell}
+use Rattle.ab_naming.specs.ab_solve.specs.Solving.{Answer, unified, apart, stuck, Solves}
+use Rattle.ab_naming.specs.ab_solve.proofs.Unique.{unique}
+use Rattle.ab_naming.specs.ab_solve.proofs.Ending.{answered}
+use Rattle.ab_naming.specs.ab_logic.specs.Sequents.{Variable, Sequent, in_terms, over}
+use Rattle.ab_naming.specs.ab_logic.specs.Names.{IsNoVariable}
 use Rattle.ab_equate.specs.Solved.{problem, Naming, Named, made, under, Becomes, AreApart, AreStuck}
 use Rattle.ab_equate.proofs.Places.{stuck_at}
 

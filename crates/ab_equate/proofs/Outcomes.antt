@@ -1,6 +1,6 @@
 -- What is known of an outcome of unification, at each of its answers.
 use Rattle.std.proofs.Common.{◌≡◌, ℕ, List, Result, Ok, IfOk, subst}
-use Rattle.ab_store.specs.declared.node.CellId.{CellId}
+use Rattle.ab_naming.specs.ab_store.specs.declared.node.CellId.{CellId}
 use Rattle.ab_solver.specs.declared.solved.Solved.{Solved}
 use Rattle.ab_solver.specs.declared.solved.Solved.TheVariants.{Unified, Apart, Stuck}
 use Rattle.ab_solver.specs.Answers.{IfUnified, UnlessUnified}

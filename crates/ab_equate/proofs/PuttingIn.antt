@@ -3,22 +3,22 @@ use Rattle.std.specs.List.{All}
 use Rattle.std.specs.Prelude.{filter, is_none}
 use Rattle.std.proofs.Common.{◌≡◌, ℕ, List, [], ◌∷◌, map, Bool, true, false, cond, refl, sym, ◌∙◌, ap, subst}
 use Rattle.std.proofs.lemmas.List.Elements.{All-filter, All-weaker}
-use Rattle.ab_types.specs.Entries.{Table}
-use Rattle.ab_types.specs.Ids.{type_of}
-use Rattle.ab_store.specs.declared.node.TermId.{TermId}
-use Rattle.ab_store.specs.declared.node.CellId.{CellId}
-use Rattle.ab_store.specs.declared.node.CellEntry.{CellEntry}
-use Rattle.ab_store.specs.Trees.{Contents, Holds, HoldsCell, cell_in, tree_of}
-use Rattle.ab_store.specs.Reading.{binding_of, reading}
-use Rattle.ab_norm.specs.Growth.{AddsTerms}
-use Rattle.ab_logic.specs.Sequents.{Hypothesis}
-use Rattle.ab_logic.specs.Worlds.{read, variable_of}
-use Rattle.ab_logic.specs.Readings.{hypothesis_of, HoldsSequent}
-use Rattle.ab_logic.specs.declared.world.World.{World}
-use Rattle.ab_logic.specs.declared.additions.Added.{Added}
-use Rattle.ab_logic.specs.declared.sequent.Sequent.{Sequent as Kept}
-use Rattle.ab_logic.specs.declared.sequent.Hypothesis.{Hypothesis as KeptHypothesis}
-use Rattle.ab_logic.proofs.Growing.{map_same}
+use Rattle.ab_naming.specs.ab_types.specs.Entries.{Table}
+use Rattle.ab_naming.specs.ab_types.specs.Ids.{type_of}
+use Rattle.ab_naming.specs.ab_store.specs.declared.node.TermId.{TermId}
+use Rattle.ab_naming.specs.ab_store.specs.declared.node.CellId.{CellId}
+use Rattle.ab_naming.specs.ab_store.specs.declared.node.CellEntry.{CellEntry}
+use Rattle.ab_naming.specs.ab_store.specs.Trees.{Contents, Holds, HoldsCell, cell_in, tree_of}
+use Rattle.ab_naming.specs.ab_store.specs.Reading.{binding_of, reading}
+use Rattle.ab_solver.specs.ab_norm.specs.Growth.{AddsTerms}
+use Rattle.ab_naming.specs.ab_logic.specs.Sequents.{Hypothesis}
+use Rattle.ab_naming.specs.ab_logic.specs.Worlds.{read, variable_of}
+use Rattle.ab_naming.specs.ab_logic.specs.Readings.{hypothesis_of, HoldsSequent}
+use Rattle.ab_naming.specs.ab_logic.specs.declared.world.World.{World}
+use Rattle.ab_naming.specs.ab_logic.specs.declared.additions.Added.{Added}
+use Rattle.ab_naming.specs.ab_logic.specs.declared.sequent.Sequent.{Sequent as Kept}
+use Rattle.ab_naming.specs.ab_logic.specs.declared.sequent.Hypothesis.{Hypothesis as KeptHypothesis}
+use Rattle.ab_naming.specs.ab_logic.proofs.Growing.{map_same}
 use Rattle.ab_equate.specs.Meanwhile.{is_left, unbound_of, put_in, hypothesis_at, hypothesis_read, IsPutIn}
 
 -- the cells that are left, as variables

@@ -13,10 +13,10 @@ use Rattle.ab_term.specs.Sameness.{same_numbered, same_number}
 use Rattle.ab_term.proofs.Expansions.{expansion_typed}
 use Rattle.ab_term.proofs.Lists.{Contains-none, Contains-cases, Contains-here, Contains-there, AllPairs-none, All-from_contains}
 use Rattle.ab_term.proofs.Same.{same_numbered-Decides}
-use Rattle.ab_store.specs.Trees.{Read}
-use Rattle.ab_solve.specs.Replacing.{Cell}
-use Rattle.ab_logic.specs.Sequents.{Variable, Sequent, in_terms, over}
-use Rattle.ab_logic.specs.Names.{IsNoVariable}
+use Rattle.ab_naming.specs.ab_store.specs.Trees.{Read}
+use Rattle.ab_naming.specs.ab_solve.specs.Replacing.{Cell}
+use Rattle.ab_naming.specs.ab_logic.specs.Sequents.{Variable, Sequent, in_terms, over}
+use Rattle.ab_naming.specs.ab_logic.specs.Names.{IsNoVariable}
 use Rattle.ab_equate.specs.Solved.{Naming, Named, variables_from, variable_term, renaming}
 
 -- the cell behind the first ones is one of the others

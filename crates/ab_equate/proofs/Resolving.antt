@@ -3,14 +3,14 @@ use Rattle.std.specs.List.{All}
 use Rattle.std.proofs.Common.{◌≡◌, ℕ, ◌+◌, ◌<◌, List, [], ◌∷◌, ◌++◌, map, take, length, get_or, sym, ◌∙◌, ap, subst}
 use Rattle.std.proofs.lemmas.List.{map_more, map-append}
 use Rattle.std.proofs.lemmas.List.Elements.{All-push, All-weaker, All-nil}
-use Rattle.ab_types.specs.Entries.{Table}
-use Rattle.ab_store.specs.declared.node.TermId.{TermId}
-use Rattle.ab_store.specs.Trees.{Contents, Holds, tree_of}
-use Rattle.ab_store.specs.Reading.{reading}
-use Rattle.ab_norm.specs.Growth.{AddsTerms}
-use Rattle.ab_norm.proofs.Frame.{adds_none, adds_on}
-use Rattle.ab_logic.specs.declared.sequent.Hypothesis.{Hypothesis}
-use Rattle.ab_logic.proofs.Growing.{map_same}
+use Rattle.ab_naming.specs.ab_types.specs.Entries.{Table}
+use Rattle.ab_naming.specs.ab_store.specs.declared.node.TermId.{TermId}
+use Rattle.ab_naming.specs.ab_store.specs.Trees.{Contents, Holds, tree_of}
+use Rattle.ab_naming.specs.ab_store.specs.Reading.{reading}
+use Rattle.ab_solver.specs.ab_norm.specs.Growth.{AddsTerms}
+use Rattle.ab_solver.specs.ab_norm.proofs.Frame.{adds_none, adds_on}
+use Rattle.ab_naming.specs.ab_logic.specs.declared.sequent.Hypothesis.{Hypothesis}
+use Rattle.ab_naming.specs.ab_logic.proofs.Growing.{map_same}
 use Rattle.ab_equate.specs.Meanwhile.{hypothesis_at, hypothesis_read}
 
 -- the first i of them are made, in order

@@ -2,32 +2,32 @@
 use Rattle.std.specs.List.{All}
 use Rattle.std.proofs.Common.{◌≡◌, ◌<◌, ◌≤◌, List, [], ◌∷◌, ◌++◌, map, length, take, refl, sym, ◌∙◌, ap, subst, arith, append-nil, length-append, take_all}
 use Rattle.std.proofs.lemmas.List.Elements.{All-head, All-tail}
-use Rattle.ab_types.specs.Entries.{Table, a_kind, a_type, a_constant, kinds, constants, IsExtendedBy as IsPartOf}
-use Rattle.ab_types.specs.Ids.{HoldsType, type_of}
-use Rattle.ab_types.proofs.Entries.{kinds-append, constants-append, same_type}
-use Rattle.ab_store.specs.declared.node.TermId.{TermId}
-use Rattle.ab_store.specs.declared.node.CellId.{CellId}
-use Rattle.ab_store.specs.declared.node.CellEntry.{CellEntry}
-use Rattle.ab_store.specs.declared.mark.Mark.{Mark}
-use Rattle.ab_store.specs.declared.node.Node.{Node}
-use Rattle.ab_logic.specs.Sequents.{Sequent}
-use Rattle.ab_store.specs.Trees.{Contents, cell_of}
-use Rattle.ab_store.specs.Marks.{HasMark, KeepsMark}
-use Rattle.ab_store.specs.Naming.{IsTypedBy}
-use Rattle.ab_store.proofs.Agreeing.{Agree, alike}
-use Rattle.ab_store.proofs.Marking.{kept_on}
-use Rattle.ab_unifying.specs.Problem.{cell_read, cells_read}
-use Rattle.ab_unifying.specs.Changed.{Grows}
-use Rattle.ab_unifying.proofs.Growth.{grown_type}
-use Rattle.ab_logic.specs.Declarations.{HaveSentences, HaveDefinitions}
-use Rattle.ab_logic.specs.Worlds.{read, Holds, HoldsCell, variable_of, declared, declared_from, declarations_of, CameInOrder, IsKept, IsWorld}
-use Rattle.ab_logic.specs.Readings.{sequent_of, HoldsSequent}
-use Rattle.ab_logic.specs.Growth as world
-use Rattle.ab_logic.specs.declared.world.World.{World}
-use Rattle.ab_logic.specs.declared.additions.Added.{Added}
-use Rattle.ab_logic.specs.declared.sequent.Sequent.{Sequent as Kept}
-use Rattle.ab_logic.proofs.Declaring.{sentences_declared, definitions_declared}
-use Rattle.ab_logic.proofs.Blocks.{all_kept, declared_more, order_more}
+use Rattle.ab_naming.specs.ab_types.specs.Entries.{Table, a_kind, a_type, a_constant, kinds, constants, IsExtendedBy as IsPartOf}
+use Rattle.ab_naming.specs.ab_types.specs.Ids.{HoldsType, type_of}
+use Rattle.ab_naming.specs.ab_types.proofs.Entries.{kinds-append, constants-append, same_type}
+use Rattle.ab_naming.specs.ab_store.specs.declared.node.TermId.{TermId}
+use Rattle.ab_naming.specs.ab_store.specs.declared.node.CellId.{CellId}
+use Rattle.ab_naming.specs.ab_store.specs.declared.node.CellEntry.{CellEntry}
+use Rattle.ab_naming.specs.ab_store.specs.declared.mark.Mark.{Mark}
+use Rattle.ab_naming.specs.ab_store.specs.declared.node.Node.{Node}
+use Rattle.ab_naming.specs.ab_logic.specs.Sequents.{Sequent}
+use Rattle.ab_naming.specs.ab_store.specs.Trees.{Contents, cell_of}
+use Rattle.ab_naming.specs.ab_store.specs.Marks.{HasMark, KeepsMark}
+use Rattle.ab_naming.specs.ab_store.specs.Naming.{IsTypedBy}
+use Rattle.ab_naming.specs.ab_store.proofs.Agreeing.{Agree, alike}
+use Rattle.ab_naming.specs.ab_store.proofs.Marking.{kept_on}
+use Rattle.ab_solver.specs.ab_unifying.specs.Problem.{cell_read, cells_read}
+use Rattle.ab_solver.specs.ab_unifying.specs.Changed.{Grows}
+use Rattle.ab_solver.specs.ab_unifying.proofs.Growth.{grown_type}
+use Rattle.ab_naming.specs.ab_logic.specs.Declarations.{HaveSentences, HaveDefinitions}
+use Rattle.ab_naming.specs.ab_logic.specs.Worlds.{read, Holds, HoldsCell, variable_of, declared, declared_from, declarations_of, CameInOrder, IsKept, IsWorld}
+use Rattle.ab_naming.specs.ab_logic.specs.Readings.{sequent_of, HoldsSequent}
+use Rattle.ab_naming.specs.ab_logic.specs.Growth as world
+use Rattle.ab_naming.specs.ab_logic.specs.declared.world.World.{World}
+use Rattle.ab_naming.specs.ab_logic.specs.declared.additions.Added.{Added}
+use Rattle.ab_naming.specs.ab_logic.specs.declared.sequent.Sequent.{Sequent as Kept}
+use Rattle.ab_naming.specs.ab_logic.proofs.Declaring.{sentences_declared, definitions_declared}
+use Rattle.ab_naming.specs.ab_logic.proofs.Blocks.{all_kept, declared_more, order_more}
 use Rattle.ab_equate.specs.Meanwhile.{IsMeanwhile, ComesBack}
 use Rattle.ab_equate.proofs.Going.{same_by, held_by, world_meanwhile}
 

@@ -10,9 +10,9 @@ use Rattle.ab_term.specs.Terms.{Head, constant, logical, nominal, variable, inde
 use Rattle.ab_term.specs.Typing.{Signature, HasType, typed_spine, take_none, take_term}
 use Rattle.ab_term.specs.Variables.{variables}
 use Rattle.ab_term.proofs.Lists.{All-from_contains}
-use Rattle.ab_store.specs.Trees.{Read}
-use Rattle.ab_logic.specs.Forms.{form_alone, form_with, form_between, form_headed, equal_in, as_equal}
-use Rattle.ab_logic.specs.Sequents.{Variable, in_terms, HoldsOnly}
+use Rattle.ab_naming.specs.ab_store.specs.Trees.{Read}
+use Rattle.ab_naming.specs.ab_logic.specs.Forms.{form_alone, form_with, form_between, form_headed, equal_in, as_equal}
+use Rattle.ab_naming.specs.ab_logic.specs.Sequents.{Variable, in_terms, HoldsOnly}
 
 -- terms of one type over these variables
 pub record AreSides (sg : Signature) (xs : List Variable) (p : Read × Read) : Type 0 where

@@ -2,13 +2,13 @@
 use Rattle.std.proofs.Common.{◌≡◌, ◌⊎◌, inl, inr, ℕ, List, [], ◌∷◌, ◌++◌, map, length, codes, refl, sym, ◌∙◌, ap, subst, append_assoc, append-nil}
 use Rattle.std.specs.Prelude.{All}
 use Rattle.std.proofs.lemmas.List.Elements.{All-nil, All-cons, All-head, All-tail, All-weaker}
-use Rattle.ab_solve.specs.Replacing.{Cell}
-use Rattle.ab_solve.specs.Solving.{Answer, unified, apart, stuck, Solves}
-use Rattle.ab_solve.proofs.Unique.{unique}
-use Rattle.ab_solve.proofs.Ending.{answered}
-use Rattle.ab_logic.specs.Declarations.{Declarations}
-use Rattle.ab_logic.specs.Sequents.{Sequent, IsSequent}
-use Rattle.ab_logic.specs.Names.{IsNoVariable}
+use Rattle.ab_naming.specs.ab_solve.specs.Replacing.{Cell}
+use Rattle.ab_naming.specs.ab_solve.specs.Solving.{Answer, unified, apart, stuck, Solves}
+use Rattle.ab_naming.specs.ab_solve.proofs.Unique.{unique}
+use Rattle.ab_naming.specs.ab_solve.proofs.Ending.{answered}
+use Rattle.ab_naming.specs.ab_logic.specs.Declarations.{Declarations}
+use Rattle.ab_naming.specs.ab_logic.specs.Sequents.{Sequent, IsSequent}
+use Rattle.ab_naming.specs.ab_logic.specs.Names.{IsNoVariable}
 use Rattle.ab_equate.specs.Solved.{Naming, Named, made, under}
 use Rattle.ab_equate.specs.Cases.{Case, problem_of, cell_for, IsCase, Arises, NeverArises, IsOpen, CaseOver, IsCaseOver, Split, done, never, arises, IsUnsplit, here, past_never, past_goal}
 use Rattle.ab_equate.proofs.Carried.{arising_is_sequent}

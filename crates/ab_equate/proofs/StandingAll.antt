@@ -4,20 +4,20 @@ use Rattle.std.specs.Prelude.{AllPairs}
 use Rattle.std.proofs.Common.{◌≡◌, ◌≢◌, ℕ, zero, suc, ◌+◌, ◌≤◌, ◌<◌, List, [], ◌∷◌, ◌++◌, map, length, take, get_or, refl, sym, ◌∙◌, ap, subst, arith, append_assoc, append-nil, length-take-le}
 use Rattle.std.proofs.lemmas.List.{map_more, length-map, get_or-take}
 use Rattle.std.proofs.lemmas.List.Elements.{All-map, All-contains, Contains-push}
-use Rattle.ab_store.proofs.Fronts.{All-front, front_push}
-use Rattle.ab_types.specs.Entries.{Table}
-use Rattle.ab_store.specs.declared.node.CellId.{CellId}
-use Rattle.ab_store.specs.declared.node.CellEntry.{CellEntry}
-use Rattle.ab_store.specs.Reading.{bound_in as first_bound, pairs}
-use Rattle.ab_store.specs.Growth.{IsExtendedBy}
-use Rattle.ab_store.specs.Bindings.{IsUnbound}
-use Rattle.ab_unifying.specs.Problem.{cell_read, cells_read}
-use Rattle.ab_logic.specs.Sequents.{Variable, in_terms, over}
-use Rattle.ab_logic.specs.Worlds.{HoldsCell, variable_of, declarations_of}
-use Rattle.ab_logic.specs.Readings.{sequent_of, HoldsSequent}
-use Rattle.ab_logic.specs.Names.{IsNamedFor}
-use Rattle.ab_logic.specs.declared.world.World.{World}
-use Rattle.ab_logic.specs.declared.sequent.Sequent.{Sequent as Kept}
+use Rattle.ab_naming.specs.ab_store.proofs.Fronts.{All-front, front_push}
+use Rattle.ab_naming.specs.ab_types.specs.Entries.{Table}
+use Rattle.ab_naming.specs.ab_store.specs.declared.node.CellId.{CellId}
+use Rattle.ab_naming.specs.ab_store.specs.declared.node.CellEntry.{CellEntry}
+use Rattle.ab_naming.specs.ab_store.specs.Reading.{bound_in as first_bound, pairs}
+use Rattle.ab_naming.specs.ab_store.specs.Growth.{IsExtendedBy}
+use Rattle.ab_naming.specs.ab_store.specs.Bindings.{IsUnbound}
+use Rattle.ab_solver.specs.ab_unifying.specs.Problem.{cell_read, cells_read}
+use Rattle.ab_naming.specs.ab_logic.specs.Sequents.{Variable, in_terms, over}
+use Rattle.ab_naming.specs.ab_logic.specs.Worlds.{HoldsCell, variable_of, declarations_of}
+use Rattle.ab_naming.specs.ab_logic.specs.Readings.{sequent_of, HoldsSequent}
+use Rattle.ab_naming.specs.ab_logic.specs.Names.{IsNamedFor}
+use Rattle.ab_naming.specs.ab_logic.specs.declared.world.World.{World}
+use Rattle.ab_naming.specs.ab_logic.specs.declared.sequent.Sequent.{Sequent as Kept}
 use Rattle.ab_equate.specs.Solved.{variable_term, renaming}
 use Rattle.ab_equate.specs.Cases.{cell_for}
 use Rattle.ab_equate.specs.Meanwhile.{IsMeanwhile, GoesOn, bound_in, over_all, StandsFor, StandForAll}

@@ -6,23 +6,23 @@ use Rattle.ab_term.specs.Terms.{variable, no_terms}
 use Rattle.ab_term.specs.Variables.{variables}
 use Rattle.ab_term.proofs.Lists.{Contains-none, Contains-cases, All-from_contains}
 use Rattle.ab_term.proofs.Stands.{variables-expansion_of}
-use Rattle.ab_types.specs.Ids.{type_of}
-use Rattle.ab_store.specs.declared.node.TermId.{TermId}
-use Rattle.ab_store.specs.declared.node.CellId.{CellId}
-use Rattle.ab_store.specs.declared.node.Binding.{Binding}
-use Rattle.ab_store.specs.Trees.{Contents, HoldsCell, cell_in, cell_of, tree_of}
-use Rattle.ab_store.specs.Reading.{bound_in as first_bound, pairs}
-use Rattle.ab_store.specs.Bindings.{cells_of, StandsIn, IsUnbound, IsResolved}
-use Rattle.ab_store.specs.Growth.{IsExtendedBy}
-use Rattle.ab_store.specs.Naming.{IsTypedBy, IsTerm}
-use Rattle.ab_store.proofs.Cells.{numbered}
-use Rattle.ab_store.proofs.Rebinding.{bound_others}
-use Rattle.ab_logic.specs.Sequents.{Variable, in_terms, over}
-use Rattle.ab_logic.specs.Worlds.{variable_of, declarations_of}
-use Rattle.ab_logic.specs.Readings.{sequent_of, HoldsSequent}
-use Rattle.ab_logic.specs.Names.{IsNamedFor}
-use Rattle.ab_logic.specs.declared.world.World.{World}
-use Rattle.ab_logic.specs.declared.sequent.Sequent.{Sequent as Kept}
+use Rattle.ab_naming.specs.ab_types.specs.Ids.{type_of}
+use Rattle.ab_naming.specs.ab_store.specs.declared.node.TermId.{TermId}
+use Rattle.ab_naming.specs.ab_store.specs.declared.node.CellId.{CellId}
+use Rattle.ab_naming.specs.ab_store.specs.declared.node.Binding.{Binding}
+use Rattle.ab_naming.specs.ab_store.specs.Trees.{Contents, HoldsCell, cell_in, cell_of, tree_of}
+use Rattle.ab_naming.specs.ab_store.specs.Reading.{bound_in as first_bound, pairs}
+use Rattle.ab_naming.specs.ab_store.specs.Bindings.{cells_of, StandsIn, IsUnbound, IsResolved}
+use Rattle.ab_naming.specs.ab_store.specs.Growth.{IsExtendedBy}
+use Rattle.ab_naming.specs.ab_store.specs.Naming.{IsTypedBy, IsTerm}
+use Rattle.ab_naming.specs.ab_store.proofs.Cells.{numbered}
+use Rattle.ab_naming.specs.ab_store.proofs.Rebinding.{bound_others}
+use Rattle.ab_naming.specs.ab_logic.specs.Sequents.{Variable, in_terms, over}
+use Rattle.ab_naming.specs.ab_logic.specs.Worlds.{variable_of, declarations_of}
+use Rattle.ab_naming.specs.ab_logic.specs.Readings.{sequent_of, HoldsSequent}
+use Rattle.ab_naming.specs.ab_logic.specs.Names.{IsNamedFor}
+use Rattle.ab_naming.specs.ab_logic.specs.declared.world.World.{World}
+use Rattle.ab_naming.specs.ab_logic.specs.declared.sequent.Sequent.{Sequent as Kept}
 use Rattle.ab_equate.specs.Solved.{variable_term}
 use Rattle.ab_equate.specs.Meanwhile.{GoesOn, bound_in, StandsFor}
 use Rattle.ab_equate.proofs.Going.{variable_same, same_goal}

@@ -3,12 +3,12 @@
 use Rattle.std.specs.Prelude.{◌≡◌, ◌≢◌, ℕ, List, [], ◌∷◌, ◌++◌, map, length, All, AllPairs, Contains, codes}
 use Rattle.ab_term.specs.Terms as tree
 use Rattle.ab_term.specs.Variables.{Substitution}
-use Rattle.ab_solve.specs.Replacing.{Cell}
-use Rattle.ab_solve.specs.Solving.{Equation, State, unified, apart, stuck, Solves}
-use Rattle.ab_solve.specs.Meaning.{given, sides, AreTyped}
-use Rattle.ab_logic.specs.Formulas.{IsFormula, HasOneTypeEach}
-use Rattle.ab_logic.specs.Declarations.{Declarations, signature_in}
-use Rattle.ab_logic.specs.Sequents.{Variable, Hypothesis, Sequent, formulas_of, goal_names, in_terms, HoldsOnly}
+use Rattle.ab_naming.specs.ab_solve.specs.Replacing.{Cell}
+use Rattle.ab_naming.specs.ab_solve.specs.Solving.{Equation, State, unified, apart, stuck, Solves}
+use Rattle.ab_naming.specs.ab_solve.specs.Meaning.{given, sides, AreTyped}
+use Rattle.ab_naming.specs.ab_logic.specs.Formulas.{IsFormula, HasOneTypeEach}
+use Rattle.ab_naming.specs.ab_logic.specs.Declarations.{Declarations, signature_in}
+use Rattle.ab_naming.specs.ab_logic.specs.Sequents.{Variable, Hypothesis, Sequent, formulas_of, goal_names, in_terms, HoldsOnly}
 use Rattle.ab_equate.specs.Solved.{AreCells, Naming, Named, variables_from, made, under}
 
 pub record Case : Type 0 where

@@ -3,3 +3,11 @@
 pub mod Solved
 pub mod Cases
 pub mod Meanwhile
+-- Libraries that the crates above name through this one.
+pub use Rattle.ab_naming.specs.ab_solve
+pub use Rattle.ab_naming.specs.ab_cases
+pub use Rattle.ab_naming.specs.ab_store
+pub use Rattle.ab_naming.specs.ab_logic
+pub use Rattle.ab_solver.specs.ab_unifying
+pub use Rattle.ab_naming
+pub use Rattle.ab_solver

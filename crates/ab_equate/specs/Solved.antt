@@ -6,11 +6,11 @@ use Rattle.ab_term.specs.Terms.{variable}
 use Rattle.ab_term.specs.Expansion.{expansion}
 use Rattle.ab_term.specs.Variables.{Substitution, image}
 use Rattle.ab_term.specs.Sameness.{same_number}
-use Rattle.ab_store.specs.Trees.{Read}
-use Rattle.ab_solve.specs.Replacing.{Cell, holds}
-use Rattle.ab_solve.specs.Solving.{State, unified, apart, stuck, Solves}
-use Rattle.ab_solve.specs.Meaning.{given, keys}
-use Rattle.ab_logic.specs.Sequents.{Variable, Hypothesis, Sequent, in_terms, over}
+use Rattle.ab_naming.specs.ab_store.specs.Trees.{Read}
+use Rattle.ab_naming.specs.ab_solve.specs.Replacing.{Cell, holds}
+use Rattle.ab_naming.specs.ab_solve.specs.Solving.{State, unified, apart, stuck, Solves}
+use Rattle.ab_naming.specs.ab_solve.specs.Meaning.{given, keys}
+use Rattle.ab_naming.specs.ab_logic.specs.Sequents.{Variable, Hypothesis, Sequent, in_terms, over}
 
 -- All variables that were ever made, each known by its place: the goal's are among them.
 abbrev pub AreCells : List (Cell (List ℕ)) → Sequent → Type 0

@@ -1,17 +1,17 @@
 //! A goal is carried over to where no cell is bound.
 ghost use Rattle.std.specs.Prelude.{◌≡◌, ◌<◌, ◌≤◌, IfOk, All, AllPairs, map};
-ghost use Rattle.ab_store.specs.Trees.{Holds, HoldsCell};
-ghost use Rattle.ab_store.specs.Naming.{IsTypedBy};
-ghost use Rattle.ab_norm.specs.Growth.{AddsTerms};
-ghost use Rattle.ab_logic.specs.Readings.{HoldsSequent};
+ghost use Rattle.ab_naming.specs.ab_store.specs.Trees.{Holds, HoldsCell};
+ghost use Rattle.ab_naming.specs.ab_store.specs.Naming.{IsTypedBy};
+ghost use Rattle.ab_solver.specs.ab_norm.specs.Growth.{AddsTerms};
+ghost use Rattle.ab_naming.specs.ab_logic.specs.Readings.{HoldsSequent};
 ghost use Rattle.ab_equate.specs.Meanwhile.{IsMeanwhile, GoesOn, hypothesis_at, hypothesis_read, IsPutIn, IsCarried};
 
 use crate::cells::unbound;
 use crate::standing::stand_for_all;
-use ab_logic::{Hypotheses, Hypothesis, Sequent, Variables, World};
-use ab_norm::copy_resolved;
-use ab_store::{CellId, Store};
-use ab_types::{Steps, TypeTable};
+use ab_naming::below::logic::{Hypotheses, Hypothesis, Sequent, Variables, World};
+use ab_naming::below::store::{CellId, Store};
+use ab_naming::below::types::{Steps, TypeTable};
+use ab_solver::below::norm::copy_resolved;
 use std::alloc::{AllocError, Global};
 
 /// The hypotheses, with what cells are bound to in their places.

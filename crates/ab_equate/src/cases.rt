@@ -1,25 +1,25 @@
 //! A case of a goal, solved.
 ghost use Rattle.std.specs.Prelude.{◌≡◌, ◌≢◌, ◌<◌, ◌≤◌, ◌++◌, ℕ, IfOk, All, AllPairs, Contains, Ok};
-ghost use Rattle.ab_store.specs.Trees.{HoldsCell};
-ghost use Rattle.ab_unifying.specs.Problem.{cells_read};
-ghost use Rattle.ab_unifying.specs.Changed.{IsFree};
+ghost use Rattle.ab_naming.specs.ab_store.specs.Trees.{HoldsCell};
+ghost use Rattle.ab_solver.specs.ab_unifying.specs.Problem.{cells_read};
+ghost use Rattle.ab_solver.specs.ab_unifying.specs.Changed.{IsFree};
 ghost use Rattle.ab_solver.specs.Answers.{IsTypedPair};
-ghost use Rattle.ab_logic.specs.Formulas.{IsFormula};
-ghost use Rattle.ab_logic.specs.Declarations.{signature_in};
-ghost use Rattle.ab_logic.specs.Sequents.{formulas_of};
-ghost use Rattle.ab_logic.specs.Names.{IsNamedFor};
-ghost use Rattle.ab_logic.specs.Worlds.{declarations_of};
-ghost use Rattle.ab_logic.specs.Readings.{HoldsSequent, sequent_of};
-ghost use Rattle.ab_logic.specs.declared.sequent.Sequent.{Sequent as AGoal};
+ghost use Rattle.ab_naming.specs.ab_logic.specs.Formulas.{IsFormula};
+ghost use Rattle.ab_naming.specs.ab_logic.specs.Declarations.{signature_in};
+ghost use Rattle.ab_naming.specs.ab_logic.specs.Sequents.{formulas_of};
+ghost use Rattle.ab_naming.specs.ab_logic.specs.Names.{IsNamedFor};
+ghost use Rattle.ab_naming.specs.ab_logic.specs.Worlds.{declarations_of};
+ghost use Rattle.ab_naming.specs.ab_logic.specs.Readings.{HoldsSequent, sequent_of};
+ghost use Rattle.ab_naming.specs.ab_logic.specs.declared.sequent.Sequent.{Sequent as AGoal};
 ghost use Rattle.ab_equate.specs.declared.cases.CaseSolution.TheVariants.{Unified, Apart, Stuck};
 ghost use Rattle.ab_equate.specs.Cases.{Arises, NeverArises, IsOpen};
 ghost use Rattle.ab_equate.specs.Meanwhile.{IsMeanwhile, ComesBack, AreFrom, count_before, case_read, GoesOn, IsCarried};
 
 use crate::carrying::carry;
-use ab_logic::{Sequent, World};
+use ab_naming::below::logic::{Sequent, World};
+use ab_naming::below::store::{CellId, Equation};
+use ab_naming::below::types::Steps;
 use ab_solver::{Solved, unify};
-use ab_store::{CellId, Equation};
-use ab_types::Steps;
 use std::alloc::{AllocError, Global};
 
 /// What comes of solving a case of a goal.

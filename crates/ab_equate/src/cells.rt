@@ -1,14 +1,14 @@
 //! Cells of goals.
 ghost use Rattle.std.specs.Prelude.{◌≡◌, IfOk, All};
-ghost use Rattle.ab_store.specs.Trees.{HoldsCell};
-ghost use Rattle.ab_unifying.specs.Problem.{cells_read};
-ghost use Rattle.ab_logic.specs.Readings.{HoldsSequent, sequent_of};
-ghost use Rattle.ab_logic.specs.declared.world.World.{World};
-ghost use Rattle.ab_logic.specs.declared.sequent.Sequent.{Sequent};
+ghost use Rattle.ab_naming.specs.ab_store.specs.Trees.{HoldsCell};
+ghost use Rattle.ab_solver.specs.ab_unifying.specs.Problem.{cells_read};
+ghost use Rattle.ab_naming.specs.ab_logic.specs.Readings.{HoldsSequent, sequent_of};
+ghost use Rattle.ab_naming.specs.ab_logic.specs.declared.world.World.{World};
+ghost use Rattle.ab_naming.specs.ab_logic.specs.declared.sequent.Sequent.{Sequent};
 ghost use Rattle.ab_equate.specs.Solved.{AreCells};
 ghost use Rattle.ab_equate.specs.Meanwhile.{unbound_of};
 
-use ab_store::{CellId, Store};
+use ab_naming::below::store::{CellId, Store};
 use std::alloc::{AllocError, Global};
 
 /// The variables of a goal are cells of its world.

@@ -2,6 +2,7 @@
 //! bound in the end that were before.
 #![tactic(auto)]
 
+pub mod below;
 mod carrying;
 mod cases;
 mod cells;

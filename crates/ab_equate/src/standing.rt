@@ -1,20 +1,20 @@
 //! New variables that stand for cells.
 ghost use Rattle.std.specs.Prelude.{◌≡◌, ◌+◌, ◌<◌, [], ◌∷◌, IfOk, OnOk, All, AllPairs, length, map};
-ghost use Rattle.ab_store.specs.Trees.{HoldsCell, tree_of};
-ghost use Rattle.ab_store.specs.Bindings.{IsUnbound};
-ghost use Rattle.ab_store.specs.Growth.{IsExtendedBy};
-ghost use Rattle.ab_store.specs.Naming.{IsTypedBy, IsTerm};
-ghost use Rattle.ab_logic.specs.Names.{IsNamedFor};
-ghost use Rattle.ab_logic.specs.Worlds.{declarations_of, variable_of};
-ghost use Rattle.ab_logic.specs.Readings.{HoldsSequent, sequent_of};
+ghost use Rattle.ab_naming.specs.ab_store.specs.Trees.{HoldsCell, tree_of};
+ghost use Rattle.ab_naming.specs.ab_store.specs.Bindings.{IsUnbound};
+ghost use Rattle.ab_naming.specs.ab_store.specs.Growth.{IsExtendedBy};
+ghost use Rattle.ab_naming.specs.ab_store.specs.Naming.{IsTypedBy, IsTerm};
+ghost use Rattle.ab_naming.specs.ab_logic.specs.Names.{IsNamedFor};
+ghost use Rattle.ab_naming.specs.ab_logic.specs.Worlds.{declarations_of, variable_of};
+ghost use Rattle.ab_naming.specs.ab_logic.specs.Readings.{HoldsSequent, sequent_of};
 ghost use Rattle.ab_equate.specs.Solved.{variable_term};
 ghost use Rattle.ab_equate.specs.Meanwhile.{IsMeanwhile, GoesOn, StandsFor, StandForAll};
 
-use ab_logic::{Sequent, World};
+use ab_naming::below::logic::{Sequent, World};
+use ab_naming::below::store::{CellId, Head, TermId};
+use ab_naming::below::types::Steps;
 use ab_naming::variable_name;
-use ab_norm::eta;
-use ab_store::{CellId, Head, TermId};
-use ab_types::Steps;
+use ab_solver::below::norm::eta;
 use std::alloc::{AllocError, Global};
 
 /// A new cell, and the same as a term.

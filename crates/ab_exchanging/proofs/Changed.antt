@@ -1,17 +1,17 @@
 -- A hypothesis or the conclusion gives way to a formula that comes of it, step by step.
 use Rattle.std.specs.Prelude.{Result, Ok, Err, IfOk, OnOk, OnErr}
 use Rattle.std.proofs.Common.{◌≡◌, ◌≢◌, ℕ, suc, length, Bool, true, List, [], ◌∷◌, ◌++◌, Option, Some, None, refl, sym, ◌∙◌, ap, subst, append_assoc}
-use Rattle.ab_store.specs.Trees.{Read}
-use Rattle.ab_logic.specs.Names.{given, Names}
-use Rattle.ab_logic.specs.Sequents.{Sequent, formula_of, proving, assuming, without}
-use Rattle.ab_logic.specs.declared.world.World.{World}
-use Rattle.ab_rules.specs.Steps.{initial, cut_formula}
-use Rattle.ab_rules.specs.Terms.{Adds}
-use Rattle.ab_kernel.specs.Derivation.{History, open_goals}
-use Rattle.ab_kernel.specs.Layout.{Held, IsProof}
-use Rattle.ab_kernel.proofs.Later.{still_proof}
-use Rattle.ab_progress.proofs.Following.{follows_same, as_before}
-use Rattle.ab_progress.specs.Progress.{goals_of, IsAt, Took, Follows}
+use Rattle.ab_left.specs.ab_store.specs.Trees.{Read}
+use Rattle.ab_left.specs.ab_logic.specs.Names.{given, Names}
+use Rattle.ab_left.specs.ab_logic.specs.Sequents.{Sequent, formula_of, proving, assuming, without}
+use Rattle.ab_left.specs.ab_logic.specs.declared.world.World.{World}
+use Rattle.ab_left.specs.ab_rules.specs.Steps.{initial, cut_formula}
+use Rattle.ab_left.specs.ab_rules.specs.Terms.{Adds}
+use Rattle.ab_left.specs.ab_kernel.specs.Derivation.{History, open_goals}
+use Rattle.ab_left.specs.ab_kernel.specs.Layout.{Held, IsProof}
+use Rattle.ab_left.specs.ab_kernel.proofs.Later.{still_proof}
+use Rattle.ab_left.specs.ab_progress.proofs.Following.{follows_same, as_before}
+use Rattle.ab_left.specs.ab_progress.specs.Progress.{goals_of, IsAt, Took, Follows}
 use Rattle.ab_left.specs.Progress.{HasAt, MovedTo}
 use Rattle.ab_left.proofs.Hypotheses.{entry, named_stays, named_last, named_still_none, others_last}
 use Rattle.ab_left.proofs.Owned.{without_past}

@@ -1,21 +1,21 @@
 -- What the row of the command says, by how the numbers stand in the goal.
 use Rattle.std.proofs.Common.{◌≡◌, ◌≢◌, inl, inr, ℕ, List, [], ◌∷◌, Option, Some, None, refl, subst}
 use Rattle.ab_term.specs.Names as tree
-use Rattle.ab_types.specs.Entries.{Table}
-use Rattle.ab_types.specs.Ids.{type_of}
-use Rattle.ab_types.specs.declared.ids.TypeId.{TypeId}
-use Rattle.ab_store.specs.Trees.{Read}
+use Rattle.ab_left.specs.ab_types.specs.Entries.{Table}
+use Rattle.ab_left.specs.ab_types.specs.Ids.{type_of}
+use Rattle.ab_left.specs.ab_types.specs.declared.ids.TypeId.{TypeId}
+use Rattle.ab_left.specs.ab_store.specs.Trees.{Read}
 use Rattle.ab_grammar.specs.CommandTrees as told
-use Rattle.ab_logic.specs.Declarations.{Declarations}
-use Rattle.ab_logic.specs.Names.{Label}
-use Rattle.ab_logic.specs.Sequents.{Sequent, formula_of, goal_names, proving, assuming, without}
-use Rattle.ab_permuting.specs.Cycles.{MayCycle, cycle}
-use Rattle.ab_permuting.specs.Standing.{IsCommon}
-use Rattle.ab_permuting.specs.declared.standing.Standing.{Standing}
-use Rattle.ab_permuting.specs.declared.standing.Standing.TheVariants.{Nowhere, At, Mixed}
-use Rattle.ab_effects.specs.Effect.{effect}
-use Rattle.ab_effects.specs.Refusals.{type_clash, no_hypothesis, wrong_shape}
-use Rattle.ab_effects.specs.Row.{Leads, Refuses}
+use Rattle.ab_left.specs.ab_logic.specs.Declarations.{Declarations}
+use Rattle.ab_left.specs.ab_logic.specs.Names.{Label}
+use Rattle.ab_left.specs.ab_logic.specs.Sequents.{Sequent, formula_of, goal_names, proving, assuming, without}
+use Rattle.ab_left.specs.ab_permuting.specs.Cycles.{MayCycle, cycle}
+use Rattle.ab_left.specs.ab_permuting.specs.Standing.{IsCommon}
+use Rattle.ab_left.specs.ab_permuting.specs.declared.standing.Standing.{Standing}
+use Rattle.ab_left.specs.ab_permuting.specs.declared.standing.Standing.TheVariants.{Nowhere, At, Mixed}
+use Rattle.ab_left.specs.ab_effects.specs.Effect.{effect}
+use Rattle.ab_left.specs.ab_effects.specs.Refusals.{type_clash, no_hypothesis, wrong_shape}
+use Rattle.ab_left.specs.ab_effects.specs.Row.{Leads, Refuses}
 
 module _ (types : Table) (D : Declarations) (l : Label) (ns : List ℕ) (s : Sequent) (k : Standing) (common : IsCommon types ns (goal_names s) k) where
   told_so : (j : Standing) → k ≡ j → IsCommon types ns (goal_names s) j

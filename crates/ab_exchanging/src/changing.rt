@@ -1,19 +1,19 @@
 //! A hypothesis or the conclusion of the first goal gives way to a formula that comes of it.
 ghost use Rattle.std.specs.Prelude.{◌≡◌, ◌≢◌, ◌++◌, ◌∷◌, [], List, IfOk, IsTrue};
-ghost use Rattle.ab_store.specs.Trees.{Read};
-ghost use Rattle.ab_logic.specs.Sequents.{Sequent as AGoal, proving, assuming, without};
-ghost use Rattle.ab_logic.specs.Worlds.{IsWorld, Holds, read};
-ghost use Rattle.ab_kernel.specs.Layout.{IsProof};
-ghost use Rattle.ab_progress.specs.Progress.{goals_of, IsAt, Follows};
+ghost use Rattle.ab_left.specs.ab_store.specs.Trees.{Read};
+ghost use Rattle.ab_left.specs.ab_logic.specs.Sequents.{Sequent as AGoal, proving, assuming, without};
+ghost use Rattle.ab_left.specs.ab_logic.specs.Worlds.{IsWorld, Holds, read};
+ghost use Rattle.ab_left.specs.ab_kernel.specs.Layout.{IsProof};
+ghost use Rattle.ab_left.specs.ab_progress.specs.Progress.{goals_of, IsAt, Follows};
 ghost use Rattle.ab_left.specs.Progress.{HasAt};
 
-use ab_kernel::{Proof, Step};
+use ab_left::below::kernel::{Proof, Step};
+use ab_left::below::logic::World;
+use ab_left::below::naming::Label;
+use ab_left::below::progress::{attempt, first_goal};
+use ab_left::below::store::TermId;
+use ab_left::below::types::{Name, Steps};
 use ab_left::{forget, own_name, shift};
-use ab_logic::World;
-use ab_naming::Label;
-use ab_progress::{attempt, first_goal};
-use ab_store::TermId;
-use ab_types::{Name, Steps};
 use std::alloc::{AllocError, Global};
 
 /// The goal splits in two: the formula is to be derived, and then it is a hypothesis of that name, behind the others. It

@@ -1,6 +1,7 @@
 //! The proof command that lets nominal constants change places.
 #![tactic(auto)]
 
+pub mod below;
 mod changing;
 mod permuting;
 mod turning;

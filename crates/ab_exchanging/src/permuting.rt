@@ -2,19 +2,19 @@
 ghost use Rattle.std.specs.Prelude.{◌≡◌, ◌≢◌, [], Some, None, Err, IfOk, OnErr};
 ghost use Rattle.std.specs.Option.{option_copied};
 ghost use Rattle.ab_grammar.specs.CommandTrees as told;
-ghost use Rattle.ab_logic.specs.Names as plain;
-ghost use Rattle.ab_logic.specs.Worlds.{IsWorld};
-ghost use Rattle.ab_kernel.specs.Layout.{history_of, IsProof};
-ghost use Rattle.ab_progress.specs.Applied.{IsApplied, IsRefused};
-ghost use Rattle.ab_progress.specs.Progress.{goals_of, Follows};
-ghost use Rattle.ab_progress.specs.declared.fault.ProofCommandFault.{ProofCommandFault as AFault};
+ghost use Rattle.ab_left.specs.ab_logic.specs.Names as plain;
+ghost use Rattle.ab_left.specs.ab_logic.specs.Worlds.{IsWorld};
+ghost use Rattle.ab_left.specs.ab_kernel.specs.Layout.{history_of, IsProof};
+ghost use Rattle.ab_left.specs.ab_progress.specs.Applied.{IsApplied, IsRefused};
+ghost use Rattle.ab_left.specs.ab_progress.specs.Progress.{goals_of, Follows};
+ghost use Rattle.ab_left.specs.ab_progress.specs.declared.fault.ProofCommandFault.{ProofCommandFault as AFault};
 
 use crate::turning::{turn_conclusion, turn_hypothesis};
-use ab_kernel::Proof;
-use ab_logic::World;
-use ab_permuting::{Standing, common_type};
-use ab_progress::{ProofCommandFault, first_goal};
-use ab_types::{Name, Steps};
+use ab_left::below::kernel::Proof;
+use ab_left::below::logic::World;
+use ab_left::below::permuting::{Standing, common_type};
+use ab_left::below::progress::{ProofCommandFault, first_goal};
+use ab_left::below::types::{Name, Steps};
 use std::alloc::Global;
 
 /// The constants change places in the conclusion.

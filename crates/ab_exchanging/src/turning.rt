@@ -1,22 +1,22 @@
 //! Nominal constants of the first goal change places, step by step.
 ghost use Rattle.std.specs.Prelude.{◌≡◌, ◌≢◌, ◌∷◌, [], List, AllPairs, Ok, IfOk, OnOk, OnErr, true};
 ghost use Rattle.ab_term.specs.Names as tree;
-ghost use Rattle.ab_types.specs.Ids.{HoldsType, type_of};
-ghost use Rattle.ab_logic.specs.Sequents.{Sequent as AGoal, proving, assuming, without};
-ghost use Rattle.ab_logic.specs.Worlds.{IsWorld, Holds, read};
-ghost use Rattle.ab_permuting.specs.Cycles.{cycle};
-ghost use Rattle.ab_rules.specs.Terms.{Adds};
-ghost use Rattle.ab_kernel.specs.Layout.{history_of, IsProof};
-ghost use Rattle.ab_progress.specs.Progress.{goals_of, Follows};
+ghost use Rattle.ab_left.specs.ab_types.specs.Ids.{HoldsType, type_of};
+ghost use Rattle.ab_left.specs.ab_logic.specs.Sequents.{Sequent as AGoal, proving, assuming, without};
+ghost use Rattle.ab_left.specs.ab_logic.specs.Worlds.{IsWorld, Holds, read};
+ghost use Rattle.ab_left.specs.ab_permuting.specs.Cycles.{cycle};
+ghost use Rattle.ab_left.specs.ab_rules.specs.Terms.{Adds};
+ghost use Rattle.ab_left.specs.ab_kernel.specs.Layout.{history_of, IsProof};
+ghost use Rattle.ab_left.specs.ab_progress.specs.Progress.{goals_of, Follows};
 ghost use Rattle.ab_left.specs.Progress.{HasAt};
 
 use crate::changing::{change_conclusion, change_hypothesis};
-use ab_kernel::Proof;
-use ab_logic::World;
-use ab_permuting::cycle;
-use ab_progress::take_back;
-use ab_store::TermId;
-use ab_types::{Name, Steps, TypeId};
+use ab_left::below::kernel::Proof;
+use ab_left::below::logic::World;
+use ab_left::below::permuting::cycle;
+use ab_left::below::progress::take_back;
+use ab_left::below::store::TermId;
+use ab_left::below::types::{Name, Steps, TypeId};
 use std::alloc::{AllocError, Global};
 
 /// The formula in which each of the constants of these numbers and the type becomes the next, and the last the first.
@@ -36,7 +36,7 @@ fn permuted(
     ensures reads { IfOk result (λ t. read world.new t ≡ tree.permute (cycle (type_of world.old.types ty) numbers.now) (read world.old formula)) }
 {
     let by = cycle(alloc, ty, numbers)?;
-    ab_norm::permute(alloc, &world.types, &mut world.store, formula, &by)
+    ab_left::below::norm::permute(alloc, &world.types, &mut world.store, formula, &by)
 }
 
 /// What came of steps that were all to be taken: where one wasn't, that is told as want of memory.

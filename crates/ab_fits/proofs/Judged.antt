@@ -4,12 +4,12 @@ use Rattle.ab_term.specs.Types.{Ty, kind, arrow}
 use Rattle.ab_term.specs.Terms.{Head, constant, logical, nominal, variable, index, Term, lam, spine, Terms, no_terms, term, terms_of}
 use Rattle.ab_term.specs.Typing.{Signature, type_at, head_type, HasType, TakeType, typed_lam, typed_spine, take_none, take_term}
 use Rattle.ab_term.specs.Reach.{head_reach, reach, reach_of_all}
-use Rattle.ab_types.specs.Entries.{Table, signature}
-use Rattle.ab_types.specs.Ids.{type_of, seen_type}
-use Rattle.ab_types.specs.declared.ids.KindId.{KindId}
-use Rattle.ab_types.specs.declared.ids.TypeId.{TypeId}
-use Rattle.ab_types.specs.declared.ids.TypeView.{TypeView}
-use Rattle.ab_types.specs.declared.ids.TypeView.TheVariants.{Base}
+use Rattle.ab_store.specs.ab_types.specs.Entries.{Table, signature}
+use Rattle.ab_store.specs.ab_types.specs.Ids.{type_of, seen_type}
+use Rattle.ab_store.specs.ab_types.specs.declared.ids.KindId.{KindId}
+use Rattle.ab_store.specs.ab_types.specs.declared.ids.TypeId.{TypeId}
+use Rattle.ab_store.specs.ab_types.specs.declared.ids.TypeView.{TypeView}
+use Rattle.ab_store.specs.ab_types.specs.declared.ids.TypeView.TheVariants.{Base}
 use Rattle.ab_store.specs.declared.node.TermId.{TermId}
 use Rattle.ab_store.specs.declared.node.Head as kept
 use Rattle.ab_store.specs.declared.node.Node.{Node}

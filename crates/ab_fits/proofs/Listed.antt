@@ -7,8 +7,8 @@ use lib.Dec.{eqb}
 use Rattle.ab_term.specs.Terms.{Variable, terms_of}
 use Rattle.ab_term.specs.Variables.{variables, variables_of_head, variables_of_all}
 use Rattle.ab_term.proofs.Lists.{Contains-none, Contains-here, Contains-there, Contains-cases, Contains-map, Contains-from_map}
-use Rattle.ab_types.specs.Entries.{Table}
-use Rattle.ab_types.specs.declared.ids.TypeId.{TypeId}
+use Rattle.ab_store.specs.ab_types.specs.Entries.{Table}
+use Rattle.ab_store.specs.ab_types.specs.declared.ids.TypeId.{TypeId}
 use Rattle.ab_store.specs.declared.node.TermId.{TermId}
 use Rattle.ab_store.specs.declared.node.CellId.{CellId}
 use Rattle.ab_store.specs.declared.node.Head.{Head}

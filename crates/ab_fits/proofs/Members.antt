@@ -1,8 +1,8 @@
 -- Every table has the constant `member`.
 use Rattle.std.proofs.Common.{◌≡◌, Some, codes, Contains, refl, sym, ap, subst, arith}
 use Rattle.ab_term.specs.Types.{arrow, prop, o, olist}
-use Rattle.ab_types.specs.Entries.{Table, constants, names, signature}
-use Rattle.ab_types.specs.Sound.{IsTable}
+use Rattle.ab_store.specs.ab_types.specs.Entries.{Table, constants, names, signature}
+use Rattle.ab_store.specs.ab_types.specs.Sound.{IsTable}
 
 pub has_member : (types : Table) → IsTable types → Contains (names (constants types)) (codes "member")
 has_member types ok = subst (λ t. Contains (names (constants t)) (codes "member")) (sym ok.begins.1) (2, omega arith, refl)

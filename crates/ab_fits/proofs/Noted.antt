@@ -9,11 +9,11 @@ use Rattle.std.proofs.lemmas.List.Elements.{All-contains, All-weaker, Contains-a
 use Rattle.ab_term.specs.Terms.{Nominal, terms_of}
 use Rattle.ab_term.specs.Names.{support, support_of_head, support_of_all}
 use Rattle.ab_term.proofs.Lists.{Contains-none, Contains-here, Contains-cases, All-from_contains}
-use Rattle.ab_types.specs.Entries.{Table}
-use Rattle.ab_types.specs.Ids.{HoldsType, type_of}
-use Rattle.ab_types.specs.Sound.{IsTable}
-use Rattle.ab_types.specs.declared.ids.TypeId.{TypeId}
-use Rattle.ab_types.proofs.Kept.{one_type}
+use Rattle.ab_store.specs.ab_types.specs.Entries.{Table}
+use Rattle.ab_store.specs.ab_types.specs.Ids.{HoldsType, type_of}
+use Rattle.ab_store.specs.ab_types.specs.Sound.{IsTable}
+use Rattle.ab_store.specs.ab_types.specs.declared.ids.TypeId.{TypeId}
+use Rattle.ab_store.specs.ab_types.proofs.Kept.{one_type}
 use Rattle.ab_store.specs.declared.node.TermId.{TermId}
 use Rattle.ab_store.specs.declared.node.Head.{Head}
 use Rattle.ab_store.specs.declared.node.Node.{Node}

@@ -1,8 +1,8 @@
 -- What cells are read as.
 use Rattle.std.specs.Prelude.{ℕ}
 use Rattle.ab_term.specs.Terms.{Variable}
-use Rattle.ab_types.specs.Entries.{Table}
-use Rattle.ab_types.specs.Ids.{type_of}
+use Rattle.ab_store.specs.ab_types.specs.Entries.{Table}
+use Rattle.ab_store.specs.ab_types.specs.Ids.{type_of}
 use Rattle.ab_store.specs.declared.node.CellId.{CellId}
 use Rattle.ab_store.specs.Trees.{Contents, cell_of}
 

@@ -7,3 +7,6 @@ pub mod Seen
 pub mod Taking
 pub mod Numbers
 pub mod Places
+-- Libraries that the crates above name through this one.
+pub use Rattle.ab_store.specs.ab_types
+pub use Rattle.ab_store

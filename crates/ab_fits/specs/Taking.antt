@@ -3,9 +3,9 @@
 use Rattle.std.specs.Prelude.{◌≡◌, List, [], ◌∷◌, ◌++◌, All}
 use Rattle.ab_term.specs.Types.{Ty, kind, arrow, prop, o, olist}
 use Rattle.ab_term.specs.Typing.{HasType}
-use Rattle.ab_types.specs.Entries.{Table, signature}
-use Rattle.ab_types.specs.Ids.{HoldsType, type_of}
-use Rattle.ab_types.specs.declared.ids.TypeId.{TypeId}
+use Rattle.ab_store.specs.ab_types.specs.Entries.{Table, signature}
+use Rattle.ab_store.specs.ab_types.specs.Ids.{HoldsType, type_of}
+use Rattle.ab_store.specs.ab_types.specs.declared.ids.TypeId.{TypeId}
 use Rattle.ab_store.specs.Trees.{Contents, tree_of}
 use Rattle.ab_store.specs.declared.node.TermId.{TermId}
 use Rattle.ab_fits.specs.declared.built_in.BuiltIn.{BuiltIn}

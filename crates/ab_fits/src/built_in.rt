@@ -2,7 +2,7 @@
 ghost use Rattle.std.specs.Prelude.{IfOk};
 ghost use Rattle.ab_fits.specs.Taking.{AreBuiltIn};
 
-use ab_types::{Name, TypeId, TypeTable, TypeView};
+use ab_store::below::types::{Name, TypeId, TypeTable, TypeView};
 use std::alloc::{AllocError, Global};
 
 /// The ids of `prop`, `o` and `olist`.

@@ -1,7 +1,7 @@
 //! Whether a term may be put into a sequent.
 ghost use Rattle.std.specs.Prelude.{◌↔◌, ◌++◌, map, IfOk, IsTrue, All};
-ghost use Rattle.ab_types.specs.Entries.{signature};
-ghost use Rattle.ab_types.specs.Ids.{HoldsType, type_of};
+ghost use Rattle.ab_store.specs.ab_types.specs.Entries.{signature};
+ghost use Rattle.ab_store.specs.ab_types.specs.Ids.{HoldsType, type_of};
 ghost use Rattle.ab_store.specs.Trees.{Holds, tree_of};
 ghost use Rattle.ab_store.specs.Naming.{IsTypedBy};
 ghost use Rattle.ab_fits.specs.Cells.{variable_of};
@@ -14,8 +14,8 @@ use crate::formulas::is_formula;
 use crate::numbers::have_one_type_beside;
 use crate::typing::has_type;
 use crate::variables::holds_only;
+use ab_store::below::types::{TypeId, TypeTable};
 use ab_store::{CellId, Store, TermId};
-use ab_types::{TypeId, TypeTable};
 use std::alloc::{AllocError, Global};
 
 /// Whether the term holds only the listed variables, and no nominal number stands at two types in it and the terms before

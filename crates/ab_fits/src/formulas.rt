@@ -1,6 +1,6 @@
 //! Whether a term is a formula.
 ghost use Rattle.std.specs.Prelude.{◌≡◌, ◌↔◌, true, List, IfOk, OnOk, IsTrue, All};
-ghost use Rattle.ab_types.specs.Entries.{Table, signature};
+ghost use Rattle.ab_store.specs.ab_types.specs.Entries.{Table, signature};
 ghost use Rattle.ab_store.specs.declared.node.CellEntry.{CellEntry};
 ghost use Rattle.ab_store.specs.Trees.{Holds, tree_of, logical_of, head_in};
 ghost use Rattle.ab_store.specs.Naming.{IsTypedBy};
@@ -10,8 +10,8 @@ ghost use Rattle.ab_fits.specs.Places.{place_of};
 use crate::built_in::built_in;
 use crate::seen::{is_seen, see};
 use crate::typing::has_type;
+use ab_store::below::types::TypeTable;
 use ab_store::{Head, Logical, Node, Store, TermId};
-use ab_types::TypeTable;
 use std::alloc::{AllocError, Global};
 use std::collections::BTreeSet;
 

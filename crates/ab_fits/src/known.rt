@@ -3,7 +3,7 @@ ghost use Rattle.std.specs.Prelude.{◌≡◌, true, Contains, OnOk};
 ghost use Rattle.ab_fits.specs.Seen.{GainsOnly};
 
 use ab_store::TermId;
-use ab_types::TypeId;
+use ab_store::below::types::TypeId;
 use std::alloc::AllocError;
 use std::collections::BTreeSet;
 

@@ -1,6 +1,7 @@
 //! Whether a term is of a type, is a formula, or may be put into a sequent: decided on ids.
 #![tactic(auto)]
 
+pub mod below;
 mod built_in;
 mod fitting;
 mod formulas;

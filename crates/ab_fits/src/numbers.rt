@@ -2,16 +2,16 @@
 ghost use Rattle.std.specs.Prelude.{◌≡◌, ◌↔◌, [], ◌∷◌, ◌++◌, map, IfOk, OnOk, IsTrue, All};
 ghost use Rattle.ab_term.specs.Terms as tree;
 ghost use Rattle.ab_term.specs.Names.{support, support_of_head};
-ghost use Rattle.ab_types.specs.Entries.{Table};
-ghost use Rattle.ab_types.specs.Ids.{HoldsType, type_of};
+ghost use Rattle.ab_store.specs.ab_types.specs.Entries.{Table};
+ghost use Rattle.ab_store.specs.ab_types.specs.Ids.{HoldsType, type_of};
 ghost use Rattle.ab_store.specs.Trees.{Contents, Holds, tree_of, head_reading};
 ghost use Rattle.ab_store.specs.Naming.{HeadIsTyped, IsTypedBy};
 ghost use Rattle.ab_fits.specs.Fitting.{HasOneTypeEach, names_of};
 ghost use Rattle.ab_fits.specs.Numbers.{Knows, AreKnown, Notes};
 
 use crate::seen::{is_seen, see};
+use ab_store::below::types::{TypeId, TypeTable};
 use ab_store::{Head, Node, Store, TermId};
-use ab_types::{TypeId, TypeTable};
 use std::alloc::{AllocError, Global};
 use std::collections::{BTreeMap, BTreeSet};
 

@@ -2,15 +2,15 @@
 ghost use Rattle.std.specs.Prelude.{◌≡◌, ◌↔◌, true, MatchOption, IfSome};
 ghost use Rattle.ab_term.specs.Logical.{logical_type};
 ghost use Rattle.ab_term.specs.Types.{arrow};
-ghost use Rattle.ab_types.specs.Entries.{Table};
-ghost use Rattle.ab_types.specs.Ids.{HoldsType, type_of};
+ghost use Rattle.ab_store.specs.ab_types.specs.Entries.{Table};
+ghost use Rattle.ab_store.specs.ab_types.specs.Ids.{HoldsType, type_of};
 ghost use Rattle.ab_store.specs.Trees.{logical_of};
 ghost use Rattle.ab_store.specs.Naming.{LogicalIsTyped};
 ghost use Rattle.ab_fits.specs.Taking.{AreBuiltIn, IsKind, wanted_type, HoldsWanted, rest_type, HoldsRest};
 
 use crate::built_in::BuiltIn;
 use ab_store::Logical;
-use ab_types::{TypeId, TypeTable, TypeView};
+use ab_store::below::types::{TypeId, TypeTable, TypeView};
 
 /// The type of an argument. The type of functions from one type to another need not be in the table.
 #[derive(Clone, Copy)]

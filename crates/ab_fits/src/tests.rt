@@ -5,8 +5,8 @@ ghost use Rattle.ab_store.specs.Naming.{HoldsHead, HeadIsTyped, LogicalIsTyped, 
 
 use crate::built_in::built_in;
 use crate::{fits, has_type, have_one_type_each, holds_only, is_formula};
+use ab_store::below::types::{Name, TypeTable};
 use ab_store::{Head, Logical, Store, TermId};
-use ab_types::{Name, TypeTable};
 use std::alloc::{AllocError, Global};
 
 /// The head, given nothing.

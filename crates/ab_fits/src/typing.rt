@@ -3,8 +3,8 @@ ghost use Rattle.std.specs.Prelude.{◌≡◌, ◌↔◌, ℕ, ◌<◌, [], true
 ghost use Rattle.ab_term.specs.Types.{arrow};
 ghost use Rattle.ab_term.specs.Terms.{terms_of};
 ghost use Rattle.ab_term.specs.Typing.{HasType, TakeType, head_type, type_at};
-ghost use Rattle.ab_types.specs.Entries.{Table, signature};
-ghost use Rattle.ab_types.specs.Ids.{HoldsType, type_of};
+ghost use Rattle.ab_store.specs.ab_types.specs.Entries.{Table, signature};
+ghost use Rattle.ab_store.specs.ab_types.specs.Ids.{HoldsType, type_of};
 ghost use Rattle.ab_store.specs.Trees.{Holds, tree_of, head_reading};
 ghost use Rattle.ab_store.specs.Naming.{HoldsHead, HeadIsTyped, IsTypedBy};
 ghost use Rattle.ab_fits.specs.Taking.{AreBuiltIn, IsKind, wanted_type, HoldsWanted, rest_type, HoldsRest, context, AreTyped};
@@ -12,8 +12,8 @@ ghost use Rattle.ab_fits.specs.Taking.{AreBuiltIn, IsKind, wanted_type, HoldsWan
 use crate::built_in::{BuiltIn, built_in};
 use crate::known::{Typed, is_known, know};
 use crate::taking::{Rest, Wanted, ends_at, next, taken_by};
+use ab_store::below::types::{TypeId, TypeTable, TypeView};
 use ab_store::{Head, Node, Store, TermId};
-use ab_types::{TypeId, TypeTable, TypeView};
 use std::alloc::{AllocError, Global};
 use std::collections::BTreeSet;
 

@@ -1,7 +1,7 @@
 //! Which variables stand in a term.
 ghost use Rattle.std.specs.Prelude.{◌≡◌, ◌↔◌, true, map, IfOk, OnOk, IsTrue, All, Contains};
 ghost use Rattle.ab_term.specs.Variables.{variables_of_head};
-ghost use Rattle.ab_types.specs.Entries.{Table};
+ghost use Rattle.ab_store.specs.ab_types.specs.Entries.{Table};
 ghost use Rattle.ab_store.specs.Trees.{Contents, Holds, tree_of, head_reading};
 ghost use Rattle.ab_fits.specs.Cells.{variable_of};
 ghost use Rattle.ab_fits.specs.Fitting.{HoldsOnly};

@@ -5,17 +5,17 @@ use Rattle.std.proofs.lemmas.List.{map-append, append_assoc, take_more}
 use Rattle.std.proofs.lemmas.List.Elements.{All-append, Contains-append_left, Contains-append_right, Contains-append_cases}
 use Rattle.ab_term.specs.Terms as tree
 use Rattle.ab_term.specs.Names.{support}
-use Rattle.ab_norm.specs.Nominals.{nominal_of, HoldsNominal}
-use Rattle.ab_norm.specs.declared.nominal.Nominal.{Nominal}
-use Rattle.ab_store.specs.Trees.{Read}
-use Rattle.ab_resolving.specs.Scoping.{HoldsCells}
-use Rattle.ab_logic.specs.Readings.{hypothesis_of, sequent_of, HoldsSequent}
-use Rattle.ab_logic.specs.Sequents.{goal_names, names_of}
-use Rattle.ab_logic.specs.Worlds.{read, IsWorld}
-use Rattle.ab_logic.specs.declared.world.World.{World}
-use Rattle.ab_logic.specs.declared.sequent.Sequent.{Sequent}
-use Rattle.ab_logic.specs.declared.sequent.Hypothesis.{Hypothesis}
-use Rattle.ab_rules.proofs.Chosen.{names_in, names_more}
+use Rattle.ab_taking.specs.ab_norm.specs.Nominals.{nominal_of, HoldsNominal}
+use Rattle.ab_taking.specs.ab_norm.specs.declared.nominal.Nominal.{Nominal}
+use Rattle.ab_taking.specs.ab_store.specs.Trees.{Read}
+use Rattle.ab_declare.specs.ab_resolving.specs.Scoping.{HoldsCells}
+use Rattle.ab_taking.specs.ab_logic.specs.Readings.{hypothesis_of, sequent_of, HoldsSequent}
+use Rattle.ab_taking.specs.ab_logic.specs.Sequents.{goal_names, names_of}
+use Rattle.ab_taking.specs.ab_logic.specs.Worlds.{read, IsWorld}
+use Rattle.ab_taking.specs.ab_logic.specs.declared.world.World.{World}
+use Rattle.ab_taking.specs.ab_logic.specs.declared.sequent.Sequent.{Sequent}
+use Rattle.ab_taking.specs.ab_logic.specs.declared.sequent.Hypothesis.{Hypothesis}
+use Rattle.ab_progress.specs.ab_rules.proofs.Chosen.{names_in, names_more}
 use Rattle.ab_taking.specs.Readings.{given_of}
 use Rattle.ab_taking.specs.declared.given.GivenTerm.{GivenTerm}
 use Rattle.ab_giving.specs.Giving.{values_of, values_in}

@@ -6,19 +6,19 @@ use Rattle.std.proofs.lemmas.List.Elements.{All-cons, All-nil, Contains-append_l
 use Rattle.ab_term.specs.Types.{Ty}
 use Rattle.ab_term.specs.Terms.{Nominal}
 use Rattle.ab_term.specs.Names.{support}
-use Rattle.ab_store.specs.Trees.{Read}
+use Rattle.ab_taking.specs.ab_store.specs.Trees.{Read}
 use Rattle.ab_grammar.specs.CommandTrees.{Instance}
-use Rattle.ab_logic.specs.Declarations.{Declarations, signature_in}
-use Rattle.ab_logic.specs.Formulas.{HasOneTypeEach}
-use Rattle.ab_logic.specs.Sequents.{Variable, Hypothesis, Sequent, Fits, formulas, goal_names, names_of, in_terms, assuming}
-use Rattle.ab_logic.specs.Sequents as sequents
-use Rattle.ab_using.specs.Pieces.{Piece, Given, type_named}
-use Rattle.ab_effects.specs.Effect.{reading_each, giving}
-use Rattle.ab_effects.specs.Refusals.{Refusal, unknown, wrong_shape}
-use Rattle.ab_effects.specs.Row.{Row, leads, unless, Leads, Refuses}
-use Rattle.ab_effects.specs.Terms.{MeansIn, entry_of, scope_of, kinds_in}
-use Rattle.ab_effects.specs.Using.{strange, given_twice, scope_with}
-use Rattle.ab_readings.specs.Scopes.{Scope, in_proof}
+use Rattle.ab_taking.specs.ab_logic.specs.Declarations.{Declarations, signature_in}
+use Rattle.ab_taking.specs.ab_logic.specs.Formulas.{HasOneTypeEach}
+use Rattle.ab_taking.specs.ab_logic.specs.Sequents.{Variable, Hypothesis, Sequent, Fits, formulas, goal_names, names_of, in_terms, assuming}
+use Rattle.ab_taking.specs.ab_logic.specs.Sequents as sequents
+use Rattle.ab_taking.specs.ab_using.specs.Pieces.{Piece, Given, type_named}
+use Rattle.ab_progress.specs.ab_effects.specs.Effect.{reading_each, giving}
+use Rattle.ab_progress.specs.ab_effects.specs.Refusals.{Refusal, unknown, wrong_shape}
+use Rattle.ab_progress.specs.ab_effects.specs.Row.{Row, leads, unless, Leads, Refuses}
+use Rattle.ab_progress.specs.ab_effects.specs.Terms.{MeansIn, entry_of, scope_of, kinds_in}
+use Rattle.ab_progress.specs.ab_effects.specs.Using.{strange, given_twice, scope_with}
+use Rattle.ab_progress.specs.ab_readings.specs.Scopes.{Scope, in_proof}
 use Rattle.ab_progress.specs.Applied.{RefusedBy}
 use Rattle.ab_progress.specs.declared.fault.ProofCommandFault.{ProofCommandFault}
 use Rattle.ab_progress.specs.declared.fault.ProofCommandFault.TheVariants.{Unknown, Clash, TypeClash, Untyped, NoHypothesis, WrongShape, Mark, NoMatch, NotPattern, Unresolved, NamesSpent, Memory}

@@ -4,30 +4,30 @@ use Rattle.std.proofs.Common.{refl, sym, ◌∙◌, ap, subst}
 use Rattle.ab_term.specs.Types.{Ty}
 use Rattle.ab_term.specs.Terms.{Nominal}
 use Rattle.ab_term.specs.Typing.{Signature}
-use Rattle.ab_types.specs.Entries.{Table, constants, signature, type_in}
-use Rattle.ab_types.specs.Sound.{IsTable}
-use Rattle.ab_store.specs.declared.node.TermId.{TermId}
-use Rattle.ab_store.specs.declared.node.CellId.{CellId}
-use Rattle.ab_store.specs.Trees.{Contents, tree_of, Holds}
-use Rattle.ab_norm.specs.Nominals.{nominal_of}
+use Rattle.ab_taking.specs.ab_types.specs.Entries.{Table, constants, signature, type_in}
+use Rattle.ab_taking.specs.ab_types.specs.Sound.{IsTable}
+use Rattle.ab_taking.specs.ab_store.specs.declared.node.TermId.{TermId}
+use Rattle.ab_taking.specs.ab_store.specs.declared.node.CellId.{CellId}
+use Rattle.ab_taking.specs.ab_store.specs.Trees.{Contents, tree_of, Holds}
+use Rattle.ab_taking.specs.ab_norm.specs.Nominals.{nominal_of}
 use Rattle.ab_grammar.specs.Tree.{Tree, place_of}
-use Rattle.ab_readings.specs.Names.{Name}
-use Rattle.ab_readings.specs.Scopes.{Entry, Scope, Place, in_proof, resolved}
-use Rattle.ab_readings.specs.Normal.{normal_form}
-use Rattle.ab_building.specs.Elaborated.{IsAnswer}
-use Rattle.ab_building.specs.Outcomes as making
-use Rattle.ab_infer.specs.declared.fault.InferFault.{InferFault}
-use Rattle.ab_infer.specs.declared.fault.InferFault.TheVariants.{Unknown, TypeClash, Untyped, Memory}
-use Rattle.ab_resolving.specs.Scoping.{entries_in}
-use Rattle.ab_elaborate.specs.Scoping as elaborate
-use Rattle.ab_elaborate.specs.declared.scope.Scope as given
-use Rattle.ab_logic.specs.Declarations.{Declarations, signature_in}
-use Rattle.ab_logic.specs.Formulas.{HasOneTypeEach}
-use Rattle.ab_logic.specs.Sequents.{Sequent, goal_names}
-use Rattle.ab_logic.specs.Worlds.{IsWorld, read, variable_of, declarations_of}
-use Rattle.ab_logic.specs.declared.world.World.{World}
-use Rattle.ab_logic.specs.declared.sequent.Sequent.{Sequent as Kept}
-use Rattle.ab_effects.specs.Terms.{kinds_in, entry_of, scope_of, made, Means}
+use Rattle.ab_progress.specs.ab_readings.specs.Names.{Name}
+use Rattle.ab_progress.specs.ab_readings.specs.Scopes.{Entry, Scope, Place, in_proof, resolved}
+use Rattle.ab_progress.specs.ab_readings.specs.Normal.{normal_form}
+use Rattle.ab_meanings.specs.ab_building.specs.Elaborated.{IsAnswer}
+use Rattle.ab_meanings.specs.ab_building.specs.Outcomes as making
+use Rattle.ab_meanings.specs.ab_infer.specs.declared.fault.InferFault.{InferFault}
+use Rattle.ab_meanings.specs.ab_infer.specs.declared.fault.InferFault.TheVariants.{Unknown, TypeClash, Untyped, Memory}
+use Rattle.ab_declare.specs.ab_resolving.specs.Scoping.{entries_in}
+use Rattle.ab_declare.specs.ab_elaborate.specs.Scoping as elaborate
+use Rattle.ab_declare.specs.ab_elaborate.specs.declared.scope.Scope as given
+use Rattle.ab_taking.specs.ab_logic.specs.Declarations.{Declarations, signature_in}
+use Rattle.ab_taking.specs.ab_logic.specs.Formulas.{HasOneTypeEach}
+use Rattle.ab_taking.specs.ab_logic.specs.Sequents.{Sequent, goal_names}
+use Rattle.ab_taking.specs.ab_logic.specs.Worlds.{IsWorld, read, variable_of, declarations_of}
+use Rattle.ab_taking.specs.ab_logic.specs.declared.world.World.{World}
+use Rattle.ab_taking.specs.ab_logic.specs.declared.sequent.Sequent.{Sequent as Kept}
+use Rattle.ab_progress.specs.ab_effects.specs.Terms.{kinds_in, entry_of, scope_of, made, Means}
 use Rattle.ab_meanings.specs.Lists.{HasLists}
 use Rattle.ab_meanings.proofs.Heads.{IsKnown, IsFree, names_known}
 use Rattle.ab_meanings.proofs.Fitting.{made_there, fits}

@@ -5,28 +5,28 @@ use Rattle.std.proofs.lemmas.List.Elements.{All-head}
 use Rattle.ab_term.specs.Types.{Ty, prop}
 use Rattle.ab_grammar.specs.Tree.{Tree, place_of}
 use Rattle.ab_grammar.specs.CommandTrees as told
-use Rattle.ab_store.specs.Trees.{Read}
-use Rattle.ab_unifying.specs.Problem.{cells_read}
-use Rattle.ab_infer.specs.declared.fault.InferFault.{InferFault}
-use Rattle.ab_infer.specs.declared.fault.InferFault.TheVariants as infer
-use Rattle.ab_logic.specs.Declarations.{Declarations, signature_in}
-use Rattle.ab_logic.specs.Formulas.{IsFormula}
-use Rattle.ab_logic.specs.Forms.{as_exists}
-use Rattle.ab_logic.specs.Names.{Label}
-use Rattle.ab_logic.specs.Growth.{Grows}
-use Rattle.ab_logic.specs.Sequents.{Sequent, IsSequent, Fits}
-use Rattle.ab_logic.specs.Worlds.{IsWorld, declarations_of}
-use Rattle.ab_logic.specs.declared.world.World.{World}
-use Rattle.ab_rules.specs.Steps.{exists_right, cut_formula}
-use Rattle.ab_rules.specs.Rules.{NamedRule, Fails}
-use Rattle.ab_kernel.specs.Derivation.{History, open_goals}
-use Rattle.ab_kernel.specs.Layout.{Held, history_of, IsProof}
-use Rattle.ab_kernel.proofs.Later.{same_history, still_proof}
-use Rattle.ab_kernel.proofs.Rooted.{open_are_sequents}
-use Rattle.ab_effects.specs.Effect.{effect, clashing}
-use Rattle.ab_effects.specs.Refusals.{type_clash}
-use Rattle.ab_effects.specs.Row.{Leads}
-use Rattle.ab_effects.specs.Terms.{Means}
+use Rattle.ab_taking.specs.ab_store.specs.Trees.{Read}
+use Rattle.ab_taking.specs.ab_unifying.specs.Problem.{cells_read}
+use Rattle.ab_meanings.specs.ab_infer.specs.declared.fault.InferFault.{InferFault}
+use Rattle.ab_meanings.specs.ab_infer.specs.declared.fault.InferFault.TheVariants as infer
+use Rattle.ab_taking.specs.ab_logic.specs.Declarations.{Declarations, signature_in}
+use Rattle.ab_taking.specs.ab_logic.specs.Formulas.{IsFormula}
+use Rattle.ab_taking.specs.ab_logic.specs.Forms.{as_exists}
+use Rattle.ab_taking.specs.ab_logic.specs.Names.{Label}
+use Rattle.ab_taking.specs.ab_logic.specs.Growth.{Grows}
+use Rattle.ab_taking.specs.ab_logic.specs.Sequents.{Sequent, IsSequent, Fits}
+use Rattle.ab_taking.specs.ab_logic.specs.Worlds.{IsWorld, declarations_of}
+use Rattle.ab_taking.specs.ab_logic.specs.declared.world.World.{World}
+use Rattle.ab_progress.specs.ab_rules.specs.Steps.{exists_right, cut_formula}
+use Rattle.ab_progress.specs.ab_rules.specs.Rules.{NamedRule, Fails}
+use Rattle.ab_progress.specs.ab_kernel.specs.Derivation.{History, open_goals}
+use Rattle.ab_progress.specs.ab_kernel.specs.Layout.{Held, history_of, IsProof}
+use Rattle.ab_progress.specs.ab_kernel.proofs.Later.{same_history, still_proof}
+use Rattle.ab_progress.specs.ab_kernel.proofs.Rooted.{open_are_sequents}
+use Rattle.ab_progress.specs.ab_effects.specs.Effect.{effect, clashing}
+use Rattle.ab_progress.specs.ab_effects.specs.Refusals.{type_clash}
+use Rattle.ab_progress.specs.ab_effects.specs.Row.{Leads}
+use Rattle.ab_progress.specs.ab_effects.specs.Terms.{Means}
 use Rattle.ab_progress.specs.Applied.{IsApplied, RefusedBy}
 use Rattle.ab_progress.specs.Progress.{goals_of, Follows, Took, Holds}
 use Rattle.ab_progress.specs.declared.fault.ProofCommandFault.{ProofCommandFault}

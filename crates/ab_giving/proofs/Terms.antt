@@ -3,37 +3,37 @@ use Rattle.std.specs.Prelude.{◌≡◌, ℕ, ◌<◌, ◌+◌, List, [], ◌∷
 use Rattle.std.proofs.Common.{inl, inr, refl, sym, ◌∙◌, ap, subst}
 use Rattle.std.proofs.lemmas.List.{map-append, map_more, drop_more, take-append-drop}
 use Rattle.std.proofs.lemmas.List.Elements.{All-cons, All-nil, All-append, All-weaker}
-use Rattle.ab_types.specs.Entries as table
-use Rattle.ab_types.specs.Entries.{Table}
-use Rattle.ab_types.specs.declared.ids.TypeId.{TypeId}
-use Rattle.ab_types.specs.Ids.{HoldsType, type_of}
-use Rattle.ab_types.proofs.Entries.{same_type, holds_type}
+use Rattle.ab_taking.specs.ab_types.specs.Entries as table
+use Rattle.ab_taking.specs.ab_types.specs.Entries.{Table}
+use Rattle.ab_taking.specs.ab_types.specs.declared.ids.TypeId.{TypeId}
+use Rattle.ab_taking.specs.ab_types.specs.Ids.{HoldsType, type_of}
+use Rattle.ab_taking.specs.ab_types.proofs.Entries.{same_type, holds_type}
 use Rattle.ab_term.specs.Types.{Ty}
-use Rattle.ab_store.specs.Trees.{Read}
-use Rattle.ab_store.specs.declared.node.TermId.{TermId}
+use Rattle.ab_taking.specs.ab_store.specs.Trees.{Read}
+use Rattle.ab_taking.specs.ab_store.specs.declared.node.TermId.{TermId}
 use Rattle.ab_grammar.specs.CommandTrees.{Instance}
-use Rattle.ab_logic.specs.Declarations.{Declarations}
-use Rattle.ab_logic.specs.Formulas.{HasOneTypeEach}
-use Rattle.ab_logic.specs.Growth.{Grows}
-use Rattle.ab_logic.specs.Readings.{sequent_of, HoldsSequent}
-use Rattle.ab_logic.specs.Sequents.{Sequent, Fits, goal_names, names_of}
-use Rattle.ab_logic.specs.Worlds.{IsWorld, Holds, read, declarations_of}
-use Rattle.ab_logic.specs.declared.world.World.{World}
-use Rattle.ab_logic.specs.declared.sequent.Sequent.{Sequent as Kept}
-use Rattle.ab_logic.proofs.Growing.{grows_not, grows_on, map_same, same_sequent}
-use Rattle.ab_using.specs.Pieces.{Piece, Given, pieces, type_named}
+use Rattle.ab_taking.specs.ab_logic.specs.Declarations.{Declarations}
+use Rattle.ab_taking.specs.ab_logic.specs.Formulas.{HasOneTypeEach}
+use Rattle.ab_taking.specs.ab_logic.specs.Growth.{Grows}
+use Rattle.ab_taking.specs.ab_logic.specs.Readings.{sequent_of, HoldsSequent}
+use Rattle.ab_taking.specs.ab_logic.specs.Sequents.{Sequent, Fits, goal_names, names_of}
+use Rattle.ab_taking.specs.ab_logic.specs.Worlds.{IsWorld, Holds, read, declarations_of}
+use Rattle.ab_taking.specs.ab_logic.specs.declared.world.World.{World}
+use Rattle.ab_taking.specs.ab_logic.specs.declared.sequent.Sequent.{Sequent as Kept}
+use Rattle.ab_taking.specs.ab_logic.proofs.Growing.{grows_not, grows_on, map_same, same_sequent}
+use Rattle.ab_taking.specs.ab_using.specs.Pieces.{Piece, Given, pieces, type_named}
 use Rattle.ab_taking.specs.Readings.{given_of}
 use Rattle.ab_taking.specs.declared.given.GivenTerm.{GivenTerm}
-use Rattle.ab_effects.specs.Effect.{reading_each}
-use Rattle.ab_effects.specs.Row.{leads, Refuses}
+use Rattle.ab_progress.specs.ab_effects.specs.Effect.{reading_each}
+use Rattle.ab_progress.specs.ab_effects.specs.Row.{leads, Refuses}
 use Rattle.ab_progress.specs.Applied.{RefusedBy}
 use Rattle.ab_progress.specs.declared.fault.ProofCommandFault.{ProofCommandFault}
 use Rattle.ab_grammar.specs.Tree.{Tree}
-use Rattle.ab_infer.specs.declared.fault.InferFault.{InferFault}
-use Rattle.ab_infer.specs.declared.fault.InferFault.TheVariants as infer
-use Rattle.ab_effects.specs.Terms.{Means, MeansIn, MeansNothingIn}
-use Rattle.ab_effects.specs.Using.{scope_with}
-use Rattle.ab_effects.specs.Refusals.{Refusal, unknown, type_clash, untyped}
+use Rattle.ab_meanings.specs.ab_infer.specs.declared.fault.InferFault.{InferFault}
+use Rattle.ab_meanings.specs.ab_infer.specs.declared.fault.InferFault.TheVariants as infer
+use Rattle.ab_progress.specs.ab_effects.specs.Terms.{Means, MeansIn, MeansNothingIn}
+use Rattle.ab_progress.specs.ab_effects.specs.Using.{scope_with}
+use Rattle.ab_progress.specs.ab_effects.specs.Refusals.{Refusal, unknown, type_clash, untyped}
 use Rattle.ab_giving.specs.Reading.{IsReadAs, fault_for}
 use Rattle.ab_giving.specs.Giving.{HoldsGiven, values_of, values_in, beside, IsNext, AreRead}
 use Rattle.ab_giving.proofs.Given.{refused_by, scope_beside, values_more, fits_alone, one_beside, read_more, refuses_there}

@@ -3,3 +3,5 @@ pub mod Scoping
 pub mod Reading
 pub mod Cutting
 pub mod Giving
+-- Libraries that the crates above name through this one.
+pub use Rattle.ab_declare.specs.ab_elaborate

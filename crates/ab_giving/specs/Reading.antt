@@ -1,16 +1,16 @@
 -- What is read of an expression in a goal.
 use Rattle.std.specs.Prelude.{Result, Ok, Err}
 use Rattle.ab_term.specs.Types.{Ty}
-use Rattle.ab_store.specs.declared.node.TermId.{TermId}
+use Rattle.ab_taking.specs.ab_store.specs.declared.node.TermId.{TermId}
 use Rattle.ab_grammar.specs.Tree.{Tree}
-use Rattle.ab_infer.specs.declared.fault.InferFault.{InferFault}
-use Rattle.ab_infer.specs.declared.fault.InferFault.TheVariants as infer
-use Rattle.ab_logic.specs.Declarations.{Declarations}
-use Rattle.ab_logic.specs.Sequents.{Sequent, Fits}
-use Rattle.ab_logic.specs.Worlds.{read, Holds}
-use Rattle.ab_logic.specs.declared.world.World.{World}
-use Rattle.ab_effects.specs.Refusals.{unknown, type_clash, untyped}
-use Rattle.ab_effects.specs.Terms.{Means, MeansNothing}
+use Rattle.ab_meanings.specs.ab_infer.specs.declared.fault.InferFault.{InferFault}
+use Rattle.ab_meanings.specs.ab_infer.specs.declared.fault.InferFault.TheVariants as infer
+use Rattle.ab_taking.specs.ab_logic.specs.Declarations.{Declarations}
+use Rattle.ab_taking.specs.ab_logic.specs.Sequents.{Sequent, Fits}
+use Rattle.ab_taking.specs.ab_logic.specs.Worlds.{read, Holds}
+use Rattle.ab_taking.specs.ab_logic.specs.declared.world.World.{World}
+use Rattle.ab_progress.specs.ab_effects.specs.Refusals.{unknown, type_clash, untyped}
+use Rattle.ab_progress.specs.ab_effects.specs.Terms.{Means, MeansNothing}
 use Rattle.ab_progress.specs.declared.fault.ProofCommandFault.{ProofCommandFault}
 use Rattle.ab_progress.specs.declared.fault.ProofCommandFault.TheVariants as command
 

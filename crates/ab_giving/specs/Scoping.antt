@@ -2,13 +2,13 @@
 use Rattle.std.specs.Prelude.{◌≡◌, ◌↔◌, ◌++◌, true, List, map, All, Contains}
 use Rattle.ab_term.specs.Terms as tree
 use Rattle.ab_term.specs.Names.{IsSupport}
-use Rattle.ab_norm.specs.Nominals.{nominal_of, HoldsNominal}
-use Rattle.ab_norm.specs.declared.nominal.Nominal.{Nominal}
-use Rattle.ab_store.specs.Trees.{Read}
-use Rattle.ab_logic.specs.declared.sequent.Sequent.{Sequent}
-use Rattle.ab_logic.specs.declared.world.World.{World}
-use Rattle.ab_elaborate.specs.Scoping.{HoldsScope}
-use Rattle.ab_elaborate.specs.declared.scope.Scope.{Scope}
+use Rattle.ab_taking.specs.ab_norm.specs.Nominals.{nominal_of, HoldsNominal}
+use Rattle.ab_taking.specs.ab_norm.specs.declared.nominal.Nominal.{Nominal}
+use Rattle.ab_taking.specs.ab_store.specs.Trees.{Read}
+use Rattle.ab_taking.specs.ab_logic.specs.declared.sequent.Sequent.{Sequent}
+use Rattle.ab_taking.specs.ab_logic.specs.declared.world.World.{World}
+use Rattle.ab_declare.specs.ab_elaborate.specs.Scoping.{HoldsScope}
+use Rattle.ab_declare.specs.ab_elaborate.specs.declared.scope.Scope.{Scope}
 
 -- the same constants stand in both lists, once or more often
 abbrev pub HaveSame : List tree.Nominal → List tree.Nominal → Type 0

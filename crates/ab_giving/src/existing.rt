@@ -2,20 +2,20 @@
 ghost use Rattle.std.specs.Prelude.{◌≡◌, ◌≢◌, [], Err, IfOk, OnErr};
 ghost use Rattle.ab_grammar.specs.CommandTrees as told;
 ghost use Rattle.ab_syntax.specs.Trees.{tree_of};
-ghost use Rattle.ab_elaborate.specs.Judgements.{HasNoJudgement};
-ghost use Rattle.ab_logic.specs.Names as plain;
-ghost use Rattle.ab_logic.specs.Worlds.{IsWorld};
-ghost use Rattle.ab_kernel.specs.Layout.{history_of, IsProof};
+ghost use Rattle.ab_declare.specs.ab_elaborate.specs.Judgements.{HasNoJudgement};
+ghost use Rattle.ab_taking.specs.ab_logic.specs.Names as plain;
+ghost use Rattle.ab_taking.specs.ab_logic.specs.Worlds.{IsWorld};
+ghost use Rattle.ab_progress.specs.ab_kernel.specs.Layout.{history_of, IsProof};
 ghost use Rattle.ab_progress.specs.Applied.{IsApplied, IsRefused};
 ghost use Rattle.ab_progress.specs.Progress.{goals_of, Follows};
 ghost use Rattle.ab_progress.specs.declared.fault.ProofCommandFault.{ProofCommandFault};
 
 use crate::reading::{fault_for, read_term};
-use ab_kernel::{Proof, Step};
-use ab_logic::{World, as_exists};
+use ab_progress::below::kernel::{Proof, Step};
 use ab_progress::{ProofCommandFault, first_goal, surely};
 use ab_syntax::Parse;
-use ab_types::Steps;
+use ab_taking::below::logic::{World, as_exists};
+use ab_taking::below::types::Steps;
 use std::alloc::Global;
 
 /// The body of the conclusion, an `exists`, with the term for the bound name is to be derived. It is refused, and leaves the

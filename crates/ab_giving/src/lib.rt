@@ -3,6 +3,7 @@
 #![tactic(auto)]
 
 mod asserting;
+pub mod below;
 mod existing;
 mod giving;
 mod reading;

@@ -1,29 +1,28 @@
 //! The expressions of proof commands.
 ghost use Rattle.std.specs.Prelude.{◌≡◌, All};
 ghost use Rattle.ab_term.specs.Types.{prop};
-ghost use Rattle.ab_types.specs.Ids.{HoldsType, type_of};
+ghost use Rattle.ab_taking.specs.ab_types.specs.Ids.{HoldsType, type_of};
 ghost use Rattle.ab_syntax.specs.Trees.{tree_of};
-ghost use Rattle.ab_elaborate.specs.Judgements.{HasNoJudgement};
-ghost use Rattle.ab_logic.specs.Formulas.{HasOneTypeEach};
-ghost use Rattle.ab_logic.specs.Growth.{Grows};
-ghost use Rattle.ab_logic.specs.Readings.{sequent_of, HoldsSequent};
-ghost use Rattle.ab_logic.specs.Sequents.{IsSequent, goal_names};
-ghost use Rattle.ab_logic.specs.Worlds.{IsWorld, declarations_of};
+ghost use Rattle.ab_declare.specs.ab_elaborate.specs.Judgements.{HasNoJudgement};
+ghost use Rattle.ab_taking.specs.ab_logic.specs.Formulas.{HasOneTypeEach};
+ghost use Rattle.ab_taking.specs.ab_logic.specs.Growth.{Grows};
+ghost use Rattle.ab_taking.specs.ab_logic.specs.Readings.{sequent_of, HoldsSequent};
+ghost use Rattle.ab_taking.specs.ab_logic.specs.Sequents.{IsSequent, goal_names};
+ghost use Rattle.ab_taking.specs.ab_logic.specs.Worlds.{IsWorld, declarations_of};
 ghost use Rattle.ab_giving.specs.Giving.{HoldsGiven, values_in, beside};
 ghost use Rattle.ab_giving.specs.Reading as spec;
 ghost use Rattle.ab_giving.specs.Reading.{IsReadAs};
 
 use crate::scoping::scope_of;
+use ab_declare::below::elaborate::elaborate;
 use ab_declare::formula_type;
-use ab_elaborate::elaborate;
-use ab_infer::InferFault;
-use ab_logic::{Sequent, World};
+use ab_meanings::below::infer::InferFault;
 use ab_progress::ProofCommandFault;
-use ab_store::TermId;
 use ab_syntax::Parse;
 use ab_taking::GivenTerm;
-use ab_types::laws::has_unique_ids;
-use ab_types::{Steps, TypeId};
+use ab_taking::below::logic::{Sequent, World};
+use ab_taking::below::store::TermId;
+use ab_taking::below::types::{Steps, TypeId, has_unique_ids};
 use std::alloc::Global;
 
 /// The term that the expression means at the type in the goal, where these terms were given before.

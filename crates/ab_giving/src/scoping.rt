@@ -1,19 +1,19 @@
 //! What an expression may name in a goal.
 ghost use Rattle.std.specs.Prelude.{◌≡◌, ◌++◌, List, map, IfOk, OnOk, All};
 ghost use Rattle.ab_term.specs.Names.{IsSupport};
-ghost use Rattle.ab_norm.specs.Nominals.{nominal_of, HoldsNominal};
-ghost use Rattle.ab_norm.specs.declared.nominal.Nominal.{Nominal as AName};
-ghost use Rattle.ab_logic.specs.Readings.{sequent_of, HoldsSequent};
-ghost use Rattle.ab_logic.specs.Sequents.{goal_names, names_of};
-ghost use Rattle.ab_logic.specs.Worlds.{IsWorld, Holds, read};
+ghost use Rattle.ab_taking.specs.ab_norm.specs.Nominals.{nominal_of, HoldsNominal};
+ghost use Rattle.ab_taking.specs.ab_norm.specs.declared.nominal.Nominal.{Nominal as AName};
+ghost use Rattle.ab_taking.specs.ab_logic.specs.Readings.{sequent_of, HoldsSequent};
+ghost use Rattle.ab_taking.specs.ab_logic.specs.Sequents.{goal_names, names_of};
+ghost use Rattle.ab_taking.specs.ab_logic.specs.Worlds.{IsWorld, Holds, read};
 ghost use Rattle.ab_giving.specs.Giving.{HoldsGiven, values_in};
 ghost use Rattle.ab_giving.specs.Scoping.{HaveSame, IsScopeOf, AddsSupport};
 
-use ab_elaborate::Scope;
-use ab_logic::{Sequent, World};
-use ab_norm::{Nominal, support};
-use ab_store::TermId;
+use ab_declare::below::elaborate::Scope;
 use ab_taking::GivenTerm;
+use ab_taking::below::logic::{Sequent, World};
+use ab_taking::below::norm::{Nominal, support};
+use ab_taking::below::store::TermId;
 use std::alloc::{AllocError, Global};
 
 /// Puts the nominal constants of the formula behind the others.

@@ -8,7 +8,7 @@ use Rattle.ab_term.specs.Terms.{Head, constant, logical, nominal, variable, inde
 use Rattle.ab_term.specs.Translation.{translate_head, translate, translate_all}
 use Rattle.ab_term.specs.Variables.{variables_of_head, variables, variables_of_all}
 use Rattle.ab_term.proofs.Lists.{Contains-none, Contains-here, Contains-there, Contains-cases}
-use Rattle.ab_logic.specs.Sequents.{Variable, in_terms}
+use Rattle.ab_print.specs.ab_logic.specs.Sequents.{Variable, in_terms}
 use Rattle.ab_goals.specs.Goals.{name_in}
 
 module _ {Var Hint New NewHint : Type 0} (f e : Var → New) (g : Hint → NewHint) where

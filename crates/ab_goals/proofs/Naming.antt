@@ -6,10 +6,10 @@ use Rattle.std.proofs.lemmas.List.{map-append}
 use Rattle.ab_term.specs.Terms.{Head, constant, logical, nominal, variable, index, Term, lam, spine, Terms, no_terms, term}
 use Rattle.ab_term.specs.Substitution.{lower_head, lower_index}
 use Rattle.ab_term.specs.Translation.{translate_head, translate, translate_all}
-use Rattle.ab_text.specs.Shapes as shape
-use Rattle.ab_text.specs.Shapes.{Shape, abstraction, Shapes, no_shapes}
-use Rattle.ab_text.specs.Names.{name_of, free_heads, free_heads_of_all, fresh}
-use Rattle.ab_text.specs.Naming.{are_last, is_bound_name, outside, alone, head_form, name_form, names_in, bound_name, contracted, takes_binder, named, named_all, printed}
+use Rattle.ab_print.specs.ab_text.specs.Shapes as shape
+use Rattle.ab_print.specs.ab_text.specs.Shapes.{Shape, abstraction, Shapes, no_shapes}
+use Rattle.ab_print.specs.ab_text.specs.Names.{name_of, free_heads, free_heads_of_all, fresh}
+use Rattle.ab_print.specs.ab_text.specs.Naming.{are_last, is_bound_name, outside, alone, head_form, name_form, names_in, bound_name, contracted, takes_binder, named, named_all, printed}
 
 module _ {Var : Type 0} (f : Var → List ℕ) where
   abbrev renamed : Head Var → Head (List ℕ)

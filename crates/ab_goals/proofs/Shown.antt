@@ -2,11 +2,11 @@
 use Rattle.std.specs.Prelude.{Contains, All}
 use Rattle.std.proofs.Common.{◌≡◌, ℕ, List, [], ◌∷◌, ◌++◌, map, codes, decimal, refl, sym, ap, ◌∙◌}
 use Rattle.std.proofs.lemmas.List.Elements.{All-head, All-tail, All-contains}
-use Rattle.ab_store.specs.Trees.{Read}
-use Rattle.ab_text.specs.Layout.{bytes}
-use Rattle.ab_logic.specs.Sequents as numbered
+use Rattle.ab_print.specs.ab_store.specs.Trees.{Read}
+use Rattle.ab_print.specs.ab_text.specs.Layout.{bytes}
+use Rattle.ab_print.specs.ab_logic.specs.Sequents as numbered
 use Rattle.ab_term.specs.Variables.{variables}
-use Rattle.ab_logic.specs.Sequents.{Variable, in_terms, Sequent, HoldsOnly, formulas, formulas_of}
+use Rattle.ab_print.specs.ab_logic.specs.Sequents.{Variable, in_terms, Sequent, HoldsOnly, formulas, formulas_of}
 use Rattle.ab_print.specs.Shown as by_number
 use Rattle.ab_print.specs.Shown.{variables_line, rule}
 use Rattle.ab_goals.specs.Goals.{name_in, with_names, variable_named, hypothesis_named, named}

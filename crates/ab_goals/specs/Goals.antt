@@ -3,10 +3,10 @@
 use Rattle.std.specs.Prelude.{◌≡◌, ℕ, ◌==◌, List, [], ◌∷◌, map, if◌then◌else◌}
 use Rattle.ab_term.specs.Terms.{Variable, Term}
 use Rattle.ab_term.specs.Translation.{translate}
-use Rattle.ab_store.specs.Trees.{Read}
-use Rattle.ab_logic.specs.Declarations.{Declarations}
-use Rattle.ab_logic.specs.Sequents as numbered
-use Rattle.ab_logic.specs.Sequents.{Sequent, IsSequent}
+use Rattle.ab_print.specs.ab_store.specs.Trees.{Read}
+use Rattle.ab_print.specs.ab_logic.specs.Declarations.{Declarations}
+use Rattle.ab_print.specs.ab_logic.specs.Sequents as numbered
+use Rattle.ab_print.specs.ab_logic.specs.Sequents.{Sequent, IsSequent}
 
 -- a term whose variables are names, and its hints too
 abbrev pub Named : Type 0

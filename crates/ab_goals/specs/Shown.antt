@@ -1,7 +1,7 @@
 -- What is printed of a goal whose variables are names, as bytes.
 use Rattle.std.specs.Prelude.{ℕ, List, [], ◌∷◌, ◌++◌, map, codes, decimal}
-use Rattle.ab_text.specs.Layout.{bytes}
-use Rattle.ab_text.specs.Naming.{printed}
+use Rattle.ab_print.specs.ab_text.specs.Layout.{bytes}
+use Rattle.ab_print.specs.ab_text.specs.Naming.{printed}
 use Rattle.ab_print.specs.Shown.{variables_line, rule}
 use Rattle.ab_goals.specs.Goals.{Named, Hypothesis, Goal}
 

@@ -1,8 +1,8 @@
 -- The level of a new mark: one above the greatest of its kind in the goal.
 use Rattle.std.specs.Prelude.{ℕ, zero, suc, List, [], ◌∷◌, ◌++◌, nat_lt, if◌then◌else◌}
-use Rattle.ab_store.specs.Trees.{Read}
-use Rattle.ab_logic.specs.Marks.{Sign, plain, star_of, at_of, plus_of, hash_of, Marks, nowhere, at_atom, at_judgement, below, in_both, marks_of}
-use Rattle.ab_logic.specs.Sequents.{Sequent, formulas_of}
+use Rattle.ab_analysis.specs.ab_store.specs.Trees.{Read}
+use Rattle.ab_analysis.specs.ab_logic.specs.Marks.{Sign, plain, star_of, at_of, plus_of, hash_of, Marks, nowhere, at_atom, at_judgement, below, in_both, marks_of}
+use Rattle.ab_analysis.specs.ab_logic.specs.Sequents.{Sequent, formulas_of}
 
 -- the marks of the formula's atoms and judgements
 abbrev pub signs_in : Marks → List Sign

@@ -4,10 +4,10 @@
 use Rattle.std.specs.Prelude.{ℕ, zero, suc, Bool, true, false, Option, Some, None, if◌then◌else◌}
 use Rattle.ab_term.specs.Logical.{universal, nabla, implication}
 use Rattle.ab_term.specs.Terms.{logical, lam, spine, no_terms, term}
-use Rattle.ab_store.specs.Trees.{Read}
-use Rattle.ab_logic.specs.Declarations.{Declarations}
-use Rattle.ab_logic.specs.Marks.{Sign}
-use Rattle.ab_marks.specs.Marking.{with_mark}
+use Rattle.ab_analysis.specs.ab_store.specs.Trees.{Read}
+use Rattle.ab_analysis.specs.ab_logic.specs.Declarations.{Declarations}
+use Rattle.ab_analysis.specs.ab_logic.specs.Marks.{Sign}
+use Rattle.ab_analysis.specs.ab_marks.specs.Marking.{with_mark}
 use Rattle.ab_analysis.specs.Atoms.{Defined, defined_atom}
 
 -- what stands under the prefix

@@ -4,14 +4,14 @@ use Rattle.std.proofs.lemmas.List.{get_or-map, length-map, ext_get_or, map-appen
 use Rattle.std.specs.Prelude.{bytes_eq, cond}
 use Rattle.std.specs.Cmp.Lexicographic.{bytes_decides}
 use Rattle.ab_term.specs.Types.{Ty, prop}
-use Rattle.ab_types.specs.Entries.{Table}
-use Rattle.ab_types.specs.Ids.{type_of}
-use Rattle.ab_types.specs.declared.ids.TypeId.{TypeId}
-use Rattle.ab_readings.specs.Types.{PropFree}
-use Rattle.ab_readings.specs.Names.{Name, Resolved, places_of}
-use Rattle.ab_readings.specs.Readings.{Raw, Making, Reads, reads_bound, reads_known, reads_free, reads_apply, reads_abs, reads_equal, reads_bind}
-use Rattle.ab_readings.specs.Answers.{Reading, IsTheReading, HasNoReading, IsFirstOpen}
-use Rattle.ab_readings.proofs.Members.{one_term}
+use Rattle.ab_store.specs.ab_types.specs.Entries.{Table}
+use Rattle.ab_store.specs.ab_types.specs.Ids.{type_of}
+use Rattle.ab_store.specs.ab_types.specs.declared.ids.TypeId.{TypeId}
+use Rattle.ab_solving.specs.ab_readings.specs.Types.{PropFree}
+use Rattle.ab_solving.specs.ab_readings.specs.Names.{Name, Resolved, places_of}
+use Rattle.ab_solving.specs.ab_readings.specs.Readings.{Raw, Making, Reads, reads_bound, reads_known, reads_free, reads_apply, reads_abs, reads_equal, reads_bind}
+use Rattle.ab_solving.specs.ab_readings.specs.Answers.{Reading, IsTheReading, HasNoReading, IsFirstOpen}
+use Rattle.ab_solving.specs.ab_readings.proofs.Members.{one_term}
 use Rattle.ab_solving.specs.declared.shape.Shape.{Shape}
 use Rattle.ab_solving.specs.declared.shape.Shape.TheVariants.{Open}
 use Rattle.ab_solving.specs.declared.settling.Settled.{Settled}

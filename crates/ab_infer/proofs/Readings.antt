@@ -5,9 +5,9 @@ use Rattle.ab_term.specs.Beta.{atom, abstraction, application}
 use Rattle.ab_term.specs.Typing.{type_at}
 use Rattle.ab_solving.specs.Solutions.{Assignment}
 use Rattle.ab_solving.proofs.Marking.{put, put_same, put_other}
-use Rattle.ab_readings.specs.Types.{PropFree}
-use Rattle.ab_readings.specs.Names.{Name, binding_type}
-use Rattle.ab_readings.specs.Readings.{Raw, Making, Keeps, equation, bound_term, Reads, reads_bound, reads_known, reads_free, reads_apply, reads_abs, reads_equal, reads_bind}
+use Rattle.ab_solving.specs.ab_readings.specs.Types.{PropFree}
+use Rattle.ab_solving.specs.ab_readings.specs.Names.{Name, binding_type}
+use Rattle.ab_solving.specs.ab_readings.specs.Readings.{Raw, Making, Keeps, equation, bound_term, Reads, reads_bound, reads_known, reads_free, reads_apply, reads_abs, reads_equal, reads_bind}
 use Rattle.ab_infer.specs.Sketches.{Sketch, bound, known, free, apply, abs, equal, bind, erase, count, variable_at, Fit, Typed, given, term_of, AreFree}
 
 at_map : (v : Assignment) (ctx : List ℕ) (i m : ℕ) → variable_at ctx i ≡ Some m → type_at (map v ctx) i ≡ Some (v m)

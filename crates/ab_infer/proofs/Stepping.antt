@@ -4,12 +4,12 @@ use Rattle.std.proofs.lemmas.List.{length-map}
 use Rattle.std.specs.Prelude.{MatchOption, IfSome}
 use Rattle.ab_term.specs.Types.{Ty, arrow, prop}
 use Rattle.ab_term.specs.Terms.{Head}
-use Rattle.ab_types.specs.Entries.{Table}
+use Rattle.ab_store.specs.ab_types.specs.Entries.{Table}
 use Rattle.ab_solving.specs.declared.shape.Shape.{Shape}
 use Rattle.ab_solving.specs.Solutions.{Assignment, Solves, AreFormed, AreHeld}
 use Rattle.ab_solving.specs.Steps.{Step, NoStep}
-use Rattle.ab_readings.specs.Names.{Name, Binding, binding_type}
-use Rattle.ab_readings.specs.Readings.{Keeps}
+use Rattle.ab_solving.specs.ab_readings.specs.Names.{Name, Binding, binding_type}
+use Rattle.ab_solving.specs.ab_readings.specs.Readings.{Keeps}
 use Rattle.ab_infer.specs.Sketches.{Sketch, bound, known, free, apply, abs, equal, bind, Typed, AllTyped}
 use Rattle.ab_infer.specs.Programs.{Item, bound_item, known_item, free_item, apply_item, abs_item, equal_item, bind_item, Runs, no_item, run_bound, run_known, run_free, run_apply, run_abs, run_equal, run_bind}
 use Rattle.ab_infer.specs.Inferences.{AreBelow, Given, Inferring, HasNoTyping, Running, Kept}

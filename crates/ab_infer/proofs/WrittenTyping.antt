@@ -3,9 +3,9 @@ use Rattle.std.proofs.Common.{◌≡◌, not, ◌⊎◌, inl, inr, ℕ, zero, su
 use Rattle.std.specs.Prelude.{Ok, Err, Contains, codes, bytes_eq, ◌||◌, ◌&&◌}
 use Rattle.std.specs.Cmp.Lexicographic.{bytes_decides}
 use Rattle.ab_term.specs.Types.{Ty, kind, arrow}
-use Rattle.ab_types.specs.Entries.{Table, kinds, IsExtendedBy}
-use Rattle.ab_types.specs.Ids.{HoldsType, type_of}
-use Rattle.ab_types.specs.declared.ids.TypeId.{TypeId}
+use Rattle.ab_store.specs.ab_types.specs.Entries.{Table, kinds, IsExtendedBy}
+use Rattle.ab_store.specs.ab_types.specs.Ids.{HoldsType, type_of}
+use Rattle.ab_store.specs.ab_types.specs.declared.ids.TypeId.{TypeId}
 use Rattle.ab_solving.proofs.Tables.{same_reading}
 use Rattle.ab_grammar.specs.Tree as tree
 use Rattle.ab_syntax.specs.Trees.{type_step}
@@ -14,7 +14,7 @@ use Rattle.ab_syntax.specs.declared.tree.TypeParse.{TypeParse}
 use Rattle.ab_syntax.specs.declared.tree.TypeParse.TheVariants.{rolls-Base, rolls-Arrow}
 use Rattle.ab_syntax.specs.declared.tree.TypeParse.TheVariants as parse
 use Rattle.ab_syntax.specs.declared.tree.TypeParse.TheFolds.{fold-roll-TypeParse}
-use Rattle.ab_readings.specs.Types.{is_listed, written_type, arrow_of}
+use Rattle.ab_solving.specs.ab_readings.specs.Types.{is_listed, written_type, arrow_of}
 use Rattle.ab_infer.specs.declared.fault.InferFault.{InferFault}
 use Rattle.ab_infer.specs.declared.fault.InferFault.TheVariants.{Unknown, TypeClash, Untyped, Memory}
 use Rattle.ab_infer.specs.declared.written.Written.{Written}

@@ -1,10 +1,10 @@
 -- What a walk over types keeps of those that it has been through. Only private contracts speak of this.
 use Rattle.std.specs.Prelude.{◌≡◌, Bool, true, ◌==◌}
 use Rattle.std.specs.HashSet as bag
-use Rattle.ab_types.specs.Entries.{Table}
-use Rattle.ab_types.specs.Ids.{type_of}
-use Rattle.ab_types.specs.declared.ids.TypeId.{TypeId}
-use Rattle.ab_readings.specs.Types.{PropFree}
+use Rattle.ab_store.specs.ab_types.specs.Entries.{Table}
+use Rattle.ab_store.specs.ab_types.specs.Ids.{type_of}
+use Rattle.ab_store.specs.ab_types.specs.declared.ids.TypeId.{TypeId}
+use Rattle.ab_solving.specs.ab_readings.specs.Types.{PropFree}
 use Rattle.ab_infer.specs.declared.free.Free.{Free}
 
 abbrev pub same_id : TypeId → TypeId → Bool

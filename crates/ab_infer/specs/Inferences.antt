@@ -1,12 +1,12 @@
 -- What the type variables of a row of expressions say: under their solutions the expressions have exactly their types.
 use Rattle.std.specs.Prelude.{◌≡◌, ℕ, ◌<◌, ◌≤◌, List, [], ◌∷◌, ◌++◌, map, length, Option, option_map}
 use Rattle.ab_term.specs.Types.{Ty, prop, o}
-use Rattle.ab_types.specs.Ids.{HoldsType, type_of}
-use Rattle.ab_types.specs.declared.ids.TypeId.{TypeId}
-use Rattle.ab_readings.specs.Names.{Binding, binding_type}
-use Rattle.ab_readings.specs.Readings.{Keeps}
+use Rattle.ab_store.specs.ab_types.specs.Ids.{HoldsType, type_of}
+use Rattle.ab_store.specs.ab_types.specs.declared.ids.TypeId.{TypeId}
+use Rattle.ab_solving.specs.ab_readings.specs.Names.{Binding, binding_type}
+use Rattle.ab_solving.specs.ab_readings.specs.Readings.{Keeps}
 use Rattle.ab_infer.specs.declared.inferring.Formulas.{Formulas}
-use Rattle.ab_types.specs.Entries.{Table}
+use Rattle.ab_store.specs.ab_types.specs.Entries.{Table}
 use Rattle.ab_solving.specs.declared.shape.Shape.{Shape}
 use Rattle.ab_solving.specs.Solutions.{Assignment, Solves, AreFormed, AreHeld}
 use Rattle.ab_infer.specs.Sketches.{Sketch, AllTyped}

@@ -5,3 +5,6 @@ pub mod Inferences
 pub mod WrittenTypes
 pub mod Verdicts
 pub mod Freedom
+-- Libraries that the crates above name through this one.
+pub use Rattle.ab_solving.specs.ab_readings
+pub use Rattle.ab_solving

@@ -2,13 +2,13 @@
 use Rattle.std.specs.Prelude.{ℕ, ◌<◌, List, [], ◌∷◌, length, get_or, map, Option, Some, None, option_map}
 use Rattle.ab_term.specs.Types.{Ty}
 use Rattle.ab_term.specs.Terms.{Head}
-use Rattle.ab_types.specs.Entries.{Table}
-use Rattle.ab_types.specs.Ids.{HoldsType, type_of}
-use Rattle.ab_types.specs.declared.ids.TypeId.{TypeId}
+use Rattle.ab_store.specs.ab_types.specs.Entries.{Table}
+use Rattle.ab_store.specs.ab_types.specs.Ids.{HoldsType, type_of}
+use Rattle.ab_store.specs.ab_types.specs.declared.ids.TypeId.{TypeId}
 use Rattle.ab_store.specs.declared.node.CellEntry.{CellEntry}
 use Rattle.ab_store.specs.Trees.{head_in}
 use Rattle.ab_store.specs.Naming.{HeadNames, HeadIsTyped}
-use Rattle.ab_readings.specs.Names.{Name, Binding, quantified, pi}
+use Rattle.ab_solving.specs.ab_readings.specs.Names.{Name, Binding, quantified, pi}
 use Rattle.ab_grammar.specs.declared.Quant.TheVariants.{Forall, Exists, Nabla}
 use Rattle.ab_infer.specs.Sketches.{Sketch, bound, known, free, apply, abs, equal, bind}
 use Rattle.ab_infer.specs.declared.op.Binds.{Binds}

@@ -4,10 +4,10 @@ use Rattle.std.specs.Prelude.{◌≡◌, ℕ, zero, suc, ◌+◌, ◌<◌, List,
 use Rattle.ab_term.specs.Types.{Ty, arrow, prop}
 use Rattle.ab_term.specs.Terms.{Head, index}
 use Rattle.ab_term.specs.Beta.{atom, abstraction, application}
-use Rattle.ab_readings.specs.Types.{PropFree}
-use Rattle.ab_readings.specs.Names as names
-use Rattle.ab_readings.specs.Names.{Name, Resolved, Binding, binding_type}
-use Rattle.ab_readings.specs.Readings.{Raw, Making, Keeps, bound_term, equation}
+use Rattle.ab_solving.specs.ab_readings.specs.Types.{PropFree}
+use Rattle.ab_solving.specs.ab_readings.specs.Names as names
+use Rattle.ab_solving.specs.ab_readings.specs.Names.{Name, Resolved, Binding, binding_type}
+use Rattle.ab_solving.specs.ab_readings.specs.Readings.{Raw, Making, Keeps, bound_term, equation}
 
 pub data Sketch : Type 0 where
   -- a bound name's index and variable

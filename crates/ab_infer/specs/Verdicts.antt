@@ -1,12 +1,12 @@
 -- What is found of an expression's readings, from the types at its marks.
 use Rattle.std.specs.Prelude.{◌≡◌, ℕ, ◌<◌, ◌≤◌, List, [], length, get_or, map, Bool, true, false}
 use Rattle.ab_term.specs.Types.{Ty}
-use Rattle.ab_types.specs.Entries.{Table}
-use Rattle.ab_types.specs.Ids.{HoldsType, type_of}
-use Rattle.ab_readings.specs.Types.{PropFree}
-use Rattle.ab_readings.specs.Names.{Name}
-use Rattle.ab_readings.specs.Readings.{Making}
-use Rattle.ab_readings.specs.Answers.{IsTheReading, HasNoReading, IsFirstOpen}
+use Rattle.ab_store.specs.ab_types.specs.Entries.{Table}
+use Rattle.ab_store.specs.ab_types.specs.Ids.{HoldsType, type_of}
+use Rattle.ab_solving.specs.ab_readings.specs.Types.{PropFree}
+use Rattle.ab_solving.specs.ab_readings.specs.Names.{Name}
+use Rattle.ab_solving.specs.ab_readings.specs.Readings.{Making}
+use Rattle.ab_solving.specs.ab_readings.specs.Answers.{IsTheReading, HasNoReading, IsFirstOpen}
 use Rattle.ab_solving.specs.declared.settling.Settled.{Settled}
 use Rattle.ab_solving.specs.Settling.{settled_at}
 use Rattle.ab_infer.specs.declared.op.Mark as declared

@@ -1,11 +1,11 @@
 -- The answers to a written type: it is read, a name in it is no kind, or `prop` stands in an argument.
 use Rattle.std.specs.Prelude.{◌≡◌, ℕ, List, true, false, Result, Ok, Err}
 use Rattle.ab_term.specs.Types.{Ty}
-use Rattle.ab_types.specs.Entries.{Table, kinds}
-use Rattle.ab_types.specs.Ids.{HoldsType, type_of}
-use Rattle.ab_types.specs.declared.ids.TypeId.{TypeId}
+use Rattle.ab_store.specs.ab_types.specs.Entries.{Table, kinds}
+use Rattle.ab_store.specs.ab_types.specs.Ids.{HoldsType, type_of}
+use Rattle.ab_store.specs.ab_types.specs.declared.ids.TypeId.{TypeId}
 use Rattle.ab_grammar.specs.Tree as tree
-use Rattle.ab_readings.specs.Types.{PropFree, IsDeclarable, written_type, type_place}
+use Rattle.ab_solving.specs.ab_readings.specs.Types.{PropFree, IsDeclarable, written_type, type_place}
 use Rattle.ab_infer.specs.declared.fault.InferFault.{InferFault}
 use Rattle.ab_infer.specs.declared.fault.InferFault.TheVariants.{Unknown, TypeClash, Untyped, Memory}
 use Rattle.ab_infer.specs.declared.written.Written.{Written}

@@ -1,13 +1,13 @@
 //! Whether an expression has one reading, none, or several.
 ghost use Rattle.std.specs.Prelude.{◌≡◌, ℕ, ◌+◌, ◌<◌, ◌^◌, ◌∷◌, [], List, length, true, false, IfOk, All, OnOk, MatchOption};
 ghost use Rattle.ab_term.specs.Types as plain;
-ghost use Rattle.ab_types.specs.Entries.{kinds, constants, IsExtendedBy};
-ghost use Rattle.ab_types.specs.Ids.{HoldsType, type_of};
-ghost use Rattle.ab_types.specs.Sound.{IsTable};
+ghost use Rattle.ab_store.specs.ab_types.specs.Entries.{kinds, constants, IsExtendedBy};
+ghost use Rattle.ab_store.specs.ab_types.specs.Ids.{HoldsType, type_of};
+ghost use Rattle.ab_store.specs.ab_types.specs.Sound.{IsTable};
 ghost use Rattle.ab_store.specs.declared.node.CellEntry.{CellEntry};
-ghost use Rattle.ab_readings.specs.Types.{PropFree};
-ghost use Rattle.ab_readings.specs.Names.{Name as AName};
-ghost use Rattle.ab_readings.specs.Readings.{Making};
+ghost use Rattle.ab_solving.specs.ab_readings.specs.Types.{PropFree};
+ghost use Rattle.ab_solving.specs.ab_readings.specs.Names.{Name as AName};
+ghost use Rattle.ab_solving.specs.ab_readings.specs.Readings.{Making};
 ghost use Rattle.ab_solving.specs.Settling.{settled_at};
 ghost use Rattle.ab_infer.specs.Sketches.{Sketch, Fit, count, variable_of, marks_of};
 ghost use Rattle.ab_infer.specs.Programs.{Runs, items_of, OpTyped};
@@ -18,7 +18,7 @@ use crate::free::{Free, is_prop_free};
 use crate::inferring::{Formulas, infer};
 use crate::op::{Mark, Op};
 use ab_solving::{Settled, Shape, Wanted, equate, solve};
-use ab_types::{TypeId, TypeTable};
+use ab_store::below::types::{TypeId, TypeTable};
 use std::alloc::{AllocError, Global};
 
 /// What is found of an expression's readings.

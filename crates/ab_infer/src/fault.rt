@@ -1,5 +1,5 @@
 //! Why an expression isn't read.
-use ab_types::Name;
+use ab_store::below::types::Name;
 use std::alloc::AllocError;
 
 /// Why an expression or a type isn't read. Places are in bytes.

@@ -1,13 +1,13 @@
 //! Types in which `prop` stands nowhere. A type that was found to be one is walked over once.
 ghost use Rattle.std.specs.Prelude.{◌≡◌, ◌⊎◌, true, false, IfOk};
 ghost use Rattle.ab_term.specs.Types as plain;
-ghost use Rattle.ab_types.specs.Sound.{IsTable};
-ghost use Rattle.ab_types.specs.Ids.{HoldsType, type_of};
-ghost use Rattle.ab_types.specs.declared.ids.TypeId.{TypeId as AType};
-ghost use Rattle.ab_readings.specs.Types.{PropFree};
+ghost use Rattle.ab_store.specs.ab_types.specs.Sound.{IsTable};
+ghost use Rattle.ab_store.specs.ab_types.specs.Ids.{HoldsType, type_of};
+ghost use Rattle.ab_store.specs.ab_types.specs.declared.ids.TypeId.{TypeId as AType};
+ghost use Rattle.ab_solving.specs.ab_readings.specs.Types.{PropFree};
 ghost use Rattle.ab_infer.specs.Freedom.{is_kept, AreFree};
 
-use ab_types::{TypeId, TypeTable, TypeView};
+use ab_store::below::types::{TypeId, TypeTable, TypeView};
 use std::alloc::{AllocError, Global};
 use std::collections::HashSet;
 

@@ -1,10 +1,10 @@
 //! What the steps of an expression say of type variables.
 ghost use Rattle.std.specs.Prelude.{◌≡◌, ◌<◌, ◌≤◌, ◌+◌, ◌∷◌, [], List, length, IfOk, IfSome, All, MatchOption};
-ghost use Rattle.ab_types.specs.Sound.{IsTable};
+ghost use Rattle.ab_store.specs.ab_types.specs.Sound.{IsTable};
 ghost use Rattle.ab_store.specs.declared.node.CellEntry.{CellEntry};
 ghost use Rattle.ab_solving.specs.declared.shape.Shape.{Shape as AShape};
 ghost use Rattle.ab_solving.specs.Solutions.{AreFormed, AreHeld};
-ghost use Rattle.ab_readings.specs.Names.{Name as AName};
+ghost use Rattle.ab_solving.specs.ab_readings.specs.Names.{Name as AName};
 ghost use Rattle.ab_infer.specs.Sketches.{Sketch};
 ghost use Rattle.ab_infer.specs.Programs.{Item, Runs, item_of, items_of, OpTyped, HoldsWritten, binding_of};
 ghost use Rattle.ab_infer.specs.Inferences.{Running, Inferring, HasNoTyping, AreBelow, Kept, IsBinder, IsFormulas, turned};
@@ -12,7 +12,7 @@ ghost use Rattle.ab_solving.specs.Steps.{Step, NoStep};
 
 use crate::op::{Binds, Op};
 use ab_solving::{Shape, Wanted, applied, step};
-use ab_types::{TypeId, TypeTable};
+use ab_store::below::types::{TypeId, TypeTable};
 use std::alloc::{AllocError, Global};
 
 /// The ids of `prop` and `o`.

@@ -4,6 +4,7 @@
 //! whether it has one reading, none or several.
 #![tactic(auto)]
 
+pub mod below;
 mod deciding;
 mod fault;
 mod free;

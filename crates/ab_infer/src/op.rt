@@ -4,7 +4,7 @@ ghost use Rattle.ab_infer.specs.Sketches.{mark_place};
 ghost use Rattle.ab_infer.specs.Verdicts.{mark_of};
 
 use ab_store::Head;
-use ab_types::{Name, TypeId};
+use ab_store::below::types::{Name, TypeId};
 
 /// What binds a name.
 #[derive(Clone, Copy, Debug, PartialEq, Eq)]

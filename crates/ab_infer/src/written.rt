@@ -1,14 +1,14 @@
 //! Written types.
 ghost use Rattle.std.specs.Prelude.{◌≡◌, bytes_eq, codes};
-ghost use Rattle.ab_types.specs.Entries.{kinds, constants, IsExtendedBy};
-ghost use Rattle.ab_types.specs.Sound.{IsTable};
+ghost use Rattle.ab_store.specs.ab_types.specs.Entries.{kinds, constants, IsExtendedBy};
+ghost use Rattle.ab_store.specs.ab_types.specs.Sound.{IsTable};
 ghost use Rattle.ab_syntax.specs.Trees as trees;
-ghost use Rattle.ab_readings.specs.Types.{type_place};
+ghost use Rattle.ab_solving.specs.ab_readings.specs.Types.{type_place};
 ghost use Rattle.ab_infer.specs.WrittenTypes.{TypeAnswers, WrittenAnswers, KindAnswers};
 
 use crate::fault::InferFault;
+use ab_store::below::types::{Name, TableFault, TypeId, TypeTable};
 use ab_syntax::TypeParse;
-use ab_types::{Name, TableFault, TypeId, TypeTable};
 use std::alloc::{AllocError, Global};
 
 /// A written type, and where `prop` stands in it.

@@ -7,15 +7,15 @@ use Rattle.ab_term.specs.Terms.{Terms}
 use Rattle.ab_term.specs.Typing.{Signature, TakeType}
 use Rattle.ab_term.specs.Variables.{Substitution, image, image_all}
 use Rattle.ab_term.specs.Sameness.{same_number}
-use Rattle.ab_types.specs.Entries.{Table, signature, type_in}
-use Rattle.ab_store.specs.declared.node.TermId.{TermId}
-use Rattle.ab_store.specs.declared.node.CellId.{CellId}
-use Rattle.ab_store.specs.declared.node.CellEntry.{CellEntry}
-use Rattle.ab_store.specs.Trees.{Contents, Holds, HoldsCell, tree_of}
-use Rattle.ab_store.specs.Naming.{IsTypedBy}
-use Rattle.ab_cases.specs.Clauses.{Clause, put_together, name_term, filled, IsClause}
-use Rattle.ab_cases.specs.Alternatives.{cells_over, made_over, made_terms}
-use Rattle.ab_cases.specs.Prefixes.{opened, arguments_of}
+use Rattle.ab_clauses.specs.ab_types.specs.Entries.{Table, signature, type_in}
+use Rattle.ab_clauses.specs.ab_store.specs.declared.node.TermId.{TermId}
+use Rattle.ab_clauses.specs.ab_store.specs.declared.node.CellId.{CellId}
+use Rattle.ab_clauses.specs.ab_store.specs.declared.node.CellEntry.{CellEntry}
+use Rattle.ab_clauses.specs.ab_store.specs.Trees.{Contents, Holds, HoldsCell, tree_of}
+use Rattle.ab_clauses.specs.ab_store.specs.Naming.{IsTypedBy}
+use Rattle.ab_clauses.specs.ab_cases.specs.Clauses.{Clause, put_together, name_term, filled, IsClause}
+use Rattle.ab_clauses.specs.ab_cases.specs.Alternatives.{cells_over, made_over, made_terms}
+use Rattle.ab_clauses.specs.ab_cases.specs.Prefixes.{opened, arguments_of}
 use Rattle.ab_clauses.specs.declared.kept.ClauseTerm.{ClauseTerm}
 use Rattle.ab_clauses.specs.Readings.{variable_of, clause_of}
 use Rattle.ab_clauses.specs.Cases.{case_of, IsWellKept}

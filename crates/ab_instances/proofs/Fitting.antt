@@ -9,22 +9,22 @@ use Rattle.ab_term.specs.Terms as tree
 use Rattle.ab_term.specs.Terms.{Variable}
 use Rattle.ab_term.specs.Variables.{variables}
 use Rattle.ab_term.proofs.Lists.{AllPairs-none, All-from_contains, Contains-map, Contains-from_map}
-use Rattle.ab_types.specs.Entries.{Table, signature}
-use Rattle.ab_types.specs.Ids.{type_of}
-use Rattle.ab_store.specs.declared.node.TermId.{TermId}
-use Rattle.ab_store.specs.declared.node.CellId.{CellId}
-use Rattle.ab_store.specs.Trees.{Contents, HoldsCell, cell_of, tree_of}
-use Rattle.ab_store.specs.Reading.{cell_variable}
-use Rattle.ab_store.specs.Bindings.{cells_of}
-use Rattle.ab_store.specs.Naming.{IsTypedBy, IsTerm}
-use Rattle.ab_store.proofs.Cells as stored
-use Rattle.ab_solve.specs.Meaning.{AreDifferent}
-use Rattle.ab_solve.proofs.Agreeing.{contains_holds}
-use Rattle.ab_cases.specs.Clauses.{Each, numbered}
-use Rattle.ab_cases.specs.Alternatives.{cells_over, made_terms}
-use Rattle.ab_cases.proofs.Rows.{numbered_within}
-use Rattle.ab_cases.proofs.Unifier.{made_over_vars}
-use Rattle.ab_cases.proofs.Variables.{Has, has_held}
+use Rattle.ab_clauses.specs.ab_types.specs.Entries.{Table, signature}
+use Rattle.ab_clauses.specs.ab_types.specs.Ids.{type_of}
+use Rattle.ab_clauses.specs.ab_store.specs.declared.node.TermId.{TermId}
+use Rattle.ab_clauses.specs.ab_store.specs.declared.node.CellId.{CellId}
+use Rattle.ab_clauses.specs.ab_store.specs.Trees.{Contents, HoldsCell, cell_of, tree_of}
+use Rattle.ab_clauses.specs.ab_store.specs.Reading.{cell_variable}
+use Rattle.ab_clauses.specs.ab_store.specs.Bindings.{cells_of}
+use Rattle.ab_clauses.specs.ab_store.specs.Naming.{IsTypedBy, IsTerm}
+use Rattle.ab_clauses.specs.ab_store.proofs.Cells as stored
+use Rattle.ab_clauses.specs.ab_solve.specs.Meaning.{AreDifferent}
+use Rattle.ab_clauses.specs.ab_solve.proofs.Agreeing.{contains_holds}
+use Rattle.ab_clauses.specs.ab_cases.specs.Clauses.{Each, numbered}
+use Rattle.ab_clauses.specs.ab_cases.specs.Alternatives.{cells_over, made_terms}
+use Rattle.ab_clauses.specs.ab_cases.proofs.Rows.{numbered_within}
+use Rattle.ab_clauses.specs.ab_cases.proofs.Unifier.{made_over_vars}
+use Rattle.ab_clauses.specs.ab_cases.proofs.Variables.{Has, has_held}
 use Rattle.ab_clauses.specs.Readings.{variable_of}
 use Rattle.ab_clauses.specs.Cases as cases
 use Rattle.ab_clauses.specs.Cases.{in_terms}

@@ -11,25 +11,25 @@ use Rattle.ab_term.specs.Terms.{Variable, nominal, variable, Terms, term, no_ter
 use Rattle.ab_term.specs.Typing.{HasType}
 use Rattle.ab_term.specs.Expansion.{expansion_of, expansion}
 use Rattle.ab_term.specs.Closing.{over, name_terms}
-use Rattle.ab_types.specs.Entries.{Table, a_type, kinds, constants, signature, IsExtendedBy as IsPartOf, FindsOrAdds}
-use Rattle.ab_types.specs.Ids.{HoldsType, type_of}
-use Rattle.ab_types.specs.declared.ids.TypeId.{TypeId}
-use Rattle.ab_types.proofs.Entries.{same_type, type_still_held, kinds-append, constants-append}
-use Rattle.ab_store.specs.declared.node.TermId.{TermId}
-use Rattle.ab_store.specs.declared.node.CellId.{CellId}
-use Rattle.ab_store.specs.Trees.{Contents, Holds, HoldsCell, cell_in, cell_of, tree_of}
-use Rattle.ab_store.specs.Reading.{cell_variable}
-use Rattle.ab_store.specs.Growth.{IsExtendedBy}
-use Rattle.ab_store.specs.Naming.{IsTypedBy, IsTerm}
-use Rattle.ab_store.proofs.Tables.{same_tree, still_typed}
-use Rattle.ab_norm.proofs.Frame.{still_read_before}
-use Rattle.ab_norm.specs.declared.nominal.Nominal.{Nominal}
-use Rattle.ab_norm.specs.Growth.{AddsTypedTerms}
-use Rattle.ab_norm.specs.Nominals.{nominal_of, HoldsNominal}
-use Rattle.ab_solve.specs.Replacing.{Cell}
-use Rattle.ab_cases.specs.Clauses.{Each, numbered, name_term}
-use Rattle.ab_cases.specs.Alternatives.{cells_over, made_terms}
-use Rattle.ab_cases.proofs.Lifting.{made_terms_typed}
+use Rattle.ab_clauses.specs.ab_types.specs.Entries.{Table, a_type, kinds, constants, signature, IsExtendedBy as IsPartOf, FindsOrAdds}
+use Rattle.ab_clauses.specs.ab_types.specs.Ids.{HoldsType, type_of}
+use Rattle.ab_clauses.specs.ab_types.specs.declared.ids.TypeId.{TypeId}
+use Rattle.ab_clauses.specs.ab_types.proofs.Entries.{same_type, type_still_held, kinds-append, constants-append}
+use Rattle.ab_clauses.specs.ab_store.specs.declared.node.TermId.{TermId}
+use Rattle.ab_clauses.specs.ab_store.specs.declared.node.CellId.{CellId}
+use Rattle.ab_clauses.specs.ab_store.specs.Trees.{Contents, Holds, HoldsCell, cell_in, cell_of, tree_of}
+use Rattle.ab_clauses.specs.ab_store.specs.Reading.{cell_variable}
+use Rattle.ab_clauses.specs.ab_store.specs.Growth.{IsExtendedBy}
+use Rattle.ab_clauses.specs.ab_store.specs.Naming.{IsTypedBy, IsTerm}
+use Rattle.ab_clauses.specs.ab_store.proofs.Tables.{same_tree, still_typed}
+use Rattle.ab_unifying.specs.ab_norm.proofs.Frame.{still_read_before}
+use Rattle.ab_unifying.specs.ab_norm.specs.declared.nominal.Nominal.{Nominal}
+use Rattle.ab_unifying.specs.ab_norm.specs.Growth.{AddsTypedTerms}
+use Rattle.ab_unifying.specs.ab_norm.specs.Nominals.{nominal_of, HoldsNominal}
+use Rattle.ab_clauses.specs.ab_solve.specs.Replacing.{Cell}
+use Rattle.ab_clauses.specs.ab_cases.specs.Clauses.{Each, numbered, name_term}
+use Rattle.ab_clauses.specs.ab_cases.specs.Alternatives.{cells_over, made_terms}
+use Rattle.ab_clauses.specs.ab_cases.proofs.Lifting.{made_terms_typed}
 use Rattle.ab_unifying.specs.Problem.{cell_read, cells_read, variables_read}
 use Rattle.ab_unifying.specs.Changed.{Grows}
 use Rattle.ab_unifying.proofs.Growth.{one_more, grown_type, grows_on, grows_terms}

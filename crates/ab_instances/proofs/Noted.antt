@@ -7,16 +7,16 @@ use Rattle.std.proofs.lemmas.List.{drop_more}
 use Rattle.ab_term.specs.Terms.{Nominal, terms_of}
 use Rattle.ab_term.specs.Names.{support, support_of_head, support_of_all}
 use Rattle.ab_term.proofs.Lists.{Contains-none, Contains-here, Contains-there, Contains-cases}
-use Rattle.ab_types.specs.Entries.{Table}
-use Rattle.ab_store.specs.declared.node.TermId.{TermId}
-use Rattle.ab_store.specs.declared.node.Head.{Head}
-use Rattle.ab_store.specs.declared.node.Node.{Node}
-use Rattle.ab_store.specs.declared.node.Node.TheVariants.{Spine}
-use Rattle.ab_store.specs.Trees.{Contents, tree_of, head_reading, node_tree}
-use Rattle.ab_norm.specs.declared.nominal.Nominal.{Nominal as AName}
-use Rattle.ab_norm.specs.Nominals.{nominal_of}
-use Rattle.ab_cases.specs.Choices.{is_in, placed, in_order}
-use Rattle.ab_cases.proofs.Choosing.{in_contains, contains_in, ordered_contains, contains_ordered}
+use Rattle.ab_clauses.specs.ab_types.specs.Entries.{Table}
+use Rattle.ab_clauses.specs.ab_store.specs.declared.node.TermId.{TermId}
+use Rattle.ab_clauses.specs.ab_store.specs.declared.node.Head.{Head}
+use Rattle.ab_clauses.specs.ab_store.specs.declared.node.Node.{Node}
+use Rattle.ab_clauses.specs.ab_store.specs.declared.node.Node.TheVariants.{Spine}
+use Rattle.ab_clauses.specs.ab_store.specs.Trees.{Contents, tree_of, head_reading, node_tree}
+use Rattle.ab_unifying.specs.ab_norm.specs.declared.nominal.Nominal.{Nominal as AName}
+use Rattle.ab_unifying.specs.ab_norm.specs.Nominals.{nominal_of}
+use Rattle.ab_clauses.specs.ab_cases.specs.Choices.{is_in, placed, in_order}
+use Rattle.ab_clauses.specs.ab_cases.proofs.Choosing.{in_contains, contains_in, ordered_contains, contains_ordered}
 use Rattle.ab_instances.specs.declared.constants.Seen.{Seen}
 use Rattle.ab_instances.specs.Readings.{names_read}
 use Rattle.ab_instances.specs.Noting.{noted, all_noted, same_term, has_been, AreNoted}

@@ -1,14 +1,14 @@
 -- Cells that are bound to terms, one against one. Public contracts don't speak of this.
 use Rattle.std.specs.Prelude.{◌≢◌, List, [], ◌∷◌, AllPairs, Contains}
-use Rattle.ab_types.specs.Entries.{Table}
-use Rattle.ab_types.specs.Ids.{type_of}
-use Rattle.ab_store.specs.declared.node.TermId.{TermId}
-use Rattle.ab_store.specs.declared.node.CellId.{CellId}
-use Rattle.ab_store.specs.declared.node.Binding.{Binding}
-use Rattle.ab_store.specs.Trees.{Contents, HoldsCell, cell_of}
-use Rattle.ab_store.specs.Bindings.{cells_of}
-use Rattle.ab_store.specs.Naming.{IsTerm}
-use Rattle.ab_cases.specs.Clauses.{Each}
+use Rattle.ab_clauses.specs.ab_types.specs.Entries.{Table}
+use Rattle.ab_clauses.specs.ab_types.specs.Ids.{type_of}
+use Rattle.ab_clauses.specs.ab_store.specs.declared.node.TermId.{TermId}
+use Rattle.ab_clauses.specs.ab_store.specs.declared.node.CellId.{CellId}
+use Rattle.ab_clauses.specs.ab_store.specs.declared.node.Binding.{Binding}
+use Rattle.ab_clauses.specs.ab_store.specs.Trees.{Contents, HoldsCell, cell_of}
+use Rattle.ab_clauses.specs.ab_store.specs.Bindings.{cells_of}
+use Rattle.ab_clauses.specs.ab_store.specs.Naming.{IsTerm}
+use Rattle.ab_clauses.specs.ab_cases.specs.Clauses.{Each}
 
 abbrev pub bound_to : List CellId → List TermId → List Binding
 bound_to [] ts = []

@@ -3,10 +3,10 @@ use Rattle.std.specs.Prelude.{◌≡◌, List, [], ◌∷◌, Bool, true, cond, 
 use Rattle.std.specs.HashSet as bag
 use Rattle.ab_term.specs.Terms.{Nominal}
 use Rattle.ab_term.specs.Names.{support}
-use Rattle.ab_types.specs.Entries.{Table}
-use Rattle.ab_store.specs.declared.node.TermId.{TermId}
-use Rattle.ab_store.specs.Trees.{Contents, tree_of}
-use Rattle.ab_cases.specs.Choices.{is_in, placed}
+use Rattle.ab_clauses.specs.ab_types.specs.Entries.{Table}
+use Rattle.ab_clauses.specs.ab_store.specs.declared.node.TermId.{TermId}
+use Rattle.ab_clauses.specs.ab_store.specs.Trees.{Contents, tree_of}
+use Rattle.ab_clauses.specs.ab_cases.specs.Choices.{is_in, placed}
 use Rattle.ab_instances.specs.declared.constants.Seen.{Seen}
 
 -- one constant more, where it isn't there

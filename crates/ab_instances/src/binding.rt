@@ -3,12 +3,12 @@ ghost use Rattle.std.specs.Prelude.{◌≡◌, ◌≤◌, [], length, IfOk};
 ghost use Rattle.ab_term.specs.Types.{prop};
 ghost use Rattle.ab_term.specs.Sameness.{same_number};
 ghost use Rattle.ab_term.specs.Variables.{image};
-ghost use Rattle.ab_store.specs.Trees.{Holds, tree_of};
-ghost use Rattle.ab_store.specs.Reading.{reading};
-ghost use Rattle.ab_store.specs.Marks.{HasMark, KeepsMark};
-ghost use Rattle.ab_store.specs.Naming.{IsTypedBy, IsTerm};
-ghost use Rattle.ab_norm.specs.Growth.{AddsTerms};
-ghost use Rattle.ab_cases.specs.Clauses.{put_together};
+ghost use Rattle.ab_clauses.specs.ab_store.specs.Trees.{Holds, tree_of};
+ghost use Rattle.ab_clauses.specs.ab_store.specs.Reading.{reading};
+ghost use Rattle.ab_clauses.specs.ab_store.specs.Marks.{HasMark, KeepsMark};
+ghost use Rattle.ab_clauses.specs.ab_store.specs.Naming.{IsTypedBy, IsTerm};
+ghost use Rattle.ab_unifying.specs.ab_norm.specs.Growth.{AddsTerms};
+ghost use Rattle.ab_clauses.specs.ab_cases.specs.Clauses.{put_together};
 ghost use Rattle.ab_clauses.specs.Readings.{HoldsClause};
 ghost use Rattle.ab_unifying.specs.Problem.{variables_read};
 ghost use Rattle.ab_unifying.specs.Changed.{Grows};
@@ -16,9 +16,9 @@ ghost use Rattle.ab_instances.specs.Readings.{trees_at};
 ghost use Rattle.ab_instances.specs.Binding.{bound_to, CanBeBound};
 
 use ab_clauses::ClauseTerm;
-use ab_norm::copy_resolved;
-use ab_store::{CellId, Mark, Store, TermId};
-use ab_types::{Steps, TypeTable};
+use ab_clauses::below::store::{CellId, Mark, Store, TermId};
+use ab_clauses::below::types::{Steps, TypeTable};
+use ab_unifying::below::norm::copy_resolved;
 use std::alloc::{AllocError, Global};
 
 /// Binds the cells, where none is bound, to the terms.

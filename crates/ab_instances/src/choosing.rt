@@ -1,15 +1,14 @@
 //! The constants that may be chosen for the `nabla` names of a clause.
 ghost use Rattle.std.specs.Prelude.{◌≡◌, ◌∷◌, ◌++◌, map, All, IfOk, OnOk};
-ghost use Rattle.ab_types.specs.Ids.{HoldsType, type_of};
-ghost use Rattle.ab_types.specs.Sound.{IsTable};
-ghost use Rattle.ab_norm.specs.Nominals.{nominal_of, HoldsNominal};
-ghost use Rattle.ab_cases.specs.Choices as choices;
+ghost use Rattle.ab_clauses.specs.ab_types.specs.Ids.{HoldsType, type_of};
+ghost use Rattle.ab_clauses.specs.ab_types.specs.Sound.{IsTable};
+ghost use Rattle.ab_unifying.specs.ab_norm.specs.Nominals.{nominal_of, HoldsNominal};
+ghost use Rattle.ab_clauses.specs.ab_cases.specs.Choices as choices;
 ghost use Rattle.ab_instances.specs.Readings.{names_read};
 
 use crate::names::{Choices, Names, new_constant, of_type, others, with_first};
-use ab_norm::Nominal;
-use ab_types::laws::has_unique_ids;
-use ab_types::{TypeId, TypeTable};
+use ab_clauses::below::types::{TypeId, TypeTable, has_unique_ids};
+use ab_unifying::below::norm::Nominal;
 use std::alloc::{AllocError, Global};
 
 /// The choices for names of these types, in lexicographic order: for each name the free constants of its type, in their

@@ -3,13 +3,13 @@ ghost use Rattle.std.specs.Prelude.{◌≡◌, ◌≤◌, ◌++◌, [], map, len
 ghost use Rattle.ab_term.specs.Types.{Ty, prop};
 ghost use Rattle.ab_term.specs.Sameness.{same_number};
 ghost use Rattle.ab_term.specs.Variables.{image, image_all};
-ghost use Rattle.ab_types.specs.Entries.{signature};
-ghost use Rattle.ab_store.specs.Trees.{Holds, tree_of};
-ghost use Rattle.ab_store.specs.Naming.{IsTypedBy, IsTerm};
-ghost use Rattle.ab_norm.specs.Nominals.{HoldsNominal};
-ghost use Rattle.ab_norm.specs.Taking.{AreTaken};
-ghost use Rattle.ab_cases.specs.Clauses.{filled};
-ghost use Rattle.ab_cases.specs.Alternatives.{cells_over, made_over, made_terms};
+ghost use Rattle.ab_clauses.specs.ab_types.specs.Entries.{signature};
+ghost use Rattle.ab_clauses.specs.ab_store.specs.Trees.{Holds, tree_of};
+ghost use Rattle.ab_clauses.specs.ab_store.specs.Naming.{IsTypedBy, IsTerm};
+ghost use Rattle.ab_unifying.specs.ab_norm.specs.Nominals.{HoldsNominal};
+ghost use Rattle.ab_unifying.specs.ab_norm.specs.Taking.{AreTaken};
+ghost use Rattle.ab_clauses.specs.ab_cases.specs.Clauses.{filled};
+ghost use Rattle.ab_clauses.specs.ab_cases.specs.Alternatives.{cells_over, made_over, made_terms};
 ghost use Rattle.ab_clauses.specs.Readings.{clause_of, HoldsClause};
 ghost use Rattle.ab_clauses.specs.Cases.{case_of, IsWellKept};
 ghost use Rattle.ab_unifying.specs.Problem.{cells_read, variables_read};
@@ -20,10 +20,10 @@ use crate::binding::copy_with;
 use crate::making::{as_terms, make_over};
 use crate::opening::{arguments_of, open};
 use ab_clauses::ClauseTerm;
+use ab_clauses::below::store::{CellId, Store, TermId};
+use ab_clauses::below::types::{Steps, TypeTable};
 use ab_clauses::laws::kept_clauses_are_cases;
-use ab_norm::Nominal;
-use ab_store::{CellId, Store, TermId};
-use ab_types::{Steps, TypeTable};
+use ab_unifying::below::norm::Nominal;
 use std::alloc::{AllocError, Global};
 
 /// A clause with other variables: its own ones, the arguments of its head, and its body.

@@ -2,6 +2,7 @@
 //! names of a clause, variables over constants, and the clause with these for its own.
 #![tactic(auto)]
 
+pub mod below;
 mod binding;
 mod choosing;
 mod constants;

@@ -1,24 +1,24 @@
 //! Variables over constants.
 ghost use Rattle.std.specs.Prelude.{◌≡◌, ◌≤◌, ◌+◌, ◌++◌, [], map, length, codes, All, IfOk, OnOk};
 ghost use Rattle.ab_term.specs.Closing.{over};
-ghost use Rattle.ab_types.specs.Entries.{kinds, constants, IsExtendedBy as IsPartOf};
-ghost use Rattle.ab_types.specs.Ids.{HoldsType, type_of};
-ghost use Rattle.ab_types.specs.Sound.{IsTable};
-ghost use Rattle.ab_store.specs.Trees.{Holds, HoldsCell, cell_of, tree_of};
-ghost use Rattle.ab_store.specs.Growth.{IsExtendedBy};
-ghost use Rattle.ab_store.specs.Naming.{IsTypedBy, IsTerm};
-ghost use Rattle.ab_norm.specs.Growth.{AddsTypedTerms};
-ghost use Rattle.ab_norm.specs.Nominals.{HoldsNominal};
-ghost use Rattle.ab_cases.specs.Clauses.{name_term, Each};
-ghost use Rattle.ab_cases.specs.Alternatives.{cells_over, made_over, made_terms};
+ghost use Rattle.ab_clauses.specs.ab_types.specs.Entries.{kinds, constants, IsExtendedBy as IsPartOf};
+ghost use Rattle.ab_clauses.specs.ab_types.specs.Ids.{HoldsType, type_of};
+ghost use Rattle.ab_clauses.specs.ab_types.specs.Sound.{IsTable};
+ghost use Rattle.ab_clauses.specs.ab_store.specs.Trees.{Holds, HoldsCell, cell_of, tree_of};
+ghost use Rattle.ab_clauses.specs.ab_store.specs.Growth.{IsExtendedBy};
+ghost use Rattle.ab_clauses.specs.ab_store.specs.Naming.{IsTypedBy, IsTerm};
+ghost use Rattle.ab_unifying.specs.ab_norm.specs.Growth.{AddsTypedTerms};
+ghost use Rattle.ab_unifying.specs.ab_norm.specs.Nominals.{HoldsNominal};
+ghost use Rattle.ab_clauses.specs.ab_cases.specs.Clauses.{name_term, Each};
+ghost use Rattle.ab_clauses.specs.ab_cases.specs.Alternatives.{cells_over, made_over, made_terms};
 ghost use Rattle.ab_unifying.specs.Problem.{cells_read, variables_read};
 ghost use Rattle.ab_unifying.specs.Changed.{Grows};
 ghost use Rattle.ab_instances.specs.Readings.{names_read, cells_at, trees_at, given_at};
 ghost use Rattle.ab_instances.specs.Making.{ids_from, given_all};
 
-use ab_norm::{Nominal, eta, eta_given};
-use ab_store::{CellId, Head, Store, TermId};
-use ab_types::{TypeId, TypeTable};
+use ab_clauses::below::store::{CellId, Head, Store, TermId};
+use ab_clauses::below::types::{TypeId, TypeTable};
+use ab_unifying::below::norm::{Nominal, eta, eta_given};
 use std::alloc::{AllocError, Global};
 
 /// New cells, and each of them, given the constants, as a term.

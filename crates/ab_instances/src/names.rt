@@ -2,16 +2,15 @@
 ghost use Rattle.std.specs.Prelude.{◌≡◌, ◌↔◌, ◌==◌, ◌∷◌, true, All, IfOk};
 ghost use Rattle.ab_term.specs.Types.{same_type};
 ghost use Rattle.ab_term.specs.Names.{same_nominal};
-ghost use Rattle.ab_types.specs.Entries.{Table};
-ghost use Rattle.ab_types.specs.Ids.{HoldsType, type_of};
-ghost use Rattle.ab_types.specs.Sound.{IsTable};
-ghost use Rattle.ab_norm.specs.Nominals.{nominal_of, HoldsNominal};
-ghost use Rattle.ab_cases.specs.Choices as choices;
+ghost use Rattle.ab_clauses.specs.ab_types.specs.Entries.{Table};
+ghost use Rattle.ab_clauses.specs.ab_types.specs.Ids.{HoldsType, type_of};
+ghost use Rattle.ab_clauses.specs.ab_types.specs.Sound.{IsTable};
+ghost use Rattle.ab_unifying.specs.ab_norm.specs.Nominals.{nominal_of, HoldsNominal};
+ghost use Rattle.ab_clauses.specs.ab_cases.specs.Choices as choices;
 ghost use Rattle.ab_instances.specs.Readings.{names_read};
 
-use ab_norm::Nominal;
-use ab_types::laws::has_unique_ids;
-use ab_types::{TypeId, TypeTable};
+use ab_clauses::below::types::{TypeId, TypeTable, has_unique_ids};
+use ab_unifying::below::norm::Nominal;
 use std::alloc::{AllocError, Global};
 use std::marker::Model;
 
@@ -23,7 +22,7 @@ pub struct Names {
 
 impl Model for Names {
     ghost use Rattle.std.specs.Prelude.{List};
-    ghost use Rattle.ab_norm.specs.declared.nominal.Nominal.{Nominal};
+    ghost use Rattle.ab_unifying.specs.ab_norm.specs.declared.nominal.Nominal.{Nominal};
 
     ghost Value = { List Nominal };
 
@@ -54,7 +53,7 @@ pub struct Choices {
 
 impl Model for Choices {
     ghost use Rattle.std.specs.Prelude.{List};
-    ghost use Rattle.ab_norm.specs.declared.nominal.Nominal.{Nominal};
+    ghost use Rattle.ab_unifying.specs.ab_norm.specs.declared.nominal.Nominal.{Nominal};
 
     ghost Value = { List (List Nominal) };
 

@@ -1,16 +1,16 @@
 //! Heads of clauses: their prefix is taken off, and their arguments are looked at.
 ghost use Rattle.std.specs.Prelude.{◌≡◌, ◌≤◌, ◌∷◌, ℕ, List, Some, None, All, IfOk, IfSome};
 ghost use Rattle.ab_term.specs.Terms.{Head, spine, term, no_terms};
-ghost use Rattle.ab_types.specs.Entries.{Table};
-ghost use Rattle.ab_store.specs.Trees.{Read, Holds, tree_of};
-ghost use Rattle.ab_store.specs.Naming.{IsTypedBy};
-ghost use Rattle.ab_norm.specs.Growth.{AddsTerms};
-ghost use Rattle.ab_cases.specs.Prefixes as prefixes;
+ghost use Rattle.ab_clauses.specs.ab_types.specs.Entries.{Table};
+ghost use Rattle.ab_clauses.specs.ab_store.specs.Trees.{Read, Holds, tree_of};
+ghost use Rattle.ab_clauses.specs.ab_store.specs.Naming.{IsTypedBy};
+ghost use Rattle.ab_unifying.specs.ab_norm.specs.Growth.{AddsTerms};
+ghost use Rattle.ab_clauses.specs.ab_cases.specs.Prefixes as prefixes;
 ghost use Rattle.ab_instances.specs.Readings.{trees_at, given_at};
 
-use ab_norm::instantiate;
-use ab_store::{Node, Store, TermId};
-use ab_types::{Steps, TypeTable};
+use ab_clauses::below::store::{Node, Store, TermId};
+use ab_clauses::below::types::{Steps, TypeTable};
+use ab_unifying::below::norm::instantiate;
 use std::alloc::{AllocError, Global};
 
 /// What a head is given, where that is one term.

@@ -3,18 +3,18 @@ ghost use Rattle.std.specs.Prelude.{◌≡◌, [], List, OnOk, OnErr};
 ghost use Rattle.ab_term.specs.Types.{Ty};
 ghost use Rattle.ab_term.specs.Sameness.{same_number};
 ghost use Rattle.ab_term.specs.Variables.{image};
-ghost use Rattle.ab_store.specs.Trees.{tree_of};
-ghost use Rattle.ab_store.specs.Reading.{reading};
-ghost use Rattle.ab_store.specs.Naming.{IsTypedBy, IsTerm};
-ghost use Rattle.ab_cases.specs.Clauses.{put_together};
+ghost use Rattle.ab_clauses.specs.ab_store.specs.Trees.{tree_of};
+ghost use Rattle.ab_clauses.specs.ab_store.specs.Reading.{reading};
+ghost use Rattle.ab_clauses.specs.ab_store.specs.Naming.{IsTypedBy, IsTerm};
+ghost use Rattle.ab_clauses.specs.ab_cases.specs.Clauses.{put_together};
 ghost use Rattle.ab_unifying.specs.Problem.{variables_read};
 ghost use Rattle.ab_unifying.specs.Changed.{Grows};
 ghost use Rattle.ab_instances.specs.Binding.{bound_to, CanBeBound};
 ghost use Rattle.ab_instances.specs.Readings.{trees_at};
 
 use crate::binding::bind_all;
-use ab_store::{CellId, Store, TermId};
-use ab_types::{Steps, TypeTable};
+use ab_clauses::below::store::{CellId, Store, TermId};
+use ab_clauses::below::types::{Steps, TypeTable};
 use std::alloc::AllocError;
 
 /// Binds the cells, where none is bound, to the terms, in which none of them stands.

@@ -2,9 +2,9 @@
 use Rattle.std.specs.Prelude.{slice_get}
 use Rattle.std.proofs.Common.{◌≡◌, ℕ, suc, ◌+◌, ◌-◌, List, [], ◌∷◌, ◌++◌, Some, length, take, drop, refl, sym, ◌∙◌, ap, subst, arith}
 use Rattle.std.proofs.lemmas.List.{take_at}
-use Rattle.ab_solve.specs.Replacing.{Cell}
-use Rattle.ab_logic.specs.Declarations.{Declarations}
-use Rattle.ab_logic.specs.Sequents.{Sequent}
+use Rattle.ab_rules.specs.ab_solve.specs.Replacing.{Cell}
+use Rattle.ab_rules.specs.ab_logic.specs.Declarations.{Declarations}
+use Rattle.ab_rules.specs.ab_logic.specs.Sequents.{Sequent}
 use Rattle.ab_rules.specs.Steps.{Step}
 use Rattle.ab_rules.specs.Rules.{NamedRule, Fails, Stuck}
 use Rattle.ab_kernel.specs.Derivation.{Derivation, root, open_goals, History, after, IsStep, GoalFails, GoalStuck, undone, Above}

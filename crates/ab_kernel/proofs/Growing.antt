@@ -1,9 +1,9 @@
 -- That the nodes stand for the derivation, from one step to the next.
 use Rattle.std.specs.Prelude.{slice_set}
 use Rattle.std.proofs.Common.{◌≡◌, ℕ, ◌+◌, List, [], ◌∷◌, ◌++◌, length, map, take, drop, get_or, refl, sym, ◌∙◌, ap, subst}
-use Rattle.ab_logic.specs.Readings.{sequent_of}
-use Rattle.ab_logic.specs.declared.world.World.{World}
-use Rattle.ab_logic.specs.declared.sequent.Sequent.{Sequent as Kept}
+use Rattle.ab_rules.specs.ab_logic.specs.Readings.{sequent_of}
+use Rattle.ab_rules.specs.ab_logic.specs.declared.world.World.{World}
+use Rattle.ab_rules.specs.ab_logic.specs.declared.sequent.Sequent.{Sequent as Kept}
 use Rattle.ab_rules.specs.declared.step.Step.{Step}
 use Rattle.ab_rules.specs.Answers.{step_of}
 use Rattle.ab_kernel.specs.declared.node.ProofNode.{ProofNode}

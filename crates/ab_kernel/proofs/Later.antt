@@ -3,15 +3,15 @@ use Rattle.std.specs.List.{All}
 use Rattle.std.proofs.Common.{◌≡◌, List, [], ◌∷◌, map, refl, sym, ◌∙◌, ap, subst}
 use Rattle.std.proofs.lemmas.List.Elements.{All-head, All-tail, All-weaker}
 use Rattle.ab_term.specs.Terms.{Nominal}
-use Rattle.ab_store.specs.Trees.{Read}
-use Rattle.ab_types.proofs.Entries.{same_type, holds_type}
-use Rattle.ab_logic.specs.Worlds.{Holds, read, declarations_of}
-use Rattle.ab_logic.specs.Growth.{Grows}
-use Rattle.ab_logic.specs.Sequents.{Sequent, IsSequent}
-use Rattle.ab_logic.specs.Readings.{sequent_of, HoldsSequent}
-use Rattle.ab_logic.specs.declared.world.World.{World}
-use Rattle.ab_logic.proofs.Growing.{map_same, same_sequent, still_held}
-use Rattle.ab_norm.specs.Nominals.{nominal_of, HoldsNominal}
+use Rattle.ab_rules.specs.ab_store.specs.Trees.{Read}
+use Rattle.ab_rules.specs.ab_types.proofs.Entries.{same_type, holds_type}
+use Rattle.ab_rules.specs.ab_logic.specs.Worlds.{Holds, read, declarations_of}
+use Rattle.ab_rules.specs.ab_logic.specs.Growth.{Grows}
+use Rattle.ab_rules.specs.ab_logic.specs.Sequents.{Sequent, IsSequent}
+use Rattle.ab_rules.specs.ab_logic.specs.Readings.{sequent_of, HoldsSequent}
+use Rattle.ab_rules.specs.ab_logic.specs.declared.world.World.{World}
+use Rattle.ab_rules.specs.ab_logic.proofs.Growing.{map_same, same_sequent, still_held}
+use Rattle.ab_rules.specs.ab_norm.specs.Nominals.{nominal_of, HoldsNominal}
 use Rattle.ab_rules.specs.declared.replaces.Replace.{Replace}
 use Rattle.ab_rules.specs.declared.step.Step.{Step}
 use Rattle.ab_rules.specs.declared.step.Step.TheVariants.{Initial, TrueRight, FalseLeft, AndRight, AndLeft, OrRight, OrLeft, ArrowRight, ArrowLeft, ForallRight, ForallLeft, ExistsRight, ExistsLeft, NablaRight, NablaLeft, EqualRight, EqualLeft, DefRight, DefLeft, Induction, Coinduction, CutFormula, UseTheorem, Weaken, SpecCut, SpecInst, SpecMonotone}

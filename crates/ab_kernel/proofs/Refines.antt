@@ -3,15 +3,15 @@ use Rattle.std.specs.Prelude.{Result, Ok, Err}
 use Rattle.std.specs.List.{All}
 use Rattle.std.proofs.Common.{◌≡◌, ◌⊎◌, inl, inr, ℕ, ◌+◌, ◌<◌, Vec, Global, Some, List, ◌∷◌, ◌++◌, length, map, get_or, sym, ◌∙◌, ap, subst}
 use Rattle.std.proofs.lemmas.List.Elements.{All-cons, All-append, All-weaker}
-use Rattle.ab_logic.specs.Growth.{Grows}
-use Rattle.ab_unifying.specs.Problem.{cells_read}
-use Rattle.ab_logic.specs.Names.{IsNoVariable, IsNamedFor}
-use Rattle.ab_logic.specs.Declarations.{Declarations}
-use Rattle.ab_logic.specs.Worlds.{IsWorld, declarations_of}
-use Rattle.ab_logic.specs.Sequents.{Sequent, IsSequent}
-use Rattle.ab_logic.specs.Readings.{sequent_of, HoldsSequent}
-use Rattle.ab_logic.specs.declared.world.World.{World}
-use Rattle.ab_logic.specs.declared.sequent.Sequent.{Sequent as Kept}
+use Rattle.ab_rules.specs.ab_logic.specs.Growth.{Grows}
+use Rattle.ab_rules.specs.ab_unifying.specs.Problem.{cells_read}
+use Rattle.ab_rules.specs.ab_logic.specs.Names.{IsNoVariable, IsNamedFor}
+use Rattle.ab_rules.specs.ab_logic.specs.Declarations.{Declarations}
+use Rattle.ab_rules.specs.ab_logic.specs.Worlds.{IsWorld, declarations_of}
+use Rattle.ab_rules.specs.ab_logic.specs.Sequents.{Sequent, IsSequent}
+use Rattle.ab_rules.specs.ab_logic.specs.Readings.{sequent_of, HoldsSequent}
+use Rattle.ab_rules.specs.ab_logic.specs.declared.world.World.{World}
+use Rattle.ab_rules.specs.ab_logic.specs.declared.sequent.Sequent.{Sequent as Kept}
 use Rattle.ab_rules.specs.declared.step.Step.{Step}
 use Rattle.ab_rules.specs.declared.step.KernelFault.{KernelFault}
 use Rattle.ab_rules.specs.declared.step.KernelFault.TheVariants.{RuleFails, NotPattern, Memory}

@@ -1,9 +1,9 @@
 -- A step at an open goal: what is open after it, what stands at the root, and that it stays valid.
 use Rattle.std.specs.Prelude.{slice_get, nat_lt, if◌then◌else◌}
 use Rattle.std.proofs.Common.{◌≡◌, ℕ, zero, suc, ◌+◌, ◌-◌, ◌<◌, ◌≤◌, inl, inr, true, false, Some, List, [], ◌∷◌, ◌++◌, length, take, drop, refl, sym, ◌∙◌, ap, subst, arith, append_assoc, append-nil, length-append}
-use Rattle.ab_logic.specs.Sequents.{Sequent}
+use Rattle.ab_rules.specs.ab_logic.specs.Sequents.{Sequent}
 use Rattle.ab_rules.specs.Steps.{Step}
-use Rattle.ab_logic.specs.Declarations.{Declarations, Extends}
+use Rattle.ab_rules.specs.ab_logic.specs.Declarations.{Declarations, Extends}
 use Rattle.ab_rules.specs.Rules.{Rule}
 use Rattle.ab_rules.proofs.Longer.{still_rule}
 use Rattle.ab_kernel.specs.Derivation.{Derivation, goal, by, Derivations, none, more, root, roots, Valid, AllValid, open_goals, all_open_goals, goals, refined, refined_in}

@@ -5,11 +5,11 @@ use Rattle.std.proofs.lemmas.List.Elements.{All-cons, All-head, All-tail, All-ap
 use Rattle.ab_term.specs.Names.{support}
 use Rattle.ab_term.specs.Variables.{variables}
 use Rattle.ab_term.proofs.Lists.{Contains-none, All-from_contains, AllPairs-none}
-use Rattle.ab_store.specs.Trees.{Read}
-use Rattle.ab_logic.specs.Formulas.{IsFormula, HasOneTypeEach}
-use Rattle.ab_logic.specs.Declarations.{Declarations, Extends, signature_in, HaveSentences, HaveDefinitions}
-use Rattle.ab_logic.specs.Sequents.{Variable, Hypothesis, Sequent, formulas_of, HoldsOnly, IsSequent}
-use Rattle.ab_logic.proofs.Declaring.{still_formula}
+use Rattle.ab_rules.specs.ab_store.specs.Trees.{Read}
+use Rattle.ab_rules.specs.ab_logic.specs.Formulas.{IsFormula, HasOneTypeEach}
+use Rattle.ab_rules.specs.ab_logic.specs.Declarations.{Declarations, Extends, signature_in, HaveSentences, HaveDefinitions}
+use Rattle.ab_rules.specs.ab_logic.specs.Sequents.{Variable, Hypothesis, Sequent, formulas_of, HoldsOnly, IsSequent}
+use Rattle.ab_rules.specs.ab_logic.proofs.Declaring.{still_formula}
 use Rattle.ab_rules.proofs.Keeping.{kept_by_rule}
 use Rattle.ab_kernel.specs.Derivation.{Derivation, goal, by, Derivations, none, more, root, roots, Valid, AllValid, open_goals, all_open_goals, proves}
 

@@ -5,12 +5,12 @@ use Rattle.std.proofs.lemmas.List.{reverse-append, length-map, length-take-le, t
 use Rattle.std.proofs.lemmas.List.Elements.{All-head, All-tail, All-take}
 use Rattle.ab_kernel.specs.Nodes.{sequents_in}
 use Rattle.ab_kernel.specs.Layout.{StepAt, steps_in}
-use Rattle.ab_logic.specs.declared.world.World.{World}
-use Rattle.ab_logic.specs.declared.sequent.Sequent.{Sequent as Kept}
-use Rattle.ab_logic.specs.Sequents.{Sequent, IsSequent}
-use Rattle.ab_logic.specs.Readings.{sequent_of, HoldsSequent}
+use Rattle.ab_rules.specs.ab_logic.specs.declared.world.World.{World}
+use Rattle.ab_rules.specs.ab_logic.specs.declared.sequent.Sequent.{Sequent as Kept}
+use Rattle.ab_rules.specs.ab_logic.specs.Sequents.{Sequent, IsSequent}
+use Rattle.ab_rules.specs.ab_logic.specs.Readings.{sequent_of, HoldsSequent}
 use Rattle.ab_rules.specs.Answers.{HoldsStep}
-use Rattle.ab_logic.specs.Worlds.{declarations_of}
+use Rattle.ab_rules.specs.ab_logic.specs.Worlds.{declarations_of}
 use Rattle.ab_kernel.specs.Derivation.{root, Valid, open_goals, History, undone}
 use Rattle.ab_kernel.specs.Layout.{history_of, IsProof, sequents_before, made_by, Reads, start_of, open_before, Stands}
 use Rattle.ab_kernel.specs.Nodes.{node_at, step_held}

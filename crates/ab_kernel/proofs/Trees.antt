@@ -4,10 +4,10 @@ use Rattle.std.specs.Option.{option_map}
 use Rattle.std.proofs.Common.{◌≡◌, ◌≢◌, ℕ, zero, suc, ◌+◌, ◌-◌, ◌<◌, ◌≤◌, inl, inr, List, [], ◌∷◌, ◌++◌, Option, Some, None, length, map, take, drop, reverse, refl, sym, ◌∙◌, ap, subst, arith, append_assoc, append-nil, length-append, length-drop}
 use Rattle.std.proofs.lemmas.List.{length-map, reverse-append, length-reverse, length-take-le, get_or-set_other, get_or_append_left, length-set}
 use Rattle.std.proofs.lemmas.Option.{get_or_from_slice_get}
-use Rattle.ab_logic.specs.Sequents.{Sequent}
-use Rattle.ab_logic.specs.Readings.{sequent_of}
-use Rattle.ab_logic.specs.declared.world.World.{World}
-use Rattle.ab_logic.specs.declared.sequent.Sequent.{Sequent as Kept}
+use Rattle.ab_rules.specs.ab_logic.specs.Sequents.{Sequent}
+use Rattle.ab_rules.specs.ab_logic.specs.Readings.{sequent_of}
+use Rattle.ab_rules.specs.ab_logic.specs.declared.world.World.{World}
+use Rattle.ab_rules.specs.ab_logic.specs.declared.sequent.Sequent.{Sequent as Kept}
 use Rattle.ab_rules.specs.Steps.{Step}
 use Rattle.ab_rules.specs.Answers.{step_of}
 use Rattle.ab_kernel.specs.declared.node.ProofNode.{ProofNode}

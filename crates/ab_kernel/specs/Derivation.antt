@@ -1,10 +1,10 @@
 -- Derivations with open goals, when they are valid, and when one derives a formula.
 use Rattle.std.specs.Prelude.{◌≡◌, ℕ, zero, suc, ◌+◌, ◌-◌, ◌≤◌, List, [], ◌∷◌, ◌++◌, length, take, drop, Option, Some, slice_get, nat_lt, if◌then◌else◌}
-use Rattle.ab_store.specs.Trees.{Read}
-use Rattle.ab_solve.specs.Replacing.{Cell}
-use Rattle.ab_logic.specs.Sequents.{Sequent}
-use Rattle.ab_logic.specs.Declarations.{Declarations, signature_in}
-use Rattle.ab_logic.specs.Formulas.{IsSentence}
+use Rattle.ab_rules.specs.ab_store.specs.Trees.{Read}
+use Rattle.ab_rules.specs.ab_solve.specs.Replacing.{Cell}
+use Rattle.ab_rules.specs.ab_logic.specs.Sequents.{Sequent}
+use Rattle.ab_rules.specs.ab_logic.specs.Declarations.{Declarations, signature_in}
+use Rattle.ab_rules.specs.ab_logic.specs.Formulas.{IsSentence}
 use Rattle.ab_rules.specs.Steps.{Step}
 use Rattle.ab_rules.specs.Rules.{Rule, NamedRule, Fails, Stuck}
 

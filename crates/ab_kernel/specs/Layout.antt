@@ -3,10 +3,10 @@
 use Rattle.std.specs.Prelude.{◌≡◌, ℕ, zero, suc, ◌+◌, ◌-◌, ◌≤◌, List, [], ◌∷◌, ◌++◌, length, map, take, drop, reverse, Some, slice_get, slice_set, vec_capacity, unwrap_or, ◌≢◌}
 use Rattle.std.specs.List.{All}
 use Rattle.ab_term.specs.Terms.{spine, index, no_terms}
-use Rattle.ab_logic.specs.Sequents.{Sequent, IsSequent}
-use Rattle.ab_logic.specs.Readings.{sequent_of, HoldsSequent}
-use Rattle.ab_logic.specs.Worlds.{declarations_of}
-use Rattle.ab_logic.specs.declared.world.World.{World}
+use Rattle.ab_rules.specs.ab_logic.specs.Sequents.{Sequent, IsSequent}
+use Rattle.ab_rules.specs.ab_logic.specs.Readings.{sequent_of, HoldsSequent}
+use Rattle.ab_rules.specs.ab_logic.specs.Worlds.{declarations_of}
+use Rattle.ab_rules.specs.ab_logic.specs.declared.world.World.{World}
 use Rattle.ab_rules.specs.declared.step.Step.{Step}
 use Rattle.ab_kernel.specs.declared.node.ProofNode.{ProofNode}
 use Rattle.ab_kernel.specs.declared.proving.Refinement.{Refinement}

@@ -3,3 +3,19 @@ pub mod Derivation
 pub mod Nodes
 pub mod Reading
 pub mod Layout
+-- Libraries that the crates above name through this one.
+pub use Rattle.ab_rules.specs.ab_solve
+pub use Rattle.ab_rules.specs.ab_cases
+pub use Rattle.ab_rules.specs.ab_types
+pub use Rattle.ab_rules.specs.ab_store
+pub use Rattle.ab_rules.specs.ab_norm
+pub use Rattle.ab_rules.specs.ab_logic
+pub use Rattle.ab_rules.specs.ab_unifying
+pub use Rattle.ab_rules.specs.ab_naming
+pub use Rattle.ab_rules.specs.ab_marks
+pub use Rattle.ab_rules.specs.ab_instances
+pub use Rattle.ab_rules.specs.ab_equate
+pub use Rattle.ab_rules.specs.ab_analysis
+pub use Rattle.ab_rules.specs.ab_induction
+pub use Rattle.ab_rules.specs.ab_alternatives
+pub use Rattle.ab_rules

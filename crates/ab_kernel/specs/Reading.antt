@@ -1,9 +1,9 @@
 -- The nodes of a proof as its derivation, which they are from the root on, by the numbers of each node's children.
 use Rattle.std.specs.Prelude.{◌≡◌, ℕ, ◌<◌, List, [], ◌∷◌, ◌++◌, length, reverse, Option, Some, None}
 use Rattle.std.specs.Option.{option_map}
-use Rattle.ab_logic.specs.Sequents.{Sequent}
-use Rattle.ab_logic.specs.Readings.{sequent_of}
-use Rattle.ab_logic.specs.declared.world.World.{World}
+use Rattle.ab_rules.specs.ab_logic.specs.Sequents.{Sequent}
+use Rattle.ab_rules.specs.ab_logic.specs.Readings.{sequent_of}
+use Rattle.ab_rules.specs.ab_logic.specs.declared.world.World.{World}
 use Rattle.ab_rules.specs.Steps.{Step}
 use Rattle.ab_rules.specs.Answers.{step_of}
 use Rattle.ab_kernel.specs.declared.node.ProofNode.{ProofNode}

@@ -1,11 +1,11 @@
 //! Laws of derivations, which no other contract carries.
 ghost use Rattle.std.specs.Prelude.{◌≡◌, ℕ, ◌+◌, List, ◌∷◌, ◌++◌, length, Some, All};
-ghost use Rattle.ab_solve.specs.Replacing.{Cell};
-ghost use Rattle.ab_logic.specs.Declarations.{Declarations, Extends, HaveSentences, HaveDefinitions};
-ghost use Rattle.ab_logic.specs.Worlds.{declarations_of, IsWorld};
-ghost use Rattle.ab_logic.specs.Growth.{Grows};
-ghost use Rattle.ab_logic.specs.Sequents.{Sequent, IsSequent};
-ghost use Rattle.ab_logic.specs.declared.world.World.{World};
+ghost use Rattle.ab_rules.specs.ab_solve.specs.Replacing.{Cell};
+ghost use Rattle.ab_rules.specs.ab_logic.specs.Declarations.{Declarations, Extends, HaveSentences, HaveDefinitions};
+ghost use Rattle.ab_rules.specs.ab_logic.specs.Worlds.{declarations_of, IsWorld};
+ghost use Rattle.ab_rules.specs.ab_logic.specs.Growth.{Grows};
+ghost use Rattle.ab_rules.specs.ab_logic.specs.Sequents.{Sequent, IsSequent};
+ghost use Rattle.ab_rules.specs.ab_logic.specs.declared.world.World.{World};
 ghost use Rattle.ab_rules.specs.Steps.{Step};
 ghost use Rattle.ab_rules.specs.Rules.{Rule, NamedRule, Fails, Stuck};
 ghost use Rattle.ab_kernel.specs.Derivation.{Derivation, root, Valid, goal_at, refined, open_goals, History, IsStep, GoalFails, GoalStuck, undone, Above};

@@ -1,6 +1,7 @@
 //! The kernel: derivations with open goals, which are made here, by the rules, and nowhere else.
 #![tactic(auto)]
 
+pub mod below;
 pub mod laws;
 mod node;
 mod places;

@@ -1,16 +1,16 @@
 //! Proofs in progress: derivations with open goals, made by steps of the rules alone.
 ghost use Rattle.std.specs.Prelude.{◌≡◌, ℕ, ◌+◌, ◌<◌, ◌≤◌, [], ◌++◌, ◌↔◌, ◌⊎◌, length, IsTrue, IfOk, IfSome, MatchOption, ◌∷◌, OnOk, OnErr, map, slice_get, vec_len, vec_capacity};
 ghost use Rattle.std.specs.Option.{option_copied, option_map};
-ghost use Rattle.ab_logic.specs.Worlds.{IsWorld, Holds, read, declarations_of};
-ghost use Rattle.ab_logic.specs.Growth.{Grows};
-ghost use Rattle.ab_logic.specs.declared.world.World.{World as AWorld};
-ghost use Rattle.ab_logic.specs.Readings.{sequent_of, HoldsSequent};
-ghost use Rattle.ab_store.specs.Trees.{Read};
-ghost use Rattle.ab_unifying.specs.Problem.{cells_read};
+ghost use Rattle.ab_rules.specs.ab_logic.specs.Worlds.{IsWorld, Holds, read, declarations_of};
+ghost use Rattle.ab_rules.specs.ab_logic.specs.Growth.{Grows};
+ghost use Rattle.ab_rules.specs.ab_logic.specs.declared.world.World.{World as AWorld};
+ghost use Rattle.ab_rules.specs.ab_logic.specs.Readings.{sequent_of, HoldsSequent};
+ghost use Rattle.ab_rules.specs.ab_store.specs.Trees.{Read};
+ghost use Rattle.ab_rules.specs.ab_unifying.specs.Problem.{cells_read};
 ghost use Rattle.ab_term.specs.Names.{support};
 ghost use Rattle.ab_term.specs.Variables.{variables};
-ghost use Rattle.ab_logic.specs.Declarations.{signature_in};
-ghost use Rattle.ab_logic.specs.Formulas.{IsFormula, IsSentence, HasOneTypeEach};
+ghost use Rattle.ab_rules.specs.ab_logic.specs.Declarations.{signature_in};
+ghost use Rattle.ab_rules.specs.ab_logic.specs.Formulas.{IsFormula, IsSentence, HasOneTypeEach};
 ghost use Rattle.ab_rules.specs.Answers.{step_of, HoldsStep, IsMemory};
 ghost use Rattle.ab_rules.specs.declared.step.KernelFault.{KernelFault};
 ghost use Rattle.ab_kernel.specs.Derivation.{root, Valid, open_goals, goal_at, IsDerivation, beginning, proves, IsStep, GoalFails, GoalStuck, undone};
@@ -20,10 +20,10 @@ ghost use Rattle.ab_kernel.specs.Reading.{StandsFor};
 
 use crate::node::{Children, ProofNode, clear_at, fill_at, take_in};
 use crate::places::{replace_goal, restore_goal};
-use ab_logic::{Hypotheses, Sequent, Variables, World};
+use ab_rules::below::logic::{Hypotheses, Sequent, Variables, World};
+use ab_rules::below::store::TermId;
+use ab_rules::below::types::Steps;
 use ab_rules::{KernelFault, Step, premises};
-use ab_store::TermId;
-use ab_types::Steps;
 use std::alloc::{AllocError, Global};
 use std::marker::Model;
 

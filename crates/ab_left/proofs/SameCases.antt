@@ -6,20 +6,20 @@ use Rattle.ab_term.specs.Terms as tree
 use Rattle.ab_term.specs.Terms.{Nominal, Terms}
 use Rattle.ab_term.specs.Names.{support, support_of_all}
 use Rattle.ab_term.proofs.Lists.{Contains-none}
-use Rattle.ab_store.specs.Trees.{Read}
-use Rattle.ab_solve.specs.Replacing.{Cell}
-use Rattle.ab_cases.specs.Clauses.{Clause}
-use Rattle.ab_cases.specs.Choices.{in_order, choices, for_each, outside}
-use Rattle.ab_cases.specs.Alternatives.{Alternative, analysed, alternative, on_left}
-use Rattle.ab_logic.specs.Sequents.{Variable, Hypothesis, Sequent, formula_of, formulas, goal_names, names_of, in_terms, assuming, without}
-use Rattle.ab_equate.specs.Solved.{Naming}
-use Rattle.ab_equate.specs.Cases.{Case, CaseOver, NeverArises, IsOpen, Arises, Split, done, never, arises, IsUnsplit, here, past_never, past_goal}
-use Rattle.ab_analysis.specs.Atoms.{Defined, Choice, choices_of}
-use Rattle.ab_analysis.specs.Left.{scope_of, raised_goal, count_before, case_of, cases_of}
-use Rattle.ab_marks.specs.Marking.{mark_below, marked_in}
-use Rattle.ab_alternatives.specs.Members.{SameMembers}
-use Rattle.ab_alternatives.proofs.Agreeing.{choices_same}
-use Rattle.ab_rules.proofs.Chosen.{in_goal}
+use Rattle.ab_progress.specs.ab_store.specs.Trees.{Read}
+use Rattle.ab_progress.specs.ab_solve.specs.Replacing.{Cell}
+use Rattle.ab_progress.specs.ab_cases.specs.Clauses.{Clause}
+use Rattle.ab_progress.specs.ab_cases.specs.Choices.{in_order, choices, for_each, outside}
+use Rattle.ab_progress.specs.ab_cases.specs.Alternatives.{Alternative, analysed, alternative, on_left}
+use Rattle.ab_progress.specs.ab_logic.specs.Sequents.{Variable, Hypothesis, Sequent, formula_of, formulas, goal_names, names_of, in_terms, assuming, without}
+use Rattle.ab_progress.specs.ab_equate.specs.Solved.{Naming}
+use Rattle.ab_progress.specs.ab_equate.specs.Cases.{Case, CaseOver, NeverArises, IsOpen, Arises, Split, done, never, arises, IsUnsplit, here, past_never, past_goal}
+use Rattle.ab_progress.specs.ab_analysis.specs.Atoms.{Defined, Choice, choices_of}
+use Rattle.ab_progress.specs.ab_analysis.specs.Left.{scope_of, raised_goal, count_before, case_of, cases_of}
+use Rattle.ab_progress.specs.ab_marks.specs.Marking.{mark_below, marked_in}
+use Rattle.ab_progress.specs.ab_alternatives.specs.Members.{SameMembers}
+use Rattle.ab_progress.specs.ab_alternatives.proofs.Agreeing.{choices_same}
+use Rattle.ab_progress.specs.ab_rules.proofs.Chosen.{in_goal}
 use Rattle.ab_left.specs.Cases.{rest_of}
 use Rattle.ab_left.proofs.Hypotheses.{entry}
 use Rattle.ab_left.proofs.Standing.{LabelsDiffer, apart_from_own, with_own}

@@ -1,24 +1,24 @@
 -- A hypothesis of the command's own that is an equation is solved in its goal.
 use Rattle.std.specs.Prelude.{Some, None}
 use Rattle.std.proofs.Common.{◌≡◌, ◌≢◌, inl, ℕ, ◌<◌, List, [], ◌∷◌, Bool, length, refl, sym, ◌∙◌, ap, subst, arith}
-use Rattle.ab_store.specs.Trees.{Read}
-use Rattle.ab_solve.specs.Replacing.{Cell}
-use Rattle.ab_unifying.specs.Problem.{cells_read}
-use Rattle.ab_equate.specs.Solved.{AreCells}
-use Rattle.ab_logic.specs.Declarations.{Declarations}
-use Rattle.ab_logic.specs.Forms.{Form, truth, falsity, both, either, implies, equal, for_all, exists, nabla, marked, other, form_of, as_equal, equal_in}
-use Rattle.ab_logic.specs.Names.{Label, IsNamedFor, IsNoVariable}
-use Rattle.ab_logic.specs.Sequents.{Sequent, formula_of, assuming, without}
-use Rattle.ab_logic.specs.Worlds.{declarations_of}
-use Rattle.ab_logic.specs.declared.world.World.{World}
-use Rattle.ab_rules.specs.Row.{solves, Takes, Sticks}
-use Rattle.ab_rules.specs.Rules.{NamedRule, Stuck}
-use Rattle.ab_rules.specs.Steps.{equal_left}
-use Rattle.ab_kernel.specs.Layout.{Held}
-use Rattle.ab_effects.specs.Effect.{cases}
-use Rattle.ab_effects.specs.Refusals.{not_pattern}
-use Rattle.ab_effects.specs.Row.{Leads, Refuses}
-use Rattle.ab_effects.specs.Solving.{IsSolved, IsOutside}
+use Rattle.ab_progress.specs.ab_store.specs.Trees.{Read}
+use Rattle.ab_progress.specs.ab_solve.specs.Replacing.{Cell}
+use Rattle.ab_progress.specs.ab_unifying.specs.Problem.{cells_read}
+use Rattle.ab_progress.specs.ab_equate.specs.Solved.{AreCells}
+use Rattle.ab_progress.specs.ab_logic.specs.Declarations.{Declarations}
+use Rattle.ab_progress.specs.ab_logic.specs.Forms.{Form, truth, falsity, both, either, implies, equal, for_all, exists, nabla, marked, other, form_of, as_equal, equal_in}
+use Rattle.ab_progress.specs.ab_logic.specs.Names.{Label, IsNamedFor, IsNoVariable}
+use Rattle.ab_progress.specs.ab_logic.specs.Sequents.{Sequent, formula_of, assuming, without}
+use Rattle.ab_progress.specs.ab_logic.specs.Worlds.{declarations_of}
+use Rattle.ab_progress.specs.ab_logic.specs.declared.world.World.{World}
+use Rattle.ab_progress.specs.ab_rules.specs.Row.{solves, Takes, Sticks}
+use Rattle.ab_progress.specs.ab_rules.specs.Rules.{NamedRule, Stuck}
+use Rattle.ab_progress.specs.ab_rules.specs.Steps.{equal_left}
+use Rattle.ab_progress.specs.ab_kernel.specs.Layout.{Held}
+use Rattle.ab_progress.specs.ab_effects.specs.Effect.{cases}
+use Rattle.ab_progress.specs.ab_effects.specs.Refusals.{not_pattern}
+use Rattle.ab_progress.specs.ab_effects.specs.Row.{Leads, Refuses}
+use Rattle.ab_progress.specs.ab_effects.specs.Solving.{IsSolved, IsOutside}
 use Rattle.ab_progress.specs.Progress.{goals_of, TookInto, FailsBy, StuckAt}
 use Rattle.ab_progress.proofs.Following.{first_at, one_at_least, place_of}
 use Rattle.ab_left.specs.Cases.{IsEquation, rest_of, Begun, TakenApart, CantTake}

@@ -6,20 +6,20 @@ use Rattle.std.proofs.Common.{◌≡◌, ◌≢◌, inl, inr, ℕ, suc, ◌+◌,
 use Rattle.std.proofs.lemmas.List.{map-append}
 use Rattle.ab_term.specs.Variables.{Substitution, image}
 use Rattle.ab_term.specs.Sameness.{same_number}
-use Rattle.ab_store.specs.Trees.{Read}
-use Rattle.ab_solve.specs.Replacing.{Cell}
-use Rattle.ab_cases.specs.Alternatives.{alternative, on_left}
-use Rattle.ab_logic.specs.Declarations.{Declarations}
-use Rattle.ab_logic.specs.Names.{Label, given, IsNamedFor, IsNoVariable}
-use Rattle.ab_logic.specs.Sequents.{Variable, Hypothesis, Sequent, IsSequent, named, formula_of, goal_names, assuming, without, IsUsed}
-use Rattle.ab_marks.specs.Marking.{MayBeAnalysed, mark_below, marked_in}
-use Rattle.ab_equate.specs.Solved.{Naming, AreCells, changed, under, renaming, made, stays}
-use Rattle.ab_equate.specs.Cases.{Arises, Split, never, arises, IsUnsplit}
-use Rattle.ab_analysis.specs.Atoms.{Defined, Choice, defined_atom, choices_of}
-use Rattle.ab_analysis.specs.Left.{scope_of, raised_goal, case_of, cases_of}
-use Rattle.ab_rules.specs.Rules.{NamedRule, Fails, Stuck}
-use Rattle.ab_effects.specs.Analysing.{IsParted, IsUnparted}
-use Rattle.ab_effects.specs.Refusals.{not_pattern}
+use Rattle.ab_progress.specs.ab_store.specs.Trees.{Read}
+use Rattle.ab_progress.specs.ab_solve.specs.Replacing.{Cell}
+use Rattle.ab_progress.specs.ab_cases.specs.Alternatives.{alternative, on_left}
+use Rattle.ab_progress.specs.ab_logic.specs.Declarations.{Declarations}
+use Rattle.ab_progress.specs.ab_logic.specs.Names.{Label, given, IsNamedFor, IsNoVariable}
+use Rattle.ab_progress.specs.ab_logic.specs.Sequents.{Variable, Hypothesis, Sequent, IsSequent, named, formula_of, goal_names, assuming, without, IsUsed}
+use Rattle.ab_progress.specs.ab_marks.specs.Marking.{MayBeAnalysed, mark_below, marked_in}
+use Rattle.ab_progress.specs.ab_equate.specs.Solved.{Naming, AreCells, changed, under, renaming, made, stays}
+use Rattle.ab_progress.specs.ab_equate.specs.Cases.{Arises, Split, never, arises, IsUnsplit}
+use Rattle.ab_progress.specs.ab_analysis.specs.Atoms.{Defined, Choice, defined_atom, choices_of}
+use Rattle.ab_progress.specs.ab_analysis.specs.Left.{scope_of, raised_goal, case_of, cases_of}
+use Rattle.ab_progress.specs.ab_rules.specs.Rules.{NamedRule, Fails, Stuck}
+use Rattle.ab_progress.specs.ab_effects.specs.Analysing.{IsParted, IsUnparted}
+use Rattle.ab_progress.specs.ab_effects.specs.Refusals.{not_pattern}
 use Rattle.ab_left.specs.Cases.{rest_of}
 use Rattle.ab_left.specs.Analysed.{Waits, AllWait, split_own}
 use Rattle.ab_left.proofs.Hypotheses.{entry, same_or_not, named_last}

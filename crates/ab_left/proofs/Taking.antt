@@ -2,23 +2,23 @@
 use Rattle.std.specs.Prelude.{Result, Ok, Err}
 use Rattle.std.specs.Option.{IsSome}
 use Rattle.std.proofs.Common.{◌≡◌, ◌≢◌, inl, inr, ℕ, ◌+◌, List, [], ◌∷◌, ◌++◌, Bool, true, false, Option, Some, None, refl, sym, ◌∙◌, ap, subst}
-use Rattle.ab_store.specs.Trees.{Read}
-use Rattle.ab_unifying.specs.Problem.{cells_read}
-use Rattle.ab_store.specs.declared.node.TermId.{TermId}
+use Rattle.ab_progress.specs.ab_store.specs.Trees.{Read}
+use Rattle.ab_progress.specs.ab_unifying.specs.Problem.{cells_read}
+use Rattle.ab_progress.specs.ab_store.specs.declared.node.TermId.{TermId}
 use Rattle.ab_grammar.specs.CommandTrees as told
-use Rattle.ab_logic.specs.Declarations.{Declarations}
-use Rattle.ab_logic.specs.Forms.{Form, truth, falsity, both, either, implies, equal, for_all, exists, nabla, marked, other, form_of, as_either, either_in, falsity_in}
-use Rattle.ab_logic.specs.Names.{Label, given, Names, NoName}
-use Rattle.ab_logic.specs.Sequents.{Sequent, formula_of, assuming, without}
-use Rattle.ab_logic.specs.Growth.{Grows}
-use Rattle.ab_logic.specs.Worlds.{declarations_of, Holds, read}
-use Rattle.ab_logic.specs.declared.world.World.{World}
-use Rattle.ab_rules.specs.Steps.{or_left, false_left}
-use Rattle.ab_kernel.specs.Layout.{Held}
-use Rattle.ab_effects.specs.Effect.{effect, cases, clashing}
-use Rattle.ab_effects.specs.Opening.{Opened, Nameless}
-use Rattle.ab_effects.specs.Refusals.{Refusal, names_spent, wrong_shape, mark, not_pattern}
-use Rattle.ab_effects.specs.Row.{Leads, Refuses}
+use Rattle.ab_progress.specs.ab_logic.specs.Declarations.{Declarations}
+use Rattle.ab_progress.specs.ab_logic.specs.Forms.{Form, truth, falsity, both, either, implies, equal, for_all, exists, nabla, marked, other, form_of, as_either, either_in, falsity_in}
+use Rattle.ab_progress.specs.ab_logic.specs.Names.{Label, given, Names, NoName}
+use Rattle.ab_progress.specs.ab_logic.specs.Sequents.{Sequent, formula_of, assuming, without}
+use Rattle.ab_progress.specs.ab_logic.specs.Growth.{Grows}
+use Rattle.ab_progress.specs.ab_logic.specs.Worlds.{declarations_of, Holds, read}
+use Rattle.ab_progress.specs.ab_logic.specs.declared.world.World.{World}
+use Rattle.ab_progress.specs.ab_rules.specs.Steps.{or_left, false_left}
+use Rattle.ab_progress.specs.ab_kernel.specs.Layout.{Held}
+use Rattle.ab_progress.specs.ab_effects.specs.Effect.{effect, cases, clashing}
+use Rattle.ab_progress.specs.ab_effects.specs.Opening.{Opened, Nameless}
+use Rattle.ab_progress.specs.ab_effects.specs.Refusals.{Refusal, names_spent, wrong_shape, mark, not_pattern}
+use Rattle.ab_progress.specs.ab_effects.specs.Row.{Leads, Refuses}
 use Rattle.ab_progress.specs.Applied.{IsApplied, IsRefused, RefusedBy}
 use Rattle.ab_progress.specs.declared.fault.ProofCommandFault.{ProofCommandFault}
 use Rattle.ab_progress.specs.Progress.{goals_of, IsAt, Took, Holds as Sure}

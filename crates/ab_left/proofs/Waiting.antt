@@ -1,15 +1,15 @@
 -- Goals that wait for their last hypothesis to be opened, one after another.
 use Rattle.std.specs.Prelude.{None}
 use Rattle.std.proofs.Common.{◌≡◌, ℕ, suc, ◌+◌, ◌<◌, ◌≤◌, List, [], ◌∷◌, ◌++◌, map, take, drop, length, Some, refl, sym, ◌∙◌, ap, subst, arith, append_assoc, append-nil, length-append}
-use Rattle.ab_store.specs.Trees.{Read}
-use Rattle.ab_logic.specs.Declarations.{Declarations}
-use Rattle.ab_logic.specs.Names.{Label}
-use Rattle.ab_logic.specs.Sequents.{Sequent, formula_of, assuming, without}
-use Rattle.ab_logic.specs.Worlds.{declarations_of}
-use Rattle.ab_logic.specs.declared.world.World.{World}
-use Rattle.ab_kernel.specs.Layout.{Held}
-use Rattle.ab_effects.specs.Opening.{Opened, Nameless}
-use Rattle.ab_effects.specs.Analysing.{AllOpened, none, one, SomeNameless, here, behind}
+use Rattle.ab_progress.specs.ab_store.specs.Trees.{Read}
+use Rattle.ab_progress.specs.ab_logic.specs.Declarations.{Declarations}
+use Rattle.ab_progress.specs.ab_logic.specs.Names.{Label}
+use Rattle.ab_progress.specs.ab_logic.specs.Sequents.{Sequent, formula_of, assuming, without}
+use Rattle.ab_progress.specs.ab_logic.specs.Worlds.{declarations_of}
+use Rattle.ab_progress.specs.ab_logic.specs.declared.world.World.{World}
+use Rattle.ab_progress.specs.ab_kernel.specs.Layout.{Held}
+use Rattle.ab_progress.specs.ab_effects.specs.Opening.{Opened, Nameless}
+use Rattle.ab_progress.specs.ab_effects.specs.Analysing.{AllOpened, none, one, SomeNameless, here, behind}
 use Rattle.ab_progress.specs.Progress.{goals_of, IsAt}
 use Rattle.ab_left.specs.Progress.{HasAt, OpenedTo}
 use Rattle.ab_left.specs.Analysed.{Waits, AllWait, FirstWait, FirstOpened, FirstNameless, OpenedSoFar}

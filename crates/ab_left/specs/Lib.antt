@@ -4,3 +4,14 @@ pub mod Progress
 pub mod Cases
 pub mod Outcomes
 pub mod Analysed
+-- Libraries that the crates above name through this one.
+pub use Rattle.ab_progress.specs.ab_types
+pub use Rattle.ab_progress.specs.ab_store
+pub use Rattle.ab_progress.specs.ab_norm
+pub use Rattle.ab_progress.specs.ab_logic
+pub use Rattle.ab_progress.specs.ab_naming
+pub use Rattle.ab_progress.specs.ab_permuting
+pub use Rattle.ab_progress.specs.ab_rules
+pub use Rattle.ab_progress.specs.ab_kernel
+pub use Rattle.ab_progress.specs.ab_effects
+pub use Rattle.ab_progress

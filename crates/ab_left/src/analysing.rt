@@ -1,11 +1,11 @@
 //! A hypothesis that is an atom of a definition is analysed: the goal is split into the cases of the atom, and what each
 //! case assumes is opened.
 ghost use Rattle.std.specs.Prelude.{◌≡◌, ◌≢◌, ◌+◌, ℕ, [], Ok, Err, OnOk};
-ghost use Rattle.ab_logic.specs.Forms.{form_of};
-ghost use Rattle.ab_logic.specs.Worlds.{IsWorld, Holds, read};
-ghost use Rattle.ab_naming.specs.Labels.{label_of};
-ghost use Rattle.ab_kernel.specs.Layout.{history_of, IsProof};
-ghost use Rattle.ab_effects.specs.Refusals.{wrong_shape, mark, not_pattern, names_spent};
+ghost use Rattle.ab_progress.specs.ab_logic.specs.Forms.{form_of};
+ghost use Rattle.ab_progress.specs.ab_logic.specs.Worlds.{IsWorld, Holds, read};
+ghost use Rattle.ab_progress.specs.ab_naming.specs.Labels.{label_of};
+ghost use Rattle.ab_progress.specs.ab_kernel.specs.Layout.{history_of, IsProof};
+ghost use Rattle.ab_progress.specs.ab_effects.specs.Refusals.{wrong_shape, mark, not_pattern, names_spent};
 ghost use Rattle.ab_progress.specs.Progress.{goals_of, Follows, TookInto, FailsBy, StuckAt};
 ghost use Rattle.ab_progress.specs.declared.advancing.Attempted.TheVariants.{Taken, Failed, Stuck};
 ghost use Rattle.ab_left.specs.Own.{IsOwn};
@@ -19,12 +19,12 @@ use crate::beginning::{begin, first_over_cells};
 use crate::opening::open_named;
 use crate::outcome::Outcome;
 use crate::stop::Stop;
-use ab_kernel::{Proof, Step};
-use ab_logic::World;
-use ab_naming::Label;
+use ab_progress::below::kernel::{Proof, Step};
+use ab_progress::below::logic::World;
+use ab_progress::below::naming::Label;
+use ab_progress::below::store::TermId;
+use ab_progress::below::types::{Name, Steps};
 use ab_progress::{Attempted, attempt_solving};
-use ab_store::TermId;
-use ab_types::{Name, Steps};
 use std::alloc::{AllocError, Global};
 
 /// Splits the first goal by a hypothesis of the command's own. What each case assumes has its name.

@@ -1,11 +1,11 @@
 //! A hypothesis is put behind the others under a name of the command's own, before it is taken apart.
 ghost use Rattle.std.specs.Prelude.{◌≡◌, ◌≢◌, [], ◌∷◌, List, IfOk};
-ghost use Rattle.ab_logic.specs.Sequents.{Sequent as AGoal};
-ghost use Rattle.ab_logic.specs.Worlds.{IsWorld, Holds, read};
-ghost use Rattle.ab_naming.specs.Labels.{label_of};
-ghost use Rattle.ab_unifying.specs.Problem.{cells_read};
-ghost use Rattle.ab_equate.specs.Solved.{AreCells};
-ghost use Rattle.ab_kernel.specs.Layout.{IsProof};
+ghost use Rattle.ab_progress.specs.ab_logic.specs.Sequents.{Sequent as AGoal};
+ghost use Rattle.ab_progress.specs.ab_logic.specs.Worlds.{IsWorld, Holds, read};
+ghost use Rattle.ab_progress.specs.ab_naming.specs.Labels.{label_of};
+ghost use Rattle.ab_progress.specs.ab_unifying.specs.Problem.{cells_read};
+ghost use Rattle.ab_progress.specs.ab_equate.specs.Solved.{AreCells};
+ghost use Rattle.ab_progress.specs.ab_kernel.specs.Layout.{IsProof};
 ghost use Rattle.ab_progress.specs.Progress.{goals_of, Follows};
 ghost use Rattle.ab_left.specs.Own.{IsOwn};
 ghost use Rattle.ab_left.specs.Progress.{HasAt};
@@ -13,12 +13,12 @@ ghost use Rattle.ab_left.specs.Cases.{Begun};
 
 use crate::moving::{copy, shift};
 use crate::own::own_name;
-use ab_kernel::Proof;
-use ab_logic::World;
-use ab_naming::Label;
+use ab_progress::below::kernel::Proof;
+use ab_progress::below::logic::World;
+use ab_progress::below::naming::Label;
+use ab_progress::below::store::TermId;
+use ab_progress::below::types::{Name, Steps};
 use ab_progress::first_goal;
-use ab_store::TermId;
-use ab_types::{Name, Steps};
 use std::alloc::{AllocError, Global};
 
 /// Puts the formula of a hypothesis of the first goal behind the others, under a name of the command's own, which is the

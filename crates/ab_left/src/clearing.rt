@@ -2,23 +2,23 @@
 ghost use Rattle.std.specs.Prelude.{◌≡◌, ◌≢◌, ◌∷◌, [], List, Err, IfOk, OnOk, OnErr};
 ghost use Rattle.std.specs.Option.{option_map, option_copied};
 ghost use Rattle.ab_grammar.specs.CommandTrees as told;
-ghost use Rattle.ab_logic.specs.Names as plain;
-ghost use Rattle.ab_logic.specs.Readings.{sequent_of};
-ghost use Rattle.ab_logic.specs.Sequents.{Sequent as AGoal, without};
-ghost use Rattle.ab_logic.specs.Worlds.{IsWorld};
-ghost use Rattle.ab_logic.specs.declared.world.World.{World as AWorld};
-ghost use Rattle.ab_kernel.specs.Layout.{history_of, IsProof};
-ghost use Rattle.ab_effects.specs.Effect.{missing, cleared};
-ghost use Rattle.ab_effects.specs.Refusals.{no_hypothesis};
+ghost use Rattle.ab_progress.specs.ab_logic.specs.Names as plain;
+ghost use Rattle.ab_progress.specs.ab_logic.specs.Readings.{sequent_of};
+ghost use Rattle.ab_progress.specs.ab_logic.specs.Sequents.{Sequent as AGoal, without};
+ghost use Rattle.ab_progress.specs.ab_logic.specs.Worlds.{IsWorld};
+ghost use Rattle.ab_progress.specs.ab_logic.specs.declared.world.World.{World as AWorld};
+ghost use Rattle.ab_progress.specs.ab_kernel.specs.Layout.{history_of, IsProof};
+ghost use Rattle.ab_progress.specs.ab_effects.specs.Effect.{missing, cleared};
+ghost use Rattle.ab_progress.specs.ab_effects.specs.Refusals.{no_hypothesis};
 ghost use Rattle.ab_progress.specs.Applied.{IsApplied, IsRefused};
 ghost use Rattle.ab_progress.specs.Progress.{goals_of, Follows};
 ghost use Rattle.ab_progress.specs.declared.fault.ProofCommandFault.{ProofCommandFault};
 
 use crate::moving::forget;
-use ab_kernel::Proof;
-use ab_logic::{Sequent, World};
+use ab_progress::below::kernel::Proof;
+use ab_progress::below::logic::{Sequent, World};
+use ab_progress::below::types::{Name, Steps};
 use ab_progress::{ProofCommandFault, first_goal, take_back};
-use ab_types::{Name, Steps};
 use std::alloc::{AllocError, Global};
 
 /// The first of the names that no hypothesis of the goal has.

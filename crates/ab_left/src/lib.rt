@@ -3,6 +3,7 @@
 
 mod analysing;
 mod beginning;
+pub mod below;
 mod cases;
 mod clearing;
 mod moving;

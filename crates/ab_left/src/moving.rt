@@ -1,20 +1,20 @@
 //! A hypothesis is removed, is put behind the others once more, or is named anew there.
 ghost use Rattle.std.specs.Prelude.{◌≡◌, List, Some, IfOk, OnOk, IsTrue, IsFalse};
-ghost use Rattle.ab_store.specs.Trees.{Read};
-ghost use Rattle.ab_logic.specs.Worlds.{IsWorld, Holds, read};
-ghost use Rattle.ab_logic.specs.Names.{NoName};
-ghost use Rattle.ab_logic.specs.Sequents.{Sequent as AGoal, formula_of, without};
-ghost use Rattle.ab_naming.specs.Labels.{label_of};
-ghost use Rattle.ab_kernel.specs.Layout.{history_of, IsProof};
+ghost use Rattle.ab_progress.specs.ab_store.specs.Trees.{Read};
+ghost use Rattle.ab_progress.specs.ab_logic.specs.Worlds.{IsWorld, Holds, read};
+ghost use Rattle.ab_progress.specs.ab_logic.specs.Names.{NoName};
+ghost use Rattle.ab_progress.specs.ab_logic.specs.Sequents.{Sequent as AGoal, formula_of, without};
+ghost use Rattle.ab_progress.specs.ab_naming.specs.Labels.{label_of};
+ghost use Rattle.ab_progress.specs.ab_kernel.specs.Layout.{history_of, IsProof};
 ghost use Rattle.ab_progress.specs.Progress.{IsAt, Follows};
 ghost use Rattle.ab_left.specs.Progress.{HasAt, CopiedTo, MovedTo};
 
-use ab_kernel::{Proof, Step};
-use ab_logic::World;
-use ab_naming::Label;
+use ab_progress::below::kernel::{Proof, Step};
+use ab_progress::below::logic::World;
+use ab_progress::below::naming::Label;
+use ab_progress::below::store::TermId;
+use ab_progress::below::types::{Name, Steps};
 use ab_progress::{attempt, surely};
-use ab_store::TermId;
-use ab_types::{Name, Steps};
 use std::alloc::{AllocError, Global};
 
 /// The formula of a hypothesis of the goal of this place.

@@ -1,15 +1,15 @@
 //! How formulas become hypotheses.
 ghost use Rattle.std.specs.Prelude.{◌≡◌, [], ◌∷◌, List, Some, Err, map, reverse, IfOk, OnOk};
 ghost use Rattle.ab_term.specs.Types.{Ty};
-ghost use Rattle.ab_store.specs.Trees.{Read};
-ghost use Rattle.ab_logic.specs.Forms.{form_of, both, truth, exists, nabla, HoldsParts};
-ghost use Rattle.ab_logic.specs.Names.{auto, Label as AName};
-ghost use Rattle.ab_logic.specs.Readings.{hypothesis_of};
-ghost use Rattle.ab_logic.specs.Sequents.{Sequent as AGoal, formula_of, formulas, without};
-ghost use Rattle.ab_logic.specs.Worlds.{IsWorld, Holds, declarations_of, read};
-ghost use Rattle.ab_naming.specs.Labels.{label_of};
-ghost use Rattle.ab_kernel.specs.Layout.{IsProof};
-ghost use Rattle.ab_effects.specs.Opening.{IsWhole, Nameless};
+ghost use Rattle.ab_progress.specs.ab_store.specs.Trees.{Read};
+ghost use Rattle.ab_progress.specs.ab_logic.specs.Forms.{form_of, both, truth, exists, nabla, HoldsParts};
+ghost use Rattle.ab_progress.specs.ab_logic.specs.Names.{auto, Label as AName};
+ghost use Rattle.ab_progress.specs.ab_logic.specs.Readings.{hypothesis_of};
+ghost use Rattle.ab_progress.specs.ab_logic.specs.Sequents.{Sequent as AGoal, formula_of, formulas, without};
+ghost use Rattle.ab_progress.specs.ab_logic.specs.Worlds.{IsWorld, Holds, declarations_of, read};
+ghost use Rattle.ab_progress.specs.ab_naming.specs.Labels.{label_of};
+ghost use Rattle.ab_progress.specs.ab_kernel.specs.Layout.{IsProof};
+ghost use Rattle.ab_progress.specs.ab_effects.specs.Opening.{IsWhole, Nameless};
 ghost use Rattle.ab_progress.specs.Progress.{IsAt, Follows};
 ghost use Rattle.ab_left.specs.Own.{IsOwn, besides};
 ghost use Rattle.ab_left.specs.Progress.{HasAt, Pending, Goes, CantOpen, OpenedTo, label_left};
@@ -18,12 +18,12 @@ ghost use Rattle.ab_left.specs.declared.stop.Stop.{Stop};
 use crate::moving::{forget, formula_at, shift};
 use crate::own::own_name;
 use crate::stop::Stop;
-use ab_kernel::{Proof, Step};
-use ab_logic::{Form, Hypothesis, World, shape};
-use ab_naming::Label;
+use ab_progress::below::kernel::{Proof, Step};
+use ab_progress::below::logic::{Form, Hypothesis, World, shape};
+use ab_progress::below::naming::Label;
+use ab_progress::below::store::TermId;
+use ab_progress::below::types::{Name, Steps};
 use ab_progress::surely;
-use ab_store::TermId;
-use ab_types::{Name, Steps};
 use std::alloc::{AllocError, Global};
 
 /// A copy of the label, where it is still to be given.

@@ -1,19 +1,19 @@
 //! A hypothesis gets another name.
 ghost use Rattle.std.specs.Prelude.{◌≡◌, ◌≢◌, [], Err, IfOk, OnErr};
 ghost use Rattle.ab_grammar.specs.CommandTrees as told;
-ghost use Rattle.ab_logic.specs.Names as plain;
-ghost use Rattle.ab_logic.specs.Worlds.{IsWorld};
-ghost use Rattle.ab_kernel.specs.Layout.{history_of, IsProof};
+ghost use Rattle.ab_progress.specs.ab_logic.specs.Names as plain;
+ghost use Rattle.ab_progress.specs.ab_logic.specs.Worlds.{IsWorld};
+ghost use Rattle.ab_progress.specs.ab_kernel.specs.Layout.{history_of, IsProof};
 ghost use Rattle.ab_progress.specs.Applied.{IsApplied, IsRefused};
 ghost use Rattle.ab_progress.specs.Progress.{goals_of, Follows};
 ghost use Rattle.ab_progress.specs.declared.fault.ProofCommandFault.{ProofCommandFault};
 
 use crate::moving::shift;
-use ab_kernel::Proof;
-use ab_logic::World;
-use ab_naming::Label;
+use ab_progress::below::kernel::Proof;
+use ab_progress::below::logic::World;
+use ab_progress::below::naming::Label;
+use ab_progress::below::types::{Name, Steps};
 use ab_progress::{ProofCommandFault, first_goal, take_back};
-use ab_types::{Name, Steps};
 use std::alloc::Global;
 
 /// Names a hypothesis anew. It stands behind the others then.

@@ -8,15 +8,15 @@ use Rattle.ab_term.specs.Typing.{Signature}
 use Rattle.ab_term.specs.Variables.{value_in}
 use Rattle.ab_term.specs.Sameness.{same_number}
 use Rattle.ab_term.proofs.Unique.{more_typed}
-use Rattle.ab_types.specs.Entries.{Table, Constant, signature}
-use Rattle.ab_types.specs.Ids.{HoldsConstant, constant_of}
-use Rattle.ab_types.specs.declared.ids.ConstId.{ConstId}
-use Rattle.ab_types.proofs.Entries.{holds_constant, same_constant, same_signature}
-use Rattle.ab_store.specs.Trees.{Contents}
-use Rattle.ab_store.specs.declared.node.TermId.{TermId}
-use Rattle.ab_store.specs.declared.node.CellId.{CellId}
-use Rattle.ab_cases.specs.Clauses.{numbered, put_together}
-use Rattle.ab_cases.specs.Prefixes.{own_terms}
+use Rattle.ab_clauses.specs.ab_types.specs.Entries.{Table, Constant, signature}
+use Rattle.ab_clauses.specs.ab_types.specs.Ids.{HoldsConstant, constant_of}
+use Rattle.ab_clauses.specs.ab_types.specs.declared.ids.ConstId.{ConstId}
+use Rattle.ab_clauses.specs.ab_types.proofs.Entries.{holds_constant, same_constant, same_signature}
+use Rattle.ab_clauses.specs.ab_store.specs.Trees.{Contents}
+use Rattle.ab_clauses.specs.ab_store.specs.declared.node.TermId.{TermId}
+use Rattle.ab_clauses.specs.ab_store.specs.declared.node.CellId.{CellId}
+use Rattle.ab_clauses.specs.ab_cases.specs.Clauses.{numbered, put_together}
+use Rattle.ab_clauses.specs.ab_cases.specs.Prefixes.{own_terms}
 use Rattle.ab_clauses.specs.Kept as kept
 use Rattle.ab_clauses.specs.Cases.{in_terms, cell_of, case_of, IsWellKept}
 use Rattle.ab_clauses.specs.Readings as clauses

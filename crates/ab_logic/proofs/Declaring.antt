@@ -7,11 +7,11 @@ use Rattle.std.proofs.lemmas.List.Elements.{All-head, All-tail, All-weaker}
 use Rattle.ab_term.specs.Types.{Ty}
 use Rattle.ab_term.specs.Typing as typing
 use Rattle.ab_term.proofs.Unique.{more_typed}
-use Rattle.ab_types.specs.Entries as table
-use Rattle.ab_types.specs.Entries.{Table}
-use Rattle.ab_types.proofs.Entries.{constants-append}
-use Rattle.ab_store.specs.Trees.{Read}
-use Rattle.ab_cases.specs.Clauses.{Clause}
+use Rattle.ab_clauses.specs.ab_types.specs.Entries as table
+use Rattle.ab_clauses.specs.ab_types.specs.Entries.{Table}
+use Rattle.ab_clauses.specs.ab_types.proofs.Entries.{constants-append}
+use Rattle.ab_clauses.specs.ab_store.specs.Trees.{Read}
+use Rattle.ab_clauses.specs.ab_cases.specs.Clauses.{Clause}
 use Rattle.ab_logic.specs.Formulas.{IsFormula, IsSentence}
 use Rattle.ab_logic.specs.Declarations.{Declarations, Block, a_kind, a_constant, a_block, a_program_clause, a_theorem, Extends, constants_in, signature_in, theorem_in, theorems_in, block_in, IsDefining, HaveSentences, HaveDefinitions}
 use Rattle.ab_logic.specs.Additions.{entry_or, entry_in, entries_with, entries_of}

@@ -5,7 +5,7 @@ use Rattle.ab_term.specs.Typing.{Signature}
 use Rattle.ab_term.specs.Variables.{Substitution, image_by, image_all_by, value_in, image, IsTyped}
 use Rattle.ab_term.specs.Sameness.{same_number}
 use Rattle.ab_term.proofs.Compositions.{image_typed}
-use Rattle.ab_store.specs.Trees.{Read}
+use Rattle.ab_clauses.specs.ab_store.specs.Trees.{Read}
 use Rattle.ab_logic.specs.Formulas.{Place, a_formula, a_scope, a_marked, any, places_of_constant, StandsIn, AllStandIn, IsFormula}
 
 module _ (f : Variable ℕ → Option Read) where

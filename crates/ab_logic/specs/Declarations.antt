@@ -4,9 +4,9 @@ use Rattle.std.specs.Prelude.{◌≡◌, ℕ, List, [], ◌∷◌, ◌++◌, Boo
 use Rattle.std.specs.List.{list_any}
 use Rattle.ab_term.specs.Types.{Ty}
 use Rattle.ab_term.specs.Typing.{Signature}
-use Rattle.ab_types.specs.Entries as table
-use Rattle.ab_store.specs.Trees.{Read}
-use Rattle.ab_cases.specs.Clauses.{Clause, IsClause}
+use Rattle.ab_clauses.specs.ab_types.specs.Entries as table
+use Rattle.ab_clauses.specs.ab_store.specs.Trees.{Read}
+use Rattle.ab_clauses.specs.ab_cases.specs.Clauses.{Clause, IsClause}
 use Rattle.ab_logic.specs.Formulas.{IsFormula, IsSentence}
 
 -- a definition, inductive or else coinductive, of predicates by clauses: whatever stands for a clause's variables, its

@@ -4,18 +4,18 @@ use Rattle.ab_term.specs.Types.{Ty}
 use Rattle.ab_term.specs.Logical as plain
 use Rattle.ab_term.specs.Logical.{Logical}
 use Rattle.ab_term.specs.Terms.{Head, logical, lam, spine, Terms, no_terms, term}
-use Rattle.ab_store.specs.Trees.{Read}
+use Rattle.ab_clauses.specs.ab_store.specs.Trees.{Read}
 use Rattle.ab_logic.specs.Marks as marks
 use Rattle.ab_logic.specs.Marks.{Sign, star_of, at_of, plus_of, hash_of}
 use Rattle.ab_logic.specs.Worlds.{read, Holds}
-use Rattle.ab_store.specs.declared.node.TermId.{TermId}
-use Rattle.ab_types.specs.declared.ids.TypeId.{TypeId}
+use Rattle.ab_clauses.specs.ab_store.specs.declared.node.TermId.{TermId}
+use Rattle.ab_clauses.specs.ab_types.specs.declared.ids.TypeId.{TypeId}
 use Rattle.ab_logic.specs.declared.world.World.{World}
 use Rattle.ab_logic.specs.declared.form.Form.{Form as Kept}
 use Rattle.ab_logic.specs.declared.form.Form.TheVariants.{True, False, And, Or, Arrow, Equal, Forall, Exists, Nabla, Marked, Other}
 use Rattle.ab_logic.specs.declared.marks.Sign.{Sign as KeptSign}
 use Rattle.ab_logic.specs.declared.marks.Sign.TheVariants.{Plain, Star, At, Plus, Hash}
-use Rattle.ab_types.specs.Ids.{type_of, HoldsType}
+use Rattle.ab_clauses.specs.ab_types.specs.Ids.{type_of, HoldsType}
 
 pub data Form : Type 0 where
   truth falsity : Form

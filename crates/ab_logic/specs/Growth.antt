@@ -1,11 +1,11 @@
 -- What any later world keeps of an earlier one: ids and cells stay, and stand for what they stood for; what was
 -- declared stays, in its order, and so does what marks count.
 use Rattle.std.specs.Prelude.{◌≡◌, List, ◌++◌}
-use Rattle.ab_types.specs.Entries as table
-use Rattle.ab_store.specs.declared.node.TermId.{TermId}
-use Rattle.ab_store.specs.declared.node.CellId.{CellId}
-use Rattle.ab_store.specs.declared.mark.Mark.{Mark}
-use Rattle.ab_store.specs.Marks.{HasMark, KeepsMark}
+use Rattle.ab_clauses.specs.ab_types.specs.Entries as table
+use Rattle.ab_clauses.specs.ab_store.specs.declared.node.TermId.{TermId}
+use Rattle.ab_clauses.specs.ab_store.specs.declared.node.CellId.{CellId}
+use Rattle.ab_clauses.specs.ab_store.specs.declared.mark.Mark.{Mark}
+use Rattle.ab_clauses.specs.ab_store.specs.Marks.{HasMark, KeepsMark}
 use Rattle.ab_logic.specs.Declarations.{Extends}
 use Rattle.ab_logic.specs.Worlds.{read, Holds, variable_of, HoldsCell, declarations_of, IsWorld}
 use Rattle.ab_logic.specs.declared.world.World.{World}

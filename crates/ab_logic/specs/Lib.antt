@@ -12,3 +12,10 @@ pub mod Forms
 pub mod Additions
 pub mod Defining
 pub mod Built
+-- Libraries that the crates above name through this one.
+pub use Rattle.ab_clauses.specs.ab_solve
+pub use Rattle.ab_clauses.specs.ab_cases
+pub use Rattle.ab_clauses.specs.ab_types
+pub use Rattle.ab_clauses.specs.ab_store
+pub use Rattle.ab_clauses.specs.ab_fits
+pub use Rattle.ab_clauses

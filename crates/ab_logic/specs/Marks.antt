@@ -3,7 +3,7 @@
 use Rattle.std.specs.Prelude.{◌≡◌, ℕ, List, [], ◌∷◌}
 use Rattle.ab_term.specs.Logical.{Logical, conjunction, disjunction, implication, universal, existential, nabla, judgement, focused_judgement, star, at_sign, plus, hash}
 use Rattle.ab_term.specs.Terms.{Head, constant, logical, nominal, lam, spine, Terms, no_terms, term}
-use Rattle.ab_store.specs.Trees.{Read}
+use Rattle.ab_clauses.specs.ab_store.specs.Trees.{Read}
 
 -- the mark of an atom or a judgement, with its level, if there is one
 pub data Sign : Type 0 where

@@ -4,9 +4,9 @@ use Rattle.std.specs.Option.{IsSome}
 use Rattle.ab_term.specs.Types.{Ty}
 use Rattle.ab_term.specs.Terms.{Nominal}
 use Rattle.ab_term.specs.Terms as tree
-use Rattle.ab_store.specs.Trees.{Read}
-use Rattle.ab_fits.specs.Fitting as term
-pub use Rattle.ab_fits.specs.Fitting.{names_of}
+use Rattle.ab_clauses.specs.ab_store.specs.Trees.{Read}
+use Rattle.ab_clauses.specs.ab_fits.specs.Fitting as term
+pub use Rattle.ab_clauses.specs.ab_fits.specs.Fitting.{names_of}
 use Rattle.ab_logic.specs.Formulas.{IsFormula, HasOneTypeEach}
 use Rattle.ab_logic.specs.Declarations.{Declarations, signature_in}
 

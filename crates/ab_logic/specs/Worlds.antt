@@ -1,14 +1,14 @@
 -- What a world stands for: what its ids read as, and the declarations in it.
 use Rattle.std.specs.Prelude.{◌≡◌, ℕ, ◌-◌, ◌≤◌, List, [], ◌∷◌, ◌++◌, map, length, take, drop, codes, true, All}
-use Rattle.ab_types.specs.Ids.{type_of, HoldsConstant}
-use Rattle.ab_types.specs.Entries as table
-use Rattle.ab_types.specs.Entries.{Table, signature, first_entries}
-use Rattle.ab_store.specs.declared.node.TermId.{TermId}
-use Rattle.ab_store.specs.declared.node.CellId.{CellId}
-use Rattle.ab_store.specs.Trees as store
-use Rattle.ab_store.specs.Trees.{Read, Contents, tree_of}
-use Rattle.ab_store.specs.Naming.{IsTypedBy}
-use Rattle.ab_cases.specs.Member.{member_clauses}
+use Rattle.ab_clauses.specs.ab_types.specs.Ids.{type_of, HoldsConstant}
+use Rattle.ab_clauses.specs.ab_types.specs.Entries as table
+use Rattle.ab_clauses.specs.ab_types.specs.Entries.{Table, signature, first_entries}
+use Rattle.ab_clauses.specs.ab_store.specs.declared.node.TermId.{TermId}
+use Rattle.ab_clauses.specs.ab_store.specs.declared.node.CellId.{CellId}
+use Rattle.ab_clauses.specs.ab_store.specs.Trees as store
+use Rattle.ab_clauses.specs.ab_store.specs.Trees.{Read, Contents, tree_of}
+use Rattle.ab_clauses.specs.ab_store.specs.Naming.{IsTypedBy}
+use Rattle.ab_clauses.specs.ab_cases.specs.Member.{member_clauses}
 use Rattle.ab_clauses.specs.Kept as kept
 use Rattle.ab_clauses.specs.Cases.{case_of, IsWellKept}
 use Rattle.ab_clauses.specs.Readings.{clause_of, block_of, HoldsClause}

@@ -6,8 +6,8 @@ ghost use Rattle.ab_logic.specs.Additions.{same_constant, is_among, as_theorem, 
 ghost use Rattle.ab_logic.specs.declared.additions.Addition.TheVariants.{Theorem, Definition};
 
 use ab_clauses::Block;
-use ab_store::TermId;
-use ab_types::{ConstId, Name};
+use ab_clauses::below::store::TermId;
+use ab_clauses::below::types::{ConstId, Name};
 use indexmap::IndexMap;
 use std::alloc::{AllocError, Global};
 use std::collections::HashMap;

@@ -2,6 +2,7 @@
 #![tactic(auto)]
 
 mod additions;
+pub mod below;
 mod form;
 pub mod laws;
 mod lists;

@@ -1,8 +1,8 @@
 //! Worlds: what was declared, and the terms that are shared.
 ghost use Rattle.std.specs.Prelude.{◌≡◌, [], ◌∷◌, ◌++◌, map, length, IfOk, IfSome, OnOk, OnErr, IfErr, IsSome, slice_get, Some, None, Err, All};
 ghost use Rattle.std.specs.Option.{option_map, option_copied};
-ghost use Rattle.ab_types.specs.Entries.{first_entries};
-ghost use Rattle.ab_types.specs.Ids.{HoldsConstant};
+ghost use Rattle.ab_clauses.specs.ab_types.specs.Entries.{first_entries};
+ghost use Rattle.ab_clauses.specs.ab_types.specs.Ids.{HoldsConstant};
 ghost use Rattle.ab_clauses.specs.Proposed.{IsProposed};
 ghost use Rattle.ab_clauses.specs.Readings.{name_of, block_of, fault_of, HoldsFault, HoldsBlock};
 ghost use Rattle.ab_clauses.specs.Faults.{IsFaultOf};
@@ -17,10 +17,9 @@ ghost use Rattle.ab_logic.specs.declared.world.DefineFault.{DefineFault as AFaul
 
 use crate::additions::{Additions, TheoremEntry};
 use crate::member::member_definition;
+use ab_clauses::below::store::{Store, TermId};
+use ab_clauses::below::types::{ConstId, Name, Steps, TypeTable, has_unique_ids};
 use ab_clauses::{Block, ClauseFault, first_fault};
-use ab_store::{Store, TermId};
-use ab_types::laws::has_unique_ids;
-use ab_types::{ConstId, Name, Steps, TypeTable};
 use std::alloc::{AllocError, Global};
 
 /// What was declared, and the terms by which all is said: the types with the declared kinds and constants, the

@@ -2,8 +2,8 @@
 use Rattle.std.proofs.Common.{◌≡◌, ◌≢◌, ℕ, zero, suc, List, [], ◌∷◌, length, map, get_or, refl, sym, ◌∙◌, ap, arith}
 use Rattle.ab_term.specs.Terms as tree
 use Rattle.ab_term.specs.Terms.{Terms, terms_of}
-use Rattle.ab_store.specs.declared.node.TermId.{TermId}
-use Rattle.ab_store.specs.Trees.{Read}
+use Rattle.ab_norm.specs.ab_store.specs.declared.node.TermId.{TermId}
+use Rattle.ab_norm.specs.ab_store.specs.Trees.{Read}
 use Rattle.ab_logic.specs.Marks.{Marks, nowhere, below, in_both, by_scope, by_parts, by_mark, marks_made, marked, marks_of, marks_of_all, Sign}
 
 module _ (f : TermId → Read) (h : tree.Head ℕ) where

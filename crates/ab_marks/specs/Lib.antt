@@ -2,3 +2,10 @@
 -- (`Views`), of which public contracts don't speak.
 pub mod Views
 pub mod Marking
+-- Libraries that the crates above name through this one.
+pub use Rattle.ab_logic.specs.ab_solve
+pub use Rattle.ab_logic.specs.ab_cases
+pub use Rattle.ab_norm.specs.ab_types
+pub use Rattle.ab_norm.specs.ab_store
+pub use Rattle.ab_norm
+pub use Rattle.ab_logic

@@ -3,7 +3,7 @@ use Rattle.std.specs.Prelude.{ℕ, List, Bool, false, bytes_eq, if◌then◌else
 use Rattle.std.specs.List.{list_any}
 use Rattle.ab_term.specs.Logical.{star, at_sign, plus, hash}
 use Rattle.ab_term.specs.Terms.{Head, constant, logical, lam, spine, Terms, no_terms, term}
-use Rattle.ab_store.specs.Trees.{Read}
+use Rattle.ab_norm.specs.ab_store.specs.Trees.{Read}
 use Rattle.ab_logic.specs.Marks.{Sign, plain, star_of, at_of, plus_of, hash_of, Making, by_head, by_scope, by_parts, by_mark, making_of}
 
 -- an atom with the mark may be analysed

@@ -1,10 +1,10 @@
 -- How a head makes the marks of a formula, and where marks stand in a formula, as the program sees it.
 use Rattle.std.specs.Prelude.{ℕ, ◌<◌, List, map}
-use Rattle.ab_types.specs.Entries.{Table}
-use Rattle.ab_types.specs.Ids.{constant_of}
-use Rattle.ab_types.specs.declared.ids.ConstId.{ConstId}
-use Rattle.ab_store.specs.declared.node.TermId.{TermId}
-use Rattle.ab_store.specs.Trees.{Contents, Holds, tree_of}
+use Rattle.ab_norm.specs.ab_types.specs.Entries.{Table}
+use Rattle.ab_norm.specs.ab_types.specs.Ids.{constant_of}
+use Rattle.ab_norm.specs.ab_types.specs.declared.ids.ConstId.{ConstId}
+use Rattle.ab_norm.specs.ab_store.specs.declared.node.TermId.{TermId}
+use Rattle.ab_norm.specs.ab_store.specs.Trees.{Contents, Holds, tree_of}
 use Rattle.ab_logic.specs.Forms.{sign_of}
 use Rattle.ab_logic.specs.Marks as plain
 use Rattle.ab_logic.specs.Marks.{marks_of}

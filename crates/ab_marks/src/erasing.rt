@@ -1,7 +1,7 @@
 //! Formulas without their marks.
 ghost use Rattle.std.specs.Prelude.{◌≡◌, map, IfOk, All, get_or};
-ghost use Rattle.ab_store.specs.Trees.{Holds, tree_of, head_reading};
-ghost use Rattle.ab_store.specs.Naming.{IsTypedBy, HoldsHead, HeadIsTyped};
+ghost use Rattle.ab_norm.specs.ab_store.specs.Trees.{Holds, tree_of, head_reading};
+ghost use Rattle.ab_norm.specs.ab_store.specs.Naming.{IsTypedBy, HoldsHead, HeadIsTyped};
 ghost use Rattle.ab_norm.specs.Growth.{AddsTypedTerms};
 ghost use Rattle.ab_logic.specs.Marks.{erased, erased_all};
 ghost use Rattle.ab_term.specs.Terms.{spine, terms_of};
@@ -10,8 +10,8 @@ ghost use Rattle.ab_logic.specs.Worlds.{IsWorld, Holds as HoldsIn, read};
 
 use crate::making::{Making, making_of};
 use ab_logic::World;
-use ab_store::{Head, Node, Store, TermId};
-use ab_types::TypeTable;
+use ab_norm::below::store::{Head, Node, Store, TermId};
+use ab_norm::below::types::TypeTable;
 use std::alloc::{AllocError, Global};
 
 /// The formula without its marks.

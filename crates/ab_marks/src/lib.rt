@@ -1,6 +1,7 @@
 //! Size marks of formulas on shared terms: formulas without their marks, and whether the marks of one serve another.
 #![tactic(auto)]
 
+pub mod below;
 mod erasing;
 mod making;
 mod marking;

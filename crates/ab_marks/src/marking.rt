@@ -2,11 +2,11 @@
 ghost use Rattle.std.specs.Prelude.{◌≡◌, map, IfOk, All, List, bytes_eq};
 ghost use Rattle.std.specs.List.{list_any};
 ghost use Rattle.ab_term.specs.Terms.{spine, terms_of};
-ghost use Rattle.ab_types.specs.Entries.{Table};
-ghost use Rattle.ab_types.specs.Ids.{HoldsConstant};
-ghost use Rattle.ab_store.specs.Trees.{Holds, tree_of, head_in, head_reading};
-ghost use Rattle.ab_store.specs.declared.node.CellEntry.{CellEntry};
-ghost use Rattle.ab_store.specs.Naming.{IsTypedBy, HoldsHead, HeadIsTyped};
+ghost use Rattle.ab_norm.specs.ab_types.specs.Entries.{Table};
+ghost use Rattle.ab_norm.specs.ab_types.specs.Ids.{HoldsConstant};
+ghost use Rattle.ab_norm.specs.ab_store.specs.Trees.{Holds, tree_of, head_in, head_reading};
+ghost use Rattle.ab_norm.specs.ab_store.specs.declared.node.CellEntry.{CellEntry};
+ghost use Rattle.ab_norm.specs.ab_store.specs.Naming.{IsTypedBy, HoldsHead, HeadIsTyped};
 ghost use Rattle.ab_norm.specs.Growth.{AddsTerms, AddsTypedTerms};
 ghost use Rattle.ab_logic.specs.Forms.{sign_of};
 ghost use Rattle.ab_marks.specs.Marking.{is_one_of, with_mark, marked_in, all_marked_in};
@@ -14,8 +14,8 @@ ghost use Rattle.ab_marks.specs.Views.{names_of};
 
 use crate::making::{Making, making_of};
 use ab_logic::Sign;
-use ab_store::{Head, Logical, Node, Store, TermId};
-use ab_types::{ConstId, Name, TypeTable};
+use ab_norm::below::store::{Head, Logical, Node, Store, TermId};
+use ab_norm::below::types::{ConstId, Name, TypeTable};
 use std::alloc::{AllocError, Global};
 
 /// Whether the name is that of one of the predicates.

@@ -1,8 +1,8 @@
 //! Whether the marks of one formula serve another.
 ghost use Rattle.std.specs.Prelude.{◌≡◌, ◌↔◌, ◌<◌, ℕ, IsTrue, List, All, map, length};
-ghost use Rattle.ab_types.specs.Entries.{Table};
+ghost use Rattle.ab_norm.specs.ab_types.specs.Entries.{Table};
 ghost use Rattle.ab_term.specs.Terms.{terms_of, logical};
-ghost use Rattle.ab_store.specs.Trees.{Contents, Holds, tree_of, head_in, logical_of};
+ghost use Rattle.ab_norm.specs.ab_store.specs.Trees.{Contents, Holds, tree_of, head_in, logical_of};
 ghost use Rattle.ab_logic.specs.Forms.{sign_of};
 ghost use Rattle.ab_logic.specs.Marks.{at_atom, at_judgement, making_of, marks_made, marked, marks_of, marks_of_all, marks_of_head, Agree, MarksServe, MarksServeIn};
 ghost use Rattle.ab_logic.specs.Worlds.{Holds as HoldsIn, read};
@@ -10,7 +10,7 @@ ghost use Rattle.ab_marks.specs.Views.{marks_seen, making_read, PartsBelow};
 
 use crate::making::{Making, making_of};
 use ab_logic::{Sign, World, marks_serve};
-use ab_store::{Head, Logical, Node, Store, TermId};
+use ab_norm::below::store::{Head, Logical, Node, Store, TermId};
 
 /// Where the marks of a formula stand.
 #[derive(Clone, Copy)]

@@ -7,16 +7,16 @@ use Rattle.ab_term.specs.Types.{Ty, same_type}
 use Rattle.ab_term.specs.Terms as tree
 use Rattle.ab_term.proofs.Comparisons.{same_type-Decides}
 use Rattle.ab_term.proofs.Lists.{All-from_contains}
-use Rattle.ab_types.specs.Entries.{Table, IsExtendedBy as IsPartOf}
-use Rattle.ab_types.specs.Ids.{HoldsType, type_of}
-use Rattle.ab_types.specs.declared.ids.TypeId.{TypeId}
-use Rattle.ab_types.proofs.Entries.{type_still_held}
-use Rattle.ab_norm.specs.declared.nominal.Nominal.{Nominal}
-use Rattle.ab_norm.specs.Nominals.{nominal_of, HoldsNominal}
-use Rattle.ab_cases.specs.Choices.{others, of_type, new_constant, for_each, choices}
-use Rattle.ab_cases.proofs.Choosing.{contains_kept}
-use Rattle.ab_instances.specs.Readings.{names_read}
-use Rattle.ab_instances.proofs.Made.{names_stay, names_held}
+use Rattle.ab_alternatives.specs.ab_types.specs.Entries.{Table, IsExtendedBy as IsPartOf}
+use Rattle.ab_alternatives.specs.ab_types.specs.Ids.{HoldsType, type_of}
+use Rattle.ab_alternatives.specs.ab_types.specs.declared.ids.TypeId.{TypeId}
+use Rattle.ab_alternatives.specs.ab_types.proofs.Entries.{type_still_held}
+use Rattle.ab_alternatives.specs.ab_norm.specs.declared.nominal.Nominal.{Nominal}
+use Rattle.ab_alternatives.specs.ab_norm.specs.Nominals.{nominal_of, HoldsNominal}
+use Rattle.ab_alternatives.specs.ab_cases.specs.Choices.{others, of_type, new_constant, for_each, choices}
+use Rattle.ab_alternatives.specs.ab_cases.proofs.Choosing.{contains_kept}
+use Rattle.ab_alternatives.specs.ab_instances.specs.Readings.{names_read}
+use Rattle.ab_alternatives.specs.ab_instances.proofs.Made.{names_stay, names_held}
 use Rattle.ab_matching.specs.Trying.{IsBegun, choices_behind}
 use Rattle.ab_matching.specs.declared.begun.Begun.{Begun}
 use Rattle.ab_matching.proofs.Lasting.{type_stays}

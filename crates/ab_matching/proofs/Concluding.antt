@@ -4,16 +4,16 @@ use Rattle.std.specs.Prelude.{filter, is_none, ◌&&◌, ◌||◌, Option, Some,
 use Rattle.std.proofs.Common.{◌≡◌, ℕ, List, [], ◌∷◌, ◌++◌, map, cond, Bool, refl, sym, ◌∙◌, ap, subst}
 use Rattle.std.proofs.lemmas.List.{map-append}
 use Rattle.std.proofs.lemmas.List.Elements.{All-nil, All-cons, All-head, All-tail, All-weaker}
-use Rattle.ab_types.specs.Entries.{Table}
-use Rattle.ab_store.specs.declared.node.TermId.{TermId}
-use Rattle.ab_store.specs.declared.node.CellId.{CellId}
-use Rattle.ab_store.specs.Trees.{Contents, Holds, cell_in, cell_of, tree_of}
-use Rattle.ab_store.specs.Reading.{reading, bound_in, binding_of, cell_variable}
-use Rattle.ab_norm.specs.Growth.{AddsTerms, AddsTypedTerms}
-use Rattle.ab_norm.proofs.Frame.{still_read, still_held}
-use Rattle.ab_solve.specs.Replacing.{occurs}
-use Rattle.ab_unify.proofs.Bound.{same_cell}
-use Rattle.ab_unifying.specs.Changed.{Grows}
+use Rattle.ab_alternatives.specs.ab_types.specs.Entries.{Table}
+use Rattle.ab_alternatives.specs.ab_store.specs.declared.node.TermId.{TermId}
+use Rattle.ab_alternatives.specs.ab_store.specs.declared.node.CellId.{CellId}
+use Rattle.ab_alternatives.specs.ab_store.specs.Trees.{Contents, Holds, cell_in, cell_of, tree_of}
+use Rattle.ab_alternatives.specs.ab_store.specs.Reading.{reading, bound_in, binding_of, cell_variable}
+use Rattle.ab_alternatives.specs.ab_norm.specs.Growth.{AddsTerms, AddsTypedTerms}
+use Rattle.ab_alternatives.specs.ab_norm.proofs.Frame.{still_read, still_held}
+use Rattle.ab_alternatives.specs.ab_solve.specs.Replacing.{occurs}
+use Rattle.ab_alternatives.specs.ab_unify.proofs.Bound.{same_cell}
+use Rattle.ab_alternatives.specs.ab_unifying.specs.Changed.{Grows}
 use Rattle.ab_putting.specs.Making.{StageIsHeld}
 use Rattle.ab_matching.specs.Solving.{missing, stands_in, is_open}
 use Rattle.ab_matching.specs.Choosing.{is_left_in, IsLeft}

@@ -7,19 +7,19 @@ use Rattle.std.proofs.lemmas.List.{take_more, map-append, length-map, get_or-map
 use Rattle.std.proofs.lemmas.List.Elements.{All-head, All-tail}
 use Rattle.ab_term.specs.Types.{Ty, prop}
 use Rattle.ab_term.specs.Typing.{HasType}
-use Rattle.ab_types.specs.Entries.{Table, signature}
-use Rattle.ab_store.specs.declared.node.TermId.{TermId}
-use Rattle.ab_store.specs.declared.node.Equation.{Equation as Kept}
-use Rattle.ab_store.specs.Trees.{Read, Contents, Holds, tree_of}
-use Rattle.ab_store.specs.Reading.{reading}
-use Rattle.ab_store.specs.Naming.{IsTerm}
-use Rattle.ab_norm.proofs.Frame.{still_read_before}
-use Rattle.ab_norm.specs.Growth.{AddsTypedTerms}
-use Rattle.ab_solve.specs.Solving.{Equation}
-use Rattle.ab_solver.specs.Answers.{IsTypedPair}
-use Rattle.ab_logic.specs.Marks.{erased}
+use Rattle.ab_alternatives.specs.ab_types.specs.Entries.{Table, signature}
+use Rattle.ab_alternatives.specs.ab_store.specs.declared.node.TermId.{TermId}
+use Rattle.ab_alternatives.specs.ab_store.specs.declared.node.Equation.{Equation as Kept}
+use Rattle.ab_alternatives.specs.ab_store.specs.Trees.{Read, Contents, Holds, tree_of}
+use Rattle.ab_alternatives.specs.ab_store.specs.Reading.{reading}
+use Rattle.ab_alternatives.specs.ab_store.specs.Naming.{IsTerm}
+use Rattle.ab_alternatives.specs.ab_norm.proofs.Frame.{still_read_before}
+use Rattle.ab_alternatives.specs.ab_norm.specs.Growth.{AddsTypedTerms}
+use Rattle.ab_alternatives.specs.ab_solve.specs.Solving.{Equation}
+use Rattle.ab_alternatives.specs.ab_solver.specs.Answers.{IsTypedPair}
+use Rattle.ab_alternatives.specs.ab_logic.specs.Marks.{erased}
 use Rattle.ab_alternatives.specs.Made.{trees_from}
-use Rattle.ab_using.specs.Uses.{equations}
+use Rattle.ab_putting.specs.ab_using.specs.Uses.{equations}
 use Rattle.ab_matching.specs.Solving.{missing, equation_at, all_equations, IsFormulaTerm, IsFormulaTermIfAny, aim_in}
 use Rattle.ab_matching.specs.declared.aim.Aim.{Aim}
 use Rattle.ab_matching.proofs.ErasedTyped.{erased_typed}

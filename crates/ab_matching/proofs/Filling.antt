@@ -6,27 +6,27 @@ use Rattle.std.proofs.lemmas.Bool.{false≢true}
 use Rattle.std.proofs.lemmas.List.Elements.{All-head, All-weaker}
 use Rattle.ab_term.specs.Types.{Ty}
 use Rattle.ab_term.specs.Terms as tree
-use Rattle.ab_types.specs.Entries.{Table}
-use Rattle.ab_types.specs.Ids.{type_of}
-use Rattle.ab_store.specs.declared.node.TermId.{TermId}
-use Rattle.ab_store.specs.declared.node.CellId.{CellId}
-use Rattle.ab_store.specs.declared.mark.Mark.{Mark}
-use Rattle.ab_store.specs.Trees.{Contents, Holds, HoldsCell, cell_of, tree_of}
-use Rattle.ab_store.specs.Reading.{cell_variable}
-use Rattle.ab_store.specs.Bindings.{StandsIn}
-use Rattle.ab_store.specs.Growth.{IsExtendedBy}
-use Rattle.ab_store.specs.Marks.{HasMark, KeepsMark}
-use Rattle.ab_store.specs.Naming.{IsTypedBy, IsTerm}
-use Rattle.ab_store.proofs.Marking.{kept_on}
-use Rattle.ab_norm.specs.declared.nominal.Nominal.{Nominal}
-use Rattle.ab_norm.specs.Growth.{AddsTypedTerms}
-use Rattle.ab_solve.specs.Replacing.{occurs}
-use Rattle.ab_cases.specs.Choices.{choices}
-use Rattle.ab_unify.proofs.Bound.{same_cell, same_nodes, still_term}
-use Rattle.ab_unify.proofs.Standing.{stands_holds}
-use Rattle.ab_unifying.specs.Changed.{Grows}
-use Rattle.ab_unifying.proofs.Put.{put_grows}
-use Rattle.ab_instances.specs.Readings.{names_read}
+use Rattle.ab_alternatives.specs.ab_types.specs.Entries.{Table}
+use Rattle.ab_alternatives.specs.ab_types.specs.Ids.{type_of}
+use Rattle.ab_alternatives.specs.ab_store.specs.declared.node.TermId.{TermId}
+use Rattle.ab_alternatives.specs.ab_store.specs.declared.node.CellId.{CellId}
+use Rattle.ab_alternatives.specs.ab_store.specs.declared.mark.Mark.{Mark}
+use Rattle.ab_alternatives.specs.ab_store.specs.Trees.{Contents, Holds, HoldsCell, cell_of, tree_of}
+use Rattle.ab_alternatives.specs.ab_store.specs.Reading.{cell_variable}
+use Rattle.ab_alternatives.specs.ab_store.specs.Bindings.{StandsIn}
+use Rattle.ab_alternatives.specs.ab_store.specs.Growth.{IsExtendedBy}
+use Rattle.ab_alternatives.specs.ab_store.specs.Marks.{HasMark, KeepsMark}
+use Rattle.ab_alternatives.specs.ab_store.specs.Naming.{IsTypedBy, IsTerm}
+use Rattle.ab_alternatives.specs.ab_store.proofs.Marking.{kept_on}
+use Rattle.ab_alternatives.specs.ab_norm.specs.declared.nominal.Nominal.{Nominal}
+use Rattle.ab_alternatives.specs.ab_norm.specs.Growth.{AddsTypedTerms}
+use Rattle.ab_alternatives.specs.ab_solve.specs.Replacing.{occurs}
+use Rattle.ab_alternatives.specs.ab_cases.specs.Choices.{choices}
+use Rattle.ab_alternatives.specs.ab_unify.proofs.Bound.{same_cell, same_nodes, still_term}
+use Rattle.ab_alternatives.specs.ab_unify.proofs.Standing.{stands_holds}
+use Rattle.ab_alternatives.specs.ab_unifying.specs.Changed.{Grows}
+use Rattle.ab_alternatives.specs.ab_unifying.proofs.Put.{put_grows}
+use Rattle.ab_alternatives.specs.ab_instances.specs.Readings.{names_read}
 use Rattle.ab_putting.specs.Making.{StageIsHeld}
 use Rattle.ab_putting.specs.declared.stage.Stage.{Stage}
 use Rattle.ab_putting.specs.declared.stage.Stage.TheVariants as stage

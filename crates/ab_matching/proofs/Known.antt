@@ -4,8 +4,8 @@ use Rattle.std.proofs.Common.{◌≡◌, inl, inr, List, ◌++◌}
 use Rattle.std.proofs.lemmas.List.Elements.{Contains-append_left, Contains-append_right, Contains-append_cases}
 use Rattle.ab_term.specs.Types.{Ty}
 use Rattle.ab_term.specs.Terms.{Nominal}
-use Rattle.ab_cases.specs.Choices.{in_order, choices}
-use Rattle.ab_cases.proofs.Choosing.{ordered_contains, contains_ordered}
+use Rattle.ab_alternatives.specs.ab_cases.specs.Choices.{in_order, choices}
+use Rattle.ab_alternatives.specs.ab_cases.proofs.Choosing.{ordered_contains, contains_ordered}
 use Rattle.ab_alternatives.specs.Members.{SameMembers}
 use Rattle.ab_alternatives.proofs.Agreeing.{choices_same}
 

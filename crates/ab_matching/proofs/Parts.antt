@@ -5,16 +5,16 @@ use Rattle.std.proofs.lemmas.List.{take_more, map-append}
 use Rattle.std.proofs.lemmas.List.Elements.{All-nil, All-cons, All-head, All-tail}
 use Rattle.ab_term.specs.Terms as tree
 use Rattle.ab_term.specs.Names.{support, support_of_all}
-use Rattle.ab_types.specs.Entries.{Table}
-use Rattle.ab_types.specs.Ids.{HoldsType, type_of}
-use Rattle.ab_store.specs.declared.node.TermId.{TermId}
-use Rattle.ab_store.specs.Trees.{Contents, Holds, tree_of}
-use Rattle.ab_norm.specs.declared.nominal.Nominal.{Nominal}
-use Rattle.ab_norm.specs.Nominals.{nominal_of}
-use Rattle.ab_cases.specs.Choices.{in_order}
-use Rattle.ab_instances.specs.Readings.{names_read, given_at}
-use Rattle.ab_using.specs.Pieces as plain
-use Rattle.ab_using.specs.Uses.{types_chosen, given_constants}
+use Rattle.ab_alternatives.specs.ab_types.specs.Entries.{Table}
+use Rattle.ab_alternatives.specs.ab_types.specs.Ids.{HoldsType, type_of}
+use Rattle.ab_alternatives.specs.ab_store.specs.declared.node.TermId.{TermId}
+use Rattle.ab_alternatives.specs.ab_store.specs.Trees.{Contents, Holds, tree_of}
+use Rattle.ab_alternatives.specs.ab_norm.specs.declared.nominal.Nominal.{Nominal}
+use Rattle.ab_alternatives.specs.ab_norm.specs.Nominals.{nominal_of}
+use Rattle.ab_alternatives.specs.ab_cases.specs.Choices.{in_order}
+use Rattle.ab_alternatives.specs.ab_instances.specs.Readings.{names_read, given_at}
+use Rattle.ab_putting.specs.ab_using.specs.Pieces as plain
+use Rattle.ab_putting.specs.ab_using.specs.Uses.{types_chosen, given_constants}
 use Rattle.ab_putting.specs.Making.{HoldsPart, parts_read}
 use Rattle.ab_putting.specs.declared.part.Part.{Part}
 use Rattle.ab_putting.specs.declared.part.Part.TheVariants.{Variable, Given, Constant, Antecedent}

@@ -5,24 +5,24 @@ use Rattle.std.proofs.Common.{◌≡◌, ℕ, List, [], ◌∷◌, ◌++◌, map
 use Rattle.std.proofs.lemmas.List.Elements.{All-head, All-tail, All-nil, All-cons, All-weaker}
 use Rattle.ab_term.specs.Types.{Ty, prop}
 use Rattle.ab_term.specs.Typing.{Signature, HasType}
-use Rattle.ab_types.specs.Entries.{signature}
-use Rattle.ab_store.specs.declared.node.TermId.{TermId}
-use Rattle.ab_store.specs.Trees.{Read, tree_of}
-use Rattle.ab_norm.specs.Nominals.{HoldsNominal}
-use Rattle.ab_cases.specs.Choices.{in_order}
-use Rattle.ab_instances.specs.Readings.{names_read}
-use Rattle.ab_logic.specs.Declarations.{Declarations, signature_in}
-use Rattle.ab_logic.specs.Sequents.{Sequent, goal_names, Fits}
-use Rattle.ab_logic.specs.Worlds.{IsWorld, Holds, read, declarations_of}
-use Rattle.ab_logic.specs.Readings.{sequent_of}
-use Rattle.ab_logic.specs.declared.world.World.{World}
-use Rattle.ab_logic.specs.declared.sequent.Sequent.{Sequent as Kept}
-use Rattle.ab_logic.proofs.Growing.{same_constants}
-use Rattle.ab_taking.specs.Readings.{given_of, HoldsIfAny}
-use Rattle.ab_taking.specs.declared.given.GivenTerm.{GivenTerm}
-use Rattle.ab_using.specs.Pieces as plain
-use Rattle.ab_using.specs.Pieces.{Given, pieces, parts}
-use Rattle.ab_using.specs.Uses.{given_constants}
+use Rattle.ab_alternatives.specs.ab_types.specs.Entries.{signature}
+use Rattle.ab_alternatives.specs.ab_store.specs.declared.node.TermId.{TermId}
+use Rattle.ab_alternatives.specs.ab_store.specs.Trees.{Read, tree_of}
+use Rattle.ab_alternatives.specs.ab_norm.specs.Nominals.{HoldsNominal}
+use Rattle.ab_alternatives.specs.ab_cases.specs.Choices.{in_order}
+use Rattle.ab_alternatives.specs.ab_instances.specs.Readings.{names_read}
+use Rattle.ab_alternatives.specs.ab_logic.specs.Declarations.{Declarations, signature_in}
+use Rattle.ab_alternatives.specs.ab_logic.specs.Sequents.{Sequent, goal_names, Fits}
+use Rattle.ab_alternatives.specs.ab_logic.specs.Worlds.{IsWorld, Holds, read, declarations_of}
+use Rattle.ab_alternatives.specs.ab_logic.specs.Readings.{sequent_of}
+use Rattle.ab_alternatives.specs.ab_logic.specs.declared.world.World.{World}
+use Rattle.ab_alternatives.specs.ab_logic.specs.declared.sequent.Sequent.{Sequent as Kept}
+use Rattle.ab_alternatives.specs.ab_logic.proofs.Growing.{same_constants}
+use Rattle.ab_putting.specs.ab_taking.specs.Readings.{given_of, HoldsIfAny}
+use Rattle.ab_putting.specs.ab_taking.specs.declared.given.GivenTerm.{GivenTerm}
+use Rattle.ab_putting.specs.ab_using.specs.Pieces as plain
+use Rattle.ab_putting.specs.ab_using.specs.Pieces.{Given, pieces, parts}
+use Rattle.ab_putting.specs.ab_using.specs.Uses.{given_constants}
 use Rattle.ab_putting.specs.Making.{HoldsPart, parts_read, HasParts}
 use Rattle.ab_putting.proofs.Begun.{begun}
 use Rattle.ab_matching.specs.Solving.{IsFormulaTerm, IsFormulaTermIfAny, aim_in}

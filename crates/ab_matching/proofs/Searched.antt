@@ -6,27 +6,27 @@ use Rattle.std.proofs.lemmas.List.{map-id}
 use Rattle.std.proofs.lemmas.List.Elements.{All-nil, All-map, All-weaker}
 use Rattle.std.proofs.lemmas.Option.{slice_get-map, slice_get-get_or}
 use Rattle.ab_term.specs.Terms as tree
-use Rattle.ab_types.specs.Ids.{type_of}
-use Rattle.ab_types.specs.declared.ids.TypeId.{TypeId}
-use Rattle.ab_store.specs.declared.node.CellId.{CellId}
-use Rattle.ab_store.specs.Trees.{cell_of}
-use Rattle.ab_norm.specs.Nominals.{HoldsNominal}
-use Rattle.ab_norm.specs.declared.nominal.Nominal.{Nominal}
-use Rattle.ab_solve.specs.Replacing.{Cell}
-use Rattle.ab_cases.specs.Choices.{choices, in_order}
-use Rattle.ab_unifying.specs.Problem.{cell_read, cells_read}
-use Rattle.ab_instances.specs.Readings.{names_read}
-use Rattle.ab_logic.specs.Readings.{sequent_of, HoldsSequent}
-use Rattle.ab_logic.specs.Sequents.{Variable, Sequent, goal_names}
-use Rattle.ab_logic.specs.Worlds.{HoldsCell, variable_of}
-use Rattle.ab_logic.specs.declared.world.World.{World}
-use Rattle.ab_logic.specs.declared.sequent.Sequent.{Sequent as Kept}
-use Rattle.ab_equate.specs.Solved.{AreCells}
-use Rattle.ab_equate.specs.Cases.{NeverArises}
-use Rattle.ab_using.specs.Pieces as plain
-use Rattle.ab_using.specs.Uses.{types_chosen, given_constants}
-use Rattle.ab_using.specs.Uses as uses
-use Rattle.ab_using.specs.Answers.{Using, case_by, IsFirst}
+use Rattle.ab_alternatives.specs.ab_types.specs.Ids.{type_of}
+use Rattle.ab_alternatives.specs.ab_types.specs.declared.ids.TypeId.{TypeId}
+use Rattle.ab_alternatives.specs.ab_store.specs.declared.node.CellId.{CellId}
+use Rattle.ab_alternatives.specs.ab_store.specs.Trees.{cell_of}
+use Rattle.ab_alternatives.specs.ab_norm.specs.Nominals.{HoldsNominal}
+use Rattle.ab_alternatives.specs.ab_norm.specs.declared.nominal.Nominal.{Nominal}
+use Rattle.ab_alternatives.specs.ab_solve.specs.Replacing.{Cell}
+use Rattle.ab_alternatives.specs.ab_cases.specs.Choices.{choices, in_order}
+use Rattle.ab_alternatives.specs.ab_unifying.specs.Problem.{cell_read, cells_read}
+use Rattle.ab_alternatives.specs.ab_instances.specs.Readings.{names_read}
+use Rattle.ab_alternatives.specs.ab_logic.specs.Readings.{sequent_of, HoldsSequent}
+use Rattle.ab_alternatives.specs.ab_logic.specs.Sequents.{Variable, Sequent, goal_names}
+use Rattle.ab_alternatives.specs.ab_logic.specs.Worlds.{HoldsCell, variable_of}
+use Rattle.ab_alternatives.specs.ab_logic.specs.declared.world.World.{World}
+use Rattle.ab_alternatives.specs.ab_logic.specs.declared.sequent.Sequent.{Sequent as Kept}
+use Rattle.ab_alternatives.specs.ab_equate.specs.Solved.{AreCells}
+use Rattle.ab_alternatives.specs.ab_equate.specs.Cases.{NeverArises}
+use Rattle.ab_putting.specs.ab_using.specs.Pieces as plain
+use Rattle.ab_putting.specs.ab_using.specs.Uses.{types_chosen, given_constants}
+use Rattle.ab_putting.specs.ab_using.specs.Uses as uses
+use Rattle.ab_putting.specs.ab_using.specs.Answers.{Using, case_by, IsFirst}
 use Rattle.ab_putting.specs.Making.{parts_read, StageIsHeld}
 use Rattle.ab_putting.specs.declared.stage.Stage.{Stage}
 use Rattle.ab_putting.specs.declared.stage.Stage.TheVariants as stage

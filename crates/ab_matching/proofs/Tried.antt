@@ -1,15 +1,15 @@
 -- Choices that are tried in a world that has grown come out as in the world where they were asked for.
 use Rattle.std.proofs.Common.{◌≡◌, List, sym, ◌∙◌, ap, subst}
 use Rattle.ab_term.specs.Terms as tree
-use Rattle.ab_types.specs.Entries.{Table}
-use Rattle.ab_store.specs.Trees.{Contents}
-use Rattle.ab_unifying.specs.Problem.{cells_read}
-use Rattle.ab_logic.specs.Growth.{Grows}
-use Rattle.ab_logic.specs.Readings.{sequent_of, HoldsSequent}
-use Rattle.ab_logic.specs.declared.world.World.{World}
-use Rattle.ab_logic.specs.declared.sequent.Sequent.{Sequent as Kept}
-use Rattle.ab_logic.proofs.Growing.{same_sequent, still_held}
-use Rattle.ab_using.specs.Uses.{types_chosen}
+use Rattle.ab_alternatives.specs.ab_types.specs.Entries.{Table}
+use Rattle.ab_alternatives.specs.ab_store.specs.Trees.{Contents}
+use Rattle.ab_alternatives.specs.ab_unifying.specs.Problem.{cells_read}
+use Rattle.ab_alternatives.specs.ab_logic.specs.Growth.{Grows}
+use Rattle.ab_alternatives.specs.ab_logic.specs.Readings.{sequent_of, HoldsSequent}
+use Rattle.ab_alternatives.specs.ab_logic.specs.declared.world.World.{World}
+use Rattle.ab_alternatives.specs.ab_logic.specs.declared.sequent.Sequent.{Sequent as Kept}
+use Rattle.ab_alternatives.specs.ab_logic.proofs.Growing.{same_sequent, still_held}
+use Rattle.ab_putting.specs.ab_using.specs.Uses.{types_chosen}
 use Rattle.ab_putting.specs.Making.{parts_read}
 use Rattle.ab_matching.specs.Posing.{IsPosed, using_at}
 use Rattle.ab_matching.specs.Trying.{FirstComesOut}

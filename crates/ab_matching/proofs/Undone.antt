@@ -3,13 +3,13 @@ use Rattle.std.specs.List.{All}
 use Rattle.std.proofs.Common.{◌≡◌, ℕ, ◌<◌, List, [], ◌∷◌, map, length, Result, Ok, IfOk, refl, sym, ◌∙◌, ap, subst}
 use Rattle.std.proofs.lemmas.List.Elements.{All-weaker}
 use Rattle.ab_term.specs.Terms.{Nominal}
-use Rattle.ab_types.specs.Entries.{Table}
-use Rattle.ab_store.specs.declared.node.Node.{Node}
-use Rattle.ab_store.specs.declared.node.TermId.{TermId}
-use Rattle.ab_store.specs.Trees.{Contents, Holds, tree_of}
-use Rattle.ab_solve.specs.Replacing.{Cell}
-use Rattle.ab_instances.proofs.Bound.{same_tree}
-use Rattle.ab_using.specs.Answers.{Using}
+use Rattle.ab_alternatives.specs.ab_types.specs.Entries.{Table}
+use Rattle.ab_alternatives.specs.ab_store.specs.declared.node.Node.{Node}
+use Rattle.ab_alternatives.specs.ab_store.specs.declared.node.TermId.{TermId}
+use Rattle.ab_alternatives.specs.ab_store.specs.Trees.{Contents, Holds, tree_of}
+use Rattle.ab_alternatives.specs.ab_solve.specs.Replacing.{Cell}
+use Rattle.ab_alternatives.specs.ab_instances.proofs.Bound.{same_tree}
+use Rattle.ab_putting.specs.ab_using.specs.Answers.{Using}
 use Rattle.ab_putting.specs.Making.{StageIsHeld}
 use Rattle.ab_putting.specs.declared.stage.Stage.{Stage}
 use Rattle.ab_putting.specs.declared.stage.Stage.TheVariants as stage

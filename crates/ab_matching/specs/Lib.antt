@@ -6,3 +6,11 @@ pub mod Choosing
 pub mod Posing
 pub mod Named
 pub mod Trying
+-- Libraries that the crates above name through this one.
+pub use Rattle.ab_alternatives.specs.ab_types
+pub use Rattle.ab_alternatives.specs.ab_store
+pub use Rattle.ab_alternatives.specs.ab_logic
+pub use Rattle.ab_alternatives.specs.ab_naming
+pub use Rattle.ab_putting.specs.ab_using
+pub use Rattle.ab_putting.specs.ab_taking
+pub use Rattle.ab_putting

@@ -1,7 +1,7 @@
 -- The terms and the types that parts name. Public contracts don't speak of this.
 use Rattle.std.specs.Prelude.{List, [], ◌∷◌}
-use Rattle.ab_types.specs.declared.ids.TypeId.{TypeId}
-use Rattle.ab_store.specs.declared.node.TermId.{TermId}
+use Rattle.ab_alternatives.specs.ab_types.specs.declared.ids.TypeId.{TypeId}
+use Rattle.ab_alternatives.specs.ab_store.specs.declared.node.TermId.{TermId}
 use Rattle.ab_putting.specs.declared.part.Part.{Part}
 use Rattle.ab_putting.specs.declared.part.Part.TheVariants.{Variable, Given, Constant, Antecedent}
 

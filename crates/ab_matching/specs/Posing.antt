@@ -1,14 +1,14 @@
 -- A question that may be asked of a world. Public contracts don't speak of this.
 use Rattle.std.specs.Prelude.{◌≡◌, List, [], All}
-use Rattle.ab_types.specs.Entries.{signature}
-use Rattle.ab_store.specs.Trees.{tree_of}
-use Rattle.ab_norm.specs.Nominals.{HoldsNominal}
-use Rattle.ab_cases.specs.Choices.{in_order}
-use Rattle.ab_instances.specs.Readings.{names_read}
-use Rattle.ab_logic.specs.Sequents.{Sequent, goal_names}
-use Rattle.ab_logic.specs.Worlds.{IsWorld}
-use Rattle.ab_logic.specs.declared.world.World.{World}
-use Rattle.ab_using.specs.Answers.{Using}
+use Rattle.ab_alternatives.specs.ab_types.specs.Entries.{signature}
+use Rattle.ab_alternatives.specs.ab_store.specs.Trees.{tree_of}
+use Rattle.ab_alternatives.specs.ab_norm.specs.Nominals.{HoldsNominal}
+use Rattle.ab_alternatives.specs.ab_cases.specs.Choices.{in_order}
+use Rattle.ab_alternatives.specs.ab_instances.specs.Readings.{names_read}
+use Rattle.ab_alternatives.specs.ab_logic.specs.Sequents.{Sequent, goal_names}
+use Rattle.ab_alternatives.specs.ab_logic.specs.Worlds.{IsWorld}
+use Rattle.ab_alternatives.specs.ab_logic.specs.declared.world.World.{World}
+use Rattle.ab_putting.specs.ab_using.specs.Answers.{Using}
 use Rattle.ab_putting.specs.Making.{HoldsPart, parts_read, HasParts}
 use Rattle.ab_matching.specs.Solving.{IsFormulaTerm, IsFormulaTermIfAny, aim_in}
 use Rattle.ab_matching.specs.declared.aim.Aim.{Aim}

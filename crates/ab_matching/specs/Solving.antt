@@ -4,16 +4,16 @@ use Rattle.std.specs.Prelude.{ℕ, List, [], ◌∷◌, ◌++◌, length, map, f
 use Rattle.std.specs.List.{list_any}
 use Rattle.std.specs.Option.{option_map}
 use Rattle.ab_term.specs.Types.{prop}
-use Rattle.ab_types.specs.Entries.{Table}
-use Rattle.ab_store.specs.declared.node.TermId.{TermId}
-use Rattle.ab_store.specs.declared.node.CellId.{CellId}
-use Rattle.ab_store.specs.Trees.{Read, Contents, tree_of}
-use Rattle.ab_store.specs.Reading.{binding_of, cell_variable}
-use Rattle.ab_store.specs.Naming.{IsTerm}
-use Rattle.ab_solve.specs.Replacing.{occurs}
-use Rattle.ab_solve.specs.Solving.{Equation}
-use Rattle.ab_logic.specs.Marks.{erased}
-use Rattle.ab_using.specs.Uses.{Aim, implied, equations}
+use Rattle.ab_alternatives.specs.ab_types.specs.Entries.{Table}
+use Rattle.ab_alternatives.specs.ab_store.specs.declared.node.TermId.{TermId}
+use Rattle.ab_alternatives.specs.ab_store.specs.declared.node.CellId.{CellId}
+use Rattle.ab_alternatives.specs.ab_store.specs.Trees.{Read, Contents, tree_of}
+use Rattle.ab_alternatives.specs.ab_store.specs.Reading.{binding_of, cell_variable}
+use Rattle.ab_alternatives.specs.ab_store.specs.Naming.{IsTerm}
+use Rattle.ab_alternatives.specs.ab_solve.specs.Replacing.{occurs}
+use Rattle.ab_alternatives.specs.ab_solve.specs.Solving.{Equation}
+use Rattle.ab_alternatives.specs.ab_logic.specs.Marks.{erased}
+use Rattle.ab_putting.specs.ab_using.specs.Uses.{Aim, implied, equations}
 use Rattle.ab_matching.specs.declared.aim.Aim.{Aim as KeptAim}
 
 -- those of the second for which the first has nothing, one against one

@@ -1,17 +1,17 @@
 -- Choices of constants that are tried one after another. Public contracts don't speak of this.
 use Rattle.std.specs.Prelude.{◌≡◌, ℕ, List, ◌∷◌, ◌++◌, map, filter, All, Bool, true, false}
 use Rattle.ab_term.specs.Terms as tree
-use Rattle.ab_types.specs.Entries.{Table}
-use Rattle.ab_types.specs.Ids.{type_of}
-use Rattle.ab_types.specs.declared.ids.TypeId.{TypeId}
-use Rattle.ab_store.specs.Trees.{Contents}
-use Rattle.ab_norm.specs.Nominals.{HoldsNominal}
-use Rattle.ab_solve.specs.Replacing.{Cell}
-use Rattle.ab_cases.specs.Choices.{choices}
-use Rattle.ab_instances.specs.Readings.{names_read}
-use Rattle.ab_equate.specs.Cases.{NeverArises}
-use Rattle.ab_using.specs.Uses.{use_by}
-use Rattle.ab_using.specs.Answers.{Using, case_by}
+use Rattle.ab_alternatives.specs.ab_types.specs.Entries.{Table}
+use Rattle.ab_alternatives.specs.ab_types.specs.Ids.{type_of}
+use Rattle.ab_alternatives.specs.ab_types.specs.declared.ids.TypeId.{TypeId}
+use Rattle.ab_alternatives.specs.ab_store.specs.Trees.{Contents}
+use Rattle.ab_alternatives.specs.ab_norm.specs.Nominals.{HoldsNominal}
+use Rattle.ab_alternatives.specs.ab_solve.specs.Replacing.{Cell}
+use Rattle.ab_alternatives.specs.ab_cases.specs.Choices.{choices}
+use Rattle.ab_alternatives.specs.ab_instances.specs.Readings.{names_read}
+use Rattle.ab_alternatives.specs.ab_equate.specs.Cases.{NeverArises}
+use Rattle.ab_putting.specs.ab_using.specs.Uses.{use_by}
+use Rattle.ab_putting.specs.ab_using.specs.Answers.{Using, case_by}
 use Rattle.ab_matching.specs.Choosing.{ComesOut}
 use Rattle.ab_matching.specs.declared.begun.Begun.{Begun}
 use Rattle.ab_matching.specs.declared.outcome.Outcome.{Outcome}

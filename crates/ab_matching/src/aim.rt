@@ -1,5 +1,5 @@
 //! What a formula is used for.
-use ab_store::TermId;
+use ab_alternatives::below::store::TermId;
 
 /// What a formula is used for.
 #[derive(Debug, Drop)]

@@ -1,15 +1,15 @@
 //! A choice of constants that has begun.
 ghost use Rattle.std.specs.Prelude.{◌≡◌, ◌∷◌, ◌++◌, [], All, IfOk};
-ghost use Rattle.ab_types.specs.Ids.{HoldsType, type_of};
-ghost use Rattle.ab_norm.specs.Nominals.{nominal_of, HoldsNominal};
-ghost use Rattle.ab_cases.specs.Choices as plain;
-ghost use Rattle.ab_instances.specs.Readings.{names_read};
+ghost use Rattle.ab_alternatives.specs.ab_types.specs.Ids.{HoldsType, type_of};
+ghost use Rattle.ab_alternatives.specs.ab_norm.specs.Nominals.{nominal_of, HoldsNominal};
+ghost use Rattle.ab_alternatives.specs.ab_cases.specs.Choices as plain;
+ghost use Rattle.ab_alternatives.specs.ab_instances.specs.Readings.{names_read};
 ghost use Rattle.ab_matching.specs.Trying.{IsBegun};
 
 use crate::question::Question;
-use ab_instances::{choices, outside};
-use ab_norm::Nominal;
-use ab_types::{TypeId, TypeTable};
+use ab_alternatives::below::instances::{choices, outside};
+use ab_alternatives::below::norm::Nominal;
+use ab_alternatives::below::types::{TypeId, TypeTable};
 use std::alloc::{AllocError, Global};
 
 /// A choice of constants that has begun.

@@ -1,12 +1,12 @@
 //! One choice of constants is tried.
 ghost use Rattle.std.specs.Prelude.{◌≡◌, ◌≤◌, map, All, IfOk, Ok};
-ghost use Rattle.ab_norm.specs.Nominals.{HoldsNominal};
-ghost use Rattle.ab_unifying.specs.Problem.{cells_read};
-ghost use Rattle.ab_instances.specs.Readings.{names_read};
-ghost use Rattle.ab_logic.specs.Growth.{Grows};
-ghost use Rattle.ab_logic.specs.Readings.{sequent_of};
-ghost use Rattle.ab_logic.specs.Worlds.{declarations_of};
-ghost use Rattle.ab_using.specs.Uses.{types_chosen};
+ghost use Rattle.ab_alternatives.specs.ab_norm.specs.Nominals.{HoldsNominal};
+ghost use Rattle.ab_alternatives.specs.ab_unifying.specs.Problem.{cells_read};
+ghost use Rattle.ab_alternatives.specs.ab_instances.specs.Readings.{names_read};
+ghost use Rattle.ab_alternatives.specs.ab_logic.specs.Growth.{Grows};
+ghost use Rattle.ab_alternatives.specs.ab_logic.specs.Readings.{sequent_of};
+ghost use Rattle.ab_alternatives.specs.ab_logic.specs.Worlds.{declarations_of};
+ghost use Rattle.ab_putting.specs.ab_using.specs.Uses.{types_chosen};
 ghost use Rattle.ab_putting.specs.Making.{parts_read};
 ghost use Rattle.ab_matching.specs.Choosing.{ComesOut};
 ghost use Rattle.ab_matching.specs.Posing.{IsPosed, using_at};
@@ -16,9 +16,9 @@ use crate::aim::Aim;
 use crate::outcome::Outcome;
 use crate::question::Question;
 use crate::solving::use_choice;
-use ab_logic::{Sequent, World};
-use ab_norm::Nominal;
-use ab_types::Steps;
+use ab_alternatives::below::logic::{Sequent, World};
+use ab_alternatives::below::norm::Nominal;
+use ab_alternatives::below::types::Steps;
 use std::alloc::{AllocError, Global};
 
 /// What comes of the chosen constants. No cell is bound in the end, and cells are added only where the formula is used.

@@ -1,21 +1,21 @@
 //! What is taken off a formula, with what cells are bound to in their places.
 ghost use Rattle.std.specs.Prelude.{◌≡◌, ◌≤◌, All, IfOk, Some};
-ghost use Rattle.ab_types.specs.Ids.{HoldsType, type_of};
-ghost use Rattle.ab_store.specs.Trees.{HoldsCell, cell_of};
-ghost use Rattle.ab_store.specs.Bindings.{IsUnbound};
-ghost use Rattle.ab_store.specs.Naming.{IsTypedBy};
-ghost use Rattle.ab_norm.specs.Growth.{AddsTypedTerms};
-ghost use Rattle.ab_norm.specs.Nominals.{HoldsNominal};
-ghost use Rattle.ab_norm.specs.declared.nominal.Nominal.{Nominal as ANominal};
-ghost use Rattle.ab_unifying.specs.Changed.{Grows};
+ghost use Rattle.ab_alternatives.specs.ab_types.specs.Ids.{HoldsType, type_of};
+ghost use Rattle.ab_alternatives.specs.ab_store.specs.Trees.{HoldsCell, cell_of};
+ghost use Rattle.ab_alternatives.specs.ab_store.specs.Bindings.{IsUnbound};
+ghost use Rattle.ab_alternatives.specs.ab_store.specs.Naming.{IsTypedBy};
+ghost use Rattle.ab_alternatives.specs.ab_norm.specs.Growth.{AddsTypedTerms};
+ghost use Rattle.ab_alternatives.specs.ab_norm.specs.Nominals.{HoldsNominal};
+ghost use Rattle.ab_alternatives.specs.ab_norm.specs.declared.nominal.Nominal.{Nominal as ANominal};
+ghost use Rattle.ab_alternatives.specs.ab_unifying.specs.Changed.{Grows};
 ghost use Rattle.ab_putting.specs.Making.{StageIsHeld};
 
-use ab_instances::choices;
-use ab_norm::{Nominal, copy_resolved, eta};
-use ab_patterns::occurs;
+use ab_alternatives::below::instances::choices;
+use ab_alternatives::below::norm::{Nominal, copy_resolved, eta};
+use ab_alternatives::below::patterns::occurs;
+use ab_alternatives::below::store::{CellId, Head, Store};
+use ab_alternatives::below::types::{Steps, TypeId, TypeTable};
 use ab_putting::Stage;
-use ab_store::{CellId, Head, Store};
-use ab_types::{Steps, TypeId, TypeTable};
 use std::alloc::{AllocError, Global};
 
 /// A constant of the type that isn't among these.

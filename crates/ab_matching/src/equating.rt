@@ -1,18 +1,18 @@
 //! What must be equal, for a formula to be used.
 ghost use Rattle.std.specs.Prelude.{◌≡◌, ◌≤◌, ◌++◌, [], map, length, All, IfOk, OnOk};
 ghost use Rattle.std.specs.Option.{option_map};
-ghost use Rattle.ab_store.specs.Trees.{tree_of};
-ghost use Rattle.ab_store.specs.Naming.{IsTypedBy};
-ghost use Rattle.ab_norm.specs.Growth.{AddsTypedTerms};
-ghost use Rattle.ab_solver.specs.Answers.{IsTypedPair};
-ghost use Rattle.ab_logic.specs.Marks.{erased};
+ghost use Rattle.ab_alternatives.specs.ab_store.specs.Trees.{tree_of};
+ghost use Rattle.ab_alternatives.specs.ab_store.specs.Naming.{IsTypedBy};
+ghost use Rattle.ab_alternatives.specs.ab_norm.specs.Growth.{AddsTypedTerms};
+ghost use Rattle.ab_alternatives.specs.ab_solver.specs.Answers.{IsTypedPair};
+ghost use Rattle.ab_alternatives.specs.ab_logic.specs.Marks.{erased};
 ghost use Rattle.ab_alternatives.specs.Made.{trees_from};
 ghost use Rattle.ab_matching.specs.Solving.{equation_at, all_equations, IsFormulaTerm, IsFormulaTermIfAny, aim_in};
 
 use crate::aim::Aim;
 use crate::erasing::erase;
-use ab_store::{Equation, Store, TermId};
-use ab_types::TypeTable;
+use ab_alternatives::below::store::{Equation, Store, TermId};
+use ab_alternatives::below::types::TypeTable;
 use std::alloc::{AllocError, Global};
 
 /// The two formulas without their marks.

@@ -1,14 +1,14 @@
 //! Formulas without their marks.
 ghost use Rattle.std.specs.Prelude.{◌≡◌, map, IfOk, All, get_or};
-ghost use Rattle.ab_store.specs.Trees.{Holds, tree_of, head_reading};
-ghost use Rattle.ab_store.specs.Naming.{IsTypedBy, HoldsHead, HeadIsTyped};
-ghost use Rattle.ab_norm.specs.Growth.{AddsTypedTerms};
-ghost use Rattle.ab_logic.specs.Marks.{erased, erased_all};
+ghost use Rattle.ab_alternatives.specs.ab_store.specs.Trees.{Holds, tree_of, head_reading};
+ghost use Rattle.ab_alternatives.specs.ab_store.specs.Naming.{IsTypedBy, HoldsHead, HeadIsTyped};
+ghost use Rattle.ab_alternatives.specs.ab_norm.specs.Growth.{AddsTypedTerms};
+ghost use Rattle.ab_alternatives.specs.ab_logic.specs.Marks.{erased, erased_all};
 ghost use Rattle.ab_term.specs.Terms.{spine, terms_of};
 
 use crate::marking::{Making, making_of};
-use ab_store::{Head, Node, Store, TermId};
-use ab_types::TypeTable;
+use ab_alternatives::below::store::{Head, Node, Store, TermId};
+use ab_alternatives::below::types::TypeTable;
 use std::alloc::{AllocError, Global};
 
 /// The first of the terms, or else the one that is given.

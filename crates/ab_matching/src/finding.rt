@@ -1,16 +1,16 @@
 //! The first choice of constants by which a formula can be used.
 ghost use Rattle.std.specs.Prelude.{◌≡◌, ◌≤◌, ◌∷◌, ◌++◌, [], map, IfOk, OnOk, All};
-ghost use Rattle.ab_norm.specs.Nominals.{HoldsNominal};
-ghost use Rattle.ab_cases.specs.Choices.{in_order};
-ghost use Rattle.ab_instances.specs.Readings.{names_read};
-ghost use Rattle.ab_types.specs.Ids.{HoldsType};
-ghost use Rattle.ab_logic.specs.Growth.{Grows};
-ghost use Rattle.ab_logic.specs.Readings.{HoldsSequent, sequent_of};
-ghost use Rattle.ab_logic.specs.Sequents.{IsSequent, goal_names};
-ghost use Rattle.ab_logic.specs.Worlds.{IsWorld, Holds, read, declarations_of};
-ghost use Rattle.ab_taking.specs.Readings.{given_of, HoldsIfAny};
-ghost use Rattle.ab_using.specs.Pieces.{pieces, parts};
-ghost use Rattle.ab_using.specs.Uses.{given_constants};
+ghost use Rattle.ab_alternatives.specs.ab_norm.specs.Nominals.{HoldsNominal};
+ghost use Rattle.ab_alternatives.specs.ab_cases.specs.Choices.{in_order};
+ghost use Rattle.ab_alternatives.specs.ab_instances.specs.Readings.{names_read};
+ghost use Rattle.ab_alternatives.specs.ab_types.specs.Ids.{HoldsType};
+ghost use Rattle.ab_alternatives.specs.ab_logic.specs.Growth.{Grows};
+ghost use Rattle.ab_alternatives.specs.ab_logic.specs.Readings.{HoldsSequent, sequent_of};
+ghost use Rattle.ab_alternatives.specs.ab_logic.specs.Sequents.{IsSequent, goal_names};
+ghost use Rattle.ab_alternatives.specs.ab_logic.specs.Worlds.{IsWorld, Holds, read, declarations_of};
+ghost use Rattle.ab_putting.specs.ab_taking.specs.Readings.{given_of, HoldsIfAny};
+ghost use Rattle.ab_putting.specs.ab_using.specs.Pieces.{pieces, parts};
+ghost use Rattle.ab_putting.specs.ab_using.specs.Uses.{given_constants};
 ghost use Rattle.ab_putting.specs.Making.{HoldsPart, parts_read};
 ghost use Rattle.ab_matching.specs.Named.{terms_named, types_named};
 ghost use Rattle.ab_matching.specs.Posing.{IsPosed, using_at};
@@ -22,13 +22,13 @@ use crate::found::Found;
 use crate::outcome::Outcome;
 use crate::question::Question;
 use crate::trying::try_from;
+use ab_alternatives::below::instances::constants_of;
+use ab_alternatives::below::logic::{Sequent, World};
+use ab_alternatives::below::store::TermId;
+use ab_alternatives::below::types::{Steps, TypeId};
 use ab_alternatives::goal_constants;
-use ab_instances::constants_of;
-use ab_logic::{Sequent, World};
+use ab_putting::below::taking::GivenTerm;
 use ab_putting::{Part, parts_of};
-use ab_store::TermId;
-use ab_taking::GivenTerm;
-use ab_types::{Steps, TypeId};
 use std::alloc::{AllocError, Global};
 
 /// Puts the term that is given behind the others, where the part is one.

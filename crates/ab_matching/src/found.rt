@@ -1,7 +1,7 @@
 //! What comes of using a formula.
+use ab_alternatives::below::store::TermId;
+use ab_alternatives::below::types::Name;
 use ab_putting::Stage;
-use ab_store::TermId;
-use ab_types::Name;
 
 /// How a formula is used.
 #[derive(Debug, Drop)]

@@ -1,17 +1,17 @@
 //! What is left of a formula that is used, and which new variables stand in it.
 ghost use Rattle.std.specs.Prelude.{◌≡◌, ◌≤◌, ◌∷◌, ◌++◌, [], List, map, filter, length, All, IfOk, OnOk, Ok, Some, None};
-ghost use Rattle.ab_types.specs.Entries.{Table};
-ghost use Rattle.ab_store.specs.declared.node.CellId.{CellId as ACell};
-ghost use Rattle.ab_store.specs.Trees.{Holds, HoldsCell, tree_of};
-ghost use Rattle.ab_store.specs.Reading.{reading};
-ghost use Rattle.ab_store.specs.Naming.{IsTypedBy};
-ghost use Rattle.ab_norm.specs.Growth.{AddsTypedTerms};
+ghost use Rattle.ab_alternatives.specs.ab_types.specs.Entries.{Table};
+ghost use Rattle.ab_alternatives.specs.ab_store.specs.declared.node.CellId.{CellId as ACell};
+ghost use Rattle.ab_alternatives.specs.ab_store.specs.Trees.{Holds, HoldsCell, tree_of};
+ghost use Rattle.ab_alternatives.specs.ab_store.specs.Reading.{reading};
+ghost use Rattle.ab_alternatives.specs.ab_store.specs.Naming.{IsTypedBy};
+ghost use Rattle.ab_alternatives.specs.ab_norm.specs.Growth.{AddsTypedTerms};
 ghost use Rattle.ab_matching.specs.Solving.{missing, stands_in, is_open};
 
-use ab_norm::copy_resolved;
-use ab_patterns::occurs;
-use ab_store::{CellId, Store, TermId};
-use ab_types::{Steps, TypeTable};
+use ab_alternatives::below::norm::copy_resolved;
+use ab_alternatives::below::patterns::occurs;
+use ab_alternatives::below::store::{CellId, Store, TermId};
+use ab_alternatives::below::types::{Steps, TypeTable};
 use std::alloc::{AllocError, Global};
 
 /// Puts the antecedent behind the others, where nothing is given for it.

@@ -4,6 +4,7 @@
 
 mod aim;
 mod begun;
+pub mod below;
 mod choosing;
 mod closing;
 mod equating;

@@ -1,14 +1,14 @@
 //! How a head makes the marks of a formula.
 ghost use Rattle.std.specs.Prelude.{◌≡◌};
-ghost use Rattle.ab_types.specs.Entries.{Table};
-ghost use Rattle.ab_store.specs.Trees.{head_in, logical_of};
-ghost use Rattle.ab_store.specs.declared.node.CellEntry.{CellEntry};
+ghost use Rattle.ab_alternatives.specs.ab_types.specs.Entries.{Table};
+ghost use Rattle.ab_alternatives.specs.ab_store.specs.Trees.{head_in, logical_of};
+ghost use Rattle.ab_alternatives.specs.ab_store.specs.declared.node.CellEntry.{CellEntry};
 ghost use Rattle.std.specs.Prelude.{List};
-ghost use Rattle.ab_logic.specs.Marks.{making_of, making_of_constant};
+ghost use Rattle.ab_alternatives.specs.ab_logic.specs.Marks.{making_of, making_of_constant};
 ghost use Rattle.ab_matching.specs.Erasing.{making_read};
 
-use ab_logic::Sign;
-use ab_store::{Head, Logical};
+use ab_alternatives::below::logic::Sign;
+use ab_alternatives::below::store::{Head, Logical};
 
 /// Where the marks of a formula come from.
 #[derive(Clone, Copy)]

@@ -3,7 +3,7 @@ ghost use Rattle.std.specs.Prelude.{◌≡◌};
 ghost use Rattle.ab_matching.specs.Trying.{decides};
 
 use crate::found::Use;
-use ab_types::Name;
+use ab_alternatives::below::types::Name;
 
 /// What comes of a choice of constants. Equations are counted from 0.
 #[derive(Debug, Drop)]

@@ -1,7 +1,7 @@
 //! What is asked of each choice of constants.
-use ab_norm::Nominal;
+use ab_alternatives::below::norm::Nominal;
+use ab_alternatives::below::store::TermId;
 use ab_putting::Part;
-use ab_store::TermId;
 
 /// What is asked of each choice of constants.
 #[derive(Debug, Drop)]

@@ -1,18 +1,18 @@
 //! A formula is used by one choice of constants: its equations are solved, and what is left is told.
 ghost use Rattle.std.specs.Prelude.{◌≡◌, ◌≤◌, ◌-◌, ◌++◌, [], map, length, All, IfOk};
 ghost use Rattle.ab_term.specs.Types.{prop};
-ghost use Rattle.ab_types.specs.Entries.{signature};
-ghost use Rattle.ab_store.specs.Trees.{HoldsCell, tree_of};
-ghost use Rattle.ab_store.specs.Naming.{IsTypedBy, IsTerm};
-ghost use Rattle.ab_norm.specs.Nominals.{HoldsNominal};
-ghost use Rattle.ab_solver.specs.Answers.{IsTypedPair};
-ghost use Rattle.ab_equate.specs.Meanwhile.{AreFrom};
-ghost use Rattle.ab_unifying.specs.Problem.{cells_read};
-ghost use Rattle.ab_unifying.specs.Changed.{Grows};
-ghost use Rattle.ab_instances.specs.Readings.{names_read};
-ghost use Rattle.ab_logic.specs.Sequents.{Sequent as APlainGoal, goal_names};
-ghost use Rattle.ab_cases.specs.Choices.{in_order};
-ghost use Rattle.ab_using.specs.Uses.{types_chosen};
+ghost use Rattle.ab_alternatives.specs.ab_types.specs.Entries.{signature};
+ghost use Rattle.ab_alternatives.specs.ab_store.specs.Trees.{HoldsCell, tree_of};
+ghost use Rattle.ab_alternatives.specs.ab_store.specs.Naming.{IsTypedBy, IsTerm};
+ghost use Rattle.ab_alternatives.specs.ab_norm.specs.Nominals.{HoldsNominal};
+ghost use Rattle.ab_alternatives.specs.ab_solver.specs.Answers.{IsTypedPair};
+ghost use Rattle.ab_alternatives.specs.ab_equate.specs.Meanwhile.{AreFrom};
+ghost use Rattle.ab_alternatives.specs.ab_unifying.specs.Problem.{cells_read};
+ghost use Rattle.ab_alternatives.specs.ab_unifying.specs.Changed.{Grows};
+ghost use Rattle.ab_alternatives.specs.ab_instances.specs.Readings.{names_read};
+ghost use Rattle.ab_alternatives.specs.ab_logic.specs.Sequents.{Sequent as APlainGoal, goal_names};
+ghost use Rattle.ab_alternatives.specs.ab_cases.specs.Choices.{in_order};
+ghost use Rattle.ab_putting.specs.ab_using.specs.Uses.{types_chosen};
 ghost use Rattle.ab_putting.specs.Making.{HoldsPart, parts_read, HasParts, StageIsHeld};
 ghost use Rattle.ab_matching.specs.Solving.{missing, IsFormulaTerm, IsFormulaTermIfAny, aim_in};
 ghost use Rattle.ab_matching.specs.Choosing.{IsLeft, IsSolvedSo, ComesOut};
@@ -23,11 +23,11 @@ use crate::equating::equate;
 use crate::found::Use;
 use crate::leaving::{awaited_of, first_open, resolve_all};
 use crate::outcome::Outcome;
-use ab_norm::{Nominal, copy_resolved};
+use ab_alternatives::below::norm::{Nominal, copy_resolved};
+use ab_alternatives::below::solver::{Solved, unify};
+use ab_alternatives::below::store::{CellId, Equation, Store, TermId};
+use ab_alternatives::below::types::{Steps, TypeTable};
 use ab_putting::{Made, Part, make_use};
-use ab_solver::{Solved, unify};
-use ab_store::{CellId, Equation, Store, TermId};
-use ab_types::{Steps, TypeTable};
 use std::alloc::{AllocError, Global};
 
 /// The first, and then the others.

@@ -1,13 +1,13 @@
 //! Choices of constants are made and tried one after another.
 ghost use Rattle.std.specs.Prelude.{◌≡◌, ◌≤◌, ◌++◌, false, map, All, IfOk};
-ghost use Rattle.ab_norm.specs.Nominals.{HoldsNominal};
-ghost use Rattle.ab_types.specs.Ids.{HoldsType, type_of};
-ghost use Rattle.ab_unifying.specs.Problem.{cells_read};
-ghost use Rattle.ab_instances.specs.Readings.{names_read};
-ghost use Rattle.ab_logic.specs.Growth.{Grows};
-ghost use Rattle.ab_logic.specs.Readings.{HoldsSequent, sequent_of};
-ghost use Rattle.ab_logic.specs.Worlds.{declarations_of};
-ghost use Rattle.ab_using.specs.Uses.{types_chosen};
+ghost use Rattle.ab_alternatives.specs.ab_norm.specs.Nominals.{HoldsNominal};
+ghost use Rattle.ab_alternatives.specs.ab_types.specs.Ids.{HoldsType, type_of};
+ghost use Rattle.ab_alternatives.specs.ab_unifying.specs.Problem.{cells_read};
+ghost use Rattle.ab_alternatives.specs.ab_instances.specs.Readings.{names_read};
+ghost use Rattle.ab_alternatives.specs.ab_logic.specs.Growth.{Grows};
+ghost use Rattle.ab_alternatives.specs.ab_logic.specs.Readings.{HoldsSequent, sequent_of};
+ghost use Rattle.ab_alternatives.specs.ab_logic.specs.Worlds.{declarations_of};
+ghost use Rattle.ab_putting.specs.ab_using.specs.Uses.{types_chosen};
 ghost use Rattle.ab_putting.specs.Making.{parts_read};
 ghost use Rattle.ab_matching.specs.Posing.{IsPosed, using_at};
 ghost use Rattle.ab_matching.specs.Trying.{decides, IsBegun, choices_behind, FirstComesOut};
@@ -17,8 +17,8 @@ use crate::begun::{Begun, candidates, with_next};
 use crate::choosing::try_choice;
 use crate::outcome::Outcome;
 use crate::question::Question;
-use ab_logic::{Sequent, World};
-use ab_types::{Steps, TypeId};
+use ab_alternatives::below::logic::{Sequent, World};
+use ab_alternatives::below::types::{Steps, TypeId};
 use std::alloc::{AllocError, Global};
 
 /// What comes of the choices that begin so, for further names of these types: of the first that isn't passed over or apart,

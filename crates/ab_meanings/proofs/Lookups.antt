@@ -10,8 +10,8 @@ use Rattle.ab_grammar.specs.declared.Infix.{Infix}
 use Rattle.ab_grammar.specs.declared.Infix.TheVariants.{Arrow, Or, And, Equal, Imply, With, Cons}
 use Rattle.ab_grammar.specs.Tree as tree
 use Rattle.ab_grammar.specs.Tree.{Tree, Trees, no_trees}
-use Rattle.ab_readings.specs.Names.{Name, Resolved, bound, known, free, apply, abs}
-use Rattle.ab_readings.specs.Scopes.{Entry, Scope, in_proof, nominal_number, or_else, index_of, truth_named, variable_named, constant_at, settled_nominal, nominal_at, clause_variable, head_named, Found, or_unknown, made_of, made_of_both, joined, pi_over, after, with_binders, under, is_pi, resolved, applied, pi_applied}
+use Rattle.ab_building.specs.ab_readings.specs.Names.{Name, Resolved, bound, known, free, apply, abs}
+use Rattle.ab_building.specs.ab_readings.specs.Scopes.{Entry, Scope, in_proof, nominal_number, or_else, index_of, truth_named, variable_named, constant_at, settled_nominal, nominal_at, clause_variable, head_named, Found, or_unknown, made_of, made_of_both, joined, pi_over, after, with_binders, under, is_pi, resolved, applied, pi_applied}
 
 -- ONE LOOK-UP
 

@@ -4,10 +4,10 @@ use Rattle.std.proofs.Common.{◌≡◌, ℕ, List, [], ◌∷◌, Some, sym, �
 use Rattle.ab_term.specs.Types.{Ty}
 use Rattle.ab_term.specs.Terms.{Head, nominal}
 use Rattle.ab_term.specs.Beta.{atom}
-use Rattle.ab_readings.specs.Names.{Name, Resolved, free}
-use Rattle.ab_readings.specs.Scopes.{nominal_number}
-use Rattle.ab_readings.specs.Readings.{Making, Raw, Reads, reads_bound, reads_known, reads_free, reads_apply, reads_abs, reads_equal, reads_bind}
-use Rattle.ab_readings.specs.Answers.{Reading, IsTheReading, HasNoReading, Differ, IsFirstOpen}
+use Rattle.ab_building.specs.ab_readings.specs.Names.{Name, Resolved, free}
+use Rattle.ab_building.specs.ab_readings.specs.Scopes.{nominal_number}
+use Rattle.ab_building.specs.ab_readings.specs.Readings.{Making, Raw, Reads, reads_bound, reads_known, reads_free, reads_apply, reads_abs, reads_equal, reads_bind}
+use Rattle.ab_building.specs.ab_readings.specs.Answers.{Reading, IsTheReading, HasNoReading, Differ, IsFirstOpen}
 use Rattle.ab_building.specs.Outcomes.{nominal_of}
 use Rattle.ab_effects.specs.Terms.{made, constant_named}
 use Rattle.ab_meanings.proofs.Names.{NamesAre}

@@ -14,8 +14,8 @@ use Rattle.ab_grammar.specs.declared.Infix.TheVariants.{Arrow, Or, And, Equal, I
 use Rattle.ab_grammar.specs.declared.Quant.{Quant}
 use Rattle.ab_grammar.specs.Tree as tree
 use Rattle.ab_grammar.specs.Tree.{Tree, Trees, no_trees}
-use Rattle.ab_readings.specs.Names.{Name, Resolved, bound, known, free, apply, abs, equal, bind, quantified}
-use Rattle.ab_readings.specs.Scopes.{Entry, Scope, in_proof, nominal_number, or_else, index_of, truth_named, variable_named, constant_at, settled_nominal, nominal_at, head_named, Found, or_unknown, made_of, made_of_both, connective, joined, pi_over, after, written, with_binder, with_binders, under, is_pi, resolved, applied, pi_applied}
+use Rattle.ab_building.specs.ab_readings.specs.Names.{Name, Resolved, bound, known, free, apply, abs, equal, bind, quantified}
+use Rattle.ab_building.specs.ab_readings.specs.Scopes.{Entry, Scope, in_proof, nominal_number, or_else, index_of, truth_named, variable_named, constant_at, settled_nominal, nominal_at, head_named, Found, or_unknown, made_of, made_of_both, connective, joined, pi_over, after, written, with_binder, with_binders, under, is_pi, resolved, applied, pi_applied}
 
 -- the constants that signs and words stand for
 abbrev pub IsWritten : Logical → Type 0

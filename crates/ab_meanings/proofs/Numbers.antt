@@ -6,8 +6,8 @@ use Rattle.std.specs.Str.Parse.{digits_value}
 use Rattle.std.proofs.Common.{◌≡◌, ◌≢◌, ◌==◌, ◌<◌, ◌≤◌, ◌^◌, ℕ, List, [], ◌∷◌, length, get_or, Bool, true, false, Option, Some, None, refl, sym, ◌∙◌, ap, arith, rules}
 use Rattle.std.proofs.lemmas.Str.Parse.{IsNumeralModel, numerals_by_value, digits_value_short}
 use Rattle.std.proofs.lemmas.Fmt.{decimal-digits_value}
-use Rattle.ab_readings.specs.Names.{Name}
-use Rattle.ab_readings.specs.Scopes.{is_number, nominal_number}
+use Rattle.ab_building.specs.ab_readings.specs.Names.{Name}
+use Rattle.ab_building.specs.ab_readings.specs.Scopes.{is_number, nominal_number}
 
 abbrev AreDigits : List ℕ → Type 0
 AreDigits w = list_all is_ascii_digit w ≡ true

@@ -2,3 +2,9 @@
 pub mod Labels
 pub mod Numbers
 pub mod Taken
+-- Libraries that the crates above name through this one.
+pub use Rattle.ab_logic.specs.ab_solve
+pub use Rattle.ab_logic.specs.ab_cases
+pub use Rattle.ab_logic.specs.ab_types
+pub use Rattle.ab_logic.specs.ab_store
+pub use Rattle.ab_logic

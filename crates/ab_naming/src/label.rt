@@ -6,7 +6,7 @@ ghost use Rattle.ab_logic.specs.Names.{IsLeast, IsFree, automatic, Names, NoName
 ghost use Rattle.ab_naming.specs.Labels.{label_of};
 
 use ab_logic::Sequent;
-use ab_types::Name;
+use ab_logic::below::types::Name;
 use std::alloc::{AllocError, Global};
 
 /// The greatest number of an automatic name.

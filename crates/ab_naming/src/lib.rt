@@ -1,6 +1,7 @@
 //! Names for new hypotheses and new variables.
 #![tactic(auto)]
 
+pub mod below;
 mod label;
 mod nominal;
 mod stem;

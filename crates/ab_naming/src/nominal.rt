@@ -5,7 +5,7 @@ ghost use Rattle.std.specs.Char.{is_ascii_digit};
 ghost use Rattle.ab_logic.specs.Names.{IsNominalName};
 ghost use Rattle.ab_naming.specs.Numbers.{IsPositive, HasNominalForm};
 
-use ab_types::Name;
+use ab_logic::below::types::Name;
 
 /// Whether all bytes are decimal digits.
 fn are_digits(bytes: &[u8]) -> bool

@@ -2,7 +2,7 @@
 ghost use Rattle.std.specs.Prelude.{◌≡◌, ℕ, ◌-◌, ◌<◌, ◌≤◌, IfOk, length, slice_index, true, false};
 ghost use Rattle.ab_logic.specs.Names.{IsDigit, IsStem};
 
-use ab_types::Name;
+use ab_logic::below::types::Name;
 use std::alloc::{AllocError, Global};
 
 /// Where the digits at the end of the bytes begin.

@@ -10,8 +10,8 @@ ghost use Rattle.ab_logic.specs.Sequents.{Sequent as ASequent};
 
 use crate::nominal::is_nominal_name;
 use crate::stem::stem;
+use ab_logic::below::types::Name;
 use ab_logic::{Sequent, World};
-use ab_types::Name;
 use std::alloc::{AllocError, Global};
 
 /// Whether a variable of the goal has the name.

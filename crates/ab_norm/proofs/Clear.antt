@@ -10,7 +10,7 @@ use Rattle.ab_term.specs.Expansion.{expansion}
 use Rattle.ab_term.specs.Variables.{variables, variables_of_head, variables_of_all}
 use Rattle.ab_term.proofs.Lists.{Contains-none, Contains-cases, All-from_contains}
 use Rattle.ab_term.proofs.Stands.{variables-expansion_of}
-use Rattle.ab_types.specs.Entries.{Table}
+use Rattle.ab_store.specs.ab_types.specs.Entries.{Table}
 use Rattle.ab_store.specs.declared.node.TermId.{TermId}
 use Rattle.ab_store.specs.declared.node.Head.{Head}
 use Rattle.ab_store.specs.declared.node.Head.TheVariants.{Const, Logic, Nominal, Cell, Index}

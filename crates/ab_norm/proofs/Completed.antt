@@ -8,10 +8,10 @@ use Rattle.ab_term.specs.Names.{same_nominal, moved_by, IsPermutationTable}
 use Rattle.ab_term.proofs.Comparisons.{same_nominal-Decides}
 use Rattle.ab_term.proofs.Lists.{AllPairs-parts, Contains-map, Contains-from_map}
 use Rattle.ab_term.proofs.Permutations.{froms, tos, moved_by-present, swapped, one_to_one}
-use Rattle.ab_types.specs.Entries.{Table}
-use Rattle.ab_types.specs.Ids.{type_of}
-use Rattle.ab_types.specs.Sound.{IsTable}
-use Rattle.ab_types.proofs.Kept.{one_type}
+use Rattle.ab_store.specs.ab_types.specs.Entries.{Table}
+use Rattle.ab_store.specs.ab_types.specs.Ids.{type_of}
+use Rattle.ab_store.specs.ab_types.specs.Sound.{IsTable}
+use Rattle.ab_store.specs.ab_types.proofs.Kept.{one_type}
 use Rattle.ab_norm.specs.declared.nominal.Nominal.{Nominal}
 use Rattle.ab_norm.specs.declared.nominal.Swap.{Swap}
 use Rattle.ab_norm.specs.Nominals.{nominal_of, pairs_of, HoldsNominal, HoldsPairs}

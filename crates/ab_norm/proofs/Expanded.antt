@@ -6,7 +6,7 @@ use Rattle.ab_term.specs.Terms.{term, terms_of, with_last}
 use Rattle.ab_term.specs.Substitution.{shift, shift_all}
 use Rattle.ab_term.specs.Reach.{raise}
 use Rattle.ab_term.proofs.Reaching.{raise-none, raise-more}
-use Rattle.ab_types.specs.Entries.{Table}
+use Rattle.ab_store.specs.ab_types.specs.Entries.{Table}
 use Rattle.ab_store.specs.declared.node.TermId.{TermId}
 use Rattle.ab_store.specs.Trees.{Read, Contents, Holds, tree_of}
 use Rattle.ab_store.specs.Growth.{IsExtendedBy}

@@ -13,16 +13,16 @@ use Rattle.ab_term.specs.Terms as tree
 use Rattle.ab_term.specs.Terms.{Term, Terms, no_terms, term, terms_of}
 use Rattle.ab_term.specs.Names.{support, support_of_head, support_of_all, IsSupport}
 use Rattle.ab_term.proofs.Lists.{Contains-none, Contains-here, Contains-there, Contains-cases, Contains-map, Contains-from_map, AllPairs-none, AllPairs-parts}
-use Rattle.ab_types.specs.Entries.{Table}
-use Rattle.ab_types.specs.declared.ids.TypeId.{TypeId}
+use Rattle.ab_store.specs.ab_types.specs.Entries.{Table}
+use Rattle.ab_store.specs.ab_types.specs.declared.ids.TypeId.{TypeId}
 use Rattle.ab_store.specs.declared.node.TermId.{TermId}
 use Rattle.ab_store.specs.declared.node.Head.{Head}
 use Rattle.ab_store.specs.declared.node.Node.{Node}
 use Rattle.ab_store.specs.declared.node.Node.TheVariants.{Lam, Spine}
 use Rattle.ab_store.specs.Trees.{Read, Contents, tree_of, head_reading, node_tree}
 use Rattle.ab_norm.specs.declared.nominal.Nominal.{Nominal}
-use Rattle.ab_types.specs.Sound.{IsTable}
-use Rattle.ab_types.proofs.Kept.{one_type}
+use Rattle.ab_store.specs.ab_types.specs.Sound.{IsTable}
+use Rattle.ab_store.specs.ab_types.proofs.Kept.{one_type}
 use Rattle.ab_norm.specs.Nominals.{nominal_of, HoldsNominal}
 use Rattle.ab_norm.specs.declared.memo.Seen.{Seen}
 use Rattle.ab_norm.specs.Remembering.{has_been}

@@ -20,8 +20,8 @@ use Rattle.ab_term.proofs.OwnExpansion.{Stays, image_by-expansion_of, image_by-o
 use Rattle.ab_term.proofs.PastHints.{bare, forget-image}
 use Rattle.ab_term.proofs.Recognising.{forget-expansion}
 use Rattle.ab_term.proofs.Translations.{translate_typed}
-use Rattle.ab_types.specs.Entries.{Table, signature}
-use Rattle.ab_types.specs.Ids.{type_of}
+use Rattle.ab_store.specs.ab_types.specs.Entries.{Table, signature}
+use Rattle.ab_store.specs.ab_types.specs.Ids.{type_of}
 use Rattle.ab_store.specs.declared.node.TermId.{TermId}
 use Rattle.ab_store.specs.declared.node.CellId.{CellId}
 use Rattle.ab_store.specs.declared.node.Head.{Head}

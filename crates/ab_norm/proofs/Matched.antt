@@ -5,11 +5,11 @@ use Rattle.ab_term.specs.Terms as tree
 use Rattle.ab_term.specs.Terms.{lam, spine, terms_of}
 use Rattle.ab_term.specs.Translation.{forget, forget_all, translate_head}
 use Rattle.ab_term.specs.Names.{support, rename_head, rename, rename_all}
-use Rattle.ab_types.specs.Entries.{Table}
-use Rattle.ab_types.specs.Ids.{HoldsType, type_of}
-use Rattle.ab_types.specs.Sound.{IsTable}
-use Rattle.ab_types.specs.declared.ids.TypeId.{TypeId}
-use Rattle.ab_types.proofs.Kept.{one_type}
+use Rattle.ab_store.specs.ab_types.specs.Entries.{Table}
+use Rattle.ab_store.specs.ab_types.specs.Ids.{HoldsType, type_of}
+use Rattle.ab_store.specs.ab_types.specs.Sound.{IsTable}
+use Rattle.ab_store.specs.ab_types.specs.declared.ids.TypeId.{TypeId}
+use Rattle.ab_store.specs.ab_types.proofs.Kept.{one_type}
 use Rattle.ab_store.specs.declared.node.TermId.{TermId}
 use Rattle.ab_store.specs.declared.node.Head.{Head}
 use Rattle.ab_store.specs.declared.node.Head.TheVariants.{Const, Logic, Nominal, Cell, Index}

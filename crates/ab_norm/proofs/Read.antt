@@ -10,7 +10,7 @@ use Rattle.ab_term.specs.Sameness.{same_number}
 use Rattle.ab_term.specs.Variables.{Substitution, IsTyped, one_by_one}
 use Rattle.ab_term.proofs.InOrder.{one_by_one-instance}
 use Rattle.ab_term.proofs.Preservation.{instance_typed}
-use Rattle.ab_types.specs.Entries.{Table, signature}
+use Rattle.ab_store.specs.ab_types.specs.Entries.{Table, signature}
 use Rattle.ab_store.specs.declared.node.TermId.{TermId}
 use Rattle.ab_store.specs.Reading.{Read, Contents, Holds, tree_of, reading, pairs}
 use Rattle.ab_store.specs.Growth.{IsExtendedBy}

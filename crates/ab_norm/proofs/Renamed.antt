@@ -5,7 +5,7 @@ use Rattle.std.proofs.lemmas.List.{map_more, map-append}
 use Rattle.ab_term.specs.Terms as tree
 use Rattle.ab_term.specs.Terms.{Term, Terms, lam, spine, term, no_terms, terms_of}
 use Rattle.ab_term.specs.Names.{support_of_head, support, support_of_all, rename_head, rename, rename_all}
-use Rattle.ab_types.specs.Entries.{Table}
+use Rattle.ab_store.specs.ab_types.specs.Entries.{Table}
 use Rattle.ab_store.specs.declared.node.TermId.{TermId}
 use Rattle.ab_store.specs.Trees.{Read, Contents, Holds, tree_of}
 use Rattle.ab_store.specs.Growth.{IsExtendedBy}

@@ -10,9 +10,9 @@ use Rattle.ab_term.specs.Variables.{variables, variables_of_head, variables_of_a
 use Rattle.ab_term.proofs.Lists.{Contains-map, Contains-from_map, AllPairs-parts}
 use Rattle.ab_term.proofs.Stands.{variables-image}
 use Rattle.ab_term.proofs.Comparisons.{same_variable-itself}
-use Rattle.ab_types.specs.Entries.{Table}
-use Rattle.ab_types.specs.Ids.{type_of}
-use Rattle.ab_types.specs.declared.ids.TypeId.{TypeId}
+use Rattle.ab_store.specs.ab_types.specs.Entries.{Table}
+use Rattle.ab_store.specs.ab_types.specs.Ids.{type_of}
+use Rattle.ab_store.specs.ab_types.specs.declared.ids.TypeId.{TypeId}
 use Rattle.ab_store.specs.declared.node.TermId.{TermId}
 use Rattle.ab_store.specs.declared.node.CellId.{CellId}
 use Rattle.ab_store.specs.declared.node.CellEntry.{CellEntry}

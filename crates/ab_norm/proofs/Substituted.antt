@@ -8,9 +8,9 @@ use Rattle.ab_term.specs.Terms.{terms_of}
 use Rattle.ab_term.specs.Substitution as tree
 use Rattle.ab_term.specs.Reach.{raise}
 use Rattle.ab_term.proofs.Reaching.{raise-none}
-use Rattle.ab_types.specs.Entries.{Table}
-use Rattle.ab_types.specs.Ids.{type_of}
-use Rattle.ab_types.specs.declared.ids.TypeId.{TypeId}
+use Rattle.ab_store.specs.ab_types.specs.Entries.{Table}
+use Rattle.ab_store.specs.ab_types.specs.Ids.{type_of}
+use Rattle.ab_store.specs.ab_types.specs.declared.ids.TypeId.{TypeId}
 use Rattle.ab_store.specs.declared.node.TermId.{TermId}
 use Rattle.ab_store.specs.declared.node.Node.{Node}
 use Rattle.ab_store.specs.declared.node.Node.TheVariants.{Lam}

@@ -5,7 +5,7 @@ use Rattle.std.proofs.lemmas.List.Elements.{All-nil}
 use Rattle.ab_term.specs.Names.{moved_by, rename, permute, IsPermutationTable, EqualUpToNames}
 use Rattle.ab_term.specs.Translation.{forget, EqualPastHints}
 use Rattle.ab_term.proofs.Permutations.{one_to_one, swapped}
-use Rattle.ab_types.specs.Entries.{Table}
+use Rattle.ab_store.specs.ab_types.specs.Entries.{Table}
 use Rattle.ab_store.specs.Trees.{Read}
 use Rattle.ab_norm.specs.declared.nominal.Swap.{Swap}
 use Rattle.ab_norm.specs.declared.nominal.Permutation.{Permutation}

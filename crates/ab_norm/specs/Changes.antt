@@ -8,10 +8,10 @@ use Rattle.ab_term.specs.Reach.{raise_head, raise}
 use Rattle.ab_term.specs.Names.{moved_by, rename_head, rename}
 use Rattle.ab_term.specs.Sameness.{same_number}
 use Rattle.ab_term.specs.Variables.{Substitution, value_in, image, put_at}
-use Rattle.ab_types.specs.Entries.{Table}
-use Rattle.ab_types.specs.declared.ids.TypeId.{TypeId}
-use Rattle.ab_types.specs.Ids.{HoldsType, type_of}
-use Rattle.ab_types.specs.Sound.{IsTable}
+use Rattle.ab_store.specs.ab_types.specs.Entries.{Table}
+use Rattle.ab_store.specs.ab_types.specs.declared.ids.TypeId.{TypeId}
+use Rattle.ab_store.specs.ab_types.specs.Ids.{HoldsType, type_of}
+use Rattle.ab_store.specs.ab_types.specs.Sound.{IsTable}
 use Rattle.ab_store.specs.declared.node.TermId.{TermId}
 use Rattle.ab_store.specs.declared.node.CellId.{CellId}
 use Rattle.ab_store.specs.Trees.{Read, Contents, Holds, HoldsCell, cell_of, tree_of}

@@ -2,7 +2,7 @@
 use Rattle.std.specs.Prelude.{◌≡◌, ◌≢◌, List, map, Contains, if◌then◌else◌}
 use Rattle.ab_term.specs.Terms as tree
 use Rattle.ab_term.specs.Names.{same_nominal, moved_by, IsPermutationTable}
-use Rattle.ab_types.specs.Entries.{Table}
+use Rattle.ab_store.specs.ab_types.specs.Entries.{Table}
 use Rattle.ab_norm.specs.declared.nominal.Nominal.{Nominal}
 use Rattle.ab_norm.specs.declared.nominal.Swap.{Swap}
 use Rattle.ab_norm.specs.Nominals.{nominal_of, pairs_of, HoldsPairs}

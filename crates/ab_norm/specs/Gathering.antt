@@ -2,7 +2,7 @@
 use Rattle.std.specs.Prelude.{◌≡◌, ◌⊎◌, ◌↔◌, List, map, true, Contains}
 use Rattle.ab_term.specs.Terms as tree
 use Rattle.ab_term.specs.Names.{support}
-use Rattle.ab_types.specs.Entries.{Table}
+use Rattle.ab_store.specs.ab_types.specs.Entries.{Table}
 use Rattle.ab_store.specs.declared.node.TermId.{TermId}
 use Rattle.ab_store.specs.Trees.{Contents, tree_of}
 use Rattle.ab_norm.specs.declared.memo.Seen.{Seen}

@@ -1,6 +1,6 @@
 -- What a call that makes terms does to a store: it adds nodes, and nothing else.
 use Rattle.std.specs.Prelude.{◌≡◌}
-use Rattle.ab_types.specs.Entries.{Table}
+use Rattle.ab_store.specs.ab_types.specs.Entries.{Table}
 use Rattle.ab_store.specs.Reading.{Contents}
 use Rattle.ab_store.specs.Growth.{IsExtendedBy}
 use Rattle.ab_store.specs.Naming.{IsTypedBy}

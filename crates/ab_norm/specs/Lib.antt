@@ -14,3 +14,6 @@ pub mod Taking
 pub mod Heads
 pub mod Clearing
 pub mod OtherStores
+-- Libraries that the crates above name through this one.
+pub use Rattle.ab_store.specs.ab_types
+pub use Rattle.ab_store

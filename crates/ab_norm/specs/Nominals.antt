@@ -1,8 +1,8 @@
 -- What nominal constants and permutations of the program stand for.
 use Rattle.std.specs.Prelude.{List, map, All}
 use Rattle.ab_term.specs.Terms as tree
-use Rattle.ab_types.specs.Entries.{Table}
-use Rattle.ab_types.specs.Ids.{HoldsType, type_of}
+use Rattle.ab_store.specs.ab_types.specs.Entries.{Table}
+use Rattle.ab_store.specs.ab_types.specs.Ids.{HoldsType, type_of}
 use Rattle.ab_norm.specs.declared.nominal.Nominal.{Nominal}
 use Rattle.ab_norm.specs.declared.nominal.Swap.{Swap}
 

@@ -1,6 +1,6 @@
 -- What a walk keeps that carries terms over into another store.
 use Rattle.std.specs.Prelude.{◌≡◌, Some}
-use Rattle.ab_types.specs.Entries.{Table}
+use Rattle.ab_store.specs.ab_types.specs.Entries.{Table}
 use Rattle.ab_store.specs.declared.node.TermId.{TermId}
 use Rattle.ab_store.specs.Trees.{Contents, Holds, tree_of}
 use Rattle.ab_norm.specs.declared.memo.Memo.{Memo}

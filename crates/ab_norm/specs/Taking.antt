@@ -3,7 +3,7 @@ use Rattle.std.specs.Prelude.{List, map}
 use Rattle.ab_term.specs.Types.{Ty}
 use Rattle.ab_term.specs.Terms.{terms_of}
 use Rattle.ab_term.specs.Typing.{TakeType}
-use Rattle.ab_types.specs.Entries.{Table, signature}
+use Rattle.ab_store.specs.ab_types.specs.Entries.{Table, signature}
 use Rattle.ab_store.specs.declared.node.TermId.{TermId}
 use Rattle.ab_store.specs.Reading.{Contents, tree_of}
 

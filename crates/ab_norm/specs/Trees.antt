@@ -2,9 +2,9 @@
 use Rattle.std.specs.Prelude.{List, ◌∷◌, All}
 use Rattle.std.specs.List.{flat_map}
 use Rattle.ab_term.specs.Terms.{lam, spine, terms_of}
-use Rattle.ab_types.specs.Entries.{Table}
-use Rattle.ab_types.specs.declared.ids.TypeId.{TypeId}
-use Rattle.ab_types.specs.Ids.{HoldsType, type_of}
+use Rattle.ab_store.specs.ab_types.specs.Entries.{Table}
+use Rattle.ab_store.specs.ab_types.specs.declared.ids.TypeId.{TypeId}
+use Rattle.ab_store.specs.ab_types.specs.Ids.{HoldsType, type_of}
 use Rattle.ab_store.specs.declared.node.Head.{Head}
 use Rattle.ab_store.specs.Reading.{Read, Contents, head_reading}
 use Rattle.ab_store.specs.Naming.{HoldsHead, HeadIsTyped}

@@ -2,7 +2,7 @@
 ghost use Rattle.std.specs.Prelude.{◌≡◌, [], ◌∷◌, map, IfOk, OnOk, All};
 ghost use Rattle.ab_term.specs.Sameness.{same_number};
 ghost use Rattle.ab_term.specs.Variables.{image};
-ghost use Rattle.ab_types.specs.Sound.{IsTable};
+ghost use Rattle.ab_store.specs.ab_types.specs.Sound.{IsTable};
 ghost use Rattle.ab_store.specs.Reading.{Holds, HoldsCell, tree_of, reading, cell_variable};
 ghost use Rattle.ab_store.specs.Naming.{IsTypedBy};
 ghost use Rattle.ab_norm.specs.Growth.{AddsTypedTerms};
@@ -10,8 +10,8 @@ ghost use Rattle.ab_norm.specs.OtherStores.{Carries};
 
 use crate::memo::Memo;
 use crate::walking::{Change, walk};
+use ab_store::below::types::{Steps, TypeTable};
 use ab_store::{Binding, Node, Store, TermId};
-use ab_types::{Steps, TypeTable};
 use std::alloc::{AllocError, Global};
 
 /// The term with its bindings put in, in the other store, which has the same cells.

@@ -2,8 +2,8 @@
 ghost use Rattle.std.specs.Prelude.{◌≡◌, ◌↔◌, true, map, IfOk, OnOk, IsTrue, All};
 ghost use Rattle.ab_term.specs.Terms.{terms_of};
 ghost use Rattle.ab_term.specs.Translation.{EqualPastHints, forget_all};
-ghost use Rattle.ab_types.specs.Entries.{Table};
-ghost use Rattle.ab_types.specs.Sound.{IsTable};
+ghost use Rattle.ab_store.specs.ab_types.specs.Entries.{Table};
+ghost use Rattle.ab_store.specs.ab_types.specs.Sound.{IsTable};
 ghost use Rattle.ab_store.specs.Trees.{Holds, tree_of};
 ghost use Rattle.ab_store.specs.Reading.{reading};
 ghost use Rattle.ab_store.specs.Naming.{IsTypedBy};
@@ -12,9 +12,8 @@ ghost use Rattle.ab_norm.specs.Matching.{AllAgree};
 use crate::carrying::carry_resolved;
 use crate::memo::Agreed;
 use crate::resolving::are_resolved;
+use ab_store::below::types::{TypeId, TypeTable, has_unique_ids};
 use ab_store::{Head, Node, Store, TermId};
-use ab_types::laws::has_unique_ids;
-use ab_types::{TypeId, TypeTable};
 use std::alloc::{AllocError, Global};
 
 /// Whether the two heads are the same.

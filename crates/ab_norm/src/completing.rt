@@ -1,8 +1,8 @@
 //! A permutation that sends listed constants where they have to go.
 ghost use Rattle.std.specs.Prelude.{◌≡◌, ◌≢◌, ◌↔◌, true, map, IfOk, OnOk, Contains};
 ghost use Rattle.ab_term.specs.Names.{moved_by};
-ghost use Rattle.ab_types.specs.Entries.{Table};
-ghost use Rattle.ab_types.specs.Sound.{IsTable};
+ghost use Rattle.ab_store.specs.ab_types.specs.Entries.{Table};
+ghost use Rattle.ab_store.specs.ab_types.specs.Sound.{IsTable};
 ghost use Rattle.ab_norm.specs.Nominals.{nominal_of, pairs_of, HoldsNominal, HoldsPairs};
 ghost use Rattle.ab_norm.specs.Matching.{IsOneToOne, Sends};
 ghost use Rattle.ab_norm.specs.Completing.{retargeted, Permutes, Includes, Settles};

@@ -6,9 +6,9 @@ ghost use Rattle.ab_term.specs.Typing.{head_type};
 ghost use Rattle.ab_term.specs.Substitution.{shift_head, shift_all};
 ghost use Rattle.ab_term.specs.Expansion.{expansion, expansion_of};
 ghost use Rattle.ab_term.specs.Translation.{EqualPastHints};
-ghost use Rattle.ab_types.specs.Entries.{signature};
-ghost use Rattle.ab_types.specs.Ids.{HoldsType, type_of};
-ghost use Rattle.ab_types.specs.Sound.{IsTable};
+ghost use Rattle.ab_store.specs.ab_types.specs.Entries.{signature};
+ghost use Rattle.ab_store.specs.ab_types.specs.Ids.{HoldsType, type_of};
+ghost use Rattle.ab_store.specs.ab_types.specs.Sound.{IsTable};
 ghost use Rattle.ab_store.specs.Trees.{Holds, head_reading, tree_of};
 ghost use Rattle.ab_store.specs.declared.node.CellId.{CellId};
 ghost use Rattle.ab_store.specs.declared.node.TermId.{TermId};
@@ -22,9 +22,8 @@ ghost use Rattle.ab_norm.specs.Taking.{AreTaken};
 
 use crate::indices::raise_head;
 use crate::walking::lift_all;
+use ab_store::below::types::{Name, Steps, TypeId, TypeTable, TypeView, has_unique_ids};
 use ab_store::{Head, Store, TermId};
-use ab_types::laws::has_unique_ids;
-use ab_types::{Name, Steps, TypeId, TypeTable, TypeView};
 use std::alloc::{AllocError, Global};
 
 /// The head at the type, with as many bound names as that takes. Their binders have the hint `x`. The form of a bound

@@ -2,7 +2,7 @@
 ghost use Rattle.std.specs.Prelude.{◌≡◌, ◌+◌, option_map, IfOk, IfSome};
 ghost use Rattle.ab_term.specs.Substitution as tree;
 ghost use Rattle.ab_term.specs.Reach as reach;
-ghost use Rattle.ab_types.specs.Entries.{Table};
+ghost use Rattle.ab_store.specs.ab_types.specs.Entries.{Table};
 ghost use Rattle.ab_store.specs.Reading.{Contents, head_reading};
 ghost use Rattle.ab_store.specs.Naming.{HoldsHead, HeadIsTyped};
 

@@ -2,7 +2,7 @@
 ghost use Rattle.std.specs.Prelude.{◌≡◌, ◌<◌, ◌≤◌, List, map, IfOk, All};
 ghost use Rattle.ab_term.specs.Types.{Ty};
 ghost use Rattle.ab_term.specs.Substitution.{instance, instance_by_all};
-ghost use Rattle.ab_types.specs.Sound.{IsTable};
+ghost use Rattle.ab_store.specs.ab_types.specs.Sound.{IsTable};
 ghost use Rattle.ab_store.specs.Trees.{Holds, tree_of};
 ghost use Rattle.ab_store.specs.Reading.{reading};
 ghost use Rattle.ab_store.specs.Naming.{IsTypedBy, IsTerm};
@@ -11,9 +11,8 @@ ghost use Rattle.ab_norm.specs.Taking.{AreTaken};
 
 use crate::memo::Memo;
 use crate::walking::{Change, walk};
+use ab_store::below::types::{Steps, TypeTable, has_unique_ids};
 use ab_store::{Node, Store, TermId};
-use ab_types::laws::has_unique_ids;
-use ab_types::{Steps, TypeTable};
 use std::alloc::{AllocError, Global};
 
 /// The term with the arguments for its outermost bound names, one after another. Heads that become

@@ -1,6 +1,7 @@
 //! Hereditary substitution on shared terms, their eta-long forms, and their nominal constants.
 #![tactic(auto)]
 
+pub mod below;
 mod carrying;
 mod comparing;
 mod completing;

@@ -7,8 +7,8 @@ ghost use Rattle.ab_norm.specs.Growth.{AddsTerms};
 ghost use Rattle.ab_norm.specs.Heads.{BeginsFree};
 
 use crate::resolving::{copy_resolved, is_free};
+use ab_store::below::types::{Steps, TypeTable};
 use ab_store::{Node, Store, TermId};
-use ab_types::{Steps, TypeTable};
 use std::alloc::{AllocError, Global};
 
 /// The outermost node of the term. A bound cell that the term is headed by gives way to its term, given the arguments:

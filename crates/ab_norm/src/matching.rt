@@ -3,8 +3,8 @@ ghost use Rattle.std.specs.Prelude.{◌≡◌, ◌≢◌, ◌↔◌, ◌⊎◌, 
 ghost use Rattle.ab_term.specs.Terms.{terms_of};
 ghost use Rattle.ab_term.specs.Translation.{forget, forget_all, EqualPastHints};
 ghost use Rattle.ab_term.specs.Names.{support, rename_head, rename, rename_all, permute, IsPermutationTable, EqualUpToNames};
-ghost use Rattle.ab_types.specs.Entries.{Table};
-ghost use Rattle.ab_types.specs.Sound.{IsTable};
+ghost use Rattle.ab_store.specs.ab_types.specs.Entries.{Table};
+ghost use Rattle.ab_store.specs.ab_types.specs.Sound.{IsTable};
 ghost use Rattle.ab_store.specs.Trees.{Contents, Holds, head_reading, tree_of};
 ghost use Rattle.ab_store.specs.Reading.{reading};
 ghost use Rattle.ab_store.specs.Naming.{HeadIsTyped, IsTypedBy};
@@ -17,9 +17,8 @@ use crate::completing::complete;
 use crate::memo::Agreed;
 use crate::nominal::{Nominal, Permutation, Swap, Swaps};
 use crate::resolving::are_resolved;
+use ab_store::below::types::{TypeTable, has_unique_ids};
 use ab_store::{Head, Node, Store, TermId};
-use ab_types::TypeTable;
-use ab_types::laws::has_unique_ids;
 use std::alloc::{AllocError, Global};
 
 /// Whether the two constants are one.

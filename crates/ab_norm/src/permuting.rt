@@ -3,8 +3,8 @@ ghost use Rattle.std.specs.Prelude.{◌≡◌, List, map, IfOk, All};
 ghost use Rattle.ab_term.specs.Types.{Ty};
 ghost use Rattle.ab_term.specs.Names as tree;
 ghost use Rattle.ab_term.specs.Names.{moved_by, IsPermutationTable};
-ghost use Rattle.ab_types.specs.Entries.{Table};
-ghost use Rattle.ab_types.specs.Sound.{IsTable};
+ghost use Rattle.ab_store.specs.ab_types.specs.Entries.{Table};
+ghost use Rattle.ab_store.specs.ab_types.specs.Sound.{IsTable};
 ghost use Rattle.ab_store.specs.Trees.{Contents, Holds, head_reading, tree_of};
 ghost use Rattle.ab_store.specs.Reading.{reading};
 ghost use Rattle.ab_store.specs.Naming.{HoldsHead, HeadIsTyped, IsTypedBy, IsTerm};
@@ -16,9 +16,8 @@ use crate::memo::Memo;
 use crate::nominal::{Nominal, Permutation, Swap, Swaps};
 use crate::resolving::copy_resolved;
 use crate::walking::{Change, walk};
+use ab_store::below::types::{Steps, TypeTable, has_unique_ids};
 use ab_store::{Head, Store, TermId};
-use ab_types::laws::has_unique_ids;
-use ab_types::{Steps, TypeTable};
 use std::alloc::{AllocError, Global};
 
 /// The term with its nominal constants permuted. A term that holds none is answered as it stands.

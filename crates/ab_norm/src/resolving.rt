@@ -3,7 +3,7 @@ ghost use Rattle.std.specs.Prelude.{◌≡◌, ◌↔◌, ◌<◌, ◌≤◌, []
 ghost use Rattle.ab_term.specs.Types.{Ty};
 ghost use Rattle.ab_term.specs.Sameness.{same_number};
 ghost use Rattle.ab_term.specs.Variables.{image};
-ghost use Rattle.ab_types.specs.Sound.{IsTable};
+ghost use Rattle.ab_store.specs.ab_types.specs.Sound.{IsTable};
 ghost use Rattle.ab_store.specs.declared.node.Binding.{Binding};
 ghost use Rattle.ab_store.specs.Reading.{Holds, tree_of, reading, cell_variable};
 ghost use Rattle.ab_store.specs.Bindings.{IsResolved};
@@ -14,9 +14,8 @@ ghost use Rattle.ab_norm.specs.Clearing.{AllResolved};
 
 use crate::memo::{Memo, Seen};
 use crate::walking::{Change, walk};
+use ab_store::below::types::{Steps, TypeTable, has_unique_ids};
 use ab_store::{Head, Node, Store, TermId};
-use ab_types::laws::has_unique_ids;
-use ab_types::{Steps, TypeTable};
 use std::alloc::{AllocError, Global};
 
 /// The term with its bound cells replaced by what they are bound to, so that none stands in it, also as a node. A term

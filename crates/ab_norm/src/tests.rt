@@ -1,6 +1,6 @@
 //! Terms for the tests, and their types and constants.
 ghost use Rattle.std.specs.Prelude.{IfOk};
-ghost use Rattle.ab_types.specs.Ids.{HoldsType, HoldsConstant};
+ghost use Rattle.ab_store.specs.ab_types.specs.Ids.{HoldsType, HoldsConstant};
 ghost use Rattle.ab_store.specs.Reading.{Holds};
 ghost use Rattle.ab_store.specs.Naming.{HoldsHead, HeadIsTyped, IsTypedBy};
 
@@ -9,8 +9,8 @@ mod instances;
 mod names;
 mod towers;
 
+use ab_store::below::types::{ConstId, Name, TableFault, TypeId, TypeTable};
 use ab_store::{Head, Store, TermId};
-use ab_types::{ConstId, Name, TableFault, TypeId, TypeTable};
 use std::alloc::{AllocError, Global};
 
 /// The head, given nothing.

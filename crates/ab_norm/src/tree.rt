@@ -1,7 +1,7 @@
 //! Terms as trees of their own.
 use crate::items::Items;
 use ab_store::Head;
-use ab_types::{Name, TypeId};
+use ab_store::below::types::{Name, TypeId};
 
 /// A term, with nothing shared.
 #[derive(Debug, Drop)]

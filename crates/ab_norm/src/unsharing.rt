@@ -1,6 +1,6 @@
 //! What a term reads as.
 ghost use Rattle.std.specs.Prelude.{◌≡◌, map, IfOk, All};
-ghost use Rattle.ab_types.specs.Entries.{Table};
+ghost use Rattle.ab_store.specs.ab_types.specs.Entries.{Table};
 ghost use Rattle.ab_store.specs.Reading as terms;
 ghost use Rattle.ab_store.specs.Trees.{Holds, tree_of};
 ghost use Rattle.ab_store.specs.Naming.{IsTypedBy};
@@ -10,9 +10,8 @@ use crate::carrying::carry_resolved;
 use crate::items::Items;
 use crate::resolving::is_resolved;
 use crate::tree::Tree;
+use ab_store::below::types::{TypeTable, has_unique_ids};
 use ab_store::{Node, Store, TermId};
-use ab_types::TypeTable;
-use ab_types::laws::has_unique_ids;
 use std::alloc::{AllocError, Global};
 
 /// The term as a tree of its own, with the bindings put in.

@@ -4,9 +4,9 @@ ghost use Rattle.std.specs.Prelude.{◌≡◌, ◌+◌, ◌≤◌, ◌↔◌, tr
 ghost use Rattle.ab_term.specs.Terms.{lam, spine, terms_of};
 ghost use Rattle.ab_term.specs.Substitution as tree;
 ghost use Rattle.ab_term.specs.Reach.{raise as raised};
-ghost use Rattle.ab_types.specs.Entries.{Table};
-ghost use Rattle.ab_types.specs.Ids.{HoldsType, type_of};
-ghost use Rattle.ab_types.specs.Sound.{IsTable};
+ghost use Rattle.ab_store.specs.ab_types.specs.Entries.{Table};
+ghost use Rattle.ab_store.specs.ab_types.specs.Ids.{HoldsType, type_of};
+ghost use Rattle.ab_store.specs.ab_types.specs.Sound.{IsTable};
 ghost use Rattle.ab_store.specs.Trees.{Read, Contents, Holds, tree_of, head_reading};
 ghost use Rattle.ab_store.specs.Naming.{HoldsHead, HeadIsTyped, IsTypedBy};
 ghost use Rattle.ab_store.specs.Growth.{IsExtendedBy};
@@ -20,8 +20,8 @@ use crate::indices::{lower_head, next, raise_head};
 use crate::memo::Memo;
 use crate::nominal::Swaps;
 use crate::permuting::rename_head;
+use ab_store::below::types::{Name, Steps, TypeId, TypeTable, TypeView};
 use ab_store::{CellId, Head, Node, Store, TermId};
-use ab_types::{Name, Steps, TypeId, TypeTable, TypeView};
 use std::alloc::{AllocError, Global};
 
 /// What a walk does to a term.

@@ -1,14 +1,14 @@
 //! What is declared for the tests, and answers. There are constants `z` of the type `nat`, `s` of `nat -> nat`, `l` of
 //! `(nat -> nat) -> nat`, and predicates `nat` and `plus`.
 ghost use Rattle.std.specs.Prelude.{IfOk};
-ghost use Rattle.ab_types.specs.declared.ids.TypeId.{TypeId};
-ghost use Rattle.ab_types.specs.Ids.{HoldsType};
+ghost use Rattle.ab_clausal.specs.ab_types.specs.declared.ids.TypeId.{TypeId};
+ghost use Rattle.ab_clausal.specs.ab_types.specs.Ids.{HoldsType};
 
 mod clauses;
 mod expressions;
 
-use ab_infer::InferFault;
-use ab_types::{Name, TableFault, TypeId, TypeTable};
+use ab_clausal::below::infer::InferFault;
+use ab_clausal::below::types::{Name, TableFault, TypeId, TypeTable};
 use std::alloc::Global;
 
 /// What keeps the counts of these tests apart from others.

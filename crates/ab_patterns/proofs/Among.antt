@@ -3,14 +3,14 @@ use Rattle.std.proofs.Common.{◌≡◌, ◌≢◌, ℕ, suc, ◌-◌, ◌≤◌
 use Rattle.std.specs.List.{All}
 use Rattle.std.proofs.lemmas.List.Elements.{All-head, All-tail}
 use Rattle.std.proofs.lemmas.Bool.{or_left, false_from_ne_true}
-use Rattle.ab_types.specs.Entries.{Table}
-use Rattle.ab_types.specs.Sound.{IsTable}
-use Rattle.ab_store.specs.declared.node.Head.{Head}
+use Rattle.ab_norm.specs.ab_types.specs.Entries.{Table}
+use Rattle.ab_norm.specs.ab_types.specs.Sound.{IsTable}
+use Rattle.ab_norm.specs.ab_store.specs.declared.node.Head.{Head}
 use Rattle.ab_term.specs.Types.{Ty, arrow}
 use Rattle.ab_term.specs.Terms as tree
-use Rattle.ab_store.specs.declared.node.TermId.{TermId}
-use Rattle.ab_store.specs.Trees.{Contents, tree_of, head_in, head_reading}
-use Rattle.ab_store.specs.Naming.{HeadIsTyped}
+use Rattle.ab_norm.specs.ab_store.specs.declared.node.TermId.{TermId}
+use Rattle.ab_norm.specs.ab_store.specs.Trees.{Contents, tree_of, head_in, head_reading}
+use Rattle.ab_norm.specs.ab_store.specs.Naming.{HeadIsTyped}
 use Rattle.ab_term.specs.Sameness.{same_head}
 use Rattle.ab_term.specs.Closing.{among, close, abstracted}
 use Rattle.ab_term.proofs.Same.{same_head-Decides}

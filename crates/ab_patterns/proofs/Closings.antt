@@ -1,11 +1,11 @@
 -- What a walk that makes a name bound keeps of terms that it has been through.
 use Rattle.std.proofs.Common.{◌≡◌, ◌⊎◌, inl, inr, ℕ, Some, None, sym, ap, ◌∙◌, subst}
 use Rattle.ab_term.specs.Closing as closing
-use Rattle.ab_types.specs.Entries.{Table}
-use Rattle.ab_store.specs.declared.node.TermId.{TermId}
-use Rattle.ab_store.specs.declared.node.Head.{Head}
-use Rattle.ab_store.specs.Trees.{Contents, Holds, tree_of, head_in, head_reading}
-use Rattle.ab_store.specs.Growth.{IsExtendedBy}
+use Rattle.ab_norm.specs.ab_types.specs.Entries.{Table}
+use Rattle.ab_norm.specs.ab_store.specs.declared.node.TermId.{TermId}
+use Rattle.ab_norm.specs.ab_store.specs.declared.node.Head.{Head}
+use Rattle.ab_norm.specs.ab_store.specs.Trees.{Contents, Holds, tree_of, head_in, head_reading}
+use Rattle.ab_norm.specs.ab_store.specs.Growth.{IsExtendedBy}
 use Rattle.ab_norm.specs.Growth.{AddsTerms}
 use Rattle.ab_norm.proofs.Frame.{same_head}
 use Rattle.ab_patterns.specs.declared.memo.Memo.{Memo}

@@ -6,10 +6,10 @@ use Rattle.std.proofs.lemmas.Bool.{false≢true, false_from_ne_true}
 use Rattle.ab_term.specs.Terms.{Variable}
 use Rattle.ab_term.specs.Sameness.{same_numbered}
 use Rattle.ab_term.proofs.Same.{same_numbered-Decides}
-use Rattle.ab_types.specs.Entries.{Table}
-use Rattle.ab_store.specs.declared.node.CellId.{CellId}
-use Rattle.ab_store.specs.Trees.{Contents}
-use Rattle.ab_store.specs.Reading.{cell_variable}
+use Rattle.ab_norm.specs.ab_types.specs.Entries.{Table}
+use Rattle.ab_norm.specs.ab_store.specs.declared.node.CellId.{CellId}
+use Rattle.ab_norm.specs.ab_store.specs.Trees.{Contents}
+use Rattle.ab_norm.specs.ab_store.specs.Reading.{cell_variable}
 use Rattle.ab_solve.specs.Replacing.{holds}
 use Rattle.ab_patterns.specs.Flexible.{same_cell}
 

@@ -13,10 +13,10 @@ use Rattle.ab_term.specs.Recognising.{inner_head, expands}
 use Rattle.ab_term.proofs.Recognising.{expands-Decides}
 use Rattle.ab_term.proofs.Lists.{Contains-none}
 use Rattle.ab_term.proofs.Stands.{variables-expansion_of}
-use Rattle.ab_types.specs.Entries.{Table}
-use Rattle.ab_store.specs.declared.node.TermId.{TermId}
-use Rattle.ab_store.specs.Trees.{Contents, tree_of}
-use Rattle.ab_store.specs.Bindings.{IsResolved}
+use Rattle.ab_norm.specs.ab_types.specs.Entries.{Table}
+use Rattle.ab_norm.specs.ab_store.specs.declared.node.TermId.{TermId}
+use Rattle.ab_norm.specs.ab_store.specs.Trees.{Contents, tree_of}
+use Rattle.ab_norm.specs.ab_store.specs.Bindings.{IsResolved}
 use Rattle.ab_norm.proofs.Clear.{resolved_by}
 use Rattle.ab_solve.specs.Patterns.{tested_name, name_if, name_of}
 

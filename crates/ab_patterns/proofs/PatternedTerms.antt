@@ -6,18 +6,18 @@ use Rattle.std.proofs.lemmas.Bool.{false≢true}
 use Rattle.ab_term.specs.Terms as tree
 use Rattle.ab_term.specs.Terms.{Variable, Term, Terms, lam, spine, no_terms, term, terms_of}
 use Rattle.ab_term.specs.Variables.{variables}
-use Rattle.ab_types.specs.Entries.{Table}
-use Rattle.ab_types.specs.Ids.{type_of}
-use Rattle.ab_types.specs.declared.ids.TypeId.{TypeId}
-use Rattle.ab_store.specs.declared.node.TermId.{TermId}
-use Rattle.ab_store.specs.declared.node.CellId.{CellId}
-use Rattle.ab_store.specs.declared.node.Head.{Head}
-use Rattle.ab_store.specs.declared.node.Node.{Node}
-use Rattle.ab_store.specs.declared.node.Node.TheVariants.{Lam, Spine}
-use Rattle.ab_store.specs.Trees.{Contents, Holds, cell_in, tree_of, node_tree, head_reading}
-use Rattle.ab_store.specs.Reading.{cell_variable}
-use Rattle.ab_store.specs.Bindings.{IsUnbound, IsResolved}
-use Rattle.ab_store.specs.Growth.{IsExtendedBy}
+use Rattle.ab_norm.specs.ab_types.specs.Entries.{Table}
+use Rattle.ab_norm.specs.ab_types.specs.Ids.{type_of}
+use Rattle.ab_norm.specs.ab_types.specs.declared.ids.TypeId.{TypeId}
+use Rattle.ab_norm.specs.ab_store.specs.declared.node.TermId.{TermId}
+use Rattle.ab_norm.specs.ab_store.specs.declared.node.CellId.{CellId}
+use Rattle.ab_norm.specs.ab_store.specs.declared.node.Head.{Head}
+use Rattle.ab_norm.specs.ab_store.specs.declared.node.Node.{Node}
+use Rattle.ab_norm.specs.ab_store.specs.declared.node.Node.TheVariants.{Lam, Spine}
+use Rattle.ab_norm.specs.ab_store.specs.Trees.{Contents, Holds, cell_in, tree_of, node_tree, head_reading}
+use Rattle.ab_norm.specs.ab_store.specs.Reading.{cell_variable}
+use Rattle.ab_norm.specs.ab_store.specs.Bindings.{IsUnbound, IsResolved}
+use Rattle.ab_norm.specs.ab_store.specs.Growth.{IsExtendedBy}
 use Rattle.ab_solve.specs.Replacing.{is_flexible, has_patterns, all_have_patterns}
 use Rattle.ab_patterns.specs.declared.seen.Seen.{Seen}
 use Rattle.ab_patterns.specs.Walking.{IsPatterned, AllPatterned, given_names}

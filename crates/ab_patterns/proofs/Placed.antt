@@ -6,10 +6,10 @@ use Rattle.std.specs.Cmp.{unsigned_Decides}
 use Rattle.std.specs.List.{list_any}
 use Rattle.std.proofs.lemmas.Bool.{false≢true, leb-true, le-leb, lt-leb}
 use Rattle.ab_term.specs.Sameness.{same_numbered}
-use Rattle.ab_types.specs.Entries.{Table}
-use Rattle.ab_store.specs.declared.node.CellId.{CellId}
-use Rattle.ab_store.specs.Trees.{Contents}
-use Rattle.ab_store.specs.Reading.{cell_variable}
+use Rattle.ab_norm.specs.ab_types.specs.Entries.{Table}
+use Rattle.ab_norm.specs.ab_store.specs.declared.node.CellId.{CellId}
+use Rattle.ab_norm.specs.ab_store.specs.Trees.{Contents}
+use Rattle.ab_norm.specs.ab_store.specs.Reading.{cell_variable}
 use Rattle.ab_solve.specs.Solving.{is_older}
 use Rattle.ab_patterns.specs.Flexible.{same_cell, others_than, counts, is_earlier, listed_from, StandsAt, HavePlaces}
 use Rattle.ab_patterns.proofs.Listed.{turned, one_test}

@@ -3,12 +3,12 @@ use Rattle.std.proofs.Common.{◌≡◌, ◌≤◌, ◌-◌, suc, List, [], ◌�
 use Rattle.std.specs.Prelude.{Contains}
 use Rattle.std.specs.List.{All}
 use Rattle.std.proofs.lemmas.List.Elements.{All-head, All-tail, All-cons, All-nil}
-use Rattle.ab_store.specs.declared.node.TermId.{TermId}
-use Rattle.ab_store.specs.Trees.{Contents, Holds}
-use Rattle.ab_store.specs.Reading.{bound_in}
-use Rattle.ab_store.specs.Bindings.{IsResolved}
-use Rattle.ab_store.specs.Growth.{IsExtendedBy}
-use Rattle.ab_store.proofs.Cells.{numbers}
+use Rattle.ab_norm.specs.ab_store.specs.declared.node.TermId.{TermId}
+use Rattle.ab_norm.specs.ab_store.specs.Trees.{Contents, Holds}
+use Rattle.ab_norm.specs.ab_store.specs.Reading.{bound_in}
+use Rattle.ab_norm.specs.ab_store.specs.Bindings.{IsResolved}
+use Rattle.ab_norm.specs.ab_store.specs.Growth.{IsExtendedBy}
+use Rattle.ab_norm.specs.ab_store.proofs.Cells.{numbers}
 use Rattle.ab_norm.proofs.Clear.{resolved_by, unbound_by}
 
 pub still_resolved : (s t : Contents) → IsExtendedBy s t → (r : TermId) → Holds s r → IsResolved s r → IsResolved t r

@@ -5,11 +5,11 @@ use Rattle.ab_term.specs.Types.{Ty}
 use Rattle.ab_term.specs.Terms as tree
 use Rattle.ab_term.specs.Terms.{Term, Terms, Variable, lam, spine}
 use Rattle.ab_term.specs.Translation.{EqualPastHints}
-use Rattle.ab_types.specs.Entries.{Table}
-use Rattle.ab_types.specs.Sound.{IsTable}
-use Rattle.ab_store.specs.declared.node.Head.{Head}
-use Rattle.ab_store.specs.Trees.{Contents, head_reading}
-use Rattle.ab_store.specs.Naming.{HeadIsTyped}
+use Rattle.ab_norm.specs.ab_types.specs.Entries.{Table}
+use Rattle.ab_norm.specs.ab_types.specs.Sound.{IsTable}
+use Rattle.ab_norm.specs.ab_store.specs.declared.node.Head.{Head}
+use Rattle.ab_norm.specs.ab_store.specs.Trees.{Contents, head_reading}
+use Rattle.ab_norm.specs.ab_store.specs.Naming.{HeadIsTyped}
 use Rattle.ab_norm.proofs.OneHead.{one_head}
 use Rattle.ab_term.specs.Sameness.{same_head, same_term}
 use Rattle.ab_solve.specs.Replacing.{is_flexible}

@@ -4,13 +4,13 @@ use Rattle.std.specs.Prelude.{◌≡◌, ℕ, ◌+◌, Option, Some}
 use Rattle.std.specs.HashMap.{get}
 use Rattle.ab_term.specs.Terms as tree
 use Rattle.ab_term.specs.Closing.{close}
-use Rattle.ab_types.specs.Entries.{Table}
-use Rattle.ab_types.specs.Sound.{IsTable}
-use Rattle.ab_store.specs.declared.node.TermId.{TermId}
-use Rattle.ab_store.specs.declared.node.Head.{Head}
-use Rattle.ab_store.specs.declared.node.Head.TheVariants.{Cell}
-use Rattle.ab_store.specs.Trees.{Contents, Holds, tree_of, head_reading}
-use Rattle.ab_store.specs.Naming.{HeadIsTyped, IsTypedBy}
+use Rattle.ab_norm.specs.ab_types.specs.Entries.{Table}
+use Rattle.ab_norm.specs.ab_types.specs.Sound.{IsTable}
+use Rattle.ab_norm.specs.ab_store.specs.declared.node.TermId.{TermId}
+use Rattle.ab_norm.specs.ab_store.specs.declared.node.Head.{Head}
+use Rattle.ab_norm.specs.ab_store.specs.declared.node.Head.TheVariants.{Cell}
+use Rattle.ab_norm.specs.ab_store.specs.Trees.{Contents, Holds, tree_of, head_reading}
+use Rattle.ab_norm.specs.ab_store.specs.Naming.{HeadIsTyped, IsTypedBy}
 use Rattle.ab_patterns.specs.Walking.{same_place}
 use Rattle.ab_patterns.specs.declared.memo.Memo.{Memo}
 

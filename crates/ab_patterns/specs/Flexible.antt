@@ -1,7 +1,7 @@
 -- Cells that may be replaced, as contracts see them: a list in order of age. Behind it stands a row of all cells that were
 -- ever listed, and each that still is has a place in the row; only private contracts speak of rows.
 use Rattle.std.specs.Prelude.{◌≡◌, ◌⊎◌, ℕ, suc, List, [], ◌∷◌, filter, Bool, true, false, cond, not, ◌==◌, Option, Some, None, nat_le, nat_lt}
-use Rattle.ab_store.specs.declared.node.CellId.{CellId}
+use Rattle.ab_norm.specs.ab_store.specs.declared.node.CellId.{CellId}
 
 pub record InAge : Type 0 where
   pub items : List CellId

@@ -5,3 +5,8 @@ pub mod Naming
 pub mod Walking
 pub mod Closing
 pub mod Flexible
+-- Libraries that the crates above name through this one.
+pub use Rattle.ab_solve
+pub use Rattle.ab_norm.specs.ab_types
+pub use Rattle.ab_norm.specs.ab_store
+pub use Rattle.ab_norm

@@ -3,10 +3,10 @@
 use Rattle.std.specs.Prelude.{ℕ, List, map, Option, Some, None, Vec, All}
 use Rattle.std.specs.Global.{Global}
 use Rattle.ab_term.specs.Terms as tree
-use Rattle.ab_types.specs.Entries.{Table}
-use Rattle.ab_store.specs.declared.node.Head.{Head}
-use Rattle.ab_store.specs.Trees.{Contents, Holds, tree_of, head_reading}
-use Rattle.ab_store.specs.Bindings.{IsResolved}
+use Rattle.ab_norm.specs.ab_types.specs.Entries.{Table}
+use Rattle.ab_norm.specs.ab_store.specs.declared.node.Head.{Head}
+use Rattle.ab_norm.specs.ab_store.specs.Trees.{Contents, Holds, tree_of, head_reading}
+use Rattle.ab_norm.specs.ab_store.specs.Bindings.{IsResolved}
 use Rattle.ab_solve.specs.Solving as solve
 use Rattle.ab_solve.specs.Solving.{clash, parts}
 use Rattle.ab_patterns.specs.declared.equation.Numbered.{Numbered}

@@ -4,12 +4,12 @@ use Rattle.std.specs.Prelude.{◌≡◌, ℕ, zero, suc, List, map, Bool, true, 
 use Rattle.std.specs.HashSet as bag
 use Rattle.ab_term.specs.Terms as tree
 use Rattle.ab_term.specs.Closing.{under}
-use Rattle.ab_types.specs.Entries.{Table}
-use Rattle.ab_store.specs.declared.node.TermId.{TermId}
-use Rattle.ab_store.specs.declared.node.CellId.{CellId}
-use Rattle.ab_store.specs.declared.node.Head.{Head}
-use Rattle.ab_store.specs.Trees.{Contents, Holds, tree_of, head_reading}
-use Rattle.ab_store.specs.Reading.{cell_variable}
+use Rattle.ab_norm.specs.ab_types.specs.Entries.{Table}
+use Rattle.ab_norm.specs.ab_store.specs.declared.node.TermId.{TermId}
+use Rattle.ab_norm.specs.ab_store.specs.declared.node.CellId.{CellId}
+use Rattle.ab_norm.specs.ab_store.specs.declared.node.Head.{Head}
+use Rattle.ab_norm.specs.ab_store.specs.Trees.{Contents, Holds, tree_of, head_reading}
+use Rattle.ab_norm.specs.ab_store.specs.Reading.{cell_variable}
 use Rattle.ab_solve.specs.Patterns.{pattern}
 use Rattle.ab_solve.specs.Replacing.{no_foreign, has_patterns, occurs}
 use Rattle.ab_patterns.specs.declared.seen.Seen.{Seen}

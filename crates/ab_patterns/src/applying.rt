@@ -1,17 +1,17 @@
 //! A cell that is given names, and what is put in for it so that, given names, it is a certain term.
 ghost use Rattle.std.specs.Prelude.{◌≡◌, ◌++◌, map, All, IfOk, OnOk, codes};
-ghost use Rattle.ab_types.specs.Ids.{HoldsType, type_of};
-ghost use Rattle.ab_store.specs.Trees.{Holds, HoldsCell, tree_of, head_reading};
-ghost use Rattle.ab_store.specs.Reading.{cell_variable};
-ghost use Rattle.ab_store.specs.Naming.{HoldsHead, HeadIsTyped, IsTypedBy};
+ghost use Rattle.ab_norm.specs.ab_types.specs.Ids.{HoldsType, type_of};
+ghost use Rattle.ab_norm.specs.ab_store.specs.Trees.{Holds, HoldsCell, tree_of, head_reading};
+ghost use Rattle.ab_norm.specs.ab_store.specs.Reading.{cell_variable};
+ghost use Rattle.ab_norm.specs.ab_store.specs.Naming.{HoldsHead, HeadIsTyped, IsTypedBy};
 ghost use Rattle.ab_norm.specs.Growth.{AddsTypedTerms};
 ghost use Rattle.ab_solve.specs.Patterns as solve;
 ghost use Rattle.ab_patterns.specs.Naming.{name_list};
 
 use crate::closing::abstracted;
+use ab_norm::below::store::{CellId, Head, Store, TermId};
+use ab_norm::below::types::{TypeId, TypeTable, TypeView};
 use ab_norm::eta;
-use ab_store::{CellId, Head, Store, TermId};
-use ab_types::{TypeId, TypeTable, TypeView};
 use std::alloc::{AllocError, Global};
 
 /// Adds the heads whose flag is set.

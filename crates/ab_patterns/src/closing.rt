@@ -1,19 +1,19 @@
 //! Names that become bound.
 ghost use Rattle.std.specs.Prelude.{◌≡◌, ◌+◌, map, All, IfOk, OnOk, codes};
 ghost use Rattle.ab_term.specs.Substitution as tree;
-ghost use Rattle.ab_types.specs.Entries.{Table};
-ghost use Rattle.ab_types.specs.Ids.{HoldsType, type_of};
-ghost use Rattle.ab_store.specs.Trees.{Contents, Holds, tree_of, head_reading};
-ghost use Rattle.ab_store.specs.Naming.{HoldsHead, HeadIsTyped, IsTypedBy};
+ghost use Rattle.ab_norm.specs.ab_types.specs.Entries.{Table};
+ghost use Rattle.ab_norm.specs.ab_types.specs.Ids.{HoldsType, type_of};
+ghost use Rattle.ab_norm.specs.ab_store.specs.Trees.{Contents, Holds, tree_of, head_reading};
+ghost use Rattle.ab_norm.specs.ab_store.specs.Naming.{HoldsHead, HeadIsTyped, IsTypedBy};
 ghost use Rattle.ab_norm.specs.Growth.{AddsTerms, AddsTypedTerms};
-ghost use Rattle.ab_store.specs.declared.node.Head.{Head};
+ghost use Rattle.ab_norm.specs.ab_store.specs.declared.node.Head.{Head};
 ghost use Rattle.ab_term.specs.Closing as closing;
 ghost use Rattle.ab_patterns.specs.Closing.{IsToldApart, AreToldApart, KeepsTerms, Remembers, sunk};
 
 use crate::memo::Memo;
 use crate::rigid::is_same_head;
-use ab_store::{Head, Node, Store, TermId};
-use ab_types::{Name, TypeId, TypeTable, TypeView};
+use ab_norm::below::store::{Head, Node, Store, TermId};
+use ab_norm::below::types::{Name, TypeId, TypeTable, TypeView};
 use std::alloc::{AllocError, Global};
 
 /// The sum of the numbers. More than there are numbers is want of memory.

@@ -1,13 +1,13 @@
 //! Whether two terms, in which no bound cell stands, are the same.
 ghost use Rattle.std.specs.Prelude.{◌↔◌, IfOk, IsTrue};
 ghost use Rattle.ab_term.specs.Translation.{EqualPastHints};
-ghost use Rattle.ab_store.specs.Trees.{Holds, tree_of};
-ghost use Rattle.ab_store.specs.Bindings.{IsResolved};
-ghost use Rattle.ab_store.specs.Naming.{IsTypedBy};
+ghost use Rattle.ab_norm.specs.ab_store.specs.Trees.{Holds, tree_of};
+ghost use Rattle.ab_norm.specs.ab_store.specs.Bindings.{IsResolved};
+ghost use Rattle.ab_norm.specs.ab_store.specs.Naming.{IsTypedBy};
 
+use ab_norm::below::store::{Store, TermId};
+use ab_norm::below::types::TypeTable;
 use ab_norm::equal;
-use ab_store::{Store, TermId};
-use ab_types::TypeTable;
 use std::alloc::{AllocError, Global};
 
 /// Whether the two terms are the same past their hints.

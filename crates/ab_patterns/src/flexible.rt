@@ -1,15 +1,15 @@
 //! Variables that may be replaced.
 ghost use Rattle.std.specs.Prelude.{◌≡◌, ◌++◌, ◌∷◌, [], map, IfOk, OnOk, OnErr};
 ghost use Rattle.std.specs.HashMap.{get};
-ghost use Rattle.ab_types.specs.Entries.{Table};
-ghost use Rattle.ab_store.specs.Trees.{Contents, head_reading};
-ghost use Rattle.ab_store.specs.Reading.{cell_variable};
+ghost use Rattle.ab_norm.specs.ab_types.specs.Entries.{Table};
+ghost use Rattle.ab_norm.specs.ab_store.specs.Trees.{Contents, head_reading};
+ghost use Rattle.ab_norm.specs.ab_store.specs.Reading.{cell_variable};
 ghost use Rattle.ab_solve.specs.Replacing as solve;
 ghost use Rattle.ab_solve.specs.Solving as solving;
 ghost use Rattle.ab_patterns.specs.Flexible as flexible;
 ghost use Rattle.ab_patterns.specs.Flexible.{same_cell, others_than};
 
-use ab_store::{CellId, Head};
+use ab_norm::below::store::{CellId, Head};
 use std::alloc::{AllocError, Global};
 use std::collections::HashMap;
 use std::marker::Model;

@@ -1,11 +1,11 @@
 //! Whether a foreign name stands in a term.
 ghost use Rattle.std.specs.Prelude.{◌≡◌, ◌↔◌, true, map, IfOk, OnOk, All};
 ghost use Rattle.ab_term.specs.Closing as closing;
-ghost use Rattle.ab_types.specs.Entries.{Table};
-ghost use Rattle.ab_types.specs.Sound.{IsTable};
-ghost use Rattle.ab_store.specs.Trees.{Contents, Holds, tree_of, head_reading};
-ghost use Rattle.ab_store.specs.Reading.{cell_variable};
-ghost use Rattle.ab_store.specs.Naming.{HeadIsTyped, IsTypedBy};
+ghost use Rattle.ab_norm.specs.ab_types.specs.Entries.{Table};
+ghost use Rattle.ab_norm.specs.ab_types.specs.Sound.{IsTable};
+ghost use Rattle.ab_norm.specs.ab_store.specs.Trees.{Contents, Holds, tree_of, head_reading};
+ghost use Rattle.ab_norm.specs.ab_store.specs.Reading.{cell_variable};
+ghost use Rattle.ab_norm.specs.ab_store.specs.Naming.{HeadIsTyped, IsTypedBy};
 ghost use Rattle.ab_solve.specs.Replacing as solve;
 ghost use Rattle.ab_patterns.specs.Walking.{deep, IsOwn, AllOwn};
 
@@ -13,8 +13,8 @@ use crate::closing::next;
 use crate::flexible::{FlexibleCells, is_flexible};
 use crate::names::is_among;
 use crate::seen::Seen;
-use ab_store::{Head, Node, Store, TermId};
-use ab_types::TypeTable;
+use ab_norm::below::store::{Head, Node, Store, TermId};
+use ab_norm::below::types::TypeTable;
 use std::alloc::{AllocError, Global};
 
 /// Whether no name stands in the term that is neither among those listed nor bound in it, other than as an argument of

@@ -5,6 +5,7 @@
 #![tactic(auto)]
 
 mod applying;
+pub mod below;
 mod closing;
 mod comparing;
 mod equation;

@@ -1,9 +1,9 @@
 //! What a walk through shared terms keeps, so that it visits each node once at each number of binders.
 ghost use Rattle.std.specs.Prelude.{◌≡◌, ◌⊎◌, ℕ, Some, None};
-ghost use Rattle.ab_store.specs.declared.node.TermId.{TermId};
+ghost use Rattle.ab_norm.specs.ab_store.specs.declared.node.TermId.{TermId};
 ghost use Rattle.ab_patterns.specs.Closing.{answer_of};
 
-use ab_store::TermId;
+use ab_norm::below::store::TermId;
 use std::alloc::{AllocError, Global};
 use std::collections::HashMap;
 

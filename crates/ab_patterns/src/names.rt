@@ -2,12 +2,12 @@
 ghost use Rattle.std.specs.Prelude.{◌≡◌, zero, map, option_map, All, IfOk, IfSome};
 ghost use Rattle.ab_term.specs.Terms.{terms_of};
 ghost use Rattle.ab_term.specs.Substitution as tree;
-ghost use Rattle.ab_types.specs.Entries.{Table};
-ghost use Rattle.ab_types.specs.Sound.{IsTable};
-ghost use Rattle.ab_types.specs.Ids.{HoldsType, type_of};
-ghost use Rattle.ab_store.specs.Trees.{Contents, Holds, tree_of, head_reading};
-ghost use Rattle.ab_store.specs.Bindings.{IsResolved};
-ghost use Rattle.ab_store.specs.Naming.{HoldsHead, HeadIsTyped, IsTypedBy};
+ghost use Rattle.ab_norm.specs.ab_types.specs.Entries.{Table};
+ghost use Rattle.ab_norm.specs.ab_types.specs.Sound.{IsTable};
+ghost use Rattle.ab_norm.specs.ab_types.specs.Ids.{HoldsType, type_of};
+ghost use Rattle.ab_norm.specs.ab_store.specs.Trees.{Contents, Holds, tree_of, head_reading};
+ghost use Rattle.ab_norm.specs.ab_store.specs.Bindings.{IsResolved};
+ghost use Rattle.ab_norm.specs.ab_store.specs.Naming.{HoldsHead, HeadIsTyped, IsTypedBy};
 ghost use Rattle.ab_norm.specs.Growth.{AddsTypedTerms};
 ghost use Rattle.ab_term.specs.Closing as closing;
 ghost use Rattle.ab_term.specs.Recognising as recognising;
@@ -16,9 +16,9 @@ ghost use Rattle.ab_patterns.specs.Readings.{names_of};
 
 use crate::comparing::are_same;
 use crate::rigid::is_same_head;
+use ab_norm::below::store::{Head, Node, Store, TermId};
+use ab_norm::below::types::{TypeId, TypeTable, TypeView};
 use ab_norm::eta;
-use ab_store::{Head, Node, Store, TermId};
-use ab_types::{TypeId, TypeTable, TypeView};
 use std::alloc::{AllocError, Global};
 
 /// The head, one binder further out: `None` where it is that binder's name.

@@ -1,11 +1,11 @@
 //! Types with fewer arguments.
 ghost use Rattle.std.specs.Prelude.{◌≡◌, IfOk};
-ghost use Rattle.ab_types.specs.Entries.{kinds, constants, IsExtendedBy};
-ghost use Rattle.ab_types.specs.Sound.{IsTable};
-ghost use Rattle.ab_types.specs.Ids.{HoldsType, type_of};
+ghost use Rattle.ab_norm.specs.ab_types.specs.Entries.{kinds, constants, IsExtendedBy};
+ghost use Rattle.ab_norm.specs.ab_types.specs.Sound.{IsTable};
+ghost use Rattle.ab_norm.specs.ab_types.specs.Ids.{HoldsType, type_of};
 ghost use Rattle.ab_solve.specs.Patterns as solve;
 
-use ab_types::{TypeId, TypeTable, TypeView};
+use ab_norm::below::types::{TypeId, TypeTable, TypeView};
 use std::alloc::AllocError;
 
 /// The type without the arguments whose flag is not set.

@@ -1,14 +1,14 @@
 //! Whether a cell stands in a term.
 ghost use Rattle.std.specs.Prelude.{◌≡◌, ◌↔◌, true, IfOk, OnOk, All};
-ghost use Rattle.ab_types.specs.Entries.{Table};
-ghost use Rattle.ab_store.specs.Trees.{Holds, tree_of};
-ghost use Rattle.ab_store.specs.Reading.{cell_variable};
+ghost use Rattle.ab_norm.specs.ab_types.specs.Entries.{Table};
+ghost use Rattle.ab_norm.specs.ab_store.specs.Trees.{Holds, tree_of};
+ghost use Rattle.ab_norm.specs.ab_store.specs.Reading.{cell_variable};
 ghost use Rattle.ab_solve.specs.Replacing as solve;
 ghost use Rattle.ab_patterns.specs.Walking.{IsAbsent, AllAbsent};
 
 use crate::rigid::is_same_head;
 use crate::seen::Seen;
-use ab_store::{CellId, Head, Node, Store, TermId};
+use ab_norm::below::store::{CellId, Head, Node, Store, TermId};
 use std::alloc::{AllocError, Global};
 
 /// Whether the cell stands in the term. A part that is shared is walked once.

@@ -1,11 +1,11 @@
 //! Whether each of some cells is given different names wherever it stands in a term.
 ghost use Rattle.std.specs.Prelude.{◌≡◌, ◌↔◌, true, map, length, IfOk, OnOk, All};
 ghost use Rattle.ab_term.specs.Terms.{terms_of};
-ghost use Rattle.ab_types.specs.Entries.{Table};
-ghost use Rattle.ab_store.specs.Trees.{Holds, tree_of, node_tree, head_reading};
-ghost use Rattle.ab_store.specs.Reading.{cell_variable};
-ghost use Rattle.ab_store.specs.Bindings.{IsResolved};
-ghost use Rattle.ab_store.specs.Naming.{HoldsHead, NodeNames, IsTypedBy};
+ghost use Rattle.ab_norm.specs.ab_types.specs.Entries.{Table};
+ghost use Rattle.ab_norm.specs.ab_store.specs.Trees.{Holds, tree_of, node_tree, head_reading};
+ghost use Rattle.ab_norm.specs.ab_store.specs.Reading.{cell_variable};
+ghost use Rattle.ab_norm.specs.ab_store.specs.Bindings.{IsResolved};
+ghost use Rattle.ab_norm.specs.ab_store.specs.Naming.{HoldsHead, NodeNames, IsTypedBy};
 ghost use Rattle.ab_norm.specs.Growth.{AddsTypedTerms};
 ghost use Rattle.ab_solve.specs.Replacing as solve;
 ghost use Rattle.ab_patterns.specs.Walking.{IsPatterned, AllPatterned, given_names};
@@ -13,8 +13,8 @@ ghost use Rattle.ab_patterns.specs.Walking.{IsPatterned, AllPatterned, given_nam
 use crate::flexible::{FlexibleCells, is_flexible};
 use crate::names::pattern;
 use crate::seen::Seen;
-use ab_store::{Head, Node, Store, TermId};
-use ab_types::TypeTable;
+use ab_norm::below::store::{Head, Node, Store, TermId};
+use ab_norm::below::types::TypeTable;
 use std::alloc::{AllocError, Global};
 
 /// Whether each of the cells that stands in the term is given pairwise different names there, up to eta. A part that is

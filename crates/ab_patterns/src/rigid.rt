@@ -1,20 +1,20 @@
 //! The rules that replace no variable.
 ghost use Rattle.std.specs.Prelude.{◌≡◌, ◌↔◌, ◌++◌, ◌∷◌, [], Some, true, map, IfOk, OnOk, All};
 ghost use Rattle.ab_term.specs.Terms.{spine, terms_of};
-ghost use Rattle.ab_types.specs.Entries.{Table};
-ghost use Rattle.ab_types.specs.Sound.{IsTable};
-ghost use Rattle.ab_store.specs.Trees.{Contents, Holds, tree_of, head_reading};
-ghost use Rattle.ab_store.specs.Naming.{IsTypedBy, HeadIsTyped};
+ghost use Rattle.ab_norm.specs.ab_types.specs.Entries.{Table};
+ghost use Rattle.ab_norm.specs.ab_types.specs.Sound.{IsTable};
+ghost use Rattle.ab_norm.specs.ab_store.specs.Trees.{Contents, Holds, tree_of, head_reading};
+ghost use Rattle.ab_norm.specs.ab_store.specs.Naming.{IsTypedBy, HeadIsTyped};
 ghost use Rattle.ab_solve.specs.Solving.{or_else, equal_sides, bodies as same_binder, rigid_heads, parts, paired};
-ghost use Rattle.ab_store.specs.Reading.{cell_variable};
-ghost use Rattle.ab_store.specs.Bindings.{IsResolved};
+ghost use Rattle.ab_norm.specs.ab_store.specs.Reading.{cell_variable};
+ghost use Rattle.ab_norm.specs.ab_store.specs.Bindings.{IsResolved};
 ghost use Rattle.ab_patterns.specs.Readings.{equation_of, simple_of, HoldsEquation, HoldsParts, EquationIsResolved};
 
 use crate::comparing::are_same;
 use crate::equation::Numbered;
 use crate::flexible::{FlexibleCells, is_flexible};
-use ab_store::{Head, Node, Store, TermId};
-use ab_types::TypeTable;
+use ab_norm::below::store::{Head, Node, Store, TermId};
+use ab_norm::below::types::TypeTable;
 use std::alloc::{AllocError, Global};
 
 /// What the rules that replace no variable make of an equation.

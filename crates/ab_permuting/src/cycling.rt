@@ -1,14 +1,14 @@
 //! The permutation by which each of some numbers becomes the next.
 ghost use Rattle.std.specs.Prelude.{◌≡◌, ◌≢◌, ◌<◌, ◌↔◌, ◌++◌, [], ◌∷◌, length, AllPairs, IfOk, OnOk, IsTrue};
 ghost use Rattle.ab_term.specs.Names.{IsPermutationTable};
-ghost use Rattle.ab_types.specs.Entries.{Table};
-ghost use Rattle.ab_types.specs.Ids.{HoldsType, type_of};
+ghost use Rattle.ab_norm.specs.ab_types.specs.Entries.{Table};
+ghost use Rattle.ab_norm.specs.ab_types.specs.Ids.{HoldsType, type_of};
 ghost use Rattle.ab_norm.specs.Nominals.{pairs_of, HoldsPairs};
 ghost use Rattle.ab_permuting.specs.Cycles.{constant_at, onward, cycle};
 ghost use Rattle.ab_permuting.specs.Standing.{StandsAgain};
 
+use ab_norm::below::types::TypeId;
 use ab_norm::{Nominal, Permutation, Swap, Swaps};
-use ab_types::TypeId;
 use std::alloc::{AllocError, Global};
 
 /// Whether the number of that place stands at a later place too.

@@ -1,9 +1,9 @@
 //! At which types constants of some numbers stand.
 ghost use Rattle.std.specs.Prelude.{ℕ, List, [], ◌∷◌, ◌++◌, ◌↔◌, ◌≡◌, Contains, IfOk, IsTrue};
 ghost use Rattle.ab_term.specs.Names.{support};
-ghost use Rattle.ab_types.specs.Entries.{Table};
-ghost use Rattle.ab_types.specs.Ids.{HoldsType};
-ghost use Rattle.ab_types.specs.Sound.{IsTable};
+ghost use Rattle.ab_norm.specs.ab_types.specs.Entries.{Table};
+ghost use Rattle.ab_norm.specs.ab_types.specs.Ids.{HoldsType};
+ghost use Rattle.ab_norm.specs.ab_types.specs.Sound.{IsTable};
 ghost use Rattle.ab_norm.specs.Nominals.{nominal_of, HoldsNominal};
 ghost use Rattle.ab_logic.specs.Readings.{sequent_of, HoldsSequent};
 ghost use Rattle.ab_logic.specs.Sequents.{goal_names};
@@ -14,10 +14,9 @@ ghost use Rattle.ab_permuting.specs.declared.standing.Standing.TheVariants.{At};
 
 use crate::cycling::are_different;
 use ab_logic::{Sequent, World};
+use ab_norm::below::store::TermId;
+use ab_norm::below::types::{TypeId, TypeTable, has_unique_ids};
 use ab_norm::{Nominal, support};
-use ab_store::TermId;
-use ab_types::laws::has_unique_ids;
-use ab_types::{TypeId, TypeTable};
 use std::alloc::{AllocError, Global};
 
 /// At which types constants of some numbers stand.

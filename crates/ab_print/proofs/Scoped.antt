@@ -6,8 +6,8 @@ use Rattle.std.proofs.lemmas.List.{length-map, length-reverse, get_or-reverse, r
 use Rattle.std.specs.declared.alloc.Global.{Global}
 use Rattle.std.specs.declared.vec.Vec.{Vec}
 use Rattle.ab_term.specs.Types.{Ty}
-use Rattle.ab_types.specs.Entries.{Table}
-use Rattle.ab_store.specs.Trees.{Contents}
+use Rattle.ab_logic.specs.ab_types.specs.Entries.{Table}
+use Rattle.ab_logic.specs.ab_store.specs.Trees.{Contents}
 use Rattle.ab_term.specs.Terms.{Head, index, Term, lam}
 use Rattle.ab_text.specs.Shapes.{Shape, abstraction}
 use Rattle.ab_text.specs.Naming as plain

@@ -10,10 +10,10 @@ use Rattle.ab_term.specs.Types.{Ty}
 use Rattle.ab_term.specs.Terms as tree
 use Rattle.ab_term.specs.Terms.{constant, logical, nominal, variable, index, lam}
 use Rattle.ab_term.specs.Substitution.{lower_head}
-use Rattle.ab_types.specs.Entries.{Table}
-use Rattle.ab_store.specs.declared.node.Head.{Head}
-use Rattle.ab_store.specs.declared.node.Head.TheVariants.{Index}
-use Rattle.ab_store.specs.Trees.{Read, Contents, head_reading}
+use Rattle.ab_logic.specs.ab_types.specs.Entries.{Table}
+use Rattle.ab_logic.specs.ab_store.specs.declared.node.Head.{Head}
+use Rattle.ab_logic.specs.ab_store.specs.declared.node.Head.TheVariants.{Index}
+use Rattle.ab_logic.specs.ab_store.specs.Trees.{Read, Contents, head_reading}
 use Rattle.ab_text.specs.Names.{free_heads}
 use Rattle.std.specs.declared.alloc.Global.{Global}
 use Rattle.std.specs.declared.vec.Vec.{Vec}

@@ -8,10 +8,10 @@ use Rattle.std.proofs.lemmas.Bool.{eqb-true, eq-eqb, ltb-true, lt-ltb, cases_lt}
 use Rattle.std.specs.declared.alloc.Global.{Global}
 use Rattle.std.specs.declared.vec.Vec.{Vec}
 use Rattle.ab_term.specs.Terms.{index}
-use Rattle.ab_types.specs.Entries.{Table}
-use Rattle.ab_store.specs.declared.node.Head.{Head}
-use Rattle.ab_store.specs.declared.node.Head.TheVariants.{Const, Logic, Nominal, Cell, Index}
-use Rattle.ab_store.specs.Trees.{Contents}
+use Rattle.ab_logic.specs.ab_types.specs.Entries.{Table}
+use Rattle.ab_logic.specs.ab_store.specs.declared.node.Head.{Head}
+use Rattle.ab_logic.specs.ab_store.specs.declared.node.Head.TheVariants.{Const, Logic, Nominal, Cell, Index}
+use Rattle.ab_logic.specs.ab_store.specs.Trees.{Contents}
 use Rattle.ab_text.specs.Names.{name_of, is_in, fresh}
 use Rattle.ab_text.proofs.Membership.{is_in-true}
 use Rattle.ab_text.proofs.FreeNames.{fresh_is_free}

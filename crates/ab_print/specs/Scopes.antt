@@ -4,8 +4,8 @@ use Rattle.std.specs.Prelude.{ℕ, List, length, map, reverse, Option, None, Som
 use Rattle.std.specs.declared.alloc.Global.{Global}
 use Rattle.std.specs.declared.vec.Vec.{Vec}
 use Rattle.ab_term.specs.Terms.{Head}
-use Rattle.ab_types.specs.Entries.{Table}
-use Rattle.ab_store.specs.Trees.{Contents}
+use Rattle.ab_logic.specs.ab_types.specs.Entries.{Table}
+use Rattle.ab_logic.specs.ab_store.specs.Trees.{Contents}
 use Rattle.ab_text.specs.Names.{name_of}
 use Rattle.ab_print.specs.declared.drawing.Seen.{Seen}
 use Rattle.ab_print.specs.Drawings.{from}

@@ -1,6 +1,6 @@
 //! Terms taken out of a store, with what their bound names need.
-use ab_store::Head;
-use ab_types::{Name, TypeId};
+use ab_logic::below::store::Head;
+use ab_logic::below::types::{Name, TypeId};
 
 /// A head of a term, and the number of binders around it.
 #[derive(Clone, Copy)]

@@ -1,6 +1,7 @@
 //! Terms and goals of a world, and replies, as bytes.
 #![tactic(auto)]
 
+pub mod below;
 mod choosing;
 mod drawing;
 mod eta;

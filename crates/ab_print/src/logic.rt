@@ -1,12 +1,12 @@
 //! Logical constants with what they are given.
 ghost use Rattle.std.specs.Prelude.{◌≡◌, IfOk};
-ghost use Rattle.ab_types.specs.Entries.{Table};
-ghost use Rattle.ab_store.specs.Trees.{Contents, logical_of, head_reading};
+ghost use Rattle.ab_logic.specs.ab_types.specs.Entries.{Table};
+ghost use Rattle.ab_logic.specs.ab_store.specs.Trees.{Contents, logical_of, head_reading};
 ghost use Rattle.ab_text.specs.Naming as plain;
 ghost use Rattle.ab_text.specs.Values.{shape_of, shapes_of};
 
 use ab_grammar::{Infix, Quant};
-use ab_store::{Head, Logical};
+use ab_logic::below::store::{Head, Logical};
 use ab_text::{
     Shape, Shapes, between, judged, judged_in_focus, quantified, truth_value, with_mark, with_pi,
 };

@@ -2,8 +2,8 @@
 ghost use Rattle.std.specs.Prelude.{◌≡◌, ℕ, List, [], ◌++◌, codes, decimal, IfOk, IfSome, OnOk, None, if◌then◌else◌};
 ghost use Rattle.std.specs.Option.{option_map};
 ghost use Rattle.ab_term.specs.Terms as tree;
-ghost use Rattle.ab_types.specs.Entries.{Table};
-ghost use Rattle.ab_store.specs.Trees.{Contents, head_reading};
+ghost use Rattle.ab_logic.specs.ab_types.specs.Entries.{Table};
+ghost use Rattle.ab_logic.specs.ab_store.specs.Trees.{Contents, head_reading};
 ghost use Rattle.ab_text.specs.Names.{name_of};
 ghost use Rattle.ab_text.specs.Naming as plain;
 ghost use Rattle.ab_text.specs.Values.{shape_of, shapes_of};
@@ -17,9 +17,9 @@ use crate::choosing::choose;
 use crate::drawing::{Drawing, Drawings};
 use crate::logic::{logical_form, takes_binder};
 use crate::places::{Places, enter, leave};
-use ab_store::{Head, Store};
+use ab_logic::below::store::{Head, Store};
+use ab_logic::below::types::TypeTable;
 use ab_text::{Shape, Shapes, with_constant, with_name};
-use ab_types::TypeTable;
 use itoa::Buffer;
 use std::alloc::{AllocError, Global};
 

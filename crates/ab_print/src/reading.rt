@@ -1,8 +1,8 @@
 //! Terms are taken out of a store.
 ghost use Rattle.std.specs.Prelude.{◌≡◌, ◌≤◌, ◌<◌, ◌+◌, ◌^◌, ◌++◌, ℕ, List, [], ◌∷◌, length, map, All, IfOk, OnOk, if◌then◌else◌};
 ghost use Rattle.ab_term.specs.Terms as tree;
-ghost use Rattle.ab_store.specs.Trees.{Holds, tree_of};
-ghost use Rattle.ab_store.specs.Naming.{IsTypedBy};
+ghost use Rattle.ab_logic.specs.ab_store.specs.Trees.{Holds, tree_of};
+ghost use Rattle.ab_logic.specs.ab_store.specs.Naming.{IsTypedBy};
 ghost use Rattle.ab_text.specs.Names.{free_heads, free_heads_of_all};
 ghost use Rattle.ab_print.specs.declared.drawing.Seen.{Seen as SeenHead};
 ghost use Rattle.ab_print.specs.Drawings.{term_of, terms_of, bound_so_far, Puts, IsSound, AreSound};
@@ -10,8 +10,8 @@ ghost use Rattle.ab_print.specs.Places.{is_bound_at};
 
 use crate::drawing::{Drawing, Drawings, Part, Seen};
 use crate::eta::alone;
-use ab_store::{Head, Node, Store, TermId};
-use ab_types::TypeTable;
+use ab_logic::below::store::{Head, Node, Store, TermId};
+use ab_logic::below::types::TypeTable;
 use std::alloc::{AllocError, Global};
 
 /// Puts the place of a bound name behind the others of its binder. Those of the innermost binder stand last.

@@ -1,7 +1,7 @@
 //! What is printed of a world's terms and goals.
 ghost use Rattle.std.specs.Prelude.{◌≡◌, ◌++◌, map, decimal, All, IfOk, OnOk, OnErr};
-ghost use Rattle.ab_store.specs.Naming.{IsTypedBy};
-ghost use Rattle.ab_store.specs.Trees as terms;
+ghost use Rattle.ab_logic.specs.ab_store.specs.Naming.{IsTypedBy};
+ghost use Rattle.ab_logic.specs.ab_store.specs.Trees as terms;
 ghost use Rattle.ab_logic.specs.Worlds.{IsWorld, Holds, HoldsCell, read, variable_of};
 ghost use Rattle.ab_logic.specs.Readings.{HoldsSequent, sequent_of, hypothesis_of};
 ghost use Rattle.ab_print.specs.Shown.{cell_name, names_line, variables_line, shown, conclusion_line, hypothesis_lines, goal_lines, other_goal, reply_line};
@@ -10,10 +10,10 @@ use crate::eta::alone;
 use crate::naming::name_alone;
 use crate::places::own_places;
 use crate::reading::draw;
+use ab_logic::below::store::{CellId, Store, TermId};
+use ab_logic::below::types::TypeTable;
 use ab_logic::{Hypothesis, Sequent, World};
-use ab_store::{CellId, Store, TermId};
 use ab_text::write;
-use ab_types::TypeTable;
 use itoa::Buffer;
 use std::alloc::{AllocError, Global};
 

@@ -1,9 +1,9 @@
 //! Terms and lines that are small enough to be written by hand.
 use crate::showing::write_term;
 use crate::{show_goal, show_other, show_reply, show_term};
+use ab_logic::below::store::{Head, Logical, Store};
+use ab_logic::below::types::{Name, TypeTable};
 use ab_logic::{Hypotheses, Hypothesis, Sequent, Variables, World};
-use ab_store::{Head, Logical, Store};
-use ab_types::{Name, TypeTable};
 use std::alloc::{AllocError, Global};
 
 fn reply(alloc: Global, kept: usize, text: &[u8]) -> Result<Vec<u8>, AllocError> {

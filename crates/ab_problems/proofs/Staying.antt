@@ -1,11 +1,11 @@
 -- What was held stays held while terms are added and cells are bound.
 use Rattle.std.proofs.Common.{List, All, Contains, Result, Ok, Err}
 use Rattle.std.proofs.lemmas.List.Elements.{All-weaker, All-contains_itself}
-use Rattle.ab_types.specs.Entries.{Table}
-use Rattle.ab_store.specs.declared.node.TermId.{TermId}
-use Rattle.ab_store.specs.declared.node.CellId.{CellId}
-use Rattle.ab_store.specs.Trees.{Contents, Holds, HoldsCell}
-use Rattle.ab_norm.specs.Growth.{AddsTypedTerms}
+use Rattle.ab_fits.specs.ab_types.specs.Entries.{Table}
+use Rattle.ab_fits.specs.ab_store.specs.declared.node.TermId.{TermId}
+use Rattle.ab_fits.specs.ab_store.specs.declared.node.CellId.{CellId}
+use Rattle.ab_fits.specs.ab_store.specs.Trees.{Contents, Holds, HoldsCell}
+use Rattle.ab_solver.specs.ab_norm.specs.Growth.{AddsTypedTerms}
 use Rattle.ab_solver.specs.declared.solved.Solved.{Solved}
 use Rattle.ab_solver.specs.declared.solved.Solved.TheVariants.{Unified, Apart, Stuck}
 use Rattle.ab_solver.specs.Answers.{IfUnified, AreNewCells}

@@ -1,18 +1,18 @@
 //! Terms in short: a letter for each symbol, which stands before its arguments.
 ghost use Rattle.std.specs.Prelude.{IfOk, OnOk, All};
-ghost use Rattle.ab_types.specs.Entries.{Table};
-ghost use Rattle.ab_types.specs.Ids.{HoldsType, HoldsConstant};
-ghost use Rattle.ab_store.specs.declared.node.TermId.{TermId};
-ghost use Rattle.ab_store.specs.Reading.{Contents, Holds, HoldsCell};
-ghost use Rattle.ab_store.specs.Naming.{HoldsHead, HeadIsTyped, IsTypedBy};
-ghost use Rattle.ab_norm.specs.Growth.{AddsTypedTerms};
+ghost use Rattle.ab_fits.specs.ab_types.specs.Entries.{Table};
+ghost use Rattle.ab_fits.specs.ab_types.specs.Ids.{HoldsType, HoldsConstant};
+ghost use Rattle.ab_fits.specs.ab_store.specs.declared.node.TermId.{TermId};
+ghost use Rattle.ab_fits.specs.ab_store.specs.Reading.{Contents, Holds, HoldsCell};
+ghost use Rattle.ab_fits.specs.ab_store.specs.Naming.{HoldsHead, HeadIsTyped, IsTypedBy};
+ghost use Rattle.ab_solver.specs.ab_norm.specs.Growth.{AddsTypedTerms};
 
 mod bindings;
 mod fixture;
 mod problems;
 
-use ab_store::{CellId, Equation, Head, Store, TermId};
-use ab_types::{ConstId, Name, TableFault, TypeId, TypeTable, TypeView};
+use ab_fits::below::store::{CellId, Equation, Head, Store, TermId};
+use ab_fits::below::types::{ConstId, Name, TableFault, TypeId, TypeTable, TypeView};
 use std::alloc::{AllocError, Global};
 
 /// A letter, and the cell that it stands for.

@@ -1,14 +1,14 @@
 -- One stretch of steps after another, where a goal is then, and the proof as it was.
 use Rattle.std.specs.Prelude.{Result, Ok, Err, IfOk, OnErr, slice_get}
 use Rattle.std.proofs.Common.{◌≡◌, ◌≢◌, ℕ, ◌+◌, ◌-◌, ◌<◌, List, [], ◌∷◌, ◌++◌, Some, None, length, take, drop, refl, sym, ◌∙◌, ap, subst, arith}
-use Rattle.ab_unifying.specs.Problem.{cells_read}
-use Rattle.ab_logic.specs.Worlds.{IsWorld, declarations_of}
-use Rattle.ab_logic.specs.Growth.{Grows}
-use Rattle.ab_logic.specs.Sequents.{Sequent}
-use Rattle.ab_logic.specs.declared.world.World.{World}
-use Rattle.ab_logic.proofs.Growing.{grows_on, grows_not}
-use Rattle.ab_rules.specs.Steps.{Step}
-use Rattle.ab_rules.specs.declared.step.KernelFault.{KernelFault}
+use Rattle.ab_kernel.specs.ab_unifying.specs.Problem.{cells_read}
+use Rattle.ab_kernel.specs.ab_logic.specs.Worlds.{IsWorld, declarations_of}
+use Rattle.ab_kernel.specs.ab_logic.specs.Growth.{Grows}
+use Rattle.ab_kernel.specs.ab_logic.specs.Sequents.{Sequent}
+use Rattle.ab_kernel.specs.ab_logic.specs.declared.world.World.{World}
+use Rattle.ab_kernel.specs.ab_logic.proofs.Growing.{grows_on, grows_not}
+use Rattle.ab_kernel.specs.ab_rules.specs.Steps.{Step}
+use Rattle.ab_kernel.specs.ab_rules.specs.declared.step.KernelFault.{KernelFault}
 use Rattle.ab_kernel.specs.Derivation.{History, IsStep, GoalFails, GoalStuck, undone, open_goals, Above}
 use Rattle.ab_kernel.specs.Layout.{Held, history_of, IsProof, before_steps, Beyond}
 use Rattle.ab_kernel.proofs.Adding.{above_none, above_one, above_on, taken_at, failed_at, stuck_at}

@@ -1,10 +1,10 @@
 -- THE EFFECT OF A PROOF COMMAND on a proof, by its row.
 use Rattle.std.specs.Prelude.{◌≡◌, List, ◌∷◌, ◌++◌}
 use Rattle.ab_grammar.specs.CommandTrees.{ProofCommand}
-use Rattle.ab_logic.specs.Names.{Label}
-use Rattle.ab_logic.specs.Sequents.{Sequent}
-use Rattle.ab_logic.specs.Worlds.{declarations_of}
-use Rattle.ab_logic.specs.declared.world.World.{World}
+use Rattle.ab_kernel.specs.ab_logic.specs.Names.{Label}
+use Rattle.ab_kernel.specs.ab_logic.specs.Sequents.{Sequent}
+use Rattle.ab_kernel.specs.ab_logic.specs.Worlds.{declarations_of}
+use Rattle.ab_kernel.specs.ab_logic.specs.declared.world.World.{World}
 use Rattle.ab_kernel.specs.Layout.{Held}
 use Rattle.ab_effects.specs.Effect.{effect}
 use Rattle.ab_effects.specs.Refusals.{unknown, clash, type_clash, untyped, no_hypothesis, wrong_shape, mark, no_match, not_pattern, unresolved, names_spent}

@@ -1,16 +1,16 @@
 //! Steps of a proof, as the proof commands take them and take them back.
 ghost use Rattle.std.specs.Prelude.{◌≡◌, ◌≢◌, ℕ, ◌<◌, ◌≤◌, ◌-◌, length, Ok, IfOk, OnOk, OnErr, IsTrue, IsFalse};
-ghost use Rattle.ab_logic.specs.Worlds.{IsWorld};
-ghost use Rattle.ab_logic.specs.declared.world.World.{World as AWorld};
-ghost use Rattle.ab_rules.specs.Answers.{step_of, HoldsStep};
+ghost use Rattle.ab_kernel.specs.ab_logic.specs.Worlds.{IsWorld};
+ghost use Rattle.ab_kernel.specs.ab_logic.specs.declared.world.World.{World as AWorld};
+ghost use Rattle.ab_kernel.specs.ab_rules.specs.Answers.{step_of, HoldsStep};
 ghost use Rattle.ab_kernel.specs.Derivation.{undone};
 ghost use Rattle.ab_kernel.specs.Layout.{Held, history_of, IsProof};
 ghost use Rattle.ab_progress.specs.Progress.{goals_of, Follows, Took, TookInto, FailsAt, FailsBy, Holds, StuckAt, SolvesNothing};
 ghost use Rattle.ab_progress.specs.declared.advancing.Attempted.TheVariants.{Taken, Failed, Stuck};
 
+use ab_kernel::below::logic::World;
+use ab_kernel::below::types::Steps;
 use ab_kernel::{KernelFault, Proof, Step};
-use ab_logic::World;
-use ab_types::Steps;
 use std::alloc::AllocError;
 
 /// What came of a step.

@@ -3,7 +3,7 @@ ghost use Rattle.std.specs.Prelude.{◌≡◌, ◌⊎◌, ◌+◌};
 ghost use Rattle.std.specs.declared.alloc.AllocError.{AllocError as AFault};
 ghost use Rattle.ab_progress.specs.declared.fault.ProofCommandFault.TheVariants.{NotPattern, Memory};
 
-use ab_name::Name;
+use ab_kernel::below::name::Name;
 use std::alloc::AllocError;
 use thiserror::Error;
 

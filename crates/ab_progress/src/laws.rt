@@ -1,6 +1,6 @@
 //! Laws of what is taken and taken back.
 ghost use Rattle.std.specs.Prelude.{◌≡◌};
-ghost use Rattle.ab_logic.specs.declared.world.World.{World as AWorld};
+ghost use Rattle.ab_kernel.specs.ab_logic.specs.declared.world.World.{World as AWorld};
 ghost use Rattle.ab_kernel.specs.Layout.{Held, history_of};
 ghost use Rattle.ab_progress.specs.Progress.{Follows};
 

@@ -2,6 +2,7 @@
 #![tactic(auto)]
 
 mod advancing;
+pub mod below;
 mod fault;
 pub mod laws;
 mod looking;

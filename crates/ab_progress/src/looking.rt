@@ -1,12 +1,12 @@
 //! What a proof command works on.
 ghost use Rattle.std.specs.Prelude.{◌≡◌, ◌≢◌, [], ◌∷◌, List};
-ghost use Rattle.ab_logic.specs.Readings.{sequent_of, HoldsSequent};
-ghost use Rattle.ab_logic.specs.Sequents.{Sequent as AGoal};
+ghost use Rattle.ab_kernel.specs.ab_logic.specs.Readings.{sequent_of, HoldsSequent};
+ghost use Rattle.ab_kernel.specs.ab_logic.specs.Sequents.{Sequent as AGoal};
 ghost use Rattle.ab_kernel.specs.Layout.{IsProof};
 ghost use Rattle.ab_progress.specs.Progress.{goals_of};
 
 use ab_kernel::Proof;
-use ab_logic::{Sequent, World};
+use ab_kernel::below::logic::{Sequent, World};
 
 /// The first open goal, where one is open.
 pub fn first_goal<'a>(world: &World, proof: &'a Proof) -> &'a Sequent

@@ -5,7 +5,7 @@ use Rattle.std.proofs.lemmas.List.{get_or-map, length-map}
 use Rattle.ab_syntax.specs.declared.command.Instance.{Instance}
 use Rattle.ab_syntax.specs.Commands.{instance_of}
 use Rattle.ab_syntax.specs.Trees.{tree_of}
-use Rattle.ab_elaborate.specs.Judgements.{HasNoJudgement}
+use Rattle.ab_applying.specs.ab_elaborate.specs.Judgements.{HasNoJudgement}
 use Rattle.ab_proofcmd.specs.Built.{InstanceHasNoJudgement}
 
 pub none_given : (is : List Instance) → All InstanceHasNoJudgement (map instance_of is) → All (λ (i : Instance). HasNoJudgement (tree_of i.term)) is

@@ -1,7 +1,7 @@
 -- The proof commands that are built.
 use Rattle.std.specs.Prelude.{All}
 use Rattle.ab_grammar.specs.CommandTrees.{ProofCommand, Instance, intros, induction, coinduction, case, apply, backchain, split, split_all, left, right, unfold_goal, exists, assert, clear, rename, permute}
-use Rattle.ab_elaborate.specs.Judgements.{HasNoJudgement}
+use Rattle.ab_applying.specs.ab_elaborate.specs.Judgements.{HasNoJudgement}
 
 abbrev pub InstanceHasNoJudgement : Instance → Type 0
 InstanceHasNoJudgement i = HasNoJudgement i.term

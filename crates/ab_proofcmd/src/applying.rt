@@ -2,28 +2,28 @@
 ghost use Rattle.std.specs.Prelude.{◌≡◌, ◌≢◌, ◌↔◌, [], Err, IfOk, OnErr, IsTrue};
 ghost use Rattle.std.specs.Option.{option_copied};
 ghost use Rattle.ab_syntax.specs.Commands.{proof_command_of};
-ghost use Rattle.ab_logic.specs.Worlds.{IsWorld};
-ghost use Rattle.ab_naming.specs.Labels.{label_of};
-ghost use Rattle.ab_kernel.specs.Layout.{history_of, IsProof};
-ghost use Rattle.ab_progress.specs.Applied.{IsApplied, IsRefused};
-ghost use Rattle.ab_progress.specs.Progress.{goals_of, Follows};
-ghost use Rattle.ab_progress.specs.declared.fault.ProofCommandFault.{ProofCommandFault as AFault};
-ghost use Rattle.ab_effects.specs.Effect.{given_label};
+ghost use Rattle.ab_exchanging.specs.ab_logic.specs.Worlds.{IsWorld};
+ghost use Rattle.ab_exchanging.specs.ab_naming.specs.Labels.{label_of};
+ghost use Rattle.ab_exchanging.specs.ab_kernel.specs.Layout.{history_of, IsProof};
+ghost use Rattle.ab_exchanging.specs.ab_progress.specs.Applied.{IsApplied, IsRefused};
+ghost use Rattle.ab_exchanging.specs.ab_progress.specs.Progress.{goals_of, Follows};
+ghost use Rattle.ab_exchanging.specs.ab_progress.specs.declared.fault.ProofCommandFault.{ProofCommandFault as AFault};
+ghost use Rattle.ab_exchanging.specs.ab_effects.specs.Effect.{given_label};
 ghost use Rattle.ab_proofcmd.specs.Built.{IsBuilt};
 
 use crate::judging::terms_hold_judgement;
+use ab_applying::below::elaborate::holds_judgement;
+use ab_applying::below::giving::{assert, exists};
 use ab_applying::{apply, backchain};
-use ab_elaborate::holds_judgement;
+use ab_exchanging::below::kernel::Proof;
+use ab_exchanging::below::left::{case, clear, rename};
+use ab_exchanging::below::logic::World;
+use ab_exchanging::below::naming::Label;
+use ab_exchanging::below::progress::ProofCommandFault;
+use ab_exchanging::below::types::{Name, Steps};
 use ab_exchanging::permute;
-use ab_giving::{assert, exists};
-use ab_kernel::Proof;
-use ab_left::{case, clear, rename};
-use ab_logic::World;
-use ab_naming::Label;
-use ab_progress::ProofCommandFault;
 use ab_right::{coinduction, induction, intros, left, right, split, split_all, unfold};
 use ab_syntax::ProofCommand;
-use ab_types::{Name, Steps};
 use std::alloc::{AllocError, Global};
 
 /// Whether the command is built. What isn't may not be carried out.

@@ -3,7 +3,7 @@ ghost use Rattle.std.specs.Prelude.{IsTrue, IsFalse, All, map};
 ghost use Rattle.ab_syntax.specs.Commands.{instance_of};
 ghost use Rattle.ab_proofcmd.specs.Built.{InstanceHasNoJudgement};
 
-use ab_elaborate::holds_judgement;
+use ab_applying::below::elaborate::holds_judgement;
 use ab_syntax::Instance;
 
 /// Whether a judgement stands in one of the terms.

@@ -6,5 +6,5 @@ mod judging;
 #[cfg(test)]
 mod tests;
 
-pub use ab_progress::ProofCommandFault;
+pub use ab_exchanging::below::progress::ProofCommandFault;
 pub use applying::{apply_proof_command, is_built};

@@ -1,15 +1,15 @@
 //! Proof commands as calls: each carried out and each of its refusals once, and what comes when the names are spent.
 ghost use Rattle.std.specs.Prelude.{IfOk, IfSome};
-ghost use Rattle.ab_logic.specs.Worlds.{IsWorld};
-ghost use Rattle.ab_kernel.specs.Layout.{IsProof};
+ghost use Rattle.ab_exchanging.specs.ab_logic.specs.Worlds.{IsWorld};
+ghost use Rattle.ab_exchanging.specs.ab_kernel.specs.Layout.{IsProof};
 
 use crate::{ProofCommandFault, apply_proof_command, is_built};
+use ab_applying::below::declare::{Statement, state_formula};
+use ab_applying::below::elaborate::holds_judgement;
 use ab_command::{Command, read_command};
-use ab_declare::{Statement, state_formula};
-use ab_elaborate::holds_judgement;
-use ab_kernel::Proof;
-use ab_logic::World;
-use ab_types::Steps;
+use ab_exchanging::below::kernel::Proof;
+use ab_exchanging::below::logic::World;
+use ab_exchanging::below::types::Steps;
 use std::alloc::{AllocError, Global};
 use std::marker::Brand;
 use std::test::Fail;
@@ -86,7 +86,7 @@ fn ended(
 }
 
 /// A theorem, the last number that was given to a hypothesis, commands, and what the last of them ends with.
-const CASES: [(&str, u32, &[&str], &str); 52] = [
+static CASES: [(&str, u32, &[&str], &str); 63] = [
     (
         "Theorem t : true -> true.",
         0,
@@ -392,6 +392,72 @@ const CASES: [(&str, u32, &[&str], &str); 52] = [
         0,
         &["permute (n1 n2)."],
         "Some(Err(WrongShape)), 1",
+    ),
+    (
+        "Theorem t : true.",
+        0,
+        &["permute (n1 n2) H9."],
+        "Some(Err(NoHypothesis(\"H9\"))), 1",
+    ),
+    (
+        "Theorem t : nabla (x : olist), x = x.",
+        0,
+        &["intros.", "permute (n1 n1)."],
+        "Some(Err(TypeClash(0))), 1",
+    ),
+    (
+        "Theorem t : nabla (x : olist) (y : o), x = nil -> member y x -> true.",
+        0,
+        &["intros.", "permute (n1 n2) H2."],
+        "Some(Err(TypeClash(0))), 1",
+    ),
+    (
+        "Theorem t : (forall (F : olist -> olist), F nil = nil -> true) -> nil = nil -> true.",
+        0,
+        &["intros.", "apply H1 to H2."],
+        "Some(Err(NotPattern(1))), 1",
+    ),
+    (
+        "Theorem t : (true -> nil = nil) -> true -> true.",
+        0,
+        &["intros.", "apply H1 to H2 H2."],
+        "Some(Err(WrongShape)), 1",
+    ),
+    (
+        "Theorem t : (true -> nil = nil) -> true -> true.",
+        0,
+        &["intros.", "apply H3 to H2."],
+        "Some(Err(NoHypothesis(\"H3\"))), 1",
+    ),
+    (
+        "Theorem t : (true -> nil = nil) -> true -> true.",
+        0,
+        &["intros.", "apply H1 to H2 with X = nil."],
+        "Some(Err(Unknown(\"X\"))), 1",
+    ),
+    (
+        "Theorem t : (forall X, X = nil -> X = nil) -> true -> true.",
+        0,
+        &["intros.", "apply H1 to H2."],
+        "Some(Err(NoMatch)), 1",
+    ),
+    (
+        "Theorem t : (forall X, X = nil -> X = nil) -> true -> true.",
+        0,
+        &["intros.", "apply H1 to _."],
+        "Some(Err(Unresolved(\"X\"))), 1",
+    ),
+    (
+        "Theorem t : forall F L, member F L -> member F L.",
+        0,
+        &["induction on 1.", "intros.", "apply IH to H1."],
+        "Some(Err(Mark)), 1",
+    ),
+    (
+        "Theorem t : (true -> nil = nil) -> true -> true.",
+        LAST,
+        &["intros A B.", "apply A to B."],
+        "Some(Err(NamesSpent)), 1",
     ),
     ("Theorem t : true.", 0, &["search."], "None, 1"),
 ];

@@ -7,9 +7,9 @@ use Rattle.ab_term.specs.Typing.{Signature, IsExtendedBy, HasType, typed_spine, 
 use Rattle.ab_term.specs.Substitution.{substitute_by, instance}
 use Rattle.ab_term.proofs.Preservation.{instance_typed}
 use Rattle.ab_term.proofs.Unique.{more_typed}
-use Rattle.ab_store.specs.Trees.{Read}
-use Rattle.ab_using.specs.Pieces.{Part, variable_for, given_term, constant_for, antecedent}
-use Rattle.ab_using.specs.Uses.{with_term, left_side, right_side, used, types_chosen}
+use Rattle.ab_instances.specs.ab_store.specs.Trees.{Read}
+use Rattle.ab_taking.specs.ab_using.specs.Pieces.{Part, variable_for, given_term, constant_for, antecedent}
+use Rattle.ab_taking.specs.ab_using.specs.Uses.{with_term, left_side, right_side, used, types_chosen}
 use Rattle.ab_putting.specs.Making.{HasParts, has_none, has_variable, has_given, has_constant, has_antecedent}
 
 module _ (sg : Signature) where

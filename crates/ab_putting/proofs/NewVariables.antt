@@ -8,26 +8,26 @@ use Rattle.ab_term.specs.Terms as tree
 use Rattle.ab_term.specs.Closing.{over, given_names}
 use Rattle.ab_term.specs.Typing.{HasType}
 use Rattle.ab_term.proofs.Hinted.{given_typed}
-use Rattle.ab_types.specs.Entries.{Table, signature}
-use Rattle.ab_types.specs.Ids.{HoldsType, type_of}
-use Rattle.ab_types.specs.declared.ids.TypeId.{TypeId}
-use Rattle.ab_store.specs.declared.node.CellId.{CellId}
-use Rattle.ab_store.specs.declared.node.TermId.{TermId}
-use Rattle.ab_store.specs.Trees.{Read, Contents, HoldsCell, cell_of, tree_of}
-use Rattle.ab_store.specs.Naming.{IsTypedBy}
-use Rattle.ab_norm.specs.Growth.{AddsTypedTerms}
-use Rattle.ab_norm.specs.declared.nominal.Nominal.{Nominal}
-use Rattle.ab_cases.specs.Choices.{outside}
-use Rattle.ab_unifying.specs.Problem.{cell_read, cells_read}
-use Rattle.ab_unifying.specs.Changed.{Grows}
-use Rattle.ab_unifying.proofs.Growth.{one_more, grown_term, grows_on, grows_terms}
-use Rattle.ab_unifying.proofs.Cells.{cells_same}
-use Rattle.ab_norm.specs.Nominals.{HoldsNominal}
-use Rattle.ab_norm.proofs.Frame.{typed_on}
+use Rattle.ab_instances.specs.ab_types.specs.Entries.{Table, signature}
+use Rattle.ab_instances.specs.ab_types.specs.Ids.{HoldsType, type_of}
+use Rattle.ab_instances.specs.ab_types.specs.declared.ids.TypeId.{TypeId}
+use Rattle.ab_instances.specs.ab_store.specs.declared.node.CellId.{CellId}
+use Rattle.ab_instances.specs.ab_store.specs.declared.node.TermId.{TermId}
+use Rattle.ab_instances.specs.ab_store.specs.Trees.{Read, Contents, HoldsCell, cell_of, tree_of}
+use Rattle.ab_instances.specs.ab_store.specs.Naming.{IsTypedBy}
+use Rattle.ab_instances.specs.ab_norm.specs.Growth.{AddsTypedTerms}
+use Rattle.ab_instances.specs.ab_norm.specs.declared.nominal.Nominal.{Nominal}
+use Rattle.ab_instances.specs.ab_cases.specs.Choices.{outside}
+use Rattle.ab_instances.specs.ab_unifying.specs.Problem.{cell_read, cells_read}
+use Rattle.ab_instances.specs.ab_unifying.specs.Changed.{Grows}
+use Rattle.ab_instances.specs.ab_unifying.proofs.Growth.{one_more, grown_term, grows_on, grows_terms}
+use Rattle.ab_instances.specs.ab_unifying.proofs.Cells.{cells_same}
+use Rattle.ab_instances.specs.ab_norm.specs.Nominals.{HoldsNominal}
+use Rattle.ab_instances.specs.ab_norm.proofs.Frame.{typed_on}
 use Rattle.ab_instances.specs.Readings.{names_read, trees_at}
 use Rattle.ab_instances.proofs.Made.{names_stay}
-use Rattle.ab_using.specs.Pieces.{variable_for}
-use Rattle.ab_using.specs.Uses.{used, cell_over, with_term}
+use Rattle.ab_taking.specs.ab_using.specs.Pieces.{variable_for}
+use Rattle.ab_taking.specs.ab_using.specs.Uses.{used, cell_over, with_term}
 use Rattle.ab_putting.specs.Making.{HasParts, IsUnderWay, GoesOn}
 use Rattle.ab_putting.specs.declared.made.Made.{Made}
 use Rattle.ab_putting.proofs.Fronts.{variable_put, front_more}

@@ -7,18 +7,18 @@ use Rattle.ab_term.specs.Terms.{nominal, variable, terms_of, term, no_terms}
 use Rattle.ab_term.specs.Expansion.{expansion_of, expansion}
 use Rattle.ab_term.specs.Closing.{over, name_terms, given_names}
 use Rattle.ab_term.specs.Names.{support, support_of_all}
-use Rattle.ab_types.specs.Entries.{Table}
-use Rattle.ab_types.specs.Ids.{type_of}
-use Rattle.ab_types.specs.declared.ids.TypeId.{TypeId}
-use Rattle.ab_store.specs.declared.node.TermId.{TermId}
-use Rattle.ab_store.specs.declared.node.CellId.{CellId}
-use Rattle.ab_store.specs.declared.node.Head.TheVariants.{Cell}
-use Rattle.ab_store.specs.Trees.{Read, Contents, cell_in, cell_of, head_reading}
-use Rattle.ab_norm.specs.declared.nominal.Nominal.{Nominal}
-use Rattle.ab_norm.specs.Nominals.{nominal_of}
-use Rattle.ab_cases.specs.Clauses.{name_term}
-use Rattle.ab_cases.specs.Choices.{is_in, in_order, outside}
-use Rattle.ab_cases.proofs.Choosing.{in_contains, contains_in, ordered_contains, contains_ordered}
+use Rattle.ab_instances.specs.ab_types.specs.Entries.{Table}
+use Rattle.ab_instances.specs.ab_types.specs.Ids.{type_of}
+use Rattle.ab_instances.specs.ab_types.specs.declared.ids.TypeId.{TypeId}
+use Rattle.ab_instances.specs.ab_store.specs.declared.node.TermId.{TermId}
+use Rattle.ab_instances.specs.ab_store.specs.declared.node.CellId.{CellId}
+use Rattle.ab_instances.specs.ab_store.specs.declared.node.Head.TheVariants.{Cell}
+use Rattle.ab_instances.specs.ab_store.specs.Trees.{Read, Contents, cell_in, cell_of, head_reading}
+use Rattle.ab_instances.specs.ab_norm.specs.declared.nominal.Nominal.{Nominal}
+use Rattle.ab_instances.specs.ab_norm.specs.Nominals.{nominal_of}
+use Rattle.ab_instances.specs.ab_cases.specs.Clauses.{name_term}
+use Rattle.ab_instances.specs.ab_cases.specs.Choices.{is_in, in_order, outside}
+use Rattle.ab_instances.specs.ab_cases.proofs.Choosing.{in_contains, contains_in, ordered_contains, contains_ordered}
 use Rattle.ab_instances.specs.Readings.{names_read, trees_at}
 
 abbrev x : List ℕ

@@ -1,16 +1,16 @@
 //! The outermost quantifier or implication of a formula is taken off.
 ghost use Rattle.std.specs.Prelude.{◌≡◌, ◌≤◌, IfOk, IfSome, None};
 ghost use Rattle.ab_term.specs.Substitution.{instance};
-ghost use Rattle.ab_types.specs.Entries.{Table};
-ghost use Rattle.ab_store.specs.Trees.{Read, Holds, tree_of};
-ghost use Rattle.ab_store.specs.Naming.{IsTypedBy};
-ghost use Rattle.ab_norm.specs.Growth.{AddsTerms};
-ghost use Rattle.ab_using.specs.Uses as spec;
-ghost use Rattle.ab_using.specs.Uses.{left_side, right_side};
+ghost use Rattle.ab_instances.specs.ab_types.specs.Entries.{Table};
+ghost use Rattle.ab_instances.specs.ab_store.specs.Trees.{Read, Holds, tree_of};
+ghost use Rattle.ab_instances.specs.ab_store.specs.Naming.{IsTypedBy};
+ghost use Rattle.ab_instances.specs.ab_norm.specs.Growth.{AddsTerms};
+ghost use Rattle.ab_taking.specs.ab_using.specs.Uses as spec;
+ghost use Rattle.ab_taking.specs.ab_using.specs.Uses.{left_side, right_side};
 
-use ab_norm::instantiate;
-use ab_store::{Node, Store, TermId};
-use ab_types::{Steps, TypeTable};
+use ab_instances::below::norm::instantiate;
+use ab_instances::below::store::{Node, Store, TermId};
+use ab_instances::below::types::{Steps, TypeTable};
 use std::alloc::{AllocError, Global};
 
 /// What a head is given, where that is one term.

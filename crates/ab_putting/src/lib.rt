@@ -2,6 +2,7 @@
 //! its quantifiers.
 #![tactic(auto)]
 
+pub mod below;
 mod formulas;
 mod made;
 mod making;

@@ -1,6 +1,6 @@
 //! A use of a formula, as it is made.
 use crate::stage::Stage;
-use ab_store::{CellId, TermId};
+use ab_instances::below::store::{CellId, TermId};
 
 /// A use of a formula, as it is made.
 #[derive(Debug, Drop)]

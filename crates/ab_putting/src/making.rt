@@ -1,23 +1,23 @@
 //! A formula is used by one choice of constants: new cells, and the formula's antecedents and result with these in it.
 ghost use Rattle.std.specs.Prelude.{◌≡◌, ◌≤◌, [], map, length, false, All, Ok, Some, None};
 ghost use Rattle.ab_term.specs.Types.{prop};
-ghost use Rattle.ab_types.specs.Entries.{signature, Table};
-ghost use Rattle.ab_store.specs.Trees.{Contents, tree_of};
-ghost use Rattle.ab_store.specs.Naming.{IsTypedBy, IsTerm};
-ghost use Rattle.ab_norm.specs.Nominals.{HoldsNominal};
-ghost use Rattle.ab_unifying.specs.Problem.{cells_read};
-ghost use Rattle.ab_unifying.specs.Changed.{Grows};
+ghost use Rattle.ab_instances.specs.ab_types.specs.Entries.{signature, Table};
+ghost use Rattle.ab_instances.specs.ab_store.specs.Trees.{Contents, tree_of};
+ghost use Rattle.ab_instances.specs.ab_store.specs.Naming.{IsTypedBy, IsTerm};
+ghost use Rattle.ab_instances.specs.ab_norm.specs.Nominals.{HoldsNominal};
+ghost use Rattle.ab_instances.specs.ab_unifying.specs.Problem.{cells_read};
+ghost use Rattle.ab_instances.specs.ab_unifying.specs.Changed.{Grows};
 ghost use Rattle.ab_instances.specs.Readings.{names_read};
-ghost use Rattle.ab_using.specs.Uses.{used, types_chosen};
+ghost use Rattle.ab_taking.specs.ab_using.specs.Uses.{used, types_chosen};
 ghost use Rattle.ab_putting.specs.Making.{HoldsPart, part_read, parts_read, HasParts, names_left, IsMade};
 ghost use Rattle.ab_putting.specs.declared.made.Made.{Made as AMade};
 
 use crate::made::Made;
 use crate::part::Part;
 use crate::taking::take_part;
-use ab_norm::Nominal;
-use ab_store::{Store, TermId};
-use ab_types::{Steps, TypeTable};
+use ab_instances::below::norm::Nominal;
+use ab_instances::below::store::{Store, TermId};
+use ab_instances::below::types::{Steps, TypeTable};
 use std::alloc::{AllocError, Global};
 
 /// The constants that are left for the parts behind this one.

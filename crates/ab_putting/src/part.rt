@@ -1,6 +1,6 @@
 //! What becomes of the quantifiers and antecedents in front of a formula that is used.
-use ab_store::TermId;
-use ab_types::{Name, TypeId};
+use ab_instances::below::store::TermId;
+use ab_instances::below::types::{Name, TypeId};
 
 /// What becomes of a quantifier or of an antecedent.
 #[derive(Debug, Drop)]

@@ -1,23 +1,23 @@
 //! What becomes of the quantifiers and antecedents of a formula, where terms are given.
 ghost use Rattle.std.specs.Prelude.{◌≡◌, map, bytes_eq, All, IfOk, OnOk};
 ghost use Rattle.std.specs.Option.{option_map};
-ghost use Rattle.ab_types.specs.Entries.{Table};
-ghost use Rattle.ab_types.specs.Ids.{HoldsType, type_of};
-ghost use Rattle.ab_store.specs.Trees as trees;
-ghost use Rattle.ab_store.specs.Trees.{tree_of};
-ghost use Rattle.ab_logic.specs.Worlds.{IsWorld, Holds, read};
-ghost use Rattle.ab_using.specs.Pieces as spec;
-ghost use Rattle.ab_using.specs.Pieces.{pieces, parts, part_for, given_otherwise};
+ghost use Rattle.ab_instances.specs.ab_types.specs.Entries.{Table};
+ghost use Rattle.ab_instances.specs.ab_types.specs.Ids.{HoldsType, type_of};
+ghost use Rattle.ab_instances.specs.ab_store.specs.Trees as trees;
+ghost use Rattle.ab_instances.specs.ab_store.specs.Trees.{tree_of};
+ghost use Rattle.ab_taking.specs.ab_logic.specs.Worlds.{IsWorld, Holds, read};
+ghost use Rattle.ab_taking.specs.ab_using.specs.Pieces as spec;
+ghost use Rattle.ab_taking.specs.ab_using.specs.Pieces.{pieces, parts, part_for, given_otherwise};
 ghost use Rattle.ab_taking.specs.Layers.{hint_of};
 ghost use Rattle.ab_taking.specs.Readings.{given_of, HoldsIfAny};
 ghost use Rattle.ab_putting.specs.Making.{HoldsPart, part_read, parts_read};
 ghost use Rattle.ab_putting.specs.Parting.{IsGiven};
 
 use crate::part::Part;
-use ab_logic::World;
-use ab_store::{Node, Store, TermId};
+use ab_instances::below::store::{Node, Store, TermId};
+use ab_instances::below::types::{Name, TypeId};
+use ab_taking::below::logic::World;
 use ab_taking::{GivenTerm, Layer, look_at};
-use ab_types::{Name, TypeId};
 use std::alloc::{AllocError, Global};
 
 /// The hint of the abstraction.

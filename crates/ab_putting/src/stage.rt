@@ -1,5 +1,5 @@
 //! What is taken off a formula, with what was put there.
-use ab_store::TermId;
+use ab_instances::below::store::TermId;
 
 /// What is taken off the formula, one after another.
 #[derive(Debug, Drop)]

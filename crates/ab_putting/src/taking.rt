@@ -3,19 +3,19 @@ ghost use Rattle.std.specs.Prelude.{◌≡◌, ◌≤◌, ◌++◌, [], ◌∷�
 ghost use Rattle.ab_term.specs.Types.{Ty, prop};
 ghost use Rattle.ab_term.specs.Typing.{HasType};
 ghost use Rattle.ab_term.specs.Names.{support};
-ghost use Rattle.ab_types.specs.Entries.{signature};
-ghost use Rattle.ab_types.specs.Ids.{HoldsType, type_of};
-ghost use Rattle.ab_store.specs.Trees.{Holds, tree_of};
-ghost use Rattle.ab_store.specs.Growth.{IsExtendedBy};
-ghost use Rattle.ab_store.specs.Naming.{IsTypedBy};
-ghost use Rattle.ab_norm.specs.Growth.{AddsTypedTerms};
-ghost use Rattle.ab_norm.specs.Nominals.{HoldsNominal, nominal_of};
-ghost use Rattle.ab_cases.specs.Choices.{is_in};
-ghost use Rattle.ab_unifying.specs.Changed.{Grows};
+ghost use Rattle.ab_instances.specs.ab_types.specs.Entries.{signature};
+ghost use Rattle.ab_instances.specs.ab_types.specs.Ids.{HoldsType, type_of};
+ghost use Rattle.ab_instances.specs.ab_store.specs.Trees.{Holds, tree_of};
+ghost use Rattle.ab_instances.specs.ab_store.specs.Growth.{IsExtendedBy};
+ghost use Rattle.ab_instances.specs.ab_store.specs.Naming.{IsTypedBy};
+ghost use Rattle.ab_instances.specs.ab_norm.specs.Growth.{AddsTypedTerms};
+ghost use Rattle.ab_instances.specs.ab_norm.specs.Nominals.{HoldsNominal, nominal_of};
+ghost use Rattle.ab_instances.specs.ab_cases.specs.Choices.{is_in};
+ghost use Rattle.ab_instances.specs.ab_unifying.specs.Changed.{Grows};
 ghost use Rattle.ab_instances.specs.Readings.{names_read};
-ghost use Rattle.ab_using.specs.Pieces.{variable_for, given_term, constant_for, antecedent};
-ghost use Rattle.ab_using.specs.Uses.{used, types_chosen};
-ghost use Rattle.ab_using.specs.Uses as spec;
+ghost use Rattle.ab_taking.specs.ab_using.specs.Pieces.{variable_for, given_term, constant_for, antecedent};
+ghost use Rattle.ab_taking.specs.ab_using.specs.Uses.{used, types_chosen};
+ghost use Rattle.ab_taking.specs.ab_using.specs.Uses as spec;
 ghost use Rattle.ab_putting.specs.Making.{HoldsPart, part_read, HasParts, IsUnderWay, GoesOn};
 
 use crate::formulas::{sides_of, with_term};
@@ -23,10 +23,10 @@ use crate::made::Made;
 use crate::part::Part;
 use crate::stage::Stage;
 use crate::variables::{cell_over_constants, given_constants};
+use ab_instances::below::norm::{Nominal, eta};
+use ab_instances::below::store::{Head, Store, TermId};
+use ab_instances::below::types::{Name, Steps, TypeId, TypeTable};
 use ab_instances::{constants_of, outside};
-use ab_norm::{Nominal, eta};
-use ab_store::{Head, Store, TermId};
-use ab_types::{Name, Steps, TypeId, TypeTable};
 use std::alloc::{AllocError, Global};
 
 /// Puts the term for the name of the quantifier.

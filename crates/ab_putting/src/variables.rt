@@ -1,22 +1,22 @@
 //! New variables over constants.
 ghost use Rattle.std.specs.Prelude.{◌≡◌, ◌++◌, ◌∷◌, [], length, codes, All, IfOk, OnOk};
 ghost use Rattle.ab_term.specs.Closing.{over, given_names};
-ghost use Rattle.ab_types.specs.Entries.{kinds, constants, IsExtendedBy as IsPartOf};
-ghost use Rattle.ab_types.specs.Ids.{HoldsType, type_of};
-ghost use Rattle.ab_store.specs.Trees.{Holds, HoldsCell, cell_of, tree_of};
-ghost use Rattle.ab_store.specs.Growth.{IsExtendedBy};
-ghost use Rattle.ab_store.specs.Naming.{IsTypedBy};
-ghost use Rattle.ab_norm.specs.Growth.{AddsTypedTerms};
-ghost use Rattle.ab_norm.specs.Nominals.{HoldsNominal};
-ghost use Rattle.ab_unifying.specs.Problem.{cells_read};
-ghost use Rattle.ab_unifying.specs.Changed.{Grows};
+ghost use Rattle.ab_instances.specs.ab_types.specs.Entries.{kinds, constants, IsExtendedBy as IsPartOf};
+ghost use Rattle.ab_instances.specs.ab_types.specs.Ids.{HoldsType, type_of};
+ghost use Rattle.ab_instances.specs.ab_store.specs.Trees.{Holds, HoldsCell, cell_of, tree_of};
+ghost use Rattle.ab_instances.specs.ab_store.specs.Growth.{IsExtendedBy};
+ghost use Rattle.ab_instances.specs.ab_store.specs.Naming.{IsTypedBy};
+ghost use Rattle.ab_instances.specs.ab_norm.specs.Growth.{AddsTypedTerms};
+ghost use Rattle.ab_instances.specs.ab_norm.specs.Nominals.{HoldsNominal};
+ghost use Rattle.ab_instances.specs.ab_unifying.specs.Problem.{cells_read};
+ghost use Rattle.ab_instances.specs.ab_unifying.specs.Changed.{Grows};
 ghost use Rattle.ab_instances.specs.Readings.{names_read};
-ghost use Rattle.ab_using.specs.Uses.{cell_over};
+ghost use Rattle.ab_taking.specs.ab_using.specs.Uses.{cell_over};
 
 use ab_instances::as_terms;
-use ab_norm::{Nominal, eta_given};
-use ab_store::{CellId, Head, Store, TermId};
-use ab_types::{Name, TypeId, TypeTable};
+use ab_instances::below::norm::{Nominal, eta_given};
+use ab_instances::below::store::{CellId, Head, Store, TermId};
+use ab_instances::below::types::{Name, TypeId, TypeTable};
 use std::alloc::{AllocError, Global};
 
 /// The type of what depends on the constants besides.

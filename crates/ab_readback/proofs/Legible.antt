@@ -8,8 +8,8 @@ use Rattle.std.specs.Int.{is_in_range}
 use Rattle.std.specs.Cmp.Lexicographic.{bytes_decides}
 use Rattle.std.proofs.lemmas.Bool.{le-leb, lt-ltb, and_parts}
 use Rattle.std.proofs.lemmas.Bool.Decides.{nat_tests}
-use Rattle.ab_lex.specs.declared.token.TokenKind.TheVariants.{Word}
-use Rattle.ab_lex.specs.Tokens.{hyphen, underscore, apostrophe, is_word_byte, IsWordTail, ends, byte, joined, IsWord, alone as underscore_alone, letters}
+use Rattle.ab_syntax.specs.ab_lex.specs.declared.token.TokenKind.TheVariants.{Word}
+use Rattle.ab_syntax.specs.ab_lex.specs.Tokens.{hyphen, underscore, apostrophe, is_word_byte, IsWordTail, ends, byte, joined, IsWord, alone as underscore_alone, letters}
 use Rattle.ab_grammar.specs.Token as token
 use Rattle.ab_grammar.specs.Token.{Token}
 use Rattle.ab_grammar.specs.CommandTable.{listed}

@@ -6,15 +6,15 @@ use Rattle.std.specs.Char.{is_ascii_alphabetic}
 use Rattle.std.proofs.lemmas.Bool.{and_parts}
 use Rattle.ab_grammar.specs.Grammar.{left, right}
 use Rattle.std.proofs.lemmas.List.{append-nil, take_at, drop_at, length-append}
-use Rattle.ab_lex.specs.declared.token.TokenKind.{TokenKind}
-use Rattle.ab_lex.specs.declared.token.TokenKind.TheVariants.{Word, Sign}
-use Rattle.ab_lex.specs.declared.token.Token.{Token as Lexed}
-use Rattle.ab_lex.specs.Units.{blank}
-use Rattle.ab_lex.specs.Tokens.{is_word_byte, IsWordTail, ends, byte, joined, IsWord, alone, letters, TokenAt, token_at, TokensFrom, no_more, gap, token}
-use Rattle.ab_lex.specs.Reader.{tail_size, sign_size}
-use Rattle.ab_lex.proofs.FirstByte.{kind_of, first_kind}
-use Rattle.ab_lex.proofs.Words.{goes_on, joins}
-use Rattle.ab_lex.proofs.Pieces.{longest_of, word_at_most, alone_at_most, sign_stands}
+use Rattle.ab_syntax.specs.ab_lex.specs.declared.token.TokenKind.{TokenKind}
+use Rattle.ab_syntax.specs.ab_lex.specs.declared.token.TokenKind.TheVariants.{Word, Sign}
+use Rattle.ab_syntax.specs.ab_lex.specs.declared.token.Token.{Token as Lexed}
+use Rattle.ab_syntax.specs.ab_lex.specs.Units.{blank}
+use Rattle.ab_syntax.specs.ab_lex.specs.Tokens.{is_word_byte, IsWordTail, ends, byte, joined, IsWord, alone, letters, TokenAt, token_at, TokensFrom, no_more, gap, token}
+use Rattle.ab_syntax.specs.ab_lex.specs.Reader.{tail_size, sign_size}
+use Rattle.ab_syntax.specs.ab_lex.proofs.FirstByte.{kind_of, first_kind}
+use Rattle.ab_syntax.specs.ab_lex.proofs.Words.{goes_on, joins}
+use Rattle.ab_syntax.specs.ab_lex.proofs.Pieces.{longest_of, word_at_most, alone_at_most, sign_stands}
 use Rattle.ab_grammar.specs.declared.Infix.{Infix}
 use Rattle.ab_grammar.specs.declared.Infix.TheVariants.{Arrow, Or, And, Equal, Imply, With, Cons}
 use Rattle.ab_grammar.specs.declared.Quant.{Quant}

@@ -1,10 +1,10 @@
 -- The tokens that the bytes of a printed shape are, as the grammar sees them, and which shapes hold nothing but words that
 -- are read as they stand. Places don't matter here: all are 0.
 use Rattle.std.specs.Prelude.{◌≡◌, ℕ, List, [], ◌∷◌, map}
-use Rattle.ab_lex.specs.declared.token.Token.{Token as Lexed}
-use Rattle.ab_lex.specs.declared.token.TokenKind.TheVariants.{Word}
-use Rattle.ab_lex.specs.Spans.{bytes_at}
-use Rattle.ab_lex.specs.Tokens.{IsWord, TokensOf}
+use Rattle.ab_syntax.specs.ab_lex.specs.declared.token.Token.{Token as Lexed}
+use Rattle.ab_syntax.specs.ab_lex.specs.declared.token.TokenKind.TheVariants.{Word}
+use Rattle.ab_syntax.specs.ab_lex.specs.Spans.{bytes_at}
+use Rattle.ab_syntax.specs.ab_lex.specs.Tokens.{IsWord, TokensOf}
 use Rattle.ab_grammar.specs.Token as token
 use Rattle.ab_grammar.specs.Token.{Token}
 use Rattle.ab_syntax.specs.Tokens.{token_by}

@@ -1,12 +1,12 @@
 -- What was held stays held while a world grows.
 use Rattle.std.proofs.Common.{List, All}
 use Rattle.std.proofs.lemmas.List.Elements.{All-weaker}
-use Rattle.ab_store.specs.declared.node.CellId.{CellId}
-use Rattle.ab_store.specs.Trees.{HoldsCell}
-use Rattle.ab_clauses.specs.declared.kept.ClauseTerm.{ClauseTerm}
-use Rattle.ab_clauses.specs.Readings.{HoldsClause}
-use Rattle.ab_logic.specs.Growth.{Grows}
-use Rattle.ab_logic.specs.declared.world.World.{World}
+use Rattle.ab_print.specs.ab_store.specs.declared.node.CellId.{CellId}
+use Rattle.ab_print.specs.ab_store.specs.Trees.{HoldsCell}
+use Rattle.ab_print.specs.ab_clauses.specs.declared.kept.ClauseTerm.{ClauseTerm}
+use Rattle.ab_print.specs.ab_clauses.specs.Readings.{HoldsClause}
+use Rattle.ab_print.specs.ab_logic.specs.Growth.{Grows}
+use Rattle.ab_print.specs.ab_logic.specs.declared.world.World.{World}
 
 pub cells_stay : (v w : World) → Grows v w → (cs : List CellId) → All (HoldsCell v.store) cs → All (HoldsCell w.store) cs
 cells_stay v w grows = All-weaker (HoldsCell v.store) (HoldsCell w.store) grows.cell_ids

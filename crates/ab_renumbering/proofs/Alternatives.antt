@@ -12,9 +12,9 @@ use Rattle.ab_term.specs.Closing.{over, name_terms, given_names}
 use Rattle.ab_term.proofs.Lists.{All-from_contains}
 use Rattle.ab_term.proofs.Translations.{map-append, translate-expansion, translate-expansion_of, support-translate}
 use Rattle.ab_term.proofs.ImageTranslations.{translate-image}
-use Rattle.ab_solve.specs.Replacing.{Cell, made, holds}
-use Rattle.ab_solve.specs.Meaning.{keys}
-use Rattle.ab_solve.proofs.Agreeing.{contains_holds, holds_front}
+use Rattle.ab_cases.specs.ab_solve.specs.Replacing.{Cell, made, holds}
+use Rattle.ab_cases.specs.ab_solve.specs.Meaning.{keys}
+use Rattle.ab_cases.specs.ab_solve.proofs.Agreeing.{contains_holds, holds_front}
 use Rattle.ab_cases.specs.Clauses.{Clause, numbered, clause_variables, clause_names, put_together, name_term, filled, Within}
 use Rattle.ab_cases.specs.Choices.{in_order, outside}
 use Rattle.ab_cases.specs.Alternatives.{Scope, Alternative, cells_over, made_over, made_terms, arguments_equal, cells_of, atom_constants, unchosen, alternative_with, analysed, Side, on_left, on_right, alternative}

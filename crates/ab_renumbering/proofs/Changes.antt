@@ -12,8 +12,8 @@ use Rattle.ab_term.specs.Sameness.{same_number}
 use Rattle.ab_term.specs.Closing.{among, under}
 use Rattle.ab_term.proofs.Translations.{map-append}
 use Rattle.ab_term.proofs.ImageTranslations.{translate-image}
-use Rattle.ab_solve.specs.Patterns.{pattern, applied, kept, kept_type}
-use Rattle.ab_solve.specs.Replacing.{Cell, Change, without, holds, is_flexible, hint_of, made, next_variable, one, narrowed, pruned_names, pruned_here, pruned, pruned_all}
+use Rattle.ab_cases.specs.ab_solve.specs.Patterns.{pattern, applied, kept, kept_type}
+use Rattle.ab_cases.specs.ab_solve.specs.Replacing.{Cell, Change, without, holds, is_flexible, hint_of, made, next_variable, one, narrowed, pruned_names, pruned_here, pruned, pruned_all}
 use Rattle.ab_renumbering.specs.Renumbering.{renumbered_pairs, IsRenumbering}
 use Rattle.ab_renumbering.proofs.Tests.{holds_moved, without_moved, flexible_moved, under_moved, all_among_moved, each_among_moved}
 use Rattle.ab_renumbering.proofs.Names.{kept_map, pattern_moved, applied_moved, value_moved}

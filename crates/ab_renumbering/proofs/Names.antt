@@ -9,8 +9,8 @@ use Rattle.ab_term.specs.Sameness.{same_number, same_head, same_term}
 use Rattle.ab_term.specs.Closing.{is_name, among, name_terms, close_head, close, close_all, abstracted}
 use Rattle.ab_term.specs.Recognising.{lowered, inner_head, expands}
 use Rattle.ab_term.proofs.Translations.{translate-expansion}
-use Rattle.ab_solve.specs.Patterns.{name_if, new_name, tested_name, name_of, pattern, applied, value, kept}
-use Rattle.ab_solve.specs.Replacing.{holds, patterns_at, has_patterns, all_have_patterns}
+use Rattle.ab_cases.specs.ab_solve.specs.Patterns.{name_if, new_name, tested_name, name_of, pattern, applied, value, kept}
+use Rattle.ab_cases.specs.ab_solve.specs.Replacing.{holds, patterns_at, has_patterns, all_have_patterns}
 use Rattle.ab_renumbering.proofs.Tests.{head_moved, term_moved, holds_moved, among_moved, shift_moved, lower_moved, name_moved}
 
 pub kept_map : {X Y : Type 0} (g : X → Y) (bs : List Bool) (xs : List X) → kept bs (map g xs) ≡ map g (kept bs xs)

@@ -8,8 +8,8 @@ use Rattle.ab_term.specs.Translation.{translate, translate_all}
 use Rattle.ab_term.specs.Variables.{variables_of_head, variables, variables_of_all, put_for, put_at, image_by, image_all_by, Substitution, value_in}
 use Rattle.ab_term.specs.Sameness.{same_number, same_numbered}
 use Rattle.ab_term.proofs.Translations.{translate-reduce}
-use Rattle.ab_solve.specs.Replacing.{holds}
-use Rattle.ab_solve.specs.Meaning.{keys}
+use Rattle.ab_cases.specs.ab_solve.specs.Replacing.{holds}
+use Rattle.ab_cases.specs.ab_solve.specs.Meaning.{keys}
 
 module _ {X : Type 0} (P : X → Type 0) where
   front : (xs ys : List X) → All P (xs ++ ys) → All P xs

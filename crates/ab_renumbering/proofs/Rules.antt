@@ -7,9 +7,9 @@ use Rattle.ab_term.specs.Variables.{image, composition}
 use Rattle.ab_term.specs.Sameness.{same_number, same_numbered, same_head, same_term}
 use Rattle.ab_term.specs.Closing.{among}
 use Rattle.ab_term.proofs.Translations.{map-append}
-use Rattle.ab_solve.specs.Patterns.{pattern, applied, kept, kept_type}
-use Rattle.ab_solve.specs.Replacing.{Cell, Change, without, holds, is_flexible, has_patterns, occurs, no_foreign, made, next_variable, one, pruned}
-use Rattle.ab_solve.specs.Solving.{Equation, Result, clash, parts, replaced, or_else, paired, equal_sides, bodies, rigid_heads, is_older, agreeing, begun, unchanged, put_in, pattern_of, pattern_and_rigid, same_variable_at, one_variable, joined_at, two_at, two_variables, either_way, rule}
+use Rattle.ab_cases.specs.ab_solve.specs.Patterns.{pattern, applied, kept, kept_type}
+use Rattle.ab_cases.specs.ab_solve.specs.Replacing.{Cell, Change, without, holds, is_flexible, has_patterns, occurs, no_foreign, made, next_variable, one, pruned}
+use Rattle.ab_cases.specs.ab_solve.specs.Solving.{Equation, Result, clash, parts, replaced, or_else, paired, equal_sides, bodies, rigid_heads, is_older, agreeing, begun, unchanged, put_in, pattern_of, pattern_and_rigid, same_variable_at, one_variable, joined_at, two_at, two_variables, either_way, rule}
 use Rattle.ab_renumbering.specs.Renumbering.{renumbered_equation, renumbered_pairs, IsRenumbering}
 use Rattle.ab_renumbering.proofs.Tests.{numbered_moved, head_moved, term_moved, holds_moved, without_moved, flexible_moved, all_among_moved, each_among_moved, agreeing_moved, older_moved, occurs_moved, foreign_moved}
 use Rattle.ab_renumbering.proofs.Names.{kept_map, pattern_moved, applied_moved, patterns_moved}

@@ -6,9 +6,9 @@ use Rattle.ab_term.specs.Translation.{translate_variable, translate}
 use Rattle.ab_term.specs.Variables.{Substitution, image, composition}
 use Rattle.ab_term.specs.Sameness.{same_number}
 use Rattle.ab_term.proofs.Translations.{map-append}
-use Rattle.ab_solve.specs.Replacing.{Cell, Change}
-use Rattle.ab_solve.specs.Solving.{Equation, State, Answer, unified, apart, stuck, Result, clash, parts, replaced, rule, Found, found_at, first_found, Next, finished, goes_on, image_of, ending, carried, next_by, next, Solves, at_end, by_step}
-use Rattle.ab_solve.proofs.Unique.{unique}
+use Rattle.ab_cases.specs.ab_solve.specs.Replacing.{Cell, Change}
+use Rattle.ab_cases.specs.ab_solve.specs.Solving.{Equation, State, Answer, unified, apart, stuck, Result, clash, parts, replaced, rule, Found, found_at, first_found, Next, finished, goes_on, image_of, ending, carried, next_by, next, Solves, at_end, by_step}
+use Rattle.ab_cases.specs.ab_solve.proofs.Unique.{unique}
 use Rattle.ab_renumbering.specs.Renumbering.{renumbered_equation, renumbered_pairs, renumbered_state, renumbered_answer, IsRenumbering}
 use Rattle.ab_renumbering.proofs.Changes.{Grown, image_moved, composition_moved}
 use Rattle.ab_renumbering.proofs.Rules.{Gives, MayGive, rule_moved}

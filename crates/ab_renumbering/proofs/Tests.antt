@@ -9,8 +9,8 @@ use Rattle.ab_term.specs.Sameness.{same_number, same_numbered, same_head, same_t
 use Rattle.ab_term.specs.Closing.{is_name, among, under, may_stand}
 use Rattle.ab_term.specs.Variables.{variables}
 use Rattle.ab_term.proofs.Translations.{variables-translate}
-use Rattle.ab_solve.specs.Replacing.{without, holds, is_flexible, occurs, no_foreign, no_foreign_all}
-use Rattle.ab_solve.specs.Solving.{is_older, agreeing}
+use Rattle.ab_cases.specs.ab_solve.specs.Replacing.{without, holds, is_flexible, occurs, no_foreign, no_foreign_all}
+use Rattle.ab_cases.specs.ab_solve.specs.Solving.{is_older, agreeing}
 
 module _ (f : ℕ → ℕ) (agree : (i j : ℕ) → same_number (f i) (f j) ≡ same_number i j) where
   abbrev V : Variable ℕ → Variable ℕ

@@ -3,8 +3,8 @@ use Rattle.std.specs.Prelude.{◌≡◌, ℕ, ◌+◌, List, ◌++◌, map, leng
 use Rattle.ab_term.specs.Terms.{Term}
 use Rattle.ab_term.specs.Translation.{translate_variable, translate}
 use Rattle.ab_term.specs.Variables.{Substitution}
-use Rattle.ab_solve.specs.Replacing.{Cell}
-use Rattle.ab_solve.specs.Solving.{Equation, State, Answer, unified, apart, stuck}
+use Rattle.ab_cases.specs.ab_solve.specs.Replacing.{Cell}
+use Rattle.ab_cases.specs.ab_solve.specs.Solving.{Equation, State, Answer, unified, apart, stuck}
 
 module _ {Hint : Type 0} where
   -- the term, its variables numbered so

@@ -1,8 +1,8 @@
 //! Laws of problems with other numbers.
 
 ghost use Rattle.std.specs.Prelude.{◌≡◌, ℕ, List};
-ghost use Rattle.ab_solve.specs.Replacing.{Cell};
-ghost use Rattle.ab_solve.specs.Solving.{State, Answer, Solves};
+ghost use Rattle.ab_cases.specs.ab_solve.specs.Replacing.{Cell};
+ghost use Rattle.ab_cases.specs.ab_solve.specs.Solving.{State, Answer, Solves};
 ghost use Rattle.ab_renumbering.specs.Renumbering.{renumbered_state, renumbered_answer, IsRenumbering};
 
 /// UNIFICATION DOESN'T DEPEND ON NUMBERS: with other numbers a problem has the same answer, with these numbers. So two

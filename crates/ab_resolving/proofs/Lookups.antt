@@ -6,12 +6,12 @@ use Rattle.std.specs.Char.{is_ascii_digit}
 use Rattle.std.specs.Cmp.Lexicographic.{bytes_decides}
 use Rattle.ab_term.specs.Types.{Ty}
 use Rattle.ab_term.specs.Terms.{Nominal, nominal, variable}
-use Rattle.ab_types.specs.Entries.{Table, Constant, names, type_in}
-use Rattle.ab_types.specs.Ids.{type_of, HoldsType}
-use Rattle.ab_store.specs.Trees.{Contents, head_reading}
-use Rattle.ab_readings.specs.Names.{Name, Resolved, bound, known, free}
-use Rattle.ab_readings.specs.Scopes.{index_of, Entry}
-use Rattle.ab_readings.specs.Scopes as scopes
+use Rattle.ab_norm.specs.ab_types.specs.Entries.{Table, Constant, names, type_in}
+use Rattle.ab_norm.specs.ab_types.specs.Ids.{type_of, HoldsType}
+use Rattle.ab_norm.specs.ab_store.specs.Trees.{Contents, head_reading}
+use Rattle.ab_infer.specs.ab_readings.specs.Names.{Name, Resolved, bound, known, free}
+use Rattle.ab_infer.specs.ab_readings.specs.Scopes.{index_of, Entry}
+use Rattle.ab_infer.specs.ab_readings.specs.Scopes as scopes
 use Rattle.ab_infer.specs.Sketches.{variable_at}
 use Rattle.ab_resolving.specs.declared.scope.Bound.{Bound}
 use Rattle.ab_resolving.specs.declared.scope.Place.{Place}

@@ -2,14 +2,14 @@
 use Rattle.std.specs.Prelude.{◌≡◌, ℕ, List, length, Option, Some, None, option_map}
 use Rattle.ab_term.specs.Types.{Ty}
 use Rattle.ab_term.specs.Typing.{head_type}
-use Rattle.ab_types.specs.Entries.{Table, signature}
-use Rattle.ab_types.specs.Ids.{HoldsType, type_of}
-use Rattle.ab_types.specs.declared.ids.TypeId.{TypeId}
-use Rattle.ab_store.specs.Trees.{Contents, head_reading}
-use Rattle.ab_store.specs.Naming.{HoldsHead, HeadIsTyped}
-use Rattle.ab_store.specs.declared.node.Head.{Head}
-use Rattle.ab_readings.specs.Names.{Name, Resolved, bound, known, free}
-use Rattle.ab_readings.specs.Scopes.{index_of}
+use Rattle.ab_norm.specs.ab_types.specs.Entries.{Table, signature}
+use Rattle.ab_norm.specs.ab_types.specs.Ids.{HoldsType, type_of}
+use Rattle.ab_norm.specs.ab_types.specs.declared.ids.TypeId.{TypeId}
+use Rattle.ab_norm.specs.ab_store.specs.Trees.{Contents, head_reading}
+use Rattle.ab_norm.specs.ab_store.specs.Naming.{HoldsHead, HeadIsTyped}
+use Rattle.ab_norm.specs.ab_store.specs.declared.node.Head.{Head}
+use Rattle.ab_infer.specs.ab_readings.specs.Names.{Name, Resolved, bound, known, free}
+use Rattle.ab_infer.specs.ab_readings.specs.Scopes.{index_of}
 use Rattle.ab_infer.specs.Sketches.{variable_at}
 use Rattle.ab_resolving.specs.declared.naming.Named.{Named}
 use Rattle.ab_resolving.specs.declared.naming.Named.TheVariants as named

@@ -1,15 +1,15 @@
 -- The scopes that the program's stand for.
 use Rattle.std.specs.Prelude.{ℕ, List, [], ◌∷◌, ◌++◌, map, All}
-use Rattle.ab_types.specs.Entries.{Table, kinds, signature}
-use Rattle.ab_types.specs.Ids.{HoldsType, type_of}
-use Rattle.ab_store.specs.Trees.{Contents, HoldsCell, cell_of}
-use Rattle.ab_store.specs.declared.node.CellId.{CellId}
+use Rattle.ab_norm.specs.ab_types.specs.Entries.{Table, kinds, signature}
+use Rattle.ab_norm.specs.ab_types.specs.Ids.{HoldsType, type_of}
+use Rattle.ab_norm.specs.ab_store.specs.Trees.{Contents, HoldsCell, cell_of}
+use Rattle.ab_norm.specs.ab_store.specs.declared.node.CellId.{CellId}
 use Rattle.ab_norm.specs.declared.nominal.Nominal as declared
 use Rattle.ab_norm.specs.Nominals.{nominal_of, HoldsNominal}
 use Rattle.ab_term.specs.Terms.{Nominal}
-use Rattle.ab_readings.specs.Names.{Name}
-use Rattle.ab_readings.specs.Scopes as scopes
-use Rattle.ab_readings.specs.Scopes.{Entry}
+use Rattle.ab_infer.specs.ab_readings.specs.Names.{Name}
+use Rattle.ab_infer.specs.ab_readings.specs.Scopes as scopes
+use Rattle.ab_infer.specs.ab_readings.specs.Scopes.{Entry}
 use Rattle.ab_resolving.specs.declared.scope.Bound.{Bound}
 use Rattle.ab_resolving.specs.declared.scope.Place.{Place}
 use Rattle.ab_resolving.specs.declared.scope.Place.TheVariants.{Proof, Clause, Elsewhere}

@@ -1,6 +1,7 @@
 //! The names of an expression: what each stands for, in a scope and under bound names.
 #![tactic(auto)]
 
+pub mod below;
 mod naming;
 mod scope;
 

@@ -3,19 +3,19 @@ ghost use Rattle.std.specs.Prelude.{◌≡◌, ◌≤◌, ℕ, List, length, tru
 ghost use Rattle.std.specs.List.{list_all};
 ghost use Rattle.std.specs.Char.{is_ascii_digit};
 ghost use Rattle.std.specs.Str.Parse.{digits_value};
-ghost use Rattle.ab_types.specs.Entries.{Table, signature};
-ghost use Rattle.ab_types.specs.Ids.{HoldsType, type_of};
-ghost use Rattle.ab_store.specs.Trees.{Contents};
+ghost use Rattle.ab_norm.specs.ab_types.specs.Entries.{Table, signature};
+ghost use Rattle.ab_norm.specs.ab_types.specs.Ids.{HoldsType, type_of};
+ghost use Rattle.ab_norm.specs.ab_store.specs.Trees.{Contents};
 ghost use Rattle.ab_term.specs.Types as plain;
-ghost use Rattle.ab_readings.specs.Names.{Name as AName};
-ghost use Rattle.ab_readings.specs.Scopes as scopes;
+ghost use Rattle.ab_infer.specs.ab_readings.specs.Names.{Name as AName};
+ghost use Rattle.ab_infer.specs.ab_readings.specs.Scopes as scopes;
 ghost use Rattle.ab_resolving.specs.Scoping.{names_in, nodes_in, entries_in, nominals_in, place_of, scope_of, HoldsCells, HoldsNominals, HoldsScope};
 ghost use Rattle.ab_resolving.specs.Naming.{Finds, FindsBound};
 
 use crate::scope::{Bound, Place, Scope};
 use ab_norm::Nominal;
-use ab_store::{CellId, Head, Logical, Store};
-use ab_types::{Name, TypeId, TypeTable};
+use ab_norm::below::store::{CellId, Head, Logical, Store};
+use ab_norm::below::types::{Name, TypeId, TypeTable};
 
 /// What a name stands for.
 #[derive(Clone, Copy, Debug)]

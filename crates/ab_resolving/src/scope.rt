@@ -1,7 +1,7 @@
 //! Scopes: what names may stand for.
 use ab_norm::Nominal;
-use ab_store::CellId;
-use ab_types::Name;
+use ab_norm::below::store::CellId;
+use ab_norm::below::types::Name;
 
 /// Whose names may be free.
 #[derive(Clone, Copy, Debug, PartialEq, Eq)]

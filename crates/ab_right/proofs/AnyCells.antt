@@ -5,22 +5,22 @@ use Rattle.std.proofs.Common.{◌≡◌, ℕ, List, [], ◌∷◌, map, Some, co
 use Rattle.std.proofs.lemmas.List.Elements.{All-contains, All-weaker, Contains-append_left, Contains-append_right}
 use Rattle.ab_term.specs.Variables.{Substitution}
 use Rattle.ab_term.proofs.Lists.{Contains-here, All-from_contains}
-use Rattle.ab_solve.specs.Replacing.{Cell}
-use Rattle.ab_solve.specs.Solving.{unified, Solves}
-use Rattle.ab_solve.proofs.Unique.{unique}
-use Rattle.ab_cases.specs.Clauses.{IsClause}
-use Rattle.ab_logic.specs.Declarations.{Declarations, IsDefining, HaveDefinitions, signature_in}
-use Rattle.ab_logic.specs.Sequents.{Variable, Sequent, IsSequent, goal_names}
-use Rattle.ab_goals.specs.Goals.{variable_named}
-use Rattle.ab_equate.specs.Solved.{AreCells, made}
-use Rattle.ab_equate.specs.Cases.{problem_of, NeverArises}
-use Rattle.ab_analysis.specs.Atoms.{Defined, Choice, defined_atom, choices_of}
-use Rattle.ab_analysis.specs.Right.{unfolding_case}
+use Rattle.ab_alike.specs.ab_solve.specs.Replacing.{Cell}
+use Rattle.ab_alike.specs.ab_solve.specs.Solving.{unified, Solves}
+use Rattle.ab_alike.specs.ab_solve.proofs.Unique.{unique}
+use Rattle.ab_alike.specs.ab_cases.specs.Clauses.{IsClause}
+use Rattle.ab_alike.specs.ab_logic.specs.Declarations.{Declarations, IsDefining, HaveDefinitions, signature_in}
+use Rattle.ab_alike.specs.ab_logic.specs.Sequents.{Variable, Sequent, IsSequent, goal_names}
+use Rattle.ab_alike.specs.ab_goals.specs.Goals.{variable_named}
+use Rattle.ab_alike.specs.ab_equate.specs.Solved.{AreCells, made}
+use Rattle.ab_alike.specs.ab_equate.specs.Cases.{problem_of, NeverArises}
+use Rattle.ab_alike.specs.ab_analysis.specs.Atoms.{Defined, Choice, defined_atom, choices_of}
+use Rattle.ab_alike.specs.ab_analysis.specs.Right.{unfolding_case}
 use Rattle.ab_alike.specs.Alike.{IsSameAtom}
 use Rattle.ab_alike.proofs.Unfolding.{never_also, answered_also}
-use Rattle.ab_rules.proofs.Sequents.{goal_of}
-use Rattle.ab_rules.proofs.Sized.{atom_of, atom_over}
-use Rattle.ab_effects.specs.Unfolding.{IsFirst}
+use Rattle.ab_progress.specs.ab_rules.proofs.Sequents.{goal_of}
+use Rattle.ab_progress.specs.ab_rules.proofs.Sized.{atom_of, atom_over}
+use Rattle.ab_progress.specs.ab_effects.specs.Unfolding.{IsFirst}
 
 none_named : (xs : List Variable) → [] ≡ map variable_named xs → [] ≡ xs
 none_named [] e = refl

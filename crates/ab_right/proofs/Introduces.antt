@@ -4,23 +4,23 @@ use Rattle.ab_grammar.specs.CommandTrees.{intros}
 use Rattle.ab_term.specs.Types.{Ty}
 use Rattle.ab_term.specs.Terms.{Nominal}
 use Rattle.ab_term.specs.Substitution.{instance}
-use Rattle.ab_store.specs.Trees.{Read}
-use Rattle.ab_unifying.specs.Problem.{cells_read}
-use Rattle.ab_logic.specs.Declarations.{Declarations}
-use Rattle.ab_logic.specs.Forms.{for_all, nabla, implies, form_of, implies_in, as_implies, for_all_in, as_for_all, nabla_in, as_nabla}
-use Rattle.ab_logic.specs.Names.{Label, Names, NoName}
-use Rattle.ab_logic.specs.Sequents.{Sequent, proving, assuming, over}
-use Rattle.ab_logic.specs.Worlds.{IsWorld, declarations_of}
-use Rattle.ab_logic.specs.declared.world.World.{World}
-use Rattle.ab_rules.specs.Steps.{for_all_right, nabla_right, arrow_right}
-use Rattle.ab_rules.specs.Rules.{NamedRule, Fails, raised, applied, name_term}
-use Rattle.ab_rules.proofs.NewNumbers.{new_number}
-use Rattle.ab_kernel.specs.Layout.{Held, IsProof}
-use Rattle.ab_effects.specs.Effect.{effect, introducing, left_over, clashing_names}
-use Rattle.ab_effects.specs.Introducing.{Introduced, Unnamed, first_label, others, taken_off}
-use Rattle.ab_effects.specs.Opening.{Taken}
-use Rattle.ab_effects.specs.Refusals.{wrong_shape, names_spent}
-use Rattle.ab_effects.specs.Row.{Leads, Refuses}
+use Rattle.ab_alike.specs.ab_store.specs.Trees.{Read}
+use Rattle.ab_alike.specs.ab_unifying.specs.Problem.{cells_read}
+use Rattle.ab_alike.specs.ab_logic.specs.Declarations.{Declarations}
+use Rattle.ab_alike.specs.ab_logic.specs.Forms.{for_all, nabla, implies, form_of, implies_in, as_implies, for_all_in, as_for_all, nabla_in, as_nabla}
+use Rattle.ab_alike.specs.ab_logic.specs.Names.{Label, Names, NoName}
+use Rattle.ab_alike.specs.ab_logic.specs.Sequents.{Sequent, proving, assuming, over}
+use Rattle.ab_alike.specs.ab_logic.specs.Worlds.{IsWorld, declarations_of}
+use Rattle.ab_alike.specs.ab_logic.specs.declared.world.World.{World}
+use Rattle.ab_progress.specs.ab_rules.specs.Steps.{for_all_right, nabla_right, arrow_right}
+use Rattle.ab_progress.specs.ab_rules.specs.Rules.{NamedRule, Fails, raised, applied, name_term}
+use Rattle.ab_progress.specs.ab_rules.proofs.NewNumbers.{new_number}
+use Rattle.ab_progress.specs.ab_kernel.specs.Layout.{Held, IsProof}
+use Rattle.ab_progress.specs.ab_effects.specs.Effect.{effect, introducing, left_over, clashing_names}
+use Rattle.ab_progress.specs.ab_effects.specs.Introducing.{Introduced, Unnamed, first_label, others, taken_off}
+use Rattle.ab_progress.specs.ab_effects.specs.Opening.{Taken}
+use Rattle.ab_progress.specs.ab_effects.specs.Refusals.{wrong_shape, names_spent}
+use Rattle.ab_progress.specs.ab_effects.specs.Row.{Leads, Refuses}
 use Rattle.ab_progress.specs.Applied.{RefusedBy}
 use Rattle.ab_progress.specs.declared.fault.ProofCommandFault.{ProofCommandFault}
 use Rattle.ab_progress.specs.declared.fault.ProofCommandFault.TheVariants.{Unknown, Clash, TypeClash, Untyped, NoHypothesis, WrongShape, Mark, NoMatch, NotPattern, Unresolved, NamesSpent, Memory}

@@ -1,15 +1,15 @@
 -- The commands that are one step: the row of the command and the row of the rule are one.
 use Rattle.std.proofs.Common.{inl, inr, ℕ, List, true, false, refl}
 use Rattle.ab_grammar.specs.CommandTrees.{split, left, right}
-use Rattle.ab_solve.specs.Replacing.{Cell}
-use Rattle.ab_logic.specs.Declarations.{Declarations}
-use Rattle.ab_logic.specs.Names.{Label}
-use Rattle.ab_logic.specs.Sequents.{Sequent}
-use Rattle.ab_rules.specs.Steps as plain
-use Rattle.ab_rules.specs.Rules.{NamedRule, Fails}
-use Rattle.ab_effects.specs.Effect.{effect}
-use Rattle.ab_effects.specs.Refusals.{wrong_shape}
-use Rattle.ab_effects.specs.Row.{Leads, Refuses}
+use Rattle.ab_alike.specs.ab_solve.specs.Replacing.{Cell}
+use Rattle.ab_alike.specs.ab_logic.specs.Declarations.{Declarations}
+use Rattle.ab_alike.specs.ab_logic.specs.Names.{Label}
+use Rattle.ab_alike.specs.ab_logic.specs.Sequents.{Sequent}
+use Rattle.ab_progress.specs.ab_rules.specs.Steps as plain
+use Rattle.ab_progress.specs.ab_rules.specs.Rules.{NamedRule, Fails}
+use Rattle.ab_progress.specs.ab_effects.specs.Effect.{effect}
+use Rattle.ab_progress.specs.ab_effects.specs.Refusals.{wrong_shape}
+use Rattle.ab_progress.specs.ab_effects.specs.Row.{Leads, Refuses}
 
 pub split_leads : (D : Declarations) (l : Label) (s : Sequent) (ps : List Sequent) → NamedRule D plain.and_right s ps → Leads (effect D l split s) ps
 split_leads D l s ps rule = rule.2

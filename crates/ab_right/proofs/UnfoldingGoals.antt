@@ -4,34 +4,34 @@ use Rattle.std.specs.declared.alloc.AllocError.{AllocError as AFault}
 use Rattle.std.proofs.Common.{◌≡◌, ◌≢◌, ◌⊎◌, inl, inr, ℕ, ◌+◌, List, [], ◌∷◌, refl, sym, ◌∙◌, ap, subst}
 use Rattle.std.proofs.lemmas.List.Elements.{All-head}
 use Rattle.ab_grammar.specs.CommandTrees.{unfold_goal}
-use Rattle.ab_solve.specs.Replacing.{Cell}
-use Rattle.ab_unifying.specs.Problem.{cells_read}
-use Rattle.ab_logic.specs.Declarations.{Declarations}
-use Rattle.ab_logic.specs.Growth.{Grows}
-use Rattle.ab_logic.specs.Names.{Label, auto}
-use Rattle.ab_logic.specs.Readings.{sequent_of, HoldsSequent}
-use Rattle.ab_logic.specs.Sequents.{Sequent, IsSequent}
-use Rattle.ab_logic.specs.Worlds.{IsWorld, declarations_of}
-use Rattle.ab_logic.specs.declared.world.World.{World}
-use Rattle.ab_logic.specs.declared.sequent.Sequent.{Sequent as Kept}
-use Rattle.ab_marks.specs.Marking.{MayBeUnfolded}
-use Rattle.ab_equate.specs.Solved.{AreCells}
-use Rattle.ab_analysis.specs.Atoms.{Defined, defined_atom}
-use Rattle.ab_rules.specs.Steps.{definition_right}
-use Rattle.ab_rules.proofs.NewNumbers.{over_cells}
-use Rattle.ab_kernel.specs.Derivation.{History, open_goals}
-use Rattle.ab_kernel.specs.Layout.{Held, history_of, IsProof}
-use Rattle.ab_kernel.proofs.Later.{same_history, still_proof}
-use Rattle.ab_kernel.proofs.Rooted.{open_are_sequents}
-use Rattle.ab_effects.specs.Effect.{effect}
-use Rattle.ab_effects.specs.Row.{Leads}
+use Rattle.ab_alike.specs.ab_solve.specs.Replacing.{Cell}
+use Rattle.ab_alike.specs.ab_unifying.specs.Problem.{cells_read}
+use Rattle.ab_alike.specs.ab_logic.specs.Declarations.{Declarations}
+use Rattle.ab_alike.specs.ab_logic.specs.Growth.{Grows}
+use Rattle.ab_alike.specs.ab_logic.specs.Names.{Label, auto}
+use Rattle.ab_alike.specs.ab_logic.specs.Readings.{sequent_of, HoldsSequent}
+use Rattle.ab_alike.specs.ab_logic.specs.Sequents.{Sequent, IsSequent}
+use Rattle.ab_alike.specs.ab_logic.specs.Worlds.{IsWorld, declarations_of}
+use Rattle.ab_alike.specs.ab_logic.specs.declared.world.World.{World}
+use Rattle.ab_alike.specs.ab_logic.specs.declared.sequent.Sequent.{Sequent as Kept}
+use Rattle.ab_alike.specs.ab_marks.specs.Marking.{MayBeUnfolded}
+use Rattle.ab_alike.specs.ab_equate.specs.Solved.{AreCells}
+use Rattle.ab_alike.specs.ab_analysis.specs.Atoms.{Defined, defined_atom}
+use Rattle.ab_progress.specs.ab_rules.specs.Steps.{definition_right}
+use Rattle.ab_progress.specs.ab_rules.proofs.NewNumbers.{over_cells}
+use Rattle.ab_progress.specs.ab_kernel.specs.Derivation.{History, open_goals}
+use Rattle.ab_progress.specs.ab_kernel.specs.Layout.{Held, history_of, IsProof}
+use Rattle.ab_progress.specs.ab_kernel.proofs.Later.{same_history, still_proof}
+use Rattle.ab_progress.specs.ab_kernel.proofs.Rooted.{open_are_sequents}
+use Rattle.ab_progress.specs.ab_effects.specs.Effect.{effect}
+use Rattle.ab_progress.specs.ab_effects.specs.Row.{Leads}
 use Rattle.ab_progress.specs.Applied.{IsApplied, RefusedBy}
 use Rattle.ab_progress.specs.declared.fault.ProofCommandFault.{ProofCommandFault}
 use Rattle.ab_progress.specs.declared.fault.ProofCommandFault.TheVariants.{NoMatch, NotPattern, Unresolved, Memory}
 use Rattle.ab_progress.specs.Progress.{goals_of, Follows, TookInto, FailsBy, StuckAt}
 use Rattle.ab_progress.proofs.Following.{first_at, one_at_least, follows_same}
-use Rattle.ab_alternatives.specs.Finding.{Finds}
-use Rattle.ab_alternatives.specs.declared.finding.Found.TheVariants.{Closed, Open, Stuck, Nothing}
+use Rattle.ab_progress.specs.ab_alternatives.specs.Finding.{Finds}
+use Rattle.ab_progress.specs.ab_alternatives.specs.declared.finding.Found.TheVariants.{Closed, Open, Stuck, Nothing}
 use Rattle.ab_right.specs.Unfolding.{UnfoldsBy}
 use Rattle.ab_right.proofs.Unfolds.{nothing_refuses, stuck_refuses, open_refuses, closed_leads, closed_never_fails, closed_never_sticks}
 

@@ -3,28 +3,28 @@ use Rattle.std.specs.Prelude.{slice_get, Some, None}
 use Rattle.std.proofs.Common.{◌≡◌, inl, inr, ℕ, suc, ◌+◌, List, [], ◌∷◌, take, drop, codes, refl, sym, ◌∙◌, ap, subst, arith}
 use Rattle.ab_term.specs.Variables.{image}
 use Rattle.ab_term.specs.Sameness.{same_number}
-use Rattle.ab_solve.specs.Replacing.{Cell}
-use Rattle.ab_solve.specs.Solving.{Answer, unified, apart, stuck, Solves}
-use Rattle.ab_solve.proofs.Unique.{unique}
-use Rattle.ab_logic.specs.Declarations.{Declarations, HaveDefinitions}
-use Rattle.ab_logic.specs.Names.{Label}
-use Rattle.ab_logic.specs.Sequents.{Sequent, IsSequent, goal_names, proving}
-use Rattle.ab_marks.specs.Marking.{MayBeUnfolded}
-use Rattle.ab_equate.specs.Solved.{AreCells, made}
-use Rattle.ab_equate.specs.Cases.{problem_of}
-use Rattle.ab_analysis.specs.Atoms.{Defined, Choice, defined_atom, choices_of}
-use Rattle.ab_analysis.specs.Right.{unfolding_case, unfolded, closed_over}
+use Rattle.ab_alike.specs.ab_solve.specs.Replacing.{Cell}
+use Rattle.ab_alike.specs.ab_solve.specs.Solving.{Answer, unified, apart, stuck, Solves}
+use Rattle.ab_alike.specs.ab_solve.proofs.Unique.{unique}
+use Rattle.ab_alike.specs.ab_logic.specs.Declarations.{Declarations, HaveDefinitions}
+use Rattle.ab_alike.specs.ab_logic.specs.Names.{Label}
+use Rattle.ab_alike.specs.ab_logic.specs.Sequents.{Sequent, IsSequent, goal_names, proving}
+use Rattle.ab_alike.specs.ab_marks.specs.Marking.{MayBeUnfolded}
+use Rattle.ab_alike.specs.ab_equate.specs.Solved.{AreCells, made}
+use Rattle.ab_alike.specs.ab_equate.specs.Cases.{problem_of}
+use Rattle.ab_alike.specs.ab_analysis.specs.Atoms.{Defined, Choice, defined_atom, choices_of}
+use Rattle.ab_alike.specs.ab_analysis.specs.Right.{unfolding_case, unfolded, closed_over}
 use Rattle.ab_grammar.specs.CommandTrees.{unfold_goal}
-use Rattle.ab_rules.specs.Rules.{NamedRule, Fails, Stuck as Sticks}
-use Rattle.ab_rules.specs.Steps.{definition_right}
-use Rattle.ab_kernel.proofs.Splits.{at_place}
-use Rattle.ab_effects.specs.Effect.{effect}
-use Rattle.ab_effects.specs.Refusals.{Refusal, no_match, not_pattern, unresolved}
-use Rattle.ab_effects.specs.Row.{Leads, Refuses}
-use Rattle.ab_effects.specs.Unfolding.{IsFirst, IsNotUnfolded}
+use Rattle.ab_progress.specs.ab_rules.specs.Rules.{NamedRule, Fails, Stuck as Sticks}
+use Rattle.ab_progress.specs.ab_rules.specs.Steps.{definition_right}
+use Rattle.ab_progress.specs.ab_kernel.proofs.Splits.{at_place}
+use Rattle.ab_progress.specs.ab_effects.specs.Effect.{effect}
+use Rattle.ab_progress.specs.ab_effects.specs.Refusals.{Refusal, no_match, not_pattern, unresolved}
+use Rattle.ab_progress.specs.ab_effects.specs.Row.{Leads, Refuses}
+use Rattle.ab_progress.specs.ab_effects.specs.Unfolding.{IsFirst, IsNotUnfolded}
 use Rattle.ab_right.proofs.AnyCells.{first_also, none_left_also}
-use Rattle.ab_alternatives.specs.Finding.{IsFirstAt, Finds}
-use Rattle.ab_alternatives.specs.declared.finding.Found.TheVariants.{Closed, Open, Stuck, Nothing}
+use Rattle.ab_progress.specs.ab_alternatives.specs.Finding.{IsFirstAt, Finds}
+use Rattle.ab_progress.specs.ab_alternatives.specs.declared.finding.Found.TheVariants.{Closed, Open, Stuck, Nothing}
 
 module _ (D : Declarations) (l : Label) (cells : List (Cell (List ℕ))) (s : Sequent) (d : Defined) (are_cells : AreCells cells s) (is : defined_atom D s.conclusion ≡ Some d) (may : MayBeUnfolded d.sign) where
   is_first : (place : ℕ) (c : Choice) → IsFirstAt cells s d place c → IsFirst cells s d c

@@ -2,15 +2,15 @@
 ghost use Rattle.std.specs.Prelude.{◌≡◌, ◌+◌, ◌<◌, ◌^◌, ◌++◌, length, IfOk};
 ghost use Rattle.std.specs.Fmt.{decimal};
 ghost use Rattle.std.specs.Option.{option_map};
-ghost use Rattle.ab_logic.specs.Names.{auto};
-ghost use Rattle.ab_logic.specs.Readings.{sequent_of};
-ghost use Rattle.ab_naming.specs.Labels.{label_of};
-ghost use Rattle.ab_effects.specs.Effect.{IsNamedBy, clashing};
-ghost use Rattle.ab_effects.specs.Refusals.{clash};
+ghost use Rattle.ab_alike.specs.ab_logic.specs.Names.{auto};
+ghost use Rattle.ab_alike.specs.ab_logic.specs.Readings.{sequent_of};
+ghost use Rattle.ab_alike.specs.ab_naming.specs.Labels.{label_of};
+ghost use Rattle.ab_progress.specs.ab_effects.specs.Effect.{IsNamedBy, clashing};
+ghost use Rattle.ab_progress.specs.ab_effects.specs.Refusals.{clash};
 
-use ab_kernel::Label;
-use ab_logic::{Sequent, World};
-use ab_name::Name;
+use ab_alike::below::logic::{Sequent, World};
+use ab_alike::below::name::Name;
+use ab_progress::below::kernel::Label;
 use std::alloc::{AllocError, Global};
 
 /// The label's name, where a hypothesis of the goal has it already.

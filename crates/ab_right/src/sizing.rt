@@ -2,24 +2,24 @@
 ghost use Rattle.std.specs.Prelude.{◌≡◌, ◌≢◌, [], Err, IfOk, OnErr, Option};
 ghost use Rattle.std.specs.Option.{option_map};
 ghost use Rattle.ab_grammar.specs.CommandTrees as told;
-ghost use Rattle.ab_analysis.specs.Atoms.{Defined};
-ghost use Rattle.ab_logic.specs.Forms.{sign_of};
-ghost use Rattle.ab_logic.specs.Readings.{sequent_of};
-ghost use Rattle.ab_logic.specs.Worlds.{IsWorld};
-ghost use Rattle.ab_kernel.specs.Layout.{history_of, IsProof};
-ghost use Rattle.ab_naming.specs.Labels.{label_of};
+ghost use Rattle.ab_alike.specs.ab_analysis.specs.Atoms.{Defined};
+ghost use Rattle.ab_alike.specs.ab_logic.specs.Forms.{sign_of};
+ghost use Rattle.ab_alike.specs.ab_logic.specs.Readings.{sequent_of};
+ghost use Rattle.ab_alike.specs.ab_logic.specs.Worlds.{IsWorld};
+ghost use Rattle.ab_progress.specs.ab_kernel.specs.Layout.{history_of, IsProof};
+ghost use Rattle.ab_alike.specs.ab_naming.specs.Labels.{label_of};
 ghost use Rattle.ab_progress.specs.Progress.{goals_of, Follows};
 ghost use Rattle.ab_progress.specs.Applied.{IsApplied, IsRefused};
 ghost use Rattle.ab_progress.specs.declared.fault.ProofCommandFault.{ProofCommandFault};
 ghost use Rattle.ab_right.specs.Sizing.{MayGetSize, GetsNoSize};
 
 use crate::naming::{hypothesis_name, label_clash};
-use ab_kernel::{Label, Proof, Step};
-use ab_logic::{Sequent, Sign, World};
-use ab_name::Name;
+use ab_alike::below::logic::{Sequent, Sign, World};
+use ab_alike::below::name::Name;
+use ab_alike::below::types::Steps;
+use ab_progress::below::kernel::{Label, Proof, Step};
+use ab_progress::below::sizing::{coinductive_in, inductive_at};
 use ab_progress::{ProofCommandFault, first_goal, surely};
-use ab_sizing::{coinductive_in, inductive_at};
-use ab_types::Steps;
 use std::alloc::Global;
 
 /// Induction on the antecedent of this place, counted from 1: the first goal's conclusion gets a size there, and is a

@@ -11,26 +11,26 @@ use Rattle.ab_term.specs.Variables.{Substitution, variables, value_in, image}
 use Rattle.ab_term.specs.Sameness.{same_numbered, same_number}
 use Rattle.ab_term.proofs.Lists.{Contains-none, Contains-cases, Contains-map, Contains-from_map, All-from_contains}
 use Rattle.ab_term.proofs.Stands.{support-image, variables-image}
-use Rattle.ab_store.specs.Trees.{Read}
-use Rattle.ab_solve.specs.Replacing.{Cell, holds}
-use Rattle.ab_solve.specs.Solving.{Equation, unified, Solves}
-use Rattle.ab_solve.specs.Meaning.{AreTyped, AreKnown, IsOver, AreOver, IsCell, HoldsCells, AllHoldCells, keys, sides}
-use Rattle.ab_solve.proofs.Agreeing.{contains_holds}
-use Rattle.ab_solve.proofs.Problems.{answer_typed, answer_clean}
-use Rattle.ab_solve.proofs.Cells.{Grows, answer_cells, cell_kept}
-use Rattle.ab_cases.proofs.Choosing.{kept_contains}
-use Rattle.ab_cases.proofs.Covered.{found_of_all}
-use Rattle.ab_cases.proofs.Variables.{holds_contains}
-use Rattle.ab_logic.proofs.Images.{image_formula}
-use Rattle.ab_logic.specs.Declarations.{Declarations, signature_in}
-use Rattle.ab_logic.specs.Sequents.{Variable, HoldsOnly, in_terms}
-use Rattle.ab_equate.specs.Solved.{AreCells, stays, made, variables_from}
-use Rattle.ab_equate.specs.Cases.{Case, problem_of, variables_of, cell_for}
-use Rattle.ab_equate.proofs.Carried.{cells_in_front}
-use Rattle.ab_equate.proofs.Idempotent.{none_replaced, where_from}
-use Rattle.ab_equate.proofs.Renaming.{behind_cell, made_listed}
-use Rattle.ab_rules.proofs.Parts.{MayStand}
-use Rattle.ab_using.specs.Answers.{standing_in}
+use Rattle.ab_alike.specs.ab_store.specs.Trees.{Read}
+use Rattle.ab_alike.specs.ab_solve.specs.Replacing.{Cell, holds}
+use Rattle.ab_alike.specs.ab_solve.specs.Solving.{Equation, unified, Solves}
+use Rattle.ab_alike.specs.ab_solve.specs.Meaning.{AreTyped, AreKnown, IsOver, AreOver, IsCell, HoldsCells, AllHoldCells, keys, sides}
+use Rattle.ab_alike.specs.ab_solve.proofs.Agreeing.{contains_holds}
+use Rattle.ab_alike.specs.ab_solve.proofs.Problems.{answer_typed, answer_clean}
+use Rattle.ab_alike.specs.ab_solve.proofs.Cells.{Grows, answer_cells, cell_kept}
+use Rattle.ab_alike.specs.ab_cases.proofs.Choosing.{kept_contains}
+use Rattle.ab_alike.specs.ab_cases.proofs.Covered.{found_of_all}
+use Rattle.ab_alike.specs.ab_cases.proofs.Variables.{holds_contains}
+use Rattle.ab_alike.specs.ab_logic.proofs.Images.{image_formula}
+use Rattle.ab_alike.specs.ab_logic.specs.Declarations.{Declarations, signature_in}
+use Rattle.ab_alike.specs.ab_logic.specs.Sequents.{Variable, HoldsOnly, in_terms}
+use Rattle.ab_alike.specs.ab_equate.specs.Solved.{AreCells, stays, made, variables_from}
+use Rattle.ab_alike.specs.ab_equate.specs.Cases.{Case, problem_of, variables_of, cell_for}
+use Rattle.ab_alike.specs.ab_equate.proofs.Carried.{cells_in_front}
+use Rattle.ab_alike.specs.ab_equate.proofs.Idempotent.{none_replaced, where_from}
+use Rattle.ab_alike.specs.ab_equate.proofs.Renaming.{behind_cell, made_listed}
+use Rattle.ab_meanings.specs.ab_rules.proofs.Parts.{MayStand}
+use Rattle.ab_meanings.specs.ab_using.specs.Answers.{standing_in}
 
 abbrev Cells : Type 0
 Cells = List (Cell (List ℕ))

@@ -8,25 +8,25 @@ use Rattle.ab_term.specs.Names.{support}
 use Rattle.ab_term.specs.Variables.{variables}
 use Rattle.ab_term.proofs.Lists.{Contains-none, All-from_contains}
 use Rattle.ab_term.proofs.Translations.{map-append, support-translate}
-use Rattle.ab_store.specs.Trees.{Read}
+use Rattle.ab_alike.specs.ab_store.specs.Trees.{Read}
 use Rattle.ab_grammar.specs.CommandTrees.{Instance, Argument, apply}
 use Rattle.ab_grammar.specs.CommandTrees as command
-use Rattle.ab_cases.specs.Clauses.{Each}
-use Rattle.ab_logic.specs.Declarations.{Declarations, HaveSentences, signature_in}
-use Rattle.ab_logic.specs.Names.{Label, auto, given, Names}
-use Rattle.ab_logic.specs.Sequents.{Variable, Sequent, IsSequent, formula_of, goal_names, in_terms, proving}
-use Rattle.ab_rules.proofs.Parts.{MayStand}
-use Rattle.ab_rules.proofs.Sequents.{IsGoal, goal_of, found_may, names_more, proving_goal}
-use Rattle.ab_goals.specs.Goals.{Goal, Named, name_in, with_names, named}
-use Rattle.ab_using.specs.Pieces.{Piece, Given, pieces, antecedent_count, AllServe}
-use Rattle.ab_using.specs.Uses.{right_side, implied, Aim}
-use Rattle.ab_using.specs.Answers.{Using, IsUsedFor, awaited, result_in}
+use Rattle.ab_alike.specs.ab_cases.specs.Clauses.{Each}
+use Rattle.ab_alike.specs.ab_logic.specs.Declarations.{Declarations, HaveSentences, signature_in}
+use Rattle.ab_alike.specs.ab_logic.specs.Names.{Label, auto, given, Names}
+use Rattle.ab_alike.specs.ab_logic.specs.Sequents.{Variable, Sequent, IsSequent, formula_of, goal_names, in_terms, proving}
+use Rattle.ab_meanings.specs.ab_rules.proofs.Parts.{MayStand}
+use Rattle.ab_meanings.specs.ab_rules.proofs.Sequents.{IsGoal, goal_of, found_may, names_more, proving_goal}
+use Rattle.ab_alike.specs.ab_goals.specs.Goals.{Goal, Named, name_in, with_names, named}
+use Rattle.ab_meanings.specs.ab_using.specs.Pieces.{Piece, Given, pieces, antecedent_count, AllServe}
+use Rattle.ab_meanings.specs.ab_using.specs.Uses.{right_side, implied, Aim}
+use Rattle.ab_meanings.specs.ab_using.specs.Answers.{Using, IsUsedFor, awaited, result_in}
 use Rattle.ab_meanings.specs.Lists.{HasLists}
-use Rattle.ab_effects.specs.Effect.{effect, clashing, missing, giving, marked_so, left_to_show}
-use Rattle.ab_effects.specs.Opening.{Opened}
-use Rattle.ab_effects.specs.Refusals.{no_hypothesis, names_spent}
-use Rattle.ab_effects.specs.Row.{Row, leads, makes}
-use Rattle.ab_effects.specs.Using.{formula_named, names_in, formulas_in, itself, given_that, OpenedBeside, NamelessBeside, using}
+use Rattle.ab_meanings.specs.ab_effects.specs.Effect.{effect, clashing, missing, giving, marked_so, left_to_show}
+use Rattle.ab_meanings.specs.ab_effects.specs.Opening.{Opened}
+use Rattle.ab_meanings.specs.ab_effects.specs.Refusals.{no_hypothesis, names_spent}
+use Rattle.ab_meanings.specs.ab_effects.specs.Row.{Row, leads, makes}
+use Rattle.ab_meanings.specs.ab_effects.specs.Using.{formula_named, names_in, formulas_in, itself, given_that, OpenedBeside, NamelessBeside, using}
 use Rattle.ab_rows.specs.Using.{IsSameIfAny}
 use Rattle.ab_rows.proofs.Namings.{same_constants}
 use Rattle.ab_rows.proofs.Alike.{Alike, flipped}

@@ -7,28 +7,28 @@ use Rattle.ab_term.specs.Types.{Ty}
 use Rattle.ab_term.specs.Terms.{lam, spine, no_terms, term}
 use Rattle.ab_term.specs.Variables.{variables}
 use Rattle.ab_term.proofs.Lists.{Contains-none, All-from_contains}
-use Rattle.ab_store.specs.Trees.{Read}
+use Rattle.ab_alike.specs.ab_store.specs.Trees.{Read}
 use Rattle.ab_grammar.specs.CommandTrees.{Instance, backchain}
-use Rattle.ab_cases.specs.Clauses.{Each}
-use Rattle.ab_logic.specs.Declarations.{Declarations, HaveSentences, signature_in, theorem_in}
-use Rattle.ab_logic.specs.Marks.{MarksServeIn}
-use Rattle.ab_logic.specs.Names.{Label}
-use Rattle.ab_logic.specs.Sequents as numbered
-use Rattle.ab_logic.specs.Sequents.{Variable, Sequent, IsSequent, HoldsOnly, formula_of, formulas, goal_names, proving}
-use Rattle.ab_rules.proofs.Parts.{MayStand}
-use Rattle.ab_rules.proofs.Sequents.{goal_of, found_may}
-use Rattle.ab_goals.specs.Goals.{Named, with_names, named}
-use Rattle.ab_goals.proofs.Agreeing.{translate_agrees}
+use Rattle.ab_alike.specs.ab_cases.specs.Clauses.{Each}
+use Rattle.ab_alike.specs.ab_logic.specs.Declarations.{Declarations, HaveSentences, signature_in, theorem_in}
+use Rattle.ab_alike.specs.ab_logic.specs.Marks.{MarksServeIn}
+use Rattle.ab_alike.specs.ab_logic.specs.Names.{Label}
+use Rattle.ab_alike.specs.ab_logic.specs.Sequents as numbered
+use Rattle.ab_alike.specs.ab_logic.specs.Sequents.{Variable, Sequent, IsSequent, HoldsOnly, formula_of, formulas, goal_names, proving}
+use Rattle.ab_meanings.specs.ab_rules.proofs.Parts.{MayStand}
+use Rattle.ab_meanings.specs.ab_rules.proofs.Sequents.{goal_of, found_may}
+use Rattle.ab_alike.specs.ab_goals.specs.Goals.{Named, with_names, named}
+use Rattle.ab_alike.specs.ab_goals.proofs.Agreeing.{translate_agrees}
 use Rattle.ab_alike.specs.Alike.{IsSameTerm}
-use Rattle.ab_using.specs.Pieces.{Piece, Given, Part, variable_for, given_term, constant_for, antecedent, pieces, behind, antecedent_count, given_for, given_otherwise, part_for, parts}
-use Rattle.ab_using.specs.Pieces as piece
-use Rattle.ab_using.specs.Uses.{left_side, right_side, Aim}
-use Rattle.ab_using.specs.Answers.{Using, IsUsedFor, awaited}
+use Rattle.ab_meanings.specs.ab_using.specs.Pieces.{Piece, Given, Part, variable_for, given_term, constant_for, antecedent, pieces, behind, antecedent_count, given_for, given_otherwise, part_for, parts}
+use Rattle.ab_meanings.specs.ab_using.specs.Pieces as piece
+use Rattle.ab_meanings.specs.ab_using.specs.Uses.{left_side, right_side, Aim}
+use Rattle.ab_meanings.specs.ab_using.specs.Answers.{Using, IsUsedFor, awaited}
 use Rattle.ab_meanings.specs.Lists.{HasLists}
-use Rattle.ab_effects.specs.Effect.{effect, giving, marked_so, left_to_show, repeated}
-use Rattle.ab_effects.specs.Refusals.{Refusal, no_hypothesis, not_pattern, unresolved}
-use Rattle.ab_effects.specs.Row.{Row, leads}
-use Rattle.ab_effects.specs.Using.{formula_or, formula_named, using, IsNotUsed, apart, outside, left_open}
+use Rattle.ab_meanings.specs.ab_effects.specs.Effect.{effect, giving, marked_so, left_to_show, repeated}
+use Rattle.ab_meanings.specs.ab_effects.specs.Refusals.{Refusal, no_hypothesis, not_pattern, unresolved}
+use Rattle.ab_meanings.specs.ab_effects.specs.Row.{Row, leads}
+use Rattle.ab_meanings.specs.ab_effects.specs.Using.{formula_or, formula_named, using, IsNotUsed, apart, outside, left_open}
 use Rattle.ab_rows.specs.Using.{IsSamePart, IsSameIfAny, IsSameUse}
 use Rattle.ab_rows.proofs.Renumbered.{renumber, renumbered, itself}
 use Rattle.ab_rows.proofs.Retold.{KeepsNames, goal_named, formula_told}

@@ -6,9 +6,9 @@ use Rattle.ab_term.specs.Types.{Ty, same_type}
 use Rattle.ab_term.specs.Terms.{Nominal}
 use Rattle.ab_term.specs.Names.{HasOneTypeEach, same_nominal}
 use Rattle.ab_term.proofs.Lists.{Contains-none, Contains-here, Contains-there, Contains-cases, Contains-from_map}
-use Rattle.ab_cases.specs.Choices.{others, of_type, new_constant, choices}
-use Rattle.ab_cases.proofs.Choosing.{contains_kept, gathered_from}
-use Rattle.ab_cases.proofs.Matching.{new_is_new}
+use Rattle.ab_alike.specs.ab_cases.specs.Choices.{others, of_type, new_constant, choices}
+use Rattle.ab_alike.specs.ab_cases.proofs.Choosing.{contains_kept, gathered_from}
+use Rattle.ab_alike.specs.ab_cases.proofs.Matching.{new_is_new}
 
 pub fewer : (M N : List Nominal) → ((a : Nominal) → Contains M a → Contains N a) → HasOneTypeEach N → HasOneTypeEach M
 fewer M N within one a b c d e = one a b (within a c) (within b d) e

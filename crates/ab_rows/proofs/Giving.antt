@@ -13,20 +13,20 @@ use Rattle.ab_term.specs.Translation.{translate_variable}
 use Rattle.ab_term.specs.Variables.{variables}
 use Rattle.ab_term.proofs.Lists.{Contains-map, Contains-from_map}
 use Rattle.ab_term.proofs.Translations.{support-translate, variables-translate, translate_typed}
-use Rattle.ab_store.specs.Trees.{Read}
+use Rattle.ab_alike.specs.ab_store.specs.Trees.{Read}
 use Rattle.ab_grammar.specs.CommandTrees.{Instance}
-use Rattle.ab_cases.specs.Clauses.{Each}
-use Rattle.ab_logic.specs.Declarations.{Declarations, signature_in}
-use Rattle.ab_logic.specs.Sequents.{Variable, Hypothesis, Sequent, IsSequent, HoldsOnly, in_terms, goal_names, names_of, formulas}
-use Rattle.ab_goals.specs.Goals.{named}
-use Rattle.ab_using.specs.Pieces.{Piece, Given, type_named}
+use Rattle.ab_alike.specs.ab_cases.specs.Clauses.{Each}
+use Rattle.ab_alike.specs.ab_logic.specs.Declarations.{Declarations, signature_in}
+use Rattle.ab_alike.specs.ab_logic.specs.Sequents.{Variable, Hypothesis, Sequent, IsSequent, HoldsOnly, in_terms, goal_names, names_of, formulas}
+use Rattle.ab_alike.specs.ab_goals.specs.Goals.{named}
+use Rattle.ab_meanings.specs.ab_using.specs.Pieces.{Piece, Given, type_named}
 use Rattle.ab_meanings.specs.Lists.{HasLists}
 use Rattle.ab_meanings.proofs.Fitting.{fits}
-use Rattle.ab_effects.specs.Effect.{reading_each, giving}
-use Rattle.ab_effects.specs.Refusals.{Refusal, unknown, wrong_shape}
-use Rattle.ab_effects.specs.Row.{Row, unless}
-use Rattle.ab_effects.specs.Terms.{scope_of, MeansIn, MeansNothingIn, Means}
-use Rattle.ab_effects.specs.Using.{strange, unknown_unless, given_twice, scope_with}
+use Rattle.ab_meanings.specs.ab_effects.specs.Effect.{reading_each, giving}
+use Rattle.ab_meanings.specs.ab_effects.specs.Refusals.{Refusal, unknown, wrong_shape}
+use Rattle.ab_meanings.specs.ab_effects.specs.Row.{Row, unless}
+use Rattle.ab_meanings.specs.ab_effects.specs.Terms.{scope_of, MeansIn, MeansNothingIn, Means}
+use Rattle.ab_meanings.specs.ab_effects.specs.Using.{strange, unknown_unless, given_twice, scope_with}
 use Rattle.ab_rows.proofs.Namings.{same_constants}
 use Rattle.ab_rows.proofs.Renumbered.{Renumbering, renumber, renumber_variable, renumbered}
 use Rattle.ab_rows.proofs.Retold.{KeepsNames, goal_named}

@@ -7,28 +7,28 @@ use Rattle.ab_term.specs.Variables.{Substitution, variables, image}
 use Rattle.ab_term.specs.Sameness.{same_number}
 use Rattle.ab_term.proofs.Translations.{variables-translate}
 use Rattle.ab_term.proofs.ImageTranslations.{translate-image}
-use Rattle.ab_store.specs.Trees.{Read}
-use Rattle.ab_solve.specs.Replacing.{Cell, holds}
-use Rattle.ab_solve.specs.Solving.{Answer, unified, apart, stuck, Solves}
-use Rattle.ab_solve.proofs.Unique.{unique}
-use Rattle.ab_cases.specs.Clauses.{Each}
-use Rattle.ab_logic.specs.Declarations.{Declarations}
-use Rattle.ab_logic.specs.Sequents.{Variable, Sequent, in_terms}
-use Rattle.ab_goals.specs.Goals.{Goal, with_names, variable_named}
-use Rattle.ab_equate.specs.Solved.{AreCells, made}
-use Rattle.ab_equate.specs.Cases.{Case, problem_of, NeverArises, IsOpen}
-use Rattle.ab_renumbering.specs.Renumbering.{renumbered, renumbered_pairs, IsRenumbering}
-use Rattle.ab_renumbering.proofs.Changes.{agreeing}
-use Rattle.ab_renumbering.proofs.Tests.{holds_moved}
+use Rattle.ab_alike.specs.ab_store.specs.Trees.{Read}
+use Rattle.ab_alike.specs.ab_solve.specs.Replacing.{Cell, holds}
+use Rattle.ab_alike.specs.ab_solve.specs.Solving.{Answer, unified, apart, stuck, Solves}
+use Rattle.ab_alike.specs.ab_solve.proofs.Unique.{unique}
+use Rattle.ab_alike.specs.ab_cases.specs.Clauses.{Each}
+use Rattle.ab_alike.specs.ab_logic.specs.Declarations.{Declarations}
+use Rattle.ab_alike.specs.ab_logic.specs.Sequents.{Variable, Sequent, in_terms}
+use Rattle.ab_alike.specs.ab_goals.specs.Goals.{Goal, with_names, variable_named}
+use Rattle.ab_alike.specs.ab_equate.specs.Solved.{AreCells, made}
+use Rattle.ab_alike.specs.ab_equate.specs.Cases.{Case, problem_of, NeverArises, IsOpen}
+use Rattle.ab_alike.specs.ab_renumbering.specs.Renumbering.{renumbered, renumbered_pairs, IsRenumbering}
+use Rattle.ab_alike.specs.ab_renumbering.proofs.Changes.{agreeing}
+use Rattle.ab_alike.specs.ab_renumbering.proofs.Tests.{holds_moved}
 use Rattle.ab_alike.specs.Alike.{IsSameTerm}
 use Rattle.ab_alike.proofs.Namings.{HaveSameNames}
 use Rattle.ab_alike.proofs.Renumbered.{moved_variable, moved_goal, names_kept, with_names_moved}
 use Rattle.ab_alike.proofs.Thirds.{by_place, named_place}
 use Rattle.ab_alike.proofs.Outcomes.{third, first_numbering, second_numbering, term_placed, goal_placed, placed_goal}
 use Rattle.ab_alike.proofs.Arising.{Moves, never_moved, never_back, open_moved, open_back, solved_moved, solved_back, E, made_answered}
-use Rattle.ab_using.specs.Pieces.{Part, variable_for, given_term, constant_for, antecedent}
-use Rattle.ab_using.specs.Uses.{choices_for}
-use Rattle.ab_using.specs.Answers.{Using, case_by, standing_in, IsSolvedBy}
+use Rattle.ab_meanings.specs.ab_using.specs.Pieces.{Part, variable_for, given_term, constant_for, antecedent}
+use Rattle.ab_meanings.specs.ab_using.specs.Uses.{choices_for}
+use Rattle.ab_meanings.specs.ab_using.specs.Answers.{Using, case_by, standing_in, IsSolvedBy}
 use Rattle.ab_rows.specs.Using.{IsSamePart, IsSameIfAny, IsSameUse}
 use Rattle.ab_rows.proofs.Pieces.{part_moved}
 use Rattle.ab_rows.proofs.Uses.{aim_moved, choices_moved, use_case_moves}

@@ -5,20 +5,20 @@ use Rattle.std.proofs.lemmas.List.Elements.{All-nil, All-head}
 use Rattle.ab_term.specs.Types.{Ty}
 use Rattle.ab_term.specs.Terms.{Nominal}
 use Rattle.ab_term.specs.Substitution.{instance}
-use Rattle.ab_store.specs.Trees.{Read}
-use Rattle.ab_logic.specs.Declarations.{Declarations, signature_in}
-use Rattle.ab_logic.specs.Forms as form
-use Rattle.ab_logic.specs.Forms.{Form, form_of, implies_in, for_all_in, nabla_in}
-use Rattle.ab_logic.specs.Names.{Names, NoName, IsLeast}
-use Rattle.ab_logic.specs.Sequents.{Sequent, proving, assuming, goal_names}
-use Rattle.ab_rules.specs.Rules.{MayName, name_term}
-use Rattle.ab_rules.proofs.OneAnswer.{least_once}
-use Rattle.ab_rules.proofs.Parts.{MayStand, implies_may, for_all_scope, nabla_scope}
-use Rattle.ab_rules.proofs.Sequents.{proving_goal}
-use Rattle.ab_goals.specs.Goals.{Goal, name_in, with_names, named}
-use Rattle.ab_goals.specs.Goals as shown
-use Rattle.ab_effects.specs.Opening.{Taken}
-use Rattle.ab_effects.specs.Introducing.{IsKept, Introduced, Unnamed, first_label, others}
+use Rattle.ab_alike.specs.ab_store.specs.Trees.{Read}
+use Rattle.ab_alike.specs.ab_logic.specs.Declarations.{Declarations, signature_in}
+use Rattle.ab_alike.specs.ab_logic.specs.Forms as form
+use Rattle.ab_alike.specs.ab_logic.specs.Forms.{Form, form_of, implies_in, for_all_in, nabla_in}
+use Rattle.ab_alike.specs.ab_logic.specs.Names.{Names, NoName, IsLeast}
+use Rattle.ab_alike.specs.ab_logic.specs.Sequents.{Sequent, proving, assuming, goal_names}
+use Rattle.ab_meanings.specs.ab_rules.specs.Rules.{MayName, name_term}
+use Rattle.ab_meanings.specs.ab_rules.proofs.OneAnswer.{least_once}
+use Rattle.ab_meanings.specs.ab_rules.proofs.Parts.{MayStand, implies_may, for_all_scope, nabla_scope}
+use Rattle.ab_meanings.specs.ab_rules.proofs.Sequents.{proving_goal}
+use Rattle.ab_alike.specs.ab_goals.specs.Goals.{Goal, name_in, with_names, named}
+use Rattle.ab_alike.specs.ab_goals.specs.Goals as shown
+use Rattle.ab_meanings.specs.ab_effects.specs.Opening.{Taken}
+use Rattle.ab_meanings.specs.ab_effects.specs.Introducing.{IsKept, Introduced, Unnamed, first_label, others}
 use Rattle.ab_rows.proofs.Outlines.{also_for_all, also_nabla, also_implies, also_kept}
 use Rattle.ab_rows.proofs.Namings.{names_alike, nameless_also, named_also, made_alike}
 use Rattle.ab_rows.proofs.Alike.{IsFine, Alike, standing, M, closed_goal, taken_fine, assumed, with_constant, one_more, one_standing, fine_standing, same_instance, same_all_constants, assumed_alike}

@@ -5,18 +5,18 @@ use Rattle.std.proofs.lemmas.Bool.{cases_lt}
 use Rattle.ab_term.specs.Types.{Ty, prop}
 use Rattle.ab_term.specs.Terms.{Head, nominal}
 use Rattle.ab_term.specs.Beta.{atom, abstraction, application}
-use Rattle.ab_store.specs.Trees.{Read}
+use Rattle.ab_alike.specs.ab_store.specs.Trees.{Read}
 use Rattle.ab_grammar.specs.Tree.{Tree}
-use Rattle.ab_logic.specs.Declarations.{Declarations, signature_in}
-use Rattle.ab_logic.specs.Sequents.{Sequent, goal_names}
+use Rattle.ab_alike.specs.ab_logic.specs.Declarations.{Declarations, signature_in}
+use Rattle.ab_alike.specs.ab_logic.specs.Sequents.{Sequent, goal_names}
 use Rattle.std.specs.Prelude.{map}
-use Rattle.ab_readings.specs.Names.{Name, Resolved, places_of}
-use Rattle.ab_readings.specs.Scopes.{Scope, resolved, nominal_number}
-use Rattle.ab_readings.specs.Readings.{Raw, Reads, reads_bound, reads_known, reads_free, reads_apply, reads_abs, reads_equal, reads_bind}
-use Rattle.ab_readings.specs.Answers.{Reading, IsTheReading, IsFirstOpen}
-use Rattle.ab_readings.specs.Normal.{normal_form}
-use Rattle.ab_effects.specs.Refusals.{Refusal, unknown, type_clash, untyped, clash, no_hypothesis, wrong_shape, mark, no_match, not_pattern, unresolved, names_spent}
-use Rattle.ab_effects.specs.Terms.{made, constant_named, kinds_in, entry_of, scope_of, MeansIn, MeansNothingIn, Means, MeansNothing}
+use Rattle.ab_meanings.specs.ab_readings.specs.Names.{Name, Resolved, places_of}
+use Rattle.ab_meanings.specs.ab_readings.specs.Scopes.{Scope, resolved, nominal_number}
+use Rattle.ab_meanings.specs.ab_readings.specs.Readings.{Raw, Reads, reads_bound, reads_known, reads_free, reads_apply, reads_abs, reads_equal, reads_bind}
+use Rattle.ab_meanings.specs.ab_readings.specs.Answers.{Reading, IsTheReading, IsFirstOpen}
+use Rattle.ab_meanings.specs.ab_readings.specs.Normal.{normal_form}
+use Rattle.ab_meanings.specs.ab_effects.specs.Refusals.{Refusal, unknown, type_clash, untyped, clash, no_hypothesis, wrong_shape, mark, no_match, not_pattern, unresolved, names_spent}
+use Rattle.ab_meanings.specs.ab_effects.specs.Terms.{made, constant_named, kinds_in, entry_of, scope_of, MeansIn, MeansNothingIn, Means, MeansNothing}
 use Rattle.ab_meanings.proofs.Names.{FreeAreNominal, free_are_nominal}
 
 abbrev head_given : Head ℕ → Ty

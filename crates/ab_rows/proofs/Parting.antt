@@ -9,32 +9,32 @@ use Rattle.ab_term.specs.Variables.{Substitution, image}
 use Rattle.ab_term.specs.Sameness.{same_number}
 use Rattle.ab_term.proofs.Lists.{All-from_contains}
 use Rattle.ab_term.proofs.Translations.{map-append}
-use Rattle.ab_store.specs.Trees.{Read}
-use Rattle.ab_solve.specs.Replacing.{Cell}
-use Rattle.ab_cases.specs.Clauses.{Each}
-use Rattle.ab_cases.specs.Alternatives.{alternative, on_left}
-use Rattle.ab_logic.specs.Declarations.{Declarations, signature_in, block_in, HaveDefinitions}
-use Rattle.ab_logic.specs.Names.{IsNoVariable, IsNamedFor}
-use Rattle.ab_logic.specs.Sequents as numbered
-use Rattle.ab_logic.specs.Sequents.{Variable, Hypothesis, Sequent, IsSequent, IsUsed, goal_names, assuming, over}
-use Rattle.ab_equate.specs.Solved.{Naming, Named, made, renaming, under}
-use Rattle.ab_equate.specs.Cases.{Case, Arises, Split, done, never, arises, IsUnsplit, here, past_never, past_goal}
-use Rattle.ab_equate.proofs.Naming.{one_name}
-use Rattle.ab_equate.proofs.Splits.{split_more}
-use Rattle.ab_analysis.specs.Atoms.{Defined, Choice, choices_of}
-use Rattle.ab_analysis.specs.Left.{scope_of, raised_goal, case_of, cases_of}
-use Rattle.ab_marks.specs.Marking.{mark_below, marked_in}
-use Rattle.ab_rules.proofs.Longer.{named_new}
-use Rattle.ab_rules.proofs.Sequents.{IsGoal}
-use Rattle.ab_rules.proofs.Sized.{IsAtomOver}
-use Rattle.ab_rules.proofs.Analysed.{analysed_sequents}
-use Rattle.ab_goals.specs.Goals.{named}
+use Rattle.ab_alike.specs.ab_store.specs.Trees.{Read}
+use Rattle.ab_alike.specs.ab_solve.specs.Replacing.{Cell}
+use Rattle.ab_alike.specs.ab_cases.specs.Clauses.{Each}
+use Rattle.ab_alike.specs.ab_cases.specs.Alternatives.{alternative, on_left}
+use Rattle.ab_alike.specs.ab_logic.specs.Declarations.{Declarations, signature_in, block_in, HaveDefinitions}
+use Rattle.ab_alike.specs.ab_logic.specs.Names.{IsNoVariable, IsNamedFor}
+use Rattle.ab_alike.specs.ab_logic.specs.Sequents as numbered
+use Rattle.ab_alike.specs.ab_logic.specs.Sequents.{Variable, Hypothesis, Sequent, IsSequent, IsUsed, goal_names, assuming, over}
+use Rattle.ab_alike.specs.ab_equate.specs.Solved.{Naming, Named, made, renaming, under}
+use Rattle.ab_alike.specs.ab_equate.specs.Cases.{Case, Arises, Split, done, never, arises, IsUnsplit, here, past_never, past_goal}
+use Rattle.ab_alike.specs.ab_equate.proofs.Naming.{one_name}
+use Rattle.ab_alike.specs.ab_equate.proofs.Splits.{split_more}
+use Rattle.ab_alike.specs.ab_analysis.specs.Atoms.{Defined, Choice, choices_of}
+use Rattle.ab_alike.specs.ab_analysis.specs.Left.{scope_of, raised_goal, case_of, cases_of}
+use Rattle.ab_alike.specs.ab_marks.specs.Marking.{mark_below, marked_in}
+use Rattle.ab_meanings.specs.ab_rules.proofs.Longer.{named_new}
+use Rattle.ab_meanings.specs.ab_rules.proofs.Sequents.{IsGoal}
+use Rattle.ab_meanings.specs.ab_rules.proofs.Sized.{IsAtomOver}
+use Rattle.ab_meanings.specs.ab_rules.proofs.Analysed.{analysed_sequents}
+use Rattle.ab_alike.specs.ab_goals.specs.Goals.{named}
 use Rattle.ab_alike.specs.Alike.{IsSameAtom, IsSameRest}
 use Rattle.ab_alike.proofs.Namings.{HaveSameNames, IsByNames, named_for}
 use Rattle.ab_alike.proofs.Carrying.{names_more}
 use Rattle.ab_alike.proofs.Splitting.{one_split, split_or_not, one_place}
-use Rattle.ab_effects.specs.Refusals.{Refusal, not_pattern}
-use Rattle.ab_effects.specs.Analysing.{IsParted, IsUnparted}
+use Rattle.ab_meanings.specs.ab_effects.specs.Refusals.{Refusal, not_pattern}
+use Rattle.ab_meanings.specs.ab_effects.specs.Analysing.{IsParted, IsUnparted}
 use Rattle.ab_rows.proofs.Bodies.{HaveAlikeBodies, have_alike_bodies}
 
 abbrev Cells : Type 0

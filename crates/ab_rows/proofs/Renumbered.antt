@@ -8,12 +8,12 @@ use Rattle.ab_term.specs.Terms.{Head, constant, logical, nominal, variable, inde
 use Rattle.ab_term.specs.Translation.{translate_head, translate, translate_all}
 use Rattle.ab_term.specs.Variables.{variables}
 use Rattle.ab_term.proofs.Lists.{Contains-none, Contains-here, Contains-there, Contains-cases, Contains-map, Contains-from_map, AllPairs-parts}
-use Rattle.ab_store.specs.Trees.{Read}
-use Rattle.ab_logic.specs.Declarations.{Declarations}
-use Rattle.ab_logic.specs.Sequents.{Variable, Hypothesis, Sequent, IsSequent, HoldsOnly, in_terms, formulas}
-use Rattle.ab_goals.specs.Goals as shown
-use Rattle.ab_goals.specs.Goals.{Named, Goal, name_in, with_names, variable_named, hypothesis_named, named}
-use Rattle.ab_goals.proofs.Agreeing.{translate_agrees}
+use Rattle.ab_alike.specs.ab_store.specs.Trees.{Read}
+use Rattle.ab_alike.specs.ab_logic.specs.Declarations.{Declarations}
+use Rattle.ab_alike.specs.ab_logic.specs.Sequents.{Variable, Hypothesis, Sequent, IsSequent, HoldsOnly, in_terms, formulas}
+use Rattle.ab_alike.specs.ab_goals.specs.Goals as shown
+use Rattle.ab_alike.specs.ab_goals.specs.Goals.{Named, Goal, name_in, with_names, variable_named, hypothesis_named, named}
+use Rattle.ab_alike.specs.ab_goals.proofs.Agreeing.{translate_agrees}
 
 abbrev pub renumber : (ℕ → ℕ) → Read → Read
 renumber f t = translate f (λ h. h) t

@@ -10,20 +10,20 @@ use Rattle.ab_term.specs.Expansion.{expansion_of}
 use Rattle.ab_term.specs.Translation.{translate_head, translate_all}
 use Rattle.ab_term.specs.Beta.{atom, abstraction, application}
 use Rattle.ab_term.proofs.Translations.{translate-instance, translate-expansion_of, translate_typed}
-use Rattle.ab_store.specs.Trees.{Read}
+use Rattle.ab_alike.specs.ab_store.specs.Trees.{Read}
 use Rattle.ab_grammar.specs.Tree.{Tree}
-use Rattle.ab_logic.specs.Formulas.{Place, a_formula, a_scope, a_marked, any, places_of, IsRigid, IsAtomic, StandsIn, AllStandIn, IsFormula}
-use Rattle.ab_readings.specs.Names.{Name, Resolved, free}
-use Rattle.ab_readings.specs.Scopes.{Scope, resolved, nominal_number, made_of}
-use Rattle.ab_readings.specs.Readings.{Raw, Reads, reads_bound, reads_known, reads_free, reads_apply, reads_abs, reads_equal, reads_bind}
-use Rattle.ab_readings.specs.Answers.{Reading, IsTheReading, Differ}
-use Rattle.ab_readings.specs.Normal.{left_type, given_all, long_form, normal_given, normal_form}
-use Rattle.ab_logic.specs.Declarations.{Declarations, signature_in}
-use Rattle.ab_logic.specs.Sequents.{Sequent, IsSequent, goal_names}
-use Rattle.ab_goals.specs.Goals.{named}
-use Rattle.ab_effects.specs.Refusals.{Refusal, unknown, type_clash, untyped, clash, no_hypothesis, wrong_shape, mark, no_match, not_pattern, unresolved, names_spent}
-use Rattle.ab_effects.specs.Terms.{made, kinds_in, entry_of, constant_named, scope_of, MeansIn, MeansNothingIn, Means, MeansNothing, Asserts, AssertsNothing}
-use Rattle.ab_effects.specs.Using.{scope_with}
+use Rattle.ab_alike.specs.ab_logic.specs.Formulas.{Place, a_formula, a_scope, a_marked, any, places_of, IsRigid, IsAtomic, StandsIn, AllStandIn, IsFormula}
+use Rattle.ab_meanings.specs.ab_readings.specs.Names.{Name, Resolved, free}
+use Rattle.ab_meanings.specs.ab_readings.specs.Scopes.{Scope, resolved, nominal_number, made_of}
+use Rattle.ab_meanings.specs.ab_readings.specs.Readings.{Raw, Reads, reads_bound, reads_known, reads_free, reads_apply, reads_abs, reads_equal, reads_bind}
+use Rattle.ab_meanings.specs.ab_readings.specs.Answers.{Reading, IsTheReading, Differ}
+use Rattle.ab_meanings.specs.ab_readings.specs.Normal.{left_type, given_all, long_form, normal_given, normal_form}
+use Rattle.ab_alike.specs.ab_logic.specs.Declarations.{Declarations, signature_in}
+use Rattle.ab_alike.specs.ab_logic.specs.Sequents.{Sequent, IsSequent, goal_names}
+use Rattle.ab_alike.specs.ab_goals.specs.Goals.{named}
+use Rattle.ab_meanings.specs.ab_effects.specs.Refusals.{Refusal, unknown, type_clash, untyped, clash, no_hypothesis, wrong_shape, mark, no_match, not_pattern, unresolved, names_spent}
+use Rattle.ab_meanings.specs.ab_effects.specs.Terms.{made, kinds_in, entry_of, constant_named, scope_of, MeansIn, MeansNothingIn, Means, MeansNothing, Asserts, AssertsNothing}
+use Rattle.ab_meanings.specs.ab_effects.specs.Using.{scope_with}
 use Rattle.ab_meanings.proofs.Names.{free_are_nominal}
 use Rattle.ab_rows.proofs.OneReading.{means_or_not_in, one_cause_in, means_or_not, one_cause}
 use Rattle.ab_rows.proofs.Renumbered.{Renumbering, renumber, renumbering}

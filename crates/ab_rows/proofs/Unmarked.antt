@@ -8,10 +8,10 @@ use Rattle.ab_term.specs.Logical.{Logical, logical_type, truth, falsity, conjunc
 use Rattle.ab_term.specs.Typing.{Signature, HasType, typed_lam, typed_spine, TakeType, take_none, take_term, head_type}
 use Rattle.ab_term.specs.Variables.{variables_of_head, variables, variables_of_all}
 use Rattle.ab_term.proofs.Lists.{All-from_contains}
-use Rattle.ab_store.specs.Trees.{Read}
-use Rattle.ab_logic.specs.Marks.{Sign, Making, by_head, by_scope, by_parts, by_mark, making_of, making_of_constant, unmarked, erased, erased_all}
-use Rattle.ab_logic.specs.Sequents as sequent
-use Rattle.ab_logic.specs.Sequents.{HoldsOnly, in_terms}
+use Rattle.ab_alike.specs.ab_store.specs.Trees.{Read}
+use Rattle.ab_alike.specs.ab_logic.specs.Marks.{Sign, Making, by_head, by_scope, by_parts, by_mark, making_of, making_of_constant, unmarked, erased, erased_all}
+use Rattle.ab_alike.specs.ab_logic.specs.Sequents as sequent
+use Rattle.ab_alike.specs.ab_logic.specs.Sequents.{HoldsOnly, in_terms}
 
 -- ITS TYPE
 

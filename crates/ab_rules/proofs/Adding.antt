@@ -1,12 +1,12 @@
 -- What a call that makes terms leaves of a world, one call after another.
 use Rattle.std.proofs.Common.{List, refl, ◌∙◌}
-use Rattle.ab_types.specs.Entries.{Table}
-use Rattle.ab_store.specs.Trees.{Contents}
-use Rattle.ab_norm.specs.Growth.{AddsTerms, AddsTypedTerms}
-use Rattle.ab_logic.specs.Worlds.{IsWorld}
-use Rattle.ab_logic.specs.declared.world.World.{World}
-use Rattle.ab_logic.specs.declared.additions.Added.{Added}
-use Rattle.ab_logic.proofs.Growing.{grows_not, grows_on, grows_store}
+use Rattle.ab_alternatives.specs.ab_types.specs.Entries.{Table}
+use Rattle.ab_alternatives.specs.ab_store.specs.Trees.{Contents}
+use Rattle.ab_alternatives.specs.ab_norm.specs.Growth.{AddsTerms, AddsTypedTerms}
+use Rattle.ab_alternatives.specs.ab_logic.specs.Worlds.{IsWorld}
+use Rattle.ab_alternatives.specs.ab_logic.specs.declared.world.World.{World}
+use Rattle.ab_alternatives.specs.ab_logic.specs.declared.additions.Added.{Added}
+use Rattle.ab_alternatives.specs.ab_logic.proofs.Growing.{grows_not, grows_on, grows_store}
 use Rattle.ab_rules.specs.Terms.{Adds}
 use Rattle.ab_rules.proofs.Declared.{declared_same}
 

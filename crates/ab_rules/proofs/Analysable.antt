@@ -5,15 +5,15 @@ use Rattle.std.proofs.lemmas.List.Elements.{All-cons, All-weaker}
 use Rattle.ab_term.specs.Types.{prop}
 use Rattle.ab_term.specs.Terms.{Nominal, constant, spine}
 use Rattle.ab_term.specs.Typing.{HasType}
-use Rattle.ab_store.specs.Trees.{Read}
-use Rattle.ab_solve.specs.Replacing.{Cell}
-use Rattle.ab_logic.specs.Declarations.{Declarations, HaveDefinitions, signature_in}
-use Rattle.ab_logic.specs.Formulas.{IsFormula}
-use Rattle.ab_logic.specs.Names.{Label, Names}
-use Rattle.ab_logic.specs.Sequents.{Sequent, IsSequent, formulas, formulas_of, formula_of, goal_names, without}
-use Rattle.ab_equate.specs.Solved.{AreCells}
-use Rattle.ab_analysis.specs.Atoms.{Defined, Choice, defined_atom, choices_of}
-use Rattle.ab_analysis.specs.Left.{case_of}
+use Rattle.ab_alternatives.specs.ab_store.specs.Trees.{Read}
+use Rattle.ab_alternatives.specs.ab_solve.specs.Replacing.{Cell}
+use Rattle.ab_alternatives.specs.ab_logic.specs.Declarations.{Declarations, HaveDefinitions, signature_in}
+use Rattle.ab_alternatives.specs.ab_logic.specs.Formulas.{IsFormula}
+use Rattle.ab_alternatives.specs.ab_logic.specs.Names.{Label, Names}
+use Rattle.ab_alternatives.specs.ab_logic.specs.Sequents.{Sequent, IsSequent, formulas, formulas_of, formula_of, goal_names, without}
+use Rattle.ab_alternatives.specs.ab_equate.specs.Solved.{AreCells}
+use Rattle.ab_alternatives.specs.ab_analysis.specs.Atoms.{Defined, Choice, defined_atom, choices_of}
+use Rattle.ab_alternatives.specs.ab_analysis.specs.Left.{case_of}
 use Rattle.ab_rules.proofs.Analysed.{well}
 use Rattle.ab_rules.proofs.Cased.{IsBehind}
 use Rattle.ab_rules.proofs.Parts.{MayStand}

@@ -6,21 +6,21 @@ use Rattle.std.proofs.lemmas.Slice.Eq.{bytes_eq-Decides}
 use Rattle.ab_term.specs.Terms.{Nominal, constant, spine}
 use Rattle.ab_term.specs.Names.{support_of_all}
 use Rattle.ab_term.proofs.Lists.{Contains-from_map, All-from_contains}
-use Rattle.ab_solve.specs.Replacing.{Cell}
-use Rattle.ab_cases.specs.Clauses.{Clause}
-use Rattle.ab_cases.specs.Choices.{in_order, choices}
-use Rattle.ab_cases.specs.Alternatives.{alternative, on_left}
-use Rattle.ab_cases.proofs.Choosing.{contains_kept, gathered_from}
-use Rattle.ab_logic.specs.Formulas.{HasOneTypeEach}
-use Rattle.ab_logic.specs.Declarations.{Declarations, signature_in, block_in, HaveDefinitions, IsDefining}
-use Rattle.ab_logic.specs.Sequents.{Variable, Sequent, HoldsOnly, IsUsed, IsSequent, in_terms, goal_names, assuming}
-use Rattle.ab_logic.specs.Names.{IsNoVariable}
-use Rattle.ab_equate.specs.Solved.{AreCells}
-use Rattle.ab_equate.specs.Cases.{CaseOver, Split}
-use Rattle.ab_equate.proofs.Carried.{cells_in_front}
-use Rattle.ab_marks.specs.Marking.{mark_below, marked_in}
-use Rattle.ab_analysis.specs.Atoms.{Defined, Choice, choices_of}
-use Rattle.ab_analysis.specs.Left.{raised_goal, case_of, cases_of}
+use Rattle.ab_alternatives.specs.ab_solve.specs.Replacing.{Cell}
+use Rattle.ab_alternatives.specs.ab_cases.specs.Clauses.{Clause}
+use Rattle.ab_alternatives.specs.ab_cases.specs.Choices.{in_order, choices}
+use Rattle.ab_alternatives.specs.ab_cases.specs.Alternatives.{alternative, on_left}
+use Rattle.ab_alternatives.specs.ab_cases.proofs.Choosing.{contains_kept, gathered_from}
+use Rattle.ab_alternatives.specs.ab_logic.specs.Formulas.{HasOneTypeEach}
+use Rattle.ab_alternatives.specs.ab_logic.specs.Declarations.{Declarations, signature_in, block_in, HaveDefinitions, IsDefining}
+use Rattle.ab_alternatives.specs.ab_logic.specs.Sequents.{Variable, Sequent, HoldsOnly, IsUsed, IsSequent, in_terms, goal_names, assuming}
+use Rattle.ab_alternatives.specs.ab_logic.specs.Names.{IsNoVariable}
+use Rattle.ab_alternatives.specs.ab_equate.specs.Solved.{AreCells}
+use Rattle.ab_alternatives.specs.ab_equate.specs.Cases.{CaseOver, Split}
+use Rattle.ab_alternatives.specs.ab_equate.proofs.Carried.{cells_in_front}
+use Rattle.ab_alternatives.specs.ab_marks.specs.Marking.{mark_below, marked_in}
+use Rattle.ab_alternatives.specs.ab_analysis.specs.Atoms.{Defined, Choice, choices_of}
+use Rattle.ab_alternatives.specs.ab_analysis.specs.Left.{raised_goal, case_of, cases_of}
 use Rattle.ab_rules.proofs.Cased.{IsBehind, case_is_behind, split_sequents}
 use Rattle.ab_rules.proofs.Raised.{AreThere}
 use Rattle.ab_rules.proofs.Sequents.{IsGoal}

@@ -14,29 +14,29 @@ use Rattle.ab_term.specs.Names.{support, support_of_all}
 use Rattle.ab_term.specs.Variables.{Substitution, image, image_all}
 use Rattle.ab_term.specs.Sameness.{same_number}
 use Rattle.ab_term.proofs.Lists.{All-from_contains, AllPairs-map}
-use Rattle.ab_store.specs.Trees.{Read}
-use Rattle.ab_solve.specs.Replacing.{Cell}
-use Rattle.ab_solve.specs.Solving.{Equation}
-use Rattle.ab_solve.specs.Meaning.{AreTyped}
-use Rattle.ab_cases.specs.Clauses.{Clause, Each, numbered, put_together, filled}
-use Rattle.ab_cases.specs.Choices.{in_order, outside, choices}
-use Rattle.ab_cases.specs.Alternatives.{Scope, Alternative, on_left, cells_over, cells_of, made_over, made_terms, arguments_equal, alternative_with, analysed, alternative}
-use Rattle.ab_cases.proofs.Answered.{is_problem}
-use Rattle.ab_cases.proofs.Choosing.{contains_ordered, outside_contains}
-use Rattle.ab_cases.proofs.Left.{own_typed}
-use Rattle.ab_cases.proofs.Lifting.{made_terms_typed}
-use Rattle.ab_cases.proofs.Matching.{choice_right}
-use Rattle.ab_cases.proofs.Rows.{together_typed}
-use Rattle.ab_logic.specs.Formulas.{IsFormula, HasOneTypeEach}
-use Rattle.ab_logic.specs.Declarations.{Declarations, signature_in, IsDefining}
-use Rattle.ab_logic.specs.Marks.{Sign}
-use Rattle.ab_logic.specs.Sequents.{Variable, Hypothesis, Sequent, formulas, formulas_of, goal_names, HoldsOnly, IsUsed, IsSequent, assuming, in_terms}
-use Rattle.ab_equate.specs.Solved.{AreCells, Naming, changed, variables_from}
-use Rattle.ab_equate.specs.Cases.{Case, CaseOver, IsCase, Split, done, never, arises}
-use Rattle.ab_equate.proofs.Carried.{arising_is_sequent}
-use Rattle.ab_logic.specs.Names.{IsNoVariable}
-use Rattle.ab_marks.specs.Marking.{marked_in}
-use Rattle.ab_analysis.specs.Left.{raised_variables, raised_goal}
+use Rattle.ab_alternatives.specs.ab_store.specs.Trees.{Read}
+use Rattle.ab_alternatives.specs.ab_solve.specs.Replacing.{Cell}
+use Rattle.ab_alternatives.specs.ab_solve.specs.Solving.{Equation}
+use Rattle.ab_alternatives.specs.ab_solve.specs.Meaning.{AreTyped}
+use Rattle.ab_alternatives.specs.ab_cases.specs.Clauses.{Clause, Each, numbered, put_together, filled}
+use Rattle.ab_alternatives.specs.ab_cases.specs.Choices.{in_order, outside, choices}
+use Rattle.ab_alternatives.specs.ab_cases.specs.Alternatives.{Scope, Alternative, on_left, cells_over, cells_of, made_over, made_terms, arguments_equal, alternative_with, analysed, alternative}
+use Rattle.ab_alternatives.specs.ab_cases.proofs.Answered.{is_problem}
+use Rattle.ab_alternatives.specs.ab_cases.proofs.Choosing.{contains_ordered, outside_contains}
+use Rattle.ab_alternatives.specs.ab_cases.proofs.Left.{own_typed}
+use Rattle.ab_alternatives.specs.ab_cases.proofs.Lifting.{made_terms_typed}
+use Rattle.ab_alternatives.specs.ab_cases.proofs.Matching.{choice_right}
+use Rattle.ab_alternatives.specs.ab_cases.proofs.Rows.{together_typed}
+use Rattle.ab_alternatives.specs.ab_logic.specs.Formulas.{IsFormula, HasOneTypeEach}
+use Rattle.ab_alternatives.specs.ab_logic.specs.Declarations.{Declarations, signature_in, IsDefining}
+use Rattle.ab_alternatives.specs.ab_logic.specs.Marks.{Sign}
+use Rattle.ab_alternatives.specs.ab_logic.specs.Sequents.{Variable, Hypothesis, Sequent, formulas, formulas_of, goal_names, HoldsOnly, IsUsed, IsSequent, assuming, in_terms}
+use Rattle.ab_alternatives.specs.ab_equate.specs.Solved.{AreCells, Naming, changed, variables_from}
+use Rattle.ab_alternatives.specs.ab_equate.specs.Cases.{Case, CaseOver, IsCase, Split, done, never, arises}
+use Rattle.ab_alternatives.specs.ab_equate.proofs.Carried.{arising_is_sequent}
+use Rattle.ab_alternatives.specs.ab_logic.specs.Names.{IsNoVariable}
+use Rattle.ab_alternatives.specs.ab_marks.specs.Marking.{marked_in}
+use Rattle.ab_alternatives.specs.ab_analysis.specs.Left.{raised_variables, raised_goal}
 use Rattle.ab_rules.proofs.Parts.{MayStand}
 use Rattle.ab_rules.proofs.Sequents.{IsGoal, all_formulas, names_within, unused}
 use Rattle.ab_rules.proofs.Marked.{marked_may}

@@ -9,20 +9,20 @@ use Rattle.ab_term.specs.Variables.{variables}
 use Rattle.ab_term.specs.Sameness.{same_numbered}
 use Rattle.ab_term.proofs.Lists.{All-from_contains, AllPairs-parts}
 use Rattle.ab_term.proofs.Same.{same_numbered-Decides}
-use Rattle.ab_store.specs.Trees.{Read}
-use Rattle.ab_solve.specs.Replacing.{Cell, holds}
-use Rattle.ab_solve.specs.Meaning.{AreDifferent}
-use Rattle.ab_solve.proofs.Agreeing.{contains_holds}
-use Rattle.ab_cases.proofs.Variables.{holds_contains}
-use Rattle.ab_cases.specs.Clauses.{IsClause}
-use Rattle.ab_cases.specs.Covering.{IsScope, IsOf}
-use Rattle.ab_logic.specs.Declarations.{Declarations, HaveDefinitions, signature_in, IsDefining}
-use Rattle.ab_logic.specs.Names.{Label, Names, IsNoVariable}
-use Rattle.ab_logic.specs.Sequents.{Variable, Sequent, IsSequent, formula_of, goal_names, in_terms, without}
-use Rattle.ab_equate.specs.Solved.{AreCells}
-use Rattle.ab_equate.proofs.Carried.{arising_is_sequent}
-use Rattle.ab_analysis.specs.Atoms.{Defined, Choice, defined_atom, choices_of}
-use Rattle.ab_analysis.specs.Left.{scope_of, case_of}
+use Rattle.ab_alternatives.specs.ab_store.specs.Trees.{Read}
+use Rattle.ab_alternatives.specs.ab_solve.specs.Replacing.{Cell, holds}
+use Rattle.ab_alternatives.specs.ab_solve.specs.Meaning.{AreDifferent}
+use Rattle.ab_alternatives.specs.ab_solve.proofs.Agreeing.{contains_holds}
+use Rattle.ab_alternatives.specs.ab_cases.proofs.Variables.{holds_contains}
+use Rattle.ab_alternatives.specs.ab_cases.specs.Clauses.{IsClause}
+use Rattle.ab_alternatives.specs.ab_cases.specs.Covering.{IsScope, IsOf}
+use Rattle.ab_alternatives.specs.ab_logic.specs.Declarations.{Declarations, HaveDefinitions, signature_in, IsDefining}
+use Rattle.ab_alternatives.specs.ab_logic.specs.Names.{Label, Names, IsNoVariable}
+use Rattle.ab_alternatives.specs.ab_logic.specs.Sequents.{Variable, Sequent, IsSequent, formula_of, goal_names, in_terms, without}
+use Rattle.ab_alternatives.specs.ab_equate.specs.Solved.{AreCells}
+use Rattle.ab_alternatives.specs.ab_equate.proofs.Carried.{arising_is_sequent}
+use Rattle.ab_alternatives.specs.ab_analysis.specs.Atoms.{Defined, Choice, defined_atom, choices_of}
+use Rattle.ab_alternatives.specs.ab_analysis.specs.Left.{scope_of, case_of}
 use Rattle.ab_alternatives.specs.Met.{AddsBehind}
 use Rattle.ab_rules.proofs.Analysable.{atom, cases_behind}
 use Rattle.ab_rules.proofs.Raised.{known_there}

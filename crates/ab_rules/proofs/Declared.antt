@@ -2,11 +2,11 @@
 use Rattle.std.specs.Prelude.{Result, Ok, Err, OnOk, OnErr}
 use Rattle.std.proofs.Common.{◌≡◌, inl, inr, [], ◌∷◌, ◌++◌, refl, sym, ◌∙◌, ap, append-nil}
 use Rattle.ab_term.specs.Types.{Ty}
-use Rattle.ab_types.specs.Entries.{Table, a_type, FindsOrAdds}
-use Rattle.ab_logic.specs.Growth.{Grows}
-use Rattle.ab_logic.specs.Worlds.{IsWorld, declared, declared_from, declarations_of}
-use Rattle.ab_logic.specs.declared.world.World.{World}
-use Rattle.ab_logic.proofs.Blocks.{declared_more}
+use Rattle.ab_alternatives.specs.ab_types.specs.Entries.{Table, a_type, FindsOrAdds}
+use Rattle.ab_alternatives.specs.ab_logic.specs.Growth.{Grows}
+use Rattle.ab_alternatives.specs.ab_logic.specs.Worlds.{IsWorld, declared, declared_from, declarations_of}
+use Rattle.ab_alternatives.specs.ab_logic.specs.declared.world.World.{World}
+use Rattle.ab_alternatives.specs.ab_logic.proofs.Blocks.{declared_more}
 
 module _ (w v : World) (is : IsWorld w) (grows : Grows w v) (additions : v.additions ≡ w.additions) where
   same_with : (more : Table) → v.types ≡ w.types ++ more → declared more ≡ [] → declarations_of v ≡ declarations_of w

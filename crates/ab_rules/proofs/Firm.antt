@@ -17,14 +17,14 @@ use Rattle.ab_term.proofs.Lists.{Contains-none, Contains-here, Contains-cases, C
 use Rattle.ab_term.proofs.Preservation.{here}
 use Rattle.ab_term.proofs.Closing.{close_typed}
 use Rattle.ab_term.proofs.ClosingImages.{support-close, variables-close}
-use Rattle.ab_store.specs.Trees.{Read}
-use Rattle.ab_solve.specs.Replacing.{Cell}
-use Rattle.ab_logic.specs.Formulas.{Place, a_formula, a_scope, a_marked, any, places_of, IsAtomic, StandsIn, AllStandIn}
-use Rattle.ab_logic.specs.Marks.{Sign, plain as no_mark, star_of, at_of, plus_of, hash_of}
-use Rattle.ab_logic.specs.Sequents.{Variable, in_terms}
-use Rattle.ab_marks.specs.Marking.{with_mark, is_one_of, marked_in, all_marked_in}
-use Rattle.ab_analysis.specs.Atoms.{Choice}
-use Rattle.ab_analysis.specs.Right.{exists_over, nabla_over, exists_all, nabla_all, closed_over}
+use Rattle.ab_alternatives.specs.ab_store.specs.Trees.{Read}
+use Rattle.ab_alternatives.specs.ab_solve.specs.Replacing.{Cell}
+use Rattle.ab_alternatives.specs.ab_logic.specs.Formulas.{Place, a_formula, a_scope, a_marked, any, places_of, IsAtomic, StandsIn, AllStandIn}
+use Rattle.ab_alternatives.specs.ab_logic.specs.Marks.{Sign, plain as no_mark, star_of, at_of, plus_of, hash_of}
+use Rattle.ab_alternatives.specs.ab_logic.specs.Sequents.{Variable, in_terms}
+use Rattle.ab_alternatives.specs.ab_marks.specs.Marking.{with_mark, is_one_of, marked_in, all_marked_in}
+use Rattle.ab_alternatives.specs.ab_analysis.specs.Atoms.{Choice}
+use Rattle.ab_alternatives.specs.ab_analysis.specs.Right.{exists_over, nabla_over, exists_all, nabla_all, closed_over}
 use Rattle.ab_rules.proofs.Parts.{MayStand}
 
 abbrev IsFixed : Head ℕ → Type 0

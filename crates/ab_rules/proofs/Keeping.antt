@@ -8,34 +8,34 @@ use Rattle.ab_term.specs.Names.{support}
 use Rattle.ab_term.specs.Variables.{variables}
 use Rattle.ab_term.specs.Substitution.{instance}
 use Rattle.ab_term.proofs.Lists.{Contains-none, All-from_contains}
-use Rattle.ab_store.specs.Trees.{Read}
-use Rattle.ab_logic.specs.Formulas.{IsFormula, HasOneTypeEach}
-use Rattle.ab_logic.specs.Declarations.{Declarations, signature_in, theorem_in, HaveSentences, HaveDefinitions, IsDefining}
-use Rattle.ab_logic.specs.Sequents.{Fits, Variable, Sequent, goal_names, IsSequent, formula_of, proving, assuming, without, over}
-use Rattle.ab_logic.specs.Forms.{as_equal, as_for_all, as_exists}
-use Rattle.ab_logic.specs.Names.{Label, Names, IsNoVariable}
-use Rattle.ab_solve.specs.Replacing.{Cell}
-use Rattle.ab_equate.specs.Solved.{AreCells}
-use Rattle.ab_equate.specs.Cases.{problem_of, Split}
-use Rattle.ab_analysis.specs.Atoms.{Defined, Choice, defined_atom, choices_of}
-use Rattle.ab_analysis.specs.Left.{cases_of}
-use Rattle.ab_analysis.specs.Right.{unfolding_case, unfolded}
+use Rattle.ab_alternatives.specs.ab_store.specs.Trees.{Read}
+use Rattle.ab_alternatives.specs.ab_logic.specs.Formulas.{IsFormula, HasOneTypeEach}
+use Rattle.ab_alternatives.specs.ab_logic.specs.Declarations.{Declarations, signature_in, theorem_in, HaveSentences, HaveDefinitions, IsDefining}
+use Rattle.ab_alternatives.specs.ab_logic.specs.Sequents.{Fits, Variable, Sequent, goal_names, IsSequent, formula_of, proving, assuming, without, over}
+use Rattle.ab_alternatives.specs.ab_logic.specs.Forms.{as_equal, as_for_all, as_exists}
+use Rattle.ab_alternatives.specs.ab_logic.specs.Names.{Label, Names, IsNoVariable}
+use Rattle.ab_alternatives.specs.ab_solve.specs.Replacing.{Cell}
+use Rattle.ab_alternatives.specs.ab_equate.specs.Solved.{AreCells}
+use Rattle.ab_alternatives.specs.ab_equate.specs.Cases.{problem_of, Split}
+use Rattle.ab_alternatives.specs.ab_analysis.specs.Atoms.{Defined, Choice, defined_atom, choices_of}
+use Rattle.ab_alternatives.specs.ab_analysis.specs.Left.{cases_of}
+use Rattle.ab_alternatives.specs.ab_analysis.specs.Right.{unfolding_case, unfolded}
 use Rattle.std.proofs.lemmas.Option.{get_or_from_slice_get, slice_get_within}
-use Rattle.ab_solve.specs.Solving.{unified, Solves}
+use Rattle.ab_alternatives.specs.ab_solve.specs.Solving.{unified, Solves}
 use Rattle.ab_term.specs.Variables.{Substitution}
 use Rattle.ab_rules.specs.Steps.{Step, initial, true_right, false_left, and_right, and_left, or_right, or_left, arrow_right, arrow_left, for_all_right, for_all_left, exists_right, exists_left, nabla_right, nabla_left, equal_right, equal_left, definition_right, definition_left, induction, coinduction, cut_formula, use_theorem, weaken, spec_cut, spec_instance, spec_monotone}
 use Rattle.ab_rules.specs.Row.{solves, Takes}
 use Rattle.ab_rules.specs.Rules.{row, Rule, any_name, IsSupport, MayName, name_term, raised, applied}
 use Rattle.ab_rules.proofs.Parts.{MayBePut, named_in, MayStand, IsScope, both_may, either_may, implies_may, for_all_scope, exists_scope, nabla_scope, instance_may, name_may, applied_may}
 use Rattle.ab_rules.proofs.NewNumbers.{new_number}
-use Rattle.ab_logic.specs.Marks.{Sign, star_of, at_of, plus_of, hash_of}
-use Rattle.ab_induction.specs.Levels.{next_level, inductive_level, coinductive_level}
-use Rattle.ab_induction.specs.Places.{marked_antecedent, marked_consequent}
+use Rattle.ab_alternatives.specs.ab_logic.specs.Marks.{Sign, star_of, at_of, plus_of, hash_of}
+use Rattle.ab_sizing.specs.ab_induction.specs.Levels.{next_level, inductive_level, coinductive_level}
+use Rattle.ab_sizing.specs.ab_induction.specs.Places.{marked_antecedent, marked_consequent}
 use Rattle.ab_rules.proofs.Analysed.{chosen_from, analysed_sequents}
 use Rattle.ab_rules.proofs.Unfolding.{chosen_one_type, unfolded_may}
 use Rattle.ab_rules.proofs.Sized.{atom_of, atom_over, antecedent_may, consequent_may}
-use Rattle.ab_equate.proofs.Sides.{equation_sides}
-use Rattle.ab_equate.proofs.Carried.{solved_is_sequent}
+use Rattle.ab_alternatives.specs.ab_equate.proofs.Sides.{equation_sides}
+use Rattle.ab_alternatives.specs.ab_equate.proofs.Carried.{solved_is_sequent}
 use Rattle.ab_rules.proofs.Sequents.{IsGoal, goal_of, sequent_from, found_may, proving_goal, assuming_goal, without_goal, IsLabelled, labelled_goal, scope_more, names_more, over_goal, without_sequent}
 
 module _ (D : Declarations) (sentences : HaveSentences D) (definitions : HaveDefinitions D) (s : Sequent) (is : IsSequent D s) where

@@ -2,14 +2,14 @@
 use Rattle.std.proofs.Common.{◌≡◌, ℕ, List, Option, Some, None, ◌∙◌, ap}
 use Rattle.std.specs.Option.{option_map}
 use Rattle.ab_term.specs.Terms.{constant, logical, nominal, variable, index, Terms, lam, spine}
-use Rattle.ab_store.specs.Trees.{Read}
-use Rattle.ab_logic.specs.Declarations.{Declarations, Extends, Block, block_in}
-use Rattle.ab_logic.specs.Forms as forms
-use Rattle.ab_logic.specs.Forms.{Form, form_of}
-use Rattle.ab_logic.specs.Marks.{Sign, plain}
-use Rattle.ab_logic.proofs.Declaring.{block_in-append, or_else}
-use Rattle.ab_analysis.specs.Atoms.{Defined, defined_as, defined_form, defined_atom}
-use Rattle.ab_induction.specs.Places.{atom_in, antecedent, matrix, consequent, defined_so, inductive_at, coinductive_in}
+use Rattle.ab_alternatives.specs.ab_store.specs.Trees.{Read}
+use Rattle.ab_alternatives.specs.ab_logic.specs.Declarations.{Declarations, Extends, Block, block_in}
+use Rattle.ab_alternatives.specs.ab_logic.specs.Forms as forms
+use Rattle.ab_alternatives.specs.ab_logic.specs.Forms.{Form, form_of}
+use Rattle.ab_alternatives.specs.ab_logic.specs.Marks.{Sign, plain}
+use Rattle.ab_alternatives.specs.ab_logic.proofs.Declaring.{block_in-append, or_else}
+use Rattle.ab_alternatives.specs.ab_analysis.specs.Atoms.{Defined, defined_as, defined_form, defined_atom}
+use Rattle.ab_sizing.specs.ab_induction.specs.Places.{atom_in, antecedent, matrix, consequent, defined_so, inductive_at, coinductive_in}
 use Rattle.std.proofs.Common.{Bool, true, false, refl}
 
 pub still_block : (D E : Declarations) → Extends D E → (p : List ℕ) (b : Block) → block_in D p ≡ Some b → block_in E p ≡ Some b

@@ -1,17 +1,17 @@
 -- What a rule says holds from a longer list of declarations too, and whatever a new variable is named.
 use Rattle.std.proofs.Common.{ℕ, List}
 use Rattle.ab_term.proofs.Unique.{more_typed}
-use Rattle.ab_logic.specs.Declarations.{Declarations, Extends, signature_in}
-use Rattle.ab_solve.specs.Replacing.{Cell}
-use Rattle.ab_logic.specs.Sequents.{Sequent, Fits, without}
-use Rattle.ab_equate.specs.Solved.{Naming}
+use Rattle.ab_alternatives.specs.ab_logic.specs.Declarations.{Declarations, Extends, signature_in}
+use Rattle.ab_alternatives.specs.ab_solve.specs.Replacing.{Cell}
+use Rattle.ab_alternatives.specs.ab_logic.specs.Sequents.{Sequent, Fits, without}
+use Rattle.ab_alternatives.specs.ab_equate.specs.Solved.{Naming}
 use Rattle.ab_term.specs.Types.{Ty, prop}
-use Rattle.ab_store.specs.Trees.{Read}
-use Rattle.ab_logic.specs.Names.{IsNoVariable, IsNamedFor}
+use Rattle.ab_alternatives.specs.ab_store.specs.Trees.{Read}
+use Rattle.ab_alternatives.specs.ab_logic.specs.Names.{IsNoVariable, IsNamedFor}
 use Rattle.std.proofs.Common.{inl, inr}
-use Rattle.ab_equate.proofs.One.{becomes_more}
-pub use Rattle.ab_equate.proofs.Naming.{named_new}
-use Rattle.ab_logic.proofs.Declaring.{more_constants, still_formula, still_theorem, extends_not}
+use Rattle.ab_alternatives.specs.ab_equate.proofs.One.{becomes_more}
+pub use Rattle.ab_alternatives.specs.ab_equate.proofs.Naming.{named_new}
+use Rattle.ab_alternatives.specs.ab_logic.proofs.Declaring.{more_constants, still_formula, still_theorem, extends_not}
 use Rattle.ab_rules.specs.Steps.{Step, initial, true_right, false_left, and_right, and_left, or_right, or_left, arrow_right, arrow_left, for_all_right, for_all_left, exists_right, exists_left, nabla_right, nabla_left, equal_right, equal_left, definition_right, definition_left, induction, coinduction, cut_formula, use_theorem, weaken, spec_cut, spec_instance, spec_monotone}
 use Rattle.ab_rules.specs.Row.{solves, Takes}
 use Rattle.ab_rules.specs.Rules.{row, Making, Rule, NamedRule}

@@ -4,19 +4,19 @@ use Rattle.std.proofs.Common.{◌≡◌, ℕ, ◌+◌, ◌<◌, ◌≤◌, List,
 use Rattle.std.proofs.lemmas.List.{map_more, map-append, at_drop_more, append-nil}
 use Rattle.std.proofs.lemmas.List.Elements.{All-push, All-weaker}
 use Rattle.ab_term.specs.Types.{Ty, arrow, arrows}
-use Rattle.ab_types.specs.Entries.{Table, IsExtendedBy as IsPartOf}
-use Rattle.ab_types.specs.Ids.{HoldsType, type_of}
-use Rattle.ab_types.specs.declared.ids.TypeId.{TypeId}
-use Rattle.ab_types.proofs.Entries.{same_type, holds_type}
-use Rattle.ab_store.specs.declared.node.TermId.{TermId}
-use Rattle.ab_norm.specs.declared.nominal.Nominal.{Nominal}
-use Rattle.ab_norm.specs.Nominals.{nominal_of, HoldsNominal}
-use Rattle.ab_logic.specs.Worlds.{Holds, read, declarations_of}
-use Rattle.ab_logic.specs.Growth.{Grows}
-use Rattle.ab_logic.specs.declared.world.World.{World}
+use Rattle.ab_alternatives.specs.ab_types.specs.Entries.{Table, IsExtendedBy as IsPartOf}
+use Rattle.ab_alternatives.specs.ab_types.specs.Ids.{HoldsType, type_of}
+use Rattle.ab_alternatives.specs.ab_types.specs.declared.ids.TypeId.{TypeId}
+use Rattle.ab_alternatives.specs.ab_types.proofs.Entries.{same_type, holds_type}
+use Rattle.ab_alternatives.specs.ab_store.specs.declared.node.TermId.{TermId}
+use Rattle.ab_alternatives.specs.ab_norm.specs.declared.nominal.Nominal.{Nominal}
+use Rattle.ab_alternatives.specs.ab_norm.specs.Nominals.{nominal_of, HoldsNominal}
+use Rattle.ab_alternatives.specs.ab_logic.specs.Worlds.{Holds, read, declarations_of}
+use Rattle.ab_alternatives.specs.ab_logic.specs.Growth.{Grows}
+use Rattle.ab_alternatives.specs.ab_logic.specs.declared.world.World.{World}
 use Rattle.ab_rules.specs.Rules.{name_term}
 use Rattle.ab_rules.specs.Terms.{Adds}
-use Rattle.ab_logic.proofs.Growing.{map_same, grows_on}
+use Rattle.ab_alternatives.specs.ab_logic.proofs.Growing.{map_same, grows_on}
 use Rattle.ab_rules.proofs.Adding.{adds_on}
 
 pub record Named (u w : World) (names : List Nominal) (i : ℕ) (ts : List TermId) : Type 0 where

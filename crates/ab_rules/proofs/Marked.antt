@@ -8,12 +8,12 @@ use Rattle.ab_term.specs.Terms.{Nominal, Head, constant, logical, nominal, varia
 use Rattle.ab_term.specs.Typing.{Signature, HasType, TakeType, typed_lam, typed_spine, take_none, take_term}
 use Rattle.ab_term.specs.Names.{support_of_head, support, support_of_all}
 use Rattle.ab_term.specs.Variables.{variables_of_head, variables, variables_of_all}
-use Rattle.ab_store.specs.Trees.{Read}
-use Rattle.ab_logic.specs.Formulas.{a_formula, a_scope, IsAtomic, StandsIn, AllStandIn}
-use Rattle.ab_logic.specs.Marks as signs
-use Rattle.ab_logic.specs.Marks.{Sign, star_of, at_of, plus_of, hash_of, Making, by_head, by_scope, by_parts, by_mark, making_of}
-use Rattle.ab_logic.specs.Sequents.{Variable, in_terms}
-use Rattle.ab_marks.specs.Marking.{with_mark, is_one_of, marked_by, marked_in, all_marked_in}
+use Rattle.ab_alternatives.specs.ab_store.specs.Trees.{Read}
+use Rattle.ab_alternatives.specs.ab_logic.specs.Formulas.{a_formula, a_scope, IsAtomic, StandsIn, AllStandIn}
+use Rattle.ab_alternatives.specs.ab_logic.specs.Marks as signs
+use Rattle.ab_alternatives.specs.ab_logic.specs.Marks.{Sign, star_of, at_of, plus_of, hash_of, Making, by_head, by_scope, by_parts, by_mark, making_of}
+use Rattle.ab_alternatives.specs.ab_logic.specs.Sequents.{Variable, in_terms}
+use Rattle.ab_alternatives.specs.ab_marks.specs.Marking.{with_mark, is_one_of, marked_by, marked_in, all_marked_in}
 use Rattle.ab_rules.proofs.Parts.{MayStand}
 
 -- one mark

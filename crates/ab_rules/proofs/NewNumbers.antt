@@ -3,16 +3,16 @@ use Rattle.std.specs.Prelude.{slice_get, option_map}
 use Rattle.std.proofs.Common.{◌≡◌, ◌≢◌, ℕ, List, Some, length, ◌∙◌, ap, arith}
 use Rattle.std.proofs.lemmas.List.Elements.{All-map, All-weaker}
 use Rattle.std.proofs.lemmas.Option.{slice_get_within, slice_get-map, slice_get-get_or}
-use Rattle.ab_solve.specs.Replacing.{Cell}
-use Rattle.ab_store.specs.Trees.{cell_of}
-use Rattle.ab_store.specs.declared.node.CellId.{CellId}
-use Rattle.ab_unifying.specs.Problem.{cell_read, cells_read}
-use Rattle.ab_logic.specs.Worlds.{HoldsCell, variable_of}
-use Rattle.ab_logic.specs.Readings.{sequent_of, HoldsSequent}
-use Rattle.ab_logic.specs.declared.world.World.{World}
-use Rattle.ab_logic.specs.declared.sequent.Sequent.{Sequent as Kept}
-use Rattle.ab_logic.specs.Sequents.{Variable, Sequent}
-use Rattle.ab_equate.specs.Solved.{AreCells}
+use Rattle.ab_alternatives.specs.ab_solve.specs.Replacing.{Cell}
+use Rattle.ab_alternatives.specs.ab_store.specs.Trees.{cell_of}
+use Rattle.ab_alternatives.specs.ab_store.specs.declared.node.CellId.{CellId}
+use Rattle.ab_alternatives.specs.ab_unifying.specs.Problem.{cell_read, cells_read}
+use Rattle.ab_alternatives.specs.ab_logic.specs.Worlds.{HoldsCell, variable_of}
+use Rattle.ab_alternatives.specs.ab_logic.specs.Readings.{sequent_of, HoldsSequent}
+use Rattle.ab_alternatives.specs.ab_logic.specs.declared.world.World.{World}
+use Rattle.ab_alternatives.specs.ab_logic.specs.declared.sequent.Sequent.{Sequent as Kept}
+use Rattle.ab_alternatives.specs.ab_logic.specs.Sequents.{Variable, Sequent}
+use Rattle.ab_alternatives.specs.ab_equate.specs.Solved.{AreCells}
 use Rattle.ab_rules.specs.Rules.{IsNew}
 
 -- the number behind all variables that were ever made is no variable's

@@ -1,16 +1,16 @@
 -- A row has one answer: its premises, or the first condition that fails, or the equation that is outside the patterns.
 use Rattle.std.proofs.Common.{◌≡◌, ◌⊎◌, inl, inr, ℕ, ◌<◌, List, Some, None, sym, ◌∙◌, ap, subst, arith}
 use Rattle.std.proofs.lemmas.Bool.{cases_lt}
-use Rattle.ab_logic.specs.Sequents.{Sequent, counted}
+use Rattle.ab_alternatives.specs.ab_logic.specs.Sequents.{Sequent, counted}
 use Rattle.ab_rules.specs.Steps.{Step, initial, true_right, false_left, and_right, and_left, or_right, or_left, arrow_right, arrow_left, for_all_right, for_all_left, exists_right, exists_left, nabla_right, nabla_left, equal_right, equal_left, definition_right, definition_left, induction, coinduction, cut_formula, use_theorem, weaken, spec_cut, spec_instance, spec_monotone}
-use Rattle.ab_logic.specs.Names.{Label, auto, given, IsLeast, IsFree, automatic, Names, NoName}
-use Rattle.ab_logic.specs.Declarations.{Declarations}
+use Rattle.ab_alternatives.specs.ab_logic.specs.Names.{Label, auto, given, IsLeast, IsFree, automatic, Names, NoName}
+use Rattle.ab_alternatives.specs.ab_logic.specs.Declarations.{Declarations}
 use Rattle.ab_rules.specs.Row.{Row, leads, leads_by, finds, asks, labelled, solves, splits, unifies, Takes, FailsFirst, Sticks}
-use Rattle.ab_solve.specs.Replacing.{Cell}
-use Rattle.ab_solve.specs.Solving.{unified, apart, stuck}
-use Rattle.ab_equate.specs.Solved.{Naming}
-use Rattle.ab_equate.proofs.One.{GivesOne, not_stuck, apart_not_stuck}
-use Rattle.ab_equate.proofs.Naming.{one_name}
+use Rattle.ab_alternatives.specs.ab_solve.specs.Replacing.{Cell}
+use Rattle.ab_alternatives.specs.ab_solve.specs.Solving.{unified, apart, stuck}
+use Rattle.ab_alternatives.specs.ab_equate.specs.Solved.{Naming}
+use Rattle.ab_alternatives.specs.ab_equate.proofs.One.{GivesOne, not_stuck, apart_not_stuck}
+use Rattle.ab_alternatives.specs.ab_equate.proofs.Naming.{one_name}
 use Rattle.ab_rules.specs.Rules.{row, by_hint}
 use Rattle.ab_rules.proofs.Splitting.{one_answer, never_open, one_open, split_or_not, unsplit_once}
 

@@ -7,19 +7,19 @@ use Rattle.ab_term.specs.Names.{support}
 use Rattle.ab_term.specs.Substitution.{instance}
 use Rattle.ab_term.proofs.Lists.{Contains-here, Contains-there}
 use Rattle.ab_term.proofs.Ordering.{order_unique}
-use Rattle.ab_store.specs.Trees.{Read}
-use Rattle.ab_logic.specs.Formulas.{HasOneTypeEach}
-use Rattle.ab_logic.specs.Declarations.{Declarations}
-use Rattle.ab_logic.specs.Sequents.{Sequent, formulas, formulas_of, IsSequent, formula_of, proving, assuming, without, over}
-use Rattle.ab_logic.specs.Names.{Names, IsLeast, IsNamedFor}
+use Rattle.ab_alternatives.specs.ab_store.specs.Trees.{Read}
+use Rattle.ab_alternatives.specs.ab_logic.specs.Formulas.{HasOneTypeEach}
+use Rattle.ab_alternatives.specs.ab_logic.specs.Declarations.{Declarations}
+use Rattle.ab_alternatives.specs.ab_logic.specs.Sequents.{Sequent, formulas, formulas_of, IsSequent, formula_of, proving, assuming, without, over}
+use Rattle.ab_alternatives.specs.ab_logic.specs.Names.{Names, IsLeast, IsNamedFor}
 use Rattle.ab_rules.specs.Steps.{Step, initial, true_right, false_left, and_right, and_left, or_right, or_left, arrow_right, arrow_left, for_all_right, for_all_left, exists_right, exists_left, nabla_right, nabla_left, equal_right, equal_left, definition_right, definition_left, induction, coinduction, cut_formula, use_theorem, weaken, spec_cut, spec_instance, spec_monotone}
 use Rattle.ab_rules.specs.Row.{Row, leads, leads_by, finds, asks, labelled, solves, splits, unifies, Takes}
 use Rattle.ab_rules.specs.Rules.{row, by_hint, IsSupport, MayName, Raises, Making, name_term, raised, applied, hint_of}
-use Rattle.ab_solve.specs.Replacing.{Cell}
-use Rattle.ab_solve.specs.Solving.{unified}
-use Rattle.ab_equate.specs.Solved.{Becomes}
-use Rattle.ab_equate.proofs.One.{GivesOne, one_goal, not_apart}
-pub use Rattle.ab_equate.proofs.Naming.{one_name}
+use Rattle.ab_alternatives.specs.ab_solve.specs.Replacing.{Cell}
+use Rattle.ab_alternatives.specs.ab_solve.specs.Solving.{unified}
+use Rattle.ab_alternatives.specs.ab_equate.specs.Solved.{Becomes}
+use Rattle.ab_alternatives.specs.ab_equate.proofs.One.{GivesOne, one_goal, not_apart}
+pub use Rattle.ab_alternatives.specs.ab_equate.proofs.Naming.{one_name}
 use Rattle.ab_rules.proofs.OneAnswer.{least_once, names_once}
 use Rattle.ab_rules.proofs.Splitting.{one_answer, split_once}
 use Rattle.ab_rules.proofs.Sequents.{found_there, formula_names}

@@ -15,10 +15,10 @@ use Rattle.ab_term.proofs.Lists.{Contains-none, Contains-cases, Contains-map, Al
 use Rattle.ab_term.proofs.Preservation.{instance_typed, instance_by_all_typed}
 use Rattle.ab_term.proofs.Expansions.{expansion_typed}
 use Rattle.ab_term.proofs.Stands.{support-instance, variables-instance, support-expansion_of, variables-expansion_of}
-use Rattle.ab_store.specs.Trees.{Read}
-use Rattle.ab_logic.specs.Formulas.{IsFormula, StandsIn, a_formula, a_scope}
-use Rattle.ab_logic.specs.Forms.{Form, form_of, form_alone, form_with, form_between, form_headed, both_in, either_in, implies_in, for_all_in, exists_in, nabla_in, as_both, as_either, as_implies, as_for_all, as_exists, as_nabla}
-use Rattle.ab_logic.specs.Sequents.{Variable, HoldsOnly}
+use Rattle.ab_alternatives.specs.ab_store.specs.Trees.{Read}
+use Rattle.ab_alternatives.specs.ab_logic.specs.Formulas.{IsFormula, StandsIn, a_formula, a_scope}
+use Rattle.ab_alternatives.specs.ab_logic.specs.Forms.{Form, form_of, form_alone, form_with, form_between, form_headed, both_in, either_in, implies_in, for_all_in, exists_in, nabla_in, as_both, as_either, as_implies, as_for_all, as_exists, as_nabla}
+use Rattle.ab_alternatives.specs.ab_logic.specs.Sequents.{Variable, HoldsOnly}
 use Rattle.ab_rules.specs.Rules.{name_term, variable_term, applied, raised}
 use Rattle.ab_rules.proofs.Scopes.{instance_stands}
 

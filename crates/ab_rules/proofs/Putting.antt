@@ -13,26 +13,26 @@ use Rattle.ab_term.specs.Variables.{Substitution, variables, variables_of_all, v
 use Rattle.ab_term.specs.Sameness.{same_number}
 use Rattle.ab_term.proofs.Lists.{Contains-none, All-from_contains}
 use Rattle.ab_term.proofs.Stands.{support-image, variables-image}
-use Rattle.ab_store.specs.Trees.{Read}
-use Rattle.ab_solve.specs.Replacing.{Cell, holds}
-use Rattle.ab_solve.specs.Meaning.{sides}
-use Rattle.ab_solve.proofs.Agreeing.{contains_holds}
-use Rattle.ab_cases.specs.Clauses.{Clause, Each, numbered, clause_variables, clause_names, put_together, name_term, filled, head_of}
-use Rattle.ab_cases.specs.Choices.{in_order, outside}
-use Rattle.ab_cases.specs.Alternatives.{cells_over, made_over, made_terms, arguments_equal}
-use Rattle.ab_cases.proofs.Choosing.{contains_ordered, outside_contains}
-use Rattle.ab_cases.proofs.Constants.{either, has_support}
-use Rattle.ab_cases.proofs.Variables.{holds_contains, has_held}
-use Rattle.ab_cases.proofs.Rows.{each_both, each_weaker, each_any, found_none, held_append, together_all}
-use Rattle.ab_cases.proofs.Covered.{found_of_all, names_typed}
-use Rattle.ab_cases.proofs.Lifting.{made_terms_typed}
-use Rattle.ab_cases.proofs.Sides.{EachTerm, all_sides}
-use Rattle.ab_cases.proofs.Unifier.{from_cells, filled_typed, made_have, names_have, made_over_vars, names_over_vars}
-use Rattle.ab_logic.specs.Declarations.{IsDefining}
-use Rattle.ab_logic.specs.Formulas.{IsFormula}
-use Rattle.ab_logic.specs.Sequents.{Variable, HoldsOnly, in_terms}
-use Rattle.ab_logic.proofs.Images.{image_formula}
-use Rattle.ab_equate.specs.Solved.{variables_from}
+use Rattle.ab_alternatives.specs.ab_store.specs.Trees.{Read}
+use Rattle.ab_alternatives.specs.ab_solve.specs.Replacing.{Cell, holds}
+use Rattle.ab_alternatives.specs.ab_solve.specs.Meaning.{sides}
+use Rattle.ab_alternatives.specs.ab_solve.proofs.Agreeing.{contains_holds}
+use Rattle.ab_alternatives.specs.ab_cases.specs.Clauses.{Clause, Each, numbered, clause_variables, clause_names, put_together, name_term, filled, head_of}
+use Rattle.ab_alternatives.specs.ab_cases.specs.Choices.{in_order, outside}
+use Rattle.ab_alternatives.specs.ab_cases.specs.Alternatives.{cells_over, made_over, made_terms, arguments_equal}
+use Rattle.ab_alternatives.specs.ab_cases.proofs.Choosing.{contains_ordered, outside_contains}
+use Rattle.ab_alternatives.specs.ab_cases.proofs.Constants.{either, has_support}
+use Rattle.ab_alternatives.specs.ab_cases.proofs.Variables.{holds_contains, has_held}
+use Rattle.ab_alternatives.specs.ab_cases.proofs.Rows.{each_both, each_weaker, each_any, found_none, held_append, together_all}
+use Rattle.ab_alternatives.specs.ab_cases.proofs.Covered.{found_of_all, names_typed}
+use Rattle.ab_alternatives.specs.ab_cases.proofs.Lifting.{made_terms_typed}
+use Rattle.ab_alternatives.specs.ab_cases.proofs.Sides.{EachTerm, all_sides}
+use Rattle.ab_alternatives.specs.ab_cases.proofs.Unifier.{from_cells, filled_typed, made_have, names_have, made_over_vars, names_over_vars}
+use Rattle.ab_alternatives.specs.ab_logic.specs.Declarations.{IsDefining}
+use Rattle.ab_alternatives.specs.ab_logic.specs.Formulas.{IsFormula}
+use Rattle.ab_alternatives.specs.ab_logic.specs.Sequents.{Variable, HoldsOnly, in_terms}
+use Rattle.ab_alternatives.specs.ab_logic.proofs.Images.{image_formula}
+use Rattle.ab_alternatives.specs.ab_equate.specs.Solved.{variables_from}
 use Rattle.ab_rules.proofs.Parts.{MayStand}
 
 abbrev Cells : Type 0

@@ -8,14 +8,14 @@ use Rattle.ab_term.specs.Terms as tree
 use Rattle.ab_term.specs.Terms.{Nominal}
 use Rattle.ab_term.specs.Closing.{over}
 use Rattle.ab_term.proofs.Lists.{AllPairs-none, AllPairs-parts}
-use Rattle.ab_solve.specs.Replacing.{Cell}
-use Rattle.ab_solve.specs.Meaning.{AreKnown}
-use Rattle.ab_cases.proofs.Variables.{holds_contains}
-use Rattle.ab_cases.specs.Alternatives.{cells_over, cells_of, made_over}
-use Rattle.ab_logic.specs.Sequents.{Variable, in_terms}
-use Rattle.ab_equate.specs.Cases.{cell_for}
-use Rattle.ab_equate.proofs.Renaming.{behind_cell}
-use Rattle.ab_analysis.specs.Left.{raised_variables}
+use Rattle.ab_alternatives.specs.ab_solve.specs.Replacing.{Cell}
+use Rattle.ab_alternatives.specs.ab_solve.specs.Meaning.{AreKnown}
+use Rattle.ab_alternatives.specs.ab_cases.proofs.Variables.{holds_contains}
+use Rattle.ab_alternatives.specs.ab_cases.specs.Alternatives.{cells_over, cells_of, made_over}
+use Rattle.ab_alternatives.specs.ab_logic.specs.Sequents.{Variable, in_terms}
+use Rattle.ab_alternatives.specs.ab_equate.specs.Cases.{cell_for}
+use Rattle.ab_alternatives.specs.ab_equate.proofs.Renaming.{behind_cell}
+use Rattle.ab_alternatives.specs.ab_analysis.specs.Left.{raised_variables}
 
 abbrev Cells : Type 0
 Cells = List (Cell (List ℕ))

@@ -3,8 +3,8 @@
 use Rattle.std.proofs.Common.{ℕ, zero, suc, List}
 use Rattle.ab_term.specs.Terms.{Head, constant, logical, nominal, variable, index, lam, spine, Terms, no_terms, term}
 use Rattle.ab_term.specs.Substitution.{shift, lower_head, put, substitute_by, substitute_all_by, reduce, instance}
-use Rattle.ab_store.specs.Trees.{Read}
-use Rattle.ab_logic.specs.Formulas.{Place, a_formula, a_scope, a_marked, any, places_of, IsRigid, IsAtomic, StandsIn, AllStandIn}
+use Rattle.ab_alternatives.specs.ab_store.specs.Trees.{Read}
+use Rattle.ab_alternatives.specs.ab_logic.specs.Formulas.{Place, a_formula, a_scope, a_marked, any, places_of, IsRigid, IsAtomic, StandsIn, AllStandIn}
 
 abbrev Apply : Type 0
 Apply = Read → Terms ℕ (List ℕ) → Read

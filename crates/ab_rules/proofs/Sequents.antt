@@ -12,11 +12,11 @@ use Rattle.ab_term.specs.Terms.{Nominal}
 use Rattle.ab_term.specs.Names.{support}
 use Rattle.ab_term.specs.Variables.{variables}
 use Rattle.ab_term.proofs.Lists.{Contains-none, Contains-cases, Contains-here, Contains-there, Contains-map, Contains-from_map, All-from_contains, AllPairs-parts}
-use Rattle.ab_store.specs.Trees.{Read}
-use Rattle.ab_logic.specs.Formulas.{IsFormula, HasOneTypeEach}
-use Rattle.ab_logic.specs.Declarations.{Declarations, signature_in}
-use Rattle.ab_logic.specs.Sequents.{Variable, Hypothesis, Sequent, formulas, formulas_of, names_of, goal_names, HoldsOnly, IsSequent, named, formula_of, others, IsUsed, proving, assuming, without, counted, over}
-use Rattle.ab_logic.specs.Names.{Label, auto, given, Names, IsNoVariable}
+use Rattle.ab_alternatives.specs.ab_store.specs.Trees.{Read}
+use Rattle.ab_alternatives.specs.ab_logic.specs.Formulas.{IsFormula, HasOneTypeEach}
+use Rattle.ab_alternatives.specs.ab_logic.specs.Declarations.{Declarations, signature_in}
+use Rattle.ab_alternatives.specs.ab_logic.specs.Sequents.{Variable, Hypothesis, Sequent, formulas, formulas_of, names_of, goal_names, HoldsOnly, IsSequent, named, formula_of, others, IsUsed, proving, assuming, without, counted, over}
+use Rattle.ab_alternatives.specs.ab_logic.specs.Names.{Label, auto, given, Names, IsNoVariable}
 use Rattle.ab_rules.specs.Rules.{IsNew}
 use Rattle.ab_rules.proofs.Parts.{named_in, MayStand, IsScope}
 

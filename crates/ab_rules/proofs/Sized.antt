@@ -9,17 +9,17 @@ use Rattle.ab_term.specs.Terms.{Nominal, constant, logical, nominal, variable, i
 use Rattle.ab_term.specs.Typing.{Signature, HasType, typed_lam, typed_spine, take_none, take_term}
 use Rattle.ab_term.specs.Names.{support, support_of_all}
 use Rattle.ab_term.specs.Variables.{variables}
-use Rattle.ab_store.specs.Trees.{Read}
-use Rattle.ab_logic.specs.Formulas.{a_formula, StandsIn}
-use Rattle.ab_logic.specs.Declarations.{Declarations, Block, block_in, signature_in}
-use Rattle.ab_logic.specs.Forms as forms
-use Rattle.ab_logic.specs.Forms.{Form, form_of, form_alone, form_with, form_between, form_given, form_headed}
-use Rattle.ab_logic.specs.Marks as signs
-use Rattle.ab_logic.specs.Marks.{Sign, star_of, at_of, plus_of, hash_of}
-use Rattle.ab_logic.specs.Sequents.{Variable, HoldsOnly, in_terms}
-use Rattle.ab_marks.specs.Marking.{with_mark}
-use Rattle.ab_analysis.specs.Atoms.{Defined, defined_as, defined_form, defined_atom}
-use Rattle.ab_induction.specs.Places.{matrix, antecedent, consequent, in_matrix, in_antecedent, in_consequent, atom_in, defined_so, inductive_at, coinductive_in, marked_antecedent, marked_consequent}
+use Rattle.ab_alternatives.specs.ab_store.specs.Trees.{Read}
+use Rattle.ab_alternatives.specs.ab_logic.specs.Formulas.{a_formula, StandsIn}
+use Rattle.ab_alternatives.specs.ab_logic.specs.Declarations.{Declarations, Block, block_in, signature_in}
+use Rattle.ab_alternatives.specs.ab_logic.specs.Forms as forms
+use Rattle.ab_alternatives.specs.ab_logic.specs.Forms.{Form, form_of, form_alone, form_with, form_between, form_given, form_headed}
+use Rattle.ab_alternatives.specs.ab_logic.specs.Marks as signs
+use Rattle.ab_alternatives.specs.ab_logic.specs.Marks.{Sign, star_of, at_of, plus_of, hash_of}
+use Rattle.ab_alternatives.specs.ab_logic.specs.Sequents.{Variable, HoldsOnly, in_terms}
+use Rattle.ab_alternatives.specs.ab_marks.specs.Marking.{with_mark}
+use Rattle.ab_alternatives.specs.ab_analysis.specs.Atoms.{Defined, defined_as, defined_form, defined_atom}
+use Rattle.ab_sizing.specs.ab_induction.specs.Places.{matrix, antecedent, consequent, in_matrix, in_antecedent, in_consequent, atom_in, defined_so, inductive_at, coinductive_in, marked_antecedent, marked_consequent}
 use Rattle.ab_rules.proofs.Parts.{MayStand}
 use Rattle.ab_rules.proofs.Marked.{with_mark_typed, with_mark_stands, with_mark_support, with_mark_variables, kept_may}
 

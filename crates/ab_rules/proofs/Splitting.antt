@@ -1,12 +1,12 @@
 -- A goal is split in one way, where a hint gives one name.
 use Rattle.std.proofs.Common.{◌≡◌, ℕ, List, ◌∷◌, ◌++◌, map, length, codes, refl, sym, ◌∙◌, ap, subst}
-use Rattle.ab_solve.specs.Replacing.{Cell}
-use Rattle.ab_solve.specs.Solving.{Answer, unified, apart, stuck, Solves}
-use Rattle.ab_solve.proofs.Unique.{unique}
-use Rattle.ab_logic.specs.Sequents.{Sequent}
-use Rattle.ab_equate.specs.Solved.{Naming, Named, made, under}
-use Rattle.ab_equate.specs.Cases.{Case, CaseOver, problem_of, cell_for, Arises, NeverArises, IsOpen, Split, done, never, arises, IsUnsplit, here, past_never, past_goal}
-use Rattle.ab_equate.proofs.One.{GivesOne, named_once, named_more}
+use Rattle.ab_alternatives.specs.ab_solve.specs.Replacing.{Cell}
+use Rattle.ab_alternatives.specs.ab_solve.specs.Solving.{Answer, unified, apart, stuck, Solves}
+use Rattle.ab_alternatives.specs.ab_solve.proofs.Unique.{unique}
+use Rattle.ab_alternatives.specs.ab_logic.specs.Sequents.{Sequent}
+use Rattle.ab_alternatives.specs.ab_equate.specs.Solved.{Naming, Named, made, under}
+use Rattle.ab_alternatives.specs.ab_equate.specs.Cases.{Case, CaseOver, problem_of, cell_for, Arises, NeverArises, IsOpen, Split, done, never, arises, IsUnsplit, here, past_never, past_goal}
+use Rattle.ab_alternatives.specs.ab_equate.proofs.One.{GivesOne, named_once, named_more}
 
 -- the equations of a case have one answer
 pub one_answer : (c : Case) (a b : Answer (List ℕ)) → Solves (codes "x") (problem_of c) a → Solves (codes "x") (problem_of c) b → a ≡ b

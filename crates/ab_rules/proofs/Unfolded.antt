@@ -10,21 +10,21 @@ use Rattle.ab_term.specs.Typing.{Signature}
 use Rattle.ab_term.specs.Variables.{Substitution, variables, value_in}
 use Rattle.ab_term.specs.Sameness.{same_numbered, same_number}
 use Rattle.ab_term.proofs.Lists.{Contains-none, Contains-cases, Contains-map, Contains-from_map, All-from_contains}
-use Rattle.ab_store.specs.Trees.{Read}
-use Rattle.ab_solve.specs.Replacing.{Cell, holds}
-use Rattle.ab_solve.specs.Solving.{Equation, unified, Solves}
-use Rattle.ab_solve.specs.Meaning.{given, AreTyped, AreKnown, IsOver, AreOver, IsCell, HoldsCells, AllHoldCells, keys, sides}
-use Rattle.ab_solve.proofs.Problems.{answer_typed, answer_clean}
-use Rattle.ab_solve.proofs.Cells.{Grows, answer_cells, cell_kept}
-use Rattle.ab_cases.proofs.Choosing.{kept_contains}
-use Rattle.ab_cases.proofs.Covered.{found_of_all}
-use Rattle.ab_cases.proofs.Variables.{holds_contains}
-use Rattle.ab_logic.specs.Sequents.{Variable, HoldsOnly, in_terms}
-use Rattle.ab_equate.specs.Solved.{stays, made, variables_from}
-use Rattle.ab_equate.specs.Cases.{cell_for}
-use Rattle.ab_equate.proofs.Carried.{cells_in_front}
-use Rattle.ab_equate.proofs.Idempotent.{none_replaced, where_from}
-use Rattle.ab_equate.proofs.Renaming.{behind_cell, made_listed}
+use Rattle.ab_alternatives.specs.ab_store.specs.Trees.{Read}
+use Rattle.ab_alternatives.specs.ab_solve.specs.Replacing.{Cell, holds}
+use Rattle.ab_alternatives.specs.ab_solve.specs.Solving.{Equation, unified, Solves}
+use Rattle.ab_alternatives.specs.ab_solve.specs.Meaning.{given, AreTyped, AreKnown, IsOver, AreOver, IsCell, HoldsCells, AllHoldCells, keys, sides}
+use Rattle.ab_alternatives.specs.ab_solve.proofs.Problems.{answer_typed, answer_clean}
+use Rattle.ab_alternatives.specs.ab_solve.proofs.Cells.{Grows, answer_cells, cell_kept}
+use Rattle.ab_alternatives.specs.ab_cases.proofs.Choosing.{kept_contains}
+use Rattle.ab_alternatives.specs.ab_cases.proofs.Covered.{found_of_all}
+use Rattle.ab_alternatives.specs.ab_cases.proofs.Variables.{holds_contains}
+use Rattle.ab_alternatives.specs.ab_logic.specs.Sequents.{Variable, HoldsOnly, in_terms}
+use Rattle.ab_alternatives.specs.ab_equate.specs.Solved.{stays, made, variables_from}
+use Rattle.ab_alternatives.specs.ab_equate.specs.Cases.{cell_for}
+use Rattle.ab_alternatives.specs.ab_equate.proofs.Carried.{cells_in_front}
+use Rattle.ab_alternatives.specs.ab_equate.proofs.Idempotent.{none_replaced, where_from}
+use Rattle.ab_alternatives.specs.ab_equate.proofs.Renaming.{behind_cell, made_listed}
 use Rattle.ab_rules.proofs.Putting.{IsPut}
 use Rattle.ab_rules.proofs.Raised.{AreThere}
 

@@ -10,26 +10,26 @@ use Rattle.ab_term.specs.Names.{support_of_all}
 use Rattle.ab_term.specs.Variables.{Substitution, value_in, image, image_all}
 use Rattle.ab_term.specs.Sameness.{same_number}
 use Rattle.ab_term.proofs.Lists.{Contains-none}
-use Rattle.ab_store.specs.Trees.{Read}
-use Rattle.ab_solve.specs.Replacing.{Cell}
-use Rattle.ab_solve.specs.Solving.{Equation, unified, Solves}
-use Rattle.ab_solve.specs.Meaning.{given, AreTyped}
-use Rattle.ab_cases.specs.Clauses.{Clause, filled}
-use Rattle.ab_cases.specs.Choices.{in_order, outside, choices}
-use Rattle.ab_cases.specs.Alternatives.{on_right, cells_over, made_over, made_terms, arguments_equal}
-use Rattle.ab_cases.proofs.Answered.{is_problem}
-use Rattle.ab_cases.proofs.Choosing.{contains_ordered}
-use Rattle.ab_cases.proofs.Matching.{choice_right}
-use Rattle.ab_cases.proofs.Variables.{holds_contains}
-use Rattle.ab_logic.specs.Formulas.{a_formula, HasOneTypeEach}
-use Rattle.ab_logic.specs.Declarations.{Declarations, signature_in, IsDefining}
-use Rattle.ab_logic.specs.Sequents.{Variable, Sequent, in_terms}
-use Rattle.ab_equate.specs.Solved.{AreCells, made, variables_from}
-use Rattle.ab_equate.specs.Cases.{problem_of}
-use Rattle.ab_marks.specs.Marking.{mark_above, marked_in}
-use Rattle.ab_analysis.specs.Atoms.{Defined, Choice}
-use Rattle.ab_analysis.specs.Left.{scope_of}
-use Rattle.ab_analysis.specs.Right.{unfolding_case, unfolded}
+use Rattle.ab_alternatives.specs.ab_store.specs.Trees.{Read}
+use Rattle.ab_alternatives.specs.ab_solve.specs.Replacing.{Cell}
+use Rattle.ab_alternatives.specs.ab_solve.specs.Solving.{Equation, unified, Solves}
+use Rattle.ab_alternatives.specs.ab_solve.specs.Meaning.{given, AreTyped}
+use Rattle.ab_alternatives.specs.ab_cases.specs.Clauses.{Clause, filled}
+use Rattle.ab_alternatives.specs.ab_cases.specs.Choices.{in_order, outside, choices}
+use Rattle.ab_alternatives.specs.ab_cases.specs.Alternatives.{on_right, cells_over, made_over, made_terms, arguments_equal}
+use Rattle.ab_alternatives.specs.ab_cases.proofs.Answered.{is_problem}
+use Rattle.ab_alternatives.specs.ab_cases.proofs.Choosing.{contains_ordered}
+use Rattle.ab_alternatives.specs.ab_cases.proofs.Matching.{choice_right}
+use Rattle.ab_alternatives.specs.ab_cases.proofs.Variables.{holds_contains}
+use Rattle.ab_alternatives.specs.ab_logic.specs.Formulas.{a_formula, HasOneTypeEach}
+use Rattle.ab_alternatives.specs.ab_logic.specs.Declarations.{Declarations, signature_in, IsDefining}
+use Rattle.ab_alternatives.specs.ab_logic.specs.Sequents.{Variable, Sequent, in_terms}
+use Rattle.ab_alternatives.specs.ab_equate.specs.Solved.{AreCells, made, variables_from}
+use Rattle.ab_alternatives.specs.ab_equate.specs.Cases.{problem_of}
+use Rattle.ab_alternatives.specs.ab_marks.specs.Marking.{mark_above, marked_in}
+use Rattle.ab_alternatives.specs.ab_analysis.specs.Atoms.{Defined, Choice}
+use Rattle.ab_alternatives.specs.ab_analysis.specs.Left.{scope_of}
+use Rattle.ab_alternatives.specs.ab_analysis.specs.Right.{unfolding_case, unfolded}
 use Rattle.ab_rules.proofs.Parts.{MayStand}
 use Rattle.ab_rules.proofs.Marked.{marked_may}
 use Rattle.ab_rules.proofs.Sized.{IsAtomOver}

@@ -4,20 +4,20 @@ use Rattle.std.specs.List.{All}
 use Rattle.std.proofs.lemmas.List.Elements.{All-cons, All-map}
 use Rattle.ab_term.specs.Terms as tree
 use Rattle.ab_term.specs.Typing.{Signature}
-use Rattle.ab_types.specs.Entries as table
-use Rattle.ab_types.specs.Entries.{signature}
-use Rattle.ab_store.specs.declared.node.TermId.{TermId}
-use Rattle.ab_store.specs.declared.node.CellId.{CellId}
-use Rattle.ab_store.specs.Trees.{Read}
-use Rattle.ab_fits.specs.Cells as cells
-use Rattle.ab_logic.specs.Declarations.{signature_in}
-use Rattle.ab_logic.specs.Worlds.{IsWorld, Holds, read, variable_of, declarations_of}
-use Rattle.ab_logic.specs.Readings.{sequent_of, hypothesis_of, HoldsSequent}
-use Rattle.ab_logic.specs.Sequents.{in_terms, formulas, formulas_of}
-use Rattle.ab_logic.specs.declared.world.World.{World}
-use Rattle.ab_logic.specs.declared.sequent.Sequent.{Sequent as Kept}
-use Rattle.ab_logic.specs.declared.sequent.Hypothesis.{Hypothesis}
-use Rattle.ab_logic.proofs.Declaring.{constants_are}
+use Rattle.ab_alternatives.specs.ab_types.specs.Entries as table
+use Rattle.ab_alternatives.specs.ab_types.specs.Entries.{signature}
+use Rattle.ab_alternatives.specs.ab_store.specs.declared.node.TermId.{TermId}
+use Rattle.ab_alternatives.specs.ab_store.specs.declared.node.CellId.{CellId}
+use Rattle.ab_alternatives.specs.ab_store.specs.Trees.{Read}
+use Rattle.ab_alternatives.specs.ab_fits.specs.Cells as cells
+use Rattle.ab_alternatives.specs.ab_logic.specs.Declarations.{signature_in}
+use Rattle.ab_alternatives.specs.ab_logic.specs.Worlds.{IsWorld, Holds, read, variable_of, declarations_of}
+use Rattle.ab_alternatives.specs.ab_logic.specs.Readings.{sequent_of, hypothesis_of, HoldsSequent}
+use Rattle.ab_alternatives.specs.ab_logic.specs.Sequents.{in_terms, formulas, formulas_of}
+use Rattle.ab_alternatives.specs.ab_logic.specs.declared.world.World.{World}
+use Rattle.ab_alternatives.specs.ab_logic.specs.declared.sequent.Sequent.{Sequent as Kept}
+use Rattle.ab_alternatives.specs.ab_logic.specs.declared.sequent.Hypothesis.{Hypothesis}
+use Rattle.ab_alternatives.specs.ab_logic.proofs.Declaring.{constants_are}
 
 pub same_signature : (w : World) → IsWorld w → signature w.types ≡ signature_in (declarations_of w)
 same_signature w is = ap table.type_in (sym (constants_are w 0 w.additions is.order))

@@ -2,13 +2,13 @@
 -- something that the later ones and the premises speak of. What follows is all that is ever said of a rule.
 use Rattle.std.specs.Prelude.{◌≡◌, ◌⊎◌, ℕ, List, [], ◌∷◌, Option, Some, None, codes}
 use Rattle.ab_term.specs.Variables.{Substitution}
-use Rattle.ab_store.specs.Trees.{Read}
-use Rattle.ab_solve.specs.Replacing.{Cell}
-use Rattle.ab_solve.specs.Solving.{unified, Solves}
-use Rattle.ab_logic.specs.Sequents.{Sequent}
-use Rattle.ab_logic.specs.Names.{Label, Names, NoName}
-use Rattle.ab_equate.specs.Solved.{Naming, Becomes, AreApart, AreStuck}
-use Rattle.ab_equate.specs.Cases.{Case, CaseOver, problem_of, NeverArises, IsOpen, Split, IsUnsplit}
+use Rattle.ab_alternatives.specs.ab_store.specs.Trees.{Read}
+use Rattle.ab_alternatives.specs.ab_solve.specs.Replacing.{Cell}
+use Rattle.ab_alternatives.specs.ab_solve.specs.Solving.{unified, Solves}
+use Rattle.ab_alternatives.specs.ab_logic.specs.Sequents.{Sequent}
+use Rattle.ab_alternatives.specs.ab_logic.specs.Names.{Label, Names, NoName}
+use Rattle.ab_alternatives.specs.ab_equate.specs.Solved.{Naming, Becomes, AreApart, AreStuck}
+use Rattle.ab_alternatives.specs.ab_equate.specs.Cases.{Case, CaseOver, problem_of, NeverArises, IsOpen, Split, IsUnsplit}
 
 pub data Row : Type 1 where
   -- these are the premises

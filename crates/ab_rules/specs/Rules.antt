@@ -7,23 +7,23 @@ pub use Rattle.ab_term.specs.Names.{IsSupport}
 use Rattle.ab_term.specs.Translation.{EqualPastHints}
 use Rattle.ab_term.specs.Substitution.{instance, instance_by_all}
 use Rattle.ab_term.specs.Expansion.{expansion}
-use Rattle.ab_store.specs.Trees.{Read}
-use Rattle.ab_solve.specs.Replacing.{Cell}
-use Rattle.ab_logic.specs.Formulas.{IsFormula}
-use Rattle.ab_logic.specs.Marks.{plain, star_of, at_of, plus_of, hash_of, erased, MarksServeIn}
-use Rattle.ab_logic.specs.Declarations.{Declarations, signature_in, theorem_in}
-use Rattle.ab_logic.specs.Forms.{as_truth, as_falsity, as_both, as_either, as_implies, as_equal, as_for_all, as_exists, as_nabla}
-use Rattle.ab_logic.specs.Sequents.{Variable, Sequent, Fits, goal_names, formula_of, proving, assuming, without, over}
-use Rattle.ab_logic.specs.Names.{IsLeast, IsNoVariable, IsNamedFor}
-use Rattle.ab_equate.specs.Solved.{Naming, AreCells}
-pub use Rattle.ab_equate.specs.Solved.{variable_term}
+use Rattle.ab_alternatives.specs.ab_store.specs.Trees.{Read}
+use Rattle.ab_alternatives.specs.ab_solve.specs.Replacing.{Cell}
+use Rattle.ab_alternatives.specs.ab_logic.specs.Formulas.{IsFormula}
+use Rattle.ab_alternatives.specs.ab_logic.specs.Marks.{plain, star_of, at_of, plus_of, hash_of, erased, MarksServeIn}
+use Rattle.ab_alternatives.specs.ab_logic.specs.Declarations.{Declarations, signature_in, theorem_in}
+use Rattle.ab_alternatives.specs.ab_logic.specs.Forms.{as_truth, as_falsity, as_both, as_either, as_implies, as_equal, as_for_all, as_exists, as_nabla}
+use Rattle.ab_alternatives.specs.ab_logic.specs.Sequents.{Variable, Sequent, Fits, goal_names, formula_of, proving, assuming, without, over}
+use Rattle.ab_alternatives.specs.ab_logic.specs.Names.{IsLeast, IsNoVariable, IsNamedFor}
+use Rattle.ab_alternatives.specs.ab_equate.specs.Solved.{Naming, AreCells}
+pub use Rattle.ab_alternatives.specs.ab_equate.specs.Solved.{variable_term}
 use Rattle.ab_rules.specs.Steps.{Step, initial, true_right, false_left, and_right, and_left, or_right, or_left, arrow_right, arrow_left, for_all_right, for_all_left, exists_right, exists_left, nabla_right, nabla_left, equal_right, equal_left, definition_right, definition_left, induction, coinduction, cut_formula, use_theorem, weaken, spec_cut, spec_instance, spec_monotone}
-use Rattle.ab_analysis.specs.Atoms.{defined_atom, choices_of}
-use Rattle.ab_marks.specs.Marking.{MayBeAnalysed, MayBeUnfolded}
-use Rattle.ab_analysis.specs.Left.{cases_of}
-use Rattle.ab_analysis.specs.Right.{unfolding_case, unfolded}
-use Rattle.ab_induction.specs.Places.{inductive_at, coinductive_in, marked_antecedent, marked_consequent}
-use Rattle.ab_induction.specs.Levels.{next_level, inductive_level, coinductive_level}
+use Rattle.ab_alternatives.specs.ab_analysis.specs.Atoms.{defined_atom, choices_of}
+use Rattle.ab_alternatives.specs.ab_marks.specs.Marking.{MayBeAnalysed, MayBeUnfolded}
+use Rattle.ab_alternatives.specs.ab_analysis.specs.Left.{cases_of}
+use Rattle.ab_alternatives.specs.ab_analysis.specs.Right.{unfolding_case, unfolded}
+use Rattle.ab_sizing.specs.ab_induction.specs.Places.{inductive_at, coinductive_in, marked_antecedent, marked_consequent}
+use Rattle.ab_sizing.specs.ab_induction.specs.Levels.{next_level, inductive_level, coinductive_level}
 use Rattle.ab_rules.specs.Row.{Row, leads, leads_by, finds, asks, labelled, solves, splits, unifies, not_built, Takes, FailsFirst, Sticks}
 
 -- a nominal constant as a term

@@ -1,8 +1,8 @@
 -- The steps: one for each rule, with what the rule is told.
 use Rattle.std.specs.Prelude.{ℕ, List, Bool}
 use Rattle.ab_term.specs.Terms.{Nominal}
-use Rattle.ab_store.specs.Trees.{Read}
-use Rattle.ab_logic.specs.Names.{Label}
+use Rattle.ab_alternatives.specs.ab_store.specs.Trees.{Read}
+use Rattle.ab_alternatives.specs.ab_logic.specs.Names.{Label}
 
 pub data Step : Type 0 where
   -- by a hypothesis

@@ -1,8 +1,8 @@
 -- What a call that makes terms leaves of a world: the types, the cells and the declarations are as before.
 use Rattle.std.specs.Prelude.{◌≡◌}
-use Rattle.ab_logic.specs.Growth.{Grows}
-use Rattle.ab_logic.specs.Worlds.{declarations_of}
-use Rattle.ab_logic.specs.declared.world.World.{World}
+use Rattle.ab_alternatives.specs.ab_logic.specs.Growth.{Grows}
+use Rattle.ab_alternatives.specs.ab_logic.specs.Worlds.{declarations_of}
+use Rattle.ab_alternatives.specs.ab_logic.specs.declared.world.World.{World}
 
 pub record Adds (old new : World) : Type 0 where
   pub grows : Grows old new

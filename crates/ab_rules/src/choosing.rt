@@ -3,23 +3,23 @@ ghost use Rattle.std.specs.Prelude.{◌≡◌, ◌≢◌, ◌↔◌, ◌⊎◌, 
 ghost use Rattle.ab_term.specs.Terms as tree;
 ghost use Rattle.ab_term.specs.Names.{support};
 ghost use Rattle.ab_term.specs.Substitution.{instance};
-ghost use Rattle.ab_types.specs.Ids.{HoldsType, type_of};
-ghost use Rattle.ab_types.specs.Sound.{IsTable};
-ghost use Rattle.ab_norm.specs.Nominals.{nominal_of, HoldsNominal};
-ghost use Rattle.ab_logic.specs.Worlds.{IsWorld, Holds, read};
-ghost use Rattle.ab_logic.specs.Readings.{sequent_of, HoldsSequent};
-ghost use Rattle.ab_logic.specs.Sequents.{goal_names};
-ghost use Rattle.ab_logic.specs.Names.{IsLeast};
+ghost use Rattle.ab_alternatives.specs.ab_types.specs.Ids.{HoldsType, type_of};
+ghost use Rattle.ab_alternatives.specs.ab_types.specs.Sound.{IsTable};
+ghost use Rattle.ab_alternatives.specs.ab_norm.specs.Nominals.{nominal_of, HoldsNominal};
+ghost use Rattle.ab_alternatives.specs.ab_logic.specs.Worlds.{IsWorld, Holds, read};
+ghost use Rattle.ab_alternatives.specs.ab_logic.specs.Readings.{sequent_of, HoldsSequent};
+ghost use Rattle.ab_alternatives.specs.ab_logic.specs.Sequents.{goal_names};
+ghost use Rattle.ab_alternatives.specs.ab_logic.specs.Names.{IsLeast};
 ghost use Rattle.ab_rules.specs.Rules.{MayName, name_term};
 ghost use Rattle.ab_rules.specs.Choosing.{Gains, Excluded, Blocked, IsAbsent};
 ghost use Rattle.ab_rules.specs.Terms.{Adds};
 
 use crate::looking::support_in;
 use crate::terms::{instance_of, name_term};
-use ab_logic::{Sequent, World};
-use ab_norm::Nominal;
-use ab_store::TermId;
-use ab_types::{Steps, TypeId};
+use ab_alternatives::below::logic::{Sequent, World};
+use ab_alternatives::below::norm::Nominal;
+use ab_alternatives::below::store::TermId;
+use ab_alternatives::below::types::{Steps, TypeId};
 use std::alloc::{AllocError, Global};
 
 /// Whether the constant's number is not to be used.

@@ -1,19 +1,19 @@
 //! The rules that close a goal.
 ghost use Rattle.std.specs.Prelude.{◌≡◌, ◌↔◌, IfOk, IsTrue};
-ghost use Rattle.ab_logic.specs.Readings.{HoldsSequent};
-ghost use Rattle.ab_logic.specs.Worlds.{IsWorld, Holds, read, declarations_of};
-ghost use Rattle.ab_logic.specs.Growth.{Grows};
-ghost use Rattle.ab_logic.specs.Marks.{erased};
+ghost use Rattle.ab_alternatives.specs.ab_logic.specs.Readings.{HoldsSequent};
+ghost use Rattle.ab_alternatives.specs.ab_logic.specs.Worlds.{IsWorld, Holds, read, declarations_of};
+ghost use Rattle.ab_alternatives.specs.ab_logic.specs.Growth.{Grows};
+ghost use Rattle.ab_alternatives.specs.ab_logic.specs.Marks.{erased};
 ghost use Rattle.ab_term.specs.Names.{EqualUpToNames};
 ghost use Rattle.ab_rules.specs.Steps as plain;
 ghost use Rattle.ab_rules.specs.Answers.{Answers, row_at};
 
 use crate::looking::{are_equal, are_equal_up_to_names};
 use crate::step::KernelFault;
-use ab_logic::{Sequent, World, as_equal, is_false, is_true};
-use ab_marks::{marks_serve_in, without_marks};
-use ab_store::TermId;
-use ab_types::Name;
+use ab_alternatives::below::logic::{Sequent, World, as_equal, is_false, is_true};
+use ab_alternatives::below::marks::{marks_serve_in, without_marks};
+use ab_alternatives::below::store::TermId;
+use ab_alternatives::below::types::Name;
 use std::alloc::{AllocError, Global};
 
 /// Whether a permutation of nominal constants sends the first formula to the second, both without their marks.

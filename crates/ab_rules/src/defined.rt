@@ -1,21 +1,21 @@
 //! The rules of defined atoms.
 ghost use Rattle.std.specs.Prelude.{◌≡◌, ◌≤◌};
-ghost use Rattle.ab_logic.specs.Growth.{Grows};
-ghost use Rattle.ab_logic.specs.Readings.{sequent_of, HoldsSequent};
-ghost use Rattle.ab_logic.specs.Sequents.{IsSequent};
-ghost use Rattle.ab_logic.specs.Worlds.{IsWorld, declarations_of};
+ghost use Rattle.ab_alternatives.specs.ab_logic.specs.Growth.{Grows};
+ghost use Rattle.ab_alternatives.specs.ab_logic.specs.Readings.{sequent_of, HoldsSequent};
+ghost use Rattle.ab_alternatives.specs.ab_logic.specs.Sequents.{IsSequent};
+ghost use Rattle.ab_alternatives.specs.ab_logic.specs.Worlds.{IsWorld, declarations_of};
 ghost use Rattle.ab_rules.specs.Steps as plain;
 ghost use Rattle.ab_rules.specs.Answers.{Answers, label_of, row_at};
 
 use crate::lists::one;
 use crate::step::KernelFault;
+use ab_alternatives::below::equate::CaseSolution;
+use ab_alternatives::below::logic::{Sequent, World};
+use ab_alternatives::below::naming::{Label, name_by};
+use ab_alternatives::below::types::{Name, Steps};
 use ab_alternatives::{
     Splitting, defined_atom, may_be_analysed, may_be_unfolded, split, unfold_at,
 };
-use ab_equate::CaseSolution;
-use ab_logic::{Sequent, World};
-use ab_naming::{Label, name_by};
-use ab_types::{Name, Steps};
 use std::alloc::{AllocError, Global};
 
 /// The conclusion is unfolded by the choice of this place.

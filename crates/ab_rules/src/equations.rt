@@ -1,17 +1,17 @@
 //! The rule that solves an equation.
 ghost use Rattle.std.specs.Prelude.{◌≡◌, ◌≤◌};
-ghost use Rattle.ab_logic.specs.Growth.{Grows};
-ghost use Rattle.ab_logic.specs.Readings.{sequent_of, HoldsSequent};
-ghost use Rattle.ab_logic.specs.Sequents.{IsSequent};
-ghost use Rattle.ab_logic.specs.Worlds.{IsWorld, declarations_of};
+ghost use Rattle.ab_alternatives.specs.ab_logic.specs.Growth.{Grows};
+ghost use Rattle.ab_alternatives.specs.ab_logic.specs.Readings.{sequent_of, HoldsSequent};
+ghost use Rattle.ab_alternatives.specs.ab_logic.specs.Sequents.{IsSequent};
+ghost use Rattle.ab_alternatives.specs.ab_logic.specs.Worlds.{IsWorld, declarations_of};
 ghost use Rattle.ab_rules.specs.Steps as plain;
 ghost use Rattle.ab_rules.specs.Answers.{Answers, row_at};
 
 use crate::lists::one;
 use crate::step::KernelFault;
-use ab_equate::{Solution, solve_in};
-use ab_logic::{Sequent, World, as_equal};
-use ab_types::{Name, Steps};
+use ab_alternatives::below::equate::{Solution, solve_in};
+use ab_alternatives::below::logic::{Sequent, World, as_equal};
+use ab_alternatives::below::types::{Name, Steps};
 use std::alloc::Global;
 
 /// The sides of an equation are made equal throughout the goal, or nothing makes them equal.

@@ -1,17 +1,17 @@
 //! Whether a term may be put into a goal.
 ghost use Rattle.std.specs.Prelude.{◌≡◌, ◌↔◌, ◌∷◌, map, IfOk, IsTrue};
 ghost use Rattle.ab_term.specs.Types.{prop};
-ghost use Rattle.ab_types.specs.Ids.{HoldsType, type_of};
-ghost use Rattle.ab_logic.specs.Declarations.{signature_in};
-ghost use Rattle.ab_logic.specs.Formulas.{IsFormula};
-ghost use Rattle.ab_logic.specs.Worlds.{IsWorld, Holds, read, declarations_of};
-ghost use Rattle.ab_logic.specs.Readings.{HoldsSequent, sequent_of};
-ghost use Rattle.ab_logic.specs.Sequents.{Fits};
+ghost use Rattle.ab_alternatives.specs.ab_types.specs.Ids.{HoldsType, type_of};
+ghost use Rattle.ab_alternatives.specs.ab_logic.specs.Declarations.{signature_in};
+ghost use Rattle.ab_alternatives.specs.ab_logic.specs.Formulas.{IsFormula};
+ghost use Rattle.ab_alternatives.specs.ab_logic.specs.Worlds.{IsWorld, Holds, read, declarations_of};
+ghost use Rattle.ab_alternatives.specs.ab_logic.specs.Readings.{HoldsSequent, sequent_of};
+ghost use Rattle.ab_alternatives.specs.ab_logic.specs.Sequents.{Fits};
 
-use ab_fits::{fits, fits_as_formula};
-use ab_logic::{Sequent, World};
-use ab_store::TermId;
-use ab_types::TypeId;
+use ab_alternatives::below::fits::{fits, fits_as_formula};
+use ab_alternatives::below::logic::{Sequent, World};
+use ab_alternatives::below::store::TermId;
+use ab_alternatives::below::types::TypeId;
 use std::alloc::{AllocError, Global};
 
 /// The formulas of a goal: the conclusion, and those of the hypotheses.

@@ -1,15 +1,15 @@
 //! The rules that take a connective of a hypothesis apart, and those that make a hypothesis or drop one.
 ghost use Rattle.std.specs.Prelude.{◌≡◌};
-ghost use Rattle.ab_logic.specs.Readings.{HoldsSequent};
-ghost use Rattle.ab_logic.specs.Worlds.{IsWorld};
+ghost use Rattle.ab_alternatives.specs.ab_logic.specs.Readings.{HoldsSequent};
+ghost use Rattle.ab_alternatives.specs.ab_logic.specs.Worlds.{IsWorld};
 ghost use Rattle.ab_rules.specs.Steps as plain;
 ghost use Rattle.ab_rules.specs.Answers.{Answers, label_of, row_at};
 
 use crate::lists::{one, two};
 use crate::step::KernelFault;
-use ab_logic::{Sequent, World, as_and, as_arrow, as_or};
-use ab_naming::{Label, name_by};
-use ab_types::Name;
+use ab_alternatives::below::logic::{Sequent, World, as_and, as_arrow, as_or};
+use ab_alternatives::below::naming::{Label, name_by};
+use ab_alternatives::below::types::Name;
 use std::alloc::Global;
 
 /// The left part of an implication becomes a hypothesis.

@@ -1,6 +1,7 @@
 //! The rules of the logic, each carried out by a function of its own.
 #![tactic(auto)]
 
+pub mod below;
 mod choosing;
 mod closing;
 mod defined;
@@ -19,7 +20,7 @@ mod taking;
 mod telling;
 mod terms;
 
-pub use ab_naming::Label;
+pub use ab_alternatives::below::naming::Label;
 pub use replaces::{Replace, Replaces};
 pub use step::{KernelFault, Step};
 pub use taking::premises;

@@ -1,7 +1,7 @@
 //! Lists of one premise and of two.
 ghost use Rattle.std.specs.Prelude.{◌≡◌, ◌∷◌, [], IfOk};
 
-use ab_logic::Sequent;
+use ab_alternatives::below::logic::Sequent;
 use std::alloc::{AllocError, Global};
 
 /// One premise.

@@ -2,12 +2,12 @@
 ghost use Rattle.std.specs.Prelude.{◌↔◌, map, IfOk, IsTrue, All};
 ghost use Rattle.ab_term.specs.Names.{EqualUpToNames, IsSupport};
 ghost use Rattle.ab_term.specs.Translation.{EqualPastHints};
-ghost use Rattle.ab_norm.specs.Nominals.{nominal_of, HoldsNominal};
-ghost use Rattle.ab_logic.specs.Worlds.{IsWorld, Holds, read};
+ghost use Rattle.ab_alternatives.specs.ab_norm.specs.Nominals.{nominal_of, HoldsNominal};
+ghost use Rattle.ab_alternatives.specs.ab_logic.specs.Worlds.{IsWorld, Holds, read};
 
-use ab_logic::World;
-use ab_norm::{Nominal, equal, equal_up_to_names, support};
-use ab_store::TermId;
+use ab_alternatives::below::logic::World;
+use ab_alternatives::below::norm::{Nominal, equal, equal_up_to_names, support};
+use ab_alternatives::below::store::TermId;
 use std::alloc::{AllocError, Global};
 
 /// The nominal constants of the formula, each once, by number.

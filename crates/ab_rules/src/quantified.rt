@@ -1,8 +1,8 @@
 //! The rules that put a new variable for the name of a quantifier, or a nominal constant for that of a `nabla`.
 ghost use Rattle.std.specs.Prelude.{◌≡◌, ◌≤◌};
-ghost use Rattle.ab_logic.specs.Readings.{HoldsSequent};
-ghost use Rattle.ab_logic.specs.Worlds.{IsWorld, declarations_of};
-ghost use Rattle.ab_logic.specs.Growth.{Grows};
+ghost use Rattle.ab_alternatives.specs.ab_logic.specs.Readings.{HoldsSequent};
+ghost use Rattle.ab_alternatives.specs.ab_logic.specs.Worlds.{IsWorld, declarations_of};
+ghost use Rattle.ab_alternatives.specs.ab_logic.specs.Growth.{Grows};
 ghost use Rattle.ab_rules.specs.Steps as plain;
 ghost use Rattle.ab_rules.specs.Answers.{Answers, label_of, row_at};
 
@@ -11,10 +11,10 @@ use crate::lists::one;
 use crate::looking::support_in;
 use crate::step::KernelFault;
 use crate::terms::{hint, raise};
-use ab_logic::{Sequent, World, as_exists, as_forall, as_nabla};
-use ab_naming::{Label, name_by, variable_name};
-use ab_norm::Nominal;
-use ab_types::{Name, Steps};
+use ab_alternatives::below::logic::{Sequent, World, as_exists, as_forall, as_nabla};
+use ab_alternatives::below::naming::{Label, name_by, variable_name};
+use ab_alternatives::below::norm::Nominal;
+use ab_alternatives::below::types::{Name, Steps};
 use std::alloc::Global;
 
 /// A new variable for the name of a `forall`, that may depend on the conclusion's nominal constants.

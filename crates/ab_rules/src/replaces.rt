@@ -1,8 +1,8 @@
 //! What is put for nominal constants, in order.
 ghost use Rattle.std.specs.Prelude.{◌≡◌};
 
-use ab_norm::Nominal;
-use ab_store::TermId;
+use ab_alternatives::below::norm::Nominal;
+use ab_alternatives::below::store::TermId;
 use std::marker::Model;
 
 /// A nominal constant, and the term that is put for it.

@@ -1,12 +1,12 @@
 //! The rules that take a connective of the conclusion apart.
 ghost use Rattle.std.specs.Prelude.{◌≡◌};
-ghost use Rattle.ab_logic.specs.Readings.{HoldsSequent};
+ghost use Rattle.ab_alternatives.specs.ab_logic.specs.Readings.{HoldsSequent};
 ghost use Rattle.ab_rules.specs.Steps as plain;
 ghost use Rattle.ab_rules.specs.Answers.{Answers, row_at};
 
 use crate::lists::{one, two};
 use crate::step::KernelFault;
-use ab_logic::{Sequent, World, as_and, as_or};
+use ab_alternatives::below::logic::{Sequent, World, as_and, as_or};
 use std::alloc::Global;
 
 /// Both parts of a conjunction.

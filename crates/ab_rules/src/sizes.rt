@@ -1,21 +1,21 @@
 //! The rules that give an atom of the conclusion a size: it is to be derived with that size, and holds where it is smaller.
 ghost use Rattle.std.specs.Prelude.{◌≡◌, IfOk};
-ghost use Rattle.ab_induction.specs.Places.{marked_antecedent, marked_consequent};
-ghost use Rattle.ab_logic.specs.Growth.{Grows};
-ghost use Rattle.ab_logic.specs.Marks as mark;
-ghost use Rattle.ab_logic.specs.Readings.{HoldsSequent};
-ghost use Rattle.ab_logic.specs.Worlds.{IsWorld, Holds, read, declarations_of};
+ghost use Rattle.ab_sizing.specs.ab_induction.specs.Places.{marked_antecedent, marked_consequent};
+ghost use Rattle.ab_alternatives.specs.ab_logic.specs.Growth.{Grows};
+ghost use Rattle.ab_alternatives.specs.ab_logic.specs.Marks as mark;
+ghost use Rattle.ab_alternatives.specs.ab_logic.specs.Readings.{HoldsSequent};
+ghost use Rattle.ab_alternatives.specs.ab_logic.specs.Worlds.{IsWorld, Holds, read, declarations_of};
 ghost use Rattle.ab_rules.specs.Steps as plain;
 ghost use Rattle.ab_rules.specs.Answers.{Answers, label_of, row_at};
 
 use crate::lists::one;
 use crate::step::KernelFault;
-use ab_logic::{Sequent, Sign, World};
-use ab_naming::{Label, name_by};
+use ab_alternatives::below::logic::{Sequent, Sign, World};
+use ab_alternatives::below::naming::{Label, name_by};
+use ab_alternatives::below::store::TermId;
 use ab_sizing::{
     Kind, coinductive_in, inductive_at, marked_antecedent, marked_consequent, next_level,
 };
-use ab_store::TermId;
 use std::alloc::{AllocError, Global};
 
 /// A formula as it is assumed, with the mark of what is smaller, and as it is to be derived.

@@ -1,9 +1,9 @@
 //! The steps of a derivation, and why one isn't taken.
 
 use crate::replaces::Replaces;
-use ab_naming::Label;
-use ab_store::TermId;
-use ab_types::Name;
+use ab_alternatives::below::naming::Label;
+use ab_alternatives::below::store::TermId;
+use ab_alternatives::below::types::Name;
 use std::alloc::AllocError;
 use thiserror::Error;
 

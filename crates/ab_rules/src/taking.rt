@@ -1,9 +1,9 @@
 //! The premises of a step: one function for each rule.
 ghost use Rattle.std.specs.Prelude.{◌≡◌, ◌≤◌};
-ghost use Rattle.ab_logic.specs.Worlds.{IsWorld, declarations_of};
-ghost use Rattle.ab_logic.specs.Growth.{Grows};
-ghost use Rattle.ab_logic.specs.Readings.{sequent_of, HoldsSequent};
-ghost use Rattle.ab_logic.specs.Sequents.{IsSequent};
+ghost use Rattle.ab_alternatives.specs.ab_logic.specs.Worlds.{IsWorld, declarations_of};
+ghost use Rattle.ab_alternatives.specs.ab_logic.specs.Growth.{Grows};
+ghost use Rattle.ab_alternatives.specs.ab_logic.specs.Readings.{sequent_of, HoldsSequent};
+ghost use Rattle.ab_alternatives.specs.ab_logic.specs.Sequents.{IsSequent};
 ghost use Rattle.ab_rules.specs.Answers.{Answers, row_at, step_of, HoldsStep};
 
 use crate::closing::{equal_right, false_left, initial, true_right};
@@ -15,8 +15,8 @@ use crate::right::{and_right, or_right};
 use crate::sizes::{coinduction, induction};
 use crate::step::{KernelFault, Step};
 use crate::telling::{cut_formula, exists_right, for_all_left};
-use ab_logic::{Sequent, World};
-use ab_types::Steps;
+use ab_alternatives::below::logic::{Sequent, World};
+use ab_alternatives::below::types::Steps;
 use std::alloc::Global;
 
 /// The premises that the step leads to from the goal, or why it leads to none.

@@ -1,20 +1,20 @@
 //! The rules that are told a term: what is put for the name of a quantifier, and the formula of a cut.
 ghost use Rattle.std.specs.Prelude.{◌≡◌, ◌≤◌};
-ghost use Rattle.ab_logic.specs.Readings.{HoldsSequent};
-ghost use Rattle.ab_logic.specs.Worlds.{IsWorld, Holds, declarations_of};
-ghost use Rattle.ab_logic.specs.Growth.{Grows};
+ghost use Rattle.ab_alternatives.specs.ab_logic.specs.Readings.{HoldsSequent};
+ghost use Rattle.ab_alternatives.specs.ab_logic.specs.Worlds.{IsWorld, Holds, declarations_of};
+ghost use Rattle.ab_alternatives.specs.ab_logic.specs.Growth.{Grows};
 ghost use Rattle.ab_rules.specs.Steps as plain;
-ghost use Rattle.ab_logic.specs.Worlds.{read};
+ghost use Rattle.ab_alternatives.specs.ab_logic.specs.Worlds.{read};
 ghost use Rattle.ab_rules.specs.Answers.{Answers, label_of, row_at};
 
 use crate::fitting::{fits_in, formula_fits_in};
 use crate::lists::{one, two};
 use crate::step::KernelFault;
 use crate::terms::instance_of;
-use ab_logic::{Sequent, World, as_exists, as_forall};
-use ab_naming::{Label, name_by};
-use ab_store::TermId;
-use ab_types::{Name, Steps};
+use ab_alternatives::below::logic::{Sequent, World, as_exists, as_forall};
+use ab_alternatives::below::naming::{Label, name_by};
+use ab_alternatives::below::store::TermId;
+use ab_alternatives::below::types::{Name, Steps};
 use std::alloc::Global;
 
 /// The body of a `forall` with the term becomes a hypothesis.

@@ -2,18 +2,18 @@
 ghost use Rattle.std.specs.Prelude.{◌≡◌, ◌≤◌, ℕ, IfOk, OnOk, map, length, All, List, [], ◌∷◌};
 ghost use Rattle.ab_term.specs.Types.{arrow, arrows};
 ghost use Rattle.ab_term.specs.Substitution.{instance, instance_by_all};
-ghost use Rattle.ab_types.specs.Entries.{IsExtendedBy as IsPartOf};
-ghost use Rattle.ab_types.specs.Ids.{HoldsType, type_of};
-ghost use Rattle.ab_norm.specs.Nominals.{nominal_of, HoldsNominal};
-ghost use Rattle.ab_logic.specs.Worlds.{IsWorld, Holds, HoldsCell, read, variable_of, declarations_of};
-ghost use Rattle.ab_logic.specs.Growth.{Grows};
+ghost use Rattle.ab_alternatives.specs.ab_types.specs.Entries.{IsExtendedBy as IsPartOf};
+ghost use Rattle.ab_alternatives.specs.ab_types.specs.Ids.{HoldsType, type_of};
+ghost use Rattle.ab_alternatives.specs.ab_norm.specs.Nominals.{nominal_of, HoldsNominal};
+ghost use Rattle.ab_alternatives.specs.ab_logic.specs.Worlds.{IsWorld, Holds, HoldsCell, read, variable_of, declarations_of};
+ghost use Rattle.ab_alternatives.specs.ab_logic.specs.Growth.{Grows};
 ghost use Rattle.ab_rules.specs.Rules.{name_term, variable_term, hint_of, raised, applied};
 ghost use Rattle.ab_rules.specs.Terms.{Adds};
 
-use ab_logic::World;
-use ab_norm::{Nominal, eta, instantiate};
-use ab_store::{CellId, Head, Node, TermId};
-use ab_types::{Name, Steps, TypeId};
+use ab_alternatives::below::logic::World;
+use ab_alternatives::below::norm::{Nominal, eta, instantiate};
+use ab_alternatives::below::store::{CellId, Head, Node, TermId};
+use ab_alternatives::below::types::{Name, Steps, TypeId};
 use std::alloc::{AllocError, Global};
 
 /// A nominal constant as a term.

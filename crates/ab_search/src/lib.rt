@@ -2,6 +2,7 @@
 #![tactic(auto)]
 
 mod bare;
+pub mod below;
 mod choice;
 mod closing;
 mod comparing;

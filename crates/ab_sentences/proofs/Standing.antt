@@ -8,7 +8,7 @@ use Rattle.ab_term.specs.Typing.{Signature, type_at, head_type, HasType, TakeTyp
 use Rattle.ab_term.specs.Names.{support, support_of_all}
 use Rattle.ab_term.specs.Variables.{variables, variables_of_all}
 use Rattle.ab_term.proofs.Standing.{Has, AllHave}
-use Rattle.ab_store.specs.Trees.{Read}
+use Rattle.ab_logic.specs.ab_store.specs.Trees.{Read}
 use Rattle.ab_readings.specs.Types.{PropFree}
 use Rattle.ab_readings.specs.Names.{Binding, quantified, pi, binding_head}
 use Rattle.ab_grammar.specs.declared.Quant.TheVariants.{Forall, Exists, Nabla}

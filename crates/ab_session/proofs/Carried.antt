@@ -3,32 +3,32 @@ use Rattle.std.specs.Prelude.{IfSome, Result, Ok, Err, OnErr}
 use Rattle.std.proofs.Common.{◌≡◌, ◌≢◌, ℕ, List, [], ◌∷◌, ◌++◌, ◌+◌, suc, length, Option, Some, None, refl, sym, ◌∙◌, ap, subst, arith, append-nil, length-append}
 use Rattle.ab_grammar.specs.CommandTrees as told
 use Rattle.ab_grammar.specs.CommandTrees.{ProofCommand}
-use Rattle.ab_logic.specs.Declarations.{Declarations, a_theorem, signature_in, theorem_in}
-use Rattle.ab_logic.specs.Formulas.{IsSentence}
-use Rattle.ab_logic.specs.Growth.{Grows}
-use Rattle.ab_logic.specs.Names.{Label}
-use Rattle.ab_logic.specs.Sequents.{Sequent}
-use Rattle.ab_logic.specs.Worlds.{read, Holds, declarations_of, IsWorld}
-use Rattle.ab_logic.specs.declared.world.World.{World}
+use Rattle.ab_states.specs.ab_logic.specs.Declarations.{Declarations, a_theorem, signature_in, theorem_in}
+use Rattle.ab_states.specs.ab_logic.specs.Formulas.{IsSentence}
+use Rattle.ab_states.specs.ab_logic.specs.Growth.{Grows}
+use Rattle.ab_states.specs.ab_logic.specs.Names.{Label}
+use Rattle.ab_states.specs.ab_logic.specs.Sequents.{Sequent}
+use Rattle.ab_states.specs.ab_logic.specs.Worlds.{read, Holds, declarations_of, IsWorld}
+use Rattle.ab_states.specs.ab_logic.specs.declared.world.World.{World}
 use Rattle.ab_session.proofs.Counted.{added_in, as_many}
-use Rattle.ab_logic.proofs.Growing.{grows_on}
-use Rattle.ab_kernel.specs.Derivation.{History, Valid, open_goals, IsDerivation}
-use Rattle.ab_kernel.specs.Layout.{Held, history_of, IsProof}
-use Rattle.ab_kernel.proofs.Later.{same_history, still_proof}
-use Rattle.ab_effects.specs.Effect.{effect}
-use Rattle.ab_effects.specs.Refusals as row
-use Rattle.ab_effects.specs.Row.{Row, Leads, Refuses}
-use Rattle.ab_progress.specs.Progress.{goals_of, Follows}
-use Rattle.ab_progress.specs.Applied.{IsApplied, IsRefused, RefusedBy}
-use Rattle.ab_progress.specs.declared.fault.ProofCommandFault.{ProofCommandFault}
-use Rattle.ab_progress.specs.declared.fault.ProofCommandFault.TheVariants.{Unknown, Clash, TypeClash, Untyped, NoHypothesis, WrongShape, Mark, NoMatch, NotPattern, Unresolved, NamesSpent, Memory}
+use Rattle.ab_states.specs.ab_logic.proofs.Growing.{grows_on}
+use Rattle.ab_states.specs.ab_kernel.specs.Derivation.{History, Valid, open_goals, IsDerivation}
+use Rattle.ab_states.specs.ab_kernel.specs.Layout.{Held, history_of, IsProof}
+use Rattle.ab_states.specs.ab_kernel.proofs.Later.{same_history, still_proof}
+use Rattle.ab_states.specs.ab_effects.specs.Effect.{effect}
+use Rattle.ab_states.specs.ab_effects.specs.Refusals as row
+use Rattle.ab_states.specs.ab_effects.specs.Row.{Row, Leads, Refuses}
+use Rattle.ab_states.specs.ab_progress.specs.Progress.{goals_of, Follows}
+use Rattle.ab_states.specs.ab_progress.specs.Applied.{IsApplied, IsRefused, RefusedBy}
+use Rattle.ab_states.specs.ab_progress.specs.declared.fault.ProofCommandFault.{ProofCommandFault}
+use Rattle.ab_states.specs.ab_progress.specs.declared.fault.ProofCommandFault.TheVariants.{Unknown, Clash, TypeClash, Untyped, NoHypothesis, WrongShape, Mark, NoMatch, NotPattern, Unresolved, NamesSpent, Memory}
 use Rattle.ab_proofcmd.specs.Built.{IsBuilt}
-use Rattle.ab_search.specs.Closing.{CanBeClosed}
-use Rattle.ab_declare.specs.declared.refusal.Refusal.{Refusal}
-use Rattle.ab_declare.specs.declared.refusal.Refusal.TheVariants.{NotFound}
-use Rattle.ab_declare.specs.Moments.{HasMore, IsRestored}
-use Rattle.ab_declare.specs.Refusals.{refusal_for}
-use Rattle.ab_declare.proofs.Restoring.{restored_grows, restored_declares}
+use Rattle.ab_states.specs.ab_search.specs.Closing.{CanBeClosed}
+use Rattle.ab_states.specs.ab_declare.specs.declared.refusal.Refusal.{Refusal}
+use Rattle.ab_states.specs.ab_declare.specs.declared.refusal.Refusal.TheVariants.{NotFound}
+use Rattle.ab_states.specs.ab_declare.specs.Moments.{HasMore, IsRestored}
+use Rattle.ab_states.specs.ab_declare.specs.Refusals.{refusal_for}
+use Rattle.ab_states.specs.ab_declare.proofs.Restoring.{restored_grows, restored_declares}
 use Rattle.ab_states.specs.Proving.{Makes, RefusesSo, Denies}
 use Rattle.ab_session.specs.declared.attempt.Attempt.{Attempt}
 use Rattle.ab_session.specs.Sessions.{IsTried}

@@ -12,12 +12,12 @@ use Rattle.ab_syntax.specs.declared.command.ProofCommand.TheVariants as plain
 use Rattle.ab_syntax.specs.Commands.{proof_command_of, instance_of}
 use Rattle.ab_syntax.specs.Items.{list_of}
 use Rattle.ab_syntax.specs.Trees.{tree_of}
-use Rattle.ab_elaborate.specs.Judgements as elaborated
-use Rattle.ab_clausal.specs.Meanings as clausal
-use Rattle.ab_command.specs.Built.{IsBuiltInProof}
-use Rattle.ab_command.specs.Judgements.{HasNoJudgement, HaveNoJudgement, InstanceHasNoJudgement, BodyHasNoJudgement, ClauseHasNoJudgement}
-use Rattle.ab_command.specs.Reading.{StandsHere}
-use Rattle.ab_command.proofs.Sayings.{said_stands}
+use Rattle.ab_states.specs.ab_elaborate.specs.Judgements as elaborated
+use Rattle.ab_states.specs.ab_clausal.specs.Meanings as clausal
+use Rattle.ab_states.specs.ab_command.specs.Built.{IsBuiltInProof}
+use Rattle.ab_states.specs.ab_command.specs.Judgements.{HasNoJudgement, HaveNoJudgement, InstanceHasNoJudgement, BodyHasNoJudgement, ClauseHasNoJudgement}
+use Rattle.ab_states.specs.ab_command.specs.Reading.{StandsHere}
+use Rattle.ab_states.specs.ab_command.proofs.Sayings.{said_stands}
 use Rattle.ab_proofcmd.specs.Built as carried
 use Rattle.ab_proofcmd.specs.Built.{IsBuilt}
 use Rattle.ab_states.specs.State.{State, is_open}

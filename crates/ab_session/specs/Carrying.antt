@@ -1,21 +1,21 @@
 -- What a proof command does to a proof, and to an attempt. Public contracts don't speak of this.
 use Rattle.std.specs.Prelude.{◌≡◌, ◌≢◌, List, [], ◌∷◌, ◌++◌}
 use Rattle.ab_grammar.specs.CommandTrees.{ProofCommand}
-use Rattle.ab_logic.specs.Declarations.{a_theorem}
-use Rattle.ab_logic.specs.Growth.{Grows}
-use Rattle.ab_logic.specs.Names.{Label}
-use Rattle.ab_logic.specs.Sequents.{Sequent}
-use Rattle.ab_logic.specs.Worlds.{read, declarations_of}
-use Rattle.ab_logic.specs.declared.world.World.{World}
-use Rattle.ab_kernel.specs.Derivation.{IsDerivation}
-use Rattle.ab_kernel.specs.Layout.{Held, history_of, IsProof}
-use Rattle.ab_effects.specs.Refusals.{unknown, clash, type_clash, untyped, no_hypothesis, wrong_shape, mark, no_match, not_pattern, unresolved, names_spent}
-use Rattle.ab_progress.specs.Progress.{goals_of, Follows}
-use Rattle.ab_progress.specs.declared.fault.ProofCommandFault.{ProofCommandFault}
-use Rattle.ab_progress.specs.declared.fault.ProofCommandFault.TheVariants.{Unknown, Clash, TypeClash, Untyped, NoHypothesis, WrongShape, Mark, NoMatch, NotPattern, Unresolved, NamesSpent, Memory}
-use Rattle.ab_declare.specs.declared.refusal.Refusal.{Refusal}
-use Rattle.ab_declare.specs.Moments.{IsRestored}
-use Rattle.ab_declare.specs.Refusals.{refusal_for}
+use Rattle.ab_states.specs.ab_logic.specs.Declarations.{a_theorem}
+use Rattle.ab_states.specs.ab_logic.specs.Growth.{Grows}
+use Rattle.ab_states.specs.ab_logic.specs.Names.{Label}
+use Rattle.ab_states.specs.ab_logic.specs.Sequents.{Sequent}
+use Rattle.ab_states.specs.ab_logic.specs.Worlds.{read, declarations_of}
+use Rattle.ab_states.specs.ab_logic.specs.declared.world.World.{World}
+use Rattle.ab_states.specs.ab_kernel.specs.Derivation.{IsDerivation}
+use Rattle.ab_states.specs.ab_kernel.specs.Layout.{Held, history_of, IsProof}
+use Rattle.ab_states.specs.ab_effects.specs.Refusals.{unknown, clash, type_clash, untyped, no_hypothesis, wrong_shape, mark, no_match, not_pattern, unresolved, names_spent}
+use Rattle.ab_states.specs.ab_progress.specs.Progress.{goals_of, Follows}
+use Rattle.ab_states.specs.ab_progress.specs.declared.fault.ProofCommandFault.{ProofCommandFault}
+use Rattle.ab_states.specs.ab_progress.specs.declared.fault.ProofCommandFault.TheVariants.{Unknown, Clash, TypeClash, Untyped, NoHypothesis, WrongShape, Mark, NoMatch, NotPattern, Unresolved, NamesSpent, Memory}
+use Rattle.ab_states.specs.ab_declare.specs.declared.refusal.Refusal.{Refusal}
+use Rattle.ab_states.specs.ab_declare.specs.Moments.{IsRestored}
+use Rattle.ab_states.specs.ab_declare.specs.Refusals.{refusal_for}
 use Rattle.ab_states.specs.Proving.{Makes, Denies}
 use Rattle.ab_session.specs.declared.attempt.Attempt.{Attempt}
 use Rattle.ab_session.specs.declared.advancing.Outcome.{Outcome}

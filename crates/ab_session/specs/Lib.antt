@@ -3,3 +3,5 @@ pub mod Contents
 pub mod Sessions
 pub mod Carrying
 pub mod Answers
+-- Libraries that the crates above name through this one.
+pub use Rattle.ab_io

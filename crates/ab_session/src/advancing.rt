@@ -2,24 +2,24 @@
 ghost use Rattle.std.specs.Prelude.{◌≡◌, ◌++◌, ◌∷◌, [], ℕ, None, IfOk, OnOk, OnErr};
 ghost use Rattle.std.specs.Option.{option_copied};
 ghost use Rattle.ab_syntax.specs.Commands.{proof_command_of};
-ghost use Rattle.ab_logic.specs.Declarations.{a_theorem, signature_in, theorem_in};
-ghost use Rattle.ab_logic.specs.Formulas.{IsSentence};
-ghost use Rattle.ab_logic.specs.Growth.{Grows};
-ghost use Rattle.ab_logic.specs.Worlds.{read, Holds, declarations_of, IsWorld};
-ghost use Rattle.ab_command.specs.Built.{IsBuiltInProof};
-ghost use Rattle.ab_effects.specs.Effect.{given_label};
+ghost use Rattle.ab_states.specs.ab_logic.specs.Declarations.{a_theorem, signature_in, theorem_in};
+ghost use Rattle.ab_states.specs.ab_logic.specs.Formulas.{IsSentence};
+ghost use Rattle.ab_states.specs.ab_logic.specs.Growth.{Grows};
+ghost use Rattle.ab_states.specs.ab_logic.specs.Worlds.{read, Holds, declarations_of, IsWorld};
+ghost use Rattle.ab_states.specs.ab_command.specs.Built.{IsBuiltInProof};
+ghost use Rattle.ab_states.specs.ab_effects.specs.Effect.{given_label};
 ghost use Rattle.ab_session.specs.Sessions.{IsTried};
 ghost use Rattle.ab_session.specs.Carrying.{IsUnchanged, Advanced};
 
 use crate::attempt::Attempt;
 use crate::carrying::carry_out;
-use ab_declare::Moment;
-use ab_logic::{DefineFault, World};
-use ab_progress::take_back;
 use ab_states::Refusal;
-use ab_store::TermId;
+use ab_states::below::declare::Moment;
+use ab_states::below::logic::{DefineFault, World};
+use ab_states::below::progress::take_back;
+use ab_states::below::store::TermId;
+use ab_states::below::types::{Name, Steps};
 use ab_syntax::ProofCommand;
-use ab_types::{Name, Steps};
 use std::alloc::{AllocError, Global};
 
 /// What a proof command led to.

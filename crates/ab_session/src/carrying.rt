@@ -3,23 +3,23 @@ ghost use Rattle.std.specs.Prelude.{◌≡◌, ◌≢◌, ℕ, [], IfOk, IfSome,
 ghost use Rattle.std.specs.Option.{option_copied};
 ghost use Rattle.ab_grammar.specs.CommandTrees.{search};
 ghost use Rattle.ab_syntax.specs.Commands.{proof_command_of};
-ghost use Rattle.ab_logic.specs.Names.{Label};
-ghost use Rattle.ab_logic.specs.Worlds.{IsWorld};
-ghost use Rattle.ab_kernel.specs.Layout.{history_of, IsProof};
-ghost use Rattle.ab_progress.specs.Progress.{goals_of, Follows};
-ghost use Rattle.ab_command.specs.Built.{IsBuiltInProof};
-ghost use Rattle.ab_effects.specs.Effect.{given_label};
+ghost use Rattle.ab_states.specs.ab_logic.specs.Names.{Label};
+ghost use Rattle.ab_states.specs.ab_logic.specs.Worlds.{IsWorld};
+ghost use Rattle.ab_states.specs.ab_kernel.specs.Layout.{history_of, IsProof};
+ghost use Rattle.ab_states.specs.ab_progress.specs.Progress.{goals_of, Follows};
+ghost use Rattle.ab_states.specs.ab_command.specs.Built.{IsBuiltInProof};
+ghost use Rattle.ab_states.specs.ab_effects.specs.Effect.{given_label};
 ghost use Rattle.ab_proofcmd.specs.Built.{IsBuilt};
 ghost use Rattle.ab_session.specs.Carrying.{IsMade, IsDenied};
 
 use crate::refusals::told;
-use ab_kernel::Proof;
-use ab_logic::World;
 use ab_proofcmd::apply_proof_command;
-use ab_search::{SearchFault, search};
 use ab_states::Refusal;
+use ab_states::below::kernel::Proof;
+use ab_states::below::logic::World;
+use ab_states::below::search::{SearchFault, search};
+use ab_states::below::types::{Name, Steps};
 use ab_syntax::ProofCommand;
-use ab_types::{Name, Steps};
 use std::alloc::{AllocError, Global};
 
 /// Closes the first goal, or refuses where it can't be closed outright.

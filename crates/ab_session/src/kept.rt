@@ -1,7 +1,7 @@
 //! Commands that are kept.
 ghost use Rattle.std.specs.Prelude.{◌≡◌, ◌<◌, IfOk, OnOk, vec_len, vec_capacity};
 
-use ab_declare::Moment;
+use ab_states::below::declare::Moment;
 use std::alloc::{AllocError, Global};
 
 /// How a session was before a command, so far as it takes to go back there.

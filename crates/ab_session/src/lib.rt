@@ -3,6 +3,7 @@
 
 mod advancing;
 mod attempt;
+pub mod below;
 mod carrying;
 mod kept;
 pub mod laws;

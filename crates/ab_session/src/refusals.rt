@@ -3,8 +3,8 @@ ghost use Rattle.std.specs.Prelude.{◌≡◌, IfOk};
 ghost use Rattle.ab_states.specs.Reply.{unread_for};
 ghost use Rattle.ab_session.specs.Carrying.{TellsOf};
 
-use ab_command::Cause;
-use ab_progress::ProofCommandFault;
+use ab_states::below::command::Cause;
+use ab_states::below::progress::ProofCommandFault;
 use ab_states::{Place, Refusal};
 use std::alloc::AllocError;
 

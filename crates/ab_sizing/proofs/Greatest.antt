@@ -1,9 +1,9 @@
 -- The greatest level of some marks and of some more, and of the formulas of hypotheses, one after another.
 use Rattle.std.proofs.Common.{◌≡◌, ℕ, zero, ◌+◌, ◌<◌, max, List, [], ◌∷◌, ◌++◌, map, take, length, get_or, Bool, true, false, cond, nat_lt, refl, sym, ◌∙◌, ap, arith, append-nil}
 use Rattle.std.proofs.lemmas.List.{map_more}
-use Rattle.ab_store.specs.Trees.{Read}
-use Rattle.ab_logic.specs.Marks.{Sign, marks_of}
-use Rattle.ab_logic.specs.Sequents.{Hypothesis, formulas}
+use Rattle.ab_induction.specs.ab_store.specs.Trees.{Read}
+use Rattle.ab_induction.specs.ab_logic.specs.Marks.{Sign, marks_of}
+use Rattle.ab_induction.specs.ab_logic.specs.Sequents.{Hypothesis, formulas}
 use Rattle.ab_induction.specs.Levels.{greater, greatest, signs_in, signs_of_all}
 
 greater_is_max : (m n : ℕ) → greater m n ≡ max m n

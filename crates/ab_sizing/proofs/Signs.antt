@@ -1,8 +1,8 @@
 -- An atom that is given a size, by its mark: whether there is one, and which mark it has.
 use Rattle.std.specs.Option.{option_map}
 use Rattle.std.proofs.Common.{◌≡◌, Option, Some, None, refl}
-use Rattle.ab_logic.specs.Marks.{Sign}
-use Rattle.ab_analysis.specs.Atoms.{Defined}
+use Rattle.ab_induction.specs.ab_logic.specs.Marks.{Sign}
+use Rattle.ab_induction.specs.ab_analysis.specs.Atoms.{Defined}
 
 pub no_atom : (o : Option Defined) → None ≡ option_map (λ d. d.sign) o → o ≡ None
 no_atom None e = refl

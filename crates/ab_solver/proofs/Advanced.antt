@@ -5,11 +5,11 @@ use Rattle.std.specs.Global.{Global}
 use Rattle.std.proofs.lemmas.List.{map-append}
 use Rattle.ab_term.specs.Variables.{Substitution, composition}
 use Rattle.ab_term.specs.Sameness.{same_number}
-use Rattle.ab_types.specs.Entries.{Table}
-use Rattle.ab_store.specs.declared.node.CellId.{CellId}
-use Rattle.ab_store.specs.Trees.{Contents}
-use Rattle.ab_patterns.specs.declared.equation.Numbered.{Numbered}
-use Rattle.ab_solve.specs.Solving.{State, Equation, unified, image_of, Next, finished, goes_on, next_by, ending, carried}
+use Rattle.ab_unifying.specs.ab_types.specs.Entries.{Table}
+use Rattle.ab_unifying.specs.ab_store.specs.declared.node.CellId.{CellId}
+use Rattle.ab_unifying.specs.ab_store.specs.Trees.{Contents}
+use Rattle.ab_unifying.specs.ab_patterns.specs.declared.equation.Numbered.{Numbered}
+use Rattle.ab_unifying.specs.ab_solve.specs.Solving.{State, Equation, unified, image_of, Next, finished, goes_on, next_by, ending, carried}
 use Rattle.ab_unifying.specs.declared.ruling.Step.TheVariants.{NoRule, Clash, Parts, Replaced}
 use Rattle.ab_unifying.specs.Problem.{cells_read, variables_read}
 use Rattle.ab_unifying.specs.Changed.{Changed}

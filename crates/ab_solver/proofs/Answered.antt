@@ -7,22 +7,22 @@ use Rattle.ab_term.specs.Translation.{forget, EqualPastHints}
 use Rattle.ab_term.specs.Variables.{Substitution, image, IsTyped}
 use Rattle.ab_term.specs.Sameness.{same_number}
 use Rattle.ab_term.proofs.Compositions.{image-composition}
-use Rattle.ab_types.specs.Entries.{Table, signature}
-use Rattle.ab_store.specs.declared.node.TermId.{TermId}
-use Rattle.ab_store.specs.declared.node.CellId.{CellId}
-use Rattle.ab_store.specs.declared.node.Equation.{Equation}
-use Rattle.ab_store.specs.Trees.{Contents}
-use Rattle.ab_store.specs.Reading.{reading}
-use Rattle.ab_store.specs.Naming.{IsTypedBy, IsTerm}
-use Rattle.ab_store.proofs.Putting.{read_typed}
-use Rattle.ab_solve.specs.Replacing.{Cell}
-use Rattle.ab_solve.specs.Solving as rules
-use Rattle.ab_solve.specs.Solving.{Solves}
-use Rattle.ab_solve.specs.Meaning.{AreTyped, AreKnown, AreOver, Unifies, restricted, IsUnifier, IsMostGeneral}
-use Rattle.ab_solve.proofs.Unique.{unique}
-use Rattle.ab_solve.proofs.Problems.{answer_typed, answer_unifies}
-use Rattle.ab_solve.proofs.Given.{apart_none, most_general}
-use Rattle.ab_solve.proofs.Restricted.{restricted_general}
+use Rattle.ab_unifying.specs.ab_types.specs.Entries.{Table, signature}
+use Rattle.ab_unifying.specs.ab_store.specs.declared.node.TermId.{TermId}
+use Rattle.ab_unifying.specs.ab_store.specs.declared.node.CellId.{CellId}
+use Rattle.ab_unifying.specs.ab_store.specs.declared.node.Equation.{Equation}
+use Rattle.ab_unifying.specs.ab_store.specs.Trees.{Contents}
+use Rattle.ab_unifying.specs.ab_store.specs.Reading.{reading}
+use Rattle.ab_unifying.specs.ab_store.specs.Naming.{IsTypedBy, IsTerm}
+use Rattle.ab_unifying.specs.ab_store.proofs.Putting.{read_typed}
+use Rattle.ab_unifying.specs.ab_solve.specs.Replacing.{Cell}
+use Rattle.ab_unifying.specs.ab_solve.specs.Solving as rules
+use Rattle.ab_unifying.specs.ab_solve.specs.Solving.{Solves}
+use Rattle.ab_unifying.specs.ab_solve.specs.Meaning.{AreTyped, AreKnown, AreOver, Unifies, restricted, IsUnifier, IsMostGeneral}
+use Rattle.ab_unifying.specs.ab_solve.proofs.Unique.{unique}
+use Rattle.ab_unifying.specs.ab_solve.proofs.Problems.{answer_typed, answer_unifies}
+use Rattle.ab_unifying.specs.ab_solve.proofs.Given.{apart_none, most_general}
+use Rattle.ab_unifying.specs.ab_solve.proofs.Restricted.{restricted_general}
 use Rattle.ab_unifying.specs.Problem.{cells_read, variables_read, equations_from, equations_read, problem}
 use Rattle.ab_unifying.specs.Changed.{IsFree}
 use Rattle.ab_unifying.proofs.Solved.{known_cells}
@@ -30,7 +30,7 @@ use Rattle.ab_solver.specs.declared.solved.Solved.{Solved}
 use Rattle.ab_solver.specs.declared.solved.Solved.TheVariants.{Unified, Apart, Stuck}
 use Rattle.ab_solver.specs.Answers.{IsTypedPair, HasSolution, IsUnified, AreLeft}
 use Rattle.ab_solver.specs.Counting.{Takes}
-use Rattle.ab_patterns.specs.declared.equation.Numbered.{Numbered}
+use Rattle.ab_unifying.specs.ab_patterns.specs.declared.equation.Numbered.{Numbered}
 use Rattle.ab_solver.specs.States.{numbered_from, state_of, answer_of, verdict_of, Runs}
 use Rattle.ab_solver.proofs.Numbered.{numbered_read}
 use Rattle.ab_solver.proofs.Over.{reads_over}

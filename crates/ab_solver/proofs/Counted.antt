@@ -1,7 +1,7 @@
 -- How many rules a step carries out.
 use Rattle.std.proofs.Common.{◌≡◌, ℕ, suc, ◌≤◌, None, refl, sym, ◌∙◌, ap, subst, arith}
-use Rattle.ab_solve.specs.Solving.{State, Answer, apart, rule, first_found, finished, goes_on, next_by, next, ending}
-use Rattle.ab_solve.proofs.Unique.{not_both, one_step}
+use Rattle.ab_unifying.specs.ab_solve.specs.Solving.{State, Answer, apart, rule, first_found, finished, goes_on, next_by, next, ending}
+use Rattle.ab_unifying.specs.ab_solve.proofs.Unique.{not_both, one_step}
 use Rattle.ab_solver.specs.Counting.{Takes, no_rule, last_rule, one_rule}
 
 module _ {Hint : Type 0} (x : Hint) where

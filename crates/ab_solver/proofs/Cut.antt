@@ -1,16 +1,16 @@
 -- A store that is cut back to where it was, and what is said of the answers that leave it otherwise.
 use Rattle.std.proofs.Common.{◌≡◌, ◌<◌, ◌≤◌, List, take, length, true, false, Result, Ok, Err, IfOk, sym, ◌∙◌, ap, subst, arith, take_all}
-use Rattle.ab_types.specs.Entries.{Table}
-use Rattle.ab_store.specs.declared.node.Node.{Node}
-use Rattle.ab_store.specs.declared.node.TermId.{TermId}
-use Rattle.ab_store.specs.declared.node.CellId.{CellId}
-use Rattle.ab_store.specs.declared.node.CellEntry.{CellEntry}
-use Rattle.ab_store.specs.declared.mark.Mark.{Mark}
-use Rattle.ab_store.specs.Trees.{Contents, Holds, cell_in, tree_of}
-use Rattle.ab_store.specs.Marks.{HasMark, KeepsMark, IsNoLater, at_mark}
-use Rattle.ab_store.specs.Naming.{IsTypedBy}
-use Rattle.ab_store.proofs.Marking.{kept_on}
-use Rattle.ab_store.proofs.Tables.{still_typed, same_tree}
+use Rattle.ab_unifying.specs.ab_types.specs.Entries.{Table}
+use Rattle.ab_unifying.specs.ab_store.specs.declared.node.Node.{Node}
+use Rattle.ab_unifying.specs.ab_store.specs.declared.node.TermId.{TermId}
+use Rattle.ab_unifying.specs.ab_store.specs.declared.node.CellId.{CellId}
+use Rattle.ab_unifying.specs.ab_store.specs.declared.node.CellEntry.{CellEntry}
+use Rattle.ab_unifying.specs.ab_store.specs.declared.mark.Mark.{Mark}
+use Rattle.ab_unifying.specs.ab_store.specs.Trees.{Contents, Holds, cell_in, tree_of}
+use Rattle.ab_unifying.specs.ab_store.specs.Marks.{HasMark, KeepsMark, IsNoLater, at_mark}
+use Rattle.ab_unifying.specs.ab_store.specs.Naming.{IsTypedBy}
+use Rattle.ab_unifying.specs.ab_store.proofs.Marking.{kept_on}
+use Rattle.ab_unifying.specs.ab_store.proofs.Tables.{still_typed, same_tree}
 use Rattle.ab_unifying.specs.Changed.{Grows}
 use Rattle.ab_unifying.proofs.Growth.{whole, has_whole}
 use Rattle.ab_solver.specs.declared.solved.Solved.{Solved}

@@ -6,17 +6,17 @@ use Rattle.ab_term.specs.Types.{Ty}
 use Rattle.ab_term.specs.Variables.{Substitution, image, composition}
 use Rattle.ab_term.specs.Sameness.{same_number}
 use Rattle.ab_term.proofs.Compositions.{image-composition, composition_typed}
-use Rattle.ab_types.specs.Entries.{Table, signature}
-use Rattle.ab_store.specs.declared.node.TermId.{TermId}
-use Rattle.ab_store.specs.declared.node.CellId.{CellId}
-use Rattle.ab_store.specs.Trees.{Contents, HoldsCell}
-use Rattle.ab_store.specs.Reading.{reading}
-use Rattle.ab_store.specs.Naming.{IsTypedBy, IsTerm}
-use Rattle.ab_store.proofs.Putting.{read_typed}
-use Rattle.ab_patterns.specs.declared.equation.Numbered.{Numbered}
-use Rattle.ab_solve.specs.Replacing.{Change}
-use Rattle.ab_solve.specs.Solving.{image_of, rule, unchanged}
-use Rattle.ab_solve.proofs.Ruling.{image_none}
+use Rattle.ab_unifying.specs.ab_types.specs.Entries.{Table, signature}
+use Rattle.ab_unifying.specs.ab_store.specs.declared.node.TermId.{TermId}
+use Rattle.ab_unifying.specs.ab_store.specs.declared.node.CellId.{CellId}
+use Rattle.ab_unifying.specs.ab_store.specs.Trees.{Contents, HoldsCell}
+use Rattle.ab_unifying.specs.ab_store.specs.Reading.{reading}
+use Rattle.ab_unifying.specs.ab_store.specs.Naming.{IsTypedBy, IsTerm}
+use Rattle.ab_unifying.specs.ab_store.proofs.Putting.{read_typed}
+use Rattle.ab_unifying.specs.ab_patterns.specs.declared.equation.Numbered.{Numbered}
+use Rattle.ab_unifying.specs.ab_solve.specs.Replacing.{Change}
+use Rattle.ab_unifying.specs.ab_solve.specs.Solving.{image_of, rule, unchanged}
+use Rattle.ab_unifying.specs.ab_solve.proofs.Ruling.{image_none}
 use Rattle.ab_unifying.specs.Problem.{cells_read, variables_read}
 use Rattle.ab_unifying.specs.Changed.{Grows, IsFree, Changed}
 use Rattle.ab_unifying.specs.Outcome.{equation_read, IsTypedEquation, still}

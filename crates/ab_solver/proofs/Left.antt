@@ -6,18 +6,18 @@ use Rattle.std.proofs.lemmas.List.Elements.{All-contains}
 use Rattle.ab_term.specs.Terms.{Variable}
 use Rattle.ab_term.specs.Variables.{Substitution}
 use Rattle.ab_term.proofs.Lists.{Contains-map, Contains-from_map}
-use Rattle.ab_types.specs.Entries.{Table}
-use Rattle.ab_store.specs.declared.node.CellId.{CellId}
-use Rattle.ab_store.specs.declared.node.CellEntry.{CellEntry}
-use Rattle.ab_store.specs.Trees.{Contents, HoldsCell}
-use Rattle.ab_store.specs.Reading.{cell_variable}
-use Rattle.ab_store.specs.Bindings.{IsUnbound}
-use Rattle.ab_patterns.specs.declared.equation.Numbered.{Numbered}
-use Rattle.ab_solve.specs.Replacing.{Cell, holds}
-use Rattle.ab_solve.specs.Meaning.{IsCell, keys}
-use Rattle.ab_solve.proofs.Agreeing.{contains_holds}
-use Rattle.ab_solve.proofs.Falling.{map_length}
-use Rattle.ab_unify.proofs.Standing.{holds_contains}
+use Rattle.ab_unifying.specs.ab_types.specs.Entries.{Table}
+use Rattle.ab_unifying.specs.ab_store.specs.declared.node.CellId.{CellId}
+use Rattle.ab_unifying.specs.ab_store.specs.declared.node.CellEntry.{CellEntry}
+use Rattle.ab_unifying.specs.ab_store.specs.Trees.{Contents, HoldsCell}
+use Rattle.ab_unifying.specs.ab_store.specs.Reading.{cell_variable}
+use Rattle.ab_unifying.specs.ab_store.specs.Bindings.{IsUnbound}
+use Rattle.ab_unifying.specs.ab_patterns.specs.declared.equation.Numbered.{Numbered}
+use Rattle.ab_unifying.specs.ab_solve.specs.Replacing.{Cell, holds}
+use Rattle.ab_unifying.specs.ab_solve.specs.Meaning.{IsCell, keys}
+use Rattle.ab_unifying.specs.ab_solve.proofs.Agreeing.{contains_holds}
+use Rattle.ab_unifying.specs.ab_solve.proofs.Falling.{map_length}
+use Rattle.ab_unifying.specs.ab_unify.proofs.Standing.{holds_contains}
 use Rattle.ab_unifying.specs.Problem.{cell_read, cells_read, variables_read}
 use Rattle.ab_unifying.specs.Changed.{IsFree}
 use Rattle.ab_unifying.proofs.Growth.{grown_variable}

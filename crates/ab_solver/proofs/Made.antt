@@ -5,15 +5,15 @@ use Rattle.std.specs.Cmp.{unsigned_Decides}
 use Rattle.std.proofs.lemmas.List.{map-append}
 use Rattle.std.proofs.lemmas.List.Elements.{All-contains, Contains-append_right, Contains-append_cases}
 use Rattle.ab_term.proofs.Lists.{Contains-none, Contains-here, Contains-there, Contains-cases, Contains-from_map, AllPairs-parts}
-use Rattle.ab_types.specs.Entries.{Table}
-use Rattle.ab_store.specs.declared.node.TermId.{TermId}
-use Rattle.ab_store.specs.declared.node.CellId.{CellId}
-use Rattle.ab_store.specs.declared.node.Binding.{Binding}
-use Rattle.ab_store.specs.Trees.{Contents, HoldsCell}
-use Rattle.ab_store.specs.Reading.{bound_in}
-use Rattle.ab_store.specs.Bindings.{AreInOrder}
-use Rattle.ab_store.specs.Naming.{BindingIsTyped}
-use Rattle.ab_solve.specs.Replacing.{Change}
+use Rattle.ab_unifying.specs.ab_types.specs.Entries.{Table}
+use Rattle.ab_unifying.specs.ab_store.specs.declared.node.TermId.{TermId}
+use Rattle.ab_unifying.specs.ab_store.specs.declared.node.CellId.{CellId}
+use Rattle.ab_unifying.specs.ab_store.specs.declared.node.Binding.{Binding}
+use Rattle.ab_unifying.specs.ab_store.specs.Trees.{Contents, HoldsCell}
+use Rattle.ab_unifying.specs.ab_store.specs.Reading.{bound_in}
+use Rattle.ab_unifying.specs.ab_store.specs.Bindings.{AreInOrder}
+use Rattle.ab_unifying.specs.ab_store.specs.Naming.{BindingIsTyped}
+use Rattle.ab_unifying.specs.ab_solve.specs.Replacing.{Change}
 use Rattle.ab_unifying.specs.Changed.{IsFree, Changed}
 use Rattle.ab_unifying.proofs.Growth.{front_bindings, was_unbound}
 use Rattle.ab_unifying.proofs.Listed.{same_cell}

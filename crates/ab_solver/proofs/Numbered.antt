@@ -2,9 +2,9 @@
 use Rattle.std.proofs.Common.{◌≡◌, ℕ, ◌+◌, List, [], ◌∷◌, ◌++◌, map, length, refl, ap, arith}
 use Rattle.std.specs.Prelude.{All}
 use Rattle.std.proofs.lemmas.List.Elements.{All-nil, All-cons, All-head, All-tail}
-use Rattle.ab_types.specs.Entries.{Table}
-use Rattle.ab_store.specs.declared.node.Equation.{Equation}
-use Rattle.ab_store.specs.Trees.{Contents}
+use Rattle.ab_unifying.specs.ab_types.specs.Entries.{Table}
+use Rattle.ab_unifying.specs.ab_store.specs.declared.node.Equation.{Equation}
+use Rattle.ab_unifying.specs.ab_store.specs.Trees.{Contents}
 use Rattle.ab_unifying.specs.Problem.{equations_from}
 use Rattle.ab_unifying.specs.Outcome.{equation_read, IsTypedEquation}
 use Rattle.ab_solver.specs.Answers.{IsTypedPair}

@@ -8,20 +8,20 @@ use Rattle.ab_term.specs.Variables.{Substitution, variables, value_in, image, on
 use Rattle.ab_term.specs.Sameness.{same_numbered, same_number}
 use Rattle.ab_term.proofs.Standing.{HeadHas, Has, AllHave, image_by_has}
 use Rattle.ab_term.proofs.Stands.{Either, has_variables}
-use Rattle.ab_types.specs.Entries.{Table}
-use Rattle.ab_store.specs.declared.node.TermId.{TermId}
-use Rattle.ab_store.specs.declared.node.Head.{Head}
-use Rattle.ab_store.specs.declared.node.Head.TheVariants.{Const, Logic, Nominal, Cell, Index}
-use Rattle.ab_store.specs.declared.node.Node.{Node}
-use Rattle.ab_store.specs.declared.node.Node.TheVariants.{Lam, Spine}
-use Rattle.ab_store.specs.Trees.{Read, Contents, Holds, head_in, tree_of, node_tree}
-use Rattle.ab_store.specs.Reading.{pairs, reading}
-use Rattle.ab_store.specs.Naming.{HeadNames, NodeNames, BindingIsTyped, IsTypedBy}
-use Rattle.ab_store.proofs.Nodes.{terms_from-at}
-use Rattle.ab_store.proofs.Putting.{pair}
-use Rattle.ab_solve.specs.Meaning.{IsOver}
-use Rattle.ab_solve.proofs.Falling.{map_length}
-use Rattle.ab_unify.proofs.Standing.{holds_contains}
+use Rattle.ab_unifying.specs.ab_types.specs.Entries.{Table}
+use Rattle.ab_unifying.specs.ab_store.specs.declared.node.TermId.{TermId}
+use Rattle.ab_unifying.specs.ab_store.specs.declared.node.Head.{Head}
+use Rattle.ab_unifying.specs.ab_store.specs.declared.node.Head.TheVariants.{Const, Logic, Nominal, Cell, Index}
+use Rattle.ab_unifying.specs.ab_store.specs.declared.node.Node.{Node}
+use Rattle.ab_unifying.specs.ab_store.specs.declared.node.Node.TheVariants.{Lam, Spine}
+use Rattle.ab_unifying.specs.ab_store.specs.Trees.{Read, Contents, Holds, head_in, tree_of, node_tree}
+use Rattle.ab_unifying.specs.ab_store.specs.Reading.{pairs, reading}
+use Rattle.ab_unifying.specs.ab_store.specs.Naming.{HeadNames, NodeNames, BindingIsTyped, IsTypedBy}
+use Rattle.ab_unifying.specs.ab_store.proofs.Nodes.{terms_from-at}
+use Rattle.ab_unifying.specs.ab_store.proofs.Putting.{pair}
+use Rattle.ab_unifying.specs.ab_solve.specs.Meaning.{IsOver}
+use Rattle.ab_unifying.specs.ab_solve.proofs.Falling.{map_length}
+use Rattle.ab_unifying.specs.ab_unify.proofs.Standing.{holds_contains}
 use Rattle.ab_unifying.specs.Problem.{cell_read, cells_read}
 
 -- a variable with the number of one of the first n cells

@@ -7,17 +7,17 @@ use Rattle.ab_term.specs.Terms.{Variable, Term, lam, spine, Terms, no_terms, ter
 use Rattle.ab_term.specs.Typing.{Signature, HasType}
 use Rattle.ab_term.specs.Variables.{variables, variables_of_head, variables_of_all}
 use Rattle.ab_term.specs.Sameness.{same_head, same_term}
-use Rattle.ab_types.specs.Entries.{Table, signature}
-use Rattle.ab_store.specs.Trees.{Contents}
-use Rattle.ab_store.specs.Reading.{reading}
-use Rattle.ab_store.specs.Bindings.{IsUnbound}
-use Rattle.ab_patterns.specs.declared.equation.Numbered.{Numbered}
-use Rattle.ab_patterns.specs.Readings.{equation_of, HoldsEquation}
-use Rattle.ab_solve.specs.Replacing.{Cell, is_flexible}
-use Rattle.ab_solve.specs.Solving.{Equation, Result, clash, parts, replaced, or_else, paired, equal_sides, bodies, rigid_heads}
-use Rattle.ab_solve.specs.Meaning.{AreTyped}
-use Rattle.ab_solve.proofs.Steps.{OnResult, on_or_else, on_cond}
-use Rattle.ab_solve.proofs.Ruling.{Right, equal_right, bodies_right, heads_right}
+use Rattle.ab_unifying.specs.ab_types.specs.Entries.{Table, signature}
+use Rattle.ab_unifying.specs.ab_store.specs.Trees.{Contents}
+use Rattle.ab_unifying.specs.ab_store.specs.Reading.{reading}
+use Rattle.ab_unifying.specs.ab_store.specs.Bindings.{IsUnbound}
+use Rattle.ab_unifying.specs.ab_patterns.specs.declared.equation.Numbered.{Numbered}
+use Rattle.ab_unifying.specs.ab_patterns.specs.Readings.{equation_of, HoldsEquation}
+use Rattle.ab_unifying.specs.ab_solve.specs.Replacing.{Cell, is_flexible}
+use Rattle.ab_unifying.specs.ab_solve.specs.Solving.{Equation, Result, clash, parts, replaced, or_else, paired, equal_sides, bodies, rigid_heads}
+use Rattle.ab_unifying.specs.ab_solve.specs.Meaning.{AreTyped}
+use Rattle.ab_unifying.specs.ab_solve.proofs.Steps.{OnResult, on_or_else, on_cond}
+use Rattle.ab_unifying.specs.ab_solve.proofs.Ruling.{Right, equal_right, bodies_right, heads_right}
 use Rattle.ab_unifying.specs.Changed.{AllUnbound}
 use Rattle.ab_unifying.specs.Outcome.{equation_read, IsTypedEquation}
 use Rattle.ab_unifying.proofs.Pruned.{unbound_reads}

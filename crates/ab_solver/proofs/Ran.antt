@@ -2,13 +2,13 @@
 use Rattle.std.proofs.Common.{ℕ, ◌+◌, ◌<◌, ◌≤◌, List, [], map, Some, None, codes, refl, arith}
 use Rattle.std.specs.Prelude.{All}
 use Rattle.ab_term.specs.Variables.{Substitution}
-use Rattle.ab_types.specs.Entries.{Table}
-use Rattle.ab_store.specs.declared.node.CellId.{CellId}
-use Rattle.ab_store.specs.Trees.{Contents}
-use Rattle.ab_store.specs.Naming.{IsTypedBy}
-use Rattle.ab_patterns.specs.declared.equation.Numbered.{Numbered}
-use Rattle.ab_solve.specs.Solving.{Answer, Solves, at_end, by_step}
-use Rattle.ab_solve.proofs.Ending.{steps_left}
+use Rattle.ab_unifying.specs.ab_types.specs.Entries.{Table}
+use Rattle.ab_unifying.specs.ab_store.specs.declared.node.CellId.{CellId}
+use Rattle.ab_unifying.specs.ab_store.specs.Trees.{Contents}
+use Rattle.ab_unifying.specs.ab_store.specs.Naming.{IsTypedBy}
+use Rattle.ab_unifying.specs.ab_patterns.specs.declared.equation.Numbered.{Numbered}
+use Rattle.ab_unifying.specs.ab_solve.specs.Solving.{Answer, Solves, at_end, by_step}
+use Rattle.ab_unifying.specs.ab_solve.proofs.Ending.{steps_left}
 use Rattle.ab_unifying.specs.Changed.{IsFree}
 use Rattle.ab_unifying.proofs.Put.{starts}
 use Rattle.ab_unifying.specs.Problem.{cells_read, variables_read}

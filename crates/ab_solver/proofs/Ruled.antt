@@ -2,13 +2,13 @@
 use Rattle.std.proofs.Common.{◌≡◌, ℕ, List, Option, Some, None, codes, refl, ◌∙◌, ap, subst}
 use Rattle.std.specs.Prelude.{All}
 use Rattle.ab_term.specs.Terms.{Variable}
-use Rattle.ab_types.specs.Entries.{Table}
-use Rattle.ab_store.specs.declared.node.CellId.{CellId}
-use Rattle.ab_store.specs.Trees.{Contents}
-use Rattle.ab_store.specs.Naming.{IsTypedBy}
-use Rattle.ab_norm.specs.Growth.{AddsTypedTerms}
-use Rattle.ab_solve.specs.Replacing.{Cell}
-use Rattle.ab_solve.specs.Solving.{Equation, Result, or_else, equal_sides, bodies, rigid_heads, rule}
+use Rattle.ab_unifying.specs.ab_types.specs.Entries.{Table}
+use Rattle.ab_unifying.specs.ab_store.specs.declared.node.CellId.{CellId}
+use Rattle.ab_unifying.specs.ab_store.specs.Trees.{Contents}
+use Rattle.ab_unifying.specs.ab_store.specs.Naming.{IsTypedBy}
+use Rattle.ab_unifying.specs.ab_norm.specs.Growth.{AddsTypedTerms}
+use Rattle.ab_unifying.specs.ab_solve.specs.Replacing.{Cell}
+use Rattle.ab_unifying.specs.ab_solve.specs.Solving.{Equation, Result, or_else, equal_sides, bodies, rigid_heads, rule}
 use Rattle.ab_unifying.specs.declared.ruling.Step.{Step}
 use Rattle.ab_unifying.specs.Problem.{cells_read, variables_read}
 use Rattle.ab_unifying.specs.Changed.{IsFree}

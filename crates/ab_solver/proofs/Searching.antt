@@ -5,12 +5,12 @@ use Rattle.std.specs.Global.{Global}
 use Rattle.std.proofs.lemmas.List.{map-append}
 use Rattle.std.proofs.lemmas.List.Elements.{All-contains, All-append, All-map, All-push, Contains-append_left, Contains-append_right}
 use Rattle.ab_term.proofs.Lists.{Contains-here, All-from_contains}
-use Rattle.ab_types.specs.Entries.{Table}
-use Rattle.ab_store.specs.declared.node.CellId.{CellId}
-use Rattle.ab_store.specs.Trees.{Contents}
-use Rattle.ab_store.specs.Naming.{IsTypedBy}
-use Rattle.ab_patterns.specs.declared.equation.Numbered.{Numbered}
-use Rattle.ab_solve.specs.Solving.{Equation, Result, clash, parts, replaced, rule, Found, first_found}
+use Rattle.ab_unifying.specs.ab_types.specs.Entries.{Table}
+use Rattle.ab_unifying.specs.ab_store.specs.declared.node.CellId.{CellId}
+use Rattle.ab_unifying.specs.ab_store.specs.Trees.{Contents}
+use Rattle.ab_unifying.specs.ab_store.specs.Naming.{IsTypedBy}
+use Rattle.ab_unifying.specs.ab_patterns.specs.declared.equation.Numbered.{Numbered}
+use Rattle.ab_unifying.specs.ab_solve.specs.Solving.{Equation, Result, clash, parts, replaced, rule, Found, first_found}
 use Rattle.ab_unifying.specs.declared.ruling.Step.{Step}
 use Rattle.ab_unifying.specs.declared.ruling.Step.TheVariants.{NoRule, Clash, Parts, Replaced}
 use Rattle.ab_unifying.specs.Problem.{cells_read, variables_read}

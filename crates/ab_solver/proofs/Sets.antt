@@ -14,8 +14,8 @@ use Rattle.std.proofs.lemmas.List.Elements.{All-from_recursion, All-weaker, Cont
 use Rattle.std.proofs.lemmas.List.{map-append}
 use Rattle.std.proofs.lemmas.List.Kept.{AllPairs-cons}
 use Rattle.ab_term.proofs.Lists.{AllPairs-none, Contains-none}
-use Rattle.ab_store.specs.declared.node.CellId.{CellId}
-use Rattle.ab_store.specs.declared.node.Binding.{Binding}
+use Rattle.ab_unifying.specs.ab_store.specs.declared.node.CellId.{CellId}
+use Rattle.ab_unifying.specs.ab_store.specs.declared.node.Binding.{Binding}
 use Rattle.ab_unifying.proofs.Under.{take_one_more}
 
 abbrev pub cell_cmp : CellId → CellId → Ordering

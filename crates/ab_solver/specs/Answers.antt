@@ -2,16 +2,16 @@
 use Rattle.std.specs.Prelude.{◌≡◌, ◌<◌, ◌↔◌, ◌⊎◌, ℕ, false, List, AllPairs, Contains, Result, Ok, Err, codes}
 use Rattle.ab_term.specs.Types.{Ty}
 use Rattle.ab_term.specs.Variables.{Substitution}
-use Rattle.ab_types.specs.Entries.{Table}
-use Rattle.ab_store.specs.declared.node.CellId.{CellId}
-use Rattle.ab_store.specs.declared.node.Equation.{Equation}
-use Rattle.ab_store.specs.Trees.{Contents, HoldsCell}
-use Rattle.ab_store.specs.Reading.{cell_variable}
-use Rattle.ab_store.specs.Bindings.{IsUnbound}
-use Rattle.ab_store.specs.Naming.{IsTerm}
-use Rattle.ab_solve.specs.Replacing.{Cell, holds}
-use Rattle.ab_solve.specs.Meaning.{keys}
-use Rattle.ab_solve.specs.Solving.{State, unified, Solves}
+use Rattle.ab_unifying.specs.ab_types.specs.Entries.{Table}
+use Rattle.ab_unifying.specs.ab_store.specs.declared.node.CellId.{CellId}
+use Rattle.ab_unifying.specs.ab_store.specs.declared.node.Equation.{Equation}
+use Rattle.ab_unifying.specs.ab_store.specs.Trees.{Contents, HoldsCell}
+use Rattle.ab_unifying.specs.ab_store.specs.Reading.{cell_variable}
+use Rattle.ab_unifying.specs.ab_store.specs.Bindings.{IsUnbound}
+use Rattle.ab_unifying.specs.ab_store.specs.Naming.{IsTerm}
+use Rattle.ab_unifying.specs.ab_solve.specs.Replacing.{Cell, holds}
+use Rattle.ab_unifying.specs.ab_solve.specs.Meaning.{keys}
+use Rattle.ab_unifying.specs.ab_solve.specs.Solving.{State, unified, Solves}
 use Rattle.ab_solver.specs.declared.solved.Solved.{Solved}
 use Rattle.ab_solver.specs.declared.solved.Solved.TheVariants.{Unified, Apart, Stuck}
 

@@ -1,6 +1,6 @@
 -- How many rules are carried out before a problem is answered.
 use Rattle.std.specs.Prelude.{◌≡◌, ℕ, suc, None}
-use Rattle.ab_solve.specs.Solving.{State, apart, rule, first_found, finished, goes_on, next}
+use Rattle.ab_unifying.specs.ab_solve.specs.Solving.{State, apart, rule, first_found, finished, goes_on, next}
 
 module _ {Hint : Type 0} (x : Hint) where
   -- so many; the one that finds two sides apart is the last

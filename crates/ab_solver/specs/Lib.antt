@@ -3,3 +3,6 @@
 pub mod Answers
 pub mod Counting
 pub mod States
+-- Libraries that the crates above name through this one.
+pub use Rattle.ab_unifying.specs.ab_norm
+pub use Rattle.ab_unifying

@@ -1,13 +1,13 @@
 -- Where a run stands, and what one step of it does.
 use Rattle.std.specs.Prelude.{◌≡◌, ℕ, ◌+◌, List, [], ◌∷◌, map, All, Bool, true, false, Option, Some, None, Result, Ok, Err, codes}
 use Rattle.ab_term.specs.Variables.{Substitution}
-use Rattle.ab_types.specs.Entries.{Table}
-use Rattle.ab_store.specs.declared.node.CellId.{CellId}
-use Rattle.ab_store.specs.declared.node.Equation.{Equation as Given}
-use Rattle.ab_store.specs.Trees.{Contents}
-use Rattle.ab_patterns.specs.declared.equation.Numbered.{Numbered}
-use Rattle.ab_solve.specs.Replacing.{Change}
-use Rattle.ab_solve.specs.Solving.{State, Equation, Answer, unified, apart, stuck, clash, parts, replaced, image_of, rule, Found, first_found, finished, goes_on, next, Solves}
+use Rattle.ab_unifying.specs.ab_types.specs.Entries.{Table}
+use Rattle.ab_unifying.specs.ab_store.specs.declared.node.CellId.{CellId}
+use Rattle.ab_unifying.specs.ab_store.specs.declared.node.Equation.{Equation as Given}
+use Rattle.ab_unifying.specs.ab_store.specs.Trees.{Contents}
+use Rattle.ab_unifying.specs.ab_patterns.specs.declared.equation.Numbered.{Numbered}
+use Rattle.ab_unifying.specs.ab_solve.specs.Replacing.{Change}
+use Rattle.ab_unifying.specs.ab_solve.specs.Solving.{State, Equation, Answer, unified, apart, stuck, clash, parts, replaced, image_of, rule, Found, first_found, finished, goes_on, next, Solves}
 use Rattle.ab_unifying.specs.declared.ruling.Step.{Step}
 use Rattle.ab_unifying.specs.declared.ruling.Step.TheVariants.{NoRule, Clash, Parts, Replaced}
 use Rattle.ab_unifying.specs.Problem.{cells_read, variables_read}

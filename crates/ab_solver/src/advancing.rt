@@ -1,6 +1,6 @@
 //! One step of a run.
 ghost use Rattle.std.specs.Prelude.{◌≡◌, ◌≤◌, ◌+◌, ◌++◌, All, IfOk, OnOk};
-ghost use Rattle.ab_store.specs.Naming.{IsTypedBy};
+ghost use Rattle.ab_unifying.specs.ab_store.specs.Naming.{IsTypedBy};
 ghost use Rattle.ab_unifying.specs.Changed.{Grows, IsFree};
 ghost use Rattle.ab_unifying.specs.Outcome.{IsTypedEquation};
 ghost use Rattle.ab_solver.specs.States.{IsAtRest, IsStep, rules_in, Advances, verdict_on};
@@ -8,10 +8,10 @@ ghost use Rattle.ab_solver.specs.States.{IsAtRest, IsStep, rules_in, Advances, v
 use crate::queueing::put_back;
 use crate::settling::settle;
 use crate::verdict::Verdict;
-use ab_patterns::{FlexibleCells, Numbered};
-use ab_store::Store;
-use ab_types::{Steps, TypeTable};
 use ab_unifying::Step;
+use ab_unifying::below::patterns::{FlexibleCells, Numbered};
+use ab_unifying::below::store::Store;
+use ab_unifying::below::types::{Steps, TypeTable};
 use std::alloc::{AllocError, Global};
 use std::collections::VecDeque;
 

@@ -1,10 +1,10 @@
 //! The cells that a run made.
 ghost use Rattle.std.specs.Prelude.{◌≡◌, ◌≤◌, ◌↔◌, ◌⊎◌, map, length, drop, Contains, IfOk};
-ghost use Rattle.ab_store.specs.declared.node.CellId.{CellId};
-ghost use Rattle.ab_store.specs.Bindings.{AreInOrder};
+ghost use Rattle.ab_unifying.specs.ab_store.specs.declared.node.CellId.{CellId};
+ghost use Rattle.ab_unifying.specs.ab_store.specs.Bindings.{AreInOrder};
 ghost use Rattle.ab_solver.specs.Answers.{AreInAge};
 
-use ab_store::{Binding, CellId, Store};
+use ab_unifying::below::store::{Binding, CellId, Store};
 use std::alloc::{AllocError, Global};
 use std::collections::BTreeSet;
 

@@ -3,6 +3,7 @@
 #![tactic(auto)]
 
 mod advancing;
+pub mod below;
 mod collecting;
 mod queueing;
 mod running;

@@ -2,8 +2,8 @@
 ghost use Rattle.std.specs.Prelude.{◌≡◌, ◌++◌, [], IfOk, OnOk};
 ghost use Rattle.ab_solver.specs.States.{numbered_from};
 
-use ab_patterns::Numbered;
-use ab_store::Equation;
+use ab_unifying::below::patterns::Numbered;
+use ab_unifying::below::store::Equation;
 use std::alloc::{AllocError, Global};
 use std::collections::VecDeque;
 

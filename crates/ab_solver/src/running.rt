@@ -1,6 +1,6 @@
 //! A whole run.
 ghost use Rattle.std.specs.Prelude.{◌≤◌, ◌+◌, ◌++◌, ℕ, [], All, IfOk, OnOk, codes};
-ghost use Rattle.ab_store.specs.Naming.{IsTypedBy};
+ghost use Rattle.ab_unifying.specs.ab_store.specs.Naming.{IsTypedBy};
 ghost use Rattle.ab_unifying.specs.Changed.{Grows, IsFree};
 ghost use Rattle.ab_unifying.specs.Outcome.{IsTypedEquation};
 ghost use Rattle.ab_solver.specs.Counting.{Takes};
@@ -8,9 +8,9 @@ ghost use Rattle.ab_solver.specs.States.{IsAtRest, state_of, Runs};
 
 use crate::advancing::advance;
 use crate::verdict::Verdict;
-use ab_patterns::{FlexibleCells, Numbered};
-use ab_store::Store;
-use ab_types::{Steps, TypeTable};
+use ab_unifying::below::patterns::{FlexibleCells, Numbered};
+use ab_unifying::below::store::Store;
+use ab_unifying::below::types::{Steps, TypeTable};
 use std::alloc::{AllocError, Global};
 use std::collections::VecDeque;
 

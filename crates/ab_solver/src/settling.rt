@@ -1,15 +1,15 @@
 //! The first equation to which a rule applies.
 ghost use Rattle.std.specs.Prelude.{◌≤◌, ◌++◌, All, IfOk, OnOk};
-ghost use Rattle.ab_store.specs.Naming.{IsTypedBy};
+ghost use Rattle.ab_unifying.specs.ab_store.specs.Naming.{IsTypedBy};
 ghost use Rattle.ab_unifying.specs.Changed.{Grows, IsFree};
 ghost use Rattle.ab_unifying.specs.Outcome.{IsTypedEquation};
 ghost use Rattle.ab_solver.specs.States.{IsAtRest, Settles};
 
 use crate::stepping::apply_rule;
-use ab_patterns::{FlexibleCells, Numbered};
-use ab_store::Store;
-use ab_types::{Steps, TypeTable};
 use ab_unifying::Step;
+use ab_unifying::below::patterns::{FlexibleCells, Numbered};
+use ab_unifying::below::store::Store;
+use ab_unifying::below::types::{Steps, TypeTable};
 use std::alloc::{AllocError, Global};
 use std::collections::VecDeque;
 

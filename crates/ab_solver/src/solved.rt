@@ -1,7 +1,7 @@
 //! What unification answers.
 ghost use Rattle.std.specs.Prelude.{◌≡◌};
 
-use ab_store::CellId;
+use ab_unifying::below::store::CellId;
 use std::marker::Model;
 
 /// A list of cells. Contracts see it as the list.
@@ -12,7 +12,7 @@ pub struct Cells {
 
 impl Model for Cells {
     ghost use Rattle.std.specs.Prelude.{List};
-    ghost use Rattle.ab_store.specs.declared.node.CellId.{CellId};
+    ghost use Rattle.ab_unifying.specs.ab_store.specs.declared.node.CellId.{CellId};
 
     ghost Value = { List CellId };
 

@@ -1,18 +1,18 @@
 //! All rules, for one equation.
 ghost use Rattle.std.specs.Prelude.{◌≡◌, ◌≤◌, ℕ, List, All, IfOk, codes};
-ghost use Rattle.ab_types.specs.Entries.{Table};
-ghost use Rattle.ab_store.specs.Naming.{IsTypedBy};
-ghost use Rattle.ab_norm.specs.Growth.{AddsTypedTerms};
-ghost use Rattle.ab_patterns.specs.Readings.{equation_of, EquationIsResolved};
-ghost use Rattle.ab_solve.specs.Solving.{rule};
+ghost use Rattle.ab_unifying.specs.ab_types.specs.Entries.{Table};
+ghost use Rattle.ab_unifying.specs.ab_store.specs.Naming.{IsTypedBy};
+ghost use Rattle.ab_unifying.specs.ab_norm.specs.Growth.{AddsTypedTerms};
+ghost use Rattle.ab_unifying.specs.ab_patterns.specs.Readings.{equation_of, EquationIsResolved};
+ghost use Rattle.ab_unifying.specs.ab_solve.specs.Solving.{rule};
 ghost use Rattle.ab_unifying.specs.Problem.{cells_read, variables_read};
 ghost use Rattle.ab_unifying.specs.Changed.{Grows, IsFree};
 ghost use Rattle.ab_unifying.specs.Outcome.{equation_read, IsTypedEquation, Tells};
 
-use ab_norm::copy_resolved;
-use ab_patterns::{FlexibleCells, Numbered, Simple, try_simple_rules};
-use ab_store::Store;
-use ab_types::{Steps, TypeTable};
+use ab_unifying::below::norm::copy_resolved;
+use ab_unifying::below::patterns::{FlexibleCells, Numbered, Simple, try_simple_rules};
+use ab_unifying::below::store::Store;
+use ab_unifying::below::types::{Steps, TypeTable};
 use ab_unifying::{Step, solve_flexible};
 use std::alloc::{AllocError, Global};
 

@@ -3,3 +3,5 @@ pub mod Solutions
 pub mod Work
 pub mod Settling
 pub mod Steps
+-- Libraries that the crates above name through this one.
+pub use Rattle.ab_readings

@@ -1,11 +1,11 @@
 -- The first formula that is awaited, and the others behind it.
 use Rattle.std.specs.List.{All}
 use Rattle.std.proofs.Common.{◌≡◌, ℕ, ◌+◌, ◌-◌, ◌≤◌, List, map, take, drop, length, slice_index_or, sym, subst}
-use Rattle.ab_store.specs.declared.node.TermId.{TermId}
-use Rattle.ab_logic.specs.Growth.{Grows}
-use Rattle.ab_logic.specs.Worlds.{Holds, read}
-use Rattle.ab_logic.specs.declared.world.World.{World}
-use Rattle.ab_kernel.specs.Layout.{Held}
+use Rattle.ab_matching.specs.ab_store.specs.declared.node.TermId.{TermId}
+use Rattle.ab_matching.specs.ab_logic.specs.Growth.{Grows}
+use Rattle.ab_matching.specs.ab_logic.specs.Worlds.{Holds, read}
+use Rattle.ab_matching.specs.ab_logic.specs.declared.world.World.{World}
+use Rattle.ab_left.specs.ab_kernel.specs.Layout.{Held}
 use Rattle.ab_staging.specs.Standing.{AwaitsOne, AwaitsAll}
 use Rattle.ab_staging.proofs.Bared.{awaits_more, same_reads}
 use Rattle.ab_staging.proofs.Staged.{rest_all, formulas_still, first_and_rest}

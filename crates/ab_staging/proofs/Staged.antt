@@ -2,13 +2,13 @@
 use Rattle.std.specs.List.{All}
 use Rattle.std.proofs.Common.{◌≡◌, suc, ◌-◌, ◌<◌, ◌≤◌, List, [], ◌∷◌, take, drop, length, slice_index_or, refl, sym, ◌∙◌, ap, subst, arith, take_all}
 use Rattle.std.proofs.lemmas.List.Elements.{All-head, All-tail, All-weaker}
-use Rattle.ab_store.specs.declared.node.TermId.{TermId}
-use Rattle.ab_logic.specs.Growth.{Grows}
-use Rattle.ab_logic.specs.Worlds.{Holds}
-use Rattle.ab_logic.specs.declared.world.World.{World}
+use Rattle.ab_matching.specs.ab_store.specs.declared.node.TermId.{TermId}
+use Rattle.ab_matching.specs.ab_logic.specs.Growth.{Grows}
+use Rattle.ab_matching.specs.ab_logic.specs.Worlds.{Holds}
+use Rattle.ab_matching.specs.ab_logic.specs.declared.world.World.{World}
 use Rattle.ab_matching.specs.Readings.{HoldsStage}
-use Rattle.ab_putting.specs.declared.stage.Stage.{Stage}
-use Rattle.ab_putting.specs.declared.stage.Stage.TheVariants.{Instance, Chosen, Antecedent}
+use Rattle.ab_matching.specs.ab_putting.specs.declared.stage.Stage.{Stage}
+use Rattle.ab_matching.specs.ab_putting.specs.declared.stage.Stage.TheVariants.{Instance, Chosen, Antecedent}
 
 stage_still : (w v : World) → Grows w v → (x : Stage) → HoldsStage w x → HoldsStage v x
 stage_still w v grows (Instance t) held = grows.ids t held

@@ -1,17 +1,17 @@
 //! Formulas that are awaited become goals, and hypotheses of what is left.
 ghost use Rattle.std.specs.Prelude.{map, OnOk, IfOk, All};
-ghost use Rattle.ab_logic.specs.Worlds.{IsWorld, Holds, read};
-ghost use Rattle.ab_kernel.specs.Layout.{IsProof};
-ghost use Rattle.ab_progress.specs.Progress.{Follows};
+ghost use Rattle.ab_matching.specs.ab_logic.specs.Worlds.{IsWorld, Holds, read};
+ghost use Rattle.ab_left.specs.ab_kernel.specs.Layout.{IsProof};
+ghost use Rattle.ab_left.specs.ab_progress.specs.Progress.{Follows};
 ghost use Rattle.ab_staging.specs.Standing.{Bares, AwaitsOne, AwaitsAll};
 
 use crate::staging::own_at;
 use crate::stepping::step_into;
-use ab_kernel::{Proof, Step};
-use ab_logic::World;
-use ab_naming::Label;
-use ab_store::TermId;
-use ab_types::{Name, Steps};
+use ab_left::below::kernel::{Proof, Step};
+use ab_matching::below::logic::World;
+use ab_matching::below::naming::Label;
+use ab_matching::below::store::TermId;
+use ab_matching::below::types::{Name, Steps};
 use std::alloc::{AllocError, Global};
 
 /// Removes the hypotheses of these names from the goal of this place, the last one first.

@@ -3,6 +3,7 @@
 #![tactic(auto)]
 
 mod awaiting;
+pub mod below;
 mod opening;
 mod showing;
 mod staging;

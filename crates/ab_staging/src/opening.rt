@@ -1,24 +1,24 @@
 //! What a use leads to is opened, where no constant of a term that is given is new.
 ghost use Rattle.std.specs.Prelude.{◌≡◌, map, OnOk, Err, All, List};
-ghost use Rattle.ab_types.specs.Ids.{HoldsType};
-ghost use Rattle.ab_logic.specs.Worlds.{IsWorld, Holds, read};
-ghost use Rattle.ab_naming.specs.Labels.{label_of};
-ghost use Rattle.ab_kernel.specs.Layout.{IsProof};
-ghost use Rattle.ab_taking.specs.Readings.{given_of};
-ghost use Rattle.ab_progress.specs.Progress.{Follows};
+ghost use Rattle.ab_matching.specs.ab_types.specs.Ids.{HoldsType};
+ghost use Rattle.ab_matching.specs.ab_logic.specs.Worlds.{IsWorld, Holds, read};
+ghost use Rattle.ab_matching.specs.ab_naming.specs.Labels.{label_of};
+ghost use Rattle.ab_left.specs.ab_kernel.specs.Layout.{IsProof};
+ghost use Rattle.ab_matching.specs.ab_taking.specs.Readings.{given_of};
+ghost use Rattle.ab_left.specs.ab_progress.specs.Progress.{Follows};
 ghost use Rattle.ab_left.specs.Own.{IsOwn};
 ghost use Rattle.ab_left.specs.Progress.{HasAt};
 ghost use Rattle.ab_left.specs.declared.stop.Stop.{Stop as AStop};
 ghost use Rattle.ab_staging.specs.Standing.{OpensBeside, CantOpenBeside};
 
 use crate::turning::{given_that, turn};
-use ab_kernel::Proof;
+use ab_left::below::kernel::Proof;
 use ab_left::{Stop, open_one};
-use ab_logic::World;
-use ab_naming::Label;
-use ab_store::TermId;
-use ab_taking::GivenTerm;
-use ab_types::{Name, Steps};
+use ab_matching::below::logic::World;
+use ab_matching::below::naming::Label;
+use ab_matching::below::store::TermId;
+use ab_matching::below::taking::GivenTerm;
+use ab_matching::below::types::{Name, Steps};
 use std::alloc::{AllocError, Global};
 
 /// Opens the hypothesis of the command's own in the goal of this place, while its conclusion holds the terms that are given. It

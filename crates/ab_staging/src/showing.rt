@@ -1,19 +1,19 @@
 //! A goal gives way to what is awaited of a formula that is used.
 ghost use Rattle.std.specs.Prelude.{map, OnOk, All};
-ghost use Rattle.ab_logic.specs.Worlds.{IsWorld, Holds, read};
-ghost use Rattle.ab_kernel.specs.Layout.{IsProof};
+ghost use Rattle.ab_matching.specs.ab_logic.specs.Worlds.{IsWorld, Holds, read};
+ghost use Rattle.ab_left.specs.ab_kernel.specs.Layout.{IsProof};
 ghost use Rattle.ab_matching.specs.Readings.{HoldsStage};
-ghost use Rattle.ab_progress.specs.Progress.{Follows};
+ghost use Rattle.ab_left.specs.ab_progress.specs.Progress.{Follows};
 ghost use Rattle.ab_staging.specs.Standing.{ShowsAll};
 
 use crate::awaiting::await_all;
 use crate::staging::derive;
-use ab_kernel::Proof;
-use ab_logic::World;
+use ab_left::below::kernel::Proof;
 use ab_matching::Use;
-use ab_store::TermId;
+use ab_matching::below::logic::World;
+use ab_matching::below::store::TermId;
+use ab_matching::below::types::{Name, Steps};
 use ab_syntax::Argument;
-use ab_types::{Name, Steps};
 use std::alloc::{AllocError, Global};
 
 /// The names of the hypotheses that meet the antecedents: those that are named, and these in order, one for each hole. There

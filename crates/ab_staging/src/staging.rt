@@ -1,19 +1,19 @@
 //! A formula is derived from a hypothesis or a theorem, stage by stage.
 ghost use Rattle.std.specs.Prelude.{OnOk, IfOk, All};
-ghost use Rattle.ab_logic.specs.Worlds.{IsWorld, Holds};
-ghost use Rattle.ab_kernel.specs.Layout.{IsProof};
+ghost use Rattle.ab_matching.specs.ab_logic.specs.Worlds.{IsWorld, Holds};
+ghost use Rattle.ab_left.specs.ab_kernel.specs.Layout.{IsProof};
 ghost use Rattle.ab_matching.specs.Readings.{HoldsStage};
-ghost use Rattle.ab_progress.specs.Progress.{Follows};
+ghost use Rattle.ab_left.specs.ab_progress.specs.Progress.{Follows};
 ghost use Rattle.ab_staging.specs.Standing.{Gives};
 
 use crate::stepping::step_into;
-use ab_kernel::{Proof, Step};
+use ab_left::below::kernel::{Proof, Step};
 use ab_left::own_name;
-use ab_logic::World;
-use ab_naming::Label;
-use ab_putting::Stage;
-use ab_store::TermId;
-use ab_types::{Name, Steps};
+use ab_matching::below::logic::World;
+use ab_matching::below::naming::Label;
+use ab_matching::below::putting::Stage;
+use ab_matching::below::store::TermId;
+use ab_matching::below::types::{Name, Steps};
 use std::alloc::{AllocError, Global};
 
 /// A name of the command's own that no hypothesis of the goal of this place has.

@@ -1,15 +1,15 @@
 //! One step that leads to as many goals as are awaited.
 ghost use Rattle.std.specs.Prelude.{OnOk};
-ghost use Rattle.ab_logic.specs.Worlds.{IsWorld};
-ghost use Rattle.ab_rules.specs.Answers.{step_of, HoldsStep};
-ghost use Rattle.ab_kernel.specs.Layout.{IsProof};
-ghost use Rattle.ab_progress.specs.Progress.{Follows, TookInto};
+ghost use Rattle.ab_matching.specs.ab_logic.specs.Worlds.{IsWorld};
+ghost use Rattle.ab_left.specs.ab_rules.specs.Answers.{step_of, HoldsStep};
+ghost use Rattle.ab_left.specs.ab_kernel.specs.Layout.{IsProof};
+ghost use Rattle.ab_left.specs.ab_progress.specs.Progress.{Follows, TookInto};
 ghost use Rattle.ab_staging.specs.Standing.{Gives};
 
-use ab_kernel::{Proof, Step};
-use ab_logic::World;
-use ab_progress::{Attempted, attempt_solving};
-use ab_types::Steps;
+use ab_left::below::kernel::{Proof, Step};
+use ab_left::below::progress::{Attempted, attempt_solving};
+use ab_matching::below::logic::World;
+use ab_matching::below::types::Steps;
 use std::alloc::AllocError;
 
 /// Takes a step at the goal of this place that leads to so many goals. A place of no goal, and a step that isn't taken or leads

@@ -1,23 +1,23 @@
 //! The conclusion of a goal is changed to one that says the same, and holds the constants of terms that are given.
 ghost use Rattle.std.specs.Prelude.{◌≡◌, map, OnOk, IfOk, All};
-ghost use Rattle.ab_types.specs.Ids.{HoldsType};
-ghost use Rattle.ab_logic.specs.Growth.{Grows};
-ghost use Rattle.ab_logic.specs.Worlds.{IsWorld, Holds, read, declarations_of};
-ghost use Rattle.ab_kernel.specs.Layout.{IsProof};
-ghost use Rattle.ab_taking.specs.Readings.{given_of};
-ghost use Rattle.ab_using.specs.Uses as uses;
-ghost use Rattle.ab_effects.specs.Using as spec;
-ghost use Rattle.ab_progress.specs.Progress.{Follows};
+ghost use Rattle.ab_matching.specs.ab_types.specs.Ids.{HoldsType};
+ghost use Rattle.ab_matching.specs.ab_logic.specs.Growth.{Grows};
+ghost use Rattle.ab_matching.specs.ab_logic.specs.Worlds.{IsWorld, Holds, read, declarations_of};
+ghost use Rattle.ab_left.specs.ab_kernel.specs.Layout.{IsProof};
+ghost use Rattle.ab_matching.specs.ab_taking.specs.Readings.{given_of};
+ghost use Rattle.ab_matching.specs.ab_using.specs.Uses as uses;
+ghost use Rattle.ab_left.specs.ab_effects.specs.Using as spec;
+ghost use Rattle.ab_left.specs.ab_progress.specs.Progress.{Follows};
 ghost use Rattle.ab_staging.specs.Standing.{Gives, Turns};
 
 use crate::staging::{meet_equation, own_at};
 use crate::stepping::step_into;
-use ab_kernel::{Proof, Step};
-use ab_logic::World;
-use ab_naming::Label;
-use ab_store::{Head, Logical, TermId};
-use ab_taking::GivenTerm;
-use ab_types::{Name, Steps};
+use ab_left::below::kernel::{Proof, Step};
+use ab_matching::below::logic::World;
+use ab_matching::below::naming::Label;
+use ab_matching::below::store::{Head, Logical, TermId};
+use ab_matching::below::taking::GivenTerm;
+use ab_matching::below::types::{Name, Steps};
 use std::alloc::{AllocError, Global};
 
 /// The implication between the formulas.

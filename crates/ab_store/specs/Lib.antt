@@ -6,3 +6,5 @@ pub mod Naming
 pub mod Marks
 pub mod Growth
 pub mod Layout
+-- Libraries that the crates above name through this one.
+pub use Rattle.ab_types

@@ -2,6 +2,7 @@
 //! variables, and may be bound to terms; a mark takes bindings, and what was made since, back.
 #![tactic(auto)]
 
+pub mod below;
 mod facts;
 pub mod laws;
 mod list;

@@ -14,3 +14,5 @@ pub mod Lists
 pub mod Frames
 pub mod States
 pub mod Wholes
+-- Libraries that the crates above name through this one.
+pub use Rattle.ab_lex

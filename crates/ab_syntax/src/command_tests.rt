@@ -14,7 +14,7 @@ fn command(alloc: Global, text: &str) -> Result<String, Fail> {
 }
 
 /// A command of each form that is no proof command.
-const COMMANDS: [(&str, &str); 16] = [
+static COMMANDS: [(&str, &str); 16] = [
     (
         "Kind a, b' type.",
         r#"Ok(Kind(Items { items: ["a", "b'"] }))"#,
@@ -52,7 +52,7 @@ const COMMANDS: [(&str, &str); 16] = [
 ];
 
 /// A proof command of each form.
-const PROOF_COMMANDS: [(&str, &str); 31] = [
+static PROOF_COMMANDS: [(&str, &str); 31] = [
     ("intros.", "Ok(InProof(None, Intros(Items { items: [] })))"),
     (
         "intros A b.",
@@ -135,7 +135,7 @@ const PROOF_COMMANDS: [(&str, &str); 31] = [
 ];
 
 /// Where a command goes wrong.
-const FAULTS: [(&str, &str); 31] = [
+static FAULTS: [(&str, &str); 31] = [
     (".", "Err(Syntax(0))"),
     ("foo bar.", "Err(Syntax(0))"),
     ("foo.", "Err(Syntax(0))"),
@@ -177,7 +177,7 @@ const FAULTS: [(&str, &str); 31] = [
 
 /// Forms with blanks between their tokens. Cut behind each token, with a full stop there, it is a command (`+`), or refused
 /// at that stop (`-`), or at its first token (`0`).
-const CUTS: [(&str, &str); 30] = [
+static CUTS: [(&str, &str); 30] = [
     ("Kind a , b type", "----+"),
     ("Type a , b o -> o", "----+-+"),
     (
@@ -239,12 +239,12 @@ fn answers(alloc: Global, form: &str) -> Result<String, Fail> {
 }
 
 /// The words that are no names.
-const RESERVED: [&str; 11] = [
+static RESERVED: [&str; 11] = [
     "forall", "exists", "nabla", "true", "false", "pi", "by", "to", "with", "on", "type",
 ];
 
 /// What stands before and behind a name.
-const NAMES: [(&str, &str); 23] = [
+static NAMES: [(&str, &str); 23] = [
     ("Kind ", " type."),
     ("Kind a, ", " type."),
     ("Type ", " o."),
@@ -283,40 +283,40 @@ fn is_refused(alloc: Global, before: &str, word: &str, behind: &str) -> Result<b
 
 #[test]
 fn reads_commands(rt: HostRuntime) -> Result<(), Fail> {
-    for (text, wanted) in COMMANDS {
-        assert_eq!(rt; command(rt.alloc(), text)?.as_str(), wanted);
+    for (text, wanted) in COMMANDS.iter() {
+        assert_eq!(rt; command(rt.alloc(), text)?.as_str(), *wanted);
     }
     Ok(())
 }
 
 #[test]
 fn reads_proof_commands(rt: HostRuntime) -> Result<(), Fail> {
-    for (text, wanted) in PROOF_COMMANDS {
-        assert_eq!(rt; command(rt.alloc(), text)?.as_str(), wanted);
+    for (text, wanted) in PROOF_COMMANDS.iter() {
+        assert_eq!(rt; command(rt.alloc(), text)?.as_str(), *wanted);
     }
     Ok(())
 }
 
 #[test]
 fn refuses_at_the_first_wrong_token(rt: HostRuntime) -> Result<(), Fail> {
-    for (text, wanted) in FAULTS {
-        assert_eq!(rt; command(rt.alloc(), text)?.as_str(), wanted);
+    for (text, wanted) in FAULTS.iter() {
+        assert_eq!(rt; command(rt.alloc(), text)?.as_str(), *wanted);
     }
     Ok(())
 }
 
 #[test]
 fn refuses_forms_that_are_cut_short(rt: HostRuntime) -> Result<(), Fail> {
-    for (form, wanted) in CUTS {
-        assert_eq!(rt; answers(rt.alloc(), form)?.as_str(), wanted, "{form}");
+    for (form, wanted) in CUTS.iter() {
+        assert_eq!(rt; answers(rt.alloc(), form)?.as_str(), *wanted, "{form}");
     }
     Ok(())
 }
 
 #[test]
 fn refuses_reserved_words_as_names(rt: HostRuntime) -> Result<(), Fail> {
-    for (before, behind) in NAMES {
-        for word in RESERVED {
+    for (before, behind) in NAMES.iter() {
+        for word in RESERVED.iter() {
             assert!(rt;
                 is_refused(rt.alloc(), before, word, behind)?,
                 "{before}{word}{behind}"
@@ -357,7 +357,7 @@ fn refuses_what_is_nested_too_deeply(rt: HostRuntime) -> Result<(), Fail> {
 }
 
 /// Where commands stand, by their first tokens.
-const STANDS: [(&str, Option<Stand>); 12] = [
+static STANDS: [(&str, Option<Stand>); 12] = [
     ("", None),
     ("Kind", Some(Stand::Outside)),
     ("Specification : x", Some(Stand::Outside)),
@@ -374,10 +374,10 @@ const STANDS: [(&str, Option<Stand>); 12] = [
 
 #[test]
 fn knows_where_a_command_stands(rt: HostRuntime) -> Result<(), Fail> {
-    for (text, wanted) in STANDS {
+    for (text, wanted) in STANDS.iter() {
         let bytes = text.as_bytes();
         let tokens = tokens(rt.alloc(), bytes)?;
-        assert_eq!(rt; stand_of(bytes, tokens.as_slice()), wanted, "{text}");
+        assert_eq!(rt; stand_of(bytes, tokens.as_slice()), *wanted, "{text}");
     }
     Ok(())
 }

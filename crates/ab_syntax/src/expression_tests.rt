@@ -22,7 +22,7 @@ fn ty(alloc: Global, text: &str) -> Result<String, Fail> {
 }
 
 /// Operands and signs: how each level groups, and what binds tighter.
-const SIGNS: [(&str, &str); 10] = [
+static SIGNS: [(&str, &str); 10] = [
     (
         "a->b->c",
         r#"Ok(Join(Arrow, Name("a", 0), Join(Arrow, Name("b", 3), Name("c", 6), 3), 0))"#,
@@ -63,7 +63,7 @@ const SIGNS: [(&str, &str); 10] = [
 ];
 
 /// Abstractions, quantifiers, `pi` and judgements.
-const FORMS: [(&str, &str); 9] = [
+static FORMS: [(&str, &str); 9] = [
     (
         r"a\/x\b/\c",
         r#"Ok(Join(Or, Name("a", 0), Abs("x", Join(And, Name("b", 5), Name("c", 8), 5), 3), 0))"#,
@@ -103,7 +103,7 @@ const FORMS: [(&str, &str); 9] = [
 ];
 
 /// Where a text goes wrong: at the first token that no text goes on with.
-const FAULTS: [(&str, &str); 13] = [
+static FAULTS: [(&str, &str); 13] = [
     ("", "Err(Syntax(0))"),
     (" ( a", "Err(Syntax(4))"),
     ("a)", "Err(Syntax(1))"),
@@ -119,7 +119,7 @@ const FAULTS: [(&str, &str); 13] = [
     ("a to b", "Err(Syntax(2))"),
 ];
 
-const TYPES: [(&str, &str); 5] = [
+static TYPES: [(&str, &str); 5] = [
     (
         "a->b->c",
         r#"Ok(Arrow(Base("a", 0), Arrow(Base("b", 3), Base("c", 6))))"#,
@@ -135,32 +135,32 @@ const TYPES: [(&str, &str); 5] = [
 
 #[test]
 fn groups_by_the_levels_of_the_signs(rt: HostRuntime) -> Result<(), Fail> {
-    for (text, wanted) in SIGNS {
-        assert_eq!(rt; expression(rt.alloc(), text)?.as_str(), wanted);
+    for (text, wanted) in SIGNS.iter() {
+        assert_eq!(rt; expression(rt.alloc(), text)?.as_str(), *wanted);
     }
     Ok(())
 }
 
 #[test]
 fn reads_each_form(rt: HostRuntime) -> Result<(), Fail> {
-    for (text, wanted) in FORMS {
-        assert_eq!(rt; expression(rt.alloc(), text)?.as_str(), wanted);
+    for (text, wanted) in FORMS.iter() {
+        assert_eq!(rt; expression(rt.alloc(), text)?.as_str(), *wanted);
     }
     Ok(())
 }
 
 #[test]
 fn refuses_at_the_first_wrong_token(rt: HostRuntime) -> Result<(), Fail> {
-    for (text, wanted) in FAULTS {
-        assert_eq!(rt; expression(rt.alloc(), text)?.as_str(), wanted);
+    for (text, wanted) in FAULTS.iter() {
+        assert_eq!(rt; expression(rt.alloc(), text)?.as_str(), *wanted);
     }
     Ok(())
 }
 
 #[test]
 fn reads_types(rt: HostRuntime) -> Result<(), Fail> {
-    for (text, wanted) in TYPES {
-        assert_eq!(rt; ty(rt.alloc(), text)?.as_str(), wanted);
+    for (text, wanted) in TYPES.iter() {
+        assert_eq!(rt; ty(rt.alloc(), text)?.as_str(), *wanted);
     }
     Ok(())
 }
@@ -176,7 +176,7 @@ fn repeated(alloc: Global, part: &str, count: usize, last: &str) -> Result<Strin
 }
 
 /// What nests, and the place at which the 201st of it is refused.
-const NESTED: [(&str, &str); 5] = [
+static NESTED: [(&str, &str); 5] = [
     ("(", "Err(TooNested(200))"),
     ("{", "Err(TooNested(200))"),
     (r"x\", "Err(TooNested(400))"),
@@ -186,9 +186,9 @@ const NESTED: [(&str, &str); 5] = [
 
 #[test]
 fn refuses_what_is_nested_above_the_limit(rt: HostRuntime) -> Result<(), Fail> {
-    for (part, wanted) in NESTED {
+    for (part, wanted) in NESTED.iter() {
         let text = repeated(rt.alloc(), part, 201, "a")?;
-        assert_eq!(rt; expression(rt.alloc(), text.as_str())?.as_str(), wanted);
+        assert_eq!(rt; expression(rt.alloc(), text.as_str())?.as_str(), *wanted);
     }
     Ok(())
 }

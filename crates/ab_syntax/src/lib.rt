@@ -3,6 +3,7 @@
 
 mod answer;
 mod argument;
+pub mod below;
 mod binding;
 mod block;
 mod build;

@@ -1,9 +1,9 @@
 -- What the program's given terms stand for.
 use Rattle.std.specs.Prelude.{Option, None, Some}
-use Rattle.ab_types.specs.Ids.{type_of}
-use Rattle.ab_store.specs.declared.node.TermId.{TermId}
-use Rattle.ab_logic.specs.Worlds.{Holds, read}
-use Rattle.ab_logic.specs.declared.world.World.{World}
+use Rattle.ab_marks.specs.ab_types.specs.Ids.{type_of}
+use Rattle.ab_marks.specs.ab_store.specs.declared.node.TermId.{TermId}
+use Rattle.ab_marks.specs.ab_logic.specs.Worlds.{Holds, read}
+use Rattle.ab_marks.specs.ab_logic.specs.declared.world.World.{World}
 use Rattle.ab_using.specs.Pieces.{Given}
 use Rattle.ab_taking.specs.declared.given.GivenTerm.{GivenTerm}
 

@@ -1,6 +1,6 @@
 //! Terms that are given for bound names.
-use ab_store::TermId;
-use ab_types::{Name, TypeId};
+use ab_marks::below::store::TermId;
+use ab_marks::below::types::{Name, TypeId};
 
 /// A term that is given for the outermost name of a `forall` that is written so, and the type of that name.
 #[derive(Debug, Drop)]

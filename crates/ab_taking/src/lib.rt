@@ -2,6 +2,7 @@
 //! terms that are given for names of quantifiers.
 #![tactic(auto)]
 
+pub mod below;
 mod given;
 mod looking;
 mod pieces;

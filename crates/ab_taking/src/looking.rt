@@ -1,14 +1,14 @@
 //! What is taken off a formula next.
 ghost use Rattle.std.specs.Prelude.{◌≡◌, ◌<◌, ℕ, All, bytes_eq, map};
 ghost use Rattle.ab_term.specs.Terms.{terms_of};
-ghost use Rattle.ab_types.specs.Entries.{Table};
-ghost use Rattle.ab_types.specs.Ids.{type_of, HoldsType};
-ghost use Rattle.ab_store.specs.Naming.{IsTypedBy, LogicalIsTyped};
-ghost use Rattle.ab_store.specs.Trees.{Holds, tree_of, logical_of};
+ghost use Rattle.ab_marks.specs.ab_types.specs.Entries.{Table};
+ghost use Rattle.ab_marks.specs.ab_types.specs.Ids.{type_of, HoldsType};
+ghost use Rattle.ab_marks.specs.ab_store.specs.Naming.{IsTypedBy, LogicalIsTyped};
+ghost use Rattle.ab_marks.specs.ab_store.specs.Trees.{Holds, tree_of, logical_of};
 ghost use Rattle.ab_taking.specs.Layers.{hint_of, under_universal, under_nabla, layer_by, layer_of, layer_read, PartsBelow, LayerIsTyped};
 
-use ab_store::{Head, Logical, Node, Store, TermId};
-use ab_types::{Name, TypeId};
+use ab_marks::below::store::{Head, Logical, Node, Store, TermId};
+use ab_marks::below::types::{Name, TypeId};
 
 /// What is taken off a formula next.
 #[derive(Clone, Copy)]

@@ -1,18 +1,18 @@
 //! What stands in front of a formula's result.
 ghost use Rattle.std.specs.Prelude.{◌≡◌, ◌↔◌, ℕ, map, IsTrue, IfOk, All, Some};
 ghost use Rattle.std.specs.Option.{option_map};
-ghost use Rattle.ab_types.specs.Ids.{HoldsType, type_of};
-ghost use Rattle.ab_logic.specs.Worlds.{IsWorld, Holds, read};
+ghost use Rattle.ab_marks.specs.ab_types.specs.Ids.{HoldsType, type_of};
+ghost use Rattle.ab_marks.specs.ab_logic.specs.Worlds.{IsWorld, Holds, read};
 ghost use Rattle.ab_using.specs.Pieces as spec;
 ghost use Rattle.ab_using.specs.Pieces.{pieces, behind, AllServe};
 ghost use Rattle.ab_taking.specs.Readings.{HoldsIfAny};
 ghost use Rattle.ab_taking.specs.Layers.{ServesIfAny};
 
 use crate::looking::{Layer, is_named, look_at};
-use ab_logic::World;
+use ab_marks::below::logic::World;
+use ab_marks::below::store::TermId;
+use ab_marks::below::types::{Name, TypeId};
 use ab_marks::marks_serve_in;
-use ab_store::TermId;
-use ab_types::{Name, TypeId};
 use std::alloc::AllocError;
 
 /// How many antecedents the formula has, under its quantifiers `forall` and `nabla`.

@@ -1,6 +1,7 @@
 //! The table of kinds, constants and types, and counts of steps; with names, from the crate below.
 #![tactic(auto)]
 
+pub mod below;
 mod builtin;
 mod columns;
 mod fault;

@@ -8,22 +8,22 @@ use Rattle.ab_term.specs.Typing.{HasType}
 use Rattle.ab_term.specs.Variables.{variables, image}
 use Rattle.ab_term.specs.Sameness.{same_number}
 use Rattle.ab_term.proofs.Lists.{All-from_contains}
-use Rattle.ab_types.specs.Entries.{Table, signature}
-use Rattle.ab_types.specs.Ids.{type_of}
-use Rattle.ab_store.specs.declared.node.TermId.{TermId}
-use Rattle.ab_store.specs.declared.node.CellId.{CellId}
-use Rattle.ab_store.specs.declared.node.Head.{Head}
-use Rattle.ab_store.specs.declared.node.Binding.{Binding}
-use Rattle.ab_store.specs.Trees.{Contents, Holds, HoldsCell, term_at, terms_from, cell_in, cell_of, tree_of, head_reading}
-use Rattle.ab_store.specs.Reading.{bound_in, reading, cell_variable}
-use Rattle.ab_store.specs.Bindings.{cells_of, StandsIn, IsUnbound, IsResolved}
-use Rattle.ab_store.specs.Growth.{IsExtendedBy}
-use Rattle.ab_store.specs.Naming.{IsTerm}
-use Rattle.ab_store.proofs.Putting.{resolved_reads}
-use Rattle.ab_store.proofs.Rebinding.{bound_behind}
-use Rattle.ab_solve.specs.Patterns.{value}
-use Rattle.ab_solve.specs.Replacing.{holds, one}
-use Rattle.ab_solve.proofs.Avoiding.{abstracted_avoids, avoids_if}
+use Rattle.ab_patterns.specs.ab_types.specs.Entries.{Table, signature}
+use Rattle.ab_patterns.specs.ab_types.specs.Ids.{type_of}
+use Rattle.ab_patterns.specs.ab_store.specs.declared.node.TermId.{TermId}
+use Rattle.ab_patterns.specs.ab_store.specs.declared.node.CellId.{CellId}
+use Rattle.ab_patterns.specs.ab_store.specs.declared.node.Head.{Head}
+use Rattle.ab_patterns.specs.ab_store.specs.declared.node.Binding.{Binding}
+use Rattle.ab_patterns.specs.ab_store.specs.Trees.{Contents, Holds, HoldsCell, term_at, terms_from, cell_in, cell_of, tree_of, head_reading}
+use Rattle.ab_patterns.specs.ab_store.specs.Reading.{bound_in, reading, cell_variable}
+use Rattle.ab_patterns.specs.ab_store.specs.Bindings.{cells_of, StandsIn, IsUnbound, IsResolved}
+use Rattle.ab_patterns.specs.ab_store.specs.Growth.{IsExtendedBy}
+use Rattle.ab_patterns.specs.ab_store.specs.Naming.{IsTerm}
+use Rattle.ab_patterns.specs.ab_store.proofs.Putting.{resolved_reads}
+use Rattle.ab_patterns.specs.ab_store.proofs.Rebinding.{bound_behind}
+use Rattle.ab_patterns.specs.ab_solve.specs.Patterns.{value}
+use Rattle.ab_patterns.specs.ab_solve.specs.Replacing.{holds, one}
+use Rattle.ab_patterns.specs.ab_solve.proofs.Avoiding.{abstracted_avoids, avoids_if}
 use Rattle.ab_unify.proofs.Standing.{avoids_then, stands_holds, stands_or_avoids}
 
 pub same_cell : (types : Table) (s t : Contents) (c : CellId) → t.cells ≡ s.cells → cell_variable types t c ≡ cell_variable types s c

@@ -4,16 +4,16 @@ use Rattle.std.specs.List.{All}
 use Rattle.std.proofs.lemmas.List.{append_assoc}
 use Rattle.std.proofs.lemmas.List.Elements.{All-head, All-tail}
 use Rattle.std.proofs.lemmas.Bool.{false≢true, false_from_ne_true}
-use Rattle.ab_types.specs.Entries.{Table}
-use Rattle.ab_types.specs.Sound.{IsTable}
-use Rattle.ab_store.specs.declared.node.Head.{Head}
-use Rattle.ab_store.specs.Trees.{Contents, head_reading}
-use Rattle.ab_store.specs.Naming.{HeadIsTyped}
+use Rattle.ab_patterns.specs.ab_types.specs.Entries.{Table}
+use Rattle.ab_patterns.specs.ab_types.specs.Sound.{IsTable}
+use Rattle.ab_patterns.specs.ab_store.specs.declared.node.Head.{Head}
+use Rattle.ab_patterns.specs.ab_store.specs.Trees.{Contents, head_reading}
+use Rattle.ab_patterns.specs.ab_store.specs.Naming.{HeadIsTyped}
 use Rattle.ab_term.specs.Sameness.{same_head}
 use Rattle.ab_term.specs.Closing.{among}
 use Rattle.ab_term.proofs.Same.{same_head-Decides}
 use Rattle.ab_patterns.proofs.Rules.{heads_differ}
-use Rattle.ab_solve.specs.Solving.{agreeing}
+use Rattle.ab_patterns.specs.ab_solve.specs.Solving.{agreeing}
 
 abbrev pub rest_of : List Head → List Head
 rest_of hs = take (length hs - 1) (drop 1 hs)

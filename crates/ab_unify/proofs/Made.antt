@@ -1,11 +1,11 @@
 -- A cell that is made.
 use Rattle.std.proofs.Common.{◌≡◌, ◌⊎◌, inl, inr, ℕ, ◌+◌, ◌<◌, ◌≤◌, length, Result, Ok, Err, IfOk, OnOk, sym, subst, arith}
 use Rattle.std.proofs.Math.Nat.{eq-or-lt_of_le}
-use Rattle.ab_types.specs.Entries.{Table, IsExtendedBy}
-use Rattle.ab_store.specs.declared.node.CellId.{CellId}
-use Rattle.ab_store.specs.Trees.{Contents, HoldsCell}
-use Rattle.ab_store.specs.Naming.{IsTypedBy}
-use Rattle.ab_store.proofs.Tables.{still_typed}
+use Rattle.ab_patterns.specs.ab_types.specs.Entries.{Table, IsExtendedBy}
+use Rattle.ab_patterns.specs.ab_store.specs.declared.node.CellId.{CellId}
+use Rattle.ab_patterns.specs.ab_store.specs.Trees.{Contents, HoldsCell}
+use Rattle.ab_patterns.specs.ab_store.specs.Naming.{IsTypedBy}
+use Rattle.ab_patterns.specs.ab_store.proofs.Tables.{still_typed}
 
 pub typed_by_more : (types more : Table) (store : Contents) → IsExtendedBy types more → IsTypedBy types store → IsTypedBy more store
 typed_by_more types more store part typed = subst (λ t. IsTypedBy t store) (sym part.1) (still_typed types part.0 store typed)

@@ -12,19 +12,19 @@ use Rattle.ab_term.specs.Variables.{variables, image}
 use Rattle.ab_term.specs.Sameness.{same_numbered, same_number}
 use Rattle.ab_term.proofs.Lists.{All-from_contains}
 use Rattle.ab_term.proofs.Same.{same_numbered-Decides}
-use Rattle.ab_types.specs.Entries.{Table, signature}
-use Rattle.ab_types.specs.Ids.{type_of}
-use Rattle.ab_store.specs.declared.node.TermId.{TermId}
-use Rattle.ab_store.specs.declared.node.CellId.{CellId}
-use Rattle.ab_store.specs.declared.node.Head.{Head}
-use Rattle.ab_store.specs.Trees.{Contents, Holds, HoldsCell, head_in, cell_of, tree_of, head_reading}
-use Rattle.ab_store.specs.Reading.{bound_in, reading, cell_variable}
-use Rattle.ab_store.specs.Bindings.{cells_of, StandsIn, IsUnbound, IsResolved}
-use Rattle.ab_store.specs.Growth.{IsExtendedBy}
-use Rattle.ab_solve.specs.Patterns.{value, applied, kept, kept_type}
-use Rattle.ab_solve.specs.Replacing.{holds, one}
-use Rattle.ab_solve.proofs.Avoiding.{AreNames, value_avoids}
-use Rattle.ab_solve.proofs.Pruning.{narrow_safe}
+use Rattle.ab_patterns.specs.ab_types.specs.Entries.{Table, signature}
+use Rattle.ab_patterns.specs.ab_types.specs.Ids.{type_of}
+use Rattle.ab_patterns.specs.ab_store.specs.declared.node.TermId.{TermId}
+use Rattle.ab_patterns.specs.ab_store.specs.declared.node.CellId.{CellId}
+use Rattle.ab_patterns.specs.ab_store.specs.declared.node.Head.{Head}
+use Rattle.ab_patterns.specs.ab_store.specs.Trees.{Contents, Holds, HoldsCell, head_in, cell_of, tree_of, head_reading}
+use Rattle.ab_patterns.specs.ab_store.specs.Reading.{bound_in, reading, cell_variable}
+use Rattle.ab_patterns.specs.ab_store.specs.Bindings.{cells_of, StandsIn, IsUnbound, IsResolved}
+use Rattle.ab_patterns.specs.ab_store.specs.Growth.{IsExtendedBy}
+use Rattle.ab_patterns.specs.ab_solve.specs.Patterns.{value, applied, kept, kept_type}
+use Rattle.ab_patterns.specs.ab_solve.specs.Replacing.{holds, one}
+use Rattle.ab_patterns.specs.ab_solve.proofs.Avoiding.{AreNames, value_avoids}
+use Rattle.ab_patterns.specs.ab_solve.proofs.Pruning.{narrow_safe}
 use Rattle.ab_unify.proofs.Standing.{avoids_then, stands_holds}
 use Rattle.ab_unify.proofs.Bound.{same_cell}
 

@@ -9,21 +9,21 @@ use Rattle.ab_term.specs.Typing as typing
 use Rattle.ab_term.specs.Closing.{is_name, Named, named_none, named_more}
 use Rattle.ab_term.specs.Variables.{image}
 use Rattle.ab_term.specs.Sameness.{same_number}
-use Rattle.ab_types.specs.Entries.{Table, signature, IsExtendedBy as IsPartOf}
-use Rattle.ab_types.specs.Ids.{type_of}
-use Rattle.ab_types.proofs.Entries.{same_type, same_signature}
-use Rattle.ab_store.specs.declared.node.TermId.{TermId}
-use Rattle.ab_store.specs.declared.node.CellId.{CellId}
-use Rattle.ab_store.specs.declared.node.CellEntry.{CellEntry}
-use Rattle.ab_store.specs.declared.node.Head.{Head}
-use Rattle.ab_store.specs.declared.node.Head.TheVariants.{Const, Logic, Nominal, Cell, Index}
-use Rattle.ab_store.specs.Trees.{Contents, Holds, HoldsCell, cell_of, tree_of, head_in, head_reading}
-use Rattle.ab_store.specs.Reading.{reading, cell_variable}
-use Rattle.ab_store.specs.Growth.{IsExtendedBy}
-use Rattle.ab_store.specs.Naming.{HoldsHead, HeadIsTyped, IsTypedBy, IsTerm}
-use Rattle.ab_store.proofs.Tables.{head_typed, same_tree, same_term, same_reading}
-use Rattle.ab_solve.specs.Patterns.{applied, kept, kept_type}
-use Rattle.ab_solve.specs.Replacing.{one}
+use Rattle.ab_patterns.specs.ab_types.specs.Entries.{Table, signature, IsExtendedBy as IsPartOf}
+use Rattle.ab_patterns.specs.ab_types.specs.Ids.{type_of}
+use Rattle.ab_patterns.specs.ab_types.proofs.Entries.{same_type, same_signature}
+use Rattle.ab_patterns.specs.ab_store.specs.declared.node.TermId.{TermId}
+use Rattle.ab_patterns.specs.ab_store.specs.declared.node.CellId.{CellId}
+use Rattle.ab_patterns.specs.ab_store.specs.declared.node.CellEntry.{CellEntry}
+use Rattle.ab_patterns.specs.ab_store.specs.declared.node.Head.{Head}
+use Rattle.ab_patterns.specs.ab_store.specs.declared.node.Head.TheVariants.{Const, Logic, Nominal, Cell, Index}
+use Rattle.ab_patterns.specs.ab_store.specs.Trees.{Contents, Holds, HoldsCell, cell_of, tree_of, head_in, head_reading}
+use Rattle.ab_patterns.specs.ab_store.specs.Reading.{reading, cell_variable}
+use Rattle.ab_patterns.specs.ab_store.specs.Growth.{IsExtendedBy}
+use Rattle.ab_patterns.specs.ab_store.specs.Naming.{HoldsHead, HeadIsTyped, IsTypedBy, IsTerm}
+use Rattle.ab_patterns.specs.ab_store.proofs.Tables.{head_typed, same_tree, same_term, same_reading}
+use Rattle.ab_patterns.specs.ab_solve.specs.Patterns.{applied, kept, kept_type}
+use Rattle.ab_patterns.specs.ab_solve.specs.Replacing.{one}
 use Rattle.ab_unify.proofs.Bound.{still_term}
 
 -- what a name is depends on no cell, and whether a head is one on no table either

@@ -8,17 +8,17 @@ use Rattle.ab_term.specs.Variables.{variables, variables_of_head, variables_of_a
 use Rattle.ab_term.specs.Sameness.{same_numbered}
 use Rattle.ab_term.proofs.Same.{same_numbered-Decides}
 use Rattle.ab_term.proofs.Lists.{Contains-here, Contains-there, Contains-map, Contains-from_map}
-use Rattle.ab_types.specs.Entries.{Table}
-use Rattle.ab_types.specs.Ids.{type_of}
-use Rattle.ab_store.specs.declared.node.TermId.{TermId}
-use Rattle.ab_store.specs.declared.node.CellId.{CellId}
-use Rattle.ab_store.specs.Trees.{Read, Contents, cell_in, tree_of}
-use Rattle.ab_store.specs.Reading.{cell_variable}
-use Rattle.ab_store.specs.Bindings.{StandsIn}
-use Rattle.ab_store.proofs.Cells.{IsCell, stands, numbered, variables_are_cells}
-use Rattle.ab_solve.specs.Replacing.{holds}
-use Rattle.ab_solve.proofs.Agreeing.{contains_holds}
-use Rattle.ab_solve.proofs.Avoiding.{Avoids, AllAvoid, head_avoids, not_held}
+use Rattle.ab_patterns.specs.ab_types.specs.Entries.{Table}
+use Rattle.ab_patterns.specs.ab_types.specs.Ids.{type_of}
+use Rattle.ab_patterns.specs.ab_store.specs.declared.node.TermId.{TermId}
+use Rattle.ab_patterns.specs.ab_store.specs.declared.node.CellId.{CellId}
+use Rattle.ab_patterns.specs.ab_store.specs.Trees.{Read, Contents, cell_in, tree_of}
+use Rattle.ab_patterns.specs.ab_store.specs.Reading.{cell_variable}
+use Rattle.ab_patterns.specs.ab_store.specs.Bindings.{StandsIn}
+use Rattle.ab_patterns.specs.ab_store.proofs.Cells.{IsCell, stands, numbered, variables_are_cells}
+use Rattle.ab_patterns.specs.ab_solve.specs.Replacing.{holds}
+use Rattle.ab_patterns.specs.ab_solve.proofs.Agreeing.{contains_holds}
+use Rattle.ab_patterns.specs.ab_solve.proofs.Avoiding.{Avoids, AllAvoid, head_avoids, not_held}
 
 pub holds_contains : (ys : List (Variable ℕ)) (y : Variable ℕ) → holds ys y ≡ true → Contains ys y
 holds_contains [] y e = absurd (false≢true e)

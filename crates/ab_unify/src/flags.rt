@@ -2,13 +2,13 @@
 ghost use Rattle.std.specs.Prelude.{◌≡◌, ◌↔◌, ◌++◌, true, map, All, IfOk, OnOk};
 ghost use Rattle.std.specs.List.{list_all};
 ghost use Rattle.ab_term.specs.Closing as closing;
-ghost use Rattle.ab_types.specs.Entries.{Table};
-ghost use Rattle.ab_types.specs.Sound.{IsTable};
-ghost use Rattle.ab_store.specs.Trees.{Contents, head_reading};
-ghost use Rattle.ab_store.specs.Naming.{HeadIsTyped};
-ghost use Rattle.ab_solve.specs.Solving as solve;
+ghost use Rattle.ab_patterns.specs.ab_types.specs.Entries.{Table};
+ghost use Rattle.ab_patterns.specs.ab_types.specs.Sound.{IsTable};
+ghost use Rattle.ab_patterns.specs.ab_store.specs.Trees.{Contents, head_reading};
+ghost use Rattle.ab_patterns.specs.ab_store.specs.Naming.{HeadIsTyped};
+ghost use Rattle.ab_patterns.specs.ab_solve.specs.Solving as solve;
 
-use ab_store::Head;
+use ab_patterns::below::store::Head;
 use std::alloc::{AllocError, Global};
 
 /// At each place, whether the names are the same.

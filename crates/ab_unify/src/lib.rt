@@ -1,6 +1,7 @@
 //! Pattern unification on shared terms: cells are made, and bound so that, given names, they are certain terms.
 #![tactic(auto)]
 
+pub mod below;
 mod flags;
 mod making;
 mod narrowing;

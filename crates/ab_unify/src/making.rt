@@ -1,16 +1,16 @@
 //! A cell that takes the place of another.
 ghost use Rattle.std.specs.Prelude.{◌≡◌, ◌+◌, length, IfOk, OnOk, OnErr};
-ghost use Rattle.ab_types.specs.Entries.{kinds, constants, IsExtendedBy as IsPartOf};
-ghost use Rattle.ab_types.specs.Ids.{type_of};
-ghost use Rattle.ab_store.specs.Trees.{HoldsCell, cell_of};
-ghost use Rattle.ab_store.specs.Bindings.{IsUnbound};
-ghost use Rattle.ab_store.specs.Growth.{IsExtendedBy};
-ghost use Rattle.ab_store.specs.Naming.{IsTypedBy};
-ghost use Rattle.ab_solve.specs.Patterns as solve;
+ghost use Rattle.ab_patterns.specs.ab_types.specs.Entries.{kinds, constants, IsExtendedBy as IsPartOf};
+ghost use Rattle.ab_patterns.specs.ab_types.specs.Ids.{type_of};
+ghost use Rattle.ab_patterns.specs.ab_store.specs.Trees.{HoldsCell, cell_of};
+ghost use Rattle.ab_patterns.specs.ab_store.specs.Bindings.{IsUnbound};
+ghost use Rattle.ab_patterns.specs.ab_store.specs.Growth.{IsExtendedBy};
+ghost use Rattle.ab_patterns.specs.ab_store.specs.Naming.{IsTypedBy};
+ghost use Rattle.ab_patterns.specs.ab_solve.specs.Patterns as solve;
 
+use ab_patterns::below::store::{CellId, Store};
+use ab_patterns::below::types::TypeTable;
 use ab_patterns::kept_type;
-use ab_store::{CellId, Store};
-use ab_types::TypeTable;
 use std::alloc::{AllocError, Global};
 
 /// Makes a cell, the youngest, of the cell's type without the arguments whose flag is not set. Its hint is the cell's.

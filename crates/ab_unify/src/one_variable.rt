@@ -4,22 +4,22 @@ ghost use Rattle.ab_term.specs.Types.{Ty, kind};
 ghost use Rattle.ab_term.specs.Sameness.{same_number};
 ghost use Rattle.ab_term.specs.Closing.{Named, is_name};
 ghost use Rattle.ab_term.specs.Variables.{image};
-ghost use Rattle.ab_types.specs.Entries.{kinds, constants, signature, IsExtendedBy as IsPartOf};
-ghost use Rattle.ab_types.specs.Ids.{type_of};
-ghost use Rattle.ab_store.specs.Trees.{Holds, HoldsCell, cell_of, tree_of, head_reading};
-ghost use Rattle.ab_store.specs.Reading.{reading, cell_variable};
-ghost use Rattle.ab_store.specs.Bindings.{IsUnbound};
-ghost use Rattle.ab_store.specs.Growth.{IsExtendedBy};
-ghost use Rattle.ab_store.specs.Marks.{HasMark, KeepsMark};
-ghost use Rattle.ab_store.specs.Naming.{HoldsHead, HeadIsTyped, IsTypedBy, IsTerm};
-ghost use Rattle.ab_solve.specs.Patterns as solve;
-ghost use Rattle.ab_solve.specs.Replacing.{one};
-ghost use Rattle.ab_solve.specs.Solving as rules;
+ghost use Rattle.ab_patterns.specs.ab_types.specs.Entries.{kinds, constants, signature, IsExtendedBy as IsPartOf};
+ghost use Rattle.ab_patterns.specs.ab_types.specs.Ids.{type_of};
+ghost use Rattle.ab_patterns.specs.ab_store.specs.Trees.{Holds, HoldsCell, cell_of, tree_of, head_reading};
+ghost use Rattle.ab_patterns.specs.ab_store.specs.Reading.{reading, cell_variable};
+ghost use Rattle.ab_patterns.specs.ab_store.specs.Bindings.{IsUnbound};
+ghost use Rattle.ab_patterns.specs.ab_store.specs.Growth.{IsExtendedBy};
+ghost use Rattle.ab_patterns.specs.ab_store.specs.Marks.{HasMark, KeepsMark};
+ghost use Rattle.ab_patterns.specs.ab_store.specs.Naming.{HoldsHead, HeadIsTyped, IsTypedBy, IsTerm};
+ghost use Rattle.ab_patterns.specs.ab_solve.specs.Patterns as solve;
+ghost use Rattle.ab_patterns.specs.ab_solve.specs.Replacing.{one};
+ghost use Rattle.ab_patterns.specs.ab_solve.specs.Solving as rules;
 
 use crate::flags::agreeing;
 use crate::renewing::renew;
-use ab_store::{CellId, Head, Mark, Store, TermId};
-use ab_types::{Steps, TypeTable};
+use ab_patterns::below::store::{CellId, Head, Mark, Store, TermId};
+use ab_patterns::below::types::{Steps, TypeTable};
 use std::alloc::{AllocError, Global};
 
 /// Makes the cell, given the names, and the cell, given the others, the same: it is bound to a new cell, the youngest,

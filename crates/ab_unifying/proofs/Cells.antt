@@ -4,16 +4,16 @@ use Rattle.std.specs.Prelude.{All}
 use Rattle.std.proofs.lemmas.List.{get_or-map, map-append}
 use Rattle.std.proofs.lemmas.List.Elements.{All-head, All-tail}
 use Rattle.ab_term.specs.Types.{Ty}
-use Rattle.ab_types.specs.Entries.{Table, IsExtendedBy as IsPartOf}
-use Rattle.ab_types.specs.Ids.{HoldsType, type_of}
-use Rattle.ab_types.proofs.Entries.{same_type}
-use Rattle.ab_store.specs.declared.node.CellId.{CellId}
-use Rattle.ab_store.specs.declared.node.CellEntry.{CellEntry}
-use Rattle.ab_store.specs.Trees.{Contents, HoldsCell, cell_of}
-use Rattle.ab_store.specs.Reading.{cell_variable}
-use Rattle.ab_store.specs.Naming.{IsTypedBy}
-use Rattle.ab_solve.specs.Replacing as solve
-use Rattle.ab_solve.proofs.Falling.{map_length}
+use Rattle.ab_unify.specs.ab_types.specs.Entries.{Table, IsExtendedBy as IsPartOf}
+use Rattle.ab_unify.specs.ab_types.specs.Ids.{HoldsType, type_of}
+use Rattle.ab_unify.specs.ab_types.proofs.Entries.{same_type}
+use Rattle.ab_unify.specs.ab_store.specs.declared.node.CellId.{CellId}
+use Rattle.ab_unify.specs.ab_store.specs.declared.node.CellEntry.{CellEntry}
+use Rattle.ab_unify.specs.ab_store.specs.Trees.{Contents, HoldsCell, cell_of}
+use Rattle.ab_unify.specs.ab_store.specs.Reading.{cell_variable}
+use Rattle.ab_unify.specs.ab_store.specs.Naming.{IsTypedBy}
+use Rattle.ab_unify.specs.ab_solve.specs.Replacing as solve
+use Rattle.ab_unify.specs.ab_solve.proofs.Falling.{map_length}
 use Rattle.ab_unifying.specs.Problem.{cell_read, cells_read, variables_read}
 use Rattle.ab_unifying.specs.Changed.{Grows, IsFree}
 use Rattle.ab_unifying.proofs.Growth.{grown_variable, one_more}

@@ -8,21 +8,21 @@ use Rattle.ab_term.specs.Terms.{Term}
 use Rattle.ab_term.specs.Typing.{HasType}
 use Rattle.ab_term.specs.Variables.{Substitution, IsTyped}
 use Rattle.ab_term.proofs.Unique.{more_typed}
-use Rattle.ab_types.specs.Entries.{Table, signature, IsExtendedBy as IsPartOf}
-use Rattle.ab_types.specs.Ids.{type_of}
-use Rattle.ab_types.proofs.Entries.{same_type, same_signature, extended_by_itself, extended_twice}
-use Rattle.ab_store.specs.declared.node.TermId.{TermId}
-use Rattle.ab_store.specs.declared.node.CellId.{CellId}
-use Rattle.ab_store.specs.declared.node.CellEntry.{CellEntry}
-use Rattle.ab_store.specs.declared.node.Binding.{Binding}
-use Rattle.ab_store.specs.declared.mark.Mark.{Mark}
-use Rattle.ab_store.specs.Trees.{Contents, HoldsCell, cell_of}
-use Rattle.ab_store.specs.Reading.{bound_in, cell_variable}
-use Rattle.ab_store.specs.Bindings.{IsUnbound}
-use Rattle.ab_store.specs.Marks.{HasMark, at_mark}
-use Rattle.ab_store.specs.Naming.{NodesNameEarlier, BindingIsTyped, IsTypedBy, IsTerm}
-use Rattle.ab_store.proofs.Marking.{kept_on, kept_itself}
-use Rattle.ab_norm.specs.Growth.{AddsTerms, AddsTypedTerms}
+use Rattle.ab_unify.specs.ab_types.specs.Entries.{Table, signature, IsExtendedBy as IsPartOf}
+use Rattle.ab_unify.specs.ab_types.specs.Ids.{type_of}
+use Rattle.ab_unify.specs.ab_types.proofs.Entries.{same_type, same_signature, extended_by_itself, extended_twice}
+use Rattle.ab_unify.specs.ab_store.specs.declared.node.TermId.{TermId}
+use Rattle.ab_unify.specs.ab_store.specs.declared.node.CellId.{CellId}
+use Rattle.ab_unify.specs.ab_store.specs.declared.node.CellEntry.{CellEntry}
+use Rattle.ab_unify.specs.ab_store.specs.declared.node.Binding.{Binding}
+use Rattle.ab_unify.specs.ab_store.specs.declared.mark.Mark.{Mark}
+use Rattle.ab_unify.specs.ab_store.specs.Trees.{Contents, HoldsCell, cell_of}
+use Rattle.ab_unify.specs.ab_store.specs.Reading.{bound_in, cell_variable}
+use Rattle.ab_unify.specs.ab_store.specs.Bindings.{IsUnbound}
+use Rattle.ab_unify.specs.ab_store.specs.Marks.{HasMark, at_mark}
+use Rattle.ab_unify.specs.ab_store.specs.Naming.{NodesNameEarlier, BindingIsTyped, IsTypedBy, IsTerm}
+use Rattle.ab_unify.specs.ab_store.proofs.Marking.{kept_on, kept_itself}
+use Rattle.ab_unify.specs.ab_norm.specs.Growth.{AddsTerms, AddsTypedTerms}
 use Rattle.ab_unifying.specs.Changed.{Grows}
 
 pub grows_none : (types : Table) (s : Contents) → IsTypedBy types s → Grows types s types s

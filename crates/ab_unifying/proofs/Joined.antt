@@ -10,26 +10,26 @@ use Rattle.ab_term.specs.Closing.{among, Named}
 use Rattle.ab_term.specs.Variables.{image, composition}
 use Rattle.ab_term.specs.Sameness.{same_numbered, same_number}
 use Rattle.ab_term.proofs.Same.{same_numbered-Decides}
-use Rattle.ab_types.specs.Entries.{Table, signature, IsExtendedBy as IsPartOf}
-use Rattle.ab_types.specs.Ids.{type_of}
-use Rattle.ab_types.proofs.Entries.{same_signature}
-use Rattle.ab_store.specs.declared.node.CellId.{CellId}
-use Rattle.ab_store.specs.declared.node.TermId.{TermId}
-use Rattle.ab_store.specs.declared.node.Head.{Head}
-use Rattle.ab_store.specs.declared.node.Head.TheVariants.{Const, Logic, Nominal, Cell, Index}
-use Rattle.ab_store.specs.Trees.{Contents, HoldsCell, cell_of, tree_of, head_reading}
-use Rattle.ab_store.specs.Reading.{cell_variable}
-use Rattle.ab_store.specs.Naming.{HoldsHead, HeadIsTyped, IsTypedBy}
-use Rattle.ab_store.proofs.Tables.{head_typed}
-use Rattle.ab_norm.specs.Growth.{AddsTypedTerms}
-use Rattle.ab_solve.specs.Patterns.{applied, value, kept, kept_type}
-use Rattle.ab_solve.specs.Replacing as solve
-use Rattle.ab_solve.specs.Replacing.{Change, without, next_variable, narrowed, made}
-use Rattle.ab_solve.specs.Solving.{joined_at}
-use Rattle.ab_solve.proofs.Avoiding.{AreNames as AllNames, value_avoids, image_avoided}
+use Rattle.ab_unify.specs.ab_types.specs.Entries.{Table, signature, IsExtendedBy as IsPartOf}
+use Rattle.ab_unify.specs.ab_types.specs.Ids.{type_of}
+use Rattle.ab_unify.specs.ab_types.proofs.Entries.{same_signature}
+use Rattle.ab_unify.specs.ab_store.specs.declared.node.CellId.{CellId}
+use Rattle.ab_unify.specs.ab_store.specs.declared.node.TermId.{TermId}
+use Rattle.ab_unify.specs.ab_store.specs.declared.node.Head.{Head}
+use Rattle.ab_unify.specs.ab_store.specs.declared.node.Head.TheVariants.{Const, Logic, Nominal, Cell, Index}
+use Rattle.ab_unify.specs.ab_store.specs.Trees.{Contents, HoldsCell, cell_of, tree_of, head_reading}
+use Rattle.ab_unify.specs.ab_store.specs.Reading.{cell_variable}
+use Rattle.ab_unify.specs.ab_store.specs.Naming.{HoldsHead, HeadIsTyped, IsTypedBy}
+use Rattle.ab_unify.specs.ab_store.proofs.Tables.{head_typed}
+use Rattle.ab_unify.specs.ab_norm.specs.Growth.{AddsTypedTerms}
+use Rattle.ab_unify.specs.ab_solve.specs.Patterns.{applied, value, kept, kept_type}
+use Rattle.ab_unify.specs.ab_solve.specs.Replacing as solve
+use Rattle.ab_unify.specs.ab_solve.specs.Replacing.{Change, without, next_variable, narrowed, made}
+use Rattle.ab_unify.specs.ab_solve.specs.Solving.{joined_at}
+use Rattle.ab_unify.specs.ab_solve.proofs.Avoiding.{AreNames as AllNames, value_avoids, image_avoided}
 use Rattle.ab_unify.proofs.Narrowed.{kept_all, kept_map, are_names}
-use Rattle.ab_solve.proofs.Pruning.{kept_pass}
-use Rattle.ab_solve.proofs.Readings.{kept_named}
+use Rattle.ab_unify.specs.ab_solve.proofs.Pruning.{kept_pass}
+use Rattle.ab_unify.specs.ab_solve.proofs.Readings.{kept_named}
 use Rattle.ab_unify.proofs.Renewed.{named_still}
 use Rattle.ab_unifying.specs.Changed.{Grows, IsName, AreNames}
 use Rattle.ab_unifying.proofs.Growth.{grows_on, grows_terms, grown_type, grown_variable}

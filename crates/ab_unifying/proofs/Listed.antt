@@ -8,11 +8,11 @@ use Rattle.ab_term.specs.Terms.{Variable}
 use Rattle.ab_term.specs.Sameness.{same_numbered}
 use Rattle.ab_term.proofs.Same.{same_numbered-Decides}
 use Rattle.ab_term.proofs.Lists.{Contains-none, Contains-here, Contains-there, Contains-cases}
-use Rattle.ab_types.specs.Entries.{Table}
-use Rattle.ab_store.specs.declared.node.CellId.{CellId}
-use Rattle.ab_store.specs.Trees.{Contents}
-use Rattle.ab_store.specs.Reading.{cell_variable}
-use Rattle.ab_solve.specs.Replacing.{without}
+use Rattle.ab_unify.specs.ab_types.specs.Entries.{Table}
+use Rattle.ab_unify.specs.ab_store.specs.declared.node.CellId.{CellId}
+use Rattle.ab_unify.specs.ab_store.specs.Trees.{Contents}
+use Rattle.ab_unify.specs.ab_store.specs.Reading.{cell_variable}
+use Rattle.ab_unify.specs.ab_solve.specs.Replacing.{without}
 use Rattle.ab_unifying.specs.Changed.{others_than}
 
 pub same_cell : (c d : CellId) → c.0 ≡ d.0 → c ≡ d

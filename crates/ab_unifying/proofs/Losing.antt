@@ -10,15 +10,15 @@ use Rattle.ab_term.specs.Substitution.{shift_head}
 use Rattle.ab_term.specs.Variables.{image}
 use Rattle.ab_term.specs.Sameness.{same_number}
 use Rattle.ab_term.specs.Closing.{among, under}
-use Rattle.ab_types.specs.Entries.{Table}
-use Rattle.ab_store.specs.declared.node.TermId.{TermId}
-use Rattle.ab_store.specs.declared.node.CellId.{CellId}
-use Rattle.ab_store.specs.Trees.{Contents, tree_of}
-use Rattle.ab_store.specs.Reading.{cell_variable}
-use Rattle.ab_patterns.specs.declared.seen.Seen.{Seen}
-use Rattle.ab_patterns.specs.Walking.{has_been, deep}
-use Rattle.ab_solve.specs.Patterns.{pattern}
-use Rattle.ab_solve.specs.Replacing.{Change, holds, is_flexible, narrowed, pruned_names, pruned_here, pruned, pruned_all}
+use Rattle.ab_unify.specs.ab_types.specs.Entries.{Table}
+use Rattle.ab_unify.specs.ab_store.specs.declared.node.TermId.{TermId}
+use Rattle.ab_unify.specs.ab_store.specs.declared.node.CellId.{CellId}
+use Rattle.ab_unify.specs.ab_store.specs.Trees.{Contents, tree_of}
+use Rattle.ab_unify.specs.ab_store.specs.Reading.{cell_variable}
+use Rattle.ab_unify.specs.ab_patterns.specs.declared.seen.Seen.{Seen}
+use Rattle.ab_unify.specs.ab_patterns.specs.Walking.{has_been, deep}
+use Rattle.ab_unify.specs.ab_solve.specs.Patterns.{pattern}
+use Rattle.ab_unify.specs.ab_solve.specs.Replacing.{Change, holds, is_flexible, narrowed, pruned_names, pruned_here, pruned, pruned_all}
 use Rattle.ab_unifying.specs.Problem.{cell_read}
 use Rattle.ab_unifying.specs.Changed.{Changed}
 use Rattle.ab_unifying.specs.Pruning.{AllPruned}

@@ -13,20 +13,20 @@ use Rattle.ab_term.specs.Variables.{Substitution, image, composition, IsTyped}
 use Rattle.ab_term.specs.Sameness.{same_number}
 use Rattle.ab_term.proofs.Compositions.{image-composition, composition_typed}
 use Rattle.ab_term.proofs.Lists.{Contains-none, Contains-here, Contains-cases, All-from_contains}
-use Rattle.ab_types.specs.Entries.{Table, signature}
-use Rattle.ab_types.specs.Ids.{type_of}
-use Rattle.ab_store.specs.declared.node.TermId.{TermId}
-use Rattle.ab_store.specs.declared.node.CellId.{CellId}
-use Rattle.ab_store.specs.Trees.{Contents, Holds, HoldsCell, cell_of}
-use Rattle.ab_store.specs.Reading.{reading, cell_variable}
-use Rattle.ab_store.specs.Bindings.{IsUnbound}
-use Rattle.ab_store.specs.Naming.{IsTypedBy, IsTerm}
-use Rattle.ab_store.proofs.Putting.{read_typed}
-use Rattle.ab_solve.specs.Patterns.{applied, kept, kept_type}
-use Rattle.ab_solve.specs.Replacing as solve
-use Rattle.ab_solve.specs.Replacing.{Change}
-use Rattle.ab_solve.proofs.Falling.{map_length}
-use Rattle.ab_solve.proofs.Pruning.{narrow_safe}
+use Rattle.ab_unify.specs.ab_types.specs.Entries.{Table, signature}
+use Rattle.ab_unify.specs.ab_types.specs.Ids.{type_of}
+use Rattle.ab_unify.specs.ab_store.specs.declared.node.TermId.{TermId}
+use Rattle.ab_unify.specs.ab_store.specs.declared.node.CellId.{CellId}
+use Rattle.ab_unify.specs.ab_store.specs.Trees.{Contents, Holds, HoldsCell, cell_of}
+use Rattle.ab_unify.specs.ab_store.specs.Reading.{reading, cell_variable}
+use Rattle.ab_unify.specs.ab_store.specs.Bindings.{IsUnbound}
+use Rattle.ab_unify.specs.ab_store.specs.Naming.{IsTypedBy, IsTerm}
+use Rattle.ab_unify.specs.ab_store.proofs.Putting.{read_typed}
+use Rattle.ab_unify.specs.ab_solve.specs.Patterns.{applied, kept, kept_type}
+use Rattle.ab_unify.specs.ab_solve.specs.Replacing as solve
+use Rattle.ab_unify.specs.ab_solve.specs.Replacing.{Change}
+use Rattle.ab_unify.specs.ab_solve.proofs.Falling.{map_length}
+use Rattle.ab_unify.specs.ab_solve.proofs.Pruning.{narrow_safe}
 use Rattle.ab_unifying.specs.Problem.{cell_read}
 use Rattle.ab_unifying.specs.Changed.{others_than, Grows, IsFree, Changed}
 use Rattle.ab_unifying.proofs.Growth.{grows_on, lifted, lifted_all, was_unbound, was_held}

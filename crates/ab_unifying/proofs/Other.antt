@@ -10,22 +10,22 @@ use Rattle.ab_term.specs.Variables.{variables, image}
 use Rattle.ab_term.specs.Sameness.{same_numbered, same_number}
 use Rattle.ab_term.proofs.Lists.{All-from_contains}
 use Rattle.ab_term.proofs.Same.{same_numbered-Decides}
-use Rattle.ab_types.specs.Entries.{Table, signature}
-use Rattle.ab_types.specs.Ids.{type_of}
-use Rattle.ab_store.specs.declared.node.TermId.{TermId}
-use Rattle.ab_store.specs.declared.node.CellId.{CellId}
-use Rattle.ab_store.specs.declared.node.Head.{Head}
-use Rattle.ab_store.specs.Trees.{Contents, cell_in, cell_of, head_in, tree_of, head_reading}
-use Rattle.ab_store.specs.Reading.{bound_in, cell_variable}
-use Rattle.ab_store.specs.Bindings.{cells_of, StandsIn, IsUnbound, IsResolved}
-use Rattle.ab_norm.specs.Growth.{AddsTypedTerms}
-use Rattle.ab_solve.specs.Patterns.{applied, value}
-use Rattle.ab_solve.specs.Replacing.{holds}
-use Rattle.ab_solve.specs.Replacing as solve
-use Rattle.ab_solve.proofs.Avoiding.{AreNames as AllNames, value_avoids}
-use Rattle.ab_solve.proofs.Values.{applied_typed, value_typed}
-use Rattle.ab_solve.proofs.Readings.{applied_only}
-use Rattle.ab_solve.proofs.Ruling.{image_none}
+use Rattle.ab_unify.specs.ab_types.specs.Entries.{Table, signature}
+use Rattle.ab_unify.specs.ab_types.specs.Ids.{type_of}
+use Rattle.ab_unify.specs.ab_store.specs.declared.node.TermId.{TermId}
+use Rattle.ab_unify.specs.ab_store.specs.declared.node.CellId.{CellId}
+use Rattle.ab_unify.specs.ab_store.specs.declared.node.Head.{Head}
+use Rattle.ab_unify.specs.ab_store.specs.Trees.{Contents, cell_in, cell_of, head_in, tree_of, head_reading}
+use Rattle.ab_unify.specs.ab_store.specs.Reading.{bound_in, cell_variable}
+use Rattle.ab_unify.specs.ab_store.specs.Bindings.{cells_of, StandsIn, IsUnbound, IsResolved}
+use Rattle.ab_unify.specs.ab_norm.specs.Growth.{AddsTypedTerms}
+use Rattle.ab_unify.specs.ab_solve.specs.Patterns.{applied, value}
+use Rattle.ab_unify.specs.ab_solve.specs.Replacing.{holds}
+use Rattle.ab_unify.specs.ab_solve.specs.Replacing as solve
+use Rattle.ab_unify.specs.ab_solve.proofs.Avoiding.{AreNames as AllNames, value_avoids}
+use Rattle.ab_unify.specs.ab_solve.proofs.Values.{applied_typed, value_typed}
+use Rattle.ab_unify.specs.ab_solve.proofs.Readings.{applied_only}
+use Rattle.ab_unify.specs.ab_solve.proofs.Ruling.{image_none}
 use Rattle.ab_unify.proofs.Standing.{avoids_then, stands_holds}
 use Rattle.ab_unify.proofs.Bound.{same_cell}
 use Rattle.ab_unifying.proofs.Listed as listed

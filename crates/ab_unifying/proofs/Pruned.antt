@@ -12,22 +12,22 @@ use Rattle.ab_term.specs.Typing.{Signature, HasType, TakeType, typed_lam, typed_
 use Rattle.ab_term.specs.Variables.{variables, variables_of_head, variables_of_all}
 use Rattle.ab_term.specs.Closing.{among, is_name}
 use Rattle.ab_term.proofs.Lists.{Contains-here, Contains-there, Contains-map, Contains-from_map, All-from_contains}
-use Rattle.ab_types.specs.Entries.{Table, IsExtendedBy as IsPartOf}
-use Rattle.ab_types.proofs.Entries.{same_type}
-use Rattle.ab_store.specs.declared.node.TermId.{TermId}
-use Rattle.ab_store.specs.declared.node.CellId.{CellId}
-use Rattle.ab_store.specs.declared.node.CellEntry.{CellEntry}
-use Rattle.ab_store.specs.declared.node.Head.{Head}
-use Rattle.ab_store.specs.declared.node.Head.TheVariants.{Const, Logic, Nominal, Cell, Index}
-use Rattle.ab_store.specs.Trees.{Read, Contents, head_in, tree_of, head_reading}
-use Rattle.ab_store.specs.Reading.{bound_in, reading, cell_variable}
-use Rattle.ab_store.specs.Bindings.{cells_of, IsUnbound, IsResolved}
-use Rattle.ab_store.specs.Naming.{HeadIsTyped}
-use Rattle.ab_store.proofs.Cells.{stands, numbered}
-use Rattle.ab_store.proofs.Putting.{resolved_reads}
-use Rattle.ab_norm.specs.Growth.{AddsTypedTerms}
-use Rattle.ab_solve.specs.Replacing.{Change, holds, pruned_names, pruned, pruned_all, narrowed}
-use Rattle.ab_solve.proofs.Avoiding.{AreNames as AllNames}
+use Rattle.ab_unify.specs.ab_types.specs.Entries.{Table, IsExtendedBy as IsPartOf}
+use Rattle.ab_unify.specs.ab_types.proofs.Entries.{same_type}
+use Rattle.ab_unify.specs.ab_store.specs.declared.node.TermId.{TermId}
+use Rattle.ab_unify.specs.ab_store.specs.declared.node.CellId.{CellId}
+use Rattle.ab_unify.specs.ab_store.specs.declared.node.CellEntry.{CellEntry}
+use Rattle.ab_unify.specs.ab_store.specs.declared.node.Head.{Head}
+use Rattle.ab_unify.specs.ab_store.specs.declared.node.Head.TheVariants.{Const, Logic, Nominal, Cell, Index}
+use Rattle.ab_unify.specs.ab_store.specs.Trees.{Read, Contents, head_in, tree_of, head_reading}
+use Rattle.ab_unify.specs.ab_store.specs.Reading.{bound_in, reading, cell_variable}
+use Rattle.ab_unify.specs.ab_store.specs.Bindings.{cells_of, IsUnbound, IsResolved}
+use Rattle.ab_unify.specs.ab_store.specs.Naming.{HeadIsTyped}
+use Rattle.ab_unify.specs.ab_store.proofs.Cells.{stands, numbered}
+use Rattle.ab_unify.specs.ab_store.proofs.Putting.{resolved_reads}
+use Rattle.ab_unify.specs.ab_norm.specs.Growth.{AddsTypedTerms}
+use Rattle.ab_unify.specs.ab_solve.specs.Replacing.{Change, holds, pruned_names, pruned, pruned_all, narrowed}
+use Rattle.ab_unify.specs.ab_solve.proofs.Avoiding.{AreNames as AllNames}
 use Rattle.ab_unifying.specs.Problem.{cell_read}
 use Rattle.ab_unifying.specs.Changed.{IsFree, Changed, AllUnbound, IsName, AreNames}
 use Rattle.ab_unifying.proofs.Growth.{grows_on, grows_terms}

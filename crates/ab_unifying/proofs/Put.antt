@@ -10,23 +10,23 @@ use Rattle.ab_term.specs.Variables.{Substitution, image, composition, IsTyped}
 use Rattle.ab_term.specs.Sameness.{same_number}
 use Rattle.ab_term.proofs.Compositions.{image-composition, composition_typed}
 use Rattle.ab_term.proofs.Lists.{All-from_contains}
-use Rattle.ab_types.specs.Entries.{Table, signature}
-use Rattle.ab_types.specs.Ids.{type_of}
-use Rattle.ab_types.proofs.Entries.{extended_by_itself}
-use Rattle.ab_store.specs.declared.node.TermId.{TermId}
-use Rattle.ab_store.specs.declared.node.CellId.{CellId}
-use Rattle.ab_store.specs.Trees.{Contents, Holds, cell_in, cell_of, tree_of}
-use Rattle.ab_store.specs.Reading.{reading, cell_variable}
-use Rattle.ab_store.specs.Bindings.{IsUnbound}
-use Rattle.ab_store.specs.declared.mark.Mark.{Mark}
-use Rattle.ab_store.specs.Marks.{HasMark, KeepsMark}
-use Rattle.ab_store.specs.Naming.{IsTypedBy, IsTerm}
-use Rattle.ab_store.proofs.Putting.{read_typed}
-use Rattle.ab_solve.specs.Patterns.{value}
-use Rattle.ab_solve.specs.Replacing as solve
-use Rattle.ab_solve.specs.Replacing.{Change}
-use Rattle.ab_solve.specs.Solving.{begun}
-use Rattle.ab_solve.proofs.Ruling.{image_none}
+use Rattle.ab_unify.specs.ab_types.specs.Entries.{Table, signature}
+use Rattle.ab_unify.specs.ab_types.specs.Ids.{type_of}
+use Rattle.ab_unify.specs.ab_types.proofs.Entries.{extended_by_itself}
+use Rattle.ab_unify.specs.ab_store.specs.declared.node.TermId.{TermId}
+use Rattle.ab_unify.specs.ab_store.specs.declared.node.CellId.{CellId}
+use Rattle.ab_unify.specs.ab_store.specs.Trees.{Contents, Holds, cell_in, cell_of, tree_of}
+use Rattle.ab_unify.specs.ab_store.specs.Reading.{reading, cell_variable}
+use Rattle.ab_unify.specs.ab_store.specs.Bindings.{IsUnbound}
+use Rattle.ab_unify.specs.ab_store.specs.declared.mark.Mark.{Mark}
+use Rattle.ab_unify.specs.ab_store.specs.Marks.{HasMark, KeepsMark}
+use Rattle.ab_unify.specs.ab_store.specs.Naming.{IsTypedBy, IsTerm}
+use Rattle.ab_unify.specs.ab_store.proofs.Putting.{read_typed}
+use Rattle.ab_unify.specs.ab_solve.specs.Patterns.{value}
+use Rattle.ab_unify.specs.ab_solve.specs.Replacing as solve
+use Rattle.ab_unify.specs.ab_solve.specs.Replacing.{Change}
+use Rattle.ab_unify.specs.ab_solve.specs.Solving.{begun}
+use Rattle.ab_unify.specs.ab_solve.proofs.Ruling.{image_none}
 use Rattle.ab_unifying.specs.Problem.{cell_read, cells_read, variables_read}
 use Rattle.ab_unifying.specs.Changed.{others_than, Grows, IsFree, Changed}
 use Rattle.ab_unifying.proofs.Growth.{grows_none, grows_on, lifted, was_unbound}

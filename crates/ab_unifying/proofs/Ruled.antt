@@ -9,24 +9,24 @@ use Rattle.ab_term.specs.Variables.{image}
 use Rattle.ab_term.specs.Sameness.{same_number}
 use Rattle.ab_term.specs.Typing.{TakeType}
 use Rattle.ab_term.specs.Closing.{Named}
-use Rattle.ab_types.specs.Entries.{Table, signature}
-use Rattle.ab_types.specs.Ids.{type_of}
-use Rattle.ab_store.specs.declared.node.TermId.{TermId}
-use Rattle.ab_norm.proofs.Frame.{adds_but_types}
-use Rattle.ab_solve.proofs.Values.{pattern_named}
-use Rattle.ab_store.specs.declared.node.CellId.{CellId}
-use Rattle.ab_store.specs.declared.node.Head as heads
-use Rattle.ab_store.specs.Trees.{Contents, Holds, cell_in, cell_of, tree_of, head_in, head_reading}
-use Rattle.ab_store.specs.Reading.{bound_in}
-use Rattle.ab_store.specs.Naming.{HeadIsTyped, IsTypedBy}
-use Rattle.ab_norm.specs.Growth.{AddsTypedTerms}
-use Rattle.ab_patterns.specs.Readings.{names_of}
-use Rattle.ab_solve.specs.Patterns.{pattern}
-use Rattle.ab_solve.proofs.Views.{is_pattern}
-use Rattle.ab_solve.proofs.Readings.{pattern_distinct}
-use Rattle.ab_solve.proofs.Ruling.{distinct_names}
-use Rattle.ab_solve.specs.Replacing.{Cell, Change, has_patterns, occurs, no_foreign, pruned}
-use Rattle.ab_solve.specs.Solving.{Result, clash, replaced, begun, unchanged, put_in, pattern_of}
+use Rattle.ab_unify.specs.ab_types.specs.Entries.{Table, signature}
+use Rattle.ab_unify.specs.ab_types.specs.Ids.{type_of}
+use Rattle.ab_unify.specs.ab_store.specs.declared.node.TermId.{TermId}
+use Rattle.ab_unify.specs.ab_norm.proofs.Frame.{adds_but_types}
+use Rattle.ab_unify.specs.ab_solve.proofs.Values.{pattern_named}
+use Rattle.ab_unify.specs.ab_store.specs.declared.node.CellId.{CellId}
+use Rattle.ab_unify.specs.ab_store.specs.declared.node.Head as heads
+use Rattle.ab_unify.specs.ab_store.specs.Trees.{Contents, Holds, cell_in, cell_of, tree_of, head_in, head_reading}
+use Rattle.ab_unify.specs.ab_store.specs.Reading.{bound_in}
+use Rattle.ab_unify.specs.ab_store.specs.Naming.{HeadIsTyped, IsTypedBy}
+use Rattle.ab_unify.specs.ab_norm.specs.Growth.{AddsTypedTerms}
+use Rattle.ab_unify.specs.ab_patterns.specs.Readings.{names_of}
+use Rattle.ab_unify.specs.ab_solve.specs.Patterns.{pattern}
+use Rattle.ab_unify.specs.ab_solve.proofs.Views.{is_pattern}
+use Rattle.ab_unify.specs.ab_solve.proofs.Readings.{pattern_distinct}
+use Rattle.ab_unify.specs.ab_solve.proofs.Ruling.{distinct_names}
+use Rattle.ab_unify.specs.ab_solve.specs.Replacing.{Cell, Change, has_patterns, occurs, no_foreign, pruned}
+use Rattle.ab_unify.specs.ab_solve.specs.Solving.{Result, clash, replaced, begun, unchanged, put_in, pattern_of}
 use Rattle.ab_unifying.specs.declared.ruling.Step.TheVariants.{NoRule, Clash, Replaced}
 use Rattle.ab_unifying.specs.Problem.{cell_read, cells_read, variables_read}
 use Rattle.ab_unifying.specs.Changed.{IsFree, Changed, AreNames}

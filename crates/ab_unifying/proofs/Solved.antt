@@ -10,20 +10,20 @@ use Rattle.ab_term.specs.Variables.{variables, value_in, image}
 use Rattle.ab_term.specs.Sameness.{same_number}
 use Rattle.ab_term.proofs.Compositions.{image_typed}
 use Rattle.ab_term.proofs.Lists.{Contains-from_map}
-use Rattle.ab_types.specs.Entries.{Table}
-use Rattle.ab_store.specs.declared.node.CellId.{CellId}
-use Rattle.ab_store.specs.Trees.{Contents, HoldsCell}
-use Rattle.ab_store.specs.Reading.{cell_variable}
-use Rattle.ab_solve.specs.Patterns.{value}
-use Rattle.ab_solve.specs.Replacing.{Cell, Change, holds, has_patterns, occurs, no_foreign, pruned}
-use Rattle.ab_solve.specs.Solving.{begun}
-use Rattle.ab_solve.specs.Meaning.{AreKnown}
-use Rattle.ab_solve.proofs.Views.{IsPattern}
-use Rattle.ab_solve.proofs.Values.{pattern_named, value_typed}
-use Rattle.ab_solve.proofs.Falling.{map_length}
-use Rattle.ab_solve.proofs.Avoiding.{Avoids, image_avoids, avoids_if}
-use Rattle.ab_solve.proofs.Pruned.{pruned_fine}
-use Rattle.ab_solve.proofs.Flexible.{Inv, inv_keeps, begun_fine}
+use Rattle.ab_unify.specs.ab_types.specs.Entries.{Table}
+use Rattle.ab_unify.specs.ab_store.specs.declared.node.CellId.{CellId}
+use Rattle.ab_unify.specs.ab_store.specs.Trees.{Contents, HoldsCell}
+use Rattle.ab_unify.specs.ab_store.specs.Reading.{cell_variable}
+use Rattle.ab_unify.specs.ab_solve.specs.Patterns.{value}
+use Rattle.ab_unify.specs.ab_solve.specs.Replacing.{Cell, Change, holds, has_patterns, occurs, no_foreign, pruned}
+use Rattle.ab_unify.specs.ab_solve.specs.Solving.{begun}
+use Rattle.ab_unify.specs.ab_solve.specs.Meaning.{AreKnown}
+use Rattle.ab_unify.specs.ab_solve.proofs.Views.{IsPattern}
+use Rattle.ab_unify.specs.ab_solve.proofs.Values.{pattern_named, value_typed}
+use Rattle.ab_unify.specs.ab_solve.proofs.Falling.{map_length}
+use Rattle.ab_unify.specs.ab_solve.proofs.Avoiding.{Avoids, image_avoids, avoids_if}
+use Rattle.ab_unify.specs.ab_solve.proofs.Pruned.{pruned_fine}
+use Rattle.ab_unify.specs.ab_solve.proofs.Flexible.{Inv, inv_keeps, begun_fine}
 use Rattle.ab_unify.proofs.Standing.{holds_contains}
 use Rattle.ab_unifying.specs.Problem.{cell_read, cells_read, variables_read}
 use Rattle.ab_unifying.specs.Changed.{IsFree}

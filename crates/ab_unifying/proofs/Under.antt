@@ -6,10 +6,10 @@ use Rattle.ab_term.specs.Terms as tree
 use Rattle.ab_term.specs.Terms.{index}
 use Rattle.ab_term.specs.Substitution.{shift_head}
 use Rattle.ab_term.specs.Closing.{is_name}
-use Rattle.ab_types.specs.Entries.{Table}
-use Rattle.ab_store.specs.declared.node.Head.{Head}
-use Rattle.ab_store.specs.Trees.{Contents, head_reading}
-use Rattle.ab_store.specs.Naming.{HeadIsTyped}
+use Rattle.ab_unify.specs.ab_types.specs.Entries.{Table}
+use Rattle.ab_unify.specs.ab_store.specs.declared.node.Head.{Head}
+use Rattle.ab_unify.specs.ab_store.specs.Trees.{Contents, head_reading}
+use Rattle.ab_unify.specs.ab_store.specs.Naming.{HeadIsTyped}
 use Rattle.ab_unifying.specs.Changed.{IsName, AreNames}
 use Rattle.ab_unifying.proofs.Pruned.{is_name_read, is_name_then}
 

@@ -7,19 +7,19 @@ use Rattle.ab_term.specs.Terms as tree
 use Rattle.ab_term.specs.Terms.{Variable, Terms, spine}
 use Rattle.ab_term.specs.Variables.{variables, variables_of_all}
 use Rattle.ab_term.proofs.Lists.{Contains-here, Contains-map}
-use Rattle.ab_types.specs.Entries.{Table}
-use Rattle.ab_store.specs.declared.node.TermId.{TermId}
-use Rattle.ab_store.specs.declared.node.CellId.{CellId}
-use Rattle.ab_store.specs.declared.node.Head.{Head}
-use Rattle.ab_store.specs.declared.node.Head.TheVariants.{Const, Logic, Nominal, Cell, Index}
-use Rattle.ab_store.specs.declared.node.Node.{Node}
-use Rattle.ab_store.specs.declared.node.Node.TheVariants.{Lam, Spine}
-use Rattle.ab_store.specs.Trees.{Read, Contents, Holds, tree_of, node_tree, head_reading}
-use Rattle.ab_store.specs.Reading.{binding_of, cell_variable}
-use Rattle.ab_store.specs.Naming.{NodeNames, IsTypedBy}
-use Rattle.ab_store.proofs.Nodes.{terms_from-at}
-use Rattle.ab_solve.specs.Replacing.{Change, holds}
-use Rattle.ab_solve.proofs.Agreeing.{contains_holds}
+use Rattle.ab_unify.specs.ab_types.specs.Entries.{Table}
+use Rattle.ab_unify.specs.ab_store.specs.declared.node.TermId.{TermId}
+use Rattle.ab_unify.specs.ab_store.specs.declared.node.CellId.{CellId}
+use Rattle.ab_unify.specs.ab_store.specs.declared.node.Head.{Head}
+use Rattle.ab_unify.specs.ab_store.specs.declared.node.Head.TheVariants.{Const, Logic, Nominal, Cell, Index}
+use Rattle.ab_unify.specs.ab_store.specs.declared.node.Node.{Node}
+use Rattle.ab_unify.specs.ab_store.specs.declared.node.Node.TheVariants.{Lam, Spine}
+use Rattle.ab_unify.specs.ab_store.specs.Trees.{Read, Contents, Holds, tree_of, node_tree, head_reading}
+use Rattle.ab_unify.specs.ab_store.specs.Reading.{binding_of, cell_variable}
+use Rattle.ab_unify.specs.ab_store.specs.Naming.{NodeNames, IsTypedBy}
+use Rattle.ab_unify.specs.ab_store.proofs.Nodes.{terms_from-at}
+use Rattle.ab_unify.specs.ab_solve.specs.Replacing.{Change, holds}
+use Rattle.ab_unify.specs.ab_solve.proofs.Agreeing.{contains_holds}
 use Rattle.ab_unifying.specs.Problem.{variables_read}
 use Rattle.ab_unifying.specs.Changed.{IsFree, Changed, AllUnbound}
 use Rattle.ab_unifying.specs.Pruning.{HeadIsFree}

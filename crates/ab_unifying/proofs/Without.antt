@@ -6,13 +6,13 @@ use Rattle.ab_term.specs.Variables.{image}
 use Rattle.ab_term.specs.Sameness.{same_number}
 use Rattle.ab_term.specs.Closing.{under}
 use Rattle.ab_term.proofs.Same.{same_numbered-Decides}
-use Rattle.ab_types.specs.Entries.{Table}
-use Rattle.ab_store.specs.declared.node.CellId.{CellId}
-use Rattle.ab_store.specs.Trees.{Contents}
-use Rattle.ab_store.specs.Reading.{cell_variable}
-use Rattle.ab_solve.specs.Replacing.{Change, holds, without, is_flexible, occurs, pruned_here, pruned, pruned_all}
-use Rattle.ab_solve.proofs.Avoiding.{HeadAvoids, Avoids, AllAvoid, head_avoids, avoids_if, without_held}
-use Rattle.ab_solve.proofs.Falling.{holds_without}
+use Rattle.ab_unify.specs.ab_types.specs.Entries.{Table}
+use Rattle.ab_unify.specs.ab_store.specs.declared.node.CellId.{CellId}
+use Rattle.ab_unify.specs.ab_store.specs.Trees.{Contents}
+use Rattle.ab_unify.specs.ab_store.specs.Reading.{cell_variable}
+use Rattle.ab_unify.specs.ab_solve.specs.Replacing.{Change, holds, without, is_flexible, occurs, pruned_here, pruned, pruned_all}
+use Rattle.ab_unify.specs.ab_solve.proofs.Avoiding.{HeadAvoids, Avoids, AllAvoid, head_avoids, avoids_if, without_held}
+use Rattle.ab_unify.specs.ab_solve.proofs.Falling.{holds_without}
 use Rattle.ab_unifying.specs.Problem.{variables_read}
 use Rattle.ab_unifying.specs.Changed.{others_than}
 use Rattle.ab_unifying.proofs.Listed.{variables_without}

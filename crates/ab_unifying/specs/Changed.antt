@@ -4,19 +4,19 @@ use Rattle.ab_term.specs.Types.{Ty}
 use Rattle.ab_term.specs.Terms.{Variable}
 use Rattle.ab_term.specs.Variables.{image, variables, IsTyped}
 use Rattle.ab_term.specs.Sameness.{same_number}
-use Rattle.ab_types.specs.Entries.{Table, kinds, constants, signature, IsExtendedBy as IsPartOf}
-use Rattle.ab_store.specs.declared.node.TermId.{TermId}
-use Rattle.ab_store.specs.declared.node.CellId.{CellId}
-use Rattle.ab_store.specs.declared.node.Head.{Head}
-use Rattle.ab_store.specs.declared.node.Head.TheVariants.{Nominal, Index}
-use Rattle.ab_store.specs.declared.mark.Mark.{Mark}
-use Rattle.ab_store.specs.Trees.{Read, Contents, Holds, HoldsCell, cell_of, tree_of}
-use Rattle.ab_store.specs.Reading.{reading}
-use Rattle.ab_store.specs.Bindings.{IsUnbound}
-use Rattle.ab_store.specs.Marks.{HasMark, KeepsMark}
-use Rattle.ab_store.specs.Naming.{HeadIsTyped, IsTypedBy, IsTerm}
-use Rattle.ab_solve.specs.Replacing.{Change}
-pub use Rattle.ab_patterns.specs.Flexible.{others_than}
+use Rattle.ab_unify.specs.ab_types.specs.Entries.{Table, kinds, constants, signature, IsExtendedBy as IsPartOf}
+use Rattle.ab_unify.specs.ab_store.specs.declared.node.TermId.{TermId}
+use Rattle.ab_unify.specs.ab_store.specs.declared.node.CellId.{CellId}
+use Rattle.ab_unify.specs.ab_store.specs.declared.node.Head.{Head}
+use Rattle.ab_unify.specs.ab_store.specs.declared.node.Head.TheVariants.{Nominal, Index}
+use Rattle.ab_unify.specs.ab_store.specs.declared.mark.Mark.{Mark}
+use Rattle.ab_unify.specs.ab_store.specs.Trees.{Read, Contents, Holds, HoldsCell, cell_of, tree_of}
+use Rattle.ab_unify.specs.ab_store.specs.Reading.{reading}
+use Rattle.ab_unify.specs.ab_store.specs.Bindings.{IsUnbound}
+use Rattle.ab_unify.specs.ab_store.specs.Marks.{HasMark, KeepsMark}
+use Rattle.ab_unify.specs.ab_store.specs.Naming.{HeadIsTyped, IsTypedBy, IsTerm}
+use Rattle.ab_unify.specs.ab_solve.specs.Replacing.{Change}
+pub use Rattle.ab_unify.specs.ab_patterns.specs.Flexible.{others_than}
 use Rattle.ab_unifying.specs.Problem.{cells_read, variables_read}
 
 -- THE STORE GREW, and cells may have been bound: ids and cells stay what they were, and what marks count is as before. The

@@ -3,9 +3,9 @@ use Rattle.std.specs.Prelude.{ℕ, List, cond}
 use Rattle.std.specs.List.{list_all}
 use Rattle.ab_term.specs.Terms.{Variable, Head}
 use Rattle.ab_term.specs.Closing.{among}
-use Rattle.ab_solve.specs.Patterns.{applied}
-use Rattle.ab_solve.specs.Replacing.{Cell, Change}
-use Rattle.ab_solve.specs.Solving.{begun, put_in, joined_at}
+use Rattle.ab_unify.specs.ab_solve.specs.Patterns.{applied}
+use Rattle.ab_unify.specs.ab_solve.specs.Replacing.{Cell, Change}
+use Rattle.ab_unify.specs.ab_solve.specs.Solving.{begun, put_in, joined_at}
 
 -- z becomes y, where all names of y are among z's; else y becomes z, where all of z's are among y's; else both become a
 -- new variable over the common names

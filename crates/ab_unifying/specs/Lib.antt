@@ -6,3 +6,10 @@ pub mod Changed
 pub mod Joined
 pub mod Pruning
 pub mod Outcome
+-- Libraries that the crates above name through this one.
+pub use Rattle.ab_unify.specs.ab_solve
+pub use Rattle.ab_unify.specs.ab_types
+pub use Rattle.ab_unify.specs.ab_store
+pub use Rattle.ab_unify.specs.ab_norm
+pub use Rattle.ab_unify.specs.ab_patterns
+pub use Rattle.ab_unify

@@ -2,15 +2,15 @@
 use Rattle.std.specs.Prelude.{◌≡◌, ℕ, List, map, All, Option, Some, None, codes}
 use Rattle.ab_term.specs.Types.{Ty}
 use Rattle.ab_term.specs.Terms.{Variable, Term}
-use Rattle.ab_types.specs.Entries.{Table}
-use Rattle.ab_store.specs.declared.node.CellId.{CellId}
-use Rattle.ab_store.specs.Trees.{Contents}
-use Rattle.ab_store.specs.Reading.{reading}
-use Rattle.ab_store.specs.Naming.{IsTerm}
-use Rattle.ab_patterns.specs.declared.equation.Numbered.{Numbered}
-use Rattle.ab_solve.specs.Replacing.{Cell, Change}
-use Rattle.ab_solve.specs.Solving as solve
-use Rattle.ab_solve.specs.Solving.{Result, clash, parts, replaced, unchanged, or_else, pattern_and_rigid, one_variable, two_variables}
+use Rattle.ab_unify.specs.ab_types.specs.Entries.{Table}
+use Rattle.ab_unify.specs.ab_store.specs.declared.node.CellId.{CellId}
+use Rattle.ab_unify.specs.ab_store.specs.Trees.{Contents}
+use Rattle.ab_unify.specs.ab_store.specs.Reading.{reading}
+use Rattle.ab_unify.specs.ab_store.specs.Naming.{IsTerm}
+use Rattle.ab_unify.specs.ab_patterns.specs.declared.equation.Numbered.{Numbered}
+use Rattle.ab_unify.specs.ab_solve.specs.Replacing.{Cell, Change}
+use Rattle.ab_unify.specs.ab_solve.specs.Solving as solve
+use Rattle.ab_unify.specs.ab_solve.specs.Solving.{Result, clash, parts, replaced, unchanged, or_else, pattern_and_rigid, one_variable, two_variables}
 use Rattle.ab_unifying.specs.declared.ruling.Step.{Step}
 use Rattle.ab_unifying.specs.declared.ruling.Step.TheVariants.{NoRule, Clash, Parts, Replaced}
 use Rattle.ab_unifying.specs.Problem.{cells_read, variables_read}

@@ -1,16 +1,16 @@
 -- Problems on shared terms, as plain ones: terms are what their ids read as, and cells are the variables.
 use Rattle.std.specs.Prelude.{ℕ, ◌+◌, List, [], ◌∷◌, map}
 use Rattle.ab_term.specs.Terms.{Variable}
-use Rattle.ab_types.specs.Entries.{Table}
-use Rattle.ab_types.specs.Ids.{type_of}
-use Rattle.ab_store.specs.declared.node.CellId.{CellId}
-use Rattle.ab_store.specs.declared.node.CellEntry.{CellEntry}
-use Rattle.ab_store.specs.declared.node.Equation.{Equation}
-use Rattle.ab_store.specs.Trees.{Contents}
-use Rattle.ab_store.specs.Reading.{reading, cell_variable}
-use Rattle.ab_solve.specs.Replacing.{Cell}
-use Rattle.ab_solve.specs.Solving as solve
-use Rattle.ab_solve.specs.Meaning.{given}
+use Rattle.ab_unify.specs.ab_types.specs.Entries.{Table}
+use Rattle.ab_unify.specs.ab_types.specs.Ids.{type_of}
+use Rattle.ab_unify.specs.ab_store.specs.declared.node.CellId.{CellId}
+use Rattle.ab_unify.specs.ab_store.specs.declared.node.CellEntry.{CellEntry}
+use Rattle.ab_unify.specs.ab_store.specs.declared.node.Equation.{Equation}
+use Rattle.ab_unify.specs.ab_store.specs.Trees.{Contents}
+use Rattle.ab_unify.specs.ab_store.specs.Reading.{reading, cell_variable}
+use Rattle.ab_unify.specs.ab_solve.specs.Replacing.{Cell}
+use Rattle.ab_unify.specs.ab_solve.specs.Solving as solve
+use Rattle.ab_unify.specs.ab_solve.specs.Meaning.{given}
 
 -- the hint and the type of a cell
 abbrev pub cell_read : Table → CellEntry → Cell (List ℕ)

@@ -2,16 +2,16 @@
 -- of this.
 use Rattle.std.specs.Prelude.{◌≡◌, ℕ, ◌+◌, List, map, length, true, codes}
 use Rattle.ab_term.specs.Terms as tree
-use Rattle.ab_types.specs.Entries.{Table}
-use Rattle.ab_store.specs.declared.node.TermId.{TermId}
-use Rattle.ab_store.specs.declared.node.CellId.{CellId}
-use Rattle.ab_store.specs.declared.node.Head.{Head}
-use Rattle.ab_store.specs.declared.node.Head.TheVariants.{Cell}
-use Rattle.ab_store.specs.Trees.{Contents, tree_of}
-use Rattle.ab_store.specs.Reading.{cell_variable}
-use Rattle.ab_patterns.specs.declared.seen.Seen.{Seen}
-use Rattle.ab_patterns.specs.Walking.{has_been, deep}
-use Rattle.ab_solve.specs.Replacing.{Change, pruned}
+use Rattle.ab_unify.specs.ab_types.specs.Entries.{Table}
+use Rattle.ab_unify.specs.ab_store.specs.declared.node.TermId.{TermId}
+use Rattle.ab_unify.specs.ab_store.specs.declared.node.CellId.{CellId}
+use Rattle.ab_unify.specs.ab_store.specs.declared.node.Head.{Head}
+use Rattle.ab_unify.specs.ab_store.specs.declared.node.Head.TheVariants.{Cell}
+use Rattle.ab_unify.specs.ab_store.specs.Trees.{Contents, tree_of}
+use Rattle.ab_unify.specs.ab_store.specs.Reading.{cell_variable}
+use Rattle.ab_unify.specs.ab_patterns.specs.declared.seen.Seen.{Seen}
+use Rattle.ab_unify.specs.ab_patterns.specs.Walking.{has_been, deep}
+use Rattle.ab_unify.specs.ab_solve.specs.Replacing.{Change, pruned}
 use Rattle.ab_unifying.specs.Changed.{IsFree}
 
 -- a cell that the head is, if it is one, may be bound

@@ -3,23 +3,23 @@ ghost use Rattle.std.specs.Prelude.{◌≡◌, ◌↔◌, ℕ, ◌≤◌, List, 
 ghost use Rattle.ab_term.specs.Types.{Ty, kind};
 ghost use Rattle.ab_term.specs.Terms.{variable, spine, terms_of};
 ghost use Rattle.ab_term.specs.Typing.{TakeType};
-ghost use Rattle.ab_types.specs.Entries.{Table, signature};
-ghost use Rattle.ab_types.specs.Ids.{type_of};
-ghost use Rattle.ab_store.specs.declared.node.Head.TheVariants.{Cell};
-ghost use Rattle.ab_store.specs.Trees.{Contents, Holds, cell_of, tree_of, head_reading};
-ghost use Rattle.ab_store.specs.Reading.{cell_variable};
-ghost use Rattle.ab_store.specs.Bindings.{IsResolved};
-ghost use Rattle.ab_store.specs.Naming.{IsTypedBy, IsTerm};
-ghost use Rattle.ab_solve.specs.Replacing as solve;
-ghost use Rattle.ab_solve.specs.Solving.{rigid_heads};
+ghost use Rattle.ab_unify.specs.ab_types.specs.Entries.{Table, signature};
+ghost use Rattle.ab_unify.specs.ab_types.specs.Ids.{type_of};
+ghost use Rattle.ab_unify.specs.ab_store.specs.declared.node.Head.TheVariants.{Cell};
+ghost use Rattle.ab_unify.specs.ab_store.specs.Trees.{Contents, Holds, cell_of, tree_of, head_reading};
+ghost use Rattle.ab_unify.specs.ab_store.specs.Reading.{cell_variable};
+ghost use Rattle.ab_unify.specs.ab_store.specs.Bindings.{IsResolved};
+ghost use Rattle.ab_unify.specs.ab_store.specs.Naming.{IsTypedBy, IsTerm};
+ghost use Rattle.ab_unify.specs.ab_solve.specs.Replacing as solve;
+ghost use Rattle.ab_unify.specs.ab_solve.specs.Solving.{rigid_heads};
 ghost use Rattle.ab_unifying.specs.Problem.{cells_read, variables_read};
 ghost use Rattle.ab_unifying.specs.Changed.{Grows, IsFree};
 ghost use Rattle.ab_unifying.specs.Outcome.{Tells, last_rules};
 
 use crate::ruling::{Step, solve_one, solve_rigid, solve_two};
-use ab_patterns::{FlexibleCells, is_flexible};
-use ab_store::{CellId, Head, Node, Store, TermId};
-use ab_types::{Steps, TypeTable};
+use ab_unify::below::patterns::{FlexibleCells, is_flexible};
+use ab_unify::below::store::{CellId, Head, Node, Store, TermId};
+use ab_unify::below::types::{Steps, TypeTable};
 use std::alloc::{AllocError, Global};
 
 /// Whether the two cells are the same.

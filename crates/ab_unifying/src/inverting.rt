@@ -3,24 +3,24 @@ ghost use Rattle.std.specs.Prelude.{◌≡◌, ℕ, ◌≤◌, List, map, All, O
 ghost use Rattle.ab_term.specs.Types.{Ty, kind};
 ghost use Rattle.ab_term.specs.Terms.{Terms};
 ghost use Rattle.ab_term.specs.Typing.{TakeType};
-ghost use Rattle.ab_types.specs.Entries.{Table, signature};
-ghost use Rattle.ab_types.specs.Ids.{type_of};
-ghost use Rattle.ab_store.specs.Trees.{Contents, cell_of, tree_of, head_reading};
-ghost use Rattle.ab_store.specs.Reading.{cell_variable};
-ghost use Rattle.ab_store.specs.Bindings.{IsResolved};
-ghost use Rattle.ab_store.specs.Naming.{IsTypedBy, IsTerm};
-ghost use Rattle.ab_solve.specs.Patterns as solve;
-ghost use Rattle.ab_solve.specs.Replacing.{pruned, has_patterns, occurs, no_foreign};
-ghost use Rattle.ab_solve.specs.Solving.{begun, put_in};
+ghost use Rattle.ab_unify.specs.ab_types.specs.Entries.{Table, signature};
+ghost use Rattle.ab_unify.specs.ab_types.specs.Ids.{type_of};
+ghost use Rattle.ab_unify.specs.ab_store.specs.Trees.{Contents, cell_of, tree_of, head_reading};
+ghost use Rattle.ab_unify.specs.ab_store.specs.Reading.{cell_variable};
+ghost use Rattle.ab_unify.specs.ab_store.specs.Bindings.{IsResolved};
+ghost use Rattle.ab_unify.specs.ab_store.specs.Naming.{IsTypedBy, IsTerm};
+ghost use Rattle.ab_unify.specs.ab_solve.specs.Patterns as solve;
+ghost use Rattle.ab_unify.specs.ab_solve.specs.Replacing.{pruned, has_patterns, occurs, no_foreign};
+ghost use Rattle.ab_unify.specs.ab_solve.specs.Solving.{begun, put_in};
 ghost use Rattle.ab_unifying.specs.Problem.{cells_read, variables_read};
 ghost use Rattle.ab_unifying.specs.Changed.{Grows, IsFree, Changed, AreNames};
 
 use crate::binding::bind;
 use crate::pruning::prune;
-use ab_norm::copy_resolved;
-use ab_patterns::{FlexibleCells, Seen};
-use ab_store::{CellId, Head, Store, TermId};
-use ab_types::{Steps, TypeTable};
+use ab_unify::below::norm::copy_resolved;
+use ab_unify::below::patterns::{FlexibleCells, Seen};
+use ab_unify::below::store::{CellId, Head, Store, TermId};
+use ab_unify::below::types::{Steps, TypeTable};
 use std::alloc::{AllocError, Global};
 
 /// Binds the cell so that, given the names, it is the term, once the cells in the term have lost the names that are

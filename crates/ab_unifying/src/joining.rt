@@ -2,21 +2,21 @@
 ghost use Rattle.std.specs.Prelude.{◌≡◌, ◌≢◌, ℕ, ◌≤◌, List, map, length, All, OnOk, Contains, codes};
 ghost use Rattle.ab_term.specs.Types.{Ty, kind};
 ghost use Rattle.ab_term.specs.Closing.{Named, among};
-ghost use Rattle.ab_types.specs.Entries.{Table, signature};
-ghost use Rattle.ab_types.specs.Ids.{type_of};
-ghost use Rattle.ab_store.specs.Trees.{Contents, cell_of, head_reading};
-ghost use Rattle.ab_store.specs.Reading.{cell_variable};
-ghost use Rattle.ab_store.specs.Naming.{IsTypedBy};
-ghost use Rattle.ab_solve.specs.Solving.{joined_at};
+ghost use Rattle.ab_unify.specs.ab_types.specs.Entries.{Table, signature};
+ghost use Rattle.ab_unify.specs.ab_types.specs.Ids.{type_of};
+ghost use Rattle.ab_unify.specs.ab_store.specs.Trees.{Contents, cell_of, head_reading};
+ghost use Rattle.ab_unify.specs.ab_store.specs.Reading.{cell_variable};
+ghost use Rattle.ab_unify.specs.ab_store.specs.Naming.{IsTypedBy};
+ghost use Rattle.ab_unify.specs.ab_solve.specs.Solving.{joined_at};
 ghost use Rattle.ab_unifying.specs.Problem.{cells_read, variables_read};
 ghost use Rattle.ab_unifying.specs.Changed.{Grows, IsFree, Changed, AreNames};
 ghost use Rattle.ab_unifying.specs.Joined.{two_joined};
 
 use crate::binding::{bind, bind_to_cell};
 use crate::narrowing::narrow;
-use ab_patterns::{FlexibleCells, applied, keep_heads};
-use ab_store::{CellId, Head, Store};
-use ab_types::{Steps, TypeTable};
+use ab_unify::below::patterns::{FlexibleCells, applied, keep_heads};
+use ab_unify::below::store::{CellId, Head, Store};
+use ab_unify::below::types::{Steps, TypeTable};
 use ab_unify::{common, keeps_all};
 use std::alloc::{AllocError, Global};
 

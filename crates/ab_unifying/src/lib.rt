@@ -2,6 +2,7 @@
 //! and carries it out: cells are made and bound, so that each term reads as its image.
 #![tactic(auto)]
 
+pub mod below;
 mod binding;
 mod choosing;
 mod inverting;

@@ -2,18 +2,18 @@
 ghost use Rattle.std.specs.Prelude.{◌≡◌, ◌≢◌, true, ℕ, ◌≤◌, List, map, length, All, IfOk, OnOk, Contains, codes};
 ghost use Rattle.ab_term.specs.Types.{Ty, kind};
 ghost use Rattle.ab_term.specs.Closing.{Named, is_name};
-ghost use Rattle.ab_types.specs.Entries.{Table, signature};
-ghost use Rattle.ab_types.specs.Ids.{type_of};
-ghost use Rattle.ab_store.specs.Trees.{Contents, cell_of, head_reading};
-ghost use Rattle.ab_store.specs.Reading.{cell_variable};
-ghost use Rattle.ab_store.specs.Naming.{HeadIsTyped, IsTypedBy};
-ghost use Rattle.ab_solve.specs.Patterns as solve;
-ghost use Rattle.ab_solve.specs.Replacing.{Change, narrowed};
+ghost use Rattle.ab_unify.specs.ab_types.specs.Entries.{Table, signature};
+ghost use Rattle.ab_unify.specs.ab_types.specs.Ids.{type_of};
+ghost use Rattle.ab_unify.specs.ab_store.specs.Trees.{Contents, cell_of, head_reading};
+ghost use Rattle.ab_unify.specs.ab_store.specs.Reading.{cell_variable};
+ghost use Rattle.ab_unify.specs.ab_store.specs.Naming.{HeadIsTyped, IsTypedBy};
+ghost use Rattle.ab_unify.specs.ab_solve.specs.Patterns as solve;
+ghost use Rattle.ab_unify.specs.ab_solve.specs.Replacing.{Change, narrowed};
 ghost use Rattle.ab_unifying.specs.Changed.{Grows, IsFree, Changed};
 
-use ab_patterns::FlexibleCells;
-use ab_store::{CellId, Head, Store};
-use ab_types::{Steps, TypeTable};
+use ab_unify::below::patterns::FlexibleCells;
+use ab_unify::below::store::{CellId, Head, Store};
+use ab_unify::below::types::{Steps, TypeTable};
 use ab_unify::renew;
 use std::alloc::{AllocError, Global};
 

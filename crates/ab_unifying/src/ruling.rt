@@ -3,16 +3,16 @@ ghost use Rattle.std.specs.Prelude.{◌≡◌, ◌≢◌, ℕ, ◌≤◌, List, 
 ghost use Rattle.ab_term.specs.Types.{Ty, kind};
 ghost use Rattle.ab_term.specs.Terms.{terms_of};
 ghost use Rattle.ab_term.specs.Typing.{TakeType};
-ghost use Rattle.ab_types.specs.Entries.{Table, signature};
-ghost use Rattle.ab_types.specs.Ids.{type_of};
-ghost use Rattle.ab_store.specs.Trees.{Contents, Holds, HoldsCell, cell_of, tree_of};
-ghost use Rattle.ab_store.specs.Reading.{cell_variable};
-ghost use Rattle.ab_store.specs.Bindings.{IsResolved};
-ghost use Rattle.ab_store.specs.Naming.{IsTypedBy, IsTerm};
-ghost use Rattle.ab_norm.specs.Growth.{AddsTypedTerms};
-ghost use Rattle.ab_patterns.specs.Readings.{names_of};
-ghost use Rattle.ab_solve.specs.Patterns as solve;
-ghost use Rattle.ab_solve.specs.Solving.{pattern_of, same_variable_at, two_at};
+ghost use Rattle.ab_unify.specs.ab_types.specs.Entries.{Table, signature};
+ghost use Rattle.ab_unify.specs.ab_types.specs.Ids.{type_of};
+ghost use Rattle.ab_unify.specs.ab_store.specs.Trees.{Contents, Holds, HoldsCell, cell_of, tree_of};
+ghost use Rattle.ab_unify.specs.ab_store.specs.Reading.{cell_variable};
+ghost use Rattle.ab_unify.specs.ab_store.specs.Bindings.{IsResolved};
+ghost use Rattle.ab_unify.specs.ab_store.specs.Naming.{IsTypedBy, IsTerm};
+ghost use Rattle.ab_unify.specs.ab_norm.specs.Growth.{AddsTypedTerms};
+ghost use Rattle.ab_unify.specs.ab_patterns.specs.Readings.{names_of};
+ghost use Rattle.ab_unify.specs.ab_solve.specs.Patterns as solve;
+ghost use Rattle.ab_unify.specs.ab_solve.specs.Solving.{pattern_of, same_variable_at, two_at};
 ghost use Rattle.ab_unifying.specs.Problem.{cells_read, variables_read};
 ghost use Rattle.ab_unifying.specs.Changed.{Grows, IsFree, AreNames};
 ghost use Rattle.ab_unifying.specs.Outcome.{Tells};
@@ -20,10 +20,12 @@ ghost use Rattle.ab_unifying.specs.Outcome.{Tells};
 use crate::inverting::invert;
 use crate::joining::join;
 use crate::narrowing::narrow;
-use ab_patterns::{FlexibleCells, Numbered, has_no_foreign, has_patterns, occurs, pattern};
-use ab_store::{CellId, Head, Store, TermId};
-use ab_types::{Steps, TypeTable};
 use ab_unify::agreeing;
+use ab_unify::below::patterns::{
+    FlexibleCells, Numbered, has_no_foreign, has_patterns, occurs, pattern,
+};
+use ab_unify::below::store::{CellId, Head, Store, TermId};
+use ab_unify::below::types::{Steps, TypeTable};
 use std::alloc::{AllocError, Global};
 
 /// What a rule made of an equation.

@@ -8,20 +8,20 @@ use Rattle.ab_term.specs.Terms.{Head, variable}
 use Rattle.ab_term.specs.Typing.{Signature}
 use Rattle.ab_term.specs.Beta.{atom, abstraction, application}
 use Rattle.ab_grammar.specs.CommandTrees as written
-use Rattle.ab_readings.specs.Names.{Name, Resolved}
-use Rattle.ab_readings.specs.Normal.{normal_form}
-use Rattle.ab_readings.specs.Readings.{Raw, Reads, reads_bound, reads_known, reads_free, reads_apply, reads_abs, reads_equal, reads_bind}
-use Rattle.ab_readings.specs.Types.{is_listed}
-use Rattle.ab_infer.specs.declared.fault.InferFault.TheVariants.{Unknown, TypeClash, Untyped, Memory}
-use Rattle.ab_walking.specs.Occurrences.{free_names, with_name, with_names}
-use Rattle.ab_clauses.specs.Kept.{Clause}
-use Rattle.ab_closing.specs.Closed.{kept_clause}
-use Rattle.ab_clausal.specs.Readings.{Parts, places_in, ClauseReading, HasOneReading, IsFirstOpen}
-use Rattle.ab_clausal.specs.Meanings.{parts_found, body_type, variable_names, variable_from, variables_from, is_under_nabla, numbered_names, IsKeptAs}
-use Rattle.ab_declare.specs.declared.refusal.Refusal.{Refusal}
-use Rattle.ab_declare.specs.declared.refusal.Refusal.TheVariants as refusal
-use Rattle.ab_declare.specs.Refusals.{here}
-use Rattle.ab_declare.specs.Defining.{MeansKept, MeanKept, IsRead, IsUnread}
+use Rattle.ab_rows.specs.ab_readings.specs.Names.{Name, Resolved}
+use Rattle.ab_rows.specs.ab_readings.specs.Normal.{normal_form}
+use Rattle.ab_rows.specs.ab_readings.specs.Readings.{Raw, Reads, reads_bound, reads_known, reads_free, reads_apply, reads_abs, reads_equal, reads_bind}
+use Rattle.ab_rows.specs.ab_readings.specs.Types.{is_listed}
+use Rattle.ab_rows.specs.ab_infer.specs.declared.fault.InferFault.TheVariants.{Unknown, TypeClash, Untyped, Memory}
+use Rattle.ab_states.specs.ab_walking.specs.Occurrences.{free_names, with_name, with_names}
+use Rattle.ab_rows.specs.ab_clauses.specs.Kept.{Clause}
+use Rattle.ab_states.specs.ab_closing.specs.Closed.{kept_clause}
+use Rattle.ab_states.specs.ab_clausal.specs.Readings.{Parts, places_in, ClauseReading, HasOneReading, IsFirstOpen}
+use Rattle.ab_states.specs.ab_clausal.specs.Meanings.{parts_found, body_type, variable_names, variable_from, variables_from, is_under_nabla, numbered_names, IsKeptAs}
+use Rattle.ab_states.specs.ab_declare.specs.declared.refusal.Refusal.{Refusal}
+use Rattle.ab_states.specs.ab_declare.specs.declared.refusal.Refusal.TheVariants as refusal
+use Rattle.ab_states.specs.ab_declare.specs.Refusals.{here}
+use Rattle.ab_states.specs.ab_declare.specs.Defining.{MeansKept, MeanKept, IsRead, IsUnread}
 
 abbrev head_given : Head ℕ → Ty
 head_given (variable y) = y.type

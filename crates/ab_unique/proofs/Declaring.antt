@@ -4,19 +4,19 @@ use Rattle.std.proofs.Common.{◌≡◌, ℕ, List, [], map, Some, None, refl, s
 use Rattle.ab_term.specs.Types.{prop}
 use Rattle.ab_grammar.specs.Tree.{Tree}
 use Rattle.ab_grammar.specs.CommandTrees.{Command, theorem, show}
-use Rattle.ab_readings.specs.Names.{Resolved, bound, known, free, apply, abs, equal, bind}
-use Rattle.ab_readings.specs.Scopes.{resolved}
-use Rattle.ab_readings.specs.Types.{IsDeclarable}
-use Rattle.ab_store.specs.Trees.{Read}
-use Rattle.ab_logic.specs.Declarations.{Declarations, a_constant, theorem_in}
-use Rattle.ab_meanings.proofs.Names.{FreeAreNominal}
-use Rattle.ab_sentences.proofs.Heads.{ResolvedHas}
-use Rattle.ab_sentences.proofs.Standing.{IsDeclared}
-use Rattle.ab_sentences.proofs.Resolving.{names_are_declared}
+use Rattle.ab_rows.specs.ab_readings.specs.Names.{Resolved, bound, known, free, apply, abs, equal, bind}
+use Rattle.ab_rows.specs.ab_readings.specs.Scopes.{resolved}
+use Rattle.ab_rows.specs.ab_readings.specs.Types.{IsDeclarable}
+use Rattle.ab_rows.specs.ab_store.specs.Trees.{Read}
+use Rattle.ab_rows.specs.ab_logic.specs.Declarations.{Declarations, a_constant, theorem_in}
+use Rattle.ab_rows.specs.ab_meanings.proofs.Names.{FreeAreNominal}
+use Rattle.ab_states.specs.ab_sentences.proofs.Heads.{ResolvedHas}
+use Rattle.ab_states.specs.ab_sentences.proofs.Standing.{IsDeclared}
+use Rattle.ab_states.specs.ab_sentences.proofs.Resolving.{names_are_declared}
 use Rattle.ab_rows.proofs.OneReading.{means_or_not_in, one_meaning_in, one_cause_in}
-use Rattle.ab_declare.specs.declared.refusal.Refusal.{Refusal}
-use Rattle.ab_declare.specs.Refusals.{refusal_for}
-use Rattle.ab_declare.specs.Declaring.{scope_of, States, Declares, new_kinds, new_constants, new_predicates, Declines, kind_taken, constant_taken, type_unknown, type_unfit, defines_nothing, theorem_taken, states_nothing, no_theorem}
+use Rattle.ab_states.specs.ab_declare.specs.declared.refusal.Refusal.{Refusal}
+use Rattle.ab_states.specs.ab_declare.specs.Refusals.{refusal_for}
+use Rattle.ab_states.specs.ab_declare.specs.Declaring.{scope_of, States, Declares, new_kinds, new_constants, new_predicates, Declines, kind_taken, constant_taken, type_unknown, type_unfit, defines_nothing, theorem_taken, states_nothing, no_theorem}
 use Rattle.ab_unique.proofs.Definitions.{one_defining, one_refusal, defines_or_not}
 
 no_free : (e : Resolved) → ResolvedHas IsDeclared e → FreeAreNominal e

@@ -2,17 +2,17 @@
 use Rattle.std.specs.Prelude.{None, Ok, Err, Bool, All}
 use Rattle.std.proofs.Common.{◌≡◌, ℕ, List, [], ◌∷◌, ◌++◌, map, sym, ◌∙◌, ap, subst}
 use Rattle.std.proofs.lemmas.List.Elements.{All-head, All-tail}
-use Rattle.ab_types.specs.Entries.{Constant, names}
+use Rattle.ab_rows.specs.ab_types.specs.Entries.{Constant, names}
 use Rattle.ab_grammar.specs.CommandTrees.{Defined, Clause}
-use Rattle.ab_clauses.specs.Kept as kept
-use Rattle.ab_clauses.specs.Faults.{IsRight, FirstFault}
+use Rattle.ab_rows.specs.ab_clauses.specs.Kept as kept
+use Rattle.ab_rows.specs.ab_clauses.specs.Faults.{IsRight, FirstFault}
 use Rattle.ab_unique.proofs.Faults.{one_first_fault, no_fault}
-use Rattle.ab_logic.specs.Declarations.{Declarations, a_block, constant_names}
-use Rattle.ab_logic.specs.Worlds.{defined}
-use Rattle.ab_effects.specs.Terms.{kinds_in}
-use Rattle.ab_declare.specs.declared.refusal.Refusal.{Refusal}
-use Rattle.ab_declare.specs.declared.refusal.Refusal.TheVariants.{Unknown}
-use Rattle.ab_declare.specs.Defining.{FirstTold, this, later, predicates_found, predicate_of, signature_with, block_with, refusal_of, IsPredicateType, IsPredicate, IsNoPredicate, IsNamed, IsUnnamed, MeanKept, IsRead, IsUnread, HasPredicates, HasNames, HasTypes, Defines, DefinesNothing, predicate_unnamed, clause_unnamed, no_predicate, clause_unread, faulty}
+use Rattle.ab_rows.specs.ab_logic.specs.Declarations.{Declarations, a_block, constant_names}
+use Rattle.ab_rows.specs.ab_logic.specs.Worlds.{defined}
+use Rattle.ab_rows.specs.ab_effects.specs.Terms.{kinds_in}
+use Rattle.ab_states.specs.ab_declare.specs.declared.refusal.Refusal.{Refusal}
+use Rattle.ab_states.specs.ab_declare.specs.declared.refusal.Refusal.TheVariants.{Unknown}
+use Rattle.ab_states.specs.ab_declare.specs.Defining.{FirstTold, this, later, predicates_found, predicate_of, signature_with, block_with, refusal_of, IsPredicateType, IsPredicate, IsNoPredicate, IsNamed, IsUnnamed, MeanKept, IsRead, IsUnread, HasPredicates, HasNames, HasTypes, Defines, DefinesNothing, predicate_unnamed, clause_unnamed, no_predicate, clause_unread, faulty}
 use Rattle.ab_unique.proofs.Clauses.{same_clauses, all_read, read_or_not, one_cause}
 
 -- THE FIRST of some things of which something is told

@@ -12,24 +12,24 @@ use Rattle.ab_grammar.specs.declared.Infix.TheVariants.{Arrow, Or, And, Equal, I
 use Rattle.ab_grammar.specs.declared.Quant.{Quant}
 use Rattle.ab_grammar.specs.Tree as tree
 use Rattle.ab_grammar.specs.Tree.{Tree, Trees, no_trees}
-use Rattle.ab_readings.specs.Names.{Name, Resolved, bound, known, free, apply, abs, equal, bind}
-use Rattle.ab_readings.specs.Scopes.{Scope, Place, elsewhere, or_else, index_of, truth_named, variable_named, constant_at, nominal_named, clause_variable, head_named, Found, or_unknown, made_of, made_of_both, connective, joined, pi_over, after, written, with_binder, with_binders, under, is_pi, resolved, applied, pi_applied}
-use Rattle.ab_readings.specs.Normal.{normal_form}
-use Rattle.ab_sentences.specs.Closed.{IsClosedScope}
-use Rattle.ab_sentences.proofs.Heads.{RawHas, reads_has, normal_form_has}
-use Rattle.ab_sentences.proofs.Standing.{IsDeclared, admits_declared, sentence}
-use Rattle.ab_sentences.proofs.Resolving.{names_are_declared}
-use Rattle.ab_sentences.proofs.Makings.{one_too}
-use Rattle.ab_store.specs.Trees.{Read}
-use Rattle.ab_logic.specs.Formulas.{IsSentence}
-use Rattle.ab_logic.specs.Declarations.{Declarations, signature_in}
-use Rattle.ab_building.specs.Heads.{HeadsFit}
-use Rattle.ab_building.specs.Outcomes.{nominal_of}
-use Rattle.ab_building.proofs.Fitting.{reading_fits}
-use Rattle.ab_building.proofs.Normalising.{normal_form_typed}
-use Rattle.ab_effects.specs.Terms.{made}
-use Rattle.ab_meanings.specs.Lists.{HasLists}
-use Rattle.ab_declare.specs.Declaring.{scope_of, States}
+use Rattle.ab_rows.specs.ab_readings.specs.Names.{Name, Resolved, bound, known, free, apply, abs, equal, bind}
+use Rattle.ab_rows.specs.ab_readings.specs.Scopes.{Scope, Place, elsewhere, or_else, index_of, truth_named, variable_named, constant_at, nominal_named, clause_variable, head_named, Found, or_unknown, made_of, made_of_both, connective, joined, pi_over, after, written, with_binder, with_binders, under, is_pi, resolved, applied, pi_applied}
+use Rattle.ab_rows.specs.ab_readings.specs.Normal.{normal_form}
+use Rattle.ab_states.specs.ab_sentences.specs.Closed.{IsClosedScope}
+use Rattle.ab_states.specs.ab_sentences.proofs.Heads.{RawHas, reads_has, normal_form_has}
+use Rattle.ab_states.specs.ab_sentences.proofs.Standing.{IsDeclared, admits_declared, sentence}
+use Rattle.ab_states.specs.ab_sentences.proofs.Resolving.{names_are_declared}
+use Rattle.ab_states.specs.ab_sentences.proofs.Makings.{one_too}
+use Rattle.ab_rows.specs.ab_store.specs.Trees.{Read}
+use Rattle.ab_rows.specs.ab_logic.specs.Formulas.{IsSentence}
+use Rattle.ab_rows.specs.ab_logic.specs.Declarations.{Declarations, signature_in}
+use Rattle.ab_rows.specs.ab_building.specs.Heads.{HeadsFit}
+use Rattle.ab_rows.specs.ab_building.specs.Outcomes.{nominal_of}
+use Rattle.ab_rows.specs.ab_building.proofs.Fitting.{reading_fits}
+use Rattle.ab_rows.specs.ab_building.proofs.Normalising.{normal_form_typed}
+use Rattle.ab_rows.specs.ab_effects.specs.Terms.{made}
+use Rattle.ab_rows.specs.ab_meanings.specs.Lists.{HasLists}
+use Rattle.ab_states.specs.ab_declare.specs.Declaring.{scope_of, States}
 
 -- EACH NAME FITS, where what is declared alone is known
 module _ (sg : Signature) where

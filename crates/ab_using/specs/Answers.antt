@@ -3,10 +3,10 @@ use Rattle.std.specs.Prelude.{◌≡◌, ℕ, List, [], ◌∷◌, ◌++◌, fil
 use Rattle.ab_term.specs.Terms.{Nominal}
 use Rattle.ab_term.specs.Variables.{Substitution, variables, image}
 use Rattle.ab_term.specs.Sameness.{same_number}
-use Rattle.ab_store.specs.Trees.{Read}
-use Rattle.ab_solve.specs.Replacing.{Cell, holds}
-use Rattle.ab_solve.specs.Solving.{unified, Solves}
-use Rattle.ab_logic.specs.Sequents.{Variable, Sequent, in_terms}
+use Rattle.ab_equate.specs.ab_store.specs.Trees.{Read}
+use Rattle.ab_equate.specs.ab_solve.specs.Replacing.{Cell, holds}
+use Rattle.ab_equate.specs.ab_solve.specs.Solving.{unified, Solves}
+use Rattle.ab_equate.specs.ab_logic.specs.Sequents.{Variable, Sequent, in_terms}
 use Rattle.ab_equate.specs.Solved.{AreCells, made}
 use Rattle.ab_equate.specs.Cases.{Case, problem_of, NeverArises, IsOpen}
 use Rattle.ab_using.specs.Pieces.{Part}

@@ -4,3 +4,7 @@
 pub mod Pieces
 pub mod Uses
 pub mod Answers
+-- Libraries that the crates above name through this one.
+pub use Rattle.ab_equate.specs.ab_unifying
+pub use Rattle.ab_equate.specs.ab_naming
+pub use Rattle.ab_equate

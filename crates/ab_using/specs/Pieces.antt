@@ -4,8 +4,8 @@ use Rattle.std.specs.Prelude.{ℕ, zero, suc, List, [], ◌∷◌, filter, bytes
 use Rattle.ab_term.specs.Types.{Ty}
 use Rattle.ab_term.specs.Logical.{universal, nabla, implication}
 use Rattle.ab_term.specs.Terms.{logical, lam, spine, no_terms, term}
-use Rattle.ab_store.specs.Trees.{Read}
-use Rattle.ab_logic.specs.Marks.{MarksServeIn}
+use Rattle.ab_equate.specs.ab_store.specs.Trees.{Read}
+use Rattle.ab_equate.specs.ab_logic.specs.Marks.{MarksServeIn}
 
 pub data Piece : Type 0 where
   -- a `forall`, with the hint of its name

@@ -7,13 +7,13 @@ use Rattle.ab_term.specs.Terms.{Nominal, logical, spine, no_terms, term}
 use Rattle.ab_term.specs.Names.{support}
 use Rattle.ab_term.specs.Substitution.{instance}
 use Rattle.ab_term.specs.Closing.{over, given_names}
-use Rattle.ab_store.specs.Trees.{Read}
-use Rattle.ab_solve.specs.Replacing.{Cell}
-use Rattle.ab_solve.specs.Solving.{Equation}
-use Rattle.ab_cases.specs.Clauses.{numbered, name_term}
-use Rattle.ab_cases.specs.Choices.{is_in, in_order, outside, choices}
-use Rattle.ab_logic.specs.Marks.{erased}
-use Rattle.ab_logic.specs.Sequents.{Sequent, goal_names, proving}
+use Rattle.ab_equate.specs.ab_store.specs.Trees.{Read}
+use Rattle.ab_equate.specs.ab_solve.specs.Replacing.{Cell}
+use Rattle.ab_equate.specs.ab_solve.specs.Solving.{Equation}
+use Rattle.ab_equate.specs.ab_cases.specs.Clauses.{numbered, name_term}
+use Rattle.ab_equate.specs.ab_cases.specs.Choices.{is_in, in_order, outside, choices}
+use Rattle.ab_equate.specs.ab_logic.specs.Marks.{erased}
+use Rattle.ab_equate.specs.ab_logic.specs.Sequents.{Sequent, goal_names, proving}
 use Rattle.ab_equate.specs.Cases.{Case}
 use Rattle.ab_using.specs.Pieces.{Part, variable_for, given_term, constant_for, antecedent}
 

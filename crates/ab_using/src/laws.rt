@@ -1,6 +1,6 @@
 //! Laws of what comes of using a formula.
 ghost use Rattle.std.specs.Prelude.{◌≡◌, [], List, Option};
-ghost use Rattle.ab_store.specs.Trees.{Read};
+ghost use Rattle.ab_equate.specs.ab_store.specs.Trees.{Read};
 ghost use Rattle.ab_using.specs.Pieces.{pieces, behind, antecedent_count, parts, AllServe};
 ghost use Rattle.ab_using.specs.Answers.{Using, IsUsedFor, NothingMatches, IsOutsideAt, IsLeftOpen, awaited, result_in};
 

@@ -2,4 +2,5 @@
 //! over plain trees.
 #![tactic(auto)]
 
+pub mod below;
 pub mod laws;

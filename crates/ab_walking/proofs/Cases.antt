@@ -3,8 +3,8 @@ use Rattle.std.proofs.Common.{◌≡◌, ℕ, suc, ◌+◌, ◌-◌, ◌<◌, �
 use Rattle.std.specs.Prelude.{Ok, Err, codes}
 use Rattle.std.proofs.lemmas.List.{take_all}
 use Rattle.ab_term.specs.Types.{Ty}
-use Rattle.ab_types.specs.Entries.{Table, IsExtendedBy}
-use Rattle.ab_store.specs.Trees.{Contents}
+use Rattle.ab_resolving.specs.ab_types.specs.Entries.{Table, IsExtendedBy}
+use Rattle.ab_resolving.specs.ab_store.specs.Trees.{Contents}
 use Rattle.ab_grammar.specs.declared.Infix.{Infix}
 use Rattle.ab_grammar.specs.declared.Quant.{Quant}
 use Rattle.ab_grammar.specs.Tree as tree
@@ -15,13 +15,13 @@ use Rattle.ab_syntax.specs.declared.tree.Parse.TheVariants as parse
 use Rattle.ab_syntax.specs.declared.items.Items.{Items}
 use Rattle.ab_syntax.specs.Items.{list_of}
 use Rattle.ab_syntax.specs.Trees.{tree_of, binder_of}
-use Rattle.ab_readings.specs.Names as names
-use Rattle.ab_readings.specs.Names.{Name, quantified}
-use Rattle.ab_readings.specs.Scopes as scopes
-use Rattle.ab_readings.specs.Scopes.{Found, made_of, made_of_both, joined, is_pi, resolved, applied, pi_applied, pi_over, after, with_binders, with_binder, written, under}
-use Rattle.ab_infer.specs.declared.op.Op.TheVariants as op
-use Rattle.ab_infer.specs.Sketches.{erase}
-use Rattle.ab_infer.proofs.Turned.{from_here}
+use Rattle.ab_resolving.specs.ab_readings.specs.Names as names
+use Rattle.ab_resolving.specs.ab_readings.specs.Names.{Name, quantified}
+use Rattle.ab_resolving.specs.ab_readings.specs.Scopes as scopes
+use Rattle.ab_resolving.specs.ab_readings.specs.Scopes.{Found, made_of, made_of_both, joined, is_pi, resolved, applied, pi_applied, pi_over, after, with_binders, with_binder, written, under}
+use Rattle.ab_resolving.specs.ab_infer.specs.declared.op.Op.TheVariants as op
+use Rattle.ab_resolving.specs.ab_infer.specs.Sketches.{erase}
+use Rattle.ab_resolving.specs.ab_infer.proofs.Turned.{from_here}
 use Rattle.ab_resolving.specs.declared.scope.Bound.{Bound}
 use Rattle.ab_resolving.specs.declared.scope.Scope.{Scope}
 use Rattle.ab_resolving.specs.Scoping.{names_in, scope_of, HoldsScope}

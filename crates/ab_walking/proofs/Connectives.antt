@@ -3,19 +3,19 @@ use Rattle.std.proofs.Common.{◌≡◌, ℕ, lit<, List, ◌++◌, Option, Some
 use Rattle.std.specs.Prelude.{Ok, Err, Result, codes, Contains, IsSome, IsNone, OnOk, OnErr}
 use Rattle.std.proofs.lemmas.List.Elements.{Contains-append_left}
 use Rattle.ab_term.specs.Types.{Ty, arrow, o, olist}
-use Rattle.ab_types.specs.Entries.{Table, a_type, kinds, constants, names, signature, first_entries, FindsOrAdds, IsExtendedBy}
-use Rattle.ab_types.specs.Ids.{HoldsType, HoldsConstant, type_of, constant_of}
-use Rattle.ab_types.specs.Sound.{IsTable}
-use Rattle.ab_types.specs.declared.ids.TypeId.{TypeId}
-use Rattle.ab_types.specs.declared.ids.ConstId.{ConstId}
-use Rattle.ab_types.proofs.Entries.{kinds-append, constants-append, names-append, same_signature}
-use Rattle.ab_store.specs.declared.node.CellEntry.{CellEntry}
-use Rattle.ab_store.specs.declared.node.Head.TheVariants.{Const}
+use Rattle.ab_resolving.specs.ab_types.specs.Entries.{Table, a_type, kinds, constants, names, signature, first_entries, FindsOrAdds, IsExtendedBy}
+use Rattle.ab_resolving.specs.ab_types.specs.Ids.{HoldsType, HoldsConstant, type_of, constant_of}
+use Rattle.ab_resolving.specs.ab_types.specs.Sound.{IsTable}
+use Rattle.ab_resolving.specs.ab_types.specs.declared.ids.TypeId.{TypeId}
+use Rattle.ab_resolving.specs.ab_types.specs.declared.ids.ConstId.{ConstId}
+use Rattle.ab_resolving.specs.ab_types.proofs.Entries.{kinds-append, constants-append, names-append, same_signature}
+use Rattle.ab_resolving.specs.ab_store.specs.declared.node.CellEntry.{CellEntry}
+use Rattle.ab_resolving.specs.ab_store.specs.declared.node.Head.TheVariants.{Const}
 use Rattle.ab_grammar.specs.declared.Infix.TheVariants as sign
 use Rattle.ab_term.specs.Terms.{constant}
-use Rattle.ab_readings.specs.Names.{apply, known}
-use Rattle.ab_readings.specs.Scopes.{Found, made_of, made_of_both}
-use Rattle.ab_solving.proofs.Tables.{same_kinds, same_constants}
+use Rattle.ab_resolving.specs.ab_readings.specs.Names.{apply, known}
+use Rattle.ab_resolving.specs.ab_readings.specs.Scopes.{Found, made_of, made_of_both}
+use Rattle.ab_resolving.specs.ab_solving.proofs.Tables.{same_kinds, same_constants}
 use Rattle.ab_building.proofs.Larger.{type_more}
 use Rattle.ab_walking.specs.Rows.{AddsTypes}
 use Rattle.ab_walking.specs.Walking.{IsConnective}

@@ -1,17 +1,17 @@
 -- What a walk stands on, in a table with more types.
 use Rattle.std.proofs.Common.{◌≡◌, List, [], ◌∷◌, Option, Some, None, option_map, refl, ap, ◌∙◌}
 use Rattle.std.proofs.lemmas.List.Elements.{All-nil, All-cons, All-head, All-tail}
-use Rattle.ab_types.specs.Entries.{Table, kinds, signature, type_in, IsExtendedBy}
-use Rattle.ab_types.specs.Sound.{IsTable}
-use Rattle.ab_types.specs.Ids.{HoldsType, type_of}
-use Rattle.ab_types.specs.declared.ids.TypeId.{TypeId}
-use Rattle.ab_types.proofs.Entries.{extended_by_itself, extended_twice, type_still_held}
-use Rattle.ab_store.specs.declared.node.CellId.{CellId}
-use Rattle.ab_store.specs.Trees.{Contents, HoldsCell, cell_of}
-use Rattle.ab_norm.specs.declared.nominal.Nominal as declared
-use Rattle.ab_norm.specs.Nominals.{nominal_of, HoldsNominal}
-use Rattle.ab_infer.specs.declared.inferring.Formulas.{Formulas}
-use Rattle.ab_infer.specs.Programs.{HoldsWritten}
+use Rattle.ab_resolving.specs.ab_types.specs.Entries.{Table, kinds, signature, type_in, IsExtendedBy}
+use Rattle.ab_resolving.specs.ab_types.specs.Sound.{IsTable}
+use Rattle.ab_resolving.specs.ab_types.specs.Ids.{HoldsType, type_of}
+use Rattle.ab_resolving.specs.ab_types.specs.declared.ids.TypeId.{TypeId}
+use Rattle.ab_resolving.specs.ab_types.proofs.Entries.{extended_by_itself, extended_twice, type_still_held}
+use Rattle.ab_resolving.specs.ab_store.specs.declared.node.CellId.{CellId}
+use Rattle.ab_resolving.specs.ab_store.specs.Trees.{Contents, HoldsCell, cell_of}
+use Rattle.ab_resolving.specs.ab_norm.specs.declared.nominal.Nominal as declared
+use Rattle.ab_resolving.specs.ab_norm.specs.Nominals.{nominal_of, HoldsNominal}
+use Rattle.ab_resolving.specs.ab_infer.specs.declared.inferring.Formulas.{Formulas}
+use Rattle.ab_resolving.specs.ab_infer.specs.Programs.{HoldsWritten}
 use Rattle.ab_resolving.specs.declared.scope.Scope.{Scope}
 use Rattle.ab_resolving.specs.Scoping.{entry_of, entries_in, nominals_in, place_of, scope_of, HoldsCells, HoldsNominals, HoldsScope}
 use Rattle.ab_building.proofs.Larger.{formulas_more, type_more, store_more}

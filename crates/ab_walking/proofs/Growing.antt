@@ -4,26 +4,26 @@ use Rattle.std.specs.Prelude.{Ok}
 use Rattle.std.proofs.lemmas.List.{map-append, length-append}
 use Rattle.std.proofs.lemmas.List.Elements.{All-append, All-cons}
 use Rattle.ab_term.specs.Types.{Ty}
-use Rattle.ab_types.specs.Entries.{Table, IsExtendedBy}
-use Rattle.ab_types.specs.Ids.{type_of}
-use Rattle.ab_types.specs.declared.ids.TypeId.{TypeId}
-use Rattle.ab_types.proofs.Entries.{extended_by_itself, extended_twice}
-use Rattle.ab_store.specs.declared.node.CellEntry.{CellEntry}
-use Rattle.ab_store.specs.Trees.{Contents}
+use Rattle.ab_resolving.specs.ab_types.specs.Entries.{Table, IsExtendedBy}
+use Rattle.ab_resolving.specs.ab_types.specs.Ids.{type_of}
+use Rattle.ab_resolving.specs.ab_types.specs.declared.ids.TypeId.{TypeId}
+use Rattle.ab_resolving.specs.ab_types.proofs.Entries.{extended_by_itself, extended_twice}
+use Rattle.ab_resolving.specs.ab_store.specs.declared.node.CellEntry.{CellEntry}
+use Rattle.ab_resolving.specs.ab_store.specs.Trees.{Contents}
 use Rattle.ab_grammar.specs.declared.Infix.{Infix}
-use Rattle.ab_readings.specs.Names as names
-use Rattle.ab_readings.specs.Names.{Name, Binding, pi}
-use Rattle.ab_readings.specs.Scopes.{Found, made_of, made_of_both}
-use Rattle.ab_infer.specs.declared.op.Op.{Op}
-use Rattle.ab_infer.specs.declared.op.Op.TheVariants as op
-use Rattle.ab_infer.specs.declared.op.Binds.{Binds}
-use Rattle.ab_infer.specs.declared.op.Mark as declared
-use Rattle.ab_infer.specs.declared.op.Mark.TheVariants as mark
-use Rattle.ab_infer.specs.Sketches.{Sketch, apply, abs, equal, bind, erase, count, variable_of, marks_of}
-use Rattle.ab_infer.specs.Programs.{Item, bind_item, binding_of, item_of, items_of, OpTyped, HoldsWritten}
-use Rattle.ab_infer.specs.Inferences.{AreBelow}
-use Rattle.ab_infer.specs.Verdicts.{marks_in, mark_of, AreApart}
-use Rattle.ab_infer.proofs.Stepping.{below_more}
+use Rattle.ab_resolving.specs.ab_readings.specs.Names as names
+use Rattle.ab_resolving.specs.ab_readings.specs.Names.{Name, Binding, pi}
+use Rattle.ab_resolving.specs.ab_readings.specs.Scopes.{Found, made_of, made_of_both}
+use Rattle.ab_resolving.specs.ab_infer.specs.declared.op.Op.{Op}
+use Rattle.ab_resolving.specs.ab_infer.specs.declared.op.Op.TheVariants as op
+use Rattle.ab_resolving.specs.ab_infer.specs.declared.op.Binds.{Binds}
+use Rattle.ab_resolving.specs.ab_infer.specs.declared.op.Mark as declared
+use Rattle.ab_resolving.specs.ab_infer.specs.declared.op.Mark.TheVariants as mark
+use Rattle.ab_resolving.specs.ab_infer.specs.Sketches.{Sketch, apply, abs, equal, bind, erase, count, variable_of, marks_of}
+use Rattle.ab_resolving.specs.ab_infer.specs.Programs.{Item, bind_item, binding_of, item_of, items_of, OpTyped, HoldsWritten}
+use Rattle.ab_resolving.specs.ab_infer.specs.Inferences.{AreBelow}
+use Rattle.ab_resolving.specs.ab_infer.specs.Verdicts.{marks_in, mark_of, AreApart}
+use Rattle.ab_resolving.specs.ab_infer.proofs.Stepping.{below_more}
 use Rattle.ab_resolving.specs.declared.scope.Bound.{Bound}
 use Rattle.ab_resolving.specs.Scoping.{nodes_in}
 use Rattle.ab_building.specs.Building.{OpFits}

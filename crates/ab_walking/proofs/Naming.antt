@@ -1,16 +1,16 @@
 -- Rows that grow by what a name stands for.
 use Rattle.std.proofs.Common.{◌≡◌, ℕ, List, Some, sym, ap, ◌∙◌}
 use Rattle.std.specs.Prelude.{Ok}
-use Rattle.ab_types.specs.Entries.{Table}
-use Rattle.ab_types.specs.declared.ids.TypeId.{TypeId}
-use Rattle.ab_types.specs.Ids.{type_of}
-use Rattle.ab_store.specs.declared.node.Head.{Head}
-use Rattle.ab_store.specs.Trees.{Contents, head_reading}
-use Rattle.ab_store.specs.Naming.{IsTypedBy}
-use Rattle.ab_readings.specs.Names.{Name, Resolved, bound, known}
-use Rattle.ab_readings.specs.Scopes.{Scope, head_named, or_unknown}
-use Rattle.ab_infer.specs.Sketches.{variable_at}
-use Rattle.ab_infer.specs.declared.op.Op.TheVariants as op
+use Rattle.ab_resolving.specs.ab_types.specs.Entries.{Table}
+use Rattle.ab_resolving.specs.ab_types.specs.declared.ids.TypeId.{TypeId}
+use Rattle.ab_resolving.specs.ab_types.specs.Ids.{type_of}
+use Rattle.ab_resolving.specs.ab_store.specs.declared.node.Head.{Head}
+use Rattle.ab_resolving.specs.ab_store.specs.Trees.{Contents, head_reading}
+use Rattle.ab_resolving.specs.ab_store.specs.Naming.{IsTypedBy}
+use Rattle.ab_resolving.specs.ab_readings.specs.Names.{Name, Resolved, bound, known}
+use Rattle.ab_resolving.specs.ab_readings.specs.Scopes.{Scope, head_named, or_unknown}
+use Rattle.ab_resolving.specs.ab_infer.specs.Sketches.{variable_at}
+use Rattle.ab_resolving.specs.ab_infer.specs.declared.op.Op.TheVariants as op
 use Rattle.ab_resolving.specs.declared.scope.Bound.{Bound}
 use Rattle.ab_resolving.specs.Scoping.{names_in, nodes_in}
 use Rattle.ab_resolving.specs.Naming.{IsHead}

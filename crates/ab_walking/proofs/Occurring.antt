@@ -2,8 +2,8 @@
 use Rattle.std.proofs.Common.{◌≡◌, ℕ, zero, suc, ◌<◌, Bool, true, false, ◌||◌, List, [], ◌∷◌, ◌++◌, length, get_or, Decides, refl, sym, ap, ◌∙◌, arith, if◌then◌else◌}
 use Rattle.std.specs.Prelude.{bytes_eq}
 use Rattle.std.proofs.lemmas.Slice.Eq.{bytes_eq-Decides}
-use Rattle.ab_readings.specs.Names.{Name}
-use Rattle.ab_readings.specs.Types.{is_listed}
+use Rattle.ab_resolving.specs.ab_readings.specs.Names.{Name}
+use Rattle.ab_resolving.specs.ab_readings.specs.Types.{is_listed}
 use Rattle.ab_walking.specs.Occurrences.{with_name, with_names}
 use Rattle.ab_walking.specs.Walking.{IsNumbered, was_there, is_new}
 

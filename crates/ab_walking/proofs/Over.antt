@@ -3,23 +3,23 @@ use Rattle.std.proofs.Common.{◌≡◌, ◌⊎◌, inl, inr, ℕ, ◌+◌, List
 use Rattle.std.specs.Prelude.{Ok, Err, codes}
 use Rattle.std.proofs.lemmas.List.{map-append, length-append}
 use Rattle.std.proofs.lemmas.List.Elements.{All-append}
-use Rattle.ab_types.specs.Entries.{Table}
-use Rattle.ab_types.proofs.Entries.{extended_by_itself}
-use Rattle.ab_store.specs.declared.node.CellEntry.{CellEntry}
-use Rattle.ab_store.specs.Trees.{Contents}
-use Rattle.ab_readings.specs.Names.{Name, pi}
-use Rattle.ab_readings.specs.Scopes.{Found, after, pi_over}
-use Rattle.ab_infer.specs.declared.op.Op.{Op}
-use Rattle.ab_infer.specs.declared.op.Op.TheVariants as op
-use Rattle.ab_infer.specs.declared.op.Binds.TheVariants as binds
-use Rattle.ab_infer.specs.declared.op.Mark as declared
-use Rattle.ab_infer.specs.Sketches.{Sketch, bound, known, free, apply, abs, equal, bind, erase, count}
-use Rattle.ab_infer.specs.Programs.{Item, bound_item, known_item, free_item, apply_item, abs_item, equal_item, bind_item, item_of, items_of, OpTyped}
+use Rattle.ab_resolving.specs.ab_types.specs.Entries.{Table}
+use Rattle.ab_resolving.specs.ab_types.proofs.Entries.{extended_by_itself}
+use Rattle.ab_resolving.specs.ab_store.specs.declared.node.CellEntry.{CellEntry}
+use Rattle.ab_resolving.specs.ab_store.specs.Trees.{Contents}
+use Rattle.ab_resolving.specs.ab_readings.specs.Names.{Name, pi}
+use Rattle.ab_resolving.specs.ab_readings.specs.Scopes.{Found, after, pi_over}
+use Rattle.ab_resolving.specs.ab_infer.specs.declared.op.Op.{Op}
+use Rattle.ab_resolving.specs.ab_infer.specs.declared.op.Op.TheVariants as op
+use Rattle.ab_resolving.specs.ab_infer.specs.declared.op.Binds.TheVariants as binds
+use Rattle.ab_resolving.specs.ab_infer.specs.declared.op.Mark as declared
+use Rattle.ab_resolving.specs.ab_infer.specs.Sketches.{Sketch, bound, known, free, apply, abs, equal, bind, erase, count}
+use Rattle.ab_resolving.specs.ab_infer.specs.Programs.{Item, bound_item, known_item, free_item, apply_item, abs_item, equal_item, bind_item, item_of, items_of, OpTyped}
 use Rattle.ab_building.specs.Building.{OpFits}
 use Rattle.ab_walking.specs.declared.row.Row.{Row}
 use Rattle.ab_walking.specs.Rows.{steps_of, Become, AreOf, Grew}
 use Rattle.ab_walking.specs.Occurrences.{free_names, with_names}
-use Rattle.ab_infer.specs.Verdicts.{AreApart}
+use Rattle.ab_resolving.specs.ab_infer.specs.Verdicts.{AreApart}
 use Rattle.ab_resolving.specs.Scoping.{nodes_in}
 use Rattle.ab_walking.proofs.Lists.{all_one, same_last, ends, all_front, all_end}
 

@@ -1,9 +1,9 @@
 -- The forms of an expression, resolved from their parts; and what fails in the parts fails in the whole.
 use Rattle.std.proofs.Common.{◌≡◌, ℕ, List, [], ◌∷◌, length, map, Option, Some, None, Box, Global, refl, sym, ap, ◌∙◌, subst}
 use Rattle.std.specs.Prelude.{Ok, Err, Result, codes, true, false, Bool, if◌then◌else◌}
-use Rattle.ab_types.specs.Entries.{Table, IsExtendedBy}
-use Rattle.ab_store.specs.Trees.{Contents}
-use Rattle.ab_store.specs.Naming.{IsTypedBy}
+use Rattle.ab_resolving.specs.ab_types.specs.Entries.{Table, IsExtendedBy}
+use Rattle.ab_resolving.specs.ab_store.specs.Trees.{Contents}
+use Rattle.ab_resolving.specs.ab_store.specs.Naming.{IsTypedBy}
 use Rattle.ab_grammar.specs.declared.Infix.{Infix}
 use Rattle.ab_grammar.specs.declared.Infix.TheVariants as sign
 use Rattle.ab_grammar.specs.declared.Quant.{Quant}
@@ -17,11 +17,11 @@ use Rattle.ab_syntax.specs.declared.tree.Parse.TheFolds.{fold-roll-Parse}
 use Rattle.ab_syntax.specs.declared.items.Items.{Items}
 use Rattle.ab_syntax.specs.Items.{list_of}
 use Rattle.ab_syntax.specs.Trees.{tree_of, tree_step, binder_of}
-use Rattle.ab_readings.specs.Names as names
-use Rattle.ab_readings.specs.Names.{Name, Resolved}
-use Rattle.ab_readings.specs.Scopes.{Scope, Found, made_of, made_of_both, joined, is_pi, resolved, applied, pi_applied, after}
-use Rattle.ab_infer.specs.declared.fault.InferFault.{InferFault}
-use Rattle.ab_infer.specs.declared.fault.InferFault.TheVariants.{Unknown, TypeClash, Untyped, Memory}
+use Rattle.ab_resolving.specs.ab_readings.specs.Names as names
+use Rattle.ab_resolving.specs.ab_readings.specs.Names.{Name, Resolved}
+use Rattle.ab_resolving.specs.ab_readings.specs.Scopes.{Scope, Found, made_of, made_of_both, joined, is_pi, resolved, applied, pi_applied, after}
+use Rattle.ab_resolving.specs.ab_infer.specs.declared.fault.InferFault.{InferFault}
+use Rattle.ab_resolving.specs.ab_infer.specs.declared.fault.InferFault.TheVariants.{Unknown, TypeClash, Untyped, Memory}
 use Rattle.ab_walking.specs.declared.row.Row.{Row}
 use Rattle.ab_walking.specs.Rows.{Grew, Fails}
 use Rattle.ab_walking.specs.Walking.{MeetsSign, PutsBetween, PutsBehind}

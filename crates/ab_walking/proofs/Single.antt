@@ -5,22 +5,22 @@ use Rattle.std.specs.Prelude.{Ok}
 use Rattle.std.proofs.lemmas.Bool.{cases_lt}
 use Rattle.std.proofs.lemmas.List.{length-append}
 use Rattle.std.proofs.lemmas.List.Elements.{All-nil}
-use Rattle.ab_types.specs.Entries.{Table}
-use Rattle.ab_types.specs.Ids.{HoldsType, type_of}
-use Rattle.ab_types.specs.declared.ids.TypeId.{TypeId}
-use Rattle.ab_types.proofs.Entries.{type_still_held}
-use Rattle.ab_store.specs.declared.node.Head.{Head}
-use Rattle.ab_store.specs.Trees.{Contents, head_in}
-use Rattle.ab_store.specs.Naming.{IsTypedBy}
-use Rattle.ab_readings.specs.Names as names
-use Rattle.ab_readings.specs.Names.{Name}
-use Rattle.ab_readings.specs.Scopes.{Found}
-use Rattle.ab_infer.specs.declared.op.Op.TheVariants as op
-use Rattle.ab_infer.specs.declared.op.Mark.TheVariants as mark
-use Rattle.ab_infer.specs.Sketches.{bound, known, free, variable_at, variable_of}
-use Rattle.ab_infer.specs.Programs.{free_item, OpTyped}
-use Rattle.ab_infer.specs.Inferences.{AreBelow}
-use Rattle.ab_infer.specs.Verdicts.{AreApart, mark_of}
+use Rattle.ab_resolving.specs.ab_types.specs.Entries.{Table}
+use Rattle.ab_resolving.specs.ab_types.specs.Ids.{HoldsType, type_of}
+use Rattle.ab_resolving.specs.ab_types.specs.declared.ids.TypeId.{TypeId}
+use Rattle.ab_resolving.specs.ab_types.proofs.Entries.{type_still_held}
+use Rattle.ab_resolving.specs.ab_store.specs.declared.node.Head.{Head}
+use Rattle.ab_resolving.specs.ab_store.specs.Trees.{Contents, head_in}
+use Rattle.ab_resolving.specs.ab_store.specs.Naming.{IsTypedBy}
+use Rattle.ab_resolving.specs.ab_readings.specs.Names as names
+use Rattle.ab_resolving.specs.ab_readings.specs.Names.{Name}
+use Rattle.ab_resolving.specs.ab_readings.specs.Scopes.{Found}
+use Rattle.ab_resolving.specs.ab_infer.specs.declared.op.Op.TheVariants as op
+use Rattle.ab_resolving.specs.ab_infer.specs.declared.op.Mark.TheVariants as mark
+use Rattle.ab_resolving.specs.ab_infer.specs.Sketches.{bound, known, free, variable_at, variable_of}
+use Rattle.ab_resolving.specs.ab_infer.specs.Programs.{free_item, OpTyped}
+use Rattle.ab_resolving.specs.ab_infer.specs.Inferences.{AreBelow}
+use Rattle.ab_resolving.specs.ab_infer.specs.Verdicts.{AreApart, mark_of}
 use Rattle.ab_resolving.specs.Scoping.{nodes_in}
 use Rattle.ab_building.specs.Building.{OpFits, HasHeadType}
 use Rattle.ab_building.proofs.Larger.{fits_more, items_more}

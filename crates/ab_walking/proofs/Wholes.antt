@@ -1,14 +1,14 @@
 -- A row that grew from nothing makes the expression.
 use Rattle.std.specs.List.{All}
 use Rattle.std.proofs.Common.{◌≡◌, ◌+◌, ◌<◌, List, [], ◌∷◌, ◌++◌, length, sym, ap, ◌∙◌, subst, arith, append_assoc, append-nil}
-use Rattle.ab_types.specs.Entries.{Table}
-use Rattle.ab_types.proofs.Entries.{extended_by_itself}
-use Rattle.ab_store.specs.Trees.{Contents}
-use Rattle.ab_readings.specs.Names.{Name}
-use Rattle.ab_readings.specs.Scopes.{Found}
-use Rattle.ab_infer.specs.Sketches.{Sketch, bound, known, free, apply, abs, equal, bind, erase, variable_of}
-use Rattle.ab_infer.specs.Programs.{Item, apply_item, abs_item, equal_item, bind_item, Runs, no_item, run_bound, run_known, run_free, run_apply, run_abs, run_equal, run_bind, items_of, OpTyped}
-use Rattle.ab_infer.specs.Verdicts.{marks_in, mark_of, AreApart}
+use Rattle.ab_resolving.specs.ab_types.specs.Entries.{Table}
+use Rattle.ab_resolving.specs.ab_types.proofs.Entries.{extended_by_itself}
+use Rattle.ab_resolving.specs.ab_store.specs.Trees.{Contents}
+use Rattle.ab_resolving.specs.ab_readings.specs.Names.{Name}
+use Rattle.ab_resolving.specs.ab_readings.specs.Scopes.{Found}
+use Rattle.ab_resolving.specs.ab_infer.specs.Sketches.{Sketch, bound, known, free, apply, abs, equal, bind, erase, variable_of}
+use Rattle.ab_resolving.specs.ab_infer.specs.Programs.{Item, apply_item, abs_item, equal_item, bind_item, Runs, no_item, run_bound, run_known, run_free, run_apply, run_abs, run_equal, run_bind, items_of, OpTyped}
+use Rattle.ab_resolving.specs.ab_infer.specs.Verdicts.{marks_in, mark_of, AreApart}
 use Rattle.ab_resolving.specs.Scoping.{nodes_in}
 use Rattle.ab_building.specs.Building.{OpFits}
 use Rattle.ab_walking.specs.declared.row.Row.{Row}

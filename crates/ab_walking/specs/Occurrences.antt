@@ -1,7 +1,7 @@
 -- The free names of an expression, in the order in which they first stand in it.
 use Rattle.std.specs.Prelude.{List, [], ◌∷◌, ◌++◌, if◌then◌else◌}
-use Rattle.ab_readings.specs.Types.{is_listed}
-use Rattle.ab_readings.specs.Names.{Name, Resolved, bound, known, free, apply, abs, equal, bind}
+use Rattle.ab_resolving.specs.ab_readings.specs.Types.{is_listed}
+use Rattle.ab_resolving.specs.ab_readings.specs.Names.{Name, Resolved, bound, known, free, apply, abs, equal, bind}
 
 -- the free names, each as often as it stands
 abbrev pub free_names : Resolved → List Name

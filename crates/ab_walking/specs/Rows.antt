@@ -1,21 +1,21 @@
 -- Rows of steps that a walk over an expression makes, and what they say of it.
 use Rattle.std.specs.Prelude.{◌≡◌, ℕ, ◌+◌, ◌<◌, ◌≤◌, List, [], ◌∷◌, ◌++◌, length, Result, Ok, Err, All}
-use Rattle.ab_types.specs.Entries.{Table, kinds, constants, IsExtendedBy}
-use Rattle.ab_types.specs.Sound.{IsTable}
-use Rattle.ab_store.specs.declared.node.CellEntry.{CellEntry}
-use Rattle.ab_store.specs.Trees.{Contents}
-use Rattle.ab_store.specs.Naming.{IsTypedBy}
-use Rattle.ab_readings.specs.Names.{Name}
-use Rattle.ab_readings.specs.Scopes.{Found}
-use Rattle.ab_infer.specs.declared.fault.InferFault.{InferFault}
-use Rattle.ab_infer.specs.declared.fault.InferFault.TheVariants.{Unknown, TypeClash, Untyped, Memory}
-use Rattle.ab_infer.specs.declared.inferring.Formulas.{Formulas}
-use Rattle.ab_infer.specs.declared.op.Op.{Op}
-use Rattle.ab_infer.specs.declared.op.Mark as declared
-use Rattle.ab_infer.specs.Sketches.{Sketch, bound, known, free, apply, abs, equal, bind, erase, count, Fit, variable_of, marks_of}
-use Rattle.ab_infer.specs.Programs.{Item, bound_item, known_item, free_item, apply_item, abs_item, equal_item, bind_item, Runs, items_of, OpTyped}
-use Rattle.ab_infer.specs.Inferences.{IsFormulas, AreBelow}
-use Rattle.ab_infer.specs.Verdicts.{marks_in, mark_of, AreApart}
+use Rattle.ab_resolving.specs.ab_types.specs.Entries.{Table, kinds, constants, IsExtendedBy}
+use Rattle.ab_resolving.specs.ab_types.specs.Sound.{IsTable}
+use Rattle.ab_resolving.specs.ab_store.specs.declared.node.CellEntry.{CellEntry}
+use Rattle.ab_resolving.specs.ab_store.specs.Trees.{Contents}
+use Rattle.ab_resolving.specs.ab_store.specs.Naming.{IsTypedBy}
+use Rattle.ab_resolving.specs.ab_readings.specs.Names.{Name}
+use Rattle.ab_resolving.specs.ab_readings.specs.Scopes.{Found}
+use Rattle.ab_resolving.specs.ab_infer.specs.declared.fault.InferFault.{InferFault}
+use Rattle.ab_resolving.specs.ab_infer.specs.declared.fault.InferFault.TheVariants.{Unknown, TypeClash, Untyped, Memory}
+use Rattle.ab_resolving.specs.ab_infer.specs.declared.inferring.Formulas.{Formulas}
+use Rattle.ab_resolving.specs.ab_infer.specs.declared.op.Op.{Op}
+use Rattle.ab_resolving.specs.ab_infer.specs.declared.op.Mark as declared
+use Rattle.ab_resolving.specs.ab_infer.specs.Sketches.{Sketch, bound, known, free, apply, abs, equal, bind, erase, count, Fit, variable_of, marks_of}
+use Rattle.ab_resolving.specs.ab_infer.specs.Programs.{Item, bound_item, known_item, free_item, apply_item, abs_item, equal_item, bind_item, Runs, items_of, OpTyped}
+use Rattle.ab_resolving.specs.ab_infer.specs.Inferences.{IsFormulas, AreBelow}
+use Rattle.ab_resolving.specs.ab_infer.specs.Verdicts.{marks_in, mark_of, AreApart}
 use Rattle.ab_resolving.specs.declared.scope.Scope.{Scope}
 use Rattle.ab_resolving.specs.Scoping.{nodes_in, HoldsScope}
 use Rattle.ab_building.specs.Building.{OpFits}

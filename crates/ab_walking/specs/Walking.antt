@@ -1,22 +1,22 @@
 -- Single moves of a walk. Only private contracts speak of this.
 use Rattle.std.specs.Prelude.{◌≡◌, ℕ, ◌+◌, ◌<◌, List, [], ◌∷◌, ◌++◌, length, get_or, drop, map, Option, Some, None, option_map, Ok}
-use Rattle.ab_types.specs.Entries.{Table, kinds}
-use Rattle.ab_types.specs.Ids.{HoldsType, type_of}
-use Rattle.ab_types.specs.declared.ids.TypeId.{TypeId}
-use Rattle.ab_store.specs.declared.node.CellEntry.{CellEntry}
-use Rattle.ab_store.specs.declared.node.Head.{Head}
-use Rattle.ab_store.specs.Trees.{Contents, head_in}
+use Rattle.ab_resolving.specs.ab_types.specs.Entries.{Table, kinds}
+use Rattle.ab_resolving.specs.ab_types.specs.Ids.{HoldsType, type_of}
+use Rattle.ab_resolving.specs.ab_types.specs.declared.ids.TypeId.{TypeId}
+use Rattle.ab_resolving.specs.ab_store.specs.declared.node.CellEntry.{CellEntry}
+use Rattle.ab_resolving.specs.ab_store.specs.declared.node.Head.{Head}
+use Rattle.ab_resolving.specs.ab_store.specs.Trees.{Contents, head_in}
 use Rattle.ab_grammar.specs.declared.Infix.{Infix}
 use Rattle.ab_grammar.specs.declared.Infix.TheVariants as sign
 use Rattle.ab_grammar.specs.Tree as tree
 use Rattle.ab_syntax.specs.declared.tree.Parse.{Parse}
 use Rattle.ab_syntax.specs.Trees.{tree_of}
-use Rattle.ab_readings.specs.Names.{Name, known, apply}
-use Rattle.ab_readings.specs.Scopes.{Scope, Found, joined, made_of_both, applied, written}
-use Rattle.ab_infer.specs.declared.op.Op.{Op}
-use Rattle.ab_infer.specs.declared.op.Op.TheVariants as op
-use Rattle.ab_infer.specs.declared.op.Mark.TheVariants as mark
-use Rattle.ab_infer.specs.Programs.{HoldsWritten}
+use Rattle.ab_resolving.specs.ab_readings.specs.Names.{Name, known, apply}
+use Rattle.ab_resolving.specs.ab_readings.specs.Scopes.{Scope, Found, joined, made_of_both, applied, written}
+use Rattle.ab_resolving.specs.ab_infer.specs.declared.op.Op.{Op}
+use Rattle.ab_resolving.specs.ab_infer.specs.declared.op.Op.TheVariants as op
+use Rattle.ab_resolving.specs.ab_infer.specs.declared.op.Mark.TheVariants as mark
+use Rattle.ab_resolving.specs.ab_infer.specs.Programs.{HoldsWritten}
 use Rattle.ab_resolving.specs.declared.scope.Bound.{Bound}
 use Rattle.ab_building.specs.Building.{HasHeadType}
 use Rattle.ab_walking.specs.declared.row.Row.{Row}

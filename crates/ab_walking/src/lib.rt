@@ -2,6 +2,7 @@
 //! put in a row.
 #![tactic(auto)]
 
+pub mod below;
 mod names;
 mod row;
 mod signs;

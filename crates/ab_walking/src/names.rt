@@ -1,20 +1,20 @@
 //! What is put behind a row for a name, and around what a binder reaches over.
 ghost use Rattle.std.specs.Prelude.{◌≡◌, ℕ, List, ◌+◌, ◌<◌, ◌++◌, ◌∷◌, [], length, get_or, Some, Ok, IfOk, IfSome, OnOk, MatchOption, MatchResult};
-ghost use Rattle.ab_types.specs.Entries.{Table};
-ghost use Rattle.ab_store.specs.Trees.{Contents};
-ghost use Rattle.ab_readings.specs.Names.{Name as AName, free};
-ghost use Rattle.ab_readings.specs.Scopes.{head_named, or_unknown};
-ghost use Rattle.ab_infer.specs.declared.op.Op.TheVariants.{Abs, Bind};
+ghost use Rattle.ab_resolving.specs.ab_types.specs.Entries.{Table};
+ghost use Rattle.ab_resolving.specs.ab_store.specs.Trees.{Contents};
+ghost use Rattle.ab_resolving.specs.ab_readings.specs.Names.{Name as AName, free};
+ghost use Rattle.ab_resolving.specs.ab_readings.specs.Scopes.{head_named, or_unknown};
+ghost use Rattle.ab_resolving.specs.ab_infer.specs.declared.op.Op.TheVariants.{Abs, Bind};
 ghost use Rattle.ab_resolving.specs.declared.scope.Bound.{Bound as ABound};
 ghost use Rattle.ab_resolving.specs.Scoping.{names_in, scope_of};
 ghost use Rattle.ab_walking.specs.Rows.{IsGround, Grew, Fails};
 ghost use Rattle.ab_walking.specs.Walking.{IsNumbered, BindsName, Unbinds};
 
 use crate::row::Row;
-use ab_infer::{Binds, Formulas, InferFault, Mark, Op};
+use ab_resolving::below::infer::{Binds, Formulas, InferFault, Mark, Op};
+use ab_resolving::below::store::Store;
+use ab_resolving::below::types::{Name, TypeId, TypeTable};
 use ab_resolving::{Bound, Named, Scope, resolve_name};
-use ab_store::Store;
-use ab_types::{Name, TypeId, TypeTable};
 use std::alloc::{AllocError, Global};
 
 /// The number of a name among those that differ, where it is there.

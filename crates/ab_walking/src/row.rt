@@ -2,9 +2,9 @@
 ghost use Rattle.std.specs.Prelude.{◌≡◌, [], OnOk};
 ghost use Rattle.ab_walking.specs.Walking.{Puts};
 
-use ab_infer::{Mark, Op};
 use ab_resolving::Bound;
-use ab_types::Name;
+use ab_resolving::below::infer::{Mark, Op};
+use ab_resolving::below::types::Name;
 use std::alloc::{AllocError, Global};
 
 /// What is made of an expression, as far as it is walked over.

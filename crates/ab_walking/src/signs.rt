@@ -1,20 +1,20 @@
 //! Signs between two operands.
 ghost use Rattle.std.specs.Prelude.{◌≡◌, List, IfOk, OnOk, MatchOption};
-ghost use Rattle.ab_types.specs.Sound.{IsTable};
-ghost use Rattle.ab_types.specs.Ids.{HoldsType, type_of};
+ghost use Rattle.ab_resolving.specs.ab_types.specs.Sound.{IsTable};
+ghost use Rattle.ab_resolving.specs.ab_types.specs.Ids.{HoldsType, type_of};
 ghost use Rattle.ab_term.specs.Types.{arrow};
 ghost use Rattle.ab_grammar.specs.declared.Infix.TheVariants.{Equal};
-ghost use Rattle.ab_store.specs.declared.node.CellEntry.{CellEntry};
-ghost use Rattle.ab_infer.specs.Inferences.{IsFormulas};
+ghost use Rattle.ab_resolving.specs.ab_store.specs.declared.node.CellEntry.{CellEntry};
+ghost use Rattle.ab_resolving.specs.ab_infer.specs.Inferences.{IsFormulas};
 ghost use Rattle.ab_walking.specs.Rows.{IsGround, AddsTypes};
 ghost use Rattle.ab_walking.specs.Walking.{IsConnective, MeetsSign, PutsBetween, PutsBehind};
 
 use crate::row::Row;
-use ab_infer::{Formulas, Op};
 use ab_resolving::Scope;
-use ab_store::{Head, Logical, Store};
+use ab_resolving::below::infer::{Formulas, Op};
+use ab_resolving::below::store::{Head, Logical, Store};
+use ab_resolving::below::types::{Name, TypeId, TypeTable};
 use ab_syntax::Infix;
-use ab_types::{Name, TypeId, TypeTable};
 use std::alloc::{AllocError, Global};
 
 /// The type of what takes two terms of a type to a third.

@@ -1,16 +1,16 @@
 //! The walk over an expression.
 ghost use Rattle.std.specs.Prelude.{◌≡◌, [], Ok, Err, Some, None, option_map, map, MatchResult};
-ghost use Rattle.ab_types.specs.Entries.{Table};
-ghost use Rattle.ab_types.specs.Sound.{IsTable};
-ghost use Rattle.ab_types.specs.Entries.{kinds};
-ghost use Rattle.ab_store.specs.Trees.{Contents};
+ghost use Rattle.ab_resolving.specs.ab_types.specs.Entries.{Table};
+ghost use Rattle.ab_resolving.specs.ab_types.specs.Sound.{IsTable};
+ghost use Rattle.ab_resolving.specs.ab_types.specs.Entries.{kinds};
+ghost use Rattle.ab_resolving.specs.ab_store.specs.Trees.{Contents};
 ghost use Rattle.ab_grammar.specs.declared.Quant.{Quant};
-ghost use Rattle.ab_readings.specs.Names.{quantified};
-ghost use Rattle.ab_infer.specs.Programs.{binding_of};
+ghost use Rattle.ab_resolving.specs.ab_readings.specs.Names.{quantified};
+ghost use Rattle.ab_resolving.specs.ab_infer.specs.Programs.{binding_of};
 ghost use Rattle.ab_syntax.specs.Trees.{tree_of, type_of as type_tree_of, binder_of};
-ghost use Rattle.ab_readings.specs.Scopes as scopes;
-ghost use Rattle.ab_readings.specs.Scopes.{resolved, written, with_binders, under, after, pi_over};
-ghost use Rattle.ab_infer.specs.declared.inferring.Formulas.{Formulas as AFormulas};
+ghost use Rattle.ab_resolving.specs.ab_readings.specs.Scopes as scopes;
+ghost use Rattle.ab_resolving.specs.ab_readings.specs.Scopes.{resolved, written, with_binders, under, after, pi_over};
+ghost use Rattle.ab_resolving.specs.ab_infer.specs.declared.inferring.Formulas.{Formulas as AFormulas};
 ghost use Rattle.ab_resolving.specs.declared.scope.Scope.{Scope as AScope};
 ghost use Rattle.ab_resolving.specs.Scoping.{names_in, scope_of};
 ghost use Rattle.ab_walking.specs.declared.row.Row.{Row as ARow};
@@ -20,11 +20,11 @@ ghost use Rattle.ab_walking.specs.Walking.{IsWritten};
 use crate::names::{abstract_name, bind_name, quantify_name, walk_name};
 use crate::row::Row;
 use crate::signs::{meet_sign, put_behind, put_between};
-use ab_infer::{Binds, Formulas, InferFault, Op, read_written};
 use ab_resolving::Scope;
-use ab_store::Store;
+use ab_resolving::below::infer::{Binds, Formulas, InferFault, Op, read_written};
+use ab_resolving::below::store::Store;
+use ab_resolving::below::types::{Name, TypeId, TypeTable};
 use ab_syntax::{Binder, Parse, Quant, TypeParse};
-use ab_types::{Name, TypeId, TypeTable};
 use std::alloc::Global;
 
 /// A word that stands for nothing.

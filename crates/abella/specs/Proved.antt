@@ -1,10 +1,10 @@
 -- Theorems that are proved, in terms of the kernel's derivations.
 use Rattle.std.specs.Prelude.{◌<◌, ℕ, length}
-use Rattle.ab_logic.specs.Declarations.{theorems_in}
-use Rattle.ab_kernel.specs.Derivation.{Derivation}
-use Rattle.ab_states.specs.State.{State}
-use Rattle.ab_states.specs.Reply.{Reply, completed}
-use Rattle.ab_states.specs.Derived.{IsDerived}
+use Rattle.ab_blocks.specs.ab_logic.specs.Declarations.{theorems_in}
+use Rattle.ab_blocks.specs.ab_kernel.specs.Derivation.{Derivation}
+use Rattle.ab_blocks.specs.ab_states.specs.State.{State}
+use Rattle.ab_blocks.specs.ab_states.specs.Reply.{Reply, completed}
+use Rattle.ab_blocks.specs.ab_states.specs.Derived.{IsDerived}
 use Rattle.ab_session.specs.Answers.{IsProvedLast}
 
 -- where the reply says that a theorem is proved, it is the last of the state, and has a derivation

@@ -1,8 +1,8 @@
 //! The top call: a run over a script, from the bytes in to the bytes out.
 ghost use Rattle.std.specs.Prelude.{◌≡◌, ◌≢◌, ◌<◌, ◌≤◌, ◌+◌, ℕ, List, None, Some, length, option_map, IsTrue, IfSome, ◌↔◌};
 ghost use Rattle.std.specs.List.{All};
-ghost use Rattle.ab_io.specs.Count.{Rose};
-ghost use Rattle.ab_states.specs.Reply.{completed};
+ghost use Rattle.ab_session.specs.ab_io.specs.Count.{Rose};
+ghost use Rattle.ab_blocks.specs.ab_states.specs.Reply.{completed};
 ghost use Rattle.ab_session.specs.Contents.{state_of};
 ghost use Rattle.ab_session.specs.Answers.{IsProvedLast};
 ghost use Rattle.abella.specs.Proved.{AllDerived};
@@ -14,9 +14,9 @@ ghost use Rattle.abella.specs.Progress.{EndedWith, RanTo, beginning, handed_by, 
 use crate::input::{ReadStop, read_piece};
 use crate::output::{Progress, answer_ready};
 use crate::status::Status;
-use ab_io::{Files, Sink, Source, WriteFault, write_all};
-use ab_lex::Splitter;
+use ab_blocks::below::lex::Splitter;
 use ab_session::Session;
+use ab_session::below::io::{Files, Sink, Source, WriteFault, write_all};
 use std::alloc::Global;
 
 /// No more bytes of the input than this are looked at.

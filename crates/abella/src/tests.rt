@@ -1,11 +1,11 @@
 //! Whole runs over worked scripts, and over sources and sinks that fail.
 ghost use Rattle.std.specs.Prelude.{◌<◌, ◌≤◌, IsTrue};
-ghost use Rattle.ab_io.specs.Count.{Rose};
+ghost use Rattle.ab_session.specs.ab_io.specs.Count.{Rose};
 
 mod scripts;
 
 use crate::running::run;
-use ab_io::{Failed, MemFiles, MemSink, MemSource, Sink, Source, WriteFault};
+use ab_session::below::io::{Failed, MemFiles, MemSink, MemSource, Sink, Source, WriteFault};
 use scripts::CASES;
 use std::alloc::{AllocError, Global};
 use std::test::Fail;
@@ -52,9 +52,13 @@ fn push_many(script: &mut Vec<u8>, byte: u8, count: usize) -> Result<(), AllocEr
     Ok(())
 }
 
-/// A theorem whose formula is `true` in so many parentheses.
+const DECLARED: &[u8] =
+    b"Kind nat type. Type z nat. Type s nat -> nat. Define nat : nat -> prop by nat z ; nat (s N) := nat N. Define plus : nat -> nat -> nat -> prop by plus z N N ; plus (s M) N (s K) := plus M N K. ";
+
+/// A theorem whose formula is `true` in so many parentheses, behind what is declared.
 fn enclosed(alloc: Global, count: usize) -> Result<Vec<u8>, AllocError> {
-    let mut script = Vec::from_slice(alloc, b"Theorem x : ")?;
+    let mut script = Vec::from_slice(alloc, DECLARED)?;
+    script.extend_from_slice(b"Theorem x : ")?;
     push_many(&mut script, b'(', count)?;
     script.extend_from_slice(b"true")?;
     push_many(&mut script, b')', count)?;
@@ -70,21 +74,33 @@ fn behind_blanks(alloc: Global, count: usize, rest: &[u8]) -> Result<Vec<u8>, Al
     Ok(script)
 }
 
-#[test]
-fn takes_two_hundred_parentheses(rt: HostRuntime) -> Result<(), Fail> {
-    let script = enclosed(rt.alloc(), 200)?;
-    let (status, report) = outcome(rt.alloc(), script.as_slice(), 65_536, &[], &[])?;
-    assert_eq!(rt; status, 6);
-    assert!(rt; report.as_slice() == b"[1]\n============================\n true\n".as_slice());
-    Ok(())
-}
+/// How many parentheses stand about a formula, how the script ends, and what is printed.
+static ENCLOSED: [(usize, u8, &[u8]); 2] = [
+    (
+        200,
+        6,
+        b"[1]\n[2]\n[3]\n[4]\n[5]\n[6]\n============================\n true\n",
+    ),
+    (
+        201,
+        1,
+        b"[1]\n[2]\n[3]\n[4]\n[5]\n[5] Refused 23 TooNested at 212\n",
+    ),
+];
 
 #[test]
-fn refuses_one_parenthesis_more(rt: HostRuntime) -> Result<(), Fail> {
-    let script = enclosed(rt.alloc(), 201)?;
-    let (status, report) = outcome(rt.alloc(), script.as_slice(), 65_536, &[], &[])?;
-    assert_eq!(rt; status, 1);
-    assert!(rt; report.as_slice() == b"[0] Refused 23 TooNested at 212\n".as_slice());
+fn takes_two_hundred_parentheses_and_no_more(rt: HostRuntime) -> Result<(), Fail> {
+    for (count, status, report) in ENCLOSED.iter() {
+        for piece in [1usize, 2, 65_536].iter() {
+            assert!(rt; *piece > 0);
+            if *piece > 0 {
+                let script = enclosed(rt.alloc(), *count)?;
+                let (ended, printed) = outcome(rt.alloc(), script.as_slice(), *piece, &[], &[])?;
+                assert_eq!(rt; ended, *status);
+                assert!(rt; printed.as_slice() == *report);
+            }
+        }
+    }
     Ok(())
 }
 

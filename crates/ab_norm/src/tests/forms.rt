@@ -1,12 +1,12 @@
 ghost use Rattle.std.specs.Prelude.{IfOk};
-ghost use Rattle.ab_types.specs.Ids.{HoldsType, HoldsConstant};
+ghost use Rattle.ab_store.specs.ab_types.specs.Ids.{HoldsType, HoldsConstant};
 ghost use Rattle.ab_store.specs.Reading.{Holds};
 ghost use Rattle.ab_store.specs.Naming.{IsTypedBy};
 
 use super::{Symbols, atom, base, constant_once, identity, new_symbols};
 use crate::{Tree, equal, eta, reading};
+use ab_store::below::types::{Name, TableFault, TypeId, TypeTable};
 use ab_store::{Head, Store, TermId};
-use ab_types::{Name, TableFault, TypeId, TypeTable};
 use std::alloc::{AllocError, Global};
 
 /// Whether the eta-long form of `s` is `x\ s x`.

@@ -1,12 +1,12 @@
 ghost use Rattle.std.specs.Prelude.{IfOk};
-ghost use Rattle.ab_types.specs.Ids.{HoldsType, HoldsConstant};
+ghost use Rattle.ab_store.specs.ab_types.specs.Ids.{HoldsType, HoldsConstant};
 ghost use Rattle.ab_store.specs.Reading.{Contents, Holds};
 ghost use Rattle.ab_store.specs.Naming.{HoldsHead, HeadIsTyped, IsTypedBy};
 
 use super::{Sorts, Symbols, applied, atom, base, constant_once, new_symbols, under};
 use crate::{equal, instantiate};
+use ab_store::below::types::{ConstId, Steps, TableFault, TypeId, TypeTable};
 use ab_store::{Head, Store, TermId};
-use ab_types::{ConstId, Steps, TableFault, TypeId, TypeTable};
 use std::alloc::{AllocError, Global};
 use std::marker::Brand;
 

@@ -1,12 +1,12 @@
 ghost use Rattle.std.specs.Prelude.{IfOk};
-ghost use Rattle.ab_types.specs.Ids.{HoldsType};
+ghost use Rattle.ab_store.specs.ab_types.specs.Ids.{HoldsType};
 ghost use Rattle.ab_store.specs.Reading.{Contents, Holds};
 ghost use Rattle.ab_store.specs.Naming.{HoldsHead, HeadIsTyped, IsTypedBy};
 
 use super::{Sorts, atom, new_sorts, new_symbols, pair};
 use crate::{equal, equal_up_to_names, permute};
+use ab_store::below::types::{TableFault, TypeTable};
 use ab_store::{Head, Store, TermId};
-use ab_types::{TableFault, TypeTable};
 use std::alloc::{AllocError, Global};
 
 /// Whether a permutation of nominal constants sends the first to the second, and does so.

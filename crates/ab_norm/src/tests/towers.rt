@@ -1,13 +1,13 @@
 //! Towers of 64 pairs, each a shared node: as trees they have more than 2 ^ 64 nodes.
 ghost use Rattle.std.specs.Prelude.{IfOk};
-ghost use Rattle.ab_types.specs.Ids.{HoldsType};
+ghost use Rattle.ab_store.specs.ab_types.specs.Ids.{HoldsType};
 ghost use Rattle.ab_store.specs.Reading.{Holds};
 ghost use Rattle.ab_store.specs.Naming.{IsTypedBy};
 
 use super::{atom, new_symbols, pair, under};
 use crate::{equal, equal_up_to_names, instantiate, permute, support};
+use ab_store::below::types::{Steps, TableFault, TypeId, TypeTable};
 use ab_store::{Head, Store, TermId};
-use ab_types::{Steps, TableFault, TypeId, TypeTable};
 use std::alloc::{AllocError, Global};
 
 /// `n3 t t` above the term, 64 times.

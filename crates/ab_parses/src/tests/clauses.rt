@@ -1,26 +1,25 @@
 //! Clauses, with the clause that each means, or why it means none and where.
 ghost use Rattle.std.specs.Prelude.{◌≡◌, false, IfOk, IfSome, All};
-ghost use Rattle.ab_types.specs.declared.ids.TypeId.{TypeId};
-ghost use Rattle.ab_types.specs.Ids.{HoldsType};
-ghost use Rattle.ab_store.specs.declared.node.TermId.{TermId};
-ghost use Rattle.ab_store.specs.Reading.{Holds, HoldsCell};
-ghost use Rattle.ab_store.specs.Naming.{IsTypedBy};
+ghost use Rattle.ab_clausal.specs.ab_types.specs.declared.ids.TypeId.{TypeId};
+ghost use Rattle.ab_clausal.specs.ab_types.specs.Ids.{HoldsType};
+ghost use Rattle.ab_clausal.specs.ab_store.specs.declared.node.TermId.{TermId};
+ghost use Rattle.ab_clausal.specs.ab_store.specs.Reading.{Holds, HoldsCell};
+ghost use Rattle.ab_clausal.specs.ab_store.specs.Naming.{IsTypedBy};
 ghost use Rattle.ab_syntax.specs.Commands.{clause_of};
-ghost use Rattle.ab_clauses.specs.Readings.{HoldsClause};
+ghost use Rattle.ab_clausal.specs.ab_clauses.specs.Readings.{HoldsClause};
 ghost use Rattle.ab_clausal.specs.Meanings.{ClauseHasNoJudgement};
 
 use super::Answer::{Clash, Kept, Same, Unknown, Untyped};
 use super::{Answer, Parses, declare_predicates, declare_terms, is_cause};
+use ab_clausal::below::clauses::ClauseTerm;
+use ab_clausal::below::elaborate::holds_judgement;
+use ab_clausal::below::infer::InferFault;
+use ab_clausal::below::norm::equal;
+use ab_clausal::below::store::{CellId, Head, Logical, Node, Store, TermId};
+use ab_clausal::below::types::{Steps, TypeId, TypeTable, has_unique_ids};
 use ab_clausal::elaborate_clause;
-use ab_clauses::ClauseTerm;
 use ab_command::{Command, read_command};
-use ab_elaborate::holds_judgement;
-use ab_infer::InferFault;
-use ab_norm::equal;
-use ab_store::{CellId, Head, Logical, Node, Store, TermId};
 use ab_syntax::{ClauseParse, Parse};
-use ab_types::laws::has_unique_ids;
-use ab_types::{Steps, TypeId, TypeTable};
 use std::alloc::{AllocError, Global};
 use std::test::Fail;
 

@@ -1,26 +1,25 @@
 //! Expressions that are to be formulas, with the term that each means, or why it means none and where. There are a
 //! variable `X` and a nominal constant `n1`, both of the type `nat`.
 ghost use Rattle.std.specs.Prelude.{IfOk, IfSome};
-ghost use Rattle.ab_types.specs.declared.ids.TypeId.{TypeId};
-ghost use Rattle.ab_types.specs.Ids.{HoldsType};
-ghost use Rattle.ab_store.specs.declared.node.TermId.{TermId};
-ghost use Rattle.ab_store.specs.declared.node.CellId.{CellId};
-ghost use Rattle.ab_store.specs.Reading.{Holds, HoldsCell};
-ghost use Rattle.ab_store.specs.Naming.{IsTypedBy};
+ghost use Rattle.ab_clausal.specs.ab_types.specs.declared.ids.TypeId.{TypeId};
+ghost use Rattle.ab_clausal.specs.ab_types.specs.Ids.{HoldsType};
+ghost use Rattle.ab_clausal.specs.ab_store.specs.declared.node.TermId.{TermId};
+ghost use Rattle.ab_clausal.specs.ab_store.specs.declared.node.CellId.{CellId};
+ghost use Rattle.ab_clausal.specs.ab_store.specs.Reading.{Holds, HoldsCell};
+ghost use Rattle.ab_clausal.specs.ab_store.specs.Naming.{IsTypedBy};
 ghost use Rattle.ab_syntax.specs.Trees.{tree_of};
-ghost use Rattle.ab_elaborate.specs.Judgements.{HasNoJudgement};
-ghost use Rattle.ab_elaborate.specs.Scoping.{HoldsScope};
+ghost use Rattle.ab_clausal.specs.ab_elaborate.specs.Judgements.{HasNoJudgement};
+ghost use Rattle.ab_clausal.specs.ab_elaborate.specs.Scoping.{HoldsScope};
 
 use super::Answer::{Clash, Same, Unknown, Untyped};
 use super::{Answer, Parses, declare_predicates, declare_terms, is_cause};
+use ab_clausal::below::elaborate::{Scope, elaborate, holds_judgement};
+use ab_clausal::below::infer::InferFault;
+use ab_clausal::below::norm::{Nominal, equal};
+use ab_clausal::below::store::{CellId, Store, TermId};
+use ab_clausal::below::types::{Name, Steps, TypeId, TypeTable, has_unique_ids};
 use ab_command::{Command, read_command};
-use ab_elaborate::{Scope, elaborate, holds_judgement};
-use ab_infer::InferFault;
-use ab_norm::{Nominal, equal};
-use ab_store::{CellId, Store, TermId};
 use ab_syntax::Parse;
-use ab_types::laws::has_unique_ids;
-use ab_types::{Name, Steps, TypeId, TypeTable};
 use std::alloc::{AllocError, Global};
 use std::test::Fail;
 

@@ -1,18 +1,18 @@
 //! What terms read as while cells are bound, and once bindings are taken back.
 ghost use Rattle.std.specs.Prelude.{IfOk, OnOk, All};
-ghost use Rattle.ab_store.specs.declared.node.TermId.{TermId};
-ghost use Rattle.ab_store.specs.declared.mark.Mark.{Mark};
-ghost use Rattle.ab_store.specs.Reading.{Holds, HoldsCell};
-ghost use Rattle.ab_store.specs.Marks.{HasMark, KeepsMark};
-ghost use Rattle.ab_store.specs.Naming.{IsTypedBy};
-ghost use Rattle.ab_norm.specs.Growth.{AddsTypedTerms};
+ghost use Rattle.ab_fits.specs.ab_store.specs.declared.node.TermId.{TermId};
+ghost use Rattle.ab_fits.specs.ab_store.specs.declared.mark.Mark.{Mark};
+ghost use Rattle.ab_fits.specs.ab_store.specs.Reading.{Holds, HoldsCell};
+ghost use Rattle.ab_fits.specs.ab_store.specs.Marks.{HasMark, KeepsMark};
+ghost use Rattle.ab_fits.specs.ab_store.specs.Naming.{IsTypedBy};
+ghost use Rattle.ab_solver.specs.ab_norm.specs.Growth.{AddsTypedTerms};
 
 use super::fixture::{new_letters, new_table};
 use super::problems::{Answer, solve};
 use super::{Letter, constant, term};
-use ab_norm::{copy_resolved, equal, look};
-use ab_store::{Head, Node, Store, TermId};
-use ab_types::{Steps, TableFault, TypeTable};
+use ab_fits::below::store::{Head, Node, Store, TermId};
+use ab_fits::below::types::{Steps, TableFault, TypeTable};
+use ab_solver::below::norm::{copy_resolved, equal, look};
 use std::alloc::{AllocError, Global};
 
 /// What keeps the counts of these tests apart from others.

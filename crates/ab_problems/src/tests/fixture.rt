@@ -1,15 +1,15 @@
 //! A table with constants `c` and `d` of a type `i`, `s` of `i -> i`, `g` of `i -> i -> i` and `l` of `(i -> i) -> i`, and
 //! cells of these types.
 ghost use Rattle.std.specs.Prelude.{IfOk, OnOk, All};
-ghost use Rattle.ab_types.specs.declared.ids.TypeId.{TypeId};
-ghost use Rattle.ab_types.specs.Ids.{HoldsType};
-ghost use Rattle.ab_store.specs.declared.node.CellId.{CellId};
-ghost use Rattle.ab_store.specs.Reading.{HoldsCell};
-ghost use Rattle.ab_store.specs.Naming.{IsTypedBy};
+ghost use Rattle.ab_fits.specs.ab_types.specs.declared.ids.TypeId.{TypeId};
+ghost use Rattle.ab_fits.specs.ab_types.specs.Ids.{HoldsType};
+ghost use Rattle.ab_fits.specs.ab_store.specs.declared.node.CellId.{CellId};
+ghost use Rattle.ab_fits.specs.ab_store.specs.Reading.{HoldsCell};
+ghost use Rattle.ab_fits.specs.ab_store.specs.Naming.{IsTypedBy};
 
 use super::{Letter, type_like};
-use ab_store::{CellId, Store};
-use ab_types::{Name, TableFault, TypeId, TypeTable};
+use ab_fits::below::store::{CellId, Store};
+use ab_fits::below::types::{Name, TableFault, TypeId, TypeTable};
 use std::alloc::{AllocError, Global};
 
 /// The type `i`.

@@ -1,22 +1,22 @@
 //! Problems of unification with their answers: each rule, and each cause why there is no unifier or no rule.
 ghost use Rattle.std.specs.Prelude.{◌≡◌, true, IfOk, IfSome, OnOk, All, Ok};
-ghost use Rattle.ab_types.specs.Ids.{HoldsType};
-ghost use Rattle.ab_store.specs.declared.node.TermId.{TermId};
-ghost use Rattle.ab_store.specs.declared.mark.Mark.{Mark};
-ghost use Rattle.ab_store.specs.Reading.{Holds, HoldsCell};
-ghost use Rattle.ab_store.specs.Marks.{HasMark, KeepsMark};
-ghost use Rattle.ab_store.specs.Naming.{IsTypedBy};
-ghost use Rattle.ab_unifying.specs.Changed.{IsFree};
+ghost use Rattle.ab_fits.specs.ab_types.specs.Ids.{HoldsType};
+ghost use Rattle.ab_fits.specs.ab_store.specs.declared.node.TermId.{TermId};
+ghost use Rattle.ab_fits.specs.ab_store.specs.declared.mark.Mark.{Mark};
+ghost use Rattle.ab_fits.specs.ab_store.specs.Reading.{Holds, HoldsCell};
+ghost use Rattle.ab_fits.specs.ab_store.specs.Marks.{HasMark, KeepsMark};
+ghost use Rattle.ab_fits.specs.ab_store.specs.Naming.{IsTypedBy};
+ghost use Rattle.ab_solver.specs.ab_unifying.specs.Changed.{IsFree};
 ghost use Rattle.ab_solver.specs.Answers.{IsTypedPair, IfUnified};
 
 use super::fixture::{add_letter, new_letters, new_table};
 use super::{Letter, equations, type_like};
 use Answer::{Apart, Made, Stuck};
+use ab_fits::below::store::{CellId, Equation, Store};
+use ab_fits::below::types::{Steps, TableFault, TypeId, TypeTable};
 use ab_fits::has_type;
-use ab_norm::equal;
+use ab_solver::below::norm::equal;
 use ab_solver::{Solved, unify};
-use ab_store::{CellId, Equation, Store};
-use ab_types::{Steps, TableFault, TypeId, TypeTable};
 use std::alloc::{AllocError, Global};
 
 /// What keeps the counts of these problems apart from others.

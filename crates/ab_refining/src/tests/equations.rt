@@ -2,7 +2,7 @@
 use super::moves::Move::{ArrowRight, EqualLeft, EqualRight, ForallRight};
 use super::running::Answer::{Fails, Leads, Stuck};
 use super::running::{Row, is_row};
-use ab_types::TableFault;
+use ab_print::below::types::TableFault;
 
 /// Formulas, steps to a goal, a step there, and its answer.
 static ROWS: [Row; 10] = [

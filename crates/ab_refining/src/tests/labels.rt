@@ -5,7 +5,7 @@ use super::moves::Move::{
 };
 use super::running::Answer::{Fails, Leads};
 use super::running::{LAST, Row, is_answered};
-use ab_types::TableFault;
+use ab_print::below::types::TableFault;
 
 /// Formulas, steps to a goal, a step there, and its answer where all numbers are spent.
 static SPENT: [Row; 15] = [

@@ -1,17 +1,17 @@
 //! Terms and formulas in short: a letter for each symbol, which stands before its arguments.
 ghost use Rattle.std.specs.Prelude.{IfOk, IfSome, OnOk, All};
-ghost use Rattle.ab_types.specs.Entries.{Table};
-ghost use Rattle.ab_types.specs.Ids.{HoldsType, HoldsConstant};
-ghost use Rattle.ab_store.specs.Reading.{Contents, Holds, HoldsCell};
-ghost use Rattle.ab_store.specs.Naming.{HoldsHead, HeadIsTyped, LogicalIsTyped, IsTypedBy};
-ghost use Rattle.ab_norm.specs.Growth.{AddsTypedTerms};
-ghost use Rattle.ab_logic.specs.Worlds as worlds;
-ghost use Rattle.ab_logic.specs.Worlds.{IsWorld};
-ghost use Rattle.ab_logic.specs.Growth.{Grows};
+ghost use Rattle.ab_print.specs.ab_types.specs.Entries.{Table};
+ghost use Rattle.ab_print.specs.ab_types.specs.Ids.{HoldsType, HoldsConstant};
+ghost use Rattle.ab_print.specs.ab_store.specs.Reading.{Contents, Holds, HoldsCell};
+ghost use Rattle.ab_print.specs.ab_store.specs.Naming.{HoldsHead, HeadIsTyped, LogicalIsTyped, IsTypedBy};
+ghost use Rattle.ab_kernel.specs.ab_norm.specs.Growth.{AddsTypedTerms};
+ghost use Rattle.ab_print.specs.ab_logic.specs.Worlds as worlds;
+ghost use Rattle.ab_print.specs.ab_logic.specs.Worlds.{IsWorld};
+ghost use Rattle.ab_print.specs.ab_logic.specs.Growth.{Grows};
 
-use ab_logic::World;
-use ab_store::{CellId, Head, Logical, Store, TermId};
-use ab_types::{ConstId, Name, TableFault, TypeId, TypeTable, TypeView};
+use ab_print::below::logic::World;
+use ab_print::below::store::{CellId, Head, Logical, Store, TermId};
+use ab_print::below::types::{ConstId, Name, TableFault, TypeId, TypeTable, TypeView};
 use std::alloc::{AllocError, Global};
 
 /// The constant of the name.

@@ -1,12 +1,12 @@
 //! Steps in short, with texts for names and terms.
 ghost use Rattle.std.specs.Prelude.{IfOk};
-ghost use Rattle.ab_logic.specs.Worlds.{Holds};
-ghost use Rattle.ab_logic.specs.declared.world.World.{World};
-ghost use Rattle.ab_rules.specs.Answers.{HoldsStep};
+ghost use Rattle.ab_print.specs.ab_logic.specs.Worlds.{Holds};
+ghost use Rattle.ab_print.specs.ab_logic.specs.declared.world.World.{World};
+ghost use Rattle.ab_kernel.specs.ab_rules.specs.Answers.{HoldsStep};
 
 use ab_kernel::{Label, Step};
-use ab_store::TermId;
-use ab_types::Name;
+use ab_print::below::store::TermId;
+use ab_print::below::types::Name;
 use std::alloc::{AllocError, Global};
 
 /// A rule, with the names of hypotheses, the term and the new names that it is told. An empty new name is an automatic

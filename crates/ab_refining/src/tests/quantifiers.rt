@@ -4,7 +4,7 @@ use super::moves::Move::{
 };
 use super::running::Answer::{Fails, Leads};
 use super::running::{Row, is_row};
-use ab_types::TableFault;
+use ab_print::below::types::TableFault;
 
 /// Formulas, steps to a goal, a step there, and its answer.
 static ROWS: [Row; 35] = [

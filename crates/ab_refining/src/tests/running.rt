@@ -1,6 +1,6 @@
 //! A proof that has come to a goal, a step there, and what it leads to.
 ghost use Rattle.std.specs.Prelude.{◌≡◌, IfOk, OnOk};
-ghost use Rattle.ab_logic.specs.Worlds.{IsWorld};
+ghost use Rattle.ab_print.specs.ab_logic.specs.Worlds.{IsWorld};
 ghost use Rattle.ab_kernel.specs.Layout.{IsProof};
 
 use super::letters::read;
@@ -10,8 +10,8 @@ use super::worlds::{new_world, sentence};
 use Answer::{Fails, Leads, Stuck};
 use ab_kernel::laws::a_proof_outlives_its_world;
 use ab_kernel::{KernelFault, Proof};
-use ab_logic::World;
-use ab_types::{Steps, TableFault};
+use ab_print::below::logic::World;
+use ab_print::below::types::{Steps, TableFault};
 use std::alloc::{AllocError, Global};
 use std::marker::Brand;
 

@@ -1,8 +1,8 @@
 //! Goals as texts of one line.
-ghost use Rattle.ab_logic.specs.Readings.{HoldsSequent};
-ghost use Rattle.ab_logic.specs.Worlds.{IsWorld};
+ghost use Rattle.ab_print.specs.ab_logic.specs.Readings.{HoldsSequent};
+ghost use Rattle.ab_print.specs.ab_logic.specs.Worlds.{IsWorld};
 
-use ab_logic::{Sequent, World};
+use ab_print::below::logic::{Sequent, World};
 use ab_print::show_term;
 use std::alloc::{AllocError, Global};
 

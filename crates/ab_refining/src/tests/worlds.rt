@@ -1,24 +1,24 @@
 //! The world of the tests: what is declared in it. Kinds `i` and `j`, constants, definitions and a theorem.
 ghost use Rattle.std.specs.Prelude.{◌≡◌, [], ◌∷◌, ◌++◌, true, map, IfOk, OnOk, All};
 ghost use Rattle.ab_term.specs.Names.{support};
-ghost use Rattle.ab_types.specs.Entries.{IsExtendedBy, signature};
-ghost use Rattle.ab_types.specs.Ids.{HoldsType};
-ghost use Rattle.ab_store.specs.Reading.{HoldsCell};
-ghost use Rattle.ab_clauses.specs.Proposed.{IsProposed};
-ghost use Rattle.ab_clauses.specs.Readings.{HoldsClause, clause_of};
-ghost use Rattle.ab_fits.specs.Cells.{variable_of};
-ghost use Rattle.ab_fits.specs.Fitting.{HoldsOnly};
-ghost use Rattle.ab_logic.specs.Declarations.{signature_in};
-ghost use Rattle.ab_logic.specs.Formulas.{IsFormula, IsSentence};
-ghost use Rattle.ab_logic.specs.Growth.{Grows};
-ghost use Rattle.ab_logic.specs.Worlds.{IsWorld, Holds, read as reading, declarations_of};
+ghost use Rattle.ab_print.specs.ab_types.specs.Entries.{IsExtendedBy, signature};
+ghost use Rattle.ab_print.specs.ab_types.specs.Ids.{HoldsType};
+ghost use Rattle.ab_print.specs.ab_store.specs.Reading.{HoldsCell};
+ghost use Rattle.ab_print.specs.ab_clauses.specs.Proposed.{IsProposed};
+ghost use Rattle.ab_print.specs.ab_clauses.specs.Readings.{HoldsClause, clause_of};
+ghost use Rattle.ab_print.specs.ab_fits.specs.Cells.{variable_of};
+ghost use Rattle.ab_print.specs.ab_fits.specs.Fitting.{HoldsOnly};
+ghost use Rattle.ab_print.specs.ab_logic.specs.Declarations.{signature_in};
+ghost use Rattle.ab_print.specs.ab_logic.specs.Formulas.{IsFormula, IsSentence};
+ghost use Rattle.ab_print.specs.ab_logic.specs.Growth.{Grows};
+ghost use Rattle.ab_print.specs.ab_logic.specs.Worlds.{IsWorld, Holds, read as reading, declarations_of};
 
 use super::letters::{constant, read, type_like};
-use ab_clauses::{Block, ClauseCells, ClauseTerm, ClauseTerms, Predicates};
-use ab_fits::fits_as_formula;
-use ab_logic::World;
-use ab_store::{CellId, TermId};
-use ab_types::{Name, Steps, TableFault, TypeId, TypeTable};
+use ab_print::below::clauses::{Block, ClauseCells, ClauseTerm, ClauseTerms, Predicates};
+use ab_print::below::fits::fits_as_formula;
+use ab_print::below::logic::World;
+use ab_print::below::store::{CellId, TermId};
+use ab_print::below::types::{Name, Steps, TableFault, TypeId, TypeTable};
 use std::alloc::{AllocError, Global};
 use std::marker::Brand;
 

@@ -7,7 +7,7 @@ pub struct Case {
     pub report: &'static [u8],
 }
 
-pub static CASES: [Case; 69] = [
+pub static CASES: [Case; 70] = [
     Case {
         script: b"",
         status: 0,
@@ -352,5 +352,10 @@ pub static CASES: [Case; 69] = [
         script: b"Kind i type. Type a i. Type b i. Type f i -> i. Define p : i -> prop by p X. Define q : i -> i -> prop by q X Y. Theorem t : (forall X, p X -> q X X -> q a X) -> p b -> q a b. intros. backchain H1 with X = a. backchain H1 with Y = a. backchain H9. backchain H1. backchain H2. unfold. search. abort. Theorem u : forall F, (forall X Y, q X Y -> p (F X)) -> q a b -> p (F a). intros. backchain H1. apply H1 to H2.",
         status: 1,
         report: b"[1]\n[2]\n[3]\n[4]\n[5]\n[6]\n[7]\n============================\n (forall X, p X -> q X X -> q a X) -> p b -> q a b\n[8]\nH1 : forall X, p X -> q X X -> q a X\nH2 : p b\n============================\n q a b\n[8] Refused 12 NoMatch\nH1 : forall X, p X -> q X X -> q a X\nH2 : p b\n============================\n q a b\n[8] Refused 3 Unknown Y\nH1 : forall X, p X -> q X X -> q a X\nH2 : p b\n============================\n q a b\n[8] Refused 10 NoHypothesis H9\nH1 : forall X, p X -> q X X -> q a X\nH2 : p b\n============================\n q a b\n[9]\nH1 : forall X, p X -> q X X -> q a X\nH2 : p b\n============================\n p b\nSubgoal 2 is:\n q b b\n[10]\nH1 : forall X, p X -> q X X -> q a X\nH2 : p b\n============================\n q b b\n[11]\nH1 : forall X, p X -> q X X -> q a X\nH2 : p b\n============================\n true\n[12] Proof completed: t.\n[12] Refused 9 WrongPlace\n[13]\n============================\n forall F, (forall X Y, q X Y -> p (F X)) -> q a b -> p (F a)\n[14]\nVariables: F\nH1 : forall X Y, q X Y -> p (F X)\nH2 : q a b\n============================\n p (F a)\n[14] Refused 14 Unresolved Y\nVariables: F\nH1 : forall X Y, q X Y -> p (F X)\nH2 : q a b\n============================\n p (F a)\n[15]\nVariables: F\nH1 : forall X Y, q X Y -> p (F X)\nH2 : q a b\nH3 : p (F a)\n============================\n p (F a)\n",
+    },
+    Case {
+        script: b"Kind nat type. Type z nat. Type s nat -> nat. Define nat : nat -> prop by nat z ; nat (s N) := nat N. Define plus : nat -> nat -> nat -> prop by plus z N N ; plus (s M) N (s K) := plus M N K. Type z nat. Type c foo. Theorem : true. Theorem x : nat. Theorem x : (y\\ true) (w\\ w). Define q : nat -> prop by plus z N N. intros. Show none. Theorem x : true. Kind k type. case H9. split.",
+        status: 1,
+        report: b"[1]\n[2]\n[3]\n[4]\n[5]\n[5] Refused 4 Clash z\n[5] Refused 3 Unknown foo\n[5] Refused 1 Syntax at 8\n[5] Refused 5 TypeClash at 12\n[5] Refused 6 Untyped at 13\n[5] Refused 8 BadHead clause 1\n[5] Refused 9 WrongPlace\n[5] Refused 3 Unknown none\n[6]\n============================\n true\n[6] Refused 9 WrongPlace\n============================\n true\n[6] Refused 10 NoHypothesis H9\n============================\n true\n[6] Refused 11 WrongShape\n============================\n true\n",
     },
 ];

@@ -1,5 +1,5 @@
-use Rattle.ab_logic.specs.Names.{IsNoVariable, IsNamedFor}
-use Rattle.ab_equate.proofs.Naming.{one_name}
+use Rattle.ab_goals.specs.ab_logic.specs.Names.{IsNoVariable, IsNamedFor}
+use Rattle.ab_analysis.specs.ab_equate.proofs.Naming.{one_name}
 use Rattle.ab_alike.proofs.Namings.{no_variable, named_for}
 use Rattle.ab_alike.proofs.Splitting.{split_also, unsplit_also, one_split, split_or_not, one_place}
 use Rattle.ab_alike.proofs.laws.defined_atoms_split_goals_in_one_way.Goals as goal

@@ -1,5 +1,5 @@
-use Rattle.ab_logic.specs.Names.{IsNoVariable, IsNamedFor}
-use Rattle.ab_equate.proofs.Naming.{one_name}
+use Rattle.ab_goals.specs.ab_logic.specs.Names.{IsNoVariable, IsNamedFor}
+use Rattle.ab_analysis.specs.ab_equate.proofs.Naming.{one_name}
 use Rattle.ab_alike.proofs.Namings.{no_variable, named_for}
 use Rattle.ab_alike.proofs.Outcomes.{apart_also, stuck_also, one_goal, becomes_also}
 use Rattle.ab_alike.proofs.laws.equations_have_one_outcome.Goals as goal

@@ -1,5 +1,5 @@
-use Rattle.ab_logic.specs.Names.{IsNamedFor}
-use Rattle.ab_logic.specs.Sequents.{goal_names}
+use Rattle.ab_goals.specs.ab_logic.specs.Names.{IsNamedFor}
+use Rattle.ab_goals.specs.ab_logic.specs.Sequents.{goal_names}
 use Rattle.ab_analysis.specs.Atoms.{choices_of}
 use Rattle.ab_alike.proofs.Namings.{named_for}
 use Rattle.ab_alike.proofs.Relabelling.{split_relabelled, unsplit_relabelled}

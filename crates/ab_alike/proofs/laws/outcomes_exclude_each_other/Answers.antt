@@ -1,4 +1,4 @@
-use Rattle.ab_logic.specs.Names.{IsNoVariable}
+use Rattle.ab_goals.specs.ab_logic.specs.Names.{IsNoVariable}
 use Rattle.ab_alike.proofs.Outcomes.{goal_or_apart, goal_or_stuck, apart_or_stuck}
 use Rattle.ab_alike.proofs.laws.outcomes_exclude_each_other.Goals as goal
 

@@ -1,19 +1,19 @@
 use Rattle.std.proofs.Common.{◌≡◌, List, ℕ, map, Some, sym, ◌∙◌, ap, subst}
 use Rattle.ab_term.specs.Typing.{Signature}
 use Rattle.ab_term.specs.Terms.{Nominal}
-use Rattle.ab_types.specs.Entries.{signature}
-use Rattle.ab_norm.specs.Nominals.{HoldsNominal}
+use Rattle.ab_instances.specs.ab_types.specs.Entries.{signature}
+use Rattle.ab_instances.specs.ab_norm.specs.Nominals.{HoldsNominal}
 use Rattle.std.specs.List.{All}
-use Rattle.ab_cases.specs.Choices.{outside}
-use Rattle.ab_cases.specs.Clauses.{Clause as Case}
-use Rattle.ab_solver.specs.Answers.{IsTypedPair}
-use Rattle.ab_logic.specs.Forms.{sign_of}
-use Rattle.ab_marks.specs.Marking.{marked_in}
-use Rattle.ab_store.specs.Trees.{tree_of}
-use Rattle.ab_clauses.specs.Kept.{Clause}
-use Rattle.ab_clauses.specs.Cases.{case_of, IsWellKept}
-use Rattle.ab_clauses.specs.Readings.{clause_of, name_of}
-use Rattle.ab_unifying.proofs.Growth.{grows_on}
+use Rattle.ab_instances.specs.ab_cases.specs.Choices.{outside}
+use Rattle.ab_instances.specs.ab_cases.specs.Clauses.{Clause as Case}
+use Rattle.ab_analysis.specs.ab_solver.specs.Answers.{IsTypedPair}
+use Rattle.ab_analysis.specs.ab_logic.specs.Forms.{sign_of}
+use Rattle.ab_analysis.specs.ab_marks.specs.Marking.{marked_in}
+use Rattle.ab_instances.specs.ab_store.specs.Trees.{tree_of}
+use Rattle.ab_instances.specs.ab_clauses.specs.Kept.{Clause}
+use Rattle.ab_instances.specs.ab_clauses.specs.Cases.{case_of, IsWellKept}
+use Rattle.ab_instances.specs.ab_clauses.specs.Readings.{clause_of, name_of}
+use Rattle.ab_instances.specs.ab_unifying.proofs.Growth.{grows_on}
 use Rattle.ab_instances.specs.Readings.{names_read}
 use Rattle.ab_instances.proofs.Made.{names_stay, names_held}
 use Rattle.ab_alternatives.specs.Made.{equate, trees_from}

@@ -1,5 +1,5 @@
 use Rattle.std.proofs.Common.{◌≤◌, map, take}
-use Rattle.ab_logic.specs.Readings.{sequent_of}
+use Rattle.ab_analysis.specs.ab_logic.specs.Readings.{sequent_of}
 use Rattle.ab_analysis.specs.Left.{case_of}
 use Rattle.ab_alternatives.specs.Readings.{defined_read, choice_read}
 use Rattle.ab_alternatives.specs.Going.{IsLater, ArePassed}

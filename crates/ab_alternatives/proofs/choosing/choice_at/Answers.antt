@@ -1,5 +1,5 @@
 use Rattle.std.proofs.Common.{◌≡◌, ◌<◌, List, length, get_or, sym, subst}
-use Rattle.ab_clauses.specs.declared.kept.ClauseTerm.{ClauseTerm}
+use Rattle.ab_instances.specs.ab_clauses.specs.declared.kept.ClauseTerm.{ClauseTerm}
 use Rattle.ab_instances.specs.Readings.{names_read}
 use Rattle.ab_alternatives.specs.Readings.{defined_read}
 use Rattle.ab_alternatives.specs.Counting.{choices_by, LiesIn}

@@ -1,6 +1,6 @@
 use Rattle.std.proofs.Common.{map, sym, ◌∙◌, ap}
-use Rattle.ab_types.specs.Ids.{type_of}
-use Rattle.ab_cases.specs.Choices.{choices}
+use Rattle.ab_instances.specs.ab_types.specs.Ids.{type_of}
+use Rattle.ab_instances.specs.ab_cases.specs.Choices.{choices}
 use Rattle.ab_instances.specs.Readings.{names_read}
 use Rattle.ab_alternatives.proofs.Placed.{none_by, listed_by}
 use Rattle.ab_alternatives.proofs.choosing.choices_by.Goals as goal

@@ -1,4 +1,4 @@
-use Rattle.ab_norm.proofs.Frame.{typed_on}
+use Rattle.ab_instances.specs.ab_norm.proofs.Frame.{typed_on}
 use Rattle.ab_alternatives.proofs.concluding.close_over.Goals as goal
 
 pub returns-clause-adds : goal.returns-clause-adds

@@ -2,14 +2,14 @@ use Rattle.std.specs.Prelude.{is_none}
 use Rattle.std.specs.List.{All}
 use Rattle.std.proofs.Common.{◌<◌, List, map, length, sym, ◌∙◌, ap, subst}
 use Rattle.std.proofs.lemmas.List.Elements.{All-filter}
-use Rattle.ab_types.specs.Ids.{type_of}
-use Rattle.ab_store.specs.declared.node.CellId.{CellId}
-use Rattle.ab_store.specs.declared.node.CellEntry.{CellEntry}
-use Rattle.ab_store.specs.Trees.{HoldsCell, cell_in, tree_of}
-use Rattle.ab_store.specs.Reading.{binding_of}
-use Rattle.ab_norm.proofs.Frame.{if_ok, typed_on, typed_from}
+use Rattle.ab_instances.specs.ab_types.specs.Ids.{type_of}
+use Rattle.ab_instances.specs.ab_store.specs.declared.node.CellId.{CellId}
+use Rattle.ab_instances.specs.ab_store.specs.declared.node.CellEntry.{CellEntry}
+use Rattle.ab_instances.specs.ab_store.specs.Trees.{HoldsCell, cell_in, tree_of}
+use Rattle.ab_instances.specs.ab_store.specs.Reading.{binding_of}
+use Rattle.ab_instances.specs.ab_norm.proofs.Frame.{if_ok, typed_on, typed_from}
 use Rattle.ab_instances.specs.Readings.{names_read}
-use Rattle.ab_equate.specs.Meanwhile.{unbound_of}
+use Rattle.ab_analysis.specs.ab_equate.specs.Meanwhile.{unbound_of}
 use Rattle.ab_alternatives.specs.Unfolding.{variable_at, closed_by}
 use Rattle.ab_alternatives.proofs.concluding.conclude.Goals as goal
 

@@ -1,5 +1,5 @@
 use Rattle.ab_term.specs.Terms.{constant, spine}
-use Rattle.ab_cases.proofs.Atoms.{atom_of}
+use Rattle.ab_instances.specs.ab_cases.proofs.Atoms.{atom_of}
 use Rattle.ab_alternatives.proofs.PlainChoice.{covered_by_plain}
 use Rattle.ab_alternatives.proofs.ByChoice.{covered_by_choice}
 use Rattle.ab_alternatives.proofs.laws.choices_cover.Goals as goal

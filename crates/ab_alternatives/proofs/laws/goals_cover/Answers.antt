@@ -1,8 +1,8 @@
 use Rattle.ab_term.specs.Terms.{constant, spine}
 use Rattle.ab_term.specs.Translation.{EqualPastHints}
 use Rattle.ab_term.specs.Names.{EqualUpToNames}
-use Rattle.ab_cases.proofs.Atoms.{atom_of}
-use Rattle.ab_logic.specs.Names.{IsNoVariable}
+use Rattle.ab_instances.specs.ab_cases.proofs.Atoms.{atom_of}
+use Rattle.ab_analysis.specs.ab_logic.specs.Names.{IsNoVariable}
 use Rattle.ab_analysis.specs.Left.{scope_of}
 use Rattle.std.proofs.Common.{codes}
 use Rattle.ab_alternatives.proofs.PlainChoice.{covered_by_plain}

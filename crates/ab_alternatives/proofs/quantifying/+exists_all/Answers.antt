@@ -1,4 +1,4 @@
-use Rattle.ab_norm.proofs.Frame.{typed_on}
+use Rattle.ab_instances.specs.ab_norm.proofs.Frame.{typed_on}
 use Rattle.ab_alternatives.proofs.quantifying.+exists_all.Goals as goal
 
 pub returns-in_ok-hint-in-len1-up-clause-adds : goal.returns-in_ok-hint-in-len1-up-clause-adds

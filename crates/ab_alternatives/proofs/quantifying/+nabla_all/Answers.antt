@@ -1,4 +1,4 @@
-use Rattle.ab_norm.proofs.Frame.{typed_on}
+use Rattle.ab_instances.specs.ab_norm.proofs.Frame.{typed_on}
 use Rattle.ab_alternatives.proofs.quantifying.+nabla_all.Goals as goal
 
 pub returns-in_ok-hint-in-len1-up-names-clause-adds :

@@ -1,4 +1,4 @@
-use Rattle.ab_norm.proofs.Frame.{typed_from, typed_more}
+use Rattle.ab_instances.specs.ab_norm.proofs.Frame.{typed_from, typed_more}
 use Rattle.ab_alternatives.proofs.quantifying.quantified.Goals as goal
 
 pub returns-in_err-closed-clause-adds : goal.returns-in_err-closed-clause-adds

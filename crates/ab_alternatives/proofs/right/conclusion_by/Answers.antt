@@ -1,10 +1,10 @@
 use Rattle.std.proofs.Common.{[], codes, ◌∙◌, subst}
-use Rattle.ab_store.specs.Trees.{tree_of}
-use Rattle.ab_solve.specs.Solving.{unified, apart, stuck, Solves}
-use Rattle.ab_unifying.proofs.Growth.{grows_on}
+use Rattle.ab_instances.specs.ab_store.specs.Trees.{tree_of}
+use Rattle.ab_instances.specs.ab_solve.specs.Solving.{unified, apart, stuck, Solves}
+use Rattle.ab_instances.specs.ab_unifying.proofs.Growth.{grows_on}
 use Rattle.ab_instances.specs.Readings.{names_read}
 use Rattle.ab_instances.proofs.Made.{names_stay, names_held}
-use Rattle.ab_logic.specs.Sequents.{Sequent}
+use Rattle.ab_analysis.specs.ab_logic.specs.Sequents.{Sequent}
 use Rattle.ab_alternatives.specs.Readings.{defined_read, choice_read}
 use Rattle.ab_alternatives.proofs.UnfoldingCase.{own_from, problem_is, conclusion_is}
 use Rattle.ab_alternatives.proofs.right.conclusion_by.Goals as goal

@@ -2,9 +2,9 @@ use Rattle.std.proofs.Common.{length, take, ◌∙◌, ap}
 use Rattle.std.proofs.lemmas.Result.{on_ok_weaker}
 use Rattle.ab_term.specs.Variables.{image}
 use Rattle.ab_term.specs.Sameness.{same_number}
-use Rattle.ab_store.specs.Trees.{tree_of}
-use Rattle.ab_cases.specs.Clauses.{put_together}
-use Rattle.ab_unifying.specs.Problem.{variables_read}
+use Rattle.ab_instances.specs.ab_store.specs.Trees.{tree_of}
+use Rattle.ab_instances.specs.ab_cases.specs.Clauses.{put_together}
+use Rattle.ab_instances.specs.ab_unifying.specs.Problem.{variables_read}
 use Rattle.ab_instances.specs.Readings.{trees_at}
 use Rattle.ab_alternatives.proofs.trying.bind_raised.Goals as goal
 

@@ -3,16 +3,16 @@ use Rattle.std.specs.List.{All}
 use Rattle.std.proofs.Common.{◌≡◌, ◌++◌, length, take, refl, sym, ◌∙◌, ap, subst}
 use Rattle.std.proofs.lemmas.List.Elements.{All-weaker, All-contains, Contains-append_left, Contains-append_right}
 use Rattle.ab_term.proofs.Lists.{All-from_contains}
-use Rattle.ab_store.specs.declared.node.CellId.{CellId}
-use Rattle.ab_unifying.specs.Changed.{IsFree}
-use Rattle.ab_unifying.specs.Problem.{cells_read}
-use Rattle.ab_unifying.proofs.Growth.{grows_on}
-use Rattle.ab_solver.specs.Answers.{IsTypedPair}
-use Rattle.ab_logic.specs.Names.{IsNamedFor}
-use Rattle.ab_logic.specs.Worlds.{HoldsCell, declarations_of}
-use Rattle.ab_logic.specs.Readings.{sequent_of}
-use Rattle.ab_equate.specs.Cases.{Case, Arises, NeverArises, IsOpen}
-use Rattle.ab_equate.specs.Meanwhile.{case_read}
+use Rattle.ab_instances.specs.ab_store.specs.declared.node.CellId.{CellId}
+use Rattle.ab_instances.specs.ab_unifying.specs.Changed.{IsFree}
+use Rattle.ab_instances.specs.ab_unifying.specs.Problem.{cells_read}
+use Rattle.ab_instances.specs.ab_unifying.proofs.Growth.{grows_on}
+use Rattle.ab_analysis.specs.ab_solver.specs.Answers.{IsTypedPair}
+use Rattle.ab_analysis.specs.ab_logic.specs.Names.{IsNamedFor}
+use Rattle.ab_analysis.specs.ab_logic.specs.Worlds.{HoldsCell, declarations_of}
+use Rattle.ab_analysis.specs.ab_logic.specs.Readings.{sequent_of}
+use Rattle.ab_analysis.specs.ab_equate.specs.Cases.{Case, Arises, NeverArises, IsOpen}
+use Rattle.ab_analysis.specs.ab_equate.specs.Meanwhile.{case_read}
 use Rattle.ab_alternatives.specs.Made.{case_put}
 use Rattle.ab_alternatives.proofs.trying.solve_alternative.Given.{Over}
 use Rattle.ab_alternatives.proofs.Solved.{u, declared, goal_formulas, same_pair, is_free, case_so}

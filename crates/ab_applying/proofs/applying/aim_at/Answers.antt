@@ -3,10 +3,10 @@ use Rattle.std.specs.Option.{option_map}
 use Rattle.std.proofs.Common.{◌≡◌, sym, ◌∙◌, ap, subst, rules}
 use Rattle.std.proofs.lemmas.List.Elements.{All-nil}
 use Rattle.ab_syntax.specs.Commands.{argument_of}
-use Rattle.ab_logic.specs.Readings.{sequent_of}
-use Rattle.ab_logic.specs.Worlds.{read}
-use Rattle.ab_taking.specs.Readings.{HoldsIfAny}
-use Rattle.ab_effects.specs.Using.{formulas_in}
+use Rattle.ab_staging.specs.ab_logic.specs.Readings.{sequent_of}
+use Rattle.ab_staging.specs.ab_logic.specs.Worlds.{read}
+use Rattle.ab_staging.specs.ab_taking.specs.Readings.{HoldsIfAny}
+use Rattle.ab_staging.specs.ab_effects.specs.Using.{formulas_in}
 use Rattle.ab_applying.proofs.applying.aim_at.Goals as goal
 
 pub returns-clause-aim : goal.returns-clause-aim

@@ -2,12 +2,12 @@ use Rattle.std.specs.Prelude.{Err, ◌≡◌, map}
 use Rattle.std.proofs.Common.{inl, inr, refl, sym, ◌∙◌, ap, subst}
 use Rattle.ab_grammar.specs.CommandTrees as told
 use Rattle.ab_syntax.specs.Commands.{argument_of, instance_of}
-use Rattle.ab_logic.specs.Readings.{sequent_of}
-use Rattle.ab_naming.specs.Labels.{label_of}
-use Rattle.ab_kernel.proofs.Later.{same_history, still_proof}
-use Rattle.ab_progress.specs.Applied.{IsRefused}
-use Rattle.ab_progress.specs.declared.fault.ProofCommandFault.TheVariants.{NamesSpent, Memory}
-use Rattle.ab_progress.proofs.Following.{follows_on}
+use Rattle.ab_staging.specs.ab_logic.specs.Readings.{sequent_of}
+use Rattle.ab_staging.specs.ab_naming.specs.Labels.{label_of}
+use Rattle.ab_staging.specs.ab_kernel.proofs.Later.{same_history, still_proof}
+use Rattle.ab_staging.specs.ab_progress.specs.Applied.{IsRefused}
+use Rattle.ab_staging.specs.ab_progress.specs.declared.fault.ProofCommandFault.TheVariants.{NamesSpent, Memory}
+use Rattle.ab_staging.specs.ab_progress.proofs.Following.{follows_on}
 use Rattle.ab_giving.proofs.Given.{same_fault}
 use Rattle.ab_applying.proofs.Carried.{first_sequent, same_goals, follows_world, refused_at, on_err, apply_done, apply_spent}
 use Rattle.ab_applying.proofs.applying.apply.Goals as goal

@@ -4,22 +4,22 @@ use Rattle.std.proofs.Common.{length, refl, sym, ◌∙◌, ap, subst, rules}
 use Rattle.std.proofs.lemmas.List.{length-map}
 use Rattle.ab_grammar.specs.CommandTrees as told
 use Rattle.ab_syntax.specs.Commands.{argument_of, instance_of}
-use Rattle.ab_logic.specs.Readings.{sequent_of}
-use Rattle.ab_logic.specs.Worlds.{read, declarations_of}
-use Rattle.ab_logic.proofs.Growing.{grows_on, still_held}
-use Rattle.ab_naming.specs.Labels.{label_of}
-use Rattle.ab_using.specs.Pieces.{pieces, antecedent_count, AllServe}
-use Rattle.ab_taking.specs.Readings.{given_of, HoldsIfAny}
-use Rattle.ab_matching.specs.Readings.{aim_of, MayBeUsed}
-use Rattle.ab_using.specs.Uses.{Aim}
-use Rattle.ab_using.specs.Answers.{IsUsedFor}
-use Rattle.ab_effects.specs.Effect.{effect, left_to_show}
-use Rattle.ab_effects.specs.Row.{leads}
-use Rattle.ab_effects.specs.Using.{formulas_in, using}
-use Rattle.ab_progress.specs.Applied.{RefusedBy}
+use Rattle.ab_staging.specs.ab_logic.specs.Readings.{sequent_of}
+use Rattle.ab_staging.specs.ab_logic.specs.Worlds.{read, declarations_of}
+use Rattle.ab_staging.specs.ab_logic.proofs.Growing.{grows_on, still_held}
+use Rattle.ab_staging.specs.ab_naming.specs.Labels.{label_of}
+use Rattle.ab_staging.specs.ab_using.specs.Pieces.{pieces, antecedent_count, AllServe}
+use Rattle.ab_staging.specs.ab_taking.specs.Readings.{given_of, HoldsIfAny}
+use Rattle.ab_staging.specs.ab_matching.specs.Readings.{aim_of, MayBeUsed}
+use Rattle.ab_staging.specs.ab_using.specs.Uses.{Aim}
+use Rattle.ab_staging.specs.ab_using.specs.Answers.{IsUsedFor}
+use Rattle.ab_staging.specs.ab_effects.specs.Effect.{effect, left_to_show}
+use Rattle.ab_staging.specs.ab_effects.specs.Row.{leads}
+use Rattle.ab_staging.specs.ab_effects.specs.Using.{formulas_in, using}
+use Rattle.ab_staging.specs.ab_progress.specs.Applied.{RefusedBy}
 use Rattle.ab_giving.specs.Giving.{AreGiven, AreNotGiven}
 use Rattle.ab_giving.proofs.Given.{same_fault}
-use Rattle.ab_progress.specs.declared.fault.ProofCommandFault.TheVariants.{Mark}
+use Rattle.ab_staging.specs.ab_progress.specs.declared.fault.ProofCommandFault.TheVariants.{Mark}
 use Rattle.ab_applying.specs.Asked.{Reads}
 use Rattle.ab_applying.proofs.Rows.{apply_ungiven, apply_unserved, apply_unused}
 use Rattle.ab_applying.proofs.Usable.{IsGiven, sequent_here, apply_aim, apply_usable, serve_here, serve_there, unused_here, used_here}

@@ -1,16 +1,16 @@
 use Rattle.std.specs.Prelude.{◌≡◌, ℕ, List, ◌∷◌, None, map, All}
 use Rattle.std.proofs.Common.{length, sym, ◌∙◌, ap, subst, rules}
 use Rattle.std.proofs.lemmas.List.{length-map}
-use Rattle.ab_store.specs.Trees.{Read}
-use Rattle.ab_store.specs.declared.node.TermId.{TermId}
-use Rattle.ab_logic.specs.Sequents.{Sequent, formula_of}
-use Rattle.ab_logic.specs.Worlds.{read}
-use Rattle.ab_naming.specs.Labels.{label_of}
-use Rattle.ab_taking.specs.Readings.{given_of}
-use Rattle.ab_taking.specs.declared.given.GivenTerm.{GivenTerm}
-use Rattle.ab_progress.specs.Progress.{goals_of}
-use Rattle.ab_progress.proofs.Following.{follows_on}
-use Rattle.ab_left.proofs.Moves.{on_ok}
+use Rattle.ab_staging.specs.ab_store.specs.Trees.{Read}
+use Rattle.ab_staging.specs.ab_store.specs.declared.node.TermId.{TermId}
+use Rattle.ab_staging.specs.ab_logic.specs.Sequents.{Sequent, formula_of}
+use Rattle.ab_staging.specs.ab_logic.specs.Worlds.{read}
+use Rattle.ab_staging.specs.ab_naming.specs.Labels.{label_of}
+use Rattle.ab_staging.specs.ab_taking.specs.Readings.{given_of}
+use Rattle.ab_staging.specs.ab_taking.specs.declared.given.GivenTerm.{GivenTerm}
+use Rattle.ab_staging.specs.ab_progress.specs.Progress.{goals_of}
+use Rattle.ab_staging.specs.ab_progress.proofs.Following.{follows_on}
+use Rattle.ab_staging.specs.ab_left.proofs.Moves.{on_ok}
 use Rattle.ab_staging.specs.Standing.{ShowsAll, OpensBeside, CantOpenBeside}
 use Rattle.ab_applying.proofs.Usable.{IsGiven, all_later, still_given, formulas_later}
 use Rattle.ab_applying.proofs.Carried.{Cuts, cut_two, own_there, leaves_opened, cant_open_result, stages_there, formulas_there}

@@ -3,13 +3,13 @@ use Rattle.std.specs.Option.{option_map, option_copied}
 use Rattle.std.proofs.Common.{◌≡◌, sym, ◌∙◌, ap, subst}
 use Rattle.ab_grammar.specs.CommandTrees as told
 use Rattle.ab_syntax.specs.Commands.{argument_of}
-use Rattle.ab_logic.specs.Readings.{sequent_of}
-use Rattle.ab_logic.specs.Worlds.{read, declarations_of}
-use Rattle.ab_naming.specs.Labels.{label_of}
-use Rattle.ab_effects.specs.Effect.{effect}
-use Rattle.ab_effects.specs.Refusals.{clash, no_hypothesis}
-use Rattle.ab_progress.specs.Applied.{RefusedBy}
-use Rattle.ab_progress.specs.declared.fault.ProofCommandFault.TheVariants.{Clash}
+use Rattle.ab_staging.specs.ab_logic.specs.Readings.{sequent_of}
+use Rattle.ab_staging.specs.ab_logic.specs.Worlds.{read, declarations_of}
+use Rattle.ab_staging.specs.ab_naming.specs.Labels.{label_of}
+use Rattle.ab_staging.specs.ab_effects.specs.Effect.{effect}
+use Rattle.ab_staging.specs.ab_effects.specs.Refusals.{clash, no_hypothesis}
+use Rattle.ab_staging.specs.ab_progress.specs.Applied.{RefusedBy}
+use Rattle.ab_staging.specs.ab_progress.specs.declared.fault.ProofCommandFault.TheVariants.{Clash}
 use Rattle.ab_applying.proofs.Rows.{apply_clash, apply_unnamed, apply_missing}
 use Rattle.ab_applying.proofs.applying.look_up.Goals as goal
 

@@ -4,10 +4,10 @@ use Rattle.std.proofs.Common.{◌≡◌, ◌∷◌, map, sym, ◌∙◌, ap, sub
 use Rattle.std.proofs.lemmas.List.{take_all}
 use Rattle.std.proofs.lemmas.List.Elements.{All-push}
 use Rattle.ab_syntax.specs.Commands.{argument_of}
-use Rattle.ab_logic.specs.Readings.{sequent_of}
-use Rattle.ab_logic.specs.Worlds.{read}
-use Rattle.ab_taking.specs.Readings.{HoldsIfAny}
-use Rattle.ab_effects.specs.Using.{formulas_in}
+use Rattle.ab_staging.specs.ab_logic.specs.Readings.{sequent_of}
+use Rattle.ab_staging.specs.ab_logic.specs.Worlds.{read}
+use Rattle.ab_staging.specs.ab_taking.specs.Readings.{HoldsIfAny}
+use Rattle.ab_staging.specs.ab_effects.specs.Using.{formulas_in}
 use Rattle.ab_applying.proofs.Named.{formula_added}
 use Rattle.ab_applying.proofs.asking.add_formulas.Goals as goal
 

@@ -2,11 +2,11 @@ use Rattle.std.specs.Prelude.{All}
 use Rattle.std.specs.Option.{option_map}
 use Rattle.std.proofs.Common.{◌≡◌, ◌++◌, take, map}
 use Rattle.ab_syntax.specs.Commands.{argument_of}
-use Rattle.ab_logic.specs.Readings.{sequent_of, HoldsSequent}
-use Rattle.ab_logic.specs.Worlds.{read}
-use Rattle.ab_logic.specs.declared.world.World.{World}
-use Rattle.ab_taking.specs.Readings.{HoldsIfAny}
-use Rattle.ab_effects.specs.Using.{formulas_in}
+use Rattle.ab_staging.specs.ab_logic.specs.Readings.{sequent_of, HoldsSequent}
+use Rattle.ab_staging.specs.ab_logic.specs.Worlds.{read}
+use Rattle.ab_staging.specs.ab_logic.specs.declared.world.World.{World}
+use Rattle.ab_staging.specs.ab_taking.specs.Readings.{HoldsIfAny}
+use Rattle.ab_staging.specs.ab_effects.specs.Using.{formulas_in}
 use Rattle.ab_applying.proofs.asking.add_formulas.Given as goal
 
 abbrev pub invariant-loop-argument : goal.invariant-loop-argument

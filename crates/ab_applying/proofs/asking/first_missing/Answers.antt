@@ -1,8 +1,8 @@
 use Rattle.std.specs.Prelude.{Some, None}
 use Rattle.std.specs.Option.{option_map, option_copied}
 use Rattle.std.proofs.Common.{sym, ◌∙◌, ap}
-use Rattle.ab_logic.specs.Readings.{sequent_of}
-use Rattle.ab_effects.specs.Refusals.{no_hypothesis}
+use Rattle.ab_staging.specs.ab_logic.specs.Readings.{sequent_of}
+use Rattle.ab_staging.specs.ab_effects.specs.Refusals.{no_hypothesis}
 use Rattle.ab_applying.proofs.Named.{missing_here, missing_later}
 use Rattle.ab_applying.proofs.asking.first_missing.Goals as goal
 

@@ -1,9 +1,9 @@
 use Rattle.std.proofs.Common.{◌≡◌, drop, map}
 use Rattle.ab_syntax.specs.Commands.{argument_of}
-use Rattle.ab_logic.specs.Readings.{sequent_of}
-use Rattle.ab_logic.specs.declared.world.World.{World}
-use Rattle.ab_effects.specs.Effect.{missing}
-use Rattle.ab_effects.specs.Using.{names_in}
+use Rattle.ab_staging.specs.ab_logic.specs.Readings.{sequent_of}
+use Rattle.ab_staging.specs.ab_logic.specs.declared.world.World.{World}
+use Rattle.ab_staging.specs.ab_effects.specs.Effect.{missing}
+use Rattle.ab_staging.specs.ab_effects.specs.Using.{names_in}
 use Rattle.ab_applying.proofs.asking.first_missing.Given as goal
 
 abbrev pub invariant-loop-argument : goal.invariant-loop-argument

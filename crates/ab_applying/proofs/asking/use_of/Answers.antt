@@ -1,13 +1,13 @@
 use Rattle.std.specs.Prelude.{[], Err}
 use Rattle.std.proofs.Common.{◌≡◌, suc, ◌+◌, inl, inr, sym, ◌∙◌, ap, subst, arith}
-use Rattle.ab_using.specs.Answers.{NothingMatches, IsOutsideAt, IsLeftOpen}
-use Rattle.ab_matching.specs.Readings.{using_of, Finds}
-use Rattle.ab_effects.specs.Effect.{left_to_show}
-use Rattle.ab_effects.specs.Refusals.{not_pattern}
-use Rattle.ab_effects.specs.Row.{leads, Refuses}
-use Rattle.ab_effects.specs.Using.{apart, outside, left_open}
-use Rattle.ab_progress.specs.Applied.{RefusedBy}
-use Rattle.ab_progress.specs.declared.fault.ProofCommandFault.TheVariants.{NoMatch, NotPattern, Unresolved, Memory}
+use Rattle.ab_staging.specs.ab_using.specs.Answers.{NothingMatches, IsOutsideAt, IsLeftOpen}
+use Rattle.ab_staging.specs.ab_matching.specs.Readings.{using_of, Finds}
+use Rattle.ab_staging.specs.ab_effects.specs.Effect.{left_to_show}
+use Rattle.ab_staging.specs.ab_effects.specs.Refusals.{not_pattern}
+use Rattle.ab_staging.specs.ab_effects.specs.Row.{leads, Refuses}
+use Rattle.ab_staging.specs.ab_effects.specs.Using.{apart, outside, left_open}
+use Rattle.ab_staging.specs.ab_progress.specs.Applied.{RefusedBy}
+use Rattle.ab_staging.specs.ab_progress.specs.declared.fault.ProofCommandFault.TheVariants.{NoMatch, NotPattern, Unresolved, Memory}
 use Rattle.ab_applying.proofs.asking.use_of.Goals as goal
 
 pub returns-in-NoMatch-clause-refused : goal.returns-in-NoMatch-clause-refused

@@ -2,20 +2,20 @@ use Rattle.std.specs.Prelude.{◌≡◌, ℕ, [], Some, None, map, All, Bool, fa
 use Rattle.std.proofs.Common.{refl, sym, ◌∙◌, ap, subst, rules}
 use Rattle.ab_grammar.specs.CommandTrees as told
 use Rattle.ab_syntax.specs.Commands.{instance_of}
-use Rattle.ab_logic.specs.Marks.{MarksServeIn}
-use Rattle.ab_logic.specs.Readings.{sequent_of}
-use Rattle.ab_logic.specs.Worlds.{read, declarations_of}
-use Rattle.ab_logic.proofs.Growing.{grows_on, still_held}
-use Rattle.ab_using.specs.Pieces.{pieces, behind, antecedent_count}
-use Rattle.ab_using.specs.Answers.{IsUsedFor}
-use Rattle.ab_using.specs.Uses.{Aim}
-use Rattle.ab_taking.specs.Readings.{given_of, HoldsIfAny}
-use Rattle.ab_matching.specs.Readings.{aim_of, MayBeUsed}
-use Rattle.ab_effects.specs.Effect.{effect, left_to_show, repeated}
-use Rattle.ab_effects.specs.Row.{leads}
-use Rattle.ab_effects.specs.Using.{formula_named, using}
-use Rattle.ab_progress.specs.Applied.{RefusedBy}
-use Rattle.ab_progress.specs.declared.fault.ProofCommandFault.TheVariants.{NoHypothesis, Mark}
+use Rattle.ab_staging.specs.ab_logic.specs.Marks.{MarksServeIn}
+use Rattle.ab_staging.specs.ab_logic.specs.Readings.{sequent_of}
+use Rattle.ab_staging.specs.ab_logic.specs.Worlds.{read, declarations_of}
+use Rattle.ab_staging.specs.ab_logic.proofs.Growing.{grows_on, still_held}
+use Rattle.ab_staging.specs.ab_using.specs.Pieces.{pieces, behind, antecedent_count}
+use Rattle.ab_staging.specs.ab_using.specs.Answers.{IsUsedFor}
+use Rattle.ab_staging.specs.ab_using.specs.Uses.{Aim}
+use Rattle.ab_staging.specs.ab_taking.specs.Readings.{given_of, HoldsIfAny}
+use Rattle.ab_staging.specs.ab_matching.specs.Readings.{aim_of, MayBeUsed}
+use Rattle.ab_staging.specs.ab_effects.specs.Effect.{effect, left_to_show, repeated}
+use Rattle.ab_staging.specs.ab_effects.specs.Row.{leads}
+use Rattle.ab_staging.specs.ab_effects.specs.Using.{formula_named, using}
+use Rattle.ab_staging.specs.ab_progress.specs.Applied.{RefusedBy}
+use Rattle.ab_staging.specs.ab_progress.specs.declared.fault.ProofCommandFault.TheVariants.{NoHypothesis, Mark}
 use Rattle.ab_giving.specs.Giving.{AreGiven, AreNotGiven}
 use Rattle.ab_giving.proofs.Given.{same_fault}
 use Rattle.ab_applying.specs.Asked.{Reads}

@@ -2,10 +2,10 @@ use Rattle.std.specs.Prelude.{Err, ◌≡◌, map}
 use Rattle.std.proofs.Common.{refl, sym, ◌∙◌, ap, subst}
 use Rattle.ab_grammar.specs.CommandTrees as told
 use Rattle.ab_syntax.specs.Commands.{instance_of}
-use Rattle.ab_logic.specs.Readings.{sequent_of}
-use Rattle.ab_kernel.proofs.Later.{same_history, still_proof}
-use Rattle.ab_progress.specs.Applied.{IsRefused}
-use Rattle.ab_progress.proofs.Following.{follows_on}
+use Rattle.ab_staging.specs.ab_logic.specs.Readings.{sequent_of}
+use Rattle.ab_staging.specs.ab_kernel.proofs.Later.{same_history, still_proof}
+use Rattle.ab_staging.specs.ab_progress.specs.Applied.{IsRefused}
+use Rattle.ab_staging.specs.ab_progress.proofs.Following.{follows_on}
 use Rattle.ab_giving.proofs.Given.{same_fault}
 use Rattle.ab_applying.proofs.Carried.{first_sequent, same_goals, follows_world, refused_at, on_err, backchain_done}
 use Rattle.ab_applying.proofs.backchaining.backchain.Goals as goal

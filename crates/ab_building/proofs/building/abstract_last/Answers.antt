@@ -1,4 +1,4 @@
-use Rattle.ab_types.specs.Ids.{type_of}
+use Rattle.ab_fits.specs.ab_types.specs.Ids.{type_of}
 use Rattle.ab_term.specs.Terms.{lam}
 use Rattle.ab_building.specs.Values.{HoldsValue, turned, Popped}
 use Rattle.ab_building.proofs.Turned.{all_turned}

@@ -1,7 +1,7 @@
 use Rattle.std.proofs.Common.{◌≡◌, [], ◌∷◌, sym, subst}
-use Rattle.ab_types.specs.Ids.{type_of}
+use Rattle.ab_fits.specs.ab_types.specs.Ids.{type_of}
 use Rattle.ab_term.specs.Terms.{lam}
-use Rattle.ab_store.specs.declared.node.Head.TheVariants.{Logic}
+use Rattle.ab_fits.specs.ab_store.specs.declared.node.Head.TheVariants.{Logic}
 use Rattle.ab_infer.specs.Programs.{binding_of}
 use Rattle.ab_building.specs.declared.value.Value.TheVariants.{Given}
 use Rattle.ab_building.specs.Values.{HoldsValue, turned, Popped, Going}

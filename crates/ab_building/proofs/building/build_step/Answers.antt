@@ -1,9 +1,9 @@
 use Rattle.std.proofs.Common.{◌+◌, ◌<◌, ◌∷◌, length, refl, sym, subst, arith}
 use Rattle.std.proofs.lemmas.List.Elements.{All-nil}
-use Rattle.ab_store.specs.Trees.{Holds}
+use Rattle.ab_fits.specs.ab_store.specs.Trees.{Holds}
 use Rattle.ab_norm.proofs.Frame.{if_ok}
-use Rattle.ab_types.specs.Ids.{type_of}
-use Rattle.ab_solving.specs.Settling.{settled_at}
+use Rattle.ab_fits.specs.ab_types.specs.Ids.{type_of}
+use Rattle.ab_infer.specs.ab_solving.specs.Settling.{settled_at}
 use Rattle.ab_infer.specs.Programs.{item_of, OpTyped}
 use Rattle.ab_infer.specs.Inferences.{written_type}
 use Rattle.ab_infer.specs.Verdicts.{types_found}

@@ -1,9 +1,9 @@
 use Rattle.std.proofs.Common.{◌≡◌, [], ◌∷◌, ap, ◌∙◌, sym, subst}
 use Rattle.std.proofs.lemmas.List.Elements.{All-nil, All-cons}
 use Rattle.ab_norm.proofs.Frame.{typed_on}
-use Rattle.ab_store.specs.Trees.{Holds}
-use Rattle.ab_store.specs.declared.node.Head.TheVariants.{Logic}
-use Rattle.ab_store.specs.declared.node.Logical.TheVariants.{Equal}
+use Rattle.ab_fits.specs.ab_store.specs.Trees.{Holds}
+use Rattle.ab_fits.specs.ab_store.specs.declared.node.Head.TheVariants.{Logic}
+use Rattle.ab_fits.specs.ab_store.specs.declared.node.Logical.TheVariants.{Equal}
 use Rattle.ab_building.specs.declared.value.Value.TheVariants.{Given}
 use Rattle.ab_building.specs.Values.{HoldsValue, turned, Popped, Going}
 use Rattle.ab_building.proofs.Turned.{all_turned}

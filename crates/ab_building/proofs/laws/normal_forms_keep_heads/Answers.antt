@@ -1,5 +1,5 @@
 use Rattle.std.proofs.Common.{[]}
-use Rattle.ab_readings.specs.Normal.{normal_form}
+use Rattle.ab_infer.specs.ab_readings.specs.Normal.{normal_form}
 use Rattle.ab_building.specs.Heads.{IsOrdinary, IsFixed}
 use Rattle.ab_building.proofs.Normalising.{normal_form_typed}
 use Rattle.ab_building.proofs.HeadsKept.{heads_kept}

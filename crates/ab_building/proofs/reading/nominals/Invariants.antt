@@ -1,6 +1,6 @@
 use Rattle.std.proofs.Common.{◌≡◌, ℕ, ◌+◌, ◌<◌, length, get_or}
-use Rattle.ab_store.specs.declared.node.Head.TheVariants.{Nominal}
-use Rattle.ab_solving.specs.Settling.{settled_at}
+use Rattle.ab_fits.specs.ab_store.specs.declared.node.Head.TheVariants.{Nominal}
+use Rattle.ab_infer.specs.ab_solving.specs.Settling.{settled_at}
 use Rattle.ab_building.specs.Building.{head_at}
 use Rattle.ab_building.proofs.reading.nominals.Given as goal
 

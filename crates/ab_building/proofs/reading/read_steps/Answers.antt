@@ -1,7 +1,7 @@
 use Rattle.std.proofs.Common.{[], ◌∷◌, length, sym, subst}
-use Rattle.ab_types.specs.Ids.{type_of}
+use Rattle.ab_fits.specs.ab_types.specs.Ids.{type_of}
 use Rattle.ab_norm.proofs.Frame.{typed_none, if_ok}
-use Rattle.ab_readings.specs.Answers.{IsTheReading}
+use Rattle.ab_infer.specs.ab_readings.specs.Answers.{IsTheReading}
 use Rattle.ab_infer.specs.Sketches.{erase, term_of}
 use Rattle.ab_infer.specs.Programs.{Runs}
 use Rattle.ab_infer.specs.Verdicts.{types_found}

@@ -1,8 +1,8 @@
 use Rattle.std.proofs.Common.{codes, ap, sym, ◌∙◌}
-use Rattle.ab_types.specs.Ids.{type_of}
+use Rattle.ab_fits.specs.ab_types.specs.Ids.{type_of}
 use Rattle.ab_term.specs.Terms.{no_terms}
 use Rattle.ab_term.specs.Expansion.{expansion_of}
-use Rattle.ab_store.specs.Trees.{head_reading}
+use Rattle.ab_fits.specs.ab_store.specs.Trees.{head_reading}
 use Rattle.ab_norm.proofs.Frame.{if_ok}
 use Rattle.ab_building.specs.Values.{means, trees_of}
 use Rattle.ab_building.proofs.Means.{finished}

@@ -1,9 +1,9 @@
 use Rattle.std.proofs.Common.{codes, ap, sym, ◌∙◌}
-use Rattle.ab_types.specs.Ids.{type_of}
+use Rattle.ab_fits.specs.ab_types.specs.Ids.{type_of}
 use Rattle.ab_term.specs.Terms.{term, joined}
 use Rattle.ab_term.specs.Expansion.{expansion_of}
-use Rattle.ab_store.specs.Trees.{head_reading, tree_of}
-use Rattle.ab_readings.specs.Normal.{left_type}
+use Rattle.ab_fits.specs.ab_store.specs.Trees.{head_reading, tree_of}
+use Rattle.ab_infer.specs.ab_readings.specs.Normal.{left_type}
 use Rattle.ab_building.specs.Values.{means, trees_of}
 use Rattle.ab_building.proofs.Means.{head_given}
 use Rattle.ab_building.proofs.value.given.Goals as goal

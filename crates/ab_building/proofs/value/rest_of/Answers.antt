@@ -1,6 +1,6 @@
 use Rattle.std.proofs.Common.{ap, sym, ◌∙◌}
-use Rattle.ab_types.specs.Ids.{kind_of}
-use Rattle.ab_readings.specs.Normal.{left_type}
+use Rattle.ab_fits.specs.ab_types.specs.Ids.{kind_of}
+use Rattle.ab_infer.specs.ab_readings.specs.Normal.{left_type}
 use Rattle.ab_term.specs.Terms.{term}
 use Rattle.ab_building.proofs.Means.{left_kind}
 use Rattle.ab_building.proofs.value.rest_of.Goals as goal

@@ -1,6 +1,6 @@
 use Rattle.std.proofs.Common.{[], ◌+◌, ◌∙◌, arith}
-use Rattle.ab_store.proofs.Growing.{extended_on}
-use Rattle.ab_solving.specs.Settling.{settled_at}
+use Rattle.ab_closing.specs.ab_store.proofs.Growing.{extended_on}
+use Rattle.ab_elaborate.specs.ab_solving.specs.Settling.{settled_at}
 use Rattle.ab_clausal.proofs.Numbering.{next_cell, other_default}
 use Rattle.ab_clausal.proofs.cells.cells_for.Goals as goal
 

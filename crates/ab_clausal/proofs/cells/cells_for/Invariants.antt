@@ -1,5 +1,5 @@
 use Rattle.std.proofs.Common.{◌≡◌, ◌+◌, length}
-use Rattle.ab_solving.specs.Settling.{settled_at}
+use Rattle.ab_elaborate.specs.ab_solving.specs.Settling.{settled_at}
 use Rattle.ab_clausal.specs.Growth.{AddsVariables}
 use Rattle.ab_clausal.specs.Joining.{AreCells}
 use Rattle.ab_clausal.proofs.cells.cells_for.Given as goal

@@ -1,12 +1,12 @@
 use Rattle.std.proofs.Common.{[], length, sym, ap, ◌∙◌}
 use Rattle.std.proofs.lemmas.Result.{err_from_is_err_and}
-use Rattle.ab_types.specs.Entries.{type_in}
-use Rattle.ab_types.specs.Ids.{type_of}
-use Rattle.ab_types.proofs.Entries.{type_still_held}
+use Rattle.ab_closing.specs.ab_types.specs.Entries.{type_in}
+use Rattle.ab_closing.specs.ab_types.specs.Ids.{type_of}
+use Rattle.ab_closing.specs.ab_types.proofs.Entries.{type_still_held}
 use Rattle.ab_syntax.specs.Commands.{clause_of}
-use Rattle.ab_readings.specs.Scopes.{resolved}
-use Rattle.ab_resolving.specs.Scoping.{scope_of}
-use Rattle.ab_building.proofs.Larger.{type_more}
+use Rattle.ab_elaborate.specs.ab_readings.specs.Scopes.{resolved}
+use Rattle.ab_elaborate.specs.ab_resolving.specs.Scoping.{scope_of}
+use Rattle.ab_elaborate.specs.ab_building.proofs.Larger.{type_more}
 use Rattle.ab_elaborate.proofs.Scopes.{ground}
 use Rattle.ab_clausal.specs.Meanings.{body_type, body_found}
 use Rattle.ab_clausal.proofs.Answering.{adds_nothing, same_parts, none_found, row_parts, answered, meant, proposed}

@@ -1,9 +1,9 @@
 use Rattle.std.proofs.Common.{[], sym, ◌∙◌}
 use Rattle.std.proofs.lemmas.Result.{err_from_is_err_and}
-use Rattle.ab_types.specs.Ids.{type_of}
+use Rattle.ab_closing.specs.ab_types.specs.Ids.{type_of}
 use Rattle.ab_syntax.specs.Commands.{clause_of}
-use Rattle.ab_readings.specs.Scopes.{resolved}
-use Rattle.ab_resolving.specs.Scoping.{scope_of}
+use Rattle.ab_elaborate.specs.ab_readings.specs.Scopes.{resolved}
+use Rattle.ab_elaborate.specs.ab_resolving.specs.Scoping.{scope_of}
 use Rattle.ab_elaborate.proofs.Scopes.{ground}
 use Rattle.ab_clausal.specs.Meanings.{body_type, body_found}
 use Rattle.ab_clausal.proofs.Answering.{same_parts, names_failed, row_parts}

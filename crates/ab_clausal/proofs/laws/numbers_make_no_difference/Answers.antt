@@ -1,4 +1,4 @@
-use Rattle.ab_types.specs.Entries.{signature}
+use Rattle.ab_closing.specs.ab_types.specs.Entries.{signature}
 use Rattle.ab_clausal.specs.Meanings.{body_type}
 use Rattle.ab_clausal.proofs.Answering.{fine_parts}
 use Rattle.ab_clausal.proofs.Renaming.{first_clause, first_kept, one_clause}

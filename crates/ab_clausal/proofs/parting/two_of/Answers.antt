@@ -1,5 +1,5 @@
 use Rattle.std.proofs.Common.{length, ap, sym, ◌∙◌, arith}
-use Rattle.ab_store.specs.Trees.{node_tree, head_in, tree_of}
+use Rattle.ab_closing.specs.ab_store.specs.Trees.{node_tree, head_in, tree_of}
 use Rattle.ab_clausal.proofs.Walks.{two_given}
 use Rattle.ab_clausal.proofs.parting.two_of.Goals as goal
 

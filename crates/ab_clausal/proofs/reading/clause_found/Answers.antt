@@ -1,16 +1,16 @@
 use Rattle.std.specs.List.{All}
 use Rattle.std.specs.Prelude.{not}
 use Rattle.std.proofs.Common.{◌+◌, [], map, length, refl, sym, ap, ◌∙◌, subst}
-use Rattle.ab_types.specs.Entries.{signature}
-use Rattle.ab_store.specs.Trees.{tree_of}
-use Rattle.ab_store.specs.declared.node.Head.TheVariants.{Cell}
-use Rattle.ab_store.proofs.Growing.{extended_on}
-use Rattle.ab_norm.proofs.Frame.{if_ok}
-use Rattle.ab_readings.specs.Normal.{normal_form}
-use Rattle.ab_solving.specs.Settling.{settled_at}
-use Rattle.ab_infer.specs.Verdicts.{types_found}
-use Rattle.ab_building.specs.Building.{OpFits, IsBuilt}
-use Rattle.ab_clauses.specs.Readings.{clause_of}
+use Rattle.ab_closing.specs.ab_types.specs.Entries.{signature}
+use Rattle.ab_closing.specs.ab_store.specs.Trees.{tree_of}
+use Rattle.ab_closing.specs.ab_store.specs.declared.node.Head.TheVariants.{Cell}
+use Rattle.ab_closing.specs.ab_store.proofs.Growing.{extended_on}
+use Rattle.ab_closing.specs.ab_norm.proofs.Frame.{if_ok}
+use Rattle.ab_elaborate.specs.ab_readings.specs.Normal.{normal_form}
+use Rattle.ab_elaborate.specs.ab_solving.specs.Settling.{settled_at}
+use Rattle.ab_elaborate.specs.ab_infer.specs.Verdicts.{types_found}
+use Rattle.ab_elaborate.specs.ab_building.specs.Building.{OpFits, IsBuilt}
+use Rattle.ab_closing.specs.ab_clauses.specs.Readings.{clause_of}
 use Rattle.ab_clausal.specs.Meanings.{variable_from}
 use Rattle.ab_clausal.specs.Joining.{joiner, IsPair}
 use Rattle.ab_clausal.proofs.Numbering.{fits_later, heads_have, cells_held}

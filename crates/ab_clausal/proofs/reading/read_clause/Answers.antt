@@ -1,9 +1,9 @@
 use Rattle.std.specs.Prelude.{Ok}
 use Rattle.std.proofs.Common.{[], length, refl, sym, ◌∙◌, subst}
-use Rattle.ab_infer.specs.Verdicts.{IsVerdict}
-use Rattle.ab_infer.specs.declared.deciding.Verdict.TheVariants as verdict
+use Rattle.ab_elaborate.specs.ab_infer.specs.Verdicts.{IsVerdict}
+use Rattle.ab_elaborate.specs.ab_infer.specs.declared.deciding.Verdict.TheVariants as verdict
 use Rattle.ab_term.specs.Types.{prop}
-use Rattle.ab_building.proofs.Larger.{formulas_more, store_more}
+use Rattle.ab_elaborate.specs.ab_building.proofs.Larger.{formulas_more, store_more}
 use Rattle.ab_clausal.specs.Meanings.{variable_from, numbered_names}
 use Rattle.ab_clausal.specs.Joining.{joined, HasReading}
 use Rattle.ab_clausal.proofs.Answering.{adds_nothing}

@@ -1,7 +1,7 @@
-use Rattle.ab_types.proofs.Entries.{type_still_held}
-use Rattle.ab_norm.proofs.Frame.{if_ok}
-use Rattle.ab_walking.proofs.Grounds.{adds_both}
-use Rattle.ab_walking.proofs.Connectives.{adds_type}
+use Rattle.ab_closing.specs.ab_types.proofs.Entries.{type_still_held}
+use Rattle.ab_closing.specs.ab_norm.proofs.Frame.{if_ok}
+use Rattle.ab_elaborate.specs.ab_walking.proofs.Grounds.{adds_both}
+use Rattle.ab_elaborate.specs.ab_walking.proofs.Connectives.{adds_type}
 use Rattle.ab_clausal.proofs.Walks.{joins}
 use Rattle.ab_clausal.proofs.rows.joining_type.Goals as goal
 

@@ -2,14 +2,14 @@ use Rattle.std.specs.Prelude.{option_map}
 use Rattle.std.proofs.Common.{[], sym, ap, ◌∙◌, subst}
 use Rattle.std.proofs.lemmas.Result.{err_from_is_err_and}
 use Rattle.ab_term.specs.Types.{arrow}
-use Rattle.ab_types.specs.Ids.{type_of}
+use Rattle.ab_closing.specs.ab_types.specs.Ids.{type_of}
 use Rattle.ab_syntax.specs.Trees.{tree_of}
-use Rattle.ab_readings.specs.Scopes.{resolved}
-use Rattle.ab_resolving.specs.Scoping.{scope_of, names_in}
-use Rattle.ab_walking.specs.Rows.{Grew}
-use Rattle.ab_walking.proofs.Grounds.{adds_both, ground_more, same_scope}
-use Rattle.ab_walking.proofs.Cases.{same_place}
-use Rattle.ab_walking.proofs.Resolving.{fails_on}
+use Rattle.ab_elaborate.specs.ab_readings.specs.Scopes.{resolved}
+use Rattle.ab_elaborate.specs.ab_resolving.specs.Scoping.{scope_of, names_in}
+use Rattle.ab_elaborate.specs.ab_walking.specs.Rows.{Grew}
+use Rattle.ab_elaborate.specs.ab_walking.proofs.Grounds.{adds_both, ground_more, same_scope}
+use Rattle.ab_elaborate.specs.ab_walking.proofs.Cases.{same_place}
+use Rattle.ab_elaborate.specs.ab_walking.proofs.Resolving.{fails_on}
 use Rattle.ab_clausal.specs.Meanings as meanings
 use Rattle.ab_clausal.specs.Meanings.{body_found}
 use Rattle.ab_clausal.specs.Joining.{joined_found}

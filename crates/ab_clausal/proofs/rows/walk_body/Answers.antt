@@ -1,8 +1,8 @@
 use Rattle.std.specs.Prelude.{option_map}
 use Rattle.std.proofs.Common.{sym, subst}
 use Rattle.ab_syntax.specs.Trees.{tree_of}
-use Rattle.ab_resolving.specs.Scoping.{scope_of}
-use Rattle.ab_walking.specs.Rows.{Grew}
+use Rattle.ab_elaborate.specs.ab_resolving.specs.Scoping.{scope_of}
+use Rattle.ab_elaborate.specs.ab_walking.specs.Rows.{Grew}
 use Rattle.ab_clausal.specs.Meanings.{body_found}
 use Rattle.ab_clausal.proofs.Walks.{truth_put}
 use Rattle.ab_clausal.proofs.rows.walk_body.Goals as goal

@@ -1,6 +1,6 @@
 use Rattle.std.proofs.Common.{◌≡◌, map, sym, ap, ◌∙◌, subst}
 use Rattle.std.specs.Option.{option_map}
-use Rattle.ab_store.specs.Trees.{tree_of}
+use Rattle.ab_fits.specs.ab_store.specs.Trees.{tree_of}
 use Rattle.ab_clauses.specs.Stratification.{left_of_arrows, constants}
 use Rattle.ab_clauses.specs.Faults.{HasFault, in_head, in_body}
 use Rattle.ab_clauses.specs.Readings.{name_of, fault_of, clause_of}

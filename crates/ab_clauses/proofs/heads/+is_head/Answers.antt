@@ -1,7 +1,7 @@
 use Rattle.std.proofs.Common.{◌≡◌, ◌≤◌, length, arith, ap, ◌∙◌, map, subst}
-use Rattle.ab_store.specs.declared.node.Head.TheVariants.{Logic}
-use Rattle.ab_store.specs.declared.node.Logical.TheVariants.{Nabla}
-use Rattle.ab_store.specs.Naming.{NodeIsTyped, HeadIsTyped}
+use Rattle.ab_fits.specs.ab_store.specs.declared.node.Head.TheVariants.{Logic}
+use Rattle.ab_fits.specs.ab_store.specs.declared.node.Logical.TheVariants.{Nabla}
+use Rattle.ab_fits.specs.ab_store.specs.Naming.{NodeIsTyped, HeadIsTyped}
 use Rattle.ab_clauses.specs.Readings.{name_of}
 use Rattle.ab_clauses.proofs.Headed.{no_predicate, a_predicate, no_scope}
 use Rattle.ab_clauses.proofs.Walks.{if_ok, never}

@@ -1,8 +1,8 @@
 use Rattle.std.proofs.Common.{◌<◌, ◌≤◌, arith, get_or}
 use Rattle.std.specs.List.{All}
 use Rattle.std.proofs.lemmas.List.Elements.{All-same}
-use Rattle.ab_store.specs.declared.node.TermId.{TermId}
-use Rattle.ab_store.specs.Trees.{tree_of}
+use Rattle.ab_fits.specs.ab_store.specs.declared.node.TermId.{TermId}
+use Rattle.ab_fits.specs.ab_store.specs.Trees.{tree_of}
 use Rattle.ab_clauses.specs.Heads.{KeepsNames}
 use Rattle.ab_clauses.specs.Parts.{place_of}
 use Rattle.ab_clauses.proofs.Bounds.{ids_bound, bound_within, below_bound, spine_names}

@@ -1,7 +1,7 @@
 use Rattle.std.proofs.Common.{◌+◌, ◌*◌, take}
 use Rattle.std.specs.List.{All}
-use Rattle.ab_types.specs.Entries.{Table}
-use Rattle.ab_store.specs.Trees.{tree_of}
+use Rattle.ab_fits.specs.ab_types.specs.Entries.{Table}
+use Rattle.ab_fits.specs.ab_store.specs.Trees.{tree_of}
 use Rattle.ab_clauses.proofs.Bounds.{ids_bound}
 use Rattle.ab_clauses.specs.Heads.{KeepsNames}
 use Rattle.ab_clauses.specs.Looked.{AreKeeping}

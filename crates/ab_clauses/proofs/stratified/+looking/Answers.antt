@@ -3,9 +3,9 @@ use Rattle.std.specs.List.{All}
 use Rattle.std.specs.Option.{option_map}
 use Rattle.std.proofs.lemmas.List.Elements.{All-same}
 use Rattle.ab_term.specs.Terms.{terms_of}
-use Rattle.ab_store.specs.declared.node.TermId.{TermId}
-use Rattle.ab_store.specs.Naming.{NodeIsTyped}
-use Rattle.ab_store.specs.Trees.{tree_of, head_reading}
+use Rattle.ab_fits.specs.ab_store.specs.declared.node.TermId.{TermId}
+use Rattle.ab_fits.specs.ab_store.specs.Naming.{NodeIsTyped}
+use Rattle.ab_fits.specs.ab_store.specs.Trees.{tree_of, head_reading}
 use Rattle.ab_clauses.specs.Stratification.{constants, constants_of_all, own_constant, part_of_first}
 use Rattle.ab_clauses.specs.Readings.{name_of}
 use Rattle.ab_clauses.specs.Looked.{first_of}

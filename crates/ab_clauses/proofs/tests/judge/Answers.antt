@@ -1,8 +1,8 @@
 use Rattle.std.proofs.Common.{◌≡◌, [], ◌∷◌, sym, ◌∙◌, subst}
 use Rattle.std.specs.List.{All}
 use Rattle.std.proofs.lemmas.List.Elements.{All-nil, All-cons}
-use Rattle.ab_types.specs.Ids.{HoldsConstant}
-use Rattle.ab_store.specs.Trees.{HoldsCell}
+use Rattle.ab_fits.specs.ab_types.specs.Ids.{HoldsConstant}
+use Rattle.ab_fits.specs.ab_store.specs.Trees.{HoldsCell}
 use Rattle.ab_clauses.specs.Readings.{HoldsClause}
 use Rattle.ab_clauses.proofs.tests.judge.Goals as goal
 

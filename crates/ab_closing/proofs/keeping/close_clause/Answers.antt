@@ -1,7 +1,7 @@
 use Rattle.std.proofs.Common.{sym, subst}
 use Rattle.std.specs.List.{All}
 use Rattle.std.proofs.lemmas.List.Elements.{All-weaker}
-use Rattle.ab_store.specs.Trees.{HoldsCell}
+use Rattle.ab_patterns.specs.ab_store.specs.Trees.{HoldsCell}
 use Rattle.ab_closing.proofs.keeping.close_clause.Goals as goal
 
 pub returns-clause-held : goal.returns-clause-held

@@ -1,8 +1,8 @@
 use Rattle.std.proofs.Common.{◌≡◌, map, take}
 use Rattle.std.specs.Prelude.{filter, not}
 use Rattle.std.specs.List.{All}
-use Rattle.ab_types.specs.Entries.{Table}
-use Rattle.ab_store.specs.Trees.{HoldsCell, tree_of}
+use Rattle.ab_patterns.specs.ab_types.specs.Entries.{Table}
+use Rattle.ab_patterns.specs.ab_store.specs.Trees.{HoldsCell, tree_of}
 use Rattle.ab_clauses.specs.Readings.{variable_of}
 use Rattle.ab_closing.specs.Closed.{stands_in_body_alone}
 use Rattle.ab_closing.proofs.keeping.split_cells.Given as goal

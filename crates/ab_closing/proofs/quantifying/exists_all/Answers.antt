@@ -1,6 +1,6 @@
 use Rattle.std.proofs.Common.{map, length, ◌-◌, arith, refl, sym, ap}
-use Rattle.ab_store.specs.Trees.{tree_of}
-use Rattle.ab_norm.proofs.Frame.{adds_none, adds_on}
+use Rattle.ab_patterns.specs.ab_store.specs.Trees.{tree_of}
+use Rattle.ab_patterns.specs.ab_norm.proofs.Frame.{adds_none, adds_on}
 use Rattle.ab_clauses.specs.Readings.{variable_of}
 use Rattle.ab_closing.specs.Quantified as quantified
 use Rattle.ab_closing.proofs.Over.{none_left, one_over}

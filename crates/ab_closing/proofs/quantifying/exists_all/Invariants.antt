@@ -1,7 +1,7 @@
 use Rattle.std.proofs.Common.{◌≡◌, ◌-◌, length, map, drop}
-use Rattle.ab_types.specs.Entries.{Table}
-use Rattle.ab_store.specs.Trees.{Holds, tree_of}
-use Rattle.ab_norm.specs.Growth.{AddsTerms}
+use Rattle.ab_patterns.specs.ab_types.specs.Entries.{Table}
+use Rattle.ab_patterns.specs.ab_store.specs.Trees.{Holds, tree_of}
+use Rattle.ab_patterns.specs.ab_norm.specs.Growth.{AddsTerms}
 use Rattle.ab_clauses.specs.Readings.{variable_of}
 use Rattle.ab_closing.specs.Quantified as quantified
 use Rattle.ab_closing.proofs.quantifying.exists_all.Given as goal

@@ -1,5 +1,5 @@
 use Rattle.std.proofs.Common.{◌≡◌, ◌+◌, ◌-◌, ◌≤◌, ◌∙◌, subst, arith}
-use Rattle.ab_lex.proofs.Beginning.{begins_before_fault}
+use Rattle.ab_syntax.specs.ab_lex.proofs.Beginning.{begins_before_fault}
 use Rattle.ab_command.specs.Reading.{no_token}
 use Rattle.ab_command.proofs.reading.no_token.Goals as goal
 

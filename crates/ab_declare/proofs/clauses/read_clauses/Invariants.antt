@@ -1,8 +1,8 @@
 use Rattle.std.proofs.Common.{◌≡◌, map, take}
 use Rattle.ab_term.specs.Types.{prop}
-use Rattle.ab_types.specs.Entries.{kinds, constants, IsExtendedBy}
-use Rattle.ab_types.specs.Ids.{HoldsType, type_of}
-use Rattle.ab_types.specs.Sound.{IsTable}
+use Rattle.ab_sentences.specs.ab_types.specs.Entries.{kinds, constants, IsExtendedBy}
+use Rattle.ab_sentences.specs.ab_types.specs.Ids.{HoldsType, type_of}
+use Rattle.ab_sentences.specs.ab_types.specs.Sound.{IsTable}
 use Rattle.ab_syntax.specs.Commands.{clause_of}
 use Rattle.ab_clausal.specs.Growth.{AddsVariables}
 use Rattle.ab_declare.specs.Halting.{AreReadAs}

@@ -1,4 +1,4 @@
-use Rattle.ab_logic.specs.Worlds.{declarations_of}
+use Rattle.ab_sentences.specs.ab_logic.specs.Worlds.{declarations_of}
 use Rattle.ab_declare.specs.Declaring.{defines_nothing}
 use Rattle.ab_declare.proofs.defining.declare_definition.Goals as goal
 

@@ -1,5 +1,5 @@
 use Rattle.std.specs.Prelude.{◌≡◌, ◌++◌, map, take, None}
-use Rattle.ab_types.specs.Entries.{kinds, a_kind}
+use Rattle.ab_sentences.specs.ab_types.specs.Entries.{kinds, a_kind}
 use Rattle.ab_declare.specs.Declaring.{first_taken}
 use Rattle.ab_declare.proofs.kinds.add_kinds.Given as goal
 

@@ -1,6 +1,6 @@
 use Rattle.std.proofs.Common.{◌∙◌, ◌∷◌, [], map, take, drop, ◌+◌, sym, subst}
 use Rattle.std.proofs.lemmas.Result.{err_from_is_err_and}
-use Rattle.ab_types.proofs.Entries.{extended_twice}
+use Rattle.ab_sentences.specs.ab_types.proofs.Entries.{extended_twice}
 use Rattle.ab_syntax.specs.Commands.{defined_of}
 use Rattle.ab_declare.specs.Halting.{Halts, ArePut, ArentPut}
 use Rattle.ab_declare.proofs.Putting.{put_more, put_stops}

@@ -2,7 +2,7 @@ use Rattle.std.specs.Prelude.{None}
 use Rattle.std.proofs.Common.{refl, sym, ◌∙◌, subst}
 use Rattle.ab_grammar.specs.CommandTrees as command
 use Rattle.ab_syntax.specs.Trees.{tree_of}
-use Rattle.ab_logic.specs.Worlds.{read, declarations_of}
+use Rattle.ab_sentences.specs.ab_logic.specs.Worlds.{read, declarations_of}
 use Rattle.ab_declare.specs.declared.refusal.Refusal.TheVariants.{Clash}
 use Rattle.ab_declare.specs.Declaring.{Declines, theorem_taken}
 use Rattle.ab_declare.proofs.Concluding.{some_read, none_read}

@@ -1,15 +1,15 @@
 use Rattle.std.proofs.Common.{[], ◌∙◌}
 use Rattle.std.proofs.lemmas.Result.{err_from_is_err_and}
-use Rattle.ab_types.specs.Ids.{type_of}
-use Rattle.ab_types.proofs.Entries.{extended_by_itself, extended_twice, type_still_held}
+use Rattle.ab_walking.specs.ab_types.specs.Ids.{type_of}
+use Rattle.ab_walking.specs.ab_types.proofs.Entries.{extended_by_itself, extended_twice, type_still_held}
 use Rattle.ab_grammar.specs.Tree.{place_of}
 use Rattle.ab_syntax.specs.Trees.{tree_of}
-use Rattle.ab_norm.proofs.Frame.{typed_none}
-use Rattle.ab_readings.specs.Scopes.{resolved}
-use Rattle.ab_infer.specs.Sketches.{erase}
-use Rattle.ab_resolving.specs.Scoping as resolving
-use Rattle.ab_building.specs.Outcomes.{IsOutcome}
-use Rattle.ab_building.proofs.Larger.{store_more, type_more}
+use Rattle.ab_walking.specs.ab_norm.proofs.Frame.{typed_none}
+use Rattle.ab_walking.specs.ab_readings.specs.Scopes.{resolved}
+use Rattle.ab_walking.specs.ab_infer.specs.Sketches.{erase}
+use Rattle.ab_walking.specs.ab_resolving.specs.Scoping as resolving
+use Rattle.ab_walking.specs.ab_building.specs.Outcomes.{IsOutcome}
+use Rattle.ab_walking.specs.ab_building.proofs.Larger.{store_more, type_more}
 use Rattle.ab_elaborate.specs.Scoping.{scope_of}
 use Rattle.ab_elaborate.proofs.Scopes.{ground}
 use Rattle.ab_elaborate.proofs.Answering.{same_found, fails, answered, numbers_are, few, typed_here, fits_here, within_here, outcome_here}

@@ -1,6 +1,6 @@
 use Rattle.std.proofs.Common.{◌∙◌, lit<, refl}
-use Rattle.ab_types.proofs.Entries.{type_still_held}
-use Rattle.ab_building.proofs.Larger.{type_more}
+use Rattle.ab_walking.specs.ab_types.proofs.Entries.{type_still_held}
+use Rattle.ab_walking.specs.ab_building.proofs.Larger.{type_more}
 use Rattle.ab_walking.proofs.Grounds.{adds_both}
 use Rattle.ab_elaborate.proofs.ids.formulas.Goals as goal
 

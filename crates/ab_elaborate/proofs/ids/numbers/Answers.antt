@@ -1,6 +1,6 @@
 use Rattle.std.proofs.Common.{map, ap, ◌∙◌, arith}
 use Rattle.std.proofs.lemmas.List.{take_all}
-use Rattle.ab_building.specs.Outcomes.{number_of}
+use Rattle.ab_walking.specs.ab_building.specs.Outcomes.{number_of}
 use Rattle.ab_elaborate.proofs.Numbers.{are_numbers, one_more}
 use Rattle.ab_elaborate.proofs.ids.numbers.Goals as goal
 

@@ -1,5 +1,5 @@
 use Rattle.std.proofs.Common.{◌≡◌, map, take}
-use Rattle.ab_building.specs.Outcomes.{number_of}
+use Rattle.ab_walking.specs.ab_building.specs.Outcomes.{number_of}
 use Rattle.ab_elaborate.proofs.ids.numbers.Given as goal
 
 abbrev pub invariant-loop-name : goal.invariant-loop-name

@@ -2,12 +2,12 @@ use Rattle.std.specs.List.{All}
 use Rattle.std.specs.Prelude.{AllPairs, is_none}
 use Rattle.std.proofs.Common.{◌<◌, List, map, sym, subst, ◌∙◌}
 use Rattle.std.proofs.lemmas.List.Elements.{All-filter}
-use Rattle.ab_store.specs.declared.node.CellId.{CellId}
-use Rattle.ab_store.specs.Trees.{HoldsCell}
-use Rattle.ab_store.specs.Reading.{binding_of}
-use Rattle.ab_store.specs.Bindings.{IsUnbound}
-use Rattle.ab_norm.proofs.Frame.{if_ok}
-use Rattle.ab_logic.specs.Worlds.{variable_of}
+use Rattle.ab_naming.specs.ab_store.specs.declared.node.CellId.{CellId}
+use Rattle.ab_naming.specs.ab_store.specs.Trees.{HoldsCell}
+use Rattle.ab_naming.specs.ab_store.specs.Reading.{binding_of}
+use Rattle.ab_naming.specs.ab_store.specs.Bindings.{IsUnbound}
+use Rattle.ab_solver.specs.ab_norm.proofs.Frame.{if_ok}
+use Rattle.ab_naming.specs.ab_logic.specs.Worlds.{variable_of}
 use Rattle.ab_equate.specs.Meanwhile.{unbound_of, StandForAll}
 use Rattle.ab_equate.proofs.Going.{goes_on, still_meanwhile}
 use Rattle.ab_equate.proofs.CarryingOver.{unbound_all, pairs_pass, is_carried}

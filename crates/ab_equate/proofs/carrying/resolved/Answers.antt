@@ -1,9 +1,9 @@
 use Rattle.std.specs.List.{All}
 use Rattle.std.proofs.Common.{map, refl, sym, ap, subst, ◌∙◌}
-use Rattle.ab_store.specs.Trees.{Holds}
-use Rattle.ab_logic.specs.declared.sequent.Hypothesis.{Hypothesis}
+use Rattle.ab_naming.specs.ab_store.specs.Trees.{Holds}
+use Rattle.ab_naming.specs.ab_logic.specs.declared.sequent.Hypothesis.{Hypothesis}
 use Rattle.ab_equate.specs.Meanwhile.{unbound_of, hypothesis_at, hypothesis_read}
-use Rattle.ab_norm.proofs.Frame.{adds_on}
+use Rattle.ab_solver.specs.ab_norm.proofs.Frame.{adds_on}
 use Rattle.ab_equate.proofs.Going.{goes_terms}
 use Rattle.ab_equate.proofs.PuttingIn.{put_in_held, is_put_in}
 use Rattle.ab_equate.proofs.carrying.resolved.Goals as goal

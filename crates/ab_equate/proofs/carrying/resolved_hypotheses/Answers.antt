@@ -1,8 +1,8 @@
 use Rattle.std.proofs.Common.{arith, sym, ap, subst, ◌∙◌}
-use Rattle.ab_store.specs.Trees.{Holds}
-use Rattle.ab_store.specs.Reading.{reading}
-use Rattle.ab_logic.specs.declared.sequent.Hypothesis.{Hypothesis}
-use Rattle.ab_norm.proofs.Frame.{adds_on}
+use Rattle.ab_naming.specs.ab_store.specs.Trees.{Holds}
+use Rattle.ab_naming.specs.ab_store.specs.Reading.{reading}
+use Rattle.ab_naming.specs.ab_logic.specs.declared.sequent.Hypothesis.{Hypothesis}
+use Rattle.ab_solver.specs.ab_norm.proofs.Frame.{adds_on}
 use Rattle.ab_equate.proofs.Resolving.{resolved_more}
 use Rattle.ab_equate.proofs.carrying.resolved_hypotheses.Goals as goal
 

@@ -3,18 +3,18 @@ use Rattle.std.specs.Prelude.{AllPairs}
 use Rattle.std.proofs.Common.{◌≡◌, ◌<◌, List, ◌++◌, map, Ok, refl, sym, ap, subst, ◌∙◌, arith}
 use Rattle.std.proofs.lemmas.List.Elements.{All-weaker}
 use Rattle.ab_term.proofs.Lists.{All-from_contains}
-use Rattle.ab_store.specs.declared.node.CellId.{CellId}
-use Rattle.ab_store.specs.Trees.{HoldsCell}
-use Rattle.ab_unifying.specs.Problem.{cells_read, cell_read, problem}
-use Rattle.ab_unifying.specs.Changed.{Grows}
-use Rattle.ab_unifying.proofs.Growth.{grows_on}
+use Rattle.ab_naming.specs.ab_store.specs.declared.node.CellId.{CellId}
+use Rattle.ab_naming.specs.ab_store.specs.Trees.{HoldsCell}
+use Rattle.ab_solver.specs.ab_unifying.specs.Problem.{cells_read, cell_read, problem}
+use Rattle.ab_solver.specs.ab_unifying.specs.Changed.{Grows}
+use Rattle.ab_solver.specs.ab_unifying.proofs.Growth.{grows_on}
 use Rattle.ab_solver.specs.declared.solved.Solved.TheVariants.{Unified}
 use Rattle.ab_solver.specs.Answers.{HasSolution, AreNewCells, AreInAge}
 use Rattle.ab_solver.proofs.Cut.{cut_as_before, cut_grows}
-use Rattle.ab_logic.specs.Names.{IsNamedFor}
-use Rattle.ab_logic.specs.Worlds.{declarations_of}
-use Rattle.ab_logic.specs.Readings.{sequent_of}
-use Rattle.ab_logic.specs.declared.world.World.{World}
+use Rattle.ab_naming.specs.ab_logic.specs.Names.{IsNamedFor}
+use Rattle.ab_naming.specs.ab_logic.specs.Worlds.{declarations_of}
+use Rattle.ab_naming.specs.ab_logic.specs.Readings.{sequent_of}
+use Rattle.ab_naming.specs.ab_logic.specs.declared.world.World.{World}
 use Rattle.ab_equate.specs.Cases.{Arises}
 use Rattle.ab_equate.specs.Meanwhile.{count_before, case_read, IsCarried}
 use Rattle.ab_equate.proofs.Outcomes.{at_ok, at_unified, at_apart, at_stuck}

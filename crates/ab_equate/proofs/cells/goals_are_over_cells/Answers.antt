@@ -1,12 +1,12 @@
 use Rattle.std.specs.Prelude.{slice_get}
 use Rattle.std.proofs.Common.{◌≡◌, ℕ, zero, suc, ◌<◌, List, [], ◌∷◌, map, length, get_or, Some, refl, arith}
 use Rattle.std.proofs.lemmas.List.Elements.{All-map, All-weaker}
-use Rattle.ab_types.specs.Entries.{Table}
-use Rattle.ab_store.specs.declared.node.CellId.{CellId}
-use Rattle.ab_store.specs.declared.node.CellEntry.{CellEntry}
-use Rattle.ab_unifying.specs.Problem.{cell_read, cells_read}
-use Rattle.ab_logic.specs.Sequents.{Variable}
-use Rattle.ab_logic.specs.Worlds.{HoldsCell, variable_of}
+use Rattle.ab_naming.specs.ab_types.specs.Entries.{Table}
+use Rattle.ab_naming.specs.ab_store.specs.declared.node.CellId.{CellId}
+use Rattle.ab_naming.specs.ab_store.specs.declared.node.CellEntry.{CellEntry}
+use Rattle.ab_solver.specs.ab_unifying.specs.Problem.{cell_read, cells_read}
+use Rattle.ab_naming.specs.ab_logic.specs.Sequents.{Variable}
+use Rattle.ab_naming.specs.ab_logic.specs.Worlds.{HoldsCell, variable_of}
 use Rattle.ab_equate.proofs.cells.goals_are_over_cells.Goals as goal
 
 cell_at : (types : Table) (cells : List CellEntry) (i : ℕ) (d : CellEntry) → i < length cells → slice_get (map (cell_read types) cells) i ≡ Some (cell_read types (get_or cells i d))

@@ -2,7 +2,7 @@ use Rattle.ab_equate.proofs.One.{some_name}
 use Rattle.ab_equate.proofs.Naming.{one_name, named_new}
 use Rattle.ab_equate.proofs.Splits.{arises_not_never, arises_not_open, never_not_open, one_place_open, arises_once, case_answered, arises_more}
 use Rattle.ab_equate.proofs.laws.cases_have_one_outcome.Goals as goal
-use Rattle.ab_logic.specs.Names.{IsNoVariable, IsNamedFor}
+use Rattle.ab_naming.specs.ab_logic.specs.Names.{IsNoVariable, IsNamedFor}
 
 pub returns-clause-some : goal.returns-clause-some
 returns-clause-some c = λ k. case_answered (λ s hint name. IsNoVariable s name) k some_name

@@ -1,7 +1,7 @@
 use Rattle.ab_equate.proofs.One.{not_apart, not_stuck, apart_not_stuck, one_goal, becomes_more, answer_always, some_name, one_place}
 use Rattle.ab_equate.proofs.Naming.{one_name, named_new}
 use Rattle.ab_equate.proofs.laws.solving_has_one_answer.Goals as goal
-use Rattle.ab_logic.specs.Names.{IsNoVariable, IsNamedFor}
+use Rattle.ab_naming.specs.ab_logic.specs.Names.{IsNoVariable, IsNamedFor}
 
 pub returns-clause-some : goal.returns-clause-some
 returns-clause-some c = λ cells s t u. answer_always (λ k hint name. IsNoVariable k name) some_name cells s t u

@@ -2,7 +2,7 @@ use Rattle.ab_equate.proofs.One.{some_name}
 use Rattle.ab_equate.proofs.Naming.{one_name, named_new}
 use Rattle.ab_equate.proofs.Splits.{split_answered, not_both, split_once, one_place_unsplit, split_sequents}
 use Rattle.ab_equate.proofs.laws.splits_have_one_outcome.Goals as goal
-use Rattle.ab_logic.specs.Names.{IsNoVariable, IsNamedFor}
+use Rattle.ab_naming.specs.ab_logic.specs.Names.{IsNoVariable, IsNamedFor}
 
 pub returns-clause-some : goal.returns-clause-some
 returns-clause-some c = λ cells cs. split_answered (λ s hint name. IsNoVariable s name) some_name cells cs

@@ -1,10 +1,10 @@
 use Rattle.std.proofs.Common.{◌≡◌, List, [], ◌∷◌, Ok, ap, subst, ◌∙◌}
-use Rattle.ab_store.specs.declared.node.CellId.{CellId}
-use Rattle.ab_store.specs.declared.node.Equation.{Equation}
-use Rattle.ab_unifying.specs.Problem.{cells_read}
-use Rattle.ab_logic.specs.Names.{IsNamedFor}
-use Rattle.ab_logic.specs.Worlds.{read, declarations_of}
-use Rattle.ab_logic.specs.Readings.{sequent_of}
+use Rattle.ab_naming.specs.ab_store.specs.declared.node.CellId.{CellId}
+use Rattle.ab_naming.specs.ab_store.specs.declared.node.Equation.{Equation}
+use Rattle.ab_solver.specs.ab_unifying.specs.Problem.{cells_read}
+use Rattle.ab_naming.specs.ab_logic.specs.Names.{IsNamedFor}
+use Rattle.ab_naming.specs.ab_logic.specs.Worlds.{read, declarations_of}
+use Rattle.ab_naming.specs.ab_logic.specs.Readings.{sequent_of}
 use Rattle.ab_equate.specs.Solved.{Becomes}
 use Rattle.ab_equate.specs.Cases.{Case, Arises, NeverArises, IsOpen}
 use Rattle.ab_equate.specs.Meanwhile.{case_read}

@@ -1,7 +1,7 @@
 use Rattle.std.proofs.Common.{List, map, arith, refl, subst, ◌∙◌, take_all}
-use Rattle.ab_store.specs.declared.node.CellId.{CellId}
-use Rattle.ab_logic.specs.Worlds.{variable_of}
-use Rattle.ab_logic.specs.declared.world.World.{World}
+use Rattle.ab_naming.specs.ab_store.specs.declared.node.CellId.{CellId}
+use Rattle.ab_naming.specs.ab_logic.specs.Worlds.{variable_of}
+use Rattle.ab_naming.specs.ab_logic.specs.declared.world.World.{World}
 use Rattle.ab_equate.specs.Meanwhile.{GoesOn, StandForAll}
 use Rattle.ab_equate.proofs.Going.{goes_extended, goes_on, still_meanwhile}
 use Rattle.ab_equate.proofs.StandingAll.{stood_none, stood_more, next_held, next_unbound}

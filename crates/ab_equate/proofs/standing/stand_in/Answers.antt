@@ -1,6 +1,6 @@
 use Rattle.std.proofs.Common.{◌<◌, length, ap, arith}
-use Rattle.ab_logic.specs.declared.world.World.{World}
-use Rattle.ab_norm.proofs.Frame.{if_both}
+use Rattle.ab_naming.specs.ab_logic.specs.declared.world.World.{World}
+use Rattle.ab_solver.specs.ab_norm.proofs.Frame.{if_both}
 use Rattle.ab_equate.specs.Meanwhile.{GoesOn}
 use Rattle.ab_equate.proofs.Going.{goes_extended, goes_put, goes_on, still_goal}
 use Rattle.ab_equate.proofs.StandingOne.{not_in_itself, new_resolved, stands_for, bound_typed}

@@ -1,6 +1,6 @@
-use Rattle.ab_logic.specs.Worlds.{read}
-use Rattle.ab_progress.specs.Progress.{goals_of}
-use Rattle.ab_progress.proofs.Following.{one_at_least, follows_on}
+use Rattle.ab_left.specs.ab_logic.specs.Worlds.{read}
+use Rattle.ab_left.specs.ab_progress.specs.Progress.{goals_of}
+use Rattle.ab_left.specs.ab_progress.proofs.Following.{one_at_least, follows_on}
 use Rattle.ab_exchanging.proofs.Changed.{in_ok, second_there, conclusion_changed}
 use Rattle.ab_exchanging.proofs.changing.change_conclusion.Goals as goal
 

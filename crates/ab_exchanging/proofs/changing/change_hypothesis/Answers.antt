@@ -1,8 +1,8 @@
 use Rattle.std.proofs.Common.{sym, ◌∙◌, ap}
-use Rattle.ab_logic.specs.Sequents.{formula_of}
-use Rattle.ab_logic.specs.Worlds.{read}
-use Rattle.ab_progress.specs.Progress.{goals_of}
-use Rattle.ab_progress.proofs.Following.{one_at_least, follows_on}
+use Rattle.ab_left.specs.ab_logic.specs.Sequents.{formula_of}
+use Rattle.ab_left.specs.ab_logic.specs.Worlds.{read}
+use Rattle.ab_left.specs.ab_progress.specs.Progress.{goals_of}
+use Rattle.ab_left.specs.ab_progress.proofs.Following.{one_at_least, follows_on}
 use Rattle.ab_exchanging.proofs.Changed.{in_ok, old_there, own_there, hypothesis_changed}
 use Rattle.ab_exchanging.proofs.changing.change_hypothesis.Goals as goal
 

@@ -1,4 +1,4 @@
-use Rattle.ab_progress.proofs.Following.{place_of}
+use Rattle.ab_left.specs.ab_progress.proofs.Following.{place_of}
 use Rattle.ab_exchanging.proofs.Changed.{in_ok, closed_by}
 use Rattle.ab_exchanging.proofs.changing.close.Goals as goal
 

@@ -1,6 +1,6 @@
-use Rattle.ab_logic.specs.Worlds.{read}
-use Rattle.ab_progress.specs.Progress.{goals_of}
-use Rattle.ab_progress.proofs.Following.{some_goal}
+use Rattle.ab_left.specs.ab_logic.specs.Worlds.{read}
+use Rattle.ab_left.specs.ab_progress.specs.Progress.{goals_of}
+use Rattle.ab_left.specs.ab_progress.proofs.Following.{some_goal}
 use Rattle.ab_exchanging.proofs.Changed.{in_ok, cut_made}
 use Rattle.ab_exchanging.proofs.changing.cut.Goals as goal
 

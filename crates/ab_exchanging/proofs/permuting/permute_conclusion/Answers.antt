@@ -1,15 +1,15 @@
 use Rattle.std.proofs.Common.{◌≡◌, None, [], ◌∷◌, ◌∙◌, ap, subst}
 use Rattle.ab_term.specs.Names as tree
-use Rattle.ab_types.specs.Ids.{type_of}
+use Rattle.ab_left.specs.ab_types.specs.Ids.{type_of}
 use Rattle.ab_grammar.specs.CommandTrees as told
-use Rattle.ab_logic.specs.Readings.{sequent_of}
-use Rattle.ab_logic.specs.Sequents.{Sequent, goal_names, proving}
-use Rattle.ab_logic.specs.Worlds.{declarations_of}
-use Rattle.ab_permuting.specs.Cycles.{cycle}
-use Rattle.ab_permuting.specs.Standing.{IsCommon}
-use Rattle.ab_effects.specs.Effect.{effect}
-use Rattle.ab_progress.specs.Applied.{RefusedBy}
-use Rattle.ab_progress.specs.declared.fault.ProofCommandFault.TheVariants.{TypeClash, WrongShape}
+use Rattle.ab_left.specs.ab_logic.specs.Readings.{sequent_of}
+use Rattle.ab_left.specs.ab_logic.specs.Sequents.{Sequent, goal_names, proving}
+use Rattle.ab_left.specs.ab_logic.specs.Worlds.{declarations_of}
+use Rattle.ab_left.specs.ab_permuting.specs.Cycles.{cycle}
+use Rattle.ab_left.specs.ab_permuting.specs.Standing.{IsCommon}
+use Rattle.ab_left.specs.ab_effects.specs.Effect.{effect}
+use Rattle.ab_left.specs.ab_progress.specs.Applied.{RefusedBy}
+use Rattle.ab_left.specs.ab_progress.specs.declared.fault.ProofCommandFault.TheVariants.{TypeClash, WrongShape}
 use Rattle.ab_exchanging.proofs.Rows.{mixed_refused, nowhere_refused, conclusion_leads}
 use Rattle.ab_exchanging.proofs.permuting.permute_conclusion.Goals as goal
 

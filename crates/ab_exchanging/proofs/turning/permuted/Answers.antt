@@ -1,9 +1,9 @@
 use Rattle.std.proofs.Common.{sym, ◌∙◌, ap}
 use Rattle.ab_term.specs.Names as tree
-use Rattle.ab_store.proofs.Growing.{unbound_reads}
-use Rattle.ab_norm.specs.Nominals.{pairs_of}
-use Rattle.ab_logic.specs.Worlds.{read}
-use Rattle.ab_rules.proofs.Adding.{adds_typed}
+use Rattle.ab_left.specs.ab_store.proofs.Growing.{unbound_reads}
+use Rattle.ab_left.specs.ab_norm.specs.Nominals.{pairs_of}
+use Rattle.ab_left.specs.ab_logic.specs.Worlds.{read}
+use Rattle.ab_left.specs.ab_rules.proofs.Adding.{adds_typed}
 use Rattle.ab_exchanging.proofs.Changed.{in_ok}
 use Rattle.ab_exchanging.proofs.turning.permuted.Goals as goal
 

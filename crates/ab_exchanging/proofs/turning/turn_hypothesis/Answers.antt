@@ -1,8 +1,8 @@
 use Rattle.std.proofs.Common.{[], ◌∷◌, sym, ◌∙◌, ap, refl}
-use Rattle.ab_logic.specs.Sequents.{proving, assuming, without}
-use Rattle.ab_progress.specs.Progress.{goals_of}
-use Rattle.ab_progress.proofs.Following.{follows_on, as_before}
-use Rattle.ab_kernel.proofs.Later.{still_proof}
+use Rattle.ab_left.specs.ab_logic.specs.Sequents.{proving, assuming, without}
+use Rattle.ab_left.specs.ab_progress.specs.Progress.{goals_of}
+use Rattle.ab_left.specs.ab_progress.proofs.Following.{follows_on, as_before}
+use Rattle.ab_left.specs.ab_kernel.proofs.Later.{still_proof}
 use Rattle.ab_exchanging.proofs.Changed.{begins, on_err, same_goals, has_later, of_all}
 use Rattle.ab_exchanging.proofs.turning.turn_hypothesis.Goals as goal
 

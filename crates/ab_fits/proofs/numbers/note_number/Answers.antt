@@ -1,6 +1,6 @@
 use Rattle.std.proofs.Common.{◌↔◌, ◌≡◌, true, sym, ◌∙◌, ap, refl}
 use Rattle.std.proofs.lemmas.Bool.Decides.{Decides-eqb}
-use Rattle.ab_types.specs.declared.ids.TypeId.{TypeId}
+use Rattle.ab_store.specs.ab_types.specs.declared.ids.TypeId.{TypeId}
 use Rattle.ab_fits.proofs.Sets.{another_number}
 use Rattle.ab_fits.proofs.Noted.{number_known, number_new}
 use Rattle.ab_fits.proofs.numbers.note_number.Goals as goal

@@ -3,8 +3,8 @@ use Rattle.std.specs.List.{All}
 use Rattle.std.proofs.lemmas.List.Elements.{All-same, All-contains}
 use Rattle.ab_term.specs.Typing.{head_type}
 use Rattle.ab_term.proofs.Closed.{closed_typed}
-use Rattle.ab_types.specs.Entries.{signature}
-use Rattle.ab_types.specs.Ids.{HoldsType, type_of}
+use Rattle.ab_store.specs.ab_types.specs.Entries.{signature}
+use Rattle.ab_store.specs.ab_types.specs.Ids.{HoldsType, type_of}
 use Rattle.ab_store.specs.declared.node.TermId.{TermId}
 use Rattle.ab_store.specs.Trees.{tree_of, head_reading}
 use Rattle.ab_store.specs.Naming.{NodeIsTyped}

@@ -1,8 +1,8 @@
 use Rattle.std.proofs.Common.{◌≡◌, ◌↔◌, ◌+◌, ◌*◌, map, drop}
 use Rattle.ab_term.specs.Terms.{terms_of}
 use Rattle.ab_term.specs.Typing.{TakeType}
-use Rattle.ab_types.specs.Entries.{signature}
-use Rattle.ab_types.specs.Ids.{type_of}
+use Rattle.ab_store.specs.ab_types.specs.Entries.{signature}
+use Rattle.ab_store.specs.ab_types.specs.Ids.{type_of}
 use Rattle.ab_store.specs.Trees.{tree_of}
 use Rattle.ab_fits.specs.Taking.{rest_type, HoldsRest, context, AreTyped}
 use Rattle.ab_fits.proofs.Bounds.{ids_bound}

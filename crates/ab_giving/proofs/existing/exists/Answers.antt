@@ -1,11 +1,11 @@
 use Rattle.std.proofs.Common.{sym, ◌∙◌, ap, subst}
 use Rattle.ab_syntax.specs.Trees.{tree_of}
-use Rattle.ab_types.specs.Ids.{type_of}
-use Rattle.ab_logic.specs.Forms.{as_exists}
-use Rattle.ab_logic.specs.Sequents.{Sequent, IsSequent, Fits}
-use Rattle.ab_logic.specs.Worlds.{read, declarations_of}
-use Rattle.ab_kernel.proofs.Later.{same_history, still_proof}
-use Rattle.ab_effects.specs.Terms.{Means}
+use Rattle.ab_taking.specs.ab_types.specs.Ids.{type_of}
+use Rattle.ab_taking.specs.ab_logic.specs.Forms.{as_exists}
+use Rattle.ab_taking.specs.ab_logic.specs.Sequents.{Sequent, IsSequent, Fits}
+use Rattle.ab_taking.specs.ab_logic.specs.Worlds.{read, declarations_of}
+use Rattle.ab_progress.specs.ab_kernel.proofs.Later.{same_history, still_proof}
+use Rattle.ab_progress.specs.ab_effects.specs.Terms.{Means}
 use Rattle.ab_progress.specs.Progress.{goals_of}
 use Rattle.ab_progress.proofs.Following.{some_goal, one_at_least, follows_on}
 use Rattle.ab_giving.proofs.Rows.{first_is_sequent, same_goals, follows_world, on_err, exists_sure, exists_applied}

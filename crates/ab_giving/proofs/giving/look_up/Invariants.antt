@@ -1,8 +1,8 @@
 use Rattle.std.proofs.Common.{◌≡◌, drop, map}
 use Rattle.ab_syntax.specs.Commands.{instance_of}
-use Rattle.ab_logic.specs.Worlds.{read}
-use Rattle.ab_using.specs.Pieces.{pieces}
-use Rattle.ab_effects.specs.Using.{strange}
+use Rattle.ab_taking.specs.ab_logic.specs.Worlds.{read}
+use Rattle.ab_taking.specs.ab_using.specs.Pieces.{pieces}
+use Rattle.ab_progress.specs.ab_effects.specs.Using.{strange}
 use Rattle.ab_giving.proofs.giving.look_up.Given as goal
 
 abbrev pub invariant-loop-instance : goal.invariant-loop-instance

@@ -1,15 +1,15 @@
 use Rattle.std.proofs.Common.{◌≡◌, ◌+◌, [], ◌∷◌, ◌++◌, map, take, drop, refl, sym, ◌∙◌, ap, subst, arith}
 use Rattle.std.proofs.lemmas.List.{take_all}
 use Rattle.ab_syntax.specs.Commands.{instance_of}
-use Rattle.ab_logic.specs.Formulas.{HasOneTypeEach}
-use Rattle.ab_logic.specs.Readings.{sequent_of}
-use Rattle.ab_logic.specs.Sequents.{goal_names, names_of}
-use Rattle.ab_logic.specs.Worlds.{read, declarations_of}
-use Rattle.ab_logic.proofs.Growing.{grows_on, still_held}
-use Rattle.ab_using.specs.Pieces.{pieces}
+use Rattle.ab_taking.specs.ab_logic.specs.Formulas.{HasOneTypeEach}
+use Rattle.ab_taking.specs.ab_logic.specs.Readings.{sequent_of}
+use Rattle.ab_taking.specs.ab_logic.specs.Sequents.{goal_names, names_of}
+use Rattle.ab_taking.specs.ab_logic.specs.Worlds.{read, declarations_of}
+use Rattle.ab_taking.specs.ab_logic.proofs.Growing.{grows_on, still_held}
+use Rattle.ab_taking.specs.ab_using.specs.Pieces.{pieces}
 use Rattle.ab_taking.specs.Readings.{given_of}
-use Rattle.ab_effects.specs.Effect.{reading_each}
-use Rattle.ab_effects.specs.Row.{leads}
+use Rattle.ab_progress.specs.ab_effects.specs.Effect.{reading_each}
+use Rattle.ab_progress.specs.ab_effects.specs.Row.{leads}
 use Rattle.ab_progress.specs.Applied.{RefusedBy}
 use Rattle.ab_giving.specs.Giving.{values_in, beside, IsNext, AreRead}
 use Rattle.ab_giving.proofs.Given.{same_fault}

@@ -1,13 +1,13 @@
 use Rattle.std.proofs.Common.{◌≡◌, Bool, true, false, [], map, refl, sym, ◌∙◌, ap, subst}
 use Rattle.std.specs.Prelude.{◌||◌, Err}
 use Rattle.ab_syntax.specs.Commands.{instance_of}
-use Rattle.ab_logic.specs.Readings.{sequent_of}
-use Rattle.ab_logic.specs.Worlds.{read, declarations_of}
-use Rattle.ab_using.specs.Pieces.{pieces}
+use Rattle.ab_taking.specs.ab_logic.specs.Readings.{sequent_of}
+use Rattle.ab_taking.specs.ab_logic.specs.Worlds.{read, declarations_of}
+use Rattle.ab_taking.specs.ab_using.specs.Pieces.{pieces}
 use Rattle.ab_taking.specs.Readings.{given_of}
-use Rattle.ab_effects.specs.Effect.{reading_each, giving}
-use Rattle.ab_effects.specs.Row.{leads}
-use Rattle.ab_effects.specs.Using.{given_twice}
+use Rattle.ab_progress.specs.ab_effects.specs.Effect.{reading_each, giving}
+use Rattle.ab_progress.specs.ab_effects.specs.Row.{leads}
+use Rattle.ab_progress.specs.ab_effects.specs.Using.{given_twice}
 use Rattle.ab_progress.specs.declared.fault.ProofCommandFault.TheVariants.{WrongShape}
 use Rattle.ab_giving.specs.Giving.{AreNotGiven}
 use Rattle.ab_giving.proofs.Given.{refused_by, same_fault, read_named, unread_refuses, misshapen_refuses}

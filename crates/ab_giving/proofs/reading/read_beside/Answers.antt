@@ -1,8 +1,8 @@
 use Rattle.std.proofs.Common.{refl, sym, subst}
-use Rattle.ab_types.specs.Ids.{type_of}
+use Rattle.ab_taking.specs.ab_types.specs.Ids.{type_of}
 use Rattle.ab_syntax.specs.Trees.{tree_of}
 use Rattle.ab_declare.proofs.Statements.{grows_later, declares_same}
-use Rattle.ab_logic.specs.Readings.{sequent_of}
+use Rattle.ab_taking.specs.ab_logic.specs.Readings.{sequent_of}
 use Rattle.ab_giving.specs.Giving.{values_in, beside}
 use Rattle.ab_giving.specs.Scoping.{IsScopeOf}
 use Rattle.ab_giving.proofs.Given.{same_variables, names_beside}

@@ -1,13 +1,13 @@
 use Rattle.std.proofs.Common.{◌≡◌, ℕ, false, ◌+◌, ◌<◌, [], ◌∷◌, length, replicate, ◌∙◌, ap, subst, refl, arith}
 use Rattle.std.proofs.lemmas.List.{length-replicate}
-use Rattle.ab_types.specs.Ids.{type_of}
+use Rattle.ab_store.specs.ab_types.specs.Ids.{type_of}
 use Rattle.ab_solving.specs.declared.shape.Shape.TheVariants.{Open}
 use Rattle.ab_solving.specs.Settling.{Solved}
 use Rattle.ab_solving.specs.Solutions.{HasNoSolution}
 use Rattle.ab_solving.proofs.Tables.{still_held, same_reading}
 use Rattle.ab_infer.specs.Inferences.{Inferring, HasNoTyping}
 use Rattle.ab_infer.specs.Verdicts.{HasPropAt, IsFirstOpenMark, IsOpenAt, type_found, no_mark}
-use Rattle.ab_readings.specs.Types.{PropFree}
+use Rattle.ab_solving.specs.ab_readings.specs.Types.{PropFree}
 use Rattle.ab_infer.proofs.Judging.{no_typing, no_root, no_solution, some_prop, some_open, the_reading_found}
 use Rattle.ab_infer.proofs.deciding.decide.Goals as goal
 

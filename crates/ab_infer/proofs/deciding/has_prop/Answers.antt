@@ -1,6 +1,6 @@
 use Rattle.std.proofs.Common.{subst}
-use Rattle.ab_types.specs.Ids.{type_of}
-use Rattle.ab_readings.specs.Types.{PropFree}
+use Rattle.ab_store.specs.ab_types.specs.Ids.{type_of}
+use Rattle.ab_solving.specs.ab_readings.specs.Types.{PropFree}
 use Rattle.ab_solving.specs.declared.settling.Settled.{Settled}
 use Rattle.ab_infer.specs.Verdicts.{type_found}
 use Rattle.ab_infer.proofs.Freed.{one_more}

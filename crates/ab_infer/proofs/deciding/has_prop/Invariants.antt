@@ -1,5 +1,5 @@
 use Rattle.std.proofs.Common.{ℕ, ◌<◌}
-use Rattle.ab_readings.specs.Types.{PropFree}
+use Rattle.ab_solving.specs.ab_readings.specs.Types.{PropFree}
 use Rattle.ab_infer.specs.Freedom.{AreFree}
 use Rattle.ab_infer.specs.Verdicts.{type_found}
 use Rattle.ab_infer.proofs.deciding.has_prop.Given as goal

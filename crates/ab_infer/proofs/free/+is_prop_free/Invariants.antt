@@ -1,4 +1,4 @@
-use Rattle.ab_types.specs.Ids.{type_of}
+use Rattle.ab_store.specs.ab_types.specs.Ids.{type_of}
 use Rattle.ab_solving.proofs.Pathing.{size}
 use Rattle.ab_infer.proofs.free.+is_prop_free.Given as goal
 

@@ -1,7 +1,7 @@
 use Rattle.std.proofs.Common.{◌≤◌, List, [], ◌∷◌, length, drop}
 use Rattle.ab_store.specs.declared.node.CellEntry.{CellEntry}
 use Rattle.ab_solving.specs.Solutions.{AreFormed, AreHeld}
-use Rattle.ab_readings.specs.Names.{Name}
+use Rattle.ab_solving.specs.ab_readings.specs.Names.{Name}
 use Rattle.ab_infer.specs.Sketches.{Sketch}
 use Rattle.ab_infer.specs.Programs.{Runs, items_of}
 use Rattle.ab_infer.specs.Inferences.{Running, AreBelow, turned}

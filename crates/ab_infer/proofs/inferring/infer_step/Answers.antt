@@ -1,6 +1,6 @@
 use Rattle.std.proofs.Common.{◌<◌, ◌∷◌, sym, ◌∙◌, subst, refl, arith}
 use Rattle.ab_store.specs.Trees.{head_in}
-use Rattle.ab_types.specs.Ids.{type_of}
+use Rattle.ab_store.specs.ab_types.specs.Ids.{type_of}
 use Rattle.ab_infer.specs.Programs.{item_of, binding_of, OpTyped}
 use Rattle.ab_infer.specs.Inferences.{Running, turned, written_type}
 use Rattle.ab_infer.proofs.Stepping.{kept_of, same_rest, rest_one, rest_two, run_var, run_free_var, run_head, run_abstraction, run_application, run_equation, run_binder, few_apply, few_equal, few_abs, few_bind}

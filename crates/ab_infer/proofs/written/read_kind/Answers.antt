@@ -1,7 +1,7 @@
 use Rattle.std.proofs.Common.{◌≡◌, not, sym, ap, subst}
 use Rattle.ab_infer.specs.WrittenTypes.{KindAnswers}
 use Rattle.std.specs.Prelude.{Err}
-use Rattle.ab_types.specs.declared.fault.TableFault.TheVariants.{UnknownKind}
+use Rattle.ab_store.specs.ab_types.specs.declared.fault.TableFault.TheVariants.{UnknownKind}
 use Rattle.ab_infer.specs.declared.fault.InferFault.TheVariants.{Unknown}
 use Rattle.ab_infer.proofs.WrittenTyping.{kind_answer, kind_none}
 use Rattle.ab_solving.proofs.Tables.{same_kinds, same_constants}

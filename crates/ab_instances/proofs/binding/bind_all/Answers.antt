@@ -1,5 +1,5 @@
 use Rattle.std.proofs.Common.{◌∷◌, [], ◌++◌, take, get_or, arith, ◌∙◌, ap, take_all}
-use Rattle.ab_store.proofs.Marking.{kept_on}
+use Rattle.ab_clauses.specs.ab_store.proofs.Marking.{kept_on}
 use Rattle.ab_instances.specs.Binding.{IsFor, bound_to}
 use Rattle.ab_instances.proofs.Bound.{each_length, next_held, next_unbound, next_typed, next_apart, next_resolved, bound_more}
 use Rattle.ab_instances.proofs.binding.bind_all.Goals as goal

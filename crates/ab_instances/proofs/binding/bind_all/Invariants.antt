@@ -1,7 +1,7 @@
 use Rattle.std.proofs.Common.{◌≡◌, ◌+◌, ◌≤◌, length, take}
-use Rattle.ab_store.specs.declared.mark.Mark.{Mark}
-use Rattle.ab_store.specs.Marks.{HasMark, KeepsMark}
-use Rattle.ab_store.specs.Naming.{IsTypedBy}
+use Rattle.ab_clauses.specs.ab_store.specs.declared.mark.Mark.{Mark}
+use Rattle.ab_clauses.specs.ab_store.specs.Marks.{HasMark, KeepsMark}
+use Rattle.ab_clauses.specs.ab_store.specs.Naming.{IsTypedBy}
 use Rattle.ab_instances.specs.Binding.{bound_to}
 use Rattle.ab_instances.proofs.binding.bind_all.Given as goal
 

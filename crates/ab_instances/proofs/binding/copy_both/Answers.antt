@@ -1,4 +1,4 @@
-use Rattle.ab_norm.proofs.Frame.{adds_on}
+use Rattle.ab_unifying.specs.ab_norm.proofs.Frame.{adds_on}
 use Rattle.ab_instances.proofs.binding.copy_both.Goals as goal
 
 pub returns-in_err-body-clause-adds : goal.returns-in_err-body-clause-adds

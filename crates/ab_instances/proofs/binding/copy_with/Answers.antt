@@ -1,5 +1,5 @@
 use Rattle.std.proofs.Common.{sym, ◌∙◌, ap, subst}
-use Rattle.ab_norm.proofs.Frame.{if_ok}
+use Rattle.ab_unifying.specs.ab_norm.proofs.Frame.{if_ok}
 use Rattle.ab_instances.specs.Binding.{bound_to, CanBeBound}
 use Rattle.ab_instances.proofs.Bound.{still_bindable, copied_reads}
 use Rattle.ab_instances.proofs.binding.copy_with.Goals as goal

@@ -2,8 +2,8 @@ use Rattle.std.proofs.Common.{◌≤◌, slice_index_or, length, map, arith, sym
 use Rattle.std.specs.List.{All}
 use Rattle.std.proofs.lemmas.List.Elements.{All-push}
 use Rattle.std.proofs.lemmas.Result.{on_ok_weaker}
-use Rattle.ab_types.specs.Ids.{HoldsType, type_of}
-use Rattle.ab_norm.specs.Nominals.{HoldsNominal}
+use Rattle.ab_clauses.specs.ab_types.specs.Ids.{HoldsType, type_of}
+use Rattle.ab_unifying.specs.ab_norm.specs.Nominals.{HoldsNominal}
 use Rattle.ab_instances.specs.Readings.{names_read}
 use Rattle.ab_instances.proofs.Chosen.{rest_all, first_all, rest_shorter, behind_reads, behind_held}
 use Rattle.ab_instances.proofs.choosing.+chosen.Goals as goal

@@ -1,10 +1,10 @@
 use Rattle.std.proofs.Common.{◌≡◌, ◌+◌, ◌*◌, map, take, length}
 use Rattle.std.specs.List.{All}
-use Rattle.ab_types.specs.Ids.{type_of}
-use Rattle.ab_norm.specs.Nominals.{HoldsNominal}
+use Rattle.ab_clauses.specs.ab_types.specs.Ids.{type_of}
+use Rattle.ab_unifying.specs.ab_norm.specs.Nominals.{HoldsNominal}
 use Rattle.ab_instances.specs.Readings.{names_read}
 use Rattle.ab_instances.proofs.Chosen.{begun_with}
-use Rattle.ab_cases.specs.Choices.{for_each}
+use Rattle.ab_clauses.specs.ab_cases.specs.Choices.{for_each}
 use Rattle.ab_instances.proofs.choosing.+chosen.Given as goal
 
 abbrev pub decreases-choose : goal.decreases-choose

@@ -2,15 +2,15 @@ use Rattle.std.proofs.Common.{◌++◌, [], sym, ◌∙◌, ap, subst, length, c
 use Rattle.ab_term.specs.Types.{prop}
 use Rattle.ab_term.specs.Variables.{image}
 use Rattle.ab_term.specs.Sameness.{same_number}
-use Rattle.ab_types.specs.Entries.{signature}
-use Rattle.ab_types.specs.Ids.{type_of}
-use Rattle.ab_store.specs.Trees.{cell_of, tree_of}
-use Rattle.ab_store.specs.Naming.{IsTerm}
-use Rattle.ab_store.proofs.Growing.{term_grown}
-use Rattle.ab_solve.specs.Meaning.{AreDifferent}
-use Rattle.ab_cases.specs.Clauses.{Each, put_together, name_term}
-use Rattle.ab_cases.specs.Prefixes.{opened}
-use Rattle.ab_cases.specs.Alternatives.{cells_over, made_over, made_terms}
+use Rattle.ab_clauses.specs.ab_types.specs.Entries.{signature}
+use Rattle.ab_clauses.specs.ab_types.specs.Ids.{type_of}
+use Rattle.ab_clauses.specs.ab_store.specs.Trees.{cell_of, tree_of}
+use Rattle.ab_clauses.specs.ab_store.specs.Naming.{IsTerm}
+use Rattle.ab_clauses.specs.ab_store.proofs.Growing.{term_grown}
+use Rattle.ab_clauses.specs.ab_solve.specs.Meaning.{AreDifferent}
+use Rattle.ab_clauses.specs.ab_cases.specs.Clauses.{Each, put_together, name_term}
+use Rattle.ab_clauses.specs.ab_cases.specs.Prefixes.{opened}
+use Rattle.ab_clauses.specs.ab_cases.specs.Alternatives.{cells_over, made_over, made_terms}
 use Rattle.ab_clauses.specs.Readings.{clause_of}
 use Rattle.ab_unifying.specs.Problem.{cells_read, variables_read}
 use Rattle.ab_unifying.proofs.Growth.{grows_on, grows_terms, typed_terms}

@@ -1,7 +1,7 @@
 use Rattle.std.proofs.Common.{arith}
 use Rattle.std.proofs.lemmas.List.Elements.{All-push, All-weaker}
-use Rattle.ab_store.specs.Trees.{Holds}
-use Rattle.ab_norm.proofs.Frame.{typed_on}
+use Rattle.ab_clauses.specs.ab_store.specs.Trees.{Holds}
+use Rattle.ab_unifying.specs.ab_norm.proofs.Frame.{typed_on}
 use Rattle.ab_instances.proofs.Made.{forms_push}
 use Rattle.ab_instances.proofs.making.as_terms.Goals as goal
 

@@ -1,8 +1,8 @@
 use Rattle.std.proofs.Common.{◌≡◌, codes, map, take}
 use Rattle.std.specs.List.{All}
-use Rattle.ab_store.specs.Trees.{Holds}
-use Rattle.ab_norm.specs.Growth.{AddsTypedTerms}
-use Rattle.ab_cases.specs.Clauses.{name_term}
+use Rattle.ab_clauses.specs.ab_store.specs.Trees.{Holds}
+use Rattle.ab_unifying.specs.ab_norm.specs.Growth.{AddsTypedTerms}
+use Rattle.ab_clauses.specs.ab_cases.specs.Clauses.{name_term}
 use Rattle.ab_instances.specs.Readings.{names_read, trees_at}
 use Rattle.ab_instances.proofs.making.as_terms.Given as goal
 

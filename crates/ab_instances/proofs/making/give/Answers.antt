@@ -1,8 +1,8 @@
 use Rattle.std.proofs.Common.{arith, sym, subst}
 use Rattle.std.specs.List.{All}
 use Rattle.std.proofs.lemmas.List.Elements.{All-push, All-weaker}
-use Rattle.ab_store.specs.Trees.{Holds}
-use Rattle.ab_norm.proofs.Frame.{typed_on}
+use Rattle.ab_clauses.specs.ab_store.specs.Trees.{Holds}
+use Rattle.ab_unifying.specs.ab_norm.proofs.Frame.{typed_on}
 use Rattle.ab_instances.specs.Readings.{given_at}
 use Rattle.ab_instances.proofs.Made.{given_here, given_more}
 use Rattle.ab_instances.proofs.making.give.Goals as goal

@@ -1,7 +1,7 @@
 use Rattle.std.proofs.Common.{◌≡◌, take}
 use Rattle.std.specs.List.{All}
-use Rattle.ab_store.specs.Trees.{Holds}
-use Rattle.ab_norm.specs.Growth.{AddsTypedTerms}
+use Rattle.ab_clauses.specs.ab_store.specs.Trees.{Holds}
+use Rattle.ab_unifying.specs.ab_norm.specs.Growth.{AddsTypedTerms}
 use Rattle.ab_instances.specs.Readings.{trees_at, given_at}
 use Rattle.ab_instances.specs.Making.{given_all}
 use Rattle.ab_instances.proofs.making.give.Given as goal

@@ -1,7 +1,7 @@
 use Rattle.std.proofs.Common.{ℕ, ◌++◌, ◌∷◌, [], codes, length, take, get_or, arith, sym, ◌∙◌, ap}
 use Rattle.std.proofs.lemmas.List.{take_more}
-use Rattle.ab_store.proofs.Growing.{extended_on}
-use Rattle.ab_cases.specs.Alternatives.{cells_over}
+use Rattle.ab_clauses.specs.ab_store.proofs.Growing.{extended_on}
+use Rattle.ab_clauses.specs.ab_cases.specs.Alternatives.{cells_over}
 use Rattle.ab_unifying.specs.Problem.{cells_read}
 use Rattle.ab_unifying.proofs.Growth.{grows_on}
 use Rattle.ab_instances.specs.Readings.{names_read, cells_at}

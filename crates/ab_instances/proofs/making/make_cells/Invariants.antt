@@ -1,6 +1,6 @@
 use Rattle.std.proofs.Common.{◌≡◌, ◌++◌, codes, length, take}
-use Rattle.ab_store.specs.Growth.{IsExtendedBy}
-use Rattle.ab_cases.specs.Alternatives.{cells_over}
+use Rattle.ab_clauses.specs.ab_store.specs.Growth.{IsExtendedBy}
+use Rattle.ab_clauses.specs.ab_cases.specs.Alternatives.{cells_over}
 use Rattle.ab_unifying.specs.Problem.{cells_read}
 use Rattle.ab_unifying.specs.Changed.{Grows}
 use Rattle.ab_instances.specs.Readings.{names_read, cells_at}

@@ -1,4 +1,4 @@
-use Rattle.ab_store.proofs.Growing.{extended_itself}
+use Rattle.ab_clauses.specs.ab_store.proofs.Growing.{extended_itself}
 use Rattle.ab_instances.proofs.Made.{grows_with, typed_with}
 use Rattle.ab_instances.proofs.making.make_one.Goals as goal
 

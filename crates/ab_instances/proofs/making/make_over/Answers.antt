@@ -1,8 +1,8 @@
 use Rattle.std.proofs.Common.{sym, ◌∙◌, ap, subst, length}
 use Rattle.std.specs.List.{All}
 use Rattle.ab_term.specs.Terms.{terms_of}
-use Rattle.ab_store.specs.Trees.{HoldsCell}
-use Rattle.ab_norm.proofs.Frame.{typed_none}
+use Rattle.ab_clauses.specs.ab_store.specs.Trees.{HoldsCell}
+use Rattle.ab_unifying.specs.ab_norm.proofs.Frame.{typed_none}
 use Rattle.ab_instances.specs.Readings.{trees_at}
 use Rattle.ab_instances.specs.Making.{given_all}
 use Rattle.ab_instances.proofs.Made.{names_held, ids_length, over_made, over_held, over_terms, over_typed}

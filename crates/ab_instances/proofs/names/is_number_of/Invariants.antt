@@ -1,6 +1,6 @@
 use Rattle.std.proofs.Common.{◌≡◌, false, take}
-use Rattle.ab_types.specs.Entries.{Table}
-use Rattle.ab_cases.specs.Choices as choices
+use Rattle.ab_clauses.specs.ab_types.specs.Entries.{Table}
+use Rattle.ab_clauses.specs.ab_cases.specs.Choices as choices
 use Rattle.ab_instances.specs.Readings.{names_read}
 use Rattle.ab_instances.proofs.names.is_number_of.Given as goal
 

@@ -1,7 +1,7 @@
 use Rattle.std.proofs.Common.{◌≡◌, take}
 use Rattle.std.specs.List.{All}
-use Rattle.ab_norm.specs.Nominals.{HoldsNominal}
-use Rattle.ab_cases.specs.Choices as choices
+use Rattle.ab_unifying.specs.ab_norm.specs.Nominals.{HoldsNominal}
+use Rattle.ab_clauses.specs.ab_cases.specs.Choices as choices
 use Rattle.ab_instances.specs.Readings.{names_read}
 use Rattle.ab_instances.proofs.names.outside.Given as goal
 

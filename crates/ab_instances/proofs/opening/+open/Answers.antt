@@ -1,5 +1,5 @@
 use Rattle.std.proofs.Common.{arith}
-use Rattle.ab_norm.proofs.Frame.{if_ok, adds_on}
+use Rattle.ab_unifying.specs.ab_norm.proofs.Frame.{if_ok, adds_on}
 use Rattle.ab_instances.proofs.Chosen.{rest_shorter}
 use Rattle.ab_instances.proofs.Opened.{opened_step, rest_held}
 use Rattle.ab_instances.proofs.opening.+open.Goals as goal

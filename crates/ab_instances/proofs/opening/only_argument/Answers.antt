@@ -1,8 +1,8 @@
 use Rattle.std.proofs.Common.{◌∷◌, map, sym, ◌∙◌, ap}
 use Rattle.std.proofs.lemmas.List.{length-map}
 use Rattle.ab_term.specs.Terms.{spine, terms_of}
-use Rattle.ab_store.specs.Trees.{tree_of, head_reading, node_tree}
-use Rattle.ab_cases.specs.Prefixes.{opened}
+use Rattle.ab_clauses.specs.ab_store.specs.Trees.{tree_of, head_reading, node_tree}
+use Rattle.ab_clauses.specs.ab_cases.specs.Prefixes.{opened}
 use Rattle.ab_instances.proofs.Opened.{one_only, opened_other}
 use Rattle.ab_instances.proofs.opening.only_argument.Goals as goal
 

@@ -1,9 +1,9 @@
 use Rattle.std.specs.Prelude.{[], Ok, Err}
 use Rattle.std.proofs.Common.{◌≡◌, ◌+◌, rules, refl, ◌∙◌, ap, subst}
-use Rattle.ab_logic.specs.Worlds.{read}
-use Rattle.ab_naming.specs.Labels.{label_of}
+use Rattle.ab_progress.specs.ab_logic.specs.Worlds.{read}
+use Rattle.ab_progress.specs.ab_naming.specs.Labels.{label_of}
 use Rattle.ab_progress.proofs.Following.{follows_on}
-use Rattle.ab_effects.specs.Refusals.{not_pattern}
+use Rattle.ab_progress.specs.ab_effects.specs.Refusals.{not_pattern}
 use Rattle.ab_left.specs.Cases.{CantTake}
 use Rattle.ab_left.specs.declared.stop.Stop.{Stop}
 use Rattle.ab_left.proofs.Taking.{begun_there}

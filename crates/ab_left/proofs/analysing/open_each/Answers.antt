@@ -1,6 +1,6 @@
 use Rattle.std.specs.Prelude.{Err}
 use Rattle.std.proofs.Common.{◌≡◌, ◌≤◌, ◌<◌, rules, arith}
-use Rattle.ab_naming.specs.Labels.{label_of}
+use Rattle.ab_progress.specs.ab_naming.specs.Labels.{label_of}
 use Rattle.ab_progress.proofs.Following.{follows_on, follows_not}
 use Rattle.ab_left.specs.declared.stop.Stop.{Stop}
 use Rattle.ab_left.proofs.Waiting.{begins, next_there, one_more, one_stops, ends}

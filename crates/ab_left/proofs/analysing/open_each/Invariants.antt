@@ -1,4 +1,4 @@
-use Rattle.ab_naming.specs.Labels.{label_of}
+use Rattle.ab_progress.specs.ab_naming.specs.Labels.{label_of}
 use Rattle.ab_progress.specs.Progress.{Follows}
 use Rattle.ab_left.specs.Analysed.{OpenedSoFar}
 use Rattle.ab_left.proofs.analysing.open_each.Given as goal

@@ -1,7 +1,7 @@
 use Rattle.std.proofs.Common.{subst}
-use Rattle.ab_unifying.specs.Problem.{cells_read}
-use Rattle.ab_equate.specs.Solved.{AreCells}
-use Rattle.ab_rules.proofs.NewNumbers.{over_cells}
+use Rattle.ab_progress.specs.ab_unifying.specs.Problem.{cells_read}
+use Rattle.ab_progress.specs.ab_equate.specs.Solved.{AreCells}
+use Rattle.ab_progress.specs.ab_rules.proofs.NewNumbers.{over_cells}
 use Rattle.ab_left.proofs.beginning.first_over_cells.Goals as goal
 
 pub returns : goal.returns

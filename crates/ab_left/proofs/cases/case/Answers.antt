@@ -2,11 +2,11 @@ use Rattle.std.specs.Prelude.{[]}
 use Rattle.std.specs.Option.{option_map}
 use Rattle.std.proofs.Common.{◌≡◌, sym, ◌∙◌, ap, subst}
 use Rattle.ab_grammar.specs.CommandTrees as told
-use Rattle.ab_logic.specs.Sequents.{formula_of}
-use Rattle.ab_logic.specs.Worlds.{read}
-use Rattle.ab_naming.specs.Labels.{label_of}
-use Rattle.ab_effects.specs.Effect.{clashing}
-use Rattle.ab_effects.specs.Refusals.{clash}
+use Rattle.ab_progress.specs.ab_logic.specs.Sequents.{formula_of}
+use Rattle.ab_progress.specs.ab_logic.specs.Worlds.{read}
+use Rattle.ab_progress.specs.ab_naming.specs.Labels.{label_of}
+use Rattle.ab_progress.specs.ab_effects.specs.Effect.{clashing}
+use Rattle.ab_progress.specs.ab_effects.specs.Refusals.{clash}
 use Rattle.ab_progress.specs.Applied.{IsRefused}
 use Rattle.ab_progress.specs.Progress.{goals_of}
 use Rattle.ab_progress.proofs.Following.{first_at, one_at_least}

@@ -1,7 +1,7 @@
 use Rattle.std.specs.Prelude.{Ok}
 use Rattle.std.proofs.Common.{refl, ◌∙◌, ap}
-use Rattle.ab_logic.specs.Worlds.{read}
-use Rattle.ab_naming.specs.Labels.{label_of}
+use Rattle.ab_progress.specs.ab_logic.specs.Worlds.{read}
+use Rattle.ab_progress.specs.ab_naming.specs.Labels.{label_of}
 use Rattle.ab_progress.proofs.Following.{follows_on}
 use Rattle.ab_left.proofs.Taking.{begun_there}
 use Rattle.ab_left.proofs.Solving.{first_there, still_open, equal_taken, equal_stuck, equal_never_fails}

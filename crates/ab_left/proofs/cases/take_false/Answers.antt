@@ -1,7 +1,7 @@
-use Rattle.ab_logic.specs.Worlds.{read}
+use Rattle.ab_progress.specs.ab_logic.specs.Worlds.{read}
 use Rattle.ab_left.proofs.Moves.{on_ok}
 use Rattle.ab_left.proofs.Taking.{false_sure, false_taken}
-use Rattle.ab_naming.specs.Labels.{label_of}
+use Rattle.ab_progress.specs.ab_naming.specs.Labels.{label_of}
 use Rattle.ab_left.proofs.cases.take_false.Goals as goal
 
 pub surely-requires-clause-sure : goal.surely-requires-clause-sure

@@ -1,5 +1,5 @@
-use Rattle.ab_logic.specs.Worlds.{read}
-use Rattle.ab_naming.specs.Labels.{label_of}
+use Rattle.ab_progress.specs.ab_logic.specs.Worlds.{read}
+use Rattle.ab_progress.specs.ab_naming.specs.Labels.{label_of}
 use Rattle.ab_progress.proofs.Following.{follows_on}
 use Rattle.ab_left.proofs.Moves.{on_ok}
 use Rattle.ab_left.proofs.Taking.{begun_there, opened_apart, opened_stops}

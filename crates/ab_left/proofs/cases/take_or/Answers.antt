@@ -1,7 +1,7 @@
 use Rattle.std.specs.Prelude.{Err}
 use Rattle.std.proofs.Common.{◌≡◌, List, ℕ, rules, sym, subst}
-use Rattle.ab_logic.specs.Worlds.{read}
-use Rattle.ab_naming.specs.Labels.{label_of}
+use Rattle.ab_progress.specs.ab_logic.specs.Worlds.{read}
+use Rattle.ab_progress.specs.ab_naming.specs.Labels.{label_of}
 use Rattle.ab_progress.proofs.Following.{follows_on}
 use Rattle.ab_left.specs.Own.{IsOwn}
 use Rattle.ab_left.specs.declared.stop.Stop.{Stop}

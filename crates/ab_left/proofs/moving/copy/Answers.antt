@@ -1,5 +1,5 @@
-use Rattle.ab_logic.specs.Worlds.{read}
-use Rattle.ab_naming.specs.Labels.{label_of}
+use Rattle.ab_progress.specs.ab_logic.specs.Worlds.{read}
+use Rattle.ab_progress.specs.ab_naming.specs.Labels.{label_of}
 use Rattle.ab_progress.proofs.Following.{follows_on}
 use Rattle.ab_left.proofs.Moves.{initial_sure, copied, not_named}
 use Rattle.ab_left.proofs.moving.copy.Goals as goal

@@ -1,5 +1,5 @@
-use Rattle.ab_logic.specs.Worlds.{read}
-use Rattle.ab_naming.specs.Labels.{label_of}
+use Rattle.ab_progress.specs.ab_logic.specs.Worlds.{read}
+use Rattle.ab_progress.specs.ab_naming.specs.Labels.{label_of}
 use Rattle.ab_progress.proofs.Following.{follows_on}
 use Rattle.ab_left.proofs.Moves.{still_at, moved}
 use Rattle.ab_left.proofs.moving.shift.Goals as goal

@@ -1,7 +1,7 @@
 use Rattle.std.specs.Prelude.{reverse, Err}
 use Rattle.std.proofs.Common.{◌≡◌, ◌∷◌, [], length, rules, ◌∙◌, ap, subst, arith}
 use Rattle.std.proofs.lemmas.List.{reverse-append}
-use Rattle.ab_naming.specs.Labels.{label_of}
+use Rattle.ab_progress.specs.ab_naming.specs.Labels.{label_of}
 use Rattle.ab_progress.proofs.Following.{follows_not, follows_on}
 use Rattle.ab_left.specs.Progress.{Opens, label_left}
 use Rattle.ab_left.specs.declared.stop.Stop.{Stop}

@@ -1,6 +1,6 @@
 use Rattle.std.specs.Prelude.{map, reverse}
-use Rattle.ab_logic.specs.Readings.{hypothesis_of}
-use Rattle.ab_naming.specs.Labels.{label_of}
+use Rattle.ab_progress.specs.ab_logic.specs.Readings.{hypothesis_of}
+use Rattle.ab_progress.specs.ab_naming.specs.Labels.{label_of}
 use Rattle.ab_progress.specs.Progress.{Follows}
 use Rattle.ab_left.specs.Own.{weight}
 use Rattle.ab_left.specs.Progress.{Pending, Opens, label_left}

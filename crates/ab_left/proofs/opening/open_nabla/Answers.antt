@@ -1,7 +1,7 @@
 use Rattle.std.specs.Prelude.{reverse}
 use Rattle.std.proofs.Common.{◌∷◌, [], ◌∙◌, ap}
 use Rattle.std.proofs.lemmas.List.{reverse-append}
-use Rattle.ab_naming.specs.Labels.{label_of}
+use Rattle.ab_progress.specs.ab_naming.specs.Labels.{label_of}
 use Rattle.ab_progress.proofs.Following.{follows_not}
 use Rattle.ab_left.proofs.Goes.{nabla_sure, nabla_there, nabla_goes}
 use Rattle.ab_left.proofs.opening.open_nabla.Goals as goal

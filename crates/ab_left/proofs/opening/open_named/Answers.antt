@@ -1,10 +1,10 @@
 use Rattle.std.specs.Prelude.{[]}
 use Rattle.std.proofs.Common.{◌≡◌, ◌∷◌, List, ℕ, Some, sym, ◌∙◌, subst}
-use Rattle.ab_store.specs.Trees.{Read}
-use Rattle.ab_logic.specs.Sequents.{without}
-use Rattle.ab_logic.specs.Worlds.{read, declarations_of}
-use Rattle.ab_naming.specs.Labels.{label_of}
-use Rattle.ab_effects.specs.Opening.{Nameless}
+use Rattle.ab_progress.specs.ab_store.specs.Trees.{Read}
+use Rattle.ab_progress.specs.ab_logic.specs.Sequents.{without}
+use Rattle.ab_progress.specs.ab_logic.specs.Worlds.{read, declarations_of}
+use Rattle.ab_progress.specs.ab_naming.specs.Labels.{label_of}
+use Rattle.ab_progress.specs.ab_effects.specs.Opening.{Nameless}
 use Rattle.ab_left.specs.Own.{IsOwn}
 use Rattle.ab_left.specs.Progress.{HasAt, OpenedTo}
 use Rattle.ab_left.proofs.Moves.{on_ok}

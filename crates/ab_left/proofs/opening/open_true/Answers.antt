@@ -1,6 +1,6 @@
 use Rattle.std.specs.Prelude.{reverse}
-use Rattle.ab_logic.specs.Worlds.{read}
-use Rattle.ab_naming.specs.Labels.{label_of}
+use Rattle.ab_progress.specs.ab_logic.specs.Worlds.{read}
+use Rattle.ab_progress.specs.ab_naming.specs.Labels.{label_of}
 use Rattle.ab_left.proofs.Goes.{true_goes}
 use Rattle.ab_left.proofs.Moves.{on_ok}
 use Rattle.ab_left.proofs.opening.open_true.Goals as goal

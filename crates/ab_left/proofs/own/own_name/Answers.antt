@@ -1,8 +1,8 @@
 use Rattle.std.specs.Prelude.{codes, Contains}
 use Rattle.std.proofs.Common.{◌≡◌, ◌+◌, ◌++◌, inl, inr, length, decimal, subst, arith}
 use Rattle.std.proofs.lemmas.Bool.{cases_lt}
-use Rattle.ab_naming.specs.Labels.{label_of}
-use Rattle.ab_naming.proofs.Free.{too_many}
+use Rattle.ab_progress.specs.ab_naming.specs.Labels.{label_of}
+use Rattle.ab_progress.specs.ab_naming.proofs.Free.{too_many}
 use Rattle.ab_left.proofs.Naming.{taken_by, taken_length, is_taken, is_own}
 use Rattle.ab_left.proofs.own.own_name.Goals as goal
 

@@ -1,6 +1,6 @@
 use Rattle.std.specs.Prelude.{codes, Contains}
 use Rattle.std.proofs.Common.{ℕ, ◌<◌, ◌≤◌, ◌++◌, decimal}
-use Rattle.ab_naming.specs.Labels.{label_of}
+use Rattle.ab_progress.specs.ab_naming.specs.Labels.{label_of}
 use Rattle.ab_left.proofs.Naming.{taken_by}
 use Rattle.ab_left.proofs.own.own_name.Given as goal
 

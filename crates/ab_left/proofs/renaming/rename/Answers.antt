@@ -1,8 +1,8 @@
 use Rattle.std.specs.Prelude.{[], Some, None}
 use Rattle.std.proofs.Common.{◌≡◌, ◌∷◌, refl, sym, ◌∙◌, ap, subst}
-use Rattle.ab_logic.specs.Names.{given, Names}
-use Rattle.ab_logic.specs.Sequents.{formula_of, IsUsed, assuming, without}
-use Rattle.ab_logic.specs.Worlds.{read}
+use Rattle.ab_progress.specs.ab_logic.specs.Names.{given, Names}
+use Rattle.ab_progress.specs.ab_logic.specs.Sequents.{formula_of, IsUsed, assuming, without}
+use Rattle.ab_progress.specs.ab_logic.specs.Worlds.{read}
 use Rattle.ab_progress.specs.Progress.{goals_of}
 use Rattle.ab_progress.proofs.Following.{first_at, one_at_least}
 use Rattle.ab_left.proofs.Rows.{no_formula, no_clash, renamed}

@@ -1,9 +1,9 @@
 use Rattle.std.specs.List.{All}
 use Rattle.std.proofs.Common.{[], ◌∷◌, ◌++◌, map, true, codes, sym, ap, ◌∙◌, subst}
 use Rattle.std.proofs.lemmas.List.Elements.{All-nil, All-cons}
-use Rattle.ab_types.specs.Ids.{HoldsConstant}
+use Rattle.ab_clauses.specs.ab_types.specs.Ids.{HoldsConstant}
 use Rattle.ab_clauses.specs.Readings.{name_of, clause_of}
-use Rattle.ab_cases.specs.Member.{member_first}
+use Rattle.ab_clauses.specs.ab_cases.specs.Member.{member_first}
 use Rattle.ab_clauses.specs.Cases.{case_of}
 use Rattle.ab_logic.specs.Built.{kept_first, kept_later}
 use Rattle.ab_logic.specs.Worlds.{IsKeptClause}

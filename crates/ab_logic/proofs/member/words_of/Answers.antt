@@ -1,5 +1,5 @@
 use Rattle.std.proofs.Common.{Contains, refl, sym, subst}
-use Rattle.ab_types.specs.Entries.{names, constants}
+use Rattle.ab_clauses.specs.ab_types.specs.Entries.{names, constants}
 use Rattle.ab_logic.proofs.Members.{has_cons}
 use Rattle.ab_logic.proofs.member.words_of.Goals as goal
 

@@ -1,9 +1,9 @@
 use Rattle.std.proofs.Common.{◌<◌, ◌≤◌, arith, sym, ◌∙◌, get_or, length, subst}
 use Rattle.std.specs.List.{All}
 use Rattle.std.proofs.lemmas.List.Elements.{All-push, All-same, All-weaker}
-use Rattle.ab_store.specs.declared.node.TermId.{TermId}
-use Rattle.ab_store.specs.Naming.{HeadNames, NodeIsTyped}
-use Rattle.ab_store.specs.Trees.{Holds, tree_of}
+use Rattle.ab_norm.specs.ab_store.specs.declared.node.TermId.{TermId}
+use Rattle.ab_norm.specs.ab_store.specs.Naming.{HeadNames, NodeIsTyped}
+use Rattle.ab_norm.specs.ab_store.specs.Trees.{Holds, tree_of}
 use Rattle.ab_logic.specs.Forms.{sign_of}
 use Rattle.ab_marks.specs.Marking.{marked_in}
 use Rattle.ab_marks.specs.Views.{names_of}

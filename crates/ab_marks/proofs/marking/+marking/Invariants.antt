@@ -1,6 +1,6 @@
 use Rattle.std.proofs.Common.{◌≡◌, ◌+◌, ◌*◌, map, take}
 use Rattle.std.specs.List.{All}
-use Rattle.ab_store.specs.Trees.{Holds, tree_of}
+use Rattle.ab_norm.specs.ab_store.specs.Trees.{Holds, tree_of}
 use Rattle.ab_norm.specs.Growth.{AddsTypedTerms}
 use Rattle.ab_norm.proofs.Bounds.{ids_bound}
 use Rattle.ab_logic.specs.Forms.{sign_of}

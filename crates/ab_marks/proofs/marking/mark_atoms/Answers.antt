@@ -1,5 +1,5 @@
 use Rattle.std.proofs.Common.{sym, ap, ◌∙◌}
-use Rattle.ab_store.specs.Trees.{tree_of}
+use Rattle.ab_norm.specs.ab_store.specs.Trees.{tree_of}
 use Rattle.ab_logic.specs.Forms.{sign_of}
 use Rattle.ab_marks.specs.Marking.{marked_in}
 use Rattle.ab_marks.specs.Views.{names_of}

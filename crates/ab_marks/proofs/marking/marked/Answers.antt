@@ -1,6 +1,6 @@
 use Rattle.std.proofs.Common.{sym, subst}
-use Rattle.ab_types.specs.Entries.{Table}
-use Rattle.ab_store.specs.Naming.{LogicalIsTyped}
+use Rattle.ab_norm.specs.ab_types.specs.Entries.{Table}
+use Rattle.ab_norm.specs.ab_store.specs.Naming.{LogicalIsTyped}
 use Rattle.ab_marks.proofs.marking.marked.Goals.{in-Star, in-At, in-Plus, in-Hash}
 use Rattle.ab_marks.proofs.marking.marked.Goals as goal
 

@@ -1,9 +1,9 @@
 use Rattle.std.specs.List.{All}
 use Rattle.std.proofs.Common.{[], ◌∷◌, ◌++◌, take, take_all, sym, ◌∙◌, ap, subst}
-use Rattle.ab_types.specs.Ids.{type_of}
-use Rattle.ab_norm.specs.Nominals.{HoldsNominal}
-use Rattle.ab_cases.specs.Choices.{of_type, new_constant}
-use Rattle.ab_instances.specs.Readings.{names_read}
+use Rattle.ab_alternatives.specs.ab_types.specs.Ids.{type_of}
+use Rattle.ab_alternatives.specs.ab_norm.specs.Nominals.{HoldsNominal}
+use Rattle.ab_alternatives.specs.ab_cases.specs.Choices.{of_type, new_constant}
+use Rattle.ab_alternatives.specs.ab_instances.specs.Readings.{names_read}
 use Rattle.ab_matching.proofs.Branches.{joined, joined_more, joined_held, candidates_are}
 use Rattle.ab_matching.proofs.begun.candidates.Goals as goal
 

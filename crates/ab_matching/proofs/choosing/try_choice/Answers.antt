@@ -1,17 +1,17 @@
 use Rattle.std.proofs.Common.{◌≡◌, List, Ok, arith, refl, ◌∙◌, ap, subst}
 use Rattle.std.specs.Prelude.{IfOk}
-use Rattle.ab_equate.proofs.Restored as restored
-use Rattle.ab_norm.proofs.Frame.{if_ok}
-use Rattle.ab_cases.specs.Choices.{in_order}
-use Rattle.ab_logic.specs.Sequents.{Sequent, goal_names}
-use Rattle.ab_logic.specs.Readings.{sequent_of}
-use Rattle.ab_logic.specs.declared.world.World.{World}
-use Rattle.ab_instances.specs.Readings.{names_read}
-use Rattle.ab_unifying.specs.Problem.{cells_read}
-use Rattle.ab_solver.proofs.Cut.{cut_as_before, cut_grows}
+use Rattle.ab_alternatives.specs.ab_equate.proofs.Restored as restored
+use Rattle.ab_alternatives.specs.ab_norm.proofs.Frame.{if_ok}
+use Rattle.ab_alternatives.specs.ab_cases.specs.Choices.{in_order}
+use Rattle.ab_alternatives.specs.ab_logic.specs.Sequents.{Sequent, goal_names}
+use Rattle.ab_alternatives.specs.ab_logic.specs.Readings.{sequent_of}
+use Rattle.ab_alternatives.specs.ab_logic.specs.declared.world.World.{World}
+use Rattle.ab_alternatives.specs.ab_instances.specs.Readings.{names_read}
+use Rattle.ab_alternatives.specs.ab_unifying.specs.Problem.{cells_read}
+use Rattle.ab_alternatives.specs.ab_solver.proofs.Cut.{cut_as_before, cut_grows}
 use Rattle.ab_alternatives.proofs.Tried.{grown_to, declared_to}
 use Rattle.ab_alternatives.proofs.Undone as undoing
-use Rattle.ab_store.specs.Trees.{tree_of}
+use Rattle.ab_alternatives.specs.ab_store.specs.Trees.{tree_of}
 use Rattle.ab_putting.specs.Making.{parts_read}
 use Rattle.ab_putting.specs.declared.part.Part.{Part}
 use Rattle.ab_matching.specs.Solving.{aim_in}

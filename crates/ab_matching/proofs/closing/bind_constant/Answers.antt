@@ -1,7 +1,7 @@
 use Rattle.std.proofs.Common.{[], refl, sym, ◌∙◌}
-use Rattle.ab_types.specs.Ids.{type_of}
-use Rattle.ab_norm.proofs.Frame.{typed_from, typed_on, typed_more}
-use Rattle.ab_unifying.proofs.Growth.{grows_on, grows_terms}
+use Rattle.ab_alternatives.specs.ab_types.specs.Ids.{type_of}
+use Rattle.ab_alternatives.specs.ab_norm.proofs.Frame.{typed_from, typed_on, typed_more}
+use Rattle.ab_alternatives.specs.ab_unifying.proofs.Growth.{grows_on, grows_terms}
 use Rattle.ab_matching.proofs.Filling.{not_standing, fits_cell, grows_bound}
 use Rattle.ab_matching.proofs.closing.bind_constant.Goals as goal
 

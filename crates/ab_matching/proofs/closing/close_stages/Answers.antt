@@ -2,7 +2,7 @@ use Rattle.std.proofs.Common.{get_or, arith}
 use Rattle.std.proofs.lemmas.List.Elements.{All-push}
 use Rattle.ab_putting.specs.Making.{StageIsHeld}
 use Rattle.ab_putting.specs.declared.stage.Stage.TheVariants.{Instance}
-use Rattle.ab_unifying.proofs.Growth.{grows_on, grows_terms}
+use Rattle.ab_alternatives.specs.ab_unifying.proofs.Growth.{grows_on, grows_terms}
 use Rattle.ab_matching.proofs.Filling.{stage_lasts, stages_last}
 use Rattle.ab_matching.proofs.closing.close_stages.Goals as goal
 

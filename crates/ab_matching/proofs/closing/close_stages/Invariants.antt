@@ -1,6 +1,6 @@
 use Rattle.std.proofs.Common.{◌≤◌}
 use Rattle.std.specs.List.{All}
-use Rattle.ab_unifying.specs.Changed.{Grows}
+use Rattle.ab_alternatives.specs.ab_unifying.specs.Changed.{Grows}
 use Rattle.ab_putting.specs.Making.{StageIsHeld}
 use Rattle.ab_matching.proofs.closing.close_stages.Given as goal
 

@@ -1,5 +1,5 @@
 use Rattle.std.proofs.Common.{get_or, arith}
-use Rattle.ab_unifying.proofs.Growth.{grows_on}
+use Rattle.ab_alternatives.specs.ab_unifying.proofs.Growth.{grows_on}
 use Rattle.ab_matching.proofs.closing.fill_all.Goals as goal
 
 pub fill-requires-clause-cell : goal.fill-requires-clause-cell

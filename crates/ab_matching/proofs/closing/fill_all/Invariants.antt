@@ -1,7 +1,7 @@
 use Rattle.std.proofs.Common.{◌≤◌}
 use Rattle.std.specs.List.{All}
-use Rattle.ab_norm.specs.Nominals.{HoldsNominal}
-use Rattle.ab_unifying.specs.Changed.{Grows}
+use Rattle.ab_alternatives.specs.ab_norm.specs.Nominals.{HoldsNominal}
+use Rattle.ab_alternatives.specs.ab_unifying.specs.Changed.{Grows}
 use Rattle.ab_matching.proofs.closing.fill_all.Given as goal
 
 abbrev pub invariant-loop-cell : goal.invariant-loop-cell

@@ -1,5 +1,5 @@
 use Rattle.std.proofs.lemmas.List.Elements.{All-push, All-weaker}
-use Rattle.ab_solver.specs.Answers.{IsTypedPair}
+use Rattle.ab_alternatives.specs.ab_solver.specs.Answers.{IsTypedPair}
 use Rattle.ab_matching.proofs.Equations.{added, pair_kept}
 use Rattle.ab_matching.proofs.equating.add_equation.Goals as goal
 

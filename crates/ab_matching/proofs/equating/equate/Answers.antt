@@ -1,9 +1,9 @@
 use Rattle.std.specs.Option.{option_map}
 use Rattle.std.proofs.Common.{◌++◌, length, get_or, ◌∙◌, sym, ap, subst, arith}
-use Rattle.ab_store.specs.declared.node.TermId.{TermId}
-use Rattle.ab_store.specs.Trees.{tree_of}
+use Rattle.ab_alternatives.specs.ab_store.specs.declared.node.TermId.{TermId}
+use Rattle.ab_alternatives.specs.ab_store.specs.Trees.{tree_of}
 use Rattle.ab_alternatives.specs.Made.{trees_from}
-use Rattle.ab_norm.proofs.Frame.{typed_on}
+use Rattle.ab_alternatives.specs.ab_norm.proofs.Frame.{typed_on}
 use Rattle.ab_matching.specs.Solving.{equation_at, IsFormulaTermIfAny}
 use Rattle.ab_matching.proofs.Equations.{any_kept, stepped, whole}
 use Rattle.ab_matching.proofs.equating.equate.Goals as goal

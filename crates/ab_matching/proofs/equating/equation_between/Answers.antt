@@ -1,4 +1,4 @@
-use Rattle.ab_norm.proofs.Frame.{typed_on}
+use Rattle.ab_alternatives.specs.ab_norm.proofs.Frame.{typed_on}
 use Rattle.ab_matching.proofs.Equations.{pair_typed}
 use Rattle.ab_matching.proofs.equating.equation_between.Goals as goal
 

@@ -1,14 +1,14 @@
 use Rattle.std.proofs.Common.{◌<◌, ◌≤◌, arith, sym, ◌∙◌, get_or, subst}
 use Rattle.std.specs.List.{All}
 use Rattle.std.proofs.lemmas.List.Elements.{All-push, All-same, All-weaker}
-use Rattle.ab_store.specs.declared.node.TermId.{TermId}
-use Rattle.ab_store.specs.Naming.{NodeIsTyped}
-use Rattle.ab_store.specs.Trees.{Holds}
-use Rattle.ab_logic.specs.Marks.{erased}
-use Rattle.ab_norm.proofs.Bounds.{ids_bound, bound_within, below_bound}
-use Rattle.ab_norm.proofs.Frame.{typed_on, typed_more, if_ok, spine_names}
-use Rattle.ab_norm.proofs.Renamed.{read_more_before}
-use Rattle.ab_marks.proofs.Erased.{erased_spine}
+use Rattle.ab_alternatives.specs.ab_store.specs.declared.node.TermId.{TermId}
+use Rattle.ab_alternatives.specs.ab_store.specs.Naming.{NodeIsTyped}
+use Rattle.ab_alternatives.specs.ab_store.specs.Trees.{Holds}
+use Rattle.ab_alternatives.specs.ab_logic.specs.Marks.{erased}
+use Rattle.ab_alternatives.specs.ab_norm.proofs.Bounds.{ids_bound, bound_within, below_bound}
+use Rattle.ab_alternatives.specs.ab_norm.proofs.Frame.{typed_on, typed_more, if_ok, spine_names}
+use Rattle.ab_alternatives.specs.ab_norm.proofs.Renamed.{read_more_before}
+use Rattle.ab_alternatives.specs.ab_marks.proofs.Erased.{erased_spine}
 use Rattle.ab_matching.proofs.erasing.+erased.Goals as goal
 
 pub erase-returns-in-Lam-clause-adds : goal.erase-returns-in-Lam-clause-adds

@@ -1,6 +1,6 @@
 use Rattle.std.proofs.Common.{Ok, ◌≡◌, sym, ◌∙◌, ap, subst}
 use Rattle.std.specs.List.{All}
-use Rattle.ab_types.specs.Ids.{HoldsType}
+use Rattle.ab_alternatives.specs.ab_types.specs.Ids.{HoldsType}
 use Rattle.ab_matching.specs.Named.{types_named}
 use Rattle.ab_matching.specs.Readings.{using_of}
 use Rattle.ab_matching.specs.declared.outcome.Outcome.TheVariants.{Stuck, Open, Used}

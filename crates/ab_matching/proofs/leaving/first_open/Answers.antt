@@ -1,5 +1,5 @@
 use Rattle.std.proofs.Common.{◌≡◌, ◌∷◌, get_or, sym, ◌∙◌, ap, arith}
-use Rattle.ab_store.specs.declared.node.CellId.{CellId}
+use Rattle.ab_alternatives.specs.ab_store.specs.declared.node.CellId.{CellId}
 use Rattle.ab_matching.specs.Solving.{is_open}
 use Rattle.ab_matching.proofs.Equations.{first_hit}
 use Rattle.ab_matching.proofs.leaving.first_open.Goals as goal

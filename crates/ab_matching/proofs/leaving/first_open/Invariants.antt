@@ -1,5 +1,5 @@
 use Rattle.std.proofs.Common.{◌≡◌, [], filter, take}
-use Rattle.ab_types.specs.Entries.{Table}
+use Rattle.ab_alternatives.specs.ab_types.specs.Entries.{Table}
 use Rattle.ab_matching.specs.Solving.{is_open}
 use Rattle.ab_matching.proofs.leaving.first_open.Given as goal
 

@@ -1,7 +1,7 @@
 use Rattle.std.proofs.Common.{arith}
 use Rattle.std.proofs.lemmas.List.Elements.{All-push, All-weaker}
-use Rattle.ab_store.specs.Trees.{Holds}
-use Rattle.ab_norm.proofs.Frame.{typed_on, typed_from}
+use Rattle.ab_alternatives.specs.ab_store.specs.Trees.{Holds}
+use Rattle.ab_alternatives.specs.ab_norm.proofs.Frame.{typed_on, typed_from}
 use Rattle.ab_matching.proofs.Equations.{resolved_more}
 use Rattle.ab_matching.proofs.leaving.resolve_all.Goals as goal
 

@@ -1,8 +1,8 @@
 use Rattle.std.proofs.Common.{◌≡◌, ◌≤◌, map, take}
 use Rattle.std.specs.List.{All}
-use Rattle.ab_store.specs.Trees.{Holds, tree_of}
-use Rattle.ab_store.specs.Reading.{reading}
-use Rattle.ab_norm.specs.Growth.{AddsTypedTerms}
+use Rattle.ab_alternatives.specs.ab_store.specs.Trees.{Holds, tree_of}
+use Rattle.ab_alternatives.specs.ab_store.specs.Reading.{reading}
+use Rattle.ab_alternatives.specs.ab_norm.specs.Growth.{AddsTypedTerms}
 use Rattle.ab_matching.proofs.leaving.resolve_all.Given as goal
 
 abbrev pub invariant-loop-term : goal.invariant-loop-term

@@ -1,5 +1,5 @@
 use Rattle.std.proofs.Common.{◌≡◌, false, take}
-use Rattle.ab_types.specs.Entries.{Table}
+use Rattle.ab_alternatives.specs.ab_types.specs.Entries.{Table}
 use Rattle.ab_matching.specs.Solving.{stands_in}
 use Rattle.ab_matching.proofs.leaving.stands.Given as goal
 

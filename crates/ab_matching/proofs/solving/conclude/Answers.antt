@@ -1,9 +1,9 @@
 use Rattle.std.specs.List.{All}
 use Rattle.std.proofs.Common.{◌++◌, ◌∷◌, [], Ok, refl, sym, ◌∙◌, ap, subst}
 use Rattle.std.proofs.lemmas.List.Elements.{All-push}
-use Rattle.ab_store.specs.Trees.{Holds}
-use Rattle.ab_norm.proofs.Frame.{still_held, typed_from, typed_on}
-use Rattle.ab_unifying.proofs.Growth.{grows_on, grows_terms}
+use Rattle.ab_alternatives.specs.ab_store.specs.Trees.{Holds}
+use Rattle.ab_alternatives.specs.ab_norm.proofs.Frame.{still_held, typed_from, typed_on}
+use Rattle.ab_alternatives.specs.ab_unifying.proofs.Growth.{grows_on, grows_terms}
 use Rattle.ab_putting.specs.Making.{StageIsHeld}
 use Rattle.ab_matching.proofs.Concluding.{left_open, left_used}
 use Rattle.ab_matching.proofs.Filling.{stages_last}

@@ -2,22 +2,22 @@ use Rattle.std.specs.Prelude.{is_some, ◌≤◌}
 use Rattle.std.specs.List.{All}
 use Rattle.std.proofs.Common.{◌≡◌, true, false, List, map, length, Ok, arith, ◌∙◌, ap, sym, subst}
 use Rattle.std.proofs.lemmas.List.Elements.{All-append}
-use Rattle.ab_norm.specs.Nominals.{HoldsNominal}
-use Rattle.ab_norm.proofs.Frame.{if_ok}
-use Rattle.ab_unifying.specs.Problem.{cells_read}
-use Rattle.ab_unifying.specs.Changed.{Grows}
-use Rattle.ab_unifying.proofs.Growth.{grows_on, grows_terms}
-use Rattle.ab_instances.proofs.Made.{names_held}
+use Rattle.ab_alternatives.specs.ab_norm.specs.Nominals.{HoldsNominal}
+use Rattle.ab_alternatives.specs.ab_norm.proofs.Frame.{if_ok}
+use Rattle.ab_alternatives.specs.ab_unifying.specs.Problem.{cells_read}
+use Rattle.ab_alternatives.specs.ab_unifying.specs.Changed.{Grows}
+use Rattle.ab_alternatives.specs.ab_unifying.proofs.Growth.{grows_on, grows_terms}
+use Rattle.ab_alternatives.specs.ab_instances.proofs.Made.{names_held}
 use Rattle.ab_term.specs.Terms.{Nominal}
-use Rattle.ab_store.specs.declared.node.TermId.{TermId}
-use Rattle.ab_store.specs.declared.node.Equation.{Equation}
-use Rattle.ab_store.specs.Trees.{tree_of}
-use Rattle.ab_solver.specs.Answers.{IsTypedPair}
-use Rattle.ab_instances.specs.Readings.{names_read}
+use Rattle.ab_alternatives.specs.ab_store.specs.declared.node.TermId.{TermId}
+use Rattle.ab_alternatives.specs.ab_store.specs.declared.node.Equation.{Equation}
+use Rattle.ab_alternatives.specs.ab_store.specs.Trees.{tree_of}
+use Rattle.ab_alternatives.specs.ab_solver.specs.Answers.{IsTypedPair}
+use Rattle.ab_alternatives.specs.ab_instances.specs.Readings.{names_read}
 use Rattle.ab_putting.specs.Making.{parts_read, IsMade}
 use Rattle.ab_matching.specs.Solving.{missing, all_equations, aim_in}
 use Rattle.ab_matching.specs.Choosing.{IsSolvedSo}
-use Rattle.ab_using.specs.Uses.{used}
+use Rattle.ab_putting.specs.ab_using.specs.Uses.{used}
 use Rattle.ab_matching.proofs.UseMade.{comes_out, own_from, same_aim, stages_grown, one_grown, formulas_grown}
 use Rattle.ab_matching.proofs.solving.use_choice.Goals as goal
 use Rattle.ab_matching.proofs.solving.use_choice.Goals.{else-is_some-via-then-is_some+else-len-gt1, else-is_some-via-else-is_some}

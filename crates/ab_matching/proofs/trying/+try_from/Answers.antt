@@ -1,15 +1,15 @@
 use Rattle.std.specs.List.{All}
 use Rattle.std.proofs.Common.{◌≡◌, [], ◌∷◌, List, take, drop, length, slice_index_or, ◌-◌, take_all, arith, sym, ◌∙◌, ap, subst}
-use Rattle.ab_types.specs.Ids.{HoldsType}
-use Rattle.ab_types.specs.declared.ids.TypeId.{TypeId}
-use Rattle.ab_types.proofs.Entries.{type_still_held}
-use Rattle.ab_store.proofs.Results.{if_ok}
-use Rattle.ab_norm.specs.Nominals.{nominal_of, HoldsNominal}
-use Rattle.ab_norm.specs.declared.nominal.Nominal.{Nominal}
-use Rattle.ab_unifying.specs.Problem.{cells_read}
-use Rattle.ab_instances.specs.Readings.{names_read}
-use Rattle.ab_logic.specs.Readings.{sequent_of}
-use Rattle.ab_logic.proofs.Growing.{grows_on}
+use Rattle.ab_alternatives.specs.ab_types.specs.Ids.{HoldsType}
+use Rattle.ab_alternatives.specs.ab_types.specs.declared.ids.TypeId.{TypeId}
+use Rattle.ab_alternatives.specs.ab_types.proofs.Entries.{type_still_held}
+use Rattle.ab_alternatives.specs.ab_store.proofs.Results.{if_ok}
+use Rattle.ab_alternatives.specs.ab_norm.specs.Nominals.{nominal_of, HoldsNominal}
+use Rattle.ab_alternatives.specs.ab_norm.specs.declared.nominal.Nominal.{Nominal}
+use Rattle.ab_alternatives.specs.ab_unifying.specs.Problem.{cells_read}
+use Rattle.ab_alternatives.specs.ab_instances.specs.Readings.{names_read}
+use Rattle.ab_alternatives.specs.ab_logic.specs.Readings.{sequent_of}
+use Rattle.ab_alternatives.specs.ab_logic.proofs.Growing.{grows_on}
 use Rattle.ab_matching.specs.Posing.{using_at}
 use Rattle.ab_matching.specs.Trying.{choices_behind, NoneServes, FirstComesOut}
 use Rattle.ab_matching.proofs.Items.{none_left, first_and_rest, rest_all, rest_shorter}

@@ -1,8 +1,8 @@
 use Rattle.std.proofs.Common.{◌≡◌, ◌≤◌, take, length}
-use Rattle.ab_unifying.specs.Problem.{cells_read}
-use Rattle.ab_logic.specs.Growth.{Grows}
-use Rattle.ab_logic.specs.Readings.{sequent_of}
-use Rattle.ab_logic.specs.Worlds.{declarations_of}
+use Rattle.ab_alternatives.specs.ab_unifying.specs.Problem.{cells_read}
+use Rattle.ab_alternatives.specs.ab_logic.specs.Growth.{Grows}
+use Rattle.ab_alternatives.specs.ab_logic.specs.Readings.{sequent_of}
+use Rattle.ab_alternatives.specs.ab_logic.specs.Worlds.{declarations_of}
 use Rattle.ab_matching.specs.Posing.{using_at}
 use Rattle.ab_matching.specs.Trying.{NoneServes}
 use Rattle.ab_matching.proofs.Branches.{branches}

@@ -1,8 +1,8 @@
 use Rattle.std.proofs.Common.{◌≡◌, ℕ, ◌+◌, ◌≤◌, ◌⊎◌, inl, inr, List, [], ◌∷◌, ◌++◌, length, map, sym, ap, ◌∙◌, arith, length-append}
 use Rattle.std.proofs.lemmas.List.{length-map}
 use Rattle.std.proofs.lemmas.Result.{IfOk-weaker}
-use Rattle.ab_types.specs.Entries.{Table, a_kind, a_type, a_constant, constants, names}
-use Rattle.ab_types.proofs.Entries.{length-names}
+use Rattle.ab_logic.specs.ab_types.specs.Entries.{Table, a_kind, a_type, a_constant, constants, names}
+use Rattle.ab_logic.specs.ab_types.proofs.Entries.{length-names}
 use Rattle.ab_logic.specs.Declarations.{constant_names}
 use Rattle.ab_logic.specs.Sequents.{Variable}
 use Rattle.ab_logic.specs.Names.{IsNamedFor, IsFreeName}

@@ -1,6 +1,6 @@
 use Rattle.std.proofs.Common.{◌≡◌, ◌+◌, ◌*◌, map, take}
-use Rattle.ab_types.specs.Entries.{Table}
-use Rattle.ab_types.specs.Sound.{IsTable}
+use Rattle.ab_store.specs.ab_types.specs.Entries.{Table}
+use Rattle.ab_store.specs.ab_types.specs.Sound.{IsTable}
 use Rattle.ab_store.specs.Naming.{IsTypedBy}
 use Rattle.ab_norm.specs.Matching.{AllAgree}
 use Rattle.ab_norm.proofs.Bounds.{ids_bound}

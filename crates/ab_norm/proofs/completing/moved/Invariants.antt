@@ -1,7 +1,7 @@
 use Rattle.std.proofs.Common.{◌≡◌, drop}
 use Rattle.ab_term.specs.Names.{moved_by}
-use Rattle.ab_types.specs.Entries.{Table}
-use Rattle.ab_types.specs.Sound.{IsTable}
+use Rattle.ab_store.specs.ab_types.specs.Entries.{Table}
+use Rattle.ab_store.specs.ab_types.specs.Sound.{IsTable}
 use Rattle.ab_norm.specs.Nominals.{nominal_of, pairs_of, HoldsNominal, HoldsPairs}
 use Rattle.ab_norm.proofs.completing.moved.Given as goal
 

@@ -2,7 +2,7 @@ use Rattle.std.proofs.Common.{arith, ap, sym, ◌∙◌, subst, length, map, cod
 use Rattle.std.proofs.lemmas.List.Elements.{All-push, All-nil}
 use Rattle.ab_term.specs.Terms.{index, terms_of}
 use Rattle.ab_term.specs.Expansion.{expansion_of}
-use Rattle.ab_types.specs.Ids.{type_of}
+use Rattle.ab_store.specs.ab_types.specs.Ids.{type_of}
 use Rattle.ab_store.specs.Trees.{Holds, tree_of}
 use Rattle.ab_store.specs.Naming.{HeadNames}
 use Rattle.ab_norm.proofs.Bounds.{size}

@@ -1,5 +1,5 @@
 use Rattle.std.proofs.Common.{◌+◌, ◌*◌}
-use Rattle.ab_types.specs.Ids.{type_of}
+use Rattle.ab_store.specs.ab_types.specs.Ids.{type_of}
 use Rattle.ab_norm.proofs.Bounds.{size}
 use Rattle.ab_norm.proofs.expanding.+expanded.Given as goal
 

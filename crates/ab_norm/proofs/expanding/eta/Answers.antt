@@ -3,8 +3,8 @@ use Rattle.ab_term.specs.Terms.{terms_of}
 use Rattle.ab_term.specs.Typing.{HasType}
 use Rattle.ab_term.specs.Expansion.{expansion_of, expansion}
 use Rattle.ab_term.proofs.Expansions.{expansion_typed}
-use Rattle.ab_types.specs.Entries.{signature}
-use Rattle.ab_types.specs.Ids.{type_of}
+use Rattle.ab_store.specs.ab_types.specs.Entries.{signature}
+use Rattle.ab_store.specs.ab_types.specs.Ids.{type_of}
 use Rattle.ab_store.specs.Trees.{tree_of, head_reading}
 use Rattle.ab_norm.proofs.Frame.{if_ok, if_both}
 use Rattle.ab_norm.proofs.Clear.{expansion_reads}

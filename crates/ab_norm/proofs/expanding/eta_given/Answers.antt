@@ -2,8 +2,8 @@ use Rattle.std.proofs.Common.{sym, subst, map, codes}
 use Rattle.ab_term.specs.Terms.{terms_of}
 use Rattle.ab_term.specs.Typing.{HasType}
 use Rattle.ab_term.proofs.Expansions.{expansion_of_typed}
-use Rattle.ab_types.specs.Entries.{signature}
-use Rattle.ab_types.specs.Ids.{type_of}
+use Rattle.ab_store.specs.ab_types.specs.Entries.{signature}
+use Rattle.ab_store.specs.ab_types.specs.Ids.{type_of}
 use Rattle.ab_store.specs.Trees.{tree_of, head_reading}
 use Rattle.ab_norm.proofs.Frame.{if_ok, if_both}
 use Rattle.ab_norm.proofs.GivenHeads.{given_reads}

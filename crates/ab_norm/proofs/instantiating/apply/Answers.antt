@@ -1,7 +1,7 @@
 use Rattle.std.proofs.Common.{ap, sym, ◌∙◌, subst}
 use Rattle.ab_term.specs.Substitution.{instance, substitute}
 use Rattle.ab_term.proofs.Reaching.{raise-none}
-use Rattle.ab_types.specs.Ids.{type_of}
+use Rattle.ab_store.specs.ab_types.specs.Ids.{type_of}
 use Rattle.ab_store.specs.Naming.{NodeIsTyped}
 use Rattle.ab_store.specs.Trees.{tree_of, node_tree}
 use Rattle.ab_norm.specs.declared.walking.Change.TheVariants.{Put}

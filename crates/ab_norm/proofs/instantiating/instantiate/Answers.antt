@@ -2,7 +2,7 @@ use Rattle.std.proofs.Common.{arith, refl, map, subst, sym}
 use Rattle.ab_term.specs.Substitution.{instance_by_all}
 use Rattle.ab_term.specs.Typing.{HasType}
 use Rattle.ab_term.proofs.Preservation.{instance_by_all_typed}
-use Rattle.ab_types.specs.Entries.{signature}
+use Rattle.ab_store.specs.ab_types.specs.Entries.{signature}
 use Rattle.ab_store.specs.Trees.{tree_of}
 use Rattle.std.proofs.lemmas.List.{drop_all}
 use Rattle.ab_norm.proofs.Frame.{adds_none, adds_on}

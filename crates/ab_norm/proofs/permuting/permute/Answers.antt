@@ -4,7 +4,7 @@ use Rattle.ab_term.specs.Names as tree
 use Rattle.ab_term.specs.Names.{moved_by}
 use Rattle.ab_term.proofs.Renamings.{rename_typed}
 use Rattle.ab_term.proofs.Permutations.{one_to_one}
-use Rattle.ab_types.specs.Entries.{signature}
+use Rattle.ab_store.specs.ab_types.specs.Entries.{signature}
 use Rattle.ab_store.specs.Trees.{tree_of}
 use Rattle.ab_norm.specs.Nominals.{pairs_of}
 use Rattle.ab_norm.proofs.Frame.{if_ok, if_both, typed_from, typed_on}

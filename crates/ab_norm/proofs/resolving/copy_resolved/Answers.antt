@@ -1,6 +1,6 @@
 use Rattle.std.proofs.Common.{sym, ◌∙◌, subst}
 use Rattle.ab_term.specs.Typing.{HasType}
-use Rattle.ab_types.specs.Entries.{signature}
+use Rattle.ab_store.specs.ab_types.specs.Entries.{signature}
 use Rattle.ab_store.proofs.Putting.{resolved_reads, read_typed}
 use Rattle.ab_norm.proofs.Frame.{if_both, adds_none}
 use Rattle.ab_norm.proofs.resolving.copy_resolved.Goals as goal

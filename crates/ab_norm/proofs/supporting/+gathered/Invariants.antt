@@ -2,7 +2,7 @@ use Rattle.std.proofs.Common.{◌+◌, ◌*◌, map, take}
 use Rattle.std.specs.List.{All}
 use Rattle.ab_term.specs.Names.{support_of_all}
 use Rattle.ab_term.specs.Terms.{terms_of}
-use Rattle.ab_types.specs.Entries.{Table}
+use Rattle.ab_store.specs.ab_types.specs.Entries.{Table}
 use Rattle.ab_store.specs.Trees.{tree_of}
 use Rattle.ab_store.specs.Naming.{IsTypedBy}
 use Rattle.ab_norm.specs.Nominals.{HoldsNominal}

@@ -1,4 +1,4 @@
-use Rattle.ab_types.proofs.Entries.{type_still_held}
+use Rattle.ab_store.specs.ab_types.proofs.Entries.{type_still_held}
 use Rattle.ab_norm.proofs.tests.arrow.Goals as goal
 
 pub returns-clause-types : goal.returns-clause-types

@@ -1,6 +1,6 @@
 use Rattle.std.proofs.Common.{sym, subst}
-use Rattle.ab_types.specs.Ids.{HoldsConstant}
-use Rattle.ab_types.proofs.Entries.{holds_constant, type_still_held}
+use Rattle.ab_store.specs.ab_types.specs.Ids.{HoldsConstant}
+use Rattle.ab_store.specs.ab_types.proofs.Entries.{holds_constant, type_still_held}
 use Rattle.ab_norm.proofs.tests.constant.Goals as goal
 
 pub returns-clause-types : goal.returns-clause-types

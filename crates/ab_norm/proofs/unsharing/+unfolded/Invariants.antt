@@ -1,6 +1,6 @@
 use Rattle.std.proofs.Common.{◌≡◌, ◌+◌, ◌*◌, map, take}
 use Rattle.std.specs.List.{All}
-use Rattle.ab_types.specs.Entries.{Table}
+use Rattle.ab_store.specs.ab_types.specs.Entries.{Table}
 use Rattle.ab_store.specs.Trees.{tree_of}
 use Rattle.ab_store.specs.Naming.{IsTypedBy}
 use Rattle.ab_norm.specs.Trees.{tree_reading, HoldsTree}

@@ -3,7 +3,7 @@ use Rattle.std.specs.List.{All}
 use Rattle.std.proofs.lemmas.List.Elements.{All-push, All-same, All-drop, All-weaker}
 use Rattle.ab_term.specs.Terms.{terms_of}
 use Rattle.ab_term.specs.Substitution.{reduce}
-use Rattle.ab_types.specs.Ids.{type_of}
+use Rattle.ab_store.specs.ab_types.specs.Ids.{type_of}
 use Rattle.ab_store.specs.declared.node.TermId.{TermId}
 use Rattle.ab_store.specs.Naming.{HeadNames, NodeIsTyped}
 use Rattle.ab_store.specs.Trees.{Holds, tree_of}

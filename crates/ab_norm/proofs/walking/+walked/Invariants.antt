@@ -1,6 +1,6 @@
 use Rattle.std.proofs.Common.{◌≡◌, ◌+◌, ◌*◌, ◌^◌, ◌≤◌, map, take}
 use Rattle.std.specs.List.{All}
-use Rattle.ab_types.specs.Ids.{type_of}
+use Rattle.ab_store.specs.ab_types.specs.Ids.{type_of}
 use Rattle.ab_store.specs.Trees.{Holds, tree_of}
 use Rattle.ab_norm.specs.Changes.{changed, Remembers, AddsFor}
 use Rattle.ab_norm.proofs.Bounds.{ids_bound, size, rank}

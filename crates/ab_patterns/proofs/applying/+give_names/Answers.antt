@@ -1,9 +1,9 @@
 use Rattle.std.proofs.Common.{arith}
 use Rattle.std.proofs.lemmas.List.Elements.{All-push, All-weaker}
 use Rattle.std.proofs.lemmas.Result.{on_ok_weaker}
-use Rattle.ab_types.specs.Ids.{type_of}
-use Rattle.ab_store.specs.Trees.{Holds}
-use Rattle.ab_store.specs.Naming.{HoldsHead, HeadIsTyped}
+use Rattle.ab_norm.specs.ab_types.specs.Ids.{type_of}
+use Rattle.ab_norm.specs.ab_store.specs.Trees.{Holds}
+use Rattle.ab_norm.specs.ab_store.specs.Naming.{HoldsHead, HeadIsTyped}
 use Rattle.ab_norm.proofs.Frame.{typed_on}
 use Rattle.ab_patterns.proofs.GivenNames.{rest_kept, heads_held, rest_heads_shorter, names_read}
 use Rattle.ab_patterns.proofs.applying.+give_names.Goals as goal

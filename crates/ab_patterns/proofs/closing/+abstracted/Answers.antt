@@ -1,5 +1,5 @@
 use Rattle.std.proofs.Common.{arith}
-use Rattle.ab_types.specs.Ids.{type_of}
+use Rattle.ab_norm.specs.ab_types.specs.Ids.{type_of}
 use Rattle.ab_norm.proofs.Frame.{if_ok, typed_on, typed_from, typed_more}
 use Rattle.ab_patterns.proofs.Among.{abstracted_reads}
 use Rattle.ab_patterns.proofs.ToldApart.{told_by}

@@ -1,9 +1,9 @@
 use Rattle.std.proofs.Common.{◌<◌, ◌≤◌, arith, sym, ◌∙◌, ap, subst, get_or}
 use Rattle.std.specs.List.{All}
 use Rattle.std.proofs.lemmas.List.Elements.{All-push, All-same}
-use Rattle.ab_store.specs.declared.node.TermId.{TermId}
-use Rattle.ab_store.specs.Trees.{Holds, tree_of, head_reading}
-use Rattle.ab_store.specs.Naming.{NodeIsTyped}
+use Rattle.ab_norm.specs.ab_store.specs.declared.node.TermId.{TermId}
+use Rattle.ab_norm.specs.ab_store.specs.Trees.{Holds, tree_of, head_reading}
+use Rattle.ab_norm.specs.ab_store.specs.Naming.{NodeIsTyped}
 use Rattle.ab_norm.proofs.Bounds.{ids_bound, bound_within, below_bound}
 use Rattle.ab_norm.proofs.Changed.{always_ok}
 use Rattle.ab_norm.proofs.Frame.{adds_on, still_held, read_more, if_ok, adds_lam, adds_spine, spine_names, still_held_head, same_head}

@@ -1,7 +1,7 @@
 use Rattle.std.proofs.Common.{◌≡◌, ◌+◌, ◌*◌, map, take}
 use Rattle.std.specs.List.{All}
-use Rattle.ab_types.specs.Entries.{Table}
-use Rattle.ab_store.specs.Trees.{Holds, tree_of, head_reading}
+use Rattle.ab_norm.specs.ab_types.specs.Entries.{Table}
+use Rattle.ab_norm.specs.ab_store.specs.Trees.{Holds, tree_of, head_reading}
 use Rattle.ab_term.specs.Closing as closing
 use Rattle.ab_norm.specs.Growth.{AddsTerms}
 use Rattle.ab_norm.proofs.Bounds.{ids_bound}

@@ -1,6 +1,6 @@
 use Rattle.std.proofs.Common.{◌∙◌, ap}
 use Rattle.ab_term.specs.Closing as closing
-use Rattle.ab_store.specs.Trees.{Holds, tree_of, head_reading}
+use Rattle.ab_norm.specs.ab_store.specs.Trees.{Holds, tree_of, head_reading}
 use Rattle.ab_norm.proofs.Frame.{if_ok}
 use Rattle.ab_patterns.specs.Closing.{IsClosing}
 use Rattle.ab_patterns.proofs.Closed.{sunk_none}

@@ -1,7 +1,7 @@
 use Rattle.std.proofs.Common.{◌∙◌, ap}
 use Rattle.std.proofs.lemmas.Bool.{false≢true}
 use Rattle.ab_term.specs.Closing as closing
-use Rattle.ab_store.specs.Trees.{head_reading}
+use Rattle.ab_norm.specs.ab_store.specs.Trees.{head_reading}
 use Rattle.ab_norm.proofs.Frame.{if_ok}
 use Rattle.ab_patterns.proofs.Closed.{closed_same}
 use Rattle.ab_patterns.proofs.ToldApart.{closed_told}

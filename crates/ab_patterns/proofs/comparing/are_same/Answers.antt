@@ -1,8 +1,8 @@
 use Rattle.std.proofs.Common.{◌↔◌, IsTrue, subst}
 use Rattle.ab_term.specs.Translation.{EqualPastHints}
-use Rattle.ab_store.specs.Trees.{tree_of}
-use Rattle.ab_store.specs.Reading.{reading}
-use Rattle.ab_store.proofs.Putting.{resolved_reads}
+use Rattle.ab_norm.specs.ab_store.specs.Trees.{tree_of}
+use Rattle.ab_norm.specs.ab_store.specs.Reading.{reading}
+use Rattle.ab_norm.specs.ab_store.proofs.Putting.{resolved_reads}
 use Rattle.ab_norm.proofs.Frame.{if_ok}
 use Rattle.ab_patterns.proofs.comparing.are_same.Goals as goal
 

@@ -1,6 +1,6 @@
 use Rattle.std.proofs.Common.{◌≡◌, ◌+◌, ◌∷◌, [], ◌++◌, cond, take, get_or, sym, ◌∙◌, ap, arith, append-nil}
 use Rattle.std.specs.HashMap.{get}
-use Rattle.ab_store.specs.declared.node.CellId.{CellId}
+use Rattle.ab_norm.specs.ab_store.specs.declared.node.CellId.{CellId}
 use Rattle.ab_patterns.specs.Flexible.{same_cell, counts, listed_from}
 use Rattle.ab_patterns.proofs.Placed.{listed_next}
 use Rattle.ab_patterns.proofs.flexible.listed.Goals as goal

@@ -1,7 +1,7 @@
 use Rattle.std.proofs.Common.{map, sym, ◌∙◌, ap, arith}
 use Rattle.ab_term.specs.Closing.{among, may_stand}
-use Rattle.ab_types.specs.Ids.{type_of}
-use Rattle.ab_store.specs.Trees.{head_reading}
+use Rattle.ab_norm.specs.ab_types.specs.Ids.{type_of}
+use Rattle.ab_norm.specs.ab_store.specs.Trees.{head_reading}
 use Rattle.ab_patterns.specs.Walking.{deep}
 use Rattle.ab_patterns.proofs.Walked.{stands_inside, stands_outside, nominal_stands}
 use Rattle.ab_patterns.proofs.foreign.may_stand.Goals as goal

@@ -1,5 +1,5 @@
 use Rattle.std.proofs.Common.{subst}
-use Rattle.ab_store.specs.Naming.{NodeIsTyped}
+use Rattle.ab_norm.specs.ab_store.specs.Naming.{NodeIsTyped}
 use Rattle.ab_patterns.proofs.Named.{if_some}
 use Rattle.ab_patterns.proofs.names.+inner_head.Goals as goal
 

@@ -1,6 +1,6 @@
 use Rattle.std.proofs.Common.{arith, option_map}
-use Rattle.ab_types.specs.Ids.{type_of}
-use Rattle.ab_store.specs.Trees.{head_reading}
+use Rattle.ab_norm.specs.ab_types.specs.Ids.{type_of}
+use Rattle.ab_norm.specs.ab_store.specs.Trees.{head_reading}
 use Rattle.ab_norm.proofs.Frame.{if_ok, typed_on}
 use Rattle.ab_patterns.proofs.ArgumentNames.{rest_shorter, rest_held, pattern_reads}
 use Rattle.ab_patterns.proofs.Resolved.{rest_resolved}

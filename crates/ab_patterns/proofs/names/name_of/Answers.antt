@@ -1,6 +1,6 @@
 use Rattle.std.proofs.Common.{codes, sym}
-use Rattle.ab_types.specs.Ids.{type_of}
-use Rattle.ab_store.specs.Trees.{tree_of, head_reading}
+use Rattle.ab_norm.specs.ab_types.specs.Ids.{type_of}
+use Rattle.ab_norm.specs.ab_store.specs.Trees.{tree_of, head_reading}
 use Rattle.ab_patterns.proofs.Rules.{true_or_not}
 use Rattle.ab_patterns.proofs.Named.{name_found, name_missed, name_resolved}
 use Rattle.ab_patterns.proofs.names.name_of.Goals as goal

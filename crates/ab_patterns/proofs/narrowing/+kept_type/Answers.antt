@@ -1,7 +1,7 @@
-use Rattle.ab_types.proofs.Entries.{type_still_held}
+use Rattle.ab_norm.specs.ab_types.proofs.Entries.{type_still_held}
 use Rattle.ab_norm.proofs.Frame.{if_ok}
 use Rattle.ab_term.specs.Types.{arrow}
-use Rattle.ab_types.specs.Ids.{type_of}
+use Rattle.ab_norm.specs.ab_types.specs.Ids.{type_of}
 use Rattle.ab_patterns.proofs.Keeping.{kept_reads, found_kinds, found_constants}
 use Rattle.ab_patterns.proofs.narrowing.+kept_type.Goals as goal
 

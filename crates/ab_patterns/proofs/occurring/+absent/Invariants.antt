@@ -1,6 +1,6 @@
 use Rattle.std.proofs.Common.{◌+◌, ◌*◌, take}
 use Rattle.std.specs.List.{All}
-use Rattle.ab_types.specs.Entries.{Table}
+use Rattle.ab_norm.specs.ab_types.specs.Entries.{Table}
 use Rattle.ab_norm.proofs.Bounds.{ids_bound}
 use Rattle.ab_patterns.specs.Walking.{IsAbsent, AllAbsent}
 use Rattle.ab_patterns.proofs.occurring.+absent.Given as goal

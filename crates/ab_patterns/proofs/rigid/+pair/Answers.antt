@@ -2,8 +2,8 @@ use Rattle.std.proofs.Common.{◌-◌, length, drop, sym, subst}
 use Rattle.std.specs.List.{All}
 use Rattle.std.proofs.lemmas.List.Elements.{All-take, All-drop, All-push, All-get_or}
 use Rattle.std.proofs.lemmas.Result.{on_ok_weaker}
-use Rattle.ab_store.specs.declared.node.TermId.{TermId}
-use Rattle.ab_store.specs.Trees.{Holds}
+use Rattle.ab_norm.specs.ab_store.specs.declared.node.TermId.{TermId}
+use Rattle.ab_norm.specs.ab_store.specs.Trees.{Holds}
 use Rattle.ab_patterns.specs.Readings.{HoldsEquation}
 use Rattle.ab_patterns.proofs.rigid.+pair.Goals as goal
 

@@ -1,9 +1,9 @@
 use Rattle.std.proofs.Common.{◌++◌, map, Some, ◌∙◌, ap}
 use Rattle.std.proofs.lemmas.Bool.{false≢true}
 use Rattle.ab_term.specs.Terms.{terms_of}
-use Rattle.ab_store.specs.Trees.{tree_of, head_reading}
+use Rattle.ab_norm.specs.ab_store.specs.Trees.{tree_of, head_reading}
 use Rattle.ab_solve.specs.Solving.{parts, paired}
-use Rattle.ab_store.specs.Reading.{cell_variable}
+use Rattle.ab_norm.specs.ab_store.specs.Reading.{cell_variable}
 use Rattle.ab_patterns.specs.Readings.{equation_of}
 use Rattle.ab_patterns.proofs.Rules.{one_rigid, other_rigid, heads_differ}
 use Rattle.ab_patterns.proofs.rigid.heads.Goals as goal

@@ -1,9 +1,9 @@
 use Rattle.std.proofs.Common.{map, Some, ◌∙◌, ap, subst}
-use Rattle.ab_store.specs.Trees.{node_tree}
-use Rattle.ab_store.specs.Naming.{NodeIsTyped}
+use Rattle.ab_norm.specs.ab_store.specs.Trees.{node_tree}
+use Rattle.ab_norm.specs.ab_store.specs.Naming.{NodeIsTyped}
 use Rattle.ab_norm.proofs.Frame.{if_ok}
 use Rattle.ab_solve.specs.Solving.{or_else, bodies, rigid_heads, parts}
-use Rattle.ab_store.specs.Reading.{cell_variable}
+use Rattle.ab_norm.specs.ab_store.specs.Reading.{cell_variable}
 use Rattle.ab_patterns.specs.Readings.{equation_of, simple_of}
 use Rattle.ab_patterns.proofs.Rules.{at_equal, at_lams, at_spines, true_or_not}
 use Rattle.ab_patterns.proofs.rigid.try_simple_rules.Goals as goal

@@ -1,6 +1,6 @@
 use Rattle.std.proofs.Common.{[], ◌∷◌, ◌++◌, ◌+◌, drop, get_or, sym, ◌∙◌, ap, append_assoc, arith}
 use Rattle.std.proofs.lemmas.List.{drop_more, drop_all}
-use Rattle.ab_types.specs.Ids.{type_of}
+use Rattle.ab_norm.specs.ab_types.specs.Ids.{type_of}
 use Rattle.ab_norm.specs.Nominals.{pairs_of}
 use Rattle.ab_permuting.specs.Cycles.{constant_at, onward}
 use Rattle.ab_permuting.proofs.Standings.{on_ok}

@@ -2,7 +2,7 @@ use Rattle.std.specs.Prelude.{All}
 use Rattle.std.proofs.Common.{map, take, sym, ◌∙◌, ap, subst, arith}
 use Rattle.std.proofs.lemmas.List.{take_all, map_more}
 use Rattle.ab_term.specs.Names.{support, IsSupport}
-use Rattle.ab_store.proofs.Growing.{unbound_reads}
+use Rattle.ab_norm.specs.ab_store.proofs.Growing.{unbound_reads}
 use Rattle.ab_norm.specs.Nominals.{nominal_of, HoldsNominal}
 use Rattle.ab_logic.specs.Worlds.{read}
 use Rattle.ab_permuting.specs.Standing.{IsStanding}

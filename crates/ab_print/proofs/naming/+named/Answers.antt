@@ -4,7 +4,7 @@ use Rattle.std.specs.List.{filter_map}
 use Rattle.std.specs.declared.alloc.Global.{Global}
 use Rattle.std.specs.declared.vec.Vec.{Vec}
 use Rattle.ab_term.specs.Terms.{lam}
-use Rattle.ab_types.specs.Ids.{type_of}
+use Rattle.ab_logic.specs.ab_types.specs.Ids.{type_of}
 use Rattle.ab_text.specs.Names.{fresh}
 use Rattle.ab_text.specs.Naming as plain
 use Rattle.ab_text.specs.Values.{shape_of}

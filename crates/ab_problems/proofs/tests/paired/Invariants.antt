@@ -1,7 +1,7 @@
 use Rattle.std.proofs.Common.{length}
 use Rattle.std.specs.Prelude.{All}
-use Rattle.ab_store.specs.declared.node.Equation.{Equation}
-use Rattle.ab_store.specs.Reading.{Holds}
+use Rattle.ab_fits.specs.ab_store.specs.declared.node.Equation.{Equation}
+use Rattle.ab_fits.specs.ab_store.specs.Reading.{Holds}
 use Rattle.ab_problems.proofs.tests.paired.Given as goal
 
 abbrev pub decreases-loop-left : goal.decreases-loop-left

@@ -1,4 +1,4 @@
-use Rattle.ab_norm.proofs.Frame.{typed_on}
+use Rattle.ab_solver.specs.ab_norm.proofs.Frame.{typed_on}
 use Rattle.ab_problems.proofs.Staying.{terms_stay}
 use Rattle.ab_problems.proofs.tests.read.Goals as goal
 

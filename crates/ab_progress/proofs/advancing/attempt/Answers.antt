@@ -1,8 +1,8 @@
 use Rattle.std.specs.Prelude.{Err}
 use Rattle.std.proofs.Common.{◌∙◌, ap}
-use Rattle.ab_rules.specs.Answers.{step_of}
-use Rattle.ab_unifying.specs.Problem.{cells_read}
-use Rattle.ab_logic.specs.Worlds.{declarations_of}
+use Rattle.ab_kernel.specs.ab_rules.specs.Answers.{step_of}
+use Rattle.ab_kernel.specs.ab_unifying.specs.Problem.{cells_read}
+use Rattle.ab_kernel.specs.ab_logic.specs.Worlds.{declarations_of}
 use Rattle.ab_progress.proofs.Plain.{never_stuck}
 use Rattle.ab_progress.proofs.Following.{follows_step, follows_same, as_before, took, failed}
 use Rattle.ab_progress.proofs.advancing.attempt.Goals as goal

@@ -1,6 +1,6 @@
 use Rattle.std.specs.Prelude.{Err}
 use Rattle.std.proofs.Common.{◌≡◌, refl, ◌∙◌, ap, subst}
-use Rattle.ab_rules.specs.Answers.{step_of}
+use Rattle.ab_kernel.specs.ab_rules.specs.Answers.{step_of}
 use Rattle.ab_progress.specs.Progress.{TookInto, FailsBy, StuckAt}
 use Rattle.ab_progress.proofs.Following.{follows_step, follows_same, as_before, took_into, failed_by, sticks_there}
 use Rattle.ab_progress.proofs.advancing.attempt_solving.Goals as goal

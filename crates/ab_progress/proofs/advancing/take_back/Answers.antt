@@ -1,5 +1,5 @@
 use Rattle.std.proofs.Common.{◌≡◌, inl, inr, ◌+◌, ◌-◌, ◌∙◌, ap, length, arith}
-use Rattle.ab_logic.specs.declared.world.World.{World}
+use Rattle.ab_kernel.specs.ab_logic.specs.declared.world.World.{World}
 use Rattle.ab_kernel.specs.Derivation.{History, undone}
 use Rattle.ab_kernel.specs.Layout.{Held, history_of, before_last, before_steps}
 use Rattle.ab_kernel.proofs.Standing.{some_world}

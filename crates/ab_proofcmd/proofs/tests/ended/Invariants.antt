@@ -1,5 +1,5 @@
-use Rattle.ab_logic.specs.Worlds.{IsWorld}
-use Rattle.ab_kernel.specs.Layout.{IsProof}
+use Rattle.ab_exchanging.specs.ab_logic.specs.Worlds.{IsWorld}
+use Rattle.ab_exchanging.specs.ab_kernel.specs.Layout.{IsProof}
 use Rattle.ab_proofcmd.proofs.tests.ended.Given as goal
 
 abbrev pub invariant-loop-command : goal.invariant-loop-command

@@ -1,6 +1,6 @@
 use Rattle.std.proofs.Common.{◌≡◌, true, Ok, arith, refl, ap}
-use Rattle.ab_types.specs.Entries.{signature}
-use Rattle.ab_unifying.proofs.Growth.{grows_on}
+use Rattle.ab_instances.specs.ab_types.specs.Entries.{signature}
+use Rattle.ab_instances.specs.ab_unifying.proofs.Growth.{grows_on}
 use Rattle.ab_instances.proofs.Made.{names_held}
 use Rattle.ab_putting.proofs.Fronts.{front_first}
 use Rattle.ab_putting.proofs.Halves.{half_none, first_held, first_only, first_front, half_step}

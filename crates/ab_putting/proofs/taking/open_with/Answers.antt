@@ -1,8 +1,8 @@
 use Rattle.std.proofs.Common.{[], refl, sym, subst}
 use Rattle.ab_term.specs.Types.{prop}
 use Rattle.ab_term.specs.Typing.{HasType}
-use Rattle.ab_types.specs.Entries.{signature}
-use Rattle.ab_unifying.proofs.Growth.{typed_terms, grows_terms}
+use Rattle.ab_instances.specs.ab_types.specs.Entries.{signature}
+use Rattle.ab_instances.specs.ab_unifying.proofs.Growth.{typed_terms, grows_terms}
 use Rattle.ab_putting.specs.declared.stage.Stage.TheVariants.{Instance}
 use Rattle.ab_putting.proofs.Moved.{under_way_on}
 use Rattle.ab_putting.proofs.taking.open_with.Goals as goal

@@ -1,12 +1,12 @@
 use Rattle.std.proofs.Common.{refl, sym, ◌∙◌, ap, subst}
 use Rattle.std.specs.List.{All}
 use Rattle.ab_term.specs.Closing.{over}
-use Rattle.ab_types.specs.Ids.{type_of}
-use Rattle.ab_types.proofs.Entries.{type_still_held}
-use Rattle.ab_store.proofs.Growing.{extended_on}
-use Rattle.ab_norm.specs.Nominals.{HoldsNominal}
-use Rattle.ab_norm.proofs.Frame.{typed_on}
-use Rattle.ab_unifying.proofs.Growth.{grows_on, grows_terms}
+use Rattle.ab_instances.specs.ab_types.specs.Ids.{type_of}
+use Rattle.ab_instances.specs.ab_types.proofs.Entries.{type_still_held}
+use Rattle.ab_instances.specs.ab_store.proofs.Growing.{extended_on}
+use Rattle.ab_instances.specs.ab_norm.specs.Nominals.{HoldsNominal}
+use Rattle.ab_instances.specs.ab_norm.proofs.Frame.{typed_on}
+use Rattle.ab_instances.specs.ab_unifying.proofs.Growth.{grows_on, grows_terms}
 use Rattle.ab_instances.specs.Readings.{names_read}
 use Rattle.ab_instances.proofs.Made.{names_stay, names_held}
 use Rattle.ab_putting.proofs.Parted.{type_stays}

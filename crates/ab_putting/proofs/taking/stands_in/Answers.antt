@@ -1,9 +1,9 @@
 use Rattle.std.proofs.Common.{◌∙◌, ap, ◌==◌, [], ◌∷◌}
-use Rattle.ab_norm.specs.Nominals.{nominal_of}
-use Rattle.ab_cases.specs.Choices.{outside}
+use Rattle.ab_instances.specs.ab_norm.specs.Nominals.{nominal_of}
+use Rattle.ab_instances.specs.ab_cases.specs.Choices.{outside}
 use Rattle.ab_instances.specs.Readings.{names_read}
 use Rattle.ab_putting.proofs.OverConstants.{stands_read}
-use Rattle.ab_store.specs.Trees.{tree_of}
+use Rattle.ab_instances.specs.ab_store.specs.Trees.{tree_of}
 use Rattle.ab_putting.proofs.taking.stands_in.Goals as goal
 
 pub returns : goal.returns

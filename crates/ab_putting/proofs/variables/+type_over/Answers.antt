@@ -1,9 +1,9 @@
 use Rattle.std.proofs.Common.{slice_index_or}
 use Rattle.ab_term.specs.Types.{arrow}
-use Rattle.ab_types.specs.Ids.{type_of}
-use Rattle.ab_types.proofs.Entries.{type_still_held}
-use Rattle.ab_norm.specs.Nominals.{HoldsNominal}
-use Rattle.ab_norm.proofs.Frame.{if_ok}
+use Rattle.ab_instances.specs.ab_types.specs.Ids.{type_of}
+use Rattle.ab_instances.specs.ab_types.proofs.Entries.{type_still_held}
+use Rattle.ab_instances.specs.ab_norm.specs.Nominals.{HoldsNominal}
+use Rattle.ab_instances.specs.ab_norm.proofs.Frame.{if_ok}
 use Rattle.ab_putting.proofs.Items.{first_all}
 use Rattle.ab_instances.proofs.Made.{over_reads, found_kinds, found_constants}
 use Rattle.ab_putting.proofs.variables.+type_over.Goals as goal

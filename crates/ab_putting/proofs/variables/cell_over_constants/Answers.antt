@@ -1,5 +1,5 @@
-use Rattle.ab_types.specs.Ids.{type_of}
-use Rattle.ab_store.proofs.Growing.{extended_itself}
+use Rattle.ab_instances.specs.ab_types.specs.Ids.{type_of}
+use Rattle.ab_instances.specs.ab_store.proofs.Growing.{extended_itself}
 use Rattle.ab_instances.specs.Readings.{names_read}
 use Rattle.ab_instances.proofs.Made.{grows_with, typed_with}
 use Rattle.ab_putting.proofs.NewVariables.{made_all}

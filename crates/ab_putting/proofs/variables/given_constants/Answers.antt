@@ -1,4 +1,4 @@
-use Rattle.ab_norm.proofs.Frame.{if_ok}
+use Rattle.ab_instances.specs.ab_norm.proofs.Frame.{if_ok}
 use Rattle.ab_putting.proofs.OverConstants.{given_reads}
 use Rattle.ab_putting.proofs.variables.given_constants.Goals as goal
 

@@ -1,6 +1,6 @@
 use Rattle.std.proofs.Common.{◌≡◌, ap, refl}
-use Rattle.ab_types.specs.Entries.{constants}
-use Rattle.ab_readings.specs.Scopes as scopes
+use Rattle.ab_norm.specs.ab_types.specs.Entries.{constants}
+use Rattle.ab_infer.specs.ab_readings.specs.Scopes as scopes
 use Rattle.ab_resolving.proofs.Lookups.{no_type}
 use Rattle.ab_resolving.proofs.naming.constant_named.Goals as goal
 

@@ -1,8 +1,8 @@
 use Rattle.std.proofs.Common.{◌≡◌, sym, subst}
 use Rattle.std.specs.Prelude.{option_map}
-use Rattle.ab_readings.specs.Names.{bound}
-use Rattle.ab_readings.specs.Scopes.{index_of}
-use Rattle.ab_readings.specs.Scopes as scopes
+use Rattle.ab_infer.specs.ab_readings.specs.Names.{bound}
+use Rattle.ab_infer.specs.ab_readings.specs.Scopes.{index_of}
+use Rattle.ab_infer.specs.ab_readings.specs.Scopes as scopes
 use Rattle.ab_resolving.specs.Naming.{Finds}
 use Rattle.ab_resolving.specs.Scoping.{names_in, nodes_in, place_of, entries_in, nominals_in, scope_of, HoldsNominals}
 use Rattle.ab_resolving.proofs.Lookups.{none_here, by_bound, by_truth, by_clause, by_variable, by_constant, by_nominal}

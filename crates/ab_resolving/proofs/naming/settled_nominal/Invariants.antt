@@ -1,6 +1,6 @@
 use Rattle.std.proofs.Common.{◌≡◌, drop}
-use Rattle.ab_types.specs.Entries.{Table}
-use Rattle.ab_readings.specs.Scopes as scopes
+use Rattle.ab_norm.specs.ab_types.specs.Entries.{Table}
+use Rattle.ab_infer.specs.ab_readings.specs.Scopes as scopes
 use Rattle.ab_resolving.specs.Scoping.{nominals_in}
 use Rattle.ab_resolving.proofs.naming.settled_nominal.Given as goal
 

@@ -1,5 +1,5 @@
 use Rattle.std.proofs.Common.{◌≡◌, drop}
-use Rattle.ab_readings.specs.Scopes as scopes
+use Rattle.ab_infer.specs.ab_readings.specs.Scopes as scopes
 use Rattle.ab_resolving.specs.Scoping.{entries_in}
 use Rattle.ab_resolving.proofs.naming.variable_named.Given as goal
 

@@ -1,6 +1,6 @@
 use Rattle.std.proofs.Common.{◌≡◌, ◌<◌, ◌≤◌, length, drop, arith, subst}
-use Rattle.ab_logic.specs.Worlds.{declarations_of}
-use Rattle.ab_effects.specs.Effect.{introducing}
+use Rattle.ab_alike.specs.ab_logic.specs.Worlds.{declarations_of}
+use Rattle.ab_progress.specs.ab_effects.specs.Effect.{introducing}
 use Rattle.ab_progress.specs.Applied.{RefusedBy}
 use Rattle.ab_progress.specs.declared.fault.ProofCommandFault.TheVariants.{WrongShape, NamesSpent}
 use Rattle.ab_progress.proofs.Following.{follows_on}

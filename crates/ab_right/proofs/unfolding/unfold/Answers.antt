@@ -1,6 +1,6 @@
 use Rattle.std.proofs.Common.{refl, sym, ◌∙◌, subst}
 use Rattle.ab_grammar.specs.CommandTrees as told
-use Rattle.ab_kernel.proofs.Later.{same_history, still_proof}
+use Rattle.ab_progress.specs.ab_kernel.proofs.Later.{same_history, still_proof}
 use Rattle.ab_progress.specs.Applied.{IsRefused}
 use Rattle.ab_progress.proofs.Following.{follows_on}
 use Rattle.ab_right.proofs.Sizes.{same_fault}

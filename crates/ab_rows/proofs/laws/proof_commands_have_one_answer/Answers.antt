@@ -1,4 +1,4 @@
-use Rattle.ab_effects.specs.Effect.{effect}
+use Rattle.ab_meanings.specs.ab_effects.specs.Effect.{effect}
 use Rattle.ab_rows.proofs.Settled.{never_both, one_refusal, one_list}
 use Rattle.ab_rows.proofs.Commands.{settled}
 use Rattle.ab_rows.proofs.laws.proof_commands_have_one_answer.Goals as goal

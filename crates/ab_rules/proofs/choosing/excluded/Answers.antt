@@ -1,9 +1,9 @@
 use Rattle.std.proofs.Common.{true, [], ◌++◌, map, ◌∙◌, subst, arith}
 use Rattle.std.proofs.lemmas.List.{take_all}
 use Rattle.ab_term.specs.Names.{support}
-use Rattle.ab_types.specs.Ids.{type_of}
-use Rattle.ab_logic.specs.Worlds.{read}
-use Rattle.ab_logic.specs.Readings.{hypothesis_of}
+use Rattle.ab_alternatives.specs.ab_types.specs.Ids.{type_of}
+use Rattle.ab_alternatives.specs.ab_logic.specs.Worlds.{read}
+use Rattle.ab_alternatives.specs.ab_logic.specs.Readings.{hypothesis_of}
 use Rattle.ab_rules.specs.Choosing.{Gains, Blocked}
 use Rattle.ab_rules.proofs.Chosen.{Unfit, names_in, unfit_first, unfit_more, names_more}
 use Rattle.ab_rules.proofs.choosing.excluded.Goals as goal

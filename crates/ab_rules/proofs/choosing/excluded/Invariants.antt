@@ -1,8 +1,8 @@
 use Rattle.std.proofs.Common.{[], ◌++◌, map, take}
 use Rattle.ab_term.specs.Names.{support}
-use Rattle.ab_types.specs.Ids.{type_of}
-use Rattle.ab_logic.specs.Worlds.{read}
-use Rattle.ab_logic.specs.Readings.{hypothesis_of}
+use Rattle.ab_alternatives.specs.ab_types.specs.Ids.{type_of}
+use Rattle.ab_alternatives.specs.ab_logic.specs.Worlds.{read}
+use Rattle.ab_alternatives.specs.ab_logic.specs.Readings.{hypothesis_of}
 use Rattle.ab_rules.specs.Choosing.{Gains}
 use Rattle.ab_rules.proofs.Chosen.{Unfit, names_in}
 use Rattle.ab_rules.proofs.choosing.excluded.Given as goal

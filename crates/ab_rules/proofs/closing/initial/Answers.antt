@@ -1,9 +1,9 @@
 use Rattle.std.proofs.Common.{inl, inr, refl, sym, subst, rules}
-use Rattle.ab_logic.specs.Marks.{MarksServeIn}
-use Rattle.ab_store.specs.declared.node.TermId.{TermId}
-use Rattle.ab_logic.specs.Worlds.{read, Holds}
-use Rattle.ab_logic.specs.Growth.{Grows}
-use Rattle.ab_logic.specs.declared.world.World.{World}
+use Rattle.ab_alternatives.specs.ab_logic.specs.Marks.{MarksServeIn}
+use Rattle.ab_alternatives.specs.ab_store.specs.declared.node.TermId.{TermId}
+use Rattle.ab_alternatives.specs.ab_logic.specs.Worlds.{read, Holds}
+use Rattle.ab_alternatives.specs.ab_logic.specs.Growth.{Grows}
+use Rattle.ab_alternatives.specs.ab_logic.specs.declared.world.World.{World}
 use Rattle.ab_rules.proofs.closing.initial.Goals as goal
 
 pub returns-then-not-alike-clause-answers : goal.returns-then-not-alike-clause-answers

@@ -1,4 +1,4 @@
-use Rattle.ab_logic.specs.Names.{IsNoVariable, IsNamedFor}
+use Rattle.ab_alternatives.specs.ab_logic.specs.Names.{IsNoVariable, IsNamedFor}
 use Rattle.ab_rules.specs.Rules.{row, any_name, by_hint}
 use Rattle.ab_rules.proofs.OneAnswer.{never_both, one_failure, any_names, names_by_hint, taken_or_stuck, refused_or_stuck, one_equation}
 use Rattle.ab_rules.proofs.OneList.{one_list_of}

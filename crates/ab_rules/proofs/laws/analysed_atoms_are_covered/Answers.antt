@@ -1,10 +1,10 @@
 use Rattle.std.proofs.Common.{codes}
 use Rattle.ab_term.specs.Names.{EqualUpToNames}
 use Rattle.ab_term.specs.Terms.{constant, spine}
-use Rattle.ab_cases.proofs.Atoms.{atom_of}
-use Rattle.ab_logic.specs.Declarations.{signature_in}
-use Rattle.ab_logic.specs.Names.{IsNoVariable}
-use Rattle.ab_analysis.specs.Left.{scope_of}
+use Rattle.ab_alternatives.specs.ab_cases.proofs.Atoms.{atom_of}
+use Rattle.ab_alternatives.specs.ab_logic.specs.Declarations.{signature_in}
+use Rattle.ab_alternatives.specs.ab_logic.specs.Names.{IsNoVariable}
+use Rattle.ab_alternatives.specs.ab_analysis.specs.Left.{scope_of}
 use Rattle.ab_alternatives.proofs.Walked.{met_by_one}
 use Rattle.ab_alternatives.proofs.ByChoice.{covered_by_choice}
 use Rattle.ab_rules.proofs.Covered.{clauses_well, scope_well, atom_well, adds_behind}

@@ -2,9 +2,9 @@ use Rattle.std.specs.Prelude.{IsTrue, ◌↔◌}
 use Rattle.std.proofs.Common.{subst}
 use Rattle.std.proofs.lemmas.Result.{IfOk-weaker}
 use Rattle.ab_term.specs.Translation.{EqualPastHints}
-use Rattle.ab_store.specs.Reading.{reading}
-use Rattle.ab_store.proofs.Growing.{unbound_reads}
-use Rattle.ab_logic.specs.Worlds.{read}
+use Rattle.ab_alternatives.specs.ab_store.specs.Reading.{reading}
+use Rattle.ab_alternatives.specs.ab_store.proofs.Growing.{unbound_reads}
+use Rattle.ab_alternatives.specs.ab_logic.specs.Worlds.{read}
 use Rattle.ab_rules.proofs.looking.are_equal.Goals as goal
 
 pub returns : goal.returns

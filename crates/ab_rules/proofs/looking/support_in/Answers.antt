@@ -1,8 +1,8 @@
 use Rattle.std.proofs.Common.{map, subst}
 use Rattle.std.proofs.lemmas.Result.{IfOk-weaker}
 use Rattle.ab_term.specs.Names.{IsSupport}
-use Rattle.ab_store.proofs.Growing.{unbound_reads}
-use Rattle.ab_norm.specs.Nominals.{nominal_of}
+use Rattle.ab_alternatives.specs.ab_store.proofs.Growing.{unbound_reads}
+use Rattle.ab_alternatives.specs.ab_norm.specs.Nominals.{nominal_of}
 use Rattle.ab_rules.proofs.looking.support_in.Goals as goal
 
 pub returns-clause-support : goal.returns-clause-support

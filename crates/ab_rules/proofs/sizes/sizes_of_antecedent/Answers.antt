@@ -1,5 +1,5 @@
 use Rattle.std.proofs.Common.{◌∙◌}
-use Rattle.ab_logic.proofs.Growing.{grows_on}
+use Rattle.ab_alternatives.specs.ab_logic.proofs.Growing.{grows_on}
 use Rattle.ab_rules.proofs.Declared.{declared_same}
 use Rattle.ab_rules.proofs.sizes.sizes_of_antecedent.Goals as goal
 

@@ -1,13 +1,13 @@
 use Rattle.std.specs.List.{All}
 use Rattle.std.proofs.Common.{◌≡◌, List, [], ◌∷◌, map, refl, inl, inr, sym, ap, ◌∙◌, subst, arith}
 use Rattle.std.proofs.lemmas.List.Elements.{All-cons}
-use Rattle.ab_logic.specs.Worlds.{read}
-use Rattle.ab_logic.specs.Sequents.{assuming}
-use Rattle.ab_logic.specs.Names.{Names}
-use Rattle.ab_logic.specs.Readings.{sequent_of, HoldsSequent}
-use Rattle.ab_logic.specs.declared.sequent.Sequent.{Sequent as Kept}
-use Rattle.ab_logic.proofs.Growing.{same_sequent, still_held}
-use Rattle.ab_naming.specs.Labels.{label_of}
+use Rattle.ab_alternatives.specs.ab_logic.specs.Worlds.{read}
+use Rattle.ab_alternatives.specs.ab_logic.specs.Sequents.{assuming}
+use Rattle.ab_alternatives.specs.ab_logic.specs.Names.{Names}
+use Rattle.ab_alternatives.specs.ab_logic.specs.Readings.{sequent_of, HoldsSequent}
+use Rattle.ab_alternatives.specs.ab_logic.specs.declared.sequent.Sequent.{Sequent as Kept}
+use Rattle.ab_alternatives.specs.ab_logic.proofs.Growing.{same_sequent, still_held}
+use Rattle.ab_alternatives.specs.ab_naming.specs.Labels.{label_of}
 use Rattle.ab_rules.proofs.telling.for_all_left.Goals as goal
 
 pub returns-then-not-fits-clause-answers : goal.returns-then-not-fits-clause-answers

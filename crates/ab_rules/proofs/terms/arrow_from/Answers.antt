@@ -1,5 +1,5 @@
 use Rattle.std.proofs.Common.{refl}
-use Rattle.ab_logic.proofs.Growing.{grows_types}
+use Rattle.ab_alternatives.specs.ab_logic.proofs.Growing.{grows_types}
 use Rattle.ab_rules.proofs.Declared.{declared_typed}
 use Rattle.ab_rules.proofs.terms.arrow_from.Goals as goal
 

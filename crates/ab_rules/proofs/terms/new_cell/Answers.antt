@@ -1,5 +1,5 @@
 use Rattle.std.proofs.Common.{refl}
-use Rattle.ab_logic.proofs.Growing.{grows_store}
+use Rattle.ab_alternatives.specs.ab_logic.proofs.Growing.{grows_store}
 use Rattle.ab_rules.proofs.Declared.{declared_same}
 use Rattle.ab_rules.proofs.terms.new_cell.Goals as goal
 

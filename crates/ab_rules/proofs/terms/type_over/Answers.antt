@@ -1,5 +1,5 @@
 use Rattle.std.proofs.Common.{◌-◌, arith}
-use Rattle.ab_logic.proofs.Growing.{grows_on}
+use Rattle.ab_alternatives.specs.ab_logic.proofs.Growing.{grows_on}
 use Rattle.ab_rules.proofs.Making.{type_is_there, over_more}
 use Rattle.ab_rules.proofs.terms.type_over.Goals as goal
 

@@ -1,8 +1,8 @@
 use Rattle.std.specs.Prelude.{Ok, Some}
 use Rattle.std.proofs.Common.{sym, ◌∙◌, ap}
-use Rattle.ab_alternatives.specs.declared.matching.Match.{Match}
-use Rattle.ab_alternatives.specs.declared.matching.Match.TheVariants.{Closed, Open, Apart, Stuck as Outside}
-use Rattle.ab_kernel.proofs.Later.{still_proof}
+use Rattle.ab_progress.specs.ab_alternatives.specs.declared.matching.Match.{Match}
+use Rattle.ab_progress.specs.ab_alternatives.specs.declared.matching.Match.TheVariants.{Closed, Open, Apart, Stuck as Outside}
+use Rattle.ab_progress.specs.ab_kernel.proofs.Later.{still_proof}
 use Rattle.ab_progress.proofs.Following.{follows_on}
 use Rattle.ab_search.proofs.Seen.{goals_then, follows_then, seen_sequent, seen_atom, not_closed, closed_there, unfolded_before}
 use Rattle.ab_search.proofs.unfolding.unfold_by.Goals as goal

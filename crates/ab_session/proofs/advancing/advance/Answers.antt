@@ -1,9 +1,9 @@
 use Rattle.std.proofs.Common.{◌≡◌, is_some, ap}
 use Rattle.std.specs.Option.{option_copied}
 use Rattle.ab_syntax.specs.Commands.{proof_command_of}
-use Rattle.ab_effects.specs.Effect.{given_label}
-use Rattle.ab_kernel.specs.Layout.{history_of}
-use Rattle.ab_progress.proofs.Following.{nothing_left}
+use Rattle.ab_states.specs.ab_effects.specs.Effect.{given_label}
+use Rattle.ab_states.specs.ab_kernel.specs.Layout.{history_of}
+use Rattle.ab_states.specs.ab_progress.proofs.Following.{nothing_left}
 use Rattle.ab_session.specs.Carrying.{IsDenied}
 use Rattle.ab_session.proofs.Carried.{has_more, at_some, completed, refused_so}
 use Rattle.ab_session.proofs.advancing.advance.Goals as goal

@@ -1,6 +1,6 @@
 use Rattle.std.specs.Option.{option_copied}
 use Rattle.ab_syntax.specs.Commands.{proof_command_of}
-use Rattle.ab_effects.specs.Effect.{given_label}
+use Rattle.ab_states.specs.ab_effects.specs.Effect.{given_label}
 use Rattle.ab_session.proofs.Carried.{denied_by_row}
 use Rattle.ab_session.proofs.carrying.by_row.Goals as goal
 

@@ -1,8 +1,8 @@
 use Rattle.std.proofs.Common.{sym, ◌∙◌, ap}
-use Rattle.ab_logic.specs.Forms.{sign_of}
-use Rattle.ab_logic.specs.Marks.{Marks, marks_of}
-use Rattle.ab_store.specs.Trees.{tree_of}
-use Rattle.ab_marks.specs.Views.{marks_seen}
+use Rattle.ab_induction.specs.ab_logic.specs.Forms.{sign_of}
+use Rattle.ab_induction.specs.ab_logic.specs.Marks.{Marks, marks_of}
+use Rattle.ab_induction.specs.ab_store.specs.Trees.{tree_of}
+use Rattle.ab_induction.specs.ab_marks.specs.Views.{marks_seen}
 use Rattle.ab_induction.specs.Levels.{greater, greatest, signs_in}
 use Rattle.ab_sizing.specs.Kinds.{level_by}
 use Rattle.ab_sizing.proofs.Greatest.{greatest-one, greatest-append}

@@ -1,8 +1,8 @@
 use Rattle.std.proofs.Common.{◌⊎◌, ◌↔◌, ◌+◌, ◌<◌, [], map, take, sym, subst, arith, take_all}
 use Rattle.std.specs.Prelude.{AllPairs, Contains}
-use Rattle.ab_store.specs.declared.node.Binding.{Binding}
-use Rattle.ab_store.specs.declared.node.CellId.{CellId}
-use Rattle.ab_norm.proofs.Frame.{if_ok}
+use Rattle.ab_unifying.specs.ab_store.specs.declared.node.Binding.{Binding}
+use Rattle.ab_unifying.specs.ab_store.specs.declared.node.CellId.{CellId}
+use Rattle.ab_unifying.specs.ab_norm.proofs.Frame.{if_ok}
 use Rattle.ab_solver.proofs.Sets.{HasJust, put_in, taken_out, has_other, keys_are, keys_ascend, bound_more, left_none, left_more, given_none, given_more}
 use Rattle.ab_solver.proofs.collecting.made_cells.Goals as goal
 

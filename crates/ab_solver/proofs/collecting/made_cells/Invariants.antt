@@ -1,6 +1,6 @@
 use Rattle.std.proofs.Common.{◌⊎◌, map, take}
 use Rattle.std.specs.Prelude.{Contains}
-use Rattle.ab_store.specs.declared.node.Binding.{Binding}
+use Rattle.ab_unifying.specs.ab_store.specs.declared.node.Binding.{Binding}
 use Rattle.ab_solver.proofs.Sets.{HasJust}
 use Rattle.ab_solver.proofs.collecting.made_cells.Given as goal
 

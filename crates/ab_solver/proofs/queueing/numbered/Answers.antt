@@ -1,5 +1,5 @@
 use Rattle.std.proofs.Common.{◌∷◌, ◌++◌, [], take, get_or, sym, ◌∙◌, ap, arith, length-take-le}
-use Rattle.ab_store.specs.declared.node.Equation.{Equation}
+use Rattle.ab_unifying.specs.ab_store.specs.declared.node.Equation.{Equation}
 use Rattle.ab_unifying.proofs.Under.{take_one_more}
 use Rattle.ab_solver.specs.States.{numbered_from}
 use Rattle.ab_solver.proofs.Numbered.{one_more_numbered}

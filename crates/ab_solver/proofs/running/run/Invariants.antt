@@ -1,6 +1,6 @@
 use Rattle.std.proofs.Common.{◌≤◌, ◌++◌, [], codes}
 use Rattle.std.specs.Prelude.{All}
-use Rattle.ab_solve.proofs.Ending.{steps_left}
+use Rattle.ab_unifying.specs.ab_solve.proofs.Ending.{steps_left}
 use Rattle.ab_unifying.specs.Changed.{Grows, IsFree}
 use Rattle.ab_unifying.specs.Outcome.{IsTypedEquation}
 use Rattle.ab_solver.specs.States.{IsAtRest, state_of}

@@ -1,6 +1,6 @@
 use Rattle.std.proofs.Common.{◌≡◌, ◌++◌, ◌∷◌, [], codes, sym, ◌∙◌, subst, arith}
 use Rattle.std.specs.Prelude.{All}
-use Rattle.ab_solve.specs.Solving.{rule}
+use Rattle.ab_unifying.specs.ab_solve.specs.Solving.{rule}
 use Rattle.ab_unifying.specs.declared.ruling.Step.TheVariants.{NoRule, Clash, Parts, Replaced}
 use Rattle.ab_unifying.specs.Problem.{cells_read, variables_read}
 use Rattle.ab_unifying.specs.Outcome.{equation_read, IsTypedEquation, Tells}

@@ -1,7 +1,7 @@
 use Rattle.std.proofs.Common.{codes}
-use Rattle.ab_norm.proofs.Frame.{if_ok}
-use Rattle.ab_patterns.specs.Readings.{equation_of}
-use Rattle.ab_solve.specs.Solving.{rule}
+use Rattle.ab_unifying.specs.ab_norm.proofs.Frame.{if_ok}
+use Rattle.ab_unifying.specs.ab_patterns.specs.Readings.{equation_of}
+use Rattle.ab_unifying.specs.ab_solve.specs.Solving.{rule}
 use Rattle.ab_unifying.specs.Problem.{cells_read, variables_read}
 use Rattle.ab_unifying.specs.Outcome.{equation_read}
 use Rattle.ab_unifying.proofs.Growth.{grows_on, grows_terms}

@@ -1,7 +1,7 @@
 use Rattle.std.proofs.Common.{◌≡◌, map, Some, refl, sym, ◌∙◌, ap, subst}
-use Rattle.ab_norm.proofs.Frame.{typed_none}
-use Rattle.ab_patterns.specs.Readings.{equation_of, simple_of, HoldsParts}
-use Rattle.ab_solve.specs.Solving.{clash, parts, rule}
+use Rattle.ab_unifying.specs.ab_norm.proofs.Frame.{typed_none}
+use Rattle.ab_unifying.specs.ab_patterns.specs.Readings.{equation_of, simple_of, HoldsParts}
+use Rattle.ab_unifying.specs.ab_solve.specs.Solving.{clash, parts, rule}
 use Rattle.ab_unifying.specs.Problem.{cells_read, variables_read}
 use Rattle.ab_unifying.specs.Outcome.{still}
 use Rattle.ab_unifying.proofs.Pruned.{resolved_unbound}

@@ -1,4 +1,4 @@
-use Rattle.ab_norm.proofs.Frame.{adds_on, typed_from}
+use Rattle.ab_unifying.specs.ab_norm.proofs.Frame.{adds_on, typed_from}
 use Rattle.ab_unifying.proofs.Growth.{grows_terms, grown_term}
 use Rattle.ab_solver.proofs.stepping.resolved.Goals as goal
 

@@ -1,7 +1,7 @@
 use Rattle.std.proofs.Common.{◌↔◌, ◌⊎◌, ◌++◌, List, map, drop, length, sym, ap, ◌∙◌, subst, arith}
 use Rattle.std.specs.Prelude.{All, Contains}
-use Rattle.ab_store.specs.declared.node.CellId.{CellId}
-use Rattle.ab_store.specs.declared.node.Binding.{Binding}
+use Rattle.ab_unifying.specs.ab_store.specs.declared.node.CellId.{CellId}
+use Rattle.ab_unifying.specs.ab_store.specs.declared.node.Binding.{Binding}
 use Rattle.ab_unifying.specs.Changed.{IsFree}
 use Rattle.ab_unifying.specs.Outcome.{IsTypedEquation}
 use Rattle.ab_solver.specs.Answers.{AreInAge}

@@ -1,6 +1,6 @@
 use Rattle.std.proofs.Common.{List}
-use Rattle.ab_store.specs.declared.node.CellId.{CellId}
-use Rattle.ab_norm.proofs.Frame.{if_ok}
+use Rattle.ab_unifying.specs.ab_store.specs.declared.node.CellId.{CellId}
+use Rattle.ab_unifying.specs.ab_norm.proofs.Frame.{if_ok}
 use Rattle.ab_solver.specs.States.{numbered_from, verdict_of, Runs}
 use Rattle.ab_solver.proofs.Answered.{exactly_apart, exactly_stuck, exactly_unified, no_unifier, is_general, same_cells, reads_so, left_so, sides_equal, each_unifier}
 use Rattle.ab_solver.proofs.Cut.{unified_case, cut_grows}

@@ -1,7 +1,7 @@
 use Rattle.std.proofs.Common.{map, arith, sym, subst}
 use Rattle.std.proofs.lemmas.Result.{IfOk-weaker}
-use Rattle.ab_logic.specs.Worlds.{read}
-use Rattle.ab_progress.proofs.Following.{follows_on}
+use Rattle.ab_matching.specs.ab_logic.specs.Worlds.{read}
+use Rattle.ab_left.specs.ab_progress.proofs.Following.{follows_on}
 use Rattle.ab_staging.specs.Standing.{AwaitsAll}
 use Rattle.ab_staging.proofs.Bared.{awaits_none}
 use Rattle.ab_staging.proofs.Staged.{rest_shorter, none_left}

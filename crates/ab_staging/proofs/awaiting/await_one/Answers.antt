@@ -1,6 +1,6 @@
 use Rattle.std.proofs.Common.{◌≡◌, List, ℕ, [], ◌∷◌, ◌++◌, sym, ◌∙◌, ap, subst, rules}
-use Rattle.ab_logic.specs.Worlds.{read}
-use Rattle.ab_progress.proofs.Following.{follows_on}
+use Rattle.ab_matching.specs.ab_logic.specs.Worlds.{read}
+use Rattle.ab_left.specs.ab_progress.proofs.Following.{follows_on}
 use Rattle.ab_staging.specs.Standing.{Bares}
 use Rattle.ab_staging.proofs.Bared.{awaits_one}
 use Rattle.ab_staging.proofs.awaiting.await_one.Goals as goal

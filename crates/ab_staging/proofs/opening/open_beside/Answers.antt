@@ -1,11 +1,11 @@
 use Rattle.std.specs.Prelude.{Err}
 use Rattle.std.proofs.Common.{◌≡◌, map, ◌∙◌, rules}
-use Rattle.ab_logic.specs.Worlds.{read}
-use Rattle.ab_naming.specs.Labels.{label_of}
-use Rattle.ab_taking.specs.Readings.{given_of}
+use Rattle.ab_matching.specs.ab_logic.specs.Worlds.{read}
+use Rattle.ab_matching.specs.ab_naming.specs.Labels.{label_of}
+use Rattle.ab_matching.specs.ab_taking.specs.Readings.{given_of}
 use Rattle.ab_left.specs.declared.stop.Stop.{Stop}
-use Rattle.ab_kernel.proofs.Later.{still_proof}
-use Rattle.ab_progress.proofs.Following.{follows_on}
+use Rattle.ab_left.specs.ab_kernel.proofs.Later.{still_proof}
+use Rattle.ab_left.specs.ab_progress.proofs.Following.{follows_on}
 use Rattle.ab_staging.proofs.Turned.{follows_later, conclusion_at, has_still, opens_beside, cant_open_beside}
 use Rattle.ab_staging.proofs.opening.open_beside.Goals as goal
 

@@ -1,8 +1,8 @@
 use Rattle.std.proofs.Common.{◌≡◌, List, [], map, ap, sym, subst, rules}
 use Rattle.std.specs.List.{All}
-use Rattle.ab_logic.specs.Worlds.{Holds, read}
+use Rattle.ab_matching.specs.ab_logic.specs.Worlds.{Holds, read}
 use Rattle.ab_matching.specs.Readings.{HoldsStage}
-use Rattle.ab_progress.proofs.Following.{follows_on}
+use Rattle.ab_left.specs.ab_progress.proofs.Following.{follows_on}
 use Rattle.ab_left.proofs.Moves.{on_ok}
 use Rattle.ab_staging.specs.Standing.{AwaitsAll}
 use Rattle.ab_staging.proofs.Bared.{shows}

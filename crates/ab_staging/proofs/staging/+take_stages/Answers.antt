@@ -1,5 +1,5 @@
 use Rattle.std.proofs.Common.{arith}
-use Rattle.ab_progress.proofs.Following.{follows_on}
+use Rattle.ab_left.specs.ab_progress.proofs.Following.{follows_on}
 use Rattle.ab_left.proofs.Moves.{on_ok}
 use Rattle.ab_staging.proofs.Places.{gives_on}
 use Rattle.ab_staging.proofs.Staged.{rest_shorter, stages_rest}

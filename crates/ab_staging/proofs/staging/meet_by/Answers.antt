@@ -1,4 +1,4 @@
-use Rattle.ab_progress.proofs.Following.{follows_on}
+use Rattle.ab_left.specs.ab_progress.proofs.Following.{follows_on}
 use Rattle.ab_staging.proofs.Places.{gives_on}
 use Rattle.ab_staging.proofs.staging.meet_by.Goals as goal
 

@@ -1,7 +1,7 @@
 use Rattle.std.specs.Prelude.{Ok}
 use Rattle.std.proofs.Common.{◌≡◌, rules}
-use Rattle.ab_progress.specs.declared.advancing.Attempted.TheVariants.{Taken}
-use Rattle.ab_rules.specs.Answers.{step_of}
+use Rattle.ab_left.specs.ab_progress.specs.declared.advancing.Attempted.TheVariants.{Taken}
+use Rattle.ab_left.specs.ab_rules.specs.Answers.{step_of}
 use Rattle.ab_staging.proofs.Places.{gives_so}
 use Rattle.ab_staging.proofs.stepping.step_into.Goals as goal
 

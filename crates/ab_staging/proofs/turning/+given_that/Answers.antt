@@ -1,7 +1,7 @@
 use Rattle.std.proofs.Common.{◌-◌, take, drop, length, sym, subst, ◌∙◌}
 use Rattle.std.proofs.lemmas.Result.{IfOk-weaker}
-use Rattle.ab_logic.proofs.Growing.{grows_on}
-use Rattle.ab_rules.proofs.Declared.{declared_same}
+use Rattle.ab_matching.specs.ab_logic.proofs.Growing.{grows_on}
+use Rattle.ab_left.specs.ab_rules.proofs.Declared.{declared_same}
 use Rattle.ab_staging.proofs.Staged.{first_so, first_all}
 use Rattle.ab_staging.proofs.Turned.{HoldsGiven, one_there, said_more}
 use Rattle.ab_staging.proofs.turning.+given_that.Goals as goal

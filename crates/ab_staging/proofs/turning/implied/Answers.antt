@@ -1,4 +1,4 @@
-use Rattle.ab_logic.proofs.Growing.{grows_store}
+use Rattle.ab_matching.specs.ab_logic.proofs.Growing.{grows_store}
 use Rattle.ab_staging.proofs.turning.implied.Goals as goal
 
 pub returns-clause-grows : goal.returns-clause-grows

@@ -1,6 +1,6 @@
 use Rattle.std.proofs.Common.{◌≡◌, ◌+◌, subst, rules}
-use Rattle.ab_logic.specs.Worlds.{read}
-use Rattle.ab_progress.proofs.Following.{follows_on}
+use Rattle.ab_matching.specs.ab_logic.specs.Worlds.{read}
+use Rattle.ab_left.specs.ab_progress.proofs.Following.{follows_on}
 use Rattle.ab_left.proofs.Moves.{on_ok}
 use Rattle.ab_staging.specs.Standing.{Gives}
 use Rattle.ab_staging.proofs.Bared.{turned}

@@ -1,8 +1,8 @@
 use Rattle.std.proofs.Common.{List, map, sym, ap, subst, ◌∙◌}
 use Rattle.ab_term.specs.Terms.{spine, terms_of}
-use Rattle.ab_store.specs.Naming.{HeadIsTyped, NodeIsTyped}
-use Rattle.ab_store.specs.declared.node.TermId.{TermId}
-use Rattle.ab_store.specs.Trees.{tree_of, head_in, logical_of, node_tree}
+use Rattle.ab_marks.specs.ab_store.specs.Naming.{HeadIsTyped, NodeIsTyped}
+use Rattle.ab_marks.specs.ab_store.specs.declared.node.TermId.{TermId}
+use Rattle.ab_marks.specs.ab_store.specs.Trees.{tree_of, head_in, logical_of, node_tree}
 use Rattle.ab_taking.specs.Layers.{layer_of, layer_by}
 use Rattle.ab_taking.proofs.looking.look_at.Goals as goal
 

@@ -1,7 +1,7 @@
 use Rattle.std.proofs.Common.{◌≢◌, length, map, sym, ap, ◌∙◌, rules}
 use Rattle.ab_term.specs.Terms.{terms_of}
-use Rattle.ab_types.specs.Ids.{type_of}
-use Rattle.ab_store.specs.Trees.{tree_of, logical_of}
+use Rattle.ab_marks.specs.ab_types.specs.Ids.{type_of}
+use Rattle.ab_marks.specs.ab_store.specs.Trees.{tree_of, logical_of}
 use Rattle.ab_taking.specs.Layers.{layer_by}
 use Rattle.ab_taking.proofs.Counts.{not_one_universal, not_one_nabla, not_two}
 use Rattle.ab_taking.proofs.looking.look_by.Goals as goal

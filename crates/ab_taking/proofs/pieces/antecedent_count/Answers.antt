@@ -1,5 +1,5 @@
 use Rattle.std.proofs.Common.{arith}
-use Rattle.ab_logic.specs.Worlds.{read}
+use Rattle.ab_marks.specs.ab_logic.specs.Worlds.{read}
 use Rattle.ab_taking.proofs.Layers.{count_implied}
 use Rattle.ab_taking.proofs.pieces.antecedent_count.Goals as goal
 

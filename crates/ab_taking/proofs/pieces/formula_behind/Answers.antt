@@ -1,6 +1,6 @@
 use Rattle.std.proofs.Common.{◌≡◌, ◌≢◌, suc, ◌-◌, sym, ◌∙◌, arith}
-use Rattle.ab_logic.specs.Worlds.{read}
-use Rattle.ab_types.specs.Ids.{type_of}
+use Rattle.ab_marks.specs.ab_logic.specs.Worlds.{read}
+use Rattle.ab_marks.specs.ab_types.specs.Ids.{type_of}
 use Rattle.ab_taking.specs.Layers.{hint_of}
 use Rattle.ab_taking.proofs.Layers.{behind_under, behind_within, behind_more}
 use Rattle.ab_taking.proofs.pieces.formula_behind.Goals as goal

@@ -1,7 +1,7 @@
 use Rattle.std.proofs.Common.{ap, ◌∙◌}
-use Rattle.ab_types.specs.Ids.{type_of}
-use Rattle.ab_norm.proofs.Frame.{if_ok}
-use Rattle.ab_solve.specs.Patterns.{kept_type}
+use Rattle.ab_patterns.specs.ab_types.specs.Ids.{type_of}
+use Rattle.ab_patterns.specs.ab_norm.proofs.Frame.{if_ok}
+use Rattle.ab_patterns.specs.ab_solve.specs.Patterns.{kept_type}
 use Rattle.ab_unify.proofs.Made.{typed_by_more, youngest}
 use Rattle.ab_unify.proofs.making.make.Goals as goal
 

@@ -2,11 +2,11 @@ use Rattle.std.proofs.Common.{◌≡◌, ◌++◌, sym, ◌∙◌, ap, subst}
 use Rattle.std.proofs.lemmas.List.{length-map}
 use Rattle.std.proofs.lemmas.Result.{on_ok_weaker, on_err_weaker}
 use Rattle.std.specs.List.{All}
-use Rattle.ab_store.specs.Trees.{head_reading}
-use Rattle.ab_store.specs.Reading.{bound_in}
-use Rattle.ab_store.specs.Naming.{HoldsHead, HeadIsTyped}
-use Rattle.ab_store.proofs.Growing.{extended_on}
-use Rattle.ab_solve.specs.Patterns.{kept}
+use Rattle.ab_patterns.specs.ab_store.specs.Trees.{head_reading}
+use Rattle.ab_patterns.specs.ab_store.specs.Reading.{bound_in}
+use Rattle.ab_patterns.specs.ab_store.specs.Naming.{HoldsHead, HeadIsTyped}
+use Rattle.ab_patterns.specs.ab_store.proofs.Growing.{extended_on}
+use Rattle.ab_patterns.specs.ab_solve.specs.Patterns.{kept}
 use Rattle.ab_unify.proofs.Bound.{still_term}
 use Rattle.ab_unify.proofs.Narrowed.{kept_all, are_names, term_apart, term_resolved, value_fits, narrowed_reads}
 use Rattle.ab_unify.proofs.narrowing.narrow.Goals as goal

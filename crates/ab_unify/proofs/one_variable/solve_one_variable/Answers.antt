@@ -2,14 +2,14 @@ use Rattle.std.proofs.Common.{◌≡◌, map, length, IfOk, OnOk, codes, sym, �
 use Rattle.std.proofs.lemmas.List.{length-map}
 use Rattle.ab_term.specs.Sameness.{same_number}
 use Rattle.ab_term.specs.Variables.{image}
-use Rattle.ab_types.specs.Ids.{type_of}
-use Rattle.ab_store.specs.declared.node.TermId.{TermId}
-use Rattle.ab_store.specs.Trees.{Holds, cell_of, head_reading}
-use Rattle.ab_store.specs.Reading.{reading, cell_variable}
-use Rattle.ab_solve.specs.Patterns.{applied, kept, kept_type}
-use Rattle.ab_solve.specs.Replacing.{one}
-use Rattle.ab_solve.specs.Solving.{agreeing}
-use Rattle.ab_solve.proofs.Ruling.{agreeing_long}
+use Rattle.ab_patterns.specs.ab_types.specs.Ids.{type_of}
+use Rattle.ab_patterns.specs.ab_store.specs.declared.node.TermId.{TermId}
+use Rattle.ab_patterns.specs.ab_store.specs.Trees.{Holds, cell_of, head_reading}
+use Rattle.ab_patterns.specs.ab_store.specs.Reading.{reading, cell_variable}
+use Rattle.ab_patterns.specs.ab_solve.specs.Patterns.{applied, kept, kept_type}
+use Rattle.ab_patterns.specs.ab_solve.specs.Replacing.{one}
+use Rattle.ab_patterns.specs.ab_solve.specs.Solving.{agreeing}
+use Rattle.ab_patterns.specs.ab_solve.proofs.Ruling.{agreeing_long}
 use Rattle.ab_unify.proofs.one_variable.solve_one_variable.Goals as goal
 
 pub renew-requires-clause-flags : goal.renew-requires-clause-flags

@@ -1,7 +1,7 @@
 use Rattle.std.proofs.Common.{ℕ, ◌∙◌, ◌<◌, length, ap, sym, subst}
-use Rattle.ab_store.specs.Reading.{bound_in}
-use Rattle.ab_store.proofs.Growing.{extended_on}
-use Rattle.ab_store.proofs.Rebinding.{bound_others}
+use Rattle.ab_patterns.specs.ab_store.specs.Reading.{bound_in}
+use Rattle.ab_patterns.specs.ab_store.proofs.Growing.{extended_on}
+use Rattle.ab_patterns.specs.ab_store.proofs.Rebinding.{bound_others}
 use Rattle.ab_unify.proofs.Bound.{now_bound, still_term, same_nodes, made_apart, made_resolved, made_term, made_reads}
 use Rattle.ab_unify.proofs.putting.put.Goals as goal
 

@@ -1,6 +1,6 @@
 use Rattle.std.proofs.Common.{◌∙◌, ap, sym}
-use Rattle.ab_store.proofs.Growing.{extended_on}
-use Rattle.ab_solve.specs.Patterns.{kept_type}
+use Rattle.ab_patterns.specs.ab_store.proofs.Growing.{extended_on}
+use Rattle.ab_patterns.specs.ab_solve.specs.Patterns.{kept_type}
 use Rattle.ab_unify.proofs.Renewed.{heads_typed, cell_type_same, tree_same, term_same, still_fits, renewed_reads, on_err_then}
 use Rattle.ab_unify.proofs.renewing.renew.Goals as goal
 

@@ -1,5 +1,5 @@
 use Rattle.std.proofs.Common.{map}
-use Rattle.ab_store.specs.Trees.{tree_of, head_reading}
+use Rattle.ab_unify.specs.ab_store.specs.Trees.{tree_of, head_reading}
 use Rattle.ab_unifying.proofs.Put.{on_ok_both, put_grows, put_changed}
 use Rattle.ab_unifying.proofs.binding.bind.Goals as goal
 

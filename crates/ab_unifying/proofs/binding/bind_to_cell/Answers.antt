@@ -1,9 +1,9 @@
 use Rattle.std.proofs.Common.{◌≡◌, codes, refl, sym, subst}
 use Rattle.std.specs.Prelude.{Contains}
-use Rattle.ab_store.specs.Trees.{head_reading}
-use Rattle.ab_store.specs.Reading.{cell_variable}
-use Rattle.ab_solve.specs.Solving.{begun}
-use Rattle.ab_solve.specs.Replacing.{without}
+use Rattle.ab_unify.specs.ab_store.specs.Trees.{head_reading}
+use Rattle.ab_unify.specs.ab_store.specs.Reading.{cell_variable}
+use Rattle.ab_unify.specs.ab_solve.specs.Solving.{begun}
+use Rattle.ab_unify.specs.ab_solve.specs.Replacing.{without}
 use Rattle.ab_unify.proofs.Narrowed.{are_names}
 use Rattle.ab_unifying.specs.Problem.{cells_read, variables_read}
 use Rattle.ab_unifying.specs.Changed.{Changed, others_than}

@@ -1,5 +1,5 @@
 use Rattle.std.proofs.Common.{[], sym, ◌∙◌}
-use Rattle.ab_store.specs.Trees.{Contents}
+use Rattle.ab_unify.specs.ab_store.specs.Trees.{Contents}
 use Rattle.ab_unifying.proofs.Pruned.{listed_if}
 use Rattle.ab_unifying.proofs.choosing.flexible_cell.Goals as goal
 

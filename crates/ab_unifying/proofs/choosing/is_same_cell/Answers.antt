@@ -1,6 +1,6 @@
 use Rattle.std.proofs.Common.{sym, ◌∙◌, ap}
 use Rattle.std.specs.Cmp.{unsigned_Decides}
-use Rattle.ab_store.specs.declared.node.CellId.{CellId}
+use Rattle.ab_unify.specs.ab_store.specs.declared.node.CellId.{CellId}
 use Rattle.ab_unifying.proofs.Listed.{same_cell}
 use Rattle.ab_unifying.proofs.choosing.is_same_cell.Goals as goal
 

@@ -4,13 +4,13 @@ use Rattle.ab_term.specs.Types.{kind}
 use Rattle.ab_term.specs.Terms.{Variable, variable, spine, terms_of}
 use Rattle.ab_term.specs.Typing.{TakeType}
 use Rattle.ab_term.proofs.Lists.{Contains-map}
-use Rattle.ab_types.specs.Entries.{signature}
-use Rattle.ab_types.specs.Ids.{type_of}
-use Rattle.ab_store.specs.Trees.{cell_of, tree_of}
-use Rattle.ab_store.specs.Reading.{cell_variable}
-use Rattle.ab_norm.proofs.Frame.{if_ok}
-use Rattle.ab_solve.specs.Solving.{is_older}
-use Rattle.ab_solve.proofs.Agreeing.{contains_holds}
+use Rattle.ab_unify.specs.ab_types.specs.Entries.{signature}
+use Rattle.ab_unify.specs.ab_types.specs.Ids.{type_of}
+use Rattle.ab_unify.specs.ab_store.specs.Trees.{cell_of, tree_of}
+use Rattle.ab_unify.specs.ab_store.specs.Reading.{cell_variable}
+use Rattle.ab_unify.specs.ab_norm.proofs.Frame.{if_ok}
+use Rattle.ab_unify.specs.ab_solve.specs.Solving.{is_older}
+use Rattle.ab_unify.specs.ab_solve.proofs.Agreeing.{contains_holds}
 use Rattle.ab_unifying.specs.Problem.{cells_read, variables_read}
 use Rattle.ab_unifying.specs.Outcome.{Tells, last_rules}
 use Rattle.ab_unifying.proofs.Listed.{same_cell}

@@ -1,8 +1,8 @@
 use Rattle.std.proofs.Common.{◌≡◌, map, sym, ◌∙◌, ap}
 use Rattle.ab_term.specs.Terms.{lam, spine, terms_of}
-use Rattle.ab_types.specs.Ids.{type_of}
-use Rattle.ab_store.specs.Trees.{tree_of, node_tree, head_reading}
-use Rattle.ab_norm.proofs.Frame.{typed_none}
+use Rattle.ab_unify.specs.ab_types.specs.Ids.{type_of}
+use Rattle.ab_unify.specs.ab_store.specs.Trees.{tree_of, node_tree, head_reading}
+use Rattle.ab_unify.specs.ab_norm.proofs.Frame.{typed_none}
 use Rattle.ab_unifying.specs.Problem.{cells_read, variables_read}
 use Rattle.ab_unifying.specs.Outcome.{last_rules}
 use Rattle.ab_unifying.proofs.Ruled.{tells_none}

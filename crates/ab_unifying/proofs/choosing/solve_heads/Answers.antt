@@ -4,17 +4,17 @@ use Rattle.ab_term.specs.Types.{kind}
 use Rattle.ab_term.specs.Terms.{variable, spine, terms_of}
 use Rattle.ab_term.specs.Typing.{HasType, TakeType}
 use Rattle.ab_term.proofs.Lists.{Contains-map}
-use Rattle.ab_types.specs.Entries.{signature}
-use Rattle.ab_store.specs.Trees.{tree_of, head_reading}
-use Rattle.ab_store.specs.Reading.{cell_variable}
-use Rattle.ab_store.specs.Bindings.{IsResolved}
-use Rattle.ab_store.specs.Naming.{IsTerm}
-use Rattle.ab_norm.proofs.Frame.{if_ok}
-use Rattle.ab_solve.specs.Patterns.{pattern}
-use Rattle.ab_solve.specs.Replacing.{is_flexible}
-use Rattle.ab_solve.specs.Solving.{pattern_of}
-use Rattle.ab_solve.proofs.Agreeing.{contains_holds}
-use Rattle.ab_solve.proofs.Pruning.{spine_args}
+use Rattle.ab_unify.specs.ab_types.specs.Entries.{signature}
+use Rattle.ab_unify.specs.ab_store.specs.Trees.{tree_of, head_reading}
+use Rattle.ab_unify.specs.ab_store.specs.Reading.{cell_variable}
+use Rattle.ab_unify.specs.ab_store.specs.Bindings.{IsResolved}
+use Rattle.ab_unify.specs.ab_store.specs.Naming.{IsTerm}
+use Rattle.ab_unify.specs.ab_norm.proofs.Frame.{if_ok}
+use Rattle.ab_unify.specs.ab_solve.specs.Patterns.{pattern}
+use Rattle.ab_unify.specs.ab_solve.specs.Replacing.{is_flexible}
+use Rattle.ab_unify.specs.ab_solve.specs.Solving.{pattern_of}
+use Rattle.ab_unify.specs.ab_solve.proofs.Agreeing.{contains_holds}
+use Rattle.ab_unify.specs.ab_solve.proofs.Pruning.{spine_args}
 use Rattle.ab_unifying.specs.Problem.{cells_read, variables_read}
 use Rattle.ab_unifying.specs.Changed.{AllUnbound}
 use Rattle.ab_unifying.specs.Outcome.{Tells, last_rules}

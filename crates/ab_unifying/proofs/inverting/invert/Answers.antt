@@ -8,15 +8,15 @@ use Rattle.ab_term.specs.Typing.{HasType}
 use Rattle.ab_term.specs.Variables.{variables, image, composition}
 use Rattle.ab_term.specs.Sameness.{same_number}
 use Rattle.ab_term.proofs.Lists.{Contains-map}
-use Rattle.ab_types.specs.Entries.{signature}
-use Rattle.ab_store.specs.Trees.{tree_of, head_reading}
-use Rattle.ab_store.specs.Reading.{bound_in, cell_variable}
-use Rattle.ab_solve.specs.Patterns.{value}
-use Rattle.ab_solve.specs.Replacing as solve
-use Rattle.ab_solve.specs.Replacing.{holds, pruned}
-use Rattle.ab_solve.specs.Solving.{begun}
-use Rattle.ab_solve.proofs.Views.{is_pattern}
-use Rattle.ab_solve.proofs.Agreeing.{contains_holds}
+use Rattle.ab_unify.specs.ab_types.specs.Entries.{signature}
+use Rattle.ab_unify.specs.ab_store.specs.Trees.{tree_of, head_reading}
+use Rattle.ab_unify.specs.ab_store.specs.Reading.{bound_in, cell_variable}
+use Rattle.ab_unify.specs.ab_solve.specs.Patterns.{value}
+use Rattle.ab_unify.specs.ab_solve.specs.Replacing as solve
+use Rattle.ab_unify.specs.ab_solve.specs.Replacing.{holds, pruned}
+use Rattle.ab_unify.specs.ab_solve.specs.Solving.{begun}
+use Rattle.ab_unify.specs.ab_solve.proofs.Views.{is_pattern}
+use Rattle.ab_unify.specs.ab_solve.proofs.Agreeing.{contains_holds}
 use Rattle.ab_unify.proofs.Standing.{avoids_then, stands_holds}
 use Rattle.ab_unifying.specs.Problem.{cells_read, variables_read}
 use Rattle.ab_unifying.specs.Changed.{Changed, IsFree, others_than}

@@ -2,11 +2,11 @@ use Rattle.std.proofs.Common.{◌≡◌, map, cond, true, false, codes, sym, ◌
 use Rattle.std.specs.List.{list_all}
 use Rattle.std.proofs.lemmas.Result.{on_ok_weaker}
 use Rattle.ab_term.specs.Closing.{among}
-use Rattle.ab_store.specs.Trees.{head_reading}
-use Rattle.ab_store.specs.Reading.{cell_variable}
-use Rattle.ab_solve.specs.Patterns.{applied}
-use Rattle.ab_solve.specs.Solving.{begun, put_in, joined_at}
-use Rattle.ab_solve.proofs.Pruned.{all_pass}
+use Rattle.ab_unify.specs.ab_store.specs.Trees.{head_reading}
+use Rattle.ab_unify.specs.ab_store.specs.Reading.{cell_variable}
+use Rattle.ab_unify.specs.ab_solve.specs.Patterns.{applied}
+use Rattle.ab_unify.specs.ab_solve.specs.Solving.{begun, put_in, joined_at}
+use Rattle.ab_unify.specs.ab_solve.proofs.Pruned.{all_pass}
 use Rattle.ab_unifying.specs.Problem.{cells_read, variables_read}
 use Rattle.ab_unifying.specs.Changed.{Changed}
 use Rattle.ab_unifying.proofs.Pruned.{typed_names, names_kept}

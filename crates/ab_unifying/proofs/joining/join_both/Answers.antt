@@ -6,15 +6,15 @@ use Rattle.std.proofs.lemmas.Result.{on_ok_weaker}
 use Rattle.ab_term.specs.Closing.{among}
 use Rattle.ab_term.specs.Variables.{composition}
 use Rattle.ab_term.specs.Sameness.{same_number}
-use Rattle.ab_types.specs.Ids.{type_of}
-use Rattle.ab_store.specs.Trees.{cell_of, tree_of, head_reading}
-use Rattle.ab_store.specs.Reading.{cell_variable}
-use Rattle.ab_store.specs.Naming.{HoldsHead, HeadIsTyped}
-use Rattle.ab_solve.specs.Patterns.{applied, kept, kept_type}
-use Rattle.ab_solve.specs.Replacing as solve
-use Rattle.ab_solve.specs.Replacing.{narrowed, next_variable}
-use Rattle.ab_solve.specs.Solving.{begun}
-use Rattle.ab_solve.proofs.Falling.{map_length}
+use Rattle.ab_unify.specs.ab_types.specs.Ids.{type_of}
+use Rattle.ab_unify.specs.ab_store.specs.Trees.{cell_of, tree_of, head_reading}
+use Rattle.ab_unify.specs.ab_store.specs.Reading.{cell_variable}
+use Rattle.ab_unify.specs.ab_store.specs.Naming.{HoldsHead, HeadIsTyped}
+use Rattle.ab_unify.specs.ab_solve.specs.Patterns.{applied, kept, kept_type}
+use Rattle.ab_unify.specs.ab_solve.specs.Replacing as solve
+use Rattle.ab_unify.specs.ab_solve.specs.Replacing.{narrowed, next_variable}
+use Rattle.ab_unify.specs.ab_solve.specs.Solving.{begun}
+use Rattle.ab_unify.specs.ab_solve.proofs.Falling.{map_length}
 use Rattle.ab_unify.proofs.Narrowed.{are_names}
 use Rattle.ab_unify.proofs.Renewed.{youngest_other}
 use Rattle.ab_unifying.specs.Problem.{cell_read, cells_read, variables_read}

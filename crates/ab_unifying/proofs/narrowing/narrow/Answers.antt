@@ -1,9 +1,9 @@
 use Rattle.std.proofs.Common.{◌≡◌, ◌∷◌, [], ◌++◌, map, sym, ◌∙◌, ap, subst}
 use Rattle.std.specs.Prelude.{All}
 use Rattle.std.proofs.lemmas.List.{length-map}
-use Rattle.ab_store.specs.Trees.{head_reading}
-use Rattle.ab_solve.specs.Replacing as solve
-use Rattle.ab_store.specs.Reading.{cell_variable}
+use Rattle.ab_unify.specs.ab_store.specs.Trees.{head_reading}
+use Rattle.ab_unify.specs.ab_solve.specs.Replacing as solve
+use Rattle.ab_unify.specs.ab_store.specs.Reading.{cell_variable}
 use Rattle.std.specs.Prelude.{codes}
 use Rattle.ab_unifying.specs.Changed.{others_than, IsFree, Changed}
 use Rattle.ab_unifying.proofs.Narrowed.{IsNarrowed, narrowed_free, narrowed_changed}

@@ -8,15 +8,15 @@ use Rattle.ab_term.specs.Typing.{HasType, TakeType}
 use Rattle.ab_term.specs.Closing.{under}
 use Rattle.ab_term.specs.Variables.{image}
 use Rattle.ab_term.specs.Sameness.{same_number}
-use Rattle.ab_types.specs.Entries.{signature}
-use Rattle.ab_types.specs.Ids.{type_of}
-use Rattle.ab_store.specs.declared.node.TermId.{TermId}
-use Rattle.ab_store.specs.declared.node.Node.TheVariants.{Lam, Spine}
-use Rattle.ab_store.specs.Trees.{Holds, node_tree, tree_of, head_reading}
-use Rattle.ab_norm.proofs.Bounds.{ids_bound, bound_within, below_bound}
-use Rattle.ab_norm.proofs.Frame.{lam_names, spine_names}
-use Rattle.ab_solve.specs.Replacing.{Change, is_flexible, pruned_here, pruned, pruned_all}
-use Rattle.ab_patterns.specs.Walking.{has_been}
+use Rattle.ab_unify.specs.ab_types.specs.Entries.{signature}
+use Rattle.ab_unify.specs.ab_types.specs.Ids.{type_of}
+use Rattle.ab_unify.specs.ab_store.specs.declared.node.TermId.{TermId}
+use Rattle.ab_unify.specs.ab_store.specs.declared.node.Node.TheVariants.{Lam, Spine}
+use Rattle.ab_unify.specs.ab_store.specs.Trees.{Holds, node_tree, tree_of, head_reading}
+use Rattle.ab_unify.specs.ab_norm.proofs.Bounds.{ids_bound, bound_within, below_bound}
+use Rattle.ab_unify.specs.ab_norm.proofs.Frame.{lam_names, spine_names}
+use Rattle.ab_unify.specs.ab_solve.specs.Replacing.{Change, is_flexible, pruned_here, pruned, pruned_all}
+use Rattle.ab_unify.specs.ab_patterns.specs.Walking.{has_been}
 use Rattle.ab_unifying.specs.Problem.{variables_read}
 use Rattle.ab_unifying.specs.Pruning.{AllPruned}
 use Rattle.ab_unifying.specs.Changed.{Changed, AllUnbound, AreNames, IsSomeTerm}

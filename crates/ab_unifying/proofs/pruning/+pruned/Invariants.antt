@@ -4,13 +4,13 @@ use Rattle.ab_term.specs.Types.{Ty}
 use Rattle.ab_term.specs.Terms as tree
 use Rattle.ab_term.specs.Terms.{terms_of}
 use Rattle.ab_term.specs.Typing.{TakeType}
-use Rattle.ab_types.specs.Entries.{Table, signature}
-use Rattle.ab_store.specs.declared.node.CellId.{CellId}
-use Rattle.ab_store.specs.Trees.{Contents, Holds, tree_of, head_reading}
-use Rattle.ab_store.specs.Reading.{cell_variable}
-use Rattle.ab_norm.proofs.Bounds.{ids_bound}
-use Rattle.ab_solve.specs.Replacing.{Change, pruned_all}
-use Rattle.ab_patterns.specs.Walking.{deep}
+use Rattle.ab_unify.specs.ab_types.specs.Entries.{Table, signature}
+use Rattle.ab_unify.specs.ab_store.specs.declared.node.CellId.{CellId}
+use Rattle.ab_unify.specs.ab_store.specs.Trees.{Contents, Holds, tree_of, head_reading}
+use Rattle.ab_unify.specs.ab_store.specs.Reading.{cell_variable}
+use Rattle.ab_unify.specs.ab_norm.proofs.Bounds.{ids_bound}
+use Rattle.ab_unify.specs.ab_solve.specs.Replacing.{Change, pruned_all}
+use Rattle.ab_unify.specs.ab_patterns.specs.Walking.{deep}
 use Rattle.ab_unifying.specs.Pruning.{AllPruned}
 use Rattle.ab_unifying.specs.Changed.{Grows, IsFree, Changed, AllUnbound, AreNames}
 use Rattle.ab_unifying.proofs.pruning.+pruned.Given as goal

@@ -5,18 +5,18 @@ use Rattle.std.proofs.lemmas.List.{length-map}
 use Rattle.ab_term.specs.Types.{kind}
 use Rattle.ab_term.specs.Terms.{terms_of}
 use Rattle.ab_term.specs.Closing.{among, is_name, Named}
-use Rattle.ab_types.specs.Entries.{signature}
-use Rattle.ab_types.specs.Ids.{type_of}
-use Rattle.ab_store.specs.Trees.{cell_in, cell_of, head_in, tree_of, head_reading}
-use Rattle.ab_store.specs.Reading.{cell_variable}
-use Rattle.ab_store.specs.Naming.{HeadIsTyped}
-use Rattle.ab_patterns.specs.Readings.{names_of}
-use Rattle.ab_solve.specs.Patterns.{pattern}
-use Rattle.ab_solve.specs.Replacing.{pruned_names, narrowed}
-use Rattle.ab_solve.proofs.Views.{is_pattern}
-use Rattle.ab_solve.proofs.Values.{pattern_named}
-use Rattle.ab_solve.proofs.Readings.{pattern_distinct}
-use Rattle.ab_solve.proofs.Ruling.{distinct_names}
+use Rattle.ab_unify.specs.ab_types.specs.Entries.{signature}
+use Rattle.ab_unify.specs.ab_types.specs.Ids.{type_of}
+use Rattle.ab_unify.specs.ab_store.specs.Trees.{cell_in, cell_of, head_in, tree_of, head_reading}
+use Rattle.ab_unify.specs.ab_store.specs.Reading.{cell_variable}
+use Rattle.ab_unify.specs.ab_store.specs.Naming.{HeadIsTyped}
+use Rattle.ab_unify.specs.ab_patterns.specs.Readings.{names_of}
+use Rattle.ab_unify.specs.ab_solve.specs.Patterns.{pattern}
+use Rattle.ab_unify.specs.ab_solve.specs.Replacing.{pruned_names, narrowed}
+use Rattle.ab_unify.specs.ab_solve.proofs.Views.{is_pattern}
+use Rattle.ab_unify.specs.ab_solve.proofs.Values.{pattern_named}
+use Rattle.ab_unify.specs.ab_solve.proofs.Readings.{pattern_distinct}
+use Rattle.ab_unify.specs.ab_solve.proofs.Ruling.{distinct_names}
 use Rattle.ab_unify.proofs.Bound.{same_cell}
 use Rattle.ab_unifying.specs.Changed.{Changed}
 use Rattle.ab_unifying.proofs.Growth.{grows_on, grows_terms}

@@ -1,8 +1,8 @@
 use Rattle.std.proofs.Common.{◌≡◌, map, codes, sym, ◌∙◌, ap, subst}
 use Rattle.ab_term.specs.Variables.{image}
 use Rattle.ab_term.specs.Sameness.{same_number}
-use Rattle.ab_store.specs.Trees.{tree_of, head_reading}
-use Rattle.ab_solve.specs.Replacing.{pruned_here}
+use Rattle.ab_unify.specs.ab_store.specs.Trees.{tree_of, head_reading}
+use Rattle.ab_unify.specs.ab_solve.specs.Replacing.{pruned_here}
 use Rattle.ab_unifying.specs.Changed.{Changed}
 use Rattle.ab_unifying.specs.Pruning.{AllPruned}
 use Rattle.ab_unifying.proofs.Growth.{grows_on, grows_terms, typed_terms}

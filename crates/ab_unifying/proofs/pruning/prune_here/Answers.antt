@@ -5,15 +5,15 @@ use Rattle.std.proofs.lemmas.Result.{on_ok_weaker}
 use Rattle.ab_term.specs.Types.{kind}
 use Rattle.ab_term.specs.Terms.{variable, spine, terms_of}
 use Rattle.ab_term.specs.Typing.{HasType, TakeType}
-use Rattle.ab_types.specs.Entries.{signature}
-use Rattle.ab_types.specs.Ids.{type_of}
-use Rattle.ab_store.specs.declared.node.Node.TheVariants.{Spine}
-use Rattle.ab_store.specs.Trees.{cell_of, node_tree, tree_of, head_reading}
-use Rattle.ab_store.specs.Reading.{cell_variable}
-use Rattle.ab_store.specs.Bindings.{IsResolved}
-use Rattle.ab_solve.specs.Patterns.{pattern}
-use Rattle.ab_solve.specs.Replacing.{holds, pruned_names, pruned_here}
-use Rattle.ab_solve.proofs.Pruning.{spine_args}
+use Rattle.ab_unify.specs.ab_types.specs.Entries.{signature}
+use Rattle.ab_unify.specs.ab_types.specs.Ids.{type_of}
+use Rattle.ab_unify.specs.ab_store.specs.declared.node.Node.TheVariants.{Spine}
+use Rattle.ab_unify.specs.ab_store.specs.Trees.{cell_of, node_tree, tree_of, head_reading}
+use Rattle.ab_unify.specs.ab_store.specs.Reading.{cell_variable}
+use Rattle.ab_unify.specs.ab_store.specs.Bindings.{IsResolved}
+use Rattle.ab_unify.specs.ab_solve.specs.Patterns.{pattern}
+use Rattle.ab_unify.specs.ab_solve.specs.Replacing.{holds, pruned_names, pruned_here}
+use Rattle.ab_unify.specs.ab_solve.proofs.Pruning.{spine_args}
 use Rattle.ab_unifying.specs.Changed.{Changed, AllUnbound}
 use Rattle.ab_unifying.proofs.Pruned.{listed_if, resolved_unbound, unbound_resolved, args_unbound}
 use Rattle.ab_unifying.proofs.pruning.prune_here.Goals as goal

@@ -1,8 +1,8 @@
 use Rattle.std.proofs.Common.{◌≡◌, zero, ◌∷◌, map, take}
 use Rattle.ab_term.specs.Terms.{index}
 use Rattle.ab_term.specs.Substitution.{shift_head}
-use Rattle.ab_types.specs.Entries.{Table}
-use Rattle.ab_store.specs.Trees.{Contents, head_reading}
+use Rattle.ab_unify.specs.ab_types.specs.Entries.{Table}
+use Rattle.ab_unify.specs.ab_store.specs.Trees.{Contents, head_reading}
 use Rattle.ab_unifying.specs.Changed.{AreNames}
 use Rattle.ab_unifying.proofs.pruning.under.Given as goal
 

@@ -1,7 +1,7 @@
 use Rattle.std.proofs.Common.{◌≡◌, true, false, ◌||◌, is_some, sym, ◌∙◌, ap, subst}
-use Rattle.ab_store.specs.Trees.{head_reading}
-use Rattle.ab_store.specs.Reading.{binding_of, cell_variable}
-use Rattle.ab_solve.specs.Replacing.{holds, is_flexible}
+use Rattle.ab_unify.specs.ab_store.specs.Trees.{head_reading}
+use Rattle.ab_unify.specs.ab_store.specs.Reading.{binding_of, cell_variable}
+use Rattle.ab_unify.specs.ab_solve.specs.Replacing.{holds, is_flexible}
 use Rattle.ab_unifying.specs.Problem.{variables_read}
 use Rattle.ab_unifying.specs.Pruning.{HeadIsFree}
 use Rattle.ab_unifying.proofs.Walked.{cell_was}

@@ -1,9 +1,9 @@
 use Rattle.std.proofs.Common.{map, ◌∙◌, ap}
 use Rattle.ab_term.specs.Terms.{terms_of}
-use Rattle.ab_types.specs.Ids.{type_of}
-use Rattle.ab_store.specs.Trees.{tree_of}
-use Rattle.ab_norm.proofs.Frame.{if_ok, if_both}
-use Rattle.ab_solve.specs.Patterns.{pattern}
+use Rattle.ab_unify.specs.ab_types.specs.Ids.{type_of}
+use Rattle.ab_unify.specs.ab_store.specs.Trees.{tree_of}
+use Rattle.ab_unify.specs.ab_norm.proofs.Frame.{if_ok, if_both}
+use Rattle.ab_unify.specs.ab_solve.specs.Patterns.{pattern}
 use Rattle.ab_unifying.proofs.Ruled.{names_given}
 use Rattle.ab_unifying.proofs.ruling.given_names.Goals as goal
 

@@ -3,14 +3,14 @@ use Rattle.std.specs.Prelude.{All}
 use Rattle.ab_term.specs.Types.{kind}
 use Rattle.ab_term.specs.Terms.{terms_of}
 use Rattle.ab_term.specs.Closing.{Named}
-use Rattle.ab_types.specs.Entries.{signature}
-use Rattle.ab_types.specs.Ids.{type_of}
-use Rattle.ab_store.specs.Trees.{cell_of, tree_of, head_reading}
-use Rattle.ab_store.specs.Reading.{cell_variable}
-use Rattle.ab_store.specs.Naming.{HeadIsTyped}
-use Rattle.ab_norm.proofs.Frame.{typed_on}
-use Rattle.ab_patterns.specs.Readings.{names_of}
-use Rattle.ab_solve.specs.Patterns.{pattern}
+use Rattle.ab_unify.specs.ab_types.specs.Entries.{signature}
+use Rattle.ab_unify.specs.ab_types.specs.Ids.{type_of}
+use Rattle.ab_unify.specs.ab_store.specs.Trees.{cell_of, tree_of, head_reading}
+use Rattle.ab_unify.specs.ab_store.specs.Reading.{cell_variable}
+use Rattle.ab_unify.specs.ab_store.specs.Naming.{HeadIsTyped}
+use Rattle.ab_unify.specs.ab_norm.proofs.Frame.{typed_on}
+use Rattle.ab_unify.specs.ab_patterns.specs.Readings.{names_of}
+use Rattle.ab_unify.specs.ab_solve.specs.Patterns.{pattern}
 use Rattle.ab_unify.proofs.Bound.{same_cell}
 use Rattle.ab_unifying.specs.Problem.{cells_read, variables_read}
 use Rattle.ab_unifying.specs.Changed.{AreNames}
@@ -19,9 +19,9 @@ use Rattle.ab_unifying.proofs.Put.{starts}
 use Rattle.ab_unifying.proofs.Pruned.{typed_names, same_heads, free_on}
 use Rattle.std.proofs.lemmas.List.{length-map}
 use Rattle.ab_term.proofs.Abstracting.{named_length}
-use Rattle.ab_solve.specs.Replacing.{narrowed}
-use Rattle.ab_solve.specs.Solving.{agreeing, replaced, same_variable_at}
-use Rattle.ab_solve.proofs.Ruling.{agreeing_long}
+use Rattle.ab_unify.specs.ab_solve.specs.Replacing.{narrowed}
+use Rattle.ab_unify.specs.ab_solve.specs.Solving.{agreeing, replaced, same_variable_at}
+use Rattle.ab_unify.specs.ab_solve.proofs.Ruling.{agreeing_long}
 use Rattle.ab_unifying.specs.Outcome.{still}
 use Rattle.ab_unifying.proofs.Ruled.{tells_none, tells_replaced, given_later, same_still, found_named}
 use Rattle.ab_unifying.proofs.ruling.solve_one.Goals as goal

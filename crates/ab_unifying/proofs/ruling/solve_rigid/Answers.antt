@@ -2,21 +2,21 @@ use Rattle.std.proofs.Common.{◌≡◌, ℕ, List, map, Some, None, codes, sym,
 use Rattle.ab_term.specs.Types.{kind}
 use Rattle.ab_term.specs.Terms.{Variable, Head, Term, terms_of}
 use Rattle.ab_term.specs.Typing.{TakeType}
-use Rattle.ab_types.specs.Entries.{signature}
-use Rattle.ab_types.specs.Ids.{type_of}
-use Rattle.ab_store.specs.Trees.{Holds, cell_in, cell_of, tree_of, head_reading}
-use Rattle.ab_store.specs.Reading.{cell_variable}
-use Rattle.ab_store.specs.Naming.{IsTerm}
-use Rattle.ab_norm.proofs.Frame.{typed_on}
-use Rattle.ab_patterns.specs.Readings.{names_of}
-use Rattle.ab_solve.specs.Patterns.{pattern}
+use Rattle.ab_unify.specs.ab_types.specs.Entries.{signature}
+use Rattle.ab_unify.specs.ab_types.specs.Ids.{type_of}
+use Rattle.ab_unify.specs.ab_store.specs.Trees.{Holds, cell_in, cell_of, tree_of, head_reading}
+use Rattle.ab_unify.specs.ab_store.specs.Reading.{cell_variable}
+use Rattle.ab_unify.specs.ab_store.specs.Naming.{IsTerm}
+use Rattle.ab_unify.specs.ab_norm.proofs.Frame.{typed_on}
+use Rattle.ab_unify.specs.ab_patterns.specs.Readings.{names_of}
+use Rattle.ab_unify.specs.ab_solve.specs.Patterns.{pattern}
 use Rattle.ab_unify.proofs.Bound.{same_cell}
 use Rattle.ab_unifying.specs.Problem.{cell_read, cells_read, variables_read}
 use Rattle.ab_unifying.proofs.Growth.{grows_on, grows_terms, grown_term}
 use Rattle.ab_unifying.proofs.Put.{same_variables}
 use Rattle.ab_unifying.proofs.Pruned.{same_heads}
-use Rattle.ab_solve.specs.Replacing.{Cell, has_patterns, occurs, no_foreign}
-use Rattle.ab_solve.specs.Solving.{replaced, pattern_of}
+use Rattle.ab_unify.specs.ab_solve.specs.Replacing.{Cell, has_patterns, occurs, no_foreign}
+use Rattle.ab_unify.specs.ab_solve.specs.Solving.{replaced, pattern_of}
 use Rattle.ab_unifying.proofs.Ruled.{tells_none, tells_clash, tells_replaced, inverted, no_patterns, it_occurs, is_foreign, is_inverted}
 use Rattle.ab_unifying.proofs.ruling.solve_rigid.Goals as goal
 

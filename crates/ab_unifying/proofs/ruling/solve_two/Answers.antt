@@ -2,21 +2,21 @@ use Rattle.std.proofs.Common.{◌≡◌, ℕ, List, map, Some, None, IfSome, cod
 use Rattle.ab_term.specs.Types.{kind}
 use Rattle.ab_term.specs.Terms.{Variable, Head, terms_of}
 use Rattle.ab_term.specs.Closing.{Named}
-use Rattle.ab_types.specs.Entries.{signature}
-use Rattle.ab_types.specs.Ids.{type_of}
-use Rattle.ab_store.specs.Trees.{cell_of, tree_of, head_reading}
-use Rattle.ab_store.specs.Reading.{cell_variable}
-use Rattle.ab_norm.proofs.Frame.{typed_on}
-use Rattle.ab_patterns.specs.Readings.{names_of}
-use Rattle.ab_solve.specs.Patterns.{pattern}
+use Rattle.ab_unify.specs.ab_types.specs.Entries.{signature}
+use Rattle.ab_unify.specs.ab_types.specs.Ids.{type_of}
+use Rattle.ab_unify.specs.ab_store.specs.Trees.{cell_of, tree_of, head_reading}
+use Rattle.ab_unify.specs.ab_store.specs.Reading.{cell_variable}
+use Rattle.ab_unify.specs.ab_norm.proofs.Frame.{typed_on}
+use Rattle.ab_unify.specs.ab_patterns.specs.Readings.{names_of}
+use Rattle.ab_unify.specs.ab_solve.specs.Patterns.{pattern}
 use Rattle.ab_unify.proofs.Bound.{same_cell}
 use Rattle.ab_unifying.specs.Problem.{cell_read, cells_read, variables_read}
 use Rattle.ab_unifying.specs.Changed.{AreNames}
 use Rattle.ab_unifying.proofs.Growth.{grows_on, grows_terms}
 use Rattle.ab_unifying.proofs.Put.{same_variables}
 use Rattle.ab_unifying.proofs.Pruned.{same_heads}
-use Rattle.ab_solve.specs.Replacing.{Cell}
-use Rattle.ab_solve.specs.Solving.{replaced, two_at}
+use Rattle.ab_unify.specs.ab_solve.specs.Replacing.{Cell}
+use Rattle.ab_unify.specs.ab_solve.specs.Solving.{replaced, two_at}
 use Rattle.ab_unifying.specs.Joined.{two_joined}
 use Rattle.ab_unifying.proofs.Ruled.{tells_none, tells_replaced, given_later, found_named}
 use Rattle.ab_unifying.proofs.ruling.solve_two.Goals as goal

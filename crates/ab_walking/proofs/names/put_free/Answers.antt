@@ -1,6 +1,6 @@
 use Rattle.std.proofs.Common.{refl}
 use Rattle.std.specs.Prelude.{Ok}
-use Rattle.ab_readings.specs.Names.{free}
+use Rattle.ab_resolving.specs.ab_readings.specs.Names.{free}
 use Rattle.ab_walking.proofs.Single.{grew_free}
 use Rattle.ab_walking.proofs.names.put_free.Goals as goal
 

@@ -1,5 +1,5 @@
 use Rattle.std.proofs.Common.{sym, subst}
-use Rattle.ab_readings.specs.Names.{free}
+use Rattle.ab_resolving.specs.ab_readings.specs.Names.{free}
 use Rattle.ab_resolving.specs.Scoping.{scope_of}
 use Rattle.ab_walking.specs.Rows.{Grew}
 use Rattle.ab_walking.proofs.Naming.{grew_bound_name, grew_known_name, name_found}

@@ -1,5 +1,5 @@
-use Rattle.ab_types.proofs.Entries.{type_still_held}
-use Rattle.ab_norm.proofs.Frame.{if_ok}
+use Rattle.ab_resolving.specs.ab_types.proofs.Entries.{type_still_held}
+use Rattle.ab_resolving.specs.ab_norm.proofs.Frame.{if_ok}
 use Rattle.ab_walking.proofs.Grounds.{adds_both}
 use Rattle.ab_walking.proofs.Connectives.{adds_type, pairing_is}
 use Rattle.ab_walking.proofs.signs.pairing.Goals as goal

@@ -1,13 +1,13 @@
 use Rattle.std.proofs.Common.{◌∷◌, ◌-◌, length, option_map, drop, take, map, refl, sym, ap, ◌∙◌, subst}
 use Rattle.std.proofs.lemmas.Result.{err_from_is_err_and}
-use Rattle.ab_types.specs.Ids.{type_of}
-use Rattle.ab_types.proofs.Entries.{extended_twice}
+use Rattle.ab_resolving.specs.ab_types.specs.Ids.{type_of}
+use Rattle.ab_resolving.specs.ab_types.proofs.Entries.{extended_twice}
 use Rattle.ab_grammar.specs.Tree.{trees_of}
 use Rattle.ab_syntax.specs.Trees.{tree_of, binder_of}
-use Rattle.ab_readings.specs.Names as names
-use Rattle.ab_readings.specs.Names.{quantified}
-use Rattle.ab_readings.specs.Scopes.{is_pi, resolved, after, pi_over, with_binders, under}
-use Rattle.ab_infer.specs.Sketches.{erase}
+use Rattle.ab_resolving.specs.ab_readings.specs.Names as names
+use Rattle.ab_resolving.specs.ab_readings.specs.Names.{quantified}
+use Rattle.ab_resolving.specs.ab_readings.specs.Scopes.{is_pi, resolved, after, pi_over, with_binders, under}
+use Rattle.ab_resolving.specs.ab_infer.specs.Sketches.{erase}
 use Rattle.ab_resolving.specs.Scoping.{names_in, scope_of}
 use Rattle.ab_walking.specs.Rows.{Grew}
 use Rattle.ab_walking.proofs.Cases.{same_place, pi_many, pi_whole, head_whole, abs_whole, join_whole, argument_fails, argument_given, meets_bound, between_bound, binder_made, bound_names, first_and_rest}

@@ -1,6 +1,6 @@
 use Rattle.std.proofs.Common.{length, ◌+◌, ◌*◌, ◌^◌}
 use Rattle.ab_syntax.specs.Trees.{tree_of}
-use Rattle.ab_readings.specs.Scopes.{resolved}
+use Rattle.ab_resolving.specs.ab_readings.specs.Scopes.{resolved}
 use Rattle.ab_resolving.specs.Scoping.{names_in, scope_of}
 use Rattle.ab_walking.specs.Rows.{IsGround, AddsTypes}
 use Rattle.ab_walking.specs.Walking.{IsApplied}

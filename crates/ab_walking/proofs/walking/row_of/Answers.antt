@@ -1,6 +1,6 @@
 use Rattle.std.proofs.Common.{subst}
 use Rattle.ab_syntax.specs.Trees.{tree_of}
-use Rattle.ab_readings.specs.Scopes.{resolved}
+use Rattle.ab_resolving.specs.ab_readings.specs.Scopes.{resolved}
 use Rattle.ab_resolving.specs.Scoping.{names_in, scope_of}
 use Rattle.ab_walking.specs.Rows.{Grew}
 use Rattle.ab_walking.proofs.Wholes.{grew_whole}

@@ -1,5 +1,5 @@
 use Rattle.std.proofs.Common.{◌++◌, ◌∷◌, [], ap, ◌∙◌, arith}
-use Rattle.ab_readings.specs.Scopes.{after, pi_over}
+use Rattle.ab_resolving.specs.ab_readings.specs.Scopes.{after, pi_over}
 use Rattle.ab_walking.proofs.Over.{not_over, nothing_over, grew_over, not_abs_item, empty_of}
 use Rattle.ab_walking.proofs.walking.turn_to_pi.Goals as goal
 

@@ -3,7 +3,7 @@ use Rattle.std.specs.List.{All}
 use Rattle.std.proofs.Common.{◌-◌, ◌<◌, ◌≤◌, length, map, Some, sym, ◌∙◌, ap, subst, arith}
 use Rattle.std.proofs.lemmas.List.{length-map}
 use Rattle.std.proofs.lemmas.Option.{slice_get_within, slice_get_past}
-use Rattle.ab_logic.specs.Readings.{sequent_of, HoldsSequent}
+use Rattle.ab_rules.specs.ab_logic.specs.Readings.{sequent_of, HoldsSequent}
 use Rattle.ab_kernel.specs.Derivation.{open_goals}
 use Rattle.ab_kernel.specs.Layout.{Held, history_of, held}
 use Rattle.ab_kernel.specs.Nodes.{sequents_in}

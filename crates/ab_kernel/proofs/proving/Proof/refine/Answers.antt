@@ -2,11 +2,11 @@ use Rattle.std.specs.Prelude.{vec_capacity, slice_get, slice_set}
 use Rattle.std.specs.List.{All}
 use Rattle.std.proofs.Common.{◌≡◌, ◌-◌, ◌≤◌, Some, List, [], ◌∷◌, ◌++◌, refl, length, map, reverse, sym, ◌∙◌, ap, subst, arith, length-append}
 use Rattle.std.proofs.lemmas.List.{length-map, reverse-append}
-use Rattle.ab_logic.specs.Sequents.{Sequent}
-use Rattle.ab_logic.specs.Readings.{sequent_of}
-use Rattle.ab_logic.specs.Worlds.{declarations_of}
+use Rattle.ab_rules.specs.ab_logic.specs.Sequents.{Sequent}
+use Rattle.ab_rules.specs.ab_logic.specs.Readings.{sequent_of}
+use Rattle.ab_rules.specs.ab_logic.specs.Worlds.{declarations_of}
 use Rattle.ab_rules.specs.Answers.{step_of}
-use Rattle.ab_logic.specs.declared.world.World.{World}
+use Rattle.ab_rules.specs.ab_logic.specs.declared.world.World.{World}
 use Rattle.ab_kernel.specs.declared.proving.Refinement.{Refinement}
 use Rattle.ab_kernel.specs.declared.node.ProofNode.{ProofNode}
 use Rattle.ab_kernel.proofs.proving.Proof.refine.Given.{Over}

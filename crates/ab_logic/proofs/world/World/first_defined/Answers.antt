@@ -3,7 +3,7 @@ use Rattle.std.specs.Option.{option_map}
 use Rattle.std.proofs.Common.{◌≡◌, ◌+◌, None, map, take, drop, get_or, arith, sym, ap, ◌∙◌, subst}
 use Rattle.std.proofs.lemmas.List.{map_more, take_all}
 use Rattle.std.proofs.lemmas.List.Elements.{All-more, All-push}
-use Rattle.ab_types.specs.declared.ids.ConstId.{ConstId}
+use Rattle.ab_clauses.specs.ab_types.specs.declared.ids.ConstId.{ConstId}
 use Rattle.ab_clauses.specs.Readings.{name_of}
 use Rattle.ab_logic.specs.Declarations.{block_in}
 use Rattle.ab_logic.specs.Additions.{block_kept}

@@ -1,4 +1,4 @@
-use Rattle.ab_types.proofs.Entries.{type_still_held}
+use Rattle.ab_clausal.specs.ab_types.proofs.Entries.{type_still_held}
 use Rattle.ab_parses.proofs.tests.expressions.read.Goals as goal
 
 pub returns-clause-types : goal.returns-clause-types

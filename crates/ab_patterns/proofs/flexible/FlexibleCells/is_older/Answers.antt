@@ -1,6 +1,6 @@
 use Rattle.std.proofs.Common.{◌∙◌, ap, map}
 use Rattle.std.specs.HashMap.{get}
-use Rattle.ab_store.specs.Reading.{cell_variable}
+use Rattle.ab_norm.specs.ab_store.specs.Reading.{cell_variable}
 use Rattle.ab_solve.specs.Solving as solving
 use Rattle.ab_patterns.specs.Flexible.{InAge, same_cell, is_earlier}
 use Rattle.ab_patterns.proofs.Placed.{older_listed}

@@ -1,4 +1,4 @@
-use Rattle.ab_norm.proofs.Frame.{typed_on}
+use Rattle.ab_solver.specs.ab_norm.proofs.Frame.{typed_on}
 use Rattle.ab_problems.proofs.tests.bindings.tower.Goals as goal
 
 pub returns-in_err-top-clause-adds : goal.returns-in_err-top-clause-adds

@@ -1,5 +1,5 @@
-use Rattle.ab_store.specs.Reading.{Holds}
-use Rattle.ab_norm.specs.Growth.{AddsTypedTerms}
+use Rattle.ab_fits.specs.ab_store.specs.Reading.{Holds}
+use Rattle.ab_solver.specs.ab_norm.specs.Growth.{AddsTypedTerms}
 use Rattle.ab_problems.proofs.tests.bindings.tower.Given as goal
 
 abbrev pub invariant-loop : goal.invariant-loop

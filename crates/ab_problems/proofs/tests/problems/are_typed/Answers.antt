@@ -1,6 +1,6 @@
 use Rattle.std.proofs.Common.{All, subst, take_all, arith}
 use Rattle.std.proofs.lemmas.List.Elements.{All-more}
-use Rattle.ab_store.specs.declared.node.Equation.{Equation}
+use Rattle.ab_fits.specs.ab_store.specs.declared.node.Equation.{Equation}
 use Rattle.ab_solver.specs.Answers.{IsTypedPair}
 use Rattle.ab_problems.proofs.tests.problems.are_typed.Goals as goal
 

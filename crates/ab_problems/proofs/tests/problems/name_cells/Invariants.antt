@@ -1,5 +1,5 @@
 use Rattle.std.specs.Prelude.{All}
-use Rattle.ab_store.specs.Reading.{HoldsCell}
+use Rattle.ab_fits.specs.ab_store.specs.Reading.{HoldsCell}
 use Rattle.ab_problems.specs.declared.tests.Letter.{Letter}
 use Rattle.ab_problems.proofs.tests.problems.name_cells.Given as goal
 

@@ -1,4 +1,4 @@
-use Rattle.ab_norm.proofs.Frame.{typed_on}
+use Rattle.ab_kernel.specs.ab_norm.proofs.Frame.{typed_on}
 use Rattle.ab_refining.proofs.tests.letters.quantified.Goals as goal
 
 pub returns-clause-adds : goal.returns-clause-adds

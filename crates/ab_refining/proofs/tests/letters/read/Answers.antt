@@ -1,4 +1,4 @@
-use Rattle.ab_logic.proofs.Growing.{grows_store}
+use Rattle.ab_print.specs.ab_logic.proofs.Growing.{grows_store}
 use Rattle.ab_refining.proofs.tests.letters.read.Goals as goal
 
 pub returns-clause-grows : goal.returns-clause-grows

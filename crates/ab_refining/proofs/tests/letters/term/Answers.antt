@@ -1,4 +1,4 @@
-use Rattle.ab_norm.proofs.Frame.{typed_on}
+use Rattle.ab_kernel.specs.ab_norm.proofs.Frame.{typed_on}
 use Rattle.ab_refining.proofs.tests.letters.term.Goals as goal
 
 pub loop-letter-preserved : goal.loop-letter-preserved

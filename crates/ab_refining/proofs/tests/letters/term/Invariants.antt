@@ -1,6 +1,6 @@
 use Rattle.std.specs.Prelude.{All}
-use Rattle.ab_store.specs.Reading.{Holds}
-use Rattle.ab_norm.specs.Growth.{AddsTypedTerms}
+use Rattle.ab_print.specs.ab_store.specs.Reading.{Holds}
+use Rattle.ab_kernel.specs.ab_norm.specs.Growth.{AddsTypedTerms}
 use Rattle.ab_refining.proofs.tests.letters.term.Given as goal
 
 abbrev pub invariant-loop-letter : goal.invariant-loop-letter

@@ -1,4 +1,4 @@
-use Rattle.ab_logic.specs.Worlds.{IsWorld}
+use Rattle.ab_print.specs.ab_logic.specs.Worlds.{IsWorld}
 use Rattle.ab_kernel.specs.Layout.{IsProof}
 use Rattle.ab_refining.proofs.tests.running.take_all.Given as goal
 

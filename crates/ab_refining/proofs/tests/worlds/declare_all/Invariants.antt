@@ -1,4 +1,4 @@
-use Rattle.ab_logic.specs.Worlds.{IsWorld}
+use Rattle.ab_print.specs.ab_logic.specs.Worlds.{IsWorld}
 use Rattle.ab_refining.proofs.tests.worlds.declare_all.Given as goal
 
 abbrev pub invariant-loop-constant : goal.invariant-loop-constant

@@ -1,4 +1,4 @@
-use Rattle.ab_logic.proofs.Growing.{grows_types}
+use Rattle.ab_print.specs.ab_logic.proofs.Growing.{grows_types}
 use Rattle.ab_refining.proofs.tests.worlds.declare_kind.Goals as goal
 
 pub returns : goal.returns

@@ -1,6 +1,6 @@
 use Rattle.std.proofs.Common.{List, ◌≤◌, length, subst, arith}
-use Rattle.ab_store.specs.declared.node.CellId.{CellId}
-use Rattle.ab_logic.specs.Worlds.{read}
+use Rattle.ab_print.specs.ab_store.specs.declared.node.CellId.{CellId}
+use Rattle.ab_print.specs.ab_logic.specs.Worlds.{read}
 use Rattle.ab_refining.proofs.Proposing.{IsPart, proposed}
 use Rattle.ab_refining.proofs.tests.worlds.is_proposed.Goals as goal
 

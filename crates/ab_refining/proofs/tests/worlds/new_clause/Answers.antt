@@ -1,6 +1,6 @@
 use Rattle.std.proofs.Common.{All, sym, subst}
-use Rattle.ab_store.specs.Trees.{HoldsCell}
-use Rattle.ab_logic.proofs.Growing.{grows_on}
+use Rattle.ab_print.specs.ab_store.specs.Trees.{HoldsCell}
+use Rattle.ab_print.specs.ab_logic.proofs.Growing.{grows_on}
 use Rattle.ab_refining.proofs.Staying.{cells_stay}
 use Rattle.ab_refining.proofs.tests.worlds.new_clause.Goals as goal
 

@@ -1,6 +1,6 @@
 use Rattle.std.proofs.Common.{All, sym, subst}
 use Rattle.std.proofs.lemmas.List.Elements.{All-push}
-use Rattle.ab_clauses.specs.Readings.{HoldsClause}
+use Rattle.ab_print.specs.ab_clauses.specs.Readings.{HoldsClause}
 use Rattle.ab_refining.proofs.Staying.{clauses_stay}
 use Rattle.ab_refining.proofs.tests.worlds.new_clauses.Goals as goal
 

@@ -1,4 +1,4 @@
-use Rattle.ab_types.proofs.Entries.{type_still_held}
+use Rattle.ab_print.specs.ab_types.proofs.Entries.{type_still_held}
 use Rattle.ab_refining.proofs.tests.worlds.type_to.Goals as goal
 
 pub arrow-requires-clause-to_held : goal.arrow-requires-clause-to_held

@@ -1,5 +1,5 @@
-use Rattle.ab_types.specs.Entries.{IsExtendedBy}
-use Rattle.ab_types.specs.Ids.{HoldsType}
+use Rattle.ab_print.specs.ab_types.specs.Entries.{IsExtendedBy}
+use Rattle.ab_print.specs.ab_types.specs.Ids.{HoldsType}
 use Rattle.ab_refining.proofs.tests.worlds.type_to.Given as goal
 
 abbrev pub invariant-loop-letter : goal.invariant-loop-letter

@@ -1,5 +1,5 @@
 use Rattle.std.proofs.Common.{◌≡◌, sym, ap, ◌∙◌, subst}
-use Rattle.ab_command.specs.Reading.{Fails}
+use Rattle.ab_states.specs.ab_command.specs.Reading.{Fails}
 use Rattle.ab_states.specs.State.{is_open}
 use Rattle.ab_states.specs.Reply as reply
 use Rattle.ab_states.specs.Effect.{HasEffect, unread}

@@ -1,0 +1,15 @@
+//! What the crates above name of the libraries below through this one.
+
+pub mod name {
+    pub use ab_store::below::name::Name;
+}
+
+pub mod types {
+    pub use ab_store::below::types::{
+        ConstId, Name, Steps, TableFault, TypeId, TypeTable, TypeView, has_unique_ids,
+    };
+}
+
+pub mod store {
+    pub use ab_store::{Arguments, CellId, Equation, Head, Logical, Mark, Node, Store, TermId};
+}
