@@ -8,9 +8,9 @@ ghost use Rattle.ab_fits.specs.ab_store.specs.Naming.{IsTypedBy};
 ghost use Rattle.ab_solver.specs.ab_norm.specs.Growth.{AddsTypedTerms};
 
 use super::fixture::{new_letters, new_table};
-use super::problems::{Answer, solve};
+use super::problems::{Answer, solve, solve_all};
 use super::{Letter, constant, term};
-use ab_fits::below::store::{Head, Node, Store, TermId};
+use ab_fits::below::store::{Equation, Head, Node, Store, TermId};
 use ab_fits::below::types::{Steps, TableFault, TypeTable};
 use ab_solver::below::norm::{copy_resolved, equal, look};
 use std::alloc::{AllocError, Global};
@@ -294,5 +294,54 @@ fn is_rebuilt(alloc: Global) -> Result<bool, TableFault> {
 #[test]
 fn a_tower_over_a_bound_cell_is_copied(rt: HostRuntime) -> Result<(), TableFault> {
     assert!(rt; is_rebuilt(rt.alloc())?);
+    Ok(())
+}
+
+/// The equation of the two terms, alone.
+fn equated(
+    alloc: Global,
+    store: &Store,
+    left: TermId,
+    right: TermId,
+) -> Result<Vec<Equation>, AllocError>
+    requires left { Holds store.now left }
+    requires right { Holds store.now right }
+    ensures { IfOk result (λ list. All (λ e. Holds store.now e.left × Holds store.now e.right) list.items) }
+{
+    let _ = store;
+    Ok(Vec::from_array(alloc, [Equation { left, right }])?)
+}
+
+/// Whether a tower over a new cell and one over `c` are made equal by the cell's binding alone.
+fn are_made_equal_in(
+    alloc: Global,
+    types: &mut TypeTable,
+    store: &mut Store,
+) -> Result<bool, TableFault>
+    requires store { IsTypedBy types.old store.old }
+{
+    let mut letters = new_letters(alloc, types, store, "P")?;
+    let ground = term(alloc, types, store, &letters, "c")?;
+    let right = tower(alloc, types, store, ground)?;
+    let cell = term(alloc, types, store, &letters, "P")?;
+    let left = tower(alloc, types, store, cell)?;
+    let list = equated(alloc, store, left, right)?;
+    let free = !store.has_bindings();
+    let answer = solve_all(alloc, types, store, &mut letters, &list)?;
+    let same = equal(alloc, types, store, left, right)?;
+    let bound = equal(alloc, types, store, cell, ground)?;
+    Ok(free && answer == Answer::Made(0) && same && bound)
+}
+
+/// The same on a new table and a new store.
+fn are_made_equal(alloc: Global) -> Result<bool, TableFault> {
+    let mut types = new_table(alloc)?;
+    let mut store = Store::new(alloc);
+    are_made_equal_in(alloc, &mut types, &mut store)
+}
+
+#[test]
+fn two_towers_are_made_equal(rt: HostRuntime) -> Result<(), TableFault> {
+    assert!(rt; are_made_equal(rt.alloc())?);
     Ok(())
 }

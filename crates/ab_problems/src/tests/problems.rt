@@ -143,6 +143,31 @@ fn told(store: &Store, letters: &mut Vec<Letter>, answer: &Solved) -> Result<Ans
     }
 }
 
+/// What unification of the equations answers. The cells that it makes get letters.
+pub(super) fn solve_all(
+    alloc: Global,
+    types: &mut TypeTable,
+    store: &mut Store,
+    letters: &mut Vec<Letter>,
+    list: &[Equation],
+) -> Result<Answer, TableFault>
+    requires store { IsTypedBy types.old store.old }
+    requires letters { All (λ l. HoldsCell store.old l.cell) letters.old.items }
+    requires list { All (λ e. Holds store.old e.left × Holds store.old e.right) list.now }
+    ensures typed { IsTypedBy types.new store.new }
+    ensures letters { OnOk result (All (λ l. HoldsCell store.new l.cell) letters.new.items) }
+    ensures ids { (t : TermId) → Holds store.old t → Holds store.new t }
+    ensures marks { (m : Mark) → HasMark store.old m → KeepsMark store.old store.new m }
+{
+    if !are_typed(alloc, types, store, list)? {
+        return Ok(Answer::Untyped);
+    }
+    let cells = flexible(alloc, store, letters)?;
+    let mut steps = Steps::<Problems>::new();
+    let answer = unify(alloc, types, store, list, &cells, &mut steps)?;
+    Ok(told(store, letters, &answer)?)
+}
+
 /// What unification of the equations of the text answers. The cells that it makes get letters.
 pub(super) fn solve(
     alloc: Global,
@@ -159,13 +184,7 @@ pub(super) fn solve(
     ensures marks { (m : Mark) → HasMark store.old m → KeepsMark store.old store.new m }
 {
     let list = equations(alloc, types, store, letters, text)?;
-    if !are_typed(alloc, types, store, &list)? {
-        return Ok(Answer::Untyped);
-    }
-    let cells = flexible(alloc, store, letters)?;
-    let mut steps = Steps::<Problems>::new();
-    let answer = unify(alloc, types, store, &list, &cells, &mut steps)?;
-    Ok(told(store, letters, &answer)?)
+    solve_all(alloc, types, store, letters, &list)
 }
 
 /// Whether both sides of each equation are the same.
