@@ -8,8 +8,6 @@ mod kept;
 pub mod laws;
 mod looked;
 mod stratified;
-#[cfg(test)]
-mod tests;
 
 pub use faults::{ClauseFault, first_fault};
 pub use kept::{Block, ClauseCells, ClauseTerm, ClauseTerms, Predicates};

@@ -9,8 +9,6 @@ mod known;
 mod numbers;
 mod seen;
 mod taking;
-#[cfg(test)]
-mod tests;
 mod typing;
 mod variables;
 

@@ -7,8 +7,6 @@
 mod laws;
 mod scanner;
 mod splitter;
-#[cfg(test)]
-mod tests;
 mod token;
 mod tokenizer;
 

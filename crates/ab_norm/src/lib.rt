@@ -16,8 +16,6 @@ mod nominal;
 mod permuting;
 mod resolving;
 mod supporting;
-#[cfg(test)]
-mod tests;
 mod tree;
 mod unsharing;
 mod walking;

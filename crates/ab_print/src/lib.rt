@@ -11,7 +11,5 @@ mod naming;
 mod places;
 mod reading;
 mod showing;
-#[cfg(test)]
-mod tests;
 
 pub use showing::{show_goal, show_other, show_reply, show_term};

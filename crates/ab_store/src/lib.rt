@@ -9,8 +9,6 @@ mod list;
 mod mark;
 mod node;
 mod store;
-#[cfg(test)]
-mod tests;
 
 pub use list::Arguments;
 pub use mark::Mark;

@@ -8,8 +8,6 @@ mod levels;
 pub mod naming;
 pub mod reading;
 mod shape;
-#[cfg(test)]
-mod tests;
 mod writing;
 
 pub use forming::{

@@ -10,8 +10,6 @@ pub mod laws;
 mod steps;
 mod table;
 mod tally;
-#[cfg(test)]
-mod tests;
 
 pub use ab_name::Name;
 pub use fault::TableFault;
