@@ -1,9 +1,9 @@
 -- The marks of a text are those of its tokens, and say its nesting.
-use Rattle.std.proofs.Common.{◌≡◌, ℕ, suc, ◌+◌, List, [], ◌∷◌, ◌++◌, map, false, Option, refl, ap, ◌∙◌, subst}
+use Rattle.std.proofs.Common.{◌≡◌, ℕ, suc, ◌+◌, List, [], ◌∷◌, ◌++◌, map, Bool, false, Option, refl, ap, sym, ◌∙◌, subst, arith}
 use Rattle.std.proofs.lemmas.List.{map-append}
 use Rattle.ab_grammar.specs.Token.{Token, word, backslash, quantifier, pi_word, sign, left_paren, left_brace, right_brace, left_bracket, turnstile, comma, colon}
 use Rattle.ab_grammar.specs.Tree.{Ty, Tree, Binder}
-use Rattle.ab_grammar.specs.Nesting.{Layer, nest, depth_of, spots, spots_from}
+use Rattle.ab_grammar.specs.Nesting.{Layer, nest, depth_of, spots, spots_from, begins_with_backslash}
 use Rattle.ab_grammar.specs.Grammar.{ReadsType, named_type, grouped_type, arrow_type, looser_type, ReadsBinder, plain_binder, typed_binder, ReadsBinders, no_binders, more_binders, Ends, Reads, looser, infixed, application, pi_applied, named, true_or_false, grouped, abstracted, quantified, judged, judged_from, Args, last_arg, more_args, Abs, bare_abs, grouped_abs, Front, listed, with_focus, Items, no_items, more_items, Text, TypeText}
 use Rattle.ab_depths.specs.Marks.{Marked, free, tokens_of, type_marks, binder_marks, binders_marks, marks, args_marks, abs_marks, front_marks, items_marks, nesting, nestings, nestings_from, Alike, none, same, abstraction as alike_abstraction}
 use Rattle.ab_depths.proofs.Going.{layer, counts, Goes, stays, step, abstraction, passes, type_passes}
@@ -73,17 +73,28 @@ depth_counts (l ∷ m ∷ ls) = ap (λ n. suc (l.count + n)) (depth_counts (m �
 abbrev depths_from : List Layer → List Token → List ℕ
 depths_from ls ts = map (λ s. s.depth) (spots_from ls ts)
 
+not_backslash : (k : Token) → begins_with_backslash (k ∷ []) ≡ false → k ≡ backslash → ⊥
+not_backslash k n e = let f = ap (λ (j : Token). begins_with_backslash (j ∷ [])) e in cc
+
+one_more : (n : ℕ) (b : Bool) (ls : List Layer) → suc (depth_of (layer n b ∷ ls)) ≡ depth_of (layer (suc n) b ∷ ls)
+one_more n b [] = refl
+one_more n b (l ∷ ls) = omega arith
+
 alike : {ls ms : List Layer} {ps : List Marked} → Goes ls ps ms → Alike (tokens_of ps) (nestings_from (counts ls) ps) (depths_from ls (tokens_of ps))
 alike stays = none
-alike (step {ls = ls} {ps = ps} m e g) =
+alike (step {ls = ls} {ps = ps} m e n g) =
     let l : List Layer = nest ls m.token in
     let h : Alike (m.token ∷ tokens_of ps) (nesting (counts l) ∷ nestings_from (counts l) ps) (depth_of l ∷ depths_from l (tokens_of ps)) =
-    subst (λ n. Alike (m.token ∷ tokens_of ps) (nesting (counts l) ∷ nestings_from (counts l) ps) (n ∷ depths_from l (tokens_of ps))) (depth_counts l) (same (nesting (counts l)) (alike g)) in
+    subst (λ d. Alike (m.token ∷ tokens_of ps) (nesting (counts l) ∷ nestings_from (counts l) ps) (d ∷ depths_from l (tokens_of ps))) (depth_counts l) (same (nesting (counts l)) (not_backslash m.token n) (alike g)) in
     subst (λ (c : List ℕ). Alike (m.token ∷ tokens_of ps) (nesting c ∷ nestings_from c ps) (depth_of l ∷ depths_from l (tokens_of ps))) e h
 alike (abstraction {ls = ls} {ps = ps} x p n g) =
     let l : List Layer = layer (suc n) false ∷ ls in
-    subst (λ d. Alike (word x p ∷ backslash ∷ tokens_of ps) (nesting (counts l) ∷ nesting (counts l) ∷ nestings_from (counts l) ps) (depth_of (layer n false ∷ ls) ∷ d ∷ depths_from l (tokens_of ps))) (depth_counts l)
-    (alike_abstraction x p (nesting (counts l)) (depth_of (layer n false ∷ ls)) (alike g))
+    let d : ℕ = depth_of (layer n false ∷ ls) in
+    let more : suc d ≡ depth_of l = one_more n false ls in
+    let h : Alike (word x p ∷ backslash ∷ tokens_of ps) (suc d ∷ suc d ∷ nestings_from (counts l) ps) (d ∷ suc d ∷ depths_from l (tokens_of ps)) = alike_abstraction x p d (alike g) in
+    let k : Alike (word x p ∷ backslash ∷ tokens_of ps) (suc d ∷ suc d ∷ nestings_from (counts l) ps) (d ∷ depth_of l ∷ depths_from l (tokens_of ps)) =
+    subst (λ c. Alike (word x p ∷ backslash ∷ tokens_of ps) (suc d ∷ suc d ∷ nestings_from (counts l) ps) (d ∷ c ∷ depths_from l (tokens_of ps))) more h in
+    subst (λ c. Alike (word x p ∷ backslash ∷ tokens_of ps) (c ∷ c ∷ nestings_from (counts l) ps) (d ∷ depth_of l ∷ depths_from l (tokens_of ps))) (more ∙ sym (depth_counts l)) k
 
 pub text_alike : (ts : List Token) (t : Tree) → (d : Text ts t) → Alike ts (nestings (marks d.1)) (map (λ s. s.depth) (spots ts))
 text_alike ts t d = let g = passes d.1 0 [] in subst (λ (w : List Token). Alike w (nestings (marks d.1)) (map (λ s. s.depth) (spots w))) (text_tokens d.1) (alike g.1)

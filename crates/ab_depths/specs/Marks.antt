@@ -1,7 +1,7 @@
 -- Nesting, by the grammar: which tokens of a text count is said by the forms that it is made of. What counts is the name of a
 -- binder or of an abstraction, a sign between operands, and an arrow of a type. The nesting at a token is the number of what
 -- counts up to it in the open brackets and outside all, and of these brackets.
-use Rattle.std.specs.Prelude.{ℕ, Option, suc, ◌+◌, List, [], ◌∷◌, ◌++◌, map, Bool, true, false, cond}
+use Rattle.std.specs.Prelude.{◌≡◌, ℕ, Option, suc, ◌+◌, List, [], ◌∷◌, ◌++◌, map, Bool, true, false, cond}
 use Rattle.ab_grammar.specs.declared.Infix.TheVariants.{Arrow}
 use Rattle.ab_grammar.specs.Token.{Token, word, truth, quantifier, pi_word, sign, left_paren, right_paren, left_brace, right_brace, left_bracket, right_bracket, turnstile, backslash, comma, colon}
 use Rattle.ab_grammar.specs.Tree.{Ty, Tree, Binder}
@@ -94,8 +94,9 @@ nestings_from ns (m ∷ ms) = nesting (behind ns m.token m.counts) ∷ nestings_
 abbrev pub nestings : List Marked → List ℕ
 nestings = nestings_from (0 ∷ [])
 
--- two lists of nestings of some tokens, alike but at the names of abstractions, where the first has what the second has at the backslash
+-- two lists of nestings of some tokens, alike but at the names of abstractions: there the first has what both have at the backslash,
+-- and the second one less. No other token is a backslash.
 pub data Alike : List Token → List ℕ → List ℕ → Type 0 where
   none : Alike [] [] []
-  same : {k : Token} {ks : List Token} {ns ms : List ℕ} → (n : ℕ) → Alike ks ns ms → Alike (k ∷ ks) (n ∷ ns) (n ∷ ms)
-  abstraction : {ks : List Token} {ns ms : List ℕ} → (x : List ℕ) (p n m : ℕ) → Alike ks ns ms → Alike (word x p ∷ backslash ∷ ks) (n ∷ n ∷ ns) (m ∷ n ∷ ms)
+  same : {k : Token} {ks : List Token} {ns ms : List ℕ} → (n : ℕ) → (k ≡ backslash → ⊥) → Alike ks ns ms → Alike (k ∷ ks) (n ∷ ns) (n ∷ ms)
+  abstraction : {ks : List Token} {ns ms : List ℕ} → (x : List ℕ) (p n : ℕ) → Alike ks ns ms → Alike (word x p ∷ backslash ∷ ks) (suc n ∷ suc n ∷ ns) (n ∷ suc n ∷ ms)

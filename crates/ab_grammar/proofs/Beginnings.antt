@@ -1,25 +1,25 @@
 -- With which tokens expressions and types begin, and what follows them in a command.
-use Rattle.std.proofs.Common.{◌≡◌, ℕ, List, [], ◌∷◌, ◌++◌, refl, ap, sym, subst, append_assoc}
+use Rattle.std.proofs.Common.{◌≡◌, ℕ, List, [], ◌∷◌, ◌++◌, Option, Some, refl, ap, sym, subst, append_assoc}
 use Rattle.ab_grammar.specs.declared.Infix.TheVariants.{Arrow}
 use Rattle.ab_grammar.specs.declared.Quant.{Quant}
-use Rattle.ab_grammar.specs.Token.{Token, word, truth, quantifier, pi_word, sign, left_paren, left_brace, comma, other, Other, stop, end, first}
+use Rattle.ab_grammar.specs.Token.{Token, word, truth, quantifier, pi_word, sign, left_paren, left_brace, comma, other, Other, stop}
 use Rattle.ab_grammar.specs.Tree.{Ty, Tree, name, base}
 use Rattle.ab_grammar.specs.Nesting.{Spot, spots, spots_from, Layer, outside}
 use Rattle.ab_grammar.specs.Grammar.{Ends, closed, Reads, looser, infixed, application, pi_applied, named, true_or_false, grouped, abstracted, quantified, judged, judged_from, ReadsType, named_type, grouped_type, arrow_type, looser_type}
 use Rattle.ab_grammar.specs.Language.{tokens_of, nested, Expression, TypeExpression}
-use Rattle.ab_grammar.proofs.Following.{Follower, by_other, Followed, Comes}
+use Rattle.ab_grammar.proofs.Following.{first, Follower, by_other, Followed, Comes}
 use Rattle.ab_grammar.proofs.Joining.{Example}
 
--- a token with which an expression or a type can begin
-pub data Begins : Token → Type 0 where
-  with_word_token : (x : List ℕ) (p : ℕ) → Begins (word x p)
-  with_truth : (x : List ℕ) (p : ℕ) → Begins (truth x p)
-  with_quantifier : (q : Quant) (p : ℕ) → Begins (quantifier q p)
-  with_pi : (p : ℕ) → Begins (pi_word p)
-  with_paren : Begins left_paren
-  with_brace : (p : ℕ) → Begins (left_brace p)
+-- a token that comes next, with which an expression or a type can begin
+pub data Begins : Option Token → Type 0 where
+  with_word_token : (x : List ℕ) (p : ℕ) → Begins (Some (word x p))
+  with_truth : (x : List ℕ) (p : ℕ) → Begins (Some (truth x p))
+  with_quantifier : (q : Quant) (p : ℕ) → Begins (Some (quantifier q p))
+  with_pi : (p : ℕ) → Begins (Some (pi_word p))
+  with_paren : Begins (Some left_paren)
+  with_brace : (p : ℕ) → Begins (Some (left_brace p))
 
-pub begins_no_other : (k : Token) (o : Other) → Begins k → k ≡ other o → ⊥
+pub begins_no_other : (k : Option Token) (o : Other) → Begins k → k ≡ Some (other o) → ⊥
 begins_no_other _ o (with_word_token x p) e = absurd (cc)
 begins_no_other _ o (with_truth x p) e = absurd (cc)
 begins_no_other _ o (with_quantifier q p) e = absurd (cc)
@@ -27,7 +27,7 @@ begins_no_other _ o (with_pi p) e = absurd (cc)
 begins_no_other _ o with_paren e = absurd (cc)
 begins_no_other _ o (with_brace p) e = absurd (cc)
 
-pub begins_no_comma : (k : Token) → Begins k → k ≡ comma → ⊥
+pub begins_no_comma : (k : Option Token) → Begins k → k ≡ Some comma → ⊥
 begins_no_comma _ (with_word_token x p) e = absurd (cc)
 begins_no_comma _ (with_truth x p) e = absurd (cc)
 begins_no_comma _ (with_quantifier q p) e = absurd (cc)
@@ -78,9 +78,8 @@ pub type_example : Example TypeExpression
 type_example = record { spots = spots (word [] 0 ∷ []); value = base [] 0; text = nested (looser_type (named_type [] 0)) }
 
 -- what may follow an expression or a type
-pub followed_by : (r : List Token) (k : Token) → Comes k r → (k ≡ other end → ⊥) → Follower k → Followed r
-followed_by [] k e n f = absurd (n (sym e))
-followed_by (j ∷ r) k e n f = (j, r, refl, subst Follower (sym e) f)
+pub followed_by : (r : List Token) (k : Token) → Comes k r → Follower (Some k) → Followed r
+followed_by r k e f = subst Follower (sym e) f
 
 pub followed_by_stop : (r : List Token) → Comes (other stop) r → Followed r
-followed_by_stop r e = followed_by r (other stop) e (λ f. absurd (cc)) (by_other stop)
+followed_by_stop r e = followed_by r (other stop) e (by_other stop)

@@ -2,14 +2,14 @@
 use Rattle.std.proofs.Common.{◌≡◌, ℕ, List, [], ◌++◌, Bool, true, false, Some, None, refl, sym, ◌∙◌, subst, codes, inl, inr}
 use Rattle.ab_grammar.specs.declared.head.Head.TheVariants as head
 use Rattle.ab_grammar.specs.declared.head.ProofHead.TheVariants as proof
-use Rattle.ab_grammar.specs.Token.{Token, word, left_paren, right_paren, other, Other, stop, becomes, star, to_word, with_word, on_word, first}
+use Rattle.ab_grammar.specs.Token.{Token, word, left_paren, right_paren, other, Other, stop, becomes, star, to_word, with_word, on_word, number}
 use Rattle.ab_grammar.specs.Tree.{Tree}
 use Rattle.ab_grammar.specs.Nesting.{Spot}
 use Rattle.ab_grammar.specs.Language.{tokens_of, Key, Expression}
 use Rattle.ab_grammar.proofs.Reading.{ReadsOff}
 use Rattle.ab_grammar.specs.CommandTrees as tree
 use Rattle.ab_grammar.specs.CommandForms.{One, Nothing, nothing, joined, Valued, valued, Optional, Many, OneOrMore, ◌▸◌}
-use Rattle.ab_grammar.proofs.Following.{BeforeStop, ClauseEnds, ArgumentsEnd}
+use Rattle.ab_grammar.proofs.Following.{first, Comes, Except, Showing, Without, BeforeStop, ClauseEnds, ArgumentsEnd}
 use Rattle.ab_grammar.specs.CommandTable.{Row, ProofRow, Name, Word, Sign, ClauseBody, ClauseForm, Clauses, Definition, InstanceList, Instances, Arguments, Keep, kept, OptionalName, Switch, switched_on, switched_off, ShowsName, shows_name, ShowsArgument, ShowsDepth, shows_depth, ShowsText, StandsAnywhere, stands_at, define_row, codefine_row, specification_row, show_row, quit_row, back_row, reset_row, undo_row, abort_row, intros_row, coinduction_row, search_row, split_row, split_all_row, left_row, right_row, exists_row, witness_row, unfold_row, assert_row, clear_row}
 use Rattle.ab_grammar.proofs.Lists.{regroup}
 use Rattle.ab_grammar.proofs.Choosing.{key_begins, one_shown, nothing_reads}
@@ -146,12 +146,12 @@ unfold_goal = empty_row (ProofRow proof.Unfold) tree.unfold_goal (unfold_row not
 
 -- Parts that may be left out
 
-other_stop : (o : Other) → (stop ≡ o → ⊥) → (ks : List Token) → first ks ≡ other o → Apart BeforeStop ks
-other_stop o n ks s r e f = let same : stop ≡ o = cc in n same
+other_stop : (o : Other) → (stop ≡ o → ⊥) → (ks : List Token) → Comes (other o) ks → Apart BeforeStop ks
+other_stop o n ks s r e f = let both : Some (other stop) ≡ Some (other o) = sym e ∙ f ∙ s in let same : stop ≡ o = cc in n same
 
 -- a key shows that a part is there
 module _ {A : Type 0} (k : Token) (G : List Spot → A → Type 0) (F : List Token → Type 0) (ks : List Token) where
-  pub keyed_missing : (first ks ≡ k → ⊥) → Missing (Key k ▸ G) F ks
+  pub keyed_missing : Except k ks → Missing (Key k ▸ G) F ks
   keyed_missing n w a r g f e = n (sym e ∙ keyed_in_front k G w a r g)
 
 module _ {A B : Type 0} (f : A → B) (G : List Spot → A → Type 0) (F : List Token → Type 0) (ks : List Token) where
@@ -162,64 +162,64 @@ module _ {A B : Type 0} (f : A → B) (G : List Spot → A → Type 0) (F : List
   valued_missing n w b r g h e = valued_missing_at w b r g h e n
 
 module _ (ks : List Token) where
-  pub with_instances : first ks ≡ other with_word → Continues Instances (Optional [] Instances) BeforeStop (λ is. is) ks ks
+  pub with_instances : Comes (other with_word) ks → Continues Instances (Optional [] Instances) BeforeStop (λ is. is) ks ks
   with_instances s = is_present [] Instances BeforeStop ks (other_stop with_word (λ e. absurd (cc)) ks s)
 
-  pub no_instances : (first ks ≡ other with_word → ⊥) → ReadsOff (Optional [] Instances) BeforeStop ks [] ks
+  pub no_instances : Except (other with_word) ks → ReadsOff (Optional [] Instances) BeforeStop ks [] ks
   no_instances n = is_absent [] Instances BeforeStop ks (keyed_missing (other with_word) InstanceList BeforeStop ks n)
 
-  arguments_apart : first ks ≡ other to_word → Apart ArgumentsEnd ks
+  arguments_apart : Comes (other to_word) ks → Apart ArgumentsEnd ks
   arguments_apart s r (inl e) f = absurd (cc)
   arguments_apart s r (inr e) f = absurd (cc)
 
-  pub with_arguments : first ks ≡ other to_word → Continues Arguments (Optional [] Arguments) ArgumentsEnd (λ vs. vs) ks ks
+  pub with_arguments : Comes (other to_word) ks → Continues Arguments (Optional [] Arguments) ArgumentsEnd (λ vs. vs) ks ks
   with_arguments s = is_present [] Arguments ArgumentsEnd ks (arguments_apart s)
 
-  pub no_arguments : (first ks ≡ other to_word → ⊥) → ReadsOff (Optional [] Arguments) ArgumentsEnd ks [] ks
+  pub no_arguments : Except (other to_word) ks → ReadsOff (Optional [] Arguments) ArgumentsEnd ks [] ks
   no_arguments n = is_absent [] Arguments ArgumentsEnd ks (keyed_missing (other to_word) (OneOrMore (One ShowsArgument)) ArgumentsEnd ks n)
 
-  body_apart : first ks ≡ other becomes → Apart ClauseEnds ks
+  body_apart : Comes (other becomes) ks → Apart ClauseEnds ks
   body_apart s r (inl e) f = absurd (cc)
   body_apart s r (inr e) f = absurd (cc)
 
-  pub with_body : first ks ≡ other becomes → Continues (Sign becomes ▸ Expression) ClauseBody ClauseEnds (λ e. Some e) ks ks
+  pub with_body : Comes (other becomes) ks → Continues (Sign becomes ▸ Expression) ClauseBody ClauseEnds (λ e. Some e) ks ks
   with_body s = onwards (with_value Some (Sign becomes ▸ Expression) ClauseEnds ks) (is_present None (Valued Some (Sign becomes ▸ Expression)) ClauseEnds ks (body_apart s))
 
-  pub no_body : (first ks ≡ other becomes → ⊥) → ReadsOff ClauseBody ClauseEnds ks None ks
+  pub no_body : Except (other becomes) ks → ReadsOff ClauseBody ClauseEnds ks None ks
   no_body n = is_absent None (Valued Some (Sign becomes ▸ Expression)) ClauseEnds ks (valued_missing Some (Sign becomes ▸ Expression) ClauseEnds ks (keyed_missing (other becomes) Expression ClauseEnds ks n))
 
-  keep_apart : first ks ≡ left_paren → Apart BeforeStop ks
+  keep_apart : Comes left_paren ks → Apart BeforeStop ks
   keep_apart s r e f = absurd (cc)
 
-  pub with_keep : first ks ≡ left_paren → Continues (Key left_paren ▸ (Word (codes "keep") ▸ Key right_paren)) (Optional false Keep) BeforeStop (λ u. true) ks ks
+  pub with_keep : Comes left_paren ks → Continues (Key left_paren ▸ (Word (codes "keep") ▸ Key right_paren)) (Optional false Keep) BeforeStop (λ u. true) ks ks
   with_keep s = onwards (with_value kept (Key left_paren ▸ (Word (codes "keep") ▸ Key right_paren)) BeforeStop ks) (is_present false Keep BeforeStop ks (keep_apart s))
 
-  pub no_keep : (first ks ≡ left_paren → ⊥) → ReadsOff (Optional false Keep) BeforeStop ks false ks
+  pub no_keep : Except left_paren ks → ReadsOff (Optional false Keep) BeforeStop ks false ks
   no_keep n = is_absent false Keep BeforeStop ks (valued_missing kept (Key left_paren ▸ (Word (codes "keep") ▸ Key right_paren)) BeforeStop ks (keyed_missing left_paren (Word (codes "keep") ▸ Key right_paren) BeforeStop ks n))
 
-  name_no_stop : (k : Token) (x : List ℕ) → ShowsName k x → k ≡ other stop → ⊥
+  name_no_stop : (k : Token) (x : List ℕ) → ShowsName k x → Some k ≡ Some (other stop) → ⊥
   name_no_stop _ x (shows_name y p) e = absurd (cc)
 
-  pub with_name : (x : List ℕ) → ShowsName (first ks) x → Continues Name OptionalName BeforeStop (λ y. Some y) ks ks
-  with_name x s = onwards (with_value Some Name BeforeStop ks) (is_present None (Valued Some Name) BeforeStop ks (λ r e f. name_no_stop (first ks) x s (sym f ∙ e)))
+  pub with_name : (k : Token) (x : List ℕ) → first ks ≡ Some k → ShowsName k x → Continues Name OptionalName BeforeStop (λ y. Some y) ks ks
+  with_name k x e s = onwards (with_value Some Name BeforeStop ks) (is_present None (Valued Some Name) BeforeStop ks (λ r f g. name_no_stop k x s (sym e ∙ sym g ∙ f)))
 
-  name_missing : ((x : List ℕ) → ShowsName (first ks) x → ⊥) → Missing Name BeforeStop ks
-  name_missing n w x r g f e = n x (subst (λ (t : Token). ShowsName t x) e (one_shown ShowsName w x r g))
+  name_missing : Without ShowsName ks → Missing Name BeforeStop ks
+  name_missing n w x r g f e = let s = one_shown ShowsName w x r g in n s.0 x (sym e ∙ s.1) s.2
 
-  pub no_name : ((x : List ℕ) → ShowsName (first ks) x → ⊥) → ReadsOff OptionalName BeforeStop ks None ks
+  pub no_name : Without ShowsName ks → ReadsOff OptionalName BeforeStop ks None ks
   no_name n = is_absent None (Valued Some Name) BeforeStop ks (valued_missing Some Name BeforeStop ks (name_missing n))
 
   -- what isn't the full stop can only be the part
-  pub with_depth : (first ks ≡ other stop → ⊥) → Continues (One ShowsDepth) (Optional 5 (One ShowsDepth)) BeforeStop (λ n. n) ks ks
+  pub with_depth : Except (other stop) ks → Continues (One ShowsDepth) (Optional 5 (One ShowsDepth)) BeforeStop (λ n. n) ks ks
   with_depth n = is_present 5 (One ShowsDepth) BeforeStop ks (λ r e f. n (sym f ∙ e))
 
-  depth_no_stop : (k : Token) (n : ℕ) → ShowsDepth k n → k ≡ other stop → ⊥
-  depth_no_stop _ n (shows_depth m h) e = absurd (cc)
+  depth_no_stop : (r : List Token) (n : ℕ) → Showing ShowsDepth n r → BeforeStop r → ⊥
+  depth_no_stop r n (k, e, shows_depth m h) f = let bad : Some (other (number m)) ≡ Some (other stop) = sym e ∙ f in absurd (cc)
 
-  pub no_depth : first ks ≡ other stop → ReadsOff (Optional 5 (One ShowsDepth)) BeforeStop ks 5 ks
-  no_depth s = is_absent 5 (One ShowsDepth) BeforeStop ks (λ w n r g f e. depth_no_stop _ n (one_shown ShowsDepth w n r g) (e ∙ s))
+  pub no_depth : Comes (other stop) ks → ReadsOff (Optional 5 (One ShowsDepth)) BeforeStop ks 5 ks
+  no_depth s = is_absent 5 (One ShowsDepth) BeforeStop ks (λ w n r g f e. depth_no_stop (tokens_of w ++ r) n (one_shown ShowsDepth w n r g) (e ∙ s))
 
-  pub with_clauses : (first ks ≡ other stop → ⊥) → Continues Clauses (Optional [] Clauses) BeforeStop (λ cs. cs) ks ks
+  pub with_clauses : Except (other stop) ks → Continues Clauses (Optional [] Clauses) BeforeStop (λ cs. cs) ks ks
   with_clauses n = is_present [] Clauses BeforeStop ks (λ r e f. n (sym f ∙ e))
 
   clause_begins : (w : List Spot) (c : tree.Clause) (r : List Token) → ClauseForm w c → Begins (first (tokens_of w ++ r))
@@ -228,39 +228,39 @@ module _ (ks : List Token) where
   clauses_begin : (w : List Spot) (cs : List tree.Clause) (r : List Token) → Clauses w cs → Begins (first (tokens_of w ++ r))
   clauses_begin _ _ r (joined {us = us} {vs = vs} {a = c} g h) = subst (λ (v : List Token). Begins (first v)) (sym (regroup us vs r)) (clause_begins us c (tokens_of vs ++ r) g)
 
-  pub no_clauses : first ks ≡ other stop → ReadsOff (Optional [] Clauses) BeforeStop ks [] ks
+  pub no_clauses : Comes (other stop) ks → ReadsOff (Optional [] Clauses) BeforeStop ks [] ks
   no_clauses s = is_absent [] Clauses BeforeStop ks (λ w cs r g f e. begins_no_other _ stop (clauses_begin w cs r g) (e ∙ s))
 
 -- Two forms
 
 module _ (ks : List Token) where
-  off_no_on : (k : Token) (u : Unit {0}) → StandsAnywhere (word (codes "off")) k u → k ≡ other on_word → ⊥
-  off_no_on _ u (stands_at p) e = absurd (cc)
+  off_no_on : (r : List Token) (u : Unit {0}) → Showing (StandsAnywhere (word (codes "off"))) u r → Comes (other on_word) r → ⊥
+  off_no_on r u (k, e, stands_at p) f = let bad : Some (word (codes "off") p) ≡ Some (other on_word) = sym e ∙ f in absurd (cc)
 
-  on_back : first ks ≡ other on_word → (w : List Spot) (b : Bool) (r : List Token) → Switch w b → BeforeStop r → first (tokens_of w ++ r) ≡ first ks → (u : Unit {0}) × Sign on_word w u × (true ≡ b)
+  on_back : Comes (other on_word) ks → (w : List Spot) (b : Bool) (r : List Token) → Switch w b → BeforeStop r → first (tokens_of w ++ r) ≡ first ks → (u : Unit {0}) × Sign on_word w u × (true ≡ b)
   on_back s w _ r (switched_on g) f e = (tt, g, refl)
-  on_back s w _ r (switched_off g) f e = absurd (off_no_on _ tt (one_shown (StandsAnywhere (word (codes "off"))) w tt r g) (e ∙ s))
+  on_back s w _ r (switched_off g) f e = absurd (off_no_on (tokens_of w ++ r) tt (one_shown (StandsAnywhere (word (codes "off"))) w tt r g) (e ∙ s))
 
-  pub switch_on : first ks ≡ other on_word → Continues (Sign on_word) Switch BeforeStop (λ u. true) ks ks
+  pub switch_on : Comes (other on_word) ks → Continues (Sign on_word) Switch BeforeStop (λ u. true) ks ks
   switch_on s = chosen (Sign on_word) Switch BeforeStop (λ u. true) ks (λ w u g. switched_on g) (on_back s)
 
-  off_back : (first ks ≡ other on_word → ⊥) → (w : List Spot) (b : Bool) (r : List Token) → Switch w b → BeforeStop r → first (tokens_of w ++ r) ≡ first ks → (u : Unit {0}) × Word (codes "off") w u × (false ≡ b)
+  off_back : Except (other on_word) ks → (w : List Spot) (b : Bool) (r : List Token) → Switch w b → BeforeStop r → first (tokens_of w ++ r) ≡ first ks → (u : Unit {0}) × Word (codes "off") w u × (false ≡ b)
   off_back n w _ r (switched_on g) f e = absurd (n (sym e ∙ key_begins (other on_word) w tt r g))
   off_back n w _ r (switched_off g) f e = (tt, g, refl)
 
-  pub switch_off : (first ks ≡ other on_word → ⊥) → Continues (Word (codes "off")) Switch BeforeStop (λ u. false) ks ks
+  pub switch_off : Except (other on_word) ks → Continues (Word (codes "off")) Switch BeforeStop (λ u. false) ks ks
   switch_off n = chosen (Word (codes "off")) Switch BeforeStop (λ u. false) ks (λ w u g. switched_off g) (off_back n)
 
-  star_back : first ks ≡ other star → (w : List Spot) (c : tree.ProofCommand) (r : List Token) → ProofRow proof.Split w c → BeforeStop r → first (tokens_of w ++ r) ≡ first ks → (u : Unit {0}) × Sign star w u × (tree.split_all ≡ c)
+  star_back : Comes (other star) ks → (w : List Spot) (c : tree.ProofCommand) (r : List Token) → ProofRow proof.Split w c → BeforeStop r → first (tokens_of w ++ r) ≡ first ks → (u : Unit {0}) × Sign star w u × (tree.split_all ≡ c)
   star_back s _ _ r (split_row nothing) f e = absurd (other_stop star (λ q. absurd (cc)) ks s r f e)
   star_back s w _ r (split_all_row g) f e = (tt, g, refl)
 
-  pub split_all : first ks ≡ other star → Continues (Sign star) (ProofRow proof.Split) BeforeStop (λ u. tree.split_all) ks ks
+  pub split_all : Comes (other star) ks → Continues (Sign star) (ProofRow proof.Split) BeforeStop (λ u. tree.split_all) ks ks
   split_all s = chosen (Sign star) (ProofRow proof.Split) BeforeStop (λ u. tree.split_all) ks (λ w u g. split_all_row g) (star_back s)
 
-  split_only : (first ks ≡ other star → ⊥) → (w : List Spot) (c : tree.ProofCommand) (r : List Token) → ProofRow proof.Split w c → BeforeStop r → first (tokens_of w ++ r) ≡ first ks → (w ≡ []) × (c ≡ tree.split)
+  split_only : Except (other star) ks → (w : List Spot) (c : tree.ProofCommand) (r : List Token) → ProofRow proof.Split w c → BeforeStop r → first (tokens_of w ++ r) ≡ first ks → (w ≡ []) × (c ≡ tree.split)
   split_only n w _ r (split_row g) f e = empty_only tree.split w g
   split_only n w _ r (split_all_row g) f e = absurd (n (sym e ∙ key_begins (other star) w tt r g))
 
-  pub split : (first ks ≡ other star → ⊥) → ReadsOff (ProofRow proof.Split) BeforeStop ks tree.split ks
+  pub split : Except (other star) ks → ReadsOff (ProofRow proof.Split) BeforeStop ks tree.split ks
   split n = nothing_reads (ProofRow proof.Split) BeforeStop ks tree.split (split_row nothing) (split_only n)

@@ -1,9 +1,9 @@
 -- Reading goes on behind a part: what is read or refused from there on is read or refused of the whole.
 use Rattle.std.proofs.Common.{◌≡◌, List, [], ◌∷◌, ◌++◌, refl, ap, sym, ◌∙◌}
-use Rattle.ab_grammar.specs.Token.{Token, first}
+use Rattle.ab_grammar.specs.Token.{Token}
 use Rattle.ab_grammar.specs.Nesting.{Spot}
 use Rattle.ab_grammar.specs.Language.{tokens_of}
-use Rattle.ab_grammar.proofs.Following.{Follow, follow}
+use Rattle.ab_grammar.proofs.Following.{first, Follow, follow}
 use Rattle.ab_grammar.proofs.Reading.{ReadsOff, Cause, RefusesAt}
 use Rattle.ab_grammar.specs.CommandForms.{Joined, joined, Valued, valued, Optional, left_out, present, Many, no_more, one_more}
 use Rattle.ab_grammar.proofs.Lists.{regroup}
@@ -53,7 +53,7 @@ valued_back f G _ _ (valued {a = a} g) = (a, g, refl)
 pub with_value : {A B : Type 0} (f : A → B) (G : List Spot → A → Type 0) (F : List Token → Type 0) (ks : List Token) → Continues G (Valued f G) F f ks ks
 with_value f G F ks = same_texts G (Valued f G) F f ks (λ w a g. valued g) (valued_back f G)
 
--- the next token is none that may follow
+-- what comes next is nothing that may follow
 abbrev pub Apart : (List Token → Type 0) → List Token → Type 0
 Apart F ks = (r : List Token) → F r → first r ≡ first ks → ⊥
 

@@ -1,10 +1,10 @@
 -- What is read or refused of two forms, one behind the other.
-use Rattle.std.proofs.Common.{◌≡◌, List, [], ◌∷◌, ◌++◌, ap, sym, ◌∙◌, subst, append_assoc}
+use Rattle.std.proofs.Common.{◌≡◌, List, [], ◌∷◌, ◌++◌, Option, Some, ap, sym, ◌∙◌, subst, append_assoc}
 use Rattle.std.proofs.lemmas.List.Elements.{All-append}
-use Rattle.ab_grammar.specs.Token.{Token, first}
+use Rattle.ab_grammar.specs.Token.{Token}
 use Rattle.ab_grammar.specs.Nesting.{Spot, IsShallow}
 use Rattle.ab_grammar.specs.Language.{tokens_of, Begins}
-use Rattle.ab_grammar.proofs.Following.{Follow, follow}
+use Rattle.ab_grammar.proofs.Following.{first, led_by, Follow, follow}
 use Rattle.ab_grammar.proofs.Reading.{Read, Fails, ReadsOff, NestsAt, Cause, ungrammatical, too_nested, RefusesAt}
 use Rattle.ab_grammar.specs.CommandForms.{Joined, joined}
 use Rattle.ab_grammar.proofs.Lists.{begins_like, cut_in_two, regroup, cancel}
@@ -18,17 +18,17 @@ pub record Example {A : Type 0} (G : List Spot → A → Type 0) : Type 0 where
 module _ {A B C : Type 0} (f : A → B → C) (G : List Spot → A → Type 0) (H : List Spot → B → Type 0) (F : List Token → Type 0) where
   -- a text of both that agrees with what was read of G begins with just that
   first_part : (ks ms rest : List Token) (us vs : List Spot) (a : A) → ms ≡ tokens_of vs ++ rest → Read G (Follow H F) us a (first ms) → (u v : List Spot) (c : A) (d : B) (r zs : List Token) → G u c → H v d → F r
-      → tokens_of (u ++ v) ++ r ≡ tokens_of us ++ (tokens_of vs ++ first rest ∷ zs) → (u ≡ us) × (c ≡ a) × (tokens_of v ++ r ≡ tokens_of vs ++ first rest ∷ zs)
+      → tokens_of (u ++ v) ++ r ≡ tokens_of us ++ (tokens_of vs ++ led_by (first rest) zs) → (u ≡ us) × (c ≡ a) × (tokens_of v ++ r ≡ tokens_of vs ++ led_by (first rest) zs)
   first_part ks ms rest us vs a m p u v c d r zs g h k e =
       let like = begins_like ms rest zs vs m in
-      let moved : tokens_of u ++ (tokens_of v ++ r) ≡ tokens_of us ++ (tokens_of vs ++ first rest ∷ zs) = sym (regroup u v r) ∙ e in
+      let moved : tokens_of u ++ (tokens_of v ++ r) ≡ tokens_of us ++ (tokens_of vs ++ led_by (first rest) zs) = sym (regroup u v r) ∙ e in
       let same = p.only u c (tokens_of v ++ r) (like.0) g (follow h k) (moved ∙ ap (λ (w : List Token). tokens_of us ++ w) (like.1)) in
       (same.0, same.1, cancel us v r _ (ap (λ (w : List Spot). tokens_of w ++ (tokens_of v ++ r)) (sym (same.0)) ∙ moved))
 
   joined_only : (ks ms rest : List Token) (us vs : List Spot) (a : A) (b : B) → ms ≡ tokens_of vs ++ rest → Read G (Follow H F) us a (first ms) → Read H F vs b (first rest)
-      → (w : List Spot) (c : C) (r zs : List Token) → Joined f G H w c → F r → tokens_of w ++ r ≡ tokens_of (us ++ vs) ++ first rest ∷ zs → (w ≡ us ++ vs) × (c ≡ f a b)
+      → (w : List Spot) (c : C) (r zs : List Token) → Joined f G H w c → F r → tokens_of w ++ r ≡ tokens_of (us ++ vs) ++ led_by (first rest) zs → (w ≡ us ++ vs) × (c ≡ f a b)
   joined_only ks ms rest us vs a b m p q _ _ r zs (joined {us = u} {vs = v} {a = c} {b = d} g h) k e =
-      let one = first_part ks ms rest us vs a m p u v c d r zs g h k (e ∙ regroup us vs (first rest ∷ zs)) in
+      let one = first_part ks ms rest us vs a m p u v c d r zs g h k (e ∙ regroup us vs (led_by (first rest) zs)) in
       let two = q.only v d r zs h k (one.2) in
       (ap (λ (x : List Spot). x ++ v) (one.0) ∙ ap (λ (x : List Spot). us ++ x) (two.0), ap (λ (x : A). f x d) (one.1) ∙ ap (λ (y : B). f a y) (two.1))
 
@@ -49,17 +49,17 @@ module _ {A B C : Type 0} (f : A → B → C) (G : List Spot → A → Type 0) (
   }
 
   second_none : (ks ms rest : List Token) (us vs : List Spot) (a : A) → ms ≡ tokens_of vs ++ rest → Read G (Follow H F) us a (first ms) → Fails H F vs (first rest)
-      → (w : List Spot) (c : C) (r zs : List Token) → Joined f G H w c → F r → tokens_of w ++ r ≡ tokens_of (us ++ vs) ++ first rest ∷ zs → ⊥
+      → (w : List Spot) (c : C) (r zs : List Token) → Joined f G H w c → F r → tokens_of w ++ r ≡ tokens_of (us ++ vs) ++ led_by (first rest) zs → ⊥
   second_none ks ms rest us vs a m p q _ _ r zs (joined {us = u} {vs = v} {a = c} {b = d} g h) k e =
-      let one = first_part ks ms rest us vs a m p u v c d r zs g h k (e ∙ regroup us vs (first rest ∷ zs)) in
+      let one = first_part ks ms rest us vs a m p u v c d r zs g h k (e ∙ regroup us vs (led_by (first rest) zs)) in
       q.none v d r zs h k (one.2)
 
   second_only : (ks ms rest : List Token) (us : List Spot) (a : A) → Read G (Follow H F) us a (first ms) → (q : NestsAt H F ms rest)
       → (w : List Spot) (c : C) (r zs : List Token) → Joined f G H w c → F r → tokens_of w ++ r ≡ tokens_of (us ++ q.read) ++ q.last.token ∷ zs → (x : List Spot) × (w ≡ (us ++ q.read) ++ q.last ∷ x)
   second_only ks ms rest us a p q _ _ r zs (joined {us = u} {vs = v} {a = c} {b = d} g h) k e =
-      let here : q.last.token ≡ first rest = sym (ap first (q.next)) in
-      let one = first_part ks ms rest us (q.read) a (q.tokens) p u v c d r zs g h k (e ∙ regroup us (q.read) (q.last.token ∷ zs) ∙ ap (λ (t : Token). tokens_of us ++ (tokens_of (q.read) ++ t ∷ zs)) here) in
-      let two = q.only v d r zs h k (one.2 ∙ ap (λ (t : Token). tokens_of (q.read) ++ t ∷ zs) (sym here)) in
+      let here : Some q.last.token ≡ first rest = sym (ap first (q.next)) in
+      let one = first_part ks ms rest us (q.read) a (q.tokens) p u v c d r zs g h k (e ∙ regroup us (q.read) (q.last.token ∷ zs) ∙ ap (λ (t : Option Token). tokens_of us ++ (tokens_of (q.read) ++ led_by t zs)) here) in
+      let two = q.only v d r zs h k (one.2 ∙ ap (λ (t : Option Token). tokens_of (q.read) ++ led_by t zs) (sym here)) in
       (two.0, ap (λ (x : List Spot). x ++ v) (one.0) ∙ ap (λ (x : List Spot). us ++ x) (two.1) ∙ sym (append_assoc us (q.read) (q.last ∷ two.0)))
 
   pub second_refuses : (c : Cause) (ks ms rest : List Token) (a : A) → ReadsOff G (Follow H F) ks a ms → RefusesAt H F c ms rest → RefusesAt (Joined f G H) F c ks rest
@@ -89,7 +89,7 @@ module _ {A B C : Type 0} (f : A → B → C) (G : List Spot → A → Type 0) (
     text = subst (λ (w : List Spot). Joined f G H w (f (g.value) (h.value))) (append_assoc us (g.rest) (h.spots)) (joined (g.text) (h.text));
   }
 
-  first_none : (us : List Spot) (t : Token) → Fails G (Follow H F) us t → (w : List Spot) (c : C) (r zs : List Token) → Joined f G H w c → F r → tokens_of w ++ r ≡ tokens_of us ++ t ∷ zs → ⊥
+  first_none : (us : List Spot) (t : Option Token) → Fails G (Follow H F) us t → (w : List Spot) (c : C) (r zs : List Token) → Joined f G H w c → F r → tokens_of w ++ r ≡ tokens_of us ++ led_by t zs → ⊥
   first_none us t p _ _ r zs (joined {us = u} {vs = v} {a = c} {b = d} g h) k e = p.none u c (tokens_of v ++ r) zs g (follow h k) (sym (regroup u v r) ∙ e)
 
   first_only : (ks rest : List Token) (q : NestsAt G (Follow H F) ks rest)

@@ -15,7 +15,6 @@ pub mod Reader
 pub mod Readers
 pub mod Shown
 pub mod Looping
-pub mod Lifting
 pub mod OneText
 pub mod WholeTexts
 pub mod OneAnswer

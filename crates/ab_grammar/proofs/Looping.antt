@@ -1,10 +1,10 @@
 -- Reading a list item by item: what a loop finds from where it stands.
-use Rattle.std.proofs.Common.{◌≡◌, List, [], ◌∷◌, ◌++◌, refl, ap, sym, ◌∙◌, subst, append_assoc, append-nil, ◌⊎◌, inl, inr}
-use Rattle.ab_grammar.specs.Token.{Token, first}
+use Rattle.std.proofs.Common.{◌≡◌, List, [], ◌∷◌, ◌++◌, Some, refl, ap, sym, ◌∙◌, subst, append_assoc, append-nil, ◌⊎◌, inl, inr}
+use Rattle.ab_grammar.specs.Token.{Token}
 use Rattle.std.proofs.lemmas.List.Elements.{All-nil}
 use Rattle.ab_grammar.specs.Nesting.{Spot, IsShallow}
 use Rattle.ab_grammar.specs.Language.{tokens_of, Key}
-use Rattle.ab_grammar.proofs.Following.{Follow, follow, Anything, Without, Comes}
+use Rattle.ab_grammar.proofs.Following.{first, led_by, Follow, follow, Anything, Except, Without, Comes}
 use Rattle.ab_grammar.proofs.Reading.{ReadsOff, StopsAt, Cause, RefusesAt}
 use Rattle.ab_grammar.specs.CommandForms.{One, Joined, joined, Many, no_more, one_more, OneOrMore, ◌▸◌}
 use Rattle.ab_grammar.proofs.Lists.{regroup}
@@ -52,24 +52,24 @@ module _ {A : Type 0} (G : List Spot → A → Type 0) (H : List Spot → A → 
 
 -- items that are one token
 module _ {A : Type 0} (Shows : Token → A → Type 0) where
-  pub token_apart : (ms : List Token) (a : A) → Shows (first ms) a → Apart (Without Shows) ms
-  token_apart ms a s r k e = k a (subst (λ (t : Token). Shows t a) (sym e) s)
+  pub token_apart : (k : Token) (ms : List Token) (a : A) → first ms ≡ Some k → Shows k a → Apart (Without Shows) ms
+  token_apart k ms a e s r n f = n k a (f ∙ e) s
 
-  pub token_missing : (F : List Token → Type 0) (ms : List Token) → ((a : A) → Shows (first ms) a → ⊥) → Missing (One Shows) F ms
-  token_missing F ms n w a r g k e = n a (subst (λ (t : Token). Shows t a) e (one_shown Shows w a r g))
+  pub token_missing : (F : List Token → Type 0) (ms : List Token) → Without Shows ms → Missing (One Shows) F ms
+  token_missing F ms n w a r g f e = let s = one_shown Shows w a r g in n s.0 a (sym e ∙ s.1) s.2
 
 -- items behind a key, which may not follow
-module _ {A : Type 0} (k : Token) (G : List Spot → A → Type 0) (E F : List Token → Type 0) (out : (r : List Token) → F r → first r ≡ k → ⊥) (less : (r : List Token) → Follow (Many (Key k ▸ G)) F r → E r) where
+module _ {A : Type 0} (k : Token) (G : List Spot → A → Type 0) (E F : List Token → Type 0) (out : (r : List Token) → F r → Except k r) (less : (r : List Token) → Follow (Many (Key k ▸ G)) F r → E r) where
   abbrev Behind : List Spot → A → Type 0
   Behind = Key k ▸ G
 
-  pub key_apart : (ms : List Token) → first ms ≡ k → Apart F ms
+  pub key_apart : (ms : List Token) → first ms ≡ Some k → Apart F ms
   key_apart ms s r n e = out r n (e ∙ s)
 
-  keyed_first : (w : List Spot) (a : A) (r : List Token) → Behind w a → first (tokens_of w ++ r) ≡ k
+  keyed_first : (w : List Spot) (a : A) (r : List Token) → Behind w a → first (tokens_of w ++ r) ≡ Some k
   keyed_first _ _ r (joined {us = us} {vs = vs} {a = u} g h) = ap first (regroup us vs r) ∙ key_begins k us u (tokens_of vs ++ r) g
 
-  pub key_missing : (D : List Token → Type 0) (ms : List Token) → (first ms ≡ k → ⊥) → Missing Behind D ms
+  pub key_missing : (D : List Token → Type 0) (ms : List Token) → Except k ms → Missing Behind D ms
   key_missing D ms n w a r g f e = n (sym e ∙ keyed_first w a r g)
 
   pub keyed_reads : (ms ns : List Token) (a : A) → ReadsOff G E ms a ns → ReadsOff Behind (Follow (Many Behind) F) (k ∷ ms) a ns
@@ -122,7 +122,7 @@ module _ {A : Type 0} (G : List Spot → A → Type 0) (F : List Token → Type 
         fails = record {
           begins = record { rest = x.spots ++ []; value = x.value ∷ []; text = joined (x.text) no_more };
           none = λ w b r zs g k f.
-              let same : tokens_of w ++ r ≡ tokens_of (p.read) ++ first rest ∷ zs = f ∙ ap (λ (t : Token). t ∷ zs) (ap first e) ∙ nothing_before (p.read) (first rest ∷ zs) (p.reads.is) in
+              let same : tokens_of w ++ r ≡ tokens_of (p.read) ++ led_by (first rest) zs = f ∙ ap (λ (v : List Token). led_by (first v) zs) e ∙ nothing_before (p.read) (led_by (first rest) zs) (p.reads.is) in
               some_not_none w b g (p.reads.only w b r zs (some_many w b g) k same).1;
         };
       }

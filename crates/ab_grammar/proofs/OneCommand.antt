@@ -5,16 +5,16 @@ use Rattle.ab_grammar.specs.declared.head.Head.{Head}
 use Rattle.ab_grammar.specs.declared.head.Head.TheVariants as head
 use Rattle.ab_grammar.specs.declared.head.ProofHead.{ProofHead}
 use Rattle.ab_grammar.specs.declared.head.ProofHead.TheVariants as proof
-use Rattle.ab_grammar.specs.Token.{Token, Other, word, sign, left_paren, right_paren, comma, colon, other, stop, semicolon, becomes, star, by_word, to_word, with_word, on_word, type_word, first}
+use Rattle.ab_grammar.specs.Token.{Token, Other, word, sign, left_paren, right_paren, comma, colon, other, stop, semicolon, becomes, star, by_word, to_word, with_word, on_word, type_word}
 use Rattle.ab_grammar.specs.Nesting.{Spot}
 use Rattle.ab_grammar.specs.Tree.{Tree}
 use Rattle.ab_grammar.specs.Language.{tokens_of, Key, the_key, Expression, TypeExpression, Accepted}
-use Rattle.ab_grammar.proofs.Following.{Follow, follow, Anything, Followed, by_comma, by_other, Comes, Except, Without, BeforeStop, ClauseEnds, ArgumentsEnd}
+use Rattle.ab_grammar.proofs.Following.{first, Follow, follow, Anything, Followed, by_comma, by_other, Comes, Except, Showing, Without, BeforeStop, ClauseEnds, ArgumentsEnd}
 use Rattle.ab_grammar.specs.CommandTrees as tree
 use Rattle.ab_grammar.specs.CommandForms.{One, one, Nothing, nothing, joined, Valued, valued, Optional, left_out, present, Many, OneOrMore, ◌▹◌, ◌▸◌, ◌◂◌}
 use Rattle.ab_grammar.specs.CommandTable.{ShowsName, shows_name, ShowsDeclared, ShowsNominal, shows_nominal, ShowsArgument, shows_named, shows_hole, ShowsNumber, ShowsDepth, shows_depth, ShowsText, ShowsLabel, StandsAnywhere, stands_at, Name, DeclaredName, DeclaredNames, Word, Sign, Definiendum, defined_of, Definienda, ClauseBody, ClauseForm, clause_of, Clauses, Definition, InstanceForm, instance_of, InstanceList, Instances, Arguments, Keep, kept, Nominals, OptionalName, Switch, switched_on, switched_off, Row, kind_row, typed_row, define_row, codefine_row, theorem_row, specification_row, show_row, quit_row, set_row, back_row, reset_row, undo_row, abort_row, ProofRow, intros_row, induction_row, coinduction_row, case_row, apply_row, backchain_row, cut_row, inst_row, monotone_row, search_row, split_row, split_all_row, left_row, right_row, exists_row, witness_row, unfold_row, assert_row, clear_row, rename_row, permute_row, Opens, OpensProof, LabelledForm, labelled_form, CommandForm, plain, unlabelled, labelled, CommandText}
 use Rattle.ab_grammar.proofs.Shown.{one_name, one_declared, one_nominal, one_argument, one_number, one_depth, one_text, one_placed, one_label}
-use Rattle.ab_grammar.proofs.Choosing.{key_begins}
+use Rattle.ab_grammar.proofs.Choosing.{key_begins, shown_by}
 use Rattle.ab_grammar.proofs.Beginnings.{begins_no_other, begins_no_comma, expression_begins, type_begins, followed_by, followed_by_stop}
 use Rattle.ab_grammar.proofs.Readers.{sure_expression, sure_type}
 use Rattle.ab_grammar.proofs.Heads.{one_head, one_proof_head, plain_no_proof, plain_no_label, proof_no_label}
@@ -23,22 +23,22 @@ use Rattle.ab_grammar.proofs.Sure.{Sure, Never, sure_one, sure_key, sure_nothing
 
 -- What follows
 
-key_first : (k : Token) (F : List Token → Type 0) (r : List Token) → Follow (Key k) F r → first r ≡ k
+key_first : (k : Token) (F : List Token → Type 0) (r : List Token) → Follow (Key k) F r → Comes k r
 key_first k F _ (follow {vs = vs} {r = r} {b = u} h f) = key_begins k vs u r h
 
-stop_not : (k : Token) → (other stop ≡ k → ⊥) → (r : List Token) → BeforeStop r → first r ≡ k → ⊥
+stop_not : (k : Token) → (Some (other stop) ≡ Some k → ⊥) → (r : List Token) → BeforeStop r → Except k r
 stop_not k n r f e = n (sym f ∙ e)
 
 clause_end_followed : (r : List Token) → ClauseEnds r → Followed r
-clause_end_followed r (inl e) = followed_by r (other semicolon) e (λ f. absurd (cc)) (by_other semicolon)
+clause_end_followed r (inl e) = followed_by r (other semicolon) e (by_other semicolon)
 clause_end_followed r (inr e) = followed_by_stop r e
 
-comma_or_by : (r : List Token) → (first r ≡ comma) ⊎ Comes (other by_word) r → Followed r
-comma_or_by r (inl e) = followed_by r comma e (λ f. absurd (cc)) by_comma
-comma_or_by r (inr e) = followed_by r (other by_word) e (λ f. absurd (cc)) (by_other by_word)
+comma_or_by : (r : List Token) → (Comes comma r) ⊎ Comes (other by_word) r → Followed r
+comma_or_by r (inl e) = followed_by r comma e by_comma
+comma_or_by r (inr e) = followed_by r (other by_word) e (by_other by_word)
 
-comma_or_stop : (r : List Token) → (first r ≡ comma) ⊎ BeforeStop r → Followed r
-comma_or_stop r (inl e) = followed_by r comma e (λ f. absurd (cc)) by_comma
+comma_or_stop : (r : List Token) → (Comes comma r) ⊎ BeforeStop r → Followed r
+comma_or_stop r (inl e) = followed_by r comma e by_comma
 comma_or_stop r (inr e) = followed_by_stop r e
 
 body_followed : (r : List Token) → Follow ClauseBody ClauseEnds r → Followed r
@@ -46,7 +46,7 @@ body_followed _ (follow {vs = vs} {r = r} {b = b} h f) = from_body vs b h
   where
     from_body : (v : List Spot) (b : Option Tree) → ClauseBody v b → Followed (tokens_of v ++ r)
     from_body _ _ left_out = clause_end_followed r f
-    from_body _ _ (present (valued {us = u} {a = t} g)) = followed_by _ (other becomes) (keyed_first (other becomes) Expression u t r g) (λ e. absurd (cc)) (by_other becomes)
+    from_body _ _ (present (valued {us = u} {a = t} g)) = followed_by _ (other becomes) (keyed_first (other becomes) Expression u t r g) (by_other becomes)
 
 instances_follow : (r : List Token) → Follow (Optional [] Instances) BeforeStop r → ArgumentsEnd r
 instances_follow _ (follow {vs = vs} {r = r} {b = is} h f) = from_instances vs is h
@@ -77,11 +77,11 @@ sure_definiendum = sure_valued defined_of (DeclaredName ◂ Key colon ▹ TypeEx
     (sure_then (λ x A. (x, A)) (DeclaredName ◂ Key colon) TypeExpression Followed (sure_then (λ x u. x) DeclaredName (Key colon) Anything (sure_declared Anything) (sure_key colon Anything)) sure_type)
 
 sure_definienda : Sure Definienda (Comes (other by_word))
-sure_definienda = sure_separated comma Definiendum Followed (Comes (other by_word)) comma_or_by (λ r f e. let bad : other by_word ≡ comma = sym f ∙ e in absurd (cc)) sure_definiendum
+sure_definienda = sure_separated comma Definiendum Followed (Comes (other by_word)) comma_or_by (λ r f e. let bad : Some (other by_word) ≡ Some comma = sym f ∙ e in absurd (cc)) sure_definiendum
 
-becomes_apart : (r : List Token) → ClauseEnds r → first r ≡ other becomes → ⊥
-becomes_apart r (inl f) e = let bad : other semicolon ≡ other becomes = sym f ∙ e in absurd (cc)
-becomes_apart r (inr f) e = let bad : other stop ≡ other becomes = sym f ∙ e in absurd (cc)
+becomes_apart : (r : List Token) → ClauseEnds r → Except (other becomes) r
+becomes_apart r (inl f) e = let bad : Some (other semicolon) ≡ Some (other becomes) = sym f ∙ e in absurd (cc)
+becomes_apart r (inr f) e = let bad : Some (other stop) ≡ Some (other becomes) = sym f ∙ e in absurd (cc)
 
 never_valued : {A B : Type 0} (f : A → B) (G : List Spot → A → Type 0) (F : List Token → Type 0) → Never G F → Never (Valued f G) F
 never_valued f G F n _ _ s r (valued {us = v} {a = a} g) k e = n v a s r g k e
@@ -123,34 +123,34 @@ sure_instances = sure_optional [] Instances BeforeStop
 
 -- a list of words ends before what is no word
 never_shown : {A : Type 0} (Shows : Token → A → Type 0) (F : List Token → Type 0) → ((r : List Token) → F r → Without Shows r) → Never (One Shows) F
-never_shown Shows F without _ b s r (one {k = k} p) f e = without r f b (subst (λ i. Shows i b) (sym (ap first e)) p)
+never_shown Shows F without _ b s r (one {k = k} p) f e = without r f k b (ap first e) p
 
-no_name_at : (k : Token) (x : List ℕ) → ShowsName k x → other stop ≡ k → ⊥
+no_name_at : (k : Token) (x : List ℕ) → ShowsName k x → Some (other stop) ≡ Some k → ⊥
 no_name_at _ x (shows_name y p) e = absurd (cc)
 
 no_name : (r : List Token) → BeforeStop r → Without ShowsName r
-no_name r f x p = no_name_at (first r) x p (sym f)
+no_name r f k x e p = no_name_at k x p (sym f ∙ e)
 
-no_argument_at : (k : Token) (a : tree.Argument) (o : Other) → ShowsArgument k a → other o ≡ k → ⊥
+no_argument_at : (k : Token) (a : tree.Argument) (o : Other) → ShowsArgument k a → Some (other o) ≡ Some k → ⊥
 no_argument_at _ a o (shows_named x p n) e = absurd (cc)
 no_argument_at _ a o (shows_hole p) e = absurd (cc)
 
 no_argument : (r : List Token) → ArgumentsEnd r → Without ShowsArgument r
-no_argument r (inl f) a p = no_argument_at (first r) a with_word p (sym f)
-no_argument r (inr f) a p = no_argument_at (first r) a stop p (sym f)
+no_argument r (inl f) k a e p = no_argument_at k a with_word p (sym f ∙ e)
+no_argument r (inr f) k a e p = no_argument_at k a stop p (sym f ∙ e)
 
-no_nominal_at : (k : Token) (n : ℕ) → ShowsNominal k n → right_paren ≡ k → ⊥
+no_nominal_at : (k : Token) (n : ℕ) → ShowsNominal k n → Some right_paren ≡ Some k → ⊥
 no_nominal_at _ n (shows_nominal x p m h) e = absurd (cc)
 
 no_nominal : (r : List Token) → Comes right_paren r → Without ShowsNominal r
-no_nominal r f n p = no_nominal_at (first r) n p (sym f)
+no_nominal r f k n e p = no_nominal_at k n p (sym f ∙ e)
 
-no_depth_at : (k : Token) (n : ℕ) → ShowsDepth k n → other stop ≡ k → ⊥
+no_depth_at : (k : Token) (n : ℕ) → ShowsDepth k n → Some (other stop) ≡ Some k → ⊥
 no_depth_at _ n (shows_depth m h) e = absurd (cc)
 
-to_apart : (r : List Token) → ArgumentsEnd r → first r ≡ other to_word → ⊥
-to_apart r (inl f) e = let bad : other with_word ≡ other to_word = sym f ∙ e in absurd (cc)
-to_apart r (inr f) e = let bad : other stop ≡ other to_word = sym f ∙ e in absurd (cc)
+to_apart : (r : List Token) → ArgumentsEnd r → Except (other to_word) r
+to_apart r (inl f) e = let bad : Some (other with_word) ≡ Some (other to_word) = sym f ∙ e in absurd (cc)
+to_apart r (inr f) e = let bad : Some (other stop) ≡ Some (other to_word) = sym f ∙ e in absurd (cc)
 
 sure_arguments : Sure (Optional [] Arguments) ArgumentsEnd
 sure_arguments = sure_optional [] Arguments ArgumentsEnd
@@ -194,7 +194,7 @@ sure_named k H p = sure_then (λ x b. (x, b)) (Name ◂ Key k) H BeforeStop (sur
 
 sure_row : (h : Head) → Sure (Row h) BeforeStop
 sure_row head.Kind u v _ _ r s (kind_row {xs = xs} g) (kind_row {xs = ys} h) k l e =
-    let p = sure_joined (λ x (w : Unit {0}). x) DeclaredNames (Sign type_word) (Except comma) BeforeStop (λ r f q. let t = key_first (other type_word) BeforeStop r f in let bad : other type_word ≡ comma = sym t ∙ q in absurd (cc)) sure_names (sure_key (other type_word) BeforeStop) u v xs ys r s g h k l e in
+    let p = sure_joined (λ x (w : Unit {0}). x) DeclaredNames (Sign type_word) (Except comma) BeforeStop (λ r f q. let t = key_first (other type_word) BeforeStop r f in let bad : Some (other type_word) ≡ Some comma = sym t ∙ q in absurd (cc)) sure_names (sure_key (other type_word) BeforeStop) u v xs ys r s g h k l e in
     (p.0, ap tree.kinds (p.1))
 sure_row head.Typed u v _ _ r s (typed_row {xs = xs} {A = A} g) (typed_row {xs = ys} {A = B} h) k l e =
     let p = sure_joined (λ x y. (x, y)) DeclaredNames TypeExpression (Except comma) BeforeStop names_then_type sure_names (sure_fewer TypeExpression Followed BeforeStop followed_by_stop sure_type) u v (xs, A) (ys, B) r s g h k l e in
@@ -217,7 +217,7 @@ sure_row head.Undo u v _ _ r s (undo_row g) (undo_row h) k l e = ((sure_nothing 
 sure_row head.Abort u v _ _ r s (abort_row g) (abort_row h) k l e = ((sure_nothing BeforeStop u v tt tt r s g h k l e).0, refl)
 
 nothing_or_star : {A : Type 0} (u v : List Spot) (r s : List Token) → Nothing u tt → Sign star v tt → BeforeStop r → tokens_of u ++ r ≡ tokens_of v ++ s → A
-nothing_or_star _ _ r s nothing the_key k e = let bad : other stop ≡ other star = sym k ∙ ap first e in absurd (cc)
+nothing_or_star _ _ r s nothing the_key k e = let bad : Some (other stop) ≡ Some (other star) = sym k ∙ ap first e in absurd (cc)
 
 sure_proof_row : (h : ProofHead) → Sure (ProofRow h) BeforeStop
 sure_proof_row proof.Intros u v _ _ r s (intros_row {xs = xs} g) (intros_row {xs = ys} h) k l e =
@@ -236,7 +236,7 @@ sure_proof_row proof.Cut u v _ _ r s (cut_row {x = x} {y = a} g) (cut_row {x = y
 sure_proof_row proof.Inst u v _ _ r s (inst_row {x = x} {is = a} g) (inst_row {x = y} {is = b} h) k l e = let p = sure_named (other with_word) InstanceList sure_instance_list u v (x, a) (y, b) r s g h k l e in (p.0, ap (λ d. tree.inst d.0 d.1) (p.1))
 sure_proof_row proof.Monotone u v _ _ r s (monotone_row {x = x} {e = a} g) (monotone_row {x = y} {e = b} h) k l e = let p = sure_named (other with_word) Expression sure_expression_before_stop u v (x, a) (y, b) r s g h k l e in (p.0, ap (λ d. tree.monotone d.0 d.1) (p.1))
 sure_proof_row proof.Search u v _ _ r s (search_row {n = m} g) (search_row {n = n} h) k l e =
-    let p = sure_optional 5 (One ShowsDepth) BeforeStop (sure_one ShowsDepth BeforeStop one_depth) (never_shown ShowsDepth BeforeStop (λ r f n q. no_depth_at (first r) n q (sym f))) u v m n r s g h k l e in (p.0, ap tree.search (p.1))
+    let p = sure_optional 5 (One ShowsDepth) BeforeStop (sure_one ShowsDepth BeforeStop one_depth) (never_shown ShowsDepth BeforeStop (λ r f k n e q. no_depth_at k n q (sym f ∙ e))) u v m n r s g h k l e in (p.0, ap tree.search (p.1))
 sure_proof_row proof.Split u v _ _ r s (split_row g) (split_row h) k l e = ((sure_nothing BeforeStop u v tt tt r s g h k l e).0, refl)
 sure_proof_row proof.Split u v _ _ r s (split_all_row g) (split_all_row h) k l e = ((sure_key (other star) BeforeStop u v tt tt r s g h k l e).0, refl)
 sure_proof_row proof.Split u v _ _ r s (split_row g) (split_all_row h) k l e = nothing_or_star u v r s g h k e
@@ -262,14 +262,14 @@ sure_opened_proof : (h : ProofHead) → Sure (One (OpensProof h) ▸ ProofRow h)
 sure_opened_proof h = sure_then (λ u c. c) (One (OpensProof h)) (ProofRow h) BeforeStop (sure_one (OpensProof h) Anything (λ k a b p q. refl)) (sure_proof_row h)
 
 -- with which token a form begins
-opens_first : (h : Head) (u : List Spot) (c : tree.Command) (r : List Token) → (One (Opens h) ▸ Row h) u c → Opens h (first (tokens_of u ++ r)) tt
-opens_first h _ _ r (joined (one p) g) = p
+opens_first : (h : Head) (u : List Spot) (c : tree.Command) (r : List Token) → (One (Opens h) ▸ Row h) u c → Showing (Opens h) tt (tokens_of u ++ r)
+opens_first h _ _ r (joined (one {k = k} p) g) = (k, refl, p)
 
-proof_first : (h : ProofHead) (u : List Spot) (c : tree.ProofCommand) (r : List Token) → (One (OpensProof h) ▸ ProofRow h) u c → OpensProof h (first (tokens_of u ++ r)) tt
-proof_first h _ _ r (joined (one p) g) = p
+proof_first : (h : ProofHead) (u : List Spot) (c : tree.ProofCommand) (r : List Token) → (One (OpensProof h) ▸ ProofRow h) u c → Showing (OpensProof h) tt (tokens_of u ++ r)
+proof_first h _ _ r (joined (one {k = k} p) g) = (k, refl, p)
 
-label_first : (u : List Spot) (d : List ℕ × tree.ProofCommand) (r : List Token) → (One ShowsLabel ◂ Key colon ▹ LabelledForm) u d → ShowsLabel (first (tokens_of u ++ r)) d.0
-label_first _ _ r (joined (joined (one p) c) g) = p
+label_first : (u : List Spot) (d : List ℕ × tree.ProofCommand) (r : List Token) → (One ShowsLabel ◂ Key colon ▹ LabelledForm) u d → Showing ShowsLabel d.0 (tokens_of u ++ r)
+label_first _ _ r (joined (joined (one {k = k} p) c) g) = (k, refl, p)
 
 abbrev OpenedProof : ProofHead → List Spot → tree.ProofCommand → Type 0
 OpenedProof h = One (OpensProof h) ▸ ProofRow h
@@ -279,7 +279,8 @@ Labelled = One ShowsLabel ◂ Key colon ▹ LabelledForm
 
 sure_proof_commands : (h j : ProofHead) (u v : List Spot) (c d : tree.ProofCommand) (r s : List Token) → OpenedProof h u c → OpenedProof j v d → BeforeStop r → BeforeStop s → tokens_of u ++ r ≡ tokens_of v ++ s → (u ≡ v) × (c ≡ d)
 sure_proof_commands h j u v c d r s g i k l e =
-    let same : h ≡ j = one_proof_head h j (first (tokens_of u ++ r)) (proof_first h u c r g) (subst (λ t. OpensProof j t tt) (sym (ap first e)) (proof_first j v d s i)) in
+    let q = proof_first j v d s i in
+    let same : h ≡ j = one_proof_head h j q.0 (shown_by (OpensProof h) q.0 tt (tokens_of u ++ r) (proof_first h u c r g) (ap first e ∙ q.1)) q.2 in
     sure_opened_proof j u v c d r s (subst (λ w. OpenedProof w u c) same g) i k l e
 
 sure_labelled_form : Sure LabelledForm BeforeStop
@@ -290,15 +291,28 @@ sure_labelled = sure_then (λ x c. (x, c)) (One ShowsLabel ◂ Key colon) Labell
 
 sure_form : Sure CommandForm BeforeStop
 sure_form u v _ _ r s (plain {c = c} h g) (plain {c = d} j i) k l e =
-    let same : h ≡ j = one_head h j (first (tokens_of u ++ r)) (opens_first h u c r g) (subst (λ t. Opens j t tt) (sym (ap first e)) (opens_first j v d s i)) in
+    let q = opens_first j v d s i in
+    let same : h ≡ j = one_head h j q.0 (shown_by (Opens h) q.0 tt (tokens_of u ++ r) (opens_first h u c r g) (ap first e ∙ q.1)) q.2 in
     sure_opened j u v c d r s (subst (λ w. (One (Opens w) ▸ Row w) u c) same g) i k l e
-sure_form u v _ _ r s (plain {c = c} h g) (unlabelled {c = d} j i) k l e = absurd (plain_no_proof h j (first (tokens_of u ++ r)) (opens_first h u c r g) (subst (λ t. OpensProof j t tt) (sym (ap first e)) (proof_first j v d s i)))
-sure_form u v _ _ r s (plain {c = c} h g) (labelled {x = x} {c = d} i) k l e = absurd (plain_no_label h (first (tokens_of u ++ r)) x (subst (λ t. ShowsLabel t x) (sym (ap first e)) (label_first v (x, d) s i)) (opens_first h u c r g))
-sure_form u v _ _ r s (unlabelled {c = c} h g) (plain {c = d} j i) k l e = absurd (plain_no_proof j h (first (tokens_of v ++ s)) (opens_first j v d s i) (subst (λ t. OpensProof h t tt) (ap first e) (proof_first h u c r g)))
+sure_form u v _ _ r s (plain {c = c} h g) (unlabelled {c = d} j i) k l e =
+    let q = proof_first j v d s i in
+    absurd (plain_no_proof h j q.0 (shown_by (Opens h) q.0 tt (tokens_of u ++ r) (opens_first h u c r g) (ap first e ∙ q.1)) q.2)
+sure_form u v _ _ r s (plain {c = c} h g) (labelled {x = x} {c = d} i) k l e =
+    let q = label_first v (x, d) s i in
+    absurd (plain_no_label h q.0 x q.2 (shown_by (Opens h) q.0 tt (tokens_of u ++ r) (opens_first h u c r g) (ap first e ∙ q.1)))
+sure_form u v _ _ r s (unlabelled {c = c} h g) (plain {c = d} j i) k l e =
+    let q = opens_first j v d s i in
+    absurd (plain_no_proof j h q.0 q.2 (shown_by (OpensProof h) q.0 tt (tokens_of u ++ r) (proof_first h u c r g) (ap first e ∙ q.1)))
 sure_form u v _ _ r s (unlabelled {c = c} h g) (unlabelled {c = d} j i) k l e = let p = sure_proof_commands h j u v c d r s g i k l e in (p.0, ap (λ w. tree.in_proof None w) (p.1))
-sure_form u v _ _ r s (unlabelled {c = c} h g) (labelled {x = x} {c = d} i) k l e = absurd (proof_no_label h (first (tokens_of u ++ r)) x (subst (λ t. ShowsLabel t x) (sym (ap first e)) (label_first v (x, d) s i)) (proof_first h u c r g))
-sure_form u v _ _ r s (labelled {x = x} {c = c} g) (plain {c = d} j i) k l e = absurd (plain_no_label j (first (tokens_of v ++ s)) x (subst (λ t. ShowsLabel t x) (ap first e) (label_first u (x, c) r g)) (opens_first j v d s i))
-sure_form u v _ _ r s (labelled {x = x} {c = c} g) (unlabelled {c = d} j i) k l e = absurd (proof_no_label j (first (tokens_of v ++ s)) x (subst (λ t. ShowsLabel t x) (ap first e) (label_first u (x, c) r g)) (proof_first j v d s i))
+sure_form u v _ _ r s (unlabelled {c = c} h g) (labelled {x = x} {c = d} i) k l e =
+    let q = label_first v (x, d) s i in
+    absurd (proof_no_label h q.0 x q.2 (shown_by (OpensProof h) q.0 tt (tokens_of u ++ r) (proof_first h u c r g) (ap first e ∙ q.1)))
+sure_form u v _ _ r s (labelled {x = x} {c = c} g) (plain {c = d} j i) k l e =
+    let q = opens_first j v d s i in
+    absurd (plain_no_label j q.0 x (shown_by ShowsLabel q.0 x (tokens_of u ++ r) (label_first u (x, c) r g) (ap first e ∙ q.1)) q.2)
+sure_form u v _ _ r s (labelled {x = x} {c = c} g) (unlabelled {c = d} j i) k l e =
+    let q = proof_first j v d s i in
+    absurd (proof_no_label j q.0 x (shown_by ShowsLabel q.0 x (tokens_of u ++ r) (label_first u (x, c) r g) (ap first e ∙ q.1)) q.2)
 sure_form u v _ _ r s (labelled {x = x} {c = c} g) (labelled {x = y} {c = d} i) k l e = let p = sure_labelled u v (x, c) (y, d) r s g i k l e in (p.0, ap (λ w. tree.in_proof (Some w.0) w.1) (p.1))
 
 sure_command : Sure CommandText Anything

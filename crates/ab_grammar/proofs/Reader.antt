@@ -5,8 +5,9 @@ use Rattle.std.proofs.lemmas.List.Elements.{All-append, All-push}
 use Rattle.ab_grammar.specs.Token.{Token}
 use Rattle.ab_grammar.specs.Nesting.{Layer, nest, depth_of, outside, Spot, spots_from, spots, limit, IsShallow}
 use Rattle.ab_grammar.specs.Language.{tokens_of, Nested, nested, Begins}
-use Rattle.ab_grammar.proofs.Following.{Follower, Followed}
+use Rattle.ab_grammar.proofs.Following.{first, led_by, Follower, Followed}
 use Rattle.ab_grammar.proofs.Reading.{Read, Fails, ReadsOff, StopsAt, NestsAt}
+use Rattle.ab_grammar.proofs.Lists.{first_led, led_by_first}
 use Rattle.ab_grammar.proofs.Machine.{run, found}
 use Rattle.ab_grammar.proofs.Runs.{run_append, run_none}
 
@@ -54,12 +55,21 @@ module _ {S A : Type 0} (step : S → Token → Option S) (finish : S → Option
     (reads : (ts : List Token) (a : A) → T ts a → found finish (run step (Some start) ts) ≡ Some a)
     (accepts : (ts : List Token) (a : A) → found finish (run step (Some start) ts) ≡ Some a → T ts a)
     (goes_on : (s : S) → (ks : List Token) × (a : A) × (found finish (run step (Some s) ks) ≡ Some a))
-    (stops : (k : Token) → Follower k → (s : S) (a : A) → finish s ≡ Some a → step s k ≡ None) where
+    (stops : (k : Token) → Follower (Some k) → (s : S) (a : A) → finish s ≡ Some a → step s k ≡ None) where
   abbrev go : List Token → Option S
   go ts = run step (Some start) ts
 
+  -- the machine takes no more: the next token is none that it takes, or there is none
+  abbrev Stuck : S → Option Token → Type 0
+  Stuck s None = Unit {0}
+  Stuck s (Some k) = step s k ≡ None
+
+  follower_stuck : (k : Option Token) → Follower k → (s : S) (a : A) → finish s ≡ Some a → Stuck s k
+  follower_stuck None f s a e = tt
+  follower_stuck (Some k) f s a e = stops k f s a e
+
   -- a text that ends before the reader's place, where something follows, is not there
-  too_soon : (o : Option S) (j : Token) (x w : List Token) (b : A) (s : S) → go w ≡ o → found finish o ≡ Some b → Follower j → go (w ++ j ∷ x) ≡ Some s → ⊥
+  too_soon : (o : Option S) (j : Token) (x w : List Token) (b : A) (s : S) → go w ≡ o → found finish o ≡ Some b → Follower (Some j) → go (w ++ j ∷ x) ≡ Some s → ⊥
   too_soon None j x w b s e f k h = absurd (cc)
   too_soon (Some q) j x w b s e f k h =
       let stop : step q j ≡ None = stops j k q b f in
@@ -67,7 +77,7 @@ module _ {S A : Type 0} (step : S → Token → Option S) (finish : S → Option
       let bad : None ≡ Some s = sym none ∙ h in
       absurd (cc)
 
-  module _ (us : List Token) (k : Token) (s : S) (there : go us ≡ Some s) where
+  module _ (us : List Token) (s : S) (there : go us ≡ Some s) where
     begins_so : Begins (Nested T) (spots us)
     begins_so =
         let r = goes_on s in
@@ -78,57 +88,59 @@ module _ {S A : Type 0} (step : S → Token → Option S) (finish : S → Option
         }
 
     -- a text with what may follow it, that agrees with the tokens as far as they are known, has all that was read
-    reaches : (w : List Token) (b : A) (r zs : List Token) → T w b → Followed r → w ++ r ≡ us ++ k ∷ zs → (x : List Token) × (w ≡ us ++ x) × (k ∷ zs ≡ x ++ r)
-    reaches w b r zs d f e = from_cut (cut w r us (k ∷ zs) e)
+    reaches : (vs w : List Token) (b : A) (r : List Token) → T w b → Followed r → w ++ r ≡ us ++ vs → (x : List Token) × (w ≡ us ++ x) × (vs ≡ x ++ r)
+    reaches vs w b r d f e = from_cut (cut w r us vs e)
       where
-        from_cut : Cut w r us (k ∷ zs) → (x : List Token) × (w ≡ us ++ x) × (k ∷ zs ≡ x ++ r)
+        from_cut : Cut w r us vs → (x : List Token) × (w ≡ us ++ x) × (vs ≡ x ++ r)
         from_cut (later x p q) = (x, p, q)
-        from_cut (sooner j x p q) =
-            let same : f.0 ≡ j = (let h = f.2 in cc) in
-            absurd (too_soon (go w) j x w b s refl (reads _ _ d) (subst Follower same (f.3)) (ap go (sym p) ∙ there))
+        from_cut (sooner j x p q) = absurd (too_soon (go w) j x w b s refl (reads _ _ d) (subst Follower (ap first q) f) (ap go (sym p) ∙ there))
 
-    plainly : (w r zs : List Token) → tokens_of (spots w) ++ r ≡ tokens_of (spots us) ++ k ∷ zs → w ++ r ≡ us ++ k ∷ zs
-    plainly w r zs e =
-        ap (λ (q : List Token). q ++ r) (sym (tokens_of-spots outside w)) ∙ e ∙ ap (λ (q : List Token). q ++ k ∷ zs) (tokens_of-spots outside us)
+    plainly : (vs w r : List Token) → tokens_of (spots w) ++ r ≡ tokens_of (spots us) ++ vs → w ++ r ≡ us ++ vs
+    plainly vs w r e =
+        ap (λ (q : List Token). q ++ r) (sym (tokens_of-spots outside w)) ∙ e ∙ ap (λ (q : List Token). q ++ vs) (tokens_of-spots outside us)
 
-    module _ (stuck : step s k ≡ None) where
-      too_far : (x : List Token) (b : A) → T (us ++ k ∷ x) b → ⊥
-      too_far x b d =
-          let none : go (us ++ k ∷ x) ≡ None = run_append step (Some start) us (k ∷ x) ∙ ap (λ (q : Option S). run step q (k ∷ x)) there ∙ ap (λ (q : Option S). run step q x) stuck ∙ run_none step x in
-          let bad : None ≡ Some b = ap (found finish) (sym none) ∙ reads _ _ d in
-          absurd (cc)
+    too_far : (k : Token) → step s k ≡ None → (x : List Token) (b : A) → T (us ++ k ∷ x) b → ⊥
+    too_far k stuck x b d =
+        let none : go (us ++ k ∷ x) ≡ None = run_append step (Some start) us (k ∷ x) ∙ ap (λ (q : Option S). run step q (k ∷ x)) there ∙ ap (λ (q : Option S). run step q x) stuck ∙ run_none step x in
+        let bad : None ≡ Some b = ap (found finish) (sym none) ∙ reads _ _ d in
+        absurd (cc)
 
+    -- a text with more than was read goes on by the next token
+    no_more : (k : Option Token) → Stuck s k → (j : Token) (x r zs : List Token) (b : A) → T (us ++ j ∷ x) b → led_by k zs ≡ j ∷ x ++ r → ⊥
+    no_more None stuck j x r zs b d e = absurd (cc)
+    no_more (Some k) stuck j x r zs b d e =
+        let same : j ≡ k = cc in
+        too_far k stuck x b (subst (λ (i : Token). T (us ++ i ∷ x) b) same d)
+
+    module _ (k : Option Token) (stuck : Stuck s k) where
       -- each such text ends at the reader's place
-      ends_here : (w : List Token) (b : A) (r zs : List Token) → T w b → Followed r → w ++ r ≡ us ++ k ∷ zs → (w ≡ us) × (r ≡ k ∷ zs)
-      ends_here w b r zs d f e = from_rest (reaches w b r zs d f e)
+      ends_here : (w : List Token) (b : A) (r zs : List Token) → T w b → Followed r → w ++ r ≡ us ++ led_by k zs → (w ≡ us) × (r ≡ led_by k zs)
+      ends_here w b r zs d f e = from_rest (reaches (led_by k zs) w b r d f e)
         where
-          from_rest : (x : List Token) × (w ≡ us ++ x) × (k ∷ zs ≡ x ++ r) → (w ≡ us) × (r ≡ k ∷ zs)
+          from_rest : (x : List Token) × (w ≡ us ++ x) × (led_by k zs ≡ x ++ r) → (w ≡ us) × (r ≡ led_by k zs)
           from_rest ([], p, q) = (p ∙ append-nil us, sym q)
-          from_rest (j ∷ x, p, q) =
-              let same : k ≡ j = cc in
-              absurd (too_far x b (subst (λ (v : List Token). T v b) (p ∙ ap (λ (i : Token). us ++ i ∷ x) (sym same)) d))
+          from_rest (j ∷ x, p, q) = absurd (no_more k stuck j x r zs b (subst (λ (v : List Token). T v b) p d) q)
 
-      read_only : (a : A) → finish s ≡ Some a → (w : List Spot) (b : A) (r zs : List Token) → Nested T w b → Followed r → tokens_of w ++ r ≡ tokens_of (spots us) ++ k ∷ zs → (w ≡ spots us) × (b ≡ a)
+      read_only : (a : A) → finish s ≡ Some a → (w : List Spot) (b : A) (r zs : List Token) → Nested T w b → Followed r → tokens_of w ++ r ≡ tokens_of (spots us) ++ led_by k zs → (w ≡ spots us) × (b ≡ a)
       read_only a e _ b r zs (nested {ts = w} d) f q =
-          let h = ends_here w b r zs d f (plainly w r zs q) in
+          let h = ends_here w b r zs d f (plainly (led_by k zs) w r q) in
           let at : found finish (go w) ≡ Some a = ap (λ (v : List Token). found finish (go v)) (h.0) ∙ ap (found finish) there ∙ e in
           let one = reads w b d in
           (ap spots (h.0), (let both : Some b ≡ Some a = sym one ∙ at in cc))
 
-      pub reads_here : (a : A) → finish s ≡ Some a → Read (Nested T) Followed (spots us) a k
+      reads_here : (a : A) → finish s ≡ Some a → Read (Nested T) Followed (spots us) a k
       reads_here a e = record { is = nested (accepts us a (ap (found finish) there ∙ e)); only = read_only a e }
 
-      none_here : (finish s ≡ None) ⊎ (Follower k → ⊥) → (w : List Spot) (b : A) (r zs : List Token) → Nested T w b → Followed r → tokens_of w ++ r ≡ tokens_of (spots us) ++ k ∷ zs → ⊥
+      none_here : (finish s ≡ None) ⊎ (Follower k → ⊥) → (w : List Spot) (b : A) (r zs : List Token) → Nested T w b → Followed r → tokens_of w ++ r ≡ tokens_of (spots us) ++ led_by k zs → ⊥
       none_here (inl n) _ b r zs (nested {ts = w} d) f e =
-          let h = ends_here w b r zs d f (plainly w r zs e) in
+          let h = ends_here w b r zs d f (plainly (led_by k zs) w r e) in
           let bad : None ≡ Some b = sym n ∙ ap (found finish) (sym there) ∙ ap (λ (q : List Token). found finish (go q)) (sym (h.0)) ∙ reads _ _ d in
           absurd (cc)
       none_here (inr n) _ b r zs (nested {ts = w} d) f e =
-          let h = ends_here w b r zs d f (plainly w r zs e) in
-          let same : f.0 ≡ k = (let p = f.2 in let q = h.1 in cc) in
-          n (subst Follower same (f.3))
+          let h = ends_here w b r zs d f (plainly (led_by k zs) w r e) in
+          n (subst Follower (ap first h.1 ∙ first_led k zs) f)
 
-      pub fails_here : (finish s ≡ None) ⊎ (Follower k → ⊥) → Fails (Nested T) Followed (spots us) k
+      fails_here : (finish s ≡ None) ⊎ (Follower k → ⊥) → Fails (Nested T) Followed (spots us) k
       fails_here n = record { begins = begins_so; none = none_here n }
 
   -- two texts, each with what may follow it, that agree as tokens are one, and have one value
@@ -139,8 +151,9 @@ module _ {S A : Type 0} (step : S → Token → Option S) (finish : S → Option
       from_state None q = let bad : None ≡ Some b = ap (found finish) (sym q) ∙ reads w b d in absurd (cc)
       from_state (Some t) q =
           let fin : finish t ≡ Some b = ap (found finish) (sym q) ∙ reads w b d in
-          let here = reads_here w (k.0) t q (stops (k.0) (k.3) t b fin) b fin in
-          here.only u a r (k.1) g f (e ∙ ap (λ (x : List Token). tokens_of (spots w) ++ x) (k.2))
+          let here = reads_here w t q (first s) (follower_stuck (first s) k t b fin) b fin in
+          let led = led_by_first s in
+          here.only u a r led.0 g f (e ∙ ap (λ (x : List Token). tokens_of (spots w) ++ x) led.1)
 
   module _ (us : List Token) (k : Token) (s t : S) (there : go us ≡ Some s) (taken : step s k ≡ Some t) where
     taken_to : go (us ++ k ∷ []) ≡ Some t
@@ -149,17 +162,16 @@ module _ {S A : Type 0} (step : S → Token → Option S) (finish : S → Option
     last_spot : spots (us ++ k ∷ []) ≡ spots us ++ spot_behind (nests outside us) k ∷ []
     last_spot = spots-append outside us (k ∷ [])
 
-    pub begins_deep : Begins (Nested T) (spots us ++ spot_behind (nests outside us) k ∷ [])
-    begins_deep = subst (λ (w : List Spot). Begins (Nested T) w) last_spot (begins_so (us ++ k ∷ []) k t taken_to)
+    begins_deep : Begins (Nested T) (spots us ++ spot_behind (nests outside us) k ∷ [])
+    begins_deep = subst (λ (w : List Spot). Begins (Nested T) w) last_spot (begins_so (us ++ k ∷ []) t taken_to)
 
-    pub only_deep : (w : List Spot) (b : A) (r zs : List Token) → Nested T w b → Followed r → tokens_of w ++ r ≡ tokens_of (spots us) ++ k ∷ zs → (x : List Spot) × (w ≡ spots us ++ spot_behind (nests outside us) k ∷ x)
-    only_deep _ b r zs (nested {ts = w} d) f e = from_rest (reaches us k s there w b r zs d f (plainly us k s there w r zs e))
+    only_deep : (w : List Spot) (b : A) (r zs : List Token) → Nested T w b → Followed r → tokens_of w ++ r ≡ tokens_of (spots us) ++ k ∷ zs → (x : List Spot) × (w ≡ spots us ++ spot_behind (nests outside us) k ∷ x)
+    only_deep _ b r zs (nested {ts = w} d) f e = from_rest (reaches us s there (k ∷ zs) w b r d f (plainly us s there (k ∷ zs) w r e))
       where
         from_rest : (x : List Token) × (w ≡ us ++ x) × (k ∷ zs ≡ x ++ r) → (x : List Spot) × (spots w ≡ spots us ++ spot_behind (nests outside us) k ∷ x)
         from_rest ([], p, q) =
             let here : w ≡ us = p ∙ append-nil us in
-            let same : f.0 ≡ k = (let h = f.2 in cc) in
-            absurd (too_soon (go w) k [] w b t refl (reads _ _ d) (subst Follower same (f.3)) (ap (λ (v : List Token). go (v ++ k ∷ [])) here ∙ taken_to))
+            absurd (too_soon (go w) k [] w b t refl (reads _ _ d) (subst Follower (ap first (sym q)) f) (ap (λ (v : List Token). go (v ++ k ∷ [])) here ∙ taken_to))
         from_rest (j ∷ x, p, q) =
             let same : j ≡ k = cc in (
               spots_from (nest (nests outside us) k) x,
@@ -177,12 +189,20 @@ module _ {S A : Type 0} (step : S → Token → Option S) (finish : S → Option
   pub at_start : (ks : List Token) → SoFar ks ks start outside
   at_start ks = record { read = []; tokens = refl; state = refl; layers = refl; shallow = λ k d h. absurd (omega arith) }
 
+  module _ (ks rest : List Token) (s : S) (ls : List Layer) (so_far : SoFar ks rest s ls) where
+    cut_spots : ks ≡ tokens_of (spots so_far.read) ++ rest
+    cut_spots = so_far.tokens ∙ ap (λ (w : List Token). w ++ rest) (sym (tokens_of-spots outside so_far.read))
+
+    read_here : (a : A) → Stuck s (first rest) → finish s ≡ Some a → ReadsOff (Nested T) Followed ks a rest
+    read_here a e f = record { read = spots so_far.read; shallow = so_far.shallow; tokens = cut_spots; reads = reads_here so_far.read s so_far.state (first rest) e a f }
+
+    stopped_here : Stuck s (first rest) → (finish s ≡ None) ⊎ (Follower (first rest) → ⊥) → StopsAt (Nested T) Followed ks rest
+    stopped_here e f = record { read = spots so_far.read; shallow = so_far.shallow; tokens = cut_spots; fails = fails_here so_far.read s so_far.state (first rest) e f }
+
+  -- at a token
   module _ (ks : List Token) (k : Token) (rest : List Token) (s : S) (ls : List Layer) (so_far : SoFar ks (k ∷ rest) s ls) where
     abbrev us : List Token
     us = so_far.read
-
-    cut_spots : ks ≡ tokens_of (spots us) ++ (k ∷ rest)
-    cut_spots = so_far.tokens ∙ ap (λ (w : List Token). w ++ k ∷ rest) (sym (tokens_of-spots outside us))
 
     same_depth : (spot_behind (nests outside us) k).depth ≡ depth_of (nest ls k)
     same_depth = ap (λ (q : List Layer). depth_of (nest q k)) (sym so_far.layers)
@@ -198,10 +218,10 @@ module _ {S A : Type 0} (step : S → Token → Option S) (finish : S → Option
     }
 
     pub done : (a : A) → step s k ≡ None → finish s ≡ Some a → ReadsOff (Nested T) Followed ks a (k ∷ rest)
-    done a e f = record { read = spots us; shallow = so_far.shallow; tokens = cut_spots; reads = reads_here us k s so_far.state e a f }
+    done a e f = read_here ks (k ∷ rest) s ls so_far a e f
 
-    pub wrong : step s k ≡ None → (finish s ≡ None) ⊎ (Follower k → ⊥) → StopsAt (Nested T) Followed ks (k ∷ rest)
-    wrong e f = record { read = spots us; shallow = so_far.shallow; tokens = cut_spots; fails = fails_here us k s so_far.state e f }
+    pub wrong : step s k ≡ None → (finish s ≡ None) ⊎ (Follower (Some k) → ⊥) → StopsAt (Nested T) Followed ks (k ∷ rest)
+    wrong e f = stopped_here ks (k ∷ rest) s ls so_far e f
 
     pub too_deep : (t : S) → step s k ≡ Some t → (depth_of (nest ls k) ≤ limit → ⊥) → NestsAt (Nested T) Followed ks (k ∷ rest)
     too_deep t e h = record {
@@ -210,8 +230,16 @@ module _ {S A : Type 0} (step : S → Token → Option S) (finish : S → Option
       behind = rest;
       shallow = so_far.shallow;
       deep = λ b. h (subst (λ (n : ℕ). n ≤ limit) same_depth b);
-      tokens = cut_spots;
+      tokens = cut_spots ks (k ∷ rest) s ls so_far;
       next = refl;
       begins = begins_deep us k s t so_far.state e;
       only = only_deep us k s t so_far.state e;
     }
+
+  -- at the end
+  module _ (ks : List Token) (s : S) (ls : List Layer) (so_far : SoFar ks [] s ls) where
+    pub done_at_end : (a : A) → finish s ≡ Some a → ReadsOff (Nested T) Followed ks a []
+    done_at_end a f = read_here ks [] s ls so_far a tt f
+
+    pub wrong_at_end : finish s ≡ None → StopsAt (Nested T) Followed ks []
+    wrong_at_end n = stopped_here ks [] s ls so_far tt (inl n)

@@ -1,5 +1,5 @@
 -- The readers of expressions and of types.
-use Rattle.std.proofs.Common.{◌≡◌, ℕ, ◌≤◌, List, ◌∷◌, ◌++◌, Option, Some, None, refl, ◌⊎◌}
+use Rattle.std.proofs.Common.{◌≡◌, ℕ, ◌≤◌, List, [], ◌∷◌, ◌++◌, Option, Some, None, refl, ◌⊎◌}
 use Rattle.ab_grammar.specs.declared.Quant.{Quant}
 use Rattle.ab_grammar.specs.Token.{Token, Other, other}
 use Rattle.ab_grammar.specs.Tree.{Ty, Binder, Tree}
@@ -21,13 +21,13 @@ text_reads ts t d = reads_text d
 pub text_goes : (s : State) → (ks : List Token) × (t : Tree) × (found finish (run step (Some s) ks) ≡ Some t)
 text_goes s = let r = goes_on s in (r.0, r.1.0, r.1.1)
 
-pub text_stops : (k : Token) → Follower k → (s : State) (t : Tree) → finish s ≡ Some t → step s k ≡ None
+pub text_stops : (k : Token) → Follower (Some k) → (s : State) (t : Tree) → finish s ≡ Some t → step s k ≡ None
 text_stops k f s t e = stops f s t e
 
 pub type_reads : (ts : List Token) (A : Ty) → TypeText ts A → found type_finish (run type_step (Some type_start) ts) ≡ Some A
 type_reads ts A d = reads_type d
 
-pub type_stop : (k : Token) → Follower k → (s : TypeState) (A : Ty) → type_finish s ≡ Some A → type_step s k ≡ None
+pub type_stop : (k : Token) → Follower (Some k) → (s : TypeState) (A : Ty) → type_finish s ≡ Some A → type_step s k ≡ None
 type_stop k f s A e = type_stops f s A e
 
 -- an expression has been read so far
@@ -44,11 +44,18 @@ module _ (ks : List Token) (k : Token) (rest : List Token) (s : State) (ls : Lis
   pub done : (t : Tree) → step s k ≡ None → finish s ≡ Some t → ReadsOff Expression Followed ks t (k ∷ rest)
   done = reader.done step finish start Text text_reads accepted text_goes text_stops ks k rest s ls so_far
 
-  pub wrong : step s k ≡ None → (finish s ≡ None) ⊎ (Follower k → ⊥) → StopsAt Expression Followed ks (k ∷ rest)
+  pub wrong : step s k ≡ None → (finish s ≡ None) ⊎ (Follower (Some k) → ⊥) → StopsAt Expression Followed ks (k ∷ rest)
   wrong = reader.wrong step finish start Text text_reads accepted text_goes text_stops ks k rest s ls so_far
 
   pub too_deep : (t : State) → step s k ≡ Some t → (depth_of (nest ls k) ≤ limit → ⊥) → NestsAt Expression Followed ks (k ∷ rest)
   too_deep = reader.too_deep step finish start Text text_reads accepted text_goes text_stops ks k rest s ls so_far
+
+module _ (ks : List Token) (s : State) (ls : List Layer) (so_far : SoFar ks [] s ls) where
+  pub done_at_end : (t : Tree) → finish s ≡ Some t → ReadsOff Expression Followed ks t []
+  done_at_end = reader.done_at_end step finish start Text text_reads accepted text_goes text_stops ks s ls so_far
+
+  pub wrong_at_end : finish s ≡ None → StopsAt Expression Followed ks []
+  wrong_at_end = reader.wrong_at_end step finish start Text text_reads accepted text_goes text_stops ks s ls so_far
 
 -- a type has been read so far
 abbrev pub TypeSoFar : List Token → List Token → TypeState → List Layer → Type 0
@@ -64,11 +71,18 @@ module _ (ks : List Token) (k : Token) (rest : List Token) (s : TypeState) (ls :
   pub type_done : (A : Ty) → type_step s k ≡ None → type_finish s ≡ Some A → ReadsOff TypeExpression Followed ks A (k ∷ rest)
   type_done = reader.done type_step type_finish type_start TypeText type_reads accepted_type type_goes_on type_stop ks k rest s ls so_far
 
-  pub type_wrong : type_step s k ≡ None → (type_finish s ≡ None) ⊎ (Follower k → ⊥) → StopsAt TypeExpression Followed ks (k ∷ rest)
+  pub type_wrong : type_step s k ≡ None → (type_finish s ≡ None) ⊎ (Follower (Some k) → ⊥) → StopsAt TypeExpression Followed ks (k ∷ rest)
   type_wrong = reader.wrong type_step type_finish type_start TypeText type_reads accepted_type type_goes_on type_stop ks k rest s ls so_far
 
   pub type_too_deep : (t : TypeState) → type_step s k ≡ Some t → (depth_of (nest ls k) ≤ limit → ⊥) → NestsAt TypeExpression Followed ks (k ∷ rest)
   type_too_deep = reader.too_deep type_step type_finish type_start TypeText type_reads accepted_type type_goes_on type_stop ks k rest s ls so_far
+
+module _ (ks : List Token) (s : TypeState) (ls : List Layer) (so_far : TypeSoFar ks [] s ls) where
+  pub type_done_at_end : (A : Ty) → type_finish s ≡ Some A → ReadsOff TypeExpression Followed ks A []
+  type_done_at_end = reader.done_at_end type_step type_finish type_start TypeText type_reads accepted_type type_goes_on type_stop ks s ls so_far
+
+  pub type_wrong_at_end : type_finish s ≡ None → StopsAt TypeExpression Followed ks []
+  type_wrong_at_end = reader.wrong_at_end type_step type_finish type_start TypeText type_reads accepted_type type_goes_on type_stop ks s ls so_far
 
 pub sure_expression : (u v : List Spot) (a b : Tree) (r s : List Token) → Expression u a → Expression v b → Followed r → Followed s → tokens_of u ++ r ≡ tokens_of v ++ s → (u ≡ v) × (a ≡ b)
 sure_expression = reader.sure step finish start Text text_reads accepted text_goes text_stops

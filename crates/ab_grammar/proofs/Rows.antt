@@ -3,11 +3,11 @@ use Rattle.std.proofs.Common.{◌≡◌, ℕ, List, [], ◌∷◌, ◌++◌, Boo
 use Rattle.ab_grammar.specs.declared.Infix.TheVariants.{Equal}
 use Rattle.ab_grammar.specs.declared.head.Head.TheVariants as head
 use Rattle.ab_grammar.specs.declared.head.ProofHead.TheVariants as proof
-use Rattle.ab_grammar.specs.Token.{Token, word, sign, left_paren, right_paren, comma, colon, other, semicolon, becomes, by_word, to_word, with_word, on_word, type_word, first}
+use Rattle.ab_grammar.specs.Token.{Token, sign, left_paren, right_paren, comma, colon, other, semicolon, becomes, by_word, to_word, with_word, on_word, type_word}
 use Rattle.ab_grammar.specs.Tree.{Ty, Tree}
 use Rattle.ab_grammar.specs.Nesting.{Spot, lone}
 use Rattle.ab_grammar.specs.Language.{tokens_of, Key, the_key, Expression, TypeExpression}
-use Rattle.ab_grammar.proofs.Following.{Follow, follow, Anything, Followed, by_other, Comes, Except, Without, BeforeStop, ClauseEnds, ArgumentsEnd}
+use Rattle.ab_grammar.proofs.Following.{first, Follow, follow, Anything, Followed, by_other, Comes, Except, Without, BeforeStop, ClauseEnds, ArgumentsEnd}
 use Rattle.ab_grammar.proofs.Reading.{ReadsOff, Cause, RefusesAt}
 use Rattle.ab_grammar.specs.CommandTrees as tree
 use Rattle.ab_grammar.specs.CommandForms.{One, Joined, joined, Valued, valued, Optional, left_out, present, no_more, OneOrMore, ◌▹◌, ◌▸◌, ◌◂◌}
@@ -78,7 +78,7 @@ pub instance_list_example : Example InstanceList
 instance_list_example = record { spots = an_instance.spots ++ []; value = an_instance.value ∷ []; text = joined (an_instance.text) no_more }
 
 -- what follows is the first token of H, or what follows H
-pub key_in_front : (k : Token) (F : List Token → Type 0) (r : List Token) → Follow (Key k) F r → first r ≡ k
+pub key_in_front : (k : Token) (F : List Token → Type 0) (r : List Token) → Follow (Key k) F r → Comes k r
 key_in_front k F _ (follow {vs = vs} {r = r} {b = u} h f) = key_begins k vs u r h
 
 key_follows : (r : List Token) → Follow (Sign by_word) Anything r → Comes (other by_word) r
@@ -90,13 +90,13 @@ names_then_type_word r f e = let h = key_in_front (other type_word) BeforeStop r
 names_then_type : (r : List Token) → Follow TypeExpression BeforeStop r → Except comma r
 names_then_type _ (follow {vs = vs} {r = r} {b = A} h f) e = begins_no_comma _ (type_begins vs A r h) e
 
-no_nominal : (k j : Token) (n : ℕ) → ShowsNominal k n → k ≡ j → (x : List ℕ) × (p : ℕ) × (j ≡ word x p)
-no_nominal _ j n (shows_nominal x p m h) e = (x, p, sym e)
+no_nominal : (k : Token) (n : ℕ) → ShowsNominal k n → Some k ≡ Some right_paren → ⊥
+no_nominal _ n (shows_nominal x p m h) e = absurd (cc)
 
 paren_follows : (r : List Token) → Follow (Key right_paren) Anything r → Without ShowsNominal r
-paren_follows r f n s = let e = no_nominal _ right_paren n s (key_in_front right_paren Anything r f) in let bad : right_paren ≡ word (e.0) (e.1) = e.2 in absurd (cc)
+paren_follows r f k n e s = no_nominal k n s (sym e ∙ key_in_front right_paren Anything r f)
 
-pub keyed_in_front : {A : Type 0} (k : Token) (G : List Spot → A → Type 0) (w : List Spot) (a : A) (r : List Token) → (Key k ▸ G) w a → first (tokens_of w ++ r) ≡ k
+pub keyed_in_front : {A : Type 0} (k : Token) (G : List Spot → A → Type 0) (w : List Spot) (a : A) (r : List Token) → (Key k ▸ G) w a → Comes k (tokens_of w ++ r)
 keyed_in_front k G _ _ r (joined {us = us} {vs = vs} {a = u} g h) = ap first (regroup us vs r) ∙ key_begins k us u (tokens_of vs ++ r) g
 
 instances_in_front : (w : List Spot) (is : List tree.Instance) (r : List Token) → Optional [] Instances w is → BeforeStop r → ArgumentsEnd (tokens_of w ++ r)
@@ -107,12 +107,12 @@ instances_or_stop : (r : List Token) → Follow (Optional [] Instances) BeforeSt
 instances_or_stop _ (follow {vs = vs} {r = r} {b = is} h f) = instances_in_front vs is r h f
 
 pub clause_end_follows : (r : List Token) → ClauseEnds r → Followed r
-clause_end_follows r (inl e) = followed_by r (other semicolon) e (λ f. absurd (cc)) (by_other semicolon)
+clause_end_follows r (inl e) = followed_by r (other semicolon) e (by_other semicolon)
 clause_end_follows r (inr e) = followed_by_stop r e
 
 body_in_front : (w : List Spot) (b : Option Tree) (r : List Token) → ClauseBody w b → ClauseEnds r → Followed (tokens_of w ++ r)
 body_in_front _ _ r left_out f = clause_end_follows r f
-body_in_front _ _ r (present (valued {us = us} {a = e} g)) f = followed_by _ (other becomes) (keyed_in_front (other becomes) Expression us e r g) (λ f. absurd (cc)) (by_other becomes)
+body_in_front _ _ r (present (valued {us = us} {a = e} g)) f = followed_by _ (other becomes) (keyed_in_front (other becomes) Expression us e r g) (by_other becomes)
 
 body_follows : (r : List Token) → Follow ClauseBody ClauseEnds r → Followed r
 body_follows _ (follow {vs = vs} {r = r} {b = b} h f) = body_in_front vs b r h f

@@ -1,9 +1,9 @@
 -- Forms of which two texts, each with what may follow it, are one where they agree as tokens, and have one value.
 use Rattle.std.proofs.Common.{◌≡◌, List, [], ◌∷◌, ◌++◌, refl, ap, sym, ◌∙◌, subst, ◌⊎◌, inl, inr}
-use Rattle.ab_grammar.specs.Token.{Token, first}
+use Rattle.ab_grammar.specs.Token.{Token}
 use Rattle.ab_grammar.specs.Nesting.{Spot, lone}
 use Rattle.ab_grammar.specs.Language.{tokens_of, Key, the_key}
-use Rattle.ab_grammar.proofs.Following.{Follow, follow, Anything}
+use Rattle.ab_grammar.proofs.Following.{first, Follow, follow, Anything, Comes, Except}
 use Rattle.ab_grammar.specs.CommandForms.{One, one, Nothing, nothing, Joined, joined, Valued, valued, Optional, left_out, present, Many, no_more, one_more, OneOrMore, Separated, ◌▸◌}
 use Rattle.ab_grammar.proofs.Lists.{regroup, cancel}
 use Rattle.ab_grammar.proofs.Shown.{ShowsOne}
@@ -70,21 +70,21 @@ module _ {A : Type 0} (G : List Spot → A → Type 0) (F : List Token → Type 
   sure_some = sure_joined (λ a xs. a ∷ xs) G (Many G) (Follow (Many G) F) F (λ r f. f) sure sure_many
 
 -- a key and a part
-pub keyed_first : {A : Type 0} (k : Token) (G : List Spot → A → Type 0) (v : List Spot) (b : A) (s : List Token) → (Key k ▸ G) v b → first (tokens_of v ++ s) ≡ k
+pub keyed_first : {A : Type 0} (k : Token) (G : List Spot → A → Type 0) (v : List Spot) (b : A) (s : List Token) → (Key k ▸ G) v b → Comes k (tokens_of v ++ s)
 keyed_first k G _ _ s (joined {us = us} {vs = vs} {a = u} g h) = ap first (regroup us vs s) ∙ key_begins k us u (tokens_of vs ++ s) g
 
-pub never_keyed : {A : Type 0} (k : Token) (G : List Spot → A → Type 0) (F : List Token → Type 0) → ((r : List Token) → F r → first r ≡ k → ⊥) → Never (Key k ▸ G) F
+pub never_keyed : {A : Type 0} (k : Token) (G : List Spot → A → Type 0) (F : List Token → Type 0) → ((r : List Token) → F r → Except k r) → Never (Key k ▸ G) F
 never_keyed k G F apart v b s r g f e = apart r f (ap first e ∙ keyed_first k G v b s g)
 
 -- what follows an item of a list is its separator, or what follows the list
-pub many_first : {A : Type 0} (k : Token) (G : List Spot → A → Type 0) (F : List Token → Type 0) (r : List Token) → Follow (Many (Key k ▸ G)) F r → (first r ≡ k) ⊎ F r
+pub many_first : {A : Type 0} (k : Token) (G : List Spot → A → Type 0) (F : List Token → Type 0) (r : List Token) → Follow (Many (Key k ▸ G)) F r → (Comes k r) ⊎ F r
 many_first k G F _ (follow {vs = vs} {r = r} {b = bs} h f) = from_many vs bs h
   where
-    from_many : (v : List Spot) (xs : List _) → Many (Key k ▸ G) v xs → (first (tokens_of v ++ r) ≡ k) ⊎ F (tokens_of v ++ r)
+    from_many : (v : List Spot) (xs : List _) → Many (Key k ▸ G) v xs → (Comes k (tokens_of v ++ r)) ⊎ F (tokens_of v ++ r)
     from_many _ _ no_more = inr f
     from_many _ _ (one_more {us = u} {vs = x} {a = a} g i) = inl (ap first (regroup u x r) ∙ keyed_first k G u a (tokens_of x ++ r) g)
 
-module _ {A : Type 0} (k : Token) (G : List Spot → A → Type 0) (E F : List Token → Type 0) (less : (r : List Token) → (first r ≡ k) ⊎ F r → E r) (apart : (r : List Token) → F r → first r ≡ k → ⊥) (sure : Sure G E) where
+module _ {A : Type 0} (k : Token) (G : List Spot → A → Type 0) (E F : List Token → Type 0) (less : (r : List Token) → (Comes k r) ⊎ F r → E r) (apart : (r : List Token) → F r → Except k r) (sure : Sure G E) where
   abbrev Rest : List Token → Type 0
   Rest = Follow (Many (Key k ▸ G)) F
 

@@ -122,7 +122,7 @@ closing_stuck : (b : Below) (u t : Tree) (k : Token) → whole_of u b ≡ Some t
 closing_stuck bottom u t k e = refl
 closing_stuck (bracket b fs) u t k e = absurd (cc)
 
-pub stops : {k : Token} → Follower k → (s : State) (t : Tree) → finish s ≡ Some t → step s k ≡ None
+pub stops : {k : Token} → Follower (Some k) → (s : State) (t : Tree) → finish s ≡ Some t → step s k ≡ None
 stops by_right_paren (have b fs u) t e = closing_stuck ((shut u fs).below) ((shut u fs).inner) t right_paren e
 stops by_right_paren (enclosed fs u) t e = closing_stuck ((shut u fs).below) ((shut u fs).inner) t right_paren e
 stops by_right_brace (have b fs u) t e = closing_stuck ((shut u fs).below) ((shut u fs).inner) t right_brace e
@@ -143,7 +143,7 @@ type_stuck : (b : Option (List TypeFrame)) (u t : Ty) → type_whole b u ≡ Som
 type_stuck None u t e = refl
 type_stuck (Some gs) u t e = absurd (cc)
 
-pub type_stops : {k : Token} → Follower k → (s : TypeState) (A : Ty) → type_finish s ≡ Some A → type_step s k ≡ None
+pub type_stops : {k : Token} → Follower (Some k) → (s : TypeState) (A : Ty) → type_finish s ≡ Some A → type_step s k ≡ None
 type_stops by_right_paren (type_have gs B) A e = type_stuck ((type_shut B gs).below) ((type_shut B gs).inner) A e
 type_stops by_right_brace (type_have gs B) A e = refl
 type_stops by_right_bracket (type_have gs B) A e = refl

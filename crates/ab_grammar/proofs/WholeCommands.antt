@@ -17,16 +17,16 @@ use Rattle.ab_grammar.proofs.Heads.{plain_command, unlabelled_command, labelled_
 
 module _ (k : Token) (ns : List Token) where
   pub plain_row : (h : Head) → Opens h k tt → Continues (Row h) CommandForm BeforeStop (λ c. c) ns (k ∷ ns)
-  plain_row h o = onwards (behind (λ u c. c) (One (Opens h)) (Row h) Anything BeforeStop (λ r f. tt) (k ∷ ns) ns tt (one_reads (Opens h) k tt ns o (λ b s. refl))) (plain_command (k ∷ ns) h o)
+  plain_row h o = onwards (behind (λ u c. c) (One (Opens h)) (Row h) Anything BeforeStop (λ r f. tt) (k ∷ ns) ns tt (one_reads (Opens h) k tt ns o (λ b s. refl))) (plain_command k (k ∷ ns) refl h o)
 
   opened_proof : (h : ProofHead) → OpensProof h k tt → Continues (ProofRow h) (One (OpensProof h) ▸ ProofRow h) BeforeStop (λ c. c) ns (k ∷ ns)
   opened_proof h o = behind (λ u c. c) (One (OpensProof h)) (ProofRow h) Anything BeforeStop (λ r f. tt) (k ∷ ns) ns tt (one_reads (OpensProof h) k tt ns o (λ b s. refl))
 
   pub proof_row : (h : ProofHead) → OpensProof h k tt → Continues (ProofRow h) CommandForm BeforeStop (λ c. tree.in_proof None c) ns (k ∷ ns)
-  proof_row h o = onwards (opened_proof h o) (unlabelled_command (k ∷ ns) h o)
+  proof_row h o = onwards (opened_proof h o) (unlabelled_command k (k ∷ ns) refl h o)
 
   pub labelled_row : (h : ProofHead) → OpensProof h k tt → IsTrue (takes_label h) → Continues (ProofRow h) LabelledForm BeforeStop (λ c. c) ns (k ∷ ns)
-  labelled_row h o t = onwards (opened_proof h o) (behind_label (k ∷ ns) h o t)
+  labelled_row h o t = onwards (opened_proof h o) (behind_label k (k ∷ ns) refl h o t)
 
 -- a label and its colon
 label_and : TwoParts (One ShowsLabel) Anything (Key colon) (One ShowsLabel ◂ Key colon) Anything (λ x u. x)
@@ -40,10 +40,10 @@ module _ (k : Token) (ns : List Token) (x : List ℕ) (s : ShowsLabel k x) where
   label_read = one_reads ShowsLabel k x ns s (λ b t. one_label k x b s t)
 
   pub colon_refused : (c : Cause) (rest : List Token) → RefusesAt (Key colon) Anything c ns rest → RefusesAt CommandForm BeforeStop c (k ∷ ns) rest
-  colon_refused c rest r = (labelled_command (k ∷ ns) x s).refuses c rest (with_label.first_refused (k ∷ ns) c rest ((label_and.first_read (k ∷ ns) ns x label_read).refuses c rest r))
+  colon_refused c rest r = (labelled_command k (k ∷ ns) refl x s).refuses c rest (with_label.first_refused (k ∷ ns) c rest ((label_and.first_read (k ∷ ns) ns x label_read).refuses c rest r))
 
   pub label_row : (ms : List Token) → ReadsOff (Key colon) Anything ns tt ms → Continues LabelledForm CommandForm BeforeStop (λ c. tree.in_proof (Some x) c) ms (k ∷ ns)
-  label_row ms r = onwards (with_label.first_read (k ∷ ns) ms x ((label_and.first_read (k ∷ ns) ns x label_read).reads tt ms r)) (labelled_command (k ∷ ns) x s)
+  label_row ms r = onwards (with_label.first_read (k ∷ ns) ms x ((label_and.first_read (k ∷ ns) ns x label_read).reads tt ms r)) (labelled_command k (k ∷ ns) refl x s)
 
 -- the full stop
 stop_comes : (r : List Token) → Follow (Sign stop) Followed r → BeforeStop r

@@ -1,7 +1,7 @@
 -- Nesting, as a number at each token of an expression or a type, by the tokens alone: the brackets that are open behind it,
 -- and the binders' names and infix signs up to it that stand in an open bracket or outside all brackets.
 -- The name of an abstraction is known for one only by the backslash behind it, and so is counted there.
-use Rattle.std.specs.Prelude.{ℕ, suc, ◌+◌, ◌≤◌, List, [], ◌∷◌, Bool, true, false, cond}
+use Rattle.std.specs.Prelude.{ℕ, suc, ◌+◌, ◌-◌, ◌≤◌, List, [], ◌∷◌, drop, Bool, true, false, cond, if◌then◌else◌}
 use Rattle.ab_grammar.specs.Token.{Token, word, quantifier, sign, left_paren, right_paren, left_brace, right_brace, left_bracket, right_bracket, backslash, comma, colon}
 
 -- an open bracket, or what is outside all: the names and signs counted in it so far, and whether a word here is a binder's name
@@ -70,3 +70,12 @@ limit = 200
 
 abbrev pub IsShallow : Spot → Type 0
 IsShallow s = s.depth ≤ limit
+
+-- whether the first of some tokens is a backslash
+abbrev pub begins_with_backslash : List Token → Bool
+begins_with_backslash (backslash ∷ ks) = true
+begins_with_backslash ks = false
+
+-- the token that is told where the i-th is refused for its depth: itself, or at a backslash the name in front of it
+abbrev pub blamed : List Token → ℕ → ℕ
+blamed ks i = if begins_with_backslash (drop i ks) then i - 1 else i

@@ -1,6 +1,6 @@
 -- The tokens that the grammar speaks of: words, reserved words, numbers, quoted texts and signs.
 -- A token with which a tree can begin carries its place, in bytes.
-use Rattle.std.specs.Prelude.{ℕ, List, [], ◌∷◌}
+use Rattle.std.specs.Prelude.{ℕ, List}
 use Rattle.ab_grammar.specs.declared.Infix.{Infix}
 use Rattle.ab_grammar.specs.declared.Quant.{Quant}
 
@@ -21,7 +21,6 @@ pub data Other : Type 0 where
   number : ℕ → Other  -- a number of at most nine digits, and its value
   text : List ℕ → Other  -- a quoted text, without its quotes
   unusable : Other  -- a longer number, or a quoted text with a byte that it may not hold: no form has it
-  end : Other  -- the end of the tokens
 
 pub data Token : Type 0 where
   word : List ℕ → ℕ → Token  -- a word that isn't reserved
@@ -40,8 +39,3 @@ pub data Token : Type 0 where
   comma : Token
   colon : Token
   other : Other → Token
-
--- the first token, where the end is one too
-abbrev pub first : List Token → Token
-first [] = other end
-first (k ∷ ks) = k

@@ -5,19 +5,19 @@ use Rattle.ab_grammar.specs.Nesting.{outside}
 use Rattle.ab_grammar.specs.Language.{Expression, TypeExpression}
 use Rattle.ab_grammar.proofs.Following.{Followed}
 use Rattle.ab_grammar.proofs.Machine.{step, finish, start, type_step, type_finish, type_start}
-use Rattle.ab_grammar.proofs.Readers.{SoFar, at_start, goes, done, wrong, too_deep, other_stuck, TypeSoFar, type_at_start, type_goes, type_done, type_wrong, type_too_deep, type_other_stuck}
-use Rattle.ab_totality.specs.Answers.{HasAnswer, AreWritten}
+use Rattle.ab_grammar.proofs.Readers.{SoFar, at_start, goes, done, wrong, too_deep, done_at_end, wrong_at_end, TypeSoFar, type_at_start, type_goes, type_done, type_wrong, type_too_deep, type_done_at_end, type_wrong_at_end}
+use Rattle.ab_totality.specs.Answers.{HasAnswer}
 use Rattle.ab_totality.proofs.Outcomes.{Total}
 use Rattle.ab_totality.proofs.Walk.{walk, answer}
 
 pub expression_found : Total Expression Followed
-expression_found ks e = walk step finish Expression SoFar other_stuck goes done wrong too_deep ks ks e start outside (at_start ks)
+expression_found ks = walk step finish Expression SoFar goes done wrong too_deep done_at_end wrong_at_end ks ks start outside (at_start ks)
 
 pub type_found : Total TypeExpression Followed
-type_found ks e = walk type_step type_finish TypeExpression TypeSoFar type_other_stuck type_goes type_done type_wrong type_too_deep ks ks e type_start outside (type_at_start ks)
+type_found ks = walk type_step type_finish TypeExpression TypeSoFar type_goes type_done type_wrong type_too_deep type_done_at_end type_wrong_at_end ks ks type_start outside (type_at_start ks)
 
-pub expression_answer : (ts : List Token) → AreWritten ts → HasAnswer Expression ts
+pub expression_answer : (ts : List Token) → HasAnswer Expression ts
 expression_answer = answer Expression expression_found
 
-pub type_answer : (ts : List Token) → AreWritten ts → HasAnswer TypeExpression ts
+pub type_answer : (ts : List Token) → HasAnswer TypeExpression ts
 type_answer = answer TypeExpression type_found

@@ -37,31 +37,31 @@ by_tables x p None a None b (inl c) = opens_nothing (no_plain x p a) (no_proof x
 by_tables x p None a None b (inr c) = opens_label x (is_label x p a b c)
 
 -- the tokens with which some command begins, some proof command, and those that are words
-abbrev pub PlainToken : Token → Type 0
+abbrev PlainToken : Token → Type 0
 PlainToken (word x p) = Unit {0}
 PlainToken (other token.back) = Unit {0}
 PlainToken (other token.reset) = Unit {0}
 PlainToken k = ⊥
 
-abbrev pub ProofToken : Token → Type 0
+abbrev ProofToken : Token → Type 0
 ProofToken (word x p) = Unit {0}
 ProofToken (quantifier Exists p) = Unit {0}
 ProofToken k = ⊥
 
-abbrev pub LabelToken : Token → Type 0
+abbrev LabelToken : Token → Type 0
 LabelToken (word x p) = Unit {0}
 LabelToken k = ⊥
 
-pub plain_token : (h : Head) (k : Token) → Opens h k tt → PlainToken k
+plain_token : (h : Head) (k : Token) → Opens h k tt → PlainToken k
 plain_token _ _ (opens x p e) = tt
 plain_token _ _ opens_back = tt
 plain_token _ _ opens_reset = tt
 
-pub proof_token : (h : ProofHead) (k : Token) → OpensProof h k tt → ProofToken k
+proof_token : (h : ProofHead) (k : Token) → OpensProof h k tt → ProofToken k
 proof_token _ _ (opens_proof x p e) = tt
 proof_token _ _ (opens_exists p) = tt
 
-pub label_token : (x : List ℕ) (k : Token) → ShowsLabel k x → LabelToken k
+label_token : (x : List ℕ) (k : Token) → ShowsLabel k x → LabelToken k
 label_token _ _ (shows_label x p n) = tt
 
 pub opening : (k : Token) → Opening k

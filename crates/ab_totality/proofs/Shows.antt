@@ -1,11 +1,12 @@
--- Whether a token is a key, and whether it shows a value, can be told.
-use Rattle.std.proofs.Common.{◌≡◌, ℕ, zero, suc, ◌<◌, ◌≤◌, List, [], ◌∷◌, ◌++◌, Bool, true, false, refl, ap, sym, ◌∙◌, subst, ◌⊎◌, inl, inr, arith, codes, decimal, bytes_eq}
+-- Whether a token is a key, and whether it shows a value, can be told; so whether the next token is one, and does.
+use Rattle.std.proofs.Common.{◌≡◌, ℕ, zero, suc, ◌<◌, ◌≤◌, List, [], ◌∷◌, ◌++◌, Bool, true, false, Some, refl, ap, sym, ◌∙◌, subst, ◌⊎◌, inl, inr, arith, codes, decimal, bytes_eq}
 use Rattle.std.proofs.lemmas.Slice.Eq.{bytes_eq-Decides}
 use Rattle.ab_grammar.specs.declared.Infix.{Infix}
 use Rattle.ab_grammar.specs.declared.Infix.TheVariants.{Equal}
 use Rattle.ab_grammar.specs.Token.{Token, Other, word, sign, left_paren, right_paren, comma, colon, other, stop, semicolon, becomes, star, by_word, to_word, with_word, on_word, type_word, number, text}
 use Rattle.ab_grammar.specs.CommandTrees.{named, hole}
 use Rattle.ab_grammar.specs.CommandTable.{IsNominal, IsDeclarable, ShowsName, shows_name, ShowsDeclared, shows_declared, ShowsNominal, shows_nominal, ShowsArgument, shows_named, shows_hole, ShowsNumber, shows_number, ShowsDepth, shows_depth, ShowsText, shows_text, StandsAnywhere, stands_at}
+use Rattle.ab_grammar.proofs.Following.{Comes, Except, Showing, Without}
 
 -- Keys
 
@@ -227,3 +228,28 @@ placed_word w x p (inr n) = inr (λ u s. n (placed_is w (word x p) u s x p refl)
 pub word_shown : (w : List ℕ) → IsShown (StandsAnywhere (word w))
 word_shown w (word x p) = placed_word w x p (same_word x w)
 word_shown w k = inr (λ a s. elim s [ ])
+
+-- The next token
+
+pub next_told : (k : Token) → IsTold k → (ks : List Token) → (Comes k ks) ⊎ (Except k ks)
+next_told k told [] = inr (λ e. absurd (cc))
+next_told k told (j ∷ ks) = from_told (told j)
+  where
+    from_told : (j ≡ k) ⊎ (j ≡ k → ⊥) → (Comes k (j ∷ ks)) ⊎ (Except k (j ∷ ks))
+    from_told (inl e) = inl (ap Some e)
+    from_told (inr n) = inr (λ e. let same : j ≡ k = cc in n same)
+
+module _ {A : Type 0} (Shows : Token → A → Type 0) where
+  pub none_at_end : Without Shows []
+  none_at_end k a e s = absurd (cc)
+
+  pub none_next : (k : Token) (ks : List Token) → ((a : A) → Shows k a → ⊥) → Without Shows (k ∷ ks)
+  none_next k ks n j a e s = let same : j ≡ k = cc in n a (subst (λ (i : Token). Shows i a) same s)
+
+  pub next_shown : IsShown Shows → (ks : List Token) → ((a : A) × Showing Shows a ks) ⊎ Without Shows ks
+  next_shown shown [] = inr none_at_end
+  next_shown shown (k ∷ ks) = from_shown (shown k)
+    where
+      from_shown : Shown Shows k → ((a : A) × Showing Shows a (k ∷ ks)) ⊎ Without Shows (k ∷ ks)
+      from_shown (inl s) = inl (s.0, (k, refl, s.1))
+      from_shown (inr n) = inr (none_next k ks n)

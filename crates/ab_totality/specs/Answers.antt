@@ -1,6 +1,6 @@
 -- The three answers that tokens have, as a text of a language.
-use Rattle.std.specs.Prelude.{◌≢◌, ℕ, List, All}
-use Rattle.ab_grammar.specs.Token.{Token, other, end}
+use Rattle.std.specs.Prelude.{ℕ, List}
+use Rattle.ab_grammar.specs.Token.{Token}
 use Rattle.ab_grammar.specs.Nesting.{Spot}
 use Rattle.ab_grammar.specs.Language.{Accepted, SyntaxAt, TooNestedAt}
 
@@ -9,7 +9,3 @@ pub data HasAnswer {A : Type 0} (G : List Spot → A → Type 0) (ts : List Toke
   accepted : {a : A} → Accepted G ts a → HasAnswer G ts
   refused : {i : ℕ} → SyntaxAt G ts i → HasAnswer G ts
   too_nested : {i : ℕ} → TooNestedAt G ts i → HasAnswer G ts
-
--- none of them is the end, which no written token is
-abbrev pub AreWritten : List Token → Type 0
-AreWritten ts = All (λ k. k ≢ other end) ts

@@ -6,19 +6,19 @@ ghost use Rattle.std.specs.Prelude.{List};
 ghost use Rattle.ab_grammar.specs.Token.{Token};
 ghost use Rattle.ab_grammar.specs.Language.{Expression, TypeExpression};
 ghost use Rattle.ab_grammar.specs.CommandTable.{CommandText};
-ghost use Rattle.ab_totality.specs.Answers.{HasAnswer, AreWritten};
+ghost use Rattle.ab_totality.specs.Answers.{HasAnswer};
 
 /// Tokens have an answer as an expression.
 pub fn an_answer_for_an_expression()
-    ensures { (ts : List Token) → AreWritten ts → HasAnswer Expression ts }
+    ensures { (ts : List Token) → HasAnswer Expression ts }
 {}
 
 /// Tokens have an answer as a type.
 pub fn an_answer_for_a_type()
-    ensures { (ts : List Token) → AreWritten ts → HasAnswer TypeExpression ts }
+    ensures { (ts : List Token) → HasAnswer TypeExpression ts }
 {}
 
 /// Tokens have an answer as a command.
 pub fn an_answer_for_a_command()
-    ensures { (ts : List Token) → AreWritten ts → HasAnswer CommandText ts }
+    ensures { (ts : List Token) → HasAnswer CommandText ts }
 {}
