@@ -1,53 +1,54 @@
 -- A row that the first token chooses, read from that token on.
-use Rattle.std.proofs.Common.{◌≡◌, ◌≢◌, ℕ, ◌<◌, ◌≤◌, List, ◌∷◌, length, Some, None, IsTrue, sym, subst, ◌⊎◌, inl, inr, arith}
+use Rattle.std.proofs.Common.{◌≡◌, ℕ, List, ◌∷◌, Some, None, IsTrue, refl, sym, ◌∙◌, subst}
 use Rattle.ab_grammar.specs.declared.head.Head.{Head}
 use Rattle.ab_grammar.specs.declared.head.ProofHead.{ProofHead}
-use Rattle.ab_grammar.specs.Token.{Token, other, end, colon, first}
+use Rattle.ab_grammar.specs.Token.{Token, colon}
+use Rattle.ab_grammar.proofs.Following.{first, Anything, BeforeStop}
 use Rattle.ab_grammar.specs.Language.{Key}
-use Rattle.ab_grammar.proofs.Following.{Anything, BeforeStop}
-use Rattle.ab_grammar.proofs.Reading.{ReadsOff, ungrammatical, too_nested}
+use Rattle.ab_grammar.proofs.Reading.{ReadsOff, StopsAt, ungrammatical, too_nested}
 use Rattle.ab_grammar.specs.CommandTrees as tree
 use Rattle.ab_grammar.specs.CommandTable.{Row, ProofRow, Opens, OpensProof, ShowsLabel, shows_label, takes_label, LabelledForm, CommandForm}
 use Rattle.ab_grammar.proofs.Continuing.{Continues}
+use Rattle.ab_grammar.proofs.Heads.{one_proof_head, no_command, no_labelled, plain_no_proof, proof_no_label}
 use Rattle.ab_grammar.proofs.WholeCommands.{plain_row, proof_row, labelled_row, label_row, colon_refused}
-use Rattle.ab_syntax.specs.declared.text.Text.{Text}
+use Rattle.ab_syntax.specs.declared.opening.Opening.{Opening}
+use Rattle.ab_syntax.specs.declared.opening.Opening.TheVariants.{Plain, Proof, Label, Nothing}
+use Rattle.ab_syntax.specs.declared.seen.Seen.{Seen}
 use Rattle.ab_syntax.specs.declared.stop.Stop.{Stop}
 use Rattle.ab_syntax.specs.declared.stop.Stop.TheVariants.{Syntax, TooNested, Memory}
-use Rattle.ab_syntax.specs.Reader.{rest, kind_of, IsWordAt, Refused, IsWordKind}
-use Rattle.ab_syntax.proofs.Places.{first_past, lexed_word}
-
--- a token that isn't the end stands in the text
-inside_or_past : (t : Text) (i : ℕ) → (i < length t.tokens.now) ⊎ (length t.tokens.now ≤ i) → first (rest t i) ≢ other end → i < length t.tokens.now
-inside_or_past t i (inl h) n = h
-inside_or_past t i (inr h) n = absurd (n (first_past t i h))
-
-pub inside : (t : Text) (i : ℕ) → first (rest t i) ≢ other end → i < length t.tokens.now
-inside t i n = inside_or_past t i (search (arith)) n
-
-end_opens_nothing : (h : Head) → Opens h (other end) tt → ⊥
-end_opens_nothing h d = elim d [ ]
-
-end_opens_no_proof : (h : ProofHead) → OpensProof h (other end) tt → ⊥
-end_opens_no_proof h d = elim d [ ]
-
-end_is_no_label : (x : List ℕ) → ShowsLabel (other end) x → ⊥
-end_is_no_label x d = elim d [ ]
-
-pub opens_no_end : (h : Head) (k : Token) → Opens h k tt → k ≢ other end
-opens_no_end h k o e = end_opens_nothing h (subst (λ (j : Token). Opens h j tt) e o)
-
-pub opens_proof_no_end : (h : ProofHead) (k : Token) → OpensProof h k tt → k ≢ other end
-opens_proof_no_end h k o e = end_opens_no_proof h (subst (λ (j : Token). OpensProof h j tt) e o)
-
-pub label_no_end : (x : List ℕ) (k : Token) → ShowsLabel k x → k ≢ other end
-label_no_end x k s e = end_is_no_label x (subst (λ (j : Token). ShowsLabel j x) e s)
+use Rattle.ab_syntax.specs.Kinds.{kind_of, IsWordKind}
+use Rattle.ab_syntax.specs.Openings.{BeginsNothing, IsOpening, IsOpeningAt}
+use Rattle.ab_syntax.specs.Reader.{seen, Refused}
+use Rattle.ab_syntax.proofs.Meanings.{kind_meant}
 
 label_kind : (k : Token) (x : List ℕ) → ShowsLabel k x → IsWordKind (kind_of k)
 label_kind _ _ (shows_label x p n) = tt
 
--- a label was read as a word
-pub label_word : (t : Text) (i : ℕ) (x : List ℕ) → ShowsLabel (first (rest t i)) x → IsWordAt t i
-label_word t i x s = let h = inside t i (label_no_end x (first (rest t i)) s) in (h, lexed_word t i h (label_kind (first (rest t i)) x s))
+-- a label is a word
+pub label_word : (s : Seen) (x : List ℕ) → ShowsLabel (seen s) x → IsWordKind s.kind
+label_word s x l = subst IsWordKind (kind_meant s.kind s.written.now s.place) (label_kind (seen s) x l)
+
+-- what the next token says
+pub opens_at : (ks : List Token) (k : Token) (x : List ℕ) (r : Opening) → first ks ≡ Some k → IsOpening k x r → IsOpeningAt ks r
+opens_at ks k x (Plain h) e o = (k, e, o)
+opens_at ks k x (Proof h) e o = (k, e, o)
+opens_at ks k x Label e o = (k, x, e, o)
+opens_at ks k x Nothing e o = λ j f. let same : k ≡ j = (let both = sym e ∙ f in cc) in subst BeginsNothing same o
+
+-- no command begins
+pub nothing_chosen : (ks : List Token) → ((k : Token) → first ks ≡ Some k → BeginsNothing k) → StopsAt CommandForm BeforeStop ks ks
+nothing_chosen ks n = no_command ks (λ h k a e o. (n k e).no_plain h o) (λ h k a e o. (n k e).no_proof h o) (λ k x e o. (n k e).no_label x o)
+
+-- no proof command that takes a label begins
+pub none_labelled : (ks : List Token) (r : Opening) → IsOpeningAt ks r → ((h : ProofHead) → r ≡ Proof h → IsTrue (takes_label h) → ⊥) → StopsAt LabelledForm BeforeStop ks ks
+none_labelled ks (Plain h) q n = no_labelled ks (λ k j e o t. let both = sym q.1 ∙ e in let same : k ≡ q.0 = cc in plain_no_proof h j q.0 q.2 (subst (λ (i : Token). OpensProof j i tt) same o))
+none_labelled ks (Proof h) q n = no_labelled ks (λ k j e o t.
+    let both = sym q.1 ∙ e in
+    let same : k ≡ q.0 = cc in
+    let one : j ≡ h = one_proof_head j h q.0 (subst (λ (i : Token). OpensProof j i tt) same o) q.2 in
+    n h refl (subst (λ (i : ProofHead). IsTrue (takes_label i)) one t))
+none_labelled ks Label q n = no_labelled ks (λ k j e o t. let both = sym q.2 ∙ e in let same : k ≡ q.0 = cc in proof_no_label j q.0 q.1 q.3 (subst (λ (i : Token). OpensProof j i tt) same o))
+none_labelled ks Nothing q n = no_labelled ks (λ k j e o t. (q k e).no_proof j o)
 
 module _ (ks ns : List Token) (k : Token) where
   pub plain_from : (h : Head) → ks ≡ k ∷ ns → Opens h k tt → Continues (Row h) CommandForm BeforeStop (λ c. c) ns ks

@@ -1,21 +1,19 @@
 -- What can follow a type and an expression, by its kind.
-use Rattle.std.proofs.Common.{◌≡◌, ℕ, List, true, false, Some, None, Result, Ok, Err, IfOk, refl, ap, sym, subst, inl, inr}
-use Rattle.ab_grammar.specs.Token.{Token, right_paren, comma}
+use Rattle.std.proofs.Common.{◌≡◌, ℕ, List, true, false, Some, None, Result, Ok, Err, IfOk, refl, ap, sym, subst}
+use Rattle.ab_grammar.specs.Token.{Token, right_paren}
 use Rattle.ab_grammar.specs.Tree.{Ty}
 use Rattle.ab_grammar.proofs.Following.{Follower, by_right_paren, by_right_brace, by_right_bracket, by_turnstile, by_comma, by_colon, by_other}
 use Rattle.ab_grammar.proofs.Machine.{TypeFrame, TypeShut, type_have, type_shut, type_closed, type_whole, type_step, type_finish}
-use Rattle.ab_syntax.specs.declared.text.Kind.{Kind}
-use Rattle.ab_syntax.specs.declared.text.Kind.TheVariants as kind
-use Rattle.ab_syntax.specs.Reader.{meaning}
-use Rattle.ab_syntax.specs.Steps.{follows, IsTypeNext}
-use Rattle.ab_syntax.specs.declared.types.TypeNext.{TypeNext}
-use Rattle.ab_syntax.specs.declared.types.TypeNext.TheVariants.{On, Done, Wrong}
+use Rattle.ab_syntax.specs.declared.kind.Kind.{Kind}
+use Rattle.ab_syntax.specs.declared.kind.Kind.TheVariants as kind
+use Rattle.ab_syntax.specs.Kinds.{meaning}
+use Rattle.ab_syntax.specs.Steps.{follows}
 
 pub if_ok : {X E : Type 0} {P Q : X → Type 0} (r : Result X E) → ((x : X) → P x → Q x) → IfOk r P → IfOk r Q
 if_ok (Ok x) f h = f x h
 if_ok (Err e) f h = tt
 
-pub follower : (k : Kind) (w : List ℕ) (p : ℕ) → follows k ≡ true → Follower (meaning k w p)
+pub follower : (k : Kind) (w : List ℕ) (p : ℕ) → follows k ≡ true → Follower (Some (meaning k w p))
 follower kind.RightParen w p e = by_right_paren
 follower kind.RightBrace w p e = by_right_brace
 follower kind.RightBracket w p e = by_right_bracket
@@ -37,7 +35,6 @@ follower kind.Type w p e = by_other _
 follower kind.Number w p e = by_other _
 follower kind.Text w p e = by_other _
 follower kind.Unusable w p e = by_other _
-follower kind.End w p e = by_other _
 follower kind.Word w p e = absurd (cc)
 follower kind.Truth w p e = absurd (cc)
 follower kind.Forall w p e = absurd (cc)
@@ -56,7 +53,7 @@ follower kind.LeftBrace w p e = absurd (cc)
 follower kind.LeftBracket w p e = absurd (cc)
 follower kind.Backslash w p e = absurd (cc)
 
-pub no_follower : (k : Kind) (w : List ℕ) (p : ℕ) → follows k ≡ false → Follower (meaning k w p) → ⊥
+pub no_follower : (k : Kind) (w : List ℕ) (p : ℕ) → follows k ≡ false → Follower (Some (meaning k w p)) → ⊥
 no_follower kind.RightParen w p e f = let bad : true ≡ false = e in absurd (cc)
 no_follower kind.RightBrace w p e f = let bad : true ≡ false = e in absurd (cc)
 no_follower kind.RightBracket w p e f = let bad : true ≡ false = e in absurd (cc)
@@ -78,7 +75,6 @@ no_follower kind.Type w p e f = let bad : true ≡ false = e in absurd (cc)
 no_follower kind.Number w p e f = let bad : true ≡ false = e in absurd (cc)
 no_follower kind.Text w p e f = let bad : true ≡ false = e in absurd (cc)
 no_follower kind.Unusable w p e f = let bad : true ≡ false = e in absurd (cc)
-no_follower kind.End w p e f = let bad : true ≡ false = e in absurd (cc)
 no_follower kind.Word w p e f = elim f [ ]
 no_follower kind.Truth w p e f = elim f [ ]
 no_follower kind.Forall w p e f = elim f [ ]
@@ -99,7 +95,7 @@ no_follower kind.Backslash w p e f = elim f [ ]
 
 -- what can follow a type, behind one that is shut
 module _ (gs : List TypeFrame) (A B : Ty) where
-  stopped : (k : Token) → Follower k → (k ≡ right_paren → type_step (type_have gs A) k ≡ None) → type_step (type_have gs A) k ≡ None
+  stopped : (k : Token) → Follower (Some k) → (k ≡ right_paren → type_step (type_have gs A) k ≡ None) → type_step (type_have gs A) k ≡ None
   stopped _ by_right_paren h = h refl
   stopped _ by_right_brace h = refl
   stopped _ by_right_bracket h = refl
@@ -108,10 +104,10 @@ module _ (gs : List TypeFrame) (A B : Ty) where
   stopped _ by_colon h = refl
   stopped _ (by_other o) h = refl
 
-  pub type_ended : (k : Token) → Follower k → type_shut A gs ≡ record { inner = B; below = None } → (type_step (type_have gs A) k ≡ None) × (type_finish (type_have gs A) ≡ Some B)
+  pub type_ended : (k : Token) → Follower (Some k) → type_shut A gs ≡ record { inner = B; below = None } → (type_step (type_have gs A) k ≡ None) × (type_finish (type_have gs A) ≡ Some B)
   type_ended k f e = (stopped k f (λ q. subst (λ (j : Token). type_step (type_have gs A) j ≡ None) (sym q) (ap (λ (s : TypeShut). type_closed s.below s.inner) e)), ap (λ (s : TypeShut). type_whole s.below s.inner) e)
 
-  pub type_enclosed : (k : Token) (hs : List TypeFrame) → Follower k → (k ≡ right_paren → ⊥) → type_shut A gs ≡ record { inner = B; below = Some hs } → (type_step (type_have gs A) k ≡ None) × (type_finish (type_have gs A) ≡ None)
+  pub type_enclosed : (k : Token) (hs : List TypeFrame) → Follower (Some k) → (k ≡ right_paren → ⊥) → type_shut A gs ≡ record { inner = B; below = Some hs } → (type_step (type_have gs A) k ≡ None) × (type_finish (type_have gs A) ≡ None)
   type_enclosed k hs f n e = (stopped k f (λ q. absurd (n q)), ap (λ (s : TypeShut). type_whole s.below s.inner) e)
 
 -- what neither goes on with a type nor can follow one
@@ -154,4 +150,3 @@ type_stuck gs A kind.Type w p e n = refl
 type_stuck gs A kind.Number w p e n = refl
 type_stuck gs A kind.Text w p e n = refl
 type_stuck gs A kind.Unusable w p e n = refl
-type_stuck gs A kind.End w p e n = refl

@@ -1,5 +1,6 @@
 pub mod Tables
 pub mod Meanings
+pub mod Seeing
 pub mod Places
 pub mod Digits
 pub mod Lookup
@@ -17,16 +18,13 @@ pub mod NumberTokens
 pub mod Leaves
 pub mod Taking
 pub mod Repeating
-pub mod Signs
 pub mod Followers
 pub mod Examples
 pub mod BinderTypes
 pub mod ExpressionReading
-pub mod NoEnds
 pub mod Wholes
 pub mod FaultPlaces
 pub mod Told
-pub mod CommandEnds
 pub mod Chosen
 pub mod QuotedBytes
 pub mod Operands

@@ -1,22 +1,22 @@
 -- Kinds of tokens: what each says of its token.
-use Rattle.std.proofs.Common.{◌≡◌, ℕ, Bool, true, false, List, map, length, Option, Some, None, refl, ap, subst}
+use Rattle.std.proofs.Common.{◌≡◌, ℕ, Bool, true, false, List, map, length, Option, Some, None, refl, ap}
 use Rattle.std.specs.Prelude.{if◌then◌else◌}
 use Rattle.std.specs.List.{list_all}
 use Rattle.std.specs.Str.Parse.{digits_value}
 use Rattle.std.proofs.Math.Dec.{leb}
 use Rattle.ab_lex.specs.declared.token.TokenKind.{TokenKind}
 use Rattle.ab_lex.specs.declared.token.TokenKind.TheVariants as lexed
-use Rattle.ab_grammar.specs.Token.{Token, word, truth, quantifier, sign, other, Other, stop, semicolon, becomes, from, star, back, reset, by_word, to_word, with_word, on_word, type_word, number, text, unusable, end}
+use Rattle.ab_grammar.specs.Token.{Token, word, truth, quantifier, sign, other, Other, stop, semicolon, becomes, from, star, back, reset, by_word, to_word, with_word, on_word, type_word, number, text, unusable}
 use Rattle.ab_grammar.specs.CommandTable.{listed}
-use Rattle.ab_syntax.specs.declared.text.Kind.{Kind}
-use Rattle.ab_syntax.specs.declared.text.Kind.TheVariants as kind
+use Rattle.ab_syntax.specs.declared.kind.Kind.{Kind}
+use Rattle.ab_syntax.specs.declared.kind.Kind.TheVariants as kind
 use Rattle.ab_grammar.specs.declared.Infix.{Infix}
 use Rattle.ab_grammar.specs.declared.Infix.TheVariants as signs_of
 use Rattle.ab_grammar.specs.declared.Quant.{Quant}
 use Rattle.ab_grammar.specs.declared.Quant.TheVariants as quant
-use Rattle.ab_syntax.specs.declared.text.TheConstants.{RESERVED, SIGNS}
+use Rattle.ab_syntax.specs.declared.kind.TheConstants.{RESERVED, SIGNS}
 use Rattle.ab_syntax.specs.Tokens.{reserved, signs, otherwise, plainly, is_text_byte, unquoted, token_by}
-use Rattle.ab_syntax.specs.Reader.{kind_of, kind_of_other, kind_of_sign, kind_of_quantifier, meaning, IsWordKind}
+use Rattle.ab_syntax.specs.Kinds.{kind_of, kind_of_other, kind_of_sign, kind_of_quantifier, meaning, IsWordKind}
 use Rattle.ab_syntax.proofs.Tables.{EachRow, listed_each, Agree, same_kind, no_kind}
 
 pub kind_meant : (k : Kind) (w : List ℕ) (p : ℕ) → kind_of (meaning k w p) ≡ k
@@ -58,7 +58,6 @@ kind_meant kind.Type w p = refl
 kind_meant kind.Number w p = refl
 kind_meant kind.Text w p = refl
 kind_meant kind.Unusable w p = refl
-kind_meant kind.End w p = refl
 
 -- the tables of the program are those of the definitions
 
@@ -230,11 +229,10 @@ known_sign x k e p = same_kind signs known_signs signs_agree x k e (plainly (oth
 pub unknown_sign : (x : List ℕ) → listed known_signs x ≡ None → (p : ℕ) → token_by lexed.Sign x p ≡ meaning kind.Unusable x p
 unknown_sign x e p = ap (λ (o : Option (List ℕ → ℕ → Token)). otherwise o (plainly (other unusable)) x p) (no_kind signs known_signs signs_agree x e)
 
--- a token that is no word and not the end
+-- a token that is no word
 abbrev IsMark : Token → Type 0
 IsMark (word x p) = ⊥
 IsMark (truth x p) = ⊥
-IsMark (other end) = ⊥
 IsMark k = Unit {0}
 
 abbrev AlwaysMark : (List ℕ → ℕ → Token) → Type 0
@@ -316,7 +314,6 @@ no_other type_word w = w
 no_other (number n) w = w
 no_other (text t) w = w
 no_other unusable w = w
-no_other end w = w
 
 no_sign : (o : Infix) → IsWordKind (kind_of_sign o) → ⊥
 no_sign signs_of.Arrow w = w
@@ -345,46 +342,3 @@ word_alone lexed.Word x p h = refl
 word_alone lexed.Number x p h = absurd (no_word (token_by lexed.Number x p) (number_is_mark x p) h)
 word_alone lexed.Text x p h = absurd (no_word (token_by lexed.Text x p) (text_is_mark x p) h)
 word_alone lexed.Sign x p h = absurd (no_word (token_by lexed.Sign x p) (sign_is_mark x p) h)
-
--- no token is the end
-
-abbrev IsSome : Token → Type 0
-IsSome (other end) = ⊥
-IsSome k = Unit {0}
-
-abbrev AlwaysSome : (List ℕ → ℕ → Token) → Type 0
-AlwaysSome f = (w : List ℕ) (p : ℕ) → IsSome (f w p)
-
-words_are_some : EachRow AlwaysSome reserved
-words_are_some = (
-  λ w p. tt,
-  (
-    λ w p. tt,
-    (
-      λ w p. tt,
-      (
-        λ w p. tt,
-        (
-          λ w p. tt,
-          (
-            λ w p. tt,
-            (λ w p. tt, (λ w p. tt, (λ w p. tt, (λ w p. tt, (λ w p. tt, tt))))),
-          ),
-        ),
-      ),
-    ),
-  ),
-)
-
-word_is_some : (x : List ℕ) (p : ℕ) → IsSome (token_by lexed.Word x p)
-word_is_some x p = by_row (listed reserved x) refl
-  where
-    by_row : (o : Option (List ℕ → ℕ → Token)) → listed reserved x ≡ o → IsSome (otherwise o word x p)
-    by_row None e = tt
-    by_row (Some f) e = listed_each AlwaysSome reserved x f words_are_some e x p
-
-pub never_end : (j : TokenKind) (x : List ℕ) (p : ℕ) → token_by j x p ≡ other end → ⊥
-never_end lexed.Word x p e = subst IsSome e (word_is_some x p)
-never_end lexed.Number x p e = subst IsMark e (number_is_mark x p)
-never_end lexed.Text x p e = subst IsMark e (text_is_mark x p)
-never_end lexed.Sign x p e = subst IsMark e (sign_is_mark x p)

@@ -9,9 +9,9 @@ use Rattle.ab_lex.specs.declared.token.TokenKind.{TokenKind}
 use Rattle.ab_lex.specs.declared.token.TokenKind.TheVariants as lexed
 use Rattle.ab_grammar.specs.Token.{Token, word, other, number, text, unusable}
 use Rattle.ab_grammar.specs.CommandTable.{listed}
-use Rattle.ab_syntax.specs.declared.text.Kind.TheVariants as kind
+use Rattle.ab_syntax.specs.declared.kind.Kind.TheVariants as kind
 use Rattle.ab_syntax.specs.Tokens.{reserved, signs, otherwise, plainly, is_text_byte, unquoted, token_by}
-use Rattle.ab_syntax.specs.Reader.{kind_of}
+use Rattle.ab_syntax.specs.Kinds.{kind_of}
 use Rattle.ab_syntax.proofs.Tables.{EachRow, listed_each}
 
 abbrev NoNumber : Token → Type 0

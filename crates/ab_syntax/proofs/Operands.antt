@@ -1,16 +1,16 @@
 -- What a token does behind an operand, by its kind.
-use Rattle.std.proofs.Common.{◌≡◌, ◌≢◌, ℕ, List, [], ◌∷◌, length, map, true, false, Option, Some, None, refl, ap, sym, subst, inr, arith, ◌∙◌, inl}
+use Rattle.std.proofs.Common.{◌≡◌, ◌≢◌, ℕ, List, [], ◌∷◌, length, map, true, false, Option, Some, None, refl, ap, sym, subst, inr, arith}
 use Rattle.ab_grammar.specs.declared.Infix.{Infix}
 use Rattle.ab_grammar.specs.declared.Infix.TheVariants as signs_of
 use Rattle.ab_grammar.specs.Token.{Token, Other, right_brace, colon, other, sign}
 use Rattle.ab_grammar.specs.Tree.{Tree, judgement}
 use Rattle.ab_grammar.proofs.Following.{Follower, by_right_paren, by_right_brace, by_right_bracket, by_turnstile, by_comma, by_colon, by_other}
 use Rattle.ab_grammar.proofs.Machine.{Frame, State, Bare, compound, have, enclosed, step, finish, starts, grow, step_have, step_enclosed, shut, Below, bottom, bracket, Bracket, paren, pi_paren, item_in, focus_in, goal_in, close, closing}
-use Rattle.ab_syntax.specs.declared.text.Kind.{Kind}
-use Rattle.ab_syntax.specs.declared.text.Kind.TheVariants as kind
+use Rattle.ab_syntax.specs.declared.kind.Kind.{Kind}
+use Rattle.ab_syntax.specs.declared.kind.Kind.TheVariants as kind
 use Rattle.ab_syntax.specs.declared.machine.Next.{Next}
 use Rattle.ab_syntax.specs.declared.machine.Next.TheVariants.{On, Done, Wrong}
-use Rattle.ab_syntax.specs.Reader.{meaning}
+use Rattle.ab_syntax.specs.Kinds.{meaning}
 use Rattle.ab_syntax.specs.Steps.{follows, begins}
 use Rattle.ab_syntax.specs.States.{Says, IsNext, IsClosed}
 
@@ -19,7 +19,7 @@ pub says_same : (o u : Option State) (x y : Option Tree) (k : Token) (fs : List 
 says_same o u x y k fs r e f h = subst (λ (z : Option State). Says z x k fs r) (sym e) (subst (λ (z : Option Tree). Says u z k fs r) (sym f) h)
 
 -- a token that can't follow an expression ends none
-pub says_within : (o : Option State) (x : Option Tree) (k : Token) (fs : List Frame) (r : Next) → (Follower k → ⊥) → Says o None k fs r → Says o x k fs r
+pub says_within : (o : Option State) (x : Option Tree) (k : Token) (fs : List Frame) (r : Next) → (Follower (Some k) → ⊥) → Says o None k fs r → Says o x k fs r
 says_within o x k fs (On t) n h = h
 says_within o x k fs (Done t) n h = let bad = h.1 in absurd (cc)
 says_within o x k fs Wrong n h = (h.0, inr n)
@@ -50,7 +50,7 @@ no_closing_other o (bracket b fs) t = no_close_other o b fs t
 
 module _ (t : Tree) (fs gs : List Frame) where
   -- what can follow an expression closes a bracket, or nothing goes on
-  closes : (k : Token) → Follower k → step_enclosed fs t k ≡ closing (shut t fs).below (shut t fs).inner k
+  closes : (k : Token) → Follower (Some k) → step_enclosed fs t k ≡ closing (shut t fs).below (shut t fs).inner k
   closes _ by_right_paren = refl
   closes _ by_right_brace = refl
   closes _ by_right_bracket = refl
@@ -59,7 +59,7 @@ module _ (t : Tree) (fs gs : List Frame) where
   closes _ by_colon = sym (no_closing_colon (shut t fs).below (shut t fs).inner)
   closes _ (by_other o) = sym (no_closing_other o (shut t fs).below (shut t fs).inner)
 
-  pub closed_next : (k : Token) → Follower k → (r : Next) → IsClosed (shut t fs) k gs r → IsNext (enclosed fs t) k gs r
+  pub closed_next : (k : Token) → Follower (Some k) → (r : Next) → IsClosed (shut t fs) k gs r → IsNext (enclosed fs t) k gs r
   closed_next k f r h = says_same (step_enclosed fs t k) _ (finish (enclosed fs t)) (finish (enclosed fs t)) k gs r (closes k f) refl h
 
   -- a judgement with no context ends
@@ -107,10 +107,9 @@ module _ (t : Tree) (fs gs : List Frame) where
   stuck_enclosed kind.Number e n w p = let bad : true ≡ false = e in absurd (cc)
   stuck_enclosed kind.Text e n w p = let bad : true ≡ false = e in absurd (cc)
   stuck_enclosed kind.Unusable e n w p = let bad : true ≡ false = e in absurd (cc)
-  stuck_enclosed kind.End e n w p = let bad : true ≡ false = e in absurd (cc)
 
   -- where an argument begins
-  begun : (k : Kind) → begins k ≡ true → (w : List ℕ) (p : ℕ) → (step_have compound fs t (meaning k w p) ≡ starts (grow fs t) (meaning k w p)) × (Follower (meaning k w p) → ⊥)
+  begun : (k : Kind) → begins k ≡ true → (w : List ℕ) (p : ℕ) → (step_have compound fs t (meaning k w p) ≡ starts (grow fs t) (meaning k w p)) × (Follower (Some (meaning k w p)) → ⊥)
   begun kind.Word e w p = (refl, λ f. elim f [ ])
   begun kind.Truth e w p = (refl, λ f. elim f [ ])
   begun kind.Forall e w p = (refl, λ f. elim f [ ])
@@ -149,7 +148,6 @@ module _ (t : Tree) (fs gs : List Frame) where
   begun kind.Number e w p = let bad : false ≡ true = e in absurd (cc)
   begun kind.Text e w p = let bad : false ≡ true = e in absurd (cc)
   begun kind.Unusable e w p = let bad : false ≡ true = e in absurd (cc)
-  begun kind.End e w p = let bad : false ≡ true = e in absurd (cc)
 
   pub have_begun : (k : Kind) → begins k ≡ true → (w : List ℕ) (p : ℕ) → (r : Next) → Says (starts (grow fs t) (meaning k w p)) None (meaning k w p) gs r → IsNext (have compound fs t) (meaning k w p) gs r
   have_begun k e w p r h =
@@ -196,7 +194,6 @@ module _ (t : Tree) (fs gs : List Frame) where
   same_have kind.Number e w p = refl
   same_have kind.Text e w p = refl
   same_have kind.Unusable e w p = refl
-  same_have kind.End e w p = refl
 
   pub have_enclosed : (k : Kind) → begins k ≡ false → (w : List ℕ) (p : ℕ) → (r : Next) → IsNext (enclosed fs t) (meaning k w p) gs r → IsNext (have compound fs t) (meaning k w p) gs r
   have_enclosed k e w p r h = says_same (step_have compound fs t (meaning k w p)) _ (finish (have compound fs t)) (finish (enclosed fs t)) (meaning k w p) gs r (same_have k e w p) refl h
@@ -241,4 +238,3 @@ module _ (t : Tree) (fs gs : List Frame) where
   same_alone b kind.Number n w p = refl
   same_alone b kind.Text n w p = refl
   same_alone b kind.Unusable n w p = refl
-  same_alone b kind.End n w p = refl

@@ -1,59 +1,51 @@
 -- The tokens of a text from a place on.
-use Rattle.std.proofs.Common.{◌≡◌, ℕ, ◌+◌, ◌<◌, ◌≤◌, List, [], ◌∷◌, ◌++◌, length, map, refl, ap, sym, ◌∙◌, subst}
+use Rattle.std.proofs.Common.{◌≡◌, ℕ, zero, suc, ◌+◌, ◌<◌, ◌≤◌, List, [], ◌∷◌, Some, None, length, map, drop, get_or, refl, ap, sym, ◌∙◌, subst, add-one, arith, ◌⊎◌, inl, inr}
 use Rattle.std.proofs.lemmas.List.{drop_more, drop_all}
-use Rattle.ab_lex.specs.declared.token.Token.{Token as Lexed}
-use Rattle.ab_lex.specs.declared.token.TokenKind.TheVariants as lexed
-use Rattle.ab_grammar.specs.Token.{Token, word, other, end, first}
+use Rattle.ab_grammar.specs.Token.{Token}
 use Rattle.ab_grammar.specs.Language.{Key}
-use Rattle.ab_grammar.proofs.Following.{Anything}
-use Rattle.ab_grammar.proofs.Reading.{ReadsOff, StopsAt}
-use Rattle.ab_grammar.specs.CommandTable.{Name, ShowsName, shows_name}
-use Rattle.ab_grammar.proofs.Choosing.{key_reads, one_reads, one_stops}
-use Rattle.ab_grammar.proofs.Shown.{one_name, name_example}
-use Rattle.ab_syntax.specs.declared.text.Kind.{Kind}
-use Rattle.ab_syntax.specs.declared.text.Kind.TheVariants as kind
+use Rattle.ab_grammar.proofs.Following.{Anything, first}
+use Rattle.ab_grammar.proofs.Reading.{ReadsOff}
+use Rattle.ab_grammar.proofs.Choosing.{key_reads}
+use Rattle.ab_syntax.specs.declared.seen.Seen.{Seen}
 use Rattle.ab_syntax.specs.declared.text.Text.{Text}
-use Rattle.ab_syntax.specs.Tokens.{token_of}
-use Rattle.ab_syntax.specs.Reader.{rest, lexed_at, no_token, written, place_at, kind_of, meaning, IsWordKind}
-use Rattle.ab_syntax.proofs.Meanings.{kind_meant, word_alone}
+use Rattle.ab_syntax.specs.Reader.{seen, rest}
+
+abbrev pub tail : {A : Type 0} → List A → List A
+tail [] = []
+tail (x ∷ xs) = xs
+
+drop_next : {A : Type 0} (xs : List A) (i : ℕ) → drop (suc i) xs ≡ tail (drop i xs)
+drop_next [] zero = refl
+drop_next [] (suc i) = refl
+drop_next (x ∷ xs) zero = refl
+drop_next (x ∷ xs) (suc i) = drop_next xs i
 
 module _ (t : Text) (i : ℕ) where
-  pub rest_more : i < length t.tokens.now → rest t i ≡ token_of t.bytes.now t.origin (lexed_at t i) ∷ rest t (i + 1)
-  rest_more h = ap (λ (l : List Lexed). map (token_of t.bytes.now t.origin) l ++ other end ∷ []) (drop_more t.tokens.now i no_token h)
+  pub rest_more : (d : Seen) → i < length t.tokens.now → rest t i ≡ seen (get_or t.tokens.now i d) ∷ rest t (i + 1)
+  rest_more d h = ap (map seen) (drop_more t.tokens.now i d h)
 
-  pub rest_past : length t.tokens.now ≤ i → rest t i ≡ other end ∷ []
-  rest_past h = ap (λ (l : List Lexed). map (token_of t.bytes.now t.origin) l ++ other end ∷ []) (drop_all i t.tokens.now h)
+  pub rest_past : length t.tokens.now ≤ i → rest t i ≡ []
+  rest_past h = ap (map seen) (drop_all i t.tokens.now h)
 
-  pub first_more : i < length t.tokens.now → first (rest t i) ≡ token_of t.bytes.now t.origin (lexed_at t i)
-  first_more h = ap first (rest_more h)
+  pub first_more : (d : Seen) → i < length t.tokens.now → first (rest t i) ≡ Some (seen (get_or t.tokens.now i d))
+  first_more d h = ap first (rest_more d h)
 
-  pub first_past : length t.tokens.now ≤ i → first (rest t i) ≡ other end
-  first_past h = ap first (rest_past h)
+  -- a next token is within the text
+  pub within : (k : Token) → first (rest t i) ≡ Some k → i < length t.tokens.now
+  within k e = by_place (search (arith))
+    where
+      by_place : (i < length t.tokens.now) ⊎ (length t.tokens.now ≤ i) → i < length t.tokens.now
+      by_place (inl h) = h
+      by_place (inr h) = let bad : None ≡ Some k = sym (ap first (rest_past h)) ∙ e in absurd (cc)
 
-  module _ (k : Kind) (token : first (rest t i) ≡ meaning k (written t i) (place_at t i)) where
-    -- the next token is of the kind alone
-    pub is_kind : kind_of (first (rest t i)) ≡ k
-    is_kind = ap kind_of token ∙ kind_meant k (written t i) (place_at t i)
+  seen_first : (k : Token) (ts : List Seen) → first (map seen ts) ≡ Some k → map seen ts ≡ k ∷ map seen (tail ts)
+  seen_first k [] e = absurd (cc)
+  seen_first k (x ∷ ts) e = let same : seen x ≡ k = cc in ap (λ (j : Token). j ∷ map seen ts) same
 
-    pub front : i < length t.tokens.now → rest t i ≡ meaning k (written t i) (place_at t i) ∷ rest t (i + 1)
-    front h = rest_more h ∙ ap (λ (j : Token). j ∷ rest t (i + 1)) (sym (first_more h) ∙ token)
+  pub rest_key : (k : Token) → first (rest t i) ≡ Some k → rest t i ≡ k ∷ rest t (i + 1)
+  rest_key k e =
+      let next : drop (i + 1) t.tokens.now ≡ tail (drop i t.tokens.now) = ap (λ n. drop n t.tokens.now) (add-one i) ∙ drop_next t.tokens.now i in
+      seen_first k (drop i t.tokens.now) e ∙ ap (λ (ts : List Seen). k ∷ map seen ts) (sym next)
 
-  pub rest_key : (k : Token) → first (rest t i) ≡ k → i < length t.tokens.now → rest t i ≡ k ∷ rest t (i + 1)
-  rest_key k e h = rest_more h ∙ ap (λ (j : Token). j ∷ rest t (i + 1)) (sym (first_more h) ∙ e)
-
-  pub takes_key : (k : Token) → first (rest t i) ≡ k → i < length t.tokens.now → ReadsOff (Key k) Anything (rest t i) tt (rest t (i + 1))
-  takes_key k e h = subst (λ (w : List Token). ReadsOff (Key k) Anything w tt (rest t (i + 1))) (sym (rest_key k e h)) (key_reads k (rest t (i + 1)))
-
-  pub takes_name : i < length t.tokens.now → first (rest t i) ≡ word (written t i) (place_at t i) → ReadsOff Name Anything (rest t i) (written t i) (rest t (i + 1))
-  takes_name h e = subst (λ (w : List Token). ReadsOff Name Anything w (written t i) (rest t (i + 1))) (sym (front kind.Word e h))
-      (one_reads ShowsName (word (written t i) (place_at t i)) (written t i) (rest t (i + 1)) (shows_name (written t i) (place_at t i)) (λ b s. one_name (word (written t i) (place_at t i)) (written t i) b (shows_name (written t i) (place_at t i)) s))
-
-  no_shown : (j : Token) (x : List ℕ) → ShowsName j x → (kind_of j ≡ kind.Word → ⊥) → ⊥
-  no_shown _ x (shows_name y p) n = n refl
-
-  pub no_name : (kind_of (first (rest t i)) ≡ kind.Word → ⊥) → StopsAt Name Anything (rest t i) (rest t i)
-  no_name n = one_stops ShowsName (rest t i) name_example (λ b s. no_shown (first (rest t i)) b s n)
-
-  -- a word that stands there was read as one
-  pub lexed_word : i < length t.tokens.now → IsWordKind (kind_of (first (rest t i))) → (lexed_at t i).kind ≡ lexed.Word
-  lexed_word h w = word_alone (lexed_at t i).kind (written t i) (place_at t i) (subst (λ (j : Token). IsWordKind (kind_of j)) (first_more h) w)
+  pub takes_key : (k : Token) → first (rest t i) ≡ Some k → ReadsOff (Key k) Anything (rest t i) tt (rest t (i + 1))
+  takes_key k e = subst (λ (w : List Token). ReadsOff (Key k) Anything w tt (rest t (i + 1))) (sym (rest_key k e)) (key_reads k (rest t (i + 1)))

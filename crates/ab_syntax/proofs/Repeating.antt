@@ -1,10 +1,10 @@
 -- Lists of items with a key between, read item by item.
-use Rattle.std.proofs.Common.{◌≡◌, ◌≢◌, ◌<◌, ◌≤◌, Bool, true, false, List, [], ◌∷◌, ◌++◌, length, map, refl, ap, sym, ◌∙◌, subst, length-append, arith}
+use Rattle.std.proofs.Common.{◌≡◌, ◌≢◌, ◌<◌, ◌≤◌, Bool, true, false, Some, List, [], ◌∷◌, ◌++◌, length, map, refl, ap, sym, ◌∙◌, subst, length-append, arith}
 use Rattle.std.proofs.lemmas.List.{map-append}
-use Rattle.ab_grammar.specs.Token.{Token, first}
+use Rattle.ab_grammar.specs.Token.{Token}
+use Rattle.ab_grammar.proofs.Following.{first, Follow, Anything}
 use Rattle.ab_grammar.specs.Nesting.{Spot}
 use Rattle.ab_grammar.specs.Language.{tokens_of, Key}
-use Rattle.ab_grammar.proofs.Following.{Follow, Anything}
 use Rattle.ab_grammar.proofs.Reading.{ReadsOff, Cause, RefusesAt, ungrammatical, too_nested}
 use Rattle.ab_grammar.specs.CommandForms.{Many, Separated, ◌▸◌}
 use Rattle.ab_grammar.proofs.Joining.{Example}
@@ -13,7 +13,7 @@ use Rattle.ab_grammar.proofs.Looping.{SoFar, goes_on, item_fails, ends, first_re
 use Rattle.ab_grammar.proofs.Rows.{TwoParts, two_parts}
 use Rattle.ab_syntax.specs.declared.stop.Stop.{Stop}
 use Rattle.ab_syntax.specs.declared.stop.Stop.TheVariants.{Syntax, TooNested, Memory}
-use Rattle.ab_syntax.specs.Leaves.{IsTaken}
+use Rattle.ab_syntax.specs.Reader.{IsTaken}
 use Rattle.ab_syntax.specs.Reader.{Refused}
 
 -- a key and a part
@@ -32,7 +32,7 @@ pub taken : (k : Token) (ks ms : List Token) (b : Bool) → b ≡ true → IsTak
 taken k ks ms true e h = h
 taken k ks ms false e h = let bad : false ≡ true = e in absurd (cc)
 
-pub left_there : (k : Token) (ks ms : List Token) (b : Bool) → b ≡ false → IsTaken k ks ms b → (first ks ≢ k) × (ms ≡ ks)
+pub left_there : (k : Token) (ks ms : List Token) (b : Bool) → b ≡ false → IsTaken k ks ms b → (first ks ≢ Some k) × (ms ≡ ks)
 left_there k ks ms false e h = h
 left_there k ks ms true e h = let bad : true ≡ false = e in absurd (cc)
 
@@ -46,7 +46,7 @@ key_taken k ks ms e = subst (λ (w : List Token). ReadsOff (Key k) Anything w tt
 abbrev pub ItemsTo : {A : Type 0} → Token → (List Spot → A → Type 0) → (List Token → Type 0) → List Token → List A → List Token → Type 0
 ItemsTo k G F ks v ms = SoFar (Key k ▸ G) (Separated (Key k) G) F ks v ms
 
-module _ {A : Type 0} (k : Token) (G : List Spot → A → Type 0) (E F : List Token → Type 0) (out : (r : List Token) → F r → first r ≡ k → ⊥) (less : (r : List Token) → Follow (Many (Key k ▸ G)) F r → E r) (ks : List Token) where
+module _ {A : Type 0} (k : Token) (G : List Spot → A → Type 0) (E F : List Token → Type 0) (out : (r : List Token) → F r → first r ≡ Some k → ⊥) (less : (r : List Token) → Follow (Many (Key k ▸ G)) F r → E r) (ks : List Token) where
   pub first_item : (ms : List Token) (a : A) → ReadsOff G E ks a ms → ItemsTo k G F ks (a ∷ []) ms
   first_item ms a p = first_read G (Key k ▸ G) E F less ks ms a p
 
@@ -66,7 +66,7 @@ module _ {A : Type 0} (k : Token) (G : List Spot → A → Type 0) (E F : List T
   no_next_item ms ls rest v TooNested e r q = item_fails (Key k ▸ G) (Separated (Key k) G) F ks too_nested ms rest v (key_apart k G E F out less ms (ap first e)) (behind_key ms ls rest too_nested e r) q
   no_next_item ms ls rest v (Memory e) q r h = tt
 
-  pub last_item : (ms : List Token) (v : List A) → (first ms ≡ k → ⊥) → ItemsTo k G F ks v ms → ReadsOff (Separated (Key k) G) F ks v ms
+  pub last_item : (ms : List Token) (v : List A) → (first ms ≡ Some k → ⊥) → ItemsTo k G F ks v ms → ReadsOff (Separated (Key k) G) F ks v ms
   last_item ms v n s = ends (Key k ▸ G) (Separated (Key k) G) F ks ms v (key_missing k G E F out less (Follow (Many (Key k ▸ G)) F) ms n) s
 
   -- the same where the items are what the program's items stand for

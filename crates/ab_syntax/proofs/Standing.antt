@@ -1,56 +1,58 @@
 -- Where a command stands, as its first tokens say.
-use Rattle.std.proofs.Common.{◌≡◌, ℕ, List, [], ◌∷◌, ◌++◌, ◌↔◌, Some, refl, ap, sym, subst, drop, map}
+use Rattle.std.proofs.Common.{◌≡◌, ℕ, zero, suc, ◌<◌, ◌≤◌, List, [], ◌∷◌, ◌↔◌, Some, None, length, get_or, refl, ap, subst, drop, map, arith}
 use Rattle.ab_grammar.specs.declared.head.Head.{Head}
 use Rattle.ab_grammar.specs.declared.head.ProofHead.{ProofHead}
 use Rattle.ab_grammar.specs.declared.head.Stand.{Stand}
 use Rattle.ab_grammar.specs.declared.head.Stand.TheVariants.{Inside}
-use Rattle.ab_grammar.specs.Token.{Token, other, end, colon, first}
+use Rattle.ab_grammar.specs.Token.{Token, colon}
+use Rattle.ab_grammar.proofs.Following.{first}
 use Rattle.ab_grammar.specs.CommandTable.{Opens, OpensProof, ShowsLabel, stand_of, StandsAt, by_head, by_proof_head, by_label}
 use Rattle.ab_grammar.proofs.Heads.{plain_no_label, proof_no_label}
 use Rattle.ab_grammar.proofs.Standing.{one_stand}
 use Rattle.ab_syntax.specs.Openings.{BeginsNothing}
 
--- the tokens, and then their end
-abbrev pub ended : List Token → List Token
-ended ts = ts ++ other end ∷ []
+module _ {L : Type 0} (f : L → Token) where
+  -- the token at a place, if there is one
+  pub first_at : (ts : List L) (i : ℕ) (d : L) → i < length ts → first (drop i (map f ts)) ≡ Some (f (get_or ts i d))
+  first_at [] i d h = absurd (omega arith)
+  first_at (t ∷ ts) zero d h = refl
+  first_at (t ∷ ts) (suc i) d h = first_at ts i d (omega arith)
 
-end_opens_nothing : (h : Head) → Opens h (other end) tt → ⊥
-end_opens_nothing h d = elim d [ ]
-
-end_opens_no_proof : (h : ProofHead) → OpensProof h (other end) tt → ⊥
-end_opens_no_proof h d = elim d [ ]
-
-end_is_no_label : (x : List ℕ) → ShowsLabel (other end) x → ⊥
-end_is_no_label x d = elim d [ ]
-
-pub plain_stands : (ts : List Token) (h : Head) → Opens h (first (ended ts)) tt → StandsAt ts (stand_of h)
-plain_stands [] h o = absurd (end_opens_nothing h o)
-plain_stands (k ∷ ks) h o = by_head h ks o
-
-pub proof_stands : (ts : List Token) (h : ProofHead) → OpensProof h (first (ended ts)) tt → StandsAt ts Inside
-proof_stands [] h o = absurd (end_opens_no_proof h o)
-proof_stands (k ∷ ks) h o = by_proof_head h ks o
-
-pub label_stands : (ts : List Token) (x : List ℕ) → ShowsLabel (first (ended ts)) x → first (drop 1 (ended ts)) ≡ colon → StandsAt ts Inside
-label_stands [] x s e = absurd (end_is_no_label x s)
-label_stands (k ∷ []) x s e = absurd (cc)
-label_stands (k ∷ j ∷ ks) x s e = subst (λ (i : Token). StandsAt (k ∷ i ∷ ks) Inside) (sym e) (by_label x ks s)
-
-pub nothing_stands : (ts : List Token) (s : Stand) → BeginsNothing (first (ended ts)) → StandsAt ts s → ⊥
-nothing_stands _ _ n (by_head h ks o) = n.no_plain h o
-nothing_stands _ _ n (by_proof_head h ks o) = n.no_proof h o
-nothing_stands _ _ n (by_label x ks s) = n.no_label x s
-
-pub no_colon_stands : (ts : List Token) (s : Stand) (x : List ℕ) → ShowsLabel (first (ended ts)) x → (first (drop 1 (ended ts)) ≡ colon → ⊥) → StandsAt ts s → ⊥
-no_colon_stands _ _ x l n (by_head {k = k} h ks o) = plain_no_label h k x l o
-no_colon_stands _ _ x l n (by_proof_head {k = k} h ks o) = proof_no_label h k x l o
-no_colon_stands _ _ x l n (by_label y ks s) = n refl
+  pub none_at : (ts : List L) (i : ℕ) → length ts ≤ i → first (drop i (map f ts)) ≡ None
+  none_at [] zero h = refl
+  none_at [] (suc i) h = refl
+  none_at (t ∷ ts) zero h = absurd (omega arith)
+  none_at (t ∷ ts) (suc i) h = none_at ts i (omega arith)
 
 -- the one place that the tokens say
 pub exactly : (ts : List Token) (a s : Stand) → StandsAt ts a → (Some a ≡ Some s) ↔ StandsAt ts s
 exactly ts a s d = (λ e. let same : a ≡ s = cc in subst (StandsAt ts) same d, λ f. ap Some (one_stand ts a s d f))
 
--- the second token
-pub second : {L : Type 0} (f : L → Token) (ts : List L) → first (map f (drop 1 ts) ++ other end ∷ []) ≡ first (drop 1 (ended (map f ts)))
-second f [] = refl
-second f (t ∷ ts) = refl
+pub nowhere : (ts : List Token) (s : Stand) → (StandsAt ts s → ⊥) → (None ≡ Some s) ↔ StandsAt ts s
+nowhere ts s n = (λ e. absurd (cc), λ d. absurd (n d))
+
+pub plain_stands : (ts : List Token) (k : Token) (h : Head) → first ts ≡ Some k → Opens h k tt → StandsAt ts (stand_of h)
+plain_stands [] k h e o = absurd (cc)
+plain_stands (j ∷ ks) k h e o = let same : k ≡ j = cc in by_head h ks (subst (λ (i : Token). Opens h i tt) same o)
+
+pub proof_stands : (ts : List Token) (k : Token) (h : ProofHead) → first ts ≡ Some k → OpensProof h k tt → StandsAt ts Inside
+proof_stands [] k h e o = absurd (cc)
+proof_stands (j ∷ ks) k h e o = let same : k ≡ j = cc in by_proof_head h ks (subst (λ (i : Token). OpensProof h i tt) same o)
+
+pub label_stands : (ts : List Token) (k : Token) (x : List ℕ) → first ts ≡ Some k → ShowsLabel k x → first (drop 1 ts) ≡ Some colon → StandsAt ts Inside
+label_stands [] k x e s f = absurd (cc)
+label_stands (j ∷ []) k x e s f = absurd (cc)
+label_stands (j ∷ i ∷ ks) k x e s f =
+    let same : k ≡ j = cc in
+    let is : colon ≡ i = cc in
+    subst (λ (m : Token). StandsAt (j ∷ m ∷ ks) Inside) is (by_label x ks (subst (λ (m : Token). ShowsLabel m x) same s))
+
+pub nothing_stands : (ts : List Token) (k : Token) (s : Stand) → first ts ≡ Some k → BeginsNothing k → StandsAt ts s → ⊥
+nothing_stands _ k _ e n (by_head {k = j} h ks o) = let same : j ≡ k = cc in n.no_plain h (subst (λ (i : Token). Opens h i tt) same o)
+nothing_stands _ k _ e n (by_proof_head {k = j} h ks o) = let same : j ≡ k = cc in n.no_proof h (subst (λ (i : Token). OpensProof h i tt) same o)
+nothing_stands _ k _ e n (by_label {k = j} x ks s) = let same : j ≡ k = cc in n.no_label x (subst (λ (i : Token). ShowsLabel i x) same s)
+
+pub no_colon_stands : (ts : List Token) (k : Token) (x : List ℕ) (s : Stand) → first ts ≡ Some k → ShowsLabel k x → (first (drop 1 ts) ≡ Some colon → ⊥) → StandsAt ts s → ⊥
+no_colon_stands _ k x _ e l n (by_head {k = j} h ks o) = let same : j ≡ k = cc in plain_no_label h k x l (subst (λ (i : Token). Opens h i tt) same o)
+no_colon_stands _ k x _ e l n (by_proof_head {k = j} h ks o) = let same : j ≡ k = cc in proof_no_label h k x l (subst (λ (i : Token). OpensProof h i tt) same o)
+no_colon_stands _ k x _ e l n (by_label y ks s) = n refl

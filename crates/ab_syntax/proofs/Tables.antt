@@ -3,9 +3,9 @@ use Rattle.std.proofs.Common.{◌≡◌, ℕ, Bool, true, false, List, [], ◌�
 use Rattle.std.specs.Prelude.{bytes_eq, if◌then◌else◌}
 use Rattle.ab_grammar.specs.Token.{Token}
 use Rattle.ab_grammar.specs.CommandTable.{listed}
-use Rattle.ab_syntax.specs.declared.text.Kind.{Kind}
+use Rattle.ab_syntax.specs.declared.kind.Kind.{Kind}
 use Rattle.ab_syntax.specs.Tokens.{Row, otherwise}
-use Rattle.ab_syntax.specs.Reader.{meaning}
+use Rattle.ab_syntax.specs.Kinds.{meaning}
 
 -- P holds of each row's value
 abbrev pub EachRow : {A : Type 0} → (A → Type 0) → List (List ℕ × A) → Type 0

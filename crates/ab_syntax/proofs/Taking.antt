@@ -1,10 +1,10 @@
 -- Forms of one token, taken where the token shows a value.
-use Rattle.std.proofs.Common.{◌≡◌, ℕ, ◌+◌, ◌<◌, List, [], ◌∷◌, ◌++◌, length, map, refl, ap, sym, ◌∙◌, subst}
+use Rattle.std.proofs.Common.{◌≡◌, ℕ, ◌+◌, List, [], ◌∷◌, ◌++◌, map, refl, ap, sym, ◌∙◌, subst}
 use Rattle.std.proofs.lemmas.List.{map-append}
-use Rattle.ab_grammar.specs.Token.{Token, first}
+use Rattle.ab_grammar.specs.Token.{Token}
+use Rattle.ab_grammar.proofs.Following.{Follow, Anything, Showing, Without}
 use Rattle.ab_grammar.specs.Nesting.{Spot}
 use Rattle.ab_grammar.specs.Language.{tokens_of}
-use Rattle.ab_grammar.proofs.Following.{Follow, Anything, Without}
 use Rattle.ab_grammar.proofs.Reading.{ReadsOff, StopsAt}
 use Rattle.ab_grammar.specs.CommandForms.{One, Many, no_more, OneOrMore}
 use Rattle.ab_grammar.proofs.Joining.{Example}
@@ -20,14 +20,14 @@ module _ {A X : Type 0} (Shows : Token → A → Type 0) (meant : X → A) where
   abbrev pub AllTo : List Token → List X → List Token → Type 0
   AllTo ks xs ms = SoFar (One Shows) (Many (One Shows)) (Without Shows) ks (map meant xs) ms
 
-  pub one_more_shown : ShowsOne Shows → (t : Text) (i : ℕ) (ks : List Token) (xs ys : List X) (x : X) → Shows (first (rest t i)) (meant x) → i < length t.tokens.now → ys ≡ xs ++ x ∷ [] → AllTo ks xs (rest t i) → AllTo ks ys (rest t (i + 1))
-  one_more_shown shows t i ks xs ys x s h e p =
-      let read = takes Shows shows t i (meant x) s h in
-      let more = goes_on (One Shows) (Many (One Shows)) (Without Shows) ks (rest t i) (rest t (i + 1)) (map meant xs) (meant x) (token_apart Shows (rest t i) (meant x) s) (fewer_reads (One Shows) Anything (Follow (Many (One Shows)) (Without Shows)) (λ r f. tt) (rest t i) (rest t (i + 1)) (meant x) read) p in
+  pub one_more_shown : ShowsOne Shows → (t : Text) (i : ℕ) (ks : List Token) (xs ys : List X) (x : X) → Showing Shows (meant x) (rest t i) → ys ≡ xs ++ x ∷ [] → AllTo ks xs (rest t i) → AllTo ks ys (rest t (i + 1))
+  one_more_shown shows t i ks xs ys x s e p =
+      let read = takes Shows t i shows (meant x) s in
+      let more = goes_on (One Shows) (Many (One Shows)) (Without Shows) ks (rest t i) (rest t (i + 1)) (map meant xs) (meant x) (token_apart Shows s.0 (rest t i) (meant x) s.1 s.2) (fewer_reads (One Shows) Anything (Follow (Many (One Shows)) (Without Shows)) (λ r f. tt) (rest t i) (rest t (i + 1)) (meant x) read) p in
       let same : map meant xs ++ meant x ∷ [] ≡ map meant ys = sym (ap (map meant) e ∙ map-append meant xs (x ∷ [])) in
       subst (λ (v : List A). SoFar (One Shows) (Many (One Shows)) (Without Shows) ks v (rest t (i + 1))) same more
 
-  pub no_more_shown : (t : Text) (i : ℕ) (ks : List Token) (xs : List X) → ((a : A) → Shows (first (rest t i)) a → ⊥) → AllTo ks xs (rest t i) → ReadsOff (Many (One Shows)) (Without Shows) ks (map meant xs) (rest t i)
+  pub no_more_shown : (t : Text) (i : ℕ) (ks : List Token) (xs : List X) → Without Shows (rest t i) → AllTo ks xs (rest t i) → ReadsOff (Many (One Shows)) (Without Shows) ks (map meant xs) (rest t i)
   no_more_shown t i ks xs n p = ends (One Shows) (Many (One Shows)) (Without Shows) ks (rest t i) (map meant xs) (token_missing Shows (Follow (Many (One Shows)) (Without Shows)) (rest t i) n) p
 
 -- one token or more, where any number was read

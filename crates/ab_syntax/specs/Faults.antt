@@ -1,7 +1,8 @@
 -- The place that a refusal names.
-use Rattle.std.specs.Prelude.{◌≡◌, ◌⊎◌, ℕ, zero, suc, ◌-◌, List, [], ◌∷◌, length, drop, Bool, true, false, if◌then◌else◌}
+use Rattle.std.specs.Prelude.{◌≡◌, ◌⊎◌, ℕ, zero, suc, ◌-◌, List, [], ◌∷◌, length}
 use Rattle.ab_lex.specs.declared.token.Token.{Token as Lexed}
-use Rattle.ab_grammar.specs.Token.{Token, backslash}
+use Rattle.ab_grammar.specs.Token.{Token}
+use Rattle.ab_grammar.specs.Nesting.{blamed}
 use Rattle.ab_grammar.specs.CommandTable.{ShowsLabel}
 use Rattle.ab_syntax.specs.Tokens.{origin_of, tokens_from}
 
@@ -19,15 +20,7 @@ place_past bytes origin ts = place_from (length bytes) origin ts
 abbrev pub fault_place : List ℕ → List Lexed → ℕ → ℕ
 fault_place bytes ts = place_past bytes (origin_of ts) ts
 
-abbrev pub begins_with_backslash : List Token → Bool
-begins_with_backslash (backslash ∷ ks) = true
-begins_with_backslash ks = false
-
--- the token that is told to be nested too deeply: the name of an abstraction is counted where its backslash shows that it is one
-abbrev pub blamed : List Token → ℕ → ℕ
-blamed ks i = if begins_with_backslash (drop i ks) then i - 1 else i
-
--- its place
+-- the place of the token that is told to be nested too deeply
 abbrev pub nested_from : List ℕ → ℕ → List Lexed → ℕ → ℕ
 nested_from bytes origin ts i = place_past bytes origin ts (blamed (tokens_from bytes origin ts) i)
 

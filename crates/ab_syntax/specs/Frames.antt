@@ -1,11 +1,11 @@
 -- What the reader of expressions keeps, in the words of the machine that reads the grammar. No public contract speaks of it.
-use Rattle.std.specs.Prelude.{◌≡◌, List, [], ◌∷◌, ◌++◌, map, option_map, Bool, true, false, Option, Some, None, Vec}
-use Rattle.std.specs.Global.{Global}
+use Rattle.std.specs.Prelude.{◌≡◌, List, [], ◌∷◌, ◌++◌, map, option_map, Bool, true, false, Option, Some, None}
 use Rattle.ab_grammar.proofs.Machine as machine
 use Rattle.ab_syntax.specs.declared.frame.Bracket.{Bracket}
 use Rattle.ab_syntax.specs.declared.frame.Bracket.TheVariants as brackets
 use Rattle.ab_syntax.specs.declared.frame.Frame.{Frame}
 use Rattle.ab_syntax.specs.declared.frame.Frame.TheVariants as frame
+use Rattle.ab_syntax.specs.declared.frame.Frames.{Frames}
 use Rattle.ab_syntax.specs.declared.frame.Fate.{Fate}
 use Rattle.ab_syntax.specs.declared.frame.Fate.TheVariants as fate
 use Rattle.ab_grammar.specs.declared.Infix.{Infix}
@@ -29,8 +29,8 @@ frame_of (frame.Abs x p) = machine.abs_at x p
 frame_of (frame.Bind q) = machine.bind_at q.quant q.place (map binder_of q.binders.items)
 frame_of (frame.Bracket b) = machine.bracket_at (bracket_of b)
 
-abbrev pub frames_of : Vec Frame Global → List machine.Frame
-frames_of v = stack frame_of v.items
+abbrev pub frames_of : Frames → List machine.Frame
+frames_of v = stack frame_of v.items.items
 
 -- what an operand is the last part of, in a frame; in a bracket the operand alone
 abbrev pub reduced : machine.Frame → Tree → Tree
@@ -46,17 +46,6 @@ abbrev pub IsFate : Infix → machine.Frame → Fate → Type 0
 IsFate o f fate.Stays = (t : Tree) (fs : List machine.Frame) → machine.pop o t (f ∷ fs) ≡ Some (machine.infix_at o t ∷ f ∷ fs)
 IsFate o f fate.Reduces = (t : Tree) (fs : List machine.Frame) → machine.pop o t (f ∷ fs) ≡ machine.pop o (reduced f t) fs
 IsFate o f fate.Refuses = (t : Tree) (fs : List machine.Frame) → machine.pop o t (f ∷ fs) ≡ None
-
--- what becomes of the innermost frame; where there is none, a sign can come
-abbrev pub IsTopFate : Infix → List machine.Frame → Fate → Type 0
-IsTopFate o [] fate.Stays = Unit {0}
-IsTopFate o [] r = ⊥
-IsTopFate o (f ∷ fs) r = IsFate o f r
-
--- the innermost frame was taken away, and an operand is what it is the last part of
-abbrev pub IsReduced : List machine.Frame → Tree → List machine.Frame → Tree → Type 0
-IsReduced [] t gs r = (r ≡ t) × (gs ≡ [])
-IsReduced (f ∷ fs) t gs r = (r ≡ reduced f t) × (gs ≡ fs)
 
 -- whether there are frames, and then which
 abbrev pub IsPopped : Option (List machine.Frame) → List machine.Frame → Bool → Type 0

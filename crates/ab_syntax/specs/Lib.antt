@@ -5,6 +5,7 @@ pub mod Trees
 pub mod Commands
 pub mod Faults
 -- tools of the private functions' clauses and of the proofs
+pub mod Kinds
 pub mod Numbers
 pub mod Reader
 pub mod Steps

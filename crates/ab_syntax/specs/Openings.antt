@@ -2,7 +2,8 @@
 use Rattle.ab_grammar.specs.declared.head.Head.{Head}
 use Rattle.ab_grammar.specs.declared.head.ProofHead.{ProofHead}
 use Rattle.ab_grammar.specs.Token.{Token}
-use Rattle.std.specs.Prelude.{ℕ, List}
+use Rattle.std.specs.Prelude.{◌≡◌, ℕ, List, Some}
+use Rattle.ab_grammar.proofs.Following.{first}
 use Rattle.ab_grammar.specs.CommandTable.{Opens, OpensProof, ShowsLabel}
 use Rattle.ab_syntax.specs.declared.opening.Opening.{Opening}
 use Rattle.ab_syntax.specs.declared.opening.Opening.TheVariants.{Plain, Proof, Label, Nothing}
@@ -19,3 +20,10 @@ IsOpening k w (Plain h) = Opens h k tt
 IsOpening k w (Proof h) = OpensProof h k tt
 IsOpening k w Label = ShowsLabel k w
 IsOpening k w Nothing = BeginsNothing k
+
+-- what the next token says of the command that it begins, where there is one
+abbrev pub IsOpeningAt : List Token → Opening → Type 0
+IsOpeningAt ks (Plain h) = (k : Token) × (first ks ≡ Some k) × Opens h k tt
+IsOpeningAt ks (Proof h) = (k : Token) × (first ks ≡ Some k) × OpensProof h k tt
+IsOpeningAt ks Label = (k : Token) × (x : List ℕ) × (first ks ≡ Some k) × ShowsLabel k x
+IsOpeningAt ks Nothing = (k : Token) → first ks ≡ Some k → BeginsNothing k

@@ -7,8 +7,8 @@ use Rattle.ab_grammar.proofs.Machine as machine
 use Rattle.ab_syntax.specs.declared.machine.State.{State}
 use Rattle.ab_syntax.specs.declared.machine.State.TheVariants as state
 use Rattle.ab_grammar.specs.declared.Infix.{Infix}
-use Rattle.ab_syntax.specs.declared.text.Kind.{Kind}
-use Rattle.ab_syntax.specs.Reader.{meaning}
+use Rattle.ab_syntax.specs.declared.kind.Kind.{Kind}
+use Rattle.ab_syntax.specs.Kinds.{meaning}
 use Rattle.ab_syntax.specs.declared.machine.Next.{Next}
 use Rattle.ab_syntax.specs.declared.machine.Next.TheVariants as next
 use Rattle.ab_syntax.specs.Trees.{tree_of, binder_of}
@@ -32,7 +32,7 @@ state_in fs (state.BinderType q x p gs s) = machine.binder_type fs q.quant q.pla
 abbrev pub Says : Option machine.State → Option Tree → Token → List machine.Frame → Next → Type 0
 Says on whole k fs (next.On t) = on ≡ Some (state_in fs t)
 Says on whole k fs (next.Done t) = (on ≡ None) × (whole ≡ Some (tree_of t.value))
-Says on whole k fs next.Wrong = (on ≡ None) × ((whole ≡ None) ⊎ (Follower k → ⊥))
+Says on whole k fs next.Wrong = (on ≡ None) × ((whole ≡ None) ⊎ (Follower (Some k) → ⊥))
 
 abbrev pub IsNext : machine.State → Token → List machine.Frame → Next → Type 0
 IsNext s k fs r = Says (machine.step s k) (machine.finish s) k fs r

@@ -1,6 +1,5 @@
 -- What the steps of the reader's machines keep, in the words of the machines that read the grammar. No public contract speaks of it.
-use Rattle.std.specs.Prelude.{◌≡◌, ◌≤◌, List, [], ◌∷◌, ◌++◌, Bool, true, false, Option, Some, None, Vec, ◌⊎◌}
-use Rattle.std.specs.Global.{Global}
+use Rattle.std.specs.Prelude.{◌≡◌, ◌≤◌, List, [], ◌∷◌, ◌++◌, Bool, true, false, Option, Some, None, ◌⊎◌}
 use Rattle.ab_grammar.specs.Token.{Token}
 use Rattle.ab_grammar.specs.Nesting as nesting
 use Rattle.ab_grammar.specs.Nesting.{depth_of, limit}
@@ -10,11 +9,12 @@ use Rattle.ab_syntax.specs.declared.nesting.Layer.{Layer}
 use Rattle.ab_syntax.specs.declared.nesting.Layers.{Layers}
 use Rattle.ab_syntax.specs.declared.types.TypeFrame.{TypeFrame}
 use Rattle.ab_syntax.specs.declared.types.TypeFrame.TheVariants as type_frame
+use Rattle.ab_syntax.specs.declared.types.TypeFrames.{TypeFrames}
 use Rattle.ab_syntax.specs.declared.types.TypeState.{TypeState}
 use Rattle.ab_syntax.specs.declared.types.TypeState.TheVariants as state
 use Rattle.ab_syntax.specs.declared.types.TypeInside.{TypeInside}
-use Rattle.ab_syntax.specs.declared.text.Kind.{Kind}
-use Rattle.ab_syntax.specs.declared.text.Kind.TheVariants as kind
+use Rattle.ab_syntax.specs.declared.kind.Kind.{Kind}
+use Rattle.ab_syntax.specs.declared.kind.Kind.TheVariants as kind
 use Rattle.ab_syntax.specs.declared.types.TypeNext.{TypeNext}
 use Rattle.ab_syntax.specs.declared.types.TypeNext.TheVariants as type_next
 use Rattle.ab_syntax.specs.declared.stop.Stop.{Stop}
@@ -81,8 +81,8 @@ abbrev pub type_frame_of : TypeFrame → machine.TypeFrame
 type_frame_of type_frame.Paren = machine.type_paren
 type_frame_of (type_frame.Arrow a) = machine.type_arrow (type_of a.value)
 
-abbrev pub type_frames_of : Vec TypeFrame Global → List machine.TypeFrame
-type_frames_of v = stack type_frame_of v.items
+abbrev pub type_frames_of : TypeFrames → List machine.TypeFrame
+type_frames_of v = stack type_frame_of v.items.items
 
 abbrev pub type_state : List machine.TypeFrame → TypeState → machine.TypeState
 type_state gs state.Want = machine.type_want gs
@@ -100,4 +100,4 @@ type_shut_of s gs = record { inner = type_of s.inner.value; below = below_type s
 abbrev pub IsTypeNext : machine.TypeState → Token → List machine.TypeFrame → TypeNext → Type 0
 IsTypeNext s k gs (type_next.On t) = machine.type_step s k ≡ Some (type_state gs t)
 IsTypeNext s k gs (type_next.Done a) = (machine.type_step s k ≡ None) × (machine.type_finish s ≡ Some (type_of a.value))
-IsTypeNext s k gs type_next.Wrong = (machine.type_step s k ≡ None) × ((machine.type_finish s ≡ None) ⊎ (Follower k → ⊥))
+IsTypeNext s k gs type_next.Wrong = (machine.type_step s k ≡ None) × ((machine.type_finish s ≡ None) ⊎ (Follower (Some k) → ⊥))

@@ -3,34 +3,34 @@ ghost use Rattle.std.specs.Prelude.{List, None, IfOk, map};
 ghost use Rattle.ab_grammar.specs.Grammar as grammar;
 ghost use Rattle.ab_grammar.proofs.Machine as machine;
 ghost use Rattle.ab_syntax.specs.Trees.{binder_of, type_of};
-ghost use Rattle.ab_syntax.specs.Reader.{seen, IsSpelled};
+ghost use Rattle.ab_syntax.specs.Reader.{seen};
 ghost use Rattle.ab_syntax.specs.Steps.{type_frames_of, type_state};
 ghost use Rattle.ab_syntax.specs.Frames.{frames_of};
 ghost use Rattle.ab_syntax.specs.States.{Says};
 
-use crate::frame::{Frame, Prefix, push};
+use crate::frame::{Frame, Frames, Prefix, push};
+use crate::kind::Kind;
 use crate::machine::{Next, State};
-use crate::text::{Kind, Seen, name_of};
+use crate::seen::Seen;
+use crate::text::name_of;
 use crate::tree::{Binder, TypeParse};
-use crate::types::{TypeFrame, TypeNext, TypeState, step_type};
+use crate::types::{TypeFrames, TypeNext, TypeState, step_type};
 use ab_name::Name;
-use std::alloc::{AllocError, Global};
+use std::alloc::AllocError;
 
 /// A token where a binder or a comma must come.
 pub(crate) fn step_binders(
-    alloc: Global,
-    frames: &mut Vec<Frame>,
+    frames: &mut Frames,
     prefix: Prefix,
     token: Seen<'_>,
 ) -> Result<Next, AllocError>
-    requires { IsSpelled token }
     ensures { IfOk result (λ r. Says (machine.step_binders (frames_of frames.old) prefix.quant prefix.place (map binder_of prefix.binders.items) (seen token.entry)) None (seen token.entry) (frames_of frames.new) r) }
 {
     let mut prefix = prefix;
     match token.kind {
         Kind::Word => {
             prefix.binders.push(Binder {
-                name: name_of(alloc, token)?,
+                name: name_of(frames.alloc, token)?,
                 ty: None,
                 place: token.place,
             })?;
@@ -45,43 +45,6 @@ pub(crate) fn step_binders(
             Ok(Next::On(State::Want))
         }
         _ => Ok(Next::Wrong),
-    }
-}
-
-/// A token where the name of a binder with a type must come.
-pub(crate) fn step_binder_name(
-    alloc: Global,
-    prefix: Prefix,
-    token: Seen<'_>,
-) -> Result<Next, AllocError>
-    requires { IsSpelled token }
-    ensures { IfOk result (λ r. (fs : List machine.Frame) → Says (machine.step_binder_name fs prefix.quant prefix.place (map binder_of prefix.binders.items) (seen token.entry)) None (seen token.entry) fs r) }
-{
-    match token.kind {
-        Kind::Word => Ok(Next::On(State::BinderColon(prefix, name_of(alloc, token)?, token.place))),
-        _ => Ok(Next::Wrong),
-    }
-}
-
-/// A token behind that name.
-pub(crate) fn step_binder_colon(
-    alloc: Global,
-    prefix: Prefix,
-    name: Name,
-    place: usize,
-    token: Seen<'_>,
-) -> Next
-    ensures { (fs : List machine.Frame) → Says (machine.step_binder_colon fs prefix.quant prefix.place (map binder_of prefix.binders.items) name place (seen token.entry)) None (seen token.entry) fs result }
-{
-    match token.kind {
-        Kind::Colon => Next::On(State::BinderType(
-            prefix,
-            name,
-            place,
-            Vec::new(alloc),
-            TypeState::Want,
-        )),
-        _ => Next::Wrong,
     }
 }
 
@@ -111,19 +74,17 @@ fn close_binder(
 
 /// A token where the type of a binder is read.
 pub(crate) fn step_binder_type(
-    alloc: Global,
     prefix: Prefix,
     name: Name,
     place: usize,
-    types: Vec<TypeFrame>,
+    types: TypeFrames,
     state: TypeState,
     token: Seen<'_>,
 ) -> Result<Next, AllocError>
-    requires { IsSpelled token }
     ensures { IfOk result (λ r. (fs : List machine.Frame) → Says (machine.step (machine.binder_type fs prefix.quant prefix.place (map binder_of prefix.binders.items) name place (type_state (type_frames_of types) state)) (seen token.entry)) None (seen token.entry) fs r) }
 {
     let mut types = types;
-    match step_type(alloc, &mut types, state, token)? {
+    match step_type(&mut types, state, token)? {
         TypeNext::On(state) => Ok(Next::On(State::BinderType(prefix, name, place, types, state))),
         TypeNext::Done(ty) => close_binder(prefix, name, place, ty, token),
         TypeNext::Wrong => Ok(Next::Wrong),

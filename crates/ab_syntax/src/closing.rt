@@ -8,10 +8,11 @@ ghost use Rattle.ab_syntax.specs.Frames.{bracket_of, frames_of};
 ghost use Rattle.ab_syntax.specs.States.{Says};
 
 use crate::build::boxed;
-use crate::frame::{Bracket, Context, Frame, push};
+use crate::frame::{Bracket, Context, Frame, Frames, push};
 use crate::items::Items;
+use crate::kind::Kind;
 use crate::machine::{Next, State};
-use crate::text::{Kind, Seen};
+use crate::seen::Seen;
 use crate::tree::Parse;
 use std::alloc::{AllocError, Global};
 
@@ -30,8 +31,7 @@ fn judge(
 
 /// Behind an item of a context.
 fn close_item(
-    alloc: Global,
-    frames: &mut Vec<Frame>,
+    frames: &mut Frames,
     context: Context,
     last: Box<Parse>,
     token: Seen<'_>,
@@ -50,7 +50,7 @@ fn close_item(
             Ok(Next::On(State::Want))
         }
         Kind::RightBrace if context.items.is_empty() => {
-            Ok(Next::On(State::Have(judge(alloc, context, None, last)?)))
+            Ok(Next::On(State::Have(judge(frames.alloc, context, None, last)?)))
         }
         _ => Ok(Next::Wrong),
     }
@@ -58,8 +58,7 @@ fn close_item(
 
 /// A token behind the last expression in a bracket.
 pub(crate) fn close(
-    alloc: Global,
-    frames: &mut Vec<Frame>,
+    frames: &mut Frames,
     bracket: Bracket,
     last: Box<Parse>,
     token: Seen<'_>,
@@ -75,13 +74,18 @@ pub(crate) fn close(
             Kind::RightParen => Ok(Next::On(State::Enclosed(last))),
             _ => Ok(Next::Wrong),
         },
-        Bracket::Item(context) => close_item(alloc, frames, context, last, token),
+        Bracket::Item(context) => close_item(frames, context, last, token),
         Bracket::Focus(context) => match token.kind {
             Kind::RightBracket => Ok(Next::On(State::FocusEnd(context, last))),
             _ => Ok(Next::Wrong),
         },
         Bracket::Goal(context, focus) => match token.kind {
-            Kind::RightBrace => Ok(Next::On(State::Have(judge(alloc, context, focus, last)?))),
+            Kind::RightBrace => Ok(Next::On(State::Have(judge(
+                frames.alloc,
+                context,
+                focus,
+                last,
+            )?))),
             _ => Ok(Next::Wrong),
         },
     }

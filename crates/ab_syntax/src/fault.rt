@@ -16,3 +16,14 @@ pub enum ParseFault {
     #[error("Memory")]
     Memory(AllocError),
 }
+
+impl From<AllocError> for ParseFault {
+    ghost use Rattle.std.specs.Prelude.{◌≡◌};
+    ghost use Rattle.ab_syntax.specs.declared.fault.ParseFault.TheVariants.{Memory};
+
+    ghost from_gives = { λ error fault. fault ≡ Memory error };
+
+    fn from(error: AllocError) -> ParseFault {
+        ParseFault::Memory(error)
+    }
+}

@@ -1,11 +1,9 @@
 //! What an expression that is being read stands in: a stack of what isn't finished yet.
 ghost use Rattle.std.specs.Prelude.{◌≡◌, ◌<◌, ◌∷◌, [], IfOk, MatchOption, vec_len};
 ghost use Rattle.ab_grammar.specs.Grammar as grammar;
-ghost use Rattle.ab_grammar.specs.Tree.{Tree};
 ghost use Rattle.ab_grammar.proofs.Machine as machine;
 ghost use Rattle.ab_syntax.specs.Trees.{tree_of};
-ghost use Rattle.ab_syntax.specs.Steps.{stack};
-ghost use Rattle.ab_syntax.specs.Frames.{frame_of, frames_of, reduced, shut_of, IsFate, IsTopFate, IsReduced, IsPopped};
+ghost use Rattle.ab_syntax.specs.Frames.{frame_of, frames_of, reduced, shut_of, IsFate, IsPopped};
 
 use crate::build::{apply, boxed, pi, place_of};
 use crate::items::Items;
@@ -54,6 +52,13 @@ pub(crate) enum Frame {
     Abs(Name, usize),
     Bind(Prefix),
     Bracket(Bracket),
+}
+
+/// What an operand stands in, the innermost last, and the memory for what is read.
+#[derive(Drop)]
+pub(crate) struct Frames {
+    pub(crate) alloc: Global,
+    pub(crate) items: Vec<Frame>,
 }
 
 /// An expression up to its innermost bracket, and that bracket, if there is one.
@@ -109,21 +114,31 @@ fn right(sign: Infix) -> usize
     }
 }
 
+/// No frames.
+pub(crate) fn no_frames(alloc: Global) -> Frames
+    ensures { frames_of result ≡ [] }
+{
+    Frames {
+        alloc,
+        items: Vec::new(alloc),
+    }
+}
+
 /// Puts a frame on top.
-pub(crate) fn push(frames: &mut Vec<Frame>, frame: Frame) -> Result<(), AllocError>
+pub(crate) fn push(frames: &mut Frames, frame: Frame) -> Result<(), AllocError>
     ensures { IfOk result (λ r. frames_of frames.new ≡ frame_of frame ∷ frames_of frames.old) }
 {
-    frames.push(frame)?;
+    frames.items.push(frame)?;
     Ok(())
 }
 
 /// Takes the innermost frame.
 #[tactic(auto, using(crate::proofs::Stacks::top))]
-fn take_frame(frames: &mut Vec<Frame>) -> Option<Frame>
+fn take_frame(frames: &mut Frames) -> Option<Frame>
     ensures top { MatchOption result (frames_of frames.old ≡ []) (λ x. frames_of frames.old ≡ frame_of x ∷ frames_of frames.new) }
-    ensures fewer { MatchOption result (vec_len frames.new ≡ 0) (λ _. vec_len frames.new < vec_len frames.old) }
+    ensures fewer { MatchOption result (vec_len frames.new.items ≡ 0) (λ _. vec_len frames.new.items < vec_len frames.old.items) }
 {
-    match frames.pop() {
+    match frames.items.pop() {
         Some(frame) => Some(frame),
         None => None,
     }
@@ -152,26 +167,20 @@ fn reduce(alloc: Global, frame: Frame, operand: Box<Parse>) -> Result<Box<Parse>
     }
 }
 
-/// What becomes of a sign where another comes.
-#[tactic(auto, using(crate::proofs::Signs::pop_pushes, crate::proofs::Signs::pop_stops, crate::proofs::Signs::pop_joins))]
-fn sign_fate(other: Infix, sign: Infix) -> Fate
-    ensures { (before : Tree) → IsFate sign (machine.infix_at other before) result }
-{
-    if right(other) <= level(sign) {
-        return Fate::Stays;
-    }
-    if level(other) < left(sign) {
-        return Fate::Refuses;
-    }
-    Fate::Reduces
-}
-
 /// What becomes of a frame where a sign comes.
-fn frame_fate(frame: &Frame, sign: Infix) -> Fate
+fn fate_of(frame: &Frame, sign: Infix) -> Fate
     ensures { IsFate sign (frame_of frame.now) result }
 {
     match frame {
-        Frame::Infix(other, _) => sign_fate(*other, sign),
+        Frame::Infix(other, _) => {
+            if right(*other) <= level(sign) {
+                return Fate::Stays;
+            }
+            if level(*other) < left(sign) {
+                return Fate::Refuses;
+            }
+            Fate::Reduces
+        }
         Frame::Args(_, _) => Fate::Reduces,
         Frame::Pi(_) => Fate::Reduces,
         Frame::Bracket(Bracket::PiParen) => Fate::Refuses,
@@ -181,60 +190,30 @@ fn frame_fate(frame: &Frame, sign: Infix) -> Fate
     }
 }
 
-/// What becomes of the innermost frame where a sign comes; where there is none, the sign can come.
-fn top_fate(frames: &[Frame], sign: Infix) -> Fate
-    ensures { IsTopFate sign (stack frame_of frames.now) result }
-{
-    match frames.last() {
-        Some(frame) => frame_fate(frame, sign),
-        None => Fate::Stays,
-    }
-}
-
-/// What an operand is the last part of, in the innermost frame, which is taken away.
-fn reduce_top(
-    alloc: Global,
-    frames: &mut Vec<Frame>,
-    operand: Box<Parse>,
-) -> Result<Box<Parse>, AllocError>
-    ensures { IfOk result (λ r. IsReduced (frames_of frames.old) (tree_of operand.value) (frames_of frames.new) (tree_of r.value)) }
-{
-    match take_frame(frames) {
-        Some(frame) => reduce(alloc, frame, operand),
-        None => Ok(operand),
-    }
-}
-
 /// Puts a sign behind an operand, or behind what it is the last part of, if a sign can stand there.
-pub(crate) fn pop(
-    alloc: Global,
-    sign: Infix,
-    operand: Box<Parse>,
-    frames: &mut Vec<Frame>,
-) -> Result<bool, AllocError>
+pub(crate) fn pop(sign: Infix, operand: Box<Parse>, frames: &mut Frames) -> Result<bool, AllocError>
     ensures { IfOk result (λ r. IsPopped (machine.pop sign (tree_of operand.value) (frames_of frames.old)) (frames_of frames.new) r) }
 {
     let mut operand = operand;
-    loop {
-        match top_fate(frames.as_slice(), sign) {
+    while let Some(frame) = take_frame(frames) {
+        match fate_of(&frame, sign) {
             Fate::Stays => {
+                push(frames, frame)?;
                 push(frames, Frame::Infix(sign, operand))?;
                 return Ok(true);
             }
             Fate::Refuses => return Ok(false),
             Fate::Reduces => {
-                operand = reduce_top(alloc, frames, operand)?;
+                operand = reduce(frames.alloc, frame, operand)?;
             }
         }
     }
+    push(frames, Frame::Infix(sign, operand))?;
+    Ok(true)
 }
 
 /// The expression up to the innermost bracket, which is taken away.
-pub(crate) fn shut(
-    alloc: Global,
-    frames: &mut Vec<Frame>,
-    last: Box<Parse>,
-) -> Result<Inside, AllocError>
+pub(crate) fn shut(frames: &mut Frames, last: Box<Parse>) -> Result<Inside, AllocError>
     ensures { IfOk result (λ r. machine.shut (tree_of last.value) (frames_of frames.old) ≡ shut_of r (frames_of frames.new)) }
 {
     let mut inner = last;
@@ -245,7 +224,7 @@ pub(crate) fn shut(
                 return Ok(Inside { inner, bracket });
             }
             Some(frame) => {
-                inner = reduce(alloc, frame, inner)?;
+                inner = reduce(frames.alloc, frame, inner)?;
             }
             None => {
                 let bracket = None;
@@ -256,11 +235,7 @@ pub(crate) fn shut(
 }
 
 /// Goes where the argument behind a head, or behind another argument, is read.
-pub(crate) fn grow(
-    alloc: Global,
-    frames: &mut Vec<Frame>,
-    last: Box<Parse>,
-) -> Result<(), AllocError>
+pub(crate) fn grow(frames: &mut Frames, last: Box<Parse>) -> Result<(), AllocError>
     ensures { IfOk result (λ r. frames_of frames.new ≡ machine.grow (frames_of frames.old) (tree_of last.value)) }
 {
     match take_frame(frames) {
@@ -270,8 +245,8 @@ pub(crate) fn grow(
         }
         Some(frame) => {
             push(frames, frame)?;
-            push(frames, Frame::Args(last, Vec::new(alloc)))
+            push(frames, Frame::Args(last, Vec::new(frames.alloc)))
         }
-        None => push(frames, Frame::Args(last, Vec::new(alloc))),
+        None => push(frames, Frame::Args(last, Vec::new(frames.alloc))),
     }
 }

@@ -1,19 +1,16 @@
 //! The forms of one token that commands have.
-ghost use Rattle.std.specs.Prelude.{◌≡◌, ◌≤◌, ◌↔◌, ℕ, List, length, IsTrue, IfOk};
-ghost use Rattle.ab_grammar.specs.Token.{word as word_token, first};
-ghost use Rattle.ab_grammar.proofs.Following.{Anything};
+ghost use Rattle.std.specs.Prelude.{◌≡◌, ℕ, List};
 ghost use Rattle.ab_grammar.specs.CommandTrees as tree;
-ghost use Rattle.ab_grammar.specs.CommandTable.{Word as WordForm, ShowsName, ShowsDeclared, ShowsNominal, ShowsArgument, ShowsNumber, ShowsDepth, ShowsText, StandsAnywhere};
+ghost use Rattle.ab_grammar.specs.CommandTable.{ShowsName, ShowsDeclared, ShowsNominal, ShowsArgument, ShowsNumber, ShowsDepth, ShowsText};
 ghost use Rattle.ab_grammar.proofs.Shown.{one_name, name_example, one_declared, declared_example, one_nominal, nominal_example, one_argument, argument_example, one_number, number_example, one_depth, depth_example, one_text, text_example};
 ghost use Rattle.ab_syntax.specs.Commands.{argument_of};
-ghost use Rattle.ab_syntax.specs.Reader.{IsText, rest, Found};
-ghost use Rattle.ab_syntax.specs.Tokens.{unquoted};
 
 use crate::command::Argument;
+use crate::kind::Kind;
 use crate::numbers::{is_declarable, nominal, value};
+use crate::seen::Seen;
 use crate::shown::Shown;
-use crate::stop::Stop;
-use crate::text::{Kind, Text, peek, spell, word, written_at};
+use crate::text::{name_of, spell};
 use ab_name::Name;
 use std::alloc::{AllocError, Global};
 
@@ -29,9 +26,9 @@ impl Shown for AnyName {
 
     ghost meant = { λ name. name };
 
-    fn seen(alloc: Global, text: &Text<'_>, here: usize) -> Result<Option<Name>, AllocError> {
-        match peek(text, here) {
-            Kind::Word => Ok(Some(word(alloc, text, here)?)),
+    fn shown(alloc: Global, token: Seen<'_>) -> Result<Option<Name>, AllocError> {
+        match token.kind {
+            Kind::Word => Ok(Some(name_of(alloc, token)?)),
             _ => Ok(None),
         }
     }
@@ -53,11 +50,9 @@ impl Shown for DeclaredName {
 
     ghost meant = { λ name. name };
 
-    fn seen(alloc: Global, text: &Text<'_>, here: usize) -> Result<Option<Name>, AllocError> {
-        match peek(text, here) {
-            Kind::Word if is_declarable(written_at(text, here)) => {
-                Ok(Some(word(alloc, text, here)?))
-            }
+    fn shown(alloc: Global, token: Seen<'_>) -> Result<Option<Name>, AllocError> {
+        match token.kind {
+            Kind::Word if is_declarable(token.written) => Ok(Some(name_of(alloc, token)?)),
             _ => Ok(None),
         }
     }
@@ -79,9 +74,9 @@ impl Shown for NominalName {
 
     ghost meant = { λ n. n };
 
-    fn seen(_alloc: Global, text: &Text<'_>, here: usize) -> Result<Option<u32>, AllocError> {
-        match peek(text, here) {
-            Kind::Word => Ok(nominal(written_at(text, here))),
+    fn shown(_alloc: Global, token: Seen<'_>) -> Result<Option<u32>, AllocError> {
+        match token.kind {
+            Kind::Word => Ok(nominal(token.written)),
             _ => Ok(None),
         }
     }
@@ -100,10 +95,10 @@ impl Shown for Argument {
 
     ghost meant = { argument_of };
 
-    fn seen(alloc: Global, text: &Text<'_>, here: usize) -> Result<Option<Argument>, AllocError> {
-        match peek(text, here) {
-            Kind::Word if written_at(text, here) == b"_".as_slice() => Ok(Some(Argument::Hole)),
-            Kind::Word => Ok(Some(Argument::Named(word(alloc, text, here)?))),
+    fn shown(alloc: Global, token: Seen<'_>) -> Result<Option<Argument>, AllocError> {
+        match token.kind {
+            Kind::Word if token.written == b"_".as_slice() => Ok(Some(Argument::Hole)),
+            Kind::Word => Ok(Some(Argument::Named(name_of(alloc, token)?))),
             _ => Ok(None),
         }
     }
@@ -125,9 +120,9 @@ impl Shown for Number {
 
     ghost meant = { λ n. n };
 
-    fn seen(_alloc: Global, text: &Text<'_>, here: usize) -> Result<Option<u32>, AllocError> {
-        match peek(text, here) {
-            Kind::Number => Ok(Some(value(written_at(text, here)))),
+    fn shown(_alloc: Global, token: Seen<'_>) -> Result<Option<u32>, AllocError> {
+        match token.kind {
+            Kind::Number => Ok(Some(value(token.written))),
             _ => Ok(None),
         }
     }
@@ -149,9 +144,15 @@ impl Shown for Depth {
 
     ghost meant = { λ n. n };
 
-    fn seen(alloc: Global, text: &Text<'_>, here: usize) -> Result<Option<u32>, AllocError> {
-        match Number::seen(alloc, text, here)? {
-            Some(depth) if depth <= 1000 => Ok(Some(depth)),
+    fn shown(_alloc: Global, token: Seen<'_>) -> Result<Option<u32>, AllocError> {
+        match token.kind {
+            Kind::Number => {
+                let depth = value(token.written);
+                if depth > 1000 {
+                    return Ok(None);
+                }
+                Ok(Some(depth))
+            }
             _ => Ok(None),
         }
     }
@@ -159,14 +160,6 @@ impl Shown for Depth {
     ghost one = { one_depth };
 
     ghost example = { depth_example };
-}
-
-/// What stands between quotes.
-fn inner(quoted: &[u8]) -> &[u8]
-    requires { 2 ≤ length quoted.now }
-    ensures { result.now ≡ unquoted quoted.now }
-{
-    &quoted[1..quoted.len() - 1]
 }
 
 /// A quoted text, without its quotes.
@@ -181,9 +174,12 @@ impl Shown for Quoted {
 
     ghost meant = { λ name. name };
 
-    fn seen(alloc: Global, text: &Text<'_>, here: usize) -> Result<Option<Name>, AllocError> {
-        match peek(text, here) {
-            Kind::Text => Ok(Some(spell(alloc, inner(written_at(text, here)))?)),
+    fn shown(alloc: Global, token: Seen<'_>) -> Result<Option<Name>, AllocError> {
+        match token.kind {
+            Kind::Text => {
+                let inner = &token.written[1..token.written.len() - 1];
+                Ok(Some(spell(alloc, inner)?))
+            }
             _ => Ok(None),
         }
     }
@@ -191,21 +187,4 @@ impl Shown for Quoted {
     ghost one = { one_text };
 
     ghost example = { text_example };
-}
-
-/// Takes the next token, if it is this word.
-pub(crate) fn keyword(text: &Text<'_>, here: &mut usize, expected: &[u8]) -> Result<(), Stop>
-    requires { IsText text.now }
-    ensures { Found (WordForm expected.now) Anything (λ u. u) (rest text.now here.old) (rest text.now here.new) result }
-{
-    match peek(text, *here) {
-        Kind::Word => {
-            if written_at(text, *here) != expected {
-                return Err(Stop::Syntax);
-            }
-            *here += 1;
-            Ok(())
-        }
-        _ => Err(Stop::Syntax),
-    }
 }

@@ -2,7 +2,6 @@
 #![tactic(auto)]
 
 mod answer;
-mod argument;
 pub mod below;
 mod binding;
 mod block;
@@ -13,8 +12,8 @@ mod expression;
 mod fault;
 mod form;
 mod frame;
-mod instance;
 mod items;
+mod kind;
 mod leaf;
 mod list;
 mod machine;
@@ -25,13 +24,13 @@ mod parser;
 mod part;
 mod proof_row;
 mod row;
+mod seen;
 mod shown;
 mod step;
 mod stop;
 mod text;
 mod tree;
 mod types;
-mod whole;
 mod words;
 
 pub use ab_grammar::{Infix, Quant, Stand};
@@ -43,8 +42,3 @@ pub use parser::{
     parse_command, parse_command_from, parse_expr, parse_expr_from, parse_type, parse_type_from,
 };
 pub use tree::{Binder, Parse, TypeParse};
-
-#[cfg(test)]
-mod command_tests;
-#[cfg(test)]
-mod expression_tests;

@@ -2,15 +2,17 @@
 ghost use Rattle.std.specs.Prelude.{◌≡◌, List, [], None, IfOk, map};
 ghost use Rattle.ab_grammar.proofs.Machine as machine;
 ghost use Rattle.ab_syntax.specs.Trees.{tree_of};
-ghost use Rattle.ab_syntax.specs.Reader.{seen, IsSpelled};
+ghost use Rattle.ab_syntax.specs.Reader.{seen};
 ghost use Rattle.ab_syntax.specs.Frames.{frames_of};
 ghost use Rattle.ab_syntax.specs.States.{state_in, Says};
 
 use crate::build::boxed;
-use crate::frame::{Bracket, Context, Frame, Prefix, push};
-use crate::text::{Kind, Seen, name_of};
+use crate::frame::{Bracket, Context, Frame, Frames, Prefix, push};
+use crate::kind::Kind;
+use crate::seen::Seen;
+use crate::text::name_of;
 use crate::tree::Parse;
-use crate::types::{TypeFrame, TypeState};
+use crate::types::{TypeFrames, TypeState};
 use ab_grammar::Quant;
 use ab_name::Name;
 use std::alloc::{AllocError, Global};
@@ -41,7 +43,7 @@ pub(crate) enum State {
     /// That name stands there.
     BinderColon(Prefix, Name, usize),
     /// That name's type is read.
-    BinderType(Prefix, Name, usize, Vec<TypeFrame>, TypeState),
+    BinderType(Prefix, Name, usize, TypeFrames, TypeState),
 }
 
 /// What a token does.
@@ -67,19 +69,14 @@ fn prefix(alloc: Global, quant: Quant, place: usize) -> State
 }
 
 /// A token where an argument may begin.
-pub(crate) fn start_argument(
-    alloc: Global,
-    frames: &mut Vec<Frame>,
-    token: Seen<'_>,
-) -> Result<Next, AllocError>
-    requires { IsSpelled token }
+pub(crate) fn start_argument(frames: &mut Frames, token: Seen<'_>) -> Result<Next, AllocError>
     ensures { IfOk result (λ r. Says (machine.starts (frames_of frames.old) (seen token.entry)) None (seen token.entry) (frames_of frames.new) r) }
 {
     match token.kind {
-        Kind::Word => Ok(Next::On(State::Alone(name_of(alloc, token)?, token.place))),
+        Kind::Word => Ok(Next::On(State::Alone(name_of(frames.alloc, token)?, token.place))),
         Kind::Truth => {
-            let name = name_of(alloc, token)?;
-            let operand = boxed(alloc, Parse::Name(name, token.place))?;
+            let name = name_of(frames.alloc, token)?;
+            let operand = boxed(frames.alloc, Parse::Name(name, token.place))?;
             Ok(Next::On(State::Have(operand)))
         }
         Kind::LeftParen => {
@@ -88,22 +85,17 @@ pub(crate) fn start_argument(
         }
         Kind::LeftBrace => Ok(Next::On(State::Item(Context {
             place: token.place,
-            items: Vec::new(alloc),
+            items: Vec::new(frames.alloc),
         }))),
-        Kind::Forall => Ok(Next::On(prefix(alloc, Quant::Forall, token.place))),
-        Kind::Exists => Ok(Next::On(prefix(alloc, Quant::Exists, token.place))),
-        Kind::Nabla => Ok(Next::On(prefix(alloc, Quant::Nabla, token.place))),
+        Kind::Forall => Ok(Next::On(prefix(frames.alloc, Quant::Forall, token.place))),
+        Kind::Exists => Ok(Next::On(prefix(frames.alloc, Quant::Exists, token.place))),
+        Kind::Nabla => Ok(Next::On(prefix(frames.alloc, Quant::Nabla, token.place))),
         _ => Ok(Next::Wrong),
     }
 }
 
 /// A token where an operand may begin.
-pub(crate) fn start_operand(
-    alloc: Global,
-    frames: &mut Vec<Frame>,
-    token: Seen<'_>,
-) -> Result<Next, AllocError>
-    requires { IsSpelled token }
+pub(crate) fn start_operand(frames: &mut Frames, token: Seen<'_>) -> Result<Next, AllocError>
     ensures { IfOk result (λ r. Says (machine.starts_operand (frames_of frames.old) (seen token.entry)) None (seen token.entry) (frames_of frames.new) r) }
 {
     match token.kind {
@@ -111,18 +103,16 @@ pub(crate) fn start_operand(
             push(frames, Frame::Pi(token.place))?;
             Ok(Next::On(State::PiWant))
         }
-        _ => start_argument(alloc, frames, token),
+        _ => start_argument(frames, token),
     }
 }
 
 /// A token where an item of a judgement may begin.
 pub(crate) fn start_item(
-    alloc: Global,
-    frames: &mut Vec<Frame>,
+    frames: &mut Frames,
     context: Context,
     token: Seen<'_>,
 ) -> Result<Next, AllocError>
-    requires { IsSpelled token }
     ensures { IfOk result (λ r. Says (machine.starts_item (frames_of frames.old) context.place (map tree_of context.items.items) (seen token.entry)) None (seen token.entry) (frames_of frames.new) r) }
 {
     match token.kind {
@@ -132,7 +122,7 @@ pub(crate) fn start_item(
         }
         _ => {
             push(frames, Frame::Bracket(Bracket::Item(context)))?;
-            start_operand(alloc, frames, token)
+            start_operand(frames, token)
         }
     }
 }

@@ -2,11 +2,11 @@
 ghost use Rattle.std.specs.Prelude.{◌≡◌, ◌≤◌, ◌∷◌, ℕ, List, IfOk, IfErr};
 ghost use Rattle.ab_grammar.specs.Nesting.{nest as nest_by, outside as outside_all, naming_in, limit};
 ghost use Rattle.ab_grammar.specs.Token as Grammatical;
-ghost use Rattle.ab_syntax.specs.Reader.{meaning};
+ghost use Rattle.ab_syntax.specs.Kinds.{meaning};
 ghost use Rattle.ab_syntax.specs.Steps.{layer_of, layers_of, stack, IsMeasured, IsTooDeep};
 
+use crate::kind::Kind;
 use crate::stop::Stop;
-use crate::text::Kind;
 use std::alloc::{AllocError, Global};
 
 /// The deepest nesting that a token may have.

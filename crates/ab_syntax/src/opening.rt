@@ -1,16 +1,17 @@
 //! What the first tokens of a command say of it, and so where it stands.
-ghost use Rattle.std.specs.Prelude.{◌≡◌, ◌≢◌, ◌↔◌, ℕ, List, MatchOption, Some};
+ghost use Rattle.std.specs.Prelude.{◌≡◌, ◌↔◌, ℕ, List, Some};
 ghost use Rattle.ab_lex.specs.Tokens.{TokensOf};
-ghost use Rattle.ab_grammar.specs.Token.{word, colon, first};
+ghost use Rattle.ab_grammar.specs.Token.{word};
 ghost use Rattle.ab_grammar.specs.CommandTable.{stand_of as stand_of_head, StandsAt};
 ghost use Rattle.ab_grammar.specs.declared.head.Stand.{Stand};
-ghost use Rattle.ab_grammar.specs.declared.head.Stand.TheVariants.{Inside};
 ghost use Rattle.ab_syntax.specs.Tokens.{StandIn, tokens_from, tokens_in};
-ghost use Rattle.ab_syntax.specs.Reader.{IsText, written, rest};
-ghost use Rattle.ab_syntax.specs.Openings.{IsOpening};
+ghost use Rattle.ab_syntax.specs.Reader.{seen, rest};
+ghost use Rattle.ab_syntax.specs.Openings.{IsOpening, IsOpeningAt};
 
-use crate::text::{Kind, Text, is_next, peek, written_at};
-use crate::whole::origin;
+use crate::kind::Kind;
+use crate::parser::origin;
+use crate::seen::Seen;
+use crate::text::{Text, next, see};
 use crate::words::{command_head, proof_head};
 use ab_grammar::{Head, ProofHead, Stand};
 use ab_lex::Token;
@@ -45,17 +46,26 @@ fn word_opening(written: &[u8]) -> Opening
     }
 }
 
-/// What the next token says of a command that it begins.
-pub(crate) fn opening_at(text: &Text<'_>, here: usize) -> Opening
-    requires { IsText text.now }
-    ensures { IsOpening (first (rest text.now here)) (written text.now here) result }
+/// What a token says of a command that it begins.
+pub(crate) fn opening_of(token: Seen<'_>) -> Opening
+    ensures { IsOpening (seen token.entry) token.entry.written.now result }
 {
-    match peek(text, here) {
-        Kind::Word => word_opening(written_at(text, here)),
+    match token.kind {
+        Kind::Word => word_opening(token.written),
         Kind::Exists => Opening::Proof(ProofHead::Exists),
         Kind::Back => Opening::Plain(Head::Back),
         Kind::Reset => Opening::Plain(Head::Reset),
         _ => Opening::Nothing,
+    }
+}
+
+/// What the next token says of a command that it begins.
+pub(crate) fn opening_at(text: &Text<'_>, here: usize) -> Opening
+    ensures { IsOpeningAt (rest text.now here) result }
+{
+    match next(text, here) {
+        Some(token) => opening_of(token),
+        None => Opening::Nothing,
     }
 }
 
@@ -80,15 +90,19 @@ pub fn stand_of_from(bytes: &[u8], tokens: &[Token], origin: usize) -> Option<St
     requires { StandIn bytes.now origin tokens.now }
     ensures { (s : Stand) → (result ≡ Some s) ↔ StandsAt (tokens_from bytes.now origin tokens.now) s }
 {
-    let text = Text {
-        bytes,
-        tokens,
-        origin,
-    };
-    match opening_at(&text, 0) {
+    if tokens.is_empty() {
+        return None;
+    }
+    match opening_of(see(bytes, origin, tokens[0])) {
         Opening::Plain(head) => Some(stand(head)),
         Opening::Proof(_) => Some(Stand::Inside),
-        Opening::Label => label_stand(&text),
+        Opening::Label => {
+            if tokens.len() > 1 && see(bytes, origin, tokens[1]).kind == Kind::Colon {
+                Some(Stand::Inside)
+            } else {
+                None
+            }
+        }
         Opening::Nothing => None,
     }
 }
@@ -99,17 +113,4 @@ pub fn stand_of(bytes: &[u8], tokens: &[Token]) -> Option<Stand>
     ensures { (s : Stand) → (result ≡ Some s) ↔ StandsAt (tokens_in bytes.now tokens.now) s }
 {
     stand_of_from(bytes, tokens, origin(tokens))
-}
-
-/// Where a command that begins with a label stands, if a colon is behind the label.
-fn label_stand(text: &Text<'_>) -> Option<Stand>
-    requires { IsText text.now }
-    ensures { MatchOption result (first (rest text.now 1) ≢ colon)
-        (λ s. (s ≡ Inside) × (first (rest text.now 1) ≡ colon)) }
-{
-    if is_next(text, 1, Kind::Colon) {
-        Some(Stand::Inside)
-    } else {
-        None
-    }
 }

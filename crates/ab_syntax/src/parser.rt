@@ -3,22 +3,32 @@ ghost use Rattle.std.specs.Prelude.{◌≡◌, ℕ, IfOk};
 ghost use Rattle.ab_lex.specs.Tokens.{TokensOf};
 ghost use Rattle.ab_grammar.specs.Language.{Expression, TypeExpression, Accepted, SyntaxAt, TooNestedAt};
 ghost use Rattle.ab_grammar.specs.CommandTable.{CommandText};
-ghost use Rattle.ab_syntax.specs.Tokens.{StandIn, tokens_from, tokens_in};
+ghost use Rattle.ab_syntax.specs.Tokens.{StandIn, origin_of, tokens_from, tokens_in};
 ghost use Rattle.ab_syntax.specs.Commands.{command_of};
 ghost use Rattle.ab_syntax.specs.Trees.{tree_of, type_of};
 ghost use Rattle.ab_syntax.specs.Faults.{place_past, fault_place, nested_from, nested_place, IsCommandPlaceFrom, IsCommandPlace};
 
-use crate::answer::{command_fault, complete, fault};
+use crate::answer::{complete, fault, told};
 use crate::command::Command;
 use crate::expression::read_expression;
 use crate::fault::ParseFault;
 use crate::form::read_command;
-use crate::text::Text;
+use crate::stop::Stop;
+use crate::text::{Source, Text, see_all};
 use crate::tree::{Parse, TypeParse};
 use crate::types::read_type;
-use crate::whole::origin;
 use ab_lex::Token;
 use std::alloc::Global;
+
+/// Where the first token begins.
+pub(crate) fn origin(tokens: &[Token]) -> usize
+    ensures { result ≡ origin_of tokens.now }
+{
+    match tokens {
+        [first, ..] => first.span.start,
+        [] => 0,
+    }
+}
 
 /// Reads an expression, which is all of some tokens of the bytes. Places are counted from `origin`.
 pub fn parse_expr_from(
@@ -37,16 +47,21 @@ pub fn parse_expr_from(
     ensures nested { (place : ℕ) → result ≡ Err (ParseFault.TooNested place)
         → (i : ℕ) × TooNestedAt Expression (tokens_from bytes.now origin tokens.now) i × (place ≡ nested_from bytes.now origin tokens.now i) }
 {
-    let text = Text {
+    let source = Source {
         bytes,
         tokens,
         origin,
     };
+    let seen = see_all(alloc, &source)?;
+    let text = Text {
+        alloc,
+        tokens: &seen,
+    };
     let mut here = 0;
-    let found = read_expression(alloc, &text, &mut here);
+    let found = read_expression(&text, &mut here);
     match complete(&text, here, found) {
         Ok(parse) => Ok(parse),
-        Err(stop) => Err(fault(&text, here, stop)),
+        Err(stop) => Err(fault(&source, &text, here, stop)),
     }
 }
 
@@ -79,16 +94,21 @@ pub fn parse_type_from(
     ensures nested { (place : ℕ) → result ≡ Err (ParseFault.TooNested place)
         → (i : ℕ) × TooNestedAt TypeExpression (tokens_from bytes.now origin tokens.now) i × (place ≡ nested_from bytes.now origin tokens.now i) }
 {
-    let text = Text {
+    let source = Source {
         bytes,
         tokens,
         origin,
     };
+    let seen = see_all(alloc, &source)?;
+    let text = Text {
+        alloc,
+        tokens: &seen,
+    };
     let mut here = 0;
-    let found = read_type(alloc, &text, &mut here);
+    let found = read_type(&text, &mut here);
     match complete(&text, here, found) {
         Ok(parse) => Ok(parse),
-        Err(stop) => Err(fault(&text, here, stop)),
+        Err(stop) => Err(fault(&source, &text, here, stop)),
     }
 }
 
@@ -121,16 +141,24 @@ pub fn parse_command_from(
     ensures nested { (place : ℕ) → result ≡ Err (ParseFault.TooNested place)
         → (i : ℕ) × TooNestedAt CommandText (tokens_from bytes.now origin tokens.now) i × (place ≡ nested_from bytes.now origin tokens.now i) }
 {
-    let text = Text {
+    let source = Source {
         bytes,
         tokens,
         origin,
     };
+    let seen = see_all(alloc, &source)?;
+    let text = Text {
+        alloc,
+        tokens: &seen,
+    };
     let mut here = 0;
-    let found = read_command(alloc, &text, &mut here);
+    let found = read_command(&text, &mut here);
     match complete(&text, here, found) {
         Ok(command) => Ok(command),
-        Err(stop) => Err(command_fault(&text, here, stop)),
+        Err(stop) => match stop {
+            Stop::Syntax => Err(fault(&source, &text, told(&text, here), stop)),
+            _ => Err(fault(&source, &text, here, stop)),
+        },
     }
 }
 

@@ -5,24 +5,23 @@ ghost use Rattle.ab_grammar.specs.CommandForms.{One, Optional};
 ghost use Rattle.ab_grammar.proofs.Following.{BeforeStop};
 ghost use Rattle.ab_grammar.specs.CommandTable.{Keep, ShowsDepth, ProofRow};
 ghost use Rattle.ab_syntax.specs.Commands.{proof_command_of};
-ghost use Rattle.ab_syntax.specs.Reader.{IsText, rest, Found};
+ghost use Rattle.ab_syntax.specs.Reader.{rest, Found};
 
-use crate::argument::{nominals, optional_arguments};
 use crate::command::{Instance, ProofCommand};
 use crate::expression::read_expression;
-use crate::instance::optional_instances;
-use crate::leaf::{AnyName, Depth, Number, keyword};
+use crate::kind::Kind;
+use crate::leaf::{AnyName, Depth, Number};
 use crate::list::items;
-use crate::part::{name_and, optional_name, takes};
+use crate::part::{
+    keyword, name, name_and, nominals, optional_arguments, optional_instances, optional_name,
+};
 use crate::shown::{take, take_all, take_some};
 use crate::stop::Stop;
-use crate::text::{Kind, Text, expect, is_next, name};
+use crate::text::{Text, expect, is_next, takes};
 use ab_grammar::ProofHead;
-use std::alloc::Global;
 
 /// Reads `( keep )`, where that is there.
 fn optional_keep(text: &Text<'_>, here: &mut usize) -> Result<bool, Stop>
-    requires { IsText text.now }
     ensures { Found (Optional false Keep) BeforeStop (λ keep. keep) (rest text.now here.old) (rest text.now here.new) result }
 {
     if takes(text, here, Kind::LeftParen) {
@@ -34,84 +33,75 @@ fn optional_keep(text: &Text<'_>, here: &mut usize) -> Result<bool, Stop>
 }
 
 /// Reads a depth, where one is there.
-fn optional_depth(alloc: Global, text: &Text<'_>, here: &mut usize) -> Result<u32, Stop>
-    requires { IsText text.now }
+fn optional_depth(text: &Text<'_>, here: &mut usize) -> Result<u32, Stop>
     ensures { Found (Optional 5 (One ShowsDepth)) BeforeStop (λ n. n) (rest text.now here.old) (rest text.now here.new) result }
 {
     if is_next(text, *here, Kind::Stop) {
         return Ok(5);
     }
-    take::<Depth>(alloc, text, here)
+    take::<Depth>(text, here)
 }
 
 /// Reads `on n`.
-fn induction(alloc: Global, text: &Text<'_>, here: &mut usize) -> Result<ProofCommand, Stop>
-    requires { IsText text.now }
+fn induction(text: &Text<'_>, here: &mut usize) -> Result<ProofCommand, Stop>
     ensures { Found (ProofRow head.Induction) BeforeStop proof_command_of (rest text.now here.old) (rest text.now here.new) result }
 {
     expect(text, here, Kind::On)?;
-    Ok(ProofCommand::Induction(take::<Number>(alloc, text, here)?))
+    Ok(ProofCommand::Induction(take::<Number>(text, here)?))
 }
 
 /// Reads `H` or `H (keep)`.
-fn case(alloc: Global, text: &Text<'_>, here: &mut usize) -> Result<ProofCommand, Stop>
-    requires { IsText text.now }
+fn case(text: &Text<'_>, here: &mut usize) -> Result<ProofCommand, Stop>
     ensures { Found (ProofRow head.Case) BeforeStop proof_command_of (rest text.now here.old) (rest text.now here.new) result }
 {
-    let name = name(alloc, text, here)?;
+    let name = name(text, here)?;
     Ok(ProofCommand::Case(name, optional_keep(text, here)?))
 }
 
 /// Reads `H to a .. with X = e, ..`.
-fn apply(alloc: Global, text: &Text<'_>, here: &mut usize) -> Result<ProofCommand, Stop>
-    requires { IsText text.now }
+fn apply(text: &Text<'_>, here: &mut usize) -> Result<ProofCommand, Stop>
     ensures { Found (ProofRow head.Apply) BeforeStop proof_command_of (rest text.now here.old) (rest text.now here.new) result }
 {
-    let name = name(alloc, text, here)?;
-    let arguments = optional_arguments(alloc, text, here)?;
-    let instances = optional_instances(alloc, text, here)?;
+    let name = name(text, here)?;
+    let arguments = optional_arguments(text, here)?;
+    let instances = optional_instances(text, here)?;
     Ok(ProofCommand::Apply(name, arguments, instances))
 }
 
 /// Reads `H with X = e, ..`.
-fn backchain(alloc: Global, text: &Text<'_>, here: &mut usize) -> Result<ProofCommand, Stop>
-    requires { IsText text.now }
+fn backchain(text: &Text<'_>, here: &mut usize) -> Result<ProofCommand, Stop>
     ensures { Found (ProofRow head.Backchain) BeforeStop proof_command_of (rest text.now here.old) (rest text.now here.new) result }
 {
-    let name = name(alloc, text, here)?;
-    Ok(ProofCommand::Backchain(name, optional_instances(alloc, text, here)?))
+    let name = name(text, here)?;
+    Ok(ProofCommand::Backchain(name, optional_instances(text, here)?))
 }
 
 /// Reads `H with K`.
-fn cut(alloc: Global, text: &Text<'_>, here: &mut usize) -> Result<ProofCommand, Stop>
-    requires { IsText text.now }
+fn cut(text: &Text<'_>, here: &mut usize) -> Result<ProofCommand, Stop>
     ensures { Found (ProofRow head.Cut) BeforeStop proof_command_of (rest text.now here.old) (rest text.now here.new) result }
 {
-    let cut = name_and(alloc, text, here, Kind::With)?;
-    Ok(ProofCommand::Cut(cut, name(alloc, text, here)?))
+    let cut = name_and(text, here, Kind::With)?;
+    Ok(ProofCommand::Cut(cut, name(text, here)?))
 }
 
 /// Reads `H with n1 = e, ..`.
-fn inst(alloc: Global, text: &Text<'_>, here: &mut usize) -> Result<ProofCommand, Stop>
-    requires { IsText text.now }
+fn inst(text: &Text<'_>, here: &mut usize) -> Result<ProofCommand, Stop>
     ensures { Found (ProofRow head.Inst) BeforeStop proof_command_of (rest text.now here.old) (rest text.now here.new) result }
 {
-    let name = name_and(alloc, text, here, Kind::With)?;
-    Ok(ProofCommand::Inst(name, items::<Instance>(alloc, text, here, Kind::Comma)?))
+    let name = name_and(text, here, Kind::With)?;
+    Ok(ProofCommand::Inst(name, items::<Instance>(text, here, Kind::Comma)?))
 }
 
 /// Reads `H with e`.
-fn monotone(alloc: Global, text: &Text<'_>, here: &mut usize) -> Result<ProofCommand, Stop>
-    requires { IsText text.now }
+fn monotone(text: &Text<'_>, here: &mut usize) -> Result<ProofCommand, Stop>
     ensures { Found (ProofRow head.Monotone) BeforeStop proof_command_of (rest text.now here.old) (rest text.now here.new) result }
 {
-    let name = name_and(alloc, text, here, Kind::With)?;
-    Ok(ProofCommand::Monotone(name, read_expression(alloc, text, here)?))
+    let name = name_and(text, here, Kind::With)?;
+    Ok(ProofCommand::Monotone(name, read_expression(text, here)?))
 }
 
 /// Reads a star, where one is there.
 fn split(text: &Text<'_>, here: &mut usize) -> Result<ProofCommand, Stop>
-    requires { IsText text.now }
     ensures { Found (ProofRow head.Split) BeforeStop proof_command_of (rest text.now here.old) (rest text.now here.new) result }
 {
     if takes(text, here, Kind::Star) {
@@ -121,53 +111,49 @@ fn split(text: &Text<'_>, here: &mut usize) -> Result<ProofCommand, Stop>
 }
 
 /// Reads `H to w`.
-fn rename(alloc: Global, text: &Text<'_>, here: &mut usize) -> Result<ProofCommand, Stop>
-    requires { IsText text.now }
+fn rename(text: &Text<'_>, here: &mut usize) -> Result<ProofCommand, Stop>
     ensures { Found (ProofRow head.Rename) BeforeStop proof_command_of (rest text.now here.old) (rest text.now here.new) result }
 {
-    let from = name_and(alloc, text, here, Kind::To)?;
-    Ok(ProofCommand::Rename(from, name(alloc, text, here)?))
+    let from = name_and(text, here, Kind::To)?;
+    Ok(ProofCommand::Rename(from, name(text, here)?))
 }
 
 /// Reads `(n1 n2 ..) H`.
-fn permute(alloc: Global, text: &Text<'_>, here: &mut usize) -> Result<ProofCommand, Stop>
-    requires { IsText text.now }
+fn permute(text: &Text<'_>, here: &mut usize) -> Result<ProofCommand, Stop>
     ensures { Found (ProofRow head.Permute) BeforeStop proof_command_of (rest text.now here.old) (rest text.now here.new) result }
 {
-    let numbers = nominals(alloc, text, here)?;
-    Ok(ProofCommand::Permute(numbers, optional_name(alloc, text, here)?))
+    let numbers = nominals(text, here)?;
+    Ok(ProofCommand::Permute(numbers, optional_name(text, here)?))
 }
 
 /// Reads what stands behind the first token of a proof command.
 pub(crate) fn proof_row(
-    alloc: Global,
     text: &Text<'_>,
     here: &mut usize,
     head: ProofHead,
 ) -> Result<ProofCommand, Stop>
-    requires { IsText text.now }
     ensures { Found (ProofRow head) BeforeStop proof_command_of (rest text.now here.old) (rest text.now here.new) result }
 {
     match head {
-        ProofHead::Intros => Ok(ProofCommand::Intros(take_all::<AnyName>(alloc, text, here)?)),
-        ProofHead::Induction => induction(alloc, text, here),
+        ProofHead::Intros => Ok(ProofCommand::Intros(take_all::<AnyName>(text, here)?)),
+        ProofHead::Induction => induction(text, here),
         ProofHead::Coinduction => Ok(ProofCommand::Coinduction),
-        ProofHead::Case => case(alloc, text, here),
-        ProofHead::Apply => apply(alloc, text, here),
-        ProofHead::Backchain => backchain(alloc, text, here),
-        ProofHead::Cut => cut(alloc, text, here),
-        ProofHead::Inst => inst(alloc, text, here),
-        ProofHead::Monotone => monotone(alloc, text, here),
-        ProofHead::Search => Ok(ProofCommand::Search(optional_depth(alloc, text, here)?)),
+        ProofHead::Case => case(text, here),
+        ProofHead::Apply => apply(text, here),
+        ProofHead::Backchain => backchain(text, here),
+        ProofHead::Cut => cut(text, here),
+        ProofHead::Inst => inst(text, here),
+        ProofHead::Monotone => monotone(text, here),
+        ProofHead::Search => Ok(ProofCommand::Search(optional_depth(text, here)?)),
         ProofHead::Split => split(text, here),
         ProofHead::Left => Ok(ProofCommand::Left),
         ProofHead::Right => Ok(ProofCommand::Right),
-        ProofHead::Exists => Ok(ProofCommand::Exists(read_expression(alloc, text, here)?)),
-        ProofHead::Witness => Ok(ProofCommand::Exists(read_expression(alloc, text, here)?)),
+        ProofHead::Exists => Ok(ProofCommand::Exists(read_expression(text, here)?)),
+        ProofHead::Witness => Ok(ProofCommand::Exists(read_expression(text, here)?)),
         ProofHead::Unfold => Ok(ProofCommand::Unfold),
-        ProofHead::Assert => Ok(ProofCommand::Assert(read_expression(alloc, text, here)?)),
-        ProofHead::Clear => Ok(ProofCommand::Clear(take_some::<AnyName>(alloc, text, here)?)),
-        ProofHead::Rename => rename(alloc, text, here),
-        ProofHead::Permute => permute(alloc, text, here),
+        ProofHead::Assert => Ok(ProofCommand::Assert(read_expression(text, here)?)),
+        ProofHead::Clear => Ok(ProofCommand::Clear(take_some::<AnyName>(text, here)?)),
+        ProofHead::Rename => rename(text, here),
+        ProofHead::Permute => permute(text, here),
     }
 }

@@ -3,25 +3,24 @@ ghost use Rattle.std.specs.Prelude.{◌≡◌};
 ghost use Rattle.ab_grammar.proofs.Following.{BeforeStop};
 ghost use Rattle.ab_grammar.specs.CommandTable.{Switch, Row};
 ghost use Rattle.ab_syntax.specs.Commands.{command_of};
-ghost use Rattle.ab_syntax.specs.Reader.{IsText, rest, Found};
+ghost use Rattle.ab_syntax.specs.Reader.{rest, Found};
 
 use crate::block::block;
 use crate::command::Command;
 use crate::expression::read_expression;
-use crate::leaf::{Quoted, keyword};
+use crate::kind::Kind;
+use crate::leaf::Quoted;
 use crate::list::items;
-use crate::part::{name_and, takes};
+use crate::part::{keyword, name, name_and};
 use crate::shown::take;
 use crate::stop::Stop;
-use crate::text::{Kind, Text, expect, name};
+use crate::text::{Text, expect, takes};
 use crate::types::read_type;
 use ab_grammar::Head;
 use ab_name::Name;
-use std::alloc::Global;
 
 /// Reads `on` or `off`.
 fn switch(text: &Text<'_>, here: &mut usize) -> Result<bool, Stop>
-    requires { IsText text.now }
     ensures { Found Switch BeforeStop (λ on. on) (rest text.now here.old) (rest text.now here.new) result }
 {
     if takes(text, here, Kind::On) {
@@ -32,35 +31,29 @@ fn switch(text: &Text<'_>, here: &mut usize) -> Result<bool, Stop>
 }
 
 /// Reads what stands behind the first token of a command that is no proof command.
-pub(crate) fn row(
-    alloc: Global,
-    text: &Text<'_>,
-    here: &mut usize,
-    head: Head,
-) -> Result<Command, Stop>
-    requires { IsText text.now }
+pub(crate) fn row(text: &Text<'_>, here: &mut usize, head: Head) -> Result<Command, Stop>
     ensures { Found (Row head) BeforeStop command_of (rest text.now here.old) (rest text.now here.new) result }
 {
     match head {
         Head::Kind => {
-            let names = items::<Name>(alloc, text, here, Kind::Comma)?;
+            let names = items::<Name>(text, here, Kind::Comma)?;
             expect(text, here, Kind::Type)?;
             Ok(Command::Kind(names))
         }
         Head::Typed => {
-            let names = items::<Name>(alloc, text, here, Kind::Comma)?;
-            let ty = read_type(alloc, text, here)?;
+            let names = items::<Name>(text, here, Kind::Comma)?;
+            let ty = read_type(text, here)?;
             Ok(Command::Typed(names, ty))
         }
-        Head::Define => block(alloc, text, here, true),
-        Head::CoDefine => block(alloc, text, here, false),
+        Head::Define => block(text, here, true),
+        Head::CoDefine => block(text, here, false),
         Head::Theorem => {
-            let name = name_and(alloc, text, here, Kind::Colon)?;
-            let formula = read_expression(alloc, text, here)?;
+            let name = name_and(text, here, Kind::Colon)?;
+            let formula = read_expression(text, here)?;
             Ok(Command::Theorem(name, formula))
         }
-        Head::Specification => Ok(Command::Specification(take::<Quoted>(alloc, text, here)?)),
-        Head::Show => Ok(Command::Show(name(alloc, text, here)?)),
+        Head::Specification => Ok(Command::Specification(take::<Quoted>(text, here)?)),
+        Head::Show => Ok(Command::Show(name(text, here)?)),
         Head::Quit => Ok(Command::Quit),
         Head::Set => {
             keyword(text, here, b"subgoals")?;

@@ -4,13 +4,15 @@ ghost use Rattle.ab_grammar.specs.Language.{TypeExpression};
 ghost use Rattle.ab_grammar.proofs.Following.{Followed};
 ghost use Rattle.ab_grammar.proofs.Machine as machine;
 ghost use Rattle.ab_syntax.specs.Trees.{type_of};
-ghost use Rattle.ab_syntax.specs.Reader.{IsText, seen, IsSpelled, rest, Found};
+ghost use Rattle.ab_syntax.specs.Reader.{seen, rest, Found};
 ghost use Rattle.ab_syntax.specs.Steps.{follows, type_frame_of, type_frames_of, type_shut_of, type_state, IsTypeNext};
 
 use crate::build::boxed;
+use crate::kind::Kind;
 use crate::nesting::{nested, outside};
+use crate::seen::Seen;
 use crate::stop::Stop;
-use crate::text::{Kind, Seen, Text, look, name_of};
+use crate::text::{Text, name_of, next_or_stop};
 use crate::tree::TypeParse;
 use std::alloc::{AllocError, Global};
 
@@ -21,6 +23,13 @@ pub(crate) enum TypeFrame {
     Paren,
     /// What stands left of an arrow.
     Arrow(Box<TypeParse>),
+}
+
+/// What a type stands in, the innermost last, and the memory for what is read.
+#[derive(Drop)]
+pub(crate) struct TypeFrames {
+    pub(crate) alloc: Global,
+    pub(crate) items: Vec<TypeFrame>,
 }
 
 /// What was read last, and what must come.
@@ -77,38 +86,34 @@ pub(crate) fn ends(kind: Kind) -> bool
 }
 
 /// Puts a frame on top.
-fn push_type(frames: &mut Vec<TypeFrame>, frame: TypeFrame) -> Result<(), AllocError>
+fn push_type(frames: &mut TypeFrames, frame: TypeFrame) -> Result<(), AllocError>
     ensures { IfOk result (λ r. type_frames_of frames.new ≡ type_frame_of frame ∷ type_frames_of frames.old) }
 {
-    frames.push(frame)?;
+    frames.items.push(frame)?;
     Ok(())
 }
 
 /// Takes the innermost frame.
 #[tactic(auto, using(crate::proofs::Stacks::top))]
-fn take_type_frame(frames: &mut Vec<TypeFrame>) -> Option<TypeFrame>
+fn take_type_frame(frames: &mut TypeFrames) -> Option<TypeFrame>
     ensures top { MatchOption result (type_frames_of frames.old ≡ []) (λ x. type_frames_of frames.old ≡ type_frame_of x ∷ type_frames_of frames.new) }
-    ensures fewer { MatchOption result (vec_len frames.new ≡ 0) (λ _. vec_len frames.new < vec_len frames.old) }
+    ensures fewer { MatchOption result (vec_len frames.new.items ≡ 0) (λ _. vec_len frames.new.items < vec_len frames.old.items) }
 {
-    match frames.pop() {
+    match frames.items.pop() {
         Some(frame) => Some(frame),
         None => None,
     }
 }
 
 /// The type up to the innermost parenthesis, which is taken away.
-fn shut_type(
-    alloc: Global,
-    frames: &mut Vec<TypeFrame>,
-    last: Box<TypeParse>,
-) -> Result<TypeInside, AllocError>
+fn shut_type(frames: &mut TypeFrames, last: Box<TypeParse>) -> Result<TypeInside, AllocError>
     ensures { IfOk result (λ r. machine.type_shut (type_of last.value) (type_frames_of frames.old) ≡ type_shut_of r (type_frames_of frames.new)) }
 {
     let mut inner = last;
     loop {
         match take_type_frame(frames) {
             Some(TypeFrame::Arrow(left)) => {
-                inner = boxed(alloc, TypeParse::Arrow(left, inner))?;
+                inner = boxed(frames.alloc, TypeParse::Arrow(left, inner))?;
             }
             Some(TypeFrame::Paren) => {
                 let enclosed = true;
@@ -123,18 +128,13 @@ fn shut_type(
 }
 
 /// A token where a type must come.
-fn begin_type(
-    alloc: Global,
-    frames: &mut Vec<TypeFrame>,
-    token: Seen<'_>,
-) -> Result<TypeNext, AllocError>
-    requires { IsSpelled token }
+fn begin_type(frames: &mut TypeFrames, token: Seen<'_>) -> Result<TypeNext, AllocError>
     ensures { IfOk result (λ r. IsTypeNext (machine.type_want (type_frames_of frames.old)) (seen token.entry) (type_frames_of frames.new) r) }
 {
     match token.kind {
         Kind::Word => {
-            let name = name_of(alloc, token)?;
-            let base = boxed(alloc, TypeParse::Base(name, token.place))?;
+            let name = name_of(frames.alloc, token)?;
+            let base = boxed(frames.alloc, TypeParse::Base(name, token.place))?;
             Ok(TypeNext::On(TypeState::Have(base)))
         }
         Kind::LeftParen => {
@@ -145,17 +145,24 @@ fn begin_type(
     }
 }
 
-/// What can follow a type, behind one.
-fn end_type(
-    alloc: Global,
-    frames: &mut Vec<TypeFrame>,
+/// A token behind a type.
+fn go_on_with_type(
+    frames: &mut TypeFrames,
     last: Box<TypeParse>,
     token: Seen<'_>,
 ) -> Result<TypeNext, AllocError>
-    requires { follows token.kind ≡ true }
     ensures { IfOk result (λ r. IsTypeNext (machine.type_have (type_frames_of frames.old) (type_of last.value)) (seen token.entry) (type_frames_of frames.new) r) }
 {
-    let TypeInside { inner, enclosed } = shut_type(alloc, frames, last)?;
+    if !ends(token.kind) {
+        return match token.kind {
+            Kind::Arrow => {
+                push_type(frames, TypeFrame::Arrow(last))?;
+                Ok(TypeNext::On(TypeState::Want))
+            }
+            _ => Ok(TypeNext::Wrong),
+        };
+    }
+    let TypeInside { inner, enclosed } = shut_type(frames, last)?;
     if !enclosed {
         return Ok(TypeNext::Done(inner));
     }
@@ -165,54 +172,40 @@ fn end_type(
     }
 }
 
-/// A token behind a type.
-fn go_on_with_type(
-    alloc: Global,
-    frames: &mut Vec<TypeFrame>,
-    last: Box<TypeParse>,
-    token: Seen<'_>,
-) -> Result<TypeNext, AllocError>
-    ensures { IfOk result (λ r. IsTypeNext (machine.type_have (type_frames_of frames.old) (type_of last.value)) (seen token.entry) (type_frames_of frames.new) r) }
-{
-    if ends(token.kind) {
-        return end_type(alloc, frames, last, token);
-    }
-    match token.kind {
-        Kind::Arrow => {
-            push_type(frames, TypeFrame::Arrow(last))?;
-            Ok(TypeNext::On(TypeState::Want))
-        }
-        _ => Ok(TypeNext::Wrong),
-    }
-}
-
 /// What a token does to a type that is being read.
 pub(crate) fn step_type(
-    alloc: Global,
-    frames: &mut Vec<TypeFrame>,
+    frames: &mut TypeFrames,
     state: TypeState,
     token: Seen<'_>,
 ) -> Result<TypeNext, AllocError>
-    requires { IsSpelled token }
     ensures { IfOk result (λ r. IsTypeNext (type_state (type_frames_of frames.old) state) (seen token.entry) (type_frames_of frames.new) r) }
 {
     match state {
-        TypeState::Want => begin_type(alloc, frames, token),
-        TypeState::Have(last) => go_on_with_type(alloc, frames, last, token),
+        TypeState::Want => begin_type(frames, token),
+        TypeState::Have(last) => go_on_with_type(frames, last, token),
+    }
+}
+
+/// No frames.
+pub(crate) fn no_type_frames(alloc: Global) -> TypeFrames
+    ensures { type_frames_of result ≡ [] }
+{
+    TypeFrames {
+        alloc,
+        items: Vec::new(alloc),
     }
 }
 
 /// Reads a type, which what follows ends.
-pub(crate) fn read_type(alloc: Global, text: &Text<'_>, here: &mut usize) -> Result<TypeParse, Stop>
-    requires { IsText text.now }
+pub(crate) fn read_type(text: &Text<'_>, here: &mut usize) -> Result<TypeParse, Stop>
     ensures { Found TypeExpression Followed type_of (rest text.now here.old) (rest text.now here.new) result }
 {
-    let mut frames = Vec::new(alloc);
+    let mut frames = no_type_frames(text.alloc);
     let mut state = TypeState::Want;
-    let mut layers = outside(alloc);
+    let mut layers = outside(text.alloc);
     loop {
-        let token = look(text, *here);
-        match step_type(alloc, &mut frames, state, token)? {
+        let token = next_or_stop(text, *here);
+        match step_type(&mut frames, state, token)? {
             TypeNext::Done(found) => return Ok(Box::into_inner(found)),
             TypeNext::Wrong => return Err(Stop::Syntax),
             TypeNext::On(next) => {

@@ -1,8 +1,8 @@
 use Rattle.std.proofs.lemmas.Result.{err_from_is_err_and}
 use Rattle.std.proofs.Common.{ap}
-use Rattle.ab_grammar.specs.Token.{other, becomes, first}
+use Rattle.ab_grammar.specs.Token.{other, becomes}
+use Rattle.ab_grammar.proofs.Following.{first, Followed, ClauseEnds}
 use Rattle.ab_grammar.specs.Language.{Expression}
-use Rattle.ab_grammar.proofs.Following.{Followed, ClauseEnds}
 use Rattle.ab_grammar.proofs.Beginnings.{expression_example}
 use Rattle.ab_grammar.proofs.Choices.{with_body, no_body}
 use Rattle.ab_grammar.proofs.Choosing.{fewer_reads}

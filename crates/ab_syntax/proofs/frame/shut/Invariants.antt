@@ -9,4 +9,4 @@ abbrev pub invariant-loop-bracket : goal.invariant-loop-bracket
 invariant-loop-bracket l = machine.shut (tree_of l.fn.last.value) (frames_of l.fn.frames) ≡ machine.shut (tree_of l.inner.value) (frames_of l.frames)
 
 abbrev pub decreases-loop-bracket : goal.decreases-loop-bracket
-decreases-loop-bracket l = length l.frames.items
+decreases-loop-bracket l = length l.frames.items.items

@@ -1,6 +1,7 @@
-use Rattle.std.proofs.Common.{sym, ◌∙◌}
+use Rattle.std.proofs.Common.{Some, ap, sym, ◌∙◌}
 use Rattle.std.proofs.lemmas.Result.{err_from_is_err_and}
-use Rattle.ab_syntax.specs.Reader.{rest, key_of}
+use Rattle.ab_syntax.specs.Kinds.{key_of}
+use Rattle.ab_syntax.specs.Reader.{rest}
 use Rattle.ab_syntax.proofs.Repeating.{taken, left_there, behind_sign, first_mapped, no_first_item, next_mapped, no_next_item, last_item}
 use Rattle.ab_syntax.proofs.list.items.Goals as goal
 
@@ -9,21 +10,21 @@ returns-in_err-first g c =
     let p = err_from_is_err_and c.from_residual.result c.from_residual.ensures.1 in
     rw (p.1, p.2) (no_first_item g.T.Item.sign g.T.Item.form g.T.Item.ends g.T.Item.list_ends c.requires.apart c.requires.within (rest c.args.text.now c.args.here.now) _ _ c.in_err-first.ensures)
 
-pub loop-alloc-init : goal.loop-alloc-init
-loop-alloc-init g c = first_mapped g.T.Item.sign g.T.Item.form g.T.Item.ends g.T.Item.list_ends c.requires.apart c.requires.within (rest c.args.text.now c.args.here.now) g.T.Item.meant _ _ c.in_ok-first.first _ c.new-items.ensures.items c.in_ok-add.ensures.added c.in_ok-first.ensures
+pub loop-sign-init : goal.loop-sign-init
+loop-sign-init g c = first_mapped g.T.Item.sign g.T.Item.form g.T.Item.ends g.T.Item.list_ends c.requires.apart c.requires.within (rest c.args.text.now c.args.here.now) g.T.Item.meant _ _ c.in_ok-first.first _ c.new-items.ensures.items c.in_ok-add.ensures.added c.in_ok-first.ensures
 
 pub returns-in_err-item : goal.returns-in_err-item
 returns-in_err-item g c =
     let p = err_from_is_err_and c.from_residual-in_err-item.result c.from_residual-in_err-item.ensures.1 in
-    let there = behind_sign _ _ _ _ c.requires.sign (taken _ _ _ c.takes.result c.loop-alloc-test.true c.takes.ensures) in
-    rw (p.1, p.2) (no_next_item g.T.Item.sign g.T.Item.form g.T.Item.ends g.T.Item.list_ends c.requires.apart c.requires.within (rest c.args.text.now c.args.here.now) _ _ _ _ _ there c.in_err-item.ensures c.loop-alloc.invariant)
+    let there = behind_sign _ _ _ _ c.requires.sign (taken _ _ _ c.takes.result c.loop-sign-test.true c.takes.ensures) in
+    rw (p.1, p.2) (no_next_item g.T.Item.sign g.T.Item.form g.T.Item.ends g.T.Item.list_ends c.requires.apart c.requires.within (rest c.args.text.now c.args.here.now) _ _ _ _ _ there c.in_err-item.ensures c.loop-sign.invariant)
 
-pub loop-alloc-preserved : goal.loop-alloc-preserved
-loop-alloc-preserved g c =
-    let there = behind_sign _ _ _ _ c.requires.sign (taken _ _ _ c.takes.result c.loop-alloc-test.true c.takes.ensures) in
-    next_mapped g.T.Item.sign g.T.Item.form g.T.Item.ends g.T.Item.list_ends c.requires.apart c.requires.within (rest c.args.text.now c.args.here.now) g.T.Item.meant _ _ c.in_ok-item.item _ _ _ c.in_ok-add-2.ensures.added there c.in_ok-item.ensures c.loop-alloc.invariant
+pub loop-sign-preserved : goal.loop-sign-preserved
+loop-sign-preserved g c =
+    let there = behind_sign _ _ _ _ c.requires.sign (taken _ _ _ c.takes.result c.loop-sign-test.true c.takes.ensures) in
+    next_mapped g.T.Item.sign g.T.Item.form g.T.Item.ends g.T.Item.list_ends c.requires.apart c.requires.within (rest c.args.text.now c.args.here.now) g.T.Item.meant _ _ c.in_ok-item.item _ _ _ c.in_ok-add-2.ensures.added there c.in_ok-item.ensures c.loop-sign.invariant
 
 pub returns : goal.returns
 returns g c =
-    let left = left_there (key_of c.args.sign) (rest c.args.text.now c.loop-alloc.here) (rest c.args.text.now c.takes.new.here) c.takes.result c.loop-alloc-test.false c.takes.ensures in
-    rw (c.from_vec.ensures, left.1) (last_item g.T.Item.sign g.T.Item.form g.T.Item.ends g.T.Item.list_ends c.requires.apart c.requires.within (rest c.args.text.now c.args.here.now) _ _ (λ e. left.0 (e ∙ sym c.requires.sign)) c.loop-alloc.invariant)
+    let left = left_there (key_of c.args.sign) (rest c.args.text.now c.loop-sign.here) (rest c.args.text.now c.takes.new.here) c.takes.result c.loop-sign-test.false c.takes.ensures in
+    rw (c.from_vec.ensures, left.1) (last_item g.T.Item.sign g.T.Item.form g.T.Item.ends g.T.Item.list_ends c.requires.apart c.requires.within (rest c.args.text.now c.args.here.now) _ _ (λ e. left.0 (e ∙ ap Some (sym c.requires.sign))) c.loop-sign.invariant)

@@ -4,8 +4,8 @@ use Rattle.ab_syntax.proofs.Repeating.{ItemsTo}
 use Rattle.ab_syntax.proofs.list.items.Given as goal
 
 -- the items so far were read, from the first on
-abbrev pub invariant-loop-alloc : goal.invariant-loop-alloc
-invariant-loop-alloc g l = ItemsTo g.T.Item.sign g.T.Item.form g.T.Item.list_ends (rest l.text l.fn.here) (map g.T.Item.meant l.items.items) (rest l.text l.here)
+abbrev pub invariant-loop-sign : goal.invariant-loop-sign
+invariant-loop-sign g l = ItemsTo g.T.Item.sign g.T.Item.form g.T.Item.list_ends (rest l.text l.fn.here) (map g.T.Item.meant l.items.items) (rest l.text l.here)
 
-abbrev pub decreases-loop-alloc : goal.decreases-loop-alloc
-decreases-loop-alloc g l = length (rest l.text l.here)
+abbrev pub decreases-loop-sign : goal.decreases-loop-sign
+decreases-loop-sign g l = length (rest l.text l.here)

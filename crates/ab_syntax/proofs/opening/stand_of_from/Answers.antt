@@ -1,30 +1,63 @@
-use Rattle.std.proofs.Common.{◌≡◌, ℕ, List, ◌↔◌, Option, Some, None, MatchOption, sym, ◌∙◌, subst, drop}
-use Rattle.ab_grammar.specs.declared.head.Stand.{Stand}
+use Rattle.std.proofs.Common.{◌≡◌, ◌<◌, ◌↔◌, IsTrue, Some, length, refl, ap, sym, ◌∙◌, subst, drop, rules}
+use Rattle.ab_lex.specs.declared.token.Token.{Token as Lexed}
+use Rattle.ab_lex.specs.declared.token.TokenKind.TheVariants as lexed
 use Rattle.ab_grammar.specs.declared.head.Stand.TheVariants.{Inside}
-use Rattle.ab_grammar.specs.Token.{Token, colon, first}
-use Rattle.ab_grammar.specs.CommandTable.{ShowsLabel, StandsAt}
-use Rattle.ab_syntax.specs.declared.text.Text.{Text}
+use Rattle.ab_grammar.specs.Token.{colon}
+use Rattle.ab_grammar.proofs.Following.{first}
+use Rattle.ab_grammar.specs.CommandTable.{StandsAt}
+use Rattle.ab_syntax.specs.declared.kind.Kind.TheVariants as kind
 use Rattle.ab_syntax.specs.Tokens.{token_of, tokens_from}
-use Rattle.ab_syntax.specs.Reader.{written}
-use Rattle.ab_syntax.proofs.Standing.{ended, plain_stands, proof_stands, label_stands, no_colon_stands, second, exactly}
+use Rattle.ab_syntax.specs.Reader.{seen}
+use Rattle.ab_syntax.proofs.Seeing.{of_kind, kind_is}
+use Rattle.ab_syntax.proofs.Standing.{first_at, none_at, exactly, nowhere, plain_stands, proof_stands, label_stands, nothing_stands, no_colon_stands}
 use Rattle.ab_syntax.proofs.opening.stand_of_from.Goals as goal
+use Rattle.ab_syntax.proofs.opening.stand_of_from.Goals.{else-tokens-gt1-via-then-tokens-gt1+else-eq, else-tokens-gt1-via-else-tokens-gt1}
 
-by_colon : (ts : List Token) (x : List ℕ) (j : Token) (o : Option Stand) → ShowsLabel (first (ended ts)) x → j ≡ first (drop 1 (ended ts)) → MatchOption o (j ≡ colon → ⊥) (λ s. (s ≡ Inside) × (j ≡ colon)) → (s : Stand) → (o ≡ Some s) ↔ StandsAt ts s
-by_colon ts x j None l e n s = (λ f. absurd (cc), λ d. absurd (no_colon_stands ts s x l (λ f. n (e ∙ f)) d))
-by_colon ts x j (Some a) l e h s = exactly ts a s (subst (StandsAt ts) (sym (h.0)) (label_stands ts x l (sym e ∙ h.1)))
+abbrev no_token : Lexed
+no_token = record { kind = lexed.Word; span = record { start = 0; end = 0 } }
 
 pub returns-in-Plain : goal.returns-in-Plain
 returns-in-Plain c = λ s.
     let ts = tokens_from c.args.bytes.now c.args.origin c.args.tokens.now in
-    exactly ts c.stand.result s (subst (StandsAt ts) (sym c.stand.ensures) (plain_stands ts c.in-Plain.head c.in-Plain.ensures))
+    let some : 0 < length c.args.tokens.now = search rules in
+    let e : first ts ≡ Some (seen c.see.result) = first_at (token_of c.args.bytes.now c.args.origin) c.args.tokens.now 0 no_token some ∙ ap Some (sym c.see.ensures) in
+    exactly ts c.stand.result s (subst (StandsAt ts) (sym c.stand.ensures) (plain_stands ts (seen c.see.result) c.in-Plain.head e c.in-Plain.ensures))
 
 pub returns-in-Proof : goal.returns-in-Proof
 returns-in-Proof c = λ s.
     let ts = tokens_from c.args.bytes.now c.args.origin c.args.tokens.now in
-    exactly ts Inside s (proof_stands ts c.in-Proof.field-0 c.in-Proof.ensures)
+    let some : 0 < length c.args.tokens.now = search rules in
+    let e : first ts ≡ Some (seen c.see.result) = first_at (token_of c.args.bytes.now c.args.origin) c.args.tokens.now 0 no_token some ∙ ap Some (sym c.see.ensures) in
+    exactly ts Inside s (proof_stands ts (seen c.see.result) c.in-Proof.field-0 e c.in-Proof.ensures)
 
-pub returns-in-Label : goal.returns-in-Label
-returns-in-Label c = λ s.
-    let t : Text = record { bytes = c.args.bytes; tokens = c.args.tokens; origin = c.args.origin } in
+pub returns-then-eq : goal.returns-then-eq
+returns-then-eq c = λ s.
     let ts = tokens_from c.args.bytes.now c.args.origin c.args.tokens.now in
-    by_colon ts (written t 0) _ c.label_stand.result c.in-Label.ensures (second (token_of c.args.bytes.now c.args.origin) c.args.tokens.now) c.label_stand.ensures s
+    let some : 0 < length c.args.tokens.now = search rules in
+    let e : first ts ≡ Some (seen c.see.result) = first_at (token_of c.args.bytes.now c.args.origin) c.args.tokens.now 0 no_token some ∙ ap Some (sym c.see.ensures) in
+    let f : first (drop 1 ts) ≡ Some (seen c.see-then-tokens-gt1.result) = first_at (token_of c.args.bytes.now c.args.origin) c.args.tokens.now 1 no_token c.if-tokens-gt1.true ∙ ap Some (sym c.see-then-tokens-gt1.ensures) in
+    let same : c.see-then-tokens-gt1.result.kind ≡ kind.Colon = search rules in
+    exactly ts Inside s (label_stands ts (seen c.see.result) c.see.result.written.now e c.in-Label.ensures (f ∙ ap Some (of_kind c.see-then-tokens-gt1.result kind.Colon (λ w p. refl) same)))
+
+pub returns-else-tokens-gt1 : goal.returns-else-tokens-gt1
+returns-else-tokens-gt1 c = λ s.
+    let ts = tokens_from c.args.bytes.now c.args.origin c.args.tokens.now in
+    let some : 0 < length c.args.tokens.now = search rules in
+    let e : first ts ≡ Some (seen c.see.result) = first_at (token_of c.args.bytes.now c.args.origin) c.args.tokens.now 0 no_token some ∙ ap Some (sym c.see.ensures) in
+    nowhere ts s (no_colon_stands ts (seen c.see.result) c.see.result.written.now s e c.in-Label.ensures (λ colon_next. elim c.else-tokens-gt1.branch [
+      | else-tokens-gt1-via-then-tokens-gt1+else-eq w ↦
+          let f : first (drop 1 ts) ≡ Some (seen w.see-then-tokens-gt1.result) = first_at (token_of c.args.bytes.now c.args.origin) c.args.tokens.now 1 no_token w.if-tokens-gt1.true ∙ ap Some (sym w.see-then-tokens-gt1.ensures) in
+          let is : seen w.see-then-tokens-gt1.result ≡ colon = (let both = sym f ∙ colon_next in cc) in
+          let same : IsTrue w.eq.result ↔ (w.see-then-tokens-gt1.result.kind ≡ kind.Colon) = search rules in
+          let yes : IsTrue w.eq.result = same.1 (kind_is w.see-then-tokens-gt1.result kind.Colon is) in
+          let no = w.if-eq.false in
+          absurd (cc)
+      | else-tokens-gt1-via-else-tokens-gt1 w ↦ let none = sym (none_at (token_of c.args.bytes.now c.args.origin) c.args.tokens.now 1 w.if-tokens-gt1.false) ∙ colon_next in absurd (cc)
+    ]))
+
+pub returns-in-Nothing : goal.returns-in-Nothing
+returns-in-Nothing c = λ s.
+    let ts = tokens_from c.args.bytes.now c.args.origin c.args.tokens.now in
+    let some : 0 < length c.args.tokens.now = search rules in
+    let e : first ts ≡ Some (seen c.see.result) = first_at (token_of c.args.bytes.now c.args.origin) c.args.tokens.now 0 no_token some ∙ ap Some (sym c.see.ensures) in
+    nowhere ts s (nothing_stands ts (seen c.see.result) s e c.in-Nothing.ensures)

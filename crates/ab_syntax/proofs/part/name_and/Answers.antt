@@ -1,7 +1,7 @@
 use Rattle.std.proofs.lemmas.Result.{err_from_is_err_and}
 use Rattle.ab_syntax.proofs.Passing.{refused_on, refused_first}
 use Rattle.ab_grammar.proofs.Rows.{name_and}
-use Rattle.ab_syntax.specs.Reader.{key_of}
+use Rattle.ab_syntax.specs.Kinds.{key_of}
 use Rattle.ab_syntax.proofs.part.name_and.Goals as goal
 
 pub returns-in_err-name : goal.returns-in_err-name

@@ -1,8 +1,8 @@
 use Rattle.std.proofs.lemmas.Result.{err_from_is_err_and}
 use Rattle.std.proofs.Common.{ap, codes}
-use Rattle.ab_grammar.specs.Token.{left_paren, right_paren, first}
+use Rattle.ab_grammar.specs.Token.{left_paren, right_paren}
+use Rattle.ab_grammar.proofs.Following.{first, Anything, BeforeStop}
 use Rattle.ab_grammar.specs.Language.{Key}
-use Rattle.ab_grammar.proofs.Following.{Anything, BeforeStop}
 use Rattle.ab_grammar.specs.CommandForms.{◌▸◌}
 use Rattle.ab_grammar.specs.CommandTable.{Word}
 use Rattle.ab_grammar.proofs.Choosing.{fewer_reads}

@@ -1,6 +1,6 @@
 use Rattle.std.proofs.Common.{ap}
-use Rattle.ab_grammar.specs.Token.{other, star, first}
-use Rattle.ab_grammar.proofs.Following.{Anything, BeforeStop}
+use Rattle.ab_grammar.specs.Token.{other, star}
+use Rattle.ab_grammar.proofs.Following.{first, Anything, BeforeStop}
 use Rattle.ab_grammar.specs.CommandTable.{Sign}
 use Rattle.ab_grammar.proofs.Choosing.{fewer_reads}
 use Rattle.ab_grammar.proofs.Choices.{split, split_all}

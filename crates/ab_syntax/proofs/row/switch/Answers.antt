@@ -1,7 +1,7 @@
 use Rattle.std.proofs.lemmas.Result.{err_from_is_err_and}
 use Rattle.std.proofs.Common.{ap, codes}
-use Rattle.ab_grammar.specs.Token.{other, on_word, first}
-use Rattle.ab_grammar.proofs.Following.{Anything, BeforeStop}
+use Rattle.ab_grammar.specs.Token.{other, on_word}
+use Rattle.ab_grammar.proofs.Following.{first, Anything, BeforeStop}
 use Rattle.ab_grammar.specs.CommandTable.{Sign, Word}
 use Rattle.ab_grammar.proofs.Choosing.{fewer_reads}
 use Rattle.ab_grammar.proofs.Choices.{switch_on, switch_off}

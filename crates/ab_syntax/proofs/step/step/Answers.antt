@@ -2,11 +2,5 @@ use Rattle.ab_syntax.specs.Frames.{frames_of}
 use Rattle.ab_syntax.proofs.Enders.{if_ok}
 use Rattle.ab_syntax.proofs.step.step.Goals as goal
 
-pub returns-in-BinderName : goal.returns-in-BinderName
-returns-in-BinderName c = rw c.in-BinderName.is (if_ok c.step_binder_name.result (λ r h. h (frames_of c.args.frames.now)) c.step_binder_name.ensures)
-
-pub returns-in-BinderColon : goal.returns-in-BinderColon
-returns-in-BinderColon c = rw c.in-BinderColon.is (c.step_binder_colon.ensures (frames_of c.args.frames.now))
-
 pub returns-in-BinderType : goal.returns-in-BinderType
 returns-in-BinderType c = rw c.in-BinderType.is (if_ok c.step_binder_type.result (λ r h. h (frames_of c.args.frames.now)) c.step_binder_type.ensures)

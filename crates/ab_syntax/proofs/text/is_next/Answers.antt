@@ -1,16 +1,15 @@
-use Rattle.std.proofs.Common.{[], sym, ap, ◌∙◌}
-use Rattle.ab_syntax.specs.declared.text.Kind.{Kind}
-use Rattle.ab_syntax.specs.Reader.{kind_of, meaning, written, place_at}
-use Rattle.ab_syntax.proofs.Meanings.{kind_meant}
+use Rattle.std.proofs.Common.{◌≡◌, ◌↔◌, Some, IsTrue, ap, sym, ◌∙◌, rules}
+use Rattle.ab_grammar.proofs.Following.{first}
+use Rattle.ab_syntax.specs.declared.seen.Seen.{Seen}
+use Rattle.ab_syntax.specs.Kinds.{key_of}
+use Rattle.ab_syntax.specs.Reader.{seen, rest}
+use Rattle.ab_syntax.proofs.Places.{first_more}
+use Rattle.ab_syntax.proofs.Seeing.{of_kind, kind_is}
 use Rattle.ab_syntax.proofs.text.is_next.Goals as goal
 
-pub returns-clause-next : goal.returns-clause-next
-returns-clause-next c =
-    let w = written c.args.text.now c.args.here in
-    let p = place_at c.args.text.now c.args.here in (
-      λ h. c.peek.ensures.token ∙ ap (λ (k : Kind). meaning k w p) (c.same.ensures.0 h) ∙ c.requires.key w p,
-      λ e. c.same.ensures.1 (c.peek.ensures.kind ∙ ap kind_of e ∙ kind_meant c.args.key [] 0),
-    )
-
-pub returns-clause-within : goal.returns-clause-within
-returns-clause-within c = λ h n. c.peek.ensures.within (λ e. n (sym (c.same.ensures.0 h) ∙ e))
+pub returns-then-here-text-clause-next : goal.returns-then-here-text-clause-next
+returns-then-here-text-clause-next c =
+    let s = c.index-text-here.result in
+    let same : IsTrue c.eq.result ↔ (s.kind ≡ c.args.key) = search rules in
+    let is : first (rest c.args.text.now c.args.here) ≡ Some (seen s) = first_more c.args.text.now c.args.here s c.if-here-text.true ∙ ap (λ (x : Seen). Some (seen x)) (sym c.index-text-here.is) in
+    (λ h. is ∙ ap Some (of_kind s c.args.key c.requires (same.0 h)), λ e. let k : seen s ≡ key_of c.args.key = (let both = sym is ∙ e in cc) in same.1 (kind_is s c.args.key k))

@@ -9,4 +9,4 @@ abbrev pub invariant-loop-left : goal.invariant-loop-left
 invariant-loop-left l = machine.type_shut (type_of l.fn.last.value) (type_frames_of l.fn.frames) ≡ machine.type_shut (type_of l.inner.value) (type_frames_of l.frames)
 
 abbrev pub decreases-loop-left : goal.decreases-loop-left
-decreases-loop-left l = length l.frames.items
+decreases-loop-left l = length l.frames.items.items
