@@ -8,7 +8,7 @@ ghost use Rattle.ab_lex.specs.Units.{is_blank as is_blank_byte};
 ghost use Rattle.ab_lex.specs.Scanner.{step, ends, depth, from_plain, from_block, behind, past as past_from, run, fresh, keeps_blank as keeps_blank_in, is_whole as is_whole_in, after_byte, blank_from};
 
 /// Where a scanner stands. A number is how many block comments are open around the innermost.
-#[derive(Clone, Copy, Debug, PartialEq, Eq)]
+#[derive(Clone, Copy)]
 pub(crate) enum Mode {
     Plain,
     /// Behind a `/` that may open a comment.
@@ -21,7 +21,7 @@ pub(crate) enum Mode {
 }
 
 /// How far the scan of a text has come behind the last command's end.
-#[derive(Clone, Copy, Debug, PartialEq, Eq)]
+#[derive(Clone, Copy)]
 pub(crate) struct Scan {
     pub mode: Mode,
     /// Nothing but blanks and comments has come so far.

@@ -4,13 +4,13 @@ use std::alloc::AllocError;
 use thiserror::Error;
 
 /// A range of bytes: from `start` up to, and not including, `end`.
-#[derive(Clone, Copy, Debug, PartialEq, Eq, Hash)]
+#[derive(Clone, Copy, Debug, PartialEq, Eq)]
 pub struct Span {
     pub start: usize,
     pub end: usize,
 }
 
-#[derive(Clone, Copy, Debug, PartialEq, Eq, Hash)]
+#[derive(Clone, Copy, Debug, PartialEq, Eq)]
 pub enum TokenKind {
     /// A letter with the letters, digits, `_`, `'` and inner `-` behind it, or `_` alone.
     Word,
@@ -23,7 +23,7 @@ pub enum TokenKind {
 }
 
 /// A token, and where it stands among the bytes that were read.
-#[derive(Clone, Copy, Debug, PartialEq, Eq, Hash)]
+#[derive(Clone, Copy, Debug, PartialEq, Eq)]
 pub struct Token {
     pub kind: TokenKind,
     pub span: Span,

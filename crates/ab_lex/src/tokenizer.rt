@@ -12,7 +12,7 @@ use crate::token::{LexFault, Span, Token, TokenKind};
 use std::alloc::{AllocError, Global};
 
 /// What stands at the front of bytes, with the number of its bytes.
-#[derive(Clone, Copy, Debug, PartialEq, Eq)]
+#[derive(Clone, Copy)]
 enum Piece {
     /// A blank or a whole comment.
     Gap(usize),
