@@ -3,9 +3,8 @@ use Rattle.std.proofs.Common.{◌≡◌, ℕ, List, Option, Some, None, refl, ap
 use Rattle.ab_grammar.specs.declared.Quant.{Quant}
 use Rattle.ab_grammar.specs.Token.{Token, right_paren}
 use Rattle.ab_grammar.specs.Tree.{Ty, Binder}
-use Rattle.ab_grammar.specs.Grammar.{typed}
 use Rattle.ab_grammar.proofs.Following.{Follower, by_right_paren}
-use Rattle.ab_grammar.proofs.Machine.{Frame, TypeState, type_step, type_finish, binder_on, binder_done, binder_closed}
+use Rattle.ab_grammar.proofs.Machine.{Frame, TypeState, type_step, type_finish, binder_on, binder_done}
 
 module _ (fs : List Frame) (q : Quant) (p : ℕ) (bs : List Binder) (x : List ℕ) (r : ℕ) where
   ended : (A : Option Ty) (k : Token) → (A ≡ None) ⊎ (Follower (Some k) → ⊥) → binder_done fs q p bs x r A k ≡ None
@@ -17,6 +16,3 @@ module _ (fs : List Frame) (q : Quant) (p : ℕ) (bs : List Binder) (x : List �
   module _ (s : TypeState) where
     pub never_closed : (k : Token) → type_step s k ≡ None → (type_finish s ≡ None) ⊎ (Follower (Some k) → ⊥) → binder_on fs q p bs x r (type_step s k) (type_finish s) k ≡ None
     never_closed k e h = ap (λ o. binder_on fs q p bs x r o (type_finish s) k) e ∙ ended (type_finish s) k h
-
-    pub closed_by : (k : Token) (A : Ty) → type_step s k ≡ None → type_finish s ≡ Some A → binder_on fs q p bs x r (type_step s k) (type_finish s) k ≡ binder_closed fs q p bs (typed x r A) k
-    closed_by k A e f = ap (λ o. binder_on fs q p bs x r o (type_finish s) k) e ∙ ap (λ (B : Option Ty). binder_on fs q p bs x r None B k) f

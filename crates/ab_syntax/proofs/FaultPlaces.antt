@@ -1,8 +1,7 @@
 -- The places that are told.
-use Rattle.std.proofs.Common.{◌≡◌, ℕ, zero, suc, ◌-◌, ◌<◌, ◌≤◌, true, false, List, [], ◌∷◌, Some, length, drop, get_or, refl, ap, sym, ◌∙◌, subst, arith}
+use Rattle.std.proofs.Common.{◌≡◌, ℕ, ◌-◌, true, false, List, [], ◌∷◌, Some, drop, refl, ap, sym, ◌∙◌, subst}
 use Rattle.std.specs.Prelude.{if◌then◌else◌}
 use Rattle.std.proofs.lemmas.List.{drop-map}
-use Rattle.ab_lex.specs.declared.token.Token.{Token as Lexed}
 use Rattle.ab_grammar.specs.Token.{Token, backslash}
 use Rattle.ab_grammar.specs.Nesting.{begins_with_backslash, blamed}
 use Rattle.ab_grammar.proofs.Following.{first}
@@ -11,20 +10,9 @@ use Rattle.ab_grammar.proofs.Heads.{plain_no_label, proof_no_label}
 use Rattle.ab_syntax.specs.declared.opening.Opening.{Opening}
 use Rattle.ab_syntax.specs.declared.opening.Opening.TheVariants.{Plain, Proof, Label, Nothing}
 use Rattle.ab_syntax.specs.declared.text.Text.{Text}
-use Rattle.ab_syntax.specs.Faults.{place_from, IsWordAlone}
+use Rattle.ab_syntax.specs.Faults.{IsWordAlone}
 use Rattle.ab_syntax.specs.Openings.{IsOpeningAt}
 use Rattle.ab_syntax.specs.Reader.{seen, rest}
-
-module _ (e o : ℕ) where
-  pub place_within : (ts : List Lexed) (i : ℕ) (d : Lexed) → i < length ts → (get_or ts i d).span.start - o ≡ place_from e o ts i
-  place_within [] i d h = absurd (omega arith)
-  place_within (t ∷ ts) zero d h = refl
-  place_within (t ∷ ts) (suc i) d h = place_within ts i d (omega arith)
-
-  pub place_behind : (ts : List Lexed) (i : ℕ) → length ts ≤ i → e ≡ place_from e o ts i
-  place_behind [] i h = refl
-  place_behind (t ∷ ts) zero h = absurd (omega arith)
-  place_behind (t ∷ ts) (suc i) h = place_behind ts i (omega arith)
 
 in_front : (ks : List Token) → first ks ≡ Some backslash → begins_with_backslash ks ≡ true
 in_front [] e = absurd (cc)

@@ -1,8 +1,8 @@
 -- Parts that are one token: taken where the token shows a value, and refused where it shows none.
-use Rattle.std.proofs.Common.{◌≡◌, ℕ, ◌+◌, List, Option, Some, None, MatchOption, Result, Ok, Err, IfOk, refl, sym, ◌∙◌, ap, subst}
+use Rattle.std.proofs.Common.{◌≡◌, ℕ, ◌+◌, List, Option, Some, None, MatchOption, ok_or, refl, sym, ◌∙◌, ap, subst}
 use Rattle.std.specs.Str.Parse.{digits_value}
 use Rattle.ab_grammar.specs.Token.{Token, word, other, number, text}
-use Rattle.ab_grammar.proofs.Following.{Anything, first, Showing, Without}
+use Rattle.ab_grammar.proofs.Following.{Anything, Showing, Without}
 use Rattle.ab_grammar.proofs.Reading.{ReadsOff, StopsAt}
 use Rattle.ab_grammar.specs.CommandForms.{One}
 use Rattle.ab_grammar.proofs.Joining.{Example}
@@ -14,12 +14,13 @@ use Rattle.ab_syntax.specs.declared.seen.Seen.{Seen}
 use Rattle.ab_syntax.specs.declared.text.Text.{Text}
 use Rattle.ab_syntax.specs.declared.kind.Kind.{Kind}
 use Rattle.ab_syntax.specs.declared.kind.Kind.TheVariants as kind
+use Rattle.ab_syntax.specs.declared.stop.Stop.TheVariants.{Syntax}
 use Rattle.ab_syntax.specs.Tokens.{unquoted}
 use Rattle.ab_syntax.specs.Kinds.{kind_of, meaning}
-use Rattle.ab_syntax.specs.Reader.{seen, rest}
-use Rattle.ab_syntax.specs.Leaves.{IsShown, IsShownNext}
+use Rattle.ab_syntax.specs.Reader.{seen, rest, Found}
+use Rattle.ab_syntax.specs.Leaves.{Leaf, nominal_name, IsShown, IsTakenNext}
 use Rattle.ab_syntax.proofs.Meanings.{kind_meant}
-use Rattle.ab_syntax.proofs.Places.{rest_key, within}
+use Rattle.ab_syntax.proofs.Places.{rest_key}
 
 module _ {A : Type 0} (Shows : Token → A → Type 0) (t : Text) (i : ℕ) where
   pub takes : ShowsOne Shows → (a : A) → Showing Shows a (rest t i) → ReadsOff (One Shows) Anything (rest t i) a (rest t (i + 1))
@@ -28,11 +29,11 @@ module _ {A : Type 0} (Shows : Token → A → Type 0) (t : Text) (i : ℕ) wher
   pub takes_none : Example (One Shows) → Without Shows (rest t i) → StopsAt (One Shows) Anything (rest t i) (rest t i)
   takes_none x n = one_stops Shows (rest t i) x n
 
-  -- what the next token shows
-  pub shown_next : {X E : Type 0} (value : X → A) (k : Token) → first (rest t i) ≡ Some k → (r : Result (Option X) E) → IfOk r (IsShown Shows value k) → IfOk r (IsShownNext Shows value t i)
-  shown_next value k e (Ok (Some x)) h = ((k, e, h), within t i k e)
-  shown_next value k e (Ok None) h = λ j a f s. let same : j ≡ k = (let both : Some j ≡ Some k = sym f ∙ e in cc) in h a (subst (λ (y : Token). Shows y a) same s)
-  shown_next value k e (Err m) h = tt
+-- what was taken of the next token
+module _ {X : Type 0} (leaf : Leaf X) (t : Text) (i j : ℕ) where
+  pub taken_or_not : (o : Option X) → IsTakenNext leaf t i j o → Found (One leaf.shows) Anything leaf.meant (rest t i) (rest t j) (ok_or o Syntax)
+  taken_or_not (Some x) (s, h, e) = rw e (takes leaf.shows t i leaf.one (leaf.meant x) s)
+  taken_or_not None (n, e) = rw e (takes_none leaf.shows t i leaf.example n)
 
 -- the token that was seen, by its kind
 module _ (s : Seen) where
@@ -85,7 +86,7 @@ declared_in w p _ e _ (shows_declared x q d) = let same : x ≡ w = cc in subst 
 nominal_in : (w : List ℕ) (p : ℕ) (k : Token) → k ≡ word w p → (n : ℕ) → ShowsNominal k n → IsNominal w n
 nominal_in w p _ e _ (shows_nominal x q n d) = let same : x ≡ w = cc in subst (λ (y : List ℕ). IsNominal y n) same d
 
-pub nominal_where : (w : List ℕ) (p : ℕ) (k : Token) (o : Option ℕ) → k ≡ word w p → MatchOption o ((n : ℕ) → IsNominal w n → ⊥) (IsNominal w) → IsShown ShowsNominal (λ n. n) k o
+pub nominal_where : (w : List ℕ) (p : ℕ) (k : Token) (o : Option ℕ) → k ≡ word w p → MatchOption o ((n : ℕ) → IsNominal w n → ⊥) (IsNominal w) → IsShown nominal_name k o
 nominal_where w p k (Some n) e d = subst (λ (j : Token). ShowsNominal j n) (sym e) (shows_nominal w p n d)
 nominal_where w p k None e d = λ n s. d n (nominal_in w p k e n s)
 

@@ -1,5 +1,5 @@
 -- Kinds of tokens: what each says of its token.
-use Rattle.std.proofs.Common.{◌≡◌, ℕ, Bool, true, false, List, map, length, Option, Some, None, refl, ap}
+use Rattle.std.proofs.Common.{◌≡◌, ℕ, Bool, true, false, List, map, length, Option, Some, None, unwrap_or, refl, ap}
 use Rattle.std.specs.Prelude.{if◌then◌else◌}
 use Rattle.std.specs.List.{list_all}
 use Rattle.std.specs.Str.Parse.{digits_value}
@@ -217,17 +217,13 @@ signs_agree = (
   ),
 )
 
-pub reserved_word : (x : List ℕ) (k : Kind) → listed known_words x ≡ Some k → (p : ℕ) → token_by lexed.Word x p ≡ meaning k x p
-reserved_word x k e p = same_kind reserved known_words words_agree x k e word x p
+pub word_kind : (x : List ℕ) (o : Option Kind) → listed known_words x ≡ o → (p : ℕ) → token_by lexed.Word x p ≡ meaning (unwrap_or o kind.Word) x p
+word_kind x (Some k) e p = same_kind reserved known_words words_agree x k e word x p
+word_kind x None e p = ap (λ (o : Option (List ℕ → ℕ → Token)). otherwise o word x p) (no_kind reserved known_words words_agree x e)
 
-pub free_word : (x : List ℕ) → listed known_words x ≡ None → (p : ℕ) → token_by lexed.Word x p ≡ meaning kind.Word x p
-free_word x e p = ap (λ (o : Option (List ℕ → ℕ → Token)). otherwise o word x p) (no_kind reserved known_words words_agree x e)
-
-pub known_sign : (x : List ℕ) (k : Kind) → listed known_signs x ≡ Some k → (p : ℕ) → token_by lexed.Sign x p ≡ meaning k x p
-known_sign x k e p = same_kind signs known_signs signs_agree x k e (plainly (other unusable)) x p
-
-pub unknown_sign : (x : List ℕ) → listed known_signs x ≡ None → (p : ℕ) → token_by lexed.Sign x p ≡ meaning kind.Unusable x p
-unknown_sign x e p = ap (λ (o : Option (List ℕ → ℕ → Token)). otherwise o (plainly (other unusable)) x p) (no_kind signs known_signs signs_agree x e)
+pub sign_kind : (x : List ℕ) (o : Option Kind) → listed known_signs x ≡ o → (p : ℕ) → token_by lexed.Sign x p ≡ meaning (unwrap_or o kind.Unusable) x p
+sign_kind x (Some k) e p = same_kind signs known_signs signs_agree x k e (plainly (other unusable)) x p
+sign_kind x None e p = ap (λ (o : Option (List ℕ → ℕ → Token)). otherwise o (plainly (other unusable)) x p) (no_kind signs known_signs signs_agree x e)
 
 -- a token that is no word
 abbrev IsMark : Token → Type 0

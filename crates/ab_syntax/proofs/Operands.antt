@@ -5,21 +5,23 @@ use Rattle.ab_grammar.specs.declared.Infix.TheVariants as signs_of
 use Rattle.ab_grammar.specs.Token.{Token, Other, right_brace, colon, other, sign}
 use Rattle.ab_grammar.specs.Tree.{Tree, judgement}
 use Rattle.ab_grammar.proofs.Following.{Follower, by_right_paren, by_right_brace, by_right_bracket, by_turnstile, by_comma, by_colon, by_other}
-use Rattle.ab_grammar.proofs.Machine.{Frame, State, Bare, compound, have, enclosed, step, finish, starts, grow, step_have, step_enclosed, shut, Below, bottom, bracket, Bracket, paren, pi_paren, item_in, focus_in, goal_in, close, closing}
+use Rattle.ab_grammar.proofs.Machine.{Frame, State, Bare, compound, have, enclosed, step, finish, starts_operand, grow, step_have, step_enclosed, shut, Below, bottom, bracket, Bracket, paren, pi_paren, item_in, focus_in, goal_in, close, closing}
 use Rattle.ab_syntax.specs.declared.kind.Kind.{Kind}
 use Rattle.ab_syntax.specs.declared.kind.Kind.TheVariants as kind
 use Rattle.ab_syntax.specs.declared.machine.Next.{Next}
+use Rattle.ab_syntax.specs.declared.machine.State.{State as Read}
+use Rattle.ab_syntax.specs.declared.tree.Parse.{Parse}
 use Rattle.ab_syntax.specs.declared.machine.Next.TheVariants.{On, Done, Wrong}
 use Rattle.ab_syntax.specs.Kinds.{meaning}
 use Rattle.ab_syntax.specs.Steps.{follows, begins}
 use Rattle.ab_syntax.specs.States.{Says, IsNext, IsClosed}
 
 -- what goes on alike and has read alike
-pub says_same : (o u : Option State) (x y : Option Tree) (k : Token) (fs : List Frame) (r : Next) → o ≡ u → x ≡ y → Says u y k fs r → Says o x k fs r
+pub says_same : (o u : Option State) (x y : Option Tree) (k : Token) (fs : List Frame) (r : Next Read Parse) → o ≡ u → x ≡ y → Says u y k fs r → Says o x k fs r
 says_same o u x y k fs r e f h = subst (λ (z : Option State). Says z x k fs r) (sym e) (subst (λ (z : Option Tree). Says u z k fs r) (sym f) h)
 
 -- a token that can't follow an expression ends none
-pub says_within : (o : Option State) (x : Option Tree) (k : Token) (fs : List Frame) (r : Next) → (Follower (Some k) → ⊥) → Says o None k fs r → Says o x k fs r
+pub says_within : (o : Option State) (x : Option Tree) (k : Token) (fs : List Frame) (r : Next Read Parse) → (Follower (Some k) → ⊥) → Says o None k fs r → Says o x k fs r
 says_within o x k fs (On t) n h = h
 says_within o x k fs (Done t) n h = let bad = h.1 in absurd (cc)
 says_within o x k fs Wrong n h = (h.0, inr n)
@@ -59,7 +61,7 @@ module _ (t : Tree) (fs gs : List Frame) where
   closes _ by_colon = sym (no_closing_colon (shut t fs).below (shut t fs).inner)
   closes _ (by_other o) = sym (no_closing_other o (shut t fs).below (shut t fs).inner)
 
-  pub closed_next : (k : Token) → Follower (Some k) → (r : Next) → IsClosed (shut t fs) k gs r → IsNext (enclosed fs t) k gs r
+  pub closed_next : (k : Token) → Follower (Some k) → (r : Next Read Parse) → IsClosed (shut t fs) k gs r → IsNext (enclosed fs t) k gs r
   closed_next k f r h = says_same (step_enclosed fs t k) _ (finish (enclosed fs t)) (finish (enclosed fs t)) k gs r (closes k f) refl h
 
   -- a judgement with no context ends
@@ -109,7 +111,7 @@ module _ (t : Tree) (fs gs : List Frame) where
   stuck_enclosed kind.Unusable e n w p = let bad : true ≡ false = e in absurd (cc)
 
   -- where an argument begins
-  begun : (k : Kind) → begins k ≡ true → (w : List ℕ) (p : ℕ) → (step_have compound fs t (meaning k w p) ≡ starts (grow fs t) (meaning k w p)) × (Follower (Some (meaning k w p)) → ⊥)
+  begun : (k : Kind) → begins k ≡ true → (w : List ℕ) (p : ℕ) → (step_have compound fs t (meaning k w p) ≡ starts_operand (grow fs t) (meaning k w p)) × (Follower (Some (meaning k w p)) → ⊥)
   begun kind.Word e w p = (refl, λ f. elim f [ ])
   begun kind.Truth e w p = (refl, λ f. elim f [ ])
   begun kind.Forall e w p = (refl, λ f. elim f [ ])
@@ -149,7 +151,7 @@ module _ (t : Tree) (fs gs : List Frame) where
   begun kind.Text e w p = let bad : false ≡ true = e in absurd (cc)
   begun kind.Unusable e w p = let bad : false ≡ true = e in absurd (cc)
 
-  pub have_begun : (k : Kind) → begins k ≡ true → (w : List ℕ) (p : ℕ) → (r : Next) → Says (starts (grow fs t) (meaning k w p)) None (meaning k w p) gs r → IsNext (have compound fs t) (meaning k w p) gs r
+  pub have_begun : (k : Kind) → begins k ≡ true → (w : List ℕ) (p : ℕ) → (r : Next Read Parse) → Says (starts_operand (grow fs t) (meaning k w p)) None (meaning k w p) gs r → IsNext (have compound fs t) (meaning k w p) gs r
   have_begun k e w p r h =
       let b = begun k e w p in
       says_within (step_have compound fs t (meaning k w p)) (finish (have compound fs t)) (meaning k w p) gs r b.1 (says_same _ _ None None (meaning k w p) gs r b.0 refl h)
@@ -195,7 +197,7 @@ module _ (t : Tree) (fs gs : List Frame) where
   same_have kind.Text e w p = refl
   same_have kind.Unusable e w p = refl
 
-  pub have_enclosed : (k : Kind) → begins k ≡ false → (w : List ℕ) (p : ℕ) → (r : Next) → IsNext (enclosed fs t) (meaning k w p) gs r → IsNext (have compound fs t) (meaning k w p) gs r
+  pub have_enclosed : (k : Kind) → begins k ≡ false → (w : List ℕ) (p : ℕ) → (r : Next Read Parse) → IsNext (enclosed fs t) (meaning k w p) gs r → IsNext (have compound fs t) (meaning k w p) gs r
   have_enclosed k e w p r h = says_same (step_have compound fs t (meaning k w p)) _ (finish (have compound fs t)) (finish (enclosed fs t)) (meaning k w p) gs r (same_have k e w p) refl h
 
   -- where no backslash comes

@@ -11,7 +11,6 @@ use Rattle.ab_grammar.proofs.Continuing.{Continues}
 use Rattle.ab_grammar.proofs.Rows.{TwoParts}
 use Rattle.ab_syntax.specs.declared.stop.Stop.{Stop}
 use Rattle.ab_syntax.specs.declared.stop.Stop.TheVariants.{Syntax, TooNested, Memory}
-use Rattle.ab_syntax.specs.Lists.{IsMemory}
 use Rattle.ab_syntax.specs.Reader.{Refused, Found, IsClosedBy}
 
 -- a refusal of the last part is one of the whole
@@ -43,12 +42,6 @@ found_on c value rest (Err s) p = refused_on c s rest p
 pub fewer_found : {A X : Type 0} (G : List Spot → A → Type 0) (F E : List Token → Type 0) → ((r : List Token) → E r → F r) → (value : X → A) (ks rest : List Token) (r : Result X Stop) → Found G F value ks rest r → Found G E value ks rest r
 fewer_found G F E less value ks rest (Ok x) p = fewer_reads G F E less ks rest (value x) p
 fewer_found G F E less value ks rest (Err s) p = refused_fewer G F E less ks rest s p
-
--- want of memory refuses anything
-pub memory_refuses : {A : Type 0} (G : List Spot → A → Type 0) (F : List Token → Type 0) (s : Stop) (ks rest : List Token) → IsMemory s → Refused G F s ks rest
-memory_refuses G F (Memory e) ks rest h = tt
-memory_refuses G F Syntax ks rest h = absurd h
-memory_refuses G F TooNested ks rest h = absurd h
 
 -- items that stand for themselves
 pub as_they_are : {A : Type 0} (G : List Spot → List A → Type 0) (F : List Token → Type 0) (ks ms : List Token) (xs : List A) → ReadsOff G F ks (map (λ x. x) xs) ms → ReadsOff G F ks xs ms

@@ -13,6 +13,8 @@ use Rattle.ab_grammar.proofs.Looping.{SoFar, goes_on, item_fails, ends, first_re
 use Rattle.ab_grammar.proofs.Rows.{TwoParts, two_parts}
 use Rattle.ab_syntax.specs.declared.stop.Stop.{Stop}
 use Rattle.ab_syntax.specs.declared.stop.Stop.TheVariants.{Syntax, TooNested, Memory}
+use Rattle.ab_syntax.specs.Kinds.{key_of}
+use Rattle.ab_syntax.specs.Lists.{ListForm}
 use Rattle.ab_syntax.specs.Reader.{IsTaken}
 use Rattle.ab_syntax.specs.Reader.{Refused}
 
@@ -43,35 +45,35 @@ pub key_taken : (k : Token) (ks ms : List Token) → ks ≡ k ∷ ms → ReadsOf
 key_taken k ks ms e = subst (λ (w : List Token). ReadsOff (Key k) Anything w tt ms) (sym e) (key_reads k ms)
 
 -- the items so far were read, from ks up to here
-abbrev pub ItemsTo : {A : Type 0} → Token → (List Spot → A → Type 0) → (List Token → Type 0) → List Token → List A → List Token → Type 0
-ItemsTo k G F ks v ms = SoFar (Key k ▸ G) (Separated (Key k) G) F ks v ms
+abbrev pub ItemsTo : {X : Type 0} (list : ListForm X) → List Token → List list.Meant → List Token → Type 0
+ItemsTo list ks v ms = SoFar (Key (key_of list.sign) ▸ list.form) (Separated (Key (key_of list.sign)) list.form) list.list_ends ks v ms
 
-module _ {A : Type 0} (k : Token) (G : List Spot → A → Type 0) (E F : List Token → Type 0) (out : (r : List Token) → F r → first r ≡ Some k → ⊥) (less : (r : List Token) → Follow (Many (Key k ▸ G)) F r → E r) (ks : List Token) where
-  pub first_item : (ms : List Token) (a : A) → ReadsOff G E ks a ms → ItemsTo k G F ks (a ∷ []) ms
-  first_item ms a p = first_read G (Key k ▸ G) E F less ks ms a p
+module _ {X : Type 0} (list : ListForm X) (ks : List Token) where
+  pub first_item : (ms : List Token) (a : list.Meant) → ReadsOff list.form list.ends ks a ms → ItemsTo list ks (a ∷ []) ms
+  first_item ms a p = first_read list.form (Key (key_of list.sign) ▸ list.form) list.ends list.list_ends list.within ks ms a p
 
-  pub no_first_item : (s : Stop) (rest : List Token) → Refused G E s ks rest → Refused (Separated (Key k) G) F s ks rest
-  no_first_item Syntax rest r = first_fails G (Key k ▸ G) E F less ks ungrammatical rest r
-  no_first_item TooNested rest r = first_fails G (Key k ▸ G) E F less ks too_nested rest r
+  pub no_first_item : (s : Stop) (rest : List Token) → Refused list.form list.ends s ks rest → Refused (Separated (Key (key_of list.sign)) list.form) list.list_ends s ks rest
+  no_first_item Syntax rest r = first_fails list.form (Key (key_of list.sign) ▸ list.form) list.ends list.list_ends list.within ks ungrammatical rest r
+  no_first_item TooNested rest r = first_fails list.form (Key (key_of list.sign) ▸ list.form) list.ends list.list_ends list.within ks too_nested rest r
   no_first_item (Memory e) rest r = tt
 
-  pub next_item : (ms ls ns : List Token) (v : List A) (a : A) → ms ≡ k ∷ ls → ReadsOff G E ls a ns → ItemsTo k G F ks v ms → ItemsTo k G F ks (v ++ a ∷ []) ns
-  next_item ms ls ns v a e p s = goes_on (Key k ▸ G) (Separated (Key k) G) F ks ms ns v a (key_apart k G E F out less ms (ap first e)) (subst (λ (w : List Token). ReadsOff (Key k ▸ G) (Follow (Many (Key k ▸ G)) F) w a ns) (sym e) (keyed_reads k G E F out less ls ns a p)) s
+  pub next_item : (ms ls ns : List Token) (v : List list.Meant) (a : list.Meant) → ms ≡ (key_of list.sign) ∷ ls → ReadsOff list.form list.ends ls a ns → ItemsTo list ks v ms → ItemsTo list ks (v ++ a ∷ []) ns
+  next_item ms ls ns v a e p s = goes_on (Key (key_of list.sign) ▸ list.form) (Separated (Key (key_of list.sign)) list.form) list.list_ends ks ms ns v a (key_apart (key_of list.sign) list.form list.ends list.list_ends list.apart list.within ms (ap first e)) (subst (λ (w : List Token). ReadsOff (Key (key_of list.sign) ▸ list.form) (Follow (Many (Key (key_of list.sign) ▸ list.form)) list.list_ends) w a ns) (sym e) (keyed_reads (key_of list.sign) list.form list.ends list.list_ends list.apart list.within ls ns a p)) s
 
-  behind_key : (ms ls rest : List Token) (c : Cause) → ms ≡ k ∷ ls → RefusesAt G E c ls rest → RefusesAt (Key k ▸ G) (Follow (Many (Key k ▸ G)) F) c ms rest
-  behind_key ms ls rest c e r = subst (λ (w : List Token). RefusesAt (Key k ▸ G) (Follow (Many (Key k ▸ G)) F) c w rest) (sym e) (keyed_refuses k G E F out less c ls rest r)
+  behind_key : (ms ls rest : List Token) (c : Cause) → ms ≡ (key_of list.sign) ∷ ls → RefusesAt list.form list.ends c ls rest → RefusesAt (Key (key_of list.sign) ▸ list.form) (Follow (Many (Key (key_of list.sign) ▸ list.form)) list.list_ends) c ms rest
+  behind_key ms ls rest c e r = subst (λ (w : List Token). RefusesAt (Key (key_of list.sign) ▸ list.form) (Follow (Many (Key (key_of list.sign) ▸ list.form)) list.list_ends) c w rest) (sym e) (keyed_refuses (key_of list.sign) list.form list.ends list.list_ends list.apart list.within c ls rest r)
 
-  pub no_next_item : (ms ls rest : List Token) (v : List A) (s : Stop) → ms ≡ k ∷ ls → Refused G E s ls rest → ItemsTo k G F ks v ms → Refused (Separated (Key k) G) F s ks rest
-  no_next_item ms ls rest v Syntax e r q = item_fails (Key k ▸ G) (Separated (Key k) G) F ks ungrammatical ms rest v (key_apart k G E F out less ms (ap first e)) (behind_key ms ls rest ungrammatical e r) q
-  no_next_item ms ls rest v TooNested e r q = item_fails (Key k ▸ G) (Separated (Key k) G) F ks too_nested ms rest v (key_apart k G E F out less ms (ap first e)) (behind_key ms ls rest too_nested e r) q
+  pub no_next_item : (ms ls rest : List Token) (v : List list.Meant) (s : Stop) → ms ≡ (key_of list.sign) ∷ ls → Refused list.form list.ends s ls rest → ItemsTo list ks v ms → Refused (Separated (Key (key_of list.sign)) list.form) list.list_ends s ks rest
+  no_next_item ms ls rest v Syntax e r q = item_fails (Key (key_of list.sign) ▸ list.form) (Separated (Key (key_of list.sign)) list.form) list.list_ends ks ungrammatical ms rest v (key_apart (key_of list.sign) list.form list.ends list.list_ends list.apart list.within ms (ap first e)) (behind_key ms ls rest ungrammatical e r) q
+  no_next_item ms ls rest v TooNested e r q = item_fails (Key (key_of list.sign) ▸ list.form) (Separated (Key (key_of list.sign)) list.form) list.list_ends ks too_nested ms rest v (key_apart (key_of list.sign) list.form list.ends list.list_ends list.apart list.within ms (ap first e)) (behind_key ms ls rest too_nested e r) q
   no_next_item ms ls rest v (Memory e) q r h = tt
 
-  pub last_item : (ms : List Token) (v : List A) → (first ms ≡ Some k → ⊥) → ItemsTo k G F ks v ms → ReadsOff (Separated (Key k) G) F ks v ms
-  last_item ms v n s = ends (Key k ▸ G) (Separated (Key k) G) F ks ms v (key_missing k G E F out less (Follow (Many (Key k ▸ G)) F) ms n) s
+  pub last_item : (ms : List Token) (v : List list.Meant) → (first ms ≡ Some (key_of list.sign) → ⊥) → ItemsTo list ks v ms → ReadsOff (Separated (Key (key_of list.sign)) list.form) list.list_ends ks v ms
+  last_item ms v n s = ends (Key (key_of list.sign) ▸ list.form) (Separated (Key (key_of list.sign)) list.form) list.list_ends ks ms v (key_missing (key_of list.sign) list.form list.ends list.list_ends list.apart list.within (Follow (Many (Key (key_of list.sign) ▸ list.form)) list.list_ends) ms n) s
 
   -- the same where the items are what the program's items stand for
-  pub next_mapped : {X : Type 0} (f : X → A) (xs ys : List X) (x : X) (ms ls ns : List Token) → ys ≡ xs ++ x ∷ [] → ms ≡ k ∷ ls → ReadsOff G E ls (f x) ns → ItemsTo k G F ks (map f xs) ms → ItemsTo k G F ks (map f ys) ns
-  next_mapped f xs ys x ms ls ns e h p s = subst (λ v. ItemsTo k G F ks v ns) (sym (ap (map f) e ∙ map-append f xs (x ∷ []))) (next_item ms ls ns (map f xs) (f x) h p s)
+  pub next_mapped : (xs ys : List X) (x : X) (ms ls ns : List Token) → ys ≡ xs ++ x ∷ [] → ms ≡ (key_of list.sign) ∷ ls → ReadsOff list.form list.ends ls (list.meant x) ns → ItemsTo list ks (map list.meant xs) ms → ItemsTo list ks (map list.meant ys) ns
+  next_mapped xs ys x ms ls ns e h p s = subst (λ v. ItemsTo list ks v ns) (sym (ap (map list.meant) e ∙ map-append list.meant xs (x ∷ []))) (next_item ms ls ns (map list.meant xs) (list.meant x) h p s)
 
-  pub first_mapped : {X : Type 0} (f : X → A) (xs ys : List X) (x : X) (ms : List Token) → xs ≡ [] → ys ≡ xs ++ x ∷ [] → ReadsOff G E ks (f x) ms → ItemsTo k G F ks (map f ys) ms
-  first_mapped f xs ys x ms z e p = subst (λ v. ItemsTo k G F ks v ms) (sym (ap (map f) (e ∙ ap (λ (v : List _). v ++ x ∷ []) z))) (first_item ms (f x) p)
+  pub first_mapped : (xs ys : List X) (x : X) (ms : List Token) → xs ≡ [] → ys ≡ xs ++ x ∷ [] → ReadsOff list.form list.ends ks (list.meant x) ms → ItemsTo list ks (map list.meant ys) ms
+  first_mapped xs ys x ms z e p = subst (λ v. ItemsTo list ks v ms) (sym (ap (map list.meant) (e ∙ ap (λ (v : List _). v ++ x ∷ []) z))) (first_item ms (list.meant x) p)

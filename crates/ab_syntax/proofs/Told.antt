@@ -1,19 +1,31 @@
 -- What is told of a whole text, in bytes.
-use Rattle.std.proofs.Common.{◌≡◌, ◌≢◌, ℕ, ◌<◌, ◌≤◌, List, length, min, refl, ap, sym, ◌∙◌, subst, ◌⊎◌, inl, inr, arith}
+use Rattle.std.proofs.Common.{◌≡◌, ℕ, zero, suc, ◌<◌, ◌≤◌, List, [], ◌∷◌, length, map, min, get_or, Result, Ok, Err, IfOk, refl, ap, sym, ◌∙◌, subst, ◌⊎◌, inl, inr, arith}
 use Rattle.std.proofs.lemmas.List.{length-map}
 use Rattle.ab_lex.specs.declared.token.Token.{Token as Lexed}
 use Rattle.ab_grammar.specs.Token.{Token}
 use Rattle.ab_grammar.specs.Nesting.{Spot, blamed}
-use Rattle.ab_grammar.specs.Language.{SyntaxAt, TooNestedAt}
-use Rattle.ab_syntax.specs.declared.text.Source.{Source}
+use Rattle.ab_grammar.specs.Language.{Accepted, SyntaxAt, TooNestedAt}
+use Rattle.ab_grammar.proofs.Following.{Followed}
+use Rattle.ab_syntax.specs.declared.text.Text.{Text}
 use Rattle.ab_syntax.specs.declared.stop.Stop.{Stop}
 use Rattle.ab_syntax.specs.declared.stop.Stop.TheVariants.{Syntax, TooNested, Memory}
+use Rattle.ab_syntax.specs.declared.fault.ParseFault.{ParseFault}
 use Rattle.ab_syntax.specs.declared.fault.ParseFault.TheVariants as fault
-use Rattle.ab_syntax.specs.Tokens.{token_of}
-use Rattle.ab_syntax.specs.Faults.{place_from, IsTold, IsCommandPlaceFrom}
-use Rattle.ab_syntax.specs.Reader.{all_of}
-use Rattle.ab_syntax.specs.Wholes.{Tells, place_in, fault_of}
-use Rattle.ab_syntax.proofs.FaultPlaces.{place_behind}
+use Rattle.ab_syntax.specs.Tokens.{token_of, tokens_from}
+use Rattle.ab_syntax.specs.Faults.{place_from, place_past, nested_from, IsTold, IsCommandPlaceFrom}
+use Rattle.ab_syntax.specs.Reader.{AreSeen, place_of, rest, Found}
+use Rattle.ab_syntax.specs.Wholes.{Answers, IsAnswer, place_in, fault_of, told_by}
+use Rattle.ab_syntax.proofs.Wholes.{as_many, answers}
+
+place_listed : (e o : ℕ) (ts : List Lexed) (i : ℕ) → get_or (map (place_of o) ts) i e ≡ place_from e o ts i
+place_listed e o [] i = refl
+place_listed e o (t ∷ ts) zero = refl
+place_listed e o (t ∷ ts) (suc i) = place_listed e o ts i
+
+place_behind : (e o : ℕ) (ts : List Lexed) (i : ℕ) → length ts ≤ i → e ≡ place_from e o ts i
+place_behind e o [] i h = refl
+place_behind e o (t ∷ ts) zero h = absurd (omega arith)
+place_behind e o (t ∷ ts) (suc i) h = place_behind e o ts i (omega arith)
 
 -- behind all tokens it doesn't matter how far
 place_min : (e o : ℕ) (ts : List Lexed) (i : ℕ) → place_from e o ts i ≡ place_from e o ts (min i (length ts))
@@ -23,32 +35,37 @@ place_min e o ts i = by_place (search (arith))
     by_place (inl h) = let m : i ≡ min i (length ts) = omega arith in ap (place_from e o ts) m
     by_place (inr h) = let m : length ts ≤ min i (length ts) = omega arith in sym (place_behind e o ts i h) ∙ place_behind e o ts (min i (length ts)) m
 
--- a fault of the text, where ks are its tokens
-module _ {A : Type 0} (G : List Spot → A → Type 0) (s : Source) (ks : List Token) (same : ks ≡ all_of s) where
-  as_many : length (all_of s) ≡ length s.tokens.now
-  as_many = length-map s.tokens.now (token_of s.bytes.now s.origin)
+-- a text, where these are its tokens
+module _ (t : Text) (bytes : List ℕ) (o : ℕ) (ts : List Lexed) (all : AreSeen bytes o ts t.tokens.now) (end : t.end ≡ length bytes) where
+  place_is : (i : ℕ) → place_in t i ≡ place_past bytes o ts i
+  place_is i = ap (λ (ps : List ℕ). get_or ps i t.end) all.1 ∙ ap (λ e. get_or (map (place_of o) ts) i e) end ∙ place_listed (length bytes) o ts i
 
-  place_of_refused : (i : ℕ) → place_in s i ≡ place_in s (min i (length (all_of s)))
-  place_of_refused i = place_min (length s.bytes.now) s.origin s.tokens.now i ∙ ap (λ n. place_in s (min i n)) (sym as_many)
+  token_count : length ts ≡ length (tokens_from bytes o ts)
+  token_count = sym (length-map ts (token_of bytes o))
 
-  pub told_syntax : (p : Stop) (i : ℕ) → Tells G (all_of s) i p → (place : ℕ) → fault_of s ks i p ≡ fault.Syntax place → (j : ℕ) × SyntaxAt G (all_of s) j × (place ≡ place_in s j)
-  told_syntax Syntax i h place e = let is : place ≡ place_in s i = cc in (min i (length (all_of s)), h, is ∙ place_of_refused i)
-  told_syntax TooNested i h place e = absurd (cc)
-  told_syntax (Memory m) i h place e = absurd (cc)
+  module _ {A : Type 0} (G : List Spot → A → Type 0) where
+    -- the token that is refused
+    pub refused_token : (i place : ℕ) → SyntaxAt G (tokens_from bytes o ts) (min i (length (tokens_from bytes o ts))) → place_in t i ≡ place → (j : ℕ) × SyntaxAt G (tokens_from bytes o ts) j × (place ≡ place_past bytes o ts j)
+    refused_token i place h e =
+        let m = min i (length (tokens_from bytes o ts)) in
+        (m, h, sym e ∙ place_is i ∙ place_min (length bytes) o ts i ∙ ap (λ n. place_past bytes o ts (min i n)) token_count)
 
-  pub told_nested : (p : Stop) (i : ℕ) → Tells G (all_of s) i p → (place : ℕ) → fault_of s ks i p ≡ fault.TooNested place → (j : ℕ) × TooNestedAt G (all_of s) j × (place ≡ place_in s (blamed (all_of s) j))
-  told_nested TooNested i h place e = let is : place ≡ place_in s (blamed ks i) = cc in (i, h, is ∙ ap (λ (w : List Token). place_in s (blamed w i)) same)
-  told_nested Syntax i h place e = absurd (cc)
-  told_nested (Memory m) i h place e = absurd (cc)
+    -- the token that is told to be no command
+    pub refused_command : (i j place : ℕ) → IsTold (rest t 0) (min i (length t.tokens.now)) j → SyntaxAt G (tokens_from bytes o ts) (min i (length (tokens_from bytes o ts))) → place_in t j ≡ place → (m : ℕ) × SyntaxAt G (tokens_from bytes o ts) m × IsCommandPlaceFrom bytes o ts m place
+    refused_command i j place told h e =
+        let many : length t.tokens.now ≡ length (tokens_from bytes o ts) = sym (as_many t) ∙ ap length all.0 in
+        (min i (length (tokens_from bytes o ts)), h, (j, subst (λ (w : List Token). IsTold w (min i (length (tokens_from bytes o ts))) j) all.0 (subst (λ (n : ℕ). IsTold (rest t 0) (min i n) j) many told), sym e ∙ place_is j))
 
-  -- a command's fault
-  pub told_no_command : (i j n : ℕ) → Tells G (all_of s) i Syntax → length ks ≡ n → IsTold ks (min i n) j → (place : ℕ) → place_in s j ≡ place
-      → (m : ℕ) × SyntaxAt G (all_of s) m × IsCommandPlaceFrom s.bytes.now s.origin s.tokens.now m place
-  told_no_command i j n h many told place e =
-      let all : n ≡ length (all_of s) = sym many ∙ ap length same in
-      (min i (length (all_of s)), h, (j, subst (λ (w : List Token). IsTold w (min i (length (all_of s))) j) same (subst (λ (m : ℕ). IsTold ks (min i m) j) all told), sym e))
+    module _ {X : Type 0} (value : X → A) (S : ℕ → Type 0) (i j : ℕ) (refused : (place : ℕ) → SyntaxAt G (tokens_from bytes o ts) (min i (length (tokens_from bytes o ts))) → place_in t j ≡ place → S place) where
+      -- what is promised of an answer
+      abbrev Promised : Result X ParseFault → Type 0
+      Promised r = IfOk r (λ x. Accepted G (tokens_from bytes o ts) (value x)) × (((place : ℕ) → r ≡ Err (fault.Syntax place) → S place) × ((place : ℕ) → r ≡ Err (fault.TooNested place) → (k : ℕ) × TooNestedAt G (tokens_from bytes o ts) k × (place ≡ nested_from bytes o ts k)))
 
-  pub told_other : (p : Stop) (i : ℕ) → p ≢ Syntax → (place : ℕ) → fault_of s ks i p ≡ fault.Syntax place → ⊥
-  told_other Syntax i n place e = n refl
-  told_other TooNested i n place e = absurd (cc)
-  told_other (Memory m) i n place e = absurd (cc)
+      promised : (q : Result X Stop) → Answers G value (tokens_from bytes o ts) i q → Promised (told_by (fault_of t i j) q)
+      promised (Ok x) h = (h, (λ place e. absurd (cc), λ place e. absurd (cc)))
+      promised (Err Syntax) h = (tt, (λ place e. let is : place_in t j ≡ place = cc in refused place h is, λ place e. absurd (cc)))
+      promised (Err TooNested) h = (tt, (λ place e. absurd (cc), λ place e. let is : place ≡ place_in t (blamed (rest t 0) i) = cc in (i, h, is ∙ place_is _ ∙ ap (λ (w : List Token). place_past bytes o ts (blamed w i)) all.0)))
+      promised (Err (Memory m)) h = (tt, (λ place e. absurd (cc), λ place e. absurd (cc)))
+
+      pub answered : (part : Result X Stop) (r : Result X ParseFault) → Found G Followed value (rest t 0) (rest t i) part → IsAnswer t i j part r → Promised r
+      answered part r f (q, c, e) = subst Promised (sym e) (promised q (subst (λ (w : List Token). Answers G value w i q) all.0 (answers t G value i part q f c)))

@@ -1,5 +1,5 @@
 -- Reading a type along a text.
-use Rattle.std.proofs.Common.{◌≡◌, ℕ, ◌+◌, ◌<◌, ◌≤◌, List, [], ◌∷◌, length, ap, sym, ◌∙◌, subst, Box}
+use Rattle.std.proofs.Common.{◌≡◌, ℕ, ◌+◌, ◌<◌, ◌≤◌, List, [], ◌∷◌, length, ap, sym, ◌∙◌, subst, Box, Option}
 use Rattle.ab_grammar.specs.Token.{Token}
 use Rattle.ab_grammar.specs.Nesting.{Layer, nest, depth_of, outside, limit}
 use Rattle.ab_grammar.specs.Language.{TypeExpression}
@@ -11,9 +11,8 @@ use Rattle.std.specs.Global.{Global}
 use Rattle.ab_syntax.specs.declared.text.Text.{Text}
 use Rattle.ab_syntax.specs.declared.stop.Stop.{Stop}
 use Rattle.ab_syntax.specs.declared.stop.Stop.TheVariants.{Syntax, TooNested, Memory}
-use Rattle.ab_syntax.specs.declared.types.TypeState.{TypeState as Read}
 use Rattle.ab_syntax.specs.declared.tree.TypeParse.{TypeParse}
-use Rattle.ab_syntax.specs.declared.types.TypeNext.TheVariants.{On, Done, Wrong}
+use Rattle.ab_syntax.specs.declared.machine.Next.TheVariants.{On, Done, Wrong}
 use Rattle.ab_syntax.specs.Reader.{rest, next_or_stop, Refused}
 use Rattle.ab_syntax.specs.Steps.{IsTooDeep, type_state, IsTypeNext}
 use Rattle.ab_syntax.specs.Trees.{type_of}
@@ -32,7 +31,7 @@ module _ (ks : List Token) (s : TypeState) (ls : List Layer) (fs : List TypeFram
   type_refused [] so_far h = type_wrong_at_end ks s ls so_far (no_stop h.1)
   type_refused (k ∷ r) so_far h = type_wrong ks k r s ls so_far h.0 h.1
 
-  module _ (t : Text) (i : ℕ) (so_far : TypeSoFar ks (rest t i) s ls) (m : Read) (on : IsTypeNext s (next_or_stop (rest t i)) fs (On m)) where
+  module _ (t : Text) (i : ℕ) (so_far : TypeSoFar ks (rest t i) s ls) (m : Option (Box TypeParse Global)) (on : IsTypeNext s (next_or_stop (rest t i)) fs (On m)) where
     abbrev k : Token
     k = next_or_stop (rest t i)
 

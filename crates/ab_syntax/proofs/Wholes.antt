@@ -1,5 +1,5 @@
 -- From the front of a text to all of it: what was read or refused says whether the tokens are a text.
-use Rattle.std.proofs.Common.{◌≡◌, ◌≢◌, ℕ, ◌<◌, ◌≤◌, List, [], length, drop, min, Result, Ok, Err, ap, sym, ◌∙◌, subst, length-drop, ◌⊎◌, inl, inr, arith}
+use Rattle.std.proofs.Common.{◌≡◌, ◌≢◌, ℕ, ◌<◌, ◌≤◌, List, [], length, drop, min, Result, Ok, Err, refl, ap, sym, ◌∙◌, subst, length-drop, ◌⊎◌, inl, inr, arith}
 use Rattle.std.proofs.lemmas.List.{length-map, drop-map, drop_all}
 use Rattle.ab_grammar.specs.Token.{Token}
 use Rattle.ab_grammar.proofs.Following.{Followed, by_end}
@@ -8,10 +8,11 @@ use Rattle.ab_grammar.specs.Language.{Accepted, SyntaxAt}
 use Rattle.ab_grammar.proofs.Reading.{ReadsOff, StopsAt, NestsAt}
 use Rattle.ab_grammar.proofs.WholeTexts.{accepted, refused, stopped, nested}
 use Rattle.ab_syntax.specs.declared.text.Text.{Text}
+use Rattle.ab_syntax.specs.declared.fault.ParseFault.{ParseFault}
 use Rattle.ab_syntax.specs.declared.stop.Stop.{Stop}
 use Rattle.ab_syntax.specs.declared.stop.Stop.TheVariants.{Syntax, TooNested, Memory}
-use Rattle.ab_syntax.specs.Reader.{seen, rest, Refused, Found, IsComplete}
-use Rattle.ab_syntax.specs.Wholes.{Tells, Answers}
+use Rattle.ab_syntax.specs.Reader.{seen, rest, Refused, Found}
+use Rattle.ab_syntax.specs.Wholes.{Tells, Answers, IsComplete, IsAnswer, fault_of}
 
 -- behind all tokens it doesn't matter how far
 drop_min : (ts : List Token) (i : ℕ) → drop i ts ≡ drop (min i (length ts)) ts
@@ -58,12 +59,21 @@ module _ (t : Text) where
         nested G Followed by_end (rest t 0) i h (subst (λ (w : List Token). NestsAt G Followed (rest t 0) w) (rest_is i) p)
     tells (Memory e) i p = tt
 
-    answers : {X : Type 0} (value : X → A) (i : ℕ) (part r : Result X Stop) → Found G Followed value (rest t 0) (rest t i) part → IsComplete (rest t i) part r → Answers G value (rest t 0) i r
+    pub answers : {X : Type 0} (value : X → A) (i : ℕ) (part r : Result X Stop) → Found G Followed value (rest t 0) (rest t i) part → IsComplete (rest t i) part r → Answers G value (rest t 0) i r
     answers {X = X} value i (Err s) r f e = subst (λ (q : Result X Stop). Answers G value (rest t 0) i q) (sym e) (tells s i f)
     answers {X = X} value i (Ok x) (Ok y) f (e, last) =
         subst (λ (v : X). Accepted G (rest t 0) (value v)) (sym e) (accepted G Followed by_end (rest t 0) (value x) (subst (λ (w : List Token). ReadsOff G Followed (rest t 0) (value x) w) last f))
     answers value i (Ok x) (Err s) f (e, n) = subst (λ (q : Stop). Tells G (rest t 0) i q) (sym e) (more (value x) i f n)
 
-    -- where these are the tokens
-    pub complete_answers : (ts : List Token) → rest t 0 ≡ ts → {X : Type 0} (value : X → A) (i : ℕ) (part r : Result X Stop) → Found G Followed value (rest t 0) (rest t i) part → IsComplete (rest t i) part r → Answers G value ts i r
-    complete_answers ts same value i part r f e = subst (λ (w : List Token). Answers G value w i r) same (answers value i part r f e)
+-- what is told of a part
+module _ {X : Type 0} (t : Text) (i j : ℕ) (part : Result X Stop) where
+  pub all_read : (x : X) → part ≡ Ok x → length t.tokens.now ≤ i → IsAnswer t i j part (Ok x)
+  all_read x e h =
+      let none : rest t i ≡ [] = rest_is t i ∙ drop_all i (rest t 0) (omega (arith, h, as_many t)) in
+      subst (λ (p : Result X Stop). IsAnswer t i j p (Ok x)) (sym e) (Ok x, (refl, none), refl)
+
+  pub more_left : (x : X) (f : ParseFault) → part ≡ Ok x → i < length t.tokens.now → f ≡ fault_of t i j Syntax → IsAnswer t i j part (Err f)
+  more_left x f e h is = subst (λ (p : Result X Stop). IsAnswer t i j p (Err f)) (sym e) (Err Syntax, (refl, some_left t i h), ap Err is)
+
+  pub not_read : (s : Stop) (f : ParseFault) → part ≡ Err s → f ≡ fault_of t i j s → IsAnswer t i j part (Err f)
+  not_read s f e is = subst (λ (p : Result X Stop). IsAnswer t i j p (Err f)) (sym e) (Err s, refl, ap Err is)

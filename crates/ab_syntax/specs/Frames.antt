@@ -1,18 +1,18 @@
 -- What the reader of expressions keeps, in the words of the machine that reads the grammar. No public contract speaks of it.
-use Rattle.std.specs.Prelude.{◌≡◌, List, [], ◌∷◌, ◌++◌, map, option_map, Bool, true, false, Option, Some, None}
+use Rattle.std.specs.Prelude.{◌≡◌, List, [], ◌∷◌, ◌++◌, map, reverse, option_map, Option, Some, None, Box}
 use Rattle.ab_grammar.proofs.Machine as machine
 use Rattle.ab_syntax.specs.declared.frame.Bracket.{Bracket}
 use Rattle.ab_syntax.specs.declared.frame.Bracket.TheVariants as brackets
 use Rattle.ab_syntax.specs.declared.frame.Frame.{Frame}
 use Rattle.ab_syntax.specs.declared.frame.Frame.TheVariants as frame
-use Rattle.ab_syntax.specs.declared.frame.Frames.{Frames}
+use Rattle.ab_syntax.specs.declared.stack.Stack.{Stack}
 use Rattle.ab_syntax.specs.declared.frame.Fate.{Fate}
 use Rattle.ab_syntax.specs.declared.frame.Fate.TheVariants as fate
 use Rattle.ab_grammar.specs.declared.Infix.{Infix}
 use Rattle.ab_grammar.specs.Tree.{Tree, joined, applied, pi_of, abs, bind}
-use Rattle.ab_syntax.specs.declared.frame.Inside.{Inside}
+use Rattle.std.specs.Global.{Global}
+use Rattle.ab_syntax.specs.declared.tree.Parse.{Parse}
 use Rattle.ab_syntax.specs.Trees.{tree_of, binder_of}
-use Rattle.ab_syntax.specs.Steps.{stack}
 
 abbrev pub bracket_of : Bracket → machine.Bracket
 bracket_of brackets.Paren = machine.paren
@@ -29,8 +29,8 @@ frame_of (frame.Abs x p) = machine.abs_at x p
 frame_of (frame.Bind q) = machine.bind_at q.quant q.place (map binder_of q.binders.items)
 frame_of (frame.Bracket b) = machine.bracket_at (bracket_of b)
 
-abbrev pub frames_of : Frames → List machine.Frame
-frames_of v = stack frame_of v.items.items
+abbrev pub frames_of : Stack Frame → List machine.Frame
+frames_of v = map frame_of (reverse v.items.items)
 
 -- what an operand is the last part of, in a frame; in a bracket the operand alone
 abbrev pub reduced : machine.Frame → Tree → Tree
@@ -47,15 +47,10 @@ IsFate o f fate.Stays = (t : Tree) (fs : List machine.Frame) → machine.pop o t
 IsFate o f fate.Reduces = (t : Tree) (fs : List machine.Frame) → machine.pop o t (f ∷ fs) ≡ machine.pop o (reduced f t) fs
 IsFate o f fate.Refuses = (t : Tree) (fs : List machine.Frame) → machine.pop o t (f ∷ fs) ≡ None
 
--- whether there are frames, and then which
-abbrev pub IsPopped : Option (List machine.Frame) → List machine.Frame → Bool → Type 0
-IsPopped o fs true = o ≡ Some fs
-IsPopped o fs false = o ≡ None
-
 -- below the bracket that was taken away are the frames that are left
 abbrev pub below_of : Option Bracket → List machine.Frame → machine.Below
 below_of None fs = machine.bottom
 below_of (Some b) fs = machine.bracket (bracket_of b) fs
 
-abbrev pub shut_of : Inside → List machine.Frame → machine.Shut
-shut_of s fs = record { inner = tree_of s.inner.value; below = below_of s.bracket fs }
+abbrev pub shut_of : Box Parse Global × Option Bracket → List machine.Frame → machine.Shut
+shut_of s fs = record { inner = tree_of s.0.value; below = below_of s.1 fs }

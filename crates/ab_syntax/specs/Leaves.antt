@@ -1,16 +1,66 @@
--- What a token shows. No public contract speaks of it.
-use Rattle.std.specs.Prelude.{◌<◌, ℕ, length, Option, Some, None}
+-- The forms of one token that commands have, and what a token shows. No public contract speaks of it.
+use Rattle.std.specs.Prelude.{◌≡◌, ◌<◌, ◌+◌, ℕ, List, length, Option, Some, None}
 use Rattle.ab_grammar.specs.Token.{Token}
+use Rattle.ab_grammar.specs.CommandForms.{One}
+use Rattle.ab_grammar.specs.CommandTrees as tree
+use Rattle.ab_grammar.specs.CommandTable.{ShowsName, ShowsDeclared, ShowsNominal, ShowsArgument, ShowsNumber, ShowsDepth, ShowsText}
 use Rattle.ab_grammar.proofs.Following.{Showing, Without}
+use Rattle.ab_grammar.proofs.Joining.{Example}
+use Rattle.ab_grammar.proofs.Shown.{ShowsOne, one_name, name_example, one_declared, declared_example, one_nominal, nominal_example, one_argument, argument_example, one_number, number_example, one_depth, depth_example, one_text, text_example}
+use Rattle.ab_syntax.specs.declared.command.Argument.{Argument}
+use Rattle.ab_syntax.specs.declared.leaf.NameForm.{NameForm}
+use Rattle.ab_syntax.specs.declared.leaf.NameForm.TheVariants as names
+use Rattle.ab_syntax.specs.declared.leaf.NumberForm.{NumberForm}
+use Rattle.ab_syntax.specs.declared.leaf.NumberForm.TheVariants as numbers
 use Rattle.ab_syntax.specs.declared.text.Text.{Text}
+use Rattle.ab_syntax.specs.Commands.{argument_of}
 use Rattle.ab_syntax.specs.Reader.{rest}
 
--- the value that a token shows, if it shows one
-abbrev pub IsShown : {A X : Type 0} → (Token → A → Type 0) → (X → A) → Token → Option X → Type 0
-IsShown Shows value k (Some x) = Shows k (value x)
-IsShown {A} Shows value k None = (a : A) → Shows k a → ⊥
+-- a form of one token: its tokens with their values, what is kept of a value, that a token shows one value, and a text
+pub record Leaf (X : Type 0) : Type 1 where
+  pub Meant : Type 0
+  pub shows : Token → Meant → Type 0
+  pub meant : X → Meant
+  pub one : ShowsOne shows
+  pub example : Example (One shows)
 
--- the value that the i-th token shows, if there is one that shows a value
-abbrev pub IsShownNext : {A X : Type 0} → (Token → A → Type 0) → (X → A) → Text → ℕ → Option X → Type 0
-IsShownNext Shows value t i (Some x) = Showing Shows (value x) (rest t i) × (i < length t.tokens.now)
-IsShownNext Shows value t i None = Without Shows (rest t i)
+abbrev pub any_name : Leaf (List ℕ)
+any_name = record { Meant = List ℕ; shows = ShowsName; meant = λ x. x; one = one_name; example = name_example }
+
+abbrev pub declared_name : Leaf (List ℕ)
+declared_name = record { Meant = List ℕ; shows = ShowsDeclared; meant = λ x. x; one = one_declared; example = declared_example }
+
+abbrev pub nominal_name : Leaf ℕ
+nominal_name = record { Meant = ℕ; shows = ShowsNominal; meant = λ n. n; one = one_nominal; example = nominal_example }
+
+abbrev pub argument : Leaf Argument
+argument = record { Meant = tree.Argument; shows = ShowsArgument; meant = argument_of; one = one_argument; example = argument_example }
+
+abbrev pub a_number : Leaf ℕ
+a_number = record { Meant = ℕ; shows = ShowsNumber; meant = λ n. n; one = one_number; example = number_example }
+
+abbrev pub a_depth : Leaf ℕ
+a_depth = record { Meant = ℕ; shows = ShowsDepth; meant = λ n. n; one = one_depth; example = depth_example }
+
+abbrev pub quoted : Leaf (List ℕ)
+quoted = record { Meant = List ℕ; shows = ShowsText; meant = λ x. x; one = one_text; example = text_example }
+
+abbrev pub name_form : NameForm → Leaf (List ℕ)
+name_form names.Any = any_name
+name_form names.Declared = declared_name
+name_form names.Quoted = quoted
+
+abbrev pub number_form : NumberForm → Leaf ℕ
+number_form numbers.Nominal = nominal_name
+number_form numbers.Any = a_number
+number_form numbers.Depth = a_depth
+
+-- the value that a token shows, if it shows one
+abbrev pub IsShown : {X : Type 0} → Leaf X → Token → Option X → Type 0
+IsShown leaf k (Some x) = leaf.shows k (leaf.meant x)
+IsShown leaf k None = (a : leaf.Meant) → leaf.shows k a → ⊥
+
+-- the i-th token shows this value and was taken; there is none that shows a value, and all is left
+abbrev pub IsTakenNext : {X : Type 0} → Leaf X → Text → ℕ → ℕ → Option X → Type 0
+IsTakenNext leaf t i j (Some x) = Showing leaf.shows (leaf.meant x) (rest t i) × (i < length t.tokens.now) × (j ≡ i + 1)
+IsTakenNext leaf t i j None = Without leaf.shows (rest t i) × (j ≡ i)

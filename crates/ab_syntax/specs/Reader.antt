@@ -1,27 +1,29 @@
 -- What the reader's own functions say of tokens and of their answers. No public contract speaks of it.
-use Rattle.std.specs.Prelude.{◌≡◌, ◌≢◌, ℕ, List, [], ◌∷◌, map, drop, Bool, true, false, Some, Result, Ok, Err}
+use Rattle.std.specs.Prelude.{◌≡◌, ◌≢◌, ℕ, ◌-◌, List, [], ◌∷◌, map, drop, Bool, true, false, Some, Result, Ok, Err}
+use Rattle.ab_lex.specs.declared.token.Token.{Token as Lexed}
 use Rattle.ab_grammar.specs.Token.{Token, other, stop}
 use Rattle.ab_grammar.specs.Nesting.{Spot}
 use Rattle.ab_grammar.specs.Language.{Key}
 use Rattle.ab_grammar.proofs.Following.{Anything, first}
 use Rattle.ab_grammar.proofs.Reading.{ReadsOff, RefusesAt, ungrammatical, too_nested}
 use Rattle.ab_syntax.specs.declared.seen.Seen.{Seen}
-use Rattle.ab_syntax.specs.declared.text.Source.{Source}
 use Rattle.ab_syntax.specs.declared.text.Text.{Text}
 use Rattle.ab_syntax.specs.declared.stop.Stop.{Stop}
 use Rattle.ab_syntax.specs.declared.stop.Stop.TheVariants.{Syntax, TooNested, Memory}
-use Rattle.ab_syntax.specs.Tokens.{StandIn, tokens_from}
+use Rattle.ab_syntax.specs.Tokens.{tokens_from}
 use Rattle.ab_syntax.specs.Kinds.{meaning}
-
-abbrev pub AreTokens : Source → Type 0
-AreTokens s = StandIn s.bytes.now s.origin s.tokens.now
-
-abbrev pub all_of : Source → List Token
-all_of s = tokens_from s.bytes.now s.origin s.tokens.now
 
 -- the token that was seen
 abbrev pub seen : Seen → Token
 seen s = meaning s.kind s.written.now s.place
+
+-- where a token stands
+abbrev pub place_of : ℕ → Lexed → ℕ
+place_of origin t = t.span.start - origin
+
+-- these are the tokens, as they were seen
+abbrev pub AreSeen : List ℕ → ℕ → List Lexed → List Seen → Type 0
+AreSeen bytes origin ts ss = (map seen ss ≡ tokens_from bytes origin ts) × (map (λ s. s.place) ss ≡ map (place_of origin) ts)
 
 -- the tokens from the i-th on
 abbrev pub rest : Text → ℕ → List Token
@@ -53,9 +55,3 @@ IsClosedBy k ks ms (Ok x) (Err s) = Refused (Key k) Anything s ks ms
 abbrev pub IsTaken : Token → List Token → List Token → Bool → Type 0
 IsTaken k ks ms true = ks ≡ k ∷ ms
 IsTaken k ks ms false = (first ks ≢ Some k) × (ms ≡ ks)
-
--- a part that was read is all, if nothing is left
-abbrev pub IsComplete : {X : Type 0} → List Token → Result X Stop → Result X Stop → Type 0
-IsComplete ks (Err s) r = r ≡ Err s
-IsComplete ks (Ok x) (Ok y) = (y ≡ x) × (ks ≡ [])
-IsComplete ks (Ok x) (Err s) = (s ≡ Syntax) × (ks ≢ [])

@@ -6,6 +6,7 @@ use Rattle.ab_grammar.proofs.Following.{Follower}
 use Rattle.ab_grammar.proofs.Machine as machine
 use Rattle.ab_syntax.specs.declared.machine.State.{State}
 use Rattle.ab_syntax.specs.declared.machine.State.TheVariants as state
+use Rattle.ab_syntax.specs.declared.tree.Parse.{Parse}
 use Rattle.ab_grammar.specs.declared.Infix.{Infix}
 use Rattle.ab_syntax.specs.declared.kind.Kind.{Kind}
 use Rattle.ab_syntax.specs.Kinds.{meaning}
@@ -29,16 +30,16 @@ state_in fs (state.BinderColon q x p) = machine.binder_colon fs q.quant q.place 
 state_in fs (state.BinderType q x p gs s) = machine.binder_type fs q.quant q.place (map binder_of q.binders.items) x p (type_state (type_frames_of gs) s)
 
 -- what a token does, where the machine goes on so and has read that much: the expression goes on with the frames that are left, or it ended before the token, or neither
-abbrev pub Says : Option machine.State → Option Tree → Token → List machine.Frame → Next → Type 0
+abbrev pub Says : Option machine.State → Option Tree → Token → List machine.Frame → Next State Parse → Type 0
 Says on whole k fs (next.On t) = on ≡ Some (state_in fs t)
 Says on whole k fs (next.Done t) = (on ≡ None) × (whole ≡ Some (tree_of t.value))
 Says on whole k fs next.Wrong = (on ≡ None) × ((whole ≡ None) ⊎ (Follower (Some k) → ⊥))
 
-abbrev pub IsNext : machine.State → Token → List machine.Frame → Next → Type 0
+abbrev pub IsNext : machine.State → Token → List machine.Frame → Next State Parse → Type 0
 IsNext s k fs r = Says (machine.step s k) (machine.finish s) k fs r
 
 -- a token that can follow an expression, behind what was shut up to the innermost bracket
-abbrev pub IsClosed : machine.Shut → Token → List machine.Frame → Next → Type 0
+abbrev pub IsClosed : machine.Shut → Token → List machine.Frame → Next State Parse → Type 0
 IsClosed s k fs r = Says (machine.closing s.below s.inner k) (machine.whole_of s.inner s.below) k fs r
 
 -- the sign that a token of the kind is

@@ -1,45 +1,24 @@
-//! What is told of a text that isn't read.
-ghost use Rattle.std.specs.Prelude.{◌≡◌, ◌≢◌, ◌↔◌, ℕ, List, IsTrue, length, min};
-ghost use Rattle.ab_syntax.specs.Reader.{AreTokens, all_of, rest, IsComplete};
-ghost use Rattle.ab_syntax.specs.Faults.{IsTold};
+//! What is told of a whole text.
+ghost use Rattle.std.specs.Prelude.{◌≡◌, length, min};
 ghost use Rattle.ab_grammar.specs.Nesting.{blamed as blamed_of};
-ghost use Rattle.ab_syntax.specs.Wholes.{place_in, fault_of};
+ghost use Rattle.ab_syntax.specs.Reader.{rest};
+ghost use Rattle.ab_syntax.specs.Faults.{IsTold};
+ghost use Rattle.ab_syntax.specs.Wholes.{place_in, IsAnswer};
 
 use crate::fault::ParseFault;
 use crate::kind::Kind;
 use crate::opening::{Opening, opening_at};
 use crate::stop::Stop;
-use crate::text::{Source, Text, is_next};
+use crate::text::{Text, is_next};
 
-/// Whether a part that was read is all of the text.
-pub(crate) fn complete<T: Drop>(
-    text: &Text<'_>,
-    here: usize,
-    part: Result<T, Stop>,
-) -> Result<T, Stop>
-    ensures { IsComplete (rest text.now here) part result }
+/// The place of a token, or that behind them all.
+fn place_at(text: &Text<'_>, here: usize) -> usize
+    ensures { result ≡ place_in text.now here }
 {
-    match part {
-        Ok(value) => {
-            if here < text.tokens.len() {
-                Err(Stop::Syntax)
-            } else {
-                Ok(value)
-            }
-        }
-        Err(stop) => Err(stop),
-    }
-}
-
-/// The place of a token, or the number of the bytes behind them all.
-fn place_or_end(source: &Source<'_>, here: usize) -> usize
-    requires { AreTokens source.now }
-    ensures { result ≡ place_in source.now here }
-{
-    if here < source.tokens.len() {
-        source.tokens[here].span.start - source.origin
+    if here < text.tokens.len() {
+        text.tokens[here].place
     } else {
-        source.bytes.len()
+        text.end
     }
 }
 
@@ -54,15 +33,27 @@ fn blamed(text: &Text<'_>, here: usize) -> usize
     }
 }
 
-/// The fault that a reader's stop is, where this token is the next.
-pub(crate) fn fault(source: &Source<'_>, text: &Text<'_>, here: usize, stop: Stop) -> ParseFault
-    requires { AreTokens source.now }
-    ensures { result ≡ fault_of source.now (rest text.now 0) here stop }
+/// What is told of a part that was read up to `here`: the part, where it is all of the text, or the fault. Where the text isn't in the form, it is at `told`.
+pub(crate) fn answer<T: Drop>(
+    text: &Text<'_>,
+    here: usize,
+    told: usize,
+    part: Result<T, Stop>,
+) -> Result<T, ParseFault>
+    ensures { IsAnswer text.now here told part result }
 {
-    match stop {
-        Stop::Syntax => ParseFault::Syntax(place_or_end(source, here)),
-        Stop::TooNested => ParseFault::TooNested(place_or_end(source, blamed(text, here))),
-        Stop::Memory(error) => ParseFault::Memory(error),
+    match part {
+        Ok(value) => {
+            if here < text.tokens.len() {
+                return Err(ParseFault::Syntax(place_at(text, told)));
+            }
+            Ok(value)
+        }
+        Err(stop) => match stop {
+            Stop::Syntax => Err(ParseFault::Syntax(place_at(text, told))),
+            Stop::TooNested => Err(ParseFault::TooNested(place_at(text, blamed(text, here)))),
+            Stop::Memory(error) => Err(ParseFault::Memory(error)),
+        },
     }
 }
 

@@ -1,44 +1,32 @@
 //! Blocks of definitions: predicates with their types, and clauses.
-ghost use Rattle.std.specs.Prelude.{◌≡◌, [], map, option_map};
-ghost use Rattle.ab_grammar.specs.Token.{comma, other, semicolon, by_word};
-ghost use Rattle.ab_grammar.proofs.Following.{Followed, Comes, BeforeStop, ClauseEnds};
+ghost use Rattle.std.specs.Prelude.{[], map, option_map};
+ghost use Rattle.ab_grammar.proofs.Following.{BeforeStop, ClauseEnds};
 ghost use Rattle.ab_grammar.specs.CommandForms.{Optional};
-ghost use Rattle.ab_grammar.specs.CommandTable.{Definiendum, ClauseBody, ClauseForm, Clauses, Row};
-ghost use Rattle.ab_grammar.specs.CommandTrees as tree;
+ghost use Rattle.ab_grammar.specs.CommandTable.{ClauseBody, Clauses, Row};
 ghost use Rattle.ab_syntax.specs.Trees.{tree_of};
-ghost use Rattle.ab_syntax.specs.Commands.{defined_of, clause_of, command_of, block_head};
+ghost use Rattle.ab_syntax.specs.Commands.{clause_of, command_of, block_head};
 ghost use Rattle.ab_syntax.specs.Items.{list_of};
+ghost use Rattle.ab_syntax.specs.Lists.{definienda, clauses};
 ghost use Rattle.ab_syntax.specs.Reader.{rest, Found};
 
 use crate::build::place_of;
 use crate::command::{ClauseParse, Command, Defined};
-use crate::expression::read_expression;
 use crate::items::Items;
 use crate::kind::Kind;
-use crate::leaf::DeclaredName;
+use crate::leaf::{NameForm, take};
 use crate::list::{Item, items};
-use crate::shown::take;
+use crate::step::read_expression;
 use crate::stop::Stop;
 use crate::text::{Text, expect, is_next, takes};
 use crate::tree::Parse;
 use crate::types::read_type;
 
 impl Item for Defined {
-    ghost Meant = { tree.Defined };
-
-    ghost meant = { defined_of };
-
-    ghost form = { Definiendum };
-
-    ghost sign = { comma };
-
-    ghost ends = { Followed };
-
-    ghost list_ends = { Comes (other by_word) };
+    ghost list = { definienda };
 
     /// Reads `w : type`.
     fn item(text: &Text<'_>, here: &mut usize) -> Result<Defined, Stop> {
-        let name = take::<DeclaredName>(text, here)?;
+        let name = take(text, here, NameForm::Declared)?;
         expect(text, here, Kind::Colon)?;
         let ty = read_type(text, here)?;
         Ok(Defined { name, ty })
@@ -50,24 +38,13 @@ fn clause_body(text: &Text<'_>, here: &mut usize) -> Result<Option<Parse>, Stop>
     ensures { Found ClauseBody ClauseEnds (option_map tree_of) (rest text.now here.old) (rest text.now here.new) result }
 {
     if takes(text, here, Kind::Becomes) {
-        let body = read_expression(text, here)?;
-        return Ok(Some(body));
+        return Ok(Some(read_expression(text, here)?));
     }
     Ok(None)
 }
 
 impl Item for ClauseParse {
-    ghost Meant = { tree.Clause };
-
-    ghost meant = { clause_of };
-
-    ghost form = { ClauseForm };
-
-    ghost sign = { other semicolon };
-
-    ghost ends = { ClauseEnds };
-
-    ghost list_ends = { BeforeStop };
+    ghost list = { clauses };
 
     /// Reads a clause.
     fn item(text: &Text<'_>, here: &mut usize) -> Result<ClauseParse, Stop> {

@@ -8,10 +8,10 @@ ghost use Rattle.ab_syntax.specs.Frames.{bracket_of, frames_of};
 ghost use Rattle.ab_syntax.specs.States.{Says};
 
 use crate::build::boxed;
-use crate::frame::{Bracket, Context, Frame, Frames, push};
+use crate::frame::{Bracket, Context, Frame, Frames};
 use crate::items::Items;
 use crate::kind::Kind;
-use crate::machine::{Next, State};
+use crate::machine::{Next, State, Step, enter};
 use crate::seen::Seen;
 use crate::tree::Parse;
 use std::alloc::{AllocError, Global};
@@ -30,15 +30,9 @@ fn judge(
 }
 
 /// Behind an item of a context.
-fn close_item(
-    frames: &mut Frames,
-    context: Context,
-    last: Box<Parse>,
-    token: Seen<'_>,
-) -> Result<Next, AllocError>
+fn close_item(frames: &mut Frames, mut context: Context, last: Box<Parse>, token: Seen<'_>) -> Step
     ensures { IfOk result (λ r. Says (machine.close (machine.item_in context.place (map tree_of context.items.items)) (frames_of frames.old) (tree_of last.value) (seen token.entry)) None (seen token.entry) (frames_of frames.new) r) }
 {
-    let mut context = context;
     match token.kind {
         Kind::Comma => {
             context.items.push(Box::into_inner(last))?;
@@ -46,8 +40,7 @@ fn close_item(
         }
         Kind::Turnstile => {
             context.items.push(Box::into_inner(last))?;
-            push(frames, Frame::Bracket(Bracket::Goal(context, None)))?;
-            Ok(Next::On(State::Want))
+            enter(frames, Frame::Bracket(Bracket::Goal(context, None)))
         }
         Kind::RightBrace if context.items.is_empty() => {
             Ok(Next::On(State::Have(judge(frames.alloc, context, None, last)?)))
@@ -62,31 +55,20 @@ pub(crate) fn close(
     bracket: Bracket,
     last: Box<Parse>,
     token: Seen<'_>,
-) -> Result<Next, AllocError>
+) -> Step
     ensures { IfOk result (λ r. Says (machine.close (bracket_of bracket) (frames_of frames.old) (tree_of last.value) (seen token.entry)) None (seen token.entry) (frames_of frames.new) r) }
 {
-    match bracket {
-        Bracket::Paren => match token.kind {
-            Kind::RightParen => Ok(Next::On(State::Have(last))),
-            _ => Ok(Next::Wrong),
-        },
-        Bracket::PiParen => match token.kind {
-            Kind::RightParen => Ok(Next::On(State::Enclosed(last))),
-            _ => Ok(Next::Wrong),
-        },
-        Bracket::Item(context) => close_item(frames, context, last, token),
-        Bracket::Focus(context) => match token.kind {
-            Kind::RightBracket => Ok(Next::On(State::FocusEnd(context, last))),
-            _ => Ok(Next::Wrong),
-        },
-        Bracket::Goal(context, focus) => match token.kind {
-            Kind::RightBrace => Ok(Next::On(State::Have(judge(
-                frames.alloc,
-                context,
-                focus,
-                last,
-            )?))),
-            _ => Ok(Next::Wrong),
-        },
+    match (bracket, token.kind) {
+        (Bracket::Paren, Kind::RightParen) => Ok(Next::On(State::Have(last))),
+        (Bracket::PiParen, Kind::RightParen) => Ok(Next::On(State::Enclosed(last))),
+        (Bracket::Item(context), _) => close_item(frames, context, last, token),
+        (Bracket::Focus(context), Kind::RightBracket) => {
+            Ok(Next::On(State::FocusEnd(context, last)))
+        }
+        (Bracket::Goal(context, focus), Kind::RightBrace) => {
+            let whole = judge(frames.alloc, context, focus, last)?;
+            Ok(Next::On(State::Have(whole)))
+        }
+        _ => Ok(Next::Wrong),
     }
 }

@@ -4,7 +4,7 @@ use std::alloc::AllocError;
 use thiserror::Error;
 
 /// Why tokens aren't read as a tree. A place is a number of bytes from the first byte of the first token.
-#[derive(Clone, Copy, Debug, Drop, PartialEq, Eq, Error)]
+#[derive(Clone, Copy, Debug, Drop, Error)]
 pub enum ParseFault {
     /// The place of the first token that no text goes on with, or the number of the bytes where the tokens end too early.
     #[error("Syntax")]

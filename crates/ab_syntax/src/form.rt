@@ -1,5 +1,4 @@
 //! A command: its first token chooses the row, and its full stop ends it.
-ghost use Rattle.std.specs.Prelude.{◌≡◌};
 ghost use Rattle.ab_grammar.proofs.Following.{Followed, BeforeStop};
 ghost use Rattle.ab_grammar.specs.CommandTable.{LabelledForm, CommandForm, CommandText};
 ghost use Rattle.ab_syntax.specs.Commands.{command_of, proof_command_of};

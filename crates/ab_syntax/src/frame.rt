@@ -1,12 +1,16 @@
 //! What an expression that is being read stands in: a stack of what isn't finished yet.
-ghost use Rattle.std.specs.Prelude.{◌≡◌, ◌<◌, ◌∷◌, [], IfOk, MatchOption, vec_len};
+ghost use Rattle.std.specs.Prelude.{◌≡◌, IfOk};
 ghost use Rattle.ab_grammar.specs.Grammar as grammar;
+ghost use Rattle.ab_grammar.specs.Token as grammatical;
 ghost use Rattle.ab_grammar.proofs.Machine as machine;
 ghost use Rattle.ab_syntax.specs.Trees.{tree_of};
-ghost use Rattle.ab_syntax.specs.Frames.{frame_of, frames_of, reduced, shut_of, IsFate, IsPopped};
+ghost use Rattle.ab_syntax.specs.Frames.{frame_of, frames_of, reduced, shut_of, IsFate};
+ghost use Rattle.ab_syntax.specs.States.{IsNext};
 
 use crate::build::{apply, boxed, pi, place_of};
 use crate::items::Items;
+use crate::machine::{Next, Step, enter};
+use crate::stack::Stack;
 use crate::tree::{Binder, Parse};
 use ab_grammar::{Infix, Quant};
 use ab_name::Name;
@@ -54,19 +58,8 @@ pub(crate) enum Frame {
     Bracket(Bracket),
 }
 
-/// What an operand stands in, the innermost last, and the memory for what is read.
-#[derive(Drop)]
-pub(crate) struct Frames {
-    pub(crate) alloc: Global,
-    pub(crate) items: Vec<Frame>,
-}
-
-/// An expression up to its innermost bracket, and that bracket, if there is one.
-#[derive(Drop)]
-pub(crate) struct Inside {
-    pub(crate) inner: Box<Parse>,
-    pub(crate) bracket: Option<Bracket>,
-}
+/// What an operand stands in, the innermost last.
+pub(crate) type Frames = Stack<Frame>;
 
 /// What becomes of the innermost frame where a sign comes.
 #[derive(Clone, Copy, Drop)]
@@ -79,68 +72,18 @@ pub(crate) enum Fate {
     Refuses,
 }
 
-/// How tightly a sign binds.
-fn level(sign: Infix) -> usize
-    ensures { result ≡ grammar.level sign }
+/// How tightly a sign binds, and how tightly its left and its right operand have to bind at least.
+fn levels(sign: Infix) -> (usize, usize, usize)
+    ensures { result ≡ (grammar.level sign, grammar.left sign, grammar.right sign) }
 {
     match sign {
-        Infix::Arrow => 1,
-        Infix::Or => 2,
-        Infix::And => 3,
-        Infix::Equal => 4,
-        Infix::Imply => 5,
-        Infix::With => 6,
-        Infix::Cons => 7,
-    }
-}
-
-/// How tightly the left operand of a sign has to bind at least.
-fn left(sign: Infix) -> usize
-    ensures { result ≡ grammar.left sign }
-{
-    match sign {
-        Infix::Or | Infix::And | Infix::With => level(sign),
-        Infix::Arrow | Infix::Equal | Infix::Imply | Infix::Cons => level(sign) + 1,
-    }
-}
-
-/// How tightly the right operand of a sign has to bind at least.
-fn right(sign: Infix) -> usize
-    ensures { result ≡ grammar.right sign }
-{
-    match sign {
-        Infix::Arrow | Infix::Imply | Infix::Cons => level(sign),
-        Infix::Or | Infix::And | Infix::Equal | Infix::With => level(sign) + 1,
-    }
-}
-
-/// No frames.
-pub(crate) fn no_frames(alloc: Global) -> Frames
-    ensures { frames_of result ≡ [] }
-{
-    Frames {
-        alloc,
-        items: Vec::new(alloc),
-    }
-}
-
-/// Puts a frame on top.
-pub(crate) fn push(frames: &mut Frames, frame: Frame) -> Result<(), AllocError>
-    ensures { IfOk result (λ r. frames_of frames.new ≡ frame_of frame ∷ frames_of frames.old) }
-{
-    frames.items.push(frame)?;
-    Ok(())
-}
-
-/// Takes the innermost frame.
-#[tactic(auto, using(crate::proofs::Stacks::top))]
-fn take_frame(frames: &mut Frames) -> Option<Frame>
-    ensures top { MatchOption result (frames_of frames.old ≡ []) (λ x. frames_of frames.old ≡ frame_of x ∷ frames_of frames.new) }
-    ensures fewer { MatchOption result (vec_len frames.new.items ≡ 0) (λ _. vec_len frames.new.items < vec_len frames.old.items) }
-{
-    match frames.items.pop() {
-        Some(frame) => Some(frame),
-        None => None,
+        Infix::Arrow => (1, 2, 1),
+        Infix::Or => (2, 2, 3),
+        Infix::And => (3, 3, 4),
+        Infix::Equal => (4, 5, 5),
+        Infix::Imply => (5, 6, 5),
+        Infix::With => (6, 6, 7),
+        Infix::Cons => (7, 8, 7),
     }
 }
 
@@ -157,11 +100,9 @@ fn reduce(alloc: Global, frame: Frame, operand: Box<Parse>) -> Result<Box<Parse>
         Frame::Pi(place) => pi(alloc, place, operand),
         Frame::Abs(name, place) => boxed(alloc, Parse::Abs(name, operand, place)),
         Frame::Bind(prefix) => {
+            let place = prefix.place;
             let binders = Items::from_vec(prefix.binders);
-            boxed(
-                alloc,
-                Parse::Bind(prefix.quant, binders, operand, prefix.place),
-            )
+            boxed(alloc, Parse::Bind(prefix.quant, binders, operand, place))
         }
         Frame::Bracket(_) => Ok(operand),
     }
@@ -173,63 +114,51 @@ fn fate_of(frame: &Frame, sign: Infix) -> Fate
 {
     match frame {
         Frame::Infix(other, _) => {
-            if right(*other) <= level(sign) {
-                return Fate::Stays;
+            let (level, left, _) = levels(sign);
+            let (other_level, _, other_right) = levels(*other);
+            if other_right <= level {
+                Fate::Stays
+            } else if other_level < left {
+                Fate::Refuses
+            } else {
+                Fate::Reduces
             }
-            if level(*other) < left(sign) {
-                return Fate::Refuses;
-            }
-            Fate::Reduces
         }
-        Frame::Args(_, _) => Fate::Reduces,
-        Frame::Pi(_) => Fate::Reduces,
+        Frame::Args(_, _) | Frame::Pi(_) => Fate::Reduces,
         Frame::Bracket(Bracket::PiParen) => Fate::Refuses,
-        Frame::Bracket(_) => Fate::Stays,
-        Frame::Abs(_, _) => Fate::Stays,
-        Frame::Bind(_) => Fate::Stays,
+        Frame::Bracket(_) | Frame::Bind(_) | Frame::Abs(_, _) => Fate::Stays,
     }
 }
 
-/// Puts a sign behind an operand, or behind what it is the last part of, if a sign can stand there.
-pub(crate) fn pop(sign: Infix, operand: Box<Parse>, frames: &mut Frames) -> Result<bool, AllocError>
-    ensures { IfOk result (λ r. IsPopped (machine.pop sign (tree_of operand.value) (frames_of frames.old)) (frames_of frames.new) r) }
+/// A sign behind an operand: it joins it, or what it is the last part of, if a sign can stand there.
+pub(crate) fn step_sign(frames: &mut Frames, mut operand: Box<Parse>, sign: Infix) -> Step
+    ensures { IfOk result (λ r. IsNext (machine.enclosed (frames_of frames.old) (tree_of operand.value)) (grammatical.sign sign) (frames_of frames.new) r) }
 {
-    let mut operand = operand;
-    while let Some(frame) = take_frame(frames) {
+    while let Some(frame) = frames.pop() {
         match fate_of(&frame, sign) {
             Fate::Stays => {
-                push(frames, frame)?;
-                push(frames, Frame::Infix(sign, operand))?;
-                return Ok(true);
+                frames.push(frame)?;
+                return enter(frames, Frame::Infix(sign, operand));
             }
-            Fate::Refuses => return Ok(false),
-            Fate::Reduces => {
-                operand = reduce(frames.alloc, frame, operand)?;
-            }
+            Fate::Refuses => return Ok(Next::Wrong),
+            Fate::Reduces => operand = reduce(frames.alloc, frame, operand)?,
         }
     }
-    push(frames, Frame::Infix(sign, operand))?;
-    Ok(true)
+    enter(frames, Frame::Infix(sign, operand))
 }
 
-/// The expression up to the innermost bracket, which is taken away.
-pub(crate) fn shut(frames: &mut Frames, last: Box<Parse>) -> Result<Inside, AllocError>
-    ensures { IfOk result (λ r. machine.shut (tree_of last.value) (frames_of frames.old) ≡ shut_of r (frames_of frames.new)) }
+/// The expression up to the innermost bracket, which is taken away, and that bracket, if there is one.
+pub(crate) fn shut(
+    frames: &mut Frames,
+    mut operand: Box<Parse>,
+) -> Result<(Box<Parse>, Option<Bracket>), AllocError>
+    ensures { IfOk result (λ r. machine.shut (tree_of operand.value) (frames_of frames.old) ≡ shut_of r (frames_of frames.new)) }
 {
-    let mut inner = last;
     loop {
-        match take_frame(frames) {
-            Some(Frame::Bracket(bracket)) => {
-                let bracket = Some(bracket);
-                return Ok(Inside { inner, bracket });
-            }
-            Some(frame) => {
-                inner = reduce(frames.alloc, frame, inner)?;
-            }
-            None => {
-                let bracket = None;
-                return Ok(Inside { inner, bracket });
-            }
+        match frames.pop() {
+            Some(Frame::Bracket(bracket)) => return Ok((operand, Some(bracket))),
+            Some(frame) => operand = reduce(frames.alloc, frame, operand)?,
+            None => return Ok((operand, None)),
         }
     }
 }
@@ -238,15 +167,12 @@ pub(crate) fn shut(frames: &mut Frames, last: Box<Parse>) -> Result<Inside, Allo
 pub(crate) fn grow(frames: &mut Frames, last: Box<Parse>) -> Result<(), AllocError>
     ensures { IfOk result (λ r. frames_of frames.new ≡ machine.grow (frames_of frames.old) (tree_of last.value)) }
 {
-    match take_frame(frames) {
-        Some(Frame::Args(head, mut args)) => {
+    if let Some(frame) = frames.pop() {
+        if let Frame::Args(head, mut args) = frame {
             args.push(Box::into_inner(last))?;
-            push(frames, Frame::Args(head, args))
+            return frames.push(Frame::Args(head, args));
         }
-        Some(frame) => {
-            push(frames, frame)?;
-            push(frames, Frame::Args(last, Vec::new(frames.alloc)))
-        }
-        None => push(frames, Frame::Args(last, Vec::new(frames.alloc))),
+        frames.push(frame)?;
     }
+    frames.push(Frame::Args(last, Vec::new(frames.alloc)))
 }

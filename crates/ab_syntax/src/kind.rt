@@ -1,7 +1,6 @@
 //! The tokens of a text, as the grammar sees them.
 ghost use Rattle.std.specs.Prelude.{◌≡◌, ◌≤◌, ℕ, length};
 ghost use Rattle.std.specs.List.{list_all};
-ghost use Rattle.ab_lex.specs.declared.token.TokenKind.TheVariants as lexed;
 ghost use Rattle.ab_syntax.specs.Tokens.{token_by, is_text_byte as is_text_byte_of};
 ghost use Rattle.ab_syntax.specs.Kinds.{meaning};
 
@@ -103,37 +102,17 @@ const SIGNS: [(&[u8], Kind); 24] = [
 ];
 
 /// Whether a quoted text may hold the byte.
-fn is_text_byte(byte: u8) -> bool
-    ensures { result ≡ is_text_byte_of byte }
+fn is_text_byte(byte: &u8) -> bool
+    ensures { result ≡ is_text_byte_of byte.now }
 {
-    byte.is_ascii_alphanumeric() || byte == b'_' || byte == b'-' || byte == b'.' || byte == b'/'
+    byte.is_ascii_alphanumeric() || b"_-./".contains(byte)
 }
 
 /// Whether a quoted text may hold these bytes.
 fn is_text(bytes: &[u8]) -> bool
     ensures { result ≡ list_all is_text_byte_of bytes.now }
 {
-    bytes.iter().all(|byte| is_text_byte(*byte))
-}
-
-/// A word, as the grammar sees it.
-fn word_kind(written: &[u8]) -> Kind
-    ensures { (p : ℕ) → token_by lexed.Word written.now p ≡ meaning result written.now p }
-{
-    match lookup(&RESERVED, written) {
-        Some(kind) => kind,
-        None => Kind::Word,
-    }
-}
-
-/// A sign, as the grammar sees it.
-fn sign_kind(written: &[u8]) -> Kind
-    ensures { (p : ℕ) → token_by lexed.Sign written.now p ≡ meaning result written.now p }
-{
-    match lookup(&SIGNS, written) {
-        Some(kind) => kind,
-        None => Kind::Unusable,
-    }
+    bytes.iter().all(is_text_byte)
 }
 
 /// A token that the lexer gives, as the grammar sees it.
@@ -142,10 +121,10 @@ pub(crate) fn kind_of(kind: TokenKind, written: &[u8]) -> Kind
     ensures { (p : ℕ) → token_by kind written.now p ≡ meaning result written.now p }
 {
     match kind {
-        TokenKind::Word => word_kind(written),
+        TokenKind::Word => lookup(&RESERVED, written).unwrap_or(Kind::Word),
         TokenKind::Number if written.len() <= 9 => Kind::Number,
         TokenKind::Text if is_text(&written[1..written.len() - 1]) => Kind::Text,
-        TokenKind::Sign => sign_kind(written),
+        TokenKind::Sign => lookup(&SIGNS, written).unwrap_or(Kind::Unusable),
         TokenKind::Number | TokenKind::Text => Kind::Unusable,
     }
 }

@@ -1,190 +1,125 @@
-//! The forms of one token that commands have.
-ghost use Rattle.std.specs.Prelude.{◌≡◌, ℕ, List};
-ghost use Rattle.ab_grammar.specs.CommandTrees as tree;
-ghost use Rattle.ab_grammar.specs.CommandTable.{ShowsName, ShowsDeclared, ShowsNominal, ShowsArgument, ShowsNumber, ShowsDepth, ShowsText};
-ghost use Rattle.ab_grammar.proofs.Shown.{one_name, name_example, one_declared, declared_example, one_nominal, nominal_example, one_argument, argument_example, one_number, number_example, one_depth, depth_example, one_text, text_example};
-ghost use Rattle.ab_syntax.specs.Commands.{argument_of};
+//! The forms of one token that commands have, each of which shows a value.
+ghost use Rattle.std.specs.Prelude.{IfOk};
+ghost use Rattle.ab_grammar.proofs.Following.{Anything};
+ghost use Rattle.ab_grammar.specs.CommandForms.{One};
+ghost use Rattle.ab_syntax.specs.Leaves.{Leaf, IsShown, IsTakenNext, name_form, number_form, argument};
+ghost use Rattle.ab_syntax.specs.Reader.{seen, rest, Found};
 
 use crate::command::Argument;
 use crate::kind::Kind;
 use crate::numbers::{is_declarable, nominal, value};
 use crate::seen::Seen;
-use crate::shown::Shown;
-use crate::text::{name_of, spell};
+use crate::stop::Stop;
+use crate::text::{Text, name_of, next, spell};
 use ab_name::Name;
 use std::alloc::{AllocError, Global};
 
-/// A word that isn't reserved.
-pub(crate) struct AnyName;
+/// A form of one token, which shows a value.
+pub(crate) trait Shown: Copy + Drop {
+    /// What is kept of the value.
+    type Value: Drop;
 
-impl Shown for AnyName {
-    type Value = Name;
+    ghost leaf: { Self → Leaf Self.Value };
 
-    ghost Meant = { List ℕ };
-
-    ghost shows = { ShowsName };
-
-    ghost meant = { λ name. name };
-
-    fn shown(alloc: Global, token: Seen<'_>) -> Result<Option<Name>, AllocError> {
-        match token.kind {
-            Kind::Word => Ok(Some(name_of(alloc, token)?)),
-            _ => Ok(None),
-        }
-    }
-
-    ghost one = { one_name };
-
-    ghost example = { name_example };
+    /// The value that a token shows, if it shows one.
+    fn shown(self, alloc: Global, token: Seen<'_>) -> Result<Option<Self::Value>, AllocError>
+        ensures { IfOk result (IsShown (leaf self) (seen token.entry)) };
 }
 
-/// A word that may name a kind, a constant or a predicate.
-pub(crate) struct DeclaredName;
-
-impl Shown for DeclaredName {
-    type Value = Name;
-
-    ghost Meant = { List ℕ };
-
-    ghost shows = { ShowsDeclared };
-
-    ghost meant = { λ name. name };
-
-    fn shown(alloc: Global, token: Seen<'_>) -> Result<Option<Name>, AllocError> {
-        match token.kind {
-            Kind::Word if is_declarable(token.written) => Ok(Some(name_of(alloc, token)?)),
-            _ => Ok(None),
-        }
-    }
-
-    ghost one = { one_declared };
-
-    ghost example = { declared_example };
+/// Takes the next token where it shows a value, and says which.
+pub(crate) fn take_if<S: Shown>(
+    text: &Text<'_>,
+    here: &mut usize,
+    form: S,
+) -> Result<Option<S::Value>, AllocError>
+    ensures { IfOk result (IsTakenNext (S.leaf form) text.now here.old here.new) }
+{
+    let Some(token) = next(text, *here) else {
+        return Ok(None);
+    };
+    let value = form.shown(text.alloc, token)?;
+    *here += usize::from(value.is_some());
+    Ok(value)
 }
 
-/// A nominal name, of which its number is kept.
-pub(crate) struct NominalName;
+/// Takes the next token, if it shows a value.
+pub(crate) fn take<S: Shown>(text: &Text<'_>, here: &mut usize, form: S) -> Result<S::Value, Stop>
+    ensures { Found (One (S.leaf form).shows) Anything (S.leaf form).meant (rest text.now here.old) (rest text.now here.new) result }
+{
+    take_if(text, here, form)?.ok_or(Stop::Syntax)
+}
 
-impl Shown for NominalName {
+/// A token that is kept as a name.
+#[derive(Clone, Copy, Drop)]
+pub(crate) enum NameForm {
+    /// A word that isn't reserved.
+    Any,
+    /// A word that may name a kind, a constant or a predicate.
+    Declared,
+    /// A quoted text, without its quotes.
+    Quoted,
+}
+
+impl Shown for NameForm {
+    type Value = Name;
+
+    ghost leaf = { name_form };
+
+    fn shown(self, alloc: Global, token: Seen<'_>) -> Result<Option<Name>, AllocError> {
+        let written = token.written;
+        let name = match self {
+            NameForm::Any if token.kind == Kind::Word => written,
+            NameForm::Declared if token.kind == Kind::Word && is_declarable(written) => written,
+            NameForm::Quoted if token.kind == Kind::Text => &written[1..written.len() - 1],
+            _ => return Ok(None),
+        };
+        Ok(Some(spell(alloc, name)?))
+    }
+}
+
+/// A token of which a number is kept.
+#[derive(Clone, Copy, Drop)]
+pub(crate) enum NumberForm {
+    /// A nominal name.
+    Nominal,
+    /// A number of at most nine digits.
+    Any,
+    /// A depth of `search`.
+    Depth,
+}
+
+impl Shown for NumberForm {
     type Value = u32;
 
-    ghost Meant = { ℕ };
+    ghost leaf = { number_form };
 
-    ghost shows = { ShowsNominal };
-
-    ghost meant = { λ n. n };
-
-    fn shown(_alloc: Global, token: Seen<'_>) -> Result<Option<u32>, AllocError> {
-        match token.kind {
-            Kind::Word => Ok(nominal(token.written)),
+    fn shown(self, _alloc: Global, token: Seen<'_>) -> Result<Option<u32>, AllocError> {
+        match self {
+            NumberForm::Nominal if token.kind == Kind::Word => Ok(nominal(token.written)),
+            NumberForm::Any if token.kind == Kind::Number => Ok(Some(value(token.written))),
+            NumberForm::Depth if token.kind == Kind::Number => {
+                let depth = value(token.written);
+                Ok((depth <= 1000).then_some(depth))
+            }
             _ => Ok(None),
         }
     }
-
-    ghost one = { one_nominal };
-
-    ghost example = { nominal_example };
 }
 
-impl Shown for Argument {
+/// A token that is kept as an argument.
+#[derive(Clone, Copy, Drop)]
+pub(crate) struct ArgumentForm;
+
+impl Shown for ArgumentForm {
     type Value = Argument;
 
-    ghost Meant = { tree.Argument };
+    ghost leaf = { λ f. argument };
 
-    ghost shows = { ShowsArgument };
-
-    ghost meant = { argument_of };
-
-    fn shown(alloc: Global, token: Seen<'_>) -> Result<Option<Argument>, AllocError> {
+    fn shown(self, alloc: Global, token: Seen<'_>) -> Result<Option<Argument>, AllocError> {
         match token.kind {
             Kind::Word if token.written == b"_".as_slice() => Ok(Some(Argument::Hole)),
             Kind::Word => Ok(Some(Argument::Named(name_of(alloc, token)?))),
             _ => Ok(None),
         }
     }
-
-    ghost one = { one_argument };
-
-    ghost example = { argument_example };
-}
-
-/// A number of at most nine digits.
-pub(crate) struct Number;
-
-impl Shown for Number {
-    type Value = u32;
-
-    ghost Meant = { ℕ };
-
-    ghost shows = { ShowsNumber };
-
-    ghost meant = { λ n. n };
-
-    fn shown(_alloc: Global, token: Seen<'_>) -> Result<Option<u32>, AllocError> {
-        match token.kind {
-            Kind::Number => Ok(Some(value(token.written))),
-            _ => Ok(None),
-        }
-    }
-
-    ghost one = { one_number };
-
-    ghost example = { number_example };
-}
-
-/// A depth of `search`.
-pub(crate) struct Depth;
-
-impl Shown for Depth {
-    type Value = u32;
-
-    ghost Meant = { ℕ };
-
-    ghost shows = { ShowsDepth };
-
-    ghost meant = { λ n. n };
-
-    fn shown(_alloc: Global, token: Seen<'_>) -> Result<Option<u32>, AllocError> {
-        match token.kind {
-            Kind::Number => {
-                let depth = value(token.written);
-                if depth > 1000 {
-                    return Ok(None);
-                }
-                Ok(Some(depth))
-            }
-            _ => Ok(None),
-        }
-    }
-
-    ghost one = { one_depth };
-
-    ghost example = { depth_example };
-}
-
-/// A quoted text, without its quotes.
-pub(crate) struct Quoted;
-
-impl Shown for Quoted {
-    type Value = Name;
-
-    ghost Meant = { List ℕ };
-
-    ghost shows = { ShowsText };
-
-    ghost meant = { λ name. name };
-
-    fn shown(alloc: Global, token: Seen<'_>) -> Result<Option<Name>, AllocError> {
-        match token.kind {
-            Kind::Text => {
-                let inner = &token.written[1..token.written.len() - 1];
-                Ok(Some(spell(alloc, inner)?))
-            }
-            _ => Ok(None),
-        }
-    }
-
-    ghost one = { one_text };
-
-    ghost example = { text_example };
 }

@@ -1,52 +1,66 @@
-//! Lists of items with a sign between.
-ghost use Rattle.std.specs.Prelude.{◌≡◌, List, [], ◌∷◌, ◌++◌, map, Some, IfOk, IfErr};
-ghost use Rattle.ab_grammar.specs.Token.{Token};
-ghost use Rattle.ab_grammar.specs.Nesting.{Spot};
+//! Lists: rows of tokens that show values, and items with a sign between.
+ghost use Rattle.std.specs.Prelude.{◌≡◌, [], ◌∷◌, ◌++◌, map, IfOk};
 ghost use Rattle.ab_grammar.specs.Language.{Key};
-ghost use Rattle.ab_grammar.proofs.Following.{Follow, first};
-ghost use Rattle.ab_grammar.specs.CommandForms.{◌▸◌, Many, Separated};
+ghost use Rattle.ab_grammar.specs.CommandForms.{One, Many, OneOrMore, Separated};
+ghost use Rattle.ab_grammar.proofs.Following.{Without};
+ghost use Rattle.ab_grammar.proofs.Reading.{ReadsOff};
 ghost use Rattle.ab_syntax.specs.Items.{list_of};
-ghost use Rattle.ab_syntax.specs.Lists.{IsMemory};
-ghost use Rattle.ab_syntax.specs.Kinds.{key_of, IsKey};
+ghost use Rattle.ab_syntax.specs.Kinds.{key_of};
+ghost use Rattle.ab_syntax.specs.Lists.{ListForm};
 ghost use Rattle.ab_syntax.specs.Reader.{rest, Found};
 
 use crate::items::Items;
 use crate::kind::Kind;
+use crate::leaf::{Shown, take_if};
 use crate::stop::Stop;
 use crate::text::{Text, takes};
 use std::alloc::AllocError;
 
 /// Puts an item behind the others.
-pub(crate) fn add<T: Drop>(items: &mut Vec<T>, item: T) -> Result<(), Stop>
-    ensures added { IfOk result (λ u. items.new.items ≡ items.old.items ++ item ∷ []) }
-    ensures memory { IfErr result IsMemory }
+pub(crate) fn add<T: Drop>(items: &mut Vec<T>, item: T) -> Result<(), AllocError>
+    ensures { IfOk result (λ u. items.new.items ≡ items.old.items ++ item ∷ []) }
 {
-    match items.push(item) {
-        Ok(()) => Ok(()),
-        Err(_) => Err(Stop::Memory(AllocError)),
+    items.push(item)?;
+    Ok(())
+}
+
+/// Takes any number of tokens that show values.
+pub(crate) fn take_all<S: Shown>(
+    text: &Text<'_>,
+    here: &mut usize,
+    form: S,
+) -> Result<Items<S::Value>, AllocError>
+    ensures { IfOk result (λ xs. ReadsOff (Many (One (S.leaf form).shows)) (Without (S.leaf form).shows) (rest text.now here.old) (map (S.leaf form).meant (list_of xs)) (rest text.now here.new)) }
+{
+    let mut values = Vec::new(text.alloc);
+    while let Some(value) = take_if(text, here, form)? {
+        add(&mut values, value)?;
     }
+    Ok(Items::from_vec(values))
+}
+
+/// Takes one token or more that show values.
+pub(crate) fn take_some<S: Shown>(
+    text: &Text<'_>,
+    here: &mut usize,
+    form: S,
+) -> Result<Items<S::Value>, Stop>
+    ensures { Found (OneOrMore (One (S.leaf form).shows)) (Without (S.leaf form).shows) (λ xs. map (S.leaf form).meant (list_of xs)) (rest text.now here.old) (rest text.now here.new) result }
+{
+    let values = take_all(text, here, form)?;
+    if values.as_slice().is_empty() {
+        return Err(Stop::Syntax);
+    }
+    Ok(values)
 }
 
 /// An item of a list.
 pub(crate) trait Item: Sized + Drop {
-    ghost Meant: { Type 0 };
-
-    ghost meant: { Self → Meant };
-
-    ghost form: { List Spot → Meant → Type 0 };
-
-    /// What stands between two items.
-    ghost sign: { Token };
-
-    /// What follows an item.
-    ghost ends: { List Token → Type 0 };
-
-    /// What follows the list.
-    ghost list_ends: { List Token → Type 0 };
+    ghost list: { ListForm Self };
 
     /// Reads an item.
     fn item(text: &Text<'_>, here: &mut usize) -> Result<Self, Stop>
-        ensures { Found form ends meant (rest text.now here.old) (rest text.now here.new) result };
+        ensures { Found list.form list.ends list.meant (rest text.now here.old) (rest text.now here.new) result };
 }
 
 /// Reads one item or more, with the sign between.
@@ -55,11 +69,8 @@ pub(crate) fn items<T: Item>(
     here: &mut usize,
     sign: Kind,
 ) -> Result<Items<T>, Stop>
-    requires key { IsKey sign }
-    requires sign { key_of sign ≡ T.sign }
-    requires apart { (r : List Token) → T.list_ends r → first r ≡ Some T.sign → ⊥ }
-    requires within { (r : List Token) → Follow (Many (Key T.sign ▸ T.form)) T.list_ends r → T.ends r }
-    ensures { Found (Separated (Key T.sign) T.form) T.list_ends (λ xs. map T.meant (list_of xs)) (rest text.now here.old) (rest text.now here.new) result }
+    requires { sign ≡ T.list.sign }
+    ensures { Found (Separated (Key (key_of T.list.sign)) T.list.form) T.list.list_ends (λ xs. map T.list.meant (list_of xs)) (rest text.now here.old) (rest text.now here.new) result }
 {
     let mut items = Vec::new(text.alloc);
     let first = T::item(text, here)?;

@@ -1,13 +1,15 @@
 //! An expression that is being read, token by token.
-ghost use Rattle.std.specs.Prelude.{◌≡◌, List, [], None, IfOk, map};
+ghost use Rattle.std.specs.Prelude.{◌≡◌, ◌∷◌, List, [], None, IfOk, map};
 ghost use Rattle.ab_grammar.proofs.Machine as machine;
 ghost use Rattle.ab_syntax.specs.Trees.{tree_of};
 ghost use Rattle.ab_syntax.specs.Reader.{seen};
-ghost use Rattle.ab_syntax.specs.Frames.{frames_of};
+ghost use Rattle.ab_syntax.specs.Frames.{frame_of, frames_of};
+ghost use Rattle.ab_syntax.specs.declared.machine.Next.TheVariants.{On};
+ghost use Rattle.ab_syntax.specs.declared.machine.State.TheVariants.{Want};
 ghost use Rattle.ab_syntax.specs.States.{state_in, Says};
 
 use crate::build::boxed;
-use crate::frame::{Bracket, Context, Frame, Frames, Prefix, push};
+use crate::frame::{Bracket, Context, Frame, Frames, Prefix};
 use crate::kind::Kind;
 use crate::seen::Seen;
 use crate::text::name_of;
@@ -46,16 +48,19 @@ pub(crate) enum State {
     BinderType(Prefix, Name, usize, TypeFrames, TypeState),
 }
 
-/// What a token does.
+/// What a token does to what is being read, a `T` in the end.
 #[derive(Drop)]
-pub(crate) enum Next {
-    /// The expression goes on.
-    On(State),
-    /// The expression ended before the token.
-    Done(Box<Parse>),
-    /// No expression goes on with the token, and none that ended before it is followed by it.
+pub(crate) enum Next<S, T> {
+    /// It goes on.
+    On(S),
+    /// It ended before the token.
+    Done(Box<T>),
+    /// Nothing goes on with the token, and nothing that ended before it is followed by it.
     Wrong,
 }
+
+/// What a token does to an expression, if there is memory for it.
+pub(crate) type Step = Result<Next<State, Parse>, AllocError>;
 
 /// A quantifier without binders.
 fn prefix(alloc: Global, quant: Quant, place: usize) -> State
@@ -68,9 +73,17 @@ fn prefix(alloc: Global, quant: Quant, place: usize) -> State
     })
 }
 
-/// A token where an argument may begin.
-pub(crate) fn start_argument(frames: &mut Frames, token: Seen<'_>) -> Result<Next, AllocError>
-    ensures { IfOk result (λ r. Says (machine.starts (frames_of frames.old) (seen token.entry)) None (seen token.entry) (frames_of frames.new) r) }
+/// Goes where an operand must come, in a frame.
+pub(crate) fn enter(frames: &mut Frames, frame: Frame) -> Step
+    ensures { IfOk result (λ r. (r ≡ On Want) × (frames_of frames.new ≡ frame_of frame ∷ frames_of frames.old)) }
+{
+    frames.push(frame)?;
+    Ok(Next::On(State::Want))
+}
+
+/// A token where an operand may begin.
+pub(crate) fn start_operand(frames: &mut Frames, token: Seen<'_>) -> Step
+    ensures { IfOk result (λ r. Says (machine.starts_operand (frames_of frames.old) (seen token.entry)) None (seen token.entry) (frames_of frames.new) r) }
 {
     match token.kind {
         Kind::Word => Ok(Next::On(State::Alone(name_of(frames.alloc, token)?, token.place))),
@@ -79,10 +92,7 @@ pub(crate) fn start_argument(frames: &mut Frames, token: Seen<'_>) -> Result<Nex
             let operand = boxed(frames.alloc, Parse::Name(name, token.place))?;
             Ok(Next::On(State::Have(operand)))
         }
-        Kind::LeftParen => {
-            push(frames, Frame::Bracket(Bracket::Paren))?;
-            Ok(Next::On(State::Want))
-        }
+        Kind::LeftParen => enter(frames, Frame::Bracket(Bracket::Paren)),
         Kind::LeftBrace => Ok(Next::On(State::Item(Context {
             place: token.place,
             items: Vec::new(frames.alloc),
@@ -90,38 +100,22 @@ pub(crate) fn start_argument(frames: &mut Frames, token: Seen<'_>) -> Result<Nex
         Kind::Forall => Ok(Next::On(prefix(frames.alloc, Quant::Forall, token.place))),
         Kind::Exists => Ok(Next::On(prefix(frames.alloc, Quant::Exists, token.place))),
         Kind::Nabla => Ok(Next::On(prefix(frames.alloc, Quant::Nabla, token.place))),
+        Kind::Pi => {
+            frames.push(Frame::Pi(token.place))?;
+            Ok(Next::On(State::PiWant))
+        }
         _ => Ok(Next::Wrong),
     }
 }
 
-/// A token where an operand may begin.
-pub(crate) fn start_operand(frames: &mut Frames, token: Seen<'_>) -> Result<Next, AllocError>
-    ensures { IfOk result (λ r. Says (machine.starts_operand (frames_of frames.old) (seen token.entry)) None (seen token.entry) (frames_of frames.new) r) }
-{
-    match token.kind {
-        Kind::Pi => {
-            push(frames, Frame::Pi(token.place))?;
-            Ok(Next::On(State::PiWant))
-        }
-        _ => start_argument(frames, token),
-    }
-}
-
 /// A token where an item of a judgement may begin.
-pub(crate) fn start_item(
-    frames: &mut Frames,
-    context: Context,
-    token: Seen<'_>,
-) -> Result<Next, AllocError>
+pub(crate) fn start_item(frames: &mut Frames, context: Context, token: Seen<'_>) -> Step
     ensures { IfOk result (λ r. Says (machine.starts_item (frames_of frames.old) context.place (map tree_of context.items.items) (seen token.entry)) None (seen token.entry) (frames_of frames.new) r) }
 {
     match token.kind {
-        Kind::LeftBracket => {
-            push(frames, Frame::Bracket(Bracket::Focus(context)))?;
-            Ok(Next::On(State::Want))
-        }
+        Kind::LeftBracket => enter(frames, Frame::Bracket(Bracket::Focus(context))),
         _ => {
-            push(frames, Frame::Bracket(Bracket::Item(context)))?;
+            frames.push(Frame::Bracket(Bracket::Item(context)))?;
             start_operand(frames, token)
         }
     }

@@ -1,9 +1,9 @@
 //! How deep a token of an expression or a type is nested.
-ghost use Rattle.std.specs.Prelude.{◌≡◌, ◌≤◌, ◌∷◌, ℕ, List, IfOk, IfErr};
-ghost use Rattle.ab_grammar.specs.Nesting.{nest as nest_by, outside as outside_all, naming_in, limit};
+ghost use Rattle.std.specs.Prelude.{◌≡◌, ◌≤◌, ℕ, List, IfOk, IfErr};
+ghost use Rattle.ab_grammar.specs.Nesting.{nest as nest_by, outside as outside_all, limit};
 ghost use Rattle.ab_grammar.specs.Token as Grammatical;
 ghost use Rattle.ab_syntax.specs.Kinds.{meaning};
-ghost use Rattle.ab_syntax.specs.Steps.{layer_of, layers_of, stack, IsMeasured, IsTooDeep};
+ghost use Rattle.ab_syntax.specs.Steps.{layers_of, IsMeasured, IsTooDeep};
 
 use crate::kind::Kind;
 use crate::stop::Stop;
@@ -56,52 +56,6 @@ fn count(layers: &mut Layers)
     layers.depth += 1;
 }
 
-/// A word in the innermost layer, which is counted where it is a binder's name.
-fn count_word(layers: &mut Layers)
-    requires measured { IsMeasured layers.old }
-    requires shallow { layers.old.depth ≤ limit }
-    ensures layers { (x : List ℕ) (p : ℕ) → layers_of layers.new ≡ nest_by (layers_of layers.old) (Grammatical.word x p) }
-    ensures measured { IsMeasured layers.new }
-{
-    if layers.inner.naming {
-        count(layers)
-    }
-}
-
-/// From now on the words of the innermost layer are names of binders, or no longer.
-fn set_naming(layers: &mut Layers, naming: bool)
-    requires { IsMeasured layers.old }
-    ensures layers { layers_of layers.new ≡ naming_in naming (layer_of layers.old.inner) ∷ stack layer_of layers.old.outer.items }
-    ensures measured { IsMeasured layers.new }
-{
-    layers.inner.naming = naming;
-}
-
-/// A bracket opens.
-fn open(layers: &mut Layers) -> Result<(), AllocError>
-    requires measured { IsMeasured layers.old }
-    requires shallow { layers.old.depth ≤ limit }
-    ensures layers { IfOk result (λ r. layers_of layers.new ≡ nest_by (layers_of layers.old) Grammatical.left_paren) }
-    ensures measured { IfOk result (λ r. IsMeasured layers.new) }
-{
-    layers.outer.push(layers.inner)?;
-    layers.inner.count = 0;
-    layers.depth += 1;
-    Ok(())
-}
-
-/// A bracket closes, if one is open.
-fn close(layers: &mut Layers)
-    requires { IsMeasured layers.old }
-    ensures layers { layers_of layers.new ≡ nest_by (layers_of layers.old) Grammatical.right_paren }
-    ensures measured { IsMeasured layers.new }
-{
-    if let Some(layer) = layers.outer.pop() {
-        layers.depth = layers.depth - layers.inner.count - 1;
-        layers.inner = layer;
-    }
-}
-
 /// Goes on to the layers behind a token.
 fn nest(layers: &mut Layers, kind: Kind) -> Result<(), AllocError>
     requires measured { IsMeasured layers.old }
@@ -111,8 +65,9 @@ fn nest(layers: &mut Layers, kind: Kind) -> Result<(), AllocError>
 {
     match kind {
         Kind::Word => {
-            count_word(layers);
-            Ok(())
+            if layers.inner.naming {
+                count(layers);
+            }
         }
         Kind::Arrow
         | Kind::Or
@@ -121,25 +76,23 @@ fn nest(layers: &mut Layers, kind: Kind) -> Result<(), AllocError>
         | Kind::Imply
         | Kind::Both
         | Kind::Cons
-        | Kind::Backslash => {
-            count(layers);
-            Ok(())
+        | Kind::Backslash => count(layers),
+        Kind::Forall | Kind::Exists | Kind::Nabla => layers.inner.naming = true,
+        Kind::Comma | Kind::Colon => layers.inner.naming = false,
+        Kind::LeftParen | Kind::LeftBrace | Kind::LeftBracket => {
+            layers.outer.push(layers.inner)?;
+            layers.inner.count = 0;
+            layers.depth += 1;
         }
-        Kind::Forall | Kind::Exists | Kind::Nabla => {
-            set_naming(layers, true);
-            Ok(())
-        }
-        Kind::Comma | Kind::Colon => {
-            set_naming(layers, false);
-            Ok(())
-        }
-        Kind::LeftParen | Kind::LeftBrace | Kind::LeftBracket => open(layers),
         Kind::RightParen | Kind::RightBrace | Kind::RightBracket => {
-            close(layers);
-            Ok(())
+            if let Some(layer) = layers.outer.pop() {
+                layers.depth = layers.depth - layers.inner.count - 1;
+                layers.inner = layer;
+            }
         }
-        _ => Ok(()),
+        _ => (),
     }
+    Ok(())
 }
 
 /// What was read up to a token and with it, unless the token is nested too deeply.

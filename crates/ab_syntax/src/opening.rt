@@ -1,5 +1,5 @@
 //! What the first tokens of a command say of it, and so where it stands.
-ghost use Rattle.std.specs.Prelude.{◌≡◌, ◌↔◌, ℕ, List, Some};
+ghost use Rattle.std.specs.Prelude.{◌≡◌, ◌↔◌, ℕ, Some};
 ghost use Rattle.ab_lex.specs.Tokens.{TokensOf};
 ghost use Rattle.ab_grammar.specs.Token.{word};
 ghost use Rattle.ab_grammar.specs.CommandTable.{stand_of as stand_of_head, StandsAt};
@@ -12,7 +12,7 @@ use crate::kind::Kind;
 use crate::parser::origin;
 use crate::seen::Seen;
 use crate::text::{Text, next, see};
-use crate::words::{command_head, proof_head};
+use crate::words::{COMMANDS, PROOF_COMMANDS, lookup};
 use ab_grammar::{Head, ProofHead, Stand};
 use ab_lex::Token;
 
@@ -33,10 +33,10 @@ pub(crate) enum Opening {
 fn word_opening(written: &[u8]) -> Opening
     ensures { (p : ℕ) → IsOpening (word written.now p) written.now result }
 {
-    if let Some(head) = command_head(written) {
+    if let Some(head) = lookup(&COMMANDS, written) {
         return Opening::Plain(head);
     }
-    if let Some(head) = proof_head(written) {
+    if let Some(head) = lookup(&PROOF_COMMANDS, written) {
         return Opening::Proof(head);
     }
     if written == b"Query".as_slice() {

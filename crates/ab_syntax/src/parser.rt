@@ -8,13 +8,12 @@ ghost use Rattle.ab_syntax.specs.Commands.{command_of};
 ghost use Rattle.ab_syntax.specs.Trees.{tree_of, type_of};
 ghost use Rattle.ab_syntax.specs.Faults.{place_past, fault_place, nested_from, nested_place, IsCommandPlaceFrom, IsCommandPlace};
 
-use crate::answer::{complete, fault, told};
+use crate::answer::{answer, told};
 use crate::command::Command;
-use crate::expression::read_expression;
 use crate::fault::ParseFault;
 use crate::form::read_command;
-use crate::stop::Stop;
-use crate::text::{Source, Text, see_all};
+use crate::step::read_expression;
+use crate::text::{Text, see_all};
 use crate::tree::{Parse, TypeParse};
 use crate::types::read_type;
 use ab_lex::Token;
@@ -47,22 +46,15 @@ pub fn parse_expr_from(
     ensures nested { (place : ℕ) → result ≡ Err (ParseFault.TooNested place)
         → (i : ℕ) × TooNestedAt Expression (tokens_from bytes.now origin tokens.now) i × (place ≡ nested_from bytes.now origin tokens.now i) }
 {
-    let source = Source {
-        bytes,
-        tokens,
-        origin,
-    };
-    let seen = see_all(alloc, &source)?;
+    let seen = see_all(alloc, bytes, tokens, origin)?;
     let text = Text {
         alloc,
         tokens: &seen,
+        end: bytes.len(),
     };
     let mut here = 0;
     let found = read_expression(&text, &mut here);
-    match complete(&text, here, found) {
-        Ok(parse) => Ok(parse),
-        Err(stop) => Err(fault(&source, &text, here, stop)),
-    }
+    answer(&text, here, here, found)
 }
 
 /// Reads an expression, which is all of the tokens of the bytes.
@@ -94,22 +86,15 @@ pub fn parse_type_from(
     ensures nested { (place : ℕ) → result ≡ Err (ParseFault.TooNested place)
         → (i : ℕ) × TooNestedAt TypeExpression (tokens_from bytes.now origin tokens.now) i × (place ≡ nested_from bytes.now origin tokens.now i) }
 {
-    let source = Source {
-        bytes,
-        tokens,
-        origin,
-    };
-    let seen = see_all(alloc, &source)?;
+    let seen = see_all(alloc, bytes, tokens, origin)?;
     let text = Text {
         alloc,
         tokens: &seen,
+        end: bytes.len(),
     };
     let mut here = 0;
     let found = read_type(&text, &mut here);
-    match complete(&text, here, found) {
-        Ok(parse) => Ok(parse),
-        Err(stop) => Err(fault(&source, &text, here, stop)),
-    }
+    answer(&text, here, here, found)
 }
 
 /// Reads a type, which is all of the tokens of the bytes.
@@ -141,25 +126,15 @@ pub fn parse_command_from(
     ensures nested { (place : ℕ) → result ≡ Err (ParseFault.TooNested place)
         → (i : ℕ) × TooNestedAt CommandText (tokens_from bytes.now origin tokens.now) i × (place ≡ nested_from bytes.now origin tokens.now i) }
 {
-    let source = Source {
-        bytes,
-        tokens,
-        origin,
-    };
-    let seen = see_all(alloc, &source)?;
+    let seen = see_all(alloc, bytes, tokens, origin)?;
     let text = Text {
         alloc,
         tokens: &seen,
+        end: bytes.len(),
     };
     let mut here = 0;
     let found = read_command(&text, &mut here);
-    match complete(&text, here, found) {
-        Ok(command) => Ok(command),
-        Err(stop) => match stop {
-            Stop::Syntax => Err(fault(&source, &text, told(&text, here), stop)),
-            _ => Err(fault(&source, &text, here, stop)),
-        },
-    }
+    answer(&text, here, told(&text, here), found)
 }
 
 /// Reads a command, which is all of the tokens of the bytes.

@@ -1,59 +1,45 @@
 //! Parts of commands.
-ghost use Rattle.std.specs.Prelude.{◌≡◌, ℕ, List, [], map};
-ghost use Rattle.ab_grammar.specs.Token.{comma};
+ghost use Rattle.std.specs.Prelude.{[], map};
 ghost use Rattle.ab_grammar.specs.Language.{Key};
-ghost use Rattle.ab_grammar.proofs.Following.{Anything, Except, Followed, BeforeStop, ArgumentsEnd};
+ghost use Rattle.ab_grammar.proofs.Following.{Anything, BeforeStop, ArgumentsEnd};
 ghost use Rattle.ab_grammar.specs.CommandForms.{◌◂◌, Optional};
-ghost use Rattle.ab_grammar.specs.CommandTable.{Name as NameForm, DeclaredName as DeclaredForm, Word as WordForm, OptionalName, Arguments, Nominals, InstanceForm, Instances};
-ghost use Rattle.ab_grammar.specs.CommandTrees as tree;
+ghost use Rattle.ab_grammar.specs.CommandTable.{Name as AnyName, Word as WordForm, OptionalName, Arguments, Nominals, Instances};
 ghost use Rattle.ab_syntax.specs.Commands.{argument_of, instance_of};
 ghost use Rattle.ab_syntax.specs.Items.{list_of};
 ghost use Rattle.ab_syntax.specs.Kinds.{key_of, IsKey};
+ghost use Rattle.ab_syntax.specs.Lists.{declared_names, instances};
 ghost use Rattle.ab_syntax.specs.Reader.{rest, Found};
 
 use crate::command::{Argument, Instance};
-use crate::expression::read_expression;
 use crate::items::Items;
 use crate::kind::Kind;
-use crate::leaf::{AnyName, DeclaredName, NominalName};
-use crate::list::{Item, items};
-use crate::shown::{shown_at, take, take_some};
+use crate::leaf::{ArgumentForm, NameForm, NumberForm, take, take_if};
+use crate::list::{Item, items, take_some};
+use crate::step::read_expression;
 use crate::stop::Stop;
 use crate::text::{Text, expect, next, takes};
 use ab_name::Name;
-
-/// Takes the next token, if it is a name.
-pub(crate) fn name(text: &Text<'_>, here: &mut usize) -> Result<Name, Stop>
-    ensures { Found NameForm Anything (λ name. name) (rest text.now here.old) (rest text.now here.new) result }
-{
-    take::<AnyName>(text, here)
-}
 
 /// Takes the next token, if it is this word.
 pub(crate) fn keyword(text: &Text<'_>, here: &mut usize, expected: &[u8]) -> Result<(), Stop>
     ensures { Found (WordForm expected.now) Anything (λ u. u) (rest text.now here.old) (rest text.now here.new) result }
 {
-    match next(text, *here) {
-        Some(token) => match token.kind {
-            Kind::Word => {
-                if token.written != expected {
-                    return Err(Stop::Syntax);
-                }
-                *here += 1;
-                Ok(())
-            }
-            _ => Err(Stop::Syntax),
-        },
-        None => Err(Stop::Syntax),
+    let Some(token) = next(text, *here) else {
+        return Err(Stop::Syntax);
+    };
+    if token.kind != Kind::Word || token.written != expected {
+        return Err(Stop::Syntax);
     }
+    *here += 1;
+    Ok(())
 }
 
 /// Reads a name and a key behind it.
 pub(crate) fn name_and(text: &Text<'_>, here: &mut usize, key: Kind) -> Result<Name, Stop>
     requires { IsKey key }
-    ensures { Found (NameForm ◂ Key (key_of key)) Anything (λ x. x) (rest text.now here.old) (rest text.now here.new) result }
+    ensures { Found (AnyName ◂ Key (key_of key)) Anything (λ x. x) (rest text.now here.old) (rest text.now here.new) result }
 {
-    let name = name(text, here)?;
+    let name = take(text, here, NameForm::Any)?;
     expect(text, here, key)?;
     Ok(name)
 }
@@ -62,31 +48,15 @@ pub(crate) fn name_and(text: &Text<'_>, here: &mut usize, key: Kind) -> Result<N
 pub(crate) fn optional_name(text: &Text<'_>, here: &mut usize) -> Result<Option<Name>, Stop>
     ensures { Found OptionalName BeforeStop (λ x. x) (rest text.now here.old) (rest text.now here.new) result }
 {
-    match shown_at::<AnyName>(text, *here)? {
-        Some(name) => {
-            *here += 1;
-            Ok(Some(name))
-        }
-        None => Ok(None),
-    }
+    Ok(take_if(text, here, NameForm::Any)?)
 }
 
 impl Item for Name {
-    ghost Meant = { List ℕ };
-
-    ghost meant = { λ name. name };
-
-    ghost form = { DeclaredForm };
-
-    ghost sign = { comma };
-
-    ghost ends = { Anything };
-
-    ghost list_ends = { Except comma };
+    ghost list = { declared_names };
 
     /// Reads a name that is declared.
     fn item(text: &Text<'_>, here: &mut usize) -> Result<Name, Stop> {
-        take::<DeclaredName>(text, here)
+        take(text, here, NameForm::Declared)
     }
 }
 
@@ -95,7 +65,7 @@ pub(crate) fn optional_arguments(text: &Text<'_>, here: &mut usize) -> Result<It
     ensures { Found (Optional [] Arguments) ArgumentsEnd (λ vs. map argument_of (list_of vs)) (rest text.now here.old) (rest text.now here.new) result }
 {
     if takes(text, here, Kind::To) {
-        return take_some::<Argument>(text, here);
+        return take_some(text, here, ArgumentForm);
     }
     Ok(Items::from_vec(Vec::new(text.alloc)))
 }
@@ -105,23 +75,13 @@ pub(crate) fn nominals(text: &Text<'_>, here: &mut usize) -> Result<Items<u32>, 
     ensures { Found Nominals Anything list_of (rest text.now here.old) (rest text.now here.new) result }
 {
     expect(text, here, Kind::LeftParen)?;
-    let numbers = take_some::<NominalName>(text, here)?;
+    let numbers = take_some(text, here, NumberForm::Nominal)?;
     expect(text, here, Kind::RightParen)?;
     Ok(numbers)
 }
 
 impl Item for Instance {
-    ghost Meant = { tree.Instance };
-
-    ghost meant = { instance_of };
-
-    ghost form = { InstanceForm };
-
-    ghost sign = { comma };
-
-    ghost ends = { Followed };
-
-    ghost list_ends = { BeforeStop };
+    ghost list = { instances };
 
     /// Reads `X = e`.
     fn item(text: &Text<'_>, here: &mut usize) -> Result<Instance, Stop> {

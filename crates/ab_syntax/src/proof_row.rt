@@ -1,5 +1,5 @@
 //! The rows of the table of proof commands: what stands behind the first token, up to the full stop.
-ghost use Rattle.std.specs.Prelude.{◌≡◌, false};
+ghost use Rattle.std.specs.Prelude.{false};
 ghost use Rattle.ab_grammar.specs.declared.head.ProofHead.TheVariants as head;
 ghost use Rattle.ab_grammar.specs.CommandForms.{One, Optional};
 ghost use Rattle.ab_grammar.proofs.Following.{BeforeStop};
@@ -8,14 +8,13 @@ ghost use Rattle.ab_syntax.specs.Commands.{proof_command_of};
 ghost use Rattle.ab_syntax.specs.Reader.{rest, Found};
 
 use crate::command::{Instance, ProofCommand};
-use crate::expression::read_expression;
 use crate::kind::Kind;
-use crate::leaf::{AnyName, Depth, Number};
-use crate::list::items;
+use crate::leaf::{NameForm, NumberForm, take};
+use crate::list::{items, take_all, take_some};
 use crate::part::{
-    keyword, name, name_and, nominals, optional_arguments, optional_instances, optional_name,
+    keyword, name_and, nominals, optional_arguments, optional_instances, optional_name,
 };
-use crate::shown::{take, take_all, take_some};
+use crate::step::read_expression;
 use crate::stop::Stop;
 use crate::text::{Text, expect, is_next, takes};
 use ab_grammar::ProofHead;
@@ -39,7 +38,7 @@ fn optional_depth(text: &Text<'_>, here: &mut usize) -> Result<u32, Stop>
     if is_next(text, *here, Kind::Stop) {
         return Ok(5);
     }
-    take::<Depth>(text, here)
+    take(text, here, NumberForm::Depth)
 }
 
 /// Reads `on n`.
@@ -47,14 +46,14 @@ fn induction(text: &Text<'_>, here: &mut usize) -> Result<ProofCommand, Stop>
     ensures { Found (ProofRow head.Induction) BeforeStop proof_command_of (rest text.now here.old) (rest text.now here.new) result }
 {
     expect(text, here, Kind::On)?;
-    Ok(ProofCommand::Induction(take::<Number>(text, here)?))
+    Ok(ProofCommand::Induction(take(text, here, NumberForm::Any)?))
 }
 
 /// Reads `H` or `H (keep)`.
 fn case(text: &Text<'_>, here: &mut usize) -> Result<ProofCommand, Stop>
     ensures { Found (ProofRow head.Case) BeforeStop proof_command_of (rest text.now here.old) (rest text.now here.new) result }
 {
-    let name = name(text, here)?;
+    let name = take(text, here, NameForm::Any)?;
     Ok(ProofCommand::Case(name, optional_keep(text, here)?))
 }
 
@@ -62,7 +61,7 @@ fn case(text: &Text<'_>, here: &mut usize) -> Result<ProofCommand, Stop>
 fn apply(text: &Text<'_>, here: &mut usize) -> Result<ProofCommand, Stop>
     ensures { Found (ProofRow head.Apply) BeforeStop proof_command_of (rest text.now here.old) (rest text.now here.new) result }
 {
-    let name = name(text, here)?;
+    let name = take(text, here, NameForm::Any)?;
     let arguments = optional_arguments(text, here)?;
     let instances = optional_instances(text, here)?;
     Ok(ProofCommand::Apply(name, arguments, instances))
@@ -72,7 +71,7 @@ fn apply(text: &Text<'_>, here: &mut usize) -> Result<ProofCommand, Stop>
 fn backchain(text: &Text<'_>, here: &mut usize) -> Result<ProofCommand, Stop>
     ensures { Found (ProofRow head.Backchain) BeforeStop proof_command_of (rest text.now here.old) (rest text.now here.new) result }
 {
-    let name = name(text, here)?;
+    let name = take(text, here, NameForm::Any)?;
     Ok(ProofCommand::Backchain(name, optional_instances(text, here)?))
 }
 
@@ -81,7 +80,7 @@ fn cut(text: &Text<'_>, here: &mut usize) -> Result<ProofCommand, Stop>
     ensures { Found (ProofRow head.Cut) BeforeStop proof_command_of (rest text.now here.old) (rest text.now here.new) result }
 {
     let cut = name_and(text, here, Kind::With)?;
-    Ok(ProofCommand::Cut(cut, name(text, here)?))
+    Ok(ProofCommand::Cut(cut, take(text, here, NameForm::Any)?))
 }
 
 /// Reads `H with n1 = e, ..`.
@@ -115,7 +114,7 @@ fn rename(text: &Text<'_>, here: &mut usize) -> Result<ProofCommand, Stop>
     ensures { Found (ProofRow head.Rename) BeforeStop proof_command_of (rest text.now here.old) (rest text.now here.new) result }
 {
     let from = name_and(text, here, Kind::To)?;
-    Ok(ProofCommand::Rename(from, name(text, here)?))
+    Ok(ProofCommand::Rename(from, take(text, here, NameForm::Any)?))
 }
 
 /// Reads `(n1 n2 ..) H`.
@@ -135,7 +134,7 @@ pub(crate) fn proof_row(
     ensures { Found (ProofRow head) BeforeStop proof_command_of (rest text.now here.old) (rest text.now here.new) result }
 {
     match head {
-        ProofHead::Intros => Ok(ProofCommand::Intros(take_all::<AnyName>(text, here)?)),
+        ProofHead::Intros => Ok(ProofCommand::Intros(take_all(text, here, NameForm::Any)?)),
         ProofHead::Induction => induction(text, here),
         ProofHead::Coinduction => Ok(ProofCommand::Coinduction),
         ProofHead::Case => case(text, here),
@@ -152,7 +151,7 @@ pub(crate) fn proof_row(
         ProofHead::Witness => Ok(ProofCommand::Exists(read_expression(text, here)?)),
         ProofHead::Unfold => Ok(ProofCommand::Unfold),
         ProofHead::Assert => Ok(ProofCommand::Assert(read_expression(text, here)?)),
-        ProofHead::Clear => Ok(ProofCommand::Clear(take_some::<AnyName>(text, here)?)),
+        ProofHead::Clear => Ok(ProofCommand::Clear(take_some(text, here, NameForm::Any)?)),
         ProofHead::Rename => rename(text, here),
         ProofHead::Permute => permute(text, here),
     }

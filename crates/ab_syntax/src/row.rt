@@ -1,5 +1,4 @@
 //! The rows of the table of commands: what stands behind the first token, up to the full stop.
-ghost use Rattle.std.specs.Prelude.{◌≡◌};
 ghost use Rattle.ab_grammar.proofs.Following.{BeforeStop};
 ghost use Rattle.ab_grammar.specs.CommandTable.{Switch, Row};
 ghost use Rattle.ab_syntax.specs.Commands.{command_of};
@@ -7,12 +6,11 @@ ghost use Rattle.ab_syntax.specs.Reader.{rest, Found};
 
 use crate::block::block;
 use crate::command::Command;
-use crate::expression::read_expression;
 use crate::kind::Kind;
-use crate::leaf::Quoted;
+use crate::leaf::{NameForm, take};
 use crate::list::items;
-use crate::part::{keyword, name, name_and};
-use crate::shown::take;
+use crate::part::{keyword, name_and};
+use crate::step::read_expression;
 use crate::stop::Stop;
 use crate::text::{Text, expect, takes};
 use crate::types::read_type;
@@ -52,8 +50,8 @@ pub(crate) fn row(text: &Text<'_>, here: &mut usize, head: Head) -> Result<Comma
             let formula = read_expression(text, here)?;
             Ok(Command::Theorem(name, formula))
         }
-        Head::Specification => Ok(Command::Specification(take::<Quoted>(text, here)?)),
-        Head::Show => Ok(Command::Show(name(text, here)?)),
+        Head::Specification => Ok(Command::Specification(take(text, here, NameForm::Quoted)?)),
+        Head::Show => Ok(Command::Show(take(text, here, NameForm::Any)?)),
         Head::Quit => Ok(Command::Quit),
         Head::Set => {
             keyword(text, here, b"subgoals")?;

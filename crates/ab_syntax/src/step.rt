@@ -1,31 +1,34 @@
 //! What each token does to an expression that is being read.
-ghost use Rattle.std.specs.Prelude.{◌≡◌, IfOk};
-ghost use Rattle.ab_grammar.specs.Token as grammatical;
+ghost use Rattle.std.specs.Prelude.{◌≡◌, IfOk, is_some};
+ghost use Rattle.ab_grammar.specs.Language.{Expression};
 ghost use Rattle.ab_grammar.specs.Tree as tree;
+ghost use Rattle.ab_grammar.proofs.Following.{Followed};
 ghost use Rattle.ab_grammar.proofs.Machine as machine;
 ghost use Rattle.ab_syntax.specs.Trees.{tree_of};
-ghost use Rattle.ab_syntax.specs.Reader.{seen};
-ghost use Rattle.ab_syntax.specs.Steps.{begins};
+ghost use Rattle.ab_syntax.specs.Reader.{seen, rest, Found};
+ghost use Rattle.ab_syntax.specs.Steps.{begins, follows, is_sign};
 ghost use Rattle.ab_syntax.specs.Frames.{frames_of};
 ghost use Rattle.ab_syntax.specs.States.{state_in, IsNext, IsClosed, IsSign};
 
 use crate::binding::{step_binder_type, step_binders};
 use crate::build::boxed;
 use crate::closing::close;
-use crate::frame::{Bracket, Frame, Frames, Inside, grow, pop, push, shut};
+use crate::frame::{Bracket, Frame, Frames, grow, shut, step_sign};
 use crate::kind::Kind;
-use crate::machine::{Next, State, start_argument, start_item, start_operand};
+use crate::machine::{Next, State, Step, enter, start_item, start_operand};
+use crate::nesting::{nested, outside};
 use crate::seen::Seen;
-use crate::text::name_of;
+use crate::stack::Stack;
+use crate::stop::Stop;
+use crate::text::{Text, name_of, next_or_stop};
 use crate::tree::Parse;
-use crate::types::{TypeState, ends, no_type_frames};
 use ab_grammar::Infix;
 use ab_name::Name;
-use std::alloc::AllocError;
 
 /// The sign that a token is.
 fn sign_of(kind: Kind) -> Option<Infix>
-    ensures { IsSign kind result }
+    ensures sign { IsSign kind result }
+    ensures some { is_some result ≡ is_sign kind }
 {
     match kind {
         Kind::Arrow => Some(Infix::Arrow),
@@ -55,26 +58,21 @@ fn begins_argument(kind: Kind) -> bool
     }
 }
 
-/// A sign behind an operand.
-fn step_sign(frames: &mut Frames, operand: Box<Parse>, sign: Infix) -> Result<Next, AllocError>
-    ensures { IfOk result (λ r. IsNext (machine.enclosed (frames_of frames.old) (tree_of operand.value)) (grammatical.sign sign) (frames_of frames.new) r) }
+/// Whether a token can stand behind a whole type and behind a whole expression.
+pub(crate) fn ends(kind: Kind) -> bool
+    ensures { result ≡ follows kind }
 {
-    if pop(sign, operand, frames)? {
-        Ok(Next::On(State::Want))
-    } else {
-        Ok(Next::Wrong)
+    match kind {
+        Kind::Pi | Kind::LeftBracket | Kind::Backslash => false,
+        _ => !begins_argument(kind) && sign_of(kind).is_none(),
     }
 }
 
 /// What can close a bracket or follow an expression, behind an operand.
-fn step_closer(
-    frames: &mut Frames,
-    operand: Box<Parse>,
-    token: Seen<'_>,
-) -> Result<Next, AllocError>
+fn step_closer(frames: &mut Frames, operand: Box<Parse>, token: Seen<'_>) -> Step
     ensures { IfOk result (λ r. IsClosed (machine.shut (tree_of operand.value) (frames_of frames.old)) (seen token.entry) (frames_of frames.new) r) }
 {
-    let Inside { inner, bracket } = shut(frames, operand)?;
+    let (inner, bracket) = shut(frames, operand)?;
     match bracket {
         None => Ok(Next::Done(inner)),
         Some(bracket) => close(frames, bracket, inner, token),
@@ -82,11 +80,7 @@ fn step_closer(
 }
 
 /// A token behind what is whole: no argument can follow.
-fn step_enclosed(
-    frames: &mut Frames,
-    operand: Box<Parse>,
-    token: Seen<'_>,
-) -> Result<Next, AllocError>
+fn step_enclosed(frames: &mut Frames, operand: Box<Parse>, token: Seen<'_>) -> Step
     ensures { IfOk result (λ r. IsNext (machine.enclosed (frames_of frames.old) (tree_of operand.value)) (seen token.entry) (frames_of frames.new) r) }
 {
     if ends(token.kind) {
@@ -99,30 +93,22 @@ fn step_enclosed(
 }
 
 /// A token behind an operand that is no name alone.
-fn step_have(frames: &mut Frames, operand: Box<Parse>, token: Seen<'_>) -> Result<Next, AllocError>
+fn step_have(frames: &mut Frames, operand: Box<Parse>, token: Seen<'_>) -> Step
     ensures { IfOk result (λ r. IsNext (machine.have machine.compound (frames_of frames.old) (tree_of operand.value)) (seen token.entry) (frames_of frames.new) r) }
 {
     if !begins_argument(token.kind) {
         return step_enclosed(frames, operand, token);
     }
     grow(frames, operand)?;
-    start_argument(frames, token)
+    start_operand(frames, token)
 }
 
 /// A token behind a name alone.
-fn step_alone(
-    frames: &mut Frames,
-    name: Name,
-    place: usize,
-    token: Seen<'_>,
-) -> Result<Next, AllocError>
+fn step_alone(frames: &mut Frames, name: Name, place: usize, token: Seen<'_>) -> Step
     ensures { IfOk result (λ r. IsNext (machine.have (machine.alone name place) (frames_of frames.old) (tree.name name place)) (seen token.entry) (frames_of frames.new) r) }
 {
     match token.kind {
-        Kind::Backslash => {
-            push(frames, Frame::Abs(name, place))?;
-            Ok(Next::On(State::Want))
-        }
+        Kind::Backslash => enter(frames, Frame::Abs(name, place)),
         _ => {
             let operand = boxed(frames.alloc, Parse::Name(name, place))?;
             step_have(frames, operand, token)
@@ -131,58 +117,59 @@ fn step_alone(
 }
 
 /// What a token does to an expression that is being read.
-pub(crate) fn step(frames: &mut Frames, state: State, token: Seen<'_>) -> Result<Next, AllocError>
+pub(crate) fn step(frames: &mut Frames, state: State, token: Seen<'_>) -> Step
     ensures { IfOk result (λ r. IsNext (state_in (frames_of frames.old) state) (seen token.entry) (frames_of frames.new) r) }
 {
-    match state {
-        State::Want => start_operand(frames, token),
-        State::Alone(name, place) => step_alone(frames, name, place, token),
-        State::Have(operand) => step_have(frames, operand, token),
-        State::PiWant => match token.kind {
-            Kind::Word => Ok(Next::On(State::PiName(name_of(frames.alloc, token)?, token.place))),
-            Kind::LeftParen => {
-                push(frames, Frame::Bracket(Bracket::PiParen))?;
-                Ok(Next::On(State::PiWant))
-            }
-            _ => Ok(Next::Wrong),
-        },
-        State::PiName(name, place) => match token.kind {
-            Kind::Backslash => {
-                push(frames, Frame::Abs(name, place))?;
-                Ok(Next::On(State::Want))
-            }
-            _ => Ok(Next::Wrong),
-        },
-        State::Enclosed(operand) => step_enclosed(frames, operand, token),
-        State::Item(context) => start_item(frames, context, token),
-        State::FocusEnd(context, focus) => match token.kind {
-            Kind::Turnstile => {
-                push(frames, Frame::Bracket(Bracket::Goal(context, Some(focus))))?;
-                Ok(Next::On(State::Want))
-            }
-            _ => Ok(Next::Wrong),
-        },
-        State::Binders(prefix) => step_binders(frames, prefix, token),
-        State::BinderName(prefix) => match token.kind {
-            Kind::Word => Ok(Next::On(State::BinderColon(
-                prefix,
-                name_of(frames.alloc, token)?,
-                token.place,
-            ))),
-            _ => Ok(Next::Wrong),
-        },
-        State::BinderColon(prefix, name, place) => match token.kind {
-            Kind::Colon => Ok(Next::On(State::BinderType(
-                prefix,
-                name,
-                place,
-                no_type_frames(frames.alloc),
-                TypeState::Want,
-            ))),
-            _ => Ok(Next::Wrong),
-        },
-        State::BinderType(prefix, name, place, types, state) => {
+    match (state, token.kind) {
+        (State::Want, _) => start_operand(frames, token),
+        (State::Alone(name, place), _) => step_alone(frames, name, place, token),
+        (State::Have(operand), _) => step_have(frames, operand, token),
+        (State::PiWant, Kind::Word) => {
+            let name = name_of(frames.alloc, token)?;
+            Ok(Next::On(State::PiName(name, token.place)))
+        }
+        (State::PiWant, Kind::LeftParen) => {
+            frames.push(Frame::Bracket(Bracket::PiParen))?;
+            Ok(Next::On(State::PiWant))
+        }
+        (State::PiName(name, place), Kind::Backslash) => enter(frames, Frame::Abs(name, place)),
+        (State::Enclosed(operand), _) => step_enclosed(frames, operand, token),
+        (State::Item(context), _) => start_item(frames, context, token),
+        (State::FocusEnd(context, focus), Kind::Turnstile) => {
+            enter(frames, Frame::Bracket(Bracket::Goal(context, Some(focus))))
+        }
+        (State::Binders(prefix), _) => step_binders(frames, prefix, token),
+        (State::BinderName(prefix), Kind::Word) => {
+            let name = name_of(frames.alloc, token)?;
+            Ok(Next::On(State::BinderColon(prefix, name, token.place)))
+        }
+        (State::BinderColon(prefix, name, place), Kind::Colon) => {
+            let types = Stack::new(frames.alloc);
+            Ok(Next::On(State::BinderType(prefix, name, place, types, None)))
+        }
+        (State::BinderType(prefix, name, place, types, state), _) => {
             step_binder_type(prefix, name, place, types, state, token)
+        }
+        _ => Ok(Next::Wrong),
+    }
+}
+
+/// Reads an expression, which what follows ends.
+pub(crate) fn read_expression(text: &Text<'_>, here: &mut usize) -> Result<Parse, Stop>
+    ensures { Found Expression Followed tree_of (rest text.now here.old) (rest text.now here.new) result }
+{
+    let mut frames = Stack::new(text.alloc);
+    let mut state = State::Want;
+    let mut layers = outside(text.alloc);
+    loop {
+        let token = next_or_stop(text, *here);
+        match step(&mut frames, state, token)? {
+            Next::Done(found) => return Ok(Box::into_inner(found)),
+            Next::Wrong => return Err(Stop::Syntax),
+            Next::On(next) => {
+                state = nested(&mut layers, token.kind, next)?;
+                *here += 1;
+            }
         }
     }
 }

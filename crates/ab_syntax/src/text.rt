@@ -1,10 +1,10 @@
 //! A text that is read token by token.
-ghost use Rattle.std.specs.Prelude.{◌≡◌, ◌≢◌, ◌<◌, ℕ, List, length, map, All, IfOk, IsTrue, Some, ◌↔◌, option_map};
+ghost use Rattle.std.specs.Prelude.{◌≡◌, ◌<◌, length, All, IfOk, IsTrue, Some, ◌↔◌, option_map};
 ghost use Rattle.ab_grammar.specs.Language.{Key};
 ghost use Rattle.ab_grammar.proofs.Following.{Anything, first};
-ghost use Rattle.ab_syntax.specs.Tokens.{IsTokenOf, token_of};
+ghost use Rattle.ab_syntax.specs.Tokens.{IsTokenOf, StandIn, token_of};
 ghost use Rattle.ab_syntax.specs.Kinds.{key_of, IsKey, IsWordKind};
-ghost use Rattle.ab_syntax.specs.Reader.{AreTokens, all_of, seen, rest, next_or_stop as next_or_stop_of, Found, IsTaken, IsClosedBy};
+ghost use Rattle.ab_syntax.specs.Reader.{AreSeen, place_of, seen, rest, next_or_stop as next_or_stop_of, Found, IsTaken, IsClosedBy};
 
 use crate::kind::{Kind, kind_of};
 use crate::seen::Seen;
@@ -13,25 +13,19 @@ use ab_lex::Token;
 use ab_name::Name;
 use std::alloc::{AllocError, Global};
 
-/// The tokens of a text as they are lexed, and the bytes that they stand in. Places are counted from `origin`.
-#[derive(Clone, Copy, Drop)]
-pub(crate) struct Source<'a> {
-    pub(crate) bytes: &'a [u8],
-    pub(crate) tokens: &'a [Token],
-    pub(crate) origin: usize,
-}
-
-/// The tokens of a text as the grammar sees them, and the memory for what is read of them.
+/// The tokens of a text as the grammar sees them, the place behind them all, and the memory for what is read of them.
 #[derive(Clone, Copy, Drop)]
 pub(crate) struct Text<'a> {
     pub(crate) alloc: Global,
     pub(crate) tokens: &'a [Seen<'a>],
+    pub(crate) end: usize,
 }
 
 /// A token of the bytes, as the grammar sees it.
 pub(crate) fn see<'a>(bytes: &'a [u8], origin: usize, token: Token) -> Seen<'a>
     requires { IsTokenOf bytes.now origin token }
-    ensures { seen result ≡ token_of bytes.now origin token }
+    ensures token { seen result ≡ token_of bytes.now origin token }
+    ensures place { result.place ≡ place_of origin token }
 {
     let written = &bytes[token.span.start..token.span.end];
     Seen {
@@ -41,14 +35,19 @@ pub(crate) fn see<'a>(bytes: &'a [u8], origin: usize, token: Token) -> Seen<'a>
     }
 }
 
-/// All tokens of a text, as the grammar sees them.
-pub(crate) fn see_all<'a>(alloc: Global, source: &Source<'a>) -> Result<Vec<Seen<'a>>, AllocError>
-    requires { AreTokens source.now }
-    ensures { IfOk result (λ all. map seen all.items ≡ all_of source.now) }
+/// All tokens of a text, as the grammar sees them. Places are counted from `origin`.
+pub(crate) fn see_all<'a>(
+    alloc: Global,
+    bytes: &'a [u8],
+    tokens: &[Token],
+    origin: usize,
+) -> Result<Vec<Seen<'a>>, AllocError>
+    requires { StandIn bytes.now origin tokens.now }
+    ensures { IfOk result (λ all. AreSeen bytes.now origin tokens.now all.items) }
 {
     let mut all = Vec::new(alloc);
-    for token in source.tokens {
-        all.push(see(source.bytes, source.origin, *token))?;
+    for token in tokens {
+        all.push(see(bytes, origin, *token))?;
     }
     Ok(all)
 }

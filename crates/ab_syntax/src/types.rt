@@ -1,20 +1,23 @@
 //! Types, read from tokens by a stack of what isn't finished yet.
-ghost use Rattle.std.specs.Prelude.{◌≡◌, ◌<◌, ◌∷◌, [], true, IfOk, MatchOption, vec_len};
+ghost use Rattle.std.specs.Prelude.{◌≡◌, IfOk};
 ghost use Rattle.ab_grammar.specs.Language.{TypeExpression};
 ghost use Rattle.ab_grammar.proofs.Following.{Followed};
 ghost use Rattle.ab_grammar.proofs.Machine as machine;
 ghost use Rattle.ab_syntax.specs.Trees.{type_of};
 ghost use Rattle.ab_syntax.specs.Reader.{seen, rest, Found};
-ghost use Rattle.ab_syntax.specs.Steps.{follows, type_frame_of, type_frames_of, type_shut_of, type_state, IsTypeNext};
+ghost use Rattle.ab_syntax.specs.Steps.{type_frames_of, type_shut_of, type_state, IsTypeNext};
 
 use crate::build::boxed;
 use crate::kind::Kind;
+use crate::machine::Next;
 use crate::nesting::{nested, outside};
 use crate::seen::Seen;
+use crate::stack::Stack;
+use crate::step::ends;
 use crate::stop::Stop;
 use crate::text::{Text, name_of, next_or_stop};
 use crate::tree::TypeParse;
-use std::alloc::{AllocError, Global};
+use std::alloc::AllocError;
 
 /// What a type stands in.
 #[derive(Drop)]
@@ -25,174 +28,72 @@ pub(crate) enum TypeFrame {
     Arrow(Box<TypeParse>),
 }
 
-/// What a type stands in, the innermost last, and the memory for what is read.
-#[derive(Drop)]
-pub(crate) struct TypeFrames {
-    pub(crate) alloc: Global,
-    pub(crate) items: Vec<TypeFrame>,
-}
+/// What a type stands in, the innermost last.
+pub(crate) type TypeFrames = Stack<TypeFrame>;
 
-/// What was read last, and what must come.
-#[derive(Drop)]
-pub(crate) enum TypeState {
-    /// A type must come.
-    Want,
-    /// A type stands there.
-    Have(Box<TypeParse>),
-}
+/// The type that stands there, or none where a type must come.
+pub(crate) type TypeState = Option<Box<TypeParse>>;
 
-/// What a token does.
-#[derive(Drop)]
-pub(crate) enum TypeNext {
-    /// The type goes on.
-    On(TypeState),
-    /// The type ended before the token.
-    Done(Box<TypeParse>),
-    /// No type goes on with the token, and none that ended before it is followed by it.
-    Wrong,
-}
+/// What a token does to a type, if there is memory for it.
+type TypeStep = Result<Next<TypeState, TypeParse>, AllocError>;
 
-/// A type up to its innermost parenthesis, and whether there is one.
-#[derive(Drop)]
-pub(crate) struct TypeInside {
-    pub(crate) inner: Box<TypeParse>,
-    pub(crate) enclosed: bool,
-}
-
-/// Whether a token can stand behind a whole type and behind a whole expression.
-pub(crate) fn ends(kind: Kind) -> bool
-    ensures { result ≡ follows kind }
-{
-    match kind {
-        Kind::Word
-        | Kind::Truth
-        | Kind::Forall
-        | Kind::Exists
-        | Kind::Nabla
-        | Kind::Pi
-        | Kind::Arrow
-        | Kind::Or
-        | Kind::And
-        | Kind::Equal
-        | Kind::Imply
-        | Kind::Both
-        | Kind::Cons
-        | Kind::LeftParen
-        | Kind::LeftBrace
-        | Kind::LeftBracket
-        | Kind::Backslash => false,
-        _ => true,
-    }
-}
-
-/// Puts a frame on top.
-fn push_type(frames: &mut TypeFrames, frame: TypeFrame) -> Result<(), AllocError>
-    ensures { IfOk result (λ r. type_frames_of frames.new ≡ type_frame_of frame ∷ type_frames_of frames.old) }
-{
-    frames.items.push(frame)?;
-    Ok(())
-}
-
-/// Takes the innermost frame.
-#[tactic(auto, using(crate::proofs::Stacks::top))]
-fn take_type_frame(frames: &mut TypeFrames) -> Option<TypeFrame>
-    ensures top { MatchOption result (type_frames_of frames.old ≡ []) (λ x. type_frames_of frames.old ≡ type_frame_of x ∷ type_frames_of frames.new) }
-    ensures fewer { MatchOption result (vec_len frames.new.items ≡ 0) (λ _. vec_len frames.new.items < vec_len frames.old.items) }
-{
-    match frames.items.pop() {
-        Some(frame) => Some(frame),
-        None => None,
-    }
-}
-
-/// The type up to the innermost parenthesis, which is taken away.
-fn shut_type(frames: &mut TypeFrames, last: Box<TypeParse>) -> Result<TypeInside, AllocError>
+/// The type up to the innermost parenthesis, which is taken away, and whether there is one.
+fn shut_type(
+    frames: &mut TypeFrames,
+    mut last: Box<TypeParse>,
+) -> Result<(Box<TypeParse>, bool), AllocError>
     ensures { IfOk result (λ r. machine.type_shut (type_of last.value) (type_frames_of frames.old) ≡ type_shut_of r (type_frames_of frames.new)) }
 {
-    let mut inner = last;
     loop {
-        match take_type_frame(frames) {
+        match frames.pop() {
             Some(TypeFrame::Arrow(left)) => {
-                inner = boxed(frames.alloc, TypeParse::Arrow(left, inner))?;
+                last = boxed(frames.alloc, TypeParse::Arrow(left, last))?
             }
-            Some(TypeFrame::Paren) => {
-                let enclosed = true;
-                return Ok(TypeInside { inner, enclosed });
-            }
-            None => {
-                let enclosed = false;
-                return Ok(TypeInside { inner, enclosed });
-            }
+            Some(TypeFrame::Paren) => return Ok((last, true)),
+            None => return Ok((last, false)),
         }
-    }
-}
-
-/// A token where a type must come.
-fn begin_type(frames: &mut TypeFrames, token: Seen<'_>) -> Result<TypeNext, AllocError>
-    ensures { IfOk result (λ r. IsTypeNext (machine.type_want (type_frames_of frames.old)) (seen token.entry) (type_frames_of frames.new) r) }
-{
-    match token.kind {
-        Kind::Word => {
-            let name = name_of(frames.alloc, token)?;
-            let base = boxed(frames.alloc, TypeParse::Base(name, token.place))?;
-            Ok(TypeNext::On(TypeState::Have(base)))
-        }
-        Kind::LeftParen => {
-            push_type(frames, TypeFrame::Paren)?;
-            Ok(TypeNext::On(TypeState::Want))
-        }
-        _ => Ok(TypeNext::Wrong),
     }
 }
 
 /// A token behind a type.
-fn go_on_with_type(
-    frames: &mut TypeFrames,
-    last: Box<TypeParse>,
-    token: Seen<'_>,
-) -> Result<TypeNext, AllocError>
+fn step_behind_type(frames: &mut TypeFrames, last: Box<TypeParse>, token: Seen<'_>) -> TypeStep
     ensures { IfOk result (λ r. IsTypeNext (machine.type_have (type_frames_of frames.old) (type_of last.value)) (seen token.entry) (type_frames_of frames.new) r) }
 {
-    if !ends(token.kind) {
+    if ends(token.kind) {
+        let (inner, enclosed) = shut_type(frames, last)?;
+        if !enclosed {
+            return Ok(Next::Done(inner));
+        }
         return match token.kind {
-            Kind::Arrow => {
-                push_type(frames, TypeFrame::Arrow(last))?;
-                Ok(TypeNext::On(TypeState::Want))
-            }
-            _ => Ok(TypeNext::Wrong),
+            Kind::RightParen => Ok(Next::On(Some(inner))),
+            _ => Ok(Next::Wrong),
         };
     }
-    let TypeInside { inner, enclosed } = shut_type(frames, last)?;
-    if !enclosed {
-        return Ok(TypeNext::Done(inner));
-    }
     match token.kind {
-        Kind::RightParen => Ok(TypeNext::On(TypeState::Have(inner))),
-        _ => Ok(TypeNext::Wrong),
+        Kind::Arrow => {
+            frames.push(TypeFrame::Arrow(last))?;
+            Ok(Next::On(None))
+        }
+        _ => Ok(Next::Wrong),
     }
 }
 
 /// What a token does to a type that is being read.
-pub(crate) fn step_type(
-    frames: &mut TypeFrames,
-    state: TypeState,
-    token: Seen<'_>,
-) -> Result<TypeNext, AllocError>
+pub(crate) fn step_type(frames: &mut TypeFrames, state: TypeState, token: Seen<'_>) -> TypeStep
     ensures { IfOk result (λ r. IsTypeNext (type_state (type_frames_of frames.old) state) (seen token.entry) (type_frames_of frames.new) r) }
 {
-    match state {
-        TypeState::Want => begin_type(frames, token),
-        TypeState::Have(last) => go_on_with_type(frames, last, token),
-    }
-}
-
-/// No frames.
-pub(crate) fn no_type_frames(alloc: Global) -> TypeFrames
-    ensures { type_frames_of result ≡ [] }
-{
-    TypeFrames {
-        alloc,
-        items: Vec::new(alloc),
+    match (state, token.kind) {
+        (Some(last), _) => step_behind_type(frames, last, token),
+        (None, Kind::Word) => {
+            let name = name_of(frames.alloc, token)?;
+            let base = boxed(frames.alloc, TypeParse::Base(name, token.place))?;
+            Ok(Next::On(Some(base)))
+        }
+        (None, Kind::LeftParen) => {
+            frames.push(TypeFrame::Paren)?;
+            Ok(Next::On(None))
+        }
+        _ => Ok(Next::Wrong),
     }
 }
 
@@ -200,15 +101,15 @@ pub(crate) fn no_type_frames(alloc: Global) -> TypeFrames
 pub(crate) fn read_type(text: &Text<'_>, here: &mut usize) -> Result<TypeParse, Stop>
     ensures { Found TypeExpression Followed type_of (rest text.now here.old) (rest text.now here.new) result }
 {
-    let mut frames = no_type_frames(text.alloc);
-    let mut state = TypeState::Want;
+    let mut frames = Stack::new(text.alloc);
+    let mut state = None;
     let mut layers = outside(text.alloc);
     loop {
         let token = next_or_stop(text, *here);
         match step_type(&mut frames, state, token)? {
-            TypeNext::Done(found) => return Ok(Box::into_inner(found)),
-            TypeNext::Wrong => return Err(Stop::Syntax),
-            TypeNext::On(next) => {
+            Next::Done(found) => return Ok(Box::into_inner(found)),
+            Next::Wrong => return Err(Stop::Syntax),
+            Next::On(next) => {
                 state = nested(&mut layers, token.kind, next)?;
                 *here += 1;
             }

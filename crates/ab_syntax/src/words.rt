@@ -1,11 +1,11 @@
 //! The words with which commands begin, and those that mean something inside.
-ghost use Rattle.std.specs.Prelude.{◌≡◌, ◌↔◌, IsTrue, map};
-ghost use Rattle.ab_grammar.specs.CommandTable.{listed, command_words, proof_words, takes_label as takes_label_of};
+ghost use Rattle.std.specs.Prelude.{◌≡◌, map};
+ghost use Rattle.ab_grammar.specs.CommandTable.{listed, takes_label as takes_label_of};
 
 use ab_grammar::{Head, ProofHead};
 
 /// The words with which commands begin that are no proof commands.
-const COMMANDS: [(&[u8], Head); 11] = [
+pub(crate) const COMMANDS: [(&[u8], Head); 11] = [
     (b"Kind", Head::Kind),
     (b"Type", Head::Typed),
     (b"Define", Head::Define),
@@ -20,7 +20,7 @@ const COMMANDS: [(&[u8], Head); 11] = [
 ];
 
 /// The words with which proof commands begin; the reserved word `exists` begins one too.
-const PROOF_COMMANDS: [(&[u8], ProofHead); 19] = [
+pub(crate) const PROOF_COMMANDS: [(&[u8], ProofHead); 19] = [
     (b"intros", ProofHead::Intros),
     (b"induction", ProofHead::Induction),
     (b"coinduction", ProofHead::Coinduction),
@@ -52,20 +52,6 @@ pub(crate) fn lookup<T: Copy>(table: &[(&[u8], T)], word: &[u8]) -> Option<T>
         }
     }
     None
-}
-
-/// The command that a word begins, if it begins one that is no proof command.
-pub(crate) fn command_head(word: &[u8]) -> Option<Head>
-    ensures { result ≡ listed command_words word.now }
-{
-    lookup(&COMMANDS, word)
-}
-
-/// The proof command that a word begins, if it begins one.
-pub(crate) fn proof_head(word: &[u8]) -> Option<ProofHead>
-    ensures { result ≡ listed proof_words word.now }
-{
-    lookup(&PROOF_COMMANDS, word)
 }
 
 /// Whether a label may stand before a proof command.

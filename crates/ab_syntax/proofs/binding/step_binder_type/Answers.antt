@@ -1,5 +1,7 @@
-use Rattle.std.proofs.Common.{map, subst, inl, refl}
-use Rattle.ab_syntax.specs.declared.types.TypeNext.{TypeNext}
+use Rattle.std.proofs.Common.{map, subst, inl, refl, Option, Box}
+use Rattle.std.specs.Global.{Global}
+use Rattle.ab_syntax.specs.declared.machine.Next.{Next}
+use Rattle.ab_syntax.specs.declared.tree.TypeParse.{TypeParse}
 use Rattle.ab_syntax.specs.Trees.{binder_of}
 use Rattle.ab_syntax.specs.Reader.{seen}
 use Rattle.ab_syntax.specs.Steps.{type_state, type_frames_of, IsTypeNext}
@@ -9,5 +11,5 @@ use Rattle.ab_syntax.proofs.binding.step_binder_type.Goals as goal
 pub returns-in-Wrong : goal.returns-in-Wrong
 returns-in-Wrong c = λ fs.
     let s = type_state (type_frames_of c.args.types) c.args.state in
-    let h = subst (λ (r : TypeNext). IsTypeNext s (seen c.args.token) (type_frames_of c.step_type.new.frames) r) c.in-Wrong.is c.in_ok-state.ensures in
+    let h = subst (λ (r : Next (Option (Box TypeParse Global)) TypeParse). IsTypeNext s (seen c.args.token) (type_frames_of c.step_type.new.frames) r) c.in-Wrong.is c.in_ok-state.ensures in
     (never_closed fs c.args.prefix.quant c.args.prefix.place (map binder_of c.args.prefix.binders.items) c.args.name c.args.place s (seen c.args.token) h.0 h.1, inl refl)

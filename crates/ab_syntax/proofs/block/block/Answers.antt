@@ -9,19 +9,12 @@ use Rattle.ab_grammar.proofs.Continuing.{Continues}
 use Rattle.ab_grammar.proofs.Rows.{definienda_by, definition}
 use Rattle.ab_syntax.specs.Commands.{block_head}
 use Rattle.ab_syntax.specs.Reader.{rest}
-use Rattle.ab_syntax.proofs.Followers.{by_no_comma, definiendum_ends}
 use Rattle.ab_syntax.proofs.Passing.{refused_on, refused_first}
 use Rattle.ab_syntax.proofs.block.block.Goals as goal
 
 block : (b : Bool) (ks : List Token) → Continues Definition (Row (block_head b)) BeforeStop (λ d. tree.define b d.0 d.1) ks ks
 block true ks = define ks
 block false ks = codefine ks
-
-pub items-requires-clause-apart : goal.items-requires-clause-apart
-items-requires-clause-apart c = by_no_comma
-
-pub items-requires-clause-within : goal.items-requires-clause-within
-items-requires-clause-within c = definiendum_ends
 
 pub returns-in_err-predicates : goal.returns-in_err-predicates
 returns-in_err-predicates c =

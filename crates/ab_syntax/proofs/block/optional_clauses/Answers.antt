@@ -5,15 +5,8 @@ use Rattle.ab_syntax.specs.declared.items.Items.{Items}
 use Rattle.ab_syntax.specs.Commands.{clause_of}
 use Rattle.ab_syntax.specs.Items.{list_of}
 use Rattle.ab_syntax.specs.Reader.{rest}
-use Rattle.ab_syntax.proofs.Followers.{stop_no_semicolon, clause_ends}
 use Rattle.ab_syntax.proofs.Passing.{found_on}
 use Rattle.ab_syntax.proofs.block.optional_clauses.Goals as goal
-
-pub items-requires-clause-apart : goal.items-requires-clause-apart
-items-requires-clause-apart c = stop_no_semicolon
-
-pub items-requires-clause-within : goal.items-requires-clause-within
-items-requires-clause-within c = clause_ends
 
 pub returns-then-is_next : goal.returns-then-is_next
 returns-then-is_next c = rw (c.from_vec.ensures, c.new.ensures.items) (no_clauses (rest c.args.text.now c.args.here.now) (c.is_next.ensures.next.0 c.if-is_next.true))

@@ -6,7 +6,7 @@ use Rattle.ab_syntax.proofs.frame.shut.Given as goal
 
 -- what is left to shut comes to the same
 abbrev pub invariant-loop-bracket : goal.invariant-loop-bracket
-invariant-loop-bracket l = machine.shut (tree_of l.fn.last.value) (frames_of l.fn.frames) ≡ machine.shut (tree_of l.inner.value) (frames_of l.frames)
+invariant-loop-bracket l = machine.shut (tree_of l.fn.operand.value) (frames_of l.fn.frames) ≡ machine.shut (tree_of l.operand.value) (frames_of l.frames)
 
 abbrev pub decreases-loop-bracket : goal.decreases-loop-bracket
-decreases-loop-bracket l = length l.frames.items.items
+decreases-loop-bracket l = length (frames_of l.frames)

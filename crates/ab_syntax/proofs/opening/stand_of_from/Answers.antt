@@ -20,22 +20,22 @@ pub returns-in-Plain : goal.returns-in-Plain
 returns-in-Plain c = λ s.
     let ts = tokens_from c.args.bytes.now c.args.origin c.args.tokens.now in
     let some : 0 < length c.args.tokens.now = search rules in
-    let e : first ts ≡ Some (seen c.see.result) = first_at (token_of c.args.bytes.now c.args.origin) c.args.tokens.now 0 no_token some ∙ ap Some (sym c.see.ensures) in
+    let e : first ts ≡ Some (seen c.see.result) = first_at (token_of c.args.bytes.now c.args.origin) c.args.tokens.now 0 no_token some ∙ ap Some (sym c.see.ensures.token) in
     exactly ts c.stand.result s (subst (StandsAt ts) (sym c.stand.ensures) (plain_stands ts (seen c.see.result) c.in-Plain.head e c.in-Plain.ensures))
 
 pub returns-in-Proof : goal.returns-in-Proof
 returns-in-Proof c = λ s.
     let ts = tokens_from c.args.bytes.now c.args.origin c.args.tokens.now in
     let some : 0 < length c.args.tokens.now = search rules in
-    let e : first ts ≡ Some (seen c.see.result) = first_at (token_of c.args.bytes.now c.args.origin) c.args.tokens.now 0 no_token some ∙ ap Some (sym c.see.ensures) in
+    let e : first ts ≡ Some (seen c.see.result) = first_at (token_of c.args.bytes.now c.args.origin) c.args.tokens.now 0 no_token some ∙ ap Some (sym c.see.ensures.token) in
     exactly ts Inside s (proof_stands ts (seen c.see.result) c.in-Proof.field-0 e c.in-Proof.ensures)
 
 pub returns-then-eq : goal.returns-then-eq
 returns-then-eq c = λ s.
     let ts = tokens_from c.args.bytes.now c.args.origin c.args.tokens.now in
     let some : 0 < length c.args.tokens.now = search rules in
-    let e : first ts ≡ Some (seen c.see.result) = first_at (token_of c.args.bytes.now c.args.origin) c.args.tokens.now 0 no_token some ∙ ap Some (sym c.see.ensures) in
-    let f : first (drop 1 ts) ≡ Some (seen c.see-then-tokens-gt1.result) = first_at (token_of c.args.bytes.now c.args.origin) c.args.tokens.now 1 no_token c.if-tokens-gt1.true ∙ ap Some (sym c.see-then-tokens-gt1.ensures) in
+    let e : first ts ≡ Some (seen c.see.result) = first_at (token_of c.args.bytes.now c.args.origin) c.args.tokens.now 0 no_token some ∙ ap Some (sym c.see.ensures.token) in
+    let f : first (drop 1 ts) ≡ Some (seen c.see-then-tokens-gt1.result) = first_at (token_of c.args.bytes.now c.args.origin) c.args.tokens.now 1 no_token c.if-tokens-gt1.true ∙ ap Some (sym c.see-then-tokens-gt1.ensures.token) in
     let same : c.see-then-tokens-gt1.result.kind ≡ kind.Colon = search rules in
     exactly ts Inside s (label_stands ts (seen c.see.result) c.see.result.written.now e c.in-Label.ensures (f ∙ ap Some (of_kind c.see-then-tokens-gt1.result kind.Colon (λ w p. refl) same)))
 
@@ -43,10 +43,10 @@ pub returns-else-tokens-gt1 : goal.returns-else-tokens-gt1
 returns-else-tokens-gt1 c = λ s.
     let ts = tokens_from c.args.bytes.now c.args.origin c.args.tokens.now in
     let some : 0 < length c.args.tokens.now = search rules in
-    let e : first ts ≡ Some (seen c.see.result) = first_at (token_of c.args.bytes.now c.args.origin) c.args.tokens.now 0 no_token some ∙ ap Some (sym c.see.ensures) in
+    let e : first ts ≡ Some (seen c.see.result) = first_at (token_of c.args.bytes.now c.args.origin) c.args.tokens.now 0 no_token some ∙ ap Some (sym c.see.ensures.token) in
     nowhere ts s (no_colon_stands ts (seen c.see.result) c.see.result.written.now s e c.in-Label.ensures (λ colon_next. elim c.else-tokens-gt1.branch [
       | else-tokens-gt1-via-then-tokens-gt1+else-eq w ↦
-          let f : first (drop 1 ts) ≡ Some (seen w.see-then-tokens-gt1.result) = first_at (token_of c.args.bytes.now c.args.origin) c.args.tokens.now 1 no_token w.if-tokens-gt1.true ∙ ap Some (sym w.see-then-tokens-gt1.ensures) in
+          let f : first (drop 1 ts) ≡ Some (seen w.see-then-tokens-gt1.result) = first_at (token_of c.args.bytes.now c.args.origin) c.args.tokens.now 1 no_token w.if-tokens-gt1.true ∙ ap Some (sym w.see-then-tokens-gt1.ensures.token) in
           let is : seen w.see-then-tokens-gt1.result ≡ colon = (let both = sym f ∙ colon_next in cc) in
           let same : IsTrue w.eq.result ↔ (w.see-then-tokens-gt1.result.kind ≡ kind.Colon) = search rules in
           let yes : IsTrue w.eq.result = same.1 (kind_is w.see-then-tokens-gt1.result kind.Colon is) in
@@ -59,5 +59,5 @@ pub returns-in-Nothing : goal.returns-in-Nothing
 returns-in-Nothing c = λ s.
     let ts = tokens_from c.args.bytes.now c.args.origin c.args.tokens.now in
     let some : 0 < length c.args.tokens.now = search rules in
-    let e : first ts ≡ Some (seen c.see.result) = first_at (token_of c.args.bytes.now c.args.origin) c.args.tokens.now 0 no_token some ∙ ap Some (sym c.see.ensures) in
+    let e : first ts ≡ Some (seen c.see.result) = first_at (token_of c.args.bytes.now c.args.origin) c.args.tokens.now 0 no_token some ∙ ap Some (sym c.see.ensures.token) in
     nowhere ts s (nothing_stands ts (seen c.see.result) s e c.in-Nothing.ensures)

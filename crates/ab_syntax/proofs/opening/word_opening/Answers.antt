@@ -7,8 +7,8 @@ use Rattle.ab_syntax.proofs.opening.word_opening.Goals as goal
 pub returns-in-Some : goal.returns-in-Some
 returns-in-Some c = λ p. opens c.args.written.now p (sym c.in-Some.ensures)
 
-pub returns-in-Some-proof_head : goal.returns-in-Some-proof_head
-returns-in-Some-proof_head c = λ p. opens_proof c.args.written.now p (sym c.in-Some-proof_head.ensures)
+pub returns-in-Some-lookup : goal.returns-in-Some-lookup
+returns-in-Some-lookup c = λ p. opens_proof c.args.written.now p (sym c.in-Some-lookup.ensures)
 
 pub returns-then-eq : goal.returns-then-eq
 returns-then-eq c = λ p. let is : c.args.written.now ≡ codes "Query" = search rules in query c.args.written.now p is
@@ -16,4 +16,4 @@ returns-then-eq c = λ p. let is : c.args.written.now ≡ codes "Query" = search
 pub returns-else-eq : goal.returns-else-eq
 returns-else-eq c = λ p.
     let not : c.args.written.now ≢ codes "Query" = search rules in
-    is_label c.args.written.now p (sym c.command_head.ensures ∙ c.in_default.is) (sym c.proof_head.ensures ∙ c.in_default-proof_head.is) not
+    is_label c.args.written.now p (sym c.lookup.ensures ∙ c.in_default.is) (sym c.lookup-2.ensures ∙ c.in_default-lookup.is) not

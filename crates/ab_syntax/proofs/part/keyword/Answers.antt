@@ -1,19 +1,18 @@
-use Rattle.std.proofs.Common.{◌≡◌, Some, None, sym, ◌∙◌, subst, rules}
+use Rattle.std.proofs.Common.{◌≡◌, ◌≢◌, Some, None, sym, ◌∙◌, subst, rules}
 use Rattle.ab_grammar.specs.Token.{Token, word}
 use Rattle.ab_grammar.specs.CommandTable.{StandsAnywhere, stands_at}
 use Rattle.ab_grammar.proofs.Shown.{one_placed, placed_example}
+use Rattle.ab_syntax.specs.declared.kind.Kind.TheVariants as kind
 use Rattle.ab_syntax.specs.declared.seen.Seen.{Seen}
 use Rattle.ab_syntax.specs.Reader.{seen}
 use Rattle.ab_syntax.proofs.Leaves.{takes, takes_none, placed_in, placed_kind, word_shown, word_seen, of_kind}
 use Rattle.ab_syntax.proofs.part.keyword.Goals as goal
+use Rattle.ab_syntax.proofs.part.keyword.Goals.{then-ne-via-then-ne, then-ne-via-else-ne+then-ne-2}
 
-pub returns-else-ne : goal.returns-else-ne
-returns-else-ne c =
-    let s : Seen = c.in-Some.token in
+pub returns-in_default : goal.returns-in_default
+returns-in_default c =
     let x = c.args.expected.now in
-    let is : s.written.now ≡ x = search rules in
-    takes (StandsAnywhere (word x)) c.args.text.now c.args.here.now (one_placed (word x)) tt
-    (seen s, sym c.in-Some.ensures, word_shown (StandsAnywhere (word x)) tt x s.written.now s.place (seen s) (word_seen s c.in-Word.is) (sym is) (stands_at s.place))
+    takes_none (StandsAnywhere (word x)) c.args.text.now c.args.here.now (placed_example (word x)) (λ k u e d. let bad : None ≡ Some k = c.in_default.ensures ∙ e in absurd (cc))
 
 pub returns-then-ne : goal.returns-then-ne
 returns-then-ne c =
@@ -21,18 +20,22 @@ returns-then-ne c =
     let x = c.args.expected.now in
     takes_none (StandsAnywhere (word x)) c.args.text.now c.args.here.now (placed_example (word x)) (λ k u e d.
     let same : seen s ≡ k = (let both : Some (seen s) ≡ Some k = c.in-Some.ensures ∙ e in cc) in
-    let is : s.written.now ≡ x = placed_in x s.written.now s.place (seen s) (word_seen s c.in-Word.is) u (subst (λ (j : Token). StandsAnywhere (word x) j u) (sym same) d) in
-    search rules)
+    let there = subst (λ (j : Token). StandsAnywhere (word x) j u) (sym same) d in
+    let is : s.kind ≡ kind.Word = of_kind s _ (placed_kind x (seen s) u there) in
+    elim c.then-ne.branch [
+      | then-ne-via-then-ne w ↦
+          let not : s.kind ≢ kind.Word = search rules in
+          absurd (not is)
+      | then-ne-via-else-ne+then-ne-2 w ↦
+          let same_bytes : s.written.now ≡ x = placed_in x s.written.now s.place (seen s) (word_seen s is) u there in
+          search rules
+    ])
 
-pub returns-in_default : goal.returns-in_default
-returns-in_default c =
+pub returns : goal.returns
+returns c =
     let s : Seen = c.in-Some.token in
     let x = c.args.expected.now in
-    takes_none (StandsAnywhere (word x)) c.args.text.now c.args.here.now (placed_example (word x)) (λ k u e d.
-    let same : seen s ≡ k = (let both : Some (seen s) ≡ Some k = c.in-Some.ensures ∙ e in cc) in
-    c.in_default.not-Word (of_kind s _ (placed_kind x (seen s) u (subst (λ (j : Token). StandsAnywhere (word x) j u) (sym same) d))))
-
-pub returns-in-None : goal.returns-in-None
-returns-in-None c =
-    let x = c.args.expected.now in
-    takes_none (StandsAnywhere (word x)) c.args.text.now c.args.here.now (placed_example (word x)) (λ k u e d. let bad : None ≡ Some k = c.in-None.ensures ∙ e in absurd (cc))
+    let a_word : s.kind ≡ kind.Word = search rules in
+    let is : s.written.now ≡ x = search rules in
+    takes (StandsAnywhere (word x)) c.args.text.now c.args.here.now (one_placed (word x)) tt
+    (seen s, sym c.in-Some.ensures, word_shown (StandsAnywhere (word x)) tt x s.written.now s.place (seen s) (word_seen s a_word) (sym is) (stands_at s.place))

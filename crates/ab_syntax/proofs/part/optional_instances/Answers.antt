@@ -8,7 +8,6 @@ use Rattle.ab_syntax.specs.declared.command.Instance.{Instance}
 use Rattle.ab_syntax.specs.declared.items.Items.{Items}
 use Rattle.ab_syntax.specs.Commands.{instance_of}
 use Rattle.ab_syntax.specs.Items.{list_of}
-use Rattle.ab_syntax.proofs.Followers.{stop_no_comma, instance_ends}
 use Rattle.ab_syntax.specs.Reader.{rest}
 use Rattle.ab_syntax.proofs.Passing.{found_on}
 use Rattle.ab_syntax.proofs.Repeating.{keyed, taken, left_there, key_taken}
@@ -25,9 +24,3 @@ pub returns : goal.returns
 returns c =
     let left = left_there (other with_word) (rest c.args.text.now c.args.here.now) (rest c.args.text.now c.takes.new.here) c.takes.result c.if-takes.false c.takes.ensures in
     rw (c.from_vec.ensures, c.new.ensures.items, left.1) (no_instances (rest c.args.text.now c.args.here.now) (left.0))
-
-pub items-requires-clause-apart : goal.items-requires-clause-apart
-items-requires-clause-apart c = stop_no_comma
-
-pub items-requires-clause-within : goal.items-requires-clause-within
-items-requires-clause-within c = instance_ends

@@ -1,14 +1,7 @@
 use Rattle.std.proofs.lemmas.Result.{err_from_is_err_and}
 use Rattle.ab_grammar.proofs.Rows.{inst}
 use Rattle.ab_syntax.proofs.Passing.{refused_on, refused_first}
-use Rattle.ab_syntax.proofs.Followers.{stop_no_comma, instance_ends}
 use Rattle.ab_syntax.proofs.proof_row.inst.Goals as goal
-
-pub items-requires-clause-apart : goal.items-requires-clause-apart
-items-requires-clause-apart c = stop_no_comma
-
-pub items-requires-clause-within : goal.items-requires-clause-within
-items-requires-clause-within c = instance_ends
 
 pub returns-in_err-name : goal.returns-in_err-name
 returns-in_err-name c =

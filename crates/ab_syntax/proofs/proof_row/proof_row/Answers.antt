@@ -11,13 +11,8 @@ use Rattle.ab_syntax.proofs.Followers.{no_name_at_end}
 use Rattle.ab_syntax.proofs.Passing.{refused_on, refused_fewer, as_they_are}
 use Rattle.ab_syntax.proofs.proof_row.proof_row.Goals as goal
 
-pub returns-in_err-take_all-in-Intros : goal.returns-in_err-take_all-in-Intros
-returns-in_err-take_all-in-Intros c =
-    let p = err_from_is_err_and c.from_residual.result c.from_residual.ensures.1 in
-    rw (p.1, p.2, c.in-Intros.is) (refused_on (choices.intros (rest c.args.text.now c.args.here.now)) _ _ (refused_fewer (Many Name) (Without ShowsName) BeforeStop no_name_at_end _ _ _ c.in_err-take_all-in-Intros.ensures.found))
-
 pub returns-in_ok-take_all-in-Intros : goal.returns-in_ok-take_all-in-Intros
-returns-in_ok-take_all-in-Intros c = rw c.in-Intros.is ((choices.intros (rest c.args.text.now c.args.here.now)).reads _ _ (fewer_reads (Many Name) (Without ShowsName) BeforeStop no_name_at_end _ _ _ (as_they_are (Many Name) (Without ShowsName) _ _ _ c.in_ok-take_all-in-Intros.ensures.found)))
+returns-in_ok-take_all-in-Intros c = rw c.in-Intros.is ((choices.intros (rest c.args.text.now c.args.here.now)).reads _ _ (fewer_reads (Many Name) (Without ShowsName) BeforeStop no_name_at_end _ _ _ (as_they_are (Many Name) (Without ShowsName) _ _ _ c.in_ok-take_all-in-Intros.ensures)))
 
 pub returns-in-Induction : goal.returns-in-Induction
 returns-in-Induction c = rw c.in-Induction.is (c.induction.ensures)

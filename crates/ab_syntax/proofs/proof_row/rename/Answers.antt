@@ -11,10 +11,10 @@ returns-in_err-from c =
     let p = err_from_is_err_and c.from_residual.result c.from_residual.ensures.1 in
     rw (p.1, p.2) (refused_first rename _ _ _ c.in_err-from.ensures)
 
-pub returns-in_err-name : goal.returns-in_err-name
-returns-in_err-name c =
-    let p = err_from_is_err_and c.from_residual-in_err-name.result c.from_residual-in_err-name.ensures.1 in
-    rw (p.1, p.2) (refused_on (rename.first_read _ _ _ c.in_ok-from.ensures) _ _ (refused_fewer Name Anything BeforeStop (λ r f. tt) _ _ _ c.in_err-name.ensures))
+pub returns-in_err-take : goal.returns-in_err-take
+returns-in_err-take c =
+    let p = err_from_is_err_and c.from_residual-in_err-take.result c.from_residual-in_err-take.ensures.1 in
+    rw (p.1, p.2) (refused_on (rename.first_read _ _ _ c.in_ok-from.ensures) _ _ (refused_fewer Name Anything BeforeStop (λ r f. tt) _ _ _ c.in_err-take.ensures))
 
 pub returns : goal.returns
-returns c = (rename.first_read _ _ _ c.in_ok-from.ensures).reads _ _ (fewer_reads Name Anything BeforeStop (λ r f. tt) _ _ _ c.in_ok-name.ensures)
+returns c = (rename.first_read _ _ _ c.in_ok-from.ensures).reads _ _ (fewer_reads Name Anything BeforeStop (λ r f. tt) _ _ _ c.in_ok-take.ensures)

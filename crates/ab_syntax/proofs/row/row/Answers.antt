@@ -65,13 +65,13 @@ returns-in_err-take-in-Specification c =
 pub returns-in_ok-take-in-Specification : goal.returns-in_ok-take-in-Specification
 returns-in_ok-take-in-Specification c = rw c.in-Specification.is ((choices.specification (rest c.args.text.now c.args.here.now)).reads _ _ (fewer_reads (One ShowsText) Anything BeforeStop (λ r f. tt) _ _ _ c.in_ok-take-in-Specification.ensures))
 
-pub returns-in_err-name-in-Show : goal.returns-in_err-name-in-Show
-returns-in_err-name-in-Show c =
-    let p = err_from_is_err_and c.from_residual-in_err-name-in-Show.result c.from_residual-in_err-name-in-Show.ensures.1 in
-    rw (p.1, p.2, c.in-Show.is) (refused_on (choices.show (rest c.args.text.now c.args.here.now)) _ _ (refused_fewer Name Anything BeforeStop (λ r f. tt) _ _ _ c.in_err-name-in-Show.ensures))
+pub returns-in_err-take-in-Show : goal.returns-in_err-take-in-Show
+returns-in_err-take-in-Show c =
+    let p = err_from_is_err_and c.from_residual-in_err-take-in-Show.result c.from_residual-in_err-take-in-Show.ensures.1 in
+    rw (p.1, p.2, c.in-Show.is) (refused_on (choices.show (rest c.args.text.now c.args.here.now)) _ _ (refused_fewer Name Anything BeforeStop (λ r f. tt) _ _ _ c.in_err-take-in-Show.ensures))
 
-pub returns-in_ok-name-in-Show : goal.returns-in_ok-name-in-Show
-returns-in_ok-name-in-Show c = rw c.in-Show.is ((choices.show (rest c.args.text.now c.args.here.now)).reads _ _ (fewer_reads Name Anything BeforeStop (λ r f. tt) _ _ _ c.in_ok-name-in-Show.ensures))
+pub returns-in_ok-take-in-Show : goal.returns-in_ok-take-in-Show
+returns-in_ok-take-in-Show c = rw c.in-Show.is ((choices.show (rest c.args.text.now c.args.here.now)).reads _ _ (fewer_reads Name Anything BeforeStop (λ r f. tt) _ _ _ c.in_ok-take-in-Show.ensures))
 
 pub returns-in_err-keyword-in-Set : goal.returns-in_err-keyword-in-Set
 returns-in_err-keyword-in-Set c =

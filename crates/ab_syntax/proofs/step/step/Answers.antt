@@ -2,5 +2,5 @@ use Rattle.ab_syntax.specs.Frames.{frames_of}
 use Rattle.ab_syntax.proofs.Enders.{if_ok}
 use Rattle.ab_syntax.proofs.step.step.Goals as goal
 
-pub returns-in-BinderType : goal.returns-in-BinderType
-returns-in-BinderType c = rw c.in-BinderType.is (if_ok c.step_binder_type.result (λ r h. h (frames_of c.args.frames.now)) c.step_binder_type.ensures)
+pub returns-in-BinderType-default : goal.returns-in-BinderType-default
+returns-in-BinderType-default c = rw c.in-BinderType-default.is-0 (if_ok c.step_binder_type.result (λ r h. h (frames_of c.args.frames.now)) c.step_binder_type.ensures)

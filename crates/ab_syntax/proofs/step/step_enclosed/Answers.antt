@@ -16,13 +16,13 @@ returns-then-ends c = if_ok c.step_closer.result
 
 pub returns-in-Some : goal.returns-in-Some
 returns-in-Some c = if_ok c.step_sign.result
-    (λ r h. subst (λ (k : Token). IsNext (enclosed (frames_of c.args.frames.now) (tree_of c.args.operand.value)) k (frames_of c.step_sign.new.frames) r) (sym (c.in-Some.ensures c.args.token.written.now c.args.token.place)) h)
+    (λ r h. subst (λ (k : Token). IsNext (enclosed (frames_of c.args.frames.now) (tree_of c.args.operand.value)) k (frames_of c.step_sign.new.frames) r) (sym (c.in-Some.ensures.sign c.args.token.written.now c.args.token.place)) h)
     c.step_sign.ensures
 
 pub returns-in-None : goal.returns-in-None
 returns-in-None c =
     let fs = frames_of c.args.frames.now in
     let e = sym c.ends.ensures ∙ c.if-ends.false in (
-      stuck_enclosed (tree_of c.args.operand.value) fs fs c.args.token.kind e c.in-None.ensures c.args.token.written.now c.args.token.place,
+      stuck_enclosed (tree_of c.args.operand.value) fs fs c.args.token.kind e c.in-None.ensures.sign c.args.token.written.now c.args.token.place,
       inr (no_follower c.args.token.kind _ _ e),
     )

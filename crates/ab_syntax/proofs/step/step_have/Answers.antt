@@ -1,5 +1,5 @@
 use Rattle.std.proofs.Common.{List, sym, subst, ◌∙◌, None}
-use Rattle.ab_grammar.proofs.Machine.{Frame, starts}
+use Rattle.ab_grammar.proofs.Machine.{Frame, starts_operand}
 use Rattle.ab_syntax.specs.Trees.{tree_of}
 use Rattle.ab_syntax.specs.Reader.{seen}
 use Rattle.ab_syntax.specs.Frames.{frames_of}
@@ -16,7 +16,7 @@ returns-then-not-begins_argument c = if_ok c.step_enclosed.result
 pub returns : goal.returns
 returns c =
     let k = seen c.args.token in
-    if_ok c.start_argument.result
-    (λ r h. have_begun (tree_of c.args.operand.value) (frames_of c.args.frames.now) (frames_of c.start_argument.new.frames) c.args.token.kind (sym c.begins_argument.ensures ∙ c.if-not-begins_argument.false) _ _ r
-    (subst (λ (fs : List Frame). Says (starts fs k) None k (frames_of c.start_argument.new.frames) r) c.in_ok-grow.ensures h))
-    c.start_argument.ensures
+    if_ok c.start_operand.result
+    (λ r h. have_begun (tree_of c.args.operand.value) (frames_of c.args.frames.now) (frames_of c.start_operand.new.frames) c.args.token.kind (sym c.begins_argument.ensures ∙ c.if-not-begins_argument.false) _ _ r
+    (subst (λ (fs : List Frame). Says (starts_operand fs k) None k (frames_of c.start_operand.new.frames) r) c.in_ok-grow.ensures h))
+    c.start_operand.ensures

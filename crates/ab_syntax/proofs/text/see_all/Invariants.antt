@@ -1,7 +1,6 @@
-use Rattle.std.proofs.Common.{◌≡◌, map, take}
-use Rattle.ab_syntax.specs.Tokens.{tokens_from}
-use Rattle.ab_syntax.specs.Reader.{seen}
+use Rattle.std.proofs.Common.{take}
+use Rattle.ab_syntax.specs.Reader.{AreSeen}
 use Rattle.ab_syntax.proofs.text.see_all.Given as goal
 
 abbrev pub invariant-loop-token : goal.invariant-loop-token
-invariant-loop-token l = map seen l.all.items ≡ tokens_from l.source.bytes.now l.source.origin (take l.token-index l.source.tokens.now)
+invariant-loop-token l = AreSeen l.bytes l.origin (take l.token-index l.tokens) l.all.items

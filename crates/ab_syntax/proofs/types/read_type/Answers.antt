@@ -1,4 +1,4 @@
-use Rattle.std.proofs.Common.{ap, sym, subst, ◌∙◌, arith}
+use Rattle.std.proofs.Common.{ap, map, reverse, sym, subst, ◌∙◌, arith}
 use Rattle.std.proofs.lemmas.Result.{err_from_is_err_and}
 use Rattle.ab_grammar.specs.Token.{Token}
 use Rattle.ab_grammar.specs.Nesting.{nest}
@@ -8,13 +8,13 @@ use Rattle.ab_grammar.proofs.Reading.{ReadsOff}
 use Rattle.ab_syntax.specs.declared.tree.TypeParse.{TypeParse}
 use Rattle.ab_syntax.specs.Trees.{type_of}
 use Rattle.ab_syntax.specs.Reader.{rest}
-use Rattle.ab_syntax.specs.Steps.{IsTooDeep, layers_of, type_frames_of, type_state}
+use Rattle.ab_syntax.specs.Steps.{IsTooDeep, layers_of, type_frame_of, type_frames_of, type_state}
 use Rattle.ab_syntax.proofs.TypeReading.{type_starts, type_found, type_refused, type_within, type_nests, type_on}
 use Rattle.ab_syntax.proofs.types.read_type.Goals as goal
 
 pub loop-layers-init : goal.loop-layers-init
 loop-layers-init c = record {
-  so_far = type_starts (rest c.args.text.now c.args.here.now) (type_frames_of c.no_type_frames-frames.result) (layers_of c.outside-layers.result) c.no_type_frames-frames.ensures c.outside-layers.ensures.outside;
+  so_far = type_starts (rest c.args.text.now c.args.here.now) (type_frames_of c.new-frames.result) (layers_of c.outside-layers.result) (ap (λ v. map type_frame_of (reverse v)) c.new-frames.ensures) c.outside-layers.ensures.outside;
   measured = c.outside-layers.ensures.measured;
   shallow = omega (arith, c.outside-layers.ensures.depth);
 }
