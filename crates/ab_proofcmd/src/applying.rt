@@ -85,51 +85,38 @@ pub fn apply_proof_command<L>(
         IsRefused (given_label (option_copied label.entry)) (proof_command_of command.now) world.old proof.old fault }
     ensures unchanged { OnErr result (history_of world.new proof.new ≡ history_of world.old proof.old) }
 {
+    let wanted = label_wanted(alloc, label)?;
     match command {
-        ProofCommand::Intros(names) => {
-            let given = names.as_slice();
-            intros(alloc, world, proof, given, steps)
-        }
-        ProofCommand::Induction(place) => {
-            let wanted = label_wanted(alloc, label)?;
-            induction(alloc, world, proof, &wanted, *place, steps)
-        }
-        ProofCommand::Coinduction => {
-            let wanted = label_wanted(alloc, label)?;
-            coinduction(alloc, world, proof, &wanted, steps)
-        }
-        ProofCommand::Case(name, keep) => {
-            let wanted = label_wanted(alloc, label)?;
-            case(alloc, world, proof, &wanted, name, *keep, steps)
-        }
+        ProofCommand::Intros(names) => intros(alloc, world, proof, names.as_slice(), steps),
+        ProofCommand::Induction(place) => induction(alloc, world, proof, &wanted, *place, steps),
+        ProofCommand::Coinduction => coinduction(alloc, world, proof, &wanted, steps),
+        ProofCommand::Case(name, keep) => case(alloc, world, proof, &wanted, name, *keep, steps),
         ProofCommand::Split => split(world, proof, steps),
         ProofCommand::SplitAll => split_all(world, proof, steps),
         ProofCommand::Left => left(world, proof, steps),
         ProofCommand::Right => right(world, proof, steps),
         ProofCommand::Unfold => unfold(alloc, world, proof, steps),
         ProofCommand::Exists(term) => exists(alloc, world, proof, term, steps),
-        ProofCommand::Assert(formula) => {
-            let wanted = label_wanted(alloc, label)?;
-            assert(alloc, world, proof, &wanted, formula, steps)
-        }
-        ProofCommand::Clear(names) => {
-            let gone = names.as_slice();
-            clear(alloc, world, proof, gone, steps)
-        }
+        ProofCommand::Assert(formula) => assert(alloc, world, proof, &wanted, formula, steps),
+        ProofCommand::Clear(names) => clear(alloc, world, proof, names.as_slice(), steps),
         ProofCommand::Rename(name, to) => rename(alloc, world, proof, name, to, steps),
         ProofCommand::Apply(name, arguments, given) => {
-            let wanted = label_wanted(alloc, label)?;
             let list = arguments.as_slice();
             let terms = given.as_slice();
             apply(alloc, world, proof, &wanted, name, list, terms, steps)
         }
         ProofCommand::Backchain(name, given) => {
-            let instances = given.as_slice();
-            backchain(alloc, world, proof, name, instances, steps)
+            backchain(alloc, world, proof, name, given.as_slice(), steps)
         }
         ProofCommand::Permute(numbers, name) => {
-            let cycle = numbers.as_slice();
-            permute(alloc, world, proof, cycle, name.as_ref(), steps)
+            permute(
+                alloc,
+                world,
+                proof,
+                numbers.as_slice(),
+                name.as_ref(),
+                steps,
+            )
         }
         _ => unreachable!(),
     }

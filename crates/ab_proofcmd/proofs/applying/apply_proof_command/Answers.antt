@@ -21,47 +21,47 @@ pub returns-in-Intros-clause-applied : goal.returns-in-Intros-clause-applied
 returns-in-Intros-clause-applied g c =
     let l = given_label (option_copied c.args.label) in
     rw c.in-Intros.is
-    (subst (λ (xs : List (List ℕ)). IfOk c.intros.result (λ u. IsApplied l (told.intros xs) c.args.world.now c.args.proof.now c.intros.new.world c.intros.new.proof)) c.as_slice-given.ensures
-    (at_label (λ m. IsApplied m (told.intros c.as_slice-given.result.now) c.args.world.now c.args.proof.now c.intros.new.world c.intros.new.proof) c.intros.result l c.intros.ensures.applied))
+    (subst (λ (xs : List (List ℕ)). IfOk c.intros.result (λ u. IsApplied l (told.intros xs) c.args.world.now c.args.proof.now c.intros.new.world c.intros.new.proof)) c.as_slice.ensures
+    (at_label (λ m. IsApplied m (told.intros c.as_slice.result.now) c.args.world.now c.args.proof.now c.intros.new.world c.intros.new.proof) c.intros.result l c.intros.ensures.applied))
 
 pub returns-in-Intros-clause-refused : goal.returns-in-Intros-clause-refused
 returns-in-Intros-clause-refused g c fault e =
     let l = given_label (option_copied c.args.label) in
     rw c.in-Intros.is
-    (subst (λ (xs : List (List ℕ)). IsRefused l (told.intros xs) c.args.world.now c.args.proof.now fault) c.as_slice-given.ensures (c.intros.ensures.refused fault e l))
+    (subst (λ (xs : List (List ℕ)). IsRefused l (told.intros xs) c.args.world.now c.args.proof.now fault) c.as_slice.ensures (c.intros.ensures.refused fault e l))
 
-pub returns-in_ok-wanted-in-Induction-clause-applied : goal.returns-in_ok-wanted-in-Induction-clause-applied
-returns-in_ok-wanted-in-Induction-clause-applied g c =
+pub returns-in-Induction-clause-applied : goal.returns-in-Induction-clause-applied
+returns-in-Induction-clause-applied g c =
     rw c.in-Induction.is
-    (subst (λ (m : Label). IfOk c.induction.result (λ u. IsApplied m (told.induction c.in-Induction.place) c.args.world.now c.args.proof.now c.induction.new.world c.induction.new.proof)) c.in_ok-wanted-in-Induction.ensures
+    (subst (λ (m : Label). IfOk c.induction.result (λ u. IsApplied m (told.induction c.in-Induction.place) c.args.world.now c.args.proof.now c.induction.new.world c.induction.new.proof)) c.in_ok-wanted.ensures
     c.induction.ensures.applied)
 
-pub returns-in_ok-wanted-in-Induction-clause-refused : goal.returns-in_ok-wanted-in-Induction-clause-refused
-returns-in_ok-wanted-in-Induction-clause-refused g c fault e =
+pub returns-in-Induction-clause-refused : goal.returns-in-Induction-clause-refused
+returns-in-Induction-clause-refused g c fault e =
     rw c.in-Induction.is
-    (subst (λ (m : Label). IsRefused m (told.induction c.in-Induction.place) c.args.world.now c.args.proof.now fault) c.in_ok-wanted-in-Induction.ensures (c.induction.ensures.refused fault e))
+    (subst (λ (m : Label). IsRefused m (told.induction c.in-Induction.place) c.args.world.now c.args.proof.now fault) c.in_ok-wanted.ensures (c.induction.ensures.refused fault e))
 
-pub returns-in_ok-wanted-in-Coinduction-clause-applied : goal.returns-in_ok-wanted-in-Coinduction-clause-applied
-returns-in_ok-wanted-in-Coinduction-clause-applied g c =
+pub returns-in-Coinduction-clause-applied : goal.returns-in-Coinduction-clause-applied
+returns-in-Coinduction-clause-applied g c =
     rw c.in-Coinduction.is
-    (subst (λ (m : Label). IfOk c.coinduction.result (λ u. IsApplied m told.coinduction c.args.world.now c.args.proof.now c.coinduction.new.world c.coinduction.new.proof)) c.in_ok-wanted-in-Coinduction.ensures
+    (subst (λ (m : Label). IfOk c.coinduction.result (λ u. IsApplied m told.coinduction c.args.world.now c.args.proof.now c.coinduction.new.world c.coinduction.new.proof)) c.in_ok-wanted.ensures
     c.coinduction.ensures.applied)
 
-pub returns-in_ok-wanted-in-Coinduction-clause-refused : goal.returns-in_ok-wanted-in-Coinduction-clause-refused
-returns-in_ok-wanted-in-Coinduction-clause-refused g c fault e =
+pub returns-in-Coinduction-clause-refused : goal.returns-in-Coinduction-clause-refused
+returns-in-Coinduction-clause-refused g c fault e =
     rw c.in-Coinduction.is
-    (subst (λ (m : Label). IsRefused m told.coinduction c.args.world.now c.args.proof.now fault) c.in_ok-wanted-in-Coinduction.ensures (c.coinduction.ensures.refused fault e))
+    (subst (λ (m : Label). IsRefused m told.coinduction c.args.world.now c.args.proof.now fault) c.in_ok-wanted.ensures (c.coinduction.ensures.refused fault e))
 
-pub returns-in_ok-wanted-in-Case-clause-applied : goal.returns-in_ok-wanted-in-Case-clause-applied
-returns-in_ok-wanted-in-Case-clause-applied g c =
+pub returns-in-Case-clause-applied : goal.returns-in-Case-clause-applied
+returns-in-Case-clause-applied g c =
     rw c.in-Case.is
-    (subst (λ (m : Label). IfOk c.case.result (λ u. IsApplied m (told.case c.in-Case.name c.in-Case.keep) c.args.world.now c.args.proof.now c.case.new.world c.case.new.proof)) c.in_ok-wanted-in-Case.ensures
+    (subst (λ (m : Label). IfOk c.case.result (λ u. IsApplied m (told.case c.in-Case.name c.in-Case.keep) c.args.world.now c.args.proof.now c.case.new.world c.case.new.proof)) c.in_ok-wanted.ensures
     c.case.ensures.applied)
 
-pub returns-in_ok-wanted-in-Case-clause-refused : goal.returns-in_ok-wanted-in-Case-clause-refused
-returns-in_ok-wanted-in-Case-clause-refused g c fault e =
+pub returns-in-Case-clause-refused : goal.returns-in-Case-clause-refused
+returns-in-Case-clause-refused g c fault e =
     rw c.in-Case.is
-    (subst (λ (m : Label). IsRefused m (told.case c.in-Case.name c.in-Case.keep) c.args.world.now c.args.proof.now fault) c.in_ok-wanted-in-Case.ensures (c.case.ensures.refused fault e))
+    (subst (λ (m : Label). IsRefused m (told.case c.in-Case.name c.in-Case.keep) c.args.world.now c.args.proof.now fault) c.in_ok-wanted.ensures (c.case.ensures.refused fault e))
 
 pub returns-in-Split-clause-applied : goal.returns-in-Split-clause-applied
 returns-in-Split-clause-applied g c =
@@ -107,14 +107,14 @@ pub returns-in-Clear-clause-applied : goal.returns-in-Clear-clause-applied
 returns-in-Clear-clause-applied g c =
     let l = given_label (option_copied c.args.label) in
     rw c.in-Clear.is
-    (subst (λ (xs : List (List ℕ)). IfOk c.clear.result (λ u. IsApplied l (told.clear xs) c.args.world.now c.args.proof.now c.clear.new.world c.clear.new.proof)) c.as_slice-gone.ensures
-    (at_label (λ m. IsApplied m (told.clear c.as_slice-gone.result.now) c.args.world.now c.args.proof.now c.clear.new.world c.clear.new.proof) c.clear.result l c.clear.ensures.applied))
+    (subst (λ (xs : List (List ℕ)). IfOk c.clear.result (λ u. IsApplied l (told.clear xs) c.args.world.now c.args.proof.now c.clear.new.world c.clear.new.proof)) c.as_slice-in-Clear.ensures
+    (at_label (λ m. IsApplied m (told.clear c.as_slice-in-Clear.result.now) c.args.world.now c.args.proof.now c.clear.new.world c.clear.new.proof) c.clear.result l c.clear.ensures.applied))
 
 pub returns-in-Clear-clause-refused : goal.returns-in-Clear-clause-refused
 returns-in-Clear-clause-refused g c fault e =
     let l = given_label (option_copied c.args.label) in
     rw c.in-Clear.is
-    (subst (λ (xs : List (List ℕ)). IsRefused l (told.clear xs) c.args.world.now c.args.proof.now fault) c.as_slice-gone.ensures (c.clear.ensures.refused fault e l))
+    (subst (λ (xs : List (List ℕ)). IsRefused l (told.clear xs) c.args.world.now c.args.proof.now fault) c.as_slice-in-Clear.ensures (c.clear.ensures.refused fault e l))
 
 pub returns-in-Rename-clause-applied : goal.returns-in-Rename-clause-applied
 returns-in-Rename-clause-applied g c =
@@ -132,31 +132,31 @@ returns-in-Exists-clause-applied g c =
 pub returns-in-Exists-clause-refused : goal.returns-in-Exists-clause-refused
 returns-in-Exists-clause-refused g c fault e = rw c.in-Exists.is (c.exists.ensures.refused fault e (given_label (option_copied c.args.label)))
 
-pub returns-in_ok-wanted-in-Assert-clause-applied : goal.returns-in_ok-wanted-in-Assert-clause-applied
-returns-in_ok-wanted-in-Assert-clause-applied g c =
+pub returns-in-Assert-clause-applied : goal.returns-in-Assert-clause-applied
+returns-in-Assert-clause-applied g c =
     rw c.in-Assert.is
-    (subst (λ (m : Label). IfOk c.assert.result (λ u. IsApplied m (told.assert (tree_of c.in-Assert.formula)) c.args.world.now c.args.proof.now c.assert.new.world c.assert.new.proof)) c.in_ok-wanted-in-Assert.ensures
+    (subst (λ (m : Label). IfOk c.assert.result (λ u. IsApplied m (told.assert (tree_of c.in-Assert.formula)) c.args.world.now c.args.proof.now c.assert.new.world c.assert.new.proof)) c.in_ok-wanted.ensures
     c.assert.ensures.applied)
 
-pub returns-in_ok-wanted-in-Assert-clause-refused : goal.returns-in_ok-wanted-in-Assert-clause-refused
-returns-in_ok-wanted-in-Assert-clause-refused g c fault e =
+pub returns-in-Assert-clause-refused : goal.returns-in-Assert-clause-refused
+returns-in-Assert-clause-refused g c fault e =
     rw c.in-Assert.is
-    (subst (λ (m : Label). IsRefused m (told.assert (tree_of c.in-Assert.formula)) c.args.world.now c.args.proof.now fault) c.in_ok-wanted-in-Assert.ensures (c.assert.ensures.refused fault e))
+    (subst (λ (m : Label). IsRefused m (told.assert (tree_of c.in-Assert.formula)) c.args.world.now c.args.proof.now fault) c.in_ok-wanted.ensures (c.assert.ensures.refused fault e))
 
 pub returns-in-Permute-clause-applied : goal.returns-in-Permute-clause-applied
 returns-in-Permute-clause-applied g c =
     let l = given_label (option_copied c.args.label) in
     rw c.in-Permute.is
-    (subst (λ (xs : List ℕ). IfOk c.permute.result (λ u. IsApplied l (told.permute xs c.in-Permute.name) c.args.world.now c.args.proof.now c.permute.new.world c.permute.new.proof)) c.as_slice-cycle.ensures
-    (subst (λ (x : Option (List ℕ)). IfOk c.permute.result (λ u. IsApplied l (told.permute c.as_slice-cycle.result.now x) c.args.world.now c.args.proof.now c.permute.new.world c.permute.new.proof)) c.as_ref.ensures.value
-    (at_label (λ m. IsApplied m (told.permute c.as_slice-cycle.result.now (option_copied c.as_ref.result)) c.args.world.now c.args.proof.now c.permute.new.world c.permute.new.proof) c.permute.result l c.permute.ensures.applied)))
+    (subst (λ (xs : List ℕ). IfOk c.permute.result (λ u. IsApplied l (told.permute xs c.in-Permute.name) c.args.world.now c.args.proof.now c.permute.new.world c.permute.new.proof)) c.as_slice-in-Permute.ensures
+    (subst (λ (x : Option (List ℕ)). IfOk c.permute.result (λ u. IsApplied l (told.permute c.as_slice-in-Permute.result.now x) c.args.world.now c.args.proof.now c.permute.new.world c.permute.new.proof)) c.as_ref.ensures.value
+    (at_label (λ m. IsApplied m (told.permute c.as_slice-in-Permute.result.now (option_copied c.as_ref.result)) c.args.world.now c.args.proof.now c.permute.new.world c.permute.new.proof) c.permute.result l c.permute.ensures.applied)))
 
 pub returns-in-Permute-clause-refused : goal.returns-in-Permute-clause-refused
 returns-in-Permute-clause-refused g c fault e =
     let l = given_label (option_copied c.args.label) in
     rw c.in-Permute.is
-    (subst (λ (xs : List ℕ). IsRefused l (told.permute xs c.in-Permute.name) c.args.world.now c.args.proof.now fault) c.as_slice-cycle.ensures
-    (subst (λ (x : Option (List ℕ)). IsRefused l (told.permute c.as_slice-cycle.result.now x) c.args.world.now c.args.proof.now fault) c.as_ref.ensures.value
+    (subst (λ (xs : List ℕ). IsRefused l (told.permute xs c.in-Permute.name) c.args.world.now c.args.proof.now fault) c.as_slice-in-Permute.ensures
+    (subst (λ (x : Option (List ℕ)). IsRefused l (told.permute c.as_slice-in-Permute.result.now x) c.args.world.now c.args.proof.now fault) c.as_ref.ensures.value
     (c.permute.ensures.refused fault e l)))
 
 pub apply-requires-clause-judgement : goal.apply-requires-clause-judgement
@@ -164,31 +164,31 @@ apply-requires-clause-judgement g c =
     subst (All (λ (i : Instance). HasNoJudgement (tree_of i.term))) (sym c.as_slice-terms.ensures)
     (none_given (list_of c.in-Apply.given) (subst (λ (k : ProofCommand). IsBuilt (proof_command_of k)) c.in-Apply.is c.requires.built))
 
-pub returns-in_ok-wanted-in-Apply-clause-applied : goal.returns-in_ok-wanted-in-Apply-clause-applied
-returns-in_ok-wanted-in-Apply-clause-applied g c =
+pub returns-in-Apply-clause-applied : goal.returns-in-Apply-clause-applied
+returns-in-Apply-clause-applied g c =
     let name = c.in-Apply.name in
     let l = given_label (option_copied c.args.label) in
     let done = λ (m : Label) (vs : List Argument) (is : List Instance). IfOk c.apply.result (λ u. IsApplied m (told.apply name (map argument_of vs) (map instance_of is)) c.args.world.now c.args.proof.now c.apply.new.world c.apply.new.proof) in
     rw c.in-Apply.is
     (subst (λ (vs : List Argument). done l vs (list_of c.in-Apply.given)) c.as_slice-list.ensures
     (subst (λ (is : List Instance). done l c.as_slice-list.result.now is) c.as_slice-terms.ensures
-    (subst (λ (m : Label). done m c.as_slice-list.result.now c.as_slice-terms.result.now) c.in_ok-wanted-in-Apply.ensures
+    (subst (λ (m : Label). done m c.as_slice-list.result.now c.as_slice-terms.result.now) c.in_ok-wanted.ensures
     c.apply.ensures.applied)))
 
-pub returns-in_ok-wanted-in-Apply-clause-refused : goal.returns-in_ok-wanted-in-Apply-clause-refused
-returns-in_ok-wanted-in-Apply-clause-refused g c fault e =
+pub returns-in-Apply-clause-refused : goal.returns-in-Apply-clause-refused
+returns-in-Apply-clause-refused g c fault e =
     let name = c.in-Apply.name in
     let l = given_label (option_copied c.args.label) in
     let refused = λ (m : Label) (vs : List Argument) (is : List Instance). IsRefused m (told.apply name (map argument_of vs) (map instance_of is)) c.args.world.now c.args.proof.now fault in
     rw c.in-Apply.is
     (subst (λ (vs : List Argument). refused l vs (list_of c.in-Apply.given)) c.as_slice-list.ensures
     (subst (λ (is : List Instance). refused l c.as_slice-list.result.now is) c.as_slice-terms.ensures
-    (subst (λ (m : Label). refused m c.as_slice-list.result.now c.as_slice-terms.result.now) c.in_ok-wanted-in-Apply.ensures
+    (subst (λ (m : Label). refused m c.as_slice-list.result.now c.as_slice-terms.result.now) c.in_ok-wanted.ensures
     (c.apply.ensures.refused fault e))))
 
 pub backchain-requires-clause-judgement : goal.backchain-requires-clause-judgement
 backchain-requires-clause-judgement g c =
-    subst (All (λ (i : Instance). HasNoJudgement (tree_of i.term))) (sym c.as_slice-instances.ensures)
+    subst (All (λ (i : Instance). HasNoJudgement (tree_of i.term))) (sym c.as_slice-in-Backchain.ensures)
     (none_given (list_of c.in-Backchain.given) (subst (λ (k : ProofCommand). IsBuilt (proof_command_of k)) c.in-Backchain.is c.requires.built))
 
 pub returns-in-Backchain-clause-applied : goal.returns-in-Backchain-clause-applied
@@ -196,11 +196,11 @@ returns-in-Backchain-clause-applied g c =
     let l = given_label (option_copied c.args.label) in
     let name = c.in-Backchain.name in
     rw c.in-Backchain.is
-    (subst (λ (is : List Instance). IfOk c.backchain.result (λ u. IsApplied l (told.backchain name (map instance_of is)) c.args.world.now c.args.proof.now c.backchain.new.world c.backchain.new.proof)) c.as_slice-instances.ensures
-    (at_label (λ m. IsApplied m (told.backchain name (map instance_of c.as_slice-instances.result.now)) c.args.world.now c.args.proof.now c.backchain.new.world c.backchain.new.proof) c.backchain.result l c.backchain.ensures.applied))
+    (subst (λ (is : List Instance). IfOk c.backchain.result (λ u. IsApplied l (told.backchain name (map instance_of is)) c.args.world.now c.args.proof.now c.backchain.new.world c.backchain.new.proof)) c.as_slice-in-Backchain.ensures
+    (at_label (λ m. IsApplied m (told.backchain name (map instance_of c.as_slice-in-Backchain.result.now)) c.args.world.now c.args.proof.now c.backchain.new.world c.backchain.new.proof) c.backchain.result l c.backchain.ensures.applied))
 
 pub returns-in-Backchain-clause-refused : goal.returns-in-Backchain-clause-refused
 returns-in-Backchain-clause-refused g c fault e =
     let l = given_label (option_copied c.args.label) in
     rw c.in-Backchain.is
-    (subst (λ (is : List Instance). IsRefused l (told.backchain c.in-Backchain.name (map instance_of is)) c.args.world.now c.args.proof.now fault) c.as_slice-instances.ensures (c.backchain.ensures.refused fault e l))
+    (subst (λ (is : List Instance). IsRefused l (told.backchain c.in-Backchain.name (map instance_of is)) c.args.world.now c.args.proof.now fault) c.as_slice-in-Backchain.ensures (c.backchain.ensures.refused fault e l))
