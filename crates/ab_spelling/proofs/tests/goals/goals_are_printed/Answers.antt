@@ -1,4 +1,4 @@
-use Rattle.std.specs.Prelude.{List, [], ◌∷◌, All}
+use Rattle.std.specs.Prelude.{[], ◌∷◌, All}
 use Rattle.std.proofs.lemmas.List.Elements.{All-nil, All-cons}
 use Rattle.ab_logic.specs.Worlds.{Holds, HoldsCell}
 use Rattle.ab_logic.specs.declared.world.World.{World}
