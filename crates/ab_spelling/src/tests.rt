@@ -4,6 +4,7 @@ mod commands;
 mod commands_of_texts;
 mod expressions;
 mod goals;
+mod notation;
 mod shapes;
 mod tokens;
 

@@ -1,5 +1,6 @@
 //! Commands, by tables.
 
+use super::notation::notation_of;
 use super::repeated;
 use ab_lex::tokens;
 use ab_syntax::{Command, ParseFault, Stand, parse_command, stand_of};
@@ -13,172 +14,109 @@ fn parse(alloc: Global, text: &str) -> Result<Result<Command, ParseFault>, Fail>
     Ok(parse_command(alloc, bytes, tokens.as_slice()))
 }
 
-/// How a command is read, as `{:?}` prints it.
+/// How a command is read.
 fn command(alloc: Global, text: &str) -> Result<String, Fail> {
     let command = parse(alloc, text)?;
-    Ok(format!(in alloc; "{command:?}")?)
+    Ok(notation_of(alloc, &command)?)
 }
 
 /// A command of each form that is no proof command.
 static COMMANDS: [(&str, &str); 16] = [
-    (
-        "Kind a, b' type.",
-        r#"Ok(Kind(Items { items: ["a", "b'"] }))"#,
-    ),
-    (
-        "Type c a -> o.",
-        r#"Ok(Typed(Items { items: ["c"] }, Arrow(Base("a", 7), Base("o", 12))))"#,
-    ),
-    (
-        "Define p : o by.",
-        r#"Ok(Define(true, Items { items: [Defined { name: "p", ty: Base("o", 11) }] }, Items { items: [] }))"#,
-    ),
+    ("Kind a, b' type.", "Kind [a, b']"),
+    ("Type c a -> o.", "Typed [c] : (a@7 -> o@12)"),
+    ("Define p : o by.", "Define true [p : o@11] by []"),
     (
         "CoDefine p : o, q : o by p := q; (q).",
-        r#"Ok(Define(false, Items { items: [Defined { name: "p", ty: Base("o", 13) }, Defined { name: "q", ty: Base("o", 20) }] }, Items { items: [ClauseParse { head: Name("p", 25), body: Some(Name("q", 30)), place: 25 }, ClauseParse { head: Name("q", 34), body: None, place: 34 }] }))"#,
+        "Define false [p : o@13, q : o@20] by [(p@25 := q@30)@25, (q@34)@34]",
     ),
-    (
-        " Theorem T : true.",
-        r#"Ok(Theorem("T", Name("true", 12)))"#,
-    ),
+    (" Theorem T : true.", "Theorem T : true@12"),
     (
         "Specification \"a/b-c.d_1\".",
-        r#"Ok(Specification("a/b-c.d_1"))"#,
+        r#"Specification "a/b-c.d_1""#,
     ),
-    ("Specification \"\".", r#"Ok(Specification(""))"#),
-    ("Show n1.", r#"Ok(Show("n1"))"#),
-    ("Quit.", "Ok(Quit)"),
-    ("Set subgoals on.", "Ok(Subgoals(true))"),
-    ("Set subgoals off.", "Ok(Subgoals(false))"),
-    ("#back.", "Ok(Back)"),
-    ("#reset .", "Ok(Reset)"),
-    ("undo.", "Ok(Undo)"),
-    ("abort.", "Ok(Abort)"),
-    ("% none\nQuit /* now */ .", "Ok(Quit)"),
+    ("Specification \"\".", r#"Specification """#),
+    ("Show n1.", "Show n1"),
+    ("Quit.", "Quit"),
+    ("Set subgoals on.", "Subgoals true"),
+    ("Set subgoals off.", "Subgoals false"),
+    ("#back.", "Back"),
+    ("#reset .", "Reset"),
+    ("undo.", "Undo"),
+    ("abort.", "Abort"),
+    ("% none\nQuit /* now */ .", "Quit"),
 ];
 
 /// A proof command of each form.
 static PROOF_COMMANDS: [(&str, &str); 31] = [
-    ("intros.", "Ok(InProof(None, Intros(Items { items: [] })))"),
-    (
-        "intros A b.",
-        r#"Ok(InProof(None, Intros(Items { items: ["A", "b"] })))"#,
-    ),
-    ("induction on 007.", "Ok(InProof(None, Induction(7)))"),
-    ("C : coinduction.", r#"Ok(InProof(Some("C"), Coinduction))"#),
-    ("case H.", r#"Ok(InProof(None, Case("H", false)))"#),
-    (
-        "H : case H ( keep ).",
-        r#"Ok(InProof(Some("H"), Case("H", true)))"#,
-    ),
-    (
-        "apply H.",
-        r#"Ok(InProof(None, Apply("H", Items { items: [] }, Items { items: [] })))"#,
-    ),
+    ("intros.", "intros []"),
+    ("intros A b.", "intros [A, b]"),
+    ("induction on 007.", "induction on 7"),
+    ("C : coinduction.", "C : coinduction"),
+    ("case H.", "case H keep false"),
+    ("H : case H ( keep ).", "H : case H keep true"),
+    ("apply H.", "apply H to [] with []"),
     (
         "apply H to A _ with X = a, Y = b.",
-        r#"Ok(InProof(None, Apply("H", Items { items: [Named("A"), Hole] }, Items { items: [Instance { name: "X", term: Name("a", 24) }, Instance { name: "Y", term: Name("b", 31) }] })))"#,
+        "apply H to [A, ?] with [X = a@24, Y = b@31]",
     ),
-    (
-        "backchain H.",
-        r#"Ok(InProof(None, Backchain("H", Items { items: [] })))"#,
-    ),
-    (
-        "backchain H with X = a.",
-        r#"Ok(InProof(None, Backchain("H", Items { items: [Instance { name: "X", term: Name("a", 21) }] })))"#,
-    ),
-    (
-        "H : cut A with B.",
-        r#"Ok(InProof(Some("H"), Cut("A", "B")))"#,
-    ),
-    (
-        "inst A with n1 = a.",
-        r#"Ok(InProof(None, Inst("A", Items { items: [Instance { name: "n1", term: Name("a", 17) }] })))"#,
-    ),
-    (
-        "monotone A with t.",
-        r#"Ok(InProof(None, Monotone("A", Name("t", 16))))"#,
-    ),
-    ("search.", "Ok(InProof(None, Search(5)))"),
-    ("search 0.", "Ok(InProof(None, Search(0)))"),
-    ("search 1000.", "Ok(InProof(None, Search(1000)))"),
-    ("split.", "Ok(InProof(None, Split))"),
-    ("split *.", "Ok(InProof(None, SplitAll))"),
-    ("left.", "Ok(InProof(None, Left))"),
-    ("right.", "Ok(InProof(None, Right))"),
-    ("exists a.", r#"Ok(InProof(None, Exists(Name("a", 7))))"#),
-    ("witness a.", r#"Ok(InProof(None, Exists(Name("a", 8))))"#),
-    ("unfold.", "Ok(InProof(None, Unfold))"),
-    (
-        "_ : assert a.",
-        r#"Ok(InProof(Some("_"), Assert(Name("a", 11))))"#,
-    ),
-    (
-        "clear A B.",
-        r#"Ok(InProof(None, Clear(Items { items: ["A", "B"] })))"#,
-    ),
-    ("rename A to B.", r#"Ok(InProof(None, Rename("A", "B")))"#),
-    (
-        "permute (n1 n20).",
-        "Ok(InProof(None, Permute(Items { items: [1, 20] }, None)))",
-    ),
-    (
-        "permute (n999999999) H.",
-        r#"Ok(InProof(None, Permute(Items { items: [999999999] }, Some("H"))))"#,
-    ),
-    (
-        "n0 : induction on 0.",
-        r#"Ok(InProof(Some("n0"), Induction(0)))"#,
-    ),
-    (
-        "H : monotone A with t.",
-        r#"Ok(InProof(Some("H"), Monotone("A", Name("t", 20))))"#,
-    ),
-    (
-        "H : inst A with X = t.",
-        r#"Ok(InProof(Some("H"), Inst("A", Items { items: [Instance { name: "X", term: Name("t", 20) }] })))"#,
-    ),
+    ("backchain H.", "backchain H with []"),
+    ("backchain H with X = a.", "backchain H with [X = a@21]"),
+    ("H : cut A with B.", "H : cut A with B"),
+    ("inst A with n1 = a.", "inst A with [n1 = a@17]"),
+    ("monotone A with t.", "monotone A with t@16"),
+    ("search.", "search 5"),
+    ("search 0.", "search 0"),
+    ("search 1000.", "search 1000"),
+    ("split.", "split"),
+    ("split *.", "split all"),
+    ("left.", "left"),
+    ("right.", "right"),
+    ("exists a.", "exists a@7"),
+    ("witness a.", "exists a@8"),
+    ("unfold.", "unfold"),
+    ("_ : assert a.", "_ : assert a@11"),
+    ("clear A B.", "clear [A, B]"),
+    ("rename A to B.", "rename A to B"),
+    ("permute (n1 n20).", "permute [1, 20]"),
+    ("permute (n999999999) H.", "permute [999999999] in H"),
+    ("n0 : induction on 0.", "n0 : induction on 0"),
+    ("H : monotone A with t.", "H : monotone A with t@20"),
+    ("H : inst A with X = t.", "H : inst A with [X = t@20]"),
 ];
 
 /// Where a command goes wrong.
 static FAULTS: [(&str, &str); 31] = [
-    (".", "Err(Syntax(0))"),
-    ("foo bar.", "Err(Syntax(0))"),
-    ("foo.", "Err(Syntax(0))"),
-    ("skip.", "Err(Syntax(0))"),
-    ("Query true.", "Err(Syntax(0))"),
-    ("Query : true.", "Err(Syntax(0))"),
-    ("forall x, true.", "Err(Syntax(0))"),
-    ("type : case H.", "Err(Syntax(0))"),
-    ("#back undo.", "Err(Syntax(6))"),
-    ("Theorem : true.", "Err(Syntax(8))"),
-    ("Theorem t : a = b = c.", "Err(Syntax(18))"),
-    ("Kind Nat type.", "Err(Syntax(5))"),
-    ("Kind n1 type.", "Err(Syntax(5))"),
-    ("Kind _ type.", "Err(Syntax(5))"),
-    (
-        "Type c n12 -> _.",
-        "Ok(Typed(Items { items: [\"c\"] }, Arrow(Base(\"n12\", 7), Base(\"_\", 14))))",
-    ),
-    (
-        "Kind n01, n1234567890 type.",
-        "Ok(Kind(Items { items: [\"n01\", \"n1234567890\"] }))",
-    ),
-    ("Define p : o by p := q := r.", "Err(Syntax(23))"),
-    ("Define p : o by p;.", "Err(Syntax(18))"),
-    ("Specification name.", "Err(Syntax(14))"),
-    ("Specification \"a b\".", "Err(Syntax(14))"),
-    ("Set subgoals of.", "Err(Syntax(13))"),
-    ("Set goals on.", "Err(Syntax(4))"),
-    ("H : search.", "Err(Syntax(4))"),
-    ("H : intros.", "Err(Syntax(4))"),
-    ("H case A.", "Err(Syntax(0))"),
-    ("H : : case A.", "Err(Syntax(4))"),
-    ("search 1001.", "Err(Syntax(7))"),
-    ("search 0000000005.", "Err(Syntax(7))"),
-    ("induction on 1234567890.", "Err(Syntax(13))"),
-    ("permute (n0).", "Err(Syntax(9))"),
-    ("case H (kept).", "Err(Syntax(8))"),
+    (".", "Syntax(0)"),
+    ("foo bar.", "Syntax(0)"),
+    ("foo.", "Syntax(0)"),
+    ("skip.", "Syntax(0)"),
+    ("Query true.", "Syntax(0)"),
+    ("Query : true.", "Syntax(0)"),
+    ("forall x, true.", "Syntax(0)"),
+    ("type : case H.", "Syntax(0)"),
+    ("#back undo.", "Syntax(6)"),
+    ("Theorem : true.", "Syntax(8)"),
+    ("Theorem t : a = b = c.", "Syntax(18)"),
+    ("Kind Nat type.", "Syntax(5)"),
+    ("Kind n1 type.", "Syntax(5)"),
+    ("Kind _ type.", "Syntax(5)"),
+    ("Type c n12 -> _.", "Typed [c] : (n12@7 -> _@14)"),
+    ("Kind n01, n1234567890 type.", "Kind [n01, n1234567890]"),
+    ("Define p : o by p := q := r.", "Syntax(23)"),
+    ("Define p : o by p;.", "Syntax(18)"),
+    ("Specification name.", "Syntax(14)"),
+    ("Specification \"a b\".", "Syntax(14)"),
+    ("Set subgoals of.", "Syntax(13)"),
+    ("Set goals on.", "Syntax(4)"),
+    ("H : search.", "Syntax(4)"),
+    ("H : intros.", "Syntax(4)"),
+    ("H case A.", "Syntax(0)"),
+    ("H : : case A.", "Syntax(4)"),
+    ("search 1001.", "Syntax(7)"),
+    ("search 0000000005.", "Syntax(7)"),
+    ("induction on 1234567890.", "Syntax(13)"),
+    ("permute (n0).", "Syntax(9)"),
+    ("case H (kept).", "Syntax(8)"),
 ];
 
 /// Forms with blanks between their tokens. Cut behind each token, with a full stop there, it is a command (`+`), or refused
@@ -341,13 +279,10 @@ fn refuses_what_is_nested_too_deeply(rt: HostRuntime) -> Result<(), Fail> {
     let shallow = nested(alloc, 200)?;
     assert_eq!(rt;
         command(alloc, shallow.as_str())?.as_str(),
-        r#"Ok(Theorem("x", Name("true", 212)))"#
+        "Theorem x : true@212"
     );
     let deep = nested(alloc, 201)?;
-    assert_eq!(rt;
-        command(alloc, deep.as_str())?.as_str(),
-        "Err(TooNested(212))"
-    );
+    assert_eq!(rt; command(alloc, deep.as_str())?.as_str(), "TooNested(212)");
     Ok(())
 }
 
