@@ -4,7 +4,7 @@ use ab_clausal::below::infer::InferFault;
 use std::alloc::AllocError;
 
 /// Why a command doesn't come to its end.
-#[derive(Debug, Drop)]
+#[derive(Drop)]
 pub(crate) enum Halt {
     Refused(Refusal),
     /// There was no memory.

@@ -25,7 +25,7 @@ impl Place {
 }
 
 /// Why a command is refused. A name stands with the file that it stands in, where it isn't in the command itself.
-#[derive(Debug, Drop)]
+#[derive(Drop)]
 pub enum Refusal {
     /// The grammar has no command that goes on by the token at this place, or a byte there begins no token.
     Syntax(Place),

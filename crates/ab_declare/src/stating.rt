@@ -27,7 +27,7 @@ use ab_syntax::below::name::Name;
 use std::alloc::{AllocError, Global};
 
 /// What is stated under a name.
-#[derive(Debug, Drop)]
+#[derive(Drop)]
 pub enum Statement {
     Formula(TermId),
     /// The name is taken, or the expression isn't one formula.

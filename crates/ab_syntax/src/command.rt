@@ -4,14 +4,14 @@ use crate::tree::{Parse, TypeParse};
 use ab_name::Name;
 
 /// A predicate that is defined, and its type.
-#[derive(Debug, Drop)]
+#[derive(Drop)]
 pub struct Defined {
     pub name: Name,
     pub ty: TypeParse,
 }
 
 /// A clause of a definition.
-#[derive(Debug, Drop)]
+#[derive(Drop)]
 pub struct ClauseParse {
     pub head: Parse,
     /// What stands behind `:=`, where that is written.
@@ -21,14 +21,14 @@ pub struct ClauseParse {
 }
 
 /// A term that is given for a name, as `X = t`.
-#[derive(Debug, Drop)]
+#[derive(Drop)]
 pub struct Instance {
     pub name: Name,
     pub term: Parse,
 }
 
 /// What stands for an antecedent.
-#[derive(Debug, Drop)]
+#[derive(Drop)]
 pub enum Argument {
     /// A hypothesis.
     Named(Name),
@@ -37,7 +37,7 @@ pub enum Argument {
 }
 
 /// A command that works on the open proof.
-#[derive(Debug, Drop)]
+#[derive(Drop)]
 pub enum ProofCommand {
     /// `intros H ..`
     Intros(Items<Name>),
@@ -76,7 +76,7 @@ pub enum ProofCommand {
 }
 
 /// A command.
-#[derive(Debug, Drop)]
+#[derive(Drop)]
 pub enum Command {
     /// `Kind w, .., w type`
     Kind(Items<Name>),

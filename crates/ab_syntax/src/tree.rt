@@ -7,7 +7,7 @@ use ab_grammar::{Infix, Quant};
 use ab_name::Name;
 
 /// A type.
-#[derive(Debug, Drop)]
+#[derive(Drop)]
 pub enum TypeParse {
     /// A word, and its place.
     Base(Name, usize),
@@ -16,7 +16,7 @@ pub enum TypeParse {
 }
 
 /// A name that a quantifier binds.
-#[derive(Debug, Drop)]
+#[derive(Drop)]
 pub struct Binder {
     pub name: Name,
     /// The type, where one is written.
@@ -26,7 +26,7 @@ pub struct Binder {
 }
 
 /// A formula or a term. The last number of each is its place.
-#[derive(Debug, Drop)]
+#[derive(Drop)]
 pub enum Parse {
     /// A name, `true` or `false`.
     Name(Name, usize),
