@@ -50,10 +50,10 @@ static FORMS: [(&str, &str); 9] = [
     (r"pi x\p x", r"(pi@0 (x\ (p@5 x@7)@5)@3)@0"),
     (r"pi((x\p))->q", r"((pi@0 (x\ p@6)@4)@0 Arrow q@11)@0"),
     (r"f a x\x", r"(f@0 a@2 (x\ x@6)@4)@0"),
-    ("{g}", "{|- g@1}@0"),
-    ("{L,a|-g}", "{L@1 a@3 |- g@6}@0"),
-    ("{[f]|-g}", "{[f@2] |- g@6}@0"),
-    ("{L,[f]|-g}", "{L@1 [f@4] |- g@8}@0"),
+    ("{g}", "{ |- g@1}@0"),
+    ("{L,a|-g}", "{ L@1 a@3 |- g@6}@0"),
+    ("{[f]|-g}", "{ [f@2] |- g@6}@0"),
+    ("{L,[f]|-g}", "{ L@1 [f@4] |- g@8}@0"),
 ];
 
 /// Where a text goes wrong: at the first token that no text goes on with.

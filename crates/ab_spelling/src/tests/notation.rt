@@ -101,17 +101,15 @@ impl Noted for Binder {
     }
 }
 
-// a@0, (f@0 a@2)@0, (x\ a@3)@0, (a@0 Arrow b@3)@0, (Forall [x@7], a@10)@0, {a@1 [b@4] |- c@9}@0
+// a@0, (f@0 a@2)@0, (x\ a@3)@0, (a@0 Arrow b@3)@0, (Forall [x@7], a@10)@0, { a@1 [b@4] |- c@9}@0
+#[cycle(notes)]
 fn note_tree(parse: &Parse, out: &mut String) -> Result<(), AllocError> {
     match parse {
         Parse::Name(name, place) => write!(out, "{name}@{place}"),
         Parse::Apply(head, arguments, place) => {
             out.push_str("(")?;
             note_tree(head, out)?;
-            for argument in arguments.as_slice() {
-                out.push_str(" ")?;
-                note_tree(argument, out)?;
-            }
+            note_each(arguments.as_slice(), out)?;
             write!(out, ")@{place}")
         }
         Parse::Abs(name, body, place) => {
@@ -135,20 +133,27 @@ fn note_tree(parse: &Parse, out: &mut String) -> Result<(), AllocError> {
         }
         Parse::Judge(context, focus, goal, place) => {
             out.push_str("{")?;
-            for formula in context.as_slice() {
-                note_tree(formula, out)?;
-                out.push_str(" ")?;
-            }
+            note_each(context.as_slice(), out)?;
             if let Some(focus) = focus {
-                out.push_str("[")?;
+                out.push_str(" [")?;
                 note_tree(focus, out)?;
-                out.push_str("] ")?;
+                out.push_str("]")?;
             }
-            out.push_str("|- ")?;
+            out.push_str(" |- ")?;
             note_tree(goal, out)?;
             write!(out, "}}@{place}")
         }
     }
+}
+
+/// Each tree, with a blank before it.
+#[cycle(notes)]
+fn note_each(trees: &[Parse], out: &mut String) -> Result<(), AllocError> {
+    for tree in trees {
+        out.push_str(" ")?;
+        note_tree(tree, out)?;
+    }
+    Ok(())
 }
 
 impl Noted for Parse {
