@@ -4,13 +4,13 @@ use std::alloc::AllocError;
 use thiserror::Error;
 
 /// A range of bytes: from `start` up to, and not including, `end`.
-#[derive(Clone, Copy, Debug, PartialEq, Eq)]
+#[derive(Clone, Copy)]
 pub struct Span {
     pub start: usize,
     pub end: usize,
 }
 
-#[derive(Clone, Copy, Debug, PartialEq, Eq)]
+#[derive(Clone, Copy, PartialEq)]
 pub enum TokenKind {
     /// A letter with the letters, digits, `_`, `'` and inner `-` behind it, or `_` alone.
     Word,
@@ -23,14 +23,14 @@ pub enum TokenKind {
 }
 
 /// A token, and where it stands among the bytes that were read.
-#[derive(Clone, Copy, Debug, PartialEq, Eq)]
+#[derive(Clone, Copy)]
 pub struct Token {
     pub kind: TokenKind,
     pub span: Span,
 }
 
 /// Why bytes have no tokens: the place of the first byte that is at fault.
-#[derive(Clone, Copy, Debug, PartialEq, Eq, Drop, Error)]
+#[derive(Clone, Copy, Debug, Drop, Error)]
 pub enum LexFault {
     /// A byte that begins no token.
     #[error("BadByte")]

@@ -1,5 +1,6 @@
 //! The tokens of a text, and its faults, by tables.
 
+use ab_lex::LexFault::{BadByte, OpenComment, OpenString};
 use ab_lex::TokenKind::{Number, Sign, Word};
 use ab_lex::{LexFault, TokenKind, tokens};
 use std::alloc::AllocError;
@@ -8,10 +9,10 @@ use std::test::Fail;
 /// A text, and its tokens or its fault.
 const READINGS: [(&[u8], Result<&[(TokenKind, usize, usize)], LexFault>); 14] = [
     (b" \t\r\n% end", Ok(&[])),
-    (b"a ~", Err(LexFault::BadByte(2))),
-    (b"\"a", Err(LexFault::OpenString(0))),
-    (b"x /* y", Err(LexFault::OpenComment(2))),
-    (b"x /* /* */", Err(LexFault::OpenComment(2))),
+    (b"a ~", Err(BadByte(2))),
+    (b"\"a", Err(OpenString(0))),
+    (b"x /* y", Err(OpenComment(2))),
+    (b"x /* /* */", Err(OpenComment(2))),
     (
         b"a /* b /* c */ d */ 12",
         Ok(&[(Word, 0, 1), (Number, 20, 22)]),
@@ -21,7 +22,7 @@ const READINGS: [(&[u8], Result<&[(TokenKind, usize, usize)], LexFault>); 14] = 
         b"x'-1_-a->y",
         Ok(&[(Word, 0, 7), (Sign, 7, 9), (Word, 9, 10)]),
     ),
-    (b"a-_", Err(LexFault::BadByte(1))),
+    (b"a-_", Err(BadByte(1))),
     (
         b"_a 0b",
         Ok(&[(Word, 0, 1), (Word, 1, 2), (Number, 3, 4), (Word, 4, 5)]),
@@ -39,12 +40,12 @@ const READINGS: [(&[u8], Result<&[(TokenKind, usize, usize)], LexFault>); 14] = 
             (Sign, 14, 15),
         ]),
     ),
-    (b"#back.#reset#", Err(LexFault::BadByte(12))),
+    (b"#back.#reset#", Err(BadByte(12))),
     (
         b"#back.#reset",
         Ok(&[(Sign, 0, 5), (Sign, 5, 6), (Sign, 6, 12)]),
     ),
-    (b"\"/*\x80\n\"*/", Err(LexFault::BadByte(7))),
+    (b"\"/*\x80\n\"*/", Err(BadByte(7))),
 ];
 
 #[test]
@@ -54,12 +55,16 @@ fn reads_tokens(rt: HostRuntime) -> Result<(), Fail> {
             (Ok(found), Ok(wanted)) => {
                 assert_eq!(rt; found.len(), wanted.len());
                 for (token, (kind, start, end)) in found.iter().zip(wanted) {
-                    assert_eq!(rt; token.kind, *kind);
+                    assert!(rt; token.kind == *kind);
                     assert_eq!(rt; token.span.start, *start);
                     assert_eq!(rt; token.span.end, *end);
                 }
             }
-            (Err(fault), Err(wanted)) => assert_eq!(rt; fault, wanted),
+            (Err(BadByte(place)), Err(BadByte(wanted)))
+            | (Err(OpenString(place)), Err(OpenString(wanted)))
+            | (Err(OpenComment(place)), Err(OpenComment(wanted))) => {
+                assert_eq!(rt; place, wanted);
+            }
             _ => assert!(rt; false),
         }
     }
@@ -70,9 +75,9 @@ fn reads_tokens(rt: HostRuntime) -> Result<(), Fail> {
 #[test]
 fn names_faults(rt: HostRuntime) -> Result<(), Fail> {
     for (fault, name) in [
-        (LexFault::BadByte(3), "BadByte"),
-        (LexFault::OpenString(3), "OpenString"),
-        (LexFault::OpenComment(3), "OpenComment"),
+        (BadByte(3), "BadByte"),
+        (OpenString(3), "OpenString"),
+        (OpenComment(3), "OpenComment"),
         (LexFault::Memory(AllocError), "Memory"),
     ] {
         assert!(rt; format!(in rt.alloc(); "{fault}")?.as_str() == name);
