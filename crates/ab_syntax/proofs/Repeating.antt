@@ -75,5 +75,15 @@ module _ {X : Type 0} (list : ListForm X) (ks : List Token) where
   pub next_mapped : (xs ys : List X) (x : X) (ms ls ns : List Token) → ys ≡ xs ++ x ∷ [] → ms ≡ (key_of list.sign) ∷ ls → ReadsOff list.form list.ends ls (list.meant x) ns → ItemsTo list ks (map list.meant xs) ms → ItemsTo list ks (map list.meant ys) ns
   next_mapped xs ys x ms ls ns e h p s = subst (λ v. ItemsTo list ks v ns) (sym (ap (map list.meant) e ∙ map-append list.meant xs (x ∷ []))) (next_item ms ls ns (map list.meant xs) (list.meant x) h p s)
 
-  pub first_mapped : (xs ys : List X) (x : X) (ms : List Token) → xs ≡ [] → ys ≡ xs ++ x ∷ [] → ReadsOff list.form list.ends ks (list.meant x) ms → ItemsTo list ks (map list.meant ys) ms
-  first_mapped xs ys x ms z e p = subst (λ v. ItemsTo list ks v ms) (sym (ap (map list.meant) (e ∙ ap (λ (v : List _). v ++ x ∷ []) z))) (first_item ms (list.meant x) p)
+-- an item comes next: the first, or one behind the sign
+pub data ItemNext {X : Type 0} (list : ListForm X) (ks : List Token) : List X → List Token → Type 0 where
+  comes_first : ItemNext list ks [] ks
+  comes_later : {xs : List X} {ms ls : List Token} → ms ≡ (key_of list.sign) ∷ ls → ItemsTo list ks (map list.meant xs) ms → ItemNext list ks xs ls
+
+pub one_more : {X : Type 0} (list : ListForm X) (ks ls ns : List Token) (xs : List X) (x : X) → ItemNext list ks xs ls → ReadsOff list.form list.ends ls (list.meant x) ns → ItemsTo list ks (map list.meant (xs ++ x ∷ [])) ns
+one_more list ks _ ns _ x comes_first p = first_item list ks ns (list.meant x) p
+one_more list ks ls ns xs x (comes_later {ms = ms} h s) p = next_mapped list ks xs (xs ++ x ∷ []) x ms ls ns refl h p s
+
+pub no_more_items : {X : Type 0} (list : ListForm X) (ks ls rest : List Token) (xs : List X) (s : Stop) → ItemNext list ks xs ls → Refused list.form list.ends s ls rest → Refused (Separated (Key (key_of list.sign)) list.form) list.list_ends s ks rest
+no_more_items list ks _ rest _ s comes_first r = no_first_item list ks s rest r
+no_more_items list ks ls rest xs s (comes_later {ms = ms} h q) r = no_next_item list ks ms ls rest (map list.meant xs) s h r q

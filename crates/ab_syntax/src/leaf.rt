@@ -67,10 +67,10 @@ impl Shown for NameForm {
 
     fn shown(self, alloc: Global, token: Seen<'_>) -> Result<Option<Name>, AllocError> {
         let written = token.written;
-        let name = match self {
-            NameForm::Any if token.kind == Kind::Word => written,
-            NameForm::Declared if token.kind == Kind::Word && is_declarable(written) => written,
-            NameForm::Quoted if token.kind == Kind::Text => &written[1..written.len() - 1],
+        let name = match (token.kind, self) {
+            (Kind::Word, NameForm::Any) => written,
+            (Kind::Word, NameForm::Declared) if is_declarable(written) => written,
+            (Kind::Text, NameForm::Quoted) => &written[1..written.len() - 1],
             _ => return Ok(None),
         };
         Ok(Some(spell(alloc, name)?))
@@ -94,10 +94,10 @@ impl Shown for NumberForm {
     ghost leaf = { number_form };
 
     fn shown(self, _alloc: Global, token: Seen<'_>) -> Result<Option<u32>, AllocError> {
-        match self {
-            NumberForm::Nominal if token.kind == Kind::Word => Ok(nominal(token.written)),
-            NumberForm::Any if token.kind == Kind::Number => Ok(Some(value(token.written))),
-            NumberForm::Depth if token.kind == Kind::Number => {
+        match (token.kind, self) {
+            (Kind::Word, NumberForm::Nominal) => Ok(nominal(token.written)),
+            (Kind::Number, NumberForm::Any) => Ok(Some(value(token.written))),
+            (Kind::Number, NumberForm::Depth) => {
                 let depth = value(token.written);
                 Ok((depth <= 1000).then_some(depth))
             }

@@ -73,11 +73,10 @@ pub(crate) fn items<T: Item>(
     ensures { Found (Separated (Key (key_of T.list.sign)) T.list.form) T.list.list_ends (λ xs. map T.list.meant (list_of xs)) (rest text.now here.old) (rest text.now here.new) result }
 {
     let mut items = Vec::new(text.alloc);
-    let first = T::item(text, here)?;
-    add(&mut items, first)?;
-    while takes(text, here, sign) {
-        let item = T::item(text, here)?;
-        add(&mut items, item)?;
+    loop {
+        add(&mut items, T::item(text, here)?)?;
+        if !takes(text, here, sign) {
+            return Ok(Items::from_vec(items));
+        }
     }
-    Ok(Items::from_vec(items))
 }

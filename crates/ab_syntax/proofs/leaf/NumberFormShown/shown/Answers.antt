@@ -4,7 +4,10 @@ use Rattle.std.specs.Bool.{then_some}
 use Rattle.ab_grammar.specs.Token.{Token, other, number}
 use Rattle.ab_grammar.specs.CommandTable.{ShowsNumber, shows_number, ShowsDepth, shows_depth}
 use Rattle.ab_syntax.specs.declared.kind.Kind.TheVariants as kind
-use Rattle.ab_syntax.specs.Leaves.{IsShown, a_depth}
+use Rattle.ab_syntax.specs.declared.leaf.NumberForm.{NumberForm}
+use Rattle.ab_syntax.specs.declared.leaf.NumberForm.TheVariants as form
+use Rattle.ab_syntax.specs.declared.seen.Seen.{Seen}
+use Rattle.ab_syntax.specs.Leaves.{IsShown, a_depth, number_form}
 use Rattle.ab_syntax.specs.Reader.{seen}
 use Rattle.ab_syntax.proofs.Leaves.{nominal_kind, nominal_where, number_kind, depth_kind, word_seen, number_seen, of_kind}
 use Rattle.ab_syntax.proofs.leaf.NumberFormShown.shown.Goals as goal
@@ -17,40 +20,34 @@ depth_where : (v : ℕ) (k : Token) (b : Bool) → k ≡ other (number v) → b 
 depth_where v k true e is = subst (λ (j : Token). ShowsDepth j v) (sym e) (shows_depth v (leb-true v 1000 (sym is)))
 depth_where v k false e is = λ n d. let high = leb-false v 1000 (sym is) in let low = shallow v k n e d in absurd (omega (arith, high, low))
 
-pub value-requires : goal.value-requires
-value-requires c = let is : c.args.token.kind ≡ kind.Number = search rules in c.args.token.short is
-
-pub value-depth-requires : goal.value-depth-requires
-value-depth-requires c = let is : c.args.token.kind ≡ kind.Number = search rules in c.args.token.short is
-
-pub returns-in-Nominal : goal.returns-in-Nominal
-returns-in-Nominal c =
+pub returns-in-Word-Nominal : goal.returns-in-Word-Nominal
+returns-in-Word-Nominal c =
     let s = c.args.token in
-    let is : s.kind ≡ kind.Word = search rules in
-    rw c.in-Nominal.is (nominal_where s.written.now s.place (seen s) c.nominal.result (word_seen s is) c.nominal.ensures)
+    rw c.in-Word-Nominal.is-1 (nominal_where s.written.now s.place (seen s) c.nominal.result (word_seen s c.in-Word-Nominal.is-0) c.nominal.ensures)
 
-pub returns-in-Any : goal.returns-in-Any
-returns-in-Any c =
-    let is : c.args.token.kind ≡ kind.Number = search rules in
-    rw c.in-Any.is (subst (λ (k : Token). ShowsNumber k c.value.result) (ap (λ n. other (number n)) c.value.ensures.value ∙ sym (number_seen c.args.token is)) (shows_number c.value.result))
+pub returns-in-Number-Any : goal.returns-in-Number-Any
+returns-in-Number-Any c =
+    rw c.in-Number-Any.is-1 (subst (λ (k : Token). ShowsNumber k c.value.result) (ap (λ n. other (number n)) c.value.ensures.value ∙ sym (number_seen c.args.token c.in-Number-Any.is-0)) (shows_number c.value.result))
 
-pub returns-in-Depth : goal.returns-in-Depth
-returns-in-Depth c =
-    let is : c.args.token.kind ≡ kind.Number = search rules in
-    let same = number_seen c.args.token is ∙ ap (λ n. other (number n)) (sym c.value-depth.ensures.value) in
-    rw (c.in-Depth.is, c.then_some.ensures) (depth_where c.value-depth.result (seen c.args.token) (leb c.value-depth.result 1000) same refl)
+pub returns-in-Number-Depth : goal.returns-in-Number-Depth
+returns-in-Number-Depth c =
+    let same = number_seen c.args.token c.in-Number-Depth.is-0 ∙ ap (λ n. other (number n)) (sym c.value-depth.ensures.value) in
+    rw (c.in-Number-Depth.is-1, c.then_some.ensures) (depth_where c.value-depth.result (seen c.args.token) (leb c.value-depth.result 1000) same refl)
+
+-- a word shows a nominal name alone, a number shows none, and no other token shows a number
+unshown : (f : NumberForm) (s : Seen) → (s.kind ≡ kind.Word → f ≢ form.Nominal) → (s.kind ≡ kind.Number → f ≡ form.Nominal) → (n : (number_form f).Meant) → (number_form f).shows (seen s) n → ⊥
+unshown form.Nominal s w n x d = w (of_kind s _ (nominal_kind _ x d)) refl
+unshown form.Any s w n x d = let bad = n (of_kind s _ (number_kind _ x d)) in absurd (cc)
+unshown form.Depth s w n x d = let bad = n (of_kind s _ (depth_kind _ x d)) in absurd (cc)
 
 pub returns-in_default : goal.returns-in_default
-returns-in_default c =
-    let not : c.args.token.kind ≢ kind.Word = search rules in
-    rw c.in-Nominal.is (λ n d. not (of_kind c.args.token _ (nominal_kind _ n d)))
+returns-in_default c = unshown c.args.self c.args.token (λ e. c.in_default.not-Nominal-1) (λ e. let bad = sym c.in_default.is-0 ∙ e in absurd (cc))
 
 pub returns-in_default-2 : goal.returns-in_default-2
-returns-in_default-2 c =
-    let not : c.args.token.kind ≢ kind.Number = search rules in
-    rw c.in-Any.is (λ n d. not (of_kind c.args.token _ (number_kind _ n d)))
+returns-in_default-2 c = unshown c.args.self c.args.token (λ e. let bad = sym c.in_default.is-0 ∙ e in absurd (cc)) (λ e. c.in_default.is-1)
 
 pub returns-in_default-3 : goal.returns-in_default-3
 returns-in_default-3 c =
-    let not : c.args.token.kind ≢ kind.Number = search rules in
-    rw c.in-Depth.is (λ n d. not (of_kind c.args.token _ (depth_kind _ n d)))
+    let no_word : c.args.token.kind ≢ kind.Word = search rules in
+    let no_number : c.args.token.kind ≢ kind.Number = search rules in
+    unshown c.args.self c.args.token (λ e. absurd (no_word e)) (λ e. absurd (no_number e))
