@@ -5,7 +5,7 @@
 
 ghost use Rattle.std.specs.Prelude.{◌≡◌, ◌<◌, ◌≤◌, ◌+◌, ◌^◌, length, drop, MatchOption};
 ghost use Rattle.ab_lex.specs.Units.{is_blank as is_blank_byte};
-ghost use Rattle.ab_lex.specs.Scanner.{step, ends, depth, from_plain, from_block, behind, past as past_from, run, fresh, keeps_blank as keeps_blank_in, is_whole as is_whole_in, after_byte, blank_from};
+ghost use Rattle.ab_lex.specs.Scanner.{step, ends, depth, from_plain, from_block, behind, past as past_from, run, fresh, keeps_blank as keeps_blank_in, after_byte, blank_from};
 
 /// Where a scanner stands. A number is how many block comments are open around the innermost.
 #[derive(Clone, Copy)]
@@ -115,13 +115,6 @@ fn keeps_blank(mode: Mode, byte: u8) -> bool
     }
 }
 
-/// Whether a rest that ends in this mode holds whole comments only.
-fn is_whole(mode: Mode) -> bool
-    ensures { result ≡ is_whole_in mode }
-{
-    matches!(mode, Mode::Plain | Mode::Line)
-}
-
 /// The scan behind one more byte, which ends no command.
 fn scan_after(scan: Scan, byte: u8) -> Scan
     requires { depth scan.mode < 2 ^ 64 }
@@ -163,7 +156,7 @@ pub(crate) fn ends_blank(mut scan: Scan, bytes: &[u8]) -> bool
             scan_after(scan, *byte)
         };
     }
-    scan.blank && is_whole(scan.mode)
+    scan.blank && matches!(scan.mode, Mode::Plain | Mode::Line)
 }
 
 /// How many bytes there are up to the end of the string or comment that the mode is in.

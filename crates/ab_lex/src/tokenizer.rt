@@ -1,7 +1,7 @@
 //! Reads the tokens of a text, piece by piece: blanks, comments and tokens.
 
-ghost use Rattle.std.specs.Prelude.{true, ◌≡◌, ◌<◌, ◌≤◌, ◌+◌, ◌∷◌, ℕ, List, length, drop, take, IfOk, IfErr, MatchOption, All, AllPairs};
-ghost use Rattle.ab_lex.specs.Units.{quote, LineEnds, StringEnds, BlocksEnd};
+ghost use Rattle.std.specs.Prelude.{true, ◌≡◌, ◌<◌, ◌≤◌, ◌+◌, ◌∷◌, length, drop, take, IfOk, IfErr, All, AllPairs};
+ghost use Rattle.ab_lex.specs.Units.{quote, LineEnds};
 ghost use Rattle.ab_lex.specs.Tokens.{is_word_byte as is_word_byte_of, TokensOf, Explains, BeginsAt, StandsIn, Follows};
 ghost use Rattle.ab_lex.specs.Reader.{tail_size, begins_alphanumeric, is_single as is_single_of, is_pair as is_pair_of, sign_size as sign_size_of, opens_at, IsPlainByte, StandsAt};
 ghost use Rattle.std.specs.Char.{is_ascii_digit};
@@ -59,22 +59,7 @@ fn digits(bytes: &[u8]) -> usize
 fn is_single(byte: u8) -> bool
     ensures { result ≡ is_single_of byte }
 {
-    matches!(
-        byte,
-        b'(' | b')'
-            | b'{'
-            | b'}'
-            | b'['
-            | b']'
-            | b','
-            | b';'
-            | b':'
-            | b'='
-            | b'\\'
-            | b'&'
-            | b'*'
-            | b'.'
-    )
+    b"(){}[],;:=\\&*.".contains(&byte)
 }
 
 fn is_pair(first: u8, second: u8) -> bool
@@ -102,8 +87,7 @@ fn sign_size(first: u8, rest: &[u8]) -> usize
         return 5;
     }
     match rest {
-        [b'/', b'*', ..] => is_single(first) as usize,
-        [second, ..] if is_pair(first, *second) => 2,
+        [second, behind @ ..] if is_pair(first, *second) && !opens_comment(*second, behind) => 2,
         _ => is_single(first) as usize,
     }
 }
@@ -114,24 +98,6 @@ fn line_comment(bytes: &[u8]) -> usize
     ensures ends { LineEnds bytes.now (drop result bytes.now) }
 {
     unit_end(Mode::Line, bytes).unwrap_or(bytes.len())
-}
-
-/// How many bytes a string has behind its first quote, if it ends.
-fn string_end(bytes: &[u8]) -> Option<usize>
-    ensures { MatchOption result
-        ((r : List ℕ) → ¬ StringEnds bytes.now r)
-        (λ n. (n ≤ length bytes.now) × StringEnds bytes.now (drop n bytes.now)) }
-{
-    unit_end(Mode::Quoted, bytes)
-}
-
-/// How many bytes a block comment has behind its first two, if it ends.
-fn comment_end(bytes: &[u8]) -> Option<usize>
-    ensures { MatchOption result
-        ((r : List ℕ) → ¬ BlocksEnd 1 bytes.now r)
-        (λ n. (n ≤ length bytes.now) × BlocksEnd 1 bytes.now (drop n bytes.now)) }
-{
-    unit_end(Mode::Block(0), bytes)
 }
 
 /// Whether a block comment begins with `first`.
@@ -145,7 +111,7 @@ fn string_at(first: u8, rest: &[u8]) -> Piece
     requires { first ≡ quote }
     ensures { StandsAt (first ∷ rest.now) result }
 {
-    match string_end(rest) {
+    match unit_end(Mode::Quoted, rest) {
         Some(size) => Piece::Token(TokenKind::Text, 1 + size),
         None => Piece::OpenString,
     }
@@ -155,7 +121,7 @@ fn comment_at(first: u8, rest: &[u8]) -> Piece
     requires { opens_at first rest.now ≡ true }
     ensures { StandsAt (first ∷ rest.now) result }
 {
-    match comment_end(&rest[1..]) {
+    match unit_end(Mode::Block(0), &rest[1..]) {
         Some(size) => Piece::Gap(2 + size),
         None => Piece::OpenComment,
     }
@@ -219,9 +185,9 @@ pub fn tokens(alloc: Global, bytes: &[u8]) -> Result<Vec<Token>, LexFault>
                     start: place,
                     end: place + size,
                 };
-                tokens
-                    .push(Token { kind, span })
-                    .map_err(|_| LexFault::Memory(AllocError))?;
+                if tokens.push(Token { kind, span }).is_err() {
+                    return Err(LexFault::Memory(AllocError));
+                }
                 place += size;
             }
             Piece::BadByte => return Err(LexFault::BadByte(place)),

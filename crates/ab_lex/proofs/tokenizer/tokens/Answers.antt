@@ -20,7 +20,7 @@ loop-place-preserved c =
     let here : place < length bytes = c.loop-place-test.true in
     let h = subst (λ q. StandsAt q (Token c.in-Token.kind c.in-Token.size)) (from_here bytes place here) c.in-Token.ensures in
     let k = reading_token bytes place c.loop-place.tokens.items c.loop-place.invariant c.in-Token.kind c.in-Token.size h in
-    rw (c.push.ensures.items, ← c.in_ok-map_err-in-Token.ensures.variant) k
+    rw (c.push.ensures.items, c.is_err.ensures.negation, c.if-is_err.false) k
 
 pub returns-clause-tokens : goal.returns-clause-tokens
 returns-clause-tokens c = reading_all c.args.bytes.now c.loop-place.place c.loop-place.tokens.items c.loop-place.invariant c.loop-place-test.false
