@@ -1,5 +1,5 @@
 -- What a reader says of the whole where a part was refused.
-use Rattle.std.proofs.Common.{List, map, Result, Ok, Err, sym, subst}
+use Rattle.std.proofs.Common.{◌≡◌, List, map, Result, Ok, Err, sym, subst}
 use Rattle.std.proofs.lemmas.List.{map-id}
 use Rattle.ab_grammar.specs.Token.{Token}
 use Rattle.ab_grammar.specs.Nesting.{Spot}
@@ -47,12 +47,22 @@ fewer_found G F E less value ks rest (Err s) p = refused_fewer G F E less ks res
 pub as_they_are : {A : Type 0} (G : List Spot → List A → Type 0) (F : List Token → Type 0) (ks ms : List Token) (xs : List A) → ReadsOff G F ks (map (λ x. x) xs) ms → ReadsOff G F ks xs ms
 as_they_are G F ks ms xs p = subst (λ (v : List _). ReadsOff G F ks v ms) (map-id xs) p
 
+-- what is said of a part in other words
+pub found_said : {A X : Type 0} (G : List Spot → A → Type 0) (F : List Token → Type 0) (value other : X → A) → ((x : X) → value x ≡ other x) → (ks rest : List Token) (r : Result X Stop) → Found G F value ks rest r → Found G F other ks rest r
+found_said G F value other same ks rest (Ok x) p = subst (λ a. ReadsOff G F ks a rest) (same x) p
+found_said G F value other same ks rest (Err s) p = p
+
+-- what is made of a part, and of the key behind it
+pub closed_made : {A C X : Type 0} (f : A → C) (k : Token) {G : List Spot → A → Type 0} {E : List Token → Type 0} {R : List Spot → C → Type 0} {F : List Token → Type 0} → TwoParts G E (Key k) R F (λ a u. f a)
+    → (value : X → A) (ks ms ns : List Token) (part r : Result X Stop) → Found G E value ks ms part → IsClosedBy k ms ns part r → Found R F (λ x. f (value x)) ks ns r
+closed_made {X = X} f k {R = R} {F = F} p value ks ms ns (Err s) r q (e, same) =
+    let refused = refused_first p ks s ms q in
+    subst (λ (o : Result X Stop). Found R F (λ x. f (value x)) ks ns o) (sym e) (subst (λ (w : List Token). Refused R F s ks w) (sym same) refused)
+closed_made {X = X} f k {R = R} {F = F} p value ks ms ns (Ok x) (Ok y) q (e, read) =
+    subst (λ (z : X). ReadsOff R F ks (f (value z)) ns) (sym e) ((p.first_read ks ms (value x) q).reads tt ns (fewer_reads (Key k) Anything F (λ r f. tt) ms ns tt read))
+closed_made f k {F = F} p value ks ms ns (Ok x) (Err s) q refused = refused_on (p.first_read ks ms (value x) q) s ns (refused_fewer (Key k) Anything F (λ r f. tt) ms ns s refused)
+
 -- a part, and the key behind it
 pub closed_found : {A X : Type 0} (k : Token) {G : List Spot → A → Type 0} {E : List Token → Type 0} {R : List Spot → A → Type 0} {F : List Token → Type 0} → TwoParts G E (Key k) R F (λ a u. a)
     → (value : X → A) (ks ms ns : List Token) (part r : Result X Stop) → Found G E value ks ms part → IsClosedBy k ms ns part r → Found R F value ks ns r
-closed_found {X = X} k {R = R} {F = F} p value ks ms ns (Err s) r f (e, same) =
-    let refused = refused_first p ks s ms f in
-    subst (λ (q : Result X Stop). Found R F value ks ns q) (sym e) (subst (λ (w : List Token). Refused R F s ks w) (sym same) refused)
-closed_found {X = X} k {R = R} {F = F} p value ks ms ns (Ok x) (Ok y) f (e, read) =
-    subst (λ (z : X). ReadsOff R F ks (value z) ns) (sym e) ((p.first_read ks ms (value x) f).reads tt ns (fewer_reads (Key k) Anything F (λ r f. tt) ms ns tt read))
-closed_found k {F = F} p value ks ms ns (Ok x) (Err s) f refused = refused_on (p.first_read ks ms (value x) f) s ns (refused_fewer (Key k) Anything F (λ r f. tt) ms ns s refused)
+closed_found k p value = closed_made (λ a. a) k p value

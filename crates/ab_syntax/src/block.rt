@@ -17,7 +17,7 @@ use crate::leaf::{NameForm, take};
 use crate::list::{Item, items};
 use crate::step::read_expression;
 use crate::stop::Stop;
-use crate::text::{Text, expect, is_next, takes};
+use crate::text::{Text, closed, is_next, takes};
 use crate::tree::Parse;
 use crate::types::read_type;
 
@@ -26,8 +26,8 @@ impl Item for Defined {
 
     /// Reads `w : type`.
     fn item(text: &Text<'_>, here: &mut usize) -> Result<Defined, Stop> {
-        let name = take(text, here, NameForm::Declared)?;
-        expect(text, here, Kind::Colon)?;
+        let name = take(text, here, NameForm::Declared);
+        let name = closed(text, here, Kind::Colon, name)?;
         let ty = read_type(text, here)?;
         Ok(Defined { name, ty })
     }
@@ -69,8 +69,8 @@ fn optional_clauses(text: &Text<'_>, here: &mut usize) -> Result<Items<ClausePar
 pub(crate) fn block(text: &Text<'_>, here: &mut usize, inductive: bool) -> Result<Command, Stop>
     ensures { Found (Row (block_head inductive)) BeforeStop command_of (rest text.now here.old) (rest text.now here.new) result }
 {
-    let predicates = items::<Defined>(text, here, Kind::Comma)?;
-    expect(text, here, Kind::By)?;
+    let predicates = items::<Defined>(text, here, Kind::Comma);
+    let predicates = closed(text, here, Kind::By, predicates)?;
     let clauses = optional_clauses(text, here)?;
     Ok(Command::Define(inductive, predicates, clauses))
 }

@@ -17,7 +17,7 @@ use crate::leaf::{ArgumentForm, NameForm, NumberForm, take, take_if};
 use crate::list::{Item, items, take_some};
 use crate::step::read_expression;
 use crate::stop::Stop;
-use crate::text::{Text, expect, next, takes};
+use crate::text::{Text, closed, expect, next, takes};
 use ab_name::Name;
 
 /// Takes the next token, if it is this word.
@@ -39,9 +39,8 @@ pub(crate) fn name_and(text: &Text<'_>, here: &mut usize, key: Kind) -> Result<N
     requires { IsKey key }
     ensures { Found (AnyName ◂ Key (key_of key)) Anything (λ x. x) (rest text.now here.old) (rest text.now here.new) result }
 {
-    let name = take(text, here, NameForm::Any)?;
-    expect(text, here, key)?;
-    Ok(name)
+    let name = take(text, here, NameForm::Any);
+    closed(text, here, key, name)
 }
 
 /// Reads a name, where one is there.
@@ -75,9 +74,8 @@ pub(crate) fn nominals(text: &Text<'_>, here: &mut usize) -> Result<Items<u32>, 
     ensures { Found Nominals Anything list_of (rest text.now here.old) (rest text.now here.new) result }
 {
     expect(text, here, Kind::LeftParen)?;
-    let numbers = take_some(text, here, NumberForm::Nominal)?;
-    expect(text, here, Kind::RightParen)?;
-    Ok(numbers)
+    let numbers = take_some(text, here, NumberForm::Nominal);
+    closed(text, here, Kind::RightParen, numbers)
 }
 
 impl Item for Instance {

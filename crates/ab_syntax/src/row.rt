@@ -12,7 +12,7 @@ use crate::list::items;
 use crate::part::{keyword, name_and};
 use crate::step::read_expression;
 use crate::stop::Stop;
-use crate::text::{Text, expect, takes};
+use crate::text::{Text, closed, takes};
 use crate::types::read_type;
 use ab_grammar::Head;
 use ab_name::Name;
@@ -34,9 +34,8 @@ pub(crate) fn row(text: &Text<'_>, here: &mut usize, head: Head) -> Result<Comma
 {
     match head {
         Head::Kind => {
-            let names = items::<Name>(text, here, Kind::Comma)?;
-            expect(text, here, Kind::Type)?;
-            Ok(Command::Kind(names))
+            let names = items::<Name>(text, here, Kind::Comma);
+            Ok(Command::Kind(closed(text, here, Kind::Type, names)?))
         }
         Head::Typed => {
             let names = items::<Name>(text, here, Kind::Comma)?;

@@ -1,6 +1,6 @@
 use Rattle.std.proofs.lemmas.Result.{err_from_is_err_and}
 use Rattle.std.proofs.Common.{List, Bool, true, false}
-use Rattle.ab_grammar.specs.Token.{Token}
+use Rattle.ab_grammar.specs.Token.{Token, other, by_word}
 use Rattle.ab_grammar.proofs.Following.{BeforeStop}
 use Rattle.ab_grammar.specs.CommandTable.{Definition, Row}
 use Rattle.ab_grammar.specs.CommandTrees as tree
@@ -9,7 +9,7 @@ use Rattle.ab_grammar.proofs.Continuing.{Continues}
 use Rattle.ab_grammar.proofs.Rows.{definienda_by, definition}
 use Rattle.ab_syntax.specs.Commands.{block_head}
 use Rattle.ab_syntax.specs.Reader.{rest}
-use Rattle.ab_syntax.proofs.Passing.{refused_on, refused_first}
+use Rattle.ab_syntax.proofs.Passing.{refused_on, refused_first, closed_found}
 use Rattle.ab_syntax.proofs.block.block.Goals as goal
 
 block : (b : Bool) (ks : List Token) → Continues Definition (Row (block_head b)) BeforeStop (λ d. tree.define b d.0 d.1) ks ks
@@ -19,17 +19,16 @@ block false ks = codefine ks
 pub returns-in_err-predicates : goal.returns-in_err-predicates
 returns-in_err-predicates c =
     let p = err_from_is_err_and c.from_residual.result c.from_residual.ensures.1 in
-    rw (p.1, p.2) (refused_on (block c.args.inductive (rest c.args.text.now c.args.here.now)) _ _ (refused_first definition _ _ _ (refused_first definienda_by _ _ _ c.in_err-predicates.ensures)))
-
-pub returns-in_err-expect : goal.returns-in_err-expect
-returns-in_err-expect c =
-    let p = err_from_is_err_and c.from_residual-in_err-expect.result c.from_residual-in_err-expect.ensures.1 in
-    rw (p.1, p.2) (refused_on (block c.args.inductive (rest c.args.text.now c.args.here.now)) _ _ (refused_first definition _ _ _ (refused_on (definienda_by.first_read _ _ _ c.in_ok-predicates.ensures) _ _ c.in_err-expect.ensures)))
+    let named = closed_found (other by_word) definienda_by _ (rest c.args.text.now c.args.here.now) _ _ c.items-predicates.result c.closed.result c.items-predicates.ensures c.closed.ensures in
+    rw (p.1, p.2) (refused_on (block c.args.inductive (rest c.args.text.now c.args.here.now)) _ _ (refused_first definition _ _ _ (rw c.in_err-predicates.was at named)))
 
 pub returns-in_err-clauses : goal.returns-in_err-clauses
 returns-in_err-clauses c =
     let p = err_from_is_err_and c.from_residual-in_err-clauses.result c.from_residual-in_err-clauses.ensures.1 in
-    rw (p.1, p.2) (refused_on (block c.args.inductive (rest c.args.text.now c.args.here.now)) _ _ (refused_on (definition.first_read _ _ _ ((definienda_by.first_read _ _ _ c.in_ok-predicates.ensures).reads _ _ c.in_ok-expect.ensures)) _ _ c.in_err-clauses.ensures))
+    let named = closed_found (other by_word) definienda_by _ (rest c.args.text.now c.args.here.now) _ _ c.items-predicates.result c.closed.result c.items-predicates.ensures c.closed.ensures in
+    rw (p.1, p.2) (refused_on (block c.args.inductive (rest c.args.text.now c.args.here.now)) _ _ (refused_on (definition.first_read _ _ _ (rw c.in_ok-predicates.was at named)) _ _ c.in_err-clauses.ensures))
 
 pub returns : goal.returns
-returns c = (block c.args.inductive (rest c.args.text.now c.args.here.now)).reads _ _ ((definition.first_read _ _ _ ((definienda_by.first_read _ _ _ c.in_ok-predicates.ensures).reads _ _ c.in_ok-expect.ensures)).reads _ _ c.in_ok-clauses.ensures)
+returns c =
+    let named = closed_found (other by_word) definienda_by _ (rest c.args.text.now c.args.here.now) _ _ c.items-predicates.result c.closed.result c.items-predicates.ensures c.closed.ensures in
+    (block c.args.inductive (rest c.args.text.now c.args.here.now)).reads _ _ ((definition.first_read _ _ _ (rw c.in_ok-predicates.was at named)).reads _ _ c.in_ok-clauses.ensures)

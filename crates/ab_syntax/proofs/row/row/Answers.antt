@@ -1,29 +1,34 @@
+use Rattle.std.proofs.Common.{ℕ, List, map}
+use Rattle.std.proofs.lemmas.List.{map-id}
 use Rattle.std.proofs.lemmas.Result.{err_from_is_err_and}
 use Rattle.ab_grammar.specs.CommandForms.{One}
-use Rattle.ab_grammar.specs.Token.{comma, type_word}
+use Rattle.ab_grammar.specs.Token.{comma, other, type_word}
 use Rattle.ab_grammar.proofs.Following.{Anything, Followed, Except, BeforeStop}
 use Rattle.ab_grammar.specs.Language.{Expression, TypeExpression}
-use Rattle.ab_grammar.specs.CommandTable.{DeclaredNames, Name, ShowsText, Sign}
+use Rattle.ab_grammar.specs.CommandTable.{DeclaredNames, Name, ShowsText}
 use Rattle.ab_grammar.proofs.Beginnings.{followed_by_stop}
 use Rattle.ab_grammar.proofs.Choosing.{fewer_reads}
 use Rattle.ab_grammar.proofs.Choices as choices
 use Rattle.ab_grammar.proofs.Rows.{kind, typed, theorem, set}
+use Rattle.ab_grammar.specs.CommandTrees as tree
+use Rattle.ab_syntax.specs.declared.items.Items.{Items}
+use Rattle.ab_syntax.specs.Items.{list_of}
 use Rattle.ab_syntax.specs.Reader.{rest}
-use Rattle.ab_syntax.proofs.Passing.{refused_on, refused_first, refused_fewer, as_they_are}
+use Rattle.ab_syntax.proofs.Passing.{refused_on, refused_first, refused_fewer, found_said, as_they_are, closed_made}
 use Rattle.ab_syntax.proofs.row.row.Goals as goal
 
-pub returns-in_err-names-in-Kind : goal.returns-in_err-names-in-Kind
-returns-in_err-names-in-Kind c =
+pub returns-in_err-closed-in-Kind : goal.returns-in_err-closed-in-Kind
+returns-in_err-closed-in-Kind c =
     let p = err_from_is_err_and c.from_residual.result c.from_residual.ensures.1 in
-    rw (p.1, p.2, c.in-Kind.is) (refused_first kind _ _ _ c.in_err-names-in-Kind.ensures)
+    let declared = found_said DeclaredNames (Except comma) (λ (xs : Items (List ℕ)). map (λ (x : (List ℕ)). x) (list_of xs)) list_of (λ xs. map-id (list_of xs)) _ _ c.items-names.result c.items-names.ensures in
+    let read = closed_made tree.kinds (other type_word) kind list_of (rest c.args.text.now c.args.here.now) _ _ c.items-names.result c.closed.result declared c.closed.ensures in
+    rw (p.1, p.2, c.in-Kind.is) (rw c.in_err-closed-in-Kind.was at read)
 
-pub returns-in_err-expect-in-Kind : goal.returns-in_err-expect-in-Kind
-returns-in_err-expect-in-Kind c =
-    let p = err_from_is_err_and c.from_residual-in_err-expect-in-Kind.result c.from_residual-in_err-expect-in-Kind.ensures.1 in
-    rw (p.1, p.2, c.in-Kind.is) (refused_on (kind.first_read _ _ _ (as_they_are DeclaredNames (Except comma) _ _ _ c.in_ok-names-in-Kind.ensures)) _ _ (refused_fewer (Sign type_word) Anything BeforeStop (λ r f. tt) _ _ _ c.in_err-expect-in-Kind.ensures))
-
-pub returns-in_ok-expect-in-Kind : goal.returns-in_ok-expect-in-Kind
-returns-in_ok-expect-in-Kind c = rw c.in-Kind.is ((kind.first_read _ _ _ (as_they_are DeclaredNames (Except comma) _ _ _ c.in_ok-names-in-Kind.ensures)).reads _ _ (fewer_reads (Sign type_word) Anything BeforeStop (λ r f. tt) _ _ _ c.in_ok-expect-in-Kind.ensures))
+pub returns-in_ok-closed-in-Kind : goal.returns-in_ok-closed-in-Kind
+returns-in_ok-closed-in-Kind c =
+    let declared = found_said DeclaredNames (Except comma) (λ (xs : Items (List ℕ)). map (λ (x : (List ℕ)). x) (list_of xs)) list_of (λ xs. map-id (list_of xs)) _ _ c.items-names.result c.items-names.ensures in
+    let read = closed_made tree.kinds (other type_word) kind list_of (rest c.args.text.now c.args.here.now) _ _ c.items-names.result c.closed.result declared c.closed.ensures in
+    rw c.in-Kind.is (rw c.in_ok-closed-in-Kind.was at read)
 
 pub returns-in_err-names-in-Typed : goal.returns-in_err-names-in-Typed
 returns-in_err-names-in-Typed c =
