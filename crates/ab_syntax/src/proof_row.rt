@@ -16,7 +16,7 @@ use crate::part::{
 };
 use crate::step::read_expression;
 use crate::stop::Stop;
-use crate::text::{Text, expect, is_next, takes};
+use crate::text::{Text, closed, expect, is_next, takes};
 use ab_grammar::ProofHead;
 
 /// Reads `( keep )`, where that is there.
@@ -24,8 +24,8 @@ fn optional_keep(text: &Text<'_>, here: &mut usize) -> Result<bool, Stop>
     ensures { Found (Optional false Keep) BeforeStop (λ keep. keep) (rest text.now here.old) (rest text.now here.new) result }
 {
     if takes(text, here, Kind::LeftParen) {
-        keyword(text, here, b"keep")?;
-        expect(text, here, Kind::RightParen)?;
+        let keep = keyword(text, here, b"keep");
+        closed(text, here, Kind::RightParen, keep)?;
         return Ok(true);
     }
     Ok(false)
@@ -147,8 +147,9 @@ pub(crate) fn proof_row(
         ProofHead::Split => split(text, here),
         ProofHead::Left => Ok(ProofCommand::Left),
         ProofHead::Right => Ok(ProofCommand::Right),
-        ProofHead::Exists => Ok(ProofCommand::Exists(read_expression(text, here)?)),
-        ProofHead::Witness => Ok(ProofCommand::Exists(read_expression(text, here)?)),
+        ProofHead::Exists | ProofHead::Witness => {
+            Ok(ProofCommand::Exists(read_expression(text, here)?))
+        }
         ProofHead::Unfold => Ok(ProofCommand::Unfold),
         ProofHead::Assert => Ok(ProofCommand::Assert(read_expression(text, here)?)),
         ProofHead::Clear => Ok(ProofCommand::Clear(take_some(text, here, NameForm::Any)?)),

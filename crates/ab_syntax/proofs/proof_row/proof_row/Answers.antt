@@ -1,3 +1,4 @@
+use Rattle.std.proofs.Common.{◌≡◌, ◌⊎◌, inl, inr, List}
 use Rattle.std.proofs.lemmas.Result.{err_from_is_err_and}
 use Rattle.ab_grammar.specs.CommandForms.{Many, OneOrMore}
 use Rattle.ab_grammar.specs.Language.{Expression}
@@ -6,6 +7,12 @@ use Rattle.ab_grammar.specs.CommandTable.{Name, ShowsName}
 use Rattle.ab_grammar.proofs.Beginnings.{followed_by_stop}
 use Rattle.ab_grammar.proofs.Choosing.{fewer_reads}
 use Rattle.ab_grammar.proofs.Choices as choices
+use Rattle.ab_grammar.specs.declared.head.ProofHead.{ProofHead}
+use Rattle.ab_grammar.specs.declared.head.ProofHead.TheVariants as head
+use Rattle.ab_grammar.specs.Token.{Token}
+use Rattle.ab_grammar.specs.CommandTable.{ProofRow}
+use Rattle.ab_grammar.specs.CommandTrees as tree
+use Rattle.ab_grammar.proofs.Continuing.{Continues}
 use Rattle.ab_syntax.specs.Reader.{rest}
 use Rattle.ab_syntax.proofs.Followers.{no_name_at_end}
 use Rattle.ab_syntax.proofs.Passing.{refused_on, refused_fewer, as_they_are}
@@ -64,21 +71,18 @@ returns-in_err-optional_depth-in-Search c =
 pub returns-in_ok-optional_depth-in-Search : goal.returns-in_ok-optional_depth-in-Search
 returns-in_ok-optional_depth-in-Search c = rw c.in-Search.is ((choices.search (rest c.args.text.now c.args.here.now)).reads _ _ c.in_ok-optional_depth-in-Search.ensures)
 
+-- both words give a term
+with_term : (h : ProofHead) → (h ≡ head.Exists) ⊎ (h ≡ head.Witness) → (ks : List Token) → Continues Expression (ProofRow h) BeforeStop (λ t. tree.exists t) ks ks
+with_term h (inl e) ks = rw e (choices.exists ks)
+with_term h (inr e) ks = rw e (choices.witness ks)
+
 pub returns-in_err-read_expression-in-Exists : goal.returns-in_err-read_expression-in-Exists
 returns-in_err-read_expression-in-Exists c =
     let p = err_from_is_err_and c.from_residual-in_err-read_expression-in-Exists.result c.from_residual-in_err-read_expression-in-Exists.ensures.1 in
-    rw (p.1, p.2, c.in-Exists.is) (refused_on (choices.exists (rest c.args.text.now c.args.here.now)) _ _ (refused_fewer Expression Followed BeforeStop followed_by_stop _ _ _ c.in_err-read_expression-in-Exists.ensures))
+    rw (p.1, p.2) (refused_on (with_term c.args.head c.in-Exists.is (rest c.args.text.now c.args.here.now)) _ _ (refused_fewer Expression Followed BeforeStop followed_by_stop _ _ _ c.in_err-read_expression-in-Exists.ensures))
 
 pub returns-in_ok-read_expression-in-Exists : goal.returns-in_ok-read_expression-in-Exists
-returns-in_ok-read_expression-in-Exists c = rw c.in-Exists.is ((choices.exists (rest c.args.text.now c.args.here.now)).reads _ _ (fewer_reads Expression Followed BeforeStop followed_by_stop _ _ _ c.in_ok-read_expression-in-Exists.ensures))
-
-pub returns-in_err-read_expression-in-Witness : goal.returns-in_err-read_expression-in-Witness
-returns-in_err-read_expression-in-Witness c =
-    let p = err_from_is_err_and c.from_residual-in_err-read_expression-in-Witness.result c.from_residual-in_err-read_expression-in-Witness.ensures.1 in
-    rw (p.1, p.2, c.in-Witness.is) (refused_on (choices.witness (rest c.args.text.now c.args.here.now)) _ _ (refused_fewer Expression Followed BeforeStop followed_by_stop _ _ _ c.in_err-read_expression-in-Witness.ensures))
-
-pub returns-in_ok-read_expression-in-Witness : goal.returns-in_ok-read_expression-in-Witness
-returns-in_ok-read_expression-in-Witness c = rw c.in-Witness.is ((choices.witness (rest c.args.text.now c.args.here.now)).reads _ _ (fewer_reads Expression Followed BeforeStop followed_by_stop _ _ _ c.in_ok-read_expression-in-Witness.ensures))
+returns-in_ok-read_expression-in-Exists c = (with_term c.args.head c.in-Exists.is (rest c.args.text.now c.args.here.now)).reads _ _ (fewer_reads Expression Followed BeforeStop followed_by_stop _ _ _ c.in_ok-read_expression-in-Exists.ensures)
 
 pub returns-in_err-read_expression-in-Assert : goal.returns-in_err-read_expression-in-Assert
 returns-in_err-read_expression-in-Assert c =
