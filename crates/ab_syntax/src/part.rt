@@ -3,7 +3,7 @@ ghost use Rattle.std.specs.Prelude.{[], map};
 ghost use Rattle.ab_grammar.specs.Language.{Key};
 ghost use Rattle.ab_grammar.proofs.Following.{Anything, BeforeStop, ArgumentsEnd};
 ghost use Rattle.ab_grammar.specs.CommandForms.{◌◂◌, Optional};
-ghost use Rattle.ab_grammar.specs.CommandTable.{Name as AnyName, Word as WordForm, OptionalName, Arguments, Nominals, Instances};
+ghost use Rattle.ab_grammar.specs.CommandTable.{Name as AnyName, Word as WordForm, Arguments, Nominals, Instances};
 ghost use Rattle.ab_syntax.specs.Commands.{argument_of, instance_of};
 ghost use Rattle.ab_syntax.specs.Items.{list_of};
 ghost use Rattle.ab_syntax.specs.Kinds.{key_of, IsKey};
@@ -13,7 +13,7 @@ ghost use Rattle.ab_syntax.specs.Reader.{rest, Found};
 use crate::command::{Argument, Instance};
 use crate::items::Items;
 use crate::kind::Kind;
-use crate::leaf::{ArgumentForm, NameForm, NumberForm, take, take_if};
+use crate::leaf::{ArgumentForm, NameForm, NumberForm, take};
 use crate::list::{Item, items, take_some};
 use crate::step::read_expression;
 use crate::stop::Stop;
@@ -41,13 +41,6 @@ pub(crate) fn name_and(text: &Text<'_>, here: &mut usize, key: Kind) -> Result<N
 {
     let name = take(text, here, NameForm::Any);
     closed(text, here, key, name)
-}
-
-/// Reads a name, where one is there.
-pub(crate) fn optional_name(text: &Text<'_>, here: &mut usize) -> Result<Option<Name>, Stop>
-    ensures { Found OptionalName BeforeStop (λ x. x) (rest text.now here.old) (rest text.now here.new) result }
-{
-    Ok(take_if(text, here, NameForm::Any)?)
 }
 
 impl Item for Name {

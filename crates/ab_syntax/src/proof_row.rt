@@ -9,11 +9,9 @@ ghost use Rattle.ab_syntax.specs.Reader.{rest, Found};
 
 use crate::command::{Instance, ProofCommand};
 use crate::kind::Kind;
-use crate::leaf::{NameForm, NumberForm, take};
+use crate::leaf::{NameForm, NumberForm, take, take_if};
 use crate::list::{items, take_all, take_some};
-use crate::part::{
-    keyword, name_and, nominals, optional_arguments, optional_instances, optional_name,
-};
+use crate::part::{keyword, name_and, nominals, optional_arguments, optional_instances};
 use crate::step::read_expression;
 use crate::stop::Stop;
 use crate::text::{Text, closed, expect, is_next, takes};
@@ -122,7 +120,7 @@ fn permute(text: &Text<'_>, here: &mut usize) -> Result<ProofCommand, Stop>
     ensures { Found (ProofRow head.Permute) BeforeStop proof_command_of (rest text.now here.old) (rest text.now here.new) result }
 {
     let numbers = nominals(text, here)?;
-    Ok(ProofCommand::Permute(numbers, optional_name(text, here)?))
+    Ok(ProofCommand::Permute(numbers, take_if(text, here, NameForm::Any)?))
 }
 
 /// Reads what stands behind the first token of a proof command.
