@@ -6,13 +6,13 @@ use Rattle.std.proofs.Math.Seq.{take-append_seam, drop-append_seam}
 use Rattle.std.proofs.lemmas.List.{length-map, map-append}
 use Rattle.std.proofs.lemmas.List.Elements.{All-nil, All-cons, All-head, All-tail, All-contains, All-weaker, All-append, All-take}
 use Rattle.ab_term.specs.Terms as tree
-use Rattle.ab_term.specs.Terms.{Nominal, Terms}
+use Rattle.ab_term.specs.Terms.{Nominal, Terms, Read}
 use Rattle.ab_term.specs.Typing.{Signature, HasType}
 use Rattle.ab_term.specs.Variables.{Substitution, IsTyped, image, image_all}
 use Rattle.ab_term.specs.Sameness.{same_number}
 use Rattle.ab_instances.specs.ab_types.specs.Entries.{Table}
 use Rattle.ab_instances.specs.ab_store.specs.declared.node.CellId.{CellId}
-use Rattle.ab_instances.specs.ab_store.specs.Trees.{Read, Contents, HoldsCell}
+use Rattle.ab_instances.specs.ab_store.specs.Trees.{Contents, HoldsCell}
 use Rattle.ab_instances.specs.ab_norm.specs.declared.nominal.Nominal.{Nominal as KeptNominal}
 use Rattle.ab_instances.specs.ab_solve.specs.Replacing.{Cell, holds}
 use Rattle.ab_instances.specs.ab_solve.specs.Solving.{Equation}
@@ -28,33 +28,33 @@ use Rattle.ab_instances.specs.ab_unifying.specs.Changed.{Grows}
 use Rattle.ab_instances.specs.ab_store.specs.Reading.{cell_variable}
 use Rattle.ab_instances.specs.Readings.{cells_at}
 use Rattle.ab_instances.proofs.Fitting.{variables_stay}
-use Rattle.ab_analysis.specs.ab_logic.specs.Formulas.{IsFormula}
-use Rattle.ab_analysis.specs.ab_logic.specs.Declarations.{IsDefining, signature_in}
-use Rattle.ab_analysis.specs.ab_logic.specs.Sequents.{Variable, Hypothesis, Sequent, formulas, formulas_of, in_terms, assuming}
-use Rattle.ab_analysis.specs.ab_logic.specs.Worlds.{IsWorld, Holds, variable_of, declarations_of, read}
-use Rattle.ab_analysis.specs.ab_logic.specs.Readings.{sequent_of, hypothesis_of, HoldsSequent}
-use Rattle.ab_analysis.specs.ab_logic.specs.declared.world.World.{World}
-use Rattle.ab_analysis.specs.ab_logic.specs.declared.sequent.Sequent.{Sequent as Kept}
-use Rattle.ab_analysis.specs.ab_logic.specs.declared.sequent.Hypothesis.{Hypothesis as KeptHypothesis}
-use Rattle.ab_analysis.specs.ab_logic.proofs.Images.{image_formula}
-use Rattle.ab_analysis.specs.ab_marks.specs.Marking.{mark_below, marked_in}
-use Rattle.ab_alternatives.proofs.MarkedFormulas.{marked_formula, marked_variables}
-use Rattle.ab_analysis.specs.ab_equate.specs.Solved.{changed}
-use Rattle.ab_analysis.specs.ab_equate.specs.Cases.{Case}
-use Rattle.ab_analysis.specs.ab_equate.specs.Meanwhile.{AreFrom, IsMeanwhile, count_before}
-use Rattle.ab_analysis.specs.ab_equate.proofs.Going.{world_meanwhile}
-use Rattle.ab_analysis.specs.ab_equate.proofs.Restored.{goal_same, goal_held, declarations_same}
-use Rattle.ab_analysis.specs.Atoms.{Defined, Choice}
-use Rattle.ab_analysis.specs.Left.{raised_variables, case_of}
-use Rattle.ab_alternatives.specs.Raising.{raised_cells, raised_to, raised_terms}
+use Rattle.ab_formulas.specs.Formulas.{IsFormula}
+use Rattle.ab_formulas.specs.Declarations.{IsDefining, signature_in}
+use Rattle.ab_formulas.specs.Sequents.{Variable, Hypothesis, Sequent, formulas, formulas_of, in_terms, assuming}
+use Rattle.ab_marks.specs.ab_logic.specs.Worlds.{IsWorld, Holds, variable_of, declarations_of, read}
+use Rattle.ab_marks.specs.ab_logic.specs.Readings.{sequent_of, hypothesis_of, HoldsSequent}
+use Rattle.ab_marks.specs.ab_logic.specs.declared.world.World.{World}
+use Rattle.ab_marks.specs.ab_logic.specs.declared.sequent.Sequent.{Sequent as Kept}
+use Rattle.ab_marks.specs.ab_logic.specs.declared.sequent.Hypothesis.{Hypothesis as KeptHypothesis}
+use Rattle.ab_formulas.proofs.Images.{image_formula}
+use Rattle.ab_formulas.specs.Marking.{mark_below, marked_in}
+use Rattle.ab_formulas.proofs.MarkedFormulas.{marked_formula, marked_variables}
+use Rattle.ab_theory.specs.Equations.{changed}
+use Rattle.ab_theory.specs.Splits.{Case}
+use Rattle.ab_equate.specs.Meanwhile.{AreFrom, IsMeanwhile, count_before}
+use Rattle.ab_equate.proofs.Going.{world_meanwhile}
+use Rattle.ab_equate.proofs.Restored.{goal_same, goal_held, declarations_same}
+use Rattle.ab_theory.specs.Atoms.{Defined, Choice}
+use Rattle.ab_theory.specs.Analysis.{raised_variables, case_of}
+use Rattle.ab_theory.specs.Raising.{raised_cells, raised_to, raised_terms}
 use Rattle.ab_alternatives.specs.Made.{fresh_in, unchosen_in, base_in, own_in, filled_in, images_from, raising, goal_for, case_put, IsMade}
 use Rattle.ab_alternatives.specs.Readings.{defined_read, choice_read}
 use Rattle.ab_alternatives.specs.declared.alternatives.Alternative.{Alternative}
 use Rattle.ab_alternatives.specs.declared.atoms.DefinedAtom.{DefinedAtom}
-use Rattle.ab_alternatives.proofs.Parts.{case_is}
+use Rattle.ab_theory.proofs.AlternativesParts.{case_is}
 use Rattle.ab_alternatives.proofs.Put.{in_terms_are, olds_are, below, renamed, put_same, both, images_are, equal_images, two_maps, raised_below}
 use Rattle.ab_alternatives.proofs.Raised.{AreAt, are_at}
-use Rattle.ab_alternatives.proofs.Untouched as untouched
+use Rattle.ab_formulas.proofs.Untouched as untouched
 
 abbrev x : List ℕ
 x = codes "x"

@@ -13,12 +13,12 @@ use Rattle.ab_instances.specs.ab_cases.proofs.Choosing.{contains_kept}
 use Rattle.ab_instances.specs.ab_norm.specs.declared.nominal.Nominal.{Nominal as KeptNominal}
 use Rattle.ab_instances.specs.ab_cases.specs.Clauses.{Clause}
 use Rattle.ab_instances.specs.Readings.{names_read}
-use Rattle.ab_analysis.specs.ab_logic.specs.Sequents.{Sequent, goal_names}
-use Rattle.ab_analysis.specs.ab_equate.specs.Cases.{CaseOver}
-use Rattle.ab_analysis.specs.Atoms.{Defined}
-use Rattle.ab_analysis.specs.Left.{case_of}
-use Rattle.ab_alternatives.specs.Members.{SameMembers}
-use Rattle.ab_alternatives.proofs.Agreeing.{choices_same}
+use Rattle.ab_formulas.specs.Sequents.{Sequent, goal_names}
+use Rattle.ab_theory.specs.Splits.{CaseOver}
+use Rattle.ab_theory.specs.Atoms.{Defined}
+use Rattle.ab_theory.specs.Analysis.{case_of}
+use Rattle.ab_formulas.specs.Members.{SameMembers}
+use Rattle.ab_formulas.proofs.AlternativesAgreeing.{choices_same}
 use Rattle.ab_alternatives.specs.Going.{clause_cases}
 use Rattle.ab_alternatives.proofs.Listed.{map_twice}
 

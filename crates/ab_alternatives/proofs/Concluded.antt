@@ -18,11 +18,11 @@ use Rattle.ab_instances.specs.ab_solve.specs.Replacing.{Cell}
 use Rattle.ab_instances.specs.ab_solve.specs.Solving.{unified, Solves}
 use Rattle.ab_instances.specs.ab_unifying.specs.Problem.{cells_read, problem}
 use Rattle.ab_instances.specs.ab_unifying.specs.Changed.{Grows}
-use Rattle.ab_analysis.specs.ab_solver.specs.Answers.{AreNewCells, AreInAge, AreLeft}
+use Rattle.ab_equate.specs.ab_solver.specs.Answers.{AreNewCells, AreInAge, AreLeft}
 use Rattle.ab_instances.specs.Readings.{names_read}
 use Rattle.ab_instances.proofs.Made.{names_stay}
-use Rattle.ab_analysis.specs.ab_equate.specs.Solved.{made}
-use Rattle.ab_analysis.specs.ab_equate.specs.Meanwhile.{AreFrom, unbound_of}
+use Rattle.ab_theory.specs.Equations.{made}
+use Rattle.ab_equate.specs.Meanwhile.{AreFrom, unbound_of}
 use Rattle.ab_alternatives.specs.Unfolding.{variable_at, closed_by, Becomes}
 use Rattle.ab_alternatives.specs.declared.unfolding.Unfolding.{Unfolding}
 use Rattle.ab_alternatives.proofs.LeftOpen.{left_open}

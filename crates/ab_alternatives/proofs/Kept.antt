@@ -7,11 +7,11 @@ use Rattle.ab_instances.specs.ab_types.specs.Entries.{Table}
 use Rattle.ab_instances.specs.ab_types.specs.declared.ids.ConstId.{ConstId}
 use Rattle.ab_instances.specs.ab_store.specs.Trees.{Contents}
 use Rattle.ab_instances.specs.ab_clauses.specs.declared.kept.Block.{Block}
-use Rattle.ab_analysis.specs.ab_logic.specs.Additions.{is_among, block_or, block_kept}
-use Rattle.ab_analysis.specs.ab_logic.specs.Worlds.{IsKept, IsKeptBlock}
-use Rattle.ab_analysis.specs.ab_logic.specs.declared.additions.Added.{Added}
-use Rattle.ab_analysis.specs.ab_logic.specs.declared.additions.Addition.{Addition}
-use Rattle.ab_analysis.specs.ab_logic.specs.declared.additions.Addition.TheVariants.{Theorem, Definition}
+use Rattle.ab_marks.specs.ab_logic.specs.Additions.{is_among, block_or, block_kept}
+use Rattle.ab_marks.specs.ab_logic.specs.Worlds.{IsKept, IsKeptBlock}
+use Rattle.ab_marks.specs.ab_logic.specs.declared.additions.Added.{Added}
+use Rattle.ab_marks.specs.ab_logic.specs.declared.additions.Addition.{Addition}
+use Rattle.ab_marks.specs.ab_logic.specs.declared.additions.Addition.TheVariants.{Theorem, Definition}
 
 module _ (types : Table) (store : Contents) (p : ConstId) where
   pub kept_block : (xs : List Added) (b : Block) → All (λ (a : Added). IsKept types store a.what) xs → block_kept xs p ≡ Some b → IsKeptBlock types store b

@@ -15,27 +15,27 @@ use Rattle.ab_instances.specs.ab_norm.specs.Taking.{AreTaken}
 use Rattle.ab_instances.specs.ab_norm.specs.declared.nominal.Nominal.{Nominal}
 use Rattle.ab_instances.specs.ab_cases.specs.Clauses.{Clause}
 use Rattle.ab_instances.specs.ab_cases.specs.Choices.{in_order}
-use Rattle.ab_instances.specs.ab_clauses.specs.Cases as kept
+use Rattle.ab_formulas.specs.Cased as kept
 use Rattle.ab_instances.specs.ab_clauses.specs.Readings.{clause_of, name_of}
 use Rattle.ab_instances.specs.ab_clauses.specs.declared.kept.Block.{Block}
 use Rattle.ab_instances.specs.ab_clauses.specs.declared.kept.ClauseTerm.{ClauseTerm}
 use Rattle.ab_instances.specs.Readings.{names_read}
 use Rattle.ab_instances.proofs.Made.{names_stay, names_held}
-use Rattle.ab_analysis.specs.ab_logic.specs.Declarations as declared
-use Rattle.ab_analysis.specs.ab_logic.specs.Declarations.{Declarations, signature_in, IsDefining}
-use Rattle.ab_analysis.specs.ab_logic.specs.Formulas.{IsFormula}
-use Rattle.ab_analysis.specs.ab_logic.specs.Sequents.{Sequent, IsSequent, formulas_of, goal_names}
-use Rattle.ab_analysis.specs.ab_logic.specs.Worlds.{IsWorld, Holds, read, declarations_of, definition_of, IsKeptClause, IsKeptBlock}
-use Rattle.ab_analysis.specs.ab_logic.specs.Readings.{sequent_of}
-use Rattle.ab_analysis.specs.ab_logic.specs.declared.world.World.{World}
-use Rattle.ab_analysis.specs.ab_logic.specs.declared.additions.Addition.TheVariants.{Definition}
-use Rattle.ab_analysis.specs.ab_logic.specs.declared.sequent.Sequent.{Sequent as Kept}
-use Rattle.ab_analysis.specs.ab_logic.proofs.Growing.{map_same, same_sequent, still_held, same_constants}
-use Rattle.ab_analysis.specs.ab_logic.proofs.Blocks.{same_clause, same_definition, still_kept, block_defines}
-use Rattle.ab_analysis.specs.ab_equate.specs.Cases.{CaseOver}
-use Rattle.ab_analysis.specs.Atoms.{Defined}
-use Rattle.ab_analysis.specs.Left.{case_of}
-use Rattle.ab_alternatives.specs.Members.{SameMembers}
+use Rattle.ab_formulas.specs.Declarations as declared
+use Rattle.ab_formulas.specs.Declarations.{Declarations, signature_in, IsDefining}
+use Rattle.ab_formulas.specs.Formulas.{IsFormula}
+use Rattle.ab_formulas.specs.Sequents.{Sequent, IsSequent, formulas_of, goal_names}
+use Rattle.ab_marks.specs.ab_logic.specs.Worlds.{IsWorld, Holds, read, declarations_of, definition_of, IsKeptClause, IsKeptBlock}
+use Rattle.ab_marks.specs.ab_logic.specs.Readings.{sequent_of}
+use Rattle.ab_marks.specs.ab_logic.specs.declared.world.World.{World}
+use Rattle.ab_marks.specs.ab_logic.specs.declared.additions.Addition.TheVariants.{Definition}
+use Rattle.ab_marks.specs.ab_logic.specs.declared.sequent.Sequent.{Sequent as Kept}
+use Rattle.ab_marks.specs.ab_logic.proofs.Growing.{map_same, same_sequent, still_held, same_constants}
+use Rattle.ab_marks.specs.ab_logic.proofs.Blocks.{same_clause, same_definition, still_kept, block_defines}
+use Rattle.ab_theory.specs.Splits.{CaseOver}
+use Rattle.ab_theory.specs.Atoms.{Defined}
+use Rattle.ab_theory.specs.Analysis.{case_of}
+use Rattle.ab_formulas.specs.Members.{SameMembers}
 use Rattle.ab_alternatives.specs.Readings.{defined_read, HoldsDefined, choice_read}
 use Rattle.ab_alternatives.specs.declared.atoms.DefinedAtom.{DefinedAtom}
 use Rattle.ab_alternatives.specs.Going.{IsLater, IsReady}

@@ -17,10 +17,10 @@ use Rattle.ab_instances.specs.ab_solve.specs.Meaning.{keys}
 use Rattle.ab_instances.specs.ab_solve.proofs.Falling.{map_length}
 use Rattle.ab_instances.specs.ab_unifying.specs.Problem.{cell_read, cells_read}
 use Rattle.ab_instances.specs.ab_unifying.specs.Changed.{Grows}
-use Rattle.ab_analysis.specs.ab_solver.specs.Answers.{AreNewCells, AreInAge, AreLeft}
-use Rattle.ab_analysis.specs.ab_equate.specs.Solved.{stays, variables_from, made}
-use Rattle.ab_analysis.specs.ab_equate.specs.Meanwhile.{AreFrom, unbound_of}
-use Rattle.ab_analysis.specs.ab_equate.proofs.Answering.{from_count, behind_which, behind_age}
+use Rattle.ab_equate.specs.ab_solver.specs.Answers.{AreNewCells, AreInAge, AreLeft}
+use Rattle.ab_theory.specs.Equations.{stays, variables_from, made}
+use Rattle.ab_equate.specs.Meanwhile.{AreFrom, unbound_of}
+use Rattle.ab_equate.proofs.Answering.{from_count, behind_which, behind_age}
 use Rattle.ab_alternatives.specs.Unfolding.{variable_at}
 
 dropped : (types : Table) (cells : List CellEntry) (n : ℕ) (d : CellEntry) → n < length cells → drop n (map (cell_read types) cells) ≡ cell_read types (get_or cells n d) ∷ drop (suc n) (map (cell_read types) cells)

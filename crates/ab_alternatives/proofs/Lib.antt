@@ -1,7 +1,3 @@
-pub mod Agreeing
-pub mod Headed
-pub mod Parts
-pub mod Untouched
 pub mod Walks
 pub mod Kept
 pub mod Raised
@@ -16,9 +12,7 @@ pub mod Undone
 pub mod Put
 pub mod CasePut
 pub mod Tried
-pub mod MarkedFormulas
 pub mod Counted
-pub mod Taken
 pub mod GoalNames
 pub mod Placed
 pub mod Unfoldable
@@ -29,6 +23,3 @@ mod Chosen
 mod Passed
 pub mod Later
 mod NextChoice
-mod PlainChoice
-pub mod ByChoice
-pub mod Walked

@@ -6,9 +6,9 @@ use Rattle.ab_term.specs.Terms.{Nominal}
 use Rattle.ab_term.specs.Names.{support_of_all}
 use Rattle.ab_instances.specs.ab_cases.specs.Clauses.{Clause}
 use Rattle.ab_instances.specs.ab_cases.specs.Choices.{in_order, choices, for_each}
-use Rattle.ab_analysis.specs.ab_logic.specs.Sequents.{Sequent, goal_names}
-use Rattle.ab_analysis.specs.Atoms.{Defined, Choice}
-use Rattle.ab_analysis.specs.Left.{case_of, cases_of}
+use Rattle.ab_formulas.specs.Sequents.{Sequent, goal_names}
+use Rattle.ab_theory.specs.Atoms.{Defined, Choice}
+use Rattle.ab_theory.specs.Analysis.{case_of, cases_of}
 use Rattle.ab_alternatives.specs.Going.{clause_cases}
 
 -- what is gathered of elements that pass a test, changed, is gathered of all

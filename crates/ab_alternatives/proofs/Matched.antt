@@ -8,8 +8,8 @@ use Rattle.ab_instances.specs.ab_solve.specs.Replacing.{Cell}
 use Rattle.ab_instances.specs.ab_solve.specs.Solving.{State, unified, Solves}
 use Rattle.ab_instances.specs.ab_unifying.specs.Problem.{cells_read}
 use Rattle.ab_instances.specs.ab_unifying.specs.Changed.{Grows}
-use Rattle.ab_analysis.specs.ab_solver.specs.Answers.{AreNewCells, AreInAge, AreLeft}
-use Rattle.ab_analysis.specs.ab_equate.specs.Meanwhile.{AreFrom, unbound_of}
+use Rattle.ab_equate.specs.ab_solver.specs.Answers.{AreNewCells, AreInAge, AreLeft}
+use Rattle.ab_equate.specs.Meanwhile.{AreFrom, unbound_of}
 use Rattle.ab_alternatives.specs.Unfolding.{variable_at}
 use Rattle.ab_alternatives.specs.Matching.{IsMatch, TellsOpen, cells_before}
 use Rattle.ab_alternatives.specs.declared.matching.Match.{Match}

@@ -8,19 +8,19 @@ use Rattle.ab_instances.specs.ab_norm.specs.Nominals.{HoldsNominal}
 use Rattle.ab_instances.specs.ab_norm.specs.declared.nominal.Nominal.{Nominal}
 use Rattle.ab_instances.specs.ab_cases.specs.Clauses.{Clause}
 use Rattle.ab_instances.specs.ab_cases.specs.Choices.{for_each}
-use Rattle.ab_instances.specs.ab_clauses.specs.Cases as kept
+use Rattle.ab_formulas.specs.Cased as kept
 use Rattle.ab_instances.specs.ab_clauses.specs.Readings.{clause_of, name_of}
 use Rattle.ab_instances.specs.ab_clauses.specs.declared.kept.ClauseTerm.{ClauseTerm}
 use Rattle.ab_instances.specs.Readings.{names_read}
 use Rattle.ab_instances.proofs.Made.{names_stay, names_held}
-use Rattle.ab_analysis.specs.ab_logic.specs.Sequents.{Variable}
-use Rattle.ab_analysis.specs.ab_logic.specs.Worlds.{IsKeptClause, variable_of}
-use Rattle.ab_analysis.specs.ab_logic.specs.Readings.{sequent_of}
-use Rattle.ab_analysis.specs.ab_logic.specs.declared.world.World.{World}
-use Rattle.ab_analysis.specs.ab_logic.specs.declared.sequent.Sequent.{Sequent as Kept}
-use Rattle.ab_analysis.specs.ab_equate.specs.Cases.{CaseOver}
-use Rattle.ab_analysis.specs.Atoms.{Defined}
-use Rattle.ab_analysis.specs.Left.{case_of, cases_of}
+use Rattle.ab_formulas.specs.Sequents.{Variable}
+use Rattle.ab_marks.specs.ab_logic.specs.Worlds.{IsKeptClause, variable_of}
+use Rattle.ab_marks.specs.ab_logic.specs.Readings.{sequent_of}
+use Rattle.ab_marks.specs.ab_logic.specs.declared.world.World.{World}
+use Rattle.ab_marks.specs.ab_logic.specs.declared.sequent.Sequent.{Sequent as Kept}
+use Rattle.ab_theory.specs.Splits.{CaseOver}
+use Rattle.ab_theory.specs.Atoms.{Defined}
+use Rattle.ab_theory.specs.Analysis.{case_of, cases_of}
 use Rattle.ab_alternatives.specs.Readings.{defined_read, choice_read}
 use Rattle.ab_alternatives.specs.declared.atoms.DefinedAtom.{DefinedAtom}
 use Rattle.ab_alternatives.specs.Going.{clause_cases, IsLater, IsReady, ArePassed, AreStopped}

@@ -21,13 +21,13 @@ use Rattle.ab_instances.specs.ab_norm.specs.declared.nominal.Nominal.{Nominal}
 use Rattle.ab_instances.specs.ab_cases.specs.Choices.{choices}
 use Rattle.ab_instances.specs.ab_cases.specs.Clauses as clauses
 use Rattle.ab_instances.specs.ab_cases.specs.Prefixes.{prefix}
-use Rattle.ab_instances.specs.ab_clauses.specs.Cases.{case_of}
+use Rattle.ab_formulas.specs.Cased.{case_of}
 use Rattle.ab_instances.specs.ab_clauses.specs.Readings.{clause_of, name_of}
 use Rattle.ab_instances.specs.ab_clauses.specs.declared.kept.ClauseTerm.{ClauseTerm}
 use Rattle.ab_instances.specs.Readings.{names_read, given_at}
-use Rattle.ab_analysis.specs.ab_logic.specs.Worlds.{IsKeptClause}
-use Rattle.ab_analysis.specs.ab_logic.specs.declared.world.World.{World}
-use Rattle.ab_analysis.specs.Atoms.{Choice, choices_of}
+use Rattle.ab_marks.specs.ab_logic.specs.Worlds.{IsKeptClause}
+use Rattle.ab_marks.specs.ab_logic.specs.declared.world.World.{World}
+use Rattle.ab_theory.specs.Atoms.{Choice, choices_of}
 use Rattle.ab_alternatives.specs.Made.{constants_in}
 use Rattle.ab_alternatives.specs.Readings.{defined_read, HoldsDefined, choice_read}
 use Rattle.ab_alternatives.specs.declared.atoms.DefinedAtom.{DefinedAtom}

@@ -21,13 +21,13 @@ use Rattle.ab_instances.specs.ab_cases.specs.Alternatives.{cells_over, made_term
 use Rattle.ab_instances.specs.ab_cases.proofs.Variables.{holds_contains}
 use Rattle.ab_instances.specs.ab_unifying.specs.Problem.{cell_read, cells_read, variables_read}
 use Rattle.ab_instances.specs.Readings.{cells_at, trees_at}
-use Rattle.ab_analysis.specs.ab_logic.specs.Sequents.{in_terms}
-use Rattle.ab_analysis.specs.ab_logic.specs.Worlds.{variable_of}
-use Rattle.ab_analysis.specs.ab_logic.specs.declared.world.World.{World}
-use Rattle.ab_analysis.specs.Left.{raised_variables}
-use Rattle.ab_alternatives.specs.Raising.{raised_cells, raised_to, raised_terms}
+use Rattle.ab_formulas.specs.Sequents.{in_terms}
+use Rattle.ab_marks.specs.ab_logic.specs.Worlds.{variable_of}
+use Rattle.ab_marks.specs.ab_logic.specs.declared.world.World.{World}
+use Rattle.ab_theory.specs.Analysis.{raised_variables}
+use Rattle.ab_theory.specs.Raising.{raised_cells, raised_to, raised_terms}
 use Rattle.ab_alternatives.specs.Made.{trees_from, images_from}
-use Rattle.ab_alternatives.proofs.Parts.{together_none}
+use Rattle.ab_theory.proofs.AlternativesParts.{together_none}
 
 abbrev x : List ℕ
 x = codes "x"

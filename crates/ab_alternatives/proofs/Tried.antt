@@ -9,12 +9,12 @@ use Rattle.ab_instances.specs.ab_types.specs.Entries.{Table}
 use Rattle.ab_instances.specs.ab_store.specs.declared.node.CellId.{CellId}
 use Rattle.ab_instances.specs.ab_store.specs.Trees.{Contents}
 use Rattle.ab_instances.specs.ab_unifying.specs.Changed as changed
-use Rattle.ab_analysis.specs.ab_logic.specs.Growth.{Grows}
-use Rattle.ab_analysis.specs.ab_logic.specs.Sequents.{Variable}
-use Rattle.ab_analysis.specs.ab_logic.specs.Worlds.{IsWorld, variable_of, declarations_of}
-use Rattle.ab_analysis.specs.ab_logic.specs.declared.world.World.{World}
-use Rattle.ab_analysis.specs.ab_equate.proofs.Going.{world_meanwhile}
-use Rattle.ab_analysis.specs.ab_equate.proofs.Restored.{again, declarations_same}
+use Rattle.ab_marks.specs.ab_logic.specs.Growth.{Grows}
+use Rattle.ab_formulas.specs.Sequents.{Variable}
+use Rattle.ab_marks.specs.ab_logic.specs.Worlds.{IsWorld, variable_of, declarations_of}
+use Rattle.ab_marks.specs.ab_logic.specs.declared.world.World.{World}
+use Rattle.ab_equate.proofs.Going.{world_meanwhile}
+use Rattle.ab_equate.proofs.Restored.{again, declarations_same}
 
 module _ (w : World) (U : Table) (V : Contents) (is : IsWorld w) (g : changed.Grows w.types w.store U V) where
   abbrev pub later : World

@@ -15,19 +15,19 @@ use Rattle.ab_instances.specs.ab_store.specs.Naming.{IsTypedBy}
 use Rattle.ab_instances.specs.ab_norm.specs.Growth.{AddsTypedTerms}
 use Rattle.ab_instances.specs.ab_norm.specs.Taking.{AreTaken}
 use Rattle.ab_instances.specs.ab_solve.specs.Replacing.{Cell}
-use Rattle.ab_analysis.specs.ab_solver.specs.Answers.{IsTypedPair}
+use Rattle.ab_equate.specs.ab_solver.specs.Answers.{IsTypedPair}
 use Rattle.ab_instances.specs.ab_cases.specs.Clauses.{Clause, filled}
 use Rattle.ab_instances.specs.ab_cases.specs.Alternatives.{cells_over, made_over, made_terms, arguments_equal}
 use Rattle.ab_instances.specs.ab_clauses.specs.Readings.{name_of}
-use Rattle.ab_analysis.specs.ab_logic.specs.Marks.{Sign}
-use Rattle.ab_analysis.specs.ab_marks.specs.Marking.{mark_below, marked_in}
+use Rattle.ab_formulas.specs.Marks.{Sign}
+use Rattle.ab_formulas.specs.Marking.{mark_below, marked_in}
 use Rattle.ab_instances.specs.ab_unifying.specs.Problem.{cell_read, cells_read, variables_read}
 use Rattle.ab_instances.specs.ab_unifying.specs.Changed.{Grows}
 use Rattle.ab_instances.specs.ab_unifying.proofs.Growth.{grows_on, grows_terms}
 use Rattle.ab_instances.specs.Readings.{given_at, cells_at}
 use Rattle.ab_instances.specs.declared.making.Over.{Over}
-use Rattle.ab_analysis.specs.Atoms.{Choice}
-use Rattle.ab_alternatives.specs.Raising.{raised_cells}
+use Rattle.ab_theory.specs.Atoms.{Choice}
+use Rattle.ab_theory.specs.Raising.{raised_cells}
 use Rattle.ab_alternatives.specs.Made.{equate, trees_from, fresh_in, unchosen_in, base_in, own_in, filled_in, IsRaised}
 use Rattle.ab_alternatives.proofs.Raised.{raised_on}
 use Rattle.ab_alternatives.proofs.Assembled.{equate_trees, equate_typed, given_stays, still_held, names_same, taken_on, cells_same, variables_same}

@@ -6,8 +6,8 @@ use Rattle.ab_instances.specs.ab_norm.specs.Nominals.{HoldsNominal}
 use Rattle.ab_instances.specs.ab_cases.specs.Clauses.{Clause}
 use Rattle.ab_instances.specs.ab_cases.specs.Choices.{in_order, choices, for_each}
 use Rattle.ab_instances.specs.ab_clauses.specs.declared.kept.ClauseTerm.{ClauseTerm}
-use Rattle.ab_analysis.specs.ab_logic.specs.declared.world.World.{World}
-use Rattle.ab_analysis.specs.Atoms.{Defined, Choice}
+use Rattle.ab_marks.specs.ab_logic.specs.declared.world.World.{World}
+use Rattle.ab_theory.specs.Atoms.{Defined, Choice}
 use Rattle.ab_alternatives.specs.Readings.{choice_read}
 use Rattle.ab_alternatives.specs.declared.choosing.Place.{Place}
 use Rattle.ab_alternatives.specs.declared.choosing.Place.TheVariants.{Within, Behind}

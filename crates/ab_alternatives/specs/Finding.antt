@@ -1,10 +1,10 @@
 -- THE FIRST CHOICE BY WHICH A CONCLUSION UNFOLDS: none before it can make the atom an instance.
 use Rattle.std.specs.Prelude.{◌≡◌, ℕ, List, [], ◌∷◌, take, All, slice_get, Some}
 use Rattle.ab_instances.specs.ab_solve.specs.Replacing.{Cell}
-use Rattle.ab_analysis.specs.ab_logic.specs.Sequents.{Variable, Sequent, goal_names}
-use Rattle.ab_analysis.specs.ab_equate.specs.Cases.{problem_of, NeverArises, IsOpen}
-use Rattle.ab_analysis.specs.Atoms.{Defined, Choice, choices_of}
-use Rattle.ab_analysis.specs.Right.{unfolding_case}
+use Rattle.ab_formulas.specs.Sequents.{Variable, Sequent, goal_names}
+use Rattle.ab_theory.specs.Splits.{problem_of, NeverArises, IsOpen}
+use Rattle.ab_theory.specs.Atoms.{Defined, Choice, choices_of}
+use Rattle.ab_theory.specs.Unfolding.{unfolding_case}
 use Rattle.ab_alternatives.specs.Matching.{LeavesOpen}
 use Rattle.ab_alternatives.specs.declared.finding.Found.{Found}
 use Rattle.ab_alternatives.specs.declared.finding.Found.TheVariants.{Closed, Open, Stuck, Nothing}

@@ -10,20 +10,20 @@ use Rattle.ab_instances.specs.ab_cases.specs.Choices.{in_order, choices}
 use Rattle.ab_instances.specs.ab_unifying.specs.Changed as changed
 use Rattle.ab_instances.specs.ab_unifying.specs.Problem.{cells_read}
 use Rattle.ab_instances.specs.Readings.{names_read}
-use Rattle.ab_analysis.specs.ab_logic.specs.Declarations.{signature_in}
-use Rattle.ab_analysis.specs.ab_logic.specs.Formulas.{IsFormula}
-use Rattle.ab_analysis.specs.ab_logic.specs.Growth.{Grows}
-use Rattle.ab_analysis.specs.ab_logic.specs.Names.{IsNamedFor}
-use Rattle.ab_analysis.specs.ab_logic.specs.Sequents.{Sequent, IsSequent, formulas_of, goal_names}
-use Rattle.ab_analysis.specs.ab_logic.specs.Worlds.{IsWorld, declarations_of}
-use Rattle.ab_analysis.specs.ab_logic.specs.Readings.{HoldsSequent, sequent_of}
-use Rattle.ab_analysis.specs.ab_logic.specs.declared.world.World.{World}
-use Rattle.ab_analysis.specs.ab_logic.specs.declared.sequent.Sequent.{Sequent as Kept}
-use Rattle.ab_analysis.specs.ab_equate.specs.Cases.{CaseOver, IsUnsplit}
-use Rattle.ab_analysis.specs.ab_equate.proofs.Splits.{Passes}
-use Rattle.ab_analysis.specs.Atoms.{Defined}
-use Rattle.ab_analysis.specs.Left.{case_of}
-use Rattle.ab_alternatives.specs.Members.{SameMembers}
+use Rattle.ab_formulas.specs.Declarations.{signature_in}
+use Rattle.ab_formulas.specs.Formulas.{IsFormula}
+use Rattle.ab_marks.specs.ab_logic.specs.Growth.{Grows}
+use Rattle.ab_formulas.specs.Names.{IsNamedFor}
+use Rattle.ab_formulas.specs.Sequents.{Sequent, IsSequent, formulas_of, goal_names}
+use Rattle.ab_marks.specs.ab_logic.specs.Worlds.{IsWorld, declarations_of}
+use Rattle.ab_marks.specs.ab_logic.specs.Readings.{HoldsSequent, sequent_of}
+use Rattle.ab_marks.specs.ab_logic.specs.declared.world.World.{World}
+use Rattle.ab_marks.specs.ab_logic.specs.declared.sequent.Sequent.{Sequent as Kept}
+use Rattle.ab_theory.specs.Splits.{CaseOver, IsUnsplit}
+use Rattle.ab_theory.proofs.EquateSplits.{Passes}
+use Rattle.ab_theory.specs.Atoms.{Defined}
+use Rattle.ab_theory.specs.Analysis.{case_of}
+use Rattle.ab_formulas.specs.Members.{SameMembers}
 use Rattle.ab_alternatives.specs.Readings.{defined_read, HoldsDefined}
 use Rattle.ab_alternatives.specs.declared.atoms.DefinedAtom.{DefinedAtom}
 use Rattle.ab_alternatives.specs.declared.constants.Constants.{Constants}

@@ -13,24 +13,24 @@ use Rattle.ab_instances.specs.ab_store.specs.Trees.{Contents, Holds, HoldsCell, 
 use Rattle.ab_instances.specs.ab_store.specs.Naming.{IsTerm}
 use Rattle.ab_instances.specs.ab_solve.specs.Replacing.{Cell}
 use Rattle.ab_instances.specs.ab_solve.specs.Solving as solve
-use Rattle.ab_analysis.specs.ab_solver.specs.Answers.{IsTypedPair}
+use Rattle.ab_equate.specs.ab_solver.specs.Answers.{IsTypedPair}
 use Rattle.ab_instances.specs.ab_cases.specs.Clauses.{Each, put_together, filled}
 use Rattle.ab_instances.specs.ab_cases.specs.Choices.{in_order, outside}
 use Rattle.ab_instances.specs.ab_cases.specs.Alternatives.{cells_over, made_over, made_terms, arguments_equal}
 use Rattle.ab_instances.specs.ab_unifying.specs.Problem.{cells_read, variables_read}
 use Rattle.ab_instances.specs.Readings.{cells_at, trees_at}
 use Rattle.ab_instances.specs.declared.making.Over.{Over}
-use Rattle.ab_analysis.specs.ab_logic.specs.Marks.{Sign}
-use Rattle.ab_analysis.specs.ab_logic.specs.Worlds.{variable_of}
-use Rattle.ab_analysis.specs.ab_logic.specs.Readings.{sequent_of}
-use Rattle.ab_analysis.specs.ab_logic.specs.declared.world.World.{World}
-use Rattle.ab_analysis.specs.ab_logic.specs.declared.sequent.Sequent.{Sequent as Kept}
-use Rattle.ab_analysis.specs.ab_marks.specs.Marking.{mark_below, marked_in}
-use Rattle.ab_analysis.specs.ab_equate.specs.Solved.{changed}
-use Rattle.ab_analysis.specs.ab_equate.specs.Cases.{Case}
-use Rattle.ab_analysis.specs.ab_equate.specs.Meanwhile.{count_before}
-use Rattle.ab_analysis.specs.Atoms.{Choice}
-use Rattle.ab_alternatives.specs.Raising.{raised_cells, raised_to, raised_terms}
+use Rattle.ab_formulas.specs.Marks.{Sign}
+use Rattle.ab_marks.specs.ab_logic.specs.Worlds.{variable_of}
+use Rattle.ab_marks.specs.ab_logic.specs.Readings.{sequent_of}
+use Rattle.ab_marks.specs.ab_logic.specs.declared.world.World.{World}
+use Rattle.ab_marks.specs.ab_logic.specs.declared.sequent.Sequent.{Sequent as Kept}
+use Rattle.ab_formulas.specs.Marking.{mark_below, marked_in}
+use Rattle.ab_theory.specs.Equations.{changed}
+use Rattle.ab_theory.specs.Splits.{Case}
+use Rattle.ab_equate.specs.Meanwhile.{count_before}
+use Rattle.ab_theory.specs.Atoms.{Choice}
+use Rattle.ab_theory.specs.Raising.{raised_cells, raised_to, raised_terms}
 use Rattle.ab_alternatives.specs.declared.alternatives.Alternative.{Alternative}
 
 -- the constants of an atom with these arguments; those among the chosen that are new; and those that weren't chosen

@@ -8,11 +8,11 @@ use Rattle.ab_instances.specs.ab_store.specs.Trees.{Contents, cell_of}
 use Rattle.ab_instances.specs.ab_solve.specs.Replacing.{Cell}
 use Rattle.ab_instances.specs.ab_solve.specs.Solving.{State, unified, apart, stuck, Solves}
 use Rattle.ab_instances.specs.ab_unifying.specs.Problem.{cells_read}
-use Rattle.ab_analysis.specs.ab_logic.specs.Sequents.{Variable, Sequent}
-use Rattle.ab_analysis.specs.ab_equate.specs.Solved.{made}
-use Rattle.ab_analysis.specs.ab_equate.specs.Cases.{problem_of}
-use Rattle.ab_analysis.specs.Atoms.{Defined, Choice}
-use Rattle.ab_analysis.specs.Right.{unfolding_case}
+use Rattle.ab_formulas.specs.Sequents.{Variable, Sequent}
+use Rattle.ab_theory.specs.Equations.{made}
+use Rattle.ab_theory.specs.Splits.{problem_of}
+use Rattle.ab_theory.specs.Atoms.{Defined, Choice}
+use Rattle.ab_theory.specs.Unfolding.{unfolding_case}
 use Rattle.ab_alternatives.specs.declared.matching.Match.{Match}
 use Rattle.ab_alternatives.specs.declared.matching.Match.TheVariants.{Closed, Open, Apart, Stuck}
 

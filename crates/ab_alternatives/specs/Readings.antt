@@ -5,13 +5,13 @@ use Rattle.ab_instances.specs.ab_types.specs.Ids.{HoldsConstant}
 use Rattle.ab_instances.specs.ab_store.specs.Trees.{tree_of}
 use Rattle.ab_instances.specs.ab_norm.specs.Nominals.{nominal_of}
 use Rattle.ab_instances.specs.ab_norm.specs.declared.nominal.Nominal.{Nominal}
-use Rattle.ab_instances.specs.ab_clauses.specs.Cases.{case_of}
+use Rattle.ab_formulas.specs.Cased.{case_of}
 use Rattle.ab_instances.specs.ab_clauses.specs.Readings.{name_of, clause_of}
 use Rattle.ab_instances.specs.ab_clauses.specs.declared.kept.ClauseTerm.{ClauseTerm}
-use Rattle.ab_analysis.specs.ab_logic.specs.Forms.{sign_of}
-use Rattle.ab_analysis.specs.ab_logic.specs.Worlds.{Holds, definition_of, IsKeptBlock}
-use Rattle.ab_analysis.specs.ab_logic.specs.declared.world.World.{World}
-use Rattle.ab_analysis.specs.Atoms.{Defined, Choice}
+use Rattle.ab_marks.specs.ab_logic.specs.Forms.{sign_of}
+use Rattle.ab_marks.specs.ab_logic.specs.Worlds.{Holds, definition_of, IsKeptBlock}
+use Rattle.ab_marks.specs.ab_logic.specs.declared.world.World.{World}
+use Rattle.ab_theory.specs.Atoms.{Defined, Choice}
 use Rattle.ab_alternatives.specs.declared.atoms.DefinedAtom.{DefinedAtom}
 
 -- THE READING of a defined atom

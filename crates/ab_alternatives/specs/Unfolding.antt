@@ -2,7 +2,7 @@
 use Rattle.std.specs.Prelude.{◌≡◌, ℕ, zero, ◌-◌, List, [], ◌∷◌, ◌++◌, length, take, All, codes}
 use Rattle.ab_term.specs.Types.{prop}
 use Rattle.ab_term.specs.Logical.{nabla}
-use Rattle.ab_term.specs.Terms.{Nominal, Terms, nominal, logical, lam, spine, no_terms, term}
+use Rattle.ab_term.specs.Terms.{Nominal, Terms, nominal, logical, lam, spine, no_terms, term, Read}
 use Rattle.ab_term.specs.Closing.{close}
 use Rattle.ab_term.specs.Variables.{Substitution, image, image_all}
 use Rattle.ab_term.specs.Sameness.{same_number}
@@ -11,21 +11,21 @@ use Rattle.ab_instances.specs.ab_types.specs.Ids.{type_of}
 use Rattle.ab_instances.specs.ab_store.specs.declared.node.CellId.{CellId}
 use Rattle.ab_instances.specs.ab_store.specs.declared.node.TermId.{TermId}
 use Rattle.ab_instances.specs.ab_store.specs.Naming.{IsTerm}
-use Rattle.ab_instances.specs.ab_store.specs.Trees.{Read, Contents, cell_of, tree_of}
+use Rattle.ab_instances.specs.ab_store.specs.Trees.{Contents, cell_of, tree_of}
 use Rattle.ab_instances.specs.ab_solve.specs.Replacing.{Cell}
 use Rattle.ab_instances.specs.ab_solve.specs.Solving.{unified, Solves}
-use Rattle.ab_analysis.specs.ab_solver.specs.Answers.{IsTypedPair}
+use Rattle.ab_equate.specs.ab_solver.specs.Answers.{IsTypedPair}
 use Rattle.ab_instances.specs.ab_cases.specs.Clauses.{filled}
 use Rattle.ab_instances.specs.ab_cases.specs.Alternatives.{cells_over, made_over, made_terms, arguments_equal}
 use Rattle.ab_instances.specs.ab_unifying.specs.Problem.{cells_read, variables_read, problem}
-use Rattle.ab_analysis.specs.ab_logic.specs.Marks.{Sign}
-use Rattle.ab_analysis.specs.ab_logic.specs.Sequents.{Variable, Sequent, proving}
-use Rattle.ab_analysis.specs.ab_marks.specs.Marking.{mark_above, marked_in}
-use Rattle.ab_analysis.specs.ab_equate.specs.Solved.{made}
-use Rattle.ab_analysis.specs.Atoms.{Defined, Choice}
+use Rattle.ab_formulas.specs.Marks.{Sign}
+use Rattle.ab_formulas.specs.Sequents.{Variable, Sequent, proving}
+use Rattle.ab_formulas.specs.Marking.{mark_above, marked_in}
+use Rattle.ab_theory.specs.Equations.{made}
+use Rattle.ab_theory.specs.Atoms.{Defined, Choice}
 use Rattle.ab_alternatives.specs.Made.{unchosen_in, trees_from}
-use Rattle.ab_analysis.specs.ab_equate.specs.Cases.{problem_of}
-use Rattle.ab_analysis.specs.Right.{unfolding_case, exists_all, unfolded}
+use Rattle.ab_theory.specs.Splits.{problem_of}
+use Rattle.ab_theory.specs.Unfolding.{unfolding_case, exists_all, unfolded}
 use Rattle.ab_alternatives.specs.declared.unfolding.Unfolding.{Unfolding}
 
 -- the variable of a cell

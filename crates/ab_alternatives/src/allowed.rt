@@ -1,9 +1,9 @@
 //! Which marks let an atom give way to the body of its definition, and which mark the body's atoms get.
 ghost use Rattle.std.specs.Prelude.{◌≡◌, ◌↔◌, IsTrue};
-ghost use Rattle.ab_analysis.specs.ab_logic.specs.Forms.{sign_of};
-ghost use Rattle.ab_analysis.specs.ab_marks.specs.Marking.{MayBeAnalysed, MayBeUnfolded, mark_below, mark_above};
+ghost use Rattle.ab_marks.specs.ab_logic.specs.Forms.{sign_of};
+ghost use Rattle.ab_formulas.specs.Marking.{MayBeAnalysed, MayBeUnfolded, mark_below, mark_above};
 
-use ab_analysis::below::logic::Sign;
+use ab_marks::below::logic::Sign;
 
 /// Whether an atom with the mark may be analysed.
 pub fn may_be_analysed(mark: Sign) -> bool

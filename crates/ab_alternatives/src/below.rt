@@ -27,22 +27,22 @@ pub mod patterns {
 }
 
 pub mod logic {
-    pub use ab_analysis::below::logic::{
+    pub use ab_marks::below::logic::{
         Form, Hypotheses, Hypothesis, Sequent, Sign, Variables, World, as_and, as_arrow, as_equal,
         as_exists, as_forall, as_nabla, as_or, is_false, is_true, shape,
     };
 }
 
 pub mod naming {
-    pub use ab_analysis::below::naming::{Label, name_by, variable_name};
+    pub use ab_equate::below::naming::{Label, name_by, variable_name};
 }
 
 pub mod solver {
-    pub use ab_analysis::below::solver::{Solved, unify};
+    pub use ab_equate::below::solver::{Solved, unify};
 }
 
 pub mod marks {
-    pub use ab_analysis::below::marks::{marks_serve_in, without_marks};
+    pub use ab_marks::{marks_serve_in, without_marks};
 }
 
 pub mod instances {
@@ -50,5 +50,5 @@ pub mod instances {
 }
 
 pub mod equate {
-    pub use ab_analysis::below::equate::{CaseSolution, Solution, solve_in};
+    pub use ab_equate::{CaseSolution, Solution, solve_in};
 }

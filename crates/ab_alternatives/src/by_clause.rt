@@ -3,12 +3,12 @@ ghost use Rattle.std.specs.Prelude.{◌≡◌, ◌≤◌, ◌∷◌, [], ℕ, Ok
 ghost use Rattle.ab_instances.specs.ab_store.specs.Naming.{IsTypedBy};
 ghost use Rattle.ab_instances.specs.ab_norm.specs.Nominals.{HoldsNominal};
 ghost use Rattle.ab_instances.specs.ab_cases.specs.Choices as plain;
-ghost use Rattle.ab_instances.specs.ab_clauses.specs.Cases as kept;
+ghost use Rattle.ab_formulas.specs.Cased as kept;
 ghost use Rattle.ab_instances.specs.ab_clauses.specs.Readings.{clause_of, name_of};
 ghost use Rattle.ab_instances.specs.Readings.{names_read};
-ghost use Rattle.ab_analysis.specs.ab_logic.specs.Worlds.{IsKeptClause};
-ghost use Rattle.ab_analysis.specs.ab_logic.specs.Readings.{HoldsSequent, sequent_of};
-ghost use Rattle.ab_analysis.specs.Left.{case_of};
+ghost use Rattle.ab_marks.specs.ab_logic.specs.Worlds.{IsKeptClause};
+ghost use Rattle.ab_marks.specs.ab_logic.specs.Readings.{HoldsSequent, sequent_of};
+ghost use Rattle.ab_theory.specs.Analysis.{case_of};
 ghost use Rattle.ab_alternatives.specs.Readings.{defined_read, choice_read};
 ghost use Rattle.ab_alternatives.specs.Going.{clause_cases, IsLater, IsReady, ArePassed, AreStopped};
 
@@ -16,8 +16,8 @@ use crate::atoms::DefinedAtom;
 use crate::constants::Constants;
 use crate::heads::{is_of, prefix_types};
 use crate::trying::try_case;
-use ab_analysis::below::equate::CaseSolution;
-use ab_analysis::below::logic::{Sequent, World};
+use ab_equate::CaseSolution;
+use ab_marks::below::logic::{Sequent, World};
 use ab_instances::below::clauses::ClauseTerm;
 use ab_instances::below::norm::Nominal;
 use ab_instances::below::store::Store;

@@ -2,11 +2,11 @@
 ghost use Rattle.std.specs.Prelude.{◌≡◌, map, slice_get, None, Some, Ok, All, IfOk, IfSome};
 ghost use Rattle.std.specs.Option.{option_map};
 ghost use Rattle.ab_instances.specs.ab_norm.specs.Nominals.{HoldsNominal};
-ghost use Rattle.ab_instances.specs.ab_clauses.specs.Cases.{case_of};
+ghost use Rattle.ab_formulas.specs.Cased.{case_of};
 ghost use Rattle.ab_instances.specs.ab_clauses.specs.Readings.{clause_of};
 ghost use Rattle.ab_instances.specs.Readings.{names_read, given_at};
-ghost use Rattle.ab_analysis.specs.ab_logic.specs.Worlds.{IsWorld, IsKeptClause};
-ghost use Rattle.ab_analysis.specs.Atoms.{choices_of};
+ghost use Rattle.ab_marks.specs.ab_logic.specs.Worlds.{IsWorld, IsKeptClause};
+ghost use Rattle.ab_theory.specs.Atoms.{choices_of};
 ghost use Rattle.ab_alternatives.specs.Made.{constants_in};
 ghost use Rattle.ab_alternatives.specs.Readings.{defined_read, HoldsDefined, choice_read};
 ghost use Rattle.ab_alternatives.specs.Counting.{all_of, choices_by, LiesIn};
@@ -14,7 +14,7 @@ ghost use Rattle.ab_alternatives.specs.Choices.{read_choice, IsHeldFor};
 
 use crate::atoms::DefinedAtom;
 use crate::heads::{is_of, prefix_types};
-use ab_analysis::below::logic::World;
+use ab_marks::below::logic::World;
 use ab_instances::below::clauses::ClauseTerm;
 use ab_instances::below::norm::Nominal;
 use ab_instances::{Choices, choices};

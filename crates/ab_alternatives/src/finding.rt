@@ -1,11 +1,11 @@
 //! The first choice by which a conclusion unfolds.
 ghost use Rattle.std.specs.Prelude.{◌≡◌, ◌≤◌, slice_get, Ok, Some, None, IfOk};
 ghost use Rattle.ab_instances.specs.ab_unifying.specs.Problem.{cells_read};
-ghost use Rattle.ab_analysis.specs.ab_logic.specs.Growth.{Grows};
-ghost use Rattle.ab_analysis.specs.ab_logic.specs.Worlds.{IsWorld, declarations_of};
-ghost use Rattle.ab_analysis.specs.ab_logic.specs.Readings.{HoldsSequent, sequent_of};
-ghost use Rattle.ab_analysis.specs.ab_logic.specs.Sequents.{IsSequent, goal_names};
-ghost use Rattle.ab_analysis.specs.Atoms.{Choice as APlainChoice, defined_atom, choices_of};
+ghost use Rattle.ab_marks.specs.ab_logic.specs.Growth.{Grows};
+ghost use Rattle.ab_marks.specs.ab_logic.specs.Worlds.{IsWorld, declarations_of};
+ghost use Rattle.ab_marks.specs.ab_logic.specs.Readings.{HoldsSequent, sequent_of};
+ghost use Rattle.ab_formulas.specs.Sequents.{IsSequent, goal_names};
+ghost use Rattle.ab_theory.specs.Atoms.{Choice as APlainChoice, defined_atom, choices_of};
 ghost use Rattle.ab_alternatives.specs.Matching.{Matches};
 ghost use Rattle.ab_alternatives.specs.Readings.{defined_read, HoldsDefined};
 ghost use Rattle.ab_alternatives.specs.declared.matching.Match.{Match as AMatch};
@@ -15,7 +15,7 @@ use crate::atoms::DefinedAtom;
 use crate::choosing::choice_at;
 use crate::constants::goal_constants;
 use crate::matching::{Match, match_choice};
-use ab_analysis::below::logic::{Sequent, World};
+use ab_marks::below::logic::{Sequent, World};
 use ab_instances::below::types::{Name, Steps};
 use ab_instances::constants_of;
 use std::alloc::{AllocError, Global};

@@ -6,10 +6,10 @@ ghost use Rattle.ab_instances.specs.ab_types.specs.Ids.{HoldsType, HoldsConstant
 ghost use Rattle.ab_instances.specs.ab_store.specs.Trees.{Holds, tree_of};
 ghost use Rattle.ab_instances.specs.ab_store.specs.Naming.{IsTypedBy};
 ghost use Rattle.ab_instances.specs.ab_cases.specs.Prefixes.{prefix, IsHead};
-ghost use Rattle.ab_instances.specs.ab_clauses.specs.Cases.{case_of};
+ghost use Rattle.ab_formulas.specs.Cased.{case_of};
 ghost use Rattle.ab_instances.specs.ab_clauses.specs.Readings.{clause_of, name_of};
-ghost use Rattle.ab_analysis.specs.ab_logic.specs.Worlds.{IsKeptClause};
-ghost use Rattle.ab_alternatives.specs.Headed.{HeadedBy};
+ghost use Rattle.ab_marks.specs.ab_logic.specs.Worlds.{IsKeptClause};
+ghost use Rattle.ab_formulas.specs.Headed.{HeadedBy};
 
 use ab_instances::below::clauses::ClauseTerm;
 use ab_instances::below::store::{Head, Logical, Node, Store, TermId};

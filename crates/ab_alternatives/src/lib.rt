@@ -15,7 +15,6 @@ mod constants;
 mod finding;
 mod heads;
 mod hints;
-pub mod laws;
 mod matching;
 mod placing;
 mod quantifying;

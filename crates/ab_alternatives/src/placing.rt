@@ -1,15 +1,15 @@
 //! A conclusion is unfolded by the choice of a place.
 ghost use Rattle.std.specs.Prelude.{◌≡◌, ◌≤◌, ℕ, slice_get, Ok, Some, None};
 ghost use Rattle.ab_instances.specs.ab_unifying.specs.Problem.{cells_read};
-ghost use Rattle.ab_analysis.specs.ab_logic.specs.Growth.{Grows};
-ghost use Rattle.ab_analysis.specs.ab_logic.specs.Worlds.{IsWorld, declarations_of};
-ghost use Rattle.ab_analysis.specs.ab_logic.specs.Readings.{HoldsSequent, sequent_of};
-ghost use Rattle.ab_analysis.specs.ab_logic.specs.Sequents.{IsSequent, goal_names};
-ghost use Rattle.ab_analysis.specs.ab_logic.specs.declared.sequent.Sequent.{Sequent as AGoal};
-ghost use Rattle.ab_analysis.specs.ab_equate.specs.Cases.{NeverArises, IsOpen};
-ghost use Rattle.ab_analysis.specs.ab_equate.specs.declared.cases.CaseSolution.TheVariants.{Unified, Apart, Stuck};
-ghost use Rattle.ab_analysis.specs.Atoms.{Choice as APlainChoice, defined_atom, choices_of};
-ghost use Rattle.ab_analysis.specs.Right.{unfolding_case};
+ghost use Rattle.ab_marks.specs.ab_logic.specs.Growth.{Grows};
+ghost use Rattle.ab_marks.specs.ab_logic.specs.Worlds.{IsWorld, declarations_of};
+ghost use Rattle.ab_marks.specs.ab_logic.specs.Readings.{HoldsSequent, sequent_of};
+ghost use Rattle.ab_formulas.specs.Sequents.{IsSequent, goal_names};
+ghost use Rattle.ab_marks.specs.ab_logic.specs.declared.sequent.Sequent.{Sequent as AGoal};
+ghost use Rattle.ab_theory.specs.Splits.{NeverArises, IsOpen};
+ghost use Rattle.ab_equate.specs.declared.cases.CaseSolution.TheVariants.{Unified, Apart, Stuck};
+ghost use Rattle.ab_theory.specs.Atoms.{Choice as APlainChoice, defined_atom, choices_of};
+ghost use Rattle.ab_theory.specs.Unfolding.{unfolding_case};
 ghost use Rattle.ab_alternatives.specs.Unfolding.{IsUnfolded};
 ghost use Rattle.ab_alternatives.specs.Readings.{defined_read, HoldsDefined};
 
@@ -17,8 +17,8 @@ use crate::atoms::DefinedAtom;
 use crate::choosing::choice_at;
 use crate::constants::goal_constants;
 use crate::right::unfold;
-use ab_analysis::below::equate::CaseSolution;
-use ab_analysis::below::logic::{Sequent, World};
+use ab_equate::CaseSolution;
+use ab_marks::below::logic::{Sequent, World};
 use ab_instances::below::types::Steps;
 use ab_instances::constants_of;
 use std::alloc::{AllocError, Global};

@@ -8,7 +8,7 @@ ghost use Rattle.ab_instances.specs.ab_store.specs.Naming.{IsTypedBy, LogicalIsT
 ghost use Rattle.ab_instances.specs.ab_norm.specs.Growth.{AddsTypedTerms};
 ghost use Rattle.ab_instances.specs.ab_norm.specs.Nominals.{HoldsNominal};
 ghost use Rattle.ab_instances.specs.Readings.{names_read};
-ghost use Rattle.ab_analysis.specs.Right.{exists_all};
+ghost use Rattle.ab_theory.specs.Unfolding.{exists_all};
 ghost use Rattle.ab_alternatives.specs.Unfolding.{variable_at, nabla_by};
 
 use ab_instances::below::norm::Nominal;

@@ -4,26 +4,26 @@ use Rattle.std.specs.Global.{Global}
 use Rattle.std.proofs.Common.{◌≡◌, ◌≢◌, ℕ, List, [], ◌∷◌, ◌++◌, map, length, refl, sym, ◌∙◌, ap, subst, append_assoc}
 use Rattle.std.proofs.lemmas.List.{length-map}
 use Rattle.std.proofs.lemmas.List.Elements.{All-head, All-weaker}
-use Rattle.ab_staging.specs.ab_store.specs.Trees.{Read}
+use Rattle.ab_term.specs.Terms.{Read}
 use Rattle.ab_staging.specs.ab_store.specs.declared.node.TermId.{TermId}
 use Rattle.ab_grammar.specs.CommandTrees as told
 use Rattle.ab_grammar.specs.CommandTrees.{Instance, Argument}
-use Rattle.ab_staging.specs.ab_logic.specs.Declarations.{Declarations}
+use Rattle.ab_formulas.specs.Declarations.{Declarations}
 use Rattle.ab_staging.specs.ab_logic.specs.Growth.{Grows}
-use Rattle.ab_staging.specs.ab_logic.specs.Names.{Label, given}
+use Rattle.ab_formulas.specs.Names.{Label, given}
 use Rattle.ab_staging.specs.ab_logic.specs.Readings.{sequent_of}
-use Rattle.ab_staging.specs.ab_logic.specs.Sequents.{Sequent, IsSequent, formula_of, proving, assuming, without}
+use Rattle.ab_formulas.specs.Sequents.{Sequent, IsSequent, formula_of, proving, assuming, without}
 use Rattle.ab_staging.specs.ab_logic.specs.Worlds.{IsWorld, Holds, read, declarations_of}
 use Rattle.ab_staging.specs.ab_logic.specs.declared.world.World.{World}
 use Rattle.ab_staging.specs.ab_logic.specs.declared.sequent.Sequent.{Sequent as Kept}
-use Rattle.ab_staging.specs.ab_rules.specs.Rules.{NamedRule}
-use Rattle.ab_staging.specs.ab_rules.specs.Steps.{cut_formula}
-use Rattle.ab_staging.specs.ab_kernel.specs.Derivation.{History, open_goals}
+use Rattle.ab_theory.specs.Rules.{NamedRule}
+use Rattle.ab_theory.specs.Steps.{cut_formula}
+use Rattle.ab_theory.specs.Derivations.{History, open_goals}
 use Rattle.ab_staging.specs.ab_kernel.specs.Layout.{Held, history_of, IsProof}
 use Rattle.ab_staging.specs.ab_kernel.proofs.Later.{same_history, still_proof}
-use Rattle.ab_staging.specs.ab_kernel.proofs.Rooted.{open_are_sequents}
-use Rattle.ab_staging.specs.ab_using.specs.Pieces.{Given, antecedent_count}
-use Rattle.ab_staging.specs.ab_using.specs.Answers.{awaited, result_in}
+use Rattle.ab_theory.proofs.Rooted.{open_are_sequents}
+use Rattle.ab_theory.specs.Pieces.{Given, antecedent_count}
+use Rattle.ab_theory.specs.Using.{awaited, result_in}
 use Rattle.ab_staging.specs.ab_taking.specs.Readings.{given_of}
 use Rattle.ab_staging.specs.ab_taking.specs.declared.given.GivenTerm.{GivenTerm}
 use Rattle.ab_staging.specs.ab_putting.specs.declared.stage.Stage.{Stage}

@@ -4,12 +4,12 @@ use Rattle.std.specs.Option.{option_map}
 use Rattle.std.proofs.Common.{◌≡◌, ℕ, zero, suc, ◌+◌, ◌<◌, List, [], ◌∷◌, ◌++◌, map, length, take, drop, get_or, refl, sym, ◌∙◌, ap, arith, append_assoc}
 use Rattle.std.proofs.lemmas.List.{map-append, map_more, drop_more}
 use Rattle.std.proofs.lemmas.List.Elements.{All-cons, All-nil}
-use Rattle.ab_staging.specs.ab_store.specs.Trees.{Read}
+use Rattle.ab_term.specs.Terms.{Read}
 use Rattle.ab_staging.specs.ab_store.specs.declared.node.TermId.{TermId}
 use Rattle.ab_grammar.specs.CommandTrees.{Argument, named, hole}
 use Rattle.ab_syntax.specs.Commands.{argument_of}
 use Rattle.ab_syntax.specs.declared.command.Argument.{Argument as KeptArgument}
-use Rattle.ab_staging.specs.ab_logic.specs.Sequents.{Sequent, formula_of}
+use Rattle.ab_formulas.specs.Sequents.{Sequent, formula_of}
 use Rattle.ab_staging.specs.ab_logic.specs.Worlds.{read}
 use Rattle.ab_staging.specs.ab_logic.specs.declared.world.World.{World}
 use Rattle.ab_staging.specs.ab_taking.specs.Readings.{HoldsIfAny}

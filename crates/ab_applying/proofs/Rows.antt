@@ -1,15 +1,15 @@
 -- The rows of `apply` and `backchain`, by what is asked in them.
 use Rattle.std.specs.Prelude.{Bool, false, Option, Some, None, nat_lt}
 use Rattle.std.proofs.Common.{◌≡◌, inl, inr, ℕ, List, [], ◌∷◌, ◌++◌, map, length, refl, subst}
-use Rattle.ab_staging.specs.ab_store.specs.Trees.{Read}
+use Rattle.ab_term.specs.Terms.{Read}
 use Rattle.ab_grammar.specs.CommandTrees as told
 use Rattle.ab_grammar.specs.CommandTrees.{Instance, Argument}
-use Rattle.ab_staging.specs.ab_logic.specs.Declarations.{Declarations}
-use Rattle.ab_staging.specs.ab_logic.specs.Marks.{MarksServeIn}
-use Rattle.ab_staging.specs.ab_logic.specs.Names.{Label}
-use Rattle.ab_staging.specs.ab_logic.specs.Sequents.{Sequent, proving}
-use Rattle.ab_staging.specs.ab_using.specs.Pieces.{Piece, Given, pieces, behind, antecedent_count, AllServe}
-use Rattle.ab_staging.specs.ab_using.specs.Answers.{Using, awaited, result_in}
+use Rattle.ab_formulas.specs.Declarations.{Declarations}
+use Rattle.ab_formulas.specs.Marks.{MarksServeIn}
+use Rattle.ab_formulas.specs.Names.{Label}
+use Rattle.ab_formulas.specs.Sequents.{Sequent, proving}
+use Rattle.ab_theory.specs.Pieces.{Piece, Given, pieces, behind, antecedent_count, AllServe}
+use Rattle.ab_theory.specs.Using.{Using, awaited, result_in}
 use Rattle.ab_staging.specs.ab_effects.specs.Effect.{effect, clashing, missing, repeated, marked_so, giving, left_to_show}
 use Rattle.ab_staging.specs.ab_effects.specs.Refusals.{Refusal, clash, no_hypothesis, mark, names_spent}
 use Rattle.ab_staging.specs.ab_effects.specs.Row.{Row, leads, makes, Leads, Refuses}

@@ -9,22 +9,22 @@ use Rattle.ab_staging.specs.ab_types.specs.declared.ids.TypeId.{TypeId}
 use Rattle.ab_staging.specs.ab_types.proofs.Entries.{same_type, type_still_held}
 use Rattle.ab_term.specs.Variables.{variables}
 use Rattle.ab_term.proofs.Lists.{Contains-none, All-from_contains}
-use Rattle.ab_staging.specs.ab_store.specs.Trees.{Read}
+use Rattle.ab_term.specs.Terms.{Read}
 use Rattle.ab_staging.specs.ab_store.specs.declared.node.TermId.{TermId}
 use Rattle.ab_grammar.specs.CommandTrees.{Argument, named, hole}
-use Rattle.ab_staging.specs.ab_logic.specs.Declarations.{Declarations, signature_in, theorem_in, HaveSentences}
-use Rattle.ab_staging.specs.ab_logic.specs.Formulas.{IsFormula}
+use Rattle.ab_formulas.specs.Declarations.{Declarations, signature_in, theorem_in, HaveSentences}
+use Rattle.ab_formulas.specs.Formulas.{IsFormula}
 use Rattle.ab_staging.specs.ab_logic.specs.Growth.{Grows}
 use Rattle.ab_staging.specs.ab_logic.specs.Readings.{sequent_of, HoldsSequent}
-use Rattle.ab_staging.specs.ab_logic.specs.Sequents.{Sequent, IsSequent, HoldsOnly, Fits, formulas, formulas_of, formula_of, in_terms}
+use Rattle.ab_formulas.specs.Sequents.{Sequent, IsSequent, HoldsOnly, Fits, formulas, formulas_of, formula_of, in_terms}
 use Rattle.ab_staging.specs.ab_logic.specs.Worlds.{Holds, read, declarations_of}
 use Rattle.ab_staging.specs.ab_logic.specs.declared.world.World.{World}
 use Rattle.ab_staging.specs.ab_logic.specs.declared.sequent.Sequent.{Sequent as Kept}
 use Rattle.ab_staging.specs.ab_logic.proofs.Growing.{map_same, same_sequent}
-use Rattle.ab_staging.specs.ab_rules.proofs.Sequents.{found_there}
-use Rattle.ab_staging.specs.ab_using.specs.Pieces.{Given, pieces, behind, type_named, AllServe}
-use Rattle.ab_staging.specs.ab_using.specs.Uses.{Aim}
-use Rattle.ab_staging.specs.ab_using.specs.Answers.{Using, IsUsedFor}
+use Rattle.ab_theory.proofs.Sequents.{found_there}
+use Rattle.ab_theory.specs.Pieces.{Given, pieces, behind, type_named, AllServe}
+use Rattle.ab_theory.specs.Uses.{Aim}
+use Rattle.ab_theory.specs.Using.{Using, IsUsedFor}
 use Rattle.ab_staging.specs.ab_taking.specs.Readings.{given_of, HoldsIfAny}
 use Rattle.ab_staging.specs.ab_taking.specs.declared.given.GivenTerm.{GivenTerm}
 use Rattle.ab_staging.specs.ab_matching.specs.Readings.{aim_of, using_of, IsOfGoal, IsOfGoalIfAny, MayBeUsed}

@@ -1,16 +1,16 @@
 -- What was asked of a command that uses a formula, before its steps are taken. Public contracts don't speak of this.
 use Rattle.std.specs.Prelude.{◌≡◌, ℕ, List, [], map, length, All, Option, Some, None, nat_lt, Bool, false}
 use Rattle.ab_staging.specs.ab_types.specs.Ids.{HoldsType}
-use Rattle.ab_staging.specs.ab_store.specs.Trees.{Read}
+use Rattle.ab_term.specs.Terms.{Read}
 use Rattle.ab_grammar.specs.CommandTrees.{Instance, Argument}
-use Rattle.ab_staging.specs.ab_logic.specs.Declarations.{Declarations}
-use Rattle.ab_staging.specs.ab_logic.specs.Marks.{MarksServeIn}
-use Rattle.ab_staging.specs.ab_logic.specs.Names.{Label}
-use Rattle.ab_staging.specs.ab_logic.specs.Sequents.{Sequent}
+use Rattle.ab_formulas.specs.Declarations.{Declarations}
+use Rattle.ab_formulas.specs.Marks.{MarksServeIn}
+use Rattle.ab_formulas.specs.Names.{Label}
+use Rattle.ab_formulas.specs.Sequents.{Sequent}
 use Rattle.ab_staging.specs.ab_logic.specs.Worlds.{Holds, read}
 use Rattle.ab_staging.specs.ab_logic.specs.declared.world.World.{World}
-use Rattle.ab_staging.specs.ab_using.specs.Pieces.{Given, pieces, behind, antecedent_count, AllServe}
-use Rattle.ab_staging.specs.ab_using.specs.Answers.{IsUsedFor, awaited, result_in}
+use Rattle.ab_theory.specs.Pieces.{Given, pieces, behind, antecedent_count, AllServe}
+use Rattle.ab_theory.specs.Using.{IsUsedFor, awaited, result_in}
 use Rattle.ab_staging.specs.ab_matching.specs.Readings.{HoldsStage}
 use Rattle.ab_staging.specs.ab_taking.specs.Readings.{given_of}
 use Rattle.ab_staging.specs.ab_taking.specs.declared.given.GivenTerm.{GivenTerm}

@@ -1,12 +1,12 @@
 -- What `apply` leaves of the first goal. Public contracts don't speak of this.
 use Rattle.std.specs.Prelude.{◌≡◌, List, [], ◌∷◌, ◌++◌, map}
-use Rattle.ab_staging.specs.ab_store.specs.Trees.{Read}
-use Rattle.ab_staging.specs.ab_logic.specs.Names.{Label}
-use Rattle.ab_staging.specs.ab_logic.specs.Sequents.{Sequent, proving}
+use Rattle.ab_term.specs.Terms.{Read}
+use Rattle.ab_formulas.specs.Names.{Label}
+use Rattle.ab_formulas.specs.Sequents.{Sequent, proving}
 use Rattle.ab_staging.specs.ab_logic.specs.Worlds.{declarations_of}
 use Rattle.ab_staging.specs.ab_logic.specs.declared.world.World.{World}
 use Rattle.ab_staging.specs.ab_kernel.specs.Layout.{Held}
-use Rattle.ab_staging.specs.ab_using.specs.Pieces.{Given}
+use Rattle.ab_theory.specs.Pieces.{Given}
 use Rattle.ab_staging.specs.ab_effects.specs.Using.{OpenedBeside, NamelessBeside}
 use Rattle.ab_staging.specs.ab_progress.specs.Progress.{goals_of}
 

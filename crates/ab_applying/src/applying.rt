@@ -8,7 +8,7 @@ ghost use Rattle.ab_syntax.specs.Trees.{tree_of};
 ghost use Rattle.ab_giving.specs.ab_elaborate.specs.Judgements.{HasNoJudgement};
 ghost use Rattle.ab_staging.specs.ab_logic.specs.Growth.{Grows};
 ghost use Rattle.ab_staging.specs.ab_logic.specs.Readings.{sequent_of, HoldsSequent};
-ghost use Rattle.ab_staging.specs.ab_logic.specs.Sequents.{IsSequent};
+ghost use Rattle.ab_formulas.specs.Sequents.{IsSequent};
 ghost use Rattle.ab_staging.specs.ab_logic.specs.Worlds.{IsWorld, Holds, read, declarations_of};
 ghost use Rattle.ab_staging.specs.ab_logic.specs.declared.world.World.{World as AWorld};
 ghost use Rattle.ab_staging.specs.ab_naming.specs.Labels.{label_of};

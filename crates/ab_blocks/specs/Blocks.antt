@@ -1,9 +1,9 @@
 -- THE BLOCK THAT ANSWERS A COMMAND, as bytes: how many commands are kept, the reply, and what is left to prove.
 use Rattle.std.specs.Prelude.{ℕ, ◌+◌, Bool, true, false, List, [], ◌∷◌, ◌++◌, length, codes, decimal, Option, Some, None}
-use Rattle.ab_states.specs.ab_store.specs.Trees.{Read}
+use Rattle.ab_term.specs.Terms.{Read}
 use Rattle.ab_term.specs.Translation.{translate}
 use Rattle.ab_states.specs.ab_print.specs.Shown.{reply_line}
-use Rattle.ab_states.specs.ab_goals.specs.Goals.{Named, Goal}
+use Rattle.ab_formulas.specs.Goals.{Named, Goal}
 use Rattle.ab_states.specs.ab_goals.specs.Shown.{shown as term, goal_lines, other_goal}
 use Rattle.ab_syntax.specs.Items.{list_of}
 use Rattle.ab_states.specs.ab_declare.specs.declared.refusal.Place.{Place}

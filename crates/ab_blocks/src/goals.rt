@@ -3,7 +3,7 @@ ghost use Rattle.std.specs.Prelude.{◌≡◌, ◌++◌, drop, map, OnOk};
 ghost use Rattle.ab_states.specs.ab_logic.specs.Worlds.{IsWorld};
 ghost use Rattle.ab_states.specs.ab_kernel.specs.Layout.{IsProof};
 ghost use Rattle.ab_states.specs.ab_progress.specs.Progress.{goals_of};
-ghost use Rattle.ab_states.specs.ab_goals.specs.Goals.{named};
+ghost use Rattle.ab_formulas.specs.Goals.{named};
 ghost use Rattle.ab_blocks.specs.Blocks.{others_from, goals_shown};
 
 use ab_states::below::kernel::Proof;

@@ -4,7 +4,7 @@ use Rattle.ab_term.specs.Types.{Ty, kind, arrow, arrows, prop}
 use Rattle.ab_term.specs.Logical.{Logical, logical_type, truth, falsity, conjunction, disjunction, implication, equality, universal, existential, nabla, judgement, focused_judgement, star, at_sign, plus, hash, spec_universal, spec_implication, spec_conjunction}
 use Rattle.ab_term.specs.Terms.{Head, constant, logical, nominal, variable, index, Term, lam, spine, Terms, no_terms, term}
 use Rattle.ab_term.specs.Typing.{Signature, type_at, head_type, HasType, TakeType, typed_lam, typed_spine, take_none, take_term}
-use Rattle.ab_fits.specs.Formulas.{StandsIn, AllStandIn, a_formula, a_scope, any, places_of_constant}
+use Rattle.ab_formulas.specs.Formulas.{StandsIn, AllStandIn, a_formula, a_scope, any, places_of_constant}
 use Rattle.ab_infer.specs.ab_readings.specs.Types.{PropFree}
 use Rattle.ab_building.specs.Heads.{AreHeads, AreAllHeads, IsOrdinary, IsOrdinaryConstant}
 

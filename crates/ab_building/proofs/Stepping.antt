@@ -5,7 +5,7 @@ use Rattle.std.proofs.Common.{◌≡◌, ℕ, zero, suc, ◌+◌, ◌<◌, List,
 use Rattle.std.proofs.lemmas.List.Elements.{All-head, All-tail}
 use Rattle.ab_term.specs.Types.{Ty, prop}
 use Rattle.ab_term.specs.Logical.{logical_type, equality}
-use Rattle.ab_term.specs.Terms.{index, logical, Terms, no_terms, term, lam}
+use Rattle.ab_term.specs.Terms.{index, logical, Terms, no_terms, term, lam, Read}
 use Rattle.ab_term.specs.Typing.{type_at, head_type}
 use Rattle.ab_term.specs.Expansion.{expansion_of}
 use Rattle.ab_fits.specs.ab_types.specs.Entries.{Table, signature}
@@ -17,7 +17,7 @@ use Rattle.ab_fits.specs.ab_store.specs.declared.node.Head as declared
 use Rattle.ab_fits.specs.ab_store.specs.declared.node.Head.TheVariants.{Index, Logic}
 use Rattle.ab_fits.specs.ab_store.specs.declared.node.Logical as store
 use Rattle.ab_fits.specs.ab_store.specs.declared.node.Logical.TheVariants.{Equal}
-use Rattle.ab_fits.specs.ab_store.specs.Trees.{Read, Contents, Holds, head_reading, logical_of, tree_of}
+use Rattle.ab_fits.specs.ab_store.specs.Trees.{Contents, Holds, head_reading, logical_of, tree_of}
 use Rattle.ab_norm.specs.Growth.{AddsTypedTerms}
 use Rattle.ab_infer.specs.ab_readings.specs.Names.{Name, Binding, quantified, pi, binding_head, binding_type}
 use Rattle.ab_grammar.specs.declared.Quant.TheVariants.{Forall, Exists, Nabla}

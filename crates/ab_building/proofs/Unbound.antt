@@ -4,12 +4,12 @@ use Rattle.std.proofs.Common.{◌≡◌, ℕ, List, [], map, None, sym, subst, a
 use Rattle.std.proofs.lemmas.List.{get_or-map, length-map}
 use Rattle.std.proofs.lemmas.List.Elements.{All-nil, All-cons, All-append, All-map}
 use Rattle.ab_term.specs.Types.{Ty}
-use Rattle.ab_term.specs.Terms.{Variable, constant, logical, nominal, variable, index, lam, spine, Terms, no_terms, term}
+use Rattle.ab_term.specs.Terms.{Variable, constant, logical, nominal, variable, index, lam, spine, Terms, no_terms, term, Read}
 use Rattle.ab_term.specs.Variables.{variables, variables_of_all}
 use Rattle.ab_fits.specs.ab_types.specs.Entries.{Table, signature}
 use Rattle.ab_fits.specs.ab_store.specs.declared.node.TermId.{TermId}
 use Rattle.ab_fits.specs.ab_store.specs.declared.node.CellId.{CellId}
-use Rattle.ab_fits.specs.ab_store.specs.Trees.{Read, Contents, tree_of}
+use Rattle.ab_fits.specs.ab_store.specs.Trees.{Contents, tree_of}
 use Rattle.ab_fits.specs.ab_store.specs.Reading.{bound_in, reading}
 use Rattle.ab_fits.specs.ab_store.specs.Bindings.{cells_of, IsResolved}
 use Rattle.ab_fits.specs.ab_store.proofs.Cells.{cells_are}

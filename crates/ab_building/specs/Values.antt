@@ -2,12 +2,12 @@
 use Rattle.std.specs.Prelude.{◌≡◌, ℕ, List, [], ◌∷◌, ◌++◌, map, codes, Option, MatchOption}
 use Rattle.std.specs.List.{All}
 use Rattle.ab_term.specs.Types.{Ty}
-use Rattle.ab_term.specs.Terms.{Terms, no_terms, terms_of, joined}
+use Rattle.ab_term.specs.Terms.{Terms, no_terms, terms_of, joined, Read}
 use Rattle.ab_term.specs.Expansion.{expansion_of}
 use Rattle.ab_fits.specs.ab_types.specs.Entries.{Table, signature}
 use Rattle.ab_fits.specs.ab_types.specs.Ids.{HoldsType, type_of}
 use Rattle.ab_fits.specs.ab_store.specs.declared.node.TermId.{TermId}
-use Rattle.ab_fits.specs.ab_store.specs.Trees.{Read, Contents, Holds, head_reading, tree_of}
+use Rattle.ab_fits.specs.ab_store.specs.Trees.{Contents, Holds, head_reading, tree_of}
 use Rattle.ab_fits.specs.ab_store.specs.Naming.{HoldsHead, HeadIsTyped}
 use Rattle.ab_infer.specs.ab_readings.specs.Names.{Name}
 use Rattle.ab_infer.specs.ab_readings.specs.Readings.{Making}

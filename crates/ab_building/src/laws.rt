@@ -9,7 +9,7 @@ ghost use Rattle.ab_term.specs.Variables.{variables};
 ghost use Rattle.ab_fits.specs.ab_types.specs.Entries.{Table};
 ghost use Rattle.ab_fits.specs.ab_store.specs.Reading.{reading};
 ghost use Rattle.ab_fits.specs.ab_store.specs.Trees.{Contents, tree_of};
-ghost use Rattle.ab_fits.specs.Formulas.{IsFormula};
+ghost use Rattle.ab_formulas.specs.Formulas.{IsFormula};
 ghost use Rattle.ab_infer.specs.ab_readings.specs.Answers.{IsTheReading, HasNoReading, IsFirstOpen};
 ghost use Rattle.ab_infer.specs.ab_readings.specs.Names.{Name, Resolved};
 ghost use Rattle.ab_infer.specs.ab_readings.specs.Normal.{normal_form};

@@ -1,10 +1,10 @@
 //! What steps have made so far: heads that are still given arguments, and terms that are done.
 ghost use Rattle.std.specs.Prelude.{◌≡◌, ℕ, ◌≤◌, [], ◌∷◌, ◌++◌, List, MatchOption, IfOk, All, option_to_list};
-ghost use Rattle.ab_term.specs.Terms.{Terms, term, no_terms};
+ghost use Rattle.ab_term.specs.Terms.{Terms, term, no_terms, Read};
 ghost use Rattle.ab_infer.specs.ab_readings.specs.Normal.{left_type};
 ghost use Rattle.ab_fits.specs.ab_types.specs.Ids.{HoldsType, type_of};
 ghost use Rattle.ab_fits.specs.ab_types.specs.Sound.{IsTable};
-ghost use Rattle.ab_fits.specs.ab_store.specs.Trees.{Read, Holds, tree_of};
+ghost use Rattle.ab_fits.specs.ab_store.specs.Trees.{Holds, tree_of};
 ghost use Rattle.ab_fits.specs.ab_store.specs.Naming.{IsTypedBy};
 ghost use Rattle.ab_norm.specs.Growth.{AddsTypedTerms};
 ghost use Rattle.ab_building.specs.Values.{HoldsValue, means, turned, Popped};

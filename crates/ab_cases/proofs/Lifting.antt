@@ -6,9 +6,8 @@ use Rattle.ab_term.specs.Typing.{Signature, HasType}
 use Rattle.ab_term.specs.Translation.{forget, EqualPastHints}
 use Rattle.ab_term.specs.Expansion.{expansion}
 use Rattle.ab_term.specs.Variables.{Substitution, variables, value_in, image, image_by, IsTyped}
-use Rattle.ab_term.proofs.Images.{IsTypedMap}
+use Rattle.ab_term.proofs.Images.{IsTypedMap, image_by_typed}
 use Rattle.ab_term.proofs.Compositions.{then_by, image_composed}
-use Rattle.ab_term.proofs.Images.{image_by_typed}
 use Rattle.ab_term.proofs.Expansions.{expansion_typed}
 use Rattle.ab_term.proofs.OwnExpansion.{image_by-own, image_by-expansion_of}
 use Rattle.ab_term.proofs.Translations.{translate_typed, translate-expansion}

@@ -2,7 +2,8 @@
 use Rattle.std.specs.Prelude.{Ok, Err, Result, IfOk, Option, Some, None, codes}
 use Rattle.std.proofs.Common.{◌≡◌, ℕ, [], refl, sym, ap, ◌∙◌, subst}
 use Rattle.ab_term.specs.Types.{Ty, arrow, prop, o, olist}
-use Rattle.ab_closing.specs.ab_types.specs.Entries.{Table, kinds, signature, type_in, first_entries, IsExtendedBy}
+use Rattle.ab_term.specs.Constants.{type_in}
+use Rattle.ab_closing.specs.ab_types.specs.Entries.{Table, kinds, signature, first_entries, IsExtendedBy}
 use Rattle.ab_closing.specs.ab_types.specs.Sound.{IsTable}
 use Rattle.ab_closing.specs.ab_types.proofs.Entries.{same_signature as same_entries}
 use Rattle.ab_closing.specs.ab_store.specs.Trees.{Contents}
@@ -18,8 +19,8 @@ use Rattle.ab_elaborate.specs.ab_building.proofs.Larger.{store_more}
 use Rattle.ab_elaborate.specs.ab_walking.specs.declared.row.Row.{Row}
 use Rattle.ab_elaborate.specs.ab_walking.specs.Rows.{Makes, Fails, AddsTypes}
 use Rattle.ab_closing.specs.ab_clauses.specs.declared.kept.ClauseTerm.{ClauseTerm}
-use Rattle.ab_closing.specs.ab_clauses.specs.Cases.{case_of}
-use Rattle.ab_closing.specs.ab_clauses.specs.Proposed.{IsProposed}
+use Rattle.ab_formulas.specs.Cased.{case_of}
+use Rattle.ab_formulas.specs.Proposed.{IsProposed}
 use Rattle.ab_closing.specs.ab_clauses.specs.Readings.{clause_of}
 use Rattle.ab_clausal.specs.Readings.{Parts}
 use Rattle.ab_clausal.specs.Meanings.{clause_scope, body_found, body_type, both_found, parts_found, IsKeptAs, ClauseMeans, ClauseMeansNothing}

@@ -3,7 +3,7 @@ use Rattle.std.proofs.Common.{◌≡◌, ◌≢◌, ◌⊎◌, inl, inr, ℕ, ze
 use Rattle.std.specs.Prelude.{not, filter, Contains}
 use Rattle.ab_term.proofs.Lists.{Contains-here, Contains-there, Contains-cases, Contains-none}
 use Rattle.ab_term.specs.Types.{prop}
-use Rattle.ab_term.specs.Terms.{Nominal, Variable, constant, logical, nominal, variable, index, lam, spine, Terms, no_terms, term}
+use Rattle.ab_term.specs.Terms.{Nominal, Variable, constant, logical, nominal, variable, index, lam, spine, Terms, no_terms, term, Read}
 use Rattle.ab_term.specs.Typing.{Signature, HasType, typed_lam, typed_spine, take_none, take_term}
 use Rattle.ab_term.specs.Names.{support}
 use Rattle.ab_term.specs.Variables.{variables}
@@ -13,16 +13,15 @@ use Rattle.ab_term.proofs.Same.{same_numbered-Decides}
 use Rattle.ab_term.proofs.Preservation.{here}
 use Rattle.ab_term.proofs.Closing.{close_typed}
 use Rattle.ab_term.proofs.ClosingImages.{support-close, variables-close}
-use Rattle.ab_closing.specs.ab_fits.specs.Formulas.{Place, a_formula, a_scope, a_marked, any, places_of_constant, StandsIn, AllStandIn, IsFormula}
-use Rattle.ab_closing.specs.ab_store.specs.Trees.{Read}
+use Rattle.ab_formulas.specs.Formulas.{Place, a_formula, a_scope, a_marked, any, places_of_constant, StandsIn, AllStandIn, IsFormula}
 use Rattle.ab_renumbering.specs.ab_solve.specs.Replacing.{holds, occurs}
 use Rattle.ab_renumbering.specs.ab_solve.specs.Meaning.{AreDifferent}
 use Rattle.ab_renumbering.specs.ab_solve.proofs.Agreeing.{contains_holds}
 use Rattle.ab_renumbering.specs.ab_cases.specs.Clauses.{Within}
 use Rattle.ab_renumbering.specs.ab_cases.proofs.Variables.{holds_contains}
-use Rattle.ab_closing.specs.ab_clauses.specs.Kept.{ClauseVariable}
-use Rattle.ab_closing.specs.ab_clauses.specs.Cases.{in_terms}
-use Rattle.ab_closing.specs.ab_clauses.specs.Proposed.{IsProposed}
+use Rattle.ab_formulas.specs.Kept.{ClauseVariable}
+use Rattle.ab_formulas.specs.Cased.{in_terms}
+use Rattle.ab_formulas.specs.Proposed.{IsProposed}
 use Rattle.ab_closing.specs.Quantified.{exists_over, exists_all}
 use Rattle.ab_closing.specs.Closed.{stands_in_body_alone, kept_clause}
 

@@ -1,13 +1,12 @@
 -- With other numbers for its variables, a clause has the same faults.
 use Rattle.std.proofs.Common.{◌≡◌, ◌↔◌, ℕ, suc, List, ◌++◌, refl, sym, ap, ◌∙◌, subst}
 use Rattle.ab_term.specs.Logical.{truth, falsity, conjunction, disjunction, implication, equality, universal, existential, nabla, judgement, focused_judgement, star, at_sign, plus, hash, spec_universal, spec_implication, spec_conjunction}
-use Rattle.ab_term.specs.Terms.{Variable, Head, constant, logical, nominal, variable, index, lam, spine, Terms, no_terms, term}
+use Rattle.ab_term.specs.Terms.{Variable, Head, constant, logical, nominal, variable, index, lam, spine, Terms, no_terms, term, Read}
 use Rattle.ab_term.specs.Translation.{translate_head, translate_all}
-use Rattle.ab_closing.specs.ab_store.specs.Trees.{Read}
-use Rattle.ab_closing.specs.ab_clauses.specs.Kept.{Clause}
-use Rattle.ab_closing.specs.ab_clauses.specs.Heads.{Place, in_the_atom, under_a_variable, IsNoPrefixName, KeepsNames, AllKeepNames, IsHeadOf}
-use Rattle.ab_closing.specs.ab_clauses.specs.Stratification.{Part, everywhere, left_of_arrows, own_constant, part_of_first, constants, constants_of_all, AvoidAll, IsFirstOf}
-use Rattle.ab_closing.specs.ab_clauses.specs.Faults.{Fault, IsRight, HasFault, in_head, in_body}
+use Rattle.ab_formulas.specs.Kept.{Clause}
+use Rattle.ab_formulas.specs.Heads.{Place, in_the_atom, under_a_variable, IsNoPrefixName, KeepsNames, AllKeepNames, IsHeadOf}
+use Rattle.ab_formulas.specs.Stratification.{Part, everywhere, left_of_arrows, own_constant, part_of_first, constants, constants_of_all, AvoidAll, IsFirstOf}
+use Rattle.ab_formulas.specs.Faults.{Fault, IsRight, HasFault, in_head, in_body}
 use Rattle.ab_clausal.proofs.Renumbered.{T, moved_clause}
 
 module _ (f : ℕ → ℕ) where

@@ -6,19 +6,18 @@ use Rattle.std.proofs.lemmas.Slice.Eq.{bytes_eq-Decides}
 use Rattle.std.proofs.lemmas.List.Elements.{All-nil, All-cons, All-head, All-tail, All-append}
 use Rattle.ab_term.specs.Types.{Ty}
 use Rattle.ab_term.specs.Logical.{equality}
-use Rattle.ab_term.specs.Terms.{Variable, Head, constant, logical, nominal, variable, index, lam, spine, Terms, no_terms, term}
+use Rattle.ab_term.specs.Terms.{Variable, Head, constant, logical, nominal, variable, index, lam, spine, Terms, no_terms, term, Read}
 use Rattle.ab_term.specs.Names.{support, support_of_all}
 use Rattle.ab_term.specs.Variables.{variables, variables_of_all}
 use Rattle.ab_term.specs.Sameness.{same_numbered}
 use Rattle.ab_term.proofs.Same.{same_numbered-Decides}
-use Rattle.ab_closing.specs.ab_store.specs.Trees.{Read}
 use Rattle.ab_renumbering.specs.ab_solve.specs.Replacing.{holds}
 use Rattle.ab_elaborate.specs.ab_readings.specs.Types.{PropFree, is_listed}
 use Rattle.ab_elaborate.specs.ab_readings.specs.Names.{Name, Resolved, bound, known, free, apply, abs, equal, bind, Binding, binding_head}
 use Rattle.ab_elaborate.specs.ab_readings.specs.Readings.{Raw, Making, Reads, reads_bound, reads_known, reads_free, reads_apply, reads_abs, reads_equal, reads_bind}
 use Rattle.ab_elaborate.specs.ab_building.specs.Heads.{AreHeads, AreAllHeads, AreRawHeads, KnownAre}
 use Rattle.ab_elaborate.specs.ab_walking.specs.Occurrences.{free_names, with_name, with_names}
-use Rattle.ab_closing.specs.ab_clauses.specs.Cases.{in_terms}
+use Rattle.ab_formulas.specs.Cased.{in_terms}
 use Rattle.ab_clausal.specs.Meanings.{place_in, variables_from}
 
 -- FREE NAMES ARE AMONG THOSE THAT ARE COUNTED

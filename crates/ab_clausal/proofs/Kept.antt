@@ -2,14 +2,14 @@
 use Rattle.std.specs.Prelude.{Ok, not, Option, MatchOption}
 use Rattle.std.proofs.Common.{◌≡◌, ℕ, ◌+◌, ◌<◌, Bool, List, [], ◌∷◌, map, length, get_or, refl, sym, ap, ◌∙◌, subst}
 use Rattle.ab_term.specs.Types.{Ty, prop}
-use Rattle.ab_term.specs.Terms.{Head, variable, spine, no_terms, term}
+use Rattle.ab_term.specs.Terms.{Head, variable, spine, no_terms, term, Read}
 use Rattle.ab_term.specs.Typing.{Signature}
 use Rattle.ab_closing.specs.ab_types.specs.Entries.{Table, signature, IsExtendedBy}
 use Rattle.ab_closing.specs.ab_types.specs.Ids.{type_of}
 use Rattle.ab_closing.specs.ab_types.specs.declared.ids.TypeId.{TypeId}
 use Rattle.ab_closing.specs.ab_store.specs.declared.node.CellId.{CellId}
 use Rattle.ab_closing.specs.ab_store.specs.declared.node.TermId.{TermId}
-use Rattle.ab_closing.specs.ab_store.specs.Trees.{Read, Contents, cell_in, tree_of}
+use Rattle.ab_closing.specs.ab_store.specs.Trees.{Contents, cell_in, tree_of}
 use Rattle.ab_closing.specs.ab_store.specs.Naming.{IsTypedBy}
 use Rattle.ab_closing.specs.ab_store.specs.Growth.{IsExtendedBy as IsExtended}
 use Rattle.ab_closing.specs.ab_store.specs.declared.node.CellEntry.{CellEntry}
@@ -33,7 +33,7 @@ use Rattle.ab_elaborate.specs.ab_building.proofs.Larger.{typed_more_steps, fits_
 use Rattle.ab_elaborate.specs.ab_walking.specs.declared.row.Row.{Row}
 use Rattle.ab_elaborate.specs.ab_walking.specs.Rows.{Makes}
 use Rattle.ab_elaborate.specs.ab_walking.specs.Occurrences.{free_names, with_names}
-use Rattle.ab_closing.specs.ab_clauses.specs.Kept.{Clause}
+use Rattle.ab_formulas.specs.Kept.{Clause}
 use Rattle.ab_closing.specs.ab_clauses.specs.Readings.{variable_of}
 use Rattle.ab_closing.specs.Closed.{kept_clause}
 use Rattle.ab_clausal.specs.Readings.{Parts, HasOneReading, HasNoReading, IsFirstOpen}

@@ -27,7 +27,7 @@ use Rattle.ab_elaborate.specs.ab_infer.specs.Programs.{item_of, items_of, known_
 use Rattle.ab_elaborate.specs.ab_infer.specs.Verdicts.{AreApart, types_found}
 use Rattle.ab_elaborate.specs.ab_infer.proofs.Judging.{number_in, own_number}
 use Rattle.ab_elaborate.specs.ab_building.specs.Building.{OpFits, HasHeadType, AreFreeHeads, BecomeHeads, head_at}
-use Rattle.ab_closing.specs.ab_clauses.specs.Kept.{ClauseVariable}
+use Rattle.ab_formulas.specs.Kept.{ClauseVariable}
 use Rattle.ab_closing.specs.ab_clauses.specs.Readings.{variable_of}
 use Rattle.ab_clausal.specs.Meanings.{place_in, variable_from, variables_from}
 use Rattle.ab_clausal.specs.Joining.{AreCells, cell_at}

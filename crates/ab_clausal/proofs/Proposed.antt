@@ -3,12 +3,11 @@ use Rattle.std.proofs.Common.{◌≡◌, ℕ, suc, ◌<◌, Bool, true, false, �
 use Rattle.std.specs.Prelude.{not}
 use Rattle.std.proofs.lemmas.List.Elements.{All-contains}
 use Rattle.ab_term.specs.Types.{Ty, prop}
-use Rattle.ab_term.specs.Terms.{Variable, Head, constant, logical, nominal, variable, index}
+use Rattle.ab_term.specs.Terms.{Variable, Head, constant, logical, nominal, variable, index, Read}
 use Rattle.ab_term.specs.Typing.{Signature, HasType}
 use Rattle.ab_term.specs.Sameness.{same_numbered}
 use Rattle.ab_term.specs.Variables.{variables}
 use Rattle.ab_term.proofs.Same.{same_numbered-Decides}
-use Rattle.ab_closing.specs.ab_store.specs.Trees.{Read}
 use Rattle.ab_renumbering.specs.ab_solve.specs.Replacing.{holds}
 use Rattle.ab_renumbering.specs.ab_solve.specs.Meaning.{AreDifferent}
 use Rattle.ab_renumbering.specs.ab_cases.specs.Clauses.{Within}
@@ -23,9 +22,9 @@ use Rattle.ab_elaborate.specs.ab_building.proofs.HeadsKept.{heads_kept}
 use Rattle.ab_elaborate.specs.ab_building.proofs.Normalising.{normal_form_typed}
 use Rattle.ab_elaborate.specs.ab_building.proofs.ReadHeads.{ordinary_binders}
 use Rattle.ab_elaborate.specs.ab_walking.specs.Occurrences.{free_names}
-use Rattle.ab_closing.specs.ab_clauses.specs.Kept.{ClauseVariable, Clause}
-use Rattle.ab_closing.specs.ab_clauses.specs.Cases.{in_terms}
-use Rattle.ab_closing.specs.ab_clauses.specs.Proposed.{IsProposed}
+use Rattle.ab_formulas.specs.Kept.{ClauseVariable, Clause}
+use Rattle.ab_formulas.specs.Cased.{in_terms}
+use Rattle.ab_formulas.specs.Proposed.{IsProposed}
 use Rattle.ab_closing.specs.Closed.{kept_clause}
 use Rattle.ab_clausal.specs.Readings.{Parts, ClauseReading}
 use Rattle.ab_clausal.specs.Meanings.{variable_names, variable_from, variables_from, is_under_nabla, IsKeptAs}

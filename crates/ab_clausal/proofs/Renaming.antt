@@ -2,23 +2,22 @@
 use Rattle.std.specs.Prelude.{Ok, not}
 use Rattle.std.proofs.Common.{◌≡◌, ◌↔◌, ℕ, suc, ◌+◌, ◌-◌, Bool, List, [], ◌∷◌, map, refl, sym, ap, ◌∙◌, subst, arith}
 use Rattle.ab_term.specs.Types.{Ty}
-use Rattle.ab_term.specs.Terms.{Head, constant, logical, nominal, variable, index, lam, spine}
+use Rattle.ab_term.specs.Terms.{Head, constant, logical, nominal, variable, index, lam, spine, Read}
 use Rattle.ab_term.specs.Typing.{Signature}
 use Rattle.ab_term.specs.Beta.{atom, abstraction, application}
 use Rattle.ab_term.specs.Variables.{variables}
 use Rattle.ab_term.specs.Sameness.{same_number}
 use Rattle.ab_term.specs.Translation.{translate_head}
 use Rattle.ab_grammar.specs.CommandTrees as written
-use Rattle.ab_closing.specs.ab_store.specs.Trees.{Read}
 use Rattle.ab_renumbering.specs.ab_solve.proofs.Agreeing.{contains_holds}
 use Rattle.ab_renumbering.proofs.Changes.{agreeing}
 use Rattle.ab_elaborate.specs.ab_readings.specs.Names.{Name, Resolved, free, known}
 use Rattle.ab_elaborate.specs.ab_readings.specs.Readings.{Raw, Making, Reads, reads_bound, reads_known, reads_free, reads_apply, reads_abs, reads_equal, reads_bind, equation, bound_term}
 use Rattle.ab_elaborate.specs.ab_readings.specs.Normal.{normal_form}
 use Rattle.ab_elaborate.specs.ab_building.specs.Heads.{KnownAre}
-use Rattle.ab_closing.specs.ab_clauses.specs.Kept.{ClauseVariable, Clause}
-use Rattle.ab_closing.specs.ab_clauses.specs.Cases.{case_of}
-use Rattle.ab_closing.specs.ab_clauses.specs.Faults.{IsRight, HasFault}
+use Rattle.ab_formulas.specs.Kept.{ClauseVariable, Clause}
+use Rattle.ab_formulas.specs.Cased.{case_of}
+use Rattle.ab_formulas.specs.Faults.{IsRight, HasFault}
 use Rattle.ab_closing.specs.Closed.{kept_clause}
 use Rattle.ab_clausal.specs.Readings.{Parts, ClauseReading, HasOneReading}
 use Rattle.ab_clausal.specs.Numbers.{AreOne}

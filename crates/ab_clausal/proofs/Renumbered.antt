@@ -3,7 +3,7 @@ use Rattle.std.proofs.Common.{◌≡◌, ℕ, zero, suc, Bool, true, false, cond
 use Rattle.std.specs.Prelude.{not, filter, Contains}
 use Rattle.ab_term.specs.Types.{Ty, kind, arrow}
 use Rattle.ab_term.specs.Logical.{truth, falsity, conjunction, disjunction, implication, equality, universal, existential, nabla, judgement, focused_judgement, star, at_sign, plus, hash, spec_universal, spec_implication, spec_conjunction}
-use Rattle.ab_term.specs.Terms.{Variable, Head, constant, logical, nominal, variable, index, lam, spine, Terms, no_terms, term}
+use Rattle.ab_term.specs.Terms.{Variable, Head, constant, logical, nominal, variable, index, lam, spine, Terms, no_terms, term, Read}
 use Rattle.ab_term.specs.Typing.{Signature, head_type}
 use Rattle.ab_term.specs.Substitution.{shift_head, instance, reduce}
 use Rattle.ab_term.specs.Expansion.{expansion_of}
@@ -15,7 +15,6 @@ use Rattle.ab_term.specs.Closing.{close_head, close, close_all}
 use Rattle.ab_term.proofs.Lists.{Contains-here}
 use Rattle.ab_term.proofs.Translations.{translate-instance, translate-expansion_of}
 use Rattle.std.proofs.lemmas.List.Elements.{Contains-append_left, Contains-append_right}
-use Rattle.ab_closing.specs.ab_store.specs.Trees.{Read}
 use Rattle.ab_renumbering.specs.ab_solve.specs.Replacing.{Cell, holds, occurs}
 use Rattle.ab_renumbering.specs.ab_cases.specs.Clauses as cases
 use Rattle.ab_renumbering.specs.ab_cases.specs.Clauses.{numbered, put_together}
@@ -23,8 +22,8 @@ use Rattle.ab_renumbering.specs.ab_cases.specs.Prefixes.{prefix, opened, predica
 use Rattle.ab_renumbering.proofs.Tests.{numbered_moved, head_moved, shift_moved, occurs_moved}
 use Rattle.ab_elaborate.specs.ab_readings.specs.Readings.{Raw}
 use Rattle.ab_elaborate.specs.ab_readings.specs.Normal.{left_type, given_all, long_form, normal_given, normal_form}
-use Rattle.ab_closing.specs.ab_clauses.specs.Kept.{ClauseVariable, Clause}
-use Rattle.ab_closing.specs.ab_clauses.specs.Cases.{in_terms, cell_of, case_of}
+use Rattle.ab_formulas.specs.Kept.{ClauseVariable, Clause}
+use Rattle.ab_formulas.specs.Cased.{in_terms, cell_of, case_of}
 use Rattle.ab_closing.specs.Quantified.{exists_over, exists_all}
 use Rattle.ab_closing.specs.Closed.{stands_in_body_alone, kept_clause}
 

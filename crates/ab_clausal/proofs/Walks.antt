@@ -4,14 +4,14 @@ use Rattle.std.proofs.Common.{◌≡◌, ℕ, List, [], ◌∷◌, map, length, 
 use Rattle.ab_term.specs.Types.{Ty, arrow, prop}
 use Rattle.ab_term.specs.Logical.{truth}
 use Rattle.ab_term.specs.Terms as tree
-use Rattle.ab_term.specs.Terms.{Term, spine, no_terms, term, terms_of}
+use Rattle.ab_term.specs.Terms.{Term, spine, no_terms, term, terms_of, Read}
 use Rattle.ab_closing.specs.ab_types.specs.Entries.{Table, IsExtendedBy}
 use Rattle.ab_closing.specs.ab_types.specs.Ids.{HoldsType, type_of}
 use Rattle.ab_closing.specs.ab_types.specs.declared.ids.TypeId.{TypeId}
 use Rattle.ab_closing.specs.ab_store.specs.declared.node.TermId.{TermId}
 use Rattle.ab_closing.specs.ab_store.specs.declared.node.Head.TheVariants.{Nominal, Logic}
 use Rattle.ab_closing.specs.ab_store.specs.declared.node.Logical.TheVariants.{True}
-use Rattle.ab_closing.specs.ab_store.specs.Trees.{Read, Contents}
+use Rattle.ab_closing.specs.ab_store.specs.Trees.{Contents}
 use Rattle.ab_closing.specs.ab_store.specs.Naming.{IsTypedBy}
 use Rattle.ab_elaborate.specs.ab_readings.specs.Names.{Name, known, apply}
 use Rattle.ab_elaborate.specs.ab_readings.specs.Scopes.{Scope, Found, made_of_both}

@@ -1,12 +1,12 @@
 -- Head and body as one expression: a constant joins them to a formula. Only private contracts speak of this.
 use Rattle.std.specs.Prelude.{◌≡◌, ℕ, ◌+◌, ◌<◌, List, [], length, get_or, Result, Ok, Err}
 use Rattle.ab_term.specs.Types.{Ty, arrow, prop}
-use Rattle.ab_term.specs.Terms.{Head, nominal}
+use Rattle.ab_term.specs.Terms.{Head, nominal, Read}
 use Rattle.ab_closing.specs.ab_types.specs.Entries.{Table, signature}
 use Rattle.ab_closing.specs.ab_types.specs.declared.ids.TypeId.{TypeId}
 use Rattle.ab_closing.specs.ab_store.specs.declared.node.CellId.{CellId}
 use Rattle.ab_closing.specs.ab_store.specs.declared.node.TermId.{TermId}
-use Rattle.ab_closing.specs.ab_store.specs.Trees.{Read, Contents, HoldsCell, cell_of, Holds, tree_of}
+use Rattle.ab_closing.specs.ab_store.specs.Trees.{Contents, HoldsCell, cell_of, Holds, tree_of}
 use Rattle.ab_elaborate.specs.ab_readings.specs.Names.{Name, Resolved, known, apply}
 use Rattle.ab_elaborate.specs.ab_readings.specs.Scopes.{Found, made_of_both}
 use Rattle.ab_closing.specs.ab_clauses.specs.declared.kept.ClauseTerm.{ClauseTerm}

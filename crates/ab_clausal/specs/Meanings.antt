@@ -4,9 +4,8 @@
 use Rattle.std.specs.Prelude.{◌≡◌, ℕ, zero, suc, ◌+◌, List, [], ◌∷◌, ◌++◌, Bool, true, false, not, bytes_eq, if◌then◌else◌, Option, Some, None, Result, Ok, Err}
 use Rattle.ab_term.specs.Types.{Ty, prop}
 use Rattle.ab_term.specs.Logical.{truth, nabla}
-use Rattle.ab_term.specs.Terms.{Head, logical, variable, lam, spine}
+use Rattle.ab_term.specs.Terms.{Head, logical, variable, lam, spine, Read}
 use Rattle.ab_term.specs.Typing.{Signature}
-use Rattle.ab_closing.specs.ab_store.specs.Trees.{Read}
 use Rattle.ab_grammar.specs.Tree.{Tree}
 use Rattle.ab_grammar.specs.CommandTrees as written
 use Rattle.ab_renumbering.specs.ab_cases.specs.Clauses as cases
@@ -18,8 +17,8 @@ use Rattle.ab_elaborate.specs.ab_infer.specs.declared.fault.InferFault.{InferFau
 use Rattle.ab_elaborate.specs.ab_infer.specs.declared.fault.InferFault.TheVariants.{Unknown, TypeClash, Untyped, Memory}
 use Rattle.ab_elaborate.specs.Judgements.{HasNoJudgement}
 use Rattle.ab_elaborate.specs.ab_walking.specs.Occurrences.{free_names, with_names}
-use Rattle.ab_closing.specs.ab_clauses.specs.Kept.{ClauseVariable, Clause}
-use Rattle.ab_closing.specs.ab_clauses.specs.Cases.{case_of}
+use Rattle.ab_formulas.specs.Kept.{ClauseVariable, Clause}
+use Rattle.ab_formulas.specs.Cased.{case_of}
 use Rattle.ab_closing.specs.Closed.{kept_clause}
 use Rattle.ab_clausal.specs.Readings.{Parts, HasOneReading, HasNoReading, IsFirstOpen}
 

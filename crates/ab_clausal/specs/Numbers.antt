@@ -1,8 +1,8 @@
 -- Clauses that are one but for the numbers of their variables.
 use Rattle.std.specs.Prelude.{◌≡◌, ◌↔◌, ℕ, List}
-use Rattle.ab_closing.specs.ab_clauses.specs.Kept.{Clause}
-use Rattle.ab_closing.specs.ab_clauses.specs.Cases.{case_of}
-use Rattle.ab_closing.specs.ab_clauses.specs.Faults.{Fault, IsRight, HasFault}
+use Rattle.ab_formulas.specs.Kept.{Clause}
+use Rattle.ab_formulas.specs.Cased.{case_of}
+use Rattle.ab_formulas.specs.Faults.{Fault, IsRight, HasFault}
 
 -- THE CLAUSES ARE ONE: they are the same clause of case analysis, and whatever predicates are defined they have the same faults
 pub record AreOne (k l : Clause) : Type 0 where

@@ -4,7 +4,7 @@ ghost use Rattle.ab_term.specs.Types.{Ty};
 ghost use Rattle.ab_closing.specs.ab_types.specs.Entries.{Table, kinds, signature};
 ghost use Rattle.ab_closing.specs.ab_types.specs.Sound.{IsTable};
 ghost use Rattle.ab_grammar.specs.CommandTrees as written;
-ghost use Rattle.ab_closing.specs.ab_clauses.specs.Kept.{Clause as AClause};
+ghost use Rattle.ab_formulas.specs.Kept.{Clause as AClause};
 ghost use Rattle.ab_clausal.specs.Readings.{Parts};
 ghost use Rattle.ab_clausal.specs.Meanings.{parts_found, body_type, IsKeptAs};
 ghost use Rattle.ab_clausal.specs.Numbers.{AreOne};

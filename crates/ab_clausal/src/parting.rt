@@ -1,9 +1,9 @@
 //! Terms that are taken apart.
 ghost use Rattle.std.specs.Prelude.{◌≡◌, ℕ, MatchOption};
 ghost use Rattle.ab_term.specs.Terms as tree;
-ghost use Rattle.ab_term.specs.Terms.{spine, no_terms, term};
+ghost use Rattle.ab_term.specs.Terms.{spine, no_terms, term, Read};
 ghost use Rattle.ab_closing.specs.ab_types.specs.Entries.{Table};
-ghost use Rattle.ab_closing.specs.ab_store.specs.Trees.{Read, Holds, tree_of};
+ghost use Rattle.ab_closing.specs.ab_store.specs.Trees.{Holds, tree_of};
 ghost use Rattle.ab_clausal.specs.Joining.{IsPair};
 ghost use Rattle.ab_clausal.specs.Meanings as meanings;
 

@@ -6,14 +6,14 @@ use Rattle.std.proofs.lemmas.List.Elements.{All-head, All-tail, All-more}
 use Rattle.ab_fits.specs.ab_types.specs.Entries.{Table}
 use Rattle.ab_fits.specs.ab_types.specs.declared.ids.ConstId.{ConstId}
 use Rattle.ab_fits.specs.ab_store.specs.Trees.{Contents}
-use Rattle.ab_clauses.specs.Kept.{Clause}
-use Rattle.ab_clauses.specs.Faults.{Fault, IsRight, HasFault, FirstFault, here, later, IsRightBlock, IsFaultOf}
+use Rattle.ab_formulas.specs.Kept.{Clause}
+use Rattle.ab_formulas.specs.Faults.{Fault, IsRight, HasFault, FirstFault, here, later, IsRightBlock, IsFaultOf}
 use Rattle.ab_clauses.specs.Readings.{name_of, clause_of, block_of}
 use Rattle.ab_clauses.specs.declared.kept.ClauseTerm.{ClauseTerm}
 use Rattle.ab_clauses.specs.declared.kept.Block.{Block}
 use Rattle.ab_clauses.specs.declared.faults.ClauseFault.{ClauseFault}
-use Rattle.ab_clauses.proofs.Single.{no_fault}
-use Rattle.ab_clauses.proofs.Walks.{all_so_far}
+use Rattle.ab_formulas.proofs.Single.{no_fault}
+use Rattle.ab_formulas.proofs.ClausesWalks.{all_so_far}
 
 pub fault_at : (ps : List (List ℕ)) (n : ℕ) (cs : List Clause) (i : ℕ) (d : Clause) (f : Fault) → i < length cs → All (IsRight ps) (take i cs)
     → HasFault ps (i + n) (get_or cs i d) f → FirstFault ps n cs f

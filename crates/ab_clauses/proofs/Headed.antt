@@ -3,7 +3,7 @@ use Rattle.std.proofs.Common.{◌≡◌, ◌≢◌, ◌↔◌, ℕ, List, [], �
 use Rattle.std.specs.List.{All, list_any}
 use Rattle.ab_term.specs.Types.{Ty}
 use Rattle.ab_term.specs.Logical as plain
-use Rattle.ab_term.specs.Terms.{logical, lam, spine, Terms, term, terms_of}
+use Rattle.ab_term.specs.Terms.{logical, lam, spine, Terms, term, terms_of, Read}
 use Rattle.ab_fits.specs.ab_types.specs.Entries.{Table}
 use Rattle.ab_fits.specs.ab_types.specs.Ids.{type_of}
 use Rattle.ab_fits.specs.ab_types.specs.declared.ids.ConstId.{ConstId}
@@ -14,11 +14,12 @@ use Rattle.ab_fits.specs.ab_store.specs.declared.node.Head.TheVariants.{Const, L
 use Rattle.ab_fits.specs.ab_store.specs.declared.node.Logical.TheVariants.{Nabla}
 use Rattle.ab_fits.specs.ab_store.specs.declared.node.Node.{Node}
 use Rattle.ab_fits.specs.ab_store.specs.declared.node.Node.TheVariants.{Spine}
-use Rattle.ab_fits.specs.ab_store.specs.Trees.{Read, Contents, tree_of, node_tree}
-use Rattle.ab_clauses.specs.Heads.{in_the_atom, KeepsNames, AllKeepNames, IsHeadOf}
+use Rattle.ab_fits.specs.ab_store.specs.Trees.{Contents, tree_of, node_tree}
+use Rattle.ab_formulas.specs.Heads.{in_the_atom, KeepsNames, AllKeepNames, IsHeadOf}
 use Rattle.ab_clauses.specs.Readings.{name_of}
 use Rattle.ab_clauses.proofs.Keeping.{all_keep, each_keeps}
-use Rattle.ab_clauses.proofs.Names.{any_contains, contains_any}
+use Rattle.ab_formulas.proofs.Names.{contains_any}
+use Rattle.ab_clauses.proofs.Names.{any_contains}
 
 module _ (ps : List (List ℕ)) where
   -- a quantifier that is given anything but one term

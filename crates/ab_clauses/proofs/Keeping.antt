@@ -2,15 +2,15 @@
 use Rattle.std.proofs.Common.{◌≡◌, ◌↔◌, ℕ, suc, ◌+◌, List, [], ◌∷◌, map, Bool, true, arith, sym, ap, ◌∙◌, subst}
 use Rattle.std.specs.List.{All}
 use Rattle.std.proofs.lemmas.List.Elements.{All-nil, All-cons, All-head, All-tail}
-use Rattle.ab_term.specs.Terms.{terms_of}
+use Rattle.ab_term.specs.Terms.{terms_of, Read}
 use Rattle.ab_fits.specs.ab_types.specs.Entries.{Table}
 use Rattle.ab_fits.specs.ab_types.specs.declared.ids.TypeId.{TypeId}
 use Rattle.ab_fits.specs.ab_store.specs.declared.node.TermId.{TermId}
 use Rattle.ab_fits.specs.ab_store.specs.declared.node.Head.{Head}
 use Rattle.ab_fits.specs.ab_store.specs.declared.node.Node.{Node}
 use Rattle.ab_fits.specs.ab_store.specs.declared.node.Node.TheVariants.{Lam, Spine}
-use Rattle.ab_fits.specs.ab_store.specs.Trees.{Read, Contents, tree_of, head_reading, node_tree}
-use Rattle.ab_clauses.specs.Heads.{Place, KeepsNames, AllKeepNames, IsNoPrefixName, place_under}
+use Rattle.ab_fits.specs.ab_store.specs.Trees.{Contents, tree_of, head_reading, node_tree}
+use Rattle.ab_formulas.specs.Heads.{Place, KeepsNames, AllKeepNames, IsNoPrefixName, place_under}
 
 pub all_keep : (p : Place) (k : ℕ) (f : TermId → Read) (ts : List TermId) → All (λ t. KeepsNames p k (f t)) ts → AllKeepNames p k (terms_of (map f ts))
 all_keep p k f [] h = tt

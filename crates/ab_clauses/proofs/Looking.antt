@@ -3,15 +3,15 @@ use Rattle.std.proofs.Common.{◌≡◌, ℕ, zero, suc, ◌+◌, ◌<◌, ◌�
 use Rattle.std.specs.List.{list_any}
 use Rattle.std.specs.Option.{option_or}
 use Rattle.std.proofs.lemmas.List.Folds.{find-append}
-use Rattle.ab_term.specs.Terms.{terms_of}
+use Rattle.ab_term.specs.Terms.{terms_of, Read}
 use Rattle.ab_fits.specs.ab_types.specs.Entries.{Table}
 use Rattle.ab_fits.specs.ab_types.specs.declared.ids.TypeId.{TypeId}
 use Rattle.ab_fits.specs.ab_store.specs.declared.node.TermId.{TermId}
 use Rattle.ab_fits.specs.ab_store.specs.declared.node.Head.{Head}
 use Rattle.ab_fits.specs.ab_store.specs.declared.node.Node.{Node}
 use Rattle.ab_fits.specs.ab_store.specs.declared.node.Node.TheVariants.{Lam, Spine}
-use Rattle.ab_fits.specs.ab_store.specs.Trees.{Read, Contents, tree_of, head_reading, node_tree}
-use Rattle.ab_clauses.specs.Stratification.{Part, constants, constants_of_all, own_constant, part_of_first}
+use Rattle.ab_fits.specs.ab_store.specs.Trees.{Contents, tree_of, head_reading, node_tree}
+use Rattle.ab_formulas.specs.Stratification.{Part, constants, constants_of_all, own_constant, part_of_first}
 use Rattle.ab_clauses.specs.Looked.{first_of}
 
 pub first_of-append : (ps xs ys : List (List ℕ)) → first_of ps (xs ++ ys) ≡ option_or (first_of ps xs) (first_of ps ys)

@@ -5,13 +5,14 @@ use Rattle.std.proofs.lemmas.List.Elements.{All-nil, All-cons, All-head, All-tai
 use Rattle.std.proofs.lemmas.Bool.Decides.{Decides-eqb}
 use Rattle.std.proofs.lemmas.Slice.Eq.{bytes_eq-Decides}
 use lib.Dec.{eqb}
-use Rattle.ab_term.proofs.Lists.{Contains-none, Contains-here, Contains-there, Contains-cases}
+use Rattle.ab_term.proofs.Lists.{Contains-here, Contains-there}
 use Rattle.ab_fits.specs.ab_types.specs.Entries.{Table}
 use Rattle.ab_fits.specs.ab_types.specs.Ids.{HoldsConstant, constant_of}
 use Rattle.ab_fits.specs.ab_types.specs.declared.ids.ConstId.{ConstId}
-use Rattle.ab_clauses.specs.Stratification.{AvoidAll, IsFirstOf}
+use Rattle.ab_formulas.specs.Stratification.{AvoidAll, IsFirstOf}
 use Rattle.ab_clauses.specs.Readings.{name_of}
 use Rattle.ab_clauses.specs.Looked.{first_of}
+pub use Rattle.ab_formulas.proofs.Names.{contains_any, past, not_avoided, one_before, one_first}
 
 module _ (types : Table) (unique : (a b : ConstId) → HoldsConstant types a → HoldsConstant types b → (constant_of types a).name ≡ (constant_of types b).name → a ≡ b) (c : ConstId) (held : HoldsConstant types c) where
   same_test : (p : ConstId) → HoldsConstant types p → eqb p.0 c.0 ≡ bytes_eq (name_of types c) (name_of types p)
@@ -43,15 +44,6 @@ any_contains c (p ∷ ps) e = go (bytes_eq c p) refl (any_contains c ps) e
     go true f later g = subst (Contains (p ∷ ps)) (sym ((bytes_eq-Decides c p).0 f)) (Contains-here p ps)
     go false f later g = Contains-there p ps c (later g)
 
-pub contains_any : (c : List ℕ) (ps : List (List ℕ)) → Contains ps c → list_any (bytes_eq c) ps ≡ true
-contains_any c [] m = absurd (Contains-none c m)
-contains_any c (p ∷ ps) m = go (bytes_eq c p) refl (contains_any c ps) (Contains-cases p ps c m)
-  where
-    go : (b : Bool) → bytes_eq c p ≡ b → (Contains ps c → list_any (bytes_eq c) ps ≡ true) → (p ≡ c) ⊎ Contains ps c → (b || list_any (bytes_eq c) ps) ≡ true
-    go true f later d = refl
-    go false f later (inl e) = absurd (let q : false ≡ true = sym f ∙ (bytes_eq-Decides c p).1 (sym e) in cc)
-    go false f later (inr d) = later d
-
 -- the first that is found
 
 pub none_found : (ps names : List (List ℕ)) → first_of ps names ≡ None → AvoidAll ps names
@@ -79,22 +71,3 @@ one_found ps (n ∷ names) p e = go (list_any (bytes_eq n) ps) refl (one_found p
           none_before = All-cons (λ c. ¬ Contains ps c) n rest.before (λ m. absurd (let q : false ≡ true = sym f ∙ contains_any n ps m in cc)) rest.none_before;
           is_one = rest.is_one;
         }
-
--- none of them is one where one is
-past : (ps : List (List ℕ)) (p : List ℕ) (after before : List (List ℕ)) → Contains ps p → AvoidAll ps (before ++ p ∷ after) → ⊥
-past ps p after [] c h = All-head (λ c. ¬ Contains ps c) p after h c
-past ps p after (b ∷ bs) c h = past ps p after bs c (All-tail (λ c. ¬ Contains ps c) b (bs ++ p ∷ after) h)
-
-pub not_avoided : (ps names : List (List ℕ)) (p : List ℕ) → IsFirstOf ps names p → AvoidAll ps names → ⊥
-not_avoided ps names p first all = past ps p first.after first.before first.is_one (subst (AvoidAll ps) first.whole all)
-
-one_before : (ps : List (List ℕ)) (p q : List ℕ) (after end a b : List (List ℕ)) → Contains ps p → Contains ps q → AvoidAll ps a → AvoidAll ps b → a ++ p ∷ after ≡ b ++ q ∷ end → p ≡ q
-one_before ps p q after end [] [] m n h k e = cc
-one_before ps p q after end [] (y ∷ b) m n h k e = let same : p ≡ y = cc in absurd (All-head (λ c. ¬ Contains ps c) y b k (subst (Contains ps) same m))
-one_before ps p q after end (x ∷ a) [] m n h k e = let same : x ≡ q = cc in absurd (All-head (λ c. ¬ Contains ps c) x a h (subst (Contains ps) (sym same) n))
-one_before ps p q after end (x ∷ a) (y ∷ b) m n h k e =
-    let rest : a ++ p ∷ after ≡ b ++ q ∷ end = cc in
-    one_before ps p q after end a b m n (All-tail (λ c. ¬ Contains ps c) x a h) (All-tail (λ c. ¬ Contains ps c) y b k) rest
-
-pub one_first : (ps names : List (List ℕ)) (p q : List ℕ) → IsFirstOf ps names p → IsFirstOf ps names q → p ≡ q
-one_first ps names p q f g = one_before ps p q f.after g.after f.before g.before f.is_one g.is_one f.none_before g.none_before (sym f.whole ∙ g.whole)

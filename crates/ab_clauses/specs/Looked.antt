@@ -4,8 +4,8 @@ use Rattle.std.specs.List.{list_any}
 use Rattle.ab_fits.specs.ab_types.specs.Entries.{Table}
 use Rattle.ab_fits.specs.ab_store.specs.Trees.{Contents, tree_of}
 use Rattle.ab_fits.specs.ab_store.specs.declared.node.TermId.{TermId}
-use Rattle.ab_clauses.specs.Stratification.{Part, everywhere, left_of_arrows, constants}
-use Rattle.ab_clauses.specs.Heads.{Place, in_the_atom, under_a_variable, KeepsNames}
+use Rattle.ab_formulas.specs.Stratification.{Part, everywhere, left_of_arrows, constants}
+use Rattle.ab_formulas.specs.Heads.{Place, in_the_atom, under_a_variable, KeepsNames}
 use Rattle.ab_clauses.specs.declared.looked.Spot.{Spot}
 use Rattle.ab_clauses.specs.declared.looked.Cleared.{Cleared}
 use Rattle.ab_clauses.specs.declared.looked.Spots.{Spots}

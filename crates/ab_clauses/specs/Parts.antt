@@ -1,6 +1,6 @@
 -- The program's words for parts and places.
-use Rattle.ab_clauses.specs.Stratification as plain
-use Rattle.ab_clauses.specs.Heads as heads
+use Rattle.ab_formulas.specs.Stratification as plain
+use Rattle.ab_formulas.specs.Heads as heads
 use Rattle.ab_clauses.specs.declared.stratified.Part.{Part}
 use Rattle.ab_clauses.specs.declared.stratified.Part.TheVariants.{Everywhere, LeftOfArrows}
 use Rattle.ab_clauses.specs.declared.heads.Place.{Place}

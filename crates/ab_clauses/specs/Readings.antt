@@ -5,8 +5,8 @@ use Rattle.ab_fits.specs.ab_types.specs.Ids.{type_of, constant_of, HoldsConstant
 use Rattle.ab_fits.specs.ab_types.specs.declared.ids.ConstId.{ConstId}
 use Rattle.ab_fits.specs.ab_store.specs.Trees.{Contents, Holds, HoldsCell, cell_of, tree_of}
 use Rattle.ab_fits.specs.ab_store.specs.declared.node.CellId.{CellId}
-use Rattle.ab_clauses.specs.Kept.{ClauseVariable, Clause, Block}
-use Rattle.ab_clauses.specs.Faults.{Fault, bad_head, not_stratified}
+use Rattle.ab_formulas.specs.Kept.{ClauseVariable, Clause, Block}
+use Rattle.ab_formulas.specs.Faults.{Fault, bad_head, not_stratified}
 use Rattle.ab_clauses.specs.declared.kept.ClauseTerm.{ClauseTerm}
 use Rattle.ab_clauses.specs.declared.kept.Block.{Block as KeptBlock}
 use Rattle.ab_clauses.specs.declared.faults.ClauseFault.{ClauseFault}

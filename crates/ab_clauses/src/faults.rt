@@ -2,7 +2,7 @@
 ghost use Rattle.std.specs.Prelude.{◌≡◌, ◌↔◌, map, Option, Some, None, IfOk, IfSome, OnOk, All};
 ghost use Rattle.ab_fits.specs.ab_types.specs.Ids.{HoldsConstant};
 ghost use Rattle.ab_fits.specs.ab_store.specs.Naming.{IsTypedBy};
-ghost use Rattle.ab_clauses.specs.Faults.{IsRight, HasFault, IsRightBlock, IsFaultOf};
+ghost use Rattle.ab_formulas.specs.Faults.{IsRight, HasFault, IsRightBlock, IsFaultOf};
 ghost use Rattle.ab_clauses.specs.Readings.{name_of, fault_of, clause_of, block_of, HoldsFault, HoldsClause, HoldsBlock};
 ghost use Rattle.ab_clauses.specs.Looked.{AreClear, AreKeeping};
 ghost use Rattle.ab_clauses.specs.declared.faults.ClauseFault.{ClauseFault as AFault};

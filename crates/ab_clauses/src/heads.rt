@@ -5,7 +5,7 @@ ghost use Rattle.ab_fits.specs.ab_types.specs.Ids.{HoldsConstant};
 ghost use Rattle.ab_fits.specs.ab_store.specs.declared.node.CellEntry.{CellEntry};
 ghost use Rattle.ab_fits.specs.ab_store.specs.Trees.{Holds, tree_of, head_in};
 ghost use Rattle.ab_fits.specs.ab_store.specs.Naming.{IsTypedBy};
-ghost use Rattle.ab_clauses.specs.Heads.{KeepsNames, IsNoPrefixName, place_under, IsHeadOf, in_the_atom};
+ghost use Rattle.ab_formulas.specs.Heads.{KeepsNames, IsNoPrefixName, place_under, IsHeadOf, in_the_atom};
 ghost use Rattle.ab_clauses.specs.Readings.{name_of};
 ghost use Rattle.ab_clauses.specs.Looked.{AreKeeping};
 ghost use Rattle.ab_clauses.specs.Parts.{place_of};

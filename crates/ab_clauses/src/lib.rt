@@ -5,7 +5,6 @@ pub mod below;
 mod faults;
 mod heads;
 mod kept;
-pub mod laws;
 mod looked;
 mod stratified;
 

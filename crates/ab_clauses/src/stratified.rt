@@ -8,7 +8,7 @@ ghost use Rattle.ab_fits.specs.ab_store.specs.declared.node.CellEntry.{CellEntry
 ghost use Rattle.ab_fits.specs.ab_store.specs.Trees.{Holds, tree_of, head_in};
 ghost use Rattle.ab_fits.specs.ab_store.specs.Naming.{IsTypedBy, HeadIsTyped};
 ghost use Rattle.ab_term.specs.Terms.{terms_of};
-ghost use Rattle.ab_clauses.specs.Stratification.{constants, constants_of_all, own_constant, part_of_first};
+ghost use Rattle.ab_formulas.specs.Stratification.{constants, constants_of_all, own_constant, part_of_first};
 ghost use Rattle.ab_clauses.specs.Readings.{name_of};
 ghost use Rattle.ab_clauses.specs.Looked.{AreClear, first_of};
 ghost use Rattle.ab_clauses.specs.Parts.{part_of};

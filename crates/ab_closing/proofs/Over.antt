@@ -3,7 +3,7 @@ use Rattle.std.proofs.Common.{◌≡◌, ℕ, zero, suc, ◌+◌, ◌-◌, ◌<�
 use Rattle.std.proofs.lemmas.List.{drop_more}
 use Rattle.ab_term.specs.Closing as closing
 use Rattle.ab_term.specs.Logical.{existential}
-use Rattle.ab_term.specs.Terms.{logical, lam, spine, no_terms, term, terms_of}
+use Rattle.ab_term.specs.Terms.{logical, lam, spine, no_terms, term, terms_of, Read}
 use Rattle.ab_patterns.specs.ab_types.specs.Entries.{Table}
 use Rattle.ab_patterns.specs.ab_types.specs.Ids.{type_of}
 use Rattle.ab_patterns.specs.ab_types.specs.declared.ids.TypeId.{TypeId}
@@ -11,7 +11,7 @@ use Rattle.ab_patterns.specs.ab_store.specs.declared.node.TermId.{TermId}
 use Rattle.ab_patterns.specs.ab_store.specs.declared.node.CellId.{CellId}
 use Rattle.ab_patterns.specs.ab_store.specs.declared.node.CellEntry.{CellEntry}
 use Rattle.ab_patterns.specs.ab_store.specs.declared.node.Head.TheVariants.{Cell}
-use Rattle.ab_patterns.specs.ab_store.specs.Trees.{Read, Contents, tree_of, head_reading, cell_of, cell_in}
+use Rattle.ab_patterns.specs.ab_store.specs.Trees.{Contents, tree_of, head_reading, cell_of, cell_in}
 use Rattle.ab_patterns.specs.ab_store.specs.Growth.{IsExtendedBy}
 use Rattle.ab_patterns.specs.ab_store.specs.Naming.{IsTypedBy}
 use Rattle.ab_patterns.specs.ab_store.proofs.Growing.{extended_on}

@@ -1,9 +1,9 @@
 -- How a clause is kept. Which variables stand in a term is said of normal forms.
 use Rattle.std.specs.Prelude.{List, Bool, true, false, ◌&&◌, not, filter}
 use Rattle.ab_patterns.specs.ab_solve.specs.Replacing.{occurs}
-use Rattle.ab_patterns.specs.ab_store.specs.Trees.{Read}
-use Rattle.ab_clauses.specs.Kept.{ClauseVariable, Clause}
-use Rattle.ab_clauses.specs.Cases.{in_terms}
+use Rattle.ab_term.specs.Terms.{Read}
+use Rattle.ab_formulas.specs.Kept.{ClauseVariable, Clause}
+use Rattle.ab_formulas.specs.Cased.{in_terms}
 use Rattle.ab_closing.specs.Quantified.{exists_all}
 
 -- the variable stands in the body, and not in the head

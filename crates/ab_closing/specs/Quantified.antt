@@ -1,11 +1,10 @@
 -- Formulas under `exists` over variables, which become the bound names.
 use Rattle.std.specs.Prelude.{zero, List, [], ◌∷◌}
 use Rattle.ab_term.specs.Logical.{existential}
-use Rattle.ab_term.specs.Terms.{logical, variable, lam, spine, no_terms, term}
+use Rattle.ab_term.specs.Terms.{logical, variable, lam, spine, no_terms, term, Read}
 use Rattle.ab_term.specs.Closing.{close}
-use Rattle.ab_patterns.specs.ab_store.specs.Trees.{Read}
-use Rattle.ab_clauses.specs.Kept.{ClauseVariable}
-use Rattle.ab_clauses.specs.Cases.{in_terms}
+use Rattle.ab_formulas.specs.Kept.{ClauseVariable}
+use Rattle.ab_formulas.specs.Cased.{in_terms}
 
 -- `exists x, t` for the variable; the hint is its name
 abbrev pub exists_over : ClauseVariable → Read → Read

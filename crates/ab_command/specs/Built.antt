@@ -1,7 +1,6 @@
 -- The commands that are built, of all that the grammar has.
 use Rattle.std.specs.Prelude.{◌≡◌, ℕ, All}
-use Rattle.ab_grammar.specs.CommandTrees.{Command, kinds, constants, define, theorem, specification, show, quit, subgoals, back, reset, undo, abort, in_proof}
-use Rattle.ab_grammar.specs.CommandTrees.{ProofCommand, intros, induction, coinduction, split, split_all, left, right, exists, unfold_goal, case, apply, backchain, assert, clear, rename, permute, search, cut, inst, monotone}
+use Rattle.ab_grammar.specs.CommandTrees.{Command, kinds, constants, define, theorem, specification, show, quit, subgoals, back, reset, undo, abort, in_proof, ProofCommand, intros, induction, coinduction, split, split_all, left, right, exists, unfold_goal, case, apply, backchain, assert, clear, rename, permute, search, cut, inst, monotone}
 use Rattle.ab_command.specs.Judgements.{HasNoJudgement, InstanceHasNoJudgement, ClauseHasNoJudgement}
 
 -- A proof command, read from so many tokens: `search` is built without its depth alone, of a word and a full stop.

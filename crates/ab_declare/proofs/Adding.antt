@@ -5,7 +5,8 @@ use Rattle.std.proofs.lemmas.List.{map-append}
 use Rattle.std.proofs.lemmas.List.{take-append-drop, take_more}
 use Rattle.ab_term.specs.Types.{Ty}
 use Rattle.ab_sentences.specs.ab_types.specs.Entries as table
-use Rattle.ab_sentences.specs.ab_types.specs.Entries.{Table, Entry, kinds, types, constants, names, constant, IsExtendedBy, FindsOrAdds}
+use Rattle.ab_term.specs.Constants.{names, constant}
+use Rattle.ab_sentences.specs.ab_types.specs.Entries.{Table, Entry, kinds, types, constants, IsExtendedBy, FindsOrAdds}
 use Rattle.ab_sentences.specs.ab_types.specs.Ids.{HoldsType, type_of}
 use Rattle.ab_sentences.specs.ab_types.specs.declared.ids.TypeId.{TypeId}
 use Rattle.ab_sentences.specs.ab_types.proofs.Entries.{kinds-append, constants-append, names-append, holds_type, same_type}

@@ -7,7 +7,8 @@ use Rattle.std.proofs.lemmas.List.Elements.{All-nil, All-cons, All-head, All-tai
 use Rattle.ab_term.specs.Typing.{Signature}
 use Rattle.ab_term.proofs.Lists.{Contains-map}
 use Rattle.ab_sentences.specs.ab_types.specs.Entries as table
-use Rattle.ab_sentences.specs.ab_types.specs.Entries.{Table, Constant, constant, kinds, constants, names, signature, type_in, IsExtendedBy}
+use Rattle.ab_term.specs.Constants.{Constant, constant, names, type_in}
+use Rattle.ab_sentences.specs.ab_types.specs.Entries.{Table, kinds, constants, signature, IsExtendedBy}
 use Rattle.ab_sentences.specs.ab_types.specs.Ids.{HoldsConstant, constant_of}
 use Rattle.ab_sentences.specs.ab_types.specs.Sound.{IsTable}
 use Rattle.ab_sentences.specs.ab_types.specs.declared.ids.ConstId.{ConstId}
@@ -15,15 +16,15 @@ use Rattle.ab_sentences.specs.ab_types.proofs.Entries.{kinds-append, constants-a
 use Rattle.ab_sentences.specs.ab_store.specs.Trees.{Contents}
 use Rattle.ab_grammar.specs.CommandTrees as command
 use Rattle.ab_grammar.specs.CommandTrees.{Defined, Clause}
-use Rattle.ab_sentences.specs.ab_clauses.specs.Kept as kept
-use Rattle.ab_sentences.specs.ab_clauses.specs.Cases.{case_of}
-use Rattle.ab_sentences.specs.ab_clauses.specs.Faults.{IsRightBlock, IsFaultOf, bad_head, not_stratified}
-use Rattle.ab_sentences.specs.ab_clauses.specs.Proposed.{IsProposed}
+use Rattle.ab_formulas.specs.Kept as kept
+use Rattle.ab_formulas.specs.Cased.{case_of}
+use Rattle.ab_formulas.specs.Faults.{IsRightBlock, IsFaultOf, bad_head, not_stratified}
+use Rattle.ab_formulas.specs.Proposed.{IsProposed}
 use Rattle.ab_sentences.specs.ab_clauses.specs.Readings.{name_of, clause_of, block_of, HoldsBlock}
 use Rattle.ab_sentences.specs.ab_clauses.specs.declared.kept.Block.{Block as KeptBlock}
 use Rattle.ab_sentences.specs.ab_clauses.specs.declared.kept.ClauseTerm.{ClauseTerm}
 use Rattle.ab_clausal.specs.Growth.{AddsVariables}
-use Rattle.ab_sentences.specs.ab_logic.specs.Declarations.{Declarations, Block, a_block, block_in, constants_in, signature_in, constant_names}
+use Rattle.ab_formulas.specs.Declarations.{Declarations, Block, a_block, block_in, constants_in, signature_in, constant_names}
 use Rattle.ab_sentences.specs.ab_logic.specs.Defining.{IsFirstDefined, IsDefinable, IsDefineFault}
 use Rattle.ab_sentences.specs.ab_logic.specs.Growth.{Grows}
 use Rattle.ab_sentences.specs.ab_logic.specs.Worlds.{declared, declarations_of, defined, definition_of, IsWorld}
@@ -31,7 +32,7 @@ use Rattle.ab_sentences.specs.ab_logic.specs.declared.world.DefineFault.{DefineF
 use Rattle.ab_sentences.specs.ab_logic.specs.declared.world.DefineFault.TheVariants as define
 use Rattle.ab_sentences.specs.ab_logic.specs.declared.world.World.{World}
 use Rattle.ab_sentences.specs.ab_logic.proofs.Blocks.{declared_more}
-use Rattle.ab_sentences.specs.ab_logic.proofs.Declaring.{or_else, block_in-append, constants_in-append}
+use Rattle.ab_formulas.proofs.Declaring.{or_else, block_in-append, constants_in-append}
 use Rattle.ab_sentences.specs.ab_logic.proofs.Growing.{grows_on, grows_store, grows_types, same_constants}
 use Rattle.ab_effects.specs.Terms.{kinds_in}
 use Rattle.ab_declare.specs.declared.refusal.Refusal.{Refusal}

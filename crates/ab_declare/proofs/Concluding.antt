@@ -3,7 +3,8 @@ use Rattle.std.specs.Prelude.{◌≡◌, ℕ, List, [], ◌∷◌, ◌++◌, map
 use Rattle.std.proofs.Common.{refl, sym, ◌∙◌, ap, subst, append_assoc}
 use Rattle.ab_term.specs.Types.{Ty}
 use Rattle.ab_sentences.specs.ab_types.specs.Entries as table
-use Rattle.ab_sentences.specs.ab_types.specs.Entries.{Table, kinds, constants, names, constant, IsExtendedBy}
+use Rattle.ab_term.specs.Constants.{names, constant}
+use Rattle.ab_sentences.specs.ab_types.specs.Entries.{Table, kinds, constants, IsExtendedBy}
 use Rattle.ab_sentences.specs.ab_types.specs.Ids.{type_of}
 use Rattle.ab_sentences.specs.ab_types.specs.declared.ids.TypeId.{TypeId}
 use Rattle.ab_sentences.specs.ab_types.proofs.Entries.{kinds-append, constants-append}
@@ -14,8 +15,8 @@ use Rattle.ab_sentences.specs.ab_readings.specs.Types.{IsDeclarable, written_typ
 use Rattle.ab_clausal.specs.ab_infer.specs.WrittenTypes.{TypeAnswers}
 use Rattle.ab_clausal.specs.ab_infer.specs.declared.fault.InferFault.{InferFault}
 use Rattle.ab_clausal.specs.ab_infer.specs.declared.fault.InferFault.TheVariants as fault
-use Rattle.ab_sentences.specs.ab_store.specs.Trees.{Read}
-use Rattle.ab_sentences.specs.ab_logic.specs.Declarations.{a_constant}
+use Rattle.ab_term.specs.Terms.{Read}
+use Rattle.ab_formulas.specs.Declarations.{a_constant}
 use Rattle.ab_sentences.specs.ab_logic.specs.Worlds.{declared, IsWorld, declarations_of}
 use Rattle.ab_sentences.specs.ab_logic.specs.declared.world.World.{World}
 use Rattle.ab_sentences.specs.ab_logic.proofs.Declaring.{declared-append}

@@ -4,10 +4,11 @@ use Rattle.std.proofs.Common.{refl, sym, ◌∙◌, ap, arith, drop-drop}
 use Rattle.std.proofs.lemmas.List.{take-append-drop}
 use Rattle.ab_term.specs.Types.{Ty}
 use Rattle.ab_sentences.specs.ab_types.specs.Entries as table
-use Rattle.ab_sentences.specs.ab_types.specs.Entries.{Table, kinds, constants, names, constant}
+use Rattle.ab_term.specs.Constants.{names, constant}
+use Rattle.ab_sentences.specs.ab_types.specs.Entries.{Table, kinds, constants}
 use Rattle.ab_sentences.specs.ab_types.proofs.Entries.{kinds-append}
 use Rattle.ab_effects.specs.Terms.{kinds_in}
-use Rattle.ab_sentences.specs.ab_logic.specs.Declarations.{Declarations, a_kind, a_constant, a_block, a_program_clause, a_theorem, constants_in}
+use Rattle.ab_formulas.specs.Declarations.{Declarations, a_kind, a_constant, a_block, a_program_clause, a_theorem, constants_in}
 use Rattle.ab_sentences.specs.ab_logic.specs.Worlds.{declared, declaration_of, declared_from, declarations_of, CameInOrder, IsWorld}
 use Rattle.ab_sentences.specs.ab_logic.specs.declared.world.World.{World}
 use Rattle.ab_sentences.specs.ab_logic.specs.declared.additions.Added.{Added}

@@ -4,7 +4,8 @@ use Rattle.std.proofs.Common.{refl, sym, ◌∙◌, ap, subst}
 use Rattle.std.proofs.lemmas.List.Elements.{All-nil, All-cons, All-head, All-tail, All-weaker}
 use Rattle.ab_term.specs.Types.{Ty, prop}
 use Rattle.ab_term.specs.Typing.{Signature}
-use Rattle.ab_sentences.specs.ab_types.specs.Entries.{Table, kinds, constants, signature, type_in, IsExtendedBy}
+use Rattle.ab_term.specs.Constants.{type_in}
+use Rattle.ab_sentences.specs.ab_types.specs.Entries.{Table, kinds, constants, signature, IsExtendedBy}
 use Rattle.ab_sentences.specs.ab_types.specs.Ids.{type_of}
 use Rattle.ab_sentences.specs.ab_types.specs.Sound.{IsTable}
 use Rattle.ab_sentences.specs.ab_types.specs.declared.ids.TypeId.{TypeId}
@@ -20,11 +21,11 @@ use Rattle.ab_grammar.specs.CommandTrees.{Clause}
 use Rattle.ab_clausal.specs.ab_infer.specs.declared.fault.InferFault.{InferFault}
 use Rattle.ab_clausal.specs.ab_infer.specs.declared.fault.InferFault.TheVariants as fault
 use Rattle.ab_clausal.specs.ab_walking.specs.Rows.{Fails}
-use Rattle.ab_sentences.specs.ab_clauses.specs.Kept as kept
-use Rattle.ab_sentences.specs.ab_clauses.specs.Cases.{case_of}
-use Rattle.ab_sentences.specs.ab_clauses.specs.Faults.{Fault, IsRight, FirstFault}
-use Rattle.ab_sentences.specs.ab_clauses.specs.Faults as faults
-use Rattle.ab_sentences.specs.ab_clauses.specs.Proposed.{IsProposed}
+use Rattle.ab_formulas.specs.Kept as kept
+use Rattle.ab_formulas.specs.Cased.{case_of}
+use Rattle.ab_formulas.specs.Faults.{Fault, IsRight, FirstFault}
+use Rattle.ab_formulas.specs.Faults as faults
+use Rattle.ab_formulas.specs.Proposed.{IsProposed}
 use Rattle.ab_sentences.specs.ab_clauses.specs.Readings.{clause_of, HoldsClause}
 use Rattle.ab_sentences.specs.ab_clauses.specs.declared.kept.ClauseTerm.{ClauseTerm}
 use Rattle.ab_clausal.specs.Meanings.{parts_found, body_type, Finds, IsKeptAs, ClauseMeansNothing}

@@ -5,7 +5,8 @@ use Rattle.std.proofs.Common.{refl, sym, ◌∙◌, ap, subst, append_assoc, app
 use Rattle.std.proofs.lemmas.List.{map-append}
 use Rattle.std.proofs.lemmas.List.Elements.{All-nil, All-cons, All-head, All-tail, All-append, All-weaker}
 use Rattle.ab_term.specs.Types.{Ty}
-use Rattle.ab_sentences.specs.ab_types.specs.Entries.{Table, a_constant, Constant, constant, kinds, constants, names, IsExtendedBy}
+use Rattle.ab_term.specs.Constants.{Constant, constant, names}
+use Rattle.ab_sentences.specs.ab_types.specs.Entries.{Table, a_constant, kinds, constants, IsExtendedBy}
 use Rattle.ab_sentences.specs.ab_types.specs.Ids.{HoldsConstant, constant_of}
 use Rattle.ab_sentences.specs.ab_types.specs.declared.ids.ConstId.{ConstId}
 use Rattle.ab_sentences.specs.ab_types.proofs.Entries.{names-append, constants-append, kinds-append, holds_constant, same_constant}

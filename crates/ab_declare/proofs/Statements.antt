@@ -3,7 +3,8 @@ use Rattle.std.specs.Prelude.{◌≡◌, ℕ, List, [], ◌∷◌, ◌++◌, Non
 use Rattle.std.proofs.Common.{refl, sym, ◌∙◌, ap, subst, append-nil}
 use Rattle.ab_term.specs.Types.{prop}
 use Rattle.ab_term.specs.Typing.{HasType}
-use Rattle.ab_sentences.specs.ab_types.specs.Entries.{Table, kinds, constants, signature, type_in, IsExtendedBy}
+use Rattle.ab_term.specs.Constants.{type_in}
+use Rattle.ab_sentences.specs.ab_types.specs.Entries.{Table, kinds, constants, signature, IsExtendedBy}
 use Rattle.ab_sentences.specs.ab_types.proofs.Entries.{kinds-append, constants-append}
 use Rattle.ab_sentences.specs.ab_store.specs.declared.node.TermId.{TermId}
 use Rattle.ab_sentences.specs.ab_store.specs.Trees.{Contents, tree_of}
@@ -19,8 +20,8 @@ use Rattle.ab_clausal.specs.ab_infer.specs.declared.fault.InferFault.{InferFault
 use Rattle.ab_clausal.specs.ab_infer.specs.declared.fault.InferFault.TheVariants as fault
 use Rattle.ab_effects.specs.Terms.{made, MeansNothingIn}
 use Rattle.ab_effects.specs.Refusals as row
-use Rattle.ab_sentences.specs.ab_logic.specs.Declarations.{Declarations, signature_in, theorem_in}
-use Rattle.ab_sentences.specs.ab_logic.specs.Formulas.{IsSentence}
+use Rattle.ab_formulas.specs.Declarations.{Declarations, signature_in, theorem_in}
+use Rattle.ab_formulas.specs.Formulas.{IsSentence}
 use Rattle.ab_sentences.specs.ab_logic.specs.Growth.{Grows}
 use Rattle.ab_sentences.specs.ab_logic.specs.Worlds.{declared, declarations_of, IsWorld}
 use Rattle.ab_sentences.specs.ab_logic.specs.declared.world.World.{World}

@@ -5,8 +5,8 @@ use Rattle.ab_grammar.specs.CommandTrees.{Command, theorem}
 use Rattle.ab_sentences.specs.ab_types.specs.Entries as table
 use Rattle.ab_sentences.specs.ab_types.specs.Entries.{Table}
 use Rattle.ab_effects.specs.Terms.{kinds_in}
-use Rattle.ab_sentences.specs.ab_logic.specs.Declarations.{Declarations, constant_names, signature_in, theorem_in}
-use Rattle.ab_sentences.specs.ab_logic.specs.Formulas.{IsSentence}
+use Rattle.ab_formulas.specs.Declarations.{Declarations, constant_names, signature_in, theorem_in}
+use Rattle.ab_formulas.specs.Formulas.{IsSentence}
 use Rattle.ab_sentences.specs.ab_logic.specs.Growth.{Grows}
 use Rattle.ab_sentences.specs.ab_logic.specs.Worlds.{read, Holds, declared, declarations_of}
 use Rattle.ab_sentences.specs.ab_logic.specs.declared.world.World.{World}

@@ -8,8 +8,8 @@ use Rattle.ab_grammar.specs.Tree.{Tree}
 use Rattle.ab_grammar.specs.CommandTrees.{Command, Defined, Clause, kinds, constants, define, theorem, show}
 use Rattle.ab_sentences.specs.ab_readings.specs.Types.{IsDeclarable, written_type, type_place}
 use Rattle.ab_sentences.specs.ab_readings.specs.Scopes.{Scope, elsewhere}
-use Rattle.ab_sentences.specs.ab_store.specs.Trees.{Read}
-use Rattle.ab_sentences.specs.ab_logic.specs.Declarations.{Declarations, a_kind, a_constant, signature_in, constant_names, theorem_in}
+use Rattle.ab_term.specs.Terms.{Read}
+use Rattle.ab_formulas.specs.Declarations.{Declarations, a_kind, a_constant, signature_in, constant_names, theorem_in}
 use Rattle.ab_effects.specs.Terms.{kinds_in, MeansIn, MeansNothingIn}
 use Rattle.ab_effects.specs.Refusals as row
 use Rattle.ab_declare.specs.declared.refusal.Refusal.{Refusal}

@@ -4,15 +4,15 @@ use Rattle.std.specs.Prelude.{◌≡◌, ℕ, List, [], ◌∷◌, ◌++◌, map
 use Rattle.std.specs.List.{list_any}
 use Rattle.ab_term.specs.Types.{Ty, kind, arrow, prop}
 use Rattle.ab_term.specs.Typing.{Signature}
-use Rattle.ab_sentences.specs.ab_types.specs.Entries.{Constant, constant, names}
+use Rattle.ab_term.specs.Constants.{Constant, constant, names}
 use Rattle.ab_grammar.specs.CommandTrees.{Defined, Clause}
 use Rattle.ab_sentences.specs.ab_readings.specs.Types.{IsDeclarable, written_type, type_place}
 use Rattle.ab_clausal.specs.ab_infer.specs.declared.fault.InferFault.{InferFault}
-use Rattle.ab_sentences.specs.ab_clauses.specs.Kept as kept
-use Rattle.ab_sentences.specs.ab_clauses.specs.Faults.{Fault, bad_head, not_stratified, IsRightBlock, IsFaultOf}
+use Rattle.ab_formulas.specs.Kept as kept
+use Rattle.ab_formulas.specs.Faults.{Fault, bad_head, not_stratified, IsRightBlock, IsFaultOf}
 use Rattle.ab_clausal.specs.Readings.{Parts}
 use Rattle.ab_clausal.specs.Meanings.{parts_found, body_type, Finds, IsKeptAs, ClauseMeansNothing}
-use Rattle.ab_sentences.specs.ab_logic.specs.Declarations.{Declaration, Declarations, a_constant, a_block, signature_in, constant_names}
+use Rattle.ab_formulas.specs.Declarations.{Declaration, Declarations, a_constant, a_block, signature_in, constant_names}
 use Rattle.ab_sentences.specs.ab_logic.specs.Worlds.{defined}
 use Rattle.ab_effects.specs.Terms.{kinds_in}
 use Rattle.ab_declare.specs.declared.refusal.Refusal.{Refusal}

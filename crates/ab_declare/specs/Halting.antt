@@ -1,7 +1,8 @@
 -- What the steps of a definition leave, over a table and a store. Public contracts don't speak of this.
 use Rattle.std.specs.Prelude.{◌≡◌, ℕ, List, [], ◌∷◌, ◌++◌, map, None, Ok, Err, All}
 use Rattle.ab_term.specs.Types.{Ty, prop}
-use Rattle.ab_sentences.specs.ab_types.specs.Entries.{Table, kinds, constants, names, signature}
+use Rattle.ab_term.specs.Constants.{names}
+use Rattle.ab_sentences.specs.ab_types.specs.Entries.{Table, kinds, constants, signature}
 use Rattle.ab_sentences.specs.ab_types.specs.Ids.{HoldsConstant, constant_of}
 use Rattle.ab_sentences.specs.ab_types.specs.declared.ids.ConstId.{ConstId}
 use Rattle.ab_sentences.specs.ab_store.specs.Trees.{Contents}
@@ -9,7 +10,7 @@ use Rattle.ab_grammar.specs.CommandTrees.{Defined, Clause}
 use Rattle.ab_sentences.specs.ab_readings.specs.Types.{written_type}
 use Rattle.ab_clausal.specs.ab_infer.specs.declared.fault.InferFault.{InferFault}
 use Rattle.ab_clausal.specs.ab_infer.specs.declared.fault.InferFault.TheVariants as fault
-use Rattle.ab_sentences.specs.ab_clauses.specs.Proposed.{IsProposed}
+use Rattle.ab_formulas.specs.Proposed.{IsProposed}
 use Rattle.ab_sentences.specs.ab_clauses.specs.Readings.{clause_of, HoldsClause}
 use Rattle.ab_sentences.specs.ab_clauses.specs.declared.kept.ClauseTerm.{ClauseTerm}
 use Rattle.ab_clausal.specs.Meanings.{body_type, Finds, IsKeptAs}

@@ -1,7 +1,8 @@
 //! Constants that are declared.
 ghost use Rattle.std.specs.Prelude.{◌≡◌, ◌++◌, ℕ, List, map, IfOk, OnErr, MatchOption, Some, None};
-ghost use Rattle.ab_sentences.specs.ab_types.specs.Entries.{constants, constant, a_constant, IsExtendedBy};
-ghost use Rattle.ab_sentences.specs.ab_types.specs.Entries as table;
+ghost use Rattle.ab_term.specs.Constants.{constant};
+ghost use Rattle.ab_sentences.specs.ab_types.specs.Entries.{constants, a_constant, IsExtendedBy};
+ghost use Rattle.ab_term.specs.Constants as table;
 ghost use Rattle.ab_sentences.specs.ab_types.specs.Ids.{HoldsType, type_of};
 ghost use Rattle.ab_grammar.specs.CommandTrees as command;
 ghost use Rattle.ab_syntax.specs.Trees as trees;

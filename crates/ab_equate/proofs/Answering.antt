@@ -12,12 +12,14 @@ use Rattle.ab_term.specs.Typing.{Signature, HasType}
 use Rattle.ab_term.specs.Variables.{Substitution, image, one_by_one, IsTyped}
 use Rattle.ab_term.specs.Sameness.{same_number}
 use Rattle.ab_term.proofs.Lists.{Contains-none, Contains-here, Contains-there, Contains-cases, Contains-map, Contains-from_map, All-from_contains, AllPairs-none, AllPairs-parts}
-use Rattle.ab_naming.specs.ab_types.specs.Entries.{Table, signature, type_in}
+use Rattle.ab_term.specs.Constants.{type_in}
+use Rattle.ab_naming.specs.ab_types.specs.Entries.{Table, signature}
 use Rattle.ab_naming.specs.ab_store.specs.declared.node.TermId.{TermId}
 use Rattle.ab_naming.specs.ab_store.specs.declared.node.CellId.{CellId}
 use Rattle.ab_naming.specs.ab_store.specs.declared.node.CellEntry.{CellEntry}
 use Rattle.ab_naming.specs.ab_store.specs.declared.node.Equation.{Equation as Given}
-use Rattle.ab_naming.specs.ab_store.specs.Trees.{Read, Contents, HoldsCell, tree_of}
+use Rattle.ab_term.specs.Terms.{Read}
+use Rattle.ab_naming.specs.ab_store.specs.Trees.{Contents, HoldsCell, tree_of}
 use Rattle.ab_naming.specs.ab_store.specs.Reading.{cell_variable, binding_of, reading}
 use Rattle.ab_naming.specs.ab_store.specs.Bindings.{IsUnbound}
 use Rattle.ab_naming.specs.ab_store.specs.Naming.{IsTerm}
@@ -35,24 +37,23 @@ use Rattle.ab_solver.specs.ab_unifying.specs.Changed.{Grows, IsFree}
 use Rattle.ab_solver.specs.ab_unifying.proofs.Growth.{grown_term, grown_variable}
 use Rattle.ab_solver.specs.ab_unifying.proofs.Solved.{known_cells}
 use Rattle.ab_solver.specs.Answers.{AreNewCells, AreInAge, AreLeft}
-use Rattle.ab_naming.specs.ab_logic.specs.Formulas.{IsFormula}
-use Rattle.ab_naming.specs.ab_logic.specs.Declarations.{signature_in}
-use Rattle.ab_naming.specs.ab_logic.specs.Sequents.{Variable, Hypothesis, Sequent, formulas_of, in_terms}
-use Rattle.ab_naming.specs.ab_logic.specs.Sequents.{formulas as formulas_in}
+use Rattle.ab_formulas.specs.Formulas.{IsFormula}
+use Rattle.ab_formulas.specs.Declarations.{signature_in}
+use Rattle.ab_formulas.specs.Sequents.{Variable, Hypothesis, Sequent, formulas_of, in_terms, formulas as formulas_in}
 use Rattle.ab_naming.specs.ab_logic.specs.Worlds.{read, Holds, variable_of, declarations_of, IsWorld}
 use Rattle.ab_naming.specs.ab_logic.specs.Readings.{hypothesis_of, sequent_of, HoldsSequent}
-use Rattle.ab_naming.specs.ab_logic.specs.Names.{IsNamedFor}
+use Rattle.ab_formulas.specs.Names.{IsNamedFor}
 use Rattle.ab_naming.specs.ab_logic.specs.declared.world.World.{World}
 use Rattle.ab_naming.specs.ab_logic.specs.declared.sequent.Sequent.{Sequent as Kept}
 use Rattle.ab_naming.specs.ab_logic.specs.declared.sequent.Hypothesis.{Hypothesis as KeptHypothesis}
 use Rattle.ab_naming.specs.ab_logic.proofs.Declaring.{constants_are}
-use Rattle.ab_equate.specs.Solved.{stays, variables_from, made, Named, renaming, changed}
-use Rattle.ab_equate.specs.Cases.{Case, cell_for, Arises}
+use Rattle.ab_theory.specs.Equations.{stays, variables_from, made, Named, renaming, changed}
+use Rattle.ab_theory.specs.Splits.{Case, cell_for, Arises}
 use Rattle.ab_equate.specs.Meanwhile.{IsMeanwhile, AreFrom, count_before, hypothesis_read, goal_read, case_read, is_left, put_in, IsCarried}
-use Rattle.ab_equate.proofs.Renaming.{renaming_typed, renamed_numbers}
-use Rattle.ab_equate.proofs.Naming.{named_alike}
-use Rattle.ab_equate.proofs.Carried.{holds_contains, pairs_both, one_equation}
-use Rattle.ab_equate.proofs.AtOnce.{all_at_once}
+use Rattle.ab_theory.proofs.Renaming.{renaming_typed, renamed_numbers}
+use Rattle.ab_theory.proofs.Naming.{named_alike}
+use Rattle.ab_theory.proofs.Carried.{holds_contains, pairs_both, one_equation}
+use Rattle.ab_theory.proofs.AtOnce.{all_at_once}
 
 -- the cells from some number on, in order of age
 dropped : (types : Table) (cells : List CellEntry) (n : ℕ) (d : CellEntry) → n < length cells → drop n (map (cell_read types) cells) ≡ cell_read types (get_or cells n d) ∷ drop (suc n) (map (cell_read types) cells)

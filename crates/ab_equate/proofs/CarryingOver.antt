@@ -10,20 +10,21 @@ use Rattle.ab_term.proofs.InOrder.{one_by_one-append}
 use Rattle.ab_term.proofs.Lists.{AllPairs-none, AllPairs-parts}
 use Rattle.ab_naming.specs.ab_store.specs.declared.node.TermId.{TermId}
 use Rattle.ab_naming.specs.ab_store.specs.declared.node.CellId.{CellId}
-use Rattle.ab_naming.specs.ab_store.specs.Trees.{Read, Contents, HoldsCell}
+use Rattle.ab_term.specs.Terms.{Read}
+use Rattle.ab_naming.specs.ab_store.specs.Trees.{Contents, HoldsCell}
 use Rattle.ab_naming.specs.ab_store.specs.Reading.{binding_of}
 use Rattle.ab_naming.specs.ab_store.specs.Bindings.{IsUnbound}
 use Rattle.ab_naming.specs.ab_store.proofs.Kept.{unbound_above}
 use Rattle.ab_solver.specs.ab_unifying.specs.Problem.{cell_read}
-use Rattle.ab_naming.specs.ab_logic.specs.Sequents.{Variable, Hypothesis, Sequent}
+use Rattle.ab_formulas.specs.Sequents.{Variable, Hypothesis, Sequent}
 use Rattle.ab_naming.specs.ab_logic.specs.Worlds.{variable_of, declarations_of}
 use Rattle.ab_naming.specs.ab_logic.specs.Readings.{sequent_of, HoldsSequent}
-use Rattle.ab_naming.specs.ab_logic.specs.Names.{IsNamedFor}
+use Rattle.ab_formulas.specs.Names.{IsNamedFor}
 use Rattle.ab_naming.specs.ab_logic.specs.declared.world.World.{World}
 use Rattle.ab_naming.specs.ab_logic.specs.declared.sequent.Sequent.{Sequent as Kept}
-use Rattle.ab_equate.specs.Solved.{Named, renaming, changed}
+use Rattle.ab_theory.specs.Equations.{Named, renaming, changed}
 use Rattle.ab_equate.specs.Meanwhile.{IsMeanwhile, is_left, unbound_of, bound_in, put_in, StandForAll, IsPutIn, IsCarried}
-use Rattle.ab_equate.proofs.Renaming.{renamed_numbers}
+use Rattle.ab_theory.proofs.Renaming.{renamed_numbers}
 use Rattle.ab_equate.proofs.NewVariables.{bindings_within}
 use Rattle.ab_equate.proofs.PuttingIn.{left_variables}
 

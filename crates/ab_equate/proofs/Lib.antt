@@ -5,17 +5,6 @@ pub mod StandingAll
 pub mod Resolving
 pub mod PuttingIn
 pub mod CarryingOver
-pub mod Live
-pub mod Leaves
-pub mod Idempotent
-pub mod Renaming
-pub mod Carried
-pub mod Places
-pub mod Naming
-pub mod One
-pub mod Sides
 pub mod Restored
 pub mod Outcomes
-pub mod Splits
-pub mod AtOnce
 pub mod Answering

@@ -9,8 +9,8 @@ use Rattle.ab_naming.specs.ab_store.specs.Growth.{IsExtendedBy}
 use Rattle.ab_naming.specs.ab_store.specs.Naming.{BindingIsTyped, IsTypedBy}
 use Rattle.ab_naming.specs.ab_store.proofs.Putting.{pair}
 use Rattle.ab_naming.specs.ab_store.proofs.Agreeing.{Agree, Within, same_pairs}
-use Rattle.ab_naming.specs.ab_logic.specs.Sequents.{Variable, Sequent, in_terms, over}
-use Rattle.ab_equate.specs.Solved.{Naming, Named, variable_term, renaming}
+use Rattle.ab_formulas.specs.Sequents.{Variable, Sequent, in_terms, over}
+use Rattle.ab_theory.specs.Equations.{Naming, Named, variable_term, renaming}
 use Rattle.ab_equate.specs.Meanwhile.{over_all}
 use Rattle.std.proofs.lemmas.List.{map-append}
 use Rattle.std.proofs.lemmas.List.Elements.{All-weaker}

@@ -11,7 +11,7 @@ use Rattle.ab_naming.specs.ab_store.specs.declared.node.CellEntry.{CellEntry}
 use Rattle.ab_naming.specs.ab_store.specs.Trees.{Contents, Holds, HoldsCell, cell_in, tree_of}
 use Rattle.ab_naming.specs.ab_store.specs.Reading.{binding_of, reading}
 use Rattle.ab_solver.specs.ab_norm.specs.Growth.{AddsTerms}
-use Rattle.ab_naming.specs.ab_logic.specs.Sequents.{Hypothesis}
+use Rattle.ab_formulas.specs.Sequents.{Hypothesis}
 use Rattle.ab_naming.specs.ab_logic.specs.Worlds.{read, variable_of}
 use Rattle.ab_naming.specs.ab_logic.specs.Readings.{hypothesis_of, HoldsSequent}
 use Rattle.ab_naming.specs.ab_logic.specs.declared.world.World.{World}

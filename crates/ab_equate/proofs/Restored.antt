@@ -10,7 +10,7 @@ use Rattle.ab_naming.specs.ab_store.specs.declared.node.CellId.{CellId}
 use Rattle.ab_naming.specs.ab_store.specs.declared.node.CellEntry.{CellEntry}
 use Rattle.ab_naming.specs.ab_store.specs.declared.mark.Mark.{Mark}
 use Rattle.ab_naming.specs.ab_store.specs.declared.node.Node.{Node}
-use Rattle.ab_naming.specs.ab_logic.specs.Sequents.{Sequent}
+use Rattle.ab_formulas.specs.Sequents.{Sequent}
 use Rattle.ab_naming.specs.ab_store.specs.Trees.{Contents, cell_of}
 use Rattle.ab_naming.specs.ab_store.specs.Marks.{HasMark, KeepsMark}
 use Rattle.ab_naming.specs.ab_store.specs.Naming.{IsTypedBy}
@@ -19,7 +19,7 @@ use Rattle.ab_naming.specs.ab_store.proofs.Marking.{kept_on}
 use Rattle.ab_solver.specs.ab_unifying.specs.Problem.{cell_read, cells_read}
 use Rattle.ab_solver.specs.ab_unifying.specs.Changed.{Grows}
 use Rattle.ab_solver.specs.ab_unifying.proofs.Growth.{grown_type}
-use Rattle.ab_naming.specs.ab_logic.specs.Declarations.{HaveSentences, HaveDefinitions}
+use Rattle.ab_formulas.specs.Declarations.{HaveSentences, HaveDefinitions}
 use Rattle.ab_naming.specs.ab_logic.specs.Worlds.{read, Holds, HoldsCell, variable_of, declared, declared_from, declarations_of, CameInOrder, IsKept, IsWorld}
 use Rattle.ab_naming.specs.ab_logic.specs.Readings.{sequent_of, HoldsSequent}
 use Rattle.ab_naming.specs.ab_logic.specs.Growth as world

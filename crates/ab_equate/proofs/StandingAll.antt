@@ -12,14 +12,14 @@ use Rattle.ab_naming.specs.ab_store.specs.Reading.{bound_in as first_bound, pair
 use Rattle.ab_naming.specs.ab_store.specs.Growth.{IsExtendedBy}
 use Rattle.ab_naming.specs.ab_store.specs.Bindings.{IsUnbound}
 use Rattle.ab_solver.specs.ab_unifying.specs.Problem.{cell_read, cells_read}
-use Rattle.ab_naming.specs.ab_logic.specs.Sequents.{Variable, in_terms, over}
+use Rattle.ab_formulas.specs.Sequents.{Variable, in_terms, over}
 use Rattle.ab_naming.specs.ab_logic.specs.Worlds.{HoldsCell, variable_of, declarations_of}
 use Rattle.ab_naming.specs.ab_logic.specs.Readings.{sequent_of, HoldsSequent}
-use Rattle.ab_naming.specs.ab_logic.specs.Names.{IsNamedFor}
+use Rattle.ab_formulas.specs.Names.{IsNamedFor}
 use Rattle.ab_naming.specs.ab_logic.specs.declared.world.World.{World}
 use Rattle.ab_naming.specs.ab_logic.specs.declared.sequent.Sequent.{Sequent as Kept}
-use Rattle.ab_equate.specs.Solved.{variable_term, renaming}
-use Rattle.ab_equate.specs.Cases.{cell_for}
+use Rattle.ab_theory.specs.Equations.{variable_term, renaming}
+use Rattle.ab_theory.specs.Splits.{cell_for}
 use Rattle.ab_equate.specs.Meanwhile.{IsMeanwhile, GoesOn, bound_in, over_all, StandsFor, StandForAll}
 use Rattle.ab_equate.proofs.Going.{goes_on, same_declarations, goes_cells, goes_cell_ids, same_goal, still_goal}
 use Rattle.ab_equate.proofs.NewVariables.{pairs_extended, over_one_more, over_none, named_one_more, named_length, renaming_one_more}

@@ -17,13 +17,13 @@ use Rattle.ab_naming.specs.ab_store.specs.Growth.{IsExtendedBy}
 use Rattle.ab_naming.specs.ab_store.specs.Naming.{IsTypedBy, IsTerm}
 use Rattle.ab_naming.specs.ab_store.proofs.Cells.{numbered}
 use Rattle.ab_naming.specs.ab_store.proofs.Rebinding.{bound_others}
-use Rattle.ab_naming.specs.ab_logic.specs.Sequents.{Variable, in_terms, over}
+use Rattle.ab_formulas.specs.Sequents.{Variable, in_terms, over}
 use Rattle.ab_naming.specs.ab_logic.specs.Worlds.{variable_of, declarations_of}
 use Rattle.ab_naming.specs.ab_logic.specs.Readings.{sequent_of, HoldsSequent}
-use Rattle.ab_naming.specs.ab_logic.specs.Names.{IsNamedFor}
+use Rattle.ab_formulas.specs.Names.{IsNamedFor}
 use Rattle.ab_naming.specs.ab_logic.specs.declared.world.World.{World}
 use Rattle.ab_naming.specs.ab_logic.specs.declared.sequent.Sequent.{Sequent as Kept}
-use Rattle.ab_equate.specs.Solved.{variable_term}
+use Rattle.ab_theory.specs.Equations.{variable_term}
 use Rattle.ab_equate.specs.Meanwhile.{GoesOn, bound_in, StandsFor}
 use Rattle.ab_equate.proofs.Going.{variable_same, same_goal}
 use Rattle.ab_equate.proofs.NewVariables.{pairs_extended, pairs_bound}

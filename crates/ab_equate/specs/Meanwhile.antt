@@ -6,21 +6,22 @@ use Rattle.ab_term.specs.Sameness.{same_number}
 use Rattle.ab_naming.specs.ab_types.specs.Entries.{Table}
 use Rattle.ab_naming.specs.ab_store.specs.declared.node.CellId.{CellId}
 use Rattle.ab_naming.specs.ab_store.specs.declared.node.Equation.{Equation}
-use Rattle.ab_naming.specs.ab_store.specs.Trees.{Read, Contents, tree_of}
+use Rattle.ab_term.specs.Terms.{Read}
+use Rattle.ab_naming.specs.ab_store.specs.Trees.{Contents, tree_of}
 use Rattle.ab_naming.specs.ab_store.specs.Reading.{binding_of, pairs, reading}
 use Rattle.ab_naming.specs.ab_store.specs.Naming.{IsTypedBy}
 use Rattle.ab_solver.specs.ab_unifying.specs.Problem.{cells_read, variables_read, equations_read}
 use Rattle.ab_solver.specs.ab_unifying.specs.Changed.{Grows}
-use Rattle.ab_naming.specs.ab_logic.specs.Sequents.{Variable, Hypothesis, Sequent, in_terms, over}
+use Rattle.ab_formulas.specs.Sequents.{Variable, Hypothesis, Sequent, in_terms, over}
 use Rattle.ab_naming.specs.ab_logic.specs.Worlds.{variable_of, CameInOrder, IsKept, declarations_of}
 use Rattle.ab_naming.specs.ab_logic.specs.Readings.{sequent_of, HoldsSequent}
-use Rattle.ab_naming.specs.ab_logic.specs.Names.{IsNamedFor}
+use Rattle.ab_formulas.specs.Names.{IsNamedFor}
 use Rattle.ab_naming.specs.ab_logic.specs.declared.world.World.{World}
 use Rattle.ab_naming.specs.ab_logic.specs.declared.additions.Added.{Added}
 use Rattle.ab_naming.specs.ab_logic.specs.declared.sequent.Sequent.{Sequent as Kept}
 use Rattle.ab_naming.specs.ab_logic.specs.declared.sequent.Hypothesis.{Hypothesis as KeptHypothesis}
-use Rattle.ab_equate.specs.Solved.{Named, variable_term, renaming, changed}
-use Rattle.ab_equate.specs.Cases.{Case, cell_for}
+use Rattle.ab_theory.specs.Equations.{Named, variable_term, renaming, changed}
+use Rattle.ab_theory.specs.Splits.{Case, cell_for}
 
 -- all that is true of every world, but that no cell is bound
 pub record IsMeanwhile (w : World) : Type 0 where

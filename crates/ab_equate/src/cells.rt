@@ -5,7 +5,7 @@ ghost use Rattle.ab_solver.specs.ab_unifying.specs.Problem.{cells_read};
 ghost use Rattle.ab_naming.specs.ab_logic.specs.Readings.{HoldsSequent, sequent_of};
 ghost use Rattle.ab_naming.specs.ab_logic.specs.declared.world.World.{World};
 ghost use Rattle.ab_naming.specs.ab_logic.specs.declared.sequent.Sequent.{Sequent};
-ghost use Rattle.ab_equate.specs.Solved.{AreCells};
+ghost use Rattle.ab_theory.specs.Equations.{AreCells};
 ghost use Rattle.ab_equate.specs.Meanwhile.{unbound_of};
 
 use ab_naming::below::store::{CellId, Store};

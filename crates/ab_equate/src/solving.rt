@@ -1,15 +1,15 @@
 //! An equation of a goal, solved.
 ghost use Rattle.std.specs.Prelude.{◌≡◌, ◌≤◌, Ok};
 ghost use Rattle.ab_naming.specs.ab_logic.specs.Worlds.{IsWorld, read, declarations_of};
-ghost use Rattle.ab_naming.specs.ab_logic.specs.Names.{IsNamedFor};
-ghost use Rattle.ab_naming.specs.ab_logic.specs.Sequents.{IsSequent};
+ghost use Rattle.ab_formulas.specs.Names.{IsNamedFor};
+ghost use Rattle.ab_formulas.specs.Sequents.{IsSequent};
 ghost use Rattle.ab_naming.specs.ab_logic.specs.Readings.{HoldsSequent, sequent_of};
 ghost use Rattle.ab_naming.specs.ab_logic.specs.Growth.{Grows};
 ghost use Rattle.ab_naming.specs.ab_logic.specs.declared.sequent.Sequent.{Sequent as AGoal};
 ghost use Rattle.ab_solver.specs.ab_unifying.specs.Problem.{cells_read};
 ghost use Rattle.ab_solver.specs.Answers.{IsTypedPair};
 ghost use Rattle.ab_equate.specs.declared.solving.Solution.TheVariants.{Unified, Apart, Stuck};
-ghost use Rattle.ab_equate.specs.Solved.{Becomes, AreApart, AreStuck};
+ghost use Rattle.ab_theory.specs.Equations.{Becomes, AreApart, AreStuck};
 
 use crate::cases::{CaseSolution, solve_case};
 use ab_naming::below::logic::{Sequent, World};

@@ -4,10 +4,10 @@ ghost use Rattle.ab_naming.specs.ab_store.specs.Trees.{HoldsCell, tree_of};
 ghost use Rattle.ab_naming.specs.ab_store.specs.Bindings.{IsUnbound};
 ghost use Rattle.ab_naming.specs.ab_store.specs.Growth.{IsExtendedBy};
 ghost use Rattle.ab_naming.specs.ab_store.specs.Naming.{IsTypedBy, IsTerm};
-ghost use Rattle.ab_naming.specs.ab_logic.specs.Names.{IsNamedFor};
+ghost use Rattle.ab_formulas.specs.Names.{IsNamedFor};
 ghost use Rattle.ab_naming.specs.ab_logic.specs.Worlds.{declarations_of, variable_of};
 ghost use Rattle.ab_naming.specs.ab_logic.specs.Readings.{HoldsSequent, sequent_of};
-ghost use Rattle.ab_equate.specs.Solved.{variable_term};
+ghost use Rattle.ab_theory.specs.Equations.{variable_term};
 ghost use Rattle.ab_equate.specs.Meanwhile.{IsMeanwhile, GoesOn, StandsFor, StandForAll};
 
 use ab_naming::below::logic::{Sequent, World};

@@ -1,13 +1,13 @@
 -- A hypothesis or the conclusion gives way to a formula that comes of it, step by step.
 use Rattle.std.specs.Prelude.{Result, Ok, Err, IfOk, OnOk, OnErr}
 use Rattle.std.proofs.Common.{◌≡◌, ◌≢◌, ℕ, suc, length, Bool, true, List, [], ◌∷◌, ◌++◌, Option, Some, None, refl, sym, ◌∙◌, ap, subst, append_assoc}
-use Rattle.ab_left.specs.ab_store.specs.Trees.{Read}
-use Rattle.ab_left.specs.ab_logic.specs.Names.{given, Names}
-use Rattle.ab_left.specs.ab_logic.specs.Sequents.{Sequent, formula_of, proving, assuming, without}
+use Rattle.ab_term.specs.Terms.{Read}
+use Rattle.ab_formulas.specs.Names.{given, Names}
+use Rattle.ab_formulas.specs.Sequents.{Sequent, formula_of, proving, assuming, without}
 use Rattle.ab_left.specs.ab_logic.specs.declared.world.World.{World}
-use Rattle.ab_left.specs.ab_rules.specs.Steps.{initial, cut_formula}
+use Rattle.ab_theory.specs.Steps.{initial, cut_formula}
 use Rattle.ab_left.specs.ab_rules.specs.Terms.{Adds}
-use Rattle.ab_left.specs.ab_kernel.specs.Derivation.{History, open_goals}
+use Rattle.ab_theory.specs.Derivations.{History, open_goals}
 use Rattle.ab_left.specs.ab_kernel.specs.Layout.{Held, IsProof}
 use Rattle.ab_left.specs.ab_kernel.proofs.Later.{still_proof}
 use Rattle.ab_left.specs.ab_progress.proofs.Following.{follows_same, as_before}

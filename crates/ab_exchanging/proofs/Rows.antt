@@ -4,12 +4,12 @@ use Rattle.ab_term.specs.Names as tree
 use Rattle.ab_left.specs.ab_types.specs.Entries.{Table}
 use Rattle.ab_left.specs.ab_types.specs.Ids.{type_of}
 use Rattle.ab_left.specs.ab_types.specs.declared.ids.TypeId.{TypeId}
-use Rattle.ab_left.specs.ab_store.specs.Trees.{Read}
+use Rattle.ab_term.specs.Terms.{Read}
 use Rattle.ab_grammar.specs.CommandTrees as told
-use Rattle.ab_left.specs.ab_logic.specs.Declarations.{Declarations}
-use Rattle.ab_left.specs.ab_logic.specs.Names.{Label}
-use Rattle.ab_left.specs.ab_logic.specs.Sequents.{Sequent, formula_of, goal_names, proving, assuming, without}
-use Rattle.ab_left.specs.ab_permuting.specs.Cycles.{MayCycle, cycle}
+use Rattle.ab_formulas.specs.Declarations.{Declarations}
+use Rattle.ab_formulas.specs.Names.{Label}
+use Rattle.ab_formulas.specs.Sequents.{Sequent, formula_of, goal_names, proving, assuming, without}
+use Rattle.ab_formulas.specs.Cycles.{MayCycle, cycle}
 use Rattle.ab_left.specs.ab_permuting.specs.Standing.{IsCommon}
 use Rattle.ab_left.specs.ab_permuting.specs.declared.standing.Standing.{Standing}
 use Rattle.ab_left.specs.ab_permuting.specs.declared.standing.Standing.TheVariants.{Nowhere, At, Mixed}

@@ -1,5 +1,4 @@
 -- The exchange of nominal constants adds no words of its own.
-
 -- Libraries that the crates above name through this one.
 pub use Rattle.ab_left.specs.ab_logic
 pub use Rattle.ab_left.specs.ab_naming

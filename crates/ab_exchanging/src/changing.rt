@@ -1,7 +1,7 @@
 //! A hypothesis or the conclusion of the first goal gives way to a formula that comes of it.
 ghost use Rattle.std.specs.Prelude.{◌≡◌, ◌≢◌, ◌++◌, ◌∷◌, [], List, IfOk, IsTrue};
-ghost use Rattle.ab_left.specs.ab_store.specs.Trees.{Read};
-ghost use Rattle.ab_left.specs.ab_logic.specs.Sequents.{Sequent as AGoal, proving, assuming, without};
+ghost use Rattle.ab_term.specs.Terms.{Read};
+ghost use Rattle.ab_formulas.specs.Sequents.{Sequent as AGoal, proving, assuming, without};
 ghost use Rattle.ab_left.specs.ab_logic.specs.Worlds.{IsWorld, Holds, read};
 ghost use Rattle.ab_left.specs.ab_kernel.specs.Layout.{IsProof};
 ghost use Rattle.ab_left.specs.ab_progress.specs.Progress.{goals_of, IsAt, Follows};

@@ -2,7 +2,7 @@
 ghost use Rattle.std.specs.Prelude.{◌≡◌, ◌≢◌, [], Some, None, Err, IfOk, OnErr};
 ghost use Rattle.std.specs.Option.{option_copied};
 ghost use Rattle.ab_grammar.specs.CommandTrees as told;
-ghost use Rattle.ab_left.specs.ab_logic.specs.Names as plain;
+ghost use Rattle.ab_formulas.specs.Names as plain;
 ghost use Rattle.ab_left.specs.ab_logic.specs.Worlds.{IsWorld};
 ghost use Rattle.ab_left.specs.ab_kernel.specs.Layout.{history_of, IsProof};
 ghost use Rattle.ab_left.specs.ab_progress.specs.Applied.{IsApplied, IsRefused};

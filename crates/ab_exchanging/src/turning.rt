@@ -2,9 +2,9 @@
 ghost use Rattle.std.specs.Prelude.{◌≡◌, ◌≢◌, ◌∷◌, [], List, AllPairs, Ok, IfOk, OnOk, OnErr, true};
 ghost use Rattle.ab_term.specs.Names as tree;
 ghost use Rattle.ab_left.specs.ab_types.specs.Ids.{HoldsType, type_of};
-ghost use Rattle.ab_left.specs.ab_logic.specs.Sequents.{Sequent as AGoal, proving, assuming, without};
+ghost use Rattle.ab_formulas.specs.Sequents.{Sequent as AGoal, proving, assuming, without};
 ghost use Rattle.ab_left.specs.ab_logic.specs.Worlds.{IsWorld, Holds, read};
-ghost use Rattle.ab_left.specs.ab_permuting.specs.Cycles.{cycle};
+ghost use Rattle.ab_formulas.specs.Cycles.{cycle};
 ghost use Rattle.ab_left.specs.ab_rules.specs.Terms.{Adds};
 ghost use Rattle.ab_left.specs.ab_kernel.specs.Layout.{history_of, IsProof};
 ghost use Rattle.ab_left.specs.ab_progress.specs.Progress.{goals_of, Follows};

@@ -1,6 +1,5 @@
 mod Sets
 mod Bounds
-mod Walks
 mod Listed
 mod Contexts
 mod Members

@@ -4,7 +4,7 @@ use Rattle.std.specs.List.{All, list_any}
 use Rattle.std.proofs.lemmas.List.Elements.{All-nil, All-cons, All-head, All-tail, All-append}
 use Rattle.std.proofs.lemmas.Bool.Decides.{Decides-eqb}
 use lib.Dec.{eqb}
-use Rattle.ab_term.specs.Terms.{Variable, terms_of}
+use Rattle.ab_term.specs.Terms.{Variable, terms_of, Read}
 use Rattle.ab_term.specs.Variables.{variables, variables_of_head, variables_of_all}
 use Rattle.ab_term.proofs.Lists.{Contains-none, Contains-here, Contains-there, Contains-cases, Contains-map, Contains-from_map}
 use Rattle.ab_store.specs.ab_types.specs.Entries.{Table}
@@ -14,9 +14,9 @@ use Rattle.ab_store.specs.declared.node.CellId.{CellId}
 use Rattle.ab_store.specs.declared.node.Head.{Head}
 use Rattle.ab_store.specs.declared.node.Node.{Node}
 use Rattle.ab_store.specs.declared.node.Node.TheVariants.{Lam, Spine}
-use Rattle.ab_store.specs.Trees.{Read, Contents, tree_of, head_reading, node_tree}
+use Rattle.ab_store.specs.Trees.{Contents, tree_of, head_reading, node_tree}
 use Rattle.ab_fits.specs.Cells.{variable_of}
-use Rattle.ab_fits.specs.Fitting.{HoldsOnly}
+use Rattle.ab_formulas.specs.Fitting.{HoldsOnly}
 
 any_from_contains : (vs : List CellId) (c : CellId) → Contains vs c → list_any (λ (y : CellId). eqb y.0 c.0) vs ≡ true
 any_from_contains [] c m = absurd (Contains-none c m)

@@ -1,7 +1,8 @@
 -- Every table has the constant `member`.
 use Rattle.std.proofs.Common.{◌≡◌, Some, codes, Contains, refl, sym, ap, subst, arith}
 use Rattle.ab_term.specs.Types.{arrow, prop, o, olist}
-use Rattle.ab_store.specs.ab_types.specs.Entries.{Table, constants, names, signature}
+use Rattle.ab_term.specs.Constants.{names}
+use Rattle.ab_store.specs.ab_types.specs.Entries.{Table, constants, signature}
 use Rattle.ab_store.specs.ab_types.specs.Sound.{IsTable}
 
 pub has_member : (types : Table) → IsTable types → Contains (names (constants types)) (codes "member")

@@ -6,7 +6,7 @@ use Rattle.std.specs.BTreeMap.{get}
 use Rattle.std.proofs.lemmas.List.{map_more}
 use Rattle.std.proofs.lemmas.Bool.{cases_eq}
 use Rattle.std.proofs.lemmas.List.Elements.{All-contains, All-weaker, Contains-append_left, Contains-append_right, Contains-append_cases}
-use Rattle.ab_term.specs.Terms.{Nominal, terms_of}
+use Rattle.ab_term.specs.Terms.{Nominal, terms_of, Read}
 use Rattle.ab_term.specs.Names.{support, support_of_head, support_of_all}
 use Rattle.ab_term.proofs.Lists.{Contains-none, Contains-here, Contains-cases, All-from_contains}
 use Rattle.ab_store.specs.ab_types.specs.Entries.{Table}
@@ -18,11 +18,11 @@ use Rattle.ab_store.specs.declared.node.TermId.{TermId}
 use Rattle.ab_store.specs.declared.node.Head.{Head}
 use Rattle.ab_store.specs.declared.node.Node.{Node}
 use Rattle.ab_store.specs.declared.node.Node.TheVariants.{Lam, Spine}
-use Rattle.ab_store.specs.Trees.{Read, Contents, tree_of, head_reading, node_tree}
+use Rattle.ab_store.specs.Trees.{Contents, tree_of, head_reading, node_tree}
 use Rattle.ab_fits.specs.declared.numbers.Numbers.{Numbers}
 use Rattle.ab_fits.specs.Numbers.{Knows, AreKnown, Agree, Notes}
-use Rattle.ab_fits.specs.Fitting.{HasOneTypeEach, names_of}
-use Rattle.ab_fits.specs.Seen.{GainsOnly}
+use Rattle.ab_formulas.specs.Fitting.{HasOneTypeEach, names_of}
+use Rattle.ab_formulas.specs.Seen.{GainsOnly}
 use Rattle.ab_fits.proofs.Sets.{all_gained}
 
 -- fewer constants agree where more do

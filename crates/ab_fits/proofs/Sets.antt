@@ -10,7 +10,7 @@ use Rattle.ab_term.proofs.Lists.{Contains-here, Contains-there, Contains-cases, 
 use Rattle.std.proofs.lemmas.List.Elements.{All-contains}
 use Rattle.ab_store.specs.declared.node.TermId.{TermId}
 use Rattle.ab_fits.specs.declared.known.Typed.{Typed}
-use Rattle.ab_fits.specs.Seen.{GainsOnly}
+use Rattle.ab_formulas.specs.Seen.{GainsOnly}
 
 module _ {X : Type 0} (cmp : X → X → Ordering) (exact : CmpEqualImpliesEq cmp) where
   was_in : (ks : List X) (k a : X) → Contains (insert_key cmp ks k) a → Contains ks a ⊎ (a ≡ k)

@@ -2,14 +2,14 @@
 use Rattle.std.proofs.Common.{◌≡◌, ◌↔◌, List, [], ◌∷◌, map, Bool, true, sym, ap, ◌∙◌, subst}
 use Rattle.std.specs.List.{All}
 use Rattle.std.proofs.lemmas.List.Elements.{All-nil, All-cons, All-head, All-tail}
-use Rattle.ab_term.specs.Terms.{terms_of}
+use Rattle.ab_term.specs.Terms.{terms_of, Read}
 use Rattle.ab_store.specs.ab_types.specs.Entries.{Table}
 use Rattle.ab_store.specs.declared.node.TermId.{TermId}
 use Rattle.ab_store.specs.declared.node.Head.{Head}
 use Rattle.ab_store.specs.declared.node.Node.{Node}
 use Rattle.ab_store.specs.declared.node.Node.TheVariants.{Spine}
-use Rattle.ab_store.specs.Trees.{Read, Contents, tree_of, head_reading, node_tree}
-use Rattle.ab_fits.specs.Formulas.{Place, a_formula, IsRigid, places_of, StandsIn, AllStandIn}
+use Rattle.ab_store.specs.Trees.{Contents, tree_of, head_reading, node_tree}
+use Rattle.ab_formulas.specs.Formulas.{Place, a_formula, IsRigid, places_of, StandsIn, AllStandIn}
 
 all_stand : (p : Place) (f : TermId → Read) (ts : List TermId) → All (λ t. StandsIn p (f t)) ts → AllStandIn p (terms_of (map f ts))
 all_stand p f [] h = tt

@@ -1,9 +1,6 @@
 -- Formulas, and what may be put into a sequent: words on plain terms, which calls of this crate decide on ids.
 -- `Formulas` and `Fitting` have the words, `Cells` says what cells are read as; the others serve private contracts.
-pub mod Formulas
-pub mod Fitting
 pub mod Cells
-pub mod Seen
 pub mod Taking
 pub mod Numbers
 pub mod Places

@@ -1,5 +1,5 @@
 -- The program's places, as those of formulas. Public contracts don't speak of this.
-use Rattle.ab_fits.specs.Formulas as word
+use Rattle.ab_formulas.specs.Formulas as word
 use Rattle.ab_fits.specs.declared.formulas.Place.{Place}
 use Rattle.ab_fits.specs.declared.formulas.Place.TheVariants.{Formula, Scope, Marked, Any}
 

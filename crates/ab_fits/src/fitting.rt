@@ -6,8 +6,8 @@ ghost use Rattle.ab_store.specs.Trees.{Holds, tree_of};
 ghost use Rattle.ab_store.specs.Naming.{IsTypedBy};
 ghost use Rattle.ab_fits.specs.Cells.{variable_of};
 ghost use Rattle.ab_term.specs.Names.{support};
-ghost use Rattle.ab_fits.specs.Fitting.{Fits, HoldsOnly, HasOneTypeEach, names_of};
-ghost use Rattle.ab_fits.specs.Formulas.{IsFormula};
+ghost use Rattle.ab_formulas.specs.Fitting.{Fits, HoldsOnly, HasOneTypeEach, names_of};
+ghost use Rattle.ab_formulas.specs.Formulas.{IsFormula};
 ghost use Rattle.ab_term.specs.Types.{prop};
 
 use crate::formulas::is_formula;

@@ -4,7 +4,7 @@ ghost use Rattle.ab_store.specs.ab_types.specs.Entries.{Table, signature};
 ghost use Rattle.ab_store.specs.declared.node.CellEntry.{CellEntry};
 ghost use Rattle.ab_store.specs.Trees.{Holds, tree_of, logical_of, head_in};
 ghost use Rattle.ab_store.specs.Naming.{IsTypedBy};
-ghost use Rattle.ab_fits.specs.Formulas.{IsFormula, StandsIn, a_formula, a_marked, IsAtomic, IsRigid, places_of, places_of_constant};
+ghost use Rattle.ab_formulas.specs.Formulas.{IsFormula, StandsIn, a_formula, a_marked, IsAtomic, IsRigid, places_of, places_of_constant};
 ghost use Rattle.ab_fits.specs.Places.{place_of};
 
 use crate::built_in::built_in;

@@ -1,6 +1,6 @@
 //! Closed terms whose types are known.
 ghost use Rattle.std.specs.Prelude.{◌≡◌, true, Contains, OnOk};
-ghost use Rattle.ab_fits.specs.Seen.{GainsOnly};
+ghost use Rattle.ab_formulas.specs.Seen.{GainsOnly};
 
 use ab_store::TermId;
 use ab_store::below::types::TypeId;

@@ -6,7 +6,7 @@ ghost use Rattle.ab_store.specs.ab_types.specs.Entries.{Table};
 ghost use Rattle.ab_store.specs.ab_types.specs.Ids.{HoldsType, type_of};
 ghost use Rattle.ab_store.specs.Trees.{Contents, Holds, tree_of, head_reading};
 ghost use Rattle.ab_store.specs.Naming.{HeadIsTyped, IsTypedBy};
-ghost use Rattle.ab_fits.specs.Fitting.{HasOneTypeEach, names_of};
+ghost use Rattle.ab_formulas.specs.Fitting.{HasOneTypeEach, names_of};
 ghost use Rattle.ab_fits.specs.Numbers.{Knows, AreKnown, Notes};
 
 use crate::seen::{is_seen, see};

@@ -1,6 +1,6 @@
 //! Terms that were looked at.
 ghost use Rattle.std.specs.Prelude.{◌≡◌, true, Contains, OnOk};
-ghost use Rattle.ab_fits.specs.Seen.{GainsOnly};
+ghost use Rattle.ab_formulas.specs.Seen.{GainsOnly};
 
 use ab_store::TermId;
 use std::alloc::AllocError;

@@ -4,7 +4,7 @@ ghost use Rattle.ab_term.specs.Variables.{variables_of_head};
 ghost use Rattle.ab_store.specs.ab_types.specs.Entries.{Table};
 ghost use Rattle.ab_store.specs.Trees.{Contents, Holds, tree_of, head_reading};
 ghost use Rattle.ab_fits.specs.Cells.{variable_of};
-ghost use Rattle.ab_fits.specs.Fitting.{HoldsOnly};
+ghost use Rattle.ab_formulas.specs.Fitting.{HoldsOnly};
 
 use crate::seen::{is_seen, see};
 use ab_store::{CellId, Head, Node, Store, TermId};

@@ -7,10 +7,10 @@ use Rattle.ab_term.specs.Terms as tree
 use Rattle.ab_term.specs.Names.{support}
 use Rattle.ab_taking.specs.ab_norm.specs.Nominals.{nominal_of, HoldsNominal}
 use Rattle.ab_taking.specs.ab_norm.specs.declared.nominal.Nominal.{Nominal}
-use Rattle.ab_taking.specs.ab_store.specs.Trees.{Read}
+use Rattle.ab_term.specs.Terms.{Read}
 use Rattle.ab_declare.specs.ab_resolving.specs.Scoping.{HoldsCells}
 use Rattle.ab_taking.specs.ab_logic.specs.Readings.{hypothesis_of, sequent_of, HoldsSequent}
-use Rattle.ab_taking.specs.ab_logic.specs.Sequents.{goal_names, names_of}
+use Rattle.ab_formulas.specs.Sequents.{goal_names, names_of}
 use Rattle.ab_taking.specs.ab_logic.specs.Worlds.{read, IsWorld}
 use Rattle.ab_taking.specs.ab_logic.specs.declared.world.World.{World}
 use Rattle.ab_taking.specs.ab_logic.specs.declared.sequent.Sequent.{Sequent}

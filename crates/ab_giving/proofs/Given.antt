@@ -4,15 +4,14 @@ use Rattle.std.proofs.Common.{inl, inr, refl, sym, ◌∙◌, ap, subst, append-
 use Rattle.std.proofs.lemmas.List.{append_assoc}
 use Rattle.std.proofs.lemmas.List.Elements.{All-cons, All-nil, Contains-append_left, Contains-append_right, Contains-append_cases}
 use Rattle.ab_term.specs.Types.{Ty}
-use Rattle.ab_term.specs.Terms.{Nominal}
+use Rattle.ab_term.specs.Terms.{Nominal, Read}
 use Rattle.ab_term.specs.Names.{support}
-use Rattle.ab_taking.specs.ab_store.specs.Trees.{Read}
 use Rattle.ab_grammar.specs.CommandTrees.{Instance}
-use Rattle.ab_taking.specs.ab_logic.specs.Declarations.{Declarations, signature_in}
-use Rattle.ab_taking.specs.ab_logic.specs.Formulas.{HasOneTypeEach}
-use Rattle.ab_taking.specs.ab_logic.specs.Sequents.{Variable, Hypothesis, Sequent, Fits, formulas, goal_names, names_of, in_terms, assuming}
-use Rattle.ab_taking.specs.ab_logic.specs.Sequents as sequents
-use Rattle.ab_taking.specs.ab_using.specs.Pieces.{Piece, Given, type_named}
+use Rattle.ab_formulas.specs.Declarations.{Declarations, signature_in}
+use Rattle.ab_formulas.specs.Formulas.{HasOneTypeEach}
+use Rattle.ab_formulas.specs.Sequents.{Variable, Hypothesis, Sequent, Fits, formulas, goal_names, names_of, in_terms, assuming}
+use Rattle.ab_formulas.specs.Sequents as sequents
+use Rattle.ab_theory.specs.Pieces.{Piece, Given, type_named}
 use Rattle.ab_progress.specs.ab_effects.specs.Effect.{reading_each, giving}
 use Rattle.ab_progress.specs.ab_effects.specs.Refusals.{Refusal, unknown, wrong_shape}
 use Rattle.ab_progress.specs.ab_effects.specs.Row.{Row, leads, unless, Leads, Refuses}

@@ -4,7 +4,8 @@ use Rattle.std.proofs.Common.{refl, sym, ◌∙◌, ap, subst}
 use Rattle.ab_term.specs.Types.{Ty}
 use Rattle.ab_term.specs.Terms.{Nominal}
 use Rattle.ab_term.specs.Typing.{Signature}
-use Rattle.ab_taking.specs.ab_types.specs.Entries.{Table, constants, signature, type_in}
+use Rattle.ab_term.specs.Constants.{type_in}
+use Rattle.ab_taking.specs.ab_types.specs.Entries.{Table, constants, signature}
 use Rattle.ab_taking.specs.ab_types.specs.Sound.{IsTable}
 use Rattle.ab_taking.specs.ab_store.specs.declared.node.TermId.{TermId}
 use Rattle.ab_taking.specs.ab_store.specs.declared.node.CellId.{CellId}
@@ -21,9 +22,9 @@ use Rattle.ab_meanings.specs.ab_infer.specs.declared.fault.InferFault.TheVariant
 use Rattle.ab_declare.specs.ab_resolving.specs.Scoping.{entries_in}
 use Rattle.ab_declare.specs.ab_elaborate.specs.Scoping as elaborate
 use Rattle.ab_declare.specs.ab_elaborate.specs.declared.scope.Scope as given
-use Rattle.ab_taking.specs.ab_logic.specs.Declarations.{Declarations, signature_in}
-use Rattle.ab_taking.specs.ab_logic.specs.Formulas.{HasOneTypeEach}
-use Rattle.ab_taking.specs.ab_logic.specs.Sequents.{Sequent, goal_names}
+use Rattle.ab_formulas.specs.Declarations.{Declarations, signature_in}
+use Rattle.ab_formulas.specs.Formulas.{HasOneTypeEach}
+use Rattle.ab_formulas.specs.Sequents.{Sequent, goal_names}
 use Rattle.ab_taking.specs.ab_logic.specs.Worlds.{IsWorld, read, variable_of, declarations_of}
 use Rattle.ab_taking.specs.ab_logic.specs.declared.world.World.{World}
 use Rattle.ab_taking.specs.ab_logic.specs.declared.sequent.Sequent.{Sequent as Kept}

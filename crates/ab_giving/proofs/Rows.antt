@@ -5,24 +5,24 @@ use Rattle.std.proofs.lemmas.List.Elements.{All-head}
 use Rattle.ab_term.specs.Types.{Ty, prop}
 use Rattle.ab_grammar.specs.Tree.{Tree, place_of}
 use Rattle.ab_grammar.specs.CommandTrees as told
-use Rattle.ab_taking.specs.ab_store.specs.Trees.{Read}
+use Rattle.ab_term.specs.Terms.{Read}
 use Rattle.ab_taking.specs.ab_unifying.specs.Problem.{cells_read}
 use Rattle.ab_meanings.specs.ab_infer.specs.declared.fault.InferFault.{InferFault}
 use Rattle.ab_meanings.specs.ab_infer.specs.declared.fault.InferFault.TheVariants as infer
-use Rattle.ab_taking.specs.ab_logic.specs.Declarations.{Declarations, signature_in}
-use Rattle.ab_taking.specs.ab_logic.specs.Formulas.{IsFormula}
-use Rattle.ab_taking.specs.ab_logic.specs.Forms.{as_exists}
-use Rattle.ab_taking.specs.ab_logic.specs.Names.{Label}
+use Rattle.ab_formulas.specs.Declarations.{Declarations, signature_in}
+use Rattle.ab_formulas.specs.Formulas.{IsFormula}
+use Rattle.ab_formulas.specs.Forms.{as_exists}
+use Rattle.ab_formulas.specs.Names.{Label}
 use Rattle.ab_taking.specs.ab_logic.specs.Growth.{Grows}
-use Rattle.ab_taking.specs.ab_logic.specs.Sequents.{Sequent, IsSequent, Fits}
+use Rattle.ab_formulas.specs.Sequents.{Sequent, IsSequent, Fits}
 use Rattle.ab_taking.specs.ab_logic.specs.Worlds.{IsWorld, declarations_of}
 use Rattle.ab_taking.specs.ab_logic.specs.declared.world.World.{World}
-use Rattle.ab_progress.specs.ab_rules.specs.Steps.{exists_right, cut_formula}
-use Rattle.ab_progress.specs.ab_rules.specs.Rules.{NamedRule, Fails}
-use Rattle.ab_progress.specs.ab_kernel.specs.Derivation.{History, open_goals}
+use Rattle.ab_theory.specs.Steps.{exists_right, cut_formula}
+use Rattle.ab_theory.specs.Rules.{NamedRule, Fails}
+use Rattle.ab_theory.specs.Derivations.{History, open_goals}
 use Rattle.ab_progress.specs.ab_kernel.specs.Layout.{Held, history_of, IsProof}
 use Rattle.ab_progress.specs.ab_kernel.proofs.Later.{same_history, still_proof}
-use Rattle.ab_progress.specs.ab_kernel.proofs.Rooted.{open_are_sequents}
+use Rattle.ab_theory.proofs.Rooted.{open_are_sequents}
 use Rattle.ab_progress.specs.ab_effects.specs.Effect.{effect, clashing}
 use Rattle.ab_progress.specs.ab_effects.specs.Refusals.{type_clash}
 use Rattle.ab_progress.specs.ab_effects.specs.Row.{Leads}

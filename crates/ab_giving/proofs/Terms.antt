@@ -9,19 +9,19 @@ use Rattle.ab_taking.specs.ab_types.specs.declared.ids.TypeId.{TypeId}
 use Rattle.ab_taking.specs.ab_types.specs.Ids.{HoldsType, type_of}
 use Rattle.ab_taking.specs.ab_types.proofs.Entries.{same_type, holds_type}
 use Rattle.ab_term.specs.Types.{Ty}
-use Rattle.ab_taking.specs.ab_store.specs.Trees.{Read}
+use Rattle.ab_term.specs.Terms.{Read}
 use Rattle.ab_taking.specs.ab_store.specs.declared.node.TermId.{TermId}
 use Rattle.ab_grammar.specs.CommandTrees.{Instance}
-use Rattle.ab_taking.specs.ab_logic.specs.Declarations.{Declarations}
-use Rattle.ab_taking.specs.ab_logic.specs.Formulas.{HasOneTypeEach}
+use Rattle.ab_formulas.specs.Declarations.{Declarations}
+use Rattle.ab_formulas.specs.Formulas.{HasOneTypeEach}
 use Rattle.ab_taking.specs.ab_logic.specs.Growth.{Grows}
 use Rattle.ab_taking.specs.ab_logic.specs.Readings.{sequent_of, HoldsSequent}
-use Rattle.ab_taking.specs.ab_logic.specs.Sequents.{Sequent, Fits, goal_names, names_of}
+use Rattle.ab_formulas.specs.Sequents.{Sequent, Fits, goal_names, names_of}
 use Rattle.ab_taking.specs.ab_logic.specs.Worlds.{IsWorld, Holds, read, declarations_of}
 use Rattle.ab_taking.specs.ab_logic.specs.declared.world.World.{World}
 use Rattle.ab_taking.specs.ab_logic.specs.declared.sequent.Sequent.{Sequent as Kept}
 use Rattle.ab_taking.specs.ab_logic.proofs.Growing.{grows_not, grows_on, map_same, same_sequent}
-use Rattle.ab_taking.specs.ab_using.specs.Pieces.{Piece, Given, pieces, type_named}
+use Rattle.ab_theory.specs.Pieces.{Piece, Given, pieces, type_named}
 use Rattle.ab_taking.specs.Readings.{given_of}
 use Rattle.ab_taking.specs.declared.given.GivenTerm.{GivenTerm}
 use Rattle.ab_progress.specs.ab_effects.specs.Effect.{reading_each}

@@ -1,11 +1,11 @@
 -- Why a formula isn't derived first.
 use Rattle.std.specs.Prelude.{◌≡◌, ℕ}
 use Rattle.ab_term.specs.Types.{prop}
-use Rattle.ab_taking.specs.ab_store.specs.Trees.{Read}
-use Rattle.ab_taking.specs.ab_logic.specs.Declarations.{Declarations, signature_in}
-use Rattle.ab_taking.specs.ab_logic.specs.Formulas.{IsFormula}
-use Rattle.ab_taking.specs.ab_logic.specs.Names.{Label, NoName}
-use Rattle.ab_taking.specs.ab_logic.specs.Sequents.{Sequent, Fits}
+use Rattle.ab_term.specs.Terms.{Read}
+use Rattle.ab_formulas.specs.Declarations.{Declarations, signature_in}
+use Rattle.ab_formulas.specs.Formulas.{IsFormula}
+use Rattle.ab_formulas.specs.Names.{Label, NoName}
+use Rattle.ab_formulas.specs.Sequents.{Sequent, Fits}
 use Rattle.ab_progress.specs.declared.fault.ProofCommandFault.{ProofCommandFault}
 use Rattle.ab_progress.specs.declared.fault.ProofCommandFault.TheVariants.{TypeClash, NamesSpent, Memory}
 

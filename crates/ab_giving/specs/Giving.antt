@@ -2,15 +2,14 @@
 use Rattle.std.specs.Prelude.{◌≡◌, List, [], ◌∷◌, ◌++◌, map, Bool, false, ◌||◌, Some, None}
 use Rattle.ab_taking.specs.ab_types.specs.Ids.{HoldsType}
 use Rattle.ab_term.specs.Types.{Ty}
-use Rattle.ab_term.specs.Terms.{Nominal}
+use Rattle.ab_term.specs.Terms.{Nominal, Read}
 use Rattle.ab_term.specs.Names.{support}
-use Rattle.ab_taking.specs.ab_store.specs.Trees.{Read}
 use Rattle.ab_grammar.specs.CommandTrees.{Instance}
-use Rattle.ab_taking.specs.ab_logic.specs.Declarations.{Declarations}
-use Rattle.ab_taking.specs.ab_logic.specs.Sequents.{Sequent, Fits, names_of, assuming}
+use Rattle.ab_formulas.specs.Declarations.{Declarations}
+use Rattle.ab_formulas.specs.Sequents.{Sequent, Fits, names_of, assuming}
 use Rattle.ab_taking.specs.ab_logic.specs.Worlds.{Holds}
 use Rattle.ab_taking.specs.ab_logic.specs.declared.world.World.{World}
-use Rattle.ab_taking.specs.ab_using.specs.Pieces.{Piece, Given, type_named}
+use Rattle.ab_theory.specs.Pieces.{Piece, Given, type_named}
 use Rattle.ab_taking.specs.Readings.{given_of}
 use Rattle.ab_taking.specs.declared.given.GivenTerm.{GivenTerm}
 use Rattle.ab_progress.specs.ab_effects.specs.Effect.{giving}

@@ -5,8 +5,8 @@ use Rattle.ab_taking.specs.ab_store.specs.declared.node.TermId.{TermId}
 use Rattle.ab_grammar.specs.Tree.{Tree}
 use Rattle.ab_meanings.specs.ab_infer.specs.declared.fault.InferFault.{InferFault}
 use Rattle.ab_meanings.specs.ab_infer.specs.declared.fault.InferFault.TheVariants as infer
-use Rattle.ab_taking.specs.ab_logic.specs.Declarations.{Declarations}
-use Rattle.ab_taking.specs.ab_logic.specs.Sequents.{Sequent, Fits}
+use Rattle.ab_formulas.specs.Declarations.{Declarations}
+use Rattle.ab_formulas.specs.Sequents.{Sequent, Fits}
 use Rattle.ab_taking.specs.ab_logic.specs.Worlds.{read, Holds}
 use Rattle.ab_taking.specs.ab_logic.specs.declared.world.World.{World}
 use Rattle.ab_progress.specs.ab_effects.specs.Refusals.{unknown, type_clash, untyped}

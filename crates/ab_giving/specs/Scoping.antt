@@ -4,7 +4,7 @@ use Rattle.ab_term.specs.Terms as tree
 use Rattle.ab_term.specs.Names.{IsSupport}
 use Rattle.ab_taking.specs.ab_norm.specs.Nominals.{nominal_of, HoldsNominal}
 use Rattle.ab_taking.specs.ab_norm.specs.declared.nominal.Nominal.{Nominal}
-use Rattle.ab_taking.specs.ab_store.specs.Trees.{Read}
+use Rattle.ab_term.specs.Terms.{Read}
 use Rattle.ab_taking.specs.ab_logic.specs.declared.sequent.Sequent.{Sequent}
 use Rattle.ab_taking.specs.ab_logic.specs.declared.world.World.{World}
 use Rattle.ab_declare.specs.ab_elaborate.specs.Scoping.{HoldsScope}

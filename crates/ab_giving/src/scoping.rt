@@ -4,7 +4,7 @@ ghost use Rattle.ab_term.specs.Names.{IsSupport};
 ghost use Rattle.ab_taking.specs.ab_norm.specs.Nominals.{nominal_of, HoldsNominal};
 ghost use Rattle.ab_taking.specs.ab_norm.specs.declared.nominal.Nominal.{Nominal as AName};
 ghost use Rattle.ab_taking.specs.ab_logic.specs.Readings.{sequent_of, HoldsSequent};
-ghost use Rattle.ab_taking.specs.ab_logic.specs.Sequents.{goal_names, names_of};
+ghost use Rattle.ab_formulas.specs.Sequents.{goal_names, names_of};
 ghost use Rattle.ab_taking.specs.ab_logic.specs.Worlds.{IsWorld, Holds, read};
 ghost use Rattle.ab_giving.specs.Giving.{HoldsGiven, values_in};
 ghost use Rattle.ab_giving.specs.Scoping.{HaveSame, IsScopeOf, AddsSupport};

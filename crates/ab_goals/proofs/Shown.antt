@@ -2,17 +2,17 @@
 use Rattle.std.specs.Prelude.{Contains, All}
 use Rattle.std.proofs.Common.{◌≡◌, ℕ, List, [], ◌∷◌, ◌++◌, map, codes, decimal, refl, sym, ap, ◌∙◌}
 use Rattle.std.proofs.lemmas.List.Elements.{All-head, All-tail, All-contains}
-use Rattle.ab_print.specs.ab_store.specs.Trees.{Read}
+use Rattle.ab_term.specs.Terms.{Read}
 use Rattle.ab_print.specs.ab_text.specs.Layout.{bytes}
-use Rattle.ab_print.specs.ab_logic.specs.Sequents as numbered
+use Rattle.ab_formulas.specs.Sequents as numbered
 use Rattle.ab_term.specs.Variables.{variables}
-use Rattle.ab_print.specs.ab_logic.specs.Sequents.{Variable, in_terms, Sequent, HoldsOnly, formulas, formulas_of}
+use Rattle.ab_formulas.specs.Sequents.{Variable, in_terms, Sequent, HoldsOnly, formulas, formulas_of}
 use Rattle.ab_print.specs.Shown as by_number
 use Rattle.ab_print.specs.Shown.{variables_line, rule}
-use Rattle.ab_goals.specs.Goals.{name_in, with_names, variable_named, hypothesis_named, named}
+use Rattle.ab_formulas.specs.Goals.{name_in, with_names, variable_named, hypothesis_named, named}
 use Rattle.ab_goals.specs.Shown.{shown, conclusion_line, hypothesis_lines, goal_lines, other_goal}
 use Rattle.ab_goals.proofs.Naming.{printed_told}
-use Rattle.ab_goals.proofs.Agreeing.{Calls, calls_as_listed, translate_agrees}
+use Rattle.ab_formulas.proofs.GoalsAgreeing.{Calls, calls_as_listed, translate_agrees}
 
 module _ (name : ℕ → List ℕ) (xs : List Variable) (calls : Calls name xs) where
   pub shown_so : (t : Read) → HoldsOnly xs t → shown (with_names xs t) ≡ by_number.shown name t

@@ -1,5 +1,4 @@
 -- Goals whose variables go by their names, and what is printed of them.
-pub mod Goals
 pub mod Shown
 -- Libraries that the crates above name through this one.
 pub use Rattle.ab_print.specs.ab_text

@@ -3,7 +3,7 @@ use Rattle.std.specs.Prelude.{ℕ, List, [], ◌∷◌, ◌++◌, map, codes, de
 use Rattle.ab_print.specs.ab_text.specs.Layout.{bytes}
 use Rattle.ab_print.specs.ab_text.specs.Naming.{printed}
 use Rattle.ab_print.specs.Shown.{variables_line, rule}
-use Rattle.ab_goals.specs.Goals.{Named, Hypothesis, Goal}
+use Rattle.ab_formulas.specs.Goals.{Named, Hypothesis, Goal}
 
 -- THE BYTES of a term: a variable is printed as its name
 abbrev pub shown : Named → List ℕ

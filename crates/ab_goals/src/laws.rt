@@ -1,11 +1,11 @@
 //! Laws of goals whose variables go by their names.
 ghost use Rattle.std.specs.Prelude.{◌≡◌, ℕ, List, All, Contains};
-ghost use Rattle.ab_print.specs.ab_store.specs.Trees.{Read};
+ghost use Rattle.ab_term.specs.Terms.{Read};
 ghost use Rattle.ab_term.specs.Translation.{translate};
 ghost use Rattle.ab_print.specs.ab_text.specs.Naming.{printed};
-ghost use Rattle.ab_print.specs.ab_logic.specs.Sequents.{Sequent, Variable, HoldsOnly, formulas_of};
+ghost use Rattle.ab_formulas.specs.Sequents.{Sequent, Variable, HoldsOnly, formulas_of};
 ghost use Rattle.ab_print.specs.Shown as numbered;
-ghost use Rattle.ab_goals.specs.Goals.{named};
+ghost use Rattle.ab_formulas.specs.Goals.{named};
 ghost use Rattle.ab_goals.specs.Shown.{goal_lines, other_goal};
 
 /// What is printed of a term, where each variable is called by a name, is what is printed of the term with these names for its variables.

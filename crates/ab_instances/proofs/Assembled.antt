@@ -7,7 +7,8 @@ use Rattle.ab_term.specs.Terms.{Terms}
 use Rattle.ab_term.specs.Typing.{Signature, TakeType}
 use Rattle.ab_term.specs.Variables.{Substitution, image, image_all}
 use Rattle.ab_term.specs.Sameness.{same_number}
-use Rattle.ab_clauses.specs.ab_types.specs.Entries.{Table, signature, type_in}
+use Rattle.ab_term.specs.Constants.{type_in}
+use Rattle.ab_clauses.specs.ab_types.specs.Entries.{Table, signature}
 use Rattle.ab_clauses.specs.ab_store.specs.declared.node.TermId.{TermId}
 use Rattle.ab_clauses.specs.ab_store.specs.declared.node.CellId.{CellId}
 use Rattle.ab_clauses.specs.ab_store.specs.declared.node.CellEntry.{CellEntry}
@@ -18,7 +19,7 @@ use Rattle.ab_clauses.specs.ab_cases.specs.Alternatives.{cells_over, made_over, 
 use Rattle.ab_clauses.specs.ab_cases.specs.Prefixes.{opened, arguments_of}
 use Rattle.ab_clauses.specs.declared.kept.ClauseTerm.{ClauseTerm}
 use Rattle.ab_clauses.specs.Readings.{variable_of, clause_of}
-use Rattle.ab_clauses.specs.Cases.{case_of, IsWellKept}
+use Rattle.ab_formulas.specs.Cased.{case_of, IsWellKept}
 use Rattle.ab_unifying.specs.Problem.{cell_read, cells_read, variables_read}
 use Rattle.ab_unifying.specs.Changed.{Grows}
 use Rattle.ab_instances.specs.Readings.{cells_at, trees_at}

@@ -6,7 +6,7 @@ use Rattle.std.proofs.lemmas.Bool.Decides.{Decides-eqb}
 use Rattle.std.proofs.lemmas.List.{take_more}
 use Rattle.std.proofs.lemmas.List.Elements.{All-head, All-tail, All-nil, All-cons}
 use Rattle.ab_term.specs.Types.{Ty, prop}
-use Rattle.ab_term.specs.Terms.{Variable, Term}
+use Rattle.ab_term.specs.Terms.{Variable, Term, Read}
 use Rattle.ab_term.specs.Typing.{Signature, HasType}
 use Rattle.ab_term.specs.Variables.{Substitution, variables, value_in, image, one_by_one, at_once, IsTyped}
 use Rattle.ab_term.specs.Sameness.{same_number, same_numbered}
@@ -22,7 +22,7 @@ use Rattle.ab_clauses.specs.ab_store.specs.declared.node.TermId.{TermId}
 use Rattle.ab_clauses.specs.ab_store.specs.declared.node.CellId.{CellId}
 use Rattle.ab_clauses.specs.ab_store.specs.declared.node.CellEntry.{CellEntry}
 use Rattle.ab_clauses.specs.ab_store.specs.declared.node.Binding.{Binding}
-use Rattle.ab_clauses.specs.ab_store.specs.Trees.{Read, Contents, Holds, HoldsCell, cell_in, cell_of, term_at, terms_from, tree_of}
+use Rattle.ab_clauses.specs.ab_store.specs.Trees.{Contents, Holds, HoldsCell, cell_in, cell_of, term_at, terms_from, tree_of}
 use Rattle.ab_clauses.specs.ab_store.specs.Reading.{bound_in, reading, pairs, cell_variable}
 use Rattle.ab_clauses.specs.ab_store.specs.Bindings.{cells_of, StandsIn, IsUnbound, IsResolved}
 use Rattle.ab_clauses.specs.ab_store.specs.Naming.{IsTerm}

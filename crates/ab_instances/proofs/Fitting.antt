@@ -26,8 +26,8 @@ use Rattle.ab_clauses.specs.ab_cases.proofs.Rows.{numbered_within}
 use Rattle.ab_clauses.specs.ab_cases.proofs.Unifier.{made_over_vars}
 use Rattle.ab_clauses.specs.ab_cases.proofs.Variables.{Has, has_held}
 use Rattle.ab_clauses.specs.Readings.{variable_of}
-use Rattle.ab_clauses.specs.Cases as cases
-use Rattle.ab_clauses.specs.Cases.{in_terms}
+use Rattle.ab_formulas.specs.Cased as cases
+use Rattle.ab_formulas.specs.Cased.{in_terms}
 use Rattle.ab_unifying.specs.Problem.{cell_read, variables_read}
 use Rattle.ab_unifying.specs.Changed.{Grows}
 use Rattle.ab_unifying.proofs.Growth.{grown_type, grown_variable}

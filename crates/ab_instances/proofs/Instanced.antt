@@ -5,7 +5,7 @@ use Rattle.std.specs.Prelude.{◌||◌}
 use Rattle.std.proofs.lemmas.Bool.{false≢true}
 use Rattle.ab_term.specs.Types.{Ty, arrow, prop}
 use Rattle.ab_term.specs.Logical.{truth, falsity, conjunction, disjunction, implication, equality, universal, existential, nabla, judgement, focused_judgement, star, at_sign, plus, hash, spec_universal, spec_implication, spec_conjunction}
-use Rattle.ab_term.specs.Terms.{Nominal, Variable, constant, logical, nominal, variable, index, Term, lam, spine, Terms, no_terms, term}
+use Rattle.ab_term.specs.Terms.{Nominal, Variable, constant, logical, nominal, variable, index, Term, lam, spine, Terms, no_terms, term, Read}
 use Rattle.ab_term.specs.Typing.{Signature, HasType, TakeType, typed_spine, take_term}
 use Rattle.ab_term.specs.Substitution.{shift, substitute}
 use Rattle.ab_term.specs.Variables.{Substitution, variables, value_in, image, image_all, image_by, IsTyped}
@@ -13,7 +13,6 @@ use Rattle.ab_term.specs.Sameness.{same_numbered, same_number}
 use Rattle.ab_term.proofs.Compositions.{image_typed, image-composition, image-instance}
 use Rattle.ab_term.proofs.Expansions.{expansion_typed}
 use Rattle.ab_term.proofs.Preservation.{instance_typed}
-use Rattle.ab_clauses.specs.ab_store.specs.Trees.{Read}
 use Rattle.ab_clauses.specs.ab_solve.specs.Replacing.{Cell, holds}
 use Rattle.ab_clauses.specs.ab_solve.proofs.Agreeing.{image_agrees}
 use Rattle.ab_clauses.specs.ab_cases.specs.Clauses.{Each, numbered, clause_variables, clause_names, put_together, name_term, filled, IsClause, AreFor}
@@ -27,8 +26,8 @@ use Rattle.ab_clauses.specs.ab_cases.proofs.Rows as rows
 use Rattle.ab_clauses.specs.ab_cases.proofs.Rows.{each_any, found_has, nothing_found, together_typed}
 use Rattle.ab_clauses.specs.ab_cases.proofs.Unifier as unifier
 use Rattle.ab_clauses.specs.ab_cases.proofs.Unifier.{append-none, from_cells, filled_typed}
-use Rattle.ab_clauses.specs.Kept.{ClauseVariable, Clause}
-use Rattle.ab_clauses.specs.Cases.{in_terms, cell_of, case_of, IsWellKept}
+use Rattle.ab_formulas.specs.Kept.{ClauseVariable, Clause}
+use Rattle.ab_formulas.specs.Cased.{in_terms, cell_of, case_of, IsWellKept}
 use Rattle.ab_instances.proofs.Dressed.{IsDressed, made_dressed, names_dressed, own_becomes}
 
 -- a head, seen as a prefix and an atom

@@ -2,11 +2,11 @@
 use Rattle.std.proofs.Common.{◌≡◌, ℕ, ◌-◌, ◌≤◌, List, [], ◌∷◌, length, take, drop, get_or, slice_index_or, refl, sym, ◌∙◌, ap, arith}
 use Rattle.std.specs.List.{All}
 use Rattle.std.proofs.lemmas.List.Elements.{All-tail, All-weaker}
-use Rattle.ab_term.specs.Terms.{Head, spine, term, no_terms, terms_of}
+use Rattle.ab_term.specs.Terms.{Head, spine, term, no_terms, terms_of, Read}
 use Rattle.ab_term.specs.Substitution.{instance}
 use Rattle.ab_clauses.specs.ab_types.specs.Entries.{Table}
 use Rattle.ab_clauses.specs.ab_store.specs.declared.node.TermId.{TermId}
-use Rattle.ab_clauses.specs.ab_store.specs.Trees.{Read, Contents, Holds, tree_of}
+use Rattle.ab_clauses.specs.ab_store.specs.Trees.{Contents, Holds, tree_of}
 use Rattle.ab_clauses.specs.ab_store.specs.Growth.{IsExtendedBy}
 use Rattle.ab_unifying.specs.ab_norm.proofs.Frame.{still_read_before}
 use Rattle.ab_clauses.specs.ab_cases.specs.Prefixes.{opened}

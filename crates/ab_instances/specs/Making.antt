@@ -1,11 +1,11 @@
 -- New cells, and each of them given the same arguments. Public contracts don't speak of this.
 use Rattle.std.specs.Prelude.{ℕ, suc, List, [], ◌∷◌, codes}
-use Rattle.ab_term.specs.Terms.{Terms, variable}
+use Rattle.ab_term.specs.Terms.{Terms, variable, Read}
 use Rattle.ab_term.specs.Expansion.{expansion_of}
 use Rattle.ab_clauses.specs.ab_types.specs.Entries.{Table}
 use Rattle.ab_clauses.specs.ab_types.specs.Ids.{type_of}
 use Rattle.ab_clauses.specs.ab_store.specs.declared.node.CellId.{CellId}
-use Rattle.ab_clauses.specs.ab_store.specs.Trees.{Read, Contents, cell_of}
+use Rattle.ab_clauses.specs.ab_store.specs.Trees.{Contents, cell_of}
 use Rattle.ab_clauses.specs.ab_store.specs.Reading.{cell_variable}
 
 -- as many cells as there are in the list, with the numbers from there on

@@ -1,11 +1,11 @@
 -- What lists of constants, of cells and of terms stand for.
 use Rattle.std.specs.Prelude.{ℕ, List, map}
 use Rattle.ab_term.specs.Terms as tree
-use Rattle.ab_term.specs.Terms.{Terms, terms_of}
+use Rattle.ab_term.specs.Terms.{Terms, terms_of, Read}
 use Rattle.ab_clauses.specs.ab_types.specs.Entries.{Table}
 use Rattle.ab_clauses.specs.ab_store.specs.declared.node.TermId.{TermId}
 use Rattle.ab_clauses.specs.ab_store.specs.declared.node.CellId.{CellId}
-use Rattle.ab_clauses.specs.ab_store.specs.Trees.{Read, Contents, cell_of, tree_of}
+use Rattle.ab_clauses.specs.ab_store.specs.Trees.{Contents, cell_of, tree_of}
 use Rattle.ab_unifying.specs.ab_norm.specs.declared.nominal.Nominal.{Nominal}
 use Rattle.ab_unifying.specs.ab_norm.specs.Nominals.{nominal_of}
 use Rattle.ab_clauses.specs.ab_solve.specs.Replacing.{Cell}

@@ -11,7 +11,7 @@ ghost use Rattle.ab_unifying.specs.ab_norm.specs.Taking.{AreTaken};
 ghost use Rattle.ab_clauses.specs.ab_cases.specs.Clauses.{filled};
 ghost use Rattle.ab_clauses.specs.ab_cases.specs.Alternatives.{cells_over, made_over, made_terms};
 ghost use Rattle.ab_clauses.specs.Readings.{clause_of, HoldsClause};
-ghost use Rattle.ab_clauses.specs.Cases.{case_of, IsWellKept};
+ghost use Rattle.ab_formulas.specs.Cased.{case_of, IsWellKept};
 ghost use Rattle.ab_unifying.specs.Problem.{cells_read, variables_read};
 ghost use Rattle.ab_unifying.specs.Changed.{Grows};
 ghost use Rattle.ab_instances.specs.Readings.{names_read, given_at};
@@ -22,7 +22,7 @@ use crate::opening::{arguments_of, open};
 use ab_clauses::ClauseTerm;
 use ab_clauses::below::store::{CellId, Store, TermId};
 use ab_clauses::below::types::{Steps, TypeTable};
-use ab_clauses::laws::kept_clauses_are_cases;
+use ab_formulas::definitions::kept_clauses_are_cases;
 use ab_unifying::below::norm::Nominal;
 use std::alloc::{AllocError, Global};
 

@@ -53,7 +53,6 @@ pub struct Choices {
 
 impl Model for Choices {
     ghost use Rattle.std.specs.Prelude.{List};
-    ghost use Rattle.ab_unifying.specs.ab_norm.specs.declared.nominal.Nominal.{Nominal};
 
     ghost Value = { List (List Nominal) };
 

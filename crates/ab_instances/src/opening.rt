@@ -1,8 +1,8 @@
 //! Heads of clauses: their prefix is taken off, and their arguments are looked at.
 ghost use Rattle.std.specs.Prelude.{◌≡◌, ◌≤◌, ◌∷◌, ℕ, List, Some, None, All, IfOk, IfSome};
-ghost use Rattle.ab_term.specs.Terms.{Head, spine, term, no_terms};
+ghost use Rattle.ab_term.specs.Terms.{Head, spine, term, no_terms, Read};
 ghost use Rattle.ab_clauses.specs.ab_types.specs.Entries.{Table};
-ghost use Rattle.ab_clauses.specs.ab_store.specs.Trees.{Read, Holds, tree_of};
+ghost use Rattle.ab_clauses.specs.ab_store.specs.Trees.{Holds, tree_of};
 ghost use Rattle.ab_clauses.specs.ab_store.specs.Naming.{IsTypedBy};
 ghost use Rattle.ab_unifying.specs.ab_norm.specs.Growth.{AddsTerms};
 ghost use Rattle.ab_clauses.specs.ab_cases.specs.Prefixes as prefixes;

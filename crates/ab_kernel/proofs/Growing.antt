@@ -9,7 +9,7 @@ use Rattle.ab_rules.specs.Answers.{step_of}
 use Rattle.ab_kernel.specs.declared.node.ProofNode.{ProofNode}
 use Rattle.ab_kernel.specs.declared.proving.Refinement.{Refinement}
 use Rattle.ab_kernel.specs.Nodes.{open_node, sequents_in, node_at, step_held, numbers_up}
-use Rattle.ab_kernel.specs.Derivation.{refined}
+use Rattle.ab_theory.specs.Derivations.{refined}
 use Rattle.ab_kernel.specs.Reading.{StandsFor, Tree}
 use Rattle.ab_kernel.specs.Layout.{numbers_down, nodes_before, open_before, steps_in, history_of, Stands, Layers, Grown}
 use Rattle.ab_kernel.proofs.Filling.{before_again}

@@ -11,7 +11,7 @@ use Rattle.ab_kernel.specs.Nodes.{open_node, IsClear, sequents_in, no_node, node
 use Rattle.ab_kernel.specs.Layout.{StepAt, numbers_down, nodes_before, steps_in, open_before, Stands, AreOpen, AreDistinct, Layers}
 use Rattle.ab_kernel.specs.declared.node.ProofNode.{ProofNode}
 use Rattle.ab_kernel.specs.declared.proving.Refinement.{Refinement}
-use Rattle.ab_kernel.proofs.Splits.{at_place}
+use Rattle.ab_formulas.proofs.KernelSplits.{at_place}
 use Rattle.ab_kernel.proofs.Standing.{reads_now, leads, restored}
 use Rattle.ab_kernel.proofs.Filling.{AllBelow, each_within, open_at, filled, before_again, sequents_after, open_after, distinct_after}
 

@@ -1,16 +1,11 @@
-pub mod Splits
 pub mod Filling
 pub mod Hand
 pub mod Placing
-pub mod Refining
 pub mod Standing
 pub mod Taking
 pub mod TakingBack
 pub mod Later
 pub mod Refines
-pub mod Back
-pub mod Adding
-pub mod Rooted
 pub mod Earlier
 pub mod Trees
 pub mod Growing

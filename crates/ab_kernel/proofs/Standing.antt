@@ -5,22 +5,21 @@ use Rattle.std.proofs.lemmas.List.{length-map, reverse-append, length-reverse, t
 use Rattle.std.proofs.lemmas.Option.{slice_get_within, get_or_from_slice_get, slice_get_read, slice_get-map}
 use Rattle.std.proofs.lemmas.Bool.{eqb-true, eq-eqb}
 use Rattle.std.proofs.Math.Seq.{take-suc}
-use Rattle.ab_rules.specs.Steps.{Step}
-use Rattle.ab_kernel.specs.Layout.{StepAt}
+use Rattle.ab_theory.specs.Steps.{Step}
+use Rattle.ab_kernel.specs.Layout.{StepAt, numbers_down, sequents_before, premises_of, made_by, Reads, start_of, open_before, Stands}
 use Rattle.std.specs.Option.{option_map}
 use Rattle.ab_rules.specs.ab_logic.specs.declared.world.World.{World}
 use Rattle.ab_rules.specs.ab_logic.specs.declared.sequent.Sequent.{Sequent as Kept}
-use Rattle.ab_rules.specs.ab_logic.specs.Sequents.{Sequent}
+use Rattle.ab_formulas.specs.Sequents.{Sequent}
 use Rattle.ab_rules.specs.ab_logic.specs.Readings.{sequent_of}
 use Rattle.ab_rules.specs.declared.step.Step.{Step as KeptStep}
 use Rattle.ab_rules.specs.Answers.{step_of}
-use Rattle.ab_rules.specs.ab_logic.specs.Declarations.{Declarations}
-use Rattle.ab_rules.specs.Rules.{NamedRule}
-use Rattle.ab_kernel.specs.Derivation.{Derivation, root, open_goals, refined, History, after, IsStep}
-use Rattle.ab_kernel.specs.Layout.{numbers_down, sequents_before, premises_of, made_by, Reads, start_of, open_before, Stands}
-use Rattle.ab_kernel.proofs.Splits.{At, at_place, at_reversed, cut_images, within, still_got, get_still, get_right, empty}
+use Rattle.ab_formulas.specs.Declarations.{Declarations}
+use Rattle.ab_theory.specs.Rules.{NamedRule}
+use Rattle.ab_theory.specs.Derivations.{Derivation, root, open_goals, refined, History, after, IsStep}
+use Rattle.ab_formulas.proofs.KernelSplits.{At, at_place, at_reversed, cut_images, within, still_got, get_still, get_right, empty}
 use Rattle.ab_kernel.proofs.Placing.{length-numbers_down}
-use Rattle.ab_kernel.proofs.Refining.{root-refined, open_goals-refined}
+use Rattle.ab_theory.proofs.Refining.{root-refined, open_goals-refined}
 
 pub reads_now : (w : World) (ss : List Sequent) (ns : List ℕ) (rs : List StepAt) → Stands w ss ns rs → Reads ss ns (made_by w ss rs).tree
 reads_now w ss ns [] s = s

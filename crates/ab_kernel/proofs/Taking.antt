@@ -7,15 +7,14 @@ use Rattle.std.proofs.lemmas.List.{map-append, length-map}
 use Rattle.std.proofs.lemmas.List.Elements.{All-cons, All-weaker}
 use Rattle.ab_rules.specs.ab_logic.specs.declared.world.World.{World}
 use Rattle.ab_rules.specs.declared.step.Step.{Step}
-use Rattle.ab_kernel.specs.Layout.{StepAt}
+use Rattle.ab_kernel.specs.Layout.{StepAt, numbers_down, made_by, Stands}
 use Rattle.ab_rules.specs.ab_logic.specs.declared.sequent.Sequent.{Sequent as Kept}
-use Rattle.ab_rules.specs.ab_logic.specs.Sequents.{Sequent}
+use Rattle.ab_formulas.specs.Sequents.{Sequent}
 use Rattle.ab_rules.specs.ab_logic.specs.Readings.{sequent_of}
 use Rattle.ab_rules.specs.Answers.{step_of}
-use Rattle.ab_rules.specs.ab_logic.specs.Declarations.{Declarations}
-use Rattle.ab_rules.specs.Rules.{NamedRule}
-use Rattle.ab_kernel.specs.Derivation.{open_goals, History, after, IsStep}
-use Rattle.ab_kernel.specs.Layout.{numbers_down, made_by, Stands}
+use Rattle.ab_formulas.specs.Declarations.{Declarations}
+use Rattle.ab_theory.specs.Rules.{NamedRule}
+use Rattle.ab_theory.specs.Derivations.{open_goals, History, after, IsStep}
 use Rattle.ab_kernel.proofs.Standing.{reads_now, as_many, leads, kept_at, made_after, stands_after, is_step}
 
 pub err_is : {T E : Type 0} (r : Result T E) (f : E) → IsErrAnd r (λ e. e ≡ f) → r ≡ Err f

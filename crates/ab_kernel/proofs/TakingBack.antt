@@ -3,22 +3,19 @@ use Rattle.std.specs.List.{All}
 use Rattle.std.proofs.Common.{◌≡◌, ℕ, ◌+◌, ◌-◌, ◌<◌, ◌≤◌, Some, List, [], ◌∷◌, ◌++◌, length, map, reverse, take, drop, sym, ◌∙◌, ap, subst, arith, length-append, length-drop}
 use Rattle.std.proofs.lemmas.List.{reverse-append, length-map, length-take-le, take-map, take-append-drop}
 use Rattle.std.proofs.lemmas.List.Elements.{All-head, All-tail, All-take}
-use Rattle.ab_kernel.specs.Nodes.{sequents_in}
-use Rattle.ab_kernel.specs.Layout.{StepAt, steps_in}
+use Rattle.ab_kernel.specs.Nodes.{sequents_in, node_at, step_held}
+use Rattle.ab_kernel.specs.Layout.{StepAt, steps_in, history_of, IsProof, sequents_before, made_by, Reads, start_of, open_before, Stands, nodes_before}
 use Rattle.ab_rules.specs.ab_logic.specs.declared.world.World.{World}
 use Rattle.ab_rules.specs.ab_logic.specs.declared.sequent.Sequent.{Sequent as Kept}
-use Rattle.ab_rules.specs.ab_logic.specs.Sequents.{Sequent, IsSequent}
+use Rattle.ab_formulas.specs.Sequents.{Sequent, IsSequent}
 use Rattle.ab_rules.specs.ab_logic.specs.Readings.{sequent_of, HoldsSequent}
 use Rattle.ab_rules.specs.Answers.{HoldsStep}
 use Rattle.ab_rules.specs.ab_logic.specs.Worlds.{declarations_of}
-use Rattle.ab_kernel.specs.Derivation.{root, Valid, open_goals, History, undone}
-use Rattle.ab_kernel.specs.Layout.{history_of, IsProof, sequents_before, made_by, Reads, start_of, open_before, Stands}
-use Rattle.ab_kernel.specs.Nodes.{node_at, step_held}
-use Rattle.ab_kernel.specs.Layout.{nodes_before}
+use Rattle.ab_theory.specs.Derivations.{root, Valid, open_goals, History, undone}
 use Rattle.ab_kernel.specs.declared.node.ProofNode.{ProofNode}
 use Rattle.ab_kernel.specs.declared.proving.Refinement.{Refinement}
 use Rattle.ab_kernel.proofs.Filling.{sequents-before, each_within, in_middle}
-use Rattle.ab_kernel.proofs.Splits.{get_still}
+use Rattle.ab_formulas.proofs.KernelSplits.{get_still}
 use Rattle.ab_kernel.proofs.Standing.{reads_now, as_many}
 
 module _ (w : World) (ss : List Sequent) (ns : List ℕ) (r : StepAt) (rs : List StepAt) (stands : Stands w ss ns (r ∷ rs)) where

@@ -1,5 +1,4 @@
 -- Derivations with open goals, when they are valid, when one derives a formula, and what a proof stands for.
-pub mod Derivation
 pub mod Nodes
 pub mod Reading
 pub mod Layout
@@ -15,7 +14,5 @@ pub use Rattle.ab_rules.specs.ab_naming
 pub use Rattle.ab_rules.specs.ab_marks
 pub use Rattle.ab_rules.specs.ab_instances
 pub use Rattle.ab_rules.specs.ab_equate
-pub use Rattle.ab_rules.specs.ab_analysis
-pub use Rattle.ab_rules.specs.ab_induction
 pub use Rattle.ab_rules.specs.ab_alternatives
 pub use Rattle.ab_rules

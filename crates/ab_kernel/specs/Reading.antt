@@ -1,14 +1,14 @@
 -- The nodes of a proof as its derivation, which they are from the root on, by the numbers of each node's children.
 use Rattle.std.specs.Prelude.{◌≡◌, ℕ, ◌<◌, List, [], ◌∷◌, ◌++◌, length, reverse, Option, Some, None}
 use Rattle.std.specs.Option.{option_map}
-use Rattle.ab_rules.specs.ab_logic.specs.Sequents.{Sequent}
+use Rattle.ab_formulas.specs.Sequents.{Sequent}
 use Rattle.ab_rules.specs.ab_logic.specs.Readings.{sequent_of}
 use Rattle.ab_rules.specs.ab_logic.specs.declared.world.World.{World}
-use Rattle.ab_rules.specs.Steps.{Step}
+use Rattle.ab_theory.specs.Steps.{Step}
 use Rattle.ab_rules.specs.Answers.{step_of}
 use Rattle.ab_kernel.specs.declared.node.ProofNode.{ProofNode}
 use Rattle.ab_kernel.specs.Nodes.{node_at}
-use Rattle.ab_kernel.specs.Derivation.{Derivation, goal, by, Derivations, none, more}
+use Rattle.ab_theory.specs.Derivations.{Derivation, goal, by, Derivations, none, more}
 
 -- the node of this number has this goal, and this step or none
 pub record IsNode (w : World) (nodes : List ProofNode) (n : ℕ) (s : Sequent) (t : Option Step) : Type 0 where

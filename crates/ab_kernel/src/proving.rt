@@ -5,15 +5,15 @@ ghost use Rattle.ab_rules.specs.ab_logic.specs.Worlds.{IsWorld, Holds, read, dec
 ghost use Rattle.ab_rules.specs.ab_logic.specs.Growth.{Grows};
 ghost use Rattle.ab_rules.specs.ab_logic.specs.declared.world.World.{World as AWorld};
 ghost use Rattle.ab_rules.specs.ab_logic.specs.Readings.{sequent_of, HoldsSequent};
-ghost use Rattle.ab_rules.specs.ab_store.specs.Trees.{Read};
+ghost use Rattle.ab_term.specs.Terms.{Read};
 ghost use Rattle.ab_rules.specs.ab_unifying.specs.Problem.{cells_read};
 ghost use Rattle.ab_term.specs.Names.{support};
 ghost use Rattle.ab_term.specs.Variables.{variables};
-ghost use Rattle.ab_rules.specs.ab_logic.specs.Declarations.{signature_in};
-ghost use Rattle.ab_rules.specs.ab_logic.specs.Formulas.{IsFormula, IsSentence, HasOneTypeEach};
+ghost use Rattle.ab_formulas.specs.Declarations.{signature_in};
+ghost use Rattle.ab_formulas.specs.Formulas.{IsFormula, IsSentence, HasOneTypeEach};
 ghost use Rattle.ab_rules.specs.Answers.{step_of, HoldsStep, IsMemory};
 ghost use Rattle.ab_rules.specs.declared.step.KernelFault.{KernelFault};
-ghost use Rattle.ab_kernel.specs.Derivation.{root, Valid, open_goals, goal_at, IsDerivation, beginning, proves, IsStep, GoalFails, GoalStuck, undone};
+ghost use Rattle.ab_theory.specs.Derivations.{root, Valid, open_goals, goal_at, IsDerivation, beginning, proves, IsStep, GoalFails, GoalStuck, undone};
 ghost use Rattle.ab_kernel.specs.Layout.{history_of, IsProof, before_last, Beyond};
 ghost use Rattle.ab_kernel.specs.Nodes.{open_node, numbers_up};
 ghost use Rattle.ab_kernel.specs.Reading.{StandsFor};
@@ -50,11 +50,10 @@ pub struct Proof {
 }
 
 impl Model for Proof {
-    ghost use Rattle.ab_kernel.specs.Layout.{Held};
+    ghost use Rattle.ab_kernel.specs.Layout.{Held, held, IsSound};
 
     ghost Value = { Held };
 
-    ghost use Rattle.ab_kernel.specs.Layout.{held, IsSound};
 
     ghost view = { held };
 

@@ -1,16 +1,16 @@
 -- A hypothesis that is an atom is taken apart by its row, or its row refuses it.
 use Rattle.std.specs.Prelude.{Some, None}
 use Rattle.std.proofs.Common.{◌≡◌, ◌≢◌, inl, inr, ℕ, ◌+◌, List, [], ◌∷◌, ◌++◌, Bool, length, refl, sym, ◌∙◌, ap, subst}
-use Rattle.ab_progress.specs.ab_store.specs.Trees.{Read}
+use Rattle.ab_term.specs.Terms.{Read}
 use Rattle.ab_progress.specs.ab_unifying.specs.Problem.{cells_read}
-use Rattle.ab_progress.specs.ab_logic.specs.Declarations.{Declarations}
-use Rattle.ab_progress.specs.ab_logic.specs.Forms.{Form, truth, falsity, both, either, implies, equal, for_all, exists, nabla, marked, other, form_of}
-use Rattle.ab_progress.specs.ab_logic.specs.Names.{Label}
-use Rattle.ab_progress.specs.ab_logic.specs.Sequents.{Sequent, IsSequent, formula_of, assuming}
+use Rattle.ab_formulas.specs.Declarations.{Declarations}
+use Rattle.ab_formulas.specs.Forms.{Form, truth, falsity, both, either, implies, equal, for_all, exists, nabla, marked, other, form_of}
+use Rattle.ab_formulas.specs.Names.{Label}
+use Rattle.ab_formulas.specs.Sequents.{Sequent, IsSequent, formula_of, assuming}
 use Rattle.ab_progress.specs.ab_logic.specs.Worlds.{IsWorld, declarations_of}
 use Rattle.ab_progress.specs.ab_logic.specs.declared.world.World.{World}
-use Rattle.ab_progress.specs.ab_equate.specs.Solved.{AreCells}
-use Rattle.ab_progress.specs.ab_rules.specs.Rules.{NamedRule, Fails, Stuck}
+use Rattle.ab_theory.specs.Equations.{AreCells}
+use Rattle.ab_theory.specs.Rules.{NamedRule, Fails, Stuck}
 use Rattle.ab_progress.specs.ab_kernel.specs.Layout.{Held, IsProof}
 use Rattle.ab_progress.specs.ab_effects.specs.Analysing.{AllOpened, SomeNameless}
 use Rattle.ab_progress.specs.ab_effects.specs.Effect.{cases, analysing}

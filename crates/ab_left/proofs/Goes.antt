@@ -4,22 +4,22 @@ use Rattle.std.proofs.Common.{◌≡◌, ℕ, ◌<◌, List, [], ◌∷◌, ◌+
 use Rattle.std.proofs.lemmas.List.Elements.{All-tail, All-cons, All-weaker, All-contains, Contains-append_right}
 use Rattle.ab_term.specs.Types.{Ty}
 use Rattle.ab_term.proofs.Lists.{Contains-here}
-use Rattle.ab_progress.specs.ab_store.specs.Trees.{Read}
+use Rattle.ab_term.specs.Terms.{Read}
 use Rattle.ab_progress.specs.ab_unifying.specs.Problem.{cells_read}
 use Rattle.ab_progress.specs.ab_store.specs.declared.node.TermId.{TermId}
 use Rattle.ab_progress.specs.ab_logic.specs.Growth.{Grows}
-use Rattle.ab_progress.specs.ab_logic.specs.Forms.{truth, both, exists, nabla, form_of, as_both, both_in, exists_in, nabla_in}
-use Rattle.ab_progress.specs.ab_logic.specs.Names.{Label, auto, given, NoName}
+use Rattle.ab_formulas.specs.Forms.{truth, both, exists, nabla, form_of, as_both, both_in, exists_in, nabla_in}
+use Rattle.ab_formulas.specs.Names.{Label, auto, given, NoName}
 use Rattle.ab_progress.specs.ab_logic.specs.Readings.{hypothesis_of}
-use Rattle.ab_progress.specs.ab_logic.specs.Sequents.{Hypothesis, Sequent, IsSequent, formula_of, formulas, assuming, without}
+use Rattle.ab_formulas.specs.Sequents.{Hypothesis, Sequent, IsSequent, formula_of, formulas, assuming, without}
 use Rattle.ab_progress.specs.ab_logic.specs.Worlds.{IsWorld, Holds, read, declarations_of}
 use Rattle.ab_progress.specs.ab_logic.specs.declared.world.World.{World}
 use Rattle.ab_progress.specs.ab_logic.specs.declared.sequent.Hypothesis.{Hypothesis as Kept}
 use Rattle.ab_progress.specs.ab_logic.proofs.Growing.{map_same}
-use Rattle.ab_progress.specs.ab_rules.specs.Steps.{Step, and_left, exists_left, nabla_left}
-use Rattle.ab_progress.specs.ab_rules.specs.Rules.{Fails}
+use Rattle.ab_theory.specs.Steps.{Step, and_left, exists_left, nabla_left}
+use Rattle.ab_theory.specs.Rules.{Fails}
 use Rattle.ab_progress.specs.ab_kernel.specs.Layout.{Held, history_of, IsProof}
-use Rattle.ab_progress.specs.ab_kernel.proofs.Rooted.{open_are_sequents}
+use Rattle.ab_theory.proofs.Rooted.{open_are_sequents}
 use Rattle.ab_progress.specs.ab_effects.specs.Opening.{IsWhole, Nameless, none}
 use Rattle.ab_progress.specs.Progress.{IsAt, Follows, Took, Holds as Sure}
 use Rattle.ab_progress.proofs.Connectives.{connectives, fewer_both}

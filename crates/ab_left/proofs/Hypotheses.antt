@@ -2,8 +2,8 @@
 use Rattle.std.specs.Prelude.{bytes_eq, if◌then◌else◌}
 use Rattle.std.proofs.Common.{◌≡◌, ◌≢◌, ◌⊎◌, inl, inr, ℕ, List, [], ◌∷◌, ◌++◌, true, false, Some, None, refl, sym, ◌∙◌, ap}
 use Rattle.std.proofs.lemmas.Slice.Eq.{bytes_eq-Decides}
-use Rattle.ab_progress.specs.ab_store.specs.Trees.{Read}
-use Rattle.ab_progress.specs.ab_logic.specs.Sequents.{Hypothesis, named, others}
+use Rattle.ab_term.specs.Terms.{Read}
+use Rattle.ab_formulas.specs.Sequents.{Hypothesis, named, others}
 
 abbrev pub entry : List ℕ → Read → Hypothesis
 entry x F = record { name = x; formula = F }

@@ -1,7 +1,7 @@
 -- The marks of a formula serve itself.
 use Rattle.std.proofs.Common.{refl}
-use Rattle.ab_progress.specs.ab_store.specs.Trees.{Read}
-use Rattle.ab_progress.specs.ab_logic.specs.Marks.{Sign, plain, star_of, at_of, plus_of, hash_of, Serves, Marks, nowhere, at_atom, at_judgement, below, in_both, marks_of, Agree, MarksServe, MarksServeIn}
+use Rattle.ab_term.specs.Terms.{Read}
+use Rattle.ab_formulas.specs.Marks.{Sign, plain, star_of, at_of, plus_of, hash_of, Serves, Marks, nowhere, at_atom, at_judgement, below, in_both, marks_of, Agree, MarksServe, MarksServeIn}
 
 serves : (m : Sign) → Serves m m
 serves plain = tt

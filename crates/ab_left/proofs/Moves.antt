@@ -1,13 +1,13 @@
 -- A hypothesis is removed, put behind the others once more, or named anew there, step by step.
 use Rattle.std.specs.Prelude.{Result, Ok, Err, OnOk}
 use Rattle.std.proofs.Common.{◌≡◌, ℕ, List, [], ◌∷◌, ◌++◌, Some, sym, ◌∙◌, ap, subst, append_assoc}
-use Rattle.ab_progress.specs.ab_store.specs.Trees.{Read}
+use Rattle.ab_term.specs.Terms.{Read}
 use Rattle.ab_progress.specs.ab_unifying.specs.Problem.{cells_read}
-use Rattle.ab_progress.specs.ab_logic.specs.Names.{Label, Names, NoName}
-use Rattle.ab_progress.specs.ab_logic.specs.Sequents.{Sequent, named, formula_of, proving, assuming, without}
+use Rattle.ab_formulas.specs.Names.{Label, Names, NoName}
+use Rattle.ab_formulas.specs.Sequents.{Sequent, named, formula_of, proving, assuming, without}
 use Rattle.ab_progress.specs.ab_logic.specs.Worlds.{IsWorld, declarations_of}
 use Rattle.ab_progress.specs.ab_logic.specs.declared.world.World.{World}
-use Rattle.ab_progress.specs.ab_rules.specs.Steps.{weaken, initial, cut_formula}
+use Rattle.ab_theory.specs.Steps.{weaken, initial, cut_formula}
 use Rattle.ab_progress.specs.ab_kernel.specs.Layout.{Held, IsProof}
 use Rattle.ab_progress.specs.Progress.{IsAt, Took, FailsAt, Holds as Sure}
 use Rattle.ab_progress.proofs.Following.{one_goal}

@@ -3,10 +3,10 @@ use Rattle.std.specs.Prelude.{codes, Contains, if◌then◌else◌, map}
 use Rattle.std.specs.Option.{IsSome}
 use Rattle.std.proofs.Common.{◌≡◌, ◌≢◌, ◌⊎◌, inl, inr, ℕ, ◌+◌, List, [], ◌∷◌, ◌++◌, true, false, Option, Some, length, get_or, decimal, refl, sym, ◌∙◌, ap, subst, arith}
 use Rattle.ab_term.proofs.Lists.{Contains-here, Contains-there}
-use Rattle.ab_progress.specs.ab_store.specs.Trees.{Read}
-use Rattle.ab_progress.specs.ab_logic.specs.Names.{Label, auto, given}
+use Rattle.ab_term.specs.Terms.{Read}
+use Rattle.ab_formulas.specs.Names.{Label, auto, given}
 use Rattle.ab_progress.specs.ab_logic.specs.Readings.{hypothesis_of, sequent_of}
-use Rattle.ab_progress.specs.ab_logic.specs.Sequents.{named, IsUsed}
+use Rattle.ab_formulas.specs.Sequents.{named, IsUsed}
 use Rattle.ab_progress.specs.ab_logic.specs.declared.world.World.{World}
 use Rattle.ab_progress.specs.ab_logic.specs.declared.sequent.Sequent.{Sequent as Kept}
 use Rattle.ab_progress.specs.ab_logic.specs.declared.sequent.Hypothesis.{Hypothesis as KeptHypothesis}

@@ -2,10 +2,10 @@
 use Rattle.std.specs.Prelude.{All}
 use Rattle.std.specs.Option.{IsSome}
 use Rattle.std.proofs.Common.{◌≡◌, ◌≢◌, inl, inr, ℕ, ◌<◌, List, [], ◌∷◌, ◌++◌, Bool, true, false, Option, refl, sym, ◌∙◌, ap, subst, decimal}
-use Rattle.ab_progress.specs.ab_store.specs.Trees.{Read}
-use Rattle.ab_progress.specs.ab_logic.specs.Declarations.{Declarations}
-use Rattle.ab_progress.specs.ab_logic.specs.Sequents.{Hypothesis, Variable, Sequent, named, others, formula_of, assuming, without, counted, over}
-use Rattle.ab_progress.specs.ab_logic.specs.Names.{Label, auto, given, automatic, IsFree, Names, NoName, IsFreeName, IsNamedFor}
+use Rattle.ab_term.specs.Terms.{Read}
+use Rattle.ab_formulas.specs.Declarations.{Declarations}
+use Rattle.ab_formulas.specs.Sequents.{Hypothesis, Variable, Sequent, named, others, formula_of, assuming, without, counted, over}
+use Rattle.ab_formulas.specs.Names.{Label, auto, given, automatic, IsFree, Names, NoName, IsFreeName, IsNamedFor}
 use Rattle.ab_left.specs.Own.{AreOwn, HasAll, besides}
 use Rattle.ab_left.specs.Progress.{label_left}
 use Rattle.ab_left.proofs.Hypotheses.{named_besides, named_past, others_past, turned}

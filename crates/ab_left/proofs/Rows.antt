@@ -3,9 +3,9 @@ use Rattle.std.specs.Prelude.{if◌then◌else◌, is_some}
 use Rattle.std.specs.Option.{IsSome}
 use Rattle.std.proofs.Common.{◌≡◌, ◌≢◌, ℕ, ◌+◌, ◌<◌, List, [], ◌∷◌, ◌++◌, true, false, Option, Some, None, take, length, get_or, refl, sym, ◌∙◌, ap, subst}
 use Rattle.std.proofs.lemmas.List.{take_more}
-use Rattle.ab_progress.specs.ab_store.specs.Trees.{Read}
-use Rattle.ab_progress.specs.ab_logic.specs.Names.{given, Names}
-use Rattle.ab_progress.specs.ab_logic.specs.Sequents.{Sequent, formula_of, IsUsed, assuming, without}
+use Rattle.ab_term.specs.Terms.{Read}
+use Rattle.ab_formulas.specs.Names.{given, Names}
+use Rattle.ab_formulas.specs.Sequents.{Sequent, formula_of, IsUsed, assuming, without}
 use Rattle.ab_progress.specs.ab_effects.specs.Effect.{cleared, clashing}
 use Rattle.ab_progress.specs.ab_effects.specs.Refusals.{clash}
 use Rattle.ab_left.proofs.Hypotheses.{others_none}

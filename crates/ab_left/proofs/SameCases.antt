@@ -3,22 +3,21 @@ use Rattle.std.specs.Prelude.{filter, bytes_eq, Contains, if◌then◌else◌}
 use Rattle.std.proofs.Common.{◌≡◌, inl, inr, ℕ, List, [], ◌∷◌, ◌++◌, map, take, drop, codes, Bool, true, false, Some, refl, sym, ◌∙◌, ap, subst, append_assoc}
 use Rattle.std.proofs.lemmas.List.Elements.{Contains-append_left, Contains-append_cases}
 use Rattle.ab_term.specs.Terms as tree
-use Rattle.ab_term.specs.Terms.{Nominal, Terms}
+use Rattle.ab_term.specs.Terms.{Nominal, Terms, Read}
 use Rattle.ab_term.specs.Names.{support, support_of_all}
 use Rattle.ab_term.proofs.Lists.{Contains-none}
-use Rattle.ab_progress.specs.ab_store.specs.Trees.{Read}
 use Rattle.ab_progress.specs.ab_solve.specs.Replacing.{Cell}
 use Rattle.ab_progress.specs.ab_cases.specs.Clauses.{Clause}
 use Rattle.ab_progress.specs.ab_cases.specs.Choices.{in_order, choices, for_each, outside}
 use Rattle.ab_progress.specs.ab_cases.specs.Alternatives.{Alternative, analysed, alternative, on_left}
-use Rattle.ab_progress.specs.ab_logic.specs.Sequents.{Variable, Hypothesis, Sequent, formula_of, formulas, goal_names, names_of, in_terms, assuming, without}
-use Rattle.ab_progress.specs.ab_equate.specs.Solved.{Naming}
-use Rattle.ab_progress.specs.ab_equate.specs.Cases.{Case, CaseOver, NeverArises, IsOpen, Arises, Split, done, never, arises, IsUnsplit, here, past_never, past_goal}
-use Rattle.ab_progress.specs.ab_analysis.specs.Atoms.{Defined, Choice, choices_of}
-use Rattle.ab_progress.specs.ab_analysis.specs.Left.{scope_of, raised_goal, count_before, case_of, cases_of}
-use Rattle.ab_progress.specs.ab_marks.specs.Marking.{mark_below, marked_in}
-use Rattle.ab_progress.specs.ab_alternatives.specs.Members.{SameMembers}
-use Rattle.ab_progress.specs.ab_alternatives.proofs.Agreeing.{choices_same}
+use Rattle.ab_formulas.specs.Sequents.{Variable, Hypothesis, Sequent, formula_of, formulas, goal_names, names_of, in_terms, assuming, without}
+use Rattle.ab_theory.specs.Equations.{Naming}
+use Rattle.ab_theory.specs.Splits.{Case, CaseOver, NeverArises, IsOpen, Arises, Split, done, never, arises, IsUnsplit, here, past_never, past_goal}
+use Rattle.ab_theory.specs.Atoms.{Defined, Choice, choices_of}
+use Rattle.ab_theory.specs.Analysis.{scope_of, raised_goal, count_before, case_of, cases_of}
+use Rattle.ab_formulas.specs.Marking.{mark_below, marked_in}
+use Rattle.ab_formulas.specs.Members.{SameMembers}
+use Rattle.ab_formulas.proofs.AlternativesAgreeing.{choices_same}
 use Rattle.ab_progress.specs.ab_rules.proofs.Chosen.{in_goal}
 use Rattle.ab_left.specs.Cases.{rest_of}
 use Rattle.ab_left.proofs.Hypotheses.{entry}

@@ -1,19 +1,19 @@
 -- A hypothesis of the command's own that is an equation is solved in its goal.
 use Rattle.std.specs.Prelude.{Some, None}
 use Rattle.std.proofs.Common.{◌≡◌, ◌≢◌, inl, ℕ, ◌<◌, List, [], ◌∷◌, Bool, length, refl, sym, ◌∙◌, ap, subst, arith}
-use Rattle.ab_progress.specs.ab_store.specs.Trees.{Read}
+use Rattle.ab_term.specs.Terms.{Read}
 use Rattle.ab_progress.specs.ab_solve.specs.Replacing.{Cell}
 use Rattle.ab_progress.specs.ab_unifying.specs.Problem.{cells_read}
-use Rattle.ab_progress.specs.ab_equate.specs.Solved.{AreCells}
-use Rattle.ab_progress.specs.ab_logic.specs.Declarations.{Declarations}
-use Rattle.ab_progress.specs.ab_logic.specs.Forms.{Form, truth, falsity, both, either, implies, equal, for_all, exists, nabla, marked, other, form_of, as_equal, equal_in}
-use Rattle.ab_progress.specs.ab_logic.specs.Names.{Label, IsNamedFor, IsNoVariable}
-use Rattle.ab_progress.specs.ab_logic.specs.Sequents.{Sequent, formula_of, assuming, without}
+use Rattle.ab_theory.specs.Equations.{AreCells}
+use Rattle.ab_formulas.specs.Declarations.{Declarations}
+use Rattle.ab_formulas.specs.Forms.{Form, truth, falsity, both, either, implies, equal, for_all, exists, nabla, marked, other, form_of, as_equal, equal_in}
+use Rattle.ab_formulas.specs.Names.{Label, IsNamedFor, IsNoVariable}
+use Rattle.ab_formulas.specs.Sequents.{Sequent, formula_of, assuming, without}
 use Rattle.ab_progress.specs.ab_logic.specs.Worlds.{declarations_of}
 use Rattle.ab_progress.specs.ab_logic.specs.declared.world.World.{World}
-use Rattle.ab_progress.specs.ab_rules.specs.Row.{solves, Takes, Sticks}
-use Rattle.ab_progress.specs.ab_rules.specs.Rules.{NamedRule, Stuck}
-use Rattle.ab_progress.specs.ab_rules.specs.Steps.{equal_left}
+use Rattle.ab_theory.specs.Row.{solves, Takes, Sticks}
+use Rattle.ab_theory.specs.Rules.{NamedRule, Stuck}
+use Rattle.ab_theory.specs.Steps.{equal_left}
 use Rattle.ab_progress.specs.ab_kernel.specs.Layout.{Held}
 use Rattle.ab_progress.specs.ab_effects.specs.Effect.{cases}
 use Rattle.ab_progress.specs.ab_effects.specs.Refusals.{not_pattern}

@@ -6,18 +6,18 @@ use Rattle.std.proofs.Common.{◌≡◌, ◌≢◌, inl, inr, ℕ, suc, ◌+◌,
 use Rattle.std.proofs.lemmas.List.{map-append}
 use Rattle.ab_term.specs.Variables.{Substitution, image}
 use Rattle.ab_term.specs.Sameness.{same_number}
-use Rattle.ab_progress.specs.ab_store.specs.Trees.{Read}
+use Rattle.ab_term.specs.Terms.{Read}
 use Rattle.ab_progress.specs.ab_solve.specs.Replacing.{Cell}
 use Rattle.ab_progress.specs.ab_cases.specs.Alternatives.{alternative, on_left}
-use Rattle.ab_progress.specs.ab_logic.specs.Declarations.{Declarations}
-use Rattle.ab_progress.specs.ab_logic.specs.Names.{Label, given, IsNamedFor, IsNoVariable}
-use Rattle.ab_progress.specs.ab_logic.specs.Sequents.{Variable, Hypothesis, Sequent, IsSequent, named, formula_of, goal_names, assuming, without, IsUsed}
-use Rattle.ab_progress.specs.ab_marks.specs.Marking.{MayBeAnalysed, mark_below, marked_in}
-use Rattle.ab_progress.specs.ab_equate.specs.Solved.{Naming, AreCells, changed, under, renaming, made, stays}
-use Rattle.ab_progress.specs.ab_equate.specs.Cases.{Arises, Split, never, arises, IsUnsplit}
-use Rattle.ab_progress.specs.ab_analysis.specs.Atoms.{Defined, Choice, defined_atom, choices_of}
-use Rattle.ab_progress.specs.ab_analysis.specs.Left.{scope_of, raised_goal, case_of, cases_of}
-use Rattle.ab_progress.specs.ab_rules.specs.Rules.{NamedRule, Fails, Stuck}
+use Rattle.ab_formulas.specs.Declarations.{Declarations}
+use Rattle.ab_formulas.specs.Names.{Label, given, IsNamedFor, IsNoVariable}
+use Rattle.ab_formulas.specs.Sequents.{Variable, Hypothesis, Sequent, IsSequent, named, formula_of, goal_names, assuming, without, IsUsed}
+use Rattle.ab_formulas.specs.Marking.{MayBeAnalysed, mark_below, marked_in}
+use Rattle.ab_theory.specs.Equations.{Naming, AreCells, changed, under, renaming, made, stays}
+use Rattle.ab_theory.specs.Splits.{Arises, Split, never, arises, IsUnsplit}
+use Rattle.ab_theory.specs.Atoms.{Defined, Choice, defined_atom, choices_of}
+use Rattle.ab_theory.specs.Analysis.{scope_of, raised_goal, case_of, cases_of}
+use Rattle.ab_theory.specs.Rules.{NamedRule, Fails, Stuck}
 use Rattle.ab_progress.specs.ab_effects.specs.Analysing.{IsParted, IsUnparted}
 use Rattle.ab_progress.specs.ab_effects.specs.Refusals.{not_pattern}
 use Rattle.ab_left.specs.Cases.{rest_of}

@@ -4,14 +4,13 @@ use Rattle.std.proofs.Common.{◌≡◌, ◌≢◌, ◌⊎◌, inl, inr, ℕ, Li
 use Rattle.std.proofs.lemmas.List.Elements.{All-head, All-tail, All-contains, Contains-append_left, Contains-append_right, Contains-append_cases}
 use Rattle.std.proofs.lemmas.List.Kept.{AllPairs-cons}
 use Rattle.ab_term.specs.Types.{Ty}
-use Rattle.ab_term.specs.Terms.{Nominal}
+use Rattle.ab_term.specs.Terms.{Nominal, Read}
 use Rattle.ab_term.specs.Names.{support}
 use Rattle.ab_term.proofs.Lists.{Contains-none, AllPairs-parts, All-from_contains}
-use Rattle.ab_progress.specs.ab_store.specs.Trees.{Read}
-use Rattle.ab_progress.specs.ab_logic.specs.Sequents.{Hypothesis, Sequent, named, others, formulas, goal_names, names_of, without}
-use Rattle.ab_progress.specs.ab_logic.specs.Names.{IsLeast}
-use Rattle.ab_progress.specs.ab_rules.specs.Rules.{MayName}
-use Rattle.ab_progress.specs.ab_rules.proofs.Sequents.{others_all}
+use Rattle.ab_formulas.specs.Sequents.{Hypothesis, Sequent, named, others, formulas, goal_names, names_of, without}
+use Rattle.ab_formulas.specs.Names.{IsLeast}
+use Rattle.ab_theory.specs.Rules.{MayName}
+use Rattle.ab_theory.proofs.Sequents.{others_all}
 use Rattle.ab_progress.specs.ab_effects.specs.Opening.{MayTake}
 use Rattle.ab_left.specs.Own.{HasAll, besides}
 use Rattle.ab_left.proofs.Hypotheses.{same_or_not, others_none}

@@ -3,15 +3,15 @@ use Rattle.std.specs.Prelude.{All}
 use Rattle.std.proofs.Common.{◌≡◌, ◌≢◌, ℕ, ◌<◌, List, [], ◌∷◌, ◌++◌, Some, None, length, refl, sym, ◌∙◌, ap, subst, append_assoc}
 use Rattle.ab_term.specs.Types.{Ty}
 use Rattle.ab_term.specs.Substitution.{instance}
-use Rattle.ab_progress.specs.ab_store.specs.Trees.{Read}
-use Rattle.ab_progress.specs.ab_logic.specs.Declarations.{Declarations}
-use Rattle.ab_progress.specs.ab_logic.specs.Forms.{truth, both, exists, nabla, form_of, as_exists, as_nabla, exists_in, nabla_in}
-use Rattle.ab_progress.specs.ab_logic.specs.Names.{Label, auto, given, Names, NoName, IsNamedFor, IsLeast}
-use Rattle.ab_progress.specs.ab_logic.specs.Sequents.{Hypothesis, Variable, Sequent, formula_of, formulas, assuming, without, over}
+use Rattle.ab_term.specs.Terms.{Read}
+use Rattle.ab_formulas.specs.Declarations.{Declarations}
+use Rattle.ab_formulas.specs.Forms.{truth, both, exists, nabla, form_of, as_exists, as_nabla, exists_in, nabla_in}
+use Rattle.ab_formulas.specs.Names.{Label, auto, given, Names, NoName, IsNamedFor, IsLeast}
+use Rattle.ab_formulas.specs.Sequents.{Hypothesis, Variable, Sequent, formula_of, formulas, assuming, without, over}
 use Rattle.ab_progress.specs.ab_logic.specs.declared.world.World.{World}
-use Rattle.ab_progress.specs.ab_rules.specs.Steps.{Step, weaken, exists_left, nabla_left}
-use Rattle.ab_progress.specs.ab_rules.specs.Rules.{NamedRule, IsSupport, MayName, raised, applied, hint_of, name_term}
-use Rattle.ab_progress.specs.ab_rules.proofs.NewNumbers.{new_number}
+use Rattle.ab_theory.specs.Steps.{Step, weaken, exists_left, nabla_left}
+use Rattle.ab_theory.specs.Rules.{NamedRule, IsSupport, MayName, raised, applied, hint_of, name_term}
+use Rattle.ab_theory.proofs.NewNumbers.{new_number}
 use Rattle.ab_progress.specs.ab_kernel.specs.Layout.{Held}
 use Rattle.ab_progress.specs.ab_effects.specs.Opening.{IsWhole, Taken, Opened, Nameless, nothing, parts, variable, constant, hypothesis, unnamed}
 use Rattle.ab_progress.specs.Progress.{goals_of, IsAt}

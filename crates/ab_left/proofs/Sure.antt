@@ -4,22 +4,21 @@ use Rattle.std.specs.Option.{IsSome}
 use Rattle.std.proofs.Common.{◌≡◌, ◌≢◌, inl, inr, ℕ, List, ◌++◌, true, false, Option, Some, None, sym, ◌∙◌, ap, subst}
 use Rattle.std.proofs.lemmas.List.Elements.{All-contains, Contains-append_cases}
 use Rattle.ab_term.specs.Types.{prop}
-use Rattle.ab_term.specs.Terms.{Nominal}
+use Rattle.ab_term.specs.Terms.{Nominal, Read}
 use Rattle.ab_term.specs.Names.{support, EqualUpToNames}
 use Rattle.ab_term.proofs.Lists.{Contains-there}
 use Rattle.ab_term.proofs.UpToNames.{up_to_names-itself}
-use Rattle.ab_progress.specs.ab_store.specs.Trees.{Read}
 use Rattle.ab_progress.specs.ab_solve.specs.Replacing.{Cell}
-use Rattle.ab_progress.specs.ab_logic.specs.Declarations.{Declarations, signature_in}
-use Rattle.ab_progress.specs.ab_logic.specs.Formulas.{IsFormula}
-use Rattle.ab_progress.specs.ab_logic.specs.Forms.{as_both, as_either, as_exists, as_nabla, as_falsity, as_equal}
-use Rattle.ab_progress.specs.ab_logic.specs.Marks.{erased, MarksServeIn}
-use Rattle.ab_progress.specs.ab_logic.specs.Names.{Label, given, NoName}
-use Rattle.ab_progress.specs.ab_logic.specs.Sequents.{Sequent, IsSequent, Fits, HoldsOnly, formula_of, formulas, formulas_of, goal_names, proving, assuming, without, IsUsed}
-use Rattle.ab_progress.specs.ab_rules.specs.Steps.{initial, false_left, and_left, or_left, exists_left, nabla_left, equal_left, cut_formula, weaken}
-use Rattle.ab_progress.specs.ab_rules.specs.Rules.{Fails}
+use Rattle.ab_formulas.specs.Declarations.{Declarations, signature_in}
+use Rattle.ab_formulas.specs.Formulas.{IsFormula}
+use Rattle.ab_formulas.specs.Forms.{as_both, as_either, as_exists, as_nabla, as_falsity, as_equal}
+use Rattle.ab_formulas.specs.Marks.{erased, MarksServeIn}
+use Rattle.ab_formulas.specs.Names.{Label, given, NoName}
+use Rattle.ab_formulas.specs.Sequents.{Sequent, IsSequent, Fits, HoldsOnly, formula_of, formulas, formulas_of, goal_names, proving, assuming, without, IsUsed}
+use Rattle.ab_theory.specs.Steps.{initial, false_left, and_left, or_left, exists_left, nabla_left, equal_left, cut_formula, weaken}
+use Rattle.ab_theory.specs.Rules.{Fails}
 use Rattle.ab_progress.specs.ab_rules.proofs.Chosen.{in_goal}
-use Rattle.ab_progress.specs.ab_rules.proofs.Sequents.{found_there}
+use Rattle.ab_theory.proofs.Sequents.{found_there}
 use Rattle.ab_left.proofs.Hypotheses.{named_gone, named_past, named_still_none}
 use Rattle.ab_left.proofs.Marked.{serves_itself}
 

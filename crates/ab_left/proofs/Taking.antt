@@ -2,18 +2,18 @@
 use Rattle.std.specs.Prelude.{Result, Ok, Err}
 use Rattle.std.specs.Option.{IsSome}
 use Rattle.std.proofs.Common.{◌≡◌, ◌≢◌, inl, inr, ℕ, ◌+◌, List, [], ◌∷◌, ◌++◌, Bool, true, false, Option, Some, None, refl, sym, ◌∙◌, ap, subst}
-use Rattle.ab_progress.specs.ab_store.specs.Trees.{Read}
+use Rattle.ab_term.specs.Terms.{Read}
 use Rattle.ab_progress.specs.ab_unifying.specs.Problem.{cells_read}
 use Rattle.ab_progress.specs.ab_store.specs.declared.node.TermId.{TermId}
 use Rattle.ab_grammar.specs.CommandTrees as told
-use Rattle.ab_progress.specs.ab_logic.specs.Declarations.{Declarations}
-use Rattle.ab_progress.specs.ab_logic.specs.Forms.{Form, truth, falsity, both, either, implies, equal, for_all, exists, nabla, marked, other, form_of, as_either, either_in, falsity_in}
-use Rattle.ab_progress.specs.ab_logic.specs.Names.{Label, given, Names, NoName}
-use Rattle.ab_progress.specs.ab_logic.specs.Sequents.{Sequent, formula_of, assuming, without}
+use Rattle.ab_formulas.specs.Declarations.{Declarations}
+use Rattle.ab_formulas.specs.Forms.{Form, truth, falsity, both, either, implies, equal, for_all, exists, nabla, marked, other, form_of, as_either, either_in, falsity_in}
+use Rattle.ab_formulas.specs.Names.{Label, given, Names, NoName}
+use Rattle.ab_formulas.specs.Sequents.{Sequent, formula_of, assuming, without}
 use Rattle.ab_progress.specs.ab_logic.specs.Growth.{Grows}
 use Rattle.ab_progress.specs.ab_logic.specs.Worlds.{declarations_of, Holds, read}
 use Rattle.ab_progress.specs.ab_logic.specs.declared.world.World.{World}
-use Rattle.ab_progress.specs.ab_rules.specs.Steps.{or_left, false_left}
+use Rattle.ab_theory.specs.Steps.{or_left, false_left}
 use Rattle.ab_progress.specs.ab_kernel.specs.Layout.{Held}
 use Rattle.ab_progress.specs.ab_effects.specs.Effect.{effect, cases, clashing}
 use Rattle.ab_progress.specs.ab_effects.specs.Opening.{Opened, Nameless}

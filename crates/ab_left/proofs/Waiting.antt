@@ -1,10 +1,10 @@
 -- Goals that wait for their last hypothesis to be opened, one after another.
 use Rattle.std.specs.Prelude.{None}
 use Rattle.std.proofs.Common.{◌≡◌, ℕ, suc, ◌+◌, ◌<◌, ◌≤◌, List, [], ◌∷◌, ◌++◌, map, take, drop, length, Some, refl, sym, ◌∙◌, ap, subst, arith, append_assoc, append-nil, length-append}
-use Rattle.ab_progress.specs.ab_store.specs.Trees.{Read}
-use Rattle.ab_progress.specs.ab_logic.specs.Declarations.{Declarations}
-use Rattle.ab_progress.specs.ab_logic.specs.Names.{Label}
-use Rattle.ab_progress.specs.ab_logic.specs.Sequents.{Sequent, formula_of, assuming, without}
+use Rattle.ab_term.specs.Terms.{Read}
+use Rattle.ab_formulas.specs.Declarations.{Declarations}
+use Rattle.ab_formulas.specs.Names.{Label}
+use Rattle.ab_formulas.specs.Sequents.{Sequent, formula_of, assuming, without}
 use Rattle.ab_progress.specs.ab_logic.specs.Worlds.{declarations_of}
 use Rattle.ab_progress.specs.ab_logic.specs.declared.world.World.{World}
 use Rattle.ab_progress.specs.ab_kernel.specs.Layout.{Held}

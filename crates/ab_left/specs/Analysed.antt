@@ -1,12 +1,12 @@
 -- What an atom of a hypothesis leaves of a proof: goals that wait for their last hypothesis to be opened, and those in
 -- which it was. Public contracts don't speak of this.
 use Rattle.std.specs.Prelude.{◌≡◌, ◌+◌, ℕ, List, [], ◌∷◌, ◌++◌, length, None}
-use Rattle.ab_progress.specs.ab_store.specs.Trees.{Read}
-use Rattle.ab_progress.specs.ab_logic.specs.Names.{Label, given}
-use Rattle.ab_progress.specs.ab_logic.specs.Sequents.{Sequent, formula_of, assuming}
+use Rattle.ab_term.specs.Terms.{Read}
+use Rattle.ab_formulas.specs.Names.{Label, given}
+use Rattle.ab_formulas.specs.Sequents.{Sequent, formula_of, assuming}
 use Rattle.ab_progress.specs.ab_logic.specs.Worlds.{declarations_of}
 use Rattle.ab_progress.specs.ab_logic.specs.declared.world.World.{World}
-use Rattle.ab_progress.specs.ab_rules.specs.Steps.{Step, definition_left}
+use Rattle.ab_theory.specs.Steps.{Step, definition_left}
 use Rattle.ab_progress.specs.ab_kernel.specs.Layout.{Held}
 use Rattle.ab_progress.specs.ab_effects.specs.Analysing.{AllOpened, SomeNameless}
 use Rattle.ab_progress.specs.Progress.{goals_of}

@@ -1,9 +1,9 @@
 -- What taking a hypothesis apart leaves of a proof. Public contracts don't speak of this.
 use Rattle.std.specs.Prelude.{◌≡◌, List, ◌∷◌, ◌++◌, Bool, None, ℕ, if◌then◌else◌}
-use Rattle.ab_progress.specs.ab_store.specs.Trees.{Read}
-use Rattle.ab_progress.specs.ab_logic.specs.Forms.{Form, truth, falsity, both, either, equal, exists, nabla, marked, other, form_of}
-use Rattle.ab_progress.specs.ab_logic.specs.Names.{Label}
-use Rattle.ab_progress.specs.ab_logic.specs.Sequents.{Sequent, formula_of, assuming, without}
+use Rattle.ab_term.specs.Terms.{Read}
+use Rattle.ab_formulas.specs.Forms.{Form, truth, falsity, both, either, equal, exists, nabla, marked, other, form_of}
+use Rattle.ab_formulas.specs.Names.{Label}
+use Rattle.ab_formulas.specs.Sequents.{Sequent, formula_of, assuming, without}
 use Rattle.ab_progress.specs.ab_logic.specs.Worlds.{declarations_of}
 use Rattle.ab_progress.specs.ab_logic.specs.declared.world.World.{World}
 use Rattle.ab_progress.specs.ab_kernel.specs.Layout.{Held}

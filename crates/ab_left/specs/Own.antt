@@ -1,7 +1,7 @@
 -- Hypotheses that a command makes for itself and removes again. The contracts of commands don't speak of this.
 use Rattle.std.specs.Prelude.{◌≡◌, ◌≢◌, ℕ, ◌+◌, ◌*◌, List, [], ◌∷◌, Some}
-use Rattle.ab_progress.specs.ab_logic.specs.Sequents.{Hypothesis, Sequent, formula_of, without}
-use Rattle.ab_progress.specs.ab_logic.specs.Names.{Label, given, automatic}
+use Rattle.ab_formulas.specs.Sequents.{Hypothesis, Sequent, formula_of, without}
+use Rattle.ab_formulas.specs.Names.{Label, given, automatic}
 use Rattle.ab_progress.proofs.Connectives.{connectives}
 
 -- the name is neither automatic nor the label

@@ -1,11 +1,11 @@
 -- What the calls that open formulas leave of a goal. The contracts of commands don't speak of this.
 use Rattle.std.specs.Prelude.{◌≡◌, ◌<◌, ℕ, List, map, All, Bool, Some, if◌then◌else◌}
-use Rattle.ab_progress.specs.ab_store.specs.Trees.{Read}
-use Rattle.ab_progress.specs.ab_logic.specs.Declarations.{Declarations}
-use Rattle.ab_progress.specs.ab_logic.specs.Names.{Label, auto, Names}
+use Rattle.ab_term.specs.Terms.{Read}
+use Rattle.ab_formulas.specs.Declarations.{Declarations}
+use Rattle.ab_formulas.specs.Names.{Label, auto, Names}
 use Rattle.ab_progress.specs.ab_logic.specs.Readings.{hypothesis_of}
 use Rattle.ab_progress.specs.ab_logic.specs.Worlds.{Holds, declarations_of}
-use Rattle.ab_progress.specs.ab_logic.specs.Sequents.{Hypothesis, Sequent, formula_of, formulas, assuming, without}
+use Rattle.ab_formulas.specs.Sequents.{Hypothesis, Sequent, formula_of, formulas, assuming, without}
 use Rattle.ab_progress.specs.ab_logic.specs.declared.world.World.{World}
 use Rattle.ab_progress.specs.ab_logic.specs.declared.sequent.Hypothesis.{Hypothesis as Kept}
 use Rattle.ab_progress.specs.ab_kernel.specs.Layout.{Held}

@@ -1,7 +1,7 @@
 //! A hypothesis that is an atom of a definition is analysed: the goal is split into the cases of the atom, and what each
 //! case assumes is opened.
 ghost use Rattle.std.specs.Prelude.{◌≡◌, ◌≢◌, ◌+◌, ℕ, [], Ok, Err, OnOk};
-ghost use Rattle.ab_progress.specs.ab_logic.specs.Forms.{form_of};
+ghost use Rattle.ab_formulas.specs.Forms.{form_of};
 ghost use Rattle.ab_progress.specs.ab_logic.specs.Worlds.{IsWorld, Holds, read};
 ghost use Rattle.ab_progress.specs.ab_naming.specs.Labels.{label_of};
 ghost use Rattle.ab_progress.specs.ab_kernel.specs.Layout.{history_of, IsProof};

@@ -1,10 +1,10 @@
 //! A hypothesis is put behind the others under a name of the command's own, before it is taken apart.
 ghost use Rattle.std.specs.Prelude.{◌≡◌, ◌≢◌, [], ◌∷◌, List, IfOk};
-ghost use Rattle.ab_progress.specs.ab_logic.specs.Sequents.{Sequent as AGoal};
+ghost use Rattle.ab_formulas.specs.Sequents.{Sequent as AGoal};
 ghost use Rattle.ab_progress.specs.ab_logic.specs.Worlds.{IsWorld, Holds, read};
 ghost use Rattle.ab_progress.specs.ab_naming.specs.Labels.{label_of};
 ghost use Rattle.ab_progress.specs.ab_unifying.specs.Problem.{cells_read};
-ghost use Rattle.ab_progress.specs.ab_equate.specs.Solved.{AreCells};
+ghost use Rattle.ab_theory.specs.Equations.{AreCells};
 ghost use Rattle.ab_progress.specs.ab_kernel.specs.Layout.{IsProof};
 ghost use Rattle.ab_progress.specs.Progress.{goals_of, Follows};
 ghost use Rattle.ab_left.specs.Own.{IsOwn};

@@ -2,9 +2,9 @@
 ghost use Rattle.std.specs.Prelude.{◌≡◌, ◌≢◌, ◌∷◌, [], List, Err, IfOk, OnOk, OnErr};
 ghost use Rattle.std.specs.Option.{option_map, option_copied};
 ghost use Rattle.ab_grammar.specs.CommandTrees as told;
-ghost use Rattle.ab_progress.specs.ab_logic.specs.Names as plain;
+ghost use Rattle.ab_formulas.specs.Names as plain;
 ghost use Rattle.ab_progress.specs.ab_logic.specs.Readings.{sequent_of};
-ghost use Rattle.ab_progress.specs.ab_logic.specs.Sequents.{Sequent as AGoal, without};
+ghost use Rattle.ab_formulas.specs.Sequents.{Sequent as AGoal, without};
 ghost use Rattle.ab_progress.specs.ab_logic.specs.Worlds.{IsWorld};
 ghost use Rattle.ab_progress.specs.ab_logic.specs.declared.world.World.{World as AWorld};
 ghost use Rattle.ab_progress.specs.ab_kernel.specs.Layout.{history_of, IsProof};

@@ -1,9 +1,9 @@
 //! A hypothesis is removed, is put behind the others once more, or is named anew there.
 ghost use Rattle.std.specs.Prelude.{◌≡◌, List, Some, IfOk, OnOk, IsTrue, IsFalse};
-ghost use Rattle.ab_progress.specs.ab_store.specs.Trees.{Read};
+ghost use Rattle.ab_term.specs.Terms.{Read};
 ghost use Rattle.ab_progress.specs.ab_logic.specs.Worlds.{IsWorld, Holds, read};
-ghost use Rattle.ab_progress.specs.ab_logic.specs.Names.{NoName};
-ghost use Rattle.ab_progress.specs.ab_logic.specs.Sequents.{Sequent as AGoal, formula_of, without};
+ghost use Rattle.ab_formulas.specs.Names.{NoName};
+ghost use Rattle.ab_formulas.specs.Sequents.{Sequent as AGoal, formula_of, without};
 ghost use Rattle.ab_progress.specs.ab_naming.specs.Labels.{label_of};
 ghost use Rattle.ab_progress.specs.ab_kernel.specs.Layout.{history_of, IsProof};
 ghost use Rattle.ab_progress.specs.Progress.{IsAt, Follows};

@@ -1,11 +1,12 @@
 //! How formulas become hypotheses.
 ghost use Rattle.std.specs.Prelude.{◌≡◌, [], ◌∷◌, List, Some, Err, map, reverse, IfOk, OnOk};
 ghost use Rattle.ab_term.specs.Types.{Ty};
-ghost use Rattle.ab_progress.specs.ab_store.specs.Trees.{Read};
-ghost use Rattle.ab_progress.specs.ab_logic.specs.Forms.{form_of, both, truth, exists, nabla, HoldsParts};
-ghost use Rattle.ab_progress.specs.ab_logic.specs.Names.{auto, Label as AName};
+ghost use Rattle.ab_term.specs.Terms.{Read};
+ghost use Rattle.ab_formulas.specs.Forms.{form_of, both, truth, exists, nabla};
+ghost use Rattle.ab_progress.specs.ab_logic.specs.Forms.{HoldsParts};
+ghost use Rattle.ab_formulas.specs.Names.{auto, Label as AName};
 ghost use Rattle.ab_progress.specs.ab_logic.specs.Readings.{hypothesis_of};
-ghost use Rattle.ab_progress.specs.ab_logic.specs.Sequents.{Sequent as AGoal, formula_of, formulas, without};
+ghost use Rattle.ab_formulas.specs.Sequents.{Sequent as AGoal, formula_of, formulas, without};
 ghost use Rattle.ab_progress.specs.ab_logic.specs.Worlds.{IsWorld, Holds, declarations_of, read};
 ghost use Rattle.ab_progress.specs.ab_naming.specs.Labels.{label_of};
 ghost use Rattle.ab_progress.specs.ab_kernel.specs.Layout.{IsProof};

@@ -1,9 +1,9 @@
 //! Names for hypotheses that a command makes for itself and removes again.
 ghost use Rattle.std.specs.Prelude.{◌≡◌, ◌≢◌, ◌⊎◌, ◌+◌, ◌<◌, ◌^◌, ◌++◌, ◌↔◌, length, IfOk, IsTrue, IsFalse, None, codes};
 ghost use Rattle.std.specs.Fmt.{decimal};
-ghost use Rattle.ab_progress.specs.ab_logic.specs.Names.{given};
+ghost use Rattle.ab_formulas.specs.Names.{given};
 ghost use Rattle.ab_progress.specs.ab_logic.specs.Readings.{sequent_of};
-ghost use Rattle.ab_progress.specs.ab_logic.specs.Sequents.{formula_of, IsUsed};
+ghost use Rattle.ab_formulas.specs.Sequents.{formula_of, IsUsed};
 ghost use Rattle.ab_progress.specs.ab_logic.specs.declared.world.World.{World as AWorld};
 ghost use Rattle.ab_progress.specs.ab_naming.specs.Labels.{label_of};
 ghost use Rattle.ab_left.specs.Own.{IsOwn};

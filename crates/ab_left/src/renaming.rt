@@ -1,7 +1,7 @@
 //! A hypothesis gets another name.
 ghost use Rattle.std.specs.Prelude.{◌≡◌, ◌≢◌, [], Err, IfOk, OnErr};
 ghost use Rattle.ab_grammar.specs.CommandTrees as told;
-ghost use Rattle.ab_progress.specs.ab_logic.specs.Names as plain;
+ghost use Rattle.ab_formulas.specs.Names as plain;
 ghost use Rattle.ab_progress.specs.ab_logic.specs.Worlds.{IsWorld};
 ghost use Rattle.ab_progress.specs.ab_kernel.specs.Layout.{history_of, IsProof};
 ghost use Rattle.ab_progress.specs.Applied.{IsApplied, IsRefused};

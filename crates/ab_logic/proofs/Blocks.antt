@@ -8,7 +8,8 @@ use Rattle.ab_term.specs.Typing.{Signature}
 use Rattle.ab_term.specs.Variables.{value_in}
 use Rattle.ab_term.specs.Sameness.{same_number}
 use Rattle.ab_term.proofs.Unique.{more_typed}
-use Rattle.ab_clauses.specs.ab_types.specs.Entries.{Table, Constant, signature}
+use Rattle.ab_term.specs.Constants.{Constant}
+use Rattle.ab_clauses.specs.ab_types.specs.Entries.{Table, signature}
 use Rattle.ab_clauses.specs.ab_types.specs.Ids.{HoldsConstant, constant_of}
 use Rattle.ab_clauses.specs.ab_types.specs.declared.ids.ConstId.{ConstId}
 use Rattle.ab_clauses.specs.ab_types.proofs.Entries.{holds_constant, same_constant, same_signature}
@@ -17,28 +18,29 @@ use Rattle.ab_clauses.specs.ab_store.specs.declared.node.TermId.{TermId}
 use Rattle.ab_clauses.specs.ab_store.specs.declared.node.CellId.{CellId}
 use Rattle.ab_clauses.specs.ab_cases.specs.Clauses.{numbered, put_together}
 use Rattle.ab_clauses.specs.ab_cases.specs.Prefixes.{own_terms}
-use Rattle.ab_clauses.specs.Kept as kept
-use Rattle.ab_clauses.specs.Cases.{in_terms, cell_of, case_of, IsWellKept}
+use Rattle.ab_formulas.specs.Kept as kept
+use Rattle.ab_formulas.specs.Cased.{in_terms, cell_of, case_of, IsWellKept}
 use Rattle.ab_clauses.specs.Readings as clauses
 use Rattle.ab_clauses.specs.Readings.{name_of, clause_of, block_of, HoldsClause, HoldsBlock}
-use Rattle.ab_clauses.specs.Faults.{IsRight, IsRightBlock}
-use Rattle.ab_clauses.specs.Proposed.{IsProposed}
-use Rattle.ab_clauses.proofs.Proposing.{well_kept}
+use Rattle.ab_formulas.specs.Faults.{IsRight, IsRightBlock}
+use Rattle.ab_formulas.specs.Proposed.{IsProposed}
+use Rattle.ab_formulas.proofs.Proposing.{well_kept}
 use Rattle.ab_clauses.specs.declared.kept.Block.{Block as KeptBlock}
 use Rattle.ab_clauses.specs.declared.kept.ClauseTerm.{ClauseTerm}
-use Rattle.ab_clauses.proofs.Cased.{is_clause}
+use Rattle.ab_formulas.proofs.ClausesCased.{is_clause}
 use Rattle.ab_clauses.proofs.Names.{same_search}
-use Rattle.ab_logic.specs.Formulas.{a_formula, IsFormula}
-use Rattle.ab_logic.specs.Declarations.{Declarations, a_block, a_theorem, block_in, IsDefining}
+use Rattle.ab_formulas.specs.Formulas.{a_formula, IsFormula}
+use Rattle.ab_formulas.specs.Declarations.{Declarations, a_block, a_theorem, block_in, IsDefining}
 use Rattle.ab_logic.specs.Additions.{block_or, block_kept, is_among}
 use Rattle.ab_logic.specs.Worlds.{read, Holds, HoldsCell, variable_of, declared, defined, definition_of, declaration_of, declared_from, CameInOrder, IsKeptClause, IsKeptBlock, IsKept}
-use Rattle.ab_logic.specs.Sequents.{Variable}
+use Rattle.ab_formulas.specs.Sequents.{Variable}
 use Rattle.ab_logic.specs.declared.world.World.{World}
 use Rattle.ab_logic.specs.declared.additions.Added.{Added}
 use Rattle.ab_logic.specs.declared.additions.Addition.{Addition}
 use Rattle.ab_logic.specs.declared.additions.Addition.TheVariants.{Theorem, Definition}
-use Rattle.ab_logic.proofs.Images.{image_stands}
-use Rattle.ab_logic.proofs.Declaring.{or_else, block_in-append, block-declared, ReadsSame, declared_on, order_on}
+use Rattle.ab_formulas.proofs.Images.{image_stands}
+use Rattle.ab_formulas.proofs.Declaring.{or_else, block_in-append}
+use Rattle.ab_logic.proofs.Declaring.{block-declared, ReadsSame, declared_on, order_on}
 
 -- what is well kept defines
 

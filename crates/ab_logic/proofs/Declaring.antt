@@ -4,16 +4,11 @@ use Rattle.std.specs.List.{All, list_any}
 use Rattle.std.proofs.Common.{◌≡◌, ℕ, ◌+◌, ◌-◌, ◌≤◌, Bool, true, false, if◌then◌else◌, Option, Some, None, List, [], ◌∷◌, ◌++◌, length, map, take, drop, bytes_eq, refl, sym, ◌∙◌, ap, subst, arith, append_assoc, append-nil, length-drop, length-append}
 use Rattle.std.proofs.lemmas.List.{take_all, take-append-le, drop-append-le, take-append-drop, drop-drop}
 use Rattle.std.proofs.lemmas.List.Elements.{All-head, All-tail, All-weaker}
-use Rattle.ab_term.specs.Types.{Ty}
-use Rattle.ab_term.specs.Typing as typing
-use Rattle.ab_term.proofs.Unique.{more_typed}
 use Rattle.ab_clauses.specs.ab_types.specs.Entries as table
 use Rattle.ab_clauses.specs.ab_types.specs.Entries.{Table}
 use Rattle.ab_clauses.specs.ab_types.proofs.Entries.{constants-append}
-use Rattle.ab_clauses.specs.ab_store.specs.Trees.{Read}
-use Rattle.ab_clauses.specs.ab_cases.specs.Clauses.{Clause}
-use Rattle.ab_logic.specs.Formulas.{IsFormula, IsSentence}
-use Rattle.ab_logic.specs.Declarations.{Declarations, Block, a_kind, a_constant, a_block, a_program_clause, a_theorem, Extends, constants_in, signature_in, theorem_in, theorems_in, block_in, IsDefining, HaveSentences, HaveDefinitions}
+use Rattle.ab_term.specs.Terms.{Read}
+use Rattle.ab_formulas.specs.Declarations.{Declarations, a_kind, a_constant, constants_in, theorem_in, theorems_in, block_in, HaveSentences, HaveDefinitions}
 use Rattle.ab_logic.specs.Additions.{entry_or, entry_in, entries_with, entries_of}
 use Rattle.ab_logic.specs.Worlds.{read, declared, declaration_of, declared_from, CameInOrder}
 use Rattle.ab_logic.specs.declared.world.World.{World}
@@ -21,6 +16,7 @@ use Rattle.ab_logic.specs.declared.additions.Added.{Added}
 use Rattle.ab_logic.specs.declared.additions.Addition.{Addition}
 use Rattle.ab_logic.specs.declared.additions.Addition.TheVariants.{Theorem, Definition}
 use Rattle.ab_logic.specs.declared.additions.TheoremEntry.{TheoremEntry}
+pub use Rattle.ab_formulas.proofs.Declaring.{constants_in-append, theorems_in-append, or_else, or_else_test, theorem_in-append, block_in-append, still_theorem, type_in-append, more_constants, still_formula, still_sentence, extends_not, extends_on, still_defining, sentences_behind, definitions_behind, sentences_added, sentences_defined, definitions_added, definitions_defined}
 
 -- lists of declarations, one behind another
 
@@ -36,46 +32,11 @@ constants-declared (table.a_kind k ∷ s) = constants-declared s
 constants-declared (table.a_type A ∷ s) = constants-declared s
 constants-declared (table.a_constant c ∷ s) = ap (λ cs. c ∷ cs) (constants-declared s)
 
-pub constants_in-append : (D E : Declarations) → constants_in (D ++ E) ≡ constants_in D ++ constants_in E
-constants_in-append [] E = refl
-constants_in-append (a_kind k ∷ D) E = constants_in-append D E
-constants_in-append (a_constant c A ∷ D) E = ap (λ cs. record { name = c; type = A } ∷ cs) (constants_in-append D E)
-constants_in-append (a_block b ∷ D) E = constants_in-append D E
-constants_in-append (a_program_clause c ∷ D) E = constants_in-append D E
-constants_in-append (a_theorem n F ∷ D) E = constants_in-append D E
-
-pub theorems_in-append : (D E : Declarations) → theorems_in (D ++ E) ≡ theorems_in D ++ theorems_in E
-theorems_in-append [] E = refl
-theorems_in-append (a_kind k ∷ D) E = theorems_in-append D E
-theorems_in-append (a_constant c A ∷ D) E = theorems_in-append D E
-theorems_in-append (a_block b ∷ D) E = theorems_in-append D E
-theorems_in-append (a_program_clause c ∷ D) E = theorems_in-append D E
-theorems_in-append (a_theorem n F ∷ D) E = ap (λ ts. (n, F) ∷ ts) (theorems_in-append D E)
-
 pub theorems-declared : (s : Table) → theorems_in (declared s) ≡ []
 theorems-declared [] = refl
 theorems-declared (table.a_kind k ∷ s) = theorems-declared s
 theorems-declared (table.a_type A ∷ s) = theorems-declared s
 theorems-declared (table.a_constant c ∷ s) = theorems-declared s
-
--- the first of two, if there is one
-abbrev pub or_else : {X : Type 0} → Option X → Option X → Option X
-or_else None o = o
-or_else (Some F) o = Some F
-
-or_else_test : {X : Type 0} (b : Bool) (F : X) (o p : Option X) → (if b then Some F else (or_else o p)) ≡ or_else (if b then Some F else o) p
-or_else_test true F o p = refl
-or_else_test false F o p = refl
-
-pub theorem_in-append : (D E : Declarations) (name : List ℕ) → theorem_in (D ++ E) name ≡ or_else (theorem_in D name) (theorem_in E name)
-theorem_in-append [] E name = refl
-theorem_in-append (a_kind k ∷ D) E name = theorem_in-append D E name
-theorem_in-append (a_constant c A ∷ D) E name = theorem_in-append D E name
-theorem_in-append (a_block b ∷ D) E name = theorem_in-append D E name
-theorem_in-append (a_program_clause c ∷ D) E name = theorem_in-append D E name
-theorem_in-append (a_theorem n F ∷ D) E name =
-    ap (λ o. if bytes_eq name n then Some F else o) (theorem_in-append D E name)
-    ∙ or_else_test (bytes_eq name n) F (theorem_in D name) (theorem_in E name)
 
 pub theorem-declared : (s : Table) (name : List ℕ) → theorem_in (declared s) name ≡ None
 theorem-declared [] name = refl
@@ -83,121 +44,19 @@ theorem-declared (table.a_kind k ∷ s) name = theorem-declared s name
 theorem-declared (table.a_type A ∷ s) name = theorem-declared s name
 theorem-declared (table.a_constant c ∷ s) name = theorem-declared s name
 
-pub block_in-append : (D E : Declarations) (p : List ℕ) → block_in (D ++ E) p ≡ or_else (block_in D p) (block_in E p)
-block_in-append [] E p = refl
-block_in-append (a_kind k ∷ D) E p = block_in-append D E p
-block_in-append (a_constant c A ∷ D) E p = block_in-append D E p
-block_in-append (a_block b ∷ D) E p =
-    ap (λ o. if list_any (bytes_eq p) b.predicates then Some b else o) (block_in-append D E p)
-    ∙ or_else_test (list_any (bytes_eq p) b.predicates) b (block_in D p) (block_in E p)
-block_in-append (a_program_clause c ∷ D) E p = block_in-append D E p
-block_in-append (a_theorem n F ∷ D) E p = block_in-append D E p
-
 pub block-declared : (s : Table) (p : List ℕ) → block_in (declared s) p ≡ None
 block-declared [] p = refl
 block-declared (table.a_kind k ∷ s) p = block-declared s p
 block-declared (table.a_type A ∷ s) p = block-declared s p
 block-declared (table.a_constant c ∷ s) p = block-declared s p
 
--- what stands in a list stands in a longer one
-
-pub still_theorem : (D E : Declarations) → Extends D E → (name : List ℕ) (F : Read) → theorem_in D name ≡ Some F → theorem_in E name ≡ Some F
-still_theorem D E more name F e =
-    ap (λ ds. theorem_in ds name) more.1 ∙ theorem_in-append D more.0 name ∙ ap (λ o. or_else o (theorem_in more.0 name)) e
-
-type_in-append : (cs ds : List table.Constant) (name : List ℕ) (A : Ty) → table.type_in cs name ≡ Some A → table.type_in (cs ++ ds) name ≡ Some A
-type_in-append [] ds name A e = absurd (cc)
-type_in-append (c ∷ cs) ds name A e = go (bytes_eq name c.name) e (type_in-append cs ds name A)
-  where
-    go : (b : Bool) → (if b then Some c.type else table.type_in cs name) ≡ Some A → (table.type_in cs name ≡ Some A → table.type_in (cs ++ ds) name ≡ Some A) → (if b then Some c.type else table.type_in (cs ++ ds) name) ≡ Some A
-    go true p rest = p
-    go false p rest = rest p
-
-pub more_constants : (D E : Declarations) → Extends D E → typing.IsExtendedBy (signature_in D) (signature_in E)
-more_constants D E more c A e =
-    ap (λ ds. table.type_in (constants_in ds) c) more.1
-    ∙ ap (λ cs. table.type_in cs c) (constants_in-append D more.0)
-    ∙ type_in-append (constants_in D) (constants_in more.0) c A e
-
-pub still_formula : (D E : Declarations) → Extends D E → (F : Read) → IsFormula (signature_in D) F → IsFormula (signature_in E) F
-still_formula D E more F f = record { typed = more_typed (signature_in D) (signature_in E) (more_constants D E more) f.typed; stands = f.stands }
-
-pub still_sentence : (D E : Declarations) → Extends D E → (F : Read) → IsSentence (signature_in D) F → IsSentence (signature_in E) F
-still_sentence D E more F f = record { formula = still_formula D E more F f.formula; closed = f.closed; nameless = f.nameless }
-
-pub extends_not : (D : Declarations) → Extends D D
-extends_not D = ([], sym (append-nil D))
-
-pub extends_on : (C D E : Declarations) → Extends C D → Extends D E → Extends C E
-extends_on C D E a b = (a.0 ++ b.0, b.1 ∙ ap (λ x. x ++ b.0) a.1 ∙ append_assoc C a.0 b.0)
-
-pub still_defining : (D E : Declarations) → Extends D E → (c : Clause (List ℕ)) → IsDefining (signature_in D) c → IsDefining (signature_in E) c
-still_defining D E more c d =
-    let larger = more_constants D E more in
-    record {
-      clause = record {
-        head = more_typed (signature_in D) (signature_in E) larger d.clause.head;
-        body = more_typed (signature_in D) (signature_in E) larger d.clause.body;
-        head_without_constants = d.clause.head_without_constants;
-        body_without_constants = d.clause.body_without_constants;
-        head_variables = d.clause.head_variables;
-        body_variables = d.clause.body_variables;
-      };
-      body = still_formula D E more c.body d.body;
-    }
-
--- sentences behind sentences, and definitions behind definitions
-
-pub sentences_behind : (D E : Declarations) → HaveSentences D → ((name : List ℕ) (F : Read) → theorem_in E name ≡ Some F → IsSentence (signature_in (D ++ E)) F) → HaveSentences (D ++ E)
-sentences_behind D E all more name F e = go (theorem_in D name) refl (sym (theorem_in-append D E name) ∙ e)
-  where
-    go : (o : Option Read) → theorem_in D name ≡ o → or_else o (theorem_in E name) ≡ Some F → IsSentence (signature_in (D ++ E)) F
-    go None q p = more name F p
-    go (Some H) q p = still_sentence D (D ++ E) (E, refl) F (all name F (q ∙ p))
-
-pub definitions_behind : (D E : Declarations) → HaveDefinitions D → ((p : List ℕ) (b : Block) → block_in E p ≡ Some b → All (IsDefining (signature_in (D ++ E))) b.clauses) → HaveDefinitions (D ++ E)
-definitions_behind D E all more p b e = go (block_in D p) refl (sym (block_in-append D E p) ∙ e)
-  where
-    go : (o : Option Block) → block_in D p ≡ o → or_else o (block_in E p) ≡ Some b → All (IsDefining (signature_in (D ++ E))) b.clauses
-    go None q r = more p b r
-    go (Some c) q r = All-weaker (IsDefining (signature_in D)) (IsDefining (signature_in (D ++ E))) (still_defining D (D ++ E) (E, refl)) b.clauses (all p b (q ∙ r))
-
 -- of a table's entries, of one theorem, or of one definition
 
 pub sentences_declared : (D : Declarations) (s : Table) → HaveSentences D → HaveSentences (D ++ declared s)
 sentences_declared D s all = sentences_behind D (declared s) all (λ name F e. let none = sym (theorem-declared s name) ∙ e in absurd (cc))
 
-pub sentences_added : (D : Declarations) (n : List ℕ) (G : Read) → HaveSentences D → IsSentence (signature_in D) G → HaveSentences (D ++ a_theorem n G ∷ [])
-sentences_added D n G all own = sentences_behind D (a_theorem n G ∷ []) all (λ name F e. go (bytes_eq name n) F e)
-  where
-    E : Declarations
-    E = a_theorem n G ∷ []
-
-    go : (b : Bool) (F : Read) → (if b then Some G else None) ≡ Some F → IsSentence (signature_in (D ++ E)) F
-    go true F p = let same : G ≡ F = cc in subst (IsSentence (signature_in (D ++ E))) same (still_sentence D (D ++ E) (E, refl) G own)
-    go false F p = absurd (cc)
-
-pub sentences_defined : (D : Declarations) (b : Block) → HaveSentences D → HaveSentences (D ++ a_block b ∷ [])
-sentences_defined D b all = sentences_behind D (a_block b ∷ []) all (λ name F e. absurd (cc))
-
 pub definitions_declared : (D : Declarations) (s : Table) → HaveDefinitions D → HaveDefinitions (D ++ declared s)
 definitions_declared D s all = definitions_behind D (declared s) all (λ p b e. let none = sym (block-declared s p) ∙ e in absurd (cc))
-
-pub definitions_added : (D : Declarations) (n : List ℕ) (G : Read) → HaveDefinitions D → HaveDefinitions (D ++ a_theorem n G ∷ [])
-definitions_added D n G all = definitions_behind D (a_theorem n G ∷ []) all (λ p b e. absurd (cc))
-
-pub definitions_defined : (D : Declarations) (b : Block) → HaveDefinitions D → All (IsDefining (signature_in D)) b.clauses → HaveDefinitions (D ++ a_block b ∷ [])
-definitions_defined D b all own = definitions_behind D (a_block b ∷ []) all (λ p c e. go (list_any (bytes_eq p) b.predicates) c e)
-  where
-    E : Declarations
-    E = a_block b ∷ []
-
-    go : (t : Bool) (c : Block) → (if t then Some b else None) ≡ Some c → All (IsDefining (signature_in (D ++ E))) c.clauses
-    go true c r =
-        let same : b ≡ c = cc in
-        subst (λ (x : Block). All (IsDefining (signature_in (D ++ E))) x.clauses) same
-        (All-weaker (IsDefining (signature_in D)) (IsDefining (signature_in (D ++ E))) (still_defining D (D ++ E) (E, refl)) b.clauses own)
-    go false c r = absurd (cc)
 
 -- the declarations of a world, one addition after another
 

@@ -17,8 +17,8 @@ use Rattle.ab_clauses.specs.ab_store.specs.Naming.{IsTypedBy}
 use Rattle.ab_clauses.specs.ab_store.proofs.Marking.{kept_itself, kept_on}
 use Rattle.ab_clauses.specs.ab_store.proofs.Tables.{same_tree, still_typed}
 use Rattle.ab_clauses.specs.declared.kept.Block.{Block}
-use Rattle.ab_logic.specs.Declarations.{signature_in, IsDefining, HaveSentences, HaveDefinitions}
-use Rattle.ab_logic.specs.Formulas.{IsSentence}
+use Rattle.ab_formulas.specs.Declarations.{signature_in, IsDefining, HaveSentences, HaveDefinitions}
+use Rattle.ab_formulas.specs.Formulas.{IsSentence}
 use Rattle.ab_logic.specs.Worlds.{read, Holds, HoldsCell, variable_of, declared, definition_of, declaration_of, declared_from, declarations_of, IsKeptBlock, IsKept, IsWorld}
 use Rattle.ab_logic.specs.Readings.{hypothesis_of, sequent_of, HoldsSequent}
 use Rattle.ab_logic.specs.Growth.{Grows}
@@ -28,7 +28,8 @@ use Rattle.ab_logic.specs.declared.additions.Addition.TheVariants.{Theorem, Defi
 use Rattle.ab_logic.specs.declared.additions.TheoremEntry.{TheoremEntry}
 use Rattle.ab_logic.specs.declared.sequent.Sequent.{Sequent as Kept}
 use Rattle.ab_logic.specs.declared.sequent.Hypothesis.{Hypothesis}
-use Rattle.ab_logic.proofs.Declaring.{constants_are, theorem-declared, block-declared, declared_added, order_added, sentences_declared, sentences_added, sentences_defined, definitions_declared, definitions_added, definitions_defined, extends_not, extends_on}
+use Rattle.ab_formulas.proofs.Declaring.{sentences_added, sentences_defined, definitions_added, definitions_defined, extends_not, extends_on}
+use Rattle.ab_logic.proofs.Declaring.{constants_are, theorem-declared, block-declared, declared_added, order_added, sentences_declared, definitions_declared}
 use Rattle.ab_logic.proofs.Blocks.{all_kept, declared_more, order_more, block_defines}
 
 pub grows_not : (w : World) → IsWorld w → Grows w w

@@ -1,9 +1,7 @@
 pub mod Counts
 pub mod Removing
 pub mod Lookups
-pub mod Images
 pub mod Declaring
 pub mod Blocks
 pub mod Growing
 pub mod Members
-mod Firsts

@@ -2,12 +2,11 @@
 use Rattle.std.specs.Prelude.{◌≡◌, [], ◌∷◌, codes}
 use Rattle.ab_term.specs.Types.{o, olist}
 use Rattle.ab_term.specs.Logical.{truth}
-use Rattle.ab_term.specs.Terms.{constant, logical, spine, no_terms}
+use Rattle.ab_term.specs.Terms.{constant, logical, spine, no_terms, Read}
 use Rattle.ab_clauses.specs.ab_types.specs.Entries.{Table}
 use Rattle.ab_clauses.specs.ab_types.specs.Ids.{HoldsType, HoldsConstant, type_of}
-use Rattle.ab_clauses.specs.ab_store.specs.Trees.{Read}
 use Rattle.ab_clauses.specs.ab_cases.specs.Member.{clause_variable, before, in_the_list}
-use Rattle.ab_clauses.specs.Kept.{Clause}
+use Rattle.ab_formulas.specs.Kept.{Clause}
 use Rattle.ab_clauses.specs.Readings.{name_of}
 use Rattle.ab_logic.specs.declared.member.Words.{Words}
 

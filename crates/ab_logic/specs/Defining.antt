@@ -2,9 +2,9 @@
 -- the first fault of the clauses.
 use Rattle.std.specs.Prelude.{◌≡◌, ℕ, List, ◌∷◌, ◌++◌, None, All}
 use Rattle.std.specs.Option.{IsSome}
-use Rattle.ab_clauses.specs.Kept.{Block}
-use Rattle.ab_clauses.specs.Faults.{bad_head, not_stratified, IsRightBlock, IsFaultOf}
-use Rattle.ab_logic.specs.Declarations.{Declarations, block_in}
+use Rattle.ab_formulas.specs.Kept.{Block}
+use Rattle.ab_formulas.specs.Faults.{bad_head, not_stratified, IsRightBlock, IsFaultOf}
+use Rattle.ab_formulas.specs.Declarations.{Declarations, block_in}
 use Rattle.ab_logic.specs.declared.world.DefineFault.{DefineFault}
 use Rattle.ab_logic.specs.declared.world.DefineFault.TheVariants.{Clash, NotStratified, BadHead, Memory}
 

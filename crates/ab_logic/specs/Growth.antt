@@ -6,7 +6,7 @@ use Rattle.ab_clauses.specs.ab_store.specs.declared.node.TermId.{TermId}
 use Rattle.ab_clauses.specs.ab_store.specs.declared.node.CellId.{CellId}
 use Rattle.ab_clauses.specs.ab_store.specs.declared.mark.Mark.{Mark}
 use Rattle.ab_clauses.specs.ab_store.specs.Marks.{HasMark, KeepsMark}
-use Rattle.ab_logic.specs.Declarations.{Extends}
+use Rattle.ab_formulas.specs.Declarations.{Extends}
 use Rattle.ab_logic.specs.Worlds.{read, Holds, variable_of, HoldsCell, declarations_of, IsWorld}
 use Rattle.ab_logic.specs.declared.world.World.{World}
 use Rattle.ab_logic.specs.declared.additions.Added.{Added}

@@ -1,10 +1,5 @@
 -- What the logic speaks of, over plain trees: formulas and their marks, declarations, sequents. And how the
 -- program's worlds and sequents stand for these.
-pub mod Formulas
-pub mod Marks
-pub mod Declarations
-pub mod Sequents
-pub mod Names
 pub mod Worlds
 pub mod Growth
 pub mod Readings

@@ -1,7 +1,7 @@
 -- What the program's sequents stand for, over the numbers of a world's cells.
 use Rattle.std.specs.Prelude.{map, All}
 use Rattle.ab_logic.specs.Worlds.{read, Holds, HoldsCell, variable_of}
-use Rattle.ab_logic.specs.Sequents.{Hypothesis, Sequent}
+use Rattle.ab_formulas.specs.Sequents.{Hypothesis, Sequent}
 use Rattle.ab_logic.specs.declared.world.World.{World}
 use Rattle.ab_logic.specs.declared.sequent.Sequent.{Sequent as Kept}
 use Rattle.ab_logic.specs.declared.sequent.Hypothesis.{Hypothesis as KeptHypothesis}

@@ -6,17 +6,18 @@ use Rattle.ab_clauses.specs.ab_types.specs.Entries.{Table, signature, first_entr
 use Rattle.ab_clauses.specs.ab_store.specs.declared.node.TermId.{TermId}
 use Rattle.ab_clauses.specs.ab_store.specs.declared.node.CellId.{CellId}
 use Rattle.ab_clauses.specs.ab_store.specs.Trees as store
-use Rattle.ab_clauses.specs.ab_store.specs.Trees.{Read, Contents, tree_of}
+use Rattle.ab_term.specs.Terms.{Read}
+use Rattle.ab_clauses.specs.ab_store.specs.Trees.{Contents, tree_of}
 use Rattle.ab_clauses.specs.ab_store.specs.Naming.{IsTypedBy}
 use Rattle.ab_clauses.specs.ab_cases.specs.Member.{member_clauses}
-use Rattle.ab_clauses.specs.Kept as kept
-use Rattle.ab_clauses.specs.Cases.{case_of, IsWellKept}
+use Rattle.ab_formulas.specs.Kept as kept
+use Rattle.ab_formulas.specs.Cased.{case_of, IsWellKept}
 use Rattle.ab_clauses.specs.Readings.{clause_of, block_of, HoldsClause}
 use Rattle.ab_clauses.specs.declared.kept.Block.{Block as KeptBlock}
 use Rattle.ab_clauses.specs.declared.kept.ClauseTerm.{ClauseTerm}
-use Rattle.ab_logic.specs.Formulas.{IsFormula}
-use Rattle.ab_logic.specs.Declarations.{Declaration, Declarations, Block, a_kind, a_constant, a_block, a_theorem, HaveSentences, HaveDefinitions}
-use Rattle.ab_logic.specs.Sequents.{Variable}
+use Rattle.ab_formulas.specs.Formulas.{IsFormula}
+use Rattle.ab_formulas.specs.Declarations.{Declaration, Declarations, Block, a_kind, a_constant, a_block, a_theorem, HaveSentences, HaveDefinitions}
+use Rattle.ab_formulas.specs.Sequents.{Variable}
 use Rattle.ab_logic.specs.declared.world.World.{World}
 use Rattle.ab_logic.specs.declared.additions.Added.{Added}
 use Rattle.ab_logic.specs.declared.additions.Addition.{Addition}

@@ -2,7 +2,8 @@
 ghost use Rattle.std.specs.Prelude.{◌≡◌, IsTrue, IsFalse, Some, None, IfSome};
 ghost use Rattle.std.specs.Option.{option_map};
 ghost use Rattle.ab_logic.specs.Worlds.{Holds, IsWorld, read};
-ghost use Rattle.ab_logic.specs.Forms.{form_of, form_read, HoldsForm, parts_read, HoldsParts, binder_read, HoldsBinder, FormIsTyped, BinderIsTyped, as_truth, as_falsity, falsity_in, as_both, as_either, as_implies, as_equal, as_for_all, as_exists, as_nabla, truth_in, both_in, either_in, implies_in, equal_in, for_all_in, exists_in, nabla_in, form_alone, form_with, form_between};
+ghost use Rattle.ab_formulas.specs.Forms.{form_of, as_truth, as_falsity, falsity_in, as_both, as_either, as_implies, as_equal, as_for_all, as_exists, as_nabla, truth_in, both_in, either_in, implies_in, equal_in, for_all_in, exists_in, nabla_in, form_alone, form_with, form_between};
+ghost use Rattle.ab_logic.specs.Forms.{form_read, HoldsForm, parts_read, HoldsParts, binder_read, HoldsBinder, FormIsTyped, BinderIsTyped};
 ghost use Rattle.ab_logic.specs.declared.world.World.{World as AWorld};
 ghost use Rattle.ab_clauses.specs.ab_store.specs.Trees.{logical_of};
 ghost use Rattle.ab_clauses.specs.ab_store.specs.Naming.{LogicalIsTyped};

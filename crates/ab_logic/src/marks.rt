@@ -1,6 +1,6 @@
 //! Size marks.
 ghost use Rattle.std.specs.Prelude.{◌≡◌, ◌↔◌, IsTrue};
-ghost use Rattle.ab_logic.specs.Marks.{Serves, plain, star_of, at_of, plus_of, hash_of};
+ghost use Rattle.ab_formulas.specs.Marks.{Serves, plain, star_of, at_of, plus_of, hash_of};
 ghost use Rattle.ab_logic.specs.Forms.{sign_of};
 
 /// The mark of an atom or a judgement, with its level.

@@ -4,7 +4,7 @@ ghost use Rattle.ab_clauses.specs.ab_store.specs.declared.node.TermId.{TermId};
 ghost use Rattle.std.specs.Option.{option_map};
 ghost use Rattle.ab_logic.specs.Worlds.{Holds, HoldsCell, read, variable_of};
 ghost use Rattle.ab_logic.specs.Readings.{HoldsSequent, sequent_of, hypothesis_of};
-ghost use Rattle.ab_logic.specs.Sequents.{formula_of, proving, assuming, without, counted, over, IsUsed};
+ghost use Rattle.ab_formulas.specs.Sequents.{formula_of, proving, assuming, without, counted, over, IsUsed};
 ghost use Rattle.ab_logic.specs.declared.world.World.{World};
 
 use crate::lists::{Hypotheses, Variables};

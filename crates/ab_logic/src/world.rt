@@ -3,12 +3,12 @@ ghost use Rattle.std.specs.Prelude.{◌≡◌, [], ◌∷◌, ◌++◌, map, len
 ghost use Rattle.std.specs.Option.{option_map, option_copied};
 ghost use Rattle.ab_clauses.specs.ab_types.specs.Entries.{first_entries};
 ghost use Rattle.ab_clauses.specs.ab_types.specs.Ids.{HoldsConstant};
-ghost use Rattle.ab_clauses.specs.Proposed.{IsProposed};
+ghost use Rattle.ab_formulas.specs.Proposed.{IsProposed};
 ghost use Rattle.ab_clauses.specs.Readings.{name_of, block_of, fault_of, HoldsFault, HoldsBlock};
-ghost use Rattle.ab_clauses.specs.Faults.{IsFaultOf};
-ghost use Rattle.ab_clauses.specs.Kept.{Block as ABlock};
-ghost use Rattle.ab_logic.specs.Declarations.{Declarations, signature_in, theorem_in, theorems_in, block_in, a_theorem, a_block};
-ghost use Rattle.ab_logic.specs.Formulas.{IsSentence};
+ghost use Rattle.ab_formulas.specs.Faults.{IsFaultOf};
+ghost use Rattle.ab_formulas.specs.Kept.{Block as ABlock};
+ghost use Rattle.ab_formulas.specs.Declarations.{Declarations, signature_in, theorem_in, theorems_in, block_in, a_theorem, a_block};
+ghost use Rattle.ab_formulas.specs.Formulas.{IsSentence};
 ghost use Rattle.ab_logic.specs.Additions.{entry_in, block_kept, IsMemory};
 ghost use Rattle.ab_logic.specs.Defining.{AreNew, IsFirstDefined, IsDefinable, IsDefineFault};
 ghost use Rattle.ab_logic.specs.Worlds.{read, Holds, definition_of, declarations_of, first_declarations, IsKeptBlock, IsWorld};

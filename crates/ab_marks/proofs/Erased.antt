@@ -2,7 +2,7 @@
 use Rattle.std.specs.Prelude.{get_or}
 use Rattle.std.proofs.Common.{◌≡◌, ℕ, List, [], ◌∷◌, map, refl, sym, ◌∙◌, ap}
 use Rattle.ab_term.specs.Terms as tree
-use Rattle.ab_term.specs.Terms.{Term, Terms, lam, spine, term, no_terms, terms_of}
+use Rattle.ab_term.specs.Terms.{Term, Terms, lam, spine, term, no_terms, terms_of, Read}
 use Rattle.ab_norm.specs.ab_types.specs.Entries.{Table}
 use Rattle.ab_norm.specs.ab_types.specs.Ids.{type_of}
 use Rattle.ab_norm.specs.ab_types.specs.declared.ids.TypeId.{TypeId}
@@ -11,9 +11,9 @@ use Rattle.ab_norm.specs.ab_store.specs.declared.node.Head.{Head}
 use Rattle.ab_norm.specs.ab_store.specs.declared.node.Node.{Node}
 use Rattle.ab_norm.specs.ab_store.specs.declared.node.Node.TheVariants.{Lam, Spine}
 use Rattle.ab_norm.specs.ab_store.specs.declared.node.CellEntry.{CellEntry}
-use Rattle.ab_norm.specs.ab_store.specs.Trees.{Read, Contents, tree_of, head_in, head_reading, node_tree}
-use Rattle.ab_logic.specs.Marks as plain
-use Rattle.ab_logic.specs.Marks.{Making, by_head, by_scope, by_parts, by_mark, making_of, unmarked, erased, erased_all, Sign}
+use Rattle.ab_norm.specs.ab_store.specs.Trees.{Contents, tree_of, head_in, head_reading, node_tree}
+use Rattle.ab_formulas.specs.Marks as plain
+use Rattle.ab_formulas.specs.Marks.{Making, by_head, by_scope, by_parts, by_mark, making_of, unmarked, erased, erased_all, Sign}
 
 erased_all_read : (g : TermId → Read) (ts : List TermId) → erased_all (terms_of (map g ts)) ≡ terms_of (map (λ t. erased (g t)) ts)
 erased_all_read g [] = refl

@@ -1,7 +1,7 @@
 -- What the nodes that are made with marks read as.
 use Rattle.std.proofs.Common.{◌≡◌, ℕ, Bool, true, false, if◌then◌else◌, List, [], ◌∷◌, map, refl, sym, ◌∙◌, ap}
 use Rattle.ab_term.specs.Terms as tree
-use Rattle.ab_term.specs.Terms.{Term, Terms, lam, spine, term, no_terms, terms_of}
+use Rattle.ab_term.specs.Terms.{Term, Terms, lam, spine, term, no_terms, terms_of, Read}
 use Rattle.ab_norm.specs.ab_types.specs.Entries.{Table}
 use Rattle.ab_norm.specs.ab_types.specs.Ids.{type_of}
 use Rattle.ab_norm.specs.ab_types.specs.declared.ids.TypeId.{TypeId}
@@ -10,10 +10,10 @@ use Rattle.ab_norm.specs.ab_store.specs.declared.node.Head.{Head}
 use Rattle.ab_norm.specs.ab_store.specs.declared.node.Node.{Node}
 use Rattle.ab_norm.specs.ab_store.specs.declared.node.Node.TheVariants.{Lam, Spine}
 use Rattle.ab_norm.specs.ab_store.specs.declared.node.CellEntry.{CellEntry}
-use Rattle.ab_norm.specs.ab_store.specs.Trees.{Read, Contents, tree_of, head_in, head_reading, node_tree}
-use Rattle.ab_logic.specs.Marks as plain
-use Rattle.ab_logic.specs.Marks.{Sign, Making, by_head, by_scope, by_parts, by_mark, making_of}
-use Rattle.ab_marks.specs.Marking.{is_one_of, with_mark, marked_by, marked_in, all_marked_in}
+use Rattle.ab_norm.specs.ab_store.specs.Trees.{Contents, tree_of, head_in, head_reading, node_tree}
+use Rattle.ab_formulas.specs.Marks as plain
+use Rattle.ab_formulas.specs.Marks.{Sign, Making, by_head, by_scope, by_parts, by_mark, making_of}
+use Rattle.ab_formulas.specs.Marking.{is_one_of, with_mark, marked_by, marked_in, all_marked_in}
 
 module _ (ps : List (List ℕ)) where
   same_either : (b : Bool) (t : Read) → (if b then t else t) ≡ t

@@ -1,10 +1,9 @@
 -- Lists of one argument and of two.
 use Rattle.std.proofs.Common.{◌≡◌, ◌≢◌, ℕ, zero, suc, List, [], ◌∷◌, length, map, get_or, refl, sym, ◌∙◌, ap, arith}
 use Rattle.ab_term.specs.Terms as tree
-use Rattle.ab_term.specs.Terms.{Terms, terms_of}
+use Rattle.ab_term.specs.Terms.{Terms, terms_of, Read}
 use Rattle.ab_norm.specs.ab_store.specs.declared.node.TermId.{TermId}
-use Rattle.ab_norm.specs.ab_store.specs.Trees.{Read}
-use Rattle.ab_logic.specs.Marks.{Marks, nowhere, below, in_both, by_scope, by_parts, by_mark, marks_made, marked, marks_of, marks_of_all, Sign}
+use Rattle.ab_formulas.specs.Marks.{Marks, nowhere, below, in_both, by_scope, by_parts, by_mark, marks_made, marked, marks_of, marks_of_all, Sign}
 
 module _ (f : TermId → Read) (h : tree.Head ℕ) where
   pub one_part : (ts : List TermId) (d : TermId) → length ts ≡ 1 → marks_made by_scope h (terms_of (map f ts)) (marks_of_all (terms_of (map f ts))) ≡ below (marks_of (f (get_or ts 0 d)))

@@ -6,8 +6,8 @@ use Rattle.ab_norm.specs.ab_types.specs.declared.ids.ConstId.{ConstId}
 use Rattle.ab_norm.specs.ab_store.specs.declared.node.TermId.{TermId}
 use Rattle.ab_norm.specs.ab_store.specs.Trees.{Contents, Holds, tree_of}
 use Rattle.ab_logic.specs.Forms.{sign_of}
-use Rattle.ab_logic.specs.Marks as plain
-use Rattle.ab_logic.specs.Marks.{marks_of}
+use Rattle.ab_formulas.specs.Marks as plain
+use Rattle.ab_formulas.specs.Marks.{marks_of}
 use Rattle.ab_marks.specs.declared.making.Making.{Making}
 use Rattle.ab_marks.specs.declared.making.Making.TheVariants.{ByHead, ByScope, ByParts, ByMark}
 use Rattle.ab_marks.specs.declared.serving.Seen.{Seen}

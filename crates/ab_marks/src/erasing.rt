@@ -3,7 +3,7 @@ ghost use Rattle.std.specs.Prelude.{◌≡◌, map, IfOk, All, get_or};
 ghost use Rattle.ab_norm.specs.ab_store.specs.Trees.{Holds, tree_of, head_reading};
 ghost use Rattle.ab_norm.specs.ab_store.specs.Naming.{IsTypedBy, HoldsHead, HeadIsTyped};
 ghost use Rattle.ab_norm.specs.Growth.{AddsTypedTerms};
-ghost use Rattle.ab_logic.specs.Marks.{erased, erased_all};
+ghost use Rattle.ab_formulas.specs.Marks.{erased, erased_all};
 ghost use Rattle.ab_term.specs.Terms.{spine, terms_of};
 ghost use Rattle.ab_logic.specs.Growth.{Grows};
 ghost use Rattle.ab_logic.specs.Worlds.{IsWorld, Holds as HoldsIn, read};

@@ -9,7 +9,7 @@ ghost use Rattle.ab_norm.specs.ab_store.specs.declared.node.CellEntry.{CellEntry
 ghost use Rattle.ab_norm.specs.ab_store.specs.Naming.{IsTypedBy, HoldsHead, HeadIsTyped};
 ghost use Rattle.ab_norm.specs.Growth.{AddsTerms, AddsTypedTerms};
 ghost use Rattle.ab_logic.specs.Forms.{sign_of};
-ghost use Rattle.ab_marks.specs.Marking.{is_one_of, with_mark, marked_in, all_marked_in};
+ghost use Rattle.ab_formulas.specs.Marking.{is_one_of, with_mark, marked_in, all_marked_in};
 ghost use Rattle.ab_marks.specs.Views.{names_of};
 
 use crate::making::{Making, making_of};

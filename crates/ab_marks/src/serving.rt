@@ -4,7 +4,7 @@ ghost use Rattle.ab_norm.specs.ab_types.specs.Entries.{Table};
 ghost use Rattle.ab_term.specs.Terms.{terms_of, logical};
 ghost use Rattle.ab_norm.specs.ab_store.specs.Trees.{Contents, Holds, tree_of, head_in, logical_of};
 ghost use Rattle.ab_logic.specs.Forms.{sign_of};
-ghost use Rattle.ab_logic.specs.Marks.{at_atom, at_judgement, making_of, marks_made, marked, marks_of, marks_of_all, marks_of_head, Agree, MarksServe, MarksServeIn};
+ghost use Rattle.ab_formulas.specs.Marks.{at_atom, at_judgement, making_of, marks_made, marked, marks_of, marks_of_all, marks_of_head, Agree, MarksServe, MarksServeIn};
 ghost use Rattle.ab_logic.specs.Worlds.{Holds as HoldsIn, read};
 ghost use Rattle.ab_marks.specs.Views.{marks_seen, making_read, PartsBelow};
 

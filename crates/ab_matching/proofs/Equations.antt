@@ -10,16 +10,17 @@ use Rattle.ab_term.specs.Typing.{HasType}
 use Rattle.ab_alternatives.specs.ab_types.specs.Entries.{Table, signature}
 use Rattle.ab_alternatives.specs.ab_store.specs.declared.node.TermId.{TermId}
 use Rattle.ab_alternatives.specs.ab_store.specs.declared.node.Equation.{Equation as Kept}
-use Rattle.ab_alternatives.specs.ab_store.specs.Trees.{Read, Contents, Holds, tree_of}
+use Rattle.ab_term.specs.Terms.{Read}
+use Rattle.ab_alternatives.specs.ab_store.specs.Trees.{Contents, Holds, tree_of}
 use Rattle.ab_alternatives.specs.ab_store.specs.Reading.{reading}
 use Rattle.ab_alternatives.specs.ab_store.specs.Naming.{IsTerm}
 use Rattle.ab_alternatives.specs.ab_norm.proofs.Frame.{still_read_before}
 use Rattle.ab_alternatives.specs.ab_norm.specs.Growth.{AddsTypedTerms}
 use Rattle.ab_alternatives.specs.ab_solve.specs.Solving.{Equation}
 use Rattle.ab_alternatives.specs.ab_solver.specs.Answers.{IsTypedPair}
-use Rattle.ab_alternatives.specs.ab_logic.specs.Marks.{erased}
+use Rattle.ab_formulas.specs.Marks.{erased}
 use Rattle.ab_alternatives.specs.Made.{trees_from}
-use Rattle.ab_putting.specs.ab_using.specs.Uses.{equations}
+use Rattle.ab_theory.specs.Uses.{equations}
 use Rattle.ab_matching.specs.Solving.{missing, equation_at, all_equations, IsFormulaTerm, IsFormulaTermIfAny, aim_in}
 use Rattle.ab_matching.specs.declared.aim.Aim.{Aim}
 use Rattle.ab_matching.proofs.ErasedTyped.{erased_typed}

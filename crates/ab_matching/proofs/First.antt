@@ -8,10 +8,10 @@ use Rattle.ab_alternatives.specs.ab_types.specs.Entries.{Table}
 use Rattle.ab_alternatives.specs.ab_store.specs.Trees.{Contents}
 use Rattle.ab_alternatives.specs.ab_solve.specs.Replacing.{Cell}
 use Rattle.ab_alternatives.specs.ab_cases.specs.Choices.{in_order}
-use Rattle.ab_alternatives.specs.ab_logic.specs.Sequents.{goal_names}
-use Rattle.ab_alternatives.specs.ab_equate.specs.Cases.{NeverArises}
-use Rattle.ab_putting.specs.ab_using.specs.Uses.{use_by}
-use Rattle.ab_putting.specs.ab_using.specs.Answers.{Using, case_by}
+use Rattle.ab_formulas.specs.Sequents.{goal_names}
+use Rattle.ab_theory.specs.Splits.{NeverArises}
+use Rattle.ab_theory.specs.Uses.{use_by}
+use Rattle.ab_theory.specs.Using.{Using, case_by}
 use Rattle.ab_matching.specs.Choosing.{ComesOut}
 use Rattle.ab_matching.specs.Trying.{decides, stands_outside, NoneServes, IsFirstOf, FirstComesOut}
 use Rattle.ab_matching.specs.declared.outcome.Outcome.{Outcome}

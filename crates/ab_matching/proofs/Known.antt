@@ -6,8 +6,8 @@ use Rattle.ab_term.specs.Types.{Ty}
 use Rattle.ab_term.specs.Terms.{Nominal}
 use Rattle.ab_alternatives.specs.ab_cases.specs.Choices.{in_order, choices}
 use Rattle.ab_alternatives.specs.ab_cases.proofs.Choosing.{ordered_contains, contains_ordered}
-use Rattle.ab_alternatives.specs.Members.{SameMembers}
-use Rattle.ab_alternatives.proofs.Agreeing.{choices_same}
+use Rattle.ab_formulas.specs.Members.{SameMembers}
+use Rattle.ab_formulas.proofs.AlternativesAgreeing.{choices_same}
 
 both_members : (xs ys : List Nominal) → SameMembers (in_order xs ++ in_order ys) (xs ++ ys)
 both_members xs ys a = (

@@ -4,14 +4,14 @@ use Rattle.std.specs.Option.{option_map}
 use Rattle.std.proofs.Common.{◌≡◌, ℕ, List, [], ◌∷◌, map, Option, Some, None, refl, sym, ◌∙◌, ap, subst}
 use Rattle.std.proofs.lemmas.List.Elements.{All-head, All-tail, All-weaker}
 use Rattle.ab_term.specs.Types.{Ty, prop}
-use Rattle.ab_term.specs.Terms.{Nominal}
+use Rattle.ab_term.specs.Terms.{Nominal, Read}
 use Rattle.ab_term.specs.Typing.{HasType}
 use Rattle.ab_alternatives.specs.ab_types.specs.Entries.{Table, signature, IsExtendedBy as IsPartOf}
 use Rattle.ab_alternatives.specs.ab_types.specs.Ids.{HoldsType, type_of}
 use Rattle.ab_alternatives.specs.ab_types.specs.declared.ids.TypeId.{TypeId}
 use Rattle.ab_alternatives.specs.ab_types.proofs.Entries.{same_type, type_still_held}
 use Rattle.ab_alternatives.specs.ab_store.specs.declared.node.TermId.{TermId}
-use Rattle.ab_alternatives.specs.ab_store.specs.Trees.{Read, tree_of}
+use Rattle.ab_alternatives.specs.ab_store.specs.Trees.{tree_of}
 use Rattle.ab_alternatives.specs.ab_store.specs.Naming.{IsTerm}
 use Rattle.ab_alternatives.specs.ab_norm.specs.Nominals.{HoldsNominal}
 use Rattle.ab_alternatives.specs.ab_unifying.proofs.Growth.{lifted}
@@ -19,12 +19,12 @@ use Rattle.ab_alternatives.specs.ab_instances.specs.Readings.{names_read}
 use Rattle.ab_alternatives.specs.ab_instances.proofs.Made.{names_stay, names_held}
 use Rattle.ab_alternatives.specs.ab_cases.specs.Choices.{in_order}
 use Rattle.ab_alternatives.specs.ab_logic.specs.Growth.{Grows}
-use Rattle.ab_alternatives.specs.ab_logic.specs.Sequents.{Sequent, goal_names}
+use Rattle.ab_formulas.specs.Sequents.{Sequent, goal_names}
 use Rattle.ab_alternatives.specs.ab_logic.specs.Worlds.{Holds, read}
 use Rattle.ab_alternatives.specs.ab_logic.specs.declared.world.World.{World}
-use Rattle.ab_putting.specs.ab_using.specs.Pieces as plain
-use Rattle.ab_putting.specs.ab_using.specs.Pieces.{given_term, variable_for, constant_for}
-use Rattle.ab_putting.specs.ab_using.specs.Answers.{Using}
+use Rattle.ab_theory.specs.Pieces as plain
+use Rattle.ab_theory.specs.Pieces.{given_term, variable_for, constant_for}
+use Rattle.ab_theory.specs.Using.{Using}
 use Rattle.ab_putting.specs.Making.{HoldsPart, part_read, parts_read, HasParts, has_none, has_variable, has_given, has_constant, has_antecedent}
 use Rattle.ab_putting.specs.declared.part.Part.{Part}
 use Rattle.ab_putting.specs.declared.part.Part.TheVariants.{Variable, Given, Constant, Antecedent}

@@ -2,13 +2,12 @@
 use Rattle.std.specs.List.{list_any}
 use Rattle.std.specs.Prelude.{ℕ, Bool, true, false, ◌||◌, ◌≤◌, length, Option, Some, None, List, [], ◌∷◌, ◌++◌, map}
 use Rattle.std.proofs.Common.{◌≡◌, refl, sym, ◌∙◌, ap, arith, append-nil}
-use Rattle.ab_term.specs.Terms.{Variable, term, no_terms}
+use Rattle.ab_term.specs.Terms.{Variable, term, no_terms, Read}
 use Rattle.ab_term.specs.Variables.{Substitution, image, variables, variables_of_all}
 use Rattle.ab_term.specs.Sameness.{same_number, same_numbered}
-use Rattle.ab_alternatives.specs.ab_store.specs.Trees.{Read}
 use Rattle.ab_alternatives.specs.ab_solve.specs.Replacing.{holds, occurs}
-use Rattle.ab_putting.specs.ab_using.specs.Uses.{implied, awaiting}
-use Rattle.ab_putting.specs.ab_using.specs.Answers.{awaited, result_in}
+use Rattle.ab_theory.specs.Uses.{implied, awaiting}
+use Rattle.ab_theory.specs.Using.{awaited, result_in}
 use Rattle.ab_matching.specs.Solving.{missing, behind_all}
 
 pub awaiting_is : (hs : List (Option Read)) (As : List Read) (R : Read) → awaiting hs As R ≡ behind_all (missing hs As) R

@@ -13,8 +13,8 @@ use Rattle.ab_alternatives.specs.ab_norm.specs.declared.nominal.Nominal.{Nominal
 use Rattle.ab_alternatives.specs.ab_norm.specs.Nominals.{nominal_of}
 use Rattle.ab_alternatives.specs.ab_cases.specs.Choices.{in_order}
 use Rattle.ab_alternatives.specs.ab_instances.specs.Readings.{names_read, given_at}
-use Rattle.ab_putting.specs.ab_using.specs.Pieces as plain
-use Rattle.ab_putting.specs.ab_using.specs.Uses.{types_chosen, given_constants}
+use Rattle.ab_theory.specs.Pieces as plain
+use Rattle.ab_theory.specs.Uses.{types_chosen, given_constants}
 use Rattle.ab_putting.specs.Making.{HoldsPart, parts_read}
 use Rattle.ab_putting.specs.declared.part.Part.{Part}
 use Rattle.ab_putting.specs.declared.part.Part.TheVariants.{Variable, Given, Constant, Antecedent}

@@ -7,12 +7,13 @@ use Rattle.ab_term.specs.Types.{Ty, prop}
 use Rattle.ab_term.specs.Typing.{Signature, HasType}
 use Rattle.ab_alternatives.specs.ab_types.specs.Entries.{signature}
 use Rattle.ab_alternatives.specs.ab_store.specs.declared.node.TermId.{TermId}
-use Rattle.ab_alternatives.specs.ab_store.specs.Trees.{Read, tree_of}
+use Rattle.ab_term.specs.Terms.{Read}
+use Rattle.ab_alternatives.specs.ab_store.specs.Trees.{tree_of}
 use Rattle.ab_alternatives.specs.ab_norm.specs.Nominals.{HoldsNominal}
 use Rattle.ab_alternatives.specs.ab_cases.specs.Choices.{in_order}
 use Rattle.ab_alternatives.specs.ab_instances.specs.Readings.{names_read}
-use Rattle.ab_alternatives.specs.ab_logic.specs.Declarations.{Declarations, signature_in}
-use Rattle.ab_alternatives.specs.ab_logic.specs.Sequents.{Sequent, goal_names, Fits}
+use Rattle.ab_formulas.specs.Declarations.{Declarations, signature_in}
+use Rattle.ab_formulas.specs.Sequents.{Sequent, goal_names, Fits}
 use Rattle.ab_alternatives.specs.ab_logic.specs.Worlds.{IsWorld, Holds, read, declarations_of}
 use Rattle.ab_alternatives.specs.ab_logic.specs.Readings.{sequent_of}
 use Rattle.ab_alternatives.specs.ab_logic.specs.declared.world.World.{World}
@@ -20,9 +21,9 @@ use Rattle.ab_alternatives.specs.ab_logic.specs.declared.sequent.Sequent.{Sequen
 use Rattle.ab_alternatives.specs.ab_logic.proofs.Growing.{same_constants}
 use Rattle.ab_putting.specs.ab_taking.specs.Readings.{given_of, HoldsIfAny}
 use Rattle.ab_putting.specs.ab_taking.specs.declared.given.GivenTerm.{GivenTerm}
-use Rattle.ab_putting.specs.ab_using.specs.Pieces as plain
-use Rattle.ab_putting.specs.ab_using.specs.Pieces.{Given, pieces, parts}
-use Rattle.ab_putting.specs.ab_using.specs.Uses.{given_constants}
+use Rattle.ab_theory.specs.Pieces as plain
+use Rattle.ab_theory.specs.Pieces.{Given, pieces, parts}
+use Rattle.ab_theory.specs.Uses.{given_constants}
 use Rattle.ab_putting.specs.Making.{HoldsPart, parts_read, HasParts}
 use Rattle.ab_putting.proofs.Begun.{begun}
 use Rattle.ab_matching.specs.Solving.{IsFormulaTerm, IsFormulaTermIfAny, aim_in}

@@ -17,16 +17,16 @@ use Rattle.ab_alternatives.specs.ab_cases.specs.Choices.{choices, in_order}
 use Rattle.ab_alternatives.specs.ab_unifying.specs.Problem.{cell_read, cells_read}
 use Rattle.ab_alternatives.specs.ab_instances.specs.Readings.{names_read}
 use Rattle.ab_alternatives.specs.ab_logic.specs.Readings.{sequent_of, HoldsSequent}
-use Rattle.ab_alternatives.specs.ab_logic.specs.Sequents.{Variable, Sequent, goal_names}
+use Rattle.ab_formulas.specs.Sequents.{Variable, Sequent, goal_names}
 use Rattle.ab_alternatives.specs.ab_logic.specs.Worlds.{HoldsCell, variable_of}
 use Rattle.ab_alternatives.specs.ab_logic.specs.declared.world.World.{World}
 use Rattle.ab_alternatives.specs.ab_logic.specs.declared.sequent.Sequent.{Sequent as Kept}
-use Rattle.ab_alternatives.specs.ab_equate.specs.Solved.{AreCells}
-use Rattle.ab_alternatives.specs.ab_equate.specs.Cases.{NeverArises}
-use Rattle.ab_putting.specs.ab_using.specs.Pieces as plain
-use Rattle.ab_putting.specs.ab_using.specs.Uses.{types_chosen, given_constants}
-use Rattle.ab_putting.specs.ab_using.specs.Uses as uses
-use Rattle.ab_putting.specs.ab_using.specs.Answers.{Using, case_by, IsFirst}
+use Rattle.ab_theory.specs.Equations.{AreCells}
+use Rattle.ab_theory.specs.Splits.{NeverArises}
+use Rattle.ab_theory.specs.Pieces as plain
+use Rattle.ab_theory.specs.Uses.{types_chosen, given_constants}
+use Rattle.ab_theory.specs.Uses as uses
+use Rattle.ab_theory.specs.Using.{Using, case_by, IsFirst}
 use Rattle.ab_putting.specs.Making.{parts_read, StageIsHeld}
 use Rattle.ab_putting.specs.declared.stage.Stage.{Stage}
 use Rattle.ab_putting.specs.declared.stage.Stage.TheVariants as stage

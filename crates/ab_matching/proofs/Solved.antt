@@ -12,7 +12,8 @@ use Rattle.ab_alternatives.specs.ab_types.specs.Entries.{Table}
 use Rattle.ab_alternatives.specs.ab_store.specs.declared.node.TermId.{TermId}
 use Rattle.ab_alternatives.specs.ab_store.specs.declared.node.CellId.{CellId}
 use Rattle.ab_alternatives.specs.ab_store.specs.declared.node.Equation.{Equation}
-use Rattle.ab_alternatives.specs.ab_store.specs.Trees.{Read, Contents, tree_of}
+use Rattle.ab_term.specs.Terms.{Read}
+use Rattle.ab_alternatives.specs.ab_store.specs.Trees.{Contents, tree_of}
 use Rattle.ab_alternatives.specs.ab_store.specs.Reading.{reading, binding_of, cell_variable}
 use Rattle.ab_alternatives.specs.ab_store.specs.Naming.{IsTerm}
 use Rattle.ab_alternatives.specs.ab_store.proofs.Growing.{unbound_reads}
@@ -21,12 +22,12 @@ use Rattle.ab_alternatives.specs.ab_solve.specs.Solving.{unified, Solves}
 use Rattle.ab_alternatives.specs.ab_unifying.specs.Problem.{cells_read, problem}
 use Rattle.ab_alternatives.specs.ab_unifying.specs.Changed.{Grows}
 use Rattle.ab_alternatives.specs.ab_solver.specs.Answers.{AreNewCells, AreInAge, AreLeft}
-use Rattle.ab_alternatives.specs.ab_logic.specs.Sequents.{in_terms}
-use Rattle.ab_alternatives.specs.ab_equate.specs.Solved.{made}
+use Rattle.ab_formulas.specs.Sequents.{in_terms}
+use Rattle.ab_theory.specs.Equations.{made}
 use Rattle.ab_alternatives.specs.ab_equate.specs.Meanwhile.{AreFrom, unbound_of}
 use Rattle.ab_alternatives.specs.Unfolding.{variable_at}
 use Rattle.ab_alternatives.proofs.LeftOpen.{left_open}
-use Rattle.ab_putting.specs.ab_using.specs.Answers.{standing_in}
+use Rattle.ab_theory.specs.Using.{standing_in}
 use Rattle.ab_matching.specs.Solving.{behind_all, IsFormulaTerm}
 use Rattle.ab_matching.specs.Choosing.{IsLeft, IsSolvedSo, is_left_in}
 use Rattle.ab_matching.specs.declared.outcome.Outcome.{Outcome}

@@ -9,7 +9,7 @@ use Rattle.ab_alternatives.specs.ab_logic.specs.Readings.{sequent_of, HoldsSeque
 use Rattle.ab_alternatives.specs.ab_logic.specs.declared.world.World.{World}
 use Rattle.ab_alternatives.specs.ab_logic.specs.declared.sequent.Sequent.{Sequent as Kept}
 use Rattle.ab_alternatives.specs.ab_logic.proofs.Growing.{same_sequent, still_held}
-use Rattle.ab_putting.specs.ab_using.specs.Uses.{types_chosen}
+use Rattle.ab_theory.specs.Uses.{types_chosen}
 use Rattle.ab_putting.specs.Making.{parts_read}
 use Rattle.ab_matching.specs.Posing.{IsPosed, using_at}
 use Rattle.ab_matching.specs.Trying.{FirstComesOut}

@@ -9,7 +9,7 @@ use Rattle.ab_alternatives.specs.ab_store.specs.declared.node.TermId.{TermId}
 use Rattle.ab_alternatives.specs.ab_store.specs.Trees.{Contents, Holds, tree_of}
 use Rattle.ab_alternatives.specs.ab_solve.specs.Replacing.{Cell}
 use Rattle.ab_alternatives.specs.ab_instances.proofs.Bound.{same_tree}
-use Rattle.ab_putting.specs.ab_using.specs.Answers.{Using}
+use Rattle.ab_theory.specs.Using.{Using}
 use Rattle.ab_putting.specs.Making.{StageIsHeld}
 use Rattle.ab_putting.specs.declared.stage.Stage.{Stage}
 use Rattle.ab_putting.specs.declared.stage.Stage.TheVariants as stage

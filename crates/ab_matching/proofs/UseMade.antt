@@ -15,7 +15,8 @@ use Rattle.ab_alternatives.specs.ab_types.specs.Entries.{Table}
 use Rattle.ab_alternatives.specs.ab_store.specs.declared.node.TermId.{TermId}
 use Rattle.ab_alternatives.specs.ab_store.specs.declared.node.CellId.{CellId}
 use Rattle.ab_alternatives.specs.ab_store.specs.declared.node.Equation.{Equation as Kept}
-use Rattle.ab_alternatives.specs.ab_store.specs.Trees.{Read, Contents, Holds, tree_of}
+use Rattle.ab_term.specs.Terms.{Read}
+use Rattle.ab_alternatives.specs.ab_store.specs.Trees.{Contents, Holds, tree_of}
 use Rattle.ab_alternatives.specs.ab_store.specs.Reading.{reading}
 use Rattle.ab_alternatives.specs.ab_store.specs.Naming.{IsTerm}
 use Rattle.ab_alternatives.specs.ab_store.proofs.Growing.{unbound_reads}
@@ -28,14 +29,14 @@ use Rattle.ab_alternatives.specs.ab_unifying.specs.Problem.{cell_read, cells_rea
 use Rattle.ab_alternatives.specs.ab_unifying.specs.Changed.{Grows}
 use Rattle.ab_alternatives.specs.ab_unifying.proofs.Growth.{grown_term}
 use Rattle.ab_alternatives.specs.ab_instances.specs.Making.{ids_from}
-use Rattle.ab_alternatives.specs.ab_logic.specs.Sequents.{Variable}
-use Rattle.ab_alternatives.specs.ab_equate.specs.Cases.{problem_of}
-use Rattle.ab_alternatives.specs.ab_equate.specs.Solved.{made}
+use Rattle.ab_formulas.specs.Sequents.{Variable}
+use Rattle.ab_theory.specs.Splits.{problem_of}
+use Rattle.ab_theory.specs.Equations.{made}
 use Rattle.ab_alternatives.specs.ab_equate.specs.Meanwhile.{AreFrom}
 use Rattle.ab_alternatives.specs.Made.{trees_from}
-use Rattle.ab_putting.specs.ab_using.specs.Uses as uses
-use Rattle.ab_putting.specs.ab_using.specs.Uses.{Use, equations, equation_behind, awaiting, use_by}
-use Rattle.ab_putting.specs.ab_using.specs.Answers.{Using, case_by, standing_in, awaited, result_in}
+use Rattle.ab_theory.specs.Uses as uses
+use Rattle.ab_theory.specs.Uses.{Use, equations, equation_behind, awaiting, use_by}
+use Rattle.ab_theory.specs.Using.{Using, case_by, standing_in, awaited, result_in}
 use Rattle.ab_putting.specs.Making.{IsMade, StageIsHeld}
 use Rattle.ab_putting.specs.declared.made.Made.{Made}
 use Rattle.ab_putting.specs.declared.stage.Stage.{Stage}

@@ -1,24 +1,24 @@
 -- What comes of a choice of constants. Public contracts don't speak of this.
 use Rattle.std.specs.Prelude.{◌≡◌, ℕ, ◌-◌, take, codes, false, true, List, [], ◌∷◌, ◌++◌, map, filter, length, All, Bool, ◌&&◌, is_none}
 use Rattle.std.specs.List.{list_any}
-use Rattle.ab_term.specs.Terms.{Nominal}
+use Rattle.ab_term.specs.Terms.{Nominal, Read}
 use Rattle.ab_term.specs.Variables.{Substitution, image}
 use Rattle.ab_term.specs.Sameness.{same_number}
 use Rattle.ab_alternatives.specs.ab_types.specs.Entries.{Table}
 use Rattle.ab_alternatives.specs.ab_store.specs.declared.node.TermId.{TermId}
 use Rattle.ab_alternatives.specs.ab_store.specs.declared.node.CellId.{CellId}
 use Rattle.ab_alternatives.specs.ab_store.specs.declared.node.Equation.{Equation}
-use Rattle.ab_alternatives.specs.ab_store.specs.Trees.{Read, Contents, Holds, cell_of, tree_of}
+use Rattle.ab_alternatives.specs.ab_store.specs.Trees.{Contents, Holds, cell_of, tree_of}
 use Rattle.ab_alternatives.specs.ab_store.specs.Reading.{binding_of, cell_variable, reading}
 use Rattle.ab_alternatives.specs.ab_solve.specs.Replacing.{Cell, occurs}
 use Rattle.ab_alternatives.specs.ab_solve.specs.Solving as rules
 use Rattle.ab_alternatives.specs.ab_solve.specs.Solving.{Solves}
 use Rattle.ab_alternatives.specs.ab_unifying.specs.Problem.{cells_read, problem}
-use Rattle.ab_alternatives.specs.ab_logic.specs.Sequents.{Variable}
-use Rattle.ab_alternatives.specs.ab_equate.specs.Solved.{made}
-use Rattle.ab_alternatives.specs.ab_equate.specs.Cases.{NeverArises, IsOpen}
-use Rattle.ab_putting.specs.ab_using.specs.Uses.{use_by}
-use Rattle.ab_putting.specs.ab_using.specs.Answers.{Using, case_by, IsSolvedBy, standing_in, awaited, result_in}
+use Rattle.ab_formulas.specs.Sequents.{Variable}
+use Rattle.ab_theory.specs.Equations.{made}
+use Rattle.ab_theory.specs.Splits.{NeverArises, IsOpen}
+use Rattle.ab_theory.specs.Uses.{use_by}
+use Rattle.ab_theory.specs.Using.{Using, case_by, IsSolvedBy, standing_in, awaited, result_in}
 use Rattle.ab_matching.specs.Solving.{behind_all}
 use Rattle.ab_putting.specs.Making.{StageIsHeld}
 use Rattle.ab_matching.specs.declared.found.Use.{Use}

@@ -11,6 +11,5 @@ pub use Rattle.ab_alternatives.specs.ab_types
 pub use Rattle.ab_alternatives.specs.ab_store
 pub use Rattle.ab_alternatives.specs.ab_logic
 pub use Rattle.ab_alternatives.specs.ab_naming
-pub use Rattle.ab_putting.specs.ab_using
 pub use Rattle.ab_putting.specs.ab_taking
 pub use Rattle.ab_putting

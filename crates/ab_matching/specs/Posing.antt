@@ -5,10 +5,10 @@ use Rattle.ab_alternatives.specs.ab_store.specs.Trees.{tree_of}
 use Rattle.ab_alternatives.specs.ab_norm.specs.Nominals.{HoldsNominal}
 use Rattle.ab_alternatives.specs.ab_cases.specs.Choices.{in_order}
 use Rattle.ab_alternatives.specs.ab_instances.specs.Readings.{names_read}
-use Rattle.ab_alternatives.specs.ab_logic.specs.Sequents.{Sequent, goal_names}
+use Rattle.ab_formulas.specs.Sequents.{Sequent, goal_names}
 use Rattle.ab_alternatives.specs.ab_logic.specs.Worlds.{IsWorld}
 use Rattle.ab_alternatives.specs.ab_logic.specs.declared.world.World.{World}
-use Rattle.ab_putting.specs.ab_using.specs.Answers.{Using}
+use Rattle.ab_theory.specs.Using.{Using}
 use Rattle.ab_putting.specs.Making.{HoldsPart, parts_read, HasParts}
 use Rattle.ab_matching.specs.Solving.{IsFormulaTerm, IsFormulaTermIfAny, aim_in}
 use Rattle.ab_matching.specs.declared.aim.Aim.{Aim}

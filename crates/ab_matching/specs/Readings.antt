@@ -1,18 +1,18 @@
 -- What the program holds of a use: what it stands for, and what it may be asked for.
 use Rattle.std.specs.Prelude.{◌≡◌, ℕ, List, map, length, All, Option, None, Some}
 use Rattle.std.specs.Option.{option_map}
-use Rattle.ab_alternatives.specs.ab_store.specs.Trees.{Read}
+use Rattle.ab_term.specs.Terms.{Read}
 use Rattle.ab_alternatives.specs.ab_store.specs.declared.node.TermId.{TermId}
-use Rattle.ab_alternatives.specs.ab_logic.specs.Declarations.{Declarations, signature_in}
-use Rattle.ab_alternatives.specs.ab_logic.specs.Formulas.{IsFormula}
-use Rattle.ab_alternatives.specs.ab_logic.specs.Sequents.{Sequent, HoldsOnly, Fits}
+use Rattle.ab_formulas.specs.Declarations.{Declarations, signature_in}
+use Rattle.ab_formulas.specs.Formulas.{IsFormula}
+use Rattle.ab_formulas.specs.Sequents.{Sequent, HoldsOnly, Fits}
 use Rattle.ab_alternatives.specs.ab_logic.specs.Readings.{sequent_of}
 use Rattle.ab_alternatives.specs.ab_logic.specs.Worlds.{Holds, read}
 use Rattle.ab_alternatives.specs.ab_logic.specs.declared.world.World.{World}
 use Rattle.ab_alternatives.specs.ab_logic.specs.declared.sequent.Sequent.{Sequent as Kept}
-use Rattle.ab_putting.specs.ab_using.specs.Pieces.{Given, pieces, parts, type_named}
-use Rattle.ab_putting.specs.ab_using.specs.Uses.{Aim}
-use Rattle.ab_putting.specs.ab_using.specs.Answers.{Using, IsUsedFor, NothingMatches, IsOutsideAt, IsLeftOpen, awaited, result_in}
+use Rattle.ab_theory.specs.Pieces.{Given, pieces, parts, type_named}
+use Rattle.ab_theory.specs.Uses.{Aim}
+use Rattle.ab_theory.specs.Using.{Using, IsUsedFor, NothingMatches, IsOutsideAt, IsLeftOpen, awaited, result_in}
 use Rattle.ab_putting.specs.ab_taking.specs.Readings.{given_of}
 use Rattle.ab_putting.specs.ab_taking.specs.declared.given.GivenTerm.{GivenTerm}
 use Rattle.ab_matching.specs.declared.aim.Aim.{Aim as KeptAim}

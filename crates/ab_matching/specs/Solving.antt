@@ -7,13 +7,14 @@ use Rattle.ab_term.specs.Types.{prop}
 use Rattle.ab_alternatives.specs.ab_types.specs.Entries.{Table}
 use Rattle.ab_alternatives.specs.ab_store.specs.declared.node.TermId.{TermId}
 use Rattle.ab_alternatives.specs.ab_store.specs.declared.node.CellId.{CellId}
-use Rattle.ab_alternatives.specs.ab_store.specs.Trees.{Read, Contents, tree_of}
+use Rattle.ab_term.specs.Terms.{Read}
+use Rattle.ab_alternatives.specs.ab_store.specs.Trees.{Contents, tree_of}
 use Rattle.ab_alternatives.specs.ab_store.specs.Reading.{binding_of, cell_variable}
 use Rattle.ab_alternatives.specs.ab_store.specs.Naming.{IsTerm}
 use Rattle.ab_alternatives.specs.ab_solve.specs.Replacing.{occurs}
 use Rattle.ab_alternatives.specs.ab_solve.specs.Solving.{Equation}
-use Rattle.ab_alternatives.specs.ab_logic.specs.Marks.{erased}
-use Rattle.ab_putting.specs.ab_using.specs.Uses.{Aim, implied, equations}
+use Rattle.ab_formulas.specs.Marks.{erased}
+use Rattle.ab_theory.specs.Uses.{Aim, implied, equations}
 use Rattle.ab_matching.specs.declared.aim.Aim.{Aim as KeptAim}
 
 -- those of the second for which the first has nothing, one against one

@@ -9,9 +9,9 @@ use Rattle.ab_alternatives.specs.ab_norm.specs.Nominals.{HoldsNominal}
 use Rattle.ab_alternatives.specs.ab_solve.specs.Replacing.{Cell}
 use Rattle.ab_alternatives.specs.ab_cases.specs.Choices.{choices}
 use Rattle.ab_alternatives.specs.ab_instances.specs.Readings.{names_read}
-use Rattle.ab_alternatives.specs.ab_equate.specs.Cases.{NeverArises}
-use Rattle.ab_putting.specs.ab_using.specs.Uses.{use_by}
-use Rattle.ab_putting.specs.ab_using.specs.Answers.{Using, case_by}
+use Rattle.ab_theory.specs.Splits.{NeverArises}
+use Rattle.ab_theory.specs.Uses.{use_by}
+use Rattle.ab_theory.specs.Using.{Using, case_by}
 use Rattle.ab_matching.specs.Choosing.{ComesOut}
 use Rattle.ab_matching.specs.declared.begun.Begun.{Begun}
 use Rattle.ab_matching.specs.declared.outcome.Outcome.{Outcome}

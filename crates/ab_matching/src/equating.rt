@@ -5,7 +5,7 @@ ghost use Rattle.ab_alternatives.specs.ab_store.specs.Trees.{tree_of};
 ghost use Rattle.ab_alternatives.specs.ab_store.specs.Naming.{IsTypedBy};
 ghost use Rattle.ab_alternatives.specs.ab_norm.specs.Growth.{AddsTypedTerms};
 ghost use Rattle.ab_alternatives.specs.ab_solver.specs.Answers.{IsTypedPair};
-ghost use Rattle.ab_alternatives.specs.ab_logic.specs.Marks.{erased};
+ghost use Rattle.ab_formulas.specs.Marks.{erased};
 ghost use Rattle.ab_alternatives.specs.Made.{trees_from};
 ghost use Rattle.ab_matching.specs.Solving.{equation_at, all_equations, IsFormulaTerm, IsFormulaTermIfAny, aim_in};
 

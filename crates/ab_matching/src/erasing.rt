@@ -3,7 +3,7 @@ ghost use Rattle.std.specs.Prelude.{◌≡◌, map, IfOk, All, get_or};
 ghost use Rattle.ab_alternatives.specs.ab_store.specs.Trees.{Holds, tree_of, head_reading};
 ghost use Rattle.ab_alternatives.specs.ab_store.specs.Naming.{IsTypedBy, HoldsHead, HeadIsTyped};
 ghost use Rattle.ab_alternatives.specs.ab_norm.specs.Growth.{AddsTypedTerms};
-ghost use Rattle.ab_alternatives.specs.ab_logic.specs.Marks.{erased, erased_all};
+ghost use Rattle.ab_formulas.specs.Marks.{erased, erased_all};
 ghost use Rattle.ab_term.specs.Terms.{spine, terms_of};
 
 use crate::marking::{Making, making_of};

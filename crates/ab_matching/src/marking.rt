@@ -4,7 +4,7 @@ ghost use Rattle.ab_alternatives.specs.ab_types.specs.Entries.{Table};
 ghost use Rattle.ab_alternatives.specs.ab_store.specs.Trees.{head_in, logical_of};
 ghost use Rattle.ab_alternatives.specs.ab_store.specs.declared.node.CellEntry.{CellEntry};
 ghost use Rattle.std.specs.Prelude.{List};
-ghost use Rattle.ab_alternatives.specs.ab_logic.specs.Marks.{making_of, making_of_constant};
+ghost use Rattle.ab_formulas.specs.Marks.{making_of, making_of_constant};
 ghost use Rattle.ab_matching.specs.Erasing.{making_read};
 
 use ab_alternatives::below::logic::Sign;

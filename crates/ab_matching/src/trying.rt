@@ -7,7 +7,7 @@ ghost use Rattle.ab_alternatives.specs.ab_instances.specs.Readings.{names_read};
 ghost use Rattle.ab_alternatives.specs.ab_logic.specs.Growth.{Grows};
 ghost use Rattle.ab_alternatives.specs.ab_logic.specs.Readings.{HoldsSequent, sequent_of};
 ghost use Rattle.ab_alternatives.specs.ab_logic.specs.Worlds.{declarations_of};
-ghost use Rattle.ab_putting.specs.ab_using.specs.Uses.{types_chosen};
+ghost use Rattle.ab_theory.specs.Uses.{types_chosen};
 ghost use Rattle.ab_putting.specs.Making.{parts_read};
 ghost use Rattle.ab_matching.specs.Posing.{IsPosed, using_at};
 ghost use Rattle.ab_matching.specs.Trying.{decides, IsBegun, choices_behind, FirstComesOut};

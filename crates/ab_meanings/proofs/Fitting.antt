@@ -7,7 +7,7 @@ use Rattle.ab_term.specs.Names.{HasOneTypeEach}
 use Rattle.ab_term.specs.Variables.{variables}
 use Rattle.ab_term.specs.Normal.{FitsType}
 use Rattle.ab_term.proofs.Lists.{All-from_contains}
-use Rattle.ab_building.specs.ab_store.specs.Trees.{Read}
+use Rattle.ab_term.specs.Terms.{Read}
 use Rattle.ab_grammar.specs.Tree.{Tree}
 use Rattle.ab_building.specs.ab_readings.specs.Names.{Name, Resolved}
 use Rattle.ab_building.specs.ab_readings.specs.Types.{PropFree}
@@ -20,9 +20,9 @@ use Rattle.ab_building.proofs.Formulas.{stands}
 use Rattle.ab_building.proofs.HeadsKept.{heads_kept}
 use Rattle.ab_building.proofs.Normalising.{normal_form_typed}
 use Rattle.ab_building.proofs.ReadHeads.{ordinary_binders}
-use Rattle.ab_effects.specs.ab_logic.specs.Declarations.{Declarations, signature_in}
-use Rattle.ab_effects.specs.ab_logic.specs.Formulas.{IsFormula}
-use Rattle.ab_effects.specs.ab_logic.specs.Sequents.{Variable, Sequent, Fits, goal_names, in_terms}
+use Rattle.ab_formulas.specs.Declarations.{Declarations, signature_in}
+use Rattle.ab_formulas.specs.Formulas.{IsFormula}
+use Rattle.ab_formulas.specs.Sequents.{Variable, Sequent, Fits, goal_names, in_terms}
 use Rattle.ab_effects.specs.Terms.{made, Means}
 use Rattle.ab_meanings.specs.Lists.{HasLists}
 use Rattle.ab_meanings.proofs.Names.{NamesAre}

@@ -4,13 +4,12 @@ use Rattle.std.proofs.Common.{inl, inr, refl, sym, ◌∙◌, ap, subst}
 use Rattle.std.proofs.lemmas.List.Elements.{Contains-append_cases}
 use Rattle.ab_term.specs.Types.{Ty, prop, arrows, o, olist}
 use Rattle.ab_term.specs.Logical.{Logical, truth, falsity, conjunction, disjunction, implication, equality, universal, existential, nabla, judgement, focused_judgement, star, at_sign, plus, hash, spec_universal, spec_implication, spec_conjunction}
-use Rattle.ab_term.specs.Terms.{Head, Nominal, constant, logical, nominal, variable, index, lam, spine, Terms, no_terms, term}
+use Rattle.ab_term.specs.Terms.{Head, Nominal, constant, logical, nominal, variable, index, lam, spine, Terms, no_terms, term, Read}
 use Rattle.ab_term.specs.Terms as terms
 use Rattle.ab_term.specs.Typing.{Signature, head_type}
 use Rattle.ab_term.specs.Names.{support, support_of_all, HasOneTypeEach}
 use Rattle.ab_term.specs.Variables.{variables, variables_of_all}
 use Rattle.ab_term.proofs.Lists.{Contains-none, Contains-cases, Contains-map, Contains-from_map, All-from_contains}
-use Rattle.ab_building.specs.ab_store.specs.Trees.{Read}
 use Rattle.ab_grammar.specs.Tree.{Tree}
 use Rattle.ab_building.specs.ab_readings.specs.Names.{Name, Resolved, bound, known, free, apply, abs, equal, bind, Binding, binding_head}
 use Rattle.ab_building.specs.ab_readings.specs.Scopes.{Entry, resolved, nominal_number}
@@ -18,8 +17,8 @@ use Rattle.ab_building.specs.ab_readings.specs.Types.{PropFree}
 use Rattle.ab_building.specs.ab_readings.specs.Readings.{Raw, Making, Reads, reads_bound, reads_known, reads_free, reads_apply, reads_abs, reads_equal, reads_bind}
 use Rattle.ab_building.specs.Heads.{HeadsFit, AreHeads, AreAllHeads, AreRawHeads, IsOrdinary, IsOrdinaryConstant}
 use Rattle.ab_building.specs.Outcomes.{nominal_of, number_of}
-use Rattle.ab_effects.specs.ab_logic.specs.Declarations.{Declarations, signature_in}
-use Rattle.ab_effects.specs.ab_logic.specs.Sequents.{Variable, Sequent, goal_names, in_terms}
+use Rattle.ab_formulas.specs.Declarations.{Declarations, signature_in}
+use Rattle.ab_formulas.specs.Sequents.{Variable, Sequent, goal_names, in_terms}
 use Rattle.ab_effects.specs.Terms.{kinds_in, entry_of, scope_of}
 use Rattle.ab_meanings.specs.Lists.{HasLists}
 use Rattle.ab_meanings.proofs.Names.{IsWritten, IsUnsettled, NamesAre, Admits, resolved_names}

@@ -1,7 +1,7 @@
 -- Declarations with the constant that the sign `::` stands for.
 use Rattle.std.specs.Prelude.{◌≡◌, [], ◌∷◌, codes, Some}
 use Rattle.ab_term.specs.Types.{arrows, o, olist}
-use Rattle.ab_effects.specs.ab_logic.specs.Declarations.{Declarations, signature_in}
+use Rattle.ab_formulas.specs.Declarations.{Declarations, signature_in}
 
 abbrev pub HasLists : Declarations → Type 0
 HasLists D = signature_in D (codes "::") ≡ Some (arrows (o ∷ olist ∷ []) olist)

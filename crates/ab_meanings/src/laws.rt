@@ -1,12 +1,12 @@
 //! Laws of what expressions mean in a goal.
 ghost use Rattle.std.specs.Prelude.{Contains};
 ghost use Rattle.ab_term.specs.Types.{Ty, prop};
-ghost use Rattle.ab_building.specs.ab_store.specs.Trees.{Read};
+ghost use Rattle.ab_term.specs.Terms.{Read};
 ghost use Rattle.ab_grammar.specs.Tree.{Tree};
 ghost use Rattle.ab_building.specs.ab_readings.specs.Types.{PropFree};
-ghost use Rattle.ab_effects.specs.ab_logic.specs.Declarations.{Declarations, signature_in};
-ghost use Rattle.ab_effects.specs.ab_logic.specs.Formulas.{IsFormula};
-ghost use Rattle.ab_effects.specs.ab_logic.specs.Sequents.{Variable, Sequent, IsSequent, Fits};
+ghost use Rattle.ab_formulas.specs.Declarations.{Declarations, signature_in};
+ghost use Rattle.ab_formulas.specs.Formulas.{IsFormula};
+ghost use Rattle.ab_formulas.specs.Sequents.{Variable, Sequent, IsSequent, Fits};
 ghost use Rattle.ab_effects.specs.Terms.{Means};
 ghost use Rattle.ab_meanings.specs.Lists.{HasLists};
 

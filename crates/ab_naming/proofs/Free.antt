@@ -14,10 +14,10 @@ use Rattle.std.proofs.Math.Seq.{drop-append_seam}
 use Rattle.std.proofs.lemmas.Bool.{cases_lt}
 use Rattle.indexmap.proofs.IndexTableLemmas.Probe.{pigeonhole}
 use Rattle.ab_term.proofs.Lists.{Contains-none, Contains-here, Contains-there, Contains-cases, Contains-from_map, Contains-map, All-from_contains}
-use Rattle.ab_logic.specs.Declarations.{Declarations, constant_names}
-use Rattle.ab_logic.specs.Sequents.{Sequent, Variable}
-use Rattle.ab_logic.specs.Names.{IsLeast, IsFreeName, IsNominalName, IsDigit, IsNoVariable}
-use Rattle.ab_naming.specs.Taken.{variable_names, taken_names, IsNumberFree, EndsInNoDigit, MayBeFrom}
+use Rattle.ab_formulas.specs.Declarations.{Declarations, constant_names}
+use Rattle.ab_formulas.specs.Sequents.{Sequent, Variable}
+use Rattle.ab_formulas.specs.Names.{IsLeast, IsFreeName, IsNominalName, IsDigit, IsNoVariable}
+use Rattle.ab_formulas.specs.Taken.{variable_names, taken_names, IsNumberFree, EndsInNoDigit, MayBeFrom}
 
 contained : {X : Type 0} (P : X → Type 0) (xs : List X) → All P xs → (a : X) → Contains xs a → P a
 contained P [] all a c = absurd (Contains-none a c)

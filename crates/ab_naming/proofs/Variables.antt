@@ -4,7 +4,7 @@ use Rattle.std.specs.List.{Contains}
 use Rattle.ab_term.proofs.Lists.{Contains-here, Contains-there, Contains-map, Contains-from_map}
 use Rattle.ab_logic.specs.ab_store.specs.declared.node.CellId.{CellId}
 use Rattle.ab_logic.specs.ab_store.specs.Trees.{cell_of}
-use Rattle.ab_logic.specs.Sequents.{Variable}
+use Rattle.ab_formulas.specs.Sequents.{Variable}
 use Rattle.ab_logic.specs.Worlds.{variable_of}
 use Rattle.ab_logic.specs.declared.world.World.{World}
 

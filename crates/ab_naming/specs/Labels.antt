@@ -1,6 +1,6 @@
 -- The label that the program's stands for.
-use Rattle.ab_logic.specs.Names as names
-use Rattle.ab_logic.specs.Names.{auto, given}
+use Rattle.ab_formulas.specs.Names as names
+use Rattle.ab_formulas.specs.Names.{auto, given}
 use Rattle.ab_naming.specs.declared.label.Label.{Label}
 use Rattle.ab_naming.specs.declared.label.Label.TheVariants.{Auto, Given}
 

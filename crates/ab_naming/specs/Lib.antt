@@ -1,7 +1,5 @@
 -- What the program's labels stand for, and what its functions ask of names.
 pub mod Labels
-pub mod Numbers
-pub mod Taken
 -- Libraries that the crates above name through this one.
 pub use Rattle.ab_logic.specs.ab_solve
 pub use Rattle.ab_logic.specs.ab_cases

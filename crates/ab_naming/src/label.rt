@@ -2,7 +2,7 @@
 ghost use Rattle.std.specs.Prelude.{◌≡◌, ℕ, ◌<◌, ◌≤◌, IfOk, IfSome, MatchOption};
 ghost use Rattle.ab_logic.specs.Readings.{sequent_of, HoldsSequent};
 ghost use Rattle.ab_logic.specs.declared.world.World.{World as AWorld};
-ghost use Rattle.ab_logic.specs.Names.{IsLeast, IsFree, automatic, Names, NoName};
+ghost use Rattle.ab_formulas.specs.Names.{IsLeast, IsFree, automatic, Names, NoName};
 ghost use Rattle.ab_naming.specs.Labels.{label_of};
 
 use ab_logic::Sequent;

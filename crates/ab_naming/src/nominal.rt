@@ -2,8 +2,8 @@
 ghost use Rattle.std.specs.Prelude.{◌≡◌, ◌↔◌, IsTrue};
 ghost use Rattle.std.specs.List.{list_all};
 ghost use Rattle.std.specs.Char.{is_ascii_digit};
-ghost use Rattle.ab_logic.specs.Names.{IsNominalName};
-ghost use Rattle.ab_naming.specs.Numbers.{IsPositive, HasNominalForm};
+ghost use Rattle.ab_formulas.specs.Names.{IsNominalName};
+ghost use Rattle.ab_formulas.specs.Numbers.{IsPositive, HasNominalForm};
 
 use ab_logic::below::types::Name;
 

@@ -1,6 +1,6 @@
 //! Names without the digits at their end.
 ghost use Rattle.std.specs.Prelude.{◌≡◌, ℕ, ◌-◌, ◌<◌, ◌≤◌, IfOk, length, slice_index, true, false};
-ghost use Rattle.ab_logic.specs.Names.{IsDigit, IsStem};
+ghost use Rattle.ab_formulas.specs.Names.{IsDigit, IsStem};
 
 use ab_logic::below::types::Name;
 use std::alloc::{AllocError, Global};

@@ -1,12 +1,12 @@
 //! Names for new variables.
 ghost use Rattle.std.specs.Prelude.{◌≡◌, ℕ, ◌+◌, ◌<◌, ◌≤◌, ◌++◌, ◌↔◌, ◌⊎◌, ◌^◌, IfOk, IsTrue, IsFalse, map, Contains, length};
 ghost use Rattle.std.specs.Fmt.{decimal};
-ghost use Rattle.ab_logic.specs.Declarations.{Declarations, constant_names};
-ghost use Rattle.ab_logic.specs.Names.{IsFreeName, IsNamedFor, IsNominalName, IsLeast};
+ghost use Rattle.ab_formulas.specs.Declarations.{Declarations, constant_names};
+ghost use Rattle.ab_formulas.specs.Names.{IsFreeName, IsNamedFor, IsNominalName, IsLeast};
 ghost use Rattle.ab_logic.specs.Worlds.{CameInOrder, declarations_of};
 ghost use Rattle.ab_logic.specs.Readings.{sequent_of, HoldsSequent};
-ghost use Rattle.ab_naming.specs.Taken.{variable_names, taken_names, IsNumberFree, EndsInNoDigit, MayBeFrom};
-ghost use Rattle.ab_logic.specs.Sequents.{Sequent as ASequent};
+ghost use Rattle.ab_formulas.specs.Taken.{variable_names, taken_names, IsNumberFree, EndsInNoDigit, MayBeFrom};
+ghost use Rattle.ab_formulas.specs.Sequents.{Sequent as ASequent};
 
 use crate::nominal::is_nominal_name;
 use crate::stem::stem;

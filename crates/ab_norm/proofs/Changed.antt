@@ -2,15 +2,13 @@
 use Rattle.std.proofs.Common.{◌≡◌, ◌⊎◌, inl, inr, ℕ, suc, ◌+◌, ◌≤◌, List, [], ◌∷◌, map, Option, None, Some, Bool, true, false, cond, not, ◌==◌, ◌&&◌, Decides, Result, Ok, Err, OnOk, refl, sym, ◌∙◌, ap, subst, add-one}
 use Rattle.std.specs.List.{All}
 use Rattle.std.proofs.lemmas.Bool.Decides.{Decides-eqb}
-use Rattle.ab_term.specs.Types.{Ty}
+use Rattle.ab_term.specs.Types.{Ty, same_type}
 use Rattle.ab_term.specs.Terms as tree
-use Rattle.ab_term.specs.Terms.{lam, spine, Terms, no_terms, term, terms_of}
+use Rattle.ab_term.specs.Terms.{lam, spine, Terms, no_terms, term, terms_of, Variable, Read}
 use Rattle.ab_term.specs.Names.{moved_by, rename_head, rename, rename_all, support}
 use Rattle.ab_term.specs.Substitution.{reduce, substitute, substitute_all, lower_head, put}
 use Rattle.ab_term.specs.Reach.{raise_head, raise, raise_all, reach}
 use Rattle.ab_term.proofs.Reaching.{raise-none, raise-more, raise-short, substitute_by-short}
-use Rattle.ab_term.specs.Types.{same_type}
-use Rattle.ab_term.specs.Terms.{Variable}
 use Rattle.ab_term.specs.Sameness.{same_number}
 use Rattle.ab_term.specs.Variables.{variables, value_in, image, image_by, image_all_by, put_at, put_for}
 use Rattle.ab_term.proofs.Depends.{image_rigid}
@@ -25,7 +23,7 @@ use Rattle.ab_store.specs.declared.node.Head.{Head}
 use Rattle.ab_store.specs.declared.node.Head.TheVariants.{Const, Logic, Nominal, Cell, Index}
 use Rattle.ab_store.specs.declared.node.Node.{Node}
 use Rattle.ab_store.specs.declared.node.Node.TheVariants.{Lam, Spine}
-use Rattle.ab_store.specs.Trees.{Read, Contents, Holds, tree_of, head_in, head_reading, node_tree, cell_of}
+use Rattle.ab_store.specs.Trees.{Contents, Holds, tree_of, head_in, head_reading, node_tree, cell_of}
 use Rattle.ab_store.specs.Growth.{IsExtendedBy}
 use Rattle.ab_store.specs.Naming.{HeadIsTyped, NodeIsTyped, IsTypedBy}
 use Rattle.ab_norm.specs.declared.nominal.Swap.{Swap}

@@ -4,7 +4,7 @@ use Rattle.std.specs.Prelude.{Contains}
 use Rattle.std.proofs.lemmas.List.Elements.{All-contains}
 use Rattle.ab_term.specs.Types.{Ty}
 use Rattle.ab_term.specs.Terms as tree
-use Rattle.ab_term.specs.Terms.{Variable, Terms, lam, spine, no_terms, term}
+use Rattle.ab_term.specs.Terms.{Variable, Terms, lam, spine, no_terms, term, Read}
 use Rattle.ab_term.specs.Names.{rename, rename_all, rename_head}
 use Rattle.ab_term.specs.Expansion.{expansion}
 use Rattle.ab_term.specs.Variables.{variables, variables_of_head, variables_of_all}
@@ -14,7 +14,7 @@ use Rattle.ab_store.specs.ab_types.specs.Entries.{Table}
 use Rattle.ab_store.specs.declared.node.TermId.{TermId}
 use Rattle.ab_store.specs.declared.node.Head.{Head}
 use Rattle.ab_store.specs.declared.node.Head.TheVariants.{Const, Logic, Nominal, Cell, Index}
-use Rattle.ab_store.specs.Trees.{Read, Contents, head_reading, tree_of}
+use Rattle.ab_store.specs.Trees.{Contents, head_reading, tree_of}
 use Rattle.ab_store.specs.Reading.{bound_in, reading}
 use Rattle.ab_store.specs.Bindings.{cells_of, IsUnbound, IsResolved}
 use Rattle.ab_store.specs.Growth.{IsExtendedBy}

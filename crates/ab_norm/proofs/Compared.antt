@@ -2,7 +2,7 @@
 use Rattle.std.proofs.Common.{◌≡◌, ◌≢◌, ◌⊎◌, inl, inr, ◌↔◌, ℕ, ◌+◌, ◌<◌, ◌≤◌, List, [], ◌∷◌, ◌++◌, map, take, length, get_or, Bool, true, false, refl, sym, ◌∙◌, ap, arith}
 use Rattle.std.proofs.lemmas.List.{map_more, take_all, get_or-map, length-map}
 use Rattle.ab_term.specs.Terms as tree
-use Rattle.ab_term.specs.Terms.{Term, Terms, lam, spine, term, no_terms, terms_of}
+use Rattle.ab_term.specs.Terms.{Term, Terms, lam, spine, term, no_terms, terms_of, Read}
 use Rattle.ab_term.specs.Translation.{forget, forget_all, EqualPastHints, translate_head}
 use Rattle.ab_store.specs.ab_types.specs.Entries.{Table}
 use Rattle.ab_store.specs.ab_types.specs.Ids.{HoldsType, type_of}
@@ -13,7 +13,7 @@ use Rattle.ab_store.specs.declared.node.TermId.{TermId}
 use Rattle.ab_store.specs.declared.node.Head.{Head}
 use Rattle.ab_store.specs.declared.node.Node.{Node}
 use Rattle.ab_store.specs.declared.node.Node.TheVariants.{Lam, Spine}
-use Rattle.ab_store.specs.Trees.{Read, Contents, tree_of, head_reading, node_tree}
+use Rattle.ab_store.specs.Trees.{Contents, tree_of, head_reading, node_tree}
 use Rattle.ab_store.specs.Naming.{HeadIsTyped, IsTypedBy}
 use Rattle.ab_norm.specs.declared.memo.Agreed.{Agreed}
 use Rattle.ab_norm.specs.Remembering.{has_agreed}

@@ -2,7 +2,7 @@
 use Rattle.std.proofs.Common.{◌≡◌, ◌⊎◌, inl, inr, ℕ, ◌+◌, ◌<◌, List, [], ◌∷◌, ◌++◌, map, take, drop, length, get_or, None, Some, sym, ◌∙◌, ap, subst, arith}
 use Rattle.std.specs.List.{All}
 use Rattle.std.proofs.lemmas.List.{map_more, map-append, drop_more, get_or-map, length-map}
-use Rattle.ab_term.specs.Terms.{lam, spine, terms_of}
+use Rattle.ab_term.specs.Terms.{lam, spine, terms_of, Read}
 use Rattle.ab_term.specs.Sameness.{same_number}
 use Rattle.ab_term.specs.Variables.{variables, value_in, image, one_by_one}
 use Rattle.ab_term.proofs.Depends.{image_rigid}
@@ -15,7 +15,7 @@ use Rattle.ab_store.specs.declared.node.Head.{Head}
 use Rattle.ab_store.specs.declared.node.Node.{Node}
 use Rattle.ab_store.specs.declared.node.Node.TheVariants.{Lam, Spine}
 use Rattle.ab_store.specs.declared.node.Binding.{Binding}
-use Rattle.ab_store.specs.Trees.{Read, Contents, Holds, cell_of, head_in, tree_of, node_tree}
+use Rattle.ab_store.specs.Trees.{Contents, Holds, cell_of, head_in, tree_of, node_tree}
 use Rattle.ab_store.specs.Reading.{pairs, cell_variable}
 use Rattle.ab_store.specs.Growth.{IsExtendedBy}
 use Rattle.ab_store.proofs.Putting.{Pair, pair}

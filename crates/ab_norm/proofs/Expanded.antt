@@ -2,13 +2,13 @@
 use Rattle.std.proofs.Common.{◌≡◌, List, [], ◌∷◌, ◌++◌, map, refl, ◌∙◌, ap}
 use Rattle.std.specs.List.{All}
 use Rattle.std.proofs.lemmas.List.{map-append}
-use Rattle.ab_term.specs.Terms.{term, terms_of, with_last}
+use Rattle.ab_term.specs.Terms.{term, terms_of, with_last, Read}
 use Rattle.ab_term.specs.Substitution.{shift, shift_all}
 use Rattle.ab_term.specs.Reach.{raise}
 use Rattle.ab_term.proofs.Reaching.{raise-none, raise-more}
 use Rattle.ab_store.specs.ab_types.specs.Entries.{Table}
 use Rattle.ab_store.specs.declared.node.TermId.{TermId}
-use Rattle.ab_store.specs.Trees.{Read, Contents, Holds, tree_of}
+use Rattle.ab_store.specs.Trees.{Contents, Holds, tree_of}
 use Rattle.ab_store.specs.Growth.{IsExtendedBy}
 use Rattle.ab_norm.proofs.Frame.{still_read_before}
 

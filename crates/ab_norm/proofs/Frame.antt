@@ -10,7 +10,8 @@ use Rattle.ab_store.specs.declared.node.Node.{Node}
 use Rattle.ab_store.specs.declared.node.Node.TheVariants.{Lam, Spine}
 use Rattle.ab_store.specs.ab_types.specs.declared.ids.TypeId.{TypeId}
 use Rattle.ab_store.specs.ab_types.specs.Ids.{HoldsType}
-use Rattle.ab_store.specs.Trees.{Read, Contents, Holds, tree_of, head_in, head_reading}
+use Rattle.ab_term.specs.Terms.{Read}
+use Rattle.ab_store.specs.Trees.{Contents, Holds, tree_of, head_in, head_reading}
 use Rattle.ab_store.specs.Growth.{IsExtendedBy}
 use Rattle.ab_store.specs.Naming.{HeadNames, NodeNames, HoldsHead, HeadIsTyped, NodeIsTyped, IsTypedBy}
 use Rattle.ab_store.proofs.Growing.{extended_itself, extended_on}

@@ -10,7 +10,7 @@ use Rattle.std.proofs.lemmas.Bool.Decides.{Decides-eqb, nat_tests}
 use Rattle.std.proofs.lemmas.List.Elements.{All-from_recursion, All-weaker, All-map}
 use Rattle.std.proofs.lemmas.List.Kept.{AllPairs-cons}
 use Rattle.ab_term.specs.Terms as tree
-use Rattle.ab_term.specs.Terms.{Term, Terms, no_terms, term, terms_of}
+use Rattle.ab_term.specs.Terms.{Term, Terms, no_terms, term, terms_of, Read}
 use Rattle.ab_term.specs.Names.{support, support_of_head, support_of_all, IsSupport}
 use Rattle.ab_term.proofs.Lists.{Contains-none, Contains-here, Contains-there, Contains-cases, Contains-map, Contains-from_map, AllPairs-none, AllPairs-parts}
 use Rattle.ab_store.specs.ab_types.specs.Entries.{Table}
@@ -19,7 +19,7 @@ use Rattle.ab_store.specs.declared.node.TermId.{TermId}
 use Rattle.ab_store.specs.declared.node.Head.{Head}
 use Rattle.ab_store.specs.declared.node.Node.{Node}
 use Rattle.ab_store.specs.declared.node.Node.TheVariants.{Lam, Spine}
-use Rattle.ab_store.specs.Trees.{Read, Contents, tree_of, head_reading, node_tree}
+use Rattle.ab_store.specs.Trees.{Contents, tree_of, head_reading, node_tree}
 use Rattle.ab_norm.specs.declared.nominal.Nominal.{Nominal}
 use Rattle.ab_store.specs.ab_types.specs.Sound.{IsTable}
 use Rattle.ab_store.specs.ab_types.proofs.Kept.{one_type}

@@ -5,7 +5,8 @@ use Rattle.std.proofs.lemmas.List.{drop_more}
 use Rattle.ab_term.specs.Substitution.{instance, instance_by_all}
 use Rattle.ab_store.specs.ab_types.specs.Entries.{Table}
 use Rattle.ab_store.specs.declared.node.TermId.{TermId}
-use Rattle.ab_store.specs.Trees.{Read, Contents, Holds, tree_of}
+use Rattle.ab_term.specs.Terms.{Read}
+use Rattle.ab_store.specs.Trees.{Contents, Holds, tree_of}
 use Rattle.ab_norm.specs.Growth.{AddsTerms}
 
 -- one more argument, and the rest give the same

@@ -3,11 +3,11 @@ use Rattle.std.proofs.Common.{◌≡◌, ℕ, ◌+◌, ◌<◌, List, [], ◌∷
 use Rattle.std.specs.List.{All}
 use Rattle.std.proofs.lemmas.List.{map_more, map-append}
 use Rattle.ab_term.specs.Terms as tree
-use Rattle.ab_term.specs.Terms.{Term, Terms, lam, spine, term, no_terms, terms_of}
+use Rattle.ab_term.specs.Terms.{Term, Terms, lam, spine, term, no_terms, terms_of, Read}
 use Rattle.ab_term.specs.Names.{support_of_head, support, support_of_all, rename_head, rename, rename_all}
 use Rattle.ab_store.specs.ab_types.specs.Entries.{Table}
 use Rattle.ab_store.specs.declared.node.TermId.{TermId}
-use Rattle.ab_store.specs.Trees.{Read, Contents, Holds, tree_of}
+use Rattle.ab_store.specs.Trees.{Contents, Holds, tree_of}
 use Rattle.ab_store.specs.Growth.{IsExtendedBy}
 use Rattle.ab_norm.specs.Matching.{Renaming}
 use Rattle.ab_norm.proofs.Frame.{still_read_before}

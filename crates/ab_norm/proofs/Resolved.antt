@@ -4,7 +4,7 @@ use Rattle.std.specs.Prelude.{All, AllPairs, Contains}
 use Rattle.std.proofs.lemmas.Bool.Decides.{Decides-eqb}
 use Rattle.std.proofs.lemmas.List.{map-append, get_or-map, length-map, drop_more, drop_all, take_more}
 use Rattle.std.proofs.lemmas.List.Elements.{All-nil, All-cons, All-head, All-tail, All-append, All-map, All-push, All-contains, All-weaker}
-use Rattle.ab_term.specs.Terms.{Variable, terms_of}
+use Rattle.ab_term.specs.Terms.{Variable, terms_of, Read}
 use Rattle.ab_term.specs.Sameness.{same_number}
 use Rattle.ab_term.specs.Variables.{variables, variables_of_head, variables_of_all, value_in, image, one_by_one}
 use Rattle.ab_term.proofs.Lists.{Contains-map, Contains-from_map, AllPairs-parts}
@@ -21,7 +21,7 @@ use Rattle.ab_store.specs.declared.node.Head.TheVariants.{Const, Logic, Nominal,
 use Rattle.ab_store.specs.declared.node.Node.{Node}
 use Rattle.ab_store.specs.declared.node.Node.TheVariants.{Lam, Spine}
 use Rattle.ab_store.specs.declared.node.Binding.{Binding}
-use Rattle.ab_store.specs.Trees.{Read, Contents, Holds, HoldsCell, cell_in, cell_of, head_in, tree_of, node_tree}
+use Rattle.ab_store.specs.Trees.{Contents, Holds, HoldsCell, cell_in, cell_of, head_in, tree_of, node_tree}
 use Rattle.ab_store.specs.Reading.{bound_in, cell_variable, pairs, reading}
 use Rattle.ab_store.specs.Bindings.{IsUnbound, IsResolved, AreInOrder}
 use Rattle.ab_store.specs.Growth.{IsExtendedBy}

@@ -4,7 +4,7 @@ use Rattle.std.specs.List.{All, flat_map}
 use Rattle.std.proofs.lemmas.List.Elements.{All-nil, All-cons, All-head, All-tail, All-append, All-weaker}
 use Rattle.std.proofs.lemmas.List.Concat.{flat_map-cons}
 use Rattle.std.proofs.lemmas.List.{map_more, map-append}
-use Rattle.ab_term.specs.Terms.{spine, terms_of}
+use Rattle.ab_term.specs.Terms.{spine, terms_of, Read}
 use Rattle.ab_store.specs.ab_types.specs.Entries.{Table}
 use Rattle.ab_store.specs.ab_types.specs.declared.ids.TypeId.{TypeId}
 use Rattle.ab_store.specs.ab_types.specs.Ids.{HoldsType}
@@ -12,7 +12,7 @@ use Rattle.ab_store.specs.declared.node.TermId.{TermId}
 use Rattle.ab_store.specs.declared.node.Head.{Head}
 use Rattle.ab_store.specs.declared.node.Node.{Node}
 use Rattle.ab_store.specs.declared.node.Node.TheVariants.{Spine}
-use Rattle.ab_store.specs.Trees.{Read, Contents, tree_of, head_reading, node_tree}
+use Rattle.ab_store.specs.Trees.{Contents, tree_of, head_reading, node_tree}
 use Rattle.ab_store.specs.Naming.{HoldsHead, HeadIsTyped}
 use Rattle.ab_norm.specs.declared.items.Items.{Items}
 use Rattle.ab_norm.specs.Items.{list_of}

@@ -6,7 +6,7 @@ use Rattle.ab_term.specs.Names.{moved_by, rename, permute, IsPermutationTable, E
 use Rattle.ab_term.specs.Translation.{forget, EqualPastHints}
 use Rattle.ab_term.proofs.Permutations.{one_to_one, swapped}
 use Rattle.ab_store.specs.ab_types.specs.Entries.{Table}
-use Rattle.ab_store.specs.Trees.{Read}
+use Rattle.ab_term.specs.Terms.{Read}
 use Rattle.ab_norm.specs.declared.nominal.Swap.{Swap}
 use Rattle.ab_norm.specs.declared.nominal.Permutation.{Permutation}
 use Rattle.ab_norm.specs.Nominals.{nominal_of, pairs_of}

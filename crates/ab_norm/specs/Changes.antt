@@ -2,7 +2,7 @@
 -- speak of it; what a caller sees are the operations themselves.
 use Rattle.std.specs.Prelude.{◌≡◌, ℕ, List, [], ◌∷◌, Some}
 use Rattle.ab_term.specs.Terms as tree
-use Rattle.ab_term.specs.Terms.{Terms, spine}
+use Rattle.ab_term.specs.Terms.{Terms, spine, Read}
 use Rattle.ab_term.specs.Substitution.{lower_head, put, reduce, substitute}
 use Rattle.ab_term.specs.Reach.{raise_head, raise}
 use Rattle.ab_term.specs.Names.{moved_by, rename_head, rename}
@@ -14,7 +14,7 @@ use Rattle.ab_store.specs.ab_types.specs.Ids.{HoldsType, type_of}
 use Rattle.ab_store.specs.ab_types.specs.Sound.{IsTable}
 use Rattle.ab_store.specs.declared.node.TermId.{TermId}
 use Rattle.ab_store.specs.declared.node.CellId.{CellId}
-use Rattle.ab_store.specs.Trees.{Read, Contents, Holds, HoldsCell, cell_of, tree_of}
+use Rattle.ab_store.specs.Trees.{Contents, Holds, HoldsCell, cell_of, tree_of}
 use Rattle.ab_store.specs.Growth.{IsExtendedBy}
 use Rattle.ab_store.specs.Naming.{IsTypedBy}
 use Rattle.ab_norm.specs.declared.walking.Change.{Change}

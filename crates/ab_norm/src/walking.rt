@@ -1,13 +1,13 @@
 //! The walk that makes terms: the same for raising, for hereditary substitution and for renaming, but for what
 //! becomes of a head. Each node is visited once at each number of binders that matters.
 ghost use Rattle.std.specs.Prelude.{◌≡◌, ◌+◌, ◌≤◌, ◌↔◌, true, map, IfOk, OnOk, All};
-ghost use Rattle.ab_term.specs.Terms.{lam, spine, terms_of};
+ghost use Rattle.ab_term.specs.Terms.{lam, spine, terms_of, Read};
 ghost use Rattle.ab_term.specs.Substitution as tree;
 ghost use Rattle.ab_term.specs.Reach.{raise as raised};
 ghost use Rattle.ab_store.specs.ab_types.specs.Entries.{Table};
 ghost use Rattle.ab_store.specs.ab_types.specs.Ids.{HoldsType, type_of};
 ghost use Rattle.ab_store.specs.ab_types.specs.Sound.{IsTable};
-ghost use Rattle.ab_store.specs.Trees.{Read, Contents, Holds, tree_of, head_reading};
+ghost use Rattle.ab_store.specs.Trees.{Contents, Holds, tree_of, head_reading};
 ghost use Rattle.ab_store.specs.Naming.{HoldsHead, HeadIsTyped, IsTypedBy};
 ghost use Rattle.ab_store.specs.Growth.{IsExtendedBy};
 ghost use Rattle.ab_store.specs.declared.node.Head.TheVariants.{Cell};

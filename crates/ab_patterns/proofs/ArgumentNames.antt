@@ -6,11 +6,11 @@ use Rattle.std.specs.List.{All}
 use Rattle.std.proofs.lemmas.List.Elements.{All-tail, All-weaker}
 use Rattle.ab_term.specs.Types.{Ty, arrow}
 use Rattle.ab_term.specs.Terms as tree
-use Rattle.ab_term.specs.Terms.{term, terms_of}
+use Rattle.ab_term.specs.Terms.{term, terms_of, Read}
 use Rattle.ab_norm.specs.ab_types.specs.Entries.{Table}
 use Rattle.ab_norm.specs.ab_store.specs.declared.node.TermId.{TermId}
 use Rattle.ab_norm.specs.ab_store.specs.declared.node.Head.{Head}
-use Rattle.ab_norm.specs.ab_store.specs.Trees.{Read, Contents, Holds, tree_of, head_in}
+use Rattle.ab_norm.specs.ab_store.specs.Trees.{Contents, Holds, tree_of, head_in}
 use Rattle.ab_norm.specs.ab_store.specs.Growth.{IsExtendedBy}
 use Rattle.ab_norm.proofs.Frame.{still_read_before}
 use Rattle.ab_solve.specs.Patterns.{name_of, new_name, pattern}

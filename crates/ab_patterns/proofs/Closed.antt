@@ -6,7 +6,7 @@ use Rattle.ab_norm.specs.ab_store.specs.Naming.{HeadIsTyped}
 use Rattle.ab_term.specs.Sameness.{same_head as plain_same}
 use Rattle.ab_term.proofs.Same.{same_head-Decides}
 use Rattle.ab_patterns.proofs.Rules.{heads_differ}
-use Rattle.ab_term.specs.Terms.{lam, spine, term, terms_of}
+use Rattle.ab_term.specs.Terms.{lam, spine, term, terms_of, Read}
 use Rattle.ab_term.specs.Terms as tree
 use Rattle.ab_term.specs.Substitution.{shift_index, shift_head}
 use Rattle.ab_norm.specs.ab_types.specs.Entries.{Table}
@@ -16,7 +16,7 @@ use Rattle.ab_norm.specs.ab_store.specs.declared.node.TermId.{TermId}
 use Rattle.ab_norm.specs.ab_store.specs.declared.node.Head.{Head}
 use Rattle.ab_norm.specs.ab_store.specs.declared.node.Node.{Node}
 use Rattle.ab_norm.specs.ab_store.specs.declared.node.Node.TheVariants.{Lam, Spine}
-use Rattle.ab_norm.specs.ab_store.specs.Trees.{Read, Contents, tree_of, head_reading, node_tree}
+use Rattle.ab_norm.specs.ab_store.specs.Trees.{Contents, tree_of, head_reading, node_tree}
 use Rattle.ab_norm.specs.Growth.{AddsTerms}
 use Rattle.ab_norm.proofs.Frame.{same_head}
 use Rattle.ab_term.specs.Closing as closing

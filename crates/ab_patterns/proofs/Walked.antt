@@ -4,7 +4,7 @@ use Rattle.std.specs.List.{All, list_any}
 use Rattle.std.proofs.lemmas.List.Elements.{All-nil, All-cons, All-head, All-tail}
 use Rattle.std.proofs.lemmas.Bool.{false≢true, false_from_ne_true}
 use Rattle.ab_term.specs.Terms as tree
-use Rattle.ab_term.specs.Terms.{Variable, Term, Terms, lam, spine, no_terms, term, terms_of}
+use Rattle.ab_term.specs.Terms.{Variable, Term, Terms, lam, spine, no_terms, term, terms_of, Read}
 use Rattle.ab_term.specs.Variables.{variables, variables_of_head, variables_of_all}
 use Rattle.ab_term.specs.Sameness.{same_numbered}
 use Rattle.ab_term.specs.Closing.{among, may_stand}
@@ -18,7 +18,7 @@ use Rattle.ab_norm.specs.ab_store.specs.declared.node.Head.{Head}
 use Rattle.ab_norm.specs.ab_store.specs.declared.node.Head.TheVariants.{Const, Logic, Nominal, Cell, Index}
 use Rattle.ab_norm.specs.ab_store.specs.declared.node.Node.{Node}
 use Rattle.ab_norm.specs.ab_store.specs.declared.node.Node.TheVariants.{Lam, Spine}
-use Rattle.ab_norm.specs.ab_store.specs.Trees.{Read, Contents, tree_of, node_tree, head_reading}
+use Rattle.ab_norm.specs.ab_store.specs.Trees.{Contents, tree_of, node_tree, head_reading}
 use Rattle.ab_norm.specs.ab_store.specs.Reading.{cell_variable}
 use Rattle.ab_solve.specs.Replacing.{holds, occurs, is_flexible, no_foreign, no_foreign_all}
 use Rattle.ab_patterns.specs.declared.seen.Seen.{Seen}

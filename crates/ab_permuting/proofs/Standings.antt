@@ -11,10 +11,10 @@ use Rattle.ab_term.specs.Terms.{Nominal}
 use Rattle.ab_norm.specs.ab_types.specs.Entries.{Table}
 use Rattle.ab_norm.specs.ab_types.specs.Ids.{HoldsType, type_of}
 use Rattle.ab_norm.specs.ab_types.specs.declared.ids.TypeId.{TypeId}
-use Rattle.ab_permuting.specs.Cycles.{constant_at, StandsAt, type_among}
+use Rattle.ab_formulas.specs.Cycles.{constant_at, StandsAt, type_among}
 use Rattle.ab_term.proofs.Lists.{Contains-none, Contains-here, Contains-there, Contains-cases}
 use Rattle.ab_term.specs.Names.{support}
-use Rattle.ab_logic.specs.Sequents.{Hypothesis, formulas, names_of}
+use Rattle.ab_formulas.specs.Sequents.{Hypothesis, formulas, names_of}
 use Rattle.ab_permuting.specs.Standing.{IsStanding, IsCommon}
 use Rattle.ab_permuting.specs.declared.standing.Standing.{Standing}
 use Rattle.ab_permuting.specs.declared.standing.Standing.TheVariants.{Nowhere, At, Mixed}

@@ -1,5 +1,4 @@
 -- Numbers of nominal constants that change places.
-pub mod Cycles
 pub mod Standing
 -- Libraries that the crates above name through this one.
 pub use Rattle.ab_logic.specs.ab_solve

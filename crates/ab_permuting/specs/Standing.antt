@@ -4,7 +4,7 @@ use Rattle.ab_term.specs.Types.{Ty}
 use Rattle.ab_term.specs.Terms.{Nominal}
 use Rattle.ab_norm.specs.ab_types.specs.Entries.{Table}
 use Rattle.ab_norm.specs.ab_types.specs.Ids.{HoldsType, type_of}
-use Rattle.ab_permuting.specs.Cycles.{StandsAt, MayCycle, type_among}
+use Rattle.ab_formulas.specs.Cycles.{StandsAt, MayCycle, type_among}
 use Rattle.ab_permuting.specs.declared.standing.Standing.{Standing}
 use Rattle.ab_permuting.specs.declared.standing.Standing.TheVariants.{Nowhere, At, Mixed}
 

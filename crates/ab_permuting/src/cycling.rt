@@ -4,7 +4,7 @@ ghost use Rattle.ab_term.specs.Names.{IsPermutationTable};
 ghost use Rattle.ab_norm.specs.ab_types.specs.Entries.{Table};
 ghost use Rattle.ab_norm.specs.ab_types.specs.Ids.{HoldsType, type_of};
 ghost use Rattle.ab_norm.specs.Nominals.{pairs_of, HoldsPairs};
-ghost use Rattle.ab_permuting.specs.Cycles.{constant_at, onward, cycle};
+ghost use Rattle.ab_formulas.specs.Cycles.{constant_at, onward, cycle};
 ghost use Rattle.ab_permuting.specs.Standing.{StandsAgain};
 
 use ab_norm::below::types::TypeId;

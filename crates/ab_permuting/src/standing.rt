@@ -6,7 +6,7 @@ ghost use Rattle.ab_norm.specs.ab_types.specs.Ids.{HoldsType};
 ghost use Rattle.ab_norm.specs.ab_types.specs.Sound.{IsTable};
 ghost use Rattle.ab_norm.specs.Nominals.{nominal_of, HoldsNominal};
 ghost use Rattle.ab_logic.specs.Readings.{sequent_of, HoldsSequent};
-ghost use Rattle.ab_logic.specs.Sequents.{goal_names};
+ghost use Rattle.ab_formulas.specs.Sequents.{goal_names};
 ghost use Rattle.ab_logic.specs.Worlds.{IsWorld, Holds, read};
 ghost use Rattle.ab_term.specs.Terms as tree;
 ghost use Rattle.ab_permuting.specs.Standing.{IsStanding, IsCommon};

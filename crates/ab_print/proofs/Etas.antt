@@ -4,7 +4,7 @@ use Rattle.std.specs.Prelude.{if◌then◌else◌}
 use Rattle.std.specs.List.{All}
 use Rattle.ab_term.specs.Types.{Ty}
 use Rattle.ab_term.specs.Terms as tree
-use Rattle.ab_term.specs.Terms.{Term, lam, spine, terms_of}
+use Rattle.ab_term.specs.Terms.{Term, lam, spine, terms_of, Read}
 use Rattle.ab_logic.specs.ab_types.specs.Entries.{Table}
 use Rattle.ab_logic.specs.ab_types.specs.Ids.{type_of}
 use Rattle.ab_logic.specs.ab_types.specs.declared.ids.TypeId.{TypeId}
@@ -12,7 +12,7 @@ use Rattle.ab_logic.specs.ab_store.specs.declared.node.TermId.{TermId}
 use Rattle.ab_logic.specs.ab_store.specs.declared.node.Head.{Head}
 use Rattle.ab_logic.specs.ab_store.specs.declared.node.Node.{Node}
 use Rattle.ab_logic.specs.ab_store.specs.declared.node.Node.TheVariants.{Lam, Spine}
-use Rattle.ab_logic.specs.ab_store.specs.Trees.{Read, Contents, tree_of, head_reading, node_tree}
+use Rattle.ab_logic.specs.ab_store.specs.Trees.{Contents, tree_of, head_reading, node_tree}
 use Rattle.ab_logic.specs.ab_store.specs.Naming.{NodeNames, HeadNames}
 use Rattle.ab_text.specs.Naming.{are_last, is_bound_name, alone, outside}
 

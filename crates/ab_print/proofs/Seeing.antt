@@ -8,12 +8,12 @@ use Rattle.std.proofs.lemmas.List.Elements.{All-nil, All-cons, All-head, All-tai
 use Rattle.std.proofs.lemmas.Bool.{eqb-true, eq-eqb, ltb-true, ltb-false}
 use Rattle.ab_term.specs.Types.{Ty}
 use Rattle.ab_term.specs.Terms as tree
-use Rattle.ab_term.specs.Terms.{constant, logical, nominal, variable, index, lam}
+use Rattle.ab_term.specs.Terms.{constant, logical, nominal, variable, index, lam, Read}
 use Rattle.ab_term.specs.Substitution.{lower_head}
 use Rattle.ab_logic.specs.ab_types.specs.Entries.{Table}
 use Rattle.ab_logic.specs.ab_store.specs.declared.node.Head.{Head}
 use Rattle.ab_logic.specs.ab_store.specs.declared.node.Head.TheVariants.{Index}
-use Rattle.ab_logic.specs.ab_store.specs.Trees.{Read, Contents, head_reading}
+use Rattle.ab_logic.specs.ab_store.specs.Trees.{Contents, head_reading}
 use Rattle.ab_text.specs.Names.{free_heads}
 use Rattle.std.specs.declared.alloc.Global.{Global}
 use Rattle.std.specs.declared.vec.Vec.{Vec}

@@ -6,11 +6,11 @@ use Rattle.std.specs.List.{filter_map}
 use Rattle.std.specs.declared.alloc.Global.{Global}
 use Rattle.std.specs.declared.vec.Vec.{Vec}
 use Rattle.ab_term.specs.Terms as tree
-use Rattle.ab_term.specs.Terms.{constant, logical, nominal, variable, index, lam, spine, Terms, no_terms, term}
+use Rattle.ab_term.specs.Terms.{constant, logical, nominal, variable, index, lam, spine, Terms, no_terms, term, Read}
 use Rattle.ab_logic.specs.ab_types.specs.Entries.{Table}
 use Rattle.ab_logic.specs.ab_types.specs.Ids.{type_of}
 use Rattle.ab_logic.specs.ab_store.specs.declared.node.Head.{Head}
-use Rattle.ab_logic.specs.ab_store.specs.Trees.{Read, Contents, head_reading}
+use Rattle.ab_logic.specs.ab_store.specs.Trees.{Contents, head_reading}
 use Rattle.ab_logic.specs.ab_store.specs.Naming.{HoldsHead, HeadIsTyped}
 use Rattle.ab_text.specs.Names.{free_heads}
 use Rattle.ab_text.specs.Naming.{alone}

@@ -2,9 +2,8 @@
 use Rattle.std.specs.Prelude.{ℕ, ◌==◌, List, [], ◌∷◌, codes, map, if◌then◌else◌}
 use Rattle.ab_term.specs.Types.{Ty, kind}
 use Rattle.ab_term.specs.Logical.{implication, equality, universal, star, at_sign}
-use Rattle.ab_term.specs.Terms.{Head, constant, logical, nominal, variable, index, lam, spine, terms_of}
-use Rattle.ab_logic.specs.ab_store.specs.Trees.{Read}
-use Rattle.ab_logic.specs.Sequents.{Sequent, Hypothesis}
+use Rattle.ab_term.specs.Terms.{Head, constant, logical, nominal, variable, index, lam, spine, terms_of, Read}
+use Rattle.ab_formulas.specs.Sequents.{Sequent, Hypothesis}
 
 abbrev pub i : Ty
 i = kind (codes "nat")

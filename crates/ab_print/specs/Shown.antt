@@ -1,7 +1,8 @@
 -- What is printed of terms and goals, as bytes. A function says how each variable is called.
 use Rattle.std.specs.Prelude.{ℕ, List, [], ◌∷◌, ◌++◌, map, codes, decimal}
-use Rattle.ab_logic.specs.ab_store.specs.Trees.{Read, Contents, cell_of}
-use Rattle.ab_logic.specs.Sequents.{Sequent, Hypothesis}
+use Rattle.ab_term.specs.Terms.{Read}
+use Rattle.ab_logic.specs.ab_store.specs.Trees.{Contents, cell_of}
+use Rattle.ab_formulas.specs.Sequents.{Sequent, Hypothesis}
 use Rattle.ab_text.specs.Layout.{bytes}
 use Rattle.ab_text.specs.Naming.{printed}
 

@@ -5,13 +5,12 @@ use Rattle.std.proofs.Common.{◌≡◌, ℕ, zero, suc, ◌+◌, ◌≤◌, ◌
 use Rattle.ab_term.specs.Types.{Ty, kind, arrow}
 use Rattle.ab_term.specs.Logical as plain
 use Rattle.ab_term.specs.Logical.{Logical}
-use Rattle.ab_term.specs.Terms.{Nominal, Head, constant, logical, nominal, variable, index, Term, lam, spine, Terms, no_terms, term}
+use Rattle.ab_term.specs.Terms.{Nominal, Head, constant, logical, nominal, variable, index, Term, lam, spine, Terms, no_terms, term, Read}
 use Rattle.ab_term.specs.Substitution.{shift_index, lower_index, shift_head, lower_head, shift, shift_all, put, substitute_by, substitute_all_by, reduce, substitute, instance, instance_by_all}
 use Rattle.ab_term.specs.Expansion.{expansion_of, expansion}
-use Rattle.ab_kernel.specs.ab_store.specs.Trees.{Read}
-use Rattle.ab_kernel.specs.ab_logic.specs.Forms.{Form, truth, falsity, both, either, implies, equal, for_all, exists, nabla, marked, other, form_alone, form_with, form_between, form_of, both_in, as_both, implies_in, as_implies, for_all_in, as_for_all, exists_in, as_exists, nabla_in, as_nabla}
-use Rattle.ab_kernel.specs.ab_logic.specs.Sequents.{Variable}
-use Rattle.ab_kernel.specs.ab_rules.specs.Rules.{name_term, variable_term, applied}
+use Rattle.ab_formulas.specs.Forms.{Form, truth, falsity, both, either, implies, equal, for_all, exists, nabla, marked, other, form_alone, form_with, form_between, form_of, both_in, as_both, implies_in, as_implies, for_all_in, as_for_all, exists_in, as_exists, nabla_in, as_nabla}
+use Rattle.ab_formulas.specs.Sequents.{Variable}
+use Rattle.ab_theory.specs.Rules.{name_term, variable_term, applied}
 
 abbrev counted_at : Head ℕ → ℕ → ℕ
 counted_at (logical l) n = suc n

@@ -4,17 +4,17 @@ use Rattle.std.proofs.Common.{◌≡◌, ◌≢◌, ℕ, ◌+◌, ◌-◌, ◌<�
 use Rattle.ab_kernel.specs.ab_unifying.specs.Problem.{cells_read}
 use Rattle.ab_kernel.specs.ab_logic.specs.Worlds.{IsWorld, declarations_of}
 use Rattle.ab_kernel.specs.ab_logic.specs.Growth.{Grows}
-use Rattle.ab_kernel.specs.ab_logic.specs.Sequents.{Sequent}
+use Rattle.ab_formulas.specs.Sequents.{Sequent}
 use Rattle.ab_kernel.specs.ab_logic.specs.declared.world.World.{World}
 use Rattle.ab_kernel.specs.ab_logic.proofs.Growing.{grows_on, grows_not}
-use Rattle.ab_kernel.specs.ab_rules.specs.Steps.{Step}
+use Rattle.ab_theory.specs.Steps.{Step}
 use Rattle.ab_kernel.specs.ab_rules.specs.declared.step.KernelFault.{KernelFault}
-use Rattle.ab_kernel.specs.Derivation.{History, IsStep, GoalFails, GoalStuck, undone, open_goals, Above}
+use Rattle.ab_theory.specs.Derivations.{History, IsStep, GoalFails, GoalStuck, undone, open_goals, Above}
 use Rattle.ab_kernel.specs.Layout.{Held, history_of, IsProof, before_steps, Beyond}
-use Rattle.ab_kernel.proofs.Adding.{above_none, above_one, above_on, taken_at, failed_at, stuck_at}
+use Rattle.ab_theory.proofs.Adding.{above_none, above_one, above_on, taken_at, failed_at, stuck_at}
 use Rattle.ab_kernel.proofs.Earlier.{standing, beyond_none, beyond_on}
 use Rattle.ab_kernel.proofs.Later.{same_history}
-use Rattle.ab_kernel.proofs.Splits.{within, at_place, get_here}
+use Rattle.ab_formulas.proofs.KernelSplits.{within, at_place, get_here}
 use Rattle.ab_progress.specs.Progress.{goals_of, IsAt, Follows, Took, TookInto, FailsAt, FailsBy, StuckAt}
 
 pub follows_on : (w v u : World) (p q r : Held) → Follows w p v q → Follows v q u r → Follows w p u r

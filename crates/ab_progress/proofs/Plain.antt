@@ -1,10 +1,10 @@
 -- A step that solves no equation is never outside the patterns.
 use Rattle.std.proofs.Common.{ℕ, List}
 use Rattle.ab_kernel.specs.ab_solve.specs.Replacing.{Cell}
-use Rattle.ab_kernel.specs.ab_logic.specs.Declarations.{Declarations}
-use Rattle.ab_kernel.specs.ab_logic.specs.Sequents.{Sequent}
-use Rattle.ab_kernel.specs.ab_rules.specs.Steps.{Step, initial, true_right, false_left, and_right, and_left, or_right, or_left, arrow_right, arrow_left, for_all_right, for_all_left, exists_right, exists_left, nabla_right, nabla_left, equal_right, equal_left, definition_right, definition_left, induction, coinduction, cut_formula, use_theorem, weaken, spec_cut, spec_instance, spec_monotone}
-use Rattle.ab_kernel.specs.ab_rules.specs.Rules.{Stuck}
+use Rattle.ab_formulas.specs.Declarations.{Declarations}
+use Rattle.ab_formulas.specs.Sequents.{Sequent}
+use Rattle.ab_theory.specs.Steps.{Step, initial, true_right, false_left, and_right, and_left, or_right, or_left, arrow_right, arrow_left, for_all_right, for_all_left, exists_right, exists_left, nabla_right, nabla_left, equal_right, equal_left, definition_right, definition_left, induction, coinduction, cut_formula, use_theorem, weaken, spec_cut, spec_instance, spec_monotone}
+use Rattle.ab_theory.specs.Rules.{Stuck}
 use Rattle.ab_progress.specs.Progress.{SolvesNothing}
 
 pub never_stuck : (D : Declarations) (cells : List (Cell (List ℕ))) (step : Step) (s : Sequent) (i : ℕ) → SolvesNothing step → Stuck D cells step s i → ⊥

@@ -1,8 +1,8 @@
 -- THE EFFECT OF A PROOF COMMAND on a proof, by its row.
 use Rattle.std.specs.Prelude.{◌≡◌, List, ◌∷◌, ◌++◌}
 use Rattle.ab_grammar.specs.CommandTrees.{ProofCommand}
-use Rattle.ab_kernel.specs.ab_logic.specs.Names.{Label}
-use Rattle.ab_kernel.specs.ab_logic.specs.Sequents.{Sequent}
+use Rattle.ab_formulas.specs.Names.{Label}
+use Rattle.ab_formulas.specs.Sequents.{Sequent}
 use Rattle.ab_kernel.specs.ab_logic.specs.Worlds.{declarations_of}
 use Rattle.ab_kernel.specs.ab_logic.specs.declared.world.World.{World}
 use Rattle.ab_kernel.specs.Layout.{Held}

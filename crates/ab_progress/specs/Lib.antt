@@ -12,11 +12,9 @@ pub use Rattle.ab_kernel.specs.ab_logic
 pub use Rattle.ab_kernel.specs.ab_unifying
 pub use Rattle.ab_kernel.specs.ab_naming
 pub use Rattle.ab_kernel.specs.ab_marks
-pub use Rattle.ab_effects.specs.ab_permuting
+pub use Rattle.ab_permuting
 pub use Rattle.ab_kernel.specs.ab_instances
 pub use Rattle.ab_kernel.specs.ab_equate
-pub use Rattle.ab_kernel.specs.ab_analysis
-pub use Rattle.ab_kernel.specs.ab_induction
 pub use Rattle.ab_kernel.specs.ab_alternatives
 pub use Rattle.ab_kernel.specs.ab_rules
 pub use Rattle.ab_kernel

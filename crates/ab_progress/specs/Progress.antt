@@ -2,12 +2,12 @@
 use Rattle.std.specs.Prelude.{◌≡◌, ℕ, List, ◌∷◌, ◌++◌, length}
 use Rattle.ab_kernel.specs.ab_logic.specs.Worlds.{declarations_of}
 use Rattle.ab_kernel.specs.ab_logic.specs.Growth.{Grows}
-use Rattle.ab_kernel.specs.ab_logic.specs.Sequents.{Sequent}
+use Rattle.ab_formulas.specs.Sequents.{Sequent}
 use Rattle.ab_kernel.specs.ab_logic.specs.declared.world.World.{World}
 use Rattle.ab_kernel.specs.ab_unifying.specs.Problem.{cells_read}
-use Rattle.ab_kernel.specs.ab_rules.specs.Steps.{Step, equal_left, definition_right, definition_left}
-use Rattle.ab_kernel.specs.ab_rules.specs.Rules.{NamedRule, Fails, Stuck}
-use Rattle.ab_kernel.specs.Derivation.{open_goals, Above}
+use Rattle.ab_theory.specs.Steps.{Step, equal_left, definition_right, definition_left}
+use Rattle.ab_theory.specs.Rules.{NamedRule, Fails, Stuck}
+use Rattle.ab_theory.specs.Derivations.{open_goals, Above}
 use Rattle.ab_kernel.specs.Layout.{Held, history_of, IsProof, Beyond}
 
 -- the open goals, from left to right

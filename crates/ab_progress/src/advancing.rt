@@ -3,7 +3,7 @@ ghost use Rattle.std.specs.Prelude.{◌≡◌, ◌≢◌, ℕ, ◌<◌, ◌≤�
 ghost use Rattle.ab_kernel.specs.ab_logic.specs.Worlds.{IsWorld};
 ghost use Rattle.ab_kernel.specs.ab_logic.specs.declared.world.World.{World as AWorld};
 ghost use Rattle.ab_kernel.specs.ab_rules.specs.Answers.{step_of, HoldsStep};
-ghost use Rattle.ab_kernel.specs.Derivation.{undone};
+ghost use Rattle.ab_theory.specs.Derivations.{undone};
 ghost use Rattle.ab_kernel.specs.Layout.{Held, history_of, IsProof};
 ghost use Rattle.ab_progress.specs.Progress.{goals_of, Follows, Took, TookInto, FailsAt, FailsBy, Holds, StuckAt, SolvesNothing};
 ghost use Rattle.ab_progress.specs.declared.advancing.Attempted.TheVariants.{Taken, Failed, Stuck};

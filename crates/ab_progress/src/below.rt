@@ -21,7 +21,7 @@ pub mod naming {
 }
 
 pub mod permuting {
-    pub use ab_effects::below::permuting::{Standing, common_type, cycle};
+    pub use ab_permuting::{Standing, common_type, cycle};
 }
 
 pub mod instances {

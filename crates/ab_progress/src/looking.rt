@@ -1,7 +1,7 @@
 //! What a proof command works on.
 ghost use Rattle.std.specs.Prelude.{◌≡◌, ◌≢◌, [], ◌∷◌, List};
 ghost use Rattle.ab_kernel.specs.ab_logic.specs.Readings.{sequent_of, HoldsSequent};
-ghost use Rattle.ab_kernel.specs.ab_logic.specs.Sequents.{Sequent as AGoal};
+ghost use Rattle.ab_formulas.specs.Sequents.{Sequent as AGoal};
 ghost use Rattle.ab_kernel.specs.Layout.{IsProof};
 ghost use Rattle.ab_progress.specs.Progress.{goals_of};
 

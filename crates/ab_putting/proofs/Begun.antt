@@ -5,10 +5,9 @@ use Rattle.std.proofs.lemmas.List.Elements.{All-head, All-tail, All-nil, All-con
 use Rattle.std.proofs.lemmas.Slice.Eq.{bytes_eq-Decides}
 use Rattle.ab_term.specs.Types.{Ty, arrow, prop}
 use Rattle.ab_term.specs.Logical.{truth, falsity, conjunction, disjunction, implication, equality, universal, existential, nabla, judgement, focused_judgement, star, at_sign, plus, hash, spec_universal, spec_implication, spec_conjunction}
-use Rattle.ab_term.specs.Terms.{constant, nominal, variable, index, logical, lam, spine, no_terms, term}
+use Rattle.ab_term.specs.Terms.{constant, nominal, variable, index, logical, lam, spine, no_terms, term, Read}
 use Rattle.ab_term.specs.Typing.{Signature, HasType, typed_lam, typed_spine, take_term}
-use Rattle.ab_instances.specs.ab_store.specs.Trees.{Read}
-use Rattle.ab_taking.specs.ab_using.specs.Pieces.{Piece, universal_of, nabla_of, antecedent_of, pieces, type_named, Given, given_for, given_otherwise, part_for, parts, constant_for}
+use Rattle.ab_theory.specs.Pieces.{Piece, universal_of, nabla_of, antecedent_of, pieces, type_named, Given, given_for, given_otherwise, part_for, parts, constant_for}
 use Rattle.ab_putting.specs.Making.{HasParts, has_none, has_variable, has_given, has_constant, has_antecedent}
 
 eq_symmetric : (x y : List ℕ) → bytes_eq x y ≡ bytes_eq y x

@@ -2,14 +2,13 @@
 use Rattle.std.proofs.Common.{◌≡◌, ℕ, suc, List, [], ◌∷◌, map, codes, refl, sym, ◌∙◌, ap, subst, zero}
 use Rattle.ab_term.specs.Types.{Ty, arrow, prop}
 use Rattle.ab_term.specs.Logical.{universal, nabla, implication}
-use Rattle.ab_term.specs.Terms.{Nominal, Variable, nominal, logical, lam, spine, no_terms, term, Terms}
+use Rattle.ab_term.specs.Terms.{Nominal, Variable, nominal, logical, lam, spine, no_terms, term, Terms, Read}
 use Rattle.ab_term.specs.Typing.{Signature, IsExtendedBy, HasType, typed_spine, take_term}
 use Rattle.ab_term.specs.Substitution.{substitute_by, instance}
 use Rattle.ab_term.proofs.Preservation.{instance_typed}
 use Rattle.ab_term.proofs.Unique.{more_typed}
-use Rattle.ab_instances.specs.ab_store.specs.Trees.{Read}
-use Rattle.ab_taking.specs.ab_using.specs.Pieces.{Part, variable_for, given_term, constant_for, antecedent}
-use Rattle.ab_taking.specs.ab_using.specs.Uses.{with_term, left_side, right_side, used, types_chosen}
+use Rattle.ab_theory.specs.Pieces.{Part, variable_for, given_term, constant_for, antecedent}
+use Rattle.ab_theory.specs.Uses.{with_term, left_side, right_side, used, types_chosen}
 use Rattle.ab_putting.specs.Making.{HasParts, has_none, has_variable, has_given, has_constant, has_antecedent}
 
 module _ (sg : Signature) where

@@ -6,7 +6,8 @@ use Rattle.std.proofs.lemmas.List.Elements.{All-nil, All-drop, All-get_or}
 use Rattle.ab_term.specs.Types.{Ty, prop}
 use Rattle.ab_instances.specs.ab_types.specs.Entries.{Table, signature}
 use Rattle.ab_instances.specs.ab_store.specs.declared.node.TermId.{TermId}
-use Rattle.ab_instances.specs.ab_store.specs.Trees.{Read, Contents, tree_of}
+use Rattle.ab_term.specs.Terms.{Read}
+use Rattle.ab_instances.specs.ab_store.specs.Trees.{Contents, tree_of}
 use Rattle.ab_instances.specs.ab_store.specs.Growth.{IsExtendedBy}
 use Rattle.ab_instances.specs.ab_store.specs.Naming.{IsTypedBy, IsTerm}
 use Rattle.ab_instances.specs.ab_store.proofs.Growing.{extended_on, extended_itself}
@@ -19,7 +20,7 @@ use Rattle.ab_instances.specs.ab_unifying.proofs.Growth.{grows_on, grows_none}
 use Rattle.ab_instances.specs.Readings.{names_read, trees_at}
 use Rattle.ab_instances.specs.Making.{ids_from}
 use Rattle.ab_instances.proofs.Made.{names_held, names_stay, variables_at}
-use Rattle.ab_taking.specs.ab_using.specs.Uses.{Use, used, types_chosen, nothing_taken}
+use Rattle.ab_theory.specs.Uses.{Use, used, types_chosen, nothing_taken}
 use Rattle.ab_putting.specs.Making.{part_read, parts_read, HoldsPart, HasParts, names_left, and_then, StageIsHeld, IsUnderWay, GoesOn, IsMade}
 use Rattle.ab_putting.specs.declared.made.Made.{Made}
 use Rattle.ab_putting.specs.declared.part.Part.{Part}

@@ -9,15 +9,16 @@ use Rattle.ab_term.specs.Typing.{HasType}
 use Rattle.ab_instances.specs.ab_types.specs.Entries.{Table, signature}
 use Rattle.ab_instances.specs.ab_store.specs.declared.node.TermId.{TermId}
 use Rattle.ab_instances.specs.ab_store.specs.declared.node.CellId.{CellId}
-use Rattle.ab_instances.specs.ab_store.specs.Trees.{Read, Contents, Holds, tree_of}
+use Rattle.ab_term.specs.Terms.{Read}
+use Rattle.ab_instances.specs.ab_store.specs.Trees.{Contents, Holds, tree_of}
 use Rattle.ab_instances.specs.ab_store.specs.Naming.{IsTypedBy, IsTerm}
 use Rattle.ab_instances.specs.ab_norm.specs.Growth.{AddsTypedTerms}
 use Rattle.ab_instances.specs.ab_unifying.specs.Problem.{cell_read, cells_read}
 use Rattle.ab_instances.specs.ab_unifying.specs.Changed.{Grows}
 use Rattle.ab_instances.specs.ab_unifying.proofs.Growth.{grown_term, grows_terms}
 use Rattle.ab_instances.specs.Readings.{trees_at}
-use Rattle.ab_taking.specs.ab_using.specs.Pieces.{variable_for, given_term, constant_for, antecedent}
-use Rattle.ab_taking.specs.ab_using.specs.Uses.{used, left_side, right_side}
+use Rattle.ab_theory.specs.Pieces.{variable_for, given_term, constant_for, antecedent}
+use Rattle.ab_theory.specs.Uses.{used, left_side, right_side}
 use Rattle.ab_putting.specs.Making.{StageIsHeld, HasParts, IsUnderWay, GoesOn}
 use Rattle.ab_putting.proofs.Fronts.{sides_typed}
 use Rattle.ab_putting.specs.declared.made.Made.{Made}

@@ -13,7 +13,8 @@ use Rattle.ab_instances.specs.ab_types.specs.Ids.{HoldsType, type_of}
 use Rattle.ab_instances.specs.ab_types.specs.declared.ids.TypeId.{TypeId}
 use Rattle.ab_instances.specs.ab_store.specs.declared.node.CellId.{CellId}
 use Rattle.ab_instances.specs.ab_store.specs.declared.node.TermId.{TermId}
-use Rattle.ab_instances.specs.ab_store.specs.Trees.{Read, Contents, HoldsCell, cell_of, tree_of}
+use Rattle.ab_term.specs.Terms.{Read}
+use Rattle.ab_instances.specs.ab_store.specs.Trees.{Contents, HoldsCell, cell_of, tree_of}
 use Rattle.ab_instances.specs.ab_store.specs.Naming.{IsTypedBy}
 use Rattle.ab_instances.specs.ab_norm.specs.Growth.{AddsTypedTerms}
 use Rattle.ab_instances.specs.ab_norm.specs.declared.nominal.Nominal.{Nominal}
@@ -26,8 +27,8 @@ use Rattle.ab_instances.specs.ab_norm.specs.Nominals.{HoldsNominal}
 use Rattle.ab_instances.specs.ab_norm.proofs.Frame.{typed_on}
 use Rattle.ab_instances.specs.Readings.{names_read, trees_at}
 use Rattle.ab_instances.proofs.Made.{names_stay}
-use Rattle.ab_taking.specs.ab_using.specs.Pieces.{variable_for}
-use Rattle.ab_taking.specs.ab_using.specs.Uses.{used, cell_over, with_term}
+use Rattle.ab_theory.specs.Pieces.{variable_for}
+use Rattle.ab_theory.specs.Uses.{used, cell_over, with_term}
 use Rattle.ab_putting.specs.Making.{HasParts, IsUnderWay, GoesOn}
 use Rattle.ab_putting.specs.declared.made.Made.{Made}
 use Rattle.ab_putting.proofs.Fronts.{variable_put, front_more}

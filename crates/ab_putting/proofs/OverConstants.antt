@@ -3,7 +3,7 @@ use Rattle.std.proofs.Common.{◌≡◌, ℕ, List, [], ◌∷◌, map, codes, l
 use Rattle.std.proofs.lemmas.List.{length-map}
 use Rattle.ab_term.specs.Types.{Ty}
 use Rattle.ab_term.specs.Terms as tree
-use Rattle.ab_term.specs.Terms.{nominal, variable, terms_of, term, no_terms}
+use Rattle.ab_term.specs.Terms.{nominal, variable, terms_of, term, no_terms, Read}
 use Rattle.ab_term.specs.Expansion.{expansion_of, expansion}
 use Rattle.ab_term.specs.Closing.{over, name_terms, given_names}
 use Rattle.ab_term.specs.Names.{support, support_of_all}
@@ -13,7 +13,7 @@ use Rattle.ab_instances.specs.ab_types.specs.declared.ids.TypeId.{TypeId}
 use Rattle.ab_instances.specs.ab_store.specs.declared.node.TermId.{TermId}
 use Rattle.ab_instances.specs.ab_store.specs.declared.node.CellId.{CellId}
 use Rattle.ab_instances.specs.ab_store.specs.declared.node.Head.TheVariants.{Cell}
-use Rattle.ab_instances.specs.ab_store.specs.Trees.{Read, Contents, cell_in, cell_of, head_reading}
+use Rattle.ab_instances.specs.ab_store.specs.Trees.{Contents, cell_in, cell_of, head_reading}
 use Rattle.ab_instances.specs.ab_norm.specs.declared.nominal.Nominal.{Nominal}
 use Rattle.ab_instances.specs.ab_norm.specs.Nominals.{nominal_of}
 use Rattle.ab_instances.specs.ab_cases.specs.Clauses.{name_term}

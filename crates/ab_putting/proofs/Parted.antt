@@ -2,15 +2,14 @@
 use Rattle.std.proofs.Common.{◌≡◌, ℕ, suc, List, [], ◌∷◌, map, refl, sym, ◌∙◌, ap, subst}
 use Rattle.std.specs.List.{All}
 use Rattle.std.proofs.lemmas.List.Elements.{All-head, All-tail, All-weaker}
-use Rattle.ab_instances.specs.ab_types.specs.Entries.{Table, signature}
+use Rattle.ab_instances.specs.ab_types.specs.Entries.{Table, signature, IsExtendedBy as IsPartOf}
 use Rattle.ab_instances.specs.ab_types.specs.Ids.{HoldsType, type_of}
-use Rattle.ab_instances.specs.ab_types.specs.Entries.{IsExtendedBy as IsPartOf}
 use Rattle.ab_instances.specs.ab_types.specs.declared.ids.TypeId.{TypeId}
 use Rattle.ab_instances.specs.ab_types.proofs.Entries.{same_type, type_still_held, same_signature}
 use Rattle.ab_term.specs.Typing.{IsExtendedBy}
 use Rattle.ab_instances.specs.ab_store.specs.Trees.{Contents}
 use Rattle.ab_instances.specs.ab_unifying.specs.Changed.{Grows}
-use Rattle.ab_taking.specs.ab_using.specs.Pieces.{variable_for, given_term, constant_for}
+use Rattle.ab_theory.specs.Pieces.{variable_for, given_term, constant_for}
 use Rattle.ab_putting.specs.Making.{part_read, parts_read, HoldsPart}
 use Rattle.ab_putting.specs.declared.part.Part.{Part}
 use Rattle.ab_putting.specs.declared.part.Part.TheVariants.{Variable, Given, Constant, Antecedent}

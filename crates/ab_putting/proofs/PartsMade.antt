@@ -3,7 +3,7 @@ use Rattle.std.proofs.Common.{◌≡◌, ℕ, List, [], ◌∷◌, ◌++◌, map
 use Rattle.std.proofs.lemmas.List.{map-append, append_assoc}
 use Rattle.ab_instances.specs.ab_types.specs.Entries.{Table}
 use Rattle.ab_instances.specs.ab_store.specs.Trees.{Contents}
-use Rattle.ab_taking.specs.ab_using.specs.Pieces as plain
+use Rattle.ab_theory.specs.Pieces as plain
 use Rattle.ab_putting.specs.Making.{part_read, parts_read}
 use Rattle.ab_putting.specs.declared.part.Part.{Part}
 

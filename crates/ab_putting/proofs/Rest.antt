@@ -6,16 +6,17 @@ use Rattle.std.proofs.lemmas.List.Elements.{All-tail, All-nil}
 use Rattle.ab_term.specs.Types.{Ty}
 use Rattle.ab_term.specs.Terms as tree
 use Rattle.ab_instances.specs.ab_types.specs.Entries.{Table, signature}
-use Rattle.ab_instances.specs.ab_store.specs.Trees.{Read, Contents, tree_of}
+use Rattle.ab_term.specs.Terms.{Read}
+use Rattle.ab_instances.specs.ab_store.specs.Trees.{Contents, tree_of}
 use Rattle.ab_instances.specs.ab_norm.specs.declared.nominal.Nominal.{Nominal}
 use Rattle.ab_instances.specs.ab_norm.specs.Nominals.{nominal_of, HoldsNominal}
 use Rattle.ab_instances.specs.ab_unifying.specs.Problem.{cell_read, cells_read}
 use Rattle.ab_instances.specs.ab_unifying.specs.Changed.{Grows}
 use Rattle.ab_instances.specs.Readings.{names_read}
 use Rattle.ab_instances.proofs.Made.{names_stay, names_held}
-use Rattle.ab_taking.specs.ab_using.specs.Pieces as plain
-use Rattle.ab_taking.specs.ab_using.specs.Pieces.{variable_for, given_term, constant_for, antecedent}
-use Rattle.ab_taking.specs.ab_using.specs.Uses.{Use, used, types_chosen}
+use Rattle.ab_theory.specs.Pieces as plain
+use Rattle.ab_theory.specs.Pieces.{variable_for, given_term, constant_for, antecedent}
+use Rattle.ab_theory.specs.Uses.{Use, used, types_chosen}
 use Rattle.ab_putting.specs.Making.{part_read, parts_read, HoldsPart, HasParts, names_left, and_then, GoesOn}
 use Rattle.ab_putting.specs.declared.made.Made.{Made}
 use Rattle.ab_putting.specs.declared.part.Part.{Part}

@@ -1,8 +1,7 @@
 -- Formulas that are no quantifiers or implications stay.
 use Rattle.std.proofs.Common.{◌≡◌, ℕ, List, [], ◌∷◌, length, refl}
-use Rattle.ab_term.specs.Terms.{Head, spine, terms_of}
-use Rattle.ab_instances.specs.ab_store.specs.Trees.{Read}
-use Rattle.ab_taking.specs.ab_using.specs.Uses.{with_term, left_side, right_side}
+use Rattle.ab_term.specs.Terms.{Head, spine, terms_of, Read}
+use Rattle.ab_theory.specs.Uses.{with_term, left_side, right_side}
 
 pub with_other : (h : Head ℕ) (ts : List Read) (u : Read) → (length ts ≡ 1 → ⊥) → with_term (spine h (terms_of ts)) u ≡ spine h (terms_of ts)
 with_other h [] u n = refl

@@ -1,15 +1,14 @@
 -- A use is made part by part.
 use Rattle.std.proofs.Common.{◌≡◌, ℕ, suc, ◌+◌, List, [], ◌∷◌, ◌++◌, map, length, Bool, true, false, ◌&&◌, not, codes, refl, sym, ◌∙◌, ap, subst, arith, length-append}
 use Rattle.std.proofs.lemmas.List.{append_assoc}
-use Rattle.ab_term.specs.Terms.{Nominal}
+use Rattle.ab_term.specs.Terms.{Nominal, Read}
 use Rattle.ab_term.specs.Names.{support}
 use Rattle.ab_term.specs.Closing.{over, given_names}
-use Rattle.ab_instances.specs.ab_store.specs.Trees.{Read}
 use Rattle.ab_instances.specs.ab_cases.specs.Clauses.{name_term}
 use Rattle.ab_instances.specs.ab_cases.specs.Choices.{is_in, outside}
 use Rattle.ab_instances.specs.Making.{ids_from}
-use Rattle.ab_taking.specs.ab_using.specs.Pieces.{Part, variable_for, given_term, constant_for, antecedent}
-use Rattle.ab_taking.specs.ab_using.specs.Uses.{Use, used, types_chosen, and_variable, and_antecedent, and_outside, cell_over, with_term, left_side, right_side}
+use Rattle.ab_theory.specs.Pieces.{Part, variable_for, given_term, constant_for, antecedent}
+use Rattle.ab_theory.specs.Uses.{Use, used, types_chosen, and_variable, and_antecedent, and_outside, cell_over, with_term, left_side, right_side}
 use Rattle.ab_putting.specs.Making.{names_left, and_then}
 
 and_true : (b c : Bool) → (b && c) ≡ ((b && true) && c)

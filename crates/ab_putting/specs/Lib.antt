@@ -2,5 +2,4 @@
 pub mod Making
 pub mod Parting
 -- Libraries that the crates above name through this one.
-pub use Rattle.ab_taking.specs.ab_using
 pub use Rattle.ab_taking

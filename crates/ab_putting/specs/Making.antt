@@ -2,21 +2,21 @@
 use Rattle.std.specs.Prelude.{◌≡◌, ℕ, List, [], ◌∷◌, ◌++◌, map, length, true, Bool, ◌&&◌, All}
 use Rattle.ab_term.specs.Types.{Ty, prop}
 use Rattle.ab_term.specs.Logical.{universal, nabla, implication}
-use Rattle.ab_term.specs.Terms.{logical, lam, spine, no_terms, term}
+use Rattle.ab_term.specs.Terms.{logical, lam, spine, no_terms, term, Read}
 use Rattle.ab_term.specs.Typing.{Signature, HasType}
 use Rattle.ab_instances.specs.ab_types.specs.Entries.{Table}
 use Rattle.ab_instances.specs.ab_types.specs.Ids.{HoldsType, type_of}
 use Rattle.ab_instances.specs.ab_store.specs.declared.node.TermId.{TermId}
-use Rattle.ab_instances.specs.ab_store.specs.Trees.{Read, Contents, Holds, tree_of}
+use Rattle.ab_instances.specs.ab_store.specs.Trees.{Contents, Holds, tree_of}
 use Rattle.ab_instances.specs.ab_store.specs.Naming.{IsTerm}
 use Rattle.ab_instances.specs.ab_solve.specs.Replacing.{Cell}
 use Rattle.ab_instances.specs.ab_cases.specs.Clauses.{numbered}
 use Rattle.ab_instances.specs.ab_unifying.specs.Problem.{cells_read, variables_read}
 use Rattle.ab_instances.specs.Readings.{trees_at}
 use Rattle.ab_instances.specs.Making.{ids_from}
-use Rattle.ab_taking.specs.ab_using.specs.Pieces as plain
-use Rattle.ab_taking.specs.ab_using.specs.Pieces.{variable_for, given_term, constant_for, antecedent}
-use Rattle.ab_taking.specs.ab_using.specs.Uses.{Use}
+use Rattle.ab_theory.specs.Pieces as plain
+use Rattle.ab_theory.specs.Pieces.{variable_for, given_term, constant_for, antecedent}
+use Rattle.ab_theory.specs.Uses.{Use}
 use Rattle.ab_putting.specs.declared.part.Part.{Part}
 use Rattle.ab_putting.specs.declared.part.Part.TheVariants.{Variable, Given, Constant, Antecedent}
 use Rattle.ab_putting.specs.declared.stage.Stage.{Stage}

@@ -2,11 +2,12 @@
 ghost use Rattle.std.specs.Prelude.{◌≡◌, ◌≤◌, IfOk, IfSome, None};
 ghost use Rattle.ab_term.specs.Substitution.{instance};
 ghost use Rattle.ab_instances.specs.ab_types.specs.Entries.{Table};
-ghost use Rattle.ab_instances.specs.ab_store.specs.Trees.{Read, Holds, tree_of};
+ghost use Rattle.ab_term.specs.Terms.{Read};
+ghost use Rattle.ab_instances.specs.ab_store.specs.Trees.{Holds, tree_of};
 ghost use Rattle.ab_instances.specs.ab_store.specs.Naming.{IsTypedBy};
 ghost use Rattle.ab_instances.specs.ab_norm.specs.Growth.{AddsTerms};
-ghost use Rattle.ab_taking.specs.ab_using.specs.Uses as spec;
-ghost use Rattle.ab_taking.specs.ab_using.specs.Uses.{left_side, right_side};
+ghost use Rattle.ab_theory.specs.Uses as spec;
+ghost use Rattle.ab_theory.specs.Uses.{left_side, right_side};
 
 use ab_instances::below::norm::instantiate;
 use ab_instances::below::store::{Node, Store, TermId};

@@ -8,7 +8,7 @@ ghost use Rattle.ab_instances.specs.ab_norm.specs.Nominals.{HoldsNominal};
 ghost use Rattle.ab_instances.specs.ab_unifying.specs.Problem.{cells_read};
 ghost use Rattle.ab_instances.specs.ab_unifying.specs.Changed.{Grows};
 ghost use Rattle.ab_instances.specs.Readings.{names_read};
-ghost use Rattle.ab_taking.specs.ab_using.specs.Uses.{used, types_chosen};
+ghost use Rattle.ab_theory.specs.Uses.{used, types_chosen};
 ghost use Rattle.ab_putting.specs.Making.{HoldsPart, part_read, parts_read, HasParts, names_left, IsMade};
 ghost use Rattle.ab_putting.specs.declared.made.Made.{Made as AMade};
 

@@ -13,9 +13,9 @@ ghost use Rattle.ab_instances.specs.ab_norm.specs.Nominals.{HoldsNominal, nomina
 ghost use Rattle.ab_instances.specs.ab_cases.specs.Choices.{is_in};
 ghost use Rattle.ab_instances.specs.ab_unifying.specs.Changed.{Grows};
 ghost use Rattle.ab_instances.specs.Readings.{names_read};
-ghost use Rattle.ab_taking.specs.ab_using.specs.Pieces.{variable_for, given_term, constant_for, antecedent};
-ghost use Rattle.ab_taking.specs.ab_using.specs.Uses.{used, types_chosen};
-ghost use Rattle.ab_taking.specs.ab_using.specs.Uses as spec;
+ghost use Rattle.ab_theory.specs.Pieces.{variable_for, given_term, constant_for, antecedent};
+ghost use Rattle.ab_theory.specs.Uses.{used, types_chosen};
+ghost use Rattle.ab_theory.specs.Uses as spec;
 ghost use Rattle.ab_putting.specs.Making.{HoldsPart, part_read, HasParts, IsUnderWay, GoesOn};
 
 use crate::formulas::{sides_of, with_term};

@@ -11,7 +11,7 @@ ghost use Rattle.ab_instances.specs.ab_norm.specs.Nominals.{HoldsNominal};
 ghost use Rattle.ab_instances.specs.ab_unifying.specs.Problem.{cells_read};
 ghost use Rattle.ab_instances.specs.ab_unifying.specs.Changed.{Grows};
 ghost use Rattle.ab_instances.specs.Readings.{names_read};
-ghost use Rattle.ab_taking.specs.ab_using.specs.Uses.{cell_over};
+ghost use Rattle.ab_theory.specs.Uses.{cell_over};
 
 use ab_instances::as_terms;
 use ab_instances::below::norm::{Nominal, eta_given};

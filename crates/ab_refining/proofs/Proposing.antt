@@ -7,20 +7,21 @@ use Rattle.ab_term.specs.Names.{support}
 use Rattle.ab_term.specs.Variables.{variables}
 use Rattle.ab_print.specs.ab_types.specs.Entries.{Table, signature}
 use Rattle.ab_print.specs.ab_store.specs.declared.node.CellId.{CellId}
-use Rattle.ab_print.specs.ab_store.specs.Trees.{Read, Contents}
+use Rattle.ab_term.specs.Terms.{Read}
+use Rattle.ab_print.specs.ab_store.specs.Trees.{Contents}
 use Rattle.ab_print.specs.ab_solve.specs.Meaning.{AreDifferent}
 use Rattle.ab_print.specs.ab_solve.proofs.Agreeing.{contains_holds}
 use Rattle.ab_print.specs.ab_cases.specs.Clauses.{Within}
 use Rattle.ab_print.specs.ab_cases.proofs.Variables.{holds_contains}
 use Rattle.ab_print.specs.ab_fits.specs.Cells.{variable_of}
-use Rattle.ab_print.specs.ab_fits.specs.Fitting.{HoldsOnly}
-use Rattle.ab_print.specs.ab_fits.specs.Formulas.{IsFormula}
+use Rattle.ab_formulas.specs.Fitting.{HoldsOnly}
+use Rattle.ab_formulas.specs.Formulas.{IsFormula}
 use Rattle.ab_print.specs.ab_clauses.specs.declared.kept.ClauseTerm.{ClauseTerm}
-use Rattle.ab_print.specs.ab_clauses.specs.Cases.{in_terms}
-use Rattle.ab_print.specs.ab_clauses.specs.Proposed.{IsProposed}
+use Rattle.ab_formulas.specs.Cased.{in_terms}
+use Rattle.ab_formulas.specs.Proposed.{IsProposed}
 use Rattle.ab_print.specs.ab_clauses.specs.Readings.{clause_of}
 use Rattle.ab_print.specs.ab_clauses.specs.Readings as clause
-use Rattle.ab_print.specs.ab_logic.specs.Declarations.{signature_in}
+use Rattle.ab_formulas.specs.Declarations.{signature_in}
 use Rattle.ab_print.specs.ab_logic.specs.Worlds.{IsWorld, read, declarations_of}
 use Rattle.ab_print.specs.ab_logic.specs.declared.world.World.{World}
 use Rattle.ab_print.specs.ab_logic.proofs.Growing.{same_constants}

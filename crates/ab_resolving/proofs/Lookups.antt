@@ -6,7 +6,8 @@ use Rattle.std.specs.Char.{is_ascii_digit}
 use Rattle.std.specs.Cmp.Lexicographic.{bytes_decides}
 use Rattle.ab_term.specs.Types.{Ty}
 use Rattle.ab_term.specs.Terms.{Nominal, nominal, variable}
-use Rattle.ab_norm.specs.ab_types.specs.Entries.{Table, Constant, names, type_in}
+use Rattle.ab_term.specs.Constants.{Constant, names, type_in}
+use Rattle.ab_norm.specs.ab_types.specs.Entries.{Table}
 use Rattle.ab_norm.specs.ab_types.specs.Ids.{type_of, HoldsType}
 use Rattle.ab_norm.specs.ab_store.specs.Trees.{Contents, head_reading}
 use Rattle.ab_infer.specs.ab_readings.specs.Names.{Name, Resolved, bound, known, free}

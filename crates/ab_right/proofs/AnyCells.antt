@@ -9,17 +9,17 @@ use Rattle.ab_alike.specs.ab_solve.specs.Replacing.{Cell}
 use Rattle.ab_alike.specs.ab_solve.specs.Solving.{unified, Solves}
 use Rattle.ab_alike.specs.ab_solve.proofs.Unique.{unique}
 use Rattle.ab_alike.specs.ab_cases.specs.Clauses.{IsClause}
-use Rattle.ab_alike.specs.ab_logic.specs.Declarations.{Declarations, IsDefining, HaveDefinitions, signature_in}
-use Rattle.ab_alike.specs.ab_logic.specs.Sequents.{Variable, Sequent, IsSequent, goal_names}
-use Rattle.ab_alike.specs.ab_goals.specs.Goals.{variable_named}
-use Rattle.ab_alike.specs.ab_equate.specs.Solved.{AreCells, made}
-use Rattle.ab_alike.specs.ab_equate.specs.Cases.{problem_of, NeverArises}
-use Rattle.ab_alike.specs.ab_analysis.specs.Atoms.{Defined, Choice, defined_atom, choices_of}
-use Rattle.ab_alike.specs.ab_analysis.specs.Right.{unfolding_case}
+use Rattle.ab_formulas.specs.Declarations.{Declarations, IsDefining, HaveDefinitions, signature_in}
+use Rattle.ab_formulas.specs.Sequents.{Variable, Sequent, IsSequent, goal_names}
+use Rattle.ab_formulas.specs.Goals.{variable_named}
+use Rattle.ab_theory.specs.Equations.{AreCells, made}
+use Rattle.ab_theory.specs.Splits.{problem_of, NeverArises}
+use Rattle.ab_theory.specs.Atoms.{Defined, Choice, defined_atom, choices_of}
+use Rattle.ab_theory.specs.Unfolding.{unfolding_case}
 use Rattle.ab_alike.specs.Alike.{IsSameAtom}
 use Rattle.ab_alike.proofs.Unfolding.{never_also, answered_also}
-use Rattle.ab_progress.specs.ab_rules.proofs.Sequents.{goal_of}
-use Rattle.ab_progress.specs.ab_rules.proofs.Sized.{atom_of, atom_over}
+use Rattle.ab_theory.proofs.Sequents.{goal_of}
+use Rattle.ab_theory.proofs.Sized.{atom_of, atom_over}
 use Rattle.ab_progress.specs.ab_effects.specs.Unfolding.{IsFirst}
 
 none_named : (xs : List Variable) → [] ≡ map variable_named xs → [] ≡ xs

@@ -2,19 +2,18 @@
 use Rattle.std.proofs.Common.{◌≡◌, ◌≢◌, inl, inr, ℕ, zero, suc, ◌+◌, ◌<◌, ◌≤◌, List, [], ◌∷◌, ◌++◌, Option, Some, None, length, drop, refl, sym, ◌∙◌, ap, subst, arith}
 use Rattle.ab_grammar.specs.CommandTrees.{intros}
 use Rattle.ab_term.specs.Types.{Ty}
-use Rattle.ab_term.specs.Terms.{Nominal}
+use Rattle.ab_term.specs.Terms.{Nominal, Read}
 use Rattle.ab_term.specs.Substitution.{instance}
-use Rattle.ab_alike.specs.ab_store.specs.Trees.{Read}
-use Rattle.ab_alike.specs.ab_unifying.specs.Problem.{cells_read}
-use Rattle.ab_alike.specs.ab_logic.specs.Declarations.{Declarations}
-use Rattle.ab_alike.specs.ab_logic.specs.Forms.{for_all, nabla, implies, form_of, implies_in, as_implies, for_all_in, as_for_all, nabla_in, as_nabla}
-use Rattle.ab_alike.specs.ab_logic.specs.Names.{Label, Names, NoName}
-use Rattle.ab_alike.specs.ab_logic.specs.Sequents.{Sequent, proving, assuming, over}
-use Rattle.ab_alike.specs.ab_logic.specs.Worlds.{IsWorld, declarations_of}
-use Rattle.ab_alike.specs.ab_logic.specs.declared.world.World.{World}
-use Rattle.ab_progress.specs.ab_rules.specs.Steps.{for_all_right, nabla_right, arrow_right}
-use Rattle.ab_progress.specs.ab_rules.specs.Rules.{NamedRule, Fails, raised, applied, name_term}
-use Rattle.ab_progress.specs.ab_rules.proofs.NewNumbers.{new_number}
+use Rattle.ab_progress.specs.ab_unifying.specs.Problem.{cells_read}
+use Rattle.ab_formulas.specs.Declarations.{Declarations}
+use Rattle.ab_formulas.specs.Forms.{for_all, nabla, implies, form_of, implies_in, as_implies, for_all_in, as_for_all, nabla_in, as_nabla}
+use Rattle.ab_formulas.specs.Names.{Label, Names, NoName}
+use Rattle.ab_formulas.specs.Sequents.{Sequent, proving, assuming, over}
+use Rattle.ab_progress.specs.ab_logic.specs.Worlds.{IsWorld, declarations_of}
+use Rattle.ab_progress.specs.ab_logic.specs.declared.world.World.{World}
+use Rattle.ab_theory.specs.Steps.{for_all_right, nabla_right, arrow_right}
+use Rattle.ab_theory.specs.Rules.{NamedRule, Fails, raised, applied, name_term}
+use Rattle.ab_theory.proofs.NewNumbers.{new_number}
 use Rattle.ab_progress.specs.ab_kernel.specs.Layout.{Held, IsProof}
 use Rattle.ab_progress.specs.ab_effects.specs.Effect.{effect, introducing, left_over, clashing_names}
 use Rattle.ab_progress.specs.ab_effects.specs.Introducing.{Introduced, Unnamed, first_label, others, taken_off}

@@ -4,7 +4,7 @@ use Rattle.std.specs.Option.{IsSome}
 use Rattle.std.proofs.Common.{◌≡◌, ℕ, List, [], ◌∷◌, Bool, true, false, Some, length, refl, subst, arith}
 use Rattle.std.proofs.lemmas.Slice.Eq.{bytes_eq-Decides}
 use Rattle.ab_term.proofs.Lists.{Contains-here, Contains-there}
-use Rattle.ab_alike.specs.ab_logic.specs.Sequents.{Hypothesis, Sequent, named, IsUsed}
+use Rattle.ab_formulas.specs.Sequents.{Hypothesis, Sequent, named, IsUsed}
 
 -- the names in use
 abbrev names : List Hypothesis → List (List ℕ)

@@ -2,11 +2,11 @@
 use Rattle.std.proofs.Common.{inl, inr, ℕ, List, true, false, refl}
 use Rattle.ab_grammar.specs.CommandTrees.{split, left, right}
 use Rattle.ab_alike.specs.ab_solve.specs.Replacing.{Cell}
-use Rattle.ab_alike.specs.ab_logic.specs.Declarations.{Declarations}
-use Rattle.ab_alike.specs.ab_logic.specs.Names.{Label}
-use Rattle.ab_alike.specs.ab_logic.specs.Sequents.{Sequent}
-use Rattle.ab_progress.specs.ab_rules.specs.Steps as plain
-use Rattle.ab_progress.specs.ab_rules.specs.Rules.{NamedRule, Fails}
+use Rattle.ab_formulas.specs.Declarations.{Declarations}
+use Rattle.ab_formulas.specs.Names.{Label}
+use Rattle.ab_formulas.specs.Sequents.{Sequent}
+use Rattle.ab_theory.specs.Steps as plain
+use Rattle.ab_theory.specs.Rules.{NamedRule, Fails}
 use Rattle.ab_progress.specs.ab_effects.specs.Effect.{effect}
 use Rattle.ab_progress.specs.ab_effects.specs.Refusals.{wrong_shape}
 use Rattle.ab_progress.specs.ab_effects.specs.Row.{Leads, Refuses}

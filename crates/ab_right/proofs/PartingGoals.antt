@@ -2,17 +2,17 @@
 use Rattle.std.proofs.Common.{◌≡◌, inl, inr, ℕ, ◌+◌, ◌-◌, ◌<◌, ◌≤◌, List, [], ◌∷◌, ◌++◌, Some, None, length, map, drop, refl, sym, ◌∙◌, ap, subst, arith, append_assoc, append-nil, length-append}
 use Rattle.std.proofs.lemmas.List.{drop_at}
 use Rattle.ab_grammar.specs.CommandTrees.{split_all}
-use Rattle.ab_alike.specs.ab_store.specs.Trees.{Read}
+use Rattle.ab_term.specs.Terms.{Read}
 use Rattle.ab_alike.specs.ab_solve.specs.Replacing.{Cell}
-use Rattle.ab_alike.specs.ab_unifying.specs.Problem.{cells_read}
-use Rattle.ab_alike.specs.ab_logic.specs.Declarations.{Declarations}
-use Rattle.ab_alike.specs.ab_logic.specs.Forms.{as_both}
-use Rattle.ab_alike.specs.ab_logic.specs.Names.{Label}
-use Rattle.ab_alike.specs.ab_logic.specs.Sequents.{Sequent, proving}
-use Rattle.ab_alike.specs.ab_logic.specs.Worlds.{IsWorld, declarations_of}
-use Rattle.ab_alike.specs.ab_logic.specs.declared.world.World.{World}
-use Rattle.ab_progress.specs.ab_rules.specs.Steps.{and_right}
-use Rattle.ab_progress.specs.ab_rules.specs.Rules.{NamedRule, Fails}
+use Rattle.ab_progress.specs.ab_unifying.specs.Problem.{cells_read}
+use Rattle.ab_formulas.specs.Declarations.{Declarations}
+use Rattle.ab_formulas.specs.Forms.{as_both}
+use Rattle.ab_formulas.specs.Names.{Label}
+use Rattle.ab_formulas.specs.Sequents.{Sequent, proving}
+use Rattle.ab_progress.specs.ab_logic.specs.Worlds.{IsWorld, declarations_of}
+use Rattle.ab_progress.specs.ab_logic.specs.declared.world.World.{World}
+use Rattle.ab_theory.specs.Steps.{and_right}
+use Rattle.ab_theory.specs.Rules.{NamedRule, Fails}
 use Rattle.ab_progress.specs.ab_kernel.specs.Layout.{Held, IsProof}
 use Rattle.ab_progress.specs.ab_effects.specs.Effect.{effect}
 use Rattle.ab_progress.specs.ab_effects.specs.Introducing.{Parts, alone, parted}

@@ -2,18 +2,18 @@
 use Rattle.std.specs.Prelude.{Result, Ok, Err, IsErrAnd, if◌then◌else◌}
 use Rattle.std.proofs.Common.{◌≡◌, inl, inr, ℕ, List, [], ◌∷◌, Bool, true, false, Option, Some, None, codes, refl, sym, ◌∙◌, ap, subst}
 use Rattle.ab_grammar.specs.CommandTrees as told
-use Rattle.ab_alike.specs.ab_store.specs.Trees.{Read}
+use Rattle.ab_term.specs.Terms.{Read}
 use Rattle.ab_alike.specs.ab_solve.specs.Replacing.{Cell}
-use Rattle.ab_alike.specs.ab_logic.specs.Declarations.{Declarations}
-use Rattle.ab_alike.specs.ab_logic.specs.Marks.{Sign, plain, star_of, at_of, plus_of, hash_of}
-use Rattle.ab_alike.specs.ab_logic.specs.Names.{Label, auto, given}
-use Rattle.ab_alike.specs.ab_logic.specs.Sequents.{Sequent, IsUsed, proving, assuming}
-use Rattle.ab_alike.specs.ab_analysis.specs.Atoms.{Defined}
-use Rattle.ab_progress.specs.ab_induction.specs.Places.{inductive_at, coinductive_in, marked_antecedent, marked_consequent}
-use Rattle.ab_progress.specs.ab_induction.specs.Levels.{next_level, inductive_level, coinductive_level}
-use Rattle.ab_progress.specs.ab_rules.specs.Steps as step
-use Rattle.ab_progress.specs.ab_rules.specs.Rules.{NamedRule, Fails}
-use Rattle.ab_progress.specs.ab_rules.specs.Row as rule
+use Rattle.ab_formulas.specs.Declarations.{Declarations}
+use Rattle.ab_formulas.specs.Marks.{Sign, plain, star_of, at_of, plus_of, hash_of}
+use Rattle.ab_formulas.specs.Names.{Label, auto, given}
+use Rattle.ab_formulas.specs.Sequents.{Sequent, IsUsed, proving, assuming}
+use Rattle.ab_theory.specs.Atoms.{Defined}
+use Rattle.ab_theory.specs.Induction.{inductive_at, coinductive_in, marked_antecedent, marked_consequent}
+use Rattle.ab_theory.specs.Levels.{next_level, inductive_level, coinductive_level}
+use Rattle.ab_theory.specs.Steps as step
+use Rattle.ab_theory.specs.Rules.{NamedRule, Fails}
+use Rattle.ab_theory.specs.Row as rule
 use Rattle.ab_progress.specs.ab_effects.specs.Effect.{effect, clashing, is_used, marked_so, hypothesis_named}
 use Rattle.ab_progress.specs.ab_effects.specs.Refusals.{clash, wrong_shape}
 use Rattle.ab_progress.specs.ab_effects.specs.Row.{Row, leads, unless, finds, Leads}

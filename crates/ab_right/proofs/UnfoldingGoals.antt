@@ -5,24 +5,24 @@ use Rattle.std.proofs.Common.{◌≡◌, ◌≢◌, ◌⊎◌, inl, inr, ℕ, �
 use Rattle.std.proofs.lemmas.List.Elements.{All-head}
 use Rattle.ab_grammar.specs.CommandTrees.{unfold_goal}
 use Rattle.ab_alike.specs.ab_solve.specs.Replacing.{Cell}
-use Rattle.ab_alike.specs.ab_unifying.specs.Problem.{cells_read}
-use Rattle.ab_alike.specs.ab_logic.specs.Declarations.{Declarations}
-use Rattle.ab_alike.specs.ab_logic.specs.Growth.{Grows}
-use Rattle.ab_alike.specs.ab_logic.specs.Names.{Label, auto}
-use Rattle.ab_alike.specs.ab_logic.specs.Readings.{sequent_of, HoldsSequent}
-use Rattle.ab_alike.specs.ab_logic.specs.Sequents.{Sequent, IsSequent}
-use Rattle.ab_alike.specs.ab_logic.specs.Worlds.{IsWorld, declarations_of}
-use Rattle.ab_alike.specs.ab_logic.specs.declared.world.World.{World}
-use Rattle.ab_alike.specs.ab_logic.specs.declared.sequent.Sequent.{Sequent as Kept}
-use Rattle.ab_alike.specs.ab_marks.specs.Marking.{MayBeUnfolded}
-use Rattle.ab_alike.specs.ab_equate.specs.Solved.{AreCells}
-use Rattle.ab_alike.specs.ab_analysis.specs.Atoms.{Defined, defined_atom}
-use Rattle.ab_progress.specs.ab_rules.specs.Steps.{definition_right}
+use Rattle.ab_progress.specs.ab_unifying.specs.Problem.{cells_read}
+use Rattle.ab_formulas.specs.Declarations.{Declarations}
+use Rattle.ab_progress.specs.ab_logic.specs.Growth.{Grows}
+use Rattle.ab_formulas.specs.Names.{Label, auto}
+use Rattle.ab_progress.specs.ab_logic.specs.Readings.{sequent_of, HoldsSequent}
+use Rattle.ab_formulas.specs.Sequents.{Sequent, IsSequent}
+use Rattle.ab_progress.specs.ab_logic.specs.Worlds.{IsWorld, declarations_of}
+use Rattle.ab_progress.specs.ab_logic.specs.declared.world.World.{World}
+use Rattle.ab_progress.specs.ab_logic.specs.declared.sequent.Sequent.{Sequent as Kept}
+use Rattle.ab_formulas.specs.Marking.{MayBeUnfolded}
+use Rattle.ab_theory.specs.Equations.{AreCells}
+use Rattle.ab_theory.specs.Atoms.{Defined, defined_atom}
+use Rattle.ab_theory.specs.Steps.{definition_right}
 use Rattle.ab_progress.specs.ab_rules.proofs.NewNumbers.{over_cells}
-use Rattle.ab_progress.specs.ab_kernel.specs.Derivation.{History, open_goals}
+use Rattle.ab_theory.specs.Derivations.{History, open_goals}
 use Rattle.ab_progress.specs.ab_kernel.specs.Layout.{Held, history_of, IsProof}
 use Rattle.ab_progress.specs.ab_kernel.proofs.Later.{same_history, still_proof}
-use Rattle.ab_progress.specs.ab_kernel.proofs.Rooted.{open_are_sequents}
+use Rattle.ab_theory.proofs.Rooted.{open_are_sequents}
 use Rattle.ab_progress.specs.ab_effects.specs.Effect.{effect}
 use Rattle.ab_progress.specs.ab_effects.specs.Row.{Leads}
 use Rattle.ab_progress.specs.Applied.{IsApplied, RefusedBy}

@@ -6,18 +6,18 @@ use Rattle.ab_term.specs.Sameness.{same_number}
 use Rattle.ab_alike.specs.ab_solve.specs.Replacing.{Cell}
 use Rattle.ab_alike.specs.ab_solve.specs.Solving.{Answer, unified, apart, stuck, Solves}
 use Rattle.ab_alike.specs.ab_solve.proofs.Unique.{unique}
-use Rattle.ab_alike.specs.ab_logic.specs.Declarations.{Declarations, HaveDefinitions}
-use Rattle.ab_alike.specs.ab_logic.specs.Names.{Label}
-use Rattle.ab_alike.specs.ab_logic.specs.Sequents.{Sequent, IsSequent, goal_names, proving}
-use Rattle.ab_alike.specs.ab_marks.specs.Marking.{MayBeUnfolded}
-use Rattle.ab_alike.specs.ab_equate.specs.Solved.{AreCells, made}
-use Rattle.ab_alike.specs.ab_equate.specs.Cases.{problem_of}
-use Rattle.ab_alike.specs.ab_analysis.specs.Atoms.{Defined, Choice, defined_atom, choices_of}
-use Rattle.ab_alike.specs.ab_analysis.specs.Right.{unfolding_case, unfolded, closed_over}
+use Rattle.ab_formulas.specs.Declarations.{Declarations, HaveDefinitions}
+use Rattle.ab_formulas.specs.Names.{Label}
+use Rattle.ab_formulas.specs.Sequents.{Sequent, IsSequent, goal_names, proving}
+use Rattle.ab_formulas.specs.Marking.{MayBeUnfolded}
+use Rattle.ab_theory.specs.Equations.{AreCells, made}
+use Rattle.ab_theory.specs.Splits.{problem_of}
+use Rattle.ab_theory.specs.Atoms.{Defined, Choice, defined_atom, choices_of}
+use Rattle.ab_theory.specs.Unfolding.{unfolding_case, unfolded, closed_over}
 use Rattle.ab_grammar.specs.CommandTrees.{unfold_goal}
-use Rattle.ab_progress.specs.ab_rules.specs.Rules.{NamedRule, Fails, Stuck as Sticks}
-use Rattle.ab_progress.specs.ab_rules.specs.Steps.{definition_right}
-use Rattle.ab_progress.specs.ab_kernel.proofs.Splits.{at_place}
+use Rattle.ab_theory.specs.Rules.{NamedRule, Fails, Stuck as Sticks}
+use Rattle.ab_theory.specs.Steps.{definition_right}
+use Rattle.ab_formulas.proofs.KernelSplits.{at_place}
 use Rattle.ab_progress.specs.ab_effects.specs.Effect.{effect}
 use Rattle.ab_progress.specs.ab_effects.specs.Refusals.{Refusal, no_match, not_pattern, unresolved}
 use Rattle.ab_progress.specs.ab_effects.specs.Row.{Leads, Refuses}

@@ -1,9 +1,9 @@
 -- GOALS THAT ASK FOR CONJUNCTIONS give way to their halves, from the left.
 use Rattle.std.specs.Prelude.{◌≡◌, ℕ, List, [], ◌∷◌, ◌++◌, Some, None, length}
-use Rattle.ab_alike.specs.ab_store.specs.Trees.{Read}
-use Rattle.ab_alike.specs.ab_logic.specs.Forms.{as_both}
-use Rattle.ab_alike.specs.ab_logic.specs.Sequents.{Sequent, proving}
-use Rattle.ab_alike.specs.ab_logic.specs.declared.world.World.{World}
+use Rattle.ab_term.specs.Terms.{Read}
+use Rattle.ab_formulas.specs.Forms.{as_both}
+use Rattle.ab_formulas.specs.Sequents.{Sequent, proving}
+use Rattle.ab_progress.specs.ab_logic.specs.declared.world.World.{World}
 use Rattle.ab_progress.specs.ab_kernel.specs.Layout.{Held}
 use Rattle.ab_progress.specs.Progress.{goals_of}
 

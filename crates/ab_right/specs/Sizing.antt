@@ -1,9 +1,9 @@
 -- Whether an atom of a conclusion may get a size, and how the new hypothesis is named then.
 use Rattle.std.specs.Prelude.{◌≡◌, ℕ, List, Option, Some, None}
-use Rattle.ab_alike.specs.ab_logic.specs.Marks.{plain}
-use Rattle.ab_alike.specs.ab_logic.specs.Names.{Label}
-use Rattle.ab_alike.specs.ab_logic.specs.Sequents.{Sequent}
-use Rattle.ab_alike.specs.ab_analysis.specs.Atoms.{Defined}
+use Rattle.ab_formulas.specs.Marks.{plain}
+use Rattle.ab_formulas.specs.Names.{Label}
+use Rattle.ab_formulas.specs.Sequents.{Sequent}
+use Rattle.ab_theory.specs.Atoms.{Defined}
 use Rattle.ab_progress.specs.ab_effects.specs.Effect.{clashing, IsNamedBy}
 use Rattle.ab_progress.specs.ab_effects.specs.Refusals.{clash}
 use Rattle.ab_progress.specs.declared.fault.ProofCommandFault.{ProofCommandFault}

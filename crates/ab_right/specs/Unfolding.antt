@@ -1,12 +1,12 @@
 -- The choice by which the first goal's conclusion unfolds. Public contracts don't speak of this.
 use Rattle.std.specs.Prelude.{◌≡◌, ℕ, List, ◌∷◌, Some}
-use Rattle.ab_alike.specs.ab_unifying.specs.Problem.{cells_read}
-use Rattle.ab_alike.specs.ab_logic.specs.Sequents.{Sequent}
-use Rattle.ab_alike.specs.ab_logic.specs.Worlds.{declarations_of}
-use Rattle.ab_alike.specs.ab_logic.specs.declared.world.World.{World}
-use Rattle.ab_alike.specs.ab_marks.specs.Marking.{MayBeUnfolded}
-use Rattle.ab_alike.specs.ab_equate.specs.Solved.{AreCells}
-use Rattle.ab_alike.specs.ab_analysis.specs.Atoms.{Defined, defined_atom}
+use Rattle.ab_progress.specs.ab_unifying.specs.Problem.{cells_read}
+use Rattle.ab_formulas.specs.Sequents.{Sequent}
+use Rattle.ab_progress.specs.ab_logic.specs.Worlds.{declarations_of}
+use Rattle.ab_progress.specs.ab_logic.specs.declared.world.World.{World}
+use Rattle.ab_formulas.specs.Marking.{MayBeUnfolded}
+use Rattle.ab_theory.specs.Equations.{AreCells}
+use Rattle.ab_theory.specs.Atoms.{Defined, defined_atom}
 use Rattle.ab_progress.specs.ab_alternatives.specs.Finding.{Finds}
 use Rattle.ab_progress.specs.ab_alternatives.specs.declared.finding.Found.TheVariants.{Closed}
 use Rattle.ab_progress.specs.ab_kernel.specs.Layout.{Held}

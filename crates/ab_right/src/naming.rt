@@ -2,14 +2,14 @@
 ghost use Rattle.std.specs.Prelude.{◌≡◌, ◌+◌, ◌<◌, ◌^◌, ◌++◌, length, IfOk};
 ghost use Rattle.std.specs.Fmt.{decimal};
 ghost use Rattle.std.specs.Option.{option_map};
-ghost use Rattle.ab_alike.specs.ab_logic.specs.Names.{auto};
-ghost use Rattle.ab_alike.specs.ab_logic.specs.Readings.{sequent_of};
-ghost use Rattle.ab_alike.specs.ab_naming.specs.Labels.{label_of};
+ghost use Rattle.ab_formulas.specs.Names.{auto};
+ghost use Rattle.ab_progress.specs.ab_logic.specs.Readings.{sequent_of};
+ghost use Rattle.ab_progress.specs.ab_naming.specs.Labels.{label_of};
 ghost use Rattle.ab_progress.specs.ab_effects.specs.Effect.{IsNamedBy, clashing};
 ghost use Rattle.ab_progress.specs.ab_effects.specs.Refusals.{clash};
 
-use ab_alike::below::logic::{Sequent, World};
-use ab_alike::below::name::Name;
+use ab_goals::below::logic::{Sequent, World};
+use ab_goals::below::name::Name;
 use ab_progress::below::kernel::Label;
 use std::alloc::{AllocError, Global};
 

@@ -1,15 +1,15 @@
 //! The proof commands that are one step of the kernel.
 ghost use Rattle.std.specs.Prelude.{◌≡◌, ◌≢◌, [], Err, IfOk, OnErr};
 ghost use Rattle.ab_grammar.specs.CommandTrees as told;
-ghost use Rattle.ab_alike.specs.ab_logic.specs.Worlds.{IsWorld};
-ghost use Rattle.ab_alike.specs.ab_logic.specs.Names as plain;
+ghost use Rattle.ab_progress.specs.ab_logic.specs.Worlds.{IsWorld};
+ghost use Rattle.ab_formulas.specs.Names as plain;
 ghost use Rattle.ab_progress.specs.ab_kernel.specs.Layout.{history_of, IsProof};
 ghost use Rattle.ab_progress.specs.Progress.{goals_of, Follows};
 ghost use Rattle.ab_progress.specs.Applied.{IsApplied, IsRefused};
 ghost use Rattle.ab_progress.specs.declared.fault.ProofCommandFault.{ProofCommandFault};
 
-use ab_alike::below::logic::World;
-use ab_alike::below::types::Steps;
+use ab_goals::below::logic::World;
+use ab_goals::below::types::Steps;
 use ab_progress::below::kernel::{Proof, Step};
 use ab_progress::{ProofCommandFault, attempt};
 

@@ -1,17 +1,17 @@
 //! A conclusion that is an atom whose predicate is defined is unfolded.
 ghost use Rattle.std.specs.Prelude.{◌≡◌, ◌≢◌, ◌≤◌, [], Err, IfOk, OnOk, OnErr};
 ghost use Rattle.ab_grammar.specs.CommandTrees as told;
-ghost use Rattle.ab_alike.specs.ab_logic.specs.Growth.{Grows};
-ghost use Rattle.ab_alike.specs.ab_logic.specs.Names as plain;
-ghost use Rattle.ab_alike.specs.ab_logic.specs.Worlds.{IsWorld, declarations_of};
+ghost use Rattle.ab_progress.specs.ab_logic.specs.Growth.{Grows};
+ghost use Rattle.ab_formulas.specs.Names as plain;
+ghost use Rattle.ab_progress.specs.ab_logic.specs.Worlds.{IsWorld, declarations_of};
 ghost use Rattle.ab_progress.specs.ab_kernel.specs.Layout.{history_of, IsProof};
 ghost use Rattle.ab_progress.specs.Applied.{IsApplied, IsRefused};
 ghost use Rattle.ab_progress.specs.Progress.{goals_of, Follows};
 ghost use Rattle.ab_progress.specs.declared.fault.ProofCommandFault.{ProofCommandFault};
 ghost use Rattle.ab_right.specs.Unfolding.{UnfoldsBy};
 
-use ab_alike::below::logic::World;
-use ab_alike::below::types::Steps;
+use ab_goals::below::logic::World;
+use ab_goals::below::types::Steps;
 use ab_progress::below::alternatives::{Found, defined_atom, first_unfolding, may_be_unfolded};
 use ab_progress::below::kernel::{Proof, Step};
 use ab_progress::{Attempted, ProofCommandFault, attempt_solving, first_goal, not_pattern};

@@ -4,23 +4,22 @@ use Rattle.std.proofs.Common.{◌≡◌, inl, inr, ℕ, List, [], ◌∷◌, ◌
 use Rattle.std.proofs.lemmas.List.{map-append}
 use Rattle.std.proofs.lemmas.List.Elements.{All-cons, All-head, All-tail, All-weaker, All-contains, Contains-append_left, Contains-append_right, Contains-append_cases, Contains-push, Contains-push_cases}
 use Rattle.ab_term.specs.Types.{Ty}
-use Rattle.ab_term.specs.Terms.{Nominal}
+use Rattle.ab_term.specs.Terms.{Nominal, Read}
 use Rattle.ab_term.specs.Terms as tree
 use Rattle.ab_term.specs.Names.{support, HasOneTypeEach}
 use Rattle.ab_term.specs.Substitution.{instance}
 use Rattle.ab_term.proofs.Lists.{All-from_contains, Contains-none}
 use Rattle.ab_term.proofs.Translations.{translate-instance}
-use Rattle.ab_alike.specs.ab_store.specs.Trees.{Read}
-use Rattle.ab_alike.specs.ab_logic.specs.Declarations.{Declarations, signature_in}
-use Rattle.ab_alike.specs.ab_logic.specs.Forms.{both, exists, nabla, form_of, both_in, exists_in, nabla_in}
-use Rattle.ab_alike.specs.ab_logic.specs.Sequents.{Variable, Hypothesis, Sequent, HoldsOnly, assuming, goal_names, names_of, formulas, over}
-use Rattle.ab_alike.specs.ab_logic.specs.Names.{Label, Names}
-use Rattle.ab_meanings.specs.ab_rules.specs.Rules.{IsSupport, name_term, raised, applied}
-use Rattle.ab_meanings.specs.ab_rules.proofs.Longer.{named_new}
-use Rattle.ab_meanings.specs.ab_rules.proofs.Parts.{MayStand, IsScope, both_may, exists_scope, nabla_scope, instance_may, name_may, applied_may}
-use Rattle.ab_meanings.specs.ab_rules.proofs.Sequents.{IsGoal, AllFormulas, goal_of, sequent_from, formula_names, assuming_goal, labelled_goal, may_more, scope_more, names_more, over_goal}
-use Rattle.ab_alike.specs.ab_goals.specs.Goals.{Goal, name_in, with_names, hypothesis_named, named}
-use Rattle.ab_alike.specs.ab_goals.specs.Goals as shown
+use Rattle.ab_formulas.specs.Declarations.{Declarations, signature_in}
+use Rattle.ab_formulas.specs.Forms.{both, exists, nabla, form_of, both_in, exists_in, nabla_in}
+use Rattle.ab_formulas.specs.Sequents.{Variable, Hypothesis, Sequent, HoldsOnly, assuming, goal_names, names_of, formulas, over}
+use Rattle.ab_formulas.specs.Names.{Label, Names}
+use Rattle.ab_theory.specs.Rules.{IsSupport, name_term, raised, applied}
+use Rattle.ab_theory.proofs.Longer.{named_new}
+use Rattle.ab_theory.proofs.RulesParts.{MayStand, IsScope, both_may, exists_scope, nabla_scope, instance_may, name_may, applied_may}
+use Rattle.ab_theory.proofs.Sequents.{IsGoal, AllFormulas, goal_of, sequent_from, formula_names, assuming_goal, labelled_goal, may_more, scope_more, names_more, over_goal}
+use Rattle.ab_formulas.specs.Goals.{Goal, name_in, with_names, hypothesis_named, named}
+use Rattle.ab_formulas.specs.Goals as shown
 use Rattle.ab_meanings.specs.ab_effects.specs.Opening.{MayTake, Taken}
 use Rattle.ab_rows.proofs.Namings.{IsClosed, names_alike, made_alike, over_more, name_term_is, same_constants, same_supports}
 

@@ -5,13 +5,12 @@ use Rattle.std.proofs.Common.{◌≡◌, ◌⊎◌, inl, inr, ℕ, ◌+◌, ◌<
 use Rattle.std.proofs.lemmas.Option.{slice_get_within}
 use Rattle.std.proofs.lemmas.List.Elements.{All-nil, All-cons, All-head, All-tail, All-weaker, All-contains, All-append, Contains-append_cases}
 use Rattle.ab_term.specs.Terms as tree
-use Rattle.ab_term.specs.Terms.{Nominal}
+use Rattle.ab_term.specs.Terms.{Nominal, Read}
 use Rattle.ab_term.specs.Names.{support}
 use Rattle.ab_term.specs.Variables.{Substitution, variables, value_in, image}
 use Rattle.ab_term.specs.Sameness.{same_numbered, same_number}
 use Rattle.ab_term.proofs.Lists.{Contains-none, Contains-cases, Contains-map, Contains-from_map, All-from_contains}
 use Rattle.ab_term.proofs.Stands.{support-image, variables-image}
-use Rattle.ab_alike.specs.ab_store.specs.Trees.{Read}
 use Rattle.ab_alike.specs.ab_solve.specs.Replacing.{Cell, holds}
 use Rattle.ab_alike.specs.ab_solve.specs.Solving.{Equation, unified, Solves}
 use Rattle.ab_alike.specs.ab_solve.specs.Meaning.{AreTyped, AreKnown, IsOver, AreOver, IsCell, HoldsCells, AllHoldCells, keys, sides}
@@ -21,16 +20,16 @@ use Rattle.ab_alike.specs.ab_solve.proofs.Cells.{Grows, answer_cells, cell_kept}
 use Rattle.ab_alike.specs.ab_cases.proofs.Choosing.{kept_contains}
 use Rattle.ab_alike.specs.ab_cases.proofs.Covered.{found_of_all}
 use Rattle.ab_alike.specs.ab_cases.proofs.Variables.{holds_contains}
-use Rattle.ab_alike.specs.ab_logic.proofs.Images.{image_formula}
-use Rattle.ab_alike.specs.ab_logic.specs.Declarations.{Declarations, signature_in}
-use Rattle.ab_alike.specs.ab_logic.specs.Sequents.{Variable, HoldsOnly, in_terms}
-use Rattle.ab_alike.specs.ab_equate.specs.Solved.{AreCells, stays, made, variables_from}
-use Rattle.ab_alike.specs.ab_equate.specs.Cases.{Case, problem_of, variables_of, cell_for}
-use Rattle.ab_alike.specs.ab_equate.proofs.Carried.{cells_in_front}
-use Rattle.ab_alike.specs.ab_equate.proofs.Idempotent.{none_replaced, where_from}
-use Rattle.ab_alike.specs.ab_equate.proofs.Renaming.{behind_cell, made_listed}
-use Rattle.ab_meanings.specs.ab_rules.proofs.Parts.{MayStand}
-use Rattle.ab_meanings.specs.ab_using.specs.Answers.{standing_in}
+use Rattle.ab_formulas.proofs.Images.{image_formula}
+use Rattle.ab_formulas.specs.Declarations.{Declarations, signature_in}
+use Rattle.ab_formulas.specs.Sequents.{Variable, HoldsOnly, in_terms}
+use Rattle.ab_theory.specs.Equations.{AreCells, stays, made, variables_from}
+use Rattle.ab_theory.specs.Splits.{Case, problem_of, variables_of, cell_for}
+use Rattle.ab_theory.proofs.Carried.{cells_in_front}
+use Rattle.ab_formulas.proofs.Idempotent.{none_replaced, where_from}
+use Rattle.ab_theory.proofs.Renaming.{behind_cell, made_listed}
+use Rattle.ab_theory.proofs.RulesParts.{MayStand}
+use Rattle.ab_theory.specs.Using.{standing_in}
 
 abbrev Cells : Type 0
 Cells = List (Cell (List ℕ))

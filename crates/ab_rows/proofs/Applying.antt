@@ -2,25 +2,24 @@
 use Rattle.std.specs.Prelude.{All, Contains, IfSome, nat_lt}
 use Rattle.std.proofs.Common.{◌≡◌, inl, inr, ℕ, suc, List, [], ◌∷◌, ◌++◌, map, length, Bool, Option, Some, None, option_map, refl, sym, ◌∙◌, ap, subst}
 use Rattle.std.proofs.lemmas.List.Elements.{All-nil, All-cons, All-head, All-tail, All-contains, Contains-append_left, Contains-append_right, Contains-append_cases}
-use Rattle.ab_term.specs.Terms.{Nominal}
+use Rattle.ab_term.specs.Terms.{Nominal, Read}
 use Rattle.ab_term.specs.Typing.{typed_spine, take_none, take_term}
 use Rattle.ab_term.specs.Names.{support}
 use Rattle.ab_term.specs.Variables.{variables}
 use Rattle.ab_term.proofs.Lists.{Contains-none, All-from_contains}
 use Rattle.ab_term.proofs.Translations.{map-append, support-translate}
-use Rattle.ab_alike.specs.ab_store.specs.Trees.{Read}
 use Rattle.ab_grammar.specs.CommandTrees.{Instance, Argument, apply}
 use Rattle.ab_grammar.specs.CommandTrees as command
 use Rattle.ab_alike.specs.ab_cases.specs.Clauses.{Each}
-use Rattle.ab_alike.specs.ab_logic.specs.Declarations.{Declarations, HaveSentences, signature_in}
-use Rattle.ab_alike.specs.ab_logic.specs.Names.{Label, auto, given, Names}
-use Rattle.ab_alike.specs.ab_logic.specs.Sequents.{Variable, Sequent, IsSequent, formula_of, goal_names, in_terms, proving}
-use Rattle.ab_meanings.specs.ab_rules.proofs.Parts.{MayStand}
-use Rattle.ab_meanings.specs.ab_rules.proofs.Sequents.{IsGoal, goal_of, found_may, names_more, proving_goal}
-use Rattle.ab_alike.specs.ab_goals.specs.Goals.{Goal, Named, name_in, with_names, named}
-use Rattle.ab_meanings.specs.ab_using.specs.Pieces.{Piece, Given, pieces, antecedent_count, AllServe}
-use Rattle.ab_meanings.specs.ab_using.specs.Uses.{right_side, implied, Aim}
-use Rattle.ab_meanings.specs.ab_using.specs.Answers.{Using, IsUsedFor, awaited, result_in}
+use Rattle.ab_formulas.specs.Declarations.{Declarations, HaveSentences, signature_in}
+use Rattle.ab_formulas.specs.Names.{Label, auto, given, Names}
+use Rattle.ab_formulas.specs.Sequents.{Variable, Sequent, IsSequent, formula_of, goal_names, in_terms, proving}
+use Rattle.ab_theory.proofs.RulesParts.{MayStand}
+use Rattle.ab_theory.proofs.Sequents.{IsGoal, goal_of, found_may, names_more, proving_goal}
+use Rattle.ab_formulas.specs.Goals.{Goal, Named, name_in, with_names, named}
+use Rattle.ab_theory.specs.Pieces.{Piece, Given, pieces, antecedent_count, AllServe}
+use Rattle.ab_theory.specs.Uses.{right_side, implied, Aim}
+use Rattle.ab_theory.specs.Using.{Using, IsUsedFor, awaited, result_in}
 use Rattle.ab_meanings.specs.Lists.{HasLists}
 use Rattle.ab_meanings.specs.ab_effects.specs.Effect.{effect, clashing, missing, giving, marked_so, left_to_show}
 use Rattle.ab_meanings.specs.ab_effects.specs.Opening.{Opened}

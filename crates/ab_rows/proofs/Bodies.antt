@@ -3,18 +3,17 @@ use Rattle.std.specs.Prelude.{All, AllPairs}
 use Rattle.std.proofs.Common.{◌≡◌, ◌≢◌, ℕ, List, [], ◌∷◌, ◌++◌, map, refl, sym, ◌∙◌, ap, subst}
 use Rattle.std.proofs.lemmas.List.Elements.{All-nil, All-cons, All-head, All-tail}
 use Rattle.std.proofs.lemmas.List.Kept.{AllPairs-cons}
-use Rattle.ab_term.specs.Terms.{Nominal}
+use Rattle.ab_term.specs.Terms.{Nominal, Read}
 use Rattle.ab_term.proofs.Lists.{AllPairs-none, AllPairs-parts}
 use Rattle.ab_term.proofs.Translations.{map-append}
-use Rattle.ab_alike.specs.ab_store.specs.Trees.{Read}
 use Rattle.ab_alike.specs.ab_cases.specs.Clauses.{Each}
-use Rattle.ab_alike.specs.ab_logic.specs.Declarations.{Declarations, signature_in}
-use Rattle.ab_alike.specs.ab_logic.specs.Names.{Label}
-use Rattle.ab_alike.specs.ab_logic.specs.Sequents.{Hypothesis, Sequent, IsSequent, goal_names, assuming}
-use Rattle.ab_meanings.specs.ab_rules.proofs.Parts.{MayStand}
-use Rattle.ab_meanings.specs.ab_rules.proofs.Sequents.{IsGoal, goal_of}
-use Rattle.ab_alike.specs.ab_goals.specs.Goals as shown
-use Rattle.ab_alike.specs.ab_goals.specs.Goals.{Goal, with_names, hypothesis_named, named}
+use Rattle.ab_formulas.specs.Declarations.{Declarations, signature_in}
+use Rattle.ab_formulas.specs.Names.{Label}
+use Rattle.ab_formulas.specs.Sequents.{Hypothesis, Sequent, IsSequent, goal_names, assuming}
+use Rattle.ab_theory.proofs.RulesParts.{MayStand}
+use Rattle.ab_theory.proofs.Sequents.{IsGoal, goal_of}
+use Rattle.ab_formulas.specs.Goals as shown
+use Rattle.ab_formulas.specs.Goals.{Goal, with_names, hypothesis_named, named}
 use Rattle.ab_meanings.specs.ab_effects.specs.Analysing.{AllOpened, SomeNameless}
 use Rattle.ab_rows.proofs.Namings.{same_constants}
 use Rattle.ab_rows.proofs.Alike.{IsFine, Alike, flipped}

@@ -4,26 +4,25 @@ use Rattle.std.specs.Prelude.{Contains, bytes_eq, if◌then◌else◌}
 use Rattle.std.proofs.Common.{◌≡◌, ℕ, zero, suc, List, [], ◌∷◌, map, Bool, true, false, cond, not, Option, Some, None, option_map, refl, sym, ◌∙◌, ap, subst}
 use Rattle.std.proofs.lemmas.List.Elements.{All-cons, All-head, All-tail}
 use Rattle.ab_term.specs.Types.{Ty}
-use Rattle.ab_term.specs.Terms.{lam, spine, no_terms, term}
+use Rattle.ab_term.specs.Terms.{lam, spine, no_terms, term, Read}
 use Rattle.ab_term.specs.Variables.{variables}
 use Rattle.ab_term.proofs.Lists.{Contains-none, All-from_contains}
-use Rattle.ab_alike.specs.ab_store.specs.Trees.{Read}
 use Rattle.ab_grammar.specs.CommandTrees.{Instance, backchain}
 use Rattle.ab_alike.specs.ab_cases.specs.Clauses.{Each}
-use Rattle.ab_alike.specs.ab_logic.specs.Declarations.{Declarations, HaveSentences, signature_in, theorem_in}
-use Rattle.ab_alike.specs.ab_logic.specs.Marks.{MarksServeIn}
-use Rattle.ab_alike.specs.ab_logic.specs.Names.{Label}
-use Rattle.ab_alike.specs.ab_logic.specs.Sequents as numbered
-use Rattle.ab_alike.specs.ab_logic.specs.Sequents.{Variable, Sequent, IsSequent, HoldsOnly, formula_of, formulas, goal_names, proving}
-use Rattle.ab_meanings.specs.ab_rules.proofs.Parts.{MayStand}
-use Rattle.ab_meanings.specs.ab_rules.proofs.Sequents.{goal_of, found_may}
-use Rattle.ab_alike.specs.ab_goals.specs.Goals.{Named, with_names, named}
-use Rattle.ab_alike.specs.ab_goals.proofs.Agreeing.{translate_agrees}
+use Rattle.ab_formulas.specs.Declarations.{Declarations, HaveSentences, signature_in, theorem_in}
+use Rattle.ab_formulas.specs.Marks.{MarksServeIn}
+use Rattle.ab_formulas.specs.Names.{Label}
+use Rattle.ab_formulas.specs.Sequents as numbered
+use Rattle.ab_formulas.specs.Sequents.{Variable, Sequent, IsSequent, HoldsOnly, formula_of, formulas, goal_names, proving}
+use Rattle.ab_theory.proofs.RulesParts.{MayStand}
+use Rattle.ab_theory.proofs.Sequents.{goal_of, found_may}
+use Rattle.ab_formulas.specs.Goals.{Named, with_names, named}
+use Rattle.ab_formulas.proofs.GoalsAgreeing.{translate_agrees}
 use Rattle.ab_alike.specs.Alike.{IsSameTerm}
-use Rattle.ab_meanings.specs.ab_using.specs.Pieces.{Piece, Given, Part, variable_for, given_term, constant_for, antecedent, pieces, behind, antecedent_count, given_for, given_otherwise, part_for, parts}
-use Rattle.ab_meanings.specs.ab_using.specs.Pieces as piece
-use Rattle.ab_meanings.specs.ab_using.specs.Uses.{left_side, right_side, Aim}
-use Rattle.ab_meanings.specs.ab_using.specs.Answers.{Using, IsUsedFor, awaited}
+use Rattle.ab_theory.specs.Pieces.{Piece, Given, Part, variable_for, given_term, constant_for, antecedent, pieces, behind, antecedent_count, given_for, given_otherwise, part_for, parts}
+use Rattle.ab_theory.specs.Pieces as piece
+use Rattle.ab_theory.specs.Uses.{left_side, right_side, Aim}
+use Rattle.ab_theory.specs.Using.{Using, IsUsedFor, awaited}
 use Rattle.ab_meanings.specs.Lists.{HasLists}
 use Rattle.ab_meanings.specs.ab_effects.specs.Effect.{effect, giving, marked_so, left_to_show, repeated}
 use Rattle.ab_meanings.specs.ab_effects.specs.Refusals.{Refusal, no_hypothesis, not_pattern, unresolved}

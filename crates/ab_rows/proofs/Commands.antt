@@ -3,18 +3,18 @@ use Rattle.std.specs.Prelude.{codes}
 use Rattle.std.proofs.Common.{◌≡◌, inl, inr, List, [], ◌∷◌, ◌++◌, Some, None, ℕ, refl, sym, ◌∙◌, ap, subst}
 use Rattle.ab_term.specs.Types.{Ty, prop}
 use Rattle.ab_term.specs.Substitution.{instance}
-use Rattle.ab_alike.specs.ab_store.specs.Trees.{Read}
+use Rattle.ab_term.specs.Terms.{Read}
 use Rattle.ab_grammar.specs.Tree.{Tree}
 use Rattle.ab_grammar.specs.CommandTrees.{ProofCommand, intros, induction, coinduction, case, apply, backchain, cut, inst, monotone, search, split, split_all, left, right, exists, unfold_goal, assert, clear, rename, permute}
-use Rattle.ab_alike.specs.ab_logic.specs.Declarations.{Declarations, signature_in}
-use Rattle.ab_alike.specs.ab_logic.specs.Formulas.{IsFormula}
-use Rattle.ab_alike.specs.ab_logic.specs.Marks.{plain, star_of, at_of, plus_of, hash_of}
-use Rattle.ab_alike.specs.ab_logic.specs.Sequents.{Sequent, IsUsed, proving, assuming}
-use Rattle.ab_alike.specs.ab_logic.specs.Names.{Label, auto, given, Names, NoName, IsLeast}
-use Rattle.ab_meanings.specs.ab_induction.specs.Places.{marked_antecedent, marked_consequent}
-use Rattle.ab_meanings.specs.ab_induction.specs.Levels.{next_level, inductive_level, coinductive_level}
-use Rattle.ab_meanings.specs.ab_rules.proofs.OneAnswer.{least_once, names_once}
-use Rattle.ab_alike.specs.ab_goals.specs.Goals.{named}
+use Rattle.ab_formulas.specs.Declarations.{Declarations, signature_in}
+use Rattle.ab_formulas.specs.Formulas.{IsFormula}
+use Rattle.ab_formulas.specs.Marks.{plain, star_of, at_of, plus_of, hash_of}
+use Rattle.ab_formulas.specs.Sequents.{Sequent, IsUsed, proving, assuming}
+use Rattle.ab_formulas.specs.Names.{Label, auto, given, Names, NoName, IsLeast}
+use Rattle.ab_theory.specs.Induction.{marked_antecedent, marked_consequent}
+use Rattle.ab_theory.specs.Levels.{next_level, inductive_level, coinductive_level}
+use Rattle.ab_theory.proofs.OneAnswer.{least_once, names_once}
+use Rattle.ab_formulas.specs.Goals.{named}
 use Rattle.ab_meanings.specs.ab_effects.specs.Effect.{effect, reading, stating, naming, marked_so, numbered, IsNamedBy, hypothesis_named}
 use Rattle.ab_meanings.specs.ab_effects.specs.Introducing.{Parts, alone, parted}
 use Rattle.ab_meanings.specs.ab_effects.specs.Refusals.{Refusal}

@@ -1,14 +1,14 @@
 -- An equation is solved alike in two goals that are one with names for numbers.
 use Rattle.std.proofs.Common.{◌≡◌, inl, inr, List, [], ◌∷◌, map, sym, ◌∙◌, ap}
-use Rattle.ab_alike.specs.ab_store.specs.Trees.{Read}
-use Rattle.ab_alike.specs.ab_logic.specs.Declarations.{Declarations}
-use Rattle.ab_alike.specs.ab_logic.specs.Names.{IsNamedFor}
-use Rattle.ab_alike.specs.ab_logic.specs.Sequents.{Sequent}
-use Rattle.ab_alike.specs.ab_equate.proofs.Naming.{one_name}
+use Rattle.ab_term.specs.Terms.{Read}
+use Rattle.ab_formulas.specs.Declarations.{Declarations}
+use Rattle.ab_formulas.specs.Names.{IsNamedFor}
+use Rattle.ab_formulas.specs.Sequents.{Sequent}
+use Rattle.ab_theory.proofs.Naming.{one_name}
 use Rattle.ab_alike.specs.Alike.{IsSameTerm, IsSameEquation}
 use Rattle.ab_alike.proofs.Namings.{named_for}
 use Rattle.ab_alike.proofs.Outcomes.{one_goal, goal_or_apart, goal_or_stuck, apart_or_stuck}
-use Rattle.ab_alike.specs.ab_goals.specs.Goals.{named}
+use Rattle.ab_formulas.specs.Goals.{named}
 use Rattle.ab_meanings.specs.ab_effects.specs.Solving.{IsSolved, IsOutside}
 
 turned_term : (s u : Sequent) (t v : Read) → IsSameTerm s u t v → IsSameTerm u s v t

@@ -2,10 +2,9 @@
 use Rattle.std.proofs.Common.{◌≡◌, ℕ, zero, suc, List, [], ◌∷◌, refl, sym, ap, subst}
 use Rattle.ab_term.specs.Types.{Ty}
 use Rattle.ab_term.specs.Logical.{universal, nabla, implication}
-use Rattle.ab_term.specs.Terms.{Terms, logical, lam, spine, no_terms, term}
+use Rattle.ab_term.specs.Terms.{Terms, logical, lam, spine, no_terms, term, Read}
 use Rattle.ab_term.specs.Substitution.{shift, substitute_by, reduce, instance}
-use Rattle.ab_alike.specs.ab_store.specs.Trees.{Read}
-use Rattle.ab_meanings.specs.ab_using.specs.Pieces.{Piece, universal_of, nabla_of, antecedent_of, pieces}
+use Rattle.ab_theory.specs.Pieces.{Piece, universal_of, nabla_of, antecedent_of, pieces}
 
 abbrev pub for_all_of : Ty → Ty → List ℕ → Read → Read
 for_all_of A C y t = spine (logical (universal A)) (term (lam C y t) no_terms)

@@ -6,20 +6,19 @@ use Rattle.std.proofs.Common.{◌≡◌, ℕ, List, [], ◌∷◌, ◌++◌, map
 use Rattle.std.proofs.lemmas.List.Elements.{All-nil, All-cons, All-map, All-weaker}
 use Rattle.ab_term.specs.Types.{Ty}
 use Rattle.ab_term.specs.Terms as tree
-use Rattle.ab_term.specs.Terms.{Nominal, constant, nominal, spine, Terms, no_terms, term}
+use Rattle.ab_term.specs.Terms.{Nominal, constant, nominal, spine, Terms, no_terms, term, Read}
 use Rattle.ab_term.specs.Typing.{HasType}
 use Rattle.ab_term.specs.Names.{support, support_of_all, HasOneTypeEach}
 use Rattle.ab_term.specs.Translation.{translate_variable}
 use Rattle.ab_term.specs.Variables.{variables}
 use Rattle.ab_term.proofs.Lists.{Contains-map, Contains-from_map}
 use Rattle.ab_term.proofs.Translations.{support-translate, variables-translate, translate_typed}
-use Rattle.ab_alike.specs.ab_store.specs.Trees.{Read}
 use Rattle.ab_grammar.specs.CommandTrees.{Instance}
 use Rattle.ab_alike.specs.ab_cases.specs.Clauses.{Each}
-use Rattle.ab_alike.specs.ab_logic.specs.Declarations.{Declarations, signature_in}
-use Rattle.ab_alike.specs.ab_logic.specs.Sequents.{Variable, Hypothesis, Sequent, IsSequent, HoldsOnly, in_terms, goal_names, names_of, formulas}
-use Rattle.ab_alike.specs.ab_goals.specs.Goals.{named}
-use Rattle.ab_meanings.specs.ab_using.specs.Pieces.{Piece, Given, type_named}
+use Rattle.ab_formulas.specs.Declarations.{Declarations, signature_in}
+use Rattle.ab_formulas.specs.Sequents.{Variable, Hypothesis, Sequent, IsSequent, HoldsOnly, in_terms, goal_names, names_of, formulas}
+use Rattle.ab_formulas.specs.Goals.{named}
+use Rattle.ab_theory.specs.Pieces.{Piece, Given, type_named}
 use Rattle.ab_meanings.specs.Lists.{HasLists}
 use Rattle.ab_meanings.proofs.Fitting.{fits}
 use Rattle.ab_meanings.specs.ab_effects.specs.Effect.{reading_each, giving}

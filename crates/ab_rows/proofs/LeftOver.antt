@@ -8,7 +8,7 @@ use Rattle.std.proofs.lemmas.Slice.Eq.{bytes_eq-Decides}
 use Rattle.ab_term.specs.Types.{Ty, prop}
 use Rattle.ab_term.specs.Logical.{universal, nabla, implication}
 use Rattle.ab_term.specs.Terms as tree
-use Rattle.ab_term.specs.Terms.{Nominal, logical, lam, spine, no_terms, term}
+use Rattle.ab_term.specs.Terms.{Nominal, logical, lam, spine, no_terms, term, Read}
 use Rattle.ab_term.specs.Typing.{Signature, typed_spine, take_none, take_term}
 use Rattle.ab_term.specs.Names.{support, HasOneTypeEach}
 use Rattle.ab_term.specs.Closing.{over, given_names}
@@ -17,7 +17,6 @@ use Rattle.ab_term.specs.Sameness.{same_number}
 use Rattle.ab_term.proofs.Lists.{Contains-none, Contains-here, Contains-there, Contains-cases, Contains-map, Contains-from_map, All-from_contains}
 use Rattle.ab_term.proofs.Hinted.{given_typed}
 use Rattle.ab_term.proofs.Translations.{map-append}
-use Rattle.ab_alike.specs.ab_store.specs.Trees.{Read}
 use Rattle.ab_alike.specs.ab_solve.specs.Replacing.{Cell, holds}
 use Rattle.ab_alike.specs.ab_solve.specs.Solving.{Equation, unified, Solves}
 use Rattle.ab_alike.specs.ab_solve.specs.Meaning.{AreTyped, sides}
@@ -30,17 +29,17 @@ use Rattle.ab_alike.specs.ab_cases.proofs.Constants.{has_support}
 use Rattle.ab_alike.specs.ab_cases.proofs.Matching.{choice_right}
 use Rattle.ab_alike.specs.ab_cases.proofs.Unifier.{made_have, made_over_vars}
 use Rattle.ab_alike.specs.ab_cases.proofs.Variables.{holds_contains, has_held}
-use Rattle.ab_alike.specs.ab_logic.specs.Declarations.{Declarations, signature_in}
-use Rattle.ab_alike.specs.ab_logic.specs.Marks.{erased}
-use Rattle.ab_alike.specs.ab_logic.specs.Sequents.{Variable, Sequent, HoldsOnly, goal_names, in_terms}
-use Rattle.ab_alike.specs.ab_equate.specs.Solved.{AreCells, made, variables_from}
-use Rattle.ab_alike.specs.ab_equate.specs.Cases.{Case, problem_of, variables_of}
-use Rattle.ab_meanings.specs.ab_rules.proofs.Members.{place_cases}
-use Rattle.ab_meanings.specs.ab_rules.proofs.Parts.{MayStand, MayBePut, for_all_scope, nabla_scope, implies_may, instance_may, name_may}
-use Rattle.ab_meanings.specs.ab_rules.proofs.Sequents.{may_more}
-use Rattle.ab_meanings.specs.ab_using.specs.Pieces.{Piece, universal_of, nabla_of, antecedent_of, pieces, antecedent_count, type_named, Given, given_for, given_otherwise, Part, part_for, parts}
-use Rattle.ab_meanings.specs.ab_using.specs.Uses.{with_term, left_side, right_side, implied, Use, used, types_chosen, given_constants, use_by, choices_for, equations, awaiting}
-use Rattle.ab_meanings.specs.ab_using.specs.Answers.{Using, case_by, standing_in, IsUsedFor, result_in}
+use Rattle.ab_formulas.specs.Declarations.{Declarations, signature_in}
+use Rattle.ab_formulas.specs.Marks.{erased}
+use Rattle.ab_formulas.specs.Sequents.{Variable, Sequent, HoldsOnly, goal_names, in_terms}
+use Rattle.ab_theory.specs.Equations.{AreCells, made, variables_from}
+use Rattle.ab_theory.specs.Splits.{Case, problem_of, variables_of}
+use Rattle.ab_formulas.proofs.Members.{place_cases}
+use Rattle.ab_theory.proofs.RulesParts.{MayStand, MayBePut, for_all_scope, nabla_scope, implies_may, instance_may, name_may}
+use Rattle.ab_theory.proofs.Sequents.{may_more}
+use Rattle.ab_theory.specs.Pieces.{Piece, universal_of, nabla_of, antecedent_of, pieces, antecedent_count, type_named, Given, given_for, given_otherwise, Part, part_for, parts}
+use Rattle.ab_theory.specs.Uses.{with_term, left_side, right_side, implied, Use, used, types_chosen, given_constants, use_by, choices_for, equations, awaiting}
+use Rattle.ab_theory.specs.Using.{Using, case_by, standing_in, IsUsedFor, result_in}
 use Rattle.ab_meanings.specs.ab_effects.specs.Using.{using}
 use Rattle.ab_rows.proofs.Fronts.{for_all_of, for_new_of, implied_of, HasFront, has_front, for_all_front, nabla_front, implied_front, front_put}
 use Rattle.ab_rows.proofs.Unmarked.{erased_typed, erased_closed}

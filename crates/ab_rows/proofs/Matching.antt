@@ -1,22 +1,21 @@
 -- One use of one formula, in two goals that are one with names for numbers: each choice of constants has the same outcome.
 use Rattle.std.specs.Prelude.{codes, filter}
 use Rattle.std.proofs.Common.{◌≡◌, ℕ, ◌+◌, List, [], ◌∷◌, ◌++◌, map, length, drop, Bool, true, false, cond, Option, Some, None, option_map, refl, sym, ◌∙◌, ap, subst}
-use Rattle.ab_term.specs.Terms.{Nominal}
+use Rattle.ab_term.specs.Terms.{Nominal, Read}
 use Rattle.ab_term.specs.Translation.{translate, translate_variable}
 use Rattle.ab_term.specs.Variables.{Substitution, variables, image}
 use Rattle.ab_term.specs.Sameness.{same_number}
 use Rattle.ab_term.proofs.Translations.{variables-translate}
 use Rattle.ab_term.proofs.ImageTranslations.{translate-image}
-use Rattle.ab_alike.specs.ab_store.specs.Trees.{Read}
 use Rattle.ab_alike.specs.ab_solve.specs.Replacing.{Cell, holds}
 use Rattle.ab_alike.specs.ab_solve.specs.Solving.{Answer, unified, apart, stuck, Solves}
 use Rattle.ab_alike.specs.ab_solve.proofs.Unique.{unique}
 use Rattle.ab_alike.specs.ab_cases.specs.Clauses.{Each}
-use Rattle.ab_alike.specs.ab_logic.specs.Declarations.{Declarations}
-use Rattle.ab_alike.specs.ab_logic.specs.Sequents.{Variable, Sequent, in_terms}
-use Rattle.ab_alike.specs.ab_goals.specs.Goals.{Goal, with_names, variable_named}
-use Rattle.ab_alike.specs.ab_equate.specs.Solved.{AreCells, made}
-use Rattle.ab_alike.specs.ab_equate.specs.Cases.{Case, problem_of, NeverArises, IsOpen}
+use Rattle.ab_formulas.specs.Declarations.{Declarations}
+use Rattle.ab_formulas.specs.Sequents.{Variable, Sequent, in_terms}
+use Rattle.ab_formulas.specs.Goals.{Goal, with_names, variable_named}
+use Rattle.ab_theory.specs.Equations.{AreCells, made}
+use Rattle.ab_theory.specs.Splits.{Case, problem_of, NeverArises, IsOpen}
 use Rattle.ab_alike.specs.ab_renumbering.specs.Renumbering.{renumbered, renumbered_pairs, IsRenumbering}
 use Rattle.ab_alike.specs.ab_renumbering.proofs.Changes.{agreeing}
 use Rattle.ab_alike.specs.ab_renumbering.proofs.Tests.{holds_moved}
@@ -26,9 +25,9 @@ use Rattle.ab_alike.proofs.Renumbered.{moved_variable, moved_goal, names_kept, w
 use Rattle.ab_alike.proofs.Thirds.{by_place, named_place}
 use Rattle.ab_alike.proofs.Outcomes.{third, first_numbering, second_numbering, term_placed, goal_placed, placed_goal}
 use Rattle.ab_alike.proofs.Arising.{Moves, never_moved, never_back, open_moved, open_back, solved_moved, solved_back, E, made_answered}
-use Rattle.ab_meanings.specs.ab_using.specs.Pieces.{Part, variable_for, given_term, constant_for, antecedent}
-use Rattle.ab_meanings.specs.ab_using.specs.Uses.{choices_for}
-use Rattle.ab_meanings.specs.ab_using.specs.Answers.{Using, case_by, standing_in, IsSolvedBy}
+use Rattle.ab_theory.specs.Pieces.{Part, variable_for, given_term, constant_for, antecedent}
+use Rattle.ab_theory.specs.Uses.{choices_for}
+use Rattle.ab_theory.specs.Using.{Using, case_by, standing_in, IsSolvedBy}
 use Rattle.ab_rows.specs.Using.{IsSamePart, IsSameIfAny, IsSameUse}
 use Rattle.ab_rows.proofs.Pieces.{part_moved}
 use Rattle.ab_rows.proofs.Uses.{aim_moved, choices_moved, use_case_moves}

@@ -6,7 +6,7 @@ use Rattle.std.proofs.lemmas.List.{map-append}
 use Rattle.std.proofs.lemmas.List.Elements.{All-nil, All-cons, All-head, All-tail, All-map, All-contains}
 use Rattle.ab_term.specs.Types.{Ty}
 use Rattle.ab_term.specs.Terms as tree
-use Rattle.ab_term.specs.Terms.{Nominal, nominal, variable, lam, spine}
+use Rattle.ab_term.specs.Terms.{Nominal, nominal, variable, lam, spine, Read}
 use Rattle.ab_term.specs.Names.{support, HasOneTypeEach, IsOrderOf}
 use Rattle.ab_term.specs.Substitution.{instance, instance_by_all}
 use Rattle.ab_term.specs.Expansion.{expansion}
@@ -15,16 +15,15 @@ use Rattle.ab_term.specs.Variables.{variables}
 use Rattle.ab_term.proofs.Lists.{Contains-none, Contains-cases}
 use Rattle.ab_term.proofs.Ordering.{order_unique}
 use Rattle.ab_term.proofs.Translations.{translate-instance, translate-instance_by_all, translate-expansion, support-translate}
-use Rattle.ab_alike.specs.ab_store.specs.Trees.{Read}
-use Rattle.ab_alike.specs.ab_logic.specs.Declarations.{Declarations}
-use Rattle.ab_alike.specs.ab_logic.specs.Sequents as numbered
-use Rattle.ab_alike.specs.ab_logic.specs.Sequents.{Variable, Sequent, HoldsOnly, IsUsed, goal_names, names_of, formulas, in_terms, counted, over}
-use Rattle.ab_alike.specs.ab_logic.specs.Names.{Label, auto, given, Names, NoName, IsLeast, IsFree, IsFreeName, IsNamedFor, automatic}
-use Rattle.ab_meanings.specs.ab_rules.specs.Rules.{MayName, hint_of, name_term, raised, applied}
-use Rattle.ab_meanings.specs.ab_rules.proofs.OneAnswer.{least_once}
-use Rattle.ab_meanings.specs.ab_rules.proofs.OneList.{one_name}
-use Rattle.ab_alike.specs.ab_goals.specs.Goals.{Named, Hypothesis, Goal, name_in, with_names, variable_named, hypothesis_named, named}
-use Rattle.ab_alike.specs.ab_goals.proofs.Agreeing.{translate_agrees}
+use Rattle.ab_formulas.specs.Declarations.{Declarations}
+use Rattle.ab_formulas.specs.Sequents as numbered
+use Rattle.ab_formulas.specs.Sequents.{Variable, Sequent, HoldsOnly, IsUsed, goal_names, names_of, formulas, in_terms, counted, over}
+use Rattle.ab_formulas.specs.Names.{Label, auto, given, Names, NoName, IsLeast, IsFree, IsFreeName, IsNamedFor, automatic}
+use Rattle.ab_theory.specs.Rules.{MayName, hint_of, name_term, raised, applied}
+use Rattle.ab_theory.proofs.OneAnswer.{least_once}
+use Rattle.ab_theory.proofs.OneList.{one_name}
+use Rattle.ab_formulas.specs.Goals.{Named, Hypothesis, Goal, name_in, with_names, variable_named, hypothesis_named, named}
+use Rattle.ab_formulas.proofs.GoalsAgreeing.{translate_agrees}
 use Rattle.ab_meanings.specs.ab_effects.specs.Opening.{MayTake, Taken}
 
 -- NAMES OF HYPOTHESES

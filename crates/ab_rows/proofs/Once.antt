@@ -4,40 +4,39 @@ use Rattle.std.specs.Prelude.{codes}
 use Rattle.std.proofs.Common.{◌≡◌, ℕ, List, [], ◌∷◌, map, Bool, true, false, Option, Some, None, option_map, refl, sym, ◌∙◌, ap, subst}
 use Rattle.std.proofs.lemmas.List.Elements.{All-nil, All-cons, All-weaker}
 use Rattle.ab_term.specs.Types.{Ty, prop}
-use Rattle.ab_term.specs.Terms.{Nominal, constant, spine}
+use Rattle.ab_term.specs.Terms.{Nominal, constant, spine, Read}
 use Rattle.ab_term.specs.Names as tree
 use Rattle.ab_term.specs.Names.{HasOneTypeEach, moved_by}
 use Rattle.ab_term.specs.Substitution.{instance}
 use Rattle.ab_term.proofs.Translations.{map-append, translate-instance, translate-rename}
-use Rattle.ab_alike.specs.ab_store.specs.Trees.{Read}
 use Rattle.ab_grammar.specs.Tree.{Tree}
 use Rattle.ab_grammar.specs.CommandTrees.{ProofCommand, intros, induction, coinduction, case, apply, backchain, cut, inst, monotone, search, split, split_all, left, right, exists, unfold_goal, assert, clear, rename, permute}
 use Rattle.ab_alike.specs.ab_cases.specs.Clauses.{IsClause}
-use Rattle.ab_alike.specs.ab_logic.specs.Declarations.{Declarations, signature_in, IsDefining, HaveDefinitions, HaveSentences}
-use Rattle.ab_alike.specs.ab_logic.specs.Forms as form
-use Rattle.ab_alike.specs.ab_logic.specs.Forms.{Form, form_of, either_in, equal_in, as_both, as_either, as_exists}
-use Rattle.ab_alike.specs.ab_logic.specs.Names.{Label, given, Names}
-use Rattle.ab_alike.specs.ab_logic.specs.Sequents.{Sequent, IsSequent, HoldsOnly, formula_of, goal_names, without, proving, assuming}
-use Rattle.ab_alike.specs.ab_logic.specs.Marks.{plain, star_of, at_of, plus_of, hash_of}
-use Rattle.ab_alike.specs.ab_marks.specs.Marking.{MayBeAnalysed, MayBeUnfolded}
-use Rattle.ab_alike.specs.ab_analysis.specs.Atoms.{Defined, defined_atom}
-use Rattle.ab_meanings.specs.ab_induction.specs.Places.{inductive_at, coinductive_in, marked_antecedent, marked_consequent}
-use Rattle.ab_meanings.specs.ab_induction.specs.Levels.{next_level, inductive_level, coinductive_level}
-use Rattle.ab_meanings.specs.ab_rules.proofs.Parts.{MayStand, either_may}
-use Rattle.ab_meanings.specs.ab_rules.proofs.Sequents.{IsGoal, goal_of, found_may, without_goal, sequent_from}
-use Rattle.ab_meanings.specs.ab_rules.proofs.Sized.{atom_of, atom_over}
-use Rattle.ab_alike.specs.ab_goals.specs.Goals.{name_in, with_names, named}
+use Rattle.ab_formulas.specs.Declarations.{Declarations, signature_in, IsDefining, HaveDefinitions, HaveSentences}
+use Rattle.ab_formulas.specs.Forms as form
+use Rattle.ab_formulas.specs.Forms.{Form, form_of, either_in, equal_in, as_both, as_either, as_exists}
+use Rattle.ab_formulas.specs.Names.{Label, given, Names}
+use Rattle.ab_formulas.specs.Sequents.{Sequent, IsSequent, HoldsOnly, formula_of, goal_names, without, proving, assuming}
+use Rattle.ab_formulas.specs.Marks.{plain, star_of, at_of, plus_of, hash_of}
+use Rattle.ab_formulas.specs.Marking.{MayBeAnalysed, MayBeUnfolded}
+use Rattle.ab_theory.specs.Atoms.{Defined, defined_atom}
+use Rattle.ab_theory.specs.Induction.{inductive_at, coinductive_in, marked_antecedent, marked_consequent}
+use Rattle.ab_theory.specs.Levels.{next_level, inductive_level, coinductive_level}
+use Rattle.ab_theory.proofs.RulesParts.{MayStand, either_may}
+use Rattle.ab_theory.proofs.Sequents.{IsGoal, goal_of, found_may, without_goal, sequent_from}
+use Rattle.ab_theory.proofs.Sized.{atom_of, atom_over}
+use Rattle.ab_formulas.specs.Goals.{name_in, with_names, named}
 use Rattle.ab_meanings.specs.Lists.{HasLists}
 use Rattle.ab_meanings.specs.ab_effects.specs.Effect.{effect, opening, cases, analysing, marked_so, IsNamedBy, hypothesis_named, introducing, reading, naming, left_over, clashing, clashing_names, missing, cleared}
 use Rattle.ab_meanings.specs.ab_effects.specs.Analysing.{IsParted, IsUnparted, AllOpened, SomeNameless}
 use Rattle.ab_meanings.specs.ab_effects.specs.Unfolding.{IsUnfolded, IsNotUnfolded}
 use Rattle.ab_meanings.specs.ab_effects.specs.Introducing.{taken_off, Parts}
 use Rattle.ab_meanings.specs.ab_effects.specs.Permuting.{of_one_type, cycling}
-use Rattle.ab_meanings.specs.ab_permuting.specs.Cycles.{MayCycle, type_among, cycle}
+use Rattle.ab_formulas.specs.Cycles.{MayCycle, type_among, cycle}
 use Rattle.ab_meanings.specs.ab_effects.specs.Refusals.{type_clash, no_hypothesis, wrong_shape, not_pattern, names_spent}
 use Rattle.ab_meanings.specs.ab_effects.specs.Solving.{IsSolved, IsOutside}
 use Rattle.ab_meanings.specs.ab_effects.specs.Row.{Row, leads, makes}
-use Rattle.ab_alike.specs.ab_equate.proofs.Sides.{equation_sides}
+use Rattle.ab_formulas.proofs.Sides.{equation_sides}
 use Rattle.ab_alike.specs.Alike.{IsSameTerm, IsSameEquation, IsSameAtom, IsSameRest}
 use Rattle.ab_alike.proofs.Following.{moved_atom}
 pub use Rattle.ab_rows.proofs.Rows.{AreOnce}

@@ -3,20 +3,19 @@ use Rattle.std.proofs.Common.{◌≡◌, ◌⊎◌, inl, inr, ℕ, List, [], ref
 use Rattle.std.specs.Prelude.{All}
 use Rattle.std.proofs.lemmas.List.Elements.{All-nil, All-head}
 use Rattle.ab_term.specs.Types.{Ty}
-use Rattle.ab_term.specs.Terms.{Nominal}
+use Rattle.ab_term.specs.Terms.{Nominal, Read}
 use Rattle.ab_term.specs.Substitution.{instance}
-use Rattle.ab_alike.specs.ab_store.specs.Trees.{Read}
-use Rattle.ab_alike.specs.ab_logic.specs.Declarations.{Declarations, signature_in}
-use Rattle.ab_alike.specs.ab_logic.specs.Forms as form
-use Rattle.ab_alike.specs.ab_logic.specs.Forms.{Form, form_of, implies_in, for_all_in, nabla_in}
-use Rattle.ab_alike.specs.ab_logic.specs.Names.{Names, NoName, IsLeast}
-use Rattle.ab_alike.specs.ab_logic.specs.Sequents.{Sequent, proving, assuming, goal_names}
-use Rattle.ab_meanings.specs.ab_rules.specs.Rules.{MayName, name_term}
-use Rattle.ab_meanings.specs.ab_rules.proofs.OneAnswer.{least_once}
-use Rattle.ab_meanings.specs.ab_rules.proofs.Parts.{MayStand, implies_may, for_all_scope, nabla_scope}
-use Rattle.ab_meanings.specs.ab_rules.proofs.Sequents.{proving_goal}
-use Rattle.ab_alike.specs.ab_goals.specs.Goals.{Goal, name_in, with_names, named}
-use Rattle.ab_alike.specs.ab_goals.specs.Goals as shown
+use Rattle.ab_formulas.specs.Declarations.{Declarations, signature_in}
+use Rattle.ab_formulas.specs.Forms as form
+use Rattle.ab_formulas.specs.Forms.{Form, form_of, implies_in, for_all_in, nabla_in}
+use Rattle.ab_formulas.specs.Names.{Names, NoName, IsLeast}
+use Rattle.ab_formulas.specs.Sequents.{Sequent, proving, assuming, goal_names}
+use Rattle.ab_theory.specs.Rules.{MayName, name_term}
+use Rattle.ab_theory.proofs.OneAnswer.{least_once}
+use Rattle.ab_theory.proofs.RulesParts.{MayStand, implies_may, for_all_scope, nabla_scope}
+use Rattle.ab_theory.proofs.Sequents.{proving_goal}
+use Rattle.ab_formulas.specs.Goals.{Goal, name_in, with_names, named}
+use Rattle.ab_formulas.specs.Goals as shown
 use Rattle.ab_meanings.specs.ab_effects.specs.Opening.{Taken}
 use Rattle.ab_meanings.specs.ab_effects.specs.Introducing.{IsKept, Introduced, Unnamed, first_label, others}
 use Rattle.ab_rows.proofs.Outlines.{also_for_all, also_nabla, also_implies, also_kept}

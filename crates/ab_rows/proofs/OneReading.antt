@@ -3,12 +3,11 @@ use Rattle.std.specs.Prelude.{Ok, Err}
 use Rattle.std.proofs.Common.{◌≡◌, inl, inr, ℕ, List, [], ◌∷◌, ◌++◌, Some, get_or, refl, sym, ◌∙◌, ap, subst, arith}
 use Rattle.std.proofs.lemmas.Bool.{cases_lt}
 use Rattle.ab_term.specs.Types.{Ty, prop}
-use Rattle.ab_term.specs.Terms.{Head, nominal}
+use Rattle.ab_term.specs.Terms.{Head, nominal, Read}
 use Rattle.ab_term.specs.Beta.{atom, abstraction, application}
-use Rattle.ab_alike.specs.ab_store.specs.Trees.{Read}
 use Rattle.ab_grammar.specs.Tree.{Tree}
-use Rattle.ab_alike.specs.ab_logic.specs.Declarations.{Declarations, signature_in}
-use Rattle.ab_alike.specs.ab_logic.specs.Sequents.{Sequent, goal_names}
+use Rattle.ab_formulas.specs.Declarations.{Declarations, signature_in}
+use Rattle.ab_formulas.specs.Sequents.{Sequent, goal_names}
 use Rattle.std.specs.Prelude.{map}
 use Rattle.ab_meanings.specs.ab_readings.specs.Names.{Name, Resolved, places_of}
 use Rattle.ab_meanings.specs.ab_readings.specs.Scopes.{Scope, resolved, nominal_number}

@@ -4,22 +4,21 @@ use Rattle.std.specs.Prelude.{codes, All, Contains}
 use Rattle.std.proofs.Common.{◌≡◌, ℕ, List, [], ◌∷◌, map, Option, Some, None, sym, ◌∙◌, ap, subst}
 use Rattle.std.proofs.lemmas.List.Elements.{All-contains, Contains-append_right}
 use Rattle.ab_term.specs.Terms as tree
-use Rattle.ab_term.specs.Terms.{Nominal}
+use Rattle.ab_term.specs.Terms.{Nominal, Read}
 use Rattle.ab_term.proofs.Lists.{Contains-here, All-from_contains}
-use Rattle.ab_alike.specs.ab_store.specs.Trees.{Read}
 use Rattle.ab_alike.specs.ab_solve.specs.Replacing.{Cell}
 use Rattle.ab_alike.specs.ab_solve.specs.Solving.{unified, apart, stuck}
 use Rattle.ab_alike.specs.ab_solve.proofs.Unique.{unique}
 use Rattle.ab_alike.specs.ab_cases.specs.Clauses.{Each}
-use Rattle.ab_alike.specs.ab_logic.specs.Declarations.{Declarations}
-use Rattle.ab_alike.specs.ab_logic.specs.Sequents.{Variable, Sequent}
-use Rattle.ab_alike.specs.ab_goals.specs.Goals.{with_names, variable_named}
-use Rattle.ab_alike.specs.ab_equate.specs.Solved.{AreCells}
-use Rattle.ab_alike.specs.ab_equate.specs.Cases.{NeverArises, IsOpen}
+use Rattle.ab_formulas.specs.Declarations.{Declarations}
+use Rattle.ab_formulas.specs.Sequents.{Variable, Sequent}
+use Rattle.ab_formulas.specs.Goals.{with_names, variable_named}
+use Rattle.ab_theory.specs.Equations.{AreCells}
+use Rattle.ab_theory.specs.Splits.{NeverArises, IsOpen}
 use Rattle.ab_alike.specs.Alike.{IsSameTerm}
-use Rattle.ab_meanings.specs.ab_using.specs.Pieces.{Part, variable_for, given_term, constant_for, antecedent}
-use Rattle.ab_meanings.specs.ab_using.specs.Uses.{choices_for}
-use Rattle.ab_meanings.specs.ab_using.specs.Answers.{Using, case_by, IsFirst, IsSolvedBy, IsUsedFor, NothingMatches, IsOutsideAt, IsLeftOpen}
+use Rattle.ab_theory.specs.Pieces.{Part, variable_for, given_term, constant_for, antecedent}
+use Rattle.ab_theory.specs.Uses.{choices_for}
+use Rattle.ab_theory.specs.Using.{Using, case_by, IsFirst, IsSolvedBy, IsUsedFor, NothingMatches, IsOutsideAt, IsLeftOpen}
 use Rattle.ab_rows.specs.Using.{IsSamePart, IsSameIfAny, IsSameUse}
 use Rattle.ab_rows.proofs.First.{one_first}
 use Rattle.ab_rows.proofs.Matching.{choices_meet, never_also, open_also, solved_once}

@@ -1,17 +1,16 @@
 -- Formulas are opened, and conclusions taken apart, in one way.
 use Rattle.std.proofs.Common.{◌≡◌, ◌⊎◌, inl, inr, ℕ, List, [], ◌∷◌, map, refl, sym, ◌∙◌, ap, subst}
 use Rattle.ab_term.specs.Types.{Ty}
-use Rattle.ab_term.specs.Terms.{Nominal}
+use Rattle.ab_term.specs.Terms.{Nominal, Read}
 use Rattle.ab_term.specs.Substitution.{instance}
-use Rattle.ab_alike.specs.ab_store.specs.Trees.{Read}
-use Rattle.ab_alike.specs.ab_logic.specs.Declarations.{Declarations}
-use Rattle.ab_alike.specs.ab_logic.specs.Forms as form
-use Rattle.ab_alike.specs.ab_logic.specs.Forms.{Form, form_of}
-use Rattle.ab_alike.specs.ab_logic.specs.Names.{Label, auto, given, Names, NoName, IsLeast}
-use Rattle.ab_alike.specs.ab_logic.specs.Sequents.{Sequent, assuming}
-use Rattle.ab_meanings.specs.ab_rules.specs.Rules.{name_term}
-use Rattle.ab_meanings.specs.ab_rules.proofs.OneAnswer.{least_once}
-use Rattle.ab_alike.specs.ab_goals.specs.Goals.{name_in, with_names, named}
+use Rattle.ab_formulas.specs.Declarations.{Declarations}
+use Rattle.ab_formulas.specs.Forms as form
+use Rattle.ab_formulas.specs.Forms.{Form, form_of}
+use Rattle.ab_formulas.specs.Names.{Label, auto, given, Names, NoName, IsLeast}
+use Rattle.ab_formulas.specs.Sequents.{Sequent, assuming}
+use Rattle.ab_theory.specs.Rules.{name_term}
+use Rattle.ab_theory.proofs.OneAnswer.{least_once}
+use Rattle.ab_formulas.specs.Goals.{name_in, with_names, named}
 use Rattle.ab_meanings.specs.ab_effects.specs.Opening.{IsWhole, MayTake, Taken, Opened, Nameless}
 use Rattle.ab_rows.proofs.Outlines.{also_truth, also_both, also_exists, also_nabla, also_whole}
 use Rattle.ab_rows.proofs.Namings.{nameless_also, taken_also}

@@ -3,12 +3,11 @@ use Rattle.std.proofs.Common.{◌≡◌, ℕ, List, refl, sym, ◌∙◌, ap, su
 use Rattle.ab_term.specs.Types.{Ty}
 use Rattle.ab_term.specs.Logical as plain
 use Rattle.ab_term.specs.Logical.{Logical}
-use Rattle.ab_term.specs.Terms.{Head, constant, logical, nominal, variable, index, lam, spine, Terms, no_terms, term}
+use Rattle.ab_term.specs.Terms.{Head, constant, logical, nominal, variable, index, lam, spine, Terms, no_terms, term, Read}
 use Rattle.ab_term.specs.Translation.{translate}
-use Rattle.ab_alike.specs.ab_store.specs.Trees.{Read}
-use Rattle.ab_alike.specs.ab_logic.specs.Forms as form
-use Rattle.ab_alike.specs.ab_logic.specs.Forms.{Form, form_of, form_alone, form_with, form_between}
-use Rattle.ab_alike.specs.ab_goals.specs.Goals.{Named}
+use Rattle.ab_formulas.specs.Forms as form
+use Rattle.ab_formulas.specs.Forms.{Form, form_of, form_alone, form_with, form_between}
+use Rattle.ab_formulas.specs.Goals.{Named}
 use Rattle.ab_meanings.specs.ab_effects.specs.Opening.{IsWhole}
 use Rattle.ab_meanings.specs.ab_effects.specs.Introducing.{IsKept}
 

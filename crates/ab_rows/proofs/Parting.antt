@@ -9,26 +9,26 @@ use Rattle.ab_term.specs.Variables.{Substitution, image}
 use Rattle.ab_term.specs.Sameness.{same_number}
 use Rattle.ab_term.proofs.Lists.{All-from_contains}
 use Rattle.ab_term.proofs.Translations.{map-append}
-use Rattle.ab_alike.specs.ab_store.specs.Trees.{Read}
+use Rattle.ab_term.specs.Terms.{Read}
 use Rattle.ab_alike.specs.ab_solve.specs.Replacing.{Cell}
 use Rattle.ab_alike.specs.ab_cases.specs.Clauses.{Each}
 use Rattle.ab_alike.specs.ab_cases.specs.Alternatives.{alternative, on_left}
-use Rattle.ab_alike.specs.ab_logic.specs.Declarations.{Declarations, signature_in, block_in, HaveDefinitions}
-use Rattle.ab_alike.specs.ab_logic.specs.Names.{IsNoVariable, IsNamedFor}
-use Rattle.ab_alike.specs.ab_logic.specs.Sequents as numbered
-use Rattle.ab_alike.specs.ab_logic.specs.Sequents.{Variable, Hypothesis, Sequent, IsSequent, IsUsed, goal_names, assuming, over}
-use Rattle.ab_alike.specs.ab_equate.specs.Solved.{Naming, Named, made, renaming, under}
-use Rattle.ab_alike.specs.ab_equate.specs.Cases.{Case, Arises, Split, done, never, arises, IsUnsplit, here, past_never, past_goal}
-use Rattle.ab_alike.specs.ab_equate.proofs.Naming.{one_name}
-use Rattle.ab_alike.specs.ab_equate.proofs.Splits.{split_more}
-use Rattle.ab_alike.specs.ab_analysis.specs.Atoms.{Defined, Choice, choices_of}
-use Rattle.ab_alike.specs.ab_analysis.specs.Left.{scope_of, raised_goal, case_of, cases_of}
-use Rattle.ab_alike.specs.ab_marks.specs.Marking.{mark_below, marked_in}
-use Rattle.ab_meanings.specs.ab_rules.proofs.Longer.{named_new}
-use Rattle.ab_meanings.specs.ab_rules.proofs.Sequents.{IsGoal}
-use Rattle.ab_meanings.specs.ab_rules.proofs.Sized.{IsAtomOver}
-use Rattle.ab_meanings.specs.ab_rules.proofs.Analysed.{analysed_sequents}
-use Rattle.ab_alike.specs.ab_goals.specs.Goals.{named}
+use Rattle.ab_formulas.specs.Declarations.{Declarations, signature_in, block_in, HaveDefinitions}
+use Rattle.ab_formulas.specs.Names.{IsNoVariable, IsNamedFor}
+use Rattle.ab_formulas.specs.Sequents as numbered
+use Rattle.ab_formulas.specs.Sequents.{Variable, Hypothesis, Sequent, IsSequent, IsUsed, goal_names, assuming, over}
+use Rattle.ab_theory.specs.Equations.{Naming, Named, made, renaming, under}
+use Rattle.ab_theory.specs.Splits.{Case, Arises, Split, done, never, arises, IsUnsplit, here, past_never, past_goal}
+use Rattle.ab_theory.proofs.Naming.{one_name}
+use Rattle.ab_theory.proofs.EquateSplits.{split_more}
+use Rattle.ab_theory.specs.Atoms.{Defined, Choice, choices_of}
+use Rattle.ab_theory.specs.Analysis.{scope_of, raised_goal, case_of, cases_of}
+use Rattle.ab_formulas.specs.Marking.{mark_below, marked_in}
+use Rattle.ab_theory.proofs.Longer.{named_new}
+use Rattle.ab_theory.proofs.Sequents.{IsGoal}
+use Rattle.ab_theory.proofs.Sized.{IsAtomOver}
+use Rattle.ab_theory.proofs.Analysed.{analysed_sequents}
+use Rattle.ab_formulas.specs.Goals.{named}
 use Rattle.ab_alike.specs.Alike.{IsSameAtom, IsSameRest}
 use Rattle.ab_alike.proofs.Namings.{HaveSameNames, IsByNames, named_for}
 use Rattle.ab_alike.proofs.Carrying.{names_more}

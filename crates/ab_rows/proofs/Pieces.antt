@@ -3,12 +3,11 @@ use Rattle.std.specs.Prelude.{if◌then◌else◌, bytes_eq, not}
 use Rattle.std.proofs.Common.{◌≡◌, ℕ, zero, suc, List, [], ◌∷◌, map, Bool, true, false, cond, Option, Some, None, option_map, refl, ◌∙◌, ap}
 use Rattle.ab_term.specs.Types.{Ty}
 use Rattle.ab_term.specs.Logical.{implication, universal, nabla}
-use Rattle.ab_term.specs.Terms.{Head, constant, logical, nominal, variable, index, lam, spine, Terms, no_terms, term}
+use Rattle.ab_term.specs.Terms.{Head, constant, logical, nominal, variable, index, lam, spine, Terms, no_terms, term, Read}
 use Rattle.ab_term.specs.Translation.{translate_head, translate_all}
-use Rattle.ab_alike.specs.ab_store.specs.Trees.{Read}
-use Rattle.ab_alike.specs.ab_logic.specs.Marks.{Sign, Making, Marks, by_head, by_scope, by_parts, by_mark, making_of, plain, marks_of_head, marked, marks_made, marks_of, marks_of_all, MarksServe, MarksServeIn, unmarked, erased, erased_all}
+use Rattle.ab_formulas.specs.Marks.{Sign, Making, Marks, by_head, by_scope, by_parts, by_mark, making_of, plain, marks_of_head, marked, marks_made, marks_of, marks_of_all, MarksServe, MarksServeIn, unmarked, erased, erased_all}
 use Rattle.ab_alike.specs.ab_renumbering.specs.Renumbering.{renumbered}
-use Rattle.ab_meanings.specs.ab_using.specs.Pieces.{Piece, universal_of, nabla_of, antecedent_of, pieces, behind, antecedent_count, type_named, Given, given_for, given_otherwise, Part, variable_for, given_term, constant_for, antecedent, part_for, parts, AllServe}
+use Rattle.ab_theory.specs.Pieces.{Piece, universal_of, nabla_of, antecedent_of, pieces, behind, antecedent_count, type_named, Given, given_for, given_otherwise, Part, variable_for, given_term, constant_for, antecedent, part_for, parts, AllServe}
 
 module _ (f : ℕ → ℕ) where
   abbrev pub T : Read → Read

@@ -3,19 +3,18 @@ use Rattle.std.specs.Prelude.{if◌then◌else◌}
 use Rattle.std.proofs.Common.{◌≡◌, ℕ, zero, suc, List, [], ◌∷◌, ◌++◌, map, Bool, true, false, Option, Some, None, option_map, refl, ◌∙◌, ap}
 use Rattle.ab_term.specs.Logical as plain
 use Rattle.ab_term.specs.Logical.{Logical, universal, implication}
-use Rattle.ab_term.specs.Terms.{Head, constant, logical, nominal, variable, index, lam, spine, Terms, no_terms, term}
+use Rattle.ab_term.specs.Terms.{Head, constant, logical, nominal, variable, index, lam, spine, Terms, no_terms, term, Read}
 use Rattle.ab_term.specs.Translation.{translate_head, translate_all}
-use Rattle.ab_alike.specs.ab_store.specs.Trees.{Read}
-use Rattle.ab_alike.specs.ab_logic.specs.Declarations.{Declarations, Block, block_in}
-use Rattle.ab_alike.specs.ab_logic.specs.Forms as form
-use Rattle.ab_alike.specs.ab_logic.specs.Forms.{Form, form_of}
-use Rattle.ab_alike.specs.ab_logic.specs.Marks as marks
-use Rattle.ab_alike.specs.ab_logic.specs.Marks.{Sign, star_of, at_of, plus_of, hash_of, Marks, marks_of_head, marked, Making, by_head, by_scope, by_parts, by_mark, making_of, marks_made, marks_of, marks_of_all}
-use Rattle.ab_alike.specs.ab_logic.specs.Sequents.{Hypothesis, Sequent, formulas}
-use Rattle.ab_alike.specs.ab_marks.specs.Marking.{with_mark}
-use Rattle.ab_alike.specs.ab_analysis.specs.Atoms.{Defined, defined_as, defined_form, defined_atom}
-use Rattle.ab_meanings.specs.ab_induction.specs.Places.{matrix, antecedent, consequent, defined_so, atom_in, inductive_at, coinductive_in, in_matrix, in_antecedent, in_consequent, marked_antecedent, marked_consequent}
-use Rattle.ab_meanings.specs.ab_induction.specs.Levels.{signs_in, signs_of_all, greatest, next_level}
+use Rattle.ab_formulas.specs.Declarations.{Declarations, Block, block_in}
+use Rattle.ab_formulas.specs.Forms as form
+use Rattle.ab_formulas.specs.Forms.{Form, form_of}
+use Rattle.ab_formulas.specs.Marks as marks
+use Rattle.ab_formulas.specs.Marks.{Sign, star_of, at_of, plus_of, hash_of, Marks, marks_of_head, marked, Making, by_head, by_scope, by_parts, by_mark, making_of, marks_made, marks_of, marks_of_all}
+use Rattle.ab_formulas.specs.Sequents.{Hypothesis, Sequent, formulas}
+use Rattle.ab_formulas.specs.Marking.{with_mark}
+use Rattle.ab_theory.specs.Atoms.{Defined, defined_as, defined_form, defined_atom}
+use Rattle.ab_theory.specs.Induction.{matrix, antecedent, consequent, defined_so, atom_in, inductive_at, coinductive_in, in_matrix, in_antecedent, in_consequent, marked_antecedent, marked_consequent}
+use Rattle.ab_theory.specs.Levels.{signs_in, signs_of_all, greatest, next_level}
 use Rattle.ab_alike.proofs.Following.{moved_atom}
 use Rattle.ab_rows.proofs.Renumbered.{renumber, renumber_hypothesis, renumbered}
 use Rattle.ab_rows.proofs.Retold.{form_told, form_retold}

@@ -4,16 +4,15 @@ use Rattle.std.proofs.Common.{◌≡◌, ◌≢◌, ◌⊎◌, inl, inr, ℕ, �
 use Rattle.std.proofs.lemmas.List.Elements.{All-nil, All-cons, All-head, All-tail, All-contains, All-weaker}
 use Rattle.std.proofs.lemmas.Slice.Eq.{bytes_eq-Decides}
 use Rattle.ab_term.specs.Terms as tree
-use Rattle.ab_term.specs.Terms.{Head, constant, logical, nominal, variable, index, Term, lam, spine, Terms, no_terms, term}
+use Rattle.ab_term.specs.Terms.{Head, constant, logical, nominal, variable, index, Term, lam, spine, Terms, no_terms, term, Read}
 use Rattle.ab_term.specs.Translation.{translate_head, translate, translate_all}
 use Rattle.ab_term.specs.Variables.{variables}
 use Rattle.ab_term.proofs.Lists.{Contains-none, Contains-here, Contains-there, Contains-cases, Contains-map, Contains-from_map, AllPairs-parts}
-use Rattle.ab_alike.specs.ab_store.specs.Trees.{Read}
-use Rattle.ab_alike.specs.ab_logic.specs.Declarations.{Declarations}
-use Rattle.ab_alike.specs.ab_logic.specs.Sequents.{Variable, Hypothesis, Sequent, IsSequent, HoldsOnly, in_terms, formulas}
-use Rattle.ab_alike.specs.ab_goals.specs.Goals as shown
-use Rattle.ab_alike.specs.ab_goals.specs.Goals.{Named, Goal, name_in, with_names, variable_named, hypothesis_named, named}
-use Rattle.ab_alike.specs.ab_goals.proofs.Agreeing.{translate_agrees}
+use Rattle.ab_formulas.specs.Declarations.{Declarations}
+use Rattle.ab_formulas.specs.Sequents.{Variable, Hypothesis, Sequent, IsSequent, HoldsOnly, in_terms, formulas}
+use Rattle.ab_formulas.specs.Goals as shown
+use Rattle.ab_formulas.specs.Goals.{Named, Goal, name_in, with_names, variable_named, hypothesis_named, named}
+use Rattle.ab_formulas.proofs.GoalsAgreeing.{translate_agrees}
 
 abbrev pub renumber : (ℕ → ℕ) → Read → Read
 renumber f t = translate f (λ h. h) t

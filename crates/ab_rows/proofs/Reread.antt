@@ -3,24 +3,23 @@
 use Rattle.std.specs.Prelude.{Ok}
 use Rattle.std.proofs.Common.{◌≡◌, inl, inr, ℕ, ◌<◌, List, [], ◌∷◌, ◌++◌, map, length, codes, get_or, Option, Some, None, refl, sym, ◌∙◌, ap, subst}
 use Rattle.ab_term.specs.Types.{Ty, kind, arrow, prop}
-use Rattle.ab_term.specs.Terms.{Nominal, Head, constant, logical, nominal, variable, index, lam, spine, Terms, no_terms, term}
+use Rattle.ab_term.specs.Terms.{Nominal, Head, constant, logical, nominal, variable, index, lam, spine, Terms, no_terms, term, Read}
 use Rattle.ab_term.specs.Typing.{Signature, head_type}
 use Rattle.ab_term.specs.Substitution.{instance}
 use Rattle.ab_term.specs.Expansion.{expansion_of}
 use Rattle.ab_term.specs.Translation.{translate_head, translate_all}
 use Rattle.ab_term.specs.Beta.{atom, abstraction, application}
 use Rattle.ab_term.proofs.Translations.{translate-instance, translate-expansion_of, translate_typed}
-use Rattle.ab_alike.specs.ab_store.specs.Trees.{Read}
 use Rattle.ab_grammar.specs.Tree.{Tree}
-use Rattle.ab_alike.specs.ab_logic.specs.Formulas.{Place, a_formula, a_scope, a_marked, any, places_of, IsRigid, IsAtomic, StandsIn, AllStandIn, IsFormula}
+use Rattle.ab_formulas.specs.Formulas.{Place, a_formula, a_scope, a_marked, any, places_of, IsRigid, IsAtomic, StandsIn, AllStandIn, IsFormula}
 use Rattle.ab_meanings.specs.ab_readings.specs.Names.{Name, Resolved, free}
 use Rattle.ab_meanings.specs.ab_readings.specs.Scopes.{Scope, resolved, nominal_number, made_of}
 use Rattle.ab_meanings.specs.ab_readings.specs.Readings.{Raw, Reads, reads_bound, reads_known, reads_free, reads_apply, reads_abs, reads_equal, reads_bind}
 use Rattle.ab_meanings.specs.ab_readings.specs.Answers.{Reading, IsTheReading, Differ}
 use Rattle.ab_meanings.specs.ab_readings.specs.Normal.{left_type, given_all, long_form, normal_given, normal_form}
-use Rattle.ab_alike.specs.ab_logic.specs.Declarations.{Declarations, signature_in}
-use Rattle.ab_alike.specs.ab_logic.specs.Sequents.{Sequent, IsSequent, goal_names}
-use Rattle.ab_alike.specs.ab_goals.specs.Goals.{named}
+use Rattle.ab_formulas.specs.Declarations.{Declarations, signature_in}
+use Rattle.ab_formulas.specs.Sequents.{Sequent, IsSequent, goal_names}
+use Rattle.ab_formulas.specs.Goals.{named}
 use Rattle.ab_meanings.specs.ab_effects.specs.Refusals.{Refusal, unknown, type_clash, untyped, clash, no_hypothesis, wrong_shape, mark, no_match, not_pattern, unresolved, names_spent}
 use Rattle.ab_meanings.specs.ab_effects.specs.Terms.{made, kinds_in, entry_of, constant_named, scope_of, MeansIn, MeansNothingIn, Means, MeansNothing, Asserts, AssertsNothing}
 use Rattle.ab_meanings.specs.ab_effects.specs.Using.{scope_with}

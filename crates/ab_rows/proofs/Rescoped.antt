@@ -13,9 +13,9 @@ use Rattle.ab_grammar.specs.Tree as tree
 use Rattle.ab_grammar.specs.Tree.{Tree, Trees, no_trees}
 use Rattle.ab_meanings.specs.ab_readings.specs.Names.{Name, Resolved, bound, known, free, apply, abs, equal, bind, quantified, places_of}
 use Rattle.ab_meanings.specs.ab_readings.specs.Scopes.{Scope, in_proof, nominal_number, or_else, index_of, truth_named, variable_named, constant_at, settled_nominal, nominal_at, head_named, Found, or_unknown, made_of, made_of_both, connective, joined, pi_over, after, written, with_binder, with_binders, under, is_pi, resolved, applied, pi_applied}
-use Rattle.ab_alike.specs.ab_logic.specs.Declarations.{Declarations, signature_in}
-use Rattle.ab_alike.specs.ab_logic.specs.Sequents.{Variable, Sequent, goal_names}
-use Rattle.ab_alike.specs.ab_goals.specs.Goals.{named}
+use Rattle.ab_formulas.specs.Declarations.{Declarations, signature_in}
+use Rattle.ab_formulas.specs.Sequents.{Variable, Sequent, goal_names}
+use Rattle.ab_formulas.specs.Goals.{named}
 use Rattle.ab_meanings.specs.ab_effects.specs.Terms.{kinds_in, entry_of, scope_of}
 use Rattle.ab_meanings.specs.ab_effects.specs.Using.{scope_with}
 use Rattle.ab_rows.proofs.Namings.{same_constants}

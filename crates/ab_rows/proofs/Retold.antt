@@ -6,16 +6,15 @@ use Rattle.ab_term.specs.Types.{Ty}
 use Rattle.ab_term.specs.Logical as plain
 use Rattle.ab_term.specs.Logical.{Logical}
 use Rattle.ab_term.specs.Terms as tree
-use Rattle.ab_term.specs.Terms.{constant, logical, nominal, variable, index, lam, spine, Terms, no_terms, term}
+use Rattle.ab_term.specs.Terms.{constant, logical, nominal, variable, index, lam, spine, Terms, no_terms, term, Read}
 use Rattle.ab_term.proofs.Translations.{map-append}
-use Rattle.ab_alike.specs.ab_store.specs.Trees.{Read}
-use Rattle.ab_alike.specs.ab_logic.specs.Forms as form
-use Rattle.ab_alike.specs.ab_logic.specs.Forms.{Form, form_of, form_alone, form_with, form_between, both_in, either_in, exists_in, as_both, as_either, as_exists}
-use Rattle.ab_alike.specs.ab_logic.specs.Names.{Label, auto, given}
-use Rattle.ab_alike.specs.ab_logic.specs.Sequents as numbered
-use Rattle.ab_alike.specs.ab_logic.specs.Sequents.{Variable, Hypothesis, Sequent, formula_of, others, without, proving}
-use Rattle.ab_alike.specs.ab_goals.specs.Goals as shown
-use Rattle.ab_alike.specs.ab_goals.specs.Goals.{Named, Goal, name_in, with_names, variable_named, hypothesis_named, named}
+use Rattle.ab_formulas.specs.Forms as form
+use Rattle.ab_formulas.specs.Forms.{Form, form_of, form_alone, form_with, form_between, both_in, either_in, exists_in, as_both, as_either, as_exists}
+use Rattle.ab_formulas.specs.Names.{Label, auto, given}
+use Rattle.ab_formulas.specs.Sequents as numbered
+use Rattle.ab_formulas.specs.Sequents.{Variable, Hypothesis, Sequent, formula_of, others, without, proving}
+use Rattle.ab_formulas.specs.Goals as shown
+use Rattle.ab_formulas.specs.Goals.{Named, Goal, name_in, with_names, variable_named, hypothesis_named, named}
 use Rattle.ab_meanings.specs.ab_effects.specs.Effect.{is_used, clashing, clashing_names, missing, cleared}
 use Rattle.ab_meanings.specs.ab_effects.specs.Introducing.{taken_off, Parts, alone, parted}
 use Rattle.ab_meanings.specs.ab_effects.specs.Refusals.{Refusal, clash, no_hypothesis}

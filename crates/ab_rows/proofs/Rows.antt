@@ -1,7 +1,7 @@
 -- Rows that lead or refuse alike, part by part.
 use Rattle.std.proofs.Common.{◌≡◌, inl, inr, List, [], ◌∷◌, map, Option, Some, None, option_map, refl, sym, ◌∙◌, ap, subst}
-use Rattle.ab_alike.specs.ab_logic.specs.Sequents.{Sequent}
-use Rattle.ab_alike.specs.ab_goals.specs.Goals.{named}
+use Rattle.ab_formulas.specs.Sequents.{Sequent}
+use Rattle.ab_formulas.specs.Goals.{named}
 use Rattle.ab_meanings.specs.ab_effects.specs.Effect.{marked_so}
 use Rattle.ab_meanings.specs.ab_effects.specs.Refusals.{Refusal, mark}
 use Rattle.ab_meanings.specs.ab_effects.specs.Row.{Row, leads, unless, finds, makes, Leads, Refuses}

@@ -1,6 +1,6 @@
 -- Rows whose answer is settled: what comes of each thing that is asked is one thing, or it is refused for one cause.
 use Rattle.std.proofs.Common.{◌≡◌, inl, inr, List, Some, None, sym, ◌∙◌, subst}
-use Rattle.ab_alike.specs.ab_logic.specs.Sequents.{Sequent}
+use Rattle.ab_formulas.specs.Sequents.{Sequent}
 use Rattle.ab_meanings.specs.ab_effects.specs.Refusals.{Refusal}
 use Rattle.ab_meanings.specs.ab_effects.specs.Row.{Row, leads, unless, finds, makes, Leads, Refuses}
 

@@ -7,18 +7,18 @@ use Rattle.ab_term.specs.Terms as tree
 use Rattle.ab_term.specs.Variables.{Substitution, image}
 use Rattle.ab_term.specs.Sameness.{same_number}
 use Rattle.ab_term.proofs.Lists.{Contains-here, All-from_contains}
-use Rattle.ab_alike.specs.ab_store.specs.Trees.{Read}
+use Rattle.ab_term.specs.Terms.{Read}
 use Rattle.ab_alike.specs.ab_solve.specs.Replacing.{Cell}
 use Rattle.ab_alike.specs.ab_solve.specs.Solving.{Answer, unified, apart, stuck, Solves}
 use Rattle.ab_alike.specs.ab_solve.proofs.Unique.{unique}
 use Rattle.ab_alike.specs.ab_cases.specs.Clauses.{IsClause}
-use Rattle.ab_alike.specs.ab_logic.specs.Declarations.{Declarations, Block, signature_in}
-use Rattle.ab_alike.specs.ab_logic.specs.Sequents.{Variable, Sequent, goal_names, proving}
-use Rattle.ab_alike.specs.ab_equate.specs.Solved.{AreCells, made}
-use Rattle.ab_alike.specs.ab_equate.specs.Cases.{problem_of, NeverArises, IsOpen}
-use Rattle.ab_alike.specs.ab_analysis.specs.Atoms.{Defined, Choice, choices_of}
-use Rattle.ab_alike.specs.ab_analysis.specs.Right.{unfolding_case}
-use Rattle.ab_alike.specs.ab_goals.specs.Goals.{with_names, variable_named, named}
+use Rattle.ab_formulas.specs.Declarations.{Declarations, Block, signature_in}
+use Rattle.ab_formulas.specs.Sequents.{Variable, Sequent, goal_names, proving}
+use Rattle.ab_theory.specs.Equations.{AreCells, made}
+use Rattle.ab_theory.specs.Splits.{problem_of, NeverArises, IsOpen}
+use Rattle.ab_theory.specs.Atoms.{Defined, Choice, choices_of}
+use Rattle.ab_theory.specs.Unfolding.{unfolding_case}
+use Rattle.ab_formulas.specs.Goals.{with_names, variable_named, named}
 use Rattle.ab_alike.specs.Alike.{IsSameAtom}
 use Rattle.ab_alike.proofs.Splitting.{choices_meet}
 use Rattle.ab_alike.proofs.Unfolding.{never_also, open_also, answered_also}

@@ -3,15 +3,14 @@ use Rattle.std.specs.Prelude.{Contains}
 use Rattle.std.proofs.Common.{◌≡◌, inl, inr, ℕ, List, ◌++◌, map, Some, refl, ◌∙◌, subst}
 use Rattle.std.proofs.lemmas.List.Elements.{All-contains, Contains-append_left, Contains-append_right, Contains-append_cases}
 use Rattle.ab_term.specs.Types.{Ty, kind, arrow, prop}
-use Rattle.ab_term.specs.Terms.{Variable, Head, constant, logical, nominal, variable, index, lam, spine, Terms, no_terms, term}
+use Rattle.ab_term.specs.Terms.{Variable, Head, constant, logical, nominal, variable, index, lam, spine, Terms, no_terms, term, Read}
 use Rattle.ab_term.specs.Logical.{Logical, logical_type, truth, falsity, conjunction, disjunction, implication, equality, universal, existential, nabla, judgement, focused_judgement, star, at_sign, plus, hash, spec_universal, spec_implication, spec_conjunction}
 use Rattle.ab_term.specs.Typing.{Signature, HasType, typed_lam, typed_spine, TakeType, take_none, take_term, head_type}
 use Rattle.ab_term.specs.Variables.{variables_of_head, variables, variables_of_all}
 use Rattle.ab_term.proofs.Lists.{All-from_contains}
-use Rattle.ab_alike.specs.ab_store.specs.Trees.{Read}
-use Rattle.ab_alike.specs.ab_logic.specs.Marks.{Sign, Making, by_head, by_scope, by_parts, by_mark, making_of, making_of_constant, unmarked, erased, erased_all}
-use Rattle.ab_alike.specs.ab_logic.specs.Sequents as sequent
-use Rattle.ab_alike.specs.ab_logic.specs.Sequents.{HoldsOnly, in_terms}
+use Rattle.ab_formulas.specs.Marks.{Sign, Making, by_head, by_scope, by_parts, by_mark, making_of, making_of_constant, unmarked, erased, erased_all}
+use Rattle.ab_formulas.specs.Sequents as sequent
+use Rattle.ab_formulas.specs.Sequents.{HoldsOnly, in_terms}
 
 -- ITS TYPE
 

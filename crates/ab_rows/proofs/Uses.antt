@@ -3,24 +3,23 @@ use Rattle.std.specs.Prelude.{codes, filter, not, ◌&&◌}
 use Rattle.std.proofs.Common.{◌≡◌, ℕ, suc, ◌+◌, List, [], ◌∷◌, ◌++◌, map, length, Bool, cond, Option, Some, None, option_map, refl, sym, ◌∙◌, ap, arith, append-nil}
 use Rattle.ab_term.specs.Types.{Ty, kind, arrow}
 use Rattle.ab_term.specs.Terms as tree
-use Rattle.ab_term.specs.Terms.{Nominal, nominal, variable, lam, spine, Terms, no_terms, term}
+use Rattle.ab_term.specs.Terms.{Nominal, nominal, variable, lam, spine, Terms, no_terms, term, Read}
 use Rattle.ab_term.specs.Names.{support}
 use Rattle.ab_term.specs.Closing.{over, name_terms, given_names}
 use Rattle.ab_term.specs.Expansion.{expansion, expansion_of}
 use Rattle.ab_term.specs.Translation.{translate_variable, translate_all}
 use Rattle.ab_term.proofs.Translations.{map-append, translate-instance, translate-expansion, translate-expansion_of, support-translate}
-use Rattle.ab_alike.specs.ab_store.specs.Trees.{Read}
 use Rattle.ab_alike.specs.ab_solve.specs.Replacing.{Cell}
 use Rattle.ab_alike.specs.ab_cases.specs.Clauses.{numbered, name_term}
 use Rattle.ab_alike.specs.ab_cases.specs.Choices.{is_in, in_order, outside, choices}
-use Rattle.ab_alike.specs.ab_logic.specs.Marks.{erased}
-use Rattle.ab_alike.specs.ab_logic.specs.Sequents.{Sequent, goal_names, proving}
+use Rattle.ab_formulas.specs.Marks.{erased}
+use Rattle.ab_formulas.specs.Sequents.{Sequent, goal_names, proving}
 use Rattle.ab_alike.specs.ab_renumbering.specs.Renumbering.{renumbered_equation, IsRenumbering}
 use Rattle.ab_alike.proofs.Renumbered.{translate_twice, moved_goal}
 use Rattle.ab_alike.proofs.Following.{goal_names_moved}
 use Rattle.ab_alike.proofs.Arising.{Moves}
-use Rattle.ab_meanings.specs.ab_using.specs.Pieces.{Part, variable_for, given_term, constant_for, antecedent}
-use Rattle.ab_meanings.specs.ab_using.specs.Uses.{with_term, left_side, right_side, implied, Use, and_variable, and_antecedent, and_outside, cell_over, used, types_chosen, given_constants, use_by, choices_for, Aim, equations, equation_behind, awaiting, use_case}
+use Rattle.ab_theory.specs.Pieces.{Part, variable_for, given_term, constant_for, antecedent}
+use Rattle.ab_theory.specs.Uses.{with_term, left_side, right_side, implied, Use, and_variable, and_antecedent, and_outside, cell_over, used, types_chosen, given_constants, use_by, choices_for, Aim, equations, equation_behind, awaiting, use_case}
 use Rattle.ab_rows.proofs.Pieces.{T, part_moved, erased_moved}
 
 filter_same : {X : Type 0} (p q : X → Bool) → ((x : X) → p x ≡ q x) → (xs : List X) → filter p xs ≡ filter q xs

@@ -5,16 +5,9 @@ pub mod Using
 pub use Rattle.ab_alike.specs.ab_solve
 pub use Rattle.ab_alike.specs.ab_cases
 pub use Rattle.ab_meanings.specs.ab_readings
-pub use Rattle.ab_alike.specs.ab_types
-pub use Rattle.ab_alike.specs.ab_store
-pub use Rattle.ab_alike.specs.ab_clauses
-pub use Rattle.ab_alike.specs.ab_logic
+pub use Rattle.ab_meanings.specs.ab_building.specs.ab_store
 pub use Rattle.ab_meanings.specs.ab_infer
 pub use Rattle.ab_meanings.specs.ab_building
-pub use Rattle.ab_alike.specs.ab_goals
-pub use Rattle.ab_alike.specs.ab_equate
-pub use Rattle.ab_alike.specs.ab_analysis
-pub use Rattle.ab_meanings.specs.ab_rules
 pub use Rattle.ab_alike
 pub use Rattle.ab_meanings.specs.ab_effects
 pub use Rattle.ab_meanings

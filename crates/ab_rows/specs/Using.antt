@@ -1,14 +1,14 @@
 -- ONE USE OF ONE FORMULA, read over two lists of numbers: with names for the variables' numbers both goals are the same, and so
 -- are the formula, the terms that are given, and what the formula is used for.
 use Rattle.std.specs.Prelude.{◌≡◌, Option, Some, None}
-use Rattle.ab_alike.specs.ab_store.specs.Trees.{Read}
+use Rattle.ab_term.specs.Terms.{Read}
 use Rattle.ab_alike.specs.ab_cases.specs.Clauses.{Each}
-use Rattle.ab_alike.specs.ab_logic.specs.Declarations.{Declarations}
-use Rattle.ab_alike.specs.ab_logic.specs.Sequents.{Sequent, IsSequent}
-use Rattle.ab_alike.specs.ab_goals.specs.Goals.{named}
+use Rattle.ab_formulas.specs.Declarations.{Declarations}
+use Rattle.ab_formulas.specs.Sequents.{Sequent, IsSequent}
+use Rattle.ab_formulas.specs.Goals.{named}
 use Rattle.ab_alike.specs.Alike.{IsSameTerm}
-use Rattle.ab_meanings.specs.ab_using.specs.Pieces.{Part, variable_for, given_term, constant_for, antecedent}
-use Rattle.ab_meanings.specs.ab_using.specs.Answers.{Using}
+use Rattle.ab_theory.specs.Pieces.{Part, variable_for, given_term, constant_for, antecedent}
+use Rattle.ab_theory.specs.Using.{Using}
 
 abbrev pub IsSamePart : Sequent → Sequent → Part → Part → Type 0
 IsSamePart s u (variable_for x A) (variable_for y B) = (x ≡ y) × (A ≡ B)

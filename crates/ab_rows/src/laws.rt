@@ -1,12 +1,12 @@
 //! Each proof command has one answer at a goal.
 ghost use Rattle.std.specs.Prelude.{◌≡◌, ℕ, List, map};
-ghost use Rattle.ab_alike.specs.ab_store.specs.Trees.{Read};
+ghost use Rattle.ab_term.specs.Terms.{Read};
 ghost use Rattle.ab_grammar.specs.CommandTrees.{ProofCommand};
-ghost use Rattle.ab_alike.specs.ab_logic.specs.Declarations.{Declarations, HaveDefinitions, HaveSentences};
-ghost use Rattle.ab_alike.specs.ab_logic.specs.Names.{Label};
-ghost use Rattle.ab_alike.specs.ab_logic.specs.Sequents.{Sequent, IsSequent};
-ghost use Rattle.ab_meanings.specs.ab_using.specs.Answers.{Using, IsUsedFor, NothingMatches, IsOutsideAt, IsLeftOpen};
-ghost use Rattle.ab_alike.specs.ab_goals.specs.Goals.{with_names, named};
+ghost use Rattle.ab_formulas.specs.Declarations.{Declarations, HaveDefinitions, HaveSentences};
+ghost use Rattle.ab_formulas.specs.Names.{Label};
+ghost use Rattle.ab_formulas.specs.Sequents.{Sequent, IsSequent};
+ghost use Rattle.ab_theory.specs.Using.{Using, IsUsedFor, NothingMatches, IsOutsideAt, IsLeftOpen};
+ghost use Rattle.ab_formulas.specs.Goals.{with_names, named};
 ghost use Rattle.ab_meanings.specs.Lists.{HasLists};
 ghost use Rattle.ab_meanings.specs.ab_effects.specs.Effect.{effect};
 ghost use Rattle.ab_meanings.specs.ab_effects.specs.Refusals.{Refusal};

@@ -14,11 +14,11 @@ use Rattle.ab_alternatives.specs.ab_types.specs.Sound.{IsTable}
 use Rattle.ab_alternatives.specs.ab_types.specs.declared.ids.TypeId.{TypeId}
 use Rattle.ab_alternatives.specs.ab_norm.specs.declared.nominal.Nominal.{Nominal}
 use Rattle.ab_alternatives.specs.ab_norm.specs.Nominals.{nominal_of, HoldsNominal}
-use Rattle.ab_alternatives.specs.ab_store.specs.Trees.{Read}
-use Rattle.ab_alternatives.specs.ab_logic.specs.Sequents.{Sequent, Hypothesis, formulas, names_of, goal_names, named, formula_of}
+use Rattle.ab_term.specs.Terms.{Read}
+use Rattle.ab_formulas.specs.Sequents.{Sequent, Hypothesis, formulas, names_of, goal_names, named, formula_of}
 use Rattle.ab_alternatives.specs.ab_logic.specs.Readings.{hypothesis_of}
-use Rattle.ab_alternatives.specs.ab_logic.specs.Names.{IsLeast}
-use Rattle.ab_rules.specs.Rules.{MayName}
+use Rattle.ab_formulas.specs.Names.{IsLeast}
+use Rattle.ab_theory.specs.Rules.{MayName}
 use Rattle.ab_rules.specs.Choosing.{Gains, Excluded, Blocked, IsAbsent}
 use Rattle.ab_alternatives.specs.ab_types.proofs.Kept.{one_type}
 use Rattle.ab_term.proofs.Comparisons.{same_type-Decides}
@@ -26,7 +26,7 @@ use Rattle.std.proofs.lemmas.Bool.{cases_lt}
 use Rattle.ab_alternatives.specs.ab_logic.specs.Worlds.{read}
 use Rattle.ab_alternatives.specs.ab_logic.specs.declared.world.World.{World}
 use Rattle.ab_alternatives.specs.ab_logic.specs.declared.sequent.Hypothesis.{Hypothesis as KeptHypothesis}
-use Rattle.ab_rules.proofs.Members.{contained, place_cases}
+use Rattle.ab_formulas.proofs.Members.{contained, place_cases}
 
 pub gains_not : (xs : List ℕ) (P : ℕ → Type 0) → ((n : ℕ) → P n → ⊥) → Gains xs xs P
 gains_not xs P none = record { among = λ n c. inl c; kept = λ n c. c; gained = λ n p. absurd (none n p) }

@@ -5,7 +5,7 @@ use Rattle.std.proofs.Common.{◌≡◌, Bool, true, false, Option, Some, None, 
 use Rattle.ab_term.specs.Names.{permute, IsPermutationTable, EqualUpToNames}
 use Rattle.ab_term.specs.Translation.{EqualPastHints}
 use Rattle.ab_alternatives.specs.ab_types.specs.Entries.{Table}
-use Rattle.ab_alternatives.specs.ab_store.specs.Trees.{Read}
+use Rattle.ab_term.specs.Terms.{Read}
 use Rattle.ab_alternatives.specs.ab_norm.specs.Nominals.{pairs_of}
 use Rattle.ab_alternatives.specs.ab_norm.specs.declared.nominal.Permutation.{Permutation}
 

@@ -14,7 +14,7 @@ use Rattle.ab_alternatives.specs.ab_norm.specs.Nominals.{nominal_of, HoldsNomina
 use Rattle.ab_alternatives.specs.ab_logic.specs.Worlds.{Holds, read, declarations_of}
 use Rattle.ab_alternatives.specs.ab_logic.specs.Growth.{Grows}
 use Rattle.ab_alternatives.specs.ab_logic.specs.declared.world.World.{World}
-use Rattle.ab_rules.specs.Rules.{name_term}
+use Rattle.ab_theory.specs.Rules.{name_term}
 use Rattle.ab_rules.specs.Terms.{Adds}
 use Rattle.ab_alternatives.specs.ab_logic.proofs.Growing.{map_same, grows_on}
 use Rattle.ab_rules.proofs.Adding.{adds_on}

@@ -3,7 +3,6 @@ use Rattle.std.specs.Prelude.{slice_get, option_map}
 use Rattle.std.proofs.Common.{◌≡◌, ◌≢◌, ℕ, List, Some, length, ◌∙◌, ap, arith}
 use Rattle.std.proofs.lemmas.List.Elements.{All-map, All-weaker}
 use Rattle.std.proofs.lemmas.Option.{slice_get_within, slice_get-map, slice_get-get_or}
-use Rattle.ab_alternatives.specs.ab_solve.specs.Replacing.{Cell}
 use Rattle.ab_alternatives.specs.ab_store.specs.Trees.{cell_of}
 use Rattle.ab_alternatives.specs.ab_store.specs.declared.node.CellId.{CellId}
 use Rattle.ab_alternatives.specs.ab_unifying.specs.Problem.{cell_read, cells_read}
@@ -11,15 +10,9 @@ use Rattle.ab_alternatives.specs.ab_logic.specs.Worlds.{HoldsCell, variable_of}
 use Rattle.ab_alternatives.specs.ab_logic.specs.Readings.{sequent_of, HoldsSequent}
 use Rattle.ab_alternatives.specs.ab_logic.specs.declared.world.World.{World}
 use Rattle.ab_alternatives.specs.ab_logic.specs.declared.sequent.Sequent.{Sequent as Kept}
-use Rattle.ab_alternatives.specs.ab_logic.specs.Sequents.{Variable, Sequent}
-use Rattle.ab_alternatives.specs.ab_equate.specs.Solved.{AreCells}
-use Rattle.ab_rules.specs.Rules.{IsNew}
-
--- the number behind all variables that were ever made is no variable's
-pub new_number : (cells : List (Cell (List ℕ))) (s : Sequent) → AreCells cells s → IsNew (length cells) s
-new_number cells s are =
-    All-weaker (λ (x : Variable). slice_get cells x.number ≡ Some (record { hint = x.name; type = x.type })) (λ (x : Variable). x.number ≢ length cells)
-    (λ x there same. let l = slice_get_within cells x.number (record { hint = x.name; type = x.type }) there in omega (arith, l, same)) s.variables are
+use Rattle.ab_formulas.specs.Sequents.{Variable}
+use Rattle.ab_theory.specs.Equations.{AreCells}
+pub use Rattle.ab_theory.proofs.NewNumbers.{new_number}
 
 -- a goal's variables are cells of its world
 pub over_cells : (w : World) (s : Kept) → HoldsSequent w s → AreCells (cells_read w.types w.store) (sequent_of w s)

@@ -3,17 +3,17 @@ use Rattle.std.proofs.Common.{◌≡◌, ℕ, List, [], Some, sym, subst}
 use Rattle.ab_term.specs.Typing.{Signature, HasType}
 use Rattle.ab_alternatives.specs.ab_types.specs.Entries.{signature}
 use Rattle.ab_alternatives.specs.ab_store.specs.declared.node.TermId.{TermId}
-use Rattle.ab_alternatives.specs.ab_store.specs.Trees.{Read}
+use Rattle.ab_term.specs.Terms.{Read}
 use Rattle.ab_alternatives.specs.ab_solver.specs.Answers.{IsTypedPair}
-use Rattle.ab_alternatives.specs.ab_logic.specs.Declarations.{signature_in}
-use Rattle.ab_alternatives.specs.ab_logic.specs.Forms.{as_equal}
+use Rattle.ab_formulas.specs.Declarations.{signature_in}
+use Rattle.ab_formulas.specs.Forms.{as_equal}
 use Rattle.ab_alternatives.specs.ab_logic.specs.Readings.{sequent_of}
-use Rattle.ab_alternatives.specs.ab_logic.specs.Sequents.{IsSequent, goal_names, formula_of}
+use Rattle.ab_formulas.specs.Sequents.{IsSequent, goal_names, formula_of}
 use Rattle.ab_alternatives.specs.ab_logic.specs.Worlds.{IsWorld, Holds, read, declarations_of}
 use Rattle.ab_alternatives.specs.ab_logic.specs.declared.world.World.{World}
 use Rattle.ab_alternatives.specs.ab_logic.specs.declared.sequent.Sequent.{Sequent as Kept}
-use Rattle.ab_alternatives.specs.ab_equate.proofs.Sides.{equation_sides}
-use Rattle.ab_rules.proofs.Sequents.{goal_of, found_may}
+use Rattle.ab_formulas.proofs.Sides.{equation_sides}
+use Rattle.ab_theory.proofs.Sequents.{goal_of, found_may}
 use Rattle.ab_rules.proofs.Words.{same_signature}
 
 pub typed_pair : (w : World) → IsWorld w → (s : Kept) → IsSequent (declarations_of w) (sequent_of w s) → (H : List ℕ) (f a b : TermId)

@@ -4,16 +4,16 @@ use Rattle.std.specs.List.{All}
 use Rattle.std.proofs.lemmas.List.Elements.{All-cons, All-map}
 use Rattle.ab_term.specs.Terms as tree
 use Rattle.ab_term.specs.Typing.{Signature}
-use Rattle.ab_alternatives.specs.ab_types.specs.Entries as table
+use Rattle.ab_term.specs.Constants as table
 use Rattle.ab_alternatives.specs.ab_types.specs.Entries.{signature}
 use Rattle.ab_alternatives.specs.ab_store.specs.declared.node.TermId.{TermId}
 use Rattle.ab_alternatives.specs.ab_store.specs.declared.node.CellId.{CellId}
-use Rattle.ab_alternatives.specs.ab_store.specs.Trees.{Read}
+use Rattle.ab_term.specs.Terms.{Read}
 use Rattle.ab_alternatives.specs.ab_fits.specs.Cells as cells
-use Rattle.ab_alternatives.specs.ab_logic.specs.Declarations.{signature_in}
+use Rattle.ab_formulas.specs.Declarations.{signature_in}
 use Rattle.ab_alternatives.specs.ab_logic.specs.Worlds.{IsWorld, Holds, read, variable_of, declarations_of}
 use Rattle.ab_alternatives.specs.ab_logic.specs.Readings.{sequent_of, hypothesis_of, HoldsSequent}
-use Rattle.ab_alternatives.specs.ab_logic.specs.Sequents.{in_terms, formulas, formulas_of}
+use Rattle.ab_formulas.specs.Sequents.{in_terms, formulas, formulas_of}
 use Rattle.ab_alternatives.specs.ab_logic.specs.declared.world.World.{World}
 use Rattle.ab_alternatives.specs.ab_logic.specs.declared.sequent.Sequent.{Sequent as Kept}
 use Rattle.ab_alternatives.specs.ab_logic.specs.declared.sequent.Hypothesis.{Hypothesis}

@@ -2,17 +2,16 @@
 use Rattle.std.specs.Prelude.{List, map, Result, Ok, Err}
 use Rattle.std.specs.List.{All}
 use Rattle.std.proofs.Common.{Vec, Global}
-use Rattle.ab_term.specs.Terms.{Nominal}
+use Rattle.ab_term.specs.Terms.{Nominal, Read}
 use Rattle.ab_alternatives.specs.ab_norm.specs.Nominals.{nominal_of, HoldsNominal}
-use Rattle.ab_alternatives.specs.ab_store.specs.Trees.{Read}
 use Rattle.ab_alternatives.specs.ab_unifying.specs.Problem.{cells_read}
 use Rattle.ab_alternatives.specs.ab_logic.specs.Worlds.{read, Holds, declarations_of}
 use Rattle.ab_alternatives.specs.ab_logic.specs.Readings.{sequent_of, HoldsSequent}
 use Rattle.ab_alternatives.specs.ab_logic.specs.declared.world.World.{World}
 use Rattle.ab_alternatives.specs.ab_logic.specs.declared.sequent.Sequent.{Sequent as Kept}
-use Rattle.ab_rules.specs.Steps as plain
-use Rattle.ab_rules.specs.Row.{Row, Takes, FailsFirst, Sticks}
-use Rattle.ab_rules.specs.Rules.{row, by_hint}
+use Rattle.ab_theory.specs.Steps as plain
+use Rattle.ab_theory.specs.Row.{Row, Takes, FailsFirst, Sticks}
+use Rattle.ab_theory.specs.Rules.{row, by_hint}
 use Rattle.ab_rules.specs.declared.replaces.Replace.{Replace}
 pub use Rattle.ab_alternatives.specs.ab_naming.specs.Labels.{label_of}
 use Rattle.ab_rules.specs.declared.step.Step.{Step}

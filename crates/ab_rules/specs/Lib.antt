@@ -1,8 +1,5 @@
 -- The rules of the logic over plain sequents: the steps, the shape of a rule, the table of rules, and what the
 -- functions that carry them out answer.
-pub mod Steps
-pub mod Row
-pub mod Rules
 pub mod Answers
 pub mod Terms
 pub mod Choosing
@@ -18,6 +15,4 @@ pub use Rattle.ab_alternatives.specs.ab_naming
 pub use Rattle.ab_alternatives.specs.ab_marks
 pub use Rattle.ab_alternatives.specs.ab_instances
 pub use Rattle.ab_alternatives.specs.ab_equate
-pub use Rattle.ab_alternatives.specs.ab_analysis
-pub use Rattle.ab_sizing.specs.ab_induction
 pub use Rattle.ab_alternatives

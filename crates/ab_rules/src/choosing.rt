@@ -8,9 +8,9 @@ ghost use Rattle.ab_alternatives.specs.ab_types.specs.Sound.{IsTable};
 ghost use Rattle.ab_alternatives.specs.ab_norm.specs.Nominals.{nominal_of, HoldsNominal};
 ghost use Rattle.ab_alternatives.specs.ab_logic.specs.Worlds.{IsWorld, Holds, read};
 ghost use Rattle.ab_alternatives.specs.ab_logic.specs.Readings.{sequent_of, HoldsSequent};
-ghost use Rattle.ab_alternatives.specs.ab_logic.specs.Sequents.{goal_names};
-ghost use Rattle.ab_alternatives.specs.ab_logic.specs.Names.{IsLeast};
-ghost use Rattle.ab_rules.specs.Rules.{MayName, name_term};
+ghost use Rattle.ab_formulas.specs.Sequents.{goal_names};
+ghost use Rattle.ab_formulas.specs.Names.{IsLeast};
+ghost use Rattle.ab_theory.specs.Rules.{MayName, name_term};
 ghost use Rattle.ab_rules.specs.Choosing.{Gains, Excluded, Blocked, IsAbsent};
 ghost use Rattle.ab_rules.specs.Terms.{Adds};
 

@@ -3,9 +3,9 @@ ghost use Rattle.std.specs.Prelude.{◌≡◌, ◌↔◌, IfOk, IsTrue};
 ghost use Rattle.ab_alternatives.specs.ab_logic.specs.Readings.{HoldsSequent};
 ghost use Rattle.ab_alternatives.specs.ab_logic.specs.Worlds.{IsWorld, Holds, read, declarations_of};
 ghost use Rattle.ab_alternatives.specs.ab_logic.specs.Growth.{Grows};
-ghost use Rattle.ab_alternatives.specs.ab_logic.specs.Marks.{erased};
+ghost use Rattle.ab_formulas.specs.Marks.{erased};
 ghost use Rattle.ab_term.specs.Names.{EqualUpToNames};
-ghost use Rattle.ab_rules.specs.Steps as plain;
+ghost use Rattle.ab_theory.specs.Steps as plain;
 ghost use Rattle.ab_rules.specs.Answers.{Answers, row_at};
 
 use crate::looking::{are_equal, are_equal_up_to_names};

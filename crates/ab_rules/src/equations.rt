@@ -2,9 +2,9 @@
 ghost use Rattle.std.specs.Prelude.{◌≡◌, ◌≤◌};
 ghost use Rattle.ab_alternatives.specs.ab_logic.specs.Growth.{Grows};
 ghost use Rattle.ab_alternatives.specs.ab_logic.specs.Readings.{sequent_of, HoldsSequent};
-ghost use Rattle.ab_alternatives.specs.ab_logic.specs.Sequents.{IsSequent};
+ghost use Rattle.ab_formulas.specs.Sequents.{IsSequent};
 ghost use Rattle.ab_alternatives.specs.ab_logic.specs.Worlds.{IsWorld, declarations_of};
-ghost use Rattle.ab_rules.specs.Steps as plain;
+ghost use Rattle.ab_theory.specs.Steps as plain;
 ghost use Rattle.ab_rules.specs.Answers.{Answers, row_at};
 
 use crate::lists::one;

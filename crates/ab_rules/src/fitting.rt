@@ -2,11 +2,11 @@
 ghost use Rattle.std.specs.Prelude.{◌≡◌, ◌↔◌, ◌∷◌, map, IfOk, IsTrue};
 ghost use Rattle.ab_term.specs.Types.{prop};
 ghost use Rattle.ab_alternatives.specs.ab_types.specs.Ids.{HoldsType, type_of};
-ghost use Rattle.ab_alternatives.specs.ab_logic.specs.Declarations.{signature_in};
-ghost use Rattle.ab_alternatives.specs.ab_logic.specs.Formulas.{IsFormula};
+ghost use Rattle.ab_formulas.specs.Declarations.{signature_in};
+ghost use Rattle.ab_formulas.specs.Formulas.{IsFormula};
 ghost use Rattle.ab_alternatives.specs.ab_logic.specs.Worlds.{IsWorld, Holds, read, declarations_of};
 ghost use Rattle.ab_alternatives.specs.ab_logic.specs.Readings.{HoldsSequent, sequent_of};
-ghost use Rattle.ab_alternatives.specs.ab_logic.specs.Sequents.{Fits};
+ghost use Rattle.ab_formulas.specs.Sequents.{Fits};
 
 use ab_alternatives::below::fits::{fits, fits_as_formula};
 use ab_alternatives::below::logic::{Sequent, World};

@@ -2,7 +2,7 @@
 ghost use Rattle.std.specs.Prelude.{◌≡◌};
 ghost use Rattle.ab_alternatives.specs.ab_logic.specs.Readings.{HoldsSequent};
 ghost use Rattle.ab_alternatives.specs.ab_logic.specs.Worlds.{IsWorld};
-ghost use Rattle.ab_rules.specs.Steps as plain;
+ghost use Rattle.ab_theory.specs.Steps as plain;
 ghost use Rattle.ab_rules.specs.Answers.{Answers, label_of, row_at};
 
 use crate::lists::{one, two};

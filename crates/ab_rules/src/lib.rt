@@ -7,7 +7,6 @@ mod closing;
 mod defined;
 mod equations;
 mod fitting;
-pub mod laws;
 mod left;
 mod lists;
 mod looking;

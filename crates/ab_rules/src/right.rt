@@ -1,7 +1,7 @@
 //! The rules that take a connective of the conclusion apart.
 ghost use Rattle.std.specs.Prelude.{◌≡◌};
 ghost use Rattle.ab_alternatives.specs.ab_logic.specs.Readings.{HoldsSequent};
-ghost use Rattle.ab_rules.specs.Steps as plain;
+ghost use Rattle.ab_theory.specs.Steps as plain;
 ghost use Rattle.ab_rules.specs.Answers.{Answers, row_at};
 
 use crate::lists::{one, two};

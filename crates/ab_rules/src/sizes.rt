@@ -1,11 +1,11 @@
 //! The rules that give an atom of the conclusion a size: it is to be derived with that size, and holds where it is smaller.
 ghost use Rattle.std.specs.Prelude.{◌≡◌, IfOk};
-ghost use Rattle.ab_sizing.specs.ab_induction.specs.Places.{marked_antecedent, marked_consequent};
+ghost use Rattle.ab_theory.specs.Induction.{marked_antecedent, marked_consequent};
 ghost use Rattle.ab_alternatives.specs.ab_logic.specs.Growth.{Grows};
-ghost use Rattle.ab_alternatives.specs.ab_logic.specs.Marks as mark;
+ghost use Rattle.ab_formulas.specs.Marks as mark;
 ghost use Rattle.ab_alternatives.specs.ab_logic.specs.Readings.{HoldsSequent};
 ghost use Rattle.ab_alternatives.specs.ab_logic.specs.Worlds.{IsWorld, Holds, read, declarations_of};
-ghost use Rattle.ab_rules.specs.Steps as plain;
+ghost use Rattle.ab_theory.specs.Steps as plain;
 ghost use Rattle.ab_rules.specs.Answers.{Answers, label_of, row_at};
 
 use crate::lists::one;

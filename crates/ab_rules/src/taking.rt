@@ -3,7 +3,7 @@ ghost use Rattle.std.specs.Prelude.{◌≡◌, ◌≤◌};
 ghost use Rattle.ab_alternatives.specs.ab_logic.specs.Worlds.{IsWorld, declarations_of};
 ghost use Rattle.ab_alternatives.specs.ab_logic.specs.Growth.{Grows};
 ghost use Rattle.ab_alternatives.specs.ab_logic.specs.Readings.{sequent_of, HoldsSequent};
-ghost use Rattle.ab_alternatives.specs.ab_logic.specs.Sequents.{IsSequent};
+ghost use Rattle.ab_formulas.specs.Sequents.{IsSequent};
 ghost use Rattle.ab_rules.specs.Answers.{Answers, row_at, step_of, HoldsStep};
 
 use crate::closing::{equal_right, false_left, initial, true_right};

@@ -1,10 +1,9 @@
 //! The rules that are told a term: what is put for the name of a quantifier, and the formula of a cut.
 ghost use Rattle.std.specs.Prelude.{◌≡◌, ◌≤◌};
 ghost use Rattle.ab_alternatives.specs.ab_logic.specs.Readings.{HoldsSequent};
-ghost use Rattle.ab_alternatives.specs.ab_logic.specs.Worlds.{IsWorld, Holds, declarations_of};
+ghost use Rattle.ab_alternatives.specs.ab_logic.specs.Worlds.{IsWorld, Holds, declarations_of, read};
 ghost use Rattle.ab_alternatives.specs.ab_logic.specs.Growth.{Grows};
-ghost use Rattle.ab_rules.specs.Steps as plain;
-ghost use Rattle.ab_alternatives.specs.ab_logic.specs.Worlds.{read};
+ghost use Rattle.ab_theory.specs.Steps as plain;
 ghost use Rattle.ab_rules.specs.Answers.{Answers, label_of, row_at};
 
 use crate::fitting::{fits_in, formula_fits_in};

@@ -7,7 +7,7 @@ ghost use Rattle.ab_alternatives.specs.ab_types.specs.Ids.{HoldsType, type_of};
 ghost use Rattle.ab_alternatives.specs.ab_norm.specs.Nominals.{nominal_of, HoldsNominal};
 ghost use Rattle.ab_alternatives.specs.ab_logic.specs.Worlds.{IsWorld, Holds, HoldsCell, read, variable_of, declarations_of};
 ghost use Rattle.ab_alternatives.specs.ab_logic.specs.Growth.{Grows};
-ghost use Rattle.ab_rules.specs.Rules.{name_term, variable_term, hint_of, raised, applied};
+ghost use Rattle.ab_theory.specs.Rules.{name_term, variable_term, hint_of, raised, applied};
 ghost use Rattle.ab_rules.specs.Terms.{Adds};
 
 use ab_alternatives::below::logic::World;

@@ -2,9 +2,8 @@
 use Rattle.std.proofs.Common.{◌≡◌, ℕ, List}
 use Rattle.ab_term.specs.Logical as plain
 use Rattle.ab_term.specs.Logical.{Logical, conjunction, disjunction}
-use Rattle.ab_term.specs.Terms.{constant, logical, nominal, variable, index, lam, spine, Terms, no_terms, term}
-use Rattle.ab_alike.specs.ab_store.specs.Trees.{Read}
-use Rattle.ab_alike.specs.ab_logic.specs.Forms.{both, either, form_alone, form_with, form_between, form_given, form_of}
+use Rattle.ab_term.specs.Terms.{constant, logical, nominal, variable, index, lam, spine, Terms, no_terms, term, Read}
+use Rattle.ab_formulas.specs.Forms.{both, either, form_alone, form_with, form_between, form_given, form_of}
 
 abbrev Joined : Logical → Read → Read → Read
 Joined l A B = spine (logical l) (term A (term B no_terms))

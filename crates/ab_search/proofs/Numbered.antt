@@ -4,14 +4,13 @@ use Rattle.std.proofs.Common.{◌≡◌, ◌≢◌, inl, inr, ℕ, List, [], ◌
 use Rattle.std.proofs.lemmas.List.Elements.{All-contains}
 use Rattle.std.proofs.lemmas.Slice.Eq.{bytes_eq-Decides}
 use Rattle.ab_term.specs.Terms as tree
-use Rattle.ab_term.specs.Terms.{Head, constant, logical, nominal, variable, index, Term, lam, spine, Terms, no_terms, term}
+use Rattle.ab_term.specs.Terms.{Head, constant, logical, nominal, variable, index, Term, lam, spine, Terms, no_terms, term, Read}
 use Rattle.ab_term.specs.Translation.{translate_head, translate, translate_all}
 use Rattle.ab_term.specs.Variables.{variables}
 use Rattle.ab_term.proofs.Lists.{Contains-none, Contains-cases, Contains-from_map, AllPairs-parts}
-use Rattle.ab_alike.specs.ab_store.specs.Trees.{Read}
-use Rattle.ab_alike.specs.ab_logic.specs.Sequents.{Variable, HoldsOnly, in_terms}
-use Rattle.ab_alike.specs.ab_goals.specs.Goals.{name_in, with_names}
-use Rattle.ab_alike.specs.ab_goals.proofs.Agreeing.{translate_agrees}
+use Rattle.ab_formulas.specs.Sequents.{Variable, HoldsOnly, in_terms}
+use Rattle.ab_formulas.specs.Goals.{name_in, with_names}
+use Rattle.ab_formulas.proofs.GoalsAgreeing.{translate_agrees}
 use Rattle.ab_alike.proofs.Renumbered.{translate_twice}
 
 head_itself : (h : Head ℕ) → translate_head (λ n. n) h ≡ h

@@ -1,10 +1,10 @@
 -- The first goal is closed by the parts of its conclusion, or stays unclosed as they do.
 use Rattle.std.proofs.Common.{◌≡◌, ◌≢◌, ℕ, List, [], ◌∷◌, ◌++◌, refl, sym, ◌∙◌, ap, subst}
-use Rattle.ab_alike.specs.ab_store.specs.Trees.{Read}
-use Rattle.ab_alike.specs.ab_logic.specs.Forms.{both, either, form_of}
-use Rattle.ab_alike.specs.ab_logic.specs.Sequents.{Sequent, proving}
-use Rattle.ab_alike.specs.ab_logic.specs.Worlds.{read, declarations_of}
-use Rattle.ab_alike.specs.ab_logic.specs.declared.world.World.{World}
+use Rattle.ab_term.specs.Terms.{Read}
+use Rattle.ab_formulas.specs.Forms.{both, either, form_of}
+use Rattle.ab_formulas.specs.Sequents.{Sequent, proving}
+use Rattle.ab_progress.specs.ab_logic.specs.Worlds.{read, declarations_of}
+use Rattle.ab_progress.specs.ab_logic.specs.declared.world.World.{World}
 use Rattle.ab_progress.specs.ab_kernel.specs.Layout.{Held}
 use Rattle.ab_progress.specs.Progress.{goals_of, Follows}
 use Rattle.ab_progress.proofs.Following.{follows_on}

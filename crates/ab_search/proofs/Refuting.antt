@@ -3,13 +3,13 @@ use Rattle.std.specs.Prelude.{All, Contains}
 use Rattle.std.proofs.Common.{◌≡◌, inl, inr, ℕ, zero, suc, List, [], ◌∷◌, map, slice_get, Some, None, refl, sym, ◌∙◌, ap, subst}
 use Rattle.std.proofs.lemmas.List.Elements.{All-head, All-tail}
 use Rattle.ab_term.proofs.Lists.{Contains-none, Contains-cases, Contains-here, Contains-there}
-use Rattle.ab_alike.specs.ab_store.specs.Trees.{Read}
-use Rattle.ab_alike.specs.ab_logic.specs.Declarations.{Declarations}
-use Rattle.ab_alike.specs.ab_logic.specs.Forms.{Form, both, either, form_of}
-use Rattle.ab_alike.specs.ab_logic.specs.Sequents.{Hypothesis, Sequent, formulas, proving}
-use Rattle.ab_alike.specs.ab_logic.specs.Worlds.{read}
-use Rattle.ab_alike.specs.ab_logic.specs.declared.world.World.{World}
-use Rattle.ab_alike.specs.ab_analysis.specs.Atoms.{defined_form}
+use Rattle.ab_term.specs.Terms.{Read}
+use Rattle.ab_formulas.specs.Declarations.{Declarations}
+use Rattle.ab_formulas.specs.Forms.{Form, both, either, form_of}
+use Rattle.ab_formulas.specs.Sequents.{Hypothesis, Sequent, formulas, proving}
+use Rattle.ab_progress.specs.ab_logic.specs.Worlds.{read}
+use Rattle.ab_progress.specs.ab_logic.specs.declared.world.World.{World}
+use Rattle.ab_theory.specs.Atoms.{defined_form}
 use Rattle.ab_search.specs.Closing.{Closes, Unfolds, CanBeClosed, by_truth, by_hypothesis, by_equality, by_both, by_left, by_right, by_unfolding}
 use Rattle.ab_search.specs.Choices.{Assumes, Takes, Stays, HasNoParts}
 use Rattle.ab_search.specs.declared.choice.Choice.{Choice}

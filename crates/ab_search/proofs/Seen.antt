@@ -2,27 +2,27 @@
 use Rattle.std.specs.Prelude.{Some, None, Result, Ok, Err, IfOk, slice_get, ◌^◌}
 use Rattle.std.proofs.Common.{◌≡◌, ◌≢◌, ◌<◌, ℕ, List, [], ◌∷◌, ◌++◌, Option, option_map, refl, sym, ◌∙◌, ap, subst, arith}
 use Rattle.ab_alike.specs.ab_solve.specs.Replacing.{Cell}
-use Rattle.ab_alike.specs.ab_store.specs.declared.node.TermId.{TermId}
-use Rattle.ab_alike.specs.ab_unifying.specs.Problem.{cells_read}
-use Rattle.ab_alike.specs.ab_logic.specs.Declarations.{Declarations}
-use Rattle.ab_alike.specs.ab_logic.specs.Forms.{sign_of}
-use Rattle.ab_alike.specs.ab_logic.specs.Growth.{Grows}
-use Rattle.ab_alike.specs.ab_logic.specs.Readings.{sequent_of, HoldsSequent}
-use Rattle.ab_alike.specs.ab_logic.specs.Sequents.{Sequent, IsSequent, goal_names}
-use Rattle.ab_alike.specs.ab_logic.specs.Worlds.{IsWorld, Holds, read, declarations_of}
-use Rattle.ab_alike.specs.ab_logic.specs.declared.world.World.{World}
-use Rattle.ab_alike.specs.ab_logic.specs.declared.sequent.Sequent.{Sequent as Kept}
-use Rattle.ab_alike.specs.ab_marks.specs.Marking.{MayBeUnfolded}
-use Rattle.ab_alike.specs.ab_equate.specs.Solved.{AreCells}
-use Rattle.ab_alike.specs.ab_analysis.specs.Atoms.{Choice, defined_atom, choices_of}
+use Rattle.ab_progress.specs.ab_store.specs.declared.node.TermId.{TermId}
+use Rattle.ab_progress.specs.ab_unifying.specs.Problem.{cells_read}
+use Rattle.ab_formulas.specs.Declarations.{Declarations}
+use Rattle.ab_progress.specs.ab_logic.specs.Forms.{sign_of}
+use Rattle.ab_progress.specs.ab_logic.specs.Growth.{Grows}
+use Rattle.ab_progress.specs.ab_logic.specs.Readings.{sequent_of, HoldsSequent}
+use Rattle.ab_formulas.specs.Sequents.{Sequent, IsSequent, goal_names}
+use Rattle.ab_progress.specs.ab_logic.specs.Worlds.{IsWorld, Holds, read, declarations_of}
+use Rattle.ab_progress.specs.ab_logic.specs.declared.world.World.{World}
+use Rattle.ab_progress.specs.ab_logic.specs.declared.sequent.Sequent.{Sequent as Kept}
+use Rattle.ab_formulas.specs.Marking.{MayBeUnfolded}
+use Rattle.ab_theory.specs.Equations.{AreCells}
+use Rattle.ab_theory.specs.Atoms.{Choice, defined_atom, choices_of}
 use Rattle.ab_progress.specs.ab_alternatives.specs.Matching.{Matches}
 use Rattle.ab_progress.specs.ab_alternatives.specs.Readings.{defined_read, HoldsDefined}
 use Rattle.ab_progress.specs.ab_alternatives.specs.declared.atoms.DefinedAtom.{DefinedAtom}
 use Rattle.ab_progress.specs.ab_alternatives.specs.declared.matching.Match.{Match}
 use Rattle.ab_progress.specs.ab_alternatives.specs.declared.matching.Match.TheVariants.{Closed}
-use Rattle.ab_progress.specs.ab_rules.specs.Steps.{definition_right}
+use Rattle.ab_theory.specs.Steps.{definition_right}
 use Rattle.ab_progress.specs.ab_rules.proofs.NewNumbers.{over_cells}
-use Rattle.ab_progress.specs.ab_kernel.specs.Derivation.{History, open_goals}
+use Rattle.ab_theory.specs.Derivations.{History, open_goals}
 use Rattle.ab_progress.specs.ab_kernel.specs.Layout.{Held, IsProof}
 use Rattle.ab_progress.specs.ab_kernel.proofs.Later.{same_history, still_proof}
 use Rattle.ab_progress.specs.Progress.{goals_of, Follows, TookInto, FailsBy, StuckAt}

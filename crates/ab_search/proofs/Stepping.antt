@@ -5,15 +5,15 @@ use Rattle.std.specs.Prelude.{if◌then◌else◌}
 use Rattle.std.proofs.lemmas.List.Elements.{All-contains}
 use Rattle.std.proofs.lemmas.Slice.Eq.{bytes_eq-Decides}
 use Rattle.ab_term.proofs.Lists.{AllPairs-parts}
-use Rattle.ab_alike.specs.ab_store.specs.Trees.{Read}
+use Rattle.ab_term.specs.Terms.{Read}
 use Rattle.ab_alike.specs.ab_solve.specs.Replacing.{Cell}
-use Rattle.ab_alike.specs.ab_logic.specs.Declarations.{Declarations}
-use Rattle.ab_alike.specs.ab_logic.specs.Forms.{truth_in, both_in, either_in, equal_in}
-use Rattle.ab_alike.specs.ab_logic.specs.Sequents.{Hypothesis, Sequent, IsSequent, named, formula_of, proving}
+use Rattle.ab_formulas.specs.Declarations.{Declarations}
+use Rattle.ab_formulas.specs.Forms.{truth_in, both_in, either_in, equal_in}
+use Rattle.ab_formulas.specs.Sequents.{Hypothesis, Sequent, IsSequent, named, formula_of, proving}
 use Rattle.ab_term.specs.Names.{EqualUpToNames}
 use Rattle.ab_term.specs.Translation.{EqualPastHints}
-use Rattle.ab_alike.specs.ab_logic.specs.Marks.{erased, MarksServeIn}
-use Rattle.ab_progress.specs.ab_rules.specs.Rules.{NamedRule, Fails}
+use Rattle.ab_formulas.specs.Marks.{erased, MarksServeIn}
+use Rattle.ab_theory.specs.Rules.{NamedRule, Fails}
 use Rattle.ab_progress.specs.Progress.{SolvesNothing}
 use Rattle.ab_search.proofs.Refuting.{at_place}
 use Rattle.ab_search.specs.Choices.{Takes}

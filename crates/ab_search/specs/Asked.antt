@@ -1,11 +1,11 @@
 -- What is asked of the first goal while a search goes on, and what became of it. Public contracts don't speak of this.
 use Rattle.std.specs.Prelude.{◌≡◌, ℕ, List, ◌∷◌, All, Some}
-use Rattle.ab_alike.specs.ab_logic.specs.Forms.{sign_of}
-use Rattle.ab_alike.specs.ab_logic.specs.Sequents.{Sequent}
-use Rattle.ab_alike.specs.ab_logic.specs.Worlds.{read, declarations_of}
-use Rattle.ab_alike.specs.ab_logic.specs.declared.world.World.{World}
-use Rattle.ab_alike.specs.ab_marks.specs.Marking.{MayBeUnfolded}
-use Rattle.ab_alike.specs.ab_analysis.specs.Atoms.{defined_atom}
+use Rattle.ab_progress.specs.ab_logic.specs.Forms.{sign_of}
+use Rattle.ab_formulas.specs.Sequents.{Sequent}
+use Rattle.ab_progress.specs.ab_logic.specs.Worlds.{read, declarations_of}
+use Rattle.ab_progress.specs.ab_logic.specs.declared.world.World.{World}
+use Rattle.ab_formulas.specs.Marking.{MayBeUnfolded}
+use Rattle.ab_theory.specs.Atoms.{defined_atom}
 use Rattle.ab_progress.specs.ab_alternatives.specs.Readings.{defined_read, HoldsDefined}
 use Rattle.ab_progress.specs.ab_alternatives.specs.declared.atoms.DefinedAtom.{DefinedAtom}
 use Rattle.ab_progress.specs.ab_kernel.specs.Layout.{Held}

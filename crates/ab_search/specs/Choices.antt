@@ -3,12 +3,12 @@
 use Rattle.std.specs.Prelude.{◌≡◌, ◌≢◌, List, [], ◌∷◌, map, All, Some, slice_get}
 use Rattle.ab_term.specs.Types.{Ty}
 use Rattle.ab_term.specs.Translation.{EqualPastHints}
-use Rattle.ab_alike.specs.ab_store.specs.Trees.{Read}
-use Rattle.ab_alike.specs.ab_logic.specs.Forms.{Form, truth, equal, both, either, form_of}
-use Rattle.ab_alike.specs.ab_logic.specs.Marks.{erased}
-use Rattle.ab_alike.specs.ab_logic.specs.Sequents.{Hypothesis, Sequent, formulas, proving}
-use Rattle.ab_alike.specs.ab_logic.specs.Worlds.{read, Holds}
-use Rattle.ab_alike.specs.ab_logic.specs.declared.world.World.{World}
+use Rattle.ab_term.specs.Terms.{Read}
+use Rattle.ab_formulas.specs.Forms.{Form, truth, equal, both, either, form_of}
+use Rattle.ab_formulas.specs.Marks.{erased}
+use Rattle.ab_formulas.specs.Sequents.{Hypothesis, Sequent, formulas, proving}
+use Rattle.ab_progress.specs.ab_logic.specs.Worlds.{read, Holds}
+use Rattle.ab_progress.specs.ab_logic.specs.declared.world.World.{World}
 use Rattle.ab_search.specs.Closing.{Closes}
 use Rattle.ab_search.specs.declared.bare.Bare.{Bare}
 use Rattle.ab_search.specs.declared.choice.Choice.{Choice}

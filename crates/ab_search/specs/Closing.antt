@@ -6,18 +6,18 @@ use Rattle.ab_term.specs.Names.{EqualUpToNames}
 use Rattle.ab_term.specs.Translation.{EqualPastHints}
 use Rattle.ab_term.specs.Variables.{Substitution, image}
 use Rattle.ab_term.specs.Sameness.{same_number}
-use Rattle.ab_alike.specs.ab_store.specs.Trees.{Read}
+use Rattle.ab_term.specs.Terms.{Read}
 use Rattle.ab_alike.specs.ab_solve.specs.Replacing.{Cell}
 use Rattle.ab_alike.specs.ab_solve.specs.Solving.{unified, Solves}
-use Rattle.ab_alike.specs.ab_logic.specs.Declarations.{Declarations}
-use Rattle.ab_alike.specs.ab_logic.specs.Forms.{truth, equal, both, either, form_of}
-use Rattle.ab_alike.specs.ab_logic.specs.Marks.{erased, MarksServeIn}
-use Rattle.ab_alike.specs.ab_logic.specs.Sequents.{Hypothesis, Sequent, goal_names, proving}
-use Rattle.ab_alike.specs.ab_marks.specs.Marking.{MayBeUnfolded}
-use Rattle.ab_alike.specs.ab_equate.specs.Solved.{AreCells, made}
-use Rattle.ab_alike.specs.ab_equate.specs.Cases.{problem_of}
-use Rattle.ab_alike.specs.ab_analysis.specs.Atoms.{Defined, Choice, defined_atom, choices_of}
-use Rattle.ab_alike.specs.ab_analysis.specs.Right.{unfolding_case}
+use Rattle.ab_formulas.specs.Declarations.{Declarations}
+use Rattle.ab_formulas.specs.Forms.{truth, equal, both, either, form_of}
+use Rattle.ab_formulas.specs.Marks.{erased, MarksServeIn}
+use Rattle.ab_formulas.specs.Sequents.{Hypothesis, Sequent, goal_names, proving}
+use Rattle.ab_formulas.specs.Marking.{MayBeUnfolded}
+use Rattle.ab_theory.specs.Equations.{AreCells, made}
+use Rattle.ab_theory.specs.Splits.{problem_of}
+use Rattle.ab_theory.specs.Atoms.{Defined, Choice, defined_atom, choices_of}
+use Rattle.ab_theory.specs.Unfolding.{unfolding_case}
 
 -- the formula, assumed, closes a goal with the conclusion: past their marks the first is the second up to a permutation of
 -- nominal constants, and its marks serve

@@ -1,7 +1,6 @@
 -- How deep the parts of a formula lie, so that a search ends. Public contracts don't speak of this.
 use Rattle.std.specs.Prelude.{ℕ, zero, suc, max}
-use Rattle.ab_term.specs.Terms.{lam, spine, no_terms, term}
-use Rattle.ab_alike.specs.ab_store.specs.Trees.{Read}
+use Rattle.ab_term.specs.Terms.{lam, spine, no_terms, term, Read}
 
 -- how often a term with two arguments stands in another at most
 abbrev pub layers : Read → ℕ

@@ -1,7 +1,7 @@
 -- The steps of the kernel that choices are. Public contracts don't speak of this.
 use Rattle.std.specs.Prelude.{ℕ, List, [], Option, Some, None, slice_get, true, false}
-use Rattle.ab_alike.specs.ab_logic.specs.Sequents.{Hypothesis, Sequent}
-use Rattle.ab_progress.specs.ab_rules.specs.Steps.{Step, initial, true_right, equal_right, and_right, or_right}
+use Rattle.ab_formulas.specs.Sequents.{Hypothesis, Sequent}
+use Rattle.ab_theory.specs.Steps.{Step, initial, true_right, equal_right, and_right, or_right}
 use Rattle.ab_search.specs.declared.choice.Choice.{Choice}
 use Rattle.ab_search.specs.declared.choice.Choice.TheVariants.{Truth, Hypothesis as ByHypothesis, Equality, Both, Left, Right}
 

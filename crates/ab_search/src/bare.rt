@@ -1,14 +1,14 @@
 //! Formulas beside what they are without their marks.
 ghost use Rattle.std.specs.Prelude.{◌≡◌, IfOk, All, map};
-ghost use Rattle.ab_alike.specs.ab_logic.specs.Growth.{Grows};
-ghost use Rattle.ab_alike.specs.ab_logic.specs.Worlds.{IsWorld, Holds, declarations_of};
-ghost use Rattle.ab_alike.specs.ab_logic.specs.declared.sequent.Hypothesis.{Hypothesis as AHypothesis};
+ghost use Rattle.ab_progress.specs.ab_logic.specs.Growth.{Grows};
+ghost use Rattle.ab_progress.specs.ab_logic.specs.Worlds.{IsWorld, Holds, declarations_of};
+ghost use Rattle.ab_progress.specs.ab_logic.specs.declared.sequent.Hypothesis.{Hypothesis as AHypothesis};
 ghost use Rattle.ab_search.specs.Choices.{IsBare};
 ghost use Rattle.ab_search.specs.declared.bare.Bare.{Bare as ABare};
 
-use ab_alike::below::logic::{Hypothesis, World};
-use ab_alike::below::marks::without_marks;
-use ab_alike::below::store::TermId;
+use ab_goals::below::logic::{Hypothesis, World};
+use ab_marks::without_marks;
+use ab_goals::below::store::TermId;
 use std::alloc::{AllocError, Global};
 
 /// A formula, and the same without its marks.

@@ -1,19 +1,19 @@
 //! What the crates above name of the libraries below through this one.
 
 pub mod types {
-    pub use ab_alike::below::types::{Name, Steps};
+    pub use ab_goals::below::types::{Name, Steps};
 }
 
 pub mod store {
-    pub use ab_alike::below::store::TermId;
+    pub use ab_goals::below::store::TermId;
 }
 
 pub mod logic {
-    pub use ab_alike::below::logic::{DefineFault, Sequent, World};
+    pub use ab_goals::below::logic::{DefineFault, Sequent, World};
 }
 
 pub mod printing {
-    pub use ab_alike::below::printing::{show_goal, show_other, show_reply, show_term};
+    pub use ab_goals::below::printing::{show_goal, show_other, show_reply, show_term};
 }
 
 pub mod kernel {

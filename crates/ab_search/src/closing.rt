@@ -1,7 +1,7 @@
 //! The first goal is closed, if it can be: each choice is taken as a step, the goals that it leads to are closed in turn,
 //! and it is taken back where one of them can't be.
 ghost use Rattle.std.specs.Prelude.{◌≡◌, ◌≢◌, [], IfOk, IsTrue, IsFalse};
-ghost use Rattle.ab_alike.specs.ab_logic.specs.Worlds.{IsWorld};
+ghost use Rattle.ab_progress.specs.ab_logic.specs.Worlds.{IsWorld};
 ghost use Rattle.ab_progress.specs.ab_kernel.specs.Layout.{IsProof};
 ghost use Rattle.ab_progress.specs.Progress.{goals_of, Follows};
 ghost use Rattle.ab_search.specs.Asked.{AreGiven, IsAsked, MayUnfold, IsClosed, StaysOpen, IsClosedUnfolded, UnfoldsToNone};
@@ -12,8 +12,8 @@ use crate::deciding::at_once;
 use crate::taking::take;
 use crate::unfolding::{Unfolded, atom_to_unfold, unfold_by};
 use crate::viewing::{View, look};
-use ab_alike::below::logic::World;
-use ab_alike::below::types::Steps;
+use ab_goals::below::logic::World;
+use ab_goals::below::types::Steps;
 use ab_progress::below::alternatives::DefinedAtom;
 use ab_progress::below::kernel::Proof;
 use ab_progress::take_back;

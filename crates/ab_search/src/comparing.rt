@@ -2,16 +2,16 @@
 ghost use Rattle.std.specs.Prelude.{◌≡◌, ◌↔◌, IfOk, IfSome, IsNone, IsTrue, All, Some, slice_get};
 ghost use Rattle.ab_term.specs.Names.{EqualUpToNames};
 ghost use Rattle.ab_term.specs.Translation.{EqualPastHints};
-ghost use Rattle.ab_alike.specs.ab_logic.specs.Worlds.{IsWorld, Holds, read};
+ghost use Rattle.ab_progress.specs.ab_logic.specs.Worlds.{IsWorld, Holds, read};
 ghost use Rattle.ab_search.specs.Closing.{Closes};
 ghost use Rattle.ab_search.specs.Choices.{IsBare};
 ghost use Rattle.ab_search.specs.declared.bare.Bare.{Bare as ABare};
 
 use crate::bare::Bare;
-use ab_alike::below::logic::World;
-use ab_alike::below::marks::marks_serve_in;
-use ab_alike::below::norm::{equal, equal_up_to_names};
-use ab_alike::below::store::TermId;
+use ab_goals::below::logic::World;
+use ab_marks::marks_serve_in;
+use ab_marks::below::norm::{equal, equal_up_to_names};
+use ab_goals::below::store::TermId;
 use std::alloc::{AllocError, Global};
 
 /// Whether the two terms are the same past their hints.

@@ -2,17 +2,17 @@
 ghost use Rattle.std.specs.Prelude.{◌≡◌, ◌≢◌, [], IfOk, IfSome, IsNone, All};
 ghost use Rattle.ab_term.specs.Types.{Ty};
 ghost use Rattle.ab_term.specs.Translation.{EqualPastHints};
-ghost use Rattle.ab_alike.specs.ab_store.specs.Trees.{Read};
-ghost use Rattle.ab_alike.specs.ab_logic.specs.Forms.{form_of, truth, equal};
-ghost use Rattle.ab_alike.specs.ab_logic.specs.Sequents.{Sequent, proving};
-ghost use Rattle.ab_alike.specs.ab_logic.specs.Worlds.{IsWorld, Holds, read};
+ghost use Rattle.ab_term.specs.Terms.{Read};
+ghost use Rattle.ab_formulas.specs.Forms.{form_of, truth, equal};
+ghost use Rattle.ab_formulas.specs.Sequents.{Sequent, proving};
+ghost use Rattle.ab_progress.specs.ab_logic.specs.Worlds.{IsWorld, Holds, read};
 ghost use Rattle.ab_search.specs.Choices.{IsBare, Assumes, Takes, Stays};
 
 use crate::bare::Bare;
 use crate::choice::Choice;
 use crate::comparing::{are_equal, closing};
-use ab_alike::below::logic::{Form, World, shape};
-use ab_alike::below::store::TermId;
+use ab_goals::below::logic::{Form, World, shape};
+use ab_goals::below::store::TermId;
 use std::alloc::{AllocError, Global};
 
 /// What closes a goal by the form of its conclusion.

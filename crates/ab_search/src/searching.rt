@@ -1,7 +1,7 @@
 //! Search: a goal is closed outright.
 ghost use Rattle.std.specs.Prelude.{◌≡◌, ◌≢◌, [], ◌∷◌, List, Err, IfOk, IsTrue, IsFalse, OnOk, OnErr};
-ghost use Rattle.ab_alike.specs.ab_logic.specs.Sequents.{Sequent};
-ghost use Rattle.ab_alike.specs.ab_logic.specs.Worlds.{IsWorld, declarations_of};
+ghost use Rattle.ab_formulas.specs.Sequents.{Sequent};
+ghost use Rattle.ab_progress.specs.ab_logic.specs.Worlds.{IsWorld, declarations_of};
 ghost use Rattle.ab_progress.specs.ab_kernel.specs.Layout.{history_of, IsProof};
 ghost use Rattle.ab_progress.specs.Progress.{goals_of, Follows};
 ghost use Rattle.ab_search.specs.Asked.{IsClosed, StaysOpen};
@@ -10,8 +10,8 @@ ghost use Rattle.ab_search.specs.Closing.{CanBeClosed};
 use crate::bare::{with_bare, with_bare_all};
 use crate::closing::close;
 use crate::fault::SearchFault;
-use ab_alike::below::logic::World;
-use ab_alike::below::types::Steps;
+use ab_goals::below::logic::World;
+use ab_goals::below::types::Steps;
 use ab_progress::below::kernel::Proof;
 use ab_progress::{first_goal, take_back};
 use std::alloc::{AllocError, Global};

@@ -1,9 +1,9 @@
 //! Choices as steps of the kernel.
 ghost use Rattle.std.specs.Prelude.{◌≡◌, ◌≢◌, [], ◌∷◌, ◌++◌, IfOk, OnOk, List, slice_get};
-ghost use Rattle.ab_alike.specs.ab_logic.specs.Readings.{sequent_of};
-ghost use Rattle.ab_alike.specs.ab_logic.specs.Sequents.{Sequent as AGoal};
-ghost use Rattle.ab_alike.specs.ab_logic.specs.Worlds.{IsWorld};
-ghost use Rattle.ab_alike.specs.ab_logic.specs.declared.world.World.{World as AWorld};
+ghost use Rattle.ab_progress.specs.ab_logic.specs.Readings.{sequent_of};
+ghost use Rattle.ab_formulas.specs.Sequents.{Sequent as AGoal};
+ghost use Rattle.ab_progress.specs.ab_logic.specs.Worlds.{IsWorld};
+ghost use Rattle.ab_progress.specs.ab_logic.specs.declared.world.World.{World as AWorld};
 ghost use Rattle.ab_progress.specs.ab_rules.specs.Answers.{step_of, HoldsStep};
 ghost use Rattle.ab_progress.specs.ab_kernel.specs.Layout.{IsProof};
 ghost use Rattle.ab_progress.specs.Progress.{goals_of, Follows};
@@ -11,9 +11,9 @@ ghost use Rattle.ab_search.specs.Choices.{Takes};
 ghost use Rattle.ab_search.specs.Steps.{name_of, step_for};
 
 use crate::choice::Choice;
-use ab_alike::below::logic::{Sequent, World};
-use ab_alike::below::name::Name;
-use ab_alike::below::types::Steps;
+use ab_goals::below::logic::{Sequent, World};
+use ab_goals::below::name::Name;
+use ab_goals::below::types::Steps;
 use ab_progress::below::kernel::{Proof, Step};
 use ab_progress::{first_goal, surely};
 use std::alloc::{AllocError, Global};

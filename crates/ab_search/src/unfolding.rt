@@ -1,12 +1,12 @@
 //! The conclusion of the first goal is unfolded by a choice, where no variable is left open.
 ghost use Rattle.std.specs.Prelude.{◌≡◌, ◌≢◌, ◌<◌, ◌^◌, [], ◌∷◌, ℕ, Ok, Some, None, IfOk, IfSome, IsNone, slice_get};
-ghost use Rattle.ab_alike.specs.ab_unifying.specs.Problem.{cells_read};
-ghost use Rattle.ab_alike.specs.ab_logic.specs.Growth.{Grows};
-ghost use Rattle.ab_alike.specs.ab_logic.specs.Readings.{HoldsSequent, sequent_of};
-ghost use Rattle.ab_alike.specs.ab_logic.specs.Sequents.{Sequent as APlainGoal, IsSequent, goal_names};
-ghost use Rattle.ab_alike.specs.ab_logic.specs.Worlds.{IsWorld, read, declarations_of};
-ghost use Rattle.ab_alike.specs.ab_equate.specs.Solved.{AreCells};
-ghost use Rattle.ab_alike.specs.ab_analysis.specs.Atoms.{Choice as APlainChoice, defined_atom, choices_of};
+ghost use Rattle.ab_progress.specs.ab_unifying.specs.Problem.{cells_read};
+ghost use Rattle.ab_progress.specs.ab_logic.specs.Growth.{Grows};
+ghost use Rattle.ab_progress.specs.ab_logic.specs.Readings.{HoldsSequent, sequent_of};
+ghost use Rattle.ab_formulas.specs.Sequents.{Sequent as APlainGoal, IsSequent, goal_names};
+ghost use Rattle.ab_progress.specs.ab_logic.specs.Worlds.{IsWorld, read, declarations_of};
+ghost use Rattle.ab_theory.specs.Equations.{AreCells};
+ghost use Rattle.ab_theory.specs.Atoms.{Choice as APlainChoice, defined_atom, choices_of};
 ghost use Rattle.ab_progress.specs.ab_alternatives.specs.Matching.{Matches};
 ghost use Rattle.ab_progress.specs.ab_alternatives.specs.Readings.{defined_read, HoldsDefined};
 ghost use Rattle.ab_progress.specs.ab_alternatives.specs.declared.matching.Match.{Match as AMatch};
@@ -19,8 +19,8 @@ ghost use Rattle.ab_search.specs.declared.bare.Bare.{Bare as ABare};
 ghost use Rattle.ab_search.specs.declared.unfolding.Unfolded.TheVariants.{NoChoice, NotSo, Goal};
 
 use crate::bare::{Bare, with_bare};
-use ab_alike::below::logic::{Sequent, World};
-use ab_alike::below::types::Steps;
+use ab_goals::below::logic::{Sequent, World};
+use ab_goals::below::types::Steps;
 use ab_progress::below::alternatives::{
     DefinedAtom, Match, choice_at, defined_atom, goal_constants, match_choice, may_be_unfolded,
 };

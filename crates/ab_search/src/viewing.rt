@@ -1,9 +1,9 @@
 //! Formulas that are taken apart.
-ghost use Rattle.ab_alike.specs.ab_logic.specs.Worlds.{read};
+ghost use Rattle.ab_progress.specs.ab_logic.specs.Worlds.{read};
 ghost use Rattle.ab_search.specs.Choices.{IsBare, IsView};
 
 use crate::bare::Bare;
-use ab_alike::below::logic::{Form, World, shape};
+use ab_goals::below::logic::{Form, World, shape};
 
 /// A formula by its parts.
 #[derive(Clone, Copy)]

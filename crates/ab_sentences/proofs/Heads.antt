@@ -2,12 +2,11 @@
 use Rattle.std.specs.Prelude.{ℕ, List, [], ◌∷◌, Option, Some, None}
 use Rattle.ab_term.specs.Types.{Ty}
 use Rattle.ab_term.specs.Logical.{equality}
-use Rattle.ab_term.specs.Terms.{Head, logical, lam, Terms, no_terms, term}
+use Rattle.ab_term.specs.Terms.{Head, logical, lam, Terms, no_terms, term, Read}
 use Rattle.ab_term.specs.Typing.{Signature, head_type}
 use Rattle.ab_term.specs.Substitution.{instance}
 use Rattle.ab_term.specs.Beta.{atom, abstraction, application}
 use Rattle.ab_term.proofs.Standing.{HeadHas, Has, AllHave, instance_has, expansion_of_has}
-use Rattle.ab_logic.specs.ab_store.specs.Trees.{Read}
 use Rattle.ab_readings.specs.Types.{PropFree}
 use Rattle.ab_readings.specs.Names.{Name, Resolved, bound, known, free, apply, abs, equal, bind, Binding, binding_head}
 use Rattle.ab_readings.specs.Readings.{Making, Raw, Reads, reads_bound, reads_known, reads_free, reads_apply, reads_abs, reads_equal, reads_bind}

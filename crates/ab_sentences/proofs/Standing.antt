@@ -3,16 +3,15 @@ use Rattle.std.specs.Prelude.{◌≡◌, ℕ, zero, suc, List, [], ◌∷◌, �
 use Rattle.std.proofs.Common.{refl, sym, ◌∙◌, ap, subst}
 use Rattle.ab_term.specs.Types.{Ty, kind, arrow, prop}
 use Rattle.ab_term.specs.Logical.{Logical, truth, falsity, conjunction, disjunction, implication, equality, universal, existential, nabla, judgement, focused_judgement, star, at_sign, plus, hash, spec_universal, spec_implication, spec_conjunction, logical_type}
-use Rattle.ab_term.specs.Terms.{Head, constant, logical, nominal, variable, index, lam, spine, Terms, no_terms, term}
+use Rattle.ab_term.specs.Terms.{Head, constant, logical, nominal, variable, index, lam, spine, Terms, no_terms, term, Read}
 use Rattle.ab_term.specs.Typing.{Signature, type_at, head_type, HasType, TakeType, typed_lam, typed_spine, take_none, take_term}
 use Rattle.ab_term.specs.Names.{support, support_of_all}
 use Rattle.ab_term.specs.Variables.{variables, variables_of_all}
 use Rattle.ab_term.proofs.Standing.{Has, AllHave}
-use Rattle.ab_logic.specs.ab_store.specs.Trees.{Read}
 use Rattle.ab_readings.specs.Types.{PropFree}
 use Rattle.ab_readings.specs.Names.{Binding, quantified, pi, binding_head}
 use Rattle.ab_grammar.specs.declared.Quant.TheVariants.{Forall, Exists, Nabla}
-use Rattle.ab_logic.specs.Formulas.{a_formula, any, places_of, StandsIn, AllStandIn, IsSentence}
+use Rattle.ab_formulas.specs.Formulas.{a_formula, any, places_of, StandsIn, AllStandIn, IsSentence}
 use Rattle.ab_sentences.proofs.Heads.{Admits}
 
 -- quantifiers over what holds no formula, and no marks

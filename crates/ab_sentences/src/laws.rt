@@ -8,7 +8,7 @@ ghost use Rattle.ab_readings.specs.Scopes.{Scope, resolved};
 ghost use Rattle.ab_readings.specs.Readings.{Making, Raw};
 ghost use Rattle.ab_readings.specs.Answers.{IsTheReading, HasNoReading, IsFirstOpen};
 ghost use Rattle.ab_readings.specs.Normal.{normal_form};
-ghost use Rattle.ab_logic.specs.Formulas.{IsSentence};
+ghost use Rattle.ab_formulas.specs.Formulas.{IsSentence};
 ghost use Rattle.ab_sentences.specs.Closed.{IsClosedScope};
 
 /// Where what is declared alone is known, a formula that an expression means speaks of no goal.

@@ -3,16 +3,16 @@ use Rattle.std.specs.Prelude.{IfSome, Result, Ok, Err, OnErr}
 use Rattle.std.proofs.Common.{◌≡◌, ◌≢◌, ℕ, List, [], ◌∷◌, ◌++◌, ◌+◌, suc, length, Option, Some, None, refl, sym, ◌∙◌, ap, subst, arith, append-nil, length-append}
 use Rattle.ab_grammar.specs.CommandTrees as told
 use Rattle.ab_grammar.specs.CommandTrees.{ProofCommand}
-use Rattle.ab_states.specs.ab_logic.specs.Declarations.{Declarations, a_theorem, signature_in, theorem_in}
-use Rattle.ab_states.specs.ab_logic.specs.Formulas.{IsSentence}
+use Rattle.ab_formulas.specs.Declarations.{Declarations, a_theorem, signature_in, theorem_in}
+use Rattle.ab_formulas.specs.Formulas.{IsSentence}
 use Rattle.ab_states.specs.ab_logic.specs.Growth.{Grows}
-use Rattle.ab_states.specs.ab_logic.specs.Names.{Label}
-use Rattle.ab_states.specs.ab_logic.specs.Sequents.{Sequent}
+use Rattle.ab_formulas.specs.Names.{Label}
+use Rattle.ab_formulas.specs.Sequents.{Sequent}
 use Rattle.ab_states.specs.ab_logic.specs.Worlds.{read, Holds, declarations_of, IsWorld}
 use Rattle.ab_states.specs.ab_logic.specs.declared.world.World.{World}
 use Rattle.ab_session.proofs.Counted.{added_in, as_many}
 use Rattle.ab_states.specs.ab_logic.proofs.Growing.{grows_on}
-use Rattle.ab_states.specs.ab_kernel.specs.Derivation.{History, Valid, open_goals, IsDerivation}
+use Rattle.ab_theory.specs.Derivations.{History, Valid, open_goals, IsDerivation}
 use Rattle.ab_states.specs.ab_kernel.specs.Layout.{Held, history_of, IsProof}
 use Rattle.ab_states.specs.ab_kernel.proofs.Later.{same_history, still_proof}
 use Rattle.ab_states.specs.ab_effects.specs.Effect.{effect}

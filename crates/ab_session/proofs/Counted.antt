@@ -2,7 +2,7 @@
 use Rattle.std.proofs.Common.{◌≡◌, ℕ, suc, ◌-◌, List, [], ◌∷◌, ◌++◌, length, take, drop, refl, ◌∙◌, ap}
 use Rattle.ab_states.specs.ab_types.specs.Entries as table
 use Rattle.ab_states.specs.ab_types.specs.Entries.{Table}
-use Rattle.ab_states.specs.ab_logic.specs.Declarations.{Declarations, a_kind, a_constant, a_block, a_program_clause, a_theorem}
+use Rattle.ab_formulas.specs.Declarations.{Declarations, a_kind, a_constant, a_block, a_program_clause, a_theorem}
 use Rattle.ab_states.specs.ab_logic.specs.Worlds.{declared, declaration_of, declared_from}
 use Rattle.ab_states.specs.ab_logic.specs.declared.world.World.{World}
 use Rattle.ab_states.specs.ab_logic.specs.declared.additions.Added.{Added}

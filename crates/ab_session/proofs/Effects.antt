@@ -11,20 +11,20 @@ use Rattle.ab_grammar.specs.CommandTable.{standing}
 use Rattle.ab_grammar.specs.CommandTrees.{Command, ProofCommand}
 use Rattle.ab_states.specs.ab_store.specs.declared.node.TermId.{TermId}
 use Rattle.ab_term.specs.Variables.{variables}
-use Rattle.ab_states.specs.ab_logic.specs.Declarations.{a_theorem, signature_in, theorem_in, theorems_in}
-use Rattle.ab_states.specs.ab_logic.specs.Formulas.{IsSentence}
+use Rattle.ab_formulas.specs.Declarations.{a_theorem, signature_in, theorem_in, theorems_in}
+use Rattle.ab_formulas.specs.Formulas.{IsSentence}
 use Rattle.ab_states.specs.ab_logic.specs.Growth.{Grows}
-use Rattle.ab_states.specs.ab_logic.specs.Sequents.{Sequent, IsSequent}
+use Rattle.ab_formulas.specs.Sequents.{Sequent, IsSequent}
 use Rattle.ab_states.specs.ab_logic.specs.Worlds.{read, Holds, declarations_of}
 use Rattle.ab_states.specs.ab_logic.specs.declared.world.World.{World}
-use Rattle.ab_states.specs.ab_kernel.specs.Derivation.{History, root, proves, open_goals, beginning}
+use Rattle.ab_theory.specs.Derivations.{History, root, proves, open_goals, beginning}
 use Rattle.ab_states.specs.ab_kernel.specs.Layout.{Held, history_of, IsProof}
-use Rattle.ab_states.specs.ab_kernel.proofs.Rooted.{open_are_sequents}
+use Rattle.ab_theory.proofs.Rooted.{open_are_sequents}
 use Rattle.ab_states.specs.ab_command.specs.declared.fault.Cause.{Cause}
 use Rattle.ab_states.specs.ab_command.specs.Reading.{Fails}
 use Rattle.ab_states.specs.ab_progress.specs.Progress.{goals_of}
 use Rattle.ab_states.specs.ab_progress.proofs.Following.{one_at_least}
-use Rattle.ab_states.specs.ab_goals.specs.Goals.{named}
+use Rattle.ab_formulas.specs.Goals.{named}
 use Rattle.ab_states.specs.ab_declare.specs.declared.refusal.Refusal.{Refusal}
 use Rattle.ab_states.specs.ab_declare.specs.declared.refusal.Refusal.TheVariants.{Unknown}
 use Rattle.ab_states.specs.ab_declare.specs.Answers.{IsDeclared, IsDeclined, IsStated}

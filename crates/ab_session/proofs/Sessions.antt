@@ -2,20 +2,20 @@
 use Rattle.std.specs.Prelude.{slice_get, IfSome}
 use Rattle.std.proofs.Common.{◌≡◌, ◌⊎◌, inl, inr, true, ℕ, zero, suc, ◌+◌, List, [], ◌∷◌, ◌++◌, length, map, Option, Some, None, option_map, refl, sym, ◌∙◌, ap, subst, append_assoc, append-nil, length-append}
 use Rattle.ab_term.specs.Types.{Ty}
-use Rattle.ab_states.specs.ab_types.specs.Entries.{Constant}
-use Rattle.ab_states.specs.ab_store.specs.Trees.{Read}
+use Rattle.ab_term.specs.Constants.{Constant}
+use Rattle.ab_term.specs.Terms.{Read}
 use Rattle.ab_grammar.specs.CommandTrees.{Command}
-use Rattle.ab_states.specs.ab_logic.specs.Declarations.{Declarations, Block, a_kind, a_constant, a_block, a_theorem, signature_in, theorem_in, theorems_in}
-use Rattle.ab_states.specs.ab_logic.specs.Formulas.{IsSentence}
+use Rattle.ab_formulas.specs.Declarations.{Declarations, Block, a_kind, a_constant, a_block, a_theorem, signature_in, theorem_in, theorems_in}
+use Rattle.ab_formulas.specs.Formulas.{IsSentence}
 use Rattle.ab_states.specs.ab_logic.specs.Growth.{Grows}
 use Rattle.ab_states.specs.ab_logic.specs.Worlds.{read, first_declarations, declarations_of, defined, IsWorld}
 use Rattle.ab_states.specs.ab_logic.specs.declared.world.World.{World}
-use Rattle.ab_states.specs.ab_logic.proofs.Declaring.{theorems_in-append}
-use Rattle.ab_states.specs.ab_kernel.specs.Derivation.{Derivation, History, root, proves, open_goals, IsDerivation}
+use Rattle.ab_formulas.proofs.Declaring.{theorems_in-append}
+use Rattle.ab_theory.specs.Derivations.{Derivation, History, root, proves, open_goals, IsDerivation}
 use Rattle.ab_states.specs.ab_kernel.specs.Layout.{Held, history_of, IsProof}
 use Rattle.ab_states.specs.ab_kernel.proofs.Later.{same_history, still_proof}
 use Rattle.ab_states.specs.ab_progress.specs.Progress.{goals_of}
-use Rattle.ab_states.specs.ab_goals.specs.Goals.{named}
+use Rattle.ab_formulas.specs.Goals.{named}
 use Rattle.ab_states.specs.ab_declare.specs.Declaring.{Declares, new_kinds, new_constants, new_predicates}
 use Rattle.ab_states.specs.ab_declare.specs.Defining.{predicate_of, block_with}
 use Rattle.ab_states.specs.State as plain

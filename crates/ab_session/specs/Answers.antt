@@ -1,9 +1,9 @@
 -- What a command leaves of a session, by the answer to it.
 use Rattle.std.specs.Prelude.{◌≡◌, ℕ, ◌+◌, List, Option, Some, None, length}
-use Rattle.ab_states.specs.ab_logic.specs.Declarations.{Declarations, theorems_in}
+use Rattle.ab_formulas.specs.Declarations.{Declarations, theorems_in}
 use Rattle.ab_states.specs.ab_logic.specs.Worlds.{declarations_of}
 use Rattle.ab_states.specs.ab_logic.specs.declared.world.World.{World}
-use Rattle.ab_states.specs.ab_kernel.specs.Derivation.{Derivation}
+use Rattle.ab_theory.specs.Derivations.{Derivation}
 use Rattle.ab_states.specs.ab_kernel.specs.Layout.{history_of}
 use Rattle.ab_states.specs.ab_declare.specs.declared.refusal.Refusal.{Refusal}
 use Rattle.ab_states.specs.ab_declare.specs.Moments.{IsMoment, IsRestored}

@@ -1,13 +1,13 @@
 -- What a proof command does to a proof, and to an attempt. Public contracts don't speak of this.
 use Rattle.std.specs.Prelude.{◌≡◌, ◌≢◌, List, [], ◌∷◌, ◌++◌}
 use Rattle.ab_grammar.specs.CommandTrees.{ProofCommand}
-use Rattle.ab_states.specs.ab_logic.specs.Declarations.{a_theorem}
+use Rattle.ab_formulas.specs.Declarations.{a_theorem}
 use Rattle.ab_states.specs.ab_logic.specs.Growth.{Grows}
-use Rattle.ab_states.specs.ab_logic.specs.Names.{Label}
-use Rattle.ab_states.specs.ab_logic.specs.Sequents.{Sequent}
+use Rattle.ab_formulas.specs.Names.{Label}
+use Rattle.ab_formulas.specs.Sequents.{Sequent}
 use Rattle.ab_states.specs.ab_logic.specs.Worlds.{read, declarations_of}
 use Rattle.ab_states.specs.ab_logic.specs.declared.world.World.{World}
-use Rattle.ab_states.specs.ab_kernel.specs.Derivation.{IsDerivation}
+use Rattle.ab_theory.specs.Derivations.{IsDerivation}
 use Rattle.ab_states.specs.ab_kernel.specs.Layout.{Held, history_of, IsProof}
 use Rattle.ab_states.specs.ab_effects.specs.Refusals.{unknown, clash, type_clash, untyped, no_hypothesis, wrong_shape, mark, no_match, not_pattern, unresolved, names_spent}
 use Rattle.ab_states.specs.ab_progress.specs.Progress.{goals_of, Follows}

@@ -4,7 +4,7 @@ use Rattle.ab_states.specs.ab_logic.specs.Worlds.{read, declarations_of}
 use Rattle.ab_states.specs.ab_logic.specs.declared.world.World.{World}
 use Rattle.ab_states.specs.ab_kernel.specs.Layout.{Held}
 use Rattle.ab_states.specs.ab_progress.specs.Progress.{goals_of}
-use Rattle.ab_states.specs.ab_goals.specs.Goals.{named}
+use Rattle.ab_formulas.specs.Goals.{named}
 use Rattle.ab_states.specs.State as plain
 use Rattle.ab_states.specs.State.{State}
 use Rattle.ab_session.specs.declared.attempt.Attempt.{Attempt}

@@ -2,8 +2,8 @@
 ghost use Rattle.std.specs.Prelude.{◌≡◌, ◌++◌, ◌∷◌, [], ℕ, None, IfOk, OnOk, OnErr};
 ghost use Rattle.std.specs.Option.{option_copied};
 ghost use Rattle.ab_syntax.specs.Commands.{proof_command_of};
-ghost use Rattle.ab_states.specs.ab_logic.specs.Declarations.{a_theorem, signature_in, theorem_in};
-ghost use Rattle.ab_states.specs.ab_logic.specs.Formulas.{IsSentence};
+ghost use Rattle.ab_formulas.specs.Declarations.{a_theorem, signature_in, theorem_in};
+ghost use Rattle.ab_formulas.specs.Formulas.{IsSentence};
 ghost use Rattle.ab_states.specs.ab_logic.specs.Growth.{Grows};
 ghost use Rattle.ab_states.specs.ab_logic.specs.Worlds.{read, Holds, declarations_of, IsWorld};
 ghost use Rattle.ab_states.specs.ab_command.specs.Built.{IsBuiltInProof};

@@ -3,7 +3,7 @@ ghost use Rattle.std.specs.Prelude.{◌≡◌, ◌≢◌, ℕ, [], IfOk, IfSome,
 ghost use Rattle.std.specs.Option.{option_copied};
 ghost use Rattle.ab_grammar.specs.CommandTrees.{search};
 ghost use Rattle.ab_syntax.specs.Commands.{proof_command_of};
-ghost use Rattle.ab_states.specs.ab_logic.specs.Names.{Label};
+ghost use Rattle.ab_formulas.specs.Names.{Label};
 ghost use Rattle.ab_states.specs.ab_logic.specs.Worlds.{IsWorld};
 ghost use Rattle.ab_states.specs.ab_kernel.specs.Layout.{history_of, IsProof};
 ghost use Rattle.ab_states.specs.ab_progress.specs.Progress.{goals_of, Follows};

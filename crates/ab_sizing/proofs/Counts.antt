@@ -1,9 +1,8 @@
 -- Heads that are given another number of terms.
 use Rattle.std.proofs.Common.{◌≡◌, ◌≢◌, ℕ, List, [], ◌∷◌, map, length, refl}
 use Rattle.ab_term.specs.Terms as tree
-use Rattle.ab_term.specs.Terms.{terms_of}
-use Rattle.ab_induction.specs.ab_store.specs.declared.node.TermId.{TermId}
-use Rattle.ab_induction.specs.ab_store.specs.Trees.{Read}
+use Rattle.ab_term.specs.Terms.{terms_of, Read}
+use Rattle.ab_marks.specs.ab_store.specs.declared.node.TermId.{TermId}
 use Rattle.ab_sizing.specs.Views.{other, outer_by, quantifier, arrow_role}
 
 module _ (f : TermId → Read) (h : tree.Head ℕ) where

@@ -1,4 +1,2 @@
 pub mod Counts
 pub mod Looks
-pub mod Signs
-pub mod Greatest

@@ -3,14 +3,14 @@ use Rattle.std.proofs.Common.{◌≡◌, ℕ, zero, suc, List, Option, Some, Non
 use Rattle.ab_term.specs.Types.{Ty}
 use Rattle.ab_term.specs.Terms as tree
 use Rattle.ab_term.specs.Logical.{truth, falsity, conjunction, disjunction, implication, equality, universal, existential, nabla, judgement, focused_judgement, star, at_sign, plus, hash, spec_universal, spec_implication, spec_conjunction}
-use Rattle.ab_term.specs.Terms.{constant, nominal, variable, index, logical, lam, spine, Terms, no_terms, term}
-use Rattle.ab_induction.specs.ab_types.specs.Entries.{Table}
-use Rattle.ab_induction.specs.ab_store.specs.Trees.{Read, Contents}
-use Rattle.ab_induction.specs.ab_store.specs.declared.node.TermId.{TermId}
-use Rattle.ab_induction.specs.ab_store.specs.declared.node.Head.{Head}
+use Rattle.ab_term.specs.Terms.{constant, nominal, variable, index, logical, lam, spine, Terms, no_terms, term, Read}
+use Rattle.ab_marks.specs.ab_types.specs.Entries.{Table}
+use Rattle.ab_marks.specs.ab_store.specs.Trees.{Contents}
+use Rattle.ab_marks.specs.ab_store.specs.declared.node.TermId.{TermId}
+use Rattle.ab_marks.specs.ab_store.specs.declared.node.Head.{Head}
 use Rattle.ab_sizing.specs.declared.looking.Outer.{Outer as KeptOuter}
 use Rattle.ab_sizing.specs.declared.looking.Outer.TheVariants.{Under, Arrow, Other}
-use Rattle.ab_induction.specs.Places.{matrix, antecedent, consequent, in_matrix, in_antecedent, in_consequent}
+use Rattle.ab_theory.specs.Induction.{matrix, antecedent, consequent, in_matrix, in_antecedent, in_consequent}
 use Rattle.ab_sizing.specs.Views.{Outer, under, arrow, other, outer_of, outer_read, OfHead}
 
 abbrev pub matrix_by : Read → Outer → Read

@@ -1,7 +1,7 @@
 -- Which level of a mark counts for a new one, by what the new one is put on for.
 use Rattle.std.specs.Prelude.{ℕ}
-use Rattle.ab_induction.specs.ab_logic.specs.Marks.{Sign}
-use Rattle.ab_induction.specs.Levels.{inductive_level, coinductive_level}
+use Rattle.ab_formulas.specs.Marks.{Sign}
+use Rattle.ab_theory.specs.Levels.{inductive_level, coinductive_level}
 use Rattle.ab_sizing.specs.declared.levels.Kind.{Kind}
 use Rattle.ab_sizing.specs.declared.levels.Kind.TheVariants.{Induction, Coinduction}
 

@@ -2,4 +2,3 @@
 pub mod Views
 pub mod Kinds
 -- Libraries that the crates above name through this one.
-pub use Rattle.ab_induction

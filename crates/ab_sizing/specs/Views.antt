@@ -2,13 +2,13 @@
 use Rattle.std.specs.Prelude.{ℕ, ◌<◌, List, Option, Some, None}
 use Rattle.ab_term.specs.Logical.{Logical, universal, nabla, implication}
 use Rattle.ab_term.specs.Terms as tree
-use Rattle.ab_term.specs.Terms.{logical, lam, spine, Terms, no_terms, term}
-use Rattle.ab_induction.specs.ab_types.specs.Entries.{Table}
-use Rattle.ab_induction.specs.ab_store.specs.declared.node.Head.{Head}
-use Rattle.ab_induction.specs.ab_store.specs.Trees.{Read, Contents, tree_of, head_in}
-use Rattle.ab_induction.specs.ab_logic.specs.Marks.{Sign}
-use Rattle.ab_induction.specs.ab_marks.specs.Marking.{with_mark}
-use Rattle.ab_induction.specs.Places.{in_antecedent, in_consequent}
+use Rattle.ab_term.specs.Terms.{logical, lam, spine, Terms, no_terms, term, Read}
+use Rattle.ab_marks.specs.ab_types.specs.Entries.{Table}
+use Rattle.ab_marks.specs.ab_store.specs.declared.node.Head.{Head}
+use Rattle.ab_marks.specs.ab_store.specs.Trees.{Contents, tree_of, head_in}
+use Rattle.ab_formulas.specs.Marks.{Sign}
+use Rattle.ab_formulas.specs.Marking.{with_mark}
+use Rattle.ab_theory.specs.Induction.{in_antecedent, in_consequent}
 use Rattle.ab_sizing.specs.declared.marking.Part.{Part}
 use Rattle.ab_sizing.specs.declared.marking.Part.TheVariants.{Antecedent, Consequent}
 use Rattle.ab_sizing.specs.declared.looking.Role.{Role as KeptRole}

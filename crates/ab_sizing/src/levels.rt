@@ -1,17 +1,17 @@
 //! The level of a new mark in a goal: one above the greatest of its kind.
 ghost use Rattle.std.specs.Prelude.{◌≡◌, ◌^◌, ◌≤◌, MatchOption};
-ghost use Rattle.ab_induction.specs.ab_types.specs.Entries.{Table};
-ghost use Rattle.ab_induction.specs.ab_store.specs.Trees.{Holds, tree_of};
-ghost use Rattle.ab_induction.specs.ab_logic.specs.Forms.{sign_of};
-ghost use Rattle.ab_induction.specs.ab_logic.specs.Marks.{marks_of};
-ghost use Rattle.ab_induction.specs.ab_logic.specs.Readings.{HoldsSequent, sequent_of};
-ghost use Rattle.ab_induction.specs.Levels as plain;
-ghost use Rattle.ab_induction.specs.Levels.{greater, greatest, signs_in};
+ghost use Rattle.ab_marks.specs.ab_types.specs.Entries.{Table};
+ghost use Rattle.ab_marks.specs.ab_store.specs.Trees.{Holds, tree_of};
+ghost use Rattle.ab_marks.specs.ab_logic.specs.Forms.{sign_of};
+ghost use Rattle.ab_formulas.specs.Marks.{marks_of};
+ghost use Rattle.ab_marks.specs.ab_logic.specs.Readings.{HoldsSequent, sequent_of};
+ghost use Rattle.ab_theory.specs.Levels as plain;
+ghost use Rattle.ab_theory.specs.Levels.{greater, greatest, signs_in};
 ghost use Rattle.ab_sizing.specs.Kinds.{level_by};
 
-use ab_induction::below::logic::{Sequent, Sign, World};
-use ab_induction::below::marks::{Seen, look_at};
-use ab_induction::below::store::{Store, TermId};
+use ab_marks::below::logic::{Sequent, Sign, World};
+use ab_marks::{Seen, look_at};
+use ab_marks::below::store::{Store, TermId};
 
 /// What a mark is put on for.
 #[derive(Clone, Copy)]

@@ -2,13 +2,13 @@
 ghost use Rattle.std.specs.Prelude.{◌≡◌, ◌<◌, ℕ, List, All, IfSome, map};
 ghost use Rattle.std.specs.Option.{option_map};
 ghost use Rattle.ab_term.specs.Terms.{terms_of};
-ghost use Rattle.ab_induction.specs.ab_types.specs.Entries.{Table};
-ghost use Rattle.ab_induction.specs.ab_store.specs.Trees.{Holds, tree_of, head_in, logical_of};
-ghost use Rattle.ab_induction.specs.ab_store.specs.declared.node.CellEntry.{CellEntry};
+ghost use Rattle.ab_marks.specs.ab_types.specs.Entries.{Table};
+ghost use Rattle.ab_marks.specs.ab_store.specs.Trees.{Holds, tree_of, head_in, logical_of};
+ghost use Rattle.ab_marks.specs.ab_store.specs.declared.node.CellEntry.{CellEntry};
 ghost use Rattle.ab_sizing.specs.Views.{body_of, role_read, role_of, role_of_constant, outer_read, outer_of, outer_by, PartsBelow, OfHead};
-ghost use Rattle.ab_induction.specs.ab_store.specs.Naming.{IsTypedBy, HoldsHead, HeadIsTyped};
+ghost use Rattle.ab_marks.specs.ab_store.specs.Naming.{IsTypedBy, HoldsHead, HeadIsTyped};
 
-use ab_induction::below::store::{Head, Logical, Node, Store, TermId};
+use ab_marks::below::store::{Head, Logical, Node, Store, TermId};
 
 /// What a head does in a formula that is given a size.
 #[derive(Clone, Copy)]

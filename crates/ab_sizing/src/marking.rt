@@ -1,22 +1,22 @@
 //! The formula with a mark at the atom on which induction or coinduction goes.
 ghost use Rattle.std.specs.Prelude.{◌≡◌, IfOk};
-ghost use Rattle.ab_induction.specs.ab_types.specs.Entries.{Table};
+ghost use Rattle.ab_marks.specs.ab_types.specs.Entries.{Table};
 ghost use Rattle.ab_term.specs.Logical.{implication};
 ghost use Rattle.ab_term.specs.Terms.{logical, spine, term, no_terms};
-ghost use Rattle.ab_induction.specs.ab_store.specs.Trees.{Holds, tree_of};
-ghost use Rattle.ab_induction.specs.ab_norm.specs.Growth.{AddsTerms};
-ghost use Rattle.ab_induction.specs.ab_logic.specs.Forms.{sign_of};
-ghost use Rattle.ab_induction.specs.ab_logic.specs.Growth.{Grows};
-ghost use Rattle.ab_induction.specs.ab_logic.specs.Worlds.{IsWorld, Holds as HoldsIn, read};
-ghost use Rattle.ab_induction.specs.ab_marks.specs.Marking.{with_mark};
-ghost use Rattle.ab_induction.specs.Places as plain;
-ghost use Rattle.ab_induction.specs.Places.{in_matrix, in_antecedent, in_consequent};
+ghost use Rattle.ab_marks.specs.ab_store.specs.Trees.{Holds, tree_of};
+ghost use Rattle.ab_marks.specs.ab_norm.specs.Growth.{AddsTerms};
+ghost use Rattle.ab_marks.specs.ab_logic.specs.Forms.{sign_of};
+ghost use Rattle.ab_marks.specs.ab_logic.specs.Growth.{Grows};
+ghost use Rattle.ab_marks.specs.ab_logic.specs.Worlds.{IsWorld, Holds as HoldsIn, read};
+ghost use Rattle.ab_formulas.specs.Marking.{with_mark};
+ghost use Rattle.ab_theory.specs.Induction as plain;
+ghost use Rattle.ab_theory.specs.Induction.{in_matrix, in_antecedent, in_consequent};
 ghost use Rattle.ab_sizing.specs.Views.{part_marked};
 
 use crate::looking::{Outer, look_at};
-use ab_induction::below::logic::{Sign, World};
-use ab_induction::below::marks::marked;
-use ab_induction::below::store::{Head, Logical, Node, Store, TermId};
+use ab_marks::below::logic::{Sign, World};
+use ab_marks::marked;
+use ab_marks::below::store::{Head, Logical, Node, Store, TermId};
 use std::alloc::{AllocError, Global};
 
 /// Which part under the prefix gets the mark.

@@ -1,17 +1,17 @@
 //! The atoms on which induction and coinduction go.
 ghost use Rattle.std.specs.Prelude.{◌≡◌, IfSome};
 ghost use Rattle.std.specs.Option.{option_map};
-ghost use Rattle.ab_induction.specs.ab_types.specs.Entries.{Table};
-ghost use Rattle.ab_induction.specs.ab_store.specs.Trees.{Holds, tree_of};
-ghost use Rattle.ab_induction.specs.ab_logic.specs.Forms.{sign_of};
-ghost use Rattle.ab_induction.specs.ab_logic.specs.Worlds.{IsWorld, Holds as HoldsIn, read, declarations_of};
-ghost use Rattle.ab_induction.specs.ab_analysis.specs.Atoms.{defined_as, defined_atom};
-ghost use Rattle.ab_induction.specs.Places as plain;
-ghost use Rattle.ab_induction.specs.Places.{matrix, antecedent, consequent, defined_so};
+ghost use Rattle.ab_marks.specs.ab_types.specs.Entries.{Table};
+ghost use Rattle.ab_marks.specs.ab_store.specs.Trees.{Holds, tree_of};
+ghost use Rattle.ab_marks.specs.ab_logic.specs.Forms.{sign_of};
+ghost use Rattle.ab_marks.specs.ab_logic.specs.Worlds.{IsWorld, Holds as HoldsIn, read, declarations_of};
+ghost use Rattle.ab_theory.specs.Atoms.{defined_as, defined_atom};
+ghost use Rattle.ab_theory.specs.Induction as plain;
+ghost use Rattle.ab_theory.specs.Induction.{matrix, antecedent, consequent, defined_so};
 
 use crate::looking::{Outer, body_of, look_at};
-use ab_induction::below::logic::{Form, Sign, World, shape};
-use ab_induction::below::store::{Head, Node, Store, TermId};
+use ab_marks::below::logic::{Form, Sign, World, shape};
+use ab_marks::below::store::{Head, Node, Store, TermId};
 
 /// What stands under the prefix.
 fn matrix(store: &Store, id: TermId) -> TermId

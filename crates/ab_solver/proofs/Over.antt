@@ -3,7 +3,7 @@ use Rattle.std.proofs.Common.{◌≡◌, ℕ, zero, suc, ◌<◌, List, [], ◌�
 use Rattle.std.specs.Prelude.{All}
 use Rattle.std.proofs.lemmas.List.Elements.{All-nil, All-cons, All-head, All-tail, All-map, All-weaker}
 use Rattle.ab_term.specs.Terms as tree
-use Rattle.ab_term.specs.Terms.{Variable, Term, terms_of}
+use Rattle.ab_term.specs.Terms.{Variable, Term, terms_of, Read}
 use Rattle.ab_term.specs.Variables.{Substitution, variables, value_in, image, one_by_one}
 use Rattle.ab_term.specs.Sameness.{same_numbered, same_number}
 use Rattle.ab_term.proofs.Standing.{HeadHas, Has, AllHave, image_by_has}
@@ -14,7 +14,7 @@ use Rattle.ab_unifying.specs.ab_store.specs.declared.node.Head.{Head}
 use Rattle.ab_unifying.specs.ab_store.specs.declared.node.Head.TheVariants.{Const, Logic, Nominal, Cell, Index}
 use Rattle.ab_unifying.specs.ab_store.specs.declared.node.Node.{Node}
 use Rattle.ab_unifying.specs.ab_store.specs.declared.node.Node.TheVariants.{Lam, Spine}
-use Rattle.ab_unifying.specs.ab_store.specs.Trees.{Read, Contents, Holds, head_in, tree_of, node_tree}
+use Rattle.ab_unifying.specs.ab_store.specs.Trees.{Contents, Holds, head_in, tree_of, node_tree}
 use Rattle.ab_unifying.specs.ab_store.specs.Reading.{pairs, reading}
 use Rattle.ab_unifying.specs.ab_store.specs.Naming.{HeadNames, NodeNames, BindingIsTyped, IsTypedBy}
 use Rattle.ab_unifying.specs.ab_store.proofs.Nodes.{terms_from-at}

@@ -3,15 +3,15 @@ use Rattle.std.specs.Prelude.{All}
 use Rattle.std.proofs.Common.{◌≡◌, ℕ, ◌+◌, List, [], ◌∷◌, ◌++◌, map, length, refl, sym, ◌∙◌, ap, subst, append_assoc, append-nil}
 use Rattle.std.proofs.lemmas.List.{length-append}
 use Rattle.std.proofs.lemmas.List.Elements.{All-head, All-tail}
-use Rattle.ab_matching.specs.ab_store.specs.Trees.{Read}
+use Rattle.ab_term.specs.Terms.{Read}
 use Rattle.ab_matching.specs.ab_store.specs.declared.node.TermId.{TermId}
 use Rattle.ab_matching.specs.ab_logic.specs.Growth.{Grows}
-use Rattle.ab_matching.specs.ab_logic.specs.Names.{given}
-use Rattle.ab_matching.specs.ab_logic.specs.Sequents.{Sequent, IsUsed, proving, assuming, without}
+use Rattle.ab_formulas.specs.Names.{given}
+use Rattle.ab_formulas.specs.Sequents.{Sequent, IsUsed, proving, assuming, without}
 use Rattle.ab_matching.specs.ab_logic.specs.Worlds.{Holds, read, declarations_of}
 use Rattle.ab_matching.specs.ab_logic.specs.declared.world.World.{World}
-use Rattle.ab_left.specs.ab_rules.specs.Steps.{cut_formula, weaken}
-use Rattle.ab_left.specs.ab_rules.specs.Rules.{NamedRule}
+use Rattle.ab_theory.specs.Steps.{cut_formula, weaken}
+use Rattle.ab_theory.specs.Rules.{NamedRule}
 use Rattle.ab_left.specs.ab_kernel.specs.Layout.{Held}
 use Rattle.ab_left.specs.ab_progress.specs.Progress.{goals_of, IsAt, TookInto}
 use Rattle.ab_left.proofs.Rows.{no_formula}

@@ -1,10 +1,10 @@
 -- Goals that give way to as many, one step after another.
 use Rattle.std.proofs.Common.{◌≡◌, ℕ, ◌+◌, List, [], ◌∷◌, ◌++◌, length, refl, sym, ◌∙◌, ap, arith, append_assoc, append-nil}
 use Rattle.std.proofs.lemmas.List.{length-append}
-use Rattle.ab_matching.specs.ab_logic.specs.Sequents.{Sequent}
+use Rattle.ab_formulas.specs.Sequents.{Sequent}
 use Rattle.ab_matching.specs.ab_logic.specs.declared.world.World.{World}
 use Rattle.ab_left.specs.ab_kernel.specs.Layout.{Held}
-use Rattle.ab_left.specs.ab_rules.specs.Steps.{Step}
+use Rattle.ab_theory.specs.Steps.{Step}
 use Rattle.ab_left.specs.ab_progress.specs.Progress.{goals_of, IsAt, TookInto}
 use Rattle.ab_staging.specs.Standing.{Gives}
 

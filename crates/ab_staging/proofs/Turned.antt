@@ -6,21 +6,21 @@ use Rattle.ab_matching.specs.ab_types.specs.Entries.{Table}
 use Rattle.ab_matching.specs.ab_types.specs.Ids.{type_of, HoldsType}
 use Rattle.ab_matching.specs.ab_types.specs.declared.ids.TypeId.{TypeId}
 use Rattle.ab_matching.specs.ab_types.proofs.Entries.{same_type, type_still_held}
-use Rattle.ab_matching.specs.ab_store.specs.Trees.{Read}
+use Rattle.ab_term.specs.Terms.{Read}
 use Rattle.ab_matching.specs.ab_store.specs.declared.node.TermId.{TermId}
-use Rattle.ab_matching.specs.ab_logic.specs.Declarations.{Declarations}
+use Rattle.ab_formulas.specs.Declarations.{Declarations}
 use Rattle.ab_matching.specs.ab_logic.specs.Growth.{Grows}
-use Rattle.ab_matching.specs.ab_logic.specs.Names.{Label}
+use Rattle.ab_formulas.specs.Names.{Label}
 use Rattle.ab_matching.specs.ab_logic.specs.Readings.{sequent_of}
-use Rattle.ab_matching.specs.ab_logic.specs.Sequents.{Sequent, formula_of, proving, without}
+use Rattle.ab_formulas.specs.Sequents.{Sequent, formula_of, proving, without}
 use Rattle.ab_matching.specs.ab_logic.specs.Worlds.{Holds, read, declarations_of}
 use Rattle.ab_matching.specs.ab_logic.specs.declared.world.World.{World}
 use Rattle.ab_matching.specs.ab_logic.specs.declared.sequent.Sequent.{Sequent as Kept}
-use Rattle.ab_left.specs.ab_kernel.specs.Derivation.{open_goals}
+use Rattle.ab_theory.specs.Derivations.{open_goals}
 use Rattle.ab_left.specs.ab_kernel.specs.Layout.{Held, history_of, IsProof}
 use Rattle.ab_left.specs.ab_kernel.proofs.Later.{same_history, still_proof}
-use Rattle.ab_matching.specs.ab_using.specs.Pieces.{Given}
-use Rattle.ab_matching.specs.ab_using.specs.Uses.{implied}
+use Rattle.ab_theory.specs.Pieces.{Given}
+use Rattle.ab_theory.specs.Uses.{implied}
 use Rattle.ab_matching.specs.ab_taking.specs.Readings.{given_of}
 use Rattle.ab_matching.specs.ab_taking.specs.declared.given.GivenTerm.{GivenTerm}
 use Rattle.ab_left.specs.ab_effects.specs.Opening.{Opened, Nameless}

@@ -5,7 +5,6 @@ pub use Rattle.ab_matching.specs.ab_types
 pub use Rattle.ab_matching.specs.ab_store
 pub use Rattle.ab_matching.specs.ab_logic
 pub use Rattle.ab_matching.specs.ab_naming
-pub use Rattle.ab_matching.specs.ab_using
 pub use Rattle.ab_matching.specs.ab_taking
 pub use Rattle.ab_matching.specs.ab_putting
 pub use Rattle.ab_left.specs.ab_rules

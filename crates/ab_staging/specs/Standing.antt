@@ -1,12 +1,12 @@
 -- What steps leave of the goal of a place: how many goals, or which.
 use Rattle.std.specs.Prelude.{◌≡◌, ℕ, List, [], ◌∷◌, ◌++◌, map, length}
-use Rattle.ab_matching.specs.ab_store.specs.Trees.{Read}
-use Rattle.ab_matching.specs.ab_logic.specs.Names.{Label}
-use Rattle.ab_matching.specs.ab_logic.specs.Sequents.{Sequent, proving, without}
+use Rattle.ab_term.specs.Terms.{Read}
+use Rattle.ab_formulas.specs.Names.{Label}
+use Rattle.ab_formulas.specs.Sequents.{Sequent, proving, without}
 use Rattle.ab_matching.specs.ab_logic.specs.Worlds.{declarations_of}
 use Rattle.ab_matching.specs.ab_logic.specs.declared.world.World.{World}
 use Rattle.ab_left.specs.ab_kernel.specs.Layout.{Held}
-use Rattle.ab_matching.specs.ab_using.specs.Pieces.{Given}
+use Rattle.ab_theory.specs.Pieces.{Given}
 use Rattle.ab_left.specs.ab_effects.specs.Using.{OpenedBeside, NamelessBeside}
 use Rattle.ab_left.specs.ab_progress.specs.Progress.{goals_of, IsAt, GaveWay}
 

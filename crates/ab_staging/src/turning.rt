@@ -5,7 +5,7 @@ ghost use Rattle.ab_matching.specs.ab_logic.specs.Growth.{Grows};
 ghost use Rattle.ab_matching.specs.ab_logic.specs.Worlds.{IsWorld, Holds, read, declarations_of};
 ghost use Rattle.ab_left.specs.ab_kernel.specs.Layout.{IsProof};
 ghost use Rattle.ab_matching.specs.ab_taking.specs.Readings.{given_of};
-ghost use Rattle.ab_matching.specs.ab_using.specs.Uses as uses;
+ghost use Rattle.ab_theory.specs.Uses as uses;
 ghost use Rattle.ab_left.specs.ab_effects.specs.Using as spec;
 ghost use Rattle.ab_left.specs.ab_progress.specs.Progress.{Follows};
 ghost use Rattle.ab_staging.specs.Standing.{Gives, Turns};

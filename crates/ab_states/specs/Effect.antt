@@ -2,16 +2,16 @@
 use Rattle.std.specs.Prelude.{◌≡◌, ℕ, List, [], ◌∷◌, ◌++◌, map, Bool, Option, Some, None}
 use Rattle.ab_grammar.specs.Tree.{Tree}
 use Rattle.ab_grammar.specs.CommandTrees.{Command, ProofCommand, theorem, show, quit, subgoals, abort, in_proof}
-use Rattle.ab_search.specs.ab_store.specs.Trees.{Read}
-use Rattle.ab_search.specs.ab_logic.specs.Declarations.{Declarations, a_theorem, theorem_in}
-use Rattle.ab_search.specs.ab_logic.specs.Names.{Label}
-use Rattle.ab_search.specs.ab_logic.specs.Sequents as numbered
-use Rattle.ab_search.specs.ab_logic.specs.Sequents.{Sequent}
-use Rattle.ab_search.specs.ab_kernel.specs.Derivation.{proves}
+use Rattle.ab_term.specs.Terms.{Read}
+use Rattle.ab_formulas.specs.Declarations.{Declarations, a_theorem, theorem_in}
+use Rattle.ab_formulas.specs.Names.{Label}
+use Rattle.ab_formulas.specs.Sequents as numbered
+use Rattle.ab_formulas.specs.Sequents.{Sequent}
+use Rattle.ab_theory.specs.Derivations.{proves}
 use Rattle.ab_command.specs.declared.fault.Cause.{Cause}
 use Rattle.ab_command.specs.Reading.{Says, Fails}
 use Rattle.ab_declare.specs.declared.refusal.Refusal.{Refusal}
-use Rattle.ab_search.specs.ab_goals.specs.Goals.{Goal, named, IsNumbered}
+use Rattle.ab_formulas.specs.Goals.{Goal, named, IsNumbered}
 use Rattle.ab_states.specs.State.{Attempt, State, is_open, keeping, declaring, proving, closed, showing}
 use Rattle.ab_states.specs.Reply as reply
 use Rattle.ab_states.specs.Reply.{Reply, accepted, completed, shown, refused, unread_for}

@@ -1,9 +1,9 @@
 -- What a proof command makes of the current goal: `search` closes it, and each other command goes by its row.
 use Rattle.std.specs.Prelude.{◌≡◌, ℕ, List, []}
 use Rattle.ab_grammar.specs.CommandTrees.{ProofCommand, search}
-use Rattle.ab_search.specs.ab_logic.specs.Declarations.{Declarations}
-use Rattle.ab_search.specs.ab_logic.specs.Names.{Label}
-use Rattle.ab_search.specs.ab_logic.specs.Sequents.{Sequent}
+use Rattle.ab_formulas.specs.Declarations.{Declarations}
+use Rattle.ab_formulas.specs.Names.{Label}
+use Rattle.ab_formulas.specs.Sequents.{Sequent}
 use Rattle.ab_search.specs.ab_effects.specs.Effect.{effect}
 use Rattle.ab_search.specs.ab_effects.specs.Refusals as row
 use Rattle.ab_search.specs.ab_effects.specs.Row.{Leads, Refuses}

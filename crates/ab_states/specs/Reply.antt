@@ -1,7 +1,7 @@
 -- What a session answers to a command, over plain terms.
 use Rattle.std.specs.Prelude.{◌≡◌, ℕ, List, [], Bool, true, false}
 use Rattle.ab_term.specs.Variables.{variables}
-use Rattle.ab_search.specs.ab_store.specs.Trees.{Read}
+use Rattle.ab_term.specs.Terms.{Read}
 use Rattle.ab_search.specs.ab_logic.specs.Worlds.{read, Holds}
 use Rattle.ab_search.specs.ab_logic.specs.declared.world.World.{World}
 use Rattle.ab_command.specs.declared.fault.Cause.{Cause}

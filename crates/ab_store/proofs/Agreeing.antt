@@ -13,7 +13,8 @@ use Rattle.ab_store.specs.declared.node.CellId.{CellId}
 use Rattle.ab_store.specs.declared.node.Node.{Node}
 use Rattle.ab_store.specs.declared.node.CellEntry.{CellEntry}
 use Rattle.ab_store.specs.declared.node.Binding.{Binding}
-use Rattle.ab_store.specs.Trees.{Read, Contents, cell_of, tree_of, terms_from}
+use Rattle.ab_term.specs.Terms.{Read}
+use Rattle.ab_store.specs.Trees.{Contents, cell_of, tree_of, terms_from}
 use Rattle.ab_store.specs.Reading.{pairs, reading}
 use Rattle.ab_store.specs.Bindings.{cells_of, StandsIn, AreInOrder}
 use Rattle.ab_store.specs.Naming.{NodeIsTyped, NodesNameEarlier, BindingIsTyped, IsTypedBy, IsTerm}

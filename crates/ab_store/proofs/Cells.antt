@@ -3,7 +3,7 @@ use Rattle.std.proofs.Common.{◌≡◌, ℕ, zero, suc, List, [], ◌∷◌, �
 use Rattle.std.specs.Prelude.{All, Contains}
 use Rattle.std.proofs.lemmas.List.{map-append}
 use Rattle.std.proofs.lemmas.List.Elements.{All-nil, All-cons, All-append}
-use Rattle.ab_term.specs.Terms.{Variable, Terms, terms_of}
+use Rattle.ab_term.specs.Terms.{Variable, Terms, terms_of, Read}
 use Rattle.ab_term.specs.Variables.{variables_of_head, variables, variables_of_all}
 use Rattle.ab_term.proofs.Lists.{Contains-map, Contains-from_map}
 use Rattle.ab_types.specs.Entries.{Table}
@@ -15,7 +15,7 @@ use Rattle.ab_store.specs.declared.node.Head.TheVariants.{Const, Logic, Nominal,
 use Rattle.ab_store.specs.declared.node.Node.{Node}
 use Rattle.ab_store.specs.declared.node.Node.TheVariants.{Lam, Spine}
 use Rattle.ab_store.specs.declared.node.CellEntry.{CellEntry}
-use Rattle.ab_store.specs.Trees.{Read, Contents, cell_in, head_in, term_at, term_of_node, terms_from, tree_of}
+use Rattle.ab_store.specs.Trees.{Contents, cell_in, head_in, term_at, term_of_node, terms_from, tree_of}
 use Rattle.ab_store.specs.Bindings.{cells_of}
 use Rattle.ab_store.proofs.Nodes.{none, each_tree}
 

@@ -1,14 +1,14 @@
 -- A nominal constant of a kind, as a term.
 use Rattle.std.proofs.Common.{◌≡◌, ℕ, List, [], map, sym, ◌∙◌, ap, subst, Some}
 use Rattle.ab_term.specs.Types.{Ty, kind}
-use Rattle.ab_term.specs.Terms.{Nominal, nominal, spine, no_terms, terms_of}
+use Rattle.ab_term.specs.Terms.{Nominal, nominal, spine, no_terms, terms_of, Read}
 use Rattle.ab_term.specs.Typing.{Signature, HasType, typed_spine, take_none}
 use Rattle.ab_types.specs.Entries.{Table, signature}
 use Rattle.ab_types.specs.Ids.{type_of}
 use Rattle.ab_types.specs.declared.ids.TypeId.{TypeId}
 use Rattle.ab_store.specs.declared.node.TermId.{TermId}
 use Rattle.ab_store.specs.declared.node.Head.TheVariants as head
-use Rattle.ab_store.specs.Trees.{Read, Contents, Holds, tree_of, head_reading}
+use Rattle.ab_store.specs.Trees.{Contents, Holds, tree_of, head_reading}
 use Rattle.ab_store.specs.Naming.{IsTerm}
 
 name_typed : (sg : Signature) (a : Nominal) (k : List ℕ) → a.type ≡ kind k → HasType sg {Var = ℕ} {Hint = List ℕ} [] (spine (nominal a) no_terms) (kind k)

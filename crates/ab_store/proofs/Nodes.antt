@@ -4,7 +4,7 @@ use Rattle.std.proofs.lemmas.List.{get_or_append_left, get_or_push}
 use Rattle.std.proofs.lemmas.List.Elements.{All-head, All-tail}
 use Rattle.std.specs.List.{All}
 use Rattle.ab_term.specs.Terms as tree
-use Rattle.ab_term.specs.Terms.{lam, spine, terms_of, no_terms}
+use Rattle.ab_term.specs.Terms.{lam, spine, terms_of, no_terms, Read}
 use Rattle.ab_types.specs.Entries.{Table}
 use Rattle.ab_types.specs.Ids.{type_of}
 use Rattle.ab_store.specs.declared.node.TermId.{TermId}
@@ -13,7 +13,7 @@ use Rattle.ab_store.specs.declared.node.Head.TheVariants.{Const, Logic, Nominal,
 use Rattle.ab_store.specs.declared.node.Node.{Node}
 use Rattle.ab_store.specs.declared.node.Node.TheVariants.{Lam, Spine}
 use Rattle.ab_store.specs.declared.node.CellEntry.{CellEntry}
-use Rattle.ab_store.specs.Trees.{Read, head_in, term_at, term_of_node, terms_from}
+use Rattle.ab_store.specs.Trees.{head_in, term_at, term_of_node, terms_from}
 use Rattle.ab_store.specs.Naming.{HeadNames, NodeNames, NodesNameEarlier}
 
 -- what stands for an id that isn't there

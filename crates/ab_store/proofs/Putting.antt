@@ -5,7 +5,7 @@ use Rattle.std.specs.Cmp.{unsigned_Decides}
 use Rattle.std.proofs.lemmas.List.{map-append, get_or_at, get_or_append_left}
 use Rattle.std.proofs.lemmas.List.Elements.{All-head, All-tail, All-map, All-weaker, All-contains}
 use Rattle.ab_term.specs.Types.{Ty, kind, same_type}
-use Rattle.ab_term.specs.Terms.{Variable, term, terms_of}
+use Rattle.ab_term.specs.Terms.{Variable, term, terms_of, Read}
 use Rattle.ab_term.specs.Typing.{HasType, TakeType, typed_spine, take_term}
 use Rattle.ab_term.specs.Reach.{reach}
 use Rattle.ab_term.specs.Sameness.{same_number}
@@ -23,7 +23,7 @@ use Rattle.ab_store.specs.declared.node.Head.{Head}
 use Rattle.ab_store.specs.declared.node.Node.{Node}
 use Rattle.ab_store.specs.declared.node.Node.TheVariants.{Lam, Spine}
 use Rattle.ab_store.specs.declared.node.Binding.{Binding}
-use Rattle.ab_store.specs.Trees.{Read, Contents, cell_of, tree_of, head_reading, node_tree, trees}
+use Rattle.ab_store.specs.Trees.{Contents, cell_of, tree_of, head_reading, node_tree, trees}
 use Rattle.ab_store.specs.Reading.{bound_in, binding_of, cell_variable, pairs, reading, value_of, given, node_reading}
 use Rattle.ab_store.specs.Bindings.{cells_of, StandsIn, IsResolved, AreInOrder}
 use Rattle.ab_store.specs.Naming.{BindingIsTyped, IsTypedBy}

@@ -4,7 +4,7 @@ use Rattle.std.specs.List.{All}
 use Rattle.std.proofs.lemmas.List.Elements.{All-head, All-tail, All-weaker}
 use Rattle.ab_term.specs.Logical as plain
 use Rattle.ab_term.specs.Terms as tree
-use Rattle.ab_term.specs.Terms.{lam, spine, terms_of}
+use Rattle.ab_term.specs.Terms.{lam, spine, terms_of, Read}
 use Rattle.ab_term.specs.Types.{Ty}
 use Rattle.ab_term.specs.Typing.{HasType}
 use Rattle.ab_term.specs.Sameness.{same_number}
@@ -21,7 +21,7 @@ use Rattle.ab_store.specs.declared.node.Head.TheVariants.{Const, Logic, Nominal,
 use Rattle.ab_store.specs.declared.node.Node.{Node}
 use Rattle.ab_store.specs.declared.node.Node.TheVariants.{Lam, Spine}
 use Rattle.ab_store.specs.declared.node.CellEntry.{CellEntry}
-use Rattle.ab_store.specs.Trees.{Read, Contents, cell_in, cell_of, logical_of, head_in, term_at, term_of_node, terms_from, tree_of}
+use Rattle.ab_store.specs.Trees.{Contents, cell_in, cell_of, logical_of, head_in, term_at, term_of_node, terms_from, tree_of}
 use Rattle.ab_store.specs.Reading.{pairs, reading}
 use Rattle.ab_store.specs.Naming.{HeadNames, NodeNames, LogicalIsTyped, HeadIsTyped, NodeIsTyped, BindingIsTyped, IsTypedBy, IsTerm}
 use Rattle.ab_store.specs.declared.node.Binding.{Binding}

@@ -1,13 +1,12 @@
 -- What is known of a list of terms, one by one.
 use Rattle.std.proofs.Common.{◌≡◌, ℕ, ◌+◌, ◌<◌, max, List, [], ◌∷◌, ◌++◌, map, take, length, get_or, sym, ◌∙◌, ap, arith, append_assoc, append-nil}
 use Rattle.std.proofs.lemmas.List.{map_more}
-use Rattle.ab_term.specs.Terms.{terms_of}
+use Rattle.ab_term.specs.Terms.{terms_of, Read}
 use Rattle.ab_term.specs.Reach.{reach, reach_of_all}
 use Rattle.ab_term.specs.Names.{support, support_of_all}
 use Rattle.ab_term.specs.Variables.{variables, variables_of_all}
 use Rattle.ab_store.specs.declared.node.TermId.{TermId}
 use Rattle.ab_store.specs.declared.facts.Facts.{Facts}
-use Rattle.ab_store.specs.Trees.{Read}
 use Rattle.ab_store.specs.Layout.{Covers, HoldOfAll}
 
 reach_push : (ts : List Read) (t : Read) → reach_of_all (terms_of (ts ++ t ∷ [])) ≡ max (reach_of_all (terms_of ts)) (reach t)

@@ -1,7 +1,7 @@
 -- How a store is kept, and what it keeps beside its nodes so that walks can be spared. Public contracts don't speak
 -- of this.
 use Rattle.std.specs.Prelude.{◌≡◌, ℕ, ◌≤◌, ◌<◌, List, [], map, length, get_or, false, All}
-use Rattle.ab_term.specs.Terms.{Nominal, Variable, Terms}
+use Rattle.ab_term.specs.Terms.{Nominal, Variable, Terms, Read}
 use Rattle.ab_term.specs.Reach.{reach, reach_of_all}
 use Rattle.ab_term.specs.Names.{support, support_of_all}
 use Rattle.ab_term.specs.Variables.{variables, variables_of_all}
@@ -12,7 +12,7 @@ use Rattle.ab_store.specs.declared.node.Binding.{Binding}
 use Rattle.ab_store.specs.declared.facts.Facts.{Facts}
 use Rattle.ab_store.specs.declared.store.NodeEntry.{NodeEntry}
 use Rattle.ab_store.specs.declared.store.Slot.{Slot}
-use Rattle.ab_store.specs.Trees.{Read, Contents, tree_of}
+use Rattle.ab_store.specs.Trees.{Contents, tree_of}
 use Rattle.ab_store.specs.Reading.{bound_in}
 use Rattle.ab_store.specs.Naming.{NodesNameEarlier}
 use Rattle.ab_store.specs.Bindings.{AreInOrder}

@@ -12,7 +12,8 @@ use Rattle.ab_store.specs.declared.node.Node.{Node}
 use Rattle.ab_store.specs.declared.node.Node.TheVariants.{Lam, Spine}
 use Rattle.ab_store.specs.declared.node.Binding.{Binding}
 pub use Rattle.ab_term.specs.Sameness.{same_number}
-pub use Rattle.ab_store.specs.Trees.{Read, Contents, Holds, HoldsCell, cell_in, cell_of, logical_of, head_in, head_reading, tree_of}
+pub use Rattle.ab_term.specs.Terms.{Read}
+pub use Rattle.ab_store.specs.Trees.{Contents, Holds, HoldsCell, cell_in, cell_of, logical_of, head_in, head_reading, tree_of}
 
 -- the term that the first binding of a cell gives it
 abbrev pub bound_in : List Binding → CellId → Option TermId

@@ -3,7 +3,8 @@
 use Rattle.std.specs.Prelude.{ℕ, ◌<◌, List, [], ◌∷◌, ◌++◌, map, length, get_or}
 use Rattle.ab_term.specs.Logical as plain
 use Rattle.ab_term.specs.Terms as tree
-use Rattle.ab_term.specs.Terms.{Term, lam, spine, terms_of, no_terms}
+use Rattle.ab_term.specs.Terms.{lam, spine, terms_of, no_terms}
+pub use Rattle.ab_term.specs.Terms.{Read}
 use Rattle.ab_types.specs.Entries.{Table}
 use Rattle.ab_types.specs.Ids.{type_of, constant_of}
 use Rattle.ab_store.specs.declared.node.TermId.{TermId}
@@ -16,10 +17,6 @@ use Rattle.ab_store.specs.declared.node.Node.{Node}
 use Rattle.ab_store.specs.declared.node.Node.TheVariants.{Lam, Spine}
 use Rattle.ab_store.specs.declared.node.CellEntry.{CellEntry}
 use Rattle.ab_store.specs.declared.node.Binding.{Binding}
-
--- a term over numbered cells, with names as hints
-abbrev pub Read : Type 0
-Read = Term ℕ (List ℕ)
 
 -- what contracts see of a store: its nodes, its cells and its bindings, each in the order of their making, and how
 -- many bindings more have a place. What ids stand for doesn't depend on the room.

@@ -15,8 +15,7 @@ use Rattle.ab_syntax.specs.declared.stop.Stop.{Stop}
 use Rattle.ab_syntax.specs.declared.stop.Stop.TheVariants.{Syntax, TooNested, Memory}
 use Rattle.ab_syntax.specs.Kinds.{key_of}
 use Rattle.ab_syntax.specs.Lists.{ListForm}
-use Rattle.ab_syntax.specs.Reader.{IsTaken}
-use Rattle.ab_syntax.specs.Reader.{Refused}
+use Rattle.ab_syntax.specs.Reader.{IsTaken, Refused}
 
 -- a key and a part
 pub keyed : {A : Type 0} (k : Token) (G : List Spot → A → Type 0) (F : List Token → Type 0) → Example G → TwoParts (Key k) (λ r. Unit {0}) G (Key k ▸ G) F (λ u b. b)

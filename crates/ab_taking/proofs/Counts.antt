@@ -2,9 +2,8 @@
 use Rattle.std.proofs.Common.{◌≡◌, ◌≢◌, List, [], ◌∷◌, map, length, refl}
 use Rattle.ab_term.specs.Types.{Ty}
 use Rattle.ab_term.specs.Logical.{universal, nabla, implication}
-use Rattle.ab_term.specs.Terms.{terms_of}
+use Rattle.ab_term.specs.Terms.{terms_of, Read}
 use Rattle.ab_marks.specs.ab_store.specs.declared.node.TermId.{TermId}
-use Rattle.ab_marks.specs.ab_store.specs.Trees.{Read}
 use Rattle.ab_taking.specs.Layers.{last, layer_by}
 
 module _ (f : TermId → Read) where

@@ -2,9 +2,8 @@
 use Rattle.std.proofs.Common.{◌≡◌, ◌≢◌, ℕ, zero, suc, List, [], ◌∷◌, refl, sym, ap, ◌∙◌}
 use Rattle.ab_term.specs.Types.{Ty}
 use Rattle.ab_term.specs.Logical.{truth, falsity, conjunction, disjunction, implication, equality, universal, existential, nabla, judgement, focused_judgement, star, at_sign, plus, hash, spec_universal, spec_implication, spec_conjunction}
-use Rattle.ab_term.specs.Terms.{constant, nominal, variable, index, logical, lam, spine, Terms, no_terms, term}
-use Rattle.ab_marks.specs.ab_store.specs.Trees.{Read}
-use Rattle.ab_using.specs.Pieces.{Piece, universal_of, nabla_of, antecedent_of, pieces, behind, antecedent_count}
+use Rattle.ab_term.specs.Terms.{constant, nominal, variable, index, logical, lam, spine, Terms, no_terms, term, Read}
+use Rattle.ab_theory.specs.Pieces.{Piece, universal_of, nabla_of, antecedent_of, pieces, behind, antecedent_count}
 use Rattle.ab_taking.specs.Layers.{Layer, for_all, nabla_over, implies, last, layer_of}
 
 abbrev pub count_by : Layer → ℕ

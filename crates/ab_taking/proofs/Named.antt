@@ -1,8 +1,8 @@
 -- The type of the outermost `forall` of a name, one piece after another.
 use Rattle.std.proofs.Common.{◌≡◌, ◌≤◌, ℕ, zero, suc, List, ◌∷◌, true, false, bytes_eq, Some, None, refl, ap, arith}
 use Rattle.ab_term.specs.Types.{Ty}
-use Rattle.ab_marks.specs.ab_store.specs.Trees.{Read}
-use Rattle.ab_using.specs.Pieces.{Piece, universal_of, pieces, type_named}
+use Rattle.ab_term.specs.Terms.{Read}
+use Rattle.ab_theory.specs.Pieces.{Piece, universal_of, pieces, type_named}
 use Rattle.ab_taking.specs.Layers.{implies, layer_of}
 use Rattle.ab_taking.proofs.Layers.{pieces_none, pieces_one}
 

@@ -1,7 +1,7 @@
 -- Whether marks serve, one antecedent after another.
 use Rattle.std.proofs.Common.{◌≡◌, ◌≢◌, ◌↔◌, ℕ, zero, suc, List, [], ◌∷◌, Option, Some, None, refl, sym, subst, arith}
-use Rattle.ab_marks.specs.ab_store.specs.Trees.{Read}
-use Rattle.ab_using.specs.Pieces.{Piece, antecedent_of, pieces, AllServe}
+use Rattle.ab_term.specs.Terms.{Read}
+use Rattle.ab_theory.specs.Pieces.{Piece, antecedent_of, pieces, AllServe}
 use Rattle.ab_taking.specs.Layers.{implies, last, layer_of, ServesIfAny}
 use Rattle.ab_taking.proofs.Layers.{pieces_none, pieces_one, pieces_more, pieces_last}
 

@@ -2,11 +2,11 @@
 use Rattle.std.specs.Prelude.{ℕ, ◌<◌, List, [], Option, Some, None}
 use Rattle.ab_term.specs.Types.{Ty}
 use Rattle.ab_term.specs.Logical.{Logical, universal, nabla, implication}
-use Rattle.ab_term.specs.Terms.{logical, lam, spine, Terms, no_terms, term}
+use Rattle.ab_term.specs.Terms.{logical, lam, spine, Terms, no_terms, term, Read}
 use Rattle.ab_marks.specs.ab_types.specs.Entries.{Table}
 use Rattle.ab_marks.specs.ab_types.specs.Ids.{type_of, HoldsType}
-use Rattle.ab_marks.specs.ab_store.specs.Trees.{Read, Contents, tree_of}
-use Rattle.ab_marks.specs.ab_logic.specs.Marks.{MarksServeIn}
+use Rattle.ab_marks.specs.ab_store.specs.Trees.{Contents, tree_of}
+use Rattle.ab_formulas.specs.Marks.{MarksServeIn}
 use Rattle.ab_taking.specs.declared.looking.Layer.{Layer as KeptLayer}
 use Rattle.ab_taking.specs.declared.looking.Layer.TheVariants.{Universal, Nabla, Implication, Last}
 

@@ -6,6 +6,5 @@ pub use Rattle.ab_marks.specs.ab_types
 pub use Rattle.ab_marks.specs.ab_store
 pub use Rattle.ab_marks.specs.ab_norm
 pub use Rattle.ab_marks.specs.ab_logic
-pub use Rattle.ab_using.specs.ab_unifying
-pub use Rattle.ab_using.specs.ab_naming
-pub use Rattle.ab_using
+pub use Rattle.ab_equate.specs.ab_unifying
+pub use Rattle.ab_equate.specs.ab_naming

@@ -4,7 +4,7 @@ use Rattle.ab_marks.specs.ab_types.specs.Ids.{type_of}
 use Rattle.ab_marks.specs.ab_store.specs.declared.node.TermId.{TermId}
 use Rattle.ab_marks.specs.ab_logic.specs.Worlds.{Holds, read}
 use Rattle.ab_marks.specs.ab_logic.specs.declared.world.World.{World}
-use Rattle.ab_using.specs.Pieces.{Given}
+use Rattle.ab_theory.specs.Pieces.{Given}
 use Rattle.ab_taking.specs.declared.given.GivenTerm.{GivenTerm}
 
 abbrev pub given_of : World → GivenTerm → Given

@@ -17,5 +17,5 @@ pub mod logic {
 }
 
 pub mod naming {
-    pub use ab_using::below::naming::Label;
+    pub use ab_equate::below::naming::Label;
 }

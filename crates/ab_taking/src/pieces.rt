@@ -3,8 +3,8 @@ ghost use Rattle.std.specs.Prelude.{◌≡◌, ◌↔◌, ℕ, map, IsTrue, IfOk
 ghost use Rattle.std.specs.Option.{option_map};
 ghost use Rattle.ab_marks.specs.ab_types.specs.Ids.{HoldsType, type_of};
 ghost use Rattle.ab_marks.specs.ab_logic.specs.Worlds.{IsWorld, Holds, read};
-ghost use Rattle.ab_using.specs.Pieces as spec;
-ghost use Rattle.ab_using.specs.Pieces.{pieces, behind, AllServe};
+ghost use Rattle.ab_theory.specs.Pieces as spec;
+ghost use Rattle.ab_theory.specs.Pieces.{pieces, behind, AllServe};
 ghost use Rattle.ab_taking.specs.Readings.{HoldsIfAny};
 ghost use Rattle.ab_taking.specs.Layers.{ServesIfAny};
 

@@ -10,12 +10,11 @@ use Rattle.ab_term.specs.Sameness.{same_number}
 use Rattle.ab_term.specs.Closing.{name_terms, abstracted, over, given_names}
 use Rattle.ab_term.proofs.Images.{IsTypedMap}
 use Rattle.ab_term.proofs.OwnExpansion.{own_by, image_by-expansion_of}
-use Rattle.ab_term.proofs.Translations.{translate-expansion_of}
+use Rattle.ab_term.proofs.Translations.{translate-expansion_of, translate_typed}
 use Rattle.ab_term.proofs.Hinted.{name_terms_typed, named_over, forget-names}
 use Rattle.ab_term.proofs.Abstracting.{reduce-abstracted}
 use Rattle.ab_term.proofs.Closing.{forget-abstracted}
 use Rattle.ab_term.proofs.Compositions.{map_typed}
-use Rattle.ab_term.proofs.Translations.{translate_typed}
 use Rattle.ab_term.proofs.PastHints.{bare, bare_typed, forget-image}
 
 -- the new variable with this number

@@ -5,6 +5,7 @@ pub mod Types
 pub mod Logical
 pub mod Terms
 pub mod Typing
+pub mod Constants
 pub mod Substitution
 pub mod Expansion
 pub mod Translation

@@ -46,3 +46,7 @@ module _ {Var Hint : Type 0} where
   abbrev pub with_last : Terms Var Hint → Term Var Hint → Terms Var Hint
   with_last no_terms t = term t no_terms
   with_last (term s ts) t = term s (with_last ts t)
+
+-- a term over numbered variables, with names as hints: what formulas are
+abbrev pub Read : Type 0
+Read = Term ℕ (List ℕ)

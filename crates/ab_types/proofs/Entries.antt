@@ -4,7 +4,8 @@ use Rattle.std.proofs.lemmas.List.{get_or_append_left}
 use Rattle.ab_term.specs.Types.{Ty, kind, prop}
 use Rattle.ab_term.specs.Typing as typing
 use Rattle.ab_term.proofs.Lists.{Contains-none, Contains-here, Contains-there, Contains-cases}
-use Rattle.ab_types.specs.Entries.{Entry, a_kind, a_type, a_constant, Constant, Table, kinds, types, constants, names, type_in, signature, IsExtendedBy}
+use Rattle.ab_term.specs.Constants.{Constant, names, type_in}
+use Rattle.ab_types.specs.Entries.{Entry, a_kind, a_type, a_constant, Table, kinds, types, constants, signature, IsExtendedBy}
 use Rattle.ab_types.specs.Ids.{HoldsKind, HoldsType, HoldsConstant, HoldsView, kind_of, type_of, constant_of, seen_type}
 use Rattle.ab_types.specs.declared.ids.KindId.{KindId}
 use Rattle.ab_types.specs.declared.ids.TypeId.{TypeId}

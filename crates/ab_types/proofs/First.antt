@@ -1,6 +1,7 @@
 -- A new table is one.
 use Rattle.std.proofs.Common.{◌≡◌, ℕ, List, [], refl, arith, subst, sym}
-use Rattle.ab_types.specs.Entries.{kinds, types, constants, names, first_entries}
+use Rattle.ab_term.specs.Constants.{names}
+use Rattle.ab_types.specs.Entries.{kinds, types, constants, first_entries}
 use Rattle.ab_types.specs.Sound.{IsTable}
 use Rattle.ab_types.specs.Layout.{table_of, Kept, IsKept}
 use Rattle.ab_types.specs.declared.ids.TypeView.{TypeView}

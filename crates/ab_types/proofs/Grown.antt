@@ -5,7 +5,8 @@ use Rattle.std.proofs.lemmas.List.{get_or_push, get_or_default, take-append-drop
 use Rattle.std.proofs.Math.Seq.{take-append_seam, take-append-add}
 use Rattle.std.specs.Map.{keys_of}
 use Rattle.ab_term.specs.Types.{Ty, prop}
-use Rattle.ab_types.specs.Entries.{Entry, a_kind, a_type, a_constant, Constant, constant, Table, kinds, types, constants, names, first_entries, IsExtendedBy, FindsOrAdds}
+use Rattle.ab_term.specs.Constants.{Constant, constant, names}
+use Rattle.ab_types.specs.Entries.{Entry, a_kind, a_type, a_constant, Table, kinds, types, constants, first_entries, IsExtendedBy, FindsOrAdds}
 use Rattle.ab_types.specs.Ids.{HoldsKind, HoldsType, HoldsConstant, HoldsView, kind_of, type_of, constant_of, seen_type}
 use Rattle.ab_types.specs.Sound.{AreDifferent, IsTable}
 use Rattle.ab_types.specs.Columns.{AreWith, PutsOnce}

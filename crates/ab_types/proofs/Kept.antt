@@ -8,7 +8,8 @@ use Rattle.std.specs.Map.{keys_of}
 use Rattle.std.specs.Cmp.Lexicographic.{pointwise, bytes_decides}
 use Rattle.std.specs.List.{list_any}
 use Rattle.ab_term.specs.Types.{prop}
-use Rattle.ab_types.specs.Entries.{Constant, Table, kinds, types, constants, names, type_in, signature}
+use Rattle.ab_term.specs.Constants.{Constant, names, type_in}
+use Rattle.ab_types.specs.Entries.{Table, kinds, types, constants, signature}
 use Rattle.ab_types.specs.Ids.{HoldsKind, HoldsType, HoldsConstant, HoldsView, kind_of, type_of, constant_of, seen_type}
 use Rattle.ab_types.specs.Sound.{AreDifferent, IsTable}
 use Rattle.ab_types.specs.Layout.{Kept, rows, table_of, IsKept}

@@ -3,7 +3,8 @@ use Rattle.std.proofs.Common.{◌≡◌, ℕ, zero, suc, ◌+◌, ◌<◌, List,
 use Rattle.std.proofs.lemmas.List.{get_or_append_left, get_or_push}
 use Rattle.std.specs.Map.{keys_of}
 use Rattle.ab_term.specs.Types.{prop}
-use Rattle.ab_types.specs.Entries.{a_kind, a_constant, Constant, Table, kinds, types, constants, names, IsExtendedBy}
+use Rattle.ab_term.specs.Constants.{Constant, names}
+use Rattle.ab_types.specs.Entries.{a_kind, a_constant, Table, kinds, types, constants, IsExtendedBy}
 use Rattle.ab_types.specs.Ids.{HoldsType, HoldsView, type_of, seen_type}
 use Rattle.ab_types.specs.declared.ids.TypeId.{TypeId}
 use Rattle.ab_types.specs.declared.ids.TypeView.{TypeView}

@@ -2,10 +2,7 @@
 use Rattle.std.specs.Prelude.{◌≡◌, ◌⊎◌, ℕ, List, [], ◌∷◌, ◌++◌, codes, Contains, Some, None, if◌then◌else◌, bytes_eq}
 use Rattle.ab_term.specs.Types.{Ty, arrow, prop, o, olist}
 use Rattle.ab_term.specs.Typing.{Signature}
-
-pub record Constant : Type 0 where
-  pub name : List ℕ
-  pub type : Ty
+pub use Rattle.ab_term.specs.Constants.{Constant, names, type_in, constant}
 
 pub data Entry : Type 0 where
   a_kind : List ℕ → Entry
@@ -34,20 +31,9 @@ constants (a_kind k ∷ es) = constants es
 constants (a_type A ∷ es) = constants es
 constants (a_constant c ∷ es) = c ∷ constants es
 
-abbrev pub names : List Constant → List (List ℕ)
-names [] = []
-names (c ∷ cs) = c.name ∷ names cs
-
-abbrev pub type_in : List Constant → Signature
-type_in [] name = None
-type_in (c ∷ cs) name = if bytes_eq name c.name then Some c.type else type_in cs name
-
 -- what types the table's constants have
 abbrev pub signature : Table → Signature
 signature table = type_in (constants table)
-
-abbrev pub constant : List ℕ → Ty → Constant
-constant name A = record { name = name; type = A }
 
 -- what a new table holds: the kinds `prop`, `o` and `olist`, and the constants `nil`, `::` and `member`, with
 -- all types that these have and are made of

@@ -3,7 +3,8 @@
 -- numbers that are held.
 use Rattle.std.specs.Prelude.{ℕ, ◌<◌, List, [], length, slice_index_or}
 use Rattle.ab_term.specs.Types.{Ty, kind, arrow, prop}
-use Rattle.ab_types.specs.Entries.{Table, Constant, kinds, types, constants}
+use Rattle.ab_term.specs.Constants.{Constant}
+use Rattle.ab_types.specs.Entries.{Table, kinds, types, constants}
 use Rattle.ab_types.specs.declared.ids.KindId.{KindId}
 use Rattle.ab_types.specs.declared.ids.TypeId.{TypeId}
 use Rattle.ab_types.specs.declared.ids.ConstId.{ConstId}

@@ -1,6 +1,7 @@
 -- What is true of every table.
 use Rattle.std.specs.Prelude.{◌≡◌, ℕ, ◌<◌, List, length, slice_get}
-use Rattle.ab_types.specs.Entries.{Table, kinds, types, constants, names, first_entries, IsExtendedBy}
+use Rattle.ab_term.specs.Constants.{names}
+use Rattle.ab_types.specs.Entries.{Table, kinds, types, constants, first_entries, IsExtendedBy}
 
 -- what is equal stands at one place
 abbrev pub AreDifferent : {X : Type 0} → List X → Type 0

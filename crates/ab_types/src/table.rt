@@ -1,7 +1,8 @@
 //! The table of kinds, constants and types.
 ghost use Rattle.std.specs.Prelude.{◌≡◌, ◌↔◌, ℕ, ◌+◌, ◌-◌, ◌<◌, ◌≤◌, ◌∷◌, ◌++◌, [], length, map, take, IfOk, OnOk, OnErr, IfSome, IsErrOf, IsNone, Contains, Some};
 ghost use Rattle.ab_term.specs.Types as plain;
-ghost use Rattle.ab_types.specs.Entries.{kinds, constant, constants, names, a_kind, a_type, a_constant, signature, first_entries, IsExtendedBy, FindsOrAdds};
+ghost use Rattle.ab_term.specs.Constants.{constant, names};
+ghost use Rattle.ab_types.specs.Entries.{kinds, constants, a_kind, a_type, a_constant, signature, first_entries, IsExtendedBy, FindsOrAdds};
 ghost use Rattle.ab_types.specs.Ids.{HoldsKind, HoldsType, HoldsConstant, HoldsView, kind_of, type_of, constant_of, seen_type};
 ghost use Rattle.ab_types.specs.Sound.{IsTable};
 

@@ -3,7 +3,7 @@ use Rattle.std.proofs.Common.{◌≡◌, ◌⊎◌, inl, inr, ℕ, List, [], ◌
 use Rattle.std.specs.Prelude.{Contains}
 use Rattle.std.proofs.lemmas.Bool.{false≢true, false_from_ne_true}
 use Rattle.std.proofs.lemmas.List.Elements.{All-contains}
-use Rattle.ab_term.specs.Terms.{Variable, Terms, lam, spine, no_terms, term}
+use Rattle.ab_term.specs.Terms.{Variable, Terms, lam, spine, no_terms, term, Read}
 use Rattle.ab_term.specs.Variables.{variables, variables_of_head, variables_of_all}
 use Rattle.ab_term.specs.Sameness.{same_numbered}
 use Rattle.ab_term.proofs.Same.{same_numbered-Decides}
@@ -12,7 +12,7 @@ use Rattle.ab_patterns.specs.ab_types.specs.Entries.{Table}
 use Rattle.ab_patterns.specs.ab_types.specs.Ids.{type_of}
 use Rattle.ab_patterns.specs.ab_store.specs.declared.node.TermId.{TermId}
 use Rattle.ab_patterns.specs.ab_store.specs.declared.node.CellId.{CellId}
-use Rattle.ab_patterns.specs.ab_store.specs.Trees.{Read, Contents, cell_in, tree_of}
+use Rattle.ab_patterns.specs.ab_store.specs.Trees.{Contents, cell_in, tree_of}
 use Rattle.ab_patterns.specs.ab_store.specs.Reading.{cell_variable}
 use Rattle.ab_patterns.specs.ab_store.specs.Bindings.{StandsIn}
 use Rattle.ab_patterns.specs.ab_store.proofs.Cells.{IsCell, stands, numbered, variables_are_cells}

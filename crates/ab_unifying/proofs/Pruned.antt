@@ -7,7 +7,7 @@ use Rattle.std.proofs.lemmas.Bool.{false≢true}
 use Rattle.std.proofs.lemmas.List.Elements.{All-nil, All-cons, All-head, All-tail, All-weaker, All-contains, Contains-append_left, Contains-append_right}
 use Rattle.ab_term.specs.Types.{Ty, kind}
 use Rattle.ab_term.specs.Terms as tree
-use Rattle.ab_term.specs.Terms.{Variable, Term, Terms, lam, spine, no_terms, term, terms_of}
+use Rattle.ab_term.specs.Terms.{Variable, Term, Terms, lam, spine, no_terms, term, terms_of, Read}
 use Rattle.ab_term.specs.Typing.{Signature, HasType, TakeType, typed_lam, typed_spine, take_term}
 use Rattle.ab_term.specs.Variables.{variables, variables_of_head, variables_of_all}
 use Rattle.ab_term.specs.Closing.{among, is_name}
@@ -19,7 +19,7 @@ use Rattle.ab_unify.specs.ab_store.specs.declared.node.CellId.{CellId}
 use Rattle.ab_unify.specs.ab_store.specs.declared.node.CellEntry.{CellEntry}
 use Rattle.ab_unify.specs.ab_store.specs.declared.node.Head.{Head}
 use Rattle.ab_unify.specs.ab_store.specs.declared.node.Head.TheVariants.{Const, Logic, Nominal, Cell, Index}
-use Rattle.ab_unify.specs.ab_store.specs.Trees.{Read, Contents, head_in, tree_of, head_reading}
+use Rattle.ab_unify.specs.ab_store.specs.Trees.{Contents, head_in, tree_of, head_reading}
 use Rattle.ab_unify.specs.ab_store.specs.Reading.{bound_in, reading, cell_variable}
 use Rattle.ab_unify.specs.ab_store.specs.Bindings.{cells_of, IsUnbound, IsResolved}
 use Rattle.ab_unify.specs.ab_store.specs.Naming.{HeadIsTyped}

@@ -4,7 +4,7 @@ use Rattle.std.specs.Prelude.{Contains}
 use Rattle.std.proofs.lemmas.Bool.{false≢true}
 use Rattle.std.proofs.lemmas.List.Elements.{Contains-append_left}
 use Rattle.ab_term.specs.Terms as tree
-use Rattle.ab_term.specs.Terms.{Variable, Terms, spine}
+use Rattle.ab_term.specs.Terms.{Variable, Terms, spine, Read}
 use Rattle.ab_term.specs.Variables.{variables, variables_of_all}
 use Rattle.ab_term.proofs.Lists.{Contains-here, Contains-map}
 use Rattle.ab_unify.specs.ab_types.specs.Entries.{Table}
@@ -14,7 +14,7 @@ use Rattle.ab_unify.specs.ab_store.specs.declared.node.Head.{Head}
 use Rattle.ab_unify.specs.ab_store.specs.declared.node.Head.TheVariants.{Const, Logic, Nominal, Cell, Index}
 use Rattle.ab_unify.specs.ab_store.specs.declared.node.Node.{Node}
 use Rattle.ab_unify.specs.ab_store.specs.declared.node.Node.TheVariants.{Lam, Spine}
-use Rattle.ab_unify.specs.ab_store.specs.Trees.{Read, Contents, Holds, tree_of, node_tree, head_reading}
+use Rattle.ab_unify.specs.ab_store.specs.Trees.{Contents, Holds, tree_of, node_tree, head_reading}
 use Rattle.ab_unify.specs.ab_store.specs.Reading.{binding_of, cell_variable}
 use Rattle.ab_unify.specs.ab_store.specs.Naming.{NodeNames, IsTypedBy}
 use Rattle.ab_unify.specs.ab_store.proofs.Nodes.{terms_from-at}

@@ -1,7 +1,7 @@
 -- What rules do to a store: it grows, and cells are bound, so that each term reads as its image.
 use Rattle.std.specs.Prelude.{◌≡◌, ◌⊎◌, ℕ, List, All, Contains}
 use Rattle.ab_term.specs.Types.{Ty}
-use Rattle.ab_term.specs.Terms.{Variable}
+use Rattle.ab_term.specs.Terms.{Variable, Read}
 use Rattle.ab_term.specs.Variables.{image, variables, IsTyped}
 use Rattle.ab_term.specs.Sameness.{same_number}
 use Rattle.ab_unify.specs.ab_types.specs.Entries.{Table, kinds, constants, signature, IsExtendedBy as IsPartOf}
@@ -10,7 +10,7 @@ use Rattle.ab_unify.specs.ab_store.specs.declared.node.CellId.{CellId}
 use Rattle.ab_unify.specs.ab_store.specs.declared.node.Head.{Head}
 use Rattle.ab_unify.specs.ab_store.specs.declared.node.Head.TheVariants.{Nominal, Index}
 use Rattle.ab_unify.specs.ab_store.specs.declared.mark.Mark.{Mark}
-use Rattle.ab_unify.specs.ab_store.specs.Trees.{Read, Contents, Holds, HoldsCell, cell_of, tree_of}
+use Rattle.ab_unify.specs.ab_store.specs.Trees.{Contents, Holds, HoldsCell, cell_of, tree_of}
 use Rattle.ab_unify.specs.ab_store.specs.Reading.{reading}
 use Rattle.ab_unify.specs.ab_store.specs.Bindings.{IsUnbound}
 use Rattle.ab_unify.specs.ab_store.specs.Marks.{HasMark, KeepsMark}

@@ -14,7 +14,7 @@ use Rattle.ab_rows.specs.ab_readings.specs.Readings.{Raw, Reads, reads_bound, re
 use Rattle.ab_rows.specs.ab_readings.specs.Types.{is_listed}
 use Rattle.ab_rows.specs.ab_infer.specs.declared.fault.InferFault.TheVariants.{Unknown, TypeClash, Untyped, Memory}
 use Rattle.ab_states.specs.ab_walking.specs.Occurrences.{free_names, with_name, with_names}
-use Rattle.ab_rows.specs.ab_clauses.specs.Kept.{Clause}
+use Rattle.ab_formulas.specs.Kept.{Clause}
 use Rattle.ab_states.specs.ab_closing.specs.Closed.{kept_clause}
 use Rattle.ab_states.specs.ab_clausal.specs.Readings.{Parts, places_in, ClauseReading, HasOneReading, IsFirstOpen}
 use Rattle.ab_states.specs.ab_clausal.specs.Meanings.{parts_found, body_type, variable_names, variable_from, variables_from, is_under_nabla, numbered_names, IsKeptAs}

@@ -5,27 +5,26 @@ use Rattle.std.proofs.lemmas.List.Elements.{All-weaker}
 use Rattle.ab_rows.specs.ab_cases.specs.Clauses.{IsClause}
 use Rattle.ab_term.specs.Variables.{image}
 use Rattle.ab_term.specs.Sameness.{same_number}
-use Rattle.ab_term.specs.Terms.{Head, constant, logical, nominal, variable, index, lam, spine, Terms, no_terms, term}
+use Rattle.ab_term.specs.Terms.{Head, constant, logical, nominal, variable, index, lam, spine, Terms, no_terms, term, Read}
 use Rattle.ab_term.specs.Names.{EqualUpToNames, permute, moved_by}
 use Rattle.ab_term.specs.Translation.{translate_head, translate, translate_all, forget, forget_all, EqualPastHints}
 use Rattle.ab_term.proofs.Lists.{Contains-map}
 use Rattle.ab_term.proofs.Translations.{translate-rename}
-use Rattle.ab_rows.specs.ab_store.specs.Trees.{Read}
-use Rattle.ab_rows.specs.ab_logic.specs.Declarations.{Declarations, IsDefining, HaveDefinitions, HaveSentences, signature_in}
-use Rattle.ab_rows.specs.ab_logic.specs.Forms.{both, either, form_of, both_in, either_in}
-use Rattle.ab_rows.specs.ab_logic.specs.Marks.{Making, by_head, by_scope, by_parts, by_mark, making_of, marks_of, MarksServe, unmarked, erased, erased_all}
-use Rattle.ab_rows.specs.ab_logic.specs.Sequents.{Sequent, IsSequent, goal_names, proving}
-use Rattle.ab_rows.specs.ab_goals.specs.Goals.{name_in, variable_named, with_names, named}
-use Rattle.ab_rows.specs.ab_equate.specs.Solved.{made}
-use Rattle.ab_rows.specs.ab_analysis.specs.Atoms.{defined_atom, choices_of}
-use Rattle.ab_rows.specs.ab_analysis.specs.Right.{unfolding_case}
+use Rattle.ab_formulas.specs.Declarations.{Declarations, IsDefining, HaveDefinitions, HaveSentences, signature_in}
+use Rattle.ab_formulas.specs.Forms.{both, either, form_of, both_in, either_in}
+use Rattle.ab_formulas.specs.Marks.{Making, by_head, by_scope, by_parts, by_mark, making_of, marks_of, MarksServe, unmarked, erased, erased_all}
+use Rattle.ab_formulas.specs.Sequents.{Sequent, IsSequent, goal_names, proving}
+use Rattle.ab_formulas.specs.Goals.{name_in, variable_named, with_names, named}
+use Rattle.ab_theory.specs.Equations.{made}
+use Rattle.ab_theory.specs.Atoms.{defined_atom, choices_of}
+use Rattle.ab_theory.specs.Unfolding.{unfolding_case}
 use Rattle.ab_rows.specs.ab_alike.specs.Alike.{IsSameAtom}
 use Rattle.ab_rows.specs.ab_alike.proofs.Following.{moved_atom}
 use Rattle.ab_rows.specs.ab_alike.proofs.Splitting.{choices_meet}
 use Rattle.ab_rows.specs.ab_alike.proofs.Unfolding.{answered_also}
-use Rattle.ab_rows.specs.ab_rules.proofs.Parts.{MayStand, both_may, either_may}
-use Rattle.ab_rows.specs.ab_rules.proofs.Sequents.{goal_of, proving_goal, sequent_from}
-use Rattle.ab_rows.specs.ab_rules.proofs.Sized.{atom_of, atom_over}
+use Rattle.ab_theory.proofs.RulesParts.{MayStand, both_may, either_may}
+use Rattle.ab_theory.proofs.Sequents.{goal_of, proving_goal, sequent_from}
+use Rattle.ab_theory.proofs.Sized.{atom_of, atom_over}
 use Rattle.ab_states.specs.ab_search.specs.Closing.{Closes, Unfolds, CanBeClosed, by_truth, by_hypothesis, by_equality, by_both, by_left, by_right, by_unfolding}
 use Rattle.ab_states.specs.ab_search.proofs.Unfoldings.{there_contained, none_named, unfolded_sequent}
 use Rattle.ab_rows.proofs.Renumbered.{renumber, renumber_hypothesis, renumbered, renumbering}

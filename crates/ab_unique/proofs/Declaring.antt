@@ -7,8 +7,8 @@ use Rattle.ab_grammar.specs.CommandTrees.{Command, theorem, show}
 use Rattle.ab_rows.specs.ab_readings.specs.Names.{Resolved, bound, known, free, apply, abs, equal, bind}
 use Rattle.ab_rows.specs.ab_readings.specs.Scopes.{resolved}
 use Rattle.ab_rows.specs.ab_readings.specs.Types.{IsDeclarable}
-use Rattle.ab_rows.specs.ab_store.specs.Trees.{Read}
-use Rattle.ab_rows.specs.ab_logic.specs.Declarations.{Declarations, a_constant, theorem_in}
+use Rattle.ab_term.specs.Terms.{Read}
+use Rattle.ab_formulas.specs.Declarations.{Declarations, a_constant, theorem_in}
 use Rattle.ab_rows.specs.ab_meanings.proofs.Names.{FreeAreNominal}
 use Rattle.ab_states.specs.ab_sentences.proofs.Heads.{ResolvedHas}
 use Rattle.ab_states.specs.ab_sentences.proofs.Standing.{IsDeclared}

@@ -10,19 +10,19 @@ use Rattle.ab_grammar.specs.Tree.{Tree}
 use Rattle.ab_grammar.specs.CommandTrees as written
 use Rattle.ab_rows.specs.ab_cases.specs.Clauses.{numbered, put_together}
 use Rattle.ab_rows.specs.ab_cases.specs.Prefixes.{own_terms}
-use Rattle.ab_rows.specs.ab_clauses.specs.Kept.{Clause}
-use Rattle.ab_rows.specs.ab_clauses.specs.Cases.{in_terms, cell_of, case_of}
-use Rattle.ab_rows.specs.ab_clauses.specs.Faults.{IsRight}
-use Rattle.ab_rows.specs.ab_clauses.specs.Proposed.{IsProposed}
-use Rattle.ab_rows.specs.ab_clauses.specs.Heads.{IsHeadOf}
-use Rattle.ab_rows.specs.ab_clauses.proofs.Cased.{is_clause}
-use Rattle.ab_rows.specs.ab_clauses.proofs.Proposing.{well_kept}
+use Rattle.ab_formulas.specs.Kept.{Clause}
+use Rattle.ab_formulas.specs.Cased.{in_terms, cell_of, case_of}
+use Rattle.ab_formulas.specs.Faults.{IsRight}
+use Rattle.ab_formulas.specs.Proposed.{IsProposed}
+use Rattle.ab_formulas.specs.Heads.{IsHeadOf}
+use Rattle.ab_formulas.proofs.ClausesCased.{is_clause}
+use Rattle.ab_formulas.proofs.Proposing.{well_kept}
 use Rattle.ab_states.specs.ab_clausal.specs.Meanings.{body_type}
 use Rattle.ab_states.specs.ab_clausal.proofs.Resolving.{parts_fine}
 use Rattle.ab_states.specs.ab_clausal.proofs.Proposed.{kept_proposed}
-use Rattle.ab_rows.specs.ab_logic.specs.Formulas.{a_formula}
-use Rattle.ab_rows.specs.ab_logic.specs.Declarations.{IsDefining}
-use Rattle.ab_rows.specs.ab_logic.proofs.Images.{image_stands}
+use Rattle.ab_formulas.specs.Formulas.{a_formula}
+use Rattle.ab_formulas.specs.Declarations.{IsDefining}
+use Rattle.ab_formulas.proofs.Images.{image_stands}
 use Rattle.ab_states.specs.ab_declare.specs.Defining.{MeansKept, MeanKept}
 
 of_prop : (b : Option Tree) → body_type prop b ≡ prop

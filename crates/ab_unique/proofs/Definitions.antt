@@ -2,13 +2,13 @@
 use Rattle.std.specs.Prelude.{None, Ok, Err, Bool, All}
 use Rattle.std.proofs.Common.{◌≡◌, ℕ, List, [], ◌∷◌, ◌++◌, map, sym, ◌∙◌, ap, subst}
 use Rattle.std.proofs.lemmas.List.Elements.{All-head, All-tail}
-use Rattle.ab_rows.specs.ab_types.specs.Entries.{Constant, names}
+use Rattle.ab_term.specs.Constants.{Constant, names}
 use Rattle.ab_grammar.specs.CommandTrees.{Defined, Clause}
-use Rattle.ab_rows.specs.ab_clauses.specs.Kept as kept
-use Rattle.ab_rows.specs.ab_clauses.specs.Faults.{IsRight, FirstFault}
+use Rattle.ab_formulas.specs.Kept as kept
+use Rattle.ab_formulas.specs.Faults.{IsRight, FirstFault}
 use Rattle.ab_unique.proofs.Faults.{one_first_fault, no_fault}
-use Rattle.ab_rows.specs.ab_logic.specs.Declarations.{Declarations, a_block, constant_names}
-use Rattle.ab_rows.specs.ab_logic.specs.Worlds.{defined}
+use Rattle.ab_formulas.specs.Declarations.{Declarations, a_block, constant_names}
+use Rattle.ab_states.specs.ab_logic.specs.Worlds.{defined}
 use Rattle.ab_rows.specs.ab_effects.specs.Terms.{kinds_in}
 use Rattle.ab_states.specs.ab_declare.specs.declared.refusal.Refusal.{Refusal}
 use Rattle.ab_states.specs.ab_declare.specs.declared.refusal.Refusal.TheVariants.{Unknown}

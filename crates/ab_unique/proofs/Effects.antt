@@ -1,18 +1,17 @@
 -- Each command has one effect on a state.
 use Rattle.std.proofs.Common.{◌≡◌, ◌⊎◌, inl, inr, ℕ, List, [], ◌∷◌, ◌++◌, map, Option, Some, None, refl, sym, ◌∙◌, ap, subst}
-use Rattle.ab_grammar.specs.CommandTrees.{Command, kinds, constants, define, theorem, show, quit, subgoals, abort, in_proof}
-use Rattle.ab_grammar.specs.CommandTrees.{ProofCommand, search}
-use Rattle.ab_rows.specs.ab_store.specs.Trees.{Read}
-use Rattle.ab_rows.specs.ab_logic.specs.Declarations.{Declarations, a_theorem, theorem_in}
-use Rattle.ab_rows.specs.ab_logic.specs.Names.{Label}
-use Rattle.ab_rows.specs.ab_logic.specs.Sequents.{Sequent, IsSequent}
+use Rattle.ab_grammar.specs.CommandTrees.{Command, kinds, constants, define, theorem, show, quit, subgoals, abort, in_proof, ProofCommand, search}
+use Rattle.ab_term.specs.Terms.{Read}
+use Rattle.ab_formulas.specs.Declarations.{Declarations, a_theorem, theorem_in}
+use Rattle.ab_formulas.specs.Names.{Label}
+use Rattle.ab_formulas.specs.Sequents.{Sequent, IsSequent}
 use Rattle.ab_states.specs.ab_command.specs.declared.fault.Cause.{Cause}
 use Rattle.ab_states.specs.ab_command.specs.Reading.{Fails}
 use Rattle.ab_states.specs.ab_command.proofs.Sayings.{says_one, fails_one, says_or_fails}
 use Rattle.ab_states.specs.ab_declare.specs.declared.refusal.Refusal.{Refusal}
 use Rattle.ab_states.specs.ab_declare.specs.Refusals.{refusal_for}
 use Rattle.ab_states.specs.ab_declare.specs.Declaring.{States, Declares, Declines, new_kinds, new_constants, new_predicates, kind_taken, constant_taken, type_unknown, type_unfit, defines_nothing, theorem_taken, states_nothing, no_theorem}
-use Rattle.ab_rows.specs.ab_goals.specs.Goals.{Goal, named}
+use Rattle.ab_formulas.specs.Goals.{Goal, named}
 use Rattle.ab_rows.specs.ab_effects.specs.Effect.{given_label, effect}
 use Rattle.ab_rows.proofs.Rows.{AreOnce}
 use Rattle.ab_rows.proofs.Once.{once}

@@ -2,10 +2,10 @@
 use Rattle.std.proofs.Common.{◌≡◌, ℕ, suc, List, [], ◌∷◌, refl, ap}
 use Rattle.std.specs.List.{All}
 use Rattle.std.proofs.lemmas.List.Elements.{All-head, All-tail}
-use Rattle.ab_rows.specs.ab_clauses.specs.Kept.{Clause}
-use Rattle.ab_rows.specs.ab_clauses.specs.Stratification.{left_of_arrows, constants}
-use Rattle.ab_rows.specs.ab_clauses.specs.Faults.{Fault, not_stratified, IsRight, HasFault, in_head, in_body, FirstFault, here, later}
-use Rattle.ab_rows.specs.ab_clauses.proofs.Names.{not_avoided, one_first}
+use Rattle.ab_formulas.specs.Kept.{Clause}
+use Rattle.ab_formulas.specs.Stratification.{left_of_arrows, constants}
+use Rattle.ab_formulas.specs.Faults.{Fault, not_stratified, IsRight, HasFault, in_head, in_body, FirstFault, here, later}
+use Rattle.ab_formulas.proofs.Names.{not_avoided, one_first}
 
 module _ (ps : List (List ℕ)) where
   right_or : (n : ℕ) (c : Clause) (f : Fault) → HasFault ps n c f → IsRight ps c → ⊥

@@ -5,9 +5,9 @@ use Rattle.std.proofs.lemmas.List.Elements.{All-contains}
 use Rattle.ab_term.specs.Types.{prop}
 use Rattle.ab_term.proofs.Lists.{Contains-none, Contains-cases, AllPairs-parts, All-from_contains}
 use Rattle.ab_rows.specs.ab_solve.specs.Replacing.{Cell}
-use Rattle.ab_rows.specs.ab_logic.specs.Sequents.{Variable, Sequent}
-use Rattle.ab_rows.specs.ab_equate.specs.Solved.{AreCells}
-use Rattle.ab_rows.specs.ab_equate.specs.Cases.{cell_for}
+use Rattle.ab_formulas.specs.Sequents.{Variable, Sequent}
+use Rattle.ab_theory.specs.Equations.{AreCells}
+use Rattle.ab_theory.specs.Splits.{cell_for}
 
 abbrev NumbersDiffer : List Variable → Type 0
 NumbersDiffer = AllPairs (λ (x y : Variable). x.number ≢ y.number)

@@ -4,16 +4,18 @@ use Rattle.std.proofs.Common.{◌≡◌, ℕ, List, [], ◌∷◌, ◌++◌, map
 use Rattle.std.proofs.lemmas.List.Elements.{All-nil, All-cons, All-head, All-tail}
 use Rattle.ab_term.specs.Types.{Ty, o, olist, arrows}
 use Rattle.ab_term.specs.Typing.{typed_spine, take_none, take_term}
-use Rattle.ab_rows.specs.ab_types.specs.Entries.{Constant, names, first_entries}
+use Rattle.ab_term.specs.Constants.{Constant, names}
+use Rattle.ab_states.specs.ab_types.specs.Entries.{first_entries}
 use Rattle.ab_grammar.specs.CommandTrees.{Command, Defined, Clause}
 use Rattle.ab_rows.specs.ab_cases.specs.Clauses.{IsClause}
 use Rattle.ab_rows.specs.ab_cases.specs.Member.{member_first, member_later, member_clauses}
 use Rattle.ab_rows.specs.ab_cases.proofs.Membership.{member_defined}
-use Rattle.ab_rows.specs.ab_store.specs.Trees.{Read}
-use Rattle.ab_rows.specs.ab_logic.specs.Declarations.{Declarations, Block, a_kind, a_constant, a_block, a_theorem, signature_in, block_in, theorem_in, IsDefining, HaveDefinitions, HaveSentences}
-use Rattle.ab_rows.specs.ab_logic.specs.Formulas.{IsSentence}
-use Rattle.ab_rows.specs.ab_logic.specs.Worlds.{declared, defined, member_block, first_declarations}
-use Rattle.ab_rows.specs.ab_logic.proofs.Declaring.{theorem-declared, block-declared, sentences_behind, sentences_added, sentences_defined, definitions_behind, definitions_added, definitions_defined, extends_not, extends_on, more_constants, still_sentence}
+use Rattle.ab_term.specs.Terms.{Read}
+use Rattle.ab_formulas.specs.Declarations.{Declarations, Block, a_kind, a_constant, a_block, a_theorem, signature_in, block_in, theorem_in, IsDefining, HaveDefinitions, HaveSentences}
+use Rattle.ab_formulas.specs.Formulas.{IsSentence}
+use Rattle.ab_states.specs.ab_logic.specs.Worlds.{declared, defined, member_block, first_declarations}
+use Rattle.ab_formulas.proofs.Declaring.{sentences_behind, sentences_added, sentences_defined, definitions_behind, definitions_added, definitions_defined, extends_not, extends_on, more_constants, still_sentence}
+use Rattle.ab_states.specs.ab_logic.proofs.Declaring.{theorem-declared, block-declared}
 use Rattle.ab_rows.specs.ab_effects.specs.Terms.{kinds_in}
 use Rattle.ab_states.specs.ab_declare.specs.Declaring.{Declares, new_kinds, new_constants, new_predicates}
 use Rattle.ab_states.specs.ab_declare.specs.Defining.{Defines, predicate_of, block_with}

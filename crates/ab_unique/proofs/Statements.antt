@@ -4,7 +4,7 @@ use Rattle.std.specs.Prelude.{◌≡◌, ℕ, List, [], ◌∷◌, Bool, true, f
 use Rattle.std.proofs.Common.{refl, sym, ap, subst}
 use Rattle.ab_term.specs.Types.{Ty, prop, o, olist, arrows}
 use Rattle.ab_term.specs.Logical as logic
-use Rattle.ab_term.specs.Terms.{logical}
+use Rattle.ab_term.specs.Terms.{logical, Read}
 use Rattle.ab_term.specs.Typing.{Signature}
 use Rattle.ab_term.specs.Normal.{FitsType}
 use Rattle.ab_grammar.specs.declared.Infix.{Infix}
@@ -20,9 +20,8 @@ use Rattle.ab_states.specs.ab_sentences.proofs.Heads.{RawHas, reads_has, normal_
 use Rattle.ab_states.specs.ab_sentences.proofs.Standing.{IsDeclared, admits_declared, sentence}
 use Rattle.ab_states.specs.ab_sentences.proofs.Resolving.{names_are_declared}
 use Rattle.ab_states.specs.ab_sentences.proofs.Makings.{one_too}
-use Rattle.ab_rows.specs.ab_store.specs.Trees.{Read}
-use Rattle.ab_rows.specs.ab_logic.specs.Formulas.{IsSentence}
-use Rattle.ab_rows.specs.ab_logic.specs.Declarations.{Declarations, signature_in}
+use Rattle.ab_formulas.specs.Formulas.{IsSentence}
+use Rattle.ab_formulas.specs.Declarations.{Declarations, signature_in}
 use Rattle.ab_rows.specs.ab_building.specs.Heads.{HeadsFit}
 use Rattle.ab_rows.specs.ab_building.specs.Outcomes.{nominal_of}
 use Rattle.ab_rows.specs.ab_building.proofs.Fitting.{reading_fits}

@@ -1,9 +1,9 @@
 -- WHAT IS TRUE OF ALL THAT A SESSION DECLARES: it begins with what is built in, what is defined is so by clauses of case
 -- analysis, and theorems are sentences. And what is true of each state of a session.
 use Rattle.std.specs.Prelude.{Option, Some, None}
-use Rattle.ab_rows.specs.ab_logic.specs.Formulas.{IsSentence}
-use Rattle.ab_rows.specs.ab_logic.specs.Declarations.{Declarations, Extends, HaveDefinitions, HaveSentences, signature_in}
-use Rattle.ab_rows.specs.ab_logic.specs.Worlds.{first_declarations}
+use Rattle.ab_formulas.specs.Formulas.{IsSentence}
+use Rattle.ab_formulas.specs.Declarations.{Declarations, Extends, HaveDefinitions, HaveSentences, signature_in}
+use Rattle.ab_states.specs.ab_logic.specs.Worlds.{first_declarations}
 use Rattle.ab_states.specs.State.{Attempt, State}
 
 pub record AreSound (D : Declarations) : Type 0 where

@@ -3,7 +3,8 @@ use Rattle.std.proofs.Common.{◌≡◌, ℕ, lit<, List, ◌++◌, Option, Some
 use Rattle.std.specs.Prelude.{Ok, Err, Result, codes, Contains, IsSome, IsNone, OnOk, OnErr}
 use Rattle.std.proofs.lemmas.List.Elements.{Contains-append_left}
 use Rattle.ab_term.specs.Types.{Ty, arrow, o, olist}
-use Rattle.ab_resolving.specs.ab_types.specs.Entries.{Table, a_type, kinds, constants, names, signature, first_entries, FindsOrAdds, IsExtendedBy}
+use Rattle.ab_term.specs.Constants.{names}
+use Rattle.ab_resolving.specs.ab_types.specs.Entries.{Table, a_type, kinds, constants, signature, first_entries, FindsOrAdds, IsExtendedBy}
 use Rattle.ab_resolving.specs.ab_types.specs.Ids.{HoldsType, HoldsConstant, type_of, constant_of}
 use Rattle.ab_resolving.specs.ab_types.specs.Sound.{IsTable}
 use Rattle.ab_resolving.specs.ab_types.specs.declared.ids.TypeId.{TypeId}

@@ -1,7 +1,8 @@
 -- What a walk stands on, in a table with more types.
 use Rattle.std.proofs.Common.{◌≡◌, List, [], ◌∷◌, Option, Some, None, option_map, refl, ap, ◌∙◌}
 use Rattle.std.proofs.lemmas.List.Elements.{All-nil, All-cons, All-head, All-tail}
-use Rattle.ab_resolving.specs.ab_types.specs.Entries.{Table, kinds, signature, type_in, IsExtendedBy}
+use Rattle.ab_term.specs.Constants.{type_in}
+use Rattle.ab_resolving.specs.ab_types.specs.Entries.{Table, kinds, signature, IsExtendedBy}
 use Rattle.ab_resolving.specs.ab_types.specs.Sound.{IsTable}
 use Rattle.ab_resolving.specs.ab_types.specs.Ids.{HoldsType, type_of}
 use Rattle.ab_resolving.specs.ab_types.specs.declared.ids.TypeId.{TypeId}

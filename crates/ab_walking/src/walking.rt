@@ -1,8 +1,7 @@
 //! The walk over an expression.
 ghost use Rattle.std.specs.Prelude.{◌≡◌, [], Ok, Err, Some, None, option_map, map, MatchResult};
-ghost use Rattle.ab_resolving.specs.ab_types.specs.Entries.{Table};
+ghost use Rattle.ab_resolving.specs.ab_types.specs.Entries.{Table, kinds};
 ghost use Rattle.ab_resolving.specs.ab_types.specs.Sound.{IsTable};
-ghost use Rattle.ab_resolving.specs.ab_types.specs.Entries.{kinds};
 ghost use Rattle.ab_resolving.specs.ab_store.specs.Trees.{Contents};
 ghost use Rattle.ab_grammar.specs.declared.Quant.{Quant};
 ghost use Rattle.ab_resolving.specs.ab_readings.specs.Names.{quantified};

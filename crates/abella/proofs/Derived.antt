@@ -6,14 +6,14 @@ use Rattle.std.proofs.lemmas.List.{append-nil, length-append}
 use Rattle.std.proofs.lemmas.Bool.{cases_order}
 use Rattle.ab_blocks.specs.ab_lex.specs.Commands.{Item}
 use Rattle.ab_term.specs.Types.{Ty}
-use Rattle.ab_blocks.specs.ab_types.specs.Entries.{Constant}
-use Rattle.ab_blocks.specs.ab_store.specs.Trees.{Read}
-use Rattle.ab_blocks.specs.ab_logic.specs.Declarations.{Declarations, Block, a_kind, a_constant, a_block, a_theorem, theorems_in}
-use Rattle.ab_blocks.specs.ab_logic.proofs.Declaring.{theorems_in-append}
+use Rattle.ab_term.specs.Constants.{Constant}
+use Rattle.ab_term.specs.Terms.{Read}
+use Rattle.ab_formulas.specs.Declarations.{Declarations, Block, a_kind, a_constant, a_block, a_theorem, theorems_in}
+use Rattle.ab_formulas.proofs.Declaring.{theorems_in-append}
 use Rattle.ab_grammar.specs.CommandTrees.{Command}
 use Rattle.ab_blocks.specs.ab_declare.specs.Declaring.{Declares, new_kinds, new_constants, new_predicates}
 use Rattle.ab_blocks.specs.ab_declare.specs.Defining.{block_with, predicate_of}
-use Rattle.ab_blocks.specs.ab_kernel.specs.Derivation.{Derivation}
+use Rattle.ab_theory.specs.Derivations.{Derivation}
 use Rattle.ab_blocks.specs.ab_states.specs.State.{State, empty}
 use Rattle.ab_blocks.specs.ab_logic.specs.Worlds.{defined, first_declarations}
 use Rattle.ab_blocks.specs.ab_logic.specs.declared.world.World.{World}

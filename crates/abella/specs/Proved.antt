@@ -1,7 +1,7 @@
 -- Theorems that are proved, in terms of the kernel's derivations.
 use Rattle.std.specs.Prelude.{◌<◌, ℕ, length}
-use Rattle.ab_blocks.specs.ab_logic.specs.Declarations.{theorems_in}
-use Rattle.ab_blocks.specs.ab_kernel.specs.Derivation.{Derivation}
+use Rattle.ab_formulas.specs.Declarations.{theorems_in}
+use Rattle.ab_theory.specs.Derivations.{Derivation}
 use Rattle.ab_blocks.specs.ab_states.specs.State.{State}
 use Rattle.ab_blocks.specs.ab_states.specs.Reply.{Reply, completed}
 use Rattle.ab_blocks.specs.ab_states.specs.Derived.{IsDerived}

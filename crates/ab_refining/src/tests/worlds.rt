@@ -4,12 +4,12 @@ ghost use Rattle.ab_term.specs.Names.{support};
 ghost use Rattle.ab_print.specs.ab_types.specs.Entries.{IsExtendedBy, signature};
 ghost use Rattle.ab_print.specs.ab_types.specs.Ids.{HoldsType};
 ghost use Rattle.ab_print.specs.ab_store.specs.Reading.{HoldsCell};
-ghost use Rattle.ab_print.specs.ab_clauses.specs.Proposed.{IsProposed};
+ghost use Rattle.ab_formulas.specs.Proposed.{IsProposed};
 ghost use Rattle.ab_print.specs.ab_clauses.specs.Readings.{HoldsClause, clause_of};
 ghost use Rattle.ab_print.specs.ab_fits.specs.Cells.{variable_of};
-ghost use Rattle.ab_print.specs.ab_fits.specs.Fitting.{HoldsOnly};
-ghost use Rattle.ab_print.specs.ab_logic.specs.Declarations.{signature_in};
-ghost use Rattle.ab_print.specs.ab_logic.specs.Formulas.{IsFormula, IsSentence};
+ghost use Rattle.ab_formulas.specs.Fitting.{HoldsOnly};
+ghost use Rattle.ab_formulas.specs.Declarations.{signature_in};
+ghost use Rattle.ab_formulas.specs.Formulas.{IsFormula, IsSentence};
 ghost use Rattle.ab_print.specs.ab_logic.specs.Growth.{Grows};
 ghost use Rattle.ab_print.specs.ab_logic.specs.Worlds.{IsWorld, Holds, read as reading, declarations_of};
 

@@ -6,12 +6,12 @@ use Rattle.ab_instances.specs.ab_norm.specs.Nominals.{HoldsNominal}
 use Rattle.std.specs.List.{All}
 use Rattle.ab_instances.specs.ab_cases.specs.Choices.{outside}
 use Rattle.ab_instances.specs.ab_cases.specs.Clauses.{Clause as Case}
-use Rattle.ab_analysis.specs.ab_solver.specs.Answers.{IsTypedPair}
-use Rattle.ab_analysis.specs.ab_logic.specs.Forms.{sign_of}
-use Rattle.ab_analysis.specs.ab_marks.specs.Marking.{marked_in}
+use Rattle.ab_equate.specs.ab_solver.specs.Answers.{IsTypedPair}
+use Rattle.ab_marks.specs.ab_logic.specs.Forms.{sign_of}
+use Rattle.ab_formulas.specs.Marking.{marked_in}
 use Rattle.ab_instances.specs.ab_store.specs.Trees.{tree_of}
-use Rattle.ab_instances.specs.ab_clauses.specs.Kept.{Clause}
-use Rattle.ab_instances.specs.ab_clauses.specs.Cases.{case_of, IsWellKept}
+use Rattle.ab_formulas.specs.Kept.{Clause}
+use Rattle.ab_formulas.specs.Cased.{case_of, IsWellKept}
 use Rattle.ab_instances.specs.ab_clauses.specs.Readings.{clause_of, name_of}
 use Rattle.ab_instances.specs.ab_unifying.proofs.Growth.{grows_on}
 use Rattle.ab_instances.specs.Readings.{names_read}

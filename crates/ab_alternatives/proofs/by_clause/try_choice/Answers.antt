@@ -1,8 +1,8 @@
 use Rattle.std.proofs.Common.{◌≡◌, Ok, ◌∙◌, ap}
-use Rattle.ab_analysis.specs.ab_equate.specs.Cases.{CaseOver}
-use Rattle.ab_analysis.specs.ab_equate.specs.declared.cases.CaseSolution.TheVariants.{Stuck}
-use Rattle.ab_analysis.specs.ab_logic.specs.Readings.{sequent_of}
-use Rattle.ab_analysis.specs.Left.{case_of}
+use Rattle.ab_theory.specs.Splits.{CaseOver}
+use Rattle.ab_equate.specs.declared.cases.CaseSolution.TheVariants.{Stuck}
+use Rattle.ab_marks.specs.ab_logic.specs.Readings.{sequent_of}
+use Rattle.ab_theory.specs.Analysis.{case_of}
 use Rattle.ab_alternatives.specs.Readings.{defined_read, choice_read}
 use Rattle.ab_alternatives.specs.Going.{IsLater}
 use Rattle.ab_alternatives.proofs.Later.{taken_by, defines}

@@ -1,9 +1,9 @@
 use Rattle.std.proofs.Common.{◌≡◌, List, map, bytes_eq, true, sym, ◌∙◌, ap, subst}
-use Rattle.ab_instances.specs.ab_clauses.specs.Cases as kept
+use Rattle.ab_formulas.specs.Cased as kept
 use Rattle.ab_instances.specs.ab_clauses.specs.Readings.{clause_of}
 use Rattle.ab_instances.specs.Readings.{names_read}
-use Rattle.ab_analysis.specs.ab_logic.specs.Readings.{sequent_of}
-use Rattle.ab_analysis.specs.ab_equate.specs.Cases.{CaseOver}
+use Rattle.ab_marks.specs.ab_logic.specs.Readings.{sequent_of}
+use Rattle.ab_theory.specs.Splits.{CaseOver}
 use Rattle.ab_alternatives.specs.Readings.{defined_read}
 use Rattle.ab_alternatives.specs.Going.{ArePassed, AreStopped}
 use Rattle.ab_alternatives.proofs.Chosen.{listed_fit, clause_cases_are}

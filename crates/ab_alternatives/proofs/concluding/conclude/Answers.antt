@@ -9,7 +9,7 @@ use Rattle.ab_instances.specs.ab_store.specs.Trees.{HoldsCell, cell_in, tree_of}
 use Rattle.ab_instances.specs.ab_store.specs.Reading.{binding_of}
 use Rattle.ab_instances.specs.ab_norm.proofs.Frame.{if_ok, typed_on, typed_from}
 use Rattle.ab_instances.specs.Readings.{names_read}
-use Rattle.ab_analysis.specs.ab_equate.specs.Meanwhile.{unbound_of}
+use Rattle.ab_equate.specs.Meanwhile.{unbound_of}
 use Rattle.ab_alternatives.specs.Unfolding.{variable_at, closed_by}
 use Rattle.ab_alternatives.proofs.concluding.conclude.Goals as goal
 

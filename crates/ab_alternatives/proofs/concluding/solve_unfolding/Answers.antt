@@ -6,12 +6,12 @@ use Rattle.ab_instances.specs.ab_store.specs.Reading.{bound_in, reading}
 use Rattle.ab_instances.specs.ab_unifying.specs.Changed.{IsFree}
 use Rattle.ab_instances.specs.ab_unifying.specs.Problem.{problem}
 use Rattle.ab_instances.specs.ab_unifying.proofs.Growth.{grows_on, grows_terms}
-use Rattle.ab_analysis.specs.ab_solver.specs.declared.solved.Solved.TheVariants.{Unified}
-use Rattle.ab_analysis.specs.ab_solver.specs.Answers.{HasSolution, AreNewCells, AreInAge}
+use Rattle.ab_equate.specs.ab_solver.specs.declared.solved.Solved.TheVariants.{Unified}
+use Rattle.ab_equate.specs.ab_solver.specs.Answers.{HasSolution, AreNewCells, AreInAge}
 use Rattle.ab_instances.specs.Readings.{names_read}
 use Rattle.ab_instances.proofs.Made.{names_held}
-use Rattle.ab_analysis.specs.ab_equate.specs.Meanwhile.{unbound_of}
-use Rattle.ab_analysis.specs.ab_equate.proofs.Outcomes.{at_ok, at_unified}
+use Rattle.ab_equate.specs.Meanwhile.{unbound_of}
+use Rattle.ab_equate.proofs.Outcomes.{at_ok, at_unified}
 use Rattle.ab_alternatives.specs.Unfolding.{variable_at, closed_by, Becomes}
 use Rattle.ab_alternatives.proofs.LeftOpen.{from_held, all_there}
 use Rattle.ab_alternatives.proofs.Concluded.{becomes}

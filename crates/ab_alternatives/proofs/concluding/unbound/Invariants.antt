@@ -1,5 +1,5 @@
 use Rattle.std.proofs.Common.{◌≡◌, take}
-use Rattle.ab_analysis.specs.ab_equate.specs.Meanwhile.{unbound_of}
+use Rattle.ab_equate.specs.Meanwhile.{unbound_of}
 use Rattle.ab_alternatives.proofs.concluding.unbound.Given as goal
 
 abbrev pub invariant-loop-cell : goal.invariant-loop-cell

@@ -1,7 +1,7 @@
 use Rattle.std.proofs.Common.{Some, Ok, ◌∙◌, ap, arith}
 use Rattle.ab_instances.specs.ab_unifying.specs.Problem.{cells_read}
-use Rattle.ab_analysis.specs.ab_logic.specs.Readings.{sequent_of}
-use Rattle.ab_analysis.specs.ab_logic.proofs.Growing.{grows_on}
+use Rattle.ab_marks.specs.ab_logic.specs.Readings.{sequent_of}
+use Rattle.ab_marks.specs.ab_logic.proofs.Growing.{grows_on}
 use Rattle.ab_alternatives.specs.Readings.{defined_read}
 use Rattle.ab_alternatives.specs.declared.matching.Match.TheVariants.{Closed, Open, Apart, Stuck}
 use Rattle.ab_alternatives.proofs.Lasting.{still_defined}

@@ -1,8 +1,8 @@
 use Rattle.std.proofs.Common.{◌≡◌, ◌≤◌}
 use Rattle.ab_instances.specs.ab_unifying.specs.Problem.{cells_read}
-use Rattle.ab_analysis.specs.ab_logic.specs.Growth.{Grows}
-use Rattle.ab_analysis.specs.ab_logic.specs.Readings.{sequent_of}
-use Rattle.ab_analysis.specs.ab_logic.specs.Worlds.{declarations_of}
+use Rattle.ab_marks.specs.ab_logic.specs.Growth.{Grows}
+use Rattle.ab_marks.specs.ab_logic.specs.Readings.{sequent_of}
+use Rattle.ab_marks.specs.ab_logic.specs.Worlds.{declarations_of}
 use Rattle.ab_alternatives.specs.Readings.{defined_read}
 use Rattle.ab_alternatives.specs.Finding.{NoneBefore}
 use Rattle.ab_alternatives.proofs.finding.first_unfolding.Given as goal

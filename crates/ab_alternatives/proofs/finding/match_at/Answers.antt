@@ -5,12 +5,12 @@ use Rattle.std.proofs.lemmas.List.Elements.{All-head}
 use Rattle.ab_instances.specs.ab_norm.specs.declared.nominal.Nominal.{Nominal}
 use Rattle.ab_instances.specs.ab_unifying.specs.Problem.{cells_read}
 use Rattle.ab_instances.specs.Readings.{names_read}
-use Rattle.ab_analysis.specs.ab_logic.specs.Declarations.{signature_in}
-use Rattle.ab_analysis.specs.ab_logic.specs.Formulas.{IsFormula}
-use Rattle.ab_analysis.specs.ab_logic.specs.Readings.{sequent_of}
-use Rattle.ab_analysis.specs.ab_logic.specs.Sequents.{formulas}
-use Rattle.ab_analysis.specs.ab_logic.specs.Worlds.{declarations_of}
-use Rattle.ab_analysis.specs.Atoms.{choices_of}
+use Rattle.ab_formulas.specs.Declarations.{signature_in}
+use Rattle.ab_formulas.specs.Formulas.{IsFormula}
+use Rattle.ab_marks.specs.ab_logic.specs.Readings.{sequent_of}
+use Rattle.ab_formulas.specs.Sequents.{formulas}
+use Rattle.ab_marks.specs.ab_logic.specs.Worlds.{declarations_of}
+use Rattle.ab_theory.specs.Atoms.{choices_of}
 use Rattle.ab_alternatives.specs.Readings.{defined_read, choice_read}
 use Rattle.ab_alternatives.specs.Matching.{Matches}
 use Rattle.ab_alternatives.specs.Choices.{read_choice, IsHeldFor}

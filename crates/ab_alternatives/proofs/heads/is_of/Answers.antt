@@ -1,4 +1,4 @@
-use Rattle.ab_alternatives.proofs.Headed.{predicate_is}
+use Rattle.ab_formulas.proofs.Headed.{predicate_is}
 use Rattle.std.proofs.Common.{sym, ◌∙◌, ap, bytes_eq}
 use Rattle.ab_instances.specs.ab_clauses.specs.Readings.{clause_of, name_of}
 use Rattle.ab_alternatives.proofs.Placed.{same_by_name}

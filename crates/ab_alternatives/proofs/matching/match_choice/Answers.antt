@@ -1,7 +1,7 @@
 use Rattle.std.proofs.Common.{◌∙◌}
-use Rattle.ab_analysis.specs.ab_equate.proofs.Restored as restored
-use Rattle.ab_analysis.specs.ab_logic.specs.declared.world.World.{World}
-use Rattle.ab_analysis.specs.ab_solver.proofs.Cut.{cut_as_before, cut_grows}
+use Rattle.ab_equate.proofs.Restored as restored
+use Rattle.ab_marks.specs.ab_logic.specs.declared.world.World.{World}
+use Rattle.ab_equate.specs.ab_solver.proofs.Cut.{cut_as_before, cut_grows}
 use Rattle.ab_alternatives.proofs.Tried.{grown_to, declared_to}
 use Rattle.ab_alternatives.proofs.matching.match_choice.Goals as goal
 

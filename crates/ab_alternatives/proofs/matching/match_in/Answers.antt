@@ -3,9 +3,9 @@ use Rattle.ab_instances.specs.ab_norm.proofs.Frame.{if_ok}
 use Rattle.ab_instances.specs.ab_store.specs.Trees.{tree_of}
 use Rattle.ab_instances.specs.ab_unifying.specs.Problem.{cells_read}
 use Rattle.ab_instances.specs.ab_unifying.proofs.Growth.{grows_on}
-use Rattle.ab_analysis.specs.ab_logic.specs.Sequents.{Sequent}
-use Rattle.ab_analysis.specs.ab_equate.specs.Cases.{problem_of}
-use Rattle.ab_analysis.specs.Right.{unfolding_case}
+use Rattle.ab_formulas.specs.Sequents.{Sequent}
+use Rattle.ab_theory.specs.Splits.{problem_of}
+use Rattle.ab_theory.specs.Unfolding.{unfolding_case}
 use Rattle.ab_alternatives.specs.Matching.{IsMatch, cells_before}
 use Rattle.ab_alternatives.specs.Readings.{defined_read, choice_read}
 use Rattle.ab_alternatives.proofs.UnfoldingCase.{own_from, problem_is, before_is}

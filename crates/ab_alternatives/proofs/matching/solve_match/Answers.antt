@@ -9,10 +9,10 @@ use Rattle.ab_instances.specs.ab_store.specs.Reading.{bound_in}
 use Rattle.ab_instances.specs.ab_solve.specs.Solving.{Solves, unified}
 use Rattle.ab_instances.specs.ab_unifying.specs.Changed.{IsFree}
 use Rattle.ab_instances.specs.ab_unifying.specs.Problem.{problem}
-use Rattle.ab_analysis.specs.ab_solver.specs.declared.solved.Solved.TheVariants.{Unified}
-use Rattle.ab_analysis.specs.ab_solver.specs.Answers.{HasSolution, AreNewCells, AreInAge, AreLeft}
-use Rattle.ab_analysis.specs.ab_equate.specs.Meanwhile.{unbound_of}
-use Rattle.ab_analysis.specs.ab_equate.proofs.Outcomes.{at_ok, at_unified}
+use Rattle.ab_equate.specs.ab_solver.specs.declared.solved.Solved.TheVariants.{Unified}
+use Rattle.ab_equate.specs.ab_solver.specs.Answers.{HasSolution, AreNewCells, AreInAge, AreLeft}
+use Rattle.ab_equate.specs.Meanwhile.{unbound_of}
+use Rattle.ab_equate.proofs.Outcomes.{at_ok, at_unified}
 use Rattle.ab_alternatives.specs.Matching.{TellsOpen}
 use Rattle.ab_alternatives.proofs.LeftOpen.{from_held, all_there}
 use Rattle.ab_alternatives.proofs.Matched.{told}

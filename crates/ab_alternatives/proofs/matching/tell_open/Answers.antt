@@ -5,7 +5,7 @@ use Rattle.std.proofs.lemmas.List.Elements.{All-filter, All-get_or}
 use Rattle.ab_instances.specs.ab_store.specs.declared.node.CellId.{CellId}
 use Rattle.ab_instances.specs.ab_store.specs.Trees.{HoldsCell}
 use Rattle.ab_instances.specs.ab_store.specs.Reading.{binding_of}
-use Rattle.ab_analysis.specs.ab_equate.specs.Meanwhile.{unbound_of}
+use Rattle.ab_equate.specs.Meanwhile.{unbound_of}
 use Rattle.ab_alternatives.proofs.matching.tell_open.Goals as goal
 
 pub cell_name-requires : goal.cell_name-requires

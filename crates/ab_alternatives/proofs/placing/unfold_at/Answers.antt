@@ -5,15 +5,15 @@ use Rattle.std.proofs.lemmas.List.Elements.{All-head}
 use Rattle.ab_instances.specs.ab_norm.specs.declared.nominal.Nominal.{Nominal}
 use Rattle.ab_instances.specs.ab_unifying.specs.Problem.{cells_read}
 use Rattle.ab_instances.specs.Readings.{names_read}
-use Rattle.ab_analysis.specs.ab_logic.specs.Declarations.{signature_in}
-use Rattle.ab_analysis.specs.ab_logic.specs.Formulas.{IsFormula}
-use Rattle.ab_analysis.specs.ab_logic.specs.Readings.{sequent_of}
-use Rattle.ab_analysis.specs.ab_logic.specs.Sequents.{formulas}
-use Rattle.ab_analysis.specs.ab_logic.specs.Worlds.{declarations_of}
-use Rattle.ab_analysis.specs.ab_equate.specs.Cases.{NeverArises, IsOpen}
-use Rattle.ab_analysis.specs.ab_equate.specs.declared.cases.CaseSolution.TheVariants.{Unified, Apart, Stuck}
-use Rattle.ab_analysis.specs.Atoms.{choices_of}
-use Rattle.ab_analysis.specs.Right.{unfolding_case}
+use Rattle.ab_formulas.specs.Declarations.{signature_in}
+use Rattle.ab_formulas.specs.Formulas.{IsFormula}
+use Rattle.ab_marks.specs.ab_logic.specs.Readings.{sequent_of}
+use Rattle.ab_formulas.specs.Sequents.{formulas}
+use Rattle.ab_marks.specs.ab_logic.specs.Worlds.{declarations_of}
+use Rattle.ab_theory.specs.Splits.{NeverArises, IsOpen}
+use Rattle.ab_equate.specs.declared.cases.CaseSolution.TheVariants.{Unified, Apart, Stuck}
+use Rattle.ab_theory.specs.Atoms.{choices_of}
+use Rattle.ab_theory.specs.Unfolding.{unfolding_case}
 use Rattle.ab_alternatives.specs.Readings.{defined_read, choice_read}
 use Rattle.ab_alternatives.specs.Unfolding.{IsUnfolded}
 use Rattle.ab_alternatives.specs.Choices.{read_choice, IsHeldFor}

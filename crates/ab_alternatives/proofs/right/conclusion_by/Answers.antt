@@ -4,7 +4,7 @@ use Rattle.ab_instances.specs.ab_solve.specs.Solving.{unified, apart, stuck, Sol
 use Rattle.ab_instances.specs.ab_unifying.proofs.Growth.{grows_on}
 use Rattle.ab_instances.specs.Readings.{names_read}
 use Rattle.ab_instances.proofs.Made.{names_stay, names_held}
-use Rattle.ab_analysis.specs.ab_logic.specs.Sequents.{Sequent}
+use Rattle.ab_formulas.specs.Sequents.{Sequent}
 use Rattle.ab_alternatives.specs.Readings.{defined_read, choice_read}
 use Rattle.ab_alternatives.proofs.UnfoldingCase.{own_from, problem_is, conclusion_is}
 use Rattle.ab_alternatives.proofs.right.conclusion_by.Goals as goal

@@ -1,10 +1,10 @@
 use Rattle.std.proofs.Common.{◌≡◌, Ok, ◌∙◌, ap, subst}
 use Rattle.ab_instances.specs.ab_unifying.specs.Problem.{cells_read}
-use Rattle.ab_analysis.specs.ab_logic.specs.Sequents.{proving}
-use Rattle.ab_analysis.specs.ab_logic.specs.Worlds.{read}
-use Rattle.ab_analysis.specs.ab_logic.specs.Readings.{sequent_of}
-use Rattle.ab_analysis.specs.ab_equate.specs.Cases.{IsOpen}
-use Rattle.ab_analysis.specs.Right.{unfolding_case}
+use Rattle.ab_formulas.specs.Sequents.{proving}
+use Rattle.ab_marks.specs.ab_logic.specs.Worlds.{read}
+use Rattle.ab_marks.specs.ab_logic.specs.Readings.{sequent_of}
+use Rattle.ab_theory.specs.Splits.{IsOpen}
+use Rattle.ab_theory.specs.Unfolding.{unfolding_case}
 use Rattle.ab_alternatives.specs.Readings.{defined_read, choice_read}
 use Rattle.ab_alternatives.specs.Unfolding.{IsUnfolded}
 use Rattle.ab_alternatives.proofs.Undone.{undone, grown, told, goal_is}

@@ -3,15 +3,15 @@ use Rattle.std.specs.List.{All}
 use Rattle.std.proofs.lemmas.List.Elements.{All-nil, All-get_or}
 use Rattle.ab_instances.specs.ab_unifying.specs.Problem.{cells_read}
 use Rattle.ab_instances.specs.ab_cases.specs.Choices.{for_each}
-use Rattle.ab_instances.specs.ab_clauses.specs.Cases as kept
+use Rattle.ab_formulas.specs.Cased as kept
 use Rattle.ab_instances.specs.ab_clauses.specs.Readings.{clause_of}
 use Rattle.ab_instances.specs.ab_clauses.specs.declared.kept.ClauseTerm.{ClauseTerm}
-use Rattle.ab_analysis.specs.ab_logic.specs.Names.{IsNamedFor}
-use Rattle.ab_analysis.specs.ab_logic.specs.Worlds.{IsKeptClause, declarations_of}
-use Rattle.ab_analysis.specs.ab_logic.specs.Readings.{HoldsSequent, sequent_of}
-use Rattle.ab_analysis.specs.ab_logic.specs.declared.sequent.Sequent.{Sequent as Kept}
-use Rattle.ab_analysis.specs.ab_equate.specs.Cases.{CaseOver, Split, IsUnsplit}
-use Rattle.ab_analysis.specs.Left.{cases_of}
+use Rattle.ab_formulas.specs.Names.{IsNamedFor}
+use Rattle.ab_marks.specs.ab_logic.specs.Worlds.{IsKeptClause, declarations_of}
+use Rattle.ab_marks.specs.ab_logic.specs.Readings.{HoldsSequent, sequent_of}
+use Rattle.ab_marks.specs.ab_logic.specs.declared.sequent.Sequent.{Sequent as Kept}
+use Rattle.ab_theory.specs.Splits.{CaseOver, Split, IsUnsplit}
+use Rattle.ab_theory.specs.Analysis.{cases_of}
 use Rattle.ab_alternatives.specs.Readings.{defined_read}
 use Rattle.ab_alternatives.specs.Going.{clause_cases, ArePassed}
 use Rattle.ab_alternatives.proofs.Passed.{later_not, later_on, passed_none, all_passed}

@@ -1,8 +1,8 @@
 use Rattle.std.proofs.Common.{◌≤◌, [], take}
 use Rattle.ab_instances.specs.ab_cases.specs.Choices.{for_each}
-use Rattle.ab_instances.specs.ab_clauses.specs.Cases as kept
+use Rattle.ab_formulas.specs.Cased as kept
 use Rattle.ab_instances.specs.ab_clauses.specs.Readings.{clause_of}
-use Rattle.ab_analysis.specs.ab_logic.specs.Readings.{sequent_of}
+use Rattle.ab_marks.specs.ab_logic.specs.Readings.{sequent_of}
 use Rattle.ab_alternatives.specs.Readings.{defined_read}
 use Rattle.ab_alternatives.specs.Going.{clause_cases, IsLater, IsReady, ArePassed}
 use Rattle.ab_alternatives.proofs.splitting.split.Given as goal

@@ -7,12 +7,12 @@ use Rattle.ab_instances.specs.ab_store.specs.declared.node.CellId.{CellId}
 use Rattle.ab_instances.specs.ab_unifying.specs.Changed.{IsFree}
 use Rattle.ab_instances.specs.ab_unifying.specs.Problem.{cells_read}
 use Rattle.ab_instances.specs.ab_unifying.proofs.Growth.{grows_on}
-use Rattle.ab_analysis.specs.ab_solver.specs.Answers.{IsTypedPair}
-use Rattle.ab_analysis.specs.ab_logic.specs.Names.{IsNamedFor}
-use Rattle.ab_analysis.specs.ab_logic.specs.Worlds.{HoldsCell, declarations_of}
-use Rattle.ab_analysis.specs.ab_logic.specs.Readings.{sequent_of}
-use Rattle.ab_analysis.specs.ab_equate.specs.Cases.{Case, Arises, NeverArises, IsOpen}
-use Rattle.ab_analysis.specs.ab_equate.specs.Meanwhile.{case_read}
+use Rattle.ab_equate.specs.ab_solver.specs.Answers.{IsTypedPair}
+use Rattle.ab_formulas.specs.Names.{IsNamedFor}
+use Rattle.ab_marks.specs.ab_logic.specs.Worlds.{HoldsCell, declarations_of}
+use Rattle.ab_marks.specs.ab_logic.specs.Readings.{sequent_of}
+use Rattle.ab_theory.specs.Splits.{Case, Arises, NeverArises, IsOpen}
+use Rattle.ab_equate.specs.Meanwhile.{case_read}
 use Rattle.ab_alternatives.specs.Made.{case_put}
 use Rattle.ab_alternatives.proofs.trying.solve_alternative.Given.{Over}
 use Rattle.ab_alternatives.proofs.Solved.{u, declared, goal_formulas, same_pair, is_free, case_so}

@@ -3,22 +3,22 @@ use Rattle.std.specs.Prelude.{AllPairs, Contains}
 use Rattle.std.proofs.Common.{◌≢◌, ◌≤◌, ◌<◌, List, ◌++◌, Ok, map, length, take, refl, sym, ◌∙◌, ap, subst}
 use Rattle.ab_instances.specs.ab_store.specs.declared.node.CellId.{CellId}
 use Rattle.ab_instances.specs.ab_unifying.proofs.Growth.{grows_on}
-use Rattle.ab_analysis.specs.ab_logic.specs.Worlds.{declarations_of}
-use Rattle.ab_analysis.specs.ab_logic.specs.declared.world.World.{World}
-use Rattle.ab_analysis.specs.ab_logic.specs.declared.sequent.Sequent.{Sequent as Kept}
-use Rattle.ab_analysis.specs.ab_equate.proofs.Restored as restored
-use Rattle.ab_analysis.specs.ab_solver.proofs.Cut.{cut_as_before, cut_grows}
-use Rattle.ab_analysis.specs.ab_logic.specs.Formulas.{IsFormula}
-use Rattle.ab_analysis.specs.ab_logic.specs.Declarations.{signature_in}
-use Rattle.ab_analysis.specs.ab_logic.specs.Sequents.{formulas_of}
-use Rattle.ab_analysis.specs.ab_logic.specs.Readings.{sequent_of, HoldsSequent}
+use Rattle.ab_marks.specs.ab_logic.specs.Worlds.{declarations_of}
+use Rattle.ab_marks.specs.ab_logic.specs.declared.world.World.{World}
+use Rattle.ab_marks.specs.ab_logic.specs.declared.sequent.Sequent.{Sequent as Kept}
+use Rattle.ab_equate.proofs.Restored as restored
+use Rattle.ab_equate.specs.ab_solver.proofs.Cut.{cut_as_before, cut_grows}
+use Rattle.ab_formulas.specs.Formulas.{IsFormula}
+use Rattle.ab_formulas.specs.Declarations.{signature_in}
+use Rattle.ab_formulas.specs.Sequents.{formulas_of}
+use Rattle.ab_marks.specs.ab_logic.specs.Readings.{sequent_of, HoldsSequent}
 use Rattle.ab_instances.specs.ab_store.specs.Trees.{HoldsCell}
 use Rattle.ab_instances.specs.Binding.{CanBeBound}
-use Rattle.ab_analysis.specs.ab_equate.specs.Meanwhile.{count_before}
-use Rattle.ab_analysis.specs.ab_logic.specs.Names.{IsNamedFor}
-use Rattle.ab_analysis.specs.ab_equate.specs.Cases.{Arises, NeverArises, IsOpen}
+use Rattle.ab_equate.specs.Meanwhile.{count_before}
+use Rattle.ab_formulas.specs.Names.{IsNamedFor}
+use Rattle.ab_theory.specs.Splits.{Arises, NeverArises, IsOpen}
 use Rattle.ab_instances.specs.ab_unifying.specs.Problem.{cell_read, cells_read}
-use Rattle.ab_analysis.specs.Left.{case_of}
+use Rattle.ab_theory.specs.Analysis.{case_of}
 use Rattle.ab_alternatives.specs.Readings.{defined_read, choice_read}
 use Rattle.ab_alternatives.specs.Made.{IsMade, case_put, goal_for, fresh_in}
 use Rattle.ab_alternatives.proofs.Raised.{fit_of}

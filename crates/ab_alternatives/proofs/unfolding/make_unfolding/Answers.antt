@@ -5,18 +5,19 @@ use Rattle.ab_term.specs.Typing.{Signature, HasType}
 use Rattle.ab_term.specs.Variables.{image, image_all, value_in}
 use Rattle.ab_term.specs.Sameness.{same_number}
 use Rattle.ab_instances.specs.ab_types.specs.Entries.{signature}
-use Rattle.ab_instances.specs.ab_store.specs.Trees.{Read, tree_of}
+use Rattle.ab_term.specs.Terms.{Read}
+use Rattle.ab_instances.specs.ab_store.specs.Trees.{tree_of}
 use Rattle.ab_instances.specs.ab_norm.specs.Nominals.{HoldsNominal}
 use Rattle.ab_instances.specs.ab_cases.specs.Choices.{outside}
 use Rattle.ab_instances.specs.ab_cases.specs.Clauses.{filled}
 use Rattle.ab_instances.specs.ab_cases.specs.Alternatives.{cells_over, made_over, made_terms, arguments_equal}
-use Rattle.ab_analysis.specs.ab_solver.specs.Answers.{IsTypedPair}
-use Rattle.ab_analysis.specs.ab_logic.specs.Forms.{sign_of}
-use Rattle.ab_analysis.specs.ab_logic.specs.Formulas.{a_formula, StandsIn}
-use Rattle.ab_analysis.specs.ab_logic.proofs.Images.{image_stands}
-use Rattle.ab_analysis.specs.ab_marks.specs.Marking.{mark_above, marked_in}
-use Rattle.ab_alternatives.proofs.MarkedFormulas.{one_marked}
-use Rattle.ab_instances.specs.ab_clauses.specs.Cases.{case_of}
+use Rattle.ab_equate.specs.ab_solver.specs.Answers.{IsTypedPair}
+use Rattle.ab_marks.specs.ab_logic.specs.Forms.{sign_of}
+use Rattle.ab_formulas.specs.Formulas.{a_formula, StandsIn}
+use Rattle.ab_formulas.proofs.Images.{image_stands}
+use Rattle.ab_formulas.specs.Marking.{mark_above, marked_in}
+use Rattle.ab_formulas.proofs.MarkedFormulas.{one_marked}
+use Rattle.ab_formulas.specs.Cased.{case_of}
 use Rattle.ab_instances.specs.ab_clauses.specs.Readings.{clause_of, name_of}
 use Rattle.ab_instances.specs.ab_unifying.specs.Problem.{cells_read}
 use Rattle.ab_instances.specs.ab_unifying.proofs.Growth.{grows_on, grows_terms}

@@ -8,11 +8,11 @@ use Rattle.ab_staging.specs.ab_logic.specs.Readings.{sequent_of}
 use Rattle.ab_staging.specs.ab_logic.specs.Worlds.{read, declarations_of}
 use Rattle.ab_staging.specs.ab_logic.proofs.Growing.{grows_on, still_held}
 use Rattle.ab_staging.specs.ab_naming.specs.Labels.{label_of}
-use Rattle.ab_staging.specs.ab_using.specs.Pieces.{pieces, antecedent_count, AllServe}
+use Rattle.ab_theory.specs.Pieces.{pieces, antecedent_count, AllServe}
 use Rattle.ab_staging.specs.ab_taking.specs.Readings.{given_of, HoldsIfAny}
 use Rattle.ab_staging.specs.ab_matching.specs.Readings.{aim_of, MayBeUsed}
-use Rattle.ab_staging.specs.ab_using.specs.Uses.{Aim}
-use Rattle.ab_staging.specs.ab_using.specs.Answers.{IsUsedFor}
+use Rattle.ab_theory.specs.Uses.{Aim}
+use Rattle.ab_theory.specs.Using.{IsUsedFor}
 use Rattle.ab_staging.specs.ab_effects.specs.Effect.{effect, left_to_show}
 use Rattle.ab_staging.specs.ab_effects.specs.Row.{leads}
 use Rattle.ab_staging.specs.ab_effects.specs.Using.{formulas_in, using}

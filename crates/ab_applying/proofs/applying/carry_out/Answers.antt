@@ -1,9 +1,9 @@
 use Rattle.std.specs.Prelude.{◌≡◌, ℕ, List, ◌∷◌, None, map, All}
 use Rattle.std.proofs.Common.{length, sym, ◌∙◌, ap, subst, rules}
 use Rattle.std.proofs.lemmas.List.{length-map}
-use Rattle.ab_staging.specs.ab_store.specs.Trees.{Read}
+use Rattle.ab_term.specs.Terms.{Read}
 use Rattle.ab_staging.specs.ab_store.specs.declared.node.TermId.{TermId}
-use Rattle.ab_staging.specs.ab_logic.specs.Sequents.{Sequent, formula_of}
+use Rattle.ab_formulas.specs.Sequents.{Sequent, formula_of}
 use Rattle.ab_staging.specs.ab_logic.specs.Worlds.{read}
 use Rattle.ab_staging.specs.ab_naming.specs.Labels.{label_of}
 use Rattle.ab_staging.specs.ab_taking.specs.Readings.{given_of}

@@ -1,5 +1,5 @@
 use Rattle.std.proofs.Common.{◌∙◌, ap}
-use Rattle.ab_staging.specs.ab_logic.specs.Declarations.{theorem_in}
+use Rattle.ab_formulas.specs.Declarations.{theorem_in}
 use Rattle.ab_staging.specs.ab_logic.specs.Worlds.{declarations_of}
 use Rattle.ab_staging.specs.ab_effects.specs.Using.{formula_or}
 use Rattle.ab_applying.proofs.asking.formula_named.Goals as goal

@@ -1,6 +1,6 @@
 use Rattle.std.specs.Prelude.{[], Err}
 use Rattle.std.proofs.Common.{◌≡◌, suc, ◌+◌, inl, inr, sym, ◌∙◌, ap, subst, arith}
-use Rattle.ab_staging.specs.ab_using.specs.Answers.{NothingMatches, IsOutsideAt, IsLeftOpen}
+use Rattle.ab_theory.specs.Using.{NothingMatches, IsOutsideAt, IsLeftOpen}
 use Rattle.ab_staging.specs.ab_matching.specs.Readings.{using_of, Finds}
 use Rattle.ab_staging.specs.ab_effects.specs.Effect.{left_to_show}
 use Rattle.ab_staging.specs.ab_effects.specs.Refusals.{not_pattern}

@@ -2,7 +2,7 @@ use Rattle.std.specs.Prelude.{Some, None, [], ◌∷◌, ◌++◌, All}
 use Rattle.std.specs.Option.{option_map}
 use Rattle.std.proofs.Common.{◌≡◌, map, sym, ◌∙◌, ap, subst, arith}
 use Rattle.ab_staging.specs.ab_logic.specs.Worlds.{read}
-use Rattle.ab_staging.specs.ab_using.specs.Uses.{Aim}
+use Rattle.ab_theory.specs.Uses.{Aim}
 use Rattle.ab_staging.specs.ab_taking.specs.Readings.{HoldsIfAny}
 use Rattle.ab_applying.proofs.Named.{nothings, nothings_more, nothings_read, nothings_held}
 use Rattle.ab_applying.proofs.backchaining.aim_at.Goals as goal

@@ -2,13 +2,13 @@ use Rattle.std.specs.Prelude.{◌≡◌, ℕ, [], Some, None, map, All, Bool, fa
 use Rattle.std.proofs.Common.{refl, sym, ◌∙◌, ap, subst, rules}
 use Rattle.ab_grammar.specs.CommandTrees as told
 use Rattle.ab_syntax.specs.Commands.{instance_of}
-use Rattle.ab_staging.specs.ab_logic.specs.Marks.{MarksServeIn}
+use Rattle.ab_formulas.specs.Marks.{MarksServeIn}
 use Rattle.ab_staging.specs.ab_logic.specs.Readings.{sequent_of}
 use Rattle.ab_staging.specs.ab_logic.specs.Worlds.{read, declarations_of}
 use Rattle.ab_staging.specs.ab_logic.proofs.Growing.{grows_on, still_held}
-use Rattle.ab_staging.specs.ab_using.specs.Pieces.{pieces, behind, antecedent_count}
-use Rattle.ab_staging.specs.ab_using.specs.Answers.{IsUsedFor}
-use Rattle.ab_staging.specs.ab_using.specs.Uses.{Aim}
+use Rattle.ab_theory.specs.Pieces.{pieces, behind, antecedent_count}
+use Rattle.ab_theory.specs.Using.{IsUsedFor}
+use Rattle.ab_theory.specs.Uses.{Aim}
 use Rattle.ab_staging.specs.ab_taking.specs.Readings.{given_of, HoldsIfAny}
 use Rattle.ab_staging.specs.ab_matching.specs.Readings.{aim_of, MayBeUsed}
 use Rattle.ab_staging.specs.ab_effects.specs.Effect.{effect, left_to_show, repeated}

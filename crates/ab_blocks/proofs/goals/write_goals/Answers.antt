@@ -5,7 +5,7 @@ use Rattle.ab_states.specs.ab_logic.specs.Readings.{sequent_of}
 use Rattle.ab_states.specs.ab_print.specs.Shown as by_number
 use Rattle.ab_states.specs.ab_print.specs.Shown.{cell_name}
 use Rattle.ab_states.specs.ab_progress.specs.Progress.{goals_of}
-use Rattle.ab_states.specs.ab_goals.specs.Goals.{named}
+use Rattle.ab_formulas.specs.Goals.{named}
 use Rattle.ab_blocks.specs.Blocks.{others_if, goals_shown}
 use Rattle.ab_blocks.proofs.Lines.{on_ok, first_shown, none_left}
 use Rattle.ab_blocks.proofs.goals.write_goals.Goals as goal

@@ -1,6 +1,6 @@
 use Rattle.std.proofs.Common.{[], length, sym, ap, ◌∙◌}
 use Rattle.std.proofs.lemmas.Result.{err_from_is_err_and}
-use Rattle.ab_closing.specs.ab_types.specs.Entries.{type_in}
+use Rattle.ab_term.specs.Constants.{type_in}
 use Rattle.ab_closing.specs.ab_types.specs.Ids.{type_of}
 use Rattle.ab_closing.specs.ab_types.proofs.Entries.{type_still_held}
 use Rattle.ab_syntax.specs.Commands.{clause_of}

@@ -1,13 +1,13 @@
 use Rattle.std.proofs.Common.{◌≡◌, map, sym, ap, ◌∙◌, subst}
 use Rattle.std.specs.Option.{option_map}
 use Rattle.ab_fits.specs.ab_store.specs.Trees.{tree_of}
-use Rattle.ab_clauses.specs.Stratification.{left_of_arrows, constants}
-use Rattle.ab_clauses.specs.Faults.{HasFault, in_head, in_body}
+use Rattle.ab_formulas.specs.Stratification.{left_of_arrows, constants}
+use Rattle.ab_formulas.specs.Faults.{HasFault, in_head, in_body}
 use Rattle.ab_clauses.specs.Readings.{name_of, fault_of, clause_of}
 use Rattle.ab_clauses.specs.declared.faults.ClauseFault.{ClauseFault}
 use Rattle.ab_clauses.specs.declared.faults.ClauseFault.TheVariants.{BadHead, NotStratified}
 use Rattle.ab_clauses.proofs.Names.{none_found, one_found}
-use Rattle.ab_clauses.proofs.Walks.{denied}
+use Rattle.ab_formulas.proofs.ClausesWalks.{denied}
 use Rattle.ab_clauses.proofs.faults.clause_fault.Goals as goal
 
 pub returns-then-not-branch-clause-some : goal.returns-then-not-branch-clause-some

@@ -1,5 +1,5 @@
 use Rattle.std.proofs.Common.{◌≡◌, map, arith, subst, refl}
-use Rattle.ab_clauses.specs.Faults.{IsFaultOf}
+use Rattle.ab_formulas.specs.Faults.{IsFaultOf}
 use Rattle.ab_clauses.specs.Readings.{name_of, fault_of, block_of}
 use Rattle.ab_clauses.specs.declared.faults.ClauseFault.{ClauseFault}
 use Rattle.ab_clauses.proofs.Faulty.{one_fault, one_more, all_right, not_none}

@@ -1,6 +1,6 @@
 use Rattle.std.proofs.Common.{map, take}
 use Rattle.std.specs.List.{All}
-use Rattle.ab_clauses.specs.Faults.{IsRight}
+use Rattle.ab_formulas.specs.Faults.{IsRight}
 use Rattle.ab_clauses.specs.Readings.{name_of, clause_of}
 use Rattle.ab_clauses.specs.Looked.{AreClear, AreKeeping}
 use Rattle.ab_clauses.proofs.faults.first_fault.Given as goal

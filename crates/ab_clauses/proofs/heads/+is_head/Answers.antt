@@ -4,7 +4,7 @@ use Rattle.ab_fits.specs.ab_store.specs.declared.node.Logical.TheVariants.{Nabla
 use Rattle.ab_fits.specs.ab_store.specs.Naming.{NodeIsTyped, HeadIsTyped}
 use Rattle.ab_clauses.specs.Readings.{name_of}
 use Rattle.ab_clauses.proofs.Headed.{no_predicate, a_predicate, no_scope}
-use Rattle.ab_clauses.proofs.Walks.{if_ok, never}
+use Rattle.ab_formulas.proofs.ClausesWalks.{if_ok, never}
 use Rattle.ab_clauses.proofs.heads.+is_head.Goals as goal
 
 pub is_predicate-requires-clause-constant : goal.is_predicate-requires-clause-constant

@@ -3,11 +3,11 @@ use Rattle.std.specs.List.{All}
 use Rattle.std.proofs.lemmas.List.Elements.{All-same}
 use Rattle.ab_fits.specs.ab_store.specs.declared.node.TermId.{TermId}
 use Rattle.ab_fits.specs.ab_store.specs.Trees.{tree_of}
-use Rattle.ab_clauses.specs.Heads.{KeepsNames}
+use Rattle.ab_formulas.specs.Heads.{KeepsNames}
 use Rattle.ab_clauses.specs.Parts.{place_of}
 use Rattle.ab_clauses.proofs.Bounds.{ids_bound, bound_within, below_bound, spine_names}
 use Rattle.ab_clauses.proofs.Keeping.{keeps_spine}
-use Rattle.ab_clauses.proofs.Walks.{if_ok, always, all_so_far}
+use Rattle.ab_formulas.proofs.ClausesWalks.{if_ok, always, all_so_far}
 use Rattle.ab_clauses.proofs.heads.+keeping.Goals as goal
 
 pub all_keep-keeps-requires : goal.all_keep-keeps-requires

@@ -3,7 +3,7 @@ use Rattle.std.specs.List.{All}
 use Rattle.ab_fits.specs.ab_types.specs.Entries.{Table}
 use Rattle.ab_fits.specs.ab_store.specs.Trees.{tree_of}
 use Rattle.ab_clauses.proofs.Bounds.{ids_bound}
-use Rattle.ab_clauses.specs.Heads.{KeepsNames}
+use Rattle.ab_formulas.specs.Heads.{KeepsNames}
 use Rattle.ab_clauses.specs.Looked.{AreKeeping}
 use Rattle.ab_clauses.specs.Parts.{place_of}
 use Rattle.ab_clauses.proofs.heads.+keeping.Given as goal

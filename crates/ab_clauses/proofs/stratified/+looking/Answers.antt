@@ -6,13 +6,13 @@ use Rattle.ab_term.specs.Terms.{terms_of}
 use Rattle.ab_fits.specs.ab_store.specs.declared.node.TermId.{TermId}
 use Rattle.ab_fits.specs.ab_store.specs.Naming.{NodeIsTyped}
 use Rattle.ab_fits.specs.ab_store.specs.Trees.{tree_of, head_reading}
-use Rattle.ab_clauses.specs.Stratification.{constants, constants_of_all, own_constant, part_of_first}
+use Rattle.ab_formulas.specs.Stratification.{constants, constants_of_all, own_constant, part_of_first}
 use Rattle.ab_clauses.specs.Readings.{name_of}
 use Rattle.ab_clauses.specs.Looked.{first_of}
 use Rattle.ab_clauses.specs.Parts.{part_of}
 use Rattle.ab_clauses.proofs.Bounds.{ids_bound, bound_within, below_bound, spine_names}
 use Rattle.ab_clauses.proofs.Looking.{in_front, behind, spine_constants, constants_here, drop_end}
-use Rattle.ab_clauses.proofs.Walks.{if_ok}
+use Rattle.ab_formulas.proofs.ClausesWalks.{if_ok}
 use Rattle.ab_clauses.proofs.stratified.+looking.Goals as goal
 
 pub first_in_all-loop-id-init : goal.first_in_all-loop-id-init

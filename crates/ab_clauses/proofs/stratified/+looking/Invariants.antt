@@ -2,7 +2,7 @@ use Rattle.std.proofs.Common.{◌≡◌, ◌+◌, ◌*◌, map, drop}
 use Rattle.ab_term.specs.Terms.{terms_of}
 use Rattle.ab_fits.specs.ab_store.specs.Trees.{tree_of}
 use Rattle.ab_clauses.proofs.Bounds.{ids_bound}
-use Rattle.ab_clauses.specs.Stratification.{constants_of_all}
+use Rattle.ab_formulas.specs.Stratification.{constants_of_all}
 use Rattle.ab_clauses.specs.Readings.{name_of}
 use Rattle.ab_clauses.specs.Looked.{AreClear, first_of}
 use Rattle.ab_clauses.specs.Parts.{part_of}

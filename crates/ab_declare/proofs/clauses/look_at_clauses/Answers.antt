@@ -1,7 +1,8 @@
 use Rattle.std.proofs.Common.{◌∙◌, sym, subst, ap, arith}
 use Rattle.std.proofs.lemmas.Result.{err_from_is_err_and}
 use Rattle.std.specs.Prelude.{All}
-use Rattle.ab_sentences.specs.ab_types.specs.Entries.{kinds, signature, type_in}
+use Rattle.ab_term.specs.Constants.{type_in}
+use Rattle.ab_sentences.specs.ab_types.specs.Entries.{kinds, signature}
 use Rattle.ab_sentences.specs.ab_types.proofs.Entries.{extended_twice}
 use Rattle.ab_syntax.specs.Commands.{clause_of}
 use Rattle.ab_clausal.specs.ab_building.proofs.Larger.{store_more}

@@ -2,7 +2,8 @@ use Rattle.std.specs.Prelude.{All}
 use Rattle.std.proofs.Common.{◌∙◌, [], map, take, length, sym, subst, ap, arith}
 use Rattle.std.proofs.lemmas.Result.{err_from_is_err_and}
 use Rattle.ab_term.specs.Types.{prop}
-use Rattle.ab_sentences.specs.ab_types.specs.Entries.{kinds, signature, type_in}
+use Rattle.ab_term.specs.Constants.{type_in}
+use Rattle.ab_sentences.specs.ab_types.specs.Entries.{kinds, signature}
 use Rattle.ab_sentences.specs.ab_types.specs.Ids.{type_of}
 use Rattle.ab_sentences.specs.ab_types.proofs.Entries.{extended_twice, type_still_held}
 use Rattle.ab_sentences.specs.ab_store.proofs.Growing.{extended_on}

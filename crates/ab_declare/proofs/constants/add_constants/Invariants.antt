@@ -1,6 +1,7 @@
 use Rattle.std.specs.Prelude.{◌≡◌, ◌++◌, map, take, None}
-use Rattle.ab_sentences.specs.ab_types.specs.Entries as table
-use Rattle.ab_sentences.specs.ab_types.specs.Entries.{constants, constant, a_constant}
+use Rattle.ab_term.specs.Constants as table
+use Rattle.ab_term.specs.Constants.{constant}
+use Rattle.ab_sentences.specs.ab_types.specs.Entries.{constants, a_constant}
 use Rattle.ab_sentences.specs.ab_types.specs.Ids.{type_of}
 use Rattle.ab_declare.specs.Declaring.{first_taken}
 use Rattle.ab_declare.proofs.constants.add_constants.Given as goal

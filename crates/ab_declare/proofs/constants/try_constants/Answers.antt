@@ -1,6 +1,6 @@
 use Rattle.std.specs.Prelude.{◌≡◌, Some, None}
 use Rattle.std.proofs.Common.{sym, subst}
-use Rattle.ab_sentences.specs.ab_types.specs.Entries as table
+use Rattle.ab_term.specs.Constants as table
 use Rattle.ab_sentences.specs.ab_types.specs.Entries.{constants}
 use Rattle.ab_grammar.specs.CommandTrees as command
 use Rattle.ab_syntax.specs.Trees as trees

@@ -1,15 +1,16 @@
 use Rattle.std.proofs.Common.{◌≡◌, [], ◌∷◌, ◌++◌, map, refl, sym, ap, ◌∙◌, subst}
 use Rattle.std.specs.Prelude.{All}
 use Rattle.std.proofs.lemmas.Result.{err_from_is_err_and}
-use Rattle.ab_sentences.specs.ab_types.specs.Entries.{kinds, signature, type_in}
+use Rattle.ab_term.specs.Constants.{type_in}
+use Rattle.ab_sentences.specs.ab_types.specs.Entries.{kinds, signature}
 use Rattle.ab_sentences.specs.ab_types.proofs.Entries.{extended_twice}
 use Rattle.ab_sentences.specs.ab_store.proofs.Growing.{extended_itself}
 use Rattle.ab_syntax.specs.Commands.{defined_of, clause_of}
 use Rattle.ab_clausal.specs.ab_building.proofs.Larger.{store_more}
-use Rattle.ab_sentences.specs.ab_clauses.specs.Proposed.{IsProposed}
+use Rattle.ab_formulas.specs.Proposed.{IsProposed}
 use Rattle.ab_sentences.specs.ab_clauses.specs.Readings as clauses
 use Rattle.ab_sentences.specs.ab_clauses.specs.Readings.{HoldsBlock}
-use Rattle.ab_sentences.specs.ab_logic.specs.Declarations.{signature_in, a_block}
+use Rattle.ab_formulas.specs.Declarations.{signature_in, a_block}
 use Rattle.ab_sentences.specs.ab_clauses.specs.declared.kept.Block.{Block as KeptBlock}
 use Rattle.ab_sentences.specs.ab_logic.specs.Defining.{IsDefinable, IsDefineFault}
 use Rattle.ab_sentences.specs.ab_logic.specs.Worlds.{declarations_of, definition_of}

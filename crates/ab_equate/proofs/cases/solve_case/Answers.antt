@@ -11,11 +11,11 @@ use Rattle.ab_solver.specs.ab_unifying.proofs.Growth.{grows_on}
 use Rattle.ab_solver.specs.declared.solved.Solved.TheVariants.{Unified}
 use Rattle.ab_solver.specs.Answers.{HasSolution, AreNewCells, AreInAge}
 use Rattle.ab_solver.proofs.Cut.{cut_as_before, cut_grows}
-use Rattle.ab_naming.specs.ab_logic.specs.Names.{IsNamedFor}
+use Rattle.ab_formulas.specs.Names.{IsNamedFor}
 use Rattle.ab_naming.specs.ab_logic.specs.Worlds.{declarations_of}
 use Rattle.ab_naming.specs.ab_logic.specs.Readings.{sequent_of}
 use Rattle.ab_naming.specs.ab_logic.specs.declared.world.World.{World}
-use Rattle.ab_equate.specs.Cases.{Arises}
+use Rattle.ab_theory.specs.Splits.{Arises}
 use Rattle.ab_equate.specs.Meanwhile.{count_before, case_read, IsCarried}
 use Rattle.ab_equate.proofs.Outcomes.{at_ok, at_unified, at_apart, at_stuck}
 use Rattle.ab_equate.proofs.Restored.{same_alike, declarations_same, then_meanwhile, goal_same, undone_grows, undone_bindings, same_cells_read}

@@ -5,7 +5,7 @@ use Rattle.ab_naming.specs.ab_types.specs.Entries.{Table}
 use Rattle.ab_naming.specs.ab_store.specs.declared.node.CellId.{CellId}
 use Rattle.ab_naming.specs.ab_store.specs.declared.node.CellEntry.{CellEntry}
 use Rattle.ab_solver.specs.ab_unifying.specs.Problem.{cell_read, cells_read}
-use Rattle.ab_naming.specs.ab_logic.specs.Sequents.{Variable}
+use Rattle.ab_formulas.specs.Sequents.{Variable}
 use Rattle.ab_naming.specs.ab_logic.specs.Worlds.{HoldsCell, variable_of}
 use Rattle.ab_equate.proofs.cells.goals_are_over_cells.Goals as goal
 

@@ -2,13 +2,13 @@ use Rattle.std.proofs.Common.{◌≡◌, List, [], ◌∷◌, Ok, ap, subst, ◌
 use Rattle.ab_naming.specs.ab_store.specs.declared.node.CellId.{CellId}
 use Rattle.ab_naming.specs.ab_store.specs.declared.node.Equation.{Equation}
 use Rattle.ab_solver.specs.ab_unifying.specs.Problem.{cells_read}
-use Rattle.ab_naming.specs.ab_logic.specs.Names.{IsNamedFor}
+use Rattle.ab_formulas.specs.Names.{IsNamedFor}
 use Rattle.ab_naming.specs.ab_logic.specs.Worlds.{read, declarations_of}
 use Rattle.ab_naming.specs.ab_logic.specs.Readings.{sequent_of}
-use Rattle.ab_equate.specs.Solved.{Becomes}
-use Rattle.ab_equate.specs.Cases.{Case, Arises, NeverArises, IsOpen}
+use Rattle.ab_theory.specs.Equations.{Becomes}
+use Rattle.ab_theory.specs.Splits.{Case, Arises, NeverArises, IsOpen}
 use Rattle.ab_equate.specs.Meanwhile.{case_read}
-use Rattle.ab_equate.proofs.Carried.{arises_becomes, never_apart, open_stuck}
+use Rattle.ab_theory.proofs.Carried.{arises_becomes, never_apart, open_stuck}
 use Rattle.ab_equate.proofs.Restored.{came_back}
 use Rattle.ab_equate.proofs.Answering.{same_case}
 use Rattle.ab_equate.proofs.solving.solve_in.Goals as goal

@@ -2,7 +2,7 @@ use Rattle.std.proofs.Common.{subst, sym, ap}
 use Rattle.ab_naming.specs.ab_store.proofs.Growing.{extended_on}
 use Rattle.ab_naming.specs.ab_logic.specs.Worlds.{declarations_of}
 use Rattle.ab_naming.specs.ab_logic.specs.Readings.{sequent_of}
-use Rattle.ab_naming.specs.ab_logic.specs.Names.{IsNamedFor}
+use Rattle.ab_formulas.specs.Names.{IsNamedFor}
 use Rattle.ab_naming.specs.ab_store.specs.Trees.{cell_of}
 use Rattle.ab_naming.specs.ab_store.specs.declared.node.CellEntry.{CellEntry}
 use Rattle.std.proofs.Common.{ℕ, List, ◌≡◌, ◌∙◌}

@@ -1,5 +1,5 @@
 use Rattle.std.proofs.Common.{sym, ◌∙◌, ap}
-use Rattle.ab_left.specs.ab_logic.specs.Sequents.{formula_of}
+use Rattle.ab_formulas.specs.Sequents.{formula_of}
 use Rattle.ab_left.specs.ab_logic.specs.Worlds.{read}
 use Rattle.ab_left.specs.ab_progress.specs.Progress.{goals_of}
 use Rattle.ab_left.specs.ab_progress.proofs.Following.{one_at_least, follows_on}

@@ -2,7 +2,7 @@ use Rattle.std.specs.Prelude.{IfOk}
 use Rattle.std.specs.Option.{option_copied}
 use Rattle.std.proofs.Common.{◌≡◌, ℕ, List, Option, Some, None, sym, ap, subst}
 use Rattle.ab_grammar.specs.CommandTrees as told
-use Rattle.ab_left.specs.ab_logic.specs.Names as plain
+use Rattle.ab_formulas.specs.Names as plain
 use Rattle.ab_left.specs.ab_progress.specs.Applied.{IsApplied, IsRefused}
 use Rattle.ab_exchanging.proofs.permuting.permute.Goals as goal
 

@@ -3,9 +3,9 @@ use Rattle.ab_term.specs.Names as tree
 use Rattle.ab_left.specs.ab_types.specs.Ids.{type_of}
 use Rattle.ab_grammar.specs.CommandTrees as told
 use Rattle.ab_left.specs.ab_logic.specs.Readings.{sequent_of}
-use Rattle.ab_left.specs.ab_logic.specs.Sequents.{Sequent, goal_names, proving}
+use Rattle.ab_formulas.specs.Sequents.{Sequent, goal_names, proving}
 use Rattle.ab_left.specs.ab_logic.specs.Worlds.{declarations_of}
-use Rattle.ab_left.specs.ab_permuting.specs.Cycles.{cycle}
+use Rattle.ab_formulas.specs.Cycles.{cycle}
 use Rattle.ab_left.specs.ab_permuting.specs.Standing.{IsCommon}
 use Rattle.ab_left.specs.ab_effects.specs.Effect.{effect}
 use Rattle.ab_left.specs.ab_progress.specs.Applied.{RefusedBy}

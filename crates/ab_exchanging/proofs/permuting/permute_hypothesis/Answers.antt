@@ -1,9 +1,9 @@
 use Rattle.std.proofs.Common.{◌≡◌, Some, [], ◌∷◌, sym, ◌∙◌, ap, subst}
 use Rattle.ab_term.specs.Names as tree
 use Rattle.ab_left.specs.ab_types.specs.Ids.{type_of}
-use Rattle.ab_left.specs.ab_logic.specs.Sequents.{Sequent, formula_of, goal_names, assuming, without}
+use Rattle.ab_formulas.specs.Sequents.{Sequent, formula_of, goal_names, assuming, without}
 use Rattle.ab_left.specs.ab_logic.specs.Worlds.{declarations_of, read}
-use Rattle.ab_left.specs.ab_permuting.specs.Cycles.{cycle}
+use Rattle.ab_formulas.specs.Cycles.{cycle}
 use Rattle.ab_left.specs.ab_permuting.specs.Standing.{IsCommon}
 use Rattle.ab_left.specs.ab_progress.specs.Progress.{goals_of}
 use Rattle.ab_left.specs.ab_progress.proofs.Following.{first_at, one_at_least}

@@ -1,5 +1,5 @@
 use Rattle.std.proofs.Common.{[], ◌∷◌, sym, ◌∙◌, ap, refl}
-use Rattle.ab_left.specs.ab_logic.specs.Sequents.{proving, assuming, without}
+use Rattle.ab_formulas.specs.Sequents.{proving, assuming, without}
 use Rattle.ab_left.specs.ab_progress.specs.Progress.{goals_of}
 use Rattle.ab_left.specs.ab_progress.proofs.Following.{follows_on, as_before}
 use Rattle.ab_left.specs.ab_kernel.proofs.Later.{still_proof}

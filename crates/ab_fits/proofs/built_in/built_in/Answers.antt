@@ -1,5 +1,6 @@
 use Rattle.std.proofs.Common.{Contains, refl, sym, subst}
-use Rattle.ab_store.specs.ab_types.specs.Entries.{names, constants}
+use Rattle.ab_term.specs.Constants.{names}
+use Rattle.ab_store.specs.ab_types.specs.Entries.{constants}
 use Rattle.ab_fits.proofs.Members.{has_member}
 use Rattle.ab_fits.proofs.built_in.built_in.Goals as goal
 

@@ -1,4 +1,4 @@
-use Rattle.ab_fits.proofs.Walks.{if_ok, swapped}
+use Rattle.ab_formulas.proofs.FitsWalks.{if_ok, swapped}
 use Rattle.ab_fits.proofs.fitting.fits_as_formula.Goals as goal
 
 pub returns : goal.returns

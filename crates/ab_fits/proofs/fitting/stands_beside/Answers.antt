@@ -1,4 +1,4 @@
-use Rattle.ab_fits.proofs.Walks.{if_ok, never, denied, swapped}
+use Rattle.ab_formulas.proofs.FitsWalks.{if_ok, never, denied, swapped}
 use Rattle.ab_fits.proofs.fitting.stands_beside.Goals as goal
 
 pub returns-then-not-branch : goal.returns-then-not-branch

@@ -3,12 +3,12 @@ use Rattle.std.specs.List.{All}
 use Rattle.std.proofs.lemmas.List.Elements.{All-same, All-more}
 use Rattle.ab_store.specs.declared.node.TermId.{TermId}
 use Rattle.ab_store.specs.Trees.{tree_of}
-use Rattle.ab_fits.specs.Formulas.{StandsIn, a_formula}
+use Rattle.ab_formulas.specs.Formulas.{StandsIn, a_formula}
 use Rattle.ab_fits.specs.Places.{place_of}
 use Rattle.ab_fits.proofs.Bounds.{ids_bound, bound_within, below_bound, spine_names}
 use Rattle.ab_fits.proofs.Standing.{stands_spine}
 use Rattle.ab_fits.proofs.Sets.{all_gained}
-use Rattle.ab_fits.proofs.Walks.{if_ok, never, always, denied, all_so_far, one_fails}
+use Rattle.ab_formulas.proofs.FitsWalks.{if_ok, never, always, denied, all_so_far, one_fails}
 use Rattle.ab_fits.proofs.formulas.+standing.Goals as goal
 
 pub all_stand-stands_in-requires : goal.all_stand-stands_in-requires

@@ -2,7 +2,7 @@ use Rattle.std.proofs.Common.{◌+◌, ◌*◌, take}
 use Rattle.std.specs.List.{All}
 use Rattle.ab_store.specs.ab_types.specs.Entries.{Table}
 use Rattle.ab_store.specs.Trees.{tree_of}
-use Rattle.ab_fits.specs.Formulas.{StandsIn, a_formula}
+use Rattle.ab_formulas.specs.Formulas.{StandsIn, a_formula}
 use Rattle.ab_fits.specs.Places.{place_of}
 use Rattle.ab_fits.proofs.Bounds.{ids_bound}
 use Rattle.ab_fits.proofs.formulas.+standing.Given as goal

@@ -7,10 +7,10 @@ use Rattle.ab_store.specs.declared.node.TermId.{TermId}
 use Rattle.ab_store.specs.Trees.{tree_of, head_reading}
 use Rattle.ab_store.specs.Naming.{NodeIsTyped}
 use Rattle.ab_fits.specs.Numbers.{Notes}
-use Rattle.ab_fits.specs.Fitting.{names_of}
+use Rattle.ab_formulas.specs.Fitting.{names_of}
 use Rattle.ab_fits.proofs.Bounds.{ids_bound, bound_within, below_bound, spine_names}
 use Rattle.ab_fits.proofs.Noted.{notes_seen, notes_see, notes_more, notes_end, notes_lam, notes_spine, notes_head}
-use Rattle.ab_fits.proofs.Walks.{if_ok}
+use Rattle.ab_formulas.proofs.FitsWalks.{if_ok}
 use Rattle.ab_fits.proofs.numbers.+noted.Goals as goal
 
 pub note-returns-then-is_seen : goal.note-returns-then-is_seen

@@ -1,6 +1,6 @@
 use Rattle.std.proofs.Common.{◌+◌, ◌*◌, map, take, true}
 use Rattle.ab_store.specs.Trees.{tree_of}
-use Rattle.ab_fits.specs.Fitting.{names_of}
+use Rattle.ab_formulas.specs.Fitting.{names_of}
 use Rattle.ab_fits.specs.Numbers.{Notes}
 use Rattle.ab_fits.proofs.Bounds.{ids_bound}
 use Rattle.ab_fits.proofs.numbers.+noted.Given as goal

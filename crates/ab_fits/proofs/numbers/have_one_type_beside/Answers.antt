@@ -1,10 +1,10 @@
 use Rattle.std.proofs.Common.{◌++◌, map, false, subst}
 use Rattle.ab_term.specs.Names.{support}
 use Rattle.ab_store.specs.Trees.{tree_of}
-use Rattle.ab_fits.specs.Fitting.{names_of}
+use Rattle.ab_formulas.specs.Fitting.{names_of}
 use Rattle.ab_fits.specs.Numbers.{Notes}
 use Rattle.ab_fits.proofs.Noted.{decided, notes_on, notes_stop}
-use Rattle.ab_fits.proofs.Walks.{if_ok, is_true}
+use Rattle.ab_formulas.proofs.FitsWalks.{if_ok, is_true}
 use Rattle.ab_fits.proofs.numbers.have_one_type_beside.Goals as goal
 
 pub note_all-requires-clause-known : goal.note_all-requires-clause-known

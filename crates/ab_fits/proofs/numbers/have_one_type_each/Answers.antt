@@ -1,8 +1,8 @@
 use Rattle.std.proofs.Common.{map}
 use Rattle.ab_store.specs.Trees.{tree_of}
-use Rattle.ab_fits.specs.Fitting.{names_of}
+use Rattle.ab_formulas.specs.Fitting.{names_of}
 use Rattle.ab_fits.proofs.Noted.{decided}
-use Rattle.ab_fits.proofs.Walks.{if_ok, is_true}
+use Rattle.ab_formulas.proofs.FitsWalks.{if_ok, is_true}
 use Rattle.ab_fits.proofs.numbers.have_one_type_each.Goals as goal
 
 pub note_all-requires-clause-known : goal.note_all-requires-clause-known

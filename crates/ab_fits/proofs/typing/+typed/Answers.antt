@@ -13,7 +13,7 @@ use Rattle.ab_fits.specs.Taking.{rest_type, wanted_type, context, IsOf}
 use Rattle.ab_fits.proofs.Bounds.{ids_bound, bound_within, below_bound, spine_names}
 use Rattle.ab_fits.proofs.Judged.{closed_alone, stops, fails, goes_on, ends, function_judged, applied_judged, kind_seen}
 use Rattle.ab_fits.proofs.Sets.{all_gained}
-use Rattle.ab_fits.proofs.Walks.{if_ok, never, always, denied}
+use Rattle.ab_formulas.proofs.FitsWalks.{if_ok, never, always, denied}
 use Rattle.ab_fits.proofs.typing.+typed.Goals as goal
 
 pub check-returns-then-is_known-clause-judged : goal.check-returns-then-is_known-clause-judged

@@ -4,11 +4,11 @@ use Rattle.std.proofs.lemmas.List.Elements.{All-same, All-more, All-contains}
 use Rattle.ab_store.specs.declared.node.TermId.{TermId}
 use Rattle.ab_store.specs.Trees.{tree_of}
 use Rattle.ab_fits.specs.Cells.{variable_of}
-use Rattle.ab_fits.specs.Fitting.{HoldsOnly}
+use Rattle.ab_formulas.specs.Fitting.{HoldsOnly}
 use Rattle.ab_fits.proofs.Bounds.{ids_bound, bound_within, below_bound, spine_names}
 use Rattle.ab_fits.proofs.Listed.{holds_lam, holds_spine, unlisted_head}
 use Rattle.ab_fits.proofs.Sets.{all_gained}
-use Rattle.ab_fits.proofs.Walks.{if_ok, never, always, denied, all_so_far, one_fails}
+use Rattle.ab_formulas.proofs.FitsWalks.{if_ok, never, always, denied, all_so_far, one_fails}
 use Rattle.ab_fits.proofs.variables.+held.Goals as goal
 
 pub all_hold-holds-requires : goal.all_hold-holds-requires

@@ -3,7 +3,7 @@ use Rattle.std.specs.List.{All}
 use Rattle.ab_store.specs.ab_types.specs.Entries.{Table}
 use Rattle.ab_store.specs.Trees.{tree_of}
 use Rattle.ab_fits.specs.Cells.{variable_of}
-use Rattle.ab_fits.specs.Fitting.{HoldsOnly}
+use Rattle.ab_formulas.specs.Fitting.{HoldsOnly}
 use Rattle.ab_fits.proofs.Bounds.{ids_bound}
 use Rattle.ab_fits.proofs.variables.+held.Given as goal
 

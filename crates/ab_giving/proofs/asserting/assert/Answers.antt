@@ -4,10 +4,10 @@ use Rattle.ab_term.specs.Types.{prop}
 use Rattle.ab_grammar.specs.CommandTrees as told
 use Rattle.ab_grammar.specs.Tree as tree
 use Rattle.ab_syntax.specs.Trees.{tree_of}
-use Rattle.ab_taking.specs.ab_logic.specs.Sequents.{IsSequent, Fits}
+use Rattle.ab_formulas.specs.Sequents.{IsSequent, Fits}
 use Rattle.ab_taking.specs.ab_logic.specs.Worlds.{read, declarations_of}
 use Rattle.ab_taking.specs.ab_naming.specs.Labels.{label_of}
-use Rattle.ab_progress.specs.ab_rules.specs.Steps.{cut_formula}
+use Rattle.ab_theory.specs.Steps.{cut_formula}
 use Rattle.ab_progress.specs.ab_kernel.specs.Layout.{history_of}
 use Rattle.ab_progress.specs.ab_kernel.proofs.Later.{same_history, still_proof}
 use Rattle.ab_progress.specs.ab_effects.specs.Effect.{clashing}

@@ -3,7 +3,7 @@ use Rattle.std.proofs.Common.{◌∙◌, ap}
 use Rattle.ab_taking.specs.ab_unifying.specs.Problem.{cells_read}
 use Rattle.ab_taking.specs.ab_logic.specs.Worlds.{read, declarations_of}
 use Rattle.ab_taking.specs.ab_naming.specs.Labels.{label_of}
-use Rattle.ab_progress.specs.ab_rules.specs.Steps.{cut_formula}
+use Rattle.ab_theory.specs.Steps.{cut_formula}
 use Rattle.ab_progress.proofs.Plain.{never_stuck}
 use Rattle.ab_progress.proofs.Following.{follows_same, as_before, took}
 use Rattle.ab_giving.proofs.asserting.cut.Goals as goal

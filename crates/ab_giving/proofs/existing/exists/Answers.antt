@@ -1,8 +1,8 @@
 use Rattle.std.proofs.Common.{sym, ◌∙◌, ap, subst}
 use Rattle.ab_syntax.specs.Trees.{tree_of}
 use Rattle.ab_taking.specs.ab_types.specs.Ids.{type_of}
-use Rattle.ab_taking.specs.ab_logic.specs.Forms.{as_exists}
-use Rattle.ab_taking.specs.ab_logic.specs.Sequents.{Sequent, IsSequent, Fits}
+use Rattle.ab_formulas.specs.Forms.{as_exists}
+use Rattle.ab_formulas.specs.Sequents.{Sequent, IsSequent, Fits}
 use Rattle.ab_taking.specs.ab_logic.specs.Worlds.{read, declarations_of}
 use Rattle.ab_progress.specs.ab_kernel.proofs.Later.{same_history, still_proof}
 use Rattle.ab_progress.specs.ab_effects.specs.Terms.{Means}

@@ -1,7 +1,7 @@
 use Rattle.std.proofs.Common.{◌≡◌, drop, map}
 use Rattle.ab_syntax.specs.Commands.{instance_of}
 use Rattle.ab_taking.specs.ab_logic.specs.Worlds.{read}
-use Rattle.ab_taking.specs.ab_using.specs.Pieces.{pieces}
+use Rattle.ab_theory.specs.Pieces.{pieces}
 use Rattle.ab_progress.specs.ab_effects.specs.Using.{strange}
 use Rattle.ab_giving.proofs.giving.look_up.Given as goal
 

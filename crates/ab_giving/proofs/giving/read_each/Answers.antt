@@ -1,12 +1,12 @@
 use Rattle.std.proofs.Common.{◌≡◌, ◌+◌, [], ◌∷◌, ◌++◌, map, take, drop, refl, sym, ◌∙◌, ap, subst, arith}
 use Rattle.std.proofs.lemmas.List.{take_all}
 use Rattle.ab_syntax.specs.Commands.{instance_of}
-use Rattle.ab_taking.specs.ab_logic.specs.Formulas.{HasOneTypeEach}
+use Rattle.ab_formulas.specs.Formulas.{HasOneTypeEach}
 use Rattle.ab_taking.specs.ab_logic.specs.Readings.{sequent_of}
-use Rattle.ab_taking.specs.ab_logic.specs.Sequents.{goal_names, names_of}
+use Rattle.ab_formulas.specs.Sequents.{goal_names, names_of}
 use Rattle.ab_taking.specs.ab_logic.specs.Worlds.{read, declarations_of}
 use Rattle.ab_taking.specs.ab_logic.proofs.Growing.{grows_on, still_held}
-use Rattle.ab_taking.specs.ab_using.specs.Pieces.{pieces}
+use Rattle.ab_theory.specs.Pieces.{pieces}
 use Rattle.ab_taking.specs.Readings.{given_of}
 use Rattle.ab_progress.specs.ab_effects.specs.Effect.{reading_each}
 use Rattle.ab_progress.specs.ab_effects.specs.Row.{leads}

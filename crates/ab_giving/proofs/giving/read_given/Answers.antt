@@ -3,7 +3,7 @@ use Rattle.std.specs.Prelude.{◌||◌, Err}
 use Rattle.ab_syntax.specs.Commands.{instance_of}
 use Rattle.ab_taking.specs.ab_logic.specs.Readings.{sequent_of}
 use Rattle.ab_taking.specs.ab_logic.specs.Worlds.{read, declarations_of}
-use Rattle.ab_taking.specs.ab_using.specs.Pieces.{pieces}
+use Rattle.ab_theory.specs.Pieces.{pieces}
 use Rattle.ab_taking.specs.Readings.{given_of}
 use Rattle.ab_progress.specs.ab_effects.specs.Effect.{reading_each, giving}
 use Rattle.ab_progress.specs.ab_effects.specs.Row.{leads}

@@ -3,9 +3,9 @@ use Rattle.std.specs.Prelude.{◌≡◌, Err, ◌∷◌, []}
 use Rattle.ab_taking.specs.ab_types.specs.Ids.{type_of}
 use Rattle.ab_syntax.specs.Commands.{instance_of}
 use Rattle.ab_taking.specs.ab_logic.specs.Readings.{sequent_of}
-use Rattle.ab_taking.specs.ab_logic.specs.Sequents.{names_of}
+use Rattle.ab_formulas.specs.Sequents.{names_of}
 use Rattle.ab_taking.specs.ab_logic.specs.Worlds.{read, declarations_of}
-use Rattle.ab_taking.specs.ab_using.specs.Pieces.{pieces}
+use Rattle.ab_theory.specs.Pieces.{pieces}
 use Rattle.ab_progress.specs.ab_effects.specs.Effect.{reading_each}
 use Rattle.ab_progress.specs.ab_effects.specs.Row.{leads}
 use Rattle.ab_progress.specs.Applied.{RefusedBy}

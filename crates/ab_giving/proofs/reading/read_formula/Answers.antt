@@ -2,7 +2,7 @@ use Rattle.std.proofs.Common.{sym, ◌∙◌, subst}
 use Rattle.ab_syntax.specs.Trees.{tree_of}
 use Rattle.ab_taking.specs.ab_types.specs.Ids.{type_of}
 use Rattle.ab_taking.specs.ab_logic.specs.Readings.{sequent_of}
-use Rattle.ab_taking.specs.ab_logic.specs.Sequents.{IsSequent}
+use Rattle.ab_formulas.specs.Sequents.{IsSequent}
 use Rattle.ab_taking.specs.ab_logic.specs.Worlds.{declarations_of}
 use Rattle.ab_taking.specs.ab_logic.specs.declared.world.World.{World}
 use Rattle.ab_taking.specs.ab_logic.proofs.Growing.{grows_on, same_sequent}

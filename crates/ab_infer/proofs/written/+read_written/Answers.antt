@@ -2,9 +2,8 @@ use Rattle.std.proofs.Common.{sym, ◌∙◌, ap, subst, refl}
 use Rattle.std.specs.Prelude.{Ok, ◌&&◌}
 use Rattle.ab_syntax.specs.Trees as trees
 use Rattle.ab_infer.specs.WrittenTypes.{WrittenAnswers}
-use Rattle.ab_solving.proofs.Tables.{still_held}
+use Rattle.ab_solving.proofs.Tables.{still_held, same_kinds, same_constants}
 use Rattle.ab_infer.proofs.WrittenTyping.{type_base, arrow_whole, arrow_answer}
-use Rattle.ab_solving.proofs.Tables.{same_kinds, same_constants}
 use Rattle.ab_infer.proofs.written.+read_written.Goals as goal
 
 pub arrow-requires-clause-from_held : goal.arrow-requires-clause-from_held

@@ -1,6 +1,6 @@
 use Rattle.std.proofs.Common.{List, ℕ, subst}
-use Rattle.ab_progress.specs.ab_logic.specs.Names.{given}
-use Rattle.ab_progress.specs.ab_rules.specs.Steps.{definition_left}
+use Rattle.ab_formulas.specs.Names.{given}
+use Rattle.ab_theory.specs.Steps.{definition_left}
 use Rattle.ab_progress.specs.Progress.{TookInto, FailsBy, StuckAt}
 use Rattle.ab_progress.proofs.Following.{some_goal}
 use Rattle.ab_left.proofs.analysing.split_by.Goals as goal

@@ -1,6 +1,6 @@
 use Rattle.std.specs.Prelude.{[]}
 use Rattle.std.proofs.Common.{sym, ◌∙◌, ap}
-use Rattle.ab_progress.specs.ab_logic.specs.Sequents.{formula_of}
+use Rattle.ab_formulas.specs.Sequents.{formula_of}
 use Rattle.ab_progress.specs.ab_logic.specs.Worlds.{read}
 use Rattle.ab_progress.proofs.Following.{first_at}
 use Rattle.ab_left.proofs.Moves.{has_at}

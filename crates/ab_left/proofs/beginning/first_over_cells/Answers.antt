@@ -1,6 +1,6 @@
 use Rattle.std.proofs.Common.{subst}
 use Rattle.ab_progress.specs.ab_unifying.specs.Problem.{cells_read}
-use Rattle.ab_progress.specs.ab_equate.specs.Solved.{AreCells}
+use Rattle.ab_theory.specs.Equations.{AreCells}
 use Rattle.ab_progress.specs.ab_rules.proofs.NewNumbers.{over_cells}
 use Rattle.ab_left.proofs.beginning.first_over_cells.Goals as goal
 

@@ -2,7 +2,7 @@ use Rattle.std.specs.Prelude.{[]}
 use Rattle.std.specs.Option.{option_map}
 use Rattle.std.proofs.Common.{◌≡◌, sym, ◌∙◌, ap, subst}
 use Rattle.ab_grammar.specs.CommandTrees as told
-use Rattle.ab_progress.specs.ab_logic.specs.Sequents.{formula_of}
+use Rattle.ab_formulas.specs.Sequents.{formula_of}
 use Rattle.ab_progress.specs.ab_logic.specs.Worlds.{read}
 use Rattle.ab_progress.specs.ab_naming.specs.Labels.{label_of}
 use Rattle.ab_progress.specs.ab_effects.specs.Effect.{clashing}

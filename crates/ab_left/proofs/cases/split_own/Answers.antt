@@ -1,8 +1,8 @@
 use Rattle.std.specs.Prelude.{[]}
 use Rattle.std.proofs.Common.{subst}
-use Rattle.ab_progress.specs.ab_logic.specs.Names.{given}
+use Rattle.ab_formulas.specs.Names.{given}
 use Rattle.ab_progress.specs.ab_logic.specs.Worlds.{read, declarations_of}
-use Rattle.ab_progress.specs.ab_rules.specs.Steps.{or_left}
+use Rattle.ab_theory.specs.Steps.{or_left}
 use Rattle.ab_progress.specs.Progress.{Took}
 use Rattle.ab_progress.proofs.Following.{first_at}
 use Rattle.ab_left.proofs.Moves.{on_ok, has_at}

@@ -1,6 +1,6 @@
 use Rattle.std.proofs.Common.{◌≡◌, [], ◌∷◌, take, sym, ◌∙◌, ap, arith}
 use Rattle.std.proofs.lemmas.List.{take_all}
-use Rattle.ab_progress.specs.ab_logic.specs.Sequents.{without}
+use Rattle.ab_formulas.specs.Sequents.{without}
 use Rattle.ab_progress.specs.ab_effects.specs.Effect.{cleared}
 use Rattle.ab_progress.specs.Progress.{goals_of}
 use Rattle.ab_progress.proofs.Following.{follows_on, one_at_least}

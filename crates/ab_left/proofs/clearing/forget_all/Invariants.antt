@@ -1,5 +1,5 @@
 use Rattle.std.proofs.Common.{◌≡◌, List, ◌∷◌, take}
-use Rattle.ab_progress.specs.ab_logic.specs.Sequents.{Sequent}
+use Rattle.ab_formulas.specs.Sequents.{Sequent}
 use Rattle.ab_progress.specs.ab_effects.specs.Effect.{cleared}
 use Rattle.ab_progress.specs.Progress.{goals_of, Follows}
 use Rattle.ab_left.proofs.clearing.forget_all.Given as goal

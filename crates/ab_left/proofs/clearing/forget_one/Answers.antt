@@ -1,6 +1,6 @@
 use Rattle.std.specs.Prelude.{[]}
 use Rattle.std.proofs.Common.{◌∷◌, sym, ◌∙◌, ap}
-use Rattle.ab_progress.specs.ab_logic.specs.Sequents.{IsUsed}
+use Rattle.ab_formulas.specs.Sequents.{IsUsed}
 use Rattle.std.proofs.Common.{subst}
 use Rattle.ab_progress.specs.Progress.{goals_of}
 use Rattle.ab_progress.proofs.Following.{first_at, one_at_least}

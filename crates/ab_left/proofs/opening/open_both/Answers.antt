@@ -2,13 +2,13 @@ use Rattle.std.specs.Prelude.{reverse, Some}
 use Rattle.std.proofs.Common.{◌≡◌, ◌∷◌, [], ◌++◌, sym, ◌∙◌, ap, subst}
 use Rattle.std.proofs.lemmas.List.{reverse-append}
 use Rattle.ab_progress.specs.ab_logic.specs.Readings.{sequent_of}
-use Rattle.ab_progress.specs.ab_logic.specs.Sequents.{formula_of}
+use Rattle.ab_formulas.specs.Sequents.{formula_of}
 use Rattle.std.proofs.Common.{None}
 use Rattle.ab_progress.specs.ab_logic.specs.declared.sequent.Hypothesis.{Hypothesis}
 use Rattle.ab_progress.specs.ab_naming.specs.Labels.{label_of}
 use Rattle.ab_progress.proofs.Following.{follows_not, found}
-use Rattle.ab_progress.specs.ab_logic.specs.Names.{given}
-use Rattle.ab_progress.specs.ab_rules.specs.Steps.{and_left}
+use Rattle.ab_formulas.specs.Names.{given}
+use Rattle.ab_theory.specs.Steps.{and_left}
 use Rattle.ab_progress.specs.Progress.{Holds as Sure}
 use Rattle.ab_left.proofs.Goes.{both_sure, both_goes}
 use Rattle.ab_left.proofs.opening.open_both.Goals as goal

@@ -1,7 +1,7 @@
 use Rattle.std.specs.Prelude.{[]}
 use Rattle.std.proofs.Common.{◌≡◌, ◌∷◌, List, ℕ, Some, sym, ◌∙◌, subst}
-use Rattle.ab_progress.specs.ab_store.specs.Trees.{Read}
-use Rattle.ab_progress.specs.ab_logic.specs.Sequents.{without}
+use Rattle.ab_term.specs.Terms.{Read}
+use Rattle.ab_formulas.specs.Sequents.{without}
 use Rattle.ab_progress.specs.ab_logic.specs.Worlds.{read, declarations_of}
 use Rattle.ab_progress.specs.ab_naming.specs.Labels.{label_of}
 use Rattle.ab_progress.specs.ab_effects.specs.Opening.{Nameless}

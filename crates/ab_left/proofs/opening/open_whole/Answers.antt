@@ -1,8 +1,8 @@
 use Rattle.std.specs.Prelude.{reverse, map}
 use Rattle.std.proofs.Common.{◌∷◌, List, subst}
-use Rattle.ab_progress.specs.ab_logic.specs.Names.{NoName}
+use Rattle.ab_formulas.specs.Names.{NoName}
 use Rattle.ab_progress.specs.ab_logic.specs.Readings.{hypothesis_of}
-use Rattle.ab_progress.specs.ab_logic.specs.Sequents.{Sequent}
+use Rattle.ab_formulas.specs.Sequents.{Sequent}
 use Rattle.ab_progress.specs.ab_logic.specs.Worlds.{read}
 use Rattle.ab_progress.specs.ab_naming.specs.Labels.{label_of}
 use Rattle.ab_progress.specs.Progress.{IsAt}

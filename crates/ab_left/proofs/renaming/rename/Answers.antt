@@ -1,7 +1,7 @@
 use Rattle.std.specs.Prelude.{[], Some, None}
 use Rattle.std.proofs.Common.{◌≡◌, ◌∷◌, refl, sym, ◌∙◌, ap, subst}
-use Rattle.ab_progress.specs.ab_logic.specs.Names.{given, Names}
-use Rattle.ab_progress.specs.ab_logic.specs.Sequents.{formula_of, IsUsed, assuming, without}
+use Rattle.ab_formulas.specs.Names.{given, Names}
+use Rattle.ab_formulas.specs.Sequents.{formula_of, IsUsed, assuming, without}
 use Rattle.ab_progress.specs.ab_logic.specs.Worlds.{read}
 use Rattle.ab_progress.specs.Progress.{goals_of}
 use Rattle.ab_progress.proofs.Following.{first_at, one_at_least}

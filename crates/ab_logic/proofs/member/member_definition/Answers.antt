@@ -4,7 +4,7 @@ use Rattle.std.proofs.lemmas.List.Elements.{All-nil, All-cons}
 use Rattle.ab_clauses.specs.ab_types.specs.Ids.{HoldsConstant}
 use Rattle.ab_clauses.specs.Readings.{name_of, clause_of}
 use Rattle.ab_clauses.specs.ab_cases.specs.Member.{member_first}
-use Rattle.ab_clauses.specs.Cases.{case_of}
+use Rattle.ab_formulas.specs.Cased.{case_of}
 use Rattle.ab_logic.specs.Built.{kept_first, kept_later}
 use Rattle.ab_logic.specs.Worlds.{IsKeptClause}
 use Rattle.ab_logic.proofs.Members.{clause_later, clause_held, kept_clause, first_is, later_is, first_well, first_body, later_well, later_body}

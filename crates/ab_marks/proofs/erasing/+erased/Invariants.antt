@@ -3,7 +3,7 @@ use Rattle.std.specs.List.{All}
 use Rattle.ab_norm.specs.ab_store.specs.Trees.{Holds, tree_of}
 use Rattle.ab_norm.specs.Growth.{AddsTypedTerms}
 use Rattle.ab_norm.proofs.Bounds.{ids_bound}
-use Rattle.ab_logic.specs.Marks.{erased}
+use Rattle.ab_formulas.specs.Marks.{erased}
 use Rattle.ab_marks.proofs.erasing.+erased.Given as goal
 
 abbrev pub decreases-erase : goal.decreases-erase

@@ -5,7 +5,7 @@ use Rattle.ab_norm.specs.ab_store.specs.declared.node.TermId.{TermId}
 use Rattle.ab_norm.specs.ab_store.specs.Naming.{HeadNames, NodeIsTyped}
 use Rattle.ab_norm.specs.ab_store.specs.Trees.{Holds, tree_of}
 use Rattle.ab_logic.specs.Forms.{sign_of}
-use Rattle.ab_marks.specs.Marking.{marked_in}
+use Rattle.ab_formulas.specs.Marking.{marked_in}
 use Rattle.ab_marks.specs.Views.{names_of}
 use Rattle.ab_norm.proofs.Bounds.{ids_bound, bound_within, below_bound}
 use Rattle.ab_norm.proofs.Frame.{typed_on, typed_more, if_ok, spine_names}

@@ -4,7 +4,7 @@ use Rattle.ab_norm.specs.ab_store.specs.Trees.{Holds, tree_of}
 use Rattle.ab_norm.specs.Growth.{AddsTypedTerms}
 use Rattle.ab_norm.proofs.Bounds.{ids_bound}
 use Rattle.ab_logic.specs.Forms.{sign_of}
-use Rattle.ab_marks.specs.Marking.{marked_in}
+use Rattle.ab_formulas.specs.Marking.{marked_in}
 use Rattle.ab_marks.specs.Views.{names_of}
 use Rattle.ab_marks.proofs.marking.+marking.Given as goal
 

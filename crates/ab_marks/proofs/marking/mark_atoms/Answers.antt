@@ -1,7 +1,7 @@
 use Rattle.std.proofs.Common.{sym, ap, ◌∙◌}
 use Rattle.ab_norm.specs.ab_store.specs.Trees.{tree_of}
 use Rattle.ab_logic.specs.Forms.{sign_of}
-use Rattle.ab_marks.specs.Marking.{marked_in}
+use Rattle.ab_formulas.specs.Marking.{marked_in}
 use Rattle.ab_marks.specs.Views.{names_of}
 use Rattle.ab_marks.proofs.MarkedAtoms.{marked_not}
 use Rattle.ab_marks.proofs.marking.mark_atoms.Goals as goal

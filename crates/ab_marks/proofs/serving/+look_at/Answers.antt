@@ -2,7 +2,7 @@ use Rattle.std.proofs.Common.{◌≡◌, List, map, sym, ap, ◌∙◌}
 use Rattle.ab_term.specs.Terms.{spine, terms_of}
 use Rattle.ab_norm.specs.ab_store.specs.declared.node.TermId.{TermId}
 use Rattle.ab_norm.specs.ab_store.specs.Trees.{tree_of, head_in, node_tree}
-use Rattle.ab_logic.specs.Marks.{marks_of}
+use Rattle.ab_formulas.specs.Marks.{marks_of}
 use Rattle.ab_marks.proofs.serving.+look_at.Goals as goal
 
 pub returns-in-Spine-clause-seen : goal.returns-in-Spine-clause-seen

@@ -1,7 +1,7 @@
 use Rattle.std.proofs.Common.{◌≡◌, ◌≢◌, length, map, sym, ap, ◌∙◌, rules}
 use Rattle.ab_term.specs.Terms.{terms_of}
 use Rattle.ab_norm.specs.ab_store.specs.Trees.{tree_of, head_in}
-use Rattle.ab_logic.specs.Marks.{marks_made, marks_of_all, by_scope, by_parts, making_of}
+use Rattle.ab_formulas.specs.Marks.{marks_made, marks_of_all, by_scope, by_parts, making_of}
 use Rattle.ab_marks.specs.Views.{making_read}
 use Rattle.ab_marks.proofs.Parts.{not_one, not_two}
 use Rattle.ab_marks.proofs.serving.made.Goals as goal

@@ -3,7 +3,7 @@ use Rattle.std.specs.Prelude.{IfOk}
 use Rattle.ab_alternatives.specs.ab_equate.proofs.Restored as restored
 use Rattle.ab_alternatives.specs.ab_norm.proofs.Frame.{if_ok}
 use Rattle.ab_alternatives.specs.ab_cases.specs.Choices.{in_order}
-use Rattle.ab_alternatives.specs.ab_logic.specs.Sequents.{Sequent, goal_names}
+use Rattle.ab_formulas.specs.Sequents.{Sequent, goal_names}
 use Rattle.ab_alternatives.specs.ab_logic.specs.Readings.{sequent_of}
 use Rattle.ab_alternatives.specs.ab_logic.specs.declared.world.World.{World}
 use Rattle.ab_alternatives.specs.ab_instances.specs.Readings.{names_read}

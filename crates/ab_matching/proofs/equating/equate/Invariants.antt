@@ -5,7 +5,7 @@ use Rattle.ab_alternatives.specs.ab_store.specs.Trees.{tree_of}
 use Rattle.ab_alternatives.specs.ab_norm.specs.Growth.{AddsTypedTerms}
 use Rattle.ab_alternatives.specs.ab_solver.specs.Answers.{IsTypedPair}
 use Rattle.ab_alternatives.specs.Made.{trees_from}
-use Rattle.ab_putting.specs.ab_using.specs.Uses.{equations}
+use Rattle.ab_theory.specs.Uses.{equations}
 use Rattle.ab_matching.proofs.equating.equate.Given as goal
 
 abbrev pub invariant-loop-place : goal.invariant-loop-place

@@ -4,7 +4,7 @@ use Rattle.std.proofs.lemmas.List.Elements.{All-push, All-same, All-weaker}
 use Rattle.ab_alternatives.specs.ab_store.specs.declared.node.TermId.{TermId}
 use Rattle.ab_alternatives.specs.ab_store.specs.Naming.{NodeIsTyped}
 use Rattle.ab_alternatives.specs.ab_store.specs.Trees.{Holds}
-use Rattle.ab_alternatives.specs.ab_logic.specs.Marks.{erased}
+use Rattle.ab_formulas.specs.Marks.{erased}
 use Rattle.ab_alternatives.specs.ab_norm.proofs.Bounds.{ids_bound, bound_within, below_bound}
 use Rattle.ab_alternatives.specs.ab_norm.proofs.Frame.{typed_on, typed_more, if_ok, spine_names}
 use Rattle.ab_alternatives.specs.ab_norm.proofs.Renamed.{read_more_before}

@@ -2,7 +2,7 @@ use Rattle.std.proofs.Common.{◌++◌, ◌∙◌, ap}
 use Rattle.std.proofs.lemmas.List.Elements.{All-same}
 use Rattle.ab_alternatives.specs.ab_store.specs.Trees.{Holds}
 use Rattle.ab_alternatives.specs.ab_logic.specs.Readings.{sequent_of}
-use Rattle.ab_alternatives.specs.ab_logic.specs.Sequents.{goal_names}
+use Rattle.ab_formulas.specs.Sequents.{goal_names}
 use Rattle.ab_matching.specs.Named.{terms_named}
 use Rattle.ab_matching.proofs.Parts.{terms_held, known_read}
 use Rattle.ab_matching.proofs.finding.pose.Goals as goal

@@ -17,7 +17,7 @@ use Rattle.ab_alternatives.specs.ab_instances.specs.Readings.{names_read}
 use Rattle.ab_putting.specs.Making.{parts_read, IsMade}
 use Rattle.ab_matching.specs.Solving.{missing, all_equations, aim_in}
 use Rattle.ab_matching.specs.Choosing.{IsSolvedSo}
-use Rattle.ab_putting.specs.ab_using.specs.Uses.{used}
+use Rattle.ab_theory.specs.Uses.{used}
 use Rattle.ab_matching.proofs.UseMade.{comes_out, own_from, same_aim, stages_grown, one_grown, formulas_grown}
 use Rattle.ab_matching.proofs.solving.use_choice.Goals as goal
 use Rattle.ab_matching.proofs.solving.use_choice.Goals.{else-is_some-via-then-is_some+else-len-gt1, else-is_some-via-else-is_some}

@@ -1,7 +1,7 @@
 use Rattle.std.proofs.Common.{ℕ, ◌≤◌}
 use Rattle.ab_logic.specs.Readings.{sequent_of}
 use Rattle.ab_logic.specs.declared.world.World.{World}
-use Rattle.ab_logic.specs.Names.{IsFree}
+use Rattle.ab_formulas.specs.Names.{IsFree}
 use Rattle.ab_naming.proofs.label.next_free.Given as goal
 
 abbrev pub invariant-loop-before : goal.invariant-loop-before

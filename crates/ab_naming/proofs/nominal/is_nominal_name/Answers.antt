@@ -1,7 +1,7 @@
 use Rattle.std.proofs.Common.{◌≡◌, ℕ, List, sym, subst, ◌∙◌}
-use Rattle.ab_logic.specs.Names.{IsNominalName}
-use Rattle.ab_naming.specs.Numbers.{HasNominalForm}
-use Rattle.ab_naming.proofs.Digits.{nominal_is, nominal_form}
+use Rattle.ab_formulas.specs.Names.{IsNominalName}
+use Rattle.ab_formulas.specs.Numbers.{HasNominalForm}
+use Rattle.ab_formulas.proofs.Digits.{nominal_is, nominal_form}
 use Rattle.ab_naming.proofs.nominal.is_nominal_name.Goals as goal
 
 pub returns : goal.returns

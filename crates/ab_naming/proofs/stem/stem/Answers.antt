@@ -1,7 +1,7 @@
 use Rattle.std.specs.Prelude.{IfOk, slice_range}
 use Rattle.std.proofs.Common.{◌≡◌, ◌∙◌, ℕ, List, Result, Ok, Err, take, ◌-◌, refl, sym, ap, subst, arith, length, ◌≤◌}
-use Rattle.ab_logic.specs.Names.{IsStem}
-use Rattle.ab_naming.proofs.Digits.{is_stem}
+use Rattle.ab_formulas.specs.Names.{IsStem}
+use Rattle.ab_formulas.proofs.Digits.{is_stem}
 use Rattle.ab_naming.proofs.stem.stem.Goals as goal
 
 answered : {E : Type 0} (r : Result (List ℕ) E) (name x : List ℕ) → IfOk r (λ n. n ≡ x) → IsStem name x → IfOk r (IsStem name)

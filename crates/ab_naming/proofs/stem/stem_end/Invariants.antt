@@ -1,6 +1,6 @@
 use Rattle.std.proofs.Common.{ℕ, ◌<◌, ◌≤◌, length, get_or}
-use Rattle.ab_logic.specs.Names.{IsDigit}
-use Rattle.ab_naming.proofs.Digits.{DigitsFrom}
+use Rattle.ab_formulas.specs.Names.{IsDigit}
+use Rattle.ab_formulas.proofs.Digits.{DigitsFrom}
 use Rattle.ab_naming.proofs.stem.stem_end.Given as goal
 
 abbrev pub invariant-loop-end : goal.invariant-loop-end

@@ -1,10 +1,10 @@
 use Rattle.std.specs.Prelude.{IsFalse}
 use Rattle.std.proofs.Common.{◌≡◌, ℕ, ◌+◌, ◌-◌, ◌<◌, ◌≤◌, ◌++◌, ◌⊎◌, inl, inr, List, Contains, decimal, sym, subst, arith}
 use Rattle.std.proofs.lemmas.Bool.{cases_lt}
-use Rattle.ab_logic.specs.Names.{IsFreeName, IsNominalName}
+use Rattle.ab_formulas.specs.Names.{IsFreeName, IsNominalName}
 use Rattle.ab_logic.specs.Worlds.{declarations_of}
 use Rattle.ab_logic.specs.Readings.{sequent_of}
-use Rattle.ab_naming.specs.Taken.{taken_names}
+use Rattle.ab_formulas.specs.Taken.{taken_names}
 use Rattle.ab_naming.proofs.Free.{is_first, too_many}
 use Rattle.ab_naming.proofs.variable.first_free.Goals as goal
 

@@ -1,7 +1,7 @@
 use Rattle.std.proofs.Common.{ℕ, ◌<◌, ◌≤◌, ◌++◌, Contains, decimal}
 use Rattle.ab_logic.specs.Worlds.{declarations_of}
 use Rattle.ab_logic.specs.Readings.{sequent_of}
-use Rattle.ab_naming.specs.Taken.{taken_names}
+use Rattle.ab_formulas.specs.Taken.{taken_names}
 use Rattle.ab_naming.proofs.variable.first_free.Given as goal
 
 abbrev pub invariant-loop-number : goal.invariant-loop-number

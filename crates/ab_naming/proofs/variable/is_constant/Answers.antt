@@ -1,10 +1,11 @@
 use Rattle.std.specs.Prelude.{IsTrue, IsNone, IfSome, ◌↔◌}
 use Rattle.std.proofs.Common.{◌≡◌, ℕ, zero, suc, ◌<◌, Bool, true, false, Option, Some, None, is_some, List, [], ◌∷◌, length, get_or, Contains, refl, arith, sym, ap, ◌∙◌, subst}
 use Rattle.ab_term.proofs.Lists.{Contains-here, Contains-there}
-use Rattle.ab_logic.specs.ab_types.specs.Entries.{Table, Constant, names, constants}
+use Rattle.ab_term.specs.Constants.{Constant, names}
+use Rattle.ab_logic.specs.ab_types.specs.Entries.{Table, constants}
 use Rattle.ab_logic.specs.ab_types.specs.Ids.{HoldsConstant, constant_of}
 use Rattle.ab_logic.specs.ab_types.specs.declared.ids.ConstId.{ConstId}
-use Rattle.ab_logic.specs.Declarations.{constant_names}
+use Rattle.ab_formulas.specs.Declarations.{constant_names}
 use Rattle.ab_logic.specs.Worlds.{declarations_of}
 use Rattle.ab_logic.proofs.Declaring.{constants_are}
 use Rattle.ab_naming.proofs.variable.is_constant.Goals as goal

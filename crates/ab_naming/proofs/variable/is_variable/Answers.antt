@@ -2,7 +2,7 @@ use Rattle.std.specs.Prelude.{IsTrue, ◌↔◌}
 use Rattle.std.proofs.Common.{◌≡◌, List, Bool, arith, true, false, Contains, refl, ap, map, sym, ◌∙◌, subst}
 use Rattle.ab_logic.specs.ab_store.specs.declared.node.CellId.{CellId}
 use Rattle.ab_logic.specs.Worlds.{variable_of}
-use Rattle.ab_logic.specs.Sequents.{Variable}
+use Rattle.ab_formulas.specs.Sequents.{Variable}
 use Rattle.ab_naming.proofs.Variables.{name_there, no_name}
 use Rattle.ab_naming.proofs.variable.is_variable.Goals as goal
 

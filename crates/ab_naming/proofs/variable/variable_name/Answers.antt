@@ -1,15 +1,16 @@
 use Rattle.std.proofs.Common.{◌≡◌, ℕ, ◌+◌, ◌≤◌, ◌⊎◌, inl, inr, List, [], ◌∷◌, ◌++◌, length, map, sym, ap, ◌∙◌, arith, length-append}
 use Rattle.std.proofs.lemmas.List.{length-map}
 use Rattle.std.proofs.lemmas.Result.{IfOk-weaker}
-use Rattle.ab_logic.specs.ab_types.specs.Entries.{Table, a_kind, a_type, a_constant, constants, names}
+use Rattle.ab_term.specs.Constants.{names}
+use Rattle.ab_logic.specs.ab_types.specs.Entries.{Table, a_kind, a_type, a_constant, constants}
 use Rattle.ab_logic.specs.ab_types.proofs.Entries.{length-names}
-use Rattle.ab_logic.specs.Declarations.{constant_names}
-use Rattle.ab_logic.specs.Sequents.{Variable}
-use Rattle.ab_logic.specs.Names.{IsNamedFor, IsFreeName}
+use Rattle.ab_formulas.specs.Declarations.{constant_names}
+use Rattle.ab_formulas.specs.Sequents.{Variable}
+use Rattle.ab_formulas.specs.Names.{IsNamedFor, IsFreeName}
 use Rattle.ab_logic.specs.Worlds.{declarations_of, variable_of}
 use Rattle.ab_logic.specs.Readings.{sequent_of}
 use Rattle.ab_logic.proofs.Declaring.{constants_are}
-use Rattle.ab_naming.specs.Taken.{taken_names, variable_names}
+use Rattle.ab_formulas.specs.Taken.{taken_names, variable_names}
 use Rattle.ab_naming.proofs.Free.{taken_not_free}
 use Rattle.ab_naming.proofs.variable.variable_name.Goals as goal
 

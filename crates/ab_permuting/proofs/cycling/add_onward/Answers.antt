@@ -2,7 +2,7 @@ use Rattle.std.proofs.Common.{[], ◌∷◌, ◌++◌, ◌+◌, drop, get_or, sy
 use Rattle.std.proofs.lemmas.List.{drop_more, drop_all}
 use Rattle.ab_norm.specs.ab_types.specs.Ids.{type_of}
 use Rattle.ab_norm.specs.Nominals.{pairs_of}
-use Rattle.ab_permuting.specs.Cycles.{constant_at, onward}
+use Rattle.ab_formulas.specs.Cycles.{constant_at, onward}
 use Rattle.ab_permuting.proofs.Standings.{on_ok}
 use Rattle.ab_permuting.proofs.cycling.add_onward.Goals as goal
 

@@ -2,7 +2,7 @@ use Rattle.std.proofs.Common.{◌≡◌, ◌++◌, drop}
 use Rattle.ab_norm.specs.ab_types.specs.Entries.{Table}
 use Rattle.ab_norm.specs.ab_types.specs.Ids.{HoldsType, type_of}
 use Rattle.ab_norm.specs.Nominals.{pairs_of, HoldsPairs}
-use Rattle.ab_permuting.specs.Cycles.{onward}
+use Rattle.ab_formulas.specs.Cycles.{onward}
 use Rattle.ab_permuting.proofs.cycling.add_onward.Given as goal
 
 abbrev pub invariant-loop-to : goal.invariant-loop-to

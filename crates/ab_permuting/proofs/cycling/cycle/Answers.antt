@@ -2,7 +2,7 @@ use Rattle.std.proofs.Common.{sym, ap, subst}
 use Rattle.ab_term.specs.Names.{IsPermutationTable}
 use Rattle.ab_norm.specs.ab_types.specs.Ids.{type_of}
 use Rattle.ab_norm.specs.Nominals.{pairs_of}
-use Rattle.ab_permuting.proofs.Tables.{cycle_permutes}
+use Rattle.ab_formulas.proofs.Tables.{cycle_permutes}
 use Rattle.ab_permuting.proofs.cycling.cycle.Goals as goal
 
 pub returns-clause-table : goal.returns-clause-table

@@ -1,5 +1,5 @@
 use Rattle.ab_logic.specs.Readings.{sequent_of}
-use Rattle.ab_logic.specs.Sequents.{goal_names}
+use Rattle.ab_formulas.specs.Sequents.{goal_names}
 use Rattle.ab_permuting.proofs.Standings.{common, in_ok}
 use Rattle.ab_permuting.proofs.standing.common_type.Goals as goal
 

@@ -2,7 +2,7 @@ use Rattle.std.proofs.Common.{[], ◌∷◌, ◌++◌, map, take, sym, ◌∙◌
 use Rattle.std.proofs.lemmas.List.{take_all, map_more}
 use Rattle.ab_term.specs.Names.{support}
 use Rattle.ab_logic.specs.Readings.{hypothesis_of}
-use Rattle.ab_logic.specs.Sequents.{names_of, formulas}
+use Rattle.ab_formulas.specs.Sequents.{names_of, formulas}
 use Rattle.ab_logic.specs.Worlds.{read}
 use Rattle.ab_permuting.specs.Standing.{IsStanding}
 use Rattle.ab_permuting.proofs.Standings.{names_last}

@@ -1,7 +1,7 @@
 use Rattle.std.proofs.Common.{◌++◌, map, take}
 use Rattle.ab_term.specs.Names.{support}
 use Rattle.ab_logic.specs.Readings.{hypothesis_of}
-use Rattle.ab_logic.specs.Sequents.{names_of, formulas}
+use Rattle.ab_formulas.specs.Sequents.{names_of, formulas}
 use Rattle.ab_logic.specs.Worlds.{read}
 use Rattle.ab_permuting.specs.Standing.{IsStanding}
 use Rattle.ab_permuting.proofs.standing.standing_in.Given as goal

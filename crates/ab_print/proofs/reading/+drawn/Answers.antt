@@ -4,12 +4,12 @@ use Rattle.std.specs.Option.{option_to_list}
 use Rattle.std.specs.declared.alloc.Global.{Global}
 use Rattle.std.specs.declared.vec.Vec.{Vec}
 use Rattle.std.proofs.lemmas.List.Elements.{All-same}
-use Rattle.ab_term.specs.Terms.{terms_of}
+use Rattle.ab_term.specs.Terms.{terms_of, Read}
 use Rattle.ab_term.specs.Substitution.{lower_head}
 use Rattle.ab_logic.specs.ab_types.specs.Ids.{type_of}
 use Rattle.ab_logic.specs.ab_store.specs.declared.node.TermId.{TermId}
 use Rattle.ab_logic.specs.ab_store.specs.Naming.{NodeIsTyped}
-use Rattle.ab_logic.specs.ab_store.specs.Trees.{Read, tree_of, head_reading}
+use Rattle.ab_logic.specs.ab_store.specs.Trees.{tree_of, head_reading}
 use Rattle.ab_text.specs.Names.{free_heads, free_heads_of_all}
 use Rattle.ab_print.specs.declared.drawing.Seen.{Seen}
 use Rattle.ab_print.specs.declared.drawing.Drawing.{Drawing}

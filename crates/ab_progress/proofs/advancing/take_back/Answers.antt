@@ -1,10 +1,10 @@
 use Rattle.std.proofs.Common.{◌≡◌, inl, inr, ◌+◌, ◌-◌, ◌∙◌, ap, length, arith}
 use Rattle.ab_kernel.specs.ab_logic.specs.declared.world.World.{World}
-use Rattle.ab_kernel.specs.Derivation.{History, undone}
+use Rattle.ab_theory.specs.Derivations.{History, undone}
 use Rattle.ab_kernel.specs.Layout.{Held, history_of, before_last, before_steps}
 use Rattle.ab_kernel.proofs.Standing.{some_world}
 use Rattle.ab_kernel.proofs.Earlier.{standing, shorter, before_more}
-use Rattle.ab_kernel.proofs.Back.{undone_more, undone_length}
+use Rattle.ab_theory.proofs.Back.{undone_more, undone_length}
 use Rattle.ab_progress.proofs.Following.{again, taken_back, follows_taken_back}
 use Rattle.ab_progress.proofs.advancing.take_back.Goals as goal
 

@@ -1,6 +1,6 @@
 use Rattle.std.proofs.Common.{◌≡◌, ◌⊎◌, ◌-◌, ◌≤◌, length}
 use Rattle.ab_kernel.specs.ab_logic.specs.declared.world.World.{World as AWorld}
-use Rattle.ab_kernel.specs.Derivation.{undone}
+use Rattle.ab_theory.specs.Derivations.{undone}
 use Rattle.ab_kernel.specs.Layout.{history_of, IsProof, before_steps}
 use Rattle.ab_kernel.proofs.Standing.{some_world}
 use Rattle.ab_progress.proofs.advancing.take_back.Given as goal

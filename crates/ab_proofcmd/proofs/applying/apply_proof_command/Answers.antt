@@ -9,7 +9,7 @@ use Rattle.ab_syntax.specs.Commands.{argument_of, instance_of, proof_command_of}
 use Rattle.ab_syntax.specs.Items.{list_of}
 use Rattle.ab_syntax.specs.Trees.{tree_of}
 use Rattle.ab_applying.specs.ab_elaborate.specs.Judgements.{HasNoJudgement}
-use Rattle.ab_exchanging.specs.ab_logic.specs.Names.{Label}
+use Rattle.ab_formulas.specs.Names.{Label}
 use Rattle.ab_exchanging.specs.ab_progress.specs.Applied.{IsApplied, IsRefused}
 use Rattle.ab_exchanging.specs.ab_effects.specs.Effect.{given_label}
 use Rattle.ab_proofcmd.specs.Built.{IsBuilt}

@@ -2,7 +2,7 @@ use Rattle.std.proofs.Common.{map, sym, ◌∙◌, ap}
 use Rattle.std.proofs.lemmas.List.{length-map}
 use Rattle.ab_term.specs.Terms.{spine, terms_of}
 use Rattle.ab_instances.specs.ab_store.specs.Trees.{tree_of, head_reading, node_tree}
-use Rattle.ab_taking.specs.ab_using.specs.Uses.{with_term}
+use Rattle.ab_theory.specs.Uses.{with_term}
 use Rattle.ab_putting.proofs.Items.{one_only}
 use Rattle.ab_putting.proofs.Shapes.{with_other}
 use Rattle.ab_putting.proofs.formulas.only_argument.Goals as goal

@@ -2,7 +2,7 @@ use Rattle.std.proofs.Common.{map, sym, ◌∙◌, ap}
 use Rattle.std.proofs.lemmas.List.{length-map}
 use Rattle.ab_term.specs.Terms.{spine, terms_of}
 use Rattle.ab_instances.specs.ab_store.specs.Trees.{tree_of, head_reading, node_tree}
-use Rattle.ab_taking.specs.ab_using.specs.Uses.{left_side, right_side}
+use Rattle.ab_theory.specs.Uses.{left_side, right_side}
 use Rattle.ab_putting.proofs.Items.{two_only}
 use Rattle.ab_putting.proofs.Shapes.{left_other, right_other}
 use Rattle.ab_putting.proofs.formulas.sides_of.Goals as goal

@@ -1,5 +1,5 @@
 use Rattle.std.proofs.Common.{◌≡◌, map, drop}
-use Rattle.ab_taking.specs.ab_using.specs.Pieces as spec
+use Rattle.ab_theory.specs.Pieces as spec
 use Rattle.ab_taking.specs.Readings.{given_of}
 use Rattle.ab_putting.proofs.parting.given_for.Given as goal
 

@@ -1,6 +1,6 @@
 use Rattle.std.proofs.Common.{◌≡◌, map, take}
 use Rattle.std.specs.List.{All}
-use Rattle.ab_taking.specs.ab_using.specs.Pieces.{given_otherwise}
+use Rattle.ab_theory.specs.Pieces.{given_otherwise}
 use Rattle.ab_taking.specs.Readings.{given_of}
 use Rattle.ab_putting.specs.Parting.{IsGiven}
 use Rattle.ab_putting.proofs.parting.given_for_others.Given as goal

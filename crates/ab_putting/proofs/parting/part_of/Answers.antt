@@ -1,5 +1,5 @@
 use Rattle.std.proofs.Common.{◌≡◌, None, map, sym, ◌∙◌, ap}
-use Rattle.ab_taking.specs.ab_using.specs.Pieces as spec
+use Rattle.ab_theory.specs.Pieces as spec
 use Rattle.ab_taking.specs.Readings.{given_of}
 use Rattle.ab_putting.proofs.TermsGiven.{none_given}
 use Rattle.ab_putting.proofs.parting.part_of.Goals as goal

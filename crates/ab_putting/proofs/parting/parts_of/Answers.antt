@@ -3,8 +3,8 @@ use Rattle.std.specs.List.{All}
 use Rattle.std.proofs.lemmas.List.Elements.{All-push}
 use Rattle.ab_instances.specs.ab_types.specs.Ids.{type_of}
 use Rattle.ab_taking.specs.ab_logic.specs.Worlds.{read}
-use Rattle.ab_taking.specs.ab_using.specs.Pieces as spec
-use Rattle.ab_taking.specs.ab_using.specs.Pieces.{pieces, parts, part_for, given_otherwise, constant_for, antecedent}
+use Rattle.ab_theory.specs.Pieces as spec
+use Rattle.ab_theory.specs.Pieces.{pieces, parts, part_for, given_otherwise, constant_for, antecedent}
 use Rattle.ab_taking.specs.Readings.{given_of}
 use Rattle.ab_taking.specs.Layers.{hint_of}
 use Rattle.ab_taking.proofs.Layers.{pieces_under, pieces_within, pieces_one, pieces_more}

@@ -1,7 +1,7 @@
 use Rattle.std.proofs.Common.{◌≡◌, ◌++◌, map}
 use Rattle.std.specs.List.{All}
 use Rattle.ab_taking.specs.ab_logic.specs.Worlds.{Holds, read}
-use Rattle.ab_taking.specs.ab_using.specs.Pieces.{pieces, parts}
+use Rattle.ab_theory.specs.Pieces.{pieces, parts}
 use Rattle.ab_taking.specs.Readings.{given_of}
 use Rattle.ab_putting.specs.Making.{HoldsPart, parts_read}
 use Rattle.ab_putting.specs.Parting.{IsGiven}

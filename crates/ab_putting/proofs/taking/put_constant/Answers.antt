@@ -9,7 +9,7 @@ use Rattle.ab_instances.specs.ab_store.specs.Trees.{tree_of}
 use Rattle.ab_instances.specs.ab_norm.specs.Nominals.{nominal_of}
 use Rattle.ab_instances.specs.ab_norm.proofs.Frame.{typed_on}
 use Rattle.ab_instances.specs.ab_unifying.proofs.Growth.{typed_terms, grows_terms}
-use Rattle.ab_taking.specs.ab_using.specs.Uses.{with_term}
+use Rattle.ab_theory.specs.Uses.{with_term}
 use Rattle.ab_putting.specs.declared.stage.Stage.TheVariants.{Chosen}
 use Rattle.ab_putting.proofs.Fronts.{constant_put}
 use Rattle.ab_putting.proofs.Moved.{under_way_on, constant_goes}

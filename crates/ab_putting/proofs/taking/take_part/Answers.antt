@@ -3,7 +3,7 @@ use Rattle.ab_instances.specs.ab_types.specs.Entries.{signature}
 use Rattle.ab_instances.specs.ab_store.specs.Trees.{tree_of}
 use Rattle.ab_instances.specs.ab_unifying.proofs.Growth.{grows_terms}
 use Rattle.ab_instances.specs.Readings.{names_read}
-use Rattle.ab_taking.specs.ab_using.specs.Uses.{used}
+use Rattle.ab_theory.specs.Uses.{used}
 use Rattle.ab_putting.specs.Making.{part_read, HasParts, GoesOn}
 use Rattle.ab_putting.specs.declared.part.Part.TheVariants.{Constant}
 use Rattle.ab_putting.proofs.Items.{both}

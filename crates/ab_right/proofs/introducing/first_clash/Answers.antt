@@ -2,8 +2,8 @@ use Rattle.std.proofs.Common.{◌≡◌, ◌<◌, ◌+◌, ℕ, zero, suc, Bool,
 use Rattle.std.specs.Prelude.{◌||◌, if◌then◌else◌, bytes_eq}
 use Rattle.std.specs.List.{list_any}
 use Rattle.std.proofs.lemmas.List.{drop_more, take_more}
-use Rattle.ab_alike.specs.ab_logic.specs.Readings.{sequent_of}
-use Rattle.ab_alike.specs.ab_logic.specs.Sequents.{Sequent}
+use Rattle.ab_progress.specs.ab_logic.specs.Readings.{sequent_of}
+use Rattle.ab_formulas.specs.Sequents.{Sequent}
 use Rattle.ab_progress.specs.ab_effects.specs.Effect.{clashing_names, is_used}
 use Rattle.ab_progress.specs.ab_effects.specs.Refusals.{clash}
 use Rattle.ab_right.proofs.introducing.first_clash.Goals as goal

@@ -1,6 +1,6 @@
 use Rattle.std.proofs.Common.{◌≡◌, [], take, drop}
-use Rattle.ab_alike.specs.ab_logic.specs.Readings.{sequent_of}
-use Rattle.ab_alike.specs.ab_logic.specs.declared.world.World.{World}
+use Rattle.ab_progress.specs.ab_logic.specs.Readings.{sequent_of}
+use Rattle.ab_progress.specs.ab_logic.specs.declared.world.World.{World}
 use Rattle.ab_progress.specs.ab_effects.specs.Effect.{clashing_names}
 use Rattle.ab_right.proofs.introducing.first_clash.Given as goal
 

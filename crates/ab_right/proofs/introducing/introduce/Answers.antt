@@ -1,5 +1,5 @@
 use Rattle.std.proofs.Common.{◌≡◌, ◌<◌, ◌≤◌, length, drop, arith, subst}
-use Rattle.ab_alike.specs.ab_logic.specs.Worlds.{declarations_of}
+use Rattle.ab_progress.specs.ab_logic.specs.Worlds.{declarations_of}
 use Rattle.ab_progress.specs.ab_effects.specs.Effect.{introducing}
 use Rattle.ab_progress.specs.Applied.{RefusedBy}
 use Rattle.ab_progress.specs.declared.fault.ProofCommandFault.TheVariants.{WrongShape, NamesSpent}

@@ -1,8 +1,8 @@
 use Rattle.std.proofs.Common.{drop, sym, ◌∙◌, ap, subst}
-use Rattle.ab_alike.specs.ab_logic.specs.Forms.{form_read}
-use Rattle.ab_alike.specs.ab_logic.specs.Sequents.{Sequent}
-use Rattle.ab_alike.specs.ab_logic.specs.Worlds.{read}
-use Rattle.ab_alike.specs.ab_naming.specs.Labels.{label_of}
+use Rattle.ab_progress.specs.ab_logic.specs.Forms.{form_read}
+use Rattle.ab_formulas.specs.Sequents.{Sequent}
+use Rattle.ab_progress.specs.ab_logic.specs.Worlds.{read}
+use Rattle.ab_progress.specs.ab_naming.specs.Labels.{label_of}
 use Rattle.ab_right.specs.Introducing.{IsTakenOff}
 use Rattle.ab_right.proofs.Introduces.{Asks, sure_for_all, sure_nabla, for_all_on, constant_on, hypothesis_on, nameless}
 use Rattle.ab_progress.proofs.Following.{some_goal}

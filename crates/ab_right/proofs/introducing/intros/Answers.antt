@@ -1,8 +1,8 @@
 use Rattle.std.proofs.Common.{◌≡◌, Some, None, [], sym, ◌∙◌, ap, subst}
-use Rattle.ab_alike.specs.ab_logic.specs.Forms.{form_of}
-use Rattle.ab_alike.specs.ab_logic.specs.Readings.{sequent_of}
-use Rattle.ab_alike.specs.ab_logic.specs.Sequents.{Sequent}
-use Rattle.ab_alike.specs.ab_logic.specs.Worlds.{declarations_of}
+use Rattle.ab_formulas.specs.Forms.{form_of}
+use Rattle.ab_progress.specs.ab_logic.specs.Readings.{sequent_of}
+use Rattle.ab_formulas.specs.Sequents.{Sequent}
+use Rattle.ab_progress.specs.ab_logic.specs.Worlds.{declarations_of}
 use Rattle.ab_progress.specs.ab_effects.specs.Effect.{introducing, clashing_names}
 use Rattle.ab_progress.specs.ab_effects.specs.Introducing.{taken_off}
 use Rattle.ab_progress.specs.Applied.{RefusedBy}

@@ -1,7 +1,7 @@
 use Rattle.std.proofs.Common.{◌+◌, ◌++◌, length, decimal, arith}
-use Rattle.ab_alike.specs.ab_logic.specs.Readings.{sequent_of, hypothesis_of}
+use Rattle.ab_progress.specs.ab_logic.specs.Readings.{sequent_of, hypothesis_of}
 use Rattle.std.proofs.lemmas.List.{length-map}
-use Rattle.ab_alike.specs.ab_naming.proofs.Free.{too_many}
+use Rattle.ab_progress.specs.ab_naming.proofs.Free.{too_many}
 use Rattle.ab_right.proofs.Numbering.{names_in, names_counted, used_among}
 use Rattle.ab_right.proofs.naming.first_free.Goals as goal
 

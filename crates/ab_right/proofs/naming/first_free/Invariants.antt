@@ -1,6 +1,6 @@
 use Rattle.std.proofs.Common.{ℕ, ◌<◌, ◌≤◌, ◌++◌, decimal}
-use Rattle.ab_alike.specs.ab_logic.specs.Readings.{sequent_of}
-use Rattle.ab_alike.specs.ab_logic.specs.Sequents.{IsUsed}
+use Rattle.ab_progress.specs.ab_logic.specs.Readings.{sequent_of}
+use Rattle.ab_formulas.specs.Sequents.{IsUsed}
 use Rattle.ab_right.proofs.naming.first_free.Given as goal
 
 abbrev pub invariant-loop-number : goal.invariant-loop-number

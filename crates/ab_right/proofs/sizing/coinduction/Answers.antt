@@ -1,12 +1,12 @@
 use Rattle.std.specs.Option.{option_map}
 use Rattle.std.proofs.Common.{◌≡◌, [], codes, refl, ◌∙◌, ap, subst}
-use Rattle.ab_alike.specs.ab_analysis.specs.Atoms.{Defined}
-use Rattle.ab_progress.specs.ab_induction.specs.Places.{coinductive_in}
-use Rattle.ab_alike.specs.ab_logic.specs.Forms.{sign_of}
-use Rattle.ab_alike.specs.ab_logic.specs.Sequents.{Sequent}
-use Rattle.ab_alike.specs.ab_logic.specs.Worlds.{declarations_of}
-use Rattle.ab_alike.specs.ab_naming.specs.Labels.{label_of}
-use Rattle.ab_alike.specs.ab_unifying.specs.Problem.{cells_read}
+use Rattle.ab_theory.specs.Atoms.{Defined}
+use Rattle.ab_theory.specs.Induction.{coinductive_in}
+use Rattle.ab_progress.specs.ab_logic.specs.Forms.{sign_of}
+use Rattle.ab_formulas.specs.Sequents.{Sequent}
+use Rattle.ab_progress.specs.ab_logic.specs.Worlds.{declarations_of}
+use Rattle.ab_progress.specs.ab_naming.specs.Labels.{label_of}
+use Rattle.ab_progress.specs.ab_unifying.specs.Problem.{cells_read}
 use Rattle.ab_progress.proofs.Following.{at_first, first_at, some_goal}
 use Rattle.ab_right.specs.Sizing.{MayGetSize, GetsNoSize}
 use Rattle.ab_right.proofs.Sizes.{same_fault, coinduction_sure, coinduction_leads, coinduction_refused}

@@ -1,7 +1,7 @@
 use Rattle.std.proofs.Common.{◌≡◌, ◌+◌, ◌-◌, [], length, subst, arith}
 use Rattle.ab_grammar.specs.CommandTrees as told
-use Rattle.ab_alike.specs.ab_unifying.specs.Problem.{cells_read}
-use Rattle.ab_alike.specs.ab_logic.specs.Worlds.{declarations_of}
+use Rattle.ab_progress.specs.ab_unifying.specs.Problem.{cells_read}
+use Rattle.ab_progress.specs.ab_logic.specs.Worlds.{declarations_of}
 use Rattle.ab_progress.specs.ab_effects.specs.Effect.{effect}
 use Rattle.ab_progress.specs.Progress.{goals_of}
 use Rattle.ab_progress.specs.Applied.{RefusedBy}

@@ -1,5 +1,5 @@
 use Rattle.std.proofs.Common.{◌≡◌, ◌-◌, ◌<◌, ◌≤◌, length, ap, arith}
-use Rattle.ab_progress.specs.ab_kernel.specs.Derivation.{History, open_goals}
+use Rattle.ab_theory.specs.Derivations.{History, open_goals}
 use Rattle.ab_progress.specs.Progress.{goals_of}
 use Rattle.ab_progress.proofs.Following.{follows_on}
 use Rattle.ab_right.proofs.PartingGoals.{starts, parting_halves, parting_whole, parted_all, lighter_halves, lighter_whole}

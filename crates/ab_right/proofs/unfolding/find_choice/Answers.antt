@@ -1,10 +1,10 @@
 use Rattle.std.specs.Prelude.{Some, IsTrue}
 use Rattle.std.specs.Option.{option_map}
 use Rattle.std.proofs.Common.{rules, ◌≡◌, sym, ◌∙◌, ap, subst}
-use Rattle.ab_alike.specs.ab_unifying.specs.Problem.{cells_read}
-use Rattle.ab_alike.specs.ab_logic.specs.Readings.{sequent_of}
-use Rattle.ab_alike.specs.ab_logic.specs.Worlds.{declarations_of}
-use Rattle.ab_alike.specs.ab_analysis.specs.Atoms.{defined_atom}
+use Rattle.ab_progress.specs.ab_unifying.specs.Problem.{cells_read}
+use Rattle.ab_progress.specs.ab_logic.specs.Readings.{sequent_of}
+use Rattle.ab_progress.specs.ab_logic.specs.Worlds.{declarations_of}
+use Rattle.ab_theory.specs.Atoms.{defined_atom}
 use Rattle.ab_progress.specs.ab_alternatives.specs.Readings.{defined_read}
 use Rattle.ab_progress.specs.ab_alternatives.specs.Finding.{Finds}
 use Rattle.ab_progress.specs.ab_alternatives.specs.declared.finding.Found.TheVariants.{Closed, Open, Stuck, Nothing}

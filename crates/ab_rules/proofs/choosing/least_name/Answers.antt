@@ -1,5 +1,5 @@
 use Rattle.std.proofs.Common.{subst}
-use Rattle.ab_alternatives.specs.ab_logic.specs.Names.{IsLeast}
+use Rattle.ab_formulas.specs.Names.{IsLeast}
 use Rattle.ab_rules.specs.Choosing.{IsAbsent}
 use Rattle.ab_rules.proofs.Chosen.{least_may}
 use Rattle.ab_rules.proofs.choosing.least_name.Goals as goal

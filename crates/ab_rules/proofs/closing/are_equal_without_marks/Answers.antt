@@ -2,7 +2,7 @@ use Rattle.std.specs.Prelude.{IsTrue, ◌↔◌}
 use Rattle.std.proofs.Common.{◌≡◌, ap, ◌∙◌, subst}
 use Rattle.std.proofs.lemmas.Result.{IfOk-weaker}
 use Rattle.ab_term.specs.Names.{EqualUpToNames}
-use Rattle.ab_alternatives.specs.ab_logic.specs.Marks.{erased}
+use Rattle.ab_formulas.specs.Marks.{erased}
 use Rattle.ab_alternatives.specs.ab_logic.specs.Worlds.{read}
 use Rattle.ab_alternatives.specs.ab_logic.proofs.Growing.{grows_on}
 use Rattle.ab_rules.proofs.Declared.{declared_same}

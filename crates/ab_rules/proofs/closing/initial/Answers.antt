@@ -1,5 +1,5 @@
 use Rattle.std.proofs.Common.{inl, inr, refl, sym, subst, rules}
-use Rattle.ab_alternatives.specs.ab_logic.specs.Marks.{MarksServeIn}
+use Rattle.ab_formulas.specs.Marks.{MarksServeIn}
 use Rattle.ab_alternatives.specs.ab_store.specs.declared.node.TermId.{TermId}
 use Rattle.ab_alternatives.specs.ab_logic.specs.Worlds.{read, Holds}
 use Rattle.ab_alternatives.specs.ab_logic.specs.Growth.{Grows}

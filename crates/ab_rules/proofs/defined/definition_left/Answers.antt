@@ -1,12 +1,12 @@
 use Rattle.std.proofs.Common.{◌≡◌, Ok, Some, sym, ◌∙◌, ap, subst}
-use Rattle.ab_alternatives.specs.ab_logic.specs.Names.{Names}
+use Rattle.ab_formulas.specs.Names.{Names}
 use Rattle.ab_alternatives.specs.ab_logic.specs.Readings.{sequent_of}
-use Rattle.ab_alternatives.specs.ab_logic.specs.Sequents.{without}
+use Rattle.ab_formulas.specs.Sequents.{without}
 use Rattle.ab_alternatives.specs.ab_logic.specs.Worlds.{read, declarations_of}
-use Rattle.ab_alternatives.specs.ab_analysis.specs.Atoms.{defined_atom}
+use Rattle.ab_theory.specs.Atoms.{defined_atom}
 use Rattle.ab_alternatives.specs.Readings.{defined_read}
 use Rattle.ab_alternatives.specs.ab_naming.specs.Labels.{label_of}
-use Rattle.ab_rules.proofs.Analysable.{analysed_typed, rest_formulas}
+use Rattle.ab_theory.proofs.Analysable.{analysed_typed, rest_formulas}
 use Rattle.ab_rules.proofs.defined.definition_left.Goals as goal
 
 pub split-requires-clause-formulas : goal.split-requires-clause-formulas

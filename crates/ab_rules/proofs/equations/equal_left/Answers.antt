@@ -2,14 +2,14 @@ use Rattle.std.specs.Prelude.{Ok}
 use Rattle.std.specs.List.{All}
 use Rattle.std.proofs.Common.{List, [], map, inl, sym, ap, subst, arith}
 use Rattle.std.proofs.lemmas.List.Elements.{All-cons}
-use Rattle.ab_alternatives.specs.ab_logic.specs.Names.{IsNamedFor}
+use Rattle.ab_formulas.specs.Names.{IsNamedFor}
 use Rattle.ab_alternatives.specs.ab_logic.specs.Readings.{sequent_of, HoldsSequent}
-use Rattle.ab_alternatives.specs.ab_logic.specs.Sequents.{IsSequent, without}
+use Rattle.ab_formulas.specs.Sequents.{IsSequent, without}
 use Rattle.ab_alternatives.specs.ab_logic.specs.Worlds.{read, declarations_of}
 use Rattle.ab_alternatives.specs.ab_logic.specs.declared.sequent.Sequent.{Sequent as Kept}
 use Rattle.ab_alternatives.specs.ab_unifying.specs.Problem.{cells_read}
-use Rattle.ab_alternatives.specs.ab_equate.specs.Solved.{Becomes}
-use Rattle.ab_rules.proofs.Sequents.{without_sequent}
+use Rattle.ab_theory.specs.Equations.{Becomes}
+use Rattle.ab_theory.proofs.Sequents.{without_sequent}
 use Rattle.ab_rules.proofs.Sides.{typed_pair}
 use Rattle.ab_rules.proofs.equations.equal_left.Goals as goal
 

@@ -2,7 +2,7 @@ use Rattle.std.specs.Prelude.{IsTrue, ◌↔◌}
 use Rattle.std.proofs.Common.{◌∙◌}
 use Rattle.std.proofs.lemmas.Result.{IfOk-weaker}
 use Rattle.ab_alternatives.specs.ab_types.specs.Ids.{type_of}
-use Rattle.ab_alternatives.specs.ab_fits.specs.Fitting as term
+use Rattle.ab_formulas.specs.Fitting as term
 use Rattle.ab_alternatives.specs.ab_logic.specs.Worlds.{read}
 use Rattle.ab_rules.proofs.Words.{in_words, all_held}
 use Rattle.ab_rules.proofs.fitting.fits_in.Goals as goal

@@ -1,8 +1,8 @@
 use Rattle.std.proofs.Common.{rules, sym, refl, inl, inr}
 use Rattle.ab_alternatives.specs.ab_logic.specs.Worlds.{read}
-use Rattle.ab_alternatives.specs.ab_logic.specs.Sequents.{assuming, without}
+use Rattle.ab_formulas.specs.Sequents.{assuming, without}
 use Rattle.ab_alternatives.specs.ab_logic.specs.Readings.{sequent_of}
-use Rattle.ab_alternatives.specs.ab_logic.specs.Names.{Names, NoName}
+use Rattle.ab_formulas.specs.Names.{Names, NoName}
 use Rattle.ab_rules.specs.Answers.{label_of}
 use Rattle.ab_rules.proofs.left.and_left.Goals as goal
 

@@ -5,15 +5,15 @@ use Rattle.std.proofs.lemmas.List.Elements.{All-cons}
 use Rattle.ab_term.specs.Substitution.{instance}
 use Rattle.ab_alternatives.specs.ab_unifying.specs.Problem.{cell_read, cells_read}
 use Rattle.ab_alternatives.specs.ab_logic.specs.Worlds.{read, variable_of, declarations_of}
-use Rattle.ab_alternatives.specs.ab_logic.specs.Sequents.{Sequent, assuming, without, over}
-use Rattle.ab_alternatives.specs.ab_logic.specs.Names.{Names, IsNamedFor}
+use Rattle.ab_formulas.specs.Sequents.{Sequent, assuming, without, over}
+use Rattle.ab_formulas.specs.Names.{Names, IsNamedFor}
 use Rattle.ab_alternatives.specs.ab_logic.specs.Readings.{sequent_of, HoldsSequent}
 use Rattle.ab_alternatives.specs.ab_logic.specs.declared.sequent.Sequent.{Sequent as Kept}
 use Rattle.ab_alternatives.specs.ab_logic.proofs.Growing.{same_sequent, still_held}
 use Rattle.ab_alternatives.specs.ab_naming.specs.Labels.{label_of}
 use Rattle.ab_alternatives.specs.ab_norm.specs.Nominals.{nominal_of}
 use Rattle.ab_alternatives.specs.ab_types.specs.Ids.{type_of}
-use Rattle.ab_rules.specs.Rules.{IsSupport, raised, applied, hint_of}
+use Rattle.ab_theory.specs.Rules.{IsSupport, raised, applied, hint_of}
 use Rattle.ab_rules.proofs.quantified.exists_left.Goals as goal
 
 pub returns-clause-answers : goal.returns-clause-answers

@@ -5,12 +5,12 @@ use Rattle.std.proofs.lemmas.List.Elements.{All-cons}
 use Rattle.ab_term.specs.Substitution.{instance}
 use Rattle.ab_alternatives.specs.ab_unifying.specs.Problem.{cell_read, cells_read}
 use Rattle.ab_alternatives.specs.ab_norm.specs.Nominals.{nominal_of}
-use Rattle.ab_alternatives.specs.ab_logic.specs.Names.{IsNamedFor}
+use Rattle.ab_formulas.specs.Names.{IsNamedFor}
 use Rattle.ab_alternatives.specs.ab_logic.specs.Worlds.{read, variable_of, declarations_of}
-use Rattle.ab_alternatives.specs.ab_logic.specs.Sequents.{Sequent, proving, over}
+use Rattle.ab_formulas.specs.Sequents.{Sequent, proving, over}
 use Rattle.ab_alternatives.specs.ab_logic.specs.Readings.{sequent_of, HoldsSequent}
 use Rattle.ab_alternatives.specs.ab_logic.specs.declared.sequent.Sequent.{Sequent as Kept}
-use Rattle.ab_rules.specs.Rules.{IsSupport, raised, applied, hint_of}
+use Rattle.ab_theory.specs.Rules.{IsSupport, raised, applied, hint_of}
 use Rattle.ab_alternatives.specs.ab_types.specs.Ids.{type_of}
 use Rattle.ab_alternatives.specs.ab_logic.proofs.Growing.{same_sequent, still_held}
 use Rattle.ab_rules.proofs.quantified.for_all_right.Goals as goal

@@ -2,8 +2,8 @@ use Rattle.std.specs.List.{All}
 use Rattle.std.proofs.Common.{◌≡◌, List, [], ◌∷◌, map, sym, ap, ◌∙◌, subst, arith}
 use Rattle.std.proofs.lemmas.List.Elements.{All-cons}
 use Rattle.ab_alternatives.specs.ab_logic.specs.Worlds.{read}
-use Rattle.ab_alternatives.specs.ab_logic.specs.Sequents.{assuming, without}
-use Rattle.ab_alternatives.specs.ab_logic.specs.Names.{Names}
+use Rattle.ab_formulas.specs.Sequents.{assuming, without}
+use Rattle.ab_formulas.specs.Names.{Names}
 use Rattle.ab_alternatives.specs.ab_logic.specs.Readings.{sequent_of, HoldsSequent}
 use Rattle.ab_alternatives.specs.ab_logic.specs.declared.sequent.Sequent.{Sequent as Kept}
 use Rattle.ab_alternatives.specs.ab_logic.proofs.Growing.{same_sequent, still_held}

@@ -2,18 +2,18 @@ use Rattle.std.specs.List.{All}
 use Rattle.std.specs.Option.{option_map}
 use Rattle.std.proofs.Common.{◌≡◌, List, [], ◌∷◌, map, Option, Some, inl, inr, refl, sym, ap, ◌∙◌, subst, arith}
 use Rattle.std.proofs.lemmas.List.Elements.{All-cons}
-use Rattle.ab_alternatives.specs.ab_analysis.specs.Atoms.{Defined}
-use Rattle.ab_sizing.specs.ab_induction.specs.Places.{coinductive_in, marked_consequent}
+use Rattle.ab_theory.specs.Atoms.{Defined}
+use Rattle.ab_theory.specs.Induction.{coinductive_in, marked_consequent}
 use Rattle.ab_alternatives.specs.ab_logic.specs.Forms.{sign_of}
-use Rattle.ab_alternatives.specs.ab_logic.specs.Marks.{plain, plus_of, hash_of}
-use Rattle.ab_alternatives.specs.ab_logic.specs.Names.{Names, NoName}
+use Rattle.ab_formulas.specs.Marks.{plain, plus_of, hash_of}
+use Rattle.ab_formulas.specs.Names.{Names, NoName}
 use Rattle.ab_alternatives.specs.ab_logic.specs.Readings.{sequent_of, HoldsSequent}
-use Rattle.ab_alternatives.specs.ab_logic.specs.Sequents.{proving, assuming}
+use Rattle.ab_formulas.specs.Sequents.{proving, assuming}
 use Rattle.ab_alternatives.specs.ab_logic.specs.Worlds.{read, declarations_of}
 use Rattle.ab_alternatives.specs.ab_logic.specs.declared.sequent.Sequent.{Sequent as Kept}
 use Rattle.ab_alternatives.specs.ab_logic.proofs.Growing.{same_sequent, still_held}
 use Rattle.ab_alternatives.specs.ab_naming.specs.Labels.{label_of}
-use Rattle.ab_sizing.proofs.Signs.{atom_with}
+use Rattle.ab_theory.proofs.Signs.{atom_with}
 use Rattle.ab_rules.proofs.sizes.coinduction.Goals as goal
 
 pub returns-in_default-2-clause-answers : goal.returns-in_default-2-clause-answers

@@ -1,7 +1,7 @@
 use Rattle.std.proofs.Common.{map, ◌∙◌, ap, arith}
 use Rattle.std.proofs.lemmas.List.{take_all}
 use Rattle.ab_alternatives.specs.ab_norm.specs.Nominals.{nominal_of}
-use Rattle.ab_rules.specs.Rules.{name_term}
+use Rattle.ab_theory.specs.Rules.{name_term}
 use Rattle.ab_rules.proofs.Adding.{adds_on}
 use Rattle.ab_rules.proofs.Making.{named_more}
 use Rattle.ab_rules.proofs.terms.name_terms.Goals as goal

@@ -2,7 +2,7 @@ use Rattle.std.proofs.Common.{◌≡◌, length, map, ap, ◌∙◌}
 use Rattle.ab_term.specs.Substitution.{instance}
 use Rattle.ab_alternatives.specs.ab_norm.specs.Nominals.{nominal_of}
 use Rattle.ab_alternatives.specs.ab_logic.specs.Worlds.{read}
-use Rattle.ab_rules.specs.Rules.{raised, applied}
+use Rattle.ab_theory.specs.Rules.{raised, applied}
 use Rattle.ab_alternatives.specs.ab_types.specs.Ids.{type_of}
 use Rattle.ab_alternatives.specs.ab_logic.proofs.Growing.{grows_on}
 use Rattle.ab_rules.proofs.Making.{names_stay, names_are_there}

@@ -1,9 +1,9 @@
 use Rattle.std.specs.Prelude.{Ok, IsNone, IsTrue, IsFalse}
 use Rattle.std.proofs.Common.{rules, ◌≡◌, ◌<◌, ◌+◌, suc, [], ◌∷◌, refl, sym, ◌∙◌, ap, subst, arith}
 use Rattle.std.proofs.lemmas.Result.{IfOk-weaker}
-use Rattle.ab_alike.specs.ab_logic.specs.Forms.{form_of}
-use Rattle.ab_alike.specs.ab_logic.specs.Sequents.{Sequent, proving}
-use Rattle.ab_alike.specs.ab_logic.specs.Worlds.{read, declarations_of}
+use Rattle.ab_formulas.specs.Forms.{form_of}
+use Rattle.ab_formulas.specs.Sequents.{Sequent, proving}
+use Rattle.ab_progress.specs.ab_logic.specs.Worlds.{read, declarations_of}
 use Rattle.ab_progress.specs.Progress.{goals_of}
 use Rattle.ab_progress.proofs.Following.{follows_on, follows_not, as_before, one_at_least}
 use Rattle.ab_search.specs.Asked.{MayUnfold, IsClosed, StaysOpen, IsClosedUnfolded, UnfoldsToNone}

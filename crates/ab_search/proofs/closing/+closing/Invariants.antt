@@ -1,5 +1,5 @@
 use Rattle.std.proofs.Common.{◌+◌, ◌*◌}
-use Rattle.ab_alike.specs.ab_logic.specs.Worlds.{read}
+use Rattle.ab_progress.specs.ab_logic.specs.Worlds.{read}
 use Rattle.ab_search.specs.Layers.{layers}
 use Rattle.ab_search.proofs.Going.{AreTried}
 use Rattle.ab_search.proofs.closing.+closing.Given as goal

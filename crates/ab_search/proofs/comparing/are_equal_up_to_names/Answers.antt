@@ -1,9 +1,9 @@
 use Rattle.std.specs.Prelude.{IsTrue, ◌↔◌}
 use Rattle.std.proofs.Common.{subst}
 use Rattle.ab_term.specs.Names.{EqualUpToNames}
-use Rattle.ab_alike.specs.ab_store.specs.Reading.{reading}
-use Rattle.ab_alike.specs.ab_store.proofs.Growing.{unbound_reads}
-use Rattle.ab_alike.specs.ab_logic.specs.Worlds.{read}
+use Rattle.ab_progress.specs.ab_store.specs.Reading.{reading}
+use Rattle.ab_progress.specs.ab_store.proofs.Growing.{unbound_reads}
+use Rattle.ab_progress.specs.ab_logic.specs.Worlds.{read}
 use Rattle.ab_search.proofs.Finding.{found_is}
 use Rattle.ab_search.proofs.comparing.are_equal_up_to_names.Goals as goal
 

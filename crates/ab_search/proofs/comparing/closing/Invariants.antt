@@ -1,6 +1,6 @@
 use Rattle.std.proofs.Common.{take}
 use Rattle.std.specs.List.{All}
-use Rattle.ab_alike.specs.ab_logic.specs.Worlds.{read}
+use Rattle.ab_progress.specs.ab_logic.specs.Worlds.{read}
 use Rattle.ab_search.specs.Closing.{Closes}
 use Rattle.ab_search.specs.declared.bare.Bare.{Bare}
 use Rattle.ab_search.proofs.comparing.closing.Given as goal

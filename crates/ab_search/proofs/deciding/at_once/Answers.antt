@@ -1,6 +1,6 @@
 use Rattle.std.specs.Prelude.{slice_get, Some}
 use Rattle.std.proofs.Common.{rules, ◌≡◌, refl, sym, subst}
-use Rattle.ab_alike.specs.ab_logic.specs.Worlds.{read}
+use Rattle.ab_progress.specs.ab_logic.specs.Worlds.{read}
 use Rattle.ab_search.specs.Closing.{Closes}
 use Rattle.ab_search.specs.declared.bare.Bare.{Bare}
 use Rattle.ab_search.proofs.Refuting.{hypothesis_there}

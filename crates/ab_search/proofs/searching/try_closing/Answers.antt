@@ -3,8 +3,8 @@ use Rattle.std.specs.List.{All}
 use Rattle.std.proofs.Common.{◌≡◌, map, sym, ◌∙◌, ap, subst}
 use Rattle.std.proofs.lemmas.List.Elements.{All-weaker}
 use Rattle.std.proofs.lemmas.Result.{IfOk-weaker}
-use Rattle.ab_alike.specs.ab_logic.specs.declared.sequent.Hypothesis.{Hypothesis}
-use Rattle.ab_alike.specs.ab_logic.proofs.Growing.{grows_on}
+use Rattle.ab_progress.specs.ab_logic.specs.declared.sequent.Hypothesis.{Hypothesis}
+use Rattle.ab_progress.specs.ab_logic.proofs.Growing.{grows_on}
 use Rattle.ab_progress.specs.ab_kernel.proofs.Later.{still_proof}
 use Rattle.ab_progress.proofs.Following.{follows_on}
 use Rattle.ab_search.specs.Asked.{IsClosed, StaysOpen}

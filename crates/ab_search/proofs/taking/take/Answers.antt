@@ -1,10 +1,10 @@
 use Rattle.std.proofs.Common.{◌≡◌, [], ◌++◌, sym, ◌∙◌, ap, subst}
 use Rattle.std.proofs.lemmas.Result.{on_ok_weaker}
-use Rattle.ab_alike.specs.ab_unifying.specs.Problem.{cells_read}
-use Rattle.ab_alike.specs.ab_logic.specs.Worlds.{declarations_of}
+use Rattle.ab_progress.specs.ab_unifying.specs.Problem.{cells_read}
+use Rattle.ab_progress.specs.ab_logic.specs.Worlds.{declarations_of}
 use Rattle.ab_progress.specs.ab_rules.specs.Answers.{step_of}
-use Rattle.ab_progress.specs.ab_rules.specs.Rules.{NamedRule, Fails}
-use Rattle.ab_alike.specs.ab_logic.specs.Readings.{sequent_of}
+use Rattle.ab_theory.specs.Rules.{NamedRule, Fails}
+use Rattle.ab_progress.specs.ab_logic.specs.Readings.{sequent_of}
 use Rattle.ab_progress.specs.Progress.{SolvesNothing}
 use Rattle.ab_progress.proofs.Following.{at_first, first_at}
 use Rattle.ab_search.specs.Steps.{step_for}

@@ -2,15 +2,15 @@ use Rattle.std.specs.Prelude.{IfSome, slice_get}
 use Rattle.std.specs.Option.{option_map}
 use Rattle.std.proofs.Common.{◌≡◌, List, sym, ◌∙◌, ap, subst}
 use Rattle.std.proofs.lemmas.List.Elements.{All-head}
-use Rattle.ab_alike.specs.ab_norm.specs.declared.nominal.Nominal.{Nominal}
-use Rattle.ab_alike.specs.ab_unifying.specs.Problem.{cells_read}
+use Rattle.ab_progress.specs.ab_norm.specs.declared.nominal.Nominal.{Nominal}
+use Rattle.ab_progress.specs.ab_unifying.specs.Problem.{cells_read}
 use Rattle.ab_progress.specs.ab_instances.specs.Readings.{names_read}
-use Rattle.ab_alike.specs.ab_logic.specs.Declarations.{signature_in}
-use Rattle.ab_alike.specs.ab_logic.specs.Formulas.{IsFormula}
-use Rattle.ab_alike.specs.ab_logic.specs.Readings.{sequent_of}
-use Rattle.ab_alike.specs.ab_logic.specs.Sequents.{formulas}
-use Rattle.ab_alike.specs.ab_logic.specs.Worlds.{declarations_of}
-use Rattle.ab_alike.specs.ab_analysis.specs.Atoms.{choices_of}
+use Rattle.ab_formulas.specs.Declarations.{signature_in}
+use Rattle.ab_formulas.specs.Formulas.{IsFormula}
+use Rattle.ab_progress.specs.ab_logic.specs.Readings.{sequent_of}
+use Rattle.ab_formulas.specs.Sequents.{formulas}
+use Rattle.ab_progress.specs.ab_logic.specs.Worlds.{declarations_of}
+use Rattle.ab_theory.specs.Atoms.{choices_of}
 use Rattle.ab_progress.specs.ab_alternatives.specs.Readings.{defined_read, choice_read}
 use Rattle.ab_progress.specs.ab_alternatives.specs.Matching.{Matches}
 use Rattle.ab_progress.specs.ab_alternatives.specs.Choices.{read_choice, IsHeldFor}

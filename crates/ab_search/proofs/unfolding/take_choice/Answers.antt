@@ -1,7 +1,7 @@
 use Rattle.std.specs.Prelude.{Ok}
 use Rattle.std.proofs.Common.{◌≡◌, ◌<◌, ◌^◌, sym, ◌∙◌, ap, subst, arith}
-use Rattle.ab_alike.specs.ab_store.specs.declared.node.TermId.{TermId}
-use Rattle.ab_alike.specs.ab_logic.specs.Worlds.{read}
+use Rattle.ab_progress.specs.ab_store.specs.declared.node.TermId.{TermId}
+use Rattle.ab_progress.specs.ab_logic.specs.Worlds.{read}
 use Rattle.ab_progress.proofs.Following.{follows_on}
 use Rattle.ab_search.specs.Asked.{IsAsked}
 use Rattle.ab_search.specs.Choices.{IsBare}

@@ -1,5 +1,5 @@
 use Rattle.std.proofs.Common.{◌∙◌, ap, subst}
-use Rattle.ab_states.specs.ab_logic.specs.Declarations.{theorem_in}
+use Rattle.ab_formulas.specs.Declarations.{theorem_in}
 use Rattle.ab_states.specs.ab_logic.specs.Additions.{IsMemory}
 use Rattle.ab_states.specs.ab_logic.specs.Worlds.{declarations_of}
 use Rattle.ab_session.proofs.advancing.add_theorem.Goals as goal

@@ -1,11 +1,11 @@
 use Rattle.std.proofs.Common.{sym, ◌∙◌, ap}
-use Rattle.ab_induction.specs.ab_logic.specs.Forms.{sign_of}
-use Rattle.ab_induction.specs.ab_logic.specs.Marks.{Marks, marks_of}
-use Rattle.ab_induction.specs.ab_store.specs.Trees.{tree_of}
-use Rattle.ab_induction.specs.ab_marks.specs.Views.{marks_seen}
-use Rattle.ab_induction.specs.Levels.{greater, greatest, signs_in}
+use Rattle.ab_marks.specs.ab_logic.specs.Forms.{sign_of}
+use Rattle.ab_formulas.specs.Marks.{Marks, marks_of}
+use Rattle.ab_marks.specs.ab_store.specs.Trees.{tree_of}
+use Rattle.ab_marks.specs.Views.{marks_seen}
+use Rattle.ab_theory.specs.Levels.{greater, greatest, signs_in}
 use Rattle.ab_sizing.specs.Kinds.{level_by}
-use Rattle.ab_sizing.proofs.Greatest.{greatest-one, greatest-append}
+use Rattle.ab_theory.proofs.Greatest.{greatest-one, greatest-append}
 use Rattle.ab_sizing.proofs.levels.+greatest_in.Goals as goal
 
 pub returns-in-Nowhere : goal.returns-in-Nowhere

@@ -1,12 +1,12 @@
 use Rattle.std.proofs.Common.{◌∷◌, map, take, sym, ◌∙◌, ap}
-use Rattle.ab_induction.specs.ab_logic.specs.Worlds.{read}
-use Rattle.ab_induction.specs.ab_logic.specs.Marks.{marks_of}
-use Rattle.ab_induction.specs.ab_logic.specs.Sequents.{formulas}
-use Rattle.ab_induction.specs.ab_logic.specs.Readings.{hypothesis_of}
-use Rattle.ab_induction.specs.ab_logic.specs.declared.sequent.Hypothesis.{Hypothesis}
-use Rattle.ab_induction.specs.Levels.{greater, greatest, signs_in, signs_of_all}
+use Rattle.ab_marks.specs.ab_logic.specs.Worlds.{read}
+use Rattle.ab_formulas.specs.Marks.{marks_of}
+use Rattle.ab_formulas.specs.Sequents.{formulas}
+use Rattle.ab_marks.specs.ab_logic.specs.Readings.{hypothesis_of}
+use Rattle.ab_marks.specs.ab_logic.specs.declared.sequent.Hypothesis.{Hypothesis}
+use Rattle.ab_theory.specs.Levels.{greater, greatest, signs_in, signs_of_all}
 use Rattle.ab_sizing.specs.Kinds.{level_by}
-use Rattle.ab_sizing.proofs.Greatest.{greatest_more}
+use Rattle.ab_theory.proofs.Greatest.{greatest_more}
 use Rattle.ab_sizing.proofs.levels.next_level.Goals as goal
 
 pub loop-h-preserved : goal.loop-h-preserved

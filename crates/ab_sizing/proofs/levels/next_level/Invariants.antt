@@ -1,8 +1,8 @@
 use Rattle.std.proofs.Common.{◌≡◌, ◌∷◌, map, take}
-use Rattle.ab_induction.specs.ab_logic.specs.Worlds.{read}
-use Rattle.ab_induction.specs.ab_logic.specs.Sequents.{formulas}
-use Rattle.ab_induction.specs.ab_logic.specs.Readings.{hypothesis_of}
-use Rattle.ab_induction.specs.Levels.{greatest, signs_of_all}
+use Rattle.ab_marks.specs.ab_logic.specs.Worlds.{read}
+use Rattle.ab_formulas.specs.Sequents.{formulas}
+use Rattle.ab_marks.specs.ab_logic.specs.Readings.{hypothesis_of}
+use Rattle.ab_theory.specs.Levels.{greatest, signs_of_all}
 use Rattle.ab_sizing.specs.Kinds.{level_by}
 use Rattle.ab_sizing.proofs.levels.next_level.Given as goal
 

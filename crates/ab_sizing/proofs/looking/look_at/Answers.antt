@@ -1,9 +1,9 @@
 use Rattle.std.proofs.Common.{List, map, sym, ap, subst, ◌∙◌}
-use Rattle.ab_induction.specs.ab_store.specs.Naming.{HoldsHead, HeadIsTyped, NodeIsTyped}
-use Rattle.ab_induction.specs.ab_norm.proofs.Frame.{spine_names}
+use Rattle.ab_marks.specs.ab_store.specs.Naming.{HoldsHead, HeadIsTyped, NodeIsTyped}
+use Rattle.ab_marks.specs.ab_norm.proofs.Frame.{spine_names}
 use Rattle.ab_term.specs.Terms.{terms_of}
-use Rattle.ab_induction.specs.ab_store.specs.declared.node.TermId.{TermId}
-use Rattle.ab_induction.specs.ab_store.specs.Trees.{tree_of, head_in, node_tree}
+use Rattle.ab_marks.specs.ab_store.specs.declared.node.TermId.{TermId}
+use Rattle.ab_marks.specs.ab_store.specs.Trees.{tree_of, head_in, node_tree}
 use Rattle.ab_sizing.specs.Views.{outer_of, outer_by, role_of}
 use Rattle.ab_sizing.proofs.Looks.{of_head}
 use Rattle.ab_sizing.proofs.looking.look_at.Goals as goal

@@ -1,6 +1,6 @@
 use Rattle.std.proofs.Common.{◌≢◌, length, map, sym, ap, ◌∙◌, rules}
 use Rattle.ab_term.specs.Terms.{terms_of}
-use Rattle.ab_induction.specs.ab_store.specs.Trees.{tree_of, head_in}
+use Rattle.ab_marks.specs.ab_store.specs.Trees.{tree_of, head_in}
 use Rattle.ab_sizing.specs.Views.{outer_by, role_read}
 use Rattle.ab_sizing.proofs.Counts.{not_one, not_two}
 use Rattle.ab_sizing.proofs.looking.look_by.Goals as goal

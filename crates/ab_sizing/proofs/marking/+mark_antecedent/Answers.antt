@@ -1,10 +1,10 @@
 use Rattle.std.proofs.Common.{◌≡◌, ◌≢◌, ◌<◌, ◌-◌, suc, length, arith, rules, ap, ◌∙◌}
 use Rattle.ab_term.specs.Logical.{implication}
-use Rattle.ab_term.specs.Terms.{logical, spine, term, no_terms}
-use Rattle.ab_induction.specs.ab_store.specs.Trees.{tree_of, Read}
-use Rattle.ab_induction.specs.ab_norm.proofs.Frame.{adds_none, adds_on, if_ok}
-use Rattle.ab_induction.specs.ab_logic.specs.Forms.{sign_of}
-use Rattle.ab_induction.specs.ab_marks.specs.Marking.{with_mark}
+use Rattle.ab_term.specs.Terms.{logical, spine, term, no_terms, Read}
+use Rattle.ab_marks.specs.ab_store.specs.Trees.{tree_of}
+use Rattle.ab_marks.specs.ab_norm.proofs.Frame.{adds_none, adds_on, if_ok}
+use Rattle.ab_marks.specs.ab_logic.specs.Forms.{sign_of}
+use Rattle.ab_formulas.specs.Marking.{with_mark}
 use Rattle.ab_sizing.proofs.Looks.{in_later, not_arrow}
 use Rattle.ab_sizing.proofs.marking.+mark_antecedent.Goals as goal
 

@@ -1,4 +1,4 @@
-use Rattle.ab_induction.specs.ab_norm.proofs.Frame.{adds_on}
+use Rattle.ab_marks.specs.ab_norm.proofs.Frame.{adds_on}
 use Rattle.ab_sizing.proofs.marking.+mark_consequent.Goals as goal
 
 pub returns-clause-adds : goal.returns-clause-adds

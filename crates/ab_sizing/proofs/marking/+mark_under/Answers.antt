@@ -1,13 +1,13 @@
 use Rattle.std.proofs.Common.{List, map, length, sym, ap, subst, ◌∙◌}
-use Rattle.ab_term.specs.Terms.{spine, term, no_terms, terms_of, lam}
-use Rattle.ab_induction.specs.ab_types.specs.Ids.{type_of}
-use Rattle.ab_induction.specs.ab_store.specs.declared.node.TermId.{TermId}
-use Rattle.ab_induction.specs.ab_store.specs.declared.node.CellEntry.{CellEntry}
-use Rattle.ab_induction.specs.ab_store.specs.Naming.{HeadNames}
-use Rattle.ab_induction.specs.ab_store.specs.Trees.{tree_of, head_in, node_tree, Read}
-use Rattle.ab_induction.specs.ab_store.proofs.Growing.{extended_on}
-use Rattle.ab_induction.specs.ab_norm.proofs.Frame.{adds_lam, if_ok}
-use Rattle.ab_induction.specs.ab_logic.specs.Forms.{sign_of}
+use Rattle.ab_term.specs.Terms.{spine, term, no_terms, terms_of, lam, Read}
+use Rattle.ab_marks.specs.ab_types.specs.Ids.{type_of}
+use Rattle.ab_marks.specs.ab_store.specs.declared.node.TermId.{TermId}
+use Rattle.ab_marks.specs.ab_store.specs.declared.node.CellEntry.{CellEntry}
+use Rattle.ab_marks.specs.ab_store.specs.Naming.{HeadNames}
+use Rattle.ab_marks.specs.ab_store.specs.Trees.{tree_of, head_in, node_tree}
+use Rattle.ab_marks.specs.ab_store.proofs.Growing.{extended_on}
+use Rattle.ab_marks.specs.ab_norm.proofs.Frame.{adds_lam, if_ok}
+use Rattle.ab_marks.specs.ab_logic.specs.Forms.{sign_of}
 use Rattle.ab_sizing.specs.Views.{part_marked}
 use Rattle.ab_sizing.proofs.Looks.{goes_on, ends}
 use Rattle.ab_sizing.proofs.marking.+mark_under.Goals as goal

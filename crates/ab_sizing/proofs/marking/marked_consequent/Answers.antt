@@ -1,4 +1,4 @@
-use Rattle.ab_induction.specs.ab_logic.proofs.Growing.{grows_store}
+use Rattle.ab_marks.specs.ab_logic.proofs.Growing.{grows_store}
 use Rattle.ab_sizing.proofs.marking.marked_consequent.Goals as goal
 
 pub returns-clause-grows : goal.returns-clause-grows

@@ -1,5 +1,5 @@
 use Rattle.std.proofs.Common.{subst}
-use Rattle.ab_induction.specs.ab_store.specs.Naming.{NodeIsTyped, HeadIsTyped}
+use Rattle.ab_marks.specs.ab_store.specs.Naming.{NodeIsTyped, HeadIsTyped}
 use Rattle.ab_sizing.proofs.places.defined_as.Goals as goal
 
 pub block-requires-clause-predicate : goal.block-requires-clause-predicate

@@ -1,5 +1,5 @@
 use Rattle.std.proofs.Common.{List, ℕ, ◌-◌, take, drop, length, sym, subst}
-use Rattle.ab_left.specs.ab_rules.specs.Steps.{weaken}
+use Rattle.ab_theory.specs.Steps.{weaken}
 use Rattle.ab_left.specs.ab_progress.specs.Progress.{TookInto}
 use Rattle.ab_left.specs.ab_progress.proofs.Following.{follows_on}
 use Rattle.ab_left.proofs.Moves.{on_ok}

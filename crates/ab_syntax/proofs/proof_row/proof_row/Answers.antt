@@ -3,14 +3,13 @@ use Rattle.std.proofs.lemmas.Result.{err_from_is_err_and}
 use Rattle.ab_grammar.specs.CommandForms.{Many, OneOrMore}
 use Rattle.ab_grammar.specs.Language.{Expression}
 use Rattle.ab_grammar.proofs.Following.{Followed, Without, BeforeStop}
-use Rattle.ab_grammar.specs.CommandTable.{Name, ShowsName}
+use Rattle.ab_grammar.specs.CommandTable.{Name, ShowsName, ProofRow}
 use Rattle.ab_grammar.proofs.Beginnings.{followed_by_stop}
 use Rattle.ab_grammar.proofs.Choosing.{fewer_reads}
 use Rattle.ab_grammar.proofs.Choices as choices
 use Rattle.ab_grammar.specs.declared.head.ProofHead.{ProofHead}
 use Rattle.ab_grammar.specs.declared.head.ProofHead.TheVariants as head
 use Rattle.ab_grammar.specs.Token.{Token}
-use Rattle.ab_grammar.specs.CommandTable.{ProofRow}
 use Rattle.ab_grammar.specs.CommandTrees as tree
 use Rattle.ab_grammar.proofs.Continuing.{Continues}
 use Rattle.ab_syntax.specs.Reader.{rest}

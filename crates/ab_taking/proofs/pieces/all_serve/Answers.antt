@@ -2,12 +2,12 @@ use Rattle.std.proofs.Common.{◌≡◌, ◌≢◌, ◌<◌, ◌≤◌, ◌+◌,
 use Rattle.std.specs.Option.{option_map}
 use Rattle.ab_marks.specs.ab_logic.specs.Worlds.{read}
 use Rattle.ab_marks.specs.ab_types.specs.Ids.{type_of}
-use Rattle.ab_using.specs.Pieces.{pieces, universal_of, nabla_of, AllServe}
+use Rattle.ab_theory.specs.Pieces.{pieces, universal_of, nabla_of, AllServe}
 use Rattle.ab_taking.specs.Layers.{hint_of}
 use Rattle.ab_taking.proofs.Layers.{pieces_under, pieces_within}
 use Rattle.ab_taking.proofs.Serving.{same_serve, none_serves, none_given_serves, further_serve}
 use Rattle.ab_marks.specs.ab_store.specs.declared.node.TermId.{TermId}
-use Rattle.ab_marks.specs.ab_store.specs.Trees.{Read}
+use Rattle.ab_term.specs.Terms.{Read}
 use Rattle.ab_taking.proofs.pieces.all_serve.Goals as goal
 use Rattle.ab_taking.proofs.pieces.all_serve.Goals.{then-left-eq0-via-then-left-eq0, then-left-eq0-via-else-left-eq0+then-done-hypotheses}
 

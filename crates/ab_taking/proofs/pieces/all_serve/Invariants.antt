@@ -1,7 +1,7 @@
 use Rattle.std.proofs.Common.{◌↔◌, ◌≤◌, length, map, drop}
 use Rattle.std.specs.Option.{option_map}
 use Rattle.ab_marks.specs.ab_logic.specs.Worlds.{Holds, read}
-use Rattle.ab_using.specs.Pieces.{pieces, AllServe}
+use Rattle.ab_theory.specs.Pieces.{pieces, AllServe}
 use Rattle.ab_taking.proofs.pieces.all_serve.Given as goal
 
 abbrev pub invariant-layers : goal.invariant-layers

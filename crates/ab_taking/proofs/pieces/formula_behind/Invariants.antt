@@ -1,6 +1,6 @@
 use Rattle.std.proofs.Common.{◌≡◌}
 use Rattle.ab_marks.specs.ab_logic.specs.Worlds.{Holds, read}
-use Rattle.ab_using.specs.Pieces.{behind}
+use Rattle.ab_theory.specs.Pieces.{behind}
 use Rattle.ab_taking.proofs.pieces.formula_behind.Given as goal
 
 abbrev pub invariant-layers : goal.invariant-layers

@@ -1,7 +1,7 @@
 use Rattle.std.proofs.Common.{◌≡◌, ◌≢◌, suc, ◌-◌, bytes_eq, true, false, sym, ap, ◌∙◌, arith}
 use Rattle.ab_marks.specs.ab_logic.specs.Worlds.{read}
 use Rattle.ab_marks.specs.ab_types.specs.Ids.{type_of}
-use Rattle.ab_using.specs.Pieces.{pieces, type_named}
+use Rattle.ab_theory.specs.Pieces.{pieces, type_named}
 use Rattle.ab_taking.specs.Layers.{hint_of}
 use Rattle.ab_taking.proofs.Layers.{pieces_under, pieces_within, pieces_more, pieces_last}
 use Rattle.ab_taking.proofs.Named.{named_here, named_later, named_before_last}

@@ -1,7 +1,7 @@
 use Rattle.std.proofs.Common.{◌≡◌}
 use Rattle.ab_marks.specs.ab_logic.specs.Worlds.{Holds, read}
-use Rattle.ab_using.specs.Pieces as spec
-use Rattle.ab_using.specs.Pieces.{pieces, behind, AllServe}
+use Rattle.ab_theory.specs.Pieces as spec
+use Rattle.ab_theory.specs.Pieces.{pieces, behind, AllServe}
 use Rattle.ab_taking.proofs.pieces.type_named.Given as goal
 
 abbrev pub invariant-layers : goal.invariant-layers

@@ -1,6 +1,7 @@
 use Rattle.std.proofs.Common.{sym, subst}
 use Rattle.std.specs.Prelude.{Contains}
-use Rattle.ab_resolving.specs.ab_types.specs.Entries.{names, constants}
+use Rattle.ab_term.specs.Constants.{names}
+use Rattle.ab_resolving.specs.ab_types.specs.Entries.{constants}
 use Rattle.ab_walking.proofs.Connectives.{is_there, has_cons}
 use Rattle.ab_walking.proofs.signs.cons.Goals as goal
 

@@ -1,7 +1,7 @@
 use Rattle.std.proofs.Common.{sym, subst}
 use Rattle.std.proofs.lemmas.List.Elements.{All-contains}
 use Rattle.ab_clauses.proofs.Sets.{term_cmp, one_term, is_in}
-use Rattle.ab_clauses.specs.Stratification.{everywhere, left_of_arrows}
+use Rattle.ab_formulas.specs.Stratification.{everywhere, left_of_arrows}
 use Rattle.ab_clauses.specs.Looked.{IsClear}
 use Rattle.ab_clauses.specs.Parts.{part_of}
 use Rattle.ab_clauses.proofs.looked.Cleared.has.Goals as goal

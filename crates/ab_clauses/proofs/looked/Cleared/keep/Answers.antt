@@ -1,6 +1,6 @@
 use Rattle.std.proofs.Common.{subst}
 use Rattle.ab_clauses.proofs.Sets.{term_cmp, one_term, gains_only, all_gained}
-use Rattle.ab_clauses.specs.Stratification.{everywhere, left_of_arrows}
+use Rattle.ab_formulas.specs.Stratification.{everywhere, left_of_arrows}
 use Rattle.ab_clauses.specs.Looked.{IsClear}
 use Rattle.ab_clauses.specs.Parts.{part_of}
 use Rattle.ab_clauses.proofs.looked.Cleared.keep.Goals as goal

@@ -1,10 +1,9 @@
 use Rattle.std.proofs.Common.{sym, subst}
 use Rattle.std.proofs.lemmas.List.Elements.{All-contains}
-use Rattle.ab_clauses.proofs.Sets.{is_in}
-use Rattle.ab_clauses.specs.Heads.{in_the_atom, under_a_variable}
+use Rattle.ab_clauses.proofs.Sets.{is_in, spot_cmp, one_spot}
+use Rattle.ab_formulas.specs.Heads.{in_the_atom, under_a_variable}
 use Rattle.ab_clauses.specs.Looked.{IsKeeping}
 use Rattle.ab_clauses.specs.Parts.{place_of}
-use Rattle.ab_clauses.proofs.Sets.{spot_cmp, one_spot}
 use Rattle.ab_clauses.proofs.looked.Spots.has.Goals as goal
 
 pub returns-in-InTheAtom : goal.returns-in-InTheAtom

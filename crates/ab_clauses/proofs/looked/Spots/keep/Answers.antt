@@ -1,6 +1,6 @@
 use Rattle.std.proofs.Common.{subst}
 use Rattle.ab_clauses.proofs.Sets.{spot_cmp, one_spot, gains_only, all_gained}
-use Rattle.ab_clauses.specs.Heads.{in_the_atom, under_a_variable}
+use Rattle.ab_formulas.specs.Heads.{in_the_atom, under_a_variable}
 use Rattle.ab_clauses.specs.Looked.{IsKeeping}
 use Rattle.ab_clauses.specs.Parts.{place_of}
 use Rattle.ab_clauses.proofs.looked.Spots.keep.Goals as goal

@@ -4,7 +4,7 @@ use Rattle.std.proofs.Common.{◌-◌, ◌<◌, ◌≤◌, length, map, Some, sy
 use Rattle.std.proofs.lemmas.List.{length-map}
 use Rattle.std.proofs.lemmas.Option.{slice_get_within, slice_get_past}
 use Rattle.ab_rules.specs.ab_logic.specs.Readings.{sequent_of, HoldsSequent}
-use Rattle.ab_kernel.specs.Derivation.{open_goals}
+use Rattle.ab_theory.specs.Derivations.{open_goals}
 use Rattle.ab_kernel.specs.Layout.{Held, history_of, held}
 use Rattle.ab_kernel.specs.Nodes.{sequents_in}
 use Rattle.ab_kernel.specs.declared.node.ProofNode.{ProofNode}

@@ -2,7 +2,7 @@ use Rattle.std.specs.Prelude.{vec_capacity, slice_get, slice_set}
 use Rattle.std.specs.List.{All}
 use Rattle.std.proofs.Common.{◌≡◌, ◌-◌, ◌≤◌, Some, List, [], ◌∷◌, ◌++◌, refl, length, map, reverse, sym, ◌∙◌, ap, subst, arith, length-append}
 use Rattle.std.proofs.lemmas.List.{length-map, reverse-append}
-use Rattle.ab_rules.specs.ab_logic.specs.Sequents.{Sequent}
+use Rattle.ab_formulas.specs.Sequents.{Sequent}
 use Rattle.ab_rules.specs.ab_logic.specs.Readings.{sequent_of}
 use Rattle.ab_rules.specs.ab_logic.specs.Worlds.{declarations_of}
 use Rattle.ab_rules.specs.Answers.{step_of}
@@ -10,7 +10,7 @@ use Rattle.ab_rules.specs.ab_logic.specs.declared.world.World.{World}
 use Rattle.ab_kernel.specs.declared.proving.Refinement.{Refinement}
 use Rattle.ab_kernel.specs.declared.node.ProofNode.{ProofNode}
 use Rattle.ab_kernel.proofs.proving.Proof.refine.Given.{Over}
-use Rattle.ab_kernel.specs.Derivation.{open_goals, refined, History}
+use Rattle.ab_theory.specs.Derivations.{open_goals, refined, History}
 use Rattle.ab_kernel.specs.Nodes.{open_node, sequents_in}
 use Rattle.ab_kernel.specs.Layout.{Held, StepAt, steps_in, made_by, history_of, IsProof, Beyond}
 use Rattle.ab_kernel.proofs.Hand.{at_hand, filled_node, put_is, Put, put, layers_after}

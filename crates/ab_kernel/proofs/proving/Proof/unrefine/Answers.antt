@@ -6,7 +6,7 @@ use Rattle.ab_rules.specs.ab_logic.specs.Readings.{sequent_of}
 use Rattle.ab_rules.specs.ab_logic.specs.declared.world.World.{World}
 use Rattle.ab_kernel.specs.declared.node.ProofNode.{ProofNode}
 use Rattle.ab_kernel.specs.declared.proving.Refinement.{Refinement}
-use Rattle.ab_kernel.specs.Derivation.{open_goals, root, undone}
+use Rattle.ab_theory.specs.Derivations.{open_goals, root, undone}
 use Rattle.ab_kernel.specs.Nodes.{cleared, sequents_in, node_at, step_held}
 use Rattle.ab_kernel.specs.Layout.{Held, StepAt, steps_in, nodes_before, open_before, start_of, made_by, Stands, Layers, Grown, history_of, IsProof, before_last}
 use Rattle.ab_kernel.proofs.Standing.{some_world}

@@ -1,6 +1,6 @@
 use Rattle.std.specs.List.{All}
 use Rattle.std.proofs.Common.{map, sym, subst}
-use Rattle.ab_clauses.specs.Proposed.{IsProposed}
+use Rattle.ab_formulas.specs.Proposed.{IsProposed}
 use Rattle.ab_clauses.specs.Readings.{name_of, block_of}
 use Rattle.ab_logic.specs.Defining.{AreNew}
 use Rattle.ab_logic.specs.Worlds.{declarations_of}

@@ -1,9 +1,9 @@
 use Rattle.std.proofs.Common.{All, subst, take_all, arith}
 use Rattle.std.proofs.lemmas.List.Elements.{All-more}
-use Rattle.ab_print.specs.ab_clauses.specs.Proposed.{IsProposed}
+use Rattle.ab_formulas.specs.Proposed.{IsProposed}
 use Rattle.ab_print.specs.ab_clauses.specs.Readings.{clause_of}
 use Rattle.ab_print.specs.ab_clauses.specs.declared.kept.ClauseTerm.{ClauseTerm}
-use Rattle.ab_print.specs.ab_logic.specs.Declarations.{signature_in}
+use Rattle.ab_formulas.specs.Declarations.{signature_in}
 use Rattle.ab_print.specs.ab_logic.specs.Worlds.{declarations_of}
 use Rattle.ab_print.specs.ab_logic.specs.declared.world.World.{World}
 use Rattle.ab_refining.proofs.tests.worlds.are_proposed.Goals as goal

@@ -1,9 +1,9 @@
 use Rattle.std.proofs.Common.{take}
 use Rattle.std.specs.Prelude.{All}
-use Rattle.ab_print.specs.ab_clauses.specs.Proposed.{IsProposed}
+use Rattle.ab_formulas.specs.Proposed.{IsProposed}
 use Rattle.ab_print.specs.ab_clauses.specs.Readings.{clause_of}
 use Rattle.ab_print.specs.ab_clauses.specs.declared.kept.ClauseTerm.{ClauseTerm}
-use Rattle.ab_print.specs.ab_logic.specs.Declarations.{signature_in}
+use Rattle.ab_formulas.specs.Declarations.{signature_in}
 use Rattle.ab_print.specs.ab_logic.specs.Worlds.{declarations_of}
 use Rattle.ab_refining.proofs.tests.worlds.are_proposed.Given as goal
 

@@ -1,8 +1,8 @@
 use Rattle.std.proofs.Common.{All, map, sym, subst}
 use Rattle.std.proofs.lemmas.List.Elements.{All-map}
-use Rattle.ab_print.specs.ab_clauses.specs.Proposed.{IsProposed}
+use Rattle.ab_formulas.specs.Proposed.{IsProposed}
 use Rattle.ab_print.specs.ab_clauses.specs.Readings.{clause_of}
-use Rattle.ab_print.specs.ab_logic.specs.Declarations.{signature_in}
+use Rattle.ab_formulas.specs.Declarations.{signature_in}
 use Rattle.ab_print.specs.ab_logic.specs.Worlds.{declarations_of}
 use Rattle.ab_refining.proofs.tests.worlds.put_definition.Goals as goal
 

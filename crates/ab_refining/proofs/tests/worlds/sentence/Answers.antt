@@ -1,5 +1,5 @@
 use Rattle.std.proofs.Common.{subst}
-use Rattle.ab_print.specs.ab_logic.specs.Formulas.{IsFormula}
+use Rattle.ab_formulas.specs.Formulas.{IsFormula}
 use Rattle.ab_print.specs.ab_logic.specs.Worlds.{read}
 use Rattle.ab_print.specs.ab_logic.proofs.Growing.{same_constants}
 use Rattle.ab_refining.proofs.tests.worlds.sentence.Goals as goal

@@ -1,6 +1,6 @@
 use Rattle.std.proofs.Common.{◌∙◌, sym, ap, arith, option_map}
 use Rattle.std.specs.Map.Iter.{deref_pair}
-use Rattle.ab_types.specs.Entries.{Constant}
+use Rattle.ab_term.specs.Constants.{Constant}
 use Rattle.ab_types.proofs.Kept.{constants_len, constant_got}
 use Rattle.ab_types.proofs.table.TypeTable.const_name.Goals as goal
 

@@ -1,6 +1,6 @@
 use Rattle.std.proofs.Common.{◌∙◌, sym, ap, arith, option_map, Some}
 use Rattle.std.specs.Map.Iter.{deref_pair}
-use Rattle.ab_types.specs.Entries.{Constant}
+use Rattle.ab_term.specs.Constants.{Constant}
 use Rattle.ab_types.proofs.Kept.{is_table, constants_len, constant_got, own_type}
 use Rattle.ab_types.proofs.table.TypeTable.const_type.Goals as goal
 
