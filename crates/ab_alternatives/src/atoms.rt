@@ -13,7 +13,7 @@ use ab_instances::below::types::ConstId;
 use std::alloc::{AllocError, Global};
 
 /// An atom whose predicate is defined: its mark, its predicate with what that is given, and the definition.
-#[derive(Debug, Drop)]
+#[derive(Drop)]
 pub struct DefinedAtom {
     pub sign: Sign,
     pub predicate: ConstId,

@@ -21,7 +21,7 @@ use ab_instances::constants_of;
 use std::alloc::{AllocError, Global};
 
 /// What is found among the choices of a conclusion's atom. Places and equations are counted from 0.
-#[derive(Debug, Drop)]
+#[derive(Drop)]
 pub enum Found {
     /// The conclusion unfolds by the choice of this place, and no variable that its clause brought is left open.
     Closed(usize),

@@ -34,7 +34,7 @@ use ab_instances::below::types::{Name, Steps, TypeTable};
 use std::alloc::{AllocError, Global};
 
 /// How the equations of a choice are solved.
-#[derive(Debug, Drop)]
+#[derive(Drop)]
 pub enum Match {
     /// They are made true, and no variable that the clause brought is left open.
     Closed,

@@ -25,7 +25,7 @@ use ab_infer::{Formulas, Mark, Op, Verdict, decide};
 use std::alloc::{AllocError, Global};
 
 /// What is read of an expression.
-#[derive(Debug, Drop)]
+#[derive(Drop)]
 pub enum Outcome {
     /// One term.
     One(TermId),

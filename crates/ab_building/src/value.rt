@@ -15,7 +15,7 @@ use ab_norm::{eta_given, instantiate};
 use std::alloc::{AllocError, Global};
 
 /// What steps have made.
-#[derive(Debug, Drop)]
+#[derive(Drop)]
 pub(crate) enum Value {
     /// A head with the arguments so far, and the type that is left.
     Given(Head, TypeId, Arguments),

@@ -16,7 +16,7 @@ use ab_fits::below::types::{ConstId, TypeTable};
 use std::alloc::{AllocError, Global};
 
 /// What is wrong with a definition's clauses.
-#[derive(Clone, Copy, Debug, PartialEq, Eq)]
+#[derive(Clone, Copy)]
 pub enum ClauseFault {
     /// The predicate stands to the left of an arrow in a body.
     NotStratified(ConstId),

@@ -6,7 +6,7 @@ use ab_fits::below::types::ConstId;
 use std::marker::Model;
 
 /// A list of cells. Contracts see it as the list.
-#[derive(Debug, Drop)]
+#[derive(Drop)]
 pub struct ClauseCells {
     cells: Vec<CellId>,
 }
@@ -44,7 +44,7 @@ impl ClauseCells {
 }
 
 /// A list of constants. Contracts see it as the list.
-#[derive(Debug, Drop)]
+#[derive(Drop)]
 pub struct Predicates {
     constants: Vec<ConstId>,
 }
@@ -82,7 +82,7 @@ impl Predicates {
 }
 
 /// A clause: its variables, its head under the prefix of `nabla` binders, and its body.
-#[derive(Debug, Drop)]
+#[derive(Drop)]
 pub struct ClauseTerm {
     pub variables: ClauseCells,
     pub head: TermId,
@@ -90,7 +90,7 @@ pub struct ClauseTerm {
 }
 
 /// A list of clauses. Contracts see it as the list.
-#[derive(Debug, Drop)]
+#[derive(Drop)]
 pub struct ClauseTerms {
     clauses: Vec<ClauseTerm>,
 }
@@ -128,7 +128,7 @@ impl ClauseTerms {
 }
 
 /// A definition, inductive or else coinductive, of predicates by clauses.
-#[derive(Debug, Drop)]
+#[derive(Drop)]
 pub struct Block {
     pub inductive: bool,
     pub predicates: Predicates,

@@ -3,7 +3,7 @@
 use std::alloc::AllocError;
 
 /// Why the bytes say no command that stands here. A place is a number of bytes from where the command begins.
-#[derive(Clone, Copy, Debug, PartialEq, Eq)]
+#[derive(Clone, Copy)]
 pub enum Cause {
     /// The grammar has no command that goes on by the token at this place, or a byte there begins no token.
     Syntax(usize),
@@ -16,7 +16,7 @@ pub enum Cause {
 }
 
 /// Why no command was read.
-#[derive(Debug, Drop)]
+#[derive(Drop)]
 pub enum Unread {
     Refused(Cause),
     /// There was no memory for it.

@@ -8,7 +8,7 @@ use ab_sentences::below::store::Mark;
 use ab_sentences::below::types::Steps;
 
 /// How many types, terms and cells a world held.
-#[derive(Clone, Copy, Debug)]
+#[derive(Clone, Copy)]
 pub struct Moment {
     pub(crate) types: usize,
     pub(crate) mark: Mark,

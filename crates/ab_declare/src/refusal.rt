@@ -8,7 +8,7 @@ use ab_syntax::below::name::Name;
 use std::alloc::AllocError;
 
 /// Where a fault stands: so many bytes from where the command begins, or the file.
-#[derive(Debug, Drop)]
+#[derive(Drop)]
 pub struct Place {
     pub at: usize,
     /// The file, where the fault isn't in the command itself.

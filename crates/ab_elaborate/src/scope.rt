@@ -11,7 +11,7 @@ use ab_walking::below::store::CellId;
 use std::alloc::{AllocError, Global};
 
 /// What an expression may name beside bound names and the table's constants.
-#[derive(Debug, Drop)]
+#[derive(Drop)]
 pub struct Scope {
     /// The sequent's variables.
     pub variables: Vec<CellId>,

@@ -1,7 +1,7 @@
 //! The heads of the table of commands: what each command begins with, and where it stands.
 
 /// The head of a command that is no proof command.
-#[derive(Clone, Copy, Debug, PartialEq, Eq)]
+#[derive(Clone, Copy)]
 pub enum Head {
     Kind,
     /// `Type`
@@ -22,7 +22,7 @@ pub enum Head {
 }
 
 /// The head of a proof command.
-#[derive(Clone, Copy, Debug, PartialEq, Eq)]
+#[derive(Clone, Copy)]
 pub enum ProofHead {
     Intros,
     Induction,
@@ -47,7 +47,7 @@ pub enum ProofHead {
 }
 
 /// Where a command stands.
-#[derive(Clone, Copy, Debug, PartialEq, Eq)]
+#[derive(Clone, Copy)]
 pub enum Stand {
     /// Outside proofs.
     Outside,

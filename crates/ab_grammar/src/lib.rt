@@ -11,7 +11,7 @@ pub use laws::{
 };
 
 /// What binds names before a formula.
-#[derive(Clone, Copy, Debug, PartialEq, Eq)]
+#[derive(Clone, Copy)]
 pub enum Quant {
     /// `forall`
     Forall,
@@ -22,7 +22,7 @@ pub enum Quant {
 }
 
 /// A sign between two operands.
-#[derive(Clone, Copy, Debug, PartialEq, Eq)]
+#[derive(Clone, Copy)]
 pub enum Infix {
     /// `->`
     Arrow,

@@ -22,7 +22,7 @@ use ab_store::below::types::{TypeId, TypeTable};
 use std::alloc::{AllocError, Global};
 
 /// What is found of an expression's readings.
-#[derive(Debug, Drop)]
+#[derive(Drop)]
 pub enum Verdict {
     /// One, with these types.
     One(Vec<Settled>),

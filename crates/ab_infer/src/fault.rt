@@ -3,7 +3,7 @@ use ab_store::below::types::Name;
 use std::alloc::AllocError;
 
 /// Why an expression or a type isn't read. Places are in bytes.
-#[derive(Debug, Drop)]
+#[derive(Drop)]
 pub enum InferFault {
     /// The name stands for nothing.
     Unknown(Name),

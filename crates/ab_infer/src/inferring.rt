@@ -16,7 +16,7 @@ use ab_store::below::types::{TypeId, TypeTable};
 use std::alloc::{AllocError, Global};
 
 /// The ids of `prop` and `o`.
-#[derive(Clone, Copy, Debug)]
+#[derive(Clone, Copy)]
 pub struct Formulas {
     pub prop: TypeId,
     pub o: TypeId,

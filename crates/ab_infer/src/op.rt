@@ -7,7 +7,7 @@ use ab_store::Head;
 use ab_store::below::types::{Name, TypeId};
 
 /// What binds a name.
-#[derive(Clone, Copy, Debug, PartialEq, Eq)]
+#[derive(Clone, Copy)]
 pub enum Binds {
     Forall,
     Exists,
@@ -16,7 +16,7 @@ pub enum Binds {
 }
 
 /// A step, which takes the last expressions made and makes one of them. Variables are those of types.
-#[derive(Debug, Drop)]
+#[derive(Drop)]
 pub enum Op {
     /// A bound name: the number of binders between it and its own, and its variable.
     Bound(usize, usize),
@@ -35,7 +35,7 @@ pub enum Op {
 }
 
 /// A name whose type is to be found, in the order of the text.
-#[derive(Clone, Copy, Debug)]
+#[derive(Clone, Copy)]
 pub enum Mark {
     /// A binder, by its variable, and its place.
     Binder(usize, usize),

@@ -12,7 +12,7 @@ use ab_syntax::TypeParse;
 use std::alloc::{AllocError, Global};
 
 /// A written type, and where `prop` stands in it.
-#[derive(Clone, Copy, Debug)]
+#[derive(Clone, Copy)]
 pub struct Written {
     pub ty: TypeId,
     /// Nowhere.

@@ -27,7 +27,7 @@ use ab_unifying::below::norm::Nominal;
 use std::alloc::{AllocError, Global};
 
 /// A clause with other variables: its own ones, the arguments of its head, and its body.
-#[derive(Debug, Drop)]
+#[derive(Drop)]
 pub struct Instance {
     pub own: Vec<CellId>,
     pub arguments: Vec<TermId>,

@@ -22,7 +22,7 @@ use ab_unifying::below::norm::{Nominal, eta, eta_given};
 use std::alloc::{AllocError, Global};
 
 /// New cells, and each of them, given the constants, as a term.
-#[derive(Debug, Drop)]
+#[derive(Drop)]
 pub struct Over {
     pub cells: Vec<CellId>,
     pub terms: Vec<TermId>,

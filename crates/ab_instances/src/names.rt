@@ -15,7 +15,7 @@ use std::alloc::{AllocError, Global};
 use std::marker::Model;
 
 /// A list of constants. Contracts see it as the list.
-#[derive(Debug, Drop)]
+#[derive(Drop)]
 pub struct Names {
     names: Vec<Nominal>,
 }
@@ -46,7 +46,7 @@ impl Names {
 }
 
 /// A list of choices, each a list of constants. Contracts see it as the list.
-#[derive(Debug, Drop)]
+#[derive(Drop)]
 pub struct Choices {
     choices: Vec<Names>,
 }

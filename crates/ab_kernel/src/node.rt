@@ -8,7 +8,7 @@ use std::alloc::{AllocError, Global};
 use std::marker::Model;
 
 /// The numbers of a node's children, from left to right. Contracts see the list.
-#[derive(Debug, Drop)]
+#[derive(Drop)]
 pub struct Children {
     numbers: Vec<usize>,
 }
@@ -46,7 +46,7 @@ impl Children {
 
 /// A node of a derivation: its goal, the step that was taken there, if one was, and the numbers of the nodes that
 /// it led to.
-#[derive(Debug, Drop)]
+#[derive(Drop)]
 pub struct ProofNode {
     pub sequent: Sequent,
     pub step: Option<Step>,

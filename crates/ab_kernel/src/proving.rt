@@ -28,7 +28,7 @@ use std::alloc::{AllocError, Global};
 use std::marker::Model;
 
 /// What it takes to take a step back.
-#[derive(Clone, Copy, Debug)]
+#[derive(Clone, Copy)]
 pub struct Refinement {
     /// The place of its goal among the open goals, from 0 at the left.
     pub(crate) place: usize,

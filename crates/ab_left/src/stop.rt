@@ -4,7 +4,7 @@ use ab_progress::ProofCommandFault;
 use std::alloc::AllocError;
 
 /// Why a command stops on its way.
-#[derive(Debug, Drop)]
+#[derive(Drop)]
 pub enum Stop {
     /// A new hypothesis gets no name.
     NamesSpent,

@@ -10,7 +10,7 @@ pub struct Span {
     pub end: usize,
 }
 
-#[derive(Clone, Copy, PartialEq)]
+#[derive(Clone, Copy)]
 pub enum TokenKind {
     /// A letter with the letters, digits, `_`, `'` and inner `-` behind it, or `_` alone.
     Word,

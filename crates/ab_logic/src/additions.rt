@@ -14,14 +14,14 @@ use std::collections::HashMap;
 use std::marker::Model;
 
 /// A theorem: its name and its formula.
-#[derive(Debug, Drop)]
+#[derive(Drop)]
 pub struct TheoremEntry {
     pub name: Name,
     pub formula: TermId,
 }
 
 /// What is added to a world.
-#[derive(Debug, Drop)]
+#[derive(Drop)]
 pub enum Addition {
     Theorem(TheoremEntry),
     Definition(Block),
@@ -56,7 +56,7 @@ impl Addition {
 }
 
 /// What was added, and how many entries the table of types had then.
-#[derive(Debug, Drop)]
+#[derive(Drop)]
 pub struct Added {
     pub(crate) what: Addition,
     pub(crate) before: usize,

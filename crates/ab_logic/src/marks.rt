@@ -4,7 +4,7 @@ ghost use Rattle.ab_formulas.specs.Marks.{Serves, plain, star_of, at_of, plus_of
 ghost use Rattle.ab_logic.specs.Forms.{sign_of};
 
 /// The mark of an atom or a judgement, with its level.
-#[derive(Clone, Copy, Debug, PartialEq, Eq)]
+#[derive(Clone, Copy)]
 pub enum Sign {
     Plain,
     Star(u128),

@@ -13,7 +13,7 @@ use ab_clauses::below::types::Name;
 use std::alloc::{AllocError, Global};
 
 /// A named formula that a goal assumes.
-#[derive(Debug, Drop)]
+#[derive(Drop)]
 pub struct Hypothesis {
     pub name: Name,
     pub formula: TermId,
@@ -21,7 +21,7 @@ pub struct Hypothesis {
 
 /// A goal: the formula that is to be derived, what is assumed, the variables that both may hold, and the
 /// last number that was given to a hypothesis.
-#[derive(Debug, Drop)]
+#[derive(Drop)]
 pub struct Sequent {
     pub variables: Variables,
     pub hypotheses: Hypotheses,
@@ -30,7 +30,7 @@ pub struct Sequent {
 }
 
 /// Why there is no answer about a goal.
-#[derive(Clone, Copy, Debug, PartialEq, Eq)]
+#[derive(Clone, Copy)]
 pub enum SequentFault {
     /// No hypothesis has that name.
     NoHypothesis,

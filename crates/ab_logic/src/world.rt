@@ -32,7 +32,7 @@ pub struct World {
 }
 
 /// Why something isn't declared.
-#[derive(Debug, Drop)]
+#[derive(Drop)]
 pub enum DefineFault {
     /// There is a theorem of that name already, or a definition of that predicate.
     Clash(Name),

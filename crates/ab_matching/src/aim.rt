@@ -2,7 +2,7 @@
 use ab_alternatives::below::store::TermId;
 
 /// What a formula is used for.
-#[derive(Debug, Drop)]
+#[derive(Drop)]
 pub struct Aim {
     /// For each antecedent that is taken off the formula that is to be it, if one is given.
     pub hypotheses: Vec<Option<TermId>>,

@@ -13,7 +13,7 @@ use ab_alternatives::below::types::{TypeId, TypeTable};
 use std::alloc::{AllocError, Global};
 
 /// A choice of constants that has begun.
-#[derive(Debug, Drop)]
+#[derive(Drop)]
 pub(crate) struct Begun {
     /// The constants that are chosen, in the order of their names.
     pub(crate) chosen: Vec<Nominal>,

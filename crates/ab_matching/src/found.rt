@@ -4,7 +4,7 @@ use ab_alternatives::below::types::Name;
 use ab_putting::Stage;
 
 /// How a formula is used.
-#[derive(Debug, Drop)]
+#[derive(Drop)]
 pub struct Use {
     /// What is taken off it.
     pub stages: Vec<Stage>,
@@ -15,7 +15,7 @@ pub struct Use {
 }
 
 /// What is found of a use. Equations are counted from 0.
-#[derive(Debug, Drop)]
+#[derive(Drop)]
 pub enum Found {
     /// It stands, and nothing that is left to show is open.
     Used(Use),

@@ -6,7 +6,7 @@ use crate::found::Use;
 use ab_alternatives::below::types::Name;
 
 /// What comes of a choice of constants. Equations are counted from 0.
-#[derive(Debug, Drop)]
+#[derive(Drop)]
 pub(crate) enum Outcome {
     /// A constant stands in the formula that its name is taken off.
     PassedOver,

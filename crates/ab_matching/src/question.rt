@@ -4,7 +4,7 @@ use ab_alternatives::below::store::TermId;
 use ab_putting::Part;
 
 /// What is asked of each choice of constants.
-#[derive(Debug, Drop)]
+#[derive(Drop)]
 pub(crate) struct Question {
     /// The goal's constants, in order of number.
     pub(crate) held: Vec<Nominal>,

@@ -1,15 +1,13 @@
 //! A name, as it is written: of a kind, a constant, a variable, a hypothesis, a theorem.
 ghost use Rattle.std.specs.Prelude.{◌≡◌, ◌↔◌, nat_eq, IfOk, IsTrue, Some};
 ghost use Rattle.std.proofs.Common.{rules};
-ghost use Rattle.std.specs.Cmp.Lexicographic.{pointwise, slice_cmp, nat_list_eq_equiv, nat_list_cmp_total, texts_ties, texts_po};
+ghost use Rattle.std.specs.Cmp.Lexicographic.{pointwise, nat_list_eq_equiv};
 ghost use Rattle.std.specs.Cmp.{partial_equiv_from_equiv};
 ghost use Rattle.std.specs.Cmp.Rules.{hashing};
 ghost use Rattle.std.specs.Hash as fed;
-ghost use Rattle.std.specs.Ordering.{nat_cmp};
 ghost use Rattle.std.specs.Fmt.{styled_text, debug_str};
 
 use std::alloc::{AllocError, Global};
-use std::cmp::Ordering;
 use std::fmt::{self, Debug, Display, Formatter, Write};
 use std::hash::{Hash, Hasher};
 use std::marker::Model;
@@ -82,30 +80,6 @@ impl Eq for Name {
     ghost laws = { nat_list_eq_equiv };
 }
 
-impl PartialOrd for Name {
-    ghost partial_cmp = { λ x y. Some (slice_cmp nat_cmp x y) };
-
-    ghost laws = { texts_po };
-
-    fn partial_cmp(&self, other: &Name) -> Option<Ordering> {
-        Some(self.cmp(other))
-    }
-}
-
-impl Ord for Name {
-    ghost cmp = { slice_cmp nat_cmp };
-
-    ghost total = { nat_list_cmp_total };
-
-    ghost matches_partial_cmp = { Prim.search rules };
-
-    ghost matches_eq = { texts_ties };
-
-    fn cmp(&self, other: &Name) -> Ordering {
-        self.text.cmp(&other.text)
-    }
-}
-
 impl Hash for Name {
     ghost hash_input = { fed.str };
 
@@ -131,42 +105,5 @@ impl Debug for Name {
 
     fn fmt<W: Write>(&self, f: &mut Formatter<W>) -> fmt::Result {
         Debug::fmt(self.as_str(), f)
-    }
-}
-
-#[cfg(test)]
-mod tests {
-    use super::*;
-
-    #[test]
-    fn compares_names_by_their_bytes(rt: HostRuntime) -> Result<(), AllocError> {
-        let alloc = rt.alloc();
-        let table = [
-            ("", "", Ordering::Equal),
-            ("nat", "nat", Ordering::Equal),
-            ("nat", "nat'", Ordering::Less),
-            ("plus", "Plus", Ordering::Greater),
-            ("\u{e9}", "e", Ordering::Greater),
-        ];
-        for (left, right, order) in table {
-            let a = Name::from_text(alloc, left)?.copy(alloc)?;
-            let b = Name::from_text(alloc, right)?.clone()?;
-            assert_eq!(rt; a.as_str(), left);
-            assert_eq!(rt; b.as_str(), right);
-            assert_eq!(rt; a == b, order == Ordering::Equal, "{a} and {b}");
-            assert_eq!(rt; a.cmp(&b), order, "{a} and {b}");
-        }
-        Ok(())
-    }
-
-    #[test]
-    fn prints_a_name_as_it_is(rt: HostRuntime) -> Result<(), AllocError> {
-        let alloc = rt.alloc();
-        let name = Name::from_text(alloc, "H1")?;
-        assert_eq!(rt;
-            format!(in alloc; "{name}: {name:?}")?.as_str(),
-            "H1: \"H1\""
-        );
-        Ok(())
     }
 }

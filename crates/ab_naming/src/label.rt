@@ -13,7 +13,7 @@ use std::alloc::{AllocError, Global};
 const LAST: u32 = 999_999_999;
 
 /// How a new hypothesis is named.
-#[derive(Debug, Drop)]
+#[derive(Drop)]
 pub enum Label {
     /// By the next free automatic name.
     Auto,

@@ -3,7 +3,7 @@ ghost use Rattle.std.specs.Prelude.{◌≡◌};
 ghost use Rattle.ab_norm.specs.Items.{list_of};
 
 /// A list, as a tree holds it. Contracts see the list of its items (`list_of`).
-#[derive(Debug, Drop)]
+#[derive(Drop)]
 pub struct Items<T> {
     items: Vec<T>,
 }

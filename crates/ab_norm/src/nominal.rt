@@ -6,21 +6,21 @@ use std::alloc::{AllocError, Global};
 use std::marker::Model;
 
 /// A nominal constant: one number at two types is two constants.
-#[derive(Clone, Copy, PartialEq, Eq, PartialOrd, Ord, Hash, Debug)]
+#[derive(Clone, Copy, PartialEq, Eq, PartialOrd, Ord)]
 pub struct Nominal {
     pub number: u128,
     pub ty: TypeId,
 }
 
 /// A nominal constant, and what it becomes.
-#[derive(Clone, Copy, PartialEq, Eq, Hash, Debug)]
+#[derive(Clone, Copy)]
 pub struct Swap {
     pub from: Nominal,
     pub to: Nominal,
 }
 
 /// A list of pairs. Contracts see it as the list.
-#[derive(Debug, Drop)]
+#[derive(Drop)]
 pub struct Swaps {
     swaps: Vec<Swap>,
 }
@@ -67,7 +67,7 @@ impl Swaps {
 }
 
 /// A permutation of nominal constants: what is on the left of no pair stays.
-#[derive(Debug, Drop)]
+#[derive(Drop)]
 pub struct Permutation {
     pub pairs: Swaps,
 }

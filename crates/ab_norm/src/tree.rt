@@ -4,7 +4,7 @@ use ab_store::Head;
 use ab_store::below::types::{Name, TypeId};
 
 /// A term, with nothing shared.
-#[derive(Debug, Drop)]
+#[derive(Drop)]
 pub enum Tree {
     /// An abstraction over a type, with the hint of its binder and its body.
     Lam(TypeId, Name, Box<Tree>),

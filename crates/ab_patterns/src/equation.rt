@@ -2,7 +2,7 @@
 use ab_norm::below::store::TermId;
 
 /// Two terms, and the number of the given equation that they came from.
-#[derive(Clone, Copy, Debug)]
+#[derive(Clone, Copy)]
 pub struct Numbered {
     /// The number of the given equation.
     pub place: usize,

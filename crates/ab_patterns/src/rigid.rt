@@ -18,7 +18,7 @@ use ab_norm::below::types::TypeTable;
 use std::alloc::{AllocError, Global};
 
 /// What the rules that replace no variable make of an equation.
-#[derive(Debug, Drop)]
+#[derive(Drop)]
 pub enum Simple {
     /// None of them applies.
     NoRule,

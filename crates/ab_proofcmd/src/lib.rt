@@ -3,8 +3,6 @@
 
 mod applying;
 mod judging;
-#[cfg(test)]
-mod tests;
 
 pub use ab_exchanging::below::progress::ProofCommandFault;
 pub use applying::{apply_proof_command, is_built};

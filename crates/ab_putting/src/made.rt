@@ -3,7 +3,7 @@ use crate::stage::Stage;
 use ab_instances::below::store::{CellId, TermId};
 
 /// A use of a formula, as it is made.
-#[derive(Debug, Drop)]
+#[derive(Drop)]
 pub struct Made {
     /// The new cells, in order of age.
     pub cells: Vec<CellId>,

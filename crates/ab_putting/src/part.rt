@@ -3,7 +3,7 @@ use ab_instances::below::store::TermId;
 use ab_instances::below::types::{Name, TypeId};
 
 /// What becomes of a quantifier or of an antecedent.
-#[derive(Debug, Drop)]
+#[derive(Drop)]
 pub enum Part {
     /// A new variable of that hint and type is put for the name of the `forall`.
     Variable(Name, TypeId),

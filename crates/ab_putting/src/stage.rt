@@ -2,7 +2,7 @@
 use ab_instances::below::store::TermId;
 
 /// What is taken off the formula, one after another.
-#[derive(Debug, Drop)]
+#[derive(Drop)]
 pub enum Stage {
     /// A `forall`, with the term that is put for its name.
     Instance(TermId),

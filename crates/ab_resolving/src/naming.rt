@@ -18,7 +18,7 @@ use ab_norm::below::store::{CellId, Head, Logical, Store};
 use ab_norm::below::types::{Name, TypeId, TypeTable};
 
 /// What a name stands for.
-#[derive(Clone, Copy, Debug)]
+#[derive(Clone, Copy)]
 pub enum Named {
     /// A bound name: the number of binders between it and its own, and its type variable.
     Bound(usize, usize),

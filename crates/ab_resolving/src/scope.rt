@@ -4,7 +4,7 @@ use ab_norm::below::store::CellId;
 use ab_norm::below::types::Name;
 
 /// Whose names may be free.
-#[derive(Clone, Copy, Debug, PartialEq, Eq)]
+#[derive(Clone, Copy)]
 pub enum Place {
     /// In a proof command, nominal names.
     Proof,
@@ -15,7 +15,7 @@ pub enum Place {
 }
 
 /// What names may stand for, beside the table's constants.
-#[derive(Debug, Drop)]
+#[derive(Drop)]
 pub struct Scope {
     /// The sequent's variables.
     pub variables: Vec<CellId>,
@@ -25,7 +25,7 @@ pub struct Scope {
 }
 
 /// A bound name, and the type variable of its binder.
-#[derive(Debug, Drop)]
+#[derive(Drop)]
 pub struct Bound {
     pub name: Name,
     pub node: usize,

@@ -6,14 +6,14 @@ use ab_alternatives::below::store::TermId;
 use std::marker::Model;
 
 /// A nominal constant, and the term that is put for it.
-#[derive(Clone, Copy, Debug)]
+#[derive(Clone, Copy)]
 pub struct Replace {
     pub from: Nominal,
     pub to: TermId,
 }
 
 /// A list of such pairs. Contracts see it as the list.
-#[derive(Debug, Drop)]
+#[derive(Drop)]
 pub struct Replaces {
     items: Vec<Replace>,
 }

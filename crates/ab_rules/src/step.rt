@@ -8,7 +8,7 @@ use std::alloc::AllocError;
 use thiserror::Error;
 
 /// A rule, read from its conclusion to its premises. Names are those of hypotheses.
-#[derive(Debug, Drop)]
+#[derive(Drop)]
 pub enum Step {
     /// Closes a goal by a hypothesis.
     Initial(Name),

@@ -5,7 +5,7 @@ use ab_states::below::declare::Moment;
 use std::alloc::{AllocError, Global};
 
 /// How a session was before a command, so far as it takes to go back there.
-#[derive(Clone, Copy, Debug)]
+#[derive(Clone, Copy)]
 pub struct Before {
     /// How much the world held.
     pub(crate) moment: Moment,

@@ -5,7 +5,7 @@ use ab_unifying::below::store::CellId;
 use std::marker::Model;
 
 /// A list of cells. Contracts see it as the list.
-#[derive(Debug, Drop)]
+#[derive(Drop)]
 pub struct Cells {
     cells: Vec<CellId>,
 }
@@ -43,7 +43,7 @@ impl Cells {
 }
 
 /// The answer to a problem.
-#[derive(Debug, Drop)]
+#[derive(Drop)]
 pub enum Solved {
     /// Cells were bound, so that both sides of each equation are the same. Listed are the cells that were made, in the
     /// order of their making; some of them may be bound.

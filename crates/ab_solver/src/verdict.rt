@@ -1,7 +1,7 @@
 //! How a run ends.
 
 /// How a run ends.
-#[derive(Clone, Copy, Debug)]
+#[derive(Clone, Copy)]
 pub(crate) enum Verdict {
     /// No equation is left.
     Unified,

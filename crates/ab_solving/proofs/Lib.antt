@@ -1,3 +1,4 @@
+mod Answering
 pub mod Joining
 pub mod Turning
 pub mod Following

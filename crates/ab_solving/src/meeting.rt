@@ -106,12 +106,10 @@ fn unite(
     ensures apart { IfOk result (λ yes. yes ≡ false → Fails types.now shapes.old (Equated low high ∷ [])) }
 {
     if let Shape::Known(ty) = shapes[low] {
-        let met = settle_root(types, shapes, work, high, ty)?;
-        return Ok(met);
+        return settle_root(types, shapes, work, high, ty);
     }
     if let Shape::Known(ty) = shapes[high] {
-        let met = settle_root(types, shapes, work, low, ty)?;
-        return Ok(met);
+        return settle_root(types, shapes, work, low, ty);
     }
     join_roots(shapes, work, low, high)?;
     Ok(true)
@@ -139,17 +137,14 @@ pub(crate) fn meet(
                 return Ok(true);
             }
             if one < other {
-                let met = unite(types, shapes, work, one, other)?;
-                Ok(met)
+                unite(types, shapes, work, one, other)
             } else {
-                let met = unite(types, shapes, work, other, one)?;
-                Ok(met)
+                unite(types, shapes, work, other, one)
             }
         }
         Wanted::Is(a, ty) => {
             let root = find(shapes, a);
-            let met = settle_root(types, shapes, work, root, ty)?;
-            Ok(met)
+            settle_root(types, shapes, work, root, ty)
         }
     }
 }

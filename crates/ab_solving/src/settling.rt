@@ -4,7 +4,7 @@ ghost use Rattle.ab_term.specs.Types.{o};
 ghost use Rattle.ab_types.specs.Entries.{kinds, constants, IsExtendedBy};
 ghost use Rattle.ab_types.specs.Ids.{HoldsType, type_of};
 ghost use Rattle.ab_types.specs.Sound.{IsTable};
-ghost use Rattle.ab_solving.specs.declared.settling.Mark.TheVariants.{Done, Unseen as NotSeen};
+ghost use Rattle.ab_solving.specs.declared.settling.Mark.TheVariants.{Done};
 ghost use Rattle.ab_solving.specs.Solutions.{AreFormed, AreHeld, HasNoSolution, shape_at};
 ghost use Rattle.ab_solving.specs.Settling.{IsDone, PartsDone, NotDone, Finishes, Settling, AreIdle, IsSettled, Solved, mark_at, settled_at};
 
@@ -13,7 +13,7 @@ use ab_types::{TypeId, TypeTable};
 use std::alloc::{AllocError, Global};
 
 /// What a type variable is in the end: its type, with `o` for what is open, and whether anything is.
-#[derive(Clone, Copy, Debug)]
+#[derive(Clone, Copy)]
 pub struct Settled {
     pub ty: TypeId,
     pub is_open: bool,
@@ -111,7 +111,7 @@ fn finish(
     }
 }
 
-/// A variable is done, after all that it is made of; or no types solve the equations.
+/// A variable is done, after all that it is made of, where it isn't done already; or no types solve the equations.
 fn settle(
     alloc: Global,
     types: &mut TypeTable,
@@ -127,7 +127,6 @@ fn settle(
     requires i_in { i < length shapes.now }
     requires settling { Settling types.old shapes.now marks.old }
     requires idle { AreIdle marks.old }
-    requires unseen { mark_at marks.old i ≡ NotSeen }
     ensures settled { IfOk result (λ yes. yes ≡ true → IsSettled types.new shapes.now marks.old marks.new i) }
     ensures none { IfOk result (λ yes. yes ≡ false → HasNoSolution types.old shapes.now) }
     ensures kinds { kinds types.new ≡ kinds types.old }
@@ -135,9 +134,11 @@ fn settle(
     ensures kept { IsExtendedBy types.old types.new }
     ensures table { IsTable types.new }
 {
-    let mut path = Vec::new(alloc);
+    let Mark::Unseen = marks[i] else {
+        return Ok(true);
+    };
+    let mut path = vec![in alloc; i]?;
     marks[i] = Mark::Active;
-    path.push(i)?;
     while let Some(top) = path.pop() {
         match next_part(shapes, marks, top) {
             None => {
@@ -178,43 +179,11 @@ pub fn solve(
 {
     let mut marks = vec![in alloc; Mark::Unseen; shapes.len()]?;
     for i in 0..shapes.len() {
-        if !settle_once(alloc, types, filler, shapes, &mut marks, i)? {
+        if !settle(alloc, types, filler, shapes, &mut marks, i)? {
             return Ok(None);
         }
     }
     Ok(Some(collected(alloc, filler, shapes, &marks)?))
-}
-
-/// The same where the variable may be done already.
-fn settle_once(
-    alloc: Global,
-    types: &mut TypeTable,
-    filler: TypeId,
-    shapes: &[Shape],
-    marks: &mut [Mark],
-    i: usize,
-) -> Result<bool, AllocError>
-    requires table { IsTable types.old }
-    requires filler_held { HoldsType types.old filler }
-    requires filler { type_of types.old filler ≡ o }
-    requires formed { AreFormed shapes.now }
-    requires i_in { i < length shapes.now }
-    requires settling { Settling types.old shapes.now marks.old }
-    requires idle { AreIdle marks.old }
-    ensures settled { IfOk result (λ yes. yes ≡ true → IsSettled types.new shapes.now marks.old marks.new i) }
-    ensures none { IfOk result (λ yes. yes ≡ false → HasNoSolution types.old shapes.now) }
-    ensures kinds { kinds types.new ≡ kinds types.old }
-    ensures constants { constants types.new ≡ constants types.old }
-    ensures kept { IsExtendedBy types.old types.new }
-    ensures table { IsTable types.new }
-{
-    match marks[i] {
-        Mark::Unseen => {
-            let yes = settle(alloc, types, filler, shapes, marks, i)?;
-            Ok(yes)
-        }
-        Mark::Active | Mark::Done(_) => Ok(true),
-    }
 }
 
 /// What all variables are, of which each is done.

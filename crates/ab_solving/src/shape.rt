@@ -2,7 +2,7 @@
 use ab_types::TypeId;
 
 /// What is known of a type variable. The numbers are those of variables.
-#[derive(Clone, Copy, Debug)]
+#[derive(Clone, Copy)]
 pub enum Shape {
     /// Nothing.
     Open,

@@ -48,8 +48,7 @@ fn meet_in(
     ensures met { IfOk result (λ yes. yes ≡ true → MeetingAll types.now shapes.old.items shapes.new.items wanted.now) }
     ensures apart { IfOk result (λ yes. yes ≡ false → Fails types.now shapes.old.items wanted.now) }
 {
-    let yes = meet_all(alloc, types, shapes, wanted)?;
-    Ok(yes)
+    meet_all(alloc, types, shapes, wanted)
 }
 
 /// A new variable, of this shape, where the equations are met.
@@ -116,6 +115,5 @@ pub fn equate(
     ensures met { IfOk result (λ yes. yes ≡ true → Meeting types.now shapes.old.items shapes.new.items wanted) }
     ensures apart { IfOk result (λ yes. yes ≡ false → Part types.now shapes.old.items wanted) }
 {
-    let yes = unify(alloc, types, shapes, wanted)?;
-    Ok(yes)
+    unify(alloc, types, shapes, wanted)
 }

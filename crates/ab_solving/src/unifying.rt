@@ -25,8 +25,7 @@ pub fn unify(
     ensures met { IfOk result (λ yes. yes ≡ true → Meeting types.now shapes.old shapes.new wanted) }
     ensures apart { IfOk result (λ yes. yes ≡ false → Part types.now shapes.old wanted) }
 {
-    let mut work = Vec::new(alloc);
-    work.push(wanted)?;
+    let mut work = vec![in alloc; wanted]?;
     while let Some(next) = work.pop() {
         if !meet(types, shapes, &mut work, next)? {
             return Ok(false);

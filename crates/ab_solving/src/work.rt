@@ -2,7 +2,7 @@
 use ab_types::TypeId;
 
 /// An equation that is to be met. The numbers are those of variables.
-#[derive(Clone, Copy, Debug)]
+#[derive(Clone, Copy)]
 pub enum Wanted {
     /// Both are the same.
     Equal(usize, usize),

@@ -13,7 +13,7 @@ use crate::node::Head;
 use std::alloc::AllocError;
 
 /// What a store knows of a term without a walk.
-#[derive(Clone, Copy, Debug)]
+#[derive(Clone, Copy)]
 pub(crate) struct Facts {
     /// Each free index is below this.
     pub(crate) reach: usize,

@@ -1,7 +1,7 @@
 //! Marks of a store.
 
 /// How many bindings, nodes and cells a store had.
-#[derive(Clone, Copy, Debug, PartialEq, Eq)]
+#[derive(Clone, Copy)]
 pub struct Mark {
     pub(crate) bindings: usize,
     pub(crate) nodes: usize,

@@ -6,7 +6,7 @@ use ab_types::{ConstId, Name, TypeId};
 use std::alloc::{AllocError, Global};
 
 /// A term of a store.
-#[derive(Clone, Copy, PartialEq, Eq, PartialOrd, Ord, Hash, Debug)]
+#[derive(Clone, Copy, PartialEq, Eq, PartialOrd, Ord, Hash)]
 pub struct TermId(pub(crate) usize);
 
 impl TermId {
@@ -19,11 +19,11 @@ impl TermId {
 }
 
 /// A cell of a store: a variable that stands for a term.
-#[derive(Clone, Copy, PartialEq, Eq, PartialOrd, Ord, Hash, Debug)]
+#[derive(Clone, Copy, PartialEq, Eq, PartialOrd, Ord, Hash)]
 pub struct CellId(pub(crate) usize);
 
 /// A logical constant.
-#[derive(Clone, Copy, PartialEq, Eq, Debug)]
+#[derive(Clone, Copy, PartialEq, Eq)]
 pub enum Logical {
     /// `true`.
     True,
@@ -64,7 +64,7 @@ pub enum Logical {
 }
 
 /// What is given arguments.
-#[derive(Clone, Copy, PartialEq, Eq, Debug)]
+#[derive(Clone, Copy, PartialEq, Eq)]
 pub enum Head {
     /// A constant of the table.
     Const(ConstId),
@@ -79,7 +79,7 @@ pub enum Head {
 }
 
 /// A node of a term.
-#[derive(Debug, Drop)]
+#[derive(Drop)]
 pub enum Node {
     /// An abstraction over a type, with the hint of its binder and its body.
     Lam(TypeId, Name, TermId),
@@ -100,7 +100,7 @@ impl Node {
 }
 
 /// An equation between two terms.
-#[derive(Clone, Copy, PartialEq, Eq, Debug)]
+#[derive(Clone, Copy)]
 pub struct Equation {
     /// The left side.
     pub left: TermId,
@@ -109,14 +109,14 @@ pub struct Equation {
 }
 
 /// A cell, and the term that it is bound to.
-#[derive(Clone, Copy, Debug)]
+#[derive(Clone, Copy)]
 pub struct Binding {
     pub cell: CellId,
     pub term: TermId,
 }
 
 /// What a store keeps of a cell: its hint, and the type of what it stands for.
-#[derive(Debug, Drop)]
+#[derive(Drop)]
 pub struct CellEntry {
     pub(crate) hint: Name,
     pub(crate) ty: TypeId,

@@ -24,14 +24,14 @@ use std::alloc::{AllocError, Global};
 use std::marker::Model;
 
 /// A node, with what is known of its term.
-#[derive(Debug, Drop)]
+#[derive(Drop)]
 struct NodeEntry {
     node: Node,
     facts: Facts,
 }
 
 /// A cell, with the term that it is bound to.
-#[derive(Debug, Drop)]
+#[derive(Drop)]
 struct Slot {
     cell: CellEntry,
     binding: Option<TermId>,
@@ -66,7 +66,7 @@ fn all_unbound(alloc: Global, slots: &[Slot]) -> Result<Vec<Slot>, AllocError>
 
 /// Terms as shared nodes, the cells that stand in them, and what these are bound to. Nodes and cells are added, and
 /// never change; bindings and what was added are taken back to a mark.
-#[derive(Debug, Drop)]
+#[derive(Drop)]
 pub struct Store {
     entries: Vec<NodeEntry>,
     slots: Vec<Slot>,

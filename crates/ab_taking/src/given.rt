@@ -3,7 +3,7 @@ use ab_marks::below::store::TermId;
 use ab_marks::below::types::{Name, TypeId};
 
 /// A term that is given for the outermost name of a `forall` that is written so, and the type of that name.
-#[derive(Debug, Drop)]
+#[derive(Drop)]
 pub struct GivenTerm {
     pub name: Name,
     pub ty: TypeId,

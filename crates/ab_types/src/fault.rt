@@ -2,7 +2,7 @@
 use std::alloc::AllocError;
 
 /// Why a table didn't take a name, or knows no kind of it.
-#[derive(Clone, Copy, Debug, PartialEq, Eq, Drop)]
+#[derive(Clone, Copy, Drop)]
 pub enum TableFault {
     /// No kind has the name.
     UnknownKind,

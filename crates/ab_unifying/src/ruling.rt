@@ -29,7 +29,7 @@ use ab_unify::below::types::{Steps, TypeTable};
 use std::alloc::{AllocError, Global};
 
 /// What a rule made of an equation.
-#[derive(Debug, Drop)]
+#[derive(Drop)]
 pub enum Step {
     /// It doesn't apply.
     NoRule,

@@ -8,7 +8,7 @@ use ab_resolving::below::types::Name;
 use std::alloc::{AllocError, Global};
 
 /// What is made of an expression, as far as it is walked over.
-#[derive(Debug, Drop)]
+#[derive(Drop)]
 pub struct Row {
     /// The steps that make it.
     pub steps: Vec<Op>,

@@ -6,7 +6,7 @@ use ab_blocks::below::lex::Splitter;
 use ab_session::below::io::{Failed, Source};
 
 /// Why no piece was read.
-#[derive(Clone, Copy, Debug, PartialEq, Eq)]
+#[derive(Clone, Copy)]
 pub enum ReadStop {
     Failed,
     Memory,

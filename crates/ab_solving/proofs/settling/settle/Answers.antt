@@ -8,10 +8,9 @@ use Rattle.ab_solving.proofs.settling.settle.Goals as goal
 
 pub loop-top-init : goal.loop-top-init
 loop-top-init c = let r = c.requires in
-    let e = c.in_ok-push.ensures.items in
-    let f : c.push.new.self.items ≡ c.args.i ∷ [] = e ∙ ap (λ xs. xs ++ c.args.i ∷ []) c.new-path.ensures.items in
+    let f : c.in_ok-path.path.items ≡ c.args.i ∷ [] = c.in_ok-path.ensures.items in
     record {
-      path = subst (Path c.args.types.now c.args.types.now c.args.shapes.now _ _) (sym f) (path_begins c.args.types.now c.args.shapes.now c.args.marks.now c.args.i r.table r.i_in r.unseen r.settling r.idle);
+      path = subst (Path c.args.types.now c.args.types.now c.args.shapes.now _ _) (sym f) (path_begins c.args.types.now c.args.shapes.now c.args.marks.now c.args.i r.table r.i_in c.in-Unseen.is r.settling r.idle);
       kinds = refl;
       constants = refl;
     }
@@ -49,12 +48,12 @@ loop-top-preserved c =
     let popped = rw c.in-Some.is at c.pop.ensures.items in
     let p = c.loop-top.invariant.path in
     let j = c.in-Some-next_part.part in
-    let one = c.in_ok-push-in-Unseen.ensures.items in
-    let two = c.in_ok-push-in-Unseen-2.ensures.items in
-    let same : c.push-in-Unseen-2.new.self.items ≡ c.loop-top.path.items ++ j ∷ [] = two ∙ ap (λ xs. xs ++ j ∷ []) (one ∙ sym popped) in
+    let one = c.in_ok-push-in-Unseen-marks.ensures.items in
+    let two = c.in_ok-push-in-Unseen-marks-2.ensures.items in
+    let same : c.push-in-Unseen-marks.new.self.items ≡ c.loop-top.path.items ++ j ∷ [] = two ∙ ap (λ xs. xs ++ j ∷ []) (one ∙ sym popped) in
     let q = subst (Path c.args.types.now c.loop-top.types c.args.shapes.now _ _) (sym same)
     (path_grows c.args.types.now c.loop-top.types c.args.shapes.now _ c.loop-top.marks c.loop-top.path.items c.pop.new.self.items c.in-Some.top c.requires.formed p popped
-    j c.in-Some-next_part.ensures.within c.in-Some-next_part.ensures.part.part c.in-Unseen.is) in
+    j c.in-Some-next_part.ensures.within c.in-Some-next_part.ensures.part.part c.in-Unseen-marks.is) in
     record { path = q; kinds = c.loop-top.invariant.kinds; constants = c.loop-top.invariant.constants }
 
 pub returns-in-Active : goal.returns-in-Active
@@ -74,4 +73,4 @@ returns-in-Active c =
 pub returns-clause-settled : goal.returns-clause-settled
 returns-clause-settled c = λ _.
     let r = c.requires in
-    path_ends c.args.types.now c.loop-top.types c.args.shapes.now c.args.marks.now c.loop-top.marks c.loop-top.path.items c.args.i r.i_in r.settling.len c.loop-top.invariant.path (nothing_left c.loop-top.path.items (omega (arith, c.in_default.ensures.cases, c.loop-top.path.ok.0)))
+    path_ends c.args.types.now c.loop-top.types c.args.shapes.now c.args.marks.now c.loop-top.marks c.loop-top.path.items c.args.i r.i_in r.settling.len c.loop-top.invariant.path (nothing_left c.loop-top.path.items (omega (arith, c.in_default-pop.ensures.cases, c.loop-top.path.ok.0)))

@@ -15,15 +15,15 @@ loop-i-init c =
       constants = refl;
     }
 
-pub settle_once-requires-clause-filler_held : goal.settle_once-requires-clause-filler_held
-settle_once-requires-clause-filler_held c = still_held c.args.types.now c.loop-i.types c.loop-i.invariant.walking.more c.args.filler c.requires.filler_held
+pub settle-requires-clause-filler_held : goal.settle-requires-clause-filler_held
+settle-requires-clause-filler_held c = still_held c.args.types.now c.loop-i.types c.loop-i.invariant.walking.more c.args.filler c.requires.filler_held
 
-pub settle_once-requires-clause-filler : goal.settle_once-requires-clause-filler
-settle_once-requires-clause-filler c = same_reading c.args.types.now c.loop-i.types c.loop-i.invariant.walking.more c.args.filler c.requires.filler_held ∙ c.requires.filler
+pub settle-requires-clause-filler : goal.settle-requires-clause-filler
+settle-requires-clause-filler c = same_reading c.args.types.now c.loop-i.types c.loop-i.invariant.walking.more c.args.filler c.requires.filler_held ∙ c.requires.filler
 
 pub returns-then-not-branch-clause-solved : goal.returns-then-not-branch-clause-solved
 returns-then-not-branch-clause-solved c =
-    none_walked c.args.types.now c.loop-i.types c.args.shapes.now c.loop-i.marks.items c.loop-i.i c.requires.held c.loop-i.invariant.walking (c.in_ok-settle_once.ensures.none c.if-not-branch.true)
+    none_walked c.args.types.now c.loop-i.types c.args.shapes.now c.loop-i.marks.items c.loop-i.i c.requires.held c.loop-i.invariant.walking (c.in_ok-settle.ensures.none c.if-not-branch.true)
 
 written : {X : Type 0} (n : ℕ) (xs ys : List X) → n ≡ length ys → length xs ≡ length ys → take n (xs ++ drop (length xs) ys) ≡ xs
 written n xs ys e l = take_at xs (drop (length xs) ys) n (omega arith)
@@ -32,15 +32,15 @@ pub loop-i-preserved : goal.loop-i-preserved
 loop-i-preserved c =
     let s = c.args.shapes.now in
     let d = c.deref_mut.ensures in
-    let h : IsSettled c.settle_once.new.types s c.loop-i.marks.items c.settle_once.new.marks c.loop-i.i =
-    subst (λ m. IsSettled c.settle_once.new.types s m c.settle_once.new.marks c.loop-i.i) d.value (c.in_ok-settle_once.ensures.settled c.if-not-branch.false) in
-    let w : take c.loop-i.marks.len (c.settle_once.new.marks ++ drop (length c.settle_once.new.marks) c.loop-i.marks.items) ≡ c.settle_once.new.marks =
-    written c.loop-i.marks.len c.settle_once.new.marks c.loop-i.marks.items c.loop-i.marks.ok.0 (omega (arith, c.settle_once.auto.marks, d.len, c.loop-i.marks.ok.0)) in
-    let more = walking_more c.args.types.now c.loop-i.types c.settle_once.new.types s c.loop-i.marks.items c.settle_once.new.marks c.loop-i.i (omega (arith, c.loop-i-test.true)) c.loop-i.invariant.walking c.settle_once.ensures.kept c.settle_once.ensures.table h in
+    let h : IsSettled c.settle.new.types s c.loop-i.marks.items c.settle.new.marks c.loop-i.i =
+    subst (λ m. IsSettled c.settle.new.types s m c.settle.new.marks c.loop-i.i) d.value (c.in_ok-settle.ensures.settled c.if-not-branch.false) in
+    let w : take c.loop-i.marks.len (c.settle.new.marks ++ drop (length c.settle.new.marks) c.loop-i.marks.items) ≡ c.settle.new.marks =
+    written c.loop-i.marks.len c.settle.new.marks c.loop-i.marks.items c.loop-i.marks.ok.0 (omega (arith, c.settle.auto.marks, d.len, c.loop-i.marks.ok.0)) in
+    let more = walking_more c.args.types.now c.loop-i.types c.settle.new.types s c.loop-i.marks.items c.settle.new.marks c.loop-i.i (omega (arith, c.loop-i-test.true)) c.loop-i.invariant.walking c.settle.ensures.kept c.settle.ensures.table h in
     record {
       walking = rw w more;
-      kinds = c.settle_once.ensures.kinds ∙ c.loop-i.invariant.kinds;
-      constants = c.settle_once.ensures.constants ∙ c.loop-i.invariant.constants;
+      kinds = c.settle.ensures.kinds ∙ c.loop-i.invariant.kinds;
+      constants = c.settle.ensures.constants ∙ c.loop-i.invariant.constants;
     }
 
 pub collected-requires-clause-done : goal.collected-requires-clause-done

@@ -1,2 +1,0 @@
-pub mod Proposing
-pub mod Staying
