@@ -1,0 +1,16 @@
+-- what has to be believed
+pub mod Plain
+pub mod Tables
+pub mod Pieces
+pub mod Texts
+-- what the program's certificates stand for
+pub mod Members
+pub mod Values
+-- tools of the reader's private functions
+pub mod Reading
+pub mod Shapes
+pub mod Counts
+pub mod Grammar
+pub mod Leads
+pub mod Todos
+pub mod Outlines
