@@ -1,12 +1,13 @@
 -- The commands that are built, of all that the grammar has.
-use Rattle.std.specs.Prelude.{◌≡◌, ℕ, All}
-use Rattle.ab_grammar.specs.CommandTrees.{Command, kinds, constants, define, theorem, specification, show, quit, subgoals, back, reset, undo, abort, in_proof, ProofCommand, intros, induction, coinduction, split, split_all, left, right, exists, unfold_goal, case, apply, backchain, assert, clear, rename, permute, search, cut, inst, monotone}
+use Rattle.std.specs.Prelude.{◌≡◌, ℕ, All, length}
+use Rattle.ab_grammar.specs.CommandTrees.{Command, kinds, constants, define, theorem, specification, query, show, quit, subgoals, back, reset, undo, abort, in_proof, ProofCommand, intros, induction, coinduction, split, split_all, left, right, exists, unfold_goal, case, apply, backchain, assert, clear, rename, permute, search, skip, cut, inst, monotone}
 use Rattle.ab_command.specs.Judgements.{HasNoJudgement, InstanceHasNoJudgement, ClauseHasNoJudgement}
 
--- A proof command, read from so many tokens: `search` is built without its depth alone, of a word and a full stop.
+-- A proof command, read from so many tokens: `search` is built without its depth alone, of a word and a full stop, and
+-- `induction` with one number alone.
 abbrev pub IsBuiltInProof : ℕ → ProofCommand → Type 0
 IsBuiltInProof count (intros xs) = Unit {0}
-IsBuiltInProof count (induction n) = Unit {0}
+IsBuiltInProof count (induction ns) = length ns ≡ 1
 IsBuiltInProof count coinduction = Unit {0}
 IsBuiltInProof count split = Unit {0}
 IsBuiltInProof count split_all = Unit {0}
@@ -22,6 +23,7 @@ IsBuiltInProof count (clear Hs) = Unit {0}
 IsBuiltInProof count (rename H x) = Unit {0}
 IsBuiltInProof count (permute ns x) = Unit {0}
 IsBuiltInProof count (search depth) = count ≡ 2
+IsBuiltInProof count skip = ⊥
 IsBuiltInProof count (cut H K) = ⊥
 IsBuiltInProof count (inst H is) = ⊥
 IsBuiltInProof count (monotone H e) = ⊥
@@ -38,6 +40,7 @@ IsBuilt count (subgoals on) = Unit {0}
 IsBuilt count abort = Unit {0}
 IsBuilt count (in_proof label c) = IsBuiltInProof count c
 IsBuilt count (specification x) = ⊥
+IsBuilt count (query e n m) = ⊥
 IsBuilt count back = ⊥
 IsBuilt count reset = ⊥
 IsBuilt count undo = ⊥

@@ -12,7 +12,6 @@ fn is_built_in_proof(command: &ProofCommand, count: usize) -> bool
 {
     match command {
         ProofCommand::Intros(_)
-        | ProofCommand::Induction(_)
         | ProofCommand::Coinduction
         | ProofCommand::Split
         | ProofCommand::SplitAll
@@ -23,13 +22,17 @@ fn is_built_in_proof(command: &ProofCommand, count: usize) -> bool
         | ProofCommand::Clear(_)
         | ProofCommand::Rename(_, _)
         | ProofCommand::Permute(_, _) => true,
+        ProofCommand::Induction(places) => places.as_slice().len() == 1,
         ProofCommand::Exists(term) => !holds_judgement(term),
         ProofCommand::Assert(formula) => !holds_judgement(formula),
         ProofCommand::Apply(_, _, given) | ProofCommand::Backchain(_, given) => {
             !instances_hold_judgement(given.as_slice())
         }
         ProofCommand::Search(_) => count == 2,
-        ProofCommand::Cut(_, _) | ProofCommand::Inst(_, _) | ProofCommand::Monotone(_, _) => false,
+        ProofCommand::Skip
+        | ProofCommand::Cut(_, _)
+        | ProofCommand::Inst(_, _)
+        | ProofCommand::Monotone(_, _) => false,
     }
 }
 
@@ -47,6 +50,10 @@ pub(crate) fn is_built(command: &Command, count: usize) -> bool
         Command::Define(_, _, clauses) => !clauses_hold_judgement(clauses.as_slice()),
         Command::Theorem(_, formula) => !holds_judgement(formula),
         Command::InProof(_, command) => is_built_in_proof(command, count),
-        Command::Specification(_) | Command::Back | Command::Reset | Command::Undo => false,
+        Command::Specification(_)
+        | Command::Query(_, _, _)
+        | Command::Back
+        | Command::Reset
+        | Command::Undo => false,
     }
 }

@@ -10,7 +10,7 @@ use Rattle.ab_grammar.proofs.Reading.{ReadsOff}
 use Rattle.ab_grammar.specs.CommandTrees as tree
 use Rattle.ab_grammar.specs.CommandForms.{One, Nothing, nothing, joined, Valued, valued, Optional, Many, OneOrMore, ◌▸◌}
 use Rattle.ab_grammar.proofs.Following.{first, Comes, Except, Showing, Without, BeforeStop, ClauseEnds, ArgumentsEnd}
-use Rattle.ab_grammar.specs.CommandTable.{Row, ProofRow, Name, Word, Sign, ClauseBody, ClauseForm, Clauses, Definition, InstanceList, Instances, Arguments, Keep, kept, OptionalName, Switch, switched_on, switched_off, ShowsName, shows_name, ShowsArgument, ShowsDepth, shows_depth, ShowsText, StandsAnywhere, stands_at, define_row, codefine_row, specification_row, show_row, quit_row, back_row, reset_row, undo_row, abort_row, intros_row, coinduction_row, search_row, split_row, split_all_row, left_row, right_row, exists_row, witness_row, unfold_row, assert_row, clear_row}
+use Rattle.ab_grammar.specs.CommandTable.{Row, ProofRow, Name, Word, Sign, ClauseBody, ClauseForm, Clauses, Definition, InstanceList, Instances, Arguments, Keep, kept, OptionalName, Switch, switched_on, switched_off, ShowsName, shows_name, ShowsArgument, ShowsDepth, shows_depth, ShowsText, StandsAnywhere, stands_at, define_row, codefine_row, specification_row, show_row, quit_row, back_row, reset_row, undo_row, abort_row, intros_row, coinduction_row, search_row, skip_row, split_row, split_all_row, left_row, right_row, exists_row, witness_row, unfold_row, assert_row, clear_row}
 use Rattle.ab_grammar.proofs.Lists.{regroup}
 use Rattle.ab_grammar.proofs.Choosing.{key_begins, one_shown, nothing_reads}
 use Rattle.ab_grammar.proofs.Continuing.{Continues, onwards, chosen, same_texts, with_value, is_present, is_absent, Apart, Missing}
@@ -105,6 +105,9 @@ undo_only w _ (undo_row n) = empty_only tree.undo w n
 abort_only : (w : List Spot) (c : tree.Command) → Row head.Abort w c → (w ≡ []) × (c ≡ tree.abort)
 abort_only w _ (abort_row n) = empty_only tree.abort w n
 
+skip_only : (w : List Spot) (c : tree.ProofCommand) → ProofRow proof.Skip w c → (w ≡ []) × (c ≡ tree.skip)
+skip_only w _ (skip_row n) = empty_only tree.skip w n
+
 coinduction_only : (w : List Spot) (c : tree.ProofCommand) → ProofRow proof.Coinduction w c → (w ≡ []) × (c ≡ tree.coinduction)
 coinduction_only w _ (coinduction_row n) = empty_only tree.coinduction w n
 
@@ -135,6 +138,9 @@ abort = empty_row (Row head.Abort) tree.abort (abort_row nothing) abort_only
 pub coinduction : (ks : List Token) → ReadsOff (ProofRow proof.Coinduction) BeforeStop ks tree.coinduction ks
 coinduction = empty_row (ProofRow proof.Coinduction) tree.coinduction (coinduction_row nothing) coinduction_only
 
+pub skip : (ks : List Token) → ReadsOff (ProofRow proof.Skip) BeforeStop ks tree.skip ks
+skip = empty_row (ProofRow proof.Skip) tree.skip (skip_row nothing) skip_only
+
 pub left : (ks : List Token) → ReadsOff (ProofRow proof.Left) BeforeStop ks tree.left ks
 left = empty_row (ProofRow proof.Left) tree.left (left_row nothing) left_only
 
@@ -146,7 +152,7 @@ unfold_goal = empty_row (ProofRow proof.Unfold) tree.unfold_goal (unfold_row not
 
 -- Parts that may be left out
 
-other_stop : (o : Other) → (stop ≡ o → ⊥) → (ks : List Token) → Comes (other o) ks → Apart BeforeStop ks
+pub other_stop : (o : Other) → (stop ≡ o → ⊥) → (ks : List Token) → Comes (other o) ks → Apart BeforeStop ks
 other_stop o n ks s r e f = let both : Some (other stop) ≡ Some (other o) = sym e ∙ f ∙ s in let same : stop ≡ o = cc in n same
 
 -- a key shows that a part is there
@@ -177,6 +183,14 @@ module _ (ks : List Token) where
 
   pub no_arguments : Except (other to_word) ks → ReadsOff (Optional [] Arguments) ArgumentsEnd ks [] ks
   no_arguments n = is_absent [] Arguments ArgumentsEnd ks (keyed_missing (other to_word) (OneOrMore (One ShowsArgument)) ArgumentsEnd ks n)
+
+  -- a part behind a key, before what isn't the key
+  module _ {A : Type 0} (d : A) (k : Token) (G : List Spot → A → Type 0) where
+    pub with_keyed : Comes k ks → Continues (Key k ▸ G) (Optional d (Key k ▸ G)) (Except k) (λ a. a) ks ks
+    with_keyed s = is_present d (Key k ▸ G) (Except k) ks (λ r n e. n (e ∙ s))
+
+    pub no_keyed : Except k ks → ReadsOff (Optional d (Key k ▸ G)) (Except k) ks d ks
+    no_keyed n = is_absent d (Key k ▸ G) (Except k) ks (keyed_missing k G (Except k) ks n)
 
   body_apart : Comes (other becomes) ks → Apart ClauseEnds ks
   body_apart s r (inl e) f = absurd (cc)

@@ -43,7 +43,7 @@ module _ {A : Type 0} (G : List Spot → A → Type 0) (F E : List Token → Typ
 module _ {A B : Type 0} (G : List Spot → A → Type 0) (R : List Spot → B → Type 0) (F : List Token → Type 0) (f : A → B) (ks : List Token)
     (to : (w : List Spot) (a : A) → G w a → R w (f a))
     (back : (w : List Spot) (b : B) (r : List Token) → R w b → F r → first (tokens_of w ++ r) ≡ first ks → (a : A) × G w a × (f a ≡ b)) where
-  agree : (rest r zs : List Token) (w us : List Spot) → ks ≡ tokens_of us ++ rest → tokens_of w ++ r ≡ tokens_of us ++ led_by (first rest) zs → first (tokens_of w ++ r) ≡ first ks
+  pub agree : (rest r zs : List Token) (w us : List Spot) → ks ≡ tokens_of us ++ rest → tokens_of w ++ r ≡ tokens_of us ++ led_by (first rest) zs → first (tokens_of w ++ r) ≡ first ks
   agree rest r zs w us t e = let like = begins_like ks rest zs us t in ap first (e ∙ like.1) ∙ first_led (first ks) like.0
 
   pub chosen_reads : (a : A) (rest : List Token) → ReadsOff G F ks a rest → ReadsOff R F ks (f a) rest

@@ -1,7 +1,7 @@
 -- What may stand behind a part of a text, as the readers of the parts ask: where a part ends is known by what comes next.
 -- No public contract speaks of it.
 use Rattle.std.specs.Prelude.{◌≡◌, List, [], ◌∷◌, ◌++◌, Option, Some, None, ◌⊎◌}
-use Rattle.ab_grammar.specs.Token.{Token, other, Other, stop, semicolon, with_word, right_paren, right_brace, right_bracket, turnstile, comma, colon}
+use Rattle.ab_grammar.specs.Token.{Token, other, Other, stop, semicolon, to_word, with_word, right_paren, right_brace, right_bracket, turnstile, comma, colon}
 use Rattle.ab_grammar.specs.Nesting.{Spot}
 use Rattle.ab_grammar.specs.Language.{tokens_of}
 
@@ -56,6 +56,10 @@ BeforeStop = Comes (other stop)
 -- a clause ends before a semicolon or a full stop
 abbrev pub ClauseEnds : List Token → Type 0
 ClauseEnds r = (Comes (other semicolon) r) ⊎ BeforeStop r
+
+-- the depth of `Query` ends before `to` or a full stop
+abbrev pub DepthEnds : List Token → Type 0
+DepthEnds r = (Comes (other to_word) r) ⊎ BeforeStop r
 
 -- the arguments of `apply` end before `with` or a full stop
 abbrev pub ArgumentsEnd : List Token → Type 0

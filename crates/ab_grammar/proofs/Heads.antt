@@ -39,7 +39,7 @@ in_table P (row ∷ rows) h x a e = by_test P x (row.0) a (row.1) (bytes_eq x ro
 
 -- no word opens a command and a proof command
 two_tables : (x : List ℕ) (h : Head) → listed command_words x ≡ Some h → listed proof_words x ≡ None
-two_tables = in_table (λ x h. listed proof_words x ≡ None) command_words (refl, (refl, (refl, (refl, (refl, (refl, (refl, (refl, (refl, (refl, (refl, tt)))))))))))
+two_tables = in_table (λ x h. listed proof_words x ≡ None) command_words (refl, (refl, (refl, (refl, (refl, (refl, (refl, (refl, (refl, (refl, (refl, (refl, tt))))))))))))
 
 -- One row for a token
 

@@ -26,3 +26,5 @@ pub mod WholeCommands
 pub mod Sure
 pub mod OneCommand
 pub mod Standing
+pub mod FileRows
+pub mod OneFile

@@ -9,16 +9,17 @@ use Rattle.ab_grammar.specs.Token.{Token, Other, word, sign, left_paren, right_p
 use Rattle.ab_grammar.specs.Nesting.{Spot}
 use Rattle.ab_grammar.specs.Tree.{Tree}
 use Rattle.ab_grammar.specs.Language.{tokens_of, Key, the_key, Expression, TypeExpression, Accepted}
-use Rattle.ab_grammar.proofs.Following.{first, Follow, follow, Anything, Followed, by_comma, by_other, Comes, Except, Showing, Without, BeforeStop, ClauseEnds, ArgumentsEnd}
+use Rattle.ab_grammar.proofs.Following.{first, Follow, follow, Anything, Followed, by_comma, by_other, Comes, Except, Showing, Without, BeforeStop, ClauseEnds, DepthEnds, ArgumentsEnd}
 use Rattle.ab_grammar.specs.CommandTrees as tree
 use Rattle.ab_grammar.specs.CommandForms.{One, one, Nothing, nothing, joined, Valued, valued, Optional, left_out, present, Many, OneOrMore, ◌▹◌, ◌▸◌, ◌◂◌}
-use Rattle.ab_grammar.specs.CommandTable.{ShowsName, shows_name, ShowsDeclared, ShowsNominal, shows_nominal, ShowsArgument, shows_named, shows_hole, ShowsNumber, ShowsDepth, shows_depth, ShowsText, ShowsLabel, StandsAnywhere, stands_at, Name, DeclaredName, DeclaredNames, Word, Sign, Definiendum, defined_of, Definienda, ClauseBody, ClauseForm, clause_of, Clauses, Definition, InstanceForm, instance_of, InstanceList, Instances, Arguments, Keep, kept, Nominals, OptionalName, Switch, switched_on, switched_off, Row, kind_row, typed_row, define_row, codefine_row, theorem_row, specification_row, show_row, quit_row, set_row, back_row, reset_row, undo_row, abort_row, ProofRow, intros_row, induction_row, coinduction_row, case_row, apply_row, backchain_row, cut_row, inst_row, monotone_row, search_row, split_row, split_all_row, left_row, right_row, exists_row, witness_row, unfold_row, assert_row, clear_row, rename_row, permute_row, Opens, OpensProof, LabelledForm, labelled_form, CommandForm, plain, unlabelled, labelled, CommandText}
-use Rattle.ab_grammar.proofs.Shown.{one_name, one_declared, one_nominal, one_argument, one_number, one_depth, one_text, one_placed, one_label}
+use Rattle.ab_grammar.specs.CommandTable.{ShowsName, shows_name, ShowsDeclared, ShowsNominal, shows_nominal, ShowsArgument, shows_named, shows_hole, ShowsNumber, shows_number, ShowsDepth, shows_depth, ShowsLimit, ShowsText, ShowsLabel, StandsAnywhere, stands_at, Name, DeclaredName, DeclaredNames, Word, Sign, Definiendum, defined_of, Definienda, ClauseBody, ClauseForm, clause_of, Clauses, Definition, InstanceForm, instance_of, InstanceList, Instances, Arguments, Keep, kept, Nominals, OptionalName, OptionalDepth, OptionalLimit, Switch, switched_on, switched_off, Row, kind_row, typed_row, define_row, codefine_row, theorem_row, specification_row, query_row, show_row, quit_row, set_row, back_row, reset_row, undo_row, abort_row, ProofRow, intros_row, induction_row, coinduction_row, case_row, apply_row, backchain_row, cut_row, inst_row, monotone_row, search_row, skip_row, split_row, split_all_row, left_row, right_row, exists_row, witness_row, unfold_row, assert_row, clear_row, rename_row, permute_row, Opens, OpensProof, LabelledForm, labelled_form, CommandForm, plain, unlabelled, labelled, CommandText}
+use Rattle.ab_grammar.proofs.Shown.{one_name, one_declared, one_nominal, one_argument, one_number, one_depth, one_limit, one_text, one_placed, one_label}
 use Rattle.ab_grammar.proofs.Choosing.{key_begins, shown_by}
 use Rattle.ab_grammar.proofs.Beginnings.{begins_no_other, begins_no_comma, expression_begins, type_begins, followed_by, followed_by_stop}
 use Rattle.ab_grammar.proofs.Readers.{sure_expression, sure_type}
 use Rattle.ab_grammar.proofs.Heads.{one_head, one_proof_head, plain_no_proof, plain_no_label, proof_no_label}
 use Rattle.ab_grammar.proofs.Lists.{regroup}
+use Rattle.ab_grammar.proofs.Rows.{depth_follows, depth_no_on, limit_follows, limit_no_to}
 use Rattle.ab_grammar.proofs.Sure.{Sure, Never, sure_one, sure_key, sure_nothing, sure_valued, sure_fewer, sure_joined, sure_then, sure_optional, sure_many, sure_some, sure_separated, keyed_first, never_keyed}
 
 -- What follows
@@ -57,19 +58,19 @@ instances_follow _ (follow {vs = vs} {r = r} {b = is} h f) = from_instances vs i
 
 -- Parts
 
-sure_name : (F : List Token → Type 0) → Sure Name F
+pub sure_name : (F : List Token → Type 0) → Sure Name F
 sure_name F = sure_one ShowsName F one_name
 
 sure_declared : (F : List Token → Type 0) → Sure DeclaredName F
 sure_declared F = sure_one ShowsDeclared F one_declared
 
-sure_word : (x : List ℕ) (F : List Token → Type 0) → Sure (Word x) F
+pub sure_word : (x : List ℕ) (F : List Token → Type 0) → Sure (Word x) F
 sure_word x F = sure_one (StandsAnywhere (word x)) F (one_placed (word x))
 
 sure_expression_before_stop : Sure Expression BeforeStop
 sure_expression_before_stop = sure_fewer Expression Followed BeforeStop followed_by_stop sure_expression
 
-sure_names : Sure DeclaredNames (Except comma)
+pub sure_names : Sure DeclaredNames (Except comma)
 sure_names = sure_separated comma DeclaredName Anything (Except comma) (λ r f. tt) (λ r f e. f e) (sure_declared Anything)
 
 sure_definiendum : Sure Definiendum Followed
@@ -148,6 +149,9 @@ no_nominal r f k n e p = no_nominal_at k n p (sym f ∙ e)
 no_depth_at : (k : Token) (n : ℕ) → ShowsDepth k n → Some (other stop) ≡ Some k → ⊥
 no_depth_at _ n (shows_depth m h) e = absurd (cc)
 
+no_number_at : (k : Token) (n : ℕ) → ShowsNumber k n → Some (other stop) ≡ Some k → ⊥
+no_number_at _ n (shows_number m) e = absurd (cc)
+
 to_apart : (r : List Token) → ArgumentsEnd r → Except (other to_word) r
 to_apart r (inl f) e = let bad : Some (other with_word) ≡ Some (other to_word) = sym f ∙ e in absurd (cc)
 to_apart r (inr f) e = let bad : Some (other stop) ≡ Some (other to_word) = sym f ∙ e in absurd (cc)
@@ -186,6 +190,16 @@ sure_switch u _ _ _ r s (switched_off g) (switched_on the_key) k l e = absurd (a
     apart : (v : List Spot) → Word (codes "off") v tt → other on_word ∷ s ≡ tokens_of v ++ r → ⊥
     apart _ (one (stands_at p)) q = absurd (cc)
 
+sure_depth : Sure OptionalDepth DepthEnds
+sure_depth = sure_optional 5 (Sign on_word ▸ One ShowsDepth) DepthEnds
+    (sure_then (λ (u : Unit {0}) n. n) (Sign on_word) (One ShowsDepth) DepthEnds (sure_key (other on_word) Anything) (sure_one ShowsDepth DepthEnds one_depth))
+    (never_keyed (other on_word) (One ShowsDepth) DepthEnds depth_no_on)
+
+sure_limit : Sure OptionalLimit BeforeStop
+sure_limit = sure_optional 10 (Sign to_word ▸ One ShowsLimit) BeforeStop
+    (sure_then (λ (u : Unit {0}) n. n) (Sign to_word) (One ShowsLimit) BeforeStop (sure_key (other to_word) Anything) (sure_one ShowsLimit BeforeStop one_limit))
+    (never_keyed (other to_word) (One ShowsLimit) BeforeStop limit_no_to)
+
 -- a name, a key, and a part
 sure_named : {A : Type 0} (k : Token) (H : List Spot → A → Type 0) → Sure H BeforeStop → Sure (Name ◂ Key k ▹ H) BeforeStop
 sure_named k H p = sure_then (λ x b. (x, b)) (Name ◂ Key k) H BeforeStop (sure_then (λ x u. x) Name (Key k) Anything (sure_name Anything) (sure_key k Anything)) p
@@ -206,6 +220,9 @@ sure_row head.Define u v _ _ r s (define_row {ds = ds} {cs = cs} g) (define_row 
 sure_row head.CoDefine u v _ _ r s (codefine_row {ds = ds} {cs = cs} g) (codefine_row {ds = es} {cs = fs} h) k l e = let p = sure_definition u v (ds, cs) (es, fs) r s g h k l e in (p.0, ap (λ d. tree.define false d.0 d.1) (p.1))
 sure_row head.Theorem u v _ _ r s (theorem_row {x = x} {e = t} g) (theorem_row {x = y} {e = w} h) k l e = let p = sure_named colon Expression sure_expression_before_stop u v (x, t) (y, w) r s g h k l e in (p.0, ap (λ d. tree.theorem d.0 d.1) (p.1))
 sure_row head.Specification u v _ _ r s (specification_row {x = x} g) (specification_row {x = y} h) k l e = let p = sure_one ShowsText BeforeStop one_text u v x y r s g h k l e in (p.0, ap tree.specification (p.1))
+sure_row head.Query u v _ _ r s (query_row {e = t} {n = n} {m = m} g) (query_row {e = w} {n = i} {m = j} h) k l e =
+    let p = sure_joined (λ a m. (a, m)) (Expression ▹ OptionalDepth) OptionalLimit DepthEnds BeforeStop limit_follows (sure_joined (λ t n. (t, n)) Expression OptionalDepth Followed DepthEnds depth_follows sure_expression sure_depth) sure_limit u v ((t, n), m) ((w, i), j) r s g h k l e in
+    (p.0, ap (λ d. tree.query d.0.0 d.0.1 d.1) (p.1))
 sure_row head.Show u v _ _ r s (show_row {x = x} g) (show_row {x = y} h) k l e = let p = sure_name BeforeStop u v x y r s g h k l e in (p.0, ap tree.show (p.1))
 sure_row head.Quit u v _ _ r s (quit_row g) (quit_row h) k l e = ((sure_nothing BeforeStop u v tt tt r s g h k l e).0, refl)
 sure_row head.Set u v _ _ r s (set_row {on = a} g) (set_row {on = b} h) k l e =
@@ -222,8 +239,10 @@ nothing_or_star _ _ r s nothing the_key k e = let bad : Some (other stop) ≡ So
 sure_proof_row : (h : ProofHead) → Sure (ProofRow h) BeforeStop
 sure_proof_row proof.Intros u v _ _ r s (intros_row {xs = xs} g) (intros_row {xs = ys} h) k l e =
     let p = sure_many Name BeforeStop (sure_name (Follow (Many Name) BeforeStop)) (never_shown ShowsName BeforeStop no_name) u v xs ys r s g h k l e in (p.0, ap tree.intros (p.1))
-sure_proof_row proof.Induction u v _ _ r s (induction_row {n = m} g) (induction_row {n = n} h) k l e =
-    let p = sure_then (λ (w : Unit {0}) n. n) (Sign on_word) (One ShowsNumber) BeforeStop (sure_key (other on_word) Anything) (sure_one ShowsNumber BeforeStop one_number) u v m n r s g h k l e in (p.0, ap tree.induction (p.1))
+sure_proof_row proof.Induction u v _ _ r s (induction_row {ns = ms} g) (induction_row {ns = ns} h) k l e =
+    let p = sure_then (λ (w : Unit {0}) ns. ns) (Sign on_word) (OneOrMore (One ShowsNumber)) BeforeStop (sure_key (other on_word) Anything)
+    (sure_some (One ShowsNumber) BeforeStop (sure_one ShowsNumber (Follow (Many (One ShowsNumber)) BeforeStop) one_number) (never_shown ShowsNumber BeforeStop (λ r f k n e q. no_number_at k n q (sym f ∙ e)))) u v ms ns r s g h k l e in
+    (p.0, ap tree.induction (p.1))
 sure_proof_row proof.Coinduction u v _ _ r s (coinduction_row g) (coinduction_row h) k l e = ((sure_nothing BeforeStop u v tt tt r s g h k l e).0, refl)
 sure_proof_row proof.Case u v _ _ r s (case_row {x = x} {keep = a} g) (case_row {x = y} {keep = b} h) k l e =
     let p = sure_then (λ x keep. (x, keep)) Name (Optional false Keep) BeforeStop (sure_name Anything) sure_keep u v (x, a) (y, b) r s g h k l e in (p.0, ap (λ d. tree.case d.0 d.1) (p.1))
@@ -237,6 +256,7 @@ sure_proof_row proof.Inst u v _ _ r s (inst_row {x = x} {is = a} g) (inst_row {x
 sure_proof_row proof.Monotone u v _ _ r s (monotone_row {x = x} {e = a} g) (monotone_row {x = y} {e = b} h) k l e = let p = sure_named (other with_word) Expression sure_expression_before_stop u v (x, a) (y, b) r s g h k l e in (p.0, ap (λ d. tree.monotone d.0 d.1) (p.1))
 sure_proof_row proof.Search u v _ _ r s (search_row {n = m} g) (search_row {n = n} h) k l e =
     let p = sure_optional 5 (One ShowsDepth) BeforeStop (sure_one ShowsDepth BeforeStop one_depth) (never_shown ShowsDepth BeforeStop (λ r f k n e q. no_depth_at k n q (sym f ∙ e))) u v m n r s g h k l e in (p.0, ap tree.search (p.1))
+sure_proof_row proof.Skip u v _ _ r s (skip_row g) (skip_row h) k l e = ((sure_nothing BeforeStop u v tt tt r s g h k l e).0, refl)
 sure_proof_row proof.Split u v _ _ r s (split_row g) (split_row h) k l e = ((sure_nothing BeforeStop u v tt tt r s g h k l e).0, refl)
 sure_proof_row proof.Split u v _ _ r s (split_all_row g) (split_all_row h) k l e = ((sure_key (other star) BeforeStop u v tt tt r s g h k l e).0, refl)
 sure_proof_row proof.Split u v _ _ r s (split_row g) (split_all_row h) k l e = nothing_or_star u v r s g h k e

@@ -3,15 +3,15 @@ use Rattle.std.proofs.Common.{◌≡◌, ℕ, List, [], ◌∷◌, ◌++◌, Boo
 use Rattle.ab_grammar.specs.declared.Infix.TheVariants.{Equal}
 use Rattle.ab_grammar.specs.declared.head.Head.TheVariants as head
 use Rattle.ab_grammar.specs.declared.head.ProofHead.TheVariants as proof
-use Rattle.ab_grammar.specs.Token.{Token, sign, left_paren, right_paren, comma, colon, other, semicolon, becomes, by_word, to_word, with_word, on_word, type_word}
+use Rattle.ab_grammar.specs.Token.{Token, sign, left_paren, right_paren, comma, colon, other, stop, semicolon, becomes, by_word, to_word, with_word, on_word, type_word}
 use Rattle.ab_grammar.specs.Tree.{Ty, Tree}
 use Rattle.ab_grammar.specs.Nesting.{Spot, lone}
 use Rattle.ab_grammar.specs.Language.{tokens_of, Key, the_key, Expression, TypeExpression}
-use Rattle.ab_grammar.proofs.Following.{first, Follow, follow, Anything, Followed, by_other, Comes, Except, Without, BeforeStop, ClauseEnds, ArgumentsEnd}
+use Rattle.ab_grammar.proofs.Following.{first, Follow, follow, Anything, Followed, by_other, Comes, Except, Without, BeforeStop, ClauseEnds, DepthEnds, ArgumentsEnd}
 use Rattle.ab_grammar.proofs.Reading.{ReadsOff, Cause, RefusesAt}
 use Rattle.ab_grammar.specs.CommandTrees as tree
 use Rattle.ab_grammar.specs.CommandForms.{One, Joined, joined, Valued, valued, Optional, left_out, present, no_more, OneOrMore, ◌▹◌, ◌▸◌, ◌◂◌}
-use Rattle.ab_grammar.specs.CommandTable.{Row, ProofRow, Name, DeclaredName, DeclaredNames, Word, Sign, Definiendum, defined_of, Definienda, ClauseBody, ClauseForm, clause_of, Clauses, Definition, InstanceForm, instance_of, InstanceList, Instances, Arguments, Keep, Nominals, OptionalName, Switch, switched_on, ShowsNumber, ShowsNominal, kind_row, typed_row, theorem_row, set_row, induction_row, case_row, apply_row, backchain_row, inst_row, cut_row, rename_row, monotone_row, permute_row, shows_nominal}
+use Rattle.ab_grammar.specs.CommandTable.{Row, ProofRow, Name, DeclaredName, DeclaredNames, Word, Sign, Definiendum, defined_of, Definienda, ClauseBody, ClauseForm, clause_of, Clauses, Definition, InstanceForm, instance_of, InstanceList, Instances, Arguments, Keep, Nominals, OptionalName, OptionalDepth, OptionalLimit, Numbers, Switch, switched_on, ShowsNominal, ShowsDepth, ShowsLimit, kind_row, typed_row, theorem_row, query_row, set_row, induction_row, case_row, apply_row, backchain_row, inst_row, cut_row, rename_row, monotone_row, permute_row, shows_nominal}
 use Rattle.ab_grammar.proofs.Lists.{regroup}
 use Rattle.ab_grammar.proofs.Joining.{Example}
 use Rattle.ab_grammar.proofs.Choosing.{key_begins, key_example}
@@ -34,11 +34,11 @@ two_parts j g G E H R F less x to back = record {
 }
 
 -- anything may follow the first part
-any : {B : Type 0} (H : List Spot → B → Type 0) (F : List Token → Type 0) (r : List Token) → Follow H F r → Unit {0}
+pub any : {B : Type 0} (H : List Spot → B → Type 0) (F : List Token → Type 0) (r : List Token) → Follow H F r → Unit {0}
 any H F r f = tt
 
 -- what is joined is the whole
-same : {D : Type 0} (G : List Spot → D → Type 0) (w : List Spot) (d : D) → G w d → (e : D) × G w e × (e ≡ d)
+pub same : {D : Type 0} (G : List Spot → D → Type 0) (w : List Spot) (d : D) → G w d → (e : D) × G w e × (e ≡ d)
 same G w d g = (d, g, refl)
 
 -- w and a key
@@ -48,7 +48,7 @@ name_and k = two_parts (λ x (u : Unit {0}). x) (λ x. x) Name Anything (Key k) 
 pub declared_and : (k : Token) → TwoParts DeclaredName Anything (Key k) (DeclaredName ◂ Key k) Anything (λ x u. x)
 declared_and k = two_parts (λ x (u : Unit {0}). x) (λ x. x) DeclaredName Anything (Key k) (DeclaredName ◂ Key k) Anything (any (Key k) Anything) (key_example k) (λ w d g. g) (same (DeclaredName ◂ Key k))
 
-valued_back : {A B : Type 0} (f : A → B) (G : List Spot → A → Type 0) (w : List Spot) (b : B) → Valued f G w b → (a : A) × G w a × (f a ≡ b)
+pub valued_back : {A B : Type 0} (f : A → B) (G : List Spot → A → Type 0) (w : List Spot) (b : B) → Valued f G w b → (a : A) × G w a × (f a ≡ b)
 valued_back f G _ _ (valued {a = a} g) = (a, g, refl)
 
 pub definiendum : TwoParts (DeclaredName ◂ Key colon) Anything TypeExpression Definiendum Followed (λ x A. record { name = x; type_of = A })
@@ -64,6 +64,9 @@ left_out_example d G = record { spots = []; value = d; text = left_out }
 
 switch_example : Example Switch
 switch_example = record { spots = lone (other on_word) ∷ []; value = true; text = switched_on the_key }
+
+pub numbers_example : Example Numbers
+numbers_example = record { spots = number_example.spots ++ []; value = number_example.value ∷ []; text = joined (number_example.text) no_more }
 
 nominals_example : Example (OneOrMore (One ShowsNominal))
 nominals_example = record { spots = nominal_example.spots ++ []; value = nominal_example.value ∷ []; text = joined (nominal_example.text) no_more }
@@ -84,10 +87,10 @@ key_in_front k F _ (follow {vs = vs} {r = r} {b = u} h f) = key_begins k vs u r 
 key_follows : (r : List Token) → Follow (Sign by_word) Anything r → Comes (other by_word) r
 key_follows r f = key_in_front (other by_word) Anything r f
 
-names_then_type_word : (r : List Token) → Follow (Sign type_word) BeforeStop r → Except comma r
+pub names_then_type_word : (r : List Token) → Follow (Sign type_word) BeforeStop r → Except comma r
 names_then_type_word r f e = let h = key_in_front (other type_word) BeforeStop r f in absurd (cc)
 
-names_then_type : (r : List Token) → Follow TypeExpression BeforeStop r → Except comma r
+pub names_then_type : (r : List Token) → Follow TypeExpression BeforeStop r → Except comma r
 names_then_type _ (follow {vs = vs} {r = r} {b = A} h f) e = begins_no_comma _ (type_begins vs A r h) e
 
 no_nominal : (k : Token) (n : ℕ) → ShowsNominal k n → Some k ≡ Some right_paren → ⊥
@@ -116,6 +119,42 @@ body_in_front _ _ r (present (valued {us = us} {a = e} g)) f = followed_by _ (ot
 
 body_follows : (r : List Token) → Follow ClauseBody ClauseEnds r → Followed r
 body_follows _ (follow {vs = vs} {r = r} {b = b} h f) = body_in_front vs b r h f
+
+limit_in_front : (w : List Spot) (n : ℕ) (r : List Token) → OptionalLimit w n → BeforeStop r → DepthEnds (tokens_of w ++ r)
+limit_in_front _ _ r left_out f = inr f
+limit_in_front w n r (present g) f = inl (keyed_in_front (other to_word) (One ShowsLimit) w n r g)
+
+pub limit_follows : (r : List Token) → Follow OptionalLimit BeforeStop r → DepthEnds r
+limit_follows _ (follow {vs = vs} {r = r} {b = n} h f) = limit_in_front vs n r h f
+
+depth_end_follows : (r : List Token) → DepthEnds r → Followed r
+depth_end_follows r (inl e) = followed_by r (other to_word) e (by_other to_word)
+depth_end_follows r (inr e) = followed_by_stop r e
+
+depth_in_front : (w : List Spot) (n : ℕ) (r : List Token) → OptionalDepth w n → DepthEnds r → Followed (tokens_of w ++ r)
+depth_in_front _ _ r left_out f = depth_end_follows r f
+depth_in_front w n r (present g) f = followed_by _ (other on_word) (keyed_in_front (other on_word) (One ShowsDepth) w n r g) (by_other on_word)
+
+pub depth_follows : (r : List Token) → Follow OptionalDepth DepthEnds r → Followed r
+depth_follows _ (follow {vs = vs} {r = r} {b = n} h f) = depth_in_front vs n r h f
+
+-- a depth isn't followed by `on`, and a limit not by `to`
+pub depth_no_on : (r : List Token) → DepthEnds r → Except (other on_word) r
+depth_no_on r (inl f) e = let bad : Some (other to_word) ≡ Some (other on_word) = sym f ∙ e in absurd (cc)
+depth_no_on r (inr f) e = let bad : Some (other stop) ≡ Some (other on_word) = sym f ∙ e in absurd (cc)
+
+pub limit_no_to : (r : List Token) → BeforeStop r → Except (other to_word) r
+limit_no_to r f e = let bad : Some (other stop) ≡ Some (other to_word) = sym f ∙ e in absurd (cc)
+
+-- a goal, how deep it is searched, and how many answers are told
+pub query_depth : TwoParts Expression Followed OptionalDepth (Expression ▹ OptionalDepth) DepthEnds (λ e n. (e, n))
+query_depth = two_parts (λ e n. (e, n)) (λ d. d) Expression Followed OptionalDepth (Expression ▹ OptionalDepth) DepthEnds depth_follows (left_out_example 5 (Sign on_word ▸ One ShowsDepth)) (λ w d g. g) (same (Expression ▹ OptionalDepth))
+
+query_back : (w : List Spot) (c : tree.Command) → Row head.Query w c → (d : (Tree × ℕ) × ℕ) × (Expression ▹ OptionalDepth ▹ OptionalLimit) w d × (tree.query d.0.0 d.0.1 d.1 ≡ c)
+query_back _ _ (query_row {e = e} {n = n} {m = m} h) = (((e, n), m), h, refl)
+
+pub query : TwoParts (Expression ▹ OptionalDepth) DepthEnds OptionalLimit (Row head.Query) BeforeStop (λ a m. tree.query a.0 a.1 m)
+query = two_parts (λ a m. (a, m)) (λ d. tree.query d.0.0 d.0.1 d.1) (Expression ▹ OptionalDepth) DepthEnds OptionalLimit (Row head.Query) BeforeStop limit_follows (left_out_example 10 (Sign to_word ▸ One ShowsLimit)) (λ w d g. query_row g) query_back
 
 -- a clause: its head, then its body
 pub clause_form : TwoParts Expression Followed ClauseBody ClauseForm ClauseEnds (λ e b. clause_of (e, b))
@@ -167,11 +206,11 @@ set_back _ _ (set_row {on = on} h) = (on, h, refl)
 pub set : TwoParts (Word (codes "subgoals")) Anything Switch (Row head.Set) BeforeStop (λ u on. tree.subgoals on)
 set = two_parts (λ (u : Unit {0}) on. on) (λ on. tree.subgoals on) (Word (codes "subgoals")) Anything Switch (Row head.Set) BeforeStop (any Switch BeforeStop) switch_example (λ w d g. set_row g) set_back
 
-induction_back : (w : List Spot) (c : tree.ProofCommand) → ProofRow proof.Induction w c → (d : ℕ) × (Sign on_word ▸ One ShowsNumber) w d × (tree.induction d ≡ c)
-induction_back _ _ (induction_row {n = n} h) = (n, h, refl)
+induction_back : (w : List Spot) (c : tree.ProofCommand) → ProofRow proof.Induction w c → (d : List ℕ) × (Sign on_word ▸ Numbers) w d × (tree.induction d ≡ c)
+induction_back _ _ (induction_row {ns = ns} h) = (ns, h, refl)
 
-pub induction : TwoParts (Sign on_word) Anything (One ShowsNumber) (ProofRow proof.Induction) BeforeStop (λ u n. tree.induction n)
-induction = two_parts (λ (u : Unit {0}) n. n) (λ n. tree.induction n) (Sign on_word) Anything (One ShowsNumber) (ProofRow proof.Induction) BeforeStop (any (One ShowsNumber) BeforeStop) number_example (λ w d g. induction_row g) induction_back
+pub induction : TwoParts (Sign on_word) Anything Numbers (ProofRow proof.Induction) BeforeStop (λ u ns. tree.induction ns)
+induction = two_parts (λ (u : Unit {0}) ns. ns) (λ ns. tree.induction ns) (Sign on_word) Anything Numbers (ProofRow proof.Induction) BeforeStop (any Numbers BeforeStop) numbers_example (λ w d g. induction_row g) induction_back
 
 case_back : (w : List Spot) (c : tree.ProofCommand) → ProofRow proof.Case w c → (d : List ℕ × Bool) × (Name ▹ Optional false Keep) w d × (tree.case d.0 d.1 ≡ c)
 case_back _ _ (case_row {x = x} {keep = k} h) = ((x, k), h, refl)

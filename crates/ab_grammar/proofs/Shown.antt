@@ -6,7 +6,7 @@ use Rattle.ab_grammar.specs.Token.{Token, word, other, number, text}
 use Rattle.ab_grammar.specs.Nesting.{lone}
 use Rattle.ab_grammar.specs.CommandTrees.{Argument, named, hole}
 use Rattle.ab_grammar.specs.CommandForms.{One, one}
-use Rattle.ab_grammar.specs.CommandTable.{IsNominal, IsDeclarable, ShowsName, shows_name, ShowsDeclared, shows_declared, ShowsNominal, shows_nominal, ShowsArgument, shows_named, shows_hole, ShowsNumber, shows_number, ShowsDepth, shows_depth, ShowsText, shows_text, StandsAnywhere, stands_at, ShowsLabel, shows_label}
+use Rattle.ab_grammar.specs.CommandTable.{IsNominal, IsDeclarable, ShowsName, shows_name, ShowsDeclared, shows_declared, ShowsNominal, shows_nominal, ShowsArgument, shows_named, shows_hole, ShowsNumber, shows_number, ShowsDepth, shows_depth, ShowsLimit, shows_limit, ShowsText, shows_text, StandsAnywhere, stands_at, ShowsLabel, shows_label}
 use Rattle.ab_grammar.proofs.Joining.{Example}
 
 -- a token shows at most one value
@@ -82,6 +82,15 @@ one_depth _ _ b (shows_depth n h) t = depth_in n b t
 
 pub depth_example : Example (One ShowsDepth)
 depth_example = shown_example ShowsDepth (other (number 1)) 1 (shows_depth 1 (lit≤ tt))
+
+limit_in : (n b : ℕ) → ShowsLimit (other (number n)) b → b ≡ n
+limit_in n _ (shows_limit m l h) = refl
+
+pub one_limit : ShowsOne ShowsLimit
+one_limit _ _ b (shows_limit n l h) t = limit_in n b t
+
+pub limit_example : Example (One ShowsLimit)
+limit_example = shown_example ShowsLimit (other (number 1)) 1 (shows_limit 1 (lit≤ tt) (lit≤ tt))
 
 text_in : (x b : List ℕ) → ShowsText (other (text x)) b → b ≡ x
 text_in x _ (shows_text y) = refl

@@ -9,7 +9,7 @@ use Rattle.ab_grammar.specs.Nesting.{Spot}
 use Rattle.ab_grammar.specs.Language.{tokens_of, the_key, Accepted}
 use Rattle.ab_grammar.specs.CommandTrees as tree
 use Rattle.ab_grammar.specs.CommandForms.{One, one, joined, ◌▸◌}
-use Rattle.ab_grammar.specs.CommandTable.{Row, kind_row, typed_row, define_row, codefine_row, theorem_row, specification_row, show_row, quit_row, set_row, back_row, reset_row, undo_row, abort_row, ProofRow, Opens, OpensProof, CommandForm, plain, unlabelled, labelled, CommandText, stand_of, standing, StandsAt, by_head, by_proof_head, by_label}
+use Rattle.ab_grammar.specs.CommandTable.{Row, kind_row, typed_row, define_row, codefine_row, theorem_row, specification_row, query_row, show_row, quit_row, set_row, back_row, reset_row, undo_row, abort_row, ProofRow, Opens, OpensProof, CommandForm, plain, unlabelled, labelled, CommandText, stand_of, standing, StandsAt, by_head, by_proof_head, by_label}
 use Rattle.ab_grammar.proofs.Lists.{tokens_of-append}
 use Rattle.ab_grammar.proofs.Heads.{one_head, plain_no_proof, plain_no_label, Labelled}
 
@@ -35,6 +35,7 @@ row_stand _ us _ (define_row g) = refl
 row_stand _ us _ (codefine_row g) = refl
 row_stand _ us _ (theorem_row g) = refl
 row_stand _ us _ (specification_row g) = refl
+row_stand _ us _ (query_row g) = refl
 row_stand _ us _ (show_row g) = refl
 row_stand _ us _ (quit_row g) = refl
 row_stand _ us _ (set_row g) = refl

@@ -1,5 +1,5 @@
 -- A command, from its first token to its full stop.
-use Rattle.std.proofs.Common.{◌≡◌, ℕ, List, ◌∷◌, Some, None, IsTrue, refl, sym, ◌∙◌, codes}
+use Rattle.std.proofs.Common.{◌≡◌, ℕ, List, ◌∷◌, Some, None, IsTrue, refl, sym, ◌∙◌}
 use Rattle.ab_grammar.specs.declared.head.Head.{Head}
 use Rattle.ab_grammar.specs.declared.head.ProofHead.{ProofHead}
 use Rattle.ab_grammar.specs.Token.{Token, word, other, stop, colon}
@@ -8,7 +8,7 @@ use Rattle.ab_grammar.proofs.Following.{Follow, Anything, Followed, BeforeStop}
 use Rattle.ab_grammar.proofs.Reading.{ReadsOff, Cause, RefusesAt}
 use Rattle.ab_grammar.specs.CommandTrees as tree
 use Rattle.ab_grammar.specs.CommandForms.{One, ◌▸◌, ◌◂◌}
-use Rattle.ab_grammar.specs.CommandTable.{Row, ProofRow, Sign, listed, command_words, proof_words, Opens, opens, OpensProof, opens_proof, takes_label, BeginsCommand, begins_plain, begins_proof, begins_query, ShowsLabel, shows_label, LabelledForm, CommandForm, CommandText}
+use Rattle.ab_grammar.specs.CommandTable.{Row, ProofRow, Sign, listed, command_words, proof_words, Opens, opens, OpensProof, opens_proof, takes_label, BeginsCommand, begins_plain, begins_proof, ShowsLabel, shows_label, LabelledForm, CommandForm, CommandText}
 use Rattle.ab_grammar.proofs.Choosing.{one_reads, key_example}
 use Rattle.ab_grammar.proofs.Continuing.{Continues, onwards, behind}
 use Rattle.ab_grammar.proofs.Shown.{one_label}
@@ -54,16 +54,15 @@ whole_command = two_parts (λ c (u : Unit {0}). c) (λ c. c) CommandForm BeforeS
 
 -- Labels
 
-label_word : (x : List ℕ) (p : ℕ) → listed command_words x ≡ None → listed proof_words x ≡ None → (x ≡ codes "Query" → ⊥) → BeginsCommand (word x p) → ⊥
-label_word x p a b n (begins_plain h o) = no_plain h o
+label_word : (x : List ℕ) (p : ℕ) → listed command_words x ≡ None → listed proof_words x ≡ None → BeginsCommand (word x p) → ⊥
+label_word x p a b (begins_plain h o) = no_plain h o
   where
     no_plain : (h : Head) → Opens h (word x p) tt → ⊥
     no_plain h (opens y q e) = let bad : None ≡ Some h = sym a ∙ e in absurd (cc)
-label_word x p a b n (begins_proof h o) = no_proof h o
+label_word x p a b (begins_proof h o) = no_proof h o
   where
     no_proof : (h : ProofHead) → OpensProof h (word x p) tt → ⊥
     no_proof h (opens_proof y q e) = let bad : None ≡ Some h = sym b ∙ e in absurd (cc)
-label_word _ p a b n (begins_query q) = n refl
 
-pub is_label : (x : List ℕ) (p : ℕ) → listed command_words x ≡ None → listed proof_words x ≡ None → (x ≡ codes "Query" → ⊥) → ShowsLabel (word x p) x
-is_label x p a b n = shows_label x p (label_word x p a b n)
+pub is_label : (x : List ℕ) (p : ℕ) → listed command_words x ≡ None → listed proof_words x ≡ None → ShowsLabel (word x p) x
+is_label x p a b = shows_label x p (label_word x p a b)

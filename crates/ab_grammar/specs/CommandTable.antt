@@ -53,6 +53,10 @@ pub data ShowsNumber : Token → ℕ → Type 0 where
 pub data ShowsDepth : Token → ℕ → Type 0 where
   shows_depth : (n : ℕ) → n ≤ 1000 → ShowsDepth (other (number n)) n
 
+-- `Query` tells from 1 to 1,000 answers
+pub data ShowsLimit : Token → ℕ → Type 0 where
+  shows_limit : (n : ℕ) → 1 ≤ n → n ≤ 1000 → ShowsLimit (other (number n)) n
+
 pub data ShowsText : Token → List ℕ → Type 0 where
   shows_text : (t : List ℕ) → ShowsText (other (text t)) t
 
@@ -140,6 +144,18 @@ Nominals = Key left_paren ▸ OneOrMore (One ShowsNominal) ◂ Key right_paren
 abbrev pub OptionalName : Form (Option (List ℕ))
 OptionalName = Optional None (Valued Some Name)
 
+-- on n
+abbrev pub OptionalDepth : Form ℕ
+OptionalDepth = Optional 5 (Sign on_word ▸ One ShowsDepth)
+
+-- to m
+abbrev pub OptionalLimit : Form ℕ
+OptionalLimit = Optional 10 (Sign to_word ▸ One ShowsLimit)
+
+-- n .. n
+abbrev pub Numbers : Form (List ℕ)
+Numbers = OneOrMore (One ShowsNumber)
+
 -- on, off
 pub data Switch : List Spot → Bool → Type 0 where
   switched_on : {us : List Spot} → Sign on_word us tt → Switch us true
@@ -151,14 +167,14 @@ pub data Switch : List Spot → Bool → Type 0 where
 abbrev pub command_words : List (List ℕ × Head)
 command_words =
     (codes "Kind", head.Kind) ∷ (codes "Type", head.Typed) ∷ (codes "Define", head.Define) ∷ (codes "CoDefine", head.CoDefine)
-    ∷ (codes "Theorem", head.Theorem) ∷ (codes "Specification", head.Specification) ∷ (codes "Show", head.Show) ∷ (codes "Quit", head.Quit)
+    ∷ (codes "Theorem", head.Theorem) ∷ (codes "Specification", head.Specification) ∷ (codes "Query", head.Query) ∷ (codes "Show", head.Show) ∷ (codes "Quit", head.Quit)
     ∷ (codes "Set", head.Set) ∷ (codes "undo", head.Undo) ∷ (codes "abort", head.Abort) ∷ []
 
 abbrev pub proof_words : List (List ℕ × ProofHead)
 proof_words =
     (codes "intros", proof.Intros) ∷ (codes "induction", proof.Induction) ∷ (codes "coinduction", proof.Coinduction) ∷ (codes "case", proof.Case)
     ∷ (codes "apply", proof.Apply) ∷ (codes "backchain", proof.Backchain) ∷ (codes "cut", proof.Cut) ∷ (codes "inst", proof.Inst)
-    ∷ (codes "monotone", proof.Monotone) ∷ (codes "search", proof.Search) ∷ (codes "split", proof.Split) ∷ (codes "left", proof.Left)
+    ∷ (codes "monotone", proof.Monotone) ∷ (codes "search", proof.Search) ∷ (codes "skip", proof.Skip) ∷ (codes "split", proof.Split) ∷ (codes "left", proof.Left)
     ∷ (codes "right", proof.Right) ∷ (codes "witness", proof.Witness) ∷ (codes "unfold", proof.Unfold) ∷ (codes "assert", proof.Assert)
     ∷ (codes "clear", proof.Clear) ∷ (codes "rename", proof.Rename) ∷ (codes "permute", proof.Permute) ∷ []
 
@@ -190,6 +206,7 @@ takes_label proof.Assert = true
 takes_label proof.Intros = false
 takes_label proof.Backchain = false
 takes_label proof.Search = false
+takes_label proof.Skip = false
 takes_label proof.Split = false
 takes_label proof.Left = false
 takes_label proof.Right = false
@@ -208,6 +225,7 @@ pub data Row : Head → List Spot → Command → Type 0 where
   codefine_row : {us : List Spot} {ds : List Defined} {cs : List Clause} → Definition us (ds, cs) → Row head.CoDefine us (tree.define false ds cs)
   theorem_row : {us : List Spot} {x : List ℕ} {e : Tree} → (Name ◂ Key colon ▹ Expression) us (x, e) → Row head.Theorem us (tree.theorem x e)
   specification_row : {us : List Spot} {x : List ℕ} → One ShowsText us x → Row head.Specification us (tree.specification x)
+  query_row : {us : List Spot} {e : Tree} {n m : ℕ} → (Expression ▹ OptionalDepth ▹ OptionalLimit) us ((e, n), m) → Row head.Query us (tree.query e n m)
   show_row : {us : List Spot} {x : List ℕ} → Name us x → Row head.Show us (tree.show x)
   quit_row : {us : List Spot} → Nothing us tt → Row head.Quit us tree.quit
   set_row : {us : List Spot} {on : Bool} → (Word (codes "subgoals") ▸ Switch) us on → Row head.Set us (subgoals on)
@@ -219,7 +237,7 @@ pub data Row : Head → List Spot → Command → Type 0 where
 -- the same for a proof command
 pub data ProofRow : ProofHead → List Spot → ProofCommand → Type 0 where
   intros_row : {us : List Spot} {xs : List (List ℕ)} → Many Name us xs → ProofRow proof.Intros us (tree.intros xs)
-  induction_row : {us : List Spot} {n : ℕ} → (Sign on_word ▸ One ShowsNumber) us n → ProofRow proof.Induction us (tree.induction n)
+  induction_row : {us : List Spot} {ns : List ℕ} → (Sign on_word ▸ Numbers) us ns → ProofRow proof.Induction us (tree.induction ns)
   coinduction_row : {us : List Spot} → Nothing us tt → ProofRow proof.Coinduction us tree.coinduction
   case_row : {us : List Spot} {x : List ℕ} {keep : Bool} → (Name ▹ Optional false Keep) us (x, keep) → ProofRow proof.Case us (tree.case x keep)
   apply_row : {us : List Spot} {x : List ℕ} {vs : List Argument} {is : List Instance} → (Name ▹ Optional [] Arguments ▹ Optional [] Instances) us ((x, vs), is) → ProofRow proof.Apply us (tree.apply x vs is)
@@ -228,6 +246,7 @@ pub data ProofRow : ProofHead → List Spot → ProofCommand → Type 0 where
   inst_row : {us : List Spot} {x : List ℕ} {is : List Instance} → (Name ◂ Sign with_word ▹ InstanceList) us (x, is) → ProofRow proof.Inst us (tree.inst x is)
   monotone_row : {us : List Spot} {x : List ℕ} {e : Tree} → (Name ◂ Sign with_word ▹ Expression) us (x, e) → ProofRow proof.Monotone us (tree.monotone x e)
   search_row : {us : List Spot} {n : ℕ} → Optional 5 (One ShowsDepth) us n → ProofRow proof.Search us (tree.search n)
+  skip_row : {us : List Spot} → Nothing us tt → ProofRow proof.Skip us tree.skip
   split_row : {us : List Spot} → Nothing us tt → ProofRow proof.Split us tree.split
   split_all_row : {us : List Spot} → Sign star us tt → ProofRow proof.Split us split_all
   left_row : {us : List Spot} → Nothing us tt → ProofRow proof.Left us tree.left
@@ -240,11 +259,10 @@ pub data ProofRow : ProofHead → List Spot → ProofCommand → Type 0 where
   rename_row : {us : List Spot} {x y : List ℕ} → (Name ◂ Sign to_word ▹ Name) us (x, y) → ProofRow proof.Rename us (tree.rename x y)
   permute_row : {us : List Spot} {ns : List ℕ} {x : Option (List ℕ)} → (Nominals ▹ OptionalName) us (ns, x) → ProofRow proof.Permute us (tree.permute ns x)
 
--- a token with which a command begins. `Query` begins one that isn't built yet
+-- a token with which a command begins
 pub data BeginsCommand : Token → Type 0 where
   begins_plain : {k : Token} → (h : Head) → Opens h k tt → BeginsCommand k
   begins_proof : {k : Token} → (h : ProofHead) → OpensProof h k tt → BeginsCommand k
-  begins_query : (p : ℕ) → BeginsCommand (word (codes "Query") p)
 
 -- a label is a word with which no command begins
 pub data ShowsLabel : Token → List ℕ → Type 0 where
@@ -272,6 +290,7 @@ stand_of head.Define = Outside
 stand_of head.CoDefine = Outside
 stand_of head.Theorem = Outside
 stand_of head.Specification = Outside
+stand_of head.Query = Anywhere
 stand_of head.Show = Anywhere
 stand_of head.Quit = Anywhere
 stand_of head.Set = Anywhere
@@ -286,6 +305,7 @@ standing (constants xs A) = Outside
 standing (tree.define inductive ds cs) = Outside
 standing (tree.theorem x e) = Outside
 standing (tree.specification x) = Outside
+standing (tree.query e n m) = Anywhere
 standing (tree.show x) = Anywhere
 standing tree.quit = Anywhere
 standing (subgoals on) = Anywhere

@@ -25,7 +25,8 @@ pub data Argument : Type 0 where
 
 pub data ProofCommand : Type 0 where
   intros : List (List ℕ) → ProofCommand
-  induction : ℕ → ProofCommand
+  -- the places of the antecedents that get a size, one for each part of the conclusion
+  induction : List ℕ → ProofCommand
   coinduction : ProofCommand
   -- whether the hypothesis is kept
   case : List ℕ → Bool → ProofCommand
@@ -35,6 +36,7 @@ pub data ProofCommand : Type 0 where
   inst : List ℕ → List Instance → ProofCommand
   monotone : List ℕ → Tree → ProofCommand
   search : ℕ → ProofCommand
+  skip : ProofCommand
   split : ProofCommand
   split_all : ProofCommand
   left : ProofCommand
@@ -53,6 +55,8 @@ pub data Command : Type 0 where
   define : Bool → List Defined → List Clause → Command
   theorem : List ℕ → Tree → Command
   specification : List ℕ → Command
+  -- how deep is searched, and how many answers are told at most
+  query : Tree → ℕ → ℕ → Command
   show : List ℕ → Command
   quit : Command
   subgoals : Bool → Command

@@ -7,3 +7,6 @@ pub mod Language
 pub mod CommandTrees
 pub mod CommandForms
 pub mod CommandTable
+pub mod FileTrees
+pub mod FileTable
+pub mod FileTokens

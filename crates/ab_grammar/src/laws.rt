@@ -7,6 +7,9 @@ ghost use Rattle.ab_grammar.specs.Language.{Expression, TypeExpression, Accepted
 ghost use Rattle.ab_grammar.specs.CommandTrees as commands;
 ghost use Rattle.ab_grammar.specs.CommandTable.{CommandText, standing, StandsAt};
 ghost use Rattle.ab_grammar.specs.declared.head.Stand.{Stand};
+ghost use Rattle.ab_grammar.specs.declared.file.FileKind.{FileKind};
+ghost use Rattle.ab_grammar.specs.FileTrees.{Item};
+ghost use Rattle.ab_grammar.specs.FileTable.{TitleText, ItemText};
 ghost use Rattle.ab_grammar.specs.Parentheses.{without_parentheses};
 
 /// A list of tokens is a text of at most one expression.
@@ -60,4 +63,32 @@ pub fn one_answer_for_a_command()
     ensures syntax_or_nested { (ts : List Token) (i j : ℕ) → SyntaxAt CommandText ts i → TooNestedAt CommandText ts j → ⊥ }
     ensures one_syntax { (ts : List Token) (i j : ℕ) → SyntaxAt CommandText ts i → SyntaxAt CommandText ts j → i ≡ j }
     ensures one_nested { (ts : List Token) (i j : ℕ) → TooNestedAt CommandText ts i → TooNestedAt CommandText ts j → i ≡ j }
+{}
+
+/// A list of tokens is the text of at most one title of a specification file.
+pub fn one_title()
+    ensures { (f : FileKind) (ts : List Token) (x y : List ℕ) → Accepted (TitleText f) ts x → Accepted (TitleText f) ts y → x ≡ y }
+{}
+
+/// A list of tokens is the text of at most one item of a specification file.
+pub fn one_item()
+    ensures { (f : FileKind) (ts : List Token) (i j : Item) → Accepted (ItemText f) ts i → Accepted (ItemText f) ts j → i ≡ j }
+{}
+
+/// Tokens are the text of a title, or refused at one token for its form, or refused at one for its depth: one of these alone.
+pub fn one_answer_for_a_title()
+    ensures text_or_syntax { (f : FileKind) (ts : List Token) (a : List ℕ) (i : ℕ) → Accepted (TitleText f) ts a → SyntaxAt (TitleText f) ts i → ⊥ }
+    ensures text_or_nested { (f : FileKind) (ts : List Token) (a : List ℕ) (i : ℕ) → Accepted (TitleText f) ts a → TooNestedAt (TitleText f) ts i → ⊥ }
+    ensures syntax_or_nested { (f : FileKind) (ts : List Token) (i j : ℕ) → SyntaxAt (TitleText f) ts i → TooNestedAt (TitleText f) ts j → ⊥ }
+    ensures one_syntax { (f : FileKind) (ts : List Token) (i j : ℕ) → SyntaxAt (TitleText f) ts i → SyntaxAt (TitleText f) ts j → i ≡ j }
+    ensures one_nested { (f : FileKind) (ts : List Token) (i j : ℕ) → TooNestedAt (TitleText f) ts i → TooNestedAt (TitleText f) ts j → i ≡ j }
+{}
+
+/// Tokens are the text of an item, or refused at one token for its form, or refused at one for its depth: one of these alone.
+pub fn one_answer_for_an_item()
+    ensures text_or_syntax { (f : FileKind) (ts : List Token) (a : Item) (i : ℕ) → Accepted (ItemText f) ts a → SyntaxAt (ItemText f) ts i → ⊥ }
+    ensures text_or_nested { (f : FileKind) (ts : List Token) (a : Item) (i : ℕ) → Accepted (ItemText f) ts a → TooNestedAt (ItemText f) ts i → ⊥ }
+    ensures syntax_or_nested { (f : FileKind) (ts : List Token) (i j : ℕ) → SyntaxAt (ItemText f) ts i → TooNestedAt (ItemText f) ts j → ⊥ }
+    ensures one_syntax { (f : FileKind) (ts : List Token) (i j : ℕ) → SyntaxAt (ItemText f) ts i → SyntaxAt (ItemText f) ts j → i ≡ j }
+    ensures one_nested { (f : FileKind) (ts : List Token) (i j : ℕ) → TooNestedAt (ItemText f) ts i → TooNestedAt (ItemText f) ts j → i ≡ j }
 {}

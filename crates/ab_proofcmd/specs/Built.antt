@@ -1,5 +1,5 @@
 -- The proof commands that are built.
-use Rattle.std.specs.Prelude.{All}
+use Rattle.std.specs.Prelude.{◌≡◌, All, length}
 use Rattle.ab_grammar.specs.CommandTrees.{ProofCommand, Instance, intros, induction, coinduction, case, apply, backchain, split, split_all, left, right, unfold_goal, exists, assert, clear, rename, permute}
 use Rattle.ab_applying.specs.ab_elaborate.specs.Judgements.{HasNoJudgement}
 
@@ -8,7 +8,7 @@ InstanceHasNoJudgement i = HasNoJudgement i.term
 
 abbrev pub IsBuilt : ProofCommand → Type 0
 IsBuilt (intros xs) = Unit {0}
-IsBuilt (induction n) = Unit {0}
+IsBuilt (induction ns) = length ns ≡ 1
 IsBuilt coinduction = Unit {0}
 IsBuilt (case H keep) = Unit {0}
 IsBuilt (apply H vs is) = All InstanceHasNoJudgement is

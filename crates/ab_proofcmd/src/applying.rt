@@ -32,7 +32,6 @@ pub fn is_built(command: &ProofCommand) -> bool
 {
     match command {
         ProofCommand::Intros(_)
-        | ProofCommand::Induction(_)
         | ProofCommand::Coinduction
         | ProofCommand::Case(_, _)
         | ProofCommand::Split
@@ -43,6 +42,7 @@ pub fn is_built(command: &ProofCommand) -> bool
         | ProofCommand::Clear(_)
         | ProofCommand::Rename(_, _)
         | ProofCommand::Permute(_, _) => true,
+        ProofCommand::Induction(places) => places.as_slice().len() == 1,
         ProofCommand::Exists(term) => !holds_judgement(term),
         ProofCommand::Assert(formula) => !holds_judgement(formula),
         ProofCommand::Apply(_, _, given) | ProofCommand::Backchain(_, given) => {
@@ -51,7 +51,8 @@ pub fn is_built(command: &ProofCommand) -> bool
         ProofCommand::Cut(_, _)
         | ProofCommand::Inst(_, _)
         | ProofCommand::Monotone(_, _)
-        | ProofCommand::Search(_) => false,
+        | ProofCommand::Search(_)
+        | ProofCommand::Skip => false,
     }
 }
 
@@ -88,7 +89,9 @@ pub fn apply_proof_command<L>(
     let wanted = label_wanted(alloc, label)?;
     match command {
         ProofCommand::Intros(names) => intros(alloc, world, proof, names.as_slice(), steps),
-        ProofCommand::Induction(place) => induction(alloc, world, proof, &wanted, *place, steps),
+        ProofCommand::Induction(places) => {
+            induction(alloc, world, proof, &wanted, places.as_slice()[0], steps)
+        }
         ProofCommand::Coinduction => coinduction(alloc, world, proof, &wanted, steps),
         ProofCommand::Case(name, keep) => case(alloc, world, proof, &wanted, name, *keep, steps),
         ProofCommand::Split => split(world, proof, steps),

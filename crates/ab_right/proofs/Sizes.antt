@@ -88,12 +88,12 @@ module _ (D : Declarations) (l : Label) (s : Sequent) where
     pub induction_sure : (cells : List (Cell (List ℕ))) (name : List ℕ) → MayGetSize l s (codes "IH") (inductive_at D n s.conclusion) name → (i : ℕ) → Fails D cells (step.induction n (given name)) s i → ⊥
     induction_sure cells name may i f = never_fails s (codes "IH") (inductive_at D n s.conclusion) name l may induced i f
 
-    pub induction_leads : (name : List ℕ) → MayGetSize l s (codes "IH") (inductive_at D n s.conclusion) name → (ps : List Sequent) → NamedRule D (step.induction n (given name)) s ps → Leads (effect D l (told.induction n) s) ps
+    pub induction_leads : (name : List ℕ) → MayGetSize l s (codes "IH") (inductive_at D n s.conclusion) name → (ps : List Sequent) → NamedRule D (step.induction n (given name)) s ps → Leads (effect D l (told.induction (n ∷ [])) s) ps
     induction_leads name may ps by_rule =
         let atom = inductive_at D n s.conclusion in
         leads_so s (codes "IH") atom name l (λ x. induced x s) may ps (takes_so s (codes "IH") atom name l may induced ps by_rule.2)
 
-    pub induction_refused : (fault : ProofCommandFault) → GetsNoSize l s (inductive_at D n s.conclusion) fault → RefusedBy (effect D l (told.induction n) s) fault
+    pub induction_refused : (fault : ProofCommandFault) → GetsNoSize l s (inductive_at D n s.conclusion) fault → RefusedBy (effect D l (told.induction (n ∷ [])) s) fault
     induction_refused fault cause = refused_so s (codes "IH") (inductive_at D n s.conclusion) [] l (λ x. induced x s) fault cause
 
   abbrev coinduced : List ℕ → Sequent → List Sequent

@@ -1,5 +1,5 @@
 //! Induction and coinduction: the conclusion gets a size, and is a hypothesis where it is smaller.
-ghost use Rattle.std.specs.Prelude.{◌≡◌, ◌≢◌, [], Err, IfOk, OnErr, Option};
+ghost use Rattle.std.specs.Prelude.{◌≡◌, ◌≢◌, [], ◌∷◌, Err, IfOk, OnErr, Option};
 ghost use Rattle.std.specs.Option.{option_map};
 ghost use Rattle.ab_grammar.specs.CommandTrees as told;
 ghost use Rattle.ab_theory.specs.Atoms.{Defined};
@@ -37,8 +37,8 @@ pub fn induction<L>(
     requires proof { IsProof world.old proof.old }
     requires open { goals_of world.old proof.old ≢ [] }
     ensures follows { Follows world.old proof.old world.new proof.new }
-    ensures applied { IfOk result (λ u. IsApplied (label_of label.now) (told.induction place) world.old proof.old world.new proof.new) }
-    ensures refused { (fault : ProofCommandFault) → result ≡ Err fault → IsRefused (label_of label.now) (told.induction place) world.old proof.old fault }
+    ensures applied { IfOk result (λ u. IsApplied (label_of label.now) (told.induction (place ∷ [])) world.old proof.old world.new proof.new) }
+    ensures refused { (fault : ProofCommandFault) → result ≡ Err fault → IsRefused (label_of label.now) (told.induction (place ∷ [])) world.old proof.old fault }
     ensures unchanged { OnErr result (history_of world.new proof.new ≡ history_of world.old proof.old) }
 {
     let goal = first_goal(world, proof);

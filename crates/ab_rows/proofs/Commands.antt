@@ -5,7 +5,7 @@ use Rattle.ab_term.specs.Types.{Ty, prop}
 use Rattle.ab_term.specs.Substitution.{instance}
 use Rattle.ab_term.specs.Terms.{Read}
 use Rattle.ab_grammar.specs.Tree.{Tree}
-use Rattle.ab_grammar.specs.CommandTrees.{ProofCommand, intros, induction, coinduction, case, apply, backchain, cut, inst, monotone, search, split, split_all, left, right, exists, unfold_goal, assert, clear, rename, permute}
+use Rattle.ab_grammar.specs.CommandTrees.{ProofCommand, intros, induction, coinduction, case, apply, backchain, cut, inst, monotone, search, skip, split, split_all, left, right, exists, unfold_goal, assert, clear, rename, permute}
 use Rattle.ab_formulas.specs.Declarations.{Declarations, signature_in}
 use Rattle.ab_formulas.specs.Formulas.{IsFormula}
 use Rattle.ab_formulas.specs.Marks.{plain, star_of, at_of, plus_of, hash_of}
@@ -106,7 +106,9 @@ settled D l (assert e) s so =
     (λ F. naming_settled l s (λ name t. leads (proving F s ∷ assuming name F t ∷ [])) (λ x t. tt))
 settled D l (clear Hs) s so = tt
 settled D l (rename H x) s so = λ F. tt
-settled D l (induction n) s so = λ d.
+settled D l (induction []) s so = tt
+settled D l (induction (n ∷ m ∷ ns)) s so = tt
+settled D l (induction (n ∷ [])) s so = λ d.
     let i = next_level inductive_level s in
     let premise : List ℕ → Sequent = λ x. proving (marked_antecedent n (at_of i) s.conclusion) (assuming x (marked_antecedent n (star_of i) s.conclusion) s) in
     marked_settled (d.sign ≡ plain) (hypothesis_named (codes "IH") l s (λ x. leads (premise x ∷ []))) (sized_settled (codes "IH") l s premise)
@@ -120,6 +122,7 @@ settled D l (cut H K) s so = tt
 settled D l (inst H is) s so = tt
 settled D l (monotone H e) s so = tt
 settled D l (search n) s so = tt
+settled D l skip s so = tt
 settled D l unfold_goal s no_opening = absurd no_opening
 settled D l (permute ns None) s so = (λ u f p n. n.0 p, λ f g m n. m.1 ∙ sym n.1, λ u v p q. refl, λ u A. tt)
 settled D l (permute ns (Some H)) s so = (λ u f p n. n.0 p, λ f g m n. m.1 ∙ sym n.1, λ u v p q. refl, λ u F A. tt)

@@ -10,7 +10,7 @@ use Rattle.ab_term.specs.Names.{HasOneTypeEach, moved_by}
 use Rattle.ab_term.specs.Substitution.{instance}
 use Rattle.ab_term.proofs.Translations.{map-append, translate-instance, translate-rename}
 use Rattle.ab_grammar.specs.Tree.{Tree}
-use Rattle.ab_grammar.specs.CommandTrees.{ProofCommand, intros, induction, coinduction, case, apply, backchain, cut, inst, monotone, search, split, split_all, left, right, exists, unfold_goal, assert, clear, rename, permute}
+use Rattle.ab_grammar.specs.CommandTrees.{ProofCommand, intros, induction, coinduction, case, apply, backchain, cut, inst, monotone, search, skip, split, split_all, left, right, exists, unfold_goal, assert, clear, rename, permute}
 use Rattle.ab_alike.specs.ab_cases.specs.Clauses.{IsClause}
 use Rattle.ab_formulas.specs.Declarations.{Declarations, signature_in, IsDefining, HaveDefinitions, HaveSentences}
 use Rattle.ab_formulas.specs.Forms as form
@@ -397,7 +397,7 @@ module _ (D : Declarations) (definitions : HaveDefinitions D) (s : Sequent) (f :
       (λ x c m n. n) (λ c x m n. m) (λ c d m n. absurd m)
       (λ x y m n. once_leads (k x ∷ []) (j y ∷ []) (one_same (k x) (j y) (one x ∙ ap (λ z. named (j z)) (named_by_once word l s u same x y m n))))
 
-  once_induction : (l : Label) (n : ℕ) → AreOnce (effect D l (induction n) s) (effect D l (induction n) u)
+  once_induction : (l : Label) (n : ℕ) → AreOnce (effect D l (induction (n ∷ [])) s) (effect D l (induction (n ∷ [])) u)
   once_induction l n =
       let i = next_level inductive_level s in
       let j = next_level inductive_level u in
@@ -472,7 +472,9 @@ module _ (D : Declarations) (definitions : HaveDefinitions D) (s : Sequent) (f :
   once_renumbered lists sentences l (assert e) = once_assert l e
   once_renumbered lists sentences l (clear Hs) = once_clear l Hs
   once_renumbered lists sentences l (rename H x) = once_rename l H x
-  once_renumbered lists sentences l (induction n) = once_induction l n
+  once_renumbered lists sentences l (induction []) = once_alone (Some wrong_shape)
+  once_renumbered lists sentences l (induction (n ∷ [])) = once_induction l n
+  once_renumbered lists sentences l (induction (n ∷ m ∷ ns)) = once_alone (Some wrong_shape)
   once_renumbered lists sentences l coinduction = once_coinduction l
   once_renumbered lists sentences l (apply H vs ws) = once_apply D lists sentences s f is its names l H vs ws
   once_renumbered lists sentences l (backchain H ws) = once_backchain D lists sentences s f is its names l H ws
@@ -480,6 +482,7 @@ module _ (D : Declarations) (definitions : HaveDefinitions D) (s : Sequent) (f :
   once_renumbered lists sentences l (inst H ws) = once_alone (Some wrong_shape)
   once_renumbered lists sentences l (monotone H e) = once_alone (Some wrong_shape)
   once_renumbered lists sentences l (search n) = once_alone (Some wrong_shape)
+  once_renumbered lists sentences l skip = once_alone (Some wrong_shape)
   once_renumbered lists sentences l unfold_goal = once_unfold l
   once_renumbered lists sentences l (permute ns None) = once_permute_conclusion l ns
   once_renumbered lists sentences l (permute ns (Some H)) = once_permute_hypothesis l ns H

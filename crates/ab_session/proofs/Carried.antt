@@ -52,7 +52,7 @@ told_refuses r (Memory f) q h e = absurd e
 
 row_makes : (D : Declarations) (l : Label) (c : ProofCommand) (s : Sequent) (ps : List Sequent) → IsBuilt c → Leads (effect D l c s) ps → Makes D l c s ps
 row_makes D l (told.intros xs) s ps built h = h
-row_makes D l (told.induction n) s ps built h = h
+row_makes D l (told.induction ns) s ps built h = h
 row_makes D l told.coinduction s ps built h = h
 row_makes D l (told.case H keep) s ps built h = h
 row_makes D l (told.apply H vs is) s ps built h = h
@@ -61,6 +61,7 @@ row_makes D l (told.cut H K) s ps built h = h
 row_makes D l (told.inst H is) s ps built h = h
 row_makes D l (told.monotone H e) s ps built h = h
 row_makes D l (told.search n) s ps built h = absurd built
+row_makes D l told.skip s ps built h = h
 row_makes D l told.split s ps built h = h
 row_makes D l told.split_all s ps built h = h
 row_makes D l told.left s ps built h = h
@@ -74,7 +75,7 @@ row_makes D l (told.permute ns x) s ps built h = h
 
 row_denies : (D : Declarations) (l : Label) (c : ProofCommand) (s : Sequent) (q : Refusal) → IsBuilt c → RefusesSo D l c s q → Denies D l c s q
 row_denies D l (told.intros xs) s q built h = h
-row_denies D l (told.induction n) s q built h = h
+row_denies D l (told.induction ns) s q built h = h
 row_denies D l told.coinduction s q built h = h
 row_denies D l (told.case H keep) s q built h = h
 row_denies D l (told.apply H vs is) s q built h = h
@@ -83,6 +84,7 @@ row_denies D l (told.cut H K) s q built h = h
 row_denies D l (told.inst H is) s q built h = h
 row_denies D l (told.monotone H e) s q built h = h
 row_denies D l (told.search n) s q built h = absurd built
+row_denies D l told.skip s q built h = h
 row_denies D l told.split s q built h = h
 row_denies D l told.split_all s q built h = h
 row_denies D l told.left s q built h = h

@@ -89,7 +89,7 @@ no_judgement_said s bytes inductive ds cs said = All-weaker ClauseHasNoJudgement
 -- a proof command that is built, and isn't `search`, has its row
 pub has_row : (count : ℕ) (c : ProofCommand) → ((n : ℕ) → c ≡ plain.Search n → ⊥) → IsBuiltInProof count (proof_command_of c) → IsBuilt (proof_command_of c)
 has_row count (plain.Intros xs) n h = h
-has_row count (plain.Induction i) n h = h
+has_row count (plain.Induction ns) n h = h
 has_row count plain.Coinduction n h = h
 has_row count (plain.Case x keep) n h = h
 has_row count (plain.Apply x vs is) n h = no_instance_judgement (map instance_of (list_of is)) h
@@ -98,6 +98,7 @@ has_row count (plain.Cut x y) n h = h
 has_row count (plain.Inst x is) n h = h
 has_row count (plain.Monotone x e) n h = h
 has_row count (plain.Search d) n h = absurd (n d refl)
+has_row count plain.Skip n h = h
 has_row count plain.Split n h = h
 has_row count plain.SplitAll n h = h
 has_row count plain.Left n h = h

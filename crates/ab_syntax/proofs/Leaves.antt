@@ -9,16 +9,17 @@ use Rattle.ab_grammar.proofs.Joining.{Example}
 use Rattle.ab_grammar.proofs.Choosing.{one_reads, one_stops}
 use Rattle.ab_grammar.proofs.Shown.{ShowsOne}
 use Rattle.ab_grammar.specs.CommandTrees as tree
-use Rattle.ab_grammar.specs.CommandTable.{IsDeclarable, IsNominal, ShowsName, shows_name, ShowsDeclared, shows_declared, ShowsNominal, shows_nominal, ShowsArgument, shows_named, shows_hole, ShowsNumber, shows_number, ShowsDepth, shows_depth, ShowsText, shows_text, StandsAnywhere, stands_at}
+use Rattle.ab_grammar.specs.CommandTable.{IsDeclarable, IsNominal, ShowsName, shows_name, ShowsDeclared, shows_declared, ShowsNominal, shows_nominal, ShowsArgument, shows_named, shows_hole, ShowsNumber, shows_number, ShowsDepth, shows_depth, ShowsLimit, shows_limit, ShowsText, shows_text, StandsAnywhere, stands_at}
 use Rattle.ab_syntax.specs.declared.seen.Seen.{Seen}
 use Rattle.ab_syntax.specs.declared.text.Text.{Text}
 use Rattle.ab_syntax.specs.declared.kind.Kind.{Kind}
 use Rattle.ab_syntax.specs.declared.kind.Kind.TheVariants as kind
+use Rattle.ab_syntax.specs.declared.leaf.NumberForm.TheVariants.{Nominal}
 use Rattle.ab_syntax.specs.declared.stop.Stop.TheVariants.{Syntax}
 use Rattle.ab_syntax.specs.Tokens.{unquoted}
 use Rattle.ab_syntax.specs.Kinds.{kind_of, meaning}
 use Rattle.ab_syntax.specs.Reader.{seen, rest, Found}
-use Rattle.ab_syntax.specs.Leaves.{Leaf, nominal_name, IsShown, IsTakenNext}
+use Rattle.ab_syntax.specs.Leaves.{Leaf, number_form, IsShown, IsTakenNext}
 use Rattle.ab_syntax.proofs.Meanings.{kind_meant}
 use Rattle.ab_syntax.proofs.Places.{rest_key}
 
@@ -70,6 +71,9 @@ number_kind _ _ (shows_number n) = refl
 pub depth_kind : (k : Token) (n : ℕ) → ShowsDepth k n → kind_of k ≡ kind.Number
 depth_kind _ _ (shows_depth n h) = refl
 
+pub limit_kind : (k : Token) (n : ℕ) → ShowsLimit k n → kind_of k ≡ kind.Number
+limit_kind _ _ (shows_limit n l h) = refl
+
 pub text_kind : (k : Token) (x : List ℕ) → ShowsText k x → kind_of k ≡ kind.Text
 text_kind _ _ (shows_text x) = refl
 
@@ -86,7 +90,7 @@ declared_in w p _ e _ (shows_declared x q d) = let same : x ≡ w = cc in subst 
 nominal_in : (w : List ℕ) (p : ℕ) (k : Token) → k ≡ word w p → (n : ℕ) → ShowsNominal k n → IsNominal w n
 nominal_in w p _ e _ (shows_nominal x q n d) = let same : x ≡ w = cc in subst (λ (y : List ℕ). IsNominal y n) same d
 
-pub nominal_where : (w : List ℕ) (p : ℕ) (k : Token) (o : Option ℕ) → k ≡ word w p → MatchOption o ((n : ℕ) → IsNominal w n → ⊥) (IsNominal w) → IsShown nominal_name k o
+pub nominal_where : (w : List ℕ) (p : ℕ) (k : Token) (o : Option ℕ) → k ≡ word w p → MatchOption o ((n : ℕ) → IsNominal w n → ⊥) (IsNominal w) → IsShown (number_form Nominal) k o
 nominal_where w p k (Some n) e d = subst (λ (j : Token). ShowsNominal j n) (sym e) (shows_nominal w p n d)
 nominal_where w p k None e d = λ n s. d n (nominal_in w p k e n s)
 

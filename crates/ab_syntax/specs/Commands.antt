@@ -30,7 +30,7 @@ argument_of Hole = tree.hole
 
 abbrev pub proof_command_of : ProofCommand → tree.ProofCommand
 proof_command_of (proof.Intros xs) = tree.intros (list_of xs)
-proof_command_of (proof.Induction n) = tree.induction n
+proof_command_of (proof.Induction ns) = tree.induction (list_of ns)
 proof_command_of proof.Coinduction = tree.coinduction
 proof_command_of (proof.Case x keep) = tree.case x keep
 proof_command_of (proof.Apply x vs is) = tree.apply x (map argument_of (list_of vs)) (map instance_of (list_of is))
@@ -39,6 +39,7 @@ proof_command_of (proof.Cut x y) = tree.cut x y
 proof_command_of (proof.Inst x is) = tree.inst x (map instance_of (list_of is))
 proof_command_of (proof.Monotone x e) = tree.monotone x (tree_of e)
 proof_command_of (proof.Search n) = tree.search n
+proof_command_of proof.Skip = tree.skip
 proof_command_of proof.Split = tree.split
 proof_command_of proof.SplitAll = tree.split_all
 proof_command_of proof.Left = tree.left
@@ -57,6 +58,7 @@ command_of (plain.Typed xs a) = tree.constants (list_of xs) (type_of a)
 command_of (plain.Define inductive ds cs) = tree.define inductive (map defined_of (list_of ds)) (map clause_of (list_of cs))
 command_of (plain.Theorem x e) = tree.theorem x (tree_of e)
 command_of (plain.Specification x) = tree.specification x
+command_of (plain.Query e n m) = tree.query (tree_of e) n m
 command_of (plain.Show x) = tree.show x
 command_of plain.Quit = tree.quit
 command_of (plain.Subgoals on) = tree.subgoals on

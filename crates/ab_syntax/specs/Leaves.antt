@@ -3,10 +3,10 @@ use Rattle.std.specs.Prelude.{◌≡◌, ◌<◌, ◌+◌, ℕ, List, length, Op
 use Rattle.ab_grammar.specs.Token.{Token}
 use Rattle.ab_grammar.specs.CommandForms.{One}
 use Rattle.ab_grammar.specs.CommandTrees as tree
-use Rattle.ab_grammar.specs.CommandTable.{ShowsName, ShowsDeclared, ShowsNominal, ShowsArgument, ShowsNumber, ShowsDepth, ShowsText}
+use Rattle.ab_grammar.specs.CommandTable.{ShowsName, ShowsDeclared, ShowsNominal, ShowsArgument, ShowsNumber, ShowsDepth, ShowsLimit, ShowsText}
 use Rattle.ab_grammar.proofs.Following.{Showing, Without}
 use Rattle.ab_grammar.proofs.Joining.{Example}
-use Rattle.ab_grammar.proofs.Shown.{ShowsOne, one_name, name_example, one_declared, declared_example, one_nominal, nominal_example, one_argument, argument_example, one_number, number_example, one_depth, depth_example, one_text, text_example}
+use Rattle.ab_grammar.proofs.Shown.{ShowsOne, one_name, name_example, one_declared, declared_example, one_nominal, nominal_example, one_argument, argument_example, one_number, number_example, one_depth, depth_example, one_limit, limit_example, one_text, text_example}
 use Rattle.ab_syntax.specs.declared.command.Argument.{Argument}
 use Rattle.ab_syntax.specs.declared.leaf.NameForm.{NameForm}
 use Rattle.ab_syntax.specs.declared.leaf.NameForm.TheVariants as names
@@ -30,17 +30,8 @@ any_name = record { Meant = List ℕ; shows = ShowsName; meant = λ x. x; one = 
 abbrev pub declared_name : Leaf (List ℕ)
 declared_name = record { Meant = List ℕ; shows = ShowsDeclared; meant = λ x. x; one = one_declared; example = declared_example }
 
-abbrev pub nominal_name : Leaf ℕ
-nominal_name = record { Meant = ℕ; shows = ShowsNominal; meant = λ n. n; one = one_nominal; example = nominal_example }
-
 abbrev pub argument : Leaf Argument
 argument = record { Meant = tree.Argument; shows = ShowsArgument; meant = argument_of; one = one_argument; example = argument_example }
-
-abbrev pub a_number : Leaf ℕ
-a_number = record { Meant = ℕ; shows = ShowsNumber; meant = λ n. n; one = one_number; example = number_example }
-
-abbrev pub a_depth : Leaf ℕ
-a_depth = record { Meant = ℕ; shows = ShowsDepth; meant = λ n. n; one = one_depth; example = depth_example }
 
 abbrev pub quoted : Leaf (List ℕ)
 quoted = record { Meant = List ℕ; shows = ShowsText; meant = λ x. x; one = one_text; example = text_example }
@@ -50,10 +41,26 @@ name_form names.Any = any_name
 name_form names.Declared = declared_name
 name_form names.Quoted = quoted
 
+abbrev pub ShowsInForm : NumberForm → Token → ℕ → Type 0
+ShowsInForm numbers.Nominal = ShowsNominal
+ShowsInForm numbers.Any = ShowsNumber
+ShowsInForm numbers.Depth = ShowsDepth
+ShowsInForm numbers.Limit = ShowsLimit
+
+pub one_in_form : (f : NumberForm) → ShowsOne (ShowsInForm f)
+one_in_form numbers.Nominal = one_nominal
+one_in_form numbers.Any = one_number
+one_in_form numbers.Depth = one_depth
+one_in_form numbers.Limit = one_limit
+
+pub example_in_form : (f : NumberForm) → Example (One (ShowsInForm f))
+example_in_form numbers.Nominal = nominal_example
+example_in_form numbers.Any = number_example
+example_in_form numbers.Depth = depth_example
+example_in_form numbers.Limit = limit_example
+
 abbrev pub number_form : NumberForm → Leaf ℕ
-number_form numbers.Nominal = nominal_name
-number_form numbers.Any = a_number
-number_form numbers.Depth = a_depth
+number_form f = record { Meant = ℕ; shows = ShowsInForm f; meant = λ n. n; one = one_in_form f; example = example_in_form f }
 
 -- the value that a token shows, if it shows one
 abbrev pub IsShown : {X : Type 0} → Leaf X → Token → Option X → Type 0

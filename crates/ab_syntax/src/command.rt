@@ -41,8 +41,8 @@ pub enum Argument {
 pub enum ProofCommand {
     /// `intros H ..`
     Intros(Items<Name>),
-    /// `induction on n`
-    Induction(u32),
+    /// `induction on n ..`, a number for each part of the conclusion.
+    Induction(Items<u32>),
     Coinduction,
     /// `case H`, and whether `(keep)` is behind it.
     Case(Name, bool),
@@ -58,6 +58,7 @@ pub enum ProofCommand {
     Monotone(Name, Parse),
     /// `search n`; the depth is 5 where none is written.
     Search(u32),
+    Skip,
     Split,
     /// `split*`
     SplitAll,
@@ -88,6 +89,9 @@ pub enum Command {
     Theorem(Name, Parse),
     /// `Specification "name"`
     Specification(Name),
+    /// `Query e on n to m`: how deep is searched, 5 where that isn't written, and how many answers are told at most, 10 where
+    /// that isn't.
+    Query(Parse, u32, u32),
     /// `Show w`
     Show(Name),
     Quit,

@@ -84,8 +84,10 @@ pub(crate) enum NumberForm {
     Nominal,
     /// A number of at most nine digits.
     Any,
-    /// A depth of `search`.
+    /// A depth of `search` and of `Query`.
     Depth,
+    /// How many answers `Query` tells at most.
+    Limit,
 }
 
 impl Shown for NumberForm {
@@ -100,6 +102,13 @@ impl Shown for NumberForm {
             (Kind::Number, NumberForm::Depth) => {
                 let depth = value(token.written);
                 Ok((depth <= 1000).then_some(depth))
+            }
+            (Kind::Number, NumberForm::Limit) => {
+                let limit = value(token.written);
+                if limit == 0 {
+                    return Ok(None);
+                }
+                Ok((limit <= 1000).then_some(limit))
             }
             _ => Ok(None),
         }

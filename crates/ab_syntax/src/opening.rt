@@ -29,7 +29,7 @@ pub(crate) enum Opening {
     Nothing,
 }
 
-/// What a word at the front of a command says of it. `Query` begins a command that isn't read yet.
+/// What a word at the front of a command says of it.
 fn word_opening(written: &[u8]) -> Opening
     ensures { (p : ℕ) → IsOpening (word written.now p) written.now result }
 {
@@ -39,11 +39,7 @@ fn word_opening(written: &[u8]) -> Opening
     if let Some(head) = lookup(&PROOF_COMMANDS, written) {
         return Opening::Proof(head);
     }
-    if written == b"Query".as_slice() {
-        Opening::Nothing
-    } else {
-        Opening::Label
-    }
+    Opening::Label
 }
 
 /// What a token says of a command that it begins.
@@ -74,7 +70,9 @@ fn stand(head: Head) -> Stand
     ensures { result ≡ stand_of_head head }
 {
     match head {
-        Head::Show | Head::Quit | Head::Set | Head::Back | Head::Reset => Stand::Anywhere,
+        Head::Query | Head::Show | Head::Quit | Head::Set | Head::Back | Head::Reset => {
+            Stand::Anywhere
+        }
         Head::Undo | Head::Abort => Stand::Inside,
         Head::Kind
         | Head::Typed

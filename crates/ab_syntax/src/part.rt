@@ -1,12 +1,13 @@
 //! Parts of commands.
 ghost use Rattle.std.specs.Prelude.{[], map};
 ghost use Rattle.ab_grammar.specs.Language.{Key};
-ghost use Rattle.ab_grammar.proofs.Following.{Anything, BeforeStop, ArgumentsEnd};
-ghost use Rattle.ab_grammar.specs.CommandForms.{◌◂◌, Optional};
+ghost use Rattle.ab_grammar.proofs.Following.{Anything, Except, BeforeStop, ArgumentsEnd};
+ghost use Rattle.ab_grammar.specs.CommandForms.{One, ◌▸◌, ◌◂◌, Optional};
 ghost use Rattle.ab_grammar.specs.CommandTable.{Name as AnyName, Word as WordForm, Arguments, Nominals, Instances};
 ghost use Rattle.ab_syntax.specs.Commands.{argument_of, instance_of};
 ghost use Rattle.ab_syntax.specs.Items.{list_of};
 ghost use Rattle.ab_syntax.specs.Kinds.{key_of, IsKey};
+ghost use Rattle.ab_syntax.specs.Leaves.{ShowsInForm};
 ghost use Rattle.ab_syntax.specs.Lists.{declared_names, instances};
 ghost use Rattle.ab_syntax.specs.Reader.{rest, Found};
 
@@ -60,6 +61,23 @@ pub(crate) fn optional_arguments(text: &Text<'_>, here: &mut usize) -> Result<It
         return take_some(text, here, ArgumentForm);
     }
     Ok(Items::from_vec(Vec::new(text.alloc)))
+}
+
+/// Reads a number behind a key, where the key is there; where it isn't, the number is the one that is given.
+pub(crate) fn number_behind(
+    text: &Text<'_>,
+    here: &mut usize,
+    key: Kind,
+    form: NumberForm,
+    absent: u32,
+) -> Result<u32, Stop>
+    requires { IsKey key }
+    ensures { Found (Optional absent (Key (key_of key) ▸ One (ShowsInForm form))) (Except (key_of key)) (λ n. n) (rest text.now here.old) (rest text.now here.new) result }
+{
+    if takes(text, here, key) {
+        return take(text, here, form);
+    }
+    Ok(absent)
 }
 
 /// Reads `(n n ..)`.

@@ -39,12 +39,12 @@ fn optional_depth(text: &Text<'_>, here: &mut usize) -> Result<u32, Stop>
     take(text, here, NumberForm::Depth)
 }
 
-/// Reads `on n`.
+/// Reads `on n ..`.
 fn induction(text: &Text<'_>, here: &mut usize) -> Result<ProofCommand, Stop>
     ensures { Found (ProofRow head.Induction) BeforeStop proof_command_of (rest text.now here.old) (rest text.now here.new) result }
 {
     expect(text, here, Kind::On)?;
-    Ok(ProofCommand::Induction(take(text, here, NumberForm::Any)?))
+    Ok(ProofCommand::Induction(take_some(text, here, NumberForm::Any)?))
 }
 
 /// Reads `H` or `H (keep)`.
@@ -142,6 +142,7 @@ pub(crate) fn proof_row(
         ProofHead::Inst => inst(text, here),
         ProofHead::Monotone => monotone(text, here),
         ProofHead::Search => Ok(ProofCommand::Search(optional_depth(text, here)?)),
+        ProofHead::Skip => Ok(ProofCommand::Skip),
         ProofHead::Split => split(text, here),
         ProofHead::Left => Ok(ProofCommand::Left),
         ProofHead::Right => Ok(ProofCommand::Right),

@@ -1,15 +1,16 @@
 //! The rows of the table of commands: what stands behind the first token, up to the full stop.
 ghost use Rattle.ab_grammar.proofs.Following.{BeforeStop};
 ghost use Rattle.ab_grammar.specs.CommandTable.{Switch, Row};
+ghost use Rattle.ab_grammar.specs.declared.head.Head.TheVariants as head;
 ghost use Rattle.ab_syntax.specs.Commands.{command_of};
 ghost use Rattle.ab_syntax.specs.Reader.{rest, Found};
 
 use crate::block::block;
 use crate::command::Command;
 use crate::kind::Kind;
-use crate::leaf::{NameForm, take};
+use crate::leaf::{NameForm, NumberForm, take};
 use crate::list::items;
-use crate::part::{keyword, name_and};
+use crate::part::{keyword, name_and, number_behind};
 use crate::step::read_expression;
 use crate::stop::Stop;
 use crate::text::{Text, closed, takes};
@@ -26,6 +27,16 @@ fn switch(text: &Text<'_>, here: &mut usize) -> Result<bool, Stop>
     }
     keyword(text, here, b"off")?;
     Ok(false)
+}
+
+/// Reads `e on n to m`, of which each number may be left out with its key.
+fn query(text: &Text<'_>, here: &mut usize) -> Result<Command, Stop>
+    ensures { Found (Row head.Query) BeforeStop command_of (rest text.now here.old) (rest text.now here.new) result }
+{
+    let goal = read_expression(text, here)?;
+    let depth = number_behind(text, here, Kind::On, NumberForm::Depth, 5)?;
+    let limit = number_behind(text, here, Kind::To, NumberForm::Limit, 10)?;
+    Ok(Command::Query(goal, depth, limit))
 }
 
 /// Reads what stands behind the first token of a command that is no proof command.
@@ -50,6 +61,7 @@ pub(crate) fn row(text: &Text<'_>, here: &mut usize, head: Head) -> Result<Comma
             Ok(Command::Theorem(name, formula))
         }
         Head::Specification => Ok(Command::Specification(take(text, here, NameForm::Quoted)?)),
+        Head::Query => query(text, here),
         Head::Show => Ok(Command::Show(take(text, here, NameForm::Any)?)),
         Head::Quit => Ok(Command::Quit),
         Head::Set => {

@@ -5,13 +5,14 @@ ghost use Rattle.ab_grammar.specs.CommandTable.{listed, takes_label as takes_lab
 use ab_grammar::{Head, ProofHead};
 
 /// The words with which commands begin that are no proof commands.
-pub(crate) const COMMANDS: [(&[u8], Head); 11] = [
+pub(crate) const COMMANDS: [(&[u8], Head); 12] = [
     (b"Kind", Head::Kind),
     (b"Type", Head::Typed),
     (b"Define", Head::Define),
     (b"CoDefine", Head::CoDefine),
     (b"Theorem", Head::Theorem),
     (b"Specification", Head::Specification),
+    (b"Query", Head::Query),
     (b"Show", Head::Show),
     (b"Quit", Head::Quit),
     (b"Set", Head::Set),
@@ -20,7 +21,7 @@ pub(crate) const COMMANDS: [(&[u8], Head); 11] = [
 ];
 
 /// The words with which proof commands begin; the reserved word `exists` begins one too.
-pub(crate) const PROOF_COMMANDS: [(&[u8], ProofHead); 19] = [
+pub(crate) const PROOF_COMMANDS: [(&[u8], ProofHead); 20] = [
     (b"intros", ProofHead::Intros),
     (b"induction", ProofHead::Induction),
     (b"coinduction", ProofHead::Coinduction),
@@ -31,6 +32,7 @@ pub(crate) const PROOF_COMMANDS: [(&[u8], ProofHead); 19] = [
     (b"inst", ProofHead::Inst),
     (b"monotone", ProofHead::Monotone),
     (b"search", ProofHead::Search),
+    (b"skip", ProofHead::Skip),
     (b"split", ProofHead::Split),
     (b"left", ProofHead::Left),
     (b"right", ProofHead::Right),
@@ -70,6 +72,7 @@ pub(crate) fn takes_label(head: ProofHead) -> bool
         ProofHead::Intros
         | ProofHead::Backchain
         | ProofHead::Search
+        | ProofHead::Skip
         | ProofHead::Split
         | ProofHead::Left
         | ProofHead::Right

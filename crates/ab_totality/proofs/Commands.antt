@@ -10,14 +10,14 @@ use Rattle.ab_grammar.specs.Nesting.{Spot, lone}
 use Rattle.ab_grammar.specs.Language.{Key, the_key, Expression, TypeExpression}
 use Rattle.ab_grammar.specs.CommandTrees as tree
 use Rattle.ab_grammar.specs.CommandForms.{One, joined, Optional, Many, no_more, OneOrMore, ◌▸◌, ◌◂◌}
-use Rattle.ab_grammar.specs.CommandTable.{Row, ProofRow, Name, DeclaredName, DeclaredNames, Word, Sign, Definiendum, Definienda, ClauseBody, ClauseForm, Clauses, Definition, InstanceForm, InstanceList, Instances, Arguments, Keep, Nominals, OptionalName, Switch, ShowsName, ShowsDeclared, ShowsNominal, ShowsArgument, ShowsNumber, ShowsDepth, ShowsText, StandsAnywhere, Opens, OpensProof, takes_label, ShowsLabel, LabelledForm, CommandForm, CommandText}
-use Rattle.ab_grammar.proofs.Following.{Comes, Except, Showing, Without, Anything, Followed, BeforeStop, ClauseEnds, ArgumentsEnd}
+use Rattle.ab_grammar.specs.CommandTable.{Row, ProofRow, Name, DeclaredName, DeclaredNames, Word, Sign, Definiendum, Definienda, ClauseBody, ClauseForm, Clauses, Definition, InstanceForm, InstanceList, Instances, Arguments, Keep, Nominals, OptionalName, OptionalDepth, OptionalLimit, Numbers, Switch, ShowsName, ShowsDeclared, ShowsNominal, ShowsArgument, ShowsNumber, ShowsDepth, ShowsLimit, ShowsText, StandsAnywhere, Opens, OpensProof, takes_label, ShowsLabel, LabelledForm, CommandForm, CommandText}
+use Rattle.ab_grammar.proofs.Following.{Comes, Except, Showing, Without, Anything, Followed, BeforeStop, ClauseEnds, DepthEnds, ArgumentsEnd}
 use Rattle.ab_grammar.proofs.Reading.{ungrammatical, too_nested}
 use Rattle.ab_grammar.proofs.Joining.{Example}
-use Rattle.ab_grammar.proofs.Shown.{one_name, name_example, one_declared, declared_example, one_nominal, nominal_example, one_argument, argument_example, one_number, number_example, one_depth, depth_example, one_text, text_example, one_placed, placed_example}
+use Rattle.ab_grammar.proofs.Shown.{one_name, name_example, one_declared, declared_example, one_nominal, nominal_example, one_argument, argument_example, one_number, number_example, one_depth, depth_example, one_limit, limit_example, one_text, text_example, one_placed, placed_example}
 use Rattle.ab_grammar.proofs.Looping.{token_apart}
 use Rattle.ab_grammar.proofs.Beginnings.{followed_by_stop, expression_example}
-use Rattle.ab_totality.proofs.Followers.{by_no_comma, definiendum_ends, stop_no_comma, instance_ends, stop_no_semicolon, clause_ends, names_end, arguments_end}
+use Rattle.ab_totality.proofs.Followers.{by_no_comma, definiendum_ends, stop_no_comma, instance_ends, stop_no_semicolon, clause_ends, names_end, numbers_end, arguments_end}
 use Rattle.ab_grammar.proofs.Rows.{TwoParts, two_parts, name_and, declared_and, definiendum, instance_form, clause_form, definienda_by, definition, applied, opened_nominals, nominals, keep, clause_end_follows, instance_list_example}
 use Rattle.ab_grammar.proofs.Rows as rows
 use Rattle.ab_grammar.proofs.Choices as choices
@@ -26,46 +26,46 @@ use Rattle.ab_grammar.proofs.WholeCommands.{plain_row, proof_row, labelled_row, 
 use Rattle.ab_totality.specs.Answers.{HasAnswer}
 use Rattle.ab_totality.proofs.Outcomes.{Outcome, is_read, is_stopped, is_deep, Total, onwards, two, fewer}
 use Rattle.ab_totality.proofs.Walk.{answer}
-use Rattle.ab_totality.proofs.Shows.{IsTold, is_left_paren, is_right_paren, is_comma, is_colon, is_equal, is_stop, is_semicolon, is_becomes, is_star, is_by, is_to, is_with, is_on, is_type, name_shown, declared_shown, nominal_shown, argument_shown, number_shown, depth_shown, text_shown, word_shown, next_told, none_at_end, none_next, next_shown}
+use Rattle.ab_totality.proofs.Shows.{IsTold, is_left_paren, is_right_paren, is_comma, is_colon, is_equal, is_stop, is_semicolon, is_becomes, is_star, is_by, is_to, is_with, is_on, is_type, name_shown, declared_shown, nominal_shown, argument_shown, number_shown, depth_shown, limit_shown, text_shown, word_shown, next_told, none_at_end, none_next, next_shown}
 use Rattle.ab_totality.proofs.Parts.{token, key, separated, any_tokens, some_tokens}
 use Rattle.ab_totality.proofs.Openings.{Opening, opens_plain, opens_proof_row, opens_label, opens_nothing, opening}
 use Rattle.ab_totality.proofs.Both.{expression_found, type_found}
 
 -- One token
 
-found_name : Total Name Anything
+pub found_name : Total Name Anything
 found_name = token ShowsName name_shown one_name name_example
 
 found_declared : Total DeclaredName Anything
 found_declared = token ShowsDeclared declared_shown one_declared declared_example
 
-found_number : Total (One ShowsNumber) Anything
-found_number = token ShowsNumber number_shown one_number number_example
-
 found_depth : Total (One ShowsDepth) Anything
 found_depth = token ShowsDepth depth_shown one_depth depth_example
+
+found_limit : Total (One ShowsLimit) Anything
+found_limit = token ShowsLimit limit_shown one_limit limit_example
 
 found_text : Total (One ShowsText) Anything
 found_text = token ShowsText text_shown one_text text_example
 
-found_word : (w : List ℕ) → Total (Word w) Anything
+pub found_word : (w : List ℕ) → Total (Word w) Anything
 found_word w = token (StandsAnywhere (word w)) (word_shown w) (one_placed (word w)) (placed_example (word w))
 
 -- what ends itself, in front of what may follow
-itself : {A : Type 0} (G : List Spot → A → Type 0) (F : List Token → Type 0) → Total G Anything → Total G F
+pub itself : {A : Type 0} (G : List Spot → A → Type 0) (F : List Token → Type 0) → Total G Anything → Total G F
 itself G F g = fewer G Anything F (λ r f. tt) g
 
 expression_before_stop : Total Expression BeforeStop
 expression_before_stop = fewer Expression Followed BeforeStop followed_by_stop expression_found
 
-type_before_stop : Total TypeExpression BeforeStop
+pub type_before_stop : Total TypeExpression BeforeStop
 type_before_stop = fewer TypeExpression Followed BeforeStop followed_by_stop type_found
 
 name_before_stop : Total Name BeforeStop
 name_before_stop = itself Name BeforeStop found_name
 
 -- a name, and a key
-name_then : (k : Token) → IsTold k → Total (Name ◂ Key k) Anything
+pub name_then : (k : Token) → IsTold k → Total (Name ◂ Key k) Anything
 name_then k told = two (name_and k) (key k told) found_name
 
 -- Rows of tokens
@@ -76,6 +76,9 @@ names ks = any_tokens ShowsName name_shown one_name name_example BeforeStop name
 some_names : Total (OneOrMore Name) BeforeStop
 some_names ks = some_tokens ShowsName name_shown one_name name_example BeforeStop names_end ks
 
+some_numbers : Total Numbers BeforeStop
+some_numbers ks = some_tokens ShowsNumber number_shown one_number number_example BeforeStop numbers_end ks
+
 some_arguments : Total (OneOrMore (One ShowsArgument)) ArgumentsEnd
 some_arguments ks = some_tokens ShowsArgument argument_shown one_argument argument_example ArgumentsEnd arguments_end ks
 
@@ -84,7 +87,7 @@ some_nominals ks = some_tokens ShowsNominal nominal_shown one_nominal nominal_ex
 
 -- Lists
 
-declared_names : Total DeclaredNames (Except comma)
+pub declared_names : Total DeclaredNames (Except comma)
 declared_names ks = separated comma DeclaredName Anything (Except comma) is_comma (λ r f e. f e) (λ r f. tt) found_declared ks
 
 found_definiendum : Total Definiendum Followed
@@ -101,11 +104,11 @@ instance_list ks = separated comma InstanceForm Followed BeforeStop is_comma sto
 
 -- Parts behind a key
 
-keyed : {A : Type 0} (k : Token) (told : IsTold k) (G : List Spot → A → Type 0) (F : List Token → Type 0) → Example G → Total G F → Total (Key k ▸ G) F
+pub keyed : {A : Type 0} (k : Token) (told : IsTold k) (G : List Spot → A → Type 0) (F : List Token → Type 0) → Example G → Total G F → Total (Key k ▸ G) F
 keyed k told G F x g = two (two_parts (λ u b. b) (λ b. b) (Key k) Anything G (Key k ▸ G) F (λ r f. tt) x (λ w d g. g) (λ w d g. (d, g, refl))) g (key k told)
 
 -- a part that a key shows, or nothing
-by_told : {A : Type 0} (G : List Spot → A → Type 0) (F : List Token → Type 0) (k : Token) → IsTold k → (ks : List Token) → (Comes k ks → Outcome G F ks) → (Except k ks → Outcome G F ks) → Outcome G F ks
+pub by_told : {A : Type 0} (G : List Spot → A → Type 0) (F : List Token → Type 0) (k : Token) → IsTold k → (ks : List Token) → (Comes k ks → Outcome G F ks) → (Except k ks → Outcome G F ks) → Outcome G F ks
 by_told G F k told ks there absent = from_told (next_told k told ks)
   where
     from_told : (Comes k ks) ⊎ (Except k ks) → Outcome G F ks
@@ -170,6 +173,18 @@ optional_name ks = by_name ks (next_shown ShowsName name_shown ks)
 optional_depth : Total (Optional 5 (One ShowsDepth)) BeforeStop
 optional_depth ks = by_told (Optional 5 (One ShowsDepth)) BeforeStop (other stop) is_stop ks (λ e. is_read 5 ks (choices.no_depth ks e)) (λ n. onwards (choices.with_depth ks n) (itself (One ShowsDepth) BeforeStop found_depth ks))
 
+-- a number behind a key, or nothing
+number_behind : (d : ℕ) (Shows : Token → ℕ → Type 0) (k : Token) → IsTold k → Example (One Shows) → Total (One Shows) Anything → Total (Optional d (Key k ▸ One Shows)) (Except k)
+number_behind d Shows k told x found ks = by_told (Optional d (Key k ▸ One Shows)) (Except k) k told ks
+    (λ e. onwards (choices.with_keyed ks d k (One Shows) e) (keyed k told (One Shows) (Except k) x (itself (One Shows) (Except k) found) ks))
+    (λ n. is_read d ks (choices.no_keyed ks d k (One Shows) n))
+
+query_depth : Total OptionalDepth DepthEnds
+query_depth = fewer OptionalDepth (Except (other on_word)) DepthEnds rows.depth_no_on (number_behind 5 ShowsDepth (other on_word) is_on depth_example found_depth)
+
+query_limit : Total OptionalLimit BeforeStop
+query_limit = fewer OptionalLimit (Except (other to_word)) BeforeStop rows.limit_no_to (number_behind 10 ShowsLimit (other to_word) is_to limit_example found_limit)
+
 switch : Total Switch BeforeStop
 switch ks = by_told Switch BeforeStop (other on_word) is_on ks
     (λ e. onwards (choices.switch_on ks e) (itself (Sign on_word) BeforeStop (key (other on_word) is_on) ks))
@@ -189,6 +204,7 @@ found_row head.Define ks = onwards (choices.define ks) (found_definition ks)
 found_row head.CoDefine ks = onwards (choices.codefine ks) (found_definition ks)
 found_row head.Theorem ks = two rows.theorem expression_before_stop (name_then colon is_colon) ks
 found_row head.Specification ks = onwards (choices.specification ks) (itself (One ShowsText) BeforeStop found_text ks)
+found_row head.Query ks = two rows.query query_limit (two rows.query_depth query_depth expression_found) ks
 found_row head.Show ks = onwards (choices.show ks) (name_before_stop ks)
 found_row head.Quit ks = is_read tree.quit ks (choices.quit ks)
 found_row head.Set ks = two rows.set switch (found_word (codes "subgoals")) ks
@@ -202,7 +218,7 @@ name_with = name_then (other with_word) is_with
 
 found_proof_row : (h : ProofHead) → Total (ProofRow h) BeforeStop
 found_proof_row proof.Intros ks = onwards (choices.intros ks) (names ks)
-found_proof_row proof.Induction ks = two rows.induction (itself (One ShowsNumber) BeforeStop found_number) (key (other on_word) is_on) ks
+found_proof_row proof.Induction ks = two rows.induction some_numbers (key (other on_word) is_on) ks
 found_proof_row proof.Coinduction ks = is_read tree.coinduction ks (choices.coinduction ks)
 found_proof_row proof.Case ks = two rows.case optional_keep found_name ks
 found_proof_row proof.Apply ks = two rows.apply optional_instances (two applied optional_arguments found_name) ks
@@ -211,6 +227,7 @@ found_proof_row proof.Cut ks = two rows.cut name_before_stop name_with ks
 found_proof_row proof.Inst ks = two rows.inst instance_list name_with ks
 found_proof_row proof.Monotone ks = two rows.monotone expression_before_stop name_with ks
 found_proof_row proof.Search ks = onwards (choices.search ks) (optional_depth ks)
+found_proof_row proof.Skip ks = is_read tree.skip ks (choices.skip ks)
 found_proof_row proof.Split ks = split ks
 found_proof_row proof.Left ks = is_read tree.left ks (choices.left ks)
 found_proof_row proof.Right ks = is_read tree.right ks (choices.right ks)

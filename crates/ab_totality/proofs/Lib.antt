@@ -6,3 +6,4 @@ pub mod Followers
 pub mod Both
 pub mod Openings
 pub mod Commands
+pub mod Files

@@ -1,5 +1,5 @@
 -- With what a command begins can be told.
-use Rattle.std.proofs.Common.{◌≡◌, ℕ, List, Option, Some, None, refl, sym, ◌∙◌, subst, ◌⊎◌, inl, inr, codes}
+use Rattle.std.proofs.Common.{◌≡◌, ℕ, List, Option, Some, None, refl}
 use Rattle.ab_grammar.specs.declared.head.Head.{Head}
 use Rattle.ab_grammar.specs.declared.head.Head.TheVariants as head
 use Rattle.ab_grammar.specs.declared.head.ProofHead.{ProofHead}
@@ -7,9 +7,8 @@ use Rattle.ab_grammar.specs.declared.head.ProofHead.TheVariants as proof
 use Rattle.ab_grammar.specs.declared.Quant.TheVariants.{Exists}
 use Rattle.ab_grammar.specs.Token.{Token, word, quantifier, other}
 use Rattle.ab_grammar.specs.Token as token
-use Rattle.ab_grammar.specs.CommandTable.{listed, command_words, proof_words, Opens, opens, opens_back, opens_reset, OpensProof, opens_proof, opens_exists, ShowsLabel, shows_label, BeginsCommand, begins_query}
+use Rattle.ab_grammar.specs.CommandTable.{listed, command_words, proof_words, Opens, opens, opens_back, opens_reset, OpensProof, opens_proof, opens_exists, ShowsLabel, shows_label}
 use Rattle.ab_grammar.proofs.WholeCommands.{is_label}
-use Rattle.ab_totality.proofs.Shows.{same_word}
 
 -- what a token says of the command that it begins
 pub data Opening (k : Token) : Type 0 where
@@ -18,23 +17,10 @@ pub data Opening (k : Token) : Type 0 where
   opens_label : (x : List ℕ) → ShowsLabel k x → Opening k
   opens_nothing : ((h : Head) → Opens h k tt → ⊥) → ((h : ProofHead) → OpensProof h k tt → ⊥) → ((x : List ℕ) → ShowsLabel k x → ⊥) → Opening k
 
-no_plain : (x : List ℕ) (p : ℕ) → listed command_words x ≡ None → (h : Head) → Opens h (word x p) tt → ⊥
-no_plain x p n h (opens y q e) = let bad : None ≡ Some h = sym n ∙ e in absurd (cc)
-
-no_proof : (x : List ℕ) (p : ℕ) → listed proof_words x ≡ None → (h : ProofHead) → OpensProof h (word x p) tt → ⊥
-no_proof x p n h (opens_proof y q e) = let bad : None ≡ Some h = sym n ∙ e in absurd (cc)
-
-label_begins_nothing : (x : List ℕ) (p : ℕ) (y : List ℕ) → ShowsLabel (word x p) y → BeginsCommand (word x p) → ⊥
-label_begins_nothing x p _ (shows_label z q n) b = n b
-
-query_is_no_label : (x : List ℕ) (p : ℕ) → x ≡ codes "Query" → (y : List ℕ) → ShowsLabel (word x p) y → ⊥
-query_is_no_label x p e y s = label_begins_nothing x p y s (subst (λ (z : List ℕ). BeginsCommand (word z p)) (sym e) (begins_query p))
-
-by_tables : (x : List ℕ) (p : ℕ) (o : Option Head) → listed command_words x ≡ o → (q : Option ProofHead) → listed proof_words x ≡ q → (x ≡ codes "Query") ⊎ (x ≡ codes "Query" → ⊥) → Opening (word x p)
-by_tables x p (Some h) a q b c = opens_plain h (opens x p a)
-by_tables x p None a (Some h) b c = opens_proof_row h (opens_proof x p b)
-by_tables x p None a None b (inl c) = opens_nothing (no_plain x p a) (no_proof x p b) (query_is_no_label x p c)
-by_tables x p None a None b (inr c) = opens_label x (is_label x p a b c)
+by_tables : (x : List ℕ) (p : ℕ) (o : Option Head) → listed command_words x ≡ o → (q : Option ProofHead) → listed proof_words x ≡ q → Opening (word x p)
+by_tables x p (Some h) a q b = opens_plain h (opens x p a)
+by_tables x p None a (Some h) b = opens_proof_row h (opens_proof x p b)
+by_tables x p None a None b = opens_label x (is_label x p a b)
 
 -- the tokens with which some command begins, some proof command, and those that are words
 abbrev PlainToken : Token → Type 0
@@ -65,7 +51,7 @@ label_token : (x : List ℕ) (k : Token) → ShowsLabel k x → LabelToken k
 label_token _ _ (shows_label x p n) = tt
 
 pub opening : (k : Token) → Opening k
-opening (word x p) = by_tables x p (listed command_words x) refl (listed proof_words x) refl (same_word x (codes "Query"))
+opening (word x p) = by_tables x p (listed command_words x) refl (listed proof_words x) refl
 opening (quantifier Exists p) = opens_proof_row proof.Exists (opens_exists p)
 opening (other token.back) = opens_plain head.Back opens_back
 opening (other token.reset) = opens_plain head.Reset opens_reset

@@ -3,9 +3,9 @@ use Rattle.std.proofs.Common.{◌≡◌, ℕ, zero, suc, ◌<◌, ◌≤◌, Lis
 use Rattle.std.proofs.lemmas.Slice.Eq.{bytes_eq-Decides}
 use Rattle.ab_grammar.specs.declared.Infix.{Infix}
 use Rattle.ab_grammar.specs.declared.Infix.TheVariants.{Equal}
-use Rattle.ab_grammar.specs.Token.{Token, Other, word, sign, left_paren, right_paren, comma, colon, other, stop, semicolon, becomes, star, by_word, to_word, with_word, on_word, type_word, number, text}
+use Rattle.ab_grammar.specs.Token.{Token, Other, word, sign, left_paren, right_paren, comma, colon, other, stop, semicolon, becomes, from, star, by_word, to_word, with_word, on_word, type_word, number, text}
 use Rattle.ab_grammar.specs.CommandTrees.{named, hole}
-use Rattle.ab_grammar.specs.CommandTable.{IsNominal, IsDeclarable, ShowsName, shows_name, ShowsDeclared, shows_declared, ShowsNominal, shows_nominal, ShowsArgument, shows_named, shows_hole, ShowsNumber, shows_number, ShowsDepth, shows_depth, ShowsText, shows_text, StandsAnywhere, stands_at}
+use Rattle.ab_grammar.specs.CommandTable.{IsNominal, IsDeclarable, ShowsName, shows_name, ShowsDeclared, shows_declared, ShowsNominal, shows_nominal, ShowsArgument, shows_named, shows_hole, ShowsNumber, shows_number, ShowsDepth, shows_depth, ShowsLimit, shows_limit, ShowsText, shows_text, StandsAnywhere, stands_at}
 use Rattle.ab_grammar.proofs.Following.{Comes, Except, Showing, Without}
 
 -- Keys
@@ -70,6 +70,13 @@ told_becomes o = inr (λ e. absurd (cc))
 
 pub is_becomes : IsTold (other becomes)
 is_becomes = is_other becomes told_becomes
+
+told_from : (o : Other) → (o ≡ from) ⊎ (o ≡ from → ⊥)
+told_from from = inl refl
+told_from o = inr (λ e. absurd (cc))
+
+pub is_from : IsTold (other from)
+is_from = is_other from told_from
 
 told_star : (o : Other) → (o ≡ star) ⊎ (o ≡ star → ⊥)
 told_star star = inl refl
@@ -213,6 +220,18 @@ depth_number n (inr h) = inr (λ m s. let k = depth_of n m s in absurd (omega ar
 pub depth_shown : IsShown ShowsDepth
 depth_shown (other (number n)) = depth_number n (search (arith))
 depth_shown k = inr (λ a s. elim s [ ])
+
+limit_of : (n m : ℕ) → ShowsLimit (other (number n)) m → (1 ≤ n) × (n ≤ 1000)
+limit_of n _ (shows_limit m l h) = (l, h)
+
+limit_number : (n : ℕ) → (n ≤ 1000) ⊎ (1000 < n) → Shown ShowsLimit (other (number n))
+limit_number zero h = inr (λ m s. let k = (limit_of 0 m s).0 in absurd (omega arith))
+limit_number (suc n) (inl h) = inl (suc n, shows_limit (suc n) (omega arith) h)
+limit_number (suc n) (inr h) = inr (λ m s. let k = (limit_of (suc n) m s).1 in absurd (omega arith))
+
+pub limit_shown : IsShown ShowsLimit
+limit_shown (other (number n)) = limit_number n (search (arith))
+limit_shown k = inr (λ a s. elim s [ ])
 
 pub text_shown : IsShown ShowsText
 text_shown (other (text t)) = inl (t, shows_text t)

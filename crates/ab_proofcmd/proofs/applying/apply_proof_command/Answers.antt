@@ -1,6 +1,6 @@
-use Rattle.std.specs.Prelude.{IfOk, All}
+use Rattle.std.specs.Prelude.{IfOk, All, length, slice_index}
 use Rattle.std.specs.Option.{option_copied}
-use Rattle.std.proofs.Common.{ℕ, List, Option, map, sym, subst}
+use Rattle.std.proofs.Common.{◌≡◌, ℕ, List, [], ◌∷◌, Option, map, refl, ap, sym, ◌∙◌, subst, arith}
 use Rattle.ab_grammar.specs.CommandTrees as told
 use Rattle.ab_syntax.specs.declared.command.Argument.{Argument}
 use Rattle.ab_syntax.specs.declared.command.Instance.{Instance}
@@ -30,16 +30,32 @@ returns-in-Intros-clause-refused g c fault e =
     rw c.in-Intros.is
     (subst (λ (xs : List (List ℕ)). IsRefused l (told.intros xs) c.args.world.now c.args.proof.now fault) c.as_slice.ensures (c.intros.ensures.refused fault e l))
 
+-- one place is given
+only : (xs : List ℕ) → length xs ≡ 1 → xs ≡ slice_index xs 0 ∷ []
+only [] e = absurd (omega arith)
+only (x ∷ []) e = refl
+only (x ∷ y ∷ xs) e = absurd (omega arith)
+
+one_place : (places items : List ℕ) → length places ≡ 1 → items ≡ places → slice_index items 0 ∷ [] ≡ places
+one_place places items e same = ap (λ (xs : List ℕ). slice_index xs 0 ∷ []) same ∙ sym (only places e)
+
 pub returns-in-Induction-clause-applied : goal.returns-in-Induction-clause-applied
 returns-in-Induction-clause-applied g c =
+    let built = subst (λ (k : ProofCommand). IsBuilt (proof_command_of k)) c.in-Induction.is c.requires.built in
+    let one = one_place (list_of c.in-Induction.places) c.as_slice-in-Induction.result.now built c.as_slice-in-Induction.ensures in
+    let done = λ (m : Label) (xs : List ℕ). IfOk c.induction.result (λ u. IsApplied m (told.induction xs) c.args.world.now c.args.proof.now c.induction.new.world c.induction.new.proof) in
     rw c.in-Induction.is
-    (subst (λ (m : Label). IfOk c.induction.result (λ u. IsApplied m (told.induction c.in-Induction.place) c.args.world.now c.args.proof.now c.induction.new.world c.induction.new.proof)) c.in_ok-wanted.ensures
-    c.induction.ensures.applied)
+    (subst (λ (m : Label). done m (list_of c.in-Induction.places)) c.in_ok-wanted.ensures
+    (subst (λ (xs : List ℕ). done _ xs) one c.induction.ensures.applied))
 
 pub returns-in-Induction-clause-refused : goal.returns-in-Induction-clause-refused
 returns-in-Induction-clause-refused g c fault e =
+    let built = subst (λ (k : ProofCommand). IsBuilt (proof_command_of k)) c.in-Induction.is c.requires.built in
+    let one = one_place (list_of c.in-Induction.places) c.as_slice-in-Induction.result.now built c.as_slice-in-Induction.ensures in
+    let refused = λ (m : Label) (xs : List ℕ). IsRefused m (told.induction xs) c.args.world.now c.args.proof.now fault in
     rw c.in-Induction.is
-    (subst (λ (m : Label). IsRefused m (told.induction c.in-Induction.place) c.args.world.now c.args.proof.now fault) c.in_ok-wanted.ensures (c.induction.ensures.refused fault e))
+    (subst (λ (m : Label). refused m (list_of c.in-Induction.places)) c.in_ok-wanted.ensures
+    (subst (λ (xs : List ℕ). refused _ xs) one (c.induction.ensures.refused fault e)))
 
 pub returns-in-Coinduction-clause-applied : goal.returns-in-Coinduction-clause-applied
 returns-in-Coinduction-clause-applied g c =

@@ -1,7 +1,6 @@
-use Rattle.std.proofs.Common.{◌≡◌, ◌≢◌, codes, sym, ◌∙◌, rules}
+use Rattle.std.proofs.Common.{◌∙◌, sym}
 use Rattle.ab_grammar.specs.CommandTable.{opens, opens_proof}
 use Rattle.ab_grammar.proofs.WholeCommands.{is_label}
-use Rattle.ab_syntax.proofs.FirstToken.{query}
 use Rattle.ab_syntax.proofs.opening.word_opening.Goals as goal
 
 pub returns-in-Some : goal.returns-in-Some
@@ -10,10 +9,5 @@ returns-in-Some c = λ p. opens c.args.written.now p (sym c.in-Some.ensures)
 pub returns-in-Some-lookup : goal.returns-in-Some-lookup
 returns-in-Some-lookup c = λ p. opens_proof c.args.written.now p (sym c.in-Some-lookup.ensures)
 
-pub returns-then-eq : goal.returns-then-eq
-returns-then-eq c = λ p. let is : c.args.written.now ≡ codes "Query" = search rules in query c.args.written.now p is
-
-pub returns-else-eq : goal.returns-else-eq
-returns-else-eq c = λ p.
-    let not : c.args.written.now ≢ codes "Query" = search rules in
-    is_label c.args.written.now p (sym c.lookup.ensures ∙ c.in_default.is) (sym c.lookup-2.ensures ∙ c.in_default-lookup.is) not
+pub returns : goal.returns
+returns c = λ p. is_label c.args.written.now p (sym c.lookup.ensures ∙ c.in_default.is) (sym c.lookup-2.ensures ∙ c.in_default-lookup.is)

@@ -53,6 +53,9 @@ returns-in-Permute c = rw c.in-Permute.is (c.permute.ensures)
 pub returns-in-Coinduction : goal.returns-in-Coinduction
 returns-in-Coinduction c = rw c.in-Coinduction.is (choices.coinduction (rest c.args.text.now c.args.here.now))
 
+pub returns-in-Skip : goal.returns-in-Skip
+returns-in-Skip c = rw c.in-Skip.is (choices.skip (rest c.args.text.now c.args.here.now))
+
 pub returns-in-Left : goal.returns-in-Left
 returns-in-Left c = rw c.in-Left.is (choices.left (rest c.args.text.now c.args.here.now))
 

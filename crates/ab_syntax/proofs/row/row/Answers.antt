@@ -91,6 +91,9 @@ returns-in_err-switch-in-Set c =
 pub returns-in_ok-switch-in-Set : goal.returns-in_ok-switch-in-Set
 returns-in_ok-switch-in-Set c = rw c.in-Set.is ((set.first_read _ _ _ c.in_ok-keyword-in-Set.ensures).reads _ _ c.in_ok-switch-in-Set.ensures)
 
+pub returns-in-Query : goal.returns-in-Query
+returns-in-Query c = rw c.in-Query.is (c.query.ensures)
+
 pub returns-in-Quit : goal.returns-in-Quit
 returns-in-Quit c = rw c.in-Quit.is (choices.quit (rest c.args.text.now c.args.here.now))
 
