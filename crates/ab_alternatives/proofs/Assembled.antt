@@ -7,26 +7,26 @@ use Rattle.ab_term.specs.Types.{Ty, kind, prop, arrow}
 use Rattle.ab_term.specs.Terms.{terms_of}
 use Rattle.ab_term.specs.Typing.{TakeType, take_term}
 use Rattle.ab_term.specs.Constants.{Constant, type_in}
-use Rattle.ab_instances.specs.ab_types.specs.Entries.{Table, signature}
-use Rattle.ab_instances.specs.ab_types.specs.Ids.{type_of}
-use Rattle.ab_instances.specs.ab_types.specs.declared.ids.ConstId.{ConstId}
-use Rattle.ab_instances.specs.ab_store.specs.declared.node.TermId.{TermId}
-use Rattle.ab_instances.specs.ab_store.specs.declared.node.CellId.{CellId}
-use Rattle.ab_instances.specs.ab_store.specs.declared.node.CellEntry.{CellEntry}
-use Rattle.ab_instances.specs.ab_store.specs.Trees.{Contents, Holds, HoldsCell, tree_of, cell_of}
-use Rattle.ab_instances.specs.ab_store.specs.Naming.{IsTypedBy}
-use Rattle.ab_instances.specs.ab_norm.specs.Taking.{AreTaken}
-use Rattle.ab_equate.specs.ab_solver.specs.Answers.{IsTypedPair}
-use Rattle.ab_instances.specs.ab_cases.specs.Alternatives.{arguments_equal}
-use Rattle.ab_instances.specs.ab_clauses.specs.Readings.{name_of, clause_of, HoldsClause}
-use Rattle.ab_instances.specs.ab_clauses.specs.declared.kept.ClauseTerm.{ClauseTerm}
-use Rattle.ab_instances.specs.ab_unifying.specs.Problem.{cell_read, cells_read, variables_read}
-use Rattle.ab_instances.specs.ab_unifying.specs.Changed.{Grows}
-use Rattle.ab_instances.specs.ab_unifying.proofs.Growth.{grown_type}
-use Rattle.ab_instances.specs.Readings.{given_at}
-use Rattle.ab_marks.specs.ab_logic.specs.declared.world.World.{World}
-use Rattle.ab_marks.specs.ab_logic.proofs.Blocks.{same_clause}
-use Rattle.ab_alternatives.specs.Made.{equate, trees_from}
+use Rattle.ab_norm.specs.ab_types.specs.Entries.{Table, signature}
+use Rattle.ab_norm.specs.ab_types.specs.Ids.{type_of}
+use Rattle.ab_norm.specs.ab_types.specs.declared.ids.ConstId.{ConstId}
+use Rattle.ab_norm.specs.ab_store.specs.declared.node.TermId.{TermId}
+use Rattle.ab_norm.specs.ab_store.specs.declared.node.CellId.{CellId}
+use Rattle.ab_norm.specs.ab_store.specs.declared.node.CellEntry.{CellEntry}
+use Rattle.ab_norm.specs.ab_store.specs.Trees.{Contents, Holds, HoldsCell, tree_of, cell_of}
+use Rattle.ab_norm.specs.ab_store.specs.Naming.{IsTypedBy}
+use Rattle.ab_norm.specs.TypedArguments.{AreTaken}
+use Rattle.ab_unify.specs.UnifyAnswers.{IsTypedPair}
+use Rattle.ab_unifiers.specs.Alternatives.{arguments_equal}
+use Rattle.ab_typing.specs.DefinitionReadings.{name_of, clause_of, HoldsClause}
+use Rattle.ab_typing.specs.declared.definitions.ClauseTerm.{ClauseTerm}
+use Rattle.ab_unify.specs.Problem.{cell_read, cells_read, variables_read}
+use Rattle.ab_unify.specs.StoreChanges.{Grows}
+use Rattle.ab_unify.proofs.Growth.{grown_type}
+use Rattle.ab_instances.specs.ListReadings.{given_at}
+use Rattle.ab_logic.specs.declared.world.World.{World}
+use Rattle.ab_logic.proofs.Blocks.{same_clause}
+use Rattle.ab_alternatives.specs.LeftAlternatives.{equate, trees_from}
 
 abbrev x : List ℕ
 x = codes "x"

@@ -10,45 +10,45 @@ use Rattle.ab_term.specs.Terms.{Nominal, Terms, Read}
 use Rattle.ab_term.specs.Typing.{Signature, HasType}
 use Rattle.ab_term.specs.Variables.{Substitution, IsTyped, image, image_all}
 use Rattle.ab_term.specs.Sameness.{same_number}
-use Rattle.ab_instances.specs.ab_types.specs.Entries.{Table}
-use Rattle.ab_instances.specs.ab_store.specs.declared.node.CellId.{CellId}
-use Rattle.ab_instances.specs.ab_store.specs.Trees.{Contents, HoldsCell}
-use Rattle.ab_instances.specs.ab_norm.specs.declared.nominal.Nominal.{Nominal as KeptNominal}
-use Rattle.ab_instances.specs.ab_solve.specs.Replacing.{Cell, holds}
-use Rattle.ab_instances.specs.ab_solve.specs.Solving.{Equation}
-use Rattle.ab_instances.specs.ab_cases.specs.Clauses.{Each, numbered, put_together, clause_variables, clause_names, name_term, filled}
-use Rattle.ab_instances.specs.ab_cases.specs.Alternatives.{cells_over, made_over, made_terms, cells_of, arguments_equal}
-use Rattle.ab_instances.specs.ab_cases.proofs.Covered.{names_typed}
-use Rattle.ab_instances.specs.ab_cases.proofs.Lifting.{OfCells, made_terms_typed}
-use Rattle.ab_instances.specs.ab_cases.proofs.Rows.{together_typed}
-use Rattle.ab_instances.specs.ab_cases.proofs.Variables.{Has, held_has, has_held}
-use Rattle.ab_instances.specs.ab_clauses.specs.declared.kept.ClauseTerm.{ClauseTerm}
-use Rattle.ab_instances.specs.ab_unifying.specs.Problem.{cell_read, cells_read, variables_read}
-use Rattle.ab_instances.specs.ab_unifying.specs.Changed.{Grows}
-use Rattle.ab_instances.specs.ab_store.specs.Reading.{cell_variable}
-use Rattle.ab_instances.specs.Readings.{cells_at}
+use Rattle.ab_norm.specs.ab_types.specs.Entries.{Table}
+use Rattle.ab_norm.specs.ab_store.specs.declared.node.CellId.{CellId}
+use Rattle.ab_norm.specs.ab_store.specs.Trees.{Contents, HoldsCell}
+use Rattle.ab_norm.specs.declared.nominal.Nominal.{Nominal as KeptNominal}
+use Rattle.ab_unifiers.specs.Replacements.{Cell, holds}
+use Rattle.ab_unifiers.specs.Unification.{Equation}
+use Rattle.ab_unifiers.specs.Clauses.{Each, numbered, put_together, clause_variables, clause_names, name_term, filled}
+use Rattle.ab_unifiers.specs.Alternatives.{cells_over, made_over, made_terms, cells_of, arguments_equal}
+use Rattle.ab_unifiers.proofs.Covered.{names_typed}
+use Rattle.ab_unifiers.proofs.Lifting.{OfCells, made_terms_typed}
+use Rattle.ab_unifiers.proofs.Rows.{together_typed}
+use Rattle.ab_unifiers.proofs.Variables.{Has, held_has, has_held}
+use Rattle.ab_typing.specs.declared.definitions.ClauseTerm.{ClauseTerm}
+use Rattle.ab_unify.specs.Problem.{cell_read, cells_read, variables_read}
+use Rattle.ab_unify.specs.StoreChanges.{Grows}
+use Rattle.ab_norm.specs.ab_store.specs.Reading.{cell_variable}
+use Rattle.ab_instances.specs.ListReadings.{cells_at}
 use Rattle.ab_instances.proofs.Fitting.{variables_stay}
 use Rattle.ab_formulas.specs.Formulas.{IsFormula}
 use Rattle.ab_formulas.specs.Declarations.{IsDefining, signature_in}
 use Rattle.ab_formulas.specs.Sequents.{Variable, Hypothesis, Sequent, formulas, formulas_of, in_terms, assuming}
-use Rattle.ab_marks.specs.ab_logic.specs.Worlds.{IsWorld, Holds, variable_of, declarations_of, read}
-use Rattle.ab_marks.specs.ab_logic.specs.Readings.{sequent_of, hypothesis_of, HoldsSequent}
-use Rattle.ab_marks.specs.ab_logic.specs.declared.world.World.{World}
-use Rattle.ab_marks.specs.ab_logic.specs.declared.sequent.Sequent.{Sequent as Kept}
-use Rattle.ab_marks.specs.ab_logic.specs.declared.sequent.Hypothesis.{Hypothesis as KeptHypothesis}
+use Rattle.ab_logic.specs.Worlds.{IsWorld, Holds, variable_of, declarations_of, read}
+use Rattle.ab_logic.specs.SequentReadings.{sequent_of, hypothesis_of, HoldsSequent}
+use Rattle.ab_logic.specs.declared.world.World.{World}
+use Rattle.ab_logic.specs.declared.sequent.Sequent.{Sequent as Kept}
+use Rattle.ab_logic.specs.declared.sequent.Hypothesis.{Hypothesis as KeptHypothesis}
 use Rattle.ab_formulas.proofs.Images.{image_formula}
-use Rattle.ab_formulas.specs.Marking.{mark_below, marked_in}
+use Rattle.ab_formulas.specs.BodyMarks.{mark_below, marked_in}
 use Rattle.ab_formulas.proofs.MarkedFormulas.{marked_formula, marked_variables}
 use Rattle.ab_theory.specs.Equations.{changed}
 use Rattle.ab_theory.specs.Splits.{Case}
-use Rattle.ab_equate.specs.Meanwhile.{AreFrom, IsMeanwhile, count_before}
-use Rattle.ab_equate.proofs.Going.{world_meanwhile}
-use Rattle.ab_equate.proofs.Restored.{goal_same, goal_held, declarations_same}
+use Rattle.ab_equations.specs.Meanwhile.{AreFrom, IsMeanwhile, count_before}
+use Rattle.ab_equations.proofs.Going.{world_meanwhile}
+use Rattle.ab_equations.proofs.Restored.{goal_same, goal_held, declarations_same}
 use Rattle.ab_theory.specs.Atoms.{Defined, Choice}
 use Rattle.ab_theory.specs.Analysis.{raised_variables, case_of}
-use Rattle.ab_theory.specs.Raising.{raised_cells, raised_to, raised_terms}
-use Rattle.ab_alternatives.specs.Made.{fresh_in, unchosen_in, base_in, own_in, filled_in, images_from, raising, goal_for, case_put, IsMade}
-use Rattle.ab_alternatives.specs.Readings.{defined_read, choice_read}
+use Rattle.ab_theory.specs.RaisedAlternatives.{raised_cells, raised_to, raised_terms}
+use Rattle.ab_alternatives.specs.LeftAlternatives.{fresh_in, unchosen_in, base_in, own_in, filled_in, images_from, raising, goal_for, case_put, IsMade}
+use Rattle.ab_alternatives.specs.AtomReadings.{defined_read, choice_read}
 use Rattle.ab_alternatives.specs.declared.alternatives.Alternative.{Alternative}
 use Rattle.ab_alternatives.specs.declared.atoms.DefinedAtom.{DefinedAtom}
 use Rattle.ab_theory.proofs.AlternativesParts.{case_is}

@@ -7,19 +7,19 @@ use Rattle.ab_term.specs.Terms.{Nominal}
 use Rattle.ab_term.specs.Names.{support_of_all}
 use Rattle.ab_term.proofs.Comparisons.{same_type-Decides}
 use Rattle.ab_term.proofs.Lists.{All-from_contains}
-use Rattle.ab_instances.specs.ab_types.specs.Entries.{Table}
-use Rattle.ab_instances.specs.ab_cases.specs.Choices.{others, of_type, new_constant, for_each, choices, in_order}
-use Rattle.ab_instances.specs.ab_cases.proofs.Choosing.{contains_kept}
-use Rattle.ab_instances.specs.ab_norm.specs.declared.nominal.Nominal.{Nominal as KeptNominal}
-use Rattle.ab_instances.specs.ab_cases.specs.Clauses.{Clause}
-use Rattle.ab_instances.specs.Readings.{names_read}
+use Rattle.ab_norm.specs.ab_types.specs.Entries.{Table}
+use Rattle.ab_unifiers.specs.Choices.{others, of_type, new_constant, for_each, choices, in_order}
+use Rattle.ab_unifiers.proofs.Choosing.{contains_kept}
+use Rattle.ab_norm.specs.declared.nominal.Nominal.{Nominal as KeptNominal}
+use Rattle.ab_unifiers.specs.Clauses.{Clause}
+use Rattle.ab_instances.specs.ListReadings.{names_read}
 use Rattle.ab_formulas.specs.Sequents.{Sequent, goal_names}
 use Rattle.ab_theory.specs.Splits.{CaseOver}
 use Rattle.ab_theory.specs.Atoms.{Defined}
 use Rattle.ab_theory.specs.Analysis.{case_of}
 use Rattle.ab_formulas.specs.Members.{SameMembers}
 use Rattle.ab_formulas.proofs.AlternativesAgreeing.{choices_same}
-use Rattle.ab_alternatives.specs.Going.{clause_cases}
+use Rattle.ab_alternatives.specs.CaseSteps.{clause_cases}
 use Rattle.ab_alternatives.proofs.Listed.{map_twice}
 
 all_for_each : {X Y : Type 0} (P : Y → Type 0) (f : X → List Y) (xs : List X) → All (λ x. All P (f x)) xs → All P (for_each f xs)

@@ -4,27 +4,27 @@ use Rattle.std.proofs.Common.{◌≡◌, ℕ, ◌-◌, List, [], ◌++◌, map, 
 use Rattle.ab_term.specs.Types.{Ty, prop}
 use Rattle.ab_term.specs.Variables.{Substitution, image}
 use Rattle.ab_term.specs.Sameness.{same_number}
-use Rattle.ab_instances.specs.ab_types.specs.Entries.{Table}
-use Rattle.ab_instances.specs.ab_store.specs.declared.node.TermId.{TermId}
-use Rattle.ab_instances.specs.ab_store.specs.declared.node.CellId.{CellId}
-use Rattle.ab_instances.specs.ab_store.specs.declared.node.Equation.{Equation}
-use Rattle.ab_instances.specs.ab_store.specs.Trees.{Contents, tree_of}
-use Rattle.ab_instances.specs.ab_store.specs.Reading.{reading}
-use Rattle.ab_instances.specs.ab_store.specs.Naming.{IsTerm}
-use Rattle.ab_instances.specs.ab_store.proofs.Growing.{unbound_reads}
-use Rattle.ab_instances.specs.ab_norm.specs.Nominals.{HoldsNominal}
-use Rattle.ab_instances.specs.ab_norm.specs.declared.nominal.Nominal.{Nominal}
-use Rattle.ab_instances.specs.ab_solve.specs.Replacing.{Cell}
-use Rattle.ab_instances.specs.ab_solve.specs.Solving.{unified, Solves}
-use Rattle.ab_instances.specs.ab_unifying.specs.Problem.{cells_read, problem}
-use Rattle.ab_instances.specs.ab_unifying.specs.Changed.{Grows}
-use Rattle.ab_equate.specs.ab_solver.specs.Answers.{AreNewCells, AreInAge, AreLeft}
-use Rattle.ab_instances.specs.Readings.{names_read}
+use Rattle.ab_norm.specs.ab_types.specs.Entries.{Table}
+use Rattle.ab_norm.specs.ab_store.specs.declared.node.TermId.{TermId}
+use Rattle.ab_norm.specs.ab_store.specs.declared.node.CellId.{CellId}
+use Rattle.ab_norm.specs.ab_store.specs.declared.node.Equation.{Equation}
+use Rattle.ab_norm.specs.ab_store.specs.Trees.{Contents, tree_of}
+use Rattle.ab_norm.specs.ab_store.specs.Reading.{reading}
+use Rattle.ab_norm.specs.ab_store.specs.Naming.{IsTerm}
+use Rattle.ab_norm.specs.ab_store.proofs.Growing.{unbound_reads}
+use Rattle.ab_norm.specs.Nominals.{HoldsNominal}
+use Rattle.ab_norm.specs.declared.nominal.Nominal.{Nominal}
+use Rattle.ab_unifiers.specs.Replacements.{Cell}
+use Rattle.ab_unifiers.specs.Unification.{unified, Solves}
+use Rattle.ab_unify.specs.Problem.{cells_read, problem}
+use Rattle.ab_unify.specs.StoreChanges.{Grows}
+use Rattle.ab_unify.specs.UnifyAnswers.{AreNewCells, AreInAge, AreLeft}
+use Rattle.ab_instances.specs.ListReadings.{names_read}
 use Rattle.ab_instances.proofs.Made.{names_stay}
 use Rattle.ab_theory.specs.Equations.{made}
-use Rattle.ab_equate.specs.Meanwhile.{AreFrom, unbound_of}
-use Rattle.ab_alternatives.specs.Unfolding.{variable_at, closed_by, Becomes}
-use Rattle.ab_alternatives.specs.declared.unfolding.Unfolding.{Unfolding}
+use Rattle.ab_equations.specs.Meanwhile.{AreFrom, unbound_of}
+use Rattle.ab_alternatives.specs.RightAlternatives.{variable_at, closed_by, Becomes}
+use Rattle.ab_alternatives.specs.declared.clause_bodies.Unfolding.{Unfolding}
 use Rattle.ab_alternatives.proofs.LeftOpen.{left_open}
 
 module _ (T U : Table) (S V X : Contents) (g : Grows T S U V) (unbound : S.bindings ≡ []) (u : Unfolding) (xs : List (List ℕ)) (names : List Nominal) (held : All (HoldsNominal T) names)

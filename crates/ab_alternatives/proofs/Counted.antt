@@ -9,11 +9,11 @@ use Rattle.ab_term.specs.Terms.{Nominal}
 use Rattle.ab_term.specs.Names.{support_of_all}
 use Rattle.ab_term.proofs.Comparisons.{same_type-Decides}
 use Rattle.ab_term.proofs.Lists.{Contains-none, Contains-cases, Contains-from_map}
-use Rattle.ab_instances.specs.ab_cases.specs.Clauses.{Clause}
-use Rattle.ab_instances.specs.ab_cases.specs.Choices.{in_order, others, of_type, new_constant, choices, for_each}
-use Rattle.ab_instances.specs.ab_cases.proofs.Choosing.{contains_kept, gathered_from}
+use Rattle.ab_unifiers.specs.Clauses.{Clause}
+use Rattle.ab_unifiers.specs.Choices.{in_order, others, of_type, new_constant, choices, for_each}
+use Rattle.ab_unifiers.proofs.Choosing.{contains_kept, gathered_from}
 use Rattle.ab_theory.specs.Atoms.{Defined, Choice}
-use Rattle.ab_alternatives.specs.Counting.{choices_with, choices_by, choices_among}
+use Rattle.ab_alternatives.specs.ChoiceCounts.{choices_with, choices_by, choices_among}
 
 -- two lists put together, by places
 

@@ -5,21 +5,21 @@ use Rattle.std.proofs.Common.{◌≡◌, ℕ, List, [], ◌∷◌, ◌++◌, byt
 use Rattle.std.proofs.lemmas.List.Elements.{All-cons, All-map}
 use Rattle.ab_term.specs.Terms.{Nominal, terms_of, Read}
 use Rattle.ab_term.specs.Names.{support, support_of_all}
-use Rattle.ab_instances.specs.ab_store.specs.declared.node.TermId.{TermId}
-use Rattle.ab_instances.specs.ab_cases.specs.Clauses.{Clause}
-use Rattle.ab_instances.specs.ab_cases.specs.Choices.{in_order, for_each}
-use Rattle.ab_instances.specs.ab_cases.proofs.Choosing.{ordered_contains, contains_ordered}
-use Rattle.ab_instances.specs.Readings.{given_at}
-use Rattle.ab_marks.specs.ab_logic.specs.Worlds.{Holds, read}
-use Rattle.ab_marks.specs.ab_logic.specs.Readings.{sequent_of, hypothesis_of, HoldsSequent}
+use Rattle.ab_norm.specs.ab_store.specs.declared.node.TermId.{TermId}
+use Rattle.ab_unifiers.specs.Clauses.{Clause}
+use Rattle.ab_unifiers.specs.Choices.{in_order, for_each}
+use Rattle.ab_unifiers.proofs.Choosing.{ordered_contains, contains_ordered}
+use Rattle.ab_instances.specs.ListReadings.{given_at}
+use Rattle.ab_logic.specs.Worlds.{Holds, read}
+use Rattle.ab_logic.specs.SequentReadings.{sequent_of, hypothesis_of, HoldsSequent}
 use Rattle.ab_formulas.specs.Sequents.{names_of, formulas, goal_names}
-use Rattle.ab_marks.specs.ab_logic.specs.declared.world.World.{World}
-use Rattle.ab_marks.specs.ab_logic.specs.declared.sequent.Sequent.{Sequent as Kept}
-use Rattle.ab_marks.specs.ab_logic.specs.declared.sequent.Hypothesis.{Hypothesis}
+use Rattle.ab_logic.specs.declared.world.World.{World}
+use Rattle.ab_logic.specs.declared.sequent.Sequent.{Sequent as Kept}
+use Rattle.ab_logic.specs.declared.sequent.Hypothesis.{Hypothesis}
 use Rattle.ab_theory.specs.Atoms.{Defined, choices_of}
 use Rattle.ab_formulas.specs.Members.{SameMembers}
 use Rattle.ab_formulas.proofs.AlternativesAgreeing.{choices_same}
-use Rattle.ab_alternatives.specs.Counting.{choices_with}
+use Rattle.ab_alternatives.specs.ChoiceCounts.{choices_with}
 
 given_names : (ts : List Read) → support_of_all (terms_of ts) ≡ names_of ts
 given_names [] = refl

@@ -3,15 +3,15 @@ use Rattle.std.specs.Prelude.{if◌then◌else◌}
 use Rattle.std.specs.List.{All}
 use Rattle.std.proofs.Common.{◌≡◌, List, [], ◌∷◌, Bool, true, false, Some, subst}
 use Rattle.std.proofs.lemmas.List.Elements.{All-head, All-tail}
-use Rattle.ab_instances.specs.ab_types.specs.Entries.{Table}
-use Rattle.ab_instances.specs.ab_types.specs.declared.ids.ConstId.{ConstId}
-use Rattle.ab_instances.specs.ab_store.specs.Trees.{Contents}
-use Rattle.ab_instances.specs.ab_clauses.specs.declared.kept.Block.{Block}
-use Rattle.ab_marks.specs.ab_logic.specs.Additions.{is_among, block_or, block_kept}
-use Rattle.ab_marks.specs.ab_logic.specs.Worlds.{IsKept, IsKeptBlock}
-use Rattle.ab_marks.specs.ab_logic.specs.declared.additions.Added.{Added}
-use Rattle.ab_marks.specs.ab_logic.specs.declared.additions.Addition.{Addition}
-use Rattle.ab_marks.specs.ab_logic.specs.declared.additions.Addition.TheVariants.{Theorem, Definition}
+use Rattle.ab_norm.specs.ab_types.specs.Entries.{Table}
+use Rattle.ab_norm.specs.ab_types.specs.declared.ids.ConstId.{ConstId}
+use Rattle.ab_norm.specs.ab_store.specs.Trees.{Contents}
+use Rattle.ab_typing.specs.declared.definitions.Block.{Block}
+use Rattle.ab_logic.specs.Additions.{is_among, block_or, block_kept}
+use Rattle.ab_logic.specs.Worlds.{IsKept, IsKeptBlock}
+use Rattle.ab_logic.specs.declared.additions.Added.{Added}
+use Rattle.ab_logic.specs.declared.additions.Addition.{Addition}
+use Rattle.ab_logic.specs.declared.additions.Addition.TheVariants.{Theorem, Definition}
 
 module _ (types : Table) (store : Contents) (p : ConstId) where
   pub kept_block : (xs : List Added) (b : Block) → All (λ (a : Added). IsKept types store a.what) xs → block_kept xs p ≡ Some b → IsKeptBlock types store b

@@ -4,17 +4,17 @@ use Rattle.std.proofs.Common.{◌≡◌, List, [], ◌∷◌, map, refl, sym, �
 use Rattle.std.proofs.lemmas.List.Elements.{All-head, All-tail, All-weaker}
 use Rattle.ab_term.specs.Terms.{terms_of}
 use Rattle.ab_term.specs.Constants.{Constant}
-use Rattle.ab_instances.specs.ab_types.specs.Ids.{HoldsConstant}
-use Rattle.ab_instances.specs.ab_types.proofs.Entries.{holds_constant, same_constant}
-use Rattle.ab_instances.specs.ab_store.specs.declared.node.TermId.{TermId}
-use Rattle.ab_instances.specs.ab_clauses.specs.Readings.{name_of}
-use Rattle.ab_marks.specs.ab_logic.specs.Forms.{sign_of}
-use Rattle.ab_marks.specs.ab_logic.specs.Growth.{Grows}
-use Rattle.ab_marks.specs.ab_logic.specs.Worlds.{Holds, read, definition_of}
-use Rattle.ab_marks.specs.ab_logic.specs.declared.world.World.{World}
-use Rattle.ab_marks.specs.ab_logic.specs.declared.additions.Addition.TheVariants.{Definition}
-use Rattle.ab_marks.specs.ab_logic.proofs.Blocks.{same_definition, still_kept}
-use Rattle.ab_alternatives.specs.Readings.{defined_read, HoldsDefined}
+use Rattle.ab_norm.specs.ab_types.specs.Ids.{HoldsConstant}
+use Rattle.ab_norm.specs.ab_types.proofs.Entries.{holds_constant, same_constant}
+use Rattle.ab_norm.specs.ab_store.specs.declared.node.TermId.{TermId}
+use Rattle.ab_typing.specs.DefinitionReadings.{name_of}
+use Rattle.ab_logic.specs.Forms.{sign_of}
+use Rattle.ab_logic.specs.WorldGrowth.{Grows}
+use Rattle.ab_logic.specs.Worlds.{Holds, read, definition_of}
+use Rattle.ab_logic.specs.declared.world.World.{World}
+use Rattle.ab_logic.specs.declared.additions.Addition.TheVariants.{Definition}
+use Rattle.ab_logic.proofs.Blocks.{same_definition, still_kept}
+use Rattle.ab_alternatives.specs.AtomReadings.{defined_read, HoldsDefined}
 use Rattle.ab_alternatives.specs.declared.atoms.DefinedAtom.{DefinedAtom}
 
 module _ (w v : World) (g : Grows w v) where

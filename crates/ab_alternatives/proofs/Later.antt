@@ -6,39 +6,39 @@ use Rattle.ab_term.specs.Types.{Ty, prop}
 use Rattle.ab_term.specs.Typing.{Signature, HasType, TakeType, typed_spine}
 use Rattle.ab_term.specs.Terms.{Terms, terms_of, constant, spine}
 use Rattle.ab_term.specs.Names.{support_of_all}
-use Rattle.ab_instances.specs.ab_types.specs.Entries.{signature}
-use Rattle.ab_instances.specs.ab_types.specs.Ids.{HoldsConstant}
-use Rattle.ab_instances.specs.ab_types.specs.declared.ids.ConstId.{ConstId}
-use Rattle.ab_instances.specs.ab_store.specs.declared.node.TermId.{TermId}
-use Rattle.ab_instances.specs.ab_norm.specs.Nominals.{HoldsNominal}
-use Rattle.ab_instances.specs.ab_norm.specs.Taking.{AreTaken}
-use Rattle.ab_instances.specs.ab_norm.specs.declared.nominal.Nominal.{Nominal}
-use Rattle.ab_instances.specs.ab_cases.specs.Clauses.{Clause}
-use Rattle.ab_instances.specs.ab_cases.specs.Choices.{in_order}
-use Rattle.ab_formulas.specs.Cased as kept
-use Rattle.ab_instances.specs.ab_clauses.specs.Readings.{clause_of, name_of}
-use Rattle.ab_instances.specs.ab_clauses.specs.declared.kept.Block.{Block}
-use Rattle.ab_instances.specs.ab_clauses.specs.declared.kept.ClauseTerm.{ClauseTerm}
-use Rattle.ab_instances.specs.Readings.{names_read}
+use Rattle.ab_norm.specs.ab_types.specs.Entries.{signature}
+use Rattle.ab_norm.specs.ab_types.specs.Ids.{HoldsConstant}
+use Rattle.ab_norm.specs.ab_types.specs.declared.ids.ConstId.{ConstId}
+use Rattle.ab_norm.specs.ab_store.specs.declared.node.TermId.{TermId}
+use Rattle.ab_norm.specs.Nominals.{HoldsNominal}
+use Rattle.ab_norm.specs.TypedArguments.{AreTaken}
+use Rattle.ab_norm.specs.declared.nominal.Nominal.{Nominal}
+use Rattle.ab_unifiers.specs.Clauses.{Clause}
+use Rattle.ab_unifiers.specs.Choices.{in_order}
+use Rattle.ab_formulas.specs.CaseClauses as kept
+use Rattle.ab_typing.specs.DefinitionReadings.{clause_of, name_of}
+use Rattle.ab_typing.specs.declared.definitions.Block.{Block}
+use Rattle.ab_typing.specs.declared.definitions.ClauseTerm.{ClauseTerm}
+use Rattle.ab_instances.specs.ListReadings.{names_read}
 use Rattle.ab_instances.proofs.Made.{names_stay, names_held}
 use Rattle.ab_formulas.specs.Declarations as declared
 use Rattle.ab_formulas.specs.Declarations.{Declarations, signature_in, IsDefining}
 use Rattle.ab_formulas.specs.Formulas.{IsFormula}
 use Rattle.ab_formulas.specs.Sequents.{Sequent, IsSequent, formulas_of, goal_names}
-use Rattle.ab_marks.specs.ab_logic.specs.Worlds.{IsWorld, Holds, read, declarations_of, definition_of, IsKeptClause, IsKeptBlock}
-use Rattle.ab_marks.specs.ab_logic.specs.Readings.{sequent_of}
-use Rattle.ab_marks.specs.ab_logic.specs.declared.world.World.{World}
-use Rattle.ab_marks.specs.ab_logic.specs.declared.additions.Addition.TheVariants.{Definition}
-use Rattle.ab_marks.specs.ab_logic.specs.declared.sequent.Sequent.{Sequent as Kept}
-use Rattle.ab_marks.specs.ab_logic.proofs.Growing.{map_same, same_sequent, still_held, same_constants}
-use Rattle.ab_marks.specs.ab_logic.proofs.Blocks.{same_clause, same_definition, still_kept, block_defines}
+use Rattle.ab_logic.specs.Worlds.{IsWorld, Holds, read, declarations_of, definition_of, IsKeptClause, IsKeptBlock}
+use Rattle.ab_logic.specs.SequentReadings.{sequent_of}
+use Rattle.ab_logic.specs.declared.world.World.{World}
+use Rattle.ab_logic.specs.declared.additions.Addition.TheVariants.{Definition}
+use Rattle.ab_logic.specs.declared.sequent.Sequent.{Sequent as Kept}
+use Rattle.ab_logic.proofs.Growing.{map_same, same_sequent, still_held, same_constants}
+use Rattle.ab_logic.proofs.Blocks.{same_clause, same_definition, still_kept, block_defines}
 use Rattle.ab_theory.specs.Splits.{CaseOver}
 use Rattle.ab_theory.specs.Atoms.{Defined}
 use Rattle.ab_theory.specs.Analysis.{case_of}
 use Rattle.ab_formulas.specs.Members.{SameMembers}
-use Rattle.ab_alternatives.specs.Readings.{defined_read, HoldsDefined, choice_read}
+use Rattle.ab_alternatives.specs.AtomReadings.{defined_read, HoldsDefined, choice_read}
 use Rattle.ab_alternatives.specs.declared.atoms.DefinedAtom.{DefinedAtom}
-use Rattle.ab_alternatives.specs.Going.{IsLater, IsReady}
+use Rattle.ab_alternatives.specs.CaseSteps.{IsLater, IsReady}
 use Rattle.ab_alternatives.specs.declared.constants.Constants.{Constants}
 
 -- A TYPED ATOM'S ARGUMENTS are taken by its predicate's type

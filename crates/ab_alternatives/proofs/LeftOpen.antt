@@ -6,22 +6,22 @@ use Rattle.std.proofs.lemmas.List.{drop_all}
 use Rattle.std.proofs.lemmas.List.Elements.{All-nil, All-cons, All-head, All-tail, All-contains, Contains-append_cases}
 use Rattle.ab_term.specs.Variables.{Substitution}
 use Rattle.ab_term.proofs.Lists.{Contains-none, Contains-here, Contains-there, Contains-cases, All-from_contains, AllPairs-parts}
-use Rattle.ab_instances.specs.ab_types.specs.Entries.{Table}
-use Rattle.ab_instances.specs.ab_store.specs.declared.node.TermId.{TermId}
-use Rattle.ab_instances.specs.ab_store.specs.declared.node.CellId.{CellId}
-use Rattle.ab_instances.specs.ab_store.specs.declared.node.CellEntry.{CellEntry}
-use Rattle.ab_instances.specs.ab_store.specs.Trees.{Contents, HoldsCell}
-use Rattle.ab_instances.specs.ab_store.specs.Reading.{cell_variable, binding_of}
-use Rattle.ab_instances.specs.ab_solve.specs.Replacing.{Cell, holds}
-use Rattle.ab_instances.specs.ab_solve.specs.Meaning.{keys}
-use Rattle.ab_instances.specs.ab_solve.proofs.Falling.{map_length}
-use Rattle.ab_instances.specs.ab_unifying.specs.Problem.{cell_read, cells_read}
-use Rattle.ab_instances.specs.ab_unifying.specs.Changed.{Grows}
-use Rattle.ab_equate.specs.ab_solver.specs.Answers.{AreNewCells, AreInAge, AreLeft}
+use Rattle.ab_norm.specs.ab_types.specs.Entries.{Table}
+use Rattle.ab_norm.specs.ab_store.specs.declared.node.TermId.{TermId}
+use Rattle.ab_norm.specs.ab_store.specs.declared.node.CellId.{CellId}
+use Rattle.ab_norm.specs.ab_store.specs.declared.node.CellEntry.{CellEntry}
+use Rattle.ab_norm.specs.ab_store.specs.Trees.{Contents, HoldsCell}
+use Rattle.ab_norm.specs.ab_store.specs.Reading.{cell_variable, binding_of}
+use Rattle.ab_unifiers.specs.Replacements.{Cell, holds}
+use Rattle.ab_unifiers.specs.Unifiers.{keys}
+use Rattle.ab_unifiers.proofs.Falling.{map_length}
+use Rattle.ab_unify.specs.Problem.{cell_read, cells_read}
+use Rattle.ab_unify.specs.StoreChanges.{Grows}
+use Rattle.ab_unify.specs.UnifyAnswers.{AreNewCells, AreInAge, AreLeft}
 use Rattle.ab_theory.specs.Equations.{stays, variables_from, made}
-use Rattle.ab_equate.specs.Meanwhile.{AreFrom, unbound_of}
-use Rattle.ab_equate.proofs.Answering.{from_count, behind_which, behind_age}
-use Rattle.ab_alternatives.specs.Unfolding.{variable_at}
+use Rattle.ab_equations.specs.Meanwhile.{AreFrom, unbound_of}
+use Rattle.ab_equations.proofs.Answering.{from_count, behind_which, behind_age}
+use Rattle.ab_alternatives.specs.RightAlternatives.{variable_at}
 
 dropped : (types : Table) (cells : List CellEntry) (n : ℕ) (d : CellEntry) → n < length cells → drop n (map (cell_read types) cells) ≡ cell_read types (get_or cells n d) ∷ drop (suc n) (map (cell_read types) cells)
 dropped types [] n d l = absurd (omega (arith, l))

@@ -4,12 +4,12 @@ use Rattle.std.specs.Prelude.{filter}
 use Rattle.std.proofs.lemmas.List.{map-append, take_more}
 use Rattle.ab_term.specs.Terms.{Nominal}
 use Rattle.ab_term.specs.Names.{support_of_all}
-use Rattle.ab_instances.specs.ab_cases.specs.Clauses.{Clause}
-use Rattle.ab_instances.specs.ab_cases.specs.Choices.{in_order, choices, for_each}
+use Rattle.ab_unifiers.specs.Clauses.{Clause}
+use Rattle.ab_unifiers.specs.Choices.{in_order, choices, for_each}
 use Rattle.ab_formulas.specs.Sequents.{Sequent, goal_names}
 use Rattle.ab_theory.specs.Atoms.{Defined, Choice}
 use Rattle.ab_theory.specs.Analysis.{case_of, cases_of}
-use Rattle.ab_alternatives.specs.Going.{clause_cases}
+use Rattle.ab_alternatives.specs.CaseSteps.{clause_cases}
 
 -- what is gathered of elements that pass a test, changed, is gathered of all
 module _ {X Y Z : Type 0} (test : X → Bool) (f : X → List Y) (g : Y → Z) where

@@ -1,19 +1,19 @@
 -- What is told of a solved unfolding: which of its variables are left open.
 use Rattle.std.proofs.Common.{◌≡◌, ℕ, ◌-◌, List, ◌++◌, map, length, codes, sym, ◌∙◌, ap}
 use Rattle.ab_term.specs.Variables.{Substitution}
-use Rattle.ab_instances.specs.ab_types.specs.Entries.{Table}
-use Rattle.ab_instances.specs.ab_store.specs.declared.node.CellId.{CellId}
-use Rattle.ab_instances.specs.ab_store.specs.Trees.{Contents}
-use Rattle.ab_instances.specs.ab_solve.specs.Replacing.{Cell}
-use Rattle.ab_instances.specs.ab_solve.specs.Solving.{State, unified, Solves}
-use Rattle.ab_instances.specs.ab_unifying.specs.Problem.{cells_read}
-use Rattle.ab_instances.specs.ab_unifying.specs.Changed.{Grows}
-use Rattle.ab_equate.specs.ab_solver.specs.Answers.{AreNewCells, AreInAge, AreLeft}
-use Rattle.ab_equate.specs.Meanwhile.{AreFrom, unbound_of}
-use Rattle.ab_alternatives.specs.Unfolding.{variable_at}
-use Rattle.ab_alternatives.specs.Matching.{IsMatch, TellsOpen, cells_before}
-use Rattle.ab_alternatives.specs.declared.matching.Match.{Match}
-use Rattle.ab_alternatives.specs.declared.matching.Match.TheVariants.{Closed, Open, Apart, Stuck}
+use Rattle.ab_norm.specs.ab_types.specs.Entries.{Table}
+use Rattle.ab_norm.specs.ab_store.specs.declared.node.CellId.{CellId}
+use Rattle.ab_norm.specs.ab_store.specs.Trees.{Contents}
+use Rattle.ab_unifiers.specs.Replacements.{Cell}
+use Rattle.ab_unifiers.specs.Unification.{State, unified, Solves}
+use Rattle.ab_unify.specs.Problem.{cells_read}
+use Rattle.ab_unify.specs.StoreChanges.{Grows}
+use Rattle.ab_unify.specs.UnifyAnswers.{AreNewCells, AreInAge, AreLeft}
+use Rattle.ab_equations.specs.Meanwhile.{AreFrom, unbound_of}
+use Rattle.ab_alternatives.specs.RightAlternatives.{variable_at}
+use Rattle.ab_alternatives.specs.ChoiceMatches.{IsMatch, TellsOpen, cells_before}
+use Rattle.ab_alternatives.specs.declared.choice_matches.Match.{Match}
+use Rattle.ab_alternatives.specs.declared.choice_matches.Match.TheVariants.{Closed, Open, Apart, Stuck}
 use Rattle.ab_alternatives.proofs.LeftOpen.{left_open}
 
 module _ (T U : Table) (S V : Contents) (g : Grows T S U V) (own : List CellId) (p : State (List ℕ)) (more : List (Cell (List ℕ))) (answer : Substitution ℕ (List ℕ)) (solves : Solves (codes "x") p (unified more answer))

@@ -3,27 +3,27 @@ use Rattle.std.proofs.Common.{◌≡◌, ℕ, ◌+◌, ◌<◌, List, [], ◌∷
 use Rattle.std.specs.Prelude.{All}
 use Rattle.std.proofs.lemmas.List.{map-append, map_more}
 use Rattle.std.proofs.lemmas.List.Elements.{All-get_or}
-use Rattle.ab_instances.specs.ab_store.specs.declared.node.CellId.{CellId}
-use Rattle.ab_instances.specs.ab_norm.specs.Nominals.{HoldsNominal}
-use Rattle.ab_instances.specs.ab_norm.specs.declared.nominal.Nominal.{Nominal}
-use Rattle.ab_instances.specs.ab_cases.specs.Clauses.{Clause}
-use Rattle.ab_instances.specs.ab_cases.specs.Choices.{for_each}
-use Rattle.ab_formulas.specs.Cased as kept
-use Rattle.ab_instances.specs.ab_clauses.specs.Readings.{clause_of, name_of}
-use Rattle.ab_instances.specs.ab_clauses.specs.declared.kept.ClauseTerm.{ClauseTerm}
-use Rattle.ab_instances.specs.Readings.{names_read}
+use Rattle.ab_norm.specs.ab_store.specs.declared.node.CellId.{CellId}
+use Rattle.ab_norm.specs.Nominals.{HoldsNominal}
+use Rattle.ab_norm.specs.declared.nominal.Nominal.{Nominal}
+use Rattle.ab_unifiers.specs.Clauses.{Clause}
+use Rattle.ab_unifiers.specs.Choices.{for_each}
+use Rattle.ab_formulas.specs.CaseClauses as kept
+use Rattle.ab_typing.specs.DefinitionReadings.{clause_of, name_of}
+use Rattle.ab_typing.specs.declared.definitions.ClauseTerm.{ClauseTerm}
+use Rattle.ab_instances.specs.ListReadings.{names_read}
 use Rattle.ab_instances.proofs.Made.{names_stay, names_held}
 use Rattle.ab_formulas.specs.Sequents.{Variable}
-use Rattle.ab_marks.specs.ab_logic.specs.Worlds.{IsKeptClause, variable_of}
-use Rattle.ab_marks.specs.ab_logic.specs.Readings.{sequent_of}
-use Rattle.ab_marks.specs.ab_logic.specs.declared.world.World.{World}
-use Rattle.ab_marks.specs.ab_logic.specs.declared.sequent.Sequent.{Sequent as Kept}
+use Rattle.ab_logic.specs.Worlds.{IsKeptClause, variable_of}
+use Rattle.ab_logic.specs.SequentReadings.{sequent_of}
+use Rattle.ab_logic.specs.declared.world.World.{World}
+use Rattle.ab_logic.specs.declared.sequent.Sequent.{Sequent as Kept}
 use Rattle.ab_theory.specs.Splits.{CaseOver}
 use Rattle.ab_theory.specs.Atoms.{Defined}
 use Rattle.ab_theory.specs.Analysis.{case_of, cases_of}
-use Rattle.ab_alternatives.specs.Readings.{defined_read, choice_read}
+use Rattle.ab_alternatives.specs.AtomReadings.{defined_read, choice_read}
 use Rattle.ab_alternatives.specs.declared.atoms.DefinedAtom.{DefinedAtom}
-use Rattle.ab_alternatives.specs.Going.{clause_cases, IsLater, IsReady, ArePassed, AreStopped}
+use Rattle.ab_alternatives.specs.CaseSteps.{clause_cases, IsLater, IsReady, ArePassed, AreStopped}
 use Rattle.ab_alternatives.specs.declared.constants.Constants.{Constants}
 use Rattle.ab_alternatives.proofs.Listed.{cases_by_clauses, for_each-append, for_each-map, for_each-more, at_place}
 use Rattle.ab_alternatives.proofs.Passed.{passed_on, stopped_on, stopped_in}

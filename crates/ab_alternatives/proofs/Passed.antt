@@ -2,21 +2,21 @@
 use Rattle.std.proofs.Common.{◌≡◌, ℕ, List, [], ◌∷◌, ◌++◌, map, refl, sym, ◌∙◌, ap, subst, append_assoc, append-nil}
 use Rattle.std.specs.Prelude.{All}
 use Rattle.std.proofs.lemmas.List.Elements.{All-push, All-weaker}
-use Rattle.ab_instances.specs.ab_solve.specs.Replacing.{Cell}
-use Rattle.ab_instances.specs.ab_unifying.specs.Problem.{cells_read}
-use Rattle.ab_instances.specs.ab_unifying.proofs.Growth as stores
+use Rattle.ab_unifiers.specs.Replacements.{Cell}
+use Rattle.ab_unify.specs.Problem.{cells_read}
+use Rattle.ab_unify.proofs.Growth as stores
 use Rattle.ab_formulas.specs.Declarations.{Declarations}
-use Rattle.ab_formulas.specs.Names.{IsNamedFor}
+use Rattle.ab_formulas.specs.NewNames.{IsNamedFor}
 use Rattle.ab_formulas.specs.Sequents.{Sequent}
-use Rattle.ab_marks.specs.ab_logic.specs.Worlds.{IsWorld, declarations_of}
-use Rattle.ab_marks.specs.ab_logic.specs.Readings.{HoldsSequent, sequent_of}
-use Rattle.ab_marks.specs.ab_logic.specs.declared.world.World.{World}
-use Rattle.ab_marks.specs.ab_logic.specs.declared.sequent.Sequent.{Sequent as Kept}
-use Rattle.ab_marks.specs.ab_logic.proofs.Growing.{grows_not, grows_on, map_same, same_sequent, still_held}
+use Rattle.ab_logic.specs.Worlds.{IsWorld, declarations_of}
+use Rattle.ab_logic.specs.SequentReadings.{HoldsSequent, sequent_of}
+use Rattle.ab_logic.specs.declared.world.World.{World}
+use Rattle.ab_logic.specs.declared.sequent.Sequent.{Sequent as Kept}
+use Rattle.ab_logic.proofs.Growing.{grows_not, grows_on, map_same, same_sequent, still_held}
 use Rattle.ab_theory.specs.Equations.{Naming}
 use Rattle.ab_theory.specs.Splits.{CaseOver, Split, IsUnsplit, Arises, NeverArises, IsOpen, here}
-use Rattle.ab_theory.proofs.EquateSplits.{Passes, passes_none, passes_never, passes_goal, passed_all}
-use Rattle.ab_alternatives.specs.Going.{IsLater, ArePassed, AreStopped}
+use Rattle.ab_theory.proofs.SplitEquations.{Passes, passes_none, passes_never, passes_goal, passed_all}
+use Rattle.ab_alternatives.specs.CaseSteps.{IsLater, ArePassed, AreStopped}
 
 abbrev Cells : Type 0
 Cells = List (Cell (List ℕ))

@@ -9,31 +9,31 @@ use Rattle.std.proofs.lemmas.List.Elements.{All-get_or, Contains-get_or}
 use Rattle.std.proofs.lemmas.Option.{slice_get-map, slice_get-get_or}
 use Rattle.std.proofs.lemmas.Slice.Eq.{bytes_eq-Decides}
 use Rattle.ab_term.specs.Terms as tree
-use Rattle.ab_instances.specs.ab_types.specs.Entries.{Table}
-use Rattle.ab_instances.specs.ab_types.specs.Ids.{HoldsConstant, type_of}
-use Rattle.ab_instances.specs.ab_types.specs.Sound.{IsTable}
-use Rattle.ab_instances.specs.ab_types.specs.declared.ids.ConstId.{ConstId}
-use Rattle.ab_instances.specs.ab_types.specs.declared.ids.TypeId.{TypeId}
-use Rattle.ab_instances.specs.ab_types.proofs.Kept.{one_constant}
-use Rattle.ab_instances.specs.ab_store.specs.Trees.{tree_of}
-use Rattle.ab_instances.specs.ab_norm.specs.Nominals.{HoldsNominal}
-use Rattle.ab_instances.specs.ab_norm.specs.declared.nominal.Nominal.{Nominal}
-use Rattle.ab_instances.specs.ab_cases.specs.Choices.{choices}
-use Rattle.ab_instances.specs.ab_cases.specs.Clauses as clauses
-use Rattle.ab_instances.specs.ab_cases.specs.Prefixes.{prefix}
-use Rattle.ab_formulas.specs.Cased.{case_of}
-use Rattle.ab_instances.specs.ab_clauses.specs.Readings.{clause_of, name_of}
-use Rattle.ab_instances.specs.ab_clauses.specs.declared.kept.ClauseTerm.{ClauseTerm}
-use Rattle.ab_instances.specs.Readings.{names_read, given_at}
-use Rattle.ab_marks.specs.ab_logic.specs.Worlds.{IsKeptClause}
-use Rattle.ab_marks.specs.ab_logic.specs.declared.world.World.{World}
+use Rattle.ab_norm.specs.ab_types.specs.Entries.{Table}
+use Rattle.ab_norm.specs.ab_types.specs.Ids.{HoldsConstant, type_of}
+use Rattle.ab_norm.specs.ab_types.specs.Sound.{IsTable}
+use Rattle.ab_norm.specs.ab_types.specs.declared.ids.ConstId.{ConstId}
+use Rattle.ab_norm.specs.ab_types.specs.declared.ids.TypeId.{TypeId}
+use Rattle.ab_norm.specs.ab_types.proofs.Kept.{one_constant}
+use Rattle.ab_norm.specs.ab_store.specs.Trees.{tree_of}
+use Rattle.ab_norm.specs.Nominals.{HoldsNominal}
+use Rattle.ab_norm.specs.declared.nominal.Nominal.{Nominal}
+use Rattle.ab_unifiers.specs.Choices.{choices}
+use Rattle.ab_unifiers.specs.Clauses as clauses
+use Rattle.ab_unifiers.specs.Prefixes.{prefix}
+use Rattle.ab_formulas.specs.CaseClauses.{case_of}
+use Rattle.ab_typing.specs.DefinitionReadings.{clause_of, name_of}
+use Rattle.ab_typing.specs.declared.definitions.ClauseTerm.{ClauseTerm}
+use Rattle.ab_instances.specs.ListReadings.{names_read, given_at}
+use Rattle.ab_logic.specs.Worlds.{IsKeptClause}
+use Rattle.ab_logic.specs.declared.world.World.{World}
 use Rattle.ab_theory.specs.Atoms.{Choice, choices_of}
-use Rattle.ab_alternatives.specs.Made.{constants_in}
-use Rattle.ab_alternatives.specs.Readings.{defined_read, HoldsDefined, choice_read}
+use Rattle.ab_alternatives.specs.LeftAlternatives.{constants_in}
+use Rattle.ab_alternatives.specs.AtomReadings.{defined_read, HoldsDefined, choice_read}
 use Rattle.ab_alternatives.specs.declared.atoms.DefinedAtom.{DefinedAtom}
-use Rattle.ab_alternatives.specs.Counting.{choices_with, choices_by, choices_among}
+use Rattle.ab_alternatives.specs.ChoiceCounts.{choices_with, choices_by, choices_among}
 use Rattle.ab_alternatives.specs.Choices.{read_choice, IsHeldFor}
-use Rattle.ab_alternatives.specs.declared.choosing.Choice.{Choice as Kept}
+use Rattle.ab_alternatives.specs.declared.choice_counts.Choice.{Choice as Kept}
 use Rattle.ab_alternatives.proofs.Counted.{at_first, at_behind, among_more, by_fits}
 
 -- a test of two constants is that of their names

@@ -7,26 +7,26 @@ use Rattle.ab_term.specs.Terms as tree
 use Rattle.ab_term.specs.Terms.{Nominal, Terms, no_terms, term}
 use Rattle.ab_term.specs.Variables.{Substitution, image, image_all}
 use Rattle.ab_term.specs.Sameness.{same_number}
-use Rattle.ab_instances.specs.ab_types.specs.Entries.{Table}
-use Rattle.ab_instances.specs.ab_types.specs.Ids.{type_of}
-use Rattle.ab_instances.specs.ab_store.specs.declared.node.TermId.{TermId}
-use Rattle.ab_instances.specs.ab_store.specs.declared.node.CellId.{CellId}
-use Rattle.ab_instances.specs.ab_store.specs.declared.node.Equation.{Equation}
-use Rattle.ab_instances.specs.ab_store.specs.Trees.{Contents, HoldsCell, cell_of, tree_of}
-use Rattle.ab_instances.specs.ab_store.specs.Reading.{cell_variable}
-use Rattle.ab_instances.specs.ab_solve.specs.Replacing.{Cell, holds, hint_of}
-use Rattle.ab_instances.specs.ab_solve.specs.Solving as solve
-use Rattle.ab_instances.specs.ab_cases.specs.Clauses.{numbered, put_together}
-use Rattle.ab_instances.specs.ab_cases.specs.Alternatives.{cells_over, made_terms, cells_of, arguments_equal}
-use Rattle.ab_instances.specs.ab_cases.proofs.Variables.{holds_contains}
-use Rattle.ab_instances.specs.ab_unifying.specs.Problem.{cell_read, cells_read, variables_read}
-use Rattle.ab_instances.specs.Readings.{cells_at, trees_at}
+use Rattle.ab_norm.specs.ab_types.specs.Entries.{Table}
+use Rattle.ab_norm.specs.ab_types.specs.Ids.{type_of}
+use Rattle.ab_norm.specs.ab_store.specs.declared.node.TermId.{TermId}
+use Rattle.ab_norm.specs.ab_store.specs.declared.node.CellId.{CellId}
+use Rattle.ab_norm.specs.ab_store.specs.declared.node.Equation.{Equation}
+use Rattle.ab_norm.specs.ab_store.specs.Trees.{Contents, HoldsCell, cell_of, tree_of}
+use Rattle.ab_norm.specs.ab_store.specs.Reading.{cell_variable}
+use Rattle.ab_unifiers.specs.Replacements.{Cell, holds, hint_of}
+use Rattle.ab_unifiers.specs.Unification as solve
+use Rattle.ab_unifiers.specs.Clauses.{numbered, put_together}
+use Rattle.ab_unifiers.specs.Alternatives.{cells_over, made_terms, cells_of, arguments_equal}
+use Rattle.ab_unifiers.proofs.Variables.{holds_contains}
+use Rattle.ab_unify.specs.Problem.{cell_read, cells_read, variables_read}
+use Rattle.ab_instances.specs.ListReadings.{cells_at, trees_at}
 use Rattle.ab_formulas.specs.Sequents.{in_terms}
-use Rattle.ab_marks.specs.ab_logic.specs.Worlds.{variable_of}
-use Rattle.ab_marks.specs.ab_logic.specs.declared.world.World.{World}
+use Rattle.ab_logic.specs.Worlds.{variable_of}
+use Rattle.ab_logic.specs.declared.world.World.{World}
 use Rattle.ab_theory.specs.Analysis.{raised_variables}
-use Rattle.ab_theory.specs.Raising.{raised_cells, raised_to, raised_terms}
-use Rattle.ab_alternatives.specs.Made.{trees_from, images_from}
+use Rattle.ab_theory.specs.RaisedAlternatives.{raised_cells, raised_to, raised_terms}
+use Rattle.ab_alternatives.specs.LeftAlternatives.{trees_from, images_from}
 use Rattle.ab_theory.proofs.AlternativesParts.{together_none}
 
 abbrev x : List ℕ

@@ -7,27 +7,27 @@ use Rattle.std.proofs.lemmas.List.Elements.{All-nil, All-cons, All-head, All-tai
 use Rattle.ab_term.specs.Terms as tree
 use Rattle.ab_term.specs.Terms.{Nominal, Variable}
 use Rattle.ab_term.proofs.Lists.{AllPairs-none}
-use Rattle.ab_instances.specs.ab_types.specs.Entries.{Table}
-use Rattle.ab_instances.specs.ab_types.specs.Ids.{type_of}
-use Rattle.ab_instances.specs.ab_store.specs.declared.node.TermId.{TermId}
-use Rattle.ab_instances.specs.ab_store.specs.declared.node.CellId.{CellId}
-use Rattle.ab_instances.specs.ab_store.specs.declared.node.CellEntry.{CellEntry}
-use Rattle.ab_instances.specs.ab_store.specs.Trees.{Contents, Holds, HoldsCell, cell_of, tree_of}
-use Rattle.ab_instances.specs.ab_store.specs.Reading.{cell_variable}
-use Rattle.ab_instances.specs.ab_store.specs.Naming.{IsTypedBy, IsTerm}
-use Rattle.ab_instances.specs.ab_solve.specs.Replacing.{Cell}
-use Rattle.ab_instances.specs.ab_cases.specs.Clauses.{Each, numbered}
-use Rattle.ab_instances.specs.ab_cases.specs.Alternatives.{cells_over, made_over, made_terms}
-use Rattle.ab_instances.specs.ab_unifying.specs.Problem.{cell_read, cells_read, variables_read}
-use Rattle.ab_instances.specs.ab_unifying.specs.Changed.{Grows}
-use Rattle.ab_instances.specs.Readings.{cells_at, trees_at}
-use Rattle.ab_instances.specs.Binding.{CanBeBound}
-use Rattle.ab_instances.specs.declared.making.Over.{Over}
+use Rattle.ab_norm.specs.ab_types.specs.Entries.{Table}
+use Rattle.ab_norm.specs.ab_types.specs.Ids.{type_of}
+use Rattle.ab_norm.specs.ab_store.specs.declared.node.TermId.{TermId}
+use Rattle.ab_norm.specs.ab_store.specs.declared.node.CellId.{CellId}
+use Rattle.ab_norm.specs.ab_store.specs.declared.node.CellEntry.{CellEntry}
+use Rattle.ab_norm.specs.ab_store.specs.Trees.{Contents, Holds, HoldsCell, cell_of, tree_of}
+use Rattle.ab_norm.specs.ab_store.specs.Reading.{cell_variable}
+use Rattle.ab_norm.specs.ab_store.specs.Naming.{IsTypedBy, IsTerm}
+use Rattle.ab_unifiers.specs.Replacements.{Cell}
+use Rattle.ab_unifiers.specs.Clauses.{Each, numbered}
+use Rattle.ab_unifiers.specs.Alternatives.{cells_over, made_over, made_terms}
+use Rattle.ab_unify.specs.Problem.{cell_read, cells_read, variables_read}
+use Rattle.ab_unify.specs.StoreChanges.{Grows}
+use Rattle.ab_instances.specs.ListReadings.{cells_at, trees_at}
+use Rattle.ab_instances.specs.CellBindings.{CanBeBound}
+use Rattle.ab_instances.specs.declared.raised_variables.Over.{Over}
 use Rattle.ab_instances.proofs.Bound.{each_length}
 use Rattle.ab_instances.proofs.Fitting.{can_bind, variables_stay}
-use Rattle.ab_instances.specs.ab_cases.proofs.Rows.{each_weaker}
-use Rattle.ab_instances.specs.ab_unifying.proofs.Growth.{grown_term}
-use Rattle.ab_alternatives.specs.Made.{IsRaised}
+use Rattle.ab_unifiers.proofs.Rows.{each_weaker}
+use Rattle.ab_unify.proofs.Growth.{grown_term}
+use Rattle.ab_alternatives.specs.LeftAlternatives.{IsRaised}
 
 abbrev x : List ℕ
 x = codes "x"

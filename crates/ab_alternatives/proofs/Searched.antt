@@ -6,24 +6,24 @@ use Rattle.std.proofs.Common.{◌≡◌, ℕ, zero, suc, ◌+◌, List, [], ◌�
 use Rattle.std.proofs.lemmas.List.{take_more}
 use Rattle.std.proofs.lemmas.List.Elements.{All-push}
 use Rattle.std.proofs.lemmas.Option.{slice_get_within, get_or_from_slice_get}
-use Rattle.ab_instances.specs.ab_solve.specs.Replacing.{Cell}
-use Rattle.ab_instances.specs.ab_unifying.specs.Problem.{cells_read}
+use Rattle.ab_unifiers.specs.Replacements.{Cell}
+use Rattle.ab_unify.specs.Problem.{cells_read}
 use Rattle.ab_formulas.specs.Declarations.{Declarations}
-use Rattle.ab_marks.specs.ab_logic.specs.Growth.{Grows}
-use Rattle.ab_marks.specs.ab_logic.specs.Readings.{sequent_of, HoldsSequent}
+use Rattle.ab_logic.specs.WorldGrowth.{Grows}
+use Rattle.ab_logic.specs.SequentReadings.{sequent_of, HoldsSequent}
 use Rattle.ab_formulas.specs.Sequents.{Sequent, IsSequent, goal_names}
-use Rattle.ab_marks.specs.ab_logic.specs.Worlds.{declarations_of}
-use Rattle.ab_marks.specs.ab_logic.specs.declared.world.World.{World}
-use Rattle.ab_marks.specs.ab_logic.specs.declared.sequent.Sequent.{Sequent as Kept}
-use Rattle.ab_marks.specs.ab_logic.proofs.Growing.{same_sequent}
+use Rattle.ab_logic.specs.Worlds.{declarations_of}
+use Rattle.ab_logic.specs.declared.world.World.{World}
+use Rattle.ab_logic.specs.declared.sequent.Sequent.{Sequent as Kept}
+use Rattle.ab_logic.proofs.Growing.{same_sequent}
 use Rattle.ab_theory.specs.Splits.{NeverArises}
 use Rattle.ab_theory.specs.Atoms.{Defined, Choice, defined_atom, choices_of}
 use Rattle.ab_theory.specs.Unfolding.{unfolding_case}
-use Rattle.ab_alternatives.specs.Matching.{Matches}
-use Rattle.ab_alternatives.specs.declared.matching.Match.{Match}
-use Rattle.ab_alternatives.specs.Readings.{defined_read, HoldsDefined}
+use Rattle.ab_alternatives.specs.ChoiceMatches.{Matches}
+use Rattle.ab_alternatives.specs.declared.choice_matches.Match.{Match}
+use Rattle.ab_alternatives.specs.AtomReadings.{defined_read, HoldsDefined}
 use Rattle.ab_alternatives.specs.declared.atoms.DefinedAtom.{DefinedAtom}
-use Rattle.ab_alternatives.specs.Finding.{NoneBefore}
+use Rattle.ab_alternatives.specs.FirstChoice.{NoneBefore}
 use Rattle.ab_alternatives.proofs.Lasting.{same_atom}
 
 -- the choice of the place is matched so

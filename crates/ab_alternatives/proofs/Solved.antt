@@ -7,33 +7,33 @@ use Rattle.ab_term.specs.Types.{Ty, prop}
 use Rattle.ab_term.specs.Typing.{Signature, HasType}
 use Rattle.ab_term.specs.Variables.{Substitution, image}
 use Rattle.ab_term.specs.Sameness.{same_number}
-use Rattle.ab_instances.specs.ab_types.specs.Entries.{signature}
-use Rattle.ab_instances.specs.ab_store.specs.declared.node.TermId.{TermId}
-use Rattle.ab_instances.specs.ab_store.specs.declared.node.CellId.{CellId}
-use Rattle.ab_instances.specs.ab_store.specs.declared.node.CellEntry.{CellEntry}
-use Rattle.ab_instances.specs.ab_store.specs.declared.node.Equation.{Equation}
-use Rattle.ab_instances.specs.ab_store.specs.Trees.{Contents, tree_of}
-use Rattle.ab_instances.specs.ab_store.specs.Reading.{bound_in, reading}
-use Rattle.ab_instances.specs.ab_store.specs.Naming.{IsTerm}
-use Rattle.ab_equate.specs.ab_solver.specs.Answers.{IsTypedPair}
-use Rattle.ab_instances.specs.ab_unifying.specs.Problem.{equations_from}
-use Rattle.ab_instances.specs.ab_unifying.specs.Changed.{Grows, IsFree}
-use Rattle.ab_instances.specs.Binding.{bound_to}
+use Rattle.ab_norm.specs.ab_types.specs.Entries.{signature}
+use Rattle.ab_norm.specs.ab_store.specs.declared.node.TermId.{TermId}
+use Rattle.ab_norm.specs.ab_store.specs.declared.node.CellId.{CellId}
+use Rattle.ab_norm.specs.ab_store.specs.declared.node.CellEntry.{CellEntry}
+use Rattle.ab_norm.specs.ab_store.specs.declared.node.Equation.{Equation}
+use Rattle.ab_norm.specs.ab_store.specs.Trees.{Contents, tree_of}
+use Rattle.ab_norm.specs.ab_store.specs.Reading.{bound_in, reading}
+use Rattle.ab_norm.specs.ab_store.specs.Naming.{IsTerm}
+use Rattle.ab_unify.specs.UnifyAnswers.{IsTypedPair}
+use Rattle.ab_unify.specs.Problem.{equations_from}
+use Rattle.ab_unify.specs.StoreChanges.{Grows, IsFree}
+use Rattle.ab_instances.specs.CellBindings.{bound_to}
 use Rattle.ab_instances.proofs.Bound.{bound_to_none}
 use Rattle.ab_formulas.specs.Declarations.{signature_in}
 use Rattle.ab_formulas.specs.Formulas.{IsFormula}
 use Rattle.ab_formulas.specs.Sequents.{Hypothesis, formulas, formulas_of}
-use Rattle.ab_marks.specs.ab_logic.specs.Worlds.{IsWorld, Holds, HoldsCell, read, variable_of, declarations_of}
-use Rattle.ab_marks.specs.ab_logic.specs.Readings.{sequent_of, hypothesis_of, HoldsSequent}
-use Rattle.ab_marks.specs.ab_logic.specs.declared.world.World.{World}
-use Rattle.ab_marks.specs.ab_logic.specs.declared.sequent.Sequent.{Sequent as Kept}
-use Rattle.ab_marks.specs.ab_logic.specs.declared.sequent.Hypothesis.{Hypothesis as KeptHypothesis}
-use Rattle.ab_marks.specs.ab_logic.proofs.Growing.{same_constants}
+use Rattle.ab_logic.specs.Worlds.{IsWorld, Holds, HoldsCell, read, variable_of, declarations_of}
+use Rattle.ab_logic.specs.SequentReadings.{sequent_of, hypothesis_of, HoldsSequent}
+use Rattle.ab_logic.specs.declared.world.World.{World}
+use Rattle.ab_logic.specs.declared.sequent.Sequent.{Sequent as Kept}
+use Rattle.ab_logic.specs.declared.sequent.Hypothesis.{Hypothesis as KeptHypothesis}
+use Rattle.ab_logic.proofs.Growing.{same_constants}
 use Rattle.ab_theory.specs.Splits.{Case}
-use Rattle.ab_equate.specs.Meanwhile.{IsMeanwhile, hypothesis_read, case_read}
-use Rattle.ab_equate.proofs.Going.{world_meanwhile}
-use Rattle.ab_equate.proofs.Restored.{declarations_same, then_meanwhile, same_alike}
-use Rattle.ab_alternatives.specs.Made.{images_from, raising, case_put}
+use Rattle.ab_equations.specs.Meanwhile.{IsMeanwhile, hypothesis_read, case_read}
+use Rattle.ab_equations.proofs.Going.{world_meanwhile}
+use Rattle.ab_equations.proofs.Restored.{declarations_same, then_meanwhile, same_alike}
+use Rattle.ab_alternatives.specs.LeftAlternatives.{images_from, raising, case_put}
 use Rattle.ab_alternatives.specs.declared.alternatives.Alternative.{Alternative}
 
 module _ (v : World) (store : Contents) (is : IsWorld v) (g : Grows v.types v.store v.types store) (nodes : store.nodes ≡ v.store.nodes) (cells : store.cells ≡ v.store.cells) where

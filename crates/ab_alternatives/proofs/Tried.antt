@@ -5,16 +5,16 @@ use Rattle.std.specs.List.{All}
 use Rattle.std.proofs.lemmas.List.Elements.{All-nil, All-cons, All-head, All-tail}
 use Rattle.std.proofs.lemmas.List.Kept.{AllPairs-cons}
 use Rattle.ab_term.proofs.Lists.{AllPairs-none, AllPairs-parts}
-use Rattle.ab_instances.specs.ab_types.specs.Entries.{Table}
-use Rattle.ab_instances.specs.ab_store.specs.declared.node.CellId.{CellId}
-use Rattle.ab_instances.specs.ab_store.specs.Trees.{Contents}
-use Rattle.ab_instances.specs.ab_unifying.specs.Changed as changed
-use Rattle.ab_marks.specs.ab_logic.specs.Growth.{Grows}
+use Rattle.ab_norm.specs.ab_types.specs.Entries.{Table}
+use Rattle.ab_norm.specs.ab_store.specs.declared.node.CellId.{CellId}
+use Rattle.ab_norm.specs.ab_store.specs.Trees.{Contents}
+use Rattle.ab_unify.specs.StoreChanges as changed
+use Rattle.ab_logic.specs.WorldGrowth.{Grows}
 use Rattle.ab_formulas.specs.Sequents.{Variable}
-use Rattle.ab_marks.specs.ab_logic.specs.Worlds.{IsWorld, variable_of, declarations_of}
-use Rattle.ab_marks.specs.ab_logic.specs.declared.world.World.{World}
-use Rattle.ab_equate.proofs.Going.{world_meanwhile}
-use Rattle.ab_equate.proofs.Restored.{again, declarations_same}
+use Rattle.ab_logic.specs.Worlds.{IsWorld, variable_of, declarations_of}
+use Rattle.ab_logic.specs.declared.world.World.{World}
+use Rattle.ab_equations.proofs.Going.{world_meanwhile}
+use Rattle.ab_equations.proofs.Restored.{again, declarations_same}
 
 module _ (w : World) (U : Table) (V : Contents) (is : IsWorld w) (g : changed.Grows w.types w.store U V) where
   abbrev pub later : World

@@ -1,24 +1,24 @@
 -- A world once what was bound is undone.
 use Rattle.std.proofs.Common.{◌≡◌, ◌≤◌, ◌<◌, List, take, length, sym, ◌∙◌, ap, subst}
-use Rattle.ab_instances.specs.ab_store.specs.declared.node.TermId.{TermId}
-use Rattle.ab_instances.specs.ab_store.specs.declared.node.Node.{Node}
-use Rattle.ab_instances.specs.ab_store.specs.declared.mark.Mark.{Mark}
-use Rattle.ab_instances.specs.ab_store.specs.Marks.{HasMark, KeepsMark}
-use Rattle.ab_instances.specs.ab_store.specs.Naming.{IsTypedBy}
-use Rattle.ab_instances.specs.ab_store.specs.Trees.{Contents}
-use Rattle.ab_instances.specs.ab_unifying.specs.Changed.{Grows}
-use Rattle.ab_instances.specs.ab_unifying.specs.Problem.{cells_read}
+use Rattle.ab_norm.specs.ab_store.specs.declared.node.TermId.{TermId}
+use Rattle.ab_norm.specs.ab_store.specs.declared.node.Node.{Node}
+use Rattle.ab_norm.specs.ab_store.specs.declared.mark.Mark.{Mark}
+use Rattle.ab_norm.specs.ab_store.specs.Marks.{HasMark, KeepsMark}
+use Rattle.ab_norm.specs.ab_store.specs.Naming.{IsTypedBy}
+use Rattle.ab_norm.specs.ab_store.specs.Trees.{Contents}
+use Rattle.ab_unify.specs.StoreChanges.{Grows}
+use Rattle.ab_unify.specs.Problem.{cells_read}
 use Rattle.ab_instances.proofs.Bound.{same_tree}
-use Rattle.ab_marks.specs.ab_logic.specs.Growth as world
+use Rattle.ab_logic.specs.WorldGrowth as world
 use Rattle.ab_formulas.specs.Sequents.{proving}
-use Rattle.ab_marks.specs.ab_logic.specs.Worlds.{IsWorld, Holds, read, declarations_of}
-use Rattle.ab_marks.specs.ab_logic.specs.Readings.{sequent_of, HoldsSequent}
-use Rattle.ab_marks.specs.ab_logic.specs.declared.world.World.{World}
-use Rattle.ab_marks.specs.ab_logic.specs.declared.sequent.Sequent.{Sequent as Kept}
-use Rattle.ab_equate.proofs.Going.{world_meanwhile}
-use Rattle.ab_equate.proofs.Restored.{came_back, declarations_same, goal_same, goal_held, undone_grows, undone_bindings}
+use Rattle.ab_logic.specs.Worlds.{IsWorld, Holds, read, declarations_of}
+use Rattle.ab_logic.specs.SequentReadings.{sequent_of, HoldsSequent}
+use Rattle.ab_logic.specs.declared.world.World.{World}
+use Rattle.ab_logic.specs.declared.sequent.Sequent.{Sequent as Kept}
+use Rattle.ab_equations.proofs.Going.{world_meanwhile}
+use Rattle.ab_equations.proofs.Restored.{came_back, declarations_same, goal_same, goal_held, undone_grows, undone_bindings}
 use Rattle.ab_theory.specs.Atoms.{Defined, Choice}
-use Rattle.ab_alternatives.specs.Unfolding.{Unfolds, IsUnfolded}
+use Rattle.ab_alternatives.specs.RightAlternatives.{Unfolds, IsUnfolded}
 
 module _ (w x : World) (is : IsWorld w) (additions : x.additions ≡ w.additions) (g : Grows w.types w.store x.types x.store) (m : Mark) (has : HasMark w.store m) (start : m.bindings ≡ length w.store.bindings)
     (X : Contents) (nodes : X.nodes ≡ x.store.nodes) (cells : X.cells ≡ x.store.cells) (bindings : X.bindings ≡ take m.bindings x.store.bindings) (typed : IsTypedBy x.types X)

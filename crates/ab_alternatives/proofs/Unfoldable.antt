@@ -7,20 +7,20 @@ use Rattle.ab_term.specs.Types.{Ty, prop}
 use Rattle.ab_term.specs.Typing.{Signature}
 use Rattle.ab_term.proofs.Lists.{Contains-map}
 use Rattle.ab_term.specs.Constants as table
-use Rattle.ab_instances.specs.ab_types.specs.Entries.{signature}
-use Rattle.ab_instances.specs.ab_norm.specs.Taking.{AreTaken}
+use Rattle.ab_norm.specs.ab_types.specs.Entries.{signature}
+use Rattle.ab_norm.specs.TypedArguments.{AreTaken}
 use Rattle.ab_term.specs.Terms.{Read}
-use Rattle.ab_formulas.specs.Cased.{case_of}
-use Rattle.ab_instances.specs.ab_clauses.specs.Readings.{clause_of, name_of}
-use Rattle.ab_instances.specs.ab_clauses.specs.declared.kept.ClauseTerm.{ClauseTerm}
+use Rattle.ab_formulas.specs.CaseClauses.{case_of}
+use Rattle.ab_typing.specs.DefinitionReadings.{clause_of, name_of}
+use Rattle.ab_typing.specs.declared.definitions.ClauseTerm.{ClauseTerm}
 use Rattle.ab_formulas.specs.Declarations.{signature_in, IsDefining}
 use Rattle.ab_formulas.specs.Formulas.{IsFormula}
-use Rattle.ab_marks.specs.ab_logic.specs.Worlds.{IsWorld, declarations_of}
-use Rattle.ab_marks.specs.ab_logic.specs.declared.world.World.{World}
-use Rattle.ab_marks.specs.ab_logic.proofs.Blocks.{block_defines}
-use Rattle.ab_marks.specs.ab_logic.proofs.Declaring.{constants_are}
+use Rattle.ab_logic.specs.Worlds.{IsWorld, declarations_of}
+use Rattle.ab_logic.specs.declared.world.World.{World}
+use Rattle.ab_logic.proofs.Blocks.{block_defines}
+use Rattle.ab_logic.proofs.Declaring.{constants_are}
 use Rattle.ab_theory.specs.Atoms.{defined_atom}
-use Rattle.ab_alternatives.specs.Readings.{defined_read, HoldsDefined}
+use Rattle.ab_alternatives.specs.AtomReadings.{defined_read, HoldsDefined}
 use Rattle.ab_alternatives.specs.declared.atoms.DefinedAtom.{DefinedAtom}
 use Rattle.ab_theory.proofs.Taken.{IsAtomOf, atom_of}
 

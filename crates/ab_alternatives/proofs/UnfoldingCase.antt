@@ -6,30 +6,30 @@ use Rattle.ab_term.specs.Terms as tree
 use Rattle.ab_term.specs.Terms.{Nominal, Terms, no_terms, term, Read}
 use Rattle.ab_term.specs.Variables.{image, image_all}
 use Rattle.ab_term.specs.Sameness.{same_number}
-use Rattle.ab_instances.specs.ab_types.specs.Entries.{Table}
-use Rattle.ab_instances.specs.ab_store.specs.declared.node.TermId.{TermId}
-use Rattle.ab_instances.specs.ab_store.specs.declared.node.CellId.{CellId}
-use Rattle.ab_instances.specs.ab_store.specs.declared.node.Equation.{Equation as Kept}
-use Rattle.ab_instances.specs.ab_store.specs.Trees.{Contents, tree_of}
-use Rattle.ab_instances.specs.ab_store.specs.Reading.{reading, cell_variable}
-use Rattle.ab_instances.specs.ab_store.proofs.Growing.{unbound_reads}
-use Rattle.ab_instances.specs.ab_solve.specs.Replacing.{Cell}
-use Rattle.ab_instances.specs.ab_solve.specs.Solving.{Equation}
-use Rattle.ab_instances.specs.ab_solve.specs.Meaning.{given}
-use Rattle.ab_instances.specs.ab_solve.proofs.Ruling.{image_none}
-use Rattle.ab_instances.specs.ab_cases.specs.Clauses.{numbered}
-use Rattle.ab_instances.specs.ab_cases.specs.Alternatives.{cells_over, made_over, arguments_equal}
+use Rattle.ab_norm.specs.ab_types.specs.Entries.{Table}
+use Rattle.ab_norm.specs.ab_store.specs.declared.node.TermId.{TermId}
+use Rattle.ab_norm.specs.ab_store.specs.declared.node.CellId.{CellId}
+use Rattle.ab_norm.specs.ab_store.specs.declared.node.Equation.{Equation as Kept}
+use Rattle.ab_norm.specs.ab_store.specs.Trees.{Contents, tree_of}
+use Rattle.ab_norm.specs.ab_store.specs.Reading.{reading, cell_variable}
+use Rattle.ab_norm.specs.ab_store.proofs.Growing.{unbound_reads}
+use Rattle.ab_unifiers.specs.Replacements.{Cell}
+use Rattle.ab_unifiers.specs.Unification.{Equation}
+use Rattle.ab_unifiers.specs.Unifiers.{given}
+use Rattle.ab_unifiers.proofs.Ruling.{image_none}
+use Rattle.ab_unifiers.specs.Clauses.{numbered}
+use Rattle.ab_unifiers.specs.Alternatives.{cells_over, made_over, arguments_equal}
 use Rattle.ab_formulas.specs.Sequents.{Variable, Sequent, proving}
-use Rattle.ab_instances.specs.ab_unifying.specs.Problem.{cell_read, cells_read, variables_read, equations_from, problem}
+use Rattle.ab_unify.specs.Problem.{cell_read, cells_read, variables_read, equations_from, problem}
 use Rattle.ab_theory.specs.Equations.{made}
 use Rattle.ab_theory.specs.Splits.{Case, problem_of}
-use Rattle.ab_equate.specs.Meanwhile.{AreFrom}
-use Rattle.ab_formulas.specs.Marking.{mark_above, marked_in}
+use Rattle.ab_equations.specs.Meanwhile.{AreFrom}
+use Rattle.ab_formulas.specs.BodyMarks.{mark_above, marked_in}
 use Rattle.ab_theory.specs.Atoms.{Defined, Choice}
 use Rattle.ab_theory.specs.Unfolding.{unfolding_case, exists_all, nabla_all, closed_over, unfolded}
-use Rattle.ab_alternatives.specs.Made.{unchosen_in, trees_from}
-use Rattle.ab_alternatives.specs.Unfolding.{nabla_by, closed_by, put_into, IsOpened, Becomes}
-use Rattle.ab_alternatives.specs.declared.unfolding.Unfolding.{Unfolding}
+use Rattle.ab_alternatives.specs.LeftAlternatives.{unchosen_in, trees_from}
+use Rattle.ab_alternatives.specs.RightAlternatives.{nabla_by, closed_by, put_into, IsOpened, Becomes}
+use Rattle.ab_alternatives.specs.declared.clause_bodies.Unfolding.{Unfolding}
 
 abbrev x : List ℕ
 x = codes "x"

@@ -3,20 +3,20 @@ use Rattle.std.proofs.Common.{◌≡◌, ◌≢◌, ℕ, ◌<◌, ◌≤◌, Lis
 use Rattle.ab_term.specs.Types.{Ty}
 use Rattle.ab_term.specs.Logical as plain
 use Rattle.ab_term.specs.Terms.{logical, lam, spine, no_terms, term, terms_of, Read}
-use Rattle.ab_instances.specs.ab_types.specs.Entries.{Table}
-use Rattle.ab_instances.specs.ab_types.specs.Ids.{type_of}
-use Rattle.ab_instances.specs.ab_types.specs.declared.ids.ConstId.{ConstId}
-use Rattle.ab_instances.specs.ab_types.specs.declared.ids.TypeId.{TypeId}
-use Rattle.ab_instances.specs.ab_store.specs.declared.node.TermId.{TermId}
-use Rattle.ab_instances.specs.ab_store.specs.declared.node.Head.{Head}
-use Rattle.ab_instances.specs.ab_store.specs.declared.node.Head.TheVariants.{Const, Logic}
-use Rattle.ab_instances.specs.ab_store.specs.declared.node.Logical.TheVariants.{Nabla}
-use Rattle.ab_instances.specs.ab_store.specs.declared.node.Node.{Node}
-use Rattle.ab_instances.specs.ab_store.specs.declared.node.Node.TheVariants.{Lam, Spine}
-use Rattle.ab_instances.specs.ab_store.specs.Trees.{Contents, tree_of, node_tree}
-use Rattle.ab_instances.specs.ab_cases.specs.Prefixes.{prefix, IsHead}
-use Rattle.ab_instances.specs.ab_clauses.specs.Readings.{name_of}
-use Rattle.ab_formulas.specs.Headed.{HeadedBy, an_atom, a_nabla}
+use Rattle.ab_norm.specs.ab_types.specs.Entries.{Table}
+use Rattle.ab_norm.specs.ab_types.specs.Ids.{type_of}
+use Rattle.ab_norm.specs.ab_types.specs.declared.ids.ConstId.{ConstId}
+use Rattle.ab_norm.specs.ab_types.specs.declared.ids.TypeId.{TypeId}
+use Rattle.ab_norm.specs.ab_store.specs.declared.node.TermId.{TermId}
+use Rattle.ab_norm.specs.ab_store.specs.declared.node.Head.{Head}
+use Rattle.ab_norm.specs.ab_store.specs.declared.node.Head.TheVariants.{Const, Logic}
+use Rattle.ab_norm.specs.ab_store.specs.declared.node.Logical.TheVariants.{Nabla}
+use Rattle.ab_norm.specs.ab_store.specs.declared.node.Node.{Node}
+use Rattle.ab_norm.specs.ab_store.specs.declared.node.Node.TheVariants.{Lam, Spine}
+use Rattle.ab_norm.specs.ab_store.specs.Trees.{Contents, tree_of, node_tree}
+use Rattle.ab_unifiers.specs.Prefixes.{prefix, IsHead}
+use Rattle.ab_typing.specs.DefinitionReadings.{name_of}
+use Rattle.ab_formulas.specs.PrefixedAtoms.{HeadedBy, an_atom, a_nabla}
 
 one_of : (given : List TermId) (d : TermId) → 1 ≤ length given → length given < 2 → given ≡ get_or given 0 d ∷ []
 one_of [] d low high = absurd (omega (arith, low))

@@ -6,29 +6,29 @@ use Rattle.ab_term.specs.Types.{Ty, prop}
 use Rattle.ab_term.specs.Terms.{Nominal}
 use Rattle.ab_term.specs.Variables.{image, image_all, Substitution}
 use Rattle.ab_term.specs.Sameness.{same_number}
-use Rattle.ab_instances.specs.ab_types.specs.Entries.{Table}
-use Rattle.ab_instances.specs.ab_types.specs.declared.ids.ConstId.{ConstId}
-use Rattle.ab_instances.specs.ab_store.specs.declared.node.TermId.{TermId}
-use Rattle.ab_instances.specs.ab_store.specs.declared.node.CellId.{CellId}
-use Rattle.ab_instances.specs.ab_store.specs.Trees.{Contents, Holds, tree_of}
-use Rattle.ab_instances.specs.ab_store.specs.Naming.{IsTypedBy}
-use Rattle.ab_instances.specs.ab_norm.specs.Growth.{AddsTypedTerms}
-use Rattle.ab_instances.specs.ab_norm.specs.Taking.{AreTaken}
-use Rattle.ab_instances.specs.ab_solve.specs.Replacing.{Cell}
-use Rattle.ab_equate.specs.ab_solver.specs.Answers.{IsTypedPair}
-use Rattle.ab_instances.specs.ab_cases.specs.Clauses.{Clause, filled}
-use Rattle.ab_instances.specs.ab_cases.specs.Alternatives.{cells_over, made_over, made_terms, arguments_equal}
-use Rattle.ab_instances.specs.ab_clauses.specs.Readings.{name_of}
+use Rattle.ab_norm.specs.ab_types.specs.Entries.{Table}
+use Rattle.ab_norm.specs.ab_types.specs.declared.ids.ConstId.{ConstId}
+use Rattle.ab_norm.specs.ab_store.specs.declared.node.TermId.{TermId}
+use Rattle.ab_norm.specs.ab_store.specs.declared.node.CellId.{CellId}
+use Rattle.ab_norm.specs.ab_store.specs.Trees.{Contents, Holds, tree_of}
+use Rattle.ab_norm.specs.ab_store.specs.Naming.{IsTypedBy}
+use Rattle.ab_norm.specs.NodeGrowth.{AddsTypedTerms}
+use Rattle.ab_norm.specs.TypedArguments.{AreTaken}
+use Rattle.ab_unifiers.specs.Replacements.{Cell}
+use Rattle.ab_unify.specs.UnifyAnswers.{IsTypedPair}
+use Rattle.ab_unifiers.specs.Clauses.{Clause, filled}
+use Rattle.ab_unifiers.specs.Alternatives.{cells_over, made_over, made_terms, arguments_equal}
+use Rattle.ab_typing.specs.DefinitionReadings.{name_of}
 use Rattle.ab_formulas.specs.Marks.{Sign}
-use Rattle.ab_formulas.specs.Marking.{mark_below, marked_in}
-use Rattle.ab_instances.specs.ab_unifying.specs.Problem.{cell_read, cells_read, variables_read}
-use Rattle.ab_instances.specs.ab_unifying.specs.Changed.{Grows}
-use Rattle.ab_instances.specs.ab_unifying.proofs.Growth.{grows_on, grows_terms}
-use Rattle.ab_instances.specs.Readings.{given_at, cells_at}
-use Rattle.ab_instances.specs.declared.making.Over.{Over}
+use Rattle.ab_formulas.specs.BodyMarks.{mark_below, marked_in}
+use Rattle.ab_unify.specs.Problem.{cell_read, cells_read, variables_read}
+use Rattle.ab_unify.specs.StoreChanges.{Grows}
+use Rattle.ab_unify.proofs.Growth.{grows_on, grows_terms}
+use Rattle.ab_instances.specs.ListReadings.{given_at, cells_at}
+use Rattle.ab_instances.specs.declared.raised_variables.Over.{Over}
 use Rattle.ab_theory.specs.Atoms.{Choice}
-use Rattle.ab_theory.specs.Raising.{raised_cells}
-use Rattle.ab_alternatives.specs.Made.{equate, trees_from, fresh_in, unchosen_in, base_in, own_in, filled_in, IsRaised}
+use Rattle.ab_theory.specs.RaisedAlternatives.{raised_cells}
+use Rattle.ab_alternatives.specs.LeftAlternatives.{equate, trees_from, fresh_in, unchosen_in, base_in, own_in, filled_in, IsRaised}
 use Rattle.ab_alternatives.proofs.Raised.{raised_on}
 use Rattle.ab_alternatives.proofs.Assembled.{equate_trees, equate_typed, given_stays, still_held, names_same, taken_on, cells_same, variables_same}
 

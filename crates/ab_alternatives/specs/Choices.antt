@@ -1,12 +1,12 @@
 -- What a choice of the program's stands for.
 use Rattle.std.specs.Prelude.{◌≡◌, map, All, Contains}
-use Rattle.ab_instances.specs.ab_norm.specs.Nominals.{HoldsNominal}
-use Rattle.ab_marks.specs.ab_logic.specs.Worlds.{IsKeptClause}
-use Rattle.ab_marks.specs.ab_logic.specs.declared.world.World.{World}
+use Rattle.ab_norm.specs.Nominals.{HoldsNominal}
+use Rattle.ab_logic.specs.Worlds.{IsKeptClause}
+use Rattle.ab_logic.specs.declared.world.World.{World}
 use Rattle.ab_theory.specs.Atoms as plain
-use Rattle.ab_alternatives.specs.Readings.{defined_read, choice_read}
+use Rattle.ab_alternatives.specs.AtomReadings.{defined_read, choice_read}
 use Rattle.ab_alternatives.specs.declared.atoms.DefinedAtom.{DefinedAtom}
-use Rattle.ab_alternatives.specs.declared.choosing.Choice.{Choice}
+use Rattle.ab_alternatives.specs.declared.choice_counts.Choice.{Choice}
 
 -- THE READING of a choice
 abbrev pub read_choice : World → Choice → plain.Choice

@@ -1,30 +1,30 @@
 //! What an alternative of a defined atom on the left is made of, on shared terms.
 ghost use Rattle.std.specs.Prelude.{◌≡◌, ◌≢◌, ◌≤◌, ◌++◌, [], Some, map, length, All, AllPairs, IfOk, OnOk};
 ghost use Rattle.ab_term.specs.Types.{Ty, prop};
-ghost use Rattle.ab_instances.specs.ab_types.specs.Entries.{signature};
-ghost use Rattle.ab_instances.specs.ab_types.specs.Ids.{HoldsConstant};
-ghost use Rattle.ab_instances.specs.ab_store.specs.Trees.{Holds, HoldsCell};
-ghost use Rattle.ab_instances.specs.ab_store.specs.Naming.{IsTypedBy};
-ghost use Rattle.ab_instances.specs.ab_norm.specs.Nominals.{HoldsNominal};
-ghost use Rattle.ab_instances.specs.ab_norm.specs.Taking.{AreTaken};
-ghost use Rattle.ab_formulas.specs.Cased.{case_of};
-ghost use Rattle.ab_instances.specs.ab_clauses.specs.Readings.{clause_of, name_of};
-ghost use Rattle.ab_instances.specs.ab_unifying.specs.Problem.{cells_read};
-ghost use Rattle.ab_instances.specs.ab_unifying.specs.Changed.{Grows};
-ghost use Rattle.ab_instances.specs.Readings.{names_read, given_at, cells_at};
-ghost use Rattle.ab_marks.specs.ab_logic.specs.Forms.{sign_of};
-ghost use Rattle.ab_marks.specs.ab_logic.specs.Worlds.{IsKeptClause};
-ghost use Rattle.ab_theory.specs.Raising.{raised_cells};
-ghost use Rattle.ab_alternatives.specs.Made.{constants_in, equate, IsRaised, IsMade};
+ghost use Rattle.ab_norm.specs.ab_types.specs.Entries.{signature};
+ghost use Rattle.ab_norm.specs.ab_types.specs.Ids.{HoldsConstant};
+ghost use Rattle.ab_norm.specs.ab_store.specs.Trees.{Holds, HoldsCell};
+ghost use Rattle.ab_norm.specs.ab_store.specs.Naming.{IsTypedBy};
+ghost use Rattle.ab_norm.specs.Nominals.{HoldsNominal};
+ghost use Rattle.ab_norm.specs.TypedArguments.{AreTaken};
+ghost use Rattle.ab_formulas.specs.CaseClauses.{case_of};
+ghost use Rattle.ab_typing.specs.DefinitionReadings.{clause_of, name_of};
+ghost use Rattle.ab_unify.specs.Problem.{cells_read};
+ghost use Rattle.ab_unify.specs.StoreChanges.{Grows};
+ghost use Rattle.ab_instances.specs.ListReadings.{names_read, given_at, cells_at};
+ghost use Rattle.ab_logic.specs.Forms.{sign_of};
+ghost use Rattle.ab_logic.specs.Worlds.{IsKeptClause};
+ghost use Rattle.ab_theory.specs.RaisedAlternatives.{raised_cells};
+ghost use Rattle.ab_alternatives.specs.LeftAlternatives.{constants_in, equate, IsRaised, IsMade};
 
-use crate::allowed::mark_below;
 use crate::atoms::DefinedAtom;
-use ab_marks::mark_atoms;
-use ab_instances::below::clauses::ClauseTerm;
-use ab_instances::below::norm::Nominal;
-use ab_instances::below::store::{CellId, Equation, Store, TermId};
-use ab_instances::below::types::{Steps, TypeTable};
+use crate::mark_rules::mark_below;
 use ab_instances::{Over, instance_of, make_over, outside};
+use ab_norm::Nominal;
+use ab_norm::store::{CellId, Equation, Store, TermId};
+use ab_norm::types::{Steps, TypeTable};
+use ab_sequents::mark_atoms;
+use ab_typing::ClauseTerm;
 use std::alloc::{AllocError, Global};
 
 /// An alternative: the goal's variables, raised, with the terms for the old ones where they are; the clause's own

@@ -1,15 +1,15 @@
 //! Atoms whose predicates are defined.
 ghost use Rattle.std.specs.Prelude.{◌≡◌, IfOk, IfSome};
 ghost use Rattle.std.specs.Option.{option_map};
-ghost use Rattle.ab_marks.specs.ab_logic.specs.Forms.{sign_of};
-ghost use Rattle.ab_marks.specs.ab_logic.specs.Worlds.{IsWorld, Holds, read, declarations_of};
+ghost use Rattle.ab_logic.specs.Forms.{sign_of};
+ghost use Rattle.ab_logic.specs.Worlds.{IsWorld, Holds, read, declarations_of};
 ghost use Rattle.ab_theory.specs.Atoms.{defined_as, defined_atom};
-ghost use Rattle.ab_alternatives.specs.Readings.{defined_read, HoldsDefined};
+ghost use Rattle.ab_alternatives.specs.AtomReadings.{defined_read, HoldsDefined};
 
-use ab_marks::below::logic::{Form, Sign, World, shape};
-use ab_instances::below::clauses::{Block, ClauseCells, ClauseTerm, ClauseTerms, Predicates};
-use ab_instances::below::store::{Head, Node, TermId};
-use ab_instances::below::types::ConstId;
+use ab_logic::{Form, Sign, World, shape};
+use ab_norm::store::{Head, Node, TermId};
+use ab_norm::types::ConstId;
+use ab_typing::{Block, ClauseCells, ClauseTerm, ClauseTerms, Predicates};
 use std::alloc::{AllocError, Global};
 
 /// An atom whose predicate is defined: its mark, its predicate with what that is given, and the definition.

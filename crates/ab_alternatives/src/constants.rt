@@ -1,21 +1,21 @@
 //! The nominal constants of an atom, and those of its goal.
 ghost use Rattle.std.specs.Prelude.{◌≡◌, ◌∷◌, map, All, IfOk};
 ghost use Rattle.ab_term.specs.Names.{support_of_all};
-ghost use Rattle.ab_instances.specs.ab_norm.specs.Nominals.{HoldsNominal};
-ghost use Rattle.ab_instances.specs.ab_cases.specs.Choices.{in_order};
-ghost use Rattle.ab_instances.specs.Readings.{names_read};
+ghost use Rattle.ab_norm.specs.Nominals.{HoldsNominal};
+ghost use Rattle.ab_unifiers.specs.Choices.{in_order};
+ghost use Rattle.ab_instances.specs.ListReadings.{names_read};
 ghost use Rattle.ab_formulas.specs.Sequents.{goal_names};
-ghost use Rattle.ab_marks.specs.ab_logic.specs.Worlds.{IsWorld, Holds};
-ghost use Rattle.ab_marks.specs.ab_logic.specs.Readings.{HoldsSequent, sequent_of};
+ghost use Rattle.ab_logic.specs.Worlds.{IsWorld, Holds};
+ghost use Rattle.ab_logic.specs.SequentReadings.{HoldsSequent, sequent_of};
 ghost use Rattle.ab_theory.specs.Atoms.{Defined, choices_of};
 ghost use Rattle.ab_formulas.specs.Members.{SameMembers};
-ghost use Rattle.ab_alternatives.specs.Readings.{defined_read};
+ghost use Rattle.ab_alternatives.specs.AtomReadings.{defined_read};
 
 use crate::atoms::DefinedAtom;
-use ab_marks::below::logic::{Sequent, World};
-use ab_instances::below::norm::Nominal;
-use ab_instances::below::store::TermId;
 use ab_instances::constants_of;
+use ab_logic::{Sequent, World};
+use ab_norm::Nominal;
+use ab_norm::store::TermId;
 use std::alloc::{AllocError, Global};
 
 /// The constants of an atom, in order of number, and those of its goal.

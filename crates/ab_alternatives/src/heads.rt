@@ -1,19 +1,20 @@
 //! Heads of clauses: the atom under the prefix of `nabla` binders, whether it is of a predicate, and the types of the names
 //! that the binders bind.
 ghost use Rattle.std.specs.Prelude.{◌≡◌, ◌↔◌, ◌++◌, map, bytes_eq, true, All, IfOk, IfSome, OnOk, None};
-ghost use Rattle.ab_instances.specs.ab_types.specs.Entries.{Table};
-ghost use Rattle.ab_instances.specs.ab_types.specs.Ids.{HoldsType, HoldsConstant, type_of};
-ghost use Rattle.ab_instances.specs.ab_store.specs.Trees.{Holds, tree_of};
-ghost use Rattle.ab_instances.specs.ab_store.specs.Naming.{IsTypedBy};
-ghost use Rattle.ab_instances.specs.ab_cases.specs.Prefixes.{prefix, IsHead};
-ghost use Rattle.ab_formulas.specs.Cased.{case_of};
-ghost use Rattle.ab_instances.specs.ab_clauses.specs.Readings.{clause_of, name_of};
-ghost use Rattle.ab_marks.specs.ab_logic.specs.Worlds.{IsKeptClause};
-ghost use Rattle.ab_formulas.specs.Headed.{HeadedBy};
+ghost use Rattle.ab_norm.specs.ab_types.specs.Entries.{Table};
+ghost use Rattle.ab_norm.specs.ab_types.specs.Ids.{HoldsType, HoldsConstant, type_of};
+ghost use Rattle.ab_norm.specs.ab_store.specs.Trees.{Holds, tree_of};
+ghost use Rattle.ab_norm.specs.ab_store.specs.Naming.{IsTypedBy};
+ghost use Rattle.ab_unifiers.specs.Prefixes.{prefix, IsHead};
+ghost use Rattle.ab_formulas.specs.CaseClauses.{case_of};
+ghost use Rattle.ab_typing.specs.DefinitionReadings.{clause_of, name_of};
+ghost use Rattle.ab_logic.specs.Worlds.{IsKeptClause};
+ghost use Rattle.ab_formulas.specs.PrefixedAtoms.{HeadedBy};
 
-use ab_instances::below::clauses::ClauseTerm;
-use ab_instances::below::store::{Head, Logical, Node, Store, TermId};
-use ab_instances::below::types::{ConstId, TypeId, TypeTable, has_unique_ids};
+use ab_norm::store::{Head, Logical, Node, Store, TermId};
+use ab_norm::types::laws::has_unique_ids;
+use ab_norm::types::{ConstId, TypeId, TypeTable};
+use ab_typing::ClauseTerm;
 use std::alloc::{AllocError, Global};
 
 /// The predicate of the atom under the prefix, if there is such an atom.

@@ -1,11 +1,12 @@
 //! The hints of the `nabla` names of a clause.
 ghost use Rattle.std.specs.Prelude.{◌≡◌, ◌++◌, map, IfOk, OnOk};
-ghost use Rattle.ab_instances.specs.ab_store.specs.Trees.{Holds, tree_of};
-ghost use Rattle.ab_instances.specs.ab_store.specs.Naming.{IsTypedBy};
-ghost use Rattle.ab_instances.specs.ab_cases.specs.Prefixes.{prefix};
+ghost use Rattle.ab_norm.specs.ab_store.specs.Trees.{Holds, tree_of};
+ghost use Rattle.ab_norm.specs.ab_store.specs.Naming.{IsTypedBy};
+ghost use Rattle.ab_unifiers.specs.Prefixes.{prefix};
 
-use ab_instances::below::store::{Head, Logical, Node, Store, TermId};
-use ab_instances::below::types::{Name, TypeTable};
+use ab_norm::name::Name;
+use ab_norm::store::{Head, Logical, Node, Store, TermId};
+use ab_norm::types::TypeTable;
 use std::alloc::{AllocError, Global};
 
 /// Puts the hints of the names that the prefix binds behind the others.

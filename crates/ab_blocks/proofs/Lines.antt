@@ -6,22 +6,22 @@ use Rattle.std.proofs.lemmas.List.Elements.{All-head, All-tail}
 use Rattle.ab_term.specs.Variables.{variables}
 use Rattle.ab_term.proofs.Lists.{Contains-none, Contains-from_map}
 use Rattle.ab_term.specs.Terms.{Read}
-use Rattle.ab_states.specs.ab_text.specs.Layout.{bytes}
-use Rattle.ab_states.specs.ab_logic.specs.Worlds.{IsWorld, variable_of, declarations_of}
-use Rattle.ab_states.specs.ab_logic.specs.Readings.{sequent_of}
+use Rattle.ab_print.specs.ShapeText.{bytes}
+use Rattle.ab_logic.specs.Worlds.{IsWorld, variable_of, declarations_of}
+use Rattle.ab_logic.specs.SequentReadings.{sequent_of}
 use Rattle.ab_formulas.specs.Sequents.{Variable, Sequent, IsSequent}
-use Rattle.ab_states.specs.ab_logic.specs.declared.world.World.{World}
-use Rattle.ab_states.specs.ab_logic.specs.declared.sequent.Sequent.{Sequent as Kept}
-use Rattle.ab_states.specs.ab_kernel.specs.Layout.{Held, history_of, IsProof}
+use Rattle.ab_logic.specs.declared.world.World.{World}
+use Rattle.ab_logic.specs.declared.sequent.Sequent.{Sequent as Kept}
+use Rattle.ab_steps.specs.ab_kernel.specs.Layout.{Held, history_of, IsProof}
 use Rattle.ab_theory.proofs.Rooted.{open_are_sequents}
-use Rattle.ab_states.specs.ab_progress.specs.Progress.{goals_of}
-use Rattle.ab_states.specs.ab_print.specs.Shown as by_number
-use Rattle.ab_states.specs.ab_print.specs.Shown.{cell_name}
-use Rattle.ab_formulas.specs.Goals.{Goal, named}
-use Rattle.ab_states.specs.ab_goals.specs.Shown.{shown, goal_lines, other_goal}
-use Rattle.ab_states.specs.ab_goals.proofs.Naming.{printed_told}
+use Rattle.ab_steps.specs.Progress.{goals_of}
+use Rattle.ab_print.specs.GoalText as by_number
+use Rattle.ab_print.specs.GoalText.{cell_name}
+use Rattle.ab_formulas.specs.NamedGoals.{Goal, named}
+use Rattle.ab_print.specs.NamedGoalText.{shown, goal_lines, other_goal}
+use Rattle.ab_print.proofs.Naming.{printed_told}
 use Rattle.ab_formulas.proofs.GoalsAgreeing.{Calls, translate_agrees}
-use Rattle.ab_states.specs.ab_goals.proofs.Shown.{goal_so, other_so}
+use Rattle.ab_print.proofs.Shown.{goal_so, other_so}
 use Rattle.ab_blocks.specs.Blocks.{closed_formula, others_from, others_if, goals_shown}
 
 -- cells are called by their hints

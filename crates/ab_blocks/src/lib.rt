@@ -1,7 +1,6 @@
 //! The block that answers a command, as bytes.
 #![tactic(auto)]
 
-pub mod below;
 mod goals;
 mod refusals;
 mod replies;

@@ -2,8 +2,8 @@
 ghost use Rattle.std.specs.Prelude.{◌≡◌, ◌++◌, codes, decimal, OnOk};
 ghost use Rattle.ab_blocks.specs.Blocks.{class, in_file, at_place, named, all_named, detail};
 
-use ab_states::{Place, Refusal};
-use ab_syntax::below::name::Name;
+use ab_declare::{Place, Refusal};
+use ab_name::Name;
 use itoa::Buffer;
 use std::alloc::AllocError;
 

@@ -2,18 +2,18 @@
 ghost use Rattle.std.specs.Prelude.{◌≡◌, ◌++◌, [], map, length, OnOk, IfOk, IfSome};
 ghost use Rattle.std.specs.Option.{option_copied};
 ghost use Rattle.ab_term.specs.Variables.{variables};
-ghost use Rattle.ab_states.specs.ab_logic.specs.Worlds.{IsWorld};
-ghost use Rattle.ab_states.specs.ab_kernel.specs.Layout.{IsProof};
+ghost use Rattle.ab_logic.specs.Worlds.{IsWorld};
+ghost use Rattle.ab_steps.specs.ab_kernel.specs.Layout.{IsProof};
 ghost use Rattle.ab_states.specs.State.{State, goals_of, goals_in};
 ghost use Rattle.ab_states.specs.Reply.{SpeaksOfNoGoal, reply_of};
 ghost use Rattle.ab_blocks.specs.Blocks.{text, block};
 
 use crate::goals::write_goals;
 use crate::refusals::write_refusal;
+use ab_logic::World;
+use ab_print::{show_reply, show_term};
 use ab_states::Reply;
-use ab_states::below::kernel::Proof;
-use ab_states::below::logic::World;
-use ab_states::below::printing::{show_reply, show_term};
+use ab_steps::kernel::Proof;
 use std::alloc::{AllocError, Global};
 
 /// Appends what stands behind the number of kept commands.

@@ -1,9 +1,9 @@
 -- What bytes say is one command or one cause why they say none, and a command that they say stands there.
 use Rattle.std.proofs.Common.{◌≡◌, ◌↔◌, ◌+◌, ℕ, Bool, List, length, Option, Some, None, refl, sym, ap, ◌∙◌, subst, arith, inl, inr}
-use Rattle.ab_syntax.specs.ab_lex.specs.declared.token.Token.{Token}
-use Rattle.ab_syntax.specs.ab_lex.specs.Tokens.{TokensOf, place_of}
-use Rattle.ab_syntax.specs.ab_lex.proofs.OneReading.{tokens_unique, fault_unique, fault_excludes}
-use Rattle.ab_syntax.specs.ab_lex.proofs.Beginning.{one_beginning}
+use Rattle.ab_lex.specs.declared.token.Token.{Token}
+use Rattle.ab_lex.specs.Tokens.{TokensOf, place_of}
+use Rattle.ab_lex.proofs.OneReading.{tokens_unique, fault_unique, fault_excludes}
+use Rattle.ab_lex.proofs.Beginning.{one_beginning}
 use Rattle.ab_grammar.specs.declared.head.Stand.{Stand}
 use Rattle.ab_grammar.specs.Token.{Token as Term}
 use Rattle.ab_grammar.specs.CommandTrees.{Command}
@@ -16,8 +16,8 @@ use Rattle.ab_syntax.specs.Tokens.{tokens_in}
 use Rattle.ab_syntax.specs.Faults.{fault_place, nested_place, IsTold, IsCommandPlace}
 use Rattle.ab_command.specs.declared.fault.Cause.{Cause}
 use Rattle.ab_command.specs.declared.fault.Cause.TheVariants.{Syntax, WrongPlace, TooNested}
-use Rattle.ab_command.specs.Built.{IsBuilt}
-use Rattle.ab_command.specs.Reading.{StandsHere, FaultAtPlace, Fits, Says, Fails, no_token, out_of_place, ungrammatical, too_nested, not_built}
+use Rattle.ab_command.specs.Supported.{IsBuilt}
+use Rattle.ab_command.specs.CommandReadings.{StandsHere, FaultAtPlace, Fits, Says, Fails, no_token, out_of_place, ungrammatical, too_nested, not_built}
 
 -- a command that is said stands there
 pub said_stands : (b : List ℕ) (proving : Bool) (c : Command) → Says b proving c → StandsHere (standing c) proving

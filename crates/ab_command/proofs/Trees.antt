@@ -10,7 +10,7 @@ use Rattle.ab_syntax.specs.declared.tree.Parse.TheVariants as parse
 use Rattle.ab_syntax.specs.declared.tree.Parse.TheFolds.{fold-roll-Parse}
 use Rattle.ab_syntax.specs.declared.items.Items.{Items}
 use Rattle.ab_syntax.specs.Items.{list_of}
-use Rattle.ab_syntax.specs.Trees.{tree_of, tree_step}
+use Rattle.ab_syntax.specs.SyntaxTrees.{tree_of, tree_step}
 use Rattle.ab_command.specs.Judgements.{HasNoJudgement, HaveNoJudgement}
 
 pub tree_apply : (h : Box Parse Global) (vs : Items Parse) (place : ℕ) → tree_of (parse.Apply h vs place) ≡ apply (tree_of h.value) (trees_of (map tree_of (list_of vs))) place

@@ -1,4 +1,4 @@
 -- What the bytes of a command say, where a proof is open or none is.
 pub mod Judgements
-pub mod Built
-pub mod Reading
+pub mod Supported
+pub mod CommandReadings

@@ -3,7 +3,7 @@ ghost use Rattle.std.specs.Prelude.{◌≡◌, ℕ, Bool, List};
 ghost use Rattle.ab_grammar.specs.CommandTrees.{Command};
 ghost use Rattle.ab_grammar.specs.CommandTable.{standing};
 ghost use Rattle.ab_command.specs.declared.fault.Cause.{Cause};
-ghost use Rattle.ab_command.specs.Reading.{StandsHere, Says, Fails};
+ghost use Rattle.ab_command.specs.CommandReadings.{StandsHere, Says, Fails};
 
 /// Bytes say one command, or fail for one cause, and never both; and a command that they say stands there.
 pub fn bytes_have_one_meaning()

@@ -1,14 +1,12 @@
 //! What the bytes of a command say, where a proof is open or none is.
 #![tactic(auto)]
 
-pub mod below;
-mod built;
+mod command_reader;
 mod fault;
-mod judging;
+mod judgements;
 pub mod laws;
-mod reading;
+mod supported;
 
-pub use ab_syntax::Command;
+pub use command_reader::read_command;
 pub use fault::{Cause, Unread};
-pub use judging::holds_judgement;
-pub use reading::read_command;
+pub use judgements::holds_judgement;

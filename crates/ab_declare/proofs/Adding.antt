@@ -1,23 +1,22 @@
 -- Names that are put behind a table one after another, and what a world that got them declares.
 use Rattle.std.specs.Prelude.{◌≡◌, ℕ, ◌+◌, ◌<◌, List, [], ◌∷◌, ◌++◌, map, take, drop, length, Some, None, Contains}
 use Rattle.std.proofs.Common.{sym, ◌∙◌, ap, subst, inl, inr, get_or, append_assoc, append-nil}
-use Rattle.std.proofs.lemmas.List.{map-append}
-use Rattle.std.proofs.lemmas.List.{take-append-drop, take_more}
+use Rattle.std.proofs.lemmas.List.{map-append, take-append-drop, take_more}
 use Rattle.ab_term.specs.Types.{Ty}
-use Rattle.ab_sentences.specs.ab_types.specs.Entries as table
+use Rattle.ab_norm.specs.ab_types.specs.Entries as table
 use Rattle.ab_term.specs.Constants.{names, constant}
-use Rattle.ab_sentences.specs.ab_types.specs.Entries.{Table, Entry, kinds, types, constants, IsExtendedBy, FindsOrAdds}
-use Rattle.ab_sentences.specs.ab_types.specs.Ids.{HoldsType, type_of}
-use Rattle.ab_sentences.specs.ab_types.specs.declared.ids.TypeId.{TypeId}
-use Rattle.ab_sentences.specs.ab_types.proofs.Entries.{kinds-append, constants-append, names-append, holds_type, same_type}
+use Rattle.ab_norm.specs.ab_types.specs.Entries.{Table, Entry, kinds, types, constants, IsExtendedBy, FindsOrAdds}
+use Rattle.ab_norm.specs.ab_types.specs.Ids.{HoldsType, type_of}
+use Rattle.ab_norm.specs.ab_types.specs.declared.ids.TypeId.{TypeId}
+use Rattle.ab_norm.specs.ab_types.proofs.Entries.{kinds-append, constants-append, names-append, holds_type, same_type}
 use Rattle.ab_grammar.specs.CommandTrees.{Command}
-use Rattle.ab_sentences.specs.ab_logic.specs.Growth.{Grows}
-use Rattle.ab_sentences.specs.ab_logic.specs.Worlds.{declared, declarations_of, IsWorld}
-use Rattle.ab_sentences.specs.ab_logic.specs.declared.world.World.{World}
-use Rattle.ab_sentences.specs.ab_logic.proofs.Blocks.{declared_more}
-use Rattle.ab_sentences.specs.ab_logic.proofs.Growing.{grows_types}
-use Rattle.ab_declare.specs.Declaring.{first_taken}
-use Rattle.ab_declare.specs.Answers.{TableDeclared, IsDeclared}
+use Rattle.ab_logic.specs.WorldGrowth.{Grows}
+use Rattle.ab_logic.specs.Worlds.{declared, declarations_of, IsWorld}
+use Rattle.ab_logic.specs.declared.world.World.{World}
+use Rattle.ab_logic.proofs.Blocks.{declared_more}
+use Rattle.ab_logic.proofs.Growing.{grows_types}
+use Rattle.ab_declare.specs.DeclarationCommands.{first_taken}
+use Rattle.ab_declare.specs.DeclarationAnswers.{TableDeclared, IsDeclared}
 use Rattle.ab_declare.proofs.Taking.{taken_at, untaken}
 use Rattle.ab_declare.proofs.Knowing.{world_knows, kinds-kinds, names-constants}
 

@@ -6,41 +6,41 @@ use Rattle.std.proofs.lemmas.List.{append_cancel_left}
 use Rattle.std.proofs.lemmas.List.Elements.{All-nil, All-cons, All-head, All-tail, All-weaker, Contains-get_or, Contains-append_left}
 use Rattle.ab_term.specs.Typing.{Signature}
 use Rattle.ab_term.proofs.Lists.{Contains-map}
-use Rattle.ab_sentences.specs.ab_types.specs.Entries as table
+use Rattle.ab_norm.specs.ab_types.specs.Entries as table
 use Rattle.ab_term.specs.Constants.{Constant, constant, names, type_in}
-use Rattle.ab_sentences.specs.ab_types.specs.Entries.{Table, kinds, constants, signature, IsExtendedBy}
-use Rattle.ab_sentences.specs.ab_types.specs.Ids.{HoldsConstant, constant_of}
-use Rattle.ab_sentences.specs.ab_types.specs.Sound.{IsTable}
-use Rattle.ab_sentences.specs.ab_types.specs.declared.ids.ConstId.{ConstId}
-use Rattle.ab_sentences.specs.ab_types.proofs.Entries.{kinds-append, constants-append, extended_twice}
-use Rattle.ab_sentences.specs.ab_store.specs.Trees.{Contents}
+use Rattle.ab_norm.specs.ab_types.specs.Entries.{Table, kinds, constants, signature, IsExtendedBy}
+use Rattle.ab_norm.specs.ab_types.specs.Ids.{HoldsConstant, constant_of}
+use Rattle.ab_norm.specs.ab_types.specs.Sound.{IsTable}
+use Rattle.ab_norm.specs.ab_types.specs.declared.ids.ConstId.{ConstId}
+use Rattle.ab_norm.specs.ab_types.proofs.Entries.{kinds-append, constants-append, extended_twice}
+use Rattle.ab_norm.specs.ab_store.specs.Trees.{Contents}
 use Rattle.ab_grammar.specs.CommandTrees as command
 use Rattle.ab_grammar.specs.CommandTrees.{Defined, Clause}
-use Rattle.ab_formulas.specs.Kept as kept
-use Rattle.ab_formulas.specs.Cased.{case_of}
+use Rattle.ab_formulas.specs.Clauses as kept
+use Rattle.ab_formulas.specs.CaseClauses.{case_of}
 use Rattle.ab_formulas.specs.Faults.{IsRightBlock, IsFaultOf, bad_head, not_stratified}
-use Rattle.ab_formulas.specs.Proposed.{IsProposed}
-use Rattle.ab_sentences.specs.ab_clauses.specs.Readings.{name_of, clause_of, block_of, HoldsBlock}
-use Rattle.ab_sentences.specs.ab_clauses.specs.declared.kept.Block.{Block as KeptBlock}
-use Rattle.ab_sentences.specs.ab_clauses.specs.declared.kept.ClauseTerm.{ClauseTerm}
-use Rattle.ab_clausal.specs.Growth.{AddsVariables}
+use Rattle.ab_formulas.specs.ProposedClauses.{IsProposed}
+use Rattle.ab_typing.specs.DefinitionReadings.{name_of, clause_of, block_of, HoldsBlock}
+use Rattle.ab_typing.specs.declared.definitions.Block.{Block as KeptBlock}
+use Rattle.ab_typing.specs.declared.definitions.ClauseTerm.{ClauseTerm}
+use Rattle.ab_declare.specs.CellGrowth.{AddsVariables}
 use Rattle.ab_formulas.specs.Declarations.{Declarations, Block, a_block, block_in, constants_in, signature_in, constant_names}
-use Rattle.ab_sentences.specs.ab_logic.specs.Defining.{IsFirstDefined, IsDefinable, IsDefineFault}
-use Rattle.ab_sentences.specs.ab_logic.specs.Growth.{Grows}
-use Rattle.ab_sentences.specs.ab_logic.specs.Worlds.{declared, declarations_of, defined, definition_of, IsWorld}
-use Rattle.ab_sentences.specs.ab_logic.specs.declared.world.DefineFault.{DefineFault}
-use Rattle.ab_sentences.specs.ab_logic.specs.declared.world.DefineFault.TheVariants as define
-use Rattle.ab_sentences.specs.ab_logic.specs.declared.world.World.{World}
-use Rattle.ab_sentences.specs.ab_logic.proofs.Blocks.{declared_more}
+use Rattle.ab_logic.specs.NewDefinitions.{IsFirstDefined, IsDefinable, IsDefineFault}
+use Rattle.ab_logic.specs.WorldGrowth.{Grows}
+use Rattle.ab_logic.specs.Worlds.{declared, declarations_of, defined, definition_of, IsWorld}
+use Rattle.ab_logic.specs.declared.world.DefineFault.{DefineFault}
+use Rattle.ab_logic.specs.declared.world.DefineFault.TheVariants as define
+use Rattle.ab_logic.specs.declared.world.World.{World}
+use Rattle.ab_logic.proofs.Blocks.{declared_more}
 use Rattle.ab_formulas.proofs.Declaring.{or_else, block_in-append, constants_in-append}
-use Rattle.ab_sentences.specs.ab_logic.proofs.Growing.{grows_on, grows_store, grows_types, same_constants}
-use Rattle.ab_effects.specs.Terms.{kinds_in}
+use Rattle.ab_logic.proofs.Growing.{grows_on, grows_store, grows_types, same_constants}
+use Rattle.ab_meaning.specs.Terms.{kinds_in}
 use Rattle.ab_declare.specs.declared.refusal.Refusal.{Refusal}
 use Rattle.ab_declare.specs.declared.halt.Halt.{Halt}
-use Rattle.ab_declare.specs.Answers.{IsDeclared}
-use Rattle.ab_declare.specs.Declaring.{new_predicates}
-use Rattle.ab_declare.specs.Defining.{predicates_found, predicate_of, signature_with, block_with, FirstTold, IsPredicate, IsNoPredicate, IsNamed, IsUnnamed, MeanKept, IsRead, IsUnread, HasPredicates, HasNames, HasTypes, DefinesNothing, predicate_unnamed, clause_unnamed, no_predicate, clause_unread, faulty}
-use Rattle.ab_declare.specs.Halting.{halt_by, Halts, HasKinds, ArePut, ArentPut, AreReadAs}
+use Rattle.ab_declare.specs.DeclarationAnswers.{IsDeclared}
+use Rattle.ab_declare.specs.DeclarationCommands.{new_predicates}
+use Rattle.ab_declare.specs.DefinitionCommands.{predicates_found, predicate_of, signature_with, block_with, FirstTold, IsPredicate, IsNoPredicate, IsNamed, IsUnnamed, MeanKept, IsRead, IsUnread, HasPredicates, HasNames, HasTypes, DefinesNothing, predicate_unnamed, clause_unnamed, no_predicate, clause_unread, faulty}
+use Rattle.ab_declare.specs.Halts.{halt_by, Halts, HasKinds, ArePut, ArentPut, AreReadAs}
 use Rattle.ab_declare.proofs.Knowing.{world_knows, world_constants}
 use Rattle.ab_declare.proofs.Meant.{AreOnes, are_meant, all_held, all_proposed, same_cases, right_too, fault_too}
 use Rattle.ab_declare.proofs.Putting.{first_found, found_kinds, still_held, still_are}

@@ -2,29 +2,29 @@
 use Rattle.std.specs.Prelude.{◌≡◌, ℕ, List, [], ◌∷◌, ◌++◌, map, true, false, Option, Some, None, option_map, is_some, Result, Ok, Err, MatchOption, IfOk}
 use Rattle.std.proofs.Common.{refl, sym, ◌∙◌, ap, subst, append_assoc}
 use Rattle.ab_term.specs.Types.{Ty}
-use Rattle.ab_sentences.specs.ab_types.specs.Entries as table
+use Rattle.ab_norm.specs.ab_types.specs.Entries as table
 use Rattle.ab_term.specs.Constants.{names, constant}
-use Rattle.ab_sentences.specs.ab_types.specs.Entries.{Table, kinds, constants, IsExtendedBy}
-use Rattle.ab_sentences.specs.ab_types.specs.Ids.{type_of}
-use Rattle.ab_sentences.specs.ab_types.specs.declared.ids.TypeId.{TypeId}
-use Rattle.ab_sentences.specs.ab_types.proofs.Entries.{kinds-append, constants-append}
+use Rattle.ab_norm.specs.ab_types.specs.Entries.{Table, kinds, constants, IsExtendedBy}
+use Rattle.ab_norm.specs.ab_types.specs.Ids.{type_of}
+use Rattle.ab_norm.specs.ab_types.specs.declared.ids.TypeId.{TypeId}
+use Rattle.ab_norm.specs.ab_types.proofs.Entries.{kinds-append, constants-append}
 use Rattle.ab_grammar.specs.Tree as tree
 use Rattle.ab_grammar.specs.CommandTrees as command
 use Rattle.ab_grammar.specs.CommandTrees.{Command}
-use Rattle.ab_sentences.specs.ab_readings.specs.Types.{IsDeclarable, written_type}
-use Rattle.ab_clausal.specs.ab_infer.specs.WrittenTypes.{TypeAnswers}
-use Rattle.ab_clausal.specs.ab_infer.specs.declared.fault.InferFault.{InferFault}
-use Rattle.ab_clausal.specs.ab_infer.specs.declared.fault.InferFault.TheVariants as fault
+use Rattle.ab_meaning.specs.Types.{IsDeclarable, written_type}
+use Rattle.ab_inference.specs.WrittenTypes.{TypeAnswers}
+use Rattle.ab_inference.specs.declared.fault.InferFault.{InferFault}
+use Rattle.ab_inference.specs.declared.fault.InferFault.TheVariants as fault
 use Rattle.ab_term.specs.Terms.{Read}
 use Rattle.ab_formulas.specs.Declarations.{a_constant}
-use Rattle.ab_sentences.specs.ab_logic.specs.Worlds.{declared, IsWorld, declarations_of}
-use Rattle.ab_sentences.specs.ab_logic.specs.declared.world.World.{World}
-use Rattle.ab_sentences.specs.ab_logic.proofs.Declaring.{declared-append}
+use Rattle.ab_logic.specs.Worlds.{declared, IsWorld, declarations_of}
+use Rattle.ab_logic.specs.declared.world.World.{World}
+use Rattle.ab_logic.proofs.Declaring.{declared-append}
 use Rattle.ab_declare.specs.declared.refusal.Refusal.{Refusal}
 use Rattle.ab_declare.specs.declared.refusal.Refusal.TheVariants.{Clash, TypeClash}
 use Rattle.ab_declare.specs.Refusals.{here, RefusedFor}
-use Rattle.ab_declare.specs.Declaring.{first_taken, Declares, Declines, new_kinds, new_constants, kind_taken, constant_taken, type_unknown, type_unfit}
-use Rattle.ab_declare.specs.Answers.{TableDeclared, IsDeclined}
+use Rattle.ab_declare.specs.DeclarationCommands.{first_taken, Declares, Declines, new_kinds, new_constants, kind_taken, constant_taken, type_unknown, type_unfit}
+use Rattle.ab_declare.specs.DeclarationAnswers.{TableDeclared, IsDeclined}
 use Rattle.ab_declare.proofs.Knowing.{world_knows, declared-kinds, declared-constants, none_declared}
 
 pub if_ok_more : {A E : Type 0} (r : Result A E) (P Q : A → Type 0) → ((a : A) → P a → Q a) → IfOk r P → IfOk r Q

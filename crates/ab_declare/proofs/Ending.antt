@@ -3,8 +3,8 @@ use Rattle.std.specs.Prelude.{◌≡◌, ◌↔◌, ℕ, List, Bool, IsTrue, Res
 use Rattle.std.proofs.Common.{refl, sym, ◌∙◌, subst, ap}
 use Rattle.ab_term.specs.Types.{Ty, arrow}
 use Rattle.ab_grammar.specs.Tree as tree
-use Rattle.ab_sentences.specs.ab_readings.specs.Types.{written_type, arrow_of}
-use Rattle.ab_declare.specs.Defining.{EndsInProp}
+use Rattle.ab_meaning.specs.Types.{written_type, arrow_of}
+use Rattle.ab_declare.specs.DefinitionCommands.{EndsInProp}
 
 abbrev Ends : Bool → Ty → Type 0
 Ends b A = IsTrue b ↔ EndsInProp A

@@ -3,19 +3,19 @@ use Rattle.std.specs.Prelude.{◌≡◌, ℕ, ◌+◌, ◌-◌, ◌≤◌, List,
 use Rattle.std.proofs.Common.{refl, sym, ◌∙◌, ap, arith, drop-drop}
 use Rattle.std.proofs.lemmas.List.{take-append-drop}
 use Rattle.ab_term.specs.Types.{Ty}
-use Rattle.ab_sentences.specs.ab_types.specs.Entries as table
+use Rattle.ab_norm.specs.ab_types.specs.Entries as table
 use Rattle.ab_term.specs.Constants.{names, constant}
-use Rattle.ab_sentences.specs.ab_types.specs.Entries.{Table, kinds, constants}
-use Rattle.ab_sentences.specs.ab_types.proofs.Entries.{kinds-append}
-use Rattle.ab_effects.specs.Terms.{kinds_in}
+use Rattle.ab_norm.specs.ab_types.specs.Entries.{Table, kinds, constants}
+use Rattle.ab_norm.specs.ab_types.proofs.Entries.{kinds-append}
+use Rattle.ab_meaning.specs.Terms.{kinds_in}
 use Rattle.ab_formulas.specs.Declarations.{Declarations, a_kind, a_constant, a_block, a_program_clause, a_theorem, constants_in}
-use Rattle.ab_sentences.specs.ab_logic.specs.Worlds.{declared, declaration_of, declared_from, declarations_of, CameInOrder, IsWorld}
-use Rattle.ab_sentences.specs.ab_logic.specs.declared.world.World.{World}
-use Rattle.ab_sentences.specs.ab_logic.specs.declared.additions.Added.{Added}
-use Rattle.ab_sentences.specs.ab_logic.specs.declared.additions.Addition.{Addition}
-use Rattle.ab_sentences.specs.ab_logic.specs.declared.additions.Addition.TheVariants.{Theorem, Definition}
-use Rattle.ab_sentences.specs.ab_logic.proofs.Declaring.{constants_are}
-use Rattle.ab_declare.specs.Answers.{Knows}
+use Rattle.ab_logic.specs.Worlds.{declared, declaration_of, declared_from, declarations_of, CameInOrder, IsWorld}
+use Rattle.ab_logic.specs.declared.world.World.{World}
+use Rattle.ab_logic.specs.declared.additions.Added.{Added}
+use Rattle.ab_logic.specs.declared.additions.Addition.{Addition}
+use Rattle.ab_logic.specs.declared.additions.Addition.TheVariants.{Theorem, Definition}
+use Rattle.ab_logic.proofs.Declaring.{constants_are}
+use Rattle.ab_declare.specs.DeclarationAnswers.{Knows}
 
 pub kinds-declared : (s : Table) → kinds_in (declared s) ≡ kinds s
 kinds-declared [] = refl

@@ -5,38 +5,38 @@ use Rattle.std.proofs.lemmas.List.Elements.{All-nil, All-cons, All-head, All-tai
 use Rattle.ab_term.specs.Types.{Ty, prop}
 use Rattle.ab_term.specs.Typing.{Signature}
 use Rattle.ab_term.specs.Constants.{type_in}
-use Rattle.ab_sentences.specs.ab_types.specs.Entries.{Table, kinds, constants, signature, IsExtendedBy}
-use Rattle.ab_sentences.specs.ab_types.specs.Ids.{type_of}
-use Rattle.ab_sentences.specs.ab_types.specs.Sound.{IsTable}
-use Rattle.ab_sentences.specs.ab_types.specs.declared.ids.TypeId.{TypeId}
-use Rattle.ab_sentences.specs.ab_types.proofs.Entries.{same_type}
-use Rattle.ab_sentences.specs.ab_store.specs.declared.node.CellEntry.{CellEntry}
-use Rattle.ab_sentences.specs.ab_store.specs.declared.node.CellId.{CellId}
-use Rattle.ab_sentences.specs.ab_store.specs.declared.node.TermId.{TermId}
-use Rattle.ab_sentences.specs.ab_store.specs.Growth as growth
-use Rattle.ab_sentences.specs.ab_store.specs.Naming.{IsTypedBy}
-use Rattle.ab_sentences.specs.ab_store.specs.Trees.{Contents, Holds, HoldsCell, cell_of, tree_of}
-use Rattle.ab_sentences.specs.ab_store.proofs.Tables.{same_tree}
+use Rattle.ab_norm.specs.ab_types.specs.Entries.{Table, kinds, constants, signature, IsExtendedBy}
+use Rattle.ab_norm.specs.ab_types.specs.Ids.{type_of}
+use Rattle.ab_norm.specs.ab_types.specs.Sound.{IsTable}
+use Rattle.ab_norm.specs.ab_types.specs.declared.ids.TypeId.{TypeId}
+use Rattle.ab_norm.specs.ab_types.proofs.Entries.{same_type}
+use Rattle.ab_norm.specs.ab_store.specs.declared.node.CellEntry.{CellEntry}
+use Rattle.ab_norm.specs.ab_store.specs.declared.node.CellId.{CellId}
+use Rattle.ab_norm.specs.ab_store.specs.declared.node.TermId.{TermId}
+use Rattle.ab_norm.specs.ab_store.specs.Growth as growth
+use Rattle.ab_norm.specs.ab_store.specs.Naming.{IsTypedBy}
+use Rattle.ab_norm.specs.ab_store.specs.Trees.{Contents, Holds, HoldsCell, cell_of, tree_of}
+use Rattle.ab_norm.specs.ab_store.proofs.Tables.{same_tree}
 use Rattle.ab_grammar.specs.CommandTrees.{Clause}
-use Rattle.ab_clausal.specs.ab_infer.specs.declared.fault.InferFault.{InferFault}
-use Rattle.ab_clausal.specs.ab_infer.specs.declared.fault.InferFault.TheVariants as fault
-use Rattle.ab_clausal.specs.ab_walking.specs.Rows.{Fails}
-use Rattle.ab_formulas.specs.Kept as kept
-use Rattle.ab_formulas.specs.Cased.{case_of}
+use Rattle.ab_inference.specs.declared.fault.InferFault.{InferFault}
+use Rattle.ab_inference.specs.declared.fault.InferFault.TheVariants as fault
+use Rattle.ab_infer.specs.Rows.{Fails}
+use Rattle.ab_formulas.specs.Clauses as kept
+use Rattle.ab_formulas.specs.CaseClauses.{case_of}
 use Rattle.ab_formulas.specs.Faults.{Fault, IsRight, FirstFault}
 use Rattle.ab_formulas.specs.Faults as faults
-use Rattle.ab_formulas.specs.Proposed.{IsProposed}
-use Rattle.ab_sentences.specs.ab_clauses.specs.Readings.{clause_of, HoldsClause}
-use Rattle.ab_sentences.specs.ab_clauses.specs.declared.kept.ClauseTerm.{ClauseTerm}
-use Rattle.ab_clausal.specs.Meanings.{parts_found, body_type, Finds, IsKeptAs, ClauseMeansNothing}
-use Rattle.ab_clausal.specs.Numbers.{AreOne}
-use Rattle.ab_clausal.proofs.Answering.{fine_parts}
-use Rattle.ab_clausal.proofs.Renaming.{first_clause, first_kept, one_clause}
-use Rattle.ab_sentences.specs.ab_logic.specs.Worlds as worlds
-use Rattle.ab_sentences.specs.ab_logic.specs.declared.world.World.{World}
-use Rattle.ab_sentences.specs.ab_logic.proofs.Blocks.{same_clause}
-use Rattle.ab_declare.specs.Defining.{IsNamed, IsUnnamed, MeansKept, MeanKept, IsRead, IsUnread}
-use Rattle.ab_declare.specs.Halting.{halt_for, Halts, IsReadAs, AreReadAs}
+use Rattle.ab_formulas.specs.ProposedClauses.{IsProposed}
+use Rattle.ab_typing.specs.DefinitionReadings.{clause_of, HoldsClause}
+use Rattle.ab_typing.specs.declared.definitions.ClauseTerm.{ClauseTerm}
+use Rattle.ab_declare.specs.ClauseMeanings.{parts_found, body_type, Finds, IsKeptAs, ClauseMeansNothing}
+use Rattle.ab_declare.specs.ClauseNumbering.{AreOne}
+use Rattle.ab_declare.proofs.Answering.{fine_parts}
+use Rattle.ab_declare.proofs.Renaming.{first_clause, first_kept, one_clause}
+use Rattle.ab_logic.specs.Worlds as worlds
+use Rattle.ab_logic.specs.declared.world.World.{World}
+use Rattle.ab_logic.proofs.Blocks.{same_clause}
+use Rattle.ab_declare.specs.DefinitionCommands.{IsNamed, IsUnnamed, MeansKept, MeanKept, IsRead, IsUnread}
+use Rattle.ab_declare.specs.Halts.{halt_for, Halts, IsReadAs, AreReadAs}
 
 -- WHAT IS TOLD of a clause
 

@@ -6,20 +6,20 @@ use Rattle.std.proofs.lemmas.List.{map-append}
 use Rattle.std.proofs.lemmas.List.Elements.{All-nil, All-cons, All-head, All-tail, All-append, All-weaker}
 use Rattle.ab_term.specs.Types.{Ty}
 use Rattle.ab_term.specs.Constants.{Constant, constant, names}
-use Rattle.ab_sentences.specs.ab_types.specs.Entries.{Table, a_constant, kinds, constants, IsExtendedBy}
-use Rattle.ab_sentences.specs.ab_types.specs.Ids.{HoldsConstant, constant_of}
-use Rattle.ab_sentences.specs.ab_types.specs.declared.ids.ConstId.{ConstId}
-use Rattle.ab_sentences.specs.ab_types.proofs.Entries.{names-append, constants-append, kinds-append, holds_constant, same_constant}
+use Rattle.ab_norm.specs.ab_types.specs.Entries.{Table, a_constant, kinds, constants, IsExtendedBy}
+use Rattle.ab_norm.specs.ab_types.specs.Ids.{HoldsConstant, constant_of}
+use Rattle.ab_norm.specs.ab_types.specs.declared.ids.ConstId.{ConstId}
+use Rattle.ab_norm.specs.ab_types.proofs.Entries.{names-append, constants-append, kinds-append, holds_constant, same_constant}
 use Rattle.ab_grammar.specs.CommandTrees.{Defined}
-use Rattle.ab_sentences.specs.ab_readings.specs.Types.{written_type}
+use Rattle.ab_meaning.specs.Types.{written_type}
 use Rattle.ab_declare.specs.declared.refusal.Refusal.{Refusal}
 use Rattle.ab_declare.specs.declared.refusal.Refusal.TheVariants.{Clash}
-use Rattle.ab_declare.specs.Defining.{before, of_type, predicates_found}
-use Rattle.ab_clausal.specs.ab_infer.specs.WrittenTypes.{WrittenAnswers}
-use Rattle.ab_clausal.specs.ab_infer.specs.declared.fault.InferFault.{InferFault}
-use Rattle.ab_clausal.specs.ab_infer.specs.declared.fault.InferFault.TheVariants as fault
+use Rattle.ab_declare.specs.DefinitionCommands.{before, of_type, predicates_found}
+use Rattle.ab_inference.specs.WrittenTypes.{WrittenAnswers}
+use Rattle.ab_inference.specs.declared.fault.InferFault.{InferFault}
+use Rattle.ab_inference.specs.declared.fault.InferFault.TheVariants as fault
 use Rattle.ab_declare.proofs.Taking.{contains_any, any_contains}
-use Rattle.ab_declare.specs.Halting.{halt_for, Halts, ArePut, ArentPut, HasKinds}
+use Rattle.ab_declare.specs.Halts.{halt_for, Halts, ArePut, ArentPut, HasKinds}
 
 abbrev Name : Type 0
 Name = List ℕ

@@ -1,20 +1,20 @@
 -- A world that is as it was, but for room.
 use Rattle.std.specs.Prelude.{◌≡◌, ℕ, List, [], ◌∷◌, ◌++◌, ◌-◌, take, drop}
 use Rattle.std.proofs.Common.{refl, sym, ◌∙◌, ap, subst, append-nil}
-use Rattle.ab_sentences.specs.ab_types.specs.Entries.{Table, IsExtendedBy}
-use Rattle.ab_sentences.specs.ab_store.specs.Trees.{Contents}
-use Rattle.ab_sentences.specs.ab_store.specs.Naming.{IsTypedBy}
-use Rattle.ab_sentences.specs.ab_store.proofs.Growing.{extended_itself}
-use Rattle.ab_sentences.specs.ab_store.proofs.Marking.{keeps}
-use Rattle.ab_sentences.specs.ab_store.proofs.Tables.{still_typed}
-use Rattle.ab_clausal.specs.ab_norm.specs.Growth.{AddsTypedTerms}
-use Rattle.ab_sentences.specs.ab_logic.specs.Growth.{Grows}
-use Rattle.ab_sentences.specs.ab_logic.specs.Worlds.{declared, declaration_of, declared_from, declarations_of, IsWorld}
-use Rattle.ab_sentences.specs.ab_logic.specs.declared.world.World.{World}
-use Rattle.ab_sentences.specs.ab_logic.specs.declared.additions.Added.{Added}
-use Rattle.ab_sentences.specs.ab_logic.specs.declared.additions.Addition.{Addition}
-use Rattle.ab_sentences.specs.ab_logic.specs.declared.additions.Addition.TheVariants.{Theorem, Definition}
-use Rattle.ab_sentences.specs.ab_logic.proofs.Blocks.{all_kept}
+use Rattle.ab_norm.specs.ab_types.specs.Entries.{Table, IsExtendedBy}
+use Rattle.ab_norm.specs.ab_store.specs.Trees.{Contents}
+use Rattle.ab_norm.specs.ab_store.specs.Naming.{IsTypedBy}
+use Rattle.ab_norm.specs.ab_store.proofs.Growing.{extended_itself}
+use Rattle.ab_norm.specs.ab_store.proofs.Marking.{keeps}
+use Rattle.ab_norm.specs.ab_store.proofs.Tables.{still_typed}
+use Rattle.ab_norm.specs.NodeGrowth.{AddsTypedTerms}
+use Rattle.ab_logic.specs.WorldGrowth.{Grows}
+use Rattle.ab_logic.specs.Worlds.{declared, declaration_of, declared_from, declarations_of, IsWorld}
+use Rattle.ab_logic.specs.declared.world.World.{World}
+use Rattle.ab_logic.specs.declared.additions.Added.{Added}
+use Rattle.ab_logic.specs.declared.additions.Addition.{Addition}
+use Rattle.ab_logic.specs.declared.additions.Addition.TheVariants.{Theorem, Definition}
+use Rattle.ab_logic.proofs.Blocks.{all_kept}
 use Rattle.ab_declare.specs.Moments.{IsRestored}
 
 -- a larger table, and no term more

@@ -4,38 +4,38 @@ use Rattle.std.proofs.Common.{refl, sym, ◌∙◌, ap, subst, append-nil}
 use Rattle.ab_term.specs.Types.{prop}
 use Rattle.ab_term.specs.Typing.{HasType}
 use Rattle.ab_term.specs.Constants.{type_in}
-use Rattle.ab_sentences.specs.ab_types.specs.Entries.{Table, kinds, constants, signature, IsExtendedBy}
-use Rattle.ab_sentences.specs.ab_types.proofs.Entries.{kinds-append, constants-append}
-use Rattle.ab_sentences.specs.ab_store.specs.declared.node.TermId.{TermId}
-use Rattle.ab_sentences.specs.ab_store.specs.Trees.{Contents, tree_of}
-use Rattle.ab_clausal.specs.ab_norm.specs.Growth.{AddsTypedTerms}
+use Rattle.ab_norm.specs.ab_types.specs.Entries.{Table, kinds, constants, signature, IsExtendedBy}
+use Rattle.ab_norm.specs.ab_types.proofs.Entries.{kinds-append, constants-append}
+use Rattle.ab_norm.specs.ab_store.specs.declared.node.TermId.{TermId}
+use Rattle.ab_norm.specs.ab_store.specs.Trees.{Contents, tree_of}
+use Rattle.ab_norm.specs.NodeGrowth.{AddsTypedTerms}
 use Rattle.ab_grammar.specs.Tree.{Tree, place_of}
 use Rattle.ab_grammar.specs.CommandTrees as command
-use Rattle.ab_sentences.specs.ab_readings.specs.Names.{Resolved}
-use Rattle.ab_sentences.specs.ab_readings.specs.Scopes.{Scope, elsewhere, resolved}
-use Rattle.ab_sentences.specs.ab_readings.specs.Normal.{normal_form}
-use Rattle.ab_clausal.specs.ab_building.specs.Elaborated.{IsAnswer}
-use Rattle.ab_clausal.specs.ab_building.specs.Outcomes.{nominal_of, IsNormal}
-use Rattle.ab_clausal.specs.ab_infer.specs.declared.fault.InferFault.{InferFault}
-use Rattle.ab_clausal.specs.ab_infer.specs.declared.fault.InferFault.TheVariants as fault
-use Rattle.ab_effects.specs.Terms.{made, MeansNothingIn}
-use Rattle.ab_effects.specs.Refusals as row
+use Rattle.ab_meaning.specs.ResolvedNames.{Resolved}
+use Rattle.ab_meaning.specs.Scopes.{Scope, elsewhere, resolved}
+use Rattle.ab_meaning.specs.Normal.{normal_form}
+use Rattle.ab_infer.specs.ElaborationAnswers.{IsAnswer}
+use Rattle.ab_infer.specs.Outcomes.{nominal_of, IsNormal}
+use Rattle.ab_inference.specs.declared.fault.InferFault.{InferFault}
+use Rattle.ab_inference.specs.declared.fault.InferFault.TheVariants as fault
+use Rattle.ab_meaning.specs.Terms.{made, MeansNothingIn}
+use Rattle.ab_meaning.specs.Refusals as row
 use Rattle.ab_formulas.specs.Declarations.{Declarations, signature_in, theorem_in}
 use Rattle.ab_formulas.specs.Formulas.{IsSentence}
-use Rattle.ab_sentences.specs.ab_logic.specs.Growth.{Grows}
-use Rattle.ab_sentences.specs.ab_logic.specs.Worlds.{declared, declarations_of, IsWorld}
-use Rattle.ab_sentences.specs.ab_logic.specs.declared.world.World.{World}
-use Rattle.ab_sentences.specs.ab_logic.proofs.Blocks.{declared_more}
-use Rattle.ab_sentences.specs.ab_logic.proofs.Growing.{grows_types, grows_store, grows_on}
-use Rattle.ab_sentences.specs.Closed.{IsClosedScope}
-use Rattle.ab_sentences.proofs.Heads.{reads_has, normal_form_has, RawHas}
-use Rattle.ab_sentences.proofs.Standing.{IsDeclared, admits_declared, sentence}
-use Rattle.ab_sentences.proofs.Resolving.{names_are_declared}
-use Rattle.ab_sentences.proofs.Makings.{one_too, none_too, open_too}
+use Rattle.ab_logic.specs.WorldGrowth.{Grows}
+use Rattle.ab_logic.specs.Worlds.{declared, declarations_of, IsWorld}
+use Rattle.ab_logic.specs.declared.world.World.{World}
+use Rattle.ab_logic.proofs.Blocks.{declared_more}
+use Rattle.ab_logic.proofs.Growing.{grows_types, grows_store, grows_on}
+use Rattle.ab_meaning.specs.ClosedScopes.{IsClosedScope}
+use Rattle.ab_meaning.proofs.Heads.{reads_has, normal_form_has, RawHas}
+use Rattle.ab_meaning.proofs.Standing.{IsDeclared, admits_declared, sentence}
+use Rattle.ab_meaning.proofs.Resolving.{names_are_declared}
+use Rattle.ab_meaning.proofs.Makings.{one_too, none_too, open_too}
 use Rattle.ab_declare.specs.declared.refusal.Refusal.{Refusal}
 use Rattle.ab_declare.specs.Refusals.{RefusedFor, refusal_for}
-use Rattle.ab_declare.specs.Declaring.{scope_of, States, Declines, states_nothing}
-use Rattle.ab_declare.specs.Answers.{IsStated, IsDeclined}
+use Rattle.ab_declare.specs.DeclarationCommands.{scope_of, States, Declines, states_nothing}
+use Rattle.ab_declare.specs.DeclarationAnswers.{IsStated, IsDeclined}
 use Rattle.ab_declare.specs.Moments.{IsRestored}
 use Rattle.ab_declare.proofs.Knowing.{world_knows, world_constants, none_declared}
 

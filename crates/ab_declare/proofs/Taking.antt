@@ -5,7 +5,7 @@ use Rattle.std.proofs.Common.{refl, sym, ◌∙◌, ap, subst, inl, inr}
 use Rattle.std.proofs.lemmas.Slice.Eq.{bytes_eq-Decides}
 use Rattle.std.proofs.lemmas.List.Elements.{Contains-append_left, Contains-append_right, Contains-append_cases}
 use Rattle.ab_term.proofs.Lists.{Contains-none, Contains-here, Contains-there, Contains-cases}
-use Rattle.ab_declare.specs.Declaring.{first_taken}
+use Rattle.ab_declare.specs.DeclarationCommands.{first_taken}
 
 abbrev Name : Type 0
 Name = List ℕ

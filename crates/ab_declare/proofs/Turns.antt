@@ -6,8 +6,8 @@ use Rattle.std.proofs.lemmas.List.Elements.{All-head, All-tail, All-push}
 use Rattle.ab_declare.specs.declared.refusal.Refusal.{Refusal}
 use Rattle.ab_declare.specs.declared.halt.Halt.{Halt}
 use Rattle.ab_declare.specs.declared.halt.Halt.TheVariants.{Refused, Memory}
-use Rattle.ab_declare.specs.Defining.{FirstTold, this, later}
-use Rattle.ab_declare.specs.Halting.{Halts}
+use Rattle.ab_declare.specs.DefinitionCommands.{FirstTold, this, later}
+use Rattle.ab_declare.specs.Halts.{Halts}
 
 pub told_at : {X : Type 0} (IsFine : X → Type 0) (Tells : X → Refusal → Type 0) (xs ys : List X) (x : X) (r : Refusal) → All IsFine xs → Tells x r → FirstTold IsFine Tells (xs ++ x ∷ ys) r
 told_at IsFine Tells [] ys x r all t = this t

@@ -5,19 +5,19 @@ use Rattle.std.proofs.Common.{refl, sym, ◌∙◌, ap, subst}
 use Rattle.std.proofs.lemmas.List.Elements.{All-head, All-tail}
 use Rattle.std.proofs.lemmas.Slice.Eq.{bytes_eq-Decides}
 use Rattle.ab_term.specs.Constants.{Constant, names}
-use Rattle.ab_sentences.specs.ab_types.specs.Entries.{Table, constants}
-use Rattle.ab_sentences.specs.ab_types.specs.Ids.{HoldsConstant, constant_of}
-use Rattle.ab_sentences.specs.ab_types.specs.declared.ids.ConstId.{ConstId}
-use Rattle.ab_sentences.specs.ab_clauses.specs.Readings.{name_of}
-use Rattle.ab_sentences.specs.ab_clauses.specs.declared.kept.Block.{Block as KeptBlock}
+use Rattle.ab_norm.specs.ab_types.specs.Entries.{Table, constants}
+use Rattle.ab_norm.specs.ab_types.specs.Ids.{HoldsConstant, constant_of}
+use Rattle.ab_norm.specs.ab_types.specs.declared.ids.ConstId.{ConstId}
+use Rattle.ab_typing.specs.DefinitionReadings.{name_of}
+use Rattle.ab_typing.specs.declared.definitions.Block.{Block as KeptBlock}
 use Rattle.ab_formulas.specs.Declarations.{Declarations, block_in}
-use Rattle.ab_sentences.specs.ab_logic.specs.Worlds.{declared, declaration_of, declared_from, definition_of, IsKept}
-use Rattle.ab_sentences.specs.ab_logic.specs.declared.world.World.{World}
-use Rattle.ab_sentences.specs.ab_logic.specs.declared.additions.Added.{Added}
-use Rattle.ab_sentences.specs.ab_logic.specs.declared.additions.Addition.{Addition}
-use Rattle.ab_sentences.specs.ab_logic.specs.declared.additions.Addition.TheVariants.{Theorem, Definition}
+use Rattle.ab_logic.specs.Worlds.{declared, declaration_of, declared_from, definition_of, IsKept}
+use Rattle.ab_logic.specs.declared.world.World.{World}
+use Rattle.ab_logic.specs.declared.additions.Added.{Added}
+use Rattle.ab_logic.specs.declared.additions.Addition.{Addition}
+use Rattle.ab_logic.specs.declared.additions.Addition.TheVariants.{Theorem, Definition}
 use Rattle.ab_formulas.proofs.Declaring.{or_else, block_in-append}
-use Rattle.ab_sentences.specs.ab_logic.proofs.Declaring.{block-declared}
+use Rattle.ab_logic.proofs.Declaring.{block-declared}
 
 abbrev Name : Type 0
 Name = List ℕ

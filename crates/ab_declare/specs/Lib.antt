@@ -1,14 +1,19 @@
--- What the commands outside a proof declare and ask for, why they are refused, and worlds that are cut back.
+-- WHAT IS DECLARED over a world, and when it is refused.
+-- What the commands outside a proof declare or ask for.
+pub mod DeclarationCommands
+pub mod DefinitionCommands
 pub mod Refusals
-pub mod Defining
-pub mod Declaring
+-- What a call leaves of a world, and worlds that are cut back.
+pub mod DeclarationAnswers
 pub mod Moments
-pub mod Answers
-pub mod Halting
--- Libraries that the crates above name through this one.
-pub use Rattle.ab_clausal.specs.ab_closing
-pub use Rattle.ab_clausal.specs.ab_resolving
-pub use Rattle.ab_sentences
-pub use Rattle.ab_clausal.specs.ab_walking
-pub use Rattle.ab_clausal.specs.ab_elaborate
-pub use Rattle.ab_clausal
+-- Clauses as they are written: their readings, what they mean, and how they are kept.
+pub mod ClauseReadings
+pub mod ClauseMeanings
+pub mod ClauseAnswers
+pub mod KeptClauses
+pub mod Existentials
+pub mod ClauseNumbering
+-- Rows, growing stores and halts: words that only proofs and private contracts speak.
+pub mod JoinedRows
+pub mod CellGrowth
+pub mod Halts

@@ -1,10 +1,10 @@
 -- How much a world held at a moment, and worlds that grew since and are cut back.
 use Rattle.std.specs.Prelude.{◌≡◌, ◌≤◌, length}
-use Rattle.ab_sentences.specs.ab_types.specs.Entries as table
-use Rattle.ab_sentences.specs.ab_types.specs.Sound.{IsTable}
-use Rattle.ab_sentences.specs.ab_store.specs.declared.mark.Mark.{Mark}
-use Rattle.ab_sentences.specs.ab_store.specs.Marks.{HasMark, KeepsMark}
-use Rattle.ab_sentences.specs.ab_logic.specs.declared.world.World.{World}
+use Rattle.ab_norm.specs.ab_types.specs.Entries as table
+use Rattle.ab_norm.specs.ab_types.specs.Sound.{IsTable}
+use Rattle.ab_norm.specs.ab_store.specs.declared.mark.Mark.{Mark}
+use Rattle.ab_norm.specs.ab_store.specs.Marks.{HasMark, KeepsMark}
+use Rattle.ab_logic.specs.declared.world.World.{World}
 use Rattle.ab_declare.specs.declared.moment.Moment.{Moment}
 
 -- the moment counts what the world holds

@@ -1,8 +1,8 @@
 -- Refusals for what a row of the proof commands refuses, and for expressions that mean nothing.
 use Rattle.std.specs.Prelude.{◌≡◌, ℕ, None}
-use Rattle.ab_clausal.specs.ab_infer.specs.declared.fault.InferFault.{InferFault}
-use Rattle.ab_clausal.specs.ab_infer.specs.declared.fault.InferFault.TheVariants as fault
-use Rattle.ab_effects.specs.Refusals as row
+use Rattle.ab_inference.specs.declared.fault.InferFault.{InferFault}
+use Rattle.ab_inference.specs.declared.fault.InferFault.TheVariants as fault
+use Rattle.ab_meaning.specs.Refusals as row
 use Rattle.ab_declare.specs.declared.refusal.Place.{Place}
 use Rattle.ab_declare.specs.declared.refusal.Refusal.{Refusal}
 use Rattle.ab_declare.specs.declared.refusal.Refusal.TheVariants.{Unknown, Clash, TypeClash, Untyped, NoHypothesis, WrongShape, Mark, NoMatch, NotPattern, Unresolved, NamesSpent}

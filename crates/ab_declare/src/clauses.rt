@@ -1,22 +1,22 @@
 //! The clauses of a definition.
 ghost use Rattle.std.specs.Prelude.{◌≡◌, map, MatchResult, All};
-ghost use Rattle.ab_sentences.specs.ab_types.specs.Entries.{kinds, constants, signature, IsExtendedBy};
-ghost use Rattle.ab_sentences.specs.ab_types.specs.Sound.{IsTable};
-ghost use Rattle.ab_sentences.specs.ab_store.specs.Naming.{IsTypedBy};
+ghost use Rattle.ab_norm.specs.ab_types.specs.Entries.{kinds, constants, signature, IsExtendedBy};
+ghost use Rattle.ab_norm.specs.ab_types.specs.Sound.{IsTable};
+ghost use Rattle.ab_norm.specs.ab_store.specs.Naming.{IsTypedBy};
 ghost use Rattle.ab_syntax.specs.Commands.{clause_of};
-ghost use Rattle.ab_clausal.specs.Growth.{AddsVariables};
-ghost use Rattle.ab_clausal.specs.Meanings.{ClauseHasNoJudgement};
-ghost use Rattle.ab_declare.specs.Defining.{FirstTold, IsNamed, IsUnnamed, IsRead, IsUnread};
-ghost use Rattle.ab_declare.specs.Halting.{Halts, AreReadAs};
+ghost use Rattle.ab_declare.specs.CellGrowth.{AddsVariables};
+ghost use Rattle.ab_declare.specs.ClauseMeanings.{ClauseHasNoJudgement};
+ghost use Rattle.ab_declare.specs.DefinitionCommands.{FirstTold, IsNamed, IsUnnamed, IsRead, IsUnread};
+ghost use Rattle.ab_declare.specs.Halts.{Halts, AreReadAs};
 
+use crate::clause_elaboration::{elaborate_clause, look_at_names};
 use crate::halt::Halt;
-use crate::pushing::put_last;
+use crate::list_growth::put_last;
 use crate::types::formula_type;
-use ab_clausal::{elaborate_clause, look_at_names};
-use ab_sentences::below::clauses::ClauseTerm;
-use ab_sentences::below::store::Store;
-use ab_sentences::below::types::{Steps, TypeTable};
+use ab_norm::store::Store;
+use ab_norm::types::{Steps, TypeTable};
 use ab_syntax::ClauseParse;
+use ab_typing::ClauseTerm;
 use std::alloc::Global;
 
 /// Looks at the names of the clauses. Refused at the first that stands for nothing.

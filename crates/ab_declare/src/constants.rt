@@ -1,23 +1,23 @@
 //! Constants that are declared.
 ghost use Rattle.std.specs.Prelude.{◌≡◌, ◌++◌, ℕ, List, map, IfOk, OnErr, MatchOption, Some, None};
 ghost use Rattle.ab_term.specs.Constants.{constant};
-ghost use Rattle.ab_sentences.specs.ab_types.specs.Entries.{constants, a_constant, IsExtendedBy};
+ghost use Rattle.ab_norm.specs.ab_types.specs.Entries.{constants, a_constant, IsExtendedBy};
 ghost use Rattle.ab_term.specs.Constants as table;
-ghost use Rattle.ab_sentences.specs.ab_types.specs.Ids.{HoldsType, type_of};
+ghost use Rattle.ab_norm.specs.ab_types.specs.Ids.{HoldsType, type_of};
 ghost use Rattle.ab_grammar.specs.CommandTrees as command;
-ghost use Rattle.ab_syntax.specs.Trees as trees;
-ghost use Rattle.ab_sentences.specs.ab_logic.specs.Worlds.{IsWorld};
+ghost use Rattle.ab_syntax.specs.SyntaxTrees as trees;
+ghost use Rattle.ab_logic.specs.Worlds.{IsWorld};
 ghost use Rattle.ab_declare.specs.declared.refusal.Refusal.TheVariants.{Clash};
-ghost use Rattle.ab_declare.specs.Declaring.{first_taken};
-ghost use Rattle.ab_declare.specs.Answers.{TableDeclared, Declared};
+ghost use Rattle.ab_declare.specs.DeclarationCommands.{first_taken};
+ghost use Rattle.ab_declare.specs.DeclarationAnswers.{TableDeclared, Declared};
 
 use crate::refusal::{Refusal, refusal_for};
 use crate::types::formula_type;
-use ab_clausal::below::infer::read_type;
-use ab_sentences::below::logic::World;
-use ab_sentences::below::types::{Steps, TableFault, TypeId, TypeTable};
+use ab_inference::read_type;
+use ab_logic::World;
+use ab_norm::name::Name;
+use ab_norm::types::{Steps, TableFault, TypeId, TypeTable};
 use ab_syntax::TypeParse;
-use ab_syntax::below::name::Name;
 use std::alloc::{AllocError, Global};
 
 /// Puts constants of the type behind what the table holds, up to the first whose name is taken.

@@ -1,6 +1,6 @@
 //! Why a command doesn't come to its end.
 use crate::refusal::{Place, Refusal};
-use ab_clausal::below::infer::InferFault;
+use ab_inference::InferFault;
 use std::alloc::AllocError;
 
 /// Why a command doesn't come to its end.
@@ -24,7 +24,7 @@ impl From<AllocError> for Halt {
 
 impl From<InferFault> for Halt {
     ghost use Rattle.std.specs.Prelude.{◌≡◌};
-    ghost use Rattle.ab_declare.specs.Halting.{halt_for};
+    ghost use Rattle.ab_declare.specs.Halts.{halt_for};
 
     ghost from_gives = { λ fault halt. halt ≡ halt_for fault };
 

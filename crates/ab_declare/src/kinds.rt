@@ -1,16 +1,16 @@
 //! Kinds that are declared.
 ghost use Rattle.std.specs.Prelude.{◌≡◌, ◌++◌, List, ℕ, map, IfOk, OnErr, MatchOption, Some, None};
-ghost use Rattle.ab_sentences.specs.ab_types.specs.Entries.{kinds, a_kind, IsExtendedBy};
+ghost use Rattle.ab_norm.specs.ab_types.specs.Entries.{kinds, a_kind, IsExtendedBy};
 ghost use Rattle.ab_grammar.specs.CommandTrees as command;
-ghost use Rattle.ab_sentences.specs.ab_logic.specs.Worlds.{IsWorld};
+ghost use Rattle.ab_logic.specs.Worlds.{IsWorld};
 ghost use Rattle.ab_declare.specs.declared.refusal.Refusal.TheVariants.{Clash};
-ghost use Rattle.ab_declare.specs.Declaring.{first_taken};
-ghost use Rattle.ab_declare.specs.Answers.{Declared};
+ghost use Rattle.ab_declare.specs.DeclarationCommands.{first_taken};
+ghost use Rattle.ab_declare.specs.DeclarationAnswers.{Declared};
 
 use crate::refusal::Refusal;
-use ab_sentences::below::logic::World;
-use ab_sentences::below::types::{Steps, TableFault, TypeTable};
-use ab_syntax::below::name::Name;
+use ab_logic::World;
+use ab_norm::name::Name;
+use ab_norm::types::{Steps, TableFault, TypeTable};
 use std::alloc::{AllocError, Global};
 
 /// Puts kinds behind what the table holds, up to the first whose name is taken.

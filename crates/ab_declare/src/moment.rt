@@ -1,11 +1,11 @@
 //! How much a world held, so that what came since can be dropped.
-ghost use Rattle.ab_sentences.specs.ab_logic.specs.Worlds.{IsWorld};
-ghost use Rattle.ab_sentences.specs.ab_logic.specs.declared.world.World.{World as AWorld};
+ghost use Rattle.ab_logic.specs.Worlds.{IsWorld};
+ghost use Rattle.ab_logic.specs.declared.world.World.{World as AWorld};
 ghost use Rattle.ab_declare.specs.Moments.{IsMoment, HasMore, IsRestored};
 
-use ab_sentences::below::logic::World;
-use ab_sentences::below::store::Mark;
-use ab_sentences::below::types::Steps;
+use ab_logic::World;
+use ab_norm::store::Mark;
+use ab_norm::types::Steps;
 
 /// How many types, terms and cells a world held.
 #[derive(Clone, Copy)]

@@ -1,19 +1,19 @@
 //! The predicates of a definition.
 ghost use Rattle.std.specs.Prelude.{◌≡◌, ◌↔◌, ℕ, List, [], ◌∷◌, map, Ok, IsTrue, MatchResult, All};
 ghost use Rattle.ab_term.specs.Types.{Ty};
-ghost use Rattle.ab_sentences.specs.ab_types.specs.Entries.{kinds, constants, IsExtendedBy};
-ghost use Rattle.ab_sentences.specs.ab_types.specs.Sound.{IsTable};
-ghost use Rattle.ab_sentences.specs.ab_readings.specs.Types.{written_type, type_place};
-ghost use Rattle.ab_syntax.specs.Trees as trees;
+ghost use Rattle.ab_norm.specs.ab_types.specs.Entries.{kinds, constants, IsExtendedBy};
+ghost use Rattle.ab_norm.specs.ab_types.specs.Sound.{IsTable};
+ghost use Rattle.ab_meaning.specs.Types.{written_type, type_place};
+ghost use Rattle.ab_syntax.specs.SyntaxTrees as trees;
 ghost use Rattle.ab_syntax.specs.Commands.{defined_of};
-ghost use Rattle.ab_declare.specs.Defining.{EndsInProp, IsPredicate, IsNoPredicate, FirstTold};
-ghost use Rattle.ab_declare.specs.Halting.{Halts, HasKinds, ArePut, ArentPut};
+ghost use Rattle.ab_declare.specs.DefinitionCommands.{EndsInProp, IsPredicate, IsNoPredicate, FirstTold};
+ghost use Rattle.ab_declare.specs.Halts.{Halts, HasKinds, ArePut, ArentPut};
 
 use crate::halt::Halt;
-use crate::pushing::put_last;
+use crate::list_growth::put_last;
 use crate::refusal::{Place, Refusal};
-use ab_clausal::below::infer::{read_type, read_written};
-use ab_sentences::below::types::{ConstId, TableFault, TypeTable};
+use ab_inference::{read_type, read_written};
+use ab_norm::types::{ConstId, TableFault, TypeTable};
 use ab_syntax::{Defined, TypeParse};
 use std::alloc::Global;
 

@@ -2,9 +2,9 @@
 ghost use Rattle.std.specs.Prelude.{◌≡◌, IfOk};
 ghost use Rattle.ab_declare.specs.Refusals.{here, RefusedFor};
 
-use ab_clausal::below::infer::InferFault;
+use ab_inference::InferFault;
+use ab_norm::name::Name;
 use ab_syntax::Items;
-use ab_syntax::below::name::Name;
 use std::alloc::AllocError;
 
 /// Where a fault stands: so many bytes from where the command begins, or the file.

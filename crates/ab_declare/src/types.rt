@@ -1,12 +1,12 @@
 //! The type of formulas.
 ghost use Rattle.std.specs.Prelude.{◌≡◌, IfOk};
 ghost use Rattle.ab_term.specs.Types.{prop};
-ghost use Rattle.ab_sentences.specs.ab_types.specs.Entries.{kinds, constants, IsExtendedBy};
-ghost use Rattle.ab_sentences.specs.ab_types.specs.Ids.{HoldsType, type_of};
-ghost use Rattle.ab_sentences.specs.ab_types.specs.Sound.{IsTable};
+ghost use Rattle.ab_norm.specs.ab_types.specs.Entries.{kinds, constants, IsExtendedBy};
+ghost use Rattle.ab_norm.specs.ab_types.specs.Ids.{HoldsType, type_of};
+ghost use Rattle.ab_norm.specs.ab_types.specs.Sound.{IsTable};
 
-use ab_sentences::below::types::{TableFault, TypeId, TypeTable};
-use ab_syntax::below::name::Name;
+use ab_norm::name::Name;
+use ab_norm::types::{TableFault, TypeId, TypeTable};
 use std::alloc::{AllocError, Global};
 
 /// The type of formulas.

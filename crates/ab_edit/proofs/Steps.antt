@@ -4,7 +4,7 @@ use Rattle.std.specs.List.{concat}
 use Rattle.std.proofs.lemmas.List.{append-nil, length-append, take_at}
 use Rattle.ab_io.specs.Replays.{Test, SameTest, IsCommand, TakesLast}
 use Rattle.ab_lex.specs.Commands.{Item, command, long, ItemsOf}
-use Rattle.ab_lex.specs.Pending.{Pending, Awaits, SameItems, NextItem, ItemsFrom}
+use Rattle.ab_lex.specs.PendingText.{Pending, Awaits, SameItems, NextItem, ItemsFrom}
 use Rattle.ab_lex.proofs.Awaiting.{items_after, awaits_there, items_same, items_next, items_none}
 use Rattle.ab_edit.specs.Prefixes.{place_of, BeginsWith, IsMore}
 use Rattle.ab_edit.specs.Moves.{ends_from, count_behind}

@@ -2,7 +2,7 @@
 use Rattle.std.specs.Prelude.{◌≡◌, ◌≤◌, ◌<◌, ℕ, Bool, true, false, List, [], ◌∷◌, ◌++◌, Result, Ok, Err}
 use Rattle.ab_io.specs.Replays.{Test}
 use Rattle.ab_lex.specs.Commands.{Item, command, long}
-use Rattle.ab_lex.specs.Pending.{Pending}
+use Rattle.ab_lex.specs.PendingText.{Pending}
 use Rattle.ab_lex.proofs.Awaiting.{items_after}
 use Rattle.ab_edit.specs.Prefixes.{place_of, BeginsWith, IsPrefix}
 use Rattle.ab_edit.specs.Moves.{ends_from}

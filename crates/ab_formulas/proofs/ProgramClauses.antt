@@ -14,17 +14,17 @@ use Rattle.ab_term.specs.Sameness.{same_number}
 use Rattle.ab_term.proofs.Compositions.{image_typed}
 use Rattle.ab_term.proofs.Expansions.{expansion_typed}
 use Rattle.ab_term.proofs.Lists.{Contains-none, Contains-here}
-use Rattle.ab_solve.specs.Replacing.{Cell, holds}
-use Rattle.ab_solve.proofs.Agreeing.{holds_front, holds_behind, holds_itself}
-use Rattle.ab_cases.specs.Clauses.{Each, Clause, numbered, put_together, Within}
-use Rattle.ab_cases.specs.Prefixes.{prefix, opened, predicate_of, arguments_of, own_terms}
-use Rattle.ab_cases.proofs.Constants as constants
-use Rattle.ab_cases.proofs.Variables as over
-use Rattle.ab_cases.proofs.Rows.{each_any, found_has, found_none, nothing_found, together_typed}
-use Rattle.ab_cases.proofs.Unifier.{append-none}
-use Rattle.ab_formulas.specs.Kept as kept
-use Rattle.ab_formulas.specs.Kept.{ClauseVariable}
-use Rattle.ab_formulas.specs.Cased.{in_terms, cell_of, case_of}
+use Rattle.ab_unifiers.specs.Replacements.{Cell, holds}
+use Rattle.ab_unifiers.proofs.Agreeing.{holds_front, holds_behind, holds_itself}
+use Rattle.ab_unifiers.specs.Clauses.{Each, Clause, numbered, put_together, Within}
+use Rattle.ab_unifiers.specs.Prefixes.{prefix, opened, predicate_of, arguments_of, own_terms}
+use Rattle.ab_unifiers.proofs.Constants as constants
+use Rattle.ab_unifiers.proofs.Variables as over
+use Rattle.ab_unifiers.proofs.Rows.{each_any, found_has, found_none, nothing_found, together_typed}
+use Rattle.ab_unifiers.proofs.Unifier.{append-none}
+use Rattle.ab_formulas.specs.Clauses as kept
+use Rattle.ab_formulas.specs.Clauses.{ClauseVariable}
+use Rattle.ab_formulas.specs.CaseClauses.{in_terms, cell_of, case_of}
 use Rattle.ab_formulas.specs.Programs.{IsGoalOrNone, IsProgramClause, IsProgramHead, IsProgramKept}
 
 none_there : (xs : List Nominal) → ((a : Nominal) → Contains xs a → ⊥) → xs ≡ []

@@ -7,10 +7,10 @@ use Rattle.ab_term.specs.Terms.{Terms, constant, logical, spine, no_terms, Read}
 use Rattle.ab_term.specs.Typing.{Signature, HasType}
 use Rattle.ab_term.specs.Names.{support, support_of_all}
 use Rattle.ab_term.specs.Variables.{variables, variables_of_all}
-use Rattle.ab_solve.specs.Meaning.{AreDifferent}
-use Rattle.ab_cases.specs.Clauses.{Clause, head_of, clause_variables, Within}
-use Rattle.ab_formulas.specs.Kept as kept
-use Rattle.ab_formulas.specs.Cased.{in_terms}
+use Rattle.ab_unifiers.specs.Unifiers.{AreDifferent}
+use Rattle.ab_unifiers.specs.Clauses.{Clause, head_of, clause_variables, Within}
+use Rattle.ab_formulas.specs.Clauses as kept
+use Rattle.ab_formulas.specs.CaseClauses.{in_terms}
 use Rattle.ab_formulas.specs.Declarations.{Declarations, a_kind, a_constant, a_block, a_program_clause, a_theorem, signature_in}
 
 abbrev pub Program : Type 0

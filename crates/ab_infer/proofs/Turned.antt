@@ -2,19 +2,35 @@
 use Rattle.std.specs.List.{All}
 use Rattle.std.proofs.Common.{◌≡◌, ℕ, zero, suc, ◌<◌, ◌≤◌, ◌∷◌, [], ◌++◌, List, length, drop, get_or, Option, Some, None, refl, sym, ap, ◌∙◌, arith, subst}
 use Rattle.std.specs.Prelude.{MatchOption, option_to_list}
-use Rattle.ab_infer.specs.Inferences.{turned}
+use Rattle.std.proofs.lemmas.List.Elements.{All-nil, All-cons, All-append, All-head, All-tail}
+use Rattle.ab_infer.specs.declared.value.Value.{Value}
+use Rattle.ab_infer.specs.Values.{turned}
 
-pub turned_last : (xs : List ℕ) (x : ℕ) → turned (xs ++ x ∷ []) ≡ x ∷ turned xs
+pub turned_last : (xs : List Value) (x : Value) → turned (xs ++ x ∷ []) ≡ x ∷ turned xs
 turned_last [] x = refl
 turned_last (y ∷ xs) x = ap (λ ys. ys ++ y ∷ []) (turned_last xs x)
 
-none_left : (xs : List ℕ) → length xs ≡ 0 → turned xs ≡ []
+none_left : (xs : List Value) → length xs ≡ 0 → turned xs ≡ []
 none_left [] l = refl
 none_left (x ∷ xs) l = absurd (omega arith)
 
-pub turned_pop : (popped : Option ℕ) (all rest : List ℕ) → all ≡ rest ++ option_to_list popped → (popped ≡ None → length all ≡ 0) → MatchOption popped (turned all ≡ []) (λ x. turned all ≡ x ∷ turned rest)
+pub turned_pop : (popped : Option Value) (all rest : List Value) → all ≡ rest ++ option_to_list popped → (popped ≡ None → length all ≡ 0) → MatchOption popped (turned all ≡ []) (λ x. turned all ≡ x ∷ turned rest)
 turned_pop None all rest e h = none_left all (h refl)
 turned_pop (Some x) all rest e h = ap turned e ∙ turned_last rest x
+
+pub all_turned : (P : Value → Type 0) (xs : List Value) → All P xs → All P (turned xs)
+all_turned P [] h = All-nil P
+all_turned P (x ∷ xs) h = All-append P (turned xs) (x ∷ []) (all_turned P xs (All-tail P x xs h)) (All-cons P x [] (All-head P x xs h) (All-nil P))
+
+untold : (xs : List Value) (x : Value) → turned (turned xs ++ x ∷ []) ≡ x ∷ turned (turned xs)
+untold xs x = turned_last (turned xs) x
+
+pub turned_twice : (xs : List Value) → turned (turned xs) ≡ xs
+turned_twice [] = refl
+turned_twice (x ∷ xs) = untold xs x ∙ ap (λ ys. x ∷ ys) (turned_twice xs)
+
+pub all_back : (P : Value → Type 0) (xs : List Value) → All P (turned xs) → All P xs
+all_back P xs h = subst (All P) (turned_twice xs) (all_turned P (turned xs) h)
 
 -- the step at i, and those behind it
 pub from_here : {X : Type 0} (xs : List X) (i : ℕ) (x : X) → i < length xs → x ≡ get_or xs i x → drop i xs ≡ x ∷ drop (suc i) xs

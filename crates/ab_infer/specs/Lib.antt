@@ -1,10 +1,19 @@
--- How an expression's readings are found: what its parts say of type variables.
-pub mod Sketches
-pub mod Programs
-pub mod Inferences
-pub mod WrittenTypes
-pub mod Verdicts
-pub mod Freedom
--- Libraries that the crates above name through this one.
-pub use Rattle.ab_solving.specs.ab_readings
-pub use Rattle.ab_solving
+-- ELABORATION: the term of the one reading of an expression, or why there is none.
+-- What names stand for in a program's scope.
+pub mod ScopeReadings
+pub mod NameScopes
+pub mod NameAnswers
+-- What `elaborate` answers.
+pub mod ElaborationAnswers
+pub mod Outcomes
+-- The term that the steps of an expression make.
+pub mod NormalTerms
+pub mod Values
+pub mod Heads
+-- The walk over an expression.
+pub mod Occurrences
+pub mod Rows
+pub mod WalkMoves
+-- What is asked of an expression and of declarations beforehand.
+pub mod Judgements
+pub mod Lists

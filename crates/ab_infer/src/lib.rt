@@ -1,19 +1,27 @@
-//! Elaboration: the one reading of an expression as a typed term.
-//!
-//! Read so far are written types; and of an expression whose names are resolved, as a row of steps that makes it,
-//! whether it has one reading, none or several.
+//! From a parsed expression to a term: `elaborate`.
 #![tactic(auto)]
 
-pub mod below;
-mod deciding;
-mod fault;
-mod free;
-mod inferring;
-mod op;
-mod written;
+mod answers;
+mod elaboration;
+mod expression_walk;
+mod ids;
+mod judgements;
+pub mod meaning_laws;
+mod name_meanings;
+mod names;
+mod normal_terms;
+pub mod reading_laws;
+mod readings;
+mod row;
+mod scope;
+pub mod scopes;
+mod signs;
+mod value;
 
-pub use deciding::{Verdict, decide};
-pub use fault::InferFault;
-pub use inferring::Formulas;
-pub use op::{Binds, Mark, Op};
-pub use written::{Written, read_type, read_written};
+pub use elaboration::elaborate;
+pub use expression_walk::walk;
+pub use ids::formulas;
+pub use judgements::holds_judgement;
+pub use normal_terms::build;
+pub use row::Row;
+pub use scope::{Place, Scope};

@@ -8,21 +8,21 @@ use Rattle.ab_term.specs.Typing.{Signature, TakeType}
 use Rattle.ab_term.specs.Variables.{Substitution, image, image_all}
 use Rattle.ab_term.specs.Sameness.{same_number}
 use Rattle.ab_term.specs.Constants.{type_in}
-use Rattle.ab_clauses.specs.ab_types.specs.Entries.{Table, signature}
-use Rattle.ab_clauses.specs.ab_store.specs.declared.node.TermId.{TermId}
-use Rattle.ab_clauses.specs.ab_store.specs.declared.node.CellId.{CellId}
-use Rattle.ab_clauses.specs.ab_store.specs.declared.node.CellEntry.{CellEntry}
-use Rattle.ab_clauses.specs.ab_store.specs.Trees.{Contents, Holds, HoldsCell, tree_of}
-use Rattle.ab_clauses.specs.ab_store.specs.Naming.{IsTypedBy}
-use Rattle.ab_clauses.specs.ab_cases.specs.Clauses.{Clause, put_together, name_term, filled, IsClause}
-use Rattle.ab_clauses.specs.ab_cases.specs.Alternatives.{cells_over, made_over, made_terms}
-use Rattle.ab_clauses.specs.ab_cases.specs.Prefixes.{opened, arguments_of}
-use Rattle.ab_clauses.specs.declared.kept.ClauseTerm.{ClauseTerm}
-use Rattle.ab_clauses.specs.Readings.{variable_of, clause_of}
-use Rattle.ab_formulas.specs.Cased.{case_of, IsWellKept}
-use Rattle.ab_unifying.specs.Problem.{cell_read, cells_read, variables_read}
-use Rattle.ab_unifying.specs.Changed.{Grows}
-use Rattle.ab_instances.specs.Readings.{cells_at, trees_at}
+use Rattle.ab_norm.specs.ab_types.specs.Entries.{Table, signature}
+use Rattle.ab_norm.specs.ab_store.specs.declared.node.TermId.{TermId}
+use Rattle.ab_norm.specs.ab_store.specs.declared.node.CellId.{CellId}
+use Rattle.ab_norm.specs.ab_store.specs.declared.node.CellEntry.{CellEntry}
+use Rattle.ab_norm.specs.ab_store.specs.Trees.{Contents, Holds, HoldsCell, tree_of}
+use Rattle.ab_norm.specs.ab_store.specs.Naming.{IsTypedBy}
+use Rattle.ab_unifiers.specs.Clauses.{Clause, put_together, name_term, filled, IsClause}
+use Rattle.ab_unifiers.specs.Alternatives.{cells_over, made_over, made_terms}
+use Rattle.ab_unifiers.specs.Prefixes.{opened, arguments_of}
+use Rattle.ab_typing.specs.declared.definitions.ClauseTerm.{ClauseTerm}
+use Rattle.ab_typing.specs.DefinitionReadings.{variable_of, clause_of}
+use Rattle.ab_formulas.specs.CaseClauses.{case_of, IsWellKept}
+use Rattle.ab_unify.specs.Problem.{cell_read, cells_read, variables_read}
+use Rattle.ab_unify.specs.StoreChanges.{Grows}
+use Rattle.ab_instances.specs.ListReadings.{cells_at, trees_at}
 use Rattle.ab_instances.proofs.Fitting.{in_terms_are, cells_are, variables_stay}
 use Rattle.ab_instances.proofs.Instanced.{body_direct, arguments_direct, arguments_typed}
 

@@ -15,22 +15,22 @@ use Rattle.ab_term.proofs.Depends.{image_unmoved}
 use Rattle.ab_term.proofs.InOrder.{one_by_one-at_once}
 use Rattle.ab_term.proofs.Lists.{Contains-none, Contains-here, Contains-there, Contains-cases, Contains-map, AllPairs-parts, All-from_contains}
 use Rattle.ab_term.proofs.Same.{same_numbered-Decides}
-use Rattle.ab_clauses.specs.ab_types.specs.Entries.{Table, signature}
-use Rattle.ab_clauses.specs.ab_types.specs.Ids.{type_of}
-use Rattle.ab_clauses.specs.ab_store.specs.declared.node.Node.{Node}
-use Rattle.ab_clauses.specs.ab_store.specs.declared.node.TermId.{TermId}
-use Rattle.ab_clauses.specs.ab_store.specs.declared.node.CellId.{CellId}
-use Rattle.ab_clauses.specs.ab_store.specs.declared.node.CellEntry.{CellEntry}
-use Rattle.ab_clauses.specs.ab_store.specs.declared.node.Binding.{Binding}
-use Rattle.ab_clauses.specs.ab_store.specs.Trees.{Contents, Holds, HoldsCell, cell_in, cell_of, term_at, terms_from, tree_of}
-use Rattle.ab_clauses.specs.ab_store.specs.Reading.{bound_in, reading, pairs, cell_variable}
-use Rattle.ab_clauses.specs.ab_store.specs.Bindings.{cells_of, StandsIn, IsUnbound, IsResolved}
-use Rattle.ab_clauses.specs.ab_store.specs.Naming.{IsTerm}
-use Rattle.ab_clauses.specs.ab_store.proofs.Cells.{stands}
-use Rattle.ab_clauses.specs.ab_cases.specs.Clauses.{Each, put_together}
-use Rattle.ab_unifying.specs.Problem.{variables_read}
-use Rattle.ab_instances.specs.Readings.{trees_at}
-use Rattle.ab_instances.specs.Binding.{bound_to, IsFor, CanBeBound}
+use Rattle.ab_norm.specs.ab_types.specs.Entries.{Table, signature}
+use Rattle.ab_norm.specs.ab_types.specs.Ids.{type_of}
+use Rattle.ab_norm.specs.ab_store.specs.declared.node.Node.{Node}
+use Rattle.ab_norm.specs.ab_store.specs.declared.node.TermId.{TermId}
+use Rattle.ab_norm.specs.ab_store.specs.declared.node.CellId.{CellId}
+use Rattle.ab_norm.specs.ab_store.specs.declared.node.CellEntry.{CellEntry}
+use Rattle.ab_norm.specs.ab_store.specs.declared.node.Binding.{Binding}
+use Rattle.ab_norm.specs.ab_store.specs.Trees.{Contents, Holds, HoldsCell, cell_in, cell_of, term_at, terms_from, tree_of}
+use Rattle.ab_norm.specs.ab_store.specs.Reading.{bound_in, reading, pairs, cell_variable}
+use Rattle.ab_norm.specs.ab_store.specs.Bindings.{cells_of, StandsIn, IsUnbound, IsResolved}
+use Rattle.ab_norm.specs.ab_store.specs.Naming.{IsTerm}
+use Rattle.ab_norm.specs.ab_store.proofs.Cells.{stands}
+use Rattle.ab_unifiers.specs.Clauses.{Each, put_together}
+use Rattle.ab_unify.specs.Problem.{variables_read}
+use Rattle.ab_instances.specs.ListReadings.{trees_at}
+use Rattle.ab_instances.specs.CellBindings.{bound_to, IsFor, CanBeBound}
 
 module _ {X Y : Type 0} where
   pub each_at : (R : X → Y → Type 0) (xs : List X) (ys : List Y) (i : ℕ) (d : X) (e : Y) → Each R xs ys → i < length xs → R (get_or xs i d) (get_or ys i e)

@@ -5,11 +5,11 @@ use Rattle.std.proofs.lemmas.List.{map-append, append_assoc}
 use Rattle.std.proofs.lemmas.List.Elements.{All-head, All-tail, All-cons, All-nil, All-append}
 use Rattle.ab_term.specs.Types.{Ty}
 use Rattle.ab_term.specs.Terms as tree
-use Rattle.ab_clauses.specs.ab_types.specs.Entries.{Table}
-use Rattle.ab_unifying.specs.ab_norm.specs.declared.nominal.Nominal.{Nominal}
-use Rattle.ab_unifying.specs.ab_norm.specs.Nominals.{nominal_of}
-use Rattle.ab_clauses.specs.ab_cases.specs.Choices.{others, for_each, choices}
-use Rattle.ab_instances.specs.Readings.{names_read}
+use Rattle.ab_norm.specs.ab_types.specs.Entries.{Table}
+use Rattle.ab_norm.specs.declared.nominal.Nominal.{Nominal}
+use Rattle.ab_norm.specs.Nominals.{nominal_of}
+use Rattle.ab_unifiers.specs.Choices.{others, for_each, choices}
+use Rattle.ab_instances.specs.ListReadings.{names_read}
 
 -- those that begin with the constant
 abbrev pub begun_with : List Ty → List tree.Nominal → List tree.Nominal → tree.Nominal → List (List tree.Nominal)

@@ -7,16 +7,16 @@ use Rattle.ab_term.specs.Expansion.{expansion_of}
 use Rattle.ab_term.specs.Translation.{translate, forget}
 use Rattle.ab_term.specs.Variables.{Substitution, value_in, image, IsTyped}
 use Rattle.ab_term.specs.Sameness.{same_number}
-use Rattle.ab_term.specs.Closing.{name_terms, given_names}
+use Rattle.ab_term.specs.Abstraction.{name_terms, given_names}
 use Rattle.ab_term.proofs.Hinted.{hinted-names}
 use Rattle.ab_term.proofs.ImageTranslations.{translate-image_by}
 use Rattle.ab_term.proofs.OwnExpansion.{image_by-own}
 use Rattle.ab_term.proofs.Raising.{forget-given}
 use Rattle.ab_term.proofs.Translations.{translate-expansion, translate-expansion_of}
-use Rattle.ab_clauses.specs.ab_solve.specs.Replacing.{Cell}
-use Rattle.ab_clauses.specs.ab_cases.specs.Clauses.{Each, numbered, name_term}
-use Rattle.ab_clauses.specs.ab_cases.specs.Alternatives.{made_terms}
-use Rattle.ab_clauses.specs.ab_cases.proofs.Past.{bare, bare_own, bare_typed, own}
+use Rattle.ab_unifiers.specs.Replacements.{Cell}
+use Rattle.ab_unifiers.specs.Clauses.{Each, numbered, name_term}
+use Rattle.ab_unifiers.specs.Alternatives.{made_terms}
+use Rattle.ab_unifiers.proofs.Past.{bare, bare_own, bare_typed, own}
 
 module _ {Hint : Type 0} (x : Hint) where
   abbrev pub dressed : Term ℕ (Unit {0}) → Term ℕ Hint

@@ -9,30 +9,30 @@ use Rattle.ab_term.specs.Terms as tree
 use Rattle.ab_term.specs.Terms.{Variable}
 use Rattle.ab_term.specs.Variables.{variables}
 use Rattle.ab_term.proofs.Lists.{AllPairs-none, All-from_contains, Contains-map, Contains-from_map}
-use Rattle.ab_clauses.specs.ab_types.specs.Entries.{Table, signature}
-use Rattle.ab_clauses.specs.ab_types.specs.Ids.{type_of}
-use Rattle.ab_clauses.specs.ab_store.specs.declared.node.TermId.{TermId}
-use Rattle.ab_clauses.specs.ab_store.specs.declared.node.CellId.{CellId}
-use Rattle.ab_clauses.specs.ab_store.specs.Trees.{Contents, HoldsCell, cell_of, tree_of}
-use Rattle.ab_clauses.specs.ab_store.specs.Reading.{cell_variable}
-use Rattle.ab_clauses.specs.ab_store.specs.Bindings.{cells_of}
-use Rattle.ab_clauses.specs.ab_store.specs.Naming.{IsTypedBy, IsTerm}
-use Rattle.ab_clauses.specs.ab_store.proofs.Cells as stored
-use Rattle.ab_clauses.specs.ab_solve.specs.Meaning.{AreDifferent}
-use Rattle.ab_clauses.specs.ab_solve.proofs.Agreeing.{contains_holds}
-use Rattle.ab_clauses.specs.ab_cases.specs.Clauses.{Each, numbered}
-use Rattle.ab_clauses.specs.ab_cases.specs.Alternatives.{cells_over, made_terms}
-use Rattle.ab_clauses.specs.ab_cases.proofs.Rows.{numbered_within}
-use Rattle.ab_clauses.specs.ab_cases.proofs.Unifier.{made_over_vars}
-use Rattle.ab_clauses.specs.ab_cases.proofs.Variables.{Has, has_held}
-use Rattle.ab_clauses.specs.Readings.{variable_of}
-use Rattle.ab_formulas.specs.Cased as cases
-use Rattle.ab_formulas.specs.Cased.{in_terms}
-use Rattle.ab_unifying.specs.Problem.{cell_read, variables_read}
-use Rattle.ab_unifying.specs.Changed.{Grows}
-use Rattle.ab_unifying.proofs.Growth.{grown_type, grown_variable}
-use Rattle.ab_instances.specs.Readings.{cells_at, trees_at}
-use Rattle.ab_instances.specs.Binding.{IsFor, CanBeBound}
+use Rattle.ab_norm.specs.ab_types.specs.Entries.{Table, signature}
+use Rattle.ab_norm.specs.ab_types.specs.Ids.{type_of}
+use Rattle.ab_norm.specs.ab_store.specs.declared.node.TermId.{TermId}
+use Rattle.ab_norm.specs.ab_store.specs.declared.node.CellId.{CellId}
+use Rattle.ab_norm.specs.ab_store.specs.Trees.{Contents, HoldsCell, cell_of, tree_of}
+use Rattle.ab_norm.specs.ab_store.specs.Reading.{cell_variable}
+use Rattle.ab_norm.specs.ab_store.specs.Bindings.{cells_of}
+use Rattle.ab_norm.specs.ab_store.specs.Naming.{IsTypedBy, IsTerm}
+use Rattle.ab_norm.specs.ab_store.proofs.Cells as stored
+use Rattle.ab_unifiers.specs.Unifiers.{AreDifferent}
+use Rattle.ab_unifiers.proofs.Agreeing.{contains_holds}
+use Rattle.ab_unifiers.specs.Clauses.{Each, numbered}
+use Rattle.ab_unifiers.specs.Alternatives.{cells_over, made_terms}
+use Rattle.ab_unifiers.proofs.Rows.{numbered_within}
+use Rattle.ab_unifiers.proofs.Unifier.{made_over_vars}
+use Rattle.ab_unifiers.proofs.Variables.{Has, has_held}
+use Rattle.ab_typing.specs.DefinitionReadings.{variable_of}
+use Rattle.ab_formulas.specs.CaseClauses as cases
+use Rattle.ab_formulas.specs.CaseClauses.{in_terms}
+use Rattle.ab_unify.specs.Problem.{cell_read, variables_read}
+use Rattle.ab_unify.specs.StoreChanges.{Grows}
+use Rattle.ab_unify.proofs.Growth.{grown_type, grown_variable}
+use Rattle.ab_instances.specs.ListReadings.{cells_at, trees_at}
+use Rattle.ab_instances.specs.CellBindings.{IsFor, CanBeBound}
 
 abbrev x : List ℕ
 x = codes "x"

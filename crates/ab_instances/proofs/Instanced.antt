@@ -13,21 +13,21 @@ use Rattle.ab_term.specs.Sameness.{same_numbered, same_number}
 use Rattle.ab_term.proofs.Compositions.{image_typed, image-composition, image-instance}
 use Rattle.ab_term.proofs.Expansions.{expansion_typed}
 use Rattle.ab_term.proofs.Preservation.{instance_typed}
-use Rattle.ab_clauses.specs.ab_solve.specs.Replacing.{Cell, holds}
-use Rattle.ab_clauses.specs.ab_solve.proofs.Agreeing.{image_agrees}
-use Rattle.ab_clauses.specs.ab_cases.specs.Clauses.{Each, numbered, clause_variables, clause_names, put_together, name_term, filled, IsClause, AreFor}
-use Rattle.ab_clauses.specs.ab_cases.specs.Alternatives.{made_terms}
-use Rattle.ab_clauses.specs.ab_cases.specs.Prefixes.{prefix, IsHead, opened, arguments_of, own_terms}
-use Rattle.ab_clauses.specs.ab_cases.proofs.Core.{variables_found, names_found}
-use Rattle.ab_clauses.specs.ab_cases.proofs.Covered.{names_typed}
-use Rattle.ab_clauses.specs.ab_cases.proofs.Lifting.{made_terms_typed}
-use Rattle.ab_clauses.specs.ab_cases.proofs.Past.{own}
-use Rattle.ab_clauses.specs.ab_cases.proofs.Rows as rows
-use Rattle.ab_clauses.specs.ab_cases.proofs.Rows.{each_any, found_has, nothing_found, together_typed}
-use Rattle.ab_clauses.specs.ab_cases.proofs.Unifier as unifier
-use Rattle.ab_clauses.specs.ab_cases.proofs.Unifier.{append-none, from_cells, filled_typed}
-use Rattle.ab_formulas.specs.Kept.{ClauseVariable, Clause}
-use Rattle.ab_formulas.specs.Cased.{in_terms, cell_of, case_of, IsWellKept}
+use Rattle.ab_unifiers.specs.Replacements.{Cell, holds}
+use Rattle.ab_unifiers.proofs.Agreeing.{image_agrees}
+use Rattle.ab_unifiers.specs.Clauses.{Each, numbered, clause_variables, clause_names, put_together, name_term, filled, IsClause, AreFor}
+use Rattle.ab_unifiers.specs.Alternatives.{made_terms}
+use Rattle.ab_unifiers.specs.Prefixes.{prefix, IsHead, opened, arguments_of, own_terms}
+use Rattle.ab_unifiers.proofs.Core.{variables_found, names_found}
+use Rattle.ab_unifiers.proofs.Covered.{names_typed}
+use Rattle.ab_unifiers.proofs.Lifting.{made_terms_typed}
+use Rattle.ab_unifiers.proofs.Past.{own}
+use Rattle.ab_unifiers.proofs.Rows as rows
+use Rattle.ab_unifiers.proofs.Rows.{each_any, found_has, nothing_found, together_typed}
+use Rattle.ab_unifiers.proofs.Unifier as unifier
+use Rattle.ab_unifiers.proofs.Unifier.{append-none, from_cells, filled_typed}
+use Rattle.ab_formulas.specs.Clauses.{ClauseVariable, Clause}
+use Rattle.ab_formulas.specs.CaseClauses.{in_terms, cell_of, case_of, IsWellKept}
 use Rattle.ab_instances.proofs.Dressed.{IsDressed, made_dressed, names_dressed, own_becomes}
 
 -- a head, seen as a prefix and an atom

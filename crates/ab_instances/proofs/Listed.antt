@@ -4,7 +4,7 @@ use Rattle.std.specs.List.{list_any}
 use Rattle.std.proofs.lemmas.List.{map_more, get_or-map, length-map}
 use Rattle.std.proofs.lemmas.List.Folds.{list_any-append, list_any_at}
 use Rattle.ab_term.specs.Terms.{Nominal}
-use Rattle.ab_clauses.specs.ab_cases.specs.Choices.{is_number_of, free_number}
+use Rattle.ab_unifiers.specs.Choices.{is_number_of, free_number}
 
 pub test_same : {P Q : Type 0} (r q : Bool) → ((r ≡ true) ↔ P) → Decides q Q → (P → Q) → (Q → P) → r ≡ q
 test_same true true e d f g = refl

@@ -10,32 +10,32 @@ use Rattle.ab_term.specs.Terms as tree
 use Rattle.ab_term.specs.Terms.{Variable, nominal, variable, Terms, term, no_terms, terms_of}
 use Rattle.ab_term.specs.Typing.{HasType}
 use Rattle.ab_term.specs.Expansion.{expansion_of, expansion}
-use Rattle.ab_term.specs.Closing.{over, name_terms}
-use Rattle.ab_clauses.specs.ab_types.specs.Entries.{Table, a_type, kinds, constants, signature, IsExtendedBy as IsPartOf, FindsOrAdds}
-use Rattle.ab_clauses.specs.ab_types.specs.Ids.{HoldsType, type_of}
-use Rattle.ab_clauses.specs.ab_types.specs.declared.ids.TypeId.{TypeId}
-use Rattle.ab_clauses.specs.ab_types.proofs.Entries.{same_type, type_still_held, kinds-append, constants-append}
-use Rattle.ab_clauses.specs.ab_store.specs.declared.node.TermId.{TermId}
-use Rattle.ab_clauses.specs.ab_store.specs.declared.node.CellId.{CellId}
-use Rattle.ab_clauses.specs.ab_store.specs.Trees.{Contents, Holds, HoldsCell, cell_in, cell_of, tree_of}
-use Rattle.ab_clauses.specs.ab_store.specs.Reading.{cell_variable}
-use Rattle.ab_clauses.specs.ab_store.specs.Growth.{IsExtendedBy}
-use Rattle.ab_clauses.specs.ab_store.specs.Naming.{IsTypedBy, IsTerm}
-use Rattle.ab_clauses.specs.ab_store.proofs.Tables.{same_tree, still_typed}
-use Rattle.ab_unifying.specs.ab_norm.proofs.Frame.{still_read_before}
-use Rattle.ab_unifying.specs.ab_norm.specs.declared.nominal.Nominal.{Nominal}
-use Rattle.ab_unifying.specs.ab_norm.specs.Growth.{AddsTypedTerms}
-use Rattle.ab_unifying.specs.ab_norm.specs.Nominals.{nominal_of, HoldsNominal}
-use Rattle.ab_clauses.specs.ab_solve.specs.Replacing.{Cell}
-use Rattle.ab_clauses.specs.ab_cases.specs.Clauses.{Each, numbered, name_term}
-use Rattle.ab_clauses.specs.ab_cases.specs.Alternatives.{cells_over, made_terms}
-use Rattle.ab_clauses.specs.ab_cases.proofs.Lifting.{made_terms_typed}
-use Rattle.ab_unifying.specs.Problem.{cell_read, cells_read, variables_read}
-use Rattle.ab_unifying.specs.Changed.{Grows}
-use Rattle.ab_unifying.proofs.Growth.{one_more, grown_type, grows_on, grows_terms}
-use Rattle.ab_unifying.proofs.Cells.{cells_same}
-use Rattle.ab_instances.specs.Readings.{names_read, cells_at, trees_at}
-use Rattle.ab_instances.specs.Making.{ids_from, given_all}
+use Rattle.ab_term.specs.Abstraction.{over, name_terms}
+use Rattle.ab_norm.specs.ab_types.specs.Entries.{Table, a_type, kinds, constants, signature, IsExtendedBy as IsPartOf, FindsOrAdds}
+use Rattle.ab_norm.specs.ab_types.specs.Ids.{HoldsType, type_of}
+use Rattle.ab_norm.specs.ab_types.specs.declared.ids.TypeId.{TypeId}
+use Rattle.ab_norm.specs.ab_types.proofs.Entries.{same_type, type_still_held, kinds-append, constants-append}
+use Rattle.ab_norm.specs.ab_store.specs.declared.node.TermId.{TermId}
+use Rattle.ab_norm.specs.ab_store.specs.declared.node.CellId.{CellId}
+use Rattle.ab_norm.specs.ab_store.specs.Trees.{Contents, Holds, HoldsCell, cell_in, cell_of, tree_of}
+use Rattle.ab_norm.specs.ab_store.specs.Reading.{cell_variable}
+use Rattle.ab_norm.specs.ab_store.specs.Growth.{IsExtendedBy}
+use Rattle.ab_norm.specs.ab_store.specs.Naming.{IsTypedBy, IsTerm}
+use Rattle.ab_norm.specs.ab_store.proofs.Tables.{same_tree, still_typed}
+use Rattle.ab_norm.proofs.Frame.{still_read_before}
+use Rattle.ab_norm.specs.declared.nominal.Nominal.{Nominal}
+use Rattle.ab_norm.specs.NodeGrowth.{AddsTypedTerms}
+use Rattle.ab_norm.specs.Nominals.{nominal_of, HoldsNominal}
+use Rattle.ab_unifiers.specs.Replacements.{Cell}
+use Rattle.ab_unifiers.specs.Clauses.{Each, numbered, name_term}
+use Rattle.ab_unifiers.specs.Alternatives.{cells_over, made_terms}
+use Rattle.ab_unifiers.proofs.Lifting.{made_terms_typed}
+use Rattle.ab_unify.specs.Problem.{cell_read, cells_read, variables_read}
+use Rattle.ab_unify.specs.StoreChanges.{Grows}
+use Rattle.ab_unify.proofs.Growth.{one_more, grown_type, grows_on, grows_terms}
+use Rattle.ab_unify.proofs.Cells.{cells_same}
+use Rattle.ab_instances.specs.ListReadings.{names_read, cells_at, trees_at}
+use Rattle.ab_instances.specs.RaisedCells.{ids_from, given_all}
 use Rattle.ab_instances.proofs.Chosen.{rest_is}
 
 abbrev x : List ℕ

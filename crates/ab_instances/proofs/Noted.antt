@@ -7,19 +7,19 @@ use Rattle.std.proofs.lemmas.List.{drop_more}
 use Rattle.ab_term.specs.Terms.{Nominal, terms_of}
 use Rattle.ab_term.specs.Names.{support, support_of_head, support_of_all}
 use Rattle.ab_term.proofs.Lists.{Contains-none, Contains-here, Contains-there, Contains-cases}
-use Rattle.ab_clauses.specs.ab_types.specs.Entries.{Table}
-use Rattle.ab_clauses.specs.ab_store.specs.declared.node.TermId.{TermId}
-use Rattle.ab_clauses.specs.ab_store.specs.declared.node.Head.{Head}
-use Rattle.ab_clauses.specs.ab_store.specs.declared.node.Node.{Node}
-use Rattle.ab_clauses.specs.ab_store.specs.declared.node.Node.TheVariants.{Spine}
-use Rattle.ab_clauses.specs.ab_store.specs.Trees.{Contents, tree_of, head_reading, node_tree}
-use Rattle.ab_unifying.specs.ab_norm.specs.declared.nominal.Nominal.{Nominal as AName}
-use Rattle.ab_unifying.specs.ab_norm.specs.Nominals.{nominal_of}
-use Rattle.ab_clauses.specs.ab_cases.specs.Choices.{is_in, placed, in_order}
-use Rattle.ab_clauses.specs.ab_cases.proofs.Choosing.{in_contains, contains_in, ordered_contains, contains_ordered}
+use Rattle.ab_norm.specs.ab_types.specs.Entries.{Table}
+use Rattle.ab_norm.specs.ab_store.specs.declared.node.TermId.{TermId}
+use Rattle.ab_norm.specs.ab_store.specs.declared.node.Head.{Head}
+use Rattle.ab_norm.specs.ab_store.specs.declared.node.Node.{Node}
+use Rattle.ab_norm.specs.ab_store.specs.declared.node.Node.TheVariants.{Spine}
+use Rattle.ab_norm.specs.ab_store.specs.Trees.{Contents, tree_of, head_reading, node_tree}
+use Rattle.ab_norm.specs.declared.nominal.Nominal.{Nominal as AName}
+use Rattle.ab_norm.specs.Nominals.{nominal_of}
+use Rattle.ab_unifiers.specs.Choices.{is_in, placed, in_order}
+use Rattle.ab_unifiers.proofs.Choosing.{in_contains, contains_in, ordered_contains, contains_ordered}
 use Rattle.ab_instances.specs.declared.constants.Seen.{Seen}
-use Rattle.ab_instances.specs.Readings.{names_read}
-use Rattle.ab_instances.specs.Noting.{noted, all_noted, same_term, has_been, AreNoted}
+use Rattle.ab_instances.specs.ListReadings.{names_read}
+use Rattle.ab_instances.specs.ConstantOrder.{noted, all_noted, same_term, has_been, AreNoted}
 
 bools_same : (p q : Bool) → (p ≡ true → q ≡ true) → (q ≡ true → p ≡ true) → p ≡ q
 bools_same true true f g = refl

@@ -4,13 +4,13 @@ use Rattle.std.specs.List.{All}
 use Rattle.std.proofs.lemmas.List.Elements.{All-tail, All-weaker}
 use Rattle.ab_term.specs.Terms.{Head, spine, term, no_terms, terms_of, Read}
 use Rattle.ab_term.specs.Substitution.{instance}
-use Rattle.ab_clauses.specs.ab_types.specs.Entries.{Table}
-use Rattle.ab_clauses.specs.ab_store.specs.declared.node.TermId.{TermId}
-use Rattle.ab_clauses.specs.ab_store.specs.Trees.{Contents, Holds, tree_of}
-use Rattle.ab_clauses.specs.ab_store.specs.Growth.{IsExtendedBy}
-use Rattle.ab_unifying.specs.ab_norm.proofs.Frame.{still_read_before}
-use Rattle.ab_clauses.specs.ab_cases.specs.Prefixes.{opened}
-use Rattle.ab_instances.specs.Readings.{trees_at}
+use Rattle.ab_norm.specs.ab_types.specs.Entries.{Table}
+use Rattle.ab_norm.specs.ab_store.specs.declared.node.TermId.{TermId}
+use Rattle.ab_norm.specs.ab_store.specs.Trees.{Contents, Holds, tree_of}
+use Rattle.ab_norm.specs.ab_store.specs.Growth.{IsExtendedBy}
+use Rattle.ab_norm.proofs.Frame.{still_read_before}
+use Rattle.ab_unifiers.specs.Prefixes.{opened}
+use Rattle.ab_instances.specs.ListReadings.{trees_at}
 use Rattle.ab_instances.proofs.Chosen.{rest_is, rest_all}
 
 pub one_only : {X : Type 0} (xs : List X) (d : X) → length xs ≡ 1 → xs ≡ get_or xs 0 d ∷ []

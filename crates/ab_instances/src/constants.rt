@@ -1,20 +1,21 @@
 //! The nominal constants of an atom's arguments.
 ghost use Rattle.std.specs.Prelude.{◌≡◌, ◌⊎◌, ℕ, ◌<◌, ◌≤◌, nat_lt, length, get_or, true, false, List, All, IfOk, OnOk};
 ghost use Rattle.ab_term.specs.Names.{support, support_of_head, support_of_all};
-ghost use Rattle.ab_clauses.specs.ab_types.specs.Sound.{IsTable};
-ghost use Rattle.ab_clauses.specs.ab_store.specs.declared.node.CellEntry.{CellEntry};
-ghost use Rattle.ab_clauses.specs.ab_store.specs.Trees.{Holds, tree_of, head_in};
-ghost use Rattle.ab_clauses.specs.ab_store.specs.Naming.{HeadIsTyped, IsTypedBy};
-ghost use Rattle.ab_unifying.specs.ab_norm.specs.declared.nominal.Nominal.{Nominal as ANominal};
-ghost use Rattle.ab_unifying.specs.ab_norm.specs.Nominals.{nominal_of, HoldsNominal};
-ghost use Rattle.ab_clauses.specs.ab_cases.specs.Choices as choices;
-ghost use Rattle.ab_instances.specs.Readings.{names_read, given_at};
-ghost use Rattle.ab_instances.specs.Noting.{has_been, noted, all_noted, AreNoted};
+ghost use Rattle.ab_norm.specs.ab_types.specs.Sound.{IsTable};
+ghost use Rattle.ab_norm.specs.ab_store.specs.declared.node.CellEntry.{CellEntry};
+ghost use Rattle.ab_norm.specs.ab_store.specs.Trees.{Holds, tree_of, head_in};
+ghost use Rattle.ab_norm.specs.ab_store.specs.Naming.{HeadIsTyped, IsTypedBy};
+ghost use Rattle.ab_norm.specs.declared.nominal.Nominal.{Nominal as ANominal};
+ghost use Rattle.ab_norm.specs.Nominals.{nominal_of, HoldsNominal};
+ghost use Rattle.ab_unifiers.specs.Choices as choices;
+ghost use Rattle.ab_instances.specs.ListReadings.{names_read, given_at};
+ghost use Rattle.ab_instances.specs.ConstantOrder.{has_been, noted, all_noted, AreNoted};
 
 use crate::names::is_in;
-use ab_clauses::below::store::{Head, Node, Store, TermId};
-use ab_clauses::below::types::{TypeTable, has_unique_ids};
-use ab_unifying::below::norm::Nominal;
+use ab_norm::Nominal;
+use ab_norm::store::{Head, Node, Store, TermId};
+use ab_norm::types::TypeTable;
+use ab_norm::types::laws::has_unique_ids;
 use std::alloc::{AllocError, Global};
 use std::collections::HashSet;
 

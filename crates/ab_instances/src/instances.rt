@@ -3,27 +3,27 @@ ghost use Rattle.std.specs.Prelude.{◌≡◌, ◌≤◌, ◌++◌, [], map, len
 ghost use Rattle.ab_term.specs.Types.{Ty, prop};
 ghost use Rattle.ab_term.specs.Sameness.{same_number};
 ghost use Rattle.ab_term.specs.Variables.{image, image_all};
-ghost use Rattle.ab_clauses.specs.ab_types.specs.Entries.{signature};
-ghost use Rattle.ab_clauses.specs.ab_store.specs.Trees.{Holds, tree_of};
-ghost use Rattle.ab_clauses.specs.ab_store.specs.Naming.{IsTypedBy, IsTerm};
-ghost use Rattle.ab_unifying.specs.ab_norm.specs.Nominals.{HoldsNominal};
-ghost use Rattle.ab_unifying.specs.ab_norm.specs.Taking.{AreTaken};
-ghost use Rattle.ab_clauses.specs.ab_cases.specs.Clauses.{filled};
-ghost use Rattle.ab_clauses.specs.ab_cases.specs.Alternatives.{cells_over, made_over, made_terms};
-ghost use Rattle.ab_clauses.specs.Readings.{clause_of, HoldsClause};
-ghost use Rattle.ab_formulas.specs.Cased.{case_of, IsWellKept};
-ghost use Rattle.ab_unifying.specs.Problem.{cells_read, variables_read};
-ghost use Rattle.ab_unifying.specs.Changed.{Grows};
-ghost use Rattle.ab_instances.specs.Readings.{names_read, given_at};
+ghost use Rattle.ab_norm.specs.ab_types.specs.Entries.{signature};
+ghost use Rattle.ab_norm.specs.ab_store.specs.Trees.{Holds, tree_of};
+ghost use Rattle.ab_norm.specs.ab_store.specs.Naming.{IsTypedBy, IsTerm};
+ghost use Rattle.ab_norm.specs.Nominals.{HoldsNominal};
+ghost use Rattle.ab_norm.specs.TypedArguments.{AreTaken};
+ghost use Rattle.ab_unifiers.specs.Clauses.{filled};
+ghost use Rattle.ab_unifiers.specs.Alternatives.{cells_over, made_over, made_terms};
+ghost use Rattle.ab_typing.specs.DefinitionReadings.{clause_of, HoldsClause};
+ghost use Rattle.ab_formulas.specs.CaseClauses.{case_of, IsWellKept};
+ghost use Rattle.ab_unify.specs.Problem.{cells_read, variables_read};
+ghost use Rattle.ab_unify.specs.StoreChanges.{Grows};
+ghost use Rattle.ab_instances.specs.ListReadings.{names_read, given_at};
 
-use crate::binding::copy_with;
-use crate::making::{as_terms, make_over};
-use crate::opening::{arguments_of, open};
-use ab_clauses::ClauseTerm;
-use ab_clauses::below::store::{CellId, Store, TermId};
-use ab_clauses::below::types::{Steps, TypeTable};
+use crate::cell_bindings::copy_with;
+use crate::clause_heads::{arguments_of, open};
+use crate::raised_variables::{as_terms, make_over};
 use ab_formulas::definitions::kept_clauses_are_cases;
-use ab_unifying::below::norm::Nominal;
+use ab_norm::Nominal;
+use ab_norm::store::{CellId, Store, TermId};
+use ab_norm::types::{Steps, TypeTable};
+use ab_typing::ClauseTerm;
 use std::alloc::{AllocError, Global};
 
 /// A clause with other variables: its own ones, the arguments of its head, and its body.

@@ -2,19 +2,18 @@
 //! names of a clause, variables over constants, and the clause with these for its own.
 #![tactic(auto)]
 
-pub mod below;
-mod binding;
-mod choosing;
+mod cell_bindings;
+mod clause_heads;
+mod constant_choices;
 mod constants;
 mod instances;
-mod making;
 mod names;
-mod opening;
-mod raising;
+mod raised_variables;
+mod replacements;
 
-pub use choosing::choices;
+pub use constant_choices::choices;
 pub use constants::constants_of;
 pub use instances::{Instance, instance_of};
-pub use making::{Over, as_terms, make_over};
 pub use names::{Choices, Names, outside};
-pub use raising::bind_to;
+pub use raised_variables::{Over, as_terms, make_over};
+pub use replacements::bind_to;

@@ -2,15 +2,16 @@
 ghost use Rattle.std.specs.Prelude.{◌≡◌, ◌↔◌, ◌==◌, ◌∷◌, true, All, IfOk};
 ghost use Rattle.ab_term.specs.Types.{same_type};
 ghost use Rattle.ab_term.specs.Names.{same_nominal};
-ghost use Rattle.ab_clauses.specs.ab_types.specs.Entries.{Table};
-ghost use Rattle.ab_clauses.specs.ab_types.specs.Ids.{HoldsType, type_of};
-ghost use Rattle.ab_clauses.specs.ab_types.specs.Sound.{IsTable};
-ghost use Rattle.ab_unifying.specs.ab_norm.specs.Nominals.{nominal_of, HoldsNominal};
-ghost use Rattle.ab_clauses.specs.ab_cases.specs.Choices as choices;
-ghost use Rattle.ab_instances.specs.Readings.{names_read};
+ghost use Rattle.ab_norm.specs.ab_types.specs.Entries.{Table};
+ghost use Rattle.ab_norm.specs.ab_types.specs.Ids.{HoldsType, type_of};
+ghost use Rattle.ab_norm.specs.ab_types.specs.Sound.{IsTable};
+ghost use Rattle.ab_norm.specs.Nominals.{nominal_of, HoldsNominal};
+ghost use Rattle.ab_unifiers.specs.Choices as choices;
+ghost use Rattle.ab_instances.specs.ListReadings.{names_read};
 
-use ab_clauses::below::types::{TypeId, TypeTable, has_unique_ids};
-use ab_unifying::below::norm::Nominal;
+use ab_norm::Nominal;
+use ab_norm::types::laws::has_unique_ids;
+use ab_norm::types::{TypeId, TypeTable};
 use std::alloc::{AllocError, Global};
 use std::marker::Model;
 
@@ -22,7 +23,7 @@ pub struct Names {
 
 impl Model for Names {
     ghost use Rattle.std.specs.Prelude.{List};
-    ghost use Rattle.ab_unifying.specs.ab_norm.specs.declared.nominal.Nominal.{Nominal};
+    ghost use Rattle.ab_norm.specs.declared.nominal.Nominal.{Nominal};
 
     ghost Value = { List Nominal };
 
@@ -53,6 +54,7 @@ pub struct Choices {
 
 impl Model for Choices {
     ghost use Rattle.std.specs.Prelude.{List};
+    ghost use Rattle.ab_norm.specs.declared.nominal.Nominal.{Nominal};
 
     ghost Value = { List (List Nominal) };
 

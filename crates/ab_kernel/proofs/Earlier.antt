@@ -1,9 +1,9 @@
 -- What is held before some of the steps that stand.
 use Rattle.std.proofs.Common.{◌≡◌, ℕ, zero, suc, ◌+◌, ◌-◌, List, [], ◌∷◌, length, map, sym, ◌∙◌, ap, arith}
-use Rattle.ab_rules.specs.ab_logic.specs.Readings.{sequent_of}
-use Rattle.ab_rules.specs.ab_logic.specs.declared.world.World.{World}
+use Rattle.ab_logic.specs.SequentReadings.{sequent_of}
+use Rattle.ab_logic.specs.declared.world.World.{World}
 use Rattle.ab_kernel.specs.declared.node.ProofNode.{ProofNode}
-use Rattle.ab_kernel.specs.declared.proving.Refinement.{Refinement}
+use Rattle.ab_kernel.specs.declared.proof.Refinement.{Refinement}
 use Rattle.ab_kernel.specs.Nodes.{sequents_in}
 use Rattle.ab_kernel.specs.Layout.{Held, nodes_before, before_last, before_steps, Beyond, steps_in, history_of}
 use Rattle.ab_kernel.proofs.Filling.{length-steps_in}

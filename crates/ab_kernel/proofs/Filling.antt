@@ -3,11 +3,11 @@ use Rattle.std.specs.Prelude.{slice_get, slice_set}
 use Rattle.std.proofs.Common.{◌≡◌, ◌≢◌, ℕ, zero, suc, ◌+◌, ◌-◌, ◌<◌, ◌≤◌, List, [], ◌∷◌, ◌++◌, Some, length, map, take, get_or, refl, sym, ◌∙◌, ap, subst, arith, length-append}
 use Rattle.std.proofs.lemmas.List.{map-append, length-map, take-map, take_at, set-set, set-get_or, get_or-set_same, get_or-set_other, get_or_append_left, length-set, length-take-le}
 use Rattle.std.proofs.lemmas.Option.{slice_get_within}
-use Rattle.ab_rules.specs.ab_logic.specs.declared.sequent.Sequent.{Sequent as Kept}
+use Rattle.ab_logic.specs.declared.sequent.Sequent.{Sequent as Kept}
 use Rattle.ab_kernel.specs.Nodes.{cleared, open_node, IsClear, sequents_in, no_node, node_at}
 use Rattle.ab_kernel.specs.Layout.{numbers_down, nodes_before, steps_in, AreOpen, Differs, AreDistinct}
 use Rattle.ab_kernel.specs.declared.node.ProofNode.{ProofNode}
-use Rattle.ab_kernel.specs.declared.proving.Refinement.{Refinement}
+use Rattle.ab_kernel.specs.declared.proof.Refinement.{Refinement}
 
 -- goals of nodes
 

@@ -1,16 +1,16 @@
 -- That the nodes stand for the derivation, from one step to the next.
 use Rattle.std.specs.Prelude.{slice_set}
 use Rattle.std.proofs.Common.{◌≡◌, ℕ, ◌+◌, List, [], ◌∷◌, ◌++◌, length, map, take, drop, get_or, refl, sym, ◌∙◌, ap, subst}
-use Rattle.ab_rules.specs.ab_logic.specs.Readings.{sequent_of}
-use Rattle.ab_rules.specs.ab_logic.specs.declared.world.World.{World}
-use Rattle.ab_rules.specs.ab_logic.specs.declared.sequent.Sequent.{Sequent as Kept}
-use Rattle.ab_rules.specs.declared.step.Step.{Step}
-use Rattle.ab_rules.specs.Answers.{step_of}
+use Rattle.ab_logic.specs.SequentReadings.{sequent_of}
+use Rattle.ab_logic.specs.declared.world.World.{World}
+use Rattle.ab_logic.specs.declared.sequent.Sequent.{Sequent as Kept}
+use Rattle.ab_kernel.specs.declared.step.Step.{Step}
+use Rattle.ab_kernel.specs.RuleAnswers.{step_of}
 use Rattle.ab_kernel.specs.declared.node.ProofNode.{ProofNode}
-use Rattle.ab_kernel.specs.declared.proving.Refinement.{Refinement}
+use Rattle.ab_kernel.specs.declared.proof.Refinement.{Refinement}
 use Rattle.ab_kernel.specs.Nodes.{open_node, sequents_in, node_at, step_held, numbers_up}
 use Rattle.ab_theory.specs.Derivations.{refined}
-use Rattle.ab_kernel.specs.Reading.{StandsFor, Tree}
+use Rattle.ab_kernel.specs.NodeTrees.{StandsFor, Tree}
 use Rattle.ab_kernel.specs.Layout.{numbers_down, nodes_before, open_before, steps_in, history_of, Stands, Layers, Grown}
 use Rattle.ab_kernel.proofs.Filling.{before_again}
 use Rattle.ab_kernel.proofs.Hand.{at_hand, filled_node, numbers_before}

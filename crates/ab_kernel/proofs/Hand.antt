@@ -3,14 +3,14 @@ use Rattle.std.specs.Prelude.{slice_set}
 use Rattle.std.proofs.Common.{◌≡◌, ℕ, ◌+◌, ◌<◌, List, [], ◌∷◌, ◌++◌, Some, length, map, take, drop, get_or, refl, sym, ◌∙◌, ap, subst, arith, append_assoc}
 use Rattle.std.proofs.lemmas.List.{length-map, set-append_left, get_or_append_left}
 use Rattle.std.proofs.lemmas.Option.{slice_get_within}
-use Rattle.ab_rules.specs.ab_logic.specs.Readings.{sequent_of}
-use Rattle.ab_rules.specs.ab_logic.specs.declared.world.World.{World}
-use Rattle.ab_rules.specs.ab_logic.specs.declared.sequent.Sequent.{Sequent as Kept}
-use Rattle.ab_rules.specs.declared.step.Step.{Step}
+use Rattle.ab_logic.specs.SequentReadings.{sequent_of}
+use Rattle.ab_logic.specs.declared.world.World.{World}
+use Rattle.ab_logic.specs.declared.sequent.Sequent.{Sequent as Kept}
+use Rattle.ab_kernel.specs.declared.step.Step.{Step}
 use Rattle.ab_kernel.specs.Nodes.{open_node, IsClear, sequents_in, no_node, node_at, step_held}
 use Rattle.ab_kernel.specs.Layout.{StepAt, numbers_down, nodes_before, steps_in, open_before, Stands, AreOpen, AreDistinct, Layers}
 use Rattle.ab_kernel.specs.declared.node.ProofNode.{ProofNode}
-use Rattle.ab_kernel.specs.declared.proving.Refinement.{Refinement}
+use Rattle.ab_kernel.specs.declared.proof.Refinement.{Refinement}
 use Rattle.ab_formulas.proofs.KernelSplits.{at_place}
 use Rattle.ab_kernel.proofs.Standing.{reads_now, leads, restored}
 use Rattle.ab_kernel.proofs.Filling.{AllBelow, each_within, open_at, filled, before_again, sequents_after, open_after, distinct_after}

@@ -3,20 +3,20 @@ use Rattle.std.specs.List.{All}
 use Rattle.std.proofs.Common.{◌≡◌, List, [], ◌∷◌, map, refl, sym, ◌∙◌, ap, subst}
 use Rattle.std.proofs.lemmas.List.Elements.{All-head, All-tail, All-weaker}
 use Rattle.ab_term.specs.Terms.{Nominal, Read}
-use Rattle.ab_rules.specs.ab_types.proofs.Entries.{same_type, holds_type}
-use Rattle.ab_rules.specs.ab_logic.specs.Worlds.{Holds, read, declarations_of}
-use Rattle.ab_rules.specs.ab_logic.specs.Growth.{Grows}
+use Rattle.ab_norm.specs.ab_types.proofs.Entries.{same_type, holds_type}
+use Rattle.ab_logic.specs.Worlds.{Holds, read, declarations_of}
+use Rattle.ab_logic.specs.WorldGrowth.{Grows}
 use Rattle.ab_formulas.specs.Sequents.{Sequent, IsSequent}
-use Rattle.ab_rules.specs.ab_logic.specs.Readings.{sequent_of, HoldsSequent}
-use Rattle.ab_rules.specs.ab_logic.specs.declared.world.World.{World}
-use Rattle.ab_rules.specs.ab_logic.proofs.Growing.{map_same, same_sequent, still_held}
-use Rattle.ab_rules.specs.ab_norm.specs.Nominals.{nominal_of, HoldsNominal}
-use Rattle.ab_rules.specs.declared.replaces.Replace.{Replace}
-use Rattle.ab_rules.specs.declared.step.Step.{Step}
-use Rattle.ab_rules.specs.declared.step.Step.TheVariants.{Initial, TrueRight, FalseLeft, AndRight, AndLeft, OrRight, OrLeft, ArrowRight, ArrowLeft, ForallRight, ForallLeft, ExistsRight, ExistsLeft, NablaRight, NablaLeft, EqualRight, EqualLeft, DefRight, DefLeft, Induction, Coinduction, CutFormula, UseTheorem, Weaken, SpecCut, SpecInst, SpecMonotone}
+use Rattle.ab_logic.specs.SequentReadings.{sequent_of, HoldsSequent}
+use Rattle.ab_logic.specs.declared.world.World.{World}
+use Rattle.ab_logic.proofs.Growing.{map_same, same_sequent, still_held}
+use Rattle.ab_norm.specs.Nominals.{nominal_of, HoldsNominal}
+use Rattle.ab_kernel.specs.declared.replaces.Replace.{Replace}
+use Rattle.ab_kernel.specs.declared.step.Step.{Step}
+use Rattle.ab_kernel.specs.declared.step.Step.TheVariants.{Initial, TrueRight, FalseLeft, AndRight, AndLeft, OrRight, OrLeft, ArrowRight, ArrowLeft, ForallRight, ForallLeft, ExistsRight, ExistsLeft, NablaRight, NablaLeft, EqualRight, EqualLeft, DefRight, DefLeft, Induction, Coinduction, CutFormula, UseTheorem, Weaken, SpecCut, SpecInst, SpecMonotone}
 use Rattle.ab_kernel.specs.Nodes.{sequents_in}
 use Rattle.ab_kernel.specs.Layout.{StepAt, steps_in, Held, premises_of, sequents_before, made_by, history_of, IsProof}
-use Rattle.ab_rules.specs.Answers.{step_of, HoldsStep, label_of, replacements}
+use Rattle.ab_kernel.specs.RuleAnswers.{step_of, HoldsStep, label_of, replacements}
 use Rattle.ab_theory.specs.Steps as plain
 use Rattle.ab_theory.specs.Derivations.{root, Valid, History, after}
 use Rattle.ab_theory.proofs.Refining.{still_valid}

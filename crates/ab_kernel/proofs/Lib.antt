@@ -1,3 +1,11 @@
+pub mod Declared
+pub mod Adding
+pub mod Making
+pub mod Chosen
+pub mod NewNumbers
+mod Words
+mod Finding
+mod Sides
 pub mod Filling
 pub mod Hand
 pub mod Placing

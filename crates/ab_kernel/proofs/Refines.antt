@@ -3,34 +3,34 @@ use Rattle.std.specs.Prelude.{Result, Ok, Err}
 use Rattle.std.specs.List.{All}
 use Rattle.std.proofs.Common.{◌≡◌, ◌⊎◌, inl, inr, ℕ, ◌+◌, ◌<◌, Vec, Global, Some, List, ◌∷◌, ◌++◌, length, map, get_or, sym, ◌∙◌, ap, subst}
 use Rattle.std.proofs.lemmas.List.Elements.{All-cons, All-append, All-weaker}
-use Rattle.ab_rules.specs.ab_logic.specs.Growth.{Grows}
-use Rattle.ab_rules.specs.ab_unifying.specs.Problem.{cells_read}
-use Rattle.ab_formulas.specs.Names.{IsNoVariable, IsNamedFor}
+use Rattle.ab_logic.specs.WorldGrowth.{Grows}
+use Rattle.ab_unify.specs.Problem.{cells_read}
+use Rattle.ab_formulas.specs.NewNames.{IsNoVariable, IsNamedFor}
 use Rattle.ab_formulas.specs.Declarations.{Declarations}
-use Rattle.ab_rules.specs.ab_logic.specs.Worlds.{IsWorld, declarations_of}
+use Rattle.ab_logic.specs.Worlds.{IsWorld, declarations_of}
 use Rattle.ab_formulas.specs.Sequents.{Sequent, IsSequent}
-use Rattle.ab_rules.specs.ab_logic.specs.Readings.{sequent_of, HoldsSequent}
-use Rattle.ab_rules.specs.ab_logic.specs.declared.world.World.{World}
-use Rattle.ab_rules.specs.ab_logic.specs.declared.sequent.Sequent.{Sequent as Kept}
-use Rattle.ab_rules.specs.declared.step.Step.{Step}
-use Rattle.ab_rules.specs.declared.step.KernelFault.{KernelFault}
-use Rattle.ab_rules.specs.declared.step.KernelFault.TheVariants.{RuleFails, NotPattern, Memory}
+use Rattle.ab_logic.specs.SequentReadings.{sequent_of, HoldsSequent}
+use Rattle.ab_logic.specs.declared.world.World.{World}
+use Rattle.ab_logic.specs.declared.sequent.Sequent.{Sequent as Kept}
+use Rattle.ab_kernel.specs.declared.step.Step.{Step}
+use Rattle.ab_kernel.specs.declared.step.KernelFault.{KernelFault}
+use Rattle.ab_kernel.specs.declared.step.KernelFault.TheVariants.{RuleFails, NotPattern, Memory}
 use Rattle.ab_kernel.specs.Nodes.{sequents_in}
 use Rattle.ab_kernel.specs.Layout.{StepAt, steps_in, Held, Stands, history_of, IsProof}
 use Rattle.ab_theory.specs.Row.{FailsFirst, Sticks}
 use Rattle.ab_theory.specs.Rules.{NamedRule, Fails, Stuck}
 use Rattle.ab_theory.proofs.Longer.{any_named}
-use Rattle.ab_rules.specs.Answers.{Answers, row_at, step_of, HoldsStep, IsMemory}
+use Rattle.ab_kernel.specs.RuleAnswers.{Answers, row_at, step_of, HoldsStep, IsMemory}
 use Rattle.ab_theory.specs.Derivations.{Derivation, root, Valid, goal_at, open_goals, GoalFails, GoalStuck, History, after, refined, IsStep}
 use Rattle.std.proofs.lemmas.List.{length-map}
 use Rattle.std.proofs.lemmas.Option.{slice_get_within, get_or_from_slice_get}
 use Rattle.ab_kernel.specs.declared.node.ProofNode.{ProofNode}
-use Rattle.ab_kernel.specs.declared.proving.Refinement.{Refinement}
+use Rattle.ab_kernel.specs.declared.proof.Refinement.{Refinement}
 use Rattle.ab_kernel.proofs.Filling.{sequent_read}
 use Rattle.ab_theory.proofs.Rooted.{still_sequent, open_are_sequents}
 use Rattle.ab_kernel.proofs.Standing.{reads_now, leads}
 use Rattle.ab_kernel.proofs.Taking.{goal_taken}
-use Rattle.ab_rules.proofs.NewNumbers.{over_cells}
+use Rattle.ab_kernel.proofs.NewNumbers.{over_cells}
 use Rattle.ab_theory.proofs.OneAnswer.{NamesOnce, never_both, one_failure, any_names, names_by_hint, taken_or_stuck, refused_or_stuck, one_equation}
 use Rattle.ab_kernel.proofs.Later.{same_step, still_step, still_proof, same_history}
 use Rattle.ab_theory.proofs.Refining.{root-refined, Valid-refined, still_valid}

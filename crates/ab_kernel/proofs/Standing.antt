@@ -8,12 +8,12 @@ use Rattle.std.proofs.Math.Seq.{take-suc}
 use Rattle.ab_theory.specs.Steps.{Step}
 use Rattle.ab_kernel.specs.Layout.{StepAt, numbers_down, sequents_before, premises_of, made_by, Reads, start_of, open_before, Stands}
 use Rattle.std.specs.Option.{option_map}
-use Rattle.ab_rules.specs.ab_logic.specs.declared.world.World.{World}
-use Rattle.ab_rules.specs.ab_logic.specs.declared.sequent.Sequent.{Sequent as Kept}
+use Rattle.ab_logic.specs.declared.world.World.{World}
+use Rattle.ab_logic.specs.declared.sequent.Sequent.{Sequent as Kept}
 use Rattle.ab_formulas.specs.Sequents.{Sequent}
-use Rattle.ab_rules.specs.ab_logic.specs.Readings.{sequent_of}
-use Rattle.ab_rules.specs.declared.step.Step.{Step as KeptStep}
-use Rattle.ab_rules.specs.Answers.{step_of}
+use Rattle.ab_logic.specs.SequentReadings.{sequent_of}
+use Rattle.ab_kernel.specs.declared.step.Step.{Step as KeptStep}
+use Rattle.ab_kernel.specs.RuleAnswers.{step_of}
 use Rattle.ab_formulas.specs.Declarations.{Declarations}
 use Rattle.ab_theory.specs.Rules.{NamedRule}
 use Rattle.ab_theory.specs.Derivations.{Derivation, root, open_goals, refined, History, after, IsStep}

@@ -5,15 +5,15 @@ use Rattle.std.proofs.lemmas.List.{reverse-append, length-map, length-take-le, t
 use Rattle.std.proofs.lemmas.List.Elements.{All-head, All-tail, All-take}
 use Rattle.ab_kernel.specs.Nodes.{sequents_in, node_at, step_held}
 use Rattle.ab_kernel.specs.Layout.{StepAt, steps_in, history_of, IsProof, sequents_before, made_by, Reads, start_of, open_before, Stands, nodes_before}
-use Rattle.ab_rules.specs.ab_logic.specs.declared.world.World.{World}
-use Rattle.ab_rules.specs.ab_logic.specs.declared.sequent.Sequent.{Sequent as Kept}
+use Rattle.ab_logic.specs.declared.world.World.{World}
+use Rattle.ab_logic.specs.declared.sequent.Sequent.{Sequent as Kept}
 use Rattle.ab_formulas.specs.Sequents.{Sequent, IsSequent}
-use Rattle.ab_rules.specs.ab_logic.specs.Readings.{sequent_of, HoldsSequent}
-use Rattle.ab_rules.specs.Answers.{HoldsStep}
-use Rattle.ab_rules.specs.ab_logic.specs.Worlds.{declarations_of}
+use Rattle.ab_logic.specs.SequentReadings.{sequent_of, HoldsSequent}
+use Rattle.ab_kernel.specs.RuleAnswers.{HoldsStep}
+use Rattle.ab_logic.specs.Worlds.{declarations_of}
 use Rattle.ab_theory.specs.Derivations.{root, Valid, open_goals, History, undone}
 use Rattle.ab_kernel.specs.declared.node.ProofNode.{ProofNode}
-use Rattle.ab_kernel.specs.declared.proving.Refinement.{Refinement}
+use Rattle.ab_kernel.specs.declared.proof.Refinement.{Refinement}
 use Rattle.ab_kernel.proofs.Filling.{sequents-before, each_within, in_middle}
 use Rattle.ab_formulas.proofs.KernelSplits.{get_still}
 use Rattle.ab_kernel.proofs.Standing.{reads_now, as_many}

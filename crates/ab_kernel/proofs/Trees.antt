@@ -5,16 +5,16 @@ use Rattle.std.proofs.Common.{◌≡◌, ◌≢◌, ℕ, zero, suc, ◌+◌, ◌
 use Rattle.std.proofs.lemmas.List.{length-map, reverse-append, length-reverse, length-take-le, get_or-set_other, get_or_append_left, length-set}
 use Rattle.std.proofs.lemmas.Option.{get_or_from_slice_get}
 use Rattle.ab_formulas.specs.Sequents.{Sequent}
-use Rattle.ab_rules.specs.ab_logic.specs.Readings.{sequent_of}
-use Rattle.ab_rules.specs.ab_logic.specs.declared.world.World.{World}
-use Rattle.ab_rules.specs.ab_logic.specs.declared.sequent.Sequent.{Sequent as Kept}
+use Rattle.ab_logic.specs.SequentReadings.{sequent_of}
+use Rattle.ab_logic.specs.declared.world.World.{World}
+use Rattle.ab_logic.specs.declared.sequent.Sequent.{Sequent as Kept}
 use Rattle.ab_theory.specs.Steps.{Step}
-use Rattle.ab_rules.specs.Answers.{step_of}
+use Rattle.ab_kernel.specs.RuleAnswers.{step_of}
 use Rattle.ab_kernel.specs.declared.node.ProofNode.{ProofNode}
 use Rattle.ab_kernel.specs.Nodes.{open_node, IsClear, no_node, node_at, numbers_up}
 use Rattle.ab_theory.specs.Derivations.{Derivation, goal, by, Derivations, none, more, open_goals, all_open_goals, goals, refined, refined_in}
 use Rattle.ab_kernel.specs.Layout.{numbers_down, Differs, AreDistinct}
-use Rattle.ab_kernel.specs.Reading.{IsNode, StandsFor, StandFor, leaves, all_leaves, Tree}
+use Rattle.ab_kernel.specs.NodeTrees.{IsNode, StandsFor, StandFor, leaves, all_leaves, Tree}
 use Rattle.ab_formulas.proofs.KernelSplits.{At, place_cases, get_here, at_reversed}
 use Rattle.ab_kernel.proofs.Filling.{filled, differs_parts, differs_join, distinct_parts}
 use Rattle.ab_theory.proofs.Refining.{here, there}

@@ -4,17 +4,17 @@ use Rattle.std.specs.Prelude.{◌≡◌, ℕ, zero, suc, ◌+◌, ◌-◌, ◌�
 use Rattle.std.specs.List.{All}
 use Rattle.ab_term.specs.Terms.{spine, index, no_terms}
 use Rattle.ab_formulas.specs.Sequents.{Sequent, IsSequent}
-use Rattle.ab_rules.specs.ab_logic.specs.Readings.{sequent_of, HoldsSequent}
-use Rattle.ab_rules.specs.ab_logic.specs.Worlds.{declarations_of}
-use Rattle.ab_rules.specs.ab_logic.specs.declared.world.World.{World}
-use Rattle.ab_rules.specs.declared.step.Step.{Step}
+use Rattle.ab_logic.specs.SequentReadings.{sequent_of, HoldsSequent}
+use Rattle.ab_logic.specs.Worlds.{declarations_of}
+use Rattle.ab_logic.specs.declared.world.World.{World}
+use Rattle.ab_kernel.specs.declared.step.Step.{Step}
 use Rattle.ab_kernel.specs.declared.node.ProofNode.{ProofNode}
-use Rattle.ab_kernel.specs.declared.proving.Refinement.{Refinement}
+use Rattle.ab_kernel.specs.declared.proof.Refinement.{Refinement}
 use Rattle.ab_kernel.specs.Nodes.{cleared, IsClear, sequents_in, node_at, step_held}
-use Rattle.ab_kernel.specs.declared.proving.Proof.TheInside.{Inside}
-use Rattle.ab_rules.specs.Answers.{step_of, HoldsStep}
+use Rattle.ab_kernel.specs.declared.proof.Proof.TheInside.{Inside}
+use Rattle.ab_kernel.specs.RuleAnswers.{step_of, HoldsStep}
 use Rattle.ab_theory.specs.Derivations.{Derivation, root, Valid, open_goals, History, beginning, after, proves}
-use Rattle.ab_kernel.specs.Reading.{Tree}
+use Rattle.ab_kernel.specs.NodeTrees.{Tree}
 
 -- what contracts see of a proof: its nodes, the root first, and the steps that stand, the latest first
 pub record Held : Type 0 where

@@ -1,18 +1,9 @@
--- Derivations with open goals, when they are valid, when one derives a formula, and what a proof stands for.
+-- THE KERNEL: the rules on shared terms, and derivations with open goals.
+-- What the function of a rule answers, by the rule's row in `ab_theory`.
+pub mod RuleAnswers
+pub mod Terms
+pub mod UsedNumbers
+-- What a proof stands for: its nodes, and how its fields hold them.
 pub mod Nodes
-pub mod Reading
+pub mod NodeTrees
 pub mod Layout
--- Libraries that the crates above name through this one.
-pub use Rattle.ab_rules.specs.ab_solve
-pub use Rattle.ab_rules.specs.ab_cases
-pub use Rattle.ab_rules.specs.ab_types
-pub use Rattle.ab_rules.specs.ab_store
-pub use Rattle.ab_rules.specs.ab_norm
-pub use Rattle.ab_rules.specs.ab_logic
-pub use Rattle.ab_rules.specs.ab_unifying
-pub use Rattle.ab_rules.specs.ab_naming
-pub use Rattle.ab_rules.specs.ab_marks
-pub use Rattle.ab_rules.specs.ab_instances
-pub use Rattle.ab_rules.specs.ab_equate
-pub use Rattle.ab_rules.specs.ab_alternatives
-pub use Rattle.ab_rules

@@ -1,10 +1,10 @@
 //! Laws of derivations, which no other contract carries.
 ghost use Rattle.std.specs.Prelude.{◌≡◌, All};
 ghost use Rattle.ab_formulas.specs.Declarations.{Declarations, HaveSentences, HaveDefinitions};
-ghost use Rattle.ab_rules.specs.ab_logic.specs.Worlds.{declarations_of, IsWorld};
-ghost use Rattle.ab_rules.specs.ab_logic.specs.Growth.{Grows};
+ghost use Rattle.ab_logic.specs.Worlds.{declarations_of, IsWorld};
+ghost use Rattle.ab_logic.specs.WorldGrowth.{Grows};
 ghost use Rattle.ab_formulas.specs.Sequents.{IsSequent};
-ghost use Rattle.ab_rules.specs.ab_logic.specs.declared.world.World.{World};
+ghost use Rattle.ab_logic.specs.declared.world.World.{World};
 ghost use Rattle.ab_theory.specs.Derivations.{Derivation, root, Valid, open_goals};
 ghost use Rattle.ab_kernel.specs.Layout.{Held, IsProof, history_of};
 

@@ -1,12 +1,27 @@
-//! The kernel: derivations with open goals, which are made here, by the rules, and nowhere else.
+//! The kernel: the rules as functions, and derivations with open goals, which are made here and nowhere else.
 #![tactic(auto)]
 
-pub mod below;
+mod closing_rules;
+mod definition_rules;
+mod eigenvariables;
+mod equality_rules;
+mod goal_numbers;
 pub mod laws;
+mod left_rules;
+mod nabla_constants;
 mod node;
-mod places;
-mod proving;
+mod premise_lists;
+mod proof;
+mod questions;
+mod replaces;
+mod right_rules;
+mod rule_table;
+mod rule_terms;
+mod size_rules;
+mod step;
+mod term_fit;
+mod witness_rules;
 
-pub use ab_rules::{KernelFault, Label, Replace, Replaces, Step};
 pub use node::{Children, ProofNode};
-pub use proving::{Proof, Refinement};
+pub use proof::{Proof, Refinement};
+pub use step::{KernelFault, Step};

@@ -2,8 +2,8 @@
 ghost use Rattle.std.specs.Prelude.{◌≡◌, ◌+◌, ◌^◌, ◌<◌, ◌++◌, IfOk, OnOk, OnErr, map, length, Some, None, [], vec_len, slice_set};
 ghost use Rattle.ab_kernel.specs.Nodes.{cleared, open_node, node_at, numbers_up};
 
-use ab_rules::Step;
-use ab_rules::below::logic::Sequent;
+use crate::step::Step;
+use ab_logic::Sequent;
 use std::alloc::{AllocError, Global};
 use std::marker::Model;
 

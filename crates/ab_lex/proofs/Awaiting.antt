@@ -6,8 +6,8 @@ use Rattle.ab_lex.specs.declared.scanner.Mode.TheVariants.{Plain}
 use Rattle.ab_lex.specs.declared.scanner.Scan.{Scan}
 use Rattle.ab_lex.specs.Scanner.{behind, fresh, blank_from}
 use Rattle.ab_lex.specs.Commands.{CommandAt, Item}
-use Rattle.ab_lex.specs.Pending.{Pending, ItemsBehind, no_end, an_end, ItemsFrom, Awaits, SameItems, NextItem, SameRest}
-use Rattle.ab_lex.specs.Kept.{bytes_before, view_of, IsReached}
+use Rattle.ab_lex.specs.PendingText.{Pending, ItemsBehind, no_end, an_end, ItemsFrom, Awaits, SameItems, NextItem, SameRest}
+use Rattle.ab_lex.specs.SplitterFields.{bytes_before, view_of, IsReached}
 use Rattle.ab_lex.proofs.Found.{items_within, items_behind}
 use Rattle.ab_lex.proofs.Unique.{found}
 use Rattle.ab_lex.proofs.Exists.{exists}

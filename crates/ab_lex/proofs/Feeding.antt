@@ -3,7 +3,7 @@ use Rattle.std.proofs.Common.{◌≡◌, ◌+◌, ◌-◌, ◌^◌, ◌≤◌, �
 use Rattle.std.proofs.lemmas.List.{length-drop, length-append, drop-drop, drop-append-le, take-append-le}
 use Rattle.ab_lex.specs.declared.scanner.Scan.{Scan}
 use Rattle.ab_lex.specs.Scanner.{depth}
-use Rattle.ab_lex.specs.Kept.{IsKept}
+use Rattle.ab_lex.specs.SplitterFields.{IsKept}
 
 module _ (buffer : List ℕ) (start dropped : ℕ) (piece : List ℕ) (given : dropped ≤ start) (fits : start ≤ length buffer) where
   -- the bytes to come are those from before, and then the piece

@@ -6,7 +6,7 @@ use Rattle.ab_lex.specs.declared.scanner.Mode.TheVariants.{Plain, Slash, Line, Q
 use Rattle.ab_lex.specs.declared.scanner.Scan.{Scan}
 use Rattle.ab_lex.specs.Units.{newline, quote, percent, star, slash}
 use Rattle.ab_lex.specs.Scanner.{from_block, closed, step, behind, keeps_blank, fresh, after_byte, run, blank_from}
-use Rattle.ab_lex.specs.Kept.{open_comments, bytes_to, letter_unless, bytes_before, is_quoted, IsReached}
+use Rattle.ab_lex.specs.SplitterFields.{open_comments, bytes_to, letter_unless, bytes_before, is_quoted, IsReached}
 use Rattle.ab_lex.proofs.Items.{behind_on, run_append}
 use Rattle.ab_lex.proofs.Blanks.{blank_on}
 

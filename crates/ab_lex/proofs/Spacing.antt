@@ -11,7 +11,7 @@ use Rattle.ab_lex.specs.declared.token.Token.{Token}
 use Rattle.ab_lex.specs.Units.{newline, is_blank, percent, slash, star, Opens, OpensNothing, StringEnds, GapAt, blank, line_comment, block_comment}
 use Rattle.ab_lex.specs.Tokens.{IsWordTail, ends, byte, joined, IsWord, alone, letters, IsNumber, last_digit, digit, signs, OpensNowhere, HasForm, IsToken, TokenAt, token_at, TokensFrom, no_more, gap, token}
 use Rattle.ab_lex.specs.Reader.{begins_star, tail_size, is_single, is_pair, single_size, short_size, sign_size}
-use Rattle.ab_lex.specs.Spacing.{Lexeme, lexeme, lexemes, Spaced, empty, gap as spaced_gap, last, next, Spells}
+use Rattle.ab_lex.specs.Blanks.{Lexeme, lexeme, lexemes, Spaced, empty, gap as spaced_gap, last, next, Spells}
 use Rattle.ab_lex.proofs.FirstByte.{contains_cases, contains_passes, first_kind, some_bytes}
 use Rattle.ab_lex.proofs.Words.{goes_on, joins}
 use Rattle.ab_lex.proofs.Signs.{has_size, all_sized, pair_in, sign_longest}

@@ -6,7 +6,7 @@ use Rattle.ab_lex.specs.declared.scanner.Mode.TheVariants.{Plain}
 use Rattle.ab_lex.specs.declared.TheConstants.{COMMAND_LIMIT}
 use Rattle.ab_lex.specs.Scanner.{behind, run, fresh, depth, blank_from}
 use Rattle.ab_lex.specs.Commands.{Item, command, long}
-use Rattle.ab_lex.specs.Kept.{IsReached, IsKept}
+use Rattle.ab_lex.specs.SplitterFields.{IsReached, IsKept}
 use Rattle.ab_lex.proofs.Found.{items_within, items_behind}
 use Rattle.ab_lex.proofs.Items.{behind_on, run_append, items_whole, items_long, items_short, items_long_rest, long_ends, long_goes_on}
 use Rattle.ab_lex.proofs.Blanks.{blank_on, blank_ends}

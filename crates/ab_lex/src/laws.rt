@@ -4,9 +4,9 @@ ghost use Rattle.std.specs.Prelude.{◌≡◌, ◌≤◌, ◌∷◌, ◌++◌, �
 ghost use Rattle.std.specs.Str.{IsAscii};
 ghost use Rattle.ab_lex.specs.Units.{Units, UnitRow};
 ghost use Rattle.ab_lex.specs.Commands.{Splits, Item, ItemsWithin, HasBlankRest, GoesOn};
-ghost use Rattle.ab_lex.specs.Pending.{Pending, Awaits};
+ghost use Rattle.ab_lex.specs.PendingText.{Pending, Awaits};
 ghost use Rattle.ab_lex.specs.Tokens.{IsWord, IsNumber, signs, TokensOf, FaultOf, place_of, BeginsAt, HasReading};
-ghost use Rattle.ab_lex.specs.Spacing.{Lexeme, Spaced, Spells};
+ghost use Rattle.ab_lex.specs.Blanks.{Lexeme, Spaced, Spells};
 ghost use Rattle.ab_lex.specs.declared.token.Token.{Token};
 ghost use Rattle.ab_lex.specs.declared.token.LexFault.{LexFault};
 

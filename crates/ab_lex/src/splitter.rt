@@ -6,7 +6,7 @@
 ghost use Rattle.std.specs.Prelude.{◌≡◌, ◌<◌, ◌≤◌, ◌+◌, ◌++◌, ◌∷◌, [], ◌^◌, ◌↔◌, false, length, drop, List, ℕ, OnOk, OnErr, IsTrue, IsFalse, ◌-◌, vec_capacity};
 ghost use Rattle.ab_lex.specs.Spans.{IsWithin, bytes_at};
 ghost use Rattle.ab_lex.specs.Commands.{HasBlankRest};
-ghost use Rattle.ab_lex.specs.Pending.{Awaits, SameItems, SameRest, Answers};
+ghost use Rattle.ab_lex.specs.PendingText.{Awaits, SameItems, SameRest, Answers};
 
 use crate::COMMAND_LIMIT;
 use crate::scanner::{FRESH, Scan, command_end, ends_blank, open_comments};
@@ -40,11 +40,11 @@ pub struct Splitter {
 }
 
 impl Model for Splitter {
-    ghost use Rattle.ab_lex.specs.Pending.{Pending};
+    ghost use Rattle.ab_lex.specs.PendingText.{Pending};
 
     ghost Value = { Pending };
 
-    ghost use Rattle.ab_lex.specs.Kept.{view_of, IsKept};
+    ghost use Rattle.ab_lex.specs.SplitterFields.{view_of, IsKept};
 
     ghost view = { λ s. view_of s.buffer.items s.start s.scan s.skips };
 

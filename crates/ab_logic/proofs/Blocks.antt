@@ -9,26 +9,26 @@ use Rattle.ab_term.specs.Variables.{value_in}
 use Rattle.ab_term.specs.Sameness.{same_number}
 use Rattle.ab_term.proofs.Unique.{more_typed}
 use Rattle.ab_term.specs.Constants.{Constant}
-use Rattle.ab_clauses.specs.ab_types.specs.Entries.{Table, signature}
-use Rattle.ab_clauses.specs.ab_types.specs.Ids.{HoldsConstant, constant_of}
-use Rattle.ab_clauses.specs.ab_types.specs.declared.ids.ConstId.{ConstId}
-use Rattle.ab_clauses.specs.ab_types.proofs.Entries.{holds_constant, same_constant, same_signature}
-use Rattle.ab_clauses.specs.ab_store.specs.Trees.{Contents}
-use Rattle.ab_clauses.specs.ab_store.specs.declared.node.TermId.{TermId}
-use Rattle.ab_clauses.specs.ab_store.specs.declared.node.CellId.{CellId}
-use Rattle.ab_clauses.specs.ab_cases.specs.Clauses.{numbered, put_together}
-use Rattle.ab_clauses.specs.ab_cases.specs.Prefixes.{own_terms}
-use Rattle.ab_formulas.specs.Kept as kept
-use Rattle.ab_formulas.specs.Cased.{in_terms, cell_of, case_of, IsWellKept}
-use Rattle.ab_clauses.specs.Readings as clauses
-use Rattle.ab_clauses.specs.Readings.{name_of, clause_of, block_of, HoldsClause, HoldsBlock}
+use Rattle.ab_store.specs.ab_types.specs.Entries.{Table, signature}
+use Rattle.ab_store.specs.ab_types.specs.Ids.{HoldsConstant, constant_of}
+use Rattle.ab_store.specs.ab_types.specs.declared.ids.ConstId.{ConstId}
+use Rattle.ab_store.specs.ab_types.proofs.Entries.{holds_constant, same_constant, same_signature}
+use Rattle.ab_store.specs.Trees.{Contents}
+use Rattle.ab_store.specs.declared.node.TermId.{TermId}
+use Rattle.ab_store.specs.declared.node.CellId.{CellId}
+use Rattle.ab_unifiers.specs.Clauses.{numbered, put_together}
+use Rattle.ab_unifiers.specs.Prefixes.{own_terms}
+use Rattle.ab_formulas.specs.Clauses as kept
+use Rattle.ab_formulas.specs.CaseClauses.{in_terms, cell_of, case_of, IsWellKept}
+use Rattle.ab_typing.specs.DefinitionReadings as clauses
+use Rattle.ab_typing.specs.DefinitionReadings.{name_of, clause_of, block_of, HoldsClause, HoldsBlock}
 use Rattle.ab_formulas.specs.Faults.{IsRight, IsRightBlock}
-use Rattle.ab_formulas.specs.Proposed.{IsProposed}
+use Rattle.ab_formulas.specs.ProposedClauses.{IsProposed}
 use Rattle.ab_formulas.proofs.Proposing.{well_kept}
-use Rattle.ab_clauses.specs.declared.kept.Block.{Block as KeptBlock}
-use Rattle.ab_clauses.specs.declared.kept.ClauseTerm.{ClauseTerm}
+use Rattle.ab_typing.specs.declared.definitions.Block.{Block as KeptBlock}
+use Rattle.ab_typing.specs.declared.definitions.ClauseTerm.{ClauseTerm}
 use Rattle.ab_formulas.proofs.ClausesCased.{is_clause}
-use Rattle.ab_clauses.proofs.Names.{same_search}
+use Rattle.ab_typing.proofs.Names.{same_search}
 use Rattle.ab_formulas.specs.Formulas.{a_formula, IsFormula}
 use Rattle.ab_formulas.specs.Declarations.{Declarations, a_block, a_theorem, block_in, IsDefining}
 use Rattle.ab_logic.specs.Additions.{block_or, block_kept, is_among}

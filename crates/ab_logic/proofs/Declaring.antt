@@ -4,9 +4,9 @@ use Rattle.std.specs.List.{All, list_any}
 use Rattle.std.proofs.Common.{◌≡◌, ℕ, ◌+◌, ◌-◌, ◌≤◌, Bool, true, false, if◌then◌else◌, Option, Some, None, List, [], ◌∷◌, ◌++◌, length, map, take, drop, bytes_eq, refl, sym, ◌∙◌, ap, subst, arith, append_assoc, append-nil, length-drop, length-append}
 use Rattle.std.proofs.lemmas.List.{take_all, take-append-le, drop-append-le, take-append-drop, drop-drop}
 use Rattle.std.proofs.lemmas.List.Elements.{All-head, All-tail, All-weaker}
-use Rattle.ab_clauses.specs.ab_types.specs.Entries as table
-use Rattle.ab_clauses.specs.ab_types.specs.Entries.{Table}
-use Rattle.ab_clauses.specs.ab_types.proofs.Entries.{constants-append}
+use Rattle.ab_store.specs.ab_types.specs.Entries as table
+use Rattle.ab_store.specs.ab_types.specs.Entries.{Table}
+use Rattle.ab_store.specs.ab_types.proofs.Entries.{constants-append}
 use Rattle.ab_term.specs.Terms.{Read}
 use Rattle.ab_formulas.specs.Declarations.{Declarations, a_kind, a_constant, constants_in, theorem_in, theorems_in, block_in, HaveSentences, HaveDefinitions}
 use Rattle.ab_logic.specs.Additions.{entry_or, entry_in, entries_with, entries_of}

@@ -2,26 +2,26 @@
 use Rattle.std.specs.List.{All}
 use Rattle.std.proofs.Common.{◌≡◌, ℕ, arith, List, [], ◌∷◌, ◌++◌, map, length, refl, sym, ◌∙◌, ap, subst, append_assoc, append-nil}
 use Rattle.std.proofs.lemmas.List.Elements.{All-nil, All-head, All-tail, All-weaker, All-push}
-use Rattle.ab_clauses.specs.ab_types.specs.Entries as table
-use Rattle.ab_clauses.specs.ab_types.specs.Entries.{Table, signature}
-use Rattle.ab_clauses.specs.ab_types.specs.Ids.{type_of}
-use Rattle.ab_clauses.specs.ab_types.proofs.Entries.{same_type}
-use Rattle.ab_clauses.specs.ab_store.specs.declared.node.TermId.{TermId}
-use Rattle.ab_clauses.specs.ab_store.specs.declared.node.CellId.{CellId}
-use Rattle.ab_clauses.specs.ab_store.specs.declared.node.CellEntry.{CellEntry}
-use Rattle.ab_clauses.specs.ab_store.specs.declared.mark.Mark.{Mark}
-use Rattle.ab_clauses.specs.ab_store.specs.Marks.{HasMark, KeepsMark}
-use Rattle.ab_clauses.specs.ab_store.specs.Trees.{Contents, cell_of}
-use Rattle.ab_clauses.specs.ab_store.specs.Growth.{IsExtendedBy}
-use Rattle.ab_clauses.specs.ab_store.specs.Naming.{IsTypedBy}
-use Rattle.ab_clauses.specs.ab_store.proofs.Marking.{kept_itself, kept_on}
-use Rattle.ab_clauses.specs.ab_store.proofs.Tables.{same_tree, still_typed}
-use Rattle.ab_clauses.specs.declared.kept.Block.{Block}
+use Rattle.ab_store.specs.ab_types.specs.Entries as table
+use Rattle.ab_store.specs.ab_types.specs.Entries.{Table, signature}
+use Rattle.ab_store.specs.ab_types.specs.Ids.{type_of}
+use Rattle.ab_store.specs.ab_types.proofs.Entries.{same_type}
+use Rattle.ab_store.specs.declared.node.TermId.{TermId}
+use Rattle.ab_store.specs.declared.node.CellId.{CellId}
+use Rattle.ab_store.specs.declared.node.CellEntry.{CellEntry}
+use Rattle.ab_store.specs.declared.mark.Mark.{Mark}
+use Rattle.ab_store.specs.Marks.{HasMark, KeepsMark}
+use Rattle.ab_store.specs.Trees.{Contents, cell_of}
+use Rattle.ab_store.specs.Growth.{IsExtendedBy}
+use Rattle.ab_store.specs.Naming.{IsTypedBy}
+use Rattle.ab_store.proofs.Marking.{kept_itself, kept_on}
+use Rattle.ab_store.proofs.Tables.{same_tree, still_typed}
+use Rattle.ab_typing.specs.declared.definitions.Block.{Block}
 use Rattle.ab_formulas.specs.Declarations.{signature_in, IsDefining, HaveSentences, HaveDefinitions}
 use Rattle.ab_formulas.specs.Formulas.{IsSentence}
 use Rattle.ab_logic.specs.Worlds.{read, Holds, HoldsCell, variable_of, declared, definition_of, declaration_of, declared_from, declarations_of, IsKeptBlock, IsKept, IsWorld}
-use Rattle.ab_logic.specs.Readings.{hypothesis_of, sequent_of, HoldsSequent}
-use Rattle.ab_logic.specs.Growth.{Grows}
+use Rattle.ab_logic.specs.SequentReadings.{hypothesis_of, sequent_of, HoldsSequent}
+use Rattle.ab_logic.specs.WorldGrowth.{Grows}
 use Rattle.ab_logic.specs.declared.world.World.{World}
 use Rattle.ab_logic.specs.declared.additions.Added.{Added}
 use Rattle.ab_logic.specs.declared.additions.Addition.TheVariants.{Theorem, Definition}

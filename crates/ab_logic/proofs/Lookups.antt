@@ -10,9 +10,9 @@ use Rattle.std.proofs.lemmas.List.{take-append-drop}
 use Rattle.std.proofs.lemmas.List.Elements.{All-head, All-tail}
 use Rattle.indexmap.specs.IndexMap.{IndexMap, insert_entry}
 use Rattle.indexmap.proofs.CallerLemmas.{insert_entry-new}
-use Rattle.ab_clauses.specs.ab_types.specs.declared.ids.ConstId.{ConstId}
-use Rattle.ab_clauses.specs.ab_store.specs.declared.node.TermId.{TermId}
-use Rattle.ab_clauses.specs.declared.kept.Block.{Block}
+use Rattle.ab_store.specs.ab_types.specs.declared.ids.ConstId.{ConstId}
+use Rattle.ab_store.specs.declared.node.TermId.{TermId}
+use Rattle.ab_typing.specs.declared.definitions.Block.{Block}
 use Rattle.ab_logic.specs.Additions.{entry_or, entry_in, entries_with, entries_of, same_constant, is_among, block_or, block_kept, as_theorem, as_block, theorem_at_place, block_at_place, places_with, places_from, IsFiled}
 use Rattle.ab_logic.specs.declared.additions.Added.{Added}
 use Rattle.ab_logic.specs.declared.additions.Addition.{Addition}

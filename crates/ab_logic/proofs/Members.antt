@@ -7,22 +7,22 @@ use Rattle.ab_term.specs.Terms.{Variable, constant, spine, terms_of, Read}
 use Rattle.ab_term.specs.Typing.{typed_spine, take_none, take_term}
 use Rattle.ab_term.specs.Sameness.{same_numbered}
 use Rattle.ab_term.specs.Constants.{names}
-use Rattle.ab_clauses.specs.ab_types.specs.Entries.{Table, constants, signature, first_entries}
-use Rattle.ab_clauses.specs.ab_types.specs.Ids.{type_of}
-use Rattle.ab_clauses.specs.ab_types.specs.declared.ids.ConstId.{ConstId}
-use Rattle.ab_clauses.specs.ab_types.specs.declared.ids.TypeId.{TypeId}
-use Rattle.ab_clauses.specs.ab_store.specs.Trees.{Contents, HoldsCell, tree_of}
-use Rattle.ab_clauses.specs.ab_store.specs.Growth.{IsExtendedBy}
-use Rattle.ab_clauses.specs.ab_store.specs.declared.node.TermId.{TermId}
-use Rattle.ab_clauses.specs.ab_store.specs.declared.node.CellId.{CellId}
-use Rattle.ab_clauses.specs.ab_store.specs.declared.node.CellEntry.{CellEntry}
-use Rattle.ab_clauses.specs.ab_cases.specs.Member.{clause_variable, member_first, member_later}
-use Rattle.ab_formulas.specs.Kept.{Clause}
-use Rattle.ab_clauses.specs.Readings.{name_of, variable_of, clause_of, HoldsClause}
-use Rattle.ab_clauses.specs.declared.kept.ClauseTerm.{ClauseTerm}
-use Rattle.ab_formulas.specs.Cased.{case_of, IsWellKept}
+use Rattle.ab_store.specs.ab_types.specs.Entries.{Table, constants, signature, first_entries}
+use Rattle.ab_store.specs.ab_types.specs.Ids.{type_of}
+use Rattle.ab_store.specs.ab_types.specs.declared.ids.ConstId.{ConstId}
+use Rattle.ab_store.specs.ab_types.specs.declared.ids.TypeId.{TypeId}
+use Rattle.ab_store.specs.Trees.{Contents, HoldsCell, tree_of}
+use Rattle.ab_store.specs.Growth.{IsExtendedBy}
+use Rattle.ab_store.specs.declared.node.TermId.{TermId}
+use Rattle.ab_store.specs.declared.node.CellId.{CellId}
+use Rattle.ab_store.specs.declared.node.CellEntry.{CellEntry}
+use Rattle.ab_unifiers.specs.Member.{clause_variable, member_first, member_later}
+use Rattle.ab_formulas.specs.Clauses.{Clause}
+use Rattle.ab_typing.specs.DefinitionReadings.{name_of, variable_of, clause_of, HoldsClause}
+use Rattle.ab_typing.specs.declared.definitions.ClauseTerm.{ClauseTerm}
+use Rattle.ab_formulas.specs.CaseClauses.{case_of, IsWellKept}
 use Rattle.ab_formulas.specs.Formulas.{IsFormula}
-use Rattle.ab_logic.specs.Built.{kept_first, kept_later}
+use Rattle.ab_logic.specs.MemberDefinition.{kept_first, kept_later}
 use Rattle.ab_logic.specs.Worlds.{IsKeptClause}
 use Rattle.ab_logic.proofs.Blocks.{same_clause}
 

@@ -6,7 +6,7 @@ use Rattle.std.proofs.lemmas.List.{map_more, map-append, append-nil}
 use Rattle.std.proofs.lemmas.List.Elements.{All-push}
 use Rattle.ab_logic.specs.Worlds.{Holds}
 use Rattle.ab_formulas.specs.Sequents.{Hypothesis, others}
-use Rattle.ab_logic.specs.Readings.{hypothesis_of}
+use Rattle.ab_logic.specs.SequentReadings.{hypothesis_of}
 use Rattle.ab_logic.specs.declared.world.World.{World}
 use Rattle.ab_logic.specs.declared.sequent.Hypothesis.{Hypothesis as Kept}
 

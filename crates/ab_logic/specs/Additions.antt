@@ -1,9 +1,9 @@
--- How what was added to a world is kept. Public contracts don't speak of this.
+-- How what was added to a world is kept.
 use Rattle.std.specs.Prelude.{◌≡◌, ℕ, suc, ◌==◌, Bool, List, [], ◌∷◌, Option, Some, None, if◌then◌else◌, bytes_eq, slice_get}
 use Rattle.std.specs.Option.{option_and_then}
 use Rattle.std.specs.List.{list_any}
-use Rattle.ab_clauses.specs.ab_types.specs.declared.ids.ConstId.{ConstId}
-use Rattle.ab_clauses.specs.declared.kept.Block.{Block}
+use Rattle.ab_store.specs.ab_types.specs.declared.ids.ConstId.{ConstId}
+use Rattle.ab_typing.specs.declared.definitions.Block.{Block}
 use Rattle.ab_logic.specs.declared.additions.TheoremEntry.{TheoremEntry}
 use Rattle.ab_logic.specs.declared.additions.Addition.{Addition}
 use Rattle.ab_logic.specs.declared.additions.Addition.TheVariants.{Theorem, Definition}

@@ -5,14 +5,14 @@ use Rattle.ab_term.specs.Terms.{Read}
 use Rattle.ab_formulas.specs.Marks as marks
 use Rattle.ab_formulas.specs.Marks.{Sign, star_of, at_of, plus_of, hash_of}
 use Rattle.ab_logic.specs.Worlds.{read, Holds}
-use Rattle.ab_clauses.specs.ab_store.specs.declared.node.TermId.{TermId}
-use Rattle.ab_clauses.specs.ab_types.specs.declared.ids.TypeId.{TypeId}
+use Rattle.ab_store.specs.declared.node.TermId.{TermId}
+use Rattle.ab_store.specs.ab_types.specs.declared.ids.TypeId.{TypeId}
 use Rattle.ab_logic.specs.declared.world.World.{World}
 use Rattle.ab_logic.specs.declared.form.Form.{Form as Kept}
 use Rattle.ab_logic.specs.declared.form.Form.TheVariants.{True, False, And, Or, Arrow, Equal, Forall, Exists, Nabla, Marked, Other}
 use Rattle.ab_logic.specs.declared.marks.Sign.{Sign as KeptSign}
 use Rattle.ab_logic.specs.declared.marks.Sign.TheVariants.{Plain, Star, At, Plus, Hash}
-use Rattle.ab_clauses.specs.ab_types.specs.Ids.{type_of, HoldsType}
+use Rattle.ab_store.specs.ab_types.specs.Ids.{type_of, HoldsType}
 pub use Rattle.ab_formulas.specs.Forms.{Form, truth, falsity, both, either, implies, equal, for_all, exists, nabla, marked, other, form_alone, form_with, form_between, form_given, form_headed, form_of, truth_in, falsity_in, both_in, either_in, implies_in, equal_in, for_all_in, exists_in, nabla_in, as_truth, as_falsity, as_both, as_either, as_implies, as_equal, as_for_all, as_exists, as_nabla}
 
 -- the mark that the program's stands for

@@ -1,20 +1,20 @@
 -- What a world stands for: what its ids read as, and the declarations in it.
 use Rattle.std.specs.Prelude.{◌≡◌, ℕ, ◌-◌, ◌≤◌, List, [], ◌∷◌, ◌++◌, map, length, take, drop, codes, true, All}
-use Rattle.ab_clauses.specs.ab_types.specs.Ids.{type_of, HoldsConstant}
-use Rattle.ab_clauses.specs.ab_types.specs.Entries as table
-use Rattle.ab_clauses.specs.ab_types.specs.Entries.{Table, signature, first_entries}
-use Rattle.ab_clauses.specs.ab_store.specs.declared.node.TermId.{TermId}
-use Rattle.ab_clauses.specs.ab_store.specs.declared.node.CellId.{CellId}
-use Rattle.ab_clauses.specs.ab_store.specs.Trees as store
+use Rattle.ab_store.specs.ab_types.specs.Ids.{type_of, HoldsConstant}
+use Rattle.ab_store.specs.ab_types.specs.Entries as table
+use Rattle.ab_store.specs.ab_types.specs.Entries.{Table, signature, first_entries}
+use Rattle.ab_store.specs.declared.node.TermId.{TermId}
+use Rattle.ab_store.specs.declared.node.CellId.{CellId}
+use Rattle.ab_store.specs.Trees as store
 use Rattle.ab_term.specs.Terms.{Read}
-use Rattle.ab_clauses.specs.ab_store.specs.Trees.{Contents, tree_of}
-use Rattle.ab_clauses.specs.ab_store.specs.Naming.{IsTypedBy}
-use Rattle.ab_clauses.specs.ab_cases.specs.Member.{member_clauses}
-use Rattle.ab_formulas.specs.Kept as kept
-use Rattle.ab_formulas.specs.Cased.{case_of, IsWellKept}
-use Rattle.ab_clauses.specs.Readings.{clause_of, block_of, HoldsClause}
-use Rattle.ab_clauses.specs.declared.kept.Block.{Block as KeptBlock}
-use Rattle.ab_clauses.specs.declared.kept.ClauseTerm.{ClauseTerm}
+use Rattle.ab_store.specs.Trees.{Contents, tree_of}
+use Rattle.ab_store.specs.Naming.{IsTypedBy}
+use Rattle.ab_unifiers.specs.Member.{member_clauses}
+use Rattle.ab_formulas.specs.Clauses as kept
+use Rattle.ab_formulas.specs.CaseClauses.{case_of, IsWellKept}
+use Rattle.ab_typing.specs.DefinitionReadings.{clause_of, block_of, HoldsClause}
+use Rattle.ab_typing.specs.declared.definitions.Block.{Block as KeptBlock}
+use Rattle.ab_typing.specs.declared.definitions.ClauseTerm.{ClauseTerm}
 use Rattle.ab_formulas.specs.Formulas.{IsFormula}
 use Rattle.ab_formulas.specs.Declarations.{Declaration, Declarations, Block, a_kind, a_constant, a_block, a_theorem, HaveSentences, HaveDefinitions}
 use Rattle.ab_formulas.specs.Sequents.{Variable}

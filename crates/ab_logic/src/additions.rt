@@ -5,9 +5,10 @@ ghost use Rattle.std.specs.Option.{option_map, option_copied};
 ghost use Rattle.ab_logic.specs.Additions.{same_constant, is_among, as_theorem, as_block, theorem_at_place, block_at_place, entry_in, entries_of, block_kept};
 ghost use Rattle.ab_logic.specs.declared.additions.Addition.TheVariants.{Theorem, Definition};
 
-use ab_clauses::Block;
-use ab_clauses::below::store::TermId;
-use ab_clauses::below::types::{ConstId, Name};
+use ab_store::TermId;
+use ab_store::name::Name;
+use ab_store::types::ConstId;
+use ab_typing::Block;
 use indexmap::IndexMap;
 use std::alloc::{AllocError, Global};
 use std::collections::HashMap;

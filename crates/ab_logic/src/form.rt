@@ -5,13 +5,13 @@ ghost use Rattle.ab_logic.specs.Worlds.{Holds, IsWorld, read};
 ghost use Rattle.ab_formulas.specs.Forms.{form_of, as_truth, as_falsity, falsity_in, as_both, as_either, as_implies, as_equal, as_for_all, as_exists, as_nabla, truth_in, both_in, either_in, implies_in, equal_in, for_all_in, exists_in, nabla_in, form_alone, form_with, form_between};
 ghost use Rattle.ab_logic.specs.Forms.{form_read, HoldsForm, parts_read, HoldsParts, binder_read, HoldsBinder, FormIsTyped, BinderIsTyped};
 ghost use Rattle.ab_logic.specs.declared.world.World.{World as AWorld};
-ghost use Rattle.ab_clauses.specs.ab_store.specs.Trees.{logical_of};
-ghost use Rattle.ab_clauses.specs.ab_store.specs.Naming.{LogicalIsTyped};
+ghost use Rattle.ab_store.specs.Trees.{logical_of};
+ghost use Rattle.ab_store.specs.Naming.{LogicalIsTyped};
 
 use crate::marks::Sign;
 use crate::world::World;
-use ab_clauses::below::store::{Head, Logical, Node, TermId};
-use ab_clauses::below::types::TypeId;
+use ab_store::types::TypeId;
+use ab_store::{Head, Logical, Node, TermId};
 
 /// A formula, seen by its outermost constant.
 #[derive(Clone, Copy)]

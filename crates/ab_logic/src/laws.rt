@@ -1,7 +1,7 @@
 //! Laws of worlds.
 ghost use Rattle.std.specs.Prelude.{◌≡◌};
-ghost use Rattle.ab_clauses.specs.ab_store.specs.declared.node.TermId.{TermId as AnId};
-ghost use Rattle.ab_clauses.specs.ab_store.specs.Reading.{reading};
+ghost use Rattle.ab_store.specs.declared.node.TermId.{TermId as AnId};
+ghost use Rattle.ab_store.specs.Reading.{reading};
 ghost use Rattle.ab_logic.specs.Worlds.{IsWorld, read};
 ghost use Rattle.ab_logic.specs.declared.world.World.{World as AWorld};
 

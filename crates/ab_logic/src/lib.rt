@@ -2,7 +2,6 @@
 #![tactic(auto)]
 
 mod additions;
-pub mod below;
 mod form;
 pub mod laws;
 mod lists;

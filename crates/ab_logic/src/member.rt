@@ -1,19 +1,20 @@
 //! The definition of `member`, which is built in.
 ghost use Rattle.std.specs.Prelude.{◌≡◌, ◌+◌, [], ◌∷◌, length, codes, IfOk, OnOk};
 ghost use Rattle.ab_term.specs.Terms.{constant, spine, terms_of};
-ghost use Rattle.ab_clauses.specs.ab_types.specs.Entries.{Table, first_entries};
-ghost use Rattle.ab_clauses.specs.ab_types.specs.Ids.{HoldsType, HoldsConstant, type_of};
-ghost use Rattle.ab_clauses.specs.ab_store.specs.Trees.{Holds, HoldsCell, tree_of};
-ghost use Rattle.ab_clauses.specs.ab_store.specs.Growth.{IsExtendedBy};
-ghost use Rattle.ab_clauses.specs.ab_store.specs.Naming.{IsTypedBy};
-ghost use Rattle.ab_clauses.specs.ab_cases.specs.Member.{clause_variable};
-ghost use Rattle.ab_clauses.specs.Readings.{name_of, variable_of, clause_of, block_of, HoldsClause};
-ghost use Rattle.ab_logic.specs.Built.{AreWords, kept_first, kept_later};
+ghost use Rattle.ab_store.specs.ab_types.specs.Entries.{Table, first_entries};
+ghost use Rattle.ab_store.specs.ab_types.specs.Ids.{HoldsType, HoldsConstant, type_of};
+ghost use Rattle.ab_store.specs.Trees.{Holds, HoldsCell, tree_of};
+ghost use Rattle.ab_store.specs.Growth.{IsExtendedBy};
+ghost use Rattle.ab_store.specs.Naming.{IsTypedBy};
+ghost use Rattle.ab_unifiers.specs.Member.{clause_variable};
+ghost use Rattle.ab_typing.specs.DefinitionReadings.{name_of, variable_of, clause_of, block_of, HoldsClause};
+ghost use Rattle.ab_logic.specs.MemberDefinition.{AreWords, kept_first, kept_later};
 ghost use Rattle.ab_logic.specs.Worlds.{defined, member_block, IsKeptBlock};
 
-use ab_clauses::below::store::{CellId, Head, Logical, Store, TermId};
-use ab_clauses::below::types::{ConstId, Name, TypeId, TypeTable, TypeView};
-use ab_clauses::{Block, ClauseCells, ClauseTerm, ClauseTerms, Predicates};
+use ab_store::name::Name;
+use ab_store::types::{ConstId, TypeId, TypeTable, TypeView};
+use ab_store::{CellId, Head, Logical, Store, TermId};
+use ab_typing::{Block, ClauseCells, ClauseTerm, ClauseTerms, Predicates};
 use std::alloc::{AllocError, Global};
 
 /// The constants and types that the definition speaks of.

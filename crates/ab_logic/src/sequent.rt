@@ -1,15 +1,15 @@
 //! Sequents over shared terms.
 ghost use Rattle.std.specs.Prelude.{◌≡◌, ◌↔◌, IfOk, IfSome, IsTrue, IsErrOf, Ok, Some, None};
-ghost use Rattle.ab_clauses.specs.ab_store.specs.declared.node.TermId.{TermId};
+ghost use Rattle.ab_store.specs.declared.node.TermId.{TermId};
 ghost use Rattle.std.specs.Option.{option_map};
 ghost use Rattle.ab_logic.specs.Worlds.{Holds, HoldsCell, read, variable_of};
-ghost use Rattle.ab_logic.specs.Readings.{HoldsSequent, sequent_of, hypothesis_of};
+ghost use Rattle.ab_logic.specs.SequentReadings.{HoldsSequent, sequent_of, hypothesis_of};
 ghost use Rattle.ab_formulas.specs.Sequents.{formula_of, proving, assuming, without, counted, over, IsUsed};
 ghost use Rattle.ab_logic.specs.declared.world.World.{World};
 
 use crate::lists::{Hypotheses, Variables};
-use ab_clauses::below::store::{CellId, TermId};
-use ab_clauses::below::types::Name;
+use ab_store::name::Name;
+use ab_store::{CellId, TermId};
 use std::alloc::{AllocError, Global};
 
 /// A named formula that a goal assumes.

@@ -1,25 +1,27 @@
 //! Worlds: what was declared, and the terms that are shared.
 ghost use Rattle.std.specs.Prelude.{◌≡◌, [], ◌∷◌, ◌++◌, map, length, IfOk, IfSome, OnOk, OnErr, IfErr, IsSome, slice_get, Some, None, Err, All};
 ghost use Rattle.std.specs.Option.{option_map, option_copied};
-ghost use Rattle.ab_clauses.specs.ab_types.specs.Entries.{first_entries};
-ghost use Rattle.ab_clauses.specs.ab_types.specs.Ids.{HoldsConstant};
-ghost use Rattle.ab_formulas.specs.Proposed.{IsProposed};
-ghost use Rattle.ab_clauses.specs.Readings.{name_of, block_of, fault_of, HoldsFault, HoldsBlock};
+ghost use Rattle.ab_store.specs.ab_types.specs.Entries.{first_entries};
+ghost use Rattle.ab_store.specs.ab_types.specs.Ids.{HoldsConstant};
+ghost use Rattle.ab_formulas.specs.ProposedClauses.{IsProposed};
+ghost use Rattle.ab_typing.specs.DefinitionReadings.{name_of, block_of, fault_of, HoldsFault, HoldsBlock};
 ghost use Rattle.ab_formulas.specs.Faults.{IsFaultOf};
-ghost use Rattle.ab_formulas.specs.Kept.{Block as ABlock};
+ghost use Rattle.ab_formulas.specs.Clauses.{Block as ABlock};
 ghost use Rattle.ab_formulas.specs.Declarations.{Declarations, signature_in, theorem_in, theorems_in, block_in, a_theorem, a_block};
 ghost use Rattle.ab_formulas.specs.Formulas.{IsSentence};
 ghost use Rattle.ab_logic.specs.Additions.{entry_in, block_kept, IsMemory};
-ghost use Rattle.ab_logic.specs.Defining.{AreNew, IsFirstDefined, IsDefinable, IsDefineFault};
+ghost use Rattle.ab_logic.specs.NewDefinitions.{AreNew, IsFirstDefined, IsDefinable, IsDefineFault};
 ghost use Rattle.ab_logic.specs.Worlds.{read, Holds, definition_of, declarations_of, first_declarations, IsKeptBlock, IsWorld};
-ghost use Rattle.ab_logic.specs.Growth.{Grows};
+ghost use Rattle.ab_logic.specs.WorldGrowth.{Grows};
 ghost use Rattle.ab_logic.specs.declared.world.DefineFault.{DefineFault as AFault};
 
 use crate::additions::{Additions, TheoremEntry};
 use crate::member::member_definition;
-use ab_clauses::below::store::{Store, TermId};
-use ab_clauses::below::types::{ConstId, Name, Steps, TypeTable, has_unique_ids};
-use ab_clauses::{Block, ClauseFault, first_fault};
+use ab_store::name::Name;
+use ab_store::types::laws::has_unique_ids;
+use ab_store::types::{ConstId, Steps, TypeTable};
+use ab_store::{Store, TermId};
+use ab_typing::{Block, ClauseFault, first_fault};
 use std::alloc::{AllocError, Global};
 
 /// What was declared, and the terms by which all is said: the types with the declared kinds and constants, the

@@ -6,8 +6,8 @@ use Rattle.ab_term.specs.Types.{Ty, kind, arrow}
 use Rattle.ab_store.specs.ab_types.specs.Entries.{Table}
 use Rattle.ab_store.specs.ab_types.specs.Ids.{type_of}
 use Rattle.ab_store.specs.declared.node.TermId.{TermId}
-use Rattle.ab_norm.specs.declared.walking.Change.{Change}
-use Rattle.ab_norm.specs.declared.walking.Change.TheVariants.{Put, Fill}
+use Rattle.ab_norm.specs.declared.term_walks.Change.{Change}
+use Rattle.ab_norm.specs.declared.term_walks.Change.TheVariants.{Put, Fill}
 
 -- one more than the largest
 abbrev pub ids_bound : List TermId → ℕ

@@ -27,12 +27,12 @@ use Rattle.ab_store.specs.Trees.{Contents, Holds, tree_of, head_in, head_reading
 use Rattle.ab_store.specs.Growth.{IsExtendedBy}
 use Rattle.ab_store.specs.Naming.{HeadIsTyped, NodeIsTyped, IsTypedBy}
 use Rattle.ab_norm.specs.declared.nominal.Swap.{Swap}
-use Rattle.ab_norm.specs.declared.walking.Change.{Change}
-use Rattle.ab_norm.specs.declared.walking.Change.TheVariants.{Raise, Put, Rename, Fill}
+use Rattle.ab_norm.specs.declared.term_walks.Change.{Change}
+use Rattle.ab_norm.specs.declared.term_walks.Change.TheVariants.{Raise, Put, Rename, Fill}
 use Rattle.ab_norm.specs.declared.memo.Memo.{Memo}
-use Rattle.ab_norm.specs.Remembering.{answer_of}
+use Rattle.ab_norm.specs.WalkMemory.{answer_of}
 use Rattle.ab_norm.specs.Nominals.{pairs_of}
-use Rattle.ab_norm.specs.Growth.{AddsTerms}
+use Rattle.ab_norm.specs.NodeGrowth.{AddsTerms}
 use Rattle.ab_norm.specs.Changes.{filling, changed, head_changed, Fits, Suits, Remembers, AddsFor}
 use Rattle.ab_store.proofs.Growing.{extended_itself, extended_on}
 use Rattle.ab_norm.proofs.Frame.{still_read_before}

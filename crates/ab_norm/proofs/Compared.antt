@@ -16,8 +16,8 @@ use Rattle.ab_store.specs.declared.node.Node.TheVariants.{Lam, Spine}
 use Rattle.ab_store.specs.Trees.{Contents, tree_of, head_reading, node_tree}
 use Rattle.ab_store.specs.Naming.{HeadIsTyped, IsTypedBy}
 use Rattle.ab_norm.specs.declared.memo.Agreed.{Agreed}
-use Rattle.ab_norm.specs.Remembering.{has_agreed}
-use Rattle.ab_norm.specs.Matching.{AllAgree}
+use Rattle.ab_norm.specs.WalkMemory.{has_agreed}
+use Rattle.ab_norm.specs.NameMatches.{AllAgree}
 use Rattle.ab_norm.proofs.OneHead.{one_head}
 
 abbrev pub Bare : Type 0

@@ -15,8 +15,8 @@ use Rattle.ab_store.specs.ab_types.proofs.Kept.{one_type}
 use Rattle.ab_norm.specs.declared.nominal.Nominal.{Nominal}
 use Rattle.ab_norm.specs.declared.nominal.Swap.{Swap}
 use Rattle.ab_norm.specs.Nominals.{nominal_of, pairs_of, HoldsNominal, HoldsPairs}
-use Rattle.ab_norm.specs.Matching.{Sends, IsOneToOne}
-use Rattle.ab_norm.specs.Completing.{transposed, retargeted, Permutes, Includes, Settles}
+use Rattle.ab_norm.specs.NameMatches.{Sends, IsOneToOne}
+use Rattle.ab_norm.specs.PermutationTables.{transposed, retargeted, Permutes, Includes, Settles}
 use Rattle.ab_norm.proofs.Transposed.{same_or_not, first, second, neither, moved-retargeted, moved-elsewhere, retargeted_table, there_with, more_with, table_with, same_with}
 
 abbrev pair_of : Table → Swap → tree.Nominal × tree.Nominal

@@ -20,7 +20,7 @@ use Rattle.ab_store.specs.Reading.{pairs, cell_variable}
 use Rattle.ab_store.specs.Growth.{IsExtendedBy}
 use Rattle.ab_store.proofs.Putting.{Pair, pair}
 use Rattle.ab_norm.specs.declared.memo.Memo.{Memo}
-use Rattle.ab_norm.specs.Remembering.{answer_of}
+use Rattle.ab_norm.specs.WalkMemory.{answer_of}
 use Rattle.ab_norm.specs.OtherStores.{Carries}
 use Rattle.ab_norm.proofs.Frame.{still_read_before}
 

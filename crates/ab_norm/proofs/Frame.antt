@@ -15,7 +15,7 @@ use Rattle.ab_store.specs.Trees.{Contents, Holds, tree_of, head_in, head_reading
 use Rattle.ab_store.specs.Growth.{IsExtendedBy}
 use Rattle.ab_store.specs.Naming.{HeadNames, NodeNames, HoldsHead, HeadIsTyped, NodeIsTyped, IsTypedBy}
 use Rattle.ab_store.proofs.Growing.{extended_itself, extended_on}
-use Rattle.ab_norm.specs.Growth.{AddsTerms, AddsTypedTerms}
+use Rattle.ab_norm.specs.NodeGrowth.{AddsTerms, AddsTypedTerms}
 
 pub adds_none : (s : Contents) → AddsTerms s s
 adds_none s = record { before = extended_itself s; cells = refl; typed = λ types typed. typed }

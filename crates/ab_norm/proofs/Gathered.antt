@@ -25,8 +25,8 @@ use Rattle.ab_store.specs.ab_types.specs.Sound.{IsTable}
 use Rattle.ab_store.specs.ab_types.proofs.Kept.{one_type}
 use Rattle.ab_norm.specs.Nominals.{nominal_of, HoldsNominal}
 use Rattle.ab_norm.specs.declared.memo.Seen.{Seen}
-use Rattle.ab_norm.specs.Remembering.{has_been}
-use Rattle.ab_norm.specs.Gathering.{Gathers, AllFound}
+use Rattle.ab_norm.specs.WalkMemory.{has_been}
+use Rattle.ab_norm.specs.GatheredNames.{Gathers, AllFound}
 
 module _ {X : Type 0} where
   in_front : (xs ys : List X) (a : X) → Contains xs a → Contains (xs ++ ys) a

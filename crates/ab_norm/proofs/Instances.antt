@@ -7,7 +7,7 @@ use Rattle.ab_store.specs.ab_types.specs.Entries.{Table}
 use Rattle.ab_store.specs.declared.node.TermId.{TermId}
 use Rattle.ab_term.specs.Terms.{Read}
 use Rattle.ab_store.specs.Trees.{Contents, Holds, tree_of}
-use Rattle.ab_norm.specs.Growth.{AddsTerms}
+use Rattle.ab_norm.specs.NodeGrowth.{AddsTerms}
 
 -- one more argument, and the rest give the same
 pub instance_more : (types : Table) (s0 s1 s2 : Contents) (here next d : TermId) (args : List TermId) (i : ℕ) (answer : Read)

@@ -19,9 +19,9 @@ use Rattle.ab_store.specs.Trees.{Contents, tree_of, head_reading, node_tree}
 use Rattle.ab_store.specs.Naming.{HeadIsTyped}
 use Rattle.ab_norm.specs.declared.nominal.Swap.{Swap}
 use Rattle.ab_norm.specs.declared.memo.Agreed.{Agreed}
-use Rattle.ab_norm.specs.Remembering.{has_agreed}
+use Rattle.ab_norm.specs.WalkMemory.{has_agreed}
 use Rattle.ab_norm.specs.Nominals.{HoldsPairs}
-use Rattle.ab_norm.specs.Matching.{Renaming, IsRenaming, Sends, Found, AllMatch}
+use Rattle.ab_norm.specs.NameMatches.{Renaming, IsRenaming, Sends, Found, AllMatch}
 use Rattle.ab_norm.proofs.OneHead.{one_head}
 use Rattle.ab_norm.proofs.Renamed.{stays as term_stays}
 use Rattle.ab_norm.proofs.Compared.{Bare, bare, same_list, same_terms}

@@ -2,7 +2,7 @@
 use Rattle.std.proofs.Common.{◌≡◌, ◌⊎◌, inl, inr, ℕ, Bool, true, false, cond, ◌==◌, ◌&&◌, Option, Some, Decides, refl, sym, ap}
 use Rattle.std.proofs.lemmas.Bool.Decides.{Decides-eqb}
 use Rattle.ab_store.specs.declared.node.TermId.{TermId}
-use Rattle.ab_norm.specs.Remembering.{same_term, same_place, same_pair}
+use Rattle.ab_norm.specs.WalkMemory.{same_term, same_place, same_pair}
 
 both_equal : (a b c d : ℕ) → ((a == b) && (c == d)) ≡ true → (a ≡ b) × (c ≡ d)
 both_equal a b c d e = go (a == b) (c == d) (Decides-eqb a b) (Decides-eqb c d) e

@@ -9,7 +9,7 @@ use Rattle.ab_store.specs.ab_types.specs.Entries.{Table}
 use Rattle.ab_store.specs.declared.node.TermId.{TermId}
 use Rattle.ab_store.specs.Trees.{Contents, Holds, tree_of}
 use Rattle.ab_store.specs.Growth.{IsExtendedBy}
-use Rattle.ab_norm.specs.Matching.{Renaming}
+use Rattle.ab_norm.specs.NameMatches.{Renaming}
 use Rattle.ab_norm.proofs.Frame.{still_read_before}
 
 append_left : {X : Type 0} (xs ys : List X) → xs ++ ys ≡ [] → xs ≡ []

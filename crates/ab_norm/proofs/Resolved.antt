@@ -28,10 +28,10 @@ use Rattle.ab_store.specs.Growth.{IsExtendedBy}
 use Rattle.ab_store.proofs.Cells.{numbers, IsCell, stands, variables_are_cells}
 use Rattle.ab_store.proofs.Putting.{Pair, pair}
 use Rattle.ab_norm.specs.declared.memo.Seen.{Seen}
-use Rattle.ab_norm.specs.Remembering.{has_been}
+use Rattle.ab_norm.specs.WalkMemory.{has_been}
 use Rattle.ab_store.specs.Naming.{NodeNames}
 use Rattle.ab_norm.specs.Heads.{IsFree, BeginsFree}
-use Rattle.ab_norm.specs.Clearing.{AllResolved}
+use Rattle.ab_norm.specs.ResolvedTerms.{AllResolved}
 use Rattle.ab_norm.proofs.Clear.{resolved_by}
 use Rattle.ab_norm.proofs.Gathered.{pairs_map}
 

@@ -15,7 +15,7 @@ use Rattle.ab_store.specs.declared.node.TermId.{TermId}
 use Rattle.ab_store.specs.declared.node.Node.{Node}
 use Rattle.ab_store.specs.declared.node.Node.TheVariants.{Lam}
 use Rattle.ab_store.specs.Trees.{Contents, Holds, tree_of, node_tree}
-use Rattle.ab_norm.specs.Growth.{AddsTerms}
+use Rattle.ab_norm.specs.NodeGrowth.{AddsTerms}
 use Rattle.ab_norm.proofs.Frame.{still_read}
 
 module _ (types : Table) (s0 s1 s2 : Contents) where

@@ -9,7 +9,7 @@ use Rattle.ab_term.specs.Names.{same_nominal, moved_by, IsPermutationTable}
 use Rattle.ab_term.proofs.Comparisons.{same_nominal-Decides}
 use Rattle.ab_term.proofs.Lists.{AllPairs-none, All-from_contains, Contains-none, AllPairs-map, Contains-here, Contains-cases, AllPairs-parts, Contains-map, Contains-from_map, contains_or_not}
 use Rattle.ab_term.proofs.Permutations.{Table, froms, tos, moved_by-absent, moved_by-present}
-use Rattle.ab_norm.specs.Completing.{transposed, retargeted}
+use Rattle.ab_norm.specs.PermutationTables.{transposed, retargeted}
 
 off : (b : Bool) (P : Type 0) → Decides b P → (P → ⊥) → b ≡ false
 off true P d n = absurd (n (d.0 refl))

@@ -20,7 +20,7 @@ use Rattle.ab_norm.specs.declared.tree.Tree.{Tree}
 use Rattle.ab_norm.specs.declared.tree.Tree.TheViews as views
 use Rattle.ab_norm.specs.declared.tree.Tree.TheVariants.{rolls-Lam, rolls-Spine}
 use Rattle.ab_norm.specs.declared.tree.Tree.TheFolds.{fold-roll-Tree}
-use Rattle.ab_norm.specs.Trees.{tree_step, tree_reading, types_step, binder_types, heads_step, heads, HoldsTree}
+use Rattle.ab_norm.specs.NodeTrees.{tree_step, tree_reading, types_step, binder_types, heads_step, heads, HoldsTree}
 
 pub spine_tree : (types : Table) (s : Contents) (h : Head) (v : Items Tree) → tree_reading types s (views.Spine h v) ≡ spine (head_reading types s h) (terms_of (map (tree_reading types s) (list_of v)))
 spine_tree types s h v = ap (tree_reading types s) (sym (rolls-Spine h v)) ∙ fold-roll-Tree Read (tree_step types s) _

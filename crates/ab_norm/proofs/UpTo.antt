@@ -10,8 +10,8 @@ use Rattle.ab_term.specs.Terms.{Read}
 use Rattle.ab_norm.specs.declared.nominal.Swap.{Swap}
 use Rattle.ab_norm.specs.declared.nominal.Permutation.{Permutation}
 use Rattle.ab_norm.specs.Nominals.{nominal_of, pairs_of}
-use Rattle.ab_norm.specs.Matching.{IsRenaming, Sends, Found}
-use Rattle.ab_norm.specs.Completing.{Permutes}
+use Rattle.ab_norm.specs.NameMatches.{IsRenaming, Sends, Found}
+use Rattle.ab_norm.specs.PermutationTables.{Permutes}
 
 module _ (types : Table) (x y : Read) (decided : List Swap) (answer : Bool) (found : Found types [] decided (λ f. forget (rename f x) ≡ forget y) answer) where
   renaming : (ps : _) → IsPermutationTable ps → IsRenaming (moved_by ps)

@@ -17,10 +17,10 @@ use Rattle.ab_store.specs.declared.node.CellId.{CellId}
 use Rattle.ab_store.specs.Trees.{Contents, Holds, HoldsCell, cell_of, tree_of}
 use Rattle.ab_store.specs.Growth.{IsExtendedBy}
 use Rattle.ab_store.specs.Naming.{IsTypedBy}
-use Rattle.ab_norm.specs.declared.walking.Change.{Change}
-use Rattle.ab_norm.specs.declared.walking.Change.TheVariants.{Raise, Put, Rename, Fill}
+use Rattle.ab_norm.specs.declared.term_walks.Change.{Change}
+use Rattle.ab_norm.specs.declared.term_walks.Change.TheVariants.{Raise, Put, Rename, Fill}
 use Rattle.ab_norm.specs.declared.memo.Memo.{Memo}
-use Rattle.ab_norm.specs.Remembering.{answer_of}
+use Rattle.ab_norm.specs.WalkMemory.{answer_of}
 use Rattle.ab_norm.specs.Nominals.{pairs_of, HoldsPairs}
 
 module _ (types : Table) (store : Contents) where

@@ -4,7 +4,7 @@ use Rattle.ab_store.specs.ab_types.specs.Entries.{Table}
 use Rattle.ab_store.specs.declared.node.TermId.{TermId}
 use Rattle.ab_store.specs.Trees.{Contents, Holds, tree_of}
 use Rattle.ab_norm.specs.declared.memo.Memo.{Memo}
-use Rattle.ab_norm.specs.Remembering.{answer_of}
+use Rattle.ab_norm.specs.WalkMemory.{answer_of}
 
 -- each answer that is kept is a term of the second store that has the tree of its key in the first
 abbrev pub Carries : Table → Contents → Contents → Memo → Type 0

@@ -1,34 +1,36 @@
 //! Hereditary substitution on shared terms, their eta-long forms, and their nominal constants.
 #![tactic(auto)]
 
-pub mod below;
-mod carrying;
-mod comparing;
-mod completing;
-mod expanding;
+mod carried_terms;
+mod equality;
+mod equality_up_to_names;
+mod eta_forms;
 mod indices;
-mod instantiating;
+mod instantiation;
 mod items;
-mod looking;
-mod matching;
 mod memo;
 mod nominal;
-mod permuting;
-mod resolving;
-mod supporting;
+mod permutation_tables;
+mod permutations;
+mod plain_terms;
+mod resolved_copies;
+mod supports;
+mod term_heads;
+mod term_walks;
 mod tree;
-mod unsharing;
-mod walking;
 
-pub use comparing::equal;
-pub use expanding::{eta, eta_given};
-pub use instantiating::instantiate;
+pub use ab_store as store;
+pub use ab_store::{name, types};
+pub use equality::equal;
+pub use equality_up_to_names::equal_up_to_names;
+pub use eta_forms::{eta, eta_given};
+pub use instantiation::instantiate;
 pub use items::Items;
-pub use looking::look;
-pub use matching::equal_up_to_names;
+pub use memo::Memo;
 pub use nominal::{Nominal, Permutation, Swap, Swaps};
-pub use permuting::permute;
-pub use resolving::copy_resolved;
-pub use supporting::support;
+pub use permutations::permute;
+pub use plain_terms::reading;
+pub use resolved_copies::copy_resolved;
+pub use supports::support;
+pub use term_heads::look;
 pub use tree::Tree;
-pub use unsharing::reading;

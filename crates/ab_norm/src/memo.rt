@@ -1,7 +1,7 @@
 //! What walks through shared terms keep, so that they visit each node once.
 ghost use Rattle.std.specs.Prelude.{◌≡◌, ◌⊎◌, ℕ, Some, None, false};
 ghost use Rattle.ab_store.specs.declared.node.TermId.{TermId};
-ghost use Rattle.ab_norm.specs.Remembering.{answer_of, has_been, has_agreed};
+ghost use Rattle.ab_norm.specs.WalkMemory.{answer_of, has_been, has_agreed};
 
 use ab_store::TermId;
 use std::alloc::{AllocError, Global};
@@ -12,14 +12,14 @@ const FREE: u8 = 32;
 
 /// What a walk made of terms, each at the number of binders around it.
 #[derive(Drop)]
-pub(crate) struct Memo {
+pub struct Memo {
     skipped: u8,
     answers: HashMap<(TermId, usize), TermId>,
 }
 
 impl Memo {
     /// Nothing is kept yet.
-    pub(crate) fn new(alloc: Global) -> Memo
+    pub fn new(alloc: Global) -> Memo
         ensures { (t : TermId) (k : ℕ) → answer_of result t k ≡ None }
     {
         Memo {
@@ -29,19 +29,14 @@ impl Memo {
     }
 
     /// What is kept for the term.
-    pub(crate) fn answer(&self, term: TermId, depth: usize) -> Option<TermId>
+    pub fn answer(&self, term: TermId, depth: usize) -> Option<TermId>
         ensures { result ≡ answer_of self.now term depth }
     {
         self.answers.get(&(term, depth)).copied()
     }
 
     /// Keeps an answer, once the walk is no short one.
-    pub(crate) fn keep(
-        &mut self,
-        term: TermId,
-        depth: usize,
-        answer: TermId,
-    ) -> Result<(), AllocError>
+    pub fn keep(&mut self, term: TermId, depth: usize, answer: TermId) -> Result<(), AllocError>
         ensures { (t : TermId) (k : ℕ) → (answer_of self.new t k ≡ answer_of self.old t k) ⊎ ((t ≡ term) × (k ≡ depth) × (answer_of self.new t k ≡ Some answer)) }
     {
         if self.skipped < FREE {

@@ -1,7 +1,7 @@
 //! Nominal constants and their permutations.
 ghost use Rattle.std.specs.Prelude.{◌≡◌, IfOk};
 
-use ab_store::below::types::TypeId;
+use ab_store::types::TypeId;
 use std::alloc::{AllocError, Global};
 use std::marker::Model;
 

@@ -1,7 +1,8 @@
 //! Terms as trees of their own.
 use crate::items::Items;
 use ab_store::Head;
-use ab_store::below::types::{Name, TypeId};
+use ab_store::name::Name;
+use ab_store::types::TypeId;
 
 /// A term, with nothing shared.
 #[derive(Drop)]

@@ -12,7 +12,7 @@ use Rattle.ab_norm.specs.ab_store.specs.declared.node.TermId.{TermId}
 use Rattle.ab_norm.specs.ab_store.specs.Trees.{Contents, tree_of, head_in, head_reading}
 use Rattle.ab_norm.specs.ab_store.specs.Naming.{HeadIsTyped}
 use Rattle.ab_term.specs.Sameness.{same_head}
-use Rattle.ab_term.specs.Closing.{among, close, abstracted}
+use Rattle.ab_term.specs.Abstraction.{among, close, abstracted}
 use Rattle.ab_term.proofs.Same.{same_head-Decides}
 use Rattle.ab_patterns.proofs.Rules.{heads_differ}
 

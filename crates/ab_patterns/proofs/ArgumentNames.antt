@@ -13,8 +13,8 @@ use Rattle.ab_norm.specs.ab_store.specs.declared.node.Head.{Head}
 use Rattle.ab_norm.specs.ab_store.specs.Trees.{Contents, Holds, tree_of, head_in}
 use Rattle.ab_norm.specs.ab_store.specs.Growth.{IsExtendedBy}
 use Rattle.ab_norm.proofs.Frame.{still_read_before}
-use Rattle.ab_solve.specs.Patterns.{name_of, new_name, pattern}
-use Rattle.ab_patterns.specs.Readings.{names_of}
+use Rattle.ab_unifiers.specs.Patterns.{name_of, new_name, pattern}
+use Rattle.ab_patterns.specs.EquationReadings.{names_of}
 
 abbrev pub rest_of : List TermId → List TermId
 rest_of xs = take (length xs - 1) (drop 1 xs)

@@ -17,10 +17,10 @@ use Rattle.ab_norm.specs.ab_store.specs.declared.node.Head.{Head}
 use Rattle.ab_norm.specs.ab_store.specs.declared.node.Node.{Node}
 use Rattle.ab_norm.specs.ab_store.specs.declared.node.Node.TheVariants.{Lam, Spine}
 use Rattle.ab_norm.specs.ab_store.specs.Trees.{Contents, tree_of, head_reading, node_tree}
-use Rattle.ab_norm.specs.Growth.{AddsTerms}
+use Rattle.ab_norm.specs.NodeGrowth.{AddsTerms}
 use Rattle.ab_norm.proofs.Frame.{same_head}
-use Rattle.ab_term.specs.Closing as closing
-use Rattle.ab_patterns.specs.Closing.{sunk}
+use Rattle.ab_term.specs.Abstraction as closing
+use Rattle.ab_patterns.specs.Abstraction.{sunk}
 
 pub sunk_none : (h : tree.Head ℕ) → sunk zero h ≡ h
 sunk_none (tree.constant k) = refl

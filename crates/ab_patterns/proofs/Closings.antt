@@ -1,15 +1,16 @@
 -- What a walk that makes a name bound keeps of terms that it has been through.
 use Rattle.std.proofs.Common.{◌≡◌, ◌⊎◌, inl, inr, ℕ, Some, None, sym, ap, ◌∙◌, subst}
-use Rattle.ab_term.specs.Closing as closing
+use Rattle.ab_term.specs.Abstraction as closing
 use Rattle.ab_norm.specs.ab_types.specs.Entries.{Table}
 use Rattle.ab_norm.specs.ab_store.specs.declared.node.TermId.{TermId}
 use Rattle.ab_norm.specs.ab_store.specs.declared.node.Head.{Head}
 use Rattle.ab_norm.specs.ab_store.specs.Trees.{Contents, Holds, tree_of, head_in, head_reading}
 use Rattle.ab_norm.specs.ab_store.specs.Growth.{IsExtendedBy}
-use Rattle.ab_norm.specs.Growth.{AddsTerms}
+use Rattle.ab_norm.specs.NodeGrowth.{AddsTerms}
 use Rattle.ab_norm.proofs.Frame.{same_head}
-use Rattle.ab_patterns.specs.declared.memo.Memo.{Memo}
-use Rattle.ab_patterns.specs.Closing.{answer_of, sunk, KeepsTerms, IsClosing, Remembers}
+use Rattle.ab_norm.specs.declared.memo.Memo.{Memo}
+use Rattle.ab_norm.specs.WalkMemory.{answer_of}
+use Rattle.ab_patterns.specs.Abstraction.{sunk, KeepsTerms, IsClosing, Remembers}
 
 -- in a store with more terms
 pub keeps_on : (s t : Contents) (memo : Memo) → IsExtendedBy s t → KeepsTerms s memo → KeepsTerms t memo

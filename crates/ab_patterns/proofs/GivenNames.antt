@@ -7,13 +7,13 @@ use Rattle.ab_term.specs.Types.{Ty, kind, arrow}
 use Rattle.ab_term.specs.Terms as tree
 use Rattle.ab_term.specs.Terms.{term, spine, terms_of}
 use Rattle.ab_term.specs.Expansion.{expansion}
-use Rattle.ab_term.specs.Closing.{name_terms}
+use Rattle.ab_term.specs.Abstraction.{name_terms}
 use Rattle.ab_norm.specs.ab_types.specs.Ids.{type_of}
 use Rattle.ab_norm.specs.ab_types.specs.declared.ids.TypeId.{TypeId}
 use Rattle.ab_norm.specs.ab_store.specs.declared.node.CellId.{CellId}
 use Rattle.ab_norm.specs.ab_store.specs.declared.node.Head.TheVariants.{Cell}
 use Rattle.ab_norm.specs.ab_store.specs.Reading.{cell_variable}
-use Rattle.ab_solve.specs.Patterns.{applied}
+use Rattle.ab_unifiers.specs.Patterns.{applied}
 use Rattle.ab_norm.specs.ab_types.specs.Entries.{Table}
 use Rattle.ab_norm.specs.ab_store.specs.declared.node.TermId.{TermId}
 use Rattle.ab_norm.specs.ab_store.specs.declared.node.Head.{Head}
@@ -21,7 +21,7 @@ use Rattle.ab_norm.specs.ab_store.specs.Trees.{Contents, Holds, cell_of, tree_of
 use Rattle.ab_norm.specs.ab_store.specs.Naming.{HeadNames, HoldsHead}
 use Rattle.ab_norm.specs.ab_store.specs.Growth.{IsExtendedBy}
 use Rattle.ab_norm.proofs.Frame.{still_read_before}
-use Rattle.ab_patterns.specs.Naming.{name_list}
+use Rattle.ab_patterns.specs.ArgumentNames.{name_list}
 
 rest_heads : (h : Head) (hs : List Head) → take (length (h ∷ hs) - 1) (drop 1 (h ∷ hs)) ≡ hs
 rest_heads h hs = ap (λ n. take n hs) (let e : suc (length hs) - 1 ≡ length hs = omega arith in e) ∙ take_all (length hs) hs (omega arith)

@@ -1,8 +1,8 @@
--- What is kept after one more term, or one more answer.
-use Rattle.std.proofs.Common.{◌≡◌, ◌⊎◌, inl, inr, ℕ, Bool, true, false, cond, ◌==◌, ◌&&◌, Option, Some, Decides, refl, sym, ap}
+-- What is kept after one more term.
+use Rattle.std.proofs.Common.{◌≡◌, ◌⊎◌, inl, inr, ℕ, Bool, true, false, cond, ◌==◌, ◌&&◌, Decides, refl, sym, ap}
 use Rattle.std.proofs.lemmas.Bool.Decides.{Decides-eqb}
 use Rattle.ab_norm.specs.ab_store.specs.declared.node.TermId.{TermId}
-use Rattle.ab_patterns.specs.Walking.{same_place}
+use Rattle.ab_patterns.specs.ReadingWalks.{same_place}
 
 both_equal : (a b c d : ℕ) → ((a == b) && (c == d)) ≡ true → (a ≡ b) × (c ≡ d)
 both_equal a b c d e = go (a == b) (c == d) (Decides-eqb a b) (Decides-eqb c d) e
@@ -19,14 +19,4 @@ kept_or_new term t depth k old new e = go (same_place (term, depth) (t, k)) refl
     go true s e =
         let same = both_equal term.0 t.0 depth k s in
         inr (ap (λ i. record { 0 = i }) (sym same.0), sym same.1)
-    go false s e = inl e
-
-pub answer_or_new : (term t answer : TermId) (depth k : ℕ) (old new : Option TermId) → new ≡ cond (same_place (term, depth) (t, k)) (Some answer) old
-    → (new ≡ old) ⊎ ((t ≡ term) × (k ≡ depth) × (new ≡ Some answer))
-answer_or_new term t answer depth k old new e = go (same_place (term, depth) (t, k)) refl e
-  where
-    go : (b : Bool) → same_place (term, depth) (t, k) ≡ b → new ≡ cond b (Some answer) old → (new ≡ old) ⊎ ((t ≡ term) × (k ≡ depth) × (new ≡ Some answer))
-    go true s e =
-        let same = both_equal term.0 t.0 depth k s in
-        inr (ap (λ i. record { 0 = i }) (sym same.0), sym same.1, e)
     go false s e = inl e

@@ -13,3 +13,9 @@ pub mod Closed
 pub mod ToldApart
 pub mod Closings
 pub mod Keeping
+pub mod Standing
+pub mod Bound
+pub mod Narrowed
+pub mod Made
+pub mod Flagged
+pub mod Renewed

@@ -10,7 +10,7 @@ use Rattle.ab_norm.specs.ab_types.specs.Entries.{Table}
 use Rattle.ab_norm.specs.ab_store.specs.declared.node.CellId.{CellId}
 use Rattle.ab_norm.specs.ab_store.specs.Trees.{Contents}
 use Rattle.ab_norm.specs.ab_store.specs.Reading.{cell_variable}
-use Rattle.ab_solve.specs.Replacing.{holds}
+use Rattle.ab_unifiers.specs.Replacements.{holds}
 use Rattle.ab_patterns.specs.Flexible.{same_cell}
 
 pub turned : (c q : CellId) → same_cell c q ≡ same_cell q c

@@ -8,8 +8,8 @@ use Rattle.ab_term.specs.Terms.{Variable, Term, no_terms}
 use Rattle.ab_term.specs.Variables.{variables, variables_of_head}
 use Rattle.ab_term.specs.Expansion.{expansion}
 use Rattle.ab_term.specs.Translation.{EqualPastHints}
-use Rattle.ab_term.specs.Closing.{is_name}
-use Rattle.ab_term.specs.Recognising.{inner_head, expands}
+use Rattle.ab_term.specs.Abstraction.{is_name}
+use Rattle.ab_term.specs.EtaHeads.{inner_head, expands}
 use Rattle.ab_term.proofs.Recognising.{expands-Decides}
 use Rattle.ab_term.proofs.Lists.{Contains-none}
 use Rattle.ab_term.proofs.Stands.{variables-expansion_of}
@@ -18,7 +18,7 @@ use Rattle.ab_norm.specs.ab_store.specs.declared.node.TermId.{TermId}
 use Rattle.ab_norm.specs.ab_store.specs.Trees.{Contents, tree_of}
 use Rattle.ab_norm.specs.ab_store.specs.Bindings.{IsResolved}
 use Rattle.ab_norm.proofs.Clear.{resolved_by}
-use Rattle.ab_solve.specs.Patterns.{tested_name, name_if, name_of}
+use Rattle.ab_unifiers.specs.Patterns.{tested_name, name_if, name_of}
 
 pub if_some : {T : Type 0} {P Q : T → Type 0} (o : Option T) → ((v : T) → P v → Q v) → IfSome o P → IfSome o Q
 if_some (Some v) f h = f v h

@@ -18,9 +18,9 @@ use Rattle.ab_norm.specs.ab_store.specs.Trees.{Contents, Holds, cell_in, tree_of
 use Rattle.ab_norm.specs.ab_store.specs.Reading.{cell_variable}
 use Rattle.ab_norm.specs.ab_store.specs.Bindings.{IsUnbound, IsResolved}
 use Rattle.ab_norm.specs.ab_store.specs.Growth.{IsExtendedBy}
-use Rattle.ab_solve.specs.Replacing.{is_flexible, has_patterns, all_have_patterns}
-use Rattle.ab_patterns.specs.declared.seen.Seen.{Seen}
-use Rattle.ab_patterns.specs.Walking.{IsPatterned, AllPatterned, given_names}
+use Rattle.ab_unifiers.specs.Replacements.{is_flexible, has_patterns, all_have_patterns}
+use Rattle.ab_patterns.specs.declared.visited_nodes.Seen.{Seen}
+use Rattle.ab_patterns.specs.ReadingWalks.{IsPatterned, AllPatterned, given_names}
 
 -- what holds anyway
 pub on_any : {T E P : Type 0} (r : Result T E) → P → OnOk r P

@@ -10,7 +10,7 @@ use Rattle.ab_norm.specs.ab_types.specs.Entries.{Table}
 use Rattle.ab_norm.specs.ab_store.specs.declared.node.CellId.{CellId}
 use Rattle.ab_norm.specs.ab_store.specs.Trees.{Contents}
 use Rattle.ab_norm.specs.ab_store.specs.Reading.{cell_variable}
-use Rattle.ab_solve.specs.Solving.{is_older}
+use Rattle.ab_unifiers.specs.Unification.{is_older}
 use Rattle.ab_patterns.specs.Flexible.{same_cell, others_than, counts, is_earlier, listed_from, StandsAt, HavePlaces}
 use Rattle.ab_patterns.proofs.Listed.{turned, one_test}
 

@@ -12,8 +12,8 @@ use Rattle.ab_norm.specs.ab_store.specs.Trees.{Contents, head_reading}
 use Rattle.ab_norm.specs.ab_store.specs.Naming.{HeadIsTyped}
 use Rattle.ab_norm.proofs.OneHead.{one_head}
 use Rattle.ab_term.specs.Sameness.{same_head, same_term}
-use Rattle.ab_solve.specs.Replacing.{is_flexible}
-use Rattle.ab_solve.specs.Solving.{Equation, Result, clash, parts, or_else, equal_sides, bodies, rigid_heads, paired}
+use Rattle.ab_unifiers.specs.Replacements.{is_flexible}
+use Rattle.ab_unifiers.specs.Unification.{Equation, Result, clash, parts, or_else, equal_sides, bodies, rigid_heads, paired}
 use Rattle.ab_term.proofs.Same.{same_head-Decides, same_term-Decides}
 
 module _ (ys : List (Variable ℕ)) (p : ℕ) (g h : tree.Head ℕ) (ts us : Terms ℕ (List ℕ)) (first : false ≡ is_flexible ys g) (second : false ≡ is_flexible ys h) where

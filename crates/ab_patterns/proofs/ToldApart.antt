@@ -4,7 +4,7 @@ use Rattle.std.proofs.lemmas.Bool.Decides.{Decides-eqb}
 use Rattle.ab_term.specs.Types.{same_type}
 use Rattle.ab_term.specs.Terms as tree
 use Rattle.ab_term.specs.Substitution.{shift_head}
-use Rattle.ab_term.specs.Closing as closing
+use Rattle.ab_term.specs.Abstraction as closing
 use Rattle.ab_norm.specs.ab_types.specs.Entries.{Table}
 use Rattle.ab_norm.specs.ab_types.specs.Sound.{IsTable}
 use Rattle.ab_norm.specs.ab_types.specs.Ids.{type_of}
@@ -13,8 +13,8 @@ use Rattle.ab_norm.specs.ab_store.specs.declared.node.Head.{Head}
 use Rattle.ab_norm.specs.ab_store.specs.declared.node.Head.TheVariants.{Const, Logic, Nominal, Cell, Index}
 use Rattle.ab_norm.specs.ab_store.specs.Trees.{Contents, head_reading, cell_in}
 use Rattle.ab_norm.specs.ab_store.specs.Naming.{HeadIsTyped, IsTypedBy}
-use Rattle.ab_norm.specs.Growth.{AddsTerms}
-use Rattle.ab_patterns.specs.Closing.{IsToldApart, AreToldApart}
+use Rattle.ab_norm.specs.NodeGrowth.{AddsTerms}
+use Rattle.ab_patterns.specs.Abstraction.{IsToldApart, AreToldApart}
 use Rattle.ab_patterns.proofs.Closed.{closed_other}
 
 pub told_by : (types : Table) (store : Contents) (name : Head) → IsTable types → IsTypedBy types store → HeadIsTyped types name → IsToldApart types store name

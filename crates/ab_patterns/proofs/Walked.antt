@@ -7,7 +7,7 @@ use Rattle.ab_term.specs.Terms as tree
 use Rattle.ab_term.specs.Terms.{Variable, Term, Terms, lam, spine, no_terms, term, terms_of, Read}
 use Rattle.ab_term.specs.Variables.{variables, variables_of_head, variables_of_all}
 use Rattle.ab_term.specs.Sameness.{same_numbered}
-use Rattle.ab_term.specs.Closing.{among, may_stand}
+use Rattle.ab_term.specs.Abstraction.{among, may_stand}
 use Rattle.ab_term.proofs.Same.{same_numbered-Decides}
 use Rattle.ab_term.proofs.Only.{may_stand-under, innermost_stands}
 use Rattle.ab_norm.specs.ab_types.specs.Entries.{Table}
@@ -20,9 +20,9 @@ use Rattle.ab_norm.specs.ab_store.specs.declared.node.Node.{Node}
 use Rattle.ab_norm.specs.ab_store.specs.declared.node.Node.TheVariants.{Lam, Spine}
 use Rattle.ab_norm.specs.ab_store.specs.Trees.{Contents, tree_of, node_tree, head_reading}
 use Rattle.ab_norm.specs.ab_store.specs.Reading.{cell_variable}
-use Rattle.ab_solve.specs.Replacing.{holds, occurs, is_flexible, no_foreign, no_foreign_all}
-use Rattle.ab_patterns.specs.declared.seen.Seen.{Seen}
-use Rattle.ab_patterns.specs.Walking.{has_been, deep, IsAbsent, IsOwn}
+use Rattle.ab_unifiers.specs.Replacements.{holds, occurs, is_flexible, no_foreign, no_foreign_all}
+use Rattle.ab_patterns.specs.declared.visited_nodes.Seen.{Seen}
+use Rattle.ab_patterns.specs.ReadingWalks.{has_been, deep, IsAbsent, IsOwn}
 
 -- one term more is kept
 pub kept_more : (P : TermId → ℕ → Type 0) (old new : Seen) (id : TermId) (depth : ℕ) → ((t : TermId) (k : ℕ) → has_been old t k ≡ true → P t k) → P id depth

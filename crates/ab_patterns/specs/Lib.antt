@@ -1,12 +1,8 @@
--- What is found out of shared terms, in the plain words of `ab_solve`: `Readings` says what equations, names and results
--- stand for, and `Closing` which names may become bound; the others serve private contracts.
-pub mod Readings
-pub mod Naming
-pub mod Walking
-pub mod Closing
+-- What the rules of pattern unification find out of shared terms, in the words of `ab_unifiers`.
+-- What equations, names and results stand for; which cells may be replaced; which names may become bound.
+pub mod EquationReadings
 pub mod Flexible
--- Libraries that the crates above name through this one.
-pub use Rattle.ab_solve
-pub use Rattle.ab_norm.specs.ab_types
-pub use Rattle.ab_norm.specs.ab_store
-pub use Rattle.ab_norm
+pub mod Abstraction
+-- Names as lists, and what walks keep: words that only proofs and private contracts speak.
+pub mod ArgumentNames
+pub mod ReadingWalks

@@ -1,5 +1,5 @@
 //! Equations between shared terms.
-use ab_norm::below::store::TermId;
+use ab_norm::store::TermId;
 
 /// Two terms, and the number of the given equation that they came from.
 #[derive(Clone, Copy)]

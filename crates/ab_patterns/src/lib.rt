@@ -1,32 +1,35 @@
-//! Miller patterns on shared terms, as unification looks at them: the names that the arguments of a cell are, what is put
-//! in for a cell so that, given names, it is a certain term, the three tests on a rigid term, and the rules of
-//! unification that replace no variable. All of it is about terms as they stand: a term in which a bound cell stands is
-//! copied first.
+//! The rules of pattern unification on shared terms.
 #![tactic(auto)]
 
-mod applying;
-pub mod below;
-mod closing;
-mod comparing;
+mod abstraction;
+mod applied_cells;
+mod bound_cells;
+mod equality;
 mod equation;
-mod flexible;
-mod foreign;
-mod memo;
+mod flags;
+mod flexible_cells;
+mod foreign_names;
 mod names;
-mod narrowing;
-mod occurring;
-mod patterned;
-mod rigid;
-mod seen;
+mod narrow_cells;
+mod narrow_types;
+mod occurrences;
+mod pattern_checks;
+mod renewed_cells;
+mod replacement_cells;
+mod rigid_rules;
+mod visited_nodes;
 
-pub use applying::{applied, keep_heads, value};
-pub use closing::{close, shift_head};
+pub use abstraction::{close, shift_head};
+pub use applied_cells::{applied, keep_heads, value};
+pub use bound_cells::put;
 pub use equation::Numbered;
-pub use flexible::{FlexibleCells, is_flexible};
-pub use foreign::has_no_foreign;
+pub use flags::{agreeing, common, keeps_all};
+pub use flexible_cells::{FlexibleCells, is_flexible};
+pub use foreign_names::has_no_foreign;
 pub use names::pattern;
-pub use narrowing::kept_type;
-pub use occurring::occurs;
-pub use patterned::has_patterns;
-pub use rigid::{Simple, try_simple_rules};
-pub use seen::Seen;
+pub use narrow_types::kept_type;
+pub use occurrences::occurs;
+pub use pattern_checks::has_patterns;
+pub use renewed_cells::renew;
+pub use rigid_rules::{Simple, try_simple_rules};
+pub use visited_nodes::Seen;

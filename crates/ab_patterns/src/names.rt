@@ -8,17 +8,17 @@ ghost use Rattle.ab_norm.specs.ab_types.specs.Ids.{HoldsType, type_of};
 ghost use Rattle.ab_norm.specs.ab_store.specs.Trees.{Contents, Holds, tree_of, head_reading};
 ghost use Rattle.ab_norm.specs.ab_store.specs.Bindings.{IsResolved};
 ghost use Rattle.ab_norm.specs.ab_store.specs.Naming.{HoldsHead, HeadIsTyped, IsTypedBy};
-ghost use Rattle.ab_norm.specs.Growth.{AddsTypedTerms};
-ghost use Rattle.ab_term.specs.Closing as closing;
-ghost use Rattle.ab_term.specs.Recognising as recognising;
-ghost use Rattle.ab_solve.specs.Patterns as solve;
-ghost use Rattle.ab_patterns.specs.Readings.{names_of};
+ghost use Rattle.ab_norm.specs.NodeGrowth.{AddsTypedTerms};
+ghost use Rattle.ab_term.specs.Abstraction as closing;
+ghost use Rattle.ab_term.specs.EtaHeads as recognising;
+ghost use Rattle.ab_unifiers.specs.Patterns as solve;
+ghost use Rattle.ab_patterns.specs.EquationReadings.{names_of};
 
-use crate::comparing::are_same;
-use crate::rigid::is_same_head;
-use ab_norm::below::store::{Head, Node, Store, TermId};
-use ab_norm::below::types::{TypeId, TypeTable, TypeView};
+use crate::equality::are_same;
+use crate::rigid_rules::is_same_head;
 use ab_norm::eta;
+use ab_norm::store::{Head, Node, Store, TermId};
+use ab_norm::types::{TypeId, TypeTable, TypeView};
 use std::alloc::{AllocError, Global};
 
 /// The head, one binder further out: `None` where it is that binder's name.

@@ -2,7 +2,7 @@
 use Rattle.std.proofs.Common.{ℕ, ◌+◌, ◌<◌, ◌≤◌, max, List, [], ◌∷◌, length, get_or, drop, arith}
 use Rattle.std.specs.List.{All}
 use Rattle.std.proofs.lemmas.List.Elements.{All-head, All-tail}
-use Rattle.ab_logic.specs.ab_store.specs.declared.node.TermId.{TermId}
+use Rattle.ab_store.specs.declared.node.TermId.{TermId}
 
 -- one more than the largest
 abbrev pub ids_bound : List TermId → ℕ

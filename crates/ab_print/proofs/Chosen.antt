@@ -1,8 +1,8 @@
 -- The search for the first number that makes a name that isn't used.
 use Rattle.std.proofs.Common.{◌≡◌, ℕ, zero, suc, ◌+◌, ◌-◌, ◌^◌, ◌≤◌, ◌<◌, length, List, ◌++◌, Bool, true, false, decimal, refl, sym, ◌∙◌, ap, arith}
 use Rattle.std.specs.Prelude.{if◌then◌else◌}
-use Rattle.ab_text.specs.Names.{is_in, first_from, stem, numbered, fresh}
-use Rattle.ab_text.proofs.FreeNames.{first_free-longer}
+use Rattle.ab_print.specs.PrintedNames.{is_in, first_from, stem, numbered, fresh}
+use Rattle.ab_print.proofs.FreeNames.{first_free-longer}
 
 more_left : (most n : ℕ) → n ≤ most → most + 1 - n ≡ suc (most - n)
 more_left most n h = omega arith

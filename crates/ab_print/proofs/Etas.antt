@@ -5,16 +5,16 @@ use Rattle.std.specs.List.{All}
 use Rattle.ab_term.specs.Types.{Ty}
 use Rattle.ab_term.specs.Terms as tree
 use Rattle.ab_term.specs.Terms.{Term, lam, spine, terms_of, Read}
-use Rattle.ab_logic.specs.ab_types.specs.Entries.{Table}
-use Rattle.ab_logic.specs.ab_types.specs.Ids.{type_of}
-use Rattle.ab_logic.specs.ab_types.specs.declared.ids.TypeId.{TypeId}
-use Rattle.ab_logic.specs.ab_store.specs.declared.node.TermId.{TermId}
-use Rattle.ab_logic.specs.ab_store.specs.declared.node.Head.{Head}
-use Rattle.ab_logic.specs.ab_store.specs.declared.node.Node.{Node}
-use Rattle.ab_logic.specs.ab_store.specs.declared.node.Node.TheVariants.{Lam, Spine}
-use Rattle.ab_logic.specs.ab_store.specs.Trees.{Contents, tree_of, head_reading, node_tree}
-use Rattle.ab_logic.specs.ab_store.specs.Naming.{NodeNames, HeadNames}
-use Rattle.ab_text.specs.Naming.{are_last, is_bound_name, alone, outside}
+use Rattle.ab_store.specs.ab_types.specs.Entries.{Table}
+use Rattle.ab_store.specs.ab_types.specs.Ids.{type_of}
+use Rattle.ab_store.specs.ab_types.specs.declared.ids.TypeId.{TypeId}
+use Rattle.ab_store.specs.declared.node.TermId.{TermId}
+use Rattle.ab_store.specs.declared.node.Head.{Head}
+use Rattle.ab_store.specs.declared.node.Node.{Node}
+use Rattle.ab_store.specs.declared.node.Node.TheVariants.{Lam, Spine}
+use Rattle.ab_store.specs.Trees.{Contents, tree_of, head_reading, node_tree}
+use Rattle.ab_store.specs.Naming.{NodeNames, HeadNames}
+use Rattle.ab_print.specs.NameAssignment.{are_last, is_bound_name, alone, outside}
 
 pub lam_name : (A : Ty) (x : List ℕ) (n k : ℕ) (t : Read) → is_bound_name (n + 1) (k + 1) t ≡ is_bound_name n k (lam A x t)
 lam_name A x n k t = ap (λ (w : ℕ). is_bound_name w (k + 1) t) (add-one n) ∙ ap (λ (w : ℕ). is_bound_name (suc n) w t) (add-one k)

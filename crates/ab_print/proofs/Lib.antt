@@ -1,3 +1,8 @@
+pub mod Texts
+pub mod Membership
+pub mod FreeNames
+pub mod Scoping
+pub mod Formed
 pub mod Bounds
 pub mod Chosen
 pub mod Cutting
@@ -8,3 +13,5 @@ pub mod Scoped
 pub mod Seeing
 pub mod Stems
 pub mod Telling
+pub mod Naming
+pub mod Shown

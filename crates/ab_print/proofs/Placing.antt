@@ -7,9 +7,9 @@ use Rattle.std.proofs.Math.Seq.{take-suc}
 use Rattle.std.proofs.lemmas.Bool.{eqb-true, eq-eqb, leb-true, le-leb, ltb-true, ltb-false, lt-ltb, le-ltb, cases_lt}
 use Rattle.std.proofs.lemmas.List.{length-take-le}
 use Rattle.std.proofs.lemmas.List.Folds.{list_any_at, list_any_none}
-use Rattle.ab_text.specs.Names.{is_in}
+use Rattle.ab_print.specs.PrintedNames.{is_in}
 use Rattle.ab_print.specs.Places.{places_of, has, any_within, IsInOrder}
-use Rattle.ab_print.specs.Scopes.{is_this}
+use Rattle.ab_print.specs.BinderNames.{is_this}
 use Rattle.ab_print.proofs.Scoped.{drop_here, by_option}
 
 -- two tests that pass alike

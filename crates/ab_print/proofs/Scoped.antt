@@ -6,16 +6,16 @@ use Rattle.std.proofs.lemmas.List.{length-map, length-reverse, get_or-reverse, r
 use Rattle.std.specs.declared.alloc.Global.{Global}
 use Rattle.std.specs.declared.vec.Vec.{Vec}
 use Rattle.ab_term.specs.Types.{Ty}
-use Rattle.ab_logic.specs.ab_types.specs.Entries.{Table}
-use Rattle.ab_logic.specs.ab_store.specs.Trees.{Contents}
+use Rattle.ab_store.specs.ab_types.specs.Entries.{Table}
+use Rattle.ab_store.specs.Trees.{Contents}
 use Rattle.ab_term.specs.Terms.{Head, index, Term, lam}
-use Rattle.ab_text.specs.Shapes.{Shape, abstraction}
-use Rattle.ab_text.specs.Naming as plain
-use Rattle.ab_text.specs.Names.{name_of, free_heads, is_in, fresh}
-use Rattle.ab_print.specs.declared.drawing.Seen.{Seen}
+use Rattle.ab_print.specs.Shapes.{Shape, abstraction}
+use Rattle.ab_print.specs.NameAssignment as plain
+use Rattle.ab_print.specs.PrintedNames.{name_of, free_heads, is_in, fresh}
+use Rattle.ab_print.specs.declared.drawings.Seen.{Seen}
 use Rattle.ab_print.specs.Drawings.{from, all_from}
-use Rattle.ab_print.specs.Shown.{cell_name}
-use Rattle.ab_print.specs.Scopes.{names_in, name_of_some, name_from, is_this}
+use Rattle.ab_print.specs.GoalText.{cell_name}
+use Rattle.ab_print.specs.BinderNames.{names_in, name_of_some, name_from, is_this}
 
 module _ (name : ℕ → List ℕ) where
   inside : (ns : List (List ℕ)) (i : ℕ) → i < length ns → name_of name ns (index i) ≡ Some (get_or ns i [])

@@ -10,15 +10,15 @@ use Rattle.ab_term.specs.Types.{Ty}
 use Rattle.ab_term.specs.Terms as tree
 use Rattle.ab_term.specs.Terms.{constant, logical, nominal, variable, index, lam, Read}
 use Rattle.ab_term.specs.Substitution.{lower_head}
-use Rattle.ab_logic.specs.ab_types.specs.Entries.{Table}
-use Rattle.ab_logic.specs.ab_store.specs.declared.node.Head.{Head}
-use Rattle.ab_logic.specs.ab_store.specs.declared.node.Head.TheVariants.{Index}
-use Rattle.ab_logic.specs.ab_store.specs.Trees.{Contents, head_reading}
-use Rattle.ab_text.specs.Names.{free_heads}
+use Rattle.ab_store.specs.ab_types.specs.Entries.{Table}
+use Rattle.ab_store.specs.declared.node.Head.{Head}
+use Rattle.ab_store.specs.declared.node.Head.TheVariants.{Index}
+use Rattle.ab_store.specs.Trees.{Contents, head_reading}
+use Rattle.ab_print.specs.PrintedNames.{free_heads}
 use Rattle.std.specs.declared.alloc.Global.{Global}
 use Rattle.std.specs.declared.vec.Vec.{Vec}
-use Rattle.ab_print.specs.declared.drawing.Seen.{Seen}
-use Rattle.ab_print.specs.declared.drawing.Part.{Part}
+use Rattle.ab_print.specs.declared.drawings.Seen.{Seen}
+use Rattle.ab_print.specs.declared.drawings.Part.{Part}
 use Rattle.ab_print.specs.Drawings.{outside, bound_so_far, IsHeld, AreHeld, from, all_from, Puts, IsPart}
 use Rattle.ab_print.specs.Places.{places_of, has, is_bound_by, is_bound_at, IsInOrder}
 use Rattle.ab_print.proofs.Placing.{not_both, has_place, places_in_order, places_append}

@@ -4,7 +4,7 @@ use Rattle.std.proofs.Math.Seq.{take-suc, take-length}
 use Rattle.std.specs.Prelude.{if◌then◌else◌}
 use Rattle.std.specs.Char.{is_ascii_digit}
 use Rattle.std.specs.List.{list_all}
-use Rattle.ab_text.specs.Names.{stem}
+use Rattle.ab_print.specs.PrintedNames.{stem}
 
 abbrev all_digits : List ℕ → Bool
 all_digits = list_all is_ascii_digit

@@ -8,20 +8,20 @@ use Rattle.std.proofs.lemmas.Bool.{eqb-true, eq-eqb, ltb-true, lt-ltb, cases_lt}
 use Rattle.std.specs.declared.alloc.Global.{Global}
 use Rattle.std.specs.declared.vec.Vec.{Vec}
 use Rattle.ab_term.specs.Terms.{index}
-use Rattle.ab_logic.specs.ab_types.specs.Entries.{Table}
-use Rattle.ab_logic.specs.ab_store.specs.declared.node.Head.{Head}
-use Rattle.ab_logic.specs.ab_store.specs.declared.node.Head.TheVariants.{Const, Logic, Nominal, Cell, Index}
-use Rattle.ab_logic.specs.ab_store.specs.Trees.{Contents}
-use Rattle.ab_text.specs.Names.{name_of, is_in, fresh}
-use Rattle.ab_text.proofs.Membership.{is_in-true}
-use Rattle.ab_text.proofs.FreeNames.{fresh_is_free}
-use Rattle.ab_print.specs.declared.drawing.Seen.{Seen}
-use Rattle.ab_print.specs.declared.drawing.Part.{Part}
+use Rattle.ab_store.specs.ab_types.specs.Entries.{Table}
+use Rattle.ab_store.specs.declared.node.Head.{Head}
+use Rattle.ab_store.specs.declared.node.Head.TheVariants.{Const, Logic, Nominal, Cell, Index}
+use Rattle.ab_store.specs.Trees.{Contents}
+use Rattle.ab_print.specs.PrintedNames.{name_of, is_in, fresh}
+use Rattle.ab_print.proofs.Membership.{is_in-true}
+use Rattle.ab_print.proofs.FreeNames.{fresh_is_free}
+use Rattle.ab_print.specs.declared.drawings.Seen.{Seen}
+use Rattle.ab_print.specs.declared.drawings.Part.{Part}
 use Rattle.ab_print.specs.Drawings.{IsPart}
 use Rattle.ab_print.specs.Places.{places_of, places_in, places_at, own_name, has, any_within, is_bound_by, is_bound_at, IsInOrder, IsPut}
-use Rattle.ab_print.specs.Scopes.{names_in, name_of_some, name_from, is_this}
-use Rattle.ab_print.specs.Shown.{cell_name}
-use Rattle.ab_print.specs.Told.{IsTold}
+use Rattle.ab_print.specs.BinderNames.{names_in, name_of_some, name_from, is_this}
+use Rattle.ab_print.specs.GoalText.{cell_name}
+use Rattle.ab_print.specs.NameUses.{IsTold}
 use Rattle.ab_print.proofs.Placing.{never, not_both, has_place, places_in_order, none_within, used_where_placed}
 use Rattle.ab_print.proofs.Scoped.{names_more, size}
 

@@ -7,17 +7,17 @@ use Rattle.std.specs.declared.alloc.Global.{Global}
 use Rattle.std.specs.declared.vec.Vec.{Vec}
 use Rattle.ab_term.specs.Terms as tree
 use Rattle.ab_term.specs.Terms.{constant, logical, nominal, variable, index, lam, spine, Terms, no_terms, term, Read}
-use Rattle.ab_logic.specs.ab_types.specs.Entries.{Table}
-use Rattle.ab_logic.specs.ab_types.specs.Ids.{type_of}
-use Rattle.ab_logic.specs.ab_store.specs.declared.node.Head.{Head}
-use Rattle.ab_logic.specs.ab_store.specs.Trees.{Contents, head_reading}
-use Rattle.ab_logic.specs.ab_store.specs.Naming.{HoldsHead, HeadIsTyped}
-use Rattle.ab_text.specs.Names.{free_heads}
-use Rattle.ab_text.specs.Naming.{alone}
-use Rattle.ab_print.specs.declared.drawing.Seen.{Seen}
-use Rattle.ab_print.specs.declared.drawing.Part.{Part}
-use Rattle.ab_print.specs.declared.drawing.Drawing.{Drawing, Lam', Spine'}
-use Rattle.ab_print.specs.declared.drawing.Drawings.{Drawings, End, More'}
+use Rattle.ab_store.specs.ab_types.specs.Entries.{Table}
+use Rattle.ab_store.specs.ab_types.specs.Ids.{type_of}
+use Rattle.ab_store.specs.declared.node.Head.{Head}
+use Rattle.ab_store.specs.Trees.{Contents, head_reading}
+use Rattle.ab_store.specs.Naming.{HoldsHead, HeadIsTyped}
+use Rattle.ab_print.specs.PrintedNames.{free_heads}
+use Rattle.ab_print.specs.NameAssignment.{alone}
+use Rattle.ab_print.specs.declared.drawings.Seen.{Seen}
+use Rattle.ab_print.specs.declared.drawings.Part.{Part}
+use Rattle.ab_print.specs.declared.drawings.Drawing.{Drawing, Lam', Spine'}
+use Rattle.ab_print.specs.declared.drawings.Drawings.{Drawings, End, More'}
 use Rattle.ab_print.specs.Places.{places_of, has, is_bound_at, IsInOrder}
 
 -- a head, where it is seen from outside so many binders; the names that these bind aren't seen there

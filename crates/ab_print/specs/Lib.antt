@@ -1,16 +1,21 @@
--- What is printed of the terms and the goals of a world.
-pub mod Drawings
-pub mod Shown
-pub mod Scopes
-pub mod Places
-pub mod Told
+-- WHAT IS PRINTED of a term, a goal and a reply.
+-- Shapes: plain trees in which each bound name has its printed name; their bytes, and the grammar's trees that they are.
+pub mod Shapes
+pub mod ShapeText
+pub mod ShapeTrees
+pub mod Values
+pub mod QuantifierRows
+pub mod ShapeExamples
+-- Names: what a bound name is called.
+pub mod PrintedNames
+pub mod NameAssignment
+pub mod NameScopes
+-- Terms and goals of a world, as bytes.
+pub mod GoalText
+pub mod NamedGoalText
 pub mod Examples
--- Libraries that the crates above name through this one.
-pub use Rattle.ab_logic.specs.ab_solve
-pub use Rattle.ab_logic.specs.ab_cases
-pub use Rattle.ab_text
-pub use Rattle.ab_logic.specs.ab_types
-pub use Rattle.ab_logic.specs.ab_store
-pub use Rattle.ab_logic.specs.ab_fits
-pub use Rattle.ab_logic.specs.ab_clauses
-pub use Rattle.ab_logic
+-- Terms taken out of a store, with the places of their heads: words that only proofs and private contracts speak.
+pub mod Drawings
+pub mod BinderNames
+pub mod Places
+pub mod NameUses

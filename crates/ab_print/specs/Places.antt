@@ -7,13 +7,13 @@ use Rattle.std.specs.List.Sorted.{IsNonDecreasingBy}
 use Rattle.std.specs.HashMap.{HashMap, get_by}
 use Rattle.std.specs.declared.alloc.Global.{Global}
 use Rattle.std.specs.declared.vec.Vec.{Vec}
-use Rattle.ab_logic.specs.ab_types.specs.Entries.{Table}
-use Rattle.ab_logic.specs.ab_store.specs.declared.node.Head.{Head}
-use Rattle.ab_logic.specs.ab_store.specs.declared.node.Head.TheVariants.{Const, Logic, Nominal, Cell, Index}
-use Rattle.ab_logic.specs.ab_store.specs.Trees.{Contents, head_reading}
-use Rattle.ab_text.specs.Names.{name_of}
-use Rattle.ab_print.specs.declared.drawing.Seen.{Seen}
-use Rattle.ab_print.specs.Shown.{cell_name}
+use Rattle.ab_store.specs.ab_types.specs.Entries.{Table}
+use Rattle.ab_store.specs.declared.node.Head.{Head}
+use Rattle.ab_store.specs.declared.node.Head.TheVariants.{Const, Logic, Nominal, Cell, Index}
+use Rattle.ab_store.specs.Trees.{Contents, head_reading}
+use Rattle.ab_print.specs.PrintedNames.{name_of}
+use Rattle.ab_print.specs.declared.drawings.Seen.{Seen}
+use Rattle.ab_print.specs.GoalText.{cell_name}
 
 -- the numbers of what passes, where the first has this number
 abbrev pub places_of : {X : Type 0} → (X → Bool) → ℕ → List X → List ℕ

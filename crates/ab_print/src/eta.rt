@@ -2,13 +2,13 @@
 ghost use Rattle.std.specs.Prelude.{◌≡◌, ℕ, List, ◌&&◌, ◌+◌, ◌<◌, ◌^◌, map, All, IfSome};
 ghost use Rattle.std.specs.Option.{option_map};
 ghost use Rattle.ab_term.specs.Terms.{Terms, spine, terms_of};
-ghost use Rattle.ab_logic.specs.ab_types.specs.Entries.{Table};
-ghost use Rattle.ab_logic.specs.ab_store.specs.Trees.{Contents, Holds, tree_of, head_reading};
-ghost use Rattle.ab_logic.specs.ab_store.specs.Naming.{IsTypedBy};
-ghost use Rattle.ab_text.specs.Naming as plain;
+ghost use Rattle.ab_store.specs.ab_types.specs.Entries.{Table};
+ghost use Rattle.ab_store.specs.Trees.{Contents, Holds, tree_of, head_reading};
+ghost use Rattle.ab_store.specs.Naming.{IsTypedBy};
+ghost use Rattle.ab_print.specs.NameAssignment as plain;
 ghost use Rattle.ab_print.specs.Drawings.{IsHeld};
 
-use ab_logic::below::store::{Head, Node, Store, TermId};
+use ab_store::{Head, Node, Store, TermId};
 
 /// A head, where it stands under this many binders and outside them, where it is a name that can stand alone.
 fn outside(binders: usize, head: Head) -> Option<Head>

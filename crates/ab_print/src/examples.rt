@@ -1,7 +1,7 @@
 //! Worked instances: the definitions give the goals that one writes by hand.
 ghost use Rattle.std.specs.Prelude.{◌≡◌, [], ◌∷◌, codes};
 ghost use Rattle.ab_print.specs.Examples.{all_names, known, unknown, local, fresh_one, implies, equal, all, smaller, same_size, nat, plus, zero_term, with_name, goal_of, right_zero, by_induction};
-ghost use Rattle.ab_print.specs.Shown.{goal_lines, other_goal, reply_line};
+ghost use Rattle.ab_print.specs.GoalText.{goal_lines, other_goal, reply_line};
 
 /// Goals of a proof by induction.
 pub fn goals_compute()

@@ -1,15 +1,22 @@
-//! Terms and goals of a world, and replies, as bytes.
+//! Terms, goals and replies as bytes.
 #![tactic(auto)]
 
-pub mod below;
-mod choosing;
-mod drawing;
+mod bound_names;
+mod drawings;
 mod eta;
 pub mod examples;
+pub mod goal_laws;
+mod levels;
 mod logic;
-mod naming;
+mod name_assignment;
+pub mod naming_laws;
+mod output;
 mod places;
-mod reading;
-mod showing;
+mod plain_terms;
+pub mod reading_laws;
+mod shape;
+mod shape_bytes;
+pub mod shape_examples;
+mod shape_parts;
 
-pub use showing::{show_goal, show_other, show_reply, show_term};
+pub use output::{show_goal, show_other, show_reply, show_term};

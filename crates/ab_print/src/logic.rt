@@ -1,15 +1,16 @@
 //! Logical constants with what they are given.
 ghost use Rattle.std.specs.Prelude.{◌≡◌, IfOk};
-ghost use Rattle.ab_logic.specs.ab_types.specs.Entries.{Table};
-ghost use Rattle.ab_logic.specs.ab_store.specs.Trees.{Contents, logical_of, head_reading};
-ghost use Rattle.ab_text.specs.Naming as plain;
-ghost use Rattle.ab_text.specs.Values.{shape_of, shapes_of};
+ghost use Rattle.ab_store.specs.ab_types.specs.Entries.{Table};
+ghost use Rattle.ab_store.specs.Trees.{Contents, logical_of, head_reading};
+ghost use Rattle.ab_print.specs.NameAssignment as plain;
+ghost use Rattle.ab_print.specs.Values.{shape_of, shapes_of};
 
-use ab_grammar::{Infix, Quant};
-use ab_logic::below::store::{Head, Logical};
-use ab_text::{
-    Shape, Shapes, between, judged, judged_in_focus, quantified, truth_value, with_mark, with_pi,
+use crate::shape::{Shape, Shapes};
+use crate::shape_parts::{
+    between, judged, judged_in_focus, quantified, truth_value, with_mark, with_pi,
 };
+use ab_grammar::{Infix, Quant};
+use ab_store::{Head, Logical};
 use std::alloc::{AllocError, Global};
 
 /// Whether the head stands before an abstraction: a quantifier, or `pi`.

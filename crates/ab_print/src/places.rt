@@ -1,17 +1,17 @@
 //! Where heads stand in a term, by the names that they are printed with.
 ghost use Rattle.std.specs.Prelude.{◌≡◌, ◌≤◌, ◌++◌, List, ℕ, [], ◌∷◌, length, true, false, nat_lt, IfOk, OnOk, if◌then◌else◌};
 ghost use Rattle.std.specs.List.Sorted.{IsPartitionPoint};
-ghost use Rattle.ab_logic.specs.ab_store.specs.Trees.{head_reading};
-ghost use Rattle.ab_text.specs.Names.{name_of};
+ghost use Rattle.ab_store.specs.Trees.{head_reading};
+ghost use Rattle.ab_print.specs.PrintedNames.{name_of};
 ghost use Rattle.ab_print.specs.Drawings.{IsHeld, AreHeld};
 ghost use Rattle.ab_print.specs.Places.{places_of, places_in, places_at, own_name, any_within, IsInOrder, IsPut};
-ghost use Rattle.ab_print.specs.Scopes.{is_this};
-ghost use Rattle.ab_print.specs.Shown.{cell_name};
+ghost use Rattle.ab_print.specs.BinderNames.{is_this};
+ghost use Rattle.ab_print.specs.GoalText.{cell_name};
 
-use crate::drawing::{Part, Seen};
-use crate::naming::head_name;
-use ab_logic::below::store::{Head, Store};
-use ab_logic::below::types::TypeTable;
+use crate::drawings::{Part, Seen};
+use crate::name_assignment::head_name;
+use ab_store::types::TypeTable;
+use ab_store::{Head, Store};
 use std::alloc::{AllocError, Global};
 use std::collections::HashMap;
 

@@ -1,6 +1,6 @@
 -- What holds with every label holds with the label that is given.
 use Rattle.std.specs.Prelude.{Result, Ok, Err, IfOk}
-use Rattle.ab_formulas.specs.Names.{Label}
+use Rattle.ab_formulas.specs.NewNames.{Label}
 
 pub at_label : {A E : Type 0} (P : Label → Type 0) (r : Result A E) (l : Label) → IfOk r (λ u. (m : Label) → P m) → IfOk r (λ u. P l)
 at_label P (Ok u) l f = f l

@@ -4,9 +4,9 @@ use Rattle.std.proofs.Common.{subst, arith}
 use Rattle.std.proofs.lemmas.List.{get_or-map, length-map}
 use Rattle.ab_syntax.specs.declared.command.Instance.{Instance}
 use Rattle.ab_syntax.specs.Commands.{instance_of}
-use Rattle.ab_syntax.specs.Trees.{tree_of}
-use Rattle.ab_applying.specs.ab_elaborate.specs.Judgements.{HasNoJudgement}
-use Rattle.ab_proofcmd.specs.Built.{InstanceHasNoJudgement}
+use Rattle.ab_syntax.specs.SyntaxTrees.{tree_of}
+use Rattle.ab_infer.specs.Judgements.{HasNoJudgement}
+use Rattle.ab_proofcmd.specs.SupportedCommands.{InstanceHasNoJudgement}
 
 pub none_given : (is : List Instance) → All InstanceHasNoJudgement (map instance_of is) → All (λ (i : Instance). HasNoJudgement (tree_of i.term)) is
 none_given is h = λ k d below.

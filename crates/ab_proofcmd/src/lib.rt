@@ -1,8 +1,21 @@
-//! Proof commands: what each does to the first open goal, by steps of the kernel alone.
+//! Proof commands that use a formula or are given one, and one call for all proof commands.
 #![tactic(auto)]
 
-mod applying;
-mod judging;
+mod application;
+mod assertions;
+mod awaited_formulas;
+mod awaited_goals;
+mod backchaining;
+mod expressions;
+mod given_terms;
+mod goal_scopes;
+mod judgements;
+mod many_goals;
+mod new_conclusions;
+mod proof_commands;
+mod questions;
+mod stages;
+mod use_results;
+mod witnesses;
 
-pub use ab_exchanging::below::progress::ProofCommandFault;
-pub use applying::{apply_proof_command, is_built};
+pub use proof_commands::{apply_proof_command, is_built};

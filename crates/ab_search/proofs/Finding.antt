@@ -4,10 +4,10 @@ use Rattle.std.specs.Option.{IsNone, is_some}
 use Rattle.std.proofs.Common.{◌≡◌, Bool, true, false, Option, Some, None, refl, sym, ◌∙◌}
 use Rattle.ab_term.specs.Names.{permute, IsPermutationTable, EqualUpToNames}
 use Rattle.ab_term.specs.Translation.{EqualPastHints}
-use Rattle.ab_progress.specs.ab_types.specs.Entries.{Table}
+use Rattle.ab_norm.specs.ab_types.specs.Entries.{Table}
 use Rattle.ab_term.specs.Terms.{Read}
-use Rattle.ab_progress.specs.ab_norm.specs.Nominals.{pairs_of}
-use Rattle.ab_progress.specs.ab_norm.specs.declared.nominal.Permutation.{Permutation}
+use Rattle.ab_norm.specs.Nominals.{pairs_of}
+use Rattle.ab_norm.specs.declared.nominal.Permutation.{Permutation}
 
 pub found_is : (types : Table) (a b : Read) (o : Option Permutation) (r : Bool) → r ≡ is_some o
     → IfSome o (λ by. IsPermutationTable (pairs_of types by.pairs)) → IfSome o (λ by. EqualPastHints (permute (pairs_of types by.pairs) a) b)

@@ -3,19 +3,19 @@ use Rattle.std.specs.Prelude.{Option, Some, IfSome, All, ◌==◌}
 use Rattle.std.proofs.Common.{◌≡◌, ◌≢◌, ◌<◌, ◌+◌, ◌⊎◌, inl, inr, ℕ, Bool, true, false, List, [], ◌∷◌, map, refl, sym, ◌∙◌, ap, subst, arith}
 use Rattle.std.proofs.lemmas.List.Elements.{All-head, All-tail, All-weaker}
 use Rattle.ab_formulas.specs.Declarations.{Declarations}
-use Rattle.ab_progress.specs.ab_logic.specs.Growth.{Grows}
+use Rattle.ab_logic.specs.WorldGrowth.{Grows}
 use Rattle.ab_formulas.specs.Sequents.{Sequent, formulas}
-use Rattle.ab_progress.specs.ab_logic.specs.Worlds.{read, IsWorld, declarations_of}
-use Rattle.ab_progress.specs.ab_logic.specs.declared.world.World.{World}
+use Rattle.ab_logic.specs.Worlds.{read, IsWorld, declarations_of}
+use Rattle.ab_logic.specs.declared.world.World.{World}
 use Rattle.ab_theory.specs.Atoms.{defined_atom}
-use Rattle.ab_progress.specs.ab_alternatives.specs.declared.atoms.DefinedAtom.{DefinedAtom}
-use Rattle.ab_progress.specs.ab_alternatives.proofs.Lasting.{same_atom, still_defined}
+use Rattle.ab_alternatives.specs.declared.atoms.DefinedAtom.{DefinedAtom}
+use Rattle.ab_alternatives.proofs.Lasting.{same_atom, still_defined}
 use Rattle.ab_theory.specs.Derivations.{History, open_goals}
-use Rattle.ab_progress.specs.ab_kernel.specs.Layout.{Held, IsProof, history_of}
-use Rattle.ab_progress.specs.Progress.{goals_of, Follows}
-use Rattle.ab_search.specs.Asked.{First, AreGiven, IsAsked, MayUnfold, IsUnfolded, IsClosed, StaysOpen, IsClosedUnfolded, UnfoldsToNone}
+use Rattle.ab_steps.specs.ab_kernel.specs.Layout.{Held, IsProof, history_of}
+use Rattle.ab_steps.specs.Progress.{goals_of, Follows}
+use Rattle.ab_search.specs.SearchGoals.{First, AreGiven, IsAsked, MayUnfold, IsUnfolded, IsClosed, StaysOpen, IsClosedUnfolded, UnfoldsToNone}
 use Rattle.ab_search.specs.Choices.{IsBare, Assumes}
-use Rattle.ab_search.specs.Closing.{Unfolds, CanBeClosed}
+use Rattle.ab_effects.specs.Search.{Unfolds, CanBeClosed}
 use Rattle.ab_search.specs.declared.bare.Bare.{Bare}
 use Rattle.ab_search.proofs.Making.{still_bare}
 use Rattle.ab_search.proofs.Reading.{first_is_sequent}

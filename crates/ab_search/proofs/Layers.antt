@@ -3,14 +3,14 @@ use Rattle.std.proofs.Common.{◌≡◌, ℕ, zero, suc, ◌<◌, ◌≤◌, [],
 use Rattle.std.proofs.lemmas.List.Elements.{All-head, All-tail}
 use Rattle.ab_term.specs.Logical.{Logical, conjunction, disjunction}
 use Rattle.ab_term.specs.Terms.{logical, spine, no_terms, term, Read}
-use Rattle.ab_progress.specs.ab_types.specs.Entries.{Table}
-use Rattle.ab_progress.specs.ab_store.specs.declared.node.TermId.{TermId}
-use Rattle.ab_progress.specs.ab_store.specs.declared.node.Node.{Node}
-use Rattle.ab_progress.specs.ab_store.specs.declared.node.Node.TheVariants.{Lam, Spine}
-use Rattle.ab_progress.specs.ab_store.specs.declared.node.Head.TheVariants.{Index}
-use Rattle.ab_progress.specs.ab_store.specs.Naming.{NodeNames, NodesNameEarlier}
-use Rattle.ab_progress.specs.ab_store.specs.Trees.{Contents, Holds, node_tree, tree_of}
-use Rattle.ab_progress.specs.ab_store.proofs.Nodes.{terms_from-at}
+use Rattle.ab_norm.specs.ab_types.specs.Entries.{Table}
+use Rattle.ab_norm.specs.ab_store.specs.declared.node.TermId.{TermId}
+use Rattle.ab_norm.specs.ab_store.specs.declared.node.Node.{Node}
+use Rattle.ab_norm.specs.ab_store.specs.declared.node.Node.TheVariants.{Lam, Spine}
+use Rattle.ab_norm.specs.ab_store.specs.declared.node.Head.TheVariants.{Index}
+use Rattle.ab_norm.specs.ab_store.specs.Naming.{NodeNames, NodesNameEarlier}
+use Rattle.ab_norm.specs.ab_store.specs.Trees.{Contents, Holds, node_tree, tree_of}
+use Rattle.ab_norm.specs.ab_store.proofs.Nodes.{terms_from-at}
 use Rattle.ab_formulas.specs.Forms.{both, either, form_of}
 use Rattle.ab_search.specs.Layers.{layers}
 use Rattle.ab_search.proofs.Forms.{is_both, is_either}

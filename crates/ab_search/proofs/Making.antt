@@ -3,12 +3,12 @@ use Rattle.std.proofs.Common.{◌≡◌, List, [], ◌∷◌, ◌++◌, map, sym
 use Rattle.std.specs.List.{All}
 use Rattle.std.proofs.lemmas.List.{map-append}
 use Rattle.std.proofs.lemmas.List.Elements.{All-weaker, All-push}
-use Rattle.ab_progress.specs.ab_logic.specs.Growth.{Grows}
+use Rattle.ab_logic.specs.WorldGrowth.{Grows}
 use Rattle.ab_formulas.specs.Marks.{erased}
-use Rattle.ab_progress.specs.ab_logic.specs.Worlds.{declarations_of}
-use Rattle.ab_progress.specs.ab_logic.specs.declared.world.World.{World}
-use Rattle.ab_progress.specs.ab_logic.specs.declared.sequent.Hypothesis.{Hypothesis}
-use Rattle.ab_progress.specs.ab_logic.proofs.Growing.{grows_on}
+use Rattle.ab_logic.specs.Worlds.{declarations_of}
+use Rattle.ab_logic.specs.declared.world.World.{World}
+use Rattle.ab_logic.specs.declared.sequent.Hypothesis.{Hypothesis}
+use Rattle.ab_logic.proofs.Growing.{grows_on}
 use Rattle.ab_search.specs.Choices.{IsBare}
 use Rattle.ab_search.specs.declared.bare.Bare.{Bare}
 

@@ -9,9 +9,9 @@ use Rattle.ab_term.specs.Translation.{translate_head, translate, translate_all}
 use Rattle.ab_term.specs.Variables.{variables}
 use Rattle.ab_term.proofs.Lists.{Contains-none, Contains-cases, Contains-from_map, AllPairs-parts}
 use Rattle.ab_formulas.specs.Sequents.{Variable, HoldsOnly, in_terms}
-use Rattle.ab_formulas.specs.Goals.{name_in, with_names}
+use Rattle.ab_formulas.specs.NamedGoals.{name_in, with_names}
 use Rattle.ab_formulas.proofs.GoalsAgreeing.{translate_agrees}
-use Rattle.ab_alike.proofs.Renumbered.{translate_twice}
+use Rattle.ab_effects.proofs.Renumbered.{translate_twice}
 
 head_itself : (h : Head ℕ) → translate_head (λ n. n) h ≡ h
 head_itself (constant c) = refl

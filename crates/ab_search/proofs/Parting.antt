@@ -3,18 +3,18 @@ use Rattle.std.proofs.Common.{◌≡◌, ◌≢◌, ℕ, List, [], ◌∷◌, �
 use Rattle.ab_term.specs.Terms.{Read}
 use Rattle.ab_formulas.specs.Forms.{both, either, form_of}
 use Rattle.ab_formulas.specs.Sequents.{Sequent, proving}
-use Rattle.ab_progress.specs.ab_logic.specs.Worlds.{read, declarations_of}
-use Rattle.ab_progress.specs.ab_logic.specs.declared.world.World.{World}
-use Rattle.ab_progress.specs.ab_kernel.specs.Layout.{Held}
-use Rattle.ab_progress.specs.Progress.{goals_of, Follows}
-use Rattle.ab_progress.proofs.Following.{follows_on}
-use Rattle.ab_search.specs.Asked.{AreGiven, IsAsked, IsClosed, StaysOpen}
+use Rattle.ab_logic.specs.Worlds.{read, declarations_of}
+use Rattle.ab_logic.specs.declared.world.World.{World}
+use Rattle.ab_steps.specs.ab_kernel.specs.Layout.{Held}
+use Rattle.ab_steps.specs.Progress.{goals_of, Follows}
+use Rattle.ab_steps.proofs.Following.{follows_on}
+use Rattle.ab_search.specs.SearchGoals.{AreGiven, IsAsked, IsClosed, StaysOpen}
 use Rattle.ab_search.specs.Choices.{Takes, Stays, IsView}
-use Rattle.ab_search.specs.Closing.{CanBeClosed, by_both, by_left, by_right}
+use Rattle.ab_effects.specs.Search.{CanBeClosed, by_both, by_left, by_right}
 use Rattle.ab_search.specs.declared.bare.Bare.{Bare}
 use Rattle.ab_search.specs.declared.choice.Choice.{Choice}
 use Rattle.ab_search.specs.declared.choice.Choice.TheVariants.{Both, Left, Right}
-use Rattle.ab_search.specs.declared.viewing.View.TheVariants.{BothOf, EitherOf}
+use Rattle.ab_search.specs.declared.formula_views.View.TheVariants.{BothOf, EitherOf}
 use Rattle.ab_search.proofs.Going.{one_first, some_first, given_at, asked_at, closed_now, open_now}
 use Rattle.ab_search.proofs.Refuting.{both_open, either_open}
 

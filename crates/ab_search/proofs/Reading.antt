@@ -3,17 +3,17 @@ use Rattle.std.specs.List.{All}
 use Rattle.std.proofs.Common.{◌≡◌, List, [], ◌∷◌, map, refl, sym, ◌∙◌, ap, subst}
 use Rattle.std.proofs.lemmas.List.Elements.{All-head, All-tail}
 use Rattle.ab_term.specs.Terms.{Read}
-use Rattle.ab_progress.specs.ab_store.specs.declared.node.TermId.{TermId}
-use Rattle.ab_progress.specs.ab_logic.specs.Growth.{Grows}
-use Rattle.ab_progress.specs.ab_logic.specs.Readings.{hypothesis_of, sequent_of, HoldsSequent}
+use Rattle.ab_norm.specs.ab_store.specs.declared.node.TermId.{TermId}
+use Rattle.ab_logic.specs.WorldGrowth.{Grows}
+use Rattle.ab_logic.specs.SequentReadings.{hypothesis_of, sequent_of, HoldsSequent}
 use Rattle.ab_formulas.specs.Sequents.{Sequent, IsSequent, formulas}
-use Rattle.ab_progress.specs.ab_logic.specs.Worlds.{read, Holds, IsWorld, declarations_of}
-use Rattle.ab_progress.specs.ab_logic.specs.declared.world.World.{World}
-use Rattle.ab_progress.specs.ab_logic.specs.declared.sequent.Sequent.{Sequent as Kept}
-use Rattle.ab_progress.specs.ab_logic.specs.declared.sequent.Hypothesis.{Hypothesis as KeptHypothesis}
-use Rattle.ab_progress.specs.ab_kernel.specs.Layout.{Held, IsProof, history_of}
+use Rattle.ab_logic.specs.Worlds.{read, Holds, IsWorld, declarations_of}
+use Rattle.ab_logic.specs.declared.world.World.{World}
+use Rattle.ab_logic.specs.declared.sequent.Sequent.{Sequent as Kept}
+use Rattle.ab_logic.specs.declared.sequent.Hypothesis.{Hypothesis as KeptHypothesis}
+use Rattle.ab_steps.specs.ab_kernel.specs.Layout.{Held, IsProof, history_of}
 use Rattle.ab_theory.proofs.Rooted.{open_are_sequents}
-use Rattle.ab_progress.specs.Progress.{goals_of}
+use Rattle.ab_steps.specs.Progress.{goals_of}
 use Rattle.ab_search.specs.Choices.{Assumes}
 use Rattle.ab_search.specs.declared.bare.Bare.{Bare}
 

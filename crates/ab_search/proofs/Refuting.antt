@@ -7,10 +7,10 @@ use Rattle.ab_term.specs.Terms.{Read}
 use Rattle.ab_formulas.specs.Declarations.{Declarations}
 use Rattle.ab_formulas.specs.Forms.{Form, both, either, form_of}
 use Rattle.ab_formulas.specs.Sequents.{Hypothesis, Sequent, formulas, proving}
-use Rattle.ab_progress.specs.ab_logic.specs.Worlds.{read}
-use Rattle.ab_progress.specs.ab_logic.specs.declared.world.World.{World}
+use Rattle.ab_logic.specs.Worlds.{read}
+use Rattle.ab_logic.specs.declared.world.World.{World}
 use Rattle.ab_theory.specs.Atoms.{defined_form}
-use Rattle.ab_search.specs.Closing.{Closes, Unfolds, CanBeClosed, by_truth, by_hypothesis, by_equality, by_both, by_left, by_right, by_unfolding}
+use Rattle.ab_effects.specs.Search.{Closes, Unfolds, CanBeClosed, by_truth, by_hypothesis, by_equality, by_both, by_left, by_right, by_unfolding}
 use Rattle.ab_search.specs.Choices.{Assumes, Takes, Stays, HasNoParts}
 use Rattle.ab_search.specs.declared.choice.Choice.{Choice}
 use Rattle.ab_search.specs.declared.choice.Choice.TheVariants.{Truth, Hypothesis as ByHypothesis, Equality, Both, Left, Right}

@@ -1,35 +1,35 @@
 -- The first goal, as the program sees it, and its conclusion unfolded by a choice.
 use Rattle.std.specs.Prelude.{Some, None, Result, Ok, Err, IfOk, slice_get, ◌^◌}
 use Rattle.std.proofs.Common.{◌≡◌, ◌≢◌, ◌<◌, ℕ, List, [], ◌∷◌, ◌++◌, Option, option_map, refl, sym, ◌∙◌, ap, subst, arith}
-use Rattle.ab_alike.specs.ab_solve.specs.Replacing.{Cell}
-use Rattle.ab_progress.specs.ab_store.specs.declared.node.TermId.{TermId}
-use Rattle.ab_progress.specs.ab_unifying.specs.Problem.{cells_read}
+use Rattle.ab_unifiers.specs.Replacements.{Cell}
+use Rattle.ab_norm.specs.ab_store.specs.declared.node.TermId.{TermId}
+use Rattle.ab_unify.specs.Problem.{cells_read}
 use Rattle.ab_formulas.specs.Declarations.{Declarations}
-use Rattle.ab_progress.specs.ab_logic.specs.Forms.{sign_of}
-use Rattle.ab_progress.specs.ab_logic.specs.Growth.{Grows}
-use Rattle.ab_progress.specs.ab_logic.specs.Readings.{sequent_of, HoldsSequent}
+use Rattle.ab_logic.specs.Forms.{sign_of}
+use Rattle.ab_logic.specs.WorldGrowth.{Grows}
+use Rattle.ab_logic.specs.SequentReadings.{sequent_of, HoldsSequent}
 use Rattle.ab_formulas.specs.Sequents.{Sequent, IsSequent, goal_names}
-use Rattle.ab_progress.specs.ab_logic.specs.Worlds.{IsWorld, Holds, read, declarations_of}
-use Rattle.ab_progress.specs.ab_logic.specs.declared.world.World.{World}
-use Rattle.ab_progress.specs.ab_logic.specs.declared.sequent.Sequent.{Sequent as Kept}
-use Rattle.ab_formulas.specs.Marking.{MayBeUnfolded}
+use Rattle.ab_logic.specs.Worlds.{IsWorld, Holds, read, declarations_of}
+use Rattle.ab_logic.specs.declared.world.World.{World}
+use Rattle.ab_logic.specs.declared.sequent.Sequent.{Sequent as Kept}
+use Rattle.ab_formulas.specs.BodyMarks.{MayBeUnfolded}
 use Rattle.ab_theory.specs.Equations.{AreCells}
 use Rattle.ab_theory.specs.Atoms.{Choice, defined_atom, choices_of}
-use Rattle.ab_progress.specs.ab_alternatives.specs.Matching.{Matches}
-use Rattle.ab_progress.specs.ab_alternatives.specs.Readings.{defined_read, HoldsDefined}
-use Rattle.ab_progress.specs.ab_alternatives.specs.declared.atoms.DefinedAtom.{DefinedAtom}
-use Rattle.ab_progress.specs.ab_alternatives.specs.declared.matching.Match.{Match}
-use Rattle.ab_progress.specs.ab_alternatives.specs.declared.matching.Match.TheVariants.{Closed}
+use Rattle.ab_alternatives.specs.ChoiceMatches.{Matches}
+use Rattle.ab_alternatives.specs.AtomReadings.{defined_read, HoldsDefined}
+use Rattle.ab_alternatives.specs.declared.atoms.DefinedAtom.{DefinedAtom}
+use Rattle.ab_alternatives.specs.declared.choice_matches.Match.{Match}
+use Rattle.ab_alternatives.specs.declared.choice_matches.Match.TheVariants.{Closed}
 use Rattle.ab_theory.specs.Steps.{definition_right}
-use Rattle.ab_progress.specs.ab_rules.proofs.NewNumbers.{over_cells}
+use Rattle.ab_steps.specs.ab_kernel.proofs.NewNumbers.{over_cells}
 use Rattle.ab_theory.specs.Derivations.{History, open_goals}
-use Rattle.ab_progress.specs.ab_kernel.specs.Layout.{Held, IsProof}
-use Rattle.ab_progress.specs.ab_kernel.proofs.Later.{same_history, still_proof}
-use Rattle.ab_progress.specs.Progress.{goals_of, Follows, TookInto, FailsBy, StuckAt}
-use Rattle.ab_progress.proofs.Following.{follows_same, first_at, one_at_least}
-use Rattle.ab_search.specs.Asked.{First, IsAsked, MayUnfold, IsUnfolded, IsClosed, StaysOpen}
+use Rattle.ab_steps.specs.ab_kernel.specs.Layout.{Held, IsProof}
+use Rattle.ab_steps.specs.ab_kernel.proofs.Later.{same_history, still_proof}
+use Rattle.ab_steps.specs.Progress.{goals_of, Follows, TookInto, FailsBy, StuckAt}
+use Rattle.ab_steps.proofs.Following.{follows_same, first_at, one_at_least}
+use Rattle.ab_search.specs.SearchGoals.{First, IsAsked, MayUnfold, IsUnfolded, IsClosed, StaysOpen}
 use Rattle.ab_search.specs.Choices.{IsBare}
-use Rattle.ab_search.specs.Closing.{Unfolds, CanBeClosed}
+use Rattle.ab_effects.specs.Search.{Unfolds, CanBeClosed}
 use Rattle.ab_search.specs.Layers.{layers}
 use Rattle.ab_search.specs.declared.bare.Bare.{Bare}
 use Rattle.ab_search.proofs.Layers.{layers_within}

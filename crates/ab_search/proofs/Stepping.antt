@@ -1,12 +1,11 @@
 -- Choices as steps of the kernel: the step's rule can't fail there, and leads where the choice does.
-use Rattle.std.specs.Prelude.{AllPairs}
+use Rattle.std.specs.Prelude.{AllPairs, if◌then◌else◌}
 use Rattle.std.proofs.Common.{◌≡◌, ◌≢◌, inl, inr, ℕ, zero, suc, List, [], ◌∷◌, Some, None, true, false, bytes_eq, slice_get, refl, sym, ◌∙◌, ap, subst}
-use Rattle.std.specs.Prelude.{if◌then◌else◌}
 use Rattle.std.proofs.lemmas.List.Elements.{All-contains}
 use Rattle.std.proofs.lemmas.Slice.Eq.{bytes_eq-Decides}
 use Rattle.ab_term.proofs.Lists.{AllPairs-parts}
 use Rattle.ab_term.specs.Terms.{Read}
-use Rattle.ab_alike.specs.ab_solve.specs.Replacing.{Cell}
+use Rattle.ab_unifiers.specs.Replacements.{Cell}
 use Rattle.ab_formulas.specs.Declarations.{Declarations}
 use Rattle.ab_formulas.specs.Forms.{truth_in, both_in, either_in, equal_in}
 use Rattle.ab_formulas.specs.Sequents.{Hypothesis, Sequent, IsSequent, named, formula_of, proving}
@@ -14,10 +13,10 @@ use Rattle.ab_term.specs.Names.{EqualUpToNames}
 use Rattle.ab_term.specs.Translation.{EqualPastHints}
 use Rattle.ab_formulas.specs.Marks.{erased, MarksServeIn}
 use Rattle.ab_theory.specs.Rules.{NamedRule, Fails}
-use Rattle.ab_progress.specs.Progress.{SolvesNothing}
+use Rattle.ab_steps.specs.Progress.{SolvesNothing}
 use Rattle.ab_search.proofs.Refuting.{at_place}
 use Rattle.ab_search.specs.Choices.{Takes}
-use Rattle.ab_search.specs.Steps.{step_for, name_of}
+use Rattle.ab_search.specs.SearchSteps.{step_for, name_of}
 use Rattle.ab_search.specs.declared.choice.Choice.{Choice}
 use Rattle.ab_search.specs.declared.choice.Choice.TheVariants.{Truth, Hypothesis as ByHypothesis, Equality, Both, Left, Right}
 

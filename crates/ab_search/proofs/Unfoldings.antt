@@ -6,29 +6,29 @@ use Rattle.ab_term.specs.Variables.{Substitution, image}
 use Rattle.ab_term.specs.Sameness.{same_number}
 use Rattle.ab_term.proofs.Lists.{Contains-here, Contains-there}
 use Rattle.ab_term.specs.Terms.{Read}
-use Rattle.ab_alike.specs.ab_solve.specs.Replacing.{Cell}
-use Rattle.ab_alike.specs.ab_solve.specs.Solving.{Answer, unified, apart, stuck, Solves}
-use Rattle.ab_alike.specs.ab_solve.proofs.Unique.{unique}
-use Rattle.ab_alike.specs.ab_cases.specs.Clauses.{IsClause}
+use Rattle.ab_unifiers.specs.Replacements.{Cell}
+use Rattle.ab_unifiers.specs.Unification.{Answer, unified, apart, stuck, Solves}
+use Rattle.ab_unifiers.proofs.Unique.{unique}
+use Rattle.ab_unifiers.specs.Clauses.{IsClause}
 use Rattle.ab_formulas.specs.Declarations.{Declarations, IsDefining, HaveDefinitions, HaveSentences, signature_in}
 use Rattle.ab_formulas.specs.Sequents.{Variable, Sequent, IsSequent, HoldsOnly, formulas, goal_names, proving}
-use Rattle.ab_formulas.specs.Goals.{with_names, variable_named}
-use Rattle.ab_formulas.specs.Marking.{MayBeUnfolded}
+use Rattle.ab_formulas.specs.NamedGoals.{with_names, variable_named}
+use Rattle.ab_formulas.specs.BodyMarks.{MayBeUnfolded}
 use Rattle.ab_theory.specs.Equations.{AreCells, made}
 use Rattle.ab_theory.specs.Splits.{problem_of}
 use Rattle.ab_theory.specs.Atoms.{Defined, Choice, defined_atom, choices_of}
 use Rattle.ab_theory.specs.Unfolding.{unfolding_case, closed_over}
-use Rattle.ab_alike.specs.Alike.{IsSameAtom}
-use Rattle.ab_alike.proofs.Unfolding.{answered_also}
-use Rattle.ab_progress.specs.ab_alternatives.specs.Matching.{Matches}
-use Rattle.ab_progress.specs.ab_alternatives.specs.declared.matching.Match.{Match}
-use Rattle.ab_progress.specs.ab_alternatives.specs.declared.matching.Match.TheVariants.{Closed, Open, Apart, Stuck as Outside}
+use Rattle.ab_effects.specs.Likeness.{IsSameAtom}
+use Rattle.ab_effects.proofs.Unfolding.{answered_also}
+use Rattle.ab_alternatives.specs.ChoiceMatches.{Matches}
+use Rattle.ab_alternatives.specs.declared.choice_matches.Match.{Match}
+use Rattle.ab_alternatives.specs.declared.choice_matches.Match.TheVariants.{Closed, Open, Apart, Stuck as Outside}
 use Rattle.ab_theory.specs.Rules.{Rule, NamedRule, Fails, Stuck}
 use Rattle.ab_theory.specs.Steps.{definition_right}
 use Rattle.ab_theory.proofs.Keeping.{kept_by_rule}
 use Rattle.ab_theory.proofs.Sequents.{goal_of}
 use Rattle.ab_theory.proofs.Sized.{atom_of, atom_over}
-use Rattle.ab_search.specs.Closing.{Unfolds}
+use Rattle.ab_effects.specs.Search.{Unfolds}
 use Rattle.ab_search.proofs.Numbered.{same_term}
 
 abbrev Cells : Type 0

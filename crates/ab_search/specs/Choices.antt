@@ -7,14 +7,14 @@ use Rattle.ab_term.specs.Terms.{Read}
 use Rattle.ab_formulas.specs.Forms.{Form, truth, equal, both, either, form_of}
 use Rattle.ab_formulas.specs.Marks.{erased}
 use Rattle.ab_formulas.specs.Sequents.{Hypothesis, Sequent, formulas, proving}
-use Rattle.ab_progress.specs.ab_logic.specs.Worlds.{read, Holds}
-use Rattle.ab_progress.specs.ab_logic.specs.declared.world.World.{World}
-use Rattle.ab_search.specs.Closing.{Closes}
+use Rattle.ab_logic.specs.Worlds.{read, Holds}
+use Rattle.ab_logic.specs.declared.world.World.{World}
+use Rattle.ab_effects.specs.Search.{Closes}
 use Rattle.ab_search.specs.declared.bare.Bare.{Bare}
 use Rattle.ab_search.specs.declared.choice.Choice.{Choice}
 use Rattle.ab_search.specs.declared.choice.Choice.TheVariants.{Truth, Hypothesis as ByHypothesis, Equality, Both, Left, Right}
-use Rattle.ab_search.specs.declared.viewing.View.{View}
-use Rattle.ab_search.specs.declared.viewing.View.TheVariants.{BothOf, EitherOf, NoParts}
+use Rattle.ab_search.specs.declared.formula_views.View.{View}
+use Rattle.ab_search.specs.declared.formula_views.View.TheVariants.{BothOf, EitherOf, NoParts}
 
 -- the second formula is the first without its marks
 pub record IsBare (w : World) (b : Bare) : Type 0 where

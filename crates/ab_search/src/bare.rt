@@ -1,14 +1,14 @@
 //! Formulas beside what they are without their marks.
 ghost use Rattle.std.specs.Prelude.{◌≡◌, IfOk, All, map};
-ghost use Rattle.ab_progress.specs.ab_logic.specs.Growth.{Grows};
-ghost use Rattle.ab_progress.specs.ab_logic.specs.Worlds.{IsWorld, Holds, declarations_of};
-ghost use Rattle.ab_progress.specs.ab_logic.specs.declared.sequent.Hypothesis.{Hypothesis as AHypothesis};
+ghost use Rattle.ab_logic.specs.WorldGrowth.{Grows};
+ghost use Rattle.ab_logic.specs.Worlds.{IsWorld, Holds, declarations_of};
+ghost use Rattle.ab_logic.specs.declared.sequent.Hypothesis.{Hypothesis as AHypothesis};
 ghost use Rattle.ab_search.specs.Choices.{IsBare};
 ghost use Rattle.ab_search.specs.declared.bare.Bare.{Bare as ABare};
 
-use ab_goals::below::logic::{Hypothesis, World};
-use ab_marks::without_marks;
-use ab_goals::below::store::TermId;
+use ab_alternatives::sequents::without_marks;
+use ab_logic::{Hypothesis, World};
+use ab_norm::store::TermId;
 use std::alloc::{AllocError, Global};
 
 /// A formula, and the same without its marks.

@@ -2,16 +2,15 @@
 #![tactic(auto)]
 
 mod bare;
-pub mod below;
 mod choice;
-mod closing;
-mod comparing;
-mod deciding;
 mod fault;
-mod searching;
-mod taking;
-mod unfolding;
-mod viewing;
+mod formula_views;
+mod goal_search;
+mod hypothesis_matches;
+mod immediate_choices;
+mod kernel_steps;
+mod search_calls;
+mod unfolding_steps;
 
 pub use fault::SearchFault;
-pub use searching::search;
+pub use search_calls::search;

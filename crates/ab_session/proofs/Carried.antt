@@ -5,34 +5,34 @@ use Rattle.ab_grammar.specs.CommandTrees as told
 use Rattle.ab_grammar.specs.CommandTrees.{ProofCommand}
 use Rattle.ab_formulas.specs.Declarations.{Declarations, a_theorem, signature_in, theorem_in}
 use Rattle.ab_formulas.specs.Formulas.{IsSentence}
-use Rattle.ab_states.specs.ab_logic.specs.Growth.{Grows}
-use Rattle.ab_formulas.specs.Names.{Label}
+use Rattle.ab_logic.specs.WorldGrowth.{Grows}
+use Rattle.ab_formulas.specs.NewNames.{Label}
 use Rattle.ab_formulas.specs.Sequents.{Sequent}
-use Rattle.ab_states.specs.ab_logic.specs.Worlds.{read, Holds, declarations_of, IsWorld}
-use Rattle.ab_states.specs.ab_logic.specs.declared.world.World.{World}
+use Rattle.ab_logic.specs.Worlds.{read, Holds, declarations_of, IsWorld}
+use Rattle.ab_logic.specs.declared.world.World.{World}
 use Rattle.ab_session.proofs.Counted.{added_in, as_many}
-use Rattle.ab_states.specs.ab_logic.proofs.Growing.{grows_on}
+use Rattle.ab_logic.proofs.Growing.{grows_on}
 use Rattle.ab_theory.specs.Derivations.{History, Valid, open_goals, IsDerivation}
-use Rattle.ab_states.specs.ab_kernel.specs.Layout.{Held, history_of, IsProof}
-use Rattle.ab_states.specs.ab_kernel.proofs.Later.{same_history, still_proof}
-use Rattle.ab_states.specs.ab_effects.specs.Effect.{effect}
-use Rattle.ab_states.specs.ab_effects.specs.Refusals as row
-use Rattle.ab_states.specs.ab_effects.specs.Row.{Row, Leads, Refuses}
-use Rattle.ab_states.specs.ab_progress.specs.Progress.{goals_of, Follows}
-use Rattle.ab_states.specs.ab_progress.specs.Applied.{IsApplied, IsRefused, RefusedBy}
-use Rattle.ab_states.specs.ab_progress.specs.declared.fault.ProofCommandFault.{ProofCommandFault}
-use Rattle.ab_states.specs.ab_progress.specs.declared.fault.ProofCommandFault.TheVariants.{Unknown, Clash, TypeClash, Untyped, NoHypothesis, WrongShape, Mark, NoMatch, NotPattern, Unresolved, NamesSpent, Memory}
-use Rattle.ab_proofcmd.specs.Built.{IsBuilt}
-use Rattle.ab_states.specs.ab_search.specs.Closing.{CanBeClosed}
-use Rattle.ab_states.specs.ab_declare.specs.declared.refusal.Refusal.{Refusal}
-use Rattle.ab_states.specs.ab_declare.specs.declared.refusal.Refusal.TheVariants.{NotFound}
-use Rattle.ab_states.specs.ab_declare.specs.Moments.{HasMore, IsRestored}
-use Rattle.ab_states.specs.ab_declare.specs.Refusals.{refusal_for}
-use Rattle.ab_states.specs.ab_declare.proofs.Restoring.{restored_grows, restored_declares}
-use Rattle.ab_states.specs.Proving.{Makes, RefusesSo, Denies}
+use Rattle.ab_steps.specs.ab_kernel.specs.Layout.{Held, history_of, IsProof}
+use Rattle.ab_steps.specs.ab_kernel.proofs.Later.{same_history, still_proof}
+use Rattle.ab_effects.specs.ProofCommands.{effect}
+use Rattle.ab_meaning.specs.Refusals as row
+use Rattle.ab_effects.specs.Row.{Row, Leads, Refuses}
+use Rattle.ab_steps.specs.Progress.{goals_of, Follows}
+use Rattle.ab_steps.specs.ProofEffects.{IsApplied, IsRefused, RefusedBy}
+use Rattle.ab_steps.specs.declared.fault.ProofCommandFault.{ProofCommandFault}
+use Rattle.ab_steps.specs.declared.fault.ProofCommandFault.TheVariants.{Unknown, Clash, TypeClash, Untyped, NoHypothesis, WrongShape, Mark, NoMatch, NotPattern, Unresolved, NamesSpent, Memory}
+use Rattle.ab_proofcmd.specs.SupportedCommands.{IsBuilt}
+use Rattle.ab_effects.specs.Search.{CanBeClosed}
+use Rattle.ab_declare.specs.declared.refusal.Refusal.{Refusal}
+use Rattle.ab_declare.specs.declared.refusal.Refusal.TheVariants.{NotFound}
+use Rattle.ab_declare.specs.Moments.{HasMore, IsRestored}
+use Rattle.ab_declare.specs.Refusals.{refusal_for}
+use Rattle.ab_declare.proofs.Restoring.{restored_grows, restored_declares}
+use Rattle.ab_states.specs.ProofCommandEffects.{Makes, RefusesSo, Denies}
 use Rattle.ab_session.specs.declared.attempt.Attempt.{Attempt}
 use Rattle.ab_session.specs.Sessions.{IsTried}
-use Rattle.ab_session.specs.Carrying.{TellsOf, IsMade, IsDenied, IsUnchanged, GoesOn, IsCompleted, IsRefusedSo}
+use Rattle.ab_session.specs.ProofAttempts.{TellsOf, IsMade, IsDenied, IsUnchanged, GoesOn, IsCompleted, IsRefusedSo}
 
 -- By rows
 

@@ -1,13 +1,13 @@
 -- How many theorems and definitions are declared.
 use Rattle.std.proofs.Common.{◌≡◌, ℕ, suc, ◌-◌, List, [], ◌∷◌, ◌++◌, length, take, drop, refl, ◌∙◌, ap}
-use Rattle.ab_states.specs.ab_types.specs.Entries as table
-use Rattle.ab_states.specs.ab_types.specs.Entries.{Table}
+use Rattle.ab_store.specs.ab_types.specs.Entries as table
+use Rattle.ab_store.specs.ab_types.specs.Entries.{Table}
 use Rattle.ab_formulas.specs.Declarations.{Declarations, a_kind, a_constant, a_block, a_program_clause, a_theorem}
-use Rattle.ab_states.specs.ab_logic.specs.Worlds.{declared, declaration_of, declared_from}
-use Rattle.ab_states.specs.ab_logic.specs.declared.world.World.{World}
-use Rattle.ab_states.specs.ab_logic.specs.declared.additions.Added.{Added}
-use Rattle.ab_states.specs.ab_logic.specs.declared.additions.Addition.{Addition}
-use Rattle.ab_states.specs.ab_logic.specs.declared.additions.Addition.TheVariants.{Theorem, Definition}
+use Rattle.ab_logic.specs.Worlds.{declared, declaration_of, declared_from}
+use Rattle.ab_logic.specs.declared.world.World.{World}
+use Rattle.ab_logic.specs.declared.additions.Added.{Added}
+use Rattle.ab_logic.specs.declared.additions.Addition.{Addition}
+use Rattle.ab_logic.specs.declared.additions.Addition.TheVariants.{Theorem, Definition}
 
 abbrev pub added_in : Declarations → ℕ
 added_in [] = 0

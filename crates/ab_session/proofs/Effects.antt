@@ -9,42 +9,42 @@ use Rattle.ab_grammar.specs.declared.head.Stand.TheVariants.{Outside}
 use Rattle.ab_grammar.specs.CommandTrees as told
 use Rattle.ab_grammar.specs.CommandTable.{standing}
 use Rattle.ab_grammar.specs.CommandTrees.{Command, ProofCommand}
-use Rattle.ab_states.specs.ab_store.specs.declared.node.TermId.{TermId}
+use Rattle.ab_store.specs.declared.node.TermId.{TermId}
 use Rattle.ab_term.specs.Variables.{variables}
 use Rattle.ab_formulas.specs.Declarations.{a_theorem, signature_in, theorem_in, theorems_in}
 use Rattle.ab_formulas.specs.Formulas.{IsSentence}
-use Rattle.ab_states.specs.ab_logic.specs.Growth.{Grows}
+use Rattle.ab_logic.specs.WorldGrowth.{Grows}
 use Rattle.ab_formulas.specs.Sequents.{Sequent, IsSequent}
-use Rattle.ab_states.specs.ab_logic.specs.Worlds.{read, Holds, declarations_of}
-use Rattle.ab_states.specs.ab_logic.specs.declared.world.World.{World}
+use Rattle.ab_logic.specs.Worlds.{read, Holds, declarations_of}
+use Rattle.ab_logic.specs.declared.world.World.{World}
 use Rattle.ab_theory.specs.Derivations.{History, root, proves, open_goals, beginning}
-use Rattle.ab_states.specs.ab_kernel.specs.Layout.{Held, history_of, IsProof}
+use Rattle.ab_steps.specs.ab_kernel.specs.Layout.{Held, history_of, IsProof}
 use Rattle.ab_theory.proofs.Rooted.{open_are_sequents}
-use Rattle.ab_states.specs.ab_command.specs.declared.fault.Cause.{Cause}
-use Rattle.ab_states.specs.ab_command.specs.Reading.{Fails}
-use Rattle.ab_states.specs.ab_progress.specs.Progress.{goals_of}
-use Rattle.ab_states.specs.ab_progress.proofs.Following.{one_at_least}
-use Rattle.ab_formulas.specs.Goals.{named}
-use Rattle.ab_states.specs.ab_declare.specs.declared.refusal.Refusal.{Refusal}
-use Rattle.ab_states.specs.ab_declare.specs.declared.refusal.Refusal.TheVariants.{Unknown}
-use Rattle.ab_states.specs.ab_declare.specs.Answers.{IsDeclared, IsDeclined, IsStated}
-use Rattle.ab_states.specs.ab_declare.specs.Declaring.{no_theorem}
-use Rattle.ab_states.specs.ab_declare.specs.Moments.{IsRestored}
-use Rattle.ab_states.specs.ab_declare.proofs.Restoring.{restored_grows, restored_declares, restored_itself}
-use Rattle.ab_states.specs.ab_effects.specs.Effect.{given_label}
+use Rattle.ab_command.specs.declared.fault.Cause.{Cause}
+use Rattle.ab_command.specs.CommandReadings.{Fails}
+use Rattle.ab_steps.specs.Progress.{goals_of}
+use Rattle.ab_steps.proofs.Following.{one_at_least}
+use Rattle.ab_formulas.specs.NamedGoals.{named}
+use Rattle.ab_declare.specs.declared.refusal.Refusal.{Refusal}
+use Rattle.ab_declare.specs.declared.refusal.Refusal.TheVariants.{Unknown}
+use Rattle.ab_declare.specs.DeclarationAnswers.{IsDeclared, IsDeclined, IsStated}
+use Rattle.ab_declare.specs.DeclarationCommands.{no_theorem}
+use Rattle.ab_declare.specs.Moments.{IsRestored}
+use Rattle.ab_declare.proofs.Restoring.{restored_grows, restored_declares, restored_itself}
+use Rattle.ab_effects.specs.ProofCommands.{given_label}
 use Rattle.ab_states.specs.State as plain
 use Rattle.ab_states.specs.State.{State, is_open}
 use Rattle.ab_states.specs.Reply as reply
 use Rattle.ab_states.specs.Reply.{unread_for}
-use Rattle.ab_states.specs.Effect as effect
-use Rattle.ab_states.specs.Effect.{Commands, Faces, HasEffect, unread, declined, declared, stated, showed, ended, switched, given_up, denied, led, proved}
+use Rattle.ab_states.specs.StateEffects as effect
+use Rattle.ab_states.specs.StateEffects.{Commands, Faces, HasEffect, unread, declined, declared, stated, showed, ended, switched, given_up, denied, led, proved}
 use Rattle.ab_states.specs.declared.reply.Reply.{Reply}
 use Rattle.ab_states.specs.declared.reply.Reply.TheVariants.{Accepted, Completed, Shown, Quit, Refused}
 use Rattle.ab_session.specs.declared.attempt.Attempt.{Attempt}
 use Rattle.ab_session.specs.Contents.{Contents, attempt_of, state_of}
 use Rattle.ab_session.specs.Sessions.{IsTried, AreProofs, IsSession}
-use Rattle.ab_session.specs.Carrying.{IsUnchanged, GoesOn, IsCompleted, IsRefusedSo}
-use Rattle.ab_session.specs.Answers.{IsProvedLast, IsAnswer}
+use Rattle.ab_session.specs.ProofAttempts.{IsUnchanged, GoesOn, IsCompleted, IsRefusedSo}
+use Rattle.ab_session.specs.SessionAnswers.{IsProvedLast, IsAnswer}
 use Rattle.ab_session.proofs.Sayings.{none_tried}
 use Rattle.ab_session.proofs.Sessions.{as_many, later_proofs, same_proofs, proved_proofs, same_session, same_state, in_world, one_more}
 

@@ -2,7 +2,7 @@
 use Rattle.std.proofs.Common.{◌≡◌, ℕ, true, List, [], ◌∷◌, ◌++◌, refl}
 use Rattle.ab_states.specs.State.{State, empty}
 use Rattle.ab_states.specs.Reply.{Reply, is_kept}
-use Rattle.ab_states.specs.Effect.{HasEffect, unread, declined, declared, stated, showed, ended, switched, given_up, denied, led, proved}
+use Rattle.ab_states.specs.StateEffects.{HasEffect, unread, declined, declared, stated, showed, ended, switched, given_up, denied, led, proved}
 use Rattle.ab_states.specs.Replay.{Replays, none, next, IsReplayed}
 
 replays_on : (s t u : State) (cs : List (List ℕ)) (c : List ℕ) (r : Reply) → Replays s cs t → HasEffect t c r u → is_kept r ≡ true → Replays s (cs ++ c ∷ []) u

@@ -11,17 +11,17 @@ use Rattle.ab_syntax.specs.declared.command.ProofCommand.{ProofCommand}
 use Rattle.ab_syntax.specs.declared.command.ProofCommand.TheVariants as plain
 use Rattle.ab_syntax.specs.Commands.{proof_command_of, instance_of}
 use Rattle.ab_syntax.specs.Items.{list_of}
-use Rattle.ab_syntax.specs.Trees.{tree_of}
-use Rattle.ab_states.specs.ab_elaborate.specs.Judgements as elaborated
-use Rattle.ab_states.specs.ab_clausal.specs.Meanings as clausal
-use Rattle.ab_states.specs.ab_command.specs.Built.{IsBuiltInProof}
-use Rattle.ab_states.specs.ab_command.specs.Judgements.{HasNoJudgement, HaveNoJudgement, InstanceHasNoJudgement, BodyHasNoJudgement, ClauseHasNoJudgement}
-use Rattle.ab_states.specs.ab_command.specs.Reading.{StandsHere}
-use Rattle.ab_states.specs.ab_command.proofs.Sayings.{said_stands}
-use Rattle.ab_proofcmd.specs.Built as carried
-use Rattle.ab_proofcmd.specs.Built.{IsBuilt}
+use Rattle.ab_syntax.specs.SyntaxTrees.{tree_of}
+use Rattle.ab_infer.specs.Judgements as elaborated
+use Rattle.ab_declare.specs.ClauseMeanings as clausal
+use Rattle.ab_command.specs.Supported.{IsBuiltInProof}
+use Rattle.ab_command.specs.Judgements.{HasNoJudgement, HaveNoJudgement, InstanceHasNoJudgement, BodyHasNoJudgement, ClauseHasNoJudgement}
+use Rattle.ab_command.specs.CommandReadings.{StandsHere}
+use Rattle.ab_command.proofs.Sayings.{said_stands}
+use Rattle.ab_proofcmd.specs.SupportedCommands as carried
+use Rattle.ab_proofcmd.specs.SupportedCommands.{IsBuilt}
 use Rattle.ab_states.specs.State.{State, is_open}
-use Rattle.ab_states.specs.Effect.{Commands}
+use Rattle.ab_states.specs.StateEffects.{Commands}
 use Rattle.ab_session.specs.Contents.{Contents, attempt_of, state_of}
 
 some_mapped : {X Y : Type 0} (f : X → Y) (o : Option X) → is_some (option_map f o) ≡ is_some o

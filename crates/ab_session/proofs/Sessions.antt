@@ -7,19 +7,19 @@ use Rattle.ab_term.specs.Terms.{Read}
 use Rattle.ab_grammar.specs.CommandTrees.{Command}
 use Rattle.ab_formulas.specs.Declarations.{Declarations, Block, a_kind, a_constant, a_block, a_theorem, signature_in, theorem_in, theorems_in}
 use Rattle.ab_formulas.specs.Formulas.{IsSentence}
-use Rattle.ab_states.specs.ab_logic.specs.Growth.{Grows}
-use Rattle.ab_states.specs.ab_logic.specs.Worlds.{read, first_declarations, declarations_of, defined, IsWorld}
-use Rattle.ab_states.specs.ab_logic.specs.declared.world.World.{World}
+use Rattle.ab_logic.specs.WorldGrowth.{Grows}
+use Rattle.ab_logic.specs.Worlds.{read, first_declarations, declarations_of, defined, IsWorld}
+use Rattle.ab_logic.specs.declared.world.World.{World}
 use Rattle.ab_formulas.proofs.Declaring.{theorems_in-append}
 use Rattle.ab_theory.specs.Derivations.{Derivation, History, root, proves, open_goals, IsDerivation}
-use Rattle.ab_states.specs.ab_kernel.specs.Layout.{Held, history_of, IsProof}
-use Rattle.ab_states.specs.ab_kernel.proofs.Later.{same_history, still_proof}
-use Rattle.ab_states.specs.ab_progress.specs.Progress.{goals_of}
-use Rattle.ab_formulas.specs.Goals.{named}
-use Rattle.ab_states.specs.ab_declare.specs.Declaring.{Declares, new_kinds, new_constants, new_predicates}
-use Rattle.ab_states.specs.ab_declare.specs.Defining.{predicate_of, block_with}
+use Rattle.ab_steps.specs.ab_kernel.specs.Layout.{Held, history_of, IsProof}
+use Rattle.ab_steps.specs.ab_kernel.proofs.Later.{same_history, still_proof}
+use Rattle.ab_steps.specs.Progress.{goals_of}
+use Rattle.ab_formulas.specs.NamedGoals.{named}
+use Rattle.ab_declare.specs.DeclarationCommands.{Declares, new_kinds, new_constants, new_predicates}
+use Rattle.ab_declare.specs.DefinitionCommands.{predicate_of, block_with}
 use Rattle.ab_states.specs.State as plain
-use Rattle.ab_states.specs.Derived.{IsDerived}
+use Rattle.ab_states.specs.DerivedTheorems.{IsDerived}
 use Rattle.ab_session.specs.declared.attempt.Attempt.{Attempt}
 use Rattle.ab_session.specs.Contents.{Contents, attempt_of, state_of}
 use Rattle.ab_session.specs.Sessions.{IsTried, IsProofOf, AreProofs, IsSession}

@@ -1,14 +1,14 @@
 -- What a session holds, and the state that it is.
 use Rattle.std.specs.Prelude.{ℕ, List, Bool, Option, option_map, map}
-use Rattle.ab_states.specs.ab_logic.specs.Worlds.{read, declarations_of}
-use Rattle.ab_states.specs.ab_logic.specs.declared.world.World.{World}
-use Rattle.ab_states.specs.ab_kernel.specs.Layout.{Held}
-use Rattle.ab_states.specs.ab_progress.specs.Progress.{goals_of}
-use Rattle.ab_formulas.specs.Goals.{named}
+use Rattle.ab_logic.specs.Worlds.{read, declarations_of}
+use Rattle.ab_logic.specs.declared.world.World.{World}
+use Rattle.ab_steps.specs.ab_kernel.specs.Layout.{Held}
+use Rattle.ab_steps.specs.Progress.{goals_of}
+use Rattle.ab_formulas.specs.NamedGoals.{named}
 use Rattle.ab_states.specs.State as plain
 use Rattle.ab_states.specs.State.{State}
 use Rattle.ab_session.specs.declared.attempt.Attempt.{Attempt}
-use Rattle.ab_session.specs.declared.kept.Kept.{Kept}
+use Rattle.ab_session.specs.declared.command_history.Kept.{Kept}
 use Rattle.ab_session.specs.declared.session.Session.TheInside.{Inside}
 
 -- what contracts see of a session

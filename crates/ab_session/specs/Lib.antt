@@ -1,7 +1,7 @@
 -- What a session holds, what is true of it, and what a command leaves of it.
 pub mod Contents
 pub mod Sessions
-pub mod Carrying
-pub mod Answers
+pub mod ProofAttempts
+pub mod SessionAnswers
 -- Libraries that the crates above name through this one.
-pub use Rattle.ab_io
+pub use Rattle.ab_steps

@@ -2,12 +2,12 @@
 use Rattle.std.specs.Prelude.{◌≡◌, ◌≢◌, ℕ, List, [], length, None, Some, IfSome, slice_get}
 use Rattle.ab_formulas.specs.Declarations.{signature_in, theorem_in, theorems_in}
 use Rattle.ab_formulas.specs.Formulas.{IsSentence}
-use Rattle.ab_states.specs.ab_logic.specs.Worlds.{read, Holds, declarations_of, IsWorld}
-use Rattle.ab_states.specs.ab_logic.specs.declared.world.World.{World}
+use Rattle.ab_logic.specs.Worlds.{read, Holds, declarations_of, IsWorld}
+use Rattle.ab_logic.specs.declared.world.World.{World}
 use Rattle.ab_theory.specs.Derivations.{root, proves}
-use Rattle.ab_states.specs.ab_kernel.specs.Layout.{Held, history_of, IsProof}
-use Rattle.ab_states.specs.ab_progress.specs.Progress.{goals_of}
-use Rattle.ab_states.specs.Derived.{IsDerived}
+use Rattle.ab_steps.specs.ab_kernel.specs.Layout.{Held, history_of, IsProof}
+use Rattle.ab_steps.specs.Progress.{goals_of}
+use Rattle.ab_states.specs.DerivedTheorems.{IsDerived}
 use Rattle.ab_session.specs.declared.attempt.Attempt.{Attempt}
 use Rattle.ab_session.specs.Contents.{Contents}
 

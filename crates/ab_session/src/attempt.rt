@@ -1,8 +1,8 @@
 //! A proof that is being made.
 
-use ab_states::below::kernel::Proof;
-use ab_states::below::store::TermId;
-use ab_syntax::below::name::Name;
+use ab_steps::kernel::Proof;
+use ab_store::TermId;
+use ab_store::name::Name;
 
 /// A proof that is being made, of the theorem of this name.
 #[derive(Drop)]

@@ -2,7 +2,7 @@
 ghost use Rattle.std.specs.Prelude.{◌≡◌, ℕ, List};
 ghost use Rattle.ab_states.specs.State.{State, empty};
 ghost use Rattle.ab_states.specs.Reply.{Reply};
-ghost use Rattle.ab_states.specs.Effect.{HasEffect};
+ghost use Rattle.ab_states.specs.StateEffects.{HasEffect};
 ghost use Rattle.ab_states.specs.Replay.{IsReplayed};
 
 /// The state in which a session begins, and the state behind each command, is the one that its kept commands lead to.

@@ -1,13 +1,13 @@
 //! A session over the logic: what the commands so far have led to, and what the next command does.
 #![tactic(auto)]
 
-mod advancing;
 mod attempt;
-pub mod below;
-mod carrying;
-mod kept;
+mod attempt_steps;
+mod command_history;
 pub mod laws;
+mod proof_steps;
 mod refusals;
 mod session;
 
+pub use ab_steps as steps;
 pub use session::Session;

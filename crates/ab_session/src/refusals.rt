@@ -1,11 +1,11 @@
 //! Refusals of commands that aren't read, and of proof commands.
 ghost use Rattle.std.specs.Prelude.{◌≡◌, IfOk};
 ghost use Rattle.ab_states.specs.Reply.{unread_for};
-ghost use Rattle.ab_session.specs.Carrying.{TellsOf};
+ghost use Rattle.ab_session.specs.ProofAttempts.{TellsOf};
 
-use ab_states::below::command::Cause;
-use ab_states::below::progress::ProofCommandFault;
-use ab_states::{Place, Refusal};
+use ab_command::Cause;
+use ab_declare::{Place, Refusal};
+use ab_steps::ProofCommandFault;
 use std::alloc::AllocError;
 
 /// The refusal of bytes that say no command.

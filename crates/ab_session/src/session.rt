@@ -4,39 +4,39 @@
 ghost use Rattle.std.specs.Prelude.{◌≡◌, ◌↔◌, ◌<◌, ℕ, List, length, map, slice_get, is_some, IfOk, IfSome, IsSome, OnErr};
 ghost use Rattle.std.specs.Option.{option_map, option_copied};
 ghost use Rattle.ab_grammar.specs.CommandTrees as told;
-ghost use Rattle.ab_syntax.specs.Trees as trees;
+ghost use Rattle.ab_syntax.specs.SyntaxTrees as trees;
 ghost use Rattle.ab_syntax.specs.Commands.{command_of, proof_command_of, defined_of, clause_of};
 ghost use Rattle.ab_formulas.specs.Declarations.{theorems_in};
-ghost use Rattle.ab_states.specs.ab_logic.specs.Readings.{sequent_of, HoldsSequent};
-ghost use Rattle.ab_states.specs.ab_logic.specs.Worlds.{IsWorld};
-ghost use Rattle.ab_states.specs.ab_kernel.specs.Layout.{IsProof};
-ghost use Rattle.ab_states.specs.ab_declare.specs.declared.refusal.Refusal.{Refusal as ARefusal};
-ghost use Rattle.ab_states.specs.ab_declare.specs.Moments.{IsRestored};
-ghost use Rattle.ab_formulas.specs.Goals.{named};
+ghost use Rattle.ab_logic.specs.SequentReadings.{sequent_of, HoldsSequent};
+ghost use Rattle.ab_logic.specs.Worlds.{IsWorld};
+ghost use Rattle.ab_steps.specs.ab_kernel.specs.Layout.{IsProof};
+ghost use Rattle.ab_declare.specs.declared.refusal.Refusal.{Refusal as ARefusal};
+ghost use Rattle.ab_declare.specs.Moments.{IsRestored};
+ghost use Rattle.ab_formulas.specs.NamedGoals.{named};
 ghost use Rattle.ab_states.specs.State.{empty, is_open, goals_of, goals_in};
 ghost use Rattle.ab_states.specs.Reply.{SpeaksOfNoGoal, reply_of};
-ghost use Rattle.ab_states.specs.Effect.{Commands, HasEffect};
+ghost use Rattle.ab_states.specs.StateEffects.{Commands, HasEffect};
 ghost use Rattle.ab_states.specs.declared.reply.Reply.TheVariants.{Completed, Refused};
 ghost use Rattle.ab_session.specs.Contents.{state_of};
 ghost use Rattle.ab_session.specs.Sessions.{IsProofOf};
-ghost use Rattle.ab_session.specs.Answers.{IsProvedLast, IsAnswer, IsBefore};
+ghost use Rattle.ab_session.specs.SessionAnswers.{IsProvedLast, IsAnswer, IsBefore};
 
-use crate::advancing::{Outcome, advance};
 use crate::attempt::Attempt;
-use crate::kept::{Before, Kept, make_room};
+use crate::attempt_steps::{Outcome, advance};
+use crate::command_history::{Before, Kept, make_room};
 use crate::refusals::unread;
-use ab_io::Files;
-use ab_states::Reply;
-use ab_states::below::command::{Command, Unread, read_command};
-use ab_states::below::declare::{
+use ab_command::{Unread, read_command};
+use ab_declare::{
     Moment, Refusal, Statement, declare_constants, declare_definition, declare_kinds, state_formula,
 };
-use ab_states::below::kernel::Proof;
-use ab_states::below::logic::{Sequent, World};
-use ab_states::below::store::TermId;
-use ab_states::below::types::Steps;
-use ab_syntax::below::name::Name;
-use ab_syntax::{ClauseParse, Defined, Parse, ProofCommand, TypeParse};
+use ab_io::Files;
+use ab_logic::{Sequent, World};
+use ab_states::Reply;
+use ab_steps::kernel::Proof;
+use ab_store::TermId;
+use ab_store::name::Name;
+use ab_store::types::Steps;
+use ab_syntax::{ClauseParse, Command, Defined, Parse, ProofCommand, TypeParse};
 use std::alloc::{AllocError, Global};
 use std::marker::Model;
 
@@ -54,7 +54,7 @@ pub struct Session {
 
 impl Model for Session {
     ghost use Rattle.std.specs.Coded.{codes};
-    ghost use Rattle.ab_states.specs.ab_types.specs.Codes.{entry_code};
+    ghost use Rattle.ab_store.specs.ab_types.specs.Codes.{entry_code};
     ghost use Rattle.ab_session.specs.Contents.{Contents, contents};
     ghost use Rattle.ab_session.specs.Sessions.{IsSession};
 

@@ -2,7 +2,7 @@
 use Rattle.std.specs.Prelude.{◌≡◌, ℕ, List, [], ◌∷◌, true}
 use Rattle.ab_states.specs.State.{State, empty}
 use Rattle.ab_states.specs.Reply.{Reply, is_kept}
-use Rattle.ab_states.specs.Effect.{HasEffect}
+use Rattle.ab_states.specs.StateEffects.{HasEffect}
 
 pub data Replays : State → List (List ℕ) → State → Type 0 where
   none : {s : State} → Replays s [] s

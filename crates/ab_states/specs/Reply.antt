@@ -2,8 +2,8 @@
 use Rattle.std.specs.Prelude.{◌≡◌, ℕ, List, [], Bool, true, false}
 use Rattle.ab_term.specs.Variables.{variables}
 use Rattle.ab_term.specs.Terms.{Read}
-use Rattle.ab_search.specs.ab_logic.specs.Worlds.{read, Holds}
-use Rattle.ab_search.specs.ab_logic.specs.declared.world.World.{World}
+use Rattle.ab_logic.specs.Worlds.{read, Holds}
+use Rattle.ab_logic.specs.declared.world.World.{World}
 use Rattle.ab_command.specs.declared.fault.Cause.{Cause}
 use Rattle.ab_command.specs.declared.fault.Cause.TheVariants as cause
 use Rattle.ab_declare.specs.declared.refusal.Refusal.{Refusal}

@@ -2,11 +2,11 @@
 use Rattle.std.specs.Prelude.{ℕ, List, [], ◌∷◌, ◌++◌, map, Bool, true, Option, Some, None, is_some}
 use Rattle.ab_term.specs.Terms.{Read}
 use Rattle.ab_formulas.specs.Declarations.{Declarations}
-use Rattle.ab_search.specs.ab_logic.specs.Worlds.{first_declarations}
-use Rattle.ab_search.specs.ab_logic.specs.declared.world.World.{World}
+use Rattle.ab_logic.specs.Worlds.{first_declarations}
+use Rattle.ab_logic.specs.declared.world.World.{World}
 use Rattle.ab_theory.specs.Derivations.{open_goals}
-use Rattle.ab_search.specs.ab_kernel.specs.Layout.{Held, history_of}
-use Rattle.ab_formulas.specs.Goals.{Goal, named}
+use Rattle.ab_kernel.specs.Layout.{Held, history_of}
+use Rattle.ab_formulas.specs.NamedGoals.{Goal, named}
 
 -- a proof that is being made: of which theorem, and the goals that are left of it, the current one first
 pub record Attempt : Type 0 where

@@ -1,8 +1,8 @@
 //! What a session answers to a command.
 
-use ab_command::below::name::Name;
 use ab_declare::Refusal;
-use ab_search::below::store::TermId;
+use ab_store::TermId;
+use ab_store::name::Name;
 
 /// What a session answers to a command.
 #[derive(Drop)]

@@ -7,4 +7,5 @@ pub mod Marks
 pub mod Growth
 pub mod Layout
 -- Libraries that the crates above name through this one.
+pub use Rattle.ab_types.specs.ab_name
 pub use Rattle.ab_types

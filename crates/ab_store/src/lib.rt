@@ -2,7 +2,6 @@
 //! variables, and may be bound to terms; a mark takes bindings, and what was made since, back.
 #![tactic(auto)]
 
-pub mod below;
 mod facts;
 pub mod laws;
 mod list;
@@ -10,6 +9,8 @@ mod mark;
 mod node;
 mod store;
 
+pub use ab_types as types;
+pub use ab_types::name;
 pub use list::Arguments;
 pub use mark::Mark;
 pub use node::{Binding, CellId, Equation, Head, Logical, Node, TermId};

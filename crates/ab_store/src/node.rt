@@ -2,7 +2,8 @@
 ghost use Rattle.std.specs.Prelude.{◌≡◌, IfOk};
 
 use crate::list::Arguments;
-use ab_types::{ConstId, Name, TypeId};
+use ab_types::name::Name;
+use ab_types::{ConstId, TypeId};
 use std::alloc::{AllocError, Global};
 
 /// A term of a store.

@@ -19,7 +19,8 @@ use crate::facts::Facts;
 use crate::list::Arguments;
 use crate::mark::Mark;
 use crate::node::{Binding, CellEntry, CellId, Head, Node, TermId};
-use ab_types::{Name, Steps, TypeId};
+use ab_types::name::Name;
+use ab_types::{Steps, TypeId};
 use std::alloc::{AllocError, Global};
 use std::marker::Model;
 

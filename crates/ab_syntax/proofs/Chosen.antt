@@ -11,9 +11,9 @@ use Rattle.ab_grammar.specs.CommandTable.{Row, ProofRow, Opens, OpensProof, Show
 use Rattle.ab_grammar.proofs.Continuing.{Continues}
 use Rattle.ab_grammar.proofs.Heads.{one_proof_head, no_command, no_labelled, plain_no_proof, proof_no_label}
 use Rattle.ab_grammar.proofs.WholeCommands.{plain_row, proof_row, labelled_row, label_row, colon_refused}
-use Rattle.ab_syntax.specs.declared.opening.Opening.{Opening}
-use Rattle.ab_syntax.specs.declared.opening.Opening.TheVariants.{Plain, Proof, Label, Nothing}
-use Rattle.ab_syntax.specs.declared.seen.Seen.{Seen}
+use Rattle.ab_syntax.specs.declared.command_heads.Opening.{Opening}
+use Rattle.ab_syntax.specs.declared.command_heads.Opening.TheVariants.{Plain, Proof, Label, Nothing}
+use Rattle.ab_syntax.specs.declared.located_tokens.Seen.{Seen}
 use Rattle.ab_syntax.specs.declared.stop.Stop.{Stop}
 use Rattle.ab_syntax.specs.declared.stop.Stop.TheVariants.{Syntax, TooNested, Memory}
 use Rattle.ab_syntax.specs.Kinds.{kind_of, IsWordKind}

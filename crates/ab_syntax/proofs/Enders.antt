@@ -7,7 +7,7 @@ use Rattle.ab_grammar.proofs.Machine.{TypeFrame, TypeShut, type_have, type_shut,
 use Rattle.ab_syntax.specs.declared.kind.Kind.{Kind}
 use Rattle.ab_syntax.specs.declared.kind.Kind.TheVariants as kind
 use Rattle.ab_syntax.specs.Kinds.{meaning}
-use Rattle.ab_syntax.specs.Steps.{follows}
+use Rattle.ab_syntax.specs.ReaderSteps.{follows}
 
 pub if_ok : {X E : Type 0} {P Q : X → Type 0} (r : Result X E) → ((x : X) → P x → Q x) → IfOk r P → IfOk r Q
 if_ok (Ok x) f h = f x h

@@ -15,9 +15,9 @@ use Rattle.ab_syntax.specs.declared.machine.State.{State as Read}
 use Rattle.ab_syntax.specs.declared.tree.Parse.{Parse}
 use Rattle.ab_syntax.specs.declared.machine.Next.TheVariants.{On, Done, Wrong}
 use Rattle.ab_syntax.specs.Reader.{rest, next_or_stop, Refused}
-use Rattle.ab_syntax.specs.Steps.{IsTooDeep}
+use Rattle.ab_syntax.specs.ReaderSteps.{IsTooDeep}
 use Rattle.ab_syntax.specs.States.{state_in, IsNext}
-use Rattle.ab_syntax.specs.Trees.{tree_of}
+use Rattle.ab_syntax.specs.SyntaxTrees.{tree_of}
 use Rattle.ab_syntax.proofs.Reading.{goes_on, no_stop}
 
 pub expression_starts : (ks : List Token) (gs : List Frame) (ls : List Layer) → gs ≡ [] → ls ≡ outside → SoFar ks ks (want gs) ls

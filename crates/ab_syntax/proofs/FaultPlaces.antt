@@ -7,8 +7,8 @@ use Rattle.ab_grammar.specs.Nesting.{begins_with_backslash, blamed}
 use Rattle.ab_grammar.proofs.Following.{first}
 use Rattle.ab_grammar.specs.CommandTable.{ShowsLabel}
 use Rattle.ab_grammar.proofs.Heads.{plain_no_label, proof_no_label}
-use Rattle.ab_syntax.specs.declared.opening.Opening.{Opening}
-use Rattle.ab_syntax.specs.declared.opening.Opening.TheVariants.{Plain, Proof, Label, Nothing}
+use Rattle.ab_syntax.specs.declared.command_heads.Opening.{Opening}
+use Rattle.ab_syntax.specs.declared.command_heads.Opening.TheVariants.{Plain, Proof, Label, Nothing}
 use Rattle.ab_syntax.specs.declared.text.Text.{Text}
 use Rattle.ab_syntax.specs.Faults.{IsWordAlone}
 use Rattle.ab_syntax.specs.Openings.{IsOpeningAt}

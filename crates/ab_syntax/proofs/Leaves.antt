@@ -10,7 +10,7 @@ use Rattle.ab_grammar.proofs.Choosing.{one_reads, one_stops}
 use Rattle.ab_grammar.proofs.Shown.{ShowsOne}
 use Rattle.ab_grammar.specs.CommandTrees as tree
 use Rattle.ab_grammar.specs.CommandTable.{IsDeclarable, IsNominal, ShowsName, shows_name, ShowsDeclared, shows_declared, ShowsNominal, shows_nominal, ShowsArgument, shows_named, shows_hole, ShowsNumber, shows_number, ShowsDepth, shows_depth, ShowsLimit, shows_limit, ShowsText, shows_text, StandsAnywhere, stands_at}
-use Rattle.ab_syntax.specs.declared.seen.Seen.{Seen}
+use Rattle.ab_syntax.specs.declared.located_tokens.Seen.{Seen}
 use Rattle.ab_syntax.specs.declared.text.Text.{Text}
 use Rattle.ab_syntax.specs.declared.kind.Kind.{Kind}
 use Rattle.ab_syntax.specs.declared.kind.Kind.TheVariants as kind

@@ -13,7 +13,7 @@ use Rattle.ab_syntax.specs.declared.machine.State.{State as Read}
 use Rattle.ab_syntax.specs.declared.tree.Parse.{Parse}
 use Rattle.ab_syntax.specs.declared.machine.Next.TheVariants.{On, Done, Wrong}
 use Rattle.ab_syntax.specs.Kinds.{meaning}
-use Rattle.ab_syntax.specs.Steps.{follows, begins}
+use Rattle.ab_syntax.specs.ReaderSteps.{follows, begins}
 use Rattle.ab_syntax.specs.States.{Says, IsNext, IsClosed}
 
 -- what goes on alike and has read alike

@@ -6,7 +6,7 @@ use Rattle.ab_grammar.specs.Language.{Key}
 use Rattle.ab_grammar.proofs.Following.{Anything, first}
 use Rattle.ab_grammar.proofs.Reading.{ReadsOff}
 use Rattle.ab_grammar.proofs.Choosing.{key_reads}
-use Rattle.ab_syntax.specs.declared.seen.Seen.{Seen}
+use Rattle.ab_syntax.specs.declared.located_tokens.Seen.{Seen}
 use Rattle.ab_syntax.specs.declared.text.Text.{Text}
 use Rattle.ab_syntax.specs.Reader.{seen, rest}
 

@@ -2,7 +2,7 @@
 use Rattle.std.proofs.Common.{◌≡◌, ℕ, zero, suc, ◌+◌, ◌<◌, List, [], ◌∷◌, length, map, drop, Option, Some, None, refl, ap, sym, ◌∙◌, add-one, arith, ◌⊎◌, inl, inr}
 use Rattle.ab_grammar.specs.Token.{Token, Other, other, stop}
 use Rattle.ab_grammar.proofs.Following.{Follower, by_other}
-use Rattle.ab_syntax.specs.declared.seen.Seen.{Seen}
+use Rattle.ab_syntax.specs.declared.located_tokens.Seen.{Seen}
 use Rattle.ab_syntax.specs.declared.text.Text.{Text}
 use Rattle.ab_syntax.specs.Reader.{rest, seen, next_or_stop}
 

@@ -4,8 +4,8 @@ use Rattle.ab_lex.specs.declared.token.Token.{Token as Lexed}
 use Rattle.ab_lex.specs.Spans.{bytes_at}
 use Rattle.ab_syntax.specs.declared.kind.Kind.{Kind}
 use Rattle.ab_syntax.specs.declared.kind.Kind.TheVariants.{Number, Text}
-use Rattle.ab_syntax.specs.declared.seen.Seen.{Seen}
-use Rattle.ab_syntax.specs.Numbers.{IsShort, IsQuoted}
+use Rattle.ab_syntax.specs.declared.located_tokens.Seen.{Seen}
+use Rattle.ab_syntax.specs.Digits.{IsShort, IsQuoted}
 use Rattle.ab_syntax.specs.Tokens.{IsTokenOf, token_by}
 use Rattle.ab_syntax.specs.Kinds.{kind_of, meaning, key_of, IsKey, IsWordKind}
 use Rattle.ab_syntax.specs.Reader.{seen}

@@ -1,6 +1,6 @@
 -- The program's stacks, whose last item is the first of the machine's.
 use Rattle.std.proofs.Common.{◌≡◌, List, [], ◌∷◌, ◌++◌, refl, ap, ◌∙◌}
-use Rattle.ab_syntax.specs.Steps.{stack}
+use Rattle.ab_syntax.specs.ReaderSteps.{stack}
 
 module _ {A B : Type 0} (f : A → B) where
   stack_push : (xs : List A) (x : A) → stack f (xs ++ x ∷ []) ≡ f x ∷ stack f xs

@@ -14,8 +14,8 @@ use Rattle.ab_syntax.specs.declared.stop.Stop.TheVariants.{Syntax, TooNested, Me
 use Rattle.ab_syntax.specs.declared.tree.TypeParse.{TypeParse}
 use Rattle.ab_syntax.specs.declared.machine.Next.TheVariants.{On, Done, Wrong}
 use Rattle.ab_syntax.specs.Reader.{rest, next_or_stop, Refused}
-use Rattle.ab_syntax.specs.Steps.{IsTooDeep, type_state, IsTypeNext}
-use Rattle.ab_syntax.specs.Trees.{type_of}
+use Rattle.ab_syntax.specs.ReaderSteps.{IsTooDeep, type_state, IsTypeNext}
+use Rattle.ab_syntax.specs.SyntaxTrees.{type_of}
 use Rattle.ab_syntax.proofs.Reading.{goes_on, no_stop}
 
 pub type_starts : (ks : List Token) (gs : List TypeFrame) (ls : List Layer) → gs ≡ [] → ls ≡ outside → TypeSoFar ks ks (type_want gs) ls

@@ -12,7 +12,7 @@ use Rattle.ab_grammar.specs.declared.Infix.{Infix}
 use Rattle.ab_grammar.specs.Tree.{Tree, joined, applied, pi_of, abs, bind}
 use Rattle.std.specs.Global.{Global}
 use Rattle.ab_syntax.specs.declared.tree.Parse.{Parse}
-use Rattle.ab_syntax.specs.Trees.{tree_of, binder_of}
+use Rattle.ab_syntax.specs.SyntaxTrees.{tree_of, binder_of}
 
 abbrev pub bracket_of : Bracket → machine.Bracket
 bracket_of brackets.Paren = machine.paren

@@ -5,8 +5,8 @@ use Rattle.ab_grammar.specs.Token.{Token}
 use Rattle.std.specs.Prelude.{◌≡◌, ℕ, List, Some}
 use Rattle.ab_grammar.proofs.Following.{first}
 use Rattle.ab_grammar.specs.CommandTable.{Opens, OpensProof, ShowsLabel}
-use Rattle.ab_syntax.specs.declared.opening.Opening.{Opening}
-use Rattle.ab_syntax.specs.declared.opening.Opening.TheVariants.{Plain, Proof, Label, Nothing}
+use Rattle.ab_syntax.specs.declared.command_heads.Opening.{Opening}
+use Rattle.ab_syntax.specs.declared.command_heads.Opening.TheVariants.{Plain, Proof, Label, Nothing}
 
 -- no command begins with the token
 pub record BeginsNothing (k : Token) : Type 0 where

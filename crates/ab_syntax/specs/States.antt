@@ -12,8 +12,8 @@ use Rattle.ab_syntax.specs.declared.kind.Kind.{Kind}
 use Rattle.ab_syntax.specs.Kinds.{meaning}
 use Rattle.ab_syntax.specs.declared.machine.Next.{Next}
 use Rattle.ab_syntax.specs.declared.machine.Next.TheVariants as next
-use Rattle.ab_syntax.specs.Trees.{tree_of, binder_of}
-use Rattle.ab_syntax.specs.Steps.{type_frames_of, type_state}
+use Rattle.ab_syntax.specs.SyntaxTrees.{tree_of, binder_of}
+use Rattle.ab_syntax.specs.ReaderSteps.{type_frames_of, type_state}
 
 abbrev pub state_in : List machine.Frame → State → machine.State
 state_in fs state.Want = machine.want fs

@@ -5,9 +5,9 @@ ghost use Rattle.ab_syntax.specs.Reader.{rest};
 ghost use Rattle.ab_syntax.specs.Faults.{IsTold};
 ghost use Rattle.ab_syntax.specs.Wholes.{place_in, IsAnswer};
 
+use crate::command_heads::{Opening, opening_at};
 use crate::fault::ParseFault;
 use crate::kind::Kind;
-use crate::opening::{Opening, opening_at};
 use crate::stop::Stop;
 use crate::text::{Text, is_next};
 

@@ -3,7 +3,7 @@ ghost use Rattle.std.specs.Prelude.{[], map, option_map};
 ghost use Rattle.ab_grammar.proofs.Following.{BeforeStop, ClauseEnds};
 ghost use Rattle.ab_grammar.specs.CommandForms.{Optional};
 ghost use Rattle.ab_grammar.specs.CommandTable.{ClauseBody, Clauses, Row};
-ghost use Rattle.ab_syntax.specs.Trees.{tree_of};
+ghost use Rattle.ab_syntax.specs.SyntaxTrees.{tree_of};
 ghost use Rattle.ab_syntax.specs.Commands.{clause_of, command_of, block_head};
 ghost use Rattle.ab_syntax.specs.Items.{list_of};
 ghost use Rattle.ab_syntax.specs.Lists.{definienda, clauses};

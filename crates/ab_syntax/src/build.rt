@@ -1,7 +1,7 @@
 //! Trees of expressions, made of their parts.
 ghost use Rattle.std.specs.Prelude.{◌≡◌, ◌++◌, ◌∷◌, [], IfOk, map};
 ghost use Rattle.ab_grammar.specs.Tree as tree;
-ghost use Rattle.ab_syntax.specs.Trees.{tree_of};
+ghost use Rattle.ab_syntax.specs.SyntaxTrees.{tree_of};
 
 use crate::items::Items;
 use crate::tree::Parse;

@@ -5,8 +5,8 @@ ghost use Rattle.ab_syntax.specs.Commands.{command_of, proof_command_of};
 ghost use Rattle.ab_syntax.specs.Reader.{rest, Found};
 
 use crate::command::{Command, ProofCommand};
+use crate::command_heads::{Opening, opening_at, opening_of};
 use crate::kind::Kind;
-use crate::opening::{Opening, opening_at, opening_of};
 use crate::proof_row::proof_row;
 use crate::row::row;
 use crate::stop::Stop;

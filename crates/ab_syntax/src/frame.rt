@@ -3,7 +3,7 @@ ghost use Rattle.std.specs.Prelude.{◌≡◌, IfOk};
 ghost use Rattle.ab_grammar.specs.Grammar as grammar;
 ghost use Rattle.ab_grammar.specs.Token as grammatical;
 ghost use Rattle.ab_grammar.proofs.Machine as machine;
-ghost use Rattle.ab_syntax.specs.Trees.{tree_of};
+ghost use Rattle.ab_syntax.specs.SyntaxTrees.{tree_of};
 ghost use Rattle.ab_syntax.specs.Frames.{frame_of, frames_of, reduced, shut_of, IsFate};
 ghost use Rattle.ab_syntax.specs.States.{IsNext};
 

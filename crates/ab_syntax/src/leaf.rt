@@ -7,8 +7,8 @@ ghost use Rattle.ab_syntax.specs.Reader.{seen, rest, Found};
 
 use crate::command::Argument;
 use crate::kind::Kind;
+use crate::located_tokens::Seen;
 use crate::numbers::{is_declarable, nominal, value};
-use crate::seen::Seen;
 use crate::stop::Stop;
 use crate::text::{Text, name_of, next, spell};
 use ab_name::Name;

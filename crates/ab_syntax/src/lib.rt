@@ -2,12 +2,12 @@
 #![tactic(auto)]
 
 mod answer;
-pub mod below;
-mod binding;
+mod binder_tokens;
 mod block;
 mod build;
-mod closing;
+mod closed_brackets;
 mod command;
+mod command_heads;
 mod fault;
 mod form;
 mod frame;
@@ -15,15 +15,14 @@ mod items;
 mod kind;
 mod leaf;
 mod list;
+mod located_tokens;
 mod machine;
 mod nesting;
 mod numbers;
-mod opening;
 mod parser;
 mod part;
 mod proof_row;
 mod row;
-mod seen;
 mod stack;
 mod step;
 mod stop;
@@ -32,11 +31,10 @@ mod tree;
 mod types;
 mod words;
 
-pub use ab_grammar::{Infix, Quant, Stand};
 pub use command::{Argument, ClauseParse, Command, Defined, Instance, ProofCommand};
+pub use command_heads::{stand_of, stand_of_from};
 pub use fault::ParseFault;
 pub use items::Items;
-pub use opening::{stand_of, stand_of_from};
 pub use parser::{
     parse_command, parse_command_from, parse_expr, parse_expr_from, parse_type, parse_type_from,
 };

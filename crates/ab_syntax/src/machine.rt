@@ -1,7 +1,7 @@
 //! An expression that is being read, token by token.
 ghost use Rattle.std.specs.Prelude.{◌≡◌, ◌∷◌, List, [], None, IfOk, map};
 ghost use Rattle.ab_grammar.proofs.Machine as machine;
-ghost use Rattle.ab_syntax.specs.Trees.{tree_of};
+ghost use Rattle.ab_syntax.specs.SyntaxTrees.{tree_of};
 ghost use Rattle.ab_syntax.specs.Reader.{seen};
 ghost use Rattle.ab_syntax.specs.Frames.{frame_of, frames_of};
 ghost use Rattle.ab_syntax.specs.declared.machine.Next.TheVariants.{On};
@@ -11,7 +11,7 @@ ghost use Rattle.ab_syntax.specs.States.{state_in, Says};
 use crate::build::boxed;
 use crate::frame::{Bracket, Context, Frame, Frames, Prefix};
 use crate::kind::Kind;
-use crate::seen::Seen;
+use crate::located_tokens::Seen;
 use crate::text::name_of;
 use crate::tree::Parse;
 use crate::types::{TypeFrames, TypeState};

@@ -3,7 +3,7 @@ ghost use Rattle.std.specs.Prelude.{◌≡◌, ◌≤◌, ℕ, List, IfOk, IfErr
 ghost use Rattle.ab_grammar.specs.Nesting.{nest as nest_by, outside as outside_all, limit};
 ghost use Rattle.ab_grammar.specs.Token as Grammatical;
 ghost use Rattle.ab_syntax.specs.Kinds.{meaning};
-ghost use Rattle.ab_syntax.specs.Steps.{layers_of, IsMeasured, IsTooDeep};
+ghost use Rattle.ab_syntax.specs.ReaderSteps.{layers_of, IsMeasured, IsTooDeep};
 
 use crate::kind::Kind;
 use crate::stop::Stop;

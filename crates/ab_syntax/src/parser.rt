@@ -5,7 +5,7 @@ ghost use Rattle.ab_grammar.specs.Language.{Expression, TypeExpression, Accepted
 ghost use Rattle.ab_grammar.specs.CommandTable.{CommandText};
 ghost use Rattle.ab_syntax.specs.Tokens.{StandIn, origin_of, tokens_from, tokens_in};
 ghost use Rattle.ab_syntax.specs.Commands.{command_of};
-ghost use Rattle.ab_syntax.specs.Trees.{tree_of, type_of};
+ghost use Rattle.ab_syntax.specs.SyntaxTrees.{tree_of, type_of};
 ghost use Rattle.ab_syntax.specs.Faults.{place_past, fault_place, nested_from, nested_place, IsCommandPlaceFrom, IsCommandPlace};
 
 use crate::answer::{answer, told};

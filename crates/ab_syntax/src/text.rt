@@ -7,7 +7,7 @@ ghost use Rattle.ab_syntax.specs.Kinds.{key_of, IsKey, IsWordKind};
 ghost use Rattle.ab_syntax.specs.Reader.{AreSeen, place_of, seen, rest, next_or_stop as next_or_stop_of, Found, IsTaken, IsClosedBy};
 
 use crate::kind::{Kind, kind_of};
-use crate::seen::Seen;
+use crate::located_tokens::Seen;
 use crate::stop::Stop;
 use ab_lex::Token;
 use ab_name::Name;

@@ -3,15 +3,15 @@ ghost use Rattle.std.specs.Prelude.{◌≡◌, IfOk};
 ghost use Rattle.ab_grammar.specs.Language.{TypeExpression};
 ghost use Rattle.ab_grammar.proofs.Following.{Followed};
 ghost use Rattle.ab_grammar.proofs.Machine as machine;
-ghost use Rattle.ab_syntax.specs.Trees.{type_of};
+ghost use Rattle.ab_syntax.specs.SyntaxTrees.{type_of};
 ghost use Rattle.ab_syntax.specs.Reader.{seen, rest, Found};
-ghost use Rattle.ab_syntax.specs.Steps.{type_frames_of, type_shut_of, type_state, IsTypeNext};
+ghost use Rattle.ab_syntax.specs.ReaderSteps.{type_frames_of, type_shut_of, type_state, IsTypeNext};
 
 use crate::build::boxed;
 use crate::kind::Kind;
+use crate::located_tokens::Seen;
 use crate::machine::Next;
 use crate::nesting::{nested, outside};
-use crate::seen::Seen;
 use crate::stack::Stack;
 use crate::step::ends;
 use crate::stop::Stop;

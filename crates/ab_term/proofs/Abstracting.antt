@@ -8,7 +8,7 @@ use Rattle.ab_term.specs.Typing.{Signature, HasType}
 use Rattle.ab_term.specs.Substitution.{shift_head, reduce}
 use Rattle.ab_term.specs.Translation.{translate_head, forget, forget_all, EqualPastHints}
 use Rattle.ab_term.specs.Sameness.{same_head}
-use Rattle.ab_term.specs.Closing.{among, under, may_stand, Only, OnlyAll, Named, named_none, named_more, name_terms, close_head, abstracted}
+use Rattle.ab_term.specs.Abstraction.{among, under, may_stand, Only, OnlyAll, Named, named_none, named_more, name_terms, close_head, abstracted}
 use Rattle.ab_term.proofs.Expansions.{reduce-no_terms}
 use Rattle.ab_term.proofs.Translations.{translate-reduce, translate_typed}
 use Rattle.ab_term.proofs.Forgetting.{forget_head}

@@ -10,7 +10,7 @@ use Rattle.ab_term.proofs.Preservation.{Insert, here, there, head_type-shift}
 use Rattle.ab_term.proofs.Expansions.{lower_index-same, shift-expansion_of, reduce-expansion_of, reduce-first_order}
 use Rattle.ab_term.proofs.Shifts.{lower_head-shift_head}
 use Rattle.ab_term.specs.Sameness.{same_head}
-use Rattle.ab_term.specs.Closing.{close_head, close, close_all, abstracted, Named, named_none, named_more}
+use Rattle.ab_term.specs.Abstraction.{close_head, close, close_all, abstracted, Named, named_none, named_more}
 use Rattle.ab_term.proofs.Forgetting.{forget_head}
 use Rattle.ab_term.proofs.Same.{same_head-Decides}
 

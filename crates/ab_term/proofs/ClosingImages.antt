@@ -10,7 +10,7 @@ use Rattle.ab_term.specs.Names.{support}
 use Rattle.ab_term.specs.Variables.{variables, put_for, put_at, image_by, image_all_by}
 use Rattle.ab_term.specs.Reach.{head_reach, reach, reach_of_all}
 use Rattle.ab_term.specs.Sameness.{same_head}
-use Rattle.ab_term.specs.Closing.{IsAbsent, close_head, close, close_all, abstracted}
+use Rattle.ab_term.specs.Abstraction.{IsAbsent, close_head, close, close_all, abstracted}
 use Rattle.ab_term.proofs.Same.{same_head-Decides}
 use Rattle.ab_term.proofs.Standing.{HeadHas, Has, AllHave, has_more}
 use Rattle.ab_term.proofs.Stands.{Either, has, has_names, has_variables}

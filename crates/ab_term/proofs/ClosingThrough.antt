@@ -6,7 +6,7 @@ use Rattle.ab_term.specs.Terms.{Head, constant, logical, nominal, variable, inde
 use Rattle.ab_term.specs.Substitution.{shift_index, shift_head, shift, shift_all, lower_head, put, substitute_by, substitute_all_by, reduce, substitute, instance}
 use Rattle.ab_term.specs.Expansion.{expansion_of, expansion}
 use Rattle.ab_term.specs.Sameness.{same_head}
-use Rattle.ab_term.specs.Closing.{close_head, close, close_all, name_terms}
+use Rattle.ab_term.specs.Abstraction.{close_head, close, close_all, name_terms}
 use Rattle.ab_term.proofs.Shifts.{shift_head-shift_head, lower_head-shift_head}
 use Rattle.ab_term.proofs.Expansions.{lower_index-same}
 use Rattle.ab_term.proofs.Lowering.{lower_head-some, lower_head-none}

@@ -10,7 +10,7 @@ use Rattle.ab_term.specs.Expansion.{expansion}
 use Rattle.ab_term.specs.Translation.{forget, EqualPastHints}
 use Rattle.ab_term.specs.Variables.{put_for, put_at, image_by, image_all_by}
 use Rattle.ab_term.specs.Sameness.{same_head}
-use Rattle.ab_term.specs.Closing.{among, under, is_name, may_stand, Only, OnlyAll, Distinct, Named, named_none, named_more, close, close_all, abstracted, name_terms}
+use Rattle.ab_term.specs.Abstraction.{among, under, is_name, may_stand, Only, OnlyAll, Distinct, Named, named_none, named_more, close, close_all, abstracted, name_terms}
 use Rattle.ab_term.proofs.Preservation.{Insert, here, there, head_type-shift, reduce_typed, substitute_typed, substitute_all_by_typed}
 use Rattle.ab_term.proofs.Expansions.{shift-expansion_of, reduce-expansion_of, reduce-no_terms, expansion_typed}
 use Rattle.ab_term.proofs.Shifts.{shift_head-shift_head}

@@ -6,7 +6,7 @@ use Rattle.ab_term.specs.Typing.{Signature, HasType, TakeType, take_none, take_t
 use Rattle.ab_term.specs.Substitution.{reduce, instance_by_all}
 use Rattle.ab_term.specs.Expansion.{expansion_of, expansion}
 use Rattle.ab_term.specs.Translation.{translate, translate_all, forget_all}
-use Rattle.ab_term.specs.Closing.{Named, named_none, named_more, name_terms, over, given_names}
+use Rattle.ab_term.specs.Abstraction.{Named, named_none, named_more, name_terms, over, given_names}
 use Rattle.ab_term.proofs.Expansions.{reduce-some, expansion_typed, expansion_of_typed}
 use Rattle.ab_term.proofs.Translations.{translate-reduce, translate-expansion_of, translate-expansion}
 use Rattle.ab_term.proofs.Forgetting.{forget_head}

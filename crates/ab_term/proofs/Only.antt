@@ -9,7 +9,7 @@ use Rattle.ab_term.specs.Variables.{put_for, put_at, image_by, image_all_by}
 use Rattle.ab_term.specs.Reach.{head_reach, reach, reach_of_all}
 use Rattle.ab_term.proofs.Shifts.{shift_head-shift_head, lower_head-shift_head, lower_head-shift_low}
 use Rattle.ab_term.specs.Sameness.{same_head}
-use Rattle.ab_term.specs.Closing.{among, under, may_stand, Only, OnlyAll, close_head, close, close_all}
+use Rattle.ab_term.specs.Abstraction.{among, under, may_stand, Only, OnlyAll, close_head, close, close_all}
 use Rattle.ab_term.proofs.Same.{same_head-Decides, head_itself}
 
 -- a head is the innermost name, or one from outside

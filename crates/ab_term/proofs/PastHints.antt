@@ -8,7 +8,7 @@ use Rattle.ab_term.specs.Translation.{translate_variable, forget, EqualPastHints
 use Rattle.ab_term.specs.Names.{support, rename}
 use Rattle.ab_term.specs.Variables.{variables, image_by}
 use Rattle.ab_term.specs.Reach.{reach}
-use Rattle.ab_term.specs.Closing.{close, abstracted}
+use Rattle.ab_term.specs.Abstraction.{close, abstracted}
 use Rattle.ab_term.proofs.Images.{IsTypedMap}
 use Rattle.ab_term.proofs.ImageTranslations.{translate-image_by}
 use Rattle.ab_term.proofs.Translations.{translate-shift, translate-instance, translate-rename, translate_typed, typed_before, support-translate, variables-translate, reach-translate}

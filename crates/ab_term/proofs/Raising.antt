@@ -7,7 +7,7 @@ use Rattle.ab_term.specs.Expansion.{expansion_of, expansion}
 use Rattle.ab_term.specs.Translation.{forget, EqualPastHints}
 use Rattle.ab_term.specs.Variables.{image_by, image_all_by, Substitution, value_in, image, IsTyped}
 use Rattle.ab_term.specs.Sameness.{same_number}
-use Rattle.ab_term.specs.Closing.{name_terms, abstracted, over, given_names}
+use Rattle.ab_term.specs.Abstraction.{name_terms, abstracted, over, given_names}
 use Rattle.ab_term.proofs.Images.{IsTypedMap}
 use Rattle.ab_term.proofs.OwnExpansion.{own_by, image_by-expansion_of}
 use Rattle.ab_term.proofs.Translations.{translate-expansion_of, translate_typed}

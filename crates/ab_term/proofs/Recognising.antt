@@ -6,7 +6,7 @@ use Rattle.ab_term.specs.Terms.{Head, index, Term, lam, spine, Terms, no_terms, 
 use Rattle.ab_term.specs.Substitution.{shift_head, shift_all}
 use Rattle.ab_term.specs.Expansion.{expansion_of, expansion}
 use Rattle.ab_term.specs.Translation.{forget, EqualPastHints}
-use Rattle.ab_term.specs.Recognising.{lowered, inner_head, expands}
+use Rattle.ab_term.specs.EtaHeads.{lowered, inner_head, expands}
 use Rattle.ab_term.proofs.Shifts.{lower_head-shift_head}
 use Rattle.ab_term.proofs.Forgetting.{forget_head, forget_plain}
 use Rattle.ab_term.proofs.Same.{same_term-Decides}

@@ -9,7 +9,7 @@ use Rattle.ab_term.specs.Expansion.{expansion}
 use Rattle.ab_term.specs.Translation.{translate, translate_all}
 use Rattle.ab_term.specs.Names.{rename, rename_all}
 use Rattle.ab_term.specs.Sizes.{size, sizes}
-use Rattle.ab_term.specs.Closing.{Named, named_none, named_more, name_terms, close, close_all, abstracted}
+use Rattle.ab_term.specs.Abstraction.{Named, named_none, named_more, name_terms, close, close_all, abstracted}
 use Rattle.ab_term.proofs.Preservation.{Insert, here, there, head_type-shift, reduce_typed, substitute_typed, substitute_all_by_typed}
 use Rattle.ab_term.proofs.Expansions.{shift-expansion_of, reduce-expansion_of, reduce-no_terms, expansion_typed}
 use Rattle.ab_term.proofs.Translations.{translate-reduce, translate_typed}

@@ -11,8 +11,8 @@ pub mod Expansion
 pub mod Translation
 pub mod Names
 pub mod Sameness
-pub mod Recognising
-pub mod Closing
+pub mod EtaHeads
+pub mod Abstraction
 pub mod Sizes
 pub mod Variables
 pub mod Beta

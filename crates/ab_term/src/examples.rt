@@ -6,7 +6,7 @@ ghost use Rattle.ab_term.specs.Terms.{constant, nominal, index, lam, spine, no_t
 ghost use Rattle.ab_term.specs.Substitution.{instance};
 ghost use Rattle.ab_term.specs.Beta.{atom, abstraction, application};
 ghost use Rattle.ab_term.specs.Normal.{normal};
-ghost use Rattle.ab_term.specs.Closing.{abstracted};
+ghost use Rattle.ab_term.specs.Abstraction.{abstracted};
 ghost use Rattle.ab_term.specs.Examples.{i, name, name_of, known, known_of, constant_of, only_s};
 
 /// Heads that become abstractions are applied at once, and a term that is put in keeps its names' binders.

@@ -9,7 +9,7 @@ ghost use Rattle.ab_term.specs.Substitution.{shift, instance};
 ghost use Rattle.ab_term.specs.Translation.{forget, EqualPastHints};
 ghost use Rattle.ab_term.specs.Names.{support, permute};
 ghost use Rattle.ab_term.specs.Variables.{variables, Substitution, value_in, image};
-ghost use Rattle.ab_term.specs.Closing.{close, abstracted};
+ghost use Rattle.ab_term.specs.Abstraction.{close, abstracted};
 
 /// Shifts, instances, images, permutations, and names closed under binders.
 pub fn operations_respect_equality_past_hints<Var, Hint>()

@@ -15,15 +15,15 @@
 //!   with redexes to canonical ones. Lemmas that other crates cite by name are in `proofs/`, by subject.
 #![tactic(auto)]
 
-pub mod binding;
+pub mod bound_heads;
+pub mod eta_forms;
 pub mod examples;
-pub mod expanding;
+pub mod hereditary_substitution;
 pub mod hints;
-pub mod inverting;
+pub mod inversions;
 pub mod normal_forms;
-pub mod renaming;
-pub mod replacing;
+pub mod permutation_laws;
 pub mod sizes;
-pub mod substituting;
-pub mod translating;
+pub mod substitution_laws;
+pub mod translation_laws;
 pub mod typing;

@@ -8,7 +8,7 @@ ghost use Rattle.ab_term.specs.Substitution.{shift, reduce};
 ghost use Rattle.ab_term.specs.Translation.{forget};
 ghost use Rattle.ab_term.specs.Names.{permute};
 ghost use Rattle.ab_term.specs.Sizes.{size};
-ghost use Rattle.ab_term.specs.Closing.{Named, name_terms, close, abstracted};
+ghost use Rattle.ab_term.specs.Abstraction.{Named, name_terms, close, abstracted};
 
 /// Shifts, permutations, forgotten hints and closing keep it.
 pub fn size_is_kept<Hint>()

@@ -3,8 +3,8 @@ use Rattle.std.specs.Prelude.{ℕ, List, [], ◌∷◌, codes, Option, None, map
 use Rattle.ab_term.specs.Types.{Ty, kind, arrow, o, olist}
 use Rattle.ab_term.specs.Logical.{truth, conjunction, implication, universal, existential, nabla, judgement, focused_judgement, star, spec_universal, spec_implication, spec_conjunction}
 use Rattle.ab_term.specs.Terms.{Nominal, constant, logical, nominal, variable, index, lam, spine, no_terms, terms_of, Read}
-use Rattle.ab_solve.specs.Replacing.{Cell}
-use Rattle.ab_solve.specs.Solving.{Equation}
+use Rattle.ab_unifiers.specs.Replacements.{Cell}
+use Rattle.ab_unifiers.specs.Unification.{Equation}
 use Rattle.ab_formulas.specs.Marks.{plain, star_of}
 use Rattle.ab_theory.specs.Judgements.{Judgement, as_unfocused}
 use Rattle.ab_formulas.specs.Programs.{Program}

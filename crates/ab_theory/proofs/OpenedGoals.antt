@@ -6,7 +6,7 @@ use Rattle.ab_term.specs.Terms.{Head, logical, lam, spine, no_terms, term, Read}
 use Rattle.ab_term.specs.Typing.{Signature, head_type, HasType, TakeType, typed_lam, typed_spine, take_none, take_term}
 use Rattle.ab_term.specs.Substitution.{shift}
 use Rattle.ab_term.proofs.Preservation.{here, shift_typed}
-use Rattle.ab_cases.specs.Member.{before}
+use Rattle.ab_unifiers.specs.Member.{before}
 use Rattle.ab_formulas.specs.Marks.{Sign, plain, star_of, at_of, plus_of, hash_of}
 use Rattle.ab_formulas.specs.Formulas.{IsFormulaUnder}
 use Rattle.ab_theory.specs.Judgements.{marked_judgement}

@@ -6,12 +6,12 @@ use Rattle.ab_term.specs.Logical.{universal, implication}
 use Rattle.ab_term.specs.Terms.{Nominal, constant, nominal, logical, index, lam, spine, no_terms, term, Read}
 use Rattle.ab_term.specs.Substitution.{shift, instance_by_all}
 use Rattle.ab_term.specs.Names.{support}
-use Rattle.ab_term.specs.Closing.{over, abstracted}
+use Rattle.ab_term.specs.Abstraction.{over, abstracted}
 use Rattle.ab_term.specs.Sameness.{same_term}
-use Rattle.ab_cases.specs.Member.{before, in_the_list}
+use Rattle.ab_unifiers.specs.Member.{before, in_the_list}
 use Rattle.ab_formulas.specs.Declarations.{Declarations, signature_in}
 use Rattle.ab_formulas.specs.Sequents.{Sequent, in_terms, formulas_of}
-use Rattle.ab_formulas.specs.Fitting as fitting
+use Rattle.ab_formulas.specs.GoalTerms as fitting
 
 -- THE LIST WITHOUT ITS FIRST ITEM that is the formula, past hints, if it has one. An item stands before a list by `::`.
 abbrev pub without_item : Read → Read → Option Read

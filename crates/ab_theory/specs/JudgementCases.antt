@@ -1,10 +1,10 @@
 -- A JUDGEMENT OF A HYPOTHESIS IS ANALYSED: the goal is split into cases, one for each rule. And one of the conclusion is
 -- unfolded by a rule: its body takes the conclusion's place.
 use Rattle.std.specs.Prelude.{ℕ, List, ◌++◌, map, length}
-use Rattle.ab_solve.specs.Replacing.{Cell}
-use Rattle.ab_cases.specs.Clauses.{numbered}
+use Rattle.ab_unifiers.specs.Replacements.{Cell}
+use Rattle.ab_unifiers.specs.Clauses.{numbered}
 use Rattle.ab_formulas.specs.Sequents.{Sequent, in_terms, assuming, proving}
-use Rattle.ab_formulas.specs.Marking.{mark_below, mark_above}
+use Rattle.ab_formulas.specs.BodyMarks.{mark_below, mark_above}
 use Rattle.ab_theory.specs.Splits.{Case, CaseOver}
 use Rattle.ab_theory.specs.Judgements.{Judgement}
 use Rattle.ab_theory.specs.SpecRules.{SpecRule, demand_of}

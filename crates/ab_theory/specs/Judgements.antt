@@ -4,10 +4,10 @@ use Rattle.std.specs.Prelude.{List, [], ◌++◌, Option, Some, None}
 use Rattle.ab_term.specs.Logical.{judgement, focused_judgement}
 use Rattle.ab_term.specs.Terms.{Nominal, logical, spine, no_terms, term, Read}
 use Rattle.ab_term.specs.Names.{support}
-use Rattle.ab_cases.specs.Choices.{in_order}
+use Rattle.ab_unifiers.specs.Choices.{in_order}
 use Rattle.ab_formulas.specs.Forms.{Form, marked, other, form_of}
 use Rattle.ab_formulas.specs.Marks.{Sign, plain}
-use Rattle.ab_formulas.specs.Marking.{with_mark}
+use Rattle.ab_formulas.specs.BodyMarks.{with_mark}
 
 pub record Judgement : Type 0 where
   pub sign : Sign

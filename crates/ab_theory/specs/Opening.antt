@@ -3,7 +3,7 @@ use Rattle.std.specs.Prelude.{ℕ, zero, List, [], ◌∷◌, Bool, true, false}
 use Rattle.ab_term.specs.Logical.{truth, conjunction, nabla, spec_universal, spec_implication, spec_conjunction}
 use Rattle.ab_term.specs.Terms.{Head, constant, logical, nominal, variable, index, lam, spine, no_terms, term, Read}
 use Rattle.ab_term.specs.Substitution.{shift}
-use Rattle.ab_cases.specs.Member.{before}
+use Rattle.ab_unifiers.specs.Member.{before}
 use Rattle.ab_formulas.specs.Marks.{Sign}
 use Rattle.ab_theory.specs.Judgements.{marked_judgement}
 

@@ -4,7 +4,7 @@ use Rattle.ab_term.specs.Logical.{spec_universal, spec_implication, spec_conjunc
 use Rattle.ab_term.specs.Terms.{logical, lam, spine, no_terms, term, Read}
 use Rattle.ab_term.specs.Substitution.{instance_by_all}
 use Rattle.ab_term.specs.Reach.{raise}
-use Rattle.ab_solve.specs.Replacing.{Cell}
+use Rattle.ab_unifiers.specs.Replacements.{Cell}
 
 -- the names of the `pi`s, the outermost first; and under them the goals, in order, and the atom
 pub record Part : Type 0 where

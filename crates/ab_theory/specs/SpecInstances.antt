@@ -6,8 +6,8 @@ use Rattle.ab_term.specs.Translation.{EqualPastHints}
 use Rattle.ab_term.specs.Variables.{Substitution, image, variables}
 use Rattle.ab_term.specs.Sameness.{same_number}
 use Rattle.ab_term.specs.Terms.{Read}
-use Rattle.ab_solve.specs.Solving.{Equation}
-use Rattle.ab_cases.specs.Clauses.{AreFor, numbered, put_together}
+use Rattle.ab_unifiers.specs.Unification.{Equation}
+use Rattle.ab_unifiers.specs.Clauses.{AreFor, numbered, put_together}
 use Rattle.ab_formulas.specs.Marks.{plain}
 use Rattle.ab_theory.specs.Judgements.{Judgement}
 use Rattle.ab_formulas.specs.Programs.{Program}

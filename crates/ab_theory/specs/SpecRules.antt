@@ -7,12 +7,12 @@ use Rattle.ab_term.specs.Terms.{Nominal, constant, logical, index, lam, spine, n
 use Rattle.ab_term.specs.Substitution.{shift}
 use Rattle.ab_term.specs.Variables.{Substitution, image, image_all}
 use Rattle.ab_term.specs.Sameness.{same_number}
-use Rattle.ab_solve.specs.Replacing.{Cell, occurs}
-use Rattle.ab_solve.specs.Solving.{Equation}
-use Rattle.ab_cases.specs.Clauses.{Clause, clause_variables, head_of, put_together}
-use Rattle.ab_cases.specs.Prefixes.{arguments_of, own_terms}
-use Rattle.ab_cases.specs.Alternatives.{cells_over, made_terms, arguments_equal}
-use Rattle.ab_cases.specs.Member.{in_the_list}
+use Rattle.ab_unifiers.specs.Replacements.{Cell, occurs}
+use Rattle.ab_unifiers.specs.Unification.{Equation}
+use Rattle.ab_unifiers.specs.Clauses.{Clause, clause_variables, head_of, put_together}
+use Rattle.ab_unifiers.specs.Prefixes.{arguments_of, own_terms}
+use Rattle.ab_unifiers.specs.Alternatives.{cells_over, made_terms, arguments_equal}
+use Rattle.ab_unifiers.specs.Member.{in_the_list}
 use Rattle.ab_formulas.specs.Marks.{Sign}
 use Rattle.ab_formulas.specs.Sequents.{Variable, in_terms}
 use Rattle.ab_theory.specs.Equations.{variables_from}

@@ -4,7 +4,7 @@ use Rattle.std.specs.Option.{option_map}
 use Rattle.ab_term.specs.Variables.{Substitution, image}
 use Rattle.ab_term.specs.Sameness.{same_number}
 use Rattle.ab_term.specs.Terms.{Read}
-use Rattle.ab_solve.specs.Replacing.{Cell}
+use Rattle.ab_unifiers.specs.Replacements.{Cell}
 use Rattle.ab_formulas.specs.Declarations.{Declarations}
 use Rattle.ab_formulas.specs.Marks.{Sign}
 use Rattle.ab_formulas.specs.Sequents.{Variable, Sequent, goal_names}

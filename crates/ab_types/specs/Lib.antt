@@ -8,3 +8,5 @@ pub mod Columns
 pub mod Layout
 pub mod Builtin
 pub mod Tally
+-- Libraries that the crates above name through this one.
+pub use Rattle.ab_name

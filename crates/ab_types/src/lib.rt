@@ -1,7 +1,6 @@
 //! The table of kinds, constants and types, and counts of steps; with names, from the crate below.
 #![tactic(auto)]
 
-pub mod below;
 mod builtin;
 mod columns;
 mod fault;
@@ -11,7 +10,7 @@ mod steps;
 mod table;
 mod tally;
 
-pub use ab_name::Name;
+pub use ab_name as name;
 pub use fault::TableFault;
 pub use ids::{ConstId, KindId, TypeId, TypeView};
 pub use steps::Steps;

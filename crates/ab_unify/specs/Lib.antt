@@ -1,7 +1,12 @@
--- Unification of terms adds no words of its own.
--- Libraries that the crates above name through this one.
-pub use Rattle.ab_patterns.specs.ab_solve
-pub use Rattle.ab_patterns.specs.ab_types
-pub use Rattle.ab_patterns.specs.ab_store
-pub use Rattle.ab_patterns.specs.ab_norm
-pub use Rattle.ab_patterns
+-- UNIFICATION OF SHARED TERMS as one call, in the words of `ab_unifiers`.
+-- What a problem on shared terms stands for, what `unify` answers, and how many rules lead to an answer.
+pub mod Problem
+pub mod UnifyAnswers
+pub mod RuleCounts
+-- What one rule does to a store, and what is told of it.
+pub mod StoreChanges
+pub mod Outcome
+-- Where a run stands, pairs of patterns, and walks that prune: words that only proofs and private contracts speak.
+pub mod States
+pub mod JoinedPatterns
+pub mod Pruning

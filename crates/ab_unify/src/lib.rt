@@ -1,17 +1,22 @@
-//! Pattern unification on shared terms: cells are made, and bound so that, given names, they are certain terms.
+//! Pattern unification of shared terms: `unify`, and the steps by which it answers.
 #![tactic(auto)]
 
-pub mod below;
-mod flags;
-mod making;
-mod narrowing;
-mod one_variable;
-mod putting;
-mod renewing;
+mod all_rules;
+mod answers;
+mod cell_bindings;
+mod first_rules;
+mod flexible_rules;
+mod inversion;
+mod joined_patterns;
+mod made_cells;
+mod narrow_cells;
+mod one_step;
+mod pruning;
+mod queues;
+mod rule_choices;
+mod runs;
+mod unification;
+mod verdict;
 
-pub use flags::{agreeing, common, keeps_all};
-pub use making::make;
-pub use narrowing::narrow;
-pub use one_variable::solve_one_variable;
-pub use putting::put;
-pub use renewing::renew;
+pub use answers::Solved;
+pub use unification::unify;

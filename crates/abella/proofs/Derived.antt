@@ -4,26 +4,26 @@ use Rattle.std.specs.List.{All}
 use Rattle.std.proofs.lemmas.List.Elements.{All-cons}
 use Rattle.std.proofs.lemmas.List.{append-nil, length-append}
 use Rattle.std.proofs.lemmas.Bool.{cases_order}
-use Rattle.ab_blocks.specs.ab_lex.specs.Commands.{Item}
+use Rattle.ab_lex.specs.Commands.{Item}
 use Rattle.ab_term.specs.Types.{Ty}
 use Rattle.ab_term.specs.Constants.{Constant}
 use Rattle.ab_term.specs.Terms.{Read}
 use Rattle.ab_formulas.specs.Declarations.{Declarations, Block, a_kind, a_constant, a_block, a_theorem, theorems_in}
 use Rattle.ab_formulas.proofs.Declaring.{theorems_in-append}
 use Rattle.ab_grammar.specs.CommandTrees.{Command}
-use Rattle.ab_blocks.specs.ab_declare.specs.Declaring.{Declares, new_kinds, new_constants, new_predicates}
-use Rattle.ab_blocks.specs.ab_declare.specs.Defining.{block_with, predicate_of}
+use Rattle.ab_declare.specs.DeclarationCommands.{Declares, new_kinds, new_constants, new_predicates}
+use Rattle.ab_declare.specs.DefinitionCommands.{block_with, predicate_of}
 use Rattle.ab_theory.specs.Derivations.{Derivation}
-use Rattle.ab_blocks.specs.ab_states.specs.State.{State, empty}
-use Rattle.ab_blocks.specs.ab_logic.specs.Worlds.{defined, first_declarations}
-use Rattle.ab_blocks.specs.ab_logic.specs.declared.world.World.{World}
-use Rattle.ab_blocks.specs.ab_states.specs.declared.reply.Reply.{Reply as Kept}
-use Rattle.ab_blocks.specs.ab_states.specs.declared.reply.Reply.TheVariants.{Accepted, Completed, Shown, Quit, Refused}
-use Rattle.ab_blocks.specs.ab_states.specs.Reply.{Reply, completed, reply_of}
-use Rattle.ab_blocks.specs.ab_states.specs.Derived.{IsDerived}
-use Rattle.ab_blocks.specs.ab_states.specs.Effect.{HasEffect, unread, declined, declared, stated, showed, ended, switched, given_up, denied, led, proved}
-use Rattle.ab_session.specs.Answers.{IsProvedLast}
-use Rattle.abella.specs.Proved.{IsBorneOut, AllDerived}
+use Rattle.ab_states.specs.State.{State, empty}
+use Rattle.ab_logic.specs.Worlds.{defined, first_declarations}
+use Rattle.ab_logic.specs.declared.world.World.{World}
+use Rattle.ab_states.specs.declared.reply.Reply.{Reply as Kept}
+use Rattle.ab_states.specs.declared.reply.Reply.TheVariants.{Accepted, Completed, Shown, Quit, Refused}
+use Rattle.ab_states.specs.Reply.{Reply, completed, reply_of}
+use Rattle.ab_states.specs.DerivedTheorems.{IsDerived}
+use Rattle.ab_states.specs.StateEffects.{HasEffect, unread, declined, declared, stated, showed, ended, switched, given_up, denied, led, proved}
+use Rattle.ab_session.specs.SessionAnswers.{IsProvedLast}
+use Rattle.abella.specs.ProvedTheorems.{IsBorneOut, AllDerived}
 use Rattle.abella.specs.Report.{Moment, Report, Reports, none, next, last, Replies, to_command, to_long, state_behind}
 
 -- each theorem of these declarations has a derivation

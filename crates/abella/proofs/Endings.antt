@@ -2,18 +2,18 @@
 use Rattle.std.proofs.Common.{◌≡◌, ◌≤◌, ◌+◌, ◌-◌, ℕ, Bool, true, false, IsTrue, ◌↔◌, List, [], ◌++◌, length, take, Option, Some, None, refl, sym, ap, ◌∙◌, subst, arith, append_assoc, inl, inr}
 use Rattle.std.proofs.lemmas.List.{append-nil, take_all, length-append, nil_from_length}
 use Rattle.std.proofs.Math.Seq.{take-append-add}
-use Rattle.ab_blocks.specs.ab_lex.specs.declared.TheConstants.{COMMAND_LIMIT}
-use Rattle.ab_blocks.specs.ab_lex.specs.Commands.{Item, ItemsOf, HasBlankRest}
-use Rattle.ab_blocks.specs.ab_lex.proofs.Cuts.{items_there, no_items}
-use Rattle.ab_blocks.specs.ab_lex.specs.Pending.{Pending, ItemsFrom, Awaits, SameRest}
-use Rattle.ab_blocks.specs.ab_lex.proofs.Awaiting.{awaits_there, none_awaited, items_none, items_fed}
-use Rattle.ab_session.specs.ab_io.specs.Count.{Rose}
-use Rattle.ab_session.specs.ab_io.specs.Told.{Takes, Appends, AppendsFront, AtEnd}
-use Rattle.ab_session.specs.ab_io.proofs.Streams.{takes_none, takes_more, appends_none, appends_more, rose_more}
+use Rattle.ab_lex.specs.declared.TheConstants.{COMMAND_LIMIT}
+use Rattle.ab_lex.specs.Commands.{Item, ItemsOf, HasBlankRest}
+use Rattle.ab_lex.proofs.Cuts.{items_there, no_items}
+use Rattle.ab_lex.specs.PendingText.{Pending, ItemsFrom, Awaits, SameRest}
+use Rattle.ab_lex.proofs.Awaiting.{awaits_there, none_awaited, items_none, items_fed}
+use Rattle.ab_io.specs.Count.{Rose}
+use Rattle.ab_io.specs.KnownBytes.{Takes, Appends, AppendsFront, AtEnd}
+use Rattle.ab_io.proofs.Streams.{takes_none, takes_more, appends_none, appends_more, rose_more}
 use Rattle.abella.specs.declared.status.Status.{Status}
 use Rattle.abella.specs.declared.status.Status.TheVariants.{Done, Refused, ReadFault, WriteFault, NoMemory, Unfinished, TooLong}
 use Rattle.abella.specs.declared.running.TheConstants.{READ_FAULT, TOO_LONG, MAX_INPUT}
-use Rattle.ab_blocks.specs.ab_states.specs.State.{State, empty}
+use Rattle.ab_states.specs.State.{State, empty}
 use Rattle.abella.specs.Report.{Report, ReportOf, none, bytes_of, has_refusal, has_end, state_behind}
 use Rattle.abella.specs.Outside.{outside}
 use Rattle.abella.specs.Outcome.{IsFinished, HasNoRest, EndsWith, WroteReport, WroteAll, IsLastLine, WroteSome, RanOver, Ran}

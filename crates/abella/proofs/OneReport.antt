@@ -1,13 +1,13 @@
 -- A text has one report.
 use Rattle.std.proofs.Common.{◌≡◌, ℕ, List, [], ◌∷◌, true, false, refl, sym, ◌∙◌, ap, subst}
-use Rattle.ab_blocks.specs.ab_lex.specs.declared.TheConstants.{COMMAND_LIMIT}
-use Rattle.ab_blocks.specs.ab_lex.specs.Commands.{Item}
-use Rattle.ab_blocks.specs.ab_lex.proofs.Cuts.{only_items}
-use Rattle.ab_blocks.specs.ab_states.specs.State.{State, empty}
-use Rattle.ab_blocks.specs.ab_states.specs.Reply.{Reply}
-use Rattle.ab_unique.specs.Sound.{IsSound}
-use Rattle.ab_unique.proofs.Sound.{sound_effect, sound_beginning}
-use Rattle.ab_unique.proofs.Effects.{one_effect}
+use Rattle.ab_lex.specs.declared.TheConstants.{COMMAND_LIMIT}
+use Rattle.ab_lex.specs.Commands.{Item}
+use Rattle.ab_lex.proofs.Cuts.{only_items}
+use Rattle.ab_states.specs.State.{State, empty}
+use Rattle.ab_states.specs.Reply.{Reply}
+use Rattle.ab_determinism.specs.Sound.{IsSound}
+use Rattle.ab_determinism.proofs.Sound.{sound_effect, sound_beginning}
+use Rattle.ab_determinism.proofs.Effects.{one_effect}
 use Rattle.abella.specs.Report.{Moment, Replies, to_command, to_long, Report, Reports, none, next, last, ReportOf, is_end}
 
 moment_by : Reply → State → Moment

@@ -3,15 +3,15 @@ use Rattle.std.proofs.Common.{◌≡◌, ◌<◌, ◌+◌, ◌||◌, ℕ, Bool, 
 use Rattle.std.proofs.lemmas.List.{append-nil, take_all}
 use Rattle.std.proofs.Math.Seq.{take-append-add}
 use Rattle.std.specs.Prelude.{Err}
-use Rattle.ab_session.specs.ab_io.specs.Told.{Appends, AppendsFront}
-use Rattle.ab_session.specs.ab_io.specs.declared.sink.WriteFault.{WriteFault}
-use Rattle.ab_session.specs.ab_io.specs.declared.sink.WriteFault.TheVariants.{Failed, Memory}
-use Rattle.ab_session.specs.ab_io.proofs.Streams.{appends_none, appends_more}
-use Rattle.ab_blocks.specs.ab_lex.specs.Commands.{Item}
-use Rattle.ab_blocks.specs.ab_lex.specs.Pending.{Pending}
-use Rattle.ab_blocks.specs.ab_lex.proofs.Awaiting.{items_same, items_next}
-use Rattle.ab_blocks.specs.ab_states.specs.State.{State}
-use Rattle.ab_blocks.specs.ab_states.specs.Reply.{is_refusal}
+use Rattle.ab_io.specs.KnownBytes.{Appends, AppendsFront}
+use Rattle.ab_io.specs.declared.sink.WriteFault.{WriteFault}
+use Rattle.ab_io.specs.declared.sink.WriteFault.TheVariants.{Failed, Memory}
+use Rattle.ab_io.proofs.Streams.{appends_none, appends_more}
+use Rattle.ab_lex.specs.Commands.{Item}
+use Rattle.ab_lex.specs.PendingText.{Pending}
+use Rattle.ab_lex.proofs.Awaiting.{items_same, items_next}
+use Rattle.ab_states.specs.State.{State}
+use Rattle.ab_states.specs.Reply.{is_refusal}
 use Rattle.ab_blocks.specs.Blocks.{block}
 use Rattle.abella.specs.Report.{Report, Reports, none, is_end, bytes_of, has_refusal, has_end, state_behind}
 use Rattle.abella.specs.Progress.{Standing, moment, to_come, standing_behind, Answered, AnsweredSome, AnsweredReady, AnswersItem, HasNone}

@@ -2,12 +2,12 @@
 use Rattle.std.proofs.Common.{◌≡◌, ◌⊎◌, ℕ, true, List, [], ◌∷◌, ◌++◌, refl, sym, subst, arith, inl, inr}
 use Rattle.std.specs.List.{All}
 use Rattle.std.proofs.lemmas.List.Elements.{All-cons}
-use Rattle.ab_blocks.specs.ab_lex.specs.Commands.{Item}
-use Rattle.ab_blocks.specs.ab_states.specs.State.{State, empty}
-use Rattle.ab_blocks.specs.ab_states.specs.Reply.{Reply, is_kept}
-use Rattle.ab_blocks.specs.ab_states.specs.Effect.{HasEffect, unread, declined, declared, stated, showed, ended, switched, given_up, denied, led, proved}
-use Rattle.ab_blocks.specs.ab_states.specs.Replay as replay
-use Rattle.ab_blocks.specs.ab_states.specs.Replay.{Replays, IsReplayed}
+use Rattle.ab_lex.specs.Commands.{Item}
+use Rattle.ab_states.specs.State.{State, empty}
+use Rattle.ab_states.specs.Reply.{Reply, is_kept}
+use Rattle.ab_states.specs.StateEffects.{HasEffect, unread, declined, declared, stated, showed, ended, switched, given_up, denied, led, proved}
+use Rattle.ab_states.specs.Replay as replay
+use Rattle.ab_states.specs.Replay.{Replays, IsReplayed}
 use Rattle.abella.specs.Report.{Moment, Report, Reports, none, next, last, Replies, to_command, to_long}
 
 -- a command stands behind those that are kept, or leaves the state

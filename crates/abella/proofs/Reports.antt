@@ -1,12 +1,12 @@
 -- Reports of items, one behind another.
 use Rattle.std.proofs.Common.{◌≡◌, ◌||◌, ℕ, Bool, true, false, List, [], ◌∷◌, ◌++◌, refl, sym, ap, ◌∙◌, subst, append_assoc, inl, inr}
 use Rattle.std.proofs.lemmas.Bool.{cases_Bool}
-use Rattle.ab_blocks.specs.ab_lex.specs.declared.TheConstants.{COMMAND_LIMIT}
-use Rattle.ab_blocks.specs.ab_lex.specs.Commands.{Item, ItemsOf}
-use Rattle.ab_blocks.specs.ab_lex.proofs.Cuts.{items_there}
-use Rattle.ab_blocks.specs.ab_lex.proofs.GoesOn.{items_on}
-use Rattle.ab_blocks.specs.ab_states.specs.State.{State, empty}
-use Rattle.ab_blocks.specs.ab_states.specs.Reply.{is_refusal}
+use Rattle.ab_lex.specs.declared.TheConstants.{COMMAND_LIMIT}
+use Rattle.ab_lex.specs.Commands.{Item, ItemsOf}
+use Rattle.ab_lex.proofs.Cuts.{items_there}
+use Rattle.ab_lex.proofs.GoesOn.{items_on}
+use Rattle.ab_states.specs.State.{State, empty}
+use Rattle.ab_states.specs.Reply.{is_refusal}
 use Rattle.ab_blocks.specs.Blocks.{block}
 use Rattle.abella.specs.Report.{Moment, Report, Reports, ReportOf, none, next, last, Replies, is_end, bytes_of, has_refusal, has_end, state_behind}
 

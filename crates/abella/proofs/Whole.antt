@@ -1,16 +1,16 @@
 -- A run over a source and a sink that tell their bytes and didn't fail.
 use Rattle.std.proofs.Common.{◌≡◌, ◌≤◌, ℕ, List, ◌++◌, length, Option, Some, None, sym, ap, ◌∙◌, subst, arith, inl, inr}
 use Rattle.std.proofs.lemmas.List.{append-nil, length-append}
-use Rattle.ab_blocks.specs.ab_lex.specs.Commands.{Item}
-use Rattle.ab_session.specs.ab_io.specs.Count.{Rose}
-use Rattle.ab_session.specs.ab_io.specs.Told.{Takes, AtEnd}
+use Rattle.ab_lex.specs.Commands.{Item}
+use Rattle.ab_io.specs.Count.{Rose}
+use Rattle.ab_io.specs.KnownBytes.{Takes, AtEnd}
 use Rattle.abella.specs.declared.status.Status.{Status}
 use Rattle.abella.specs.declared.status.Status.TheVariants.{Done, Refused, BadLine, ReadFault, WriteFault, NoMemory, Unfinished, TooLong}
 use Rattle.abella.specs.declared.running.TheConstants.{MAX_INPUT, USAGE}
 use Rattle.abella.specs.Status.{number_of}
 use Rattle.std.specs.Prelude.{true, IfSome}
-use Rattle.ab_blocks.specs.ab_states.specs.State.{State, empty}
-use Rattle.abella.specs.Proved.{AllDerived}
+use Rattle.ab_states.specs.State.{State, empty}
+use Rattle.abella.specs.ProvedTheorems.{AllDerived}
 use Rattle.abella.specs.Report.{Report, Reports, ReportOf, has_end}
 use Rattle.abella.specs.Outside.{outside}
 use Rattle.abella.specs.Outcome.{HandsOut, EndsWith, WroteAll, RanOver, Ran, RefusedLine, IsReported}

@@ -1,9 +1,9 @@
 -- How a run ends: its status, what stands outside before and after it, and the state that it hands out.
 use Rattle.std.specs.Prelude.{◌≡◌, ◌≤◌, ◌+◌, ◌⊎◌, ℕ, true, false, List, [], ◌++◌, length, take, Option, Some, None}
-use Rattle.ab_blocks.specs.ab_lex.specs.Commands.{Item, ItemsOf, HasBlankRest}
-use Rattle.ab_session.specs.ab_io.specs.Count.{Rose}
-use Rattle.ab_session.specs.ab_io.specs.Told.{Takes, Appends, AppendsFront, AtEnd}
-use Rattle.ab_blocks.specs.ab_states.specs.State.{State, empty}
+use Rattle.ab_lex.specs.Commands.{Item, ItemsOf, HasBlankRest}
+use Rattle.ab_io.specs.Count.{Rose}
+use Rattle.ab_io.specs.KnownBytes.{Takes, Appends, AppendsFront, AtEnd}
+use Rattle.ab_states.specs.State.{State, empty}
 use Rattle.abella.specs.declared.status.Status.{Status}
 use Rattle.abella.specs.declared.status.Status.TheVariants.{Done, Refused, BadLine, ReadFault, WriteFault, NoMemory, Unfinished, TooLong}
 use Rattle.abella.specs.declared.running.TheConstants.{MAX_INPUT, USAGE, READ_FAULT, TOO_LONG}

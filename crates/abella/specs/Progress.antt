@@ -1,14 +1,14 @@
 -- How far a run has come: the items that were answered, and those that are to come.
 use Rattle.std.specs.Prelude.{◌≡◌, ◌≤◌, ◌||◌, ◌↔◌, ℕ, Bool, true, false, List, [], ◌++◌, ◌⊎◌, length, Option, Some, None, Result, Ok, Err}
-use Rattle.ab_blocks.specs.ab_lex.specs.Commands.{Item, ItemsOf, HasBlankRest}
-use Rattle.ab_blocks.specs.ab_lex.specs.Pending.{Pending, Awaits, SameItems, NextItem}
-use Rattle.ab_blocks.specs.ab_lex.proofs.Awaiting.{items_after}
-use Rattle.ab_session.specs.ab_io.specs.Count.{Rose}
-use Rattle.ab_session.specs.ab_io.specs.Told.{Takes, Appends, AppendsFront, AtEnd}
-use Rattle.ab_session.specs.ab_io.specs.declared.sink.WriteFault.{WriteFault}
-use Rattle.ab_session.specs.ab_io.specs.declared.sink.WriteFault.TheVariants.{Failed, Memory}
-use Rattle.ab_blocks.specs.ab_states.specs.State.{State, empty}
-use Rattle.ab_blocks.specs.ab_states.specs.Reply.{Reply, is_refusal}
+use Rattle.ab_lex.specs.Commands.{Item, ItemsOf, HasBlankRest}
+use Rattle.ab_lex.specs.PendingText.{Pending, Awaits, SameItems, NextItem}
+use Rattle.ab_lex.proofs.Awaiting.{items_after}
+use Rattle.ab_io.specs.Count.{Rose}
+use Rattle.ab_io.specs.KnownBytes.{Takes, Appends, AppendsFront, AtEnd}
+use Rattle.ab_io.specs.declared.sink.WriteFault.{WriteFault}
+use Rattle.ab_io.specs.declared.sink.WriteFault.TheVariants.{Failed, Memory}
+use Rattle.ab_states.specs.State.{State, empty}
+use Rattle.ab_states.specs.Reply.{Reply, is_refusal}
 use Rattle.ab_blocks.specs.Blocks.{block}
 use Rattle.ab_session.specs.Contents.{state_of}
 use Rattle.abella.specs.declared.input.ReadStop.{ReadStop}

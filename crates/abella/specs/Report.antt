@@ -1,12 +1,12 @@
 -- THE REPORT OF A TEXT: its commands are answered in order, each from the state that the ones before it left, up to a `Quit`.
 use Rattle.std.specs.Prelude.{◌≡◌, ℕ, Bool, true, false, ◌||◌, List, [], ◌∷◌, ◌++◌}
-use Rattle.ab_blocks.specs.ab_lex.specs.Commands.{Item, ItemsOf, command, long}
-use Rattle.ab_blocks.specs.ab_declare.specs.declared.refusal.Refusal.TheVariants.{TooLong}
-use Rattle.ab_blocks.specs.ab_states.specs.State.{State, empty}
-use Rattle.ab_blocks.specs.ab_states.specs.Reply.{Reply, quit, refused, is_refusal}
-use Rattle.ab_blocks.specs.ab_states.specs.Effect.{HasEffect}
+use Rattle.ab_lex.specs.Commands.{Item, ItemsOf, command, long}
+use Rattle.ab_declare.specs.declared.refusal.Refusal.TheVariants.{TooLong}
+use Rattle.ab_states.specs.State.{State, empty}
+use Rattle.ab_states.specs.Reply.{Reply, quit, refused, is_refusal}
+use Rattle.ab_states.specs.StateEffects.{HasEffect}
 use Rattle.ab_blocks.specs.Blocks.{block}
-use Rattle.abella.specs.Proved.{IsBorneOut}
+use Rattle.abella.specs.ProvedTheorems.{IsBorneOut}
 
 -- a reply, and the state behind it
 pub record Moment : Type 0 where

@@ -2,8 +2,8 @@
 ghost use Rattle.std.specs.Prelude.{◌≡◌, ◌<◌, ◌≤◌, length, IfOk, IfErr};
 ghost use Rattle.abella.specs.Progress.{FedPiece, ReadStopped};
 
-use ab_blocks::below::lex::Splitter;
-use ab_session::below::io::{Failed, Source};
+use ab_io::{Failed, Source};
+use ab_lex::Splitter;
 
 /// Why no piece was read.
 #[derive(Clone, Copy)]

@@ -1,11 +1,11 @@
 //! Laws of the definitions, each the contract of a function that does nothing.
 ghost use Rattle.std.specs.Prelude.{◌≡◌, ◌++◌, ℕ, List, true};
 ghost use Rattle.std.specs.List.{All};
-ghost use Rattle.ab_blocks.specs.ab_lex.specs.Commands.{Item};
-ghost use Rattle.ab_blocks.specs.ab_states.specs.State.{State};
-ghost use Rattle.ab_blocks.specs.ab_states.specs.Replay.{IsReplayed};
-ghost use Rattle.ab_blocks.specs.ab_states.specs.Reply.{completed};
-ghost use Rattle.ab_session.specs.Answers.{IsProvedLast};
+ghost use Rattle.ab_lex.specs.Commands.{Item};
+ghost use Rattle.ab_states.specs.State.{State};
+ghost use Rattle.ab_states.specs.Replay.{IsReplayed};
+ghost use Rattle.ab_states.specs.Reply.{completed};
+ghost use Rattle.ab_session.specs.SessionAnswers.{IsProvedLast};
 ghost use Rattle.abella.specs.Report.{Moment, Report, ReportOf, Reports, has_end};
 
 /// A text has one report: one reply to each of its commands, and one state behind it. So it has one output and one status.

@@ -14,7 +14,7 @@ mod streams;
 #[cfg(test)]
 mod tests;
 
-use ab_session::below::io::MemFiles;
+use ab_io::MemFiles;
 use running::run;
 use std::process::ExitCode;
 use std::{env, io};

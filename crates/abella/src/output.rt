@@ -1,20 +1,21 @@
 //! Answering the items of a text, one after another, and writing the blocks.
 ghost use Rattle.std.specs.Prelude.{◌≡◌, ◌≤◌, false, IfOk, IfSome, option_map};
-ghost use Rattle.ab_session.specs.ab_io.specs.Count.{Rose};
-ghost use Rattle.ab_blocks.specs.ab_lex.specs.Pending.{SameRest};
-ghost use Rattle.ab_blocks.specs.ab_logic.specs.declared.world.World.{World as AWorld};
-ghost use Rattle.ab_blocks.specs.ab_states.specs.Reply.{SpeaksOfNoGoal, reply_of, is_refusal};
+ghost use Rattle.ab_io.specs.Count.{Rose};
+ghost use Rattle.ab_lex.specs.PendingText.{SameRest};
+ghost use Rattle.ab_logic.specs.declared.world.World.{World as AWorld};
+ghost use Rattle.ab_states.specs.Reply.{SpeaksOfNoGoal, reply_of, is_refusal};
 ghost use Rattle.ab_blocks.specs.Blocks.{block};
 ghost use Rattle.ab_session.specs.Contents.{state_of};
 ghost use Rattle.abella.specs.Report.{is_end};
 ghost use Rattle.abella.specs.Progress.{RepliesNext, AnswersNext, AnsweredReady, standing_of};
 
-use ab_blocks::below::lex::{Next, Splitter};
-use ab_blocks::below::states::{Refusal, Reply};
-use ab_blocks::below::types::Steps;
 use ab_blocks::block;
+use ab_declare::Refusal;
+use ab_io::{Files, Sink, WriteFault, write_all};
+use ab_lex::{Next, Splitter};
 use ab_session::Session;
-use ab_session::below::io::{Files, Sink, WriteFault, write_all};
+use ab_states::Reply;
+use ab_types::Steps;
 use std::alloc::{AllocError, Global};
 
 /// How a run stands between two commands.

@@ -1,11 +1,11 @@
 //! The top call: a run over a script, from the bytes in to the bytes out.
 ghost use Rattle.std.specs.Prelude.{◌≡◌, ◌≢◌, ◌<◌, ◌≤◌, ◌+◌, ℕ, List, None, Some, length, option_map, IsTrue, IfSome, ◌↔◌};
 ghost use Rattle.std.specs.List.{All};
-ghost use Rattle.ab_session.specs.ab_io.specs.Count.{Rose};
-ghost use Rattle.ab_blocks.specs.ab_states.specs.Reply.{completed};
+ghost use Rattle.ab_io.specs.Count.{Rose};
+ghost use Rattle.ab_states.specs.Reply.{completed};
 ghost use Rattle.ab_session.specs.Contents.{state_of};
-ghost use Rattle.ab_session.specs.Answers.{IsProvedLast};
-ghost use Rattle.abella.specs.Proved.{AllDerived};
+ghost use Rattle.ab_session.specs.SessionAnswers.{IsProvedLast};
+ghost use Rattle.abella.specs.ProvedTheorems.{AllDerived};
 ghost use Rattle.abella.specs.Report.{Moment, Report, ReportOf};
 ghost use Rattle.abella.specs.Outside.{outside};
 ghost use Rattle.abella.specs.Outcome.{IsNameAlone, EndedBy, IsFinished, RefusedLine, Ran, IsReported};
@@ -14,9 +14,9 @@ ghost use Rattle.abella.specs.Progress.{EndedWith, RanTo, beginning, handed_by, 
 use crate::input::{ReadStop, read_piece};
 use crate::output::{Progress, answer_ready};
 use crate::status::Status;
-use ab_blocks::below::lex::Splitter;
+use ab_io::{Files, Sink, Source, WriteFault, write_all};
+use ab_lex::Splitter;
 use ab_session::Session;
-use ab_session::below::io::{Files, Sink, Source, WriteFault, write_all};
 use std::alloc::Global;
 
 /// No more bytes of the input than this are looked at.

@@ -3,7 +3,7 @@
 //! Nothing is told of what they hold.
 ghost use Rattle.std.specs.Prelude.{◌≡◌};
 
-use ab_session::below::io::{Failed, Sink, Source, WriteFault};
+use ab_io::{Failed, Sink, Source, WriteFault};
 use std::io::{Read, Write};
 
 #[cfg(test)]

@@ -6,7 +6,7 @@ mod counting;
 mod names;
 
 use crate::running::run;
-use ab_session::below::io::{MemFiles, MemSink, MemSource, Sink, Source};
+use ab_io::{MemFiles, MemSink, MemSource, Sink, Source};
 use std::alloc::{AllocError, Global};
 use std::test::Fail;
 

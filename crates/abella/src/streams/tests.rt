@@ -2,7 +2,7 @@
 ghost use Rattle.std.specs.Prelude.{◌≤◌, IfOk};
 
 use super::{StdSink, StdSource};
-use ab_session::below::io::{Failed, Sink, Source, WriteFault};
+use ab_io::{Failed, Sink, Source, WriteFault};
 use std::io::{self, ErrorKind, Read, Write};
 use std::test::Fail;
 

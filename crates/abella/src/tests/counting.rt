@@ -1,9 +1,9 @@
 //! What is asked of a source and a sink behind a call that fails.
 ghost use Rattle.std.specs.Prelude.{◌≤◌, IsTrue};
-ghost use Rattle.ab_session.specs.ab_io.specs.Count.{Rose};
+ghost use Rattle.ab_io.specs.Count.{Rose};
 
 use super::status_over;
-use ab_session::below::io::{Failed, MemSink, MemSource, Sink, Source, WriteFault};
+use ab_io::{Failed, MemSink, MemSource, Sink, Source, WriteFault};
 use std::test::Fail;
 
 /// A source and a sink that fail at their second call, and at no other, and count their calls.

@@ -1,9 +1,9 @@
 //! A fault's text is its variant's name.
-use ab_progress::ProofCommandFault;
-use ab_progress::below::kernel::KernelFault;
+use ab_lex::LexFault;
 use ab_search::SearchFault;
+use ab_session::steps::ProofCommandFault;
+use ab_session::steps::kernel::KernelFault;
 use ab_syntax::ParseFault;
-use ab_syntax::below::lex::LexFault;
 use std::alloc::AllocError;
 use std::test::Fail;
 

@@ -1,22 +1,22 @@
 use Rattle.std.proofs.Common.{◌≡◌, List, ℕ, map, Some, sym, ◌∙◌, ap, subst}
 use Rattle.ab_term.specs.Typing.{Signature}
 use Rattle.ab_term.specs.Terms.{Nominal}
-use Rattle.ab_instances.specs.ab_types.specs.Entries.{signature}
-use Rattle.ab_instances.specs.ab_norm.specs.Nominals.{HoldsNominal}
+use Rattle.ab_norm.specs.ab_types.specs.Entries.{signature}
+use Rattle.ab_norm.specs.Nominals.{HoldsNominal}
 use Rattle.std.specs.List.{All}
-use Rattle.ab_instances.specs.ab_cases.specs.Choices.{outside}
-use Rattle.ab_instances.specs.ab_cases.specs.Clauses.{Clause as Case}
-use Rattle.ab_equate.specs.ab_solver.specs.Answers.{IsTypedPair}
-use Rattle.ab_marks.specs.ab_logic.specs.Forms.{sign_of}
-use Rattle.ab_formulas.specs.Marking.{marked_in}
-use Rattle.ab_instances.specs.ab_store.specs.Trees.{tree_of}
-use Rattle.ab_formulas.specs.Kept.{Clause}
-use Rattle.ab_formulas.specs.Cased.{case_of, IsWellKept}
-use Rattle.ab_instances.specs.ab_clauses.specs.Readings.{clause_of, name_of}
-use Rattle.ab_instances.specs.ab_unifying.proofs.Growth.{grows_on}
-use Rattle.ab_instances.specs.Readings.{names_read}
+use Rattle.ab_unifiers.specs.Choices.{outside}
+use Rattle.ab_unifiers.specs.Clauses.{Clause as Case}
+use Rattle.ab_unify.specs.UnifyAnswers.{IsTypedPair}
+use Rattle.ab_logic.specs.Forms.{sign_of}
+use Rattle.ab_formulas.specs.BodyMarks.{marked_in}
+use Rattle.ab_norm.specs.ab_store.specs.Trees.{tree_of}
+use Rattle.ab_formulas.specs.Clauses.{Clause}
+use Rattle.ab_formulas.specs.CaseClauses.{case_of, IsWellKept}
+use Rattle.ab_typing.specs.DefinitionReadings.{clause_of, name_of}
+use Rattle.ab_unify.proofs.Growth.{grows_on}
+use Rattle.ab_instances.specs.ListReadings.{names_read}
 use Rattle.ab_instances.proofs.Made.{names_stay, names_held}
-use Rattle.ab_alternatives.specs.Made.{equate, trees_from}
+use Rattle.ab_alternatives.specs.LeftAlternatives.{equate, trees_from}
 use Rattle.ab_alternatives.proofs.Assembled.{clause_stays, clause_held, same_signature}
 use Rattle.ab_alternatives.proofs.Whole as whole
 use Rattle.ab_alternatives.proofs.alternatives.make_alternative.Goals as goal

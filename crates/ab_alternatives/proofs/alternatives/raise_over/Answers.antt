@@ -1,8 +1,8 @@
 use Rattle.std.specs.Prelude.{◌==◌, Result, Ok, Err, IfOk, OnOk}
 use Rattle.std.proofs.Common.{◌≡◌, ◌≢◌, [], true, false, length, sym, ◌∙◌, ap}
 use Rattle.std.proofs.lemmas.List.{length-map}
-use Rattle.ab_instances.specs.ab_norm.specs.Nominals.{nominal_of}
-use Rattle.ab_instances.specs.Readings.{names_read}
+use Rattle.ab_norm.specs.Nominals.{nominal_of}
+use Rattle.ab_instances.specs.ListReadings.{names_read}
 use Rattle.ab_alternatives.proofs.Raised.{raised_is}
 use Rattle.ab_alternatives.proofs.alternatives.raise_over.Goals as goal
 

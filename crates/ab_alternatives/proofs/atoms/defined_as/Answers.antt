@@ -1,7 +1,7 @@
 use Rattle.std.specs.Option.{option_copied}
 use Rattle.std.proofs.Common.{rules, sym, ◌∙◌, ap, subst}
-use Rattle.ab_instances.specs.ab_store.specs.Naming.{NodeIsTyped, HeadIsTyped}
-use Rattle.ab_marks.specs.ab_logic.specs.Worlds.{IsKeptBlock}
+use Rattle.ab_norm.specs.ab_store.specs.Naming.{NodeIsTyped, HeadIsTyped}
+use Rattle.ab_logic.specs.Worlds.{IsKeptBlock}
 use Rattle.ab_alternatives.proofs.Kept.{kept_block}
 use Rattle.ab_alternatives.proofs.atoms.defined_as.Goals as goal
 

@@ -1,5 +1,5 @@
-use Rattle.ab_instances.specs.Readings.{names_read}
-use Rattle.ab_marks.specs.ab_logic.specs.Readings.{sequent_of}
+use Rattle.ab_instances.specs.ListReadings.{names_read}
+use Rattle.ab_logic.specs.SequentReadings.{sequent_of}
 use Rattle.ab_formulas.specs.Sequents.{goal_names}
 use Rattle.ab_alternatives.proofs.GoalNames.{members_in_order}
 use Rattle.ab_alternatives.proofs.constants.constants_in.Goals as goal

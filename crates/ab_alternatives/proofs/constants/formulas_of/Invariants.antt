@@ -1,5 +1,5 @@
 use Rattle.std.proofs.Common.{◌≡◌, ◌∷◌, map, take}
-use Rattle.ab_marks.specs.ab_logic.specs.declared.sequent.Hypothesis.{Hypothesis}
+use Rattle.ab_logic.specs.declared.sequent.Hypothesis.{Hypothesis}
 use Rattle.ab_alternatives.proofs.constants.formulas_of.Given as goal
 
 abbrev pub invariant-loop-h : goal.invariant-loop-h

@@ -1,7 +1,7 @@
 use Rattle.std.proofs.Common.{◌∙◌}
-use Rattle.ab_instances.specs.ab_norm.proofs.Frame.{if_ok}
-use Rattle.ab_instances.specs.Readings.{names_read}
-use Rattle.ab_marks.specs.ab_logic.specs.Readings.{sequent_of}
+use Rattle.ab_norm.proofs.Frame.{if_ok}
+use Rattle.ab_instances.specs.ListReadings.{names_read}
+use Rattle.ab_logic.specs.SequentReadings.{sequent_of}
 use Rattle.ab_formulas.specs.Sequents.{goal_names}
 use Rattle.ab_alternatives.proofs.GoalNames.{names_are, ids_held, choices_in_order}
 use Rattle.ab_alternatives.proofs.constants.goal_constants.Goals as goal

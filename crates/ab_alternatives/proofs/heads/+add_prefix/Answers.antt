@@ -1,11 +1,11 @@
 use Rattle.std.proofs.Common.{◌≤◌, ◌<◌, ◌++◌, map, length, get_or, arith, ap, sym, ◌∙◌, subst, append-nil}
-use Rattle.ab_instances.specs.ab_norm.proofs.Frame.{spine_names, lam_names}
-use Rattle.ab_instances.specs.ab_store.specs.declared.node.TermId.{TermId}
+use Rattle.ab_norm.proofs.Frame.{spine_names, lam_names}
+use Rattle.ab_norm.specs.ab_store.specs.declared.node.TermId.{TermId}
 use Rattle.std.specs.List.{All}
 use Rattle.std.proofs.lemmas.List.Elements.{All-push, All-same}
-use Rattle.ab_instances.specs.ab_types.specs.Ids.{HoldsType, type_of}
-use Rattle.ab_instances.specs.ab_store.specs.declared.node.Head.TheVariants.{Logic}
-use Rattle.ab_instances.specs.ab_store.specs.Naming.{NodeIsTyped, HeadIsTyped}
+use Rattle.ab_norm.specs.ab_types.specs.Ids.{HoldsType, type_of}
+use Rattle.ab_norm.specs.ab_store.specs.declared.node.Head.TheVariants.{Logic}
+use Rattle.ab_norm.specs.ab_store.specs.Naming.{NodeIsTyped, HeadIsTyped}
 use Rattle.ab_alternatives.proofs.Walks.{no_prefix}
 use Rattle.ab_alternatives.proofs.heads.+add_prefix.Goals as goal
 

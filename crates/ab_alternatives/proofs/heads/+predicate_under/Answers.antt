@@ -1,8 +1,7 @@
-use Rattle.std.proofs.Common.{◌≤◌, length, arith, ap, ◌∙◌, subst}
+use Rattle.std.proofs.Common.{◌≤◌, length, arith, ap, ◌∙◌, subst, Option, Some, None}
 use Rattle.std.specs.Prelude.{IfSome}
-use Rattle.std.proofs.Common.{Option, Some, None}
-use Rattle.ab_instances.specs.ab_store.specs.declared.node.Head.TheVariants.{Logic}
-use Rattle.ab_instances.specs.ab_store.specs.Naming.{NodeIsTyped, HeadIsTyped}
+use Rattle.ab_norm.specs.ab_store.specs.declared.node.Head.TheVariants.{Logic}
+use Rattle.ab_norm.specs.ab_store.specs.Naming.{NodeIsTyped, HeadIsTyped}
 use Rattle.ab_alternatives.proofs.Walks.{an_atom_here, a_nabla_here, no_head}
 use Rattle.ab_alternatives.proofs.heads.+predicate_under.Goals as goal
 

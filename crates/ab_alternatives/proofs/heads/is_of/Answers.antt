@@ -1,6 +1,6 @@
 use Rattle.ab_formulas.proofs.Headed.{predicate_is}
 use Rattle.std.proofs.Common.{sym, ◌∙◌, ap, bytes_eq}
-use Rattle.ab_instances.specs.ab_clauses.specs.Readings.{clause_of, name_of}
+use Rattle.ab_typing.specs.DefinitionReadings.{clause_of, name_of}
 use Rattle.ab_alternatives.proofs.Placed.{same_by_name}
 use Rattle.ab_alternatives.proofs.heads.is_of.Goals as goal
 

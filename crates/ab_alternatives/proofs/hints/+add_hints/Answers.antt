@@ -1,8 +1,8 @@
 use Rattle.std.proofs.Common.{◌≤◌, ◌<◌, ◌++◌, map, length, get_or, arith, ap, sym, ◌∙◌, append-nil}
 use Rattle.std.proofs.lemmas.List.Elements.{All-same}
-use Rattle.ab_instances.specs.ab_norm.proofs.Frame.{spine_names, lam_names}
-use Rattle.ab_instances.specs.ab_store.specs.declared.node.TermId.{TermId}
-use Rattle.ab_instances.specs.ab_store.specs.declared.node.Head.TheVariants.{Logic}
+use Rattle.ab_norm.proofs.Frame.{spine_names, lam_names}
+use Rattle.ab_norm.specs.ab_store.specs.declared.node.TermId.{TermId}
+use Rattle.ab_norm.specs.ab_store.specs.declared.node.Head.TheVariants.{Logic}
 use Rattle.ab_alternatives.proofs.Walks.{no_prefix}
 use Rattle.ab_alternatives.proofs.hints.+add_hints.Goals as goal
 

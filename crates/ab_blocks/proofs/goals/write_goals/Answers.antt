@@ -1,11 +1,11 @@
 use Rattle.std.proofs.Common.{◌≡◌, ◌++◌, List, [], ◌∷◌, map, drop, Some, None, slice_get, option_map, true, false, sym, ap, ◌∙◌, append_assoc}
 use Rattle.std.proofs.lemmas.List.{append-nil}
 use Rattle.std.specs.Option.{option_copied}
-use Rattle.ab_states.specs.ab_logic.specs.Readings.{sequent_of}
-use Rattle.ab_states.specs.ab_print.specs.Shown as by_number
-use Rattle.ab_states.specs.ab_print.specs.Shown.{cell_name}
-use Rattle.ab_states.specs.ab_progress.specs.Progress.{goals_of}
-use Rattle.ab_formulas.specs.Goals.{named}
+use Rattle.ab_logic.specs.SequentReadings.{sequent_of}
+use Rattle.ab_print.specs.GoalText as by_number
+use Rattle.ab_print.specs.GoalText.{cell_name}
+use Rattle.ab_steps.specs.Progress.{goals_of}
+use Rattle.ab_formulas.specs.NamedGoals.{named}
 use Rattle.ab_blocks.specs.Blocks.{others_if, goals_shown}
 use Rattle.ab_blocks.proofs.Lines.{on_ok, first_shown, none_left}
 use Rattle.ab_blocks.proofs.goals.write_goals.Goals as goal

@@ -1,7 +1,7 @@
 use Rattle.std.proofs.Common.{◌≡◌, ◌++◌, codes, sym, ap, ◌∙◌, append_assoc}
-use Rattle.ab_states.specs.ab_logic.specs.Worlds.{read}
-use Rattle.ab_states.specs.ab_print.specs.Shown as by_number
-use Rattle.ab_states.specs.ab_print.specs.Shown.{cell_name}
+use Rattle.ab_logic.specs.Worlds.{read}
+use Rattle.ab_print.specs.GoalText as by_number
+use Rattle.ab_print.specs.GoalText.{cell_name}
 use Rattle.ab_states.specs.Reply.{SpeaksOfNoGoal, reply_of}
 use Rattle.ab_blocks.specs.Blocks.{closed_formula, text}
 use Rattle.ab_blocks.proofs.Lines.{on_ok, closed_so, shown_text}

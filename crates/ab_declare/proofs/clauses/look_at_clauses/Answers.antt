@@ -2,12 +2,12 @@ use Rattle.std.proofs.Common.{◌∙◌, sym, subst, ap, arith}
 use Rattle.std.proofs.lemmas.Result.{err_from_is_err_and}
 use Rattle.std.specs.Prelude.{All}
 use Rattle.ab_term.specs.Constants.{type_in}
-use Rattle.ab_sentences.specs.ab_types.specs.Entries.{kinds, signature}
-use Rattle.ab_sentences.specs.ab_types.proofs.Entries.{extended_twice}
+use Rattle.ab_norm.specs.ab_types.specs.Entries.{kinds, signature}
+use Rattle.ab_norm.specs.ab_types.proofs.Entries.{extended_twice}
 use Rattle.ab_syntax.specs.Commands.{clause_of}
-use Rattle.ab_clausal.specs.ab_building.proofs.Larger.{store_more}
-use Rattle.ab_declare.specs.Defining.{IsNamed, IsUnnamed}
-use Rattle.ab_declare.specs.Halting.{Halts, halt_for}
+use Rattle.ab_infer.proofs.Larger.{store_more}
+use Rattle.ab_declare.specs.DefinitionCommands.{IsNamed, IsUnnamed}
+use Rattle.ab_declare.specs.Halts.{Halts, halt_for}
 use Rattle.ab_declare.proofs.Meant.{unnamed}
 use Rattle.ab_declare.proofs.Turns.{all_behind, first_halts, at_end}
 use Rattle.ab_declare.proofs.clauses.look_at_clauses.Goals as goal

@@ -3,16 +3,16 @@ use Rattle.std.proofs.Common.{◌∙◌, [], map, take, length, sym, subst, ap, 
 use Rattle.std.proofs.lemmas.Result.{err_from_is_err_and}
 use Rattle.ab_term.specs.Types.{prop}
 use Rattle.ab_term.specs.Constants.{type_in}
-use Rattle.ab_sentences.specs.ab_types.specs.Entries.{kinds, signature}
-use Rattle.ab_sentences.specs.ab_types.specs.Ids.{type_of}
-use Rattle.ab_sentences.specs.ab_types.proofs.Entries.{extended_twice, type_still_held}
-use Rattle.ab_sentences.specs.ab_store.proofs.Growing.{extended_on}
+use Rattle.ab_norm.specs.ab_types.specs.Entries.{kinds, signature}
+use Rattle.ab_norm.specs.ab_types.specs.Ids.{type_of}
+use Rattle.ab_norm.specs.ab_types.proofs.Entries.{extended_twice, type_still_held}
+use Rattle.ab_norm.specs.ab_store.proofs.Growing.{extended_on}
 use Rattle.ab_syntax.specs.Commands.{clause_of}
-use Rattle.ab_clausal.specs.ab_building.proofs.Larger.{type_more}
-use Rattle.ab_clausal.specs.Meanings.{ClauseHasNoJudgement}
-use Rattle.ab_clausal.proofs.Answering.{adds_nothing}
-use Rattle.ab_declare.specs.Defining.{IsRead, IsUnread}
-use Rattle.ab_declare.specs.Halting.{Halts, halt_for, AreReadAs}
+use Rattle.ab_infer.proofs.Larger.{type_more}
+use Rattle.ab_declare.specs.ClauseMeanings.{ClauseHasNoJudgement}
+use Rattle.ab_declare.proofs.Answering.{adds_nothing}
+use Rattle.ab_declare.specs.DefinitionCommands.{IsRead, IsUnread}
+use Rattle.ab_declare.specs.Halts.{Halts, halt_for, AreReadAs}
 use Rattle.ab_declare.proofs.Meant.{unread, more_read, one_read, are_read}
 use Rattle.ab_declare.proofs.Turns.{of_item, behind_item, first_halts, at_end}
 use Rattle.ab_declare.proofs.clauses.read_clauses.Goals as goal

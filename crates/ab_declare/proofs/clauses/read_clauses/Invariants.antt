@@ -1,11 +1,11 @@
 use Rattle.std.proofs.Common.{◌≡◌, map, take}
 use Rattle.ab_term.specs.Types.{prop}
-use Rattle.ab_sentences.specs.ab_types.specs.Entries.{kinds, constants, IsExtendedBy}
-use Rattle.ab_sentences.specs.ab_types.specs.Ids.{HoldsType, type_of}
-use Rattle.ab_sentences.specs.ab_types.specs.Sound.{IsTable}
+use Rattle.ab_norm.specs.ab_types.specs.Entries.{kinds, constants, IsExtendedBy}
+use Rattle.ab_norm.specs.ab_types.specs.Ids.{HoldsType, type_of}
+use Rattle.ab_norm.specs.ab_types.specs.Sound.{IsTable}
 use Rattle.ab_syntax.specs.Commands.{clause_of}
-use Rattle.ab_clausal.specs.Growth.{AddsVariables}
-use Rattle.ab_declare.specs.Halting.{AreReadAs}
+use Rattle.ab_declare.specs.CellGrowth.{AddsVariables}
+use Rattle.ab_declare.specs.Halts.{AreReadAs}
 use Rattle.ab_declare.proofs.clauses.read_clauses.Given as goal
 
 abbrev pub invariant-loop-clause : goal.invariant-loop-clause

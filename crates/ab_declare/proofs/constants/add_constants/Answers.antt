@@ -1,8 +1,8 @@
 use Rattle.std.specs.Prelude.{Err}
 use Rattle.std.proofs.Common.{sym, ◌∙◌, ap, ◌++◌, ◌∷◌, [], map, take}
 use Rattle.ab_term.specs.Constants.{constant}
-use Rattle.ab_sentences.specs.ab_types.specs.Entries.{a_constant}
-use Rattle.ab_sentences.specs.ab_types.specs.Ids.{type_of}
+use Rattle.ab_norm.specs.ab_types.specs.Entries.{a_constant}
+use Rattle.ab_norm.specs.ab_types.specs.Ids.{type_of}
 use Rattle.ab_declare.specs.declared.refusal.Refusal.TheVariants.{Clash}
 use Rattle.ab_declare.proofs.Adding.{name_clash, name_free, name_added, still_held, still_is}
 use Rattle.ab_declare.proofs.constants.add_constants.Goals as goal

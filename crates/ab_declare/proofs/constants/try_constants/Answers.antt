@@ -1,11 +1,11 @@
 use Rattle.std.specs.Prelude.{◌≡◌, Some, None}
 use Rattle.std.proofs.Common.{sym, subst}
 use Rattle.ab_term.specs.Constants as table
-use Rattle.ab_sentences.specs.ab_types.specs.Entries.{constants}
+use Rattle.ab_norm.specs.ab_types.specs.Entries.{constants}
 use Rattle.ab_grammar.specs.CommandTrees as command
-use Rattle.ab_syntax.specs.Trees as trees
-use Rattle.ab_declare.specs.Declaring.{first_taken}
-use Rattle.ab_declare.specs.Answers.{TableDeclared}
+use Rattle.ab_syntax.specs.SyntaxTrees as trees
+use Rattle.ab_declare.specs.DeclarationCommands.{first_taken}
+use Rattle.ab_declare.specs.DeclarationAnswers.{TableDeclared}
 use Rattle.ab_declare.proofs.Concluding.{if_ok_more, none_left, constants_refused, constants_declared, type_refused}
 use Rattle.ab_declare.proofs.constants.try_constants.Goals as goal
 

@@ -1,6 +1,6 @@
 use Rattle.std.specs.Prelude.{◌≡◌, ◌++◌, map, take, None}
-use Rattle.ab_sentences.specs.ab_types.specs.Entries.{kinds, a_kind}
-use Rattle.ab_declare.specs.Declaring.{first_taken}
+use Rattle.ab_norm.specs.ab_types.specs.Entries.{kinds, a_kind}
+use Rattle.ab_declare.specs.DeclarationCommands.{first_taken}
 use Rattle.ab_declare.proofs.kinds.add_kinds.Given as goal
 
 abbrev pub invariant-loop-name : goal.invariant-loop-name

@@ -1,7 +1,7 @@
 use Rattle.std.proofs.Common.{refl, ◌∙◌, sym, ap}
-use Rattle.ab_sentences.specs.ab_readings.specs.Types.{written_type}
-use Rattle.ab_syntax.specs.Trees as trees
-use Rattle.ab_clausal.specs.ab_infer.proofs.WrittenTyping.{arrow_whole}
+use Rattle.ab_meaning.specs.Types.{written_type}
+use Rattle.ab_syntax.specs.SyntaxTrees as trees
+use Rattle.ab_inference.proofs.WrittenTyping.{arrow_whole}
 use Rattle.ab_declare.proofs.Ending.{arrow_ends}
 use Rattle.ab_declare.proofs.predicates.+ends_in_prop.Goals as goal
 

@@ -1,11 +1,11 @@
 use Rattle.std.proofs.Common.{◌∙◌, sym, subst, arith}
 use Rattle.std.proofs.lemmas.Result.{err_from_is_err_and}
 use Rattle.std.specs.Prelude.{All}
-use Rattle.ab_sentences.specs.ab_types.specs.Entries.{kinds}
-use Rattle.ab_sentences.specs.ab_types.proofs.Entries.{extended_twice}
+use Rattle.ab_norm.specs.ab_types.specs.Entries.{kinds}
+use Rattle.ab_norm.specs.ab_types.proofs.Entries.{extended_twice}
 use Rattle.ab_syntax.specs.Commands.{defined_of}
-use Rattle.ab_declare.specs.Defining.{IsPredicate, IsNoPredicate}
-use Rattle.ab_declare.specs.Halting.{Halts, HasKinds}
+use Rattle.ab_declare.specs.DefinitionCommands.{IsPredicate, IsNoPredicate}
+use Rattle.ab_declare.specs.Halts.{Halts, HasKinds}
 use Rattle.ab_declare.proofs.Turns.{of_item, all_behind, first_halts, at_end}
 use Rattle.ab_declare.proofs.predicates.look_at_types.Goals as goal
 

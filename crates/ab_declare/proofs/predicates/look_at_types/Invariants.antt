@@ -1,9 +1,9 @@
 use Rattle.std.proofs.Common.{◌≡◌, map, take}
 use Rattle.std.specs.Prelude.{All}
-use Rattle.ab_sentences.specs.ab_types.specs.Entries.{kinds, constants, IsExtendedBy}
-use Rattle.ab_sentences.specs.ab_types.specs.Sound.{IsTable}
+use Rattle.ab_norm.specs.ab_types.specs.Entries.{kinds, constants, IsExtendedBy}
+use Rattle.ab_norm.specs.ab_types.specs.Sound.{IsTable}
 use Rattle.ab_syntax.specs.Commands.{defined_of}
-use Rattle.ab_declare.specs.Defining.{IsPredicate}
+use Rattle.ab_declare.specs.DefinitionCommands.{IsPredicate}
 use Rattle.ab_declare.proofs.predicates.look_at_types.Given as goal
 
 abbrev pub invariant-loop-predicate : goal.invariant-loop-predicate

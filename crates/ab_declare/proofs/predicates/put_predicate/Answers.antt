@@ -1,8 +1,8 @@
 use Rattle.std.proofs.Common.{[], sym, ◌∙◌}
 use Rattle.std.proofs.lemmas.Result.{err_from_is_err_and}
 use Rattle.ab_term.specs.Constants.{names}
-use Rattle.ab_sentences.specs.ab_types.specs.Entries.{kinds, constants}
-use Rattle.ab_sentences.specs.ab_types.specs.Ids.{type_of}
+use Rattle.ab_norm.specs.ab_types.specs.Entries.{kinds, constants}
+use Rattle.ab_norm.specs.ab_types.specs.Ids.{type_of}
 use Rattle.ab_syntax.specs.Commands.{defined_of}
 use Rattle.ab_declare.proofs.Putting.{in_use, not_in_use, taken, not_written, put_one, no_kind_more}
 use Rattle.ab_declare.proofs.predicates.put_predicate.Goals as goal

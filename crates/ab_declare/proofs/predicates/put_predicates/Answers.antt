@@ -1,8 +1,8 @@
 use Rattle.std.proofs.Common.{◌∙◌, ◌∷◌, [], map, take, drop, ◌+◌, sym, subst}
 use Rattle.std.proofs.lemmas.Result.{err_from_is_err_and}
-use Rattle.ab_sentences.specs.ab_types.proofs.Entries.{extended_twice}
+use Rattle.ab_norm.specs.ab_types.proofs.Entries.{extended_twice}
 use Rattle.ab_syntax.specs.Commands.{defined_of}
-use Rattle.ab_declare.specs.Halting.{Halts, ArePut, ArentPut}
+use Rattle.ab_declare.specs.Halts.{Halts, ArePut, ArentPut}
 use Rattle.ab_declare.proofs.Putting.{put_more, put_stops}
 use Rattle.ab_declare.proofs.Turns.{halts_more, at_item, behind_item}
 use Rattle.ab_declare.proofs.predicates.put_predicates.Goals as goal

@@ -1,8 +1,8 @@
 use Rattle.std.proofs.Common.{◌≡◌, map, take}
-use Rattle.ab_sentences.specs.ab_types.specs.Entries.{kinds, IsExtendedBy}
-use Rattle.ab_sentences.specs.ab_types.specs.Sound.{IsTable}
+use Rattle.ab_norm.specs.ab_types.specs.Entries.{kinds, IsExtendedBy}
+use Rattle.ab_norm.specs.ab_types.specs.Sound.{IsTable}
 use Rattle.ab_syntax.specs.Commands.{defined_of}
-use Rattle.ab_declare.specs.Halting.{ArePut}
+use Rattle.ab_declare.specs.Halts.{ArePut}
 use Rattle.ab_declare.proofs.predicates.put_predicates.Given as goal
 
 abbrev pub invariant-loop-predicate : goal.invariant-loop-predicate

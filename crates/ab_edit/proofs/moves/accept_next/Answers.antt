@@ -1,6 +1,6 @@
 use Rattle.std.proofs.Common.{◌≡◌, ◌+◌, Bool, length, sym, ap, ◌∙◌, subst, arith}
 use Rattle.ab_lex.specs.Commands.{command}
-use Rattle.ab_lex.specs.Pending.{NextItem}
+use Rattle.ab_lex.specs.PendingText.{NextItem}
 use Rattle.ab_edit.specs.State.{last_of, IsGoing}
 use Rattle.ab_edit.proofs.Steps.{next_of, in_step, going_more, halted_there, halted_at_long, halted_at_end}
 use Rattle.ab_edit.proofs.moves.accept_next.Goals as goal

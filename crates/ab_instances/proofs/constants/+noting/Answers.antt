@@ -3,12 +3,12 @@ use Rattle.std.specs.List.{All}
 use Rattle.std.proofs.lemmas.List.Elements.{All-same}
 use Rattle.std.proofs.lemmas.Result.{on_ok_weaker}
 use Rattle.ab_term.specs.Names.{support, support_of_head}
-use Rattle.ab_clauses.specs.ab_store.specs.declared.node.TermId.{TermId}
-use Rattle.ab_clauses.specs.ab_store.specs.Trees.{tree_of, head_reading}
-use Rattle.ab_clauses.specs.ab_store.specs.Naming.{NodeIsTyped}
-use Rattle.ab_unifying.specs.ab_norm.proofs.Bounds.{ids_bound, bound_within, below_bound}
-use Rattle.ab_unifying.specs.ab_norm.proofs.Frame.{spine_names}
-use Rattle.ab_instances.specs.Readings.{names_read}
+use Rattle.ab_norm.specs.ab_store.specs.declared.node.TermId.{TermId}
+use Rattle.ab_norm.specs.ab_store.specs.Trees.{tree_of, head_reading}
+use Rattle.ab_norm.specs.ab_store.specs.Naming.{NodeIsTyped}
+use Rattle.ab_norm.proofs.Bounds.{ids_bound, bound_within, below_bound}
+use Rattle.ab_norm.proofs.Frame.{spine_names}
+use Rattle.ab_instances.specs.ListReadings.{names_read}
 use Rattle.ab_instances.proofs.Noted.{noted_known, noted_more, noted_spine, are_noted_on, are_noted_more}
 use Rattle.ab_instances.proofs.constants.+noting.Goals as goal
 

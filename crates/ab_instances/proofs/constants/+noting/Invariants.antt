@@ -1,10 +1,10 @@
 use Rattle.std.proofs.Common.{◌≡◌, ◌+◌, ◌*◌, ◌-◌, drop, length}
 use Rattle.std.specs.List.{All}
 use Rattle.ab_term.specs.Names.{support_of_all}
-use Rattle.ab_unifying.specs.ab_norm.specs.Nominals.{HoldsNominal}
-use Rattle.ab_unifying.specs.ab_norm.proofs.Bounds.{ids_bound}
-use Rattle.ab_instances.specs.Readings.{names_read, given_at}
-use Rattle.ab_instances.specs.Noting.{all_noted, AreNoted}
+use Rattle.ab_norm.specs.Nominals.{HoldsNominal}
+use Rattle.ab_norm.proofs.Bounds.{ids_bound}
+use Rattle.ab_instances.specs.ListReadings.{names_read, given_at}
+use Rattle.ab_instances.specs.ConstantOrder.{all_noted, AreNoted}
 use Rattle.ab_instances.proofs.constants.+noting.Given as goal
 
 abbrev pub decreases-note : goal.decreases-note

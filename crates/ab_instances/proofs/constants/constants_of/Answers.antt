@@ -1,7 +1,7 @@
 use Rattle.std.proofs.Common.{◌∙◌, ap}
 use Rattle.ab_term.specs.Names.{support_of_all}
-use Rattle.ab_instances.specs.Readings.{names_read, given_at}
-use Rattle.ab_instances.specs.Noting.{all_noted}
+use Rattle.ab_instances.specs.ListReadings.{names_read, given_at}
+use Rattle.ab_instances.specs.ConstantOrder.{all_noted}
 use Rattle.ab_instances.proofs.Noted.{noted_order}
 use Rattle.ab_instances.proofs.constants.constants_of.Goals as goal
 

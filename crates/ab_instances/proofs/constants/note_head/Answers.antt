@@ -1,11 +1,11 @@
 use Rattle.std.proofs.Common.{◌≡◌, ◌<◌, ◌≤◌, length, get_or, nat_lt, true, false, sym, ◌∙◌, ap, subst}
 use Rattle.ab_term.specs.Names.{support_of_head}
-use Rattle.ab_clauses.specs.ab_store.specs.Trees.{head_in}
-use Rattle.ab_unifying.specs.ab_norm.specs.declared.nominal.Nominal.{Nominal}
-use Rattle.ab_unifying.specs.ab_norm.specs.Nominals.{nominal_of}
-use Rattle.ab_clauses.specs.ab_cases.specs.Choices.{is_in}
-use Rattle.ab_instances.specs.Readings.{names_read}
-use Rattle.ab_instances.specs.Noting.{all_noted}
+use Rattle.ab_norm.specs.ab_store.specs.Trees.{head_in}
+use Rattle.ab_norm.specs.declared.nominal.Nominal.{Nominal}
+use Rattle.ab_norm.specs.Nominals.{nominal_of}
+use Rattle.ab_unifiers.specs.Choices.{is_in}
+use Rattle.ab_instances.specs.ListReadings.{names_read}
+use Rattle.ab_instances.specs.ConstantOrder.{all_noted}
 use Rattle.ab_instances.proofs.Noted.{inserted_read}
 use Rattle.ab_instances.proofs.constants.note_head.Goals as goal
 

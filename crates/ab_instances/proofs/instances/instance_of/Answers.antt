@@ -2,20 +2,20 @@ use Rattle.std.proofs.Common.{◌++◌, [], sym, ◌∙◌, ap, subst, length, c
 use Rattle.ab_term.specs.Types.{prop}
 use Rattle.ab_term.specs.Variables.{image}
 use Rattle.ab_term.specs.Sameness.{same_number}
-use Rattle.ab_clauses.specs.ab_types.specs.Entries.{signature}
-use Rattle.ab_clauses.specs.ab_types.specs.Ids.{type_of}
-use Rattle.ab_clauses.specs.ab_store.specs.Trees.{cell_of, tree_of}
-use Rattle.ab_clauses.specs.ab_store.specs.Naming.{IsTerm}
-use Rattle.ab_clauses.specs.ab_store.proofs.Growing.{term_grown}
-use Rattle.ab_clauses.specs.ab_solve.specs.Meaning.{AreDifferent}
-use Rattle.ab_clauses.specs.ab_cases.specs.Clauses.{Each, put_together, name_term}
-use Rattle.ab_clauses.specs.ab_cases.specs.Prefixes.{opened}
-use Rattle.ab_clauses.specs.ab_cases.specs.Alternatives.{cells_over, made_over, made_terms}
-use Rattle.ab_clauses.specs.Readings.{clause_of}
-use Rattle.ab_unifying.specs.Problem.{cells_read, variables_read}
-use Rattle.ab_unifying.proofs.Growth.{grows_on, grows_terms, typed_terms}
-use Rattle.ab_instances.specs.Readings.{names_read, cells_at, trees_at, given_at}
-use Rattle.ab_instances.specs.Binding.{CanBeBound}
+use Rattle.ab_norm.specs.ab_types.specs.Entries.{signature}
+use Rattle.ab_norm.specs.ab_types.specs.Ids.{type_of}
+use Rattle.ab_norm.specs.ab_store.specs.Trees.{cell_of, tree_of}
+use Rattle.ab_norm.specs.ab_store.specs.Naming.{IsTerm}
+use Rattle.ab_norm.specs.ab_store.proofs.Growing.{term_grown}
+use Rattle.ab_unifiers.specs.Unifiers.{AreDifferent}
+use Rattle.ab_unifiers.specs.Clauses.{Each, put_together, name_term}
+use Rattle.ab_unifiers.specs.Prefixes.{opened}
+use Rattle.ab_unifiers.specs.Alternatives.{cells_over, made_over, made_terms}
+use Rattle.ab_typing.specs.DefinitionReadings.{clause_of}
+use Rattle.ab_unify.specs.Problem.{cells_read, variables_read}
+use Rattle.ab_unify.proofs.Growth.{grows_on, grows_terms, typed_terms}
+use Rattle.ab_instances.specs.ListReadings.{names_read, cells_at, trees_at, given_at}
+use Rattle.ab_instances.specs.CellBindings.{CanBeBound}
 use Rattle.ab_instances.proofs.Made.{names_stay, names_held}
 use Rattle.ab_instances.proofs.Fitting.{in_terms_are, different_cells, can_bind}
 use Rattle.ab_instances.proofs.Assembled.{body_is, arguments_are, arguments_fit, cells_end, own_end}

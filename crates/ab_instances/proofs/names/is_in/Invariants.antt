@@ -1,7 +1,7 @@
 use Rattle.std.proofs.Common.{◌≡◌, false, take}
-use Rattle.ab_unifying.specs.ab_norm.specs.Nominals.{nominal_of}
-use Rattle.ab_clauses.specs.ab_cases.specs.Choices as choices
-use Rattle.ab_instances.specs.Readings.{names_read}
+use Rattle.ab_norm.specs.Nominals.{nominal_of}
+use Rattle.ab_unifiers.specs.Choices as choices
+use Rattle.ab_instances.specs.ListReadings.{names_read}
 use Rattle.ab_instances.proofs.names.is_in.Given as goal
 
 abbrev pub invariant-loop-b : goal.invariant-loop-b

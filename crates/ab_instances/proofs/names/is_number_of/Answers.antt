@@ -1,6 +1,6 @@
 use Rattle.std.proofs.Common.{◌==◌, arith, sym, ◌∙◌}
 use Rattle.ab_term.specs.Terms.{Nominal}
-use Rattle.ab_unifying.specs.ab_norm.specs.Nominals.{nominal_of}
+use Rattle.ab_norm.specs.Nominals.{nominal_of}
 use Rattle.ab_instances.proofs.Listed.{any_here}
 use Rattle.ab_instances.proofs.names.is_number_of.Goals as goal
 

@@ -1,7 +1,7 @@
 use Rattle.std.proofs.Common.{ap}
 use Rattle.ab_term.proofs.Comparisons.{same_type-Decides}
-use Rattle.ab_clauses.specs.ab_types.specs.Ids.{type_of}
-use Rattle.ab_clauses.specs.ab_types.proofs.Kept.{one_type}
+use Rattle.ab_norm.specs.ab_types.specs.Ids.{type_of}
+use Rattle.ab_norm.specs.ab_types.proofs.Kept.{one_type}
 use Rattle.ab_instances.proofs.Listed.{test_same}
 use Rattle.ab_instances.proofs.names.is_of_type.Goals as goal
 

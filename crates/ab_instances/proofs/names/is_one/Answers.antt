@@ -1,7 +1,7 @@
 use Rattle.std.proofs.Common.{ap}
 use Rattle.ab_term.proofs.Comparisons.{same_nominal-Decides}
-use Rattle.ab_unifying.specs.ab_norm.specs.Nominals.{nominal_of}
-use Rattle.ab_unifying.specs.ab_norm.proofs.Gathered.{one_nominal}
+use Rattle.ab_norm.specs.Nominals.{nominal_of}
+use Rattle.ab_norm.proofs.Gathered.{one_nominal}
 use Rattle.ab_instances.proofs.Listed.{test_same}
 use Rattle.ab_instances.proofs.names.is_one.Goals as goal
 

@@ -1,9 +1,9 @@
 use Rattle.std.proofs.Common.{◌≡◌, ℕ, suc, ◌+◌, ◌-◌, length, arith, sym, ◌∙◌, ap}
 use Rattle.std.proofs.lemmas.List.{length-map}
-use Rattle.ab_clauses.specs.ab_types.specs.Ids.{type_of}
-use Rattle.ab_unifying.specs.ab_norm.specs.Nominals.{nominal_of}
-use Rattle.ab_clauses.specs.ab_cases.specs.Choices.{free_number}
-use Rattle.ab_instances.specs.Readings.{names_read}
+use Rattle.ab_norm.specs.ab_types.specs.Ids.{type_of}
+use Rattle.ab_norm.specs.Nominals.{nominal_of}
+use Rattle.ab_unifiers.specs.Choices.{free_number}
+use Rattle.ab_instances.specs.ListReadings.{names_read}
 use Rattle.ab_instances.proofs.Listed.{tried_more, tried_last}
 use Rattle.ab_instances.proofs.names.new_constant.Goals as goal
 

@@ -1,7 +1,7 @@
 use Rattle.std.proofs.Common.{◌≡◌, ◌+◌, ◌-◌, length}
-use Rattle.ab_clauses.specs.ab_types.specs.Entries.{Table}
-use Rattle.ab_clauses.specs.ab_cases.specs.Choices as choices
-use Rattle.ab_instances.specs.Readings.{names_read}
+use Rattle.ab_norm.specs.ab_types.specs.Entries.{Table}
+use Rattle.ab_unifiers.specs.Choices as choices
+use Rattle.ab_instances.specs.ListReadings.{names_read}
 use Rattle.ab_instances.proofs.names.new_constant.Given as goal
 
 abbrev pub invariant-loop-tried : goal.invariant-loop-tried

@@ -1,8 +1,8 @@
 use Rattle.std.proofs.Common.{◌≡◌, take}
 use Rattle.std.specs.List.{All}
-use Rattle.ab_unifying.specs.ab_norm.specs.Nominals.{nominal_of, HoldsNominal}
-use Rattle.ab_clauses.specs.ab_cases.specs.Choices as choices
-use Rattle.ab_instances.specs.Readings.{names_read}
+use Rattle.ab_norm.specs.Nominals.{nominal_of, HoldsNominal}
+use Rattle.ab_unifiers.specs.Choices as choices
+use Rattle.ab_instances.specs.ListReadings.{names_read}
 use Rattle.ab_instances.proofs.names.others.Given as goal
 
 abbrev pub invariant-loop-b : goal.invariant-loop-b

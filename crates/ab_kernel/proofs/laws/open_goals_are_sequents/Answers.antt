@@ -1,4 +1,4 @@
-use Rattle.ab_rules.specs.ab_logic.specs.Worlds.{declarations_of}
+use Rattle.ab_logic.specs.Worlds.{declarations_of}
 use Rattle.ab_kernel.specs.Layout.{history_of}
 use Rattle.ab_theory.proofs.Rooted.{open_are_sequents}
 use Rattle.ab_kernel.proofs.laws.open_goals_are_sequents.Goals as goal

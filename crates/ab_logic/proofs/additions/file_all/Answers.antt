@@ -2,7 +2,7 @@ use Rattle.std.specs.HashMap.{get}
 use Rattle.std.specs.Map.{lookup}
 use Rattle.std.proofs.Common.{take, get_or, Some, if◌then◌else◌, refl, sym, ap, ◌∙◌}
 use Rattle.std.proofs.lemmas.List.{take_more, take_all}
-use Rattle.ab_clauses.specs.ab_types.specs.declared.ids.ConstId.{ConstId}
+use Rattle.ab_store.specs.ab_types.specs.declared.ids.ConstId.{ConstId}
 use Rattle.ab_logic.specs.Additions.{same_constant, is_among}
 use Rattle.ab_logic.proofs.Lookups.{put_one, put_some}
 use Rattle.ab_logic.proofs.additions.file_all.Goals as goal

@@ -1,6 +1,6 @@
 use Rattle.std.proofs.Common.{◌≡◌, take, Some, if◌then◌else◌}
 use Rattle.std.specs.HashMap.{get}
-use Rattle.ab_clauses.specs.ab_types.specs.declared.ids.ConstId.{ConstId}
+use Rattle.ab_store.specs.ab_types.specs.declared.ids.ConstId.{ConstId}
 use Rattle.ab_logic.specs.Additions.{same_constant, is_among}
 use Rattle.ab_logic.proofs.additions.file_all.Given as goal
 

@@ -1,9 +1,9 @@
 use Rattle.std.proofs.Common.{sym, ap, ◌∙◌, subst, rules}
-use Rattle.ab_clauses.specs.ab_store.specs.Naming.{HeadIsTyped}
-use Rattle.ab_clauses.specs.ab_store.specs.Trees.{node_tree, logical_of}
+use Rattle.ab_store.specs.Naming.{HeadIsTyped}
+use Rattle.ab_store.specs.Trees.{node_tree, logical_of}
 use Rattle.ab_logic.specs.Worlds.{read}
 use Rattle.ab_formulas.specs.Forms.{form_of}
-use Rattle.ab_clauses.specs.ab_store.specs.declared.node.Node.TheVariants.{Spine}
+use Rattle.ab_store.specs.declared.node.Node.TheVariants.{Spine}
 use Rattle.ab_logic.proofs.Counts.{many}
 use Rattle.ab_logic.proofs.form.shape.Goals as goal
 

@@ -1,4 +1,4 @@
-use Rattle.ab_clauses.specs.ab_store.proofs.Growing.{unbound_reads}
+use Rattle.ab_store.proofs.Growing.{unbound_reads}
 use Rattle.ab_logic.proofs.laws.worlds_read_as_trees.Goals as goal
 
 pub returns : goal.returns

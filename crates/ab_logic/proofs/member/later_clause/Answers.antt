@@ -2,11 +2,11 @@ use Rattle.std.specs.List.{All}
 use Rattle.std.proofs.Common.{◌≡◌, [], ◌∷◌, length, map, codes, arith, sym, ap, ◌∙◌, subst}
 use Rattle.std.proofs.lemmas.List.Elements.{All-nil, All-cons}
 use Rattle.ab_term.specs.Types.{o, olist}
-use Rattle.ab_clauses.specs.ab_store.specs.Trees.{HoldsCell, tree_of}
-use Rattle.ab_clauses.specs.ab_store.proofs.Growing.{extended_on}
-use Rattle.ab_clauses.specs.ab_cases.specs.Member.{clause_variable, before}
-use Rattle.ab_clauses.specs.Readings.{variable_of}
-use Rattle.ab_logic.specs.Built.{kept_later}
+use Rattle.ab_store.specs.Trees.{HoldsCell, tree_of}
+use Rattle.ab_store.proofs.Growing.{extended_on}
+use Rattle.ab_unifiers.specs.Member.{clause_variable, before}
+use Rattle.ab_typing.specs.DefinitionReadings.{variable_of}
+use Rattle.ab_logic.specs.MemberDefinition.{kept_later}
 use Rattle.ab_logic.proofs.Members.{two_terms, variable_later, own_variable, own_term}
 use Rattle.ab_logic.proofs.member.later_clause.Goals as goal
 

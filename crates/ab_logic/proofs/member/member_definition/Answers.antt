@@ -1,11 +1,11 @@
 use Rattle.std.specs.List.{All}
 use Rattle.std.proofs.Common.{[], ◌∷◌, ◌++◌, map, true, codes, sym, ap, ◌∙◌, subst}
 use Rattle.std.proofs.lemmas.List.Elements.{All-nil, All-cons}
-use Rattle.ab_clauses.specs.ab_types.specs.Ids.{HoldsConstant}
-use Rattle.ab_clauses.specs.Readings.{name_of, clause_of}
-use Rattle.ab_clauses.specs.ab_cases.specs.Member.{member_first}
-use Rattle.ab_formulas.specs.Cased.{case_of}
-use Rattle.ab_logic.specs.Built.{kept_first, kept_later}
+use Rattle.ab_store.specs.ab_types.specs.Ids.{HoldsConstant}
+use Rattle.ab_typing.specs.DefinitionReadings.{name_of, clause_of}
+use Rattle.ab_unifiers.specs.Member.{member_first}
+use Rattle.ab_formulas.specs.CaseClauses.{case_of}
+use Rattle.ab_logic.specs.MemberDefinition.{kept_first, kept_later}
 use Rattle.ab_logic.specs.Worlds.{IsKeptClause}
 use Rattle.ab_logic.proofs.Members.{clause_later, clause_held, kept_clause, first_is, later_is, first_well, first_body, later_well, later_body}
 use Rattle.ab_logic.proofs.member.member_definition.Goals as goal

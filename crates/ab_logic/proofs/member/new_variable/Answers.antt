@@ -1,4 +1,4 @@
-use Rattle.ab_clauses.specs.ab_store.proofs.Growing.{extended_on}
+use Rattle.ab_store.proofs.Growing.{extended_on}
 use Rattle.ab_logic.proofs.member.new_variable.Goals as goal
 
 pub returns-clause-before : goal.returns-clause-before

@@ -1,6 +1,6 @@
 use Rattle.std.proofs.Common.{Contains, refl, sym, subst}
 use Rattle.ab_term.specs.Constants.{names}
-use Rattle.ab_clauses.specs.ab_types.specs.Entries.{constants}
+use Rattle.ab_store.specs.ab_types.specs.Entries.{constants}
 use Rattle.ab_logic.proofs.Members.{has_cons}
 use Rattle.ab_logic.proofs.member.words_of.Goals as goal
 

@@ -1,8 +1,8 @@
 use Rattle.std.proofs.Common.{None, ◌∙◌, ap, sym, subst}
 use Rattle.std.specs.Prelude.{if◌then◌else◌}
-use Rattle.ab_logic.specs.ab_store.specs.Naming.{NodeIsTyped}
-use Rattle.ab_logic.specs.ab_store.specs.Trees.{head_reading}
-use Rattle.ab_text.specs.Naming as plain
+use Rattle.ab_store.specs.Naming.{NodeIsTyped}
+use Rattle.ab_store.specs.Trees.{head_reading}
+use Rattle.ab_print.specs.NameAssignment as plain
 use Rattle.ab_print.proofs.Etas.{alone_spine, spine_names}
 use Rattle.ab_print.proofs.eta.+alone_under.Goals as goal
 

@@ -2,10 +2,10 @@ use Rattle.std.proofs.Common.{◌<◌, ◌≤◌, ◌∙◌, ◌&&◌, refl, ap,
 use Rattle.std.specs.List.{All}
 use Rattle.std.proofs.lemmas.List.Elements.{All-same}
 use Rattle.ab_term.specs.Terms.{terms_of}
-use Rattle.ab_logic.specs.ab_types.specs.Ids.{type_of}
-use Rattle.ab_logic.specs.ab_store.specs.declared.node.TermId.{TermId}
-use Rattle.ab_logic.specs.ab_store.specs.Trees.{tree_of}
-use Rattle.ab_text.specs.Naming.{is_bound_name, are_last}
+use Rattle.ab_store.specs.ab_types.specs.Ids.{type_of}
+use Rattle.ab_store.specs.declared.node.TermId.{TermId}
+use Rattle.ab_store.specs.Trees.{tree_of}
+use Rattle.ab_print.specs.NameAssignment.{is_bound_name, are_last}
 use Rattle.ab_print.proofs.Bounds.{ids_bound, bound_within}
 use Rattle.ab_print.proofs.Cutting.{whole}
 use Rattle.ab_print.proofs.Etas.{lam_name, lam_reads, last_more, bound_spine, spine_names}

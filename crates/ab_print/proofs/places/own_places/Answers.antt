@@ -1,8 +1,8 @@
 use Rattle.std.proofs.Common.{List, ℕ, [], ◌∷◌, ◌++◌, get_or, ◌∙◌, ap, sym, arith}
 use Rattle.std.specs.Prelude.{if◌then◌else◌}
-use Rattle.ab_logic.specs.ab_store.specs.declared.node.Head.TheVariants.{Const}
+use Rattle.ab_store.specs.declared.node.Head.TheVariants.{Const}
 use Rattle.ab_print.specs.Places.{own_name}
-use Rattle.ab_print.specs.Scopes.{is_this}
+use Rattle.ab_print.specs.BinderNames.{is_this}
 use Rattle.ab_print.proofs.Placing.{places_next}
 use Rattle.ab_print.proofs.places.own_places.Goals as goal
 

@@ -1,6 +1,6 @@
 use Rattle.std.proofs.Common.{◌≡◌, ℕ, List, take}
 use Rattle.ab_print.specs.Places.{places_of, places_at, own_name}
-use Rattle.ab_print.specs.Scopes.{is_this}
+use Rattle.ab_print.specs.BinderNames.{is_this}
 use Rattle.ab_print.proofs.places.own_places.Given as goal
 
 abbrev pub invariant-loop-place : goal.invariant-loop-place

@@ -1,4 +1,4 @@
-use Rattle.ab_progress.specs.ab_rules.proofs.Declared.{declared_same}
+use Rattle.ab_steps.specs.ab_kernel.proofs.Declared.{declared_same}
 use Rattle.ab_search.proofs.bare.with_bare.Goals as goal
 
 pub returns-in_err-bare-clause-declared : goal.returns-in_err-bare-clause-declared

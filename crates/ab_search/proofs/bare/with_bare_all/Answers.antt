@@ -1,6 +1,6 @@
 use Rattle.std.proofs.Common.{rules, ◌≡◌, ◌+◌, take, get_or, arith}
 use Rattle.std.proofs.lemmas.List.{take_more}
-use Rattle.ab_progress.specs.ab_logic.proofs.Growing.{grows_on}
+use Rattle.ab_logic.proofs.Growing.{grows_on}
 use Rattle.ab_search.proofs.Making.{made_more}
 use Rattle.ab_search.proofs.bare.with_bare_all.Goals as goal
 

@@ -1,6 +1,6 @@
 use Rattle.std.proofs.Common.{◌≡◌, false, sym, ◌∙◌, ap}
 use Rattle.ab_grammar.specs.CommandTable.{takes_label}
-use Rattle.ab_syntax.specs.declared.opening.Opening.TheVariants.{Proof}
+use Rattle.ab_syntax.specs.declared.command_heads.Opening.TheVariants.{Proof}
 use Rattle.ab_syntax.specs.Commands.{proof_command_of}
 use Rattle.ab_syntax.specs.Reader.{rest}
 use Rattle.ab_syntax.proofs.Chosen.{labelled_from, none_labelled}

@@ -1,6 +1,6 @@
 use Rattle.std.proofs.Common.{◌≡◌, length}
 use Rattle.ab_grammar.proofs.Machine as machine
-use Rattle.ab_syntax.specs.Trees.{tree_of}
+use Rattle.ab_syntax.specs.SyntaxTrees.{tree_of}
 use Rattle.ab_syntax.specs.Frames.{frames_of}
 use Rattle.ab_syntax.proofs.frame.step_sign.Given as goal
 

@@ -1,4 +1,4 @@
-use Rattle.ab_syntax.specs.Steps.{layer_of, stack}
+use Rattle.ab_syntax.specs.ReaderSteps.{layer_of, stack}
 use Rattle.ab_syntax.proofs.Stacks.{top}
 use Rattle.ab_syntax.proofs.Depths.{opens, opens_to, closes, closes_to}
 use Rattle.ab_syntax.proofs.nesting.nest.Goals as goal

@@ -3,7 +3,7 @@ use Rattle.ab_grammar.specs.Token.{Token, word}
 use Rattle.ab_grammar.specs.CommandTable.{StandsAnywhere, stands_at}
 use Rattle.ab_grammar.proofs.Shown.{one_placed, placed_example}
 use Rattle.ab_syntax.specs.declared.kind.Kind.TheVariants as kind
-use Rattle.ab_syntax.specs.declared.seen.Seen.{Seen}
+use Rattle.ab_syntax.specs.declared.located_tokens.Seen.{Seen}
 use Rattle.ab_syntax.specs.Reader.{seen}
 use Rattle.ab_syntax.proofs.Leaves.{takes, takes_none, placed_in, placed_kind, word_shown, word_seen, of_kind}
 use Rattle.ab_syntax.proofs.part.keyword.Goals as goal

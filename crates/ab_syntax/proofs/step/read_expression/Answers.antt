@@ -6,9 +6,9 @@ use Rattle.ab_grammar.specs.Language.{Expression}
 use Rattle.ab_grammar.proofs.Following.{Followed}
 use Rattle.ab_grammar.proofs.Reading.{ReadsOff}
 use Rattle.ab_syntax.specs.declared.tree.Parse.{Parse}
-use Rattle.ab_syntax.specs.Trees.{tree_of}
+use Rattle.ab_syntax.specs.SyntaxTrees.{tree_of}
 use Rattle.ab_syntax.specs.Reader.{rest}
-use Rattle.ab_syntax.specs.Steps.{IsTooDeep, layers_of}
+use Rattle.ab_syntax.specs.ReaderSteps.{IsTooDeep, layers_of}
 use Rattle.ab_syntax.specs.Frames.{frame_of, frames_of}
 use Rattle.ab_syntax.specs.States.{state_in}
 use Rattle.ab_syntax.proofs.ExpressionReading.{expression_starts, expression_found, expression_refused, expression_within, expression_nests, expression_on}

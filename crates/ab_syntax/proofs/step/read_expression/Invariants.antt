@@ -2,7 +2,7 @@ use Rattle.std.proofs.Common.{◌≤◌, ◌-◌, length}
 use Rattle.ab_grammar.specs.Nesting.{limit}
 use Rattle.ab_grammar.proofs.Readers.{SoFar}
 use Rattle.ab_syntax.specs.Reader.{rest}
-use Rattle.ab_syntax.specs.Steps.{layers_of, IsMeasured}
+use Rattle.ab_syntax.specs.ReaderSteps.{layers_of, IsMeasured}
 use Rattle.ab_syntax.specs.Frames.{frames_of}
 use Rattle.ab_syntax.specs.States.{state_in}
 use Rattle.ab_syntax.proofs.step.read_expression.Given as goal

@@ -1,7 +1,7 @@
 use Rattle.std.proofs.Common.{sym, subst, inr, ◌∙◌}
 use Rattle.ab_grammar.specs.Token.{Token}
 use Rattle.ab_grammar.proofs.Machine.{enclosed}
-use Rattle.ab_syntax.specs.Trees.{tree_of}
+use Rattle.ab_syntax.specs.SyntaxTrees.{tree_of}
 use Rattle.ab_syntax.specs.Reader.{seen}
 use Rattle.ab_syntax.specs.Frames.{frames_of}
 use Rattle.ab_syntax.specs.States.{IsNext}

@@ -1,6 +1,6 @@
 use Rattle.std.proofs.Common.{List, sym, subst, ◌∙◌, None}
 use Rattle.ab_grammar.proofs.Machine.{Frame, starts_operand}
-use Rattle.ab_syntax.specs.Trees.{tree_of}
+use Rattle.ab_syntax.specs.SyntaxTrees.{tree_of}
 use Rattle.ab_syntax.specs.Reader.{seen}
 use Rattle.ab_syntax.specs.Frames.{frames_of}
 use Rattle.ab_syntax.specs.States.{Says}

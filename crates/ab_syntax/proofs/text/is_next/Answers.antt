@@ -1,6 +1,6 @@
 use Rattle.std.proofs.Common.{◌≡◌, ◌↔◌, Some, IsTrue, ap, sym, ◌∙◌, rules}
 use Rattle.ab_grammar.proofs.Following.{first}
-use Rattle.ab_syntax.specs.declared.seen.Seen.{Seen}
+use Rattle.ab_syntax.specs.declared.located_tokens.Seen.{Seen}
 use Rattle.ab_syntax.specs.Kinds.{key_of}
 use Rattle.ab_syntax.specs.Reader.{seen, rest}
 use Rattle.ab_syntax.proofs.Places.{first_more}

@@ -6,9 +6,9 @@ use Rattle.ab_grammar.specs.Language.{TypeExpression}
 use Rattle.ab_grammar.proofs.Following.{Followed}
 use Rattle.ab_grammar.proofs.Reading.{ReadsOff}
 use Rattle.ab_syntax.specs.declared.tree.TypeParse.{TypeParse}
-use Rattle.ab_syntax.specs.Trees.{type_of}
+use Rattle.ab_syntax.specs.SyntaxTrees.{type_of}
 use Rattle.ab_syntax.specs.Reader.{rest}
-use Rattle.ab_syntax.specs.Steps.{IsTooDeep, layers_of, type_frame_of, type_frames_of, type_state}
+use Rattle.ab_syntax.specs.ReaderSteps.{IsTooDeep, layers_of, type_frame_of, type_frames_of, type_state}
 use Rattle.ab_syntax.proofs.TypeReading.{type_starts, type_found, type_refused, type_within, type_nests, type_on}
 use Rattle.ab_syntax.proofs.types.read_type.Goals as goal
 

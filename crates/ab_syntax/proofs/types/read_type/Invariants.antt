@@ -2,7 +2,7 @@ use Rattle.std.proofs.Common.{◌≤◌, ◌-◌, length}
 use Rattle.ab_grammar.specs.Nesting.{limit}
 use Rattle.ab_grammar.proofs.Readers.{TypeSoFar}
 use Rattle.ab_syntax.specs.Reader.{rest}
-use Rattle.ab_syntax.specs.Steps.{layers_of, IsMeasured, type_frames_of, type_state}
+use Rattle.ab_syntax.specs.ReaderSteps.{layers_of, IsMeasured, type_frames_of, type_state}
 use Rattle.ab_syntax.proofs.types.read_type.Given as goal
 
 -- the tokens before this place begin a type, nowhere nested above the limit

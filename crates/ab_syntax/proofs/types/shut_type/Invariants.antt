@@ -1,7 +1,7 @@
 use Rattle.std.proofs.Common.{◌≡◌, length}
 use Rattle.ab_grammar.proofs.Machine as machine
-use Rattle.ab_syntax.specs.Trees.{type_of}
-use Rattle.ab_syntax.specs.Steps.{type_frames_of}
+use Rattle.ab_syntax.specs.SyntaxTrees.{type_of}
+use Rattle.ab_syntax.specs.ReaderSteps.{type_frames_of}
 use Rattle.ab_syntax.proofs.types.shut_type.Given as goal
 
 -- what is left to shut comes to the same

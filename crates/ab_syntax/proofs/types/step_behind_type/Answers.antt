@@ -1,9 +1,9 @@
 use Rattle.std.proofs.Common.{inl, inr, ap, sym, ◌∙◌}
 use Rattle.ab_grammar.proofs.Machine.{TypeShut, type_closed}
-use Rattle.ab_syntax.specs.Trees.{type_of}
+use Rattle.ab_syntax.specs.SyntaxTrees.{type_of}
 use Rattle.ab_syntax.specs.Kinds.{kind_of}
 use Rattle.ab_syntax.specs.Reader.{seen}
-use Rattle.ab_syntax.specs.Steps.{type_frames_of}
+use Rattle.ab_syntax.specs.ReaderSteps.{type_frames_of}
 use Rattle.ab_syntax.proofs.Enders.{follower, no_follower, type_ended, type_enclosed, type_stuck}
 use Rattle.ab_syntax.proofs.Meanings.{kind_meant}
 use Rattle.ab_syntax.proofs.types.step_behind_type.Goals as goal

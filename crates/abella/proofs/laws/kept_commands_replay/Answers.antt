@@ -1,4 +1,4 @@
-use Rattle.ab_blocks.specs.ab_states.specs.Replay.{none}
+use Rattle.ab_states.specs.Replay.{none}
 use Rattle.abella.proofs.Replaying.{all_replayed}
 use Rattle.abella.proofs.laws.kept_commands_replay.Goals as goal
 

@@ -1,6 +1,6 @@
 use Rattle.std.proofs.Common.{List, ℕ, refl, ◌∙◌, arith, subst}
-use Rattle.ab_session.specs.ab_io.specs.Told.{Appends, AppendsFront}
-use Rattle.ab_blocks.specs.ab_lex.proofs.Awaiting.{rest_behind}
+use Rattle.ab_io.specs.KnownBytes.{Appends, AppendsFront}
+use Rattle.ab_lex.proofs.Awaiting.{rest_behind}
 use Rattle.abella.specs.Progress.{AnswersItem, HasNone, to_come, standing_of}
 use Rattle.abella.proofs.Progress.{answered_none, answered_more, answered_all, answered_item, cut_off, fewer, not_both, stopped}
 use Rattle.abella.proofs.output.answer_ready.Goals as goal

@@ -1,5 +1,5 @@
 use Rattle.std.proofs.Common.{◌≡◌, ◌≤◌, false, [], length}
-use Rattle.ab_blocks.specs.ab_lex.specs.Pending.{SameRest}
+use Rattle.ab_lex.specs.PendingText.{SameRest}
 use Rattle.abella.specs.Progress.{Answered, to_come, standing_of}
 use Rattle.abella.proofs.output.answer_ready.Given as goal
 

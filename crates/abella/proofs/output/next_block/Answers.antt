@@ -1,5 +1,5 @@
 use Rattle.std.proofs.Common.{◌≡◌, ◌||◌, refl}
-use Rattle.ab_blocks.specs.ab_states.specs.Reply.{reply_of, is_refusal}
+use Rattle.ab_states.specs.Reply.{reply_of, is_refusal}
 use Rattle.ab_session.specs.Contents.{state_of}
 use Rattle.abella.specs.Report.{is_end}
 use Rattle.abella.specs.Progress.{RepliesItem}

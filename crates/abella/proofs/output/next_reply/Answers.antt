@@ -1,7 +1,7 @@
 use Rattle.std.proofs.Common.{◌∷◌, sym, refl, subst}
-use Rattle.ab_blocks.specs.ab_lex.specs.Commands.{command, long}
-use Rattle.ab_blocks.specs.ab_lex.specs.Pending.{Awaits}
-use Rattle.ab_blocks.specs.ab_states.specs.Reply.{reply_of}
+use Rattle.ab_lex.specs.Commands.{command, long}
+use Rattle.ab_lex.specs.PendingText.{Awaits}
+use Rattle.ab_states.specs.Reply.{reply_of}
 use Rattle.ab_session.specs.Contents.{state_of}
 use Rattle.abella.specs.Progress.{moment}
 use Rattle.abella.specs.Report.{to_command, to_long}

@@ -1,6 +1,6 @@
 use Rattle.std.proofs.Common.{◌≡◌, ◌≤◌, ◌+◌, List, ℕ, false, length, drop, Some, None, refl, arith, subst}
 use Rattle.ab_lex.specs.Scanner.{behind, run, fresh, depth}
-use Rattle.ab_lex.specs.Kept.{view_of}
+use Rattle.ab_lex.specs.SplitterFields.{view_of}
 use Rattle.ab_lex.proofs.Steps.{of_slice, past_items, past_blank, still_items, still_blank, still_none, kept_in_long}
 use Rattle.ab_lex.proofs.Awaiting.{same_here, rest_here, none_here}
 use Rattle.ab_lex.proofs.splitter.Splitter.is_past_long.Goals as goal

@@ -1,8 +1,8 @@
 use Rattle.std.proofs.Common.{◌≡◌, ◌≤◌, ◌+◌, [], List, ℕ, true, false, length, drop, Some, None, refl, ap, ◌∙◌, arith, subst, length-drop, slice_range}
 use Rattle.ab_lex.specs.Scanner.{behind, run, depth}
 use Rattle.ab_lex.specs.Commands.{command, long}
-use Rattle.ab_lex.specs.Pending.{Pending}
-use Rattle.ab_lex.specs.Kept.{view_of}
+use Rattle.ab_lex.specs.PendingText.{Pending}
+use Rattle.ab_lex.specs.SplitterFields.{view_of}
 use Rattle.ab_lex.proofs.Steps.{of_slice, whole_items, long_items, found_blank, rest_items, rest_blank, more_none, more_items, kept_at_end, kept_long, no_reach}
 use Rattle.ab_lex.proofs.Awaiting.{same_here, next_here, rest_here, none_here}
 use Rattle.ab_lex.proofs.splitter.Splitter.scan_command.Goals as goal

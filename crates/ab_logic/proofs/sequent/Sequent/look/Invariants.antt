@@ -1,6 +1,6 @@
 use Rattle.std.proofs.Common.{◌≡◌, drop, map}
 use Rattle.ab_formulas.specs.Sequents.{named}
-use Rattle.ab_logic.specs.Readings.{hypothesis_of}
+use Rattle.ab_logic.specs.SequentReadings.{hypothesis_of}
 use Rattle.ab_logic.specs.declared.world.World.{World}
 use Rattle.ab_logic.proofs.sequent.Sequent.look.Given as goal
 

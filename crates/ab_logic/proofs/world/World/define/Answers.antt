@@ -1,8 +1,8 @@
 use Rattle.std.specs.List.{All}
 use Rattle.std.proofs.Common.{map, sym, subst}
-use Rattle.ab_formulas.specs.Proposed.{IsProposed}
-use Rattle.ab_clauses.specs.Readings.{name_of, block_of}
-use Rattle.ab_logic.specs.Defining.{AreNew}
+use Rattle.ab_formulas.specs.ProposedClauses.{IsProposed}
+use Rattle.ab_typing.specs.DefinitionReadings.{name_of, block_of}
+use Rattle.ab_logic.specs.NewDefinitions.{AreNew}
 use Rattle.ab_logic.specs.Worlds.{declarations_of}
 use Rattle.ab_logic.proofs.Blocks.{proposed_kept}
 use Rattle.ab_logic.proofs.Growing.{same_constants}

@@ -3,11 +3,11 @@ use Rattle.std.specs.Option.{option_map}
 use Rattle.std.proofs.Common.{◌≡◌, ◌+◌, None, map, take, drop, get_or, arith, sym, ap, ◌∙◌, subst}
 use Rattle.std.proofs.lemmas.List.{map_more, take_all}
 use Rattle.std.proofs.lemmas.List.Elements.{All-more, All-push}
-use Rattle.ab_clauses.specs.ab_types.specs.declared.ids.ConstId.{ConstId}
-use Rattle.ab_clauses.specs.Readings.{name_of}
+use Rattle.ab_store.specs.ab_types.specs.declared.ids.ConstId.{ConstId}
+use Rattle.ab_typing.specs.DefinitionReadings.{name_of}
 use Rattle.ab_formulas.specs.Declarations.{block_in}
 use Rattle.ab_logic.specs.Additions.{block_kept}
-use Rattle.ab_logic.specs.Defining.{AreNew}
+use Rattle.ab_logic.specs.NewDefinitions.{AreNew}
 use Rattle.ab_logic.specs.Worlds.{declarations_of, definition_of}
 use Rattle.ab_formulas.proofs.Firsts.{none_copied, some_mapped, mapped_split}
 use Rattle.ab_logic.proofs.world.World.first_defined.Goals as goal

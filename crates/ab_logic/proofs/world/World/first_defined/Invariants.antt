@@ -1,8 +1,8 @@
 use Rattle.std.specs.List.{All}
 use Rattle.std.proofs.Common.{◌≡◌, None, map, take}
-use Rattle.ab_clauses.specs.Readings.{name_of}
+use Rattle.ab_typing.specs.DefinitionReadings.{name_of}
 use Rattle.ab_logic.specs.Additions.{block_kept}
-use Rattle.ab_logic.specs.Defining.{AreNew}
+use Rattle.ab_logic.specs.NewDefinitions.{AreNew}
 use Rattle.ab_logic.specs.Worlds.{declarations_of}
 use Rattle.ab_logic.proofs.world.World.first_defined.Given as goal
 

@@ -1,8 +1,8 @@
 use Rattle.std.proofs.Common.{◌≡◌, sym, ap, ◌∙◌, subst}
-use Rattle.ab_states.specs.ab_command.specs.Reading.{Fails}
+use Rattle.ab_command.specs.CommandReadings.{Fails}
 use Rattle.ab_states.specs.State.{is_open}
 use Rattle.ab_states.specs.Reply as reply
-use Rattle.ab_states.specs.Effect.{HasEffect, unread}
+use Rattle.ab_states.specs.StateEffects.{HasEffect, unread}
 use Rattle.ab_session.specs.Contents.{contents, state_of}
 use Rattle.ab_session.proofs.Sayings.{open_as}
 use Rattle.ab_session.proofs.session.Session.accept.Goals as goal

@@ -1,7 +1,7 @@
 use Rattle.std.proofs.Common.{map, refl, ap}
 use Rattle.ab_grammar.specs.CommandTrees as told
-use Rattle.ab_syntax.specs.Trees as trees
-use Rattle.ab_session.specs.declared.kept.Kept.{Kept}
+use Rattle.ab_syntax.specs.SyntaxTrees as trees
+use Rattle.ab_session.specs.declared.command_history.Kept.{Kept}
 use Rattle.ab_session.specs.Contents.{contents}
 use Rattle.ab_session.proofs.Effects.{kept_more, session_declined, declined_so, session_declared_so, declared_so}
 use Rattle.ab_session.proofs.session.Session.declare_constants.Goals as goal

@@ -1,9 +1,9 @@
 use Rattle.std.proofs.Common.{map, refl, ap, subst}
 use Rattle.ab_grammar.specs.CommandTrees as told
 use Rattle.ab_syntax.specs.Commands.{defined_of, clause_of}
-use Rattle.ab_states.specs.ab_declare.proofs.Restoring.{restored_grows, restored_declares}
-use Rattle.ab_states.specs.Effect.{Commands}
-use Rattle.ab_session.specs.declared.kept.Kept.{Kept}
+use Rattle.ab_declare.proofs.Restoring.{restored_grows, restored_declares}
+use Rattle.ab_states.specs.StateEffects.{Commands}
+use Rattle.ab_session.specs.declared.command_history.Kept.{Kept}
 use Rattle.ab_session.specs.Contents.{contents, state_of}
 use Rattle.ab_session.proofs.Sayings.{no_judgement_said}
 use Rattle.ab_session.proofs.Carried.{on_error}

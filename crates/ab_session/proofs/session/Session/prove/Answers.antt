@@ -3,10 +3,10 @@ use Rattle.std.proofs.Common.{◌≡◌, Some, None, [], ◌∷◌, ◌++◌, ma
 use Rattle.ab_grammar.specs.CommandTrees as told
 use Rattle.ab_syntax.specs.Commands.{proof_command_of}
 use Rattle.ab_states.specs.declared.reply.Reply.TheVariants.{Accepted, Completed, Refused}
-use Rattle.ab_session.specs.declared.kept.Kept.{Kept}
+use Rattle.ab_session.specs.declared.command_history.Kept.{Kept}
 use Rattle.ab_session.specs.Contents.{contents}
 use Rattle.ab_session.specs.Sessions.{IsSession}
-use Rattle.ab_session.specs.Answers.{IsAnswer}
+use Rattle.ab_session.specs.SessionAnswers.{IsAnswer}
 use Rattle.ab_session.proofs.Sayings.{some_tried}
 use Rattle.ab_session.proofs.Effects.{made, kept_more, seen, meant, session_unchanged, denied_answer, session_goes_on, led_answer, session_completed, proved_answer}
 use Rattle.ab_session.proofs.session.Session.prove.Goals as goal

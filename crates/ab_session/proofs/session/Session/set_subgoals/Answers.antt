@@ -1,7 +1,7 @@
 use Rattle.std.proofs.Common.{map}
 use Rattle.ab_grammar.specs.CommandTrees as told
 use Rattle.ab_states.specs.declared.reply.Reply.TheVariants.{Accepted}
-use Rattle.ab_session.specs.declared.kept.Kept.{Kept}
+use Rattle.ab_session.specs.declared.command_history.Kept.{Kept}
 use Rattle.ab_session.specs.Contents.{contents}
 use Rattle.ab_session.proofs.Effects.{kept_more, seen, meant, switched_answer}
 use Rattle.ab_session.proofs.session.Session.set_subgoals.Goals as goal

@@ -1,11 +1,11 @@
 use Rattle.std.proofs.Common.{◌≡◌, Some, None, option_map, sym, ◌∙◌, ap, subst}
 use Rattle.ab_grammar.specs.CommandTrees as told
 use Rattle.ab_formulas.specs.Declarations.{theorem_in}
-use Rattle.ab_states.specs.ab_logic.specs.Worlds.{read, declarations_of}
-use Rattle.ab_states.specs.ab_declare.specs.declared.refusal.Refusal.TheVariants.{Unknown}
+use Rattle.ab_logic.specs.Worlds.{read, declarations_of}
+use Rattle.ab_declare.specs.declared.refusal.Refusal.TheVariants.{Unknown}
 use Rattle.ab_states.specs.declared.reply.Reply.TheVariants.{Shown, Refused}
 use Rattle.ab_session.specs.Contents.{contents}
-use Rattle.ab_session.specs.Answers.{IsAnswer}
+use Rattle.ab_session.specs.SessionAnswers.{IsAnswer}
 use Rattle.ab_session.proofs.Effects.{meant, shown_answer, missing_answer}
 use Rattle.ab_session.proofs.session.Session.show.Goals as goal
 

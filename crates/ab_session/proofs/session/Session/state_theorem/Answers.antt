@@ -1,9 +1,9 @@
 use Rattle.std.proofs.Common.{map, refl, ap}
 use Rattle.ab_grammar.specs.CommandTrees as told
-use Rattle.ab_syntax.specs.Trees as trees
+use Rattle.ab_syntax.specs.SyntaxTrees as trees
 use Rattle.ab_states.specs.declared.reply.Reply.TheVariants.{Accepted}
-use Rattle.ab_states.specs.ab_declare.proofs.Restoring.{restored_grows, restored_declares}
-use Rattle.ab_session.specs.declared.kept.Kept.{Kept}
+use Rattle.ab_declare.proofs.Restoring.{restored_grows, restored_declares}
+use Rattle.ab_session.specs.declared.command_history.Kept.{Kept}
 use Rattle.ab_session.specs.Contents.{contents}
 use Rattle.ab_session.proofs.Sayings.{none_tried}
 use Rattle.ab_session.proofs.Carried.{on_error}

@@ -4,7 +4,7 @@ use Rattle.ab_grammar.specs.CommandTable.{IsDeclarable, ShowsName, shows_name, S
 use Rattle.ab_syntax.specs.declared.kind.Kind.TheVariants as kind
 use Rattle.ab_syntax.specs.declared.leaf.NameForm.{NameForm}
 use Rattle.ab_syntax.specs.declared.leaf.NameForm.TheVariants as form
-use Rattle.ab_syntax.specs.declared.seen.Seen.{Seen}
+use Rattle.ab_syntax.specs.declared.located_tokens.Seen.{Seen}
 use Rattle.ab_syntax.specs.Leaves.{name_form}
 use Rattle.ab_syntax.specs.Tokens.{unquoted}
 use Rattle.ab_syntax.specs.Reader.{seen}

@@ -6,7 +6,7 @@ use Rattle.ab_grammar.specs.CommandTable.{ShowsNumber, shows_number, ShowsDepth,
 use Rattle.ab_syntax.specs.declared.kind.Kind.TheVariants as kind
 use Rattle.ab_syntax.specs.declared.leaf.NumberForm.{NumberForm}
 use Rattle.ab_syntax.specs.declared.leaf.NumberForm.TheVariants as form
-use Rattle.ab_syntax.specs.declared.seen.Seen.{Seen}
+use Rattle.ab_syntax.specs.declared.located_tokens.Seen.{Seen}
 use Rattle.ab_syntax.specs.Leaves.{IsShown, number_form}
 use Rattle.ab_syntax.specs.Reader.{seen}
 use Rattle.ab_syntax.proofs.Leaves.{nominal_kind, nominal_where, number_kind, depth_kind, limit_kind, word_seen, number_seen, of_kind}

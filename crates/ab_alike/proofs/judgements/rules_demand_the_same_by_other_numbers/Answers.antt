@@ -1,5 +1,0 @@
-use Rattle.ab_alike.proofs.MovedRules.{demand_moved}
-use Rattle.ab_alike.proofs.judgements.rules_demand_the_same_by_other_numbers.Goals as goal
-
-pub returns : goal.returns
-returns g f agree = demand_moved f agree

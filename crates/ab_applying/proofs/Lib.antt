@@ -1,4 +1,0 @@
-pub mod Rows
-pub mod Named
-pub mod Usable
-pub mod Carried

@@ -1,6 +1,0 @@
-use Rattle.std.proofs.Common.{◌≡◌}
-use Rattle.ab_applying.proofs.Named.{nothings}
-use Rattle.ab_applying.proofs.backchaining.aim_at.Given as goal
-
-abbrev pub invariant-loop : goal.invariant-loop
-invariant-loop l = l.hypotheses.items ≡ nothings l.counter

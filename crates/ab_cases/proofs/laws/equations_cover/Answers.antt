@@ -1,5 +1,0 @@
-use Rattle.ab_cases.proofs.Equality.{equality_covered}
-use Rattle.ab_cases.proofs.laws.equations_cover.Goals as goal
-
-pub returns : goal.returns
-returns g c = λ sg x sequent scope t u A d e in_t in_u s typed clean same a p. equality_covered sg x s typed sequent scope.different scope.numbered t u A d e in_t in_u clean same a p

@@ -1,5 +1,0 @@
-use Rattle.ab_cases.proofs.Membership.{member_defined}
-use Rattle.ab_cases.proofs.laws.member_is_defined.Goals as goal
-
-pub returns : goal.returns
-returns g = λ sg has. member_defined sg has

@@ -1,0 +1,59 @@
+//! The commands that are built.
+ghost use Rattle.std.specs.Prelude.{◌↔◌, IsTrue};
+ghost use Rattle.ab_syntax.specs.Commands.{proof_command_of, command_of};
+ghost use Rattle.ab_command.specs.Supported.{IsBuilt, IsBuiltInProof};
+
+use crate::judgements::{clauses_hold_judgement, holds_judgement, instances_hold_judgement};
+use ab_syntax::{Command, ProofCommand};
+
+/// Whether the proof command, which was read from so many tokens, is built.
+fn is_built_in_proof(command: &ProofCommand, count: usize) -> bool
+    ensures { IsTrue result ↔ IsBuiltInProof count (proof_command_of command.now) }
+{
+    match command {
+        ProofCommand::Intros(_)
+        | ProofCommand::Coinduction
+        | ProofCommand::Split
+        | ProofCommand::SplitAll
+        | ProofCommand::Left
+        | ProofCommand::Right
+        | ProofCommand::Unfold
+        | ProofCommand::Case(_, _)
+        | ProofCommand::Clear(_)
+        | ProofCommand::Rename(_, _)
+        | ProofCommand::Permute(_, _) => true,
+        ProofCommand::Induction(places) => places.as_slice().len() == 1,
+        ProofCommand::Exists(term) => !holds_judgement(term),
+        ProofCommand::Assert(formula) => !holds_judgement(formula),
+        ProofCommand::Apply(_, _, given) | ProofCommand::Backchain(_, given) => {
+            !instances_hold_judgement(given.as_slice())
+        }
+        ProofCommand::Search(_) => count == 2,
+        ProofCommand::Skip
+        | ProofCommand::Cut(_, _)
+        | ProofCommand::Inst(_, _)
+        | ProofCommand::Monotone(_, _) => false,
+    }
+}
+
+/// Whether the command, which was read from so many tokens, is built.
+pub(crate) fn is_built(command: &Command, count: usize) -> bool
+    ensures { IsTrue result ↔ IsBuilt count (command_of command.now) }
+{
+    match command {
+        Command::Kind(_)
+        | Command::Typed(_, _)
+        | Command::Show(_)
+        | Command::Quit
+        | Command::Subgoals(_)
+        | Command::Abort => true,
+        Command::Define(_, _, clauses) => !clauses_hold_judgement(clauses.as_slice()),
+        Command::Theorem(_, formula) => !holds_judgement(formula),
+        Command::InProof(_, command) => is_built_in_proof(command, count),
+        Command::Specification(_)
+        | Command::Query(_, _, _)
+        | Command::Back
+        | Command::Reset
+        | Command::Undo => false,
+    }
+}

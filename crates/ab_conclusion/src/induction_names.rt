@@ -1,0 +1,88 @@
+//! Names for hypotheses of induction.
+ghost use Rattle.std.specs.Prelude.{◌≡◌, ◌+◌, ◌<◌, ◌^◌, ◌++◌, length, IfOk};
+ghost use Rattle.std.specs.Fmt.{decimal};
+ghost use Rattle.std.specs.Option.{option_map};
+ghost use Rattle.ab_formulas.specs.NewNames.{auto};
+ghost use Rattle.ab_logic.specs.SequentReadings.{sequent_of};
+ghost use Rattle.ab_alternatives.specs.ab_equations.specs.Labels.{label_of};
+ghost use Rattle.ab_effects.specs.ProofCommands.{IsNamedBy, clashing};
+ghost use Rattle.ab_meaning.specs.Refusals.{clash};
+
+use ab_alternatives::equations::Label;
+use ab_logic::{Sequent, World};
+use ab_types::name::Name;
+use std::alloc::{AllocError, Global};
+
+/// The label's name, where a hypothesis of the goal has it already.
+pub(crate) fn label_clash(
+    alloc: Global,
+    world: &World,
+    goal: &Sequent,
+    label: &Label,
+) -> Result<Option<Name>, AllocError>
+    ensures { IfOk result (λ found. option_map clash found ≡ clashing (label_of label.now) (sequent_of world.now goal.now)) }
+{
+    let _ = world;
+    match label {
+        Label::Auto => Ok(None),
+        Label::Given(name) => {
+            if goal.uses(name) {
+                Ok(Some(name.copy(alloc)?))
+            } else {
+                Ok(None)
+            }
+        }
+    }
+}
+
+/// The name of a hypothesis of induction: the label, or else the word, with the first number that makes it free where a
+/// hypothesis of the goal has the word alone.
+pub(crate) fn hypothesis_name(
+    alloc: Global,
+    world: &World,
+    goal: &Sequent,
+    word: &str,
+    label: &Label,
+) -> Result<Name, AllocError>
+    ensures { IfOk result (IsNamedBy word.now (label_of label.now) (sequent_of world.now goal.now)) }
+{
+    match label {
+        Label::Auto => first_free(alloc, world, goal, word),
+        Label::Given(name) => name.copy(alloc),
+    }
+}
+
+/// The word with the number behind it.
+fn numbered(alloc: Global, word: &str, number: u128) -> Result<Name, AllocError>
+    ensures { IfOk result (λ name. name ≡ word.now ++ decimal number) }
+{
+    let text = format!(in alloc; "{word}{number}")?;
+    Name::from_text(alloc, text.as_str())
+}
+
+/// One more than the goal has hypotheses.
+fn last_number(goal: &Sequent) -> u128
+    ensures last { result ≡ length goal.now.hypotheses + 1 }
+    ensures small { result < 2 ^ 99 }
+{
+    goal.hypotheses.as_slice().len() as u128 + 1
+}
+
+/// The word, where no hypothesis of the goal has that name, and else the word with the first number that makes it free.
+fn first_free(alloc: Global, world: &World, goal: &Sequent, word: &str) -> Result<Name, AllocError>
+    ensures { IfOk result (IsNamedBy word.now auto (sequent_of world.now goal.now)) }
+{
+    let _ = world;
+    let alone = Name::from_text(alloc, word)?;
+    if !goal.uses(&alone) {
+        return Ok(alone);
+    }
+    let last = last_number(goal);
+    for number in 1..last + 1 {
+        let name = numbered(alloc, word, number)?;
+        if !goal.uses(&name) {
+            return Ok(name);
+        }
+    }
+    unreachable!()
+}

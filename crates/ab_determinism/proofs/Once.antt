@@ -1,0 +1,495 @@
+-- Each row of a proof command has one answer, with names for the numbers of variables: in goals that are one with names for
+-- numbers, and so in one goal.
+use Rattle.std.specs.Prelude.{codes}
+use Rattle.std.proofs.Common.{◌≡◌, ℕ, List, [], ◌∷◌, map, Bool, true, false, Option, Some, None, option_map, refl, sym, ◌∙◌, ap, subst}
+use Rattle.std.proofs.lemmas.List.Elements.{All-nil, All-cons, All-weaker}
+use Rattle.ab_term.specs.Types.{Ty, prop}
+use Rattle.ab_term.specs.Terms.{Nominal, constant, spine, Read}
+use Rattle.ab_term.specs.Names as tree
+use Rattle.ab_term.specs.Names.{HasOneTypeEach, moved_by}
+use Rattle.ab_term.specs.Substitution.{instance}
+use Rattle.ab_term.proofs.Translations.{map-append, translate-instance, translate-rename}
+use Rattle.ab_grammar.specs.Tree.{Tree}
+use Rattle.ab_grammar.specs.CommandTrees.{ProofCommand, intros, induction, coinduction, case, apply, backchain, cut, inst, monotone, search, skip, split, split_all, left, right, exists, unfold_goal, assert, clear, rename, permute}
+use Rattle.ab_unifiers.specs.Clauses.{IsClause}
+use Rattle.ab_formulas.specs.Declarations.{Declarations, signature_in, IsDefining, HaveDefinitions, HaveSentences}
+use Rattle.ab_formulas.specs.Forms as form
+use Rattle.ab_formulas.specs.Forms.{Form, form_of, either_in, equal_in, as_both, as_either, as_exists}
+use Rattle.ab_formulas.specs.NewNames.{Label, given, Names}
+use Rattle.ab_formulas.specs.Sequents.{Sequent, IsSequent, HoldsOnly, formula_of, goal_names, without, proving, assuming}
+use Rattle.ab_formulas.specs.Marks.{plain, star_of, at_of, plus_of, hash_of}
+use Rattle.ab_formulas.specs.BodyMarks.{MayBeAnalysed, MayBeUnfolded}
+use Rattle.ab_theory.specs.Atoms.{Defined, defined_atom}
+use Rattle.ab_theory.specs.Induction.{inductive_at, coinductive_in, marked_antecedent, marked_consequent}
+use Rattle.ab_theory.specs.Levels.{next_level, inductive_level, coinductive_level}
+use Rattle.ab_theory.proofs.RulesParts.{MayStand, either_may}
+use Rattle.ab_theory.proofs.Sequents.{IsGoal, goal_of, found_may, without_goal, sequent_from}
+use Rattle.ab_theory.proofs.Sized.{atom_of, atom_over}
+use Rattle.ab_formulas.specs.NamedGoals.{name_in, with_names, named}
+use Rattle.ab_infer.specs.Lists.{HasLists}
+use Rattle.ab_effects.specs.ProofCommands.{effect, opening, cases, analysing, marked_so, IsNamedBy, hypothesis_named, introducing, reading, naming, left_over, clashing, clashing_names, missing, cleared}
+use Rattle.ab_effects.specs.CaseAnalysis.{IsParted, IsUnparted, AllOpened, SomeNameless}
+use Rattle.ab_effects.specs.Unfoldings.{IsUnfolded, IsNotUnfolded}
+use Rattle.ab_effects.specs.Introductions.{taken_off, Parts}
+use Rattle.ab_effects.specs.Permutations.{of_one_type, cycling}
+use Rattle.ab_formulas.specs.Cycles.{MayCycle, type_among, cycle}
+use Rattle.ab_meaning.specs.Refusals.{type_clash, no_hypothesis, wrong_shape, not_pattern, names_spent}
+use Rattle.ab_effects.specs.Solutions.{IsSolved, IsOutside}
+use Rattle.ab_effects.specs.Row.{Row, leads, makes}
+use Rattle.ab_formulas.proofs.Sides.{equation_sides}
+use Rattle.ab_effects.specs.Likeness.{IsSameTerm, IsSameEquation, IsSameAtom, IsSameRest}
+use Rattle.ab_effects.proofs.Following.{moved_atom}
+pub use Rattle.ab_determinism.proofs.Rows.{AreOnce}
+use Rattle.ab_determinism.proofs.Rows.{once_leads, once_unless, once_finds, once_makes, once_alone, once_marked, one_same, two_same}
+use Rattle.ab_determinism.proofs.Equations.{turned, solved_or_not, solved_once}
+use Rattle.ab_determinism.proofs.Commands.{never_named, one_parting, named_by_once}
+use Rattle.ab_determinism.proofs.Namings.{same_constants, names_alike, nameless_also}
+use Rattle.ab_determinism.proofs.Alike.{Alike, flipped, assumed_alike}
+use Rattle.ab_determinism.proofs.OneWay.{opened_once, opened_or_not}
+use Rattle.ab_determinism.proofs.Bodies.{bodies_turned, all_opened_once, all_opened_or_not}
+use Rattle.ab_determinism.proofs.Parting.{MayBeSplit, turned_rest, parted_alike, parted_or_not, one_unparting}
+use Rattle.ab_determinism.proofs.Unfolded.{turned_atom, unfolded_once, unfolded_or_not, not_unfolded, one_cause}
+use Rattle.ab_determinism.proofs.Chaining.{once_backchain}
+use Rattle.ab_determinism.proofs.Applying.{once_apply}
+use Rattle.ab_determinism.proofs.OneIntroduction.{introduced_once, introduced_or_not}
+use Rattle.ab_determinism.proofs.Renumbered.{Renumbering, renumber, renumber_variable, renumber_hypothesis, renumbered, renumbering}
+use Rattle.ab_determinism.proofs.Reread.{meaning_or_not, not_or_means, same_meaning, cause_alike, states_or_not, not_or_states, faults_alike}
+use Rattle.ab_determinism.proofs.Retold.{form_told, form_retold, as_both_told, as_either_told, as_exists_told, taken_off_told, parts_told, formula_told, clashing_told, clashing_names_told, missing_told, without_told, cleared_told, cleared_variables, KeepsNames, formula_named, goal_named}
+use Rattle.ab_determinism.proofs.Remarked.{level_told, atom_told, inductive_told, coinductive_told, marked_antecedent_told, marked_consequent_told}
+
+-- a formula is opened
+once_opening : (D : Declarations) (l : Label) (N : List Nominal) (s u : Sequent) (F G : Read) → Alike D N s (F ∷ []) u (G ∷ []) → (k j : Sequent → Row) → ((t v : Sequent) → named t ≡ named v → AreOnce (k t) (j v))
+    → AreOnce (opening D F l s k) (opening D G l u j)
+once_opening D l N s u F G alike k j once =
+    once_makes _ _ _ _ _ _
+    (λ a g m n. opened_or_not m N u (G ∷ []) alike n.0)
+    (λ f b m n. opened_or_not n N s (F ∷ []) (flipped D N s u (F ∷ []) (G ∷ []) alike) m.0)
+    (λ f g m n. m.1 ∙ sym n.1)
+    (λ a b m n. once a.1 b.1 (opened_once m N u (G ∷ []) alike b.0 b.1 n).1)
+
+mapped_same : {A : Type 0} (o : Option A) → option_map (λ a. a) o ≡ o
+mapped_same (Some a) = refl
+mapped_same None = refl
+
+-- TWO GOALS that are one but for the numbers
+module _ (D : Declarations) (definitions : HaveDefinitions D) (s : Sequent) (f : ℕ → ℕ) (is : IsSequent D s) (its : IsSequent D (renumbered f s)) (names : KeepsNames f s.variables) where
+  abbrev u : Sequent
+  u = renumbered f s
+
+  same : named s ≡ named u
+  same = goal_named f s names
+
+  one_type : HasOneTypeEach (goal_names s)
+  one_type = is.one_type
+
+  abbrev r : Renumbering s u
+  r = record { by = f; is = refl; names = names }
+
+  -- so for goals over the same variables
+  also : (b : Sequent) → b.variables ≡ s.variables → named b ≡ named (renumbered f b)
+  also b e = goal_named f b (subst (KeepsNames f) (sym e) names)
+
+  first : IsGoal D (goal_names s) s
+  first = goal_of D s is
+
+  second : IsGoal D (goal_names s) u
+  second = subst (λ N. IsGoal D N u) (sym (same_constants s u same)) (goal_of D u its)
+
+  abbrev May : Read → Type 0
+  May = MayStand (signature_in D) s.variables (goal_names s)
+
+  abbrev Can : Read → Type 0
+  Can = MayStand (signature_in D) (map (renumber_variable f) s.variables) (goal_names s)
+
+  -- an atom that is defined, of a formula that may stand in the goal
+  same_atom : (F : Read) → May F → Can (renumber f F) → (d : Defined) → defined_atom D F ≡ Some d → IsSameAtom D s u d (moved_atom f d)
+  same_atom F may can d is_atom =
+      let atom : Read = spine (constant d.predicate) d.arguments in
+      record {
+        first = is;
+        second = its;
+        goals = same;
+        atoms = record {
+          first = (atom_over D s.variables (goal_names s) F d may is_atom).closed;
+          second = (atom_over D (map (renumber_variable f) s.variables) (goal_names s) (renumber f F) (moved_atom f d) can (atom_told f D F ∙ ap (option_map (moved_atom f)) is_atom)).closed;
+          same = formula_named f s names atom;
+        };
+        signs = refl;
+        blocks = refl;
+        clauses = All-weaker (IsDefining (signature_in D)) (IsClause (signature_in D)) (λ c well. well.clause) d.block.clauses (definitions d.predicate d.block (atom_of D F d is_atom).block);
+      }
+
+  alike_goals : Alike D (goal_names s) s [] u []
+  alike_goals = record {
+    goals = same;
+    formulas = refl;
+    one = is.one_type;
+    first = record { goal = first; formulas = All-nil May };
+    second = record { goal = second; formulas = All-nil Can };
+  }
+
+  alike_formulas : (b : Sequent) → b.variables ≡ s.variables → IsGoal D (goal_names s) b → IsGoal D (goal_names s) (renumbered f b) → (F : Read) → May F → Can (renumber f F)
+      → Alike D (goal_names s) b (F ∷ []) (renumbered f b) (renumber f F ∷ [])
+  alike_formulas b e g h F may can = record {
+    goals = also b e;
+    formulas = ap (λ G. G ∷ []) (formula_named f b (subst (KeepsNames f) (sym e) names) F);
+    one = is.one_type;
+    first = record {
+      goal = g;
+      formulas = All-cons (MayStand (signature_in D) b.variables (goal_names s)) F [] (subst (λ xs. MayStand (signature_in D) xs (goal_names s) F) (sym e) may) (All-nil (MayStand (signature_in D) b.variables (goal_names s)));
+    };
+    second = record {
+      goal = h;
+      formulas = All-cons (MayStand (signature_in D) (map (renumber_variable f) b.variables) (goal_names s)) (renumber f F) []
+          (subst (λ xs. MayStand (signature_in D) (map (renumber_variable f) xs) (goal_names s) (renumber f F)) (sym e) can) (All-nil (MayStand (signature_in D) (map (renumber_variable f) b.variables) (goal_names s)));
+    };
+  }
+
+  module _ (l : Label) (b : Sequent) (e : b.variables ≡ s.variables) (g : IsGoal D (goal_names s) b) (h : IsGoal D (goal_names s) (renumbered f b)) (F : Read) (may : May F) (can : Can (renumber f F)) where
+    whole : AreOnce (opening D F l b (λ t. leads (t ∷ []))) (opening D (renumber f F) l (renumbered f b) (λ t. leads (t ∷ [])))
+    whole =
+        once_opening D l (goal_names s) b (renumbered f b) F (renumber f F) (alike_formulas b e g h F may can) (λ t. leads (t ∷ [])) (λ t. leads (t ∷ []))
+        (λ t v same. once_leads (t ∷ []) (v ∷ []) (one_same t v same))
+
+    -- the sides of an equation
+    side : (t : Read) → HoldsOnly s.variables t → HoldsOnly (map (renumber_variable f) s.variables) (renumber f t) → IsSameTerm b (renumbered f b) t (renumber f t)
+    side t may can = record {
+      first = subst (λ xs. HoldsOnly xs t) (sym e) may;
+      second = subst (λ xs. HoldsOnly (map (renumber_variable f) xs) (renumber f t)) (sym e) can;
+      same = formula_named f b (subst (KeepsNames f) (sym e) names) t;
+    }
+
+    equation : (A : Ty) (t v : Read) → form_of F ≡ form.equal A t v → IsSameEquation D b (renumbered f b) t v (renumber f t) (renumber f v)
+    equation A t v is =
+        let sides = equation_sides (signature_in D) s.variables F (t, v) may.formula.typed may.closed (ap equal_in is) in
+        let others = equation_sides (signature_in D) (map (renumber_variable f) s.variables) (renumber f F) (renumber f t, renumber f v) can.formula.typed can.closed (ap equal_in (form_retold f F ∙ ap (form_told f) is)) in
+        record {
+          first = sequent_from D (goal_names s) b one_type g;
+          second = sequent_from D (goal_names s) (renumbered f b) one_type h;
+          goals = also b e;
+          left = side t sides.left_closed others.left_closed;
+          right = side v sides.right_closed others.right_closed;
+        }
+
+    -- an atom of the formula
+    module _ (d : Defined) (is_atom : defined_atom D F ≡ Some d) where
+      abbrev e2 : Defined
+      e2 = moved_atom f d
+
+      atom_there : defined_atom D (renumber f F) ≡ Some e2
+      atom_there = atom_told f D F ∙ ap (option_map (moved_atom f)) is_atom
+
+      first_split : MayBeSplit D s b d
+      first_split = record { goal = is; left = g; over = e; atom = atom_over D s.variables (goal_names s) F d may is_atom; block = (atom_of D F d is_atom).block }
+
+      second_split : MayBeSplit D u (renumbered f b) e2
+      second_split =
+          let constants = same_constants s u same in
+          record {
+            goal = its;
+            left = subst (λ N. IsGoal D N (renumbered f b)) constants h;
+            over = ap (map (renumber_variable f)) e;
+            atom = atom_over D u.variables (goal_names u) (renumber f F) e2 (subst (λ N. MayStand (signature_in D) u.variables N (renumber f F)) constants can) atom_there;
+            block = (atom_of D (renumber f F) e2 atom_there).block;
+          }
+
+      atoms : IsSameAtom D s u d e2
+      atoms = same_atom F may can d is_atom
+
+      rests : IsSameRest D s u b (renumbered f b)
+      rests = record {
+        first = sequent_from D (goal_names s) b one_type g;
+        second = sequent_from D (goal_names s) (renumbered f b) one_type h;
+        goals = also b e;
+        first_over = e;
+        second_over = ap (map (renumber_variable f)) e;
+      }
+
+      abbrev opened_all : List Sequent → Row
+      opened_all gs = makes {A = List Sequent} (AllOpened D l gs) (λ c. SomeNameless D l gs × (c ≡ names_spent)) leads
+
+      once_opened : (gs hs : List Sequent) → IsParted D s b d gs → IsParted D u (renumbered f b) e2 hs → AreOnce (opened_all gs) (opened_all hs)
+      once_opened gs hs m n =
+          let bodies = parted_alike D s u b (renumbered f b) d e2 atoms rests definitions first_split second_split gs hs m n in
+          once_makes (AllOpened D l gs) (λ c. SomeNameless D l gs × (c ≡ names_spent)) (AllOpened D l hs) (λ c. SomeNameless D l hs × (c ≡ names_spent)) leads leads
+          (λ us c m n. all_opened_or_not m n.0 bodies)
+          (λ c vs m n. all_opened_or_not n m.0 (bodies_turned D gs hs bodies))
+          (λ c k m n. m.1 ∙ sym n.1)
+          (λ us vs m n. once_leads us vs (all_opened_once m n bodies))
+
+      once_split_so :
+          AreOnce (marked_so (MayBeAnalysed d.sign) (makes {A = List Sequent} (IsParted D s b d) (IsUnparted D s b d) opened_all))
+          (marked_so (MayBeAnalysed e2.sign) (makes {A = List Sequent} (IsParted D u (renumbered f b) e2) (IsUnparted D u (renumbered f b) e2) opened_all))
+      once_split_so =
+          once_marked (MayBeAnalysed d.sign) _ _
+          (once_makes (IsParted D s b d) (IsUnparted D s b d) (IsParted D u (renumbered f b) e2) (IsUnparted D u (renumbered f b) e2) opened_all opened_all
+          (λ gs c m n. parted_or_not D s u b (renumbered f b) d e2 atoms rests gs c m n)
+          (λ c hs m n. parted_or_not D u s (renumbered f b) b e2 d (turned_atom D s u d e2 atoms) (turned_rest D s u b (renumbered f b) rests) hs c n m)
+          (λ c k m n. one_unparting D s u b (renumbered f b) d e2 atoms rests c k m n)
+          once_opened)
+
+    once_analysing : AreOnce (analysing D F l s b) (analysing D (renumber f F) l u (renumbered f b))
+    once_analysing = once_finds wrong_shape (defined_atom D F) (defined_atom D (renumber f F)) (moved_atom f) (atom_told f D F) _ _ (λ d is_atom. once_split_so d is_atom)
+
+    once_cases : (k : Form) → form_of F ≡ k → AreOnce (cases D k F l s b) (cases D (form_told f k) (renumber f F) l u (renumbered f b))
+    once_cases form.truth is = whole
+    once_cases (form.both A B) is = whole
+    once_cases (form.exists A t) is = whole
+    once_cases (form.nabla A t) is = whole
+    once_cases (form.either A B) is =
+        let parts = either_may (signature_in D) s.variables (goal_names s) F (A, B) may (ap either_in is) in
+        let others = either_may (signature_in D) (map (renumber_variable f) s.variables) (goal_names s) (renumber f F) (renumber f A, renumber f B) can (ap either_in (form_retold f F ∙ ap (form_told f) is)) in
+        once_opening D l (goal_names s) b (renumbered f b) A (renumber f A) (alike_formulas b e g h A parts.0 others.0) (λ t. opening D B l b (λ v. leads (t ∷ v ∷ []))) (λ t. opening D (renumber f B) l (renumbered f b) (λ v. leads (t ∷ v ∷ [])))
+        (λ t w one. once_opening D l (goal_names s) b (renumbered f b) B (renumber f B) (alike_formulas b e g h B parts.1 others.1) (λ v. leads (t ∷ v ∷ [])) (λ v. leads (w ∷ v ∷ []))
+        (λ v x two. once_leads (t ∷ v ∷ []) (w ∷ x ∷ []) (two_same t w v x one two)))
+    once_cases form.falsity is = once_leads [] [] refl
+    once_cases (form.implies A B) is = once_alone (Some wrong_shape)
+    once_cases (form.equal A t v) is =
+        once_makes (IsSolved D b t v) (λ c. IsOutside b t v × (c ≡ not_pattern 1)) (IsSolved D (renumbered f b) (renumber f t) (renumber f v)) (λ c. IsOutside (renumbered f b) (renumber f t) (renumber f v) × (c ≡ not_pattern 1)) leads leads
+        (λ gs c m n. solved_or_not D b (renumbered f b) t v (renumber f t) (renumber f v) (equation A t v is) gs m n.0)
+        (λ c gs m n. solved_or_not D (renumbered f b) b (renumber f t) (renumber f v) t v (turned D b (renumbered f b) t v (renumber f t) (renumber f v) (equation A t v is)) gs n m.0)
+        (λ c d m n. m.1 ∙ sym n.1)
+        (λ gs hs m n. once_leads gs hs (solved_once D b (renumbered f b) t v (renumber f t) (renumber f v) (equation A t v is) gs hs m n))
+    once_cases (form.for_all A t) is = once_alone (Some wrong_shape)
+    once_cases (form.marked m t) is = once_analysing
+    once_cases form.other is = once_analysing
+
+    once_case_of : AreOnce (cases D (form_of F) F l s b) (cases D (form_of (renumber f F)) (renumber f F) l u (renumbered f b))
+    once_case_of = subst (λ k. AreOnce (cases D (form_of F) F l s b) (cases D k (renumber f F) l u (renumbered f b))) (sym (form_retold f F)) (once_cases (form_of F) refl)
+
+  module _ (H : List ℕ) (F : Read) (there : formula_of s H ≡ Some F) where
+    found_first : May F
+    found_first = found_may D (goal_names s) s H F first there
+
+    found_second : Can (renumber f F)
+    found_second = found_may D (goal_names s) u H (renumber f F) second (formula_told f s H ∙ ap (option_map (renumber f)) there)
+
+  once_case : (l : Label) (H : List ℕ) (keep : Bool) → AreOnce (effect D l (case H keep) s) (effect D l (case H keep) u)
+  once_case l H true =
+      once_unless (clashing l s) (clashing l u) _ _ (sym (clashing_told f l s))
+      (once_finds (no_hypothesis H) (formula_of s H) (formula_of u H) (renumber f) (formula_told f s H) (λ F. cases D (form_of F) F l s s) (λ F. cases D (form_of F) F l u u)
+      (λ F e. once_case_of l s refl first second F (found_first H F e) (found_second H F e)))
+  once_case l H false =
+      let gone : IsGoal D (goal_names s) (renumbered f (without H s)) = subst (IsGoal D (goal_names s)) (without_told f H s) (without_goal D (goal_names s) u H second) in
+      once_unless (clashing l s) (clashing l u) _ _ (sym (clashing_told f l s))
+      (once_finds (no_hypothesis H) (formula_of s H) (formula_of u H) (renumber f) (formula_told f s H) (λ F. cases D (form_of F) F l s (without H s)) (λ F. cases D (form_of F) F l u (without H u))
+      (λ F e. subst (λ w. AreOnce (cases D (form_of F) F l s (without H s)) (cases D (form_of (renumber f F)) (renumber f F) l u w)) (sym (without_told f H s))
+      (once_case_of l (without H s) refl (without_goal D (goal_names s) s H first) gone F (found_first H F e) (found_second H F e))))
+
+  -- a conclusion is taken apart
+  once_introducing : (xs : List (List ℕ)) → AreOnce (introducing D xs s) (introducing D xs u)
+  once_introducing xs =
+      once_makes _ _ _ _ _ _
+      (λ a g m n. introduced_or_not m (goal_names s) u alike_goals n.0)
+      (λ g b m n. introduced_or_not n (goal_names s) s (flipped D (goal_names s) s u [] [] alike_goals) m.0)
+      (λ g h m n. m.1 ∙ sym n.1)
+      (λ a b m n.
+      let one = introduced_once m (goal_names s) u alike_goals b.0 b.1 n in
+      once_unless (left_over a.0) (left_over b.0) (leads (a.1 ∷ [])) (leads (b.1 ∷ [])) (ap left_over one.0) (once_leads (a.1 ∷ []) (b.1 ∷ []) (one_same a.1 b.1 one.1)))
+
+  once_intros : (l : Label) (xs : List (List ℕ)) → AreOnce (effect D l (intros xs) s) (effect D l (intros xs) u)
+  once_intros l xs =
+      once_unless (clashing_names [] xs s) (clashing_names [] xs u) _ _ (sym (clashing_names_told f [] xs s))
+      (once_finds wrong_shape (taken_off (form_of s.conclusion)) (taken_off (form_of u.conclusion)) (λ o. o) (taken_off_told f s.conclusion) (λ o. introducing D xs s) (λ o. introducing D xs u) (λ o e. once_introducing xs))
+
+  -- the goal with another conclusion
+  proving_also : (F : Read) → named (proving F s) ≡ named (proving (renumber f F) u)
+  proving_also F = also (proving F s) refl
+
+  once_split : (l : Label) → AreOnce (effect D l split s) (effect D l split u)
+  once_split l =
+      once_finds wrong_shape (as_both s.conclusion) (as_both u.conclusion) _ (as_both_told f s.conclusion) _ _
+      (λ p e. once_leads _ _ (two_same (proving p.0 s) (proving (renumber f p.0) u) (proving p.1 s) (proving (renumber f p.1) u) (proving_also p.0) (proving_also p.1)))
+
+  all_proving : (Fs : List Read) → map named (map (λ F. proving F s) Fs) ≡ map named (map (λ F. proving F u) (map (renumber f) Fs))
+  all_proving [] = refl
+  all_proving (F ∷ Fs) = ap (λ g. g ∷ map named (map (λ F. proving F s) Fs)) (proving_also F) ∙ ap (λ l. named (proving (renumber f F) u) ∷ l) (all_proving Fs)
+
+  once_split_all : (l : Label) → AreOnce (effect D l split_all s) (effect D l split_all u)
+  once_split_all l =
+      once_finds wrong_shape (as_both s.conclusion) (as_both u.conclusion) _ (as_both_told f s.conclusion) _ _
+      (λ p e. once_makes (Parts s.conclusion) (λ g. ⊥) (Parts u.conclusion) (λ g. ⊥) (λ Fs. leads (map (λ F. proving F s) Fs)) (λ Fs. leads (map (λ F. proving F u) Fs))
+      (λ Fs g m n. n) (λ g Fs m n. m) (λ g h m n. absurd m)
+      (λ Fs Gs m n. once_leads _ _ (all_proving Fs ∙ ap (λ Hs. map named (map (λ F. proving F u) Hs)) (one_parting (parts_told f m) n))))
+
+  once_left : (l : Label) → AreOnce (effect D l left s) (effect D l left u)
+  once_left l =
+      once_finds wrong_shape (as_either s.conclusion) (as_either u.conclusion) _ (as_either_told f s.conclusion) _ _
+      (λ p e. once_leads _ _ (one_same (proving p.0 s) (proving (renumber f p.0) u) (proving_also p.0)))
+
+  once_right : (l : Label) → AreOnce (effect D l right s) (effect D l right u)
+  once_right l =
+      once_finds wrong_shape (as_either s.conclusion) (as_either u.conclusion) _ (as_either_told f s.conclusion) _ _
+      (λ p e. once_leads _ _ (one_same (proving p.1 s) (proving (renumber f p.1) u) (proving_also p.1)))
+
+  -- a term is read
+  once_reading : (e : Tree) (A : Ty) (k j : Read → Row) → ((t v : Read) → v ≡ renumber f t → AreOnce (k t) (j v)) → AreOnce (reading D s e A k) (reading D u e A j)
+  once_reading e A k j once =
+      once_makes _ _ _ _ k j (meaning_or_not D s u is its same e A) (λ g v m n. not_or_means D s u is its same e A v g m n) (cause_alike D s u is its same e A) (λ t v m n. once t v (same_meaning D s u r same e A t v m n))
+
+  once_exists : (l : Label) (e : Tree) → AreOnce (effect D l (exists e) s) (effect D l (exists e) u)
+  once_exists l e =
+      once_finds wrong_shape (as_exists s.conclusion) (as_exists u.conclusion) _ (as_exists_told f s.conclusion) _ _
+      (λ q d. once_reading e q.0 _ _
+      (λ t v same. once_leads _ _ (one_same (proving (instance q.1 t) s) (proving (instance (renumber f q.1) v) u)
+      (proving_also (instance q.1 t) ∙ ap (λ F. named (proving F u)) (translate-instance f (λ h. h) q.1 t ∙ ap (instance (renumber f q.1)) (sym same))))))
+
+  -- a formula is stated, and gets a name
+  once_naming : (l : Label) (k j : List ℕ → Sequent → Row) → ((x y : List ℕ) (t v : Sequent) → Names l s x t → Names l u y v → AreOnce (k x t) (j y v)) → AreOnce (naming l s k) (naming l u j)
+  once_naming l k j once =
+      once_makes _ _ _ _ _ _
+      (λ a g m n. never_named l s a.0 a.1 m (nameless_also u s (sym same) l n.0))
+      (λ g b m n. never_named l u b.0 b.1 n (nameless_also s u same l m.0))
+      (λ g h m n. m.1 ∙ sym n.1)
+      (λ a b m n. once a.0 b.0 a.1 b.1 m n)
+
+  once_assert : (l : Label) (e : Tree) → AreOnce (effect D l (assert e) s) (effect D l (assert e) u)
+  once_assert l e =
+      once_unless (clashing l s) (clashing l u) _ _ (sym (clashing_told f l s))
+      (once_makes _ _ _ _ _ _ (states_or_not D s u is its same e) (λ g F m n. not_or_states D s u is its same e F g m n) (faults_alike D s u is its same e)
+      (λ F G m n.
+      let one : G ≡ renumber f F = same_meaning D s u r same e prop F G m.0 n.0 in
+      once_naming l (λ x t. leads (proving F s ∷ assuming x F t ∷ [])) (λ y v. leads (proving G u ∷ assuming y G v ∷ []))
+      (λ x y t v a b.
+      let so = names_alike s u same l x y t v a b in
+      once_leads _ _
+      (two_same (proving F s) (proving G u) (assuming x F t) (assuming y G v) (proving_also F ∙ ap (λ H. named (proving H u)) (sym one))
+      (assumed_alike s u t v x y F G so.name so.goals so.first so.second (formula_named f s names F ∙ ap (with_names (map (renumber_variable f) s.variables)) (sym one)))))))
+
+  once_clear : (l : Label) (Hs : List (List ℕ)) → AreOnce (effect D l (clear Hs) s) (effect D l (clear Hs) u)
+  once_clear l Hs =
+      once_unless (missing Hs s) (missing Hs u) _ _ (sym (missing_told f Hs s))
+      (once_leads _ _ (one_same (cleared Hs s) (cleared Hs u) (also (cleared Hs s) (cleared_variables f Hs s) ∙ ap named (sym (cleared_told f Hs s)))))
+
+  once_rename : (l : Label) (H x : List ℕ) → AreOnce (effect D l (rename H x) s) (effect D l (rename H x) u)
+  once_rename l H x =
+      once_unless (clashing (given x) s) (clashing (given x) u) _ _ (sym (clashing_told f (given x) s))
+      (once_finds (no_hypothesis H) (formula_of s H) (formula_of u H) (renumber f) (formula_told f s H) _ _
+      (λ F e. once_leads _ _
+      (one_same (assuming x F (without H s)) (assuming x (renumber f F) (without H u))
+      (assumed_alike s u (without H s) (without H u) x x F (renumber f F) refl (also (without H s) refl ∙ ap named (sym (without_told f H s))) refl refl (formula_named f s names F)))))
+
+  -- the conclusion is unfolded
+  once_unfold : (l : Label) → AreOnce (effect D l unfold_goal s) (effect D l unfold_goal u)
+  once_unfold l =
+      once_finds wrong_shape (defined_atom D s.conclusion) (defined_atom D u.conclusion) (moved_atom f) (atom_told f D s.conclusion) _ _
+      (λ d is_atom.
+      let atoms = same_atom s.conclusion first.conclusion second.conclusion d is_atom in
+      once_marked (MayBeUnfolded d.sign) _ _
+      (once_makes (IsUnfolded s d) (IsNotUnfolded s d) (IsUnfolded u (moved_atom f d)) (IsNotUnfolded u (moved_atom f d)) (λ t. leads (t ∷ [])) (λ t. leads (t ∷ []))
+      (λ t c m n. unfolded_or_not D s u d (moved_atom f d) atoms t c m n)
+      (λ c t m n. not_unfolded D s u d (moved_atom f d) atoms t c m n)
+      (λ c k m n. one_cause D s u d (moved_atom f d) atoms c k m n)
+      (λ t v m n. once_leads (t ∷ []) (v ∷ []) (one_same t v (unfolded_once D s u d (moved_atom f d) atoms t v m n)))))
+
+  -- a formula is assumed, by its name, and another one proved
+  sized_same : (x : List ℕ) (F C G E : Read) → G ≡ renumber f F → E ≡ renumber f C → named (proving C (assuming x F s)) ≡ named (proving E (assuming x G u))
+  sized_same x F C G E first_is second_is =
+      also (proving C (assuming x F s)) refl
+      ∙ ap (λ hs. named (record { variables = u.variables; hypotheses = hs; conclusion = renumber f C; counter = s.counter })) (map-append (renumber_hypothesis f) s.hypotheses (record { name = x; formula = F } ∷ []))
+      ∙ ap (λ H. named (proving (renumber f C) (assuming x H u))) (sym first_is)
+      ∙ ap (λ H. named (proving H (assuming x G u))) (sym second_is)
+
+  once_sized : (word : List ℕ) (l : Label) (k j : List ℕ → Sequent) → ((x : List ℕ) → named (k x) ≡ named (j x))
+      → AreOnce (hypothesis_named word l s (λ x. leads (k x ∷ []))) (hypothesis_named word l u (λ x. leads (j x ∷ [])))
+  once_sized word l k j one =
+      once_makes (IsNamedBy word l s) (λ c. ⊥) (IsNamedBy word l u) (λ c. ⊥) (λ x. leads (k x ∷ [])) (λ x. leads (j x ∷ []))
+      (λ x c m n. n) (λ c x m n. m) (λ c d m n. absurd m)
+      (λ x y m n. once_leads (k x ∷ []) (j y ∷ []) (one_same (k x) (j y) (one x ∙ ap (λ z. named (j z)) (named_by_once word l s u same x y m n))))
+
+  once_induction : (l : Label) (n : ℕ) → AreOnce (effect D l (induction (n ∷ [])) s) (effect D l (induction (n ∷ [])) u)
+  once_induction l n =
+      let i = next_level inductive_level s in
+      let j = next_level inductive_level u in
+      once_unless (clashing l s) (clashing l u) _ _ (sym (clashing_told f l s))
+      (once_finds wrong_shape (inductive_at D n s.conclusion) (inductive_at D n u.conclusion) (moved_atom f) (inductive_told f D n s.conclusion) _ _
+      (λ d e. once_marked (d.sign ≡ plain) _ _
+      (once_sized (codes "IH") l
+      (λ x. proving (marked_antecedent n (at_of i) s.conclusion) (assuming x (marked_antecedent n (star_of i) s.conclusion) s))
+      (λ x. proving (marked_antecedent n (at_of j) u.conclusion) (assuming x (marked_antecedent n (star_of j) u.conclusion) u))
+      (λ x. sized_same x (marked_antecedent n (star_of i) s.conclusion) (marked_antecedent n (at_of i) s.conclusion) (marked_antecedent n (star_of j) u.conclusion) (marked_antecedent n (at_of j) u.conclusion)
+      (ap (λ m. marked_antecedent n (star_of m) u.conclusion) (level_told f inductive_level s) ∙ marked_antecedent_told f n (star_of i) s.conclusion)
+      (ap (λ m. marked_antecedent n (at_of m) u.conclusion) (level_told f inductive_level s) ∙ marked_antecedent_told f n (at_of i) s.conclusion)))))
+
+  once_coinduction : (l : Label) → AreOnce (effect D l coinduction s) (effect D l coinduction u)
+  once_coinduction l =
+      let i = next_level coinductive_level s in
+      let j = next_level coinductive_level u in
+      once_unless (clashing l s) (clashing l u) _ _ (sym (clashing_told f l s))
+      (once_finds wrong_shape (coinductive_in D s.conclusion) (coinductive_in D u.conclusion) (moved_atom f) (coinductive_told f D s.conclusion) _ _
+      (λ d e. once_marked (d.sign ≡ plain) _ _
+      (once_sized (codes "CH") l
+      (λ x. proving (marked_consequent (hash_of i) s.conclusion) (assuming x (marked_consequent (plus_of i) s.conclusion) s))
+      (λ x. proving (marked_consequent (hash_of j) u.conclusion) (assuming x (marked_consequent (plus_of j) u.conclusion) u))
+      (λ x. sized_same x (marked_consequent (plus_of i) s.conclusion) (marked_consequent (hash_of i) s.conclusion) (marked_consequent (plus_of j) u.conclusion) (marked_consequent (hash_of j) u.conclusion)
+      (ap (λ m. marked_consequent (plus_of m) u.conclusion) (level_told f coinductive_level s) ∙ marked_consequent_told f (plus_of i) s.conclusion)
+      (ap (λ m. marked_consequent (hash_of m) u.conclusion) (level_told f coinductive_level s) ∙ marked_consequent_told f (hash_of i) s.conclusion)))))
+
+  -- constants change places
+  constants : goal_names s ≡ goal_names u
+  constants = same_constants s u same
+
+  once_of_one_type : (ns : List ℕ) (k j : Row) → AreOnce k j → AreOnce (of_one_type ns s k) (of_one_type ns u j)
+  once_of_one_type ns k j once =
+      once_makes {A = Unit {0}} {B = Unit {0}} (λ x. MayCycle ns (goal_names s)) (λ c. (¬ MayCycle ns (goal_names s)) × (c ≡ type_clash 0))
+      (λ x. MayCycle ns (goal_names u)) (λ c. (¬ MayCycle ns (goal_names u)) × (c ≡ type_clash 0)) (λ x. k) (λ x. j)
+      (λ x g p n. n.0 (subst (MayCycle ns) constants p)) (λ g x n q. n.0 (subst (MayCycle ns) (sym constants) q)) (λ g h m n. m.1 ∙ sym n.1) (λ x y p q. once)
+
+  once_cycling : (ns : List ℕ) (k j : List (Nominal × Nominal) → Row) → ((ps : List (Nominal × Nominal)) → AreOnce (k ps) (j ps)) → AreOnce (cycling ns s k) (cycling ns u j)
+  once_cycling ns k j once =
+      once_finds wrong_shape (type_among ns (goal_names s)) (type_among ns (goal_names u)) (λ A. A) (ap (type_among ns) (sym constants) ∙ sym (mapped_same (type_among ns (goal_names s))))
+      (λ A. k (cycle A ns)) (λ A. j (cycle A ns)) (λ A e. once (cycle A ns))
+
+  permuted_told : (ps : List (Nominal × Nominal)) (t : Read) → renumber f (tree.permute ps t) ≡ tree.permute ps (renumber f t)
+  permuted_told ps t = translate-rename f (λ h. h) (moved_by ps) t
+
+  once_permute_conclusion : (l : Label) (ns : List ℕ) → AreOnce (effect D l (permute ns None) s) (effect D l (permute ns None) u)
+  once_permute_conclusion l ns =
+      once_of_one_type ns _ _
+      (once_cycling ns (λ ps. leads (proving (tree.permute ps s.conclusion) s ∷ [])) (λ ps. leads (proving (tree.permute ps u.conclusion) u ∷ []))
+      (λ ps. once_leads _ _
+      (one_same (proving (tree.permute ps s.conclusion) s) (proving (tree.permute ps u.conclusion) u)
+      (proving_also (tree.permute ps s.conclusion) ∙ ap (λ F. named (proving F u)) (permuted_told ps s.conclusion)))))
+
+  once_permute_hypothesis : (l : Label) (ns H : List ℕ) → AreOnce (effect D l (permute ns (Some H)) s) (effect D l (permute ns (Some H)) u)
+  once_permute_hypothesis l ns H =
+      once_of_one_type ns _ _
+      (once_finds (no_hypothesis H) (formula_of s H) (formula_of u H) (renumber f) (formula_told f s H) _ _
+      (λ F e. once_cycling ns (λ ps. leads (assuming H (tree.permute ps F) (without H s) ∷ [])) (λ ps. leads (assuming H (tree.permute ps (renumber f F)) (without H u) ∷ []))
+      (λ ps. once_leads _ _
+      (one_same (assuming H (tree.permute ps F) (without H s)) (assuming H (tree.permute ps (renumber f F)) (without H u))
+      (assumed_alike s u (without H s) (without H u) H H (tree.permute ps F) (tree.permute ps (renumber f F)) refl (also (without H s) refl ∙ ap named (sym (without_told f H s))) refl refl
+      (formula_named f s names (tree.permute ps F) ∙ ap (with_names (map (renumber_variable f) s.variables)) (permuted_told ps F)))))))
+
+  once_renumbered : HasLists D → HaveSentences D → (l : Label) (command : ProofCommand) → AreOnce (effect D l command s) (effect D l command u)
+  once_renumbered lists sentences l (intros xs) = once_intros l xs
+  once_renumbered lists sentences l (case H keep) = once_case l H keep
+  once_renumbered lists sentences l split = once_split l
+  once_renumbered lists sentences l split_all = once_split_all l
+  once_renumbered lists sentences l left = once_left l
+  once_renumbered lists sentences l right = once_right l
+  once_renumbered lists sentences l (exists e) = once_exists l e
+  once_renumbered lists sentences l (assert e) = once_assert l e
+  once_renumbered lists sentences l (clear Hs) = once_clear l Hs
+  once_renumbered lists sentences l (rename H x) = once_rename l H x
+  once_renumbered lists sentences l (induction []) = once_alone (Some wrong_shape)
+  once_renumbered lists sentences l (induction (n ∷ [])) = once_induction l n
+  once_renumbered lists sentences l (induction (n ∷ m ∷ ns)) = once_alone (Some wrong_shape)
+  once_renumbered lists sentences l coinduction = once_coinduction l
+  once_renumbered lists sentences l (apply H vs ws) = once_apply D lists sentences s f is its names l H vs ws
+  once_renumbered lists sentences l (backchain H ws) = once_backchain D lists sentences s f is its names l H ws
+  once_renumbered lists sentences l (cut H K) = once_alone (Some wrong_shape)
+  once_renumbered lists sentences l (inst H ws) = once_alone (Some wrong_shape)
+  once_renumbered lists sentences l (monotone H e) = once_alone (Some wrong_shape)
+  once_renumbered lists sentences l (search n) = once_alone (Some wrong_shape)
+  once_renumbered lists sentences l skip = once_alone (Some wrong_shape)
+  once_renumbered lists sentences l unfold_goal = once_unfold l
+  once_renumbered lists sentences l (permute ns None) = once_permute_conclusion l ns
+  once_renumbered lists sentences l (permute ns (Some H)) = once_permute_hypothesis l ns H
+
+-- EACH PROOF COMMAND has one answer in goals that are one with names for numbers
+pub once : (D : Declarations) → HasLists D → HaveSentences D → HaveDefinitions D → (s u : Sequent) → IsSequent D s → IsSequent D u → named s ≡ named u → (l : Label) (command : ProofCommand) → AreOnce (effect D l command s) (effect D l command u)
+once D lists sentences definitions s u is its same l command =
+    let r = renumbering D s u is its same in
+    let names : KeepsNames r.by s.variables = subst (λ (v : Sequent). (n : ℕ) → name_in v.variables (r.by n) ≡ name_in s.variables n) r.is r.names in
+    subst (λ v. AreOnce (effect D l command s) (effect D l command v)) (sym r.is) (once_renumbered D definitions s r.by is (subst (IsSequent D) r.is its) names lists sentences l command)

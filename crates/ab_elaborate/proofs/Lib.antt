@@ -1,4 +1,0 @@
-pub mod Scopes
-mod Numbers
-mod Trees
-mod Answering

@@ -1,6 +1,0 @@
-use Rattle.std.proofs.Common.{◌≡◌, map, take}
-use Rattle.ab_walking.specs.ab_building.specs.Outcomes.{number_of}
-use Rattle.ab_elaborate.proofs.ids.numbers.Given as goal
-
-abbrev pub invariant-loop-name : goal.invariant-loop-name
-invariant-loop-name l = l.found.items ≡ map number_of (take l.name-index l.names)

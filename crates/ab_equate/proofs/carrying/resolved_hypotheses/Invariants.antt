@@ -1,9 +1,0 @@
-use Rattle.std.proofs.Common.{◌≤◌}
-use Rattle.ab_equate.proofs.Resolving.{Resolved}
-use Rattle.ab_equate.proofs.carrying.resolved_hypotheses.Given as goal
-
-abbrev pub invariant-loop-hypothesis : goal.invariant-loop-hypothesis
-invariant-loop-hypothesis g l = record {
-  made : Resolved l.types l.fn.store l.store l.hypotheses l.hypothesis-index l.resolved.items;
-  counted : l.fn.steps ≤ l.steps;
-}

@@ -1,0 +1,12 @@
+pub mod Free
+pub mod Variables
+pub mod Going
+pub mod NewVariables
+pub mod StandingOne
+pub mod StandingAll
+pub mod Resolving
+pub mod PuttingIn
+pub mod CarryingOver
+pub mod Restored
+pub mod Outcomes
+pub mod Answering

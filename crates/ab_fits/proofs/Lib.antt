@@ -1,8 +1,0 @@
-mod Sets
-mod Bounds
-mod Listed
-mod Contexts
-mod Members
-mod Noted
-mod Judged
-mod Standing

@@ -1,5 +1,0 @@
-use Rattle.ab_fits.proofs.Sets.{typed_cmp, one_typed, gains_only}
-use Rattle.ab_fits.proofs.known.know.Goals as goal
-
-pub returns : goal.returns
-returns c = gains_only typed_cmp one_typed c.args.known.now.keys c.insert.new.self.keys c.args.one c.in_ok-insert.ensures.keys

@@ -1,5 +1,0 @@
-use Rattle.ab_fits.proofs.Sets.{term_cmp, one_term, is_in}
-use Rattle.ab_fits.proofs.seen.is_seen.Goals as goal
-
-pub returns : goal.returns
-returns c = is_in term_cmp one_term c.args.seen.now.keys c.args.id c.contains.result c.contains.ensures

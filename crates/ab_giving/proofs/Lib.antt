@@ -1,5 +1,0 @@
-mod Gathering
-mod Meaning
-mod Rows
-pub mod Given
-mod Terms

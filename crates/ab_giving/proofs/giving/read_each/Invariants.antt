@@ -1,7 +1,0 @@
-use Rattle.std.proofs.Common.{take, map}
-use Rattle.ab_syntax.specs.Commands.{instance_of}
-use Rattle.ab_giving.proofs.Terms.{ReadSoFar}
-use Rattle.ab_giving.proofs.giving.read_each.Given as goal
-
-abbrev pub invariant-loop-instance : goal.invariant-loop-instance
-invariant-loop-instance g l = ReadSoFar l.fn.world l.world l.goal l.formula l.count (map instance_of (take l.instance-index l.instances)) l.given.items

@@ -1,5 +1,0 @@
-use Rattle.ab_goals.proofs.Naming.{printed_told}
-use Rattle.ab_goals.proofs.laws.names_are_printed_for_variables.Goals as goal
-
-pub returns : goal.returns
-returns c = λ name t. printed_told name t

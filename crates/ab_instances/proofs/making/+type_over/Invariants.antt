@@ -1,5 +1,0 @@
-use Rattle.std.proofs.Common.{length}
-use Rattle.ab_instances.proofs.making.+type_over.Given as goal
-
-abbrev pub decreases-type_over : goal.decreases-type_over
-decreases-type_over l = length l.names.now

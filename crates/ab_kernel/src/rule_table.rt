@@ -1,0 +1,70 @@
+//! The premises of a step: one function for each rule.
+ghost use Rattle.std.specs.Prelude.{◌≡◌, ◌≤◌};
+ghost use Rattle.ab_logic.specs.Worlds.{IsWorld, declarations_of};
+ghost use Rattle.ab_logic.specs.WorldGrowth.{Grows};
+ghost use Rattle.ab_logic.specs.SequentReadings.{sequent_of, HoldsSequent};
+ghost use Rattle.ab_formulas.specs.Sequents.{IsSequent};
+ghost use Rattle.ab_kernel.specs.RuleAnswers.{Answers, row_at, step_of, HoldsStep};
+
+use crate::closing_rules::{equal_right, false_left, initial, true_right};
+use crate::definition_rules::{definition_left, definition_right};
+use crate::eigenvariables::{exists_left, for_all_right, nabla_left, nabla_right};
+use crate::equality_rules::equal_left;
+use crate::left_rules::{and_left, arrow_left, arrow_right, or_left, use_theorem, weaken};
+use crate::right_rules::{and_right, or_right};
+use crate::size_rules::{coinduction, induction};
+use crate::step::{KernelFault, Step};
+use crate::witness_rules::{cut_formula, exists_right, for_all_left};
+use ab_logic::{Sequent, World};
+use ab_norm::types::Steps;
+use std::alloc::Global;
+
+/// The premises that the step leads to from the goal, or why it leads to none.
+pub fn premises<L>(
+    alloc: Global,
+    world: &mut World,
+    step: &Step,
+    sequent: &Sequent,
+    steps: &mut Steps<L>,
+) -> Result<Vec<Sequent>, KernelFault>
+    requires world { IsWorld world.old }
+    requires step { HoldsStep world.old step.now }
+    requires held { HoldsSequent world.old sequent.now }
+    requires sequent { IsSequent (declarations_of world.old) (sequent_of world.old sequent.now) }
+    ensures answers { Answers world.new (row_at world.old (step_of world.old step.now) sequent.now) result }
+    ensures grows { Grows world.old world.new }
+    ensures declared { declarations_of world.new ≡ declarations_of world.old }
+    ensures steps { steps.old ≤ steps.new }
+{
+    match step {
+        Step::TrueRight => true_right(alloc, world, sequent),
+        Step::FalseLeft(name) => false_left(alloc, world, name, sequent),
+        Step::AndRight => and_right(alloc, world, sequent),
+        Step::AndLeft(name, first, second) => and_left(alloc, world, name, first, second, sequent),
+        Step::OrRight(left) => or_right(alloc, world, *left, sequent),
+        Step::OrLeft(name, given) => or_left(alloc, world, name, given, sequent),
+        Step::ArrowRight(given) => arrow_right(alloc, world, given, sequent),
+        Step::ArrowLeft(name, given) => arrow_left(alloc, world, name, given, sequent),
+        Step::ForallRight => for_all_right(alloc, world, sequent, steps),
+        Step::ExistsLeft(name, given) => exists_left(alloc, world, name, given, sequent, steps),
+        Step::NablaRight => nabla_right(alloc, world, sequent, steps),
+        Step::NablaLeft(name, given) => nabla_left(alloc, world, name, given, sequent, steps),
+        Step::EqualRight => equal_right(alloc, world, sequent),
+        Step::UseTheorem(name, given) => use_theorem(alloc, world, name, given, sequent),
+        Step::Weaken(name) => weaken(alloc, world, name, sequent),
+        Step::Initial(name) => initial(alloc, world, name, sequent),
+        Step::EqualLeft(name) => equal_left(alloc, world, name, sequent, steps),
+        Step::ForallLeft(name, term, given) => {
+            for_all_left(alloc, world, name, *term, given, sequent, steps)
+        }
+        Step::ExistsRight(term) => exists_right(alloc, world, *term, sequent, steps),
+        Step::CutFormula(formula, given) => cut_formula(alloc, world, *formula, given, sequent),
+        Step::DefRight(place) => definition_right(alloc, world, *place, sequent, steps),
+        Step::DefLeft(name, given) => definition_left(alloc, world, name, given, sequent, steps),
+        Step::Induction(place, given) => induction(alloc, world, *place, given, sequent),
+        Step::Coinduction(given) => coinduction(alloc, world, given, sequent),
+        Step::SpecCut(_, _, _) => Err(KernelFault::RuleFails(0)),
+        Step::SpecInst(_, _, _) => Err(KernelFault::RuleFails(0)),
+        Step::SpecMonotone(_, _, _) => Err(KernelFault::RuleFails(0)),
+    }
+}

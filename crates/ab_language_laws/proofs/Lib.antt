@@ -1,0 +1,15 @@
+pub mod Outcomes
+pub mod Walk
+pub mod Shows
+pub mod Parts
+pub mod Followers
+pub mod Both
+pub mod Openings
+pub mod Commands
+pub mod Files
+pub mod Going
+pub mod Agreeing
+pub mod Telling
+pub mod Resolving
+pub mod Splitting
+pub mod Legible

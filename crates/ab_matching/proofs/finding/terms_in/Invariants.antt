@@ -1,6 +1,0 @@
-use Rattle.std.proofs.Common.{◌≡◌, take}
-use Rattle.ab_matching.specs.Named.{terms_named}
-use Rattle.ab_matching.proofs.finding.terms_in.Given as goal
-
-abbrev pub invariant-loop-part : goal.invariant-loop-part
-invariant-loop-part l = l.list.items ≡ terms_named (take l.part-index l.parts)

@@ -1,7 +1,0 @@
-use Rattle.std.proofs.Common.{◌≡◌, [], filter, take}
-use Rattle.ab_alternatives.specs.ab_types.specs.Entries.{Table}
-use Rattle.ab_matching.specs.Solving.{is_open}
-use Rattle.ab_matching.proofs.leaving.first_open.Given as goal
-
-abbrev pub invariant-loop-cell : goal.invariant-loop-cell
-invariant-loop-cell l = (types : Table) → filter (is_open types l.store l.terms) (take l.cell-index l.cells) ≡ []

@@ -1,8 +1,0 @@
-use Rattle.std.proofs.Common.{ℕ, ◌≤◌}
-use Rattle.ab_logic.specs.Readings.{sequent_of}
-use Rattle.ab_logic.specs.declared.world.World.{World}
-use Rattle.ab_formulas.specs.Names.{IsFree}
-use Rattle.ab_naming.proofs.label.next_free.Given as goal
-
-abbrev pub invariant-loop-before : goal.invariant-loop-before
-invariant-loop-before l = (w : World) (m : ℕ) → m ≤ l.before → IsFree (sequent_of w l.sequent) m → ⊥

@@ -1,0 +1,5 @@
+use Rattle.std.proofs.Common.{rules}
+use Rattle.ab_norm.proofs.equality.is_same_head.Goals as goal
+
+pub returns : goal.returns
+returns c = (λ e. search rules, λ e. search rules)

@@ -1,0 +1,41 @@
+-- Names that become bound: which names are told from others by what they read as, and what a walk keeps of terms that it
+-- has been through.
+use Rattle.std.specs.Prelude.{◌≡◌, ℕ, ◌+◌, Some}
+use Rattle.ab_term.specs.Terms as tree
+use Rattle.ab_term.specs.Abstraction.{close}
+use Rattle.ab_norm.specs.ab_types.specs.Entries.{Table}
+use Rattle.ab_norm.specs.ab_types.specs.Sound.{IsTable}
+use Rattle.ab_norm.specs.ab_store.specs.declared.node.TermId.{TermId}
+use Rattle.ab_norm.specs.ab_store.specs.declared.node.Head.{Head}
+use Rattle.ab_norm.specs.ab_store.specs.declared.node.Head.TheVariants.{Cell}
+use Rattle.ab_norm.specs.ab_store.specs.Trees.{Contents, Holds, tree_of, head_reading}
+use Rattle.ab_norm.specs.ab_store.specs.Naming.{HeadIsTyped, IsTypedBy}
+use Rattle.ab_norm.specs.declared.memo.Memo.{Memo}
+use Rattle.ab_norm.specs.WalkMemory.{answer_of}
+
+-- NO OTHER HEAD OF THE STORE READS AS THIS ONE: it is a cell, or the table is sound and types it and the store
+abbrev pub IsToldApart : Table → Contents → Head → Type 0
+IsToldApart types store (Cell c) = Unit {0}
+IsToldApart types store h = IsTable types × IsTypedBy types store × HeadIsTyped types h
+
+-- the same of two heads. From here on only private contracts speak of it.
+abbrev pub AreToldApart : Table → Head → Head → Type 0
+AreToldApart types (Cell c) other = Unit {0}
+AreToldApart types h other = IsTable types × HeadIsTyped types h × HeadIsTyped types other
+
+-- the head, as it is called under so many binders
+abbrev pub sunk : ℕ → tree.Head ℕ → tree.Head ℕ
+sunk k (tree.index i) = tree.index (i + k)
+sunk k h = h
+
+-- what is kept are terms of the store
+abbrev pub KeepsTerms : Contents → Memo → Type 0
+KeepsTerms store memo = (t r : TermId) (depth : ℕ) → answer_of memo t depth ≡ Some r → Holds store t × Holds store r
+
+-- the second term is the first, where a binder is put in whose name is this one
+abbrev pub IsClosing : Table → Contents → Head → TermId → ℕ → TermId → Type 0
+IsClosing types store name t at r = tree_of types store r ≡ close at (sunk at (head_reading types store name)) (tree_of types store t)
+
+-- each answer that is kept is right
+abbrev pub Remembers : Table → Contents → Head → Memo → Type 0
+Remembers types store name memo = (t r : TermId) (depth : ℕ) → answer_of memo t depth ≡ Some r → IsClosing types store name t depth r

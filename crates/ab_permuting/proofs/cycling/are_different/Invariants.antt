@@ -1,6 +1,0 @@
-use Rattle.std.proofs.Common.{ℕ, ◌<◌}
-use Rattle.ab_permuting.specs.Standing.{StandsAgain}
-use Rattle.ab_permuting.proofs.cycling.are_different.Given as goal
-
-abbrev pub invariant-loop-place : goal.invariant-loop-place
-invariant-loop-place l = (k : ℕ) → k < l.place → StandsAgain l.numbers k → ⊥

@@ -1,7 +1,0 @@
-use Rattle.std.proofs.Common.{map, take}
-use Rattle.ab_norm.specs.Nominals.{nominal_of}
-use Rattle.ab_permuting.specs.Standing.{IsStanding}
-use Rattle.ab_permuting.proofs.standing.standing_under.Given as goal
-
-abbrev pub invariant-loop-constant : goal.invariant-loop-constant
-invariant-loop-constant l = IsStanding l.world.types l.numbers (map (nominal_of l.world.types) (take l.constant-index l.constant-items)) l.standing

@@ -1,5 +1,0 @@
-use Rattle.std.proofs.Common.{length}
-use Rattle.ab_print.proofs.choosing.+stem.Given as goal
-
-abbrev pub decreases-stem : goal.decreases-stem
-decreases-stem l = length l.name.now

@@ -1,5 +1,0 @@
-use Rattle.ab_progress.proofs.Following.{nothing_left}
-use Rattle.ab_progress.proofs.laws.nothing_is_left_of_steps_taken_back.Goals as goal
-
-pub returns : goal.returns
-returns c w v p q f same = nothing_left w v p q f same

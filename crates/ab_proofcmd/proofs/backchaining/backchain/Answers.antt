@@ -1,0 +1,65 @@
+use Rattle.std.specs.Prelude.{Err, ◌≡◌, map}
+use Rattle.std.proofs.Common.{refl, sym, ◌∙◌, ap, subst}
+use Rattle.ab_grammar.specs.CommandTrees as told
+use Rattle.ab_syntax.specs.Commands.{instance_of}
+use Rattle.ab_logic.specs.SequentReadings.{sequent_of}
+use Rattle.ab_steps.specs.ab_kernel.proofs.Later.{same_history, still_proof}
+use Rattle.ab_steps.specs.ProofEffects.{IsRefused}
+use Rattle.ab_steps.proofs.Following.{follows_on}
+use Rattle.ab_proofcmd.proofs.Given.{same_fault}
+use Rattle.ab_proofcmd.proofs.Carried.{first_sequent, same_goals, follows_world, refused_at, on_err, backchain_done}
+use Rattle.ab_proofcmd.proofs.backchaining.backchain.Goals as goal
+
+pub ask-requires-clause-sequent : goal.ask-requires-clause-sequent
+ask-requires-clause-sequent g c =
+    let w = c.args.world.now in
+    first_sequent w c.requires.world c.args.proof.now c.requires.proof c.requires.open (sequent_of w c.first_goal-goal.result.now) c.first_goal-goal.ensures.reads
+
+pub returns-in_err-asked-clause-follows : goal.returns-in_err-asked-clause-follows
+returns-in_err-asked-clause-follows g c = follows_world c.args.world.now c.ask.new.world c.args.proof.now c.ask.ensures.grows c.ask.ensures.declared c.requires.proof
+
+pub returns-in_err-asked-clause-refused : goal.returns-in_err-asked-clause-refused
+returns-in_err-asked-clause-refused g c fault same l =
+    let w = c.args.world.now in
+    let cause = c.in_err-asked.field-0.0 in
+    let command = told.backchain c.args.name.now (map instance_of c.args.given.now) in
+    subst (IsRefused l command w c.args.proof.now) (same_fault c.from_residual.result cause fault c.from_residual.ensures.1 same)
+    (refused_at w c.args.proof.now (sequent_of w c.first_goal-goal.result.now) c.first_goal-goal.ensures.reads l command cause (c.in_err-asked.ensures.refused cause refl l))
+
+pub show-requires-clause-proof : goal.show-requires-clause-proof
+show-requires-clause-proof g c = still_proof c.args.world.now c.ask.new.world c.ask.ensures.grows c.args.proof.now c.requires.proof
+
+pub show-requires-clause-formula : goal.show-requires-clause-formula
+show-requires-clause-formula g c = c.in_ok-asked.ensures.asked.0.formula
+
+pub show-requires-clause-stages : goal.show-requires-clause-stages
+show-requires-clause-stages g c = c.in_ok-asked.ensures.asked.0.found.stages
+
+pub show-requires-clause-awaited : goal.show-requires-clause-awaited
+show-requires-clause-awaited g c = c.in_ok-asked.ensures.asked.0.found.awaited
+
+pub returns-in-Ok-clause-follows : goal.returns-in-Ok-clause-follows
+returns-in-Ok-clause-follows g c =
+    follows_on _ _ _ _ _ _ (follows_world c.args.world.now c.ask.new.world c.args.proof.now c.ask.ensures.grows c.ask.ensures.declared c.requires.proof) c.show.ensures.follows
+
+pub returns-in-Ok-clause-applied : goal.returns-in-Ok-clause-applied
+returns-in-Ok-clause-applied g c =
+    let w = c.args.world.now in
+    let m = c.ask.new.world in
+    let p = c.args.proof.now in
+    backchain_done w m p c.first_goal-goal.result.now (same_goals w m p c.ask.ensures.grows c.requires.proof) c.ask.ensures.declared c.first_goal-goal.ensures.reads c.in_ok-asked.asked
+    c.args.name.now (map instance_of c.args.given.now) c.in_ok-asked.ensures.asked c.show.new.world c.show.new.proof c.in-Ok.ensures.shows
+
+pub returns-clause-follows : goal.returns-clause-follows
+returns-clause-follows g c =
+    follows_on _ _ _ _ _ _ (follows_world c.args.world.now c.ask.new.world c.args.proof.now c.ask.ensures.grows c.ask.ensures.declared c.requires.proof)
+    (c.take_back.ensures.follows c.ask.new.world c.args.proof.now c.show.ensures.follows (c.steps-count.ensures c.ask.new.world))
+
+pub returns-clause-unchanged : goal.returns-clause-unchanged
+returns-clause-unchanged g c =
+    c.take_back.ensures.unchanged c.ask.new.world c.args.proof.now c.show.ensures.follows (c.steps-count.ensures c.ask.new.world)
+    ∙ same_history c.args.world.now c.ask.new.world c.ask.ensures.grows c.args.proof.now c.requires.proof
+
+pub returns-in_err-asked-clause-unchanged : goal.returns-in_err-asked-clause-unchanged
+returns-in_err-asked-clause-unchanged g c =
+    on_err c.from_residual.result (same_history c.args.world.now c.ask.new.world c.ask.ensures.grows c.args.proof.now c.requires.proof)

@@ -1,0 +1,11 @@
+use Rattle.std.specs.Prelude.{Ok}
+use Rattle.std.proofs.Common.{◌≡◌, rules}
+use Rattle.ab_steps.specs.declared.goal_steps.Attempted.TheVariants.{Taken}
+use Rattle.ab_steps.specs.ab_kernel.specs.RuleAnswers.{step_of}
+use Rattle.ab_proofcmd.proofs.Places.{gives_so}
+use Rattle.ab_proofcmd.proofs.many_goals.step_into.Goals as goal
+
+pub returns-then-premises-count-clause-gives : goal.returns-then-premises-count-clause-gives
+returns-then-premises-count-clause-gives g c =
+    let taken : c.attempt_solving.result ≡ Ok (Taken c.args.count) = search rules in
+    gives_so c.args.world.now c.attempt_solving.new.world c.args.proof.now c.attempt_solving.new.proof c.args.place c.args.count (step_of c.args.world.now c.args.step) (c.attempt_solving.ensures.took c.args.count taken)

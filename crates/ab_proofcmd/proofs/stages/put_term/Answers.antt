@@ -1,0 +1,15 @@
+use Rattle.ab_steps.proofs.Following.{follows_on}
+use Rattle.ab_proofcmd.proofs.Places.{gives_on}
+use Rattle.ab_proofcmd.proofs.stages.put_term.Goals as goal
+
+pub returns-in_err-step_into-2-clause-follows : goal.returns-in_err-step_into-2-clause-follows
+returns-in_err-step_into-2-clause-follows g c = follows_on _ _ _ _ _ _ c.step_into.ensures.follows c.step_into-2.ensures.follows
+
+pub returns-clause-follows : goal.returns-clause-follows
+returns-clause-follows g c = follows_on _ _ _ _ _ _ c.step_into.ensures.follows c.step_into-2.ensures.follows
+
+pub returns-clause-gives : goal.returns-clause-gives
+returns-clause-gives g c =
+    let w = c.args.world.now in
+    let p = c.args.proof.now in
+    gives_on w c.step_into.new.world c.step_into-2.new.world p c.step_into.new.proof c.step_into-2.new.proof c.args.place 0 1 c.in_ok-step_into.ensures.gives c.in_ok-step_into-2.ensures.gives

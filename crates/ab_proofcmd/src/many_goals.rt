@@ -1,0 +1,45 @@
+//! One step that leads to as many goals as are awaited.
+ghost use Rattle.std.specs.Prelude.{OnOk};
+ghost use Rattle.ab_logic.specs.Worlds.{IsWorld};
+ghost use Rattle.ab_steps.specs.ab_kernel.specs.RuleAnswers.{step_of, HoldsStep};
+ghost use Rattle.ab_steps.specs.ab_kernel.specs.Layout.{IsProof};
+ghost use Rattle.ab_steps.specs.Progress.{Follows, TookInto};
+ghost use Rattle.ab_proofcmd.specs.GoalCounts.{Gives};
+
+use ab_logic::World;
+use ab_norm::types::Steps;
+use ab_steps::kernel::{Proof, Step};
+use ab_steps::{Attempted, attempt_solving};
+use std::alloc::AllocError;
+
+/// Takes a step at the goal of this place that leads to so many goals. A place of no goal, and a step that isn't taken or leads
+/// to another number, are want of memory to the command, which takes its steps back then.
+pub fn step_into<L>(
+    world: &mut World,
+    proof: &mut Proof,
+    place: usize,
+    step: Step,
+    count: usize,
+    steps: &mut Steps<L>,
+) -> Result<(), AllocError>
+    requires world { IsWorld world.old }
+    requires proof { IsProof world.old proof.old }
+    requires step { HoldsStep world.old step }
+    ensures follows { Follows world.old proof.old world.new proof.new }
+    ensures took { OnOk result (TookInto world.old proof.old world.new proof.new place (step_of world.old step) count) }
+    ensures gives { OnOk result (Gives world.old proof.old world.new proof.new place count) }
+{
+    if place >= proof.open_goals() {
+        return Err(AllocError);
+    }
+    match attempt_solving(world, proof, place, step, steps)? {
+        Attempted::Taken(premises) => {
+            if premises == count {
+                Ok(())
+            } else {
+                Err(AllocError)
+            }
+        }
+        Attempted::Failed(_) | Attempted::Stuck(_) => Err(AllocError),
+    }
+}

@@ -1,0 +1,128 @@
+//! A proof command is carried out.
+ghost use Rattle.std.specs.Prelude.{◌≡◌, ◌≢◌, ◌↔◌, [], Err, IfOk, OnErr, IsTrue};
+ghost use Rattle.std.specs.Option.{option_copied};
+ghost use Rattle.ab_syntax.specs.Commands.{proof_command_of};
+ghost use Rattle.ab_logic.specs.Worlds.{IsWorld};
+ghost use Rattle.ab_equations.specs.Labels.{label_of};
+ghost use Rattle.ab_steps.specs.ab_kernel.specs.Layout.{history_of, IsProof};
+ghost use Rattle.ab_steps.specs.ProofEffects.{IsApplied, IsRefused};
+ghost use Rattle.ab_steps.specs.Progress.{goals_of, Follows};
+ghost use Rattle.ab_steps.specs.declared.fault.ProofCommandFault.{ProofCommandFault as AFault};
+ghost use Rattle.ab_effects.specs.ProofCommands.{given_label};
+ghost use Rattle.ab_proofcmd.specs.SupportedCommands.{IsBuilt};
+
+use crate::application::apply;
+use crate::assertions::assert;
+use crate::backchaining::backchain;
+use crate::judgements::terms_hold_judgement;
+use crate::witnesses::exists;
+use ab_conclusion::{coinduction, induction, intros, left, right, split, split_all, unfold};
+use ab_equations::Label;
+use ab_hypothesis::{case, clear, permute, rename};
+use ab_infer::holds_judgement;
+use ab_logic::World;
+use ab_norm::name::Name;
+use ab_norm::types::Steps;
+use ab_steps::ProofCommandFault;
+use ab_steps::kernel::Proof;
+use ab_syntax::ProofCommand;
+use std::alloc::{AllocError, Global};
+
+/// Whether the command is built. What isn't may not be carried out.
+pub fn is_built(command: &ProofCommand) -> bool
+    ensures { IsTrue result ↔ IsBuilt (proof_command_of command.now) }
+{
+    match command {
+        ProofCommand::Intros(_)
+        | ProofCommand::Coinduction
+        | ProofCommand::Case(_, _)
+        | ProofCommand::Split
+        | ProofCommand::SplitAll
+        | ProofCommand::Left
+        | ProofCommand::Right
+        | ProofCommand::Unfold
+        | ProofCommand::Clear(_)
+        | ProofCommand::Rename(_, _)
+        | ProofCommand::Permute(_, _) => true,
+        ProofCommand::Induction(places) => places.as_slice().len() == 1,
+        ProofCommand::Exists(term) => !holds_judgement(term),
+        ProofCommand::Assert(formula) => !holds_judgement(formula),
+        ProofCommand::Apply(_, _, given) | ProofCommand::Backchain(_, given) => {
+            !terms_hold_judgement(given.as_slice())
+        }
+        ProofCommand::Cut(_, _)
+        | ProofCommand::Inst(_, _)
+        | ProofCommand::Monotone(_, _)
+        | ProofCommand::Search(_)
+        | ProofCommand::Skip => false,
+    }
+}
+
+/// How the first new hypothesis is named.
+fn label_wanted(alloc: Global, label: Option<&Name>) -> Result<Label, AllocError>
+    ensures { IfOk result (λ wanted. label_of wanted ≡ given_label (option_copied label.entry)) }
+{
+    match label {
+        Some(name) => Ok(Label::Given(name.copy(alloc)?)),
+        None => Ok(Label::Auto),
+    }
+}
+
+/// Carries out a proof command at the first open goal, with the label before it. The premises of the command's row take
+/// that goal's place. What is refused leaves the proof as it was.
+pub fn apply_proof_command<L>(
+    alloc: Global,
+    world: &mut World,
+    proof: &mut Proof,
+    label: Option<&Name>,
+    command: &ProofCommand,
+    steps: &mut Steps<L>,
+) -> Result<(), ProofCommandFault>
+    requires world { IsWorld world.old }
+    requires proof { IsProof world.old proof.old }
+    requires open { goals_of world.old proof.old ≢ [] }
+    requires built { IsBuilt (proof_command_of command.now) }
+    ensures follows { Follows world.old proof.old world.new proof.new }
+    ensures applied { IfOk result (λ u. IsApplied (given_label (option_copied label.entry)) (proof_command_of command.now) world.old proof.old world.new proof.new) }
+    ensures refused { (fault : AFault) → result ≡ Err fault →
+        IsRefused (given_label (option_copied label.entry)) (proof_command_of command.now) world.old proof.old fault }
+    ensures unchanged { OnErr result (history_of world.new proof.new ≡ history_of world.old proof.old) }
+{
+    let wanted = label_wanted(alloc, label)?;
+    match command {
+        ProofCommand::Intros(names) => intros(alloc, world, proof, names.as_slice(), steps),
+        ProofCommand::Induction(places) => {
+            induction(alloc, world, proof, &wanted, places.as_slice()[0], steps)
+        }
+        ProofCommand::Coinduction => coinduction(alloc, world, proof, &wanted, steps),
+        ProofCommand::Case(name, keep) => case(alloc, world, proof, &wanted, name, *keep, steps),
+        ProofCommand::Split => split(world, proof, steps),
+        ProofCommand::SplitAll => split_all(world, proof, steps),
+        ProofCommand::Left => left(world, proof, steps),
+        ProofCommand::Right => right(world, proof, steps),
+        ProofCommand::Unfold => unfold(alloc, world, proof, steps),
+        ProofCommand::Exists(term) => exists(alloc, world, proof, term, steps),
+        ProofCommand::Assert(formula) => assert(alloc, world, proof, &wanted, formula, steps),
+        ProofCommand::Clear(names) => clear(alloc, world, proof, names.as_slice(), steps),
+        ProofCommand::Rename(name, to) => rename(alloc, world, proof, name, to, steps),
+        ProofCommand::Apply(name, arguments, given) => {
+            let list = arguments.as_slice();
+            let terms = given.as_slice();
+            apply(alloc, world, proof, &wanted, name, list, terms, steps)
+        }
+        ProofCommand::Backchain(name, given) => {
+            backchain(alloc, world, proof, name, given.as_slice(), steps)
+        }
+        ProofCommand::Permute(numbers, name) => {
+            permute(
+                alloc,
+                world,
+                proof,
+                numbers.as_slice(),
+                name.as_ref(),
+                steps,
+            )
+        }
+        _ => unreachable!(),
+    }
+}

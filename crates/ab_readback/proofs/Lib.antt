@@ -1,3 +1,0 @@
-pub mod Resolving
-pub mod Splitting
-pub mod Legible

@@ -1,5 +1,0 @@
-use Rattle.ab_readback.proofs.Resolving.{resolves_closed}
-use Rattle.ab_readback.proofs.names_resolve.Goals as goal
-
-pub returns : goal.returns
-returns g c = λ name sg A t d small. resolves_closed name sg A t d small

@@ -1,9 +1,0 @@
-use Rattle.ab_progress.specs.Progress.{goals_of}
-use Rattle.ab_right.proofs.Introduces.{Way, left_to_do}
-use Rattle.ab_right.proofs.introducing.introduce.Given as goal
-
-abbrev pub invariant-taking : goal.invariant-taking
-invariant-taking g l = Way l.names l.fn.world l.fn.proof l.world l.proof l.given
-
-abbrev pub decreases-taking : goal.decreases-taking
-decreases-taking g l = left_to_do (goals_of l.world l.proof)

@@ -1,4 +1,0 @@
-//! What proof commands do to a goal is one thing: laws of their rows.
-#![tactic(auto)]
-
-pub mod laws;

@@ -1,4 +1,0 @@
-pub mod Heads
-pub mod Standing
-pub mod Resolving
-pub mod Makings

@@ -1,0 +1,6 @@
+pub mod Standings
+pub mod Erased
+pub mod Parts
+pub mod MarkedAtoms
+pub mod Counts
+pub mod Looks

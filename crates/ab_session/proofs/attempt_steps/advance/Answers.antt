@@ -1,0 +1,34 @@
+use Rattle.std.proofs.Common.{◌≡◌, is_some, ap}
+use Rattle.std.specs.Option.{option_copied}
+use Rattle.ab_syntax.specs.Commands.{proof_command_of}
+use Rattle.ab_effects.specs.ProofCommands.{given_label}
+use Rattle.ab_steps.specs.ab_kernel.specs.Layout.{history_of}
+use Rattle.ab_steps.proofs.Following.{nothing_left}
+use Rattle.ab_session.specs.ProofAttempts.{IsDenied}
+use Rattle.ab_session.proofs.Carried.{has_more, at_some, completed, refused_so}
+use Rattle.ab_session.proofs.attempt_steps.advance.Goals as goal
+
+pub cut_back-requires : goal.cut_back-requires
+cut_back-requires g c =
+    (c.args.world.now, c.requires.world, c.of-moment.ensures, has_more c.args.world.now c.carry_out.new.world c.args.attempt.now.proof c.carry_out.new.proof c.carry_out.ensures.follows)
+
+pub returns-in-Some-clause-advanced : goal.returns-in-Some-clause-advanced
+returns-in-Some-clause-advanced g c =
+    let w = c.args.world.now in
+    let v = c.carry_out.new.world in
+    let p = c.args.attempt.now.proof in
+    let q = c.carry_out.new.proof in
+    let l = given_label (option_copied c.args.label) in
+    let told = proof_command_of c.args.command.now in
+    refused_so l told w c.cut_back.new.world c.args.attempt.now q c.in-Some.refusal c.requires.world c.requires.attempt
+    (at_some (IsDenied l told w p) c.in_ok-refused.refused c.in-Some.refusal c.in-Some.is c.in_ok-refused.ensures.denied)
+    (c.cut_back.ensures w c.requires.world c.of-moment.ensures (has_more w v p q c.carry_out.ensures.follows))
+    (nothing_left w v p q c.carry_out.ensures.follows (at_some (λ r. history_of v q ≡ history_of w p) c.in_ok-refused.refused c.in-Some.refusal c.in-Some.is c.in_ok-refused.ensures.same))
+
+pub returns-in-Ok-clause-advanced : goal.returns-in-Ok-clause-advanced
+returns-in-Ok-clause-advanced g c =
+    let w = c.args.world.now in
+    let v = c.carry_out.new.world in
+    completed w v c.args.attempt.now c.carry_out.new.proof c.requires.attempt c.carry_out.ensures.follows c.add_theorem.new.world
+    (given_label (option_copied c.args.label)) (proof_command_of c.args.command.now) (c.in_ok-refused.ensures.made (ap is_some c.in_default.is))
+    ((c.is_closed.ensures.closed v).0 c.if-not-is_closed.false) c.in-Ok.ensures.grows c.in-Ok.ensures.added

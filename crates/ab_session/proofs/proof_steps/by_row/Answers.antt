@@ -1,0 +1,10 @@
+use Rattle.std.specs.Option.{option_copied}
+use Rattle.ab_syntax.specs.Commands.{proof_command_of}
+use Rattle.ab_effects.specs.ProofCommands.{given_label}
+use Rattle.ab_session.proofs.Carried.{denied_by_row}
+use Rattle.ab_session.proofs.proof_steps.by_row.Goals as goal
+
+pub returns-in_ok-told-in-Err-clause-denied : goal.returns-in_ok-told-in-Err-clause-denied
+returns-in_ok-told-in-Err-clause-denied g c =
+    denied_by_row (given_label (option_copied c.args.label)) (proof_command_of c.args.command.now) c.args.world.now c.args.proof.now c.in-Err.fault _ c.requires.built
+    (c.apply_proof_command.ensures.refused c.in-Err.fault c.in-Err.is) c.in_ok-told-in-Err.ensures

@@ -1,4 +1,0 @@
-use Rattle.ab_sizing.proofs.marking.+mark_antecedent.Given as goal
-
-abbrev pub decreases-mark_antecedent : goal.decreases-mark_antecedent
-decreases-mark_antecedent l = l.place

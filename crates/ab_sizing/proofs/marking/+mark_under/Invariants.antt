@@ -1,4 +1,0 @@
-use Rattle.ab_sizing.proofs.marking.+mark_under.Given as goal
-
-abbrev pub decreases-mark_under : goal.decreases-mark_under
-decreases-mark_under l = l.id.0

@@ -1,4 +1,0 @@
-use Rattle.ab_sizing.proofs.places.+antecedent.Given as goal
-
-abbrev pub decreases-antecedent : goal.decreases-antecedent
-decreases-antecedent l = l.place

@@ -1,4 +1,0 @@
-use Rattle.ab_sizing.proofs.places.+consequent.Given as goal
-
-abbrev pub decreases-consequent : goal.decreases-consequent
-decreases-consequent l = l.id.0

@@ -1,4 +1,0 @@
-use Rattle.ab_sizing.proofs.places.+matrix.Given as goal
-
-abbrev pub decreases-matrix : goal.decreases-matrix
-decreases-matrix l = l.id.0

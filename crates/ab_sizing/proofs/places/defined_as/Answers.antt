@@ -1,8 +1,0 @@
-use Rattle.std.proofs.Common.{subst}
-use Rattle.ab_marks.specs.ab_store.specs.Naming.{NodeIsTyped, HeadIsTyped}
-use Rattle.ab_sizing.proofs.places.defined_as.Goals as goal
-
-pub block-requires-clause-predicate : goal.block-requires-clause-predicate
-block-requires-clause-predicate c =
-    let types = c.args.world.now.types in
-    subst (HeadIsTyped types) c.in-Const.is (subst (NodeIsTyped types) c.in-Spine.is (c.view.ensures.typed types c.requires.world.typed))

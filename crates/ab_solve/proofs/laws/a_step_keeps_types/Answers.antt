@@ -1,5 +1,0 @@
-use Rattle.ab_solve.proofs.Problems.{step_typed}
-use Rattle.ab_solve.proofs.laws.a_step_keeps_types.Goals as goal
-
-pub returns : goal.returns
-returns g c = λ sg x s r p e. step_typed sg x s r p e

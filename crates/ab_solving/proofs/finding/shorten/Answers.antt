@@ -1,5 +1,0 @@
-use Rattle.ab_solving.proofs.Joining.{shortened_same}
-use Rattle.ab_solving.proofs.finding.shorten.Goals as goal
-
-pub returns-in-Link-clause-same : goal.returns-in-Link-clause-same
-returns-in-Link-clause-same c = shortened_same c.args.shapes.now c.args.here c.args.next c.in-Link.after c.requires.formed c.requires.here_in c.requires.links c.in-Link.is

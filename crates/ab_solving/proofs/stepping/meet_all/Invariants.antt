@@ -1,5 +1,0 @@
-use Rattle.ab_solving.proofs.Pushing.{MetSoFar}
-use Rattle.ab_solving.proofs.stepping.meet_all.Given as goal
-
-abbrev pub invariant-loop-one : goal.invariant-loop-one
-invariant-loop-one l = MetSoFar l.types l.fn.shapes l.shapes l.wanted l.one-index

@@ -1,5 +1,0 @@
-use Rattle.std.proofs.Common.{length}
-use Rattle.ab_staging.proofs.awaiting.+await_all.Given as goal
-
-abbrev pub decreases-await_all : goal.decreases-await_all
-decreases-await_all g l = length l.formulas.now

@@ -1,5 +1,0 @@
-use Rattle.std.proofs.Common.{length}
-use Rattle.ab_staging.proofs.turning.+given_that.Given as goal
-
-abbrev pub decreases-given_that : goal.decreases-given_that
-decreases-given_that l = length l.given.now

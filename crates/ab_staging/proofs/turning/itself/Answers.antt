@@ -1,5 +1,0 @@
-use Rattle.ab_matching.specs.ab_logic.proofs.Growing.{grows_store}
-use Rattle.ab_staging.proofs.turning.itself.Goals as goal
-
-pub returns-clause-grows : goal.returns-clause-grows
-returns-clause-grows c = grows_store _ _ _ _ c.requires.world c.spine.ensures.before (c.spine.ensures.typed _ c.requires.world.typed c.requires.ty)

@@ -1,5 +1,0 @@
-use Rattle.ab_term.proofs.Compositions.{image-instance}
-use Rattle.ab_term.proofs.replacing.image_goes_through_instance.Goals as goal
-
-pub returns : goal.returns
-returns g c = λ sg same s typed G A B t u d e. image-instance sg same s typed d e

@@ -1,5 +1,0 @@
-use Rattle.ab_term.proofs.ImageTranslations.{translate-image}
-use Rattle.ab_term.proofs.translating.translation_goes_through_images.Goals as goal
-
-pub returns : goal.returns
-returns g c = λ f h same same_new agree s t. translate-image f h same same_new agree s t

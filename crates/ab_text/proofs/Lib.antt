@@ -1,5 +1,0 @@
-pub mod Texts
-pub mod Membership
-pub mod FreeNames
-pub mod Scoping
-pub mod Formed

@@ -1,5 +1,0 @@
-use Rattle.ab_totality.proofs.Both.{type_answer}
-use Rattle.ab_totality.proofs.an_answer_for_a_type.Goals as goal
-
-pub returns : goal.returns
-returns c = type_answer

@@ -1,5 +1,0 @@
-use Rattle.ab_totality.proofs.Both.{expression_answer}
-use Rattle.ab_totality.proofs.an_answer_for_an_expression.Goals as goal
-
-pub returns : goal.returns
-returns c = expression_answer

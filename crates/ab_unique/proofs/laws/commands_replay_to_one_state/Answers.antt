@@ -1,5 +1,0 @@
-use Rattle.ab_unique.proofs.Effects.{one_replay}
-use Rattle.ab_unique.proofs.laws.commands_replay_to_one_state.Goals as goal
-
-pub returns : goal.returns
-returns c = λ s t u commands sound a b. one_replay sound a b

@@ -1,2 +1,0 @@
--- What is true of all that a session declares, and of its states.
-pub mod Sound

@@ -1,0 +1,13 @@
+//! What is taken off a formula, with what was put there.
+use ab_norm::store::TermId;
+
+/// What is taken off the formula, one after another.
+#[derive(Drop)]
+pub enum Stage {
+    /// A `forall`, with the term that is put for its name.
+    Instance(TermId),
+    /// A `nabla`: with the constant that is put for its name, the rest is this formula.
+    Chosen(TermId),
+    /// An antecedent.
+    Antecedent,
+}
