@@ -49,7 +49,7 @@ pub list_terms : (xs : List Term) → list_of (terms_of xs) ≡ xs
 list_terms [] = refl
 list_terms (x ∷ xs) = ap (λ q. x ∷ q) (list_terms xs)
 
-flat_terms : (xs : List Term) → terms_pieces (terms_of xs) ≡ flat_map term_pieces xs
+pub flat_terms : (xs : List Term) → terms_pieces (terms_of xs) ≡ flat_map term_pieces xs
 flat_terms [] = refl
 flat_terms (x ∷ xs) = ap (λ q. term_pieces x ++ q) (flat_terms xs)
 

@@ -23,10 +23,10 @@ use Rattle.ab_cert.proofs.Samples.{some_words}
 abbrev pub CertWord : List ℕ → Type 0
 CertWord word = (items : List Item) × IsText word items
 
-pub record IsLeft (bytes : List ℕ) (at : ℕ) (todo : List Part) : Type 0 where
+pub record IsLeft (bytes : List ℕ) (at : ℕ) (pending : List Part) : Type 0 where
   pub within : at ≤ length bytes
-  pub onto : (w : List ℕ) → Words todo w → CertWord (take at bytes ++ w)
-  pub back : (w : List ℕ) → CertWord (take at bytes ++ w) → Words todo w
+  pub onto : (w : List ℕ) → Words pending w → CertWord (take at bytes ++ w)
+  pub back : (w : List ℕ) → CertWord (take at bytes ++ w) → Words pending w
 
 -- the whole
 
@@ -109,9 +109,9 @@ end_ends_by : (t : Bool) → is_plain (if t then line_feed else space) ≡ false
 end_ends_by true = refl
 end_ends_by false = refl
 
-pub end_ends : (todo : List Part) → is_plain (end_of todo) ≡ false
+pub end_ends : (pending : List Part) → is_plain (end_of pending) ≡ false
 end_ends [] = refl
-end_ends (s ∷ todo) = end_ends_by (starts_line s)
+end_ends (s ∷ pending) = end_ends_by (starts_line s)
 
 true_false : (b : Bool) → b ≡ true → b ≡ false → ⊥
 true_false true e f = cc
@@ -122,7 +122,7 @@ same_some a b e = cc
 
 -- ONE PIECE
 
-module _ (bytes : List ℕ) (at to : ℕ) (s : Part) (todo : List Part) (kids : Option (List Part)) (left : IsLeft bytes at (s ∷ todo)) (scan : IsScan (lead_of s) bytes at to kids) where
+module _ (bytes : List ℕ) (at to : ℕ) (s : Part) (pending : List Part) (kids : Option (List Part)) (left : IsLeft bytes at (s ∷ pending)) (scan : IsScan (lead_of s) bytes at to kids) where
   abbrev piece : List ℕ
   piece = span bytes at to
 
@@ -136,60 +136,60 @@ module _ (bytes : List ℕ) (at to : ℕ) (s : Part) (todo : List Part) (kids : 
   piece_clean : is_clean piece ≡ true
   piece_clean = clean_front piece scan.rest (lead_clean s (piece ++ scan.rest) scan.after scan.front)
 
-  not_inside : (p : List ℕ) (ks : List Part) (y : List ℕ) → piece ≡ p ++ end_of (ks ++ todo) ∷ y → ⊥
-  not_inside p ks y e = true_false (is_plain (end_of (ks ++ todo))) (clean_byte p (end_of (ks ++ todo)) y (sym (ap is_clean e) ∙ piece_clean)) (end_ends (ks ++ todo))
+  not_inside : (p : List ℕ) (ks : List Part) (y : List ℕ) → piece ≡ p ++ end_of (ks ++ pending) ∷ y → ⊥
+  not_inside p ks y e = true_false (is_plain (end_of (ks ++ pending))) (clean_byte p (end_of (ks ++ pending)) y (sym (ap is_clean e) ∙ piece_clean)) (end_ends (ks ++ pending))
 
-  module _ (ks : List Part) (k : kids ≡ Some ks) (led : is_led (drop to bytes) (end_of (ks ++ todo)) ≡ true) where
-    end_there : drop to bytes ≡ end_of (ks ++ todo) ∷ drop (to + 1) bytes
+  module _ (ks : List Part) (k : kids ≡ Some ks) (led : is_led (drop to bytes) (end_of (ks ++ pending)) ≡ true) where
+    end_there : drop to bytes ≡ end_of (ks ++ pending) ∷ drop (to + 1) bytes
     end_there =
-        let l = led_within bytes to (end_of (ks ++ todo)) led in
-        let there = led_there (drop to bytes) (end_of (ks ++ todo)) led in
+        let l = led_within bytes to (end_of (ks ++ pending)) led in
+        let there = led_there (drop to bytes) (end_of (ks ++ pending)) led in
         let here = drop_more bytes to 0 l in
-        let f : end_of (ks ++ todo) ∷ there.0 ≡ get_or bytes to 0 ∷ drop (to + 1) bytes = sym there.1 ∙ here in
+        let f : end_of (ks ++ pending) ∷ there.0 ≡ get_or bytes to 0 ∷ drop (to + 1) bytes = sym there.1 ∙ here in
         let same : there.0 ≡ drop (to + 1) bytes = cc in
-        there.1 ∙ ap (λ q. end_of (ks ++ todo) ∷ q) same
+        there.1 ∙ ap (λ q. end_of (ks ++ pending) ∷ q) same
 
-    taken_more : (w : List ℕ) → take (to + 1) bytes ++ w ≡ take at bytes ++ (piece ++ end_of (ks ++ todo) ∷ w)
+    taken_more : (w : List ℕ) → take (to + 1) bytes ++ w ≡ take at bytes ++ (piece ++ end_of (ks ++ pending) ∷ w)
     taken_more w =
-        let e = end_of (ks ++ todo) in
+        let e = end_of (ks ++ pending) in
         let split : take (to + 1) bytes ≡ take to bytes ++ e ∷ [] = append_cancel_right (take (to + 1) bytes) (take to bytes ++ e ∷ []) (drop (to + 1) bytes)
         (take-append-drop (to + 1) bytes ∙ (sym (take-append-drop to bytes) ∙ (ap (λ q. take to bytes ++ q) end_there ∙ sym (append_assoc (take to bytes) (e ∷ []) (drop (to + 1) bytes))))) in
         ap (λ q. q ++ w) split ∙ (append_assoc (take to bytes) (e ∷ []) w ∙ (ap (λ q. q ++ e ∷ w) taken ∙ append_assoc (take at bytes) piece (e ∷ w)))
 
-    back_on : (w : List ℕ) → Words (s ∷ todo) (piece ++ end_of (ks ++ todo) ∷ w) → Words (ks ++ todo) w
+    back_on : (w : List ℕ) → Words (s ∷ pending) (piece ++ end_of (ks ++ pending) ∷ w) → Words (ks ++ pending) w
     back_on w m =
-        let o = open_part s todo (piece ++ end_of (ks ++ todo) ∷ w) m in
-        elim (meet o.piece piece (end_of (o.kids ++ todo)) (end_of (ks ++ todo)) o.rest w (sym o.spelled)) [
+        let o = open_part s pending (piece ++ end_of (ks ++ pending) ∷ w) m in
+        elim (meet o.piece piece (end_of (o.kids ++ pending)) (end_of (ks ++ pending)) o.rest w (sym o.spelled)) [
           | inl i ↦
               let kid : ks ≡ o.kids = same_some ks o.kids (sym k ∙ scan.whole o.kids (subst (λ q. IsLead (lead_of s) q o.kids) i.0 o.lead)) in
-              let f : piece ++ (end_of (ks ++ todo) ∷ w) ≡ piece ++ (end_of (o.kids ++ todo) ∷ o.rest) = o.spelled ∙ ap (λ q. q ++ end_of (o.kids ++ todo) ∷ o.rest) i.0 in
-              let g : end_of (ks ++ todo) ∷ w ≡ end_of (o.kids ++ todo) ∷ o.rest = append_cancel_left piece (end_of (ks ++ todo) ∷ w) (end_of (o.kids ++ todo) ∷ o.rest) f in
+              let f : piece ++ (end_of (ks ++ pending) ∷ w) ≡ piece ++ (end_of (o.kids ++ pending) ∷ o.rest) = o.spelled ∙ ap (λ q. q ++ end_of (o.kids ++ pending) ∷ o.rest) i.0 in
+              let g : end_of (ks ++ pending) ∷ w ≡ end_of (o.kids ++ pending) ∷ o.rest = append_cancel_left piece (end_of (ks ++ pending) ∷ w) (end_of (o.kids ++ pending) ∷ o.rest) f in
               let rest : o.rest ≡ w = cc in
-              subst (λ q. Words (q ++ todo) w) (sym kid) (subst (λ q. Words (o.kids ++ todo) q) rest o.more)
+              subst (λ q. Words (q ++ pending) w) (sym kid) (subst (λ q. Words (o.kids ++ pending) q) rest o.more)
           | inr r ↦ elim r [
             | inl i ↦ absurd (not_inside o.piece o.kids i.0 i.1)
-            | inr i ↦ absurd (true_false (is_plain (end_of (ks ++ todo))) (clean_byte piece (end_of (ks ++ todo)) i.0 (sym (ap is_clean i.1) ∙ lead_clean s o.piece o.kids o.lead)) (end_ends (ks ++ todo)))
+            | inr i ↦ absurd (true_false (is_plain (end_of (ks ++ pending))) (clean_byte piece (end_of (ks ++ pending)) i.0 (sym (ap is_clean i.1) ∙ lead_clean s o.piece o.kids o.lead)) (end_ends (ks ++ pending)))
           ]
         ]
 
-    pub left_next : IsLeft bytes (to + 1) (ks ++ todo)
+    pub left_next : IsLeft bytes (to + 1) (ks ++ pending)
     left_next =
-        let l = led_within bytes to (end_of (ks ++ todo)) led in
+        let l = led_within bytes to (end_of (ks ++ pending)) led in
         record {
           within = omega (arith, l);
-          onto = λ w m. subst CertWord (sym (taken_more w)) (left.onto (piece ++ end_of (ks ++ todo) ∷ w) (close_part s todo piece ks (scan.known ks k) w m));
-          back = λ w h. back_on w (left.back (piece ++ end_of (ks ++ todo) ∷ w) (subst CertWord (taken_more w) h));
+          onto = λ w m. subst CertWord (sym (taken_more w)) (left.onto (piece ++ end_of (ks ++ pending) ∷ w) (close_part s pending piece ks (scan.known ks k) w m));
+          back = λ w h. back_on w (left.back (piece ++ end_of (ks ++ pending) ∷ w) (subst CertWord (taken_more w) h));
         }
 
-  module _ (stops : (ks : List Part) → kids ≡ Some ks → is_led (drop to bytes) (end_of (ks ++ todo)) ≡ false) where
+  module _ (stops : (ks : List Part) → kids ≡ Some ks → is_led (drop to bytes) (end_of (ks ++ pending)) ≡ false) where
     -- nothing is read by the next byte
-    stop_by : (b : ℕ) (back : List ℕ) → drop to bytes ≡ b ∷ back → (w : List ℕ) → Words (s ∷ todo) (piece ++ b ∷ w) → ⊥
+    stop_by : (b : ℕ) (back : List ℕ) → drop to bytes ≡ b ∷ back → (w : List ℕ) → Words (s ∷ pending) (piece ++ b ∷ w) → ⊥
     stop_by b back e w m =
-        let o = open_part s todo (piece ++ b ∷ w) m in
-        elim (meet o.piece piece (end_of (o.kids ++ todo)) b o.rest w (sym o.spelled)) [
+        let o = open_part s pending (piece ++ b ∷ w) m in
+        elim (meet o.piece piece (end_of (o.kids ++ pending)) b o.rest w (sym o.spelled)) [
           | inl i ↦
               let f = stops o.kids (scan.whole o.kids (subst (λ q. IsLead (lead_of s) q o.kids) i.0 o.lead)) in
-              true_false (b == end_of (o.kids ++ todo)) (eq-eqb b (end_of (o.kids ++ todo)) (sym i.1)) (sym (ap (λ q. is_led q (end_of (o.kids ++ todo))) e) ∙ f)
+              true_false (b == end_of (o.kids ++ pending)) (eq-eqb b (end_of (o.kids ++ pending)) (sym i.1)) (sym (ap (λ q. is_led q (end_of (o.kids ++ pending))) e) ∙ f)
           | inr r ↦ elim r [
             | inl i ↦ not_inside o.piece o.kids i.0 i.1
             | inr i ↦ (subst (λ q. IsBlockedBy (lead_of s) piece q) e scan.blocked) i.0 o.kids (subst (λ q. IsLead (lead_of s) q o.kids) i.1 o.lead)
@@ -197,14 +197,14 @@ module _ (bytes : List ℕ) (at to : ℕ) (s : Part) (todo : List Part) (kids : 
         ]
 
     -- nothing is read that ends here
-    stop_end : Words (s ∷ todo) piece → ⊥
-    stop_end m = let o = open_part s todo piece m in not_inside o.piece o.kids o.rest o.spelled
+    stop_end : Words (s ∷ pending) piece → ⊥
+    stop_end m = let o = open_part s pending piece m in not_inside o.piece o.kids o.rest o.spelled
 
     goes_on : GoesOn (take to bytes)
     goes_on =
-        let some = some_words (scan.after ++ todo) in
-        let tail = end_of (scan.after ++ todo) ∷ some.0 in
-        let cert = left.onto ((piece ++ scan.rest) ++ tail) (close_part s todo (piece ++ scan.rest) scan.after scan.front some.0 some.1) in
+        let some = some_words (scan.after ++ pending) in
+        let tail = end_of (scan.after ++ pending) ∷ some.0 in
+        let cert = left.onto ((piece ++ scan.rest) ++ tail) (close_part s pending (piece ++ scan.rest) scan.after scan.front some.0 some.1) in
         let word : take at bytes ++ ((piece ++ scan.rest) ++ tail) ≡ take to bytes ++ (scan.rest ++ tail) =
         ap (λ q. take at bytes ++ q) (append_assoc piece scan.rest tail) ∙ (sym (append_assoc (take at bytes) piece (scan.rest ++ tail)) ∙ ap (λ q. q ++ (scan.rest ++ tail)) (sym taken)) in
         record { more = scan.rest ++ tail; items = cert.0; text = subst (λ q. IsText q cert.0) word cert.1 }
@@ -218,10 +218,10 @@ module _ (bytes : List ℕ) (at to : ℕ) (s : Part) (todo : List Part) (kids : 
 
     none_whole : (items : List Item) → ¬ IsText bytes items
     none_whole items h =
-        let m : Words (s ∷ todo) (drop at bytes) = left.back (drop at bytes) (items, subst (λ q. IsText q items) (sym (take-append-drop at bytes)) h) in
+        let m : Words (s ∷ pending) (drop at bytes) = left.back (drop at bytes) (items, subst (λ q. IsText q items) (sym (take-append-drop at bytes)) h) in
         elim (cases_lt to (length bytes)) [
-          | inl l ↦ stop_by (get_or bytes to 0) (drop (to + 1) bytes) (drop_more bytes to 0 l) (drop (to + 1) bytes) (subst (λ q. Words (s ∷ todo) q) (parts ∙ ap (λ q. piece ++ q) (drop_more bytes to 0 l)) m)
-          | inr l ↦ stop_end (subst (λ q. Words (s ∷ todo) q) (parts ∙ (ap (λ q. piece ++ q) (drop_all to bytes l) ∙ append-nil piece)) m)
+          | inl l ↦ stop_by (get_or bytes to 0) (drop (to + 1) bytes) (drop_more bytes to 0 l) (drop (to + 1) bytes) (subst (λ q. Words (s ∷ pending) q) (parts ∙ ap (λ q. piece ++ q) (drop_more bytes to 0 l)) m)
+          | inr l ↦ stop_end (subst (λ q. Words (s ∷ pending) q) (parts ∙ (ap (λ q. piece ++ q) (drop_all to bytes l) ∙ append-nil piece)) m)
         ]
 
     pub left_stops : IsFirstBad bytes to

@@ -12,7 +12,7 @@ pub mod Opening
 pub mod Samples
 pub mod Left
 pub mod Tries
-pub mod Todos
+pub mod PendingParts
 pub mod StepRows
 pub mod Sound
 pub mod Lookup
@@ -20,3 +20,4 @@ pub mod Shapes
 pub mod Names
 pub mod Counts
 pub mod Examples
+pub mod Writing

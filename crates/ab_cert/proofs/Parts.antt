@@ -113,62 +113,62 @@ plain_text Part.Clauses h end x = cc
 plain_text Part.Proof h end x = cc
 plain_text s h end x = refl
 
-pub inside_end : (s : Part) (todo : List Part) → is_inside s ≡ true → end_of (s ∷ todo) ≡ space
-inside_end s todo h = rw (inside_line s h) refl
+pub inside_end : (s : Part) (pending : List Part) → is_inside s ≡ true → end_of (s ∷ pending) ≡ space
+inside_end s pending h = rw (inside_line s h) refl
 
 -- SEVERAL PARTS INSIDE A LINE, behind some pieces
 
 -- the text of what is read behind some pieces
 abbrev pub Along : List Part → List Part → (cs : List Part) → Vals cs → List ℕ → List ℕ → Type 0
-Along from todo cs vs w rest = (ps : Pieces) → IsSome ps → text_with_end (end_of from) ps ++ w ≡ text_with_end (end_of todo) (ps ++ all_pieces cs vs) ++ rest
+Along from pending cs vs w rest = (ps : Pieces) → IsSome ps → text_with_end (end_of from) ps ++ w ≡ text_with_end (end_of pending) (ps ++ all_pieces cs vs) ++ rest
 
-pub record Gathering (cs todo : List Part) (w : List ℕ) : Type 0 where
+pub record Gathering (cs pending : List Part) (w : List ℕ) : Type 0 where
   pub values : Vals cs
   pub meet : AreVals cs values
   pub rest : List ℕ
-  pub more : Words todo rest
-  pub along : Along (cs ++ todo) todo cs values w rest
+  pub more : Words pending rest
+  pub along : Along (cs ++ pending) pending cs values w rest
 
-pub record Spreading (cs todo : List Part) (values : Vals cs) (rest : List ℕ) : Type 0 where
+pub record Spreading (cs pending : List Part) (values : Vals cs) (rest : List ℕ) : Type 0 where
   pub word : List ℕ
-  pub more : Words (cs ++ todo) word
-  pub along : Along (cs ++ todo) todo cs values word rest
+  pub more : Words (cs ++ pending) word
+  pub along : Along (cs ++ pending) pending cs values word rest
 
-along_more : (s : Part) (cs todo : List Part) → is_inside s ≡ true → (x : Val s) (vs : Vals cs) (w left rest : List ℕ) → w ≡ part_text s (end_of (cs ++ todo)) x ++ left → Along (cs ++ todo) todo cs vs left rest → Along (s ∷ (cs ++ todo)) todo (s ∷ cs) (x, vs) w rest
-along_more s cs todo h x vs w left rest e a = λ ps some.
+along_more : (s : Part) (cs pending : List Part) → is_inside s ≡ true → (x : Val s) (vs : Vals cs) (w left rest : List ℕ) → w ≡ part_text s (end_of (cs ++ pending)) x ++ left → Along (cs ++ pending) pending cs vs left rest → Along (s ∷ (cs ++ pending)) pending (s ∷ cs) (x, vs) w rest
+along_more s cs pending h x vs w left rest e a = λ ps some.
     let p = inside_plain s h in
-    let f : w ≡ text_with_end (end_of (cs ++ todo)) (pieces_of s x) ++ left = e ∙ ap (λ q. q ++ left) (plain_text s p (end_of (cs ++ todo)) x) in
-    ap (λ c. text_with_end c ps ++ w) (inside_end s (cs ++ todo) h) ∙ (ap (λ q. text_with_end space ps ++ q) f
-    ∙ (sym (append_assoc (text_with_end space ps) (text_with_end (end_of (cs ++ todo)) (pieces_of s x)) left)
-    ∙ (ap (λ q. q ++ left) (sym (text_more (end_of (cs ++ todo)) ps (pieces_of s x) some (some_pieces s p x)))
-    ∙ (a (ps ++ pieces_of s x) (some_more ps (pieces_of s x) some) ∙ ap (λ q. text_with_end (end_of todo) q ++ rest) (append_assoc ps (pieces_of s x) (all_pieces cs vs))))))
+    let f : w ≡ text_with_end (end_of (cs ++ pending)) (pieces_of s x) ++ left = e ∙ ap (λ q. q ++ left) (plain_text s p (end_of (cs ++ pending)) x) in
+    ap (λ c. text_with_end c ps ++ w) (inside_end s (cs ++ pending) h) ∙ (ap (λ q. text_with_end space ps ++ q) f
+    ∙ (sym (append_assoc (text_with_end space ps) (text_with_end (end_of (cs ++ pending)) (pieces_of s x)) left)
+    ∙ (ap (λ q. q ++ left) (sym (text_more (end_of (cs ++ pending)) ps (pieces_of s x) some (some_pieces s p x)))
+    ∙ (a (ps ++ pieces_of s x) (some_more ps (pieces_of s x) some) ∙ ap (λ q. text_with_end (end_of pending) q ++ rest) (append_assoc ps (pieces_of s x) (all_pieces cs vs))))))
 
-along_none : (todo : List Part) (w : List ℕ) → Along todo todo [] tt w w
-along_none todo w = λ ps some. ap (λ q. text_with_end (end_of todo) q ++ w) (sym (append-nil ps))
+along_none : (pending : List Part) (w : List ℕ) → Along pending pending [] tt w w
+along_none pending w = λ ps some. ap (λ q. text_with_end (end_of pending) q ++ w) (sym (append-nil ps))
 
-pub gather : (cs todo : List Part) (w : List ℕ) → are_inside cs ≡ true → Words (cs ++ todo) w → Gathering cs todo w
-gather [] todo w h m = record { values = tt; meet = tt; rest = w; more = m; along = along_none todo w }
-gather (s ∷ cs) todo w h m =
+pub gather : (cs pending : List Part) (w : List ℕ) → are_inside cs ≡ true → Words (cs ++ pending) w → Gathering cs pending w
+gather [] pending w h m = record { values = tt; meet = tt; rest = w; more = m; along = along_none pending w }
+gather (s ∷ cs) pending w h m =
     let parts = and_parts (is_inside s) (are_inside cs) h in
-    let g = gather cs todo m.rest parts.1 m.more in
+    let g = gather cs pending m.rest parts.1 m.more in
     record {
       values = (m.value, g.values);
       meet = (m.meets, g.meet);
       rest = g.rest;
       more = g.more;
-      along = along_more s cs todo parts.0 m.value g.values w m.rest g.rest m.spelled g.along;
+      along = along_more s cs pending parts.0 m.value g.values w m.rest g.rest m.spelled g.along;
     }
 
-pub spread : (cs todo : List Part) (vs : Vals cs) (rest : List ℕ) → are_inside cs ≡ true → AreVals cs vs → Words todo rest → Spreading cs todo vs rest
-spread [] todo vs rest h k m = record { word = rest; more = m; along = along_none todo rest }
-spread (s ∷ cs) todo vs rest h k m =
+pub spread : (cs pending : List Part) (vs : Vals cs) (rest : List ℕ) → are_inside cs ≡ true → AreVals cs vs → Words pending rest → Spreading cs pending vs rest
+spread [] pending vs rest h k m = record { word = rest; more = m; along = along_none pending rest }
+spread (s ∷ cs) pending vs rest h k m =
     let parts = and_parts (is_inside s) (are_inside cs) h in
-    let g = spread cs todo vs.1 rest parts.1 k.1 m in
-    let w = part_text s (end_of (cs ++ todo)) vs.0 ++ g.word in
+    let g = spread cs pending vs.1 rest parts.1 k.1 m in
+    let w = part_text s (end_of (cs ++ pending)) vs.0 ++ g.word in
     record {
       word = w;
       more = record { value = vs.0; meets = k.0; rest = g.word; more = g.more; spelled = refl };
-      along = along_more s cs todo parts.0 vs.0 vs.1 w g.word rest refl g.along;
+      along = along_more s cs pending parts.0 vs.0 vs.1 w g.word rest refl g.along;
     }
 
 -- LISTS OF A PART

@@ -75,8 +75,8 @@ meets Part.Variables = (none, tt)
 meets Part.Replaces = (none, tt)
 
 -- SOME TEXT OF WHAT IS STILL TO BE READ
-pub some_words : (todo : List Part) → (w : List ℕ) × Words todo w
+pub some_words : (pending : List Part) → (w : List ℕ) × Words pending w
 some_words [] = ([], refl)
-some_words (s ∷ todo) =
-    let on = some_words todo in
-    (part_text s (end_of todo) (sample s) ++ on.0, record { value = sample s; meets = meets s; rest = on.0; more = on.1; spelled = refl })
+some_words (s ∷ pending) =
+    let on = some_words pending in
+    (part_text s (end_of pending) (sample s) ++ on.0, record { value = sample s; meets = meets s; rest = on.0; more = on.1; spelled = refl })

@@ -127,7 +127,7 @@ starts_line s = false
 -- the byte in front of what is still to be read
 abbrev pub end_of : List Part → ℕ
 end_of [] = line_feed
-end_of (s ∷ todo) = if starts_line s then line_feed else space
+end_of (s ∷ pending) = if starts_line s then line_feed else space
 
 -- WHAT IS READ OF A PART
 abbrev pub Val : Part → Type 0
@@ -240,7 +240,7 @@ pub record Word {A : Type 0} (P : A → Type 0) (text : A → List ℕ) (M : Lis
 -- THE TEXTS OF WHAT IS STILL TO BE READ
 abbrev pub Words : List Part → List ℕ → Type 0
 Words [] w = w ≡ []
-Words (s ∷ todo) w = Word (IsVal s) (part_text s (end_of todo)) (Words todo) w
+Words (s ∷ pending) w = Word (IsVal s) (part_text s (end_of pending)) (Words pending) w
 
 -- READING THE FIRST PIECE OF A PART
 

@@ -12,5 +12,8 @@ pub mod Shapes
 pub mod Counts
 pub mod Grammar
 pub mod Leads
-pub mod Todos
+pub mod PendingParts
 pub mod Outlines
+-- what is said of the writer, and tools of its private functions
+pub mod Appending
+pub mod Writing

@@ -4,26 +4,31 @@ ghost use Rattle.ab_cert.specs.declared.fault.ReadFault.TheVariants.{BadCert};
 ghost use Rattle.ab_cert.specs.Plain.{Item};
 ghost use Rattle.ab_cert.specs.Texts.{IsText, IsFirstBad};
 ghost use Rattle.ab_cert.specs.Outlines.{ReadsPiece};
-ghost use Rattle.ab_cert.specs.Todos.{todo_of};
+ghost use Rattle.ab_cert.specs.PendingParts.{pending_of};
 
 use crate::fault::ReadFault;
 use crate::part::Part;
+use crate::pending::Pending;
 use crate::reading::is_next;
 use crate::scan::try_part;
-use crate::todo::Todo;
 use std::alloc::Global;
 
 /// Reads the first piece of a part and the byte behind it.
-fn read_piece(todo: &mut Todo, part: Part, bytes: &[u8], at: usize) -> Result<usize, ReadFault>
+fn read_piece(
+    pending: &mut Pending,
+    part: Part,
+    bytes: &[u8],
+    at: usize,
+) -> Result<usize, ReadFault>
     requires { at ≤ length bytes.now }
-    ensures { ReadsPiece part bytes.now at (todo_of todo.old) result (todo_of todo.new) }
+    ensures { ReadsPiece part bytes.now at (pending_of pending.old) result (pending_of pending.new) }
 {
     let scan = try_part(part, bytes, at);
     let Some(kids) = scan.kids else {
         return Err(ReadFault::BadCert(scan.to));
     };
-    todo.push_kids(kids)?;
-    let end = todo.end();
+    pending.push_kids(kids)?;
+    let end = pending.end();
     if is_next(bytes, scan.to, end) {
         Ok(scan.to)
     } else {
@@ -37,10 +42,10 @@ pub fn check_text(alloc: Global, bytes: &[u8]) -> Result<(), ReadFault>
     ensures good { IfOk result (λ done. (items : List Item) × IsText bytes.now items) }
     ensures bad { (place : ℕ) → result ≡ Err (BadCert place) → IsFirstBad bytes.now place }
 {
-    let mut todo = Todo::new(alloc, Part::Whole);
+    let mut pending = Pending::new(alloc, Part::Whole);
     let mut at = 0;
-    'parts: while let Some(part) = todo.next() {
-        match read_piece(&mut todo, part, bytes, at) {
+    'parts: while let Some(part) = pending.next() {
+        match read_piece(&mut pending, part, bytes, at) {
             Ok(to) => at = to + 1,
             Err(fault) => return Err(fault),
         }

@@ -1,0 +1,3 @@
+-- what has to be believed: the generated script, and the line that sums up how it went
+pub mod Drill
+pub mod Summary

@@ -1,0 +1,10 @@
+//! The drill: a generated script of so many theorems, and the line that sums up how it went.
+#![tactic(auto)]
+
+mod script;
+mod summary;
+#[cfg(test)]
+mod tests;
+
+pub use script::drill_script;
+pub use summary::{Tallies, write_summary};
