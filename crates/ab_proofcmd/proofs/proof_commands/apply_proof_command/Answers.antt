@@ -41,21 +41,23 @@ one_place places items e same = ap (λ (xs : List ℕ). slice_index xs 0 ∷ [])
 
 pub returns-in-Induction-clause-applied : goal.returns-in-Induction-clause-applied
 returns-in-Induction-clause-applied g c =
+    let l = given_label (option_copied c.args.label) in
     let built = subst (λ (k : ProofCommand). IsBuilt (proof_command_of k)) c.in-Induction.is c.requires.built in
     let one = one_place (list_of c.in-Induction.places) c.as_slice-in-Induction.result.now built c.as_slice-in-Induction.ensures in
     let done = λ (m : Label) (xs : List ℕ). IfOk c.induction.result (λ u. IsApplied m (told.induction xs) c.args.world.now c.args.proof.now c.induction.new.world c.induction.new.proof) in
     rw c.in-Induction.is
-    (subst (λ (m : Label). done m (list_of c.in-Induction.places)) c.in_ok-wanted.ensures
-    (subst (λ (xs : List ℕ). done _ xs) one c.induction.ensures.applied))
+    (subst (λ (xs : List ℕ). done l xs) one
+    (subst (λ (m : Label). done m (slice_index c.as_slice-in-Induction.result.now 0 ∷ [])) c.in_ok-wanted.ensures c.induction.ensures.applied))
 
 pub returns-in-Induction-clause-refused : goal.returns-in-Induction-clause-refused
 returns-in-Induction-clause-refused g c fault e =
+    let l = given_label (option_copied c.args.label) in
     let built = subst (λ (k : ProofCommand). IsBuilt (proof_command_of k)) c.in-Induction.is c.requires.built in
     let one = one_place (list_of c.in-Induction.places) c.as_slice-in-Induction.result.now built c.as_slice-in-Induction.ensures in
     let refused = λ (m : Label) (xs : List ℕ). IsRefused m (told.induction xs) c.args.world.now c.args.proof.now fault in
     rw c.in-Induction.is
-    (subst (λ (m : Label). refused m (list_of c.in-Induction.places)) c.in_ok-wanted.ensures
-    (subst (λ (xs : List ℕ). refused _ xs) one (c.induction.ensures.refused fault e)))
+    (subst (λ (xs : List ℕ). refused l xs) one
+    (subst (λ (m : Label). refused m (slice_index c.as_slice-in-Induction.result.now 0 ∷ [])) c.in_ok-wanted.ensures (c.induction.ensures.refused fault e)))
 
 pub returns-in-Coinduction-clause-applied : goal.returns-in-Coinduction-clause-applied
 returns-in-Coinduction-clause-applied g c =
