@@ -10,8 +10,6 @@ mod memory;
 mod replay;
 mod sink;
 mod source;
-#[cfg(test)]
-mod tests;
 
 pub use files::{Files, LoadFault, MAX_FILE_BYTES};
 pub use memory::{MemFiles, MemSink, MemSource};

@@ -16,9 +16,12 @@ pub mod Standings
 pub mod Passing
 pub mod NumberTokens
 pub mod Leaves
+pub mod WordsTaken
+pub mod GoalCommas
 pub mod Taking
 pub mod Repeating
 pub mod Followers
+pub mod GoalLists
 pub mod Examples
 pub mod BinderTypes
 pub mod ExpressionReading

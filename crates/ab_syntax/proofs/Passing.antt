@@ -66,3 +66,7 @@ closed_made f k {F = F} p value ks ms ns (Ok x) (Err s) q refused = refused_on (
 pub closed_found : {A X : Type 0} (k : Token) {G : List Spot → A → Type 0} {E : List Token → Type 0} {R : List Spot → A → Type 0} {F : List Token → Type 0} → TwoParts G E (Key k) R F (λ a u. a)
     → (value : X → A) (ks ms ns : List Token) (part r : Result X Stop) → Found G E value ks ms part → IsClosedBy k ms ns part r → Found R F value ks ns r
 closed_found k p value = closed_made (λ a. a) k p value
+
+-- the same where nothing was taken before
+pub refused_from : {A : Type 0} (G : List Spot → A → Type 0) (F : List Token → Type 0) (ks ms rest : List Token) (s : Stop) → ms ≡ ks → Refused G F s ms rest → Refused G F s ks rest
+refused_from G F ks ms rest s e r = subst (λ (w : List Token). Refused G F s w rest) e r

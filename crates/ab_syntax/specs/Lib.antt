@@ -3,6 +3,7 @@ pub mod Tokens
 pub mod Items
 pub mod SyntaxTrees
 pub mod Commands
+pub mod FileItems
 pub mod Faults
 -- tools of the private functions' clauses and of the proofs
 pub mod Kinds
@@ -14,4 +15,5 @@ pub mod Leaves
 pub mod Lists
 pub mod Frames
 pub mod States
+pub mod GoalCommas
 pub mod Wholes

@@ -3,10 +3,11 @@ use Rattle.std.specs.Prelude.{◌≡◌, ℕ, List, Some, ◌⊎◌, refl}
 use Rattle.std.proofs.Common.{inl, inr}
 use Rattle.ab_grammar.specs.Token.{Token, comma, other, semicolon, by_word}
 use Rattle.ab_grammar.specs.Nesting.{Spot}
-use Rattle.ab_grammar.specs.Language.{Key}
+use Rattle.ab_grammar.specs.Language.{Key, Expression}
 use Rattle.ab_grammar.specs.CommandForms.{◌▸◌, Many}
-use Rattle.ab_grammar.specs.CommandTable.{DeclaredName, Definiendum, InstanceForm, ClauseForm}
+use Rattle.ab_grammar.specs.CommandTable.{Name, DeclaredName, Definiendum, InstanceForm, ClauseForm}
 use Rattle.ab_grammar.specs.CommandTrees as tree
+use Rattle.ab_grammar.specs.Tree.{Tree}
 use Rattle.ab_grammar.proofs.Following.{first, Follow, Followed, Anything, by_comma, by_other, Comes, Except, BeforeStop, ClauseEnds}
 use Rattle.ab_grammar.proofs.Beginnings.{followed_by, followed_by_stop}
 use Rattle.ab_grammar.proofs.Looping.{follows_item}
@@ -15,6 +16,8 @@ use Rattle.ab_syntax.specs.declared.command.Defined.{Defined}
 use Rattle.ab_syntax.specs.declared.command.Instance.{Instance}
 use Rattle.ab_syntax.specs.declared.kind.Kind.{Kind}
 use Rattle.ab_syntax.specs.declared.kind.Kind.TheVariants as kind
+use Rattle.ab_syntax.specs.declared.tree.Parse.{Parse}
+use Rattle.ab_syntax.specs.SyntaxTrees.{tree_of}
 use Rattle.ab_syntax.specs.Commands.{defined_of, clause_of, instance_of}
 use Rattle.ab_syntax.specs.Kinds.{key_of, IsKey}
 
@@ -71,3 +74,13 @@ clause_ends r f = follows_item (other semicolon) ClauseForm Anything BeforeStop 
 
 abbrev pub clauses : ListForm ClauseParse
 clauses = record { Meant = tree.Clause; form = ClauseForm; meant = clause_of; sign = kind.Semicolon; key = λ w p. refl; ends = ClauseEnds; list_ends = BeforeStop; apart = stop_no_semicolon; within = clause_ends }
+
+-- the files that are accumulated, and the goals of a clause: each is followed by a comma, or by the full stop
+abbrev pub file_names : ListForm (List ℕ)
+file_names = record { Meant = List ℕ; form = Name; meant = λ x. x; sign = kind.Comma; key = λ w p. refl; ends = Anything; list_ends = BeforeStop; apart = stop_no_comma; within = λ r f. tt }
+
+pub goal_ends : (r : List Token) → Follow (Many (Key comma ▸ Expression)) BeforeStop r → Followed r
+goal_ends r f = comma_or_stop r (follows_item comma Expression Anything BeforeStop stop_no_comma (λ r f. tt) r f)
+
+abbrev pub goals : ListForm Parse
+goals = record { Meant = Tree; form = Expression; meant = tree_of; sign = kind.Comma; key = λ w p. refl; ends = Followed; list_ends = BeforeStop; apart = stop_no_comma; within = goal_ends }

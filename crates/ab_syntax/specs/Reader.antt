@@ -1,10 +1,11 @@
 -- What the reader's own functions say of tokens and of their answers. No public contract speaks of it.
 use Rattle.std.specs.Prelude.{◌≡◌, ◌≢◌, ℕ, ◌-◌, List, [], ◌∷◌, map, drop, Bool, true, false, Some, Result, Ok, Err}
 use Rattle.ab_lex.specs.declared.token.Token.{Token as Lexed}
-use Rattle.ab_grammar.specs.Token.{Token, other, stop}
+use Rattle.ab_grammar.specs.Token.{Token, word, other, stop}
 use Rattle.ab_grammar.specs.Nesting.{Spot}
 use Rattle.ab_grammar.specs.Language.{Key}
-use Rattle.ab_grammar.proofs.Following.{Anything, first}
+use Rattle.ab_grammar.specs.CommandTable.{StandsAnywhere, Word}
+use Rattle.ab_grammar.proofs.Following.{Anything, Showing, Without, first}
 use Rattle.ab_grammar.proofs.Reading.{ReadsOff, RefusesAt, ungrammatical, too_nested}
 use Rattle.ab_syntax.specs.declared.located_tokens.Seen.{Seen}
 use Rattle.ab_syntax.specs.declared.text.Text.{Text}
@@ -55,3 +56,8 @@ IsClosedBy k ks ms (Ok x) (Err s) = Refused (Key k) Anything s ks ms
 abbrev pub IsTaken : Token → List Token → List Token → Bool → Type 0
 IsTaken k ks ms true = ks ≡ k ∷ ms
 IsTaken k ks ms false = (first ks ≢ Some k) × (ms ≡ ks)
+
+-- whether the word was taken: it was the next token, or it was not and all is left
+abbrev pub IsWordTaken : List ℕ → List Token → List Token → Bool → Type 0
+IsWordTaken x ks ms true = Showing (StandsAnywhere (word x)) tt ks × ReadsOff (Word x) Anything ks tt ms
+IsWordTaken x ks ms false = Without (StandsAnywhere (word x)) ks × (ms ≡ ks)

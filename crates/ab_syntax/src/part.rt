@@ -9,7 +9,7 @@ ghost use Rattle.ab_syntax.specs.Items.{list_of};
 ghost use Rattle.ab_syntax.specs.Kinds.{key_of, IsKey};
 ghost use Rattle.ab_syntax.specs.Leaves.{ShowsInForm};
 ghost use Rattle.ab_syntax.specs.Lists.{declared_names, instances};
-ghost use Rattle.ab_syntax.specs.Reader.{rest, Found};
+ghost use Rattle.ab_syntax.specs.Reader.{rest, Found, IsWordTaken};
 
 use crate::command::{Argument, Instance};
 use crate::items::Items;
@@ -21,18 +21,29 @@ use crate::stop::Stop;
 use crate::text::{Text, closed, expect, next, takes};
 use ab_name::Name;
 
+/// Takes the next token where it is this word, and says whether it is.
+pub(crate) fn takes_word(text: &Text<'_>, here: &mut usize, expected: &[u8]) -> bool
+    ensures { IsWordTaken expected.now (rest text.now here.old) (rest text.now here.new) result }
+{
+    let Some(token) = next(text, *here) else {
+        return false;
+    };
+    if token.kind != Kind::Word || token.written != expected {
+        return false;
+    }
+    *here += 1;
+    true
+}
+
 /// Takes the next token, if it is this word.
 pub(crate) fn keyword(text: &Text<'_>, here: &mut usize, expected: &[u8]) -> Result<(), Stop>
     ensures { Found (WordForm expected.now) Anything (λ u. u) (rest text.now here.old) (rest text.now here.new) result }
 {
-    let Some(token) = next(text, *here) else {
-        return Err(Stop::Syntax);
-    };
-    if token.kind != Kind::Word || token.written != expected {
-        return Err(Stop::Syntax);
+    if takes_word(text, here, expected) {
+        Ok(())
+    } else {
+        Err(Stop::Syntax)
     }
-    *here += 1;
-    Ok(())
 }
 
 /// Reads a name and a key behind it.

@@ -1,41 +1,16 @@
-use Rattle.std.proofs.Common.{◌≡◌, ◌≢◌, Some, None, sym, ◌∙◌, subst, rules}
-use Rattle.ab_grammar.specs.Token.{Token, word}
-use Rattle.ab_grammar.specs.CommandTable.{StandsAnywhere, stands_at}
-use Rattle.ab_grammar.proofs.Shown.{one_placed, placed_example}
-use Rattle.ab_syntax.specs.declared.kind.Kind.TheVariants as kind
-use Rattle.ab_syntax.specs.declared.located_tokens.Seen.{Seen}
-use Rattle.ab_syntax.specs.Reader.{seen}
-use Rattle.ab_syntax.proofs.Leaves.{takes, takes_none, placed_in, placed_kind, word_shown, word_seen, of_kind}
+use Rattle.ab_grammar.specs.Token.{word}
+use Rattle.ab_grammar.specs.CommandTable.{StandsAnywhere}
+use Rattle.ab_grammar.proofs.Choosing.{one_stops}
+use Rattle.ab_grammar.proofs.Shown.{placed_example}
+use Rattle.ab_syntax.specs.Reader.{rest}
+use Rattle.ab_syntax.proofs.WordsTaken.{word_taken, no_word_taken}
 use Rattle.ab_syntax.proofs.part.keyword.Goals as goal
-use Rattle.ab_syntax.proofs.part.keyword.Goals.{then-ne-via-then-ne, then-ne-via-else-ne+then-ne-2}
 
-pub returns-in_default : goal.returns-in_default
-returns-in_default c =
-    let x = c.args.expected.now in
-    takes_none (StandsAnywhere (word x)) c.args.text.now c.args.here.now (placed_example (word x)) (λ k u e d. let bad : None ≡ Some k = c.in_default.ensures ∙ e in absurd (cc))
+pub returns-then-takes_word : goal.returns-then-takes_word
+returns-then-takes_word c = (word_taken c.args.expected.now _ _ c.takes_word.result c.if-takes_word.true c.takes_word.ensures).1
 
-pub returns-then-ne : goal.returns-then-ne
-returns-then-ne c =
-    let s : Seen = c.in-Some.token in
+pub returns-else-takes_word : goal.returns-else-takes_word
+returns-else-takes_word c =
     let x = c.args.expected.now in
-    takes_none (StandsAnywhere (word x)) c.args.text.now c.args.here.now (placed_example (word x)) (λ k u e d.
-    let same : seen s ≡ k = (let both : Some (seen s) ≡ Some k = c.in-Some.ensures ∙ e in cc) in
-    let there = subst (λ (j : Token). StandsAnywhere (word x) j u) (sym same) d in
-    let is : s.kind ≡ kind.Word = of_kind s _ (placed_kind x (seen s) u there) in
-    elim c.then-ne.branch [
-      | then-ne-via-then-ne w ↦
-          let not : s.kind ≢ kind.Word = search rules in
-          absurd (not is)
-      | then-ne-via-else-ne+then-ne-2 w ↦
-          let same_bytes : s.written.now ≡ x = placed_in x s.written.now s.place (seen s) (word_seen s is) u there in
-          search rules
-    ])
-
-pub returns : goal.returns
-returns c =
-    let s : Seen = c.in-Some.token in
-    let x = c.args.expected.now in
-    let a_word : s.kind ≡ kind.Word = search rules in
-    let is : s.written.now ≡ x = search rules in
-    takes (StandsAnywhere (word x)) c.args.text.now c.args.here.now (one_placed (word x)) tt
-    (seen s, sym c.in-Some.ensures, word_shown (StandsAnywhere (word x)) tt x s.written.now s.place (seen s) (word_seen s a_word) (sym is) (stands_at s.place))
+    let left = no_word_taken x _ _ c.takes_word.result c.if-takes_word.false c.takes_word.ensures in
+    rw left.1 (one_stops (StandsAnywhere (word x)) (rest c.args.text.now c.args.here.now) (placed_example (word x)) left.0)

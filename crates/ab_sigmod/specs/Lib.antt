@@ -1,0 +1,9 @@
+-- what has to be believed
+pub mod FileNames
+pub mod FileTexts
+pub mod FileLoads
+pub mod FileOrder
+pub mod Outcomes
+-- tools of the private functions' clauses
+pub mod Texts
+pub mod Readings

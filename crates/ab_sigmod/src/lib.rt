@@ -1,0 +1,11 @@
+//! Specification files: the files of a specification are read in the order in which their items take effect, each once, or the first fault is told.
+#![tactic(auto)]
+
+mod file_text;
+mod progress;
+mod reading;
+mod spec;
+mod text;
+
+pub use reading::{MAX_FILES, read_spec};
+pub use spec::{Spec, SpecFault, SpecFile};
