@@ -9,7 +9,8 @@ use Rattle.ab_lex.specs.Tokens.{is_word_byte, IsWordTail, ends, byte, joined, Is
 use Rattle.ab_cert.specs.Plain.{Ty, base, arrow, Detail, bare, with_type, with_level, Sign, Head, constant, logic, nominal, cell, index, Term, lam, spine, Terms, no_terms, one_more, list_of, Replace, Field, name, label, flag, place, term, numbers, labels, replaces, Step, Variable, Clause, Item, kind, const, block, program, theorem}
 use Rattle.ab_cert.specs.Tables.{IsName, word, underscore_number, cons, IsLong, IsSmall, IsCount, Each, IsList, IsTy, Kind, signs, value_at, kind_of, IsDetail, IsSign, IsHead, IsTerm, AreTerms, IsLabel, IsReplace, IsField, Form, steps, form_at, forms_of, IsStep, IsVariable, IsClause, form_of, IsItem, IsCert}
 use Rattle.ab_cert.specs.Pieces.{Pieces, type_pieces, detail_pieces, head_pieces, term_pieces, terms_pieces, label_piece, flag_piece, replace_pieces, list_pieces, field_pieces, step_pieces, variable_pieces, clause_pieces, block_piece, item_lines, last_line, lines_of}
-use Rattle.ab_cert.proofs.Lines.{is_plain, is_clean, are_clean, IsLine, AreLines}
+use Rattle.ab_cert.specs.Splits.{is_plain}
+use Rattle.ab_cert.proofs.Lines.{is_clean, are_clean, IsLine, AreLines}
 
 -- lists of bytes and of pieces
 

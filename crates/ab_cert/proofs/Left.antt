@@ -12,7 +12,8 @@ use Rattle.ab_cert.specs.Pieces.{item_lines, first_line, last_line}
 use Rattle.ab_cert.specs.Texts.{space, line_feed, line_text, text_of, IsText, GoesOn, IsFirstBad}
 use Rattle.ab_cert.specs.Reading.{is_led}
 use Rattle.ab_cert.specs.Grammar.{whole_rows, version_rows, item_rows, clause_rows, flag_rows, letter_rows, term_rows, head_rows, sign_rows, lead_of, IsLead, starts_line, end_of, part_text, Words, span, IsBlockedBy, IsScan}
-use Rattle.ab_cert.proofs.Lines.{is_plain, is_clean}
+use Rattle.ab_cert.specs.Splits.{is_plain}
+use Rattle.ab_cert.proofs.Lines.{is_clean}
 use Rattle.ab_cert.proofs.Clean.{name_clean, long_clean, step_wide}
 use Rattle.ab_cert.proofs.Names.{meet, between, led_there, led_within}
 use Rattle.ab_cert.proofs.Rows.{row_of, step_found}

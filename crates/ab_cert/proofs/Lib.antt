@@ -21,3 +21,16 @@ pub mod Names
 pub mod Counts
 pub mod Examples
 pub mod Writing
+pub mod NodeTrees
+pub mod Trees
+pub mod ReadAs
+pub mod ItemsRead
+pub mod ItemRead
+pub mod NodeRead
+pub mod Records
+pub mod Signing
+pub mod Fields
+pub mod Words
+pub mod NumberRead
+pub mod Splitting
+pub mod Many

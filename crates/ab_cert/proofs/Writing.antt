@@ -6,33 +6,12 @@ use Rattle.std.proofs.Math.ListN.{length-append}
 use Rattle.ab_cert.specs.Appending.{Extends}
 use Rattle.ab_cert.specs.declared.row.Stretch.{Stretch}
 use Rattle.ab_cert.specs.declared.row.Row.{Row}
-use Rattle.ab_cert.specs.declared.tree.CertHead.{CertHead}
-use Rattle.ab_cert.specs.declared.tree.CertTree.{CertTree}
-use Rattle.ab_cert.specs.declared.tree.CertTree.TheVariants.{rolls-Spine}
-use Rattle.ab_cert.specs.declared.tree.CertTree.TheVariants as tree
-use Rattle.ab_cert.specs.declared.tree.CertTree.TheFolds.{fold-roll-CertTree}
-use Rattle.ab_cert.specs.declared.members.Members.{Members}
 use Rattle.ab_cert.specs.declared.cert.CertItem.{CertItem}
-use Rattle.ab_cert.specs.Members.{members_of}
-use Rattle.ab_cert.specs.Values.{head_of, tree_step, term_of, item_of}
-use Rattle.ab_cert.specs.Plain.{Head, Term, spine, terms_of, list_of, Item}
-use Rattle.ab_cert.specs.Pieces.{Pieces, head_pieces, term_pieces, item_lines, last_line}
+use Rattle.ab_cert.specs.Values.{item_of}
+use Rattle.ab_cert.specs.Plain.{Item}
+use Rattle.ab_cert.specs.Pieces.{Pieces, item_lines, last_line}
 use Rattle.ab_cert.specs.Texts.{space, line_feed, line_text, text_of}
 use Rattle.ab_cert.specs.Writing.{led, line_behind, piece_of, stretch_pieces, row_pieces, stack_pieces, items_text}
-use Rattle.ab_cert.proofs.Leads.{list_terms, flat_terms}
-
--- a term of a head and arguments
-pub term_spine : (h : CertHead) (ts : Members CertTree) → term_of (tree.Spine h ts) ≡ spine (head_of h) (terms_of (map term_of (members_of ts)))
-term_spine h ts = ap term_of (sym (rolls-Spine h ts)) ∙ fold-roll-CertTree Term tree_step _
-
--- and what stands behind it
-pub spine_row : (h : Head) (xs : List Term) (after : Pieces)
-    → codes "@" ∷ (head_pieces h ++ (decimal (length xs) ∷ (flat_map term_pieces xs ++ after))) ≡ term_pieces (spine h (terms_of xs)) ++ after
-spine_row h xs after =
-    ap (λ q. codes "@" ∷ q)
-    (sym (append_assoc (head_pieces h) (decimal (length xs) ∷ flat_map term_pieces xs) after)
-    ∙ (ap (λ n. (head_pieces h ++ (decimal n ∷ flat_map term_pieces xs)) ++ after) (ap length (sym (list_terms xs)))
-    ∙ ap (λ ps. (head_pieces h ++ (decimal (length (list_of (terms_of xs))) ∷ ps)) ++ after) (sym (flat_terms xs))))
 
 -- what was there still stands in front
 

@@ -5,7 +5,11 @@ pub mod Pieces
 pub mod Texts
 -- what the program's certificates stand for
 pub mod Members
+pub mod TypeNodes
+pub mod Signs
+pub mod TermNodes
 pub mod Values
+pub mod Answers
 -- tools of the reader's private functions
 pub mod Reading
 pub mod Shapes
@@ -14,6 +18,10 @@ pub mod Grammar
 pub mod Leads
 pub mod PendingParts
 pub mod Outlines
+pub mod Splits
+pub mod Forms
+pub mod Nodes
+pub mod TreeForms
 -- what is said of the writer, and tools of its private functions
 pub mod Appending
 pub mod Writing

@@ -1,71 +1,22 @@
 -- The plain data that the program's certificates stand for.
 use Rattle.std.specs.Prelude.{ℕ, List, [], ◌∷◌, map, codes, Option, Some, None}
-use Rattle.ab_cert.specs.declared.tree.TypeTree.{TypeTree, fold-TypeTree}
-use Rattle.ab_cert.specs.declared.tree.TypeTree.TheOpen.{TypeTree-F}
-use Rattle.ab_cert.specs.declared.tree.CertSign.{CertSign}
-use Rattle.ab_cert.specs.declared.tree.CertHead.{CertHead}
-use Rattle.ab_cert.specs.declared.tree.CertTree.{CertTree, fold-CertTree}
-use Rattle.ab_cert.specs.declared.tree.CertTree.TheOpen.{CertTree-F}
-use Rattle.ab_cert.specs.declared.tree.CertVar.{CertVar}
-use Rattle.ab_cert.specs.declared.tree.CertClause.{CertClause}
-use Rattle.ab_cert.specs.declared.tree.CertReplace.{CertReplace}
+use Rattle.ab_cert.specs.declared.term_tree.CertTree.{CertTree}
+use Rattle.ab_cert.specs.declared.clause.CertVar.{CertVar}
+use Rattle.ab_cert.specs.declared.clause.CertClause.{CertClause}
+use Rattle.ab_cert.specs.declared.clause.CertReplace.{CertReplace}
 use Rattle.ab_cert.specs.declared.step.Label.{Label}
 use Rattle.ab_cert.specs.declared.step.CertStep.{CertStep}
 use Rattle.ab_cert.specs.declared.cert.CertItem.{CertItem}
 use Rattle.ab_cert.specs.declared.cert.Cert.{Cert}
 use Rattle.ab_cert.specs.Members.{members_of}
 use Rattle.ab_cert.specs.Plain as plain
-use Rattle.ab_cert.specs.Plain.{Ty, Detail, Sign, Head, Term, Replace, Field, Step, Variable, Clause, Item, terms_of}
+use Rattle.ab_cert.specs.Plain.{Term, Replace, Field, Step, Variable, Clause, Item}
+use Rattle.ab_cert.specs.Signs.{type_of}
+use Rattle.ab_cert.specs.TermNodes.{node_of, term_in}
 
-abbrev pub type_step : TypeTree-F Ty → Ty
-type_step (TypeTree-F.Base k) = plain.base k
-type_step (TypeTree-F.Arrow a b) = plain.arrow (a.value) (b.value)
-
-abbrev pub type_of : TypeTree → Ty
-type_of = fold-TypeTree Ty type_step
-
-abbrev pub bare_sign : List ℕ → Sign
-bare_sign w = record { word = w; detail = plain.bare }
-
-abbrev pub sign_with_type : List ℕ → TypeTree → Sign
-sign_with_type w ty = record { word = w; detail = plain.with_type (type_of ty) }
-
-abbrev pub sign_with_level : List ℕ → ℕ → Sign
-sign_with_level w n = record { word = w; detail = plain.with_level n }
-
-abbrev pub sign_of : CertSign → Sign
-sign_of CertSign.True = bare_sign (codes "true")
-sign_of CertSign.False = bare_sign (codes "false")
-sign_of CertSign.And = bare_sign (codes "and")
-sign_of CertSign.Or = bare_sign (codes "or")
-sign_of CertSign.Arrow = bare_sign (codes "arrow")
-sign_of (CertSign.Equal ty) = sign_with_type (codes "equal") ty
-sign_of (CertSign.Forall ty) = sign_with_type (codes "forall") ty
-sign_of (CertSign.Exists ty) = sign_with_type (codes "exists") ty
-sign_of (CertSign.Nabla ty) = sign_with_type (codes "nabla") ty
-sign_of CertSign.Judge = bare_sign (codes "judge")
-sign_of CertSign.Focus = bare_sign (codes "focus")
-sign_of (CertSign.Star n) = sign_with_level (codes "star") n
-sign_of (CertSign.At n) = sign_with_level (codes "at") n
-sign_of (CertSign.Plus n) = sign_with_level (codes "plus") n
-sign_of (CertSign.Hash n) = sign_with_level (codes "hash") n
-sign_of (CertSign.Pi ty) = sign_with_type (codes "pi") ty
-sign_of CertSign.Imply = bare_sign (codes "imply")
-sign_of CertSign.With = bare_sign (codes "with")
-
-abbrev pub head_of : CertHead → Head
-head_of (CertHead.Const c) = plain.constant c
-head_of (CertHead.Logic s) = plain.logic (sign_of s)
-head_of (CertHead.Nominal n ty) = plain.nominal n (type_of ty)
-head_of (CertHead.Cell x) = plain.cell x
-head_of (CertHead.Index i) = plain.index i
-
-abbrev pub tree_step : CertTree-F Term → Term
-tree_step (CertTree-F.Lam ty hint body) = plain.lam (type_of ty) hint (body.value)
-tree_step (CertTree-F.Spine head args) = plain.spine (head_of head) (terms_of (members_of args))
-
+-- the nodes are the term's, in prefix order
 abbrev pub term_of : CertTree → Term
-term_of = fold-CertTree Term tree_step
+term_of t = term_in (map node_of t.nodes.items)
 
 abbrev pub label_of : Label → Option (List ℕ)
 label_of Label.Auto = None

@@ -5,13 +5,16 @@ use Rattle.ab_cert.specs.declared.row.Piece.{Piece}
 use Rattle.ab_cert.specs.declared.row.Series.{Series}
 use Rattle.ab_cert.specs.declared.row.Stretch.{Stretch}
 use Rattle.ab_cert.specs.declared.row.Row.{Row}
-use Rattle.ab_cert.specs.declared.tree.CertSign.{CertSign}
-use Rattle.ab_cert.specs.declared.tree.CertClause.{CertClause}
+use Rattle.ab_cert.specs.declared.head.CertSign.{CertSign}
+use Rattle.ab_cert.specs.declared.clause.CertClause.{CertClause}
 use Rattle.ab_cert.specs.declared.step.CertStep.{CertStep}
 use Rattle.ab_cert.specs.declared.cert.CertItem.{CertItem}
 use Rattle.ab_cert.specs.Pieces.{Pieces, type_pieces, detail_pieces, head_pieces, term_pieces, label_piece, flag_piece, replace_pieces, variable_pieces, block_piece, step_pieces, clause_pieces, item_lines}
 use Rattle.ab_cert.specs.Texts.{space, line_feed}
-use Rattle.ab_cert.specs.Values.{type_of, sign_of, head_of, term_of, label_of, replace_of, variable_of, step_of, clause_of, item_of}
+use Rattle.ab_cert.specs.Signs.{type_of, sign_of, head_of}
+use Rattle.ab_cert.specs.TypeNodes.{type_node_piece}
+use Rattle.ab_cert.specs.TermNodes.{node_of, node_pieces}
+use Rattle.ab_cert.specs.Values.{term_of, label_of, replace_of, variable_of, step_of, clause_of, item_of}
 
 -- each piece behind a space
 abbrev pub led : Pieces → List ℕ
@@ -31,7 +34,8 @@ abbrev pub sign_pieces : CertSign → Pieces
 sign_pieces s = (sign_of s).word ∷ detail_pieces (sign_of s).detail
 
 abbrev pub series_length : Series → ℕ
-series_length (Series.Terms ts) = length (map term_of ts.now)
+series_length (Series.TypeNodes ns) = length ns.now
+series_length (Series.TermNodes ns) = length ns.now
 series_length (Series.Names xs) = length xs.now
 series_length (Series.Labels ls) = length (map label_of ls.now)
 series_length (Series.Numbers ns) = length ns.now
@@ -39,7 +43,8 @@ series_length (Series.Variables vs) = length (map variable_of vs.now)
 series_length (Series.Replaces rs) = length (map replace_of rs.now)
 
 abbrev pub series_pieces : Series → Pieces
-series_pieces (Series.Terms ts) = flat_map term_pieces (map term_of ts.now)
+series_pieces (Series.TypeNodes ns) = map type_node_piece ns.now
+series_pieces (Series.TermNodes ns) = flat_map node_pieces (map node_of ns.now)
 series_pieces (Series.Names xs) = flat_map (λ x. x ∷ []) xs.now
 series_pieces (Series.Labels ls) = flat_map (λ l. label_piece l ∷ []) (map label_of ls.now)
 series_pieces (Series.Numbers ns) = flat_map (λ n. decimal n ∷ []) ns.now

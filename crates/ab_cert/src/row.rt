@@ -1,8 +1,11 @@
 //! Stretches of a line that are still to be written, all lent, and rows: a piece, and what is written behind it.
 ghost use Rattle.std.specs.Prelude.{◌≡◌};
 
+use crate::clause::{CertReplace, CertVar};
+use crate::head::{CertHead, CertSign};
 use crate::step::Label;
-use crate::tree::{CertHead, CertReplace, CertSign, CertTree, CertVar, TypeTree};
+use crate::term_tree::{CertTree, TermNode};
+use crate::type_tree::{TypeNode, TypeTree};
 use ab_name::Name;
 
 /// A piece of a line.
@@ -15,7 +18,8 @@ pub(crate) enum Piece<'a> {
 /// Things of one sort that are written one behind another.
 #[derive(Clone, Copy)]
 pub(crate) enum Series<'a> {
-    Terms(&'a [CertTree]),
+    TypeNodes(&'a [TypeNode]),
+    TermNodes(&'a [TermNode]),
     Names(&'a [Name]),
     Labels(&'a [Label]),
     Numbers(&'a [u32]),

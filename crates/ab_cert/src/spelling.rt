@@ -1,12 +1,17 @@
 //! The pieces and the rows of types, heads and terms, and of each stretch of a line.
 ghost use Rattle.std.specs.Prelude.{◌≡◌, ◌∷◌, ◌++◌, []};
-ghost use Rattle.ab_cert.specs.Values.{type_of, head_of, term_of, label_of};
-ghost use Rattle.ab_cert.specs.Pieces.{type_pieces, head_pieces, term_pieces, label_piece, flag_piece, block_piece};
+ghost use Rattle.ab_cert.specs.Signs.{head_of};
+ghost use Rattle.ab_cert.specs.TypeNodes.{type_node_piece};
+ghost use Rattle.ab_cert.specs.TermNodes.{node_of, node_pieces};
+ghost use Rattle.ab_cert.specs.Values.{label_of};
+ghost use Rattle.ab_cert.specs.Pieces.{head_pieces, label_piece, flag_piece, block_piece};
 ghost use Rattle.ab_cert.specs.Writing.{piece_of, sign_pieces, series_length, series_pieces, stretch_pieces, row_pieces, IsRow};
 
+use crate::head::{CertHead, CertSign};
 use crate::row::{Piece, Row, Series, Stretch, make_row};
 use crate::step::Label;
-use crate::tree::{CertHead, CertSign, CertTree, TypeTree};
+use crate::term_tree::TermNode;
+use crate::type_tree::TypeNode;
 
 /// The piece of a label.
 fn label_text(label: &Label) -> Piece<'_>
@@ -37,7 +42,8 @@ fn count_of(series: Series<'_>) -> usize
     ensures { result ≡ series_length series.entry }
 {
     match series {
-        Series::Terms(terms) => terms.len(),
+        Series::TypeNodes(nodes) => nodes.len(),
+        Series::TermNodes(nodes) => nodes.len(),
         Series::Names(names) => names.len(),
         Series::Labels(labels) => labels.len(),
         Series::Numbers(numbers) => numbers.len(),
@@ -53,14 +59,13 @@ fn lone_row(head: Piece<'_>) -> Row<'_>
     make_row(head, Stretch::Nothing, Stretch::Nothing, Stretch::Nothing)
 }
 
-/// The row of a type.
-fn type_row(ty: &TypeTree) -> Row<'_>
-    ensures { row_pieces result ≡ type_pieces (type_of ty.now) }
+/// The piece of a node of a type.
+fn type_node_text(node: &TypeNode) -> Piece<'_>
+    ensures { piece_of result ≡ type_node_piece node.now }
 {
-    use Stretch::{Nothing, Type};
-    match ty {
-        TypeTree::Base(kind) => lone_row(Piece::Bytes(kind.as_str().as_bytes())),
-        TypeTree::Arrow(from, to) => make_row(Piece::Bytes(b">"), Type(from), Type(to), Nothing),
+    match node {
+        TypeNode::Base(kind) => Piece::Bytes(kind.as_str().as_bytes()),
+        TypeNode::Arrow => Piece::Bytes(b">"),
     }
 }
 
@@ -113,25 +118,21 @@ fn head_row(head: &CertHead) -> Row<'_>
     }
 }
 
-/// The row of a term, and what is written behind it.
-fn term_row<'a>(term: &'a CertTree, after: Stretch<'a>) -> Row<'a>
-    ensures { row_pieces result ≡ term_pieces (term_of term.now) ++ stretch_pieces after.entry }
+/// The row of a node of a term, and what is written behind it.
+fn node_row<'a>(node: &'a TermNode, after: Stretch<'a>) -> Row<'a>
+    ensures { row_pieces result ≡ node_pieces (node_of node.now) ++ stretch_pieces after.entry }
 {
-    match term {
-        CertTree::Lam(ty, hint, body) => Row {
-            head: Piece::Bytes(b"\\"),
-            first: Stretch::Type(ty),
-            second: Stretch::Name(hint),
-            third: Stretch::Term(body),
-            fourth: after,
-        },
-        CertTree::Spine(head, args) => Row {
-            head: Piece::Bytes(b"@"),
-            first: Stretch::Head(head),
-            second: Stretch::Listing(Series::Terms(args.as_slice())),
-            third: Stretch::Nothing,
-            fourth: after,
-        },
+    use Stretch::{Head, Name, Nothing, Number, Type};
+    let (head, first, second) = match node {
+        TermNode::Lam(ty, hint) => (Piece::Bytes(b"\\"), Type(ty), Name(hint)),
+        TermNode::Spine(head, count) => (Piece::Bytes(b"@"), Head(head), Number(*count as u128)),
+    };
+    Row {
+        head,
+        first,
+        second,
+        third: Nothing,
+        fourth: after,
     }
 }
 
@@ -141,7 +142,15 @@ fn first_row(series: Series<'_>) -> Option<Row<'_>>
 {
     use Stretch::{Each, Nothing, Term, Type};
     match series {
-        Series::Terms([first, rest @ ..]) => Some(term_row(first, Each(Series::Terms(rest)))),
+        Series::TypeNodes([first, rest @ ..]) => Some(make_row(
+            type_node_text(first),
+            Each(Series::TypeNodes(rest)),
+            Nothing,
+            Nothing,
+        )),
+        Series::TermNodes([first, rest @ ..]) => {
+            Some(node_row(first, Each(Series::TermNodes(rest))))
+        }
         Series::Names([first, rest @ ..]) => Some(make_row(
             Piece::Bytes(first.as_str().as_bytes()),
             Each(Series::Names(rest)),
@@ -187,10 +196,10 @@ pub(crate) fn row_of(stretch: Stretch<'_>) -> Option<Row<'_>>
         Stretch::Label(label) => Some(lone_row(label_text(label))),
         Stretch::Flag(flag) => Some(lone_row(flag_text(flag))),
         Stretch::Letter(inductive) => Some(lone_row(letter_text(inductive))),
-        Stretch::Type(ty) => Some(type_row(ty)),
+        Stretch::Type(ty) => first_row(Series::TypeNodes(ty.nodes())),
         Stretch::Head(head) => Some(head_row(head)),
         Stretch::Sign(sign) => Some(sign_row(sign)),
-        Stretch::Term(term) => Some(term_row(term, Stretch::Nothing)),
+        Stretch::Term(term) => first_row(Series::TermNodes(term.nodes())),
         Stretch::Listing(series) => Some(make_row(
             Piece::Number(count_of(series) as u128),
             Stretch::Each(series),

@@ -4,9 +4,9 @@ ghost use Rattle.ab_cert.specs.Values.{step_of, clause_of};
 ghost use Rattle.ab_cert.specs.Pieces.{step_pieces, clause_pieces};
 ghost use Rattle.ab_cert.specs.Writing.{row_pieces};
 
+use crate::clause::CertClause;
 use crate::row::{Piece, Row, Series, Stretch, make_row};
 use crate::step::{CertStep, Label};
-use crate::tree::CertClause;
 use ab_name::Name;
 
 /// The row of a step: the number of its rule, and its fields.

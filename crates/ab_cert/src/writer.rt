@@ -8,11 +8,11 @@ ghost use Rattle.ab_cert.specs.Values.{step_of, clause_of, item_of, cert_of};
 ghost use Rattle.ab_cert.specs.Writing.{piece_of, row_pieces, line_behind, steps_text, clauses_text, items_text};
 
 use crate::cert::{Cert, CertItem};
+use crate::clause::CertClause;
 use crate::row::{Piece, Row, Series, Stretch, make_row};
 use crate::spelling::row_of;
 use crate::step::CertStep;
 use crate::step_row::{clause_row, step_row};
-use crate::tree::CertClause;
 use itoa::Buffer;
 use std::alloc::{AllocError, Global};
 
