@@ -5,7 +5,7 @@ use Rattle.ab_term.specs.Types.{Ty, prop}
 use Rattle.ab_term.specs.Terms.{Head, nominal}
 use Rattle.ab_term.specs.Beta.{atom, abstraction, application}
 use Rattle.ab_meaning.specs.ResolvedNames.{Name, Resolved}
-use Rattle.ab_meaning.specs.Readings.{Raw, Reads, reads_bound, reads_known, reads_free, reads_apply, reads_abs, reads_equal, reads_bind}
+use Rattle.ab_meaning.specs.Readings.{Raw, Reads, reads_bound, reads_known, reads_free, reads_apply, reads_behind, reads_abs, reads_equal, reads_bind}
 use Rattle.ab_meaning.specs.ReadingCounts.{IsTheReading, IsFirstOpen}
 use Rattle.ab_infer.specs.Outcomes.{nominal_of}
 
@@ -42,6 +42,8 @@ given_same reads_known reads_known s = refl
 given_same (reads_free f) (reads_free f2) s = ap (λ A. A ∷ []) (ap type_given s)
 given_same (reads_apply {As = As} {Bs = Bs} d h) (reads_apply {As = Cs} {Bs = Ds} d2 h2) s =
     joined_same As Bs Cs Ds (given_same d d2 (ap function s)) (given_same h h2 (ap body s))
+given_same (reads_behind {As = As} {Bs = Bs} d h) (reads_behind {As = Cs} {Bs = Ds} d2 h2) s =
+    joined_same As Bs Cs Ds (given_same d d2 (ap body s)) (given_same h h2 (ap function s))
 given_same (reads_abs {A = A} {As = As} f d) (reads_abs {A = C} {As = Cs} f2 d2) s = begun_same A C As Cs (ap type_given s) (given_same d d2 (ap body s))
 given_same (reads_equal {As = As} {Bs = Bs} d h) (reads_equal {As = Cs} {Bs = Ds} d2 h2) s =
     joined_same As Bs Cs Ds (given_same d d2 (ap (λ r. body (function r)) s)) (given_same h h2 (ap body s))

@@ -36,22 +36,28 @@ is_there None n = absurd (n refl)
 is_there (Some x) n = refl
 
 module _ (t : Table) (table : IsTable t) where
-  pub has_cons : Contains (names (constants t)) (codes "::")
-  has_cons =
+  pub has_constant : (x : List ℕ) → Contains (names (constants first_entries)) x → Contains (names (constants t)) x
+  has_constant x c =
       let more = table.begins.0 in
       let split : names (constants t) ≡ names (constants first_entries) ++ names (constants more) =
       ap (λ u. names (constants u)) table.begins.1 ∙ (ap names (constants-append first_entries more) ∙ names-append (constants first_entries) (constants more)) in
-      subst (λ ns. Contains ns (codes "::")) (sym split) (Contains-append_left (names (constants first_entries)) (names (constants more)) (codes "::") (1, lit< tt, refl))
+      subst (λ ns. Contains ns x) (sym split) (Contains-append_left (names (constants first_entries)) (names (constants more)) x c)
+
+  pub has_cons : Contains (names (constants t)) (codes "::")
+  has_cons = has_constant (codes "::") (1, lit< tt, refl)
 
   pub has_kind : (x : List ℕ) → Contains (kinds first_entries) x → Contains (kinds t) x
   has_kind x c =
       let more = table.begins.0 in
       subst (λ ns. Contains ns x) (sym (ap kinds table.begins.1 ∙ kinds-append first_entries more)) (Contains-append_left (kinds first_entries) (kinds more) x c)
 
-  cons_type : signature t (codes "::") ≡ Some (arrow o (arrow olist olist))
-  cons_type = ap (λ u. signature u (codes "::")) table.begins.1 ∙ same_signature first_entries table.begins.0 (codes "::") (arrow o (arrow olist olist)) refl
+  pub constant_type : (x : List ℕ) (A : Ty) → signature first_entries x ≡ Some A → signature t x ≡ Some A
+  constant_type x A e = ap (λ u. signature u x) table.begins.1 ∙ same_signature first_entries table.begins.0 x A e
 
-  some_same : {A B : Ty} → Some A ≡ Some B → A ≡ B
+  cons_type : signature t (codes "::") ≡ Some (arrow o (arrow olist olist))
+  cons_type = constant_type (codes "::") (arrow o (arrow olist olist)) refl
+
+  pub some_same : {A B : Ty} → Some A ≡ Some B → A ≡ B
   some_same e = cc
 
   pub cons_connective : (cells : List CellEntry) (id : ConstId) (ty : TypeId) → HoldsConstant t id → (constant_of t id).name ≡ codes "::" → HoldsType t ty → signature t (constant_of t id).name ≡ Some (type_of t ty)

@@ -1,6 +1,6 @@
 -- What an expression means in a goal fits the goal, and is a formula at the type of formulas.
-use Rattle.std.specs.Prelude.{◌≡◌, ℕ, List, [], map, Ok, Some, Contains}
-use Rattle.std.proofs.Common.{refl, sym, ap, ◌∙◌, subst}
+use Rattle.std.specs.Prelude.{◌≡◌, [], map, Contains}
+use Rattle.std.proofs.Common.{refl, sym, subst}
 use Rattle.ab_term.specs.Types.{Ty, prop}
 use Rattle.ab_term.specs.Typing.{HasType}
 use Rattle.ab_term.specs.Names.{HasOneTypeEach}
@@ -9,10 +9,9 @@ use Rattle.ab_term.specs.Normal.{FitsType}
 use Rattle.ab_term.proofs.Lists.{All-from_contains}
 use Rattle.ab_term.specs.Terms.{Read}
 use Rattle.ab_grammar.specs.Tree.{Tree}
-use Rattle.ab_meaning.specs.ResolvedNames.{Name, Resolved}
+use Rattle.ab_meaning.specs.ResolvedNames.{Name}
 use Rattle.ab_meaning.specs.Types.{PropFree}
-use Rattle.ab_meaning.specs.Readings.{Raw, Reads}
-use Rattle.ab_meaning.specs.Normal.{normal_form}
+use Rattle.ab_meaning.specs.Readings.{Reads}
 use Rattle.ab_infer.specs.Heads.{AreHeads, AreRawHeads, IsOrdinary}
 use Rattle.ab_infer.specs.Outcomes.{nominal_of}
 use Rattle.ab_infer.proofs.Fitting.{reading_fits}

@@ -1,7 +1,7 @@
 -- Names are resolved by look-ups alone: scopes whose nominal constants are the same in any order, each once or more often,
 -- resolve an expression to the same.
 use Rattle.std.specs.Prelude.{if◌then◌else◌, ◌↔◌, Contains}
-use Rattle.std.proofs.Common.{◌≡◌, ◌≢◌, ◌⊎◌, inl, inr, ◌==◌, ℕ, List, [], ◌∷◌, Bool, true, false, Option, Some, None, option_map, refl, sym, ◌∙◌, ap, subst, arith}
+use Rattle.std.proofs.Common.{◌≡◌, ◌≢◌, ◌⊎◌, inl, inr, ◌==◌, ℕ, List, [], ◌∷◌, Bool, true, false, Option, Some, None, option_map, refl, sym, ◌∙◌, ap, arith}
 use Rattle.ab_term.specs.Terms.{Nominal, nominal}
 use Rattle.ab_term.specs.Names.{HasOneTypeEach}
 use Rattle.ab_term.specs.Typing.{Signature}
@@ -9,9 +9,9 @@ use Rattle.ab_term.proofs.Lists.{Contains-none, Contains-here, Contains-there, C
 use Rattle.ab_grammar.specs.declared.Infix.{Infix}
 use Rattle.ab_grammar.specs.declared.Infix.TheVariants.{Arrow, Or, And, Equal, Imply, With, Cons}
 use Rattle.ab_grammar.specs.Tree as tree
-use Rattle.ab_grammar.specs.Tree.{Tree, Trees, no_trees}
-use Rattle.ab_meaning.specs.ResolvedNames.{Name, Resolved, bound, known, free, apply, abs}
-use Rattle.ab_meaning.specs.Scopes.{Entry, Scope, in_proof, nominal_number, or_else, index_of, truth_named, variable_named, constant_at, settled_nominal, nominal_at, clause_variable, head_named, Found, or_unknown, made_of, made_of_both, joined, pi_over, after, with_binders, under, is_pi, resolved, applied, pi_applied}
+use Rattle.ab_grammar.specs.Tree.{Tree, Trees, no_trees, Focus}
+use Rattle.ab_meaning.specs.ResolvedNames.{Name, bound, known, free, apply, abs}
+use Rattle.ab_meaning.specs.Scopes.{Entry, Scope, in_proof, nominal_number, or_else, index_of, truth_named, variable_named, constant_at, settled_nominal, nominal_at, clause_variable, head_named, Found, or_unknown, made_of, made_of_both, joined, put_before, first_list, with_goal, with_focus_and_goal, pi_over, after, with_binders, under, is_pi, resolved, applied, pi_applied, context, items_before, judgement}
 
 -- ONE LOOK-UP
 
@@ -93,7 +93,7 @@ module _ (kinds : List Name) (constants : Signature) (entries : List Entry) (ns 
         ap (λ a. joined one i a (resolved one bs u)) (same_resolved bs t) ∙ ap (λ b. joined one i (resolved other bs t) b) (same_resolved bs u)
         ∙ same_joined i (resolved other bs t) (resolved other bs u)
     same_resolved bs (tree.bind q xs e p) = ap (with_binders kinds q xs) (same_resolved (under xs bs) e)
-    same_resolved bs (tree.judge cs f g p) = refl
+    same_resolved bs (tree.judge cs f g p) = same_judgement bs (context one bs cs) (context other bs cs) (same_context bs cs) f (resolved one bs g) (resolved other bs g) (same_resolved bs g)
 
     same_applied : (bs : List Name) (a b : Found) → a ≡ b → (vs : Trees) → applied one bs a vs ≡ applied other bs b vs
     same_applied bs a b e no_trees = e
@@ -105,3 +105,18 @@ module _ (kinds : List Name) (constants : Signature) (entries : List Entry) (ns 
     same_pi bs no_trees = refl
     same_pi bs (tree.tree v no_trees) = ap (after pi_over) (same_resolved bs v)
     same_pi bs (tree.tree v (tree.tree u us)) = refl
+
+    same_context : (bs : List Name) (cs : Trees) → context one bs cs ≡ context other bs cs
+    same_context bs no_trees = refl
+    same_context bs (tree.tree c cs) = same_items bs (first_list c (resolved one bs c)) (first_list c (resolved other bs c)) (ap (first_list c) (same_resolved bs c)) cs
+
+    same_items : (bs : List Name) (l m : Found) → l ≡ m → (cs : Trees) → items_before one bs l cs ≡ items_before other bs m cs
+    same_items bs l m e no_trees = e
+    same_items bs l m e (tree.tree c cs) =
+        same_items bs (made_of_both put_before l (resolved one bs c)) (made_of_both put_before m (resolved other bs c))
+        (ap (λ z. made_of_both put_before z (resolved one bs c)) e ∙ ap (made_of_both put_before m) (same_resolved bs c)) cs
+
+    same_judgement : (bs : List Name) (l m : Found) → l ≡ m → (f : Focus) (g h : Found) → g ≡ h → judgement one bs l f g ≡ judgement other bs m f h
+    same_judgement bs l m d tree.unfocused g h e = ap (λ z. with_goal z g) d ∙ ap (with_goal m) e
+    same_judgement bs l m d (tree.focused f) g h e =
+        ap (λ z. with_focus_and_goal z (resolved one bs f) g) d ∙ ap (λ z. with_focus_and_goal m z g) (same_resolved bs f) ∙ ap (with_focus_and_goal m (resolved other bs f)) e

@@ -19,7 +19,7 @@ use Rattle.ab_inference.specs.declared.op.Op.TheVariants as op
 use Rattle.ab_inference.specs.declared.op.Binds.{Binds}
 use Rattle.ab_inference.specs.declared.op.Mark as declared
 use Rattle.ab_inference.specs.declared.op.Mark.TheVariants as mark
-use Rattle.ab_inference.specs.Sketches.{Sketch, apply, abs, equal, bind, erase, count, variable_of, marks_of}
+use Rattle.ab_inference.specs.Sketches.{Sketch, apply, behind, abs, equal, bind, erase, count, variable_of, marks_of}
 use Rattle.ab_inference.specs.Programs.{Item, bind_item, binding_of, item_of, items_of, OpTyped, HoldsWritten}
 use Rattle.ab_inference.specs.Inferences.{AreBelow}
 use Rattle.ab_inference.specs.Verdicts.{marks_in, mark_of, AreApart}
@@ -68,6 +68,18 @@ module _ (T : Table) (cells : List CellEntry) (F : List Name) (N : ℕ) where
       within = All-append (λ i. variable_of N (mark_of i) < N + length F) ms ns a.within b.within;
     }
 
+    of_behind : (n : ℕ) (ss os : List Op) (ms ns : List declared.Mark) (k l : Sketch) → AreOf T cells F N ctx n ss ms k → AreOf T cells F N ctx (n + count k) os ns l
+        → AreOf T cells F N ctx n (ss ++ (os ++ op.Behind ∷ [])) (ms ++ ns) (behind k l)
+    of_behind n ss os ms ns k l a b = record {
+      items = same_items ss os op.Behind (steps_of k) (steps_of l) a.items b.items;
+      fit = (a.fit, b.fit);
+      marks_are = same_marks ms ns k l a.marks_are b.marks_are;
+      typed = λ below. All-append (OpTyped T N (length F)) ss (os ++ op.Behind ∷ []) (a.typed below)
+          (All-append (OpTyped T N (length F)) os (op.Behind ∷ []) (b.typed (below_more n (n + count k) ctx (omega arith) below)) (all_one (OpTyped T N (length F)) op.Behind tt));
+      fits = All-append (OpFits T cells) ss (os ++ op.Behind ∷ []) a.fits (All-append (OpFits T cells) os (op.Behind ∷ []) b.fits (all_one (OpFits T cells) op.Behind tt));
+      within = All-append (λ i. variable_of N (mark_of i) < N + length F) ms ns a.within b.within;
+    }
+
     of_equal : (n : ℕ) (ss os : List Op) (ms ns : List declared.Mark) (k l : Sketch) → n < N → AreOf T cells F N ctx (suc n) ss ms k → AreOf T cells F N ctx (suc n + count k) os ns l
         → AreOf T cells F N ctx n (ss ++ (os ++ op.Equal n ∷ [])) (ms ++ ns) (equal n k l)
     of_equal n ss os ms ns k l h a b = record {
@@ -107,6 +119,9 @@ module _ (T : Table) (cells : List CellEntry) (F : List Name) (N : ℕ) where
 
 apply_is : (f g : Found) (k l : Sketch) → f ≡ Ok (erase k) → g ≡ Ok (erase l) → made_of_both names.apply f g ≡ Ok (erase (apply k l))
 apply_is f g k l e h = ap (λ r. made_of_both names.apply r g) e ∙ ap (made_of (names.apply (erase k))) h
+
+behind_is : (f g : Found) (k l : Sketch) → f ≡ Ok (erase k) → g ≡ Ok (erase l) → made_of_both names.behind f g ≡ Ok (erase (behind k l))
+behind_is f g k l e h = ap (λ r. made_of_both names.behind r g) e ∙ ap (made_of (names.behind (erase k))) h
 
 equal_is : (f g : Found) (n : ℕ) (k l : Sketch) → f ≡ Ok (erase k) → g ≡ Ok (erase l) → made_of_both names.equal f g ≡ Ok (erase (equal n k l))
 equal_is f g n k l e h = ap (λ r. made_of_both names.equal r g) e ∙ ap (made_of (names.equal (erase k))) h
@@ -150,6 +165,28 @@ module _ (store : Contents) where
         of_apply T store.cells F N (nodes_in r0.bound.items) (length r0.variables.items) a.steps b.steps a.marks b.marks a.sketch b.sketch
         (a.of T F N (first_becomes s t r0 r1 r2 f g e a b T F N l)) (second_of s t r0 r1 r2 f g e a b T F N (length r0.variables.items) refl l);
     room = omega (arith, a.room, b.room, p.variables, ap length p.names, ap length p.steps, length-append r2.steps.items (op.Apply ∷ []));
+  }
+
+  -- one expression, and behind it what takes it
+  pub grew_behind : (s t : Table) (r0 r1 r2 r3 : Row) (f g : Found) → IsExtendedBy s t → Grew s store r0 r1 f → Grew t store r1 r2 g → Puts r2 r3 op.Behind → Grew t store r0 r3 (made_of_both names.behind f g)
+  grew_behind s t r0 r1 r2 r3 f g e a b p = record {
+    sketch = behind a.sketch b.sketch;
+    is = behind_is f g a.sketch b.sketch a.is b.is;
+    bound = p.bound ∙ (b.bound ∙ a.bound);
+    steps = a.steps ++ (b.steps ++ op.Behind ∷ []);
+    steps_are = both_behind r0.steps.items r1.steps.items r2.steps.items r3.steps.items a.steps b.steps (op.Behind ∷ []) a.steps_are b.steps_are p.steps;
+    marks = a.marks ++ b.marks;
+    marks_are = p.marks ∙ behind_twice r0.marks.items r1.marks.items r2.marks.items a.marks b.marks a.marks_are b.marks_are;
+    names = a.names ++ b.names;
+    names_are = p.names ∙ behind_twice r0.names.items r1.names.items r2.names.items a.names b.names a.names_are b.names_are;
+    apart = λ h. subst AreApart (sym p.names) (b.apart (a.apart h));
+    order = p.names ∙ names_twice r0.names.items r1.names.items r2.names.items (free_names (erase a.sketch)) (free_names (erase b.sketch)) a.order b.order;
+    variables = omega (arith, p.variables, b.variables, a.variables);
+    of = λ T F N later.
+        let l = put_becomes t T r2 r3 op.Behind F N p later in
+        of_behind T store.cells F N (nodes_in r0.bound.items) (length r0.variables.items) a.steps b.steps a.marks b.marks a.sketch b.sketch
+        (a.of T F N (first_becomes s t r0 r1 r2 f g e a b T F N l)) (second_of s t r0 r1 r2 f g e a b T F N (length r0.variables.items) refl l);
+    room = omega (arith, a.room, b.room, p.variables, ap length p.names, ap length p.steps, length-append r2.steps.items (op.Behind ∷ []));
   }
 
   -- two sides of an equation

@@ -1,20 +1,20 @@
 -- The heads of what an expression of a proof command means in a goal.
-use Rattle.std.specs.Prelude.{◌≡◌, ◌⊎◌, ℕ, List, [], ◌∷◌, ◌++◌, map, codes, Option, Some, None, Ok, All, Contains, unwrap_or}
+use Rattle.std.specs.Prelude.{◌≡◌, ◌⊎◌, ℕ, List, [], ◌++◌, map, Some, Ok, Contains, unwrap_or}
 use Rattle.std.proofs.Common.{inl, inr, refl, sym, ◌∙◌, ap, subst}
 use Rattle.std.proofs.lemmas.List.Elements.{Contains-append_cases}
-use Rattle.ab_term.specs.Types.{Ty, prop, arrows, o, olist}
+use Rattle.ab_term.specs.Types.{Ty}
 use Rattle.ab_term.specs.Logical.{Logical, truth, falsity, conjunction, disjunction, implication, equality, universal, existential, nabla, judgement, focused_judgement, star, at_sign, plus, hash, spec_universal, spec_implication, spec_conjunction}
 use Rattle.ab_term.specs.Terms.{Head, Nominal, constant, logical, nominal, variable, index, lam, spine, Terms, no_terms, term, Read}
 use Rattle.ab_term.specs.Terms as terms
-use Rattle.ab_term.specs.Typing.{Signature, head_type}
+use Rattle.ab_term.specs.Typing.{head_type}
 use Rattle.ab_term.specs.Names.{support, support_of_all, HasOneTypeEach}
 use Rattle.ab_term.specs.Variables.{variables, variables_of_all}
 use Rattle.ab_term.proofs.Lists.{Contains-none, Contains-cases, Contains-map, Contains-from_map, All-from_contains}
 use Rattle.ab_grammar.specs.Tree.{Tree}
-use Rattle.ab_meaning.specs.ResolvedNames.{Name, Resolved, bound, known, free, apply, abs, equal, bind, Binding, binding_head}
-use Rattle.ab_meaning.specs.Scopes.{Entry, resolved, nominal_number}
+use Rattle.ab_meaning.specs.ResolvedNames.{Name, Resolved, bound, known, free, apply, behind, abs, equal, bind, Binding, binding_head}
+use Rattle.ab_meaning.specs.Scopes.{Entry, resolved}
 use Rattle.ab_meaning.specs.Types.{PropFree}
-use Rattle.ab_meaning.specs.Readings.{Raw, Making, Reads, reads_bound, reads_known, reads_free, reads_apply, reads_abs, reads_equal, reads_bind}
+use Rattle.ab_meaning.specs.Readings.{Raw, Making, Reads, reads_bound, reads_known, reads_free, reads_apply, reads_behind, reads_abs, reads_equal, reads_bind}
 use Rattle.ab_infer.specs.Heads.{HeadsFit, AreHeads, AreAllHeads, AreRawHeads, IsOrdinary, IsOrdinaryConstant}
 use Rattle.ab_infer.specs.Outcomes.{nominal_of, number_of}
 use Rattle.ab_formulas.specs.Declarations.{Declarations, signature_in}
@@ -35,6 +35,7 @@ module _ (Known : Head ℕ → Ty → Type 0) (Free : Name → Type 0) (P : Head
   reading_heads k (reads_known {h = h} {A = A}) = heads h A k
   reading_heads k (reads_free {x = x} plain) = names x k
   reading_heads k (reads_apply r s) = (reading_heads k.0 r, reading_heads k.1 s)
+  reading_heads k (reads_behind r s) = (reading_heads k.1 s, reading_heads k.0 r)
   reading_heads k (reads_abs plain r) = reading_heads k r
   reading_heads k (reads_equal {A = A} r s) = ((equations A, reading_heads k.0 r), reading_heads k.1 s)
   reading_heads k (reads_bind {q = q} {A = A} plain keeps r) = (binders q A plain, reading_heads k r)
@@ -58,7 +59,8 @@ module _ (D : Declarations) (s : Sequent) where
   goal_admits : HasLists D → Admits IsKnown IsFree (signature_in D) (map entry_of s.variables) (goal_names s)
   goal_admits lists = record {
     signs = λ l is. (is, λ G. refl);
-    lists = (tt, λ G. lists);
+    lists = (tt, λ G. lists.0);
+    empty = (tt, λ G. lists.1);
     variables = All-from_contains (λ (e : Entry). IsKnown (variable (record { name = e.number; type = e.type })) e.type) (map entry_of s.variables)
         (λ e c.
         let x = Contains-from_map entry_of s.variables e c in
@@ -76,6 +78,7 @@ module _ (D : Declarations) (s : Sequent) where
   heads_fit (known h A) k = k.1
   heads_fit (free x p) k = tt
   heads_fit (apply e f) k = (heads_fit e k.0, heads_fit f k.1)
+  heads_fit (behind e f) k = (heads_fit e k.0, heads_fit f k.1)
   heads_fit (abs x p e) k = heads_fit e k
   heads_fit (equal e f) k = (heads_fit e k.0, heads_fit f k.1)
   heads_fit (bind q x p w e) k = heads_fit e k

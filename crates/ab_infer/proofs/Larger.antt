@@ -91,6 +91,7 @@ module _ (s t : Table) where
     op_typed n frees (op.Known g id) h = holds_type s t id h
     op_typed n frees (op.Free j p) h = h
     op_typed n frees op.Apply h = h
+    op_typed n frees op.Behind h = h
     op_typed n frees (op.Abs x m p) h = h
     op_typed n frees (op.Equal m) h = h
     op_typed n frees (op.Bind q x m p w) h = (h.0, written_on w h.1)
@@ -100,6 +101,7 @@ module _ (s t : Table) where
     op_fits n frees (op.Known g id) h f = subst (HasHeadType (s ++ t) C g) (sym (same_type s t id h)) (head_on g (type_of s id) f)
     op_fits n frees (op.Free j p) h f = f
     op_fits n frees op.Apply h f = f
+    op_fits n frees op.Behind h f = f
     op_fits n frees (op.Abs x m p) h f = f
     op_fits n frees (op.Equal m) h f = f
     op_fits n frees (op.Bind q x m p w) h f = f
@@ -110,6 +112,7 @@ module _ (s t : Table) where
         ap (λ k. known_item k (type_of (s ++ t) id)) (same_head g f.typed f.held) ∙ ap (known_item (head_in s C g)) (same_type s t id h)
     same_item n frees names (op.Free j p) h f = refl
     same_item n frees names op.Apply h f = refl
+    same_item n frees names op.Behind h f = refl
     same_item n frees names (op.Abs x m p) h f = refl
     same_item n frees names (op.Equal m) h f = refl
     same_item n frees names (op.Bind q x m p w) h f = ap (bind_item (binding_of q) x m p) (same_written w h.1)

@@ -22,9 +22,10 @@ pub mod Wholes
 pub mod Connectives
 pub mod Naming
 pub mod Cases
+pub mod Judgements
+pub mod Depths
 pub mod ElaborationScopes
 mod Numbers
-mod Trees
 mod Answering
 pub mod MeaningNames
 pub mod MeaningNumbers

@@ -1,14 +1,13 @@
 -- Looking names up, one entry after another.
-use Rattle.std.proofs.Common.{◌≡◌, ◌≢◌, ℕ, zero, suc, ◌<◌, ◌≤◌, List, [], ◌∷◌, ◌++◌, length, get_or, take, drop, map, Bool, true, false, Option, Some, None, refl, sym, ◌∙◌, ap, subst, arith}
-use Rattle.std.specs.Prelude.{MatchOption, Contains, bytes_eq, option_map, if◌then◌else◌, ◌==◌, ◌&&◌, not, nat_le, slice_index}
+use Rattle.std.proofs.Common.{◌≡◌, ◌≢◌, ℕ, zero, suc, ◌<◌, ◌≤◌, List, [], ◌∷◌, ◌++◌, length, get_or, take, drop, Bool, true, false, Option, Some, None, refl, sym, ◌∙◌, ap, subst, arith}
+use Rattle.std.specs.Prelude.{MatchOption, Contains, bytes_eq, option_map, ◌==◌, ◌&&◌, not, nat_le, slice_index}
 use Rattle.std.specs.List.{list_all}
 use Rattle.std.specs.Char.{is_ascii_digit}
 use Rattle.std.specs.Cmp.Lexicographic.{bytes_decides}
-use Rattle.ab_term.specs.Types.{Ty}
 use Rattle.ab_term.specs.Terms.{Nominal, nominal, variable}
 use Rattle.ab_term.specs.Constants.{Constant, names, type_in}
 use Rattle.ab_norm.specs.ab_types.specs.Entries.{Table}
-use Rattle.ab_norm.specs.ab_types.specs.Ids.{type_of, HoldsType}
+use Rattle.ab_norm.specs.ab_types.specs.Ids.{type_of}
 use Rattle.ab_norm.specs.ab_store.specs.Trees.{Contents, head_reading}
 use Rattle.ab_meaning.specs.ResolvedNames.{Name, Resolved, bound, known, free}
 use Rattle.ab_meaning.specs.Scopes.{index_of, Entry}

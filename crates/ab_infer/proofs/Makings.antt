@@ -6,7 +6,7 @@ use Rattle.ab_term.specs.Terms.{Head, nominal}
 use Rattle.ab_term.specs.Beta.{atom}
 use Rattle.ab_meaning.specs.ResolvedNames.{Name, Resolved, free}
 use Rattle.ab_meaning.specs.Scopes.{nominal_number}
-use Rattle.ab_meaning.specs.Readings.{Making, Raw, Reads, reads_bound, reads_known, reads_free, reads_apply, reads_abs, reads_equal, reads_bind}
+use Rattle.ab_meaning.specs.Readings.{Making, Raw, Reads, reads_bound, reads_known, reads_free, reads_apply, reads_behind, reads_abs, reads_equal, reads_bind}
 use Rattle.ab_meaning.specs.ReadingCounts.{Reading, IsTheReading, HasNoReading, Differ, IsFirstOpen}
 use Rattle.ab_infer.specs.Outcomes.{nominal_of}
 use Rattle.ab_meaning.specs.Terms.{made, constant_named}
@@ -23,6 +23,7 @@ module _ (Known : Head ℕ → Ty → Type 0) (Free : Name → Type 0) (one othe
   reads_too {types = types} {G = G} n (reads_free {x = x} {p = p} f) =
       subst (λ h. Reads other types G (free x p) (atom h) (types x) (types x ∷ [])) (sym (same x n (types x))) (reads_free f)
   reads_too n (reads_apply r s) = reads_apply (reads_too n.0 r) (reads_too n.1 s)
+  reads_too n (reads_behind r s) = reads_behind (reads_too n.0 r) (reads_too n.1 s)
   reads_too n (reads_abs f r) = reads_abs f (reads_too n r)
   reads_too n (reads_equal r s) = reads_equal (reads_too n.0 r) (reads_too n.1 s)
   reads_too n (reads_bind f k r) = reads_bind f k (reads_too n r)

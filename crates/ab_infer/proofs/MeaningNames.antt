@@ -2,7 +2,7 @@
 -- type nothing settles.
 use Rattle.std.specs.Prelude.{if◌then◌else◌, bytes_eq}
 use Rattle.std.specs.List.{All}
-use Rattle.std.proofs.Common.{◌≡◌, ◌==◌, ℕ, List, [], ◌∷◌, codes, Bool, true, false, Option, Some, None, Ok, Err, option_map, refl, sym, subst}
+use Rattle.std.proofs.Common.{◌≡◌, ◌==◌, ℕ, List, [], ◌∷◌, codes, Bool, true, false, Option, Some, None, Ok, Err, option_map, refl, subst}
 use Rattle.std.proofs.lemmas.List.Elements.{All-head, All-tail}
 use Rattle.ab_term.specs.Types.{Ty, prop, arrows, o, olist}
 use Rattle.ab_term.specs.Logical as logic
@@ -13,17 +13,19 @@ use Rattle.ab_grammar.specs.declared.Infix.{Infix}
 use Rattle.ab_grammar.specs.declared.Infix.TheVariants.{Arrow, Or, And, Equal, Imply, With, Cons}
 use Rattle.ab_grammar.specs.declared.Quant.{Quant}
 use Rattle.ab_grammar.specs.Tree as tree
-use Rattle.ab_grammar.specs.Tree.{Tree, Trees, no_trees}
-use Rattle.ab_meaning.specs.ResolvedNames.{Name, Resolved, bound, known, free, apply, abs, equal, bind, quantified}
-use Rattle.ab_meaning.specs.Scopes.{Entry, Scope, in_proof, nominal_number, or_else, index_of, truth_named, variable_named, constant_at, settled_nominal, nominal_at, head_named, Found, or_unknown, made_of, made_of_both, connective, joined, pi_over, after, written, with_binder, with_binders, under, is_pi, resolved, applied, pi_applied}
+use Rattle.ab_grammar.specs.Tree.{Tree, Trees, no_trees, Focus}
+use Rattle.ab_meaning.specs.ResolvedNames.{Name, Resolved, bound, known, free, apply, behind, abs, equal, bind, quantified}
+use Rattle.ab_meaning.specs.Scopes.{Entry, Scope, in_proof, nominal_number, or_else, index_of, truth_named, variable_named, constant_at, settled_nominal, nominal_at, head_named, Found, or_unknown, made_of, made_of_both, connective, joined, empty_list, put_before, is_list, first_list, with_goal, with_focus_and_goal, pi_over, after, written, with_binder, with_binders, under, is_pi, resolved, applied, pi_applied, context, items_before, judgement}
 
--- the constants that signs and words stand for
+-- the logical constants that signs and words stand for
 abbrev pub IsWritten : Logical → Type 0
 IsWritten logic.truth = Unit {0}
 IsWritten logic.falsity = Unit {0}
 IsWritten logic.conjunction = Unit {0}
 IsWritten logic.disjunction = Unit {0}
 IsWritten logic.implication = Unit {0}
+IsWritten logic.judgement = Unit {0}
+IsWritten logic.focused_judgement = Unit {0}
 IsWritten logic.spec_implication = Unit {0}
 IsWritten logic.spec_conjunction = Unit {0}
 IsWritten _ = ⊥
@@ -39,6 +41,7 @@ module _ (Known : Head ℕ → Ty → Type 0) (Free : Name → Type 0) where
   NamesAre (known h A) = Known h A
   NamesAre (free x p) = Free x
   NamesAre (apply e f) = NamesAre e × NamesAre f
+  NamesAre (behind e f) = NamesAre e × NamesAre f
   NamesAre (abs x p e) = NamesAre e
   NamesAre (equal e f) = NamesAre e × NamesAre f
   NamesAre (bind q x p w e) = NamesAre e
@@ -81,6 +84,7 @@ module _ (Known : Head ℕ → Ty → Type 0) (Free : Name → Type 0) where
   pi_found (known h A) p = tt
   pi_found (free x n) p = tt
   pi_found (apply e f) p = tt
+  pi_found (behind e f) p = tt
   pi_found (abs x n e) p = p
   pi_found (equal e f) p = tt
   pi_found (bind q x n w e) p = tt
@@ -103,6 +107,7 @@ module _ (Known : Head ℕ → Ty → Type 0) (Free : Name → Type 0) where
   pub record Admits (sg : Signature) (entries : List Entry) (ns : List Nominal) : Type 0 where
     pub signs : (l : Logical) → IsWritten l → Known (logical l) (logical_type l)
     pub lists : Known (constant (codes "::")) (arrows (o ∷ olist ∷ []) olist)
+    pub empty : Known (constant (codes "nil")) olist
     pub variables : All (λ (e : Entry). Known (variable (record { name = e.number; type = e.type })) e.type) entries
     pub constants : (x : Name) (A : Ty) → sg x ≡ Some A → Known (constant x) A
     pub nominals : All (λ (a : Nominal). Known (nominal a) a.type) ns
@@ -162,6 +167,23 @@ module _ (Known : Head ℕ → Ty → Type 0) (Free : Name → Type 0) where
     joined_found Cons a b p q =
         both_found (λ t u. apply (apply (known (constant (codes "::")) (arrows (o ∷ olist ∷ []) olist)) t) u) (λ d e r t. ((ad.lists, r), t)) a b p q
 
+    put_found : (l f : Found) → IfFound l → IfFound f → IfFound (made_of_both put_before l f)
+    put_found l f p q = both_found put_before (λ d e r t. (r, (ad.lists, t))) l f p q
+
+    first_found : (c : Tree) (f : Found) → IfFound f → IfFound (first_list c f)
+    first_found c f p = if_found (is_list c) f (made_of_both put_before (Ok empty_list) f) p (put_found (Ok empty_list) f ad.empty p)
+
+    goal_found : (l g : Found) → IfFound l → IfFound g → IfFound (with_goal l g)
+    goal_found l g p q =
+        both_found apply (λ d e r t. (r, t)) (made_of (apply (known (logical logic.judgement) (logical_type logic.judgement))) l) g
+        (made_found (apply (known (logical logic.judgement) (logical_type logic.judgement))) (λ e r. (ad.signs logic.judgement tt, r)) l p) q
+
+    focus_found : (l f g : Found) → IfFound l → IfFound f → IfFound g → IfFound (with_focus_and_goal l f g)
+    focus_found l f g p q r =
+        let head = known (logical logic.focused_judgement) (logical_type logic.focused_judgement) in
+        both_found apply (λ d e r t. (r, t)) (made_of_both apply (made_of (apply head) l) f) g
+        (both_found apply (λ d e r t. (r, t)) (made_of (apply head) l) f (made_found (apply head) (λ e r. (ad.signs logic.focused_judgement tt, r)) l p) q) r
+
     mutual
       pub names_are : (bs : List Name) (e : Tree) → IfFound (resolved s bs e)
       names_are bs (tree.name x p) = unknown_found x (head_named s bs x p) (head_there bs x p)
@@ -170,7 +192,7 @@ module _ (Known : Head ℕ → Ty → Type 0) (Free : Name → Type 0) where
       names_are bs (tree.abs x e p) = made_found (abs x p) (λ d r. r) (resolved s (x ∷ bs) e) (names_are (x ∷ bs) e)
       names_are bs (tree.join i t u p) = joined_found i (resolved s bs t) (resolved s bs u) (names_are bs t) (names_are bs u)
       names_are bs (tree.bind q xs e p) = binders_found kinds q xs (resolved s (under xs bs) e) (names_are (under xs bs) e)
-      names_are bs (tree.judge cs f g p) = tt
+      names_are bs (tree.judge cs f g p) = judgement_names bs (context s bs cs) f (resolved s bs g) (context_names bs cs) (names_are bs g)
 
       applied_names : (bs : List Name) (a : Found) → IfFound a → (vs : Trees) → IfFound (applied s bs a vs)
       applied_names bs a p no_trees = p
@@ -181,6 +203,19 @@ module _ (Known : Head ℕ → Ty → Type 0) (Free : Name → Type 0) where
       pi_names bs no_trees = tt
       pi_names bs (tree.tree v no_trees) = after_found (resolved s bs v) (names_are bs v)
       pi_names bs (tree.tree v (tree.tree u us)) = tt
+
+      context_names : (bs : List Name) (cs : Trees) → IfFound (context s bs cs)
+      context_names bs no_trees = ad.empty
+      context_names bs (tree.tree c cs) = items_names bs (first_list c (resolved s bs c)) (first_found c (resolved s bs c) (names_are bs c)) cs
+
+      items_names : (bs : List Name) (l : Found) → IfFound l → (cs : Trees) → IfFound (items_before s bs l cs)
+      items_names bs l p no_trees = p
+      items_names bs l p (tree.tree c cs) =
+          items_names bs (made_of_both put_before l (resolved s bs c)) (put_found l (resolved s bs c) p (names_are bs c)) cs
+
+      judgement_names : (bs : List Name) (l : Found) (f : Focus) (g : Found) → IfFound l → IfFound g → IfFound (judgement s bs l f g)
+      judgement_names bs l tree.unfocused g p q = goal_found l g p q
+      judgement_names bs l (tree.focused f) g p q = focus_found l (resolved s bs f) g p (names_are bs f) q
 
     -- of an expression whose names are resolved
     pub resolved_names : (e : Tree) (r : Resolved) → resolved s [] e ≡ Ok r → NamesAre r
@@ -194,4 +229,4 @@ pub free_are_nominal : (kinds : List Name) (constants : Signature) (entries : Li
     → resolved (record { kinds = kinds; constants = constants; variables = entries; nominals = nominals; place = in_proof }) [] e ≡ Ok r → FreeAreNominal r
 free_are_nominal kinds constants entries nominals e r is =
     resolved_names (λ h A. Unit {0}) (λ x. (n : ℕ) × (nominal_number x ≡ Some n)) kinds constants entries nominals
-    (record { signs = λ l w. tt; lists = tt; variables = λ k d l. tt; constants = λ x A t. tt; nominals = λ k d l. tt; unsettled = λ x n u. (n, u.0) }) e r is
+    (record { signs = λ l w. tt; lists = tt; empty = tt; variables = λ k d l. tt; constants = λ x A t. tt; nominals = λ k d l. tt; unsettled = λ x n u. (n, u.0) }) e r is

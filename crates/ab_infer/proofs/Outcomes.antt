@@ -19,7 +19,7 @@ use Rattle.ab_meaning.specs.ReadingCounts.{IsTheReading}
 use Rattle.ab_inference.specs.declared.op.Op.{Op}
 use Rattle.ab_inference.specs.declared.op.Op.TheVariants as op
 use Rattle.ab_inference.specs.Sketches.{Sketch, erase, term_of}
-use Rattle.ab_inference.specs.Programs.{Item, Runs, item_of, items_of, bound_item, known_item, free_item, apply_item, abs_item, equal_item, bind_item, no_item, run_bound, run_known, run_free, run_apply, run_abs, run_equal, run_bind}
+use Rattle.ab_inference.specs.Programs.{Item, Runs, item_of, items_of, bound_item, known_item, free_item, apply_item, behind_item, abs_item, equal_item, bind_item, no_item, run_bound, run_known, run_free, run_apply, run_behind, run_abs, run_equal, run_bind}
 use Rattle.ab_inference.specs.Verdicts.{AreFound, types_found}
 use Rattle.ab_infer.specs.NormalTerms.{OpFits, IsBuilt, HasHeadType, AreFreeHeads, BecomeHeads, head_at}
 use Rattle.ab_infer.specs.Heads.{HeadsFit, MakesTyped}
@@ -33,6 +33,7 @@ module _ (sg : Signature) where
   ItemFits (known_item h A) = (G : List Ty) → head_type sg G h ≡ Some A
   ItemFits (free_item x j p) = Unit {0}
   ItemFits apply_item = Unit {0}
+  ItemFits behind_item = Unit {0}
   ItemFits (abs_item x n p) = Unit {0}
   ItemFits (equal_item n) = Unit {0}
   ItemFits (bind_item q x n p w) = Unit {0}
@@ -51,6 +52,7 @@ module _ (sg : Signature) where
   heads_fit f (run_known r) h = heads_fit f.1 r (f.0, h)
   heads_fit f (run_free r) h = heads_fit f.1 r (tt, h)
   heads_fit f (run_apply r) h = heads_fit f.1 r ((h.1.0, h.0), h.1.1)
+  heads_fit f (run_behind r) h = heads_fit f.1 r ((h.1.0, h.0), h.1.1)
   heads_fit f (run_abs r) h = heads_fit f.1 r (h.0, h.1)
   heads_fit f (run_equal r) h = heads_fit f.1 r ((h.1.0, h.0), h.1.1)
   heads_fit f (run_bind r) h = heads_fit f.1 r (h.0, h.1)
@@ -60,6 +62,7 @@ item_fits types C names (op.Bound i m) f = tt
 item_fits types C names (op.Known g id) f = f.is
 item_fits types C names (op.Free j p) f = tt
 item_fits types C names op.Apply f = tt
+item_fits types C names op.Behind f = tt
 item_fits types C names (op.Abs x m p) f = tt
 item_fits types C names (op.Equal m) f = tt
 item_fits types C names (op.Bind q x m p w) f = tt

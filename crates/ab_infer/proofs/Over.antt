@@ -13,8 +13,8 @@ use Rattle.ab_inference.specs.declared.op.Op.{Op}
 use Rattle.ab_inference.specs.declared.op.Op.TheVariants as op
 use Rattle.ab_inference.specs.declared.op.Binds.TheVariants as binds
 use Rattle.ab_inference.specs.declared.op.Mark as declared
-use Rattle.ab_inference.specs.Sketches.{Sketch, bound, known, free, apply, abs, equal, bind, erase, count}
-use Rattle.ab_inference.specs.Programs.{Item, bound_item, known_item, free_item, apply_item, abs_item, equal_item, bind_item, item_of, items_of, OpTyped}
+use Rattle.ab_inference.specs.Sketches.{Sketch, bound, known, free, apply, behind, abs, equal, bind, erase, count}
+use Rattle.ab_inference.specs.Programs.{Item, bound_item, known_item, free_item, apply_item, behind_item, abs_item, equal_item, bind_item, item_of, items_of, OpTyped}
 use Rattle.ab_infer.specs.NormalTerms.{OpFits}
 use Rattle.ab_infer.specs.declared.row.Row.{Row}
 use Rattle.ab_infer.specs.Rows.{steps_of, Become, AreOf, Grew}
@@ -29,6 +29,7 @@ ends_with (bound i n) = ([], bound_item i n, refl)
 ends_with (known h A) = ([], known_item h A, refl)
 ends_with (free x j p) = ([], free_item x j p, refl)
 ends_with (apply e f) = (steps_of e ++ steps_of f, apply_item, sym (append_assoc (steps_of e) (steps_of f) (apply_item ∷ [])))
+ends_with (behind e f) = (steps_of e ++ steps_of f, behind_item, sym (append_assoc (steps_of e) (steps_of f) (behind_item ∷ [])))
 ends_with (abs x n p e) = (steps_of e, abs_item x n p, refl)
 ends_with (equal n e f) = (steps_of e ++ steps_of f, equal_item n, sym (append_assoc (steps_of e) (steps_of f) (equal_item n ∷ [])))
 ends_with (bind q x n p w e) = (steps_of e, bind_item q x n p w, refl)
@@ -39,6 +40,7 @@ is_abstraction (bound i m) is x n p e = let h = same_last is [] (abs_item x n p)
 is_abstraction (known h A) is x n p e = let g = same_last is [] (abs_item x n p) (known_item h A) e in absurd (let f = g.1 in cc)
 is_abstraction (free y j q) is x n p e = let h = same_last is [] (abs_item x n p) (free_item y j q) e in absurd (let g = h.1 in cc)
 is_abstraction (apply a b) is x n p e = let h = same_last is (steps_of a ++ steps_of b) (abs_item x n p) apply_item (e ∙ (ends_with (apply a b)).2) in absurd (let g = h.1 in cc)
+is_abstraction (behind a b) is x n p e = let h = same_last is (steps_of a ++ steps_of b) (abs_item x n p) behind_item (e ∙ (ends_with (behind a b)).2) in absurd (let g = h.1 in cc)
 is_abstraction (abs y m q a) is x n p e = let h = same_last is (steps_of a) (abs_item x n p) (abs_item y m q) e in (a, (let g = h.1 in cc), h.0)
 is_abstraction (equal m a b) is x n p e = let h = same_last is (steps_of a ++ steps_of b) (abs_item x n p) (equal_item m) (e ∙ (ends_with (equal m a b)).2) in absurd (let g = h.1 in cc)
 is_abstraction (bind q y m r w a) is x n p e = let h = same_last is (steps_of a) (abs_item x n p) (bind_item q y m r w) e in absurd (let g = h.1 in cc)
@@ -49,6 +51,7 @@ no_pi (bound i m) is j e never = refl
 no_pi (known h A) is j e never = refl
 no_pi (free y k q) is j e never = refl
 no_pi (apply a b) is j e never = refl
+no_pi (behind a b) is j e never = refl
 no_pi (abs y m q a) is j e never = absurd (never y m q (same_last is (steps_of a) j (abs_item y m q) e).1)
 no_pi (equal m a b) is j e never = refl
 no_pi (bind q y m r w a) is j e never = refl
@@ -152,6 +155,7 @@ not_abs_item T cells F (op.Bound i m) never x n p e = cc
 not_abs_item T cells F (op.Known h id) never x n p e = cc
 not_abs_item T cells F (op.Free j q) never x n p e = cc
 not_abs_item T cells F op.Apply never x n p e = cc
+not_abs_item T cells F op.Behind never x n p e = cc
 not_abs_item T cells F (op.Abs y m q) never x n p e = never y m q refl
 not_abs_item T cells F (op.Equal m) never x n p e = cc
 not_abs_item T cells F (op.Bind b y m q w) never x n p e = cc

@@ -8,7 +8,7 @@ use Rattle.ab_term.specs.Variables.{variables, variables_of_all}
 use Rattle.ab_grammar.specs.declared.Quant.TheVariants.{Forall, Exists, Nabla}
 use Rattle.ab_meaning.specs.Types.{PropFree}
 use Rattle.ab_meaning.specs.ResolvedNames.{Name, Resolved, Binding, quantified, pi, binding_head}
-use Rattle.ab_meaning.specs.Readings.{Raw, Making, Reads, reads_bound, reads_known, reads_free, reads_apply, reads_abs, reads_equal, reads_bind}
+use Rattle.ab_meaning.specs.Readings.{Raw, Making, Reads, reads_bound, reads_known, reads_free, reads_apply, reads_behind, reads_abs, reads_equal, reads_bind}
 use Rattle.ab_infer.specs.Heads.{AreHeads, AreAllHeads, AreRawHeads, KnownAre, IsOrdinary, IsFixed}
 
 module _ (P : Head ℕ → Type 0) (FreeNames : Type 0) (made : Making) (types : Name → Ty) (indices : (i : ℕ) → P (index i)) (equations : (A : Ty) → P (logical (equality A)))
@@ -18,6 +18,7 @@ module _ (P : Head ℕ → Type 0) (FreeNames : Type 0) (made : Making) (types :
   reading_heads k reads_known = k
   reading_heads k (reads_free {x = x} free) = names k x free
   reading_heads k (reads_apply r s) = (reading_heads k.0 r, reading_heads k.1 s)
+  reading_heads k (reads_behind r s) = (reading_heads k.1 s, reading_heads k.0 r)
   reading_heads k (reads_abs free r) = reading_heads k r
   reading_heads k (reads_equal {A = A} r s) = ((equations A, reading_heads k.0 r), reading_heads k.1 s)
   reading_heads k (reads_bind {q = q} {A = A} free keeps r) = (binders q A free, reading_heads k r)

@@ -8,7 +8,7 @@ use Rattle.ab_grammar.specs.declared.Infix.{Infix}
 use Rattle.ab_grammar.specs.declared.Infix.TheVariants as sign
 use Rattle.ab_grammar.specs.declared.Quant.{Quant}
 use Rattle.ab_grammar.specs.Tree as tree
-use Rattle.ab_grammar.specs.Tree.{Tree, Trees, trees_of, focus_of}
+use Rattle.ab_grammar.specs.Tree.{Tree, Trees, Focus, trees_of}
 use Rattle.ab_syntax.specs.declared.tree.Binder.{Binder}
 use Rattle.ab_syntax.specs.declared.tree.Parse.{Parse}
 use Rattle.ab_syntax.specs.declared.tree.Parse.TheVariants.{rolls-Name, rolls-Apply, rolls-Abs, rolls-Join, rolls-Bind, rolls-Judge}
@@ -44,8 +44,14 @@ tree_join o a b p = ap tree_of (sym (rolls-Join o a b p)) ∙ fold-roll-Parse Tr
 pub tree_bind : (q : Quant) (bs : Items Binder) (e : Box Parse Global) (p : ℕ) → tree_of (parse.Bind q bs e p) ≡ tree.bind q (map binder_of (list_of bs)) (tree_of e.value) p
 tree_bind q bs e p = ap tree_of (sym (rolls-Bind q bs e p)) ∙ fold-roll-Parse Tree tree_step _
 
-pub judgement_fails : (s : Scope) (bs : List Name) (cs : Items Parse) (f : Option (Box Parse Global)) (g : Box Parse Global) (p : ℕ) → resolved s bs (tree_of (parse.Judge cs f g p)) ≡ Err (codes "{")
-judgement_fails s bs cs f g p = ap (resolved s bs) (ap tree_of (sym (rolls-Judge cs f g p)) ∙ fold-roll-Parse Tree tree_step _)
+-- the formula in brackets, where there is one
+abbrev pub focus_tree : Option (Box Parse Global) → Focus
+focus_tree None = tree.unfocused
+focus_tree (Some b) = tree.focused (tree_of b.value)
+
+pub tree_judge : (cs : Items Parse) (f : Option (Box Parse Global)) (g : Box Parse Global) (p : ℕ) → tree_of (parse.Judge cs f g p) ≡ tree.judge (trees_of (map tree_of (list_of cs))) (focus_tree f) (tree_of g.value) p
+tree_judge cs None g p = ap tree_of (sym (rolls-Judge cs None g p)) ∙ fold-roll-Parse Tree tree_step _
+tree_judge cs (Some b) g p = ap tree_of (sym (rolls-Judge cs (Some b) g p)) ∙ fold-roll-Parse Tree tree_step _
 
 -- an application resolves by its head
 by_head : {X : Type 0} (b c : Bool) (x y : X) → b ≡ c → (if b then x else y) ≡ (if c then x else y)

@@ -25,7 +25,7 @@ use Rattle.ab_meaning.specs.Normal.{left_type, given_all, long_form, normal_give
 use Rattle.ab_inference.specs.Sketches as sketch
 use Rattle.ab_inference.specs.Sketches.{Sketch, term_of, Fit, variable_at, count}
 use Rattle.ab_inference.specs.declared.op.Op.{Op}
-use Rattle.ab_inference.specs.Programs.{Item, Runs, item_of, items_of, bound_item, known_item, free_item, apply_item, abs_item, equal_item, bind_item, no_item, run_bound, run_known, run_free, run_apply, run_abs, run_equal, run_bind}
+use Rattle.ab_inference.specs.Programs.{Item, Runs, item_of, items_of, bound_item, known_item, free_item, apply_item, behind_item, abs_item, equal_item, bind_item, no_item, run_bound, run_known, run_free, run_apply, run_behind, run_abs, run_equal, run_bind}
 use Rattle.ab_infer.specs.declared.value.Value.{Value}
 use Rattle.ab_infer.specs.declared.value.Value.TheVariants.{Given, Done}
 use Rattle.ab_infer.specs.NormalTerms.{IsBuilt, BecomeHeads}
@@ -139,6 +139,43 @@ module _ (types : Table) (base : ℕ) (v : ℕ → Ty) (x : Whole) where
               kept : (ws : List Value) → All (HoldsValue types s0) ws → All (HoldsValue types s1) ws
               kept ws h = values_kept types s0 s1 one ws h
 
+    -- an argument, and behind it the function that takes it
+    module _ (s0 s1 s2 : Contents) (one : AddsTypedTerms types s0 s1) (two : AddsTypedTerms types s1 s2) where
+      pub run_application_behind : (before after : List Value) (function value more : Value) (argument : TermId)
+          → before ≡ function ∷ value ∷ after → All (HoldsValue types s0) before
+          → tree_of types s1 argument ≡ means types s0 value no_terms
+          → ((us : Terms ℕ (List ℕ)) → means types s2 more us ≡ means types s1 function (term (tree_of types s1 argument) us))
+          → Here s0 behind_item before → There s2 (more ∷ after)
+      run_application_behind before after function value more argument was held tree made here =
+          go here.parts here.runs (subst (AreRight types s0 base v x here.parts) was here.right)
+        where
+          both : All (HoldsValue types s0) (function ∷ value ∷ after)
+          both = subst (All (HoldsValue types s0)) was held
+
+          values : All (HoldsValue types s0) (value ∷ after)
+          values = All-tail (HoldsValue types s0) function (value ∷ after) both
+
+          others : All (HoldsValue types s0) after
+          others = All-tail (HoldsValue types s0) value after values
+
+          go : (st : List Sketch) → Runs (behind_item ∷ rest) st (x.expression ∷ []) → AreRight types s0 base v x st (function ∷ value ∷ after) → There s2 (more ∷ after)
+          go [] r are = elim r [ ]
+          go (f ∷ []) r are = elim r [ ]
+          go (f ∷ e ∷ st) (run_behind r) are = record {
+            parts = sketch.behind e f ∷ st;
+            runs = r;
+            right = (
+              record {
+                is = λ ctx n fit us.
+                    ap (λ u. normal_given (signature types) (map v ctx) (term_of base v x.made f) (term u us)) (are.1.0.is ctx n fit.0 no_terms ∙ sym tree)
+                    ∙ are.0.is ctx (n + count e) fit.1 (term (tree_of types s1 argument) us)
+                    ∙ sym (means_kept types s0 s1 one function (All-head (HoldsValue types s0) function (value ∷ after) both) (term (tree_of types s1 argument) us))
+                    ∙ sym (made us);
+              },
+              are_kept s1 s2 two st after (values_kept types s0 s1 one after others) (are_kept s0 s1 one st after others are.1.1),
+            );
+          }
+
     -- binders
     module _ (s0 s1 : Contents) (adds : AddsTypedTerms types s0 s1) (name : Name) (n p : ℕ) where
       module _ (before after : List Value) (value : Value) (A : Ty) (made : TermId) (at : v n ≡ A) (was : before ≡ value ∷ after) (held : All (HoldsValue types s0) before)
@@ -249,6 +286,21 @@ module _ (types : Table) (base : ℕ) (v : ℕ → Ty) (x : Whole) where
     one_apply s ws w e here = go here.parts here.runs (subst (AreRight types s base v x here.parts) e here.right)
       where
         go : (st : List Sketch) → Runs (apply_item ∷ rest) st (x.expression ∷ []) → AreRight types s base v x st (w ∷ []) → ⊥
+        go [] r are = elim r [ ]
+        go (f ∷ []) r are = elim r [ ]
+        go (f ∷ e ∷ st) r are = are.1
+
+    pub none_behind : (s : Contents) (ws : List Value) → ws ≡ [] → Here s behind_item ws → ⊥
+    none_behind s ws e here = go here.parts here.runs (subst (AreRight types s base v x here.parts) e here.right)
+      where
+        go : (st : List Sketch) → Runs (behind_item ∷ rest) st (x.expression ∷ []) → AreRight types s base v x st [] → ⊥
+        go [] r are = elim r [ ]
+        go (f ∷ st) r are = are
+
+    pub one_behind : (s : Contents) (ws : List Value) (w : Value) → ws ≡ w ∷ [] → Here s behind_item ws → ⊥
+    one_behind s ws w e here = go here.parts here.runs (subst (AreRight types s base v x here.parts) e here.right)
+      where
+        go : (st : List Sketch) → Runs (behind_item ∷ rest) st (x.expression ∷ []) → AreRight types s base v x st (w ∷ []) → ⊥
         go [] r are = elim r [ ]
         go (f ∷ []) r are = elim r [ ]
         go (f ∷ e ∷ st) r are = are.1

@@ -6,8 +6,8 @@ use Rattle.ab_norm.specs.ab_types.proofs.Entries.{extended_by_itself}
 use Rattle.ab_norm.specs.ab_store.specs.Trees.{Contents}
 use Rattle.ab_meaning.specs.ResolvedNames.{Name}
 use Rattle.ab_meaning.specs.Scopes.{Found}
-use Rattle.ab_inference.specs.Sketches.{Sketch, bound, known, free, apply, abs, equal, bind, erase, variable_of}
-use Rattle.ab_inference.specs.Programs.{Item, apply_item, abs_item, equal_item, bind_item, Runs, no_item, run_bound, run_known, run_free, run_apply, run_abs, run_equal, run_bind, items_of, OpTyped}
+use Rattle.ab_inference.specs.Sketches.{Sketch, bound, known, free, apply, behind, abs, equal, bind, erase, variable_of}
+use Rattle.ab_inference.specs.Programs.{Item, apply_item, behind_item, abs_item, equal_item, bind_item, Runs, no_item, run_bound, run_known, run_free, run_apply, run_behind, run_abs, run_equal, run_bind, items_of, OpTyped}
 use Rattle.ab_inference.specs.Verdicts.{marks_in, mark_of, AreApart}
 use Rattle.ab_infer.specs.NameScopes.{nodes_in}
 use Rattle.ab_infer.specs.NormalTerms.{OpFits}
@@ -24,6 +24,10 @@ makes (apply e f) rest st out r =
     subst (λ is. Runs is st out) (sym (append_assoc (steps_of e) (steps_of f ++ apply_item ∷ []) rest))
     (makes e ((steps_of f ++ apply_item ∷ []) ++ rest) st out
     (subst (λ is. Runs is (e ∷ st) out) (sym (append_assoc (steps_of f) (apply_item ∷ []) rest)) (makes f (apply_item ∷ rest) (e ∷ st) out (run_apply r))))
+makes (behind e f) rest st out r =
+    subst (λ is. Runs is st out) (sym (append_assoc (steps_of e) (steps_of f ++ behind_item ∷ []) rest))
+    (makes e ((steps_of f ++ behind_item ∷ []) ++ rest) st out
+    (subst (λ is. Runs is (e ∷ st) out) (sym (append_assoc (steps_of f) (behind_item ∷ []) rest)) (makes f (behind_item ∷ rest) (e ∷ st) out (run_behind r))))
 makes (abs x n p e) rest st out r =
     subst (λ is. Runs is st out) (sym (append_assoc (steps_of e) (abs_item x n p ∷ []) rest)) (makes e (abs_item x n p ∷ rest) st out (run_abs r))
 makes (equal n e f) rest st out r =

@@ -5,7 +5,7 @@ use Rattle.ab_term.specs.Terms.{Head, logical, nominal, variable, Term, lam, spi
 use Rattle.ab_term.specs.Beta.{atom, abstraction, application}
 use Rattle.ab_term.specs.Types.{Ty}
 use Rattle.ab_term.specs.Typing.{Signature, head_type}
-use Rattle.ab_meaning.specs.ResolvedNames.{Name, Resolved, bound, known, free, apply, abs, equal, bind}
+use Rattle.ab_meaning.specs.ResolvedNames.{Name, Resolved, bound, known, free, apply, behind, abs, equal, bind}
 use Rattle.ab_meaning.specs.Types.{PropFree}
 use Rattle.ab_meaning.specs.Readings.{Raw, Making}
 
@@ -15,6 +15,7 @@ HeadsFit sg (bound i) = Unit {0}
 HeadsFit sg (known h A) = (G : List Ty) → head_type sg G h ≡ Some A
 HeadsFit sg (free x p) = Unit {0}
 HeadsFit sg (apply e f) = HeadsFit sg e × HeadsFit sg f
+HeadsFit sg (behind e f) = HeadsFit sg e × HeadsFit sg f
 HeadsFit sg (abs x p e) = HeadsFit sg e
 HeadsFit sg (equal e f) = HeadsFit sg e × HeadsFit sg f
 HeadsFit sg (bind q x p w e) = HeadsFit sg e
@@ -46,6 +47,7 @@ module _ (P : Head ℕ → Type 0) (FreeNames : Type 0) where
   KnownAre (known h A) = P h
   KnownAre (free x p) = FreeNames
   KnownAre (apply e f) = KnownAre e × KnownAre f
+  KnownAre (behind e f) = KnownAre e × KnownAre f
   KnownAre (abs x p e) = KnownAre e
   KnownAre (equal e f) = KnownAre e × KnownAre f
   KnownAre (bind q x p w e) = KnownAre e

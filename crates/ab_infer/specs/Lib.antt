@@ -14,6 +14,5 @@ pub mod Heads
 pub mod Occurrences
 pub mod Rows
 pub mod WalkMoves
--- What is asked of an expression and of declarations beforehand.
-pub mod Judgements
+-- What is asked of declarations beforehand.
 pub mod Lists

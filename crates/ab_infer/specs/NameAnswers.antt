@@ -1,5 +1,5 @@
 -- What the program answers of a name.
-use Rattle.std.specs.Prelude.{◌≡◌, ℕ, List, length, Option, Some, None, option_map}
+use Rattle.std.specs.Prelude.{◌≡◌, ℕ, List, Option, Some, None, option_map}
 use Rattle.ab_term.specs.Types.{Ty}
 use Rattle.ab_term.specs.Typing.{head_type}
 use Rattle.ab_norm.specs.ab_types.specs.Entries.{Table, signature}

@@ -1,7 +1,7 @@
 -- The free names of an expression, in the order in which they first stand in it.
 use Rattle.std.specs.Prelude.{List, [], ◌∷◌, ◌++◌, if◌then◌else◌}
 use Rattle.ab_meaning.specs.Types.{is_listed}
-use Rattle.ab_meaning.specs.ResolvedNames.{Name, Resolved, bound, known, free, apply, abs, equal, bind}
+use Rattle.ab_meaning.specs.ResolvedNames.{Name, Resolved, bound, known, free, apply, behind, abs, equal, bind}
 
 -- the free names, each as often as it stands
 abbrev pub free_names : Resolved → List Name
@@ -9,6 +9,7 @@ free_names (bound i) = []
 free_names (known h A) = []
 free_names (free x p) = x ∷ []
 free_names (apply e f) = free_names e ++ free_names f
+free_names (behind e f) = free_names e ++ free_names f
 free_names (abs x p e) = free_names e
 free_names (equal e f) = free_names e ++ free_names f
 free_names (bind q x p w e) = free_names e

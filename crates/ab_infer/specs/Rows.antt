@@ -12,8 +12,8 @@ use Rattle.ab_inference.specs.declared.fault.InferFault.TheVariants.{Unknown, Ty
 use Rattle.ab_inference.specs.declared.constraints.Formulas.{Formulas}
 use Rattle.ab_inference.specs.declared.op.Op.{Op}
 use Rattle.ab_inference.specs.declared.op.Mark as declared
-use Rattle.ab_inference.specs.Sketches.{Sketch, bound, known, free, apply, abs, equal, bind, erase, count, Fit, variable_of, marks_of}
-use Rattle.ab_inference.specs.Programs.{Item, bound_item, known_item, free_item, apply_item, abs_item, equal_item, bind_item, Runs, items_of, OpTyped}
+use Rattle.ab_inference.specs.Sketches.{Sketch, bound, known, free, apply, behind, abs, equal, bind, erase, count, Fit, variable_of, marks_of}
+use Rattle.ab_inference.specs.Programs.{Item, bound_item, known_item, free_item, apply_item, behind_item, abs_item, equal_item, bind_item, Runs, items_of, OpTyped}
 use Rattle.ab_inference.specs.Inferences.{IsFormulas, AreBelow}
 use Rattle.ab_inference.specs.Verdicts.{marks_in, mark_of, AreApart}
 use Rattle.ab_infer.specs.declared.scope.Scope.{Scope}
@@ -28,6 +28,7 @@ steps_of (bound i n) = bound_item i n ∷ []
 steps_of (known h A) = known_item h A ∷ []
 steps_of (free x j p) = free_item x j p ∷ []
 steps_of (apply e f) = steps_of e ++ (steps_of f ++ apply_item ∷ [])
+steps_of (behind e f) = steps_of e ++ (steps_of f ++ behind_item ∷ [])
 steps_of (abs x n p e) = steps_of e ++ abs_item x n p ∷ []
 steps_of (equal n e f) = steps_of e ++ (steps_of f ++ equal_item n ∷ [])
 steps_of (bind q x n p w e) = steps_of e ++ bind_item q x n p w ∷ []

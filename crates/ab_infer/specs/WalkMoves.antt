@@ -1,5 +1,8 @@
 -- Single moves of a walk. Only private contracts speak of this.
-use Rattle.std.specs.Prelude.{◌≡◌, ℕ, ◌+◌, ◌<◌, List, [], ◌∷◌, ◌++◌, length, get_or, drop, map, Option, Some, None, option_map, Ok}
+use Rattle.std.specs.Prelude.{Box, ◌≡◌, Bool, true, false, ℕ, ◌+◌, ◌<◌, List, [], ◌∷◌, ◌++◌, length, get_or, drop, map, Option, Some, None, option_map, Ok}
+use Rattle.std.specs.Global.{Global}
+use Rattle.ab_term.specs.Logical.{Logical, judgement, focused_judgement, logical_type}
+use Rattle.ab_term.specs.Terms.{logical}
 use Rattle.ab_norm.specs.ab_types.specs.Entries.{Table, kinds}
 use Rattle.ab_norm.specs.ab_types.specs.Ids.{HoldsType, type_of}
 use Rattle.ab_norm.specs.ab_types.specs.declared.ids.TypeId.{TypeId}
@@ -10,9 +13,11 @@ use Rattle.ab_grammar.specs.declared.Infix.{Infix}
 use Rattle.ab_grammar.specs.declared.Infix.TheVariants as sign
 use Rattle.ab_grammar.specs.Tree as tree
 use Rattle.ab_syntax.specs.declared.tree.Parse.{Parse}
+use Rattle.ab_syntax.specs.declared.tree.Parse.TheVariants as parse
+use Rattle.ab_syntax.specs.declared.items.Items.{Items}
 use Rattle.ab_syntax.specs.SyntaxTrees.{tree_of}
-use Rattle.ab_meaning.specs.ResolvedNames.{Name, known, apply}
-use Rattle.ab_meaning.specs.Scopes.{Scope, Found, joined, made_of_both, applied, written}
+use Rattle.ab_meaning.specs.ResolvedNames.{Name, Resolved, known, apply}
+use Rattle.ab_meaning.specs.Scopes.{Scope, Found, joined, made_of_both, applied, items_before, written}
 use Rattle.ab_inference.specs.declared.op.Op.{Op}
 use Rattle.ab_inference.specs.declared.op.Op.TheVariants as op
 use Rattle.ab_inference.specs.declared.op.Mark.TheVariants as mark
@@ -87,13 +92,34 @@ abbrev pub PutsBehind : Option ℕ → Row → Row → Type 0
 PutsBehind None old new = Puts old new op.Apply
 PutsBehind (Some node) old new = Puts old new (op.Equal node)
 
+-- the head of a judgement, with a formula in brackets or without
+abbrev pub judgement_sign : Bool → Logical
+judgement_sign true = focused_judgement
+judgement_sign false = judgement
+
+abbrev pub judgement_head : Bool → Resolved
+judgement_head focused = known (logical (judgement_sign focused)) (logical_type (judgement_sign focused))
+
 -- the type that is written, where one is
 pub record IsWritten (old new : Table) (w : Option tree.Ty) (id : Option TypeId) : Type 0 where
   pub held : HoldsWritten new id
   pub is : written (kinds old) w ≡ Ok (option_map (type_of new) id)
+
+-- it is written as a head with arguments, or as a judgement
+abbrev pub IsApplication : Parse → Type 0
+IsApplication e = (h : Box Parse Global) × (vs : Items Parse) × (p : ℕ) × (e ≡ parse.Apply h vs p)
+
+abbrev pub IsJudgement : Parse → Type 0
+IsJudgement e = (cs : Items Parse) × (f : Option (Box Parse Global)) × (g : Box Parse Global) × (p : ℕ) × (e ≡ parse.Judge cs f g p)
 
 -- the head was given the arguments before the one of this number
 pub record IsApplied (types : Table) (store : Contents) (old new : Row) (s : Scope) (bs : List Name) (whole : Found) (vs : List Parse) (i : ℕ) : Type 0 where
   pub found : Found
   pub grew : Grew types store old new found
   pub rest : applied s bs found (tree.trees_of (map tree_of (drop i vs))) ≡ whole
+
+-- the items before the one of this number stand before the list
+pub record IsListed (types : Table) (store : Contents) (old new : Row) (s : Scope) (bs : List Name) (whole : Found) (vs : List Parse) (i : ℕ) : Type 0 where
+  pub found : Found
+  pub grew : Grew types store old new found
+  pub rest : items_before s bs found (tree.trees_of (map tree_of (drop i vs))) ≡ whole

@@ -10,7 +10,6 @@ ghost use Rattle.ab_syntax.specs.SyntaxTrees.{tree_of};
 ghost use Rattle.ab_meaning.specs.Scopes.{resolved};
 ghost use Rattle.ab_infer.specs.ElaborationAnswers.{IsAnswer};
 ghost use Rattle.ab_infer.specs.ScopeReadings.{scope_of, HoldsScope};
-ghost use Rattle.ab_infer.specs.Judgements.{HasNoJudgement};
 
 use crate::answers::answer;
 use crate::expression_walk::row_of;
@@ -53,7 +52,6 @@ pub fn elaborate<L>(
     requires table { IsTable types.old }
     requires store { IsTypedBy types.old store.old }
     requires scope { HoldsScope types.old store.old scope.now }
-    requires judgement { HasNoJudgement (tree_of parse.now) }
     requires expected { HoldsType types.old expected }
     ensures answer { IsAnswer types.new store.new (resolved (scope_of types.old store.old scope.now) [] (tree_of parse.now))
         (type_of types.old expected) (tree.place_of (tree_of parse.now)) result }

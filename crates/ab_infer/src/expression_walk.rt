@@ -4,18 +4,20 @@ ghost use Rattle.ab_norm.specs.ab_types.specs.Entries.{Table, kinds};
 ghost use Rattle.ab_norm.specs.ab_types.specs.Sound.{IsTable};
 ghost use Rattle.ab_norm.specs.ab_store.specs.Trees.{Contents};
 ghost use Rattle.ab_grammar.specs.declared.Quant.{Quant};
-ghost use Rattle.ab_meaning.specs.ResolvedNames.{quantified};
+ghost use Rattle.ab_meaning.specs.ResolvedNames.{quantified, apply};
 ghost use Rattle.ab_inference.specs.Programs.{binding_of};
 ghost use Rattle.ab_syntax.specs.SyntaxTrees.{tree_of, type_of as type_tree_of, binder_of};
 ghost use Rattle.ab_meaning.specs.Scopes as scopes;
-ghost use Rattle.ab_meaning.specs.Scopes.{resolved, written, with_binders, under, after, pi_over};
+ghost use Rattle.ab_grammar.specs.Tree.{trees_of};
+ghost use Rattle.ab_meaning.specs.Scopes.{resolved, written, with_binders, under, after, pi_over, made_of_both, context, items_before};
 ghost use Rattle.ab_inference.specs.declared.constraints.Formulas.{Formulas as AFormulas};
 ghost use Rattle.ab_infer.specs.declared.scope.Scope.{Scope as AScope};
 ghost use Rattle.ab_infer.specs.NameScopes.{names_in, scope_of};
 ghost use Rattle.ab_infer.specs.declared.row.Row.{Row as ARow};
 ghost use Rattle.ab_infer.specs.Rows.{IsGround, AddsTypes, Grew, Makes, Fails};
-ghost use Rattle.ab_infer.specs.WalkMoves.{IsWritten};
+ghost use Rattle.ab_infer.specs.WalkMoves.{IsWritten, IsApplication, IsJudgement};
 
+use crate::judgement_parts::{is_list, put_constant, put_judgement};
 use crate::names::{abstract_name, bind_name, quantify_name, walk_name};
 use crate::row::Row;
 use crate::scope::Scope;
@@ -121,23 +123,7 @@ pub fn walk(
             walk_name(alloc, types, store, formulas, scope, name, *place, row)?;
             Ok(())
         }
-        Parse::Apply(head, arguments, _) => {
-            let arguments = arguments.as_slice();
-            if is_pi(head) {
-                if arguments.len() != 1 {
-                    return Err(unknown(alloc, "pi"));
-                }
-                walk(alloc, types, store, formulas, scope, &arguments[0], row)?;
-                turn_to_pi(alloc, row)?;
-                return Ok(());
-            }
-            walk(alloc, types, store, formulas, scope, head, row)?;
-            for argument in arguments {
-                walk(alloc, types, store, formulas, scope, argument, row)?;
-                row.put(Op::Apply)?;
-            }
-            Ok(())
-        }
+        Parse::Apply(..) => walk_application(alloc, types, store, formulas, scope, parse, row),
         Parse::Abs(name, body, place) => {
             bind_name(alloc, name, *place, row)?;
             walk(alloc, types, store, formulas, scope, body, row)?;
@@ -160,8 +146,175 @@ pub fn walk(
             )?;
             Ok(())
         }
-        Parse::Judge(..) => Err(unknown(alloc, "{")),
+        Parse::Judge(..) => walk_judgement(alloc, types, store, formulas, scope, parse, row),
     }
+}
+
+/// The same of a head and its arguments.
+#[cycle(walking)]
+fn walk_application(
+    alloc: Global,
+    types: &mut TypeTable,
+    store: &Store,
+    formulas: Formulas,
+    scope: &Scope,
+    parse: &Parse,
+    row: &mut Row,
+) -> Result<(), InferFault>
+    requires ground { IsGround types.old store.now formulas scope.now }
+    ensures ground { IsGround types.new store.now formulas scope.now }
+    ensures adds { AddsTypes types.old types.new }
+    ensures walked { IsApplication parse.now → MatchResult result
+        (λ u. Grew types.new store.now row.old row.new (resolved (scope_of types.old store.now scope.now) (names_in row.old.bound.items) (tree_of parse.now)))
+        (Fails (resolved (scope_of types.old store.now scope.now) (names_in row.old.bound.items) (tree_of parse.now))) }
+{
+    match parse {
+        Parse::Apply(head, arguments, _) => {
+            let arguments = arguments.as_slice();
+            if is_pi(head) {
+                if arguments.len() != 1 {
+                    return Err(unknown(alloc, "pi"));
+                }
+                walk(alloc, types, store, formulas, scope, &arguments[0], row)?;
+                turn_to_pi(alloc, row)?;
+                return Ok(());
+            }
+            walk(alloc, types, store, formulas, scope, head, row)?;
+            for argument in arguments {
+                walk(alloc, types, store, formulas, scope, argument, row)?;
+                row.put(Op::Apply)?;
+            }
+            Ok(())
+        }
+        _ => Ok(()),
+    }
+}
+
+/// The same of a judgement.
+#[cycle(walking)]
+fn walk_judgement(
+    alloc: Global,
+    types: &mut TypeTable,
+    store: &Store,
+    formulas: Formulas,
+    scope: &Scope,
+    parse: &Parse,
+    row: &mut Row,
+) -> Result<(), InferFault>
+    requires ground { IsGround types.old store.now formulas scope.now }
+    ensures ground { IsGround types.new store.now formulas scope.now }
+    ensures adds { AddsTypes types.old types.new }
+    ensures walked { IsJudgement parse.now → MatchResult result
+        (λ u. Grew types.new store.now row.old row.new (resolved (scope_of types.old store.now scope.now) (names_in row.old.bound.items) (tree_of parse.now)))
+        (Fails (resolved (scope_of types.old store.now scope.now) (names_in row.old.bound.items) (tree_of parse.now))) }
+{
+    match parse {
+        Parse::Judge(context, focus, goal, _) => {
+            put_judgement(alloc, types, formulas, focus.is_some(), row)?;
+            walk_context(
+                context.as_slice(),
+                alloc,
+                types,
+                store,
+                formulas,
+                scope,
+                row,
+            )?;
+            row.put(Op::Apply)?;
+            if let Some(focus) = focus {
+                walk_argument(alloc, types, store, formulas, scope, focus, row)?;
+                walk_argument(alloc, types, store, formulas, scope, goal, row)?;
+                return Ok(());
+            }
+            walk_argument(alloc, types, store, formulas, scope, goal, row)?;
+            Ok(())
+        }
+        _ => Ok(()),
+    }
+}
+
+/// Gives an expression to what the row ends with.
+#[cycle(walking)]
+fn walk_argument(
+    alloc: Global,
+    types: &mut TypeTable,
+    store: &Store,
+    formulas: Formulas,
+    scope: &Scope,
+    parse: &Parse,
+    row: &mut Row,
+) -> Result<(), InferFault>
+    requires ground { IsGround types.old store.now formulas scope.now }
+    ensures ground { IsGround types.new store.now formulas scope.now }
+    ensures adds { AddsTypes types.old types.new }
+    ensures walked { (first : ARow) (f : scopes.Found) → Grew types.old store.now first row.old f →
+        let found = made_of_both apply f (resolved (scope_of types.old store.now scope.now) (names_in row.old.bound.items) (tree_of parse.now)) in
+        MatchResult result (λ u. Grew types.new store.now first row.new found) (Fails found) }
+{
+    walk(alloc, types, store, formulas, scope, parse, row)?;
+    row.put(Op::Apply)?;
+    Ok(())
+}
+
+/// The list of a judgement, from its items.
+#[cycle(walking)]
+fn walk_context(
+    items: &[Parse],
+    alloc: Global,
+    types: &mut TypeTable,
+    store: &Store,
+    formulas: Formulas,
+    scope: &Scope,
+    row: &mut Row,
+) -> Result<(), InferFault>
+    requires ground { IsGround types.old store.now formulas scope.now }
+    ensures ground { IsGround types.new store.now formulas scope.now }
+    ensures adds { AddsTypes types.old types.new }
+    ensures walked { let found = context (scope_of types.old store.now scope.now) (names_in row.old.bound.items) (trees_of (map tree_of items.now)) in
+        MatchResult result (λ u. Grew types.new store.now row.old row.new found) (Fails found) }
+{
+    match items {
+        [] => {
+            put_constant(alloc, types, "nil", row)?;
+            Ok(())
+        }
+        [first, rest @ ..] => {
+            if is_list(first) {
+                walk(alloc, types, store, formulas, scope, first, row)?;
+                walk_items(rest, alloc, types, store, formulas, scope, row)?;
+                return Ok(());
+            }
+            put_constant(alloc, types, "nil", row)?;
+            walk_items(items, alloc, types, store, formulas, scope, row)?;
+            Ok(())
+        }
+    }
+}
+
+/// Puts items before the list that the row ends with: the last of them stands first.
+#[cycle(walking)]
+fn walk_items(
+    items: &[Parse],
+    alloc: Global,
+    types: &mut TypeTable,
+    store: &Store,
+    formulas: Formulas,
+    scope: &Scope,
+    row: &mut Row,
+) -> Result<(), InferFault>
+    requires ground { IsGround types.old store.now formulas scope.now }
+    ensures ground { IsGround types.new store.now formulas scope.now }
+    ensures adds { AddsTypes types.old types.new }
+    ensures walked { (first : ARow) (f : scopes.Found) → Grew types.old store.now first row.old f →
+        let found = items_before (scope_of types.old store.now scope.now) (names_in row.old.bound.items) f (trees_of (map tree_of items.now)) in
+        MatchResult result (λ u. Grew types.new store.now first row.new found) (Fails found) }
+{
+    for item in items {
+        put_constant(alloc, types, "::", row)?;
+        walk_argument(alloc, types, store, formulas, scope, item, row)?;
+        row.put(Op::Behind)?;
+    }
+    Ok(())
 }
 
 /// The row of the steps that make an expression. `Unknown` has the first name in the text that stands for nothing.

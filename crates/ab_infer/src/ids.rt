@@ -33,7 +33,11 @@ pub(crate) fn numbers(alloc: Global, names: &[Name]) -> Result<Vec<u128>, AllocE
 }
 
 /// The type of a kind that each table has.
-fn kind_type(alloc: Global, types: &mut TypeTable, text: &str) -> Result<TypeId, AllocError>
+pub(crate) fn kind_type(
+    alloc: Global,
+    types: &mut TypeTable,
+    text: &str,
+) -> Result<TypeId, AllocError>
     requires table { IsTable types.old }
     requires first { Contains (kinds first_entries) text.now }
     ensures held { IfOk result (HoldsType types.new) }

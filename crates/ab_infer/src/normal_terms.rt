@@ -13,7 +13,7 @@ ghost use Rattle.ab_norm.specs.NodeGrowth.{AddsTypedTerms};
 ghost use Rattle.ab_meaning.specs.ResolvedNames.{Name as AName, binding_head, binding_type};
 ghost use Rattle.ab_meaning.specs.Readings.{Making};
 ghost use Rattle.ab_inference.specs.Sketches.{Sketch, Fit};
-ghost use Rattle.ab_inference.specs.Programs.{Runs, items_of, item_of, OpTyped, binding_of, apply_item, abs_item, equal_item, bind_item};
+ghost use Rattle.ab_inference.specs.Programs.{Runs, items_of, item_of, OpTyped, binding_of, apply_item, behind_item, abs_item, equal_item, bind_item};
 ghost use Rattle.ab_inference.specs.Inferences.{IsFormulas, written_type};
 ghost use Rattle.ab_inference.specs.Verdicts.{types_found};
 ghost use Rattle.ab_infer.specs.declared.value.Value.TheVariants.{Given};
@@ -77,6 +77,34 @@ fn apply_last<L>(
         return Ok(None);
     };
     let Some(function) = pop(stack) else {
+        return Ok(None);
+    };
+    let made = given(alloc, types, store, function, argument, count)?;
+    Ok(Some(made))
+}
+
+/// The last, given the last but one.
+fn apply_behind<L>(
+    alloc: Global,
+    types: &TypeTable,
+    store: &mut Store,
+    stack: &mut Vec<Value>,
+    count: &mut Steps<L>,
+) -> Result<Option<Value>, AllocError>
+    requires table { IsTable types.now }
+    requires store { IsTypedBy types.now store.old }
+    requires stack { All (HoldsValue types.now store.old) stack.old.items }
+    ensures advances { IfOk result (λ found. (base : ℕ) (v : ℕ → Ty) →
+        Advances types.now store.old store.new base v (λ x. Unit {0}) (λ x. behind_item) stack.old.items stack.new.items found) }
+    ensures held { IfOk result (λ found. IfSome found (HoldsValue types.now store.new)) }
+    ensures stack { All (HoldsValue types.now store.new) stack.new.items }
+    ensures adds { AddsTypedTerms types.now store.old store.new }
+    ensures count { count.old ≤ count.new }
+{
+    let Some(function) = pop(stack) else {
+        return Ok(None);
+    };
+    let Some(argument) = pop_term(alloc, types, store, stack)? else {
         return Ok(None);
     };
     let made = given(alloc, types, store, function, argument, count)?;
@@ -253,6 +281,7 @@ fn build_step<L>(
         Op::Known(head, ty) => Ok(Some(bare(alloc, *head, *ty))),
         Op::Free(number, _) => Ok(Some(bare_free(alloc, base, found, frees, *number))),
         Op::Apply => apply_last(alloc, types, store, stack, count),
+        Op::Behind => apply_behind(alloc, types, store, stack, count),
         Op::Abs(name, node, _) => {
             abstract_last(alloc, types, store, name, found[*node].ty, stack)
         }

@@ -9,7 +9,7 @@ use Rattle.ab_store.specs.ab_types.specs.Ids.{type_of}
 use Rattle.ab_store.specs.ab_types.specs.declared.ids.TypeId.{TypeId}
 use Rattle.ab_meaning.specs.Types.{PropFree}
 use Rattle.ab_meaning.specs.ResolvedNames.{Name, Resolved, places_of}
-use Rattle.ab_meaning.specs.Readings.{Raw, Making, Reads, reads_bound, reads_known, reads_free, reads_apply, reads_abs, reads_equal, reads_bind}
+use Rattle.ab_meaning.specs.Readings.{Raw, Making, Reads, reads_bound, reads_known, reads_free, reads_apply, reads_behind, reads_abs, reads_equal, reads_bind}
 use Rattle.ab_meaning.specs.ReadingCounts.{Reading, IsTheReading, HasNoReading, IsFirstOpen}
 use Rattle.ab_meaning.proofs.Members.{one_term}
 use Rattle.ab_inference.specs.declared.shape.Shape.{Shape}
@@ -20,7 +20,7 @@ use Rattle.ab_inference.specs.Solutions.{Assignment, Fits, Solves, HasNoSolution
 use Rattle.ab_inference.specs.Work.{Meeting, Part}
 use Rattle.ab_inference.specs.Assignments.{Tells, Solved}
 use Rattle.ab_inference.specs.declared.op.Mark as declared
-use Rattle.ab_inference.specs.Sketches.{Sketch, bound, known, free, apply, abs, equal, bind, erase, count, Fit, Typed, given, term_of, AreFree, marks_of, variable_of, mark_place}
+use Rattle.ab_inference.specs.Sketches.{Sketch, bound, known, free, apply, behind, abs, equal, bind, erase, count, Fit, Typed, given, term_of, AreFree, marks_of, variable_of, mark_place}
 use Rattle.ab_inference.specs.Inferences.{Inferring, HasNoTyping}
 use Rattle.ab_inference.specs.Verdicts.{mark_of, marks_in, AreApart, no_mark, variable_found, type_found, IsOpenAt, HasPropAt, IsFirstOpenMark, types_found}
 use Rattle.ab_inference.proofs.Readings.{sound, complete, Comes, given_along, term_along}
@@ -34,6 +34,7 @@ reads_prop_free (reads_bound h) = tt
 reads_prop_free reads_known = tt
 reads_prop_free (reads_free f) = (f, tt)
 reads_prop_free (reads_apply {As = As} {Bs = Bs} d h) = free_both As Bs (reads_prop_free d) (reads_prop_free h)
+reads_prop_free (reads_behind {As = As} {Bs = Bs} d h) = free_both As Bs (reads_prop_free d) (reads_prop_free h)
 reads_prop_free (reads_abs f d) = (f, reads_prop_free d)
 reads_prop_free (reads_equal {As = As} {Bs = Bs} d h) = free_both As Bs (reads_prop_free d) (reads_prop_free h)
 reads_prop_free (reads_bind f k d) = (f, reads_prop_free d)
@@ -53,6 +54,7 @@ given_marks base v (bound i n) = refl
 given_marks base v (known h A) = refl
 given_marks base v (free x j p) = refl
 given_marks base v (apply e f) = ap (λ As. As ++ given base v f) (given_marks base v e) ∙ (ap (λ As. map (λ m. v (variable_of base m)) (marks_of e) ++ As) (given_marks base v f) ∙ sym (map-append (λ m. v (variable_of base m)) (marks_of e) (marks_of f)))
+given_marks base v (behind e f) = ap (λ As. As ++ given base v f) (given_marks base v e) ∙ (ap (λ As. map (λ m. v (variable_of base m)) (marks_of e) ++ As) (given_marks base v f) ∙ sym (map-append (λ m. v (variable_of base m)) (marks_of e) (marks_of f)))
 given_marks base v (abs x n p e) = ap (λ As. v n ∷ As) (given_marks base v e)
 given_marks base v (equal n e f) = ap (λ As. As ++ given base v f) (given_marks base v e) ∙ (ap (λ As. map (λ m. v (variable_of base m)) (marks_of e) ++ As) (given_marks base v f) ∙ sym (map-append (λ m. v (variable_of base m)) (marks_of e) (marks_of f)))
 given_marks base v (bind q x n p w e) = ap (λ As. v n ∷ As) (given_marks base v e)
@@ -62,6 +64,7 @@ place_marks (bound i n) = refl
 place_marks (known h A) = refl
 place_marks (free x j p) = refl
 place_marks (apply e f) = ap (λ ps. ps ++ places_of (erase f)) (place_marks e) ∙ (ap (λ ps. map mark_place (marks_of e) ++ ps) (place_marks f) ∙ sym (map-append mark_place (marks_of e) (marks_of f)))
+place_marks (behind e f) = ap (λ ps. ps ++ places_of (erase f)) (place_marks e) ∙ (ap (λ ps. map mark_place (marks_of e) ++ ps) (place_marks f) ∙ sym (map-append mark_place (marks_of e) (marks_of f)))
 place_marks (abs x n p e) = ap (λ ps. p ∷ ps) (place_marks e)
 place_marks (equal n e f) = ap (λ ps. ps ++ places_of (erase f)) (place_marks e) ∙ (ap (λ ps. map mark_place (marks_of e) ++ ps) (place_marks f) ∙ sym (map-append mark_place (marks_of e) (marks_of f)))
 place_marks (bind q x n p w e) = ap (λ ps. p ∷ ps) (place_marks e)

@@ -7,8 +7,8 @@ use Rattle.ab_inference.specs.Solutions.{Assignment}
 use Rattle.ab_inference.proofs.Marking.{put, put_same, put_other}
 use Rattle.ab_meaning.specs.Types.{PropFree}
 use Rattle.ab_meaning.specs.ResolvedNames.{Name, binding_type}
-use Rattle.ab_meaning.specs.Readings.{Raw, Making, Keeps, equation, bound_term, Reads, reads_bound, reads_known, reads_free, reads_apply, reads_abs, reads_equal, reads_bind}
-use Rattle.ab_inference.specs.Sketches.{Sketch, bound, known, free, apply, abs, equal, bind, erase, count, variable_at, Fit, Typed, given, term_of, AreFree}
+use Rattle.ab_meaning.specs.Readings.{Raw, Making, Keeps, equation, bound_term, Reads, reads_bound, reads_known, reads_free, reads_apply, reads_behind, reads_abs, reads_equal, reads_bind}
+use Rattle.ab_inference.specs.Sketches.{Sketch, bound, known, free, apply, behind, abs, equal, bind, erase, count, variable_at, Fit, Typed, given, term_of, AreFree}
 
 at_map : (v : Assignment) (ctx : List ℕ) (i m : ℕ) → variable_at ctx i ≡ Some m → type_at (map v ctx) i ≡ Some (v m)
 at_map v [] i m e = absurd (cc)
@@ -38,6 +38,9 @@ module _ (made : Making) (base : ℕ) (frees : List Name) where
     sound (apply e g) ctx n A fit t f =
         let p = free_left (given base v e) (given base v g) f in
         reads_apply (sound e ctx n (arrow t.0 A) fit.0 t.1 p.0) (sound g ctx (n + count e) t.0 fit.1 t.2 p.1)
+    sound (behind e g) ctx n A fit t f =
+        let p = free_left (given base v e) (given base v g) f in
+        reads_behind (sound e ctx n t.0 fit.0 t.1 p.0) (sound g ctx (n + count e) (arrow t.0 A) fit.1 t.2 p.1)
     sound (abs x m p e) ctx n A fit t f =
         subst (λ C. Reads made types (map v ctx) (erase (abs x m p e)) (term_of base v made (abs x m p e)) C (given base v (abs x m p e))) (sym t.1)
         (reads_abs f.0 (sound e (m ∷ ctx) (suc n) t.0 fit.1 t.2 f.1))
@@ -79,6 +82,11 @@ module _ (made : Making) (base : ℕ) (frees : List Name) where
       typed_along e ctx n (arrow t.0 A) fit.0 b (record { below = λ i l. a.below i (omega arith); frees_same = a.frees_same }) t.1,
       typed_along g ctx (n + count e) t.0 fit.1 (below_on n (n + count e) ctx (omega arith) b) (record { below = λ i l. a.below i (omega arith); frees_same = a.frees_same }) t.2,
     )
+    typed_along (behind e g) ctx n A fit b a t = (
+      t.0,
+      typed_along e ctx n t.0 fit.0 b (record { below = λ i l. a.below i (omega arith); frees_same = a.frees_same }) t.1,
+      typed_along g ctx (n + count e) (arrow t.0 A) fit.1 (below_on n (n + count e) ctx (omega arith) b) (record { below = λ i l. a.below i (omega arith); frees_same = a.frees_same }) t.2,
+    )
     typed_along (abs x m p e) ctx n A fit b a t =
         let s : w m ≡ v m = a.below m (omega (arith, fit.0)) in (
           t.0,
@@ -105,6 +113,9 @@ module _ (made : Making) (base : ℕ) (frees : List Name) where
     given_along (apply e g) ctx n fit a =
         ap (λ As. As ++ given base w g) (given_along e ctx n fit.0 (record { below = λ i l. a.below i (omega arith); frees_same = a.frees_same }))
         ∙ ap (λ As. given base v e ++ As) (given_along g ctx (n + count e) fit.1 (record { below = λ i l. a.below i (omega arith); frees_same = a.frees_same }))
+    given_along (behind e g) ctx n fit a =
+        ap (λ As. As ++ given base w g) (given_along e ctx n fit.0 (record { below = λ i l. a.below i (omega arith); frees_same = a.frees_same }))
+        ∙ ap (λ As. given base v e ++ As) (given_along g ctx (n + count e) fit.1 (record { below = λ i l. a.below i (omega arith); frees_same = a.frees_same }))
     given_along (abs x m p e) ctx n fit a =
         ap (λ A. A ∷ given base w e) (a.below m (omega (arith, fit.0))) ∙ ap (λ As. v m ∷ As) (given_along e (m ∷ ctx) (suc n) fit.1 (record { below = λ i l. a.below i (omega arith); frees_same = a.frees_same }))
     given_along (equal m e g) ctx n fit a =
@@ -120,6 +131,9 @@ module _ (made : Making) (base : ℕ) (frees : List Name) where
     term_along (apply e g) ctx n fit a =
         ap (λ t. application t (term_of base w made g)) (term_along e ctx n fit.0 (record { below = λ i l. a.below i (omega arith); frees_same = a.frees_same }))
         ∙ ap (λ t. application (term_of base v made e) t) (term_along g ctx (n + count e) fit.1 (record { below = λ i l. a.below i (omega arith); frees_same = a.frees_same }))
+    term_along (behind e g) ctx n fit a =
+        ap (λ t. application (term_of base w made g) t) (term_along e ctx n fit.0 (record { below = λ i l. a.below i (omega arith); frees_same = a.frees_same }))
+        ∙ ap (λ t. application t (term_of base v made e)) (term_along g ctx (n + count e) fit.1 (record { below = λ i l. a.below i (omega arith); frees_same = a.frees_same }))
     term_along (abs x m p e) ctx n fit a =
         ap (λ A. abstraction A x (term_of base w made e)) (a.below m (omega (arith, fit.0))) ∙ ap (λ t. abstraction (v m) x t) (term_along e (m ∷ ctx) (suc n) fit.1 (record { below = λ i l. a.below i (omega arith); frees_same = a.frees_same }))
     term_along (equal m e g) ctx n fit a =
@@ -161,6 +175,16 @@ module _ (made : Making) (base : ℕ) (frees : List Name) where
           w = y.w;
           agree = record { below = λ i k. y.agree.below i (omega arith) ∙ x.agree.below i k; frees_same = λ j k. y.agree.frees_same j k ∙ x.agree.frees_same j k };
           typed = (B, typed_along x.w y.w e ctx n (arrow B A) fit.0 b y.agree x.typed, y.typed);
+          types_are = ap (λ Ds. Ds ++ given base y.w g) (given_along x.w y.w e ctx n fit.0 y.agree ∙ x.types_are) ∙ ap (λ Ds. Bs ++ Ds) y.types_are;
+        }
+    complete (behind e g) ctx n v t A As fit b l f (reads_behind {t = t2} {u = t1} {A = B} {As = Bs} {Bs = Cs} d h) =
+        let x = complete e ctx n v t1 B Bs fit.0 b (omega arith) f d in
+        let same = map_same n v x.w ctx b x.agree.below in
+        let y = complete g ctx (n + count e) x.w t2 (arrow B A) Cs fit.1 (below_on n (n + count e) ctx (omega arith) b) (omega arith) (λ j k. x.agree.frees_same j k ∙ f j k) (subst (λ G. Reads made types G (erase g) t2 (arrow B A) Cs) (sym same) h) in
+        record {
+          w = y.w;
+          agree = record { below = λ i k. y.agree.below i (omega arith) ∙ x.agree.below i k; frees_same = λ j k. y.agree.frees_same j k ∙ x.agree.frees_same j k };
+          typed = (B, typed_along x.w y.w e ctx n B fit.0 b y.agree x.typed, y.typed);
           types_are = ap (λ Ds. Ds ++ given base y.w g) (given_along x.w y.w e ctx n fit.0 y.agree ∙ x.types_are) ∙ ap (λ Ds. Bs ++ Ds) y.types_are;
         }
     complete (abs x m p e) ctx n v t A As fit b l f (reads_abs {t = t1} {A = B} {B = C} {As = Bs} g d) =

@@ -10,8 +10,8 @@ use Rattle.ab_inference.specs.Solutions.{Assignment, Solves, AreFormed, AreHeld}
 use Rattle.ab_inference.specs.VariableSteps.{Step, NoStep}
 use Rattle.ab_meaning.specs.ResolvedNames.{Name, Binding, binding_type}
 use Rattle.ab_meaning.specs.Readings.{Keeps}
-use Rattle.ab_inference.specs.Sketches.{Sketch, bound, known, free, apply, abs, equal, bind, Typed, AllTyped}
-use Rattle.ab_inference.specs.Programs.{Item, bound_item, known_item, free_item, apply_item, abs_item, equal_item, bind_item, Runs, no_item, run_bound, run_known, run_free, run_apply, run_abs, run_equal, run_bind}
+use Rattle.ab_inference.specs.Sketches.{Sketch, bound, known, free, apply, behind, abs, equal, bind, Typed, AllTyped}
+use Rattle.ab_inference.specs.Programs.{Item, bound_item, known_item, free_item, apply_item, behind_item, abs_item, equal_item, bind_item, Runs, no_item, run_bound, run_known, run_free, run_apply, run_behind, run_abs, run_equal, run_bind}
 use Rattle.ab_inference.specs.Inferences.{AreBelow, Given, Inferring, HasNoTyping, Running, Kept}
 
 leaf_before : (base : ℕ) (v : Assignment) (k : Sketch) (st : List Sketch) → (Bs : List Ty) × AllTyped base v (k ∷ st) Bs → (Bs : List Ty) × AllTyped base v st Bs
@@ -29,6 +29,11 @@ typed_before base v (run_apply {st = st} {e = e} {f = f} r) As h = parts (typed_
     parts : (Bs : List Ty) × AllTyped base v (apply e f ∷ st) Bs → (Bs : List Ty) × AllTyped base v (f ∷ e ∷ st) Bs
     parts ([], h) = absurd h
     parts (B ∷ Bs, h) = (h.0.0 ∷ arrow h.0.0 B ∷ Bs, (h.0.2, (h.0.1, h.1)))
+typed_before base v (run_behind {st = st} {e = e} {f = f} r) As h = parts (typed_before base v r As h)
+  where
+    parts : (Bs : List Ty) × AllTyped base v (behind e f ∷ st) Bs → (Bs : List Ty) × AllTyped base v (f ∷ e ∷ st) Bs
+    parts ([], h) = absurd h
+    parts (B ∷ Bs, h) = (arrow h.0.0 B ∷ h.0.0 ∷ Bs, (h.0.2, (h.0.1, h.1)))
 typed_before base v (run_abs {st = st} {x = x} {n = n} {p = p} {e = e} r) As h = parts (typed_before base v r As h)
   where
     parts : (Bs : List Ty) × AllTyped base v (abs x n p e ∷ st) Bs → (Bs : List Ty) × AllTyped base v (e ∷ st) Bs
@@ -281,6 +286,17 @@ module _ (types : Table) (base : ℕ) (first s : List Shape) (rest : List Item) 
             (λ v A d. (arrow d.0 A, d.0, d.1, d.2, λ w same one two. takes w A (one ∙ ap (λ C. arrow C A) (sym two))))
             (λ v A d g q. (v b, subst (Typed base v e) (gives v A q) d, g))
 
+    pub run_application_behind : (a b : ℕ) (vs : List ℕ) → ((v : Assignment) (A : Ty) → v b ≡ arrow (v a) A → Q v A) → ((v : Assignment) (A : Ty) → Q v A → v b ≡ arrow (v a) A)
+        → Here (behind_item ∷ rest) (b ∷ a ∷ vs) → Goes vs
+    run_application_behind a b vs takes gives here = go here.stack here.runs here.inferring
+      where
+        go : (st : List Sketch) → Runs (behind_item ∷ rest) st out → Inferring types base first s st (b ∷ a ∷ vs) → Goes vs
+        go [] r inf = elim r [ ]
+        go (f ∷ []) r inf = elim r [ ]
+        go (f ∷ e ∷ st) (run_behind r) inf = two_ways (behind e f) e f st a b vs r inf
+            (λ v A d. (d.0, arrow d.0 A, d.1, d.2, λ w same one two. takes w A (two ∙ ap (λ C. arrow C A) (sym one))))
+            (λ v A d g q. (v a, d, subst (Typed base v f) (gives v A q) g))
+
     pub run_equation : (m a b : ℕ) (vs : List ℕ) → m < length first → ((v : Assignment) (A : Ty) → A ≡ prop → v a ≡ v m → v b ≡ v m → Q v A) → ((v : Assignment) (A : Ty) → Q v A → (A ≡ prop) × (v a ≡ v m) × (v b ≡ v m))
         → Here (equal_item m ∷ rest) (b ∷ a ∷ vs) → Goes vs
     run_equation m a b vs l takes gives here = go here.stack here.runs here.inferring
@@ -312,6 +328,14 @@ module _ (types : Table) (base : ℕ) (first s : List Shape) (rest : List Item) 
   few_apply vs l here = go here.stack here.runs here.inferring
     where
       go : (st : List Sketch) → Runs (apply_item ∷ rest) st out → Inferring types base first s st vs → HasNoTyping types base first out
+      go [] r inf = elim r [ ]
+      go (f ∷ []) r inf = elim r [ ]
+      go (f ∷ e ∷ st) r inf = no_way r (few (f ∷ e ∷ st) vs inf (omega arith))
+
+  pub few_behind : (vs : List ℕ) → length vs ≤ 1 → Here (behind_item ∷ rest) vs → HasNoTyping types base first out
+  few_behind vs l here = go here.stack here.runs here.inferring
+    where
+      go : (st : List Sketch) → Runs (behind_item ∷ rest) st out → Inferring types base first s st vs → HasNoTyping types base first out
       go [] r inf = elim r [ ]
       go (f ∷ []) r inf = elim r [ ]
       go (f ∷ e ∷ st) r inf = no_way r (few (f ∷ e ∷ st) vs inf (omega arith))

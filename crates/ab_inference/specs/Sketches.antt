@@ -16,6 +16,8 @@ pub data Sketch : Type 0 where
   -- a free name, its number and its place
   free : Name → ℕ → ℕ → Sketch
   apply : Sketch → Sketch → Sketch
+  -- an argument, and behind it the function that takes it
+  behind : Sketch → Sketch → Sketch
   -- a name, its variable and its place
   abs : Name → ℕ → ℕ → Sketch → Sketch
   -- the variable of both sides
@@ -28,6 +30,7 @@ erase (bound i n) = names.bound i
 erase (known h A) = names.known h A
 erase (free x j p) = names.free x p
 erase (apply e f) = names.apply (erase e) (erase f)
+erase (behind e f) = names.behind (erase e) (erase f)
 erase (abs x n p e) = names.abs x p (erase e)
 erase (equal n e f) = names.equal (erase e) (erase f)
 erase (bind q x n p w e) = names.bind q x p w (erase e)
@@ -38,6 +41,7 @@ count (bound i n) = 0
 count (known h A) = 0
 count (free x j p) = 0
 count (apply e f) = count e + count f
+count (behind e f) = count e + count f
 count (abs x n p e) = suc (count e)
 count (equal n e f) = suc (count e + count f)
 count (bind q x n p w e) = suc (count e)
@@ -55,6 +59,7 @@ Fit frees ctx n (bound i m) = variable_at ctx i ≡ Some m
 Fit frees ctx n (known h A) = Unit {0}
 Fit frees ctx n (free x j p) = (j < length frees) × (get_or frees j [] ≡ x)
 Fit frees ctx n (apply e f) = Fit frees ctx n e × Fit frees ctx (n + count e) f
+Fit frees ctx n (behind e f) = Fit frees ctx n e × Fit frees ctx (n + count e) f
 Fit frees ctx n (abs x m p e) = (m ≡ n) × Fit frees (m ∷ ctx) (suc n) e
 Fit frees ctx n (equal m e f) = (m ≡ n) × Fit frees ctx (suc n) e × Fit frees ctx (suc n + count e) f
 Fit frees ctx n (bind q x m p w e) = (m ≡ n) × Fit frees (m ∷ ctx) (suc n) e
@@ -66,6 +71,7 @@ module _ (base : ℕ) (v : ℕ → Ty) where
   Typed (known h B) A = A ≡ B
   Typed (free x j p) A = A ≡ v (base + j)
   Typed (apply e f) A = (B : Ty) × Typed e (arrow B A) × Typed f B
+  Typed (behind e f) A = (B : Ty) × Typed e B × Typed f (arrow B A)
   Typed (abs x n p e) A = (B : Ty) × (A ≡ arrow (v n) B) × Typed e B
   Typed (equal n e f) A = (A ≡ prop) × Typed e (v n) × Typed f (v n)
   Typed (bind q x n p w e) A = (A ≡ binding_type q) × Keeps w (v n) × Typed e (binding_type q)
@@ -82,6 +88,7 @@ module _ (base : ℕ) (v : ℕ → Ty) where
   given (known h A) = []
   given (free x j p) = v (base + j) ∷ []
   given (apply e f) = given e ++ given f
+  given (behind e f) = given e ++ given f
   given (abs x n p e) = v n ∷ given e
   given (equal n e f) = given e ++ given f
   given (bind q x n p w e) = v n ∷ given e
@@ -93,6 +100,7 @@ module _ (base : ℕ) (v : ℕ → Ty) where
     term_of (known h A) = atom h
     term_of (free x j p) = atom (made x (v (base + j)))
     term_of (apply e f) = application (term_of e) (term_of f)
+    term_of (behind e f) = application (term_of f) (term_of e)
     term_of (abs x n p e) = abstraction (v n) x (term_of e)
     term_of (equal n e f) = equation (v n) (term_of e) (term_of f)
     term_of (bind q x n p w e) = bound_term q x (v n) (term_of e)
@@ -112,6 +120,7 @@ marks_of (bound i n) = []
 marks_of (known h A) = []
 marks_of (free x j p) = free_mark j p ∷ []
 marks_of (apply e f) = marks_of e ++ marks_of f
+marks_of (behind e f) = marks_of e ++ marks_of f
 marks_of (abs x n p e) = binder_mark n p ∷ marks_of e
 marks_of (equal n e f) = marks_of e ++ marks_of f
 marks_of (bind q x n p w e) = binder_mark n p ∷ marks_of e

@@ -142,6 +142,13 @@ fn infer_step(
             )?;
             Ok(found)
         }
+        Op::Behind => {
+            let Some((argument, function)) = pop_two(stack) else {
+                return Ok(None);
+            };
+            let found = applied(alloc, types, shapes, function, argument)?;
+            Ok(found)
+        }
     }
 }
 

@@ -27,6 +27,8 @@ pub enum Op {
     Free(usize, usize),
     /// The last but one is given the last.
     Apply,
+    /// The last is given the last but one.
+    Behind,
     /// An abstraction: its name, variable and place.
     Abs(Name, usize, usize),
     /// An equation, and the variable of its sides.

@@ -8,8 +8,8 @@ use Rattle.ab_term.specs.Substitution.{instance}
 use Rattle.ab_term.specs.Beta.{atom, abstraction, application}
 use Rattle.ab_term.proofs.Standing.{HeadHas, Has, AllHave, instance_has, expansion_of_has}
 use Rattle.ab_meaning.specs.Types.{PropFree}
-use Rattle.ab_meaning.specs.ResolvedNames.{Name, Resolved, bound, known, free, apply, abs, equal, bind, Binding, binding_head}
-use Rattle.ab_meaning.specs.Readings.{Making, Raw, Reads, reads_bound, reads_known, reads_free, reads_apply, reads_abs, reads_equal, reads_bind}
+use Rattle.ab_meaning.specs.ResolvedNames.{Name, Resolved, bound, known, free, apply, behind, abs, equal, bind, Binding, binding_head}
+use Rattle.ab_meaning.specs.Readings.{Making, Raw, Reads, reads_bound, reads_known, reads_free, reads_apply, reads_behind, reads_abs, reads_equal, reads_bind}
 use Rattle.ab_meaning.specs.Normal.{left_type, given_all, long_form, normal_given, normal_form}
 
 module _ (P : Head ℕ → Type 0) where
@@ -19,6 +19,7 @@ module _ (P : Head ℕ → Type 0) where
   ResolvedHas (known h A) = HeadHas P h
   ResolvedHas (free x p) = ⊥
   ResolvedHas (apply e f) = ResolvedHas e × ResolvedHas f
+  ResolvedHas (behind e f) = ResolvedHas e × ResolvedHas f
   ResolvedHas (abs x p e) = ResolvedHas e
   ResolvedHas (equal e f) = ResolvedHas e × ResolvedHas f
   ResolvedHas (bind q x p w e) = ResolvedHas e
@@ -39,6 +40,7 @@ module _ (P : Head ℕ → Type 0) where
     reads_has (reads_known {h = k}) h = h
     reads_has (reads_free f) h = absurd h
     reads_has (reads_apply r s) h = (reads_has r h.0, reads_has s h.1)
+    reads_has (reads_behind r s) h = (reads_has s h.1, reads_has r h.0)
     reads_has (reads_abs f r) h = reads_has r h
     reads_has (reads_equal {A = A} r s) h = ((ad.equations A, reads_has r h.0), reads_has s h.1)
     reads_has (reads_bind {q = q} {A = A} f k r) h = (ad.binders q A f, reads_has r h)

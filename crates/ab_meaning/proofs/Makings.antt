@@ -3,7 +3,7 @@ use Rattle.std.specs.Prelude.{ℕ, List}
 use Rattle.ab_term.specs.Types.{Ty}
 use Rattle.ab_term.specs.Terms.{Head}
 use Rattle.ab_meaning.specs.ResolvedNames.{Name, Resolved}
-use Rattle.ab_meaning.specs.Readings.{Making, Raw, Reads, reads_bound, reads_known, reads_free, reads_apply, reads_abs, reads_equal, reads_bind}
+use Rattle.ab_meaning.specs.Readings.{Making, Raw, Reads, reads_bound, reads_known, reads_free, reads_apply, reads_behind, reads_abs, reads_equal, reads_bind}
 use Rattle.ab_meaning.specs.ReadingCounts.{Reading, IsTheReading, HasNoReading, Differ, IsFirstOpen}
 use Rattle.ab_meaning.proofs.Heads.{ResolvedHas}
 
@@ -13,6 +13,7 @@ module _ (P : Head ℕ → Type 0) (made other : Making) where
   reads_too h reads_known = reads_known
   reads_too h (reads_free f) = absurd h
   reads_too h (reads_apply r s) = reads_apply (reads_too h.0 r) (reads_too h.1 s)
+  reads_too h (reads_behind r s) = reads_behind (reads_too h.0 r) (reads_too h.1 s)
   reads_too h (reads_abs f r) = reads_abs f (reads_too h r)
   reads_too h (reads_equal r s) = reads_equal (reads_too h.0 r) (reads_too h.1 s)
   reads_too h (reads_bind f k r) = reads_bind f k (reads_too h r)

@@ -1,16 +1,17 @@
 -- Readings of one expression that give the same types to binders and free names are one term, at one type.
-use Rattle.std.proofs.Common.{◌≡◌, ℕ, List, [], ◌∷◌, ◌++◌, length, Some, refl, sym, ◌∙◌, ap, arith, length-append}
+use Rattle.std.proofs.Common.{◌≡◌, List, [], ◌∷◌, ◌++◌, length, Some, refl, sym, ◌∙◌, ap, arith, length-append}
 use Rattle.ab_term.specs.Types.{Ty, arrow}
 use Rattle.ab_term.specs.Typing.{type_at}
 use Rattle.ab_term.specs.Beta.{atom, abstraction, application}
-use Rattle.ab_meaning.specs.ResolvedNames.{Name, Resolved, places_of, binding_type}
-use Rattle.ab_meaning.specs.Readings.{Raw, Making, equation, bound_term, Reads, reads_bound, reads_known, reads_free, reads_apply, reads_abs, reads_equal, reads_bind}
+use Rattle.ab_meaning.specs.ResolvedNames.{Name, Resolved, places_of}
+use Rattle.ab_meaning.specs.Readings.{Raw, Making, equation, bound_term, Reads, reads_bound, reads_known, reads_free, reads_apply, reads_behind, reads_abs, reads_equal, reads_bind}
 
 pub as_many : {made : Making} {types : Name → Ty} {G : List Ty} {e : Resolved} {t : Raw} {A : Ty} {As : List Ty} → Reads made types G e t A As → length As ≡ length (places_of e)
 as_many (reads_bound h) = refl
 as_many reads_known = refl
 as_many (reads_free f) = refl
 as_many (reads_apply {e = e} {f = f} {As = As} {Bs = Bs} d h) = omega (arith, length-append As Bs, length-append (places_of e) (places_of f), as_many d, as_many h)
+as_many (reads_behind {e = e} {f = f} {As = As} {Bs = Bs} d h) = omega (arith, length-append As Bs, length-append (places_of e) (places_of f), as_many d, as_many h)
 as_many (reads_abs f d) = omega (arith, as_many d)
 as_many (reads_equal {e = e} {f = f} {As = As} {Bs = Bs} d h) = omega (arith, length-append As Bs, length-append (places_of e) (places_of f), as_many d, as_many h)
 as_many (reads_bind f k d) = omega (arith, as_many d)
@@ -52,6 +53,11 @@ one_term (reads_apply {t = t} {u = u} {As = As} {Bs = Bs} d h) (reads_apply {t =
     let a = one_term d d2 g p.0 in
     let b = one_term h h2 g p.1 in
     (ap (λ r. application r u) a.0 ∙ ap (λ r. application t2 r) b.0, arrow_to a.1)
+one_term (reads_behind {t = t} {u = u} {As = As} {Bs = Bs} d h) (reads_behind {t = t2} {u = u2} {As = As2} {Bs = Bs2} d2 h2) g s =
+    let p = split_same As Bs As2 Bs2 (as_many d ∙ sym (as_many d2)) s in
+    let a = one_term d d2 g p.0 in
+    let b = one_term h h2 g p.1 in
+    (ap (λ r. application r u) b.0 ∙ ap (λ r. application t2 r) a.0, arrow_to b.1)
 one_term (reads_abs {x = x} {t = t} {A = A} {B = B} f d) (reads_abs {t = t2} {A = A2} {B = B2} f2 d2) g s =
     let e = head_same s in
     let a = one_term d d2 (both_same e g) (tail_same s) in

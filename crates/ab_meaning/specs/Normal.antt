@@ -1,6 +1,6 @@
 -- The normal form of a typed term that may hold redexes: eta-long, with the hints as they were written. A head keeps its
 -- arguments and is given the bound names that it lacks; a redex is reduced by hereditary substitution.
-use Rattle.std.specs.Prelude.{ℕ, List, [], ◌∷◌, Option, Some, None, codes}
+use Rattle.std.specs.Prelude.{ℕ, List, ◌∷◌, Option, Some, None, codes}
 use Rattle.ab_term.specs.Types.{Ty, kind, arrow}
 use Rattle.ab_term.specs.Terms.{Head, Term, lam, spine, Terms, no_terms, term}
 use Rattle.ab_term.specs.Typing.{Signature, head_type}

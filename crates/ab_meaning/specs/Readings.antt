@@ -7,7 +7,7 @@ use Rattle.ab_term.specs.Terms.{Head, index, logical}
 use Rattle.ab_term.specs.Typing.{type_at}
 use Rattle.ab_term.specs.Beta.{Plain, atom, abstraction, application}
 use Rattle.ab_meaning.specs.Types.{PropFree}
-use Rattle.ab_meaning.specs.ResolvedNames.{Name, Resolved, bound, known, free, apply, abs, equal, bind, Binding, binding_head, binding_type}
+use Rattle.ab_meaning.specs.ResolvedNames.{Name, Resolved, bound, known, free, apply, behind, abs, equal, bind, Binding, binding_head, binding_type}
 
 -- a written type is kept
 abbrev pub Keeps : Option Ty → Ty → Type 0
@@ -36,6 +36,7 @@ module _ (made : Making) (types : Name → Ty) where
     reads_known : {G : List Ty} {h : Head ℕ} {A : Ty} → Reads G (known h A) (atom h) A []
     reads_free : {G : List Ty} {x : Name} {p : ℕ} → PropFree (types x) → Reads G (free x p) (atom (made x (types x))) (types x) (types x ∷ [])
     reads_apply : {G : List Ty} {e f : Resolved} {t u : Raw} {A B : Ty} {As Bs : List Ty} → Reads G e t (arrow A B) As → Reads G f u A Bs → Reads G (apply e f) (application t u) B (As ++ Bs)
+    reads_behind : {G : List Ty} {e f : Resolved} {t u : Raw} {A B : Ty} {As Bs : List Ty} → Reads G e u A As → Reads G f t (arrow A B) Bs → Reads G (behind e f) (application t u) B (As ++ Bs)
     reads_abs : {G : List Ty} {x : Name} {p : ℕ} {e : Resolved} {t : Raw} {A B : Ty} {As : List Ty} → PropFree A → Reads (A ∷ G) e t B As → Reads G (abs x p e) (abstraction A x t) (arrow A B) (A ∷ As)
     reads_equal : {G : List Ty} {e f : Resolved} {t u : Raw} {A : Ty} {As Bs : List Ty} → Reads G e t A As → Reads G f u A Bs → Reads G (equal e f) (equation A t u) prop (As ++ Bs)
     reads_bind : {G : List Ty} {q : Binding} {x : Name} {p : ℕ} {w : Option Ty} {e : Resolved} {t : Raw} {A : Ty} {As : List Ty} → PropFree A → Keeps w A → Reads (A ∷ G) e t (binding_type q) As → Reads G (bind q x p w e) (bound_term q x A t) (binding_type q) (A ∷ As)

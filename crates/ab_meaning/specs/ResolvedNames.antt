@@ -34,6 +34,8 @@ pub data Resolved : Type 0 where
   known : Head ℕ → Ty → Resolved
   free : Name → ℕ → Resolved
   apply : Resolved → Resolved → Resolved
+  -- an argument, and the function that takes it, which stands behind it in the text
+  behind : Resolved → Resolved → Resolved
   -- a name, its place and the body
   abs : Name → ℕ → Resolved → Resolved
   equal : Resolved → Resolved → Resolved
@@ -46,6 +48,7 @@ places_of (bound i) = []
 places_of (known h A) = []
 places_of (free x p) = p ∷ []
 places_of (apply e f) = places_of e ++ places_of f
+places_of (behind e f) = places_of e ++ places_of f
 places_of (abs x p e) = p ∷ places_of e
 places_of (equal e f) = places_of e ++ places_of f
 places_of (bind q x p w e) = p ∷ places_of e

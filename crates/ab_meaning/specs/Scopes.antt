@@ -1,19 +1,19 @@
 -- What the names of an expression stand for, and the expression with its names resolved.
-use Rattle.std.specs.Prelude.{ℕ, suc, zero, ◌-◌, ◌<◌, ◌≤◌, List, [], ◌∷◌, Bool, true, false, ◌&&◌, not, Option, Some, None, option_map, Result, Ok, Err, codes, bytes_eq, if◌then◌else◌, ◌==◌, nat_le, nat_lt, length}
+use Rattle.std.specs.Prelude.{ℕ, suc, zero, List, [], ◌∷◌, Bool, true, false, ◌&&◌, not, Option, Some, None, option_map, Result, Ok, Err, codes, bytes_eq, if◌then◌else◌, ◌==◌, nat_le, length}
 use Rattle.std.specs.List.{list_all}
 use Rattle.std.specs.Char.{is_ascii_digit}
 use Rattle.std.specs.Str.Parse.{digits_value}
 use Rattle.ab_term.specs.Types.{Ty, prop, arrows, o, olist}
 use Rattle.ab_term.specs.Logical as logic
 use Rattle.ab_term.specs.Logical.{Logical, logical_type}
-use Rattle.ab_term.specs.Terms.{Head, constant, logical, nominal, variable, Nominal}
+use Rattle.ab_term.specs.Terms.{constant, logical, nominal, variable, Nominal}
 use Rattle.ab_term.specs.Typing.{Signature}
 use Rattle.ab_grammar.specs.declared.Infix.{Infix}
 use Rattle.ab_grammar.specs.declared.Infix.TheVariants.{Arrow, Or, And, Equal, Imply, With, Cons}
 use Rattle.ab_grammar.specs.declared.Quant.{Quant}
 use Rattle.ab_grammar.specs.Tree as tree
-use Rattle.ab_grammar.specs.Tree.{Tree, Trees, no_trees}
-use Rattle.ab_meaning.specs.ResolvedNames.{Name, Resolved, bound, known, free, apply, abs, equal, bind, Binding, quantified, pi}
+use Rattle.ab_grammar.specs.Tree.{Tree, Trees, no_trees, Focus}
+use Rattle.ab_meaning.specs.ResolvedNames.{Name, Resolved, bound, known, free, apply, behind, abs, equal, bind, quantified, pi}
 use Rattle.ab_meaning.specs.Types.{written_type}
 
 -- a variable of a sequent: its name, the number that stands for it in terms, and its type
@@ -116,6 +116,13 @@ made_of_both f (Err x) b = Err x
 abbrev pub connective : Logical → Resolved → Resolved → Resolved
 connective l a b = apply (apply (known (logical l) (logical_type l)) a) b
 
+-- the constants of lists: `::`, which puts an item before a list, and the empty list
+abbrev pub before_list : Resolved
+before_list = known (constant (codes "::")) (arrows (o ∷ olist ∷ []) olist)
+
+abbrev pub empty_list : Resolved
+empty_list = known (constant (codes "nil")) olist
+
 -- a sign between two operands; `::` is the constant of that name
 abbrev pub joined : Scope → Infix → Found → Found → Found
 joined s Arrow a b = made_of_both (connective logic.implication) a b
@@ -124,7 +131,29 @@ joined s And a b = made_of_both (connective logic.conjunction) a b
 joined s Equal a b = made_of_both equal a b
 joined s Imply a b = made_of_both (connective logic.spec_implication) a b
 joined s With a b = made_of_both (connective logic.spec_conjunction) a b
-joined s Cons a b = made_of_both (λ t u. apply (apply (known (constant (codes "::")) (arrows (o ∷ olist ∷ []) olist)) t) u) a b
+joined s Cons a b = made_of_both (λ t u. apply (apply before_list t) u) a b
+
+-- an item that is written behind a list stands before it
+abbrev pub put_before : Resolved → Resolved → Resolved
+put_before l t = behind l (apply before_list t)
+
+-- whether the first item of a judgement is a list: a name alone, or written with `::`
+abbrev pub is_list : Tree → Bool
+is_list (tree.name x p) = true
+is_list (tree.join Cons t u p) = true
+is_list _ = false
+
+-- the list that a judgement begins with
+abbrev pub first_list : Tree → Found → Found
+first_list c f = if is_list c then f else made_of_both put_before (Ok empty_list) f
+
+-- `{l |- g}`, and `{l, [f] |- g}`
+abbrev pub with_goal : Found → Found → Found
+with_goal l g = made_of_both apply (made_of (apply (known (logical logic.judgement) (logical_type logic.judgement))) l) g
+
+abbrev pub with_focus_and_goal : Found → Found → Found → Found
+with_focus_and_goal l f g =
+    made_of_both apply (made_of_both apply (made_of (apply (known (logical logic.focused_judgement) (logical_type logic.focused_judgement))) l) f) g
 
 -- an abstraction to which `pi` is applied
 abbrev pub pi_over : Resolved → Found
@@ -161,8 +190,7 @@ abbrev pub is_pi : Tree → Bool
 is_pi (tree.name x p) = bytes_eq x (codes "pi")
 is_pi _ = false
 
--- The expression with its names resolved, or the first name in the text that stands for nothing. Judgements aren't
--- read yet: the sign with which one begins is taken for a name that stands for nothing.
+-- The expression with its names resolved, or the first name in the text that stands for nothing.
 abbrev mutual
   pub resolved : Scope → List Name → Tree → Found
   resolved s bs (tree.name x p) = or_unknown x (head_named s bs x p)
@@ -170,7 +198,7 @@ abbrev mutual
   resolved s bs (tree.abs x e p) = made_of (abs x p) (resolved s (x ∷ bs) e)
   resolved s bs (tree.join o t u p) = joined s o (resolved s bs t) (resolved s bs u)
   resolved s bs (tree.bind q xs e p) = with_binders s.kinds q xs (resolved s (under xs bs) e)
-  resolved s bs (tree.judge cs f g p) = Err (codes "{")
+  resolved s bs (tree.judge cs f g p) = judgement s bs (context s bs cs) f (resolved s bs g)
 
   -- a head that is given its arguments one after another
   pub applied : Scope → List Name → Found → Trees → Found
@@ -181,3 +209,17 @@ abbrev mutual
   pub pi_applied : Scope → List Name → Trees → Found
   pi_applied s bs (tree.tree v no_trees) = after pi_over (resolved s bs v)
   pi_applied s bs _ = Err (codes "pi")
+
+  -- the list of a judgement, from its items in the order of writing: the last written stands first
+  pub context : Scope → List Name → Trees → Found
+  context s bs no_trees = Ok empty_list
+  context s bs (tree.tree c cs) = items_before s bs (first_list c (resolved s bs c)) cs
+
+  pub items_before : Scope → List Name → Found → Trees → Found
+  items_before s bs l no_trees = l
+  items_before s bs l (tree.tree c cs) = items_before s bs (made_of_both put_before l (resolved s bs c)) cs
+
+  -- the judgement with this list and goal
+  pub judgement : Scope → List Name → Found → Focus → Found → Found
+  judgement s bs l tree.unfocused g = with_goal l g
+  judgement s bs l (tree.focused f) g = with_focus_and_goal l (resolved s bs f) g

@@ -1,5 +1,5 @@
 -- Written types, and types without formulas.
-use Rattle.std.specs.Prelude.{◌≡◌, ◌≢◌, ℕ, List, [], ◌∷◌, Bool, true, false, ◌||◌, bytes_eq, Result, Ok, Err, if◌then◌else◌, Option, Some, None}
+use Rattle.std.specs.Prelude.{◌≢◌, ℕ, List, [], ◌∷◌, Bool, false, ◌||◌, bytes_eq, Result, Ok, Err, if◌then◌else◌}
 use Rattle.ab_term.specs.Types.{Ty, kind, arrow, prop}
 use Rattle.ab_grammar.specs.Tree as tree
 

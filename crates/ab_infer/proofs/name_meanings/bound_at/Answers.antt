@@ -1,5 +1,4 @@
 use Rattle.std.proofs.Common.{◌≡◌, ◌≢◌, ℕ, suc, ◌+◌, take, sym, subst, ◌∙◌, arith}
-use Rattle.std.specs.Prelude.{Some, None}
 use Rattle.ab_infer.proofs.Lookups.{LooksUp, looks_hit, looks_missed, looks_none}
 use Rattle.ab_infer.proofs.name_meanings.bound_at.Goals.{then-eq, else-eq+in-Some, else-eq+in_default}
 use Rattle.ab_infer.proofs.name_meanings.bound_at.Goals as goal

@@ -1,4 +1,4 @@
-use Rattle.std.proofs.Common.{◌≡◌, ap, refl}
+use Rattle.std.proofs.Common.{ap, refl}
 use Rattle.ab_norm.specs.ab_types.specs.Entries.{constants}
 use Rattle.ab_meaning.specs.Scopes as scopes
 use Rattle.ab_infer.proofs.Lookups.{no_type}

@@ -1,4 +1,4 @@
-use Rattle.std.proofs.Common.{◌≡◌, sym, ◌∙◌}
+use Rattle.std.proofs.Common.{sym, ◌∙◌}
 use Rattle.ab_infer.specs.NameScopes.{nominals_in}
 use Rattle.ab_infer.proofs.Lookups.{settled_found, settled_none}
 use Rattle.ab_infer.proofs.name_meanings.nominal_named.Goals as goal

@@ -1,10 +1,10 @@
-use Rattle.std.proofs.Common.{◌≡◌, sym, subst}
+use Rattle.std.proofs.Common.{sym, subst}
 use Rattle.std.specs.Prelude.{option_map}
 use Rattle.ab_meaning.specs.ResolvedNames.{bound}
 use Rattle.ab_meaning.specs.Scopes.{index_of}
 use Rattle.ab_meaning.specs.Scopes as scopes
 use Rattle.ab_infer.specs.NameAnswers.{Finds}
-use Rattle.ab_infer.specs.NameScopes.{names_in, nodes_in, place_of, entries_in, nominals_in, scope_of, HoldsNominals}
+use Rattle.ab_infer.specs.NameScopes.{names_in, nodes_in, entries_in, nominals_in, scope_of, HoldsNominals}
 use Rattle.ab_infer.proofs.Lookups.{none_here, by_bound, by_truth, by_clause, by_variable, by_constant, by_nominal}
 use Rattle.ab_infer.proofs.name_meanings.resolve_name.Goals as goal
 

@@ -3,7 +3,7 @@ use Rattle.ab_store.specs.Trees.{head_in}
 use Rattle.ab_store.specs.ab_types.specs.Ids.{type_of}
 use Rattle.ab_inference.specs.Programs.{item_of, binding_of, OpTyped}
 use Rattle.ab_inference.specs.Inferences.{Running, turned, written_type}
-use Rattle.ab_inference.proofs.Stepping.{kept_of, same_rest, rest_one, rest_two, run_var, run_free_var, run_head, run_abstraction, run_application, run_equation, run_binder, few_apply, few_equal, few_abs, few_bind}
+use Rattle.ab_inference.proofs.Stepping.{kept_of, same_rest, rest_one, rest_two, run_var, run_free_var, run_head, run_abstraction, run_application, run_application_behind, run_equation, run_binder, few_apply, few_behind, few_equal, few_abs, few_bind}
 use Rattle.ab_inference.proofs.constraints.infer_step.Goals as goal
 
 pub returns-in_default-clause-inferred : goal.returns-in_default-clause-inferred
@@ -130,3 +130,25 @@ returns-in_ok-found-in-Bind-clause-inferred c = λ first cells names rest out le
     (λ v A k e a. (k, e, a)) (λ v A q. q)
     (subst (Running t c.args.base first s _ out) c.in-Some-pop_one-2.ensures
     (subst (λ o. Running t c.args.base first s (item_of t cells names o ∷ rest) out (turned c.args.stack.now.items)) b.is here))
+
+pub returns-in_default-pop_two-2-clause-inferred : goal.returns-in_default-pop_two-2-clause-inferred
+returns-in_default-pop_two-2-clause-inferred c = λ first cells names rest out len here.
+    let t = c.args.types.now in
+    let s = c.args.shapes.now.items in
+    few_behind t c.args.base first s rest out (turned c.args.stack.now.items) c.in_default-pop_two-2.ensures
+    (subst (λ o. Running t c.args.base first s (item_of t cells names o ∷ rest) out (turned c.args.stack.now.items)) c.in-Behind.is here)
+
+pub returns-in_ok-found-in-Behind-clause-kept : goal.returns-in_ok-found-in-Behind-clause-kept
+returns-in_ok-found-in-Behind-clause-kept c =
+    kept_of c.args.types.now c.args.shapes.now.items c.applied-in-Behind.new.shapes.items _ c.in_ok-found-in-Behind.found (turned c.args.stack.now.items) (turned c.pop_two-in-Behind.new.stack.items) c.in_ok-found-in-Behind.ensures c.requires.stack
+    (rest_two _ _ c.in-Some-pop_two-2.function c.in-Some-pop_two-2.argument c.in-Some-pop_two-2.ensures)
+
+pub returns-in_ok-found-in-Behind-clause-inferred : goal.returns-in_ok-found-in-Behind-clause-inferred
+returns-in_ok-found-in-Behind-clause-inferred c = λ first cells names rest out len here.
+    let t = c.args.types.now in
+    let s = c.args.shapes.now.items in
+    let vs = turned c.pop_two-in-Behind.new.stack.items in
+    run_application_behind t c.args.base first s rest out c.in_ok-found-in-Behind.found c.applied-in-Behind.new.shapes.items _ c.in_ok-found-in-Behind.ensures c.in-Some-pop_two-2.argument c.in-Some-pop_two-2.function vs
+    (λ v A q. q) (λ v A q. q)
+    (subst (Running t c.args.base first s _ out) c.in-Some-pop_two-2.ensures
+    (subst (λ o. Running t c.args.base first s (item_of t cells names o ∷ rest) out (turned c.args.stack.now.items)) c.in-Behind.is here))
