@@ -11,7 +11,7 @@ use Rattle.ab_logic.specs.Additions.{is_among, block_or, block_kept}
 use Rattle.ab_logic.specs.Worlds.{IsKept, IsKeptBlock}
 use Rattle.ab_logic.specs.declared.additions.Added.{Added}
 use Rattle.ab_logic.specs.declared.additions.Addition.{Addition}
-use Rattle.ab_logic.specs.declared.additions.Addition.TheVariants.{Theorem, Definition}
+use Rattle.ab_logic.specs.declared.additions.Addition.TheVariants.{Theorem, Definition, Clause}
 
 module _ (types : Table) (store : Contents) (p : ConstId) where
   pub kept_block : (xs : List Added) (b : Block) → All (λ (a : Added). IsKept types store a.what) xs → block_kept xs p ≡ Some b → IsKeptBlock types store b
@@ -24,4 +24,5 @@ module _ (types : Table) (store : Contents) (p : ConstId) where
 
       go : (what : Addition) → IsKept types store what → block_or what p (block_kept xs p) ≡ Some b → (block_kept xs p ≡ Some b → IsKeptBlock types store b) → IsKeptBlock types store b
       go (Theorem t) is f rest = rest f
+      go (Clause c) is f rest = rest f
       go (Definition d) is f rest = test d (is_among d.predicates p) is f rest

@@ -39,7 +39,7 @@ use Rattle.ab_conclusion.proofs.Unfolds.{nothing_refuses, stuck_refuses, open_re
 first_is_sequent : (w : World) (p : Held) → IsWorld w → IsProof w p → (s : Sequent) (rest : List Sequent) → goals_of w p ≡ s ∷ rest → IsSequent (declarations_of w) s
 first_is_sequent w p world proof s rest goals =
     let D = declarations_of w in
-    All-head (IsSequent D) s rest (subst (All (IsSequent D)) goals (open_are_sequents D world.sentences world.definitions (history_of w p).tree proof.valid proof.rooted))
+    All-head (IsSequent D) s rest (subst (All (IsSequent D)) goals (open_are_sequents D world.sentences world.definitions (history_of w p).tree proof.valid proof.held.rooted))
 
 -- it is unfolded by the choice that was found
 module _ (w v : World) (p q : Held) (place : ℕ) (world : IsWorld w) (proof : IsProof w p) (unfolds : UnfoldsBy w p place) where
@@ -95,7 +95,7 @@ module _ (w v : World) (p : Held) (grown : Grows w v) (declared : declarations_o
   same_goals = ap (λ (h : History). open_goals h.tree) (same_history w v grown p proof)
 
   pub follows_world : Follows w p v p
-  follows_world = follows_same w v p p grown declared proof (still_proof w v grown p proof) refl
+  follows_world = follows_same w v p p grown declared proof (still_proof w v grown declared p proof) refl
 
   pub applied_there : (u : World) (q : Held) (l : Label) → IsApplied l unfold_goal v p u q → IsApplied l unfold_goal w p u q
   applied_there u q l applied s rest goals =

@@ -2,6 +2,7 @@
 use Rattle.std.specs.List.{All}
 use Rattle.std.proofs.Common.{◌≡◌, ◌<◌, List, [], ◌++◌, map, length, refl, sym, ◌∙◌, ap, subst, append-nil}
 use Rattle.std.proofs.lemmas.List.Elements.{All-weaker}
+use Rattle.ab_norm.specs.ab_types.specs.Entries as table
 use Rattle.ab_norm.specs.ab_types.specs.Entries.{Table}
 use Rattle.ab_norm.specs.ab_types.specs.Ids.{type_of}
 use Rattle.ab_norm.specs.ab_types.proofs.Entries.{extended_by_itself}
@@ -29,7 +30,7 @@ use Rattle.ab_logic.proofs.Growing.{map_same}
 use Rattle.ab_equations.specs.Meanwhile.{IsMeanwhile, GoesOn}
 
 pub world_meanwhile : (w : World) → IsWorld w → IsMeanwhile w
-world_meanwhile w is = record { typed = is.typed; additions = is.additions; order = is.order }
+world_meanwhile w is = record { begins = is.begins; typed = is.typed; additions = is.additions; order = is.order }
 
 -- goals read as before, where their terms and cells do
 module _ (w v : World) (ids : (t : TermId) → Holds w t → Holds v t) (reads : (t : TermId) → Holds w t → read v t ≡ read w t)
@@ -81,6 +82,7 @@ module _ (w v : World) (goes : GoesOn w v) where
 
     pub still_meanwhile : IsMeanwhile v
     still_meanwhile = record {
+      begins = subst (table.IsExtendedBy table.first_entries) (sym goes.types) is.begins;
       typed = goes.grows.typed;
       additions =
           subst (λ (xs : List Added). All (λ (a : Added). IsKept v.types v.store a.what) xs) (sym goes.additions)

@@ -2,7 +2,7 @@
 use Rattle.std.specs.List.{All}
 use Rattle.std.proofs.Common.{◌≡◌, ◌<◌, ◌≤◌, List, [], ◌∷◌, ◌++◌, map, length, take, refl, sym, ◌∙◌, ap, subst, arith, append-nil, length-append, take_all}
 use Rattle.std.proofs.lemmas.List.Elements.{All-head, All-tail}
-use Rattle.ab_norm.specs.ab_types.specs.Entries.{Table, a_kind, a_type, a_constant, kinds, constants, IsExtendedBy as IsPartOf}
+use Rattle.ab_norm.specs.ab_types.specs.Entries.{Table, a_kind, a_type, a_constant, kinds, constants, first_entries, IsExtendedBy as IsPartOf}
 use Rattle.ab_norm.specs.ab_types.specs.Ids.{HoldsType, type_of}
 use Rattle.ab_norm.specs.ab_types.proofs.Entries.{kinds-append, constants-append, same_type}
 use Rattle.ab_norm.specs.ab_store.specs.declared.node.TermId.{TermId}
@@ -28,6 +28,7 @@ use Rattle.ab_logic.specs.declared.additions.Added.{Added}
 use Rattle.ab_logic.specs.declared.sequent.Sequent.{Sequent as Kept}
 use Rattle.ab_logic.proofs.Declaring.{sentences_declared, definitions_declared}
 use Rattle.ab_logic.proofs.Blocks.{all_kept, declared_more, order_more}
+use Rattle.ab_logic.proofs.Growing.{still_begins}
 use Rattle.ab_equations.specs.Meanwhile.{IsMeanwhile, ComesBack}
 use Rattle.ab_equations.proofs.Going.{same_by, held_by, world_meanwhile}
 
@@ -83,8 +84,11 @@ module _ (w v : World) (is : IsMeanwhile w) (g : Grows w.types w.store v.types v
   in_order : CameInOrder v.types 0 v.additions
   in_order = rw additions (order_more w v g.table.0 g.table.1 ids reads cell_ids cells 0 w.additions is.order)
 
+  begins_there : IsPartOf first_entries v.types
+  begins_there = still_begins w.types v.types is.begins g.table
+
   pub then_meanwhile : IsMeanwhile v
-  then_meanwhile = record { typed = g.typed; additions = additions_there; order = in_order }
+  then_meanwhile = record { begins = begins_there; typed = g.typed; additions = additions_there; order = in_order }
 
   -- a world again, where no cell is bound
   pub again : HaveSentences (declarations_of w) → HaveDefinitions (declarations_of w) → v.store.bindings ≡ [] → world.Grows w v
@@ -98,6 +102,7 @@ module _ (w v : World) (is : IsMeanwhile w) (g : Grows w.types w.store v.types v
     additions = ([], additions ∙ sym (append-nil w.additions));
     declarations = (declared g.table.0, D);
     world = record {
+      begins = begins_there;
       typed = g.typed;
       unbound = bindings;
       additions = additions_there;

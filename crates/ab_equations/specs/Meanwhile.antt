@@ -3,7 +3,7 @@
 use Rattle.std.specs.Prelude.{◌≡◌, ◌≢◌, ℕ, ◌+◌, ◌-◌, ◌≤◌, List, [], ◌∷◌, ◌++◌, map, length, take, drop, filter, is_none, Bool, All}
 use Rattle.ab_term.specs.Variables.{Substitution, one_by_one}
 use Rattle.ab_term.specs.Sameness.{same_number}
-use Rattle.ab_norm.specs.ab_types.specs.Entries.{Table}
+use Rattle.ab_norm.specs.ab_types.specs.Entries.{Table, IsExtendedBy, first_entries}
 use Rattle.ab_norm.specs.ab_store.specs.declared.node.CellId.{CellId}
 use Rattle.ab_norm.specs.ab_store.specs.declared.node.Equation.{Equation}
 use Rattle.ab_term.specs.Terms.{Read}
@@ -25,6 +25,7 @@ use Rattle.ab_theory.specs.Splits.{Case, cell_for}
 
 -- all that is true of every world, but that no cell is bound
 pub record IsMeanwhile (w : World) : Type 0 where
+  pub begins : IsExtendedBy first_entries w.types
   pub typed : IsTypedBy w.types w.store
   pub additions : All (λ (a : Added). IsKept w.types w.store a.what) w.additions
   pub order : CameInOrder w.types 0 w.additions

@@ -148,7 +148,7 @@ module _ (w u : World) (p r : Held) (name y : List ℕ) (F : Read)
 
 -- nothing but terms was added
 pub begins : (w v : World) (p : Held) → IsProof w p → Adds w v → Follows w p v p
-begins w v p is adds = follows_same w v p p adds.grows adds.declared is (still_proof w v adds.grows p is) refl
+begins w v p is adds = follows_same w v p p adds.grows adds.declared is (still_proof w v adds.grows adds.declared p is) refl
 
 pub same_goals : (w v : World) (p : Held) → IsProof w p → Adds w v → goals_of v p ≡ goals_of w p
 same_goals w v p is adds = ap (λ (h : History). open_goals h.tree) (as_before w v p p adds.grows is refl)

@@ -41,7 +41,7 @@ holds_at w p place step before behind k at sure b e s x i f =
 pub is_sequent : (w : World) (p : Held) (place : ℕ) (before behind : List Sequent) (k : Sequent) → IsWorld w → IsProof w p → IsAt w p place before k behind → IsSequent (declarations_of w) k
 is_sequent w p place before behind k world proof at =
     All-contains (IsSequent (declarations_of w)) (before ++ k ∷ behind) k
-    (subst (λ gs. All (IsSequent (declarations_of w)) gs) at.goals (open_are_sequents (declarations_of w) world.sentences world.definitions (history_of w p).tree proof.valid proof.rooted))
+    (subst (λ gs. All (IsSequent (declarations_of w)) gs) at.goals (open_are_sequents (declarations_of w) world.sentences world.definitions (history_of w p).tree proof.valid proof.held.rooted))
     (Contains-append_right before (k ∷ behind) k (Contains-here k behind))
 
 pub same_hypotheses : (w v : World) → Grows w v → (ks : List Kept) → All (λ (h : Kept). Holds w h.formula) ks → map (hypothesis_of v) ks ≡ map (hypothesis_of w) ks

@@ -15,10 +15,12 @@ use Rattle.ab_kernel.specs.declared.replaces.Replace.{Replace}
 use Rattle.ab_kernel.specs.declared.step.Step.{Step}
 use Rattle.ab_kernel.specs.declared.step.Step.TheVariants.{Initial, TrueRight, FalseLeft, AndRight, AndLeft, OrRight, OrLeft, ArrowRight, ArrowLeft, ForallRight, ForallLeft, ExistsRight, ExistsLeft, NablaRight, NablaLeft, EqualRight, EqualLeft, DefRight, DefLeft, Induction, Coinduction, CutFormula, UseTheorem, Weaken, SpecCut, SpecInst, SpecMonotone}
 use Rattle.ab_kernel.specs.Nodes.{sequents_in}
-use Rattle.ab_kernel.specs.Layout.{StepAt, steps_in, Held, premises_of, sequents_before, made_by, history_of, IsProof}
+use Rattle.ab_kernel.specs.Layout.{StepAt, steps_in, Held, premises_of, sequents_before, made_by, history_of, HoldsProof, IsProof}
 use Rattle.ab_kernel.specs.RuleAnswers.{step_of, HoldsStep, label_of, replacements}
 use Rattle.ab_theory.specs.Steps as plain
-use Rattle.ab_theory.specs.Derivations.{root, Valid, History, after}
+use Rattle.ab_theory.specs.Derivations.{Derivation, root, Valid, History, after}
+use Rattle.ab_theory.specs.Growth.{AddsNoClause}
+use Rattle.ab_theory.proofs.SameRules.{adds_none}
 use Rattle.ab_theory.proofs.Refining.{still_valid}
 use Rattle.ab_theory.proofs.Rooted.{still_sequent}
 
@@ -105,20 +107,42 @@ module _ (w v : World) (grown : Grows w v) where
       ap (λ k. after r.place k (premises_of r ss) (made_by v (sequents_before r ss) rs)) (same_step r.step (All-head (λ (q : StepAt). HoldsStep w q.step) r rs all))
       ∙ ap (after r.place (step_of w r.step) (premises_of r ss)) (same_made (sequents_before r ss) rs (All-tail (λ (q : StepAt). HoldsStep w q.step) r rs all))
 
-  pub same_history : (p : Held) → IsProof w p → history_of v p ≡ history_of w p
-  same_history p proof =
+  pub same_read : (p : Held) → HoldsProof w p → history_of v p ≡ history_of w p
+  same_read p proof =
       ap (λ ss. made_by v ss (steps_in p.nodes p.journal)) (map_same (sequent_of v) (sequent_of w) (HoldsSequent w) (same_sequent w v grown) (sequents_in p.nodes) proof.sequents)
       ∙ same_made (map (sequent_of w) (sequents_in p.nodes)) (steps_in p.nodes p.journal) proof.steps
 
-  pub still_proof : (p : Held) → IsProof w p → IsProof v p
-  still_proof p proof = record {
+  pub still_holds : (p : Held) → HoldsProof w p → HoldsProof v p
+  still_holds p proof = record {
     sequents = All-weaker (HoldsSequent w) (HoldsSequent v) (still_held w v grown) (sequents_in p.nodes) proof.sequents;
     steps = All-weaker (λ (r : StepAt). HoldsStep w r.step) (λ (r : StepAt). HoldsStep v r.step) (λ r. still_step r.step) (steps_in p.nodes p.journal) proof.steps;
     rooted =
-        subst (λ (h : History). IsSequent (declarations_of v) (root h.tree)) (sym (same_history p proof))
+        subst (λ (h : History). IsSequent (declarations_of v) (root h.tree)) (sym (same_read p proof))
         (still_sequent (declarations_of w) (declarations_of v) grown.declarations (root (history_of w p).tree) proof.rooted);
-    valid = subst (λ (h : History). Valid (declarations_of v) h.tree) (sym (same_history p proof)) (still_valid (declarations_of w) (declarations_of v) grown.declarations (history_of w p).tree proof.valid);
-    was_valid =
-        subst (λ (h : History). All (Valid (declarations_of v)) h.earlier) (sym (same_history p proof))
-        (All-weaker (Valid (declarations_of w)) (Valid (declarations_of v)) (still_valid (declarations_of w) (declarations_of v) grown.declarations) (history_of w p).earlier proof.was_valid);
   }
+
+pub same_history : (w v : World) → Grows w v → (p : Held) → IsProof w p → history_of v p ≡ history_of w p
+same_history w v grown p proof = same_read w v grown p proof.held
+
+-- what is derived stays so where no clause of the program was added
+
+abbrev pub AddsNone : World → World → Type 0
+AddsNone w v = AddsNoClause (declarations_of w) (declarations_of v)
+
+pub same_declared : (w v : World) → declarations_of v ≡ declarations_of w → AddsNone w v
+same_declared w v declared = subst (AddsNoClause (declarations_of w)) (sym declared) (adds_none (declarations_of w))
+
+pub still_derived : (w v : World) → AddsNone w v → (d : Derivation) → Valid (declarations_of w) d → Valid (declarations_of v) d
+still_derived w v none d valid = still_valid (declarations_of w) (declarations_of v) none.longer d valid
+
+pub outlived_proof : (w v : World) → Grows w v → AddsNone w v → (p : Held) → IsProof w p → IsProof v p
+outlived_proof w v grown none p proof = record {
+  held = still_holds w v grown p proof.held;
+  valid = subst (λ (h : History). Valid (declarations_of v) h.tree) (sym (same_history w v grown p proof)) (still_derived w v none (history_of w p).tree proof.valid);
+  was_valid =
+      subst (λ (h : History). All (Valid (declarations_of v)) h.earlier) (sym (same_history w v grown p proof))
+      (All-weaker (Valid (declarations_of w)) (Valid (declarations_of v)) (still_derived w v none) (history_of w p).earlier proof.was_valid);
+}
+
+pub still_proof : (w v : World) → Grows w v → declarations_of v ≡ declarations_of w → (p : Held) → IsProof w p → IsProof v p
+still_proof w v grown declared p proof = outlived_proof w v grown (same_declared w v declared) p proof

@@ -32,8 +32,8 @@ use Rattle.ab_kernel.proofs.Standing.{reads_now, leads}
 use Rattle.ab_kernel.proofs.Taking.{goal_taken}
 use Rattle.ab_kernel.proofs.NewNumbers.{over_cells}
 use Rattle.ab_theory.proofs.OneAnswer.{NamesOnce, never_both, one_failure, any_names, names_by_hint, taken_or_stuck, refused_or_stuck, one_equation}
-use Rattle.ab_kernel.proofs.Later.{same_step, still_step, still_proof, same_history}
-use Rattle.ab_theory.proofs.Refining.{root-refined, Valid-refined, still_valid}
+use Rattle.ab_kernel.proofs.Later.{same_step, still_step, same_declared, still_holds, still_derived, same_history}
+use Rattle.ab_theory.proofs.Refining.{root-refined, Valid-refined}
 
 -- the goal's sequent is there
 pub held_at : (w : World) (items : List Kept) (n : ℕ) (x : Kept) → All (HoldsSequent w) items → n < length items → x ≡ get_or items n x → HoldsSequent w x
@@ -102,7 +102,7 @@ pub by_rule : (w v : World) (x : Kept) (kept : Step) (made : Vec Kept Global) �
     → Answers v (row_at w (step_of w kept) x) (Ok made) → NamedRule (declarations_of w) (step_of w kept) (sequent_of w x) (map (sequent_of v) made.items)
 by_rule w v x kept made held a = (cells_read w.types w.store, over_cells w x held, a.0)
 
-module _ (w v : World) (grown : Grows w v) (p q : Held) (proof : IsProof w p) (kept : Step) (holds : HoldsStep w kept) where
+module _ (w v : World) (grown : Grows w v) (declared : declarations_of v ≡ declarations_of w) (p q : Held) (proof : IsProof w p) (kept : Step) (holds : HoldsStep w kept) where
   -- the step as it reads now
   pub as_before : (D : Declarations) (place n : ℕ) (h k : History) → IsStep D place (step_of v kept) n h k → IsStep D place (step_of w kept) n h k
   as_before D place n h k is = subst (λ t. IsStep D place t n h k) (same_step w v grown kept holds) is
@@ -115,23 +115,25 @@ module _ (w v : World) (grown : Grows w v) (p q : Held) (proof : IsProof w p) (k
       → (sequents_in q.nodes) ≡ (sequents_in p.nodes) ++ made → (steps_in q.nodes q.journal) ≡ r ∷ (steps_in p.nodes p.journal) → r.step ≡ kept → All (HoldsSequent v) made
       → goal_at (history_of w p).tree place ≡ Some s → NamedRule (declarations_of w) (step_of w kept) s (map (sequent_of v) made) → IsProof v q
   proof_after made r place s is sequents steps same held goal rule =
-      let still = still_proof w v grown p proof in
+      let still = still_holds w v grown p proof.held in
       let there : HoldsStep v r.step = subst (HoldsStep v) (sym same) (still_step w v grown kept holds) in
       record {
-        sequents = subst (All (HoldsSequent v)) (sym sequents) (All-append (HoldsSequent v) (sequents_in p.nodes) made still.sequents held);
-        steps = subst (All (λ (r : StepAt). HoldsStep v r.step)) (sym steps) (All-cons (λ (r : StepAt). HoldsStep v r.step) r (steps_in p.nodes p.journal) there still.steps);
-        rooted =
-            subst (λ (h : History). IsSequent (declarations_of v) (root h.tree)) (sym is)
-            (subst (IsSequent (declarations_of v)) (sym (root-refined (step_of v kept) (map (sequent_of v) made) place (history_of w p).tree))
-            (still_sequent (declarations_of w) (declarations_of v) grown.declarations (root (history_of w p).tree) proof.rooted));
+        held = record {
+          sequents = subst (All (HoldsSequent v)) (sym sequents) (All-append (HoldsSequent v) (sequents_in p.nodes) made still.sequents held);
+          steps = subst (All (λ (r : StepAt). HoldsStep v r.step)) (sym steps) (All-cons (λ (r : StepAt). HoldsStep v r.step) r (steps_in p.nodes p.journal) there still.steps);
+          rooted =
+              subst (λ (h : History). IsSequent (declarations_of v) (root h.tree)) (sym is)
+              (subst (IsSequent (declarations_of v)) (sym (root-refined (step_of v kept) (map (sequent_of v) made) place (history_of w p).tree))
+              (still_sequent (declarations_of w) (declarations_of v) grown.declarations (root (history_of w p).tree) proof.held.rooted));
+        };
         valid =
             subst (λ (h : History). Valid (declarations_of v) h.tree) (sym is)
-            (still_valid (declarations_of w) (declarations_of v) grown.declarations (refined place (step_of v kept) (map (sequent_of v) made) (history_of w p).tree)
+            (still_derived w v (same_declared w v declared) (refined place (step_of v kept) (map (sequent_of v) made) (history_of w p).tree)
             (Valid-refined (step_of v kept) (map (sequent_of v) made) (declarations_of w) s
             (any_named (declarations_of w) (step_of v kept) s (map (sequent_of v) made) (rule_now (declarations_of w) s (map (sequent_of v) made) rule)) place (history_of w p).tree goal proof.valid));
         was_valid =
             subst (λ (h : History). All (Valid (declarations_of v)) h.earlier) (sym is)
-            (All-weaker (Valid (declarations_of w)) (Valid (declarations_of v)) (still_valid (declarations_of w) (declarations_of v) grown.declarations) ((history_of w p).tree ∷ (history_of w p).earlier)
+            (All-weaker (Valid (declarations_of w)) (Valid (declarations_of v)) (still_derived w v (same_declared w v declared)) ((history_of w p).tree ∷ (history_of w p).earlier)
             (All-cons (Valid (declarations_of w)) (history_of w p).tree (history_of w p).earlier proof.valid proof.was_valid));
       }
 
@@ -139,7 +141,7 @@ module _ (w v : World) (grown : Grows w v) (p q : Held) (proof : IsProof w p) (k
 pub goal_sequent : (w : World) (p : Held) (place : ℕ) (s : Sequent) → IsWorld w → IsProof w p → goal_at (history_of w p).tree place ≡ Some s → IsSequent (declarations_of w) s
 goal_sequent w p place s world proof at =
     let gs = open_goals (history_of w p).tree in
-    let all = open_are_sequents (declarations_of w) world.sentences world.definitions (history_of w p).tree proof.valid proof.rooted in
+    let all = open_are_sequents (declarations_of w) world.sentences world.definitions (history_of w p).tree proof.valid proof.held.rooted in
     subst (IsSequent (declarations_of w)) (get_or_from_slice_get gs place s s at) (all place s (slice_get_within gs place s at))
 
 -- the goal at which the step is taken
@@ -156,7 +158,7 @@ here w nodes ns js p place at node n stands is proof e is_node is_n =
     let found = leads place at node (reads_now w (map (sequent_of w) items) ns (steps_in nodes js) stands) e is_node in
     let inside : node < length items = rw (sym (length-map items (sequent_of w))) (slice_get_within (map (sequent_of w) items) node found.0 found.1) in
     record {
-      held = held_at w items node n.sequent (subst (λ (q : Held). All (HoldsSequent w) (sequents_in q.nodes)) (sym is) proof.sequents) inside is_x;
+      held = held_at w items node n.sequent (subst (λ (q : Held). All (HoldsSequent w) (sequents_in q.nodes)) (sym is) proof.held.sequents) inside is_x;
       is_goal = goal_taken w items ns (steps_in nodes js) (history_of w p) place at node n.sequent stands (ap (history_of w) is) e is_node is_x;
     }
 

@@ -112,9 +112,11 @@ proof_before w nodes r js is root_is proof =
     let step : StepAt = record { step = step_held (node_at nodes r.node); place = r.place; node = r.node; premises = r.premises } in
     let before = made_by w (sequents_before step (map (sequent_of w) (sequents_in nodes))) (steps_in (nodes_before r nodes) js) in
     record {
-      sequents = subst (All (HoldsSequent w)) (sym (sequents-before r nodes)) (All-take (HoldsSequent w) (length nodes - r.premises) (sequents_in nodes) proof.sequents);
-      steps = All-tail (λ (k : StepAt). HoldsStep w k.step) step (steps_in (nodes_before r nodes) js) proof.steps;
-      rooted = subst (IsSequent (declarations_of w)) (sym root_is) proof.rooted;
+      held = record {
+        sequents = subst (All (HoldsSequent w)) (sym (sequents-before r nodes)) (All-take (HoldsSequent w) (length nodes - r.premises) (sequents_in nodes) proof.held.sequents);
+        steps = All-tail (λ (k : StepAt). HoldsStep w k.step) step (steps_in (nodes_before r nodes) js) proof.held.steps;
+        rooted = subst (IsSequent (declarations_of w)) (sym root_is) proof.held.rooted;
+      };
       valid = subst (λ (h : History). Valid (declarations_of w) h.tree) (sym is) (All-head (Valid (declarations_of w)) before.tree before.earlier proof.was_valid);
       was_valid = subst (λ (h : History). All (Valid (declarations_of w)) h.earlier) (sym is) (All-tail (Valid (declarations_of w)) before.tree before.earlier proof.was_valid);
     }

@@ -1,5 +1,5 @@
 -- How the fields of a `Proof` stand for its history, and what they were before a step. Contracts name `Held`, `history_of`,
--- `IsProof`, `before_last` and `Beyond` alone.
+-- `HoldsProof`, `IsProof`, `before_last` and `Beyond` alone.
 use Rattle.std.specs.Prelude.{◌≡◌, ℕ, zero, suc, ◌+◌, ◌-◌, ◌≤◌, List, [], ◌∷◌, ◌++◌, length, map, take, drop, reverse, Some, slice_get, slice_set, vec_capacity, unwrap_or, ◌≢◌}
 use Rattle.std.specs.List.{All}
 use Rattle.ab_term.specs.Terms.{spine, index, no_terms}
@@ -112,12 +112,15 @@ module _ (w : World) where
   abbrev pub history_of : Held → History
   history_of p = made_by (map (sequent_of w) (sequents_in p.nodes)) (steps_in p.nodes p.journal)
 
-  -- THE PROOF IS ONE: what it names is there, it began with a sequent, and its derivation is valid and was so before
-  -- each step
-  pub record IsProof (p : Held) : Type 0 where
+  -- what the proof names is there, and it began with a sequent: this outlives whatever is declared
+  pub record HoldsProof (p : Held) : Type 0 where
     pub sequents : All (HoldsSequent w) (sequents_in p.nodes)
     pub steps : All (λ (r : StepAt). HoldsStep w r.step) (steps_in p.nodes p.journal)
     pub rooted : IsSequent (declarations_of w) (root (history_of p).tree)
+
+  -- THE PROOF IS ONE: what it names is there, and its derivation is valid and was so before each step
+  pub record IsProof (p : Held) : Type 0 where
+    pub held : HoldsProof p
     pub valid : Valid (declarations_of w) (history_of p).tree
     pub was_valid : All (Valid (declarations_of w)) (history_of p).earlier
 

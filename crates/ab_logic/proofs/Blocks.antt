@@ -1,5 +1,5 @@
 -- Definitions that are kept: how they read, in a world that has grown too, and that they define.
-use Rattle.std.proofs.Common.{◌≡◌, ℕ, ◌-◌, List, [], ◌∷◌, ◌++◌, map, take, drop, Bool, true, false, Some, if◌then◌else◌, bytes_eq, codes, refl, sym, ◌∙◌, ap, subst}
+use Rattle.std.proofs.Common.{◌≡◌, inl, inr, ℕ, ◌-◌, List, [], ◌∷◌, ◌++◌, map, take, drop, Bool, true, false, Some, if◌then◌else◌, bytes_eq, codes, refl, sym, ◌∙◌, ap, subst}
 use Rattle.std.specs.List.{All, list_any}
 use Rattle.std.specs.Option.{option_map}
 use Rattle.std.proofs.lemmas.List.Elements.{All-nil, All-cons, All-head, All-tail, All-weaker}
@@ -30,14 +30,16 @@ use Rattle.ab_typing.specs.declared.definitions.ClauseTerm.{ClauseTerm}
 use Rattle.ab_formulas.proofs.ClausesCased.{is_clause}
 use Rattle.ab_typing.proofs.Names.{same_search}
 use Rattle.ab_formulas.specs.Formulas.{a_formula, IsFormula}
-use Rattle.ab_formulas.specs.Declarations.{Declarations, a_block, a_theorem, block_in, IsDefining}
+use Rattle.ab_formulas.specs.Declarations.{Declarations, a_block, a_program_clause, a_theorem, block_in, IsDefining}
+use Rattle.ab_formulas.specs.Programs.{IsGoalOrNone, IsProgramKept}
+use Rattle.ab_term.specs.Terms.{Read}
 use Rattle.ab_logic.specs.Additions.{block_or, block_kept, is_among}
 use Rattle.ab_logic.specs.Worlds.{read, Holds, HoldsCell, variable_of, declared, defined, definition_of, declaration_of, declared_from, CameInOrder, IsKeptClause, IsKeptBlock, IsKept}
 use Rattle.ab_formulas.specs.Sequents.{Variable}
 use Rattle.ab_logic.specs.declared.world.World.{World}
 use Rattle.ab_logic.specs.declared.additions.Added.{Added}
 use Rattle.ab_logic.specs.declared.additions.Addition.{Addition}
-use Rattle.ab_logic.specs.declared.additions.Addition.TheVariants.{Theorem, Definition}
+use Rattle.ab_logic.specs.declared.additions.Addition.TheVariants.{Theorem, Definition, Clause}
 use Rattle.ab_formulas.proofs.Images.{image_stands}
 use Rattle.ab_formulas.proofs.Declaring.{or_else, block_in-append}
 use Rattle.ab_logic.proofs.Declaring.{block-declared, ReadsSame, declared_on, order_on}
@@ -92,6 +94,7 @@ module _ (w : World) where
         one : (what : Addition) → IsKept w.types w.store what → option_map (definition_of w) (block_kept xs p) ≡ block_in rest (name_of w.types p)
             → option_map (definition_of w) (block_or what p (block_kept xs p)) ≡ block_in (declaration_of w what ∷ rest) (name_of w.types p)
         one (Theorem e) k later = later
+        one (Clause c) k later = later
         one (Definition b) k later = test b (is_among b.predicates p) (list_any (bytes_eq (name_of w.types p)) (map (name_of w.types) b.predicates)) (same_search w.types unique p held b.predicates k.predicates) later
 
 -- what was proposed is kept, where the clauses have no fault
@@ -154,6 +157,7 @@ module _ (w v : World) (more : Table) (grown : v.types ≡ w.types ++ more)
   same_addition : (what : Addition) → IsKept w.types w.store what → declaration_of v what ≡ declaration_of w what
   same_addition (Theorem e) k = ap (a_theorem e.name) (reads e.formula k)
   same_addition (Definition b) k = ap a_block (same_definition b k)
+  same_addition (Clause c) k = ap (λ d. a_program_clause (case_of d)) (same_clause c k.held)
 
   larger : typing.IsExtendedBy (signature w.types) (signature v.types)
   larger = subst (λ t. typing.IsExtendedBy (signature w.types) (signature t)) (sym grown) (same_signature w.types more)
@@ -183,12 +187,38 @@ module _ (w v : World) (more : Table) (grown : v.types ≡ w.types ++ more)
         (record { typed = more_typed (signature w.types) (signature v.types) larger k.body.typed; stands = k.body.stands });
   }
 
+  still_goal : (t : Read) → IsGoalOrNone (signature w.types) t → IsGoalOrNone (signature v.types) t
+  still_goal t (inl h) = inl (more_typed (signature w.types) (signature v.types) larger h)
+  still_goal t (inr e) = inr e
+
+  still_program : (c : kept.Clause) → IsProgramKept (signature w.types) c → IsProgramKept (signature v.types) c
+  still_program c k = (
+    record {
+      different = k.0.different;
+      head = more_typed (signature w.types) (signature v.types) larger k.0.head;
+      body = still_goal c.body k.0.body;
+      head_without_constants = k.0.head_without_constants;
+      body_without_constants = k.0.body_without_constants;
+      head_variables = k.0.head_variables;
+      body_variables = k.0.body_variables;
+    },
+    k.1,
+  )
+
   pub still_kept : (what : Addition) → IsKept w.types w.store what → IsKept v.types v.store what
   still_kept (Theorem e) k = ids e.formula k
   still_kept (Definition b) k = record {
     predicates =
         All-weaker (HoldsConstant w.types) (HoldsConstant v.types) (λ p h. subst (λ t. HoldsConstant t p) (sym grown) (holds_constant w.types more p h)) b.predicates k.predicates;
     clauses = All-weaker (IsKeptClause w.types w.store) (IsKeptClause v.types v.store) clause_kept b.clauses k.clauses;
+  }
+  still_kept (Clause c) k = record {
+    held = record {
+      variables = All-weaker (HoldsCell w) (HoldsCell v) cell_ids c.variables k.held.variables;
+      head = ids c.head k.held.head;
+      body = ids c.body k.held.body;
+    };
+    well = subst (IsProgramKept (signature v.types)) (sym (same_clause c k.held)) (still_program (clause_of w.types w.store c) k.well);
   }
 
   pub all_kept : (xs : List Added) → All (λ (a : Added). IsKept w.types w.store a.what) xs → All (λ (a : Added). IsKept v.types v.store a.what) xs

@@ -1,9 +1,9 @@
 -- What the declarations of a world say, where it is new, where its table has grown, and where something was added.
 use Rattle.std.specs.Option.{option_map}
-use Rattle.std.specs.List.{All, list_any}
-use Rattle.std.proofs.Common.{◌≡◌, ℕ, ◌+◌, ◌-◌, ◌≤◌, Bool, true, false, if◌then◌else◌, Option, Some, None, List, [], ◌∷◌, ◌++◌, length, map, take, drop, bytes_eq, refl, sym, ◌∙◌, ap, subst, arith, append_assoc, append-nil, length-drop, length-append}
+use Rattle.std.specs.List.{All}
+use Rattle.std.proofs.Common.{◌≡◌, ℕ, ◌+◌, ◌-◌, ◌≤◌, Bool, true, false, if◌then◌else◌, Some, None, List, [], ◌∷◌, ◌++◌, length, map, take, drop, bytes_eq, refl, sym, ◌∙◌, ap, arith, append_assoc, length-drop, length-append}
 use Rattle.std.proofs.lemmas.List.{take_all, take-append-le, drop-append-le, take-append-drop, drop-drop}
-use Rattle.std.proofs.lemmas.List.Elements.{All-head, All-tail, All-weaker}
+use Rattle.std.proofs.lemmas.List.Elements.{All-head, All-tail}
 use Rattle.ab_store.specs.ab_types.specs.Entries as table
 use Rattle.ab_store.specs.ab_types.specs.Entries.{Table}
 use Rattle.ab_store.specs.ab_types.proofs.Entries.{constants-append}
@@ -14,7 +14,7 @@ use Rattle.ab_logic.specs.Worlds.{read, declared, declaration_of, declared_from,
 use Rattle.ab_logic.specs.declared.world.World.{World}
 use Rattle.ab_logic.specs.declared.additions.Added.{Added}
 use Rattle.ab_logic.specs.declared.additions.Addition.{Addition}
-use Rattle.ab_logic.specs.declared.additions.Addition.TheVariants.{Theorem, Definition}
+use Rattle.ab_logic.specs.declared.additions.Addition.TheVariants.{Theorem, Definition, Clause as AClause}
 use Rattle.ab_logic.specs.declared.additions.TheoremEntry.{TheoremEntry}
 pub use Rattle.ab_formulas.proofs.Declaring.{constants_in-append, theorems_in-append, or_else, or_else_test, theorem_in-append, block_in-append, still_theorem, type_in-append, more_constants, still_formula, still_sentence, extends_not, extends_on, still_defining, sentences_behind, definitions_behind, sentences_added, sentences_defined, definitions_added, definitions_defined}
 
@@ -63,6 +63,7 @@ definitions_declared D s all = definitions_behind D (declared s) all (λ p b e. 
 constant_in_none : (w : World) (what : Addition) (ds : Declarations) → constants_in (declaration_of w what ∷ ds) ≡ constants_in ds
 constant_in_none w (Theorem e) ds = refl
 constant_in_none w (Definition b) ds = refl
+constant_in_none w (AClause c) ds = refl
 
 pub theorem_found : (w : World) (done : ℕ) (xs : List Added) (name : List ℕ) → theorem_in (declared_from w done xs) name ≡ option_map (λ (e : TheoremEntry). read w e.formula) (entry_in xs name)
 theorem_found w done [] name = theorem-declared (drop done w.types) name
@@ -81,6 +82,7 @@ theorem_found w done (a ∷ xs) name =
         → theorem_in (declaration_of w what ∷ declared_from w a.before xs) name ≡ option_map (λ (e : TheoremEntry). read w e.formula) (entry_or what name (entry_in xs name))
     one (Theorem e) rest = test e (bytes_eq name e.name) rest
     one (Definition b) rest = rest
+    one (AClause c) rest = rest
 
 abbrev pub shown : World → TheoremEntry → List ℕ × Read
 shown w e = (e.name, read w e.formula)
@@ -96,6 +98,7 @@ theorems_are w done (a ∷ xs) =
         → theorems_in (declaration_of w what ∷ declared_from w a.before xs) ≡ map (shown w) (entries_with what (entries_of xs))
     one (Theorem e) rest = ap (λ ts. shown w e ∷ ts) rest
     one (Definition b) rest = rest
+    one (AClause c) rest = rest
 
 pub order_within : (types : Table) (done : ℕ) (xs : List Added) → CameInOrder types done xs → done ≤ length types
 order_within types done [] order = order

@@ -3,7 +3,7 @@ use Rattle.std.specs.List.{All}
 use Rattle.std.proofs.Common.{◌≡◌, ℕ, arith, List, [], ◌∷◌, ◌++◌, map, length, refl, sym, ◌∙◌, ap, subst, append_assoc, append-nil}
 use Rattle.std.proofs.lemmas.List.Elements.{All-nil, All-head, All-tail, All-weaker, All-push}
 use Rattle.ab_store.specs.ab_types.specs.Entries as table
-use Rattle.ab_store.specs.ab_types.specs.Entries.{Table, signature}
+use Rattle.ab_store.specs.ab_types.specs.Entries.{Table, signature, first_entries}
 use Rattle.ab_store.specs.ab_types.specs.Ids.{type_of}
 use Rattle.ab_store.specs.ab_types.proofs.Entries.{same_type}
 use Rattle.ab_store.specs.declared.node.TermId.{TermId}
@@ -17,18 +17,19 @@ use Rattle.ab_store.specs.Naming.{IsTypedBy}
 use Rattle.ab_store.proofs.Marking.{kept_itself, kept_on}
 use Rattle.ab_store.proofs.Tables.{same_tree, still_typed}
 use Rattle.ab_typing.specs.declared.definitions.Block.{Block}
+use Rattle.ab_typing.specs.declared.definitions.ClauseTerm.{ClauseTerm}
 use Rattle.ab_formulas.specs.Declarations.{signature_in, IsDefining, HaveSentences, HaveDefinitions}
 use Rattle.ab_formulas.specs.Formulas.{IsSentence}
-use Rattle.ab_logic.specs.Worlds.{read, Holds, HoldsCell, variable_of, declared, definition_of, declaration_of, declared_from, declarations_of, IsKeptBlock, IsKept, IsWorld}
+use Rattle.ab_logic.specs.Worlds.{read, Holds, HoldsCell, variable_of, declared, definition_of, declaration_of, declared_from, declarations_of, IsKeptBlock, IsKeptProgramClause, clause_read, IsKept, IsWorld}
 use Rattle.ab_logic.specs.SequentReadings.{hypothesis_of, sequent_of, HoldsSequent}
 use Rattle.ab_logic.specs.WorldGrowth.{Grows}
 use Rattle.ab_logic.specs.declared.world.World.{World}
 use Rattle.ab_logic.specs.declared.additions.Added.{Added}
-use Rattle.ab_logic.specs.declared.additions.Addition.TheVariants.{Theorem, Definition}
+use Rattle.ab_logic.specs.declared.additions.Addition.TheVariants.{Theorem, Definition, Clause}
 use Rattle.ab_logic.specs.declared.additions.TheoremEntry.{TheoremEntry}
 use Rattle.ab_logic.specs.declared.sequent.Sequent.{Sequent as Kept}
 use Rattle.ab_logic.specs.declared.sequent.Hypothesis.{Hypothesis}
-use Rattle.ab_formulas.proofs.Declaring.{sentences_added, sentences_defined, definitions_added, definitions_defined, extends_not, extends_on}
+use Rattle.ab_formulas.proofs.Declaring.{sentences_added, sentences_defined, sentences_clause, definitions_added, definitions_defined, definitions_clause, extends_not, extends_on}
 use Rattle.ab_logic.proofs.Declaring.{constants_are, theorem-declared, block-declared, declared_added, order_added, sentences_declared, definitions_declared}
 use Rattle.ab_logic.proofs.Blocks.{all_kept, declared_more, order_more, block_defines}
 
@@ -58,6 +59,10 @@ grows_on u v w a b = record {
   world = b.world;
 }
 
+pub still_begins : (old new : Table) → table.IsExtendedBy first_entries old → table.IsExtendedBy old new → table.IsExtendedBy first_entries new
+still_begins old new begins part =
+    (begins.0 ++ part.0, part.1 ∙ ap (λ es. es ++ part.0) begins.1 ∙ append_assoc first_entries begins.0 part.0)
+
 -- any world with more types and more terms, where these read as before
 grown : (w v : World) (more : Table) → IsWorld w → v.types ≡ w.types ++ more → v.additions ≡ w.additions
     → ((t : TermId) → Holds w t → Holds v t) → ((t : TermId) → Holds w t → read v t ≡ read w t)
@@ -76,6 +81,7 @@ grown w v more is types additions ids reads cell_ids cells typed bindings marks 
       additions = ([], additions ∙ sym (append-nil w.additions));
       declarations = (declared more, D);
       world = record {
+        begins = still_begins w.types v.types is.begins (more, types);
         typed = typed;
         unbound = bindings ∙ is.unbound;
         additions =
@@ -123,6 +129,7 @@ grows_added w a is last held sentences definitions =
       additions = (a ∷ [], refl);
       declarations = (declaration_of w a.what ∷ [], D);
       world = record {
+        begins = is.begins;
         typed = is.typed;
         unbound = is.unbound;
         additions = All-push (λ (u : Added). IsKept w.types w.store u.what) w.additions a is.additions held;
@@ -151,9 +158,17 @@ grows_block w b before is last held =
     (definitions_defined (declarations_of w) (definition_of w b) is.definitions
     (subst (λ sg. All (IsDefining sg) (definition_of w b).clauses) (same_constants w is) (block_defines w b held)))
 
+pub grows_clause : (w : World) (c : ClauseTerm) (before : ℕ) → IsWorld w → before ≡ length w.types → IsKeptProgramClause w.types w.store c
+    → Grows w (record { types = w.types; store = w.store; additions = w.additions ++ record { what = Clause c; before = before } ∷ [] })
+grows_clause w c before is last held =
+    grows_added w (record { what = Clause c; before = before }) is last held
+    (sentences_clause (declarations_of w) (clause_read w c) is.sentences)
+    (definitions_clause (declarations_of w) (clause_read w c) is.definitions)
+
 -- nothing was added
-pub bare_world : (types : Table) (store : Contents) → IsTypedBy types store → store.bindings ≡ [] → IsWorld (record { types = types; store = store; additions = [] })
-bare_world types store typed unbound = record {
+pub bare_world : (types : Table) (store : Contents) → types ≡ first_entries → IsTypedBy types store → store.bindings ≡ [] → IsWorld (record { types = types; store = store; additions = [] })
+bare_world types store first typed unbound = record {
+  begins = ([], first ∙ sym (append-nil first_entries));
   typed = typed;
   unbound = unbound;
   additions = All-nil (λ (a : Added). IsKept types store a.what);

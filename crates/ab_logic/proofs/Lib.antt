@@ -1,7 +1,12 @@
+pub mod Cutting
 pub mod Counts
+pub mod Counting
 pub mod Removing
 pub mod Lookups
 pub mod Declaring
 pub mod Blocks
+pub mod Programs
 pub mod Growing
+pub mod Shortened
+pub mod BuiltIn
 pub mod Members

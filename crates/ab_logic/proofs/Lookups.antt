@@ -13,10 +13,11 @@ use Rattle.indexmap.proofs.CallerLemmas.{insert_entry-new}
 use Rattle.ab_store.specs.ab_types.specs.declared.ids.ConstId.{ConstId}
 use Rattle.ab_store.specs.declared.node.TermId.{TermId}
 use Rattle.ab_typing.specs.declared.definitions.Block.{Block}
-use Rattle.ab_logic.specs.Additions.{entry_or, entry_in, entries_with, entries_of, same_constant, is_among, block_or, block_kept, as_theorem, as_block, theorem_at_place, block_at_place, places_with, places_from, IsFiled}
+use Rattle.ab_typing.specs.declared.definitions.ClauseTerm.{ClauseTerm}
+use Rattle.ab_logic.specs.Additions.{entry_or, entry_in, entries_with, entries_of, same_constant, is_among, block_or, block_kept, as_theorem, as_block, theorem_at_place, block_at_place, places_with, places_from, place_or, block_place, if_there, checked, IsFiled}
 use Rattle.ab_logic.specs.declared.additions.Added.{Added}
 use Rattle.ab_logic.specs.declared.additions.Addition.{Addition}
-use Rattle.ab_logic.specs.declared.additions.Addition.TheVariants.{Theorem, Definition}
+use Rattle.ab_logic.specs.declared.additions.Addition.TheVariants.{Theorem, Definition, Clause}
 use Rattle.ab_logic.specs.declared.additions.TheoremEntry.{TheoremEntry}
 
 -- elements of a list, by their places
@@ -59,6 +60,7 @@ found_from k front (a ∷ xs) = go a.what (theorem_here front a xs) (later (foun
         → option_and_then (theorem_at_place (front ++ a ∷ xs)) (lookup (pointwise nat_eq k) (places_with what (length front) (places_from (suc (length front)) xs))) ≡ entry_or what k (entry_in xs k)
     go (Theorem e) here rest = by_test (theorem_at_place (front ++ a ∷ xs)) (pointwise nat_eq k e.name) (length front) e (lookup (pointwise nat_eq k) (places_from (suc (length front)) xs)) (entry_in xs k) here rest
     go (Definition b) here rest = rest
+    go (Clause c) here rest = rest
 
 pub found : (k : List ℕ) (xs : List Added) (names : List (List ℕ × ℕ)) → names ≡ places_from 0 xs → option_and_then (theorem_at_place xs) (lookup (pointwise nat_eq k) names) ≡ entry_in xs k
 found k xs names is = ap (λ es. option_and_then (theorem_at_place xs) (lookup (pointwise nat_eq k) es)) is ∙ found_from k [] xs
@@ -82,6 +84,7 @@ listed_from i front (a ∷ xs) = go a.what (theorem_here front a xs) (λ j. late
     go (Theorem e) here rest zero = here
     go (Theorem e) here rest (suc j) = rest j
     go (Definition b) here rest j = rest j
+    go (Clause c) here rest j = rest j
 
 pub listed : (i : ℕ) (xs : List Added) (names : List (List ℕ × ℕ)) → names ≡ places_from 0 xs → option_and_then (λ (p : List ℕ × ℕ). theorem_at_place xs p.1) (slice_get names i) ≡ slice_get (entries_of xs) i
 listed i xs names is = ap (λ (es : List (List ℕ × ℕ)). option_and_then (λ (p : List ℕ × ℕ). theorem_at_place xs p.1) (slice_get es i)) is ∙ listed_from i [] xs
@@ -93,6 +96,7 @@ counted_from n (a ∷ xs) = go a.what (counted_from (suc n) xs)
     go : (what : Addition) → length (places_from (suc n) xs) ≡ length (entries_of xs) → length (places_with what n (places_from (suc n) xs)) ≡ length (entries_with what (entries_of xs))
     go (Theorem e) rest = ap suc rest
     go (Definition b) rest = rest
+    go (Clause c) rest = rest
 
 pub counted : (xs : List Added) (names : List (List ℕ × ℕ)) → names ≡ places_from 0 xs → length names ≡ length (entries_of xs)
 counted xs names is = ap length is ∙ counted_from 0 xs
@@ -107,6 +111,7 @@ places_end n (b ∷ xs) a = go b.what (places_end (suc n) xs a ∙ ap (λ k. pla
         → places_with what n (places_from (suc n) (xs ++ a ∷ [])) ≡ places_with what n (places_from (suc n) xs) ++ places_with a.what (n + suc (length xs)) []
     go (Theorem e) rest = ap (λ l. (e.name, n) ∷ l) rest
     go (Definition b) rest = rest
+    go (Clause c) rest = rest
 
 kept_end : (xs : List Added) (a : Added) (p : ConstId) → as_block a.what p ≡ None → block_kept (xs ++ a ∷ []) p ≡ block_kept xs p
 kept_end [] a p none = none
@@ -124,6 +129,7 @@ kept_new (b ∷ xs) a p none = go b.what (kept_new xs a p) none
     go : (what : Addition) → (block_kept xs p ≡ None → block_kept (xs ++ a ∷ []) p ≡ as_block a.what p)
         → block_or what p (block_kept xs p) ≡ None → block_or what p (block_kept (xs ++ a ∷ []) p) ≡ as_block a.what p
     go (Theorem e) rest n = rest n
+    go (Clause c) rest n = rest n
     go (Definition c) rest n = test c (is_among c.predicates p) rest n
 
 -- a place of the list leads where it led, and what stands at the end is no definition of the predicate
@@ -141,10 +147,100 @@ past_end : (xs : List Added) (p : ConstId) → block_at_place xs p (length xs) �
 past_end [] p = refl
 past_end (x ∷ xs) p = past_end xs p
 
+-- definitions by the places that are noted: a place that leads to none is none
+
+block_here : (front : List Added) (a : Added) (xs : List Added) (p : ConstId) → block_at_place (front ++ a ∷ xs) p (length front) ≡ as_block a.what p
+block_here front a xs p = ap (option_and_then (λ (c : Added). as_block c.what p)) (element_here front a xs)
+
+checked_leads : (xs : List Added) (p : ConstId) (o : Option ℕ) → option_and_then (block_at_place xs p) (option_and_then (checked xs p) o) ≡ option_and_then (block_at_place xs p) o
+checked_leads xs p None = refl
+checked_leads xs p (Some i) = go (block_at_place xs p i) refl
+  where
+    go : (b : Option Block) → block_at_place xs p i ≡ b → option_and_then (block_at_place xs p) (if_there b i) ≡ block_at_place xs p i
+    go None e = sym e
+    go (Some b) e = refl
+
+place_leads : (p : ConstId) (front xs : List Added) → option_and_then (block_at_place (front ++ xs) p) (block_place (length front) xs p) ≡ block_kept xs p
+place_leads p front [] = refl
+place_leads p front (a ∷ xs) = go a.what (block_here front a xs p) (later (place_leads p (front ++ a ∷ []) xs))
+  where
+    later : option_and_then (block_at_place ((front ++ a ∷ []) ++ xs) p) (block_place (length (front ++ a ∷ [])) xs p) ≡ block_kept xs p
+        → option_and_then (block_at_place (front ++ a ∷ xs) p) (block_place (suc (length front)) xs p) ≡ block_kept xs p
+    later rest =
+        ap (λ (zs : List Added). option_and_then (block_at_place zs p) (block_place (suc (length front)) xs p)) (sym (append_assoc front (a ∷ []) xs))
+        ∙ ap (λ n. option_and_then (block_at_place ((front ++ a ∷ []) ++ xs) p) (block_place n xs p)) (sym (one_longer front a))
+        ∙ rest
+
+    test : (b : Block) (t : Bool) (n : ℕ) (o : Option ℕ) (k : Option Block) → block_at_place (front ++ a ∷ xs) p n ≡ (if t then Some b else None) → option_and_then (block_at_place (front ++ a ∷ xs) p) o ≡ k
+        → option_and_then (block_at_place (front ++ a ∷ xs) p) (if t then Some n else o) ≡ (if t then Some b else k)
+    test b true n o k here rest = here
+    test b false n o k here rest = rest
+
+    go : (what : Addition) → block_at_place (front ++ a ∷ xs) p (length front) ≡ as_block what p
+        → option_and_then (block_at_place (front ++ a ∷ xs) p) (block_place (suc (length front)) xs p) ≡ block_kept xs p
+        → option_and_then (block_at_place (front ++ a ∷ xs) p) (place_or what p (length front) (block_place (suc (length front)) xs p)) ≡ block_or what p (block_kept xs p)
+    go (Theorem e) here rest = rest
+    go (Clause c) here rest = rest
+    go (Definition b) here rest = test b (is_among b.predicates p) (length front) (block_place (suc (length front)) xs p) (block_kept xs p) here rest
+
+pub block_found : (xs : List Added) (p : ConstId) (o : Option ℕ) → option_and_then (checked xs p) o ≡ block_place 0 xs p → option_and_then (block_at_place xs p) o ≡ block_kept xs p
+block_found xs p o is = sym (checked_leads xs p o) ∙ ap (option_and_then (block_at_place xs p)) is ∙ place_leads p [] xs
+
+-- the first place stays what it was where no definition of the predicate is put behind
+place_none : (what : Addition) (p : ConstId) (n : ℕ) → as_block what p ≡ None → place_or what p n None ≡ None
+place_none (Theorem e) p n none = refl
+place_none (Clause c) p n none = refl
+place_none (Definition b) p n none = go (is_among b.predicates p) none
+  where
+    go : (t : Bool) → (if t then Some b else None) ≡ None → (if t then Some n else None) ≡ None
+    go true e = absurd (cc)
+    go false e = refl
+
+place_end : (n : ℕ) (xs : List Added) (a : Added) (p : ConstId) → as_block a.what p ≡ None → block_place n (xs ++ a ∷ []) p ≡ block_place n xs p
+place_end n [] a p none = place_none a.what p n none
+place_end n (b ∷ xs) a p none = ap (place_or b.what p n) (place_end (suc n) xs a p none)
+
+-- what has no definition has no place
+no_place : (n : ℕ) (xs : List Added) (p : ConstId) → block_kept xs p ≡ None → block_place n xs p ≡ None
+no_place n [] p none = refl
+no_place n (b ∷ xs) p none = go b.what (no_place (suc n) xs p) none
+  where
+    test : (c : Block) (t : Bool) → (block_kept xs p ≡ None → block_place (suc n) xs p ≡ None) → (if t then Some c else block_kept xs p) ≡ None → (if t then Some n else block_place (suc n) xs p) ≡ None
+    test c true rest m = absurd (cc)
+    test c false rest m = rest m
+
+    go : (what : Addition) → (block_kept xs p ≡ None → block_place (suc n) xs p ≡ None) → block_or what p (block_kept xs p) ≡ None → place_or what p n (block_place (suc n) xs p) ≡ None
+    go (Theorem e) rest m = rest m
+    go (Clause c) rest m = rest m
+    go (Definition c) rest m = test c (is_among c.predicates p) rest m
+
+place_new : (n : ℕ) (xs : List Added) (a : Added) (p : ConstId) → block_kept xs p ≡ None → block_place n (xs ++ a ∷ []) p ≡ place_or a.what p (n + length xs) None
+place_new n [] a p none = ap (λ k. place_or a.what p k None) (let same : n ≡ n + 0 = omega arith in same)
+place_new n (b ∷ xs) a p none = go b.what (λ m. place_new (suc n) xs a p m ∙ ap (λ k. place_or a.what p k None) (let same : suc n + length xs ≡ n + suc (length xs) = omega arith in same)) none
+  where
+    test : (c : Block) (t : Bool) (o r : Option ℕ) → (block_kept xs p ≡ None → o ≡ r) → (if t then Some c else block_kept xs p) ≡ None → (if t then Some n else o) ≡ r
+    test c true o r rest m = absurd (cc)
+    test c false o r rest m = rest m
+
+    go : (what : Addition) → (block_kept xs p ≡ None → block_place (suc n) (xs ++ a ∷ []) p ≡ place_or a.what p (n + suc (length xs)) None)
+        → block_or what p (block_kept xs p) ≡ None → place_or what p n (block_place (suc n) (xs ++ a ∷ []) p) ≡ place_or a.what p (n + suc (length xs)) None
+    go (Theorem e) rest m = rest m
+    go (Clause c) rest m = rest m
+    go (Definition c) rest m = test c (is_among c.predicates p) (block_place (suc n) (xs ++ a ∷ []) p) (place_or a.what p (n + suc (length xs)) None) rest m
+
+checked_end : (xs : List Added) (a : Added) (p : ConstId) → as_block a.what p ≡ None → (o : Option ℕ) → option_and_then (checked (xs ++ a ∷ []) p) o ≡ option_and_then (checked xs p) o
+checked_end xs a p none None = refl
+checked_end xs a p none (Some i) = ap (λ b. if_there b i) (led_end xs a p none i)
+
+-- what is no definition of the predicate is put behind
+one_on : (xs : List Added) (a : Added) (p : ConstId) (o : Option ℕ) → as_block a.what p ≡ None → option_and_then (checked xs p) o ≡ block_place 0 xs p
+    → option_and_then (checked (xs ++ a ∷ []) p) o ≡ block_place 0 (xs ++ a ∷ []) p
+one_on xs a p o none is = checked_end xs a p none o ∙ is ∙ sym (place_end 0 xs a p none)
+
 pub nothing_filed : (places : ConstId → Option ℕ) → IsFiled [] [] places
 nothing_filed places = record { theorems = refl; definitions = λ p. go p (places p) }
   where
-    go : (p : ConstId) (o : Option ℕ) → option_and_then (block_at_place [] p) o ≡ None
+    go : (p : ConstId) (o : Option ℕ) → option_and_then (checked [] p) o ≡ None
     go p None = refl
     go p (Some i) = refl
 
@@ -162,6 +258,7 @@ not_noted k n (a ∷ xs) none = go a.what (not_noted k (suc n) xs) none
     go : (what : Addition) → (entry_in xs k ≡ None → lookup (pointwise nat_eq k) (places_from (suc n) xs) ≡ None) → entry_or what k (entry_in xs k) ≡ None → lookup (pointwise nat_eq k) (places_with what n (places_from (suc n) xs)) ≡ None
     go (Theorem e) rest m = test e (pointwise nat_eq k e.name) rest m
     go (Definition b) rest m = rest m
+    go (Clause c) rest m = rest m
 
 module _ {S : Type 0} (m : IndexMap (List ℕ) ℕ S) (xs : List Added) (places : ConstId → Option ℕ) (filed : IsFiled xs m.entries places) where
   pub theorem_filed : (k : List ℕ) (e : TheoremEntry) (before : ℕ) (es : List (List ℕ × ℕ)) (n : ℕ) → entry_in xs k ≡ None → n ≡ length xs → e.name ≡ k
@@ -175,11 +272,18 @@ module _ {S : Type 0} (m : IndexMap (List ℕ) ℕ S) (xs : List Added) (places 
         ∙ ap (λ x. places_from 0 xs ++ (x, length xs) ∷ []) (sym named)
         ∙ ap (λ i. places_from 0 xs ++ (e.name, i) ∷ []) (let same : length xs ≡ 0 + length xs = omega arith in same)
         ∙ sym (places_end 0 xs (record { what = Theorem e; before = before }));
-    definitions = λ p.
-        led_on xs (record { what = Theorem e; before = before }) p refl (places p)
-        ∙ filed.definitions p
-        ∙ sym (kept_end xs (record { what = Theorem e; before = before }) p refl);
+    definitions = λ p. one_on xs (record { what = Theorem e; before = before }) p (places p) refl (filed.definitions p);
   }
+
+-- a clause of the program is filed
+pub clause_filed : (xs : List Added) (names : List (List ℕ × ℕ)) (places : ConstId → Option ℕ) (c : ClauseTerm) (before : ℕ) → IsFiled xs names places
+    → IsFiled (xs ++ record { what = Clause c; before = before } ∷ []) names places
+clause_filed xs names places c before filed =
+    let a : Added = record { what = Clause c; before = before } in
+    record {
+      theorems = filed.theorems ∙ sym (places_end 0 xs a ∙ append-nil (places_from 0 xs));
+      definitions = λ p. one_on xs a p (places p) refl (filed.definitions p);
+    }
 
 -- a definition is filed
 
@@ -197,13 +301,13 @@ module _ (xs : List Added) (names : List (List ℕ × ℕ)) (old new : ConstId �
   pub definition_dropped : (n : ℕ) → n ≡ length xs → ((p : ConstId) → (new p ≡ old p) ⊎ ((new p ≡ Some n) × (is_among b.predicates p ≡ true))) → IsFiled xs names new
   definition_dropped n end part = record { theorems = filed.theorems; definitions = λ p. go p (part p) }
     where
-      go : (p : ConstId) → (new p ≡ old p) ⊎ ((new p ≡ Some n) × (is_among b.predicates p ≡ true)) → option_and_then (block_at_place xs p) (new p) ≡ block_kept xs p
-      go p (inl same) = ap (option_and_then (block_at_place xs p)) same ∙ filed.definitions p
+      go : (p : ConstId) → (new p ≡ old p) ⊎ ((new p ≡ Some n) × (is_among b.predicates p ≡ true)) → option_and_then (checked xs p) (new p) ≡ block_place 0 xs p
+      go p (inl same) = ap (option_and_then (checked xs p)) same ∙ filed.definitions p
       go p (inr at) =
-          ap (option_and_then (block_at_place xs p)) at.0
-          ∙ ap (block_at_place xs p) end
-          ∙ past_end xs p
-          ∙ sym (one_of (λ q. block_kept xs q ≡ None) b.predicates p none at.1)
+          ap (option_and_then (checked xs p)) at.0
+          ∙ ap (λ k. if_there (block_at_place xs p k) n) end
+          ∙ ap (λ o. if_there o n) (past_end xs p)
+          ∙ sym (no_place 0 xs p (one_of (λ q. block_kept xs q ≡ None) b.predicates p none at.1))
 
   pub definition_filed : (n before : ℕ) → n ≡ length xs → ((p : ConstId) → new p ≡ (if is_among b.predicates p then Some n else old p))
       → IsFiled (xs ++ record { what = Definition b; before = before } ∷ []) names new
@@ -215,21 +319,17 @@ module _ (xs : List Added) (names : List (List ℕ × ℕ)) (old new : ConstId �
       a : Added
       a = record { what = Definition b; before = before }
 
-      here : (p : ConstId) → block_at_place (xs ++ a ∷ []) p (length xs) ≡ as_block (Definition b) p
-      here p = ap (option_and_then (λ (c : Added). as_block c.what p)) (element_here xs a [])
-
-      go : (p : ConstId) (t : Bool) → is_among b.predicates p ≡ t → new p ≡ (if t then Some n else old p) → option_and_then (block_at_place (xs ++ a ∷ []) p) (new p) ≡ block_kept (xs ++ a ∷ []) p
+      go : (p : ConstId) (t : Bool) → is_among b.predicates p ≡ t → new p ≡ (if t then Some n else old p) → option_and_then (checked (xs ++ a ∷ []) p) (new p) ≡ block_place 0 (xs ++ a ∷ []) p
       go p true e at =
-          ap (option_and_then (block_at_place (xs ++ a ∷ []) p)) at
-          ∙ ap (block_at_place (xs ++ a ∷ []) p) end
-          ∙ here p
-          ∙ sym (kept_new xs a p (one_of (λ q. block_kept xs q ≡ None) b.predicates p none e))
+          ap (option_and_then (checked (xs ++ a ∷ []) p)) at
+          ∙ ap (λ k. checked (xs ++ a ∷ []) p k) end
+          ∙ ap (λ o. if_there o (length xs)) (block_here xs a [] p ∙ ap (λ t. if t then Some b else None) e)
+          ∙ ap (λ k. Some k) (let same : length xs ≡ 0 + length xs = omega arith in same)
+          ∙ ap (λ t. if t then Some (0 + length xs) else None) (sym e)
+          ∙ sym (place_new 0 xs a p (one_of (λ q. block_kept xs q ≡ None) b.predicates p none e))
       go p false e at =
           let other : as_block (Definition b) p ≡ None = ap (λ t. if t then Some b else None) e in
-          ap (option_and_then (block_at_place (xs ++ a ∷ []) p)) at
-          ∙ led_on xs a p other (old p)
-          ∙ filed.definitions p
-          ∙ sym (kept_end xs a p other)
+          ap (option_and_then (checked (xs ++ a ∷ []) p)) at ∙ one_on xs a p (old p) other (filed.definitions p)
 
 -- what is true of each theorem's formula is true of the one that is found
 pub held_entry : (P : Addition → Type 0) (Q : TermId → Type 0) → ((e : TheoremEntry) → P (Theorem e) → Q e.formula) → (xs : List Added) (k : List ℕ) → All (λ (a : Added). P a.what) xs
@@ -246,6 +346,7 @@ held_entry P Q of_theorem (a ∷ xs) k all = go a.what (All-head (λ (b : Added)
         → IfSome (option_map (λ (e : TheoremEntry). e.formula) (entry_or what k (entry_in xs k))) Q
     go (Theorem e) p rest = test e (bytes_eq k e.name) (of_theorem e p) rest
     go (Definition b) p rest = rest
+    go (Clause c) p rest = rest
 
 -- places that are noted one after another
 

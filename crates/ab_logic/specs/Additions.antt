@@ -4,9 +4,10 @@ use Rattle.std.specs.Option.{option_and_then}
 use Rattle.std.specs.List.{list_any}
 use Rattle.ab_store.specs.ab_types.specs.declared.ids.ConstId.{ConstId}
 use Rattle.ab_typing.specs.declared.definitions.Block.{Block}
+use Rattle.ab_typing.specs.declared.definitions.ClauseTerm.{ClauseTerm}
 use Rattle.ab_logic.specs.declared.additions.TheoremEntry.{TheoremEntry}
 use Rattle.ab_logic.specs.declared.additions.Addition.{Addition}
-use Rattle.ab_logic.specs.declared.additions.Addition.TheVariants.{Theorem, Definition}
+use Rattle.ab_logic.specs.declared.additions.Addition.TheVariants.{Theorem, Definition, Clause}
 use Rattle.ab_logic.specs.declared.additions.Added.{Added}
 use Rattle.ab_logic.specs.declared.world.DefineFault.{DefineFault}
 use Rattle.ab_logic.specs.declared.world.DefineFault.TheVariants.{Memory}
@@ -15,6 +16,7 @@ use Rattle.ab_logic.specs.declared.world.DefineFault.TheVariants.{Memory}
 abbrev pub entry_or : Addition → List ℕ → Option TheoremEntry → Option TheoremEntry
 entry_or (Theorem e) name rest = if bytes_eq name e.name then Some e else rest
 entry_or (Definition b) name rest = rest
+entry_or (Clause c) name rest = rest
 
 -- the theorem of that name
 abbrev pub entry_in : List Added → List ℕ → Option TheoremEntry
@@ -24,6 +26,7 @@ entry_in (a ∷ xs) name = entry_or a.what name (entry_in xs name)
 abbrev pub entries_with : Addition → List TheoremEntry → List TheoremEntry
 entries_with (Theorem e) rest = e ∷ rest
 entries_with (Definition b) rest = rest
+entries_with (Clause c) rest = rest
 
 -- the theorems, in order
 abbrev pub entries_of : List Added → List TheoremEntry
@@ -40,6 +43,7 @@ is_among ps p = list_any (λ q. same_constant q p) ps
 -- the definition, if it is one of the predicate, or else the rest
 abbrev pub block_or : Addition → ConstId → Option Block → Option Block
 block_or (Theorem e) p rest = rest
+block_or (Clause c) p rest = rest
 block_or (Definition b) p rest = if is_among b.predicates p then Some b else rest
 
 -- the definition of the predicate
@@ -50,6 +54,12 @@ block_kept (a ∷ xs) p = block_or a.what p (block_kept xs p)
 abbrev pub as_theorem : Addition → Option TheoremEntry
 as_theorem (Theorem e) = Some e
 as_theorem (Definition b) = None
+as_theorem (Clause c) = None
+
+abbrev pub as_clause : Addition → Option ClauseTerm
+as_clause (Theorem e) = None
+as_clause (Definition b) = None
+as_clause (Clause c) = Some c
 
 abbrev pub as_block : Addition → ConstId → Option Block
 as_block a p = block_or a p None
@@ -58,6 +68,10 @@ as_block a p = block_or a p None
 abbrev pub theorem_at_place : List Added → ℕ → Option TheoremEntry
 theorem_at_place xs place = option_and_then (λ a. as_theorem a.what) (slice_get xs place)
 
+-- the clause of the program at a place, if one stands there
+abbrev pub clause_at_place : List Added → ℕ → Option ClauseTerm
+clause_at_place xs place = option_and_then (λ a. as_clause a.what) (slice_get xs place)
+
 -- the definition at a place, if one of the predicate stands there
 abbrev pub block_at_place : List Added → ConstId → ℕ → Option Block
 block_at_place xs p place = option_and_then (λ a. as_block a.what p) (slice_get xs place)
@@ -65,16 +79,46 @@ block_at_place xs p place = option_and_then (λ a. as_block a.what p) (slice_get
 abbrev pub places_with : Addition → ℕ → List (List ℕ × ℕ) → List (List ℕ × ℕ)
 places_with (Theorem e) place rest = (e.name, place) ∷ rest
 places_with (Definition b) place rest = rest
+places_with (Clause c) place rest = rest
 
 -- the names of theorems, each with its place, where the list begins at the first place
 abbrev pub places_from : ℕ → List Added → List (List ℕ × ℕ)
 places_from place [] = []
 places_from place (a ∷ xs) = places_with a.what place (places_from (suc place) xs)
 
--- the places that are noted lead to the theorems, in order, and to each predicate's definition
+-- the place of the predicate's definition, where the list begins at the first place
+abbrev pub place_or : Addition → ConstId → ℕ → Option ℕ → Option ℕ
+place_or (Theorem e) p place rest = rest
+place_or (Definition b) p place rest = if is_among b.predicates p then Some place else rest
+place_or (Clause c) p place rest = rest
+
+abbrev pub block_place : ℕ → List Added → ConstId → Option ℕ
+block_place place [] p = None
+block_place place (a ∷ xs) p = place_or a.what p place (block_place (suc place) xs p)
+
+-- a place, if a definition of the predicate stands there
+abbrev pub if_there : Option Block → ℕ → Option ℕ
+if_there None place = None
+if_there (Some b) place = Some place
+
+abbrev pub checked : List Added → ConstId → ℕ → Option ℕ
+checked xs p place = if_there (block_at_place xs p place) place
+
+-- the clauses of the program, in order, and their places
+abbrev pub clauses_with : Addition → List ClauseTerm → List ClauseTerm
+clauses_with (Theorem e) rest = rest
+clauses_with (Definition b) rest = rest
+clauses_with (Clause c) rest = c ∷ rest
+
+abbrev pub clauses_kept : List Added → List ClauseTerm
+clauses_kept [] = []
+clauses_kept (a ∷ xs) = clauses_with a.what (clauses_kept xs)
+
+-- The places that are noted lead to the theorems, in order, and to each predicate's definition. A place at which no definition
+-- of the predicate stands leads nowhere: such may be left where additions were dropped.
 pub record IsFiled (xs : List Added) (by_name : List (List ℕ × ℕ)) (by_predicate : ConstId → Option ℕ) : Type 0 where
   pub theorems : by_name ≡ places_from 0 xs
-  pub definitions : (p : ConstId) → option_and_then (block_at_place xs p) (by_predicate p) ≡ block_kept xs p
+  pub definitions : (p : ConstId) → option_and_then (checked xs p) (by_predicate p) ≡ block_place 0 xs p
 
 -- the fault is want of memory
 abbrev pub IsMemory : DefineFault → Type 0

@@ -1,5 +1,4 @@
 -- A formula by its outermost constant, as the program has it.
-use Rattle.std.specs.Prelude.{ℕ}
 use Rattle.ab_term.specs.Types.{Ty}
 use Rattle.ab_term.specs.Terms.{Read}
 use Rattle.ab_formulas.specs.Marks as marks

@@ -1,5 +1,5 @@
 -- What a world stands for: what its ids read as, and the declarations in it.
-use Rattle.std.specs.Prelude.{◌≡◌, ℕ, ◌-◌, ◌≤◌, List, [], ◌∷◌, ◌++◌, map, length, take, drop, codes, true, All}
+use Rattle.std.specs.Prelude.{◌≡◌, ℕ, suc, ◌-◌, ◌≤◌, List, [], ◌∷◌, ◌++◌, map, length, take, drop, codes, true, All}
 use Rattle.ab_store.specs.ab_types.specs.Ids.{type_of, HoldsConstant}
 use Rattle.ab_store.specs.ab_types.specs.Entries as table
 use Rattle.ab_store.specs.ab_types.specs.Entries.{Table, signature, first_entries}
@@ -10,18 +10,20 @@ use Rattle.ab_term.specs.Terms.{Read}
 use Rattle.ab_store.specs.Trees.{Contents, tree_of}
 use Rattle.ab_store.specs.Naming.{IsTypedBy}
 use Rattle.ab_unifiers.specs.Member.{member_clauses}
+use Rattle.ab_unifiers.specs.Clauses as cases
 use Rattle.ab_formulas.specs.Clauses as kept
 use Rattle.ab_formulas.specs.CaseClauses.{case_of, IsWellKept}
 use Rattle.ab_typing.specs.DefinitionReadings.{clause_of, block_of, HoldsClause}
 use Rattle.ab_typing.specs.declared.definitions.Block.{Block as KeptBlock}
 use Rattle.ab_typing.specs.declared.definitions.ClauseTerm.{ClauseTerm}
 use Rattle.ab_formulas.specs.Formulas.{IsFormula}
-use Rattle.ab_formulas.specs.Declarations.{Declaration, Declarations, Block, a_kind, a_constant, a_block, a_theorem, HaveSentences, HaveDefinitions}
+use Rattle.ab_formulas.specs.Declarations.{Declaration, Declarations, Block, a_kind, a_constant, a_block, a_program_clause, a_theorem, HaveSentences, HaveDefinitions}
+use Rattle.ab_formulas.specs.Programs.{IsProgramKept}
 use Rattle.ab_formulas.specs.Sequents.{Variable}
 use Rattle.ab_logic.specs.declared.world.World.{World}
 use Rattle.ab_logic.specs.declared.additions.Added.{Added}
 use Rattle.ab_logic.specs.declared.additions.Addition.{Addition}
-use Rattle.ab_logic.specs.declared.additions.Addition.TheVariants.{Theorem, Definition}
+use Rattle.ab_logic.specs.declared.additions.Addition.TheVariants.{Theorem, Definition, Clause}
 
 -- THE READING of an id. Cells are bound only while a command runs, so between two commands an id reads as its tree.
 abbrev pub read : World → TermId → Read
@@ -55,10 +57,15 @@ defined b = record { inductive = b.inductive; predicates = b.predicates; clauses
 abbrev pub definition_of : World → KeptBlock → Block
 definition_of w b = defined (block_of w.types w.store b)
 
+-- a clause of the program, as it is kept by its terms
+abbrev pub clause_read : World → ClauseTerm → cases.Clause (List ℕ)
+clause_read w c = case_of (clause_of w.types w.store c)
+
 -- what is added, as it is declared
 abbrev pub declaration_of : World → Addition → Declaration
 declaration_of w (Theorem e) = a_theorem e.name (read w e.formula)
 declaration_of w (Definition b) = a_block (definition_of w b)
+declaration_of w (Clause c) = a_program_clause (clause_read w c)
 
 -- what was declared behind the first `done` entries of the table: each addition stands behind the entries that were
 -- there when it was made
@@ -69,6 +76,15 @@ declared_from w done (a ∷ xs) = declared (take (a.before - done) (drop done w.
 -- THE DECLARATIONS of a world, in order
 abbrev pub declarations_of : World → Declarations
 declarations_of w = declared_from w 0 w.additions
+
+-- how many definitions, clauses of the program and theorems are declared
+abbrev pub count_added : Declarations → ℕ
+count_added [] = 0
+count_added (a_kind k ∷ ds) = count_added ds
+count_added (a_constant c A ∷ ds) = count_added ds
+count_added (a_block b ∷ ds) = suc (count_added ds)
+count_added (a_program_clause c ∷ ds) = suc (count_added ds)
+count_added (a_theorem n F ∷ ds) = suc (count_added ds)
 
 -- what a new world declares: its table's entries, and `member`
 abbrev pub member_block : Block
@@ -89,6 +105,11 @@ module _ (types : Table) (terms : Contents) where
     pub well : IsWellKept (signature types) (clause_of types terms c)
     pub body : IsFormula (signature types) (tree_of types terms c.body)
 
+  -- a clause of the program: what it names is there, and it is well kept
+  pub record IsKeptProgramClause (c : ClauseTerm) : Type 0 where
+    pub held : HoldsClause types terms c
+    pub well : IsProgramKept (signature types) (clause_of types terms c)
+
   pub record IsKeptBlock (b : KeptBlock) : Type 0 where
     pub predicates : All (HoldsConstant types) b.predicates
     pub clauses : All IsKeptClause b.clauses
@@ -97,10 +118,12 @@ module _ (types : Table) (terms : Contents) where
   abbrev pub IsKept : Addition → Type 0
   IsKept (Theorem e) = store.Holds terms e.formula
   IsKept (Definition b) = IsKeptBlock b
+  IsKept (Clause c) = IsKeptProgramClause c
 
--- WHAT IS TRUE OF EVERY WORLD: its store is of its table, no cell is bound, each theorem is a formula that speaks of no
--- goal, and each definition is by clauses that define
+-- WHAT IS TRUE OF EVERY WORLD: its table begins with what is built in, its store is of its table, no cell is bound, each
+-- theorem is a formula that speaks of no goal, and each definition is by clauses that define
 pub record IsWorld (w : World) : Type 0 where
+  pub begins : table.IsExtendedBy first_entries w.types
   pub typed : IsTypedBy w.types w.store
   pub unbound : w.store.bindings ≡ []
   pub additions : All (λ (a : Added). IsKept w.types w.store a.what) w.additions

@@ -1,14 +1,14 @@
-//! What was added to a world behind kinds and constants, in order: theorems and definitions.
-ghost use Rattle.std.specs.Prelude.{◌≡◌, ◌⊎◌, [], ◌∷◌, ◌++◌, length, OnOk, OnErr, slice_get, true, None, Some, All, if◌then◌else◌};
+//! What was added to a world behind kinds and constants, in order: definitions, clauses of the program, theorems.
+ghost use Rattle.std.specs.Prelude.{◌≡◌, ◌⊎◌, [], ◌∷◌, ◌++◌, take, length, OnOk, OnErr, slice_get, true, None, Some, All, if◌then◌else◌};
 ghost use Rattle.std.specs.HashMap.{get};
 ghost use Rattle.std.specs.Option.{option_map, option_copied};
-ghost use Rattle.ab_logic.specs.Additions.{same_constant, is_among, as_theorem, as_block, theorem_at_place, block_at_place, entry_in, entries_of, block_kept};
-ghost use Rattle.ab_logic.specs.declared.additions.Addition.TheVariants.{Theorem, Definition};
+ghost use Rattle.ab_logic.specs.Additions.{same_constant, is_among, as_theorem, as_block, as_clause, theorem_at_place, block_at_place, clause_at_place, entry_in, entries_of, block_kept};
+ghost use Rattle.ab_logic.specs.declared.additions.Addition.TheVariants.{Theorem, Definition, Clause};
 
 use ab_store::TermId;
 use ab_store::name::Name;
 use ab_store::types::ConstId;
-use ab_typing::Block;
+use ab_typing::{Block, ClauseTerm};
 use indexmap::IndexMap;
 use std::alloc::{AllocError, Global};
 use std::collections::HashMap;
@@ -26,6 +26,7 @@ pub struct TheoremEntry {
 pub enum Addition {
     Theorem(TheoremEntry),
     Definition(Block),
+    Clause(ClauseTerm),
 }
 
 impl Addition {
@@ -36,6 +37,18 @@ impl Addition {
         match self {
             Addition::Theorem(entry) => Some(entry),
             Addition::Definition(_) => None,
+            Addition::Clause(_) => None,
+        }
+    }
+
+    /// The clause of the program, if it is one.
+    fn clause(&self) -> Option<&ClauseTerm>
+        ensures { option_copied result ≡ as_clause self.now }
+    {
+        match self {
+            Addition::Theorem(_) => None,
+            Addition::Definition(_) => None,
+            Addition::Clause(clause) => Some(clause),
         }
     }
 
@@ -45,6 +58,7 @@ impl Addition {
     {
         match self {
             Addition::Theorem(_) => None,
+            Addition::Clause(_) => None,
             Addition::Definition(block) => {
                 if block.predicates.as_slice().contains(&predicate) {
                     Some(block)
@@ -102,8 +116,25 @@ impl Additions {
         *self.list.allocator()
     }
 
-    /// How many theorems there are.
+    /// How many additions there are.
     pub(crate) fn len(&self) -> usize
+        ensures { result ≡ length self.now }
+    {
+        self.list.len()
+    }
+
+    /// The clause of the program at this place of the list, if one stands there.
+    pub(crate) fn clause_at(&self, place: usize) -> Option<&ClauseTerm>
+        ensures { option_copied result ≡ clause_at_place self.now place }
+    {
+        match self.list.get(place) {
+            None => None,
+            Some(added) => added.what.clause(),
+        }
+    }
+
+    /// How many theorems there are.
+    pub(crate) fn theorems(&self) -> usize
         ensures { result ≡ length (entries_of self.now) }
     {
         self.by_name.len()
@@ -205,6 +236,32 @@ impl Additions {
         let what = Addition::Definition(block);
         self.list.push_reserved(Added { what, before });
         Ok(())
+    }
+
+    /// Puts a clause of the program behind the others.
+    pub(crate) fn add_clause(&mut self, clause: ClauseTerm, before: usize) -> Result<(), AllocError>
+        ensures added { OnOk result (self.new ≡ self.old ++ record { what = Clause clause; before = before } ∷ []) }
+        ensures err { OnErr result (self.new ≡ self.old) }
+    {
+        self.list.reserve(1)?;
+        let what = Addition::Clause(clause);
+        self.list.push_reserved(Added { what, before });
+        Ok(())
+    }
+
+    /// Keeps the first `len` additions, at the cost of those that go.
+    pub(crate) fn truncate(&mut self, len: usize)
+        ensures { self.new ≡ take len self.old }
+    {
+        let mut names = self.by_name.len();
+        for place in len..self.list.len() {
+            match self.theorem_in(place) {
+                None => {}
+                Some(_) => names = names.saturating_sub(1),
+            }
+        }
+        self.by_name.truncate(names);
+        self.list.truncate(len);
     }
 }
 

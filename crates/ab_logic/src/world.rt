@@ -1,17 +1,18 @@
 //! Worlds: what was declared, and the terms that are shared.
-ghost use Rattle.std.specs.Prelude.{◌≡◌, [], ◌∷◌, ◌++◌, map, length, IfOk, IfSome, OnOk, OnErr, IfErr, IsSome, slice_get, Some, None, Err, All};
+ghost use Rattle.std.specs.Prelude.{◌≡◌, ◌⊎◌, ◌+◌, ◌-◌, ◌≤◌, [], ◌∷◌, ◌++◌, take, IsTrue, IsFalse, map, length, IfOk, IfSome, OnOk, OnErr, IfErr, IsSome, slice_get, Some, None, Err, All};
 ghost use Rattle.std.specs.Option.{option_map, option_copied};
 ghost use Rattle.ab_store.specs.ab_types.specs.Entries.{first_entries};
 ghost use Rattle.ab_store.specs.ab_types.specs.Ids.{HoldsConstant};
 ghost use Rattle.ab_formulas.specs.ProposedClauses.{IsProposed};
-ghost use Rattle.ab_typing.specs.DefinitionReadings.{name_of, block_of, fault_of, HoldsFault, HoldsBlock};
+ghost use Rattle.ab_typing.specs.DefinitionReadings.{name_of, clause_of, block_of, fault_of, HoldsFault, HoldsClause, HoldsBlock};
 ghost use Rattle.ab_formulas.specs.Faults.{IsFaultOf};
 ghost use Rattle.ab_formulas.specs.Clauses.{Block as ABlock};
-ghost use Rattle.ab_formulas.specs.Declarations.{Declarations, signature_in, theorem_in, theorems_in, block_in, a_theorem, a_block};
+ghost use Rattle.ab_formulas.specs.Declarations.{Declarations, signature_in, theorem_in, theorems_in, block_in, with_first, a_theorem, a_block, a_program_clause};
+ghost use Rattle.ab_formulas.specs.Programs.{IsProgramHead, IsProgramProposed};
 ghost use Rattle.ab_formulas.specs.Formulas.{IsSentence};
-ghost use Rattle.ab_logic.specs.Additions.{entry_in, block_kept, IsMemory};
+ghost use Rattle.ab_logic.specs.Additions.{entry_in, block_kept, clause_at_place, IsMemory};
 ghost use Rattle.ab_logic.specs.NewDefinitions.{AreNew, IsFirstDefined, IsDefinable, IsDefineFault};
-ghost use Rattle.ab_logic.specs.Worlds.{read, Holds, definition_of, declarations_of, first_declarations, IsKeptBlock, IsWorld};
+ghost use Rattle.ab_logic.specs.Worlds.{read, Holds, clause_read, definition_of, declarations_of, count_added, first_declarations, IsKeptBlock, IsWorld};
 ghost use Rattle.ab_logic.specs.WorldGrowth.{Grows};
 ghost use Rattle.ab_logic.specs.declared.world.DefineFault.{DefineFault as AFault};
 
@@ -20,12 +21,12 @@ use crate::member::member_definition;
 use ab_store::name::Name;
 use ab_store::types::laws::has_unique_ids;
 use ab_store::types::{ConstId, Steps, TypeTable};
-use ab_store::{Store, TermId};
-use ab_typing::{Block, ClauseFault, first_fault};
+use ab_store::{Head, Node, Store, TermId};
+use ab_typing::{Block, ClauseFault, ClauseTerm, first_fault};
 use std::alloc::{AllocError, Global};
 
 /// What was declared, and the terms by which all is said: the types with the declared kinds and constants, the
-/// shared terms, and theorems and definitions in order.
+/// shared terms, and definitions, clauses of the program and theorems in order.
 #[derive(Drop)]
 pub struct World {
     pub types: TypeTable,
@@ -193,6 +194,83 @@ impl World {
         self.additions.formula(name)
     }
 
+    /// Adds a clause of the program behind all that was declared. Refused exactly where its head is no constant with
+    /// arguments; then the number is told that was given. Nothing is counted.
+    pub fn add_clause<L>(
+        &mut self,
+        clause: ClauseTerm,
+        number: usize,
+        steps: &mut Steps<L>,
+    ) -> Result<(), DefineFault>
+        requires world { IsWorld self.old }
+        requires held { HoldsClause self.old.types self.old.store clause }
+        requires proposed { IsProgramProposed (signature_in (declarations_of self.old)) (clause_of self.old.types self.old.store clause) }
+
+        ensures added { OnOk result (declarations_of self.new ≡ declarations_of self.old ++ a_program_clause (clause_read self.old clause) ∷ []) }
+        ensures grows { OnOk result (Grows self.old self.new) }
+        ensures right { OnOk result (IsProgramHead (read self.old clause.head)) }
+
+        ensures refused { (fault : AFault) → result ≡ Err fault → IsMemory fault ⊎ ((IsProgramHead (read self.old clause.head) → ⊥) × (fault ≡ DefineFault.BadHead number)) }
+        ensures err { OnErr result (self.new ≡ self.old) }
+        ensures steps { steps.new ≡ steps.old }
+    {
+        let _ = steps;
+        if !self.is_program_head(clause.head) {
+            return Err(DefineFault::BadHead(number));
+        }
+        let before = self.types.len();
+        self.additions.add_clause(clause, before)?;
+        Ok(())
+    }
+
+    /// Whether the term is a constant with what it is given.
+    fn is_program_head(&self, head: TermId) -> bool
+        requires { Holds self.now head }
+        ensures yes { IsTrue result → IsProgramHead (read self.now head) }
+        ensures no { IsFalse result → IsProgramHead (read self.now head) → ⊥ }
+    {
+        match self.store.view(head) {
+            Node::Lam(_, _, _) => false,
+            Node::Spine(head, _) => match *head {
+                Head::Const(_) => true,
+                _ => false,
+            },
+        }
+    }
+
+    /// The clause of the program at this place of what was added, if one stands there.
+    pub fn clause_at(&self, place: usize) -> Option<&ClauseTerm>
+        ensures { option_copied result ≡ clause_at_place self.now.additions place }
+    {
+        self.additions.clause_at(place)
+    }
+
+    /// How many definitions, clauses of the program and theorems there are.
+    pub fn len(&self) -> usize
+        ensures declared { result ≡ count_added (declarations_of self.now) }
+        ensures kept { result ≡ length self.now.additions }
+    {
+        self.additions.len()
+    }
+
+    /// Keeps the first `len` of what was added, and counts a step for each that is dropped. Takes no memory.
+    pub fn cut_to<L>(&mut self, len: usize, steps: &mut Steps<L>)
+        requires { len ≤ length self.old.additions }
+        ensures declares { IsWorld self.old → declarations_of self.new ≡ with_first len (declarations_of self.old) }
+        ensures world { IsWorld self.old → IsWorld self.new }
+        ensures additions { self.new.additions ≡ take len self.old.additions }
+        ensures types { self.new.types ≡ self.old.types }
+        ensures store { self.new.store ≡ self.old.store }
+        ensures steps { steps.new ≡ steps.old + (length self.old.additions - len) }
+    {
+        let had = self.additions.len();
+        self.additions.truncate(len);
+        for place in len..had {
+            let _ = place;
+            steps.tick();
+        }
+    }
+
     /// The theorem of this place, counted from 0 in the order in which they were added.
     pub fn theorem_at(&self, place: usize) -> Option<&TheoremEntry>
         ensures { option_map (λ e. (e.name, read self.now e.formula)) (option_copied result) ≡ slice_get (theorems_in (declarations_of self.now)) place }
@@ -201,9 +279,9 @@ impl World {
     }
 
     /// How many theorems there are.
-    pub fn len(&self) -> usize
+    pub fn theorems(&self) -> usize
         ensures { result ≡ length (theorems_in (declarations_of self.now)) }
     {
-        self.additions.len()
+        self.additions.theorems()
     }
 }

@@ -103,13 +103,13 @@ first_sequent w world p proof some k here =
     let one = one_at_least (goals_of w p) some in
     subst (IsSequent (declarations_of w)) (sym (here one.0 one.1 one.2))
     (All-head (IsSequent (declarations_of w)) one.0 one.1
-    (subst (All (IsSequent (declarations_of w))) one.2 (open_are_sequents (declarations_of w) world.sentences world.definitions (history_of w p).tree proof.valid proof.rooted)))
+    (subst (All (IsSequent (declarations_of w))) one.2 (open_are_sequents (declarations_of w) world.sentences world.definitions (history_of w p).tree proof.valid proof.held.rooted)))
 
 pub same_goals : (w m : World) (p : Held) → Grows w m → IsProof w p → goals_of m p ≡ goals_of w p
 same_goals w m p grows proof = ap (λ (h : History). open_goals h.tree) (same_history w m grows p proof)
 
 pub follows_world : (w m : World) (p : Held) → Grows w m → declarations_of m ≡ declarations_of w → IsProof w p → Follows w p m p
-follows_world w m p grows declared proof = follows_same w m p p grows declared proof (still_proof w m grows p proof) refl
+follows_world w m p grows declared proof = follows_same w m p p grows declared proof (still_proof w m grows declared p proof) refl
 
 pub refused_at : (w : World) (p : Held) (k : Sequent) → ((s : Sequent) (rest : List Sequent) → goals_of w p ≡ s ∷ rest → k ≡ s) → (l : Label) (command : told.ProofCommand) (fault : ProofCommandFault)
     → RefusedBy (effect (declarations_of w) l command k) fault → IsRefused l command w p fault

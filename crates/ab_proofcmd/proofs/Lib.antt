@@ -13,4 +13,3 @@ pub mod Named
 pub mod Usable
 pub mod Carried
 mod Answered
-mod Terms

@@ -38,9 +38,12 @@ use Rattle.ab_declare.proofs.Knowing.{world_knows, world_constants}
 use Rattle.ab_proofcmd.specs.GoalScopes.{IsScopeOf}
 use Rattle.ab_proofcmd.specs.GoalExpressions.{IsReadAs}
 
--- a world's declarations have the constant of lists
+-- a world's declarations have the constants of lists
 pub world_lists : (w : World) → IsWorld w → IsTable w.types → HasLists (declarations_of w)
-world_lists w is table = ap (λ cs. type_in cs (codes "::")) (world_constants w is) ∙ ap (λ t. type_in (constants t) (codes "::")) table.begins.1
+world_lists w is table = (
+  ap (λ cs. type_in cs (codes "::")) (world_constants w is) ∙ ap (λ t. type_in (constants t) (codes "::")) table.begins.1,
+  ap (λ cs. type_in cs (codes "nil")) (world_constants w is) ∙ ap (λ t. type_in (constants t) (codes "nil")) table.begins.1,
+)
 
 same_entries : (w : World) (cs : List CellId) → entries_in w.types w.store cs ≡ map entry_of (map (variable_of w) cs)
 same_entries w [] = refl

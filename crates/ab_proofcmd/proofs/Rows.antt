@@ -40,13 +40,13 @@ use Rattle.ab_proofcmd.specs.CutRefusals.{CutFails}
 pub first_is_sequent : (w : World) → IsWorld w → (p : Held) → IsProof w p → (s : Sequent) (rest : List Sequent) → goals_of w p ≡ s ∷ rest → IsSequent (declarations_of w) s
 first_is_sequent w world p proof s rest e =
     All-head (IsSequent (declarations_of w)) s rest
-    (subst (All (IsSequent (declarations_of w))) e (open_are_sequents (declarations_of w) world.sentences world.definitions (history_of w p).tree proof.valid proof.rooted))
+    (subst (All (IsSequent (declarations_of w))) e (open_are_sequents (declarations_of w) world.sentences world.definitions (history_of w p).tree proof.valid proof.held.rooted))
 
 pub same_goals : (w m : World) (p : Held) → Grows w m → IsProof w p → goals_of m p ≡ goals_of w p
 same_goals w m p grows proof = ap (λ (h : History). open_goals h.tree) (same_history w m grows p proof)
 
 pub follows_world : (w m : World) (p : Held) → Grows w m → declarations_of m ≡ declarations_of w → IsProof w p → Follows w p m p
-follows_world w m p grows declared proof = follows_same w m p p grows declared proof (still_proof w m grows p proof) refl
+follows_world w m p grows declared proof = follows_same w m p p grows declared proof (still_proof w m grows declared p proof) refl
 
 pub on_err : {A E : Type 0} (P : Type 0) (r : Result A E) → P → OnErr r P
 on_err P (Ok a) h = tt

@@ -62,7 +62,7 @@ pub at_later : (w v : World) → Grows w v → (p : Held) → IsProof w p → (p
 at_later w v grown p proof place before behind k at = record { goals = goals_later w v grown p proof ∙ at.goals; counted = at.counted }
 
 pub follows_later : (w v : World) (p : Held) → Grows w v → declarations_of v ≡ declarations_of w → IsProof w p → Follows w p v p
-follows_later w v p grown declared proof = follows_same w v p p grown declared proof (still_proof w v grown p proof) refl
+follows_later w v p grown declared proof = follows_same w v p p grown declared proof (still_proof w v grown declared p proof) refl
 
 -- the conclusion of the goal of a place
 abbrev pub Concludes : World → Held → ℕ → Read → Type 0

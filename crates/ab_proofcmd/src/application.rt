@@ -5,7 +5,6 @@ ghost use Rattle.ab_grammar.specs.CommandTrees as told;
 ghost use Rattle.ab_grammar.specs.CommandTrees.{Instance as AnInstance};
 ghost use Rattle.ab_syntax.specs.Commands.{argument_of, instance_of};
 ghost use Rattle.ab_syntax.specs.SyntaxTrees.{tree_of};
-ghost use Rattle.ab_infer.specs.Judgements.{HasNoJudgement};
 ghost use Rattle.ab_logic.specs.WorldGrowth.{Grows};
 ghost use Rattle.ab_logic.specs.SequentReadings.{sequent_of, HoldsSequent};
 ghost use Rattle.ab_formulas.specs.Sequents.{IsSequent};
@@ -98,7 +97,6 @@ fn ask<L>(
     requires world { IsWorld world.old }
     requires goal { HoldsSequent world.old goal.now }
     requires sequent { IsSequent (declarations_of world.old) (sequent_of world.old goal.now) }
-    requires judgement { All (λ i. HasNoJudgement (tree_of i.term)) given.now }
     ensures asked { IfOk result (AsksApply (declarations_of world.old) (label_of label.now) name.now (map argument_of arguments.now) (map instance_of given.now) (sequent_of world.old goal.now) world.new) }
     ensures refused { (fault : AFault) → result ≡ Err fault →
         RefusedBy (effect (declarations_of world.old) (label_of label.now) (told.apply name.now (map argument_of arguments.now) (map instance_of given.now)) (sequent_of world.old goal.now)) fault }
@@ -203,7 +201,6 @@ pub fn apply<L>(
     requires world { IsWorld world.old }
     requires proof { IsProof world.old proof.old }
     requires open { goals_of world.old proof.old ≢ [] }
-    requires judgement { All (λ i. HasNoJudgement (tree_of i.term)) given.now }
     ensures follows { Follows world.old proof.old world.new proof.new }
     ensures applied { IfOk result (λ u. IsApplied (label_of label.now) (told.apply name.now (map argument_of arguments.now) (map instance_of given.now)) world.old proof.old world.new proof.new) }
     ensures refused { (fault : AFault) → result ≡ Err fault → IsRefused (label_of label.now) (told.apply name.now (map argument_of arguments.now) (map instance_of given.now)) world.old proof.old fault }

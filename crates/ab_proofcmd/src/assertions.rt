@@ -4,7 +4,6 @@ ghost use Rattle.std.specs.Option.{option_map};
 ghost use Rattle.ab_grammar.specs.CommandTrees as told;
 ghost use Rattle.ab_grammar.specs.Tree as tree;
 ghost use Rattle.ab_syntax.specs.SyntaxTrees.{tree_of};
-ghost use Rattle.ab_infer.specs.Judgements.{HasNoJudgement};
 ghost use Rattle.ab_logic.specs.SequentReadings.{sequent_of};
 ghost use Rattle.ab_formulas.specs.Sequents.{Sequent as AGoal};
 ghost use Rattle.ab_logic.specs.Worlds.{IsWorld, Holds, read, declarations_of};
@@ -117,7 +116,6 @@ pub fn assert<L>(
     requires world { IsWorld world.old }
     requires proof { IsProof world.old proof.old }
     requires open { goals_of world.old proof.old ≢ [] }
-    requires judgement { HasNoJudgement (tree_of formula.now) }
     ensures follows { Follows world.old proof.old world.new proof.new }
     ensures applied { IfOk result (λ u. IsApplied (label_of label.now) (told.assert (tree_of formula.now)) world.old proof.old world.new proof.new) }
     ensures refused { (fault : AFault) → result ≡ Err fault → IsRefused (label_of label.now) (told.assert (tree_of formula.now)) world.old proof.old fault }

@@ -3,7 +3,6 @@ ghost use Rattle.std.specs.Prelude.{◌≡◌, ◌≢◌, [], map, Some, Err, If
 ghost use Rattle.ab_grammar.specs.CommandTrees as told;
 ghost use Rattle.ab_syntax.specs.Commands.{instance_of};
 ghost use Rattle.ab_syntax.specs.SyntaxTrees.{tree_of};
-ghost use Rattle.ab_infer.specs.Judgements.{HasNoJudgement};
 ghost use Rattle.ab_logic.specs.WorldGrowth.{Grows};
 ghost use Rattle.ab_formulas.specs.NewNames as plain;
 ghost use Rattle.ab_logic.specs.SequentReadings.{sequent_of, HoldsSequent};
@@ -61,7 +60,6 @@ fn ask<L>(
     requires world { IsWorld world.old }
     requires goal { HoldsSequent world.old goal.now }
     requires sequent { IsSequent (declarations_of world.old) (sequent_of world.old goal.now) }
-    requires judgement { All (λ i. HasNoJudgement (tree_of i.term)) given.now }
     ensures asked { IfOk result (AsksBackchain (declarations_of world.old) name.now (map instance_of given.now) (sequent_of world.old goal.now) world.new) }
     ensures refused { (fault : AFault) → result ≡ Err fault → (l : plain.Label) →
         RefusedBy (effect (declarations_of world.old) l (told.backchain name.now (map instance_of given.now)) (sequent_of world.old goal.now)) fault }
@@ -113,7 +111,6 @@ pub fn backchain<L>(
     requires world { IsWorld world.old }
     requires proof { IsProof world.old proof.old }
     requires open { goals_of world.old proof.old ≢ [] }
-    requires judgement { All (λ i. HasNoJudgement (tree_of i.term)) given.now }
     ensures follows { Follows world.old proof.old world.new proof.new }
     ensures applied { IfOk result (λ u. (l : plain.Label) → IsApplied l (told.backchain name.now (map instance_of given.now)) world.old proof.old world.new proof.new) }
     ensures refused { (fault : AFault) → result ≡ Err fault → (l : plain.Label) → IsRefused l (told.backchain name.now (map instance_of given.now)) world.old proof.old fault }

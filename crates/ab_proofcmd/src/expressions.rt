@@ -3,7 +3,6 @@ ghost use Rattle.std.specs.Prelude.{◌≡◌, All};
 ghost use Rattle.ab_term.specs.Types.{prop};
 ghost use Rattle.ab_norm.specs.ab_types.specs.Ids.{HoldsType, type_of};
 ghost use Rattle.ab_syntax.specs.SyntaxTrees.{tree_of};
-ghost use Rattle.ab_infer.specs.Judgements.{HasNoJudgement};
 ghost use Rattle.ab_formulas.specs.Formulas.{HasOneTypeEach};
 ghost use Rattle.ab_logic.specs.WorldGrowth.{Grows};
 ghost use Rattle.ab_logic.specs.SequentReadings.{sequent_of, HoldsSequent};
@@ -40,7 +39,6 @@ pub(crate) fn read_beside<L>(
     requires held { HoldsSequent world.old goal.now }
     requires given { All (HoldsGiven world.old) given.now }
     requires one_type { HasOneTypeEach (goal_names (beside (sequent_of world.old goal.now) (values_in world.old given.now))) }
-    requires judgement { HasNoJudgement (tree_of parse.now) }
     requires expected { HoldsType world.old.types expected }
     ensures reads { IsReadAs (declarations_of world.old) (beside (sequent_of world.old goal.now) (values_in world.old given.now))
         (tree_of parse.now) (type_of world.old.types expected) world.new result }
@@ -72,7 +70,6 @@ pub(crate) fn read_term<L>(
     requires world { IsWorld world.old }
     requires held { HoldsSequent world.old goal.now }
     requires sequent { IsSequent (declarations_of world.old) (sequent_of world.old goal.now) }
-    requires judgement { HasNoJudgement (tree_of parse.now) }
     requires expected { HoldsType world.old.types expected }
     ensures reads { IsReadAs (declarations_of world.old) (sequent_of world.old goal.now) (tree_of parse.now) (type_of world.old.types expected) world.new result }
     ensures grows { Grows world.old world.new }
@@ -92,7 +89,6 @@ pub(crate) fn read_formula<L>(
     requires world { IsWorld world.old }
     requires held { HoldsSequent world.old goal.now }
     requires sequent { IsSequent (declarations_of world.old) (sequent_of world.old goal.now) }
-    requires judgement { HasNoJudgement (tree_of parse.now) }
     ensures reads { IsReadAs (declarations_of world.old) (sequent_of world.old goal.now) (tree_of parse.now) prop world.new result }
     ensures grows { Grows world.old world.new }
     ensures declared { declarations_of world.new ≡ declarations_of world.old }

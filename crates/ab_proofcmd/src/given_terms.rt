@@ -4,7 +4,6 @@ ghost use Rattle.std.specs.List.{list_any};
 ghost use Rattle.ab_grammar.specs.CommandTrees.{Instance as AnInstance};
 ghost use Rattle.ab_syntax.specs.SyntaxTrees.{tree_of};
 ghost use Rattle.ab_syntax.specs.Commands.{instance_of};
-ghost use Rattle.ab_infer.specs.Judgements.{HasNoJudgement};
 ghost use Rattle.ab_formulas.specs.Formulas.{HasOneTypeEach};
 ghost use Rattle.ab_logic.specs.WorldGrowth.{Grows};
 ghost use Rattle.ab_logic.specs.SequentReadings.{sequent_of, HoldsSequent};
@@ -90,7 +89,6 @@ fn read_next<L>(
     requires world { IsWorld world.old }
     requires held { HoldsSequent world.old goal.now }
     requires formula { Holds world.old formula }
-    requires judgement { HasNoJudgement (tree_of instance.now.term) }
     requires given { All (HoldsGiven world.old) given.now }
     requires one_type { HasOneTypeEach (goal_names (beside (sequent_of world.old goal.now) (values_in world.old given.now))) }
     ensures next { IfOk result (λ g. IsNext (declarations_of world.old) (sequent_of world.old goal.now) (values_in world.old given.now)
@@ -132,7 +130,6 @@ fn read_each<L>(
     requires world { IsWorld world.old }
     requires held { HoldsSequent world.old goal.now }
     requires formula { Holds world.old formula }
-    requires judgement { All (λ (i : Instance). HasNoJudgement (tree_of i.term)) instances.now }
     requires one_type { HasOneTypeEach (goal_names (sequent_of world.old goal.now)) }
     ensures read { IfOk result (λ gs. AreRead (declarations_of world.old) (sequent_of world.old goal.now) [] (pieces count (read world.old formula))
         (map instance_of instances.now) (map (given_of world.new) gs.items)) }
@@ -169,7 +166,6 @@ pub fn read_given<L>(
     requires held { HoldsSequent world.old goal.now }
     requires sequent { IsSequent (declarations_of world.old) (sequent_of world.old goal.now) }
     requires formula { Holds world.old formula }
-    requires judgement { All (λ (i : Instance). HasNoJudgement (tree_of i.term)) instances.now }
     ensures given { IfOk result (λ gs. AreGiven (declarations_of world.old) (sequent_of world.old goal.now) (pieces count (read world.old formula))
         (map instance_of instances.now) too_many (map (given_of world.new) gs.items)) }
     ensures held { IfOk result (λ gs. All (HoldsGiven world.new) gs.items) }

@@ -9,7 +9,6 @@ mod backchaining;
 mod expressions;
 mod given_terms;
 mod goal_scopes;
-mod judgements;
 mod many_goals;
 mod new_conclusions;
 mod proof_commands;

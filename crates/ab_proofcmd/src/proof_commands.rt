@@ -14,12 +14,10 @@ ghost use Rattle.ab_proofcmd.specs.SupportedCommands.{IsBuilt};
 use crate::application::apply;
 use crate::assertions::assert;
 use crate::backchaining::backchain;
-use crate::judgements::terms_hold_judgement;
 use crate::witnesses::exists;
 use ab_conclusion::{coinduction, induction, intros, left, right, split, split_all, unfold};
 use ab_equations::Label;
 use ab_hypothesis::{case, clear, permute, rename};
-use ab_infer::holds_judgement;
 use ab_logic::World;
 use ab_norm::name::Name;
 use ab_norm::types::Steps;
@@ -41,15 +39,14 @@ pub fn is_built(command: &ProofCommand) -> bool
         | ProofCommand::Left
         | ProofCommand::Right
         | ProofCommand::Unfold
+        | ProofCommand::Exists(_)
+        | ProofCommand::Assert(_)
+        | ProofCommand::Apply(_, _, _)
+        | ProofCommand::Backchain(_, _)
         | ProofCommand::Clear(_)
         | ProofCommand::Rename(_, _)
         | ProofCommand::Permute(_, _) => true,
         ProofCommand::Induction(places) => places.as_slice().len() == 1,
-        ProofCommand::Exists(term) => !holds_judgement(term),
-        ProofCommand::Assert(formula) => !holds_judgement(formula),
-        ProofCommand::Apply(_, _, given) | ProofCommand::Backchain(_, given) => {
-            !terms_hold_judgement(given.as_slice())
-        }
         ProofCommand::Cut(_, _)
         | ProofCommand::Inst(_, _)
         | ProofCommand::Monotone(_, _)

@@ -2,7 +2,6 @@
 ghost use Rattle.std.specs.Prelude.{◌≡◌, ◌≢◌, [], Err, IfOk, OnErr};
 ghost use Rattle.ab_grammar.specs.CommandTrees as told;
 ghost use Rattle.ab_syntax.specs.SyntaxTrees.{tree_of};
-ghost use Rattle.ab_infer.specs.Judgements.{HasNoJudgement};
 ghost use Rattle.ab_formulas.specs.NewNames as plain;
 ghost use Rattle.ab_logic.specs.Worlds.{IsWorld};
 ghost use Rattle.ab_steps.specs.ab_kernel.specs.Layout.{history_of, IsProof};
@@ -31,7 +30,6 @@ pub fn exists<L>(
     requires world { IsWorld world.old }
     requires proof { IsProof world.old proof.old }
     requires open { goals_of world.old proof.old ≢ [] }
-    requires judgement { HasNoJudgement (tree_of term.now) }
     ensures follows { Follows world.old proof.old world.new proof.new }
     ensures applied { IfOk result (λ u. (l : plain.Label) → IsApplied l (told.exists (tree_of term.now)) world.old proof.old world.new proof.new) }
     ensures refused { (fault : ProofCommandFault) → result ≡ Err fault → (l : plain.Label) → IsRefused l (told.exists (tree_of term.now)) world.old proof.old fault }

@@ -20,7 +20,7 @@ use Rattle.ab_search.specs.declared.bare.Bare.{Bare}
 pub first_is_sequent : (w : World) (p : Held) → IsWorld w → IsProof w p → (s : Sequent) (rest : List Sequent) → goals_of w p ≡ s ∷ rest → IsSequent (declarations_of w) s
 first_is_sequent w p world proof s rest e =
     All-head (IsSequent (declarations_of w)) s rest
-    (subst (All (IsSequent (declarations_of w))) e (open_are_sequents (declarations_of w) world.sentences world.definitions (history_of w p).tree proof.valid proof.rooted))
+    (subst (All (IsSequent (declarations_of w))) e (open_are_sequents (declarations_of w) world.sentences world.definitions (history_of w p).tree proof.valid proof.held.rooted))
 
 module _ (w v : World) (grows : Grows w v) where
   same_formulas : (hs : List KeptHypothesis) (given : List Bare) → All (λ (h : KeptHypothesis). Holds w h.formula) hs

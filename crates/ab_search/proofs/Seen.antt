@@ -42,7 +42,7 @@ module _ (w v : World) (p : Held) (grows : Grows w v) (declared : declarations_o
   goals_then = ap (λ (h : History). open_goals h.tree) (same_history w v grows p proof)
 
   pub follows_then : Follows w p v p
-  follows_then = follows_same w v p p grows declared proof (still_proof w v grows p proof) refl
+  follows_then = follows_same w v p p grows declared proof (still_proof w v grows declared p proof) refl
 
 -- THE GOAL THAT IS SEEN is the first one
 module _ (w : World) (p : Held) (world : IsWorld w) (proof : IsProof w p) (some : goals_of w p ≢ []) (x : Kept)

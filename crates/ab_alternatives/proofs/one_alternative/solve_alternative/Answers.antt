@@ -15,8 +15,12 @@ use Rattle.ab_theory.specs.Splits.{Case, Arises, NeverArises, IsOpen}
 use Rattle.ab_equations.specs.Meanwhile.{case_read}
 use Rattle.ab_alternatives.specs.LeftAlternatives.{case_put}
 use Rattle.ab_alternatives.proofs.one_alternative.solve_alternative.Given.{Over}
-use Rattle.ab_alternatives.proofs.Solved.{u, declared, goal_formulas, same_pair, is_free, case_so}
+use Rattle.ab_alternatives.proofs.Solved.{u, meanwhile, declared, goal_formulas, same_pair, is_free, case_so}
 use Rattle.ab_alternatives.proofs.one_alternative.solve_alternative.Goals as goal
+
+pub solve_case-requires-clause-world : goal.solve_case-requires-clause-world
+solve_case-requires-clause-world g c =
+    meanwhile c.args.world.now c.bind_raised.new.store c.requires.world c.bind_raised.ensures.grows c.bind_raised.ensures.nodes c.bind_raised.ensures.cells
 
 -- the case that stands there is that with what is put in
 same : (g : Over) (c : goal.After-drop-flexible-2 g) → case_read (u c.args.world.now c.bind_raised.new.store c.requires.world c.bind_raised.ensures.grows c.bind_raised.ensures.nodes c.bind_raised.ensures.cells) c.args.made.now.equations.items (c.args.made.now.raised.cells.items ++ c.args.made.now.own.items) c.args.made.now.own.items c.args.goal

@@ -21,7 +21,7 @@ returns-in_err-place-clause-unchanged g c =
     on_err _ c.from_residual.result (same_history c.args.world.now c.find_choice.new.world c.find_choice.ensures.grows c.args.proof.now c.requires.proof)
 
 pub unfold_by-requires-clause-proof : goal.unfold_by-requires-clause-proof
-unfold_by-requires-clause-proof g c = still_proof c.args.world.now c.find_choice.new.world c.find_choice.ensures.grows c.args.proof.now c.requires.proof
+unfold_by-requires-clause-proof g c = still_proof c.args.world.now c.find_choice.new.world c.find_choice.ensures.grows c.find_choice.ensures.declared c.args.proof.now c.requires.proof
 
 pub unfold_by-requires-clause-open : goal.unfold_by-requires-clause-open
 unfold_by-requires-clause-open g c =

@@ -10,7 +10,7 @@ pub change_hypothesis-came-requires-clause-world : goal.change_hypothesis-came-r
 change_hypothesis-came-requires-clause-world g c = c.permuted.ensures.adds.grows.world
 
 pub change_hypothesis-came-requires-clause-proof : goal.change_hypothesis-came-requires-clause-proof
-change_hypothesis-came-requires-clause-proof g c = still_proof c.args.world.now c.permuted.new.world c.permuted.ensures.adds.grows c.args.proof.now c.requires.proof
+change_hypothesis-came-requires-clause-proof g c = still_proof c.args.world.now c.permuted.new.world c.permuted.ensures.adds.grows c.permuted.ensures.adds.declared c.args.proof.now c.requires.proof
 
 pub change_hypothesis-came-requires-clause-open : goal.change_hypothesis-came-requires-clause-open
 change_hypothesis-came-requires-clause-open g c none = c.requires.open (sym (same_goals c.args.world.now c.permuted.new.world c.args.proof.now c.requires.proof c.permuted.ensures.adds) ∙ none)

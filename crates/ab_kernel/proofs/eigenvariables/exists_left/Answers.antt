@@ -9,12 +9,15 @@ use Rattle.ab_formulas.specs.Sequents.{Sequent, assuming, without, over}
 use Rattle.ab_formulas.specs.NewNames.{Names, IsNamedFor}
 use Rattle.ab_logic.specs.SequentReadings.{sequent_of, HoldsSequent}
 use Rattle.ab_logic.specs.declared.sequent.Sequent.{Sequent as Kept}
-use Rattle.ab_logic.proofs.Growing.{same_sequent, still_held}
+use Rattle.ab_logic.proofs.Growing.{grows_not, same_sequent, still_held}
 use Rattle.ab_alternatives.specs.ab_equations.specs.Labels.{label_of}
 use Rattle.ab_norm.specs.Nominals.{nominal_of}
 use Rattle.ab_norm.specs.ab_types.specs.Ids.{type_of}
 use Rattle.ab_theory.specs.Rules.{IsSupport, raised, applied, hint_of}
 use Rattle.ab_kernel.proofs.eigenvariables.exists_left.Goals as goal
+
+pub returns-in_err-names-clause-grows : goal.returns-in_err-names-clause-grows
+returns-in_err-names-clause-grows g c = grows_not c.args.world.now c.requires.world
 
 pub returns-clause-answers : goal.returns-clause-answers
 returns-clause-answers g c =

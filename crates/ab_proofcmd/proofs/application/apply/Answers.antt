@@ -29,7 +29,7 @@ returns-in_err-asked-clause-refused g c fault same =
     (refused_at w c.args.proof.now (sequent_of w c.first_goal-goal.result.now) c.first_goal-goal.ensures.reads (label_of c.args.label.now) command cause (c.in_err-asked.ensures.refused cause refl))
 
 pub carry_out-requires-clause-proof : goal.carry_out-requires-clause-proof
-carry_out-requires-clause-proof g c = still_proof c.args.world.now c.ask.new.world c.ask.ensures.grows c.args.proof.now c.requires.proof
+carry_out-requires-clause-proof g c = still_proof c.args.world.now c.ask.new.world c.ask.ensures.grows c.ask.ensures.declared c.args.proof.now c.requires.proof
 
 pub carry_out-requires-clause-open : goal.carry_out-requires-clause-open
 carry_out-requires-clause-open g c none =

@@ -28,7 +28,7 @@ read_formula-requires-clause-sequent g c =
     subst (IsSequent (declarations_of w)) (sym (c.first_goal-goal.ensures.reads one.0 one.1 one.2)) (first_is_sequent w c.requires.world p c.requires.proof one.0 one.1 one.2)
 
 pub cut-requires-clause-proof : goal.cut-requires-clause-proof
-cut-requires-clause-proof g c = still_proof c.args.world.now c.read_formula.new.world c.read_formula.ensures.grows c.args.proof.now c.requires.proof
+cut-requires-clause-proof g c = still_proof c.args.world.now c.read_formula.new.world c.read_formula.ensures.grows c.read_formula.ensures.declared c.args.proof.now c.requires.proof
 
 pub cut-requires-clause-open : goal.cut-requires-clause-open
 cut-requires-clause-open g c none =

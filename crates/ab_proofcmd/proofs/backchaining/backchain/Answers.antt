@@ -27,7 +27,7 @@ returns-in_err-asked-clause-refused g c fault same l =
     (refused_at w c.args.proof.now (sequent_of w c.first_goal-goal.result.now) c.first_goal-goal.ensures.reads l command cause (c.in_err-asked.ensures.refused cause refl l))
 
 pub show-requires-clause-proof : goal.show-requires-clause-proof
-show-requires-clause-proof g c = still_proof c.args.world.now c.ask.new.world c.ask.ensures.grows c.args.proof.now c.requires.proof
+show-requires-clause-proof g c = still_proof c.args.world.now c.ask.new.world c.ask.ensures.grows c.ask.ensures.declared c.args.proof.now c.requires.proof
 
 pub show-requires-clause-formula : goal.show-requires-clause-formula
 show-requires-clause-formula g c = c.in_ok-asked.ensures.asked.0.formula

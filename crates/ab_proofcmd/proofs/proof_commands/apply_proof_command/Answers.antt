@@ -8,13 +8,11 @@ use Rattle.ab_syntax.specs.declared.command.ProofCommand.{ProofCommand}
 use Rattle.ab_syntax.specs.Commands.{argument_of, instance_of, proof_command_of}
 use Rattle.ab_syntax.specs.Items.{list_of}
 use Rattle.ab_syntax.specs.SyntaxTrees.{tree_of}
-use Rattle.ab_infer.specs.Judgements.{HasNoJudgement}
 use Rattle.ab_formulas.specs.NewNames.{Label}
 use Rattle.ab_steps.specs.ProofEffects.{IsApplied, IsRefused}
 use Rattle.ab_effects.specs.ProofCommands.{given_label}
 use Rattle.ab_proofcmd.specs.SupportedCommands.{IsBuilt}
 use Rattle.ab_proofcmd.proofs.Answered.{at_label}
-use Rattle.ab_proofcmd.proofs.Terms.{none_given}
 use Rattle.ab_proofcmd.proofs.proof_commands.apply_proof_command.Goals as goal
 
 pub returns-in-Intros-clause-applied : goal.returns-in-Intros-clause-applied
@@ -177,11 +175,6 @@ returns-in-Permute-clause-refused g c fault e =
     (subst (λ (x : Option (List ℕ)). IsRefused l (told.permute c.as_slice-in-Permute.result.now x) c.args.world.now c.args.proof.now fault) c.as_ref.ensures.value
     (c.permute.ensures.refused fault e l)))
 
-pub apply-requires-clause-judgement : goal.apply-requires-clause-judgement
-apply-requires-clause-judgement g c =
-    subst (All (λ (i : Instance). HasNoJudgement (tree_of i.term))) (sym c.as_slice-terms.ensures)
-    (none_given (list_of c.in-Apply.given) (subst (λ (k : ProofCommand). IsBuilt (proof_command_of k)) c.in-Apply.is c.requires.built))
-
 pub returns-in-Apply-clause-applied : goal.returns-in-Apply-clause-applied
 returns-in-Apply-clause-applied g c =
     let name = c.in-Apply.name in
@@ -203,11 +196,6 @@ returns-in-Apply-clause-refused g c fault e =
     (subst (λ (is : List Instance). refused l c.as_slice-list.result.now is) c.as_slice-terms.ensures
     (subst (λ (m : Label). refused m c.as_slice-list.result.now c.as_slice-terms.result.now) c.in_ok-wanted.ensures
     (c.apply.ensures.refused fault e))))
-
-pub backchain-requires-clause-judgement : goal.backchain-requires-clause-judgement
-backchain-requires-clause-judgement g c =
-    subst (All (λ (i : Instance). HasNoJudgement (tree_of i.term))) (sym c.as_slice-in-Backchain.ensures)
-    (none_given (list_of c.in-Backchain.given) (subst (λ (k : ProofCommand). IsBuilt (proof_command_of k)) c.in-Backchain.is c.requires.built))
 
 pub returns-in-Backchain-clause-applied : goal.returns-in-Backchain-clause-applied
 returns-in-Backchain-clause-applied g c =

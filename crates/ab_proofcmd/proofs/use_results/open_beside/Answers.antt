@@ -16,7 +16,7 @@ pub returns-in_err-said-clause-follows : goal.returns-in_err-said-clause-follows
 returns-in_err-said-clause-follows g c = follows_later c.args.world.now c.given_that.new.world c.args.proof.now c.given_that.ensures.grows c.given_that.ensures.declared c.requires.proof
 
 pub turn-requires-clause-proof : goal.turn-requires-clause-proof
-turn-requires-clause-proof g c = still_proof c.args.world.now c.given_that.new.world c.given_that.ensures.grows c.args.proof.now c.requires.proof
+turn-requires-clause-proof g c = still_proof c.args.world.now c.given_that.new.world c.given_that.ensures.grows c.given_that.ensures.declared c.args.proof.now c.requires.proof
 
 pub returns-in_err-turn-clause-follows : goal.returns-in_err-turn-clause-follows
 returns-in_err-turn-clause-follows g c =

@@ -1,4 +1,6 @@
+use Rattle.std.specs.Prelude.{◌≡◌, Err}
 use Rattle.std.proofs.Common.{sym, ◌∙◌, ap, subst}
+use Rattle.ab_grammar.specs.CommandTrees as told
 use Rattle.ab_syntax.specs.SyntaxTrees.{tree_of}
 use Rattle.ab_norm.specs.ab_types.specs.Ids.{type_of}
 use Rattle.ab_formulas.specs.Forms.{as_exists}
@@ -6,9 +8,12 @@ use Rattle.ab_formulas.specs.Sequents.{Sequent, IsSequent, Fits}
 use Rattle.ab_logic.specs.Worlds.{read, declarations_of}
 use Rattle.ab_steps.specs.ab_kernel.proofs.Later.{same_history, still_proof}
 use Rattle.ab_meaning.specs.Terms.{Means}
+use Rattle.ab_effects.specs.ProofCommands.{effect}
+use Rattle.ab_steps.specs.ProofEffects.{RefusedBy}
 use Rattle.ab_steps.specs.Progress.{goals_of}
 use Rattle.ab_steps.proofs.Following.{some_goal, one_at_least, follows_on}
-use Rattle.ab_proofcmd.proofs.Rows.{first_is_sequent, same_goals, follows_world, on_err, exists_sure, exists_applied}
+use Rattle.ab_proofcmd.specs.GoalExpressions.{IsReadAs}
+use Rattle.ab_proofcmd.proofs.Rows.{first_is_sequent, same_goals, follows_world, on_err, exists_sure, exists_applied, exists_refused}
 use Rattle.ab_proofcmd.proofs.witnesses.exists.Goals as goal
 
 pub read_term-requires-clause-sequent : goal.read_term-requires-clause-sequent
@@ -19,7 +24,7 @@ read_term-requires-clause-sequent g c =
     subst (IsSequent (declarations_of w)) (sym (c.first_goal-goal.ensures.reads one.0 one.1 one.2)) (first_is_sequent w c.requires.world p c.requires.proof one.0 one.1 one.2)
 
 pub surely-requires-clause-proof : goal.surely-requires-clause-proof
-surely-requires-clause-proof g c = still_proof c.args.world.now c.read_term.new.world c.read_term.ensures.grows c.args.proof.now c.requires.proof
+surely-requires-clause-proof g c = still_proof c.args.world.now c.read_term.new.world c.read_term.ensures.grows c.read_term.ensures.declared c.args.proof.now c.requires.proof
 
 pub surely-requires-clause-place : goal.surely-requires-clause-place
 surely-requires-clause-place g c =
@@ -79,3 +84,16 @@ returns-in-Err-clause-follows g c =
 
 pub returns-in-Err-clause-unchanged : goal.returns-in-Err-clause-unchanged
 returns-in-Err-clause-unchanged g c = same_history c.args.world.now c.read_term.new.world c.read_term.ensures.grows c.args.proof.now c.requires.proof
+
+pub returns-in-Err-clause-refused : goal.returns-in-Err-clause-refused
+returns-in-Err-clause-refused g c fault same l s rest first =
+    let w = c.args.world.now in
+    let m = c.read_term.new.world in
+    let D = declarations_of w in
+    let e = tree_of c.args.term.now in
+    let A = type_of w.types c.in-Some.ty in
+    let here = c.first_goal-goal.ensures.reads s rest first in
+    let is : c.fault_for.result ≡ fault = cc in
+    subst (RefusedBy (effect D l (told.exists e) s)) (sym c.fault_for.ensures ∙ is)
+    (exists_refused D m l s e A (read w c.in-Some.field-0-1) c.in-Err.fault (ap (λ (k : Sequent). as_exists k.conclusion) (sym here) ∙ sym c.in-Some.ensures.reads)
+    (subst (λ k. IsReadAs D k e A m (Err c.in-Err.fault)) here c.in-Err.ensures.reads))

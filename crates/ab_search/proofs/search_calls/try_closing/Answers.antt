@@ -31,7 +31,7 @@ close-requires-clause-proof g c =
     let w = c.args.world.now in
     let v = c.with_bare_all.new.world in
     let u = c.with_bare.new.world in
-    still_proof w u (grows_on w v u c.with_bare_all.ensures.grows c.with_bare.ensures.grows) c.args.proof.now c.requires.proof
+    still_proof w u (grows_on w v u c.with_bare_all.ensures.grows c.with_bare.ensures.grows) (c.with_bare.ensures.declared ∙ c.with_bare_all.ensures.declared) c.args.proof.now c.requires.proof
 
 pub close-requires-clause-open : goal.close-requires-clause-open
 close-requires-clause-open g c =

@@ -4,7 +4,7 @@ use Rattle.ab_alternatives.specs.declared.choice_matches.Match.{Match}
 use Rattle.ab_alternatives.specs.declared.choice_matches.Match.TheVariants.{Closed, Open, Apart, Stuck as Outside}
 use Rattle.ab_steps.specs.ab_kernel.proofs.Later.{still_proof}
 use Rattle.ab_steps.proofs.Following.{follows_on}
-use Rattle.ab_search.proofs.Seen.{goals_then, follows_then, seen_sequent, seen_atom, not_closed, closed_there, unfolded_before}
+use Rattle.ab_search.proofs.Seen.{goals_then, follows_then, seen_sequent, seen_atom, no_choice, not_closed, closed_there, unfolded_before}
 use Rattle.ab_search.proofs.unfolding_steps.unfold_by.Goals as goal
 
 pub match_at-requires-clause-sequent : goal.match_at-requires-clause-sequent
@@ -24,8 +24,13 @@ pub returns-in-None-clause-follows : goal.returns-in-None-clause-follows
 returns-in-None-clause-follows g c =
     follows_then c.args.world.now c.match_at.new.world c.args.proof.now c.match_at.ensures.grows c.match_at.ensures.declared c.requires.proof
 
+pub returns-in-None-clause-none : goal.returns-in-None-clause-none
+returns-in-None-clause-none g c e =
+    no_choice c.args.world.now c.args.proof.now c.requires.world c.requires.proof c.requires.open c.first_goal-goal.result.now c.first_goal-goal.ensures.reads c.first_goal-goal.ensures.held
+    c.args.atom.now c.requires.atom c.args.place (c.in_ok-match_at.ensures.none (ap Ok c.in-None.is))
+
 pub take_choice-requires-clause-proof : goal.take_choice-requires-clause-proof
-take_choice-requires-clause-proof g c = still_proof c.args.world.now c.match_at.new.world c.match_at.ensures.grows c.args.proof.now c.requires.proof
+take_choice-requires-clause-proof g c = still_proof c.args.world.now c.match_at.new.world c.match_at.ensures.grows c.match_at.ensures.declared c.args.proof.now c.requires.proof
 
 pub take_choice-requires-clause-open : goal.take_choice-requires-clause-open
 take_choice-requires-clause-open g c =

@@ -39,5 +39,5 @@ returns-then-place-len-clause-held c w proof =
     let items = sequents_in c.self.inside.nodes.items in
     let found = leads c.args.place (c.len-then-place-len.result - 1 - c.args.place) c.index-node.result.now (reads_now w _ _ _ (c.self.invariant.stands w)) (omega arith) c.index-node.ensures in
     let inside : c.index-node.result.now < length items = rw (sym (length-map items (sequent_of w))) (slice_get_within _ _ found.0 found.1) in
-    held_at w items c.index-node.result.now c.index.result.now.sequent (subst (λ (q : Held). All (HoldsSequent w) (sequents_in q.nodes)) (sym c.self.view_is) proof.sequents)
+    held_at w items c.index-node.result.now c.index.result.now.sequent (subst (λ (q : Held). All (HoldsSequent w) (sequents_in q.nodes)) (sym c.self.view_is) proof.held.sequents)
     inside (sequent_read c.self.inside.nodes.items c.index-node.result.now c.index.result.now c.index.ensures)

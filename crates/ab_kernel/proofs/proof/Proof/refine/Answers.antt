@@ -98,7 +98,7 @@ pub returns-in-Err-clause-proof : goal.returns-in-Err-clause-proof
 returns-in-Err-clause-proof g c =
     let w = c.args.world.now in
     let v = c.premises.new.world in
-    still_proof w v c.in-Err.ensures.grows c.args.self.now c.requires.proof
+    still_proof w v c.in-Err.ensures.grows c.in-Err.ensures.declared c.args.self.now c.requires.proof
 
 pub returns-in-Err-prepare-clause-proof : goal.returns-in-Err-prepare-clause-proof
 returns-in-Err-prepare-clause-proof g c =
@@ -108,7 +108,7 @@ returns-in-Err-prepare-clause-proof g c =
     ap (λ xs. record { nodes = xs; journal = reverse c.prepare.new.journal.items }) c.in-Err-prepare.ensures.err
     ∙ ap (λ js. record { nodes = c.self.inside.nodes.items; journal = reverse js }) c.prepare.ensures.journal
     ∙ c.self.view_is in
-    subst (IsProof v) (sym same) (still_proof w v c.premises.ensures.grows c.args.self.now c.requires.proof)
+    subst (IsProof v) (sym same) (still_proof w v c.premises.ensures.grows c.premises.ensures.declared c.args.self.now c.requires.proof)
 
 pub replace_goal-requires-clause-place : goal.replace_goal-requires-clause-place
 replace_goal-requires-clause-place g c =
@@ -217,8 +217,8 @@ returns-clause-step g c =
     let h = here w c.self.inside.nodes.items c.self.inside.open.items (reverse c.self.inside.journal.items) c.args.self.now c.args.place (c.len.result - 1 - c.args.place) c.index-node.result.now c.index.result.now (c.self.invariant.stands w) c.self.view_is c.requires.proof (omega arith) c.index-node.ensures c.index.ensures in
     let t = now g c v (history_of w c.args.self.now) (sequent_of w c.index.result.now.sequent) (history_now w v c.in-Ok.ensures.grows _ c.args.self.now c.self.view_is c.requires.proof) h.is_goal in
     let rule = by_rule w v c.index.result.now.sequent c.args.step c.in-Ok.made h.held c.in-Ok.ensures.answers in
-    as_before w v c.in-Ok.ensures.grows c.args.self.now c.args.self.now c.requires.proof c.args.step c.requires.step (declarations_of w) c.args.place c.len-count.result (history_of w c.args.self.now) _
-    (t.by_step (declarations_of w) (rule_now w v c.in-Ok.ensures.grows c.args.self.now c.args.self.now c.requires.proof c.args.step c.requires.step (declarations_of w) _ _ rule))
+    as_before w v c.in-Ok.ensures.grows c.in-Ok.ensures.declared c.args.self.now c.args.self.now c.requires.proof c.args.step c.requires.step (declarations_of w) c.args.place c.len-count.result (history_of w c.args.self.now) _
+    (t.by_step (declarations_of w) (rule_now w v c.in-Ok.ensures.grows c.in-Ok.ensures.declared c.args.self.now c.args.self.now c.requires.proof c.args.step c.requires.step (declarations_of w) _ _ rule))
 
 pub returns-clause-refuses : goal.returns-clause-refuses
 returns-clause-refuses g c =
@@ -250,7 +250,7 @@ returns-clause-proof g c =
     let r : StepAt = record { step = c.args.step; place = c.args.place; node = c.index-node.result.now; premises = c.len-count.result } in
     let taken_steps : steps_in c.fill_at.new.nodes.items (reverse c.push_reserved.new.self.items) ≡ r ∷ steps_in c.args.self.now.nodes c.args.self.now.journal =
     steps g c ∙ ap (λ (p : Held). r ∷ steps_in p.nodes p.journal) c.self.view_is in
-    proof_after w v c.in-Ok.ensures.grows c.args.self.now q c.requires.proof c.args.step c.requires.step c.in-Ok.made.items r c.args.place (sequent_of w c.index.result.now.sequent)
+    proof_after w v c.in-Ok.ensures.grows c.in-Ok.ensures.declared c.args.self.now q c.requires.proof c.args.step c.requires.step c.in-Ok.made.items r c.args.place (sequent_of w c.index.result.now.sequent)
     t.made sequents taken_steps refl c.in-Ok.ensures.answers.1 h.is_goal rule
 
 pub returns-clause-layout : goal.returns-clause-layout

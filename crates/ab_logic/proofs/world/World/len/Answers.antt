@@ -1,8 +1,6 @@
-use Rattle.std.specs.Prelude.{length}
-use Rattle.std.proofs.Common.{◌∙◌, sym, ap}
-use Rattle.std.proofs.lemmas.List.{length-map}
-use Rattle.ab_logic.proofs.Declaring.{theorems_are}
+use Rattle.std.proofs.Common.{◌∙◌, sym}
+use Rattle.ab_logic.proofs.Counting.{as_many}
 use Rattle.ab_logic.proofs.world.World.len.Goals as goal
 
-pub returns : goal.returns
-returns c = c.len.ensures ∙ sym (length-map _ _) ∙ ap length (sym (theorems_are c.args.self.now 0 c.args.self.now.additions))
+pub returns-clause-declared : goal.returns-clause-declared
+returns-clause-declared c = c.len.ensures ∙ sym (as_many c.args.self.now 0 c.args.self.now.additions)

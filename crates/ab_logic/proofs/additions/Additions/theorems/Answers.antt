@@ -1,7 +1,7 @@
 use Rattle.std.proofs.Common.{ap, ◌∙◌, length}
 use Rattle.ab_logic.specs.Additions.{entries_of}
 use Rattle.ab_logic.proofs.Lookups.{counted}
-use Rattle.ab_logic.proofs.additions.Additions.len.Goals as goal
+use Rattle.ab_logic.proofs.additions.Additions.theorems.Goals as goal
 
 pub returns : goal.returns
 returns c =
