@@ -51,7 +51,7 @@ module _ (w : World) (p : Held) (world : IsWorld w) (proof : IsProof w p) where
   gs = goals_of w p
 
   is_sequent : (i : ℕ) (g : Kept) → slice_get gs i ≡ Some (sequent_of w g) → IsSequent (declarations_of w) (sequent_of w g)
-  is_sequent i g at = all_at (IsSequent (declarations_of w)) gs i (sequent_of w g) (open_are_sequents (declarations_of w) world.sentences world.definitions (history_of w p).tree proof.valid proof.rooted) at
+  is_sequent i g at = all_at (IsSequent (declarations_of w)) gs i (sequent_of w g) (open_are_sequents (declarations_of w) world.sentences world.definitions (history_of w p).tree proof.valid proof.held.rooted) at
 
   -- the current goal
   pub first_shown : (g : Kept) → slice_get gs 0 ≡ Some (sequent_of w g) → (all : Bool)

@@ -1,2 +1,1 @@
 pub mod Sayings
-mod Trees

@@ -1,4 +1,3 @@
 -- What the bytes of a command say, where a proof is open or none is.
-pub mod Judgements
 pub mod Supported
 pub mod CommandReadings

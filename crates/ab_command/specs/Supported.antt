@@ -1,7 +1,6 @@
 -- The commands that are built, of all that the grammar has.
-use Rattle.std.specs.Prelude.{◌≡◌, ℕ, All, length}
+use Rattle.std.specs.Prelude.{◌≡◌, ℕ, length}
 use Rattle.ab_grammar.specs.CommandTrees.{Command, kinds, constants, define, theorem, specification, query, show, quit, subgoals, back, reset, undo, abort, in_proof, ProofCommand, intros, induction, coinduction, split, split_all, left, right, exists, unfold_goal, case, apply, backchain, assert, clear, rename, permute, search, skip, cut, inst, monotone}
-use Rattle.ab_command.specs.Judgements.{HasNoJudgement, InstanceHasNoJudgement, ClauseHasNoJudgement}
 
 -- A proof command, read from so many tokens: `search` is built without its depth alone, of a word and a full stop, and
 -- `induction` with one number alone.
@@ -13,12 +12,12 @@ IsBuiltInProof count split = Unit {0}
 IsBuiltInProof count split_all = Unit {0}
 IsBuiltInProof count left = Unit {0}
 IsBuiltInProof count right = Unit {0}
-IsBuiltInProof count (exists e) = HasNoJudgement e
+IsBuiltInProof count (exists e) = Unit {0}
 IsBuiltInProof count unfold_goal = Unit {0}
 IsBuiltInProof count (case H keep) = Unit {0}
-IsBuiltInProof count (apply H vs is) = All InstanceHasNoJudgement is
-IsBuiltInProof count (backchain H is) = All InstanceHasNoJudgement is
-IsBuiltInProof count (assert e) = HasNoJudgement e
+IsBuiltInProof count (apply H vs is) = Unit {0}
+IsBuiltInProof count (backchain H is) = Unit {0}
+IsBuiltInProof count (assert e) = Unit {0}
 IsBuiltInProof count (clear Hs) = Unit {0}
 IsBuiltInProof count (rename H x) = Unit {0}
 IsBuiltInProof count (permute ns x) = Unit {0}
@@ -32,15 +31,15 @@ IsBuiltInProof count (monotone H e) = ⊥
 abbrev pub IsBuilt : ℕ → Command → Type 0
 IsBuilt count (kinds xs) = Unit {0}
 IsBuilt count (constants xs A) = Unit {0}
-IsBuilt count (define inductive ds cs) = All ClauseHasNoJudgement cs
-IsBuilt count (theorem x e) = HasNoJudgement e
+IsBuilt count (define inductive ds cs) = Unit {0}
+IsBuilt count (theorem x e) = Unit {0}
 IsBuilt count (show x) = Unit {0}
 IsBuilt count quit = Unit {0}
 IsBuilt count (subgoals on) = Unit {0}
 IsBuilt count abort = Unit {0}
 IsBuilt count (in_proof label c) = IsBuiltInProof count c
+IsBuilt count back = Unit {0}
+IsBuilt count reset = Unit {0}
+IsBuilt count undo = Unit {0}
 IsBuilt count (specification x) = ⊥
 IsBuilt count (query e n m) = ⊥
-IsBuilt count back = ⊥
-IsBuilt count reset = ⊥
-IsBuilt count undo = ⊥

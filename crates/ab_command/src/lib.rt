@@ -3,10 +3,8 @@
 
 mod command_reader;
 mod fault;
-mod judgements;
 pub mod laws;
 mod supported;
 
 pub use command_reader::read_command;
 pub use fault::{Cause, Unread};
-pub use judgements::holds_judgement;

@@ -3,7 +3,6 @@ ghost use Rattle.std.specs.Prelude.{◌↔◌, IsTrue};
 ghost use Rattle.ab_syntax.specs.Commands.{proof_command_of, command_of};
 ghost use Rattle.ab_command.specs.Supported.{IsBuilt, IsBuiltInProof};
 
-use crate::judgements::{clauses_hold_judgement, holds_judgement, instances_hold_judgement};
 use ab_syntax::{Command, ProofCommand};
 
 /// Whether the proof command, which was read from so many tokens, is built.
@@ -18,16 +17,15 @@ fn is_built_in_proof(command: &ProofCommand, count: usize) -> bool
         | ProofCommand::Left
         | ProofCommand::Right
         | ProofCommand::Unfold
+        | ProofCommand::Exists(_)
+        | ProofCommand::Assert(_)
+        | ProofCommand::Apply(_, _, _)
+        | ProofCommand::Backchain(_, _)
         | ProofCommand::Case(_, _)
         | ProofCommand::Clear(_)
         | ProofCommand::Rename(_, _)
         | ProofCommand::Permute(_, _) => true,
         ProofCommand::Induction(places) => places.as_slice().len() == 1,
-        ProofCommand::Exists(term) => !holds_judgement(term),
-        ProofCommand::Assert(formula) => !holds_judgement(formula),
-        ProofCommand::Apply(_, _, given) | ProofCommand::Backchain(_, given) => {
-            !instances_hold_judgement(given.as_slice())
-        }
         ProofCommand::Search(_) => count == 2,
         ProofCommand::Skip
         | ProofCommand::Cut(_, _)
@@ -43,17 +41,16 @@ pub(crate) fn is_built(command: &Command, count: usize) -> bool
     match command {
         Command::Kind(_)
         | Command::Typed(_, _)
+        | Command::Define(_, _, _)
+        | Command::Theorem(_, _)
         | Command::Show(_)
         | Command::Quit
         | Command::Subgoals(_)
-        | Command::Abort => true,
-        Command::Define(_, _, clauses) => !clauses_hold_judgement(clauses.as_slice()),
-        Command::Theorem(_, formula) => !holds_judgement(formula),
-        Command::InProof(_, command) => is_built_in_proof(command, count),
-        Command::Specification(_)
-        | Command::Query(_, _, _)
         | Command::Back
         | Command::Reset
-        | Command::Undo => false,
+        | Command::Undo
+        | Command::Abort => true,
+        Command::InProof(_, command) => is_built_in_proof(command, count),
+        Command::Specification(_) | Command::Query(_, _, _) => false,
     }
 }

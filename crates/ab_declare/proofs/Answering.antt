@@ -81,7 +81,9 @@ pub fine_parts : (types : Table) → IsTable types → (c : written.Clause) (e :
 fine_parts types table =
     let conses : signature types (codes "::") ≡ Some (arrow o (arrow olist olist)) =
     ap (λ u. signature u (codes "::")) table.begins.1 ∙ same_entries first_entries table.begins.0 (codes "::") (arrow o (arrow olist olist)) refl in
-    parts_fine (signature types) (kinds types) conses
+    let nils : signature types (codes "nil") ≡ Some olist =
+    ap (λ u. signature u (codes "nil")) table.begins.1 ∙ same_entries first_entries table.begins.0 (codes "nil") olist refl in
+    parts_fine (signature types) (kinds types) conses nils
 
 pub meant : (old new : Table) (store : Contents) (n : ℕ) (c : written.Clause) (A : Ty) (r : Result ClauseTerm InferFault) → IsTable old → IsClauseAnswer old new store n c A r
     → IfOk r (λ k. ClauseMeans (kinds old) (signature old) c A (case_of (clause_of new store k)))

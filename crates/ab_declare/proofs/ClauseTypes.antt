@@ -8,8 +8,8 @@ use Rattle.ab_term.specs.Beta.{atom, abstraction, application}
 use Rattle.ab_meaning.specs.Types.{is_listed}
 use Rattle.ab_meaning.specs.ResolvedNames as resolved
 use Rattle.ab_meaning.specs.ResolvedNames.{Name, Binding}
-use Rattle.ab_meaning.specs.Readings.{Raw, Making, Reads, reads_free, reads_apply, reads_abs, reads_equal, reads_bind}
-use Rattle.ab_inference.specs.Sketches.{Sketch, bound, known, free, apply, abs, equal, bind, erase, term_of, Fit, count}
+use Rattle.ab_meaning.specs.Readings.{Raw, Making, Reads, reads_free, reads_apply, reads_behind, reads_abs, reads_equal, reads_bind}
+use Rattle.ab_inference.specs.Sketches.{Sketch, bound, known, free, apply, behind, abs, equal, bind, erase, term_of, Fit, count}
 use Rattle.ab_inference.specs.Verdicts.{AreApart}
 use Rattle.ab_infer.specs.Occurrences.{free_names, with_name, with_names}
 
@@ -20,6 +20,7 @@ module _ (made : Making) (base : ℕ) (v : ℕ → Ty) (types : Name → Ty) whe
   NamesHave (known h A) = Unit {0}
   NamesHave (free x j p) = types x ≡ v (base + j)
   NamesHave (apply e f) = NamesHave e × NamesHave f
+  NamesHave (behind e f) = NamesHave e × NamesHave f
   NamesHave (abs x n p e) = NamesHave e
   NamesHave (equal n e f) = NamesHave e × NamesHave f
   NamesHave (bind q x n p w e) = NamesHave e
@@ -49,6 +50,7 @@ module _ (made : Making) (base : ℕ) (v : ℕ → Ty) (types : Name → Ty) whe
   names_have tell (known h A) r e = tt
   names_have tell (free x j p) r e = tell x (types x) (v (base + j)) (same_atom (made x (types x)) (made x (v (base + j))) (sym (at_name r) ∙ e))
   names_have tell (apply a b) (reads_apply r s) e = let h = both_parts e in (names_have tell a r h.0, names_have tell b s h.1)
+  names_have tell (behind a b) (reads_behind r s) e = let h = both_parts e in (names_have tell a r h.1, names_have tell b s h.0)
   names_have tell (abs x n p a) (reads_abs f r) e = names_have tell a r (inside e)
   names_have tell (equal n a b) (reads_equal r s) e = let h = both_parts e in let g = both_parts h.0 in (names_have tell a r g.1, names_have tell b s h.1)
   names_have tell (bind q x n p w a) (reads_bind f k r) e = let h = both_parts e in names_have tell a r (inside h.1)
@@ -62,6 +64,7 @@ module _ (made : Making) (base : ℕ) (v : ℕ → Ty) (types : Name → Ty) whe
     told (known g A) ctx n f h = All-nil IsTold
     told (free x j p) ctx n f h = All-cons IsTold x [] (λ i l e. h ∙ ap (λ m. v (base + m)) (apart j i f.0 l (f.1 ∙ sym e))) (All-nil IsTold)
     told (apply a b) ctx n f h = All-append IsTold (free_names (erase a)) (free_names (erase b)) (told a ctx n f.0 h.0) (told b ctx (n + count a) f.1 h.1)
+    told (behind a b) ctx n f h = All-append IsTold (free_names (erase a)) (free_names (erase b)) (told a ctx n f.0 h.0) (told b ctx (n + count a) f.1 h.1)
     told (abs x m p a) ctx n f h = told a (m ∷ ctx) _ f.1 h
     told (equal m a b) ctx n f h = All-append IsTold (free_names (erase a)) (free_names (erase b)) (told a ctx _ f.1 h.0) (told b ctx _ f.2 h.1)
     told (bind q x m p w a) ctx n f h = told a (m ∷ ctx) _ f.1 h

@@ -13,8 +13,8 @@ use Rattle.ab_term.specs.Sameness.{same_numbered}
 use Rattle.ab_term.proofs.Same.{same_numbered-Decides}
 use Rattle.ab_unifiers.specs.Replacements.{holds}
 use Rattle.ab_meaning.specs.Types.{PropFree, is_listed}
-use Rattle.ab_meaning.specs.ResolvedNames.{Name, Resolved, bound, known, free, apply, abs, equal, bind, Binding, binding_head}
-use Rattle.ab_meaning.specs.Readings.{Raw, Making, Reads, reads_bound, reads_known, reads_free, reads_apply, reads_abs, reads_equal, reads_bind}
+use Rattle.ab_meaning.specs.ResolvedNames.{Name, Resolved, bound, known, free, apply, behind, abs, equal, bind, Binding, binding_head}
+use Rattle.ab_meaning.specs.Readings.{Raw, Making, Reads, reads_bound, reads_known, reads_free, reads_apply, reads_behind, reads_abs, reads_equal, reads_bind}
 use Rattle.ab_infer.specs.Heads.{AreHeads, AreAllHeads, AreRawHeads, KnownAre}
 use Rattle.ab_infer.specs.Occurrences.{free_names, with_name, with_names}
 use Rattle.ab_formulas.specs.CaseClauses.{in_terms}
@@ -118,6 +118,7 @@ module _ (P : Head ℕ → Type 0) (Q : Name → Type 0) (made : Making) (types 
   heads_read k q reads_known = k
   heads_read k q (reads_free {x = x} f) = names x (All-head Q x [] q) f
   heads_read k q (reads_apply {e = e} {f = f} r s) = (heads_read k.0 (front_of Q (free_names e) (free_names f) q) r, heads_read k.1 (rear_of Q (free_names e) (free_names f) q) s)
+  heads_read k q (reads_behind {e = e} {f = f} r s) = (heads_read k.1 (rear_of Q (free_names e) (free_names f) q) s, heads_read k.0 (front_of Q (free_names e) (free_names f) q) r)
   heads_read k q (reads_abs f r) = heads_read k q r
   heads_read k q (reads_equal {e = e} {f = f} {A = A} r s) = ((equations A, heads_read k.0 (front_of Q (free_names e) (free_names f) q) r), heads_read k.1 (rear_of Q (free_names e) (free_names f) q) s)
   heads_read k q (reads_bind {q = b} {A = A} f w r) = (binders b A f, heads_read k q r)
@@ -128,6 +129,7 @@ module _ (P R : Head ℕ → Type 0) (weaker : (h : Head ℕ) → P h → R h) w
   known_weaker (known g A) h = weaker g h
   known_weaker (free x p) h = tt
   known_weaker (apply e f) h = (known_weaker e h.0, known_weaker f h.1)
+  known_weaker (behind e f) h = (known_weaker e h.0, known_weaker f h.1)
   known_weaker (abs x p e) h = known_weaker e h
   known_weaker (equal e f) h = (known_weaker e h.0, known_weaker f h.1)
   known_weaker (bind q x p w e) h = known_weaker e h

@@ -37,7 +37,7 @@ use Rattle.ab_formulas.specs.Clauses.{Clause}
 use Rattle.ab_typing.specs.DefinitionReadings.{variable_of}
 use Rattle.ab_declare.specs.KeptClauses.{kept_clause}
 use Rattle.ab_declare.specs.ClauseReadings.{Parts, HasOneReading, HasNoReading, IsFirstOpen}
-use Rattle.ab_declare.specs.ClauseMeanings.{variable_names, variable_from, variables_from, is_under_nabla, IsKeptAs}
+use Rattle.ab_declare.specs.ClauseMeanings.{variable_names, variable_from, variables_from, closes_body, IsKeptAs}
 use Rattle.ab_declare.specs.JoinedRows.{joiner, joined, AreCells}
 use Rattle.ab_declare.proofs.Joined.{one_apart, term_apart, none_apart, open_apart}
 use Rattle.ab_declare.proofs.ClauseTypes.{types_agree}
@@ -82,7 +82,7 @@ tells n names x A B h = ap type_in h
 record KeptWith (sg : Signature) (n : ℕ) (names : List Name) (e : Parts) (A B : Ty) (k : Clause) : Type 0 where
   pub one : HasOneReading (variable_from n names) e A B
   pub is : k ≡ (let head = normal_form sg [] one.reading.head in
-      kept_clause (not (is_under_nabla head)) (variables_from n one.reading.types names) head (normal_form sg [] one.reading.body))
+      kept_clause (closes_body A head) (variables_from n one.reading.types names) head (normal_form sg [] one.reading.body))
 
 kept_as : (sg : Signature) (n : ℕ) (names : List Name) (e : Parts) (A B : Ty) (k : Clause) → names ≡ variable_names e → KeptWith sg n names e A B k → IsKeptAs sg n e A B k
 kept_as sg n names e A B k is h =
@@ -121,7 +121,7 @@ module _ (types : Table) (store : Contents) (row : Row) (found : List Settled) (
       (subst (λ r. Reads (making n) w.reading.types [] r w.reading.term prop w.reading.given) (sym (sketch_joined types store row e A B m)) w.reading.reads) w.is j l
 
   pub kept_so : (old s1 s2 : Contents) (cells : List CellId) (n : ℕ) → n ≡ length old.cells → (one : IsOne n) → AreCells old s1 names (λ j. (settled_at found (base + j)).ty) (length names) cells → s2.cells ≡ s1.cells
-      → (c : Clause) (closes : Bool) (head body : Read) → c ≡ kept_clause closes (map (variable_of types s2) cells) head body → closes ≡ not (is_under_nabla head)
+      → (c : Clause) (closes : Bool) (head body : Read) → c ≡ kept_clause closes (map (variable_of types s2) cells) head body → closes ≡ closes_body A head
       → head ≡ normal_form (signature types) [] (both_one n one).reading.head → body ≡ normal_form (signature types) [] (both_one n one).reading.body
       → IsKeptAs (signature types) n e A B c
   kept_so old s1 s2 cells n is one are same c closes head body c_is closes_is head_is body_is =
@@ -135,9 +135,9 @@ module _ (types : Table) (store : Contents) (row : Row) (found : List Settled) (
         one = o;
         is = c_is
             ∙ (ap (λ b. kept_clause b (map (variable_of types s2) cells) head body) closes_is
-            ∙ (ap (λ vs. kept_clause (not (is_under_nabla head)) vs head body) variables
-            ∙ (ap (λ h. kept_clause (not (is_under_nabla h)) (variables_from n o.reading.types names) h body) head_is
-            ∙ ap (λ b. kept_clause (not (is_under_nabla (nf o.reading.head))) (variables_from n o.reading.types names) (nf o.reading.head) b) body_is)));
+            ∙ (ap (λ vs. kept_clause (closes_body A head) vs head body) variables
+            ∙ (ap (λ h. kept_clause (closes_body A h) (variables_from n o.reading.types names) h body) head_is
+            ∙ ap (λ b. kept_clause (closes_body A (nf o.reading.head)) (variables_from n o.reading.types names) (nf o.reading.head) b) body_is)));
       })
 
   -- the steps, in a store that has cells for the names

@@ -13,7 +13,7 @@ use Rattle.ab_logic.specs.Worlds.{declared, declaration_of, declared_from, decla
 use Rattle.ab_logic.specs.declared.world.World.{World}
 use Rattle.ab_logic.specs.declared.additions.Added.{Added}
 use Rattle.ab_logic.specs.declared.additions.Addition.{Addition}
-use Rattle.ab_logic.specs.declared.additions.Addition.TheVariants.{Theorem, Definition}
+use Rattle.ab_logic.specs.declared.additions.Addition.TheVariants.{Theorem, Definition, Clause}
 use Rattle.ab_logic.proofs.Declaring.{constants_are}
 use Rattle.ab_declare.specs.DeclarationAnswers.{Knows}
 
@@ -43,6 +43,7 @@ drop_on done before xs l =
 no_kind : (w : World) (what : Addition) (ds : Declarations) → kinds_in (declaration_of w what ∷ ds) ≡ kinds_in ds
 no_kind w (Theorem e) ds = refl
 no_kind w (Definition b) ds = refl
+no_kind w (Clause c) ds = refl
 
 kinds_are : (w : World) (done : ℕ) (xs : List Added) → CameInOrder w.types done xs → kinds_in (declared_from w done xs) ≡ kinds (drop done w.types)
 kinds_are w done [] order = kinds-declared (drop done w.types)

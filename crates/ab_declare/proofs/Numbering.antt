@@ -58,6 +58,7 @@ module _ (types : Table) (old new : Contents) (more : IsExtendedBy old new) wher
       record { held = h.0; typed = f.typed; is = λ G. ap (head_type (signature types) G) h.1 ∙ f.is G }
   op_later (op.Free j p) f = f
   op_later op.Apply f = f
+  op_later op.Behind f = f
   op_later (op.Abs x m p) f = f
   op_later (op.Equal m) f = f
   op_later (op.Bind q x m p w) f = f
@@ -71,6 +72,7 @@ module _ (types : Table) (old new : Contents) (more : IsExtendedBy old new) wher
   item_later names (op.Known g id) f = ap (λ h. known_item h (type_of types id)) (head_later g f.held).1
   item_later names (op.Free j p) f = refl
   item_later names op.Apply f = refl
+  item_later names op.Behind f = refl
   item_later names (op.Abs x m p) f = refl
   item_later names (op.Equal m) f = refl
   item_later names (op.Bind q x m p w) f = refl

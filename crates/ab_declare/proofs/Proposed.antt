@@ -27,7 +27,7 @@ use Rattle.ab_formulas.specs.CaseClauses.{in_terms}
 use Rattle.ab_formulas.specs.ProposedClauses.{IsProposed}
 use Rattle.ab_declare.specs.KeptClauses.{kept_clause}
 use Rattle.ab_declare.specs.ClauseReadings.{Parts, ClauseReading}
-use Rattle.ab_declare.specs.ClauseMeanings.{variable_names, variable_from, variables_from, is_under_nabla, IsKeptAs}
+use Rattle.ab_declare.specs.ClauseMeanings.{variable_names, variable_from, variables_from, closes_body, IsKeptAs}
 use Rattle.ab_declare.proofs.Resolving.{IsPlain, IsFine, heads_fit, are_plain}
 use Rattle.ab_declare.proofs.Heads.{IsListed, listed_in_first, listed_in_second, variable_listed, heads_read, known_weaker, StandsOver, nameless, variables_held}
 use Rattle.ab_declare.proofs.Closed.{proposed_kept}
@@ -123,4 +123,4 @@ module _ (sg : Signature) (n : ℕ) (e : Parts) (A B : Ty) (fine_head : IsFine s
 
 pub kept_proposed : (sg : Signature) (n : ℕ) (e : Parts) (A B : Ty) (k : Clause) → A ≡ prop → B ≡ prop → IsFine sg e.head → IsFine sg e.body → IsKeptAs sg n e A B k → IsProposed sg k
 kept_proposed sg n e A B k a b fine_head fine_body h =
-    subst (IsProposed sg) (sym h.is) (reading_proposed sg n e A B fine_head fine_body h.one.reading a b (not (is_under_nabla (normal_form sg [] h.one.reading.head))))
+    subst (IsProposed sg) (sym h.is) (reading_proposed sg n e A B fine_head fine_body h.one.reading a b (closes_body A (normal_form sg [] h.one.reading.head)))

@@ -1,7 +1,7 @@
 -- Which numbers the variables of a clause are given makes no difference to what it means.
-use Rattle.std.specs.Prelude.{Ok, not}
+use Rattle.std.specs.Prelude.{Ok, not, ◌&&◌}
 use Rattle.std.proofs.Common.{◌≡◌, ◌↔◌, ℕ, suc, ◌+◌, ◌-◌, Bool, List, [], ◌∷◌, map, refl, sym, ap, ◌∙◌, subst, arith}
-use Rattle.ab_term.specs.Types.{Ty}
+use Rattle.ab_term.specs.Types.{Ty, prop, same_type}
 use Rattle.ab_term.specs.Terms.{Head, constant, logical, nominal, variable, index, lam, spine, Read}
 use Rattle.ab_term.specs.Typing.{Signature}
 use Rattle.ab_term.specs.Beta.{atom, abstraction, application}
@@ -12,7 +12,7 @@ use Rattle.ab_grammar.specs.CommandTrees as written
 use Rattle.ab_unifiers.proofs.Agreeing.{contains_holds}
 use Rattle.ab_unifiers.proofs.Changes.{agreeing}
 use Rattle.ab_meaning.specs.ResolvedNames.{Name, Resolved, free, known}
-use Rattle.ab_meaning.specs.Readings.{Raw, Making, Reads, reads_bound, reads_known, reads_free, reads_apply, reads_abs, reads_equal, reads_bind, equation, bound_term}
+use Rattle.ab_meaning.specs.Readings.{Raw, Making, Reads, reads_bound, reads_known, reads_free, reads_apply, reads_behind, reads_abs, reads_equal, reads_bind, equation, bound_term}
 use Rattle.ab_meaning.specs.Normal.{normal_form}
 use Rattle.ab_infer.specs.Heads.{KnownAre}
 use Rattle.ab_formulas.specs.Clauses.{ClauseVariable, Clause}
@@ -21,7 +21,7 @@ use Rattle.ab_formulas.specs.Faults.{IsRight, HasFault}
 use Rattle.ab_declare.specs.KeptClauses.{kept_clause}
 use Rattle.ab_declare.specs.ClauseReadings.{Parts, ClauseReading, HasOneReading}
 use Rattle.ab_declare.specs.ClauseNumbering.{AreOne}
-use Rattle.ab_declare.specs.ClauseMeanings.{variable_names, variable_from, variables_from, place_in, is_under_nabla, body_type, parts_found, IsKeptAs, ClauseMeans}
+use Rattle.ab_declare.specs.ClauseMeanings.{variable_names, variable_from, variables_from, place_in, is_under_nabla, closes_body, body_type, parts_found, IsKeptAs, ClauseMeans}
 use Rattle.ab_declare.proofs.Resolving.{IsPlain, IsFine, are_plain}
 use Rattle.ab_declare.proofs.Renumbered.{moved, moved_variable, moved_clause, T, normal_form_moved, kept_moved, case_moved}
 use Rattle.ab_declare.proofs.Closed.{kept_within}
@@ -79,6 +79,7 @@ module _ (n : ℕ) where
       forth {G = G} k (reads_known {h = h} {A = A}) = subst (λ g. Reads later types G (known h A) (atom g) A []) (sym (plain_still h k)) reads_known
       forth {G = G} k (reads_free {x = x} {p = p} f) = subst (λ g. Reads later types G (free x p) (atom g) (types x) (types x ∷ [])) (sym (same_made x (types x))) (reads_free f)
       forth k (reads_apply r s) = reads_apply (forth k.0 r) (forth k.1 s)
+      forth k (reads_behind r s) = reads_behind (forth k.0 r) (forth k.1 s)
       forth k (reads_abs f r) = reads_abs f (forth k r)
       forth k (reads_equal r s) = reads_equal (forth k.0 r) (forth k.1 s)
       forth k (reads_bind f w r) = reads_bind f w (forth k r)
@@ -91,6 +92,10 @@ module _ (n : ℕ) where
           let a = back k.0 r in
           let b = back k.1 s in
           (application a.0 b.0, reads_apply a.1 b.1, ap (λ f. application f u) a.2 ∙ ap (application (moved on a.0)) b.2)
+      back k (reads_behind {t = t} {u = u} r s) =
+          let a = back k.0 r in
+          let b = back k.1 s in
+          (application b.0 a.0, reads_behind a.1 b.1, ap (λ f. application f u) b.2 ∙ ap (application (moved on b.0)) a.2)
       back k (reads_abs {x = x} {A = A} f r) = let a = back k r in (abstraction A x a.0, reads_abs f a.1, ap (abstraction A x) a.2)
       back k (reads_equal {u = u} {A = A} r s) =
           let a = back k.0 r in
@@ -165,7 +170,7 @@ module _ (sg : Signature) (n : ℕ) (e : Parts) (A B : Ty) (fine_head : IsFine s
     body = normal_form sg [] r.body
 
     abbrev pub closes : Bool
-    closes = not (is_under_nabla head)
+    closes = closes_body A head
 
     abbrev pub vs : List ClauseVariable
     vs = variables_from 0 r.types names
@@ -185,9 +190,9 @@ module _ (sg : Signature) (n : ℕ) (e : Parts) (A B : Ty) (fine_head : IsFine s
     clause_is : k ≡ moved_clause (on n) first_clause
     clause_is =
         kept.is
-        ∙ (ap (λ h. kept_clause (not (is_under_nabla h)) (variables_from n r.types names) h (normal_form sg [] kept.one.reading.body)) head_is
-        ∙ (ap (λ b. kept_clause (not (is_under_nabla (T (on n) head))) (variables_from n r.types names) (T (on n) head) b) body_is
-        ∙ (ap (λ c. kept_clause (not c) (variables_from n r.types names) (T (on n) head) (T (on n) body)) (nabla_moved (on n) head)
+        ∙ (ap (λ h. kept_clause (closes_body A h) (variables_from n r.types names) h (normal_form sg [] kept.one.reading.body)) head_is
+        ∙ (ap (λ b. kept_clause (closes_body A (T (on n) head)) (variables_from n r.types names) (T (on n) head) b) body_is
+        ∙ (ap (λ c. kept_clause (same_type A prop && not c) (variables_from n r.types names) (T (on n) head) (T (on n) body)) (nabla_moved (on n) head)
         ∙ (ap (λ ws. kept_clause closes ws (T (on n) head) (T (on n) body)) variables_are
         ∙ kept_moved (on n) (agree n) closes vs head body))))
 

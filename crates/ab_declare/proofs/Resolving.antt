@@ -10,9 +10,9 @@ use Rattle.ab_grammar.specs.declared.Infix.{Infix}
 use Rattle.ab_grammar.specs.declared.Infix.TheVariants.{Arrow, Or, And, Equal, Imply, With, Cons}
 use Rattle.ab_grammar.specs.declared.Quant.{Quant}
 use Rattle.ab_grammar.specs.Tree as tree
-use Rattle.ab_grammar.specs.Tree.{Tree, Trees, no_trees}
-use Rattle.ab_meaning.specs.ResolvedNames.{Name, Resolved, bound, known, free, apply, abs, equal, bind}
-use Rattle.ab_meaning.specs.Scopes.{Scope, or_else, index_of, truth_named, constant_at, clause_variable, begins_with_capital, in_clause, head_named, Found, or_unknown, made_of, made_of_both, connective, joined, pi_over, after, written, with_binder, with_binders, under, is_pi, resolved, applied, pi_applied}
+use Rattle.ab_grammar.specs.Tree.{Tree, Trees, no_trees, Focus}
+use Rattle.ab_meaning.specs.ResolvedNames.{Name, Resolved, bound, known, free, apply, behind, abs, equal, bind}
+use Rattle.ab_meaning.specs.Scopes.{Scope, or_else, index_of, truth_named, constant_at, clause_variable, begins_with_capital, in_clause, head_named, Found, or_unknown, made_of, made_of_both, connective, joined, before_list, empty_list, put_before, is_list, first_list, with_goal, with_focus_and_goal, pi_over, after, written, with_binder, with_binders, under, is_pi, resolved, applied, pi_applied, context, items_before, judgement}
 use Rattle.ab_infer.specs.Heads.{IsFixed, IsOrdinary, HeadsFit, KnownAre}
 use Rattle.ab_declare.specs.ClauseReadings.{Parts}
 use Rattle.ab_declare.specs.ClauseMeanings.{clause_scope, body_found, both_found, parts_found}
@@ -29,6 +29,7 @@ module _ (sg : Signature) where
   IsFine (known h A) = IsPlain h × ((G : List Ty) → head_type sg G h ≡ Some A)
   IsFine (free x p) = Unit {0}
   IsFine (apply e f) = IsFine e × IsFine f
+  IsFine (behind e f) = IsFine e × IsFine f
   IsFine (abs x p e) = IsFine e
   IsFine (equal e f) = IsFine e × IsFine f
   IsFine (bind q x p w e) = IsFine e
@@ -38,6 +39,7 @@ module _ (sg : Signature) where
   heads_fit (known g A) h = h.1
   heads_fit (free x p) h = tt
   heads_fit (apply e f) h = (heads_fit e h.0, heads_fit f h.1)
+  heads_fit (behind e f) h = (heads_fit e h.0, heads_fit f h.1)
   heads_fit (abs x p e) h = heads_fit e h
   heads_fit (equal e f) h = (heads_fit e h.0, heads_fit f h.1)
   heads_fit (bind q x p w e) h = heads_fit e h
@@ -47,6 +49,7 @@ module _ (sg : Signature) where
   are_plain (known g A) h = h.0
   are_plain (free x p) h = tt
   are_plain (apply e f) h = (are_plain e h.0, are_plain f h.1)
+  are_plain (behind e f) h = (are_plain e h.0, are_plain f h.1)
   are_plain (abs x p e) h = are_plain e h
   are_plain (equal e f) h = (are_plain e h.0, are_plain f h.1)
   are_plain (bind q x p w e) h = are_plain e h
@@ -93,7 +96,7 @@ module _ (sg : Signature) where
   both_fine f (Ok a) (Err y) k p q = tt
   both_fine f (Err x) b k p q = tt
 
-  module _ (kinds : List Name) (conses : sg (codes "::") ≡ Some (arrows (o ∷ olist ∷ []) olist)) where
+  module _ (kinds : List Name) (conses : sg (codes "::") ≡ Some (arrows (o ∷ olist ∷ []) olist)) (nils : sg (codes "nil") ≡ Some olist) where
     abbrev s : Scope
     s = clause_scope kinds sg
 
@@ -121,6 +124,7 @@ module _ (sg : Signature) where
     pi_over_fine (known h A) p = tt
     pi_over_fine (free x n) p = tt
     pi_over_fine (apply e f) p = tt
+    pi_over_fine (behind e f) p = tt
     pi_over_fine (abs x n e) p = p
     pi_over_fine (equal e f) p = tt
     pi_over_fine (bind q x n w e) p = tt
@@ -142,6 +146,22 @@ module _ (sg : Signature) where
     found_if true o u p q = p
     found_if false o u p q = q
 
+    empty_fine : FoundFine (Ok empty_list)
+    empty_fine = ((tt, tt), λ G. nils)
+
+    put_before_fine : (l t : Resolved) → IsFine l → IsFine t → IsFine (put_before l t)
+    put_before_fine l t p q = (p, (((tt, tt), λ G. conses), q))
+
+    first_fine : (c : Tree) (f : Found) → FoundFine f → FoundFine (first_list c f)
+    first_fine c f p = found_if (is_list c) f _ p (both_fine put_before (Ok empty_list) f put_before_fine empty_fine p)
+
+    with_goal_fine : (l g : Found) → FoundFine l → FoundFine g → FoundFine (with_goal l g)
+    with_goal_fine l g p q = both_fine apply _ g (λ r t x y. (x, y)) (made_fine _ l (λ r x. (((tt, tt), λ G. refl), x)) p) q
+
+    with_focus_fine : (l f g : Found) → FoundFine l → FoundFine f → FoundFine g → FoundFine (with_focus_and_goal l f g)
+    with_focus_fine l f g p q r =
+        both_fine apply _ g (λ a t x y. (x, y)) (both_fine apply _ f (λ a t x y. (x, y)) (made_fine _ l (λ a x. (((tt, tt), λ G. refl), x)) p) q) r
+
     mutual
       resolved_fine : (bs : List Name) (e : Tree) → FoundFine (resolved s bs e)
       resolved_fine bs (tree.name x p) = or_unknown_fine x (head_named s bs x p) (head_fine bs x p)
@@ -149,7 +169,7 @@ module _ (sg : Signature) where
       resolved_fine bs (tree.abs x e p) = made_fine (abs x p) (resolved s (x ∷ bs) e) (λ r q. q) (resolved_fine (x ∷ bs) e)
       resolved_fine bs (tree.join o t u p) = joined_fine o (resolved s bs t) (resolved s bs u) (resolved_fine bs t) (resolved_fine bs u)
       resolved_fine bs (tree.bind q xs e p) = binders_fine q xs (resolved s (under xs bs) e) (resolved_fine (under xs bs) e)
-      resolved_fine bs (tree.judge cs f g p) = tt
+      resolved_fine bs (tree.judge cs f g p) = judgement_fine bs (context s bs cs) f (resolved s bs g) (context_fine bs cs) (resolved_fine bs g)
 
       applied_fine : (bs : List Name) (f : Found) (vs : Trees) → FoundFine f → FoundFine (applied s bs f vs)
       applied_fine bs f no_trees p = p
@@ -159,6 +179,19 @@ module _ (sg : Signature) where
       pi_applied_fine bs no_trees = tt
       pi_applied_fine bs (tree.tree v no_trees) = after_fine (resolved s bs v) (resolved_fine bs v)
       pi_applied_fine bs (tree.tree v (tree.tree w vs)) = tt
+
+      context_fine : (bs : List Name) (cs : Trees) → FoundFine (context s bs cs)
+      context_fine bs no_trees = empty_fine
+      context_fine bs (tree.tree c cs) = items_fine bs (first_list c (resolved s bs c)) cs (first_fine c (resolved s bs c) (resolved_fine bs c))
+
+      items_fine : (bs : List Name) (l : Found) (cs : Trees) → FoundFine l → FoundFine (items_before s bs l cs)
+      items_fine bs l no_trees p = p
+      items_fine bs l (tree.tree c cs) p =
+          items_fine bs (made_of_both put_before l (resolved s bs c)) cs (both_fine put_before l (resolved s bs c) put_before_fine p (resolved_fine bs c))
+
+      judgement_fine : (bs : List Name) (l : Found) (f : Focus) (g : Found) → FoundFine l → FoundFine g → FoundFine (judgement s bs l f g)
+      judgement_fine bs l tree.unfocused g p q = with_goal_fine l g p q
+      judgement_fine bs l (tree.focused f) g p q = with_focus_fine l (resolved s bs f) g p (resolved_fine bs f) q
 
     body_fine : (b : Option Tree) → FoundFine (body_found s b)
     body_fine None = ((tt, tt), λ G. refl)

@@ -13,7 +13,7 @@ use Rattle.ab_logic.specs.Worlds.{declared, declaration_of, declared_from, decla
 use Rattle.ab_logic.specs.declared.world.World.{World}
 use Rattle.ab_logic.specs.declared.additions.Added.{Added}
 use Rattle.ab_logic.specs.declared.additions.Addition.{Addition}
-use Rattle.ab_logic.specs.declared.additions.Addition.TheVariants.{Theorem, Definition}
+use Rattle.ab_logic.specs.declared.additions.Addition.TheVariants.{Theorem, Definition, Clause}
 use Rattle.ab_logic.proofs.Blocks.{all_kept}
 use Rattle.ab_declare.specs.Moments.{IsRestored}
 
@@ -35,6 +35,7 @@ restored_is old new r = rw (sym r.types, sym r.nodes, sym r.cells, sym r.binding
 same_addition : (n : ℕ) (w : World) (what : Addition) → declaration_of (with_room n w) what ≡ declaration_of w what
 same_addition n w (Theorem e) = refl
 same_addition n w (Definition b) = refl
+same_addition n w (Clause c) = refl
 
 same_declared : (n : ℕ) (w : World) (done : ℕ) (xs : List Added) → declared_from (with_room n w) done xs ≡ declared_from w done xs
 same_declared n w done [] = refl
@@ -59,6 +60,7 @@ room_grows n w is =
       additions = ([], sym (append-nil w.additions));
       declarations = ([], D ∙ sym (append-nil (declarations_of w)));
       world = record {
+        begins = is.begins;
         typed = record { earlier = is.typed.earlier; nodes = is.typed.nodes; cells = is.typed.cells; bindings = is.typed.bindings };
         unbound = is.unbound;
         additions = all_kept w (with_room n w) [] (sym (append-nil w.types)) (λ t h. h) (λ t h. refl) (λ c h. h) (λ c h. refl) w.additions is.additions;

@@ -15,7 +15,7 @@ use Rattle.ab_logic.specs.Worlds.{declared, declaration_of, declared_from, defin
 use Rattle.ab_logic.specs.declared.world.World.{World}
 use Rattle.ab_logic.specs.declared.additions.Added.{Added}
 use Rattle.ab_logic.specs.declared.additions.Addition.{Addition}
-use Rattle.ab_logic.specs.declared.additions.Addition.TheVariants.{Theorem, Definition}
+use Rattle.ab_logic.specs.declared.additions.Addition.TheVariants.{Theorem, Definition, Clause}
 use Rattle.ab_formulas.proofs.Declaring.{or_else, block_in-append}
 use Rattle.ab_logic.proofs.Declaring.{block-declared}
 
@@ -46,4 +46,5 @@ module _ (w : World) (p : Name) (absent : (c : ConstId) → HoldsConstant w.type
 
       one : (what : Addition) → IsKept w.types w.store what → block_in rest p ≡ None → block_in (declaration_of w what ∷ rest) p ≡ None
       one (Theorem e) k later = later
+      one (Clause c) k later = later
       one (Definition b) k later = ap (λ r. if r then Some (definition_of w b) else block_in rest p) (none_named b.predicates k.predicates) ∙ later

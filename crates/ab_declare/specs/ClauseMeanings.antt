@@ -1,8 +1,8 @@
 -- What a written clause means, in terms of what is declared: the clause of case analysis that it is, or why it is none. A word
 -- with a capital first letter that isn't bound is a variable of the clause. Names that are bound in the head, as those of its
 -- prefix of `nabla` binders, aren't in scope in the body.
-use Rattle.std.specs.Prelude.{◌≡◌, ℕ, zero, suc, ◌+◌, List, [], ◌∷◌, ◌++◌, Bool, true, false, not, bytes_eq, if◌then◌else◌, Option, Some, None, Result, Ok, Err}
-use Rattle.ab_term.specs.Types.{Ty, prop}
+use Rattle.std.specs.Prelude.{◌≡◌, ℕ, zero, suc, ◌+◌, List, [], ◌∷◌, ◌++◌, Bool, true, false, ◌&&◌, not, bytes_eq, if◌then◌else◌, Option, Some, None, Result, Ok, Err}
+use Rattle.ab_term.specs.Types.{Ty, prop, same_type}
 use Rattle.ab_term.specs.Logical.{truth, nabla}
 use Rattle.ab_term.specs.Terms.{Head, logical, variable, lam, spine, Read}
 use Rattle.ab_term.specs.Typing.{Signature}
@@ -15,7 +15,6 @@ use Rattle.ab_meaning.specs.Readings.{Making}
 use Rattle.ab_meaning.specs.Normal.{normal_form}
 use Rattle.ab_inference.specs.declared.fault.InferFault.{InferFault}
 use Rattle.ab_inference.specs.declared.fault.InferFault.TheVariants.{Unknown, TypeClash, Untyped, Memory}
-use Rattle.ab_infer.specs.Judgements.{HasNoJudgement}
 use Rattle.ab_infer.specs.Occurrences.{free_names, with_names}
 use Rattle.ab_formulas.specs.Clauses.{ClauseVariable, Clause}
 use Rattle.ab_formulas.specs.CaseClauses.{case_of}
@@ -41,14 +40,6 @@ abbrev pub both_found : Found → Found → Result Parts Name
 both_found (Ok e) (Ok f) = Ok (record { head = e; body = f })
 both_found (Ok e) (Err x) = Err x
 both_found (Err x) f = Err x
-
--- no judgement stands in head and body
-abbrev pub BodyHasNoJudgement : Option Tree → Type 0
-BodyHasNoJudgement None = Unit {0}
-BodyHasNoJudgement (Some b) = HasNoJudgement b
-
-abbrev pub ClauseHasNoJudgement : written.Clause → Type 0
-ClauseHasNoJudgement c = HasNoJudgement c.head × BodyHasNoJudgement c.body
 
 -- THE NAMES of head and body, or the first that stands for nothing
 abbrev pub parts_found : List Name → Signature → written.Clause → Result Parts Name
@@ -79,12 +70,17 @@ abbrev pub is_under_nabla : Read → Bool
 is_under_nabla (lam A x t) = false
 is_under_nabla (spine h ts) = is_nabla h
 
--- THE CLAUSE AS IT IS KEPT, where its variables are numbered from n on: the normal forms of the one reading. Where the head
--- stands under no `nabla`, the variables that stand in the body alone are closed by `exists` there.
+-- whether the variables that stand in the body alone are closed by `exists` there: head and body are formulas, and the head
+-- stands under no `nabla`
+abbrev pub closes_body : Ty → Read → Bool
+closes_body A head = same_type A prop && not (is_under_nabla head)
+
+-- THE CLAUSE AS IT IS KEPT, head and body being of these types, where its variables are numbered from n on: the normal forms
+-- of the one reading
 pub record IsKeptAs (sg : Signature) (n : ℕ) (e : Parts) (A B : Ty) (k : Clause) : Type 0 where
   pub one : HasOneReading (variable_from n (variable_names e)) e A B
   pub is : k ≡ (let head = normal_form sg [] one.reading.head in
-      kept_clause (not (is_under_nabla head)) (variables_from n one.reading.types (variable_names e)) head (normal_form sg [] one.reading.body))
+      kept_clause (closes_body A head) (variables_from n one.reading.types (variable_names e)) head (normal_form sg [] one.reading.body))
 
 -- THE CLAUSE MEANS the clause of case analysis, head and body being of the type
 pub record ClauseMeans (kinds : List Name) (sg : Signature) (c : written.Clause) (A : Ty) (k : cases.Clause (List ℕ)) : Type 0 where

@@ -1,10 +1,11 @@
 -- How much a world held at a moment, and worlds that grew since and are cut back.
-use Rattle.std.specs.Prelude.{◌≡◌, ◌≤◌, length}
+use Rattle.std.specs.Prelude.{◌≡◌, ◌≤◌, List, ◌++◌, length}
 use Rattle.ab_norm.specs.ab_types.specs.Entries as table
 use Rattle.ab_norm.specs.ab_types.specs.Sound.{IsTable}
 use Rattle.ab_norm.specs.ab_store.specs.declared.mark.Mark.{Mark}
 use Rattle.ab_norm.specs.ab_store.specs.Marks.{HasMark, KeepsMark}
 use Rattle.ab_logic.specs.declared.world.World.{World}
+use Rattle.ab_logic.specs.declared.additions.Added.{Added}
 use Rattle.ab_declare.specs.declared.moment.Moment.{Moment}
 
 -- the moment counts what the world holds
@@ -16,12 +17,13 @@ pub record IsMoment (w : World) (m : Moment) : Type 0 where
   pub bindings : m.mark.bindings ≡ length w.store.bindings
   pub nodes : m.mark.nodes ≡ length w.store.nodes
   pub cells : m.mark.cells ≡ length w.store.cells
+  pub additions : m.additions ≡ length w.additions
 
--- the second world has types and terms more behind what marks count, and nothing else was added
+-- the second world has types, terms and declarations more, behind what the first has
 pub record HasMore (w v : World) : Type 0 where
   pub types : table.IsExtendedBy w.types v.types
   pub marks : (m : Mark) → HasMark w.store m → KeepsMark w.store v.store m
-  pub additions : v.additions ≡ w.additions
+  pub additions : (more : List Added) × (v.additions ≡ w.additions ++ more)
 
 -- THE WORLD IS AS IT WAS, but for room that was made
 pub record IsRestored (old new : World) : Type 0 where

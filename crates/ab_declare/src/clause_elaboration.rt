@@ -66,7 +66,7 @@ pub fn look_at_names(
 
 /// The clause that is written, its head and its body being of the type; a body that isn't written is `true`. Its variables are
 /// the words with a capital first letter, in the order in which they first stand in the text, each a new cell; those that stand
-/// in the body alone are closed by `exists` there, where the head has no prefix of `nabla` binders. `Unknown` has the first
+/// in the body alone are closed by `exists` there, where they are formulas and the head has no prefix of `nabla` binders. `Unknown` has the first
 /// name in the text that stands for nothing, `TypeClash` the place of the clause, which has no reading, and `Untyped` the place
 /// of the first name to which two readings give different types, in bytes. `Memory` says that there was none.
 pub fn elaborate_clause<L>(
@@ -79,7 +79,6 @@ pub fn elaborate_clause<L>(
 ) -> Result<ClauseTerm, InferFault>
     requires table { IsTable types.old }
     requires store { IsTypedBy types.old store.old }
-    requires judgement { meanings.ClauseHasNoJudgement (clause_of parse.now) }
     requires expected { HoldsType types.old expected }
     ensures answer { IsClauseAnswer types.old types.new store.new (length store.old.cells) (clause_of parse.now) (type_of types.old expected) result }
     ensures means { IfOk result (λ k. meanings.ClauseMeans (kinds types.old) (signature types.old) (clause_of parse.now) (type_of types.old expected)
@@ -96,5 +95,14 @@ pub fn elaborate_clause<L>(
     let scope = clause_scope(alloc);
     let formulas = formulas(alloc, types)?;
     let row = row_of_clause(alloc, types, store, formulas, &scope, parse, expected)?;
-    read_clause(alloc, types, store, formulas, &row, parse.place, steps)
+    read_clause(
+        alloc,
+        types,
+        store,
+        formulas,
+        &row,
+        expected,
+        parse.place,
+        steps,
+    )
 }

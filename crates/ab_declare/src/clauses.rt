@@ -5,7 +5,6 @@ ghost use Rattle.ab_norm.specs.ab_types.specs.Sound.{IsTable};
 ghost use Rattle.ab_norm.specs.ab_store.specs.Naming.{IsTypedBy};
 ghost use Rattle.ab_syntax.specs.Commands.{clause_of};
 ghost use Rattle.ab_declare.specs.CellGrowth.{AddsVariables};
-ghost use Rattle.ab_declare.specs.ClauseMeanings.{ClauseHasNoJudgement};
 ghost use Rattle.ab_declare.specs.DefinitionCommands.{FirstTold, IsNamed, IsUnnamed, IsRead, IsUnread};
 ghost use Rattle.ab_declare.specs.Halts.{Halts, AreReadAs};
 
@@ -51,7 +50,6 @@ pub(crate) fn read_clauses<L>(
 ) -> Result<Vec<ClauseTerm>, Halt>
     requires table { IsTable types.old }
     requires store { IsTypedBy types.old store.old }
-    requires judgements { All ClauseHasNoJudgement (map clause_of clauses.now) }
     ensures read { MatchResult result (λ terms. AreReadAs types.new store.new (map clause_of clauses.now) terms.items)
         (Halts (FirstTold (IsRead (kinds types.old) (signature types.old)) (IsUnread (kinds types.old) (signature types.old)) (map clause_of clauses.now))) }
     ensures kinds { kinds types.new ≡ kinds types.old }

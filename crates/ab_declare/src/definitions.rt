@@ -1,9 +1,8 @@
 //! Definitions that are declared.
-ghost use Rattle.std.specs.Prelude.{◌≡◌, map, IfOk, OnErr, MatchResult, All};
+ghost use Rattle.std.specs.Prelude.{◌≡◌, map, IfOk, OnErr, MatchResult};
 ghost use Rattle.ab_norm.specs.ab_types.specs.Sound.{IsTable};
 ghost use Rattle.ab_grammar.specs.CommandTrees as command;
 ghost use Rattle.ab_syntax.specs.Commands.{defined_of, clause_of};
-ghost use Rattle.ab_declare.specs.ClauseMeanings.{ClauseHasNoJudgement};
 ghost use Rattle.ab_logic.specs.WorldGrowth.{Grows};
 ghost use Rattle.ab_logic.specs.Worlds.{IsWorld, declarations_of};
 ghost use Rattle.ab_declare.specs.DeclarationAnswers.{Declared, IsDeclared};
@@ -56,7 +55,6 @@ fn try_definition<L>(
 ) -> Result<(), Halt>
     requires world { IsWorld world.old }
     requires table { IsTable world.old.types }
-    requires judgements { All ClauseHasNoJudgement (map clause_of clauses.now) }
     ensures defined { MatchResult result (λ u. IsDeclared world.old world.new (command.define inductive (map defined_of predicates.now) (map clause_of clauses.now)))
         (Halts (DefinesNothing (declarations_of world.old) inductive (map defined_of predicates.now) (map clause_of clauses.now))) }
     ensures more { OnErr result (HasMore world.old world.new) }
@@ -85,7 +83,6 @@ pub fn declare_definition<L>(
     steps: &mut Steps<L>,
 ) -> Result<Option<Refusal>, AllocError>
     requires world { IsWorld world.old }
-    requires judgements { All ClauseHasNoJudgement (map clause_of clauses.now) }
     ensures answer { IfOk result (Declared world.old world.new (command.define inductive (map defined_of predicates.now) (map clause_of clauses.now))) }
     ensures err { OnErr result (IsRestored world.old world.new) }
 {

@@ -9,7 +9,6 @@ ghost use Rattle.ab_grammar.specs.Tree.{place_of};
 ghost use Rattle.ab_syntax.specs.SyntaxTrees.{tree_of};
 ghost use Rattle.ab_meaning.specs.Scopes.{resolved, elsewhere};
 ghost use Rattle.ab_infer.specs.ElaborationAnswers.{IsAnswer};
-ghost use Rattle.ab_infer.specs.Judgements.{HasNoJudgement};
 ghost use Rattle.ab_logic.specs.Worlds.{IsWorld};
 ghost use Rattle.ab_declare.specs.DeclarationAnswers.{Stated};
 ghost use Rattle.ab_declare.specs.Moments.{IsRestored};
@@ -45,7 +44,6 @@ fn read_formula<L>(
 ) -> Result<TermId, InferFault>
     requires table { IsTable types.old }
     requires store { IsTypedBy types.old store.old }
-    requires judgement { HasNoJudgement (tree_of parse.now) }
     ensures answer { IsAnswer types.new store.new
         (resolved (record { kinds = kinds types.old; constants = signature types.old; variables = []; nominals = []; place = elsewhere }) [] (tree_of parse.now))
         prop (place_of (tree_of parse.now)) result }
@@ -73,7 +71,6 @@ pub fn state_formula<L>(
     steps: &mut Steps<L>,
 ) -> Result<Statement, AllocError>
     requires world { IsWorld world.old }
-    requires judgement { HasNoJudgement (tree_of parse.now) }
     ensures answer { IfOk result (Stated world.old world.new name.now (tree_of parse.now)) }
     ensures err { OnErr result (IsRestored world.old world.new) }
 {

@@ -10,14 +10,14 @@ use Rattle.ab_term.specs.Beta.{atom, abstraction, application}
 use Rattle.ab_grammar.specs.CommandTrees as written
 use Rattle.ab_meaning.specs.ResolvedNames.{Name, Resolved}
 use Rattle.ab_meaning.specs.Normal.{normal_form}
-use Rattle.ab_meaning.specs.Readings.{Raw, Reads, reads_bound, reads_known, reads_free, reads_apply, reads_abs, reads_equal, reads_bind}
+use Rattle.ab_meaning.specs.Readings.{Raw, Reads, reads_bound, reads_known, reads_free, reads_apply, reads_behind, reads_abs, reads_equal, reads_bind}
 use Rattle.ab_meaning.specs.Types.{is_listed}
 use Rattle.ab_inference.specs.declared.fault.InferFault.TheVariants.{Unknown, TypeClash, Untyped, Memory}
 use Rattle.ab_infer.specs.Occurrences.{free_names, with_name, with_names}
 use Rattle.ab_formulas.specs.Clauses.{Clause}
 use Rattle.ab_declare.specs.KeptClauses.{kept_clause}
 use Rattle.ab_declare.specs.ClauseReadings.{Parts, places_in, ClauseReading, HasOneReading, IsFirstOpen}
-use Rattle.ab_declare.specs.ClauseMeanings.{parts_found, body_type, variable_names, variable_from, variables_from, is_under_nabla, numbered_names, IsKeptAs}
+use Rattle.ab_declare.specs.ClauseMeanings.{parts_found, body_type, variable_names, variable_from, variables_from, closes_body, numbered_names, IsKeptAs}
 use Rattle.ab_declare.specs.declared.refusal.Refusal.{Refusal}
 use Rattle.ab_declare.specs.declared.refusal.Refusal.TheVariants as refusal
 use Rattle.ab_declare.specs.Refusals.{here}
@@ -58,6 +58,8 @@ module _ (n : ℕ) (names : List Name) where
   given_same (reads_free f) (reads_free f2) s = ap (λ A. A ∷ []) (ap type_given s)
   given_same (reads_apply {As = As} {Bs = Bs} d h) (reads_apply {As = Cs} {Bs = Ds} d2 h2) s =
       joined_same As Bs Cs Ds (given_same d d2 (ap function s)) (given_same h h2 (ap body s))
+  given_same (reads_behind {As = As} {Bs = Bs} d h) (reads_behind {As = Cs} {Bs = Ds} d2 h2) s =
+      joined_same As Bs Cs Ds (given_same d d2 (ap body s)) (given_same h h2 (ap function s))
   given_same (reads_abs {A = A} {As = As} f d) (reads_abs {A = C} {As = Cs} f2 d2) s = begun_same A C As Cs (ap type_given s) (given_same d d2 (ap body s))
   given_same (reads_equal {As = As} {Bs = Bs} d h) (reads_equal {As = Cs} {Bs = Ds} d2 h2) s =
       joined_same As Bs Cs Ds (given_same d d2 (ap (λ r. body (function r)) s)) (given_same h h2 (ap body s))
@@ -71,6 +73,8 @@ module _ (n : ℕ) (names : List Name) where
   typed_same {types = types} {others = others} (reads_free {x = x} f) (reads_free f2) s = All-cons (λ x. types x ≡ others x) x [] (ap type_given s) (All-nil (λ x. types x ≡ others x))
   typed_same {types = types} {others = others} (reads_apply {e = e} {f = f} d h) (reads_apply d2 h2) s =
       All-append (λ x. types x ≡ others x) (free_names e) (free_names f) (typed_same d d2 (ap function s)) (typed_same h h2 (ap body s))
+  typed_same {types = types} {others = others} (reads_behind {e = e} {f = f} d h) (reads_behind d2 h2) s =
+      All-append (λ x. types x ≡ others x) (free_names e) (free_names f) (typed_same d d2 (ap body s)) (typed_same h h2 (ap function s))
   typed_same (reads_abs f d) (reads_abs f2 d2) s = typed_same d d2 (ap body s)
   typed_same {types = types} {others = others} (reads_equal {e = e} {f = f} d h) (reads_equal d2 h2) s =
       All-append (λ x. types x ≡ others x) (free_names e) (free_names f) (typed_same d d2 (ap (λ r. body (function r)) s)) (typed_same h h2 (ap body s))
@@ -100,9 +104,9 @@ one_kept sg n e A B k l a b =
     let typed = all_with (λ x. r.types x ≡ q.types x) [] (free_names e.head ++ free_names e.body) (All-nil (λ x. r.types x ≡ q.types x))
     (All-append (λ x. r.types x ≡ q.types x) (free_names e.head) (free_names e.body) (typed_same n names r.reads_head q.reads_head same.0) (typed_same n names r.reads_body q.reads_body same.1)) in
     a.is
-    ∙ (ap (λ h. kept_clause (not (is_under_nabla (normal_form sg [] h))) (variables_from n r.types names) (normal_form sg [] h) (normal_form sg [] r.body)) same.0
-    ∙ (ap (λ t. kept_clause (not (is_under_nabla (normal_form sg [] q.head))) (variables_from n r.types names) (normal_form sg [] q.head) (normal_form sg [] t)) same.1
-    ∙ (ap (λ vs. kept_clause (not (is_under_nabla (normal_form sg [] q.head))) vs (normal_form sg [] q.head) (normal_form sg [] q.body)) (variables_same n r.types q.types names typed) ∙ sym b.is)))
+    ∙ (ap (λ h. kept_clause (closes_body A (normal_form sg [] h)) (variables_from n r.types names) (normal_form sg [] h) (normal_form sg [] r.body)) same.0
+    ∙ (ap (λ t. kept_clause (closes_body A (normal_form sg [] q.head)) (variables_from n r.types names) (normal_form sg [] q.head) (normal_form sg [] t)) same.1
+    ∙ (ap (λ vs. kept_clause (closes_body A (normal_form sg [] q.head)) vs (normal_form sg [] q.head) (normal_form sg [] q.body)) (variables_same n r.types q.types names typed) ∙ sym b.is)))
 
 one_not_several : (n : ℕ) (names : List Name) (e : Parts) (A B : Ty) (p : ℕ) → HasOneReading (variable_from n names) e A B → IsFirstOpen (variable_from n names) e A B p → ⊥
 one_not_several n names e A B p one several =

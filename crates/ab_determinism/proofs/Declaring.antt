@@ -4,7 +4,7 @@ use Rattle.std.proofs.Common.{◌≡◌, ℕ, List, [], map, Some, None, refl, s
 use Rattle.ab_term.specs.Types.{prop}
 use Rattle.ab_grammar.specs.Tree.{Tree}
 use Rattle.ab_grammar.specs.CommandTrees.{Command, theorem, show}
-use Rattle.ab_meaning.specs.ResolvedNames.{Resolved, bound, known, free, apply, abs, equal, bind}
+use Rattle.ab_meaning.specs.ResolvedNames.{Resolved, bound, known, free, apply, behind, abs, equal, bind}
 use Rattle.ab_meaning.specs.Scopes.{resolved}
 use Rattle.ab_meaning.specs.Types.{IsDeclarable}
 use Rattle.ab_term.specs.Terms.{Read}
@@ -24,6 +24,7 @@ no_free (bound i) h = tt
 no_free (known k A) h = tt
 no_free (free x p) h = absurd h
 no_free (apply d e) h = (no_free d h.0, no_free e h.1)
+no_free (behind d e) h = (no_free d h.0, no_free e h.1)
 no_free (abs x p e) h = no_free e h
 no_free (equal d e) h = (no_free d h.0, no_free e h.1)
 no_free (bind q x p w e) h = no_free e h

@@ -30,7 +30,7 @@ of_prop None = refl
 of_prop (Some b) = refl
 
 -- clauses of these predicates, where these kinds and constants are declared
-module _ (ps : List (List ℕ)) (kinds : List (List ℕ)) (sg : Signature) (conses : sg (codes "::") ≡ Some (arrows (o ∷ olist ∷ []) olist)) where
+module _ (ps : List (List ℕ)) (kinds : List (List ℕ)) (sg : Signature) (conses : sg (codes "::") ≡ Some (arrows (o ∷ olist ∷ []) olist)) (nils : sg (codes "nil") ≡ Some olist) where
   proposed_defines : (k : Clause) → IsProposed sg k → IsHeadOf ps k.head → IsDefining sg (case_of k)
   proposed_defines k p h =
       let clause = is_clause sg k (well_kept ps sg k p h) in
@@ -44,7 +44,7 @@ module _ (ps : List (List ℕ)) (kinds : List (List ℕ)) (sg : Signature) (cons
 
   one_defines : (c : written.Clause) (k : Clause) → MeansKept kinds sg c k → IsRight ps k → IsDefining sg (case_of k)
   one_defines c k (e, found, kept) right =
-      let fine = parts_fine sg kinds conses c e found in
+      let fine = parts_fine sg kinds conses nils c e found in
       proposed_defines k (kept_proposed sg 0 e prop (body_type prop c.body) k refl (of_prop c.body) fine.0 fine.1 kept) right.head
 
   -- CLAUSES THAT ARE READ AND RIGHT DEFINE

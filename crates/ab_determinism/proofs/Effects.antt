@@ -1,4 +1,4 @@
--- Each command has one effect on a state.
+-- Each command that goes forward has one effect on a state.
 use Rattle.std.proofs.Common.{◌≡◌, ◌⊎◌, inl, inr, ℕ, List, [], ◌∷◌, ◌++◌, map, Option, Some, None, refl, sym, ◌∙◌, ap, subst}
 use Rattle.ab_grammar.specs.CommandTrees.{Command, kinds, constants, define, theorem, show, quit, subgoals, abort, in_proof, ProofCommand, search}
 use Rattle.ab_term.specs.Terms.{Read}
@@ -15,14 +15,14 @@ use Rattle.ab_formulas.specs.NamedGoals.{Goal, named}
 use Rattle.ab_effects.specs.ProofCommands.{given_label, effect}
 use Rattle.ab_determinism.proofs.Rows.{AreOnce}
 use Rattle.ab_determinism.proofs.Once.{once}
-use Rattle.ab_states.specs.State.{Attempt, State, is_open, keeping, declaring, proving, closed, showing}
+use Rattle.ab_states.specs.State.{Attempt, State, Entry, plain, is_open, keeping, declaring, proving, closed, showing}
 use Rattle.ab_states.specs.Reply as reply
 use Rattle.ab_states.specs.Reply.{Reply, accepted, completed, shown, refused, unread_for}
 use Rattle.ab_states.specs.ProofCommandEffects.{Makes, Denies}
-use Rattle.ab_states.specs.StateEffects.{Commands, Faces, beginning, left_with, HasEffect, unread, declined, declared, stated, showed, ended, switched, given_up, denied, led, proved}
+use Rattle.ab_states.specs.ForwardEffects.{Commands, Faces, beginning, left_with, GoesForward, unread, declined, declared, stated, showed, ended, switched, given_up, denied, led, proved}
 use Rattle.ab_states.specs.Replay.{Replays, none, next}
 use Rattle.ab_determinism.specs.Sound.{AreSound, IsSound}
-use Rattle.ab_determinism.proofs.Sound.{has_lists, sound_effect}
+use Rattle.ab_determinism.proofs.Sound.{has_lists, sound_forward}
 use Rattle.ab_determinism.proofs.Closing.{closed_also}
 use Rattle.ab_determinism.proofs.Declaring.{one_statement, one_declaring, one_declining, declares_or_not, states_or_not, shows_or_not}
 
@@ -44,7 +44,7 @@ module _ (D : Declarations) (sound : AreSound D) (l : Label) (s u : Sequent) (is
   makes_or_denies c ps r a b = (both_once c).apart ps b.cause a b.refuses
 
 -- WHAT A COMMAND DOES, by what it says, where what was declared is sound
-module _ (s : State) (sound : AreSound s.declarations) (bytes : List ℕ) where
+module _ (s : State) (sound : AreSound s.declarations) (entry : Entry) where
   abbrev Leaves : Refusal → Reply → State → Type 0
   Leaves v r t = (r ≡ refused v) × (t ≡ s)
 
@@ -52,12 +52,12 @@ module _ (s : State) (sound : AreSound s.declarations) (bytes : List ℕ) where
   Refusing c r t = (v : Refusal) × Declines s.declarations c v × Leaves v r t
 
   abbrev Declaring : Command → Reply → State → Type 0
-  Declaring c r t = (more : Declarations) × Declares s.declarations c more × (r ≡ accepted) × (t ≡ keeping bytes (declaring more s))
+  Declaring c r t = (more : Declarations) × Declares s.declarations c more × (r ≡ accepted) × (t ≡ keeping entry (declaring more s))
 
   -- where these goals are left
   abbrev Leading : Attempt → List Goal → Reply → State → Type 0
-  Leading a [] r t = (r ≡ completed a.name) × (t ≡ keeping bytes (closed (declaring (a_theorem a.name a.formula ∷ []) s)))
-  Leading a (h ∷ hs) r t = (r ≡ accepted) × (t ≡ keeping bytes (proving (left_with (h ∷ hs) a) s))
+  Leading a [] r t = (r ≡ completed a.name) × (t ≡ keeping entry (closed (declaring (a_theorem a.name a.formula ∷ []) s)))
+  Leading a (h ∷ hs) r t = (r ≡ accepted) × (t ≡ keeping entry (proving (left_with (h ∷ hs) a) s))
 
   abbrev Denying : Option (List ℕ) → ProofCommand → Sequent → Reply → State → Type 0
   Denying l c q r t = (v : Refusal) × Denies s.declarations (given_label l) c q v × Leaves v r t
@@ -71,12 +71,12 @@ module _ (s : State) (sound : AreSound s.declarations) (bytes : List ℕ) where
   Does (define i ds cs) r t = Refusing (define i ds cs) r t ⊎ Declaring (define i ds cs) r t
   Does (theorem x e) r t =
       Refusing (theorem x e) r t
-      ⊎ ((F : Read) × (theorem_in s.declarations x ≡ None) × States s.declarations e F × (r ≡ accepted) × (t ≡ keeping bytes (proving (beginning x F) s)))
+      ⊎ ((F : Read) × (theorem_in s.declarations x ≡ None) × States s.declarations e F × (r ≡ accepted) × (t ≡ keeping entry (proving (beginning x F) s)))
   Does (show x) r t = Refusing (show x) r t ⊎ ((F : Read) × (theorem_in s.declarations x ≡ Some F) × (r ≡ shown x F) × (t ≡ s))
   Does quit r t = (r ≡ reply.quit) × (t ≡ s)
-  Does (subgoals on) r t = (r ≡ accepted) × (t ≡ keeping bytes (showing on s))
-  Does abort r t = (r ≡ accepted) × (t ≡ keeping bytes (closed s))
-  Does (in_proof l c) r t = (a : Attempt) × (q : Sequent) × (gs : List Goal) × Faces s bytes l c a q gs × (Denying l c q r t ⊎ Making l c a q gs r t)
+  Does (subgoals on) r t = (r ≡ accepted) × (t ≡ keeping entry (showing on s))
+  Does abort r t = (r ≡ accepted) × (t ≡ keeping entry (closed s))
+  Does (in_proof l c) r t = (a : Attempt) × (q : Sequent) × (gs : List Goal) × Faces s entry.bytes l c a q gs × (Denying l c q r t ⊎ Making l c a q gs r t)
   Does _ r t = ⊥
 
   refusing_does : {c : Command} {v : Refusal} → Declines s.declarations c v → Does c (refused v) s
@@ -89,28 +89,14 @@ module _ (s : State) (sound : AreSound s.declarations) (bytes : List ℕ) where
   refusing_does {v = v} (states_nothing f e n) = inl (v, states_nothing f e n, (refl, refl))
   refusing_does {v = v} (no_theorem e) = inl (v, no_theorem e, (refl, refl))
 
-  declaring_does : {c : Command} {more : Declarations} → Declares s.declarations c more → Does c accepted (keeping bytes (declaring more s))
+  declaring_does : {c : Command} {more : Declarations} → Declares s.declarations c more → Does c accepted (keeping entry (declaring more s))
   declaring_does {more = more} (new_kinds e) = inr (more, new_kinds e, refl, refl)
   declaring_does {more = more} (new_constants e f d) = inr (more, new_constants e f d, refl, refl)
   declaring_does {more = more} (new_predicates d) = inr (more, new_predicates d, refl, refl)
 
   -- an effect, by what the bytes say
   abbrev Says : Reply → State → Type 0
-  Says r t = ((c : Cause) × Fails bytes (is_open s) c × Leaves (unread_for c) r t) ⊎ ((c : Command) × Commands s bytes c × Does c r t)
-
-  said : {r : Reply} {t : State} → HasEffect s bytes r t → Says r t
-  said (unread c f) = inl (c, f, (refl, refl))
-  said (declined c v k d) = inr (c, k, refusing_does d)
-  said (declared c more k d) = inr (c, k, declaring_does d)
-  said (stated x e F k n d) = inr (theorem x e, k, inr (F, n, d, refl, refl))
-  said (showed x F k e) = inr (show x, k, inr (F, e, refl, refl))
-  said (ended k) = inr (quit, k, (refl, refl))
-  said (switched on k) = inr (subgoals on, k, (refl, refl))
-  said (given_up k) = inr (abort, k, (refl, refl))
-  said (denied l c a q gs v f d) = inr (in_proof l c, f.says, (a, q, gs, f, inl (v, d, (refl, refl))))
-  said (led l c a q gs ps h hs f m e) = inr (in_proof l c, f.says, (a, q, gs, f, inr (ps, m, subst (λ w. Leading a w accepted (keeping bytes (proving (left_with (h ∷ hs) a) s))) (sym e) (refl, refl))))
-  said (proved l c a q gs ps f m e) =
-      inr (in_proof l c, f.says, (a, q, gs, f, inr (ps, m, subst (λ w. Leading a w (completed a.name) (keeping bytes (closed (declaring (a_theorem a.name a.formula ∷ []) s)))) (sym e) (refl, refl))))
+  Says r t = ((c : Cause) × Fails entry.bytes (is_open s) c × Leaves (unread_for c) r t) ⊎ ((c : Command) × Commands s entry.bytes c × Does c r t)
 
   -- ONE EFFECT
 
@@ -130,10 +116,10 @@ module _ (s : State) (sound : AreSound s.declarations) (bytes : List ℕ) where
   one_declared c r q t u (inl (v, d, a)) (inr (more, e, x, y)) = absurd (declares_or_not s.declarations e d)
   one_declared c r q t u (inr (more, d, x, y)) (inl (w, e, b)) = absurd (declares_or_not s.declarations d e)
   one_declared c r q t u (inr (more, d, x, y)) (inr (others, e, z, w)) =
-      (x ∙ sym z, y ∙ ap (λ m. keeping bytes (declaring m s)) (one_declaring s.declarations d e) ∙ sym w)
+      (x ∙ sym z, y ∙ ap (λ m. keeping entry (declaring m s)) (one_declaring s.declarations d e) ∙ sym w)
 
   -- proof commands
-  module _ (l : Option (List ℕ)) (c : ProofCommand) (a : Attempt) (x y : Sequent) (gs : List Goal) (f : Faces s bytes l c a x gs) (g : Faces s bytes l c a y gs) (same : named x ≡ named y) where
+  module _ (l : Option (List ℕ)) (c : ProofCommand) (a : Attempt) (x y : Sequent) (gs : List Goal) (f : Faces s entry.bytes l c a x gs) (g : Faces s entry.bytes l c a y gs) (same : named x ≡ named y) where
     one_proof : (r q : Reply) (t u : State) → Denying l c x r t ⊎ Making l c a x gs r t → Denying l c y q u ⊎ Making l c a y gs q u → Same r t q u
     one_proof r q t u (inl (v, d, k)) (inl (w, e, j)) =
         leaves_same v w r q t u (one_denial s.declarations sound (given_label l) x y f.numbered.sequent g.numbered.sequent same c v w d e) k j
@@ -154,7 +140,7 @@ module _ (s : State) (sound : AreSound s.declarations) (bytes : List ℕ) where
       let attempts : Some a ≡ Some b = sym f.attempt ∙ g.attempt in
       let one : a ≡ b = cc in
       let goals : f.current ∷ gs ≡ g.current ∷ hs = sym f.goals ∙ ap (λ (k : Attempt). k.goals) one ∙ g.goals in
-      let there : Faces s bytes l c a y gs = subst (λ k. Faces s bytes l c k y gs) (sym one) (subst (Faces s bytes l c b y) (sym (rest_same goals)) g) in
+      let there : Faces s entry.bytes l c a y gs = subst (λ k. Faces s entry.bytes l c k y gs) (sym one) (subst (Faces s entry.bytes l c b y) (sym (rest_same goals)) g) in
       let same : named x ≡ named y = sym f.numbered.is ∙ first_same goals ∙ g.numbered.is in
       let also : Denying l c y q u ⊎ Making l c a y gs q u = subst (λ k. Denying l c y q u ⊎ Making l c k y gs q u) (sym one) (subst (λ ks. Denying l c y q u ⊎ Making l c b y ks q u) (sym (rest_same goals)) n) in
       one_proof l c a x y gs f there same r q t u m also
@@ -167,7 +153,7 @@ module _ (s : State) (sound : AreSound s.declarations) (bytes : List ℕ) where
   one_doing (theorem x e) r q t u (inl (v, d, a)) (inr (F, n, m, k, j)) = absurd (states_or_not s.declarations n m d)
   one_doing (theorem x e) r q t u (inr (F, n, m, k, j)) (inl (w, f, b)) = absurd (states_or_not s.declarations n m f)
   one_doing (theorem x e) r q t u (inr (F, n, m, k, j)) (inr (G, n2, m2, k2, j2)) =
-      (k ∙ sym k2, j ∙ ap (λ H. keeping bytes (proving (beginning x H) s)) (one_statement s.declarations e F G m m2) ∙ sym j2)
+      (k ∙ sym k2, j ∙ ap (λ H. keeping entry (proving (beginning x H) s)) (one_statement s.declarations e F G m m2) ∙ sym j2)
   one_doing (show x) r q t u (inl (v, d, a)) (inl (w, f, b)) = leaves_same v w r q t u (one_declining s.declarations d f) a b
   one_doing (show x) r q t u (inl (v, d, a)) (inr (F, e, k, j)) = absurd (shows_or_not s.declarations e d)
   one_doing (show x) r q t u (inr (F, e, k, j)) (inl (w, f, b)) = absurd (shows_or_not s.declarations e f)
@@ -182,17 +168,32 @@ module _ (s : State) (sound : AreSound s.declarations) (bytes : List ℕ) where
   one_doing _ r q t u a b = absurd a
 
   one_saying : {r q : Reply} {t u : State} → Says r t → Says q u → Same r t q u
-  one_saying {r = r} {q = q} {t = t} {u = u} (inl (c, f, a)) (inl (d, g, b)) = leaves_same (unread_for c) (unread_for d) r q t u (ap unread_for (fails_one bytes (is_open s) c d f g)) a b
-  one_saying (inl (c, f, a)) (inr (d, k, b)) = absurd (says_or_fails bytes (is_open s) d c k f)
-  one_saying (inr (c, k, a)) (inl (d, g, b)) = absurd (says_or_fails bytes (is_open s) c d k g)
+  one_saying {r = r} {q = q} {t = t} {u = u} (inl (c, f, a)) (inl (d, g, b)) = leaves_same (unread_for c) (unread_for d) r q t u (ap unread_for (fails_one entry.bytes (is_open s) c d f g)) a b
+  one_saying (inl (c, f, a)) (inr (d, k, b)) = absurd (says_or_fails entry.bytes (is_open s) d c k f)
+  one_saying (inr (c, k, a)) (inl (d, g, b)) = absurd (says_or_fails entry.bytes (is_open s) c d k g)
   one_saying {r = r} {q = q} {t = t} {u = u} (inr (c, k, a)) (inr (d, j, b)) =
-      one_doing d r q t u (subst (λ e. Does e r t) (says_one bytes (is_open s) c d k j) a) b
+      one_doing d r q t u (subst (λ e. Does e r t) (says_one entry.bytes (is_open s) c d k j) a) b
 
--- THE BYTES OF A COMMAND HAVE ONE EFFECT on a state
-pub one_effect : (s : State) → AreSound s.declarations → (bytes : List ℕ) {r q : Reply} {t u : State} → HasEffect s bytes r t → HasEffect s bytes q u → (r ≡ q) × (t ≡ u)
-one_effect s sound bytes a b = one_saying s sound bytes (said s sound bytes a) (said s sound bytes b)
+said : (s : State) (sound : AreSound s.declarations) {e : Entry} {r : Reply} {t : State} → GoesForward s e r t → Says s sound e r t
+said s sound (unread c f) = inl (c, f, (refl, refl))
+said s sound (declined {bytes = bytes} c v k d) = inr (c, k, refusing_does s sound (plain bytes) d)
+said s sound (declared {bytes = bytes} c more k d) = inr (c, k, declaring_does s sound (plain bytes) d)
+said s sound (stated x e F k n d) = inr (theorem x e, k, inr (F, n, d, refl, refl))
+said s sound (showed x F k e) = inr (show x, k, inr (F, e, refl, refl))
+said s sound (ended k) = inr (quit, k, (refl, refl))
+said s sound (switched on k) = inr (subgoals on, k, (refl, refl))
+said s sound (given_up k) = inr (abort, k, (refl, refl))
+said s sound (denied l c a q gs v f d) = inr (in_proof l c, f.says, (a, q, gs, f, inl (v, d, (refl, refl))))
+said s sound (led {bytes = bytes} l c a q gs ps h hs f m e) =
+    inr (in_proof l c, f.says, (a, q, gs, f, inr (ps, m, subst (λ w. Leading s sound (plain bytes) a w accepted (keeping (plain bytes) (proving (left_with (h ∷ hs) a) s))) (sym e) (refl, refl))))
+said s sound (proved {bytes = bytes} l c a q gs ps f m e) =
+    inr (in_proof l c, f.says, (a, q, gs, f, inr (ps, m, subst (λ w. Leading s sound (plain bytes) a w (completed a.name) (keeping (plain bytes) (closed (declaring (a_theorem a.name a.formula ∷ []) s)))) (sym e) (refl, refl))))
 
-pub one_replay : {s t u : State} {cs : List (List ℕ)} → IsSound s → Replays s cs t → Replays s cs u → t ≡ u
+-- A COMMAND THAT GOES FORWARD HAS ONE EFFECT on a state
+pub one_forward : (s : State) → AreSound s.declarations → {e : Entry} {r q : Reply} {t u : State} → GoesForward s e r t → GoesForward s e q u → (r ≡ q) × (t ≡ u)
+one_forward s sound {e = e} a b = one_saying s sound e (said s sound a) (said s sound b)
+
+pub one_replay : {s t u : State} {es : List Entry} → IsSound s → Replays s es t → Replays s es u → t ≡ u
 one_replay sound none none = refl
-one_replay {u = u} sound (next {s = s} {c = c} {cs = cs} r e k x) (next q f j y) =
-    one_replay (sound_effect e sound) x (subst (λ v. Replays v cs u) (sym (one_effect s sound.declarations c e f).1) y)
+one_replay {u = u} sound (next {s = s} {e = e} {es = es} r h k x) (next q f j y) =
+    one_replay (sound_forward h sound) x (subst (λ v. Replays v es u) (sym (one_forward s sound.declarations h f).1) y)

@@ -40,3 +40,4 @@ mod Declaring
 mod Statements
 pub mod Sound
 pub mod Effects
+pub mod Taking

@@ -10,7 +10,7 @@ use Rattle.ab_formulas.specs.Declarations.{Declarations, signature_in}
 use Rattle.ab_formulas.specs.Sequents.{Sequent, goal_names}
 use Rattle.ab_meaning.specs.ResolvedNames.{Name, Resolved, places_of}
 use Rattle.ab_meaning.specs.Scopes.{Scope, resolved, nominal_number}
-use Rattle.ab_meaning.specs.Readings.{Raw, Reads, reads_bound, reads_known, reads_free, reads_apply, reads_abs, reads_equal, reads_bind}
+use Rattle.ab_meaning.specs.Readings.{Raw, Reads, reads_bound, reads_known, reads_free, reads_apply, reads_behind, reads_abs, reads_equal, reads_bind}
 use Rattle.ab_meaning.specs.ReadingCounts.{Reading, IsTheReading, IsFirstOpen}
 use Rattle.ab_meaning.specs.Normal.{normal_form}
 use Rattle.ab_meaning.specs.Refusals.{Refusal, unknown, type_clash, untyped, clash, no_hypothesis, wrong_shape, mark, no_match, not_pattern, unresolved, names_spent}
@@ -59,6 +59,8 @@ given_same {types = types} {others = others} n (reads_free {x = x} f) (reads_fre
     head_of (application t u) = nominal (record { number = 0; type = prop })
 given_same n (reads_apply {As = As} {Bs = Bs} d h) (reads_apply {As = Cs} {Bs = Ds} d2 h2) s =
     joined_same As Bs Cs Ds (given_same n.0 d d2 (ap function s)) (given_same n.1 h h2 (ap body s))
+given_same n (reads_behind {As = As} {Bs = Bs} d h) (reads_behind {As = Cs} {Bs = Ds} d2 h2) s =
+    joined_same As Bs Cs Ds (given_same n.0 d d2 (ap body s)) (given_same n.1 h h2 (ap function s))
 given_same n (reads_abs {A = A} {As = As} f d) (reads_abs {A = C} {As = Cs} f2 d2) s = begun_same A C As Cs (ap type_given s) (given_same n d d2 (ap body s))
 given_same n (reads_equal {As = As} {Bs = Bs} d h) (reads_equal {As = Cs} {Bs = Ds} d2 h2) s =
     joined_same As Bs Cs Ds (given_same n.0 d d2 (ap (λ r. body (function r)) s)) (given_same n.1 h h2 (ap body s))

@@ -14,7 +14,7 @@ use Rattle.ab_grammar.specs.Tree.{Tree}
 use Rattle.ab_formulas.specs.Formulas.{Place, a_formula, a_scope, a_marked, any, places_of, IsRigid, IsAtomic, StandsIn, AllStandIn, IsFormula}
 use Rattle.ab_meaning.specs.ResolvedNames.{Name, Resolved, free}
 use Rattle.ab_meaning.specs.Scopes.{Scope, resolved, nominal_number, made_of}
-use Rattle.ab_meaning.specs.Readings.{Raw, Reads, reads_bound, reads_known, reads_free, reads_apply, reads_abs, reads_equal, reads_bind}
+use Rattle.ab_meaning.specs.Readings.{Raw, Reads, reads_bound, reads_known, reads_free, reads_apply, reads_behind, reads_abs, reads_equal, reads_bind}
 use Rattle.ab_meaning.specs.ReadingCounts.{Reading, IsTheReading, Differ}
 use Rattle.ab_meaning.specs.Normal.{left_type, given_all, long_form, normal_given, normal_form}
 use Rattle.ab_formulas.specs.Declarations.{Declarations, signature_in}
@@ -45,6 +45,7 @@ module _ (f : ℕ → ℕ) where
   reads_told {types = types} {G = G} (reads_free {x = x} {p = p} k) =
       subst (λ h. Reads made types G (free x p) (atom h) (types x) (types x ∷ [])) (made_told x (nominal_number x) (types x)) (reads_free k)
   reads_told (reads_apply d h) = reads_apply (reads_told d) (reads_told h)
+  reads_told (reads_behind d h) = reads_behind (reads_told d) (reads_told h)
   reads_told (reads_abs k d) = reads_abs k (reads_told d)
   reads_told (reads_equal d h) = reads_equal (reads_told d) (reads_told h)
   reads_told (reads_bind k w d) = reads_bind k w (reads_told d)

@@ -10,9 +10,9 @@ use Rattle.ab_grammar.specs.declared.Infix.{Infix}
 use Rattle.ab_grammar.specs.declared.Infix.TheVariants.{Arrow, Or, And, Equal, Imply, With, Cons}
 use Rattle.ab_grammar.specs.declared.Quant.{Quant}
 use Rattle.ab_grammar.specs.Tree as tree
-use Rattle.ab_grammar.specs.Tree.{Tree, Trees, no_trees}
-use Rattle.ab_meaning.specs.ResolvedNames.{Name, Resolved, bound, known, free, apply, abs, equal, bind, quantified, places_of}
-use Rattle.ab_meaning.specs.Scopes.{Scope, in_proof, nominal_number, or_else, index_of, truth_named, variable_named, constant_at, settled_nominal, nominal_at, head_named, Found, or_unknown, made_of, made_of_both, connective, joined, pi_over, after, written, with_binder, with_binders, under, is_pi, resolved, applied, pi_applied}
+use Rattle.ab_grammar.specs.Tree.{Tree, Trees, no_trees, Focus}
+use Rattle.ab_meaning.specs.ResolvedNames.{Name, Resolved, bound, known, free, apply, behind, abs, equal, bind, quantified, places_of}
+use Rattle.ab_meaning.specs.Scopes.{Scope, in_proof, nominal_number, or_else, index_of, truth_named, variable_named, constant_at, settled_nominal, nominal_at, head_named, Found, or_unknown, made_of, made_of_both, connective, joined, before_list, empty_list, put_before, is_list, first_list, with_goal, with_focus_and_goal, pi_over, after, written, with_binder, with_binders, under, is_pi, resolved, applied, pi_applied, context, items_before, judgement}
 use Rattle.ab_formulas.specs.Declarations.{Declarations, signature_in}
 use Rattle.ab_formulas.specs.Sequents.{Variable, Sequent, goal_names}
 use Rattle.ab_formulas.specs.NamedGoals.{named}
@@ -28,6 +28,7 @@ module _ (f : ℕ → ℕ) where
   told (known h A) = known (translate_head f h) A
   told (free x p) = free x p
   told (apply d e) = apply (told d) (told e)
+  told (behind d e) = behind (told d) (told e)
   told (abs x p e) = abs x p (told e)
   told (equal d e) = equal (told d) (told e)
   told (bind q x p w e) = bind q x p w (told e)
@@ -37,6 +38,7 @@ module _ (f : ℕ → ℕ) where
   places_told (known h A) = refl
   places_told (free x p) = refl
   places_told (apply d e) = ap (λ l. l ++ places_of (told e)) (places_told d) ∙ ap (λ l. places_of d ++ l) (places_told e)
+  places_told (behind d e) = ap (λ l. l ++ places_of (told e)) (places_told d) ∙ ap (λ l. places_of d ++ l) (places_told e)
   places_told (abs x p e) = ap (λ l. p ∷ l) (places_told e)
   places_told (equal d e) = ap (λ l. l ++ places_of (told e)) (places_told d) ∙ ap (λ l. places_of d ++ l) (places_told e)
   places_told (bind q x p w e) = ap (λ l. p ∷ l) (places_told e)
@@ -107,6 +109,7 @@ module _ (f : ℕ → ℕ) where
   pi_told (known h A) = refl
   pi_told (free x p) = refl
   pi_told (apply d e) = refl
+  pi_told (behind d e) = refl
   pi_told (abs x p e) = refl
   pi_told (equal d e) = refl
   pi_told (bind q x p w e) = refl
@@ -125,6 +128,26 @@ module _ (f : ℕ → ℕ) where
   which_told : (t : Bool) (a b c d : Found) → a ≡ told_found c → b ≡ told_found d → (if t then a else b) ≡ told_found (if t then c else d)
   which_told true a b c d e h = e
   which_told false a b c d e h = h
+
+  put_told : (a b : Found) → made_of_both put_before (told_found a) (told_found b) ≡ told_found (made_of_both put_before a b)
+  put_told a b = both_told put_before (λ d e. refl) a b
+
+  first_told : (c : Tree) (a b : Found) → b ≡ told_found a → first_list c b ≡ told_found (first_list c a)
+  first_told c a b e = which_told (is_list c) b (made_of_both put_before (Ok empty_list) b) a (made_of_both put_before (Ok empty_list) a) e (ap (made_of_both put_before (Ok empty_list)) e ∙ put_told (Ok empty_list) a)
+
+  applied_both : (a b c d : Found) → c ≡ told_found a → d ≡ told_found b → made_of_both apply c d ≡ told_found (made_of_both apply a b)
+  applied_both a b c d e h = ap (λ z. made_of_both apply z d) e ∙ ap (made_of_both apply (told_found a)) h ∙ both_told apply (λ x y. refl) a b
+
+  -- a judgement's head, which is given its list
+  about_told : (l : logic.Logical) (a b : Found) → b ≡ told_found a
+      → made_of (apply (known (logical l) (logic.logical_type l))) b ≡ told_found (made_of (apply (known (logical l) (logic.logical_type l))) a)
+  about_told l a b e = ap (made_of (apply (known (logical l) (logic.logical_type l)))) e ∙ made_told (apply (known (logical l) (logic.logical_type l))) (apply (known (logical l) (logic.logical_type l))) (λ d. refl) a
+
+  with_goal_told : (a g b h : Found) → b ≡ told_found a → h ≡ told_found g → with_goal b h ≡ told_found (with_goal a g)
+  with_goal_told a g b h e k = applied_both _ g _ h (about_told logic.judgement a b e) k
+
+  with_focus_told : (a q g b r h : Found) → b ≡ told_found a → r ≡ told_found q → h ≡ told_found g → with_focus_and_goal b r h ≡ told_found (with_focus_and_goal a q g)
+  with_focus_told a q g b r h e j k = applied_both _ g _ h (applied_both _ q _ r (about_told logic.focused_judgement a b e) j) k
 
   -- A WHOLE EXPRESSION
 
@@ -162,7 +185,8 @@ module _ (f : ℕ → ℕ) where
           ap (λ a. joined other i a (resolved other bs u)) (resolved_told bs t) ∙ ap (λ b. joined other i (told_found (resolved one bs t)) b) (resolved_told bs u)
           ∙ joined_told i (resolved one bs t) (resolved one bs u)
       resolved_told bs (tree.bind q ys e p) = ap (with_binders kinds q ys) (resolved_told (under ys bs) e) ∙ binders_told kinds q ys (resolved one (under ys bs) e)
-      resolved_told bs (tree.judge cs g h p) = refl
+      resolved_told bs (tree.judge cs g h p) =
+          judgement_told bs (context one bs cs) g (resolved one bs h) (context other bs cs) (resolved other bs h) (context_told bs cs) (resolved_told bs h)
 
       applied_told : (bs : List Name) (a b : Found) → b ≡ told_found a → (vs : Trees) → applied other bs b vs ≡ told_found (applied one bs a vs)
       applied_told bs a b e no_trees = e
@@ -174,6 +198,21 @@ module _ (f : ℕ → ℕ) where
       given_pi_told bs no_trees = refl
       given_pi_told bs (tree.tree v no_trees) = ap (after pi_over) (resolved_told bs v) ∙ after_told (resolved one bs v)
       given_pi_told bs (tree.tree v (tree.tree u us)) = refl
+
+      context_told : (bs : List Name) (cs : Trees) → context other bs cs ≡ told_found (context one bs cs)
+      context_told bs no_trees = refl
+      context_told bs (tree.tree c cs) =
+          items_told bs (first_list c (resolved one bs c)) (first_list c (resolved other bs c)) (first_told c (resolved one bs c) (resolved other bs c) (resolved_told bs c)) cs
+
+      items_told : (bs : List Name) (a b : Found) → b ≡ told_found a → (cs : Trees) → items_before other bs b cs ≡ told_found (items_before one bs a cs)
+      items_told bs a b e no_trees = e
+      items_told bs a b e (tree.tree c cs) =
+          items_told bs (made_of_both put_before a (resolved one bs c)) (made_of_both put_before b (resolved other bs c))
+          (ap (λ z. made_of_both put_before z (resolved other bs c)) e ∙ ap (made_of_both put_before (told_found a)) (resolved_told bs c) ∙ put_told a (resolved one bs c)) cs
+
+      judgement_told : (bs : List Name) (a : Found) (k : Focus) (g b h : Found) → b ≡ told_found a → h ≡ told_found g → judgement other bs b k h ≡ told_found (judgement one bs a k g)
+      judgement_told bs a tree.unfocused g b h e j = with_goal_told a g b h e j
+      judgement_told bs a (tree.focused q) g b h e j = with_focus_told a (resolved one bs q) g b (resolved other bs q) h e (resolved_told bs q) j
 
 -- in goals that are one but for the numbers, where further constants are known
 pub resolved_with : (D : Declarations) (s u : Sequent) (r : Renumbering s u) → named s ≡ named u → (more : List Nominal) (e : Tree) → resolved (scope_with D u more) [] e ≡ made_of (told r.by) (resolved (scope_with D s more) [] e)

@@ -1,4 +1,4 @@
--- A session is sound in the beginning, and behind each effect.
+-- A session is sound in the beginning, and behind each command that goes forward.
 use Rattle.std.specs.Prelude.{codes, All}
 use Rattle.std.proofs.Common.{◌≡◌, ℕ, List, [], ◌∷◌, ◌++◌, map, Bool, Option, Some, None, refl, sym, ◌∙◌, ap, subst, append_assoc}
 use Rattle.std.proofs.lemmas.List.Elements.{All-nil, All-cons, All-head, All-tail}
@@ -20,10 +20,10 @@ use Rattle.ab_meaning.specs.Terms.{kinds_in}
 use Rattle.ab_declare.specs.DeclarationCommands.{Declares, new_kinds, new_constants, new_predicates}
 use Rattle.ab_declare.specs.DefinitionCommands.{Defines, predicate_of, block_with}
 use Rattle.ab_infer.specs.Lists.{HasLists}
-use Rattle.ab_states.specs.State.{Attempt, State, empty}
+use Rattle.ab_states.specs.State.{Attempt, State, Entry, empty}
 use Rattle.ab_states.specs.Reply.{Reply}
-use Rattle.ab_states.specs.StateEffects as effect
-use Rattle.ab_states.specs.StateEffects.{HasEffect}
+use Rattle.ab_states.specs.ForwardEffects as effect
+use Rattle.ab_states.specs.ForwardEffects.{GoesForward}
 use Rattle.ab_determinism.specs.Sound.{AreSound, ProvesSentence, IsSound}
 use Rattle.ab_determinism.proofs.Defining.{all_define}
 use Rattle.ab_determinism.proofs.Statements.{stated_sentence}
@@ -45,7 +45,10 @@ no_predicate (d ∷ ps) p = no_predicate ps p
 -- what is declared behind them keeps what begins
 
 pub has_lists : (D : Declarations) → AreSound D → HasLists D
-has_lists D sound = more_constants first_declarations D sound.first (codes "::") (arrows (o ∷ olist ∷ []) olist) refl
+has_lists D sound = (
+  more_constants first_declarations D sound.first (codes "::") (arrows (o ∷ olist ∷ []) olist) refl,
+  more_constants first_declarations D sound.first (codes "nil") olist refl,
+)
 
 module _ (D : Declarations) (sound : AreSound D) where
   sound_behind : (E : Declarations) → HaveDefinitions (D ++ E) → HaveSentences (D ++ E) → AreSound (D ++ E)
@@ -64,7 +67,8 @@ module _ (D : Declarations) (sound : AreSound D) where
       let B : Block = defined (block_with inductive ps d.clauses) in
       let before : AreSound (D ++ E) = nothing_told E (no_predicate ps) in
       let whole : HaveDefinitions ((D ++ E) ++ a_block B ∷ []) =
-      definitions_defined (D ++ E) B before.definitions (all_define (names ps) (kinds_in D) (signature_in (D ++ E)) (has_lists (D ++ E) before) cs d.clauses d.meant d.right) in
+      let lists = has_lists (D ++ E) before in
+      definitions_defined (D ++ E) B before.definitions (all_define (names ps) (kinds_in D) (signature_in (D ++ E)) lists.0 lists.1 cs d.clauses d.meant d.right) in
       let same : (D ++ E) ++ a_block B ∷ [] ≡ D ++ more = append_assoc D E (a_block B ∷ []) ∙ ap (λ F. D ++ F) (sym d.is) in
       sound_behind more (subst HaveDefinitions same whole) (subst HaveSentences same (sentences_defined (D ++ E) B before.sentences))
 
@@ -82,18 +86,18 @@ module _ (D : Declarations) (sound : AreSound D) where
   still_proves E (Some a) is = still_sentence D (D ++ E) (E, refl) a.formula is
 
 -- BEHIND EACH EFFECT
-pub sound_effect : {s t : State} {bytes : List ℕ} {r : Reply} → HasEffect s bytes r t → IsSound s → IsSound t
-sound_effect (effect.unread c f) sound = sound
-sound_effect (effect.declined c r k d) sound = sound
-sound_effect {s = s} (effect.declared c more k d) sound = record { declarations = sound_declared s.declarations sound.declarations d; attempt = still_proves s.declarations sound.declarations more s.attempt sound.attempt }
-sound_effect {s = s} (effect.stated x e F k n d) sound = record { declarations = sound.declarations; attempt = stated_sentence s.declarations (has_lists s.declarations sound.declarations) e F d }
-sound_effect (effect.showed x F k e) sound = sound
-sound_effect (effect.ended k) sound = sound
-sound_effect (effect.switched on k) sound = record { declarations = sound.declarations; attempt = sound.attempt }
-sound_effect (effect.given_up k) sound = record { declarations = sound.declarations; attempt = tt }
-sound_effect (effect.denied l c a q gs v f d) sound = sound
-sound_effect {s = s} (effect.led l c a q gs ps h hs f m e) sound = record { declarations = sound.declarations; attempt = subst (ProvesSentence s.declarations) f.attempt sound.attempt }
-sound_effect {s = s} (effect.proved l c a q gs ps f m e) sound =
+pub sound_forward : {s t : State} {e : Entry} {r : Reply} → GoesForward s e r t → IsSound s → IsSound t
+sound_forward (effect.unread c f) sound = sound
+sound_forward (effect.declined c r k d) sound = sound
+sound_forward {s = s} (effect.declared c more k d) sound = record { declarations = sound_declared s.declarations sound.declarations d; attempt = still_proves s.declarations sound.declarations more s.attempt sound.attempt }
+sound_forward {s = s} (effect.stated x e F k n d) sound = record { declarations = sound.declarations; attempt = stated_sentence s.declarations (has_lists s.declarations sound.declarations) e F d }
+sound_forward (effect.showed x F k e) sound = sound
+sound_forward (effect.ended k) sound = sound
+sound_forward (effect.switched on k) sound = record { declarations = sound.declarations; attempt = sound.attempt }
+sound_forward (effect.given_up k) sound = record { declarations = sound.declarations; attempt = tt }
+sound_forward (effect.denied l c a q gs v f d) sound = sound
+sound_forward {s = s} (effect.led l c a q gs ps h hs f m e) sound = record { declarations = sound.declarations; attempt = subst (ProvesSentence s.declarations) f.attempt sound.attempt }
+sound_forward {s = s} (effect.proved l c a q gs ps f m e) sound =
     record { declarations = sound_theorem s.declarations sound.declarations a.name a.formula (subst (ProvesSentence s.declarations) f.attempt sound.attempt); attempt = tt }
 
 -- IN THE BEGINNING `member` is defined

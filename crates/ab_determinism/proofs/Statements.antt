@@ -11,9 +11,9 @@ use Rattle.ab_grammar.specs.declared.Infix.{Infix}
 use Rattle.ab_grammar.specs.declared.Infix.TheVariants.{Arrow, Or, And, Equal, Imply, With, Cons}
 use Rattle.ab_grammar.specs.declared.Quant.{Quant}
 use Rattle.ab_grammar.specs.Tree as tree
-use Rattle.ab_grammar.specs.Tree.{Tree, Trees, no_trees}
-use Rattle.ab_meaning.specs.ResolvedNames.{Name, Resolved, bound, known, free, apply, abs, equal, bind}
-use Rattle.ab_meaning.specs.Scopes.{Scope, Place, elsewhere, or_else, index_of, truth_named, variable_named, constant_at, nominal_named, clause_variable, head_named, Found, or_unknown, made_of, made_of_both, connective, joined, pi_over, after, written, with_binder, with_binders, under, is_pi, resolved, applied, pi_applied}
+use Rattle.ab_grammar.specs.Tree.{Tree, Trees, no_trees, Focus}
+use Rattle.ab_meaning.specs.ResolvedNames.{Name, Resolved, bound, known, free, apply, behind, abs, equal, bind}
+use Rattle.ab_meaning.specs.Scopes.{Scope, Place, elsewhere, or_else, index_of, truth_named, variable_named, constant_at, nominal_named, clause_variable, head_named, Found, or_unknown, made_of, made_of_both, connective, joined, before_list, empty_list, put_before, is_list, first_list, with_goal, with_focus_and_goal, pi_over, after, written, with_binder, with_binders, under, is_pi, resolved, applied, pi_applied, context, items_before, judgement}
 use Rattle.ab_meaning.specs.Normal.{normal_form}
 use Rattle.ab_meaning.specs.ClosedScopes.{IsClosedScope}
 use Rattle.ab_meaning.proofs.Heads.{RawHas, reads_has, normal_form_has}
@@ -74,7 +74,7 @@ module _ (sg : Signature) where
   both_fine f (Ok a) (Err y) k p q = tt
   both_fine f (Err x) b k p q = tt
 
-  module _ (s : Scope) (c : IsClosedScope s) (signature : s.constants ≡ sg) (conses : sg (codes "::") ≡ Some (arrows (o ∷ olist ∷ []) olist)) where
+  module _ (s : Scope) (c : IsClosedScope s) (signature : s.constants ≡ sg) (conses : sg (codes "::") ≡ Some (arrows (o ∷ olist ∷ []) olist)) (nils : sg (codes "nil") ≡ Some olist) where
     no_clause_variable : (p : Place) (x : Name) (n : ℕ) → p ≡ elsewhere → OptionFine (clause_variable p x n)
     no_clause_variable p x n e = rw e tt
 
@@ -109,6 +109,7 @@ module _ (sg : Signature) where
     pi_over_fine (known h A) p = tt
     pi_over_fine (free x n) p = tt
     pi_over_fine (apply e f) p = tt
+    pi_over_fine (behind e f) p = tt
     pi_over_fine (abs x n e) p = p
     pi_over_fine (equal e f) p = tt
     pi_over_fine (bind q x n w e) p = tt
@@ -130,6 +131,22 @@ module _ (sg : Signature) where
     found_if true o u p q = p
     found_if false o u p q = q
 
+    empty_fine : FoundFine (Ok empty_list)
+    empty_fine = λ G. nils
+
+    put_before_fine : (l t : Resolved) → HeadsFit sg l → HeadsFit sg t → HeadsFit sg (put_before l t)
+    put_before_fine l t p q = (p, ((λ G. conses), q))
+
+    first_fine : (c : Tree) (f : Found) → FoundFine f → FoundFine (first_list c f)
+    first_fine c f p = found_if (is_list c) f _ p (both_fine put_before (Ok empty_list) f put_before_fine empty_fine p)
+
+    with_goal_fine : (l g : Found) → FoundFine l → FoundFine g → FoundFine (with_goal l g)
+    with_goal_fine l g p q = both_fine apply _ g (λ r t x y. (x, y)) (made_fine _ l (λ r x. ((λ G. refl), x)) p) q
+
+    with_focus_fine : (l f g : Found) → FoundFine l → FoundFine f → FoundFine g → FoundFine (with_focus_and_goal l f g)
+    with_focus_fine l f g p q r =
+        both_fine apply _ g (λ a t x y. (x, y)) (both_fine apply _ f (λ a t x y. (x, y)) (made_fine _ l (λ a x. ((λ G. refl), x)) p) q) r
+
     mutual
       resolved_fine : (bs : List Name) (e : Tree) → FoundFine (resolved s bs e)
       resolved_fine bs (tree.name x p) = or_unknown_fine x (head_named s bs x p) (head_fine bs x p)
@@ -137,7 +154,7 @@ module _ (sg : Signature) where
       resolved_fine bs (tree.abs x e p) = made_fine (abs x p) (resolved s (x ∷ bs) e) (λ r q. q) (resolved_fine (x ∷ bs) e)
       resolved_fine bs (tree.join o t u p) = joined_fine o (resolved s bs t) (resolved s bs u) (resolved_fine bs t) (resolved_fine bs u)
       resolved_fine bs (tree.bind q xs e p) = binders_fine q xs (resolved s (under xs bs) e) (resolved_fine (under xs bs) e)
-      resolved_fine bs (tree.judge cs f g p) = tt
+      resolved_fine bs (tree.judge cs f g p) = judgement_fine bs (context s bs cs) f (resolved s bs g) (context_fine bs cs) (resolved_fine bs g)
 
       applied_fine : (bs : List Name) (f : Found) (vs : Trees) → FoundFine f → FoundFine (applied s bs f vs)
       applied_fine bs f no_trees p = p
@@ -147,6 +164,19 @@ module _ (sg : Signature) where
       pi_applied_fine bs no_trees = tt
       pi_applied_fine bs (tree.tree v no_trees) = after_fine (resolved s bs v) (resolved_fine bs v)
       pi_applied_fine bs (tree.tree v (tree.tree w vs)) = tt
+
+      context_fine : (bs : List Name) (cs : Trees) → FoundFine (context s bs cs)
+      context_fine bs no_trees = empty_fine
+      context_fine bs (tree.tree c cs) = items_fine bs (first_list c (resolved s bs c)) cs (first_fine c (resolved s bs c) (resolved_fine bs c))
+
+      items_fine : (bs : List Name) (l : Found) (cs : Trees) → FoundFine l → FoundFine (items_before s bs l cs)
+      items_fine bs l no_trees p = p
+      items_fine bs l (tree.tree c cs) p =
+          items_fine bs (made_of_both put_before l (resolved s bs c)) cs (both_fine put_before l (resolved s bs c) put_before_fine p (resolved_fine bs c))
+
+      judgement_fine : (bs : List Name) (l : Found) (f : Focus) (g : Found) → FoundFine l → FoundFine g → FoundFine (judgement s bs l f g)
+      judgement_fine bs l tree.unfocused g p q = with_goal_fine l g p q
+      judgement_fine bs l (tree.focused f) g p q = with_focus_fine l (resolved s bs f) g p (resolved_fine bs f) q
 
     names_fit : (e : Tree) (r : Resolved) → resolved s [] e ≡ Ok r → HeadsFit sg r
     names_fit e r is = subst FoundFine is (resolved_fine [] e)
@@ -158,7 +188,7 @@ stated_sentence D lists e F m =
     let closed : IsClosedScope (scope_of D) = record { variables = refl; place = refl } in
     let declared = names_are_declared (scope_of D) closed e m.named m.names in
     let other = one_too IsDeclared made nominal_of m.named prop declared m.raw m.reading in
-    let fit = names_fit sg (scope_of D) closed refl lists e m.named m.names in
+    let fit = names_fit sg (scope_of D) closed refl lists.0 lists.1 e m.named m.names in
     let typed = normal_form_typed sg (subst (λ r. FitsType sg [] r prop) other.is (reading_fits sg nominal_of other.reading.types (λ x B G. refl) fit other.reading.reads)) in
     let heads = reads_has IsDeclared admits_declared made m.reading.reading.types m.reading.reading.reads declared in
     subst (IsSentence sg) (sym m.normal) (sentence sg (normal_form sg [] m.raw) typed (normal_form_has IsDeclared sg m.raw (subst (RawHas IsDeclared) m.reading.is heads)))

@@ -1,24 +1,27 @@
 -- What a proof command leaves of a proof, and of an attempt at a theorem.
 use Rattle.std.specs.Prelude.{IfSome, Result, Ok, Err, OnErr}
-use Rattle.std.proofs.Common.{◌≡◌, ◌≢◌, ℕ, List, [], ◌∷◌, ◌++◌, ◌+◌, suc, length, Option, Some, None, refl, sym, ◌∙◌, ap, subst, arith, append-nil, length-append}
+use Rattle.std.proofs.Common.{◌≡◌, ◌≢◌, ℕ, List, [], ◌∷◌, ◌++◌, Option, Some, None, refl, sym, ◌∙◌, ap, subst}
 use Rattle.ab_grammar.specs.CommandTrees as told
 use Rattle.ab_grammar.specs.CommandTrees.{ProofCommand}
 use Rattle.ab_formulas.specs.Declarations.{Declarations, a_theorem, signature_in, theorem_in}
 use Rattle.ab_formulas.specs.Formulas.{IsSentence}
+use Rattle.ab_term.specs.Terms.{Read}
 use Rattle.ab_logic.specs.WorldGrowth.{Grows}
 use Rattle.ab_formulas.specs.NewNames.{Label}
 use Rattle.ab_formulas.specs.Sequents.{Sequent}
 use Rattle.ab_logic.specs.Worlds.{read, Holds, declarations_of, IsWorld}
 use Rattle.ab_logic.specs.declared.world.World.{World}
-use Rattle.ab_session.proofs.Counted.{added_in, as_many}
 use Rattle.ab_logic.proofs.Growing.{grows_on}
 use Rattle.ab_theory.specs.Derivations.{History, Valid, open_goals, IsDerivation}
-use Rattle.ab_steps.specs.ab_kernel.specs.Layout.{Held, history_of, IsProof}
-use Rattle.ab_steps.specs.ab_kernel.proofs.Later.{same_history, still_proof}
+use Rattle.ab_theory.specs.Growth.{AddsNoClause}
+use Rattle.ab_theory.proofs.SameRules.{adds_behind}
+use Rattle.ab_steps.specs.ab_kernel.specs.Layout.{Held, history_of}
+use Rattle.ab_steps.specs.ab_kernel.proofs.Later.{AddsNone, same_history, outlived_proof}
 use Rattle.ab_effects.specs.ProofCommands.{effect}
 use Rattle.ab_meaning.specs.Refusals as row
 use Rattle.ab_effects.specs.Row.{Row, Leads, Refuses}
 use Rattle.ab_steps.specs.Progress.{goals_of, Follows}
+use Rattle.ab_steps.proofs.Following.{nothing_left}
 use Rattle.ab_steps.specs.ProofEffects.{IsApplied, IsRefused, RefusedBy}
 use Rattle.ab_steps.specs.declared.fault.ProofCommandFault.{ProofCommandFault}
 use Rattle.ab_steps.specs.declared.fault.ProofCommandFault.TheVariants.{Unknown, Clash, TypeClash, Untyped, NoHypothesis, WrongShape, Mark, NoMatch, NotPattern, Unresolved, NamesSpent, Memory}
@@ -116,17 +119,17 @@ pub denied_by_search : (l : Label) (n : ℕ) (w : World) (p : Held)
     → ((s : Sequent) (rest : List Sequent) → goals_of w p ≡ s ∷ rest → ¬ CanBeClosed (declarations_of w) n s) → IsDenied l (told.search n) w p NotFound
 denied_by_search l n w p none s rest e = (none s rest e, refl)
 
--- A world in which nothing was declared since
+-- a theorem adds no clause of the program
+theorem_adds_none : (v u : World) (x : List ℕ) (F : Read) → declarations_of u ≡ declarations_of v ++ a_theorem x F ∷ [] → AddsNone v u
+theorem_adds_none v u x F more = subst (AddsNoClause (declarations_of v)) (sym more) (adds_behind (declarations_of v) (a_theorem x F ∷ []) refl)
 
-nothing_more : {X : Type 0} (xs more ys : List X) → ys ≡ xs ++ more → length ys ≡ length xs → ys ≡ xs
-nothing_more xs [] ys e n = e ∙ append-nil xs
-nothing_more xs (x ∷ more) ys e n = let longer : length ys ≡ length xs + suc (length more) = ap length e ∙ length-append xs (x ∷ more) in absurd (omega (arith, longer, n))
+-- A world that has types, terms and declarations more, if any
 
 pub has_more : (w v : World) (p q : Held) → Follows w p v q → HasMore w v
 has_more w v p q f = record {
   types = f.grows.types;
   marks = f.grows.marks;
-  additions = nothing_more w.additions f.grows.additions.0 v.additions f.grows.additions.1 (sym (as_many v 0 v.additions) ∙ ap added_in f.declared ∙ as_many w 0 w.additions);
+  additions = f.grows.additions;
 }
 
 -- what holds of a value, where it is there
@@ -145,7 +148,7 @@ module _ (w v : World) (a : Attempt) (q : Held) (is : IsTried w a) (f : Follows 
   with_proof = record { name = a.name; formula = a.formula; proof = q }
 
   pub stayed : history_of v q ≡ history_of w a.proof → IsUnchanged w a v with_proof
-  stayed same = record { grows = f.grows; declared = f.declared; name = refl; formula = refl; proof = f.proof; history = same }
+  stayed same = record { grows = f.grows; declared = f.declared; name = refl; formula = refl; proof = nothing_left w v a.proof q f same }
 
   pub went_on : (l : Label) (c : ProofCommand) → IsMade l c w a.proof v q → goals_of v q ≢ [] → GoesOn l c w a v with_proof
   went_on l c made left = record { made = made; follows = f; name = refl; formula = refl; goals = left }
@@ -173,7 +176,9 @@ module _ (w v : World) (a : Attempt) (q : Held) (is : IsTried w a) (f : Follows 
         grows = grows_on w v u f.grows grows;
         declared = more ∙ ap (λ D. D ++ a_theorem a.name (read v a.formula) ∷ []) f.declared ∙ ap (λ G. declarations_of w ++ a_theorem a.name G ∷ []) F;
         name = refl;
-        proof = still_proof v u grows q f.proof;
+        formula = refl;
+        beyond = f.beyond;
+        proof = outlived_proof v u grows (theorem_adds_none v u a.name (read v a.formula) more) q f.proof;
         derives =
             subst (λ (k : History). IsDerivation (declarations_of w) (read w a.formula) k.tree) (sym h)
             (record {
@@ -185,19 +190,16 @@ module _ (w v : World) (a : Attempt) (q : Held) (is : IsTried w a) (f : Follows 
       }
 
 -- a refused command: the world is cut back, and the proof is the same
-pub refused_so : (l : Label) (c : ProofCommand) (w u : World) (a : Attempt) (q : Held) (r : Refusal) → IsWorld w → IsTried w a → IsDenied l c w a.proof r → IsRestored w u → q ≡ a.proof
+pub refused_so : (l : Label) (c : ProofCommand) (w u : World) (a : Attempt) (q : Held) (r : Refusal) → IsWorld w → IsDenied l c w a.proof r → IsRestored w u → q ≡ a.proof
     → IsRefusedSo l c w a u (record { name = a.name; formula = a.formula; proof = q }) r
-refused_so l c w u a q r world is denied restored same =
-    let grows = restored_grows w u world restored in
-    record {
-      denied = denied;
-      unchanged = record {
-        grows = grows;
-        declared = restored_declares w u restored;
-        name = refl;
-        formula = refl;
-        proof = subst (IsProof u) (sym same) (still_proof w u grows a.proof is.proof);
-        history = ap (history_of u) same ∙ same_history w u grows a.proof is.proof;
-      };
-      restored = restored;
-    }
+refused_so l c w u a q r world denied restored same = record {
+  denied = denied;
+  unchanged = record {
+    grows = restored_grows w u world restored;
+    declared = restored_declares w u restored;
+    name = refl;
+    formula = refl;
+    proof = same;
+  };
+  restored = restored;
+}

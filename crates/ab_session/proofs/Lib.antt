@@ -1,6 +1,10 @@
-mod Counted
 mod Sayings
 mod Sessions
 mod Carried
+mod StepCounts
+mod Origins
+mod Single
 mod Effects
-mod Replaying
+mod KeptCommands
+mod TakingBack
+mod Began

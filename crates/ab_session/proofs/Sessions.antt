@@ -13,16 +13,19 @@ use Rattle.ab_logic.specs.declared.world.World.{World}
 use Rattle.ab_formulas.proofs.Declaring.{theorems_in-append}
 use Rattle.ab_theory.specs.Derivations.{Derivation, History, root, proves, open_goals, IsDerivation}
 use Rattle.ab_steps.specs.ab_kernel.specs.Layout.{Held, history_of, IsProof}
-use Rattle.ab_steps.specs.ab_kernel.proofs.Later.{same_history, still_proof}
+use Rattle.ab_steps.specs.ab_kernel.proofs.Later.{same_history, same_read, still_holds, still_proof}
 use Rattle.ab_steps.specs.Progress.{goals_of}
 use Rattle.ab_formulas.specs.NamedGoals.{named}
 use Rattle.ab_declare.specs.DeclarationCommands.{Declares, new_kinds, new_constants, new_predicates}
 use Rattle.ab_declare.specs.DefinitionCommands.{predicate_of, block_with}
-use Rattle.ab_states.specs.State as plain
 use Rattle.ab_states.specs.DerivedTheorems.{IsDerived}
+use Rattle.ab_states.specs.State.{empty}
+use Rattle.ab_states.specs.Replay as replay
+use Rattle.ab_states.specs.Replay.{IsReplayed}
 use Rattle.ab_session.specs.declared.attempt.Attempt.{Attempt}
-use Rattle.ab_session.specs.Contents.{Contents, attempt_of, state_of}
-use Rattle.ab_session.specs.Sessions.{IsTried, IsProofOf, AreProofs, IsSession}
+use Rattle.ab_session.specs.Contents.{Contents, attempt_of, entries_of, state_of}
+use Rattle.ab_session.specs.Sessions.{IsTried, IsProofOf, AreProofs, IsSound}
+use Rattle.ab_session.specs.Origins.{begun, IsSession}
 
 -- a theorem stays derived where more is declared
 derived_on : (D more : Declarations) (place : ℕ) (d : Derivation) → IsDerived D place d → IsDerived (D ++ more) place d
@@ -39,9 +42,9 @@ derived_on D more place d is = record {
 -- a proof stays that of its theorem in each later world
 later_proof : (w v : World) (place : ℕ) (p : Held) → Grows w v → IsProofOf w place p → IsProofOf v place p
 later_proof w v place p grows is = record {
-  proof = still_proof w v grows p is.proof;
+  held = still_holds w v grows p is.held;
   derived =
-      subst (λ (h : History). IsDerived (declarations_of v) place h.tree) (sym (same_history w v grows p is.proof))
+      subst (λ (h : History). IsDerived (declarations_of v) place h.tree) (sym (same_read w v grows p is.held))
       (subst (λ D. IsDerived D place (history_of w p).tree) (sym grows.declarations.1) (derived_on (declarations_of w) grows.declarations.0 place (history_of w p).tree is.derived));
 }
 
@@ -78,7 +81,7 @@ proved_proofs w v ps p x F grows more proof derives are = record {
       elim (pushed ps p q place e) [
         | inl f ↦ later_proof w v place q grows (are.each place q f)
         | inr l ↦ subst (λ r. IsProofOf v place r) (sym l.1) (record {
-          proof = proof;
+          held = proof.held;
           derived =
               subst (λ D. IsDerived D place (history_of v p).tree) (sym more)
               (derived_last (declarations_of w) x F (history_of v p).tree place derives (sym (l.0 ∙ are.counted)));
@@ -93,7 +96,7 @@ same_tried w v a grows same is =
     let h = same_history w v grows a.proof is.proof in
     let F = grows.readings a.formula is.held in
     record {
-      proof = still_proof w v grows a.proof is.proof;
+      proof = still_proof w v grows same a.proof is.proof;
       begins = ap (λ (k : History). root k.tree) h ∙ is.begins ∙ ap (λ G. proves G 0) (sym F);
       held = grows.ids a.formula is.held;
       sentence = subst (λ D. IsSentence (signature_in D) (read v a.formula)) (sym same) (subst (IsSentence (signature_in (declarations_of w))) (sym F) is.sentence);
@@ -116,19 +119,19 @@ same_attempts w v (Some a) grows is = ap (λ b. Some b) (same_attempt w v a grow
 
 -- the session in another world
 abbrev pub in_world : World → Contents → Contents
-in_world v s = record { world = v; proofs = s.proofs; attempt = s.attempt; all_subgoals = s.all_subgoals; kept = s.kept }
+in_world v s = record { world = v; proofs = s.proofs; attempt = s.attempt; all_subgoals = s.all_subgoals; past = s.past }
 
-pub same_session : (s : Contents) (v : World) → Grows s.world v → declarations_of v ≡ declarations_of s.world → IsSession s → IsSession (in_world v s)
+pub same_session : (s : Contents) (v : World) → Grows s.world v → declarations_of v ≡ declarations_of s.world → IsSound s → IsSound (in_world v s)
 same_session s v grows same is = record {
   world = grows.world;
   proofs = same_proofs s.world v s.proofs grows same is.proofs;
   attempt = same_if s.world v s.attempt grows same is.attempt;
 }
 
-pub same_state : (s : Contents) (v : World) → Grows s.world v → declarations_of v ≡ declarations_of s.world → IsSession s → state_of (in_world v s) ≡ state_of s
+pub same_state : (s : Contents) (v : World) → Grows s.world v → declarations_of v ≡ declarations_of s.world → IsSound s → state_of (in_world v s) ≡ state_of s
 same_state s v grows same is =
-    ap (λ D. record { declarations = D; attempt = option_map (attempt_of v) s.attempt; all_subgoals = s.all_subgoals; kept = s.kept }) same
-    ∙ ap (λ a. record { declarations = declarations_of s.world; attempt = a; all_subgoals = s.all_subgoals; kept = s.kept }) (same_attempts s.world v s.attempt grows is.attempt)
+    ap (λ D. record { declarations = D; attempt = option_map (attempt_of v) s.attempt; all_subgoals = s.all_subgoals; kept = entries_of s.past }) same
+    ∙ ap (λ a. record { declarations = declarations_of s.world; attempt = a; all_subgoals = s.all_subgoals; kept = entries_of s.past }) (same_attempts s.world v s.attempt grows is.attempt)
 
 -- kinds, constants and definitions are no theorems
 
@@ -160,12 +163,19 @@ as_many D c more E declares e =
 no_proofs : (w : World) → theorems_in (declarations_of w) ≡ [] → AreProofs w []
 no_proofs w none = record { counted = sym (ap length none); each = λ place p e. absurd (cc) }
 
-pub new_session : (w : World) → IsWorld w → declarations_of w ≡ first_declarations → IsSession (record { world = w; proofs = []; attempt = None; all_subgoals = true; kept = [] })
-new_session w world says = record {
+new_sound : (w : World) → IsWorld w → declarations_of w ≡ first_declarations → IsSound (record { world = w; proofs = []; attempt = None; all_subgoals = true; past = [] })
+new_sound w world says = record {
   world = world;
   proofs = no_proofs w (ap theorems_in says);
   attempt = tt;
 }
 
-pub new_state : (w : World) → declarations_of w ≡ first_declarations → state_of (record { world = w; proofs = []; attempt = None; all_subgoals = true; kept = [] }) ≡ plain.empty
+pub new_state : (w : World) → declarations_of w ≡ first_declarations → state_of (record { world = w; proofs = []; attempt = None; all_subgoals = true; past = [] }) ≡ empty
 new_state w says = ap (λ D. record { declarations = D; attempt = None; all_subgoals = true; kept = [] }) says
+
+pub new_session : (w : World) → IsWorld w → declarations_of w ≡ first_declarations → IsSession (record { world = w; proofs = []; attempt = None; all_subgoals = true; past = [] })
+new_session w world says = record {
+  sound = new_sound w world says;
+  replayed = subst IsReplayed (sym (new_state w says)) replay.none;
+  remembers = begun refl refl;
+}

@@ -1,15 +1,23 @@
 -- What a session holds, and the state that it is.
-use Rattle.std.specs.Prelude.{ℕ, List, Bool, Option, option_map, map}
+use Rattle.std.specs.Prelude.{ℕ, List, [], ◌∷◌, ◌++◌, Bool, Option, option_map, map, reverse}
 use Rattle.ab_logic.specs.Worlds.{read, declarations_of}
 use Rattle.ab_logic.specs.declared.world.World.{World}
 use Rattle.ab_steps.specs.ab_kernel.specs.Layout.{Held}
 use Rattle.ab_steps.specs.Progress.{goals_of}
 use Rattle.ab_formulas.specs.NamedGoals.{named}
 use Rattle.ab_states.specs.State as plain
-use Rattle.ab_states.specs.State.{State}
+use Rattle.ab_states.specs.State.{State, Entry}
 use Rattle.ab_session.specs.declared.attempt.Attempt.{Attempt}
+use Rattle.ab_session.specs.declared.command_history.Before.{Before}
+use Rattle.ab_session.specs.declared.command_history.Deed.{Deed}
 use Rattle.ab_session.specs.declared.command_history.Kept.{Kept}
 use Rattle.ab_session.specs.declared.session.Session.TheInside.{Inside}
+
+-- a command that is kept: its bytes, how the session was before it, and what it did with the open proof
+pub record Past : Type 0 where
+  pub bytes : List ℕ
+  pub before : Before
+  pub deed : Deed
 
 -- what contracts see of a session
 pub record Contents : Type 0 where
@@ -19,8 +27,11 @@ pub record Contents : Type 0 where
   -- the proof that is being made
   pub attempt : Option Attempt
   pub all_subgoals : Bool
-  -- the bytes of the commands that are kept, in order
-  pub kept : List (List ℕ)
+  -- the commands that are kept, the latest first
+  pub past : List Past
+
+abbrev pub past_of : Kept → Past
+past_of k = record { bytes = k.bytes.items; before = k.before; deed = k.deed }
 
 abbrev pub contents : Inside → Contents
 contents s = record {
@@ -28,11 +39,16 @@ contents s = record {
   proofs = s.proofs.items;
   attempt = s.attempt;
   all_subgoals = s.all_subgoals;
-  kept = map (λ (k : Kept). k.bytes.items) s.kept.items;
+  past = reverse (map past_of s.kept.items);
 }
 
 abbrev pub attempt_of : World → Attempt → plain.Attempt
 attempt_of w a = record { name = a.name; formula = read w a.formula; goals = map named (goals_of w a.proof) }
+
+-- the entries of kept commands, in order
+abbrev pub entries_of : List Past → List Entry
+entries_of [] = []
+entries_of (latest ∷ rest) = entries_of rest ++ plain.plain latest.bytes ∷ []
 
 -- THE STATE that the session is
 abbrev pub state_of : Contents → State
@@ -40,5 +56,5 @@ state_of s = record {
   declarations = declarations_of s.world;
   attempt = option_map (attempt_of s.world) s.attempt;
   all_subgoals = s.all_subgoals;
-  kept = s.kept;
+  kept = entries_of s.past;
 }

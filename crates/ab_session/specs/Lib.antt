@@ -1,6 +1,7 @@
--- What a session holds, what is true of it, and what a command leaves of it.
+-- What a session holds, what is true of it, where it came from, and what a command leaves of it.
 pub mod Contents
 pub mod Sessions
+pub mod Origins
 pub mod ProofAttempts
 pub mod SessionAnswers
 -- Libraries that the crates above name through this one.

@@ -8,7 +8,7 @@ use Rattle.ab_formulas.specs.Sequents.{Sequent}
 use Rattle.ab_logic.specs.Worlds.{read, declarations_of}
 use Rattle.ab_logic.specs.declared.world.World.{World}
 use Rattle.ab_theory.specs.Derivations.{IsDerivation}
-use Rattle.ab_steps.specs.ab_kernel.specs.Layout.{Held, history_of, IsProof}
+use Rattle.ab_steps.specs.ab_kernel.specs.Layout.{Held, history_of, IsProof, Beyond}
 use Rattle.ab_meaning.specs.Refusals.{unknown, clash, type_clash, untyped, no_hypothesis, wrong_shape, mark, no_match, not_pattern, unresolved, names_spent}
 use Rattle.ab_steps.specs.Progress.{goals_of, Follows}
 use Rattle.ab_steps.specs.declared.fault.ProofCommandFault.{ProofCommandFault}
@@ -51,8 +51,7 @@ pub record IsUnchanged (w : World) (a : Attempt) (v : World) (b : Attempt) : Typ
   pub declared : declarations_of v ≡ declarations_of w
   pub name : b.name ≡ a.name
   pub formula : b.formula ≡ a.formula
-  pub proof : IsProof v b.proof
-  pub history : history_of v b.proof ≡ history_of w a.proof
+  pub proof : b.proof ≡ a.proof
 
 -- it went on, and goals are left
 pub record GoesOn (l : Label) (c : ProofCommand) (w : World) (a : Attempt) (v : World) (b : Attempt) : Type 0 where
@@ -68,6 +67,8 @@ pub record IsCompleted (l : Label) (c : ProofCommand) (w : World) (a : Attempt) 
   pub grows : Grows w v
   pub declared : declarations_of v ≡ declarations_of w ++ a_theorem a.name (read w a.formula) ∷ []
   pub name : b.name ≡ a.name
+  pub formula : b.formula ≡ a.formula
+  pub beyond : Beyond a.proof b.proof
   pub proof : IsProof v b.proof
   pub derives : IsDerivation (declarations_of w) (read w a.formula) (history_of v b.proof).tree
 

@@ -1,5 +1,5 @@
 -- What a command leaves of a session, by the answer to it.
-use Rattle.std.specs.Prelude.{◌≡◌, ℕ, ◌+◌, List, Option, Some, None, length}
+use Rattle.std.specs.Prelude.{◌≡◌, ℕ, ◌+◌, ◌<◌, true, List, [], ◌∷◌, ◌++◌, Option, Some, None, length}
 use Rattle.ab_formulas.specs.Declarations.{Declarations, theorems_in}
 use Rattle.ab_logic.specs.Worlds.{declarations_of}
 use Rattle.ab_logic.specs.declared.world.World.{World}
@@ -8,13 +8,16 @@ use Rattle.ab_steps.specs.ab_kernel.specs.Layout.{history_of}
 use Rattle.ab_declare.specs.declared.refusal.Refusal.{Refusal}
 use Rattle.ab_declare.specs.Moments.{IsMoment, IsRestored}
 use Rattle.ab_states.specs.DerivedTheorems.{IsDerived}
+use Rattle.ab_states.specs.State.{State, plain}
+use Rattle.ab_states.specs.ForwardEffects.{GoesForward}
 use Rattle.ab_states.specs.StateEffects.{HasEffect}
-use Rattle.ab_states.specs.Reply.{SpeaksOfNoGoal, reply_of}
+use Rattle.ab_states.specs.Reply.{SpeaksOfNoGoal, is_kept, reply_of}
 use Rattle.ab_states.specs.declared.reply.Reply.{Reply}
 use Rattle.ab_states.specs.declared.reply.Reply.TheVariants.{Completed, Refused}
 use Rattle.ab_session.specs.declared.attempt.Attempt.{Attempt}
 use Rattle.ab_session.specs.declared.command_history.Before.{Before}
 use Rattle.ab_session.specs.Contents.{Contents, state_of}
+use Rattle.ab_session.specs.Origins.{CameFrom, Precedes}
 
 -- THE LAST OF THE THEOREMS HAS THE NAME, and a closed derivation from what was declared before it
 pub record IsProvedLast (D : Declarations) (name : List ℕ) : Type 0 where
@@ -24,13 +27,34 @@ pub record IsProvedLast (D : Declarations) (name : List ℕ) : Type 0 where
   pub last : length (theorems_in D) ≡ place + 1
   pub named : derived.name ≡ name
 
--- the reply and the next state are the command's effect; a formula that is shown speaks of no goal, a completed theorem is
--- proved, and nothing is left of what is refused
-pub record IsAnswer (old : Contents) (bytes : List ℕ) (new : Contents) (reply : Reply) : Type 0 where
-  pub effect : HasEffect (state_of old) bytes (reply_of new.world reply) (state_of new)
+-- one command more is kept, of these bytes
+abbrev pub KeepsOneMore : State → List ℕ → State → Type 0
+KeepsOneMore s bytes t = t.kept ≡ s.kept ++ plain bytes ∷ []
+
+-- fewer commands are kept
+abbrev pub KeepsFewer : State → State → Type 0
+KeepsFewer s t = length t.kept < length s.kept
+
+-- the reply and the next state are the effect of a command that goes forward; a formula that is shown speaks of no goal, a
+-- completed theorem is proved, nothing is left of what is refused, and what is kept leads back
+pub record IsForwardAnswer (old : Contents) (bytes : List ℕ) (new : Contents) (reply : Reply) : Type 0 where
+  pub effect : GoesForward (state_of old) (plain bytes) (reply_of new.world reply) (state_of new)
   pub speaks : SpeaksOfNoGoal new.world reply
   pub completed : (name : List ℕ) → reply ≡ Completed name → IsProvedLast (declarations_of new.world) name
   pub refused : (r : Refusal) → reply ≡ Refused r → IsRestored old.world new.world
+  pub kept : is_kept (reply_of new.world reply) ≡ true → CameFrom old new
+
+-- the same for any command, without a load; what takes back leads to an earlier session, and steps go from the one number to the
+-- other by one for each entry of the table and each declaration that goes
+pub record IsAnswer (old : Contents) (bytes : List ℕ) (new : Contents) (before after : ℕ) (reply : Reply) : Type 0 where
+  pub effect : HasEffect (state_of old) bytes [] (reply_of new.world reply) (state_of new)
+  pub speaks : SpeaksOfNoGoal new.world reply
+  pub completed : (name : List ℕ) → reply ≡ Completed name → IsProvedLast (declarations_of new.world) name
+  pub refused : (r : Refusal) → reply ≡ Refused r → IsRestored old.world new.world
+  pub kept : KeepsOneMore (state_of old) bytes (state_of new) → CameFrom old new
+  pub taken_back : KeepsFewer (state_of old) (state_of new) → Precedes new old
+  pub steps : KeepsFewer (state_of old) (state_of new) →
+      after + length new.world.types + length new.world.additions ≡ before + length old.world.types + length old.world.additions
 
 -- how many steps stand in the proof that is being made
 abbrev pub steps_standing : World → Option Attempt → ℕ

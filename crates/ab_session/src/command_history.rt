@@ -1,7 +1,10 @@
-//! Commands that are kept.
+//! Commands that are kept, and what it takes to go back before each.
 ghost use Rattle.std.specs.Prelude.{◌≡◌, ◌<◌, IfOk, OnOk, vec_len, vec_capacity};
 
+use crate::attempt::Attempt;
 use ab_declare::Moment;
+use ab_store::TermId;
+use ab_store::name::Name;
 use std::alloc::{AllocError, Global};
 
 /// How a session was before a command, so far as it takes to go back there.
@@ -14,26 +17,37 @@ pub struct Before {
     pub(crate) all_subgoals: bool,
 }
 
+/// What a command did with the open proof.
+#[derive(Drop)]
+pub enum Deed {
+    /// It went on with it, where one was open.
+    Went,
+    /// It began it.
+    Began,
+    /// It completed it, and the theorem of this name states this.
+    Completed(Name, TermId),
+    /// It gave it up.
+    GaveUp(Attempt),
+}
+
 /// A kept command.
 #[derive(Drop)]
 pub struct Kept {
     pub(crate) bytes: Vec<u8>,
     pub(crate) before: Before,
+    pub(crate) deed: Deed,
 }
 
-/// Makes room for one command more, and the entry for this one.
+/// Makes room for one command more, and a copy of the bytes of this one.
 pub(crate) fn make_room(
     alloc: Global,
     kept: &mut Vec<Kept>,
     command: &[u8],
-    before: Before,
-) -> Result<Kept, AllocError>
-    ensures command { IfOk result (λ k. k.bytes.items ≡ command.now) }
-    ensures before { IfOk result (λ k. k.before ≡ before) }
+) -> Result<Vec<u8>, AllocError>
+    ensures command { IfOk result (λ bytes. bytes.items ≡ command.now) }
     ensures kept { kept.new.items ≡ kept.old.items }
     ensures room { OnOk result (vec_len kept.new < vec_capacity kept.new) }
 {
     kept.reserve(1)?;
-    let bytes = Vec::from_slice(alloc, command)?;
-    Ok(Kept { bytes, before })
+    Vec::from_slice(alloc, command)
 }

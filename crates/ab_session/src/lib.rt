@@ -5,9 +5,10 @@ mod attempt;
 mod attempt_steps;
 mod command_history;
 pub mod laws;
+mod past_proofs;
 mod proof_steps;
 mod refusals;
 mod session;
 
 pub use ab_steps as steps;
-pub use session::Session;
+pub use session::{BackFault, Session};

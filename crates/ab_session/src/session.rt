@@ -1,7 +1,7 @@
 //! A session: what the commands so far have led to.
 //!
 //! Every proof goes through the kernel, which alone makes derivations, and each theorem's proof stays as long as it does.
-ghost use Rattle.std.specs.Prelude.{◌≡◌, ◌↔◌, ◌<◌, ℕ, List, length, map, slice_get, is_some, IfOk, IfSome, IsSome, OnErr};
+ghost use Rattle.std.specs.Prelude.{◌≡◌, ◌↔◌, ◌<◌, ℕ, ◌+◌, List, [], None, length, map, slice_get, is_some, IfOk, IfSome, IsSome, IsErr, IsTrue, IsFalse, OnOk, OnErr};
 ghost use Rattle.std.specs.Option.{option_map, option_copied};
 ghost use Rattle.ab_grammar.specs.CommandTrees as told;
 ghost use Rattle.ab_syntax.specs.SyntaxTrees as trees;
@@ -14,16 +14,20 @@ ghost use Rattle.ab_declare.specs.declared.refusal.Refusal.{Refusal as ARefusal}
 ghost use Rattle.ab_declare.specs.Moments.{IsRestored};
 ghost use Rattle.ab_formulas.specs.NamedGoals.{named};
 ghost use Rattle.ab_states.specs.State.{empty, is_open, goals_of, goals_in};
+ghost use Rattle.ab_states.specs.Replay.{IsReplayed};
 ghost use Rattle.ab_states.specs.Reply.{SpeaksOfNoGoal, reply_of};
-ghost use Rattle.ab_states.specs.StateEffects.{Commands, HasEffect};
+ghost use Rattle.ab_states.specs.ForwardEffects.{Commands};
+ghost use Rattle.ab_states.specs.StateEffects.{HasEffect, IsBeforeLast};
 ghost use Rattle.ab_states.specs.declared.reply.Reply.TheVariants.{Completed, Refused};
-ghost use Rattle.ab_session.specs.Contents.{state_of};
+ghost use Rattle.ab_session.specs.Contents.{Contents, state_of};
+ghost use Rattle.ab_session.specs.Origins.{CameFrom, Precedes};
 ghost use Rattle.ab_session.specs.Sessions.{IsProofOf};
-ghost use Rattle.ab_session.specs.SessionAnswers.{IsProvedLast, IsAnswer, IsBefore};
+ghost use Rattle.ab_session.specs.SessionAnswers.{IsProvedLast, KeepsOneMore, KeepsFewer, IsForwardAnswer, IsAnswer, IsBefore};
 
 use crate::attempt::Attempt;
 use crate::attempt_steps::{Outcome, advance};
-use crate::command_history::{Before, Kept, make_room};
+use crate::command_history::{Before, Deed, Kept, make_room};
+use crate::past_proofs::reopen;
 use crate::refusals::unread;
 use ab_command::{Unread, read_command};
 use ab_declare::{
@@ -39,6 +43,12 @@ use ab_store::types::Steps;
 use ab_syntax::{ClauseParse, Command, Defined, Parse, ProofCommand, TypeParse};
 use std::alloc::{AllocError, Global};
 use std::marker::Model;
+
+/// No command is left to take back.
+#[derive(Clone, Copy)]
+pub enum BackFault {
+    NothingToUndo,
+}
 
 /// What the commands so far have led to.
 #[derive(Drop)]
@@ -56,7 +66,7 @@ impl Model for Session {
     ghost use Rattle.std.specs.Coded.{codes};
     ghost use Rattle.ab_store.specs.ab_types.specs.Codes.{entry_code};
     ghost use Rattle.ab_session.specs.Contents.{Contents, contents};
-    ghost use Rattle.ab_session.specs.Sessions.{IsSession};
+    ghost use Rattle.ab_session.specs.Origins.{IsSession};
 
     ghost Value = { Contents };
 
@@ -93,7 +103,7 @@ impl Session {
     pub fn theorems(&self) -> usize
         ensures { result ≡ length (theorems_in (state_of self.now).declarations) }
     {
-        self.world.len()
+        self.world.theorems()
     }
 
     /// What was declared, and the terms by which all is said.
@@ -143,17 +153,22 @@ impl Session {
     }
 
     /// Takes one command, its full stop included: the reply, and the next state. A command that is refused leaves the
-    /// session as it was, and so does want of memory. No file is read.
+    /// session as it was, and so does want of memory. No file is read. What is kept can be taken back, to each node, cell,
+    /// type and declaration, and what takes back counts a step for each entry of the table and each declaration that goes.
     pub fn accept<F: Files, L>(
         &mut self,
         files: &mut F,
         command: &[u8],
         steps: &mut Steps<L>,
     ) -> Result<Reply, AllocError>
-        ensures effect { IfOk result (λ reply. HasEffect (state_of self.old) command.now (reply_of self.new.world reply) (state_of self.new)) }
+        ensures effect { IfOk result (λ reply. HasEffect (state_of self.old) command.now [] (reply_of self.new.world reply) (state_of self.new)) }
         ensures reply { IfOk result (SpeaksOfNoGoal self.new.world) }
         ensures completed { (name : List ℕ) → IfOk result (λ reply. reply ≡ Completed name → IsProvedLast (state_of self.new).declarations name) }
         ensures refused { (r : ARefusal) → IfOk result (λ reply. reply ≡ Refused r → IsRestored self.old.world self.new.world) }
+        ensures kept { IfOk result (λ reply. KeepsOneMore (state_of self.old) command.now (state_of self.new) → CameFrom self.old self.new) }
+        ensures taken_back { IfOk result (λ reply. KeepsFewer (state_of self.old) (state_of self.new) → Precedes self.new self.old) }
+        ensures steps { IfOk result (λ reply. KeepsFewer (state_of self.old) (state_of self.new) →
+            steps.new + length self.new.world.types + length self.new.world.additions ≡ steps.old + length self.old.world.types + length self.old.world.additions) }
         ensures err { OnErr result (state_of self.new ≡ state_of self.old) }
         ensures files { files.new ≡ files.old }
     {
@@ -165,6 +180,36 @@ impl Session {
         }
     }
 
+    /// Takes the last kept command back: the state is the one that replaying the others gives. It takes no memory, and counts a step for each entry of the table of types and each
+    /// declaration that goes, and no other.
+    pub fn back<L>(&mut self, steps: &mut Steps<L>) -> Result<(), BackFault>
+        ensures nothing { IsErr result ↔ ((state_of self.old).kept ≡ []) }
+        ensures state { OnOk result (IsBeforeLast (state_of self.old) (state_of self.new)) }
+        ensures came { OnOk result (CameFrom self.new self.old) }
+        ensures replayed { IsReplayed (state_of self.new) }
+        ensures closed { OnErr result (self.new.attempt ≡ None) }
+        ensures err { OnErr result (self.new ≡ self.old) }
+        ensures steps { steps.new + length self.new.world.types + length self.new.world.additions ≡ steps.old + length self.old.world.types + length self.old.world.additions }
+    {
+        match self.kept.pop() {
+            None => Err(BackFault::NothingToUndo),
+            Some(last) => {
+                let before = last.before;
+                self.attempt = reopen(
+                    last.deed,
+                    before.steps,
+                    self.attempt.take(),
+                    &mut self.proofs,
+                    &mut self.world,
+                    steps,
+                );
+                before.moment.cut_back(&mut self.world, steps);
+                self.all_subgoals = before.all_subgoals;
+                Ok(())
+            }
+        }
+    }
+
     /// Carries out a command that the bytes say.
     fn carry_out<L>(
         &mut self,
@@ -173,7 +218,7 @@ impl Session {
         steps: &mut Steps<L>,
     ) -> Result<Reply, AllocError>
         requires { Commands (state_of self.old) bytes.now (command_of command.now) }
-        ensures answer { IfOk result (IsAnswer self.old bytes.now self.new) }
+        ensures answer { IfOk result (IsAnswer self.old bytes.now self.new steps.old steps.new) }
         ensures err { OnErr result (state_of self.new ≡ state_of self.old) }
     {
         match command {
@@ -195,6 +240,9 @@ impl Session {
             Command::Quit => Ok(Reply::Quit),
             Command::Subgoals(on) => self.set_subgoals(bytes, *on),
             Command::Abort => self.abort(bytes),
+            Command::Back => Ok(self.take_last(bytes, steps)),
+            Command::Undo => Ok(self.undo(bytes, steps)),
+            Command::Reset => Ok(self.reset(bytes, steps)),
             Command::InProof(label, command) => {
                 let label = label.as_ref();
                 self.prove(bytes, label, command, steps)
@@ -226,15 +274,19 @@ impl Session {
         steps: &mut Steps<L>,
     ) -> Result<Reply, AllocError>
         requires { Commands (state_of self.old) bytes.now (told.kinds names.now) }
-        ensures answer { IfOk result (IsAnswer self.old bytes.now self.new) }
+        ensures answer { IfOk result (IsForwardAnswer self.old bytes.now self.new) }
         ensures err { OnErr result (state_of self.new ≡ state_of self.old) }
     {
         let before = self.before();
-        let entry = make_room(self.alloc, &mut self.kept, bytes, before)?;
+        let bytes = make_room(self.alloc, &mut self.kept, bytes)?;
         match declare_kinds(self.alloc, &mut self.world, names, steps)? {
             Some(refusal) => Ok(Reply::Refused(refusal)),
             None => {
-                self.kept.push_reserved(entry);
+                self.kept.push_reserved(Kept {
+                    bytes,
+                    before,
+                    deed: Deed::Went,
+                });
                 Ok(Reply::Accepted)
             }
         }
@@ -249,15 +301,19 @@ impl Session {
         steps: &mut Steps<L>,
     ) -> Result<Reply, AllocError>
         requires { Commands (state_of self.old) bytes.now (told.constants names.now (trees.type_of parse.now)) }
-        ensures answer { IfOk result (IsAnswer self.old bytes.now self.new) }
+        ensures answer { IfOk result (IsForwardAnswer self.old bytes.now self.new) }
         ensures err { OnErr result (state_of self.new ≡ state_of self.old) }
     {
         let before = self.before();
-        let entry = make_room(self.alloc, &mut self.kept, bytes, before)?;
+        let bytes = make_room(self.alloc, &mut self.kept, bytes)?;
         match declare_constants(self.alloc, &mut self.world, names, parse, steps)? {
             Some(refusal) => Ok(Reply::Refused(refusal)),
             None => {
-                self.kept.push_reserved(entry);
+                self.kept.push_reserved(Kept {
+                    bytes,
+                    before,
+                    deed: Deed::Went,
+                });
                 Ok(Reply::Accepted)
             }
         }
@@ -273,11 +329,11 @@ impl Session {
         steps: &mut Steps<L>,
     ) -> Result<Reply, AllocError>
         requires { Commands (state_of self.old) bytes.now (told.define inductive (map defined_of predicates.now) (map clause_of clauses.now)) }
-        ensures answer { IfOk result (IsAnswer self.old bytes.now self.new) }
+        ensures answer { IfOk result (IsForwardAnswer self.old bytes.now self.new) }
         ensures err { OnErr result (state_of self.new ≡ state_of self.old) }
     {
         let before = self.before();
-        let entry = make_room(self.alloc, &mut self.kept, bytes, before)?;
+        let bytes = make_room(self.alloc, &mut self.kept, bytes)?;
         match declare_definition(
             self.alloc,
             &mut self.world,
@@ -288,7 +344,11 @@ impl Session {
         )? {
             Some(refusal) => Ok(Reply::Refused(refusal)),
             None => {
-                self.kept.push_reserved(entry);
+                self.kept.push_reserved(Kept {
+                    bytes,
+                    before,
+                    deed: Deed::Went,
+                });
                 Ok(Reply::Accepted)
             }
         }
@@ -303,17 +363,21 @@ impl Session {
         steps: &mut Steps<L>,
     ) -> Result<Reply, AllocError>
         requires { Commands (state_of self.old) bytes.now (told.theorem name.now (trees.tree_of parse.now)) }
-        ensures answer { IfOk result (IsAnswer self.old bytes.now self.new) }
+        ensures answer { IfOk result (IsForwardAnswer self.old bytes.now self.new) }
         ensures err { OnErr result (state_of self.new ≡ state_of self.old) }
     {
         let before = self.before();
-        let entry = make_room(self.alloc, &mut self.kept, bytes, before)?;
+        let bytes = make_room(self.alloc, &mut self.kept, bytes)?;
         let copy = name.copy(self.alloc)?;
         match state_formula(self.alloc, &mut self.world, name, parse, steps)? {
             Statement::Refused(refusal) => Ok(Reply::Refused(refusal)),
             Statement::Formula(formula) => {
                 let proof = Proof::start(self.alloc, &self.world, formula, 0)?;
-                self.kept.push_reserved(entry);
+                self.kept.push_reserved(Kept {
+                    bytes,
+                    before,
+                    deed: Deed::Began,
+                });
                 self.attempt = Some(Attempt {
                     name: copy,
                     formula,
@@ -327,7 +391,7 @@ impl Session {
     /// `Show w`
     fn show(&self, bytes: &[u8], name: &Name) -> Result<Reply, AllocError>
         requires { Commands (state_of self.now) bytes.now (told.show name.now) }
-        ensures { IfOk result (IsAnswer self.now bytes.now self.now) }
+        ensures { IfOk result (IsForwardAnswer self.now bytes.now self.now) }
     {
         let _ = bytes;
         let copy = name.copy(self.alloc)?;
@@ -340,12 +404,16 @@ impl Session {
     /// `Set subgoals on`, or off.
     fn set_subgoals(&mut self, bytes: &[u8], on: bool) -> Result<Reply, AllocError>
         requires { Commands (state_of self.old) bytes.now (told.subgoals on) }
-        ensures answer { IfOk result (IsAnswer self.old bytes.now self.new) }
+        ensures answer { IfOk result (IsForwardAnswer self.old bytes.now self.new) }
         ensures err { OnErr result (state_of self.new ≡ state_of self.old) }
     {
         let before = self.before();
-        let entry = make_room(self.alloc, &mut self.kept, bytes, before)?;
-        self.kept.push_reserved(entry);
+        let bytes = make_room(self.alloc, &mut self.kept, bytes)?;
+        self.kept.push_reserved(Kept {
+            bytes,
+            before,
+            deed: Deed::Went,
+        });
         self.all_subgoals = on;
         Ok(Reply::Accepted)
     }
@@ -353,13 +421,19 @@ impl Session {
     /// `abort`: the open proof ends without a theorem.
     fn abort(&mut self, bytes: &[u8]) -> Result<Reply, AllocError>
         requires { Commands (state_of self.old) bytes.now told.abort }
-        ensures answer { IfOk result (IsAnswer self.old bytes.now self.new) }
+        ensures answer { IfOk result (IsForwardAnswer self.old bytes.now self.new) }
         ensures err { OnErr result (state_of self.new ≡ state_of self.old) }
     {
         let before = self.before();
-        let entry = make_room(self.alloc, &mut self.kept, bytes, before)?;
-        self.kept.push_reserved(entry);
-        self.attempt = None;
+        let bytes = make_room(self.alloc, &mut self.kept, bytes)?;
+        let Some(attempt) = self.attempt.take() else {
+            unreachable!()
+        };
+        self.kept.push_reserved(Kept {
+            bytes,
+            before,
+            deed: Deed::GaveUp(attempt),
+        });
         Ok(Reply::Accepted)
     }
 
@@ -372,14 +446,21 @@ impl Session {
         steps: &mut Steps<L>,
     ) -> Result<Reply, AllocError>
         requires { Commands (state_of self.old) bytes.now (told.in_proof (option_copied label) (proof_command_of command.now)) }
-        ensures answer { IfOk result (IsAnswer self.old bytes.now self.new) }
+        ensures answer { IfOk result (IsForwardAnswer self.old bytes.now self.new) }
         ensures err { OnErr result (state_of self.new ≡ state_of self.old) }
     {
         let before = self.before();
-        let entry = make_room(self.alloc, &mut self.kept, bytes, before)?;
+        let bytes = make_room(self.alloc, &mut self.kept, bytes)?;
         self.proofs.reserve(1)?;
         let Some(mut attempt) = self.attempt.take() else {
             unreachable!()
+        };
+        let name = match attempt.name.copy(self.alloc) {
+            Ok(name) => name,
+            Err(fault) => {
+                self.attempt = Some(attempt);
+                return Err(fault);
+            }
         };
         match advance(
             self.alloc,
@@ -390,12 +471,20 @@ impl Session {
             steps,
         ) {
             Ok(Outcome::Completed) => {
-                self.kept.push_reserved(entry);
+                self.kept.push_reserved(Kept {
+                    bytes,
+                    before,
+                    deed: Deed::Completed(name, attempt.formula),
+                });
                 self.proofs.push_reserved(attempt.proof);
                 Ok(Reply::Completed(attempt.name))
             }
             Ok(Outcome::Left) => {
-                self.kept.push_reserved(entry);
+                self.kept.push_reserved(Kept {
+                    bytes,
+                    before,
+                    deed: Deed::Went,
+                });
                 self.attempt = Some(attempt);
                 Ok(Reply::Accepted)
             }
@@ -408,5 +497,58 @@ impl Session {
                 Err(fault)
             }
         }
+    }
+
+    /// `#back`
+    fn take_last<L>(&mut self, bytes: &[u8], steps: &mut Steps<L>) -> Reply
+        requires { Commands (state_of self.old) bytes.now told.back }
+        ensures { IsAnswer self.old bytes.now self.new steps.old steps.new result }
+    {
+        let _ = bytes;
+        match self.back(steps) {
+            Ok(()) => Reply::Accepted,
+            Err(BackFault::NothingToUndo) => Reply::Refused(Refusal::NothingToUndo),
+        }
+    }
+
+    /// Whether the last kept command began the open proof.
+    fn has_begun(&self) -> bool
+        ensures yes { IsTrue result → (e : Contents) × CameFrom e self.now × (e.attempt ≡ None) }
+        ensures no { (e : Contents) → IsFalse result → IsSome self.now.attempt → CameFrom e self.now → IsSome e.attempt }
+    {
+        match self.kept.last() {
+            None => false,
+            Some(last) => match last.deed {
+                Deed::Began => true,
+                Deed::Went => false,
+                Deed::Completed(_, _) => false,
+                Deed::GaveUp(_) => false,
+            },
+        }
+    }
+
+    /// `undo`: takes the last kept command of the open proof back, but not the one that began it.
+    fn undo<L>(&mut self, bytes: &[u8], steps: &mut Steps<L>) -> Reply
+        requires { Commands (state_of self.old) bytes.now told.undo }
+        ensures { IsAnswer self.old bytes.now self.new steps.old steps.new result }
+    {
+        let _ = bytes;
+        if self.has_begun() {
+            return Reply::Refused(Refusal::NothingToUndo);
+        }
+        match self.back(steps) {
+            Ok(()) => Reply::Accepted,
+            Err(BackFault::NothingToUndo) => unreachable!(),
+        }
+    }
+
+    /// `#reset`: takes all kept commands back.
+    fn reset<L>(&mut self, bytes: &[u8], steps: &mut Steps<L>) -> Reply
+        requires { Commands (state_of self.old) bytes.now told.reset }
+        ensures { IsAnswer self.old bytes.now self.new steps.old steps.new result }
+    {
+        let _ = bytes;
+        while self.back(steps).is_ok() {}
+        Reply::Accepted
     }
 }

@@ -2,6 +2,7 @@
 pub mod State
 pub mod Reply
 pub mod ProofCommandEffects
-pub mod StateEffects
+pub mod ForwardEffects
 pub mod Replay
+pub mod StateEffects
 pub mod DerivedTheorems

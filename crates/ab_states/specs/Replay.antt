@@ -1,12 +1,12 @@
--- Replaying commands: each has its effect on the state that those before it left, and is one that is kept.
-use Rattle.std.specs.Prelude.{◌≡◌, ℕ, List, [], ◌∷◌, true}
-use Rattle.ab_states.specs.State.{State, empty}
+-- Replaying kept commands: each goes forward from the state that those before it left, and is one that is kept.
+use Rattle.std.specs.Prelude.{◌≡◌, List, [], ◌∷◌, true}
+use Rattle.ab_states.specs.State.{State, Entry, empty}
 use Rattle.ab_states.specs.Reply.{Reply, is_kept}
-use Rattle.ab_states.specs.StateEffects.{HasEffect}
+use Rattle.ab_states.specs.ForwardEffects.{GoesForward}
 
-pub data Replays : State → List (List ℕ) → State → Type 0 where
+pub data Replays : State → List Entry → State → Type 0 where
   none : {s : State} → Replays s [] s
-  next : {s t u : State} {c : List ℕ} {cs : List (List ℕ)} (reply : Reply) → HasEffect s c reply t → is_kept reply ≡ true → Replays t cs u → Replays s (c ∷ cs) u
+  next : {s t u : State} {e : Entry} {es : List Entry} (reply : Reply) → GoesForward s e reply t → is_kept reply ≡ true → Replays t es u → Replays s (e ∷ es) u
 
 -- THE STATE IS THE ONE that replaying its kept commands gives
 abbrev pub IsReplayed : State → Type 0

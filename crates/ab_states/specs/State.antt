@@ -1,5 +1,6 @@
 -- The state of a session: what was declared, the proof that is open, how goals are shown, and the commands that it keeps.
 use Rattle.std.specs.Prelude.{ℕ, List, [], ◌∷◌, ◌++◌, map, Bool, true, Option, Some, None, is_some}
+use Rattle.ab_grammar.specs.FileTrees.{Item}
 use Rattle.ab_term.specs.Terms.{Read}
 use Rattle.ab_formulas.specs.Declarations.{Declarations}
 use Rattle.ab_logic.specs.Worlds.{first_declarations}
@@ -14,14 +15,28 @@ pub record Attempt : Type 0 where
   pub formula : Read
   pub goals : List Goal
 
+-- a file of a specification, as it was read
+pub record SpecFile : Type 0 where
+  pub name : List ℕ
+  pub items : List Item
+
+-- A COMMAND THAT IS KEPT: its bytes, and the files of the specification that it read, if it read one
+pub record Entry : Type 0 where
+  pub bytes : List ℕ
+  pub specification : Option (List SpecFile)
+
+-- the entry of a command that reads no file
+abbrev pub plain : List ℕ → Entry
+plain bytes = record { bytes = bytes; specification = None }
+
 pub record State : Type 0 where
   -- kinds, constants, definitions and theorems, in order, behind those that are built in
   pub declarations : Declarations
   pub attempt : Option Attempt
   -- whether the goals behind the current one are shown
   pub all_subgoals : Bool
-  -- the bytes of the commands that are kept, in order
-  pub kept : List (List ℕ)
+  -- the commands that are kept, in order
+  pub kept : List Entry
 
 -- THE STATE IN WHICH A SESSION BEGINS
 abbrev pub empty : State
@@ -32,8 +47,8 @@ abbrev pub is_open : State → Bool
 is_open s = is_some s.attempt
 
 -- one command more is kept
-abbrev pub keeping : List ℕ → State → State
-keeping bytes s = record s { kept = s.kept ++ bytes ∷ [] }
+abbrev pub keeping : Entry → State → State
+keeping entry s = record s { kept = s.kept ++ entry ∷ [] }
 
 -- these stand behind what was declared
 abbrev pub declaring : Declarations → State → State

@@ -1,72 +1,28 @@
--- THE EFFECT OF A COMMAND ON A STATE: the reply, and the next state. A command that is refused leaves the state.
-use Rattle.std.specs.Prelude.{◌≡◌, ℕ, List, [], ◌∷◌, ◌++◌, map, Bool, Option, Some, None}
-use Rattle.ab_grammar.specs.Tree.{Tree}
-use Rattle.ab_grammar.specs.CommandTrees.{Command, ProofCommand, theorem, show, quit, subgoals, abort, in_proof}
-use Rattle.ab_term.specs.Terms.{Read}
-use Rattle.ab_formulas.specs.Declarations.{Declarations, a_theorem, theorem_in}
-use Rattle.ab_formulas.specs.NewNames.{Label}
-use Rattle.ab_formulas.specs.Sequents as numbered
-use Rattle.ab_formulas.specs.Sequents.{Sequent}
-use Rattle.ab_theory.specs.Derivations.{proves}
-use Rattle.ab_command.specs.declared.fault.Cause.{Cause}
-use Rattle.ab_command.specs.CommandReadings.{Says, Fails}
-use Rattle.ab_declare.specs.declared.refusal.Refusal.{Refusal}
-use Rattle.ab_formulas.specs.NamedGoals.{Goal, named, IsNumbered}
-use Rattle.ab_states.specs.State.{Attempt, State, is_open, keeping, declaring, proving, closed, showing}
-use Rattle.ab_states.specs.Reply as reply
-use Rattle.ab_states.specs.Reply.{Reply, accepted, completed, shown, refused, unread_for}
-use Rattle.ab_declare.specs.DeclarationCommands.{States, Declares, Declines}
-use Rattle.ab_effects.specs.ProofCommands.{given_label}
-use Rattle.ab_states.specs.ProofCommandEffects.{Makes, Denies}
+-- THE EFFECT OF ANY COMMAND ON A STATE: it goes forward, or it takes back what was kept.
+use Rattle.std.specs.Prelude.{◌≡◌, ℕ, List, [], ◌∷◌, ◌++◌, true, false}
+use Rattle.ab_grammar.specs.CommandTrees.{back, reset, undo}
+use Rattle.ab_io.specs.Loads.{Answer}
+use Rattle.ab_declare.specs.declared.refusal.Refusal.TheVariants.{NothingToUndo}
+use Rattle.ab_states.specs.State.{State, Entry, plain, empty, is_open}
+use Rattle.ab_states.specs.Reply.{Reply, accepted, refused}
+use Rattle.ab_states.specs.ForwardEffects.{Commands, GoesForward}
+use Rattle.ab_states.specs.Replay.{Replays}
 
--- the bytes say the command, and it stands here
-abbrev pub Commands : State → List ℕ → Command → Type 0
-Commands s bytes c = Says bytes (is_open s) c
+-- THE STATE BEFORE THE LAST KEPT COMMAND: the one that replaying the others gives
+pub record IsBeforeLast (s t : State) : Type 0 where
+  pub front : List Entry
+  pub last : Entry
+  pub kept : s.kept ≡ front ++ last ∷ []
+  pub replayed : Replays empty front t
 
--- THE BYTES SAY A PROOF COMMAND, and this is the current goal, with numbers for its variables, and the goals behind it
-pub record Faces (s : State) (bytes : List ℕ) (l : Option (List ℕ)) (c : ProofCommand) (a : Attempt) (t : Sequent) (gs : List Goal) : Type 0 where
-  pub says : Commands s bytes (in_proof l c)
-  pub attempt : s.attempt ≡ Some a
-  pub current : Goal
-  pub goals : a.goals ≡ current ∷ gs
-  pub numbered : IsNumbered s.declarations current t
-
--- a proof of the formula begins
-abbrev pub beginning : List ℕ → Read → Attempt
-beginning x F = record { name = x; formula = F; goals = named (proves F 0) ∷ [] }
-
--- these goals are left of it
-abbrev pub left_with : List Goal → Attempt → Attempt
-left_with gs a = record a { goals = gs }
-
--- from a state, by the bytes of a command, to the reply and the next state
-pub data HasEffect (s : State) (bytes : List ℕ) : Reply → State → Type 0 where
-  -- the bytes say no command that is built and stands here
-  unread : (c : Cause) → Fails bytes (is_open s) c → HasEffect s bytes (refused (unread_for c)) s
-  -- the command isn't one that what is declared admits
-  declined : (c : Command) (r : Refusal) → Commands s bytes c → Declines s.declarations c r → HasEffect s bytes (refused r) s
-  -- kinds, constants or a definition are declared
-  declared : (c : Command) (more : Declarations) → Commands s bytes c → Declares s.declarations c more
-      → HasEffect s bytes accepted (keeping bytes (declaring more s))
-  -- a theorem of a new name is stated: its formula is the one goal
-  stated : (x : List ℕ) (e : Tree) (F : Read) → Commands s bytes (theorem x e) → theorem_in s.declarations x ≡ None → States s.declarations e F
-      → HasEffect s bytes accepted (keeping bytes (proving (beginning x F) s))
-  -- a theorem is shown
-  showed : (x : List ℕ) (F : Read) → Commands s bytes (show x) → theorem_in s.declarations x ≡ Some F → HasEffect s bytes (shown x F) s
-  -- the script ends here
-  ended : Commands s bytes quit → HasEffect s bytes reply.quit s
-  -- from now on the goals behind the current one are shown, or they aren't
-  switched : (on : Bool) → Commands s bytes (subgoals on) → HasEffect s bytes accepted (keeping bytes (showing on s))
-  -- the open proof ends without a theorem
-  given_up : Commands s bytes abort → HasEffect s bytes accepted (keeping bytes (closed s))
-  -- a proof command is refused
-  denied : (l : Option (List ℕ)) (c : ProofCommand) (a : Attempt) (t : Sequent) (gs : List Goal) (r : Refusal) → Faces s bytes l c a t gs
-      → Denies s.declarations (given_label l) c t r → HasEffect s bytes (refused r) s
-  -- it leads to other goals in the place of the current one, and some goal is left
-  led : (l : Option (List ℕ)) (c : ProofCommand) (a : Attempt) (t : Sequent) (gs : List Goal) (ps : List Sequent) (h : Goal) (hs : List Goal) → Faces s bytes l c a t gs
-      → Makes s.declarations (given_label l) c t ps → map named ps ++ gs ≡ h ∷ hs
-      → HasEffect s bytes accepted (keeping bytes (proving (left_with (h ∷ hs) a) s))
-  -- no goal is left: the theorem stands
-  proved : (l : Option (List ℕ)) (c : ProofCommand) (a : Attempt) (t : Sequent) (gs : List Goal) (ps : List Sequent) → Faces s bytes l c a t gs
-      → Makes s.declarations (given_label l) c t ps → map named ps ++ gs ≡ []
-      → HasEffect s bytes (completed a.name) (keeping bytes (closed (declaring (a_theorem a.name a.formula ∷ []) s)))
+-- from a state, by the bytes of a command and what the loads answered that it asked for, to the reply and the next state
+pub data HasEffect (s : State) (bytes : List ℕ) : List Answer → Reply → State → Type 0 where
+  forward : {reply : Reply} {t : State} → GoesForward s (plain bytes) reply t → HasEffect s bytes [] reply t
+  -- the last kept command is taken back
+  took_back : {t : State} → Commands s bytes back → IsBeforeLast s t → HasEffect s bytes [] accepted t
+  nothing_kept : Commands s bytes back → s.kept ≡ [] → HasEffect s bytes [] (refused NothingToUndo) s
+  -- the same in a proof, but for the command that began it: before that no proof was open
+  undid : {t : State} → Commands s bytes undo → IsBeforeLast s t → is_open t ≡ true → HasEffect s bytes [] accepted t
+  began : {t : State} → Commands s bytes undo → IsBeforeLast s t → is_open t ≡ false → HasEffect s bytes [] (refused NothingToUndo) s
+  -- all are taken back
+  emptied : Commands s bytes reset → HasEffect s bytes [] accepted empty

@@ -9,12 +9,11 @@ use Rattle.ab_norm.specs.ab_types.proofs.Entries.{extended_twice, type_still_hel
 use Rattle.ab_norm.specs.ab_store.proofs.Growing.{extended_on}
 use Rattle.ab_syntax.specs.Commands.{clause_of}
 use Rattle.ab_infer.proofs.Larger.{type_more}
-use Rattle.ab_declare.specs.ClauseMeanings.{ClauseHasNoJudgement}
 use Rattle.ab_declare.proofs.Answering.{adds_nothing}
 use Rattle.ab_declare.specs.DefinitionCommands.{IsRead, IsUnread}
 use Rattle.ab_declare.specs.Halts.{Halts, halt_for, AreReadAs}
 use Rattle.ab_declare.proofs.Meant.{unread, more_read, one_read, are_read}
-use Rattle.ab_declare.proofs.Turns.{of_item, behind_item, first_halts, at_end}
+use Rattle.ab_declare.proofs.Turns.{behind_item, first_halts, at_end}
 use Rattle.ab_declare.proofs.clauses.read_clauses.Goals as goal
 
 pub loop-clause-init : goal.loop-clause-init
@@ -41,10 +40,6 @@ pub returns-in_err-put_last-clause-adds : goal.returns-in_err-put_last-clause-ad
 returns-in_err-put_last-clause-adds g c =
     let adds = c.in_ok-term.ensures.adds in
     record { before = extended_on c.args.store.now c.loop-clause.store c.elaborate_clause.new.store c.loop-clause.invariant.adds.before adds.before; typed = adds.typed }
-
-pub elaborate_clause-requires-clause-judgement : goal.elaborate_clause-requires-clause-judgement
-elaborate_clause-requires-clause-judgement g c =
-    of_item clause_of c.args.clauses.now c.loop-clause.clause-index c.clause-item.result c.loop-clause-test.true c.clause-item.is ClauseHasNoJudgement c.requires.judgements
 
 pub elaborate_clause-requires-clause-store : goal.elaborate_clause-requires-clause-store
 elaborate_clause-requires-clause-store g c = c.loop-clause.invariant.adds.typed

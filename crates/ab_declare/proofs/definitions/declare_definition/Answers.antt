@@ -11,5 +11,5 @@ returns-in-Err-Refused-clause-answer g c =
     let told = rw c.in-Err-Refused.field-0-is at c.in-Err-Refused.ensures.defined in
     record {
       declines = defines_nothing told;
-      restored = c.cut_back.ensures w c.requires.world c.of-moment.ensures c.in-Err-Refused.ensures.more;
+      restored = c.cut_back.ensures.restored w c.requires.world c.of-moment.ensures c.in-Err-Refused.ensures.more;
     }

@@ -1,4 +1,4 @@
-use Rattle.std.proofs.Common.{◌≡◌, [], ◌∷◌, ◌++◌, map, refl, sym, ap, ◌∙◌, subst}
+use Rattle.std.proofs.Common.{◌≡◌, [], ◌∷◌, ◌++◌, map, refl, sym, ap, ◌∙◌, subst, append-nil}
 use Rattle.std.specs.Prelude.{All}
 use Rattle.std.proofs.lemmas.Result.{err_from_is_err_and}
 use Rattle.ab_term.specs.Constants.{type_in}
@@ -32,7 +32,7 @@ returns-in_err-ids-clause-defined g c =
 pub returns-in_err-ids-clause-more : goal.returns-in_err-ids-clause-more
 returns-in_err-ids-clause-more g c =
     let p = err_from_is_err_and c.from_residual.result c.from_residual.ensures.1 in
-    rw p.1 (record { types = c.in_err-ids.ensures.kept; marks = (extended_itself c.args.world.now.store).marks; additions = refl })
+    rw p.1 (record { types = c.in_err-ids.ensures.kept; marks = (extended_itself c.args.world.now.store).marks; additions = ([], sym (append-nil c.args.world.now.additions)) })
 
 pub look_at_clauses-requires-clause-store : goal.look_at_clauses-requires-clause-store
 look_at_clauses-requires-clause-store g c = store_more c.args.world.now.types c.put_predicates.new.types c.in_ok-ids.ensures.kept c.args.world.now.store c.requires.world.typed
@@ -54,7 +54,7 @@ returns-in_err-look_at_clauses-clause-more g c =
     rw p.1 (record {
       types = extended_twice w.types c.put_predicates.new.types c.look_at_clauses.new.types c.in_ok-ids.ensures.kept c.in_err-look_at_clauses.ensures.kept;
       marks = (extended_itself w.store).marks;
-      additions = refl;
+      additions = ([], sym (append-nil w.additions));
     })
 
 pub look_at_types-requires-clause-kinds : goal.look_at_types-requires-clause-kinds
@@ -87,7 +87,7 @@ returns-in_err-look_at_types-clause-more g c =
           extended_twice w.types c.look_at_clauses.new.types c.look_at_types.new.types
           (extended_twice w.types c.put_predicates.new.types c.look_at_clauses.new.types c.in_ok-ids.ensures.kept c.in_ok-look_at_clauses.ensures.kept) c.in_err-look_at_types.ensures.kept;
       marks = (extended_itself w.store).marks;
-      additions = refl;
+      additions = ([], sym (append-nil w.additions));
     })
 
 pub read_clauses-requires-clause-store : goal.read_clauses-requires-clause-store
@@ -124,7 +124,7 @@ returns-in_err-terms-clause-more g c =
           extended_twice w.types c.look_at_types.new.types c.read_clauses.new.types
           (extended_twice w.types c.look_at_clauses.new.types c.look_at_types.new.types early c.in_ok-look_at_types.ensures.kept) c.in_err-terms.ensures.kept;
       marks = c.in_err-terms.ensures.adds.before.marks;
-      additions = refl;
+      additions = ([], sym (append-nil w.additions));
     })
 
 pub define-requires-clause-world : goal.define-requires-clause-world
@@ -256,4 +256,4 @@ returns-in-Err-clause-more g c =
     let same_constants = four.constants ∙ (three.constants ∙ two.constants) in
     let v : World = record { types = u; store = c.read_clauses.new.store; additions = w.additions } in
     subst (HasMore w) (sym c.in-Err.ensures.err)
-    (record { types = extended_twice w.types t u one.kept more; marks = four.adds.before.marks; additions = refl })
+    (record { types = extended_twice w.types t u one.kept more; marks = four.adds.before.marks; additions = ([], sym (append-nil w.additions)) })

@@ -1,11 +1,12 @@
-use Rattle.std.proofs.Common.{◌≡◌, is_some, ap}
+use Rattle.std.proofs.Common.{◌≡◌, is_some, refl, sym, ap, subst}
 use Rattle.std.specs.Option.{option_copied}
 use Rattle.ab_syntax.specs.Commands.{proof_command_of}
 use Rattle.ab_effects.specs.ProofCommands.{given_label}
 use Rattle.ab_steps.specs.ab_kernel.specs.Layout.{history_of}
 use Rattle.ab_steps.proofs.Following.{nothing_left}
+use Rattle.ab_steps.specs.Progress.{Follows}
 use Rattle.ab_session.specs.ProofAttempts.{IsDenied}
-use Rattle.ab_session.proofs.Carried.{has_more, at_some, completed, refused_so}
+use Rattle.ab_session.proofs.Carried.{has_more, at_some, on_error, stayed, completed, refused_so}
 use Rattle.ab_session.proofs.attempt_steps.advance.Goals as goal
 
 pub cut_back-requires : goal.cut_back-requires
@@ -20,9 +21,9 @@ returns-in-Some-clause-advanced g c =
     let q = c.carry_out.new.proof in
     let l = given_label (option_copied c.args.label) in
     let told = proof_command_of c.args.command.now in
-    refused_so l told w c.cut_back.new.world c.args.attempt.now q c.in-Some.refusal c.requires.world c.requires.attempt
+    refused_so l told w c.cut_back.new.world c.args.attempt.now q c.in-Some.refusal c.requires.world
     (at_some (IsDenied l told w p) c.in_ok-refused.refused c.in-Some.refusal c.in-Some.is c.in_ok-refused.ensures.denied)
-    (c.cut_back.ensures w c.requires.world c.of-moment.ensures (has_more w v p q c.carry_out.ensures.follows))
+    (c.cut_back.ensures.restored w c.requires.world c.of-moment.ensures (has_more w v p q c.carry_out.ensures.follows))
     (nothing_left w v p q c.carry_out.ensures.follows (at_some (λ r. history_of v q ≡ history_of w p) c.in_ok-refused.refused c.in-Some.refusal c.in-Some.is c.in_ok-refused.ensures.same))
 
 pub returns-in-Ok-clause-advanced : goal.returns-in-Ok-clause-advanced
@@ -32,3 +33,22 @@ returns-in-Ok-clause-advanced g c =
     completed w v c.args.attempt.now c.carry_out.new.proof c.requires.attempt c.carry_out.ensures.follows c.add_theorem.new.world
     (given_label (option_copied c.args.label)) (proof_command_of c.args.command.now) (c.in_ok-refused.ensures.made (ap is_some c.in_default.is))
     ((c.is_closed.ensures.closed v).0 c.if-not-is_closed.false) c.in-Ok.ensures.grows c.in-Ok.ensures.added
+
+pub returns-in_err-refused-clause-err : goal.returns-in_err-refused-clause-err
+returns-in_err-refused-clause-err g c =
+    on_error _
+    (stayed c.args.world.now c.carry_out.new.world c.args.attempt.now c.carry_out.new.proof c.requires.attempt c.carry_out.ensures.follows c.in_err-refused.ensures.err)
+
+pub returns-in-Err-clause-err : goal.returns-in-Err-clause-err
+returns-in-Err-clause-err g c =
+    let w = c.args.world.now in
+    let p = c.args.attempt.now.proof in
+    let follows = subst (λ v. Follows w p v c.carry_out.new.proof) (sym c.in-Err.ensures.err) c.carry_out.ensures.follows in
+    let q = c.take_back.ensures in
+    record {
+      grows = (q.follows w p follows (c.steps-standing.ensures w)).grows;
+      declared = (q.follows w p follows (c.steps-standing.ensures w)).declared;
+      name = refl;
+      formula = refl;
+      proof = q.kept w p follows (c.steps-standing.ensures w);
+    }

@@ -1,14 +1,30 @@
-use Rattle.std.proofs.Common.{map}
+use Rattle.std.proofs.Common.{◌≡◌, None, refl, sym, ◌∙◌}
 use Rattle.ab_grammar.specs.CommandTrees as told
-use Rattle.ab_states.specs.declared.reply.Reply.TheVariants.{Accepted}
+use Rattle.ab_session.specs.declared.command_history.Deed.TheVariants.{GaveUp}
 use Rattle.ab_session.specs.declared.command_history.Kept.{Kept}
 use Rattle.ab_session.specs.Contents.{contents}
-use Rattle.ab_session.proofs.Effects.{kept_more, seen, meant, given_up_answer}
+use Rattle.ab_session.proofs.Origins.{pasts}
+use Rattle.ab_session.proofs.Sayings.{some_tried}
+use Rattle.ab_session.proofs.Effects.{past_more, meant}
+use Rattle.ab_session.proofs.KeptCommands.{session_given_up, given_up_so}
 use Rattle.ab_session.proofs.session.Session.abort.Goals as goal
+
+pub unreachable-requires : goal.unreachable-requires
+unreachable-requires c =
+    let s = contents c.self.inside in
+    let none : s.attempt ≡ None = sym c.take.ensures.value ∙ c.in_default.is in
+    some_tried s c.args.bytes.now told.abort (meant s c.args.self.now c.args.bytes.now told.abort c.self.view_is c.requires) refl none
+
+pub invariant_of-self-2 : goal.invariant_of-self-2
+invariant_of-self-2 c =
+    let s = contents c.self.inside in
+    let k : Kept = record { bytes = c.in_ok-bytes.bytes; before = c.before-before.result; deed = GaveUp c.in-Some.attempt } in
+    session_given_up s c.args.self.now c.args.bytes.now k (pasts c.push_reserved.new.self.items) c.self.view_is c.self.invariant c.before-before.ensures c.in_ok-bytes.ensures.command
+    (past_more c.self.inside.kept.items c.make_room.new.kept.items c.push_reserved.new.self.items k c.make_room.ensures.kept c.push_reserved.ensures.items) c.in-Some.attempt _ (sym c.take.ensures.value ∙ c.in-Some.is) c.take.ensures.after refl c.requires
 
 pub returns-clause-answer : goal.returns-clause-answer
 returns-clause-answer c =
     let s = contents c.self.inside in
-    let more = kept_more (λ (k : Kept). k.bytes.items) c.self.inside.kept.items c.make_room.new.kept.items c.push_reserved.new.self.items c.in_ok-entry.entry c.args.bytes.now c.make_room.ensures.kept c.push_reserved.ensures.items c.in_ok-entry.ensures.command in
-    seen s c.args.self.now c.args.bytes.now _ Accepted c.self.view_is
-    (given_up_answer s c.args.bytes.now c.self.invariant (map (λ (k : Kept). k.bytes.items) c.push_reserved.new.self.items) more (meant s c.args.self.now c.args.bytes.now told.abort c.self.view_is c.requires))
+    let k : Kept = record { bytes = c.in_ok-bytes.bytes; before = c.before-before.result; deed = GaveUp c.in-Some.attempt } in
+    given_up_so s c.args.self.now c.args.bytes.now k (pasts c.push_reserved.new.self.items) c.self.view_is c.self.invariant c.before-before.ensures c.in_ok-bytes.ensures.command
+    (past_more c.self.inside.kept.items c.make_room.new.kept.items c.push_reserved.new.self.items k c.make_room.ensures.kept c.push_reserved.ensures.items) c.in-Some.attempt _ (sym c.take.ensures.value ∙ c.in-Some.is) c.take.ensures.after refl c.requires

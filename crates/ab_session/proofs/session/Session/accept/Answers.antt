@@ -1,10 +1,12 @@
 use Rattle.std.proofs.Common.{◌≡◌, sym, ap, ◌∙◌, subst}
 use Rattle.ab_command.specs.CommandReadings.{Fails}
-use Rattle.ab_states.specs.State.{is_open}
+use Rattle.ab_states.specs.State.{plain, is_open}
 use Rattle.ab_states.specs.Reply as reply
-use Rattle.ab_states.specs.StateEffects.{HasEffect, unread}
+use Rattle.ab_states.specs.ForwardEffects.{GoesForward, unread}
+use Rattle.ab_states.specs.StateEffects.{forward}
 use Rattle.ab_session.specs.Contents.{contents, state_of}
 use Rattle.ab_session.proofs.Sayings.{open_as}
+use Rattle.ab_session.proofs.TakingBack.{not_kept, not_fewer}
 use Rattle.ab_session.proofs.session.Session.accept.Goals as goal
 
 pub returns-in-Err-Refused-clause-effect : goal.returns-in-Err-Refused-clause-effect
@@ -13,5 +15,15 @@ returns-in-Err-Refused-clause-effect g c =
     let cause = c.in-Err-Refused.cause in
     let f : Fails c.args.command.now c.is_some.result cause = rw c.in-Err-Refused.field-0-is at c.in-Err-Refused.ensures.unread in
     let e : c.is_some.result ≡ is_open (state_of c.args.self.now) = c.is_some.ensures ∙ sym (open_as s) ∙ ap (λ o. is_open (state_of o)) c.self.view_is in
-    subst (λ r. HasEffect (state_of c.args.self.now) c.args.command.now (reply.refused r) (state_of c.args.self.now)) (sym c.unread.ensures)
-    (unread cause (subst (λ b. Fails c.args.command.now b cause) e f))
+    forward
+    (subst (λ r. GoesForward (state_of c.args.self.now) (plain c.args.command.now) (reply.refused r) (state_of c.args.self.now)) (sym c.unread.ensures)
+    (unread cause (subst (λ b. Fails c.args.command.now b cause) e f)))
+
+pub returns-in-Err-Refused-clause-kept : goal.returns-in-Err-Refused-clause-kept
+returns-in-Err-Refused-clause-kept g c = λ more. absurd (not_kept (state_of c.args.self.now) c.args.command.now more)
+
+pub returns-in-Err-Refused-clause-taken_back : goal.returns-in-Err-Refused-clause-taken_back
+returns-in-Err-Refused-clause-taken_back g c = λ less. absurd (not_fewer (state_of c.args.self.now) less)
+
+pub returns-in-Err-Refused-clause-steps : goal.returns-in-Err-Refused-clause-steps
+returns-in-Err-Refused-clause-steps g c = λ less. absurd (not_fewer (state_of c.args.self.now) less)

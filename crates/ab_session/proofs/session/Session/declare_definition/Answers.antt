@@ -1,18 +1,14 @@
-use Rattle.std.proofs.Common.{map, refl, ap, subst}
+use Rattle.std.proofs.Common.{map, refl, ap}
 use Rattle.ab_grammar.specs.CommandTrees as told
 use Rattle.ab_syntax.specs.Commands.{defined_of, clause_of}
 use Rattle.ab_declare.proofs.Restoring.{restored_grows, restored_declares}
-use Rattle.ab_states.specs.StateEffects.{Commands}
+use Rattle.ab_session.specs.declared.command_history.Deed.TheVariants.{Went}
 use Rattle.ab_session.specs.declared.command_history.Kept.{Kept}
-use Rattle.ab_session.specs.Contents.{contents, state_of}
-use Rattle.ab_session.proofs.Sayings.{no_judgement_said}
+use Rattle.ab_session.specs.Contents.{contents}
+use Rattle.ab_session.proofs.Origins.{pasts}
 use Rattle.ab_session.proofs.Carried.{on_error}
-use Rattle.ab_session.proofs.Effects.{kept_more, session_same, state_same, session_declined, declined_so, session_declared_so, declared_so}
+use Rattle.ab_session.proofs.Effects.{past_more, session_same, state_same, session_declined, declined_so, session_declared_so, declared_so}
 use Rattle.ab_session.proofs.session.Session.declare_definition.Goals as goal
-
-pub declare_definition-requires-clause-judgements : goal.declare_definition-requires-clause-judgements
-declare_definition-requires-clause-judgements g c =
-    no_judgement_said (state_of c.args.self.now) c.args.bytes.now c.args.inductive (map defined_of c.args.predicates.now) (map clause_of c.args.clauses.now) c.requires
 
 pub invariant_of-self-in_err-refusal : goal.invariant_of-self-in_err-refusal
 invariant_of-self-in_err-refusal g c =
@@ -20,7 +16,7 @@ invariant_of-self-in_err-refusal g c =
     let w = c.self.inside.world in
     let v = c.declare_definition.new.world in
     let r = c.in_err-refusal.ensures.err in
-    session_same s v (map (λ (k : Kept). k.bytes.items) c.make_room.new.kept.items) c.self.invariant (restored_grows w v c.self.invariant.world r) (restored_declares w v r)
+    session_same s v s.proofs s.attempt (pasts c.make_room.new.kept.items) refl refl (ap pasts c.make_room.ensures.kept) c.self.invariant (restored_grows w v c.self.invariant.sound.world r) (restored_declares w v r)
 
 pub returns-in_err-refusal-clause-err : goal.returns-in_err-refusal-clause-err
 returns-in_err-refusal-clause-err g c =
@@ -29,34 +25,36 @@ returns-in_err-refusal-clause-err g c =
     let v = c.declare_definition.new.world in
     let r = c.in_err-refusal.ensures.err in
     on_error _
-    (state_same s c.args.self.now v (map (λ (k : Kept). k.bytes.items) c.make_room.new.kept.items) c.self.view_is (ap (map (λ (k : Kept). k.bytes.items)) c.make_room.ensures.kept) c.self.invariant (restored_grows w v c.self.invariant.world r) (restored_declares w v r))
+    (state_same s c.args.self.now v s.proofs s.attempt (pasts c.make_room.new.kept.items) c.self.view_is refl refl (ap pasts c.make_room.ensures.kept) c.self.invariant (restored_grows w v c.self.invariant.sound.world r) (restored_declares w v r))
 
 pub invariant_of-self-in-Some-1 : goal.invariant_of-self-in-Some-1
 invariant_of-self-in-Some-1 g c =
     let s = contents c.self.inside in
     let d = rw c.in-Some.is at c.in_ok-refusal.ensures.answer in
     let said = told.define c.args.inductive (map defined_of c.args.predicates.now) (map clause_of c.args.clauses.now) in
-    session_declined s c.args.self.now c.args.bytes.now said c.declare_definition.new.world (map (λ (k : Kept). k.bytes.items) c.make_room.new.kept.items) c.self.view_is c.self.invariant c.requires c.in-Some.refusal d
+    session_declined s c.args.self.now c.args.bytes.now said c.declare_definition.new.world (pasts c.make_room.new.kept.items) c.self.view_is c.self.invariant c.requires c.in-Some.refusal (ap pasts c.make_room.ensures.kept) d
 
 pub invariant_of-self-in-None : goal.invariant_of-self-in-None
 invariant_of-self-in-None g c =
     let s = contents c.self.inside in
     let d = rw c.in-None.is at c.in_ok-refusal.ensures.answer in
     let said = told.define c.args.inductive (map defined_of c.args.predicates.now) (map clause_of c.args.clauses.now) in
-    session_declared_so s c.args.self.now c.args.bytes.now said c.declare_definition.new.world (map (λ (k : Kept). k.bytes.items) c.push_reserved.new.self.items) c.self.view_is c.self.invariant c.requires refl d
+    let k : Kept = record { bytes = c.in_ok-bytes.bytes; before = c.before-before.result; deed = Went } in
+    session_declared_so s c.args.self.now c.args.bytes.now said c.declare_definition.new.world (pasts c.push_reserved.new.self.items) c.self.view_is c.self.invariant c.requires refl d k c.before-before.ensures refl c.in_ok-bytes.ensures.command
+    (past_more c.self.inside.kept.items c.make_room.new.kept.items c.push_reserved.new.self.items k c.make_room.ensures.kept c.push_reserved.ensures.items)
 
 pub returns-in-Some-clause-answer : goal.returns-in-Some-clause-answer
 returns-in-Some-clause-answer g c =
     let s = contents c.self.inside in
     let d = rw c.in-Some.is at c.in_ok-refusal.ensures.answer in
     let said = told.define c.args.inductive (map defined_of c.args.predicates.now) (map clause_of c.args.clauses.now) in
-    declined_so s c.args.self.now c.args.bytes.now said c.declare_definition.new.world (map (λ (k : Kept). k.bytes.items) c.make_room.new.kept.items) c.self.view_is c.self.invariant c.requires c.in-Some.refusal
-    (ap (map (λ (k : Kept). k.bytes.items)) c.make_room.ensures.kept) d
+    declined_so s c.args.self.now c.args.bytes.now said c.declare_definition.new.world (pasts c.make_room.new.kept.items) c.self.view_is c.self.invariant c.requires c.in-Some.refusal (ap pasts c.make_room.ensures.kept) d
 
 pub returns-in-None-clause-answer : goal.returns-in-None-clause-answer
 returns-in-None-clause-answer g c =
     let s = contents c.self.inside in
     let d = rw c.in-None.is at c.in_ok-refusal.ensures.answer in
     let said = told.define c.args.inductive (map defined_of c.args.predicates.now) (map clause_of c.args.clauses.now) in
-    declared_so s c.args.self.now c.args.bytes.now said c.declare_definition.new.world (map (λ (k : Kept). k.bytes.items) c.push_reserved.new.self.items) c.self.view_is c.self.invariant c.requires refl d
-    (kept_more (λ (k : Kept). k.bytes.items) c.self.inside.kept.items c.make_room.new.kept.items c.push_reserved.new.self.items c.in_ok-entry.entry c.args.bytes.now c.make_room.ensures.kept c.push_reserved.ensures.items c.in_ok-entry.ensures.command)
+    let k : Kept = record { bytes = c.in_ok-bytes.bytes; before = c.before-before.result; deed = Went } in
+    declared_so s c.args.self.now c.args.bytes.now said c.declare_definition.new.world (pasts c.push_reserved.new.self.items) c.self.view_is c.self.invariant c.requires refl d k c.before-before.ensures refl c.in_ok-bytes.ensures.command
+    (past_more c.self.inside.kept.items c.make_room.new.kept.items c.push_reserved.new.self.items k c.make_room.ensures.kept c.push_reserved.ensures.items)

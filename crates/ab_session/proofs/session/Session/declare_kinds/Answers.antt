@@ -1,32 +1,40 @@
-use Rattle.std.proofs.Common.{map, refl, ap}
+use Rattle.std.proofs.Common.{refl, ap}
 use Rattle.ab_grammar.specs.CommandTrees as told
+use Rattle.ab_session.specs.declared.command_history.Deed.TheVariants.{Went}
 use Rattle.ab_session.specs.declared.command_history.Kept.{Kept}
 use Rattle.ab_session.specs.Contents.{contents}
-use Rattle.ab_session.proofs.Effects.{kept_more, session_declined, declined_so, session_declared_so, declared_so}
+use Rattle.ab_session.proofs.Origins.{pasts}
+use Rattle.ab_session.proofs.Effects.{past_more, session_declined, declined_so, session_declared_so, declared_so}
 use Rattle.ab_session.proofs.session.Session.declare_kinds.Goals as goal
 
 pub invariant_of-self-in-Some-1 : goal.invariant_of-self-in-Some-1
 invariant_of-self-in-Some-1 g c =
     let s = contents c.self.inside in
     let d = rw c.in-Some.is at c.in_ok-refusal.ensures.answer in
-    session_declined s c.args.self.now c.args.bytes.now (told.kinds c.args.names.now) c.declare_kinds.new.world (map (λ (k : Kept). k.bytes.items) c.make_room.new.kept.items) c.self.view_is c.self.invariant c.requires c.in-Some.refusal d
+    let said = told.kinds c.args.names.now in
+    session_declined s c.args.self.now c.args.bytes.now said c.declare_kinds.new.world (pasts c.make_room.new.kept.items) c.self.view_is c.self.invariant c.requires c.in-Some.refusal (ap pasts c.make_room.ensures.kept) d
 
 pub invariant_of-self-in-None : goal.invariant_of-self-in-None
 invariant_of-self-in-None g c =
     let s = contents c.self.inside in
     let d = rw c.in-None.is at c.in_ok-refusal.ensures.answer in
-    session_declared_so s c.args.self.now c.args.bytes.now (told.kinds c.args.names.now) c.declare_kinds.new.world (map (λ (k : Kept). k.bytes.items) c.push_reserved.new.self.items) c.self.view_is c.self.invariant c.requires refl d
+    let said = told.kinds c.args.names.now in
+    let k : Kept = record { bytes = c.in_ok-bytes.bytes; before = c.before-before.result; deed = Went } in
+    session_declared_so s c.args.self.now c.args.bytes.now said c.declare_kinds.new.world (pasts c.push_reserved.new.self.items) c.self.view_is c.self.invariant c.requires refl d k c.before-before.ensures refl c.in_ok-bytes.ensures.command
+    (past_more c.self.inside.kept.items c.make_room.new.kept.items c.push_reserved.new.self.items k c.make_room.ensures.kept c.push_reserved.ensures.items)
 
 pub returns-in-Some-clause-answer : goal.returns-in-Some-clause-answer
 returns-in-Some-clause-answer g c =
     let s = contents c.self.inside in
     let d = rw c.in-Some.is at c.in_ok-refusal.ensures.answer in
-    declined_so s c.args.self.now c.args.bytes.now (told.kinds c.args.names.now) c.declare_kinds.new.world (map (λ (k : Kept). k.bytes.items) c.make_room.new.kept.items) c.self.view_is c.self.invariant c.requires c.in-Some.refusal
-    (ap (map (λ (k : Kept). k.bytes.items)) c.make_room.ensures.kept) d
+    let said = told.kinds c.args.names.now in
+    declined_so s c.args.self.now c.args.bytes.now said c.declare_kinds.new.world (pasts c.make_room.new.kept.items) c.self.view_is c.self.invariant c.requires c.in-Some.refusal (ap pasts c.make_room.ensures.kept) d
 
 pub returns-in-None-clause-answer : goal.returns-in-None-clause-answer
 returns-in-None-clause-answer g c =
     let s = contents c.self.inside in
     let d = rw c.in-None.is at c.in_ok-refusal.ensures.answer in
-    declared_so s c.args.self.now c.args.bytes.now (told.kinds c.args.names.now) c.declare_kinds.new.world (map (λ (k : Kept). k.bytes.items) c.push_reserved.new.self.items) c.self.view_is c.self.invariant c.requires refl d
-    (kept_more (λ (k : Kept). k.bytes.items) c.self.inside.kept.items c.make_room.new.kept.items c.push_reserved.new.self.items c.in_ok-entry.entry c.args.bytes.now c.make_room.ensures.kept c.push_reserved.ensures.items c.in_ok-entry.ensures.command)
+    let said = told.kinds c.args.names.now in
+    let k : Kept = record { bytes = c.in_ok-bytes.bytes; before = c.before-before.result; deed = Went } in
+    declared_so s c.args.self.now c.args.bytes.now said c.declare_kinds.new.world (pasts c.push_reserved.new.self.items) c.self.view_is c.self.invariant c.requires refl d k c.before-before.ensures refl c.in_ok-bytes.ensures.command
+    (past_more c.self.inside.kept.items c.make_room.new.kept.items c.push_reserved.new.self.items k c.make_room.ensures.kept c.push_reserved.ensures.items)

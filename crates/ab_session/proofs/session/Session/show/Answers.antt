@@ -5,7 +5,7 @@ use Rattle.ab_logic.specs.Worlds.{read, declarations_of}
 use Rattle.ab_declare.specs.declared.refusal.Refusal.TheVariants.{Unknown}
 use Rattle.ab_states.specs.declared.reply.Reply.TheVariants.{Shown, Refused}
 use Rattle.ab_session.specs.Contents.{contents}
-use Rattle.ab_session.specs.SessionAnswers.{IsAnswer}
+use Rattle.ab_session.specs.SessionAnswers.{IsForwardAnswer}
 use Rattle.ab_session.proofs.Effects.{meant, shown_answer, missing_answer}
 use Rattle.ab_session.proofs.session.Session.show.Goals as goal
 
@@ -14,16 +14,16 @@ returns-in-Some c =
     let s = contents c.self.inside in
     let w = c.self.inside.world in
     let there : theorem_in (declarations_of w) c.args.name.now ≡ Some (read w c.in-Some.formula) = sym c.theorem.ensures.reads ∙ ap (option_map (read w)) c.in-Some.is in
-    subst (λ o. IsAnswer o c.args.bytes.now o (Shown c.in_ok-copy.copy c.in-Some.formula)) c.self.view_is
+    subst (λ o. IsForwardAnswer o c.args.bytes.now o (Shown c.in_ok-copy.copy c.in-Some.formula)) c.self.view_is
     (shown_answer s c.args.bytes.now c.args.name.now c.in_ok-copy.copy c.in-Some.formula c.in_ok-copy.ensures
     (meant s c.args.self.now c.args.bytes.now (told.show c.args.name.now) c.self.view_is c.requires)
-    there c.in-Some.ensures.held (c.self.invariant.world.sentences c.args.name.now (read w c.in-Some.formula) there).closed)
+    there c.in-Some.ensures.held (c.self.invariant.sound.world.sentences c.args.name.now (read w c.in-Some.formula) there).closed)
 
 pub returns-in-None : goal.returns-in-None
 returns-in-None c =
     let s = contents c.self.inside in
     let w = c.self.inside.world in
     let none : theorem_in (declarations_of w) c.args.name.now ≡ None = sym c.theorem.ensures.reads ∙ ap (option_map (read w)) c.in-None.is in
-    subst (λ o. IsAnswer o c.args.bytes.now o (Refused (Unknown c.in_ok-copy.copy None))) c.self.view_is
+    subst (λ o. IsForwardAnswer o c.args.bytes.now o (Refused (Unknown c.in_ok-copy.copy None))) c.self.view_is
     (missing_answer s c.args.bytes.now c.args.name.now c.in_ok-copy.copy c.in_ok-copy.ensures
     (meant s c.args.self.now c.args.bytes.now (told.show c.args.name.now) c.self.view_is c.requires) none)
