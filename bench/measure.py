@@ -20,13 +20,13 @@ def with_all_stack():
     resource.setrlimit(resource.RLIMIT_STACK, (hard, hard))
 
 
-def measure(script):
-    """Returns seconds, peak memory in MB, the status and the last line of what the script prints."""
+def measure(script, words=()):
+    """Returns seconds, peak memory in MB, the status and the last line of what is printed, where the line has these words and the script is the input."""
     with tempfile.TemporaryFile() as text, tempfile.TemporaryFile() as out:
         text.write(script.encode())
         text.seek(0)
         begun = time.monotonic()
-        with subprocess.Popen([program()], stdin=text, stdout=out, preexec_fn=with_all_stack) as ran:
+        with subprocess.Popen([program(), *words], stdin=text, stdout=out, preexec_fn=with_all_stack) as ran:
             _, status, used = os.wait4(ran.pid, 0)
             ran.returncode = os.waitstatus_to_exitcode(status)
         seconds = time.monotonic() - begun
@@ -35,9 +35,9 @@ def measure(script):
     return seconds, used.ru_maxrss / 1024, ran.returncode, lines[-1]
 
 
-def table(title, sizes, make):
-    """Prints a line for each size: the time and the memory of the script that is made of it."""
+def table(title, sizes, make, words=lambda size: ()):
+    """Prints a line for each size: the time and the memory of the script that is made of it, and of the words that are."""
     print(title)
     for size in sizes:
-        seconds, memory, status, last = measure(make(size))
+        seconds, memory, status, last = measure(make(size), words(size))
         print(f"  {size:>8}  {seconds:8.2f} s  {memory:8.0f} MB  status {status}  {last[:60]}", flush=True)

@@ -3,8 +3,6 @@
 
 mod script;
 mod summary;
-#[cfg(test)]
-mod tests;
 
 pub use script::drill_script;
 pub use summary::{Tallies, write_summary};

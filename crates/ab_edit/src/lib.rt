@@ -5,8 +5,6 @@
 mod document;
 mod laws;
 mod moves;
-#[cfg(test)]
-mod tests;
 mod text;
 
 pub use document::{Document, EditFault};

@@ -2,8 +2,6 @@
 #![tactic(auto)]
 
 mod line;
-#[cfg(test)]
-mod tests;
 mod words;
 
 pub use line::{Line, Script, read_line};

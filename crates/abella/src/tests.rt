@@ -1,12 +1,11 @@
-//! What neither a clause nor a script says: runs over sources that come in pieces, runs over sources and sinks that fail,
-//! and the printed names of faults.
+//! What neither a clause nor a script says: runs over sources that come in pieces, runs over sources and sinks that fail.
 ghost use Rattle.std.specs.Prelude.{◌<◌};
 
 mod counting;
-mod names;
+mod lines;
 
-use crate::running::run;
 use ab_io::{MemFiles, MemSink, MemSource, Sink, Source};
+use ab_run::run;
 use std::alloc::{AllocError, Global};
 use std::test::Fail;
 
