@@ -1,0 +1,6 @@
+mod Connectives
+mod UnusedNames
+mod Undetermined
+mod Opened
+mod Words
+mod JudgementForms
