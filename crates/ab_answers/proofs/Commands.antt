@@ -1,0 +1,136 @@
+-- EACH PROOF COMMAND LEADS OR IS REFUSED, where it finds names.
+use Rattle.std.specs.Prelude.{Bool, true, false, ◌||◌, if◌then◌else◌, nat_lt}
+use Rattle.std.proofs.Common.{◌≡◌, ◌⊎◌, inl, inr, ℕ, zero, suc, List, [], ◌∷◌, ◌++◌, map, ◌<◌, ◌^◌, None, Some, codes, refl, sym, subst, arith, length, ◌≤◌, decimal}
+use Rattle.ab_term.specs.Terms.{Nominal, Read}
+use Rattle.ab_term.specs.Names.{support}
+use Rattle.ab_grammar.specs.CommandTrees as command
+use Rattle.ab_grammar.specs.CommandTrees.{ProofCommand, Instance, Argument}
+use Rattle.ab_formulas.specs.BodyMarks.{MayBeUnfolded}
+use Rattle.ab_formulas.specs.Cycles.{MayCycle}
+use Rattle.ab_formulas.specs.Declarations.{Declarations}
+use Rattle.ab_formulas.specs.Forms.{form_of}
+use Rattle.ab_formulas.specs.Marks.{plain, MarksServeIn}
+use Rattle.ab_formulas.specs.NewNames.{Label, auto, given}
+use Rattle.ab_formulas.specs.Sequents.{Sequent, IsUsed, proving, without, goal_names}
+use Rattle.ab_theory.specs.Pieces.{Piece, Given, pieces, behind, antecedent_count, AllServe}
+use Rattle.ab_theory.specs.UseAnswers.{awaited, result_in}
+use Rattle.ab_meaning.specs.Terms.{scope_of}
+use Rattle.ab_meaning.specs.Refusals.{Refusal, wrong_shape, mark, names_spent, type_clash}
+use Rattle.ab_effects.specs.Introductions as introductions
+use Rattle.ab_effects.specs.Row.{Row, leads, unless, makes}
+use Rattle.ab_effects.specs.FormulaUses.{scope_with, given_that, given_twice, using, formulas_in, OpenedBeside, NamelessBeside}
+use Rattle.ab_effects.specs.ProofCommands.{effect, numbered, IsNamedBy, reading_each, giving, marked_so, left_to_show, repeated}
+use Rattle.ab_existence.specs.Certainty.{IsCertain}
+use Rattle.ab_answers.specs.FindsNames.{HasRoomToOpen, FindsNames}
+use Rattle.ab_existence.proofs.Certain.{sure, and_so, and_also, least}
+use Rattle.ab_existence.proofs.FreeNames.{number_by_word}
+use Rattle.ab_answers.proofs.Places.{NumbersDiffer}
+use Rattle.ab_answers.proofs.Readings.{meaning_there, statement_there}
+use Rattle.ab_answers.proofs.Opened.{introduced_there, opened_there, parts_there}
+use Rattle.ab_answers.proofs.Uses.{use_there, unfolding_there}
+use Rattle.ab_answers.proofs.Analysed.{cases_there}
+use Rattle.ab_answers.proofs.Asked.{HasAnswers, Answer, answer_there, there_or_refused, name_there}
+
+-- A HYPOTHESIS OF INDUCTION gets its name
+
+written : (word : List ℕ) (m : ℕ) → 1 ≤ m → numbered word m ≡ word ++ decimal m
+written word zero l = absurd (omega (arith, l))
+written word (suc m) l = refl
+
+pub word_named : (word : List ℕ) (l : Label) (s : Sequent) → length s.hypotheses < 2 ^ 99 → IsCertain ((name : List ℕ) × IsNamedBy word l s name)
+word_named word auto s few =
+    and_so (number_by_word s word few)
+    (λ n. and_also (least (λ m. IsUsed s (numbered word m) → ⊥) n.0 (subst (λ x. IsUsed s x → ⊥) (sym (written word n.0 n.1)) n.2)) (λ m. (numbered word m.0, (m.0, m.1, refl))))
+word_named word (given x) s few = sure (x, refl)
+
+word_there : (word : List ℕ) (l : Label) (s : Sequent) → length s.hypotheses < 2 ^ 99 → IsCertain (((name : List ℕ) × IsNamedBy word l s name) ⊎ ((f : Refusal) × ⊥))
+word_there word l s few = and_also (word_named word l s few) (λ name. inl name)
+
+module _ (D : Declarations) where
+  -- TERMS THAT ARE GIVEN are read one after another
+  each_read : (s : Sequent) (names : List Nominal) (ps : List Piece) (is : List Instance) (k : List Given → Row) → ((gs : List Given) → HasAnswers (k gs)) → HasAnswers (reading_each D s names ps is k)
+  each_read s names ps [] k h = h []
+  each_read s names ps (i ∷ is) k h =
+      λ A e. (
+        meaning_there D (scope_with D s names) i.term A,
+        λ t m. each_read s (names ++ support t) ps is (λ gs. k (record { name = i.name; type = A; value = t } ∷ gs)) (λ gs. h (record { name = i.name; type = A; value = t } ∷ gs)),
+      )
+
+  abbrev after_giving : List Instance → Bool → (List Given → Row) → List Given → Row
+  after_giving is too_many k gs = unless (if given_twice is || too_many then Some wrong_shape else None) (k gs)
+
+  giving_there : (s : Sequent) (ps : List Piece) (is : List Instance) (too_many : Bool) (k : List Given → Row) → ((gs : List Given) → HasAnswers (k gs)) → HasAnswers (giving D s ps is too_many k)
+  giving_there s ps is too_many k h = each_read s [] ps is (after_giving is too_many k) h
+
+  abbrev applying_row : Label → Sequent → List Argument → Read → List Given → Row
+  applying_row l s vs F gs =
+      let n = length vs in
+      let hs = formulas_in s vs in
+      marked_so (AllServe (pieces n F) hs) (
+      left_to_show (using s gs (pieces n F) (record { hypotheses = hs; conclusion = None }) F) (λ K.
+      makes {A = Sequent} (OpenedBeside D gs (result_in hs K) l s) (λ f. NamelessBeside D gs (result_in hs K) l s × (f ≡ names_spent)) (λ t.
+      leads (map (λ A. proving A s) (awaited hs K) ++ t ∷ []))))
+
+  abbrev chaining_row : Sequent → Read → List Given → Row
+  chaining_row s F gs =
+      let n = antecedent_count F in
+      let hs = repeated n in
+      marked_so (MarksServeIn s.conclusion (behind n F)) (
+      left_to_show (using s gs (pieces n F) (record { hypotheses = hs; conclusion = Some s.conclusion }) F) (λ K.
+      leads (map (λ A. proving A s) (awaited hs K))))
+
+  beside_there : (gs : List Given) (F : Read) (l : Label) (s : Sequent) → HasRoomToOpen D F s → IsCertain (((t : Sequent) × OpenedBeside D gs F l s t) ⊎ ((f : Refusal) × (NamelessBeside D gs F l s × (f ≡ names_spent))))
+  beside_there gs F l s room =
+      and_also (opened_there D F l (proving (given_that gs s.conclusion) s) room)
+      (λ o. elim o [ inl p ↦ inl (proving s.conclusion p.0.1, (p.0.0, p.0.1, p.1, refl)) | inr nameless ↦ inr (names_spent, (nameless, refl)) ])
+
+  rest_differ : (b : Bool) (H : List ℕ) (s : Sequent) → NumbersDiffer s.variables → NumbersDiffer (if b then s else without H s).variables
+  rest_differ true H s differ = differ
+  rest_differ false H s differ = differ
+
+  introducing_there : (xs : List (List ℕ)) (s : Sequent) → HasRoomToOpen D s.conclusion s → IsCertain (((p : List (List ℕ) × Sequent) × introductions.Introduced D xs s p.0 p.1) ⊎ ((f : Refusal) × (introductions.Unnamed D xs s × (f ≡ names_spent))))
+  introducing_there xs s room = and_also (introduced_there D xs s room) (λ o. elim o [ inl p ↦ inl p | inr spent ↦ inr (names_spent, (spent, refl)) ])
+
+  has_answers : (l : Label) (c : ProofCommand) (s : Sequent) → FindsNames D c s → NumbersDiffer s.variables → HasAnswers (effect D l c s)
+  has_answers l (command.intros xs) s room differ = λ o e. (introducing_there xs s room, λ p i. tt)
+  has_answers l command.split s room differ = λ p e. tt
+  has_answers l command.split_all s room differ = λ p e. (sure (inl (parts_there s.conclusion)), λ Fs is. tt)
+  has_answers l command.left s room differ = λ p e. tt
+  has_answers l command.right s room differ = λ p e. tt
+  has_answers l (command.exists e) s room differ = λ q is. (meaning_there D (scope_of D s) e q.0, λ t m. tt)
+  has_answers l (command.case H keep) s room differ = λ F e. cases_there D (form_of F) F l s (if keep then s else without H s) (room F e) differ (rest_differ keep H s differ)
+  has_answers l (command.assert e) s room differ = (statement_there D s e, λ F a. (name_there l s, λ p n. tt))
+  has_answers l (command.clear Hs) s room differ = tt
+  has_answers l (command.rename H x) s room differ = λ F e. tt
+  has_answers l (command.induction []) s room differ = tt
+  has_answers l (command.induction (n ∷ [])) s room differ = λ d e. (there_or_refused (d.sign ≡ plain) mark, λ u p. (word_there (codes "IH") l s room, λ name is. tt))
+  has_answers l (command.induction (n ∷ m ∷ ns)) s room differ = tt
+  has_answers l command.coinduction s room differ = λ d e. (there_or_refused (d.sign ≡ plain) mark, λ u p. (word_there (codes "CH") l s room, λ name is. tt))
+  has_answers l (command.apply H vs is) s room differ =
+      λ F e.
+      giving_there s (pieces (length vs) F) is (nat_lt (antecedent_count F) (length vs)) (applying_row l s vs F)
+      (λ gs. (
+        there_or_refused (AllServe (pieces (length vs) F) (formulas_in s vs)) mark,
+        λ u serve. (
+          sure (use_there (using s gs (pieces (length vs) F) (record { hypotheses = formulas_in s vs; conclusion = None }) F) differ),
+          λ K used. (beside_there gs (result_in (formulas_in s vs) K) l s (room F gs K e used), λ t o. tt),
+        ),
+      ))
+  has_answers l (command.backchain H is) s room differ =
+      λ F e.
+      giving_there s (pieces (antecedent_count F) F) is false (chaining_row s F)
+      (λ gs. (
+        there_or_refused (MarksServeIn s.conclusion (behind (antecedent_count F) F)) mark,
+        λ u serve. (sure (use_there (using s gs (pieces (antecedent_count F) F) (record { hypotheses = repeated (antecedent_count F); conclusion = Some s.conclusion }) F) differ), λ K used. tt),
+      ))
+  has_answers l (command.cut H K) s room differ = tt
+  has_answers l (command.inst H is) s room differ = tt
+  has_answers l (command.monotone H e) s room differ = tt
+  has_answers l (command.search n) s room differ = tt
+  has_answers l command.skip s room differ = tt
+  has_answers l command.unfold_goal s room differ = λ d e. (there_or_refused (MayBeUnfolded d.sign) mark, λ u may. (sure (unfolding_there s d differ), λ t i. tt))
+  has_answers l (command.permute ns None) s room differ = (there_or_refused (MayCycle ns (goal_names s)) (type_clash 0), λ u may. λ A e. tt)
+  has_answers l (command.permute ns (Some H)) s room differ = (there_or_refused (MayCycle ns (goal_names s)) (type_clash 0), λ u may. λ F e. λ A is. tt)
+
+  pub command_answered : (l : Label) (c : ProofCommand) (s : Sequent) → FindsNames D c s → NumbersDiffer s.variables → IsCertain (Answer (effect D l c s))
+  command_answered l c s room differ = answer_there (effect D l c s) (has_answers l c s room differ)

@@ -1,0 +1,9 @@
+mod Readings
+mod Skeletons
+mod Places
+mod Asked
+mod Opened
+mod Uses
+mod Analysed
+mod Commands
+mod Instances
