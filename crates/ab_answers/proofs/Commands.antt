@@ -1,6 +1,6 @@
 -- EACH PROOF COMMAND LEADS OR IS REFUSED, where it finds names.
-use Rattle.std.specs.Prelude.{Bool, true, false, ◌||◌, if◌then◌else◌, nat_lt}
-use Rattle.std.proofs.Common.{◌≡◌, ◌⊎◌, inl, inr, ℕ, zero, suc, List, [], ◌∷◌, ◌++◌, map, ◌<◌, ◌^◌, None, Some, codes, refl, sym, subst, arith, length, ◌≤◌, decimal}
+use Rattle.std.specs.Prelude.{All, Bool, true, false, ◌||◌, if◌then◌else◌, nat_lt}
+use Rattle.std.proofs.Common.{◌≡◌, ◌⊎◌, inl, inr, ℕ, zero, suc, List, [], ◌∷◌, ◌++◌, map, ◌+◌, ◌<◌, ◌^◌, None, Some, codes, refl, sym, ◌∙◌, ap, subst, arith, length, length-append, ◌≤◌, decimal}
 use Rattle.ab_term.specs.Terms.{Nominal, Read}
 use Rattle.ab_term.specs.Names.{support}
 use Rattle.ab_grammar.specs.CommandTrees as command
@@ -9,9 +9,13 @@ use Rattle.ab_formulas.specs.BodyMarks.{MayBeUnfolded}
 use Rattle.ab_formulas.specs.Cycles.{MayCycle}
 use Rattle.ab_formulas.specs.Declarations.{Declarations}
 use Rattle.ab_formulas.specs.Forms.{form_of}
-use Rattle.ab_formulas.specs.Marks.{plain, MarksServeIn}
+use Rattle.ab_formulas.specs.Marks.{Sign, plain, star_of, plus_of, MarksServeIn}
 use Rattle.ab_formulas.specs.NewNames.{Label, auto, given}
-use Rattle.ab_formulas.specs.Sequents.{Sequent, IsUsed, proving, without, goal_names}
+use Rattle.ab_formulas.specs.Sequents.{Sequent, IsUsed, proving, assuming, without, goal_names}
+use Rattle.ab_theory.specs.Conjuncts.{conjuncts}
+use Rattle.ab_theory.specs.Induction.{inductive_at, coinductive_in, inductive_signs, coinductive_signs, marked_antecedents, marked_consequents}
+use Rattle.ab_theory.proofs.PartSigns.{first_and_rest}
+use Rattle.ab_theory.specs.Levels.{next_level, inductive_level, coinductive_level}
 use Rattle.ab_theory.specs.Pieces.{Piece, Given, pieces, behind, antecedent_count, AllServe}
 use Rattle.ab_theory.specs.UseAnswers.{awaited, result_in}
 use Rattle.ab_meaning.specs.Terms.{scope_of}
@@ -19,14 +23,14 @@ use Rattle.ab_meaning.specs.Refusals.{Refusal, wrong_shape, mark, names_spent, t
 use Rattle.ab_effects.specs.Introductions as introductions
 use Rattle.ab_effects.specs.Row.{Row, leads, unless, makes}
 use Rattle.ab_effects.specs.FormulaUses.{scope_with, given_that, given_twice, using, formulas_in, OpenedBeside, NamelessBeside}
-use Rattle.ab_effects.specs.ProofCommands.{effect, numbered, IsNamedBy, reading_each, giving, marked_so, left_to_show, repeated}
+use Rattle.ab_effects.specs.ProofCommands.{effect, numbered, IsNamedBy, hypotheses_named, reading_each, giving, marked_so, left_to_show, repeated}
 use Rattle.ab_existence.specs.Certainty.{IsCertain}
 use Rattle.ab_answers.specs.FindsNames.{HasRoomToOpen, FindsNames}
 use Rattle.ab_existence.proofs.Certain.{sure, and_so, and_also, least}
 use Rattle.ab_existence.proofs.FreeNames.{number_by_word}
 use Rattle.ab_answers.proofs.Places.{NumbersDiffer}
 use Rattle.ab_answers.proofs.Readings.{meaning_there, statement_there}
-use Rattle.ab_answers.proofs.Opened.{introduced_there, opened_there, parts_there}
+use Rattle.ab_answers.proofs.Opened.{introduced_there, opened_there}
 use Rattle.ab_answers.proofs.Uses.{use_there, unfolding_there}
 use Rattle.ab_answers.proofs.Analysed.{cases_there}
 use Rattle.ab_answers.proofs.Asked.{HasAnswers, Answer, answer_there, there_or_refused, name_there}
@@ -45,6 +49,31 @@ word_named word (given x) s few = sure (x, refl)
 
 word_there : (word : List ℕ) (l : Label) (s : Sequent) → length s.hypotheses < 2 ^ 99 → IsCertain (((name : List ℕ) × IsNamedBy word l s name) ⊎ ((f : Refusal) × ⊥))
 word_there word l s few = and_also (word_named word l s few) (λ name. inl name)
+
+hypotheses_there : (word : List ℕ) (Fs : List Read) (l : Label) (s : Sequent) (k : Sequent → Row) → length s.hypotheses + length Fs ≤ 2 ^ 99
+    → ((t : Sequent) → HasAnswers (k t)) → HasAnswers (hypotheses_named word l Fs s k)
+hypotheses_there word [] l s k few h = h s
+hypotheses_there word (F ∷ Fs) l s k few h = (
+  word_there word l s (omega (arith, few)),
+  λ name is.
+      let one = length-append s.hypotheses (record { name = name; formula = F } ∷ []) in
+      hypotheses_there word Fs auto (assuming name F s) k (omega (arith, few, one)) h,
+)
+
+-- there are as many parts with a new mark as there are signs
+antecedents_length : (D : Declarations) (ns : List ℕ) (m : Sign) (Fs : List Read) (ms : List Sign) → inductive_signs D ns Fs ≡ Some ms → length (marked_antecedents ns m Fs) ≡ length ms
+antecedents_length D [] m [] ms e = let same : [] ≡ ms = cc in ap length same
+antecedents_length D (n ∷ ns) m (F ∷ Fs) ms e =
+    let so = first_and_rest (inductive_at D n F) (inductive_signs D ns Fs) ms e in
+    ap suc (antecedents_length D ns m Fs so.rest so.rest_is) ∙ ap length (sym so.are)
+antecedents_length D [] m (F ∷ Fs) ms e = absurd (cc)
+antecedents_length D (n ∷ ns) m [] ms e = absurd (cc)
+
+consequents_length : (D : Declarations) (m : Sign) (Fs : List Read) (ms : List Sign) → coinductive_signs D Fs ≡ Some ms → length (marked_consequents m Fs) ≡ length ms
+consequents_length D m [] ms e = let same : [] ≡ ms = cc in ap length same
+consequents_length D m (F ∷ Fs) ms e =
+    let so = first_and_rest (coinductive_in D F) (coinductive_signs D Fs) ms e in
+    ap suc (consequents_length D m Fs so.rest so.rest_is) ∙ ap length (sym so.are)
 
 module _ (D : Declarations) where
   -- TERMS THAT ARE GIVEN are read one after another
@@ -94,7 +123,7 @@ module _ (D : Declarations) where
   has_answers : (l : Label) (c : ProofCommand) (s : Sequent) → FindsNames D c s → NumbersDiffer s.variables → HasAnswers (effect D l c s)
   has_answers l (command.intros xs) s room differ = λ o e. (introducing_there xs s room, λ p i. tt)
   has_answers l command.split s room differ = λ p e. tt
-  has_answers l command.split_all s room differ = λ p e. (sure (inl (parts_there s.conclusion)), λ Fs is. tt)
+  has_answers l command.split_all s room differ = λ p e. tt
   has_answers l command.left s room differ = λ p e. tt
   has_answers l command.right s room differ = λ p e. tt
   has_answers l (command.exists e) s room differ = λ q is. (meaning_there D (scope_of D s) e q.0, λ t m. tt)
@@ -102,10 +131,24 @@ module _ (D : Declarations) where
   has_answers l (command.assert e) s room differ = (statement_there D s e, λ F a. (name_there l s, λ p n. tt))
   has_answers l (command.clear Hs) s room differ = tt
   has_answers l (command.rename H x) s room differ = λ F e. tt
-  has_answers l (command.induction []) s room differ = tt
-  has_answers l (command.induction (n ∷ [])) s room differ = λ d e. (there_or_refused (d.sign ≡ plain) mark, λ u p. (word_there (codes "IH") l s room, λ name is. tt))
-  has_answers l (command.induction (n ∷ m ∷ ns)) s room differ = tt
-  has_answers l command.coinduction s room differ = λ d e. (there_or_refused (d.sign ≡ plain) mark, λ u p. (word_there (codes "CH") l s room, λ name is. tt))
+  has_answers l (command.induction ns) s room differ = λ ms e. (
+    there_or_refused (All (λ m. m ≡ plain) ms) mark,
+    λ u p.
+        let Fs = conjuncts s.conclusion in
+        let i = next_level inductive_level s in
+        let few = room ms e in
+        let same = antecedents_length D ns (star_of i) Fs ms e in
+        hypotheses_there (codes "IH") (marked_antecedents ns (star_of i) Fs) l s _ (omega (arith, few, same)) (λ t. tt),
+  )
+  has_answers l command.coinduction s room differ = λ ms e. (
+    there_or_refused (All (λ m. m ≡ plain) ms) mark,
+    λ u p.
+        let Fs = conjuncts s.conclusion in
+        let i = next_level coinductive_level s in
+        let few = room ms e in
+        let same = consequents_length D (plus_of i) Fs ms e in
+        hypotheses_there (codes "CH") (marked_consequents (plus_of i) Fs) l s _ (omega (arith, few, same)) (λ t. tt),
+  )
   has_answers l (command.apply H vs is) s room differ =
       λ F e.
       giving_there s (pieces (length vs) F) is (nat_lt (antecedent_count F) (length vs)) (applying_row l s vs F)

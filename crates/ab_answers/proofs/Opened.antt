@@ -1,5 +1,5 @@
 -- FORMULAS ARE OPENED, OR A NEW HYPOTHESIS GETS NO NAME; and so a conclusion is taken apart. Where names are few.
-use Rattle.std.proofs.Common.{◌≡◌, ◌≢◌, ◌⊎◌, inl, inr, ℕ, zero, suc, ◌+◌, ◌*◌, ◌<◌, List, [], ◌∷◌, ◌++◌, refl, sym, ap, subst, arith}
+use Rattle.std.proofs.Common.{◌≡◌, ◌≢◌, ◌⊎◌, inl, inr, ℕ, zero, suc, ◌+◌, ◌*◌, ◌<◌, List, [], ◌∷◌, ◌++◌, refl, sym, subst, arith}
 use Rattle.std.specs.Prelude.{Contains}
 use Rattle.ab_term.specs.Types.{Ty}
 use Rattle.ab_term.specs.Terms.{Nominal, Read}
@@ -8,12 +8,12 @@ use Rattle.ab_term.specs.Substitution.{instance}
 use Rattle.ab_term.proofs.Lists.{Contains-none, Contains-cases, All-from_contains}
 use Rattle.ab_unifiers.specs.Choices.{in_order}
 use Rattle.ab_formulas.specs.Declarations.{Declarations}
-use Rattle.ab_formulas.specs.Forms.{Form, truth, falsity, both, either, implies, equal, for_all, exists, nabla, marked, other, form_of, both_in}
+use Rattle.ab_formulas.specs.Forms.{Form, truth, falsity, both, either, implies, equal, for_all, exists, nabla, marked, other, form_of}
 use Rattle.ab_formulas.specs.Sequents.{Variable, Sequent, goal_names, names_of, assuming, proving, over}
 use Rattle.ab_formulas.specs.NewNames.{Label, auto, IsLeast}
 use Rattle.ab_theory.specs.Rules.{IsNew, hint_of, name_term, raised, applied}
 use Rattle.ab_effects.specs.Openings.{IsWhole, MayTake, Taken, Opened, Nameless}
-use Rattle.ab_effects.specs.Introductions.{IsKept, first_label, others, Introduced, Unnamed, Parts, alone, parted}
+use Rattle.ab_effects.specs.Introductions.{IsKept, first_label, others, Introduced, Unnamed}
 use Rattle.ab_existence.specs.Certainty.{IsCertain}
 use Rattle.ab_existence.proofs.Certain.{sure, and_so, and_also, least}
 use Rattle.ab_existence.proofs.Rows.{named_or_not}
@@ -51,34 +51,6 @@ taken_constant s F Fs A =
       outside = λ c. let l = number_below (support F) (record { number = n; type = A }) c in omega (arith, l, more);
       one_type = All-from_contains (λ (b : Nominal). b.number ≡ n → b.type ≡ A) held (λ b c e. absurd (let l = number_below held b c in omega (arith, l, e)));
     })
-
--- conjunctions are parted
-abbrev PartsOf : Read → Type 0
-PartsOf F = (Fs : List Read) × Parts F Fs
-
-parts_by : (n : ℕ) (F : Read) → skeleton F < n → PartsOf F
-parts_by zero F l = absurd (omega (arith, l))
-parts_by (suc n) F l = by_form (λ G less. parts_by n G less) (form_of F) refl
-  where
-    by_form : ((G : Read) → skeleton G < n → PartsOf G) → (f : Form) → form_of F ≡ f → PartsOf F
-    by_form part (both A B) e =
-        let less = fewer_both F A B e in
-        let first = part A (omega (arith, l, less)) in
-        let second = part B (omega (arith, l, less)) in
-        (first.0 ++ second.0, parted (ap both_in e) first.1 second.1)
-    by_form part truth e = (F ∷ [], alone (ap both_in e))
-    by_form part falsity e = (F ∷ [], alone (ap both_in e))
-    by_form part (either A B) e = (F ∷ [], alone (ap both_in e))
-    by_form part (implies A B) e = (F ∷ [], alone (ap both_in e))
-    by_form part (equal A t u) e = (F ∷ [], alone (ap both_in e))
-    by_form part (for_all A t) e = (F ∷ [], alone (ap both_in e))
-    by_form part (exists A t) e = (F ∷ [], alone (ap both_in e))
-    by_form part (nabla A t) e = (F ∷ [], alone (ap both_in e))
-    by_form part (marked m t) e = (F ∷ [], alone (ap both_in e))
-    by_form part other e = (F ∷ [], alone (ap both_in e))
-
-pub parts_there : (F : Read) → PartsOf F
-parts_there F = parts_by (suc (skeleton F)) F (omega arith)
 
 module _ (D : Declarations) where
   abbrev Takes : ℕ → Sequent → Read → Ty → Read → Type 0

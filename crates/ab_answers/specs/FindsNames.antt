@@ -1,13 +1,16 @@
 -- WHERE THE NEW VARIABLES OF A PROOF COMMAND ARE SURE TO FIND NAMES: where fewer than 2 ^ 99 names are taken, those among them that
 -- the command comes to make.
-use Rattle.std.specs.Prelude.{◌≡◌, ◌<◌, ◌^◌, List, [], length, Some, None, Contains, ℕ, if◌then◌else◌}
+use Rattle.std.specs.Prelude.{◌≡◌, ◌+◌, ◌≤◌, ◌^◌, List, [], length, Some, None, Contains, ℕ, if◌then◌else◌}
 use Rattle.ab_term.specs.Terms.{Read}
 use Rattle.ab_grammar.specs.CommandTrees as command
 use Rattle.ab_grammar.specs.CommandTrees.{ProofCommand}
 use Rattle.ab_formulas.specs.Declarations.{Declarations}
 use Rattle.ab_formulas.specs.Forms.{Form, truth, falsity, both, either, implies, equal, for_all, exists, nabla, marked, other, form_of}
+use Rattle.ab_formulas.specs.Marks.{Sign}
 use Rattle.ab_formulas.specs.Sequents.{Sequent, formula_of, assuming, without}
 use Rattle.ab_theory.specs.Atoms.{Defined, defined_atom}
+use Rattle.ab_theory.specs.Conjuncts.{conjuncts}
+use Rattle.ab_theory.specs.Induction.{inductive_signs, coinductive_signs}
 use Rattle.ab_theory.specs.Pieces.{Given, pieces}
 use Rattle.ab_theory.specs.UseAnswers.{IsUsedFor, result_in}
 use Rattle.ab_effects.specs.CaseAnalysis.{IsParted}
@@ -42,8 +45,8 @@ HasRoomForCases D (for_all A t) F goal rest = Unit {0}
 abbrev pub FindsNames : Declarations → ProofCommand → Sequent → Type 0
 FindsNames D (command.intros xs) s = HasRoomToOpen D s.conclusion s
 FindsNames D (command.case H keep) s = (F : Read) → formula_of s H ≡ Some F → HasRoomForCases D (form_of F) F s (if keep then s else without H s)
-FindsNames D (command.induction ns) s = length s.hypotheses < 2 ^ 99
-FindsNames D command.coinduction s = length s.hypotheses < 2 ^ 99
+FindsNames D (command.induction ns) s = (ms : List Sign) → inductive_signs D ns (conjuncts s.conclusion) ≡ Some ms → length s.hypotheses + length ms ≤ 2 ^ 99
+FindsNames D command.coinduction s = (ms : List Sign) → coinductive_signs D (conjuncts s.conclusion) ≡ Some ms → length s.hypotheses + length ms ≤ 2 ^ 99
 FindsNames D (command.apply H vs is) s =
     (F : Read) (gs : List Given) (K : Read) → formula_named D s H ≡ Some F
     → IsUsedFor (using s gs (pieces (length vs) F) (record { hypotheses = formulas_in s vs; conclusion = None }) F) K → HasRoomToOpen D (result_in (formulas_in s vs) K) s

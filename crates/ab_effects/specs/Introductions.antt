@@ -1,11 +1,11 @@
 -- What `intros` takes off a conclusion: a `forall` makes a variable over the conclusion's constants, a `nabla` a constant,
 -- and an implication a hypothesis, which isn't opened.
-use Rattle.std.specs.Prelude.{◌≡◌, ℕ, List, [], ◌∷◌, ◌++◌, Option, Some, None}
+use Rattle.std.specs.Prelude.{◌≡◌, ℕ, List, [], ◌∷◌, Option, Some, None}
 use Rattle.ab_term.specs.Types.{Ty}
 use Rattle.ab_term.specs.Substitution.{instance}
 use Rattle.ab_term.specs.Terms.{Read}
 use Rattle.ab_formulas.specs.Declarations.{Declarations}
-use Rattle.ab_formulas.specs.Forms.{Form, for_all, nabla, implies, form_of, as_both}
+use Rattle.ab_formulas.specs.Forms.{Form, for_all, nabla, implies, form_of}
 use Rattle.ab_formulas.specs.Sequents.{Sequent, assuming, proving}
 use Rattle.ab_formulas.specs.NewNames.{Label, auto, given, Names, NoName, IsLeast}
 use Rattle.ab_theory.specs.Rules.{MayName, name_term}
@@ -53,8 +53,3 @@ pub data Unnamed (D : Declarations) : List (List ℕ) → Sequent → Type 0 whe
   hypothesis : {xs : List (List ℕ)} {s : Sequent} {A B : Read} (name : List ℕ) (v : Sequent) → form_of s.conclusion ≡ implies A B → Names (first_label xs) s name v
       → Unnamed D (others xs) (proving B (assuming name A v)) → Unnamed D xs s
   unnamed : {xs : List (List ℕ)} {s : Sequent} {A B : Read} → form_of s.conclusion ≡ implies A B → NoName (first_label xs) s → Unnamed D xs s
-
--- THE PARTS of a formula that are no conjunctions, in order
-pub data Parts : Read → List Read → Type 0 where
-  alone : {F : Read} → as_both F ≡ None → Parts F (F ∷ [])
-  parted : {F A B : Read} {Fs Gs : List Read} → as_both F ≡ Some (A, B) → Parts A Fs → Parts B Gs → Parts F (Fs ++ Gs)

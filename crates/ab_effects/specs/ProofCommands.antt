@@ -1,5 +1,5 @@
 -- THE PROOF COMMANDS, row by row: what is asked, in order, and the goals that take the first goal's place.
-use Rattle.std.specs.Prelude.{◌≡◌, ℕ, zero, suc, List, [], ◌∷◌, ◌++◌, map, length, codes, Bool, false, ◌||◌, Option, Some, None, if◌then◌else◌, is_some, bytes_eq, nat_lt}
+use Rattle.std.specs.Prelude.{◌≡◌, ℕ, zero, suc, List, [], ◌∷◌, ◌++◌, map, length, codes, Bool, false, ◌||◌, All, Option, Some, None, if◌then◌else◌, is_some, bytes_eq, nat_lt}
 use Rattle.std.specs.List.{list_any}
 use Rattle.std.specs.Fmt.{decimal}
 use Rattle.ab_term.specs.Types.{Ty}
@@ -16,7 +16,8 @@ use Rattle.ab_formulas.specs.Sequents.{Sequent, IsUsed, formula_of, proving, ass
 use Rattle.ab_formulas.specs.NewNames.{Label, auto, given, Names, NoName, IsLeast}
 use Rattle.ab_formulas.specs.BodyMarks.{MayBeAnalysed, MayBeUnfolded}
 use Rattle.ab_theory.specs.Atoms.{defined_atom}
-use Rattle.ab_theory.specs.Induction.{inductive_at, coinductive_in, marked_antecedent, marked_consequent}
+use Rattle.ab_theory.specs.Conjuncts.{conjuncts, with_parts}
+use Rattle.ab_theory.specs.Induction.{inductive_signs, coinductive_signs, marked_antecedents, marked_consequents}
 use Rattle.ab_theory.specs.Levels.{next_level, inductive_level, coinductive_level}
 use Rattle.ab_theory.specs.Pieces.{Piece, Given, pieces, behind, antecedent_count, type_named, AllServe}
 use Rattle.ab_theory.specs.UseAnswers.{Using, IsUsedFor, awaited, result_in}
@@ -25,7 +26,7 @@ use Rattle.ab_effects.specs.Row.{Row, leads, unless, finds, makes}
 use Rattle.ab_meaning.specs.Terms.{MeansIn, MeansNothingIn, Means, MeansNothing, Asserts, AssertsNothing}
 use Rattle.ab_effects.specs.Openings.{Opened, Nameless}
 use Rattle.ab_effects.specs.Solutions.{IsSolved, IsOutside}
-use Rattle.ab_effects.specs.Introductions.{Introduced, Unnamed, taken_off, Parts}
+use Rattle.ab_effects.specs.Introductions.{Introduced, Unnamed, taken_off}
 use Rattle.ab_effects.specs.CaseAnalysis.{IsParted, IsUnparted, AllOpened, SomeNameless}
 use Rattle.ab_effects.specs.Unfoldings.{IsUnfolded, IsNotUnfolded}
 use Rattle.ab_effects.specs.Permutations.{of_one_type, cycling}
@@ -114,6 +115,11 @@ IsNamedBy word (given x) s name = name ≡ x
 abbrev pub hypothesis_named : List ℕ → Label → Sequent → (List ℕ → Row) → Row
 hypothesis_named word l s k = makes {A = List ℕ} (IsNamedBy word l s) (λ f. ⊥) k
 
+-- a hypothesis of induction for each of the formulas, in order, the first by the label: what follows speaks of the goal that has them
+abbrev pub hypotheses_named : List ℕ → Label → List Read → Sequent → (Sequent → Row) → Row
+hypotheses_named word l [] s k = k s
+hypotheses_named word l (F ∷ Fs) s k = hypothesis_named word l s (λ name. hypotheses_named word auto Fs (assuming name F s) k)
+
 -- What `case` does to a hypothesis of that form of the goal, of which the last is what stays. A judgement has no shape for
 -- it yet.
 abbrev pub cases : Declarations → Form → Read → Label → Sequent → Sequent → Row
@@ -169,8 +175,7 @@ effect D l command.split s =
     leads (proving p.0 s ∷ proving p.1 s ∷ []))
 effect D l command.split_all s =
     finds wrong_shape (as_both s.conclusion) (λ p.
-    makes (Parts s.conclusion) (λ f. ⊥) (λ Fs.
-    leads (map (λ F. proving F s) Fs)))
+    leads (map (λ F. proving F s) (conjuncts s.conclusion)))
 effect D l command.left s =
     finds wrong_shape (as_either s.conclusion) (λ p.
     leads (proving p.0 s ∷ []))
@@ -197,21 +202,22 @@ effect D l (command.rename H x) s =
     unless (clashing (given x) s) (
     finds (no_hypothesis H) (formula_of s H) (λ F.
     leads (assuming x F (without H s) ∷ [])))
-effect D l (command.induction (n ∷ [])) s =
-    unless (clashing l s) (
-    finds wrong_shape (inductive_at D n s.conclusion) (λ d.
-    marked_so (d.sign ≡ plain) (
-    hypothesis_named (codes "IH") l s (λ name.
+effect D l (command.induction ns) s =
+    let Fs = conjuncts s.conclusion in
     let i = next_level inductive_level s in
-    leads (proving (marked_antecedent n (at_of i) s.conclusion) (assuming name (marked_antecedent n (star_of i) s.conclusion) s) ∷ [])))))
-effect D l (command.induction ns) s = not_built
-effect D l command.coinduction s =
     unless (clashing l s) (
-    finds wrong_shape (coinductive_in D s.conclusion) (λ d.
-    marked_so (d.sign ≡ plain) (
-    hypothesis_named (codes "CH") l s (λ name.
+    finds wrong_shape (inductive_signs D ns Fs) (λ ms.
+    marked_so (All (λ m. m ≡ plain) ms) (
+    hypotheses_named (codes "IH") l (marked_antecedents ns (star_of i) Fs) s (λ t.
+    leads (proving (with_parts (marked_antecedents ns (at_of i) Fs) s.conclusion) t ∷ [])))))
+effect D l command.coinduction s =
+    let Fs = conjuncts s.conclusion in
     let i = next_level coinductive_level s in
-    leads (proving (marked_consequent (hash_of i) s.conclusion) (assuming name (marked_consequent (plus_of i) s.conclusion) s) ∷ [])))))
+    unless (clashing l s) (
+    finds wrong_shape (coinductive_signs D Fs) (λ ms.
+    marked_so (All (λ m. m ≡ plain) ms) (
+    hypotheses_named (codes "CH") l (marked_consequents (plus_of i) Fs) s (λ t.
+    leads (proving (with_parts (marked_consequents (hash_of i) Fs) s.conclusion) t ∷ [])))))
 effect D l (command.apply H vs is) s =
     unless (clashing l s) (
     finds (no_hypothesis H) (formula_named D s H) (λ F.

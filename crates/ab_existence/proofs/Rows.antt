@@ -1,13 +1,14 @@
 -- A row of a rule has an answer where all that it finds by a property is there.
 use Rattle.std.proofs.Common.{◌≡◌, ◌⊎◌, inl, inr, ℕ, List, [], ◌∷◌, Some, None, codes, refl}
+use Rattle.ab_term.specs.Terms.{Read}
 use Rattle.ab_unifiers.specs.Unification as solving
 use Rattle.ab_unifiers.specs.Unification.{unified, apart, stuck, Solves}
 use Rattle.ab_unifiers.proofs.Ending.{answered}
-use Rattle.ab_formulas.specs.Sequents.{Sequent, IsUsed, counted}
+use Rattle.ab_formulas.specs.Sequents.{Sequent, IsUsed, counted, assuming}
 use Rattle.ab_formulas.specs.NewNames.{Label, auto, given, IsFree, automatic, Names, NoName}
 use Rattle.ab_theory.specs.Equations.{Becomes, AreApart, AreStuck}
 use Rattle.ab_theory.specs.Splits.{problem_of, Split, IsUnsplit}
-use Rattle.ab_theory.specs.Row.{Row, leads, leads_by, finds, asks, labelled, solves, splits, unifies, Takes, FailsFirst, Sticks}
+use Rattle.ab_theory.specs.Row.{Row, leads, leads_by, finds, asks, labelled, labelled_each, solves, splits, unifies, Takes, FailsFirst, Sticks}
 use Rattle.ab_existence.specs.Certainty.{IsCertain}
 use Rattle.ab_existence.proofs.Certain.{sure, and_so, and_also, there_or_not, least}
 
@@ -32,6 +33,12 @@ HasAnswers (labelled i l s k) = (name : List ℕ) (t : Sequent) → Names l s na
 HasAnswers (solves IsName cells s t u) = IsCertain (((g : Sequent) × Becomes IsName cells s t u g) ⊎ (AreApart cells s t u ⊎ AreStuck cells s t u))
 HasAnswers (splits IsName cells cs) = IsCertain (((gs : List Sequent) × Split IsName cells cs gs) ⊎ ((i : ℕ) × IsUnsplit IsName cells cs i))
 HasAnswers (unifies i c f) = Unit {0}
+
+pub each_answered : (i : ℕ) (ls : List Label) (Fs : List Read) (s : Sequent) (k : Sequent → Row) → ((t : Sequent) → HasAnswers (k t)) → HasAnswers (labelled_each i ls Fs s k)
+each_answered i [] [] s k rest = rest s
+each_answered i (l ∷ ls) (F ∷ Fs) s k rest = λ name t named. each_answered i ls Fs (assuming name F t) k rest
+each_answered i [] (F ∷ Fs) s k rest = λ none. absurd none
+each_answered i (l ∷ ls) [] s k rest = λ none. absurd none
 
 abbrev pub Answer : Row → Type 0
 Answer r = ((ps : List Sequent) × Takes r ps) ⊎ (((i : ℕ) × FailsFirst r i) ⊎ ((j : ℕ) × Sticks r j))

@@ -14,13 +14,17 @@ use Rattle.ab_theory.specs.Atoms.{Defined, defined_atom}
 use Rattle.ab_theory.specs.Equations.{Naming, problem, made}
 use Rattle.ab_theory.specs.Splits.{CaseOver}
 use Rattle.ab_theory.specs.Analysis.{cases_of}
+use Rattle.ab_formulas.specs.Marks.{star_of, plus_of}
+use Rattle.ab_theory.specs.Conjuncts.{conjuncts}
+use Rattle.ab_theory.specs.Induction.{marked_antecedents, marked_consequents}
+use Rattle.ab_theory.specs.Levels.{next_level, inductive_level, coinductive_level}
 use Rattle.ab_theory.specs.Steps.{Step, initial, true_right, false_left, and_right, and_left, or_right, or_left, arrow_right, arrow_left, for_all_right, for_all_left, exists_right, exists_left, nabla_right, nabla_left, equal_right, equal_left, definition_right, definition_left, induction, coinduction, cut_formula, use_theorem, weaken, spec_cut, spec_instance, spec_monotone}
 use Rattle.ab_theory.specs.Rules.{Making, Raises, hint_of, row, any_name, by_hint}
 use Rattle.ab_theory.proofs.One.{some_name}
 use Rattle.ab_existence.specs.Certainty.{IsCertain}
 use Rattle.ab_existence.specs.FewNames.{HasRoom, StepFindsNames}
 use Rattle.ab_existence.proofs.Certain.{sure, and_also}
-use Rattle.ab_existence.proofs.Rows.{HasAnswers, Answer, answer_there}
+use Rattle.ab_existence.proofs.Rows.{HasAnswers, Answer, answer_there, each_answered}
 use Rattle.ab_existence.proofs.Namings.{support_there, constant_there, AllHaveRoom, solved_there, split_there}
 use Rattle.ab_existence.proofs.Room.{finds_name, room_left, all_room}
 
@@ -62,8 +66,8 @@ module _ (D : Declarations) (new : Making) (Room : ℕ → Sequent → Type 0)
   has_answers (equal_left H) s room = λ F e p f. solved_there new.IsName Room finds less new.cells (without H s) p.0 p.1 (room F p e f)
   has_answers (definition_right i) s room = λ d e may c f. tt
   has_answers (definition_left H l) s room = λ F e d f may L t n. split_there new.IsName Room finds less new.cells (cases_of s t L d) (room F d L t e f n)
-  has_answers (induction n l) s room = λ d e plain L t k. tt
-  has_answers (coinduction l) s room = λ d e plain L t k. tt
+  has_answers (induction ns ls) s room = λ ms e plain. each_answered 3 ls (marked_antecedents ns (star_of (next_level inductive_level s)) (conjuncts s.conclusion)) s _ (λ t. tt)
+  has_answers (coinduction ls) s room = λ ms e plain. each_answered 3 ls (marked_consequents (plus_of (next_level coinductive_level s)) (conjuncts s.conclusion)) s _ (λ t. tt)
   has_answers (cut_formula F l) s room = λ fits L t n. tt
   has_answers (use_theorem n l) s room = λ F e L t k. tt
   has_answers (weaken H) s room = λ F e. tt

@@ -1,13 +1,13 @@
 //! A kernel step is taken, or a condition of it fails first, or its equation is outside the patterns. And what induction marks.
-ghost use Rattle.std.specs.Prelude.{◌≡◌, ℕ, List, Some};
+ghost use Rattle.std.specs.Prelude.{◌≡◌, ℕ, List, map, Some, All};
 ghost use Rattle.ab_term.specs.Terms.{Read};
 ghost use Rattle.ab_unifiers.specs.Replacements.{Cell};
 ghost use Rattle.ab_formulas.specs.Declarations.{Declarations};
 ghost use Rattle.ab_formulas.specs.Marks.{Sign, plain, erased};
 ghost use Rattle.ab_formulas.specs.Sequents.{Sequent};
-ghost use Rattle.ab_theory.specs.Atoms.{Defined};
 ghost use Rattle.ab_theory.specs.Equations.{AreCells};
-ghost use Rattle.ab_theory.specs.Induction.{inductive_at, coinductive_in, marked_antecedent, marked_consequent};
+ghost use Rattle.ab_theory.specs.Conjuncts.{conjuncts, with_parts};
+ghost use Rattle.ab_theory.specs.Induction.{inductive_signs, coinductive_signs, marked_antecedents, marked_consequents};
 ghost use Rattle.ab_theory.specs.Steps.{Step};
 ghost use Rattle.ab_theory.specs.Row.{Takes, Sticks};
 ghost use Rattle.ab_theory.specs.Rules.{row, any_name, NamedRule, Fails, Stuck};
@@ -24,9 +24,15 @@ pub fn each_step_has_an_answer()
         OneOfThreeHolds ((ps : List Sequent) × NamedRule D step s ps) ((i : ℕ) × Fails D cells step s i) ((j : ℕ) × Stuck D cells step s j) }
 {}
 
-/// ERASING THE MARK THAT INDUCTION PUTS gives the formula back, and so does erasing the one that coinduction puts: past their marks the
-/// marked formula and the unmarked one are the same.
+/// ERASING THE MARKS THAT INDUCTION PUTS gives each part and the formula back, and so does erasing those that coinduction puts: past
+/// their marks the marked formulas and the unmarked ones are the same.
 pub fn induction_changes_marks_alone()
-    ensures induction { (D : Declarations) (n : ℕ) (m : Sign) (F : Read) (d : Defined) → inductive_at D n F ≡ Some d → d.sign ≡ plain → erased (marked_antecedent n m F) ≡ erased F }
-    ensures coinduction { (D : Declarations) (m : Sign) (F : Read) (d : Defined) → coinductive_in D F ≡ Some d → d.sign ≡ plain → erased (marked_consequent m F) ≡ erased F }
+    ensures parts_of_induction { (D : Declarations) (ns : List ℕ) (m : Sign) (Fs : List Read) (ms : List Sign) →
+        inductive_signs D ns Fs ≡ Some ms → All (λ k. k ≡ plain) ms → map erased (marked_antecedents ns m Fs) ≡ map erased Fs }
+    ensures induction { (D : Declarations) (ns : List ℕ) (m : Sign) (F : Read) (ms : List Sign) →
+        inductive_signs D ns (conjuncts F) ≡ Some ms → All (λ k. k ≡ plain) ms → erased (with_parts (marked_antecedents ns m (conjuncts F)) F) ≡ erased F }
+    ensures parts_of_coinduction { (D : Declarations) (m : Sign) (Fs : List Read) (ms : List Sign) →
+        coinductive_signs D Fs ≡ Some ms → All (λ k. k ≡ plain) ms → map erased (marked_consequents m Fs) ≡ map erased Fs }
+    ensures coinduction { (D : Declarations) (m : Sign) (F : Read) (ms : List Sign) →
+        coinductive_signs D (conjuncts F) ≡ Some ms → All (λ k. k ≡ plain) ms → erased (with_parts (marked_consequents m (conjuncts F)) F) ≡ erased F }
 {}

@@ -1,5 +1,5 @@
-use Rattle.ab_existence.proofs.Erased.{antecedent_same, consequent_same}
+use Rattle.ab_existence.proofs.Erased.{parts_of_induction, induction_whole, parts_of_coinduction, coinduction_whole}
 use Rattle.ab_existence.proofs.rule_laws.induction_changes_marks_alone.Goals as goal
 
 pub returns : goal.returns
-returns c = record { induction = antecedent_same; coinduction = consequent_same }
+returns c = record { parts_of_induction = parts_of_induction; induction = induction_whole; parts_of_coinduction = parts_of_coinduction; coinduction = coinduction_whole }
