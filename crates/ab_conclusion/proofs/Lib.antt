@@ -1,4 +1,5 @@
 mod Numbering
+mod NamingEach
 mod OneStep
 pub mod PartingGoals
 pub mod Introduces

@@ -11,11 +11,12 @@ use Rattle.ab_formulas.specs.NewNames.{Label}
 use Rattle.ab_formulas.specs.Sequents.{Sequent, proving}
 use Rattle.ab_logic.specs.Worlds.{IsWorld, declarations_of}
 use Rattle.ab_logic.specs.declared.world.World.{World}
+use Rattle.ab_theory.specs.Conjuncts.{conjuncts}
 use Rattle.ab_theory.specs.Steps.{and_right}
 use Rattle.ab_theory.specs.Rules.{NamedRule, Fails}
+use Rattle.ab_theory.proofs.Conjuncts.{both_conjuncts, alone_conjuncts}
 use Rattle.ab_steps.specs.ab_kernel.specs.Layout.{Held, IsProof}
 use Rattle.ab_effects.specs.ProofCommands.{effect}
-use Rattle.ab_effects.specs.Introductions.{Parts, alone, parted}
 use Rattle.ab_meaning.specs.Refusals.{wrong_shape}
 use Rattle.ab_effects.specs.Row.{Leads, Refuses}
 use Rattle.ab_steps.specs.Progress.{goals_of, IsAt, Follows, Took, FailsAt}
@@ -182,46 +183,41 @@ lighter_whole v u q r place l same =
 -- THE ROW
 
 -- the parts of formulas, one after another
-abbrev AllParts : List Read → List Read → Type 0
-AllParts [] Fs = Fs ≡ []
-AllParts (G ∷ Gs) Fs = (xs : List Read) × (ys : List Read) × Parts G xs × AllParts Gs ys × (Fs ≡ xs ++ ys)
+abbrev all_conjuncts : List Read → List Read
+all_conjuncts [] = []
+all_conjuncts (G ∷ Gs) = conjuncts G ++ all_conjuncts Gs
 
 abbrev asking : Sequent → List Read → List Sequent
 asking s Fs = map (λ F. proving F s) Fs
 
-both_parts : (G A B : Read) (Gs Fs : List Read) → as_both G ≡ Some (A, B) → AllParts (A ∷ B ∷ Gs) Fs → AllParts (G ∷ Gs) Fs
-both_parts G A B Gs Fs is (xs, ys, first, (zs, us, second, more, f), e) =
-    (xs ++ zs, us, parted is first second, more, e ∙ ap (λ vs. xs ++ vs) f ∙ sym (append_assoc xs zs us))
-
-parts_in : (s : Sequent) (ss ts : List Sequent) → Parted ss ts → (Gs : List Read) → ss ≡ asking s Gs → (Fs : List Read) × AllParts Gs Fs × (ts ≡ asking s Fs)
-parts_in s _ _ none [] e = ([], refl, refl)
+parts_in : (s : Sequent) (ss ts : List Sequent) → Parted ss ts → (Gs : List Read) → ss ≡ asking s Gs → ts ≡ asking s (all_conjuncts Gs)
+parts_in s _ _ none [] e = refl
 parts_in s _ _ none (G ∷ Gs) e = absurd (cc)
 parts_in s _ _ (whole is x) [] e = absurd (cc)
 parts_in s _ _ (whole {s = g} {ss = ss} {ts = ts} is x) (G ∷ Gs) e =
     let here : g ≡ proving G s = cc in
     let behind : ss ≡ asking s Gs = cc in
-    let rest = parts_in s ss ts x Gs behind in (
-      G ∷ rest.0,
-      (G ∷ [], rest.0, alone (subst (λ (t : Sequent). as_both t.conclusion ≡ None) here is), rest.1, refl),
-      ap (λ t. t ∷ ts) here ∙ ap (λ us. proving G s ∷ us) rest.2,
-    )
+    let alone = alone_conjuncts G (subst (λ (t : Sequent). as_both t.conclusion ≡ None) here is) in
+    ap (λ t. t ∷ ts) here
+    ∙ ap (λ us. proving G s ∷ us) (parts_in s ss ts x Gs behind)
+    ∙ ap (λ Fs. asking s (Fs ++ all_conjuncts Gs)) (sym alone)
 parts_in s _ _ (halves is x) [] e = absurd (cc)
 parts_in s _ _ (halves {s = g} {A = A} {B = B} {ss = ss} {ts = ts} is x) (G ∷ Gs) e =
     let here : g ≡ proving G s = cc in
     let behind : ss ≡ asking s Gs = cc in
     let two : proving A g ∷ proving B g ∷ ss ≡ proving A s ∷ proving B s ∷ asking s Gs =
     ap (λ (t : Sequent). proving A t ∷ proving B t ∷ ss) here ∙ ap (λ us. proving A s ∷ proving B s ∷ us) behind in
-    let rest = parts_in s (proving A g ∷ proving B g ∷ ss) ts x (A ∷ B ∷ Gs) two in
-    (rest.0, both_parts G A B Gs rest.0 (subst (λ (t : Sequent). as_both t.conclusion ≡ Some (A, B)) here is) rest.1, rest.2)
-
-one_formula : (F : Read) (Fs : List Read) → AllParts (F ∷ []) Fs → Parts F Fs
-one_formula F Fs (xs, ys, parts, no_more, e) = subst (Parts F) (sym (e ∙ ap (λ zs. xs ++ zs) no_more ∙ append-nil xs)) parts
+    let both = both_conjuncts G A B (subst (λ (t : Sequent). as_both t.conclusion ≡ Some (A, B)) here is) in
+    parts_in s (proving A g ∷ proving B g ∷ ss) ts x (A ∷ B ∷ Gs) two
+    ∙ ap (asking s) (sym (append_assoc (conjuncts A) (conjuncts B) (all_conjuncts Gs)) ∙ ap (λ Fs. Fs ++ all_conjuncts Gs) (sym both))
 
 pub split_all_leads : (D : Declarations) (l : Label) (s : Sequent) (pair : Read × Read) (ts : List Sequent) → as_both s.conclusion ≡ Some pair → Parted (proving pair.0 s ∷ proving pair.1 s ∷ []) ts
     → Leads (effect D l split_all s) ts
-split_all_leads D l s pair ts is x =
-    let all = parts_in s (s ∷ []) ts (halves {A = pair.0} {B = pair.1} is x) (s.conclusion ∷ []) refl in
-    (pair, is, (all.0, one_formula s.conclusion all.0 all.1, all.2))
+split_all_leads D l s pair ts is x = (
+  pair,
+  is,
+  parts_in s (s ∷ []) ts (halves {A = pair.0} {B = pair.1} is x) (s.conclusion ∷ []) refl ∙ ap (asking s) (append-nil (conjuncts s.conclusion)),
+)
 
 pub split_all_fails : (D : Declarations) (cells : List (Cell (List ℕ))) (l : Label) (s : Sequent) (i : ℕ) → Fails D cells and_right s i → Refuses (effect D l split_all s) wrong_shape
 split_all_fails D cells l s i (inl f) = inl (f.0, refl)

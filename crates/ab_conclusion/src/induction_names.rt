@@ -1,5 +1,5 @@
 //! Names for hypotheses of induction.
-ghost use Rattle.std.specs.Prelude.{◌≡◌, ◌+◌, ◌<◌, ◌^◌, ◌++◌, length, IfOk};
+ghost use Rattle.std.specs.Prelude.{◌≡◌, ◌+◌, ◌<◌, ◌^◌, ◌++◌, length, map, IfOk};
 ghost use Rattle.std.specs.Fmt.{decimal};
 ghost use Rattle.std.specs.Option.{option_map};
 ghost use Rattle.ab_formulas.specs.NewNames.{auto};
@@ -7,6 +7,7 @@ ghost use Rattle.ab_logic.specs.SequentReadings.{sequent_of};
 ghost use Rattle.ab_alternatives.specs.ab_equations.specs.Labels.{label_of};
 ghost use Rattle.ab_effects.specs.ProofCommands.{IsNamedBy, clashing};
 ghost use Rattle.ab_meaning.specs.Refusals.{clash};
+ghost use Rattle.ab_conclusion.specs.InductionSizes.{AreNamedBy, label_at};
 
 use ab_alternatives::equations::Label;
 use ab_logic::{Sequent, World};
@@ -35,20 +36,49 @@ pub(crate) fn label_clash(
     }
 }
 
-/// The name of a hypothesis of induction: the label, or else the word, with the first number that makes it free where a
-/// hypothesis of the goal has the word alone.
-pub(crate) fn hypothesis_name(
+/// The names of so many hypotheses of induction, as labels: the first the label, if there is one, and each other the word,
+/// with the first number that makes it free where a hypothesis of the goal, or one before it, has the word alone.
+pub(crate) fn hypothesis_labels(
+    alloc: Global,
+    world: &World,
+    goal: &Sequent,
+    count: usize,
+    word: &str,
+    label: &Label,
+) -> Result<Vec<Label>, AllocError>
+    ensures { IfOk result (λ labels. AreNamedBy word.now (label_of label.now) (sequent_of world.now goal.now) count (map label_of labels.items)) }
+{
+    let mut labels = Vec::new(alloc);
+    let mut with_those = goal.copy(alloc)?;
+    for index in 0..count {
+        let name = hypothesis_name(alloc, world, &with_those, word, label, index)?;
+        labels.push(Label::Given(name.copy(alloc)?))?;
+        with_those = with_those.assuming(name, goal.conclusion)?;
+    }
+    Ok(labels)
+}
+
+/// The name of the hypothesis of this place: the label where it is the first, or else the word, with the first number that
+/// makes it free where a hypothesis of the goal has the word alone.
+fn hypothesis_name(
     alloc: Global,
     world: &World,
     goal: &Sequent,
     word: &str,
     label: &Label,
+    index: usize,
 ) -> Result<Name, AllocError>
-    ensures { IfOk result (IsNamedBy word.now (label_of label.now) (sequent_of world.now goal.now)) }
+    ensures { IfOk result (IsNamedBy word.now (label_at index (label_of label.now)) (sequent_of world.now goal.now)) }
 {
     match label {
         Label::Auto => first_free(alloc, world, goal, word),
-        Label::Given(name) => name.copy(alloc),
+        Label::Given(name) => {
+            if index == 0 {
+                name.copy(alloc)
+            } else {
+                first_free(alloc, world, goal, word)
+            }
+        }
     }
 }
 

@@ -60,8 +60,8 @@ module _ (w v : World) (grown : Grows w v) where
   same_step (EqualLeft H) h = refl
   same_step (DefRight i) h = refl
   same_step (DefLeft H l) h = refl
-  same_step (Induction n l) h = refl
-  same_step (Coinduction l) h = refl
+  same_step (Induction ns ls) h = refl
+  same_step (Coinduction ls) h = refl
   same_step (CutFormula F l) h = ap (λ t. plain.cut_formula t (label_of l)) (grown.readings F h)
   same_step (UseTheorem n l) h = refl
   same_step (Weaken H) h = refl
@@ -92,8 +92,8 @@ module _ (w v : World) (grown : Grows w v) where
   still_step (EqualLeft H) h = tt
   still_step (DefRight i) h = tt
   still_step (DefLeft H l) h = tt
-  still_step (Induction n l) h = tt
-  still_step (Coinduction l) h = tt
+  still_step (Induction ns ls) h = tt
+  still_step (Coinduction ls) h = tt
   still_step (CutFormula F l) h = grown.ids F h
   still_step (UseTheorem n l) h = tt
   still_step (Weaken H) h = tt

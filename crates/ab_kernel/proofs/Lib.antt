@@ -17,3 +17,4 @@ pub mod Refines
 pub mod Earlier
 pub mod Trees
 pub mod Growing
+mod SizeRows

@@ -1,6 +1,8 @@
 -- THE KERNEL: the rules on shared terms, and derivations with open goals.
 -- What the function of a rule answers, by the rule's row in `ab_theory`.
 pub mod RuleAnswers
+pub mod Items
+pub mod SizeSteps
 pub mod Terms
 pub mod UsedNumbers
 -- What a proof stands for: its nodes, and how its fields hold them.

@@ -14,6 +14,7 @@ use Rattle.ab_theory.specs.Row.{Row, Takes, FailsFirst, Sticks}
 use Rattle.ab_theory.specs.Rules.{row, by_hint}
 use Rattle.ab_kernel.specs.declared.replaces.Replace.{Replace}
 pub use Rattle.ab_alternatives.specs.ab_equations.specs.Labels.{label_of}
+use Rattle.ab_kernel.specs.Items.{list_of}
 use Rattle.ab_kernel.specs.declared.step.Step.{Step}
 use Rattle.ab_kernel.specs.declared.step.Step.TheVariants.{Initial, TrueRight, FalseLeft, AndRight, AndLeft, OrRight, OrLeft, ArrowRight, ArrowLeft, ForallRight, ForallLeft, ExistsRight, ExistsLeft, NablaRight, NablaLeft, EqualRight, EqualLeft, DefRight, DefLeft, Induction, Coinduction, CutFormula, UseTheorem, Weaken, SpecCut, SpecInst, SpecMonotone}
 use Rattle.ab_kernel.specs.declared.step.KernelFault.{KernelFault}
@@ -43,8 +44,8 @@ step_of w EqualRight = plain.equal_right
 step_of w (EqualLeft H) = plain.equal_left H
 step_of w (DefRight i) = plain.definition_right i
 step_of w (DefLeft H l) = plain.definition_left H (label_of l)
-step_of w (Induction n l) = plain.induction n (label_of l)
-step_of w (Coinduction l) = plain.coinduction (label_of l)
+step_of w (Induction ns ls) = plain.induction (list_of ns) (map label_of (list_of ls))
+step_of w (Coinduction ls) = plain.coinduction (map label_of (list_of ls))
 step_of w (CutFormula F l) = plain.cut_formula (read w F) (label_of l)
 step_of w (UseTheorem n l) = plain.use_theorem n (label_of l)
 step_of w (Weaken H) = plain.weaken H

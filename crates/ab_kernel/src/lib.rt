@@ -6,6 +6,7 @@ mod definition_rules;
 mod eigenvariables;
 mod equality_rules;
 mod goal_numbers;
+mod items;
 pub mod laws;
 mod left_rules;
 mod nabla_constants;
@@ -22,6 +23,7 @@ mod step;
 mod term_fit;
 mod witness_rules;
 
+pub use items::Items;
 pub use node::{Children, ProofNode};
 pub use proof::{Proof, Refinement};
 pub use step::{KernelFault, Step};

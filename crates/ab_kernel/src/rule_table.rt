@@ -12,9 +12,10 @@ use crate::eigenvariables::{exists_left, for_all_right, nabla_left, nabla_right}
 use crate::equality_rules::equal_left;
 use crate::left_rules::{and_left, arrow_left, arrow_right, or_left, use_theorem, weaken};
 use crate::right_rules::{and_right, or_right};
-use crate::size_rules::{coinduction, induction};
+use crate::size_rules::give_sizes;
 use crate::step::{KernelFault, Step};
 use crate::witness_rules::{cut_formula, exists_right, for_all_left};
+use ab_alternatives::sequents::Kind;
 use ab_logic::{Sequent, World};
 use ab_norm::types::Steps;
 use std::alloc::Global;
@@ -61,8 +62,15 @@ pub fn premises<L>(
         Step::CutFormula(formula, given) => cut_formula(alloc, world, *formula, given, sequent),
         Step::DefRight(place) => definition_right(alloc, world, *place, sequent, steps),
         Step::DefLeft(name, given) => definition_left(alloc, world, name, given, sequent, steps),
-        Step::Induction(place, given) => induction(alloc, world, *place, given, sequent),
-        Step::Coinduction(given) => coinduction(alloc, world, given, sequent),
+        Step::Induction(places, given) => {
+            let places = places.as_slice();
+            let given = given.as_slice();
+            give_sizes(alloc, world, Kind::Induction, places, given, sequent)
+        }
+        Step::Coinduction(given) => {
+            let given = given.as_slice();
+            give_sizes(alloc, world, Kind::Coinduction, &[], given, sequent)
+        }
         Step::SpecCut(_, _, _) => Err(KernelFault::RuleFails(0)),
         Step::SpecInst(_, _, _) => Err(KernelFault::RuleFails(0)),
         Step::SpecMonotone(_, _, _) => Err(KernelFault::RuleFails(0)),

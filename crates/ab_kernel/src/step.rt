@@ -1,5 +1,6 @@
 //! The steps of a derivation, and why one isn't taken.
 
+use crate::items::Items;
 use crate::replaces::Replaces;
 use ab_alternatives::equations::Label;
 use ab_norm::name::Name;
@@ -48,10 +49,10 @@ pub enum Step {
     DefRight(usize),
     /// A goal for each way in which a hypothesis may hold.
     DefLeft(Name, Label),
-    /// Induction on the antecedent of this place, counted from 1.
-    Induction(u32, Label),
-    /// Coinduction.
-    Coinduction(Label),
+    /// Induction, in each part of the conclusion on the antecedent of its place, counted from 1.
+    Induction(Items<u32>, Items<Label>),
+    /// Coinduction, in each part of the conclusion.
+    Coinduction(Items<Label>),
     /// A goal for a formula, and one that assumes it.
     CutFormula(TermId, Label),
     /// A theorem as a hypothesis.

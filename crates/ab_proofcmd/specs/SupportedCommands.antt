@@ -1,10 +1,9 @@
 -- The proof commands that are built.
-use Rattle.std.specs.Prelude.{◌≡◌, length}
 use Rattle.ab_grammar.specs.CommandTrees.{ProofCommand, intros, induction, coinduction, case, apply, backchain, split, split_all, left, right, unfold_goal, exists, assert, clear, rename, permute}
 
 abbrev pub IsBuilt : ProofCommand → Type 0
 IsBuilt (intros xs) = Unit {0}
-IsBuilt (induction ns) = length ns ≡ 1
+IsBuilt (induction ns) = Unit {0}
 IsBuilt coinduction = Unit {0}
 IsBuilt (case H keep) = Unit {0}
 IsBuilt (apply H vs is) = Unit {0}

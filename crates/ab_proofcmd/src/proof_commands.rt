@@ -32,6 +32,7 @@ pub fn is_built(command: &ProofCommand) -> bool
 {
     match command {
         ProofCommand::Intros(_)
+        | ProofCommand::Induction(_)
         | ProofCommand::Coinduction
         | ProofCommand::Case(_, _)
         | ProofCommand::Split
@@ -46,7 +47,6 @@ pub fn is_built(command: &ProofCommand) -> bool
         | ProofCommand::Clear(_)
         | ProofCommand::Rename(_, _)
         | ProofCommand::Permute(_, _) => true,
-        ProofCommand::Induction(places) => places.as_slice().len() == 1,
         ProofCommand::Cut(_, _)
         | ProofCommand::Inst(_, _)
         | ProofCommand::Monotone(_, _)
@@ -89,7 +89,7 @@ pub fn apply_proof_command<L>(
     match command {
         ProofCommand::Intros(names) => intros(alloc, world, proof, names.as_slice(), steps),
         ProofCommand::Induction(places) => {
-            induction(alloc, world, proof, &wanted, places.as_slice()[0], steps)
+            induction(alloc, world, proof, &wanted, places.as_slice(), steps)
         }
         ProofCommand::Coinduction => coinduction(alloc, world, proof, &wanted, steps),
         ProofCommand::Case(name, keep) => case(alloc, world, proof, &wanted, name, *keep, steps),

@@ -4,3 +4,5 @@ pub mod Parts
 pub mod MarkedAtoms
 pub mod Counts
 pub mod Looks
+pub mod PartSizes
+pub mod Halves

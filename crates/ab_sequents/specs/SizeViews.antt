@@ -1,16 +1,23 @@
 -- A formula as the program sees it where it is given a size. Public contracts don't speak of it.
-use Rattle.std.specs.Prelude.{ℕ, ◌<◌, List, Option, Some, None}
+use Rattle.std.specs.Prelude.{ℕ, ◌<◌, List, Bool, true, false, Option, Some, None, slice_get}
+use Rattle.std.specs.Option.{option_map}
 use Rattle.ab_term.specs.Logical.{Logical, universal, nabla, implication}
 use Rattle.ab_term.specs.Terms as tree
 use Rattle.ab_term.specs.Terms.{logical, lam, spine, Terms, no_terms, term, Read}
 use Rattle.ab_norm.specs.ab_types.specs.Entries.{Table}
 use Rattle.ab_norm.specs.ab_store.specs.declared.node.Head.{Head}
 use Rattle.ab_norm.specs.ab_store.specs.Trees.{Contents, tree_of, head_in}
+use Rattle.ab_formulas.specs.Declarations.{Declarations}
 use Rattle.ab_formulas.specs.Marks.{Sign}
 use Rattle.ab_formulas.specs.BodyMarks.{with_mark}
-use Rattle.ab_theory.specs.Induction.{in_antecedent, in_consequent}
+use Rattle.ab_theory.specs.Atoms.{Defined}
+use Rattle.ab_theory.specs.Judgements.{Judgement}
+use Rattle.ab_theory.specs.Induction.{in_antecedent, in_consequent, inductive_at, coinductive_in, defined_so, judgement_or}
+use Rattle.ab_norm.specs.ab_store.specs.declared.node.TermId.{TermId}
 use Rattle.ab_sequents.specs.declared.size_marks.Part.{Part}
 use Rattle.ab_sequents.specs.declared.size_marks.Part.TheVariants.{Antecedent, Consequent}
+use Rattle.ab_sequents.specs.declared.levels.Kind.{Kind}
+use Rattle.ab_sequents.specs.declared.levels.Kind.TheVariants.{Induction, Coinduction}
 use Rattle.ab_sequents.specs.declared.formula_views.Role.{Role as KeptRole}
 use Rattle.ab_sequents.specs.declared.formula_views.Role.TheVariants.{Quantifier, Arrow as ArrowRole, Neither}
 use Rattle.ab_sequents.specs.declared.formula_views.Outer.{Outer as KeptOuter}
@@ -20,6 +27,25 @@ use Rattle.ab_sequents.specs.declared.formula_views.Outer.TheVariants.{Under, Ar
 abbrev pub part_marked : Part → Sign → Read → Read
 part_marked (Antecedent n) m = in_antecedent (with_mark m) n
 part_marked Consequent m = in_consequent (with_mark m)
+
+-- the mark that the part under the prefix has
+abbrev pub sign_at : Declarations → Part → Read → Option Sign
+sign_at D (Antecedent n) F = inductive_at D n F
+sign_at D Consequent F = coinductive_in D F
+
+-- the mark of a judgement, or of an atom whose definition is inductive; or of one whose definition is coinductive
+abbrev pub sign_of_either : Bool → Option Judgement → Option Defined → Option Sign
+sign_of_either true j d = judgement_or j (defined_so true d)
+sign_of_either false j d = defined_so false d
+
+-- which part gets a size in the conclusion's part of this index
+abbrev pub part_at : Kind → List ℕ → ℕ → Option Part
+part_at Induction ns i = option_map Antecedent (slice_get ns i)
+part_at Coinduction ns i = Some Consequent
+
+-- the halves of a conjunction
+abbrev pub halves_read : Table → Contents → TermId × TermId → Read × Read
+halves_read types store p = (tree_of types store p.0, tree_of types store p.1)
 
 -- what a head does: it is of the prefix, or implies, or neither
 pub data Role : Type 0 where

@@ -1,5 +1,5 @@
-//! The formula with a mark at the atom on which induction or coinduction goes.
-ghost use Rattle.std.specs.Prelude.{◌≡◌, IfOk};
+//! The parts of a conclusion with marks at the atoms on which induction or coinduction goes.
+ghost use Rattle.std.specs.Prelude.{◌≡◌, All, IfOk, map};
 ghost use Rattle.ab_norm.specs.ab_types.specs.Entries.{Table};
 ghost use Rattle.ab_term.specs.Logical.{implication};
 ghost use Rattle.ab_term.specs.Terms.{logical, spine, term, no_terms};
@@ -9,12 +9,13 @@ ghost use Rattle.ab_logic.specs.Forms.{sign_of};
 ghost use Rattle.ab_logic.specs.WorldGrowth.{Grows};
 ghost use Rattle.ab_logic.specs.Worlds.{IsWorld, Holds as HoldsIn, read};
 ghost use Rattle.ab_formulas.specs.BodyMarks.{with_mark};
-ghost use Rattle.ab_theory.specs.Induction as plain;
 ghost use Rattle.ab_theory.specs.Induction.{in_matrix, in_antecedent, in_consequent};
-ghost use Rattle.ab_sequents.specs.SizeViews.{part_marked};
+ghost use Rattle.ab_sequents.specs.Kinds.{marked_by};
+ghost use Rattle.ab_sequents.specs.SizeViews.{part_at, part_marked};
 
 use crate::body_marks::marked;
 use crate::formula_views::{Outer, look_at};
+use crate::levels::Kind;
 use ab_logic::{Sign, World};
 use ab_norm::store::{Head, Logical, Node, Store, TermId};
 use std::alloc::{AllocError, Global};
@@ -28,47 +29,63 @@ pub enum Part {
     Consequent,
 }
 
-/// The formula, with the mark at the antecedent of this place, counted from 1.
-pub fn marked_antecedent(
-    alloc: Global,
-    world: &mut World,
-    place: u32,
-    sign: Sign,
-    formula: TermId,
-) -> Result<TermId, AllocError>
-    requires world { IsWorld world.old }
-    requires formula { HoldsIn world.old formula }
-    ensures held { IfOk result (HoldsIn world.new) }
-    ensures reads { IfOk result (λ t. read world.new t ≡ plain.marked_antecedent place (sign_of sign) (read world.old formula)) }
-    ensures grows { Grows world.old world.new }
-    ensures types { world.new.types ≡ world.old.types }
-    ensures additions { world.new.additions ≡ world.old.additions }
+/// Which part gets the mark of the conclusion's part of this index: for induction the antecedent of its place, where it has
+/// one.
+pub(crate) fn part_at(kind: Kind, places: &[u32], index: usize) -> Option<Part>
+    ensures { result ≡ part_at kind places.now index }
 {
-    mark_under(
-        alloc,
-        &mut world.store,
-        Part::Antecedent(place),
-        sign,
-        formula,
-    )
+    match kind {
+        Kind::Induction => match places.get(index) {
+            Some(place) => Some(Part::Antecedent(*place)),
+            None => None,
+        },
+        Kind::Coinduction => Some(Part::Consequent),
+    }
 }
 
-/// The formula, with the mark behind all antecedents.
-pub fn marked_consequent(
+/// The parts of a conclusion, each with the mark: for induction at the antecedents of these places, as many as have one.
+pub fn marked_parts(
     alloc: Global,
     world: &mut World,
+    kind: Kind,
+    places: &[u32],
     sign: Sign,
-    formula: TermId,
-) -> Result<TermId, AllocError>
+    parts: &[TermId],
+) -> Result<Vec<TermId>, AllocError>
     requires world { IsWorld world.old }
-    requires formula { HoldsIn world.old formula }
-    ensures held { IfOk result (HoldsIn world.new) }
-    ensures reads { IfOk result (λ t. read world.new t ≡ plain.marked_consequent (sign_of sign) (read world.old formula)) }
+    requires parts { All (HoldsIn world.old) parts.now }
+    ensures held { IfOk result (λ ts. All (HoldsIn world.new) ts.items) }
+    ensures reads { IfOk result (λ ts. map (read world.new) ts.items ≡ marked_by kind places.now (sign_of sign) (map (read world.old) parts.now)) }
     ensures grows { Grows world.old world.new }
     ensures types { world.new.types ≡ world.old.types }
     ensures additions { world.new.additions ≡ world.old.additions }
 {
-    mark_under(alloc, &mut world.store, Part::Consequent, sign, formula)
+    mark_each(alloc, &mut world.store, kind, places, sign, parts)
+}
+
+/// The same in a store.
+fn mark_each(
+    alloc: Global,
+    store: &mut Store,
+    kind: Kind,
+    places: &[u32],
+    sign: Sign,
+    parts: &[TermId],
+) -> Result<Vec<TermId>, AllocError>
+    requires { All (Holds store.old) parts.now }
+    ensures held { IfOk result (λ ts. All (Holds store.new) ts.items) }
+    ensures reads { IfOk result (λ ts. (types : Table) → map (tree_of types store.new) ts.items
+        ≡ marked_by kind places.now (sign_of sign) (map (tree_of types store.old) parts.now)) }
+    ensures adds { AddsTerms store.old store.new }
+{
+    let mut made = Vec::new(alloc);
+    for index in 0..parts.len() {
+        let Some(part) = part_at(kind, places, index) else {
+            return Ok(made);
+        };
+        made.push(mark_under(alloc, store, part, sign, parts[index])?)?;
+    }
+    Ok(made)
 }
 
 /// The formula, with the mark at the part under its prefix.

@@ -67,12 +67,6 @@ returns-in-DefRight-clause-answers g c = rw c.in-DefRight.is c.definition_right.
 pub returns-in-DefLeft-clause-answers : goal.returns-in-DefLeft-clause-answers
 returns-in-DefLeft-clause-answers g c = rw c.in-DefLeft.is c.definition_left.ensures.answers
 
-pub returns-in-Induction-clause-answers : goal.returns-in-Induction-clause-answers
-returns-in-Induction-clause-answers g c = rw c.in-Induction.is c.induction.ensures.answers
-
-pub returns-in-Coinduction-clause-answers : goal.returns-in-Coinduction-clause-answers
-returns-in-Coinduction-clause-answers g c = rw c.in-Coinduction.is c.coinduction.ensures.answers
-
 pub returns-in-SpecCut-clause-answers : goal.returns-in-SpecCut-clause-answers
 returns-in-SpecCut-clause-answers g c = rw c.in-SpecCut.is (inl (λ x. x, refl))
 

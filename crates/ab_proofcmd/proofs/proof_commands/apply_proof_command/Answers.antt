@@ -1,17 +1,16 @@
-use Rattle.std.specs.Prelude.{IfOk, All, length, slice_index}
+use Rattle.std.specs.Prelude.{IfOk, All}
 use Rattle.std.specs.Option.{option_copied}
-use Rattle.std.proofs.Common.{◌≡◌, ℕ, List, [], ◌∷◌, Option, map, refl, ap, sym, ◌∙◌, subst, arith}
+use Rattle.std.proofs.Common.{ℕ, List, Option, map, subst}
 use Rattle.ab_grammar.specs.CommandTrees as told
 use Rattle.ab_syntax.specs.declared.command.Argument.{Argument}
 use Rattle.ab_syntax.specs.declared.command.Instance.{Instance}
 use Rattle.ab_syntax.specs.declared.command.ProofCommand.{ProofCommand}
-use Rattle.ab_syntax.specs.Commands.{argument_of, instance_of, proof_command_of}
+use Rattle.ab_syntax.specs.Commands.{argument_of, instance_of}
 use Rattle.ab_syntax.specs.Items.{list_of}
 use Rattle.ab_syntax.specs.SyntaxTrees.{tree_of}
 use Rattle.ab_formulas.specs.NewNames.{Label}
 use Rattle.ab_steps.specs.ProofEffects.{IsApplied, IsRefused}
 use Rattle.ab_effects.specs.ProofCommands.{given_label}
-use Rattle.ab_proofcmd.specs.SupportedCommands.{IsBuilt}
 use Rattle.ab_proofcmd.proofs.Answered.{at_label}
 use Rattle.ab_proofcmd.proofs.proof_commands.apply_proof_command.Goals as goal
 
@@ -28,34 +27,21 @@ returns-in-Intros-clause-refused g c fault e =
     rw c.in-Intros.is
     (subst (λ (xs : List (List ℕ)). IsRefused l (told.intros xs) c.args.world.now c.args.proof.now fault) c.as_slice.ensures (c.intros.ensures.refused fault e l))
 
--- one place is given
-only : (xs : List ℕ) → length xs ≡ 1 → xs ≡ slice_index xs 0 ∷ []
-only [] e = absurd (omega arith)
-only (x ∷ []) e = refl
-only (x ∷ y ∷ xs) e = absurd (omega arith)
-
-one_place : (places items : List ℕ) → length places ≡ 1 → items ≡ places → slice_index items 0 ∷ [] ≡ places
-one_place places items e same = ap (λ (xs : List ℕ). slice_index xs 0 ∷ []) same ∙ sym (only places e)
-
 pub returns-in-Induction-clause-applied : goal.returns-in-Induction-clause-applied
 returns-in-Induction-clause-applied g c =
     let l = given_label (option_copied c.args.label) in
-    let built = subst (λ (k : ProofCommand). IsBuilt (proof_command_of k)) c.in-Induction.is c.requires.built in
-    let one = one_place (list_of c.in-Induction.places) c.as_slice-in-Induction.result.now built c.as_slice-in-Induction.ensures in
     let done = λ (m : Label) (xs : List ℕ). IfOk c.induction.result (λ u. IsApplied m (told.induction xs) c.args.world.now c.args.proof.now c.induction.new.world c.induction.new.proof) in
     rw c.in-Induction.is
-    (subst (λ (xs : List ℕ). done l xs) one
-    (subst (λ (m : Label). done m (slice_index c.as_slice-in-Induction.result.now 0 ∷ [])) c.in_ok-wanted.ensures c.induction.ensures.applied))
+    (subst (λ (xs : List ℕ). done l xs) c.as_slice-in-Induction.ensures
+    (subst (λ (m : Label). done m c.as_slice-in-Induction.result.now) c.in_ok-wanted.ensures c.induction.ensures.applied))
 
 pub returns-in-Induction-clause-refused : goal.returns-in-Induction-clause-refused
 returns-in-Induction-clause-refused g c fault e =
     let l = given_label (option_copied c.args.label) in
-    let built = subst (λ (k : ProofCommand). IsBuilt (proof_command_of k)) c.in-Induction.is c.requires.built in
-    let one = one_place (list_of c.in-Induction.places) c.as_slice-in-Induction.result.now built c.as_slice-in-Induction.ensures in
     let refused = λ (m : Label) (xs : List ℕ). IsRefused m (told.induction xs) c.args.world.now c.args.proof.now fault in
     rw c.in-Induction.is
-    (subst (λ (xs : List ℕ). refused l xs) one
-    (subst (λ (m : Label). refused m (slice_index c.as_slice-in-Induction.result.now 0 ∷ [])) c.in_ok-wanted.ensures (c.induction.ensures.refused fault e)))
+    (subst (λ (xs : List ℕ). refused l xs) c.as_slice-in-Induction.ensures
+    (subst (λ (m : Label). refused m c.as_slice-in-Induction.result.now) c.in_ok-wanted.ensures (c.induction.ensures.refused fault e)))
 
 pub returns-in-Coinduction-clause-applied : goal.returns-in-Coinduction-clause-applied
 returns-in-Coinduction-clause-applied g c =

@@ -1,6 +1,6 @@
 use Rattle.std.proofs.Common.{subst}
 use Rattle.ab_norm.specs.ab_store.specs.Naming.{NodeIsTyped, HeadIsTyped}
-use Rattle.ab_sequents.proofs.places.defined_as.Goals as goal
+use Rattle.ab_sequents.proofs.places.sign_as.Goals as goal
 
 pub block-requires-clause-predicate : goal.block-requires-clause-predicate
 block-requires-clause-predicate c =
