@@ -5,7 +5,6 @@ use Rattle.ab_term.specs.Translation.{translate}
 use Rattle.ab_print.specs.GoalText.{reply_line}
 use Rattle.ab_formulas.specs.NamedGoals.{Named, Goal}
 use Rattle.ab_print.specs.NamedGoalText.{shown as term, goal_lines, other_goal}
-use Rattle.ab_syntax.specs.Items.{list_of}
 use Rattle.ab_declare.specs.declared.refusal.Place.{Place}
 use Rattle.ab_declare.specs.declared.refusal.Refusal.{Refusal}
 use Rattle.ab_declare.specs.declared.refusal.Refusal.TheVariants.{Syntax, TooLong, Unknown, Clash, TypeClash, Untyped, NotStratified, BadHead, WrongPlace, NoHypothesis, WrongShape, NoMatch, NotPattern, Unresolved, Mark, NotFound, NothingToUndo, FileMissing, FileFault, FileTooLong, WrongTitle, Circular, TooNested, NamesSpent, TooManyFiles, NotBuilt}
@@ -72,7 +71,7 @@ detail (FileMissing x) = named x
 detail (FileFault x) = named x
 detail (FileTooLong x) = named x
 detail (WrongTitle x) = named x
-detail (Circular xs) = all_named (list_of xs)
+detail (Circular xs) = all_named xs
 detail (TooNested p) = at_place p
 detail (TooManyFiles x) = named x
 detail _ = []

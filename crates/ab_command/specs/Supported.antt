@@ -1,12 +1,11 @@
 -- The commands that are built, of all that the grammar has.
-use Rattle.std.specs.Prelude.{◌≡◌, ℕ, length}
+use Rattle.std.specs.Prelude.{◌≡◌, ℕ}
 use Rattle.ab_grammar.specs.CommandTrees.{Command, kinds, constants, define, theorem, specification, query, show, quit, subgoals, back, reset, undo, abort, in_proof, ProofCommand, intros, induction, coinduction, split, split_all, left, right, exists, unfold_goal, case, apply, backchain, assert, clear, rename, permute, search, skip, cut, inst, monotone}
 
--- A proof command, read from so many tokens: `search` is built without its depth alone, of a word and a full stop, and
--- `induction` with one number alone.
+-- A proof command, read from so many tokens: `search` is built without its depth alone, of a word and a full stop.
 abbrev pub IsBuiltInProof : ℕ → ProofCommand → Type 0
 IsBuiltInProof count (intros xs) = Unit {0}
-IsBuiltInProof count (induction ns) = length ns ≡ 1
+IsBuiltInProof count (induction ns) = Unit {0}
 IsBuiltInProof count coinduction = Unit {0}
 IsBuiltInProof count split = Unit {0}
 IsBuiltInProof count split_all = Unit {0}
@@ -41,5 +40,5 @@ IsBuilt count (in_proof label c) = IsBuiltInProof count c
 IsBuilt count back = Unit {0}
 IsBuilt count reset = Unit {0}
 IsBuilt count undo = Unit {0}
-IsBuilt count (specification x) = ⊥
+IsBuilt count (specification x) = Unit {0}
 IsBuilt count (query e n m) = ⊥

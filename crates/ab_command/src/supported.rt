@@ -11,6 +11,7 @@ fn is_built_in_proof(command: &ProofCommand, count: usize) -> bool
 {
     match command {
         ProofCommand::Intros(_)
+        | ProofCommand::Induction(_)
         | ProofCommand::Coinduction
         | ProofCommand::Split
         | ProofCommand::SplitAll
@@ -25,7 +26,6 @@ fn is_built_in_proof(command: &ProofCommand, count: usize) -> bool
         | ProofCommand::Clear(_)
         | ProofCommand::Rename(_, _)
         | ProofCommand::Permute(_, _) => true,
-        ProofCommand::Induction(places) => places.as_slice().len() == 1,
         ProofCommand::Search(_) => count == 2,
         ProofCommand::Skip
         | ProofCommand::Cut(_, _)
@@ -43,6 +43,7 @@ pub(crate) fn is_built(command: &Command, count: usize) -> bool
         | Command::Typed(_, _)
         | Command::Define(_, _, _)
         | Command::Theorem(_, _)
+        | Command::Specification(_)
         | Command::Show(_)
         | Command::Quit
         | Command::Subgoals(_)
@@ -51,6 +52,6 @@ pub(crate) fn is_built(command: &Command, count: usize) -> bool
         | Command::Undo
         | Command::Abort => true,
         Command::InProof(_, command) => is_built_in_proof(command, count),
-        Command::Specification(_) | Command::Query(_, _, _) => false,
+        Command::Query(_, _, _) => false,
     }
 }

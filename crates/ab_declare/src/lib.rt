@@ -2,6 +2,7 @@
 #![tactic(auto)]
 
 mod cells;
+mod chain;
 mod clause_elaboration;
 pub mod clause_laws;
 mod clause_rows;
@@ -21,6 +22,7 @@ mod stated_formulas;
 mod term_parts;
 mod types;
 
+pub use chain::Chain;
 pub use clause_elaboration::{elaborate_clause, look_at_names};
 pub use constants::declare_constants;
 pub use definitions::declare_definition;

@@ -2,9 +2,9 @@
 ghost use Rattle.std.specs.Prelude.{◌≡◌, IfOk};
 ghost use Rattle.ab_declare.specs.Refusals.{here, RefusedFor};
 
+use crate::chain::Chain;
 use ab_inference::InferFault;
 use ab_norm::name::Name;
-use ab_syntax::Items;
 use std::alloc::AllocError;
 
 /// Where a fault stands: so many bytes from where the command begins, or the file.
@@ -70,7 +70,7 @@ pub enum Refusal {
     /// The title of the file isn't its name.
     WrongTitle(Name),
     /// The file accumulates itself; the names of the chain, from the file to itself.
-    Circular(Items<Name>),
+    Circular(Chain),
     /// The command is nested too deep from the token at this place on.
     TooNested(Place),
     /// No name is left for a hypothesis that is to be named by itself.

@@ -1,6 +1,6 @@
 -- The rows of proof commands that open nothing are settled.
-use Rattle.std.specs.Prelude.{codes}
-use Rattle.std.proofs.Common.{◌≡◌, inl, inr, List, [], ◌∷◌, ◌++◌, Some, None, ℕ, refl, sym, ◌∙◌, ap, subst}
+use Rattle.std.specs.Prelude.{codes, All}
+use Rattle.std.proofs.Common.{◌≡◌, inl, inr, List, [], ◌∷◌, Some, None, ℕ, refl, sym, ◌∙◌, ap, subst}
 use Rattle.ab_term.specs.Types.{Ty, prop}
 use Rattle.ab_term.specs.Substitution.{instance}
 use Rattle.ab_term.specs.Terms.{Read}
@@ -11,12 +11,12 @@ use Rattle.ab_formulas.specs.Formulas.{IsFormula}
 use Rattle.ab_formulas.specs.Marks.{plain, star_of, at_of, plus_of, hash_of}
 use Rattle.ab_formulas.specs.Sequents.{Sequent, IsUsed, proving, assuming}
 use Rattle.ab_formulas.specs.NewNames.{Label, auto, given, Names, NoName, IsLeast}
-use Rattle.ab_theory.specs.Induction.{marked_antecedent, marked_consequent}
+use Rattle.ab_theory.specs.Conjuncts.{conjuncts, with_parts}
+use Rattle.ab_theory.specs.Induction.{marked_antecedents, marked_consequents}
 use Rattle.ab_theory.specs.Levels.{next_level, inductive_level, coinductive_level}
 use Rattle.ab_theory.proofs.OneAnswer.{least_once, names_once}
 use Rattle.ab_formulas.specs.NamedGoals.{named}
-use Rattle.ab_effects.specs.ProofCommands.{effect, reading, stating, naming, marked_so, numbered, IsNamedBy, hypothesis_named}
-use Rattle.ab_effects.specs.Introductions.{Parts, alone, parted}
+use Rattle.ab_effects.specs.ProofCommands.{effect, reading, stating, naming, marked_so, numbered, IsNamedBy, hypotheses_named}
 use Rattle.ab_meaning.specs.Refusals.{Refusal}
 use Rattle.ab_effects.specs.Row.{Row, leads}
 use Rattle.ab_meaning.specs.Terms.{Asserts, AssertsNothing}
@@ -28,22 +28,6 @@ use Rattle.ab_determinism.proofs.OneReading.{means_or_not, one_meaning, one_caus
 pub never_named : (l : Label) (s : Sequent) (x : List ℕ) (t : Sequent) → Names l s x t → NoName l s → ⊥
 never_named auto s x t a none = none a.0 a.1.has
 never_named (given z) s x t a used = a.0 used
-
-none_some : {p : Read × Read} → None ≡ Some p → {X : Type 0} → X
-none_some e = absurd (cc)
-
-pub one_parting : {F : Read} {Fs Gs : List Read} → Parts F Fs → Parts F Gs → Fs ≡ Gs
-one_parting (alone e) (alone d) = refl
-one_parting (alone e) (parted {A = A} {B = B} d p q) = none_some (sym e ∙ d)
-one_parting (parted {A = A} {B = B} d p q) (alone e) = none_some (sym e ∙ d)
-one_parting (parted {A = A} {B = B} {Fs = Fs} {Gs = Gs} e p q) (parted {A = C} {B = E} {Fs = Hs} {Gs = Ks} d r t) =
-    let both : Some (C, E) ≡ Some (A, B) = sym d ∙ e in
-    let pairs : (C, E) ≡ (A, B) = cc in
-    let one : C ≡ A = ap (λ (p : Read × Read). p.0) pairs in
-    let two : E ≡ B = ap (λ (p : Read × Read). p.1) pairs in
-    let first = one_parting p (subst (λ X. Parts X Hs) one r) in
-    let second = one_parting q (subst (λ X. Parts X Ks) two t) in
-    ap (λ xs. xs ++ Gs) first ∙ ap (λ xs. Hs ++ xs) second
 
 reading_settled : (D : Declarations) (s : Sequent) (e : Tree) (A : Ty) (k : Read → Row) → ((t : Read) → Settled (k t)) → Settled (reading D s e A k)
 reading_settled D s e A k rest = (means_or_not D s e A, one_cause D s e A, one_meaning D s e A, rest)
@@ -90,14 +74,16 @@ named_by_once word (given z) s u same x y a b = a ∙ sym b
 marked_settled : (P : Type 0) (k : Row) → Settled k → Settled (marked_so P k)
 marked_settled P k rest = (λ u f p n. n.0 p, λ f g m n. m.1 ∙ sym n.1, λ u v p q. refl, λ u. rest)
 
-sized_settled : (word : List ℕ) (l : Label) (s : Sequent) (k : List ℕ → Sequent) → Settled (hypothesis_named word l s (λ name. leads (k name ∷ [])))
-sized_settled word l s k = (λ x f m n. n, λ f g m n. absurd m, λ x y m n. named_by_once word l s s refl x y m n, λ x. tt)
+hypotheses_settled : (word : List ℕ) (Fs : List Read) (l : Label) (s : Sequent) (k : Sequent → Row) → ((t : Sequent) → Settled (k t)) → Settled (hypotheses_named word l Fs s k)
+hypotheses_settled word [] l s k rest = rest s
+hypotheses_settled word (F ∷ Fs) l s k rest =
+    (λ x f m n. n, λ f g m n. absurd m, λ x y m n. named_by_once word l s s refl x y m n, λ x. hypotheses_settled word Fs auto (assuming x F s) k rest)
 
 pub settled : (D : Declarations) (l : Label) (command : ProofCommand) (s : Sequent) → OpensNothing command → Settled (effect D l command s)
 settled D l (intros xs) s no_opening = absurd no_opening
 settled D l (case H keep) s no_opening = absurd no_opening
 settled D l split s so = λ p. tt
-settled D l split_all s so = λ p. (λ Fs f parts none. none, λ f g none more. absurd none, λ Fs Gs a b. one_parting a b, λ Fs. tt)
+settled D l split_all s so = λ p. tt
 settled D l left s so = λ p. tt
 settled D l right s so = λ p. tt
 settled D l (exists e) s so = λ q. reading_settled D s e q.0 (λ t. leads (proving (instance q.1 t) s ∷ [])) (λ t. tt)
@@ -106,16 +92,18 @@ settled D l (assert e) s so =
     (λ F. naming_settled l s (λ name t. leads (proving F s ∷ assuming name F t ∷ [])) (λ x t. tt))
 settled D l (clear Hs) s so = tt
 settled D l (rename H x) s so = λ F. tt
-settled D l (induction []) s so = tt
-settled D l (induction (n ∷ m ∷ ns)) s so = tt
-settled D l (induction (n ∷ [])) s so = λ d.
+settled D l (induction ns) s so = λ ms.
+    let Fs = conjuncts s.conclusion in
     let i = next_level inductive_level s in
-    let premise : List ℕ → Sequent = λ x. proving (marked_antecedent n (at_of i) s.conclusion) (assuming x (marked_antecedent n (star_of i) s.conclusion) s) in
-    marked_settled (d.sign ≡ plain) (hypothesis_named (codes "IH") l s (λ x. leads (premise x ∷ []))) (sized_settled (codes "IH") l s premise)
-settled D l coinduction s so = λ d.
+    let last : Sequent → Row = λ t. leads (proving (with_parts (marked_antecedents ns (at_of i) Fs) s.conclusion) t ∷ []) in
+    marked_settled (All (λ m. m ≡ plain) ms) (hypotheses_named (codes "IH") l (marked_antecedents ns (star_of i) Fs) s last)
+    (hypotheses_settled (codes "IH") (marked_antecedents ns (star_of i) Fs) l s last (λ t. tt))
+settled D l coinduction s so = λ ms.
+    let Fs = conjuncts s.conclusion in
     let i = next_level coinductive_level s in
-    let premise : List ℕ → Sequent = λ x. proving (marked_consequent (hash_of i) s.conclusion) (assuming x (marked_consequent (plus_of i) s.conclusion) s) in
-    marked_settled (d.sign ≡ plain) (hypothesis_named (codes "CH") l s (λ x. leads (premise x ∷ []))) (sized_settled (codes "CH") l s premise)
+    let last : Sequent → Row = λ t. leads (proving (with_parts (marked_consequents (hash_of i) Fs) s.conclusion) t ∷ []) in
+    marked_settled (All (λ m. m ≡ plain) ms) (hypotheses_named (codes "CH") l (marked_consequents (plus_of i) Fs) s last)
+    (hypotheses_settled (codes "CH") (marked_consequents (plus_of i) Fs) l s last (λ t. tt))
 settled D l (apply H vs is) s no_opening = absurd no_opening
 settled D l (backchain H is) s no_opening = absurd no_opening
 settled D l (cut H K) s so = tt

@@ -1,6 +1,6 @@
 -- Each command that goes forward has one effect on a state.
 use Rattle.std.proofs.Common.{◌≡◌, ◌⊎◌, inl, inr, ℕ, List, [], ◌∷◌, ◌++◌, map, Option, Some, None, refl, sym, ◌∙◌, ap, subst}
-use Rattle.ab_grammar.specs.CommandTrees.{Command, kinds, constants, define, theorem, show, quit, subgoals, abort, in_proof, ProofCommand, search}
+use Rattle.ab_grammar.specs.CommandTrees.{Command, kinds, constants, define, theorem, specification, show, quit, subgoals, abort, in_proof, ProofCommand, search}
 use Rattle.ab_term.specs.Terms.{Read}
 use Rattle.ab_formulas.specs.Declarations.{Declarations, a_theorem, theorem_in}
 use Rattle.ab_formulas.specs.NewNames.{Label}
@@ -8,9 +8,13 @@ use Rattle.ab_formulas.specs.Sequents.{Sequent, IsSequent}
 use Rattle.ab_command.specs.declared.fault.Cause.{Cause}
 use Rattle.ab_command.specs.CommandReadings.{Fails}
 use Rattle.ab_command.proofs.Sayings.{says_one, fails_one, says_or_fails}
+use Rattle.ab_sigmod.specs.FileOrder as file
 use Rattle.ab_declare.specs.declared.refusal.Refusal.{Refusal}
+use Rattle.ab_declare.specs.declared.refusal.Refusal.TheVariants.{Clash}
 use Rattle.ab_declare.specs.Refusals.{refusal_for}
 use Rattle.ab_declare.specs.DeclarationCommands.{States, Declares, Declines, new_kinds, new_constants, new_predicates, kind_taken, constant_taken, type_unknown, type_unfit, defines_nothing, theorem_taken, states_nothing, no_theorem}
+use Rattle.ab_states.specs.ab_specification.specs.FileDeclarations.{SpecDeclares, SpecDeclines, items_of}
+use Rattle.ab_states.specs.ab_specification.proofs.OneSpecification.{all_or_first, one_list, one_first}
 use Rattle.ab_formulas.specs.NamedGoals.{Goal, named}
 use Rattle.ab_effects.specs.ProofCommands.{given_label, effect}
 use Rattle.ab_determinism.proofs.Rows.{AreOnce}
@@ -19,7 +23,7 @@ use Rattle.ab_states.specs.State.{Attempt, State, Entry, plain, is_open, keeping
 use Rattle.ab_states.specs.Reply as reply
 use Rattle.ab_states.specs.Reply.{Reply, accepted, completed, shown, refused, unread_for}
 use Rattle.ab_states.specs.ProofCommandEffects.{Makes, Denies}
-use Rattle.ab_states.specs.ForwardEffects.{Commands, Faces, beginning, left_with, GoesForward, unread, declined, declared, stated, showed, ended, switched, given_up, denied, led, proved}
+use Rattle.ab_states.specs.ForwardEffects.{Commands, Faces, beginning, left_with, GoesForward, unread, declined, declared, specified, item_declined, specified_twice, stated, showed, ended, switched, given_up, denied, led, proved}
 use Rattle.ab_states.specs.Replay.{Replays, none, next}
 use Rattle.ab_determinism.specs.Sound.{AreSound, IsSound}
 use Rattle.ab_determinism.proofs.Sound.{has_lists, sound_forward}
@@ -54,6 +58,13 @@ module _ (s : State) (sound : AreSound s.declarations) (entry : Entry) where
   abbrev Declaring : Command → Reply → State → Type 0
   Declaring c r t = (more : Declarations) × Declares s.declarations c more × (r ≡ accepted) × (t ≡ keeping entry (declaring more s))
 
+  -- a specification, which read these files; without any it is refused
+  abbrev Specifying : List ℕ → Option (List file.Read) → Reply → State → Type 0
+  Specifying x None r t = Leaves (Clash x None) r t
+  Specifying x (Some files) r t =
+      ((v : Refusal) × SpecDeclines s.declarations files v × Leaves v r t)
+      ⊎ ((more : Declarations) × SpecDeclares s.declarations files more × (r ≡ accepted) × (t ≡ keeping entry (declaring more s)))
+
   -- where these goals are left
   abbrev Leading : Attempt → List Goal → Reply → State → Type 0
   Leading a [] r t = (r ≡ completed a.name) × (t ≡ keeping entry (closed (declaring (a_theorem a.name a.formula ∷ []) s)))
@@ -72,6 +83,7 @@ module _ (s : State) (sound : AreSound s.declarations) (entry : Entry) where
   Does (theorem x e) r t =
       Refusing (theorem x e) r t
       ⊎ ((F : Read) × (theorem_in s.declarations x ≡ None) × States s.declarations e F × (r ≡ accepted) × (t ≡ keeping entry (proving (beginning x F) s)))
+  Does (specification x) r t = Specifying x entry.specification r t
   Does (show x) r t = Refusing (show x) r t ⊎ ((F : Read) × (theorem_in s.declarations x ≡ Some F) × (r ≡ shown x F) × (t ≡ s))
   Does quit r t = (r ≡ reply.quit) × (t ≡ s)
   Does (subgoals on) r t = (r ≡ accepted) × (t ≡ keeping entry (showing on s))
@@ -105,6 +117,14 @@ module _ (s : State) (sound : AreSound s.declarations) (entry : Entry) where
 
   leaves_same : (v w : Refusal) (r q : Reply) (t u : State) → v ≡ w → Leaves v r t → Leaves w q u → Same r t q u
   leaves_same v w r q t u e a b = (a.0 ∙ ap refused e ∙ sym b.0, a.1 ∙ sym b.1)
+
+  one_specifying : (x : List ℕ) (files : Option (List file.Read)) (r q : Reply) (t u : State) → Specifying x files r t → Specifying x files q u → Same r t q u
+  one_specifying x None r q t u a b = leaves_same (Clash x None) (Clash x None) r q t u refl a b
+  one_specifying x (Some files) r q t u (inl (v, d, a)) (inl (w, f, b)) = leaves_same v w r q t u (one_first s.declarations (items_of files) v w d f) a b
+  one_specifying x (Some files) r q t u (inl (v, d, a)) (inr (more, f, k, j)) = absurd (all_or_first s.declarations (items_of files) more v f d)
+  one_specifying x (Some files) r q t u (inr (more, d, k, j)) (inl (w, f, b)) = absurd (all_or_first s.declarations (items_of files) more w d f)
+  one_specifying x (Some files) r q t u (inr (more, d, k, j)) (inr (others, f, m, n)) =
+      (k ∙ sym m, j ∙ ap (λ ds. keeping entry (declaring ds s)) (one_list s.declarations (items_of files) more others d f) ∙ sym n)
 
   leading_same : (a : Attempt) (gs : List Goal) (r q : Reply) (t u : State) → Leading a gs r t → Leading a gs q u → Same r t q u
   leading_same a [] r q t u x y = (x.0 ∙ sym y.0, x.1 ∙ sym y.1)
@@ -154,6 +174,7 @@ module _ (s : State) (sound : AreSound s.declarations) (entry : Entry) where
   one_doing (theorem x e) r q t u (inr (F, n, m, k, j)) (inl (w, f, b)) = absurd (states_or_not s.declarations n m f)
   one_doing (theorem x e) r q t u (inr (F, n, m, k, j)) (inr (G, n2, m2, k2, j2)) =
       (k ∙ sym k2, j ∙ ap (λ H. keeping entry (proving (beginning x H) s)) (one_statement s.declarations e F G m m2) ∙ sym j2)
+  one_doing (specification x) r q t u a b = one_specifying x entry.specification r q t u a b
   one_doing (show x) r q t u (inl (v, d, a)) (inl (w, f, b)) = leaves_same v w r q t u (one_declining s.declarations d f) a b
   one_doing (show x) r q t u (inl (v, d, a)) (inr (F, e, k, j)) = absurd (shows_or_not s.declarations e d)
   one_doing (show x) r q t u (inr (F, e, k, j)) (inl (w, f, b)) = absurd (shows_or_not s.declarations e f)
@@ -178,6 +199,9 @@ said : (s : State) (sound : AreSound s.declarations) {e : Entry} {r : Reply} {t 
 said s sound (unread c f) = inl (c, f, (refl, refl))
 said s sound (declined {bytes = bytes} c v k d) = inr (c, k, refusing_does s sound (plain bytes) d)
 said s sound (declared {bytes = bytes} c more k d) = inr (c, k, declaring_does s sound (plain bytes) d)
+said s sound (specified x files more k n d) = inr (specification x, k, inr (more, d, refl, refl))
+said s sound (item_declined x files v k n d) = inr (specification x, k, inl (v, d, (refl, refl)))
+said s sound (specified_twice x k n) = inr (specification x, k, (refl, refl))
 said s sound (stated x e F k n d) = inr (theorem x e, k, inr (F, n, d, refl, refl))
 said s sound (showed x F k e) = inr (show x, k, inr (F, e, refl, refl))
 said s sound (ended k) = inr (quit, k, (refl, refl))

@@ -41,3 +41,4 @@ mod Statements
 pub mod Sound
 pub mod Effects
 pub mod Taking
+pub mod OneEffect

@@ -1,6 +1,6 @@
 -- Each row of a proof command has one answer, with names for the numbers of variables: in goals that are one with names for
 -- numbers, and so in one goal.
-use Rattle.std.specs.Prelude.{codes}
+use Rattle.std.specs.Prelude.{codes, All}
 use Rattle.std.proofs.Common.{◌≡◌, ℕ, List, [], ◌∷◌, map, Bool, true, false, Option, Some, None, option_map, refl, sym, ◌∙◌, ap, subst}
 use Rattle.std.proofs.lemmas.List.Elements.{All-nil, All-cons, All-weaker}
 use Rattle.ab_term.specs.Types.{Ty, prop}
@@ -15,22 +15,23 @@ use Rattle.ab_unifiers.specs.Clauses.{IsClause}
 use Rattle.ab_formulas.specs.Declarations.{Declarations, signature_in, IsDefining, HaveDefinitions, HaveSentences}
 use Rattle.ab_formulas.specs.Forms as form
 use Rattle.ab_formulas.specs.Forms.{Form, form_of, either_in, equal_in, as_both, as_either, as_exists}
-use Rattle.ab_formulas.specs.NewNames.{Label, given, Names}
+use Rattle.ab_formulas.specs.NewNames.{Label, auto, given, Names}
 use Rattle.ab_formulas.specs.Sequents.{Sequent, IsSequent, HoldsOnly, formula_of, goal_names, without, proving, assuming}
-use Rattle.ab_formulas.specs.Marks.{plain, star_of, at_of, plus_of, hash_of}
+use Rattle.ab_formulas.specs.Marks.{Sign, plain, star_of, at_of, plus_of, hash_of}
 use Rattle.ab_formulas.specs.BodyMarks.{MayBeAnalysed, MayBeUnfolded}
 use Rattle.ab_theory.specs.Atoms.{Defined, defined_atom}
-use Rattle.ab_theory.specs.Induction.{inductive_at, coinductive_in, marked_antecedent, marked_consequent}
+use Rattle.ab_theory.specs.Conjuncts.{conjuncts, with_parts}
+use Rattle.ab_theory.specs.Induction.{inductive_signs, coinductive_signs, marked_antecedents, marked_consequents}
 use Rattle.ab_theory.specs.Levels.{next_level, inductive_level, coinductive_level}
 use Rattle.ab_theory.proofs.RulesParts.{MayStand, either_may}
 use Rattle.ab_theory.proofs.Sequents.{IsGoal, goal_of, found_may, without_goal, sequent_from}
 use Rattle.ab_theory.proofs.Sized.{atom_of, atom_over}
 use Rattle.ab_formulas.specs.NamedGoals.{name_in, with_names, named}
 use Rattle.ab_infer.specs.Lists.{HasLists}
-use Rattle.ab_effects.specs.ProofCommands.{effect, opening, cases, analysing, marked_so, IsNamedBy, hypothesis_named, introducing, reading, naming, left_over, clashing, clashing_names, missing, cleared}
+use Rattle.ab_effects.specs.ProofCommands.{effect, opening, cases, analysing, marked_so, IsNamedBy, hypotheses_named, introducing, reading, naming, left_over, clashing, clashing_names, missing, cleared}
 use Rattle.ab_effects.specs.CaseAnalysis.{IsParted, IsUnparted, AllOpened, SomeNameless}
 use Rattle.ab_effects.specs.Unfoldings.{IsUnfolded, IsNotUnfolded}
-use Rattle.ab_effects.specs.Introductions.{taken_off, Parts}
+use Rattle.ab_effects.specs.Introductions.{taken_off}
 use Rattle.ab_effects.specs.Permutations.{of_one_type, cycling}
 use Rattle.ab_formulas.specs.Cycles.{MayCycle, type_among, cycle}
 use Rattle.ab_meaning.specs.Refusals.{type_clash, no_hypothesis, wrong_shape, not_pattern, names_spent}
@@ -42,7 +43,7 @@ use Rattle.ab_effects.proofs.Following.{moved_atom}
 pub use Rattle.ab_determinism.proofs.Rows.{AreOnce}
 use Rattle.ab_determinism.proofs.Rows.{once_leads, once_unless, once_finds, once_makes, once_alone, once_marked, one_same, two_same}
 use Rattle.ab_determinism.proofs.Equations.{turned, solved_or_not, solved_once}
-use Rattle.ab_determinism.proofs.Commands.{never_named, one_parting, named_by_once}
+use Rattle.ab_determinism.proofs.Commands.{never_named, named_by_once}
 use Rattle.ab_determinism.proofs.Namings.{same_constants, names_alike, nameless_also}
 use Rattle.ab_determinism.proofs.Alike.{Alike, flipped, assumed_alike}
 use Rattle.ab_determinism.proofs.OneWay.{opened_once, opened_or_not}
@@ -54,8 +55,8 @@ use Rattle.ab_determinism.proofs.Applying.{once_apply}
 use Rattle.ab_determinism.proofs.OneIntroduction.{introduced_once, introduced_or_not}
 use Rattle.ab_determinism.proofs.Renumbered.{Renumbering, renumber, renumber_variable, renumber_hypothesis, renumbered, renumbering}
 use Rattle.ab_determinism.proofs.Reread.{meaning_or_not, not_or_means, same_meaning, cause_alike, states_or_not, not_or_states, faults_alike}
-use Rattle.ab_determinism.proofs.Retold.{form_told, form_retold, as_both_told, as_either_told, as_exists_told, taken_off_told, parts_told, formula_told, clashing_told, clashing_names_told, missing_told, without_told, cleared_told, cleared_variables, KeepsNames, formula_named, goal_named}
-use Rattle.ab_determinism.proofs.Remarked.{level_told, atom_told, inductive_told, coinductive_told, marked_antecedent_told, marked_consequent_told}
+use Rattle.ab_determinism.proofs.Retold.{form_told, form_retold, as_both_told, as_either_told, as_exists_told, taken_off_told, conjuncts_told, with_parts_told, formula_told, clashing_told, clashing_names_told, missing_told, without_told, cleared_told, cleared_variables, KeepsNames, formula_named, goal_named}
+use Rattle.ab_determinism.proofs.Remarked.{level_told, atom_told, inductive_signs_told, coinductive_signs_told, marked_antecedents_told, marked_consequents_told}
 
 -- a formula is opened
 once_opening : (D : Declarations) (l : Label) (N : List Nominal) (s u : Sequent) (F G : Read) → Alike D N s (F ∷ []) u (G ∷ []) → (k j : Sequent → Row) → ((t v : Sequent) → named t ≡ named v → AreOnce (k t) (j v))
@@ -308,9 +309,7 @@ module _ (D : Declarations) (definitions : HaveDefinitions D) (s : Sequent) (f :
   once_split_all : (l : Label) → AreOnce (effect D l split_all s) (effect D l split_all u)
   once_split_all l =
       once_finds wrong_shape (as_both s.conclusion) (as_both u.conclusion) _ (as_both_told f s.conclusion) _ _
-      (λ p e. once_makes (Parts s.conclusion) (λ g. ⊥) (Parts u.conclusion) (λ g. ⊥) (λ Fs. leads (map (λ F. proving F s) Fs)) (λ Fs. leads (map (λ F. proving F u) Fs))
-      (λ Fs g m n. n) (λ g Fs m n. m) (λ g h m n. absurd m)
-      (λ Fs Gs m n. once_leads _ _ (all_proving Fs ∙ ap (λ Hs. map named (map (λ F. proving F u) Hs)) (one_parting (parts_told f m) n))))
+      (λ p e. once_leads _ _ (all_proving (conjuncts s.conclusion) ∙ ap (λ Fs. map named (map (λ F. proving F u) Fs)) (sym (conjuncts_told f s.conclusion))))
 
   once_left : (l : Label) → AreOnce (effect D l left s) (effect D l left u)
   once_left l =
@@ -382,48 +381,62 @@ module _ (D : Declarations) (definitions : HaveDefinitions D) (s : Sequent) (f :
       (λ c k m n. one_cause D s u d (moved_atom f d) atoms c k m n)
       (λ t v m n. once_leads (t ∷ []) (v ∷ []) (one_same t v (unfolded_once D s u d (moved_atom f d) atoms t v m n)))))
 
-  -- a formula is assumed, by its name, and another one proved
-  sized_same : (x : List ℕ) (F C G E : Read) → G ≡ renumber f F → E ≡ renumber f C → named (proving C (assuming x F s)) ≡ named (proving E (assuming x G u))
-  sized_same x F C G E first_is second_is =
-      also (proving C (assuming x F s)) refl
-      ∙ ap (λ hs. named (record { variables = u.variables; hypotheses = hs; conclusion = renumber f C; counter = s.counter })) (map-append (renumber_hypothesis f) s.hypotheses (record { name = x; formula = F } ∷ []))
-      ∙ ap (λ H. named (proving (renumber f C) (assuming x H u))) (sym first_is)
-      ∙ ap (λ H. named (proving H (assuming x G u))) (sym second_is)
+  -- formulas are assumed, by their names, and another one is proved
+  assumed_told : (x : List ℕ) (F : Read) (v : Sequent) → renumbered f (assuming x F v) ≡ assuming x (renumber f F) (renumbered f v)
+  assumed_told x F v =
+      ap (λ hs. record { variables = map (renumber_variable f) v.variables; hypotheses = hs; conclusion = renumber f v.conclusion; counter = v.counter })
+      (map-append (renumber_hypothesis f) v.hypotheses (record { name = x; formula = F } ∷ []))
 
-  once_sized : (word : List ℕ) (l : Label) (k j : List ℕ → Sequent) → ((x : List ℕ) → named (k x) ≡ named (j x))
-      → AreOnce (hypothesis_named word l s (λ x. leads (k x ∷ []))) (hypothesis_named word l u (λ x. leads (j x ∷ [])))
-  once_sized word l k j one =
-      once_makes (IsNamedBy word l s) (λ c. ⊥) (IsNamedBy word l u) (λ c. ⊥) (λ x. leads (k x ∷ [])) (λ x. leads (j x ∷ []))
+  once_hypotheses : (word : List ℕ) (Fs : List Read) (l : Label) (v : Sequent) → v.variables ≡ s.variables → (k j : Sequent → Row)
+      → ((t : Sequent) → t.variables ≡ s.variables → AreOnce (k t) (j (renumbered f t)))
+      → AreOnce (hypotheses_named word l Fs v k) (hypotheses_named word l (map (renumber f) Fs) (renumbered f v) j)
+  once_hypotheses word [] l v e k j once = once v e
+  once_hypotheses word (F ∷ Fs) l v e k j once =
+      let w = renumbered f v in
+      let more : List ℕ → Row = λ x. hypotheses_named word auto Fs (assuming x F v) k in
+      let told : Sequent → Row = λ t. hypotheses_named word auto (map (renumber f) Fs) t j in
+      once_makes (IsNamedBy word l v) (λ c. ⊥) (IsNamedBy word l w) (λ c. ⊥) more (λ y. told (assuming y (renumber f F) w))
       (λ x c m n. n) (λ c x m n. m) (λ c d m n. absurd m)
-      (λ x y m n. once_leads (k x ∷ []) (j y ∷ []) (one_same (k x) (j y) (one x ∙ ap (λ z. named (j z)) (named_by_once word l s u same x y m n))))
+      (λ x y m n.
+      subst (λ z. AreOnce (more x) (told (assuming z (renumber f F) w))) (named_by_once word l v w (also v e) x y m n)
+      (subst (λ t. AreOnce (more x) (told t)) (assumed_told x F v) (once_hypotheses word Fs auto (assuming x F v) e k j once)))
 
-  once_induction : (l : Label) (n : ℕ) → AreOnce (effect D l (induction (n ∷ [])) s) (effect D l (induction (n ∷ [])) u)
-  once_induction l n =
+  once_sized : (word : List ℕ) (l : Label) (Fs Gs : List Read) (C E : Read) → Gs ≡ map (renumber f) Fs → E ≡ renumber f C
+      → AreOnce (hypotheses_named word l Fs s (λ t. leads (proving C t ∷ []))) (hypotheses_named word l Gs u (λ t. leads (proving E t ∷ [])))
+  once_sized word l Fs Gs C E hypotheses_are conclusion_is =
+      subst (λ Hs. AreOnce (hypotheses_named word l Fs s (λ t. leads (proving C t ∷ []))) (hypotheses_named word l Hs u (λ t. leads (proving E t ∷ [])))) (sym hypotheses_are)
+      (once_hypotheses word Fs l s refl (λ t. leads (proving C t ∷ [])) (λ t. leads (proving E t ∷ []))
+      (λ t e. once_leads _ _ (one_same (proving C t) (proving E (renumbered f t)) (also (proving C t) e ∙ ap (λ G. named (proving G (renumbered f t))) (sym conclusion_is)))))
+
+  once_induction : (l : Label) (ns : List ℕ) → AreOnce (effect D l (induction ns) s) (effect D l (induction ns) u)
+  once_induction l ns =
+      let Fs = conjuncts s.conclusion in
+      let Gs = conjuncts u.conclusion in
       let i = next_level inductive_level s in
-      let j = next_level inductive_level u in
+      let told : (m : Sign) → marked_antecedents ns m Gs ≡ map (renumber f) (marked_antecedents ns m Fs) = λ m. ap (marked_antecedents ns m) (conjuncts_told f s.conclusion) ∙ marked_antecedents_told f ns m Fs in
       once_unless (clashing l s) (clashing l u) _ _ (sym (clashing_told f l s))
-      (once_finds wrong_shape (inductive_at D n s.conclusion) (inductive_at D n u.conclusion) (moved_atom f) (inductive_told f D n s.conclusion) _ _
-      (λ d e. once_marked (d.sign ≡ plain) _ _
-      (once_sized (codes "IH") l
-      (λ x. proving (marked_antecedent n (at_of i) s.conclusion) (assuming x (marked_antecedent n (star_of i) s.conclusion) s))
-      (λ x. proving (marked_antecedent n (at_of j) u.conclusion) (assuming x (marked_antecedent n (star_of j) u.conclusion) u))
-      (λ x. sized_same x (marked_antecedent n (star_of i) s.conclusion) (marked_antecedent n (at_of i) s.conclusion) (marked_antecedent n (star_of j) u.conclusion) (marked_antecedent n (at_of j) u.conclusion)
-      (ap (λ m. marked_antecedent n (star_of m) u.conclusion) (level_told f inductive_level s) ∙ marked_antecedent_told f n (star_of i) s.conclusion)
-      (ap (λ m. marked_antecedent n (at_of m) u.conclusion) (level_told f inductive_level s) ∙ marked_antecedent_told f n (at_of i) s.conclusion)))))
+      (once_finds wrong_shape (inductive_signs D ns Fs) (inductive_signs D ns Gs) (λ ms. ms)
+      (ap (inductive_signs D ns) (conjuncts_told f s.conclusion) ∙ inductive_signs_told f D ns Fs ∙ sym (mapped_same (inductive_signs D ns Fs))) _ _
+      (λ ms e. once_marked (All (λ m. m ≡ plain) ms) _ _
+      (once_sized (codes "IH") l _ _ _ _
+      (ap (λ n. marked_antecedents ns (star_of n) Gs) (level_told f inductive_level s) ∙ told (star_of i))
+      (ap (λ n. with_parts (marked_antecedents ns (at_of n) Gs) u.conclusion) (level_told f inductive_level s)
+      ∙ ap (λ Hs. with_parts Hs u.conclusion) (told (at_of i)) ∙ with_parts_told f (marked_antecedents ns (at_of i) Fs) s.conclusion))))
 
   once_coinduction : (l : Label) → AreOnce (effect D l coinduction s) (effect D l coinduction u)
   once_coinduction l =
+      let Fs = conjuncts s.conclusion in
+      let Gs = conjuncts u.conclusion in
       let i = next_level coinductive_level s in
-      let j = next_level coinductive_level u in
+      let told : (m : Sign) → marked_consequents m Gs ≡ map (renumber f) (marked_consequents m Fs) = λ m. ap (marked_consequents m) (conjuncts_told f s.conclusion) ∙ marked_consequents_told f m Fs in
       once_unless (clashing l s) (clashing l u) _ _ (sym (clashing_told f l s))
-      (once_finds wrong_shape (coinductive_in D s.conclusion) (coinductive_in D u.conclusion) (moved_atom f) (coinductive_told f D s.conclusion) _ _
-      (λ d e. once_marked (d.sign ≡ plain) _ _
-      (once_sized (codes "CH") l
-      (λ x. proving (marked_consequent (hash_of i) s.conclusion) (assuming x (marked_consequent (plus_of i) s.conclusion) s))
-      (λ x. proving (marked_consequent (hash_of j) u.conclusion) (assuming x (marked_consequent (plus_of j) u.conclusion) u))
-      (λ x. sized_same x (marked_consequent (plus_of i) s.conclusion) (marked_consequent (hash_of i) s.conclusion) (marked_consequent (plus_of j) u.conclusion) (marked_consequent (hash_of j) u.conclusion)
-      (ap (λ m. marked_consequent (plus_of m) u.conclusion) (level_told f coinductive_level s) ∙ marked_consequent_told f (plus_of i) s.conclusion)
-      (ap (λ m. marked_consequent (hash_of m) u.conclusion) (level_told f coinductive_level s) ∙ marked_consequent_told f (hash_of i) s.conclusion)))))
+      (once_finds wrong_shape (coinductive_signs D Fs) (coinductive_signs D Gs) (λ ms. ms)
+      (ap (coinductive_signs D) (conjuncts_told f s.conclusion) ∙ coinductive_signs_told f D Fs ∙ sym (mapped_same (coinductive_signs D Fs))) _ _
+      (λ ms e. once_marked (All (λ m. m ≡ plain) ms) _ _
+      (once_sized (codes "CH") l _ _ _ _
+      (ap (λ n. marked_consequents (plus_of n) Gs) (level_told f coinductive_level s) ∙ told (plus_of i))
+      (ap (λ n. with_parts (marked_consequents (hash_of n) Gs) u.conclusion) (level_told f coinductive_level s)
+      ∙ ap (λ Hs. with_parts Hs u.conclusion) (told (hash_of i)) ∙ with_parts_told f (marked_consequents (hash_of i) Fs) s.conclusion))))
 
   -- constants change places
   constants : goal_names s ≡ goal_names u
@@ -472,9 +485,7 @@ module _ (D : Declarations) (definitions : HaveDefinitions D) (s : Sequent) (f :
   once_renumbered lists sentences l (assert e) = once_assert l e
   once_renumbered lists sentences l (clear Hs) = once_clear l Hs
   once_renumbered lists sentences l (rename H x) = once_rename l H x
-  once_renumbered lists sentences l (induction []) = once_alone (Some wrong_shape)
-  once_renumbered lists sentences l (induction (n ∷ [])) = once_induction l n
-  once_renumbered lists sentences l (induction (n ∷ m ∷ ns)) = once_alone (Some wrong_shape)
+  once_renumbered lists sentences l (induction ns) = once_induction l ns
   once_renumbered lists sentences l coinduction = once_coinduction l
   once_renumbered lists sentences l (apply H vs ws) = once_apply D lists sentences s f is its names l H vs ws
   once_renumbered lists sentences l (backchain H ws) = once_backchain D lists sentences s f is its names l H ws

@@ -1,8 +1,7 @@
 -- The marks of formulas with other numbers, and what induction and coinduction make of such formulas.
-use Rattle.std.specs.Prelude.{if◌then◌else◌}
 use Rattle.std.proofs.Common.{◌≡◌, ℕ, zero, suc, List, [], ◌∷◌, ◌++◌, map, Bool, true, false, Option, Some, None, option_map, refl, ◌∙◌, ap}
 use Rattle.ab_term.specs.Logical as plain
-use Rattle.ab_term.specs.Logical.{Logical, universal, implication}
+use Rattle.ab_term.specs.Logical.{universal, implication}
 use Rattle.ab_term.specs.Terms.{Head, constant, logical, nominal, variable, index, lam, spine, Terms, no_terms, term, Read}
 use Rattle.ab_term.specs.Translation.{translate_head, translate_all}
 use Rattle.ab_formulas.specs.Declarations.{Declarations, Block, block_in}
@@ -13,7 +12,8 @@ use Rattle.ab_formulas.specs.Marks.{Sign, star_of, at_of, plus_of, hash_of, Mark
 use Rattle.ab_formulas.specs.Sequents.{Hypothesis, Sequent, formulas}
 use Rattle.ab_formulas.specs.BodyMarks.{with_mark}
 use Rattle.ab_theory.specs.Atoms.{Defined, defined_as, defined_form, defined_atom}
-use Rattle.ab_theory.specs.Induction.{matrix, antecedent, consequent, defined_so, atom_in, inductive_at, coinductive_in, in_matrix, in_antecedent, in_consequent, marked_antecedent, marked_consequent}
+use Rattle.ab_theory.specs.Judgements.{judgement_as, judgement_in, as_judgement}
+use Rattle.ab_theory.specs.Induction.{matrix, antecedent, consequent, defined_so, judgement_or, sign_in, inductive_at, coinductive_in, sign_and, inductive_signs, coinductive_signs, in_matrix, in_antecedent, in_consequent, marked_antecedent, marked_consequent, marked_antecedents, marked_consequents}
 use Rattle.ab_theory.specs.Levels.{signs_in, signs_of_all, greatest, next_level}
 use Rattle.ab_effects.proofs.Following.{moved_atom}
 use Rattle.ab_determinism.proofs.Renumbered.{renumber, renumber_hypothesis, renumbered}
@@ -133,28 +133,58 @@ module _ (f : ℕ → ℕ) where
   consequent_told (spine (logical implication) (term A (term B no_terms))) = consequent_told B
   consequent_told F = refl
 
-  so_told : (b : Bool) (o : Option Defined) → defined_so b (option_map (moved_atom f) o) ≡ option_map (moved_atom f) (defined_so b o)
+  so_told : (b : Bool) (o : Option Defined) → defined_so b (option_map (moved_atom f) o) ≡ defined_so b o
   so_told b None = refl
-  so_told true (Some d) = elim (d.block.inductive) as (λ b. (if b then Some (moved_atom f d) else None) ≡ option_map (moved_atom f) (if b then Some d else None)) [ true ↦ refl | false ↦ refl ]
-  so_told false (Some d) = elim (d.block.inductive) as (λ b. (if b then None else Some (moved_atom f d)) ≡ option_map (moved_atom f) (if b then None else Some d)) [ true ↦ refl | false ↦ refl ]
+  so_told true (Some d) = refl
+  so_told false (Some d) = refl
 
-  in_told : (D : Declarations) (o : Option Read) → atom_in D (option_map (renumber f) o) ≡ option_map (moved_atom f) (atom_in D o)
+  judged_told : (m : Sign) (t : Read) (o : Option Sign) → judgement_or (judgement_as m (renumber f t)) o ≡ judgement_or (judgement_as m t) o
+  judged_told m (spine (logical plain.judgement) (term L (term G no_terms))) o = refl
+  judged_told m (spine (logical plain.focused_judgement) (term L (term F (term A no_terms)))) o = refl
+  judged_told m t o = refl
+
+  judged_in : (g : Form) (F : Read) (o : Option Sign) → judgement_or (judgement_in (form_told f g) (renumber f F)) o ≡ judgement_or (judgement_in g F) o
+  judged_in (form.marked m A) F o = judged_told m A o
+  judged_in form.other F o = judged_told marks.plain F o
+  judged_in form.truth F o = refl
+  judged_in form.falsity F o = refl
+  judged_in (form.both A B) F o = refl
+  judged_in (form.either A B) F o = refl
+  judged_in (form.implies A B) F o = refl
+  judged_in (form.equal A t u) F o = refl
+  judged_in (form.for_all A t) F o = refl
+  judged_in (form.exists A t) F o = refl
+  judged_in (form.nabla A t) F o = refl
+
+  in_told : (D : Declarations) (o : Option Read) → sign_in D (option_map (renumber f) o) ≡ sign_in D o
   in_told D None = refl
-  in_told D (Some A) = atom_told D A
+  in_told D (Some A) =
+      ap (λ g. judgement_or (judgement_in g (renumber f A)) (defined_so true (defined_atom D (renumber f A)))) (form_retold f A)
+      ∙ judged_in (form_of A) A (defined_so true (defined_atom D (renumber f A)))
+      ∙ ap (λ d. judgement_or (as_judgement A) (defined_so true d)) (atom_told D A)
+      ∙ ap (judgement_or (as_judgement A)) (so_told true (defined_atom D A))
 
-  pub inductive_told : (D : Declarations) (n : ℕ) (F : Read) → inductive_at D n (renumber f F) ≡ option_map (moved_atom f) (inductive_at D n F)
-  inductive_told D n F =
-      ap (λ G. defined_so true (atom_in D (antecedent n G))) (matrix_told F)
-      ∙ ap (λ o. defined_so true (atom_in D o)) (antecedent_told n (matrix F))
-      ∙ ap (defined_so true) (in_told D (antecedent n (matrix F)))
-      ∙ so_told true (atom_in D (antecedent n (matrix F)))
+  inductive_told : (D : Declarations) (n : ℕ) (F : Read) → inductive_at D n (renumber f F) ≡ inductive_at D n F
+  inductive_told D n F = ap (λ G. sign_in D (antecedent n G)) (matrix_told F) ∙ ap (sign_in D) (antecedent_told n (matrix F)) ∙ in_told D (antecedent n (matrix F))
 
-  pub coinductive_told : (D : Declarations) (F : Read) → coinductive_in D (renumber f F) ≡ option_map (moved_atom f) (coinductive_in D F)
+  coinductive_told : (D : Declarations) (F : Read) → coinductive_in D (renumber f F) ≡ coinductive_in D F
   coinductive_told D F =
       ap (λ G. defined_so false (defined_atom D (consequent G))) (matrix_told F)
       ∙ ap (λ G. defined_so false (defined_atom D G)) (consequent_told (matrix F))
       ∙ ap (defined_so false) (atom_told D (consequent (matrix F)))
       ∙ so_told false (defined_atom D (consequent (matrix F)))
+
+  pub inductive_signs_told : (D : Declarations) (ns : List ℕ) (Fs : List Read) → inductive_signs D ns (map (renumber f) Fs) ≡ inductive_signs D ns Fs
+  inductive_signs_told D [] [] = refl
+  inductive_signs_told D (n ∷ ns) (F ∷ Fs) =
+      ap (λ o. sign_and o (inductive_signs D ns (map (renumber f) Fs))) (inductive_told D n F) ∙ ap (sign_and (inductive_at D n F)) (inductive_signs_told D ns Fs)
+  inductive_signs_told D [] (F ∷ Fs) = refl
+  inductive_signs_told D (n ∷ ns) [] = refl
+
+  pub coinductive_signs_told : (D : Declarations) (Fs : List Read) → coinductive_signs D (map (renumber f) Fs) ≡ coinductive_signs D Fs
+  coinductive_signs_told D [] = refl
+  coinductive_signs_told D (F ∷ Fs) =
+      ap (λ o. sign_and o (coinductive_signs D (map (renumber f) Fs))) (coinductive_told D F) ∙ ap (sign_and (coinductive_in D F)) (coinductive_signs_told D Fs)
 
   -- WITH A MARK
 
@@ -172,8 +202,19 @@ module _ (f : ℕ → ℕ) where
   in_consequent_told m (spine (logical implication) (term A (term B no_terms))) = ap (λ C. spine (logical implication) (term (renumber f A) (term C no_terms))) (in_consequent_told m B)
   in_consequent_told m F = mark_told m F
 
-  pub marked_antecedent_told : (n : ℕ) (m : Sign) (F : Read) → marked_antecedent n m (renumber f F) ≡ renumber f (marked_antecedent n m F)
+  marked_antecedent_told : (n : ℕ) (m : Sign) (F : Read) → marked_antecedent n m (renumber f F) ≡ renumber f (marked_antecedent n m F)
   marked_antecedent_told n m F = in_matrix_told (in_antecedent (with_mark m) n) (in_antecedent_told m n) F
 
-  pub marked_consequent_told : (m : Sign) (F : Read) → marked_consequent m (renumber f F) ≡ renumber f (marked_consequent m F)
+  marked_consequent_told : (m : Sign) (F : Read) → marked_consequent m (renumber f F) ≡ renumber f (marked_consequent m F)
   marked_consequent_told m F = in_matrix_told (in_consequent (with_mark m)) (in_consequent_told m) F
+
+  pub marked_antecedents_told : (ns : List ℕ) (m : Sign) (Fs : List Read) → marked_antecedents ns m (map (renumber f) Fs) ≡ map (renumber f) (marked_antecedents ns m Fs)
+  marked_antecedents_told (n ∷ ns) m (F ∷ Fs) =
+      ap (λ G. G ∷ marked_antecedents ns m (map (renumber f) Fs)) (marked_antecedent_told n m F) ∙ ap (λ Gs. renumber f (marked_antecedent n m F) ∷ Gs) (marked_antecedents_told ns m Fs)
+  marked_antecedents_told [] m Fs = refl
+  marked_antecedents_told (n ∷ ns) m [] = refl
+
+  pub marked_consequents_told : (m : Sign) (Fs : List Read) → marked_consequents m (map (renumber f) Fs) ≡ map (renumber f) (marked_consequents m Fs)
+  marked_consequents_told m [] = refl
+  marked_consequents_told m (F ∷ Fs) =
+      ap (λ G. G ∷ marked_consequents m (map (renumber f) Fs)) (marked_consequent_told m F) ∙ ap (λ Gs. renumber f (marked_consequent m F) ∷ Gs) (marked_consequents_told m Fs)

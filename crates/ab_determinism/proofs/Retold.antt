@@ -1,10 +1,11 @@
 -- Goals and formulas with other numbers for their variables: how they are looked up, taken apart and put together.
-use Rattle.std.specs.Prelude.{if◌then◌else◌, is_some, bytes_eq, ◌||◌}
+use Rattle.std.specs.Prelude.{length, drop, if◌then◌else◌, is_some, bytes_eq, ◌||◌}
 use Rattle.std.specs.List.{list_any}
-use Rattle.std.proofs.Common.{◌≡◌, ℕ, List, [], ◌∷◌, ◌++◌, map, true, false, Option, Some, None, option_map, refl, sym, ◌∙◌, ap, subst}
+use Rattle.std.proofs.Common.{◌≡◌, ℕ, List, [], ◌∷◌, ◌++◌, map, true, false, Option, Some, None, option_map, refl, sym, ◌∙◌, ap}
+use Rattle.std.proofs.lemmas.List.{length-map, drop-map}
 use Rattle.ab_term.specs.Types.{Ty}
 use Rattle.ab_term.specs.Logical as plain
-use Rattle.ab_term.specs.Logical.{Logical}
+use Rattle.ab_term.specs.Logical.{Logical, conjunction}
 use Rattle.ab_term.specs.Terms as tree
 use Rattle.ab_term.specs.Terms.{constant, logical, nominal, variable, index, lam, spine, Terms, no_terms, term, Read}
 use Rattle.ab_term.proofs.Translations.{map-append}
@@ -16,7 +17,8 @@ use Rattle.ab_formulas.specs.Sequents.{Variable, Hypothesis, Sequent, formula_of
 use Rattle.ab_formulas.specs.NamedGoals as shown
 use Rattle.ab_formulas.specs.NamedGoals.{Named, Goal, name_in, with_names, variable_named, hypothesis_named, named}
 use Rattle.ab_effects.specs.ProofCommands.{is_used, clashing, clashing_names, missing, cleared}
-use Rattle.ab_effects.specs.Introductions.{taken_off, Parts, alone, parted}
+use Rattle.ab_theory.specs.Conjuncts.{conjuncts, with_parts}
+use Rattle.ab_effects.specs.Introductions.{taken_off}
 use Rattle.ab_meaning.specs.Refusals.{Refusal, clash, no_hypothesis}
 use Rattle.ab_determinism.proofs.Renumbered.{renumber, renumber_variable, renumber_hypothesis, renumbered, names_kept}
 
@@ -109,10 +111,24 @@ module _ (f : ℕ → ℕ) where
       whole None = refl
       whole (Some t) = refl
 
-  pub parts_told : {F : Read} {Fs : List Read} → Parts F Fs → Parts (renumber f F) (map (renumber f) Fs)
-  parts_told (alone {F = F} e) = alone (as_both_told F ∙ ap (option_map two) e)
-  parts_told (parted {F = F} {Fs = Fs} {Gs = Gs} e p q) =
-      subst (Parts (renumber f F)) (sym (map-append (renumber f) Fs Gs)) (parted (as_both_told F ∙ ap (option_map two) e) (parts_told p) (parts_told q))
+  -- PARTS
+
+  pub conjuncts_told : (F : Read) → conjuncts (renumber f F) ≡ map (renumber f) (conjuncts F)
+  conjuncts_told (spine (logical conjunction) (term A (term B no_terms))) =
+      ap (λ l. l ++ conjuncts (renumber f B)) (conjuncts_told A) ∙ ap (λ l. map (renumber f) (conjuncts A) ++ l) (conjuncts_told B) ∙ sym (map-append (renumber f) (conjuncts A) (conjuncts B))
+  conjuncts_told F = refl
+
+  pub with_parts_told : (Gs : List Read) (F : Read) → with_parts (map (renumber f) Gs) (renumber f F) ≡ renumber f (with_parts Gs F)
+  with_parts_told Gs (spine (logical conjunction) (term A (term B no_terms))) =
+      let n = length (conjuncts A) in
+      let same : length (conjuncts (renumber f A)) ≡ n = ap length (conjuncts_told A) ∙ length-map (conjuncts A) (renumber f) in
+      let left : with_parts (map (renumber f) Gs) (renumber f A) ≡ renumber f (with_parts Gs A) = with_parts_told Gs A in
+      let right : with_parts (drop (length (conjuncts (renumber f A))) (map (renumber f) Gs)) (renumber f B) ≡ renumber f (with_parts (drop n Gs) B) =
+      ap (λ k. with_parts (drop k (map (renumber f) Gs)) (renumber f B)) same ∙ ap (λ Hs. with_parts Hs (renumber f B)) (drop-map (renumber f) n Gs) ∙ with_parts_told (drop n Gs) B in
+      ap (λ C. spine (logical conjunction) (term C (term (with_parts (drop (length (conjuncts (renumber f A))) (map (renumber f) Gs)) (renumber f B)) no_terms))) left
+      ∙ ap (λ C. spine (logical conjunction) (term (renumber f (with_parts Gs A)) (term C no_terms))) right
+  with_parts_told (G ∷ Gs) F = refl
+  with_parts_told [] F = refl
 
   -- HYPOTHESES
 

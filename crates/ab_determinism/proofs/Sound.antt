@@ -1,6 +1,6 @@
 -- A session is sound in the beginning, and behind each command that goes forward.
 use Rattle.std.specs.Prelude.{codes, All}
-use Rattle.std.proofs.Common.{◌≡◌, ℕ, List, [], ◌∷◌, ◌++◌, map, Bool, Option, Some, None, refl, sym, ◌∙◌, ap, subst, append_assoc}
+use Rattle.std.proofs.Common.{◌≡◌, ℕ, List, [], ◌∷◌, ◌++◌, map, Bool, Option, Some, None, refl, sym, ◌∙◌, ap, subst, append_assoc, append-nil}
 use Rattle.std.proofs.lemmas.List.Elements.{All-nil, All-cons, All-head, All-tail}
 use Rattle.ab_term.specs.Types.{Ty, o, olist, arrows}
 use Rattle.ab_term.specs.Typing.{typed_spine, take_none, take_term}
@@ -11,7 +11,7 @@ use Rattle.ab_unifiers.specs.Clauses.{IsClause}
 use Rattle.ab_unifiers.specs.Member.{member_first, member_later, member_clauses}
 use Rattle.ab_unifiers.proofs.Membership.{member_defined}
 use Rattle.ab_term.specs.Terms.{Read}
-use Rattle.ab_formulas.specs.Declarations.{Declarations, Block, a_kind, a_constant, a_block, a_theorem, signature_in, block_in, theorem_in, IsDefining, HaveDefinitions, HaveSentences}
+use Rattle.ab_formulas.specs.Declarations.{Declarations, Block, a_kind, a_constant, a_block, a_program_clause, a_theorem, signature_in, block_in, theorem_in, IsDefining, HaveDefinitions, HaveSentences}
 use Rattle.ab_formulas.specs.Formulas.{IsSentence}
 use Rattle.ab_logic.specs.Worlds.{declared, defined, member_block, first_declarations}
 use Rattle.ab_formulas.proofs.Declaring.{sentences_behind, sentences_added, sentences_defined, definitions_behind, definitions_added, definitions_defined, extends_not, extends_on, more_constants, still_sentence}
@@ -20,6 +20,9 @@ use Rattle.ab_meaning.specs.Terms.{kinds_in}
 use Rattle.ab_declare.specs.DeclarationCommands.{Declares, new_kinds, new_constants, new_predicates}
 use Rattle.ab_declare.specs.DefinitionCommands.{Defines, predicate_of, block_with}
 use Rattle.ab_infer.specs.Lists.{HasLists}
+use Rattle.ab_grammar.specs.FileTrees.{Item}
+use Rattle.ab_states.specs.ab_specification.specs.ItemDeclarations.{ItemDeclares, new_kinds as item_kinds, new_constants as item_constants, new_clause, no_declaration}
+use Rattle.ab_states.specs.ab_specification.specs.FileDeclarations.{PlacedItem, AllDeclare, no_item, one_more}
 use Rattle.ab_states.specs.State.{Attempt, State, Entry, empty}
 use Rattle.ab_states.specs.Reply.{Reply}
 use Rattle.ab_states.specs.ForwardEffects as effect
@@ -85,11 +88,25 @@ module _ (D : Declarations) (sound : AreSound D) where
   still_proves E None is = tt
   still_proves E (Some a) is = still_sentence D (D ++ E) (E, refl) a.formula is
 
+-- so with what the files of a specification declare
+sound_item : (D : Declarations) {i : Item} {more : Declarations} → ItemDeclares D i more → AreSound D → AreSound (D ++ more)
+sound_item D (item_kinds d) sound = sound_declared D sound d
+sound_item D (item_constants d) sound = sound_declared D sound d
+sound_item D (new_clause {k = k} m) sound = nothing_told D sound (a_program_clause k ∷ []) (λ p. (refl, refl))
+sound_item D no_declaration sound = subst AreSound (sym (append-nil D)) sound
+
+sound_items : (D : Declarations) {is : List PlacedItem} {more : Declarations} → AllDeclare D is more → AreSound D → AreSound (D ++ more)
+sound_items D no_item sound = subst AreSound (sym (append-nil D)) sound
+sound_items D (one_more {more = more} {rest = rest} d r) sound = subst AreSound (append_assoc D more rest) (sound_items (D ++ more) r (sound_item D d sound))
+
 -- BEHIND EACH EFFECT
 pub sound_forward : {s t : State} {e : Entry} {r : Reply} → GoesForward s e r t → IsSound s → IsSound t
 sound_forward (effect.unread c f) sound = sound
 sound_forward (effect.declined c r k d) sound = sound
 sound_forward {s = s} (effect.declared c more k d) sound = record { declarations = sound_declared s.declarations sound.declarations d; attempt = still_proves s.declarations sound.declarations more s.attempt sound.attempt }
+sound_forward {s = s} (effect.specified x files more k n d) sound = record { declarations = sound_items s.declarations d sound.declarations; attempt = still_proves s.declarations sound.declarations more s.attempt sound.attempt }
+sound_forward (effect.item_declined x files v k n d) sound = sound
+sound_forward (effect.specified_twice x k n) sound = sound
 sound_forward {s = s} (effect.stated x e F k n d) sound = record { declarations = sound.declarations; attempt = stated_sentence s.declarations (has_lists s.declarations sound.declarations) e F d }
 sound_forward (effect.showed x F k e) sound = sound
 sound_forward (effect.ended k) sound = sound

@@ -33,23 +33,22 @@ use Rattle.ab_declare.specs.Moments.{IsRestored}
 use Rattle.ab_declare.proofs.Restoring.{restored_grows, restored_declares, restored_itself}
 use Rattle.ab_effects.specs.ProofCommands.{given_label}
 use Rattle.ab_states.specs.State as plain
-use Rattle.ab_states.specs.State.{State, is_open}
+use Rattle.ab_states.specs.State.{State, Entry, is_open}
 use Rattle.ab_states.specs.Reply as reply
 use Rattle.ab_states.specs.Reply.{unread_for}
-use Rattle.ab_states.specs.StateEffects.{forward}
-use Rattle.ab_states.proofs.Replaying.{replays_on}
+use Rattle.ab_states.proofs.Replaying.{forward_replayed}
 use Rattle.ab_states.specs.ForwardEffects as effect
 use Rattle.ab_states.specs.ForwardEffects.{Commands, Faces, GoesForward, unread, declined, declared, stated, showed, ended, switched, given_up, denied, led, proved}
 use Rattle.ab_states.specs.declared.reply.Reply.{Reply}
 use Rattle.ab_states.specs.declared.reply.Reply.TheVariants.{Accepted, Completed, Shown, Quit, Refused}
 use Rattle.ab_session.specs.declared.attempt.Attempt.{Attempt}
 use Rattle.ab_session.specs.declared.command_history.Kept.{Kept}
-use Rattle.ab_session.specs.Contents.{Contents, Past, past_of, attempt_of, entries_of, state_of}
+use Rattle.ab_session.specs.Contents.{Contents, Past, past_of, entry_of, attempt_of, entries_of, state_of}
 use Rattle.ab_session.specs.Sessions.{IsTried, AreProofs, IsSound}
 use Rattle.ab_session.specs.declared.command_history.Deed.TheVariants.{Went}
 use Rattle.ab_session.specs.Origins.{CameBy, CameFrom, later, IsSession}
 use Rattle.ab_session.specs.ProofAttempts.{IsUnchanged, GoesOn, IsCompleted, IsRefusedSo}
-use Rattle.ab_session.specs.SessionAnswers.{IsProvedLast, IsForwardAnswer, IsBefore}
+use Rattle.ab_session.specs.SessionAnswers.{IsProvedLast, IsEntryAnswer, IsForwardAnswer, IsBefore}
 use Rattle.ab_session.proofs.Sayings.{none_tried}
 use Rattle.ab_session.proofs.Sessions.{as_many, later_proofs, same_proofs, proved_proofs, same_session, same_state, in_world, one_more}
 use Rattle.ab_session.proofs.Origins.{pasts, latest, attempt_is, came, went_nowhere, session_grown}
@@ -61,11 +60,6 @@ made w ps o all ks = record { world = w; proofs = ps; attempt = o; all_subgoals 
 
 pub past_more : (xs ys zs : List Kept) (k : Kept) → ys ≡ xs → zs ≡ ys ++ k ∷ [] → pasts zs ≡ past_of k ∷ pasts xs
 past_more xs ys zs k same more = ap pasts (more ∙ ap (λ us. us ++ k ∷ []) same) ∙ latest xs k
-
-pub kept_more : (xs ys zs : List Kept) (k : Kept) (bytes : List ℕ) → ys ≡ xs → zs ≡ ys ++ k ∷ [] → k.bytes.items ≡ bytes
-    → entries_of (pasts zs) ≡ entries_of (pasts xs) ++ plain.plain bytes ∷ []
-kept_more xs ys zs k bytes same more is =
-    ap entries_of (past_more xs ys zs k same more) ∙ ap (λ b. entries_of (pasts xs) ++ plain.plain b ∷ []) is
 
 -- a session that is seen as another value
 
@@ -164,7 +158,7 @@ session_restored s v is restored = same_session s v (restored_grows s.world v is
 pub state_restored : (s : Contents) (v : World) → IsSound s → IsRestored s.world v → state_of (in_world v s) ≡ state_of s
 state_restored s v is restored = same_state s v (restored_grows s.world v is.world restored) (restored_declares s.world v restored) is
 
-no_attempt : (w : World) (o : Option Attempt) → o ≡ None → IfSome o (IsTried w)
+pub no_attempt : (w : World) (o : Option Attempt) → o ≡ None → IfSome o (IsTried w)
 no_attempt w o none = subst (λ p. IfSome p (IsTried w)) (sym none) tt
 
 pub session_declared : (s : Contents) (c : Command) (v : World) (ks : List Past) → IsSound s → s.attempt ≡ None → IsDeclared s.world v c → IsSound (made v s.proofs s.attempt s.all_subgoals ks)
@@ -191,8 +185,11 @@ session_stated s x y e t v p ks is copied d proof begins = record {
 
 -- Sessions behind what is kept, and behind what isn't
 
+pub session_behind : (s t : Contents) (e : Entry) (r : Reply) → IsSession s → IsSound t → CameFrom s t → IsEntryAnswer s e t r → IsSession t
+session_behind s t e r is sound from answer = record { sound = sound; replayed = forward_replayed answer.effect is.replayed; remembers = later s from is.remembers }
+
 pub session_after : (s t : Contents) (bytes : List ℕ) (r : Reply) → IsSession s → IsSound t → CameFrom s t → IsForwardAnswer s bytes t r → IsSession t
-session_after s t bytes r is sound from answer = record { sound = sound; replayed = replays_on (forward answer.effect) is.replayed; remembers = later s from is.remembers }
+session_after s t bytes r = session_behind s t (plain.plain bytes) r
 
 -- a session in another world that says the same, and in which room was made
 
@@ -219,7 +216,7 @@ module _ (s old : Contents) (bytes : List ℕ) (c : Command) (v : World) (ks : L
       seen s old bytes (made v s.proofs s.attempt s.all_subgoals ks) (Refused r) same
       (subst (λ xs. IsForwardAnswer s bytes (made v s.proofs s.attempt s.all_subgoals xs) (Refused r)) (sym room) (declined_answer s bytes c v r is.sound (meant s old bytes c same said) d))
 
-  module _ (outside : standing c ≡ Outside) (d : IsDeclared s.world v c) (k : Kept) (before : IsBefore old k.before) (deed : k.deed ≡ Went) (copy : k.bytes.items ≡ bytes) (past : ks ≡ past_of k ∷ s.past) where
+  module _ (outside : standing c ≡ Outside) (d : IsDeclared s.world v c) (k : Kept) (before : IsBefore old k.before) (deed : k.deed ≡ Went) (copy : entry_of (past_of k) ≡ plain.plain bytes) (past : ks ≡ past_of k ∷ s.past) where
     none : s.attempt ≡ None
     none = none_tried s bytes c (meant s old bytes c same said) outside
 
@@ -232,7 +229,7 @@ module _ (s old : Contents) (bytes : List ℕ) (c : Command) (v : World) (ks : L
         (refl, went_nowhere s.world s.attempt k.before.steps (subst (λ o. IsBefore o k.before) (sym same) before).steps))
 
     declared_here : IsForwardAnswer s bytes declared_contents Accepted
-    declared_here = declared_answer s bytes is.sound ks (ap entries_of past ∙ ap (λ b. entries_of s.past ++ plain.plain b ∷ []) copy) c v none (meant s old bytes c same said) d declared_from
+    declared_here = declared_answer s bytes is.sound ks (ap entries_of past ∙ ap (λ (e : Entry). entries_of s.past ++ e ∷ []) copy) c v none (meant s old bytes c same said) d declared_from
 
     pub session_declared_so : IsSession declared_contents
     session_declared_so = session_after s declared_contents bytes Accepted is (session_declared s c v ks is.sound none d) declared_from declared_here

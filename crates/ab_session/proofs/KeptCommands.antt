@@ -13,6 +13,7 @@ use Rattle.ab_steps.specs.ab_kernel.proofs.Earlier.{standing}
 use Rattle.ab_declare.specs.DeclarationAnswers.{IsStated}
 use Rattle.ab_effects.specs.ProofCommands.{given_label}
 use Rattle.ab_states.specs.State as plain
+use Rattle.ab_states.specs.State.{Entry}
 use Rattle.ab_states.specs.ForwardEffects.{Commands}
 use Rattle.ab_states.specs.declared.reply.Reply.TheVariants.{Accepted}
 use Rattle.ab_states.specs.declared.reply.Reply.TheVariants as says
@@ -20,7 +21,7 @@ use Rattle.ab_session.specs.declared.attempt.Attempt.{Attempt}
 use Rattle.ab_session.specs.declared.command_history.Deed.{Deed}
 use Rattle.ab_session.specs.declared.command_history.Deed.TheVariants.{Went, Began, Completed, GaveUp}
 use Rattle.ab_session.specs.declared.command_history.Kept.{Kept}
-use Rattle.ab_session.specs.Contents.{Contents, Past, past_of, entries_of, state_of}
+use Rattle.ab_session.specs.Contents.{Contents, Past, past_of, entry_of, entries_of, state_of}
 use Rattle.ab_session.specs.Origins.{WentOn, CameBy, CameFrom, IsSession}
 use Rattle.ab_session.specs.ProofAttempts.{GoesOn, IsCompleted}
 use Rattle.ab_session.specs.SessionAnswers.{IsForwardAnswer, steps_standing, IsBefore}
@@ -28,12 +29,12 @@ use Rattle.ab_session.proofs.Sayings.{none_tried}
 use Rattle.ab_session.proofs.Origins.{came, went_nowhere}
 use Rattle.ab_session.proofs.Effects.{made, seen, meant, session_after, session_kept, session_closed, session_stated, session_goes_on, session_completed, switched_answer, given_up_answer, stated_answer, led_answer, proved_answer}
 
-module _ (s old : Contents) (bytes : List ℕ) (k : Kept) (ks : List Past) (same : s ≡ old) (is : IsSession s) (noted : IsBefore old k.before) (copy : k.bytes.items ≡ bytes) (past : ks ≡ past_of k ∷ s.past) where
+module _ (s old : Contents) (bytes : List ℕ) (k : Kept) (ks : List Past) (same : s ≡ old) (is : IsSession s) (noted : IsBefore old k.before) (copy : entry_of (past_of k) ≡ plain.plain bytes) (past : ks ≡ past_of k ∷ s.past) where
   before : IsBefore s k.before
   before = subst (λ o. IsBefore o k.before) (sym same) noted
 
   more : entries_of ks ≡ entries_of s.past ++ plain.plain bytes ∷ []
-  more = ap entries_of past ∙ ap (λ b. entries_of s.past ++ plain.plain b ∷ []) copy
+  more = ap entries_of past ∙ ap (λ (e : Entry). entries_of s.past ++ e ∷ []) copy
 
   by : (d : Deed) (ps qs : List Held) (a b : Option Attempt) → k.deed ≡ d → CameBy d k.before.steps ps a qs b → CameBy k.deed k.before.steps ps a qs b
   by d ps qs a b e h = subst (λ x. CameBy x k.before.steps ps a qs b) (sym e) h

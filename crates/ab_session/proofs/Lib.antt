@@ -6,5 +6,7 @@ mod Origins
 mod Single
 mod Effects
 mod KeptCommands
+mod Specified
+mod KeptFiles
 mod TakingBack
 mod Began

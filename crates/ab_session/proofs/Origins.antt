@@ -17,7 +17,7 @@ use Rattle.ab_states.specs.Replay.{Replays, IsReplayed}
 use Rattle.ab_states.specs.StateEffects.{IsBeforeLast}
 use Rattle.ab_session.specs.declared.attempt.Attempt.{Attempt}
 use Rattle.ab_session.specs.declared.command_history.Kept.{Kept}
-use Rattle.ab_session.specs.Contents.{Contents, Past, past_of, entries_of, state_of}
+use Rattle.ab_session.specs.Contents.{Contents, Past, past_of, entry_of, entries_of, state_of}
 use Rattle.ab_session.specs.Origins.{WentOn, IsCompletion, CameBy, CameFrom, Remembers, begun, later, IsSession, Precedes, itself, further}
 use Rattle.ab_session.specs.SessionAnswers.{steps_standing, IsBefore}
 use Rattle.ab_session.proofs.Sessions.{in_world, same_session, same_state}
@@ -35,7 +35,7 @@ latest ks k = ap reverse (map-append past_of ks (k ∷ [])) ∙ reverse-append (
 pub length-entries : (ps : List Past) → length (entries_of ps) ≡ length ps
 length-entries [] = refl
 length-entries (p ∷ ps) =
-    length-append (entries_of ps) (plain.plain p.bytes ∷ [])
+    length-append (entries_of ps) (entry_of p ∷ [])
     ∙ ap (λ n. n + 1) (length-entries ps) ∙ (let same : length ps + 1 ≡ suc (length ps) = omega arith in same)
 
 -- a list's last element
@@ -162,7 +162,7 @@ completed_back n x a ps qs p c done e f back =
 
 -- the state before the last kept command
 pub state_before : (e s : Contents) → CameFrom e s → IsBeforeLast (state_of s) (state_of e)
-state_before e s from = record { front = entries_of e.past; last = plain.plain from.last.bytes; kept = ap entries_of from.past; replayed = from.replayed }
+state_before e s from = record { front = entries_of e.past; last = entry_of from.last; kept = ap entries_of from.past; replayed = from.replayed }
 
 -- what was done with the open proof is undone, the world is cut back, and the rest is as it was noted
 module _ (s : Contents) (k : Kept) (rest : List Past) (is : IsSession s) (past : s.past ≡ past_of k ∷ rest) where
@@ -220,11 +220,11 @@ module _ (s : Contents) (k : Kept) (rest : List Past) (is : IsSession s) (past :
     state_gone = state_before gone s came_again
 
 pub some_past : (e s : Contents) → CameFrom e s → entries_of s.past ≡ [] → ⊥
-some_past e s from none = omega (arith, ap length (sym (ap entries_of from.past) ∙ none), length-append (entries_of e.past) (plain.plain from.last.bytes ∷ []))
+some_past e s from none = omega (arith, ap length (sym (ap entries_of from.past) ∙ none), length-append (entries_of e.past) (entry_of from.last ∷ []))
 
 pub no_entries : (ps : List Past) → entries_of ps ≡ [] → ps ≡ []
 no_entries [] e = refl
-no_entries (p ∷ ps) e = absurd (omega (arith, ap length e, length-append (entries_of ps) (plain.plain p.bytes ∷ [])))
+no_entries (p ∷ ps) e = absurd (omega (arith, ap length e, length-append (entries_of ps) (entry_of p ∷ [])))
 
 -- a session that keeps nothing is the empty state
 

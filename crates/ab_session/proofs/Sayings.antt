@@ -1,11 +1,13 @@
 -- Where commands stand that the bytes say, and which of them are built.
-use Rattle.std.proofs.Common.{◌≡◌, ℕ, Bool, true, false, List, Option, Some, None, is_some, option_map, refl, sym, ◌∙◌, subst}
+use Rattle.std.proofs.Common.{◌≡◌, ◌≢◌, ℕ, Bool, true, false, List, Option, Some, None, is_some, option_map, refl, sym, ◌∙◌, subst}
 use Rattle.ab_grammar.specs.declared.head.Stand.TheVariants.{Outside, Inside}
-use Rattle.ab_grammar.specs.CommandTrees.{Command}
+use Rattle.ab_grammar.specs.CommandTrees.{Command, specification}
 use Rattle.ab_grammar.specs.CommandTable.{standing}
 use Rattle.ab_syntax.specs.declared.command.ProofCommand.{ProofCommand}
 use Rattle.ab_syntax.specs.declared.command.ProofCommand.TheVariants as plain
-use Rattle.ab_syntax.specs.Commands.{proof_command_of}
+use Rattle.ab_syntax.specs.declared.command.Command.{Command as Said}
+use Rattle.ab_syntax.specs.declared.command.Command.TheVariants as said
+use Rattle.ab_syntax.specs.Commands.{command_of, proof_command_of}
 use Rattle.ab_command.specs.Supported.{IsBuiltInProof}
 use Rattle.ab_command.specs.CommandReadings.{StandsHere}
 use Rattle.ab_command.proofs.Sayings.{said_stands}
@@ -75,3 +77,20 @@ has_row count (plain.Assert e) n h = h
 has_row count (plain.Clear xs) n h = h
 has_row count (plain.Rename x y) n h = h
 has_row count (plain.Permute ns x) n h = h
+
+-- a command that isn't a specification says none
+pub no_specification : (c : Said) → ((x : List ℕ) → c ≡ said.Specification x → ⊥) → (x : List ℕ) → command_of c ≢ specification x
+no_specification (said.Kind xs) n x e = absurd (cc)
+no_specification (said.Typed xs a) n x e = absurd (cc)
+no_specification (said.Define inductive ds cs) n x e = absurd (cc)
+no_specification (said.Theorem y f) n x e = absurd (cc)
+no_specification (said.Specification y) n x e = n y refl
+no_specification (said.Query f k m) n x e = absurd (cc)
+no_specification (said.Show y) n x e = absurd (cc)
+no_specification said.Quit n x e = absurd (cc)
+no_specification (said.Subgoals on) n x e = absurd (cc)
+no_specification said.Back n x e = absurd (cc)
+no_specification said.Reset n x e = absurd (cc)
+no_specification said.Undo n x e = absurd (cc)
+no_specification said.Abort n x e = absurd (cc)
+no_specification (said.InProof l c) n x e = absurd (cc)

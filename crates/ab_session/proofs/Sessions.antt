@@ -147,7 +147,7 @@ definition_no_theorem : (ps : List Constant) (b : Block) → theorems_in (map pr
 definition_no_theorem [] b = refl
 definition_no_theorem (p ∷ ps) b = definition_no_theorem ps b
 
-no_theorem_more : (D : Declarations) (c : Command) (more : Declarations) → Declares D c more → theorems_in more ≡ []
+pub no_theorem_more : (D : Declarations) (c : Command) (more : Declarations) → Declares D c more → theorems_in more ≡ []
 no_theorem_more D _ _ (new_kinds {xs = xs} n) = kinds_no_theorem xs
 no_theorem_more D _ _ (new_constants {xs = xs} {A = A} n t d) = constants_no_theorem A xs
 no_theorem_more D _ _ (new_predicates {inductive = inductive} d) =

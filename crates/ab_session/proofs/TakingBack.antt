@@ -26,7 +26,7 @@ use Rattle.ab_session.proofs.Origins.{pasts, length-entries, state_before, state
 pub kept_many : (ks : List Kept) → length (entries_of (pasts ks)) ≡ length ks
 kept_many ks = length-entries (pasts ks) ∙ length-reverse _ ∙ length-map ks past_of
 
-not_more : (xs : List Entry) (x : Entry) → xs ≡ xs ++ x ∷ [] → ⊥
+pub not_more : (xs : List Entry) (x : Entry) → xs ≡ xs ++ x ∷ [] → ⊥
 not_more xs x e = omega (arith, ap length e, length-append xs (x ∷ []))
 
 -- an earlier session keeps no command more
@@ -36,7 +36,7 @@ not_earlier s t x p e =
 
 -- A command that goes forward
 
-no_fewer : (s t : State) (e : Entry) (r : reply.Reply) → GoesForward s e r t → length t.kept < length s.kept → ⊥
+pub no_fewer : (s t : State) (e : Entry) (r : reply.Reply) → GoesForward s e r t → length t.kept < length s.kept → ⊥
 no_fewer s t e r h l =
     elim (kept_by h) [
       | inl x ↦ omega (arith, l, ap (λ (u : State). length u.kept) x.1)
@@ -51,7 +51,7 @@ answered old new bytes n m r a = record {
   refused = a.refused;
   kept = λ more.
       elim (kept_by a.effect) [
-        | inl x ↦ absurd (not_more (state_of old).kept (plain.plain bytes) (sym (ap (λ (u : State). u.kept) x.1) ∙ more))
+        | inl x ↦ absurd (not_more (state_of old).kept more.entry (sym (ap (λ (u : State). u.kept) x.1) ∙ more.kept))
         | inr x ↦ a.kept x.0
       ];
   taken_back = λ less. absurd (no_fewer (state_of old) (state_of new) (plain.plain bytes) (reply.reply_of new.world r) a.effect less);
@@ -75,7 +75,7 @@ module _ (s : Contents) (bytes : List ℕ) where
     speaks = tt;
     completed = λ name bad. absurd (cc);
     refused = λ r bad. absurd (cc);
-    kept = λ more. absurd (not_earlier s t (plain.plain bytes) p more);
+    kept = λ more. absurd (not_earlier s t more.entry p more.kept);
     taken_back = λ less. p;
     steps = λ less. sum;
   }
@@ -86,7 +86,7 @@ module _ (s : Contents) (bytes : List ℕ) where
     speaks = tt;
     completed = λ name bad. absurd (cc);
     refused = λ r same. restored_itself s.world;
-    kept = λ more. absurd (not_earlier s s (plain.plain bytes) itself more);
+    kept = λ more. absurd (not_earlier s s more.entry itself more.kept);
     taken_back = λ less. itself;
     steps = λ less. omega (arith, less);
   }
@@ -132,7 +132,7 @@ not_ok (Err x) e = refl
 -- a state keeps no command more and none fewer than itself
 
 pub not_kept : (s : State) (bytes : List ℕ) → KeepsOneMore s bytes s → ⊥
-not_kept s bytes more = not_more s.kept (plain.plain bytes) more
+not_kept s bytes more = not_more s.kept more.entry more.kept
 
 pub not_fewer : (s : State) → KeepsFewer s s → ⊥
 not_fewer s less = omega (arith, less)

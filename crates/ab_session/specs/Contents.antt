@@ -1,5 +1,7 @@
 -- What a session holds, and the state that it is.
 use Rattle.std.specs.Prelude.{ℕ, List, [], ◌∷◌, ◌++◌, Bool, Option, option_map, map, reverse}
+use Rattle.ab_sigmod.specs.FileOrder as file
+use Rattle.ab_sigmod.specs.Outcomes.{files_of}
 use Rattle.ab_logic.specs.Worlds.{read, declarations_of}
 use Rattle.ab_logic.specs.declared.world.World.{World}
 use Rattle.ab_steps.specs.ab_kernel.specs.Layout.{Held}
@@ -13,9 +15,10 @@ use Rattle.ab_session.specs.declared.command_history.Deed.{Deed}
 use Rattle.ab_session.specs.declared.command_history.Kept.{Kept}
 use Rattle.ab_session.specs.declared.session.Session.TheInside.{Inside}
 
--- a command that is kept: its bytes, how the session was before it, and what it did with the open proof
+-- a command that is kept: its bytes and the files that it read, how the session was before it, and what it did with the open proof
 pub record Past : Type 0 where
   pub bytes : List ℕ
+  pub files : Option (List file.Read)
   pub before : Before
   pub deed : Deed
 
@@ -31,7 +34,7 @@ pub record Contents : Type 0 where
   pub past : List Past
 
 abbrev pub past_of : Kept → Past
-past_of k = record { bytes = k.bytes.items; before = k.before; deed = k.deed }
+past_of k = record { bytes = k.bytes.items; files = option_map files_of k.spec; before = k.before; deed = k.deed }
 
 abbrev pub contents : Inside → Contents
 contents s = record {
@@ -45,10 +48,13 @@ contents s = record {
 abbrev pub attempt_of : World → Attempt → plain.Attempt
 attempt_of w a = record { name = a.name; formula = read w a.formula; goals = map named (goals_of w a.proof) }
 
+abbrev pub entry_of : Past → Entry
+entry_of p = record { bytes = p.bytes; specification = p.files }
+
 -- the entries of kept commands, in order
 abbrev pub entries_of : List Past → List Entry
 entries_of [] = []
-entries_of (latest ∷ rest) = entries_of rest ++ plain.plain latest.bytes ∷ []
+entries_of (latest ∷ rest) = entries_of rest ++ entry_of latest ∷ []
 
 -- THE STATE that the session is
 abbrev pub state_of : Contents → State

@@ -8,9 +8,10 @@ use Rattle.ab_steps.specs.ab_kernel.specs.Layout.{history_of}
 use Rattle.ab_declare.specs.declared.refusal.Refusal.{Refusal}
 use Rattle.ab_declare.specs.Moments.{IsMoment, IsRestored}
 use Rattle.ab_states.specs.DerivedTheorems.{IsDerived}
-use Rattle.ab_states.specs.State.{State, plain}
+use Rattle.ab_sigmod.specs.FileLoads.{FilesSeen}
+use Rattle.ab_states.specs.State.{State, Entry, plain}
 use Rattle.ab_states.specs.ForwardEffects.{GoesForward}
-use Rattle.ab_states.specs.StateEffects.{HasEffect}
+use Rattle.ab_states.specs.StateEffects.{HasEffect, HasEffectOver}
 use Rattle.ab_states.specs.Reply.{SpeaksOfNoGoal, is_kept, reply_of}
 use Rattle.ab_states.specs.declared.reply.Reply.{Reply}
 use Rattle.ab_states.specs.declared.reply.Reply.TheVariants.{Completed, Refused}
@@ -28,23 +29,38 @@ pub record IsProvedLast (D : Declarations) (name : List ℕ) : Type 0 where
   pub named : derived.name ≡ name
 
 -- one command more is kept, of these bytes
-abbrev pub KeepsOneMore : State → List ℕ → State → Type 0
-KeepsOneMore s bytes t = t.kept ≡ s.kept ++ plain bytes ∷ []
+pub record KeepsOneMore (s : State) (bytes : List ℕ) (t : State) : Type 0 where
+  pub entry : Entry
+  pub of_these : entry.bytes ≡ bytes
+  pub kept : t.kept ≡ s.kept ++ entry ∷ []
 
 -- fewer commands are kept
 abbrev pub KeepsFewer : State → State → Type 0
 KeepsFewer s t = length t.kept < length s.kept
 
--- the reply and the next state are the effect of a command that goes forward; a formula that is shown speaks of no goal, a
--- completed theorem is proved, nothing is left of what is refused, and what is kept leads back
-pub record IsForwardAnswer (old : Contents) (bytes : List ℕ) (new : Contents) (reply : Reply) : Type 0 where
-  pub effect : GoesForward (state_of old) (plain bytes) (reply_of new.world reply) (state_of new)
+-- the reply and the next state are the effect of a command that goes forward, as it would be kept; a formula that is shown speaks
+-- of no goal, a completed theorem is proved, nothing is left of what is refused, and what is kept leads back
+pub record IsEntryAnswer (old : Contents) (e : Entry) (new : Contents) (reply : Reply) : Type 0 where
+  pub effect : GoesForward (state_of old) e (reply_of new.world reply) (state_of new)
   pub speaks : SpeaksOfNoGoal new.world reply
   pub completed : (name : List ℕ) → reply ≡ Completed name → IsProvedLast (declarations_of new.world) name
   pub refused : (r : Refusal) → reply ≡ Refused r → IsRestored old.world new.world
   pub kept : is_kept (reply_of new.world reply) ≡ true → CameFrom old new
 
--- the same for any command, without a load; what takes back leads to an earlier session, and steps go from the one number to the
+-- the same of a command that reads no file
+abbrev pub IsForwardAnswer : Contents → List ℕ → Contents → Reply → Type 0
+IsForwardAnswer old bytes new reply = IsEntryAnswer old (plain bytes) new reply
+
+-- the same of a specification, which gets loads from files of which this was told before, and that is told now
+pub record IsFileAnswer (before after : FilesSeen) (old : Contents) (bytes : List ℕ) (new : Contents) (reply : Reply) : Type 0 where
+  pub effect : HasEffectOver before after (state_of old) bytes (reply_of new.world reply) (state_of new)
+  pub speaks : SpeaksOfNoGoal new.world reply
+  pub completed : (name : List ℕ) → reply ≡ Completed name → IsProvedLast (declarations_of new.world) name
+  pub refused : (r : Refusal) → reply ≡ Refused r → IsRestored old.world new.world
+  pub kept : KeepsOneMore (state_of old) bytes (state_of new) → CameFrom old new
+  pub none_taken_back : ¬ KeepsFewer (state_of old) (state_of new)
+
+-- the same for any other command, without a load; what takes back leads to an earlier session, and steps go from the one number to the
 -- other by one for each entry of the table and each declaration that goes
 pub record IsAnswer (old : Contents) (bytes : List ℕ) (new : Contents) (before after : ℕ) (reply : Reply) : Type 0 where
   pub effect : HasEffect (state_of old) bytes [] (reply_of new.world reply) (state_of new)

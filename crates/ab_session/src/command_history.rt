@@ -1,8 +1,11 @@
 //! Commands that are kept, and what it takes to go back before each.
-ghost use Rattle.std.specs.Prelude.{◌≡◌, ◌<◌, IfOk, OnOk, vec_len, vec_capacity};
+ghost use Rattle.std.specs.Prelude.{◌≡◌, ◌<◌, is_some, IfOk, OnOk, vec_len, vec_capacity};
+ghost use Rattle.std.specs.List.{list_any};
+ghost use Rattle.ab_session.specs.declared.command_history.Kept.{Kept as AKept};
 
 use crate::attempt::Attempt;
 use ab_declare::Moment;
+use ab_sigmod::Spec;
 use ab_store::TermId;
 use ab_store::name::Name;
 use std::alloc::{AllocError, Global};
@@ -34,6 +37,8 @@ pub enum Deed {
 #[derive(Drop)]
 pub struct Kept {
     pub(crate) bytes: Vec<u8>,
+    /// The specification that it read, if it read one.
+    pub(crate) spec: Option<Spec>,
     pub(crate) before: Before,
     pub(crate) deed: Deed,
 }
@@ -50,4 +55,16 @@ pub(crate) fn make_room(
 {
     kept.reserve(1)?;
     Vec::from_slice(alloc, command)
+}
+
+/// Whether one of the commands read a specification.
+pub(crate) fn reads_files(kept: &[Kept]) -> bool
+    ensures { result ≡ list_any (λ (k : AKept). is_some k.spec) kept.now }
+{
+    for command in kept {
+        if command.spec.is_some() {
+            return true;
+        }
+    }
+    false
 }

@@ -1,6 +1,6 @@
 //! Laws of the states that sessions have, and of going back.
 ghost use Rattle.std.specs.Prelude.{◌≡◌, ℕ, List};
-ghost use Rattle.ab_io.specs.Loads.{Answer};
+ghost use Rattle.ab_sigmod.specs.FileLoads.{Load};
 ghost use Rattle.ab_states.specs.State.{State, empty};
 ghost use Rattle.ab_states.specs.Reply.{Reply};
 ghost use Rattle.ab_states.specs.StateEffects.{HasEffect};
@@ -11,7 +11,7 @@ ghost use Rattle.ab_session.specs.Origins.{CameFrom, IsSame};
 /// The state in which a session begins, and the state behind each command, is the one that its kept commands lead to.
 pub fn kept_commands_replay()
     ensures begins { IsReplayed empty }
-    ensures goes_on { (s t : State) (bytes : List ℕ) (loads : List Answer) (reply : Reply) → IsReplayed s → HasEffect s bytes loads reply t → IsReplayed t }
+    ensures goes_on { (s t : State) (bytes : List ℕ) (loads : List Load) (reply : Reply) → IsReplayed s → HasEffect s bytes loads reply t → IsReplayed t }
 {}
 
 /// A session came from one session by its last kept command, to each node, cell, type, declaration and step of a proof, but for

@@ -1,11 +1,17 @@
 //! Refusals of commands that aren't read, and of proof commands.
-ghost use Rattle.std.specs.Prelude.{◌≡◌, IfOk};
-ghost use Rattle.ab_states.specs.Reply.{unread_for};
+ghost use Rattle.std.specs.Prelude.{◌≡◌, Some, IfOk};
+ghost use Rattle.ab_sigmod.specs.FileOrder.{Fault};
+ghost use Rattle.ab_sigmod.specs.Outcomes.{fault_of};
+ghost use Rattle.ab_states.specs.Reply.{unread_for, files_unread_for};
+ghost use Rattle.ab_declare.specs.Refusals.{here};
+ghost use Rattle.ab_states.specs.ab_specification.specs.FileDeclarations.{place_in};
 ghost use Rattle.ab_session.specs.ProofAttempts.{TellsOf};
 
 use ab_command::Cause;
-use ab_declare::{Place, Refusal};
+use ab_declare::{Chain, Place, Refusal};
+use ab_sigmod::SpecFault;
 use ab_steps::ProofCommandFault;
+use ab_store::name::Name;
 use std::alloc::AllocError;
 
 /// The refusal of bytes that say no command.
@@ -17,6 +23,33 @@ pub(crate) fn unread(cause: Cause) -> Refusal
         Cause::WrongPlace => Refusal::WrongPlace,
         Cause::TooNested(place) => Refusal::TooNested(Place::here(place)),
         Cause::NotBuilt => Refusal::NotBuilt,
+    }
+}
+
+/// The place in the file.
+fn place_in(file: Name, at: usize) -> Place
+    ensures { result ≡ place_in file (here at) }
+{
+    Place {
+        at,
+        file: Some(file),
+    }
+}
+
+/// The refusal of files that can't be read.
+pub(crate) fn files_unread(fault: SpecFault) -> Result<Refusal, AllocError>
+    ensures { IfOk result (λ r. (f : Fault) × (fault_of fault ≡ Some f) × (r ≡ files_unread_for f)) }
+{
+    match fault {
+        SpecFault::FileMissing(name) => Ok(Refusal::FileMissing(name)),
+        SpecFault::FileFault(name) => Ok(Refusal::FileFault(name)),
+        SpecFault::FileTooLong(name) => Ok(Refusal::FileTooLong(name)),
+        SpecFault::Syntax(name, place) => Ok(Refusal::Syntax(place_in(name, place))),
+        SpecFault::TooNested(name, place) => Ok(Refusal::TooNested(place_in(name, place))),
+        SpecFault::WrongTitle(name) => Ok(Refusal::WrongTitle(name)),
+        SpecFault::Circular(names) => Ok(Refusal::Circular(Chain::from_names(names))),
+        SpecFault::TooManyFiles(name) => Ok(Refusal::TooManyFiles(name)),
+        SpecFault::Memory(error) => Err(error),
     }
 }
 

@@ -1,7 +1,7 @@
 //! A session: what the commands so far have led to.
 //!
 //! Every proof goes through the kernel, which alone makes derivations, and each theorem's proof stays as long as it does.
-ghost use Rattle.std.specs.Prelude.{◌≡◌, ◌↔◌, ◌<◌, ℕ, ◌+◌, List, [], None, length, map, slice_get, is_some, IfOk, IfSome, IsSome, IsErr, IsTrue, IsFalse, OnOk, OnErr};
+ghost use Rattle.std.specs.Prelude.{◌≡◌, ◌≢◌, ◌↔◌, ◌<◌, ℕ, ◌+◌, List, [], true, false, None, length, map, slice_get, is_some, IfOk, IfSome, IsSome, IsErr, IsTrue, IsFalse, OnOk, OnErr};
 ghost use Rattle.std.specs.Option.{option_map, option_copied};
 ghost use Rattle.ab_grammar.specs.CommandTrees as told;
 ghost use Rattle.ab_syntax.specs.SyntaxTrees as trees;
@@ -13,29 +13,32 @@ ghost use Rattle.ab_steps.specs.ab_kernel.specs.Layout.{IsProof};
 ghost use Rattle.ab_declare.specs.declared.refusal.Refusal.{Refusal as ARefusal};
 ghost use Rattle.ab_declare.specs.Moments.{IsRestored};
 ghost use Rattle.ab_formulas.specs.NamedGoals.{named};
-ghost use Rattle.ab_states.specs.State.{empty, is_open, goals_of, goals_in};
+ghost use Rattle.ab_sigmod.specs.Outcomes.{seen, files_of};
+ghost use Rattle.ab_states.specs.State.{empty, with_files, is_open, is_specified, goals_of, goals_in};
 ghost use Rattle.ab_states.specs.Replay.{IsReplayed};
 ghost use Rattle.ab_states.specs.Reply.{SpeaksOfNoGoal, reply_of};
 ghost use Rattle.ab_states.specs.ForwardEffects.{Commands};
-ghost use Rattle.ab_states.specs.StateEffects.{HasEffect, IsBeforeLast};
+ghost use Rattle.ab_states.specs.StateEffects.{AsksFor, HasEffectOver, IsBeforeLast};
 ghost use Rattle.ab_states.specs.declared.reply.Reply.TheVariants.{Completed, Refused};
 ghost use Rattle.ab_session.specs.Contents.{Contents, state_of};
 ghost use Rattle.ab_session.specs.Origins.{CameFrom, Precedes};
 ghost use Rattle.ab_session.specs.Sessions.{IsProofOf};
-ghost use Rattle.ab_session.specs.SessionAnswers.{IsProvedLast, KeepsOneMore, KeepsFewer, IsForwardAnswer, IsAnswer, IsBefore};
+ghost use Rattle.ab_session.specs.SessionAnswers.{IsProvedLast, KeepsOneMore, KeepsFewer, IsEntryAnswer, IsForwardAnswer, IsFileAnswer, IsAnswer, IsBefore};
 
 use crate::attempt::Attempt;
 use crate::attempt_steps::{Outcome, advance};
-use crate::command_history::{Before, Deed, Kept, make_room};
+use crate::command_history::{Before, Deed, Kept, make_room, reads_files};
 use crate::past_proofs::reopen;
-use crate::refusals::unread;
+use crate::refusals::{files_unread, unread};
 use ab_command::{Unread, read_command};
 use ab_declare::{
     Moment, Refusal, Statement, declare_constants, declare_definition, declare_kinds, state_formula,
 };
 use ab_io::Files;
 use ab_logic::{Sequent, World};
+use ab_sigmod::{Spec, read_spec};
 use ab_states::Reply;
+use ab_states::specification::declare_specification;
 use ab_steps::kernel::Proof;
 use ab_store::TermId;
 use ab_store::name::Name;
@@ -65,12 +68,13 @@ pub struct Session {
 impl Model for Session {
     ghost use Rattle.std.specs.Coded.{codes};
     ghost use Rattle.ab_store.specs.ab_types.specs.Codes.{entry_code};
+    ghost use Rattle.ab_sigmod.specs.Codes.{read_code};
     ghost use Rattle.ab_session.specs.Contents.{Contents, contents};
     ghost use Rattle.ab_session.specs.Origins.{IsSession};
 
     ghost Value = { Contents };
 
-    ghost coded = { Prim.hlevel (codes, entry_code) };
+    ghost coded = { Prim.hlevel (codes, entry_code, read_code) };
 
     ghost view = { contents };
 
@@ -153,15 +157,19 @@ impl Session {
     }
 
     /// Takes one command, its full stop included: the reply, and the next state. A command that is refused leaves the
-    /// session as it was, and so does want of memory. No file is read. What is kept can be taken back, to each node, cell,
-    /// type and declaration, and what takes back counts a step for each entry of the table and each declaration that goes.
+    /// session as it was, and so does want of memory. A specification reads its files, where none is kept, and no other command
+    /// asks for a file. What is kept can be taken back, to each node, cell, type and declaration, and what takes back counts a
+    /// step for each entry of the table and each declaration that goes.
     pub fn accept<F: Files, L>(
         &mut self,
         files: &mut F,
         command: &[u8],
         steps: &mut Steps<L>,
     ) -> Result<Reply, AllocError>
-        ensures effect { IfOk result (λ reply. HasEffect (state_of self.old) command.now [] (reply_of self.new.world reply) (state_of self.new)) }
+        ensures effect { IfOk result (λ reply. HasEffectOver
+            (seen (F.files files.old) (F.plan files.old) (F.faults files.old) (F.misses files.old) (F.long_files files.old))
+            (seen (F.files files.new) (F.plan files.new) (F.faults files.new) (F.misses files.new) (F.long_files files.new))
+            (state_of self.old) command.now (reply_of self.new.world reply) (state_of self.new)) }
         ensures reply { IfOk result (SpeaksOfNoGoal self.new.world) }
         ensures completed { (name : List ℕ) → IfOk result (λ reply. reply ≡ Completed name → IsProvedLast (state_of self.new).declarations name) }
         ensures refused { (r : ARefusal) → IfOk result (λ reply. reply ≡ Refused r → IsRestored self.old.world self.new.world) }
@@ -170,10 +178,10 @@ impl Session {
         ensures steps { IfOk result (λ reply. KeepsFewer (state_of self.old) (state_of self.new) →
             steps.new + length self.new.world.types + length self.new.world.additions ≡ steps.old + length self.old.world.types + length self.old.world.additions) }
         ensures err { OnErr result (state_of self.new ≡ state_of self.old) }
-        ensures files { files.new ≡ files.old }
+        ensures unloaded { ((x : List ℕ) → ¬ AsksFor (state_of self.old) command.now x) → files.new ≡ files.old }
     {
-        let _ = files;
         match read_command(self.alloc, command, self.attempt.is_some()) {
+            Ok(Command::Specification(name)) => self.specify(files, command, &name, steps),
             Ok(said) => self.carry_out(command, &said, steps),
             Err(Unread::Refused(cause)) => Ok(Reply::Refused(unread(cause))),
             Err(Unread::Memory(fault)) => Err(fault),
@@ -194,6 +202,7 @@ impl Session {
         match self.kept.pop() {
             None => Err(BackFault::NothingToUndo),
             Some(last) => {
+                drop(last.spec);
                 let before = last.before;
                 self.attempt = reopen(
                     last.deed,
@@ -210,14 +219,15 @@ impl Session {
         }
     }
 
-    /// Carries out a command that the bytes say.
+    /// Carries out a command that the bytes say and that reads no file.
     fn carry_out<L>(
         &mut self,
         bytes: &[u8],
         command: &Command,
         steps: &mut Steps<L>,
     ) -> Result<Reply, AllocError>
-        requires { Commands (state_of self.old) bytes.now (command_of command.now) }
+        requires said { Commands (state_of self.old) bytes.now (command_of command.now) }
+        requires unread { (x : List ℕ) → command_of command.now ≢ told.specification x }
         ensures answer { IfOk result (IsAnswer self.old bytes.now self.new steps.old steps.new) }
         ensures err { OnErr result (state_of self.new ≡ state_of self.old) }
     {
@@ -284,6 +294,7 @@ impl Session {
             None => {
                 self.kept.push_reserved(Kept {
                     bytes,
+                    spec: None,
                     before,
                     deed: Deed::Went,
                 });
@@ -311,6 +322,7 @@ impl Session {
             None => {
                 self.kept.push_reserved(Kept {
                     bytes,
+                    spec: None,
                     before,
                     deed: Deed::Went,
                 });
@@ -346,6 +358,68 @@ impl Session {
             None => {
                 self.kept.push_reserved(Kept {
                     bytes,
+                    spec: None,
+                    before,
+                    deed: Deed::Went,
+                });
+                Ok(Reply::Accepted)
+            }
+        }
+    }
+
+    /// Whether a specification is kept.
+    fn is_specified(&self) -> bool
+        ensures { result ≡ is_specified (state_of self.now) }
+    {
+        reads_files(&self.kept)
+    }
+
+    /// `Specification "w"`: reads the files, and declares what they do.
+    fn specify<F: Files, L>(
+        &mut self,
+        files: &mut F,
+        bytes: &[u8],
+        name: &Name,
+        steps: &mut Steps<L>,
+    ) -> Result<Reply, AllocError>
+        requires { Commands (state_of self.old) bytes.now (told.specification name.now) }
+        ensures answer { IfOk result (IsFileAnswer
+            (seen (F.files files.old) (F.plan files.old) (F.faults files.old) (F.misses files.old) (F.long_files files.old))
+            (seen (F.files files.new) (F.plan files.new) (F.faults files.new) (F.misses files.new) (F.long_files files.new))
+            self.old bytes.now self.new) }
+        ensures err { OnErr result (state_of self.new ≡ state_of self.old) }
+        ensures unloaded { is_specified (state_of self.old) ≡ true → files.new ≡ files.old }
+    {
+        if self.is_specified() {
+            let copy = name.copy(self.alloc)?;
+            return Ok(Reply::Refused(Refusal::Clash(copy, None)));
+        }
+        match read_spec(self.alloc, files, name) {
+            Ok(spec) => self.declare_files(bytes, spec, steps),
+            Err(fault) => Ok(Reply::Refused(files_unread(fault)?)),
+        }
+    }
+
+    /// Declares what the files of a specification do.
+    fn declare_files<L>(
+        &mut self,
+        bytes: &[u8],
+        spec: Spec,
+        steps: &mut Steps<L>,
+    ) -> Result<Reply, AllocError>
+        requires said { (x : List ℕ) × Commands (state_of self.old) bytes.now (told.specification x) }
+        requires first { is_specified (state_of self.old) ≡ false }
+        ensures answer { IfOk result (IsEntryAnswer self.old (with_files (files_of spec) bytes.now) self.new) }
+        ensures err { OnErr result (state_of self.new ≡ state_of self.old) }
+    {
+        let before = self.before();
+        let bytes = make_room(self.alloc, &mut self.kept, bytes)?;
+        match declare_specification(self.alloc, &mut self.world, spec.files.as_slice(), steps)? {
+            Some(refusal) => Ok(Reply::Refused(refusal)),
+            None => {
+                self.kept.push_reserved(Kept {
+                    bytes,
+                    spec: Some(spec),
                     before,
                     deed: Deed::Went,
                 });
@@ -375,6 +449,7 @@ impl Session {
                 let proof = Proof::start(self.alloc, &self.world, formula, 0)?;
                 self.kept.push_reserved(Kept {
                     bytes,
+                    spec: None,
                     before,
                     deed: Deed::Began,
                 });
@@ -411,6 +486,7 @@ impl Session {
         let bytes = make_room(self.alloc, &mut self.kept, bytes)?;
         self.kept.push_reserved(Kept {
             bytes,
+            spec: None,
             before,
             deed: Deed::Went,
         });
@@ -431,6 +507,7 @@ impl Session {
         };
         self.kept.push_reserved(Kept {
             bytes,
+            spec: None,
             before,
             deed: Deed::GaveUp(attempt),
         });
@@ -473,6 +550,7 @@ impl Session {
             Ok(Outcome::Completed) => {
                 self.kept.push_reserved(Kept {
                     bytes,
+                    spec: None,
                     before,
                     deed: Deed::Completed(name, attempt.formula),
                 });
@@ -482,6 +560,7 @@ impl Session {
             Ok(Outcome::Left) => {
                 self.kept.push_reserved(Kept {
                     bytes,
+                    spec: None,
                     before,
                     deed: Deed::Went,
                 });

@@ -21,7 +21,7 @@ asked_on k [] ys = refl
 asked_on Signature (x ∷ xs) ys = ap (λ (fs : List File). record { base = x; kind = Signature } ∷ fs) (asked_on Signature xs ys)
 asked_on Module (x ∷ xs) ys = ap (λ (fs : List File). record { base = x; kind = Signature } ∷ record { base = x; kind = Module } ∷ fs) (asked_on Module xs ys)
 
-asked_by_on : (k : FileKind) (is js : List Item) → asked_by k (is ++ js) ≡ asked_by k is ++ asked_by k js
+pub asked_by_on : (k : FileKind) (is js : List Item) → asked_by k (is ++ js) ≡ asked_by k is ++ asked_by k js
 asked_by_on k [] js = refl
 asked_by_on k (accumulation xs ∷ is) js = ap (λ (fs : List File). asked k xs ++ fs) (asked_by_on k is js) ∙ sym (append_assoc (asked k xs) (asked_by k is) (asked_by k js))
 asked_by_on k (kinds xs ∷ is) js = asked_by_on k is js

@@ -6,3 +6,5 @@ pub mod Asking
 pub mod OpenFiles
 pub mod Turns
 pub mod BothFiles
+pub mod OneText
+pub mod OneWay

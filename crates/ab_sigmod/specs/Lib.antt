@@ -7,3 +7,5 @@ pub mod Outcomes
 -- tools of the private functions' clauses
 pub mod Texts
 pub mod Readings
+-- what a model needs whose value holds files that were read
+pub mod Codes

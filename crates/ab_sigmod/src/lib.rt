@@ -2,6 +2,7 @@
 #![tactic(auto)]
 
 mod file_text;
+pub mod laws;
 mod progress;
 mod reading;
 mod spec;

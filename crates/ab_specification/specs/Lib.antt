@@ -5,3 +5,5 @@ pub mod FileDeclarations
 pub mod SpecificationAnswers
 -- Words that only proofs and private contracts speak.
 pub mod ItemAnswers
+-- Libraries that the crates above name through this one.
+pub use Rattle.ab_declare

@@ -7,4 +7,5 @@ mod item;
 mod refusal;
 pub mod specification_laws;
 
+pub use ab_declare as declare;
 pub use files::declare_specification;

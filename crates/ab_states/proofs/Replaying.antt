@@ -1,11 +1,11 @@
 -- The kept commands of a state lead to it: replays, one behind another, and behind each effect.
 use Rattle.std.proofs.Common.{◌≡◌, ◌⊎◌, ℕ, true, false, List, [], ◌∷◌, ◌++◌, length, refl, sym, ◌∙◌, ap, subst, arith, append_assoc, append-nil, length-append, inl, inr}
-use Rattle.ab_io.specs.Loads.{Answer}
+use Rattle.ab_sigmod.specs.FileLoads.{Load}
 use Rattle.ab_states.specs.State.{State, Entry, plain, empty}
 use Rattle.ab_states.specs.Reply.{Reply, is_kept}
-use Rattle.ab_states.specs.ForwardEffects.{GoesForward, unread, declined, declared, stated, showed, ended, switched, given_up, denied, led, proved}
+use Rattle.ab_states.specs.ForwardEffects.{GoesForward, unread, declined, declared, specified, item_declined, specified_twice, stated, showed, ended, switched, given_up, denied, led, proved}
 use Rattle.ab_states.specs.Replay.{Replays, none, next, IsReplayed}
-use Rattle.ab_states.specs.StateEffects.{IsBeforeLast, HasEffect, forward, took_back, nothing_kept, undid, began, emptied}
+use Rattle.ab_states.specs.StateEffects.{IsBeforeLast, HasEffect, forward, by_files, unread_files, took_back, nothing_kept, undid, began, emptied}
 
 -- a command that goes forward stands behind those that are kept, or leaves the state
 pub kept_by : {s t : State} {e : Entry} {reply : Reply} → GoesForward s e reply t
@@ -13,6 +13,9 @@ pub kept_by : {s t : State} {e : Entry} {reply : Reply} → GoesForward s e repl
 kept_by (unread c f) = inl (refl, refl)
 kept_by (declined c r h d) = inl (refl, refl)
 kept_by (declared c more h d) = inr (refl, refl)
+kept_by (specified x files more h n d) = inr (refl, refl)
+kept_by (item_declined x files r h n d) = inl (refl, refl)
+kept_by (specified_twice x h n) = inl (refl, refl)
 kept_by (stated x e F h n d) = inr (refl, refl)
 kept_by (showed x F h e) = inl (refl, refl)
 kept_by (ended h) = inl (refl, refl)
@@ -47,7 +50,7 @@ replays_keep {s = s} (next {e = e} {es = es} reply h k p) = replays_keep p ∙ a
 pub front_replayed : {s t : State} → IsBeforeLast s t → IsReplayed t
 front_replayed {t = t} b = subst (λ es. Replays empty es t) (sym (replays_keep b.replayed)) b.replayed
 
-forward_replayed : {s t : State} {e : Entry} {reply : Reply} → GoesForward s e reply t → IsReplayed s → IsReplayed t
+pub forward_replayed : {s t : State} {e : Entry} {reply : Reply} → GoesForward s e reply t → IsReplayed s → IsReplayed t
 forward_replayed {t = t} {reply = reply} h p =
     elim (kept_by h) [
       | inl a ↦ subst IsReplayed (sym a.1) p
@@ -55,8 +58,10 @@ forward_replayed {t = t} {reply = reply} h p =
     ]
 
 -- and so is each state behind an effect
-pub replays_on : {s t : State} {bytes : List ℕ} {loads : List Answer} {reply : Reply} → HasEffect s bytes loads reply t → IsReplayed s → IsReplayed t
+pub replays_on : {s t : State} {bytes : List ℕ} {loads : List Load} {reply : Reply} → HasEffect s bytes loads reply t → IsReplayed s → IsReplayed t
 replays_on (forward h) p = forward_replayed h p
+replays_on (by_files x files a i h) p = forward_replayed h p
+replays_on (unread_files x fault a i) p = p
 replays_on (took_back k b) p = front_replayed b
 replays_on (nothing_kept k e) p = p
 replays_on (undid k b o) p = front_replayed b

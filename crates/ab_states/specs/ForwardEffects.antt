@@ -1,21 +1,24 @@
 -- THE EFFECT OF A COMMAND THAT GOES FORWARD on a state: the reply, and the next state. A command that is refused leaves the state.
-use Rattle.std.specs.Prelude.{◌≡◌, ℕ, List, [], ◌∷◌, ◌++◌, map, Bool, Option, Some, None}
+use Rattle.std.specs.Prelude.{◌≡◌, ℕ, List, [], ◌∷◌, ◌++◌, map, Bool, true, false, Option, Some, None}
 use Rattle.ab_grammar.specs.Tree.{Tree}
-use Rattle.ab_grammar.specs.CommandTrees.{Command, ProofCommand, theorem, show, quit, subgoals, abort, in_proof}
+use Rattle.ab_grammar.specs.CommandTrees.{Command, ProofCommand, theorem, specification, show, quit, subgoals, abort, in_proof}
 use Rattle.ab_term.specs.Terms.{Read}
 use Rattle.ab_formulas.specs.Declarations.{Declarations, a_theorem, theorem_in}
 use Rattle.ab_formulas.specs.NewNames.{Label}
 use Rattle.ab_formulas.specs.Sequents as numbered
 use Rattle.ab_formulas.specs.Sequents.{Sequent}
 use Rattle.ab_theory.specs.Derivations.{proves}
+use Rattle.ab_sigmod.specs.FileOrder as file
 use Rattle.ab_command.specs.declared.fault.Cause.{Cause}
 use Rattle.ab_command.specs.CommandReadings.{Says, Fails}
-use Rattle.ab_declare.specs.declared.refusal.Refusal.{Refusal}
+use Rattle.ab_specification.specs.ab_declare.specs.declared.refusal.Refusal.{Refusal}
+use Rattle.ab_specification.specs.ab_declare.specs.declared.refusal.Refusal.TheVariants.{Clash}
+use Rattle.ab_specification.specs.FileDeclarations.{SpecDeclares, SpecDeclines}
 use Rattle.ab_formulas.specs.NamedGoals.{Goal, named, IsNumbered}
-use Rattle.ab_states.specs.State.{Attempt, State, Entry, plain, is_open, keeping, declaring, proving, closed, showing}
+use Rattle.ab_states.specs.State.{Attempt, State, Entry, plain, with_files, is_open, is_specified, keeping, declaring, proving, closed, showing}
 use Rattle.ab_states.specs.Reply as reply
 use Rattle.ab_states.specs.Reply.{Reply, accepted, completed, shown, refused, unread_for}
-use Rattle.ab_declare.specs.DeclarationCommands.{States, Declares, Declines}
+use Rattle.ab_specification.specs.ab_declare.specs.DeclarationCommands.{States, Declares, Declines}
 use Rattle.ab_effects.specs.ProofCommands.{given_label}
 use Rattle.ab_states.specs.ProofCommandEffects.{Makes, Denies}
 
@@ -48,6 +51,14 @@ pub data GoesForward (s : State) : Entry → Reply → State → Type 0 where
   -- kinds, constants or a definition are declared
   declared : {bytes : List ℕ} (c : Command) (more : Declarations) → Commands s bytes c → Declares s.declarations c more
       → GoesForward s (plain bytes) accepted (keeping (plain bytes) (declaring more s))
+  -- the files of a specification declare these, where none is kept; it is kept with its files
+  specified : {bytes : List ℕ} (x : List ℕ) (files : List file.Read) (more : Declarations) → Commands s bytes (specification x) → is_specified s ≡ false → SpecDeclares s.declarations files more
+      → GoesForward s (with_files files bytes) accepted (keeping (with_files files bytes) (declaring more s))
+  -- an item of them is refused
+  item_declined : {bytes : List ℕ} (x : List ℕ) (files : List file.Read) (r : Refusal) → Commands s bytes (specification x) → is_specified s ≡ false → SpecDeclines s.declarations files r
+      → GoesForward s (with_files files bytes) (refused r) s
+  -- a specification is kept
+  specified_twice : {bytes : List ℕ} (x : List ℕ) → Commands s bytes (specification x) → is_specified s ≡ true → GoesForward s (plain bytes) (refused (Clash x None)) s
   -- a theorem of a new name is stated: its formula is the one goal
   stated : {bytes : List ℕ} (x : List ℕ) (e : Tree) (F : Read) → Commands s bytes (theorem x e) → theorem_in s.declarations x ≡ None → States s.declarations e F
       → GoesForward s (plain bytes) accepted (keeping (plain bytes) (proving (beginning x F) s))

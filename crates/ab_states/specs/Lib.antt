@@ -6,3 +6,5 @@ pub mod ForwardEffects
 pub mod Replay
 pub mod StateEffects
 pub mod DerivedTheorems
+-- Libraries that the crates above name through this one.
+pub use Rattle.ab_specification

@@ -8,9 +8,9 @@ use Rattle.ab_effects.specs.ProofCommands.{effect}
 use Rattle.ab_meaning.specs.Refusals as row
 use Rattle.ab_effects.specs.Row.{Leads, Refuses}
 use Rattle.ab_effects.specs.Search.{CanBeClosed}
-use Rattle.ab_declare.specs.declared.refusal.Refusal.{Refusal}
-use Rattle.ab_declare.specs.declared.refusal.Refusal.TheVariants.{NotFound}
-use Rattle.ab_declare.specs.Refusals.{refusal_for}
+use Rattle.ab_specification.specs.ab_declare.specs.declared.refusal.Refusal.{Refusal}
+use Rattle.ab_specification.specs.ab_declare.specs.declared.refusal.Refusal.TheVariants.{NotFound}
+use Rattle.ab_specification.specs.ab_declare.specs.Refusals.{refusal_for}
 
 -- THESE TAKE THE GOAL'S PLACE
 abbrev pub Makes : Declarations → Label → ProofCommand → Sequent → List Sequent → Type 0

@@ -4,11 +4,14 @@ use Rattle.ab_term.specs.Variables.{variables}
 use Rattle.ab_term.specs.Terms.{Read}
 use Rattle.ab_logic.specs.Worlds.{read, Holds}
 use Rattle.ab_logic.specs.declared.world.World.{World}
+use Rattle.ab_sigmod.specs.FileTexts.{TextFault, syntax, too_nested, wrong_title}
+use Rattle.ab_sigmod.specs.FileOrder.{Fault, file_missing, file_fault, file_too_long, text_fault, circular, too_many_files}
 use Rattle.ab_command.specs.declared.fault.Cause.{Cause}
 use Rattle.ab_command.specs.declared.fault.Cause.TheVariants as cause
-use Rattle.ab_declare.specs.declared.refusal.Refusal.{Refusal}
-use Rattle.ab_declare.specs.declared.refusal.Refusal.TheVariants.{Syntax, TooNested, WrongPlace, NotBuilt}
-use Rattle.ab_declare.specs.Refusals.{here}
+use Rattle.ab_specification.specs.ab_declare.specs.declared.refusal.Refusal.{Refusal}
+use Rattle.ab_specification.specs.ab_declare.specs.declared.refusal.Refusal.TheVariants.{Syntax, TooNested, WrongPlace, NotBuilt, FileMissing, FileFault, FileTooLong, WrongTitle, Circular, TooManyFiles}
+use Rattle.ab_specification.specs.ab_declare.specs.Refusals.{here}
+use Rattle.ab_specification.specs.FileDeclarations.{place_in}
 use Rattle.ab_states.specs.declared.reply.Reply.{Reply as Kept}
 use Rattle.ab_states.specs.declared.reply.Reply.TheVariants.{Accepted, Completed, Shown, Quit, Refused}
 
@@ -50,3 +53,18 @@ unread_for (cause.Syntax p) = Syntax (here p)
 unread_for (cause.TooNested p) = TooNested (here p)
 unread_for cause.WrongPlace = WrongPlace
 unread_for cause.NotBuilt = NotBuilt
+
+-- the text of the file of that name says nothing
+abbrev pub text_unread_for : List ℕ → TextFault → Refusal
+text_unread_for x (syntax p) = Syntax (place_in x (here p))
+text_unread_for x (too_nested p) = TooNested (place_in x (here p))
+text_unread_for x wrong_title = WrongTitle x
+
+-- the files of a specification can't be read
+abbrev pub files_unread_for : Fault → Refusal
+files_unread_for (file_missing x) = FileMissing x
+files_unread_for (file_fault x) = FileFault x
+files_unread_for (file_too_long x) = FileTooLong x
+files_unread_for (text_fault x f) = text_unread_for x f
+files_unread_for (circular xs) = Circular xs
+files_unread_for (too_many_files x) = TooManyFiles x

@@ -1,6 +1,7 @@
 -- The state of a session: what was declared, the proof that is open, how goals are shown, and the commands that it keeps.
 use Rattle.std.specs.Prelude.{ℕ, List, [], ◌∷◌, ◌++◌, map, Bool, true, Option, Some, None, is_some}
-use Rattle.ab_grammar.specs.FileTrees.{Item}
+use Rattle.std.specs.List.{list_any}
+use Rattle.ab_sigmod.specs.FileOrder as file
 use Rattle.ab_term.specs.Terms.{Read}
 use Rattle.ab_formulas.specs.Declarations.{Declarations}
 use Rattle.ab_logic.specs.Worlds.{first_declarations}
@@ -15,19 +16,18 @@ pub record Attempt : Type 0 where
   pub formula : Read
   pub goals : List Goal
 
--- a file of a specification, as it was read
-pub record SpecFile : Type 0 where
-  pub name : List ℕ
-  pub items : List Item
-
 -- A COMMAND THAT IS KEPT: its bytes, and the files of the specification that it read, if it read one
 pub record Entry : Type 0 where
   pub bytes : List ℕ
-  pub specification : Option (List SpecFile)
+  pub specification : Option (List file.Read)
 
 -- the entry of a command that reads no file
 abbrev pub plain : List ℕ → Entry
 plain bytes = record { bytes = bytes; specification = None }
+
+-- the entry of one that read these
+abbrev pub with_files : List file.Read → List ℕ → Entry
+with_files files bytes = record { bytes = bytes; specification = Some files }
 
 pub record State : Type 0 where
   -- kinds, constants, definitions and theorems, in order, behind those that are built in
@@ -45,6 +45,10 @@ empty = record { declarations = first_declarations; attempt = None; all_subgoals
 -- whether a proof is open
 abbrev pub is_open : State → Bool
 is_open s = is_some s.attempt
+
+-- whether a specification is kept
+abbrev pub is_specified : State → Bool
+is_specified s = list_any (λ (e : Entry). is_some e.specification) s.kept
 
 -- one command more is kept
 abbrev pub keeping : Entry → State → State

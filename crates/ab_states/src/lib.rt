@@ -3,4 +3,5 @@
 
 mod reply;
 
+pub use ab_specification as specification;
 pub use reply::Reply;

@@ -1,6 +1,6 @@
 //! What a session answers to a command.
 
-use ab_declare::Refusal;
+use ab_specification::declare::Refusal;
 use ab_store::TermId;
 use ab_store::name::Name;
 

@@ -25,7 +25,7 @@ returns-in-Show-clause-answer g c =
 
 pub returns-in-Quit-clause-answer : goal.returns-in-Quit-clause-answer
 returns-in-Quit-clause-answer g c =
-    answered c.args.self.now c.args.self.now c.args.bytes.now c.args.steps.now c.args.steps.now Quit (quit_answer c.args.self.now c.args.bytes.now (rw c.in-Quit.is at c.requires))
+    answered c.args.self.now c.args.self.now c.args.bytes.now c.args.steps.now c.args.steps.now Quit (quit_answer c.args.self.now c.args.bytes.now (rw c.in-Quit.is at c.requires.said))
 
 pub returns-in-Subgoals-clause-answer : goal.returns-in-Subgoals-clause-answer
 returns-in-Subgoals-clause-answer g c =

@@ -1,7 +1,8 @@
-use Rattle.std.proofs.Common.{refl, ap}
+use Rattle.std.proofs.Common.{refl, ap, None}
 use Rattle.ab_grammar.specs.CommandTrees as told
 use Rattle.ab_syntax.specs.SyntaxTrees as trees
 use Rattle.ab_session.specs.declared.command_history.Deed.TheVariants.{Went}
+use Rattle.ab_states.specs.State.{plain}
 use Rattle.ab_session.specs.declared.command_history.Kept.{Kept}
 use Rattle.ab_session.specs.Contents.{contents}
 use Rattle.ab_session.proofs.Origins.{pasts}
@@ -20,8 +21,8 @@ invariant_of-self-in-None g c =
     let s = contents c.self.inside in
     let d = rw c.in-None.is at c.in_ok-refusal.ensures.answer in
     let said = told.constants c.args.names.now (trees.type_of c.args.parse.now) in
-    let k : Kept = record { bytes = c.in_ok-bytes.bytes; before = c.before-before.result; deed = Went } in
-    session_declared_so s c.args.self.now c.args.bytes.now said c.declare_constants.new.world (pasts c.push_reserved.new.self.items) c.self.view_is c.self.invariant c.requires refl d k c.before-before.ensures refl c.in_ok-bytes.ensures.command
+    let k : Kept = record { bytes = c.in_ok-bytes.bytes; spec = None; before = c.before-before.result; deed = Went } in
+    session_declared_so s c.args.self.now c.args.bytes.now said c.declare_constants.new.world (pasts c.push_reserved.new.self.items) c.self.view_is c.self.invariant c.requires refl d k c.before-before.ensures refl (ap plain c.in_ok-bytes.ensures.command)
     (past_more c.self.inside.kept.items c.make_room.new.kept.items c.push_reserved.new.self.items k c.make_room.ensures.kept c.push_reserved.ensures.items)
 
 pub returns-in-Some-clause-answer : goal.returns-in-Some-clause-answer
@@ -36,6 +37,6 @@ returns-in-None-clause-answer g c =
     let s = contents c.self.inside in
     let d = rw c.in-None.is at c.in_ok-refusal.ensures.answer in
     let said = told.constants c.args.names.now (trees.type_of c.args.parse.now) in
-    let k : Kept = record { bytes = c.in_ok-bytes.bytes; before = c.before-before.result; deed = Went } in
-    declared_so s c.args.self.now c.args.bytes.now said c.declare_constants.new.world (pasts c.push_reserved.new.self.items) c.self.view_is c.self.invariant c.requires refl d k c.before-before.ensures refl c.in_ok-bytes.ensures.command
+    let k : Kept = record { bytes = c.in_ok-bytes.bytes; spec = None; before = c.before-before.result; deed = Went } in
+    declared_so s c.args.self.now c.args.bytes.now said c.declare_constants.new.world (pasts c.push_reserved.new.self.items) c.self.view_is c.self.invariant c.requires refl d k c.before-before.ensures refl (ap plain c.in_ok-bytes.ensures.command)
     (past_more c.self.inside.kept.items c.make_room.new.kept.items c.push_reserved.new.self.items k c.make_room.ensures.kept c.push_reserved.ensures.items)

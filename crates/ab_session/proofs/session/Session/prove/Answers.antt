@@ -4,6 +4,7 @@ use Rattle.ab_grammar.specs.CommandTrees as told
 use Rattle.ab_syntax.specs.Commands.{proof_command_of}
 use Rattle.ab_states.specs.declared.reply.Reply.TheVariants.{Refused}
 use Rattle.ab_session.specs.declared.command_history.Deed.TheVariants.{Went, Completed}
+use Rattle.ab_states.specs.State.{plain}
 use Rattle.ab_session.specs.declared.command_history.Kept.{Kept}
 use Rattle.ab_session.specs.Contents.{contents}
 use Rattle.ab_session.proofs.Origins.{pasts}
@@ -29,9 +30,9 @@ invariant_of-self-in-Ok-Completed g c =
     let v = c.advance.new.world in
     let b = c.advance.new.attempt in
     let here : s.attempt ≡ Some c.in-Some.attempt = sym c.take.ensures.value ∙ c.in-Some.is in
-    let k : Kept = record { bytes = c.in_ok-bytes.bytes; before = c.before-before.result; deed = Completed c.in-Ok.name c.advance.new.attempt.formula } in
+    let k : Kept = record { bytes = c.in_ok-bytes.bytes; spec = None; before = c.before-before.result; deed = Completed c.in-Ok.name c.advance.new.attempt.formula } in
     let d = rw c.in-Ok-Completed.field-0-is at c.in-Ok-Completed.ensures.advanced in
-    session_proved s c.args.self.now c.args.bytes.now k (pasts c.push_reserved.new.self.items) c.self.view_is c.self.invariant c.before-before.ensures c.in_ok-bytes.ensures.command
+    session_proved s c.args.self.now c.args.bytes.now k (pasts c.push_reserved.new.self.items) c.self.view_is c.self.invariant c.before-before.ensures (ap plain c.in_ok-bytes.ensures.command)
     (past_more c.self.inside.kept.items c.make_room.new.kept.items c.push_reserved.new.self.items k c.make_room.ensures.kept c.push_reserved.ensures.items)
     (option_copied c.args.label) (proof_command_of c.args.command.now) c.in-Some.attempt here c.requires v b c.push_reserved-in-Ok-Completed.new.self.items _ c.take.ensures.after (c.push_reserved-in-Ok-Completed.ensures.items ∙ ap (λ qs. qs ++ b.proof ∷ []) c.reserve.ensures.items) d c.in-Ok.name c.in-Ok.ensures refl
 
@@ -41,9 +42,9 @@ invariant_of-self-in-Left-1 g c =
     let v = c.advance.new.world in
     let b = c.advance.new.attempt in
     let here : s.attempt ≡ Some c.in-Some.attempt = sym c.take.ensures.value ∙ c.in-Some.is in
-    let k : Kept = record { bytes = c.in_ok-bytes.bytes; before = c.before-before.result; deed = Went } in
+    let k : Kept = record { bytes = c.in_ok-bytes.bytes; spec = None; before = c.before-before.result; deed = Went } in
     let d = rw c.in-Ok-Left.field-0-is at c.in-Ok-Left.ensures.advanced in
-    session_led s c.args.self.now c.args.bytes.now k (pasts c.push_reserved-in-Ok-Left.new.self.items) c.self.view_is c.self.invariant c.before-before.ensures c.in_ok-bytes.ensures.command
+    session_led s c.args.self.now c.args.bytes.now k (pasts c.push_reserved-in-Ok-Left.new.self.items) c.self.view_is c.self.invariant c.before-before.ensures (ap plain c.in_ok-bytes.ensures.command)
     (past_more c.self.inside.kept.items c.make_room.new.kept.items c.push_reserved-in-Ok-Left.new.self.items k c.make_room.ensures.kept c.push_reserved-in-Ok-Left.ensures.items)
     (option_copied c.args.label) (proof_command_of c.args.command.now) c.in-Some.attempt here c.requires v b c.reserve.new.self.items c.reserve.ensures.items d refl
 
@@ -86,9 +87,9 @@ returns-in-Ok-Completed-clause-answer g c =
     let v = c.advance.new.world in
     let b = c.advance.new.attempt in
     let here : s.attempt ≡ Some c.in-Some.attempt = sym c.take.ensures.value ∙ c.in-Some.is in
-    let k : Kept = record { bytes = c.in_ok-bytes.bytes; before = c.before-before.result; deed = Completed c.in-Ok.name c.advance.new.attempt.formula } in
+    let k : Kept = record { bytes = c.in_ok-bytes.bytes; spec = None; before = c.before-before.result; deed = Completed c.in-Ok.name c.advance.new.attempt.formula } in
     let d = rw c.in-Ok-Completed.field-0-is at c.in-Ok-Completed.ensures.advanced in
-    proved_so s c.args.self.now c.args.bytes.now k (pasts c.push_reserved.new.self.items) c.self.view_is c.self.invariant c.before-before.ensures c.in_ok-bytes.ensures.command
+    proved_so s c.args.self.now c.args.bytes.now k (pasts c.push_reserved.new.self.items) c.self.view_is c.self.invariant c.before-before.ensures (ap plain c.in_ok-bytes.ensures.command)
     (past_more c.self.inside.kept.items c.make_room.new.kept.items c.push_reserved.new.self.items k c.make_room.ensures.kept c.push_reserved.ensures.items)
     (option_copied c.args.label) (proof_command_of c.args.command.now) c.in-Some.attempt here c.requires v b c.push_reserved-in-Ok-Completed.new.self.items _ c.take.ensures.after (c.push_reserved-in-Ok-Completed.ensures.items ∙ ap (λ qs. qs ++ b.proof ∷ []) c.reserve.ensures.items) d c.in-Ok.name c.in-Ok.ensures refl
 
@@ -98,9 +99,9 @@ returns-in-Ok-Left-clause-answer g c =
     let v = c.advance.new.world in
     let b = c.advance.new.attempt in
     let here : s.attempt ≡ Some c.in-Some.attempt = sym c.take.ensures.value ∙ c.in-Some.is in
-    let k : Kept = record { bytes = c.in_ok-bytes.bytes; before = c.before-before.result; deed = Went } in
+    let k : Kept = record { bytes = c.in_ok-bytes.bytes; spec = None; before = c.before-before.result; deed = Went } in
     let d = rw c.in-Ok-Left.field-0-is at c.in-Ok-Left.ensures.advanced in
-    led_so s c.args.self.now c.args.bytes.now k (pasts c.push_reserved-in-Ok-Left.new.self.items) c.self.view_is c.self.invariant c.before-before.ensures c.in_ok-bytes.ensures.command
+    led_so s c.args.self.now c.args.bytes.now k (pasts c.push_reserved-in-Ok-Left.new.self.items) c.self.view_is c.self.invariant c.before-before.ensures (ap plain c.in_ok-bytes.ensures.command)
     (past_more c.self.inside.kept.items c.make_room.new.kept.items c.push_reserved-in-Ok-Left.new.self.items k c.make_room.ensures.kept c.push_reserved-in-Ok-Left.ensures.items)
     (option_copied c.args.label) (proof_command_of c.args.command.now) c.in-Some.attempt here c.requires v b c.reserve.new.self.items c.reserve.ensures.items d refl
 

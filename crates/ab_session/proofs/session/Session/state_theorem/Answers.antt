@@ -1,8 +1,9 @@
-use Rattle.std.proofs.Common.{refl, ap}
+use Rattle.std.proofs.Common.{refl, ap, None}
 use Rattle.ab_grammar.specs.CommandTrees as told
 use Rattle.ab_syntax.specs.SyntaxTrees as trees
 use Rattle.ab_declare.proofs.Restoring.{restored_grows, restored_declares}
 use Rattle.ab_session.specs.declared.command_history.Deed.TheVariants.{Began}
+use Rattle.ab_states.specs.State.{plain}
 use Rattle.ab_session.specs.declared.command_history.Kept.{Kept}
 use Rattle.ab_session.specs.Contents.{contents}
 use Rattle.ab_session.proofs.Origins.{pasts}
@@ -57,8 +58,8 @@ pub invariant_of-self-in-Formula : goal.invariant_of-self-in-Formula
 invariant_of-self-in-Formula g c =
     let s = contents c.self.inside in
     let d = rw c.in-Formula.is at c.in_ok-refusal.ensures.answer in
-    let k : Kept = record { bytes = c.in_ok-bytes.bytes; before = c.before-before.result; deed = Began } in
-    session_stated_so s c.args.self.now c.args.bytes.now k (pasts c.push_reserved.new.self.items) c.self.view_is c.self.invariant c.before-before.ensures c.in_ok-bytes.ensures.command
+    let k : Kept = record { bytes = c.in_ok-bytes.bytes; spec = None; before = c.before-before.result; deed = Began } in
+    session_stated_so s c.args.self.now c.args.bytes.now k (pasts c.push_reserved.new.self.items) c.self.view_is c.self.invariant c.before-before.ensures (ap plain c.in_ok-bytes.ensures.command)
     (past_more c.self.inside.kept.items c.make_room.new.kept.items c.push_reserved.new.self.items k c.make_room.ensures.kept c.push_reserved.ensures.items)
     c.args.name.now c.in_ok-copy.copy (trees.tree_of c.args.parse.now) c.in-Formula.formula c.state_formula.new.world c.in_ok-proof-in-Formula.proof
     c.in_ok-copy.ensures d c.in_ok-proof-in-Formula.ensures.proof c.in_ok-proof-in-Formula.ensures.begins refl c.requires
@@ -67,8 +68,8 @@ pub returns-in_ok-proof-in-Formula-clause-answer : goal.returns-in_ok-proof-in-F
 returns-in_ok-proof-in-Formula-clause-answer g c =
     let s = contents c.self.inside in
     let d = rw c.in-Formula.is at c.in_ok-refusal.ensures.answer in
-    let k : Kept = record { bytes = c.in_ok-bytes.bytes; before = c.before-before.result; deed = Began } in
-    stated_so s c.args.self.now c.args.bytes.now k (pasts c.push_reserved.new.self.items) c.self.view_is c.self.invariant c.before-before.ensures c.in_ok-bytes.ensures.command
+    let k : Kept = record { bytes = c.in_ok-bytes.bytes; spec = None; before = c.before-before.result; deed = Began } in
+    stated_so s c.args.self.now c.args.bytes.now k (pasts c.push_reserved.new.self.items) c.self.view_is c.self.invariant c.before-before.ensures (ap plain c.in_ok-bytes.ensures.command)
     (past_more c.self.inside.kept.items c.make_room.new.kept.items c.push_reserved.new.self.items k c.make_room.ensures.kept c.push_reserved.ensures.items)
     c.args.name.now c.in_ok-copy.copy (trees.tree_of c.args.parse.now) c.in-Formula.formula c.state_formula.new.world c.in_ok-proof-in-Formula.proof
     c.in_ok-copy.ensures d c.in_ok-proof-in-Formula.ensures.proof c.in_ok-proof-in-Formula.ensures.begins refl c.requires
