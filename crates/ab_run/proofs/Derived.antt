@@ -4,7 +4,7 @@ use Rattle.std.specs.List.{All}
 use Rattle.std.proofs.lemmas.List.Elements.{All-cons}
 use Rattle.std.proofs.lemmas.List.{append-nil, length-append}
 use Rattle.std.proofs.lemmas.Bool.{cases_order}
-use Rattle.ab_io.specs.Loads.{Answer}
+use Rattle.ab_sigmod.specs.FileLoads.{Load}
 use Rattle.ab_lex.specs.Commands.{Item}
 use Rattle.ab_term.specs.Types.{Ty}
 use Rattle.ab_term.specs.Constants.{Constant}
@@ -14,6 +14,9 @@ use Rattle.ab_formulas.proofs.Declaring.{theorems_in-append}
 use Rattle.ab_grammar.specs.CommandTrees.{Command}
 use Rattle.ab_declare.specs.DeclarationCommands.{Declares, new_kinds, new_constants, new_predicates}
 use Rattle.ab_declare.specs.DefinitionCommands.{block_with, predicate_of}
+use Rattle.ab_grammar.specs.FileTrees.{Item as FileItem}
+use Rattle.ab_states.specs.ab_specification.specs.ItemDeclarations.{ItemDeclares, new_kinds as item_kinds, new_constants as item_constants, new_clause, no_declaration}
+use Rattle.ab_states.specs.ab_specification.specs.FileDeclarations.{PlacedItem, AllDeclare, no_item, one_more}
 use Rattle.ab_theory.specs.Derivations.{Derivation}
 use Rattle.ab_states.specs.State.{State, Entry, empty}
 use Rattle.ab_states.specs.Replay.{IsReplayed}
@@ -23,7 +26,7 @@ use Rattle.ab_states.specs.declared.reply.Reply.{Reply as Kept}
 use Rattle.ab_states.specs.declared.reply.Reply.TheVariants.{Accepted, Completed, Shown, Quit, Refused}
 use Rattle.ab_states.specs.Reply.{Reply, completed, reply_of}
 use Rattle.ab_states.specs.DerivedTheorems.{IsDerived}
-use Rattle.ab_states.specs.ForwardEffects.{GoesForward, unread, declined, declared, stated, showed, ended, switched, given_up, denied, led, proved}
+use Rattle.ab_states.specs.ForwardEffects.{GoesForward, unread, declined, declared, specified, item_declined, specified_twice, stated, showed, ended, switched, given_up, denied, led, proved}
 use Rattle.ab_session.specs.SessionAnswers.{IsProvedLast}
 use Rattle.ab_run.specs.ProvedTheorems.{IsBorneOut, AllDerived}
 use Rattle.ab_determinism.proofs.Taking.{holds_on}
@@ -65,6 +68,16 @@ no_theorems (new_constants {xs = xs} {A = A} e f d) = no_constants A xs
 no_theorems (new_predicates {inductive = inductive} d) =
     ap theorems_in d.is ∙ no_definition d.predicates (defined (block_with inductive d.predicates d.clauses))
 
+no_theorems_of_item : {D : Declarations} {i : FileItem} {more : Declarations} → ItemDeclares D i more → theorems_in more ≡ []
+no_theorems_of_item (item_kinds d) = no_theorems d
+no_theorems_of_item (item_constants d) = no_theorems d
+no_theorems_of_item (new_clause m) = refl
+no_theorems_of_item no_declaration = refl
+
+no_theorems_of_all : {D : Declarations} {is : List PlacedItem} {more : Declarations} → AllDeclare D is more → theorems_in more ≡ []
+no_theorems_of_all no_item = refl
+no_theorems_of_all (one_more {more = more} {rest = rest} d r) = theorems_in-append more rest ∙ (ap (λ q. q ++ theorems_in rest) (no_theorems_of_item d) ∙ no_theorems_of_all r)
+
 declared_on : (D more : Declarations) → theorems_in more ≡ [] → AllIn D → AllIn (D ++ more)
 declared_on D more n x place l =
     let e : theorems_in (D ++ more) ≡ theorems_in D = theorems_in-append D more ∙ (ap (λ q. theorems_in D ++ q) n ∙ append-nil (theorems_in D)) in
@@ -88,6 +101,9 @@ derived_by : {s t : State} {e : Entry} {reply : Reply} → GoesForward s e reply
 derived_by (unread c f) b x = x
 derived_by (declined c r h d) b x = x
 derived_by {s = s} (declared c more h d) b x = declared_on s.declarations more (no_theorems d) x
+derived_by {s = s} (specified y files more h n d) b x = declared_on s.declarations more (no_theorems_of_all d) x
+derived_by (item_declined y files v h n d) b x = x
+derived_by (specified_twice y h k) b x = x
 derived_by (stated y e F h n d) b x = x
 derived_by (showed y F h e) b x = x
 derived_by (ended h) b x = x
@@ -102,6 +118,9 @@ more_declared : {s t : State} {e : Entry} {reply : Reply} → GoesForward s e re
 more_declared {s = s} (unread c f) = ([], sym (append-nil s.declarations))
 more_declared {s = s} (declined c r h d) = ([], sym (append-nil s.declarations))
 more_declared (declared c more h d) = (more, refl)
+more_declared (specified y files more h n d) = (more, refl)
+more_declared {s = s} (item_declined y files v h n d) = ([], sym (append-nil s.declarations))
+more_declared {s = s} (specified_twice y h k) = ([], sym (append-nil s.declarations))
 more_declared {s = s} (stated y e F h n d) = ([], sym (append-nil s.declarations))
 more_declared {s = s} (showed y F h e) = ([], sym (append-nil s.declarations))
 more_declared {s = s} (ended h) = ([], sym (append-nil s.declarations))
@@ -124,7 +143,7 @@ derived_before D more x place l =
 pub none_yet : AllDerived empty
 none_yet place l = let e : length (theorems_in first_declarations) ≡ 0 = refl in absurd (omega (arith, e, l))
 
-replied : {s : State} {i : Item} {loads : List Answer} {m : Moment} → Replies s i loads m → IsReplayed s → AllDerived s → AllDerived m.state
+replied : {s : State} {i : Item} {loads : List Load} {m : Moment} → Replies s i loads m → IsReplayed s → AllDerived s → AllDerived m.state
 replied (to_command m h b) replayed x =
     holds_on AllDerived IsBorneOut (λ s t e r f borne y. derived_by f borne y)
     (λ s t e r f kept y. let more = more_declared f in derived_before s.declarations more.0 (subst AllIn more.1 y))
@@ -132,17 +151,17 @@ replied (to_command m h b) replayed x =
 replied (to_long m a e) replayed x = subst AllDerived (sym e) x
 
 -- behind each report, each theorem has a derivation
-pub all_derived : {w : Way} {s : State} {is : List Item} {loads : List Answer} {r : Report} → Reports w s is loads r → IsReplayed s → AllDerived s → AllDerived (state_behind s r)
+pub all_derived : {w : Way} {s : State} {is : List Item} {loads : List Load} {r : Report} → Reports w s is loads r → IsReplayed s → AllDerived s → AllDerived (state_behind s r)
 all_derived none replayed x = x
 all_derived (next m h k z) replayed x = all_derived z (replaying.replied h replayed) (replied h replayed x)
 all_derived (last m h k) replayed x = replied h replayed x
 
 -- a completion brings its derivation
-borne_out : {s : State} {i : Item} {loads : List Answer} {m : Moment} (name : List ℕ) → Replies s i loads m → m.reply ≡ completed name → IsProvedLast m.state.declarations name
+borne_out : {s : State} {i : Item} {loads : List Load} {m : Moment} (name : List ℕ) → Replies s i loads m → m.reply ≡ completed name → IsProvedLast m.state.declarations name
 borne_out name (to_command m h b) e = subst (λ q. IsBorneOut q m.state) e b
 borne_out name (to_long m a h) e = cc
 
-pub all_borne_out : {w : Way} {s : State} {is : List Item} {loads : List Answer} {r : Report} (name : List ℕ) → Reports w s is loads r → All (λ (m : Moment). m.reply ≡ completed name → IsProvedLast m.state.declarations name) r
+pub all_borne_out : {w : Way} {s : State} {is : List Item} {loads : List Load} {r : Report} (name : List ℕ) → Reports w s is loads r → All (λ (m : Moment). m.reply ≡ completed name → IsProvedLast m.state.declarations name) r
 all_borne_out name none = λ k d l. absurd (omega arith)
 all_borne_out name (next {r = r} m h k x) = All-cons (λ (q : Moment). q.reply ≡ completed name → IsProvedLast q.state.declarations name) m r (borne_out name h) (all_borne_out name x)
 all_borne_out name (last m h k) = All-cons (λ (q : Moment). q.reply ≡ completed name → IsProvedLast q.state.declarations name) m [] (borne_out name h) (λ k d l. absurd (omega arith))

@@ -1,6 +1,6 @@
 -- A text has one report.
-use Rattle.std.proofs.Common.{◌≡◌, ℕ, List, [], ◌∷◌, ◌++◌, true, false, refl, sym, ◌∙◌, ap, subst}
-use Rattle.ab_io.specs.Loads.{Answer}
+use Rattle.std.proofs.Common.{◌≡◌, ℕ, List, [], ◌∷◌, ◌++◌, true, false, refl, sym, ◌∙◌, ap, subst, append_assoc}
+use Rattle.ab_sigmod.specs.FileLoads.{Load}
 use Rattle.ab_lex.specs.declared.TheConstants.{COMMAND_LIMIT}
 use Rattle.ab_lex.specs.Commands.{Item}
 use Rattle.ab_lex.proofs.Cuts.{only_items}
@@ -8,7 +8,8 @@ use Rattle.ab_states.specs.State.{State, empty}
 use Rattle.ab_states.specs.Reply.{Reply}
 use Rattle.ab_determinism.specs.Sound.{IsSound}
 use Rattle.ab_determinism.proofs.Sound.{sound_beginning}
-use Rattle.ab_determinism.proofs.Taking.{one_effect, sound_effect, nothing_loaded}
+use Rattle.ab_determinism.proofs.Taking.{sound_effect}
+use Rattle.ab_determinism.proofs.OneEffect.{one_effect}
 use Rattle.ab_run.specs.declared.way.Way.{Way}
 use Rattle.ab_run.specs.Report.{Moment, Replies, to_command, to_long, Report, Reports, none, next, last, ReportOf, is_end}
 
@@ -19,40 +20,40 @@ same_moment : (m k : Moment) → m.reply ≡ k.reply → m.state ≡ k.state →
 unfolding moment_by
 same_moment m k e f = ap (λ r. moment_by r m.state) e ∙ ap (moment_by k.reply) f
 
-one_moment : {s : State} {i : Item} {loads answers : List Answer} {m k : Moment} → IsSound s → Replies s i loads m → Replies s i answers k → m ≡ k
-one_moment {s = s} sound (to_command {bytes = bytes} m e b) (to_command k f c) = let same = one_effect s sound.declarations bytes e f in same_moment m k same.0 same.1
-one_moment sound (to_long m e f) (to_long k g h) = same_moment m k (e ∙ sym g) (f ∙ sym h)
+-- where loads begin alike, an item has one answer, by one front of them
+one_moment : {s : State} {i : Item} {loads others : List Load} (rest more : List Load) {m k : Moment} → IsSound s → loads ++ rest ≡ others ++ more → Replies s i loads m → Replies s i others k → (m ≡ k) × (loads ≡ others)
+one_moment {s = s} rest more sound alike (to_command {bytes = bytes} m e b) (to_command k f c) =
+    let same = one_effect s sound.declarations bytes rest more alike e f in
+    (same_moment m k same.0 same.1, same.2)
+one_moment rest more sound alike (to_long m e f) (to_long k g h) = (same_moment m k (e ∙ sym g) (f ∙ sym h), refl)
 
 goes_or_ends : (w : Way) (m k : Moment) → m ≡ k → is_end w m.reply ≡ false → is_end w k.reply ≡ true → ⊥
 goes_or_ends w m k same e f = let both : false ≡ true = sym e ∙ ap (λ (x : Moment). is_end w x.reply) same ∙ f in cc
 
-replied_soundly : {s : State} {i : Item} {loads : List Answer} {m : Moment} → IsSound s → Replies s i loads m → IsSound m.state
+replied_soundly : {s : State} {i : Item} {loads : List Load} {m : Moment} → IsSound s → Replies s i loads m → IsSound m.state
 replied_soundly sound (to_command m e b) = sound_effect e sound
 replied_soundly sound (to_long m e f) = subst IsSound (sym f) sound
 
--- ONE REPORT of these items
-one_report : {w : Way} {s : State} {is : List Item} {loads answers : List Answer} {r q : Report} → IsSound s → Reports w s is loads r → Reports w s is answers q → r ≡ q
-one_report sound none none = refl
-one_report {w = w} sound (next {is = is} {later = later} {r = r} m h k x) (next {r = q} n g j y) =
-    let same : m ≡ n = one_moment sound h g in
-    ap (λ z. z ∷ r) same ∙ ap (λ z. n ∷ z) (one_report (replied_soundly sound g) (subst (λ (z : Moment). Reports w z.state is later r) same x) y)
-one_report {w = w} sound (next m h k x) (last n g j) = absurd (goes_or_ends w m n (one_moment sound h g) k j)
-one_report {w = w} sound (last m h k) (next n g j y) = absurd (goes_or_ends w n m (one_moment sound g h) j k)
-one_report sound (last m h k) (last n g j) = ap (λ z. z ∷ []) (one_moment sound h g)
+same_rest : (front a b : List Load) → front ++ a ≡ front ++ b → a ≡ b
+same_rest [] a b e = e
+same_rest (l ∷ front) a b e = let tail : front ++ a ≡ front ++ b = cc in same_rest front a b tail
+
+-- ONE REPORT of these items, where loads begin alike
+one_report : {w : Way} {s : State} {is : List Item} {loads others : List Load} (rest more : List Load) {r q : Report} → IsSound s → loads ++ rest ≡ others ++ more → Reports w s is loads r → Reports w s is others q → r ≡ q
+one_report rest more sound alike none none = refl
+one_report {w = w} rest more sound alike (next {is = is} {loads = a} {later = b} {r = r} m h k x) (next {loads = c} {later = d} {r = q} n g j y) =
+    let inner : a ++ (b ++ rest) ≡ c ++ (d ++ more) = sym (append_assoc a b rest) ∙ (alike ∙ append_assoc c d more) in
+    let both = one_moment (b ++ rest) (d ++ more) sound inner h g in
+    let tails : b ++ rest ≡ d ++ more = same_rest c (b ++ rest) (d ++ more) (ap (λ z. z ++ (b ++ rest)) (sym both.1) ∙ inner) in
+    ap (λ z. z ∷ r) both.0 ∙ ap (λ z. n ∷ z) (one_report rest more (replied_soundly sound g) tails (subst (λ (z : Moment). Reports w z.state is b r) both.0 x) y)
+one_report {w = w} rest more sound alike (next {loads = a} {later = b} m h k x) (last n g j) =
+    absurd (goes_or_ends w m n (one_moment (b ++ rest) more sound (sym (append_assoc a b rest) ∙ alike) h g).0 k j)
+one_report {w = w} rest more sound alike (last m h k) (next {loads = c} {later = d} n g j y) =
+    absurd (goes_or_ends w n m (one_moment (d ++ more) rest sound (sym (append_assoc c d more) ∙ sym alike) g h).0 j k)
+one_report rest more sound alike (last m h k) (last n g j) = ap (λ z. z ∷ []) (one_moment rest more sound alike h g).0
 
 -- AND OF A TEXT
-pub one_report_of : (w : Way) (text : List ℕ) (loads : List Answer) (r q : Report) → ReportOf w text loads r → ReportOf w text loads q → r ≡ q
+pub one_report_of : (w : Way) (text : List ℕ) (loads : List Load) (r q : Report) → ReportOf w text loads r → ReportOf w text loads q → r ≡ q
 one_report_of w text loads r q a b =
     let same : a.items ≡ b.items = only_items COMMAND_LIMIT text a.items a.items_are ∙ sym (only_items COMMAND_LIMIT text b.items b.items_are) in
-    one_report sound_beginning (subst (λ is. Reports w empty is loads r) same a.reports) b.reports
-
--- NO FILE IS LOADED by what is built
-
-none_asked : {s : State} {i : Item} {loads : List Answer} {m : Moment} → Replies s i loads m → loads ≡ []
-none_asked (to_command m e b) = nothing_loaded e
-none_asked (to_long m e f) = refl
-
-pub no_loads : {w : Way} {s : State} {is : List Item} {loads : List Answer} {r : Report} → Reports w s is loads r → loads ≡ []
-no_loads none = refl
-no_loads (next {later = later} m h k x) = ap (λ ls. ls ++ later) (none_asked h) ∙ no_loads x
-no_loads (last m h k) = none_asked h
+    one_report [] [] sound_beginning refl (subst (λ is. Reports w empty is loads r) same a.reports) b.reports

@@ -4,6 +4,8 @@ use Rattle.std.proofs.lemmas.List.{append-nil, take_all}
 use Rattle.std.proofs.Math.Seq.{take-append-add}
 use Rattle.std.specs.Prelude.{Err}
 use Rattle.ab_io.specs.KnownBytes.{Appends, AppendsFront}
+use Rattle.ab_sigmod.specs.FileLoads.{FilesSeen, AreLoads, no_load}
+use Rattle.ab_sigmod.proofs.Appending.{loads_on}
 use Rattle.ab_io.specs.declared.sink.WriteFault.{WriteFault}
 use Rattle.ab_io.specs.declared.sink.WriteFault.TheVariants.{Failed, Memory}
 use Rattle.ab_io.proofs.Streams.{appends_none, appends_more}
@@ -48,13 +50,14 @@ standing_none : (w : Way) (m : Standing) → m ≡ standing_behind w m []
 standing_none w m = same_standing m.state m.state m.accepted m.accepted m.refused m.refused m.ended (m.ended || false) refl refl refl (sym (or_false m.ended))
 
 -- where the run goes on, no reply of what was answered ends it
-pub goes_on : (w : Way) (a b : Option (List ℕ)) (f g : List ℕ → List Item) (m n : Standing) (x : Answered w a b f g m n) → n.ended ≡ false → has_end w x.report ≡ false
+pub goes_on : {s t : FilesSeen} (w : Way) (a b : Option (List ℕ)) (f g : List ℕ → List Item) (m n : Standing) (x : Answered w a b s t f g m n) → n.ended ≡ false → has_end w x.report ≡ false
 goes_on w a b f g m n x e = neither_second m.ended (has_end w x.report) (sym (ap (λ (z : Standing). z.ended) x.standing_is) ∙ e)
 
-pub answered_none : (w : Way) (out : Option (List ℕ)) (f : List ℕ → List Item) (m : Standing) → Answered w out out f f m m
+pub answered_none : {s : FilesSeen} (w : Way) (out : Option (List ℕ)) (f : List ℕ → List Item) (m : Standing) → Answered w out out s s f f m m
 answered_none w out f m = record {
   answered = [];
   loads = [];
+  asked = no_load;
   report = [];
   reports = none;
   standing_is = standing_none w m;
@@ -62,10 +65,11 @@ answered_none w out f m = record {
   wrote = appends_none out;
 }
 
-pub answered_more : (w : Way) (a b c : Option (List ℕ)) (f g h : List ℕ → List Item) (m n k : Standing) → n.ended ≡ false → Answered w a b f g m n → Answered w b c g h n k → Answered w a c f h m k
+pub answered_more : {s t u : FilesSeen} (w : Way) (a b c : Option (List ℕ)) (f g h : List ℕ → List Item) (m n k : Standing) → n.ended ≡ false → Answered w a b s t f g m n → Answered w b c t u g h n k → Answered w a c s u f h m k
 answered_more w a b c f g h m n k e x y = record {
   answered = x.answered ++ y.answered;
   loads = x.loads ++ y.loads;
+  asked = loads_on x.asked y.asked;
   report = x.report ++ y.report;
   reports = reports_more x.reports (goes_on w a b f g m n x e) (subst (λ (z : Standing). Reports w z.state y.answered y.loads y.report) x.standing_is y.reports);
   standing_is = y.standing_is ∙ (ap (λ z. standing_behind w z y.report) x.standing_is ∙ standing_more w m x.report y.report);
@@ -80,7 +84,7 @@ front_after a b c t u x y = record {
   front = subst (λ q. Appends a q c) (sym (take-append-add t u y.count)) (appends_more a b c t (take y.count u) x y.front);
 }
 
-module _ (w : Way) (bytes : List ℕ) (m m' : Standing) (p p' : Pending) (h : AnswersItem w bytes m m' p p') where
+module _ {s t : FilesSeen} (w : Way) (bytes : List ℕ) (m m' : Standing) (p p' : Pending) (h : AnswersItem w bytes s t m m' p p') where
   one_report : Report
   one_report = moment h.reply m'.state ∷ []
 
@@ -103,10 +107,11 @@ module _ (w : Way) (bytes : List ℕ) (m m' : Standing) (p p' : Pending) (h : An
   one_state s = refl
 
   -- an item was answered, and its block written
-  pub answered_item : (out out' : Option (List ℕ)) → Appends out bytes out' → Answered w out out' (to_come p) (to_come p') m m'
+  pub answered_item : (out out' : Option (List ℕ)) → Appends out bytes out' → Answered w out out' s t (to_come p) (to_come p') m m'
   answered_item out out' a = record {
     answered = h.item ∷ [];
     loads = h.loads;
+    asked = h.asked;
     report = one_report;
     reports = one_reports;
     standing_is = one_standing;
@@ -114,12 +119,13 @@ module _ (w : Way) (bytes : List ℕ) (m m' : Standing) (p p' : Pending) (h : An
     wrote = subst (λ q. Appends out q out') (sym one_bytes) a;
   }
 
-  module _ (a b c : Option (List ℕ)) (f : List ℕ → List Item) (k : Standing) (e : m.ended ≡ false) (x : Answered w a b f (to_come p) k m) (z : AppendsFront b bytes c) where
-    cut_some : AnsweredSome w a c f k.state
+  module _ {r : FilesSeen} (a b c : Option (List ℕ)) (f : List ℕ → List Item) (k : Standing) (e : m.ended ≡ false) (x : Answered w a b r s f (to_come p) k m) (z : AppendsFront b bytes c) where
+    cut_some : AnsweredSome w a c r t f k.state
     cut_some = record {
       answered = x.answered ++ h.item ∷ [];
       others = to_come p';
       loads = x.loads ++ h.loads;
+      asked = loads_on x.asked h.asked;
       report = x.report ++ one_report;
       reports = reports_more x.reports (goes_on w a b f (to_come p) k m x e) (subst (λ (q : Standing). Reports w q.state (h.item ∷ []) h.loads one_report) x.standing_is one_reports);
       items_are = λ more. x.items_are more ∙ (ap (λ q. x.answered ++ q) (items_next p p' h.item h.items_are more) ∙ sym (append_assoc x.answered (h.item ∷ []) (to_come p' more)));
@@ -131,19 +137,20 @@ module _ (w : Way) (bytes : List ℕ) (m m' : Standing) (p p' : Pending) (h : An
     cut_state = sym (one_state (state_behind k.state x.report)) ∙ sym (state_more k.state x.report one_report)
 
   -- a write of the next block has failed
-  pub cut_off : (a b c : Option (List ℕ)) (p0 : Pending) (k : Standing) → m.ended ≡ false → Answered w a b (to_come p0) (to_come p) k m → AppendsFront b bytes c → (fault : WriteFault) → AnsweredReady w (Err fault) a c k m' p0 p'
+  pub cut_off : {r : FilesSeen} (a b c : Option (List ℕ)) (p0 : Pending) (k : Standing) → m.ended ≡ false → Answered w a b r s (to_come p0) (to_come p) k m → AppendsFront b bytes c → (fault : WriteFault) → AnsweredReady w (Err fault) a c r t k m' p0 p'
   cut_off a b c p0 k e x z Failed = (cut_some a b c (to_come p0) k e x z, cut_state a b c (to_come p0) k e x z)
-  cut_off a b c p0 k e x z (Memory f) = cut_some a b c (to_come p0) k e x z
+  cut_off a b c p0 k e x z (Memory f) = (t, cut_some a b c (to_come p0) k e x z)
 
   pub fewer : length (to_come p' []) < length (to_come p [])
   fewer = let e = ap length (items_next p p' h.item h.items_are []) in omega arith
 
 -- nothing more was written
-pub stopped : (w : Way) (a b : Option (List ℕ)) (f g : List ℕ → List Item) (m n : Standing) → Answered w a b f g m n → AnsweredSome w a b f m.state
+pub stopped : {s t : FilesSeen} (w : Way) (a b : Option (List ℕ)) (f g : List ℕ → List Item) (m n : Standing) → Answered w a b s t f g m n → AnsweredSome w a b s t f m.state
 stopped w a b f g m n x = record {
   answered = x.answered;
   others = g;
   loads = x.loads;
+  asked = x.asked;
   report = x.report;
   reports = x.reports;
   items_are = x.items_are;
@@ -151,11 +158,12 @@ stopped w a b f g m n x = record {
 }
 
 -- some items more were answered
-pub some_more : (w : Way) (a b c : Option (List ℕ)) (f g : List ℕ → List Item) (m n : Standing) → n.ended ≡ false → Answered w a b f g m n → AnsweredSome w b c g n.state → AnsweredSome w a c f m.state
+pub some_more : {s t u : FilesSeen} (w : Way) (a b c : Option (List ℕ)) (f g : List ℕ → List Item) (m n : Standing) → n.ended ≡ false → Answered w a b s t f g m n → AnsweredSome w b c t u g n.state → AnsweredSome w a c s u f m.state
 some_more w a b c f g m n e x y = record {
   answered = x.answered ++ y.answered;
   others = y.others;
   loads = x.loads ++ y.loads;
+  asked = loads_on x.asked y.asked;
   report = x.report ++ y.report;
   reports = reports_more x.reports (goes_on w a b f g m n x e) (subst (λ (z : Standing). Reports w z.state y.answered y.loads y.report) x.standing_is y.reports);
   items_are = λ more. x.items_are more ∙ (ap (λ q. x.answered ++ q) (y.items_are more) ∙ sym (append_assoc x.answered y.answered (y.others more)));
@@ -163,17 +171,18 @@ some_more w a b c f g m n e x y = record {
 }
 
 -- and the state is the one behind them
-pub state_up_to : (w : Way) (a b c : Option (List ℕ)) (f g : List ℕ → List Item) (m n : Standing) (s : State) (e : n.ended ≡ false) (x : Answered w a b f g m n) (y : AnsweredSome w b c g n.state)
+pub state_up_to : {o t u : FilesSeen} (w : Way) (a b c : Option (List ℕ)) (f g : List ℕ → List Item) (m n : Standing) (s : State) (e : n.ended ≡ false) (x : Answered w a b o t f g m n) (y : AnsweredSome w b c t u g n.state)
     → s ≡ state_behind n.state y.report → s ≡ state_behind m.state (some_more w a b c f g m n e x y).report
 unfolding some_more
 state_up_to w a b c f g m n s e x y h =
     h ∙ (ap (λ (z : Standing). state_behind z.state y.report) x.standing_is ∙ sym (state_more m.state x.report y.report))
 
 -- no item is ready any more
-pub answered_all : (w : Way) (a b : Option (List ℕ)) (f : List ℕ → List Item) (k m n : Standing) (p p' : Pending) → Answered w a b f (to_come p) k m → HasNone m n p p' → Answered w a b f (to_come p') k n
-answered_all w a b f k m n p p' x h = record {
+pub answered_all : {s t u : FilesSeen} (w : Way) (a b : Option (List ℕ)) (f : List ℕ → List Item) (k m n : Standing) (p p' : Pending) → Answered w a b s t f (to_come p) k m → HasNone t u m n p p' → Answered w a b s u f (to_come p') k n
+answered_all {s = s} w a b f k m n p p' x h = record {
   answered = x.answered;
   loads = x.loads;
+  asked = subst (λ t. AreLoads s x.loads t) (sym h.files_stay) x.asked;
   report = x.report;
   reports = x.reports;
   standing_is = h.standing_is ∙ x.standing_is;

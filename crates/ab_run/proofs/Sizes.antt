@@ -3,7 +3,7 @@ use Rattle.std.proofs.Common.{◌<◌, ◌≤◌, ◌+◌, ℕ, List, [], length
 use Rattle.std.proofs.lemmas.Bool.{cases_Bool, leb-true}
 use Rattle.std.proofs.lemmas.List.{length-append, length-map}
 use Rattle.std.specs.Prelude.{nat_le}
-use Rattle.ab_io.specs.Loads.{Answer}
+use Rattle.ab_sigmod.specs.FileLoads.{Load}
 use Rattle.ab_lex.specs.declared.TheConstants.{COMMAND_LIMIT}
 use Rattle.ab_lex.specs.declared.scanner.Mode.TheVariants.{Plain}
 use Rattle.ab_lex.specs.Commands.{CommandAt, Splits, no_more, one_more, Item, item_of, items_of_rest, ItemsOf}
@@ -34,7 +34,7 @@ items_few text is h =
     let parts = ap length h.items_are ∙ length-append (map (item_of COMMAND_LIMIT) h.whole) (items_of_rest COMMAND_LIMIT h.rest) in
     omega (arith, parts, length-map h.whole (item_of COMMAND_LIMIT), splits_few h.splits, rest_few h.rest)
 
-pub reports_few : {way : Way} {s : State} {is : List Item} {loads : List Answer} {r : Report} → Reports way s is loads r → length r ≤ length is
+pub reports_few : {way : Way} {s : State} {is : List Item} {loads : List Load} {r : Report} → Reports way s is loads r → length r ≤ length is
 reports_few none = omega arith
 reports_few (next m h k x) = omega (arith, reports_few x)
 reports_few (last m h k) = omega arith

@@ -10,6 +10,7 @@ use Rattle.ab_lex.proofs.Awaiting.{awaits_there, items_none}
 use Rattle.ab_io.specs.Count.{Rose, last_count}
 use Rattle.ab_io.specs.KnownBytes.{Appends, AppendsFront}
 use Rattle.ab_io.proofs.Streams.{appends_none, appends_more}
+use Rattle.ab_sigmod.specs.FileLoads.{FilesSeen, no_load}
 use Rattle.ab_formulas.specs.Declarations.{theorems_in}
 use Rattle.ab_drill.specs.Summary.{summary}
 use Rattle.ab_states.specs.State.{State, empty}
@@ -28,14 +29,16 @@ use Rattle.ab_run.proofs.Progress.{front_after, stopped}
 use Rattle.ab_run.proofs.Endings.{no_true}
 
 -- there is no memory for a session
-pub text_at_once : (way : Way) (text : List ℕ) (out : Option (List ℕ)) (writes : ℕ) → RanText way text NoMemory None out out writes writes
-text_at_once way text out writes = (
+pub text_at_once : (way : Way) (text : List ℕ) (out : Option (List ℕ)) (writes : ℕ) (s : FilesSeen) → RanText way text NoMemory None out out writes writes s s
+text_at_once way text out writes s = (
   refl,
+  s,
   record {
     answered = [];
     others = (items_there COMMAND_LIMIT text).0;
     items_are = (items_there COMMAND_LIMIT text).1;
     loads = [];
+    asked = no_load;
     report = [];
     reports = none;
     line = [];
@@ -61,12 +64,13 @@ module _ (way : Way) (text : List ℕ) (p : Pending) (text_is : p.text ≡ text)
   all_items = subst (λ t. ItemsOf t (to_come p [])) (append-nil p.text ∙ text_is) (subst (λ b. ItemsFrom b (p.text ++ []) (to_come p [])) fresh (awaits_there p []))
 
   -- some items were answered, and then a write has failed or memory was wanted
-  text_cut : (out out' : Option (List ℕ)) → AnsweredSome way out out' (to_come p) empty → WroteSome way text NoLine out out'
+  text_cut : {s t : FilesSeen} (out out' : Option (List ℕ)) → AnsweredSome way out out' s t (to_come p) empty → WroteSome way text NoLine out out' s t
   text_cut out out' x = record {
     answered = x.answered;
     others = x.others [];
     items_are = subst (λ is. ItemsOf text is) (x.items_are []) all_items;
     loads = x.loads;
+    asked = x.asked;
     report = x.report;
     reports = x.reports;
     line = [];
@@ -74,15 +78,15 @@ module _ (way : Way) (text : List ℕ) (p : Pending) (text_is : p.text ≡ text)
     wrote = subst (λ q. AppendsFront out q out') (sym (append-nil (bytes_of way.showing x.report))) x.wrote;
   }
 
-  pub text_write_fault : (s : State) (out out' : Option (List ℕ)) (writes writes' : ℕ) → AnsweredUpTo way out out' (to_come p) empty s → Rose writes writes' → RanTextTo way text WriteFault s out out' writes writes'
+  pub text_write_fault : {f g : FilesSeen} (s : State) (out out' : Option (List ℕ)) (writes writes' : ℕ) → AnsweredUpTo way out out' f g (to_come p) empty s → Rose writes writes' → RanTextTo way text WriteFault s out out' writes writes' f g
   unfolding text_cut
   text_write_fault s out out' writes writes' x r = (r, text_cut out out' x.0, ap (λ (q : State). Some q) x.1)
 
-  pub text_no_room : (out out' : Option (List ℕ)) (writes writes' : ℕ) → AnsweredSome way out out' (to_come p) empty → RanText way text NoMemory None out out' writes writes'
-  text_no_room out out' writes writes' x = (refl, text_cut out out' x)
+  pub text_no_room : {f : FilesSeen} (g : FilesSeen) (out out' : Option (List ℕ)) (writes writes' : ℕ) → ((u : FilesSeen) × AnsweredSome way out out' f u (to_come p) empty) → RanText way text NoMemory None out out' writes writes' f g
+  text_no_room g out out' writes writes' x = (refl, x.0, text_cut out out' x.1)
 
   -- every item was answered, up to a reply that ends the run
-  module _ (q : Pending) (k : Standing) (out mid : Option (List ℕ)) (x : Answered way out mid (to_come p) (to_come q) beginning k) (all : k.ended ≡ false → Awaits q [] []) (same : SameRest p q) (small : length text ≤ last_count) where
+  module _ {s t : FilesSeen} (q : Pending) (k : Standing) (out mid : Option (List ℕ)) (x : Answered way out mid s t (to_come p) (to_come q) beginning k) (all : k.ended ≡ false → Awaits q [] []) (same : SameRest p q) (small : length text ≤ last_count) where
     ended_is : k.ended ≡ has_end way x.report
     ended_is = ap (λ (z : Standing). z.ended) x.standing_is
 
@@ -113,12 +117,13 @@ module _ (way : Way) (text : List ℕ) (p : Pending) (text_is : p.text ≡ text)
     closing_is = ap (λ z. closing_by way.showing z) x.standing_is ∙ closing_same way.showing x.report few (has_end way x.report)
 
     -- a front of the last line was written
-    text_front : (line : List ℕ) (out' : Option (List ℕ)) → line ≡ closing_by way.showing k → AppendsFront mid line out' → WroteSome way text NoLine out out'
+    text_front : (line : List ℕ) (out' : Option (List ℕ)) → line ≡ closing_by way.showing k → AppendsFront mid line out' → WroteSome way text NoLine out out' s t
     text_front line out' e w = record {
       answered = x.answered;
       others = to_come q [];
       items_are = subst (λ is. ItemsOf text is) (x.items_are []) all_items;
       loads = x.loads;
+      asked = x.asked;
       report = x.report;
       reports = x.reports;
       line = line;
@@ -126,15 +131,16 @@ module _ (way : Way) (text : List ℕ) (p : Pending) (text_is : p.text ≡ text)
       wrote = front_after out mid out' (bytes_of way.showing x.report) line x.wrote w;
     }
 
-    text_all : (status : Status) (line : List ℕ) (out' : Option (List ℕ)) → line ≡ closing_by way.showing k → Appends mid line out' → EndsWith status way text x.report → WroteAll way status text (Some []) (Some k.state) out out'
-    text_all status line out' e w s = record {
+    text_all : (status : Status) (line : List ℕ) (out' : Option (List ℕ)) → line ≡ closing_by way.showing k → Appends mid line out' → EndsWith status way text x.report → WroteAll way status text (Some []) (Some k.state) out out' s t
+    text_all status line out' e w h = record {
       loads = x.loads;
+      asked = x.asked;
       report = x.report;
       report_of = report_of;
       read = inr refl;
       hands_out = ap (λ (z : State). Some z) state_is;
       wrote = subst (λ z. Appends out (bytes_of way.showing x.report ++ z) out') (e ∙ closing_is) (appends_more out mid out' (bytes_of way.showing x.report) line x.wrote w);
-      status_is = s;
+      status_is = h;
     }
 
     none_refused : ¬ (0 < k.refused) → refused_in x.report ≡ 0
@@ -170,26 +176,26 @@ module _ (way : Way) (text : List ℕ) (p : Pending) (text_is : p.text ≡ text)
       status_is false true r d false e = (none_refused (no_true r.1), inr (has_rest e))
       status_is false false r d b e = (none_refused (no_true r.1), inl (λ z. let y : false ≡ true = d.1 (subst IsFinished (sym state_is) z) in cc))
 
-      one_of_three : (refused finished b : Bool) (line : List ℕ) (out' : Option (List ℕ)) (writes writes' : ℕ) → WroteAll way (status_at_end refused finished b) text (Some []) (Some k.state) out out'
-          → RanTextTo way text (status_at_end refused finished b) k.state out out' writes writes'
+      one_of_three : (refused finished b : Bool) (line : List ℕ) (out' : Option (List ℕ)) (writes writes' : ℕ) → WroteAll way (status_at_end refused finished b) text (Some []) (Some k.state) out out' s t
+          → RanTextTo way text (status_at_end refused finished b) k.state out out' writes writes' s t
       one_of_three true finished b line out' writes writes' w = w
       one_of_three false true true line out' writes writes' w = w
       one_of_three false true false line out' writes writes' w = w
       one_of_three false false b line out' writes writes' w = w
 
       pub text_ended : (refused finished : Bool) (result : Status) (line : List ℕ) (out' : Option (List ℕ)) (writes now writes' : ℕ) → IsTrue refused ↔ 0 < k.refused → IsTrue finished ↔ IsFinished k.state → line ≡ closing_by way.showing k
-          → (Rose now writes' → Rose writes writes') → EndedWith result (status_at_end refused finished blank) line mid out' now writes' → RanTextTo way text result k.state out out' writes writes'
+          → (Rose now writes' → Rose writes writes') → EndedWith result (status_at_end refused finished blank) line mid out' now writes' → RanTextTo way text result k.state out out' writes writes' s t
       unfolding text_front
-      text_ended refused finished result line out' writes now writes' r d e rose (inl (s, w)) =
-          subst (λ z. RanTextTo way text z k.state out out' writes writes') (sym s)
+      text_ended refused finished result line out' writes now writes' r d e rose (inl (is, w)) =
+          subst (λ z. RanTextTo way text z k.state out out' writes writes' s t) (sym is)
           (one_of_three refused finished blank line out' writes writes' (text_all (status_at_end refused finished blank) line out' e w (status_is refused finished r d blank refl)))
-      text_ended refused finished result line out' writes now writes' r d e rose (inr (inl (s, w, f))) =
-          let z : RanTextTo way text WriteFault k.state out out' writes writes' = (rose f, text_front line out' e w, ap (λ (z : State). Some z) state_is) in
-          subst (λ z. RanTextTo way text z k.state out out' writes writes') (sym s) z
-      text_ended refused finished result line out' writes now writes' r d e rose (inr (inr (s, w))) =
-          let z : RanTextTo way text NoMemory k.state out out' writes writes' = (refl, text_front line out' e w) in
-          subst (λ z. RanTextTo way text z k.state out out' writes writes') (sym s) z
+      text_ended refused finished result line out' writes now writes' r d e rose (inr (inl (is, w, f))) =
+          let z : RanTextTo way text WriteFault k.state out out' writes writes' s t = (rose f, text_front line out' e w, ap (λ (z : State). Some z) state_is) in
+          subst (λ z. RanTextTo way text z k.state out out' writes writes' s t) (sym is) z
+      text_ended refused finished result line out' writes now writes' r d e rose (inr (inr (is, w))) =
+          let z : RanTextTo way text NoMemory k.state out out' writes writes' s t = (refl, t, text_front line out' e w) in
+          subst (λ z. RanTextTo way text z k.state out out' writes writes' s t) (sym is) z
 
     -- there was no memory for the last line
-    pub text_no_line : (writes writes' : ℕ) → RanText way text NoMemory None out mid writes writes'
-    text_no_line writes writes' = (refl, text_cut out mid (stopped way out mid (to_come p) (to_come q) beginning k x))
+    pub text_no_line : (writes writes' : ℕ) → RanText way text NoMemory None out mid writes writes' s t
+    text_no_line writes writes' = (refl, t, text_cut out mid (stopped way out mid (to_come p) (to_come q) beginning k x))

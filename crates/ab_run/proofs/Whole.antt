@@ -1,7 +1,8 @@
 -- A run over a source and a sink that tell their bytes and didn't fail.
 use Rattle.std.proofs.Common.{◌≡◌, ◌≤◌, ℕ, List, [], ◌++◌, length, Option, Some, None, refl, sym, ap, ◌∙◌, subst, arith, inl, inr}
 use Rattle.std.proofs.lemmas.List.{append-nil, length-append}
-use Rattle.ab_io.specs.Loads.{Answer}
+use Rattle.ab_sigmod.specs.FileLoads.{FilesSeen, Load, AreLoads, no_load}
+use Rattle.ab_sigmod.proofs.Appending.{loads_on}
 use Rattle.ab_lex.specs.Commands.{Item}
 use Rattle.ab_io.specs.Count.{Rose}
 use Rattle.ab_io.specs.KnownBytes.{Takes, Appends, AtEnd}
@@ -52,10 +53,12 @@ status_on way NoMemory text more r q e = e
 status_on way TooLong text more r q e = e
 status_on way NoFile text more r q e = e
 
-module _ (way : Way) (text before : List ℕ) (left' after : Option (List ℕ)) (handed : Option State) where
-  whole_text : (status : Status) (taken : List ℕ) (number : ℕ) → number ≡ number_of status → (w : WroteAll way status taken left' handed (Some before) after) → taken ≡ text → IsReported way text before handed after number
+-- these loads were made before those of the commands
+module _ {f g f' : FilesSeen} (script : List Load) (first : AreLoads f script g) (way : Way) (text before : List ℕ) (left' after : Option (List ℕ)) (handed : Option State) where
+  whole_text : (status : Status) (taken : List ℕ) (number : ℕ) → number ≡ number_of status → (w : WroteAll way status taken left' handed (Some before) after g f') → taken ≡ text → IsReported way text before handed after number script f f'
   whole_text status taken number n w e = record {
     loads = w.loads;
+    asked = loads_on first w.asked;
     report = w.report;
     report_of = subst (λ t. ReportOf way t w.loads w.report) e w.report_of;
     hands_out = w.hands_out;
@@ -65,9 +68,10 @@ module _ (way : Way) (text before : List ℕ) (left' after : Option (List ℕ)) 
     status_is = subst (λ t. EndsWith status way t w.report) e w.status_is;
   }
 
-  quit_text : (status : Status) (taken more : List ℕ) (number : ℕ) → number ≡ number_of status → (w : WroteAll way status taken left' handed (Some before) after) → taken ++ more ≡ text → has_end way w.report ≡ true → IsReported way text before handed after number
+  quit_text : (status : Status) (taken more : List ℕ) (number : ℕ) → number ≡ number_of status → (w : WroteAll way status taken left' handed (Some before) after g f') → taken ++ more ≡ text → has_end way w.report ≡ true → IsReported way text before handed after number script f f'
   quit_text status taken more number n w e q = record {
     loads = w.loads;
+    asked = loads_on first w.asked;
     report = w.report;
     report_of = subst (λ t. ReportOf way t w.loads w.report) e (ended_text taken more w.loads w.report w.report_of q);
     hands_out = w.hands_out;
@@ -77,39 +81,39 @@ module _ (way : Way) (text before : List ℕ) (left' after : Option (List ℕ)) 
     status_is = subst (λ t. EndsWith status way t w.report) e (status_on way status taken more w.report q w.status_is);
   }
 
-  all_reported : (status : Status) (taken : List ℕ) (number : ℕ) → number ≡ number_of status → Takes (Some text) taken left' → WroteAll way status taken left' handed (Some before) after → IsReported way text before handed after number
+  all_reported : (status : Status) (taken : List ℕ) (number : ℕ) → number ≡ number_of status → Takes (Some text) taken left' → WroteAll way status taken left' handed (Some before) after g f' → IsReported way text before handed after number script f f'
   all_reported status taken number n t w = elim w.read [
     | inl q ↦ let m = took_front text taken left' t in quit_text status taken m.0 number n w m.1 q
     | inr e ↦ whole_text status taken number n w (took_all text taken left' t e)
   ]
 
-pub reported : (way : Way) (status : Status) (handed : Option State) (text before : List ℕ) (left left' out out' : Option (List ℕ)) (reads reads' writes writes' number : ℕ) → number ≡ number_of status → left ≡ Some text → length text ≤ MAX_INPUT → out ≡ Some before
-    → ¬ Rose reads reads' → ¬ Rose writes writes' → ¬ (number ≡ 5) → Ran way status handed (outside left out reads writes) (outside left' out' reads' writes') → IsReported way text before handed out' number
-reported way status handed text before left left' out out' reads reads' writes writes' number n e few o noreads nowrites nomemory r =
-    over status r.taken n (subst (λ x. Takes x r.taken left') e r.takes) (subst (λ x. RanOver way status r.taken handed (outside left x reads writes) (outside left' out' reads' writes')) o r.over)
+pub reported : {f f' : FilesSeen} (way : Way) (status : Status) (handed : Option State) (text before : List ℕ) (left left' out out' : Option (List ℕ)) (reads reads' writes writes' number : ℕ) → number ≡ number_of status → left ≡ Some text → length text ≤ MAX_INPUT → out ≡ Some before
+    → ¬ Rose reads reads' → ¬ Rose writes writes' → ¬ (number ≡ 5) → Ran way status handed (outside left out reads writes f) (outside left' out' reads' writes' f') → IsReported way text before handed out' number [] f f'
+reported {f = f} {f' = f'} way status handed text before left left' out out' reads reads' writes writes' number n e few o noreads nowrites nomemory r =
+    over status r.taken n (subst (λ x. Takes x r.taken left') e r.takes) (subst (λ x. RanOver way status r.taken handed (outside left x reads writes f) (outside left' out' reads' writes' f')) o r.over)
   where
-    over : (status : Status) (taken : List ℕ) → number ≡ number_of status → Takes (Some text) taken left' → RanOver way status taken handed (outside left (Some before) reads writes) (outside left' out' reads' writes') → IsReported way text before handed out' number
-    over Done taken n t v = all_reported way text before left' out' handed Done taken number n t v.1
-    over Refused taken n t v = all_reported way text before left' out' handed Refused taken number n t v.1
-    over BadLine taken n t v = all_reported way text before left' out' handed BadLine taken number n t v.1
+    over : (status : Status) (taken : List ℕ) → number ≡ number_of status → Takes (Some text) taken left' → RanOver way status taken handed (outside left (Some before) reads writes f) (outside left' out' reads' writes' f') → IsReported way text before handed out' number [] f f'
+    over Done taken n t v = all_reported [] no_load way text before left' out' handed Done taken number n t v.1
+    over Refused taken n t v = all_reported [] no_load way text before left' out' handed Refused taken number n t v.1
+    over BadLine taken n t v = all_reported [] no_load way text before left' out' handed BadLine taken number n t v.1
     over ReadFault taken n t v = absurd (noreads v.1)
     over WriteFault taken n t v = absurd (nowrites v.0)
     over NoMemory taken n t v = absurd (nomemory n)
-    over Unfinished taken n t v = all_reported way text before left' out' handed Unfinished taken number n t v.1
-    over NoFile taken n t v = all_reported way text before left' out' handed NoFile taken number n t v.1
+    over Unfinished taken n t v = all_reported [] no_load way text before left' out' handed Unfinished taken number n t v.1
+    over NoFile taken n t v = all_reported [] no_load way text before left' out' handed NoFile taken number n t v.1
     over TooLong taken n t v = let a = took_few text taken left' t in let b = v.0 in absurd (omega arith)
 
-handed_derived : {way : Way} (handed : Option State) (is : List Item) (loads : List Answer) (r : Report) → HandsOut handed r → Reports way empty is loads r → IfSome handed AllDerived
+handed_derived : {way : Way} (handed : Option State) (is : List Item) (loads : List Load) (r : Report) → HandsOut handed r → Reports way empty is loads r → IfSome handed AllDerived
 handed_derived handed is loads r e x = subst (λ o. IfSome o AllDerived) (sym e) (all_derived x replayed none_yet)
 
 -- each theorem of the state that is handed out has a derivation
-pub theorems_derived : (way : Way) (status : Status) (handed : Option State) (left left' out out' : Option (List ℕ)) (reads reads' writes writes' : ℕ) → Ran way status handed (outside left out reads writes) (outside left' out' reads' writes') → IfSome handed AllDerived
-theorems_derived way status handed left left' out out' reads reads' writes writes' r = over status r.taken r.over
+pub theorems_derived : {f f' : FilesSeen} (way : Way) (status : Status) (handed : Option State) (left left' out out' : Option (List ℕ)) (reads reads' writes writes' : ℕ) → Ran way status handed (outside left out reads writes f) (outside left' out' reads' writes' f') → IfSome handed AllDerived
+theorems_derived {f = f} {f' = f'} way status handed left left' out out' reads reads' writes writes' r = over status r.taken r.over
   where
-    of_all : (status : Status) (taken : List ℕ) → WroteAll way status taken left' handed out out' → IfSome handed AllDerived
+    of_all : (status : Status) (taken : List ℕ) → WroteAll way status taken left' handed out out' f f' → IfSome handed AllDerived
     of_all status taken w = handed_derived handed w.report_of.items w.loads w.report w.hands_out w.report_of.reports
 
-    over : (status : Status) (taken : List ℕ) → RanOver way status taken handed (outside left out reads writes) (outside left' out' reads' writes') → IfSome handed AllDerived
+    over : (status : Status) (taken : List ℕ) → RanOver way status taken handed (outside left out reads writes f) (outside left' out' reads' writes' f') → IfSome handed AllDerived
     over Done taken v = of_all Done taken v.1
     over Refused taken v = of_all Refused taken v.1
     over BadLine taken v = of_all BadLine taken v.1
@@ -121,13 +125,13 @@ theorems_derived way status handed left left' out out' reads reads' writes write
     over NoMemory taken v = subst (λ o. IfSome o AllDerived) (sym v.0) tt
 
 -- the same of a run over a text
-pub text_derived : (way : Way) (text : List ℕ) (status : Status) (handed : Option State) (out out' : Option (List ℕ)) (writes writes' : ℕ) → RanText way text status handed out out' writes writes' → IfSome handed AllDerived
-text_derived way text status handed out out' writes writes' r = over status r
+pub text_derived : (f f' : FilesSeen) (way : Way) (text : List ℕ) (status : Status) (handed : Option State) (out out' : Option (List ℕ)) (writes writes' : ℕ) → RanText way text status handed out out' writes writes' f f' → IfSome handed AllDerived
+text_derived f f' way text status handed out out' writes writes' r = over status r
   where
-    of_all : (status : Status) → WroteAll way status text (Some []) handed out out' → IfSome handed AllDerived
+    of_all : (status : Status) → WroteAll way status text (Some []) handed out out' f f' → IfSome handed AllDerived
     of_all status w = handed_derived handed w.report_of.items w.loads w.report w.hands_out w.report_of.reports
 
-    over : (status : Status) → RanText way text status handed out out' writes writes' → IfSome handed AllDerived
+    over : (status : Status) → RanText way text status handed out out' writes writes' f f' → IfSome handed AllDerived
     over Done v = of_all Done v
     over Refused v = of_all Refused v
     over BadLine v = of_all BadLine v
@@ -139,15 +143,15 @@ text_derived way text status handed out out' writes writes' r = over status r
     over NoMemory v = subst (λ o. IfSome o AllDerived) (sym v.0) tt
 
 -- the report of a text, where nothing failed
-pub text_reported : (way : Way) (status : Status) (handed : Option State) (text before : List ℕ) (out out' : Option (List ℕ)) (writes writes' number : ℕ) → number ≡ number_of status → out ≡ Some before
-    → ¬ Rose writes writes' → ¬ (number ≡ 5) → RanText way text status handed out out' writes writes' → IsReported way text before handed out' number
-text_reported way status handed text before out out' writes writes' number n o nowrites nomemory r =
-    over status n (subst (λ x. RanText way text status handed x out' writes writes') o r)
+pub text_reported : {f g f' : FilesSeen} (script : List Load) → AreLoads f script g → (way : Way) (status : Status) (handed : Option State) (text before : List ℕ) (out out' : Option (List ℕ)) (writes writes' number : ℕ) → number ≡ number_of status → out ≡ Some before
+    → ¬ Rose writes writes' → ¬ (number ≡ 5) → RanText way text status handed out out' writes writes' g f' → IsReported way text before handed out' number script f f'
+text_reported {f = f} {g = g} {f' = f'} script first way status handed text before out out' writes writes' number n o nowrites nomemory r =
+    over status n (subst (λ x. RanText way text status handed x out' writes writes' g f') o r)
   where
-    of_all : (status : Status) → number ≡ number_of status → WroteAll way status text (Some []) handed (Some before) out' → IsReported way text before handed out' number
-    of_all status n w = whole_text way text before (Some []) out' handed status text number n w refl
+    of_all : (status : Status) → number ≡ number_of status → WroteAll way status text (Some []) handed (Some before) out' g f' → IsReported way text before handed out' number script f f'
+    of_all status n w = whole_text script first way text before (Some []) out' handed status text number n w refl
 
-    over : (status : Status) → number ≡ number_of status → RanText way text status handed (Some before) out' writes writes' → IsReported way text before handed out' number
+    over : (status : Status) → number ≡ number_of status → RanText way text status handed (Some before) out' writes writes' g f' → IsReported way text before handed out' number script f f'
     over Done n v = of_all Done n v
     over Refused n v = of_all Refused n v
     over BadLine n v = of_all BadLine n v

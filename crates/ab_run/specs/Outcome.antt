@@ -1,11 +1,11 @@
 -- HOW A RUN ENDS, by what the line asks for: its status, what stands outside before and after it, and the state that it hands out.
-use Rattle.std.specs.Prelude.{◌≡◌, ◌≤◌, ◌<◌, ◌+◌, ◌⊎◌, ℕ, true, false, List, [], ◌++◌, length, take, Option, Some, None, IsSomeAnd}
+use Rattle.std.specs.Prelude.{◌≡◌, ◌≤◌, ◌<◌, ◌+◌, ◌⊎◌, ℕ, true, false, List, [], ◌∷◌, ◌++◌, length, take, Option, Some, None, IsSomeAnd}
 use Rattle.std.specs.FinMap.{get}
 use Rattle.ab_lex.specs.Commands.{Item, ItemsOf, HasBlankRest}
 use Rattle.ab_io.specs.Count.{Rose}
 use Rattle.ab_io.specs.KnownBytes.{Takes, Appends, AppendsFront, AtEnd}
 use Rattle.ab_io.specs.Loads.{FileMap, Answer, loaded, missing, failed, too_long}
-use Rattle.ab_sigmod.specs.FileLoads.{FilesSeen, IsLoad, longest}
+use Rattle.ab_sigmod.specs.FileLoads.{FilesSeen, Load, IsLoad, AreLoads, longest}
 use Rattle.ab_drill.specs.Drill.{script}
 use Rattle.ab_line.specs.Requests.{Origin, Request, the_input, the_file, the_drill}
 use Rattle.ab_states.specs.State.{State, empty}
@@ -39,9 +39,10 @@ EndsWith Refused way text r = 0 < refused_in r
 EndsWith Unfinished way text r = (refused_in r ≡ 0) × (¬ IsFinished (state_behind empty r) ⊎ ¬ HasNoRest way text r)
 EndsWith s way text r = ⊥
 
--- THE WHOLE REPORT of this text was printed; it was run to its end or to a reply that ends the run, and has this status
-pub record WroteAll (way : Way) (status : Status) (text : List ℕ) (left : Option (List ℕ)) (handed : Option State) (before after : Option (List ℕ)) : Type 0 where
-  pub loads : List Answer
+-- THE WHOLE REPORT of this text was printed, by the loads that were made; it was run to its end or to a reply that ends the run, and has this status
+pub record WroteAll (way : Way) (status : Status) (text : List ℕ) (left : Option (List ℕ)) (handed : Option State) (before after : Option (List ℕ)) (f f' : FilesSeen) : Type 0 where
+  pub loads : List Load
+  pub asked : AreLoads f loads f'
   pub report : Report
   pub report_of : ReportOf way text loads report
   pub read : (has_end way report ≡ true) ⊎ AtEnd left
@@ -50,8 +51,9 @@ pub record WroteAll (way : Way) (status : Status) (text : List ℕ) (left : Opti
   pub status_is : EndsWith status way text report
 
 -- the blocks of the whole report of this text were printed, none of which ended the run, and this line behind them
-pub record WroteReport (way : Way) (text line : List ℕ) (handed : Option State) (before after : Option (List ℕ)) : Type 0 where
-  pub loads : List Answer
+pub record WroteReport (way : Way) (text line : List ℕ) (handed : Option State) (before after : Option (List ℕ)) (f f' : FilesSeen) : Type 0 where
+  pub loads : List Load
+  pub asked : AreLoads f loads f'
   pub report : Report
   pub report_of : ReportOf way text loads report
   pub goes_on : has_end way report ≡ false
@@ -59,11 +61,12 @@ pub record WroteReport (way : Way) (text line : List ℕ) (handed : Option State
   pub wrote : Appends before (bytes_of way.showing report ++ line) after
 
 -- a front was printed: some of what is printed of the first items and, where there are no others to answer, of a last line
-pub record WroteSome (way : Way) (text : List ℕ) (IsLast : List ℕ → Type 0) (before after : Option (List ℕ)) : Type 0 where
+pub record WroteSome (way : Way) (text : List ℕ) (IsLast : List ℕ → Type 0) (before after : Option (List ℕ)) (f f' : FilesSeen) : Type 0 where
   pub answered : List Item
   pub others : List Item
   pub items_are : ItemsOf text (answered ++ others)
-  pub loads : List Answer
+  pub loads : List Load
+  pub asked : AreLoads f loads f'
   pub report : Report
   pub reports : Reports way empty answered loads report
   pub line : List ℕ
@@ -77,17 +80,18 @@ abbrev pub IsLastLine : List ℕ → ℕ → ℕ → List ℕ → Type 0
 IsLastLine taken reads reads' line =
     ((line ≡ last_line ending.read_fault) × Rose reads reads') ⊎ ((line ≡ last_line ending.too_long) × (length taken ≡ MAX_INPUT + 1))
 
--- what it has done, by its status: how the bytes taken, what stands outside before and after, and the state that is handed out lie
+-- what it has done, by its status: how the bytes taken, what stands outside before and after, and the state that is handed out lie;
+-- where there was no memory, what is told of the files behind the last command that was answered is somewhere between these
 abbrev pub RanOver : Way → Status → List ℕ → Option State → Outside → Outside → Type 0
 RanOver way ReadFault taken handed o o' =
-    (length taken ≤ MAX_INPUT) × Rose o.reads o'.reads × WroteReport way taken (last_line ending.read_fault) handed o.written o'.written
+    (length taken ≤ MAX_INPUT) × Rose o.reads o'.reads × WroteReport way taken (last_line ending.read_fault) handed o.written o'.written o.files o'.files
 RanOver way WriteFault taken handed o o' =
-    Rose o.writes o'.writes × (w : WroteSome way (take MAX_INPUT taken) (IsLastLine taken o.reads o'.reads) o.written o'.written) × HandsOut handed w.report
+    Rose o.writes o'.writes × (w : WroteSome way (take MAX_INPUT taken) (IsLastLine taken o.reads o'.reads) o.written o'.written o.files o'.files) × HandsOut handed w.report
 RanOver way NoMemory taken handed o o' =
-    (handed ≡ None) × WroteSome way (take MAX_INPUT taken) (IsLastLine taken o.reads o'.reads) o.written o'.written
+    (handed ≡ None) × (f : FilesSeen) × WroteSome way (take MAX_INPUT taken) (IsLastLine taken o.reads o'.reads) o.written o'.written o.files f
 RanOver way TooLong taken handed o o' =
-    (length taken ≡ MAX_INPUT + 1) × WroteReport way (take MAX_INPUT taken) (last_line ending.too_long) handed o.written o'.written
-RanOver way status taken handed o o' = (length taken ≤ MAX_INPUT) × WroteAll way status taken o'.left handed o.written o'.written
+    (length taken ≡ MAX_INPUT + 1) × WroteReport way (take MAX_INPUT taken) (last_line ending.too_long) handed o.written o'.written o.files o'.files
+RanOver way status taken handed o o' = (length taken ≤ MAX_INPUT) × WroteAll way status taken o'.left handed o.written o'.written o.files o'.files
 
 -- some bytes were taken from the source, and the status says the rest
 pub record Ran (way : Way) (status : Status) (handed : Option State) (o o' : Outside) : Type 0 where
@@ -101,10 +105,10 @@ pub record Ran (way : Way) (status : Status) (handed : Option State) (o o' : Out
 abbrev pub NoLine : List ℕ → Type 0
 NoLine line = ⊥
 
-abbrev pub RanText : Way → List ℕ → Status → Option State → Option (List ℕ) → Option (List ℕ) → ℕ → ℕ → Type 0
-RanText way text WriteFault handed out out' writes writes' = Rose writes writes' × (w : WroteSome way text NoLine out out') × HandsOut handed w.report
-RanText way text NoMemory handed out out' writes writes' = (handed ≡ None) × WroteSome way text NoLine out out'
-RanText way text status handed out out' writes writes' = WroteAll way status text (Some []) handed out out'
+abbrev pub RanText : Way → List ℕ → Status → Option State → Option (List ℕ) → Option (List ℕ) → ℕ → ℕ → FilesSeen → FilesSeen → Type 0
+RanText way text WriteFault handed out out' writes writes' f f' = Rose writes writes' × (w : WroteSome way text NoLine out out' f f') × HandsOut handed w.report
+RanText way text NoMemory handed out out' writes writes' f f' = (handed ≡ None) × (g : FilesSeen) × WroteSome way text NoLine out out' f g
+RanText way text status handed out out' writes writes' f f' = WroteAll way status text (Some []) handed out out' f f'
 
 -- NO SCRIPT: the line of this ending is all that is printed
 abbrev pub WroteLine : Ending → Status → Option State → Option (List ℕ) → Option (List ℕ) → ℕ → ℕ → Type 0
@@ -118,35 +122,36 @@ pub record HadNoMemory (status : Status) (handed : Option State) (out out' : Opt
   pub none_handed : handed ≡ None
   pub stays : out' ≡ out
 
--- A RUN OVER A FILE, by what its load answered
-abbrev pub RanLoaded : Way → List ℕ → Answer → Status → Option State → Option (List ℕ) → Option (List ℕ) → ℕ → ℕ → Type 0
-RanLoaded way name (loaded text) status handed out out' writes writes' = RanText way text status handed out out' writes writes'
-RanLoaded way name missing status handed out out' writes writes' = WroteLine (ending.missing name) status handed out out' writes writes'
-RanLoaded way name failed status handed out out' writes writes' = WroteLine ending.read_fault status handed out out' writes writes'
-RanLoaded way name too_long status handed out out' writes writes' = WroteLine ending.too_long status handed out out' writes writes'
+-- A RUN OVER A FILE, by what its load answered: its commands ask for files, or no other was loaded
+abbrev pub RanLoaded : Way → List ℕ → Answer → Status → Option State → Option (List ℕ) → Option (List ℕ) → ℕ → ℕ → FilesSeen → FilesSeen → Type 0
+RanLoaded way name (loaded text) status handed out out' writes writes' f f' = RanText way text status handed out out' writes writes' f f'
+RanLoaded way name missing status handed out out' writes writes' f f' = (f' ≡ f) × WroteLine (ending.missing name) status handed out out' writes writes'
+RanLoaded way name failed status handed out out' writes writes' f f' = (f' ≡ f) × WroteLine ending.read_fault status handed out out' writes writes'
+RanLoaded way name too_long status handed out out' writes writes' f f' = (f' ≡ f) × WroteLine ending.too_long status handed out out' writes writes'
 
--- the file of this name was loaded, once, and nothing else was
+-- the file of this name was loaded first
 pub record LoadedScript (way : Way) (name : List ℕ) (status : Status) (handed : Option State) (out out' : Option (List ℕ)) (writes writes' : ℕ) (f f' : FilesSeen) : Type 0 where
   pub answer : Answer
-  pub load : IsLoad f (record { name = name; answer = answer }) f'
-  pub ran : RanLoaded way name answer status handed out out' writes writes'
+  pub behind : FilesSeen
+  pub load : IsLoad f (record { name = name; answer = answer }) behind
+  pub ran : RanLoaded way name answer status handed out out' writes writes' behind f'
 
 abbrev pub RanFile : Way → List ℕ → Status → Option State → Option (List ℕ) → Option (List ℕ) → ℕ → ℕ → FilesSeen → FilesSeen → Type 0
 RanFile way name status handed out out' writes writes' f f' = LoadedScript way name status handed out out' writes writes' f f' ⊎ HadNoMemory status handed out out'
 
 -- A DRILL: a run over its script
-abbrev pub RanDrill : Way → ℕ → Status → Option State → Option (List ℕ) → Option (List ℕ) → ℕ → ℕ → Type 0
-RanDrill way size status handed out out' writes writes' = RanText way (script size) status handed out out' writes writes' ⊎ HadNoMemory status handed out out'
+abbrev pub RanDrill : Way → ℕ → Status → Option State → Option (List ℕ) → Option (List ℕ) → ℕ → ℕ → FilesSeen → FilesSeen → Type 0
+RanDrill way size status handed out out' writes writes' f f' = RanText way (script size) status handed out out' writes writes' f f' ⊎ HadNoMemory status handed out out'
 
 -- WHAT A RUN HAS DONE, by what the line asks for
-abbrev pub RanFor : Way → Origin → Status → Option State → Outside → Outside → FilesSeen → FilesSeen → Type 0
-RanFor way the_input status handed o o' f f' = Ran way status handed o o'
-RanFor way (the_file name) status handed o o' f f' = RanFile way name status handed o.written o'.written o.writes o'.writes f f'
-RanFor way (the_drill size) status handed o o' f f' = RanDrill way size status handed o.written o'.written o.writes o'.writes
+abbrev pub RanFor : Way → Origin → Status → Option State → Outside → Outside → Type 0
+RanFor way the_input status handed o o' = Ran way status handed o o'
+RanFor way (the_file name) status handed o o' = RanFile way name status handed o.written o'.written o.writes o'.writes o.files o'.files
+RanFor way (the_drill size) status handed o o' = RanDrill way size status handed o.written o'.written o.writes o'.writes o.files o'.files
 
-abbrev pub RanAsAsked : Option Request → Status → Option State → Outside → Outside → FilesSeen → FilesSeen → Type 0
-RanAsAsked None status handed o o' f f' = WroteLine ending.line_refused status handed o.written o'.written o.writes o'.writes
-RanAsAsked (Some q) status handed o o' f f' = RanFor (way_of q) q.origin status handed o o' f f'
+abbrev pub RanAsAsked : Option Request → Status → Option State → Outside → Outside → Type 0
+RanAsAsked None status handed o o' = WroteLine ending.line_refused status handed o.written o'.written o.writes o'.writes
+RanAsAsked (Some q) status handed o o' = RanFor (way_of q) q.origin status handed o o'
 
 -- the status of this number is one of which P is said
 abbrev pub EndedBy : ℕ → (Status → Type 0) → Type 0
@@ -160,10 +165,17 @@ IsScript the_input text left files = (left ≡ Some text) × (length text ≤ MA
 IsScript (the_file name) text left files = IsSomeAnd files (λ m. get m name ≡ Some text) × (length text ≤ longest)
 IsScript (the_drill size) text left files = text ≡ script size
 
+-- the load of the script itself
+abbrev pub own_load : Origin → List ℕ → List Load
+own_load the_input text = []
+own_load (the_file name) text = record { name = name; answer = loaded text } ∷ []
+own_load (the_drill size) text = []
+
 -- what was written behind the bytes before is all that is printed of this text's report, the state that is handed out is that
--- behind its last command, and the number is that of its status
-pub record IsReported (way : Way) (text before : List ℕ) (handed : Option State) (after : Option (List ℕ)) (number : ℕ) : Type 0 where
-  pub loads : List Answer
+-- behind its last command, and the number is that of its status; the loads are those of the script and then of its commands
+pub record IsReported (way : Way) (text before : List ℕ) (handed : Option State) (after : Option (List ℕ)) (number : ℕ) (script : List Load) (f f' : FilesSeen) : Type 0 where
+  pub loads : List Load
+  pub asked : AreLoads f (script ++ loads) f'
   pub report : Report
   pub report_of : ReportOf way text loads report
   pub hands_out : HandsOut handed report

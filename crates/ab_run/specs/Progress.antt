@@ -7,7 +7,7 @@ use Rattle.ab_io.specs.Count.{Rose, last_count}
 use Rattle.ab_io.specs.KnownBytes.{Takes, Appends, AppendsFront, AtEnd}
 use Rattle.ab_io.specs.declared.sink.WriteFault.{WriteFault}
 use Rattle.ab_io.specs.declared.sink.WriteFault.TheVariants.{Failed, Memory}
-use Rattle.ab_io.specs.Loads.{Answer}
+use Rattle.ab_sigmod.specs.FileLoads.{FilesSeen, Load, AreLoads}
 use Rattle.ab_formulas.specs.Declarations.{theorems_in}
 use Rattle.ab_drill.specs.Summary.{summary}
 use Rattle.ab_states.specs.State.{State, empty}
@@ -75,9 +75,10 @@ abbrev pub standing_behind : Way → Standing → Report → Standing
 standing_behind way m r = record { state = state_behind m.state r; accepted = accepted_on m.accepted r; refused = refused_on m.refused r; ended = m.ended || has_end way r }
 
 -- from one moment to another: these items were answered, what is shown of them printed, and those are to come
-pub record Answered (way : Way) (out out' : Option (List ℕ)) (from to : List ℕ → List Item) (m m' : Standing) : Type 0 where
+pub record Answered (way : Way) (out out' : Option (List ℕ)) (f f' : FilesSeen) (from to : List ℕ → List Item) (m m' : Standing) : Type 0 where
   pub answered : List Item
-  pub loads : List Answer
+  pub loads : List Load
+  pub asked : AreLoads f loads f'
   pub report : Report
   pub reports : Reports way m.state answered loads report
   pub standing_is : m' ≡ standing_behind way m report
@@ -85,26 +86,28 @@ pub record Answered (way : Way) (out out' : Option (List ℕ)) (from to : List �
   pub wrote : Appends out (bytes_of way.showing report) out'
 
 -- some items were answered, and a front of what is shown of them was printed
-pub record AnsweredSome (way : Way) (out out' : Option (List ℕ)) (from : List ℕ → List Item) (s : State) : Type 0 where
+pub record AnsweredSome (way : Way) (out out' : Option (List ℕ)) (f f' : FilesSeen) (from : List ℕ → List Item) (s : State) : Type 0 where
   pub answered : List Item
   pub others : List ℕ → List Item
-  pub loads : List Answer
+  pub loads : List Load
+  pub asked : AreLoads f loads f'
   pub report : Report
   pub reports : Reports way s answered loads report
   pub items_are : (more : List ℕ) → from more ≡ answered ++ others more
   pub wrote : AppendsFront out (bytes_of way.showing report) out'
 
 -- the same, and the state is the one behind them
-abbrev pub AnsweredUpTo : Way → Option (List ℕ) → Option (List ℕ) → (List ℕ → List Item) → State → State → Type 0
-AnsweredUpTo way out out' from s s' = (x : AnsweredSome way out out' from s) × (s' ≡ state_behind s x.report)
+abbrev pub AnsweredUpTo : Way → Option (List ℕ) → Option (List ℕ) → FilesSeen → FilesSeen → (List ℕ → List Item) → State → State → Type 0
+AnsweredUpTo way out out' f f' from s s' = (x : AnsweredSome way out out' f f' from s) × (s' ≡ state_behind s x.report)
 
 abbrev pub moment : Reply → State → Moment
 moment reply s = record { reply = reply; state = s }
 
 -- the text is what is shown of the answer to the next item
-pub record AnswersItem (way : Way) (bytes : List ℕ) (m m' : Standing) (p p' : Pending) : Type 0 where
+pub record AnswersItem (way : Way) (bytes : List ℕ) (f f' : FilesSeen) (m m' : Standing) (p p' : Pending) : Type 0 where
   pub item : Item
-  pub loads : List Answer
+  pub loads : List Load
+  pub asked : AreLoads f loads f'
   pub reply : Reply
   pub replies : Replies m.state item loads (moment reply m'.state)
   pub accepted_is : m'.accepted ≡ accepted_with m.accepted reply
@@ -114,26 +117,29 @@ pub record AnswersItem (way : Way) (bytes : List ℕ) (m m' : Standing) (p p' : 
   pub items_are : NextItem p item p'
 
 -- the next item has this reply
-pub record RepliesItem (reply : Reply) (s s' : State) (p p' : Pending) : Type 0 where
+pub record RepliesItem (reply : Reply) (f f' : FilesSeen) (s s' : State) (p p' : Pending) : Type 0 where
   pub item : Item
-  pub loads : List Answer
+  pub loads : List Load
+  pub asked : AreLoads f loads f'
   pub replies : Replies s item loads (moment reply s')
   pub items_are : NextItem p item p'
 
 -- no item is ready, and nothing has changed
-pub record StaysReady (s s' : State) (p p' : Pending) : Type 0 where
+pub record StaysReady (f f' : FilesSeen) (s s' : State) (p p' : Pending) : Type 0 where
   pub state_is : s' ≡ s
+  pub files_stay : f' ≡ f
   pub none : Awaits p' [] []
   pub items_are : SameItems p p'
 
 -- the reply to the next item, or none is ready
-abbrev pub RepliesNext : Option Reply → State → State → Pending → Pending → Type 0
-RepliesNext (Some reply) s s' p p' = RepliesItem reply s s' p p'
-RepliesNext None s s' p p' = StaysReady s s' p p'
+abbrev pub RepliesNext : Option Reply → FilesSeen → FilesSeen → State → State → Pending → Pending → Type 0
+RepliesNext (Some reply) f f' s s' p p' = RepliesItem reply f f' s s' p p'
+RepliesNext None f f' s s' p p' = StaysReady f f' s s' p p'
 
 -- no item is ready
-pub record HasNone (m m' : Standing) (p p' : Pending) : Type 0 where
+pub record HasNone (f f' : FilesSeen) (m m' : Standing) (p p' : Pending) : Type 0 where
   pub standing_is : m' ≡ m
+  pub files_stay : f' ≡ f
   pub none : Awaits p' [] []
   pub items_are : SameItems p p'
 
@@ -141,15 +147,15 @@ abbrev pub standing_of : Progress → Standing
 standing_of p = record { state = state_of p.session; accepted = p.accepted; refused = p.refused; ended = p.ended }
 
 -- what is shown of the next answer, or none is ready
-abbrev pub AnswersNext : Way → Option (List ℕ) → Standing → Standing → Pending → Pending → Type 0
-AnswersNext way (Some bytes) m m' p p' = AnswersItem way bytes m m' p p'
-AnswersNext way None m m' p p' = HasNone m m' p p'
+abbrev pub AnswersNext : Way → Option (List ℕ) → FilesSeen → FilesSeen → Standing → Standing → Pending → Pending → Type 0
+AnswersNext way (Some bytes) f f' m m' p p' = AnswersItem way bytes f f' m m' p p'
+AnswersNext way None f f' m m' p p' = HasNone f f' m m' p p'
 
 -- every item that was ready was answered, up to a reply that ends the run; or a write has failed, or memory was wanted
-abbrev pub AnsweredReady : Way → Result (Unit {0}) WriteFault → Option (List ℕ) → Option (List ℕ) → Standing → Standing → Pending → Pending → Type 0
-AnsweredReady way (Ok done) out out' m m' p p' = Answered way out out' (to_come p) (to_come p') m m' × (m'.ended ≡ false → Awaits p' [] [])
-AnsweredReady way (Err Failed) out out' m m' p p' = AnsweredUpTo way out out' (to_come p) m.state m'.state
-AnsweredReady way (Err (Memory e)) out out' m m' p p' = AnsweredSome way out out' (to_come p) m.state
+abbrev pub AnsweredReady : Way → Result (Unit {0}) WriteFault → Option (List ℕ) → Option (List ℕ) → FilesSeen → FilesSeen → Standing → Standing → Pending → Pending → Type 0
+AnsweredReady way (Ok done) out out' f f' m m' p p' = Answered way out out' f f' (to_come p) (to_come p') m m' × (m'.ended ≡ false → Awaits p' [] [])
+AnsweredReady way (Err Failed) out out' f f' m m' p p' = AnsweredUpTo way out out' f f' (to_come p) m.state m'.state
+AnsweredReady way (Err (Memory e)) out out' f f' m m' p p' = (g : FilesSeen) × AnsweredSome way out out' f g (to_come p) m.state
 
 -- a piece was read and fed
 pub record FedPiece (count : ℕ) (left left' : Option (List ℕ)) (p p' : Pending) : Type 0 where
@@ -171,7 +177,7 @@ ReadStopped ReadFailed most left left' reads reads' = (left' ≡ left) × Rose r
 ReadStopped ReadMemory most left left' reads reads' = TookPiece most left left'
 
 -- between two pieces: what was taken, that the items that ended in it were answered, and that those to come are the others
-pub record Running (way : Way) (left left' out out' : Option (List ℕ)) (p : Pending) (m : Standing) (count : ℕ) : Type 0 where
+pub record Running (way : Way) (left left' out out' : Option (List ℕ)) (f f' : FilesSeen) (p : Pending) (m : Standing) (count : ℕ) : Type 0 where
   pub taken : List ℕ
   pub takes : Takes left taken left'
   pub counted : length taken ≡ count
@@ -179,7 +185,7 @@ pub record Running (way : Way) (left left' out out' : Option (List ℕ)) (p : Pe
   -- the items of the whole text, by the bytes that come
   pub all_items : List ℕ → List Item
   pub all_are : (more : List ℕ) → ItemsOf (taken ++ more) (all_items more)
-  pub answered : Answered way out out' all_items (to_come p) beginning m
+  pub answered : Answered way out out' f f' all_items (to_come p) beginning m
   pub goes_on : m.ended ≡ false
   pub none_ready : Awaits p [] []
   pub blank_is : (more : List ℕ) → HasBlankRest (p.text ++ more) ↔ HasBlankRest (taken ++ more)
@@ -201,8 +207,8 @@ abbrev pub RanTo : Way → Status → State → Outside → Outside → Type 0
 RanTo way status s o o' = Ran way status (handed_by status s) o o'
 
 -- the same of a text that is there as a whole
-abbrev pub RanTextTo : Way → List ℕ → Status → State → Option (List ℕ) → Option (List ℕ) → ℕ → ℕ → Type 0
-RanTextTo way text status s out out' writes writes' = RanText way text status (handed_by status s) out out' writes writes'
+abbrev pub RanTextTo : Way → List ℕ → Status → State → Option (List ℕ) → Option (List ℕ) → ℕ → ℕ → FilesSeen → FilesSeen → Type 0
+RanTextTo way text status s out out' writes writes' f f' = RanText way text status (handed_by status s) out out' writes writes' f f'
 
 -- the status of a script that was run to its end or to a reply that ends the run: whether a command was refused, no proof is open, and nothing
 -- but blanks is left

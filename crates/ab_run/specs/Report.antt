@@ -2,7 +2,7 @@
 -- the run; and what is printed of it.
 use Rattle.std.specs.Prelude.{◌≡◌, ℕ, suc, Bool, true, false, ◌||◌, ◌&&◌, if◌then◌else◌, List, [], ◌∷◌, ◌++◌, length}
 use Rattle.ab_lex.specs.Commands.{Item, ItemsOf, command, long}
-use Rattle.ab_io.specs.Loads.{Answer}
+use Rattle.ab_sigmod.specs.FileLoads.{Load}
 use Rattle.ab_declare.specs.declared.refusal.Refusal.TheVariants.{TooLong}
 use Rattle.ab_states.specs.State.{State, empty}
 use Rattle.ab_formulas.specs.Declarations.{theorems_in}
@@ -22,10 +22,10 @@ pub record Moment : Type 0 where
   pub reply : Reply
   pub state : State
 
--- the reply to an item of a text, by what the loads answered that it asked for: a command has its effect, by which a theorem stands
+-- the reply to an item of a text, by the loads that it asked for: a command has its effect, by which a theorem stands
 -- only where it is derived, and one that is too long is dropped
-pub data Replies (s : State) : Item → List Answer → Moment → Type 0 where
-  to_command : {bytes : List ℕ} {loads : List Answer} (m : Moment) → HasEffect s bytes loads m.reply m.state → IsBorneOut m.reply m.state → Replies s (command bytes) loads m
+pub data Replies (s : State) : Item → List Load → Moment → Type 0 where
+  to_command : {bytes : List ℕ} {loads : List Load} (m : Moment) → HasEffect s bytes loads m.reply m.state → IsBorneOut m.reply m.state → Replies s (command bytes) loads m
   to_long : (m : Moment) → m.reply ≡ refused TooLong → m.state ≡ s → Replies s long [] m
 
 -- the moments behind the items, in order
@@ -40,16 +40,16 @@ is_quit reply = false
 abbrev pub is_end : Way → Reply → Bool
 is_end way reply = (way.stops && is_refusal reply) || is_quit reply
 
--- THE REPORT OF THESE ITEMS in a run of this way, from this state on, where loads answer so, in the order in which commands ask;
+-- THE REPORT OF THESE ITEMS in a run of this way, from this state on, by the loads that the commands ask for, in order;
 -- those behind the reply that ends the run are not looked at
-pub data Reports (way : Way) : State → List Item → List Answer → Report → Type 0 where
+pub data Reports (way : Way) : State → List Item → List Load → Report → Type 0 where
   none : {s : State} → Reports way s [] [] []
-  next : {s : State} {i : Item} {is : List Item} {loads later : List Answer} {r : Report} (m : Moment) → Replies s i loads m → is_end way m.reply ≡ false → Reports way m.state is later r
+  next : {s : State} {i : Item} {is : List Item} {loads later : List Load} {r : Report} (m : Moment) → Replies s i loads m → is_end way m.reply ≡ false → Reports way m.state is later r
       → Reports way s (i ∷ is) (loads ++ later) (m ∷ r)
-  last : {s : State} {i : Item} {is : List Item} {loads : List Answer} (m : Moment) → Replies s i loads m → is_end way m.reply ≡ true → Reports way s (i ∷ is) loads (m ∷ [])
+  last : {s : State} {i : Item} {is : List Item} {loads : List Load} (m : Moment) → Replies s i loads m → is_end way m.reply ≡ true → Reports way s (i ∷ is) loads (m ∷ [])
 
 -- the report of a text: of all its items, from the empty state on
-pub record ReportOf (way : Way) (text : List ℕ) (loads : List Answer) (r : Report) : Type 0 where
+pub record ReportOf (way : Way) (text : List ℕ) (loads : List Load) (r : Report) : Type 0 where
   pub items : List Item
   pub items_are : ItemsOf text items
   pub reports : Reports way empty items loads r

@@ -25,17 +25,7 @@ IsInputOf the_input = Unit {0}
 IsInputOf (the_file name) = ⊥
 IsInputOf (the_drill size) = ⊥
 
-abbrev pub IsFileOf : Origin → Type 0
-IsFileOf the_input = ⊥
-IsFileOf (the_file name) = Unit {0}
-IsFileOf (the_drill size) = ⊥
-
 -- the script is the input
 abbrev pub IsInput : Option Request → Type 0
 IsInput None = ⊥
 IsInput (Some q) = IsInputOf q.origin
-
--- the script is in a file
-abbrev pub IsFile : Option Request → Type 0
-IsFile None = ⊥
-IsFile (Some q) = IsFileOf q.origin

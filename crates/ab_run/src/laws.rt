@@ -1,8 +1,8 @@
 //! Laws of the definitions, each the contract of a function that does nothing.
 ghost use Rattle.std.specs.Prelude.{◌≡◌, ◌++◌, ℕ, List, [], true};
 ghost use Rattle.std.specs.List.{All};
-ghost use Rattle.ab_io.specs.Loads.{Answer};
 ghost use Rattle.ab_lex.specs.Commands.{Item};
+ghost use Rattle.ab_sigmod.specs.FileLoads.{Load};
 ghost use Rattle.ab_states.specs.State.{State};
 ghost use Rattle.ab_states.specs.Replay.{IsReplayed};
 ghost use Rattle.ab_states.specs.Reply.{completed};
@@ -10,35 +10,30 @@ ghost use Rattle.ab_session.specs.SessionAnswers.{IsProvedLast};
 ghost use Rattle.ab_run.specs.declared.way.Way.{Way};
 ghost use Rattle.ab_run.specs.Report.{Moment, Report, ReportOf, Reports, has_end};
 
-/// A text has one report in a run of one way, where loads answer so: one reply to each of its commands, and one state behind it. So it has one
+/// A text has one report in a run of one way, by the same loads: one reply to each of its commands, and one state behind it. So it has one
 /// output and one status.
 pub fn texts_have_one_report()
-    ensures { (way : Way) (text : List ℕ) (loads : List Answer) (r q : Report) → ReportOf way text loads r → ReportOf way text loads q → r ≡ q }
+    ensures { (way : Way) (text : List ℕ) (loads : List Load) (r q : Report) → ReportOf way text loads r → ReportOf way text loads q → r ≡ q }
 {}
 
-/// No command that is built asks for a file, so a report is one without loads.
-pub fn reports_load_nothing()
-    ensures { (way : Way) (text : List ℕ) (loads : List Answer) (r : Report) → ReportOf way text loads r → loads ≡ [] }
-{}
-
-/// The report of a text begins with a report of its first items, and what their loads answer stands first.
+/// The report of a text begins with a report of its first items, and their loads stand first.
 pub fn reports_begin_alike()
-    ensures { (way : Way) (first others : List Item) (s : State) (loads : List Answer) (r : Report) → Reports way s (first ++ others) loads r
-        → (q rest : Report) × (early later : List Answer) × Reports way s first early q × (loads ≡ early ++ later) × (r ≡ q ++ rest) }
+    ensures { (way : Way) (first others : List Item) (s : State) (loads : List Load) (r : Report) → Reports way s (first ++ others) loads r
+        → (q rest : Report) × (early later : List Load) × Reports way s first early q × (loads ≡ early ++ later) × (r ≡ q ++ rest) }
 {}
 
 /// What stands behind the reply that ends the run changes no report.
 pub fn last_reply_ends_a_report()
-    ensures { (way : Way) (text more : List ℕ) (loads : List Answer) (r : Report) → ReportOf way text loads r → has_end way r ≡ true → ReportOf way (text ++ more) loads r }
+    ensures { (way : Way) (text more : List ℕ) (loads : List Load) (r : Report) → ReportOf way text loads r → has_end way r ≡ true → ReportOf way (text ++ more) loads r }
 {}
 
 /// Each state of a report is the one that its kept commands lead to.
 pub fn kept_commands_replay()
-    ensures { (way : Way) (text : List ℕ) (loads : List Answer) (r : Report) → ReportOf way text loads r → All (λ (m : Moment). IsReplayed m.state) r }
+    ensures { (way : Way) (text : List ℕ) (loads : List Load) (r : Report) → ReportOf way text loads r → All (λ (m : Moment). IsReplayed m.state) r }
 {}
 
 /// Where a report says that a theorem is proved, it stands last in the state behind the command, and has a derivation.
 pub fn completions_are_derived()
-    ensures { (way : Way) (text name : List ℕ) (loads : List Answer) (r : Report) → ReportOf way text loads r
+    ensures { (way : Way) (text name : List ℕ) (loads : List Load) (r : Report) → ReportOf way text loads r
         → All (λ (m : Moment). m.reply ≡ completed name → IsProvedLast m.state.declarations name) r }
 {}

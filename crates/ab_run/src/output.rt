@@ -2,6 +2,7 @@
 ghost use Rattle.std.specs.Prelude.{◌≡◌, ◌≤◌, false, length, take, IfOk, IfSome, option_map};
 ghost use Rattle.ab_io.specs.Count.{Rose};
 ghost use Rattle.ab_lex.specs.PendingText.{SameRest};
+ghost use Rattle.ab_sigmod.specs.Outcomes.{seen};
 ghost use Rattle.ab_logic.specs.declared.world.World.{World as AWorld};
 ghost use Rattle.ab_states.specs.Reply.{SpeaksOfNoGoal, reply_of, is_refusal};
 ghost use Rattle.ab_blocks.specs.Blocks.{block};
@@ -68,10 +69,11 @@ fn next_reply<F: Files>(
     session: &mut Session,
 ) -> Result<Option<Reply>, AllocError>
     ensures replied { IfOk result (λ reply. RepliesNext (option_map (reply_of session.new.world) reply)
+        (seen (F.files files.old) (F.plan files.old) (F.faults files.old) (F.misses files.old) (F.long_files files.old))
+        (seen (F.files files.new) (F.plan files.new) (F.faults files.new) (F.misses files.new) (F.long_files files.new))
         (state_of session.old) (state_of session.new) splitter.old splitter.new) }
     ensures shown { IfOk result (λ reply. IfSome reply (SpeaksOfNoGoal session.new.world)) }
     ensures rest { SameRest splitter.old splitter.new }
-    ensures files { files.new ≡ files.old }
 {
     match splitter.next_command() {
         Next::More => Ok(None),
@@ -151,9 +153,10 @@ fn next_text<F: Files>(
     progress: &mut Progress,
 ) -> Result<Option<Vec<u8>>, AllocError>
     ensures answered { IfOk result (λ text. AnswersNext way (option_map (λ b. b.items) text)
+        (seen (F.files files.old) (F.plan files.old) (F.faults files.old) (F.misses files.old) (F.long_files files.old))
+        (seen (F.files files.new) (F.plan files.new) (F.faults files.new) (F.misses files.new) (F.long_files files.new))
         (standing_of progress.old) (standing_of progress.new) splitter.old splitter.new) }
     ensures rest { SameRest splitter.old splitter.new }
-    ensures files { files.new ≡ files.old }
 {
     match next_reply(files, splitter, &mut progress.session)? {
         None => Ok(None),
@@ -180,11 +183,12 @@ pub fn answer_ready<F: Files, O: Sink>(
 ) -> Result<(), WriteFault>
     requires { progress.old.ended ≡ false }
     ensures answered { AnsweredReady way result (O.written out.old) (O.written out.new)
+        (seen (F.files files.old) (F.plan files.old) (F.faults files.old) (F.misses files.old) (F.long_files files.old))
+        (seen (F.files files.new) (F.plan files.new) (F.faults files.new) (F.misses files.new) (F.long_files files.new))
         (standing_of progress.old) (standing_of progress.new) splitter.old splitter.new }
     ensures rest { SameRest splitter.old splitter.new }
     ensures failed { result ≡ Err WriteFault.Failed → Rose (O.faults out.old) (O.faults out.new) }
     ensures faults_never_fall { O.faults out.old ≤ O.faults out.new }
-    ensures files { files.new ≡ files.old }
 {
     'items: loop {
         match next_text(alloc, way, files, splitter, progress) {

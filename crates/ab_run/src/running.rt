@@ -1,8 +1,8 @@
 //! The top call: a run over a script, from the bytes in to the bytes out.
-ghost use Rattle.std.specs.Prelude.{◌≡◌, ◌≢◌, ◌<◌, ◌≤◌, ◌+◌, ℕ, List, Some, length, map, option_map, string_bytes, IfSome};
+ghost use Rattle.std.specs.Prelude.{◌≡◌, ◌≢◌, ◌<◌, ◌≤◌, ◌+◌, ℕ, List, Some, None, length, map, option_map, string_bytes, IfSome};
 ghost use Rattle.std.specs.List.{All};
 ghost use Rattle.ab_io.specs.Count.{Rose};
-ghost use Rattle.ab_io.specs.Loads.{Answer};
+ghost use Rattle.ab_sigmod.specs.FileLoads.{Load};
 ghost use Rattle.ab_sigmod.specs.Outcomes.{seen};
 ghost use Rattle.ab_line.specs.Lines.{origin_of, request_of_line};
 ghost use Rattle.ab_line.specs.Requests.{Request, request_of_words};
@@ -11,9 +11,9 @@ ghost use Rattle.ab_session.specs.Contents.{state_of};
 ghost use Rattle.ab_session.specs.SessionAnswers.{IsProvedLast};
 ghost use Rattle.ab_run.specs.ProvedTheorems.{AllDerived};
 ghost use Rattle.ab_run.specs.Report.{Moment, Report, ReportOf};
-ghost use Rattle.ab_run.specs.Ways.{IsFile, IsFileOf, IsInput, IsInputOf, way_of};
+ghost use Rattle.ab_run.specs.Ways.{IsInput, IsInputOf, way_of};
 ghost use Rattle.ab_run.specs.Outside.{outside};
-ghost use Rattle.ab_run.specs.Outcome.{EndedBy, IsReported, IsScript, Ran, RanAsAsked, RanFor};
+ghost use Rattle.ab_run.specs.Outcome.{EndedBy, IsReported, IsScript, Ran, RanAsAsked, RanFor, own_load};
 ghost use Rattle.ab_run.specs.Progress.{IsPlain, RanTo, beginning, standing_of};
 ghost use Rattle.ab_run.specs.declared.way.Way.{Way as AWay};
 
@@ -76,9 +76,10 @@ fn answer_input<F: Files, S: Source, O: Sink>(
     requires begins { standing_of progress.old ≡ beginning }
     requires plain { IsPlain way }
     ensures ran { RanTo way result (state_of progress.new.session)
-        (outside (S.left input.old) (O.written out.old) (S.faults input.old) (O.faults out.old))
-        (outside (S.left input.new) (O.written out.new) (S.faults input.new) (O.faults out.new)) }
-    ensures files { files.new ≡ files.old }
+        (outside (S.left input.old) (O.written out.old) (S.faults input.old) (O.faults out.old)
+        (seen (F.files files.old) (F.plan files.old) (F.faults files.old) (F.misses files.old) (F.long_files files.old)))
+        (outside (S.left input.new) (O.written out.new) (S.faults input.new) (O.faults out.new)
+        (seen (F.files files.new) (F.plan files.new) (F.faults files.new) (F.misses files.new) (F.long_files files.new))) }
 {
     let mut splitter = Splitter::new(alloc);
     let mut taken: u64 = 0;
@@ -115,9 +116,10 @@ fn run_input<F: Files, S: Source, O: Sink>(
 ) -> (Status, Option<Session>)
     requires { IsPlain way }
     ensures ran { Ran way result.0 (option_map state_of result.1)
-        (outside (S.left input.old) (O.written out.old) (S.faults input.old) (O.faults out.old))
-        (outside (S.left input.new) (O.written out.new) (S.faults input.new) (O.faults out.new)) }
-    ensures files { files.new ≡ files.old }
+        (outside (S.left input.old) (O.written out.old) (S.faults input.old) (O.faults out.old)
+        (seen (F.files files.old) (F.plan files.old) (F.faults files.old) (F.misses files.old) (F.long_files files.old)))
+        (outside (S.left input.new) (O.written out.new) (S.faults input.new) (O.faults out.new)
+        (seen (F.files files.new) (F.plan files.new) (F.faults files.new) (F.misses files.new) (F.long_files files.new))) }
 {
     let Ok(mut buffer) = vec![in alloc; 0u8; PIECE] else {
         return (Status::NoMemory, None);
@@ -165,12 +167,11 @@ fn run_line<F: Files, S: Source, O: Sink>(
     out: &mut O,
 ) -> (Status, Option<Session>)
     ensures ran { RanFor (way_of (request_of_line line.now)) (origin_of line.now.script) result.0 (option_map state_of result.1)
-        (outside (S.left input.old) (O.written out.old) (S.faults input.old) (O.faults out.old))
-        (outside (S.left input.new) (O.written out.new) (S.faults input.new) (O.faults out.new))
-        (seen (F.files files.old) (F.plan files.old) (F.faults files.old) (F.misses files.old) (F.long_files files.old))
-        (seen (F.files files.new) (F.plan files.new) (F.faults files.new) (F.misses files.new) (F.long_files files.new)) }
+        (outside (S.left input.old) (O.written out.old) (S.faults input.old) (O.faults out.old)
+        (seen (F.files files.old) (F.plan files.old) (F.faults files.old) (F.misses files.old) (F.long_files files.old)))
+        (outside (S.left input.new) (O.written out.new) (S.faults input.new) (O.faults out.new)
+        (seen (F.files files.new) (F.plan files.new) (F.faults files.new) (F.misses files.new) (F.long_files files.new))) }
     ensures unread { ¬ IsInputOf (origin_of line.now.script) → input.new ≡ input.old }
-    ensures files { ¬ IsFileOf (origin_of line.now.script) → files.new ≡ files.old }
 {
     let way = way_of(line);
     match line.script {
@@ -189,12 +190,12 @@ fn run_words<F: Files, S: Source, O: Sink>(
     out: &mut O,
 ) -> (Status, Option<Session>)
     ensures ran { RanAsAsked (request_of_words (map string_bytes words.now)) result.0 (option_map state_of result.1)
-        (outside (S.left input.old) (O.written out.old) (S.faults input.old) (O.faults out.old))
-        (outside (S.left input.new) (O.written out.new) (S.faults input.new) (O.faults out.new))
-        (seen (F.files files.old) (F.plan files.old) (F.faults files.old) (F.misses files.old) (F.long_files files.old))
-        (seen (F.files files.new) (F.plan files.new) (F.faults files.new) (F.misses files.new) (F.long_files files.new)) }
+        (outside (S.left input.old) (O.written out.old) (S.faults input.old) (O.faults out.old)
+        (seen (F.files files.old) (F.plan files.old) (F.faults files.old) (F.misses files.old) (F.long_files files.old)))
+        (outside (S.left input.new) (O.written out.new) (S.faults input.new) (O.faults out.new)
+        (seen (F.files files.new) (F.plan files.new) (F.faults files.new) (F.misses files.new) (F.long_files files.new))) }
     ensures unread { ¬ IsInput (request_of_words (map string_bytes words.now)) → input.new ≡ input.old }
-    ensures files { ¬ IsFile (request_of_words (map string_bytes words.now)) → files.new ≡ files.old }
+    ensures files { request_of_words (map string_bytes words.now) ≡ None → files.new ≡ files.old }
 {
     match read_line(alloc, words) {
         Ok(line) => run_line(alloc, &line, files, input, out),
@@ -217,21 +218,26 @@ pub fn run<F: Files, S: Source, O: Sink>(
 ) -> Ended
     // By what the line asks for and by the status: what was taken and printed, and the state that is handed out.
     ensures ran { EndedBy result.status (λ status. RanAsAsked (request_of_words (map string_bytes words.now)) status (option_map state_of result.session)
-        (outside (S.left input.old) (O.written out.old) (S.faults input.old) (O.faults out.old))
-        (outside (S.left input.new) (O.written out.new) (S.faults input.new) (O.faults out.new))
-        (seen (F.files files.old) (F.plan files.old) (F.faults files.old) (F.misses files.old) (F.long_files files.old))
-        (seen (F.files files.new) (F.plan files.new) (F.faults files.new) (F.misses files.new) (F.long_files files.new))) }
+        (outside (S.left input.old) (O.written out.old) (S.faults input.old) (O.faults out.old)
+        (seen (F.files files.old) (F.plan files.old) (F.faults files.old) (F.misses files.old) (F.long_files files.old)))
+        (outside (S.left input.new) (O.written out.new) (S.faults input.new) (O.faults out.new)
+        (seen (F.files files.new) (F.plan files.new) (F.faults files.new) (F.misses files.new) (F.long_files files.new)))) }
     ensures unread { ¬ IsInput (request_of_words (map string_bytes words.now)) → input.new ≡ input.old }
-    ensures unloaded { ¬ IsFile (request_of_words (map string_bytes words.now)) → files.new ≡ files.old }
+    // A line that is refused loads nothing.
+    ensures unloaded { request_of_words (map string_bytes words.now) ≡ None → files.new ≡ files.old }
 
-    // Where nothing failed, what is printed is that of the script's report, and the status is its status.
+    // Where the source and the sink didn't fail, nor the load of the script, what is printed is that of the script's report, by what
+    // the loads of its commands answer, and the status is its status.
     ensures reported { (q : Request) (text before : List ℕ) → request_of_words (map string_bytes words.now) ≡ Some q
         → IsScript q.origin text (S.left input.old) (F.files files.old) → O.written out.old ≡ Some before
-        → ¬ Rose (S.faults input.old) (S.faults input.new) → ¬ Rose (O.faults out.old) (O.faults out.new) → ¬ Rose (F.faults files.old) (F.faults files.new)
-        → result.status ≢ 5 → IsReported (way_of q) text before (option_map state_of result.session) (O.written out.new) result.status }
+        → ¬ Rose (S.faults input.old) (S.faults input.new) → ¬ Rose (O.faults out.old) (O.faults out.new)
+        → (result.status ≡ 3 → ¬ Rose (F.faults files.old) (F.faults files.new)) → result.status ≢ 5
+        → IsReported (way_of q) text before (option_map state_of result.session) (O.written out.new) result.status (own_load q.origin text)
+        (seen (F.files files.old) (F.plan files.old) (F.faults files.old) (F.misses files.old) (F.long_files files.old))
+        (seen (F.files files.new) (F.plan files.new) (F.faults files.new) (F.misses files.new) (F.long_files files.new)) }
 
     // Each theorem that a report says is proved, and each of the session that is handed out, has a derivation.
-    ensures proved { (way : AWay) (text name : List ℕ) (loads : List Answer) (r : Report) → ReportOf way text loads r
+    ensures proved { (way : AWay) (text name : List ℕ) (loads : List Load) (r : Report) → ReportOf way text loads r
         → All (λ (m : Moment). m.reply ≡ completed name → IsProvedLast m.state.declarations name) r }
     ensures theorems { IfSome (option_map state_of result.session) AllDerived }
 {

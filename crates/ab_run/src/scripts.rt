@@ -40,8 +40,9 @@ fn answer_text<F: Files, O: Sink>(
     out: &mut O,
 ) -> Status
     requires begins { standing_of progress.old ≡ beginning }
-    ensures ran { RanTextTo way text.now result (state_of progress.new.session) (O.written out.old) (O.written out.new) (O.faults out.old) (O.faults out.new) }
-    ensures files { files.new ≡ files.old }
+    ensures ran { RanTextTo way text.now result (state_of progress.new.session) (O.written out.old) (O.written out.new) (O.faults out.old) (O.faults out.new)
+        (seen (F.files files.old) (F.plan files.old) (F.faults files.old) (F.misses files.old) (F.long_files files.old))
+        (seen (F.files files.new) (F.plan files.new) (F.faults files.new) (F.misses files.new) (F.long_files files.new)) }
 {
     let mut splitter = Splitter::new(alloc);
     if let Err(_) = splitter.feed(text) {
@@ -71,8 +72,9 @@ fn run_text<F: Files, O: Sink>(
     files: &mut F,
     out: &mut O,
 ) -> (Status, Option<Session>)
-    ensures ran { RanText way text.now result.0 (option_map state_of result.1) (O.written out.old) (O.written out.new) (O.faults out.old) (O.faults out.new) }
-    ensures files { files.new ≡ files.old }
+    ensures ran { RanText way text.now result.0 (option_map state_of result.1) (O.written out.old) (O.written out.new) (O.faults out.old) (O.faults out.new)
+        (seen (F.files files.old) (F.plan files.old) (F.faults files.old) (F.misses files.old) (F.long_files files.old))
+        (seen (F.files files.new) (F.plan files.new) (F.faults files.new) (F.misses files.new) (F.long_files files.new)) }
 {
     let Ok(session) = Session::new(alloc) else {
         return (Status::NoMemory, None);
@@ -127,8 +129,9 @@ pub fn run_drill<F: Files, O: Sink>(
     files: &mut F,
     out: &mut O,
 ) -> (Status, Option<Session>)
-    ensures ran { RanDrill way size result.0 (option_map state_of result.1) (O.written out.old) (O.written out.new) (O.faults out.old) (O.faults out.new) }
-    ensures files { files.new ≡ files.old }
+    ensures ran { RanDrill way size result.0 (option_map state_of result.1) (O.written out.old) (O.written out.new) (O.faults out.old) (O.faults out.new)
+        (seen (F.files files.old) (F.plan files.old) (F.faults files.old) (F.misses files.old) (F.long_files files.old))
+        (seen (F.files files.new) (F.plan files.new) (F.faults files.new) (F.misses files.new) (F.long_files files.new)) }
 {
     match drill_script(alloc, size) {
         Ok(text) => run_text(alloc, way, &text, files, out),

@@ -16,7 +16,14 @@ struct Case {
 /// The file `a.thm`.
 static SCRIPT: &[u8] = b"Theorem t : true. search. split. Theorem u : true. search.";
 
-static CASES: [Case; 7] = [
+/// The file `s.thm`, and the two files of its specification.
+static SPECIFIED: &[u8] = b"Specification \"p\". Theorem t : {q a} -> {q a}. intros. search.";
+
+static SIGNATURE: &[u8] = b"sig p. kind i type. type a i. type q i -> o.";
+
+static MODULE: &[u8] = b"module p. q a.";
+
+static CASES: [Case; 10] = [
     Case {
         words: &["a.thm"],
         fails: &[],
@@ -59,9 +66,27 @@ static CASES: [Case; 7] = [
         status: 2,
         report: b"Usage: abella [-q] [--drill N] [--check-cert] [FILE]\n",
     },
+    Case {
+        words: &["-q", "s.thm"],
+        fails: &[4],
+        status: 0,
+        report: b"[4] Proof completed: t.\n",
+    },
+    Case {
+        words: &["s.thm"],
+        fails: &[2],
+        status: 1,
+        report: b"[0] Refused 19 FileFault p.sig\n",
+    },
+    Case {
+        words: &["s.thm"],
+        fails: &[3],
+        status: 1,
+        report: b"[0] Refused 19 FileFault p.mod\n",
+    },
 ];
 
-/// Whether the run ends so, where the file is there and the input is a script of its own.
+/// Whether the run ends so, where the files are there and the input is a script of its own.
 fn ends_so(alloc: Global, case: &Case) -> Result<bool, AllocError> {
     let mut words = Vec::new(alloc);
     words.push(String::from_str(alloc, "abella")?)?;
@@ -70,6 +95,9 @@ fn ends_so(alloc: Global, case: &Case) -> Result<bool, AllocError> {
     }
     let mut files = MemFiles::new(alloc, Vec::from_slice(alloc, case.fails)?);
     files.put("a.thm", Vec::from_slice(alloc, SCRIPT)?)?;
+    files.put("s.thm", Vec::from_slice(alloc, SPECIFIED)?)?;
+    files.put("p.sig", Vec::from_slice(alloc, SIGNATURE)?)?;
+    files.put("p.mod", Vec::from_slice(alloc, MODULE)?)?;
     let script = Vec::from_slice(alloc, b"Theorem w : true. search.")?;
     let mut input = MemSource::new(script, 5, Vec::new(alloc));
     let mut out = MemSink::new(alloc, Vec::new(alloc));

@@ -1,4 +1,5 @@
 use Rattle.std.proofs.Common.{◌≡◌, ◌||◌, if◌then◌else◌, sym, ap, ◌∙◌, subst}
+use Rattle.ab_sigmod.specs.Outcomes.{seen}
 use Rattle.ab_states.specs.Reply.{reply_of}
 use Rattle.ab_session.specs.Contents.{state_of}
 use Rattle.ab_run.specs.declared.output.Progress.{Progress}
@@ -12,14 +13,16 @@ returns-in_ok-shown_of-in-Some-clause-answered g c =
     let s = c.if-is_refusal.progress.session in
     let reply = reply_of s.world c.in-Some.reply in
     let before = c.args.progress.now in
-    let first : RepliesItem (reply_of c.next_reply.new.session.world c.in-Some.reply) (state_of before.session) (state_of c.next_reply.new.session) c.args.splitter.now c.next_reply.new.splitter = rw c.in-Some.is at c.in_ok-next_reply.ensures.replied in
+    let old = (seen (g.F.Files.files c.args.files.now) (g.F.Files.plan c.args.files.now) (g.F.Files.faults c.args.files.now) (g.F.Files.misses c.args.files.now) (g.F.Files.long_files c.args.files.now)) in
+    let new = (seen (g.F.Files.files c.next_reply.new.files) (g.F.Files.plan c.next_reply.new.files) (g.F.Files.faults c.next_reply.new.files) (g.F.Files.misses c.next_reply.new.files) (g.F.Files.long_files c.next_reply.new.files)) in
+    let first : RepliesItem (reply_of c.next_reply.new.session.world c.in-Some.reply) old new (state_of before.session) (state_of c.next_reply.new.session) c.args.splitter.now c.next_reply.new.splitter = rw c.in-Some.is at c.in_ok-next_reply.ensures.replied in
     let same : s ≡ c.next_reply.new.session =
     elim c.if-is_refusal.branch [
       | then-is_refusal w ↦ ap (λ (z : Progress). z.session) w.progress-is
       | else-is_refusal w ↦ ap (λ (z : Progress). z.session) w.progress-is
     ] in
-    let h : RepliesItem reply (state_of before.session) (state_of s) c.args.splitter.now c.next_reply.new.splitter =
-    subst (λ x. RepliesItem (reply_of x.world c.in-Some.reply) (state_of before.session) (state_of x) c.args.splitter.now c.next_reply.new.splitter) (sym same) first in
+    let h : RepliesItem reply old new (state_of before.session) (state_of s) c.args.splitter.now c.next_reply.new.splitter =
+    subst (λ x. RepliesItem (reply_of x.world c.in-Some.reply) old new (state_of before.session) (state_of x) c.args.splitter.now c.next_reply.new.splitter) (sym same) first in
     let kept : c.if-is_refusal.progress.ended ≡ before.ended =
     elim c.if-is_refusal.branch [
       | then-is_refusal w ↦ ap (λ (z : Progress). z.ended) w.progress-is
@@ -43,6 +46,7 @@ returns-in_ok-shown_of-in-Some-clause-answered g c =
     record {
       item = h.item;
       loads = h.loads;
+      asked = h.asked;
       reply = reply;
       replies = h.replies;
       accepted_is = accepted;

@@ -26,7 +26,7 @@ returns-clause-reported g c =
     let after = seen (g.F.Files.files files') (g.F.Files.plan files') (g.F.Files.faults files') (g.F.Files.misses files') (g.F.Files.long_files files') in
     λ q text front e s o r w f m.
     asked_reported status handed left left' out out' reads reads' writes writes' text front c.number.result c.number.ensures o r w m
-    (way_of q) q.origin before after s f (subst (λ x. RanAsAsked x status handed (outside left out reads writes) (outside left' out' reads' writes') before after) e c.run_words-status.ensures.ran)
+    (way_of q) q.origin before after s f (subst (λ x. RanAsAsked x status handed (outside left out reads writes before) (outside left' out' reads' writes' after)) e c.run_words-status.ensures.ran)
 
 pub returns-clause-proved : goal.returns-clause-proved
 returns-clause-proved g c = λ way text name loads r x. all_borne_out name x.reports
