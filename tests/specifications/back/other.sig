@@ -1,0 +1,3 @@
+sig other.
+kind nat type.
+type z nat.

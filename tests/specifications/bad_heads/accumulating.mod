@@ -1,0 +1,3 @@
+module accumulating.
+p X.
+accumulate second.

@@ -1,0 +1,2 @@
+sig accumulating.
+accum_sig second.

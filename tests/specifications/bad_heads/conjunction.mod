@@ -1,0 +1,3 @@
+module conjunction.
+p.
+p & p.

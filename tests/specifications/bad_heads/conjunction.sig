@@ -1,0 +1,2 @@
+sig conjunction.
+type p o.

@@ -1,0 +1,4 @@
+module second.
+p X.
+p X :- p X.
+pi x\ p x.

@@ -1,0 +1,3 @@
+sig second.
+kind i type.
+type p i -> o.

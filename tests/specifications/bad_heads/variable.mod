@@ -1,0 +1,2 @@
+module variable.
+X :- p.

@@ -1,0 +1,2 @@
+sig variable.
+type p o.

@@ -1,0 +1,2 @@
+module early.
+p a.

@@ -1,0 +1,4 @@
+sig early.
+type a i.
+type p i -> o.
+accum_sig other.

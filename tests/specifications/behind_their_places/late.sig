@@ -1,0 +1,3 @@
+sig late.
+type a i.
+accum_sig missing.

@@ -1,0 +1,2 @@
+sig other.
+type b i.

@@ -1,0 +1,2 @@
+sig a.
+accum_sig a, none.

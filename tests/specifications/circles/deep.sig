@@ -1,0 +1,2 @@
+sig deep.
+accum_sig two.

@@ -1,0 +1,2 @@
+module half.
+accumulate half.

@@ -1,0 +1,3 @@
+sig own.
+kind i type.
+accum_sig own.

@@ -1,0 +1,2 @@
+module third.
+accumulate modules.

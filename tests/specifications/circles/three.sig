@@ -1,0 +1,3 @@
+sig three.
+kind i type.
+accum_sig two.

@@ -1,0 +1,2 @@
+sig two.
+accum_sig three.

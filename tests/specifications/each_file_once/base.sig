@@ -1,0 +1,3 @@
+sig base.
+kind i type.
+type a i.

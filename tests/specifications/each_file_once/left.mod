@@ -1,0 +1,3 @@
+module left.
+accumulate base.
+p a.

@@ -1,0 +1,3 @@
+sig left.
+accum_sig base.
+type p i -> o.

@@ -1,0 +1,3 @@
+module right.
+accumulate base.
+q a.

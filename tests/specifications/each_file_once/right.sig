@@ -1,0 +1,3 @@
+sig right.
+accum_sig base.
+type q i -> o.

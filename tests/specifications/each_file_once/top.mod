@@ -1,0 +1,2 @@
+module top.
+accumulate left, right, base.

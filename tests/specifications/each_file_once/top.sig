@@ -1,0 +1,2 @@
+sig top.
+accum_sig left, right.

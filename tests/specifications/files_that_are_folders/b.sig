@@ -1,0 +1,2 @@
+sig b.
+accum_sig folder.

@@ -1,0 +1,2 @@
+module a.
+p a.

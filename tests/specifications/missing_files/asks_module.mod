@@ -1,0 +1,2 @@
+module asks_module.
+accumulate half.

@@ -1,0 +1,3 @@
+sig asks_signature.
+kind i type.
+accum_sig half, none.

@@ -1,0 +1,2 @@
+sig half.
+kind i type.

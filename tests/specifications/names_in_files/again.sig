@@ -1,0 +1,3 @@
+sig again.
+kind i type.
+kind i type.

@@ -1,0 +1,3 @@
+module clauses.
+p a.
+p b.

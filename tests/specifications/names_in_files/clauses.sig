@@ -1,0 +1,4 @@
+sig clauses.
+kind i type.
+type a i.
+type p i -> o.

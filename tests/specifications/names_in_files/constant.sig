@@ -1,0 +1,4 @@
+sig constant.
+kind i type.
+type a i.
+type i, a i.

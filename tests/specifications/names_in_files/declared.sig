@@ -1,0 +1,3 @@
+sig declared.
+type b i.
+type a i.

@@ -1,0 +1,3 @@
+sig types.
+kind i type.
+type a i -> j.

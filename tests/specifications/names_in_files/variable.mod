@@ -1,0 +1,3 @@
+module variable.
+p X.
+p n1.

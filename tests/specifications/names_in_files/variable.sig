@@ -1,0 +1,3 @@
+sig variable.
+kind i type.
+type p i -> o.

@@ -1,0 +1,3 @@
+module more.
+q a.
+q b :- q a.

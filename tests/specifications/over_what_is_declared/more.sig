@@ -1,0 +1,3 @@
+sig more.
+type b i.
+type q i -> o.

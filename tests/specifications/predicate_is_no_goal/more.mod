@@ -1,0 +1,2 @@
+module more.
+q a :- p a.

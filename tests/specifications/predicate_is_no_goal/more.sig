@@ -1,0 +1,2 @@
+sig more.
+type q i -> o.

@@ -1,0 +1,2 @@
+module p.
+p a.

@@ -1,0 +1,3 @@
+module wrong.
+is_nat z.
+is_nat zz.

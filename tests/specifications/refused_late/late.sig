@@ -1,0 +1,3 @@
+sig late.
+accum_sig nat.
+type q nat -> o.

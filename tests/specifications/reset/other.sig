@@ -1,0 +1,2 @@
+sig other.
+kind nat type.

@@ -1,0 +1,2 @@
+module accumulates.
+accum_sig a.

@@ -1,0 +1,3 @@
+sig byte.
+kind i type.
+type a $ i.

@@ -1,0 +1,2 @@
+module clause.
+p a :- .

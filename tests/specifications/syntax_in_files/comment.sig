@@ -1,0 +1,2 @@
+sig comment.
+/* kind i type.

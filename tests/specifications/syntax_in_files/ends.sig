@@ -1,0 +1,2 @@
+sig ends.
+kind i type

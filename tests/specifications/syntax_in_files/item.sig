@@ -1,0 +1,3 @@
+sig item.
+kind i type.
+p a.

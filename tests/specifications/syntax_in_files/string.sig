@@ -1,0 +1,2 @@
+sig string.
+type a "i.

@@ -1,0 +1,1 @@
+kind i type.

@@ -1,0 +1,3 @@
+module clash.
+p X.
+p a.

@@ -1,0 +1,2 @@
+module goal.
+p a :- a.

@@ -1,0 +1,4 @@
+sig goal.
+kind i type.
+type a i.
+type p i -> o.

@@ -1,0 +1,2 @@
+module open.
+p :- pi x\ pi y\ x = y.

@@ -1,0 +1,3 @@
+sig result.
+kind i type.
+type p i -> prop.

@@ -1,0 +1,3 @@
+module open.
+p.
+p :- pi x\ p.

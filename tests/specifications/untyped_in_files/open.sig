@@ -1,0 +1,3 @@
+sig open.
+kind i type.
+type p o.

@@ -1,0 +1,3 @@
+module two.
+p.
+pi x\ p.

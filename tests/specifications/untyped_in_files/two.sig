@@ -1,0 +1,3 @@
+sig two.
+kind i type.
+type p o.

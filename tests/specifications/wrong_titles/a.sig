@@ -1,0 +1,2 @@
+sig b.
+kind i type.

@@ -1,0 +1,2 @@
+sig c.
+accum_sig a.

@@ -1,0 +1,2 @@
+sig e.
+$ no item

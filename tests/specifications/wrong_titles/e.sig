@@ -1,0 +1,2 @@
+sig f.
+kind .
