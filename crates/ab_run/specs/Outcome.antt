@@ -81,7 +81,7 @@ IsLastLine taken reads reads' line =
     ((line ≡ last_line ending.read_fault) × Rose reads reads') ⊎ ((line ≡ last_line ending.too_long) × (length taken ≡ MAX_INPUT + 1))
 
 -- what it has done, by its status: how the bytes taken, what stands outside before and after, and the state that is handed out lie;
--- where there was no memory, what is told of the files behind the last command that was answered is somewhere between these
+-- where there was no memory, the loads are those up to the last command that was answered, and of later ones nothing is told
 abbrev pub RanOver : Way → Status → List ℕ → Option State → Outside → Outside → Type 0
 RanOver way ReadFault taken handed o o' =
     (length taken ≤ MAX_INPUT) × Rose o.reads o'.reads × WroteReport way taken (last_line ending.read_fault) handed o.written o'.written o.files o'.files
