@@ -7,12 +7,6 @@ mod certificates;
 #[cfg(test)]
 mod documents;
 #[cfg(test)]
-mod drills;
-#[cfg(test)]
-mod lines;
-#[cfg(test)]
 mod names;
-#[cfg(test)]
-mod specifications;
 #[cfg(test)]
 mod streams;

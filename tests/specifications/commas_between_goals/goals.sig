@@ -1,0 +1,4 @@
+sig goals.
+kind i type.
+type p, q, r o.
+type all (i -> o) -> o.

@@ -1,0 +1,2 @@
+module inside.
+p (q, r).

@@ -1,0 +1,3 @@
+sig inside.
+type q, r o.
+type p o -> o.

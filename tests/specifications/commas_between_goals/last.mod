@@ -1,0 +1,2 @@
+module last.
+p :- q,.

@@ -1,0 +1,2 @@
+sig last.
+type p, q o.

@@ -1,0 +1,2 @@
+sig good.
+kind k type.

@@ -1,0 +1,2 @@
+sig kinds.
+kind i. kind

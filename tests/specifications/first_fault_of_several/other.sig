@@ -1,0 +1,3 @@
+sig other.
+accum_sig good.
+kind I type.

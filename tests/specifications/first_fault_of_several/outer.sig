@@ -1,0 +1,3 @@
+sig outer.
+accum_sig inner.
+kind I type.
