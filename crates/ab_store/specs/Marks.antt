@@ -1,6 +1,12 @@
 -- Marks: how many bindings, nodes and cells a store had. What a mark counts is the store as it was when it was made,
 -- and growth, bindings and what is taken back down to that mark leave it so.
-use Rattle.std.specs.Prelude.{◌≡◌, ◌<◌, ◌≤◌, length, take, All}
+use Rattle.std.specs.Prelude.{◌≡◌, ℕ, suc, ◌<◌, ◌≤◌, [], max, length, take, All, Option, Some, None, option_map, unwrap_or}
+use Rattle.ab_store.specs.declared.node.TermId.{TermId}
+use Rattle.ab_store.specs.declared.node.CellId.{CellId}
+use Rattle.ab_store.specs.declared.node.Head.{Head}
+use Rattle.ab_store.specs.declared.node.Head.TheVariants.{Cell, Index}
+use Rattle.ab_store.specs.declared.node.Node.{Node}
+use Rattle.ab_store.specs.declared.node.Node.TheVariants.{Lam, Spine}
 use Rattle.ab_store.specs.declared.mark.Mark.{Mark}
 use Rattle.ab_store.specs.Trees.{Contents}
 use Rattle.ab_store.specs.Naming.{NodesNameEarlier}
@@ -31,3 +37,27 @@ IsNoLater k m = (k.bindings ≤ m.bindings) × (k.nodes ≤ m.nodes) × (k.cells
 pub record KeepsMark (old new : Contents) (m : Mark) : Type 0 where
   pub has : HasMark new m
   pub same : at_mark new m ≡ at_mark old m
+
+-- the mark, or else the first behind it that counts the term
+abbrev pub to_term : Mark → TermId → Mark
+to_term m t = record { bindings = m.bindings; nodes = max m.nodes (suc t.0); cells = m.cells }
+
+-- the same for a cell
+abbrev pub to_cell : Mark → CellId → Mark
+to_cell m c = record { bindings = m.bindings; nodes = m.nodes; cells = max m.cells (suc c.0) }
+
+-- the cell that a node's head is, if it is one
+abbrev pub cell_as_head : Head → Option CellId
+cell_as_head (Cell c) = Some c
+cell_as_head _ = None
+
+abbrev pub cell_in_node : Node → Option CellId
+cell_in_node (Lam a x t) = None
+cell_in_node (Spine h ts) = cell_as_head h
+
+-- how many cells a mark has to count so that it counts that one
+abbrev pub cells_in_node : Node → ℕ
+cells_in_node n = unwrap_or (option_map (λ (c : CellId). suc c.0) (cell_in_node n)) 0
+
+abbrev pub no_node : Node
+no_node = Spine (Index 0) []

@@ -1,5 +1,6 @@
 //! The numbers of terms and cells, and the nodes of terms.
 ghost use Rattle.std.specs.Prelude.{◌≡◌, IfOk};
+ghost use Rattle.ab_store.specs.Marks.{cell_in_node};
 
 use crate::list::Arguments;
 use ab_types::name::Name;
@@ -89,6 +90,19 @@ pub enum Node {
 }
 
 impl Node {
+    /// The cell that the node's head is, if it is one.
+    pub(crate) fn cell(&self) -> Option<CellId>
+        ensures { result ≡ cell_in_node self.now }
+    {
+        match self {
+            Node::Lam(_, _, _) => None,
+            Node::Spine(head, _) => match *head {
+                Head::Cell(cell) => Some(cell),
+                _ => None,
+            },
+        }
+    }
+
     /// The same node again.
     pub fn copy(&self, alloc: Global) -> Result<Node, AllocError>
         ensures { IfOk result (λ node. node ≡ self.now) }

@@ -1,5 +1,5 @@
 //! A store of terms.
-ghost use Rattle.std.specs.Prelude.{◌≡◌, ℕ, ◌+◌, ◌-◌, ◌≤◌, ◌<◌, [], ◌∷◌, ◌++◌, length, map, take, IfOk, OnOk, OnErr, List, None, false, ◌↔◌, All};
+ghost use Rattle.std.specs.Prelude.{◌≡◌, ◌⊎◌, get_or, ℕ, ◌+◌, ◌-◌, ◌≤◌, ◌<◌, [], ◌∷◌, ◌++◌, length, map, take, IfOk, OnOk, OnErr, List, None, false, ◌↔◌, All};
 ghost use Rattle.ab_term.specs.Types.{Ty};
 ghost use Rattle.ab_term.specs.Terms.{lam, spine, terms_of};
 ghost use Rattle.ab_term.specs.Reach as tree;
@@ -11,7 +11,7 @@ ghost use Rattle.ab_store.specs.Trees.{Contents, Holds, HoldsCell, cell_of, tree
 ghost use Rattle.ab_store.specs.Reading.{same_number, binding_of, cell_variable, pairs, reading, given, node_reading};
 ghost use Rattle.ab_store.specs.Bindings.{StandsIn, IsUnbound, IsResolved, AreInOrder};
 ghost use Rattle.ab_store.specs.Growth.{IsExtendedBy};
-ghost use Rattle.ab_store.specs.Marks.{HasMark, KeepsMark, IsNoLater, at_mark};
+ghost use Rattle.ab_store.specs.Marks.{HasMark, KeepsMark, IsNoLater, at_mark, to_term, to_cell, cells_in_node, no_node};
 ghost use Rattle.ab_store.specs.Naming.{HoldsHead, NodeNames, HeadIsTyped, NodeIsTyped, IsTypedBy, IsTerm};
 ghost use Rattle.ab_store.specs.Layout.{HoldOf, HoldOfAll};
 
@@ -225,6 +225,61 @@ impl Store {
             nodes: self.entries.len(),
             cells: self.slots.len(),
         }
+    }
+
+    /// The mark, or a later one where it takes one to count the term.
+    pub fn mark_to_term(&self, mark: Mark, term: TermId) -> Mark
+        requires { Holds self.now term }
+        ensures { result ≡ to_term mark term }
+    {
+        if mark.nodes <= term.0 && term.0 < self.entries.len() {
+            Mark {
+                bindings: mark.bindings,
+                nodes: term.0 + 1,
+                cells: mark.cells,
+            }
+        } else {
+            mark
+        }
+    }
+
+    /// The mark, or a later one where it takes one to count the cell.
+    pub fn mark_to_cell(&self, mark: Mark, cell: CellId) -> Mark
+        requires { HoldsCell self.now cell }
+        ensures { result ≡ to_cell mark cell }
+    {
+        if mark.cells <= cell.0 && cell.0 < self.slots.len() {
+            Mark {
+                bindings: mark.bindings,
+                nodes: mark.nodes,
+                cells: cell.0 + 1,
+            }
+        } else {
+            mark
+        }
+    }
+
+    /// The second mark, or a later one where it takes one to count the cells that its nodes name: those of the first mark are
+    /// known to name only cells that it counts.
+    pub fn mark_whole(&self, first: &Mark, second: Mark) -> Mark
+        requires first { HasMark self.now first.now }
+        requires later { IsNoLater first.now second }
+        requires bindings { second.bindings ≡ first.now.bindings }
+        requires nodes { second.nodes ≤ length self.now.nodes }
+        requires cells { second.cells ≤ length self.now.cells }
+        ensures has { HasMark self.now result }
+        ensures bindings { result.bindings ≡ second.bindings }
+        ensures nodes { result.nodes ≡ second.nodes }
+        ensures cells { second.cells ≤ result.cells }
+        ensures least { (result.cells ≡ second.cells) ⊎ (n : ℕ) × (n < second.nodes) × (cells_in_node (get_or self.now.nodes n no_node) ≡ result.cells) }
+    {
+        let mut mark = second;
+        for place in first.nodes..second.nodes {
+            if let Some(cell) = self.entries[place].node.cell() {
+                mark = self.mark_to_cell(mark, cell);
+            }
+        }
+        mark
     }
 
     /// Undoes the bindings made since the mark, and counts a step for each. Nodes and cells stay, and so does the room
