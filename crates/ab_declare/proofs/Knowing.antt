@@ -29,7 +29,7 @@ kinds_in-append (a_kind k ∷ D) E = ap (λ ks. k ∷ ks) (kinds_in-append D E)
 kinds_in-append (a_constant c A ∷ D) E = kinds_in-append D E
 kinds_in-append (a_block b ∷ D) E = kinds_in-append D E
 kinds_in-append (a_program_clause c ∷ D) E = kinds_in-append D E
-kinds_in-append (a_theorem n F ∷ D) E = kinds_in-append D E
+kinds_in-append (a_theorem n F js ∷ D) E = kinds_in-append D E
 
 kinds_split : (k : ℕ) (xs : Table) → kinds (take k xs) ++ kinds (drop k xs) ≡ kinds xs
 kinds_split k xs = sym (kinds-append (take k xs) (drop k xs)) ∙ ap kinds (take-append-drop k xs)

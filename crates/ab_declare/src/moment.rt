@@ -11,9 +11,9 @@ use ab_norm::types::Steps;
 /// How many types, terms, cells and declarations a world held.
 #[derive(Clone, Copy)]
 pub struct Moment {
-    pub(crate) types: usize,
-    pub(crate) mark: Mark,
-    pub(crate) additions: usize,
+    pub types: usize,
+    pub mark: Mark,
+    pub additions: usize,
 }
 
 impl Moment {

@@ -241,7 +241,8 @@ effect D l (command.cut H K) s = not_built
 effect D l (command.inst H is) s = not_built
 effect D l (command.monotone H e) s = not_built
 effect D l (command.search n) s = not_built
-effect D l command.skip s = not_built
+effect D l command.skip s =
+    leads []
 effect D l command.unfold_goal s =
     finds wrong_shape (defined_atom D s.conclusion) (λ d.
     marked_so (MayBeUnfolded d.sign) (

@@ -18,7 +18,7 @@ use Rattle.ab_formulas.specs.Marks.{star_of, plus_of}
 use Rattle.ab_theory.specs.Conjuncts.{conjuncts}
 use Rattle.ab_theory.specs.Induction.{marked_antecedents, marked_consequents}
 use Rattle.ab_theory.specs.Levels.{next_level, inductive_level, coinductive_level}
-use Rattle.ab_theory.specs.Steps.{Step, initial, true_right, false_left, and_right, and_left, or_right, or_left, arrow_right, arrow_left, for_all_right, for_all_left, exists_right, exists_left, nabla_right, nabla_left, equal_right, equal_left, definition_right, definition_left, induction, coinduction, cut_formula, use_theorem, weaken, spec_cut, spec_instance, spec_monotone}
+use Rattle.ab_theory.specs.Steps.{Step, initial, true_right, false_left, and_right, and_left, or_right, or_left, arrow_right, arrow_left, for_all_right, for_all_left, exists_right, exists_left, nabla_right, nabla_left, equal_right, equal_left, definition_right, definition_left, induction, coinduction, cut_formula, use_theorem, weaken, spec_cut, spec_instance, spec_monotone, skip}
 use Rattle.ab_theory.specs.Rules.{Making, Raises, hint_of, row, any_name, by_hint}
 use Rattle.ab_theory.proofs.One.{some_name}
 use Rattle.ab_existence.specs.Certainty.{IsCertain}
@@ -74,6 +74,7 @@ module _ (D : Declarations) (new : Making) (Room : ℕ → Sequent → Type 0)
   has_answers (spec_cut H K l) s room = λ none. absurd none
   has_answers (spec_instance H r l) s room = λ none. absurd none
   has_answers (spec_monotone H K l) s room = λ none. absurd none
+  has_answers skip s room = tt
 
   pub step_answered : (step : Step) (s : Sequent) → Needs step s → IsCertain (Answer (row D new step s))
   step_answered step s room = answer_there (row D new step s) (has_answers step s room)

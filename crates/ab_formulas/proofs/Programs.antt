@@ -9,4 +9,4 @@ program_in-append (a_kind k ∷ D) E = program_in-append D E
 program_in-append (a_constant c A ∷ D) E = program_in-append D E
 program_in-append (a_block b ∷ D) E = program_in-append D E
 program_in-append (a_program_clause c ∷ D) E = ap (λ cs. c ∷ cs) (program_in-append D E)
-program_in-append (a_theorem n F ∷ D) E = program_in-append D E
+program_in-append (a_theorem n F js ∷ D) E = program_in-append D E

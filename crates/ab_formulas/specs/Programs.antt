@@ -23,7 +23,7 @@ program_in (a_program_clause c ∷ ds) = c ∷ program_in ds
 program_in (a_kind k ∷ ds) = program_in ds
 program_in (a_constant c A ∷ ds) = program_in ds
 program_in (a_block b ∷ ds) = program_in ds
-program_in (a_theorem n F ∷ ds) = program_in ds
+program_in (a_theorem n F js ∷ ds) = program_in ds
 
 -- the goal of a clause, where it has one
 abbrev pub goals_in : Read → List Read

@@ -155,7 +155,7 @@ module _ (w v : World) (more : Table) (grown : v.types ≡ w.types ++ more)
       ∙ ap (λ cs. defined (record { inductive = b.inductive; predicates = map (name_of w.types) b.predicates; clauses = cs })) (same_clauses b.clauses k.clauses)
 
   same_addition : (what : Addition) → IsKept w.types w.store what → declaration_of v what ≡ declaration_of w what
-  same_addition (Theorem e) k = ap (a_theorem e.name) (reads e.formula k)
+  same_addition (Theorem e) k = ap (λ F. a_theorem e.name F e.assumed) (reads e.formula k)
   same_addition (Definition b) k = ap a_block (same_definition b k)
   same_addition (Clause c) k = ap (λ d. a_program_clause (case_of d)) (same_clause c k.held)
 

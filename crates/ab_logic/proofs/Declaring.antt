@@ -8,8 +8,9 @@ use Rattle.ab_store.specs.ab_types.specs.Entries as table
 use Rattle.ab_store.specs.ab_types.specs.Entries.{Table}
 use Rattle.ab_store.specs.ab_types.proofs.Entries.{constants-append}
 use Rattle.ab_term.specs.Terms.{Read}
-use Rattle.ab_formulas.specs.Declarations.{Declarations, a_kind, a_constant, constants_in, theorem_in, theorems_in, block_in, HaveSentences, HaveDefinitions}
-use Rattle.ab_logic.specs.Additions.{entry_or, entry_in, entries_with, entries_of}
+use Rattle.ab_formulas.specs.Declarations.{Declarations, a_kind, a_constant, constants_in, theorem_in, theorems_in, assumed_in, assumptions_in, block_in, HaveSentences, HaveDefinitions}
+use Rattle.ab_formulas.proofs.TheoremPlaces.{of_first, assumed_in-append, assumptions_in-append}
+use Rattle.ab_logic.specs.Additions.{entry_or, entry_in, entries_with, entries_of, places_in}
 use Rattle.ab_logic.specs.Worlds.{read, declared, declaration_of, declared_from, CameInOrder}
 use Rattle.ab_logic.specs.declared.world.World.{World}
 use Rattle.ab_logic.specs.declared.additions.Added.{Added}
@@ -43,6 +44,18 @@ theorem-declared [] name = refl
 theorem-declared (table.a_kind k ∷ s) name = theorem-declared s name
 theorem-declared (table.a_type A ∷ s) name = theorem-declared s name
 theorem-declared (table.a_constant c ∷ s) name = theorem-declared s name
+
+pub assumptions-declared : (s : Table) → assumptions_in (declared s) ≡ []
+assumptions-declared [] = refl
+assumptions-declared (table.a_kind k ∷ s) = assumptions-declared s
+assumptions-declared (table.a_type A ∷ s) = assumptions-declared s
+assumptions-declared (table.a_constant c ∷ s) = assumptions-declared s
+
+pub assumed-declared : (s : Table) (name : List ℕ) → assumed_in (declared s) name ≡ []
+assumed-declared [] name = refl
+assumed-declared (table.a_kind k ∷ s) name = assumed-declared s name
+assumed-declared (table.a_type A ∷ s) name = assumed-declared s name
+assumed-declared (table.a_constant c ∷ s) name = assumed-declared s name
 
 pub block-declared : (s : Table) (p : List ℕ) → block_in (declared s) p ≡ None
 block-declared [] p = refl
@@ -84,6 +97,25 @@ theorem_found w done (a ∷ xs) name =
     one (Definition b) rest = rest
     one (AClause c) rest = rest
 
+pub assumed_found : (w : World) (done : ℕ) (xs : List Added) (name : List ℕ) → assumed_in (declared_from w done xs) name ≡ places_in (entry_in xs name)
+assumed_found w done [] name = assumed-declared (drop done w.types) name
+assumed_found w done (a ∷ xs) name =
+    let front = declared (take (a.before - done) (drop done w.types)) in
+    assumed_in-append front (declaration_of w a.what ∷ declared_from w a.before xs) name
+    ∙ ap (λ o. of_first o (assumed_in front name) (assumed_in (declaration_of w a.what ∷ declared_from w a.before xs) name)) (theorem-declared (take (a.before - done) (drop done w.types)) name)
+    ∙ one a.what (assumed_found w a.before xs name)
+  where
+    test : (e : TheoremEntry) (b : Bool) → assumed_in (declared_from w a.before xs) name ≡ places_in (entry_in xs name)
+        → (if b then e.assumed else assumed_in (declared_from w a.before xs) name) ≡ places_in (if b then Some e else entry_in xs name)
+    test e true rest = refl
+    test e false rest = rest
+
+    one : (what : Addition) → assumed_in (declared_from w a.before xs) name ≡ places_in (entry_in xs name)
+        → assumed_in (declaration_of w what ∷ declared_from w a.before xs) name ≡ places_in (entry_or what name (entry_in xs name))
+    one (Theorem e) rest = test e (bytes_eq name e.name) rest
+    one (Definition b) rest = rest
+    one (AClause c) rest = rest
+
 abbrev pub shown : World → TheoremEntry → List ℕ × Read
 shown w e = (e.name, read w e.formula)
 
@@ -97,6 +129,22 @@ theorems_are w done (a ∷ xs) =
     one : (what : Addition) → theorems_in (declared_from w a.before xs) ≡ map (shown w) (entries_of xs)
         → theorems_in (declaration_of w what ∷ declared_from w a.before xs) ≡ map (shown w) (entries_with what (entries_of xs))
     one (Theorem e) rest = ap (λ ts. shown w e ∷ ts) rest
+    one (Definition b) rest = rest
+    one (AClause c) rest = rest
+
+abbrev pub kept_places : TheoremEntry → List ℕ
+kept_places e = e.assumed
+
+pub assumptions_are : (w : World) (done : ℕ) (xs : List Added) → assumptions_in (declared_from w done xs) ≡ map kept_places (entries_of xs)
+assumptions_are w done [] = assumptions-declared (drop done w.types)
+assumptions_are w done (a ∷ xs) =
+    assumptions_in-append (declared (take (a.before - done) (drop done w.types))) (declaration_of w a.what ∷ declared_from w a.before xs)
+    ∙ ap (λ l. l ++ assumptions_in (declaration_of w a.what ∷ declared_from w a.before xs)) (assumptions-declared (take (a.before - done) (drop done w.types)))
+    ∙ one a.what (assumptions_are w a.before xs)
+  where
+    one : (what : Addition) → assumptions_in (declared_from w a.before xs) ≡ map kept_places (entries_of xs)
+        → assumptions_in (declaration_of w what ∷ declared_from w a.before xs) ≡ map kept_places (entries_with what (entries_of xs))
+    one (Theorem e) rest = ap (λ l. kept_places e ∷ l) rest
     one (Definition b) rest = rest
     one (AClause c) rest = rest
 

@@ -144,8 +144,8 @@ pub grows_theorem : (w : World) (e : TheoremEntry) (before : ℕ) → IsWorld w 
     → Grows w (record { types = w.types; store = w.store; additions = w.additions ++ record { what = Theorem e; before = before } ∷ [] })
 grows_theorem w e before is last held sentence =
     grows_added w (record { what = Theorem e; before = before }) is last held
-    (sentences_added (declarations_of w) e.name (read w e.formula) is.sentences sentence)
-    (definitions_added (declarations_of w) e.name (read w e.formula) is.definitions)
+    (sentences_added (declarations_of w) e.name (read w e.formula) e.assumed is.sentences sentence)
+    (definitions_added (declarations_of w) e.name (read w e.formula) e.assumed is.definitions)
 
 pub same_constants : (w : World) → IsWorld w → signature w.types ≡ signature_in (declarations_of w)
 same_constants w is = ap table.type_in (sym (constants_are w 0 w.additions is.order))

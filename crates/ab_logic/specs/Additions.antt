@@ -23,6 +23,11 @@ abbrev pub entry_in : List Added → List ℕ → Option TheoremEntry
 entry_in [] name = None
 entry_in (a ∷ xs) name = entry_or a.what name (entry_in xs name)
 
+-- the places that the theorem assumes, if there is one
+abbrev pub places_in : Option TheoremEntry → List ℕ
+places_in None = []
+places_in (Some e) = e.assumed
+
 abbrev pub entries_with : Addition → List TheoremEntry → List TheoremEntry
 entries_with (Theorem e) rest = e ∷ rest
 entries_with (Definition b) rest = rest

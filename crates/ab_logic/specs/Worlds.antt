@@ -63,7 +63,7 @@ clause_read w c = case_of (clause_of w.types w.store c)
 
 -- what is added, as it is declared
 abbrev pub declaration_of : World → Addition → Declaration
-declaration_of w (Theorem e) = a_theorem e.name (read w e.formula)
+declaration_of w (Theorem e) = a_theorem e.name (read w e.formula) e.assumed
 declaration_of w (Definition b) = a_block (definition_of w b)
 declaration_of w (Clause c) = a_program_clause (clause_read w c)
 
@@ -84,7 +84,7 @@ count_added (a_kind k ∷ ds) = count_added ds
 count_added (a_constant c A ∷ ds) = count_added ds
 count_added (a_block b ∷ ds) = suc (count_added ds)
 count_added (a_program_clause c ∷ ds) = suc (count_added ds)
-count_added (a_theorem n F ∷ ds) = suc (count_added ds)
+count_added (a_theorem n F js ∷ ds) = suc (count_added ds)
 
 -- what a new world declares: its table's entries, and `member`
 abbrev pub member_block : Block

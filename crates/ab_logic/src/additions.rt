@@ -2,9 +2,10 @@
 ghost use Rattle.std.specs.Prelude.{◌≡◌, ◌⊎◌, [], ◌∷◌, ◌++◌, take, length, OnOk, OnErr, slice_get, true, None, Some, All, if◌then◌else◌};
 ghost use Rattle.std.specs.HashMap.{get};
 ghost use Rattle.std.specs.Option.{option_map, option_copied};
-ghost use Rattle.ab_logic.specs.Additions.{same_constant, is_among, as_theorem, as_block, as_clause, theorem_at_place, block_at_place, clause_at_place, entry_in, entries_of, block_kept};
+ghost use Rattle.ab_logic.specs.Additions.{same_constant, is_among, as_theorem, as_block, as_clause, theorem_at_place, block_at_place, clause_at_place, entry_in, entries_of, places_in, block_kept};
 ghost use Rattle.ab_logic.specs.declared.additions.Addition.TheVariants.{Theorem, Definition, Clause};
 
+use crate::lists::Places;
 use ab_store::TermId;
 use ab_store::name::Name;
 use ab_store::types::ConstId;
@@ -14,11 +15,13 @@ use std::alloc::{AllocError, Global};
 use std::collections::HashMap;
 use std::marker::Model;
 
-/// A theorem: its name and its formula.
+/// A theorem: its name, its formula, and the places of the theorems that it assumes, in growing order, counted from 0 in the
+/// order in which theorems were added.
 #[derive(Drop)]
 pub struct TheoremEntry {
     pub name: Name,
     pub formula: TermId,
+    pub assumed: Places,
 }
 
 /// What is added to a world.
@@ -123,6 +126,16 @@ impl Additions {
         self.list.len()
     }
 
+    /// What stands at this place of the list.
+    pub(crate) fn at(&self, place: usize) -> Option<&Addition>
+        ensures { option_copied result ≡ option_map (λ a. a.what) (slice_get self.now place) }
+    {
+        match self.list.get(place) {
+            None => None,
+            Some(added) => Some(&added.what),
+        }
+    }
+
     /// The clause of the program at this place of the list, if one stands there.
     pub(crate) fn clause_at(&self, place: usize) -> Option<&ClauseTerm>
         ensures { option_copied result ≡ clause_at_place self.now place }
@@ -157,6 +170,16 @@ impl Additions {
         match self.theorem(name) {
             None => None,
             Some(entry) => Some(entry.formula),
+        }
+    }
+
+    /// The places that the theorem of that name assumes; none where there is no such theorem.
+    pub(crate) fn assumed(&self, name: &Name) -> &[usize]
+        ensures { result.now ≡ places_in (entry_in self.now name.now) }
+    {
+        match self.theorem(name) {
+            None => &[],
+            Some(entry) => entry.assumed.as_slice(),
         }
     }
 
@@ -205,16 +228,18 @@ impl Additions {
         &mut self,
         name: Name,
         formula: TermId,
+        assumed: Places,
         before: usize,
     ) -> Result<(), AllocError>
         requires { entry_in self.old name ≡ None }
         ensures added { OnOk result (self.new ≡ self.old
-            ++ record { what = Theorem (record { name = name; formula = formula }); before = before } ∷ []) }
+            ++ record { what = Theorem (record { name = name; formula = formula; assumed = assumed }); before = before } ∷ []) }
         ensures err { OnErr result (self.new ≡ self.old) }
     {
         let entry = TheoremEntry {
             name: name.clone()?,
             formula,
+            assumed,
         };
         let place = self.list.len();
         self.list.reserve(1)?;

@@ -10,12 +10,12 @@ mod member;
 mod sequent;
 mod world;
 
-pub use additions::TheoremEntry;
+pub use additions::{Addition, TheoremEntry};
 pub use form::{
     Form, as_and, as_arrow, as_equal, as_exists, as_forall, as_nabla, as_or, is_false, is_true,
     shape,
 };
-pub use lists::{Hypotheses, Variables};
+pub use lists::{Hypotheses, Places, Variables};
 pub use marks::{Sign, marks_serve};
 pub use sequent::{Hypothesis, Sequent, SequentFault};
 pub use world::{DefineFault, World};

@@ -7,7 +7,7 @@ ghost use Rattle.ab_formulas.specs.ProposedClauses.{IsProposed};
 ghost use Rattle.ab_typing.specs.DefinitionReadings.{name_of, clause_of, block_of, fault_of, HoldsFault, HoldsClause, HoldsBlock};
 ghost use Rattle.ab_formulas.specs.Faults.{IsFaultOf};
 ghost use Rattle.ab_formulas.specs.Clauses.{Block as ABlock};
-ghost use Rattle.ab_formulas.specs.Declarations.{Declarations, signature_in, theorem_in, theorems_in, block_in, with_first, a_theorem, a_block, a_program_clause};
+ghost use Rattle.ab_formulas.specs.Declarations.{Declarations, ArePlacesUpTo, signature_in, theorem_in, theorems_in, assumed_in, assumptions_in, block_in, with_first, a_theorem, a_block, a_program_clause};
 ghost use Rattle.ab_formulas.specs.Programs.{IsProgramHead, IsProgramProposed};
 ghost use Rattle.ab_formulas.specs.Formulas.{IsSentence};
 ghost use Rattle.ab_logic.specs.Additions.{entry_in, block_kept, clause_at_place, IsMemory};
@@ -16,7 +16,8 @@ ghost use Rattle.ab_logic.specs.Worlds.{read, Holds, clause_read, definition_of,
 ghost use Rattle.ab_logic.specs.WorldGrowth.{Grows};
 ghost use Rattle.ab_logic.specs.declared.world.DefineFault.{DefineFault as AFault};
 
-use crate::additions::{Additions, TheoremEntry};
+use crate::additions::{Addition, Additions, TheoremEntry};
+use crate::lists::Places;
 use crate::member::member_definition;
 use ab_store::name::Name;
 use ab_store::types::laws::has_unique_ids;
@@ -162,13 +163,20 @@ impl World {
         Ok(())
     }
 
-    /// Adds a theorem behind all that was declared. Refused exactly where there is a theorem of that name.
-    pub fn add_theorem(&mut self, name: Name, formula: TermId) -> Result<(), DefineFault>
+    /// Adds a theorem behind all that was declared, which assumes the theorems of these places, perhaps its own. Refused exactly
+    /// where there is a theorem of that name.
+    pub fn add_theorem(
+        &mut self,
+        name: Name,
+        formula: TermId,
+        assumed: Vec<usize>,
+    ) -> Result<(), DefineFault>
         requires world { IsWorld self.old }
         requires formula { Holds self.old formula }
         requires sentence { IsSentence (signature_in (declarations_of self.old)) (read self.old formula) }
+        requires places { ArePlacesUpTo (length (theorems_in (declarations_of self.old))) assumed.items }
 
-        ensures added { OnOk result (declarations_of self.new ≡ declarations_of self.old ++ a_theorem name (read self.old formula) ∷ []) }
+        ensures added { OnOk result (declarations_of self.new ≡ declarations_of self.old ++ a_theorem name (read self.old formula) assumed.items ∷ []) }
         ensures grows { OnOk result (Grows self.old self.new) }
         ensures new { OnOk result (theorem_in (declarations_of self.old) name ≡ None) }
 
@@ -180,7 +188,8 @@ impl World {
             return Err(DefineFault::Clash(name));
         }
         let before = self.types.len();
-        self.additions.add_theorem(name, formula, before)?;
+        self.additions
+            .add_theorem(name, formula, Places::from_vec(assumed), before)?;
         Ok(())
     }
 
@@ -192,6 +201,13 @@ impl World {
         ensures kept { result ≡ option_map (λ e. e.formula) (entry_in self.now.additions name.now) }
     {
         self.additions.formula(name)
+    }
+
+    /// The places of the theorems that the theorem of that name assumes, in growing order; none where there is no such theorem.
+    pub fn assumed(&self, name: &Name) -> &[usize]
+        ensures { result.now ≡ assumed_in (declarations_of self.now) name.now }
+    {
+        self.additions.assumed(name)
     }
 
     /// Adds a clause of the program behind all that was declared. Refused exactly where its head is no constant with
@@ -245,6 +261,13 @@ impl World {
         self.additions.clause_at(place)
     }
 
+    /// What was added at this place, counted from 0.
+    pub fn addition_at(&self, place: usize) -> Option<&Addition>
+        ensures { option_copied result ≡ option_map (λ a. a.what) (slice_get self.now.additions place) }
+    {
+        self.additions.at(place)
+    }
+
     /// How many definitions, clauses of the program and theorems there are.
     pub fn len(&self) -> usize
         ensures declared { result ≡ count_added (declarations_of self.now) }
@@ -273,7 +296,8 @@ impl World {
 
     /// The theorem of this place, counted from 0 in the order in which they were added.
     pub fn theorem_at(&self, place: usize) -> Option<&TheoremEntry>
-        ensures { option_map (λ e. (e.name, read self.now e.formula)) (option_copied result) ≡ slice_get (theorems_in (declarations_of self.now)) place }
+        ensures reads { option_map (λ e. (e.name, read self.now e.formula)) (option_copied result) ≡ slice_get (theorems_in (declarations_of self.now)) place }
+        ensures assumes { option_map (λ e. e.assumed) (option_copied result) ≡ slice_get (assumptions_in (declarations_of self.now)) place }
     {
         self.additions.theorem_at(place)
     }

@@ -19,7 +19,7 @@ kinds_in (a_kind k ∷ ds) = k ∷ kinds_in ds
 kinds_in (a_constant c A ∷ ds) = kinds_in ds
 kinds_in (a_block b ∷ ds) = kinds_in ds
 kinds_in (a_program_clause c ∷ ds) = kinds_in ds
-kinds_in (a_theorem n F ∷ ds) = kinds_in ds
+kinds_in (a_theorem n F js ∷ ds) = kinds_in ds
 
 abbrev pub entry_of : Variable → Entry
 entry_of x = record { name = x.name; number = x.number; type = x.type }

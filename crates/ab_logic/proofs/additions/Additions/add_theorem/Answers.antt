@@ -11,7 +11,7 @@ pub invariant_of-self-2 : goal.invariant_of-self-2
 invariant_of-self-2 c =
     let xs = c.self.inside.list.items in
     let places = get same_constant c.self.inside.by_predicate in
-    let e : TheoremEntry = record { name = c.in_ok-clone.field-0; formula = c.args.formula } in
+    let e : TheoremEntry = record { name = c.in_ok-clone.field-0; formula = c.args.formula; assumed = c.args.assumed } in
     subst (λ (ys : List Added). IsFiled ys c.insert.new.self.entries places)
     (sym (c.push_reserved.ensures.items ∙ ap (λ (ys : List Added). ys ++ record { what = Theorem e; before = c.args.before } ∷ []) c.reserve.ensures.items))
     (theorem_filed c.self.inside.by_name xs places c.self.invariant c.args.name e c.args.before c.insert.new.self.entries c.len-place.result
