@@ -1,6 +1,6 @@
 -- The commands that are one step: the row of the command and the row of the rule are one.
 use Rattle.std.proofs.Common.{inl, inr, ℕ, List, true, false, refl}
-use Rattle.ab_grammar.specs.CommandTrees.{split, left, right}
+use Rattle.ab_grammar.specs.CommandTrees.{split, left, right, skip}
 use Rattle.ab_unifiers.specs.Replacements.{Cell}
 use Rattle.ab_formulas.specs.Declarations.{Declarations}
 use Rattle.ab_formulas.specs.NewNames.{Label}
@@ -31,3 +31,6 @@ right_leads D l s ps rule = rule.2
 pub right_fails : (D : Declarations) (cells : List (Cell (List ℕ))) (l : Label) (s : Sequent) (i : ℕ) → Fails D cells (plain.or_right false) s i → Refuses (effect D l right s) wrong_shape
 right_fails D cells l s i (inl f) = inl (f.0, refl)
 right_fails D cells l s i (inr f) = absurd f.2
+
+pub skip_leads : (D : Declarations) (l : Label) (s : Sequent) (ps : List Sequent) → NamedRule D plain.skip s ps → Leads (effect D l skip s) ps
+skip_leads D l s ps rule = rule.2

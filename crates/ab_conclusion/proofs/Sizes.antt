@@ -13,6 +13,7 @@ use Rattle.ab_theory.specs.Conjuncts.{conjuncts, with_parts}
 use Rattle.ab_theory.specs.Induction.{inductive_at, coinductive_in, inductive_signs, coinductive_signs, sign_and, marked_antecedents, marked_consequent}
 use Rattle.ab_theory.specs.Levels.{next_level}
 use Rattle.ab_theory.specs.Rules.{NamedRule, Fails}
+use Rattle.ab_theory.specs.Derivations.{debts_of}
 use Rattle.ab_theory.specs.Row as rule
 use Rattle.ab_alternatives.specs.ab_sequents.specs.Kinds.{level_by, signs_by, marked_by}
 use Rattle.ab_alternatives.specs.ab_sequents.specs.declared.levels.Kind.{Kind}
@@ -81,6 +82,11 @@ module _ (word : List ℕ) (goals : Sequent → List Sequent) where
 pub step_plain : (k : Kind) (ns : List ℕ) (ms : List Label) → SolvesNothing (step_by k ns ms)
 step_plain Induction ns ms = tt
 step_plain Coinduction ns ms = tt
+
+-- nor owes it anything
+pub step_free : (k : Kind) (ns : List ℕ) (ms : List Label) → debts_of (step_by k ns ms) ≡ []
+step_free Induction ns ms = refl
+step_free Coinduction ns ms = refl
 
 -- each part gets its mark
 

@@ -11,5 +11,5 @@ mod unfoldings;
 pub use conjunctions::split_all;
 pub use inductions::{coinduction, induction};
 pub use introductions::intros;
-pub use single::{left, right, split};
+pub use single::{left, right, skip, split};
 pub use unfoldings::unfold;

@@ -1,16 +1,16 @@
 //! The proof commands that are one step of the kernel.
-ghost use Rattle.std.specs.Prelude.{◌≡◌, ◌≢◌, [], Err, IfOk, OnErr};
+ghost use Rattle.std.specs.Prelude.{◌≡◌, ◌≢◌, [], Err, IfOk, OnOk, OnErr};
 ghost use Rattle.ab_grammar.specs.CommandTrees as told;
 ghost use Rattle.ab_logic.specs.Worlds.{IsWorld};
 ghost use Rattle.ab_formulas.specs.NewNames as plain;
 ghost use Rattle.ab_steps.specs.ab_kernel.specs.Layout.{history_of, IsProof};
-ghost use Rattle.ab_steps.specs.Progress.{goals_of, Follows};
-ghost use Rattle.ab_steps.specs.ProofEffects.{IsApplied, IsRefused};
+ghost use Rattle.ab_steps.specs.Progress.{goals_of, Advances, Follows};
+ghost use Rattle.ab_steps.specs.ProofEffects.{IsApplied, OwesFor, IsRefused};
 ghost use Rattle.ab_steps.specs.declared.fault.ProofCommandFault.{ProofCommandFault};
 
 use ab_logic::World;
 use ab_steps::kernel::{Proof, Step};
-use ab_steps::{ProofCommandFault, attempt};
+use ab_steps::{ProofCommandFault, attempt, surely};
 use ab_types::Steps;
 
 /// Both parts of a conjunction become goals.
@@ -77,4 +77,23 @@ pub fn right<L>(
     } else {
         Err(ProofCommandFault::WrongShape)
     }
+}
+
+/// The goal is admitted, whatever it is: the proof owes it.
+pub fn skip<L>(
+    world: &mut World,
+    proof: &mut Proof,
+    steps: &mut Steps<L>,
+) -> Result<(), ProofCommandFault>
+    requires world { IsWorld world.old }
+    requires proof { IsProof world.old proof.old }
+    requires open { goals_of world.old proof.old ≢ [] }
+    ensures follows { Advances world.old proof.old world.new proof.new }
+    ensures owes { OnOk result (OwesFor told.skip world.old proof.old world.new proof.new) }
+    ensures applied { IfOk result (λ u. (l : plain.Label) → IsApplied l told.skip world.old proof.old world.new proof.new) }
+    ensures refused { (fault : ProofCommandFault) → result ≡ Err fault → (l : plain.Label) → IsRefused l told.skip world.old proof.old fault }
+    ensures unchanged { OnErr result (history_of world.new proof.new ≡ history_of world.old proof.old) }
+{
+    surely(world, proof, 0, Step::Skip, steps)?;
+    Ok(())
 }

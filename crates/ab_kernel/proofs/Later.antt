@@ -13,7 +13,7 @@ use Rattle.ab_logic.proofs.Growing.{map_same, same_sequent, still_held}
 use Rattle.ab_norm.specs.Nominals.{nominal_of, HoldsNominal}
 use Rattle.ab_kernel.specs.declared.replaces.Replace.{Replace}
 use Rattle.ab_kernel.specs.declared.step.Step.{Step}
-use Rattle.ab_kernel.specs.declared.step.Step.TheVariants.{Initial, TrueRight, FalseLeft, AndRight, AndLeft, OrRight, OrLeft, ArrowRight, ArrowLeft, ForallRight, ForallLeft, ExistsRight, ExistsLeft, NablaRight, NablaLeft, EqualRight, EqualLeft, DefRight, DefLeft, Induction, Coinduction, CutFormula, UseTheorem, Weaken, SpecCut, SpecInst, SpecMonotone}
+use Rattle.ab_kernel.specs.declared.step.Step.TheVariants.{Initial, TrueRight, FalseLeft, AndRight, AndLeft, OrRight, OrLeft, ArrowRight, ArrowLeft, ForallRight, ForallLeft, ExistsRight, ExistsLeft, NablaRight, NablaLeft, EqualRight, EqualLeft, DefRight, DefLeft, Induction, Coinduction, CutFormula, UseTheorem, Weaken, SpecCut, SpecInst, SpecMonotone, Skip}
 use Rattle.ab_kernel.specs.Nodes.{sequents_in}
 use Rattle.ab_kernel.specs.Layout.{StepAt, steps_in, Held, premises_of, sequents_before, made_by, history_of, HoldsProof, IsProof}
 use Rattle.ab_kernel.specs.RuleAnswers.{step_of, HoldsStep, label_of, replacements}
@@ -68,6 +68,7 @@ module _ (w v : World) (grown : Grows w v) where
   same_step (SpecCut H K l) h = refl
   same_step (SpecInst H rs l) h = ap (λ xs. plain.spec_instance H xs (label_of l)) (same_replacements rs h)
   same_step (SpecMonotone H K l) h = ap (λ t. plain.spec_monotone H t (label_of l)) (grown.readings K h)
+  same_step Skip h = refl
 
   still_nominal : (r : Replace) → HoldsNominal w.types r.from → HoldsNominal v.types r.from
   still_nominal r h = subst (λ t. HoldsNominal t r.from) (sym grown.types.1) (holds_type w.types grown.types.0 r.from.ty h)
@@ -100,6 +101,7 @@ module _ (w v : World) (grown : Grows w v) where
   still_step (SpecCut H K l) h = tt
   still_step (SpecInst H rs l) h = All-weaker (λ (r : Replace). HoldsNominal w.types r.from × Holds w r.to) (λ (r : Replace). HoldsNominal v.types r.from × Holds v r.to) (λ r q. (still_nominal r q.0, grown.ids r.to q.1)) rs h
   still_step (SpecMonotone H K l) h = grown.ids K h
+  still_step Skip h = tt
 
   same_made : (ss : List Sequent) (rs : List StepAt) → All (λ (r : StepAt). HoldsStep w r.step) rs → made_by v ss rs ≡ made_by w ss rs
   same_made ss [] all = refl

@@ -17,4 +17,5 @@ pub mod Refines
 pub mod Earlier
 pub mod Trees
 pub mod Growing
+pub mod Owing
 mod SizeRows

@@ -13,7 +13,8 @@ use Rattle.ab_kernel.specs.declared.proof.Refinement.{Refinement}
 use Rattle.ab_kernel.specs.Nodes.{cleared, IsClear, sequents_in, node_at, step_held}
 use Rattle.ab_kernel.specs.declared.proof.Proof.TheInside.{Inside}
 use Rattle.ab_kernel.specs.RuleAnswers.{step_of, HoldsStep}
-use Rattle.ab_theory.specs.Derivations.{Derivation, root, Valid, open_goals, History, beginning, after, proves}
+use Rattle.ab_kernel.specs.Debts.{owed as owed_debts}
+use Rattle.ab_theory.specs.Derivations.{Derivation, root, Valid, open_goals, Debt, debts_of, History, beginning, after, proves}
 use Rattle.ab_kernel.specs.NodeTrees.{Tree}
 
 -- what contracts see of a proof: its nodes, the root first, and the steps that stand, the latest first
@@ -108,6 +109,11 @@ module _ (w : World) where
       × Fits r sequents open_numbers
       × Stands (sequents_before r sequents) (open_before r open_numbers) rs
 
+  -- what the steps owe
+  abbrev pub owed_by : List StepAt → List Debt
+  owed_by [] = []
+  owed_by (r ∷ rs) = debts_of (step_of w r.step) ++ owed_by rs
+
   -- THE PROOF, as a derivation and those before it
   abbrev pub history_of : Held → History
   history_of p = made_by (map (sequent_of w) (sequents_in p.nodes)) (steps_in p.nodes p.journal)
@@ -158,5 +164,7 @@ pub record IsSound (p : Inside) : Type 0 where
   pub stands : (w : World) → Stands w (map (sequent_of w) (sequents_in p.nodes.items)) p.open.items (steps_in p.nodes.items (reverse p.journal.items))
   pub layers : Layers p.nodes.items p.open.items (reverse p.journal.items)
   pub grown : (w : World) → Grown w p.nodes.items p.open.items (reverse p.journal.items)
+  -- its debts are those of the steps that stand
+  pub owed : (w : World) → owed_debts p.debts.items ≡ owed_by w (steps_in p.nodes.items (reverse p.journal.items))
   -- steps can be taken back without memory
   pub room : (w : World) → All (λ d. length (open_goals d) ≤ vec_capacity p.open) (history_of w (held p)).earlier

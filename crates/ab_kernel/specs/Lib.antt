@@ -8,4 +8,5 @@ pub mod UsedNumbers
 -- What a proof stands for: its nodes, and how its fields hold them.
 pub mod Nodes
 pub mod NodeTrees
+pub mod Debts
 pub mod Layout

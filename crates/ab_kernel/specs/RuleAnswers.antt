@@ -16,7 +16,7 @@ use Rattle.ab_kernel.specs.declared.replaces.Replace.{Replace}
 pub use Rattle.ab_alternatives.specs.ab_equations.specs.Labels.{label_of}
 use Rattle.ab_kernel.specs.Items.{list_of}
 use Rattle.ab_kernel.specs.declared.step.Step.{Step}
-use Rattle.ab_kernel.specs.declared.step.Step.TheVariants.{Initial, TrueRight, FalseLeft, AndRight, AndLeft, OrRight, OrLeft, ArrowRight, ArrowLeft, ForallRight, ForallLeft, ExistsRight, ExistsLeft, NablaRight, NablaLeft, EqualRight, EqualLeft, DefRight, DefLeft, Induction, Coinduction, CutFormula, UseTheorem, Weaken, SpecCut, SpecInst, SpecMonotone}
+use Rattle.ab_kernel.specs.declared.step.Step.TheVariants.{Initial, TrueRight, FalseLeft, AndRight, AndLeft, OrRight, OrLeft, ArrowRight, ArrowLeft, ForallRight, ForallLeft, ExistsRight, ExistsLeft, NablaRight, NablaLeft, EqualRight, EqualLeft, DefRight, DefLeft, Induction, Coinduction, CutFormula, UseTheorem, Weaken, SpecCut, SpecInst, SpecMonotone, Skip}
 use Rattle.ab_kernel.specs.declared.step.KernelFault.{KernelFault}
 use Rattle.ab_kernel.specs.declared.step.KernelFault.TheVariants.{RuleFails, NotPattern, Memory}
 
@@ -52,6 +52,7 @@ step_of w (Weaken H) = plain.weaken H
 step_of w (SpecCut H K l) = plain.spec_cut H K (label_of l)
 step_of w (SpecInst H rs l) = plain.spec_instance H (replacements w rs) (label_of l)
 step_of w (SpecMonotone H K l) = plain.spec_monotone H (read w K) (label_of l)
+step_of w Skip = plain.skip
 
 -- the terms that it is told are there
 abbrev pub HoldsStep : World → Step → Type 0

@@ -2,6 +2,7 @@
 #![tactic(auto)]
 
 mod closing_rules;
+mod debt;
 mod definition_rules;
 mod eigenvariables;
 mod equality_rules;
@@ -23,6 +24,7 @@ mod step;
 mod term_fit;
 mod witness_rules;
 
+pub use debt::Debt;
 pub use items::Items;
 pub use node::{Children, ProofNode};
 pub use proof::{Proof, Refinement};

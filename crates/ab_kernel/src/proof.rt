@@ -1,5 +1,5 @@
 //! Proofs in progress: derivations with open goals, made by steps of the rules alone.
-ghost use Rattle.std.specs.Prelude.{◌≡◌, ℕ, ◌+◌, ◌<◌, ◌≤◌, [], ◌++◌, ◌↔◌, ◌⊎◌, length, IsTrue, IfOk, IfSome, MatchOption, ◌∷◌, OnOk, OnErr, map, slice_get, vec_len, vec_capacity};
+ghost use Rattle.std.specs.Prelude.{◌≡◌, ℕ, ◌+◌, ◌<◌, ◌≤◌, [], ◌++◌, ◌↔◌, ◌⊎◌, Contains, length, IsTrue, IfOk, IfSome, MatchOption, ◌∷◌, OnOk, OnErr, map, slice_get, vec_len, vec_capacity, reverse};
 ghost use Rattle.std.specs.Option.{option_copied, option_map};
 ghost use Rattle.ab_logic.specs.Worlds.{IsWorld, Holds, read, declarations_of};
 ghost use Rattle.ab_logic.specs.WorldGrowth.{Grows};
@@ -13,11 +13,13 @@ ghost use Rattle.ab_formulas.specs.Declarations.{signature_in};
 ghost use Rattle.ab_formulas.specs.Formulas.{IsFormula, IsSentence, HasOneTypeEach};
 ghost use Rattle.ab_kernel.specs.RuleAnswers.{step_of, HoldsStep, IsMemory};
 ghost use Rattle.ab_kernel.specs.declared.step.KernelFault.{KernelFault};
-ghost use Rattle.ab_theory.specs.Derivations.{root, Valid, open_goals, goal_at, IsDerivation, beginning, proves, IsStep, GoalFails, GoalStuck, undone};
+ghost use Rattle.ab_theory.specs.Derivations.{root, Valid, open_goals, goal_at, IsTreeOf, IsDerivation, Debt as ADebt, debts_of, debts, gaps, beginning, proves, IsStep, GoalFails, GoalStuck, undone};
 ghost use Rattle.ab_kernel.specs.Layout.{history_of, IsProof, before_last, Beyond};
 ghost use Rattle.ab_kernel.specs.Nodes.{open_node, numbers_up};
 ghost use Rattle.ab_kernel.specs.NodeTrees.{StandsFor};
+ghost use Rattle.ab_kernel.specs.Debts.{debt_of, owed};
 
+use crate::debt::{Debt, count_gaps, forget_debt, note_debt};
 use crate::goal_numbers::{replace_goal, restore_goal};
 use crate::node::{Children, ProofNode, clear_at, fill_at, take_in};
 use crate::rule_table::premises;
@@ -34,9 +36,9 @@ pub struct Refinement {
     /// The place of its goal among the open goals, from 0 at the left.
     pub(crate) place: usize,
     /// The number of that goal's node.
-    pub(crate) node: usize,
+    pub node: usize,
     /// How many premises took its place.
-    pub(crate) premises: usize,
+    pub premises: usize,
 }
 
 /// A derivation with open goals.
@@ -48,6 +50,8 @@ pub struct Proof {
     open: Vec<usize>,
     /// The steps that stand, the latest last.
     journal: Vec<Refinement>,
+    /// What they owe, the latest last.
+    debts: Vec<Debt>,
 }
 
 impl Model for Proof {
@@ -76,12 +80,14 @@ fn make_room(
     journal.reserve(1)
 }
 
-/// Puts the premises behind the nodes, and makes room for their numbers and for the step.
+/// Puts the premises behind the nodes, notes what the step owes, and makes room for the premises' numbers and for the step.
 fn prepare(
     alloc: Global,
     nodes: &mut Vec<ProofNode>,
     numbers: &mut Vec<usize>,
     journal: &mut Vec<Refinement>,
+    debts: &mut Vec<Debt>,
+    step: &Step,
     premises: Vec<Sequent>,
 ) -> Result<Children, AllocError>
     ensures children { IfOk result (λ children. children ≡ numbers_up (length nodes.old.items) (length premises.items)) }
@@ -92,9 +98,18 @@ fn prepare(
     ensures numbers_room { OnOk result (vec_len numbers.old + vec_len premises ≤ vec_capacity numbers.new) }
     ensures journal_room { OnOk result (vec_len journal.new < vec_capacity journal.new) }
     ensures capacity { vec_capacity numbers.old ≤ vec_capacity numbers.new }
+    ensures noted { OnOk result ((w : AWorld) → owed debts.new.items ≡ debts_of (step_of w step.now) ++ owed debts.old.items) }
+    ensures forgotten { OnErr result (owed debts.new.items ≡ owed debts.old.items) }
 {
     make_room(numbers, journal, premises.len())?;
-    take_in(alloc, nodes, premises)
+    note_debt(alloc, debts, step)?;
+    match take_in(alloc, nodes, premises) {
+        Ok(children) => Ok(children),
+        Err(fault) => {
+            forget_debt(debts, Some(step));
+            Err(fault)
+        }
+    }
 }
 
 /// Counts a step of work for each premise.
@@ -137,6 +152,7 @@ impl Proof {
             nodes,
             open,
             journal: Vec::new(alloc),
+            debts: Vec::new(alloc),
         })
     }
 
@@ -187,6 +203,8 @@ impl Proof {
             &mut self.nodes,
             &mut self.open,
             &mut self.journal,
+            &mut self.debts,
+            &step,
             made,
         ) {
             Ok(children) => children,
@@ -224,6 +242,7 @@ impl Proof {
             Some(last) => {
                 let at = self.open.len() - (last.place + last.premises);
                 restore_goal(&mut self.open, at, last.premises, last.node);
+                forget_debt(&mut self.debts, self.nodes[last.node].step.as_ref());
                 self.nodes.truncate(self.nodes.len() - last.premises);
                 clear_at(&mut self.nodes, last.node);
                 true
@@ -259,13 +278,29 @@ impl Proof {
         self.goal(0)
     }
 
-    /// Whether no goal is open. Then the formula that the proof began with is derived.
+    /// Whether no goal is open. Then the formula that the proof began with is derived, but for the goals that were admitted.
     pub fn is_closed(&self) -> bool
         ensures closed { (w : AWorld) → IsTrue result ↔ (open_goals (history_of w self.now).tree ≡ []) }
         ensures derivation { (w : AWorld) (F : Read) → IsTrue result → IsProof w self.now → IsSentence (signature_in (declarations_of w)) F →
-            root (history_of w self.now).tree ≡ proves F 0 → IsDerivation (declarations_of w) F (history_of w self.now).tree }
+            root (history_of w self.now).tree ≡ proves F 0 → IsTreeOf (declarations_of w) F (history_of w self.now).tree }
+        ensures whole { (w : AWorld) (F : Read) → IsTrue result → IsProof w self.now → IsSentence (signature_in (declarations_of w)) F →
+            root (history_of w self.now).tree ≡ proves F 0 → gaps (history_of w self.now).tree ≡ 0 → IsDerivation (declarations_of w) F (history_of w self.now).tree }
     {
         self.open.is_empty()
+    }
+
+    /// How many goals were admitted. It takes no memory.
+    pub fn gaps(&self) -> usize
+        ensures { (w : AWorld) → result ≡ gaps (history_of w self.now).tree }
+    {
+        count_gaps(&self.debts)
+    }
+
+    /// What the derivation owes: the theorems that it takes, and the goals that it admits.
+    pub fn debts(&self) -> &[Debt]
+        ensures { (w : AWorld) (t : ADebt) → Contains (map debt_of result.now) t ↔ Contains (debts (history_of w self.now).tree) t }
+    {
+        &self.debts
     }
 
     /// The node of that number. The root has the number 0, and the nodes are the derivation from
@@ -275,6 +310,20 @@ impl Proof {
         ensures tree { (w : AWorld) → StandsFor w self.now.nodes (history_of w self.now).tree 0 }
     {
         self.nodes.get(place)
+    }
+
+    /// How many nodes there are.
+    pub fn nodes(&self) -> usize
+        ensures { result ≡ length self.now.nodes }
+    {
+        self.nodes.len()
+    }
+
+    /// What it takes to take the step of this place back, counted from 0 at the first that stands.
+    pub fn refinement(&self, place: usize) -> Option<Refinement>
+        ensures { result ≡ slice_get (reverse self.now.journal) place }
+    {
+        self.journal.get(place).copied()
     }
 
     /// How many steps stand.

@@ -74,5 +74,6 @@ pub fn premises<L>(
         Step::SpecCut(_, _, _) => Err(KernelFault::RuleFails(0)),
         Step::SpecInst(_, _, _) => Err(KernelFault::RuleFails(0)),
         Step::SpecMonotone(_, _, _) => Err(KernelFault::RuleFails(0)),
+        Step::Skip => Ok(Vec::new(alloc)),
     }
 }

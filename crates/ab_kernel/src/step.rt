@@ -65,6 +65,8 @@ pub enum Step {
     SpecInst(Name, Replaces, Label),
     /// A judgement with a larger context.
     SpecMonotone(Name, TermId, Label),
+    /// Admits a goal, by no rule.
+    Skip,
 }
 
 /// Why a step wasn't taken.

@@ -1,4 +1,4 @@
--- What steps leave of the goal of a place: how many goals, or which.
+-- What steps leave of the goal of a place: how many goals, or which; and what a use owes.
 use Rattle.std.specs.Prelude.{◌≡◌, ℕ, List, [], ◌∷◌, ◌++◌, map, length}
 use Rattle.ab_term.specs.Terms.{Read}
 use Rattle.ab_formulas.specs.NewNames.{Label}
@@ -8,7 +8,9 @@ use Rattle.ab_logic.specs.declared.world.World.{World}
 use Rattle.ab_steps.specs.ab_kernel.specs.Layout.{Held}
 use Rattle.ab_theory.specs.Pieces.{Given}
 use Rattle.ab_effects.specs.FormulaUses.{OpenedBeside, NamelessBeside}
-use Rattle.ab_steps.specs.Progress.{goals_of, IsAt, GaveWay}
+use Rattle.ab_effects.specs.ProofCommands.{is_used}
+use Rattle.ab_effects.specs.Debts.{taken_unless}
+use Rattle.ab_steps.specs.Progress.{goals_of, Owes, IsAt, GaveWay}
 
 -- the goal of the place gave way to so many
 abbrev pub Gives : World → Held → World → Held → ℕ → ℕ → Type 0
@@ -39,6 +41,10 @@ AwaitsAll w p v q place xs As next = (before behind : List Sequent) (k : Sequent
 abbrev pub ShowsAll : World → Held → World → Held → ℕ → List Read → Type 0
 ShowsAll w p v q place As = (before behind : List Sequent) (s : Sequent) → IsAt w p place before s behind →
     goals_of v q ≡ (before ++ map (λ A. proving A s) As) ++ behind
+
+-- the proof owes the theorem of this name more, where no hypothesis of the first goal has it, and nothing else
+abbrev pub OwesUse : List ℕ → World → Held → World → Held → Type 0
+OwesUse H w p v q = (s : Sequent) (rest : List Sequent) → goals_of w p ≡ s ∷ rest → Owes (taken_unless (is_used s H) H) w p v q
 
 -- the goal of the place has this conclusion instead
 abbrev pub Turns : World → Held → World → Held → ℕ → Read → Type 0

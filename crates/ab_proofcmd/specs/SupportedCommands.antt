@@ -1,5 +1,5 @@
 -- The proof commands that are built.
-use Rattle.ab_grammar.specs.CommandTrees.{ProofCommand, intros, induction, coinduction, case, apply, backchain, split, split_all, left, right, unfold_goal, exists, assert, clear, rename, permute}
+use Rattle.ab_grammar.specs.CommandTrees.{ProofCommand, intros, induction, coinduction, case, apply, backchain, split, split_all, left, right, unfold_goal, exists, assert, clear, rename, permute, skip}
 
 abbrev pub IsBuilt : ProofCommand → Type 0
 IsBuilt (intros xs) = Unit {0}
@@ -18,4 +18,5 @@ IsBuilt (assert e) = Unit {0}
 IsBuilt (clear Hs) = Unit {0}
 IsBuilt (rename H x) = Unit {0}
 IsBuilt (permute ns x) = Unit {0}
+IsBuilt skip = Unit {0}
 IsBuilt _ = ⊥

@@ -16,10 +16,11 @@ ghost use Rattle.ab_uses.specs.GivenReadings.{given_of, HoldsIfAny};
 ghost use Rattle.ab_uses.specs.UseReadings.{aim_of};
 ghost use Rattle.ab_effects.specs.ProofCommands.{effect};
 ghost use Rattle.ab_effects.specs.FormulaUses.{formulas_in};
-ghost use Rattle.ab_steps.specs.ProofEffects.{IsApplied, IsRefused, RefusedBy};
-ghost use Rattle.ab_steps.specs.Progress.{goals_of, Follows};
+ghost use Rattle.ab_steps.specs.ProofEffects.{IsApplied, OwesFor, IsRefused, RefusedBy};
+ghost use Rattle.ab_steps.specs.Progress.{goals_of, Advances};
 ghost use Rattle.ab_steps.specs.declared.fault.ProofCommandFault.{ProofCommandFault as AFault};
 ghost use Rattle.ab_hypothesis.specs.declared.stop.Stop.{Stop as AStop};
+ghost use Rattle.ab_proofcmd.specs.GoalCounts.{OwesUse};
 ghost use Rattle.ab_proofcmd.specs.Questions.{HoldsAsked, IsLookedUp, AsksApply};
 ghost use Rattle.ab_proofcmd.specs.RemainingGoals.{LeavesOpened, CantOpenResult};
 
@@ -144,7 +145,8 @@ fn carry_out<L>(
     requires proof { IsProof world.old proof.old }
     requires open { goals_of world.old proof.old ≢ [] }
     requires asked { HoldsAsked world.old asked.now }
-    ensures follows { Follows world.old proof.old world.new proof.new }
+    ensures follows { Advances world.old proof.old world.new proof.new }
+    ensures owes { OnOk result (OwesUse name.now world.old proof.old world.new proof.new) }
     ensures left { OnOk result (LeavesOpened world.old proof.old world.new proof.new (label_of label.now) (map (given_of world.old) asked.now.given.items) (map (read world.old) asked.now.found.awaited.items) (read world.old asked.now.found.result)) }
     ensures stopped { result ≡ Err AStop.NamesSpent → CantOpenResult world.old proof.old (label_of label.now) (map (given_of world.old) asked.now.given.items) (read world.old asked.now.found.result) }
 {
@@ -201,7 +203,8 @@ pub fn apply<L>(
     requires world { IsWorld world.old }
     requires proof { IsProof world.old proof.old }
     requires open { goals_of world.old proof.old ≢ [] }
-    ensures follows { Follows world.old proof.old world.new proof.new }
+    ensures follows { Advances world.old proof.old world.new proof.new }
+    ensures owes { OnOk result (OwesFor (told.apply name.now (map argument_of arguments.now) (map instance_of given.now)) world.old proof.old world.new proof.new) }
     ensures applied { IfOk result (λ u. IsApplied (label_of label.now) (told.apply name.now (map argument_of arguments.now) (map instance_of given.now)) world.old proof.old world.new proof.new) }
     ensures refused { (fault : AFault) → result ≡ Err fault → IsRefused (label_of label.now) (told.apply name.now (map argument_of arguments.now) (map instance_of given.now)) world.old proof.old fault }
     ensures unchanged { OnErr result (history_of world.new proof.new ≡ history_of world.old proof.old) }

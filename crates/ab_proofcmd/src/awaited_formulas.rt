@@ -1,13 +1,16 @@
 //! A goal gives way to what is awaited of a formula that is used.
-ghost use Rattle.std.specs.Prelude.{map, OnOk, All};
+ghost use Rattle.std.specs.Prelude.{◌≡◌, ◌∷◌, List, map, OnOk, All};
+ghost use Rattle.ab_formulas.specs.Sequents.{Sequent as AGoal};
 ghost use Rattle.ab_logic.specs.Worlds.{IsWorld, Holds, read};
+ghost use Rattle.ab_logic.specs.declared.world.World.{World as AWorld};
 ghost use Rattle.ab_steps.specs.ab_kernel.specs.Layout.{IsProof};
 ghost use Rattle.ab_uses.specs.UseReadings.{HoldsStage};
-ghost use Rattle.ab_steps.specs.Progress.{Follows};
-ghost use Rattle.ab_proofcmd.specs.GoalCounts.{ShowsAll};
+ghost use Rattle.ab_effects.specs.ProofCommands.{is_used};
+ghost use Rattle.ab_steps.specs.Progress.{goals_of, Advances};
+ghost use Rattle.ab_proofcmd.specs.GoalCounts.{OwesUse, ShowsAll};
 
 use crate::awaited_goals::await_all;
-use crate::stages::derive;
+use crate::stages::{take_stages, take_up};
 use ab_logic::World;
 use ab_norm::name::Name;
 use ab_norm::store::TermId;
@@ -37,6 +40,16 @@ fn meeting(alloc: Global, arguments: &[Argument], own: Vec<Name>) -> Result<Vec<
     Ok(names)
 }
 
+/// Whether the first goal has a hypothesis of that name.
+fn has_hypothesis(proof: &Proof, name: &Name) -> bool
+    ensures { (w : AWorld) (s : AGoal) (rest : List AGoal) → goals_of w proof.now ≡ s ∷ rest → result ≡ is_used s name.now }
+{
+    match proof.current() {
+        Some(goal) => goal.uses(name),
+        None => false,
+    }
+}
+
 /// Makes a goal of each formula that is awaited in the place of the first goal, whose conclusion the formula that is used leads
 /// to. Nothing else is left of it. A step that isn't taken, and a hole for which nothing is awaited, are told as want of memory.
 pub fn show<L>(
@@ -54,9 +67,11 @@ pub fn show<L>(
     requires formula { Holds world.old formula }
     requires stages { All (HoldsStage world.old) found.now.stages.items }
     requires awaited { All (Holds world.old) found.now.awaited.items }
-    ensures follows { Follows world.old proof.old world.new proof.new }
+    ensures follows { Advances world.old proof.old world.new proof.new }
+    ensures owes { OnOk result (OwesUse source.now world.old proof.old world.new proof.new) }
     ensures shows { OnOk result (ShowsAll world.old proof.old world.new proof.new 0 (map (read world.old) found.now.awaited.items)) }
 {
+    let is_hypothesis = has_hypothesis(proof, source);
     let mut own = Vec::new(alloc);
     let place = await_all(
         alloc,
@@ -68,13 +83,22 @@ pub fn show<L>(
         steps,
     )?;
     let names = meeting(alloc, arguments, own)?;
-    derive(
+    let current = take_up(
         alloc,
         world,
         proof,
         place,
         source,
         formula,
+        is_hypothesis,
+        steps,
+    )?;
+    take_stages(
+        alloc,
+        world,
+        proof,
+        place,
+        current,
         found.stages.as_slice(),
         names.as_slice(),
         steps,

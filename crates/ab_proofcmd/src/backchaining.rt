@@ -1,5 +1,5 @@
 //! A goal's conclusion is what a hypothesis or a theorem leads to.
-ghost use Rattle.std.specs.Prelude.{◌≡◌, ◌≢◌, [], map, Some, Err, IfOk, OnErr, All};
+ghost use Rattle.std.specs.Prelude.{◌≡◌, ◌≢◌, [], map, Some, Err, IfOk, OnOk, OnErr, All};
 ghost use Rattle.ab_grammar.specs.CommandTrees as told;
 ghost use Rattle.ab_syntax.specs.Commands.{instance_of};
 ghost use Rattle.ab_syntax.specs.SyntaxTrees.{tree_of};
@@ -13,8 +13,8 @@ ghost use Rattle.ab_uses.specs.GivenReadings.{HoldsIfAny};
 ghost use Rattle.ab_uses.specs.UseReadings.{aim_of};
 ghost use Rattle.ab_steps.specs.ab_kernel.specs.Layout.{history_of, IsProof};
 ghost use Rattle.ab_effects.specs.ProofCommands.{effect, repeated};
-ghost use Rattle.ab_steps.specs.ProofEffects.{IsApplied, IsRefused, RefusedBy};
-ghost use Rattle.ab_steps.specs.Progress.{goals_of, Follows};
+ghost use Rattle.ab_steps.specs.ProofEffects.{IsApplied, OwesFor, IsRefused, RefusedBy};
+ghost use Rattle.ab_steps.specs.Progress.{goals_of, Advances};
 ghost use Rattle.ab_steps.specs.declared.fault.ProofCommandFault.{ProofCommandFault as AFault};
 ghost use Rattle.ab_proofcmd.specs.Questions.{AsksBackchain};
 
@@ -111,7 +111,8 @@ pub fn backchain<L>(
     requires world { IsWorld world.old }
     requires proof { IsProof world.old proof.old }
     requires open { goals_of world.old proof.old ≢ [] }
-    ensures follows { Follows world.old proof.old world.new proof.new }
+    ensures follows { Advances world.old proof.old world.new proof.new }
+    ensures owes { OnOk result (OwesFor (told.backchain name.now (map instance_of given.now)) world.old proof.old world.new proof.new) }
     ensures applied { IfOk result (λ u. (l : plain.Label) → IsApplied l (told.backchain name.now (map instance_of given.now)) world.old proof.old world.new proof.new) }
     ensures refused { (fault : AFault) → result ≡ Err fault → (l : plain.Label) → IsRefused l (told.backchain name.now (map instance_of given.now)) world.old proof.old fault }
     ensures unchanged { OnErr result (history_of world.new proof.new ≡ history_of world.old proof.old) }

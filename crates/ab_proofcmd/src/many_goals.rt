@@ -1,9 +1,10 @@
 //! One step that leads to as many goals as are awaited.
 ghost use Rattle.std.specs.Prelude.{OnOk};
 ghost use Rattle.ab_logic.specs.Worlds.{IsWorld};
+ghost use Rattle.ab_theory.specs.Derivations.{debts_of};
 ghost use Rattle.ab_steps.specs.ab_kernel.specs.RuleAnswers.{step_of, HoldsStep};
 ghost use Rattle.ab_steps.specs.ab_kernel.specs.Layout.{IsProof};
-ghost use Rattle.ab_steps.specs.Progress.{Follows, TookInto};
+ghost use Rattle.ab_steps.specs.Progress.{FollowsBy, Owes, TookInto};
 ghost use Rattle.ab_proofcmd.specs.GoalCounts.{Gives};
 
 use ab_logic::World;
@@ -25,7 +26,8 @@ pub fn step_into<L>(
     requires world { IsWorld world.old }
     requires proof { IsProof world.old proof.old }
     requires step { HoldsStep world.old step }
-    ensures follows { Follows world.old proof.old world.new proof.new }
+    ensures follows { FollowsBy (debts_of (step_of world.old step)) world.old proof.old world.new proof.new }
+    ensures owes { OnOk result (Owes (debts_of (step_of world.old step)) world.old proof.old world.new proof.new) }
     ensures took { OnOk result (TookInto world.old proof.old world.new proof.new place (step_of world.old step) count) }
     ensures gives { OnOk result (Gives world.old proof.old world.new proof.new place count) }
 {

@@ -1,12 +1,12 @@
 //! A proof command is carried out.
-ghost use Rattle.std.specs.Prelude.{◌≡◌, ◌≢◌, ◌↔◌, [], Err, IfOk, OnErr, IsTrue};
+ghost use Rattle.std.specs.Prelude.{◌≡◌, ◌≢◌, ◌↔◌, [], Err, IfOk, OnOk, OnErr, IsTrue};
 ghost use Rattle.std.specs.Option.{option_copied};
 ghost use Rattle.ab_syntax.specs.Commands.{proof_command_of};
 ghost use Rattle.ab_logic.specs.Worlds.{IsWorld};
 ghost use Rattle.ab_equations.specs.Labels.{label_of};
 ghost use Rattle.ab_steps.specs.ab_kernel.specs.Layout.{history_of, IsProof};
-ghost use Rattle.ab_steps.specs.ProofEffects.{IsApplied, IsRefused};
-ghost use Rattle.ab_steps.specs.Progress.{goals_of, Follows};
+ghost use Rattle.ab_steps.specs.ProofEffects.{IsApplied, OwesFor, IsRefused};
+ghost use Rattle.ab_steps.specs.Progress.{goals_of, Advances};
 ghost use Rattle.ab_steps.specs.declared.fault.ProofCommandFault.{ProofCommandFault as AFault};
 ghost use Rattle.ab_effects.specs.ProofCommands.{given_label};
 ghost use Rattle.ab_proofcmd.specs.SupportedCommands.{IsBuilt};
@@ -15,7 +15,7 @@ use crate::application::apply;
 use crate::assertions::assert;
 use crate::backchaining::backchain;
 use crate::witnesses::exists;
-use ab_conclusion::{coinduction, induction, intros, left, right, split, split_all, unfold};
+use ab_conclusion::{coinduction, induction, intros, left, right, skip, split, split_all, unfold};
 use ab_equations::Label;
 use ab_hypothesis::{case, clear, permute, rename};
 use ab_logic::World;
@@ -46,12 +46,12 @@ pub fn is_built(command: &ProofCommand) -> bool
         | ProofCommand::Backchain(_, _)
         | ProofCommand::Clear(_)
         | ProofCommand::Rename(_, _)
-        | ProofCommand::Permute(_, _) => true,
+        | ProofCommand::Permute(_, _)
+        | ProofCommand::Skip => true,
         ProofCommand::Cut(_, _)
         | ProofCommand::Inst(_, _)
         | ProofCommand::Monotone(_, _)
-        | ProofCommand::Search(_)
-        | ProofCommand::Skip => false,
+        | ProofCommand::Search(_) => false,
     }
 }
 
@@ -79,7 +79,8 @@ pub fn apply_proof_command<L>(
     requires proof { IsProof world.old proof.old }
     requires open { goals_of world.old proof.old ≢ [] }
     requires built { IsBuilt (proof_command_of command.now) }
-    ensures follows { Follows world.old proof.old world.new proof.new }
+    ensures follows { Advances world.old proof.old world.new proof.new }
+    ensures owes { OnOk result (OwesFor (proof_command_of command.now) world.old proof.old world.new proof.new) }
     ensures applied { IfOk result (λ u. IsApplied (given_label (option_copied label.entry)) (proof_command_of command.now) world.old proof.old world.new proof.new) }
     ensures refused { (fault : AFault) → result ≡ Err fault →
         IsRefused (given_label (option_copied label.entry)) (proof_command_of command.now) world.old proof.old fault }
@@ -120,6 +121,7 @@ pub fn apply_proof_command<L>(
                 steps,
             )
         }
+        ProofCommand::Skip => skip(world, proof, steps),
         _ => unreachable!(),
     }
 }

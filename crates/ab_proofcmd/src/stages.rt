@@ -1,9 +1,11 @@
 //! A formula is derived from a hypothesis or a theorem, stage by stage.
-ghost use Rattle.std.specs.Prelude.{OnOk, IfOk, All};
+ghost use Rattle.std.specs.Prelude.{[], ◌∷◌, OnOk, All};
 ghost use Rattle.ab_logic.specs.Worlds.{IsWorld, Holds};
 ghost use Rattle.ab_steps.specs.ab_kernel.specs.Layout.{IsProof};
 ghost use Rattle.ab_uses.specs.UseReadings.{HoldsStage};
-ghost use Rattle.ab_steps.specs.Progress.{Follows};
+ghost use Rattle.ab_theory.specs.Derivations.{theorem_taken};
+ghost use Rattle.ab_effects.specs.Debts.{taken_unless};
+ghost use Rattle.ab_steps.specs.Progress.{Advances, Follows, Owes};
 ghost use Rattle.ab_proofcmd.specs.GoalCounts.{Gives};
 
 use crate::many_goals::step_into;
@@ -72,7 +74,8 @@ fn take_theorem<L>(
 ) -> Result<Name, AllocError>
     requires world { IsWorld world.old }
     requires proof { IsProof world.old proof.old }
-    ensures follows { Follows world.old proof.old world.new proof.new }
+    ensures follows { Advances world.old proof.old world.new proof.new }
+    ensures owes { OnOk result (Owes (theorem_taken source.now ∷ []) world.old proof.old world.new proof.new) }
     ensures gives { OnOk result (Gives world.old proof.old world.new proof.new place 1) }
 {
     let own = own_at(alloc, world, proof, place)?;
@@ -89,26 +92,25 @@ fn take_theorem<L>(
     Ok(own)
 }
 
-/// The formula that is used becomes a hypothesis of the command's own, whose name is the answer.
-fn take_up<L>(
+/// The formula that is used, that of a hypothesis or a theorem, becomes a hypothesis of the command's own, whose name is the
+/// answer.
+pub(crate) fn take_up<L>(
     alloc: Global,
     world: &mut World,
     proof: &mut Proof,
     place: usize,
     source: &Name,
     formula: TermId,
+    is_hypothesis: bool,
     steps: &mut Steps<L>,
 ) -> Result<Name, AllocError>
     requires world { IsWorld world.old }
     requires proof { IsProof world.old proof.old }
     requires formula { Holds world.old formula }
-    ensures follows { Follows world.old proof.old world.new proof.new }
+    ensures follows { Advances world.old proof.old world.new proof.new }
+    ensures owes { OnOk result (Owes (taken_unless is_hypothesis source.now) world.old proof.old world.new proof.new) }
     ensures gives { OnOk result (Gives world.old proof.old world.new proof.new place 1) }
 {
-    let is_hypothesis = match proof.goal(place) {
-        Some(goal) => goal.uses(source),
-        None => false,
-    };
     if is_hypothesis {
         take_hypothesis(alloc, world, proof, place, source, formula, steps)
     } else {
@@ -300,7 +302,7 @@ fn behind<'a>(stage: &Stage, names: &'a [Name]) -> &'a [Name] {
 
 /// The stages are taken one after another from the hypothesis of the command's own, which closes the goal then. The names
 /// are those of the hypotheses that meet the antecedents.
-fn take_stages<L>(
+pub(crate) fn take_stages<L>(
     alloc: Global,
     world: &mut World,
     proof: &mut Proof,
@@ -332,28 +334,4 @@ fn take_stages<L>(
             )
         }
     }
-}
-
-/// Closes the goal of this place by the formula that is used, a hypothesis or a theorem of this name: its stages lead to the
-/// conclusion, and the hypotheses of these names meet its antecedents.
-pub(crate) fn derive<L>(
-    alloc: Global,
-    world: &mut World,
-    proof: &mut Proof,
-    place: usize,
-    source: &Name,
-    formula: TermId,
-    stages: &[Stage],
-    names: &[Name],
-    steps: &mut Steps<L>,
-) -> Result<(), AllocError>
-    requires world { IsWorld world.old }
-    requires proof { IsProof world.old proof.old }
-    requires formula { Holds world.old formula }
-    requires stages { All (HoldsStage world.old) stages.now }
-    ensures follows { Follows world.old proof.old world.new proof.new }
-    ensures gives { OnOk result (Gives world.old proof.old world.new proof.new place 0) }
-{
-    let current = take_up(alloc, world, proof, place, source, formula, steps)?;
-    take_stages(alloc, world, proof, place, current, stages, names, steps)
 }

@@ -13,6 +13,7 @@ use Rattle.ab_term.specs.Names.{EqualUpToNames}
 use Rattle.ab_term.specs.Translation.{EqualPastHints}
 use Rattle.ab_formulas.specs.Marks.{erased, MarksServeIn}
 use Rattle.ab_theory.specs.Rules.{NamedRule, Fails}
+use Rattle.ab_theory.specs.Derivations.{debts_of}
 use Rattle.ab_steps.specs.Progress.{SolvesNothing}
 use Rattle.ab_search.proofs.Refuting.{at_place}
 use Rattle.ab_search.specs.Choices.{Takes}
@@ -43,6 +44,15 @@ plain Equality s = tt
 plain Both s = tt
 plain Left s = tt
 plain Right s = tt
+
+-- nor owes it anything
+pub free : (c : Choice) (s : Sequent) → debts_of (step_for c s) ≡ []
+free Truth s = refl
+free (ByHypothesis place) s = refl
+free Equality s = refl
+free Both s = refl
+free Left s = refl
+free Right s = refl
 
 module _ (D : Declarations) (s : Sequent) (is : IsSequent D s) where
   found : (place : ℕ) (h : Hypothesis) → slice_get s.hypotheses place ≡ Some h → formula_of s (name_of (slice_get s.hypotheses place)) ≡ Some h.formula

@@ -1,3 +1,4 @@
 pub mod Following
 pub mod Connectives
 pub mod Plain
+pub mod OwedJust

@@ -10,7 +10,7 @@ use Rattle.ab_theory.specs.Conjuncts.{conjuncts, with_parts}
 use Rattle.ab_theory.specs.Induction.{marked_antecedents, marked_consequents}
 use Rattle.ab_theory.specs.Levels.{next_level, inductive_level, coinductive_level}
 use Rattle.ab_theory.specs.Row.{leads, labelled_each, Sticks}
-use Rattle.ab_theory.specs.Steps.{Step, initial, true_right, false_left, and_right, and_left, or_right, or_left, arrow_right, arrow_left, for_all_right, for_all_left, exists_right, exists_left, nabla_right, nabla_left, equal_right, equal_left, definition_right, definition_left, induction, coinduction, cut_formula, use_theorem, weaken, spec_cut, spec_instance, spec_monotone}
+use Rattle.ab_theory.specs.Steps.{Step, initial, true_right, false_left, and_right, and_left, or_right, or_left, arrow_right, arrow_left, for_all_right, for_all_left, exists_right, exists_left, nabla_right, nabla_left, equal_right, equal_left, definition_right, definition_left, induction, coinduction, cut_formula, use_theorem, weaken, spec_cut, spec_instance, spec_monotone, skip}
 use Rattle.ab_theory.specs.Rules.{Stuck}
 use Rattle.ab_steps.specs.Progress.{SolvesNothing}
 
@@ -55,3 +55,4 @@ never_stuck D cells (weaken H) s i plain f = f.2
 never_stuck D cells (spec_cut H K l) s i plain f = f.0
 never_stuck D cells (spec_instance H rs l) s i plain f = f.0
 never_stuck D cells (spec_monotone H K l) s i plain f = f.0
+never_stuck D cells skip s i plain f = f

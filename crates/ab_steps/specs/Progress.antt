@@ -1,5 +1,6 @@
 -- What a call that takes steps leaves of a proof.
-use Rattle.std.specs.Prelude.{◌≡◌, ℕ, List, ◌∷◌, ◌++◌, length}
+use Rattle.std.specs.Prelude.{◌≡◌, ℕ, List, [], ◌∷◌, ◌++◌, length}
+use Rattle.std.specs.List.Sorted.{IsPermutation}
 use Rattle.ab_logic.specs.Worlds.{declarations_of}
 use Rattle.ab_logic.specs.WorldGrowth.{Grows}
 use Rattle.ab_formulas.specs.Sequents.{Sequent}
@@ -7,7 +8,7 @@ use Rattle.ab_logic.specs.declared.world.World.{World}
 use Rattle.ab_unify.specs.Problem.{cells_read}
 use Rattle.ab_theory.specs.Steps.{Step, equal_left, definition_right, definition_left}
 use Rattle.ab_theory.specs.Rules.{NamedRule, Fails, Stuck}
-use Rattle.ab_theory.specs.Derivations.{open_goals, Above}
+use Rattle.ab_theory.specs.Derivations.{Debt, debts, open_goals, Above}
 use Rattle.ab_kernel.specs.Layout.{Held, history_of, IsProof, Beyond}
 
 -- the open goals, from left to right
@@ -21,12 +22,34 @@ pub record IsAt (w : World) (p : Held) (place : ℕ) (before : List Sequent) (s 
 
 -- THE PROOF IS STILL ONE, in a world that may have grown and declares the same, and the steps since then can be taken back,
 -- which leaves each node as it was
-pub record Follows (w : World) (p : Held) (v : World) (q : Held) : Type 0 where
+pub record Advances (w : World) (p : Held) (v : World) (q : Held) : Type 0 where
   pub grows : Grows w v
   pub declared : declarations_of v ≡ declarations_of w
   pub proof : IsProof v q
   pub above : Above (history_of w p) (history_of v q)
   pub beyond : Beyond p q
+
+-- the proof owes these debts more, and nothing else: each debt as often as before and as among these
+abbrev pub Owes : List Debt → World → Held → World → Held → Type 0
+Owes ts w p v q = IsPermutation (debts (history_of v q).tree) (debts (history_of w p).tree ++ ts)
+
+-- THE SAME, BY STEPS THAT OWE THESE
+pub record FollowsOwing (ts : List Debt) (w : World) (p : Held) (v : World) (q : Held) : Type 0 where
+  pub grows : Grows w v
+  pub declared : declarations_of v ≡ declarations_of w
+  pub proof : IsProof v q
+  pub above : Above (history_of w p) (history_of v q)
+  pub beyond : Beyond p q
+  pub owes : Owes ts w p v q
+
+-- by steps that owe nothing
+abbrev pub Follows : World → Held → World → Held → Type 0
+Follows = FollowsOwing []
+
+-- by a step that owes these, if it was taken: where it owes something, what is owed is said apart
+abbrev pub FollowsBy : List Debt → World → Held → World → Held → Type 0
+FollowsBy [] = Follows
+FollowsBy (t ∷ ts) = Advances
 
 -- the goal of this place gave way to goals that it has this to do with
 abbrev pub GaveWay : World → Held → World → Held → ℕ → (Sequent → List Sequent → Type 0) → Type 0

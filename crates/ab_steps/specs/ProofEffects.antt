@@ -9,7 +9,8 @@ use Rattle.ab_kernel.specs.Layout.{Held}
 use Rattle.ab_effects.specs.ProofCommands.{effect}
 use Rattle.ab_meaning.specs.Refusals.{unknown, clash, type_clash, untyped, no_hypothesis, wrong_shape, mark, no_match, not_pattern, unresolved, names_spent}
 use Rattle.ab_effects.specs.Row.{Row, Leads, Refuses}
-use Rattle.ab_steps.specs.Progress.{goals_of}
+use Rattle.ab_effects.specs.Debts.{debts_at}
+use Rattle.ab_steps.specs.Progress.{goals_of, Owes}
 use Rattle.ab_steps.specs.declared.fault.ProofCommandFault.{ProofCommandFault}
 use Rattle.ab_steps.specs.declared.fault.ProofCommandFault.TheVariants.{Unknown, Clash, TypeClash, Untyped, NoHypothesis, WrongShape, Mark, NoMatch, NotPattern, Unresolved, NamesSpent, Memory}
 
@@ -17,6 +18,10 @@ use Rattle.ab_steps.specs.declared.fault.ProofCommandFault.TheVariants.{Unknown,
 abbrev pub IsApplied : Label → ProofCommand → World → Held → World → Held → Type 0
 IsApplied l command w p v q = (s : Sequent) (rest : List Sequent) → goals_of w p ≡ s ∷ rest →
     (ps : List Sequent) × Leads (effect (declarations_of w) l command s) ps × (goals_of v q ≡ ps ++ rest)
+
+-- what the command owes at the first goal the proof owes more, and nothing else
+abbrev pub OwesFor : ProofCommand → World → Held → World → Held → Type 0
+OwesFor command w p v q = (s : Sequent) (rest : List Sequent) → goals_of w p ≡ s ∷ rest → Owes (debts_at s command) w p v q
 
 -- the row refuses so; want of memory is free
 abbrev pub RefusedBy : Row → ProofCommandFault → Type 0

@@ -3,9 +3,9 @@ ghost use Rattle.std.specs.Prelude.{◌≡◌, ◌≢◌, ℕ, ◌<◌, ◌≤�
 ghost use Rattle.ab_logic.specs.Worlds.{IsWorld};
 ghost use Rattle.ab_logic.specs.declared.world.World.{World as AWorld};
 ghost use Rattle.ab_kernel.specs.RuleAnswers.{step_of, HoldsStep};
-ghost use Rattle.ab_theory.specs.Derivations.{undone};
+ghost use Rattle.ab_theory.specs.Derivations.{debts_of, undone};
 ghost use Rattle.ab_kernel.specs.Layout.{Held, history_of, IsProof};
-ghost use Rattle.ab_steps.specs.Progress.{goals_of, Follows, Took, TookInto, FailsAt, FailsBy, Holds, StuckAt, SolvesNothing};
+ghost use Rattle.ab_steps.specs.Progress.{goals_of, Advances, Follows, FollowsBy, Owes, Took, TookInto, FailsAt, FailsBy, Holds, StuckAt, SolvesNothing};
 ghost use Rattle.ab_steps.specs.declared.goal_steps.Attempted.TheVariants.{Taken, Failed, Stuck};
 
 use ab_kernel::{KernelFault, Proof, Step};
@@ -36,7 +36,8 @@ pub fn attempt_solving<L>(
     requires proof { IsProof world.old proof.old }
     requires step { HoldsStep world.old step }
     requires place { place < length (goals_of world.old proof.old) }
-    ensures follows { Follows world.old proof.old world.new proof.new }
+    ensures follows { FollowsBy (debts_of (step_of world.old step)) world.old proof.old world.new proof.new }
+    ensures owes { (n : ℕ) → result ≡ Ok (Taken n) → Owes (debts_of (step_of world.old step)) world.old proof.old world.new proof.new }
     ensures took { (n : ℕ) → result ≡ Ok (Taken n) → TookInto world.old proof.old world.new proof.new place (step_of world.old step) n }
     ensures failed { (i : ℕ) → result ≡ Ok (Failed i) → FailsBy world.old proof.old place (step_of world.old step) i }
     ensures stuck { (i : ℕ) → result ≡ Ok (Stuck i) → StuckAt world.old proof.old place (step_of world.old step) i }
@@ -66,7 +67,8 @@ pub fn attempt<L>(
     requires step { HoldsStep world.old step }
     requires plain { SolvesNothing (step_of world.old step) }
     requires place { place < length (goals_of world.old proof.old) }
-    ensures follows { Follows world.old proof.old world.new proof.new }
+    ensures follows { FollowsBy (debts_of (step_of world.old step)) world.old proof.old world.new proof.new }
+    ensures owes { IfOk result (λ b. IsTrue b → Owes (debts_of (step_of world.old step)) world.old proof.old world.new proof.new) }
     ensures took { IfOk result (λ b. IsTrue b → Took world.old proof.old world.new proof.new place (step_of world.old step)) }
     ensures failed { IfOk result (λ b. IsFalse b → FailsAt world.old proof.old place (step_of world.old step)) }
     ensures same { IfOk result (λ b. IsFalse b → history_of world.new proof.new ≡ history_of world.old proof.old) }
@@ -97,7 +99,8 @@ pub fn surely<L>(
     requires plain { SolvesNothing (step_of world.old step) }
     requires place { place < length (goals_of world.old proof.old) }
     requires sure { Holds world.old proof.old place (step_of world.old step) }
-    ensures follows { Follows world.old proof.old world.new proof.new }
+    ensures follows { FollowsBy (debts_of (step_of world.old step)) world.old proof.old world.new proof.new }
+    ensures owes { OnOk result (Owes (debts_of (step_of world.old step)) world.old proof.old world.new proof.new) }
     ensures took { OnOk result (Took world.old proof.old world.new proof.new place (step_of world.old step)) }
     ensures unchanged { OnErr result (history_of world.new proof.new ≡ history_of world.old proof.old) }
     ensures err { OnErr result (proof.new ≡ proof.old) }
@@ -112,11 +115,11 @@ pub fn take_back<L>(world: &mut World, proof: &mut Proof, count: usize, steps: &
     ensures undone { (w : AWorld) → history_of w proof.new ≡ undone (length (history_of w proof.old).earlier - count) (history_of w proof.old) }
     ensures proof { (w : AWorld) → IsProof w proof.old → IsProof w proof.new }
     ensures world { world.new ≡ world.old }
-    ensures unchanged { (w : AWorld) (p : Held) → Follows w p world.old proof.old → count ≡ length (history_of w p).earlier →
+    ensures unchanged { (w : AWorld) (p : Held) → Advances w p world.old proof.old → count ≡ length (history_of w p).earlier →
         history_of world.new proof.new ≡ history_of w p }
-    ensures follows { (w : AWorld) (p : Held) → Follows w p world.old proof.old → count ≡ length (history_of w p).earlier →
+    ensures follows { (w : AWorld) (p : Held) → Advances w p world.old proof.old → count ≡ length (history_of w p).earlier →
         Follows w p world.new proof.new }
-    ensures kept { (w : AWorld) (p : Held) → Follows w p world.old proof.old → count ≡ length (history_of w p).earlier → proof.new ≡ p }
+    ensures kept { (w : AWorld) (p : Held) → Advances w p world.old proof.old → count ≡ length (history_of w p).earlier → proof.new ≡ p }
     ensures steps { steps.new ≡ steps.old }
 {
     while proof.steps() > count {

@@ -6,7 +6,7 @@ use Rattle.ab_effects.specs.ProofCommands.{effect}
 use Rattle.ab_steps.specs.Progress.{goals_of}
 use Rattle.ab_steps.specs.ProofEffects.{RefusedBy}
 use Rattle.ab_steps.specs.declared.fault.ProofCommandFault.TheVariants.{WrongShape}
-use Rattle.ab_steps.proofs.Following.{first_at, some_goal, follows_on}
+use Rattle.ab_steps.proofs.Following.{advances, first_at, some_goal, follows_on}
 use Rattle.ab_conclusion.proofs.PartingGoals.{split_apart, split_all_fails}
 use Rattle.ab_conclusion.proofs.conjunctions.split_all.Goals as goal
 
@@ -40,9 +40,9 @@ returns-in-Ok-clause-applied g c l s rest e =
 pub returns-in-Err-clause-follows : goal.returns-in-Err-clause-follows
 returns-in-Err-clause-follows g c =
     c.take_back.ensures.follows c.args.world.now c.args.proof.now
-    (follows_on _ _ _ _ _ _ c.attempt.ensures.follows c.split_before.ensures.follows) (c.steps-count.ensures c.args.world.now)
+    (advances (follows_on _ _ _ _ _ _ c.attempt.ensures.follows c.split_before.ensures.follows)) (c.steps-count.ensures c.args.world.now)
 
 pub returns-in-Err-clause-unchanged : goal.returns-in-Err-clause-unchanged
 returns-in-Err-clause-unchanged g c =
     c.take_back.ensures.unchanged c.args.world.now c.args.proof.now
-    (follows_on _ _ _ _ _ _ c.attempt.ensures.follows c.split_before.ensures.follows) (c.steps-count.ensures c.args.world.now)
+    (advances (follows_on _ _ _ _ _ _ c.attempt.ensures.follows c.split_before.ensures.follows)) (c.steps-count.ensures c.args.world.now)

@@ -1,4 +1,4 @@
-use Rattle.std.proofs.Common.{◌≡◌, List, [], refl, map, sym, ap, subst}
+use Rattle.std.proofs.Common.{◌≡◌, List, [], refl, map, sym, ◌∙◌, ap, subst}
 use Rattle.ab_formulas.specs.NewNames.{Label}
 use Rattle.ab_formulas.specs.Sequents.{Sequent}
 use Rattle.ab_logic.specs.Worlds.{declarations_of}
@@ -6,11 +6,12 @@ use Rattle.ab_alternatives.specs.ab_equations.specs.Labels.{label_of}
 use Rattle.ab_unify.specs.Problem.{cells_read}
 use Rattle.ab_theory.specs.Steps.{Step}
 use Rattle.ab_theory.specs.Rules.{NamedRule, Fails}
+use Rattle.ab_theory.specs.Derivations.{debts_of}
 use Rattle.ab_steps.specs.ab_kernel.specs.SizeSteps.{step_by}
 use Rattle.ab_steps.specs.Progress.{SolvesNothing}
-use Rattle.ab_steps.proofs.Following.{at_first, first_at, some_goal}
+use Rattle.ab_steps.proofs.Following.{at_first, first_at, some_goal, follows_free}
 use Rattle.ab_conclusion.specs.InductionSizes.{MayGetSizes, GetsNoSizes}
-use Rattle.ab_conclusion.proofs.Sizes.{same_fault, step_plain, step_sure, step_leads, step_refused}
+use Rattle.ab_conclusion.proofs.Sizes.{same_fault, step_plain, step_free, step_sure, step_leads, step_refused}
 use Rattle.ab_conclusion.proofs.inductions.give_sizes.Goals as goal
 
 pub surely-requires-clause-step : goal.surely-requires-clause-step
@@ -47,6 +48,16 @@ returns-in_err-labels-clause-refused g c fault same s rest e =
     step_refused D l s ns k fault
     (subst (GetsNoSizes D l s k ns) (same_fault c.from_residual.result c.in_err-labels.field-0.0 fault c.from_residual.ensures.1 same)
     (subst (λ t. GetsNoSizes D l t k ns c.in_err-labels.field-0.0) here cause))
+
+pub returns-in_err-surely-clause-follows : goal.returns-in_err-surely-clause-follows
+returns-in_err-surely-clause-follows g c =
+    let free = ap debts_of (c.in_ok-step.ensures.reads c.args.world.now) ∙ step_free c.args.kind c.args.places.now (map label_of c.in_ok-labels.labels.items) in
+    follows_free _ free c.surely.ensures.follows
+
+pub returns-clause-follows : goal.returns-clause-follows
+returns-clause-follows g c =
+    let free = ap debts_of (c.in_ok-step.ensures.reads c.args.world.now) ∙ step_free c.args.kind c.args.places.now (map label_of c.in_ok-labels.labels.items) in
+    follows_free _ free c.surely.ensures.follows
 
 pub returns-clause-applied : goal.returns-clause-applied
 returns-clause-applied g c s rest e =

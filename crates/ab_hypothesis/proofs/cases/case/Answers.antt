@@ -9,7 +9,7 @@ use Rattle.ab_effects.specs.ProofCommands.{clashing}
 use Rattle.ab_meaning.specs.Refusals.{clash}
 use Rattle.ab_steps.specs.ProofEffects.{IsRefused}
 use Rattle.ab_steps.specs.Progress.{goals_of}
-use Rattle.ab_steps.proofs.Following.{first_at, one_at_least}
+use Rattle.ab_steps.proofs.Following.{advances, first_at, one_at_least}
 use Rattle.ab_hypothesis.proofs.Taking.{case_applied, case_refused}
 use Rattle.ab_hypothesis.proofs.cases.case.Goals as goal
 
@@ -49,8 +49,8 @@ returns-in-Some-fault_of-clause-refused g c fault e =
 
 pub returns-in-Some-fault_of-clause-follows : goal.returns-in-Some-fault_of-clause-follows
 returns-in-Some-fault_of-clause-follows g c =
-    c.take_back.ensures.follows c.args.world.now c.args.proof.now c.take_apart-came.ensures.follows (c.steps-count.ensures c.args.world.now)
+    c.take_back.ensures.follows c.args.world.now c.args.proof.now (advances c.take_apart-came.ensures.follows) (c.steps-count.ensures c.args.world.now)
 
 pub returns-in-Some-fault_of-clause-unchanged : goal.returns-in-Some-fault_of-clause-unchanged
 returns-in-Some-fault_of-clause-unchanged g c =
-    c.take_back.ensures.unchanged c.args.world.now c.args.proof.now c.take_apart-came.ensures.follows (c.steps-count.ensures c.args.world.now)
+    c.take_back.ensures.unchanged c.args.world.now c.args.proof.now (advances c.take_apart-came.ensures.follows) (c.steps-count.ensures c.args.world.now)

@@ -1,7 +1,7 @@
 use Rattle.std.proofs.Common.{[], ◌∷◌, sym, ◌∙◌, ap, refl}
 use Rattle.ab_formulas.specs.Sequents.{proving, assuming, without}
 use Rattle.ab_steps.specs.Progress.{goals_of}
-use Rattle.ab_steps.proofs.Following.{follows_on, as_before}
+use Rattle.ab_steps.proofs.Following.{advances, follows_on, as_before}
 use Rattle.ab_steps.specs.ab_kernel.proofs.Later.{still_proof}
 use Rattle.ab_hypothesis.proofs.Changed.{begins, on_err, same_goals, of_all}
 use Rattle.ab_hypothesis.proofs.exchange_steps.turn_conclusion.Goals as goal
@@ -24,13 +24,13 @@ returns-in-Ok-clause-follows g c = follows_on _ _ _ _ _ _ (begins c.args.world.n
 pub returns-in-Err-clause-follows : goal.returns-in-Err-clause-follows
 returns-in-Err-clause-follows g c =
     c.take_back.ensures.follows c.args.world.now c.args.proof.now
-    (follows_on _ _ _ _ _ _ (begins c.args.world.now c.permuted.new.world c.args.proof.now c.requires.proof c.permuted.ensures.adds) c.change_conclusion-came.ensures.follows)
+    (advances (follows_on _ _ _ _ _ _ (begins c.args.world.now c.permuted.new.world c.args.proof.now c.requires.proof c.permuted.ensures.adds) c.change_conclusion-came.ensures.follows))
     (c.steps-count.ensures c.args.world.now)
 
 pub returns-in-Err-clause-unchanged : goal.returns-in-Err-clause-unchanged
 returns-in-Err-clause-unchanged g c =
     c.take_back.ensures.unchanged c.args.world.now c.args.proof.now
-    (follows_on _ _ _ _ _ _ (begins c.args.world.now c.permuted.new.world c.args.proof.now c.requires.proof c.permuted.ensures.adds) c.change_conclusion-came.ensures.follows)
+    (advances (follows_on _ _ _ _ _ _ (begins c.args.world.now c.permuted.new.world c.args.proof.now c.requires.proof c.permuted.ensures.adds) c.change_conclusion-came.ensures.follows))
     (c.steps-count.ensures c.args.world.now)
 
 pub returns-in-Ok-clause-turned : goal.returns-in-Ok-clause-turned

@@ -7,7 +7,9 @@ use Rattle.ab_equations.specs.Labels.{label_of}
 use Rattle.ab_steps.specs.ab_kernel.proofs.Later.{same_history, still_proof}
 use Rattle.ab_steps.specs.ProofEffects.{IsRefused}
 use Rattle.ab_steps.specs.declared.fault.ProofCommandFault.TheVariants.{NamesSpent, Memory}
-use Rattle.ab_steps.proofs.Following.{follows_on}
+use Rattle.ab_effects.specs.ProofCommands.{is_used}
+use Rattle.ab_effects.specs.Debts.{taken_unless}
+use Rattle.ab_steps.proofs.Following.{advances, advances_on, owes_before}
 use Rattle.ab_proofcmd.proofs.Given.{same_fault}
 use Rattle.ab_proofcmd.proofs.Carried.{first_sequent, same_goals, follows_world, refused_at, on_err, apply_done, apply_spent}
 use Rattle.ab_proofcmd.proofs.application.apply.Goals as goal
@@ -18,7 +20,7 @@ ask-requires-clause-sequent g c =
     first_sequent w c.requires.world c.args.proof.now c.requires.proof c.requires.open (sequent_of w c.first_goal-goal.result.now) c.first_goal-goal.ensures.reads
 
 pub returns-in_err-asked-clause-follows : goal.returns-in_err-asked-clause-follows
-returns-in_err-asked-clause-follows g c = follows_world c.args.world.now c.ask.new.world c.args.proof.now c.ask.ensures.grows c.ask.ensures.declared c.requires.proof
+returns-in_err-asked-clause-follows g c = advances (follows_world c.args.world.now c.ask.new.world c.args.proof.now c.ask.ensures.grows c.ask.ensures.declared c.requires.proof)
 
 pub returns-in_err-asked-clause-refused : goal.returns-in_err-asked-clause-refused
 returns-in_err-asked-clause-refused g c fault same =
@@ -40,7 +42,16 @@ carry_out-requires-clause-asked g c = c.in_ok-asked.ensures.asked.0
 
 pub returns-in-Ok-clause-follows : goal.returns-in-Ok-clause-follows
 returns-in-Ok-clause-follows g c =
-    follows_on _ _ _ _ _ _ (follows_world c.args.world.now c.ask.new.world c.args.proof.now c.ask.ensures.grows c.ask.ensures.declared c.requires.proof) c.carry_out.ensures.follows
+    advances_on _ _ _ _ _ _ (advances (follows_world c.args.world.now c.ask.new.world c.args.proof.now c.ask.ensures.grows c.ask.ensures.declared c.requires.proof)) c.carry_out.ensures.follows
+
+pub returns-in-Ok-clause-owes : goal.returns-in-Ok-clause-owes
+returns-in-Ok-clause-owes g c s rest e =
+    let w = c.args.world.now in
+    let m = c.ask.new.world in
+    let p = c.args.proof.now in
+    let H = c.args.name.now in
+    owes_before (taken_unless (is_used s H) H) w m c.carry_out.new.world p p c.carry_out.new.proof (follows_world w m p c.ask.ensures.grows c.ask.ensures.declared c.requires.proof).owes
+    (c.in-Ok.ensures.owes s rest (same_goals w m p c.ask.ensures.grows c.requires.proof ∙ e))
 
 pub returns-in-Ok-clause-applied : goal.returns-in-Ok-clause-applied
 returns-in-Ok-clause-applied g c =
@@ -53,8 +64,8 @@ returns-in-Ok-clause-applied g c =
 
 pub returns-clause-follows : goal.returns-clause-follows
 returns-clause-follows g c =
-    follows_on _ _ _ _ _ _ (follows_world c.args.world.now c.ask.new.world c.args.proof.now c.ask.ensures.grows c.ask.ensures.declared c.requires.proof)
-    (c.take_back.ensures.follows c.ask.new.world c.args.proof.now c.carry_out.ensures.follows (c.steps-count.ensures c.ask.new.world))
+    advances_on _ _ _ _ _ _ (advances (follows_world c.args.world.now c.ask.new.world c.args.proof.now c.ask.ensures.grows c.ask.ensures.declared c.requires.proof))
+    (advances (c.take_back.ensures.follows c.ask.new.world c.args.proof.now c.carry_out.ensures.follows (c.steps-count.ensures c.ask.new.world)))
 
 pub returns-clause-refused : goal.returns-clause-refused
 returns-clause-refused g c fault same =

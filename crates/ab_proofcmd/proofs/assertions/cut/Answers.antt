@@ -5,12 +5,17 @@ use Rattle.ab_logic.specs.Worlds.{read, declarations_of}
 use Rattle.ab_equations.specs.Labels.{label_of}
 use Rattle.ab_theory.specs.Steps.{cut_formula}
 use Rattle.ab_steps.proofs.Plain.{never_stuck}
-use Rattle.ab_steps.proofs.Following.{follows_same, as_before, took}
+use Rattle.ab_steps.proofs.Following.{follows_same, as_before, by_step, took}
 use Rattle.ab_proofcmd.proofs.assertions.cut.Goals as goal
 
 pub returns-in-Ok-clause-took : goal.returns-in-Ok-clause-took
 returns-in-Ok-clause-took g c =
     took c.args.world.now c.refine.new.world c.args.proof.now c.refine.new.self 0 _ (cut_formula (read c.args.world.now c.args.formula) (label_of c.args.label)) c.in-Ok.ensures.step
+
+pub returns-in-Ok-clause-follows : goal.returns-in-Ok-clause-follows
+returns-in-Ok-clause-follows g c =
+    by_step c.args.world.now c.refine.new.world c.args.proof.now c.refine.new.self 0 _ (cut_formula (read c.args.world.now c.args.formula) (label_of c.args.label))
+    c.refine.ensures.grows c.refine.ensures.declared c.refine.ensures.proof c.in-Ok.ensures.step c.in-Ok.ensures.layout
 
 pub returns-then-condition-eq1-clause-follows : goal.returns-then-condition-eq1-clause-follows
 returns-then-condition-eq1-clause-follows g c =

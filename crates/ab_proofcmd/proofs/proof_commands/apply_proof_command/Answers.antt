@@ -11,8 +11,11 @@ use Rattle.ab_syntax.specs.SyntaxTrees.{tree_of}
 use Rattle.ab_formulas.specs.NewNames.{Label}
 use Rattle.ab_steps.specs.ProofEffects.{IsApplied, IsRefused}
 use Rattle.ab_effects.specs.ProofCommands.{given_label}
-use Rattle.ab_proofcmd.proofs.Answered.{at_label}
+use Rattle.ab_proofcmd.proofs.Answered.{at_label, whatever}
 use Rattle.ab_proofcmd.proofs.proof_commands.apply_proof_command.Goals as goal
+
+pub returns-in-Intros-clause-owes : goal.returns-in-Intros-clause-owes
+returns-in-Intros-clause-owes g c = rw c.in-Intros.is (whatever c.intros.result (λ s rest e. c.intros.ensures.follows.owes))
 
 pub returns-in-Intros-clause-applied : goal.returns-in-Intros-clause-applied
 returns-in-Intros-clause-applied g c =
@@ -26,6 +29,9 @@ returns-in-Intros-clause-refused g c fault e =
     let l = given_label (option_copied c.args.label) in
     rw c.in-Intros.is
     (subst (λ (xs : List (List ℕ)). IsRefused l (told.intros xs) c.args.world.now c.args.proof.now fault) c.as_slice.ensures (c.intros.ensures.refused fault e l))
+
+pub returns-in-Induction-clause-owes : goal.returns-in-Induction-clause-owes
+returns-in-Induction-clause-owes g c = rw c.in-Induction.is (whatever c.induction.result (λ s rest e. c.induction.ensures.follows.owes))
 
 pub returns-in-Induction-clause-applied : goal.returns-in-Induction-clause-applied
 returns-in-Induction-clause-applied g c =
@@ -43,6 +49,9 @@ returns-in-Induction-clause-refused g c fault e =
     (subst (λ (xs : List ℕ). refused l xs) c.as_slice-in-Induction.ensures
     (subst (λ (m : Label). refused m c.as_slice-in-Induction.result.now) c.in_ok-wanted.ensures (c.induction.ensures.refused fault e)))
 
+pub returns-in-Coinduction-clause-owes : goal.returns-in-Coinduction-clause-owes
+returns-in-Coinduction-clause-owes g c = rw c.in-Coinduction.is (whatever c.coinduction.result (λ s rest e. c.coinduction.ensures.follows.owes))
+
 pub returns-in-Coinduction-clause-applied : goal.returns-in-Coinduction-clause-applied
 returns-in-Coinduction-clause-applied g c =
     rw c.in-Coinduction.is
@@ -53,6 +62,9 @@ pub returns-in-Coinduction-clause-refused : goal.returns-in-Coinduction-clause-r
 returns-in-Coinduction-clause-refused g c fault e =
     rw c.in-Coinduction.is
     (subst (λ (m : Label). IsRefused m told.coinduction c.args.world.now c.args.proof.now fault) c.in_ok-wanted.ensures (c.coinduction.ensures.refused fault e))
+
+pub returns-in-Case-clause-owes : goal.returns-in-Case-clause-owes
+returns-in-Case-clause-owes g c = rw c.in-Case.is (whatever c.case.result (λ s rest e. c.case.ensures.follows.owes))
 
 pub returns-in-Case-clause-applied : goal.returns-in-Case-clause-applied
 returns-in-Case-clause-applied g c =
@@ -65,6 +77,9 @@ returns-in-Case-clause-refused g c fault e =
     rw c.in-Case.is
     (subst (λ (m : Label). IsRefused m (told.case c.in-Case.name c.in-Case.keep) c.args.world.now c.args.proof.now fault) c.in_ok-wanted.ensures (c.case.ensures.refused fault e))
 
+pub returns-in-Split-clause-owes : goal.returns-in-Split-clause-owes
+returns-in-Split-clause-owes g c = rw c.in-Split.is (whatever c.split.result (λ s rest e. c.split.ensures.follows.owes))
+
 pub returns-in-Split-clause-applied : goal.returns-in-Split-clause-applied
 returns-in-Split-clause-applied g c =
     let l = given_label (option_copied c.args.label) in
@@ -72,6 +87,9 @@ returns-in-Split-clause-applied g c =
 
 pub returns-in-Split-clause-refused : goal.returns-in-Split-clause-refused
 returns-in-Split-clause-refused g c fault e = rw c.in-Split.is (c.split.ensures.refused fault e (given_label (option_copied c.args.label)))
+
+pub returns-in-SplitAll-clause-owes : goal.returns-in-SplitAll-clause-owes
+returns-in-SplitAll-clause-owes g c = rw c.in-SplitAll.is (whatever c.split_all.result (λ s rest e. c.split_all.ensures.follows.owes))
 
 pub returns-in-SplitAll-clause-applied : goal.returns-in-SplitAll-clause-applied
 returns-in-SplitAll-clause-applied g c =
@@ -81,6 +99,9 @@ returns-in-SplitAll-clause-applied g c =
 pub returns-in-SplitAll-clause-refused : goal.returns-in-SplitAll-clause-refused
 returns-in-SplitAll-clause-refused g c fault e = rw c.in-SplitAll.is (c.split_all.ensures.refused fault e (given_label (option_copied c.args.label)))
 
+pub returns-in-Left-clause-owes : goal.returns-in-Left-clause-owes
+returns-in-Left-clause-owes g c = rw c.in-Left.is (whatever c.left.result (λ s rest e. c.left.ensures.follows.owes))
+
 pub returns-in-Left-clause-applied : goal.returns-in-Left-clause-applied
 returns-in-Left-clause-applied g c =
     let l = given_label (option_copied c.args.label) in
@@ -88,6 +109,9 @@ returns-in-Left-clause-applied g c =
 
 pub returns-in-Left-clause-refused : goal.returns-in-Left-clause-refused
 returns-in-Left-clause-refused g c fault e = rw c.in-Left.is (c.left.ensures.refused fault e (given_label (option_copied c.args.label)))
+
+pub returns-in-Right-clause-owes : goal.returns-in-Right-clause-owes
+returns-in-Right-clause-owes g c = rw c.in-Right.is (whatever c.right.result (λ s rest e. c.right.ensures.follows.owes))
 
 pub returns-in-Right-clause-applied : goal.returns-in-Right-clause-applied
 returns-in-Right-clause-applied g c =
@@ -97,6 +121,9 @@ returns-in-Right-clause-applied g c =
 pub returns-in-Right-clause-refused : goal.returns-in-Right-clause-refused
 returns-in-Right-clause-refused g c fault e = rw c.in-Right.is (c.right.ensures.refused fault e (given_label (option_copied c.args.label)))
 
+pub returns-in-Unfold-clause-owes : goal.returns-in-Unfold-clause-owes
+returns-in-Unfold-clause-owes g c = rw c.in-Unfold.is (whatever c.unfold.result (λ s rest e. c.unfold.ensures.follows.owes))
+
 pub returns-in-Unfold-clause-applied : goal.returns-in-Unfold-clause-applied
 returns-in-Unfold-clause-applied g c =
     let l = given_label (option_copied c.args.label) in
@@ -104,6 +131,9 @@ returns-in-Unfold-clause-applied g c =
 
 pub returns-in-Unfold-clause-refused : goal.returns-in-Unfold-clause-refused
 returns-in-Unfold-clause-refused g c fault e = rw c.in-Unfold.is (c.unfold.ensures.refused fault e (given_label (option_copied c.args.label)))
+
+pub returns-in-Clear-clause-owes : goal.returns-in-Clear-clause-owes
+returns-in-Clear-clause-owes g c = rw c.in-Clear.is (whatever c.clear.result (λ s rest e. c.clear.ensures.follows.owes))
 
 pub returns-in-Clear-clause-applied : goal.returns-in-Clear-clause-applied
 returns-in-Clear-clause-applied g c =
@@ -118,6 +148,9 @@ returns-in-Clear-clause-refused g c fault e =
     rw c.in-Clear.is
     (subst (λ (xs : List (List ℕ)). IsRefused l (told.clear xs) c.args.world.now c.args.proof.now fault) c.as_slice-in-Clear.ensures (c.clear.ensures.refused fault e l))
 
+pub returns-in-Rename-clause-owes : goal.returns-in-Rename-clause-owes
+returns-in-Rename-clause-owes g c = rw c.in-Rename.is (whatever c.rename.result (λ s rest e. c.rename.ensures.follows.owes))
+
 pub returns-in-Rename-clause-applied : goal.returns-in-Rename-clause-applied
 returns-in-Rename-clause-applied g c =
     let l = given_label (option_copied c.args.label) in
@@ -126,6 +159,9 @@ returns-in-Rename-clause-applied g c =
 pub returns-in-Rename-clause-refused : goal.returns-in-Rename-clause-refused
 returns-in-Rename-clause-refused g c fault e = rw c.in-Rename.is (c.rename.ensures.refused fault e (given_label (option_copied c.args.label)))
 
+pub returns-in-Exists-clause-owes : goal.returns-in-Exists-clause-owes
+returns-in-Exists-clause-owes g c = rw c.in-Exists.is (whatever c.exists.result (λ s rest e. c.exists.ensures.follows.owes))
+
 pub returns-in-Exists-clause-applied : goal.returns-in-Exists-clause-applied
 returns-in-Exists-clause-applied g c =
     let l = given_label (option_copied c.args.label) in
@@ -133,6 +169,9 @@ returns-in-Exists-clause-applied g c =
 
 pub returns-in-Exists-clause-refused : goal.returns-in-Exists-clause-refused
 returns-in-Exists-clause-refused g c fault e = rw c.in-Exists.is (c.exists.ensures.refused fault e (given_label (option_copied c.args.label)))
+
+pub returns-in-Assert-clause-owes : goal.returns-in-Assert-clause-owes
+returns-in-Assert-clause-owes g c = rw c.in-Assert.is (whatever c.assert.result (λ s rest e. c.assert.ensures.follows.owes))
 
 pub returns-in-Assert-clause-applied : goal.returns-in-Assert-clause-applied
 returns-in-Assert-clause-applied g c =
@@ -144,6 +183,9 @@ pub returns-in-Assert-clause-refused : goal.returns-in-Assert-clause-refused
 returns-in-Assert-clause-refused g c fault e =
     rw c.in-Assert.is
     (subst (λ (m : Label). IsRefused m (told.assert (tree_of c.in-Assert.formula)) c.args.world.now c.args.proof.now fault) c.in_ok-wanted.ensures (c.assert.ensures.refused fault e))
+
+pub returns-in-Permute-clause-owes : goal.returns-in-Permute-clause-owes
+returns-in-Permute-clause-owes g c = rw c.in-Permute.is (whatever c.permute.result (λ s rest e. c.permute.ensures.follows.owes))
 
 pub returns-in-Permute-clause-applied : goal.returns-in-Permute-clause-applied
 returns-in-Permute-clause-applied g c =
@@ -160,6 +202,9 @@ returns-in-Permute-clause-refused g c fault e =
     (subst (λ (xs : List ℕ). IsRefused l (told.permute xs c.in-Permute.name) c.args.world.now c.args.proof.now fault) c.as_slice-in-Permute.ensures
     (subst (λ (x : Option (List ℕ)). IsRefused l (told.permute c.as_slice-in-Permute.result.now x) c.args.world.now c.args.proof.now fault) c.as_ref.ensures.value
     (c.permute.ensures.refused fault e l)))
+
+pub returns-in-Apply-clause-owes : goal.returns-in-Apply-clause-owes
+returns-in-Apply-clause-owes g c = rw c.in-Apply.is c.apply.ensures.owes
 
 pub returns-in-Apply-clause-applied : goal.returns-in-Apply-clause-applied
 returns-in-Apply-clause-applied g c =
@@ -183,6 +228,9 @@ returns-in-Apply-clause-refused g c fault e =
     (subst (λ (m : Label). refused m c.as_slice-list.result.now c.as_slice-terms.result.now) c.in_ok-wanted.ensures
     (c.apply.ensures.refused fault e))))
 
+pub returns-in-Backchain-clause-owes : goal.returns-in-Backchain-clause-owes
+returns-in-Backchain-clause-owes g c = rw c.in-Backchain.is c.backchain.ensures.owes
+
 pub returns-in-Backchain-clause-applied : goal.returns-in-Backchain-clause-applied
 returns-in-Backchain-clause-applied g c =
     let l = given_label (option_copied c.args.label) in
@@ -196,3 +244,14 @@ returns-in-Backchain-clause-refused g c fault e =
     let l = given_label (option_copied c.args.label) in
     rw c.in-Backchain.is
     (subst (λ (is : List Instance). IsRefused l (told.backchain c.in-Backchain.name (map instance_of is)) c.args.world.now c.args.proof.now fault) c.as_slice-in-Backchain.ensures (c.backchain.ensures.refused fault e l))
+
+pub returns-in-Skip-clause-owes : goal.returns-in-Skip-clause-owes
+returns-in-Skip-clause-owes g c = rw c.in-Skip.is c.skip.ensures.owes
+
+pub returns-in-Skip-clause-applied : goal.returns-in-Skip-clause-applied
+returns-in-Skip-clause-applied g c =
+    let l = given_label (option_copied c.args.label) in
+    rw c.in-Skip.is (at_label (λ m. IsApplied m told.skip c.args.world.now c.args.proof.now c.skip.new.world c.skip.new.proof) c.skip.result l c.skip.ensures.applied)
+
+pub returns-in-Skip-clause-refused : goal.returns-in-Skip-clause-refused
+returns-in-Skip-clause-refused g c fault e = rw c.in-Skip.is (c.skip.ensures.refused fault e (given_label (option_copied c.args.label)))

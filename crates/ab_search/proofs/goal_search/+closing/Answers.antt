@@ -5,7 +5,7 @@ use Rattle.ab_formulas.specs.Forms.{form_of}
 use Rattle.ab_formulas.specs.Sequents.{Sequent, proving}
 use Rattle.ab_logic.specs.Worlds.{read, declarations_of}
 use Rattle.ab_steps.specs.Progress.{goals_of}
-use Rattle.ab_steps.proofs.Following.{follows_on, follows_not, as_before, one_at_least}
+use Rattle.ab_steps.proofs.Following.{advances, follows_on, follows_not, as_before, one_at_least}
 use Rattle.ab_search.specs.SearchGoals.{MayUnfold, IsClosed, StaysOpen, IsClosedUnfolded, UnfoldsToNone}
 use Rattle.ab_search.specs.Choices.{Assumes, Takes, Stays, HasNoParts}
 use Rattle.ab_effects.specs.Search.{CanBeClosed, by_unfolding}
@@ -298,8 +298,8 @@ close-take-requires-in-EitherOf-2-clause-world g t c =
     let on = follows_on w v u p q r f c.close-in-EitherOf.ensures.follows in
     let back = c.take_back.new.proof in
     let x = c.take_back.new.world in
-    let stood = c.take_back.ensures.follows w p on (c.steps-before.ensures w) in
-    let goals = same_goals w x p back (c.take_back.ensures.unchanged w p on (c.steps-before.ensures w)) in
+    let stood = c.take_back.ensures.follows w p (advances on) (c.steps-before.ensures w) in
+    let goals = same_goals w x p back (c.take_back.ensures.unchanged w p (advances on) (c.steps-before.ensures w)) in
     stood.grows.world
 
 pub close-take-requires-in-EitherOf-2-clause-proof : goal.close-take-requires-in-EitherOf-2-clause-proof
@@ -320,8 +320,8 @@ close-take-requires-in-EitherOf-2-clause-proof g t c =
     let on = follows_on w v u p q r f c.close-in-EitherOf.ensures.follows in
     let back = c.take_back.new.proof in
     let x = c.take_back.new.world in
-    let stood = c.take_back.ensures.follows w p on (c.steps-before.ensures w) in
-    let goals = same_goals w x p back (c.take_back.ensures.unchanged w p on (c.steps-before.ensures w)) in
+    let stood = c.take_back.ensures.follows w p (advances on) (c.steps-before.ensures w) in
+    let goals = same_goals w x p back (c.take_back.ensures.unchanged w p (advances on) (c.steps-before.ensures w)) in
     stood.proof
 
 pub close-take-requires-in-EitherOf-2-clause-open : goal.close-take-requires-in-EitherOf-2-clause-open
@@ -342,8 +342,8 @@ close-take-requires-in-EitherOf-2-clause-open g t c =
     let on = follows_on w v u p q r f c.close-in-EitherOf.ensures.follows in
     let back = c.take_back.new.proof in
     let x = c.take_back.new.world in
-    let stood = c.take_back.ensures.follows w p on (c.steps-before.ensures w) in
-    let goals = same_goals w x p back (c.take_back.ensures.unchanged w p on (c.steps-before.ensures w)) in
+    let stood = c.take_back.ensures.follows w p (advances on) (c.steps-before.ensures w) in
+    let goals = same_goals w x p back (c.take_back.ensures.unchanged w p (advances on) (c.steps-before.ensures w)) in
     λ no_goal. c.requires.open (sym goals ∙ no_goal)
 
 pub close-take-requires-in-EitherOf-2-clause-sure : goal.close-take-requires-in-EitherOf-2-clause-sure
@@ -364,8 +364,8 @@ close-take-requires-in-EitherOf-2-clause-sure g t c s rest e =
     let on = follows_on w v u p q r f c.close-in-EitherOf.ensures.follows in
     let back = c.take_back.new.proof in
     let x = c.take_back.new.world in
-    let stood = c.take_back.ensures.follows w p on (c.steps-before.ensures w) in
-    let goals = same_goals w x p back (c.take_back.ensures.unchanged w p on (c.steps-before.ensures w)) in
+    let stood = c.take_back.ensures.follows w p (advances on) (c.steps-before.ensures w) in
+    let goals = same_goals w x p back (c.take_back.ensures.unchanged w p (advances on) (c.steps-before.ensures w)) in
     (proving (read w right.formula) s ∷ [], again_takes w p given asked left right c.requires.given c.requires.asked c.in-EitherOf.ensures x back goals s rest e)
 
 pub close-returns-in_err-take-in-EitherOf-2-clause-follows : goal.close-returns-in_err-take-in-EitherOf-2-clause-follows
@@ -386,8 +386,8 @@ close-returns-in_err-take-in-EitherOf-2-clause-follows g t c =
     let on = follows_on w v u p q r f c.close-in-EitherOf.ensures.follows in
     let back = c.take_back.new.proof in
     let x = c.take_back.new.world in
-    let stood = c.take_back.ensures.follows w p on (c.steps-before.ensures w) in
-    let goals = same_goals w x p back (c.take_back.ensures.unchanged w p on (c.steps-before.ensures w)) in
+    let stood = c.take_back.ensures.follows w p (advances on) (c.steps-before.ensures w) in
+    let goals = same_goals w x p back (c.take_back.ensures.unchanged w p (advances on) (c.steps-before.ensures w)) in
     follows_on w x c.take-in-EitherOf-2.new.world p back c.take-in-EitherOf-2.new.proof stood c.take-in-EitherOf-2.ensures.follows
 
 pub close-close-requires-in-EitherOf-2 : goal.close-close-requires-in-EitherOf-2
@@ -408,8 +408,8 @@ close-close-requires-in-EitherOf-2 g t c =
     let on = follows_on w v u p q r f c.close-in-EitherOf.ensures.follows in
     let back = c.take_back.new.proof in
     let x = c.take_back.new.world in
-    let stood = c.take_back.ensures.follows w p on (c.steps-before.ensures w) in
-    let goals = same_goals w x p back (c.take_back.ensures.unchanged w p on (c.steps-before.ensures w)) in
+    let stood = c.take_back.ensures.follows w p (advances on) (c.steps-before.ensures w) in
+    let goals = same_goals w x p back (c.take_back.ensures.unchanged w p (advances on) (c.steps-before.ensures w)) in
     let y = c.take-in-EitherOf-2.new.world in
     let z = c.take-in-EitherOf-2.new.proof in
     let so = follows_on w x y p back z stood c.take-in-EitherOf-2.ensures.follows in
@@ -436,8 +436,8 @@ close-returns-in_ok-take-in-EitherOf-2-clause-follows g t c =
     let on = follows_on w v u p q r f c.close-in-EitherOf.ensures.follows in
     let back = c.take_back.new.proof in
     let x = c.take_back.new.world in
-    let stood = c.take_back.ensures.follows w p on (c.steps-before.ensures w) in
-    let goals = same_goals w x p back (c.take_back.ensures.unchanged w p on (c.steps-before.ensures w)) in
+    let stood = c.take_back.ensures.follows w p (advances on) (c.steps-before.ensures w) in
+    let goals = same_goals w x p back (c.take_back.ensures.unchanged w p (advances on) (c.steps-before.ensures w)) in
     let y = c.take-in-EitherOf-2.new.world in
     let z = c.take-in-EitherOf-2.new.proof in
     let so = follows_on w x y p back z stood c.take-in-EitherOf-2.ensures.follows in
@@ -462,8 +462,8 @@ close-returns-in_ok-take-in-EitherOf-2-clause-closed g t c =
     let on = follows_on w v u p q r f c.close-in-EitherOf.ensures.follows in
     let back = c.take_back.new.proof in
     let x = c.take_back.new.world in
-    let stood = c.take_back.ensures.follows w p on (c.steps-before.ensures w) in
-    let goals = same_goals w x p back (c.take_back.ensures.unchanged w p on (c.steps-before.ensures w)) in
+    let stood = c.take_back.ensures.follows w p (advances on) (c.steps-before.ensures w) in
+    let goals = same_goals w x p back (c.take_back.ensures.unchanged w p (advances on) (c.steps-before.ensures w)) in
     let y = c.take-in-EitherOf-2.new.world in
     let z = c.take-in-EitherOf-2.new.proof in
     let so = follows_on w x y p back z stood c.take-in-EitherOf-2.ensures.follows in
@@ -490,8 +490,8 @@ close-returns-in_ok-take-in-EitherOf-2-clause-stays g t c =
     let on = follows_on w v u p q r f c.close-in-EitherOf.ensures.follows in
     let back = c.take_back.new.proof in
     let x = c.take_back.new.world in
-    let stood = c.take_back.ensures.follows w p on (c.steps-before.ensures w) in
-    let goals = same_goals w x p back (c.take_back.ensures.unchanged w p on (c.steps-before.ensures w)) in
+    let stood = c.take_back.ensures.follows w p (advances on) (c.steps-before.ensures w) in
+    let goals = same_goals w x p back (c.take_back.ensures.unchanged w p (advances on) (c.steps-before.ensures w)) in
     let y = c.take-in-EitherOf-2.new.world in
     let z = c.take-in-EitherOf-2.new.proof in
     let so = follows_on w x y p back z stood c.take-in-EitherOf-2.ensures.follows in
@@ -780,8 +780,8 @@ close_unfolded-loop-place-preserved g t c =
           let last = follows_on w u m.close.new.world p r m.close.new.proof on m.close.ensures.follows in
           let failed : IsFalse m.in_ok-closed-in-Goal.closed = search rules in
           tried_there w p m.take_back.new.world c.match-branch-2.world m.take_back.new.proof c.match-branch-2.proof c.args.depth (i + 1) m.world-is m.proof-is (record {
-            follows = m.take_back.ensures.follows w p last (c.steps-standing.ensures w);
-            goals = same_goals w m.take_back.new.world p m.take_back.new.proof (m.take_back.ensures.unchanged w p last (c.steps-standing.ensures w));
+            follows = m.take_back.ensures.follows w p (advances last) (c.steps-standing.ensures w);
+            goals = same_goals w m.take_back.new.world p m.take_back.new.proof (m.take_back.ensures.unchanged w p (advances last) (c.steps-standing.ensures w));
             none =
                 none_behind_it w v p q c.args.depth i tried c.requires.world c.requires.proof u r c.unfold_by.ensures.follows (c.unfold_by.ensures.unfolded b is)
                 (m.in_ok-closed-in-Goal.ensures.stays failed);

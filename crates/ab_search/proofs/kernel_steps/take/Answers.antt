@@ -4,12 +4,13 @@ use Rattle.ab_unify.specs.Problem.{cells_read}
 use Rattle.ab_logic.specs.Worlds.{declarations_of}
 use Rattle.ab_steps.specs.ab_kernel.specs.RuleAnswers.{step_of}
 use Rattle.ab_theory.specs.Rules.{NamedRule, Fails}
+use Rattle.ab_theory.specs.Derivations.{debts_of}
 use Rattle.ab_logic.specs.SequentReadings.{sequent_of}
 use Rattle.ab_steps.specs.Progress.{SolvesNothing}
-use Rattle.ab_steps.proofs.Following.{at_first, first_at}
+use Rattle.ab_steps.proofs.Following.{at_first, first_at, follows_free}
 use Rattle.ab_search.specs.SearchSteps.{step_for}
 use Rattle.ab_search.proofs.Reading.{first_is_sequent}
-use Rattle.ab_search.proofs.Stepping.{plain, leads_there, never_fails}
+use Rattle.ab_search.proofs.Stepping.{plain, free, leads_there, never_fails}
 use Rattle.ab_search.proofs.kernel_steps.take.Goals as goal
 
 pub surely-requires-clause-sure : goal.surely-requires-clause-sure
@@ -27,6 +28,12 @@ pub surely-requires-clause-plain : goal.surely-requires-clause-plain
 surely-requires-clause-plain g c =
     let w = c.args.world.now in
     subst SolvesNothing (sym (c.in_ok-step.ensures.step w)) (plain c.args.choice (sequent_of w c.first_goal.result.now))
+
+pub returns-clause-follows : goal.returns-clause-follows
+returns-clause-follows g c =
+    let w = c.args.world.now in
+    let none = ap debts_of (c.in_ok-step.ensures.step w) ∙ free c.args.choice (sequent_of w c.first_goal.result.now) in
+    follows_free _ none c.surely.ensures.follows
 
 pub returns-clause-took : goal.returns-clause-took
 returns-clause-took g c =

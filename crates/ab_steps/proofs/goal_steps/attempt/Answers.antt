@@ -1,16 +1,21 @@
 use Rattle.std.specs.Prelude.{Err}
 use Rattle.std.proofs.Common.{◌∙◌, ap}
+use Rattle.ab_theory.specs.Derivations.{debts_of}
 use Rattle.ab_kernel.specs.RuleAnswers.{step_of}
 use Rattle.ab_unify.specs.Problem.{cells_read}
 use Rattle.ab_logic.specs.Worlds.{declarations_of}
 use Rattle.ab_steps.proofs.Plain.{never_stuck}
-use Rattle.ab_steps.proofs.Following.{follows_step, follows_same, as_before, took, failed}
+use Rattle.ab_steps.proofs.Following.{by_step, by_same, owes_step, as_before, took, failed}
 use Rattle.ab_steps.proofs.goal_steps.attempt.Goals as goal
 
 pub returns-in-Ok-clause-follows : goal.returns-in-Ok-clause-follows
 returns-in-Ok-clause-follows g c =
-    follows_step c.args.world.now c.refine.new.world c.args.proof.now c.refine.new.self c.args.place _ (step_of c.args.world.now c.args.step)
+    by_step c.args.world.now c.refine.new.world c.args.proof.now c.refine.new.self c.args.place _ (step_of c.args.world.now c.args.step)
     c.refine.ensures.grows c.refine.ensures.declared c.refine.ensures.proof c.in-Ok.ensures.step c.in-Ok.ensures.layout
+
+pub returns-in-Ok-clause-owes : goal.returns-in-Ok-clause-owes
+returns-in-Ok-clause-owes g c holds =
+    owes_step c.args.world.now c.refine.new.world c.args.proof.now c.refine.new.self c.args.place _ (step_of c.args.world.now c.args.step) c.in-Ok.ensures.step
 
 pub returns-in-Ok-clause-took : goal.returns-in-Ok-clause-took
 returns-in-Ok-clause-took g c holds =
@@ -18,7 +23,7 @@ returns-in-Ok-clause-took g c holds =
 
 pub returns-in-Err-RuleFails-clause-follows : goal.returns-in-Err-RuleFails-clause-follows
 returns-in-Err-RuleFails-clause-follows g c =
-    follows_same c.args.world.now c.refine.new.world c.args.proof.now c.refine.new.self c.refine.ensures.grows c.refine.ensures.declared c.requires.proof c.refine.ensures.proof c.in-Err-RuleFails.ensures.err
+    by_same (debts_of (step_of c.args.world.now c.args.step)) c.args.world.now c.refine.new.world c.args.proof.now c.refine.new.self c.refine.ensures.grows c.refine.ensures.declared c.requires.proof c.refine.ensures.proof c.in-Err-RuleFails.ensures.err
 
 pub returns-in-Err-RuleFails-clause-failed : goal.returns-in-Err-RuleFails-clause-failed
 returns-in-Err-RuleFails-clause-failed g c fails =
@@ -39,7 +44,7 @@ unreachable-requires g c =
 
 pub returns-in-Err-Memory-clause-follows : goal.returns-in-Err-Memory-clause-follows
 returns-in-Err-Memory-clause-follows g c =
-    follows_same c.args.world.now c.refine.new.world c.args.proof.now c.refine.new.self c.refine.ensures.grows c.refine.ensures.declared c.requires.proof c.refine.ensures.proof c.in-Err-Memory.ensures.err
+    by_same (debts_of (step_of c.args.world.now c.args.step)) c.args.world.now c.refine.new.world c.args.proof.now c.refine.new.self c.refine.ensures.grows c.refine.ensures.declared c.requires.proof c.refine.ensures.proof c.in-Err-Memory.ensures.err
 
 pub returns-in-Err-Memory-clause-unchanged : goal.returns-in-Err-Memory-clause-unchanged
 returns-in-Err-Memory-clause-unchanged g c =

@@ -1,14 +1,19 @@
 use Rattle.std.specs.Prelude.{Err}
 use Rattle.std.proofs.Common.{◌≡◌, refl, ◌∙◌, ap, subst}
+use Rattle.ab_theory.specs.Derivations.{debts_of}
 use Rattle.ab_kernel.specs.RuleAnswers.{step_of}
 use Rattle.ab_steps.specs.Progress.{TookInto, FailsBy, StuckAt}
-use Rattle.ab_steps.proofs.Following.{follows_step, follows_same, as_before, took_into, failed_by, sticks_there}
+use Rattle.ab_steps.proofs.Following.{by_step, by_same, owes_step, as_before, took_into, failed_by, sticks_there}
 use Rattle.ab_steps.proofs.goal_steps.attempt_solving.Goals as goal
 
 pub returns-in-Ok-clause-follows : goal.returns-in-Ok-clause-follows
 returns-in-Ok-clause-follows g c =
-    follows_step c.args.world.now c.refine.new.world c.args.proof.now c.refine.new.self c.args.place _ (step_of c.args.world.now c.args.step)
+    by_step c.args.world.now c.refine.new.world c.args.proof.now c.refine.new.self c.args.place _ (step_of c.args.world.now c.args.step)
     c.refine.ensures.grows c.refine.ensures.declared c.refine.ensures.proof c.in-Ok.ensures.step c.in-Ok.ensures.layout
+
+pub returns-in-Ok-clause-owes : goal.returns-in-Ok-clause-owes
+returns-in-Ok-clause-owes g c n e =
+    owes_step c.args.world.now c.refine.new.world c.args.proof.now c.refine.new.self c.args.place _ (step_of c.args.world.now c.args.step) c.in-Ok.ensures.step
 
 pub returns-in-Ok-clause-took : goal.returns-in-Ok-clause-took
 returns-in-Ok-clause-took g c n e =
@@ -19,7 +24,7 @@ returns-in-Ok-clause-took g c n e =
 
 pub returns-in-Err-RuleFails-clause-follows : goal.returns-in-Err-RuleFails-clause-follows
 returns-in-Err-RuleFails-clause-follows g c =
-    follows_same c.args.world.now c.refine.new.world c.args.proof.now c.refine.new.self c.refine.ensures.grows c.refine.ensures.declared c.requires.proof c.refine.ensures.proof c.in-Err-RuleFails.ensures.err
+    by_same (debts_of (step_of c.args.world.now c.args.step)) c.args.world.now c.refine.new.world c.args.proof.now c.refine.new.self c.refine.ensures.grows c.refine.ensures.declared c.requires.proof c.refine.ensures.proof c.in-Err-RuleFails.ensures.err
 
 pub returns-in-Err-RuleFails-clause-failed : goal.returns-in-Err-RuleFails-clause-failed
 returns-in-Err-RuleFails-clause-failed g c i e =
@@ -35,7 +40,7 @@ returns-in-Err-RuleFails-clause-unchanged g c other =
 
 pub returns-in-Err-NotPattern-clause-follows : goal.returns-in-Err-NotPattern-clause-follows
 returns-in-Err-NotPattern-clause-follows g c =
-    follows_same c.args.world.now c.refine.new.world c.args.proof.now c.refine.new.self c.refine.ensures.grows c.refine.ensures.declared c.requires.proof c.refine.ensures.proof c.in-Err-NotPattern.ensures.err
+    by_same (debts_of (step_of c.args.world.now c.args.step)) c.args.world.now c.refine.new.world c.args.proof.now c.refine.new.self c.refine.ensures.grows c.refine.ensures.declared c.requires.proof c.refine.ensures.proof c.in-Err-NotPattern.ensures.err
 
 pub returns-in-Err-NotPattern-clause-stuck : goal.returns-in-Err-NotPattern-clause-stuck
 returns-in-Err-NotPattern-clause-stuck g c i e =
@@ -51,7 +56,7 @@ returns-in-Err-NotPattern-clause-unchanged g c other =
 
 pub returns-in-Err-Memory-clause-follows : goal.returns-in-Err-Memory-clause-follows
 returns-in-Err-Memory-clause-follows g c =
-    follows_same c.args.world.now c.refine.new.world c.args.proof.now c.refine.new.self c.refine.ensures.grows c.refine.ensures.declared c.requires.proof c.refine.ensures.proof c.in-Err-Memory.ensures.err
+    by_same (debts_of (step_of c.args.world.now c.args.step)) c.args.world.now c.refine.new.world c.args.proof.now c.refine.new.self c.refine.ensures.grows c.refine.ensures.declared c.requires.proof c.refine.ensures.proof c.in-Err-Memory.ensures.err
 
 pub returns-in-Err-Memory-clause-unchanged : goal.returns-in-Err-Memory-clause-unchanged
 returns-in-Err-Memory-clause-unchanged g c other =

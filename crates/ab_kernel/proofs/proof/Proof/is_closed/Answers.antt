@@ -11,4 +11,5 @@ returns c =
     record {
       closed = closed;
       derivation = λ w F yes proof sentence root. record { sentence = sentence; valid = proof.valid; closed = (closed w).0 yes; derives = root };
+      whole = λ w F yes proof sentence root none. record { tree = record { sentence = sentence; valid = proof.valid; closed = (closed w).0 yes; derives = root }; whole = none };
     }

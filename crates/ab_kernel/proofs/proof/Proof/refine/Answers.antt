@@ -10,9 +10,9 @@ use Rattle.ab_logic.specs.declared.world.World.{World}
 use Rattle.ab_kernel.specs.declared.proof.Refinement.{Refinement}
 use Rattle.ab_kernel.specs.declared.node.ProofNode.{ProofNode}
 use Rattle.ab_kernel.proofs.proof.Proof.refine.Given.{Over}
-use Rattle.ab_theory.specs.Derivations.{open_goals, refined, History}
+use Rattle.ab_theory.specs.Derivations.{open_goals, debts_of, refined, History}
 use Rattle.ab_kernel.specs.Nodes.{open_node, sequents_in}
-use Rattle.ab_kernel.specs.Layout.{Held, StepAt, steps_in, made_by, history_of, IsProof, Beyond}
+use Rattle.ab_kernel.specs.Layout.{Held, StepAt, steps_in, made_by, owed_by, history_of, IsProof, Beyond}
 use Rattle.ab_kernel.proofs.Hand.{at_hand, filled_node, put_is, Put, put, layers_after}
 use Rattle.ab_kernel.proofs.Standing.{reads_now, as_many}
 use Rattle.ab_kernel.proofs.Taking.{Taken, in_range, goal_taken, taken, room_after}
@@ -200,6 +200,10 @@ invariant_of-self-2 g c =
           c.args.place (c.len.result - 1 - c.args.place) c.index-node.result.now c.len-first.result c.len-count.result c.args.step c.in-Ok-prepare.children
           (c.self.invariant.stands u) c.self.invariant.layers (omega arith) c.index-node.ensures counted (omega arith) c.in-Ok-prepare.ensures.children (whole g c) (rw c.prepare.ensures.numbers at c.replace_goal.ensures.items)
           tree_is (c.self.invariant.grown u));
+      owed = λ u.
+          c.in-Ok-prepare.ensures.noted u
+          ∙ ap (λ ts. debts_of (step_of u c.args.step) ++ ts) (c.self.invariant.owed u)
+          ∙ ap (owed_by u) (sym (steps g c));
       room = λ u.
           let many = as_many (reads_now u _ _ _ (c.self.invariant.stands u)) ∙ ap (λ p. length (open_goals (history_of u p).tree)) c.self.view_is in
           let old : All (λ d. length (open_goals d) ≤ vec_capacity c.self.inside.open) (history_of u c.args.self.now).earlier =

@@ -6,10 +6,13 @@ use Rattle.ab_logic.specs.SequentReadings.{sequent_of}
 use Rattle.ab_logic.specs.declared.world.World.{World}
 use Rattle.ab_kernel.specs.declared.node.ProofNode.{ProofNode}
 use Rattle.ab_kernel.specs.declared.proof.Refinement.{Refinement}
-use Rattle.ab_theory.specs.Derivations.{open_goals, root, undone}
+use Rattle.ab_theory.specs.Derivations.{open_goals, debts_of, root, undone}
 use Rattle.ab_kernel.specs.Nodes.{cleared, sequents_in, node_at, step_held}
-use Rattle.ab_kernel.specs.Layout.{Held, StepAt, steps_in, nodes_before, open_before, start_of, made_by, Stands, Layers, Grown, history_of, IsProof, before_last}
+use Rattle.ab_kernel.specs.Layout.{Held, StepAt, steps_in, nodes_before, open_before, start_of, made_by, owed_by, Stands, Layers, Grown, history_of, IsProof, before_last}
+use Rattle.ab_kernel.specs.Debts.{owed, owed_at}
+use Rattle.ab_kernel.specs.RuleAnswers.{step_of}
 use Rattle.ab_kernel.proofs.Standing.{some_world}
+use Rattle.ab_kernel.proofs.Owing.{node_owes}
 use Rattle.ab_kernel.proofs.Filling.{sequents-before}
 use Rattle.ab_kernel.proofs.TakingBack.{TakenBack, last_step, room_to_go, node_there, taken_back, proof_before}
 use Rattle.ab_kernel.proofs.proof.Proof.unrefine.Given.{Over}
@@ -75,6 +78,15 @@ restore_goal-requires-clause-room g c =
     (room_left w nodes c.self.inside.open.items c.self.inside.journal.items c.pop.new.self.items r c.in-Some.ensures.items (vec_capacity c.self.inside.open) (c.self.invariant.room w)) in
     omega arith
 
+pub index-requires : goal.index-requires
+index-requires g c =
+    let w = some_world in
+    let nodes = c.self.inside.nodes.items in
+    let r = c.in-Some.last in
+    let inside = node_there w (sequents_in nodes) c.self.inside.open.items (last_of nodes r) (steps_in (nodes_before r nodes) (reverse c.pop.new.self.items))
+    (there w nodes c.self.inside.open.items c.self.inside.journal.items c.pop.new.self.items r c.in-Some.ensures.items (c.self.invariant.stands w)) in
+    omega (arith, inside, length-map nodes (λ (n : ProofNode). n.sequent))
+
 pub overflow_sub-len : goal.overflow_sub-len
 overflow_sub-len g c =
     let w = some_world in
@@ -133,6 +145,22 @@ steps g c = ap (λ (ns : List ProofNode). steps_in ns (reverse c.pop.new.self.it
 made : (g : Over) (c : goal.After-clear_at g) (w : World) → history_of w (record { nodes = c.clear_at.new.nodes.items; journal = reverse c.pop.new.self.items }) ≡ undone 1 (history_of w c.args.self.now)
 made g c w = ap (made_by w (map (sequent_of w) (sequents_in c.clear_at.new.nodes.items))) (sym (steps g c)) ∙ (back g c w).made
 
+-- the debts are those before the step
+owes : (g : Over) (c : goal.After-clear_at g) (w : World) → owed c.forget_debt.new.debts.items ≡ owed_by w (steps_in c.clear_at.new.nodes.items (reverse c.pop.new.self.items))
+owes g c w =
+    let r = c.in-Some.last in
+    let nodes = c.self.inside.nodes.items in
+    let rest = steps_in (nodes_before r nodes) (reverse c.pop.new.self.items) in
+    let inside = node_there w (sequents_in nodes) c.self.inside.open.items (last_of nodes r) rest
+    (there w nodes c.self.inside.open.items c.self.inside.journal.items c.pop.new.self.items r c.in-Some.ensures.items (c.self.invariant.stands w)) in
+    let many = length-map nodes (λ (n : ProofNode). n.sequent) in
+    let node = node_owes w nodes r.node c.index.result.now (omega (arith, inside, many)) c.index.ensures in
+    let latest : owed c.self.inside.debts.items ≡ debts_of (step_of w (step_held (node_at nodes r.node))) ++ owed_by w rest =
+    c.self.invariant.owed w ∙ ap (λ (ks : List Refinement). owed_by w (steps_in nodes ks)) (last_step c.self.inside.journal.items c.pop.new.self.items r c.in-Some.ensures.items) in
+    let noted = ap (owed_at w) c.as_ref.ensures.value ∙ node in
+    c.forget_debt.ensures w (owed_by w rest) (latest ∙ ap (λ ts. ts ++ owed_by w rest) (sym noted))
+    ∙ ap (owed_by w) (steps g c)
+
 pub invariant_of-self-in-Some : goal.invariant_of-self-in-Some
 invariant_of-self-in-Some g c =
     let r = c.in-Some.last in
@@ -148,6 +176,7 @@ invariant_of-self-in-Some g c =
       stands = λ w. subst (Stands w (map (sequent_of w) (sequents_in c.clear_at.new.nodes.items)) c.restore_goal.new.numbers.items) (steps g c) (back g c w).stands;
       layers = rw (numbers, before g c) layers.2;
       grown = λ w. rw (numbers, before g c) (grown w).1;
+      owed = owes g c;
       room = λ w. rw c.restore_goal.ensures.capacity (subst (λ (rs : List StepAt). All (λ d. length (open_goals d) ≤ vec_capacity c.self.inside.open) (made_by w (map (sequent_of w) (sequents_in c.clear_at.new.nodes.items)) rs).earlier) (steps g c) (back g c w).room_left);
     }
 
