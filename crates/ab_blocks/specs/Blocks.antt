@@ -9,7 +9,7 @@ use Rattle.ab_declare.specs.declared.refusal.Place.{Place}
 use Rattle.ab_declare.specs.declared.refusal.Refusal.{Refusal}
 use Rattle.ab_declare.specs.declared.refusal.Refusal.TheVariants.{Syntax, TooLong, Unknown, Clash, TypeClash, Untyped, NotStratified, BadHead, WrongPlace, NoHypothesis, WrongShape, NoMatch, NotPattern, Unresolved, Mark, NotFound, NothingToUndo, FileMissing, FileFault, FileTooLong, WrongTitle, Circular, TooNested, NamesSpent, TooManyFiles, NotBuilt}
 use Rattle.ab_states.specs.State.{State, goals_of}
-use Rattle.ab_states.specs.Reply.{Reply, accepted, completed, shown, quit, refused}
+use Rattle.ab_states.specs.Reply.{Reply, accepted, completed, admitted, shown, quit, refused}
 
 -- a refusal's number and class
 abbrev pub class : Refusal → List ℕ
@@ -84,6 +84,7 @@ closed_formula F = term (translate (λ n. []) (λ x. x) F)
 abbrev pub text : Reply → List ℕ
 text accepted = []
 text (completed x) = codes "Proof completed: " ++ (x ++ codes ".")
+text (admitted x ys) = codes "Proof completed, assuming" ++ (all_named ys ++ (codes ": " ++ (x ++ codes ".")))
 text (shown x F) = x ++ (codes " : " ++ closed_formula F)
 text quit = codes "Quit."
 text (refused r) = codes "Refused " ++ (class r ++ detail r)

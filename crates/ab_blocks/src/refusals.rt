@@ -52,7 +52,7 @@ fn write_name_in(name: &Name, file: &Option<Name>, out: &mut Vec<u8>) -> Result<
 }
 
 /// Names, each behind a space.
-fn write_names(names: &[Name], out: &mut Vec<u8>) -> Result<(), AllocError>
+pub(crate) fn write_names(names: &[Name], out: &mut Vec<u8>) -> Result<(), AllocError>
     ensures { OnOk result (out.new.items ≡ out.old.items ++ all_named names.now) }
 {
     match names {

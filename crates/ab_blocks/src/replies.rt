@@ -9,7 +9,7 @@ ghost use Rattle.ab_states.specs.Reply.{SpeaksOfNoGoal, reply_of};
 ghost use Rattle.ab_blocks.specs.Blocks.{text, block};
 
 use crate::goals::write_goals;
-use crate::refusals::write_refusal;
+use crate::refusals::{write_names, write_refusal};
 use ab_logic::World;
 use ab_print::{show_reply, show_term};
 use ab_states::Reply;
@@ -31,6 +31,14 @@ fn write_text(
         Reply::Accepted => Ok(()),
         Reply::Completed(name) => {
             out.extend_from_slice(b"Proof completed: ")?;
+            out.extend_from_slice(name.as_str().as_bytes())?;
+            out.push(b'.')?;
+            Ok(())
+        }
+        Reply::Admitted(name, assumed) => {
+            out.extend_from_slice(b"Proof completed, assuming")?;
+            write_names(assumed.as_slice(), out)?;
+            out.extend_from_slice(b": ")?;
             out.extend_from_slice(name.as_str().as_bytes())?;
             out.push(b'.')?;
             Ok(())

@@ -25,12 +25,10 @@ fn is_built_in_proof(command: &ProofCommand, count: usize) -> bool
         | ProofCommand::Case(_, _)
         | ProofCommand::Clear(_)
         | ProofCommand::Rename(_, _)
-        | ProofCommand::Permute(_, _) => true,
+        | ProofCommand::Permute(_, _)
+        | ProofCommand::Skip => true,
         ProofCommand::Search(_) => count == 2,
-        ProofCommand::Skip
-        | ProofCommand::Cut(_, _)
-        | ProofCommand::Inst(_, _)
-        | ProofCommand::Monotone(_, _) => false,
+        ProofCommand::Cut(_, _) | ProofCommand::Inst(_, _) | ProofCommand::Monotone(_, _) => false,
     }
 }
 

@@ -1,8 +1,8 @@
 -- Each command that goes forward has one effect on a state.
 use Rattle.std.proofs.Common.{◌≡◌, ◌⊎◌, inl, inr, ℕ, List, [], ◌∷◌, ◌++◌, map, Option, Some, None, refl, sym, ◌∙◌, ap, subst}
-use Rattle.ab_grammar.specs.CommandTrees.{Command, kinds, constants, define, theorem, specification, show, quit, subgoals, abort, in_proof, ProofCommand, search}
+use Rattle.ab_grammar.specs.CommandTrees.{Command, kinds, constants, define, theorem, specification, show, quit, subgoals, abort, in_proof, ProofCommand, search, apply, backchain}
 use Rattle.ab_term.specs.Terms.{Read}
-use Rattle.ab_formulas.specs.Declarations.{Declarations, a_theorem, theorem_in}
+use Rattle.ab_formulas.specs.Declarations.{Declarations, theorem_in}
 use Rattle.ab_formulas.specs.NewNames.{Label}
 use Rattle.ab_formulas.specs.Sequents.{Sequent, IsSequent}
 use Rattle.ab_command.specs.declared.fault.Cause.{Cause}
@@ -17,13 +17,16 @@ use Rattle.ab_states.specs.ab_specification.specs.FileDeclarations.{SpecDeclares
 use Rattle.ab_states.specs.ab_specification.proofs.OneSpecification.{all_or_first, one_list, one_first}
 use Rattle.ab_formulas.specs.NamedGoals.{Goal, named}
 use Rattle.ab_effects.specs.ProofCommands.{given_label, effect}
+use Rattle.ab_effects.specs.Debts.{taken_unless, debts_at}
+use Rattle.ab_theory.specs.Assumptions.{with_debts}
+use Rattle.ab_determinism.proofs.Namings.{used_alike}
 use Rattle.ab_determinism.proofs.Rows.{AreOnce}
 use Rattle.ab_determinism.proofs.Once.{once}
 use Rattle.ab_states.specs.State.{Attempt, State, Entry, plain, is_open, keeping, declaring, proving, closed, showing}
 use Rattle.ab_states.specs.Reply as reply
-use Rattle.ab_states.specs.Reply.{Reply, accepted, completed, shown, refused, unread_for}
+use Rattle.ab_states.specs.Reply.{Reply, accepted, shown, refused, unread_for}
 use Rattle.ab_states.specs.ProofCommandEffects.{Makes, Denies}
-use Rattle.ab_states.specs.ForwardEffects.{Commands, Faces, beginning, left_with, GoesForward, unread, declined, declared, specified, item_declined, specified_twice, stated, showed, ended, switched, given_up, denied, led, proved}
+use Rattle.ab_states.specs.ForwardEffects.{Commands, Faces, beginning, left_with, assumed_after, concluding, told_of, GoesForward, unread, declined, declared, specified, item_declined, specified_twice, stated, showed, ended, switched, given_up, denied, led, proved}
 use Rattle.ab_states.specs.Replay.{Replays, none, next}
 use Rattle.ab_determinism.specs.Sound.{AreSound, IsSound}
 use Rattle.ab_determinism.proofs.Sound.{has_lists, sound_forward}
@@ -42,6 +45,12 @@ module _ (D : Declarations) (sound : AreSound D) (l : Label) (s u : Sequent) (is
   one_denial : (c : ProofCommand) → (r q : Refusal) → Denies D l c s r → Denies D l c u q → r ≡ q
   one_denial (search n) r q a b = a.1 ∙ sym b.1
   one_denial c r q a b = a.is ∙ ap refusal_for ((both_once c).refusal a.cause b.cause a.refuses b.refuses) ∙ sym b.is
+
+  -- it owes the same at both
+  one_owing : (c : ProofCommand) → debts_at s c ≡ debts_at u c
+  one_owing (apply H vs is) = ap (λ b. taken_unless b H) (used_alike s u same H)
+  one_owing (backchain H is) = ap (λ b. taken_unless b H) (used_alike s u same H)
+  one_owing c = refl
 
   makes_or_denies : (c : ProofCommand) → (ps : List Sequent) (r : Refusal) → Makes D l c s ps → Denies D l c u r → ⊥
   makes_or_denies (search n) ps r a b = b.0 (closed_also D sound.sentences sound.definitions n s u is its same a.0)
@@ -65,16 +74,16 @@ module _ (s : State) (sound : AreSound s.declarations) (entry : Entry) where
       ((v : Refusal) × SpecDeclines s.declarations files v × Leaves v r t)
       ⊎ ((more : Declarations) × SpecDeclares s.declarations files more × (r ≡ accepted) × (t ≡ keeping entry (declaring more s)))
 
-  -- where these goals are left
-  abbrev Leading : Attempt → List Goal → Reply → State → Type 0
-  Leading a [] r t = (r ≡ completed a.name) × (t ≡ keeping entry (closed (declaring (a_theorem a.name a.formula ∷ []) s)))
-  Leading a (h ∷ hs) r t = (r ≡ accepted) × (t ≡ keeping entry (proving (left_with (h ∷ hs) a) s))
+  -- where these places are assumed, and these goals are left
+  abbrev Leading : Attempt → List ℕ → List Goal → Reply → State → Type 0
+  Leading a js [] r t = (r ≡ told_of js a s) × (t ≡ keeping entry (concluding js a s))
+  Leading a js (h ∷ hs) r t = (r ≡ accepted) × (t ≡ keeping entry (proving (left_with (h ∷ hs) js a) s))
 
   abbrev Denying : Option (List ℕ) → ProofCommand → Sequent → Reply → State → Type 0
   Denying l c q r t = (v : Refusal) × Denies s.declarations (given_label l) c q v × Leaves v r t
 
   abbrev Making : Option (List ℕ) → ProofCommand → Attempt → Sequent → List Goal → Reply → State → Type 0
-  Making l c a q gs r t = (ps : List Sequent) × Makes s.declarations (given_label l) c q ps × Leading a (map named ps ++ gs) r t
+  Making l c a q gs r t = (ps : List Sequent) × Makes s.declarations (given_label l) c q ps × Leading a (assumed_after s a q c) (map named ps ++ gs) r t
 
   abbrev Does : Command → Reply → State → Type 0
   Does (kinds xs) r t = Refusing (kinds xs) r t ⊎ Declaring (kinds xs) r t
@@ -126,9 +135,9 @@ module _ (s : State) (sound : AreSound s.declarations) (entry : Entry) where
   one_specifying x (Some files) r q t u (inr (more, d, k, j)) (inr (others, f, m, n)) =
       (k ∙ sym m, j ∙ ap (λ ds. keeping entry (declaring ds s)) (one_list s.declarations (items_of files) more others d f) ∙ sym n)
 
-  leading_same : (a : Attempt) (gs : List Goal) (r q : Reply) (t u : State) → Leading a gs r t → Leading a gs q u → Same r t q u
-  leading_same a [] r q t u x y = (x.0 ∙ sym y.0, x.1 ∙ sym y.1)
-  leading_same a (h ∷ hs) r q t u x y = (x.0 ∙ sym y.0, x.1 ∙ sym y.1)
+  leading_same : (a : Attempt) (js : List ℕ) (gs : List Goal) (r q : Reply) (t u : State) → Leading a js gs r t → Leading a js gs q u → Same r t q u
+  leading_same a js [] r q t u x y = (x.0 ∙ sym y.0, x.1 ∙ sym y.1)
+  leading_same a js (h ∷ hs) r q t u x y = (x.0 ∙ sym y.0, x.1 ∙ sym y.1)
 
   -- declarations
   one_declared : (c : Command) (r q : Reply) (t u : State) → Refusing c r t ⊎ Declaring c r t → Refusing c q u ⊎ Declaring c q u → Same r t q u
@@ -147,7 +156,8 @@ module _ (s : State) (sound : AreSound s.declarations) (entry : Entry) where
     one_proof r q t u (inr (ps, m, k)) (inl (w, e, j)) = absurd (makes_or_denies s.declarations sound (given_label l) x y f.numbered.sequent g.numbered.sequent same c ps w m e)
     one_proof r q t u (inr (ps, m, k)) (inr (qs, n, j)) =
         let goals = one_making s.declarations sound (given_label l) x y f.numbered.sequent g.numbered.sequent same c ps qs m n in
-        leading_same a (map named qs ++ gs) r q t u (subst (λ ks. Leading a (ks ++ gs) r t) goals k) j
+        let places : assumed_after s a x c ≡ assumed_after s a y c = ap (λ ts. with_debts s.declarations ts a.assumed) (one_owing s.declarations sound (given_label l) x y f.numbered.sequent g.numbered.sequent same c) in
+        leading_same a (assumed_after s a y c) (map named qs ++ gs) r q t u (subst (λ js. Leading a js (map named qs ++ gs) r t) places (subst (λ ks. Leading a (assumed_after s a x c) (ks ++ gs) r t) goals k)) j
 
   first_same : {X : Type 0} {x y : X} {xs ys : List X} → x ∷ xs ≡ y ∷ ys → x ≡ y
   first_same e = cc
@@ -209,9 +219,11 @@ said s sound (switched on k) = inr (subgoals on, k, (refl, refl))
 said s sound (given_up k) = inr (abort, k, (refl, refl))
 said s sound (denied l c a q gs v f d) = inr (in_proof l c, f.says, (a, q, gs, f, inl (v, d, (refl, refl))))
 said s sound (led {bytes = bytes} l c a q gs ps h hs f m e) =
-    inr (in_proof l c, f.says, (a, q, gs, f, inr (ps, m, subst (λ w. Leading s sound (plain bytes) a w accepted (keeping (plain bytes) (proving (left_with (h ∷ hs) a) s))) (sym e) (refl, refl))))
+    let js = assumed_after s a q c in
+    inr (in_proof l c, f.says, (a, q, gs, f, inr (ps, m, subst (λ w. Leading s sound (plain bytes) a js w accepted (keeping (plain bytes) (proving (left_with (h ∷ hs) js a) s))) (sym e) (refl, refl))))
 said s sound (proved {bytes = bytes} l c a q gs ps f m e) =
-    inr (in_proof l c, f.says, (a, q, gs, f, inr (ps, m, subst (λ w. Leading s sound (plain bytes) a w (completed a.name) (keeping (plain bytes) (closed (declaring (a_theorem a.name a.formula ∷ []) s)))) (sym e) (refl, refl))))
+    let js = assumed_after s a q c in
+    inr (in_proof l c, f.says, (a, q, gs, f, inr (ps, m, subst (λ w. Leading s sound (plain bytes) a js w (told_of js a s) (keeping (plain bytes) (concluding js a s))) (sym e) (refl, refl))))
 
 -- A COMMAND THAT GOES FORWARD HAS ONE EFFECT on a state
 pub one_forward : (s : State) → AreSound s.declarations → {e : Entry} {r q : Reply} {t u : State} → GoesForward s e r t → GoesForward s e q u → (r ≡ q) × (t ≡ u)

@@ -38,6 +38,9 @@ used_is xs (h ∷ hs) x =
     elim (bytes_eq h.name x) as (λ b. is_some (if b then Some h.formula else numbered.named hs x) ≡ (if b then true else has (map (hypothesis_named xs) hs) x))
     [ true ↦ refl | false ↦ used_is xs hs x ]
 
+pub used_alike : (s u : Sequent) → named s ≡ named u → (x : List ℕ) → is_some (numbered.formula_of s x) ≡ is_some (numbered.formula_of u x)
+used_alike s u same x = used_is s.variables s.hypotheses x ∙ ap (λ (g : Goal). has g.hypotheses x) same ∙ sym (used_is u.variables u.hypotheses x)
+
 -- NOMINAL CONSTANTS
 
 abbrev constants_in : List Hypothesis → List Nominal
@@ -165,7 +168,7 @@ with_counter n g = record { variables = g.variables; hypotheses = g.hypotheses; 
 -- GOALS THAT ARE THE SAME with names for numbers
 module _ (s u : Sequent) (same : named s ≡ named u) where
   pub used_also : (x : List ℕ) → IsUsed s x → IsUsed u x
-  used_also x used = sym (used_is s.variables s.hypotheses x ∙ ap (λ (g : Goal). has g.hypotheses x) same ∙ sym (used_is u.variables u.hypotheses x)) ∙ used
+  used_also x used = sym (used_alike s u same x) ∙ used
 
   pub same_constants : goal_names s ≡ goal_names u
   same_constants = sym (goal_constants_are s) ∙ ap goal_constants same ∙ goal_constants_are u

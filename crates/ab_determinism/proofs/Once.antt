@@ -493,7 +493,7 @@ module _ (D : Declarations) (definitions : HaveDefinitions D) (s : Sequent) (f :
   once_renumbered lists sentences l (inst H ws) = once_alone (Some wrong_shape)
   once_renumbered lists sentences l (monotone H e) = once_alone (Some wrong_shape)
   once_renumbered lists sentences l (search n) = once_alone (Some wrong_shape)
-  once_renumbered lists sentences l skip = once_alone (Some wrong_shape)
+  once_renumbered lists sentences l skip = once_leads [] [] refl
   once_renumbered lists sentences l unfold_goal = once_unfold l
   once_renumbered lists sentences l (permute ns None) = once_permute_conclusion l ns
   once_renumbered lists sentences l (permute ns (Some H)) = once_permute_hypothesis l ns H

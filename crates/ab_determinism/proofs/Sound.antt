@@ -80,8 +80,8 @@ module _ (D : Declarations) (sound : AreSound D) where
   sound_declared (new_constants {xs = xs} {A = A} e t d) = nothing_told (map (λ x. a_constant x A) xs) (no_constant A xs)
   sound_declared {more = more} (new_predicates {inductive = i} {ds = ds} {cs = cs} d) = sound_defined i ds cs more d
 
-  sound_theorem : (n : List ℕ) (F : Read) → IsSentence (signature_in D) F → AreSound (D ++ a_theorem n F ∷ [])
-  sound_theorem n F is = sound_behind (a_theorem n F ∷ []) (definitions_added D n F sound.definitions) (sentences_added D n F sound.sentences is)
+  sound_theorem : (n : List ℕ) (F : Read) (js : List ℕ) → IsSentence (signature_in D) F → AreSound (D ++ a_theorem n F js ∷ [])
+  sound_theorem n F js is = sound_behind (a_theorem n F js ∷ []) (definitions_added D n F js sound.definitions) (sentences_added D n F js sound.sentences is)
 
   -- a formula that is being proved stays a sentence
   still_proves : (E : Declarations) (a : Option Attempt) → ProvesSentence D a → ProvesSentence (D ++ E) a
@@ -115,7 +115,7 @@ sound_forward (effect.given_up k) sound = record { declarations = sound.declarat
 sound_forward (effect.denied l c a q gs v f d) sound = sound
 sound_forward {s = s} (effect.led l c a q gs ps h hs f m e) sound = record { declarations = sound.declarations; attempt = subst (ProvesSentence s.declarations) f.attempt sound.attempt }
 sound_forward {s = s} (effect.proved l c a q gs ps f m e) sound =
-    record { declarations = sound_theorem s.declarations sound.declarations a.name a.formula (subst (ProvesSentence s.declarations) f.attempt sound.attempt); attempt = tt }
+    record { declarations = sound_theorem s.declarations sound.declarations a.name a.formula (effect.assumed_after s a q c) (subst (ProvesSentence s.declarations) f.attempt sound.attempt); attempt = tt }
 
 -- IN THE BEGINNING `member` is defined
 first_defined : HaveDefinitions first_declarations

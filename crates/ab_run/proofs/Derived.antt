@@ -9,7 +9,7 @@ use Rattle.ab_lex.specs.Commands.{Item}
 use Rattle.ab_term.specs.Types.{Ty}
 use Rattle.ab_term.specs.Constants.{Constant}
 use Rattle.ab_term.specs.Terms.{Read}
-use Rattle.ab_formulas.specs.Declarations.{Declarations, Block, a_kind, a_constant, a_block, a_theorem, theorems_in}
+use Rattle.ab_formulas.specs.Declarations.{Declarations, Block, a_kind, a_constant, a_block, a_theorem, theorems_in, names_at}
 use Rattle.ab_formulas.proofs.Declaring.{theorems_in-append}
 use Rattle.ab_grammar.specs.CommandTrees.{Command}
 use Rattle.ab_declare.specs.DeclarationCommands.{Declares, new_kinds, new_constants, new_predicates}
@@ -23,32 +23,17 @@ use Rattle.ab_states.specs.Replay.{IsReplayed}
 use Rattle.ab_logic.specs.Worlds.{defined, first_declarations}
 use Rattle.ab_logic.specs.declared.world.World.{World}
 use Rattle.ab_states.specs.declared.reply.Reply.{Reply as Kept}
-use Rattle.ab_states.specs.declared.reply.Reply.TheVariants.{Accepted, Completed, Shown, Quit, Refused}
-use Rattle.ab_states.specs.Reply.{Reply, completed, reply_of}
-use Rattle.ab_states.specs.DerivedTheorems.{IsDerived}
-use Rattle.ab_states.specs.ForwardEffects.{GoesForward, unread, declined, declared, specified, item_declined, specified_twice, stated, showed, ended, switched, given_up, denied, led, proved}
-use Rattle.ab_session.specs.SessionAnswers.{IsProvedLast}
+use Rattle.ab_states.specs.declared.reply.Reply.TheVariants.{Accepted, Completed, Admitted, Shown, Quit, Refused}
+use Rattle.ab_states.specs.Reply.{Reply, done, reply_of}
+use Rattle.ab_states.specs.DerivedTheorems.{IsDerived, AreDerived}
+use Rattle.ab_states.proofs.Assumed.{derived_on, are_derived_before}
+use Rattle.ab_states.specs.ForwardEffects.{assumed_after, theorem_of, GoesForward, unread, declined, declared, specified, item_declined, specified_twice, stated, showed, ended, switched, given_up, denied, led, proved}
+use Rattle.ab_session.specs.SessionAnswers.{IsDerivedLast, IsProvedLast}
 use Rattle.ab_run.specs.ProvedTheorems.{IsBorneOut, AllDerived}
 use Rattle.ab_determinism.proofs.Taking.{holds_on}
-use Rattle.ab_run.proofs.Fronts.{in_front}
 use Rattle.ab_run.proofs.Replaying as replaying
 use Rattle.ab_run.specs.declared.way.Way.{Way}
 use Rattle.ab_run.specs.Report.{Moment, Report, Reports, none, next, last, Replies, to_command, to_long, state_behind}
-
--- each theorem of these declarations has a derivation
-abbrev AllIn : Declarations → Type 0
-AllIn D = (place : ℕ) → place < length (theorems_in D) → (d : Derivation) × IsDerived D place d
-
-more_behind : (D more : Declarations) (place : ℕ) (d : Derivation) → IsDerived D place d → IsDerived (D ++ more) place d
-more_behind D more place d x = record {
-  name = x.name;
-  formula = x.formula;
-  before = x.before;
-  behind = x.behind ++ more;
-  declared = ap (λ q. q ++ more) x.declared ∙ append_assoc x.before (a_theorem x.name x.formula ∷ x.behind) more;
-  place_is = x.place_is;
-  derives = x.derives;
-}
 
 no_kinds : (xs : List (List ℕ)) → theorems_in (map a_kind xs) ≡ []
 no_kinds [] = refl
@@ -78,24 +63,29 @@ no_theorems_of_all : {D : Declarations} {is : List PlacedItem} {more : Declarati
 no_theorems_of_all no_item = refl
 no_theorems_of_all (one_more {more = more} {rest = rest} d r) = theorems_in-append more rest ∙ (ap (λ q. q ++ theorems_in rest) (no_theorems_of_item d) ∙ no_theorems_of_all r)
 
-declared_on : (D more : Declarations) → theorems_in more ≡ [] → AllIn D → AllIn (D ++ more)
+declared_on : (D more : Declarations) → theorems_in more ≡ [] → AreDerived D → AreDerived (D ++ more)
 declared_on D more n x place l =
     let e : theorems_in (D ++ more) ≡ theorems_in D = theorems_in-append D more ∙ (ap (λ q. theorems_in D ++ q) n ∙ append-nil (theorems_in D)) in
     let d = x place (subst (λ q. place < length q) e l) in
-    (d.0, more_behind D more place d.0 d.1)
+    (d.0, derived_on D more place d.0 d.1)
 
-proved_on : (D E : Declarations) (name : List ℕ) (F : Read) → E ≡ D ++ a_theorem name F ∷ [] → IsProvedLast E name → AllIn D → AllIn E
-proved_on D E name F e p x place l =
+proved_on : (D E : Declarations) (name : List ℕ) (F : Read) (js : List ℕ) → E ≡ D ++ a_theorem name F js ∷ [] → IsDerivedLast E name → AreDerived D → AreDerived E
+proved_on D E name F js e p x place l =
     let n = p.last in
     let size : length (theorems_in E) ≡ length (theorems_in D) + 1 =
-    ap (λ q. length (theorems_in q)) e ∙ (ap length (theorems_in-append D (a_theorem name F ∷ [])) ∙ length-append (theorems_in D) ((name, F) ∷ [])) in
+    ap (λ q. length (theorems_in q)) e ∙ (ap length (theorems_in-append D (a_theorem name F js ∷ [])) ∙ length-append (theorems_in D) ((name, F) ∷ [])) in
     elim (cases_order place p.place) [
       | inl k ↦ (p.derivation, subst (λ q. IsDerived E q p.derivation) (sym k) p.derived)
       | inr (inl k) ↦
           let d = x place (omega (arith, n, size, k)) in
-          (d.0, subst (λ q. IsDerived q place d.0) (sym e) (more_behind D (a_theorem name F ∷ []) place d.0 d.1))
+          (d.0, subst (λ q. IsDerived q place d.0) (sym e) (derived_on D (a_theorem name F js ∷ []) place d.0 d.1))
       | inr (inr k) ↦ absurd (omega (arith, n, l, k))
     ]
+
+-- the theorem that is done is derived, whatever it assumes
+done_derived : (name : List ℕ) (names : List (List ℕ)) (s : State) → IsBorneOut (done name names) s → IsDerivedLast s.declarations name
+done_derived name [] s b = b.derived_last
+done_derived name (n ∷ names) s b = b
 
 derived_by : {s t : State} {e : Entry} {reply : Reply} → GoesForward s e reply t → IsBorneOut reply t → AllDerived s → AllDerived t
 derived_by (unread c f) b x = x
@@ -111,7 +101,9 @@ derived_by (switched on h) b x = x
 derived_by (given_up h) b x = x
 derived_by (denied l c a t gs r f d) b x = x
 derived_by (led l c a t gs ps h hs f m e) b x = x
-derived_by {s = s} {t = t} (proved l c a v gs ps f m e) b x = proved_on s.declarations t.declarations a.name a.formula refl b x
+derived_by {s = s} {t = t} (proved l c a v gs ps f m e) b x =
+    let js = assumed_after s a v c in
+    proved_on s.declarations t.declarations a.name a.formula js refl (done_derived a.name (names_at t.declarations js) t b) x
 
 -- what is declared stands behind what was declared
 more_declared : {s t : State} {e : Entry} {reply : Reply} → GoesForward s e reply t → (more : Declarations) × (t.declarations ≡ s.declarations ++ more)
@@ -128,17 +120,7 @@ more_declared {s = s} (switched on h) = ([], sym (append-nil s.declarations))
 more_declared {s = s} (given_up h) = ([], sym (append-nil s.declarations))
 more_declared {s = s} (denied l c a t gs r f d) = ([], sym (append-nil s.declarations))
 more_declared {s = s} (led l c a t gs ps h hs f m e) = ([], sym (append-nil s.declarations))
-more_declared (proved l c a v gs ps f m e) = (a_theorem a.name a.formula ∷ [], refl)
-
--- the theorems of a front are derived
-derived_before : (D more : Declarations) → AllIn (D ++ more) → AllIn D
-derived_before D more x place l =
-    let size : length (theorems_in (D ++ more)) ≡ length (theorems_in D) + length (theorems_in more) = ap length (theorems_in-append D more) ∙ length-append (theorems_in D) (theorems_in more) in
-    let d = x place (omega (arith, size, l)) in
-    let i = d.1 in
-    let k = i.place_is in
-    let f = in_front D more i.before i.behind i.name i.formula i.declared (omega (arith, k, l)) in
-    (d.0, record { name = i.name; formula = i.formula; before = i.before; behind = f.0; declared = f.1; place_is = i.place_is; derives = i.derives })
+more_declared {s = s} (proved l c a v gs ps f m e) = (theorem_of (assumed_after s a v c) a ∷ [], refl)
 
 pub none_yet : AllDerived empty
 none_yet place l = let e : length (theorems_in first_declarations) ≡ 0 = refl in absurd (omega (arith, e, l))
@@ -146,7 +128,7 @@ none_yet place l = let e : length (theorems_in first_declarations) ≡ 0 = refl 
 replied : {s : State} {i : Item} {loads : List Load} {m : Moment} → Replies s i loads m → IsReplayed s → AllDerived s → AllDerived m.state
 replied (to_command m h b) replayed x =
     holds_on AllDerived IsBorneOut (λ s t e r f borne y. derived_by f borne y)
-    (λ s t e r f kept y. let more = more_declared f in derived_before s.declarations more.0 (subst AllIn more.1 y))
+    (λ s t e r f kept y. let more = more_declared f in are_derived_before s.declarations more.0 (subst AreDerived more.1 y))
     none_yet replayed h b x
 replied (to_long m a e) replayed x = subst AllDerived (sym e) x
 
@@ -156,20 +138,22 @@ all_derived none replayed x = x
 all_derived (next m h k z) replayed x = all_derived z (replaying.replied h replayed) (replied h replayed x)
 all_derived (last m h k) replayed x = replied h replayed x
 
--- a completion brings its derivation
-borne_out : {s : State} {i : Item} {loads : List Load} {m : Moment} (name : List ℕ) → Replies s i loads m → m.reply ≡ completed name → IsProvedLast m.state.declarations name
-borne_out name (to_command m h b) e = subst (λ q. IsBorneOut q m.state) e b
-borne_out name (to_long m a h) e = cc
+-- a reply brings what it says
+borne_out : {s : State} {i : Item} {loads : List Load} {m : Moment} (reply : Reply) → Replies s i loads m → m.reply ≡ reply → IsBorneOut reply m.state
+borne_out reply (to_command m h b) e = subst (λ q. IsBorneOut q m.state) e b
+borne_out reply (to_long m a h) e = subst (λ q. IsBorneOut q m.state) (sym a ∙ e) tt
 
-pub all_borne_out : {w : Way} {s : State} {is : List Item} {loads : List Load} {r : Report} (name : List ℕ) → Reports w s is loads r → All (λ (m : Moment). m.reply ≡ completed name → IsProvedLast m.state.declarations name) r
-all_borne_out name none = λ k d l. absurd (omega arith)
-all_borne_out name (next {r = r} m h k x) = All-cons (λ (q : Moment). q.reply ≡ completed name → IsProvedLast q.state.declarations name) m r (borne_out name h) (all_borne_out name x)
-all_borne_out name (last m h k) = All-cons (λ (q : Moment). q.reply ≡ completed name → IsProvedLast q.state.declarations name) m [] (borne_out name h) (λ k d l. absurd (omega arith))
+pub all_borne_out : {w : Way} {s : State} {is : List Item} {loads : List Load} {r : Report} (reply : Reply) → Reports w s is loads r → All (λ (m : Moment). m.reply ≡ reply → IsBorneOut reply m.state) r
+all_borne_out reply none = λ k d l. absurd (omega arith)
+all_borne_out reply (next {r = r} m h k x) = All-cons (λ (q : Moment). q.reply ≡ reply → IsBorneOut reply q.state) m r (borne_out reply h) (all_borne_out reply x)
+all_borne_out reply (last m h k) = All-cons (λ (q : Moment). q.reply ≡ reply → IsBorneOut reply q.state) m [] (borne_out reply h) (λ k d l. absurd (omega arith))
 
 -- what a session's answer says of a completion
-pub borne : (w : World) (r : Kept) (s : State) → ((name : List ℕ) → r ≡ Completed name → IsProvedLast s.declarations name) → IsBorneOut (reply_of w r) s
-borne w Accepted s h = tt
-borne w (Completed name) s h = h name refl
-borne w (Shown name f) s h = tt
-borne w Quit s h = tt
-borne w (Refused r) s h = tt
+pub borne : (w : World) (r : Kept) (s : State) → ((name : List ℕ) → r ≡ Completed name → IsProvedLast s.declarations name)
+    → ((name : List ℕ) (names : List (List ℕ)) → r ≡ Admitted name names → IsDerivedLast s.declarations name) → IsBorneOut (reply_of w r) s
+borne w Accepted s h k = tt
+borne w (Completed name) s h k = h name refl
+borne w (Admitted name names) s h k = k name names refl
+borne w (Shown name f) s h k = tt
+borne w Quit s h k = tt
+borne w (Refused r) s h k = tt

@@ -10,4 +10,3 @@ pub mod Endings
 pub mod Texts
 pub mod Whole
 pub mod Asked
-mod Fronts

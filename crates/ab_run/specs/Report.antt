@@ -8,7 +8,7 @@ use Rattle.ab_states.specs.State.{State, empty}
 use Rattle.ab_formulas.specs.Declarations.{theorems_in}
 use Rattle.ab_drill.specs.declared.summary.Tallies.{Tallies}
 use Rattle.ab_drill.specs.Summary.{summary}
-use Rattle.ab_states.specs.Reply.{Reply, completed, quit, refused, is_refusal}
+use Rattle.ab_states.specs.Reply.{Reply, completed, admitted, quit, refused, is_refusal}
 use Rattle.ab_states.specs.StateEffects.{HasEffect}
 use Rattle.ab_blocks.specs.Blocks.{block}
 use Rattle.ab_run.specs.declared.way.Showing.{Showing}
@@ -78,9 +78,10 @@ state_behind s (m ∷ r) = state_behind m.state r
 
 abbrev pub is_completion : Reply → Bool
 is_completion (completed name) = true
+is_completion (admitted name assumed) = true
 is_completion reply = false
 
--- of a moment: its block; or the block's first line, where a theorem was completed or a command refused; or nothing
+-- of a moment: its block; or the block's first line, where a theorem was completed, whatever it assumes, or a command refused; or nothing
 abbrev pub shown : Showing → Moment → List ℕ
 shown Blocks m = block m.reply m.state
 shown FirstLines m = if is_completion m.reply || is_refusal m.reply then first_line (block m.reply m.state) else []

@@ -5,8 +5,8 @@ ghost use Rattle.ab_lex.specs.Commands.{Item};
 ghost use Rattle.ab_sigmod.specs.FileLoads.{Load};
 ghost use Rattle.ab_states.specs.State.{State};
 ghost use Rattle.ab_states.specs.Replay.{IsReplayed};
-ghost use Rattle.ab_states.specs.Reply.{completed};
-ghost use Rattle.ab_session.specs.SessionAnswers.{IsProvedLast};
+ghost use Rattle.ab_states.specs.Reply.{completed, admitted};
+ghost use Rattle.ab_session.specs.SessionAnswers.{IsDerivedLast, IsProvedLast};
 ghost use Rattle.ab_run.specs.declared.way.Way.{Way};
 ghost use Rattle.ab_run.specs.Report.{Moment, Report, ReportOf, Reports, has_end};
 
@@ -32,8 +32,11 @@ pub fn kept_commands_replay()
     ensures { (way : Way) (text : List ℕ) (loads : List Load) (r : Report) → ReportOf way text loads r → All (λ (m : Moment). IsReplayed m.state) r }
 {}
 
-/// Where a report says that a theorem is proved, it stands last in the state behind the command, and has a derivation.
+/// Where a report says that a theorem is proved, it stands last in the state behind the command, and is proved with each theorem that it
+/// rests on. Where it says what the theorem assumes, that stands last too, and has a derivation, in which goals may have been admitted.
 pub fn completions_are_derived()
-    ensures { (way : Way) (text name : List ℕ) (loads : List Load) (r : Report) → ReportOf way text loads r
+    ensures completed { (way : Way) (text name : List ℕ) (loads : List Load) (r : Report) → ReportOf way text loads r
         → All (λ (m : Moment). m.reply ≡ completed name → IsProvedLast m.state.declarations name) r }
+    ensures admitted { (way : Way) (text name : List ℕ) (names : List (List ℕ)) (loads : List Load) (r : Report) → ReportOf way text loads r
+        → All (λ (m : Moment). m.reply ≡ admitted name names → IsDerivedLast m.state.declarations name) r }
 {}

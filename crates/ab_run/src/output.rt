@@ -41,7 +41,7 @@ fn is_refusal(reply: &Reply) -> bool
 fn is_completion(reply: &Reply) -> bool
     ensures { (w : AWorld) → result ≡ is_completion (reply_of w reply.now) }
 {
-    matches!(reply, Reply::Completed(_))
+    matches!(reply, Reply::Completed(_) | Reply::Admitted(_, _))
 }
 
 /// Whether the run ends with this reply.

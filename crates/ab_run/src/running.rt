@@ -6,9 +6,9 @@ ghost use Rattle.ab_sigmod.specs.FileLoads.{Load};
 ghost use Rattle.ab_sigmod.specs.Outcomes.{seen};
 ghost use Rattle.ab_line.specs.Lines.{origin_of, request_of_line};
 ghost use Rattle.ab_line.specs.Requests.{Request, request_of_words};
-ghost use Rattle.ab_states.specs.Reply.{completed};
+ghost use Rattle.ab_states.specs.Reply.{completed, admitted};
 ghost use Rattle.ab_session.specs.Contents.{state_of};
-ghost use Rattle.ab_session.specs.SessionAnswers.{IsProvedLast};
+ghost use Rattle.ab_session.specs.SessionAnswers.{IsDerivedLast, IsProvedLast};
 ghost use Rattle.ab_run.specs.ProvedTheorems.{AllDerived};
 ghost use Rattle.ab_run.specs.Report.{Moment, Report, ReportOf};
 ghost use Rattle.ab_run.specs.Ways.{IsInput, IsInputOf, way_of};
@@ -236,9 +236,12 @@ pub fn run<F: Files, S: Source, O: Sink>(
         (seen (F.files files.old) (F.plan files.old) (F.faults files.old) (F.misses files.old) (F.long_files files.old))
         (seen (F.files files.new) (F.plan files.new) (F.faults files.new) (F.misses files.new) (F.long_files files.new)) }
 
-    // Each theorem that a report says is proved, and each of the session that is handed out, has a derivation.
+    // Each theorem that a report says is proved is, with each theorem that it rests on; one that it says assumes some, and each of the
+    // session that is handed out, has a derivation, in which goals may have been admitted.
     ensures proved { (way : AWay) (text name : List ℕ) (loads : List Load) (r : Report) → ReportOf way text loads r
         → All (λ (m : Moment). m.reply ≡ completed name → IsProvedLast m.state.declarations name) r }
+    ensures admitted { (way : AWay) (text name : List ℕ) (names : List (List ℕ)) (loads : List Load) (r : Report) → ReportOf way text loads r
+        → All (λ (m : Moment). m.reply ≡ admitted name names → IsDerivedLast m.state.declarations name) r }
     ensures theorems { IfSome (option_map state_of result.session) AllDerived }
 {
     let (status, session) = run_words(alloc, words, files, input, out);

@@ -1,9 +1,9 @@
 -- What a proof command leaves of a proof, and of an attempt at a theorem.
-use Rattle.std.specs.Prelude.{IfSome, Result, Ok, Err, OnErr}
-use Rattle.std.proofs.Common.{◌≡◌, ◌≢◌, ℕ, List, [], ◌∷◌, ◌++◌, Option, Some, None, refl, sym, ◌∙◌, ap, subst}
+use Rattle.std.specs.Prelude.{IfSome, IfOk, Result, Ok, Err, OnErr}
+use Rattle.std.proofs.Common.{◌≡◌, ◌≢◌, ℕ, Bool, true, false, List, [], ◌∷◌, ◌++◌, Option, Some, None, refl, sym, ◌∙◌, ap, subst}
 use Rattle.ab_grammar.specs.CommandTrees as told
 use Rattle.ab_grammar.specs.CommandTrees.{ProofCommand}
-use Rattle.ab_formulas.specs.Declarations.{Declarations, a_theorem, signature_in, theorem_in}
+use Rattle.ab_formulas.specs.Declarations.{Declarations, a_theorem, names_at, signature_in, theorem_in}
 use Rattle.ab_formulas.specs.Formulas.{IsSentence}
 use Rattle.ab_term.specs.Terms.{Read}
 use Rattle.ab_logic.specs.WorldGrowth.{Grows}
@@ -12,17 +12,20 @@ use Rattle.ab_formulas.specs.Sequents.{Sequent}
 use Rattle.ab_logic.specs.Worlds.{read, Holds, declarations_of, IsWorld}
 use Rattle.ab_logic.specs.declared.world.World.{World}
 use Rattle.ab_logic.proofs.Growing.{grows_on}
-use Rattle.ab_theory.specs.Derivations.{History, Valid, open_goals, IsDerivation}
+use Rattle.ab_theory.specs.Derivations.{History, Valid, open_goals, IsTreeOf}
+use Rattle.ab_theory.specs.Assumptions.{assumed_by}
 use Rattle.ab_theory.specs.Growth.{AddsNoClause}
 use Rattle.ab_theory.proofs.SameRules.{adds_behind}
 use Rattle.ab_steps.specs.ab_kernel.specs.Layout.{Held, history_of}
 use Rattle.ab_steps.specs.ab_kernel.proofs.Later.{AddsNone, same_history, outlived_proof}
 use Rattle.ab_effects.specs.ProofCommands.{effect}
 use Rattle.ab_meaning.specs.Refusals as row
+use Rattle.ab_effects.specs.Debts.{debts_at}
 use Rattle.ab_effects.specs.Row.{Row, Leads, Refuses}
-use Rattle.ab_steps.specs.Progress.{goals_of, Follows}
+use Rattle.ab_steps.specs.Progress.{goals_of, Advances, Follows}
 use Rattle.ab_steps.proofs.Following.{nothing_left}
-use Rattle.ab_steps.specs.ProofEffects.{IsApplied, IsRefused, RefusedBy}
+use Rattle.ab_steps.proofs.OwedJust.{OwesJust}
+use Rattle.ab_steps.specs.ProofEffects.{IsApplied, OwesFor, IsRefused, RefusedBy}
 use Rattle.ab_steps.specs.declared.fault.ProofCommandFault.{ProofCommandFault}
 use Rattle.ab_steps.specs.declared.fault.ProofCommandFault.TheVariants.{Unknown, Clash, TypeClash, Untyped, NoHypothesis, WrongShape, Mark, NoMatch, NotPattern, Unresolved, NamesSpent, Memory}
 use Rattle.ab_proofcmd.specs.SupportedCommands.{IsBuilt}
@@ -33,6 +36,8 @@ use Rattle.ab_declare.specs.Moments.{HasMore, IsRestored}
 use Rattle.ab_declare.specs.Refusals.{refusal_for}
 use Rattle.ab_declare.proofs.Restoring.{restored_grows, restored_declares}
 use Rattle.ab_states.specs.ProofCommandEffects.{Makes, RefusesSo, Denies}
+use Rattle.ab_states.specs.Reply.{reply_of, done}
+use Rattle.ab_states.specs.declared.reply.Reply.{Reply}
 use Rattle.ab_session.specs.declared.attempt.Attempt.{Attempt}
 use Rattle.ab_session.specs.Sessions.{IsTried}
 use Rattle.ab_session.specs.ProofAttempts.{TellsOf, IsMade, IsDenied, IsUnchanged, GoesOn, IsCompleted, IsRefusedSo}
@@ -120,12 +125,12 @@ pub denied_by_search : (l : Label) (n : ℕ) (w : World) (p : Held)
 denied_by_search l n w p none s rest e = (none s rest e, refl)
 
 -- a theorem adds no clause of the program
-theorem_adds_none : (v u : World) (x : List ℕ) (F : Read) → declarations_of u ≡ declarations_of v ++ a_theorem x F ∷ [] → AddsNone v u
-theorem_adds_none v u x F more = subst (AddsNoClause (declarations_of v)) (sym more) (adds_behind (declarations_of v) (a_theorem x F ∷ []) refl)
+theorem_adds_none : (v u : World) (x : List ℕ) (F : Read) (js : List ℕ) → declarations_of u ≡ declarations_of v ++ a_theorem x F js ∷ [] → AddsNone v u
+theorem_adds_none v u x F js more = subst (AddsNoClause (declarations_of v)) (sym more) (adds_behind (declarations_of v) (a_theorem x F js ∷ []) refl)
 
 -- A world that has types, terms and declarations more, if any
 
-pub has_more : (w v : World) (p q : Held) → Follows w p v q → HasMore w v
+pub has_more : (w v : World) (p q : Held) → Advances w p v q → HasMore w v
 has_more w v p q f = record {
   types = f.grows.types;
   marks = f.grows.marks;
@@ -136,6 +141,15 @@ has_more w v p q f = record {
 pub at_some : {A : Type 0} (P : A → Type 0) (o : Option A) (x : A) → o ≡ Some x → IfSome o P → P x
 at_some P o x e holds = subst (λ p. IfSome p P) e holds
 
+-- a proof that isn't closed
+pub still_open : (b : Bool) → b ≡ true → b ≡ false → ⊥
+still_open b is not_so = let clash : true ≡ false = sym is ∙ not_so in cc
+
+-- what holds of each answer
+pub on_answer : {T E : Type 0} {P : T → Type 0} (r : Result T E) → ((x : T) → P x) → IfOk r P
+on_answer (Ok x) p = p x
+on_answer (Err e) p = tt
+
 -- what holds, holds where there is an error
 pub on_error : {T E P : Type 0} (r : Result T E) → P → OnErr r P
 on_error (Ok x) p = tt
@@ -143,15 +157,15 @@ on_error (Err e) p = p
 
 -- An attempt
 
-module _ (w v : World) (a : Attempt) (q : Held) (is : IsTried w a) (f : Follows w a.proof v q) where
+module _ (w v : World) (a : Attempt) (q : Held) (is : IsTried w a) (f : Advances w a.proof v q) where
   abbrev pub with_proof : Attempt
   with_proof = record { name = a.name; formula = a.formula; proof = q }
 
   pub stayed : history_of v q ≡ history_of w a.proof → IsUnchanged w a v with_proof
   stayed same = record { grows = f.grows; declared = f.declared; name = refl; formula = refl; proof = nothing_left w v a.proof q f same }
 
-  pub went_on : (l : Label) (c : ProofCommand) → IsMade l c w a.proof v q → goals_of v q ≢ [] → GoesOn l c w a v with_proof
-  went_on l c made left = record { made = made; follows = f; name = refl; formula = refl; goals = left }
+  pub went_on : (l : Label) (c : ProofCommand) → IsMade l c w a.proof v q → OwesFor c w a.proof v q → goals_of v q ≢ [] → GoesOn l c w a v with_proof
+  went_on l c made owes left = record { made = made; advances = f; owes = owes; name = refl; formula = refl; goals = left }
 
   -- what the theorem states is still a sentence of a new name
 
@@ -166,27 +180,36 @@ module _ (w v : World) (a : Attempt) (q : Held) (is : IsTried w a) (f : Follows 
   pub still_new : theorem_in (declarations_of v) a.name ≡ None
   still_new = ap (λ D. theorem_in D a.name) f.declared ∙ is.new_name
 
-  pub completed : (u : World) (l : Label) (c : ProofCommand) → IsMade l c w a.proof v q → goals_of v q ≡ [] → Grows v u
-      → declarations_of u ≡ declarations_of v ++ a_theorem a.name (read v a.formula) ∷ [] → IsCompleted l c w a u with_proof
-  completed u l c made closed grows more =
+  -- the places that it assumes, as the last world has them
+  abbrev places : List ℕ
+  places = assumed_by (declarations_of v) (history_of v q).tree
+
+  pub completed : (u : World) (l : Label) (c : ProofCommand) (r : Reply) → IsMade l c w a.proof v q → OwesFor c w a.proof v q → goals_of v q ≡ [] → Grows v u
+      → declarations_of u ≡ declarations_of v ++ a_theorem a.name (read v a.formula) places ∷ [] → reply_of u r ≡ done a.name (names_at (declarations_of u) places) → IsCompleted l c w a u with_proof r
+  completed u l c r made owes closed grows more replied =
       let F = f.grows.readings a.formula is.held in
       let h = same_history v u grows q f.proof in
+      let same : places ≡ assumed_by (declarations_of w) (history_of u q).tree =
+      ap (λ D. assumed_by D (history_of v q).tree) f.declared ∙ ap (λ (k : History). assumed_by (declarations_of w) k.tree) (sym h) in
       record {
         made = λ s rest e. let m = made s rest e in (m.0, m.1, ap (λ (k : History). open_goals k.tree) h ∙ m.2);
         grows = grows_on w v u f.grows grows;
-        declared = more ∙ ap (λ D. D ++ a_theorem a.name (read v a.formula) ∷ []) f.declared ∙ ap (λ G. declarations_of w ++ a_theorem a.name G ∷ []) F;
+        declared = more ∙ ap (λ D. D ++ a_theorem a.name (read v a.formula) places ∷ []) f.declared ∙ ap (λ G. declarations_of w ++ a_theorem a.name G places ∷ []) F
+            ∙ ap (λ js. declarations_of w ++ a_theorem a.name (read w a.formula) js ∷ []) same;
+        owes = λ s rest e. subst (λ (k : History). OwesJust (debts_at s c) (history_of w a.proof).tree k.tree) (sym h) (owes s rest e);
         name = refl;
         formula = refl;
         beyond = f.beyond;
-        proof = outlived_proof v u grows (theorem_adds_none v u a.name (read v a.formula) more) q f.proof;
+        proof = outlived_proof v u grows (theorem_adds_none v u a.name (read v a.formula) places more) q f.proof;
         derives =
-            subst (λ (k : History). IsDerivation (declarations_of w) (read w a.formula) k.tree) (sym h)
+            subst (λ (k : History). IsTreeOf (declarations_of w) (read w a.formula) k.tree) (sym h)
             (record {
               sentence = is.sentence;
               valid = subst (λ D. Valid D (history_of v q).tree) f.declared f.proof.valid;
               closed = closed;
               derives = f.above.rooted ∙ is.begins;
             });
+        replied = replied ∙ ap (λ js. done a.name (names_at (declarations_of u) js)) same;
       }
 
 -- a refused command: the world is cut back, and the proof is the same

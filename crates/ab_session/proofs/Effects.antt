@@ -1,6 +1,6 @@
 -- The effects of commands on a session, from what the calls below say.
 use Rattle.std.specs.Prelude.{IfSome}
-use Rattle.std.proofs.Common.{◌≡◌, ◌≢◌, ℕ, Bool, List, [], ◌∷◌, ◌++◌, length, map, Option, Some, None, option_map, refl, sym, ◌∙◌, ap, subst}
+use Rattle.std.proofs.Common.{◌≡◌, ◌≢◌, ℕ, Bool, List, [], ◌∷◌, ◌++◌, length, map, Option, Some, None, option_map, is_some, refl, sym, ◌∙◌, ap, subst}
 use Rattle.std.proofs.lemmas.List.{map-append}
 use Rattle.std.specs.List.{All}
 use Rattle.std.proofs.lemmas.List.Elements.{All-head}
@@ -11,7 +11,8 @@ use Rattle.ab_grammar.specs.CommandTable.{standing}
 use Rattle.ab_grammar.specs.CommandTrees.{Command, ProofCommand}
 use Rattle.ab_store.specs.declared.node.TermId.{TermId}
 use Rattle.ab_term.specs.Variables.{variables}
-use Rattle.ab_formulas.specs.Declarations.{a_theorem, signature_in, theorem_in, theorems_in}
+use Rattle.ab_formulas.specs.Declarations.{Declarations, signature_in, theorem_in, theorems_in, assumed_in, names_at}
+use Rattle.ab_formulas.proofs.TheoremPlaces.{theorem_new, assumed_new}
 use Rattle.ab_formulas.specs.Formulas.{IsSentence}
 use Rattle.ab_logic.specs.WorldGrowth.{Grows}
 use Rattle.ab_formulas.specs.Sequents.{Sequent, IsSequent}
@@ -19,11 +20,14 @@ use Rattle.ab_logic.specs.Worlds.{read, Holds, declarations_of}
 use Rattle.ab_logic.specs.declared.world.World.{World}
 use Rattle.ab_theory.specs.Derivations.{History, root, proves, open_goals, beginning}
 use Rattle.ab_steps.specs.ab_kernel.specs.Layout.{Held, history_of, IsProof}
+use Rattle.ab_theory.specs.Assumptions.{assumed_by}
+use Rattle.ab_theory.proofs.Assuming.{assumed_begun, assumed_more}
 use Rattle.ab_theory.proofs.Rooted.{open_are_sequents}
 use Rattle.ab_command.specs.declared.fault.Cause.{Cause}
 use Rattle.ab_command.specs.CommandReadings.{Fails}
 use Rattle.ab_steps.specs.Progress.{goals_of}
 use Rattle.ab_steps.proofs.Following.{one_at_least}
+use Rattle.ab_steps.proofs.OwedJust.{just_owes}
 use Rattle.ab_formulas.specs.NamedGoals.{named}
 use Rattle.ab_declare.specs.declared.refusal.Refusal.{Refusal}
 use Rattle.ab_declare.specs.declared.refusal.Refusal.TheVariants.{Unknown}
@@ -32,15 +36,18 @@ use Rattle.ab_declare.specs.DeclarationCommands.{no_theorem}
 use Rattle.ab_declare.specs.Moments.{IsRestored}
 use Rattle.ab_declare.proofs.Restoring.{restored_grows, restored_declares, restored_itself}
 use Rattle.ab_effects.specs.ProofCommands.{given_label}
+use Rattle.ab_effects.specs.Debts.{debts_at}
+use Rattle.ab_steps.specs.ProofEffects.{OwesFor}
 use Rattle.ab_states.specs.State as plain
 use Rattle.ab_states.specs.State.{State, Entry, is_open}
 use Rattle.ab_states.specs.Reply as reply
 use Rattle.ab_states.specs.Reply.{unread_for}
 use Rattle.ab_states.proofs.Replaying.{forward_replayed}
+use Rattle.ab_states.proofs.Assumed.{are_proved}
 use Rattle.ab_states.specs.ForwardEffects as effect
 use Rattle.ab_states.specs.ForwardEffects.{Commands, Faces, GoesForward, unread, declined, declared, stated, showed, ended, switched, given_up, denied, led, proved}
 use Rattle.ab_states.specs.declared.reply.Reply.{Reply}
-use Rattle.ab_states.specs.declared.reply.Reply.TheVariants.{Accepted, Completed, Shown, Quit, Refused}
+use Rattle.ab_states.specs.declared.reply.Reply.TheVariants.{Accepted, Completed, Admitted, Shown, Quit, Refused}
 use Rattle.ab_session.specs.declared.attempt.Attempt.{Attempt}
 use Rattle.ab_session.specs.declared.command_history.Kept.{Kept}
 use Rattle.ab_session.specs.Contents.{Contents, Past, past_of, entry_of, attempt_of, entries_of, state_of}
@@ -48,9 +55,10 @@ use Rattle.ab_session.specs.Sessions.{IsTried, AreProofs, IsSound}
 use Rattle.ab_session.specs.declared.command_history.Deed.TheVariants.{Went}
 use Rattle.ab_session.specs.Origins.{CameBy, CameFrom, later, IsSession}
 use Rattle.ab_session.specs.ProofAttempts.{IsUnchanged, GoesOn, IsCompleted, IsRefusedSo}
-use Rattle.ab_session.specs.SessionAnswers.{IsProvedLast, IsEntryAnswer, IsForwardAnswer, IsBefore}
+use Rattle.ab_session.specs.SessionAnswers.{IsDerivedLast, IsProvedLast, IsEntryAnswer, IsForwardAnswer, IsBefore}
+use Rattle.ab_session.proofs.Replies.{done_completed, done_admitted, done_refused, done_speaks, no_names}
 use Rattle.ab_session.proofs.Sayings.{none_tried}
-use Rattle.ab_session.proofs.Sessions.{as_many, later_proofs, same_proofs, proved_proofs, same_session, same_state, in_world, one_more}
+use Rattle.ab_session.proofs.Sessions.{as_many, later_proofs, same_proofs, proved_proofs, proofs_derive, same_session, same_state, in_world, one_more}
 use Rattle.ab_session.proofs.Origins.{pasts, latest, attempt_is, came, went_nowhere, session_grown}
 
 abbrev pub made : World → List Held → Option Attempt → Bool → List Past → Contents
@@ -72,10 +80,10 @@ meant s old bytes c same = subst (λ o. Commands (state_of o) bytes c) (sym same
 -- Answers by their replies: what is accepted or shown proves no theorem and refuses nothing
 
 accepted : (old : Contents) (bytes : List ℕ) (new : Contents) → GoesForward (state_of old) (plain.plain bytes) reply.accepted (state_of new) → CameFrom old new → IsForwardAnswer old bytes new Accepted
-accepted old bytes new e from = record { effect = e; speaks = tt; completed = λ name bad. absurd (cc); refused = λ r bad. absurd (cc); kept = λ yes. from }
+accepted old bytes new e from = record { effect = e; speaks = tt; completed = λ name bad. absurd (cc); admitted = λ name names bad. absurd (cc); refused = λ r bad. absurd (cc); kept = λ yes. from }
 
 refused : (old : Contents) (bytes : List ℕ) (new : Contents) (r : Refusal) → GoesForward (state_of old) (plain.plain bytes) (reply.refused r) (state_of new) → IsRestored old.world new.world → IsForwardAnswer old bytes new (Refused r)
-refused old bytes new r e restored = record { effect = e; speaks = tt; completed = λ name bad. absurd (cc); refused = λ q same. restored; kept = λ bad. absurd (cc) }
+refused old bytes new r e restored = record { effect = e; speaks = tt; completed = λ name bad. absurd (cc); admitted = λ name names bad. absurd (cc); refused = λ q same. restored; kept = λ bad. absurd (cc) }
 
 module _ (s : Contents) (bytes : List ℕ) where
   -- nothing changes
@@ -84,7 +92,7 @@ module _ (s : Contents) (bytes : List ℕ) where
   unread_answer c fails = refused s bytes s (unread_for c) (unread c fails) (restored_itself s.world)
 
   pub quit_answer : Commands (state_of s) bytes told.quit → IsForwardAnswer s bytes s Quit
-  quit_answer said = record { effect = ended said; speaks = tt; completed = λ name bad. absurd (cc); refused = λ r bad. absurd (cc); kept = λ bad. absurd (cc) }
+  quit_answer said = record { effect = ended said; speaks = tt; completed = λ name bad. absurd (cc); admitted = λ name names bad. absurd (cc); refused = λ r bad. absurd (cc); kept = λ bad. absurd (cc) }
 
   pub shown_answer : (x y : List ℕ) (t : TermId) → y ≡ x → Commands (state_of s) bytes (told.show x) → theorem_in (declarations_of s.world) x ≡ Some (read s.world t)
       → Holds s.world t → variables (read s.world t) ≡ [] → IsForwardAnswer s bytes s (Shown y t)
@@ -92,6 +100,7 @@ module _ (s : Contents) (bytes : List ℕ) where
     effect = subst (λ z. GoesForward (state_of s) (plain.plain bytes) (reply.shown z (read s.world t)) (state_of s)) (sym copied) (showed x (read s.world t) said there);
     speaks = (held, closed);
     completed = λ name bad. absurd (cc);
+    admitted = λ name names bad. absurd (cc);
     refused = λ r bad. absurd (cc);
     kept = λ bad. absurd (cc);
   }
@@ -130,11 +139,15 @@ module _ (s : Contents) (bytes : List ℕ) where
     stated_answer x y e t v p copied none said d begins from = accepted s bytes (made v s.proofs (Some (record { name = y; formula = t; proof = p })) s.all_subgoals ks)
         (subst (λ (u : State). GoesForward (state_of s) (plain.plain bytes) reply.accepted u) same (stated x e (read v t) said d.new_name d.states)) from
       where
+        nothing : assumed_by (declarations_of v) (history_of v p).tree ≡ []
+        nothing = ap (λ (h : History). assumed_by (declarations_of v) h.tree) begins ∙ assumed_begun (declarations_of v) (proves (read v t) 0)
+
         same : plain.keeping (plain.plain bytes) (plain.proving (effect.beginning x (read v t)) (state_of s)) ≡ state_of (made v s.proofs (Some (record { name = y; formula = t; proof = p })) s.all_subgoals ks)
         same =
             ap (λ D. record { declarations = D; attempt = Some (effect.beginning x (read v t)); all_subgoals = s.all_subgoals; kept = entries_of s.past ++ plain.plain bytes ∷ [] }) (sym d.declared)
             ∙ ap (λ z. record { declarations = declarations_of v; attempt = Some (effect.beginning z (read v t)); all_subgoals = s.all_subgoals; kept = entries_of s.past ++ plain.plain bytes ∷ [] }) (sym copied)
-            ∙ ap (λ (h : History). record { declarations = declarations_of v; attempt = Some (record { name = y; formula = read v t; goals = map named (open_goals h.tree) }); all_subgoals = s.all_subgoals; kept = entries_of s.past ++ plain.plain bytes ∷ [] }) (sym begins)
+            ∙ ap (λ (h : History). record { declarations = declarations_of v; attempt = Some (record { name = y; formula = read v t; goals = map named (open_goals h.tree); assumed = [] }); all_subgoals = s.all_subgoals; kept = entries_of s.past ++ plain.plain bytes ∷ [] }) (sym begins)
+            ∙ ap (λ js. record { declarations = declarations_of v; attempt = Some (record { name = y; formula = read v t; goals = map named (goals_of v p); assumed = js }); all_subgoals = s.all_subgoals; kept = entries_of s.past ++ plain.plain bytes ∷ [] }) (sym nothing)
             ∙ ap (λ xs. record { declarations = declarations_of v; attempt = Some (attempt_of v (record { name = y; formula = t; proof = p })); all_subgoals = s.all_subgoals; kept = xs }) (sym more)
 
   -- what is declined leaves the session
@@ -276,13 +289,15 @@ module _ (s : Contents) (bytes : List ℕ) (l : Option (List ℕ)) (c : ProofCom
     goals = left;
   }
 
-  state_by : (v : World) (b : Attempt) (ks : List Past) → Grows s.world v → declarations_of v ≡ declarations_of s.world → b.name ≡ a.name → b.formula ≡ a.formula
-      → plain.proving (effect.left_with (map named (goals_of v b.proof)) (attempt_of s.world a)) (record { declarations = declarations_of s.world; attempt = (state_of s).attempt; all_subgoals = s.all_subgoals; kept = entries_of ks })
+  state_by : (v : World) (b : Attempt) (ks : List Past) (js : List ℕ) → Grows s.world v → declarations_of v ≡ declarations_of s.world → b.name ≡ a.name → b.formula ≡ a.formula
+      → assumed_by (declarations_of v) (history_of v b.proof).tree ≡ js
+      → plain.proving (effect.left_with (map named (goals_of v b.proof)) js (attempt_of s.world a)) (record { declarations = declarations_of s.world; attempt = (state_of s).attempt; all_subgoals = s.all_subgoals; kept = entries_of ks })
       ≡ state_of (made v s.proofs (Some b) s.all_subgoals ks)
-  state_by v b ks grows declares name formula =
-      ap (λ D. record { declarations = D; attempt = Some (record { name = a.name; formula = read s.world a.formula; goals = map named (goals_of v b.proof) }); all_subgoals = s.all_subgoals; kept = entries_of ks }) (sym declares)
-      ∙ ap (λ n. record { declarations = declarations_of v; attempt = Some (record { name = n; formula = read s.world a.formula; goals = map named (goals_of v b.proof) }); all_subgoals = s.all_subgoals; kept = entries_of ks }) (sym name)
-      ∙ ap (λ F. record { declarations = declarations_of v; attempt = Some (record { name = b.name; formula = F; goals = map named (goals_of v b.proof) }); all_subgoals = s.all_subgoals; kept = entries_of ks }) (sym (same_formula v b grows formula))
+  state_by v b ks js grows declares name formula assumes =
+      ap (λ D. record { declarations = D; attempt = Some (record { name = a.name; formula = read s.world a.formula; goals = map named (goals_of v b.proof); assumed = js }); all_subgoals = s.all_subgoals; kept = entries_of ks }) (sym declares)
+      ∙ ap (λ n. record { declarations = declarations_of v; attempt = Some (record { name = n; formula = read s.world a.formula; goals = map named (goals_of v b.proof); assumed = js }); all_subgoals = s.all_subgoals; kept = entries_of ks }) (sym name)
+      ∙ ap (λ F. record { declarations = declarations_of v; attempt = Some (record { name = b.name; formula = F; goals = map named (goals_of v b.proof); assumed = js }); all_subgoals = s.all_subgoals; kept = entries_of ks }) (sym (same_formula v b grows formula))
+      ∙ ap (λ is. record { declarations = declarations_of v; attempt = Some (record { name = b.name; formula = read v b.formula; goals = map named (goals_of v b.proof); assumed = is }); all_subgoals = s.all_subgoals; kept = entries_of ks }) (sym assumes)
 
   -- nothing came of it
 
@@ -298,13 +313,22 @@ module _ (s : Contents) (bytes : List ℕ) (l : Option (List ℕ)) (c : ProofCom
       (denied l c (attempt_of s.world a) g.0 (map named g.1) r (faces g.0 g.1 g.2) (d.denied g.0 g.1 g.2)))
       d.restored
 
+  -- what it assumes then
+
+  abbrev after : Sequent → List ℕ
+  after t = effect.assumed_after (state_of s) (attempt_of s.world a) t c
+
+  assumes : (v : World) (b : Attempt) (t : Sequent) (rest : List Sequent) → goals_of s.world a.proof ≡ t ∷ rest → OwesFor c s.world a.proof v b.proof
+      → assumed_by (declarations_of s.world) (history_of v b.proof).tree ≡ after t
+  assumes v b t rest e owes = assumed_more (declarations_of s.world) (debts_at t c) (history_of s.world a.proof).tree (history_of v b.proof).tree (just_owes (debts_at t c) (history_of s.world a.proof).tree (history_of v b.proof).tree (owes t rest e))
+
   -- goals are left
 
   pub session_goes_on : (v : World) (b : Attempt) (ks : List Past) → GoesOn (given_label l) c s.world a v b → IsSound (made v s.proofs (Some b) s.all_subgoals ks)
   session_goes_on v b ks g = record {
-    world = g.follows.grows.world;
-    proofs = same_proofs s.world v s.proofs g.follows.grows g.follows.declared is.proofs;
-    attempt = tried_by v b g.follows.grows g.follows.declared g.name g.formula g.follows.proof g.follows.above.rooted g.goals;
+    world = g.advances.grows.world;
+    proofs = same_proofs s.world v s.proofs g.advances.grows g.advances.declared is.proofs;
+    attempt = tried_by v b g.advances.grows g.advances.declared g.name g.formula g.advances.proof g.advances.above.rooted g.goals;
   }
 
   pub led_answer : (v : World) (b : Attempt) (ks : List Past) → entries_of ks ≡ entries_of s.past ++ plain.plain bytes ∷ [] → GoesOn (given_label l) c s.world a v b → CameFrom s (made v s.proofs (Some b) s.all_subgoals ks)
@@ -315,56 +339,87 @@ module _ (s : Contents) (bytes : List ℕ) (l : Option (List ℕ)) (c : ProofCom
       let n = one_at_least (goals_of v b.proof) g.goals in
       let goals : map named m.0 ++ map named t.1 ≡ map named (goals_of v b.proof) = sym (map-append named m.0 t.1) ∙ ap (map named) (sym m.2) in
       let some : map named m.0 ++ map named t.1 ≡ named n.0 ∷ map named n.1 = goals ∙ ap (map named) n.2 in
-      let same : plain.keeping (plain.plain bytes) (plain.proving (effect.left_with (named n.0 ∷ map named n.1) (attempt_of s.world a)) (state_of s)) ≡ state_of (made v s.proofs (Some b) s.all_subgoals ks) =
-      ap (λ gs. record { declarations = declarations_of s.world; attempt = Some (record { name = a.name; formula = read s.world a.formula; goals = gs }); all_subgoals = s.all_subgoals; kept = entries_of s.past ++ plain.plain bytes ∷ [] }) (sym (ap (map named) n.2))
-      ∙ ap (λ xs. record { declarations = declarations_of s.world; attempt = Some (record { name = a.name; formula = read s.world a.formula; goals = map named (goals_of v b.proof) }); all_subgoals = s.all_subgoals; kept = xs }) (sym more)
-      ∙ state_by v b ks g.follows.grows g.follows.declared g.name g.formula in
+      let same : plain.keeping (plain.plain bytes) (plain.proving (effect.left_with (named n.0 ∷ map named n.1) (after t.0) (attempt_of s.world a)) (state_of s)) ≡ state_of (made v s.proofs (Some b) s.all_subgoals ks) =
+      ap (λ gs. record { declarations = declarations_of s.world; attempt = Some (record { name = a.name; formula = read s.world a.formula; goals = gs; assumed = after t.0 }); all_subgoals = s.all_subgoals; kept = entries_of s.past ++ plain.plain bytes ∷ [] }) (sym (ap (map named) n.2))
+      ∙ ap (λ xs. record { declarations = declarations_of s.world; attempt = Some (record { name = a.name; formula = read s.world a.formula; goals = map named (goals_of v b.proof); assumed = after t.0 }); all_subgoals = s.all_subgoals; kept = xs }) (sym more)
+      ∙ state_by v b ks (after t.0) g.advances.grows g.advances.declared g.name g.formula
+      (ap (λ D. assumed_by D (history_of v b.proof).tree) g.advances.declared ∙ assumes v b t.0 t.1 t.2 g.owes) in
       accepted s bytes (made v s.proofs (Some b) s.all_subgoals ks)
       (subst (λ (u : State). GoesForward (state_of s) (plain.plain bytes) reply.accepted u) same
       (led l c (attempt_of s.world a) t.0 (map named t.1) m.0 (named n.0) (map named n.1) (faces t.0 t.1 t.2) m.1 some)) from
 
   -- no goal is left
 
-  pub session_completed : (v : World) (b : Attempt) (ks : List Past) (ps : List Held) → ps ≡ s.proofs ++ b.proof ∷ [] → IsCompleted (given_label l) c s.world a v b → IsSound (made v ps None s.all_subgoals ks)
-  session_completed v b ks ps pushed g = record {
-    world = g.grows.world;
-    proofs = subst (AreProofs v) (sym pushed) (proved_proofs s.world v s.proofs b.proof a.name (read s.world a.formula) g.grows g.declared g.proof g.derives is.proofs);
-    attempt = tt;
-  }
+  module _ (v : World) (b : Attempt) (r : Reply) (g : IsCompleted (given_label l) c s.world a v b r) where
+    abbrev D : Declarations
+    D = declarations_of s.world
 
-  proved_last : (v : World) (b : Attempt) → IsCompleted (given_label l) c s.world a v b → IsProvedLast (declarations_of v) b.name
-  proved_last v b g =
-      let D = declarations_of s.world in
-      let F = read s.world a.formula in
-      subst (λ n. IsProvedLast (declarations_of v) n) (sym g.name)
-      (subst (λ E. IsProvedLast E a.name) (sym g.declared)
-      (record {
-        place = length (theorems_in D);
-        derivation = (history_of v b.proof).tree;
-        derived = record { name = a.name; formula = F; before = D; behind = []; declared = refl; place_is = refl; derives = g.derives };
-        last = one_more D a.name F;
-        named = refl;
-      }))
+    abbrev places : List ℕ
+    places = assumed_by D (history_of v b.proof).tree
 
-  pub proved_answer : (v : World) (b : Attempt) (ks : List Past) (ps : List Held) → entries_of ks ≡ entries_of s.past ++ plain.plain bytes ∷ [] → IsCompleted (given_label l) c s.world a v b → CameFrom s (made v ps None s.all_subgoals ks)
-      → IsForwardAnswer s bytes (made v ps None s.all_subgoals ks) (Completed b.name)
-  proved_answer v b ks ps more g from =
-      let t = one_at_least (goals_of s.world a.proof) tried.goals in
-      let m = g.made t.0 t.1 t.2 in
-      let none : map named m.0 ++ map named t.1 ≡ [] = sym (map-append named m.0 t.1) ∙ ap (map named) (sym m.2 ∙ closed) in
-      let same : plain.keeping (plain.plain bytes) (plain.closed (plain.declaring (a_theorem a.name (read s.world a.formula) ∷ []) (state_of s))) ≡ state_of (made v ps None s.all_subgoals ks) =
-      ap (λ D. record { declarations = D; attempt = None; all_subgoals = s.all_subgoals; kept = entries_of s.past ++ plain.plain bytes ∷ [] }) (sym g.declared)
-      ∙ ap (λ xs. record { declarations = declarations_of v; attempt = None; all_subgoals = s.all_subgoals; kept = xs }) (sym more) in
-      record {
-        effect =
-            subst (λ n. GoesForward (state_of s) (plain.plain bytes) (reply.completed n) (state_of (made v ps None s.all_subgoals ks))) (sym g.name)
-            (subst (λ (u : State). GoesForward (state_of s) (plain.plain bytes) (reply.completed a.name) u) same
-            (proved l c (attempt_of s.world a) t.0 (map named t.1) m.0 (faces t.0 t.1 t.2) m.1 none));
-        speaks = tt;
-        completed = λ name e. let n : b.name ≡ name = cc in subst (IsProvedLast (declarations_of v)) n (proved_last v b g);
-        refused = λ r bad. absurd (cc);
-        kept = λ yes. from;
-      }
-    where
-      closed : goals_of v b.proof ≡ []
-      closed = g.derives.closed
+    abbrev names : List (List ℕ)
+    names = names_at (declarations_of v) places
+
+    proofs_completed : (ps : List Held) → ps ≡ s.proofs ++ b.proof ∷ [] → AreProofs v ps
+    proofs_completed ps pushed =
+        subst (AreProofs v) (sym pushed) (proved_proofs s.world v s.proofs b.proof a.name (read s.world a.formula) places g.grows g.declared g.proof g.derives refl is.proofs)
+
+    pub session_completed : (ks : List Past) (ps : List Held) → ps ≡ s.proofs ++ b.proof ∷ [] → IsSound (made v ps None s.all_subgoals ks)
+    session_completed ks ps pushed = record { world = g.grows.world; proofs = proofs_completed ps pushed; attempt = tt }
+
+    last_derived : IsDerivedLast (declarations_of v) a.name
+    last_derived =
+        subst (λ E. IsDerivedLast E a.name) (sym g.declared)
+        (record {
+          place = length (theorems_in D);
+          derivation = (history_of v b.proof).tree;
+          derived = record { name = a.name; formula = read s.world a.formula; assumed = places; before = D; behind = []; declared = refl; place_is = refl; derives = g.derives; assumes = refl };
+          last = one_more D a.name (read s.world a.formula) places;
+          named = refl;
+        })
+
+    -- where nothing is assumed, it is proved
+    last_proved : names ≡ [] → IsProvedLast (declarations_of v) a.name
+    last_proved none = record {
+      derived_last = last_derived;
+      proved =
+          are_proved (declarations_of v) a.name (proofs_derive v (s.proofs ++ b.proof ∷ []) (proofs_completed (s.proofs ++ b.proof ∷ []) refl))
+          (ap is_some (ap (λ E. theorem_in E a.name) g.declared ∙ theorem_new D [] a.name (read s.world a.formula) places tried.new_name))
+          (ap (λ E. assumed_in E a.name) g.declared ∙ assumed_new D [] a.name (read s.world a.formula) places tried.new_name ∙ no_names (declarations_of v) places none);
+    }
+
+    completed_so : (name : List ℕ) → r ≡ Completed name → IsProvedLast (declarations_of v) name
+    completed_so name e =
+        let so = done_completed a.name names name (sym g.replied ∙ ap (reply.reply_of v) e) in
+        subst (IsProvedLast (declarations_of v)) so.0 (last_proved so.1)
+
+    admitted_so : (name : List ℕ) (ms : List (List ℕ)) → r ≡ Admitted name ms → IsDerivedLast (declarations_of v) name
+    admitted_so name ms e = subst (IsDerivedLast (declarations_of v)) (done_admitted a.name names name ms (sym g.replied ∙ ap (reply.reply_of v) e)) last_derived
+
+    closed : goals_of v b.proof ≡ []
+    closed = g.derives.closed
+
+    pub proved_answer : (ks : List Past) (ps : List Held) → entries_of ks ≡ entries_of s.past ++ plain.plain bytes ∷ [] → CameFrom s (made v ps None s.all_subgoals ks)
+        → IsForwardAnswer s bytes (made v ps None s.all_subgoals ks) r
+    proved_answer ks ps more from =
+        let t = one_at_least (goals_of s.world a.proof) tried.goals in
+        let m = g.made t.0 t.1 t.2 in
+        let js = after t.0 in
+        let none : map named m.0 ++ map named t.1 ≡ [] = sym (map-append named m.0 t.1) ∙ ap (map named) (sym m.2 ∙ closed) in
+        let same : places ≡ js = assumes v b t.0 t.1 t.2 g.owes in
+        let declares : D ++ effect.theorem_of js (attempt_of s.world a) ∷ [] ≡ declarations_of v =
+        ap (λ is. D ++ effect.theorem_of is (attempt_of s.world a) ∷ []) (sym same) ∙ sym g.declared in
+        record {
+          effect =
+              subst (λ q. GoesForward (state_of s) (plain.plain bytes) q (state_of (made v ps None s.all_subgoals ks)))
+              (ap (λ E. reply.done a.name (names_at E js)) declares ∙ ap (λ is. reply.done a.name (names_at (declarations_of v) is)) (sym same) ∙ sym g.replied)
+              (subst (λ (u : State). GoesForward (state_of s) (plain.plain bytes) (reply.done a.name (names_at (D ++ effect.theorem_of js (attempt_of s.world a) ∷ []) js)) u)
+              (ap (λ E. record { declarations = E; attempt = None; all_subgoals = s.all_subgoals; kept = entries_of s.past ++ plain.plain bytes ∷ [] }) declares
+              ∙ ap (λ xs. record { declarations = declarations_of v; attempt = None; all_subgoals = s.all_subgoals; kept = xs }) (sym more))
+              (proved l c (attempt_of s.world a) t.0 (map named t.1) m.0 (faces t.0 t.1 t.2) m.1 none));
+          speaks = done_speaks v r a.name names g.replied;
+          completed = completed_so;
+          admitted = admitted_so;
+          refused = λ q e. done_refused a.name names q (sym g.replied ∙ ap (reply.reply_of v) e);
+          kept = λ yes. from;
+        }

@@ -16,7 +16,7 @@ use Rattle.ab_states.specs.State as plain
 use Rattle.ab_states.specs.State.{Entry}
 use Rattle.ab_states.specs.ForwardEffects.{Commands}
 use Rattle.ab_states.specs.declared.reply.Reply.TheVariants.{Accepted}
-use Rattle.ab_states.specs.declared.reply.Reply.TheVariants as says
+use Rattle.ab_states.specs.declared.reply.Reply.{Reply}
 use Rattle.ab_session.specs.declared.attempt.Attempt.{Attempt}
 use Rattle.ab_session.specs.declared.command_history.Deed.{Deed}
 use Rattle.ab_session.specs.declared.command_history.Deed.TheVariants.{Went, Began, Completed, GaveUp}
@@ -115,8 +115,8 @@ module _ (s old : Contents) (bytes : List ℕ) (k : Kept) (ks : List Past) (same
 
       led_from : CameFrom s left
       led_from =
-          came s left (past_of k) is before g.follows.grows past
-          (by _ _ _ _ _ deed (refl, subst (λ o. WentOn k.before.steps o (Some b)) (sym here) (record { name = g.name; formula = g.formula; beyond = g.follows.beyond; counted = counted })))
+          came s left (past_of k) is before g.advances.grows past
+          (by _ _ _ _ _ deed (refl, subst (λ o. WentOn k.before.steps o (Some b)) (sym here) (record { name = g.name; formula = g.formula; beyond = g.advances.beyond; counted = counted })))
 
       led : IsForwardAnswer s bytes left Accepted
       led = led_answer s bytes l c a is.sound here here_said v b ks more g led_from
@@ -131,7 +131,7 @@ module _ (s old : Contents) (bytes : List ℕ) (k : Kept) (ks : List Past) (same
           subst (λ qs. IsForwardAnswer old bytes (made v qs (Some b) s.all_subgoals ks) Accepted) (sym kept)
           (seen s old bytes left Accepted same led)
 
-    module _ (o : Option Attempt) (none : o ≡ None) (pushed : ps ≡ s.proofs ++ b.proof ∷ []) (g : IsCompleted (given_label l) c s.world a v b) (x : List ℕ) (named : x ≡ a.name) (deed : k.deed ≡ Completed x b.formula) where
+    module _ (o : Option Attempt) (none : o ≡ None) (pushed : ps ≡ s.proofs ++ b.proof ∷ []) (r : Reply) (g : IsCompleted (given_label l) c s.world a v b r) (x : List ℕ) (named : x ≡ a.name) (deed : k.deed ≡ Completed x b.formula) where
       abbrev done : Contents
       done = made v ps None s.all_subgoals ks
 
@@ -140,15 +140,15 @@ module _ (s old : Contents) (bytes : List ℕ) (k : Kept) (ks : List Past) (same
           came s done (past_of k) is before g.grows past
           (by _ _ _ _ _ deed (a, here, sym g.formula, record { proof = b.proof; named = sym named; beyond = g.beyond; counted = counted; pushed = pushed }, refl))
 
-      proved : IsForwardAnswer s bytes done (says.Completed b.name)
-      proved = proved_answer s bytes l c a is.sound here here_said v b ks ps more g proved_from
+      proved : IsForwardAnswer s bytes done r
+      proved = proved_answer s bytes l c a is.sound here here_said v b r g ks ps more proved_from
 
       pub session_proved : IsSession (made v ps o s.all_subgoals ks)
       session_proved =
           subst (λ q. IsSession (made v ps q s.all_subgoals ks)) (sym none)
-          (session_after s done bytes (says.Completed b.name) is (session_completed s bytes l c a is.sound here here_said v b ks ps pushed g) proved_from proved)
+          (session_after s done bytes r is (session_completed s bytes l c a is.sound here here_said v b r g ks ps pushed) proved_from proved)
 
-      pub proved_so : IsForwardAnswer old bytes (made v ps o s.all_subgoals ks) (says.Completed b.name)
+      pub proved_so : IsForwardAnswer old bytes (made v ps o s.all_subgoals ks) r
       proved_so =
-          subst (λ q. IsForwardAnswer old bytes (made v ps q s.all_subgoals ks) (says.Completed b.name)) (sym none)
-          (seen s old bytes done (says.Completed b.name) same proved)
+          subst (λ q. IsForwardAnswer old bytes (made v ps q s.all_subgoals ks) r) (sym none)
+          (seen s old bytes done r same proved)

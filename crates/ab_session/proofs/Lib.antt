@@ -1,3 +1,6 @@
+mod PlaceMarks
+mod DebtPlaces
+mod Replies
 mod Sayings
 mod Sessions
 mod Carried

@@ -1,6 +1,6 @@
 -- What stays true of a session where its world grows.
 use Rattle.std.specs.Prelude.{slice_get, IfSome}
-use Rattle.std.proofs.Common.{◌≡◌, ◌⊎◌, inl, inr, true, ℕ, zero, suc, ◌+◌, List, [], ◌∷◌, ◌++◌, length, map, Option, Some, None, option_map, refl, sym, ◌∙◌, ap, subst, append_assoc, append-nil, length-append}
+use Rattle.std.proofs.Common.{◌≡◌, ◌⊎◌, inl, inr, true, ℕ, zero, suc, ◌+◌, ◌<◌, List, [], ◌∷◌, ◌++◌, length, map, Option, Some, None, option_map, refl, sym, ◌∙◌, ap, subst, append_assoc, append-nil, length-append}
 use Rattle.ab_term.specs.Types.{Ty}
 use Rattle.ab_term.specs.Constants.{Constant}
 use Rattle.ab_term.specs.Terms.{Read}
@@ -11,14 +11,17 @@ use Rattle.ab_logic.specs.WorldGrowth.{Grows}
 use Rattle.ab_logic.specs.Worlds.{read, first_declarations, declarations_of, defined, IsWorld}
 use Rattle.ab_logic.specs.declared.world.World.{World}
 use Rattle.ab_formulas.proofs.Declaring.{theorems_in-append}
-use Rattle.ab_theory.specs.Derivations.{Derivation, History, root, proves, open_goals, IsDerivation}
+use Rattle.ab_formulas.proofs.KernelSplits.{within}
+use Rattle.ab_theory.specs.Derivations.{History, root, proves, open_goals, IsTreeOf}
+use Rattle.ab_theory.specs.Assumptions.{assumed_by}
 use Rattle.ab_steps.specs.ab_kernel.specs.Layout.{Held, history_of, IsProof}
 use Rattle.ab_steps.specs.ab_kernel.proofs.Later.{same_history, same_read, still_holds, still_proof}
 use Rattle.ab_steps.specs.Progress.{goals_of}
 use Rattle.ab_formulas.specs.NamedGoals.{named}
 use Rattle.ab_declare.specs.DeclarationCommands.{Declares, new_kinds, new_constants, new_predicates}
 use Rattle.ab_declare.specs.DefinitionCommands.{predicate_of, block_with}
-use Rattle.ab_states.specs.DerivedTheorems.{IsDerived}
+use Rattle.ab_states.specs.DerivedTheorems.{IsDerived, AreDerived}
+use Rattle.ab_states.proofs.Assumed.{derived_on, derived_last}
 use Rattle.ab_states.specs.State.{empty}
 use Rattle.ab_states.specs.Replay as replay
 use Rattle.ab_states.specs.Replay.{IsReplayed}
@@ -26,18 +29,6 @@ use Rattle.ab_session.specs.declared.attempt.Attempt.{Attempt}
 use Rattle.ab_session.specs.Contents.{Contents, attempt_of, entries_of, state_of}
 use Rattle.ab_session.specs.Sessions.{IsTried, IsProofOf, AreProofs, IsSound}
 use Rattle.ab_session.specs.Origins.{begun, IsSession}
-
--- a theorem stays derived where more is declared
-derived_on : (D more : Declarations) (place : ℕ) (d : Derivation) → IsDerived D place d → IsDerived (D ++ more) place d
-derived_on D more place d is = record {
-  name = is.name;
-  formula = is.formula;
-  before = is.before;
-  behind = is.behind ++ more;
-  declared = ap (λ ds. ds ++ more) is.declared ∙ append_assoc is.before (a_theorem is.name is.formula ∷ is.behind) more;
-  place_is = is.place_is;
-  derives = is.derives;
-}
 
 -- a proof stays that of its theorem in each later world
 later_proof : (w v : World) (place : ℕ) (p : Held) → Grows w v → IsProofOf w place p → IsProofOf v place p
@@ -64,19 +55,14 @@ pushed [] y x (suc n) e = cc
 pushed (z ∷ xs) y x zero e = inl e
 pushed (z ∷ xs) y x (suc n) e = elim (pushed xs y x n e) [ inl f ↦ inl f | inr p ↦ inr (ap suc p.0, p.1) ]
 
-pub one_more : (D : Declarations) (x : List ℕ) (F : Read) → length (theorems_in (D ++ a_theorem x F ∷ [])) ≡ length (theorems_in D) + 1
-one_more D x F = ap length (theorems_in-append D (a_theorem x F ∷ [])) ∙ length-append (theorems_in D) ((x, F) ∷ [])
-
--- the theorem behind all that was declared is derived by what derives it from that
-pub derived_last : (D : Declarations) (x : List ℕ) (F : Read) (d : Derivation) (place : ℕ) → IsDerivation D F d → length (theorems_in D) ≡ place → IsDerived (D ++ a_theorem x F ∷ []) place d
-derived_last D x F d place is counted =
-    record { name = x; formula = F; before = D; behind = []; declared = refl; place_is = counted; derives = is }
+pub one_more : (D : Declarations) (x : List ℕ) (F : Read) (js : List ℕ) → length (theorems_in (D ++ a_theorem x F js ∷ [])) ≡ length (theorems_in D) + 1
+one_more D x F js = ap length (theorems_in-append D (a_theorem x F js ∷ [])) ∙ length-append (theorems_in D) ((x, F) ∷ [])
 
 -- a theorem more, with its proof
-pub proved_proofs : (w v : World) (ps : List Held) (p : Held) (x : List ℕ) (F : Read) → Grows w v → declarations_of v ≡ declarations_of w ++ a_theorem x F ∷ []
-    → IsProof v p → IsDerivation (declarations_of w) F (history_of v p).tree → AreProofs w ps → AreProofs v (ps ++ p ∷ [])
-proved_proofs w v ps p x F grows more proof derives are = record {
-  counted = length-append ps (p ∷ []) ∙ ap (λ n. n + 1) are.counted ∙ sym (ap (λ D. length (theorems_in D)) more ∙ one_more (declarations_of w) x F);
+pub proved_proofs : (w v : World) (ps : List Held) (p : Held) (x : List ℕ) (F : Read) (js : List ℕ) → Grows w v → declarations_of v ≡ declarations_of w ++ a_theorem x F js ∷ []
+    → IsProof v p → IsTreeOf (declarations_of w) F (history_of v p).tree → js ≡ assumed_by (declarations_of w) (history_of v p).tree → AreProofs w ps → AreProofs v (ps ++ p ∷ [])
+proved_proofs w v ps p x F js grows more proof derives assumes are = record {
+  counted = length-append ps (p ∷ []) ∙ ap (λ n. n + 1) are.counted ∙ sym (ap (λ D. length (theorems_in D)) more ∙ one_more (declarations_of w) x F js);
   each = λ place q e.
       elim (pushed ps p q place e) [
         | inl f ↦ later_proof w v place q grows (are.each place q f)
@@ -84,10 +70,16 @@ proved_proofs w v ps p x F grows more proof derives are = record {
           held = proof.held;
           derived =
               subst (λ D. IsDerived D place (history_of v p).tree) (sym more)
-              (derived_last (declarations_of w) x F (history_of v p).tree place derives (sym (l.0 ∙ are.counted)));
+              (derived_last (declarations_of w) x F js (history_of v p).tree place derives assumes (sym (l.0 ∙ are.counted)));
         })
       ];
 }
+
+-- so each theorem has a derivation
+pub proofs_derive : (w : World) (ps : List Held) → AreProofs w ps → AreDerived (declarations_of w)
+proofs_derive w ps are place low =
+    let p = within ps place (subst (λ n. place < n) (sym are.counted) low) in
+    ((history_of w p.0).tree, (are.each place p.0 p.1).derived)
 
 -- what is being tried, in a world that reads as the first and declares the same
 
@@ -104,18 +96,19 @@ same_tried w v a grows same is =
       goals = λ none. is.goals (sym (ap (λ (k : History). open_goals k.tree) h) ∙ none);
     }
 
-pub same_attempt : (w v : World) (a : Attempt) → Grows w v → IsTried w a → attempt_of v a ≡ attempt_of w a
-same_attempt w v a grows is =
-    ap (λ F. record { name = a.name; formula = F; goals = map named (goals_of v a.proof) }) (grows.readings a.formula is.held)
-    ∙ ap (λ (k : History). record { name = a.name; formula = read w a.formula; goals = map named (open_goals k.tree) }) (same_history w v grows a.proof is.proof)
+pub same_attempt : (w v : World) (a : Attempt) → Grows w v → declarations_of v ≡ declarations_of w → IsTried w a → attempt_of v a ≡ attempt_of w a
+same_attempt w v a grows same is =
+    ap (λ F. record { name = a.name; formula = F; goals = map named (goals_of v a.proof); assumed = assumed_by (declarations_of v) (history_of v a.proof).tree }) (grows.readings a.formula is.held)
+    ∙ ap (λ (k : History). record { name = a.name; formula = read w a.formula; goals = map named (open_goals k.tree); assumed = assumed_by (declarations_of v) k.tree }) (same_history w v grows a.proof is.proof)
+    ∙ ap (λ D. record { name = a.name; formula = read w a.formula; goals = map named (goals_of w a.proof); assumed = assumed_by D (history_of w a.proof).tree }) same
 
 same_if : (w v : World) (o : Option Attempt) → Grows w v → declarations_of v ≡ declarations_of w → IfSome o (IsTried w) → IfSome o (IsTried v)
 same_if w v None grows same is = tt
 same_if w v (Some a) grows same is = same_tried w v a grows same is
 
-same_attempts : (w v : World) (o : Option Attempt) → Grows w v → IfSome o (IsTried w) → option_map (attempt_of v) o ≡ option_map (attempt_of w) o
-same_attempts w v None grows is = refl
-same_attempts w v (Some a) grows is = ap (λ b. Some b) (same_attempt w v a grows is)
+same_attempts : (w v : World) (o : Option Attempt) → Grows w v → declarations_of v ≡ declarations_of w → IfSome o (IsTried w) → option_map (attempt_of v) o ≡ option_map (attempt_of w) o
+same_attempts w v None grows same is = refl
+same_attempts w v (Some a) grows same is = ap (λ b. Some b) (same_attempt w v a grows same is)
 
 -- the session in another world
 abbrev pub in_world : World → Contents → Contents
@@ -131,7 +124,7 @@ same_session s v grows same is = record {
 pub same_state : (s : Contents) (v : World) → Grows s.world v → declarations_of v ≡ declarations_of s.world → IsSound s → state_of (in_world v s) ≡ state_of s
 same_state s v grows same is =
     ap (λ D. record { declarations = D; attempt = option_map (attempt_of v) s.attempt; all_subgoals = s.all_subgoals; kept = entries_of s.past }) same
-    ∙ ap (λ a. record { declarations = declarations_of s.world; attempt = a; all_subgoals = s.all_subgoals; kept = entries_of s.past }) (same_attempts s.world v s.attempt grows is.attempt)
+    ∙ ap (λ a. record { declarations = declarations_of s.world; attempt = a; all_subgoals = s.all_subgoals; kept = entries_of s.past }) (same_attempts s.world v s.attempt grows same is.attempt)
 
 -- kinds, constants and definitions are no theorems
 

@@ -82,6 +82,7 @@ module _ (s old : Contents) (bytes x : List ℕ) (fs : List file.Read) (v : Worl
       effect = subst (λ (t : State). GoesForward (state_of s) entry (reply.refused r) t) (sym (state_restored s v is.sound d.restored)) (item_declined x fs r said_here first_here d.declines);
       speaks = tt;
       completed = λ name bad. absurd (cc);
+      admitted = λ name names bad. absurd (cc);
       refused = λ q e. d.restored;
       kept = λ bad. absurd (cc);
     }
@@ -117,6 +118,7 @@ module _ (s old : Contents) (bytes x : List ℕ) (fs : List file.Read) (v : Worl
       effect = subst (λ (t : State). GoesForward (state_of s) entry reply.accepted t) state_is (specified x fs d.more said_here first_here d.declares);
       speaks = tt;
       completed = λ name bad. absurd (cc);
+      admitted = λ name names bad. absurd (cc);
       refused = λ r bad. absurd (cc);
       kept = λ yes. from;
     }
@@ -143,6 +145,7 @@ module _ (f g : FilesSeen) (old : Contents) (bytes x : List ℕ) (said : Command
     effect = effect;
     speaks = tt;
     completed = λ name bad. absurd (cc);
+    admitted = λ name names bad. absurd (cc);
     refused = λ q e. restored_itself old.world;
     kept = λ more. absurd (not_more (state_of old).kept more.entry more.kept);
     none_taken_back = λ less. absurd (less_than_itself (length (state_of old).kept) less);
@@ -176,6 +179,7 @@ module _ (f g : FilesSeen) (old : Contents) (bytes x : List ℕ) (said : Command
       effect = record { loads = was.loads; asked = was.asked; effect = by_files x (files_of spec) asks was.is a.effect };
       speaks = a.speaks;
       completed = a.completed;
+      admitted = a.admitted;
       refused = a.refused;
       kept = λ more.
           elim (kept_by a.effect) [

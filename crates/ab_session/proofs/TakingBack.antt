@@ -48,6 +48,7 @@ answered old new bytes n m r a = record {
   effect = forward a.effect;
   speaks = a.speaks;
   completed = a.completed;
+  admitted = a.admitted;
   refused = a.refused;
   kept = λ more.
       elim (kept_by a.effect) [
@@ -74,6 +75,7 @@ module _ (s : Contents) (bytes : List ℕ) where
     effect = effect;
     speaks = tt;
     completed = λ name bad. absurd (cc);
+    admitted = λ name names bad. absurd (cc);
     refused = λ r bad. absurd (cc);
     kept = λ more. absurd (not_earlier s t more.entry p more.kept);
     taken_back = λ less. p;
@@ -85,6 +87,7 @@ module _ (s : Contents) (bytes : List ℕ) where
     effect = effect;
     speaks = tt;
     completed = λ name bad. absurd (cc);
+    admitted = λ name names bad. absurd (cc);
     refused = λ r same. restored_itself s.world;
     kept = λ more. absurd (not_earlier s s more.entry itself more.kept);
     taken_back = λ less. itself;

@@ -4,7 +4,8 @@ use Rattle.ab_sigmod.specs.FileOrder as file
 use Rattle.ab_sigmod.specs.Outcomes.{files_of}
 use Rattle.ab_logic.specs.Worlds.{read, declarations_of}
 use Rattle.ab_logic.specs.declared.world.World.{World}
-use Rattle.ab_steps.specs.ab_kernel.specs.Layout.{Held}
+use Rattle.ab_steps.specs.ab_kernel.specs.Layout.{Held, history_of}
+use Rattle.ab_theory.specs.Assumptions.{assumed_by}
 use Rattle.ab_steps.specs.Progress.{goals_of}
 use Rattle.ab_formulas.specs.NamedGoals.{named}
 use Rattle.ab_states.specs.State as plain
@@ -46,7 +47,7 @@ contents s = record {
 }
 
 abbrev pub attempt_of : World → Attempt → plain.Attempt
-attempt_of w a = record { name = a.name; formula = read w a.formula; goals = map named (goals_of w a.proof) }
+attempt_of w a = record { name = a.name; formula = read w a.formula; goals = map named (goals_of w a.proof); assumed = assumed_by (declarations_of w) (history_of w a.proof).tree }
 
 abbrev pub entry_of : Past → Entry
 entry_of p = record { bytes = p.bytes; specification = p.files }

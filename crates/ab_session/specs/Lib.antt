@@ -2,6 +2,7 @@
 pub mod Contents
 pub mod Sessions
 pub mod Origins
+pub mod PlaceMarks
 pub mod ProofAttempts
 pub mod SessionAnswers
 -- Libraries that the crates above name through this one.

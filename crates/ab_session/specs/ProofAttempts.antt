@@ -1,22 +1,26 @@
 -- What a proof command does to a proof, and to an attempt. Public contracts don't speak of this.
 use Rattle.std.specs.Prelude.{◌≡◌, ◌≢◌, List, [], ◌∷◌, ◌++◌}
 use Rattle.ab_grammar.specs.CommandTrees.{ProofCommand}
-use Rattle.ab_formulas.specs.Declarations.{a_theorem}
+use Rattle.ab_formulas.specs.Declarations.{a_theorem, names_at}
 use Rattle.ab_logic.specs.WorldGrowth.{Grows}
 use Rattle.ab_formulas.specs.NewNames.{Label}
 use Rattle.ab_formulas.specs.Sequents.{Sequent}
 use Rattle.ab_logic.specs.Worlds.{read, declarations_of}
 use Rattle.ab_logic.specs.declared.world.World.{World}
-use Rattle.ab_theory.specs.Derivations.{IsDerivation}
+use Rattle.ab_theory.specs.Derivations.{IsTreeOf}
+use Rattle.ab_theory.specs.Assumptions.{assumed_by}
 use Rattle.ab_steps.specs.ab_kernel.specs.Layout.{Held, history_of, IsProof, Beyond}
 use Rattle.ab_meaning.specs.Refusals.{unknown, clash, type_clash, untyped, no_hypothesis, wrong_shape, mark, no_match, not_pattern, unresolved, names_spent}
-use Rattle.ab_steps.specs.Progress.{goals_of, Follows}
+use Rattle.ab_steps.specs.Progress.{goals_of, Advances}
+use Rattle.ab_steps.specs.ProofEffects.{OwesFor}
 use Rattle.ab_steps.specs.declared.fault.ProofCommandFault.{ProofCommandFault}
 use Rattle.ab_steps.specs.declared.fault.ProofCommandFault.TheVariants.{Unknown, Clash, TypeClash, Untyped, NoHypothesis, WrongShape, Mark, NoMatch, NotPattern, Unresolved, NamesSpent, Memory}
 use Rattle.ab_declare.specs.declared.refusal.Refusal.{Refusal}
 use Rattle.ab_declare.specs.Moments.{IsRestored}
 use Rattle.ab_declare.specs.Refusals.{refusal_for}
 use Rattle.ab_states.specs.ProofCommandEffects.{Makes, Denies}
+use Rattle.ab_states.specs.Reply.{reply_of, done}
+use Rattle.ab_states.specs.declared.reply.Reply.{Reply}
 use Rattle.ab_session.specs.declared.attempt.Attempt.{Attempt}
 use Rattle.ab_session.specs.declared.attempt_steps.Outcome.{Outcome}
 use Rattle.ab_session.specs.declared.attempt_steps.Outcome.TheVariants.{Refused, Left, Completed}
@@ -56,21 +60,24 @@ pub record IsUnchanged (w : World) (a : Attempt) (v : World) (b : Attempt) : Typ
 -- it went on, and goals are left
 pub record GoesOn (l : Label) (c : ProofCommand) (w : World) (a : Attempt) (v : World) (b : Attempt) : Type 0 where
   pub made : IsMade l c w a.proof v b.proof
-  pub follows : Follows w a.proof v b.proof
+  pub advances : Advances w a.proof v b.proof
+  pub owes : OwesFor c w a.proof v b.proof
   pub name : b.name ≡ a.name
   pub formula : b.formula ≡ a.formula
   pub goals : goals_of v b.proof ≢ []
 
--- no goal is left, and the theorem stands behind all that was declared
-pub record IsCompleted (l : Label) (c : ProofCommand) (w : World) (a : Attempt) (v : World) (b : Attempt) : Type 0 where
+-- no goal is left, the theorem stands behind all that was declared, and the reply tells of it
+pub record IsCompleted (l : Label) (c : ProofCommand) (w : World) (a : Attempt) (v : World) (b : Attempt) (r : Reply) : Type 0 where
   pub made : IsMade l c w a.proof v b.proof
   pub grows : Grows w v
-  pub declared : declarations_of v ≡ declarations_of w ++ a_theorem a.name (read w a.formula) ∷ []
+  pub declared : declarations_of v ≡ declarations_of w ++ a_theorem a.name (read w a.formula) (assumed_by (declarations_of w) (history_of v b.proof).tree) ∷ []
+  pub owes : OwesFor c w a.proof v b.proof
   pub name : b.name ≡ a.name
   pub formula : b.formula ≡ a.formula
   pub beyond : Beyond a.proof b.proof
   pub proof : IsProof v b.proof
-  pub derives : IsDerivation (declarations_of w) (read w a.formula) (history_of v b.proof).tree
+  pub derives : IsTreeOf (declarations_of w) (read w a.formula) (history_of v b.proof).tree
+  pub replied : reply_of v r ≡ done a.name (names_at (declarations_of v) (assumed_by (declarations_of w) (history_of v b.proof).tree))
 
 -- it is refused, and nothing is left of it
 pub record IsRefusedSo (l : Label) (c : ProofCommand) (w : World) (a : Attempt) (v : World) (b : Attempt) (r : Refusal) : Type 0 where
@@ -81,4 +88,4 @@ pub record IsRefusedSo (l : Label) (c : ProofCommand) (w : World) (a : Attempt) 
 abbrev pub Advanced : Label → ProofCommand → World → Attempt → World → Attempt → Outcome → Type 0
 Advanced l c w a v b (Refused r) = IsRefusedSo l c w a v b r
 Advanced l c w a v b Left = GoesOn l c w a v b
-Advanced l c w a v b Completed = IsCompleted l c w a v b
+Advanced l c w a v b (Completed r) = IsCompleted l c w a v b r

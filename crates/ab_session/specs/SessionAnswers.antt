@@ -7,26 +7,31 @@ use Rattle.ab_theory.specs.Derivations.{Derivation}
 use Rattle.ab_steps.specs.ab_kernel.specs.Layout.{history_of}
 use Rattle.ab_declare.specs.declared.refusal.Refusal.{Refusal}
 use Rattle.ab_declare.specs.Moments.{IsMoment, IsRestored}
-use Rattle.ab_states.specs.DerivedTheorems.{IsDerived}
+use Rattle.ab_states.specs.DerivedTheorems.{IsDerived, IsProved}
 use Rattle.ab_sigmod.specs.FileLoads.{FilesSeen}
 use Rattle.ab_states.specs.State.{State, Entry, plain}
 use Rattle.ab_states.specs.ForwardEffects.{GoesForward}
 use Rattle.ab_states.specs.StateEffects.{HasEffect, HasEffectOver}
 use Rattle.ab_states.specs.Reply.{SpeaksOfNoGoal, is_kept, reply_of}
 use Rattle.ab_states.specs.declared.reply.Reply.{Reply}
-use Rattle.ab_states.specs.declared.reply.Reply.TheVariants.{Completed, Refused}
+use Rattle.ab_states.specs.declared.reply.Reply.TheVariants.{Completed, Admitted, Refused}
 use Rattle.ab_session.specs.declared.attempt.Attempt.{Attempt}
 use Rattle.ab_session.specs.declared.command_history.Before.{Before}
 use Rattle.ab_session.specs.Contents.{Contents, state_of}
 use Rattle.ab_session.specs.Origins.{CameFrom, Precedes}
 
--- THE LAST OF THE THEOREMS HAS THE NAME, and a closed derivation from what was declared before it
-pub record IsProvedLast (D : Declarations) (name : List ℕ) : Type 0 where
+-- THE LAST OF THE THEOREMS HAS THE NAME, and a derivation, perhaps with gaps, from what was declared before it
+pub record IsDerivedLast (D : Declarations) (name : List ℕ) : Type 0 where
   pub place : ℕ
   pub derivation : Derivation
   pub derived : IsDerived D place derivation
   pub last : length (theorems_in D) ≡ place + 1
   pub named : derived.name ≡ name
+
+-- THE LAST HAS THE NAME, and it is proved, with each theorem that it rests on
+pub record IsProvedLast (D : Declarations) (name : List ℕ) : Type 0 where
+  pub derived_last : IsDerivedLast D name
+  pub proved : IsProved D name
 
 -- one command more is kept, of these bytes
 pub record KeepsOneMore (s : State) (bytes : List ℕ) (t : State) : Type 0 where
@@ -39,11 +44,12 @@ abbrev pub KeepsFewer : State → State → Type 0
 KeepsFewer s t = length t.kept < length s.kept
 
 -- the reply and the next state are the effect of a command that goes forward, as it would be kept; a formula that is shown speaks
--- of no goal, a completed theorem is proved, nothing is left of what is refused, and what is kept leads back
+-- of no goal, a completed theorem is proved, or derived where it assumes some, nothing is left of what is refused, and what is kept leads back
 pub record IsEntryAnswer (old : Contents) (e : Entry) (new : Contents) (reply : Reply) : Type 0 where
   pub effect : GoesForward (state_of old) e (reply_of new.world reply) (state_of new)
   pub speaks : SpeaksOfNoGoal new.world reply
   pub completed : (name : List ℕ) → reply ≡ Completed name → IsProvedLast (declarations_of new.world) name
+  pub admitted : (name : List ℕ) (names : List (List ℕ)) → reply ≡ Admitted name names → IsDerivedLast (declarations_of new.world) name
   pub refused : (r : Refusal) → reply ≡ Refused r → IsRestored old.world new.world
   pub kept : is_kept (reply_of new.world reply) ≡ true → CameFrom old new
 
@@ -56,6 +62,7 @@ pub record IsFileAnswer (before after : FilesSeen) (old : Contents) (bytes : Lis
   pub effect : HasEffectOver before after (state_of old) bytes (reply_of new.world reply) (state_of new)
   pub speaks : SpeaksOfNoGoal new.world reply
   pub completed : (name : List ℕ) → reply ≡ Completed name → IsProvedLast (declarations_of new.world) name
+  pub admitted : (name : List ℕ) (names : List (List ℕ)) → reply ≡ Admitted name names → IsDerivedLast (declarations_of new.world) name
   pub refused : (r : Refusal) → reply ≡ Refused r → IsRestored old.world new.world
   pub kept : KeepsOneMore (state_of old) bytes (state_of new) → CameFrom old new
   pub none_taken_back : ¬ KeepsFewer (state_of old) (state_of new)
@@ -66,6 +73,7 @@ pub record IsAnswer (old : Contents) (bytes : List ℕ) (new : Contents) (before
   pub effect : HasEffect (state_of old) bytes [] (reply_of new.world reply) (state_of new)
   pub speaks : SpeaksOfNoGoal new.world reply
   pub completed : (name : List ℕ) → reply ≡ Completed name → IsProvedLast (declarations_of new.world) name
+  pub admitted : (name : List ℕ) (names : List (List ℕ)) → reply ≡ Admitted name names → IsDerivedLast (declarations_of new.world) name
   pub refused : (r : Refusal) → reply ≡ Refused r → IsRestored old.world new.world
   pub kept : KeepsOneMore (state_of old) bytes (state_of new) → CameFrom old new
   pub taken_back : KeepsFewer (state_of old) (state_of new) → Precedes new old

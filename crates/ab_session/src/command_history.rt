@@ -1,5 +1,5 @@
 //! Commands that are kept, and what it takes to go back before each.
-ghost use Rattle.std.specs.Prelude.{◌≡◌, ◌<◌, is_some, IfOk, OnOk, vec_len, vec_capacity};
+ghost use Rattle.std.specs.Prelude.{◌≡◌, ◌<◌, [], ◌∷◌, ◌++◌, None, is_some, IfOk, OnOk, vec_len, vec_capacity};
 ghost use Rattle.std.specs.List.{list_any};
 ghost use Rattle.ab_session.specs.declared.command_history.Kept.{Kept as AKept};
 
@@ -55,6 +55,19 @@ pub(crate) fn make_room(
 {
     kept.reserve(1)?;
     Vec::from_slice(alloc, command)
+}
+
+/// Keeps a command that read no file, in the room that was made for it.
+pub(crate) fn keep(kept: &mut Vec<Kept>, bytes: Vec<u8>, before: Before, deed: Deed)
+    requires { vec_len kept.old < vec_capacity kept.old }
+    ensures { kept.new.items ≡ kept.old.items ++ record { bytes = bytes; spec = None; before = before; deed = deed } ∷ [] }
+{
+    kept.push_reserved(Kept {
+        bytes,
+        spec: None,
+        before,
+        deed,
+    });
 }
 
 /// Whether one of the commands read a specification.

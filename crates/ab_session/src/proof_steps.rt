@@ -6,7 +6,8 @@ ghost use Rattle.ab_syntax.specs.Commands.{proof_command_of};
 ghost use Rattle.ab_formulas.specs.NewNames.{Label};
 ghost use Rattle.ab_logic.specs.Worlds.{IsWorld};
 ghost use Rattle.ab_steps.specs.ab_kernel.specs.Layout.{history_of, IsProof};
-ghost use Rattle.ab_steps.specs.Progress.{goals_of, Follows};
+ghost use Rattle.ab_steps.specs.Progress.{goals_of, Advances, Follows};
+ghost use Rattle.ab_steps.specs.ProofEffects.{OwesFor};
 ghost use Rattle.ab_command.specs.Supported.{IsBuiltInProof};
 ghost use Rattle.ab_effects.specs.ProofCommands.{given_label};
 ghost use Rattle.ab_proofcmd.specs.SupportedCommands.{IsBuilt};
@@ -60,7 +61,8 @@ fn by_row<L>(
     requires proof { IsProof world.old proof.old }
     requires open { goals_of world.old proof.old ≢ [] }
     requires built { IsBuilt (proof_command_of command.now) }
-    ensures follows { Follows world.old proof.old world.new proof.new }
+    ensures advances { Advances world.old proof.old world.new proof.new }
+    ensures owes { IfOk result (λ o. IsNone o → OwesFor (proof_command_of command.now) world.old proof.old world.new proof.new) }
     ensures made { IfOk result (λ o. IsNone o → IsMade (given_label (option_copied label.entry)) (proof_command_of command.now) world.old proof.old world.new proof.new) }
     ensures denied { IfOk result (λ o. IfSome o (IsDenied (given_label (option_copied label.entry)) (proof_command_of command.now) world.old proof.old)) }
     ensures same { IfOk result (λ o. IfSome o (λ r. history_of world.new proof.new ≡ history_of world.old proof.old)) }
@@ -85,7 +87,8 @@ pub(crate) fn carry_out<L>(
     requires proof { IsProof world.old proof.old }
     requires open { goals_of world.old proof.old ≢ [] }
     requires built { (count : ℕ) × IsBuiltInProof count (proof_command_of command.now) }
-    ensures follows { Follows world.old proof.old world.new proof.new }
+    ensures advances { Advances world.old proof.old world.new proof.new }
+    ensures owes { IfOk result (λ o. IsNone o → OwesFor (proof_command_of command.now) world.old proof.old world.new proof.new) }
     ensures made { IfOk result (λ o. IsNone o → IsMade (given_label (option_copied label.entry)) (proof_command_of command.now) world.old proof.old world.new proof.new) }
     ensures denied { IfOk result (λ o. IfSome o (IsDenied (given_label (option_copied label.entry)) (proof_command_of command.now) world.old proof.old)) }
     ensures same { IfOk result (λ o. IfSome o (λ r. history_of world.new proof.new ≡ history_of world.old proof.old)) }

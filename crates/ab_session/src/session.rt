@@ -19,15 +19,15 @@ ghost use Rattle.ab_states.specs.Replay.{IsReplayed};
 ghost use Rattle.ab_states.specs.Reply.{SpeaksOfNoGoal, reply_of};
 ghost use Rattle.ab_states.specs.ForwardEffects.{Commands};
 ghost use Rattle.ab_states.specs.StateEffects.{AsksFor, HasEffectOver, IsBeforeLast};
-ghost use Rattle.ab_states.specs.declared.reply.Reply.TheVariants.{Completed, Refused};
+ghost use Rattle.ab_states.specs.declared.reply.Reply.TheVariants.{Completed, Admitted, Refused};
 ghost use Rattle.ab_session.specs.Contents.{Contents, state_of};
 ghost use Rattle.ab_session.specs.Origins.{CameFrom, Precedes};
 ghost use Rattle.ab_session.specs.Sessions.{IsProofOf};
-ghost use Rattle.ab_session.specs.SessionAnswers.{IsProvedLast, KeepsOneMore, KeepsFewer, IsEntryAnswer, IsForwardAnswer, IsFileAnswer, IsAnswer, IsBefore};
+ghost use Rattle.ab_session.specs.SessionAnswers.{IsDerivedLast, IsProvedLast, KeepsOneMore, KeepsFewer, IsEntryAnswer, IsForwardAnswer, IsFileAnswer, IsAnswer, IsBefore};
 
 use crate::attempt::Attempt;
 use crate::attempt_steps::{Outcome, advance};
-use crate::command_history::{Before, Deed, Kept, make_room, reads_files};
+use crate::command_history::{Before, Deed, Kept, keep, make_room, reads_files};
 use crate::past_proofs::reopen;
 use crate::refusals::{files_unread, unread};
 use ab_command::{Unread, read_command};
@@ -172,6 +172,7 @@ impl Session {
             (state_of self.old) command.now (reply_of self.new.world reply) (state_of self.new)) }
         ensures reply { IfOk result (SpeaksOfNoGoal self.new.world) }
         ensures completed { (name : List ℕ) → IfOk result (λ reply. reply ≡ Completed name → IsProvedLast (state_of self.new).declarations name) }
+        ensures admitted { (name : List ℕ) (names : List (List ℕ)) → IfOk result (λ reply. reply ≡ Admitted name names → IsDerivedLast (state_of self.new).declarations name) }
         ensures refused { (r : ARefusal) → IfOk result (λ reply. reply ≡ Refused r → IsRestored self.old.world self.new.world) }
         ensures kept { IfOk result (λ reply. KeepsOneMore (state_of self.old) command.now (state_of self.new) → CameFrom self.old self.new) }
         ensures taken_back { IfOk result (λ reply. KeepsFewer (state_of self.old) (state_of self.new) → Precedes self.new self.old) }
@@ -292,12 +293,7 @@ impl Session {
         match declare_kinds(self.alloc, &mut self.world, names, steps)? {
             Some(refusal) => Ok(Reply::Refused(refusal)),
             None => {
-                self.kept.push_reserved(Kept {
-                    bytes,
-                    spec: None,
-                    before,
-                    deed: Deed::Went,
-                });
+                keep(&mut self.kept, bytes, before, Deed::Went);
                 Ok(Reply::Accepted)
             }
         }
@@ -320,12 +316,7 @@ impl Session {
         match declare_constants(self.alloc, &mut self.world, names, parse, steps)? {
             Some(refusal) => Ok(Reply::Refused(refusal)),
             None => {
-                self.kept.push_reserved(Kept {
-                    bytes,
-                    spec: None,
-                    before,
-                    deed: Deed::Went,
-                });
+                keep(&mut self.kept, bytes, before, Deed::Went);
                 Ok(Reply::Accepted)
             }
         }
@@ -356,12 +347,7 @@ impl Session {
         )? {
             Some(refusal) => Ok(Reply::Refused(refusal)),
             None => {
-                self.kept.push_reserved(Kept {
-                    bytes,
-                    spec: None,
-                    before,
-                    deed: Deed::Went,
-                });
+                keep(&mut self.kept, bytes, before, Deed::Went);
                 Ok(Reply::Accepted)
             }
         }
@@ -447,12 +433,7 @@ impl Session {
             Statement::Refused(refusal) => Ok(Reply::Refused(refusal)),
             Statement::Formula(formula) => {
                 let proof = Proof::start(self.alloc, &self.world, formula, 0)?;
-                self.kept.push_reserved(Kept {
-                    bytes,
-                    spec: None,
-                    before,
-                    deed: Deed::Began,
-                });
+                keep(&mut self.kept, bytes, before, Deed::Began);
                 self.attempt = Some(Attempt {
                     name: copy,
                     formula,
@@ -484,12 +465,7 @@ impl Session {
     {
         let before = self.before();
         let bytes = make_room(self.alloc, &mut self.kept, bytes)?;
-        self.kept.push_reserved(Kept {
-            bytes,
-            spec: None,
-            before,
-            deed: Deed::Went,
-        });
+        keep(&mut self.kept, bytes, before, Deed::Went);
         self.all_subgoals = on;
         Ok(Reply::Accepted)
     }
@@ -505,12 +481,7 @@ impl Session {
         let Some(attempt) = self.attempt.take() else {
             unreachable!()
         };
-        self.kept.push_reserved(Kept {
-            bytes,
-            spec: None,
-            before,
-            deed: Deed::GaveUp(attempt),
-        });
+        keep(&mut self.kept, bytes, before, Deed::GaveUp(attempt));
         Ok(Reply::Accepted)
     }
 
@@ -532,38 +503,16 @@ impl Session {
         let Some(mut attempt) = self.attempt.take() else {
             unreachable!()
         };
-        let name = match attempt.name.copy(self.alloc) {
-            Ok(name) => name,
-            Err(fault) => {
-                self.attempt = Some(attempt);
-                return Err(fault);
-            }
-        };
-        match advance(
-            self.alloc,
-            &mut self.world,
-            &mut attempt,
-            label,
-            command,
-            steps,
-        ) {
-            Ok(Outcome::Completed) => {
-                self.kept.push_reserved(Kept {
-                    bytes,
-                    spec: None,
-                    before,
-                    deed: Deed::Completed(name, attempt.formula),
-                });
+        let world = &mut self.world;
+        match advance(self.alloc, world, &mut attempt, label, command, steps) {
+            Ok(Outcome::Completed(reply)) => {
+                let deed = Deed::Completed(attempt.name, attempt.formula);
+                keep(&mut self.kept, bytes, before, deed);
                 self.proofs.push_reserved(attempt.proof);
-                Ok(Reply::Completed(attempt.name))
+                Ok(reply)
             }
             Ok(Outcome::Left) => {
-                self.kept.push_reserved(Kept {
-                    bytes,
-                    spec: None,
-                    before,
-                    deed: Deed::Went,
-                });
+                keep(&mut self.kept, bytes, before, Deed::Went);
                 self.attempt = Some(attempt);
                 Ok(Reply::Accepted)
             }

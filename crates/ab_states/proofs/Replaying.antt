@@ -2,10 +2,16 @@
 use Rattle.std.proofs.Common.{◌≡◌, ◌⊎◌, ℕ, true, false, List, [], ◌∷◌, ◌++◌, length, refl, sym, ◌∙◌, ap, subst, arith, append_assoc, append-nil, length-append, inl, inr}
 use Rattle.ab_sigmod.specs.FileLoads.{Load}
 use Rattle.ab_states.specs.State.{State, Entry, plain, empty}
-use Rattle.ab_states.specs.Reply.{Reply, is_kept}
-use Rattle.ab_states.specs.ForwardEffects.{GoesForward, unread, declined, declared, specified, item_declined, specified_twice, stated, showed, ended, switched, given_up, denied, led, proved}
+use Rattle.ab_formulas.specs.Declarations.{names_at}
+use Rattle.ab_states.specs.Reply.{Reply, done, is_kept}
+use Rattle.ab_states.specs.ForwardEffects.{assumed_after, concluding, GoesForward, unread, declined, declared, specified, item_declined, specified_twice, stated, showed, ended, switched, given_up, denied, led, proved}
 use Rattle.ab_states.specs.Replay.{Replays, none, next, IsReplayed}
 use Rattle.ab_states.specs.StateEffects.{IsBeforeLast, HasEffect, forward, by_files, unread_files, took_back, nothing_kept, undid, began, emptied}
+
+-- a completed theorem's command is kept, whatever it assumes
+pub done_kept : (x : List ℕ) (ys : List (List ℕ)) → is_kept (done x ys) ≡ true
+done_kept x [] = refl
+done_kept x (y ∷ ys) = refl
 
 -- a command that goes forward stands behind those that are kept, or leaves the state
 pub kept_by : {s t : State} {e : Entry} {reply : Reply} → GoesForward s e reply t
@@ -23,7 +29,7 @@ kept_by (switched on h) = inr (refl, refl)
 kept_by (given_up h) = inr (refl, refl)
 kept_by (denied l c a t gs r f d) = inl (refl, refl)
 kept_by (led l c a t gs ps h hs f m e) = inr (refl, refl)
-kept_by (proved l c a t gs ps f m e) = inr (refl, refl)
+kept_by {s = s} (proved l c a t gs ps f m e) = inr (done_kept a.name (names_at (concluding (assumed_after s a t c) a s).declarations (assumed_after s a t c)), refl)
 
 -- a command that is kept stands last
 stands_last : {s t : State} {e : Entry} {reply : Reply} → GoesForward s e reply t → is_kept reply ≡ true → t.kept ≡ s.kept ++ e ∷ []

@@ -3,11 +3,12 @@ use Rattle.std.specs.Prelude.{◌≡◌, ℕ, List, [], ◌∷◌, ◌++◌, map
 use Rattle.ab_grammar.specs.Tree.{Tree}
 use Rattle.ab_grammar.specs.CommandTrees.{Command, ProofCommand, theorem, specification, show, quit, subgoals, abort, in_proof}
 use Rattle.ab_term.specs.Terms.{Read}
-use Rattle.ab_formulas.specs.Declarations.{Declarations, a_theorem, theorem_in}
+use Rattle.ab_formulas.specs.Declarations.{Declaration, Declarations, a_theorem, theorem_in, names_at}
 use Rattle.ab_formulas.specs.NewNames.{Label}
 use Rattle.ab_formulas.specs.Sequents as numbered
 use Rattle.ab_formulas.specs.Sequents.{Sequent}
 use Rattle.ab_theory.specs.Derivations.{proves}
+use Rattle.ab_theory.specs.Assumptions.{with_debts}
 use Rattle.ab_sigmod.specs.FileOrder as file
 use Rattle.ab_command.specs.declared.fault.Cause.{Cause}
 use Rattle.ab_command.specs.CommandReadings.{Says, Fails}
@@ -17,9 +18,10 @@ use Rattle.ab_specification.specs.FileDeclarations.{SpecDeclares, SpecDeclines}
 use Rattle.ab_formulas.specs.NamedGoals.{Goal, named, IsNumbered}
 use Rattle.ab_states.specs.State.{Attempt, State, Entry, plain, with_files, is_open, is_specified, keeping, declaring, proving, closed, showing}
 use Rattle.ab_states.specs.Reply as reply
-use Rattle.ab_states.specs.Reply.{Reply, accepted, completed, shown, refused, unread_for}
+use Rattle.ab_states.specs.Reply.{Reply, accepted, done, shown, refused, unread_for}
 use Rattle.ab_specification.specs.ab_declare.specs.DeclarationCommands.{States, Declares, Declines}
 use Rattle.ab_effects.specs.ProofCommands.{given_label}
+use Rattle.ab_effects.specs.Debts.{debts_at}
 use Rattle.ab_states.specs.ProofCommandEffects.{Makes, Denies}
 
 -- the bytes say the command, and it stands here
@@ -36,11 +38,27 @@ pub record Faces (s : State) (bytes : List ℕ) (l : Option (List ℕ)) (c : Pro
 
 -- a proof of the formula begins
 abbrev pub beginning : List ℕ → Read → Attempt
-beginning x F = record { name = x; formula = F; goals = named (proves F 0) ∷ [] }
+beginning x F = record { name = x; formula = F; goals = named (proves F 0) ∷ []; assumed = [] }
 
--- these goals are left of it
-abbrev pub left_with : List Goal → Attempt → Attempt
-left_with gs a = record a { goals = gs }
+-- these goals are left of it, and these places assumed
+abbrev pub left_with : List Goal → List ℕ → Attempt → Attempt
+left_with gs js a = record a { goals = gs; assumed = js }
+
+-- what it assumes after the command at the goal
+abbrev pub assumed_after : State → Attempt → Sequent → ProofCommand → List ℕ
+assumed_after s a t c = with_debts s.declarations (debts_at t c) a.assumed
+
+-- the theorem that it states, which assumes these
+abbrev pub theorem_of : List ℕ → Attempt → Declaration
+theorem_of js a = a_theorem a.name a.formula js
+
+-- no proof is open, and the theorem stands
+abbrev pub concluding : List ℕ → Attempt → State → State
+concluding js a s = closed (declaring (theorem_of js a ∷ []) s)
+
+-- what is told then
+abbrev pub told_of : List ℕ → Attempt → State → Reply
+told_of js a s = done a.name (names_at (concluding js a s).declarations js)
 
 -- from a state, by the command as it would be kept, to the reply and the next state
 pub data GoesForward (s : State) : Entry → Reply → State → Type 0 where
@@ -76,8 +94,8 @@ pub data GoesForward (s : State) : Entry → Reply → State → Type 0 where
   -- it leads to other goals in the place of the current one, and some goal is left
   led : {bytes : List ℕ} (l : Option (List ℕ)) (c : ProofCommand) (a : Attempt) (t : Sequent) (gs : List Goal) (ps : List Sequent) (h : Goal) (hs : List Goal) → Faces s bytes l c a t gs
       → Makes s.declarations (given_label l) c t ps → map named ps ++ gs ≡ h ∷ hs
-      → GoesForward s (plain bytes) accepted (keeping (plain bytes) (proving (left_with (h ∷ hs) a) s))
-  -- no goal is left: the theorem stands
+      → GoesForward s (plain bytes) accepted (keeping (plain bytes) (proving (left_with (h ∷ hs) (assumed_after s a t c) a) s))
+  -- no goal is left: the theorem stands, with what it assumes
   proved : {bytes : List ℕ} (l : Option (List ℕ)) (c : ProofCommand) (a : Attempt) (t : Sequent) (gs : List Goal) (ps : List Sequent) → Faces s bytes l c a t gs
       → Makes s.declarations (given_label l) c t ps → map named ps ++ gs ≡ []
-      → GoesForward s (plain bytes) (completed a.name) (keeping (plain bytes) (closed (declaring (a_theorem a.name a.formula ∷ []) s)))
+      → GoesForward s (plain bytes) (told_of (assumed_after s a t c) a s) (keeping (plain bytes) (concluding (assumed_after s a t c) a s))

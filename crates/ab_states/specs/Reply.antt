@@ -1,5 +1,5 @@
 -- What a session answers to a command, over plain terms.
-use Rattle.std.specs.Prelude.{◌≡◌, ℕ, List, [], Bool, true, false}
+use Rattle.std.specs.Prelude.{◌≡◌, ℕ, List, [], ◌∷◌, Bool, true, false}
 use Rattle.ab_term.specs.Variables.{variables}
 use Rattle.ab_term.specs.Terms.{Read}
 use Rattle.ab_logic.specs.Worlds.{read, Holds}
@@ -13,12 +13,14 @@ use Rattle.ab_specification.specs.ab_declare.specs.declared.refusal.Refusal.TheV
 use Rattle.ab_specification.specs.ab_declare.specs.Refusals.{here}
 use Rattle.ab_specification.specs.FileDeclarations.{place_in}
 use Rattle.ab_states.specs.declared.reply.Reply.{Reply as Kept}
-use Rattle.ab_states.specs.declared.reply.Reply.TheVariants.{Accepted, Completed, Shown, Quit, Refused}
+use Rattle.ab_states.specs.declared.reply.Reply.TheVariants.{Accepted, Completed, Admitted, Shown, Quit, Refused}
 
 pub data Reply : Type 0 where
   accepted : Reply
   -- the last goal was closed: the theorem of this name is proved
   completed : List ℕ → Reply
+  -- it was closed, and the theorem of this name stands on these, which are not proved
+  admitted : List ℕ → List (List ℕ) → Reply
   -- the theorem of this name has this formula
   shown : List ℕ → Read → Reply
   quit : Reply
@@ -28,6 +30,7 @@ pub data Reply : Type 0 where
 abbrev pub reply_of : World → Kept → Reply
 reply_of w Accepted = accepted
 reply_of w (Completed name) = completed name
+reply_of w (Admitted name assumed) = admitted name assumed
 reply_of w (Shown name formula) = shown name (read w formula)
 reply_of w Quit = quit
 reply_of w (Refused r) = refused r
@@ -37,6 +40,11 @@ abbrev pub SpeaksOfNoGoal : World → Kept → Type 0
 SpeaksOfNoGoal w (Shown name formula) = Holds w formula × (variables (read w formula) ≡ [])
 SpeaksOfNoGoal w _ = Unit {0}
 
+-- the theorem of this name is completed, or it assumes some of these names
+abbrev pub done : List ℕ → List (List ℕ) → Reply
+done x [] = completed x
+done x (y ∷ ys) = admitted x (y ∷ ys)
+
 abbrev pub is_refusal : Reply → Bool
 is_refusal (refused r) = true
 is_refusal _ = false
@@ -45,6 +53,7 @@ is_refusal _ = false
 abbrev pub is_kept : Reply → Bool
 is_kept accepted = true
 is_kept (completed name) = true
+is_kept (admitted name assumed) = true
 is_kept _ = false
 
 -- the bytes say no command

@@ -10,11 +10,13 @@ use Rattle.ab_theory.specs.Derivations.{open_goals}
 use Rattle.ab_kernel.specs.Layout.{Held, history_of}
 use Rattle.ab_formulas.specs.NamedGoals.{Goal, named}
 
--- a proof that is being made: of which theorem, and the goals that are left of it, the current one first
+-- a proof that is being made: of which theorem, the goals that are left of it, the current one first, and the places of the theorems
+-- that it assumes so far, its own among them where a goal was admitted
 pub record Attempt : Type 0 where
   pub name : List ℕ
   pub formula : Read
   pub goals : List Goal
+  pub assumed : List ℕ
 
 -- A COMMAND THAT IS KEPT: its bytes, and the files of the specification that it read, if it read one
 pub record Entry : Type 0 where

@@ -27,3 +27,15 @@ returns-in_ok-extend_from_slice-in-Shown-2 c =
     let v = c.as_bytes-in-Shown.ensures.value in
     let w = c.as_str-in-Shown.ensures in
     rw c.in-Shown.is (on_ok c.show_term.result (λ h. shown_text c.args.out.now.items _ _ _ c.in-Shown.name (closed_formula F) (by_number.shown name F) (a ∙ ap (λ q. c.args.out.now.items ++ q) (v ∙ w)) b h e) c.show_term.ensures.shown)
+
+pub returns-in_ok-push-in-Admitted : goal.returns-in_ok-push-in-Admitted
+returns-in_ok-push-in-Admitted c =
+    let a = c.in_ok-extend_from_slice-in-Admitted.ensures.items in
+    let n = c.in_ok-write_names-in-Admitted.ensures in
+    let b = c.in_ok-extend_from_slice-in-Admitted-2.ensures.items in
+    let d = c.in_ok-extend_from_slice-in-Admitted-3.ensures.items in
+    let e = c.in_ok-push-in-Admitted.ensures.items in
+    let s = c.as_slice.ensures in
+    let v = c.as_bytes-in-Admitted.ensures.value in
+    let w = c.as_str-in-Admitted.ensures in
+    rw (c.in-Admitted.is, e, d, b, n, a, s, v, w) (simp append_assoc)

@@ -18,7 +18,7 @@ returns-in_ok-reply-in-Whole-clause-replied g c =
       item = command c.bytes.result.now;
       loads = e.loads;
       asked = e.asked;
-      replies = to_command (moment (reply_of s.world r) (state_of s)) e.effect (borne s.world r (state_of s) c.in_ok-reply-in-Whole.ensures.completed);
+      replies = to_command (moment (reply_of s.world r) (state_of s)) e.effect (borne s.world r (state_of s) c.in_ok-reply-in-Whole.ensures.completed c.in_ok-reply-in-Whole.ensures.admitted);
       items_are = λ more is h. subst (λ q. Awaits c.args.splitter.now more (command q ∷ is)) (sym c.bytes.ensures) (c.in-Whole.ensures.items.1 more is h);
     }
 

@@ -1,5 +1,6 @@
 use Rattle.std.proofs.Common.{option_map, subst}
 use Rattle.ab_sigmod.specs.Outcomes.{seen}
+use Rattle.ab_states.specs.Reply.{completed, admitted}
 use Rattle.ab_session.specs.Contents.{state_of}
 use Rattle.ab_run.specs.Outside.{outside}
 use Rattle.ab_run.specs.Ways.{way_of}
@@ -29,7 +30,10 @@ returns-clause-reported g c =
     (way_of q) q.origin before after s f (subst (λ x. RanAsAsked x status handed (outside left out reads writes before) (outside left' out' reads' writes' after)) e c.run_words-status.ensures.ran)
 
 pub returns-clause-proved : goal.returns-clause-proved
-returns-clause-proved g c = λ way text name loads r x. all_borne_out name x.reports
+returns-clause-proved g c = λ way text name loads r x. all_borne_out (completed name) x.reports
+
+pub returns-clause-admitted : goal.returns-clause-admitted
+returns-clause-admitted g c = λ way text name names loads r x. all_borne_out (admitted name names) x.reports
 
 pub returns-clause-theorems : goal.returns-clause-theorems
 returns-clause-theorems g c =

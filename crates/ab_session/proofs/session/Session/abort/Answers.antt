@@ -20,12 +20,12 @@ pub invariant_of-self-2 : goal.invariant_of-self-2
 invariant_of-self-2 c =
     let s = contents c.self.inside in
     let k : Kept = record { bytes = c.in_ok-bytes.bytes; spec = None; before = c.before-before.result; deed = GaveUp c.in-Some.attempt } in
-    session_given_up s c.args.self.now c.args.bytes.now k (pasts c.push_reserved.new.self.items) c.self.view_is c.self.invariant c.before-before.ensures (ap plain c.in_ok-bytes.ensures.command)
-    (past_more c.self.inside.kept.items c.make_room.new.kept.items c.push_reserved.new.self.items k c.make_room.ensures.kept c.push_reserved.ensures.items) c.in-Some.attempt _ (sym c.take.ensures.value ∙ c.in-Some.is) c.take.ensures.after refl c.requires
+    session_given_up s c.args.self.now c.args.bytes.now k (pasts c.keep.new.kept.items) c.self.view_is c.self.invariant c.before-before.ensures (ap plain c.in_ok-bytes.ensures.command)
+    (past_more c.self.inside.kept.items c.make_room.new.kept.items c.keep.new.kept.items k c.make_room.ensures.kept c.keep.ensures) c.in-Some.attempt _ (sym c.take.ensures.value ∙ c.in-Some.is) c.take.ensures.after refl c.requires
 
 pub returns-clause-answer : goal.returns-clause-answer
 returns-clause-answer c =
     let s = contents c.self.inside in
     let k : Kept = record { bytes = c.in_ok-bytes.bytes; spec = None; before = c.before-before.result; deed = GaveUp c.in-Some.attempt } in
-    given_up_so s c.args.self.now c.args.bytes.now k (pasts c.push_reserved.new.self.items) c.self.view_is c.self.invariant c.before-before.ensures (ap plain c.in_ok-bytes.ensures.command)
-    (past_more c.self.inside.kept.items c.make_room.new.kept.items c.push_reserved.new.self.items k c.make_room.ensures.kept c.push_reserved.ensures.items) c.in-Some.attempt _ (sym c.take.ensures.value ∙ c.in-Some.is) c.take.ensures.after refl c.requires
+    given_up_so s c.args.self.now c.args.bytes.now k (pasts c.keep.new.kept.items) c.self.view_is c.self.invariant c.before-before.ensures (ap plain c.in_ok-bytes.ensures.command)
+    (past_more c.self.inside.kept.items c.make_room.new.kept.items c.keep.new.kept.items k c.make_room.ensures.kept c.keep.ensures) c.in-Some.attempt _ (sym c.take.ensures.value ∙ c.in-Some.is) c.take.ensures.after refl c.requires

@@ -1,3 +1,4 @@
+use Rattle.std.specs.Prelude.{Result, Ok, Err, IfOk}
 use Rattle.std.proofs.Common.{◌≡◌, sym, ap, ◌∙◌, subst}
 use Rattle.ab_grammar.specs.CommandTrees.{specification}
 use Rattle.ab_command.specs.CommandReadings.{Says, Fails}
@@ -5,11 +6,17 @@ use Rattle.ab_states.specs.State.{plain, is_open}
 use Rattle.ab_states.specs.Reply as reply
 use Rattle.ab_states.specs.ForwardEffects.{GoesForward, unread}
 use Rattle.ab_states.specs.StateEffects.{forward}
+use Rattle.ab_states.specs.declared.reply.Reply.{Reply}
 use Rattle.ab_session.specs.Contents.{contents, state_of}
 use Rattle.ab_session.proofs.Sayings.{open_as}
 use Rattle.ab_session.proofs.Specified.{none_loaded, if_none_loaded, kept_already}
 use Rattle.ab_session.proofs.TakingBack.{not_kept, not_fewer}
 use Rattle.ab_session.proofs.session.Session.accept.Goals as goal
+
+-- what holds of a reply holds of what is answered
+of_reply : {E : Type 0} {P Q : Reply → Type 0} (r : Result Reply E) → ((x : Reply) → P x → Q x) → IfOk r P → IfOk r Q
+of_reply (Ok x) f p = f x p
+of_reply (Err e) f p = tt
 
 pub returns-in-Err-Refused-clause-effect : goal.returns-in-Err-Refused-clause-effect
 returns-in-Err-Refused-clause-effect g c =
@@ -42,3 +49,9 @@ returns-in-Ok-Specification-clause-unloaded g c = λ none.
     let said : Says c.args.command.now c.is_some.result (specification x) = rw c.in-Ok-Specification.field-0-is at c.in-Ok-Specification.ensures.says in
     let e : c.is_some.result ≡ is_open (state_of c.args.self.now) = c.is_some.ensures ∙ sym (open_as s) ∙ ap (λ o. is_open (state_of o)) c.self.view_is in
     c.specify.ensures.unloaded (kept_already (state_of c.args.self.now) c.args.command.now x (subst (λ b. Says c.args.command.now b (specification x)) e said) none)
+
+pub returns-in-Ok-clause-admitted : goal.returns-in-Ok-clause-admitted
+returns-in-Ok-clause-admitted g c = λ name names. of_reply c.carry_out.result (λ reply a e. a.admitted name names e) c.carry_out.ensures.answer
+
+pub returns-in-Ok-Specification-clause-admitted : goal.returns-in-Ok-Specification-clause-admitted
+returns-in-Ok-Specification-clause-admitted g c = λ name names. of_reply c.specify.result (λ reply a e. a.admitted name names e) c.specify.ensures.answer

@@ -22,8 +22,8 @@ invariant_of-self-in-None g c =
     let d = rw c.in-None.is at c.in_ok-refusal.ensures.answer in
     let said = told.constants c.args.names.now (trees.type_of c.args.parse.now) in
     let k : Kept = record { bytes = c.in_ok-bytes.bytes; spec = None; before = c.before-before.result; deed = Went } in
-    session_declared_so s c.args.self.now c.args.bytes.now said c.declare_constants.new.world (pasts c.push_reserved.new.self.items) c.self.view_is c.self.invariant c.requires refl d k c.before-before.ensures refl (ap plain c.in_ok-bytes.ensures.command)
-    (past_more c.self.inside.kept.items c.make_room.new.kept.items c.push_reserved.new.self.items k c.make_room.ensures.kept c.push_reserved.ensures.items)
+    session_declared_so s c.args.self.now c.args.bytes.now said c.declare_constants.new.world (pasts c.keep.new.kept.items) c.self.view_is c.self.invariant c.requires refl d k c.before-before.ensures refl (ap plain c.in_ok-bytes.ensures.command)
+    (past_more c.self.inside.kept.items c.make_room.new.kept.items c.keep.new.kept.items k c.make_room.ensures.kept c.keep.ensures)
 
 pub returns-in-Some-clause-answer : goal.returns-in-Some-clause-answer
 returns-in-Some-clause-answer g c =
@@ -38,5 +38,5 @@ returns-in-None-clause-answer g c =
     let d = rw c.in-None.is at c.in_ok-refusal.ensures.answer in
     let said = told.constants c.args.names.now (trees.type_of c.args.parse.now) in
     let k : Kept = record { bytes = c.in_ok-bytes.bytes; spec = None; before = c.before-before.result; deed = Went } in
-    declared_so s c.args.self.now c.args.bytes.now said c.declare_constants.new.world (pasts c.push_reserved.new.self.items) c.self.view_is c.self.invariant c.requires refl d k c.before-before.ensures refl (ap plain c.in_ok-bytes.ensures.command)
-    (past_more c.self.inside.kept.items c.make_room.new.kept.items c.push_reserved.new.self.items k c.make_room.ensures.kept c.push_reserved.ensures.items)
+    declared_so s c.args.self.now c.args.bytes.now said c.declare_constants.new.world (pasts c.keep.new.kept.items) c.self.view_is c.self.invariant c.requires refl d k c.before-before.ensures refl (ap plain c.in_ok-bytes.ensures.command)
+    (past_more c.self.inside.kept.items c.make_room.new.kept.items c.keep.new.kept.items k c.make_room.ensures.kept c.keep.ensures)

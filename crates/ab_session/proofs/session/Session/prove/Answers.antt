@@ -30,22 +30,22 @@ invariant_of-self-in-Ok-Completed g c =
     let v = c.advance.new.world in
     let b = c.advance.new.attempt in
     let here : s.attempt ≡ Some c.in-Some.attempt = sym c.take.ensures.value ∙ c.in-Some.is in
-    let k : Kept = record { bytes = c.in_ok-bytes.bytes; spec = None; before = c.before-before.result; deed = Completed c.in-Ok.name c.advance.new.attempt.formula } in
+    let k : Kept = record { bytes = c.in_ok-bytes.bytes; spec = None; before = c.before-before.result; deed = Completed c.advance.new.attempt.name c.advance.new.attempt.formula } in
     let d = rw c.in-Ok-Completed.field-0-is at c.in-Ok-Completed.ensures.advanced in
-    session_proved s c.args.self.now c.args.bytes.now k (pasts c.push_reserved.new.self.items) c.self.view_is c.self.invariant c.before-before.ensures (ap plain c.in_ok-bytes.ensures.command)
-    (past_more c.self.inside.kept.items c.make_room.new.kept.items c.push_reserved.new.self.items k c.make_room.ensures.kept c.push_reserved.ensures.items)
-    (option_copied c.args.label) (proof_command_of c.args.command.now) c.in-Some.attempt here c.requires v b c.push_reserved-in-Ok-Completed.new.self.items _ c.take.ensures.after (c.push_reserved-in-Ok-Completed.ensures.items ∙ ap (λ qs. qs ++ b.proof ∷ []) c.reserve.ensures.items) d c.in-Ok.name c.in-Ok.ensures refl
+    session_proved s c.args.self.now c.args.bytes.now k (pasts c.keep.new.kept.items) c.self.view_is c.self.invariant c.before-before.ensures (ap plain c.in_ok-bytes.ensures.command)
+    (past_more c.self.inside.kept.items c.make_room.new.kept.items c.keep.new.kept.items k c.make_room.ensures.kept c.keep.ensures)
+    (option_copied c.args.label) (proof_command_of c.args.command.now) c.in-Some.attempt here c.requires v b c.push_reserved.new.self.items _ c.take.ensures.after (c.push_reserved.ensures.items ∙ ap (λ qs. qs ++ b.proof ∷ []) c.reserve.ensures.items) c.in-Ok-Completed.reply d b.name d.name refl
 
-pub invariant_of-self-in-Left-1 : goal.invariant_of-self-in-Left-1
-invariant_of-self-in-Left-1 g c =
+pub invariant_of-self-in-Ok-Left : goal.invariant_of-self-in-Ok-Left
+invariant_of-self-in-Ok-Left g c =
     let s = contents c.self.inside in
     let v = c.advance.new.world in
     let b = c.advance.new.attempt in
     let here : s.attempt ≡ Some c.in-Some.attempt = sym c.take.ensures.value ∙ c.in-Some.is in
     let k : Kept = record { bytes = c.in_ok-bytes.bytes; spec = None; before = c.before-before.result; deed = Went } in
     let d = rw c.in-Ok-Left.field-0-is at c.in-Ok-Left.ensures.advanced in
-    session_led s c.args.self.now c.args.bytes.now k (pasts c.push_reserved-in-Ok-Left.new.self.items) c.self.view_is c.self.invariant c.before-before.ensures (ap plain c.in_ok-bytes.ensures.command)
-    (past_more c.self.inside.kept.items c.make_room.new.kept.items c.push_reserved-in-Ok-Left.new.self.items k c.make_room.ensures.kept c.push_reserved-in-Ok-Left.ensures.items)
+    session_led s c.args.self.now c.args.bytes.now k (pasts c.keep-in-Ok-Left.new.kept.items) c.self.view_is c.self.invariant c.before-before.ensures (ap plain c.in_ok-bytes.ensures.command)
+    (past_more c.self.inside.kept.items c.make_room.new.kept.items c.keep-in-Ok-Left.new.kept.items k c.make_room.ensures.kept c.keep-in-Ok-Left.ensures)
     (option_copied c.args.label) (proof_command_of c.args.command.now) c.in-Some.attempt here c.requires v b c.reserve.new.self.items c.reserve.ensures.items d refl
 
 pub invariant_of-self-in-Refused-1 : goal.invariant_of-self-in-Refused-1
@@ -59,25 +59,25 @@ invariant_of-self-in-Refused-1 g c =
     let back = ap Some (attempt_is a b u.name u.formula u.proof) ∙ sym here in
     session_same s v c.reserve.new.self.items (Some b) (pasts c.make_room.new.kept.items) c.reserve.ensures.items back (ap pasts c.make_room.ensures.kept) c.self.invariant u.grows u.declared
 
-pub invariant_of-self-in-Err-advance : goal.invariant_of-self-in-Err-advance
-invariant_of-self-in-Err-advance g c =
+pub invariant_of-self-in-Err-1 : goal.invariant_of-self-in-Err-1
+invariant_of-self-in-Err-1 g c =
     let s = contents c.self.inside in
     let v = c.advance.new.world in
     let a = c.in-Some.attempt in
     let b = c.advance.new.attempt in
     let here : s.attempt ≡ Some a = sym c.take.ensures.value ∙ c.in-Some.is in
-    let u = c.in-Err-advance.ensures.err in
+    let u = c.in-Err.ensures.err in
     let back = ap Some (attempt_is a b u.name u.formula u.proof) ∙ sym here in
     session_same s v c.reserve.new.self.items (Some b) (pasts c.make_room.new.kept.items) c.reserve.ensures.items back (ap pasts c.make_room.ensures.kept) c.self.invariant u.grows u.declared
 
-pub returns-in-Err-advance-clause-err : goal.returns-in-Err-advance-clause-err
-returns-in-Err-advance-clause-err g c =
+pub returns-in-Err-clause-err : goal.returns-in-Err-clause-err
+returns-in-Err-clause-err g c =
     let s = contents c.self.inside in
     let v = c.advance.new.world in
     let a = c.in-Some.attempt in
     let b = c.advance.new.attempt in
     let here : s.attempt ≡ Some a = sym c.take.ensures.value ∙ c.in-Some.is in
-    let u = c.in-Err-advance.ensures.err in
+    let u = c.in-Err.ensures.err in
     let back = ap Some (attempt_is a b u.name u.formula u.proof) ∙ sym here in
     state_same s c.args.self.now v c.reserve.new.self.items (Some b) (pasts c.make_room.new.kept.items) c.self.view_is c.reserve.ensures.items back (ap pasts c.make_room.ensures.kept) c.self.invariant u.grows u.declared
 
@@ -87,11 +87,11 @@ returns-in-Ok-Completed-clause-answer g c =
     let v = c.advance.new.world in
     let b = c.advance.new.attempt in
     let here : s.attempt ≡ Some c.in-Some.attempt = sym c.take.ensures.value ∙ c.in-Some.is in
-    let k : Kept = record { bytes = c.in_ok-bytes.bytes; spec = None; before = c.before-before.result; deed = Completed c.in-Ok.name c.advance.new.attempt.formula } in
+    let k : Kept = record { bytes = c.in_ok-bytes.bytes; spec = None; before = c.before-before.result; deed = Completed c.advance.new.attempt.name c.advance.new.attempt.formula } in
     let d = rw c.in-Ok-Completed.field-0-is at c.in-Ok-Completed.ensures.advanced in
-    proved_so s c.args.self.now c.args.bytes.now k (pasts c.push_reserved.new.self.items) c.self.view_is c.self.invariant c.before-before.ensures (ap plain c.in_ok-bytes.ensures.command)
-    (past_more c.self.inside.kept.items c.make_room.new.kept.items c.push_reserved.new.self.items k c.make_room.ensures.kept c.push_reserved.ensures.items)
-    (option_copied c.args.label) (proof_command_of c.args.command.now) c.in-Some.attempt here c.requires v b c.push_reserved-in-Ok-Completed.new.self.items _ c.take.ensures.after (c.push_reserved-in-Ok-Completed.ensures.items ∙ ap (λ qs. qs ++ b.proof ∷ []) c.reserve.ensures.items) d c.in-Ok.name c.in-Ok.ensures refl
+    proved_so s c.args.self.now c.args.bytes.now k (pasts c.keep.new.kept.items) c.self.view_is c.self.invariant c.before-before.ensures (ap plain c.in_ok-bytes.ensures.command)
+    (past_more c.self.inside.kept.items c.make_room.new.kept.items c.keep.new.kept.items k c.make_room.ensures.kept c.keep.ensures)
+    (option_copied c.args.label) (proof_command_of c.args.command.now) c.in-Some.attempt here c.requires v b c.push_reserved.new.self.items _ c.take.ensures.after (c.push_reserved.ensures.items ∙ ap (λ qs. qs ++ b.proof ∷ []) c.reserve.ensures.items) c.in-Ok-Completed.reply d b.name d.name refl
 
 pub returns-in-Ok-Left-clause-answer : goal.returns-in-Ok-Left-clause-answer
 returns-in-Ok-Left-clause-answer g c =
@@ -101,8 +101,8 @@ returns-in-Ok-Left-clause-answer g c =
     let here : s.attempt ≡ Some c.in-Some.attempt = sym c.take.ensures.value ∙ c.in-Some.is in
     let k : Kept = record { bytes = c.in_ok-bytes.bytes; spec = None; before = c.before-before.result; deed = Went } in
     let d = rw c.in-Ok-Left.field-0-is at c.in-Ok-Left.ensures.advanced in
-    led_so s c.args.self.now c.args.bytes.now k (pasts c.push_reserved-in-Ok-Left.new.self.items) c.self.view_is c.self.invariant c.before-before.ensures (ap plain c.in_ok-bytes.ensures.command)
-    (past_more c.self.inside.kept.items c.make_room.new.kept.items c.push_reserved-in-Ok-Left.new.self.items k c.make_room.ensures.kept c.push_reserved-in-Ok-Left.ensures.items)
+    led_so s c.args.self.now c.args.bytes.now k (pasts c.keep-in-Ok-Left.new.kept.items) c.self.view_is c.self.invariant c.before-before.ensures (ap plain c.in_ok-bytes.ensures.command)
+    (past_more c.self.inside.kept.items c.make_room.new.kept.items c.keep-in-Ok-Left.new.kept.items k c.make_room.ensures.kept c.keep-in-Ok-Left.ensures)
     (option_copied c.args.label) (proof_command_of c.args.command.now) c.in-Some.attempt here c.requires v b c.reserve.new.self.items c.reserve.ensures.items d refl
 
 pub returns-in-Ok-Refused-clause-answer : goal.returns-in-Ok-Refused-clause-answer

@@ -59,8 +59,8 @@ invariant_of-self-in-Formula g c =
     let s = contents c.self.inside in
     let d = rw c.in-Formula.is at c.in_ok-refusal.ensures.answer in
     let k : Kept = record { bytes = c.in_ok-bytes.bytes; spec = None; before = c.before-before.result; deed = Began } in
-    session_stated_so s c.args.self.now c.args.bytes.now k (pasts c.push_reserved.new.self.items) c.self.view_is c.self.invariant c.before-before.ensures (ap plain c.in_ok-bytes.ensures.command)
-    (past_more c.self.inside.kept.items c.make_room.new.kept.items c.push_reserved.new.self.items k c.make_room.ensures.kept c.push_reserved.ensures.items)
+    session_stated_so s c.args.self.now c.args.bytes.now k (pasts c.keep.new.kept.items) c.self.view_is c.self.invariant c.before-before.ensures (ap plain c.in_ok-bytes.ensures.command)
+    (past_more c.self.inside.kept.items c.make_room.new.kept.items c.keep.new.kept.items k c.make_room.ensures.kept c.keep.ensures)
     c.args.name.now c.in_ok-copy.copy (trees.tree_of c.args.parse.now) c.in-Formula.formula c.state_formula.new.world c.in_ok-proof-in-Formula.proof
     c.in_ok-copy.ensures d c.in_ok-proof-in-Formula.ensures.proof c.in_ok-proof-in-Formula.ensures.begins refl c.requires
 
@@ -69,7 +69,7 @@ returns-in_ok-proof-in-Formula-clause-answer g c =
     let s = contents c.self.inside in
     let d = rw c.in-Formula.is at c.in_ok-refusal.ensures.answer in
     let k : Kept = record { bytes = c.in_ok-bytes.bytes; spec = None; before = c.before-before.result; deed = Began } in
-    stated_so s c.args.self.now c.args.bytes.now k (pasts c.push_reserved.new.self.items) c.self.view_is c.self.invariant c.before-before.ensures (ap plain c.in_ok-bytes.ensures.command)
-    (past_more c.self.inside.kept.items c.make_room.new.kept.items c.push_reserved.new.self.items k c.make_room.ensures.kept c.push_reserved.ensures.items)
+    stated_so s c.args.self.now c.args.bytes.now k (pasts c.keep.new.kept.items) c.self.view_is c.self.invariant c.before-before.ensures (ap plain c.in_ok-bytes.ensures.command)
+    (past_more c.self.inside.kept.items c.make_room.new.kept.items c.keep.new.kept.items k c.make_room.ensures.kept c.keep.ensures)
     c.args.name.now c.in_ok-copy.copy (trees.tree_of c.args.parse.now) c.in-Formula.formula c.state_formula.new.world c.in_ok-proof-in-Formula.proof
     c.in_ok-copy.ensures d c.in_ok-proof-in-Formula.ensures.proof c.in_ok-proof-in-Formula.ensures.begins refl c.requires
