@@ -4,3 +4,9 @@ mod Undetermined
 mod Opened
 mod Words
 mod JudgementForms
+mod PartsTaken
+mod OneMore
+mod ConstantsHeld
+mod CellsMade
+mod ItemsInFocus
+mod SameTrees

@@ -1,0 +1,91 @@
+//! Names that stand in goals alone.
+ghost use Rattle.std.specs.Prelude.{◌≡◌, map, filter, not, All, IfOk};
+ghost use Rattle.std.specs.List.{list_any};
+ghost use Rattle.ab_norm.specs.ab_types.specs.Entries.{Table};
+ghost use Rattle.ab_norm.specs.ab_store.specs.Trees.{Holds, HoldsCell, tree_of};
+ghost use Rattle.ab_norm.specs.ab_store.specs.Reading.{cell_variable};
+ghost use Rattle.ab_unifiers.specs.Replacements as solve;
+ghost use Rattle.ab_alternatives.specs.RightAlternatives.{variable_at};
+ghost use Rattle.ab_theory.specs.SpecRules.{stands_in_goals_alone};
+
+use ab_norm::store::{CellId, Store, TermId};
+use ab_patterns::occurs;
+use std::alloc::{AllocError, Global};
+
+/// Whether the cell stands in one of the terms.
+fn stands_in_one(
+    alloc: Global,
+    store: &Store,
+    cell: CellId,
+    terms: &[TermId],
+) -> Result<bool, AllocError>
+    requires { All (Holds store.now) terms.now }
+    ensures { IfOk result (λ r. (types : Table) → r ≡ list_any (solve.occurs (cell_variable types store.now cell)) (map (tree_of types store.now) terms.now)) }
+{
+    match terms {
+        [] => Ok(false),
+        [first, rest @ ..] => {
+            if occurs(alloc, store, cell, *first)? {
+                Ok(true)
+            } else {
+                stands_in_one(alloc, store, cell, rest)
+            }
+        }
+    }
+}
+
+/// Whether the cell stands in goals, and not in the atom.
+fn stands_in_goals_alone(
+    alloc: Global,
+    store: &Store,
+    atom: TermId,
+    goals: &[TermId],
+    cell: CellId,
+) -> Result<bool, AllocError>
+    requires atom { Holds store.now atom }
+    requires goals { All (Holds store.now) goals.now }
+    ensures { IfOk result (λ r. (types : Table) → r ≡ stands_in_goals_alone (tree_of types store.now atom) (map (tree_of types store.now) goals.now) (variable_at types store.now cell)) }
+{
+    if !stands_in_one(alloc, store, cell, goals)? {
+        return Ok(false);
+    }
+    let in_atom = occurs(alloc, store, cell, atom)?;
+    Ok(!in_atom)
+}
+
+/// Cells for names of a clause: those that stand in goals alone, and the others.
+#[derive(Drop)]
+pub(crate) struct Sides {
+    pub(crate) closed: Vec<CellId>,
+    pub(crate) own: Vec<CellId>,
+}
+
+/// The cells, by whether they stand in goals alone, each kind in its order.
+pub(crate) fn sides_of(
+    alloc: Global,
+    store: &Store,
+    atom: TermId,
+    goals: &[TermId],
+    cells: &[CellId],
+) -> Result<Sides, AllocError>
+    requires atom { Holds store.now atom }
+    requires goals { All (Holds store.now) goals.now }
+    requires cells { All (HoldsCell store.now) cells.now }
+    ensures closed { IfOk result (λ sides. (types : Table) → map (variable_at types store.now) sides.closed.items
+        ≡ filter (stands_in_goals_alone (tree_of types store.now atom) (map (tree_of types store.now) goals.now)) (map (variable_at types store.now) cells.now)) }
+    ensures own { IfOk result (λ sides. (types : Table) → map (variable_at types store.now) sides.own.items
+        ≡ filter (λ y. not (stands_in_goals_alone (tree_of types store.now atom) (map (tree_of types store.now) goals.now) y)) (map (variable_at types store.now) cells.now)) }
+    ensures closed_held { IfOk result (λ sides. All (HoldsCell store.now) sides.closed.items) }
+    ensures own_held { IfOk result (λ sides. All (HoldsCell store.now) sides.own.items) }
+{
+    let mut closed = Vec::new(alloc);
+    let mut own = Vec::new(alloc);
+    for cell in cells {
+        if stands_in_goals_alone(alloc, store, atom, goals, *cell)? {
+            closed.push(*cell)?;
+        } else {
+            own.push(*cell)?;
+        }
+    }
+    Ok(Sides { closed, own })
+}
