@@ -1,6 +1,6 @@
--- The leaves of a tree, with other numbers for variables: as many, and of the same kinds.
+-- The leaves of a tree, with other numbers for variables: the same, with these numbers.
 use Rattle.std.specs.List.{All}
-use Rattle.std.proofs.Common.{◌≡◌, ℕ, List, [], ◌∷◌, ◌++◌, map, filter, length, drop, codes, Bool, true, false, cond, not, refl, sym, ◌∙◌, ap, subst}
+use Rattle.std.proofs.Common.{◌≡◌, ℕ, List, [], ◌∷◌, ◌++◌, map, filter, length, drop, codes, Bool, true, false, cond, not, refl, sym, ◌∙◌, ap, subst, append_assoc}
 use Rattle.std.proofs.lemmas.List.Elements.{All-nil, All-cons, All-head, All-tail}
 use Rattle.std.proofs.Math.Seq.{drop-append_seam}
 use Rattle.ab_term.specs.Terms.{Read}
@@ -24,53 +24,42 @@ use Rattle.ab_search_trees.specs.Judgements.{is_blind}
 use Rattle.ab_search_trees.specs.Ways.{Way, with_constants, ways}
 use Rattle.ab_search_trees.specs.Tree.{Leaf, found, stuck_at, blind, problem_of, Serve, now_after, unseen, Leaves, LeavesBy, LeavesOn, no_goal, a_goal, no_way, a_way, are_apart, are_stuck, dont_serve, go_on}
 use Rattle.ab_search_trees.specs.Outcomes.{Outcome, outcome_of, outcome_behind}
+use Rattle.ab_search_trees.specs.Numberings.{renumbered_now, renumbered_leaf}
 use Rattle.ab_search_trees.proofs.MovedForms.{T, marks_same, blind_same}
 use Rattle.ab_search_trees.proofs.MovedWays.{V, goal_renumbered, now_renumbered, numbered_on, MovesWay, ways_move}
 
--- LEAVES OF ONE KIND
+-- THE LEAVES, where the search began over these cells
 
-abbrev pub IsAlike : Leaf → Leaf → Type 0
-IsAlike (found a) (found b) = Unit {0}
-IsAlike (stuck_at i) (stuck_at j) = i ≡ j
-IsAlike blind blind = Unit {0}
-IsAlike _ _ = ⊥
+module _ (f : ℕ → ℕ) (first second : List (Cell (List ℕ))) where
+  abbrev pub L : Leaf → Leaf
+  L = renumbered_leaf f first second
 
-abbrev pub AreAlike : List Leaf → List Leaf → Type 0
-AreAlike [] [] = Unit {0}
-AreAlike [] (m ∷ ms) = ⊥
-AreAlike (l ∷ ls) [] = ⊥
-AreAlike (l ∷ ls) (m ∷ ms) = IsAlike l m × AreAlike ls ms
+  behind_same : (l : Leaf) (o : Outcome) → outcome_behind (L l) o ≡ outcome_behind l o
+  behind_same (found now) o = refl
+  behind_same (stuck_at i) o = refl
+  behind_same blind o = refl
 
-alike_both : (ls ms ks js : List Leaf) → AreAlike ls ms → AreAlike ks js → AreAlike (ls ++ ks) (ms ++ js)
-alike_both [] [] ks js a b = b
-alike_both [] (m ∷ ms) ks js a b = absurd a
-alike_both (l ∷ ls) [] ks js a b = absurd a
-alike_both (l ∷ ls) (m ∷ ms) ks js a b = (a.0, alike_both ls ms ks js a.1 b)
+  -- they tell one outcome
+  pub outcome_moved : (ls : List Leaf) → outcome_of (map L ls) ≡ outcome_of ls
+  outcome_moved [] = refl
+  outcome_moved (l ∷ ls) = behind_same l (outcome_of (map L ls)) ∙ ap (outcome_behind l) (outcome_moved ls)
 
-alike_behind : (l m : Leaf) (o : Outcome) → IsAlike l m → outcome_behind l o ≡ outcome_behind m o
-alike_behind (found a) (found b) o e = refl
-alike_behind (found a) (stuck_at j) o e = absurd e
-alike_behind (found a) blind o e = absurd e
-alike_behind (stuck_at i) (found b) o e = absurd e
-alike_behind (stuck_at i) (stuck_at j) o e = ap (λ k. outcome_behind (stuck_at k) o) e
-alike_behind (stuck_at i) blind o e = absurd e
-alike_behind blind (found b) o e = absurd e
-alike_behind blind (stuck_at j) o e = absurd e
-alike_behind blind blind o e = refl
+  unseen_moved : (b : Bool) → map L (cond b (blind ∷ []) []) ≡ cond b (blind ∷ []) []
+  unseen_moved true = refl
+  unseen_moved false = refl
 
--- they tell one outcome
-pub alike_outcome : (ls ms : List Leaf) → AreAlike ls ms → outcome_of ls ≡ outcome_of ms
-alike_outcome [] [] a = refl
-alike_outcome [] (m ∷ ms) a = absurd a
-alike_outcome (l ∷ ls) [] a = absurd a
-alike_outcome (l ∷ ls) (m ∷ ms) a = alike_behind l m (outcome_of ls) a.0 ∙ ap (outcome_behind m) (alike_outcome ls ms a.1)
+  -- behind those of the beginning stand the same ones
+  abbrev pub GrewAlike : List (Cell (List ℕ)) → List (Cell (List ℕ)) → Type 0
+  GrewAlike cells others = (new : List (Cell (List ℕ))) × (cells ≡ first ++ new) × (others ≡ second ++ new)
 
-unseen_alike : (b c : Bool) → b ≡ c → AreAlike (cond b (blind ∷ []) []) (cond c (blind ∷ []) [])
-unseen_alike b c e = subst (λ d. AreAlike (cond b (blind ∷ []) []) (cond d (blind ∷ []) [])) e (go b)
-  where
-    go : (b : Bool) → AreAlike (cond b (blind ∷ []) []) (cond b (blind ∷ []) [])
-    go true = (tt, tt)
-    go false = tt
+  grew_more : (cells others new : List (Cell (List ℕ))) → GrewAlike cells others → GrewAlike (cells ++ new) (others ++ new)
+  grew_more cells others new w = (w.0 ++ new, ap (λ l. l ++ new) w.1 ∙ append_assoc first w.0 new, ap (λ l. l ++ new) w.2 ∙ append_assoc second w.0 new)
+
+  now_told : (now : Now) (others : List (Cell (List ℕ))) → GrewAlike now.cells others → renumbered_now f first second now ≡ now_renumbered f others now
+  now_told now others w =
+      let behind : drop (length first) now.cells ≡ w.0 = ap (drop (length first)) w.1 ∙ drop-append_seam first w.0 in
+      let there : second ++ drop (length first) now.cells ≡ others = ap (λ l. second ++ l) behind ∙ sym w.2 in
+      λ i. record { cells = there i; flexible = map (V f) now.flexible; answer = renumbered_pairs f now.answer; held = now.held }
 
 filter_on : {X Y : Type 0} (h : X → Y) (p : X → Bool) (q : Y → Bool) → ((x : X) → q (h x) ≡ p x) → (xs : List X) → filter q (map h xs) ≡ map h (filter p xs)
 filter_on h p q same [] = refl
@@ -145,6 +134,14 @@ module _ (f : ℕ → ℕ) (now : Now) (others : List (Cell (List ℕ))) (r : Is
     pub then : IsRenumbering f more Most
     then = subst (λ l. IsRenumbering f l Most) (sym tail.1) (subst (λ l. IsRenumbering f (w.cells ++ tail.0) (v.cells ++ l)) (sym tail_is) (extended f w.cells v.cells tail.0 amid))
 
+    pub grown_then : (first second : List (Cell (List ℕ))) → GrewAlike f first second now.cells others → GrewAlike f first second more Most
+    grown_then first second grew =
+        let way = grew_more f first second now.cells others m.new grew in
+        let cells = ap (λ l. l ++ tail.0) m.cells_first in
+        let also = ap (λ l. l ++ tail.0) m.cells_second in
+        let all = grew_more f first second (now.cells ++ m.new) (others ++ m.new) tail.0 way in
+        (all.0, tail.1 ∙ cells ∙ all.1, ap (λ l. v.cells ++ l) tail_is ∙ also ∙ all.2)
+
     left_moved : map (V f) (left_of w.cells w.flexible more q) ≡ left_of v.cells v.flexible Most Q
     left_moved =
         sym (filter_on (V f) (λ y. not (holds (keys q) y)) (λ y. not (holds (map (V f) (keys q)) y)) (λ y. ap not (holds_moved f (agreeing f r.different) (keys q) y)) (w.flexible ++ numbered (length w.cells) (drop (length w.cells) more)))
@@ -182,46 +179,40 @@ module _ (f : ℕ → ℕ) (now : Now) (others : List (Cell (List ℕ))) (r : Is
         goals_on (w.goals ++ gs)
         ∙ ap (map (goal_under Q)) (map-append (goal_renumbered f) w.goals gs ∙ ap (λ l. l ++ map (goal_renumbered f) gs) m.goals)
 
--- THE LEAVES
+-- THE LEAVES ARE THE SAME, by these numbers
 
-module _ (f : ℕ → ℕ) (D : Declarations) (defs : HaveDefinitions D) (program : HavePrograms D) where
-  abbrev Also : List Leaf → (List Leaf → Type 0) → Type 0
-  Also ls P = (ms : List Leaf) × P ms × AreAlike ls ms
+module _ (f : ℕ → ℕ) (D : Declarations) (defs : HaveDefinitions D) (program : HavePrograms D) (first second : List (Cell (List ℕ))) where
+  abbrev Ls : List Leaf → List Leaf
+  Ls = map (L f first second)
 
   mutual
-    pub leaves_move : (now : Now) (others : List (Cell (List ℕ))) → IsRenumbering f now.cells others → {gs : List Goal} {ls : List Leaf} → Leaves D now gs ls
-        → Also ls (Leaves D (now_renumbered f others now) (map (goal_renumbered f) gs))
-    leaves_move now others r no_goal = (found (now_renumbered f others now) ∷ [], no_goal, (tt, tt))
-    leaves_move now others r (a_goal {g = g} {gs = gs} {ls = ls} p) =
-        let by = leaves_move_by now others r (ways D now g) (ways D (now_renumbered f others now) (goal_renumbered f g)) (ways_move f D defs program now others r g) p in (
-          by.0 ++ unseen (now_renumbered f others now) (goal_renumbered f g),
-          a_goal by.1,
-          alike_both ls by.0 (unseen now g) (unseen (now_renumbered f others now) (goal_renumbered f g)) by.2
-              (unseen_alike (is_blind now.flexible g.conclusion) (is_blind (map (V f) now.flexible) (T f g.conclusion)) (sym (blind_same f (agreeing f r.different) now.flexible g.conclusion))),
-        )
+    pub leaves_move : (now : Now) (others : List (Cell (List ℕ))) → IsRenumbering f now.cells others → GrewAlike f first second now.cells others → {gs : List Goal} {ls : List Leaf} → Leaves D now gs ls
+        → Leaves D (now_renumbered f others now) (map (goal_renumbered f) gs) (Ls ls)
+    leaves_move now others r grew no_goal = subst (λ n. Leaves D (now_renumbered f others now) [] (found n ∷ [])) (sym (now_told f first second now others grew)) no_goal
+    leaves_move now others r grew (a_goal {g = g} {gs = gs} {ls = ls} p) =
+        let by = leaves_move_by now others r grew (ways D now g) (ways D (now_renumbered f others now) (goal_renumbered f g)) (ways_move f D defs program now others r g) p in
+        let unseen_same : unseen (now_renumbered f others now) (goal_renumbered f g) ≡ Ls (unseen now g) =
+        ap (λ b. cond b (blind ∷ []) []) (blind_same f (agreeing f r.different) now.flexible g.conclusion) ∙ sym (unseen_moved f first second (is_blind now.flexible g.conclusion)) in
+        subst (Leaves D (now_renumbered f others now) (map (goal_renumbered f) (g ∷ gs))) (ap (λ l. Ls ls ++ l) unseen_same ∙ sym (map-append (L f first second) ls (unseen now g))) (a_goal by)
 
-    leaves_move_by : (now : Now) (others : List (Cell (List ℕ))) → IsRenumbering f now.cells others → (ws vs : List Way) → Each (MovesWay f now.cells others) ws vs → {gs : List Goal} {ls : List Leaf} → LeavesBy D now ws gs ls
-        → Also ls (LeavesBy D (now_renumbered f others now) vs (map (goal_renumbered f) gs))
-    leaves_move_by now others r [] [] e no_way = ([], no_way, tt)
-    leaves_move_by now others r [] (v ∷ vs) e p = absurd e
-    leaves_move_by now others r (w ∷ ws) [] e p = absurd e
-    leaves_move_by now others r (w ∷ ws) (v ∷ vs) e (a_way {ls = ls} {ms = ms} p q) =
-        let one = leaves_move_on now others r w v e.0 p in
-        let rest = leaves_move_by now others r ws vs e.1 q in
-        (one.0 ++ rest.0, a_way one.1 rest.1, alike_both ls one.0 ms rest.0 one.2 rest.2)
+    leaves_move_by : (now : Now) (others : List (Cell (List ℕ))) → IsRenumbering f now.cells others → GrewAlike f first second now.cells others → (ws vs : List Way) → Each (MovesWay f now.cells others) ws vs → {gs : List Goal} {ls : List Leaf} → LeavesBy D now ws gs ls
+        → LeavesBy D (now_renumbered f others now) vs (map (goal_renumbered f) gs) (Ls ls)
+    leaves_move_by now others r grew [] [] e no_way = no_way
+    leaves_move_by now others r grew [] (v ∷ vs) e p = absurd e
+    leaves_move_by now others r grew (w ∷ ws) [] e p = absurd e
+    leaves_move_by now others r grew (w ∷ ws) (v ∷ vs) e (a_way {gs = gs} {ls = ls} {ms = ms} p q) =
+        subst (LeavesBy D (now_renumbered f others now) (v ∷ vs) (map (goal_renumbered f) gs)) (sym (map-append (L f first second) ls ms))
+        (a_way (leaves_move_on now others r grew w v e.0 p) (leaves_move_by now others r grew ws vs e.1 q))
 
-    leaves_move_on : (now : Now) (others : List (Cell (List ℕ))) → IsRenumbering f now.cells others → (w v : Way) → MovesWay f now.cells others w v → {gs : List Goal} {ls : List Leaf} → LeavesOn D now w gs ls
-        → Also ls (LeavesOn D (now_renumbered f others now) v (map (goal_renumbered f) gs))
-    leaves_move_on now others r w v m (are_apart p) = ([], are_apart (way_solved f now others r w v m apart p), tt)
-    leaves_move_on now others r w v m (are_stuck {i = i} p) = (stuck_at i ∷ [], are_stuck (way_solved f now others r w v m (stuck i) p), (refl, tt))
-    leaves_move_on now others r w v m (dont_serve more q p n) =
-        ([], dont_serve (Most f now others r w v m more q p) (Q f now others r w v m more q p) (way_solved f now others r w v m (unified more q) p) (λ s. n (way_served f now others r w v m s)), tt)
-    leaves_move_on now others r w v m (go_on {gs = gs} {ls = ls} more q p s l) =
+    leaves_move_on : (now : Now) (others : List (Cell (List ℕ))) → IsRenumbering f now.cells others → GrewAlike f first second now.cells others → (w v : Way) → MovesWay f now.cells others w v → {gs : List Goal} {ls : List Leaf} → LeavesOn D now w gs ls
+        → LeavesOn D (now_renumbered f others now) v (map (goal_renumbered f) gs) (Ls ls)
+    leaves_move_on now others r grew w v m (are_apart p) = are_apart (way_solved f now others r w v m apart p)
+    leaves_move_on now others r grew w v m (are_stuck {i = i} p) = are_stuck (way_solved f now others r w v m (stuck i) p)
+    leaves_move_on now others r grew w v m (dont_serve more q p n) =
+        dont_serve (Most f now others r w v m more q p) (Q f now others r w v m more q p) (way_solved f now others r w v m (unified more q) p) (λ s. n (way_served f now others r w v m s))
+    leaves_move_on now others r grew w v m (go_on {gs = gs} {ls = ls} more q p s l) =
         let most = Most f now others r w v m more q p in
-        let rest = leaves_move (now_after now w more q) most (then f now others r w v m more q p) l in (
-          rest.0,
-          go_on most (renumbered_pairs f q) (way_solved f now others r w v m (unified more q) p) (way_serves f now others r w v m s)
-              (subst (λ n. Leaves D n (map (goal_under (renumbered_pairs f q)) (v.goals ++ map (goal_renumbered f) gs)) rest.0) (after_moved f now others r w v m more q p)
-              (subst (λ hs. Leaves D (now_renumbered f most (now_after now w more q)) hs rest.0) (goals_moved f now others r w v m more q p gs) rest.1)),
-          rest.2,
-        )
+        let rest = leaves_move (now_after now w more q) most (then f now others r w v m more q p) (grown_then f now others r w v m more q p first second grew) l in
+        go_on most (renumbered_pairs f q) (way_solved f now others r w v m (unified more q) p) (way_serves f now others r w v m s)
+        (subst (λ n. Leaves D n (map (goal_under (renumbered_pairs f q)) (v.goals ++ map (goal_renumbered f) gs)) (Ls ls)) (after_moved f now others r w v m more q p)
+        (subst (λ hs. Leaves D (now_renumbered f most (now_after now w more q)) hs (Ls ls)) (goals_moved f now others r w v m more q p gs) rest))

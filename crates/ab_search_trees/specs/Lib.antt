@@ -8,6 +8,8 @@ pub mod Ways
 pub mod Lifting
 pub mod Tree
 pub mod Outcomes
+-- The same by other numbers for variables.
+pub mod Numberings
 -- Against what it is judged: derivations by guesses, and what an answer shows.
 pub mod Guesses
 pub mod Shown

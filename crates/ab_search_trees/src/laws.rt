@@ -1,7 +1,7 @@
 //! Laws of the search tree: it is there, and is one; it comes to one outcome, whatever the numbers of variables; what its outcome tells, what
 //! answers show, and which derivations the search does not miss.
 
-ghost use Rattle.std.specs.Prelude.{◌≡◌, ◌⊎◌, ℕ, ◌<◌, ◌≤◌, List, [], ◌∷◌, ◌++◌, length, Contains, true, false};
+ghost use Rattle.std.specs.Prelude.{◌≡◌, ◌⊎◌, ℕ, ◌<◌, ◌≤◌, List, [], ◌∷◌, ◌++◌, map, length, Contains, true, false};
 ghost use Rattle.ab_term.specs.Types.{Ty};
 ghost use Rattle.ab_term.specs.Terms.{Variable, Term, Read};
 ghost use Rattle.ab_term.specs.Typing.{Signature, HasType};
@@ -11,6 +11,7 @@ ghost use Rattle.ab_term.specs.Sameness.{same_number};
 ghost use Rattle.ab_unifiers.specs.Unification.{Equation, unified, apart, Solves};
 ghost use Rattle.ab_unifiers.specs.Unifiers.{given, AreTyped, AreKnown, IsCell, HoldsCells, AllHoldCells};
 ghost use Rattle.ab_unifiers.specs.Replacements.{Cell, holds};
+ghost use Rattle.ab_unifiers.specs.Renumbering.{IsRenumbering};
 ghost use Rattle.ab_unifiers.specs.Member.{HasMember};
 ghost use Rattle.ab_formulas.specs.Declarations.{Declarations, HaveDefinitions, signature_in};
 ghost use Rattle.ab_formulas.specs.Programs.{HavePrograms};
@@ -21,6 +22,7 @@ ghost use Rattle.ab_search_trees.specs.Lifting.{left_of, Guess, IsGuessFor, Make
 ghost use Rattle.ab_search_trees.specs.Goals.{Goal, Now, first_goal};
 ghost use Rattle.ab_search_trees.specs.Tree.{Leaf, found, stuck_at, blind, Leaves};
 ghost use Rattle.ab_search_trees.specs.Outcomes.{Outcome, closed, not_pattern, not_found, outcome_of, Searched, ComesTo, these, but_for, first_answers, answers_in, NoneStuck, Asks};
+ghost use Rattle.ab_search_trees.specs.Numberings.{renumbered_sequent, renumbered_leaf, AreOneSearch};
 ghost use Rattle.ab_search_trees.specs.Guesses.{Guessed};
 ghost use Rattle.ab_search_trees.specs.Shown.{Shown};
 
@@ -45,6 +47,18 @@ pub fn searches_have_one_tree()
         HaveDefinitions D → IsSequent D s → AreCells cells s → (ls : List Leaf) × Searched D cells depth s ls }
     ensures one { (D : Declarations) (now : Now) (gs : List Goal) (ls ms : List Leaf) →
         Leaves D now gs ls → Leaves D now gs ms → ls ≡ ms }
+{}
+
+/// ONE SEARCH, whatever the numbers of variables: a sequent with other numbers has the same leaves, with these numbers, so each
+/// answer puts in the same. And of two sequents that are the same with names for numbers, each over whatever variables were ever
+/// made, the leaves are the same but for the numbers.
+pub fn other_numbers_have_the_same_leaves()
+    ensures renumbered { (D : Declarations) (f : ℕ → ℕ) (cells others : List (Cell (List ℕ))) (depth : ℕ) (s : Sequent) (ls : List Leaf) →
+        HaveDefinitions D → HavePrograms D → IsRenumbering f cells others → Searched D cells depth s ls →
+        Searched D others depth (renumbered_sequent f s) (map (renumbered_leaf f cells others) ls) }
+    ensures one { (D : Declarations) (s u : Sequent) (cells others : List (Cell (List ℕ))) (depth : ℕ) (ls ms : List Leaf) →
+        HaveDefinitions D → HavePrograms D → IsSequent D s → IsSequent D u → named s ≡ named u → AreCells cells s → AreCells others u →
+        Searched D cells depth s ls → Searched D others depth u ms → AreOneSearch s u cells others ls ms }
 {}
 
 /// ONE OUTCOME, whatever the numbers of variables: of two sequents that are the same with names for numbers, over whatever

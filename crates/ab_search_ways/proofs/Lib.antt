@@ -1,0 +1,5 @@
+mod Bare
+mod Listing
+mod Moving
+pub mod Problems
+mod Targets
