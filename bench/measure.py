@@ -20,8 +20,8 @@ def with_all_stack():
     resource.setrlimit(resource.RLIMIT_STACK, (hard, hard))
 
 
-def measure(script, words=()):
-    """Returns seconds, peak memory in MB, the status and the last line of what is printed, where the line has these words and the script is the input."""
+def run(script, words=()):
+    """Returns seconds, what was used, the status and the last line of what is printed, where the line has these words and the script is the input."""
     with tempfile.TemporaryFile() as text, tempfile.TemporaryFile() as out:
         text.write(script.encode())
         text.seek(0)
@@ -32,7 +32,19 @@ def measure(script, words=()):
         seconds = time.monotonic() - begun
         out.seek(max(0, out.tell() - 200))
         lines = out.read().decode(errors="replace").rstrip("\n").split("\n")
-    return seconds, used.ru_maxrss / 1024, ran.returncode, lines[-1]
+    return seconds, used, ran.returncode, lines[-1]
+
+
+def measure(script, words=()):
+    """Returns seconds, peak memory in MB, the status and the last line of what is printed."""
+    seconds, used, status, last = run(script, words)
+    return seconds, used.ru_maxrss / 1024, status, last
+
+
+def cost(script):
+    """Returns processor seconds, peak memory in MB and the status."""
+    _, used, status, _ = run(script)
+    return used.ru_utime + used.ru_stime, used.ru_maxrss / 1024, status
 
 
 def table(title, sizes, make, words=lambda size: ()):
