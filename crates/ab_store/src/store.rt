@@ -227,10 +227,10 @@ impl Store {
         }
     }
 
-    /// The mark, or a later one where it takes one to count the term.
+    /// The mark, or a later one where it takes one to count the term. It stays for a term that the store doesn't hold.
     pub fn mark_to_term(&self, mark: Mark, term: TermId) -> Mark
-        requires { Holds self.now term }
-        ensures { result ≡ to_term mark term }
+        ensures held { Holds self.now term → result ≡ to_term mark term }
+        ensures absent { ¬ Holds self.now term → result ≡ mark }
     {
         if mark.nodes <= term.0 && term.0 < self.entries.len() {
             Mark {
@@ -243,10 +243,10 @@ impl Store {
         }
     }
 
-    /// The mark, or a later one where it takes one to count the cell.
+    /// The mark, or a later one where it takes one to count the cell. It stays for a cell that the store doesn't hold.
     pub fn mark_to_cell(&self, mark: Mark, cell: CellId) -> Mark
-        requires { HoldsCell self.now cell }
-        ensures { result ≡ to_cell mark cell }
+        ensures held { HoldsCell self.now cell → result ≡ to_cell mark cell }
+        ensures absent { ¬ HoldsCell self.now cell → result ≡ mark }
     {
         if mark.cells <= cell.0 && cell.0 < self.slots.len() {
             Mark {

@@ -9,20 +9,6 @@ use Rattle.ab_store.proofs.Wholes.{IsRaised, node_there, cell_there, past_none, 
 use Rattle.ab_store.proofs.store.Store.mark_whole.Goals as goal
 use Rattle.ab_store.proofs.store.Store.mark_whole.Goals.{in-Some, in_default}
 
-module _ (c : goal.In-Some) where
-  here : get_or c.args.self.now.nodes c.loop-place.place no_node ≡ c.index.result.now.node
-  here =
-      subst (λ (s : Contents). get_or s.nodes c.loop-place.place no_node ≡ c.index.result.now.node) c.self.view_is
-      (node_there c.self.inside.entries.items c.loop-place.place c.index.result.now (omega (arith, ap (λ (s : Contents). length s.nodes) c.self.view_is, length-map c.self.inside.entries.items (λ (e : NodeEntry). e.node), c.requires.nodes, c.loop-place-test.true)) c.index.ensures)
-
-  names : NodeNames c.loop-place.place (length c.args.self.now.cells) c.index.result.now.node
-  names =
-      subst (NodeNames c.loop-place.place (length c.args.self.now.cells)) here
-      ((subst (λ (s : Contents). NodesNameEarlier (length s.cells) s.nodes) c.self.view_is c.self.invariant.earlier) c.loop-place.place no_node (omega (arith, c.requires.nodes, c.loop-place-test.true)))
-
-pub mark_to_cell-mark-requires : goal.mark_to_cell-mark-requires
-mark_to_cell-mark-requires c = cell_there c.args.self.now c.loop-place.place c.index.result.now.node c.in-Some.cell (names c) (sym c.cell.ensures ∙ c.in-Some.is)
-
 module _ (c : goal.Joined-cell) where
   here_too : get_or c.args.self.now.nodes c.loop-place.place no_node ≡ c.index.result.now.node
   here_too =
@@ -37,7 +23,7 @@ module _ (c : goal.Joined-cell) where
 pub loop-place-preserved : goal.loop-place-preserved
 loop-place-preserved c = elim c.match-cell.branch [
   | in-Some w ↦
-      subst (λ (m : Mark). IsRaised c.args.self.now c.args.first.now c.args.second m (c.loop-place.place + 1)) (sym (w.mark-is ∙ w.mark_to_cell-mark.ensures))
+      subst (λ (m : Mark). IsRaised c.args.self.now c.args.first.now c.args.second m (c.loop-place.place + 1)) (sym (w.mark-is ∙ w.mark_to_cell-mark.ensures.held (cell_there c.args.self.now c.loop-place.place c.index.result.now.node w.in-Some.cell (names_too c) (sym c.cell.ensures ∙ w.in-Some.is))))
       (past_some c.args.self.now c.args.first.now c.args.second c.loop-place.mark c.loop-place.place c.loop-place.invariant c.loop-place-test.true c.index.result.now.node (here_too c) w.in-Some.cell (sym c.cell.ensures ∙ w.in-Some.is) (names_too c))
   | in_default w ↦
       subst (λ (m : Mark). IsRaised c.args.self.now c.args.first.now c.args.second m (c.loop-place.place + 1)) (sym w.mark-is)
