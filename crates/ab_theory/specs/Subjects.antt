@@ -49,11 +49,18 @@ pub record Way : Type 0 where
   pub case : List (Cell (List ℕ)) → Case
   pub closed : List Variable → Read → Read
 
+-- by a choice of the atom
+abbrev pub way_by_choice : Sequent → Defined → Choice → Way
+way_by_choice s d c = record { case = λ cells. unfolding_case cells s d c; closed = λ ys F. closed_over ys c F }
+
+-- by a rule of the judgement
+abbrev pub way_by_rule : Sequent → Judgement → SpecRule → Way
+way_by_rule s j r = record { case = judgement_unfolding s j r; closed = exists_all }
+
 -- THE WAYS, in order
 abbrev pub ways_of : Sequent → Subject → List Way
-ways_of s (an_atom d) =
-    map (λ (c : Choice). record { case = λ cells. unfolding_case cells s d c; closed = λ ys F. closed_over ys c F }) (choices_of (goal_names s) d)
-ways_of s (a_judgement j rs) = map (λ (r : SpecRule). record { case = judgement_unfolding s j r; closed = exists_all }) rs
+ways_of s (an_atom d) = map (way_by_choice s d) (choices_of (goal_names s) d)
+ways_of s (a_judgement j rs) = map (way_by_rule s j) rs
 
 -- THE CONCLUSION THEN, under the answer
 abbrev pub conclusion_then : Case → (List Variable → Read → Read) → List (Cell (List ℕ)) → Substitution ℕ (List ℕ) → Read
