@@ -1,6 +1,6 @@
--- A DEFINED ATOM SPLITS A GOAL, and in each case its body is opened; or it can't, for one cause. Where names are few.
+-- A SUBJECT SPLITS A GOAL, and in each case its body is opened; or it can't, for one cause. Where names are few.
 use Rattle.std.specs.Prelude.{Contains}
-use Rattle.std.proofs.Common.{◌≡◌, ◌⊎◌, inl, inr, ℕ, suc, List, [], ◌∷◌, ◌++◌, map, Some, codes, refl, sym, ◌∙◌, ap, subst}
+use Rattle.std.proofs.Common.{◌≡◌, ◌⊎◌, inl, inr, ℕ, suc, List, [], ◌∷◌, ◌++◌, map, length, Some, codes, refl, sym, ◌∙◌, ap, subst}
 use Rattle.ab_term.specs.Terms.{Read}
 use Rattle.ab_term.specs.Variables.{Substitution, image}
 use Rattle.ab_term.specs.Sameness.{same_number}
@@ -14,8 +14,12 @@ use Rattle.ab_formulas.specs.Sequents.{Variable, Hypothesis, Sequent, assuming}
 use Rattle.ab_formulas.specs.NewNames.{Label, IsNamedFor}
 use Rattle.ab_theory.specs.Equations.{Naming, made, renaming, under}
 use Rattle.ab_theory.specs.Splits.{Case, CaseOver, Arises, Split, done, never, arises}
-use Rattle.ab_theory.specs.Atoms.{Defined, Choice, defined_atom, choices_of}
-use Rattle.ab_theory.specs.Analysis.{scope_of, raised_goal, case_of, cases_of}
+use Rattle.ab_theory.specs.Atoms.{Defined, Choice, choices_of}
+use Rattle.ab_theory.specs.Analysis.{scope_of, raised_goal, case_of}
+use Rattle.ab_theory.specs.Judgements.{Judgement}
+use Rattle.ab_theory.specs.SpecRules.{SpecRule, demand_of}
+use Rattle.ab_theory.specs.JudgementCases.{judgement_case}
+use Rattle.ab_theory.specs.Subjects.{Subject, an_atom, a_judgement, subject_of, sign_of, cases_by}
 use Rattle.ab_formulas.specs.Sequents.{goal_names}
 use Rattle.ab_meaning.specs.Refusals.{Refusal, mark, not_pattern, names_spent}
 use Rattle.ab_effects.specs.CaseAnalysis.{IsParted, IsUnparted, AllOpened, SomeNameless}
@@ -59,14 +63,22 @@ abbrev EndSo : List CaseOver → Type 0
 EndSo [] = Unit {0}
 EndSo (c ∷ cs) = ((cells : List (Cell (List ℕ))) → IsLast (c cells).goal) × EndSo cs
 
-cases_end : (goal rest : Sequent) (name : List ℕ) (d : Defined) (chs : List Choice) → EndSo (map (case_of goal rest name d) chs)
-cases_end goal rest name d [] = tt
-cases_end goal rest name d (c ∷ chs) = (
+choices_end : (goal rest : Sequent) (name : List ℕ) (d : Defined) (chs : List Choice) → EndSo (map (case_of goal rest name d) chs)
+choices_end goal rest name d [] = tt
+choices_end goal rest name d (c ∷ chs) = (
   λ cells.
       let alt = alternative (codes "x") (scope_of cells goal) d.arguments c.clause c.names on_left in
       (name, marked_in d.block.predicates (mark_below d.sign) alt.body, raised_goal alt rest, refl),
-  cases_end goal rest name d chs,
+  choices_end goal rest name d chs,
 )
+
+rules_end : (goal rest : Sequent) (name : List ℕ) (j : Judgement) (rs : List SpecRule) → EndSo (map (judgement_case goal rest name j) rs)
+rules_end goal rest name j [] = tt
+rules_end goal rest name j (r ∷ rs) = (λ cells. (name, (demand_of (length cells) (mark_below j.sign) j r).body, rest, refl), rules_end goal rest name j rs)
+
+cases_end : (goal rest : Sequent) (name : List ℕ) (x : Subject) → EndSo (cases_by goal rest name x)
+cases_end goal rest name (an_atom d) = choices_end goal rest name d (choices_of (goal_names goal) d)
+cases_end goal rest name (a_judgement j rs) = rules_end goal rest name j rs
 
 last_there : (IsName : Naming) (c : Case) (after : List (Cell (List ℕ))) (g : Sequent) → Arises IsName c after g → IsLast c.goal → IsLast g
 last_there IsName c after g a last = (
@@ -100,24 +112,24 @@ module _ (D : Declarations) where
       ])
 
   -- the split, with what its goals end in
-  parted_there : (goal rest : Sequent) (d : Defined) → HasRoomToSplit D goal rest d → NumbersDiffer goal.variables → IsCertain (((gs : List Sequent) × IsParted D goal rest d gs) ⊎ ((f : Refusal) × IsUnparted D goal rest d f))
-  parted_there goal rest d room differ =
+  parted_there : (goal rest : Sequent) (x : Subject) → HasRoomToSplit D goal rest x → NumbersDiffer goal.variables → IsCertain (((gs : List Sequent) × IsParted D goal rest x gs) ⊎ ((f : Refusal) × IsUnparted D goal rest x f))
+  parted_there goal rest x room differ =
       let cells = places_of goal in
       let are = are_places goal differ in
-      and_also (split_there (IsNamedFor D) (λ n s. HasRoom D s n) (finds_name D) (room_left D) cells (cases_of goal rest [] d) (all_room D goal rest [] d room.cases))
+      and_also (split_there (IsNamedFor D) (λ n s. HasRoom D s n) (finds_name D) (room_left D) cells (cases_by goal rest [] x) (all_room D goal rest [] x room.cases))
       (λ s. elim s [ inl gs ↦ inl (gs.0, (cells, are, [], gs.1)) | inr i ↦ inr (not_pattern (suc i.0), (cells, are, [], i.0, i.1, refl)) ])
 
-  parted_last : (goal rest : Sequent) (d : Defined) (gs : List Sequent) → IsParted D goal rest d gs → AllLast gs
-  parted_last goal rest d gs p = all_last p.3 (cases_end goal rest p.2 d (choices_of (goal_names goal) d))
+  parted_last : (goal rest : Sequent) (x : Subject) (gs : List Sequent) → IsParted D goal rest x gs → AllLast gs
+  parted_last goal rest x gs p = all_last p.3 (cases_end goal rest p.2 x)
 
-  analysing_there : (F : Read) (l : Label) (goal rest : Sequent) → ((d : Defined) → defined_atom D F ≡ Some d → HasRoomToSplit D goal rest d) → NumbersDiffer goal.variables → HasAnswers (row.analysing D F l goal rest)
+  analysing_there : (F : Read) (l : Label) (goal rest : Sequent) → ((x : Subject) → subject_of D F ≡ Some x → HasRoomToSplit D goal rest x) → NumbersDiffer goal.variables → HasAnswers (row.analysing D F l goal rest)
   analysing_there F l goal rest room differ =
-      λ d e. (
-        there_or_refused (MayBeAnalysed d.sign) mark,
+      λ x e. (
+        there_or_refused (MayBeAnalysed (sign_of x)) mark,
         λ u may. (
-          parted_there goal rest d (room d e) differ,
+          parted_there goal rest x (room x e) differ,
           λ gs p. (
-            and_also (all_opened l gs (parted_last goal rest d gs p) (λ name G t c. (room d e).bodies gs name G t p c)) (λ o. elim o [ inl us ↦ inl us | inr nameless ↦ inr (names_spent, (nameless, refl)) ]),
+            and_also (all_opened l gs (parted_last goal rest x gs p) (λ name G t c. (room x e).bodies gs name G t p c)) (λ o. elim o [ inl us ↦ inl us | inr nameless ↦ inr (names_spent, (nameless, refl)) ]),
             λ us o. tt,
           ),
         ),

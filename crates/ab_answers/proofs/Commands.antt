@@ -1,6 +1,7 @@
 -- EACH PROOF COMMAND LEADS OR IS REFUSED, where it finds names.
 use Rattle.std.specs.Prelude.{All, Bool, true, false, ◌||◌, if◌then◌else◌, nat_lt}
 use Rattle.std.proofs.Common.{◌≡◌, ◌⊎◌, inl, inr, ℕ, zero, suc, List, [], ◌∷◌, ◌++◌, map, ◌+◌, ◌<◌, ◌^◌, None, Some, codes, refl, sym, ◌∙◌, ap, subst, arith, length, length-append, ◌≤◌, decimal}
+use Rattle.ab_term.specs.Types.{olist}
 use Rattle.ab_term.specs.Terms.{Nominal, Read}
 use Rattle.ab_term.specs.Names.{support}
 use Rattle.ab_grammar.specs.CommandTrees as command
@@ -13,6 +14,9 @@ use Rattle.ab_formulas.specs.Marks.{Sign, plain, star_of, plus_of, MarksServeIn}
 use Rattle.ab_formulas.specs.NewNames.{Label, auto, given}
 use Rattle.ab_formulas.specs.Sequents.{Sequent, IsUsed, proving, assuming, without, goal_names}
 use Rattle.ab_theory.specs.Conjuncts.{conjuncts}
+use Rattle.ab_theory.specs.Contexts.{replace_constants}
+use Rattle.ab_theory.specs.Judgements.{marked_judgement}
+use Rattle.ab_theory.specs.Subjects.{sign_of}
 use Rattle.ab_theory.specs.Induction.{inductive_at, coinductive_in, inductive_signs, coinductive_signs, marked_antecedents, marked_consequents}
 use Rattle.ab_theory.proofs.PartSigns.{first_and_rest}
 use Rattle.ab_theory.specs.Levels.{next_level, inductive_level, coinductive_level}
@@ -23,7 +27,7 @@ use Rattle.ab_meaning.specs.Refusals.{Refusal, wrong_shape, mark, names_spent, t
 use Rattle.ab_effects.specs.Introductions as introductions
 use Rattle.ab_effects.specs.Row.{Row, leads, unless, makes}
 use Rattle.ab_effects.specs.FormulaUses.{scope_with, given_that, given_twice, using, formulas_in, OpenedBeside, NamelessBeside}
-use Rattle.ab_effects.specs.ProofCommands.{effect, numbered, IsNamedBy, hypotheses_named, reading_each, giving, marked_so, left_to_show, repeated}
+use Rattle.ab_effects.specs.ProofCommands.{effect, numbered, IsNamedBy, hypotheses_named, reading_each, reading_for, giving, naming, marked_so, left_to_show, repeated}
 use Rattle.ab_existence.specs.Certainty.{IsCertain}
 use Rattle.ab_answers.specs.FindsNames.{HasRoomToOpen, FindsNames}
 use Rattle.ab_existence.proofs.Certain.{sure, and_so, and_also, least}
@@ -84,6 +88,11 @@ module _ (D : Declarations) where
         meaning_there D (scope_with D s names) i.term A,
         λ t m. each_read s (names ++ support t) ps is (λ gs. k (record { name = i.name; type = A; value = t } ∷ gs)) (λ gs. h (record { name = i.name; type = A; value = t } ∷ gs)),
       )
+
+  each_read_for : (s : Sequent) (known names : List Nominal) (is : List Instance) (k : List (Nominal × Read) → Row) → ((rs : List (Nominal × Read)) → HasAnswers (k rs)) → HasAnswers (reading_for D s known names is k)
+  each_read_for s known names [] k h = h []
+  each_read_for s known names (i ∷ is) k h =
+      λ a e. (meaning_there D (scope_with D s known) i.term a.type, λ t m. each_read_for s (known ++ support t) names is (λ rs. k ((a, t) ∷ rs)) (λ rs. h ((a, t) ∷ rs)))
 
   abbrev after_giving : List Instance → Bool → (List Given → Row) → List Given → Row
   after_giving is too_many k gs = unless (if given_twice is || too_many then Some wrong_shape else None) (k gs)
@@ -166,12 +175,15 @@ module _ (D : Declarations) where
         there_or_refused (MarksServeIn s.conclusion (behind (antecedent_count F) F)) mark,
         λ u serve. (sure (use_there (using s gs (pieces (antecedent_count F) F) (record { hypotheses = repeated (antecedent_count F); conclusion = Some s.conclusion }) F) differ), λ K used. tt),
       ))
-  has_answers l (command.cut H K) s room differ = tt
-  has_answers l (command.inst H is) s room differ = tt
-  has_answers l (command.monotone H e) s room differ = tt
+  has_answers l (command.cut H K) s room differ = λ F e G f p i q j L c. (name_there l s, λ n o. tt)
+  has_answers l (command.inst H is) s room differ =
+      λ F e p i.
+      let names = support (marked_judgement plain p.0 p.1) in
+      each_read_for s [] names is (λ rs. naming l s (λ name t. leads (assuming name (replace_constants rs (marked_judgement plain p.0 p.1)) t ∷ []))) (λ rs. (name_there l s, λ n o. tt))
+  has_answers l (command.monotone H e) s room differ = (meaning_there D (scope_of D s) e olist, λ K m F f p i. (name_there l s, λ n o. tt))
   has_answers l (command.search n) s room differ = tt
   has_answers l command.skip s room differ = tt
-  has_answers l command.unfold_goal s room differ = λ d e. (there_or_refused (MayBeUnfolded d.sign) mark, λ u may. (sure (unfolding_there s d differ), λ t i. tt))
+  has_answers l command.unfold_goal s room differ = λ x e. (there_or_refused (MayBeUnfolded (sign_of x)) mark, λ u may. (sure (unfolding_there s x differ), λ t i. tt))
   has_answers l (command.permute ns None) s room differ = (there_or_refused (MayCycle ns (goal_names s)) (type_clash 0), λ u may. λ A e. tt)
   has_answers l (command.permute ns (Some H)) s room differ = (there_or_refused (MayCycle ns (goal_names s)) (type_clash 0), λ u may. λ F e. λ A is. tt)
 

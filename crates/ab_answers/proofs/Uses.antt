@@ -8,11 +8,10 @@ use Rattle.ab_term.specs.Sameness.{same_number}
 use Rattle.ab_unifiers.specs.Replacements.{Cell}
 use Rattle.ab_unifiers.specs.Unification.{Answer, unified, apart, stuck, Solves}
 use Rattle.ab_unifiers.proofs.Ending.{answered}
-use Rattle.ab_formulas.specs.Sequents.{Variable, Sequent, goal_names, proving}
+use Rattle.ab_formulas.specs.Sequents.{Variable, Sequent, proving}
 use Rattle.ab_theory.specs.Equations.{made}
 use Rattle.ab_theory.specs.Splits.{Case, problem_of, NeverArises}
-use Rattle.ab_theory.specs.Atoms.{Defined, Choice, choices_of}
-use Rattle.ab_theory.specs.Unfolding.{unfolding_case}
+use Rattle.ab_theory.specs.Subjects.{Subject, Way, ways_of, conclusion_then}
 use Rattle.ab_theory.specs.Uses.{choices_for}
 use Rattle.ab_theory.specs.UseAnswers.{Using, case_by, standing_in, IsUsedFor}
 use Rattle.ab_meaning.specs.Refusals.{Refusal, no_match, not_pattern, unresolved}
@@ -84,34 +83,38 @@ use_there u differ = by_first (first (case_by (places_of u.goal) u) (choices_for
 
 -- AN UNFOLDING
 
-abbrev pub UnfoldedOrNot : Sequent → Defined → Type 0
-UnfoldedOrNot s d = ((t : Sequent) × IsUnfolded s d t) ⊎ ((f : Refusal) × IsNotUnfolded s d f)
+abbrev case_there : Sequent → Way → Case
+case_there s w = w.case (places_of s)
 
-pub unfolding_there : (s : Sequent) (d : Defined) → NumbersDiffer s.variables → UnfoldedOrNot s d
-unfolding_there s d differ = by_first (first (unfolding_case (places_of s) s d) (choices_of (goal_names s) d))
+abbrev pub UnfoldedOrNot : Sequent → Subject → Type 0
+UnfoldedOrNot s x = ((t : Sequent) × IsUnfolded s x t) ⊎ ((f : Refusal) × IsNotUnfolded s x f)
+
+pub unfolding_there : (s : Sequent) (x : Subject) → NumbersDiffer s.variables → UnfoldedOrNot s x
+unfolding_there s x differ = by_first (first (case_there s) (ways_of s x))
   where
-    left_by : (c : Choice) (more : List (Cell (List ℕ))) (answer : Substitution ℕ (List ℕ)) → IsFirst (unfolding_case (places_of s) s d) (choices_of (goal_names s) d) (unified more answer) c
-        → (ys : List Variable) → ys ≡ made (places_of s) more answer → UnfoldedOrNot s d
-    left_by c more answer is [] none_left =
+    left_by : (w : Way) (more : List (Cell (List ℕ))) (answer : Substitution ℕ (List ℕ)) → IsFirst (case_there s) (ways_of s x) (unified more answer) w
+        → (ys : List Variable) → ys ≡ made (case_there s w).before more answer → UnfoldedOrNot s x
+    left_by w more answer is [] none_left =
         inl (
-          proving (image same_number answer (unfolding_case (places_of s) s d c).goal.conclusion) s,
+          proving (conclusion_then (case_there s w) w.closed more answer) s,
           record {
             cells = places_of s;
             are_cells = are_places s differ;
-            choice = c;
+            way = w;
             first = (is.before, is.after, is.list, is.never);
+            more = more;
             answer = answer;
-            matched = (more, is.solved, none_left);
+            matched = (is.solved, none_left);
             goal = refl;
           },
         )
-    left_by c more answer is (y ∷ ys) some_left =
+    left_by w more answer is (y ∷ ys) some_left =
         inr (
           unresolved y.name,
-          inr (inr (y.name, (places_of s, are_places s differ, c, (is.before, is.after, is.list, is.never), answer, y, ys, (more, is.solved, some_left), refl), refl)),
+          inr (inr (y.name, (places_of s, are_places s differ, w, (is.before, is.after, is.list, is.never), more, answer, y, ys, (is.solved, some_left), refl), refl)),
         )
 
-    by_first : First (unfolding_case (places_of s) s d) (choices_of (goal_names s) d) → UnfoldedOrNot s d
+    by_first : First (case_there s) (ways_of s x) → UnfoldedOrNot s x
     by_first (all_apart never) = inr (no_match, inl ((places_of s, are_places s differ, never), refl))
-    by_first (is_unified c more answer is) = left_by c more answer is (made (places_of s) more answer) refl
-    by_first (is_stuck c i is) = inr (not_pattern (suc i), inr (inl (i, (places_of s, are_places s differ, c, (is.before, is.after, is.list, is.never), is.solved), refl)))
+    by_first (is_unified w more answer is) = left_by w more answer is (made (case_there s w).before more answer) refl
+    by_first (is_stuck w i is) = inr (not_pattern (suc i), inr (inl (i, (places_of s, are_places s differ, w, (is.before, is.after, is.list, is.never), is.solved), refl)))

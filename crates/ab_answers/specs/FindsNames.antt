@@ -8,7 +8,7 @@ use Rattle.ab_formulas.specs.Declarations.{Declarations}
 use Rattle.ab_formulas.specs.Forms.{Form, truth, falsity, both, either, implies, equal, for_all, exists, nabla, marked, other, form_of}
 use Rattle.ab_formulas.specs.Marks.{Sign}
 use Rattle.ab_formulas.specs.Sequents.{Sequent, formula_of, assuming, without}
-use Rattle.ab_theory.specs.Atoms.{Defined, defined_atom}
+use Rattle.ab_theory.specs.Subjects.{Subject, subject_of}
 use Rattle.ab_theory.specs.Conjuncts.{conjuncts}
 use Rattle.ab_theory.specs.Induction.{inductive_signs, coinductive_signs}
 use Rattle.ab_theory.specs.Pieces.{Given, pieces}
@@ -22,10 +22,10 @@ use Rattle.ab_answers.specs.Skeletons.{skeleton}
 abbrev pub HasRoomToOpen : Declarations → Read → Sequent → Type 0
 HasRoomToOpen D F s = HasRoom D s (skeleton F)
 
--- as many as splitting the goal by the atom makes, and then opening what is assumed in each case
-pub record HasRoomToSplit (D : Declarations) (goal rest : Sequent) (d : Defined) : Type 0 where
-  pub cases : HasRoomInCases D goal rest [] d
-  pub bodies : (gs : List Sequent) (name : List ℕ) (F : Read) (t : Sequent) → IsParted D goal rest d gs → Contains gs (assuming name F t) → HasRoomToOpen D F t
+-- as many as splitting the goal by the subject makes, and then opening what is assumed in each case
+pub record HasRoomToSplit (D : Declarations) (goal rest : Sequent) (x : Subject) : Type 0 where
+  pub cases : HasRoomInCases D goal rest [] x
+  pub bodies : (gs : List Sequent) (name : List ℕ) (F : Read) (t : Sequent) → IsParted D goal rest x gs → Contains gs (assuming name F t) → HasRoomToOpen D F t
 
 -- as many as case analysis of a formula of that form makes in the goal, of which the last is what stays
 abbrev pub HasRoomForCases : Declarations → Form → Read → Sequent → Sequent → Type 0
@@ -35,8 +35,8 @@ HasRoomForCases D (exists A t) F goal rest = HasRoomToOpen D F rest
 HasRoomForCases D (nabla A t) F goal rest = HasRoomToOpen D F rest
 HasRoomForCases D (either A B) F goal rest = HasRoomToOpen D A rest × HasRoomToOpen D B rest
 HasRoomForCases D (equal A t u) F goal rest = HasRoomToSolve D rest t u
-HasRoomForCases D (marked m t) F goal rest = (d : Defined) → defined_atom D F ≡ Some d → HasRoomToSplit D goal rest d
-HasRoomForCases D other F goal rest = (d : Defined) → defined_atom D F ≡ Some d → HasRoomToSplit D goal rest d
+HasRoomForCases D (marked m t) F goal rest = (x : Subject) → subject_of D F ≡ Some x → HasRoomToSplit D goal rest x
+HasRoomForCases D other F goal rest = (x : Subject) → subject_of D F ≡ Some x → HasRoomToSplit D goal rest x
 HasRoomForCases D falsity F goal rest = Unit {0}
 HasRoomForCases D (implies A B) F goal rest = Unit {0}
 HasRoomForCases D (for_all A t) F goal rest = Unit {0}

@@ -1,35 +1,35 @@
 -- A goal that can be closed outright can be, whatever the numbers of its variables.
-use Rattle.std.specs.Prelude.{slice_get}
-use Rattle.std.proofs.Common.{◌≡◌, ℕ, List, map, Some, option_map, refl, sym, ◌∙◌, ap, subst}
-use Rattle.std.proofs.lemmas.List.Elements.{All-weaker}
-use Rattle.ab_unifiers.specs.Clauses.{IsClause}
+use Rattle.std.proofs.Common.{◌≡◌, ℕ, List, [], Some, option_map, refl, sym, ◌∙◌, ap, subst}
+use Rattle.ab_unifiers.specs.Member.{HasMember}
 use Rattle.ab_term.specs.Variables.{image}
 use Rattle.ab_term.specs.Sameness.{same_number}
-use Rattle.ab_term.specs.Terms.{Head, constant, logical, nominal, variable, index, lam, spine, Terms, no_terms, term, Read}
+use Rattle.ab_term.specs.Terms.{Head, lam, spine, Terms, no_terms, term, Read}
 use Rattle.ab_term.specs.Names.{EqualUpToNames, permute, moved_by}
-use Rattle.ab_term.specs.Translation.{translate_head, translate, translate_all, forget, forget_all, EqualPastHints}
+use Rattle.ab_term.specs.Translation.{translate_head, translate_all, forget}
 use Rattle.ab_term.proofs.Lists.{Contains-map}
 use Rattle.ab_term.proofs.Translations.{translate-rename}
-use Rattle.ab_formulas.specs.Declarations.{Declarations, IsDefining, HaveDefinitions, HaveSentences, signature_in}
+use Rattle.ab_formulas.specs.Declarations.{Declarations, HaveDefinitions, HaveSentences, signature_in}
+use Rattle.ab_formulas.specs.Programs.{HavePrograms}
 use Rattle.ab_formulas.specs.Forms.{both, either, form_of, both_in, either_in}
 use Rattle.ab_formulas.specs.Marks.{Making, by_head, by_scope, by_parts, by_mark, making_of, marks_of, MarksServe, unmarked, erased, erased_all}
 use Rattle.ab_formulas.specs.Sequents.{Sequent, IsSequent, goal_names, proving}
-use Rattle.ab_formulas.specs.NamedGoals.{name_in, variable_named, with_names, named}
-use Rattle.ab_theory.specs.Equations.{made}
+use Rattle.ab_formulas.specs.NamedGoals.{name_in, with_names, named}
 use Rattle.ab_theory.specs.Atoms.{defined_atom, choices_of}
 use Rattle.ab_theory.specs.Unfolding.{unfolding_case}
-use Rattle.ab_effects.specs.Likeness.{IsSameAtom}
+use Rattle.ab_theory.specs.Subjects.{an_atom, way_by_choice}
+use Rattle.ab_theory.proofs.SubjectParts.{atom_subject, made_there, made_of}
+use Rattle.ab_effects.specs.Likeness.{IsSameSubject, HasItsOutcome}
 use Rattle.ab_effects.proofs.Following.{moved_atom}
-use Rattle.ab_effects.proofs.Splitting.{choices_meet}
-use Rattle.ab_effects.proofs.Unfolding.{answered_also}
+use Rattle.ab_effects.proofs.MovedSubjects.{atom_moved}
+use Rattle.ab_effects.proofs.Unfolding.{at_place}
 use Rattle.ab_theory.proofs.RulesParts.{MayStand, both_may, either_may}
 use Rattle.ab_theory.proofs.Sequents.{goal_of, proving_goal, sequent_from}
-use Rattle.ab_theory.proofs.Sized.{atom_of, atom_over}
 use Rattle.ab_effects.specs.Search.{Closes, Unfolds, CanBeClosed, by_truth, by_hypothesis, by_equality, by_both, by_left, by_right, by_unfolding}
-use Rattle.ab_search.proofs.Unfoldings.{there_contained, none_named, unfolded_sequent}
+use Rattle.ab_search.proofs.Unfoldings.{none_named, unfolded_sequent}
 use Rattle.ab_determinism.proofs.Renumbered.{renumber, renumber_hypothesis, renumbered, renumbering}
 use Rattle.ab_determinism.proofs.Retold.{form_told, form_retold, KeepsNames, formula_named, goal_named}
-use Rattle.ab_determinism.proofs.Remarked.{making_told, marks_told, atom_told}
+use Rattle.ab_determinism.proofs.Remarked.{making_told, marks_told}
+use Rattle.ab_determinism.proofs.Judged.{past_told}
 use Rattle.ab_determinism.proofs.Places.{places_of, are_places}
 
 module _ (f : ℕ → ℕ) where
@@ -55,30 +55,8 @@ module _ (f : ℕ → ℕ) where
     all_erased_told no_terms = refl
     all_erased_told (term t ts) = ap (λ u. term u (erased_all (all ts))) (erased_told t) ∙ ap (term (renumber f (erased t))) (all_erased_told ts)
 
-  -- TERMS PAST THEIR HINTS
-
-  forget_head_told : (h : Head ℕ) → translate_head (λ v. v) (translate_head f h) ≡ translate_head f (translate_head (λ v. v) h)
-  forget_head_told (constant c) = refl
-  forget_head_told (logical l) = refl
-  forget_head_told (nominal a) = refl
-  forget_head_told (variable x) = refl
-  forget_head_told (index i) = refl
-
-  mutual
-    forget_told : (t : Read) → forget (renumber f t) ≡ translate f (λ h. h) (forget t)
-    forget_told (lam A x t) = ap (lam A tt) (forget_told t)
-    forget_told (spine h ts) =
-        ap (λ k. spine k (forget_all (all ts))) (forget_head_told h) ∙ ap (spine (translate_head f (translate_head (λ v. v) h))) (forget_all_told ts)
-
-    forget_all_told : (ts : Terms ℕ (List ℕ)) → forget_all (all ts) ≡ translate_all f (λ h. h) (forget_all ts)
-    forget_all_told no_terms = refl
-    forget_all_told (term t ts) = ap (λ u. term u (forget_all (all ts))) (forget_told t) ∙ ap (term (translate f (λ h. h) (forget t))) (forget_all_told ts)
-
-  past_told : (t u : Read) → EqualPastHints t u → EqualPastHints (renumber f t) (renumber f u)
-  past_told t u e = forget_told t ∙ ap (translate f (λ h. h)) e ∙ sym (forget_told u)
-
   equal_told : (t u : Read) → EqualUpToNames t u → EqualUpToNames (renumber f t) (renumber f u)
-  equal_told t u (ps, is, e) = (ps, is, ap forget (sym (translate-rename f (λ h. h) (moved_by ps) t)) ∙ past_told (permute ps t) u e)
+  equal_told t u (ps, is, e) = (ps, is, ap forget (sym (translate-rename f (λ h. h) (moved_by ps) t)) ∙ past_told f (permute ps t) u e)
 
   closes_told : (F C : Read) → Closes F C → Closes (renumber f F) (renumber f C)
   closes_told F C c = (
@@ -91,45 +69,50 @@ proving_named : (F G : Read) (s u : Sequent) → named s ≡ named u → with_na
 proving_named F G s u same formulas = λ i. record { variables = (same i).variables; hypotheses = (same i).hypotheses; conclusion = formulas i; counter = (same i).counter }
 
 -- what unfolds the conclusion of a goal unfolds that of the other one, to the same with names for numbers
-unfolds_told : (D : Declarations) → HaveSentences D → HaveDefinitions D → (f : ℕ → ℕ) (s : Sequent) → IsSequent D s → IsSequent D (renumbered f s) → KeepsNames f s.variables
+unfolds_told : (D : Declarations) → HaveDefinitions D → HavePrograms D → (f : ℕ → ℕ) (s : Sequent) → IsSequent D s → IsSequent D (renumbered f s) → KeepsNames f s.variables
     → (place : ℕ) (t : Sequent) → Unfolds D s place t → (v : Sequent) × Unfolds D (renumbered f s) place v × (named t ≡ named v)
-unfolds_told D sentences definitions f s is its names place t u =
+unfolds_told D definitions programs f s is its names place t u =
     let n = renumbered f s in
     let d = u.atom in
     let e = moved_atom f d in
     let goals = goal_named f s names in
-    let is_atom : defined_atom D n.conclusion ≡ Some e = atom_told f D s.conclusion ∙ ap (option_map (moved_atom f)) u.is_atom in
-    let first = atom_over D s.variables (goal_names s) s.conclusion d (goal_of D s is).conclusion u.is_atom in
-    let second = atom_over D n.variables (goal_names n) n.conclusion e (goal_of D n its).conclusion is_atom in
-    let same : IsSameAtom D s n d e = record {
+    let is_atom : defined_atom D n.conclusion ≡ Some e = atom_moved f D s.conclusion ∙ ap (option_map (moved_atom f)) u.is_atom in
+    let same : IsSameSubject D s n (an_atom d) (an_atom e) = record {
       first = is;
       second = its;
       goals = goals;
-      atoms = record { first = first.closed; second = second.closed; same = formula_named f s names (spine (constant d.predicate) d.arguments) };
-      signs = refl;
-      blocks = refl;
-      clauses = All-weaker (IsDefining (signature_in D)) (IsClause (signature_in D)) (λ c well. well.clause) d.block.clauses (definitions d.predicate d.block (atom_of D s.conclusion d u.is_atom).block);
+      formula = s.conclusion;
+      other = n.conclusion;
+      formulas = record { first = (goal_of D s is).conclusion.closed; second = (goal_of D n its).conclusion.closed; same = formula_named f s names s.conclusion };
+      subject = atom_subject D s.conclusion d u.is_atom;
+      also = atom_subject D n.conclusion e is_atom;
+      definitions = definitions;
+      programs = programs;
     } in
     let others = places_of n in
     let also = are_places n its.numbers_differ in
-    let w = answered_also D s n d e same u.cells others u.are_cells also u.choice (there_contained (choices_of (goal_names s) d) place u.choice u.there) u.more u.answer u.solved in
-    let body = image same_number w.answer (unfolding_case others n e u.choice).goal.conclusion in (
+    let there = made_there (way_by_choice s d) (choices_of (goal_names s) d) place u.choice u.there in
+    let v = at_place D s n (an_atom d) (an_atom e) same u.cells others u.are_cells also place (way_by_choice s d u.choice) there in
+    let k = made_of (way_by_choice n e) (choices_of (goal_names n) e) place v.0 v.1 in
+    let outcome = subst (HasItsOutcome s n u.cells others (way_by_choice s d u.choice)) (sym k.2) v.2 in
+    let w = outcome.matched u.more u.answer [] (u.solved, u.none_open) in
+    let body = image same_number w.1 (unfolding_case others n e k.0).goal.conclusion in (
       proving body n,
       record {
         atom = e;
         is_atom = is_atom;
         may = u.may;
-        choice = u.choice;
-        there = subst (λ cs. slice_get cs place ≡ Some u.choice) (choices_meet D s n d e same u.cells others u.are_cells also) u.there;
+        choice = k.0;
+        there = k.1;
         cells = others;
         are_cells = also;
-        more = w.most;
-        answer = w.answer;
-        solved = w.solved;
-        none_open = none_named (made others w.most w.answer) (ap (map variable_named) u.none_open ∙ w.made_same);
+        more = w.0;
+        answer = w.1;
+        solved = w.3.0;
+        none_open = none_named w.2 w.4 ∙ w.3.1;
         goal = refl;
       },
-      ap named u.goal ∙ proving_named (image same_number u.answer (unfolding_case u.cells s d u.choice).goal.conclusion) body s n goals w.conclusion,
+      ap named u.goal ∙ proving_named (image same_number u.answer (unfolding_case u.cells s d u.choice).goal.conclusion) body s n goals w.5,
     )
 
 -- a part of a conclusion
@@ -146,7 +129,7 @@ either_sequents D s is A B e =
     let m = either_may (signature_in D) s.variables (goal_names s) s.conclusion (A, B) (goal_of D s is).conclusion (ap either_in e) in
     (part_sequent D s is A m.0, part_sequent D s is B m.1)
 
-module _ (D : Declarations) (sentences : HaveSentences D) (definitions : HaveDefinitions D) where
+module _ (D : Declarations) (sentences : HaveSentences D) (definitions : HaveDefinitions D) (programs : HavePrograms D) (has : HasMember (signature_in D)) where
   closed_told : (f : ℕ → ℕ) (depth : ℕ) (s : Sequent) → IsSequent D s → IsSequent D (renumbered f s) → KeepsNames f s.variables → CanBeClosed D depth s → CanBeClosed D depth (renumbered f s)
   closed_told f depth s is its names (by_truth e) = by_truth (form_retold f s.conclusion ∙ ap (form_told f) e)
   closed_told f depth s is its names (by_hypothesis h there c) =
@@ -164,9 +147,9 @@ module _ (D : Declarations) (sentences : HaveSentences D) (definitions : HaveDef
       let also = form_retold f s.conclusion ∙ ap (form_told f) e in
       by_right also (closed_told f depth (proving B s) (either_sequents D s is A B e).1 (either_sequents D (renumbered f s) its (renumber f A) (renumber f B) also).1 names b)
   closed_told f depth s is its names (by_unfolding {depth = m} {t = t} place u c) =
-      let w = unfolds_told D sentences definitions f s is its names place t u in
-      let first = unfolded_sequent D sentences definitions s is place t u in
-      let second = unfolded_sequent D sentences definitions (renumbered f s) its place w.0 w.1 in
+      let w = unfolds_told D definitions programs f s is its names place t u in
+      let first = unfolded_sequent D sentences definitions programs has s is place t u in
+      let second = unfolded_sequent D sentences definitions programs has (renumbered f s) its place w.0 w.1 in
       let r = renumbering D t w.0 first second w.2 in
       by_unfolding place w.1
       (subst (CanBeClosed D m) (sym r.is)

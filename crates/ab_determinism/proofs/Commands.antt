@@ -1,29 +1,36 @@
 -- The rows of proof commands that open nothing are settled.
-use Rattle.std.specs.Prelude.{codes, All}
-use Rattle.std.proofs.Common.{◌≡◌, inl, inr, List, [], ◌∷◌, Some, None, ℕ, refl, sym, ◌∙◌, ap, subst}
-use Rattle.ab_term.specs.Types.{Ty, prop}
+use Rattle.std.specs.Prelude.{codes, All, Ok}
+use Rattle.std.proofs.Common.{◌≡◌, inl, inr, List, [], ◌∷◌, ◌++◌, map, Some, None, ℕ, refl, sym, ◌∙◌, ap, subst}
+use Rattle.ab_term.specs.Types.{Ty, prop, olist}
+use Rattle.ab_term.specs.Names.{support}
 use Rattle.ab_term.specs.Substitution.{instance}
-use Rattle.ab_term.specs.Terms.{Read}
+use Rattle.ab_term.specs.Terms.{Nominal, Read}
 use Rattle.ab_grammar.specs.Tree.{Tree}
-use Rattle.ab_grammar.specs.CommandTrees.{ProofCommand, intros, induction, coinduction, case, apply, backchain, cut, inst, monotone, search, skip, split, split_all, left, right, exists, unfold_goal, assert, clear, rename, permute}
+use Rattle.ab_grammar.specs.CommandTrees.{ProofCommand, Instance, intros, induction, coinduction, case, apply, backchain, cut, inst, monotone, search, skip, split, split_all, left, right, exists, unfold_goal, assert, clear, rename, permute}
 use Rattle.ab_formulas.specs.Declarations.{Declarations, signature_in}
 use Rattle.ab_formulas.specs.Formulas.{IsFormula}
 use Rattle.ab_formulas.specs.Marks.{plain, star_of, at_of, plus_of, hash_of}
-use Rattle.ab_formulas.specs.Sequents.{Sequent, IsUsed, proving, assuming}
+use Rattle.ab_formulas.specs.Sequents.{Sequent, IsUsed, formula_of, goal_names, proving, assuming}
 use Rattle.ab_formulas.specs.NewNames.{Label, auto, given, Names, NoName, IsLeast}
 use Rattle.ab_theory.specs.Conjuncts.{conjuncts, with_parts}
+use Rattle.ab_theory.specs.Contexts.{replace_constants, is_within}
+use Rattle.ab_theory.specs.Judgements.{as_unfocused, marked_judgement}
 use Rattle.ab_theory.specs.Induction.{marked_antecedents, marked_consequents}
 use Rattle.ab_theory.specs.Levels.{next_level, inductive_level, coinductive_level}
 use Rattle.ab_theory.proofs.OneAnswer.{least_once, names_once}
 use Rattle.ab_formulas.specs.NamedGoals.{named}
-use Rattle.ab_effects.specs.ProofCommands.{effect, reading, stating, naming, marked_so, numbered, IsNamedBy, hypotheses_named}
-use Rattle.ab_meaning.specs.Refusals.{Refusal}
-use Rattle.ab_effects.specs.Row.{Row, leads}
-use Rattle.ab_meaning.specs.Terms.{Asserts, AssertsNothing}
+use Rattle.ab_effects.specs.ProofCommands.{effect, reading, reading_for, stating, naming, marked_so, numbered, IsNamedBy, hypotheses_named}
+use Rattle.ab_meaning.specs.Refusals.{Refusal, no_hypothesis, wrong_shape}
+use Rattle.ab_meaning.specs.ResolvedNames.{Resolved}
+use Rattle.ab_meaning.specs.Scopes.{resolved}
+use Rattle.ab_effects.specs.Row.{Row, leads, finds}
+use Rattle.ab_effects.specs.FormulaUses.{scope_with}
+use Rattle.ab_meaning.specs.Terms.{kinds_in, entry_of, Asserts, AssertsNothing}
+use Rattle.ab_infer.proofs.MeaningNames.{FreeAreNominal, free_are_nominal}
 use Rattle.ab_determinism.specs.OpeningCommands.{OpensNothing}
 use Rattle.ab_determinism.proofs.Settled.{Settled}
 use Rattle.ab_determinism.proofs.Namings.{used_also}
-use Rattle.ab_determinism.proofs.OneReading.{means_or_not, one_meaning, one_cause}
+use Rattle.ab_determinism.proofs.OneReading.{means_or_not, one_meaning, one_cause, means_or_not_in, one_meaning_in, one_cause_in}
 
 pub never_named : (l : Label) (s : Sequent) (x : List ℕ) (t : Sequent) → Names l s x t → NoName l s → ⊥
 never_named auto s x t a none = none a.0 a.1.has
@@ -31,6 +38,18 @@ never_named (given z) s x t a used = a.0 used
 
 reading_settled : (D : Declarations) (s : Sequent) (e : Tree) (A : Ty) (k : Read → Row) → ((t : Read) → Settled (k t)) → Settled (reading D s e A k)
 reading_settled D s e A k rest = (means_or_not D s e A, one_cause D s e A, one_meaning D s e A, rest)
+
+-- terms are read one after another for constants
+readings_settled : (D : Declarations) (s : Sequent) (known names : List Nominal) (es : List Instance) (k : List (Nominal × Read) → Row) → ((rs : List (Nominal × Read)) → Settled (k rs)) → Settled (reading_for D s known names es k)
+readings_settled D s known names [] k rest = rest []
+readings_settled D s known names (e ∷ es) k rest = λ a.
+    let scope = scope_with D s known in
+    let nominal : (r : Resolved) → resolved scope [] e.term ≡ Ok r → FreeAreNominal r = λ r x. free_are_nominal (kinds_in D) (signature_in D) (map entry_of s.variables) (goal_names s ++ known) e.term r x in (
+      means_or_not_in D scope e.term a.type nominal,
+      one_cause_in D scope e.term a.type nominal,
+      one_meaning_in D scope e.term a.type nominal,
+      λ t. readings_settled D s (known ++ support t) names es (λ rs. k ((a, t) ∷ rs)) (λ rs. rest ((a, t) ∷ rs)),
+    )
 
 module _ (D : Declarations) (s : Sequent) (e : Tree) where
   states_or_not : (F : Read) (f : Refusal) → Asserts D s e F → AssertsNothing D s e f → ⊥
@@ -106,9 +125,16 @@ settled D l coinduction s so = λ ms.
     (hypotheses_settled (codes "CH") (marked_consequents (plus_of i) Fs) l s last (λ t. tt))
 settled D l (apply H vs is) s no_opening = absurd no_opening
 settled D l (backchain H is) s no_opening = absurd no_opening
-settled D l (cut H K) s so = tt
-settled D l (inst H is) s so = tt
-settled D l (monotone H e) s so = tt
+settled D l (cut H K) s so = λ F G p q L.
+    naming_settled l s (λ name t. leads (assuming name (marked_judgement plain L p.1) t ∷ [])) (λ x t. tt)
+settled D l (inst H is) s so = λ F p.
+    let G = marked_judgement plain p.0 p.1 in
+    let last : List (Nominal × Read) → Row = λ rs. naming l s (λ name t. leads (assuming name (replace_constants rs G) t ∷ [])) in
+    readings_settled D s [] (support G) is last (λ rs. naming_settled l s (λ name t. leads (assuming name (replace_constants rs G) t ∷ [])) (λ x t. tt))
+settled D l (monotone H e) s so =
+    let last : Read → Read × Read → Row = λ K p. naming l s (λ name t. leads (proving (is_within p.0 K) s ∷ assuming name (marked_judgement plain K p.1) t ∷ [])) in
+    reading_settled D s e olist (λ K. finds (no_hypothesis H) (formula_of s H) (λ F. finds wrong_shape (as_unfocused F) (λ p. last K p)))
+    (λ K F p. naming_settled l s (λ name t. leads (proving (is_within p.0 K) s ∷ assuming name (marked_judgement plain K p.1) t ∷ [])) (λ x t. tt))
 settled D l (search n) s so = tt
 settled D l skip s so = tt
 settled D l unfold_goal s no_opening = absurd no_opening

@@ -29,14 +29,14 @@ use Rattle.ab_states.specs.ProofCommandEffects.{Makes, Denies}
 use Rattle.ab_states.specs.ForwardEffects.{Commands, Faces, beginning, left_with, assumed_after, concluding, told_of, GoesForward, unread, declined, declared, specified, item_declined, specified_twice, stated, showed, ended, switched, given_up, denied, led, proved}
 use Rattle.ab_states.specs.Replay.{Replays, none, next}
 use Rattle.ab_determinism.specs.Sound.{AreSound, IsSound}
-use Rattle.ab_determinism.proofs.Sound.{has_lists, sound_forward}
+use Rattle.ab_determinism.proofs.Sound.{has_lists, has_member, sound_forward}
 use Rattle.ab_determinism.proofs.Closing.{closed_also}
 use Rattle.ab_determinism.proofs.Declaring.{one_statement, one_declaring, one_declining, declares_or_not, states_or_not, shows_or_not}
 
 -- A PROOF COMMAND at two sequents that are one goal with names for numbers
 module _ (D : Declarations) (sound : AreSound D) (l : Label) (s u : Sequent) (is : IsSequent D s) (its : IsSequent D u) (same : named s ≡ named u) where
   both_once : (c : ProofCommand) → AreOnce (effect D l c s) (effect D l c u)
-  both_once c = once D (has_lists D sound) sound.sentences sound.definitions s u is its same l c
+  both_once c = once D (has_lists D sound) sound.sentences sound.definitions sound.programs (has_member D sound) s u is its same l c
 
   one_making : (c : ProofCommand) → (ps qs : List Sequent) → Makes D l c s ps → Makes D l c u qs → map named ps ≡ map named qs
   one_making (search n) ps qs a b = ap (map named) (a.1 ∙ sym b.1)
@@ -53,7 +53,7 @@ module _ (D : Declarations) (sound : AreSound D) (l : Label) (s u : Sequent) (is
   one_owing c = refl
 
   makes_or_denies : (c : ProofCommand) → (ps : List Sequent) (r : Refusal) → Makes D l c s ps → Denies D l c u r → ⊥
-  makes_or_denies (search n) ps r a b = b.0 (closed_also D sound.sentences sound.definitions n s u is its same a.0)
+  makes_or_denies (search n) ps r a b = b.0 (closed_also D sound.sentences sound.definitions sound.programs (has_member D sound) n s u is its same a.0)
   makes_or_denies c ps r a b = (both_once c).apart ps b.cause a b.refuses
 
 -- WHAT A COMMAND DOES, by what it says, where what was declared is sound

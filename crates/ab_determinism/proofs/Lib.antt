@@ -35,9 +35,11 @@ mod Clauses
 mod Definitions
 mod Defining
 mod Places
+mod Judged
 mod Closing
 mod Declaring
 mod Statements
+mod Programs
 pub mod Sound
 pub mod Effects
 pub mod Taking

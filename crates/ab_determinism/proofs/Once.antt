@@ -1,45 +1,55 @@
 -- Each row of a proof command has one answer, with names for the numbers of variables: in goals that are one with names for
 -- numbers, and so in one goal.
-use Rattle.std.specs.Prelude.{codes, All}
-use Rattle.std.proofs.Common.{◌≡◌, ℕ, List, [], ◌∷◌, map, Bool, true, false, Option, Some, None, option_map, refl, sym, ◌∙◌, ap, subst}
-use Rattle.std.proofs.lemmas.List.Elements.{All-nil, All-cons, All-weaker}
-use Rattle.ab_term.specs.Types.{Ty, prop}
-use Rattle.ab_term.specs.Terms.{Nominal, constant, spine, Read}
-use Rattle.ab_term.specs.Names as tree
-use Rattle.ab_term.specs.Names.{HasOneTypeEach, moved_by}
+use Rattle.std.specs.Prelude.{codes, All, Contains, if◌then◌else◌}
+use Rattle.std.proofs.Common.{◌≡◌, ℕ, List, [], ◌∷◌, ◌++◌, map, Bool, true, false, Option, Some, None, option_map, refl, sym, ◌∙◌, ap, subst}
+use Rattle.std.proofs.lemmas.List.Elements.{All-nil, All-cons, All-contains}
+use Rattle.ab_term.specs.Types.{Ty, prop, olist}
+use Rattle.ab_term.specs.Terms as tree
+use Rattle.ab_term.specs.Terms.{Nominal, Read}
+use Rattle.ab_term.specs.Names as constant
+use Rattle.ab_term.specs.Names.{HasOneTypeEach, moved_by, support}
+use Rattle.ab_term.specs.Variables.{variables}
+use Rattle.ab_term.proofs.Lists.{All-from_contains}
 use Rattle.ab_term.specs.Substitution.{instance}
-use Rattle.ab_term.proofs.Translations.{map-append, translate-instance, translate-rename}
+use Rattle.ab_term.proofs.Translations.{map-append, support-translate, translate-instance, translate-rename}
 use Rattle.ab_grammar.specs.Tree.{Tree}
-use Rattle.ab_grammar.specs.CommandTrees.{ProofCommand, intros, induction, coinduction, case, apply, backchain, cut, inst, monotone, search, skip, split, split_all, left, right, exists, unfold_goal, assert, clear, rename, permute}
-use Rattle.ab_unifiers.specs.Clauses.{IsClause}
-use Rattle.ab_formulas.specs.Declarations.{Declarations, signature_in, IsDefining, HaveDefinitions, HaveSentences}
+use Rattle.ab_grammar.specs.CommandTrees.{ProofCommand, Instance, intros, induction, coinduction, case, apply, backchain, cut, inst, monotone, search, skip, split, split_all, left, right, exists, unfold_goal, assert, clear, rename, permute}
+use Rattle.ab_unifiers.specs.Member.{HasMember}
+use Rattle.ab_formulas.specs.Declarations.{Declarations, signature_in, HaveDefinitions, HaveSentences}
+use Rattle.ab_formulas.specs.Programs.{HavePrograms}
 use Rattle.ab_formulas.specs.Forms as form
 use Rattle.ab_formulas.specs.Forms.{Form, form_of, either_in, equal_in, as_both, as_either, as_exists}
 use Rattle.ab_formulas.specs.NewNames.{Label, auto, given, Names}
-use Rattle.ab_formulas.specs.Sequents.{Sequent, IsSequent, HoldsOnly, formula_of, goal_names, without, proving, assuming}
+use Rattle.ab_formulas.specs.Sequents.{Sequent, IsSequent, HoldsOnly, in_terms, formula_of, goal_names, without, proving, assuming}
 use Rattle.ab_formulas.specs.Marks.{Sign, plain, star_of, at_of, plus_of, hash_of}
 use Rattle.ab_formulas.specs.BodyMarks.{MayBeAnalysed, MayBeUnfolded}
-use Rattle.ab_theory.specs.Atoms.{Defined, defined_atom}
+use Rattle.ab_theory.specs.Contexts.{cut_list, replace_constants, is_within}
+use Rattle.ab_theory.specs.Judgements.{as_unfocused, marked_judgement}
+use Rattle.ab_theory.specs.Subjects.{Subject, an_atom, a_judgement, subject_of, sign_of}
+use Rattle.ab_theory.proofs.Known.{Known}
+use Rattle.ab_theory.proofs.JudgementRules.{unfocused_known}
 use Rattle.ab_theory.specs.Conjuncts.{conjuncts, with_parts}
 use Rattle.ab_theory.specs.Induction.{inductive_signs, coinductive_signs, marked_antecedents, marked_consequents}
 use Rattle.ab_theory.specs.Levels.{next_level, inductive_level, coinductive_level}
 use Rattle.ab_theory.proofs.RulesParts.{MayStand, either_may}
 use Rattle.ab_theory.proofs.Sequents.{IsGoal, goal_of, found_may, without_goal, sequent_from}
-use Rattle.ab_theory.proofs.Sized.{atom_of, atom_over}
 use Rattle.ab_formulas.specs.NamedGoals.{name_in, with_names, named}
 use Rattle.ab_infer.specs.Lists.{HasLists}
-use Rattle.ab_effects.specs.ProofCommands.{effect, opening, cases, analysing, marked_so, IsNamedBy, hypotheses_named, introducing, reading, naming, left_over, clashing, clashing_names, missing, cleared}
+use Rattle.ab_effects.specs.ProofCommands.{effect, opening, cases, analysing, marked_so, IsNamedBy, hypotheses_named, introducing, reading, reading_for, constant_in, no_constant, naming, left_over, clashing, clashing_names, missing, cleared}
 use Rattle.ab_effects.specs.CaseAnalysis.{IsParted, IsUnparted, AllOpened, SomeNameless}
 use Rattle.ab_effects.specs.Unfoldings.{IsUnfolded, IsNotUnfolded}
 use Rattle.ab_effects.specs.Introductions.{taken_off}
 use Rattle.ab_effects.specs.Permutations.{of_one_type, cycling}
 use Rattle.ab_formulas.specs.Cycles.{MayCycle, type_among, cycle}
-use Rattle.ab_meaning.specs.Refusals.{type_clash, no_hypothesis, wrong_shape, not_pattern, names_spent}
+use Rattle.ab_meaning.specs.Refusals.{Refusal, type_clash, unknown, no_hypothesis, wrong_shape, no_match, not_pattern, names_spent}
+use Rattle.ab_meaning.specs.Terms.{MeansIn, MeansNothingIn}
+use Rattle.ab_effects.specs.FormulaUses.{given_twice, scope_with}
 use Rattle.ab_effects.specs.Solutions.{IsSolved, IsOutside}
-use Rattle.ab_effects.specs.Row.{Row, leads, makes}
+use Rattle.ab_effects.specs.Row.{Row, leads, unless, makes}
 use Rattle.ab_formulas.proofs.Sides.{equation_sides}
-use Rattle.ab_effects.specs.Likeness.{IsSameTerm, IsSameEquation, IsSameAtom, IsSameRest}
-use Rattle.ab_effects.proofs.Following.{moved_atom}
+use Rattle.ab_effects.specs.Likeness.{IsSameTerm, IsSameEquation, IsSameSubject, IsSameRest}
+use Rattle.ab_effects.proofs.MovedSubjects.{moved_subject, subject_moved}
+use Rattle.ab_effects.proofs.Splitting.{turned as turned_subject}
 pub use Rattle.ab_determinism.proofs.Rows.{AreOnce}
 use Rattle.ab_determinism.proofs.Rows.{once_leads, once_unless, once_finds, once_makes, once_alone, once_marked, one_same, two_same}
 use Rattle.ab_determinism.proofs.Equations.{turned, solved_or_not, solved_once}
@@ -49,14 +59,15 @@ use Rattle.ab_determinism.proofs.Alike.{Alike, flipped, assumed_alike}
 use Rattle.ab_determinism.proofs.OneWay.{opened_once, opened_or_not}
 use Rattle.ab_determinism.proofs.Bodies.{bodies_turned, all_opened_once, all_opened_or_not}
 use Rattle.ab_determinism.proofs.Parting.{MayBeSplit, turned_rest, parted_alike, parted_or_not, one_unparting}
-use Rattle.ab_determinism.proofs.Unfolded.{turned_atom, unfolded_once, unfolded_or_not, not_unfolded, one_cause}
+use Rattle.ab_determinism.proofs.Unfolded.{unfolded_once, unfolded_or_not, not_unfolded, one_cause}
 use Rattle.ab_determinism.proofs.Chaining.{once_backchain}
 use Rattle.ab_determinism.proofs.Applying.{once_apply}
 use Rattle.ab_determinism.proofs.OneIntroduction.{introduced_once, introduced_or_not}
 use Rattle.ab_determinism.proofs.Renumbered.{Renumbering, renumber, renumber_variable, renumber_hypothesis, renumbered, renumbering}
-use Rattle.ab_determinism.proofs.Reread.{meaning_or_not, not_or_means, same_meaning, cause_alike, states_or_not, not_or_states, faults_alike}
+use Rattle.ab_determinism.proofs.Reread.{meaning_or_not_with, not_or_meaning_with, cause_alike_with, same_meaning_with, meaning_or_not, not_or_means, same_meaning, cause_alike, states_or_not, not_or_states, faults_alike}
+use Rattle.ab_determinism.proofs.Judged.{cut_told, replacement_told, replaced_told, within_told, pair_told, unfocused_told}
 use Rattle.ab_determinism.proofs.Retold.{form_told, form_retold, as_both_told, as_either_told, as_exists_told, taken_off_told, conjuncts_told, with_parts_told, formula_told, clashing_told, clashing_names_told, missing_told, without_told, cleared_told, cleared_variables, KeepsNames, formula_named, goal_named}
-use Rattle.ab_determinism.proofs.Remarked.{level_told, atom_told, inductive_signs_told, coinductive_signs_told, marked_antecedents_told, marked_consequents_told}
+use Rattle.ab_determinism.proofs.Remarked.{level_told, inductive_signs_told, coinductive_signs_told, marked_antecedents_told, marked_consequents_told}
 
 -- a formula is opened
 once_opening : (D : Declarations) (l : Label) (N : List Nominal) (s u : Sequent) (F G : Read) → Alike D N s (F ∷ []) u (G ∷ []) → (k j : Sequent → Row) → ((t v : Sequent) → named t ≡ named v → AreOnce (k t) (j v))
@@ -73,7 +84,7 @@ mapped_same (Some a) = refl
 mapped_same None = refl
 
 -- TWO GOALS that are one but for the numbers
-module _ (D : Declarations) (definitions : HaveDefinitions D) (s : Sequent) (f : ℕ → ℕ) (is : IsSequent D s) (its : IsSequent D (renumbered f s)) (names : KeepsNames f s.variables) where
+module _ (D : Declarations) (definitions : HaveDefinitions D) (programs : HavePrograms D) (has : HasMember (signature_in D)) (s : Sequent) (f : ℕ → ℕ) (is : IsSequent D s) (its : IsSequent D (renumbered f s)) (names : KeepsNames f s.variables) where
   abbrev u : Sequent
   u = renumbered f s
 
@@ -102,23 +113,25 @@ module _ (D : Declarations) (definitions : HaveDefinitions D) (s : Sequent) (f :
   abbrev Can : Read → Type 0
   Can = MayStand (signature_in D) (map (renumber_variable f) s.variables) (goal_names s)
 
-  -- an atom that is defined, of a formula that may stand in the goal
-  same_atom : (F : Read) → May F → Can (renumber f F) → (d : Defined) → defined_atom D F ≡ Some d → IsSameAtom D s u d (moved_atom f d)
-  same_atom F may can d is_atom =
-      let atom : Read = spine (constant d.predicate) d.arguments in
-      record {
-        first = is;
-        second = its;
-        goals = same;
-        atoms = record {
-          first = (atom_over D s.variables (goal_names s) F d may is_atom).closed;
-          second = (atom_over D (map (renumber_variable f) s.variables) (goal_names s) (renumber f F) (moved_atom f d) can (atom_told f D F ∙ ap (option_map (moved_atom f)) is_atom)).closed;
-          same = formula_named f s names atom;
-        };
-        signs = refl;
-        blocks = refl;
-        clauses = All-weaker (IsDefining (signature_in D)) (IsClause (signature_in D)) (λ c well. well.clause) d.block.clauses (definitions d.predicate d.block (atom_of D F d is_atom).block);
-      }
+  -- a subject, of a formula that may stand in the goal
+  same_subject : (F : Read) → May F → Can (renumber f F) → (x : Subject) → subject_of D F ≡ Some x → IsSameSubject D s u x (moved_subject f x)
+  same_subject F may can x is_subject = record {
+    first = is;
+    second = its;
+    goals = same;
+    formula = F;
+    other = renumber f F;
+    formulas = record { first = may.closed; second = can.closed; same = formula_named f s names F };
+    subject = is_subject;
+    also = subject_moved f D F ∙ ap (option_map (moved_subject f)) is_subject;
+    definitions = definitions;
+    programs = programs;
+  }
+
+  -- its mark is the same
+  same_sign : (x : Subject) → sign_of (moved_subject f x) ≡ sign_of x
+  same_sign (an_atom d) = refl
+  same_sign (a_judgement j rs) = refl
 
   alike_goals : Alike D (goal_names s) s [] u []
   alike_goals = record {
@@ -172,30 +185,28 @@ module _ (D : Declarations) (definitions : HaveDefinitions D) (s : Sequent) (f :
           right = side v sides.right_closed others.right_closed;
         }
 
-    -- an atom of the formula
-    module _ (d : Defined) (is_atom : defined_atom D F ≡ Some d) where
-      abbrev e2 : Defined
-      e2 = moved_atom f d
+    -- a subject of the formula
+    module _ (x : Subject) (is_subject : subject_of D F ≡ Some x) where
+      abbrev y : Subject
+      y = moved_subject f x
 
-      atom_there : defined_atom D (renumber f F) ≡ Some e2
-      atom_there = atom_told f D F ∙ ap (option_map (moved_atom f)) is_atom
+      first_split : MayBeSplit D s b x
+      first_split = record { goal = is; left = g; over = e; formula = F; may = may; subject = is_subject }
 
-      first_split : MayBeSplit D s b d
-      first_split = record { goal = is; left = g; over = e; atom = atom_over D s.variables (goal_names s) F d may is_atom; block = (atom_of D F d is_atom).block }
-
-      second_split : MayBeSplit D u (renumbered f b) e2
+      second_split : MayBeSplit D u (renumbered f b) y
       second_split =
           let constants = same_constants s u same in
           record {
             goal = its;
             left = subst (λ N. IsGoal D N (renumbered f b)) constants h;
             over = ap (map (renumber_variable f)) e;
-            atom = atom_over D u.variables (goal_names u) (renumber f F) e2 (subst (λ N. MayStand (signature_in D) u.variables N (renumber f F)) constants can) atom_there;
-            block = (atom_of D (renumber f F) e2 atom_there).block;
+            formula = renumber f F;
+            may = subst (λ N. MayStand (signature_in D) u.variables N (renumber f F)) constants can;
+            subject = subject_moved f D F ∙ ap (option_map (moved_subject f)) is_subject;
           }
 
-      atoms : IsSameAtom D s u d e2
-      atoms = same_atom F may can d is_atom
+      subjects : IsSameSubject D s u x y
+      subjects = same_subject F may can x is_subject
 
       rests : IsSameRest D s u b (renumbered f b)
       rests = record {
@@ -209,28 +220,30 @@ module _ (D : Declarations) (definitions : HaveDefinitions D) (s : Sequent) (f :
       abbrev opened_all : List Sequent → Row
       opened_all gs = makes {A = List Sequent} (AllOpened D l gs) (λ c. SomeNameless D l gs × (c ≡ names_spent)) leads
 
-      once_opened : (gs hs : List Sequent) → IsParted D s b d gs → IsParted D u (renumbered f b) e2 hs → AreOnce (opened_all gs) (opened_all hs)
+      once_opened : (gs hs : List Sequent) → IsParted D s b x gs → IsParted D u (renumbered f b) y hs → AreOnce (opened_all gs) (opened_all hs)
       once_opened gs hs m n =
-          let bodies = parted_alike D s u b (renumbered f b) d e2 atoms rests definitions first_split second_split gs hs m n in
+          let bodies = parted_alike D s u b (renumbered f b) x y subjects rests has first_split second_split gs hs m n in
           once_makes (AllOpened D l gs) (λ c. SomeNameless D l gs × (c ≡ names_spent)) (AllOpened D l hs) (λ c. SomeNameless D l hs × (c ≡ names_spent)) leads leads
           (λ us c m n. all_opened_or_not m n.0 bodies)
           (λ c vs m n. all_opened_or_not n m.0 (bodies_turned D gs hs bodies))
           (λ c k m n. m.1 ∙ sym n.1)
           (λ us vs m n. once_leads us vs (all_opened_once m n bodies))
 
-      once_split_so :
-          AreOnce (marked_so (MayBeAnalysed d.sign) (makes {A = List Sequent} (IsParted D s b d) (IsUnparted D s b d) opened_all))
-          (marked_so (MayBeAnalysed e2.sign) (makes {A = List Sequent} (IsParted D u (renumbered f b) e2) (IsUnparted D u (renumbered f b) e2) opened_all))
+      abbrev splitting : Sequent → Sequent → Subject → Row
+      splitting goal rest z = makes {A = List Sequent} (IsParted D goal rest z) (IsUnparted D goal rest z) opened_all
+
+      once_split_so : AreOnce (marked_so (MayBeAnalysed (sign_of x)) (splitting s b x)) (marked_so (MayBeAnalysed (sign_of y)) (splitting u (renumbered f b) y))
       once_split_so =
-          once_marked (MayBeAnalysed d.sign) _ _
-          (once_makes (IsParted D s b d) (IsUnparted D s b d) (IsParted D u (renumbered f b) e2) (IsUnparted D u (renumbered f b) e2) opened_all opened_all
-          (λ gs c m n. parted_or_not D s u b (renumbered f b) d e2 atoms rests gs c m n)
-          (λ c hs m n. parted_or_not D u s (renumbered f b) b e2 d (turned_atom D s u d e2 atoms) (turned_rest D s u b (renumbered f b) rests) hs c n m)
-          (λ c k m n. one_unparting D s u b (renumbered f b) d e2 atoms rests c k m n)
-          once_opened)
+          subst (λ m. AreOnce (marked_so (MayBeAnalysed (sign_of x)) (splitting s b x)) (marked_so (MayBeAnalysed m) (splitting u (renumbered f b) y))) (sym (same_sign x))
+          (once_marked (MayBeAnalysed (sign_of x)) _ _
+          (once_makes (IsParted D s b x) (IsUnparted D s b x) (IsParted D u (renumbered f b) y) (IsUnparted D u (renumbered f b) y) opened_all opened_all
+          (λ gs c m n. parted_or_not D s u b (renumbered f b) x y subjects rests gs c m n)
+          (λ c hs m n. parted_or_not D u s (renumbered f b) b y x (turned_subject D s u x y subjects) (turned_rest D s u b (renumbered f b) rests) hs c n m)
+          (λ c k m n. one_unparting D s u b (renumbered f b) x y subjects rests c k m n)
+          once_opened))
 
     once_analysing : AreOnce (analysing D F l s b) (analysing D (renumber f F) l u (renumbered f b))
-    once_analysing = once_finds wrong_shape (defined_atom D F) (defined_atom D (renumber f F)) (moved_atom f) (atom_told f D F) _ _ (λ d is_atom. once_split_so d is_atom)
+    once_analysing = once_finds wrong_shape (subject_of D F) (subject_of D (renumber f F)) (moved_subject f) (subject_moved f D F) _ _ (λ x is_subject. once_split_so x is_subject)
 
     once_cases : (k : Form) → form_of F ≡ k → AreOnce (cases D k F l s b) (cases D (form_told f k) (renumber f F) l u (renumbered f b))
     once_cases form.truth is = whole
@@ -371,15 +384,119 @@ module _ (D : Declarations) (definitions : HaveDefinitions D) (s : Sequent) (f :
   -- the conclusion is unfolded
   once_unfold : (l : Label) → AreOnce (effect D l unfold_goal s) (effect D l unfold_goal u)
   once_unfold l =
-      once_finds wrong_shape (defined_atom D s.conclusion) (defined_atom D u.conclusion) (moved_atom f) (atom_told f D s.conclusion) _ _
-      (λ d is_atom.
-      let atoms = same_atom s.conclusion first.conclusion second.conclusion d is_atom in
-      once_marked (MayBeUnfolded d.sign) _ _
-      (once_makes (IsUnfolded s d) (IsNotUnfolded s d) (IsUnfolded u (moved_atom f d)) (IsNotUnfolded u (moved_atom f d)) (λ t. leads (t ∷ [])) (λ t. leads (t ∷ []))
-      (λ t c m n. unfolded_or_not D s u d (moved_atom f d) atoms t c m n)
-      (λ c t m n. not_unfolded D s u d (moved_atom f d) atoms t c m n)
-      (λ c k m n. one_cause D s u d (moved_atom f d) atoms c k m n)
-      (λ t v m n. once_leads (t ∷ []) (v ∷ []) (one_same t v (unfolded_once D s u d (moved_atom f d) atoms t v m n)))))
+      once_finds wrong_shape (subject_of D s.conclusion) (subject_of D u.conclusion) (moved_subject f) (subject_moved f D s.conclusion) _ _
+      (λ x is_subject.
+      let y = moved_subject f x in
+      let subjects = same_subject s.conclusion first.conclusion second.conclusion x is_subject in
+      subst (λ m. AreOnce (unfolding_row s x) (marked_so (MayBeUnfolded m) (makes {A = Sequent} (IsUnfolded u y) (IsNotUnfolded u y) (λ t. leads (t ∷ []))))) (sym (same_sign x))
+      (once_marked (MayBeUnfolded (sign_of x)) _ _
+      (once_makes (IsUnfolded s x) (IsNotUnfolded s x) (IsUnfolded u y) (IsNotUnfolded u y) (λ t. leads (t ∷ [])) (λ t. leads (t ∷ []))
+      (λ t c m n. unfolded_or_not D s u x y subjects t c m n)
+      (λ c t m n. not_unfolded D s u x y subjects t c m n)
+      (λ c k m n. one_cause D s u x y subjects c k m n)
+      (λ t v m n. once_leads (t ∷ []) (v ∷ []) (one_same t v (unfolded_once D s u x y subjects t v m n))))))
+    where
+      unfolding_row : Sequent → Subject → Row
+      unfolding_row goal z = marked_so (MayBeUnfolded (sign_of z)) (makes {A = Sequent} (IsUnfolded goal z) (IsNotUnfolded goal z) (λ t. leads (t ∷ [])))
+
+  -- a judgement is cut by another, gets terms for its constants, or a longer list
+
+  once_assumed : (l : Label) (F G : Read) → G ≡ renumber f F → AreOnce (naming l s (λ name t. leads (assuming name F t ∷ []))) (naming l u (λ name t. leads (assuming name G t ∷ [])))
+  once_assumed l F G e =
+      once_naming l (λ x t. leads (assuming x F t ∷ [])) (λ y v. leads (assuming y G v ∷ []))
+      (λ x y t v a b.
+      let so = names_alike s u same l x y t v a b in
+      once_leads _ _
+      (one_same (assuming x F t) (assuming y G v)
+      (assumed_alike s u t v x y F G so.name so.goals so.first so.second (formula_named f s names F ∙ ap (with_names (map (renumber_variable f) s.variables)) (sym e)))))
+
+  -- list and goal of a hypothesis hold the goal's variables alone
+  judged_closed : (H : List ℕ) (F : Read) (p : Read × Read) → formula_of s H ≡ Some F → as_unfocused F ≡ Some p → HoldsOnly s.variables p.0 × HoldsOnly s.variables p.1
+  judged_closed H F p there is_one =
+      let may = found_may D (goal_names s) s H F first there in
+      let P : tree.Variable ℕ → Type 0 = Contains (map in_terms s.variables) in
+      let known : Known P (goal_names s) F = record { over = λ y c. All-contains P (variables F) y may.closed c; names = may.names } in
+      let k = unfocused_known (signature_in D) P (goal_names s) F p is_one may.formula.typed known in
+      (All-from_contains P (variables p.0) k.0.known.over, All-from_contains P (variables p.1) k.1.known.over)
+
+  once_cut : (l : Label) (H K : List ℕ) → AreOnce (effect D l (cut H K) s) (effect D l (cut H K) u)
+  once_cut l H K =
+      once_unless (clashing l s) (clashing l u) _ _ (sym (clashing_told f l s))
+      (once_finds (no_hypothesis H) (formula_of s H) (formula_of u H) (renumber f) (formula_told f s H) _ _
+      (λ F first_there. once_finds (no_hypothesis K) (formula_of s K) (formula_of u K) (renumber f) (formula_told f s K) _ _
+      (λ G second_there. once_finds wrong_shape (as_unfocused F) (as_unfocused (renumber f F)) (pair_told f) (unfocused_told f F) _ _
+      (λ p first_is. once_finds wrong_shape (as_unfocused G) (as_unfocused (renumber f G)) (pair_told f) (unfocused_told f G) _ _
+      (λ q second_is.
+      let m = judged_closed H F p first_there first_is in
+      let n = judged_closed K G q second_there second_is in
+      once_finds no_match (cut_list p.0 q.1 q.0) (cut_list (renumber f p.0) (renumber f q.1) (renumber f q.0)) (renumber f) (cut_told D f s is names p.0 q.1 q.0 m.0 n.1 n.0) _ _
+      (λ L left. once_assumed l (marked_judgement plain L p.1) (marked_judgement plain (renumber f L) (renumber f p.1)) refl))))))
+
+  once_reading_for : (known names_of_it : List Nominal) (es : List Instance) (k j : List (Nominal × Read) → Row) → ((rs : List (Nominal × Read)) → AreOnce (k rs) (j (map (replacement_told f) rs)))
+      → AreOnce (reading_for D s known names_of_it es k) (reading_for D u known names_of_it es j)
+  once_reading_for known ns [] k j once = once []
+  once_reading_for known ns (e ∷ es) k j once =
+      once_finds (unknown e.name) (constant_in ns e.name) (constant_in ns e.name) (λ a. a) (sym (mapped_same (constant_in ns e.name))) (here k s) (here j u)
+      (λ a found.
+      once_makes (MeansIn D (scope_with D s known) e.term a.type) (MeansNothingIn (scope_with D s known) e.term a.type) (MeansIn D (scope_with D u known) e.term a.type) (MeansNothingIn (scope_with D u known) e.term a.type)
+      (next k s a) (next j u a)
+      (λ t c m n. meaning_or_not_with D s u is its same e.term known a.type t c m n)
+      (λ c t m n. not_or_meaning_with D s u is its same e.term known a.type t c m n)
+      (λ c d m n. cause_alike_with D s u is its same e.term known a.type c d m n)
+      (λ t v m n.
+      let value : v ≡ renumber f t = same_meaning_with D s u r same known e.term a.type t v m n in
+      let rest : AreOnce (next k s a t) (reading_for D u (known ++ support t) ns es (λ rs. j ((a, renumber f t) ∷ rs))) =
+      once_reading_for (known ++ support t) ns es (λ rs. k ((a, t) ∷ rs)) (λ rs. j ((a, renumber f t) ∷ rs)) (λ rs. once ((a, t) ∷ rs)) in
+      subst (λ w. AreOnce (next k s a t) (next j u a w)) (sym value)
+      (subst (λ l. AreOnce (next k s a t) (reading_for D u (known ++ l) ns es (λ rs. j ((a, renumber f t) ∷ rs)))) (sym (support-translate f (λ (h : List ℕ). h) t)) rest)))
+    where
+      next : (List (Nominal × Read) → Row) → Sequent → Nominal → Read → Row
+      next c q a t = reading_for D q (known ++ support t) ns es (λ rs. c ((a, t) ∷ rs))
+
+      here : (List (Nominal × Read) → Row) → Sequent → Nominal → Row
+      here c q a = makes {A = Read} (MeansIn D (scope_with D q known) e.term a.type) (MeansNothingIn (scope_with D q known) e.term a.type) (next c q a)
+
+  abbrev replaced_row : Label → Sequent → Read → List (Nominal × Read) → Row
+  replaced_row l goal G rs = naming l goal (λ name t. leads (assuming name (replace_constants rs G) t ∷ []))
+
+  once_replacing : (l : Label) (es : List Instance) (G : Read)
+      → AreOnce (unless (no_constant (support G) es) (reading_for D s [] (support G) es (replaced_row l s G)))
+      (unless (no_constant (support (renumber f G)) es) (reading_for D u [] (support (renumber f G)) es (replaced_row l u (renumber f G))))
+  once_replacing l es G =
+      subst (λ ns. AreOnce (unless (no_constant (support G) es) (reading_for D s [] (support G) es (replaced_row l s G))) (unless (no_constant ns es) (reading_for D u [] ns es (replaced_row l u (renumber f G)))))
+      (sym (support-translate f (λ (h : List ℕ). h) G))
+      (once_unless (no_constant (support G) es) (no_constant (support G) es) _ _ refl
+      (once_reading_for [] (support G) es (replaced_row l s G) (replaced_row l u (renumber f G))
+      (λ rs. once_assumed l (replace_constants rs G) (replace_constants (map (replacement_told f) rs) (renumber f G)) (sym (replaced_told f rs G)))))
+
+  once_inst : (l : Label) (H : List ℕ) (es : List Instance) → AreOnce (effect D l (inst H es) s) (effect D l (inst H es) u)
+  once_inst l H es =
+      let twice : Option Refusal = if given_twice es then Some wrong_shape else None in
+      once_unless (clashing l s) (clashing l u) _ _ (sym (clashing_told f l s))
+      (once_finds (no_hypothesis H) (formula_of s H) (formula_of u H) (renumber f) (formula_told f s H) _ _
+      (λ F there. once_finds wrong_shape (as_unfocused F) (as_unfocused (renumber f F)) (pair_told f) (unfocused_told f F) _ _
+      (λ p is_one. once_unless twice twice _ _ refl (once_replacing l es (marked_judgement plain p.0 p.1)))))
+
+  once_monotone : (l : Label) (H : List ℕ) (e : Tree) → AreOnce (effect D l (monotone H e) s) (effect D l (monotone H e) u)
+  once_monotone l H e =
+      once_unless (clashing l s) (clashing l u) _ _ (sym (clashing_told f l s))
+      (once_reading e olist _ _
+      (λ K M list.
+      once_finds (no_hypothesis H) (formula_of s H) (formula_of u H) (renumber f) (formula_told f s H) _ _
+      (λ F there. once_finds wrong_shape (as_unfocused F) (as_unfocused (renumber f F)) (pair_told f) (unfocused_told f F) _ _
+      (λ p is_one.
+      let E : Read = is_within p.0 K in
+      let N : Read = is_within (renumber f p.0) M in
+      let G : Read = marked_judgement plain K p.1 in
+      let J : Read = marked_judgement plain M (renumber f p.1) in
+      let within : N ≡ renumber f E = ap (is_within (renumber f p.0)) list ∙ sym (within_told f p.0 K) in
+      let judged : J ≡ renumber f G = ap (λ L. marked_judgement plain L (renumber f p.1)) list in
+      once_naming l (λ x t. leads (proving E s ∷ assuming x G t ∷ [])) (λ y v. leads (proving N u ∷ assuming y J v ∷ []))
+      (λ x y t v a b.
+      let so = names_alike s u same l x y t v a b in
+      once_leads _ _
+      (two_same (proving E s) (proving N u) (assuming x G t) (assuming y J v) (proving_also E ∙ ap (λ C. named (proving C u)) (sym within))
+      (assumed_alike s u t v x y G J so.name so.goals so.first so.second (formula_named f s names G ∙ ap (with_names (map (renumber_variable f) s.variables)) (sym judged)))))))))
 
   -- formulas are assumed, by their names, and another one is proved
   assumed_told : (x : List ℕ) (F : Read) (v : Sequent) → renumbered f (assuming x F v) ≡ assuming x (renumber f F) (renumbered f v)
@@ -453,26 +570,26 @@ module _ (D : Declarations) (definitions : HaveDefinitions D) (s : Sequent) (f :
       once_finds wrong_shape (type_among ns (goal_names s)) (type_among ns (goal_names u)) (λ A. A) (ap (type_among ns) (sym constants) ∙ sym (mapped_same (type_among ns (goal_names s))))
       (λ A. k (cycle A ns)) (λ A. j (cycle A ns)) (λ A e. once (cycle A ns))
 
-  permuted_told : (ps : List (Nominal × Nominal)) (t : Read) → renumber f (tree.permute ps t) ≡ tree.permute ps (renumber f t)
+  permuted_told : (ps : List (Nominal × Nominal)) (t : Read) → renumber f (constant.permute ps t) ≡ constant.permute ps (renumber f t)
   permuted_told ps t = translate-rename f (λ h. h) (moved_by ps) t
 
   once_permute_conclusion : (l : Label) (ns : List ℕ) → AreOnce (effect D l (permute ns None) s) (effect D l (permute ns None) u)
   once_permute_conclusion l ns =
       once_of_one_type ns _ _
-      (once_cycling ns (λ ps. leads (proving (tree.permute ps s.conclusion) s ∷ [])) (λ ps. leads (proving (tree.permute ps u.conclusion) u ∷ []))
+      (once_cycling ns (λ ps. leads (proving (constant.permute ps s.conclusion) s ∷ [])) (λ ps. leads (proving (constant.permute ps u.conclusion) u ∷ []))
       (λ ps. once_leads _ _
-      (one_same (proving (tree.permute ps s.conclusion) s) (proving (tree.permute ps u.conclusion) u)
-      (proving_also (tree.permute ps s.conclusion) ∙ ap (λ F. named (proving F u)) (permuted_told ps s.conclusion)))))
+      (one_same (proving (constant.permute ps s.conclusion) s) (proving (constant.permute ps u.conclusion) u)
+      (proving_also (constant.permute ps s.conclusion) ∙ ap (λ F. named (proving F u)) (permuted_told ps s.conclusion)))))
 
   once_permute_hypothesis : (l : Label) (ns H : List ℕ) → AreOnce (effect D l (permute ns (Some H)) s) (effect D l (permute ns (Some H)) u)
   once_permute_hypothesis l ns H =
       once_of_one_type ns _ _
       (once_finds (no_hypothesis H) (formula_of s H) (formula_of u H) (renumber f) (formula_told f s H) _ _
-      (λ F e. once_cycling ns (λ ps. leads (assuming H (tree.permute ps F) (without H s) ∷ [])) (λ ps. leads (assuming H (tree.permute ps (renumber f F)) (without H u) ∷ []))
+      (λ F e. once_cycling ns (λ ps. leads (assuming H (constant.permute ps F) (without H s) ∷ [])) (λ ps. leads (assuming H (constant.permute ps (renumber f F)) (without H u) ∷ []))
       (λ ps. once_leads _ _
-      (one_same (assuming H (tree.permute ps F) (without H s)) (assuming H (tree.permute ps (renumber f F)) (without H u))
-      (assumed_alike s u (without H s) (without H u) H H (tree.permute ps F) (tree.permute ps (renumber f F)) refl (also (without H s) refl ∙ ap named (sym (without_told f H s))) refl refl
-      (formula_named f s names (tree.permute ps F) ∙ ap (with_names (map (renumber_variable f) s.variables)) (permuted_told ps F)))))))
+      (one_same (assuming H (constant.permute ps F) (without H s)) (assuming H (constant.permute ps (renumber f F)) (without H u))
+      (assumed_alike s u (without H s) (without H u) H H (constant.permute ps F) (constant.permute ps (renumber f F)) refl (also (without H s) refl ∙ ap named (sym (without_told f H s))) refl refl
+      (formula_named f s names (constant.permute ps F) ∙ ap (with_names (map (renumber_variable f) s.variables)) (permuted_told ps F)))))))
 
   once_renumbered : HasLists D → HaveSentences D → (l : Label) (command : ProofCommand) → AreOnce (effect D l command s) (effect D l command u)
   once_renumbered lists sentences l (intros xs) = once_intros l xs
@@ -489,9 +606,9 @@ module _ (D : Declarations) (definitions : HaveDefinitions D) (s : Sequent) (f :
   once_renumbered lists sentences l coinduction = once_coinduction l
   once_renumbered lists sentences l (apply H vs ws) = once_apply D lists sentences s f is its names l H vs ws
   once_renumbered lists sentences l (backchain H ws) = once_backchain D lists sentences s f is its names l H ws
-  once_renumbered lists sentences l (cut H K) = once_alone (Some wrong_shape)
-  once_renumbered lists sentences l (inst H ws) = once_alone (Some wrong_shape)
-  once_renumbered lists sentences l (monotone H e) = once_alone (Some wrong_shape)
+  once_renumbered lists sentences l (cut H K) = once_cut l H K
+  once_renumbered lists sentences l (inst H ws) = once_inst l H ws
+  once_renumbered lists sentences l (monotone H e) = once_monotone l H e
   once_renumbered lists sentences l (search n) = once_alone (Some wrong_shape)
   once_renumbered lists sentences l skip = once_leads [] [] refl
   once_renumbered lists sentences l unfold_goal = once_unfold l
@@ -499,8 +616,8 @@ module _ (D : Declarations) (definitions : HaveDefinitions D) (s : Sequent) (f :
   once_renumbered lists sentences l (permute ns (Some H)) = once_permute_hypothesis l ns H
 
 -- EACH PROOF COMMAND has one answer in goals that are one with names for numbers
-pub once : (D : Declarations) → HasLists D → HaveSentences D → HaveDefinitions D → (s u : Sequent) → IsSequent D s → IsSequent D u → named s ≡ named u → (l : Label) (command : ProofCommand) → AreOnce (effect D l command s) (effect D l command u)
-once D lists sentences definitions s u is its same l command =
+pub once : (D : Declarations) → HasLists D → HaveSentences D → HaveDefinitions D → HavePrograms D → HasMember (signature_in D) → (s u : Sequent) → IsSequent D s → IsSequent D u → named s ≡ named u → (l : Label) (command : ProofCommand) → AreOnce (effect D l command s) (effect D l command u)
+once D lists sentences definitions programs has s u is its same l command =
     let r = renumbering D s u is its same in
     let names : KeepsNames r.by s.variables = subst (λ (v : Sequent). (n : ℕ) → name_in v.variables (r.by n) ≡ name_in s.variables n) r.is r.names in
-    subst (λ v. AreOnce (effect D l command s) (effect D l command v)) (sym r.is) (once_renumbered D definitions s r.by is (subst (IsSequent D) r.is its) names lists sentences l command)
+    subst (λ v. AreOnce (effect D l command s) (effect D l command v)) (sym r.is) (once_renumbered D definitions programs has s r.by is (subst (IsSequent D) r.is its) names lists sentences l command)

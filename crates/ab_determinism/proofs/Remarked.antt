@@ -4,18 +4,19 @@ use Rattle.ab_term.specs.Logical as plain
 use Rattle.ab_term.specs.Logical.{universal, implication}
 use Rattle.ab_term.specs.Terms.{Head, constant, logical, nominal, variable, index, lam, spine, Terms, no_terms, term, Read}
 use Rattle.ab_term.specs.Translation.{translate_head, translate_all}
-use Rattle.ab_formulas.specs.Declarations.{Declarations, Block, block_in}
+use Rattle.ab_formulas.specs.Declarations.{Declarations}
 use Rattle.ab_formulas.specs.Forms as form
 use Rattle.ab_formulas.specs.Forms.{Form, form_of}
 use Rattle.ab_formulas.specs.Marks as marks
 use Rattle.ab_formulas.specs.Marks.{Sign, star_of, at_of, plus_of, hash_of, Marks, marks_of_head, marked, Making, by_head, by_scope, by_parts, by_mark, making_of, marks_made, marks_of, marks_of_all}
 use Rattle.ab_formulas.specs.Sequents.{Hypothesis, Sequent, formulas}
 use Rattle.ab_formulas.specs.BodyMarks.{with_mark}
-use Rattle.ab_theory.specs.Atoms.{Defined, defined_as, defined_form, defined_atom}
+use Rattle.ab_theory.specs.Atoms.{Defined, defined_atom}
 use Rattle.ab_theory.specs.Judgements.{judgement_as, judgement_in, as_judgement}
 use Rattle.ab_theory.specs.Induction.{matrix, antecedent, consequent, defined_so, judgement_or, sign_in, inductive_at, coinductive_in, sign_and, inductive_signs, coinductive_signs, in_matrix, in_antecedent, in_consequent, marked_antecedent, marked_consequent, marked_antecedents, marked_consequents}
 use Rattle.ab_theory.specs.Levels.{signs_in, signs_of_all, greatest, next_level}
 use Rattle.ab_effects.proofs.Following.{moved_atom}
+use Rattle.ab_effects.proofs.MovedSubjects.{atom_moved}
 use Rattle.ab_determinism.proofs.Renumbered.{renumber, renumber_hypothesis, renumbered}
 use Rattle.ab_determinism.proofs.Retold.{form_told, form_retold}
 
@@ -80,36 +81,6 @@ module _ (f : ℕ → ℕ) where
       ap (λ m. suc (greatest level (signs_in m ++ signs_of_all (formulas (map (renumber_hypothesis f) s.hypotheses))))) (marks_told s.conclusion)
       ∙ ap (λ ms. suc (greatest level (signs_in (marks_of s.conclusion) ++ ms))) (signs_told s.hypotheses)
 
-  -- DEFINED ATOMS
-
-  as_told : (D : Declarations) (m : Sign) (F : Read) → defined_as D m (renumber f F) ≡ option_map (moved_atom f) (defined_as D m F)
-  as_told D m (lam A x t) = refl
-  as_told D m (spine (constant p) ts) = by_block (block_in D p)
-    where
-      by_block : (o : Option Block) → option_map (λ b. record { sign = m; predicate = p; arguments = all ts; block = b }) o ≡ option_map (moved_atom f) (option_map (λ b. record { sign = m; predicate = p; arguments = ts; block = b }) o)
-      by_block None = refl
-      by_block (Some b) = refl
-  as_told D m (spine (logical l) ts) = refl
-  as_told D m (spine (nominal a) ts) = refl
-  as_told D m (spine (variable x) ts) = refl
-  as_told D m (spine (index i) ts) = refl
-
-  by_form_told : (D : Declarations) (g : Form) (F : Read) → defined_form D (form_told f g) (renumber f F) ≡ option_map (moved_atom f) (defined_form D g F)
-  by_form_told D (form.marked m A) F = as_told D m A
-  by_form_told D form.other F = as_told D marks.plain F
-  by_form_told D form.truth F = refl
-  by_form_told D form.falsity F = refl
-  by_form_told D (form.both A B) F = refl
-  by_form_told D (form.either A B) F = refl
-  by_form_told D (form.implies A B) F = refl
-  by_form_told D (form.equal A t u) F = refl
-  by_form_told D (form.for_all A t) F = refl
-  by_form_told D (form.exists A t) F = refl
-  by_form_told D (form.nabla A t) F = refl
-
-  pub atom_told : (D : Declarations) (F : Read) → defined_atom D (renumber f F) ≡ option_map (moved_atom f) (defined_atom D F)
-  atom_told D F = ap (λ g. defined_form D g (renumber f F)) (form_retold f F) ∙ by_form_told D (form_of F) F
-
   -- PLACES
 
   pub mark_told : (m : Sign) (t : Read) → with_mark m (renumber f t) ≡ renumber f (with_mark m t)
@@ -161,7 +132,7 @@ module _ (f : ℕ → ℕ) where
   in_told D (Some A) =
       ap (λ g. judgement_or (judgement_in g (renumber f A)) (defined_so true (defined_atom D (renumber f A)))) (form_retold f A)
       ∙ judged_in (form_of A) A (defined_so true (defined_atom D (renumber f A)))
-      ∙ ap (λ d. judgement_or (as_judgement A) (defined_so true d)) (atom_told D A)
+      ∙ ap (λ d. judgement_or (as_judgement A) (defined_so true d)) (atom_moved f D A)
       ∙ ap (judgement_or (as_judgement A)) (so_told true (defined_atom D A))
 
   inductive_told : (D : Declarations) (n : ℕ) (F : Read) → inductive_at D n (renumber f F) ≡ inductive_at D n F
@@ -171,7 +142,7 @@ module _ (f : ℕ → ℕ) where
   coinductive_told D F =
       ap (λ G. defined_so false (defined_atom D (consequent G))) (matrix_told F)
       ∙ ap (λ G. defined_so false (defined_atom D G)) (consequent_told (matrix F))
-      ∙ ap (defined_so false) (atom_told D (consequent (matrix F)))
+      ∙ ap (defined_so false) (atom_moved f D (consequent (matrix F)))
       ∙ so_told false (defined_atom D (consequent (matrix F)))
 
   pub inductive_signs_told : (D : Declarations) (ns : List ℕ) (Fs : List Read) → inductive_signs D ns (map (renumber f) Fs) ≡ inductive_signs D ns Fs

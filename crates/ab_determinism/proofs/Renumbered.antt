@@ -121,7 +121,7 @@ number_named (z ∷ zs) d x c =
 
 -- the number of the variable of a name, or the other number where there is none
 module _ (other : ℕ) where
-  abbrev number_in : List Variable → List ℕ → ℕ
+  abbrev pub number_in : List Variable → List ℕ → ℕ
   number_in [] name = other
   number_in (y ∷ ys) name = if bytes_eq y.name name then y.number else number_in ys name
 
@@ -195,7 +195,7 @@ module _ (other : ℕ) where
         ap (λ n. record { number = n; type = z.type; name = z.name } ∷ map (back_variable ys) (map variable_named zs)) (name_numbered ys names z (all z (Contains-here z zs)))
         ∙ ap (λ l. z ∷ l) (variables_back zs (λ x c. all x (Contains-there z zs x c)))
 
-    formula_back : (F : Read) → HoldsOnly ys F → translate (number_in ys) (λ x. x) (with_names ys F) ≡ F
+    pub formula_back : (F : Read) → HoldsOnly ys F → translate (number_in ys) (λ x. x) (with_names ys F) ≡ F
     formula_back F closed =
         twice (name_in ys) (number_in ys) F
         ∙ translate_agrees (λ n. number_in ys (name_in ys n)) (λ n. n) (λ h. h) F (λ v c. own v (All-contains (Contains (map in_terms ys)) (variables F) v closed c))

@@ -2,7 +2,9 @@
 ghost use Rattle.std.specs.Prelude.{◌≡◌, ℕ, List, map};
 ghost use Rattle.ab_term.specs.Terms.{Read};
 ghost use Rattle.ab_grammar.specs.CommandTrees.{ProofCommand};
-ghost use Rattle.ab_formulas.specs.Declarations.{Declarations, HaveDefinitions, HaveSentences};
+ghost use Rattle.ab_unifiers.specs.Member.{HasMember};
+ghost use Rattle.ab_formulas.specs.Declarations.{Declarations, HaveDefinitions, HaveSentences, signature_in};
+ghost use Rattle.ab_formulas.specs.Programs.{HavePrograms};
 ghost use Rattle.ab_formulas.specs.NewNames.{Label};
 ghost use Rattle.ab_formulas.specs.Sequents.{Sequent, IsSequent};
 ghost use Rattle.ab_theory.specs.UseAnswers.{Using, IsUsedFor, NothingMatches, IsOutsideAt, IsLeftOpen};
@@ -27,17 +29,17 @@ pub fn proof_commands_have_one_answer()
 {}
 
 /// EACH PROOF COMMAND HAS ONE ANSWER at a sequent, also where it opens formulas, takes the conclusion apart, splits the goal by
-/// a defined atom, unfolds one or uses a formula by its instances: it leads to goals or is refused, for one cause, and the
+/// a defined atom or a judgement, unfolds one or uses a formula by its instances: it leads to goals or is refused, for one cause, and the
 /// goals are one list with names for the numbers of their variables. A new variable may have any number that is free. The
 /// numbers of the sequent's own variables change nothing either: the answer is one at any two sequents that are one goal with
-/// names for numbers. What is defined is to be defined by clauses of case analysis, theorems are to be sentences, and the sign
-/// `::` is to be the constant that makes lists.
+/// names for numbers. What is defined is to be defined by clauses of case analysis, the program's clauses are to be typed, theorems
+/// are to be sentences, the sign `::` is to be the constant that makes lists, and `member` to be typed.
 pub fn every_proof_command_has_one_answer()
-    ensures apart { (D : Declarations) (l : Label) (command : ProofCommand) (s u : Sequent) (ps : List Sequent) (f : Refusal) → HasLists D → HaveSentences D → HaveDefinitions D → IsSequent D s → IsSequent D u → named s ≡ named u →
+    ensures apart { (D : Declarations) (l : Label) (command : ProofCommand) (s u : Sequent) (ps : List Sequent) (f : Refusal) → HasLists D → HaveSentences D → HaveDefinitions D → HavePrograms D → HasMember (signature_in D) → IsSequent D s → IsSequent D u → named s ≡ named u →
         Leads (effect D l command s) ps → Refuses (effect D l command u) f → ⊥ }
-    ensures one_refusal { (D : Declarations) (l : Label) (command : ProofCommand) (s u : Sequent) (f g : Refusal) → HasLists D → HaveSentences D → HaveDefinitions D → IsSequent D s → IsSequent D u → named s ≡ named u →
+    ensures one_refusal { (D : Declarations) (l : Label) (command : ProofCommand) (s u : Sequent) (f g : Refusal) → HasLists D → HaveSentences D → HaveDefinitions D → HavePrograms D → HasMember (signature_in D) → IsSequent D s → IsSequent D u → named s ≡ named u →
         Refuses (effect D l command s) f → Refuses (effect D l command u) g → f ≡ g }
-    ensures one_list { (D : Declarations) (l : Label) (command : ProofCommand) (s u : Sequent) (ps qs : List Sequent) → HasLists D → HaveSentences D → HaveDefinitions D → IsSequent D s → IsSequent D u → named s ≡ named u →
+    ensures one_list { (D : Declarations) (l : Label) (command : ProofCommand) (s u : Sequent) (ps qs : List Sequent) → HasLists D → HaveSentences D → HaveDefinitions D → HavePrograms D → HasMember (signature_in D) → IsSequent D s → IsSequent D u → named s ≡ named u →
         Leads (effect D l command s) ps → Leads (effect D l command u) qs → map named ps ≡ map named qs }
 {}
 

@@ -123,7 +123,7 @@ module _ (f : ℕ → ℕ) where
         let conclusion = image_moved s t.conclusion in
         λ i. record { variables = map (moved_variable f) xs; hypotheses = hypotheses i; conclusion = conclusion i; counter = t.counter }
 
-  assuming_moved : (name : List ℕ) (F : Read) (t : Sequent) → moved_goal f (assuming name F t) ≡ assuming name (renumbered f F) (moved_goal f t)
+  pub assuming_moved : (name : List ℕ) (F : Read) (t : Sequent) → moved_goal f (assuming name F t) ≡ assuming name (renumbered f F) (moved_goal f t)
   assuming_moved name F t =
       let hypotheses = map-append (moved_hypothesis f) t.hypotheses (record { name = name; formula = F } ∷ []) in
       λ i. record { variables = map (moved_variable f) t.variables; hypotheses = hypotheses i; conclusion = renumbered f t.conclusion; counter = t.counter }

@@ -1,5 +1,5 @@
--- The name under which the bodies of clauses are assumed changes nothing but that name.
-use Rattle.std.proofs.Common.{◌≡◌, ◌≢◌, ℕ, ◌+◌, List, [], ◌∷◌, ◌++◌, map, length, true, false, refl, ◌∙◌, ap, codes}
+-- The name under which bodies are assumed changes nothing but that name.
+use Rattle.std.proofs.Common.{◌≡◌, ◌≢◌, ℕ, ◌+◌, List, [], ◌∷◌, ◌++◌, map, length, true, false, refl, ◌∙◌, ap, subst, codes}
 use Rattle.std.specs.Prelude.{bytes_eq, if◌then◌else◌, All}
 use Rattle.std.proofs.lemmas.Bool.{false_from_ne_true}
 use Rattle.std.proofs.lemmas.List.Elements.{All-head, All-tail}
@@ -9,16 +9,22 @@ use Rattle.ab_term.specs.Sameness.{same_number}
 use Rattle.ab_term.proofs.Translations.{map-append}
 use Rattle.ab_term.specs.Terms.{Read}
 use Rattle.ab_unifiers.specs.Replacements.{Cell}
+use Rattle.ab_unifiers.specs.Clauses.{Each}
 use Rattle.ab_unifiers.specs.Alternatives.{Alternative, alternative, on_left}
-use Rattle.ab_formulas.specs.Sequents.{Variable, Hypothesis, Sequent, over, assuming}
+use Rattle.ab_formulas.specs.Sequents.{Variable, Hypothesis, Sequent, goal_names, over, assuming}
 use Rattle.ab_theory.specs.Equations.{made, Naming, Named, changed, under}
-use Rattle.ab_theory.specs.Splits.{Case, Arises, Split, done, never, arises, IsUnsplit, here, past_never, past_goal}
-use Rattle.ab_theory.specs.Atoms.{Defined, Choice}
+use Rattle.ab_theory.specs.Splits.{Case, CaseOver, Arises, NeverArises, IsOpen, Split, done, never, arises, IsUnsplit, here, past_never, past_goal}
+use Rattle.ab_theory.specs.Atoms.{Defined, Choice, choices_of}
+use Rattle.ab_theory.specs.Judgements.{Judgement}
+use Rattle.ab_theory.specs.SpecRules.{SpecRule, demand_of}
+use Rattle.ab_theory.specs.JudgementCases.{judgement_case}
+use Rattle.ab_theory.specs.Subjects.{Subject, an_atom, a_judgement, cases_by}
 use Rattle.ab_theory.specs.Analysis.{scope_of, raised_goal, case_of}
 use Rattle.ab_formulas.specs.BodyMarks.{mark_below, marked_in}
 use Rattle.ab_effects.specs.Likeness.{relabelled_hypothesis, relabelled}
 use Rattle.ab_effects.proofs.Namings.{HaveSameNames, IsByNames}
 use Rattle.ab_effects.proofs.Carrying.{names_more}
+use Rattle.ab_effects.proofs.SubjectsFollowing.{each_by}
 
 abbrev Cells : Type 0
 Cells = List (Cell (List ℕ))
@@ -71,46 +77,63 @@ module _ (x y : List ℕ) where
       let hypotheses = map-append H s.hypotheses (last ∷ []) ∙ ap (λ l. map H s.hypotheses ++ l ∷ []) one ∙ ap (λ l. l ++ record { name = y; formula = F } ∷ []) keeps in
       λ i. record { variables = s.variables; hypotheses = hypotheses i; conclusion = s.conclusion; counter = s.counter }
 
-  module _ (goal rest : Sequent) (d : Defined) (new : All (λ (h : Hypothesis). h.name ≢ x) rest.hypotheses) where
-    abbrev Old : Choice → Cells → Case
-    Old = case_of goal rest x d
+  -- WHOLE LISTS OF CASES: the second is the first, but for the name
 
-    abbrev New : Choice → Cells → Case
-    New = case_of goal rest y d
+  abbrev AreRelabelled : CaseOver → CaseOver → Type 0
+  AreRelabelled old new = (cells : Cells) → record (old cells) { goal = R (old cells).goal } ≡ new cells
 
+  module _ (IsName : Naming) (by : IsByNames IsName) where
+    arises_relabelled : (c : Case) (after : Cells) (g : Sequent) → Arises IsName c after g → Arises IsName (record c { goal = R c.goal }) after (R g)
+    arises_relabelled c after g a = record {
+      more = a.more;
+      answer = a.answer;
+      new = a.new;
+      solved = a.solved;
+      named = named_elsewhere IsName by c.goal (R c.goal) (length a.more) (made c.before a.more a.answer) a.new refl a.named;
+      all = a.all;
+      goal = ap R a.goal ∙ under_relabelled c.before a.more a.answer a.new c.goal;
+    }
+
+    split_by : (old new : List CaseOver) → Each AreRelabelled old new → (cells : Cells) (gs : List Sequent) → Split IsName cells old gs → Split IsName cells new (map R gs)
+    split_by [] [] each cells [] done = done
+    split_by [] [] each cells (g ∷ gs) s = elim s [ ]
+    split_by [] (d ∷ ds) each cells gs s = absurd each
+    split_by (c ∷ cs) [] each cells gs s = absurd each
+    split_by (c ∷ cs) (d ∷ ds) each cells gs (never n rest) = never (subst NeverArises (each.0 cells) n) (split_by cs ds each.1 cells gs rest)
+    split_by (c ∷ cs) (d ∷ ds) each cells (g ∷ gs) (arises {after = after} a rest) =
+        arises (subst (λ e. Arises IsName e after (R g)) (each.0 cells) (arises_relabelled (c cells) after g a)) (split_by cs ds each.1 after gs rest)
+
+    unsplit_by : (old new : List CaseOver) → Each AreRelabelled old new → (cells : Cells) (i : ℕ) → IsUnsplit IsName cells old i → IsUnsplit IsName cells new i
+    unsplit_by [] ds each cells i s = elim s [ ]
+    unsplit_by (c ∷ cs) [] each cells i s = absurd each
+    unsplit_by (c ∷ cs) (d ∷ ds) each cells i (here o) = here (subst (λ e. IsOpen e i) (each.0 cells) o)
+    unsplit_by (c ∷ cs) (d ∷ ds) each cells i (past_never n rest) = past_never (subst NeverArises (each.0 cells) n) (unsplit_by cs ds each.1 cells i rest)
+    unsplit_by (c ∷ cs) (d ∷ ds) each cells i (past_goal {after = after} {g = g} a rest) =
+        past_goal (subst (λ e. Arises IsName e after (R g)) (each.0 cells) (arises_relabelled (c cells) after g a)) (unsplit_by cs ds each.1 after i rest)
+
+  module _ (goal rest : Sequent) (new : All (λ (h : Hypothesis). h.name ≢ x) rest.hypotheses) where
     raised_keeps : (a : Alternative (List ℕ)) → map H (raised_goal a rest).hypotheses ≡ (raised_goal a rest).hypotheses
     raised_keeps a =
         changed_hypotheses (image same_number a.raised) rest.hypotheses
         ∙ ap (map (λ (h : Hypothesis). record { name = h.name; formula = image same_number a.raised h.formula })) (stay_named rest.hypotheses new)
 
-    goal_relabelled : (c : Choice) (cells : Cells) → R (Old c cells).goal ≡ (New c cells).goal
-    goal_relabelled c cells =
+    choice_relabelled : (d : Defined) (c : Choice) → AreRelabelled (case_of goal rest x d c) (case_of goal rest y d c)
+    choice_relabelled d c cells =
         let a = alternative (codes "x") (scope_of cells goal) d.arguments c.clause c.names on_left in
-        assuming_relabelled (marked_in d.block.predicates (mark_below d.sign) a.body) (raised_goal a rest) (raised_keeps a)
+        ap (λ g. record (case_of goal rest y d c cells) { goal = g }) (assuming_relabelled (marked_in d.block.predicates (mark_below d.sign) a.body) (raised_goal a rest) (raised_keeps a))
 
-    module _ (IsName : Naming) (by : IsByNames IsName) where
-      arises_relabelled : (c : Choice) (cells after : Cells) (g : Sequent) → Arises IsName (Old c cells) after g → Arises IsName (New c cells) after (R g)
-      arises_relabelled c cells after g a = record {
-        more = a.more;
-        answer = a.answer;
-        new = a.new;
-        solved = a.solved;
-        named = named_elsewhere IsName by (Old c cells).goal (New c cells).goal (length a.more) (made (Old c cells).before a.more a.answer) a.new refl a.named;
-        all = a.all;
-        goal =
-            ap R a.goal
-            ∙ under_relabelled (Old c cells).before a.more a.answer a.new (Old c cells).goal
-            ∙ ap (under (Old c cells).before a.more a.answer a.new) (goal_relabelled c cells);
-      }
+    rule_relabelled : (j : Judgement) (r : SpecRule) → AreRelabelled (judgement_case goal rest x j r) (judgement_case goal rest y j r)
+    rule_relabelled j r cells =
+        let d = demand_of (length cells) (mark_below j.sign) j r in
+        ap (λ g. record (judgement_case goal rest y j r cells) { goal = g }) (assuming_relabelled d.body rest (stay_named rest.hypotheses new))
 
-      pub split_relabelled : (chs : List Choice) (cells : Cells) (gs : List Sequent) → Split IsName cells (map Old chs) gs → Split IsName cells (map New chs) (map R gs)
-      split_relabelled [] cells [] done = done
-      split_relabelled [] cells (g ∷ gs) s = elim s [ ]
-      split_relabelled (c ∷ chs) cells gs (never n rest) = never n (split_relabelled chs cells gs rest)
-      split_relabelled (c ∷ chs) cells (g ∷ gs) (arises {after = after} a rest) = arises (arises_relabelled c cells after g a) (split_relabelled chs after gs rest)
+    cases_relabelled : (z : Subject) → Each AreRelabelled (cases_by goal rest x z) (cases_by goal rest y z)
+    cases_relabelled (an_atom d) = each_by AreRelabelled (case_of goal rest x d) (case_of goal rest y d) (choices_of (goal_names goal) d) (λ c m. choice_relabelled d c)
+    cases_relabelled (a_judgement j rs) = each_by AreRelabelled (judgement_case goal rest x j) (judgement_case goal rest y j) rs (λ r m. rule_relabelled j r)
 
-      pub unsplit_relabelled : (chs : List Choice) (cells : Cells) (i : ℕ) → IsUnsplit IsName cells (map Old chs) i → IsUnsplit IsName cells (map New chs) i
-      unsplit_relabelled [] cells i s = elim s [ ]
-      unsplit_relabelled (c ∷ chs) cells i (here o) = here o
-      unsplit_relabelled (c ∷ chs) cells i (past_never n rest) = past_never n (unsplit_relabelled chs cells i rest)
-      unsplit_relabelled (c ∷ chs) cells i (past_goal {after = after} {g = g} a rest) = past_goal (arises_relabelled c cells after g a) (unsplit_relabelled chs after i rest)
+    module _ (IsName : Naming) (by : IsByNames IsName) (z : Subject) where
+      pub split_relabelled : (cells : Cells) (gs : List Sequent) → Split IsName cells (cases_by goal rest x z) gs → Split IsName cells (cases_by goal rest y z) (map R gs)
+      split_relabelled = split_by IsName by (cases_by goal rest x z) (cases_by goal rest y z) (cases_relabelled z)
+
+      pub unsplit_relabelled : (cells : Cells) (i : ℕ) → IsUnsplit IsName cells (cases_by goal rest x z) i → IsUnsplit IsName cells (cases_by goal rest y z) i
+      unsplit_relabelled = unsplit_by IsName by (cases_by goal rest x z) (cases_by goal rest y z) (cases_relabelled z)

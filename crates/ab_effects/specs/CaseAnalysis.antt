@@ -1,5 +1,5 @@
--- WHAT COMES OF AN ATOM OF A HYPOTHESIS whose predicate is defined: the goal is split by the choices of its definition, and in
--- each case that arises the body of the clause is opened.
+-- WHAT COMES OF A HYPOTHESIS that is a defined atom or a judgement: the goal is split by the choices of the definition, or by the
+-- rules, and in each case that arises the body is opened.
 use Rattle.std.specs.Prelude.{◌≡◌, ℕ, suc, List, [], ◌∷◌}
 use Rattle.ab_term.specs.Terms.{Read}
 use Rattle.ab_unifiers.specs.Replacements.{Cell}
@@ -8,22 +8,21 @@ use Rattle.ab_formulas.specs.NewNames.{Label, IsNamedFor}
 use Rattle.ab_formulas.specs.Sequents.{Sequent, assuming}
 use Rattle.ab_theory.specs.Equations.{AreCells}
 use Rattle.ab_theory.specs.Splits.{Split, IsUnsplit}
-use Rattle.ab_theory.specs.Atoms.{Defined}
-use Rattle.ab_theory.specs.Analysis.{cases_of}
+use Rattle.ab_theory.specs.Subjects.{Subject, cases_by}
 use Rattle.ab_meaning.specs.Refusals.{Refusal, not_pattern}
 use Rattle.ab_effects.specs.Openings.{Opened, Nameless}
 
--- THE GOAL IS SPLIT by the atom, of which the rest stays: these are the cases that arise, in each of which the body is the
+-- THE GOAL IS SPLIT by it, and the rest stays: these are the cases that arise, in each of which the body is the
 -- last hypothesis, under some name
-abbrev pub IsParted : Declarations → Sequent → Sequent → Defined → List Sequent → Type 0
-IsParted D goal rest d gs =
-    (cells : List (Cell (List ℕ))) × AreCells cells goal × (name : List ℕ) × Split (IsNamedFor D) cells (cases_of goal rest name d) gs
+abbrev pub IsParted : Declarations → Sequent → Sequent → Subject → List Sequent → Type 0
+IsParted D goal rest x gs =
+    (cells : List (Cell (List ℕ))) × AreCells cells goal × (name : List ℕ) × Split (IsNamedFor D) cells (cases_by goal rest name x) gs
 
 -- IT CAN'T BE, since in the first case that is open an equation is outside the patterns. Equations are numbered from 1.
-abbrev pub IsUnparted : Declarations → Sequent → Sequent → Defined → Refusal → Type 0
-IsUnparted D goal rest d f =
+abbrev pub IsUnparted : Declarations → Sequent → Sequent → Subject → Refusal → Type 0
+IsUnparted D goal rest x f =
     (cells : List (Cell (List ℕ))) × AreCells cells goal × (name : List ℕ) × (i : ℕ)
-    × IsUnsplit (IsNamedFor D) cells (cases_of goal rest name d) i × (f ≡ not_pattern (suc i))
+    × IsUnsplit (IsNamedFor D) cells (cases_by goal rest name x) i × (f ≡ not_pattern (suc i))
 
 -- THE LAST HYPOTHESIS OF EACH GOAL IS OPENED there, with the label for the first hypothesis that comes of it
 pub data AllOpened (D : Declarations) (l : Label) : List Sequent → List Sequent → Type 0 where

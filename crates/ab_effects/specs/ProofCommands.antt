@@ -1,8 +1,9 @@
 -- THE PROOF COMMANDS, row by row: what is asked, in order, and the goals that take the first goal's place.
-use Rattle.std.specs.Prelude.{◌≡◌, ℕ, zero, suc, List, [], ◌∷◌, ◌++◌, map, length, codes, Bool, false, ◌||◌, All, Option, Some, None, if◌then◌else◌, is_some, bytes_eq, nat_lt}
+use Rattle.std.specs.Prelude.{◌≡◌, ℕ, zero, suc, List, [], ◌∷◌, ◌++◌, map, length, codes, Bool, false, ◌||◌, ◌==◌, All, Option, Some, None, if◌then◌else◌, is_some, bytes_eq, nat_lt}
 use Rattle.std.specs.List.{list_any}
+use Rattle.std.specs.Option.{option_and_then}
 use Rattle.std.specs.Fmt.{decimal}
-use Rattle.ab_term.specs.Types.{Ty}
+use Rattle.ab_term.specs.Types.{Ty, olist}
 use Rattle.ab_term.specs.Terms.{Nominal, Read}
 use Rattle.ab_term.specs.Names.{support, permute}
 use Rattle.ab_term.specs.Substitution.{instance}
@@ -15,13 +16,16 @@ use Rattle.ab_formulas.specs.Marks.{plain, star_of, at_of, plus_of, hash_of, Mar
 use Rattle.ab_formulas.specs.Sequents.{Sequent, IsUsed, formula_of, proving, assuming, without}
 use Rattle.ab_formulas.specs.NewNames.{Label, auto, given, Names, NoName, IsLeast}
 use Rattle.ab_formulas.specs.BodyMarks.{MayBeAnalysed, MayBeUnfolded}
-use Rattle.ab_theory.specs.Atoms.{defined_atom}
+use Rattle.ab_theory.specs.Subjects.{subject_of, sign_of}
+use Rattle.ab_theory.specs.Judgements.{as_unfocused, marked_judgement}
+use Rattle.ab_theory.specs.Contexts.{cut_list, replace_constants, is_within}
 use Rattle.ab_theory.specs.Conjuncts.{conjuncts, with_parts}
 use Rattle.ab_theory.specs.Induction.{inductive_signs, coinductive_signs, marked_antecedents, marked_consequents}
 use Rattle.ab_theory.specs.Levels.{next_level, inductive_level, coinductive_level}
 use Rattle.ab_theory.specs.Pieces.{Piece, Given, pieces, behind, antecedent_count, type_named, AllServe}
 use Rattle.ab_theory.specs.UseAnswers.{Using, IsUsedFor, awaited, result_in}
-use Rattle.ab_meaning.specs.Refusals.{Refusal, unknown, clash, no_hypothesis, wrong_shape, mark, not_pattern, names_spent}
+use Rattle.ab_meaning.specs.Refusals.{Refusal, unknown, clash, no_hypothesis, wrong_shape, mark, no_match, not_pattern, names_spent}
+use Rattle.ab_meaning.specs.Scopes.{nominal_number}
 use Rattle.ab_effects.specs.Row.{Row, leads, unless, finds, makes}
 use Rattle.ab_meaning.specs.Terms.{MeansIn, MeansNothingIn, Means, MeansNothing, Asserts, AssertsNothing}
 use Rattle.ab_effects.specs.Openings.{Opened, Nameless}
@@ -93,12 +97,12 @@ opening D F l s k = makes {A = Label × Sequent} (λ p. Opened D (F ∷ []) l s 
 abbrev pub marked_so : Type 0 → Row → Row
 marked_so P k = makes {A = Unit {0}} (λ u. P) (λ f. (¬ P) × (f ≡ mark)) (λ u. k)
 
--- an atom of the goal whose predicate is defined is analysed; the rest is what stays of the goal
+-- a defined atom or a judgement of the goal is analysed; the rest is what stays of the goal
 abbrev pub analysing : Declarations → Read → Label → Sequent → Sequent → Row
 analysing D F l goal rest =
-    finds wrong_shape (defined_atom D F) (λ d.
-    marked_so (MayBeAnalysed d.sign) (
-    makes {A = List Sequent} (IsParted D goal rest d) (IsUnparted D goal rest d) (λ gs.
+    finds wrong_shape (subject_of D F) (λ x.
+    marked_so (MayBeAnalysed (sign_of x)) (
+    makes {A = List Sequent} (IsParted D goal rest x) (IsUnparted D goal rest x) (λ gs.
     makes {A = List Sequent} (AllOpened D l gs) (λ f. SomeNameless D l gs × (f ≡ names_spent)) leads)))
 
 -- the name that a hypothesis of induction takes by itself: the word, or the word with a number
@@ -120,8 +124,7 @@ abbrev pub hypotheses_named : List ℕ → Label → List Read → Sequent → (
 hypotheses_named word l [] s k = k s
 hypotheses_named word l (F ∷ Fs) s k = hypothesis_named word l s (λ name. hypotheses_named word auto Fs (assuming name F s) k)
 
--- What `case` does to a hypothesis of that form of the goal, of which the last is what stays. A judgement has no shape for
--- it yet.
+-- what `case` does to a hypothesis of that form of the goal, of which the last is what stays
 abbrev pub cases : Declarations → Form → Read → Label → Sequent → Sequent → Row
 cases D truth F l goal s = opening D F l s (λ t. leads (t ∷ []))
 cases D (both A B) F l goal s = opening D F l s (λ t. leads (t ∷ []))
@@ -160,9 +163,32 @@ abbrev pub repeated : ℕ → List (Option Read)
 repeated zero = []
 repeated (suc n) = None ∷ repeated n
 
--- no such proof command is built yet
-abbrev pub not_built : Row
-not_built = unless (Some wrong_shape) (leads [])
+-- the constant of that number, if it is among these
+abbrev pub constant_numbered : List Nominal → ℕ → Option Nominal
+constant_numbered [] n = None
+constant_numbered (a ∷ names) n = if a.number == n then Some a else constant_numbered names n
+
+-- the constant of that name
+abbrev pub constant_in : List Nominal → List ℕ → Option Nominal
+constant_in names x = option_and_then (constant_numbered names) (nominal_number x)
+
+-- the first name that a term is given for and that is none of the constants'
+abbrev pub no_constant : List Nominal → List Instance → Option Refusal
+no_constant names [] = None
+no_constant names (i ∷ is) = if is_some (constant_in names i.name) then no_constant names is else Some (unknown i.name)
+
+-- the terms are read in order, each at the type of the constant that has its name, where the constants of those before it are
+-- known too
+abbrev pub reading_for : Declarations → Sequent → List Nominal → List Nominal → List Instance → (List (Nominal × Read) → Row) → Row
+reading_for D s known names [] k = k []
+reading_for D s known names (i ∷ is) k =
+    finds (unknown i.name) (constant_in names i.name) (λ a.
+    makes {A = Read} (MeansIn D (scope_with D s known) i.term a.type) (MeansNothingIn (scope_with D s known) i.term a.type) (λ t.
+    reading_for D s (known ++ support t) names is (λ rs. k ((a, t) ∷ rs))))
+
+-- `search` has no row: it closes the goal outright
+abbrev pub no_row : Row
+no_row = unless (Some wrong_shape) (leads [])
 
 -- WHAT A PROOF COMMAND DOES to the first goal, from these declarations, with its label
 abbrev pub effect : Declarations → Label → ProofCommand → Sequent → Row
@@ -237,16 +263,39 @@ effect D l (command.backchain H is) s =
     let hs = repeated n in
     left_to_show (using s gs (pieces n F) (record { hypotheses = hs; conclusion = Some s.conclusion }) F) (λ K.
     leads (map (λ A. proving A s) (awaited hs K))))))
-effect D l (command.cut H K) s = not_built
-effect D l (command.inst H is) s = not_built
-effect D l (command.monotone H e) s = not_built
-effect D l (command.search n) s = not_built
+effect D l (command.cut H K) s =
+    unless (clashing l s) (
+    finds (no_hypothesis H) (formula_of s H) (λ F.
+    finds (no_hypothesis K) (formula_of s K) (λ G.
+    finds wrong_shape (as_unfocused F) (λ p.
+    finds wrong_shape (as_unfocused G) (λ q.
+    finds no_match (cut_list p.0 q.1 q.0) (λ L.
+    naming l s (λ name t.
+    leads (assuming name (marked_judgement plain L p.1) t ∷ []))))))))
+effect D l (command.inst H is) s =
+    unless (clashing l s) (
+    finds (no_hypothesis H) (formula_of s H) (λ F.
+    finds wrong_shape (as_unfocused F) (λ p.
+    unless (if given_twice is then Some wrong_shape else None) (
+    let G = marked_judgement plain p.0 p.1 in
+    unless (no_constant (support G) is) (
+    reading_for D s [] (support G) is (λ rs.
+    naming l s (λ name t.
+    leads (assuming name (replace_constants rs G) t ∷ []))))))))
+effect D l (command.monotone H e) s =
+    unless (clashing l s) (
+    reading D s e olist (λ K.
+    finds (no_hypothesis H) (formula_of s H) (λ F.
+    finds wrong_shape (as_unfocused F) (λ p.
+    naming l s (λ name t.
+    leads (proving (is_within p.0 K) s ∷ assuming name (marked_judgement plain K p.1) t ∷ []))))))
+effect D l (command.search n) s = no_row
 effect D l command.skip s =
     leads []
 effect D l command.unfold_goal s =
-    finds wrong_shape (defined_atom D s.conclusion) (λ d.
-    marked_so (MayBeUnfolded d.sign) (
-    makes {A = Sequent} (IsUnfolded s d) (IsNotUnfolded s d) (λ t. leads (t ∷ []))))
+    finds wrong_shape (subject_of D s.conclusion) (λ x.
+    marked_so (MayBeUnfolded (sign_of x)) (
+    makes {A = Sequent} (IsUnfolded s x) (IsNotUnfolded s x) (λ t. leads (t ∷ []))))
 effect D l (command.permute ns None) s =
     of_one_type ns s (
     cycling ns s (λ ps.

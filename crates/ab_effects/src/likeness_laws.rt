@@ -1,21 +1,17 @@
-//! Laws of equations and of defined atoms of two goals that are the same with names for numbers.
+//! Laws of equations, and of defined atoms and judgements, of two goals that are the same with names for numbers.
 
-ghost use Rattle.std.specs.Prelude.{◌≡◌, ◌≢◌, ℕ, List, map, All, Contains, codes};
-ghost use Rattle.ab_term.specs.Variables.{Substitution, image};
-ghost use Rattle.ab_term.specs.Sameness.{same_number};
+ghost use Rattle.std.specs.Prelude.{◌≡◌, ◌≢◌, ℕ, List, [], map, All};
 ghost use Rattle.ab_term.specs.Terms.{Read};
 ghost use Rattle.ab_unifiers.specs.Replacements.{Cell};
-ghost use Rattle.ab_unifiers.specs.Unification.{unified, Solves};
+ghost use Rattle.ab_unifiers.specs.Clauses.{Each};
 ghost use Rattle.ab_formulas.specs.Declarations.{Declarations};
-ghost use Rattle.ab_formulas.specs.Sequents.{Hypothesis, Sequent, goal_names};
+ghost use Rattle.ab_formulas.specs.Sequents.{Hypothesis, Sequent};
 ghost use Rattle.ab_formulas.specs.NewNames.{IsNoVariable, IsNamedFor};
-ghost use Rattle.ab_formulas.specs.NamedGoals.{with_names, variable_named, named};
-ghost use Rattle.ab_theory.specs.Equations.{AreCells, made, Becomes, AreApart, AreStuck};
-ghost use Rattle.ab_theory.specs.Splits.{problem_of, NeverArises, IsOpen, Split, IsUnsplit};
-ghost use Rattle.ab_theory.specs.Atoms.{Defined, Choice, choices_of};
-ghost use Rattle.ab_theory.specs.Analysis.{cases_of};
-ghost use Rattle.ab_theory.specs.Unfolding.{unfolding_case};
-ghost use Rattle.ab_effects.specs.Likeness.{IsSameEquation, IsSameAtom, IsSameRest, relabelled};
+ghost use Rattle.ab_formulas.specs.NamedGoals.{named};
+ghost use Rattle.ab_theory.specs.Equations.{AreCells, Becomes, AreApart, AreStuck};
+ghost use Rattle.ab_theory.specs.Splits.{Split, IsUnsplit};
+ghost use Rattle.ab_theory.specs.Subjects.{Subject, Way, cases_by, ways_of};
+ghost use Rattle.ab_effects.specs.Likeness.{IsSameEquation, IsSameSubject, IsSameRest, HasItsOutcome, relabelled};
 
 /// AN EQUATION HAS ONE OUTCOME, whatever the numbers: where the first goal becomes another one, so does the second, and
 /// these are the same with names for numbers; one that is apart, or stuck, is so over other numbers too.
@@ -57,70 +53,54 @@ pub fn outcomes_exclude_each_other()
         AreApart cells s t r → AreStuck others u v w → ⊥ }
 {}
 
-/// A DEFINED ATOM SPLITS A GOAL IN ONE WAY, whatever the numbers: where it splits the first goal, it splits the second, and
-/// the lists are the same with names for numbers; where an equation is outside the patterns there, the one of the same
-/// number is so here. And not both come.
-pub fn defined_atoms_split_goals_in_one_way()
-    ensures split { (D : Declarations) (s u rest left : Sequent) (name : List ℕ) (d e : Defined) (cells others : List (Cell (List ℕ)))
+/// A SUBJECT SPLITS A GOAL IN ONE WAY, whatever the numbers: where a defined atom or a judgement splits the first goal, it splits
+/// the second, and the lists are the same with names for numbers; where an equation is outside the patterns there, the one of the
+/// same number is so here. And not both come.
+pub fn subjects_split_goals_in_one_way()
+    ensures split { (D : Declarations) (s u rest left : Sequent) (name : List ℕ) (x y : Subject) (cells others : List (Cell (List ℕ)))
         (gs : List Sequent) →
-        IsSameAtom D s u d e → IsSameRest D s u rest left → AreCells cells s → AreCells others u →
-        Split (IsNamedFor D) cells (cases_of s rest name d) gs →
-        (hs : List Sequent) × Split (IsNamedFor D) others (cases_of u left name e) hs × (map named gs ≡ map named hs) }
-    ensures one { (D : Declarations) (s u rest left : Sequent) (name : List ℕ) (d e : Defined) (cells others : List (Cell (List ℕ)))
+        IsSameSubject D s u x y → IsSameRest D s u rest left → AreCells cells s → AreCells others u →
+        Split (IsNamedFor D) cells (cases_by s rest name x) gs →
+        (hs : List Sequent) × Split (IsNamedFor D) others (cases_by u left name y) hs × (map named gs ≡ map named hs) }
+    ensures one { (D : Declarations) (s u rest left : Sequent) (name : List ℕ) (x y : Subject) (cells others : List (Cell (List ℕ)))
         (gs hs : List Sequent) →
-        IsSameAtom D s u d e → IsSameRest D s u rest left → AreCells cells s → AreCells others u →
-        Split (IsNamedFor D) cells (cases_of s rest name d) gs → Split (IsNamedFor D) others (cases_of u left name e) hs →
+        IsSameSubject D s u x y → IsSameRest D s u rest left → AreCells cells s → AreCells others u →
+        Split (IsNamedFor D) cells (cases_by s rest name x) gs → Split (IsNamedFor D) others (cases_by u left name y) hs →
         map named gs ≡ map named hs }
-    ensures freely { (D : Declarations) (s u rest left : Sequent) (name : List ℕ) (d e : Defined) (cells others : List (Cell (List ℕ)))
+    ensures freely { (D : Declarations) (s u rest left : Sequent) (name : List ℕ) (x y : Subject) (cells others : List (Cell (List ℕ)))
         (gs : List Sequent) →
-        IsSameAtom D s u d e → IsSameRest D s u rest left → AreCells cells s → AreCells others u →
-        Split (λ k hint x. IsNoVariable k x) cells (cases_of s rest name d) gs →
-        (hs : List Sequent) × Split (λ k hint x. IsNoVariable k x) others (cases_of u left name e) hs × (map named gs ≡ map named hs) }
-    ensures unsplit { (D : Declarations) (s u rest left : Sequent) (name : List ℕ) (d e : Defined) (cells others : List (Cell (List ℕ)))
+        IsSameSubject D s u x y → IsSameRest D s u rest left → AreCells cells s → AreCells others u →
+        Split (λ k hint z. IsNoVariable k z) cells (cases_by s rest name x) gs →
+        (hs : List Sequent) × Split (λ k hint z. IsNoVariable k z) others (cases_by u left name y) hs × (map named gs ≡ map named hs) }
+    ensures unsplit { (D : Declarations) (s u rest left : Sequent) (name : List ℕ) (x y : Subject) (cells others : List (Cell (List ℕ)))
         (i : ℕ) →
-        IsSameAtom D s u d e → IsSameRest D s u rest left → AreCells cells s → AreCells others u →
-        IsUnsplit (IsNamedFor D) cells (cases_of s rest name d) i → IsUnsplit (IsNamedFor D) others (cases_of u left name e) i }
-    ensures one_place { (D : Declarations) (s u rest left : Sequent) (name : List ℕ) (d e : Defined) (cells others : List (Cell (List ℕ)))
+        IsSameSubject D s u x y → IsSameRest D s u rest left → AreCells cells s → AreCells others u →
+        IsUnsplit (IsNamedFor D) cells (cases_by s rest name x) i → IsUnsplit (IsNamedFor D) others (cases_by u left name y) i }
+    ensures one_place { (D : Declarations) (s u rest left : Sequent) (name : List ℕ) (x y : Subject) (cells others : List (Cell (List ℕ)))
         (i j : ℕ) →
-        IsSameAtom D s u d e → IsSameRest D s u rest left → AreCells cells s → AreCells others u →
-        IsUnsplit (IsNamedFor D) cells (cases_of s rest name d) i → IsUnsplit (IsNamedFor D) others (cases_of u left name e) j →
+        IsSameSubject D s u x y → IsSameRest D s u rest left → AreCells cells s → AreCells others u →
+        IsUnsplit (IsNamedFor D) cells (cases_by s rest name x) i → IsUnsplit (IsNamedFor D) others (cases_by u left name y) j →
         i ≡ j }
-    ensures split_or_not { (D : Declarations) (s u rest left : Sequent) (name : List ℕ) (d e : Defined) (cells others : List (Cell (List ℕ)))
+    ensures split_or_not { (D : Declarations) (s u rest left : Sequent) (name : List ℕ) (x y : Subject) (cells others : List (Cell (List ℕ)))
         (gs : List Sequent) (i : ℕ) →
-        IsSameAtom D s u d e → IsSameRest D s u rest left → AreCells cells s → AreCells others u →
-        Split (IsNamedFor D) cells (cases_of s rest name d) gs → IsUnsplit (IsNamedFor D) others (cases_of u left name e) i → ⊥ }
+        IsSameSubject D s u x y → IsSameRest D s u rest left → AreCells cells s → AreCells others u →
+        Split (IsNamedFor D) cells (cases_by s rest name x) gs → IsUnsplit (IsNamedFor D) others (cases_by u left name y) i → ⊥ }
 {}
 
-/// The name under which the bodies of clauses are assumed, which no hypothesis has that is left of the goal, changes nothing
-/// but that name.
+/// The name under which bodies are assumed, which no hypothesis has that is left of the goal, changes nothing but that name.
 pub fn names_of_bodies_change_nothing_else()
-    ensures split { (D : Declarations) (s rest : Sequent) (x y : List ℕ) (d : Defined) (cells : List (Cell (List ℕ))) (gs : List Sequent) →
+    ensures split { (D : Declarations) (s rest : Sequent) (x y : List ℕ) (z : Subject) (cells : List (Cell (List ℕ))) (gs : List Sequent) →
         All (λ (h : Hypothesis). h.name ≢ x) rest.hypotheses →
-        Split (IsNamedFor D) cells (cases_of s rest x d) gs → Split (IsNamedFor D) cells (cases_of s rest y d) (map (relabelled x y) gs) }
-    ensures unsplit { (D : Declarations) (s rest : Sequent) (x y : List ℕ) (d : Defined) (cells : List (Cell (List ℕ))) (i : ℕ) →
+        Split (IsNamedFor D) cells (cases_by s rest x z) gs → Split (IsNamedFor D) cells (cases_by s rest y z) (map (relabelled x y) gs) }
+    ensures unsplit { (D : Declarations) (s rest : Sequent) (x y : List ℕ) (z : Subject) (cells : List (Cell (List ℕ))) (i : ℕ) →
         All (λ (h : Hypothesis). h.name ≢ x) rest.hypotheses →
-        IsUnsplit (IsNamedFor D) cells (cases_of s rest x d) i → IsUnsplit (IsNamedFor D) cells (cases_of s rest y d) i }
+        IsUnsplit (IsNamedFor D) cells (cases_by s rest x z) i → IsUnsplit (IsNamedFor D) cells (cases_by s rest y z) i }
 {}
 
-/// A CHOICE UNFOLDS A DEFINED ATOM IN ONE WAY, whatever the numbers: both atoms have the same choices, and each has the
-/// same outcome for both. Where it is answered the variables that are left open have the same names, and the conclusion
-/// is the same with names for numbers.
-pub fn choices_unfold_in_one_way()
-    ensures choices { (D : Declarations) (s u : Sequent) (d e : Defined) (cells others : List (Cell (List ℕ))) →
-        IsSameAtom D s u d e → AreCells cells s → AreCells others u → choices_of (goal_names s) d ≡ choices_of (goal_names u) e }
-    ensures never { (D : Declarations) (s u : Sequent) (d e : Defined) (cells others : List (Cell (List ℕ))) (c : Choice) →
-        IsSameAtom D s u d e → AreCells cells s → AreCells others u → Contains (choices_of (goal_names s) d) c →
-        NeverArises (unfolding_case cells s d c) → NeverArises (unfolding_case others u e c) }
-    ensures open { (D : Declarations) (s u : Sequent) (d e : Defined) (cells others : List (Cell (List ℕ))) (c : Choice) (i : ℕ) →
-        IsSameAtom D s u d e → AreCells cells s → AreCells others u → Contains (choices_of (goal_names s) d) c →
-        IsOpen (unfolding_case cells s d c) i → IsOpen (unfolding_case others u e c) i }
-    ensures answered { (D : Declarations) (s u : Sequent) (d e : Defined) (cells others : List (Cell (List ℕ))) (c : Choice)
-        (more : List (Cell (List ℕ))) (p : Substitution ℕ (List ℕ)) →
-        IsSameAtom D s u d e → AreCells cells s → AreCells others u → Contains (choices_of (goal_names s) d) c →
-        Solves (codes "x") (problem_of (unfolding_case cells s d c)) (unified more p) →
-        (most : List (Cell (List ℕ))) × (q : Substitution ℕ (List ℕ)) ×
-        Solves (codes "x") (problem_of (unfolding_case others u e c)) (unified most q) ×
-        (map variable_named (made cells more p) ≡ map variable_named (made others most q)) ×
-        (with_names s.variables (image same_number p (unfolding_case cells s d c).goal.conclusion) ≡
-        with_names u.variables (image same_number q (unfolding_case others u e c).goal.conclusion)) }
+/// A WAY UNFOLDS A CONCLUSION IN ONE WAY, whatever the numbers: a subject has as many ways in the second goal as in the first, and
+/// each has the outcome there that it has here. Where it leaves no variable open the body takes the conclusion's place as it is.
+pub fn subjects_unfold_in_one_way()
+    ensures outcomes { (D : Declarations) (s u : Sequent) (x y : Subject) (cells others : List (Cell (List ℕ))) →
+        IsSameSubject D s u x y → AreCells cells s → AreCells others u → Each (HasItsOutcome s u cells others) (ways_of s x) (ways_of u y) }
+    ensures bodies { (s : Sequent) (x : Subject) → All (λ (w : Way). (F : Read) → w.closed [] F ≡ F) (ways_of s x) }
 {}

@@ -7,11 +7,10 @@ use Rattle.ab_unifiers.specs.Replacements.{Cell}
 use Rattle.ab_unifiers.specs.Unification.{unified, Solves}
 use Rattle.ab_formulas.specs.Declarations.{Declarations, constant_names}
 use Rattle.ab_formulas.specs.NewNames.{Label, auto, given, Names, IsNamedFor}
-use Rattle.ab_formulas.specs.Sequents.{Variable, Sequent, goal_names, over}
+use Rattle.ab_formulas.specs.Sequents.{Variable, Sequent, over}
 use Rattle.ab_theory.specs.Equations.{made}
-use Rattle.ab_theory.specs.Splits.{problem_of}
-use Rattle.ab_theory.specs.Atoms.{Defined, Choice, choices_of}
-use Rattle.ab_theory.specs.Analysis.{case_of, cases_of}
+use Rattle.ab_theory.specs.Splits.{problem_of, CaseOver}
+use Rattle.ab_theory.specs.Subjects.{Subject, cases_by}
 use Rattle.ab_existence.specs.Certainty.{IsCertain}
 use Rattle.ab_existence.specs.FewNames.{HasRoom, HasRoomInCases}
 use Rattle.ab_existence.proofs.FreeNames.{name_by_hint}
@@ -34,12 +33,12 @@ module _ (D : Declarations) where
   room_kept (given x) s name v n named room = subst (λ t. HasRoom D t n) (sym named.2) room
 
   -- in each case
-  all_room_in : (goal rest : Sequent) (name : List ℕ) (d : Defined) (chs : List Choice)
-      → ((c : Choice) (cells more : List (Cell (List ℕ))) (r : Substitution ℕ (List ℕ)) → Contains chs c → Solves (codes "x") (problem_of (case_of goal rest name d c cells)) (unified more r)
-      → HasRoom D (case_of goal rest name d c cells).goal (length (made (case_of goal rest name d c cells).before more r)))
-      → AllHaveRoom (IsNamedFor D) (λ n s. HasRoom D s n) finds_name room_left (map (case_of goal rest name d) chs)
-  all_room_in goal rest name d [] room = tt
-  all_room_in goal rest name d (c ∷ chs) room = (λ cells more r p. room c cells more r (Contains-here c chs) p, all_room_in goal rest name d chs (λ e cells more r there p. room e cells more r (Contains-there c chs e there) p))
+  all_room_in : (cs : List CaseOver)
+      → ((c : CaseOver) (cells more : List (Cell (List ℕ))) (r : Substitution ℕ (List ℕ)) → Contains cs c → Solves (codes "x") (problem_of (c cells)) (unified more r)
+      → HasRoom D (c cells).goal (length (made (c cells).before more r)))
+      → AllHaveRoom (IsNamedFor D) (λ n s. HasRoom D s n) finds_name room_left cs
+  all_room_in [] room = tt
+  all_room_in (c ∷ cs) room = (λ cells more r p. room c cells more r (Contains-here c cs) p, all_room_in cs (λ e cells more r there p. room e cells more r (Contains-there c cs e there) p))
 
-  pub all_room : (goal rest : Sequent) (name : List ℕ) (d : Defined) → HasRoomInCases D goal rest name d → AllHaveRoom (IsNamedFor D) (λ n s. HasRoom D s n) finds_name room_left (cases_of goal rest name d)
-  all_room goal rest name d room = all_room_in goal rest name d (choices_of (goal_names goal) d) room
+  pub all_room : (goal rest : Sequent) (name : List ℕ) (x : Subject) → HasRoomInCases D goal rest name x → AllHaveRoom (IsNamedFor D) (λ n s. HasRoom D s n) finds_name room_left (cases_by goal rest name x)
+  all_room goal rest name x room = all_room_in (cases_by goal rest name x) room

@@ -10,10 +10,9 @@ use Rattle.ab_formulas.specs.Declarations.{Declarations}
 use Rattle.ab_formulas.specs.Forms.{as_equal}
 use Rattle.ab_formulas.specs.NewNames.{IsNoVariable, Names}
 use Rattle.ab_formulas.specs.Sequents.{Variable, Sequent, formula_of, without, over}
-use Rattle.ab_theory.specs.Atoms.{Defined, defined_atom}
+use Rattle.ab_theory.specs.Subjects.{Subject, subject_of, cases_by}
 use Rattle.ab_theory.specs.Equations.{Naming, problem, made}
 use Rattle.ab_theory.specs.Splits.{CaseOver}
-use Rattle.ab_theory.specs.Analysis.{cases_of}
 use Rattle.ab_formulas.specs.Marks.{star_of, plus_of}
 use Rattle.ab_theory.specs.Conjuncts.{conjuncts}
 use Rattle.ab_theory.specs.Induction.{marked_antecedents, marked_consequents}
@@ -39,8 +38,8 @@ module _ (D : Declarations) (new : Making) (Room : ℕ → Sequent → Type 0)
       (F : Read) (p : Read × Read) → formula_of s H ≡ Some F → as_equal F ≡ Some p
       → (more : List (Cell (List ℕ))) (r : Substitution ℕ (List ℕ)) → Solves (codes "x") (problem new.cells (without H s) p.0 p.1) (unified more r) → Room (length (made new.cells more r)) (without H s)
   Needs (definition_left H l) s =
-      (F : Read) (d : Defined) (name : List ℕ) (t : Sequent) → formula_of s H ≡ Some F → defined_atom D F ≡ Some d → Names l (without H s) name t
-      → AllHaveRoom new.IsName Room finds less (cases_of s t name d)
+      (F : Read) (x : Subject) (name : List ℕ) (t : Sequent) → formula_of s H ≡ Some F → subject_of D F ≡ Some x → Names l (without H s) name t
+      → AllHaveRoom new.IsName Room finds less (cases_by s t name x)
   Needs _ s = Unit {0}
 
   raised_there : (s : Sequent) (F : Read) (hint : List ℕ) → Room 1 s → IsCertain ((p : List Nominal × List ℕ) × Raises new s F hint p)
@@ -64,16 +63,16 @@ module _ (D : Declarations) (new : Making) (Room : ℕ → Sequent → Type 0)
   has_answers (nabla_left H l) s room = λ F e q f L t n. constant_there s F q.0
   has_answers equal_right s room = λ p e same. tt
   has_answers (equal_left H) s room = λ F e p f. solved_there new.IsName Room finds less new.cells (without H s) p.0 p.1 (room F p e f)
-  has_answers (definition_right i) s room = λ d e may c f. tt
-  has_answers (definition_left H l) s room = λ F e d f may L t n. split_there new.IsName Room finds less new.cells (cases_of s t L d) (room F d L t e f n)
+  has_answers (definition_right i) s room = λ x e may w f. tt
+  has_answers (definition_left H l) s room = λ F e x f may L t n. split_there new.IsName Room finds less new.cells (cases_by s t L x) (room F x L t e f n)
   has_answers (induction ns ls) s room = λ ms e plain. each_answered 3 ls (marked_antecedents ns (star_of (next_level inductive_level s)) (conjuncts s.conclusion)) s _ (λ t. tt)
   has_answers (coinduction ls) s room = λ ms e plain. each_answered 3 ls (marked_consequents (plus_of (next_level coinductive_level s)) (conjuncts s.conclusion)) s _ (λ t. tt)
   has_answers (cut_formula F l) s room = λ fits L t n. tt
   has_answers (use_theorem n l) s room = λ F e L t k. tt
   has_answers (weaken H) s room = λ F e. tt
-  has_answers (spec_cut H K l) s room = λ none. absurd none
-  has_answers (spec_instance H r l) s room = λ none. absurd none
-  has_answers (spec_monotone H K l) s room = λ none. absurd none
+  has_answers (spec_cut H K l) s room = λ F e G f p i q j L c N t n. tt
+  has_answers (spec_instance H rs l) s room = λ F e p i may fit N t n. tt
+  has_answers (spec_monotone H K l) s room = λ F e p i fits N t n. tt
   has_answers skip s room = tt
 
   pub step_answered : (step : Step) (s : Sequent) → Needs step s → IsCertain (Answer (row D new step s))
@@ -91,7 +90,7 @@ any_finds s hint = sure (some_name s hint)
 
 needs_nothing : (D : Declarations) (cells : List (Cell (List ℕ))) (step : Step) (s : Sequent) → Needs D (any_name cells) (λ n s. Unit {0}) (λ n t hint room. any_finds t hint) (λ n t y room. tt) step s
 needs_nothing D cells (equal_left H) s = λ F p e f more r solved. tt
-needs_nothing D cells (definition_left H l) s = λ F d name t e f named. any_room (λ v hint x. IsNoVariable v x) any_finds (cases_of s t name d)
+needs_nothing D cells (definition_left H l) s = λ F x name t e f named. any_room (λ v hint y. IsNoVariable v y) any_finds (cases_by s t name x)
 needs_nothing D cells _ s = tt
 
 pub answered_by_any_name : (D : Declarations) (cells : List (Cell (List ℕ))) (step : Step) (s : Sequent) → IsCertain (Answer (row D (any_name cells) step s))
@@ -101,7 +100,7 @@ answered_by_any_name D cells step s = step_answered D (any_name cells) (λ n s. 
 
 needs_room : (D : Declarations) (cells : List (Cell (List ℕ))) (step : Step) (s : Sequent) → StepFindsNames D step s → Needs D (by_hint D cells) (λ n s. HasRoom D s n) (finds_name D) (room_left D) step s
 needs_room D cells (equal_left H) s room = λ F p e f more r solved. room F p e f cells more r solved
-needs_room D cells (definition_left H l) s room = λ F d name t e f named. all_room D s t name d (room F d name t e f named)
+needs_room D cells (definition_left H l) s room = λ F x name t e f named. all_room D s t name x (room F x name t e f named)
 needs_room D cells for_all_right s room = room
 needs_room D cells (exists_left H l) s room = room
 needs_room D cells _ s room = tt

@@ -4,7 +4,6 @@ pub mod Lifts
 pub mod One
 pub mod Weights
 pub mod Deciding
-pub mod Demands
 pub mod Smaller
 pub mod Some
 pub mod Telling
@@ -29,10 +28,6 @@ pub mod Clauses
 pub mod ByClause
 pub mod Root
 pub mod Layers
-pub mod Known
-pub mod Demanded
-pub mod FocusParts
-pub mod RuleDemands
 pub mod Carried
 pub mod ClauseParts
 pub mod Images

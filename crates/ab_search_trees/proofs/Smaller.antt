@@ -24,7 +24,7 @@ use Rattle.ab_search_trees.specs.Judgements.{layer_of, opened_once, is_blind, se
 use Rattle.ab_search_trees.specs.Ways.{Way, equating, unfolds, new_term, by_truth, by_hypothesis, by_layer, by_form, by_choice, by_definition, in_turn, by_rule, by_judgement, ways}
 use Rattle.ab_search_trees.proofs.Weights.{weight, instance_weighs, instance_stands, body_stands, Parts, parts_of}
 use Rattle.ab_formulas.proofs.Images.{image_stands}
-use Rattle.ab_search_trees.proofs.Demands.{demand_stands}
+use Rattle.ab_theory.proofs.Demands.{demand_stands}
 
 pub data Less (g h : Goal) : Type 0 where
   in_depth : h.depth < g.depth → Less g h
