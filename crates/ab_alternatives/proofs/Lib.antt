@@ -20,6 +20,6 @@ pub mod Lasting
 pub mod Searched
 mod Listed
 mod Chosen
-mod Passed
+pub mod Passed
 pub mod Later
 mod NextChoice

@@ -71,18 +71,18 @@ module _ (cells : List (Cell (List ℕ))) (s : Sequent) (d : Defined) (c : Choic
       ∙ ap (λ l. made_with l parts.equations) (drop-append_seam cells own)
 
 -- equations where no cell is bound
-unbound_equations : (T : Table) (S : Contents) → S.bindings ≡ [] → (k : ℕ) (es : List Kept) → equations_from T S k es ≡ trees_from T S k es
+pub unbound_equations : (T : Table) (S : Contents) → S.bindings ≡ [] → (k : ℕ) (es : List Kept) → equations_from T S k es ≡ trees_from T S k es
 unbound_equations T S none k [] = refl
 unbound_equations T S none k (e ∷ es) =
     ap (λ l. record { place = k; left = l; right = reading T S e.right } ∷ equations_from T S (k + 1) es) (unbound_reads S none T e.left)
     ∙ ap (λ r. record { place = k; left = tree_of T S e.left; right = r } ∷ equations_from T S (k + 1) es) (unbound_reads S none T e.right)
     ∙ ap (λ l. record { place = k; left = tree_of T S e.left; right = tree_of T S e.right } ∷ l) (unbound_equations T S none (k + 1) es)
 
-numbered_length : (n : ℕ) (cs : List (Cell (List ℕ))) → length (numbered n cs) ≡ length cs
+pub numbered_length : (n : ℕ) (cs : List (Cell (List ℕ))) → length (numbered n cs) ≡ length cs
 numbered_length n [] = refl
 numbered_length n (c ∷ cs) = ap suc (numbered_length (suc n) cs)
 
-numbered_from : (T : Table) (S : Contents) (n : ℕ) (post : List (Cell (List ℕ))) (cs : List CellId) → variables_read T S cs ≡ numbered n post → length S.cells ≡ n + length post → AreFrom S n cs
+pub numbered_from : (T : Table) (S : Contents) (n : ℕ) (post : List (Cell (List ℕ))) (cs : List CellId) → variables_read T S cs ≡ numbered n post → length S.cells ≡ n + length post → AreFrom S n cs
 numbered_from T S n [] [] e l = omega (arith, l)
 numbered_from T S n (p ∷ post) [] e l = absurd (cc)
 numbered_from T S n [] (c ∷ cs) e l = absurd (cc)

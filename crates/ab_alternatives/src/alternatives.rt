@@ -89,7 +89,7 @@ fn add_equations(
 }
 
 /// The terms of the first list with those of the second, one against one.
-pub(crate) fn equated(
+pub fn equated(
     alloc: Global,
     left: &[TermId],
     right: &[TermId],

@@ -22,7 +22,7 @@ pub struct DefinedAtom {
 }
 
 /// The clause again.
-fn copy_clause(alloc: Global, clause: &ClauseTerm) -> Result<ClauseTerm, AllocError>
+pub fn copy_clause(alloc: Global, clause: &ClauseTerm) -> Result<ClauseTerm, AllocError>
     ensures { IfOk result (λ c. c ≡ clause.now) }
 {
     let variables = Vec::from_slice(alloc, clause.variables.as_slice())?;

@@ -70,7 +70,7 @@ fn tell_open(
 
 /// The equations of the unfolding are solved: only its own cells may be replaced, which are the last ones. Cells are bound
 /// then where they are made true.
-fn solve_match<L>(
+pub fn solve_match<L>(
     alloc: Global,
     types: &mut TypeTable,
     store: &mut Store,

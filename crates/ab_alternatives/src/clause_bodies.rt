@@ -31,10 +31,10 @@ use std::alloc::{AllocError, Global};
 /// What an atom of a conclusion may become: the clause's own variables, the equations, and the clause's body, with its
 /// marks.
 #[derive(Drop)]
-pub(crate) struct Unfolding {
-    pub(crate) own: Vec<CellId>,
-    pub(crate) equations: Vec<Equation>,
-    pub(crate) body: TermId,
+pub struct Unfolding {
+    pub own: Vec<CellId>,
+    pub equations: Vec<Equation>,
+    pub body: TermId,
 }
 
 /// The unfolding of the atom by the clause, with these constants for its names. `constants` are those of the atom. No

@@ -29,7 +29,7 @@ use std::alloc::{AllocError, Global};
 
 /// What comes of unfolding a conclusion.
 #[derive(Clone, Copy)]
-pub(crate) enum Conclusion {
+pub enum Conclusion {
     /// This is the conclusion then.
     Formula(TermId),
     /// Nothing makes the atom an instance of the clause.
@@ -110,7 +110,7 @@ fn conclude<L>(
 
 /// The unfolding is solved: only its own cells may be replaced, which are the last ones. Cells are bound then where there is
 /// a formula.
-pub(crate) fn solve_unfolding<L>(
+pub fn solve_unfolding<L>(
     alloc: Global,
     types: &mut TypeTable,
     store: &mut Store,

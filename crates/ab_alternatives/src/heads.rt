@@ -45,7 +45,7 @@ pub fn predicate_under(types: &TypeTable, store: &Store, id: TermId) -> Option<C
 }
 
 /// Whether the two constants are the same.
-fn are_same(a: ConstId, b: ConstId) -> bool
+pub fn are_same(a: ConstId, b: ConstId) -> bool
     ensures { (result ≡ true) ↔ (a ≡ b) }
 {
     a == b

@@ -46,11 +46,7 @@ use ab_typing::ClauseTerm;
 use std::alloc::{AllocError, Global};
 
 /// The first cells, and then the others.
-pub(crate) fn both(
-    alloc: Global,
-    first: &[CellId],
-    second: &[CellId],
-) -> Result<Vec<CellId>, AllocError>
+pub fn both(alloc: Global, first: &[CellId], second: &[CellId]) -> Result<Vec<CellId>, AllocError>
     ensures { IfOk result (λ cells. cells.items ≡ first.now ++ second.now) }
 {
     let mut cells = Vec::from_slice(alloc, first)?;
@@ -59,7 +55,7 @@ pub(crate) fn both(
 }
 
 /// What is left of the goal, over these variables, with the body of the clause as a hypothesis of the name.
-fn goal_over(
+pub fn goal_over(
     alloc: Global,
     rest: &Sequent,
     variables: &[CellId],

@@ -27,7 +27,7 @@ variables_push n (d ∷ cs) c =
     (variables_push (n + 1) cs c ∙ ap (λ (k : ℕ). variables_from (n + 1) cs ++ record { number = k; type = c.type; name = c.hint } ∷ []) e)
 
 module _ (T : Table) where
-  grows_by : (S V : Contents) → IsExtendedBy S V → IsTypedBy T V → Grows T S T V
+  pub grows_by : (S V : Contents) → IsExtendedBy S V → IsTypedBy T V → Grows T S T V
   grows_by S V more typed = record {
     table = ([], sym (append-nil T));
     kinds = refl;
@@ -38,7 +38,7 @@ module _ (T : Table) where
     marks = more.marks;
   }
 
-  still_at : (S V : Contents) → IsExtendedBy S V → (ds : List CellId) → All (HoldsCell S) ds → map (variable_at T V) ds ≡ map (variable_at T S) ds
+  pub still_at : (S V : Contents) → IsExtendedBy S V → (ds : List CellId) → All (HoldsCell S) ds → map (variable_at T V) ds ≡ map (variable_at T S) ds
   still_at S V more [] h = refl
   still_at S V more (c ∷ cs) h =
       ap (λ (e : CellEntry). record { number = c.0; type = type_of T e.ty; name = e.hint } ∷ map (variable_at T V) cs) (more.cells c (All-head (HoldsCell S) c cs h))

@@ -1,5 +1,5 @@
 //! Names that stand in goals alone.
-ghost use Rattle.std.specs.Prelude.{◌≡◌, map, filter, not, All, IfOk};
+ghost use Rattle.std.specs.Prelude.{◌≡◌, map, not, length, vec_len, All, IfOk};
 ghost use Rattle.std.specs.List.{list_any};
 ghost use Rattle.ab_norm.specs.ab_types.specs.Entries.{Table};
 ghost use Rattle.ab_norm.specs.ab_store.specs.Trees.{Holds, HoldsCell, tree_of};
@@ -7,6 +7,7 @@ ghost use Rattle.ab_norm.specs.ab_store.specs.Reading.{cell_variable};
 ghost use Rattle.ab_unifiers.specs.Replacements as solve;
 ghost use Rattle.ab_alternatives.specs.RightAlternatives.{variable_at};
 ghost use Rattle.ab_theory.specs.SpecRules.{stands_in_goals_alone};
+ghost use Rattle.ab_judgements.specs.DemandWalks.{trues, chosen};
 
 use ab_norm::store::{CellId, Store, TermId};
 use ab_patterns::occurs;
@@ -53,9 +54,10 @@ fn stands_in_goals_alone(
     Ok(!in_atom)
 }
 
-/// Cells for names of a clause: those that stand in goals alone, and the others.
+/// Cells for names of a clause: whether each stands in goals alone; those that do, and the others.
 #[derive(Drop)]
 pub(crate) struct Sides {
+    pub(crate) alone: Vec<bool>,
     pub(crate) closed: Vec<CellId>,
     pub(crate) own: Vec<CellId>,
 }
@@ -71,21 +73,26 @@ pub(crate) fn sides_of(
     requires atom { Holds store.now atom }
     requires goals { All (Holds store.now) goals.now }
     requires cells { All (HoldsCell store.now) cells.now }
-    ensures closed { IfOk result (λ sides. (types : Table) → map (variable_at types store.now) sides.closed.items
-        ≡ filter (stands_in_goals_alone (tree_of types store.now atom) (map (tree_of types store.now) goals.now)) (map (variable_at types store.now) cells.now)) }
-    ensures own { IfOk result (λ sides. (types : Table) → map (variable_at types store.now) sides.own.items
-        ≡ filter (λ y. not (stands_in_goals_alone (tree_of types store.now atom) (map (tree_of types store.now) goals.now) y)) (map (variable_at types store.now) cells.now)) }
+    ensures alone { IfOk result (λ sides. (types : Table) → sides.alone.items
+        ≡ map (stands_in_goals_alone (tree_of types store.now atom) (map (tree_of types store.now) goals.now)) (map (variable_at types store.now) cells.now)) }
+    ensures closed { IfOk result (λ sides. sides.closed.items ≡ chosen sides.alone.items cells.now) }
+    ensures own { IfOk result (λ sides. sides.own.items ≡ chosen (map not sides.alone.items) cells.now) }
+    ensures long { IfOk result (λ sides. length sides.alone.items ≡ length cells.now) }
+    ensures count { IfOk result (λ sides. vec_len sides.closed ≡ trues sides.alone.items) }
     ensures closed_held { IfOk result (λ sides. All (HoldsCell store.now) sides.closed.items) }
     ensures own_held { IfOk result (λ sides. All (HoldsCell store.now) sides.own.items) }
 {
+    let mut alone = Vec::new(alloc);
     let mut closed = Vec::new(alloc);
     let mut own = Vec::new(alloc);
     for cell in cells {
-        if stands_in_goals_alone(alloc, store, atom, goals, *cell)? {
+        let is_closed = stands_in_goals_alone(alloc, store, atom, goals, *cell)?;
+        alone.push(is_closed)?;
+        if is_closed {
             closed.push(*cell)?;
         } else {
             own.push(*cell)?;
         }
     }
-    Ok(Sides { closed, own })
+    Ok(Sides { alone, closed, own })
 }

@@ -25,13 +25,13 @@ use std::alloc::{AllocError, Global};
 
 /// The constant `member`, and the type of what it says to be in a list.
 #[derive(Clone, Copy)]
-struct Membership {
-    member: ConstId,
-    o: TypeId,
+pub(crate) struct Membership {
+    pub(crate) member: ConstId,
+    pub(crate) o: TypeId,
 }
 
 /// The words for membership in the world.
-fn words_of(alloc: Global, world: &World) -> Result<Membership, AllocError>
+pub(crate) fn words_of(alloc: Global, world: &World) -> Result<Membership, AllocError>
     requires { IsWorld world.now }
     ensures member { IfOk result (λ words. IsMember world.now.types words.member) }
     ensures o { IfOk result (λ words. IsO world.now.types words.o) }
@@ -123,7 +123,11 @@ fn exists_item(
 }
 
 /// The name that the innermost binder binds, which takes nothing.
-fn first_name(alloc: Global, types: &TypeTable, store: &mut Store) -> Result<TermId, AllocError>
+pub(crate) fn first_name(
+    alloc: Global,
+    types: &TypeTable,
+    store: &mut Store,
+) -> Result<TermId, AllocError>
     requires store { IsTypedBy types.now store.old }
     ensures held { IfOk result (λ r. Holds store.new r) }
     ensures tree { IfOk result (λ r. tree_of types.now store.new r ≡ spine (index 0) no_terms) }
@@ -135,7 +139,7 @@ fn first_name(alloc: Global, types: &TypeTable, store: &mut Store) -> Result<Ter
 
 /// That some formula of the list comes into focus: `exists F, {L, [F] |- A} /\ member F L`, of which the judgement has the
 /// mark.
-fn some_item_by(
+pub(crate) fn some_item_by(
     alloc: Global,
     types: &TypeTable,
     store: &mut Store,

@@ -70,7 +70,7 @@ pub(crate) fn with_mark(
 }
 
 /// The judgement of the list and the goal, with the mark.
-fn judged(
+pub(crate) fn judged(
     alloc: Global,
     types: &TypeTable,
     store: &mut Store,
