@@ -26,3 +26,8 @@ module _ (w v : World) (is : IsWorld w) (grows : Grows w v) (additions : v.addit
   pub declared_typed : {X E : Type 0} (A : Ty) (r : Result X E) → OnOk r (FindsOrAdds w.types (a_type A) v.types) → OnErr r (v.types ≡ w.types) → declarations_of v ≡ declarations_of w
   declared_typed A (Ok x) added same = typed A added
   declared_typed A (Err e) added same = declared_same same
+
+-- one after another
+pub declared_on : (u v w : World) → IsWorld u → Grows u v → v.additions ≡ u.additions → v.types ≡ u.types → Grows v w → w.additions ≡ v.additions → w.types ≡ v.types
+    → declarations_of w ≡ declarations_of u
+declared_on u v w is a additions types b more others = declared_same v w a.world b more others ∙ declared_same u v is a additions types

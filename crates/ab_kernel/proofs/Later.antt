@@ -16,7 +16,7 @@ use Rattle.ab_kernel.specs.declared.step.Step.{Step}
 use Rattle.ab_kernel.specs.declared.step.Step.TheVariants.{Initial, TrueRight, FalseLeft, AndRight, AndLeft, OrRight, OrLeft, ArrowRight, ArrowLeft, ForallRight, ForallLeft, ExistsRight, ExistsLeft, NablaRight, NablaLeft, EqualRight, EqualLeft, DefRight, DefLeft, Induction, Coinduction, CutFormula, UseTheorem, Weaken, SpecCut, SpecInst, SpecMonotone, Skip}
 use Rattle.ab_kernel.specs.Nodes.{sequents_in}
 use Rattle.ab_kernel.specs.Layout.{StepAt, steps_in, Held, premises_of, sequents_before, made_by, history_of, HoldsProof, IsProof}
-use Rattle.ab_kernel.specs.RuleAnswers.{step_of, HoldsStep, label_of, replacements}
+use Rattle.ab_kernel.specs.RuleAnswers.{step_of, HoldsStep, HoldsReplace, label_of, replacements}
 use Rattle.ab_theory.specs.Steps as plain
 use Rattle.ab_theory.specs.Derivations.{Derivation, root, Valid, History, after}
 use Rattle.ab_theory.specs.Growth.{AddsNoClause}
@@ -29,9 +29,9 @@ module _ (w v : World) (grown : Grows w v) where
   same_nominal r h =
       ap (λ t. nominal_of t r.from) grown.types.1 ∙ ap (λ A. record { number = r.from.number; type = A }) (same_type w.types grown.types.0 r.from.ty h)
 
-  same_replacements : (rs : List Replace) → All (λ (r : Replace). HoldsNominal w.types r.from × Holds w r.to) rs → replacements v rs ≡ replacements w rs
+  pub same_replacements : (rs : List Replace) → All (HoldsReplace w) rs → replacements v rs ≡ replacements w rs
   same_replacements rs all =
-      map_same (λ (r : Replace). pair v r) (λ (r : Replace). pair w r) (λ (r : Replace). HoldsNominal w.types r.from × Holds w r.to)
+      map_same (λ (r : Replace). pair v r) (λ (r : Replace). pair w r) (HoldsReplace w)
       (λ r h. ap (λ n. both n (read v r.to)) (same_nominal r h.0) ∙ ap (both (nominal_of w.types r.from)) (grown.readings r.to h.1)) rs all
     where
       both : Nominal → Read → Nominal × Read
@@ -73,6 +73,9 @@ module _ (w v : World) (grown : Grows w v) where
   still_nominal : (r : Replace) → HoldsNominal w.types r.from → HoldsNominal v.types r.from
   still_nominal r h = subst (λ t. HoldsNominal t r.from) (sym grown.types.1) (holds_type w.types grown.types.0 r.from.ty h)
 
+  pub still_replaces : (rs : List Replace) → All (HoldsReplace w) rs → All (HoldsReplace v) rs
+  still_replaces rs all = All-weaker (HoldsReplace w) (HoldsReplace v) (λ r q. (still_nominal r q.0, grown.ids r.to q.1)) rs all
+
   pub still_step : (step : Step) → HoldsStep w step → HoldsStep v step
   still_step (Initial H) h = tt
   still_step TrueRight h = tt
@@ -99,7 +102,7 @@ module _ (w v : World) (grown : Grows w v) where
   still_step (UseTheorem n l) h = tt
   still_step (Weaken H) h = tt
   still_step (SpecCut H K l) h = tt
-  still_step (SpecInst H rs l) h = All-weaker (λ (r : Replace). HoldsNominal w.types r.from × Holds w r.to) (λ (r : Replace). HoldsNominal v.types r.from × Holds v r.to) (λ r q. (still_nominal r q.0, grown.ids r.to q.1)) rs h
+  still_step (SpecInst H rs l) h = still_replaces rs h
   still_step (SpecMonotone H K l) h = grown.ids K h
   still_step Skip h = tt
 
@@ -135,7 +138,7 @@ pub same_declared : (w v : World) → declarations_of v ≡ declarations_of w �
 same_declared w v declared = subst (AddsNoClause (declarations_of w)) (sym declared) (adds_none (declarations_of w))
 
 pub still_derived : (w v : World) → AddsNone w v → (d : Derivation) → Valid (declarations_of w) d → Valid (declarations_of v) d
-still_derived w v none d valid = still_valid (declarations_of w) (declarations_of v) none.longer d valid
+still_derived w v none d valid = still_valid (declarations_of w) (declarations_of v) none d valid
 
 pub outlived_proof : (w v : World) → Grows w v → AddsNone w v → (p : Held) → IsProof w p → IsProof v p
 outlived_proof w v grown none p proof = record {

@@ -1,5 +1,7 @@
 pub mod Declared
 pub mod Adding
+mod JudgementRows
+mod Replacing
 pub mod Making
 pub mod Chosen
 pub mod NewNumbers
@@ -19,3 +21,4 @@ pub mod Trees
 pub mod Growing
 pub mod Owing
 mod SizeRows
+mod SubjectRows

@@ -12,6 +12,8 @@ use Rattle.ab_formulas.specs.Sequents.{Sequent, IsSequent}
 use Rattle.ab_logic.specs.SequentReadings.{sequent_of, HoldsSequent}
 use Rattle.ab_logic.specs.declared.world.World.{World}
 use Rattle.ab_logic.specs.declared.sequent.Sequent.{Sequent as Kept}
+use Rattle.ab_logic.proofs.BuiltIn.{has_member}
+use Rattle.ab_logic.proofs.Programs.{have_programs}
 use Rattle.ab_kernel.specs.declared.step.Step.{Step}
 use Rattle.ab_kernel.specs.declared.step.KernelFault.{KernelFault}
 use Rattle.ab_kernel.specs.declared.step.KernelFault.TheVariants.{RuleFails, NotPattern, Memory}
@@ -141,7 +143,7 @@ module _ (w v : World) (grown : Grows w v) (declared : declarations_of v ≡ dec
 pub goal_sequent : (w : World) (p : Held) (place : ℕ) (s : Sequent) → IsWorld w → IsProof w p → goal_at (history_of w p).tree place ≡ Some s → IsSequent (declarations_of w) s
 goal_sequent w p place s world proof at =
     let gs = open_goals (history_of w p).tree in
-    let all = open_are_sequents (declarations_of w) world.sentences world.definitions (history_of w p).tree proof.valid proof.held.rooted in
+    let all = open_are_sequents (declarations_of w) world.sentences world.definitions (have_programs w world) (has_member w world) (history_of w p).tree proof.valid proof.held.rooted in
     subst (IsSequent (declarations_of w)) (get_or_from_slice_get gs place s s at) (all place s (slice_get_within gs place s at))
 
 -- the goal at which the step is taken

@@ -12,9 +12,9 @@ use Rattle.ab_theory.specs.Conjuncts.{conjuncts, with_parts}
 use Rattle.ab_theory.specs.Levels.{next_level}
 use Rattle.ab_theory.specs.Row.{Row, labelled_each, Takes, FailsFirst}
 use Rattle.ab_theory.specs.Rules.{Making, row}
-use Rattle.ab_alternatives.specs.ab_sequents.specs.Kinds.{level_by, signs_by, marked_by}
-use Rattle.ab_alternatives.specs.ab_sequents.specs.declared.levels.Kind.{Kind}
-use Rattle.ab_alternatives.specs.ab_sequents.specs.declared.levels.Kind.TheVariants.{Induction, Coinduction}
+use Rattle.ab_judgements.specs.ab_alternatives.specs.ab_sequents.specs.Kinds.{level_by, signs_by, marked_by}
+use Rattle.ab_judgements.specs.ab_alternatives.specs.ab_sequents.specs.declared.levels.Kind.{Kind}
+use Rattle.ab_judgements.specs.ab_alternatives.specs.ab_sequents.specs.declared.levels.Kind.TheVariants.{Induction, Coinduction}
 use Rattle.ab_kernel.specs.SizeSteps.{Assumes, AssumesNot, same_by, smaller_by, step_by}
 
 -- each hypothesis gets its name, or one doesn't

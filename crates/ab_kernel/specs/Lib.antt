@@ -5,8 +5,11 @@ pub mod Items
 pub mod SizeSteps
 pub mod Terms
 pub mod UsedNumbers
+pub mod StandsAgain
 -- What a proof stands for: its nodes, and how its fields hold them.
 pub mod Nodes
 pub mod NodeTrees
 pub mod Debts
 pub mod Layout
+-- Libraries that the crates above name through this one.
+pub use Rattle.ab_judgements

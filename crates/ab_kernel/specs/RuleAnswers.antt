@@ -13,7 +13,7 @@ use Rattle.ab_theory.specs.Steps as plain
 use Rattle.ab_theory.specs.Row.{Row, Takes, FailsFirst, Sticks}
 use Rattle.ab_theory.specs.Rules.{row, by_hint}
 use Rattle.ab_kernel.specs.declared.replaces.Replace.{Replace}
-pub use Rattle.ab_alternatives.specs.ab_equations.specs.Labels.{label_of}
+pub use Rattle.ab_judgements.specs.ab_alternatives.specs.ab_equations.specs.Labels.{label_of}
 use Rattle.ab_kernel.specs.Items.{list_of}
 use Rattle.ab_kernel.specs.declared.step.Step.{Step}
 use Rattle.ab_kernel.specs.declared.step.Step.TheVariants.{Initial, TrueRight, FalseLeft, AndRight, AndLeft, OrRight, OrLeft, ArrowRight, ArrowLeft, ForallRight, ForallLeft, ExistsRight, ExistsLeft, NablaRight, NablaLeft, EqualRight, EqualLeft, DefRight, DefLeft, Induction, Coinduction, CutFormula, UseTheorem, Weaken, SpecCut, SpecInst, SpecMonotone, Skip}
@@ -54,12 +54,15 @@ step_of w (SpecInst H rs l) = plain.spec_instance H (replacements w rs) (label_o
 step_of w (SpecMonotone H K l) = plain.spec_monotone H (read w K) (label_of l)
 step_of w Skip = plain.skip
 
+abbrev pub HoldsReplace : World → Replace → Type 0
+HoldsReplace w r = HoldsNominal w.types r.from × Holds w r.to
+
 -- the terms that it is told are there
 abbrev pub HoldsStep : World → Step → Type 0
 HoldsStep w (ForallLeft H t l) = Holds w t
 HoldsStep w (ExistsRight t) = Holds w t
 HoldsStep w (CutFormula F l) = Holds w F
-HoldsStep w (SpecInst H rs l) = All (λ (r : Replace). HoldsNominal w.types r.from × Holds w r.to) rs
+HoldsStep w (SpecInst H rs l) = All (HoldsReplace w) rs
 HoldsStep w (SpecMonotone H K l) = Holds w K
 HoldsStep w step = Unit {0}
 

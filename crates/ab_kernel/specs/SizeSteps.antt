@@ -5,8 +5,8 @@ use Rattle.ab_formulas.specs.Marks.{Sign, star_of, at_of, plus_of, hash_of}
 use Rattle.ab_formulas.specs.NewNames.{Label, Names, NoName}
 use Rattle.ab_formulas.specs.Sequents.{Sequent, assuming}
 use Rattle.ab_theory.specs.Steps.{Step, induction, coinduction}
-use Rattle.ab_alternatives.specs.ab_sequents.specs.declared.levels.Kind.{Kind}
-use Rattle.ab_alternatives.specs.ab_sequents.specs.declared.levels.Kind.TheVariants.{Induction, Coinduction}
+use Rattle.ab_judgements.specs.ab_alternatives.specs.ab_sequents.specs.declared.levels.Kind.{Kind}
+use Rattle.ab_judgements.specs.ab_alternatives.specs.ab_sequents.specs.declared.levels.Kind.TheVariants.{Induction, Coinduction}
 
 -- the step, where coinduction has no places
 abbrev pub step_by : Kind → List ℕ → List Label → Step

@@ -10,7 +10,7 @@ ghost use Rattle.ab_kernel.specs.RuleAnswers.{Answers, row_at};
 
 use crate::questions::{are_equal, are_equal_up_to_names};
 use crate::step::KernelFault;
-use ab_alternatives::sequents::{marks_serve_in, without_marks};
+use ab_judgements::alternatives::sequents::{marks_serve_in, without_marks};
 use ab_logic::{Sequent, World, as_equal, is_false, is_true};
 use ab_norm::name::Name;
 use ab_norm::store::TermId;

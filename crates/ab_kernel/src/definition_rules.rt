@@ -1,4 +1,4 @@
-//! The rules of defined atoms.
+//! The rules of defined atoms, and of judgements of the specification logic.
 ghost use Rattle.std.specs.Prelude.{◌≡◌, ◌≤◌};
 ghost use Rattle.ab_logic.specs.WorldGrowth.{Grows};
 ghost use Rattle.ab_logic.specs.SequentReadings.{sequent_of, HoldsSequent};
@@ -9,16 +9,15 @@ ghost use Rattle.ab_kernel.specs.RuleAnswers.{Answers, label_of, row_at};
 
 use crate::premise_lists::one;
 use crate::step::KernelFault;
-use ab_alternatives::equations::{CaseSolution, Label, name_by};
-use ab_alternatives::{
-    Splitting, defined_atom, may_be_analysed, may_be_unfolded, split, unfold_at,
-};
+use ab_judgements::alternatives::equations::{CaseSolution, Label, name_by};
+use ab_judgements::alternatives::{Splitting, may_be_analysed, may_be_unfolded};
+use ab_judgements::{sign_of, split_subject, subject_of, unfold_subject_at};
 use ab_logic::{Sequent, World};
 use ab_norm::name::Name;
 use ab_norm::types::Steps;
 use std::alloc::{AllocError, Global};
 
-/// The conclusion is unfolded by the choice of this place.
+/// The conclusion is unfolded in the way of this place.
 pub(crate) fn definition_right<L>(
     alloc: Global,
     world: &mut World,
@@ -34,13 +33,13 @@ pub(crate) fn definition_right<L>(
     ensures declared { declarations_of world.new ≡ declarations_of world.old }
     ensures steps { steps.old ≤ steps.new }
 {
-    let Some(atom) = defined_atom(alloc, world, sequent.conclusion)? else {
+    let Some(subject) = subject_of(alloc, world, sequent.conclusion)? else {
         return Err(KernelFault::RuleFails(1));
     };
-    if !may_be_unfolded(atom.sign) {
+    if !may_be_unfolded(sign_of(&subject)) {
         return Err(KernelFault::RuleFails(2));
     }
-    let Some(solved) = unfold_at(alloc, world, &atom, sequent, place, steps)? else {
+    let Some(solved) = unfold_subject_at(alloc, world, &subject, sequent, place, steps)? else {
         return Err(KernelFault::RuleFails(3));
     };
     match solved {
@@ -50,7 +49,7 @@ pub(crate) fn definition_right<L>(
     }
 }
 
-/// A goal for each choice by which a hypothesis may hold.
+/// A goal for each way in which a hypothesis may hold.
 pub(crate) fn definition_left<L>(
     alloc: Global,
     world: &mut World,
@@ -70,17 +69,17 @@ pub(crate) fn definition_left<L>(
     let Some(formula) = sequent.look(name) else {
         return Err(KernelFault::RuleFails(1));
     };
-    let Some(atom) = defined_atom(alloc, world, formula)? else {
+    let Some(subject) = subject_of(alloc, world, formula)? else {
         return Err(KernelFault::RuleFails(2));
     };
-    if !may_be_analysed(atom.sign) {
+    if !may_be_analysed(sign_of(&subject)) {
         return Err(KernelFault::RuleFails(3));
     }
     let Some(named) = name_by(alloc, given, sequent.copy_without(alloc, name)?)? else {
         return Err(KernelFault::RuleFails(4));
     };
     let rest = &named.sequent;
-    match split(alloc, world, &atom, sequent, rest, &named.name, steps)? {
+    match split_subject(alloc, world, &subject, sequent, rest, &named.name, steps)? {
         Splitting::Goals(premises) => Ok(premises),
         Splitting::Stuck(place) => Err(KernelFault::NotPattern(place)),
     }

@@ -11,7 +11,7 @@ use crate::premise_lists::one;
 use crate::questions::support_in;
 use crate::rule_terms::{hint, raise};
 use crate::step::KernelFault;
-use ab_alternatives::equations::{Label, name_by, variable_name};
+use ab_judgements::alternatives::equations::{Label, name_by, variable_name};
 use ab_logic::{Sequent, World, as_exists, as_forall, as_nabla};
 use ab_norm::Nominal;
 use ab_norm::name::Name;

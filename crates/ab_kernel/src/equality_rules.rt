@@ -9,7 +9,7 @@ ghost use Rattle.ab_kernel.specs.RuleAnswers.{Answers, row_at};
 
 use crate::premise_lists::one;
 use crate::step::KernelFault;
-use ab_alternatives::equations::{Solution, solve_in};
+use ab_judgements::alternatives::equations::{Solution, solve_in};
 use ab_logic::{Sequent, World, as_equal};
 use ab_norm::name::Name;
 use ab_norm::types::Steps;

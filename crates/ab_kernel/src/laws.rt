@@ -1,6 +1,8 @@
 //! Laws of derivations, which no other contract carries.
 ghost use Rattle.std.specs.Prelude.{◌≡◌, All};
-ghost use Rattle.ab_formulas.specs.Declarations.{Declarations, HaveSentences, HaveDefinitions};
+ghost use Rattle.ab_unifiers.specs.Member.{HasMember};
+ghost use Rattle.ab_formulas.specs.Declarations.{Declarations, HaveSentences, HaveDefinitions, signature_in};
+ghost use Rattle.ab_formulas.specs.Programs.{HavePrograms};
 ghost use Rattle.ab_logic.specs.Worlds.{declarations_of, IsWorld};
 ghost use Rattle.ab_logic.specs.WorldGrowth.{Grows};
 ghost use Rattle.ab_formulas.specs.Sequents.{IsSequent};
@@ -19,6 +21,7 @@ pub fn a_proof_outlives_its_world()
 
 /// The goals that are open in a valid derivation are sequents, where its root is one; so are those of a proof.
 pub fn open_goals_are_sequents()
-    ensures derivation { (D : Declarations) → HaveSentences D → HaveDefinitions D → (d : Derivation) → Valid D d → IsSequent D (root d) → All (IsSequent D) (open_goals d) }
+    ensures derivation { (D : Declarations) → HaveSentences D → HaveDefinitions D → HavePrograms D → HasMember (signature_in D) →
+        (d : Derivation) → Valid D d → IsSequent D (root d) → All (IsSequent D) (open_goals d) }
     ensures proof { (w : World) → IsWorld w → (p : Held) → IsProof w p → All (IsSequent (declarations_of w)) (open_goals (history_of w p).tree) }
 {}

@@ -7,7 +7,7 @@ ghost use Rattle.ab_kernel.specs.RuleAnswers.{Answers, label_of, row_at};
 
 use crate::premise_lists::{one, two};
 use crate::step::KernelFault;
-use ab_alternatives::equations::{Label, name_by};
+use ab_judgements::alternatives::equations::{Label, name_by};
 use ab_logic::{Sequent, World, as_and, as_arrow, as_or};
 use ab_norm::name::Name;
 use std::alloc::Global;

@@ -10,12 +10,13 @@ use crate::closing_rules::{equal_right, false_left, initial, true_right};
 use crate::definition_rules::{definition_left, definition_right};
 use crate::eigenvariables::{exists_left, for_all_right, nabla_left, nabla_right};
 use crate::equality_rules::equal_left;
+use crate::judgement_rules::{spec_cut, spec_instance, spec_monotone};
 use crate::left_rules::{and_left, arrow_left, arrow_right, or_left, use_theorem, weaken};
 use crate::right_rules::{and_right, or_right};
 use crate::size_rules::give_sizes;
 use crate::step::{KernelFault, Step};
 use crate::witness_rules::{cut_formula, exists_right, for_all_left};
-use ab_alternatives::sequents::Kind;
+use ab_judgements::alternatives::sequents::Kind;
 use ab_logic::{Sequent, World};
 use ab_norm::types::Steps;
 use std::alloc::Global;
@@ -71,9 +72,14 @@ pub fn premises<L>(
             let given = given.as_slice();
             give_sizes(alloc, world, Kind::Coinduction, &[], given, sequent)
         }
-        Step::SpecCut(_, _, _) => Err(KernelFault::RuleFails(0)),
-        Step::SpecInst(_, _, _) => Err(KernelFault::RuleFails(0)),
-        Step::SpecMonotone(_, _, _) => Err(KernelFault::RuleFails(0)),
+        Step::SpecCut(name, other, given) => spec_cut(alloc, world, name, other, given, sequent),
+        Step::SpecInst(name, replaces, given) => {
+            let replaces = replaces.as_slice();
+            spec_instance(alloc, world, name, replaces, given, sequent, steps)
+        }
+        Step::SpecMonotone(name, list, given) => {
+            spec_monotone(alloc, world, name, *list, given, sequent)
+        }
         Step::Skip => Ok(Vec::new(alloc)),
     }
 }

@@ -7,14 +7,14 @@ ghost use Rattle.ab_logic.specs.WorldGrowth.{Grows};
 ghost use Rattle.ab_logic.specs.Worlds.{IsWorld, Holds, read, declarations_of};
 ghost use Rattle.ab_logic.specs.declared.world.World.{World as AWorld};
 ghost use Rattle.ab_theory.specs.Conjuncts.{conjuncts, with_parts};
-ghost use Rattle.ab_alternatives.specs.ab_sequents.specs.Kinds.{marked_by};
+ghost use Rattle.ab_judgements.specs.ab_alternatives.specs.ab_sequents.specs.Kinds.{marked_by};
 ghost use Rattle.ab_kernel.specs.RuleAnswers.{Answers, label_of, row_at};
 ghost use Rattle.ab_kernel.specs.SizeSteps.{Assumes, AssumesNot, same_by, smaller_by, step_by};
 
 use crate::premise_lists::one;
 use crate::step::KernelFault;
-use ab_alternatives::equations::{Label, name_by};
-use ab_alternatives::sequents::{
+use ab_judgements::alternatives::equations::{Label, name_by};
+use ab_judgements::alternatives::sequents::{
     Kind, are_unmarked, conjuncts, marked_parts, next_level, with_parts,
 };
 use ab_logic::{Sequent, Sign, World};

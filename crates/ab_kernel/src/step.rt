@@ -2,7 +2,7 @@
 
 use crate::items::Items;
 use crate::replaces::Replaces;
-use ab_alternatives::equations::Label;
+use ab_judgements::alternatives::equations::Label;
 use ab_norm::name::Name;
 use ab_norm::store::TermId;
 use std::alloc::AllocError;
@@ -72,8 +72,7 @@ pub enum Step {
 /// Why a step wasn't taken.
 #[derive(Debug, Drop, Error)]
 pub enum KernelFault {
-    /// The rule's condition with this number, counted from 1, is the first that the goal fails. Condition 0 of a rule
-    /// is that it is built.
+    /// The rule's condition with this number, counted from 1, is the first that the goal fails.
     #[error("RuleFails")]
     RuleFails(usize),
     /// All conditions hold, and the equation of this number, counted from 0, is outside the patterns.

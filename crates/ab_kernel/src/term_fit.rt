@@ -15,7 +15,7 @@ use ab_typing::{fits, fits_as_formula};
 use std::alloc::{AllocError, Global};
 
 /// The formulas of a goal: the conclusion, and those of the hypotheses.
-fn formulas_of(alloc: Global, sequent: &Sequent) -> Result<Vec<TermId>, AllocError>
+pub(crate) fn formulas_of(alloc: Global, sequent: &Sequent) -> Result<Vec<TermId>, AllocError>
     ensures { IfOk result (λ list. list.items ≡ sequent.now.conclusion ∷ map (λ h. h.formula) sequent.now.hypotheses) }
 {
     let mut formulas = Vec::new(alloc);

@@ -10,7 +10,7 @@ use crate::premise_lists::{one, two};
 use crate::rule_terms::instance_of;
 use crate::step::KernelFault;
 use crate::term_fit::{fits_in, formula_fits_in};
-use ab_alternatives::equations::{Label, name_by};
+use ab_judgements::alternatives::equations::{Label, name_by};
 use ab_logic::{Sequent, World, as_exists, as_forall};
 use ab_norm::name::Name;
 use ab_norm::store::TermId;

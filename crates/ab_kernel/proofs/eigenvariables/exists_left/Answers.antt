@@ -10,7 +10,7 @@ use Rattle.ab_formulas.specs.NewNames.{Names, IsNamedFor}
 use Rattle.ab_logic.specs.SequentReadings.{sequent_of, HoldsSequent}
 use Rattle.ab_logic.specs.declared.sequent.Sequent.{Sequent as Kept}
 use Rattle.ab_logic.proofs.Growing.{grows_not, same_sequent, still_held}
-use Rattle.ab_alternatives.specs.ab_equations.specs.Labels.{label_of}
+use Rattle.ab_judgements.specs.ab_alternatives.specs.ab_equations.specs.Labels.{label_of}
 use Rattle.ab_norm.specs.Nominals.{nominal_of}
 use Rattle.ab_norm.specs.ab_types.specs.Ids.{type_of}
 use Rattle.ab_theory.specs.Rules.{IsSupport, raised, applied, hint_of}

@@ -1,4 +1,4 @@
-use Rattle.std.proofs.Common.{inl, refl}
+use Rattle.std.proofs.Common.{sym}
 use Rattle.ab_kernel.proofs.rule_table.premises.Goals as goal
 
 pub returns-in-TrueRight-clause-answers : goal.returns-in-TrueRight-clause-answers
@@ -68,10 +68,10 @@ pub returns-in-DefLeft-clause-answers : goal.returns-in-DefLeft-clause-answers
 returns-in-DefLeft-clause-answers g c = rw c.in-DefLeft.is c.definition_left.ensures.answers
 
 pub returns-in-SpecCut-clause-answers : goal.returns-in-SpecCut-clause-answers
-returns-in-SpecCut-clause-answers g c = rw c.in-SpecCut.is (inl (λ x. x, refl))
-
-pub returns-in-SpecInst-clause-answers : goal.returns-in-SpecInst-clause-answers
-returns-in-SpecInst-clause-answers g c = rw c.in-SpecInst.is (inl (λ x. x, refl))
+returns-in-SpecCut-clause-answers g c = rw c.in-SpecCut.is c.spec_cut.ensures.answers
 
 pub returns-in-SpecMonotone-clause-answers : goal.returns-in-SpecMonotone-clause-answers
-returns-in-SpecMonotone-clause-answers g c = rw c.in-SpecMonotone.is (inl (λ x. x, refl))
+returns-in-SpecMonotone-clause-answers g c = rw c.in-SpecMonotone.is c.spec_monotone.ensures.answers
+
+pub returns-in-SpecInst-clause-answers : goal.returns-in-SpecInst-clause-answers
+returns-in-SpecInst-clause-answers g c = rw c.in-SpecInst.is (rw (sym c.as_slice-replaces.ensures) c.spec_instance.ensures.answers)

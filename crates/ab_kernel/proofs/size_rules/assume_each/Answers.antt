@@ -1,6 +1,6 @@
 use Rattle.std.specs.Prelude.{drop}
 use Rattle.std.proofs.Common.{◌≡◌, [], ◌+◌, ◌<◌, ◌≤◌, length, get_or, map, refl, sym, arith}
-use Rattle.ab_alternatives.specs.ab_equations.specs.declared.label.Label.TheVariants.{Auto}
+use Rattle.ab_judgements.specs.ab_alternatives.specs.ab_equations.specs.declared.label.Label.TheVariants.{Auto}
 use Rattle.ab_logic.specs.SequentReadings.{sequent_of}
 use Rattle.ab_logic.specs.Worlds.{read}
 use Rattle.ab_kernel.specs.RuleAnswers.{label_of}

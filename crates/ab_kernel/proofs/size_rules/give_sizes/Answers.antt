@@ -13,8 +13,8 @@ use Rattle.ab_logic.proofs.Growing.{same_sequent, still_held}
 use Rattle.ab_theory.specs.Conjuncts.{conjuncts, with_parts}
 use Rattle.ab_theory.specs.Row.{Takes}
 use Rattle.ab_theory.specs.Rules.{by_hint}
-use Rattle.ab_alternatives.specs.ab_sequents.specs.Kinds.{are_plain, marked_by, signs_by}
-use Rattle.ab_alternatives.specs.ab_sequents.proofs.PartSizes.{some_there, all_plain, some_marked}
+use Rattle.ab_judgements.specs.ab_alternatives.specs.ab_sequents.specs.Kinds.{are_plain, marked_by, signs_by}
+use Rattle.ab_judgements.specs.ab_alternatives.specs.ab_sequents.proofs.PartSizes.{some_there, all_plain, some_marked}
 use Rattle.ab_kernel.specs.RuleAnswers.{label_of, row_at}
 use Rattle.ab_kernel.specs.SizeSteps.{Assumes, AssumesNot, same_by, smaller_by, step_by}
 use Rattle.ab_kernel.proofs.SizeRows.{has_marks, no_names, gets_sizes}

@@ -5,7 +5,7 @@ use Rattle.ab_logic.specs.WorldGrowth.{Grows}
 use Rattle.ab_logic.specs.Worlds.{Holds, read}
 use Rattle.ab_logic.proofs.Growing.{grows_on, map_same}
 use Rattle.ab_theory.specs.Conjuncts.{with_parts}
-use Rattle.ab_alternatives.specs.ab_sequents.specs.Kinds.{marked_by}
+use Rattle.ab_judgements.specs.ab_alternatives.specs.ab_sequents.specs.Kinds.{marked_by}
 use Rattle.ab_kernel.specs.SizeSteps.{same_by, smaller_by}
 use Rattle.ab_kernel.proofs.Declared.{declared_same}
 use Rattle.ab_kernel.proofs.size_rules.sizes_of.Goals as goal

@@ -7,7 +7,7 @@ use Rattle.ab_formulas.specs.NewNames.{Names}
 use Rattle.ab_logic.specs.SequentReadings.{sequent_of, HoldsSequent}
 use Rattle.ab_logic.specs.declared.sequent.Sequent.{Sequent as Kept}
 use Rattle.ab_logic.proofs.Growing.{same_sequent, still_held}
-use Rattle.ab_alternatives.specs.ab_equations.specs.Labels.{label_of}
+use Rattle.ab_judgements.specs.ab_alternatives.specs.ab_equations.specs.Labels.{label_of}
 use Rattle.ab_kernel.proofs.witness_rules.for_all_left.Goals as goal
 
 pub returns-then-not-fits-clause-answers : goal.returns-then-not-fits-clause-answers
