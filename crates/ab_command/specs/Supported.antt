@@ -22,9 +22,9 @@ IsBuiltInProof count (rename H x) = Unit {0}
 IsBuiltInProof count (permute ns x) = Unit {0}
 IsBuiltInProof count (search depth) = count ≡ 2
 IsBuiltInProof count skip = Unit {0}
-IsBuiltInProof count (cut H K) = ⊥
-IsBuiltInProof count (inst H is) = ⊥
-IsBuiltInProof count (monotone H e) = ⊥
+IsBuiltInProof count (cut H K) = Unit {0}
+IsBuiltInProof count (inst H is) = Unit {0}
+IsBuiltInProof count (monotone H e) = Unit {0}
 
 -- THE COMMAND IS BUILT, read from so many tokens
 abbrev pub IsBuilt : ℕ → Command → Type 0

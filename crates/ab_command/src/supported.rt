@@ -26,9 +26,11 @@ fn is_built_in_proof(command: &ProofCommand, count: usize) -> bool
         | ProofCommand::Clear(_)
         | ProofCommand::Rename(_, _)
         | ProofCommand::Permute(_, _)
+        | ProofCommand::Cut(_, _)
+        | ProofCommand::Inst(_, _)
+        | ProofCommand::Monotone(_, _)
         | ProofCommand::Skip => true,
         ProofCommand::Search(_) => count == 2,
-        ProofCommand::Cut(_, _) | ProofCommand::Inst(_, _) | ProofCommand::Monotone(_, _) => false,
     }
 }
 

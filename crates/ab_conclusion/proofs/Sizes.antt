@@ -15,9 +15,9 @@ use Rattle.ab_theory.specs.Levels.{next_level}
 use Rattle.ab_theory.specs.Rules.{NamedRule, Fails}
 use Rattle.ab_theory.specs.Derivations.{debts_of}
 use Rattle.ab_theory.specs.Row as rule
-use Rattle.ab_alternatives.specs.ab_sequents.specs.Kinds.{level_by, signs_by, marked_by}
-use Rattle.ab_alternatives.specs.ab_sequents.specs.declared.levels.Kind.{Kind}
-use Rattle.ab_alternatives.specs.ab_sequents.specs.declared.levels.Kind.TheVariants.{Induction, Coinduction}
+use Rattle.ab_steps.specs.ab_kernel.specs.ab_judgements.specs.ab_alternatives.specs.ab_sequents.specs.Kinds.{level_by, signs_by, marked_by}
+use Rattle.ab_steps.specs.ab_kernel.specs.ab_judgements.specs.ab_alternatives.specs.ab_sequents.specs.declared.levels.Kind.{Kind}
+use Rattle.ab_steps.specs.ab_kernel.specs.ab_judgements.specs.ab_alternatives.specs.ab_sequents.specs.declared.levels.Kind.TheVariants.{Induction, Coinduction}
 use Rattle.ab_effects.specs.ProofCommands.{effect, clashing, is_used, IsNamedBy, hypotheses_named}
 use Rattle.ab_meaning.specs.Refusals.{clash}
 use Rattle.ab_effects.specs.Row.{Row, leads, Leads}

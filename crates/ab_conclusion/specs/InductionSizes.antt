@@ -6,9 +6,9 @@ use Rattle.ab_formulas.specs.Marks.{Sign, plain}
 use Rattle.ab_formulas.specs.NewNames.{Label, auto, given}
 use Rattle.ab_formulas.specs.Sequents.{Sequent, assuming}
 use Rattle.ab_theory.specs.Conjuncts.{conjuncts}
-use Rattle.ab_alternatives.specs.ab_sequents.specs.Kinds.{signs_by}
-use Rattle.ab_alternatives.specs.ab_sequents.specs.declared.levels.Kind.{Kind}
-use Rattle.ab_alternatives.specs.ab_sequents.specs.declared.levels.Kind.TheVariants.{Induction, Coinduction}
+use Rattle.ab_steps.specs.ab_kernel.specs.ab_judgements.specs.ab_alternatives.specs.ab_sequents.specs.Kinds.{signs_by}
+use Rattle.ab_steps.specs.ab_kernel.specs.ab_judgements.specs.ab_alternatives.specs.ab_sequents.specs.declared.levels.Kind.{Kind}
+use Rattle.ab_steps.specs.ab_kernel.specs.ab_judgements.specs.ab_alternatives.specs.ab_sequents.specs.declared.levels.Kind.TheVariants.{Induction, Coinduction}
 use Rattle.ab_effects.specs.ProofCommands.{clashing, IsNamedBy}
 use Rattle.ab_meaning.specs.Refusals.{clash}
 use Rattle.ab_steps.specs.declared.fault.ProofCommandFault.{ProofCommandFault}

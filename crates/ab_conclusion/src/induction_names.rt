@@ -4,13 +4,13 @@ ghost use Rattle.std.specs.Fmt.{decimal};
 ghost use Rattle.std.specs.Option.{option_map};
 ghost use Rattle.ab_formulas.specs.NewNames.{auto};
 ghost use Rattle.ab_logic.specs.SequentReadings.{sequent_of};
-ghost use Rattle.ab_alternatives.specs.ab_equations.specs.Labels.{label_of};
+ghost use Rattle.ab_steps.specs.ab_kernel.specs.ab_judgements.specs.ab_alternatives.specs.ab_equations.specs.Labels.{label_of};
 ghost use Rattle.ab_effects.specs.ProofCommands.{IsNamedBy, clashing};
 ghost use Rattle.ab_meaning.specs.Refusals.{clash};
 ghost use Rattle.ab_conclusion.specs.InductionSizes.{AreNamedBy, label_at};
 
-use ab_alternatives::equations::Label;
 use ab_logic::{Sequent, World};
+use ab_steps::kernel::judgements::alternatives::equations::Label;
 use ab_types::name::Name;
 use std::alloc::{AllocError, Global};
 

@@ -1,6 +1,6 @@
 //! Induction and coinduction: each part of the conclusion gets a size, and is a hypothesis where that is smaller.
 ghost use Rattle.std.specs.Prelude.{◌≡◌, ◌≢◌, [], Err, IfOk, OnErr, map};
-ghost use Rattle.ab_alternatives.specs.ab_equations.specs.Labels.{label_of};
+ghost use Rattle.ab_steps.specs.ab_kernel.specs.ab_judgements.specs.ab_alternatives.specs.ab_equations.specs.Labels.{label_of};
 ghost use Rattle.ab_grammar.specs.CommandTrees as told;
 ghost use Rattle.ab_logic.specs.SequentReadings.{HoldsSequent, sequent_of};
 ghost use Rattle.ab_logic.specs.Worlds.{IsWorld, declarations_of};
@@ -14,9 +14,9 @@ ghost use Rattle.ab_steps.specs.declared.fault.ProofCommandFault.{ProofCommandFa
 ghost use Rattle.ab_conclusion.specs.InductionSizes.{MayGetSizes, GetsNoSizes, command_by, word_by};
 
 use crate::induction_names::{hypothesis_labels, label_clash};
-use ab_alternatives::equations::Label;
-use ab_alternatives::sequents::{Kind, are_unmarked, conjuncts};
 use ab_logic::{Sequent, World};
+use ab_steps::kernel::judgements::alternatives::equations::Label;
+use ab_steps::kernel::judgements::alternatives::sequents::{Kind, are_unmarked, conjuncts};
 use ab_steps::kernel::{Items, Proof, Step};
 use ab_steps::{ProofCommandFault, first_goal, surely};
 use ab_types::Steps;

@@ -10,7 +10,7 @@ ghost use Rattle.ab_logic.specs.Worlds.{IsWorld, declarations_of};
 ghost use Rattle.ab_formulas.specs.NewNames as plain;
 ghost use Rattle.ab_logic.specs.declared.world.World.{World as AWorld};
 ghost use Rattle.ab_steps.specs.ab_kernel.specs.Layout.{history_of, IsProof};
-ghost use Rattle.ab_alternatives.specs.ab_equations.specs.Labels.{label_of};
+ghost use Rattle.ab_steps.specs.ab_kernel.specs.ab_judgements.specs.ab_alternatives.specs.ab_equations.specs.Labels.{label_of};
 ghost use Rattle.ab_effects.specs.ProofCommands.{clashing_names, introducing, is_used};
 ghost use Rattle.ab_effects.specs.Introductions.{taken_off, first_label, others};
 ghost use Rattle.ab_meaning.specs.Refusals.{clash};
@@ -20,8 +20,8 @@ ghost use Rattle.ab_steps.specs.ProofEffects.{IsApplied, IsRefused, RefusedBy};
 ghost use Rattle.ab_steps.specs.declared.fault.ProofCommandFault.{ProofCommandFault};
 ghost use Rattle.ab_conclusion.specs.IntroductionSteps.{WasTaken};
 
-use ab_alternatives::equations::Label;
 use ab_logic::{Form, Sequent, World, shape};
+use ab_steps::kernel::judgements::alternatives::equations::Label;
 use ab_steps::kernel::{Proof, Step};
 use ab_steps::{ProofCommandFault, attempt, first_goal, surely, take_back};
 use ab_types::Steps;

@@ -1,4 +1,4 @@
-//! A conclusion that is an atom whose predicate is defined is unfolded.
+//! A conclusion that is a defined atom or a judgement is unfolded.
 ghost use Rattle.std.specs.Prelude.{◌≡◌, ◌≢◌, ◌≤◌, [], Err, IfOk, OnOk, OnErr};
 ghost use Rattle.ab_grammar.specs.CommandTrees as told;
 ghost use Rattle.ab_logic.specs.WorldGrowth.{Grows};
@@ -10,15 +10,16 @@ ghost use Rattle.ab_steps.specs.Progress.{goals_of, Follows};
 ghost use Rattle.ab_steps.specs.declared.fault.ProofCommandFault.{ProofCommandFault};
 ghost use Rattle.ab_conclusion.specs.UnfoldingChoice.{UnfoldsBy};
 
-use ab_alternatives::{Found, defined_atom, first_unfolding, may_be_unfolded};
 use ab_logic::World;
+use ab_steps::kernel::judgements::alternatives::{Found, may_be_unfolded};
+use ab_steps::kernel::judgements::{first_way, sign_of, subject_of};
 use ab_steps::kernel::{Proof, Step};
 use ab_steps::{Attempted, ProofCommandFault, attempt_solving, first_goal, not_pattern};
 use ab_types::Steps;
 use std::alloc::{AllocError, Global};
 
-/// The place of the choice by which the first goal's conclusion unfolds, or why it doesn't.
-fn find_choice<L>(
+/// The place of the way in which the first goal's conclusion unfolds, or why it doesn't.
+fn find_way<L>(
     alloc: Global,
     world: &mut World,
     proof: &Proof,
@@ -34,13 +35,13 @@ fn find_choice<L>(
     ensures steps { steps.old ≤ steps.new }
 {
     let goal = first_goal(world, proof);
-    let Some(atom) = defined_atom(alloc, world, goal.conclusion)? else {
+    let Some(subject) = subject_of(alloc, world, goal.conclusion)? else {
         return Err(ProofCommandFault::WrongShape);
     };
-    if !may_be_unfolded(atom.sign) {
+    if !may_be_unfolded(sign_of(&subject)) {
         return Err(ProofCommandFault::Mark);
     }
-    match first_unfolding(alloc, world, &atom, goal, steps)? {
+    match first_way(alloc, world, &subject, goal, steps)? {
         Found::Closed(place) => Ok(place),
         Found::Open(_, name) => Err(ProofCommandFault::Unresolved(name)),
         Found::Stuck(_, equation) => Err(not_pattern(equation)),
@@ -48,7 +49,7 @@ fn find_choice<L>(
     }
 }
 
-/// Unfolds the first goal's conclusion by the choice of this place.
+/// Unfolds the first goal's conclusion in the way of this place.
 fn unfold_by<L>(
     world: &mut World,
     proof: &mut Proof,
@@ -70,10 +71,10 @@ fn unfold_by<L>(
     }
 }
 
-/// Puts the body of a clause in the place of the first goal's conclusion, by the first choice that may make the conclusion an
-/// instance of a clause. It is refused, and changes nothing, where the conclusion is no atom whose predicate is defined, its
-/// mark doesn't allow it, no choice makes it an instance, an equation of the first that may is outside the patterns, or a
-/// variable that the clause brought stays open.
+/// Puts the body of a clause or of a rule in the place of the first goal's conclusion, by the first way in which the conclusion
+/// may hold. It is refused, and changes nothing, where the conclusion is no defined atom and no judgement whose rules are known,
+/// its mark doesn't allow it, it may hold in no way, an equation of the first in which it may is outside the patterns, or a variable
+/// that this brought stays open.
 pub fn unfold<L>(
     alloc: Global,
     world: &mut World,
@@ -88,7 +89,7 @@ pub fn unfold<L>(
     ensures refused { (fault : ProofCommandFault) → result ≡ Err fault → (l : plain.Label) → IsRefused l told.unfold_goal world.old proof.old fault }
     ensures unchanged { OnErr result (history_of world.new proof.new ≡ history_of world.old proof.old) }
 {
-    let place = find_choice(alloc, world, proof, steps)?;
+    let place = find_way(alloc, world, proof, steps)?;
     unfold_by(world, proof, place, steps)?;
     Ok(())
 }

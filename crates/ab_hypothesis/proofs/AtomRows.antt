@@ -1,5 +1,5 @@
--- A hypothesis that is an atom is taken apart by its row, or its row refuses it.
-use Rattle.std.specs.Prelude.{Some, None}
+-- A hypothesis that may be a defined atom or a judgement is taken apart by its row, or its row refuses it.
+use Rattle.std.specs.Prelude.{Some}
 use Rattle.std.proofs.Common.{◌≡◌, ◌≢◌, inl, inr, ℕ, ◌+◌, List, [], ◌∷◌, ◌++◌, Bool, length, refl, sym, ◌∙◌, ap, subst}
 use Rattle.ab_term.specs.Terms.{Read}
 use Rattle.ab_unify.specs.Problem.{cells_read}
@@ -24,9 +24,9 @@ use Rattle.ab_hypothesis.specs.AnalysedGoals.{FirstWait, FirstOpened, FirstNamel
 use Rattle.ab_hypothesis.proofs.Goes.{is_sequent}
 use Rattle.ab_hypothesis.proofs.Moves.{has_at}
 use Rattle.ab_hypothesis.proofs.Waiting.{same_parts}
-use Rattle.ab_hypothesis.proofs.Splitting.{SplitInto, split_into, unsplit_by, no_atom, no_mark}
+use Rattle.ab_hypothesis.proofs.Splitting.{SplitInto, split_into, unsplit_by, no_subject, no_mark}
 
--- the row of an atom
+-- the row of such a hypothesis
 
 atom_leads : (D : Declarations) (F : Read) (l : Label) (goal k : Sequent) (ps : List Sequent) (f : Form) → IsAtom f → Leads (analysing D F l goal k) ps → Leads (cases D f F l goal k) ps
 atom_leads D F l goal k ps (marked m t) is leads = leads
@@ -100,7 +100,7 @@ module _ (w v : World) (p q : Held) (keep : Bool) (H y : List ℕ) (F : Read) (l
         let same = same_parts opened.goals ps.list opened.behind rest (opened.counted ∙ sym ps.counted) (sym opened.were ∙ ps.are) in
         let all : AllOpened D l ps.list opened.opened = subst (λ E. AllOpened E l ps.list opened.opened) also (subst (λ gs. AllOpened (declarations_of u) l gs opened.opened) same.0 opened.all) in
         let leads : Leads (analysing D F l s (rest_of keep H s)) opened.opened =
-        (ps.split.atom, ps.split.is_atom, (tt, ps.split.may, (ps.list, ps.split.parted, (opened.opened, all, refl)))) in
+        (ps.split.subject, ps.split.is_subject, (tt, ps.split.may, (ps.list, ps.split.parted, (opened.opened, all, refl)))) in
         (opened.opened, atom_leads D F l s (rest_of keep H s) opened.opened (form_of F) form leads, opened.are ∙ ap (λ gs. opened.opened ++ gs) same.1)
 
     pub atom_nameless : declarations_of u ≡ declarations_of w → FirstNameless u r l n → CantTake w p l keep H F names_spent
@@ -109,7 +109,7 @@ module _ (w v : World) (p q : Held) (keep : Bool) (H y : List ℕ) (F : Read) (l
         let same = same_parts nameless.goals ps.list nameless.behind rest (nameless.counted ∙ sym ps.counted) (sym nameless.are ∙ ps.are) in
         let one : SomeNameless D l ps.list = subst (λ E. SomeNameless E l ps.list) also (subst (λ gs. SomeNameless (declarations_of u) l gs) same.0 nameless.one) in
         let refuses : Refuses (analysing D F l s (rest_of keep H s)) names_spent =
-        inr (ps.split.atom, ps.split.is_atom, inr (tt, ps.split.may, inr (ps.list, ps.split.parted, inl (one, refl)))) in
+        inr (ps.split.subject, ps.split.is_subject, inr (tt, ps.split.may, inr (ps.list, ps.split.parted, inl (one, refl)))) in
         atom_refuses D F l s (rest_of keep H s) names_spent (form_of F) form refuses
 
   pub atom_stuck : ((s : Sequent) (rest : List Sequent) → goals_of v q ≡ s ∷ rest → AreCells (cells_read v.types v.store) s)
@@ -134,7 +134,7 @@ module _ (w v : World) (p q : Held) (keep : Bool) (H y : List ℕ) (F : Read) (l
   pub atom_shapeless : (i : ℕ) → i ≡ 2 → FailsBy v q 0 (split_own y) i → CantTake w p l keep H F wrong_shape
   atom_shapeless i two f s rest goals =
       let k = rest_of keep H s in
-      let none = no_atom D s H y F keep (sequent s rest goals) (has s rest goals) (begun s rest goals).1 (cells_read v.types v.store) i two (fails i f s rest goals) in
+      let none = no_subject D s H y F keep (sequent s rest goals) (has s rest goals) (begun s rest goals).1 (cells_read v.types v.store) i two (fails i f s rest goals) in
       let refuses : Refuses (analysing D F l s k) wrong_shape = inl (none, refl) in
       atom_refuses D F l s k wrong_shape (form_of F) form refuses
 

@@ -18,12 +18,12 @@ use Rattle.ab_logic.specs.declared.sequent.Hypothesis.{Hypothesis as Kept}
 use Rattle.ab_logic.proofs.Growing.{map_same}
 use Rattle.ab_theory.specs.Steps.{Step, and_left, exists_left, nabla_left}
 use Rattle.ab_theory.specs.Rules.{Fails}
-use Rattle.ab_steps.specs.ab_kernel.specs.Layout.{Held, history_of, IsProof}
-use Rattle.ab_theory.proofs.Rooted.{open_are_sequents}
+use Rattle.ab_steps.specs.ab_kernel.specs.Layout.{Held, IsProof}
 use Rattle.ab_effects.specs.Openings.{IsWhole, Nameless, none}
 use Rattle.ab_steps.specs.Progress.{IsAt, Follows, Took, Holds as Sure}
 use Rattle.ab_steps.proofs.Connectives.{connectives, fewer_both}
 use Rattle.ab_steps.proofs.Following.{one_goal}
+use Rattle.ab_steps.proofs.GoalSequents.{goals_are_sequents}
 use Rattle.ab_hypothesis.specs.OwnNames.{IsOwn, AreOwn, HasAll, besides, weight}
 use Rattle.ab_hypothesis.specs.HypothesisProgress.{HasAt, Pending, OpensTo, Opens, Goes, CantOpen, OpenedTo, MovedTo}
 use Rattle.ab_hypothesis.proofs.Hypotheses.{entry}
@@ -41,7 +41,7 @@ holds_at w p place step before behind k at sure b e s x i f =
 pub is_sequent : (w : World) (p : Held) (place : ℕ) (before behind : List Sequent) (k : Sequent) → IsWorld w → IsProof w p → IsAt w p place before k behind → IsSequent (declarations_of w) k
 is_sequent w p place before behind k world proof at =
     All-contains (IsSequent (declarations_of w)) (before ++ k ∷ behind) k
-    (subst (λ gs. All (IsSequent (declarations_of w)) gs) at.goals (open_are_sequents (declarations_of w) world.sentences world.definitions (history_of w p).tree proof.valid proof.held.rooted))
+    (subst (λ gs. All (IsSequent (declarations_of w)) gs) at.goals (goals_are_sequents w p world proof))
     (Contains-append_right before (k ∷ behind) k (Contains-here k behind))
 
 pub same_hypotheses : (w v : World) → Grows w v → (ks : List Kept) → All (λ (h : Kept). Holds w h.formula) ks → map (hypothesis_of v) ks ≡ map (hypothesis_of w) ks

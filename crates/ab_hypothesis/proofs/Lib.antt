@@ -16,3 +16,5 @@ pub mod Splitting
 pub mod AtomRows
 pub mod Changed
 pub mod ExchangeRows
+pub mod JudgementSteps
+pub mod JudgementCuts

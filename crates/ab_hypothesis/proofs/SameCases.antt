@@ -1,13 +1,13 @@
 -- A goal in which a hypothesis was put last, or put there once more, has the cases that the goal itself has.
-use Rattle.std.specs.Prelude.{filter, bytes_eq, Contains, if◌then◌else◌}
-use Rattle.std.proofs.Common.{◌≡◌, inl, inr, ℕ, List, [], ◌∷◌, ◌++◌, map, take, drop, codes, Bool, true, false, Some, refl, sym, ◌∙◌, ap, subst, append_assoc}
+use Rattle.std.specs.Prelude.{filter, bytes_eq, Contains}
+use Rattle.std.proofs.Common.{◌≡◌, inl, inr, ℕ, List, [], ◌∷◌, ◌++◌, map, length, take, drop, codes, Bool, true, false, Some, refl, sym, ◌∙◌, ap, subst, append_assoc}
 use Rattle.std.proofs.lemmas.List.Elements.{Contains-append_left, Contains-append_cases}
 use Rattle.ab_term.specs.Terms as tree
 use Rattle.ab_term.specs.Terms.{Nominal, Terms, Read}
 use Rattle.ab_term.specs.Names.{support, support_of_all}
 use Rattle.ab_term.proofs.Lists.{Contains-none}
 use Rattle.ab_unifiers.specs.Replacements.{Cell}
-use Rattle.ab_unifiers.specs.Clauses.{Clause}
+use Rattle.ab_unifiers.specs.Clauses.{Clause, numbered}
 use Rattle.ab_unifiers.specs.Choices.{in_order, choices, for_each, outside}
 use Rattle.ab_unifiers.specs.Alternatives.{Alternative, analysed, alternative, on_left}
 use Rattle.ab_formulas.specs.Sequents.{Variable, Hypothesis, Sequent, formula_of, formulas, goal_names, names_of, in_terms, assuming, without}
@@ -15,6 +15,10 @@ use Rattle.ab_theory.specs.Equations.{Naming}
 use Rattle.ab_theory.specs.Splits.{Case, CaseOver, NeverArises, IsOpen, Arises, Split, done, never, arises, IsUnsplit, here, past_never, past_goal}
 use Rattle.ab_theory.specs.Atoms.{Defined, Choice, choices_of}
 use Rattle.ab_theory.specs.Analysis.{scope_of, raised_goal, count_before, case_of, cases_of}
+use Rattle.ab_theory.specs.Judgements.{Judgement}
+use Rattle.ab_theory.specs.SpecRules.{SpecRule, demand_of}
+use Rattle.ab_theory.specs.JudgementCases.{judgement_case}
+use Rattle.ab_theory.specs.Subjects.{Subject, an_atom, a_judgement, cases_by}
 use Rattle.ab_formulas.specs.BodyMarks.{mark_below, marked_in}
 use Rattle.ab_formulas.specs.Members.{SameMembers}
 use Rattle.ab_formulas.proofs.AlternativesAgreeing.{choices_same}
@@ -95,14 +99,27 @@ case_by rest name d c alt = record {
   goal = assuming name (marked_in d.block.predicates (mark_below d.sign) alt.body) (raised_goal alt rest);
 }
 
-module _ (other goal rest : Sequent) (name : List ℕ) (d : Defined) (variables : other.variables ≡ goal.variables) where
-  case_same : (c : Choice) (cells : Cells) → case_of other rest name d c cells ≡ case_of goal rest name d c cells
-  case_same c cells = ap (case_by rest name d c) alternative_same
+module _ (other goal rest : Sequent) (name : List ℕ) (variables : other.variables ≡ goal.variables) where
+  case_same : (d : Defined) (c : Choice) (cells : Cells) → case_of other rest name d c cells ≡ case_of goal rest name d c cells
+  case_same d c cells = ap (case_by rest name d c) alternative_same
     where
       alternative_same : alternative (codes "x") (scope_of cells other) d.arguments c.clause c.names on_left ≡ alternative (codes "x") (scope_of cells goal) d.arguments c.clause c.names on_left
       alternative_same =
           same_analysed cells (map in_terms other.variables) (goal_names other) (goal_names goal) d.arguments c.clause c.names (outside c.names (in_order (support_of_all d.arguments)))
           ∙ ap (λ (xs : List Variable). alternative (codes "x") (record { cells = cells; variables = map in_terms xs; constants = goal_names goal }) d.arguments c.clause c.names on_left) variables
+
+  -- the case of a rule asks of the goal its variables alone
+  rule_same : (j : Judgement) (r : SpecRule) (cells : Cells) → judgement_case other rest name j r cells ≡ judgement_case goal rest name j r cells
+  rule_same j r cells =
+      let e = demand_of (length cells) (mark_below j.sign) j r in
+      ap
+      (λ (xs : List Variable). record {
+        before = cells ++ e.passing;
+        own = e.own;
+        equations = e.equations;
+        flexible = map in_terms xs ++ numbered (length (cells ++ e.passing)) e.own;
+        goal = assuming name e.body rest;
+      }) variables
 
 -- LISTS OF CASES that are the same over all cells
 
@@ -112,7 +129,7 @@ SameEach [] (d ∷ ds) = ⊥
 SameEach (c ∷ cs) [] = ⊥
 SameEach (c ∷ cs) (d ∷ ds) = ((cells : Cells) → c cells ≡ d cells) × SameEach cs ds
 
-same_each : (f g : Choice → CaseOver) → ((c : Choice) (cells : Cells) → f c cells ≡ g c cells) → (cs : List Choice) → SameEach (map f cs) (map g cs)
+same_each : {X : Type 0} (f g : X → CaseOver) → ((c : X) (cells : Cells) → f c cells ≡ g c cells) → (cs : List X) → SameEach (map f cs) (map g cs)
 same_each f g e [] = tt
 same_each f g e (c ∷ cs) = (e c, same_each f g e cs)
 
@@ -135,15 +152,15 @@ unsplit_same IsName cells (c ∷ cs) (d ∷ ds) i same (past_goal {after = after
     past_goal (subst (λ k. Arises IsName k after g) (same.0 cells) a) (unsplit_same IsName after cs ds i same.1 rest)
 
 -- THE CASES OF A GOAL are those of another one with the same variables and the same constants
-module _ (IsName : Naming) (cells : Cells) (other goal rest : Sequent) (name : List ℕ) (d : Defined) (variables : other.variables ≡ goal.variables) (same : SameMembers (goal_names other) (goal_names goal)) where
-  pub split_here : (gs : List Sequent) → Split IsName cells (cases_of other rest name d) gs → Split IsName cells (cases_of goal rest name d) gs
-  split_here gs s =
-      subst (λ cs. Split IsName cells (map (case_of goal rest name d) cs) gs) (choices_of_same (goal_names other) (goal_names goal) d same)
-      (split_same IsName cells (map (case_of other rest name d) (choices_of (goal_names other) d)) (map (case_of goal rest name d) (choices_of (goal_names other) d)) gs
-      (same_each (case_of other rest name d) (case_of goal rest name d) (case_same other goal rest name d variables) (choices_of (goal_names other) d)) s)
+module _ (other goal rest : Sequent) (name : List ℕ) (variables : other.variables ≡ goal.variables) (same : SameMembers (goal_names other) (goal_names goal)) where
+  cases_same : (x : Subject) → SameEach (cases_by other rest name x) (cases_by goal rest name x)
+  cases_same (an_atom d) =
+      subst (λ cs. SameEach (cases_of other rest name d) (map (case_of goal rest name d) cs)) (choices_of_same (goal_names other) (goal_names goal) d same)
+      (same_each (case_of other rest name d) (case_of goal rest name d) (case_same other goal rest name variables d) (choices_of (goal_names other) d))
+  cases_same (a_judgement j rs) = same_each (judgement_case other rest name j) (judgement_case goal rest name j) (rule_same other goal rest name variables j) rs
 
-  pub unsplit_here : (i : ℕ) → IsUnsplit IsName cells (cases_of other rest name d) i → IsUnsplit IsName cells (cases_of goal rest name d) i
-  unsplit_here i s =
-      subst (λ cs. IsUnsplit IsName cells (map (case_of goal rest name d) cs) i) (choices_of_same (goal_names other) (goal_names goal) d same)
-      (unsplit_same IsName cells (map (case_of other rest name d) (choices_of (goal_names other) d)) (map (case_of goal rest name d) (choices_of (goal_names other) d)) i
-      (same_each (case_of other rest name d) (case_of goal rest name d) (case_same other goal rest name d variables) (choices_of (goal_names other) d)) s)
+  pub split_here : (IsName : Naming) (cells : Cells) (x : Subject) (gs : List Sequent) → Split IsName cells (cases_by other rest name x) gs → Split IsName cells (cases_by goal rest name x) gs
+  split_here IsName cells x gs s = split_same IsName cells (cases_by other rest name x) (cases_by goal rest name x) gs (cases_same x) s
+
+  pub unsplit_here : (IsName : Naming) (cells : Cells) (x : Subject) (i : ℕ) → IsUnsplit IsName cells (cases_by other rest name x) i → IsUnsplit IsName cells (cases_by goal rest name x) i
+  unsplit_here IsName cells x i s = unsplit_same IsName cells (cases_by other rest name x) (cases_by goal rest name x) i (cases_same x) s

@@ -1,4 +1,4 @@
--- What an atom of a hypothesis leaves of a proof: goals that wait for their last hypothesis to be opened, and those in
+-- What an analysed hypothesis leaves of a proof: goals that wait for their last hypothesis to be opened, and those in
 -- which it was. Public contracts don't speak of this.
 use Rattle.std.specs.Prelude.{◌≡◌, ◌+◌, ℕ, List, [], ◌∷◌, ◌++◌, length, None}
 use Rattle.ab_term.specs.Terms.{Read}

@@ -25,7 +25,7 @@ abbrev pub IsEquation : Form → Type 0
 IsEquation (equal A t u) = Unit {0}
 IsEquation _ = ⊥
 
--- one of this form may be an atom whose predicate is defined
+-- one of this form may be a defined atom or a judgement
 abbrev pub IsAtom : Form → Type 0
 IsAtom (marked m t) = Unit {0}
 IsAtom other = Unit {0}

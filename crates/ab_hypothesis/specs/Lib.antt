@@ -1,7 +1,9 @@
 -- Commands on a hypothesis: what the parts of their work leave of a goal. What the commands do is in `ab_effects`.
 pub mod OwnNames
 pub mod HypothesisProgress
--- A hypothesis taken apart, and an atom of one analysed.
+-- A hypothesis taken apart, and a defined atom or a judgement analysed.
 pub mod CaseAnswers
 pub mod AnalysedGoals
 pub mod HypothesisRefusals
+-- Rules of judgements.
+pub mod JudgementSteps

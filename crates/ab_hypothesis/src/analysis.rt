@@ -1,5 +1,5 @@
-//! A hypothesis that is an atom of a definition is analysed: the goal is split into the cases of the atom, and what each
-//! case assumes is opened.
+//! A hypothesis that is a defined atom or a judgement is analysed: the goal is split into its cases, and what each case assumes
+//! is opened.
 ghost use Rattle.std.specs.Prelude.{◌≡◌, ◌≢◌, ◌+◌, ℕ, [], Ok, Err, OnOk};
 ghost use Rattle.ab_formulas.specs.Forms.{form_of};
 ghost use Rattle.ab_logic.specs.Worlds.{IsWorld, Holds, read};
@@ -74,7 +74,7 @@ fn open_each<L>(
     Ok(())
 }
 
-/// Splits the first goal by a hypothesis that is an atom, and opens what each case assumes.
+/// Splits the first goal by a hypothesis that may be a defined atom or a judgement, and opens what each case assumes.
 pub(crate) fn analyse<L>(
     alloc: Global,
     world: &mut World,
@@ -105,7 +105,7 @@ pub(crate) fn analyse<L>(
             open_each(alloc, world, proof, label, &own, count, steps)?;
             Ok(Outcome::Taken)
         }
-        // The rule's second condition asks for an atom whose predicate is defined, the third for a mark that allows it.
+        // The rule's second condition asks for a defined atom or a judgement, the third for a mark that allows it.
         Attempted::Failed(condition) => {
             if condition == 2 {
                 Ok(Outcome::Shapeless)

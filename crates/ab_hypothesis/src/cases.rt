@@ -281,10 +281,10 @@ pub fn label_clash(
 }
 
 /// Takes a hypothesis of the first goal apart, with the label for the first new hypothesis of each goal. It is removed,
-/// unless it is to be kept. An equation is solved in the goal, and an atom whose predicate is defined splits the goal into
-/// the cases of its definition. It is refused, and changes nothing, where the label is in use, no hypothesis has the name,
-/// the formula isn't of a form that is taken apart or its predicate isn't defined, a mark doesn't allow it, an equation is
-/// outside the patterns, or a new hypothesis gets no name.
+/// unless it is to be kept. An equation is solved in the goal, and a defined atom or a judgement splits the goal into its
+/// cases. It is refused, and changes nothing, where the label is in use, no hypothesis has the name, the formula isn't of a
+/// form that is taken apart, it is an atom whose predicate isn't defined or a judgement of which it isn't known by which rules
+/// it may hold, a mark doesn't allow it, an equation is outside the patterns, or a new hypothesis gets no name.
 pub fn case<L>(
     alloc: Global,
     world: &mut World,

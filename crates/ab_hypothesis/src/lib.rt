@@ -7,6 +7,8 @@ mod cases;
 mod exchange_steps;
 mod exchanges;
 mod goal_moves;
+mod judgement_cuts;
+mod judgement_steps;
 mod new_names;
 mod openings;
 mod outcome;
@@ -17,6 +19,8 @@ mod stop;
 
 pub use cases::{case, label_clash};
 pub use exchanges::permute;
+pub use judgement_cuts::cut;
+pub use judgement_steps::{again, take_judgement_step};
 pub use new_names::rename;
 pub use openings::open_one;
 pub use own_names::own_name;

@@ -11,7 +11,7 @@ use ab_steps::{ProofCommandFault, not_pattern};
 pub(crate) enum Outcome {
     /// It was taken apart.
     Taken,
-    /// Its formula isn't of a form for it, or is an atom whose predicate isn't defined.
+    /// Its formula isn't of a form for it, or is no defined atom and no judgement whose rules are known.
     Shapeless,
     /// Its mark doesn't serve.
     Marked,

@@ -21,6 +21,7 @@ mod value;
 pub use elaboration::elaborate;
 pub use expression_walk::walk;
 pub use ids::formulas;
+pub use name_meanings::nominal_number;
 pub use normal_terms::build;
 pub use row::Row;
 pub use scope::{Place, Scope};

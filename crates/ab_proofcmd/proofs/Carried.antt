@@ -3,7 +3,7 @@ use Rattle.std.specs.Prelude.{Some, None, All, Vec, Result, Ok, Err, OnErr}
 use Rattle.std.specs.Global.{Global}
 use Rattle.std.proofs.Common.{◌≡◌, ◌≢◌, ℕ, List, [], ◌∷◌, ◌++◌, map, length, refl, sym, ◌∙◌, ap, subst, append_assoc}
 use Rattle.std.proofs.lemmas.List.{length-map}
-use Rattle.std.proofs.lemmas.List.Elements.{All-head, All-weaker}
+use Rattle.std.proofs.lemmas.List.Elements.{All-weaker}
 use Rattle.ab_term.specs.Terms.{Read}
 use Rattle.ab_norm.specs.ab_store.specs.declared.node.TermId.{TermId}
 use Rattle.ab_grammar.specs.CommandTrees as told
@@ -12,16 +12,16 @@ use Rattle.ab_formulas.specs.Declarations.{Declarations}
 use Rattle.ab_logic.specs.WorldGrowth.{Grows}
 use Rattle.ab_formulas.specs.NewNames.{Label, given}
 use Rattle.ab_logic.specs.SequentReadings.{sequent_of}
-use Rattle.ab_formulas.specs.Sequents.{Sequent, IsSequent, formula_of, proving, assuming, without}
+use Rattle.ab_formulas.specs.Sequents.{Sequent, IsSequent, formula_of, proving, assuming}
 use Rattle.ab_logic.specs.Worlds.{IsWorld, Holds, read, declarations_of}
 use Rattle.ab_logic.specs.declared.world.World.{World}
 use Rattle.ab_logic.specs.declared.sequent.Sequent.{Sequent as Kept}
 use Rattle.ab_theory.specs.Rules.{NamedRule}
 use Rattle.ab_theory.specs.Steps.{cut_formula}
 use Rattle.ab_theory.specs.Derivations.{History, open_goals}
-use Rattle.ab_steps.specs.ab_kernel.specs.Layout.{Held, history_of, IsProof}
+use Rattle.ab_steps.specs.ab_kernel.specs.Layout.{Held, IsProof}
 use Rattle.ab_steps.specs.ab_kernel.proofs.Later.{same_history, still_proof}
-use Rattle.ab_theory.proofs.Rooted.{open_are_sequents}
+use Rattle.ab_steps.proofs.GoalSequents.{first_is_sequent}
 use Rattle.ab_theory.specs.Pieces.{Given, antecedent_count}
 use Rattle.ab_theory.specs.UseAnswers.{awaited, result_in}
 use Rattle.ab_uses.specs.GivenReadings.{given_of}
@@ -102,8 +102,7 @@ pub first_sequent : (w : World) → IsWorld w → (p : Held) → IsProof w p →
 first_sequent w world p proof some k here =
     let one = one_at_least (goals_of w p) some in
     subst (IsSequent (declarations_of w)) (sym (here one.0 one.1 one.2))
-    (All-head (IsSequent (declarations_of w)) one.0 one.1
-    (subst (All (IsSequent (declarations_of w))) one.2 (open_are_sequents (declarations_of w) world.sentences world.definitions (history_of w p).tree proof.valid proof.held.rooted)))
+    (first_is_sequent w p world proof one.0 one.1 one.2)
 
 pub same_goals : (w m : World) (p : Held) → Grows w m → IsProof w p → goals_of m p ≡ goals_of w p
 same_goals w m p grows proof = ap (λ (h : History). open_goals h.tree) (same_history w m grows p proof)

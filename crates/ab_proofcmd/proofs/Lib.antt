@@ -13,3 +13,6 @@ pub mod Named
 pub mod Usable
 pub mod Carried
 mod Answered
+mod Constants
+mod ReplacedSets
+mod JudgementRows

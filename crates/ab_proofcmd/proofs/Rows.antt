@@ -1,7 +1,6 @@
 -- What the steps of `exists` and `assert` do, and why they aren't taken, in the words of the rows.
-use Rattle.std.specs.Prelude.{◌≡◌, ℕ, List, [], ◌∷◌, ◌++◌, Option, Some, None, Result, Ok, Err, IfOk, OnOk, OnErr, All}
+use Rattle.std.specs.Prelude.{◌≡◌, ℕ, List, [], ◌∷◌, ◌++◌, Option, Some, None, Result, Ok, Err, IfOk, OnOk, OnErr}
 use Rattle.std.proofs.Common.{inl, inr, refl, sym, ◌∙◌, ap, subst, arith}
-use Rattle.std.proofs.lemmas.List.Elements.{All-head}
 use Rattle.ab_term.specs.Types.{Ty, prop}
 use Rattle.ab_grammar.specs.Tree.{Tree, place_of}
 use Rattle.ab_grammar.specs.CommandTrees as told
@@ -14,15 +13,14 @@ use Rattle.ab_formulas.specs.Formulas.{IsFormula}
 use Rattle.ab_formulas.specs.Forms.{as_exists}
 use Rattle.ab_formulas.specs.NewNames.{Label}
 use Rattle.ab_logic.specs.WorldGrowth.{Grows}
-use Rattle.ab_formulas.specs.Sequents.{Sequent, IsSequent, Fits}
-use Rattle.ab_logic.specs.Worlds.{IsWorld, declarations_of}
+use Rattle.ab_formulas.specs.Sequents.{Sequent, Fits}
+use Rattle.ab_logic.specs.Worlds.{declarations_of}
 use Rattle.ab_logic.specs.declared.world.World.{World}
 use Rattle.ab_theory.specs.Steps.{exists_right, cut_formula}
 use Rattle.ab_theory.specs.Rules.{NamedRule, Fails}
 use Rattle.ab_theory.specs.Derivations.{History, open_goals}
-use Rattle.ab_steps.specs.ab_kernel.specs.Layout.{Held, history_of, IsProof}
+use Rattle.ab_steps.specs.ab_kernel.specs.Layout.{Held, IsProof}
 use Rattle.ab_steps.specs.ab_kernel.proofs.Later.{same_history, still_proof}
-use Rattle.ab_theory.proofs.Rooted.{open_are_sequents}
 use Rattle.ab_effects.specs.ProofCommands.{effect, clashing}
 use Rattle.ab_meaning.specs.Refusals.{type_clash}
 use Rattle.ab_effects.specs.Row.{Leads}
@@ -36,11 +34,6 @@ use Rattle.ab_proofcmd.specs.GoalExpressions.{IsReadAs, fault_for}
 use Rattle.ab_proofcmd.specs.CutRefusals.{CutFails}
 
 -- THE FIRST GOAL, in a world that may have grown
-
-pub first_is_sequent : (w : World) → IsWorld w → (p : Held) → IsProof w p → (s : Sequent) (rest : List Sequent) → goals_of w p ≡ s ∷ rest → IsSequent (declarations_of w) s
-first_is_sequent w world p proof s rest e =
-    All-head (IsSequent (declarations_of w)) s rest
-    (subst (All (IsSequent (declarations_of w))) e (open_are_sequents (declarations_of w) world.sentences world.definitions (history_of w p).tree proof.valid proof.held.rooted))
 
 pub same_goals : (w m : World) (p : Held) → Grows w m → IsProof w p → goals_of m p ≡ goals_of w p
 same_goals w m p grows proof = ap (λ (h : History). open_goals h.tree) (same_history w m grows p proof)

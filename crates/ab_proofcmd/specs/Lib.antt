@@ -4,6 +4,7 @@ pub mod SupportedCommands
 pub mod GoalScopes
 pub mod GoalExpressions
 pub mod GivenTerms
+pub mod ReplacedConstants
 pub mod CutRefusals
 -- What steps leave of the goals of a proof.
 pub mod Questions

@@ -1,5 +1,5 @@
 -- The proof commands that are built.
-use Rattle.ab_grammar.specs.CommandTrees.{ProofCommand, intros, induction, coinduction, case, apply, backchain, split, split_all, left, right, unfold_goal, exists, assert, clear, rename, permute, skip}
+use Rattle.ab_grammar.specs.CommandTrees.{ProofCommand, intros, induction, coinduction, case, apply, backchain, split, split_all, left, right, unfold_goal, exists, assert, clear, rename, permute, cut, inst, monotone, skip}
 
 abbrev pub IsBuilt : ProofCommand → Type 0
 IsBuilt (intros xs) = Unit {0}
@@ -18,5 +18,8 @@ IsBuilt (assert e) = Unit {0}
 IsBuilt (clear Hs) = Unit {0}
 IsBuilt (rename H x) = Unit {0}
 IsBuilt (permute ns x) = Unit {0}
+IsBuilt (cut H K) = Unit {0}
+IsBuilt (inst H is) = Unit {0}
+IsBuilt (monotone H e) = Unit {0}
 IsBuilt skip = Unit {0}
 IsBuilt _ = ⊥

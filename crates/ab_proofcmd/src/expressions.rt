@@ -1,6 +1,6 @@
 //! The expressions of proof commands.
 ghost use Rattle.std.specs.Prelude.{◌≡◌, All};
-ghost use Rattle.ab_term.specs.Types.{prop};
+ghost use Rattle.ab_term.specs.Types.{prop, olist};
 ghost use Rattle.ab_norm.specs.ab_types.specs.Ids.{HoldsType, type_of};
 ghost use Rattle.ab_syntax.specs.SyntaxTrees.{tree_of};
 ghost use Rattle.ab_formulas.specs.Formulas.{HasOneTypeEach};
@@ -21,6 +21,7 @@ use ab_norm::store::TermId;
 use ab_norm::types::laws::has_unique_ids;
 use ab_norm::types::{Steps, TypeId};
 use ab_steps::ProofCommandFault;
+use ab_steps::kernel::judgements::list_type;
 use ab_syntax::Parse;
 use ab_uses::GivenTerm;
 use std::alloc::Global;
@@ -95,6 +96,25 @@ pub(crate) fn read_formula<L>(
 {
     has_unique_ids(&world.types);
     let expected = formula_type(alloc, &mut world.types)?;
+    read_term(alloc, world, goal, parse, expected, steps)
+}
+
+/// The term that the expression means in the goal at the type of lists.
+pub(crate) fn read_list<L>(
+    alloc: Global,
+    world: &mut World,
+    goal: &Sequent,
+    parse: &Parse,
+    steps: &mut Steps<L>,
+) -> Result<TermId, InferFault>
+    requires world { IsWorld world.old }
+    requires held { HoldsSequent world.old goal.now }
+    requires sequent { IsSequent (declarations_of world.old) (sequent_of world.old goal.now) }
+    ensures reads { IsReadAs (declarations_of world.old) (sequent_of world.old goal.now) (tree_of parse.now) olist world.new result }
+    ensures grows { Grows world.old world.new }
+    ensures declared { declarations_of world.new ≡ declarations_of world.old }
+{
+    let expected = list_type(alloc, world)?;
     read_term(alloc, world, goal, parse, expected, steps)
 }
 

@@ -42,7 +42,7 @@ fn is_among(name: &Name, instances: &[Instance]) -> bool
 }
 
 /// Whether a term is given twice for one name.
-fn is_given_twice(instances: &[Instance]) -> bool
+pub(crate) fn is_given_twice(instances: &[Instance]) -> bool
     ensures { result ≡ given_twice (map instance_of instances.now) }
 {
     for place in 0..instances.len() {
@@ -110,7 +110,7 @@ fn read_next<L>(
 }
 
 /// Puts a term behind the others.
-fn put(given: &mut Vec<GivenTerm>, next: GivenTerm) -> Result<(), AllocError>
+pub(crate) fn put(given: &mut Vec<GivenTerm>, next: GivenTerm) -> Result<(), AllocError>
     ensures { OnOk result (given.new.items ≡ given.old.items ++ next ∷ []) }
 {
     given.push(next)?;

@@ -14,10 +14,11 @@ ghost use Rattle.ab_proofcmd.specs.SupportedCommands.{IsBuilt};
 use crate::application::apply;
 use crate::assertions::assert;
 use crate::backchaining::backchain;
+use crate::judgement_commands::{inst, monotone};
 use crate::witnesses::exists;
 use ab_conclusion::{coinduction, induction, intros, left, right, skip, split, split_all, unfold};
 use ab_equations::Label;
-use ab_hypothesis::{case, clear, permute, rename};
+use ab_hypothesis::{case, clear, cut, permute, rename};
 use ab_logic::World;
 use ab_norm::name::Name;
 use ab_norm::types::Steps;
@@ -47,11 +48,11 @@ pub fn is_built(command: &ProofCommand) -> bool
         | ProofCommand::Clear(_)
         | ProofCommand::Rename(_, _)
         | ProofCommand::Permute(_, _)
-        | ProofCommand::Skip => true,
-        ProofCommand::Cut(_, _)
+        | ProofCommand::Cut(_, _)
         | ProofCommand::Inst(_, _)
         | ProofCommand::Monotone(_, _)
-        | ProofCommand::Search(_) => false,
+        | ProofCommand::Skip => true,
+        ProofCommand::Search(_) => false,
     }
 }
 
@@ -112,16 +113,17 @@ pub fn apply_proof_command<L>(
             backchain(alloc, world, proof, name, given.as_slice(), steps)
         }
         ProofCommand::Permute(numbers, name) => {
-            permute(
-                alloc,
-                world,
-                proof,
-                numbers.as_slice(),
-                name.as_ref(),
-                steps,
-            )
+            let order = numbers.as_slice();
+            permute(alloc, world, proof, order, name.as_ref(), steps)
+        }
+        ProofCommand::Cut(name, other) => cut(alloc, world, proof, &wanted, name, other, steps),
+        ProofCommand::Inst(name, given) => {
+            inst(alloc, world, proof, &wanted, name, given.as_slice(), steps)
+        }
+        ProofCommand::Monotone(name, list) => {
+            monotone(alloc, world, proof, &wanted, name, list, steps)
         }
         ProofCommand::Skip => skip(world, proof, steps),
-        _ => unreachable!(),
+        ProofCommand::Search(_) => unreachable!(),
     }
 }

@@ -3,13 +3,15 @@ use Rattle.std.specs.Prelude.{Option, Some, IfSome, All, ◌==◌}
 use Rattle.std.proofs.Common.{◌≡◌, ◌≢◌, ◌<◌, ◌+◌, ◌⊎◌, inl, inr, ℕ, Bool, true, false, List, [], ◌∷◌, map, refl, sym, ◌∙◌, ap, subst, arith}
 use Rattle.std.proofs.lemmas.List.Elements.{All-head, All-tail, All-weaker}
 use Rattle.ab_formulas.specs.Declarations.{Declarations}
+use Rattle.ab_logic.proofs.Programs.{have_programs}
+use Rattle.ab_logic.proofs.BuiltIn.{has_member}
 use Rattle.ab_logic.specs.WorldGrowth.{Grows}
 use Rattle.ab_formulas.specs.Sequents.{Sequent, formulas}
 use Rattle.ab_logic.specs.Worlds.{read, IsWorld, declarations_of}
 use Rattle.ab_logic.specs.declared.world.World.{World}
 use Rattle.ab_theory.specs.Atoms.{defined_atom}
-use Rattle.ab_alternatives.specs.declared.atoms.DefinedAtom.{DefinedAtom}
-use Rattle.ab_alternatives.proofs.Lasting.{same_atom, still_defined}
+use Rattle.ab_steps.specs.ab_kernel.specs.ab_judgements.specs.ab_alternatives.specs.declared.atoms.DefinedAtom.{DefinedAtom}
+use Rattle.ab_steps.specs.ab_kernel.specs.ab_judgements.specs.ab_alternatives.proofs.Lasting.{same_atom, still_defined}
 use Rattle.ab_theory.specs.Derivations.{History, open_goals}
 use Rattle.ab_steps.specs.ab_kernel.specs.Layout.{Held, IsProof, history_of}
 use Rattle.ab_steps.specs.Progress.{goals_of, Follows}
@@ -18,7 +20,7 @@ use Rattle.ab_search.specs.Choices.{IsBare, Assumes}
 use Rattle.ab_effects.specs.Search.{Unfolds, CanBeClosed}
 use Rattle.ab_search.specs.declared.bare.Bare.{Bare}
 use Rattle.ab_search.proofs.Making.{still_bare}
-use Rattle.ab_search.proofs.Reading.{first_is_sequent}
+use Rattle.ab_steps.proofs.GoalSequents.{first_is_sequent}
 use Rattle.ab_search.proofs.Unfoldings.{unfolds_once}
 
 -- the first goal is one
@@ -122,7 +124,7 @@ module _ (w v : World) (p q : Held) (depth place : ℕ) (tried : AreTried w p v 
       let y = unfolded s rest (tried.goals ∙ e) in
       let same : declarations_of v ≡ D = tried.follows.declared in
       let other : Unfolds D s place y.0 = subst (λ (E : Declarations). Unfolds E s place y.0) same y.1 in
-      let one : t ≡ y.0 = unfolds_once D world.sentences world.definitions s (first_is_sequent w p world proof s rest e) place t y.0 x other in
+      let one : t ≡ y.0 = unfolds_once D world.sentences world.definitions (have_programs w world) (has_member w world) s (first_is_sequent w p world proof s rest e) place t y.0 x other in
       stays y.0 rest y.2 (subst (λ (E : Declarations). CanBeClosed E depth y.0) (sym (on.declared ∙ same)) (subst (CanBeClosed D depth) one c)))
 
   -- where there is no further choice, none does

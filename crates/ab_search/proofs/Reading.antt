@@ -1,26 +1,18 @@
 -- The first goal, as the program sees it.
 use Rattle.std.specs.List.{All}
-use Rattle.std.proofs.Common.{◌≡◌, List, [], ◌∷◌, map, refl, sym, ◌∙◌, ap, subst}
+use Rattle.std.proofs.Common.{◌≡◌, List, [], ◌∷◌, map, refl, sym, ◌∙◌, ap}
 use Rattle.std.proofs.lemmas.List.Elements.{All-head, All-tail}
 use Rattle.ab_term.specs.Terms.{Read}
 use Rattle.ab_norm.specs.ab_store.specs.declared.node.TermId.{TermId}
 use Rattle.ab_logic.specs.WorldGrowth.{Grows}
 use Rattle.ab_logic.specs.SequentReadings.{hypothesis_of, sequent_of, HoldsSequent}
-use Rattle.ab_formulas.specs.Sequents.{Sequent, IsSequent, formulas}
-use Rattle.ab_logic.specs.Worlds.{read, Holds, IsWorld, declarations_of}
+use Rattle.ab_formulas.specs.Sequents.{formulas}
+use Rattle.ab_logic.specs.Worlds.{read, Holds}
 use Rattle.ab_logic.specs.declared.world.World.{World}
 use Rattle.ab_logic.specs.declared.sequent.Sequent.{Sequent as Kept}
 use Rattle.ab_logic.specs.declared.sequent.Hypothesis.{Hypothesis as KeptHypothesis}
-use Rattle.ab_steps.specs.ab_kernel.specs.Layout.{Held, IsProof, history_of}
-use Rattle.ab_theory.proofs.Rooted.{open_are_sequents}
-use Rattle.ab_steps.specs.Progress.{goals_of}
 use Rattle.ab_search.specs.Choices.{Assumes}
 use Rattle.ab_search.specs.declared.bare.Bare.{Bare}
-
-pub first_is_sequent : (w : World) (p : Held) → IsWorld w → IsProof w p → (s : Sequent) (rest : List Sequent) → goals_of w p ≡ s ∷ rest → IsSequent (declarations_of w) s
-first_is_sequent w p world proof s rest e =
-    All-head (IsSequent (declarations_of w)) s rest
-    (subst (All (IsSequent (declarations_of w))) e (open_are_sequents (declarations_of w) world.sentences world.definitions (history_of w p).tree proof.valid proof.held.rooted))
 
 module _ (w v : World) (grows : Grows w v) where
   same_formulas : (hs : List KeptHypothesis) (given : List Bare) → All (λ (h : KeptHypothesis). Holds w h.formula) hs

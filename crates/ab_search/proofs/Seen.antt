@@ -5,6 +5,8 @@ use Rattle.ab_unifiers.specs.Replacements.{Cell}
 use Rattle.ab_norm.specs.ab_store.specs.declared.node.TermId.{TermId}
 use Rattle.ab_unify.specs.Problem.{cells_read}
 use Rattle.ab_formulas.specs.Declarations.{Declarations}
+use Rattle.ab_logic.proofs.Programs.{have_programs}
+use Rattle.ab_logic.proofs.BuiltIn.{has_member}
 use Rattle.ab_logic.specs.Forms.{sign_of}
 use Rattle.ab_logic.specs.WorldGrowth.{Grows}
 use Rattle.ab_logic.specs.SequentReadings.{sequent_of, HoldsSequent}
@@ -15,11 +17,11 @@ use Rattle.ab_logic.specs.declared.sequent.Sequent.{Sequent as Kept}
 use Rattle.ab_formulas.specs.BodyMarks.{MayBeUnfolded}
 use Rattle.ab_theory.specs.Equations.{AreCells}
 use Rattle.ab_theory.specs.Atoms.{Choice, defined_atom, choices_of}
-use Rattle.ab_alternatives.specs.ChoiceMatches.{Matches}
-use Rattle.ab_alternatives.specs.AtomReadings.{defined_read, HoldsDefined}
-use Rattle.ab_alternatives.specs.declared.atoms.DefinedAtom.{DefinedAtom}
-use Rattle.ab_alternatives.specs.declared.choice_matches.Match.{Match}
-use Rattle.ab_alternatives.specs.declared.choice_matches.Match.TheVariants.{Closed}
+use Rattle.ab_steps.specs.ab_kernel.specs.ab_judgements.specs.ab_alternatives.specs.ChoiceMatches.{Matches}
+use Rattle.ab_steps.specs.ab_kernel.specs.ab_judgements.specs.ab_alternatives.specs.AtomReadings.{defined_read, HoldsDefined}
+use Rattle.ab_steps.specs.ab_kernel.specs.ab_judgements.specs.ab_alternatives.specs.declared.atoms.DefinedAtom.{DefinedAtom}
+use Rattle.ab_steps.specs.ab_kernel.specs.ab_judgements.specs.ab_alternatives.specs.declared.choice_matches.Match.{Match}
+use Rattle.ab_steps.specs.ab_kernel.specs.ab_judgements.specs.ab_alternatives.specs.declared.choice_matches.Match.TheVariants.{Closed}
 use Rattle.ab_theory.specs.Steps.{definition_right}
 use Rattle.ab_steps.specs.ab_kernel.proofs.NewNumbers.{over_cells}
 use Rattle.ab_theory.specs.Derivations.{History, open_goals}
@@ -33,7 +35,7 @@ use Rattle.ab_effects.specs.Search.{Unfolds, CanBeClosed}
 use Rattle.ab_search.specs.Layers.{layers}
 use Rattle.ab_search.specs.declared.bare.Bare.{Bare}
 use Rattle.ab_search.proofs.Layers.{layers_within}
-use Rattle.ab_search.proofs.Reading.{first_is_sequent}
+use Rattle.ab_steps.proofs.GoalSequents.{first_is_sequent}
 use Rattle.ab_search.proofs.Unfoldings.{never_fails, never_sticks, rule_unfolds, told_otherwise, unfolds_by, unfolds_before}
 
 -- the same proof, in a world that has grown
@@ -89,7 +91,7 @@ module _ (w : World) (p : Held) (world : IsWorld w) (proof : IsProof w p) (some 
     pub no_choice : (place : ℕ) → slice_get (choices_of (goal_names (sequent_of w x)) (defined_read w a)) place ≡ None → First w p (λ s. (i : ℕ) (t : Sequent) → Unfolds (declarations_of w) s i t → i < place)
     no_choice place none =
         seen_first (λ s. (i : ℕ) (t : Sequent) → Unfolds (declarations_of w) s i t → i < place)
-        (unfolds_before (declarations_of w) world.sentences world.definitions (sequent_of w x) seen_sequent (defined_read w a) seen_atom place none)
+        (unfolds_before (declarations_of w) world.sentences world.definitions (have_programs w world) (has_member w world) (sequent_of w x) seen_sequent (defined_read w a) seen_atom place none)
 
     abbrev pub IsToldOf : ℕ → Match → Type 0
     IsToldOf place m =
@@ -99,7 +101,7 @@ module _ (w : World) (p : Held) (world : IsWorld w) (proof : IsProof w p) (some 
     pub not_closed : (place : ℕ) (m : Match) → IsToldOf place m → m ≢ Closed → First w p (λ s. (t : Sequent) → ¬ Unfolds (declarations_of w) s place t)
     not_closed place m told not =
         seen_first (λ s. (t : Sequent) → ¬ Unfolds (declarations_of w) s place t)
-        (λ t u. not (told_otherwise (declarations_of w) world.sentences world.definitions (sequent_of w x) seen_sequent place t u
+        (λ t u. not (told_otherwise (declarations_of w) world.sentences world.definitions (have_programs w world) (has_member w world) (sequent_of w x) seen_sequent place t u
         (cells_read w.types w.store) (over_cells w x held) (defined_read w a) seen_atom told.0 told.1 m told.2))
 
     -- where it is told to be closed it unfolds, also in a later world with the same cells
@@ -107,7 +109,7 @@ module _ (w : World) (p : Held) (world : IsWorld w) (proof : IsProof w p) (some 
         → First v p (λ s. AreCells (cells_read v.types v.store) s × (t : Sequent) × Unfolds (declarations_of v) s place t)
     closed_there place told v grows declared cells s rest e =
         let D = declarations_of w in
-        let t = unfolds_by D world.sentences world.definitions (sequent_of w x) seen_sequent (cells_read w.types w.store) (over_cells w x held) (defined_read w a) seen_atom may.may place told.0 told.1 told.2 in
+        let t = unfolds_by D world.sentences world.definitions (have_programs w world) (has_member w world) (sequent_of w x) seen_sequent (cells_read w.types w.store) (over_cells w x held) (defined_read w a) seen_atom may.may place told.0 told.1 told.2 in
         let here : AreCells (cells_read w.types w.store) s × (t : Sequent) × Unfolds D s place t =
         seen_first (λ s. AreCells (cells_read w.types w.store) s × (t : Sequent) × Unfolds D s place t) (over_cells w x held, t.0, t.1) s rest
         (sym (goals_then w v p grows declared proof) ∙ e) in
@@ -121,21 +123,21 @@ module _ (w : World) (p : Held) (world : IsWorld w) (proof : IsProof w p) (some 
   fails_never i fails =
       let one = one_at_least (goals_of w p) some in
       let u = unfolds one.0 one.1 one.2 in
-      never_fails (declarations_of w) world.sentences world.definitions one.0 (first_is_sequent w p world proof one.0 one.1 one.2) place u.1 u.2 (cells_read w.types w.store) u.0 i
+      never_fails (declarations_of w) world.sentences world.definitions (have_programs w world) (has_member w world) one.0 (first_is_sequent w p world proof one.0 one.1 one.2) place u.1 u.2 (cells_read w.types w.store) u.0 i
       (fails [] one.1 one.0 (first_at w p one.0 one.1 one.2))
 
   pub sticks_never : (i : ℕ) → StuckAt w p 0 (definition_right place) i → ⊥
   sticks_never i stuck =
       let one = one_at_least (goals_of w p) some in
       let u = unfolds one.0 one.1 one.2 in
-      never_sticks (declarations_of w) world.sentences world.definitions one.0 (first_is_sequent w p world proof one.0 one.1 one.2) place u.1 u.2 (cells_read w.types w.store) u.0 i
+      never_sticks (declarations_of w) world.sentences world.definitions (have_programs w world) (has_member w world) one.0 (first_is_sequent w p world proof one.0 one.1 one.2) place u.1 u.2 (cells_read w.types w.store) u.0 i
       (stuck [] one.1 one.0 (first_at w p one.0 one.1 one.2))
 
   pub is_unfolded : (v : World) (q : Held) (n : ℕ) → TookInto w p v q 0 (definition_right place) n → IsUnfolded w p place v q
   is_unfolded v q n took s rest e =
       let u = unfolds s rest e in
       let t = took [] rest s (first_at w p s rest e) in
-      let r = rule_unfolds (declarations_of w) world.sentences world.definitions s (first_is_sequent w p world proof s rest e) place u.1 u.2 t.0 t.1.0 in
+      let r = rule_unfolds (declarations_of w) world.sentences world.definitions (have_programs w world) (has_member w world) s (first_is_sequent w p world proof s rest e) place u.1 u.2 t.0 t.1.0 in
       (r.0, r.1, t.2 ∙ ap (λ ps. ps ++ rest) r.2)
 
   -- so a goal is left

@@ -1,16 +1,16 @@
 -- A choice unfolds a conclusion in one way, whatever numbers there are, and the kernel's rule takes it so.
-use Rattle.std.specs.Prelude.{slice_get, Some, None, Contains}
+use Rattle.std.specs.Prelude.{slice_get, Some, None}
 use Rattle.std.proofs.Common.{◌≡◌, ◌<◌, inl, inr, ℕ, zero, suc, List, [], ◌∷◌, map, codes, refl, sym, ◌∙◌, ap, subst, arith}
-use Rattle.std.proofs.lemmas.List.Elements.{All-head, All-weaker}
+use Rattle.std.proofs.lemmas.List.Elements.{All-head}
 use Rattle.ab_term.specs.Variables.{Substitution, image}
 use Rattle.ab_term.specs.Sameness.{same_number}
-use Rattle.ab_term.proofs.Lists.{Contains-here, Contains-there}
 use Rattle.ab_term.specs.Terms.{Read}
 use Rattle.ab_unifiers.specs.Replacements.{Cell}
 use Rattle.ab_unifiers.specs.Unification.{Answer, unified, apart, stuck, Solves}
 use Rattle.ab_unifiers.proofs.Unique.{unique}
-use Rattle.ab_unifiers.specs.Clauses.{IsClause}
-use Rattle.ab_formulas.specs.Declarations.{Declarations, IsDefining, HaveDefinitions, HaveSentences, signature_in}
+use Rattle.ab_unifiers.specs.Member.{HasMember}
+use Rattle.ab_formulas.specs.Declarations.{Declarations, HaveDefinitions, HaveSentences, signature_in}
+use Rattle.ab_formulas.specs.Programs.{HavePrograms}
 use Rattle.ab_formulas.specs.Sequents.{Variable, Sequent, IsSequent, HoldsOnly, formulas, goal_names, proving}
 use Rattle.ab_formulas.specs.NamedGoals.{with_names, variable_named}
 use Rattle.ab_formulas.specs.BodyMarks.{MayBeUnfolded}
@@ -18,28 +18,23 @@ use Rattle.ab_theory.specs.Equations.{AreCells, made}
 use Rattle.ab_theory.specs.Splits.{problem_of}
 use Rattle.ab_theory.specs.Atoms.{Defined, Choice, defined_atom, choices_of}
 use Rattle.ab_theory.specs.Unfolding.{unfolding_case, closed_over}
-use Rattle.ab_effects.specs.Likeness.{IsSameAtom}
-use Rattle.ab_effects.proofs.Unfolding.{answered_also}
-use Rattle.ab_alternatives.specs.ChoiceMatches.{Matches}
-use Rattle.ab_alternatives.specs.declared.choice_matches.Match.{Match}
-use Rattle.ab_alternatives.specs.declared.choice_matches.Match.TheVariants.{Closed, Open, Apart, Stuck as Outside}
+use Rattle.ab_theory.specs.Subjects.{Subject, an_atom, subject_of, sign_of, Way, way_by_choice, ways_of, conclusion_then}
+use Rattle.ab_theory.proofs.SubjectParts.{atom_subject, made_there}
+use Rattle.ab_effects.specs.Likeness.{IsSameSubject, HasItsOutcome}
+use Rattle.ab_effects.proofs.Splitting.{itself}
+use Rattle.ab_effects.proofs.Unfolding.{at_place}
+use Rattle.ab_steps.specs.ab_kernel.specs.ab_judgements.specs.ab_alternatives.specs.ChoiceMatches.{Matches}
+use Rattle.ab_steps.specs.ab_kernel.specs.ab_judgements.specs.ab_alternatives.specs.declared.choice_matches.Match.{Match}
+use Rattle.ab_steps.specs.ab_kernel.specs.ab_judgements.specs.ab_alternatives.specs.declared.choice_matches.Match.TheVariants.{Closed, Open, Apart, Stuck as Outside}
 use Rattle.ab_theory.specs.Rules.{Rule, NamedRule, Fails, Stuck}
 use Rattle.ab_theory.specs.Steps.{definition_right}
 use Rattle.ab_theory.proofs.Keeping.{kept_by_rule}
 use Rattle.ab_theory.proofs.Sequents.{goal_of}
-use Rattle.ab_theory.proofs.Sized.{atom_of, atom_over}
 use Rattle.ab_effects.specs.Search.{Unfolds}
 use Rattle.ab_search.proofs.Numbered.{same_term}
 
 abbrev Cells : Type 0
 Cells = List (Cell (List ℕ))
-
-pub there_contained : (cs : List Choice) (place : ℕ) (c : Choice) → slice_get cs place ≡ Some c → Contains cs c
-there_contained [] place c e = cc
-there_contained (d ∷ ds) zero c e =
-    let same : d ≡ c = cc in
-    subst (Contains (d ∷ ds)) same (Contains-here d ds)
-there_contained (d ∷ ds) (suc place) c e = Contains-there d ds c (there_contained ds place c e)
 
 -- where there is no choice, there is none behind it
 pub there_before : (cs : List Choice) (i place : ℕ) (c : Choice) → slice_get cs i ≡ Some c → slice_get cs place ≡ None → i < place
@@ -60,22 +55,24 @@ Solved cells s d c a = Solves (codes "x") (problem_of (unfolding_case cells s d 
 abbrev body : Cells → Sequent → Defined → Choice → Substitution ℕ (List ℕ) → Read
 body cells s d c p = image same_number p (unfolding_case cells s d c).goal.conclusion
 
-module _ (D : Declarations) (sentences : HaveSentences D) (definitions : HaveDefinitions D) (s : Sequent) (sequent : IsSequent D s) where
+module _ (D : Declarations) (sentences : HaveSentences D) (definitions : HaveDefinitions D) (programs : HavePrograms D) (has : HasMember (signature_in D)) (s : Sequent) (sequent : IsSequent D s) where
   -- the atom is itself
-  same_atom : (d : Defined) → defined_atom D s.conclusion ≡ Some d → IsSameAtom D s s d d
-  same_atom d is =
-      let over = atom_over D s.variables (goal_names s) s.conclusion d (goal_of D s sequent).conclusion is in
-      record {
-        first = sequent;
-        second = sequent;
-        goals = refl;
-        atoms = record { first = over.closed; second = over.closed; same = refl };
-        signs = refl;
-        blocks = refl;
-        clauses = All-weaker (IsDefining (signature_in D)) (IsClause (signature_in D)) (λ c well. well.clause) d.block.clauses (definitions d.predicate d.block (atom_of D s.conclusion d is).block);
-      }
+  same_atom : (d : Defined) → defined_atom D s.conclusion ≡ Some d → IsSameSubject D s s (an_atom d) (an_atom d)
+  same_atom d is = itself D definitions programs s sequent s.conclusion (goal_of D s sequent).conclusion.closed (an_atom d) (atom_subject D s.conclusion d is)
 
   module _ (place : ℕ) (t : Sequent) (u : Unfolds D s place t) where
+    abbrev subject : Subject
+    subject = an_atom u.atom
+
+    abbrev way : Way
+    way = way_by_choice s u.atom u.choice
+
+    is_subject : subject_of D s.conclusion ≡ Some subject
+    is_subject = atom_subject D s.conclusion u.atom u.is_atom
+
+    way_there : slice_get (ways_of s subject) place ≡ Some way
+    way_there = made_there (way_by_choice s u.atom) (choices_of (goal_names s) u.atom) place u.choice u.there
+
     one_atom : (d : Defined) → defined_atom D s.conclusion ≡ Some d → d ≡ u.atom
     one_atom d is = let both : Some d ≡ Some u.atom = sym is ∙ u.is_atom in cc
 
@@ -85,11 +82,25 @@ module _ (D : Declarations) (sentences : HaveSentences D) (definitions : HaveDef
         let both : Some c ≡ Some u.choice = sym here ∙ u.there in
         cc
 
+    one_subject : (x : Subject) → subject_of D s.conclusion ≡ Some x → x ≡ subject
+    one_subject x is = let both : Some x ≡ Some subject = sym is ∙ is_subject in cc
+
+    one_way : (x : Subject) (w : Way) → subject_of D s.conclusion ≡ Some x → slice_get (ways_of s x) place ≡ Some w → w ≡ way
+    one_way x w is at =
+        let here : slice_get (ways_of s subject) place ≡ Some w = subst (λ y. slice_get (ways_of s y) place ≡ Some w) (one_subject x is) at in
+        let both : Some w ≡ Some way = sym here ∙ way_there in
+        cc
+
     -- the same problem, by the atom and the choice that were found
     same_problem : (cells : Cells) (d : Defined) (c : Choice) (a : Answer (List ℕ)) → defined_atom D s.conclusion ≡ Some d → slice_get (choices_of (goal_names s) d) place ≡ Some c
         → Solved cells s d c a → Solved cells s u.atom u.choice a
     same_problem cells d c a is at solved =
         subst (λ b. Solved cells s b u.choice a) (one_atom d is) (subst (λ k. Solved cells s d k a) (one_choice d c is at) solved)
+
+    -- or by the subject and the way
+    same_way : (cells : Cells) (x : Subject) (w : Way) (a : Answer (List ℕ)) → subject_of D s.conclusion ≡ Some x → slice_get (ways_of s x) place ≡ Some w
+        → Solves (codes "x") (problem_of (w.case cells)) a → Solved cells s u.atom u.choice a
+    same_way cells x w a is at solved = subst (λ v. Solves (codes "x") (problem_of (v.case cells)) a) (one_way x w is at) solved
 
     -- over other cells
     pub record Also (cells : Cells) : Type 0 where
@@ -101,14 +112,15 @@ module _ (D : Declarations) (sentences : HaveSentences D) (definitions : HaveDef
 
     also : (cells : Cells) → AreCells cells s → Also cells
     also cells are =
-        let w = answered_also D s s u.atom u.atom (same_atom u.atom u.is_atom) u.cells cells u.are_cells are u.choice
-        (there_contained (choices_of (goal_names s) u.atom) place u.choice u.there) u.more u.answer u.solved in
+        let v = at_place D s s subject subject (same_atom u.atom u.is_atom) u.cells cells u.are_cells are place way way_there in
+        let w = subst (HasItsOutcome s s u.cells cells way) (one_way subject v.0 is_subject v.1) v.2 in
+        let m = w.matched u.more u.answer [] (u.solved, u.none_open) in
         record {
-          most = w.most;
-          answer = w.answer;
-          solved = w.solved;
-          none_open = none_named (made cells w.most w.answer) (ap (map variable_named) u.none_open ∙ w.made_same);
-          same = w.conclusion;
+          most = m.0;
+          answer = m.1;
+          solved = m.3.0;
+          none_open = none_named m.2 m.4 ∙ m.3.1;
+          same = m.5;
         }
 
     -- the answer over these cells is this one
@@ -122,13 +134,13 @@ module _ (D : Declarations) (sentences : HaveSentences D) (definitions : HaveDef
       u.cells,
       u.are_cells,
       (
-        u.atom,
-        u.is_atom,
+        subject,
+        is_subject,
         (
           u.may,
           (
-            u.choice,
-            u.there,
+            way,
+            way_there,
             (
               u.more,
               u.answer,
@@ -141,7 +153,7 @@ module _ (D : Declarations) (sentences : HaveSentences D) (definitions : HaveDef
     )
 
     pub unfolded_sequent : IsSequent D t
-    unfolded_sequent = All-head (IsSequent D) t [] (kept_by_rule D sentences definitions (definition_right place) s (t ∷ []) sequent premise)
+    unfolded_sequent = All-head (IsSequent D) t [] (kept_by_rule D sentences definitions programs has (definition_right place) s (t ∷ []) sequent premise)
 
     closed_body : HoldsOnly s.variables (body u.cells s u.atom u.choice u.answer)
     closed_body =
@@ -150,44 +162,47 @@ module _ (D : Declarations) (sentences : HaveSentences D) (definitions : HaveDef
 
     -- NO CONDITION FAILS
     pub never_fails : (cells : Cells) → AreCells cells s → (i : ℕ) → Fails D cells (definition_right place) s i → ⊥
-    never_fails cells are i (inl f) = let clash : None ≡ Some u.atom = sym f.0 ∙ u.is_atom in cc
-    never_fails cells are i (inr (d, is, inl f)) = f.0 (subst (λ b. MayBeUnfolded b.sign) (sym (one_atom d is)) u.may)
-    never_fails cells are i (inr (d, is, inr (marked, inl f))) =
-        let there : slice_get (choices_of (goal_names s) d) place ≡ Some u.choice = subst (λ b. slice_get (choices_of (goal_names s) b) place ≡ Some u.choice) (sym (one_atom d is)) u.there in
-        let clash : None ≡ Some u.choice = sym f.0 ∙ there in
+    never_fails cells are i (inl f) = let clash : None ≡ Some subject = sym f.0 ∙ is_subject in cc
+    never_fails cells are i (inr (x, is, inl f)) = f.0 (subst (λ y. MayBeUnfolded (sign_of y)) (sym (one_subject x is)) u.may)
+    never_fails cells are i (inr (x, is, inr (marked, inl f))) =
+        let there : slice_get (ways_of s x) place ≡ Some way = subst (λ y. slice_get (ways_of s y) place ≡ Some way) (sym (one_subject x is)) way_there in
+        let clash : None ≡ Some way = sym f.0 ∙ there in
         cc
-    never_fails cells are i (inr (d, is, inr (marked, inr (c, at, f)))) =
-        let e = only cells are apart (same_problem cells d c apart is at f.0) in
+    never_fails cells are i (inr (x, is, inr (marked, inr (w, at, f)))) =
+        let e = only cells are apart (same_way cells x w apart is at f.0) in
         absurd (cc)
 
     pub never_sticks : (cells : Cells) → AreCells cells s → (i : ℕ) → Stuck D cells (definition_right place) s i → ⊥
-    never_sticks cells are i (d, is, (marked, (c, at, f))) =
-        let e = only cells are (stuck i) (same_problem cells d c (stuck i) is at f) in
+    never_sticks cells are i (x, is, (marked, (w, at, f))) =
+        let e = only cells are (stuck i) (same_way cells x w (stuck i) is at f) in
         absurd (cc)
 
     -- THE RULE TAKES IT
     pub rule_unfolds : (ps : List Sequent) → NamedRule D (definition_right place) s ps → (r : Sequent) × Unfolds D s place r × (ps ≡ r ∷ [])
-    rule_unfolds ps (others, are, (d, is, (marked, (c, at, (more, answer, solved, led))))) =
-        let e = only others are (unified more answer) (same_problem others d c (unified more answer) is at solved) in
+    rule_unfolds ps (others, are, (x, is, (marked, (w, at, (more, answer, solved, led))))) =
+        let there = same_way others x w (unified more answer) is at solved in
+        let e = only others are (unified more answer) there in
         let lists : (also others are).most ≡ more = cc in
         let answers : (also others are).answer ≡ answer = cc in
         let none : [] ≡ made others more answer = (also others are).none_open ∙ ap (λ l. made others l (also others are).answer) lists ∙ ap (made others more) answers in (
-          proving (body others s d c answer) s,
+          proving (body others s u.atom u.choice answer) s,
           record {
-            atom = d;
-            is_atom = is;
-            may = marked;
-            choice = c;
-            there = at;
+            atom = u.atom;
+            is_atom = u.is_atom;
+            may = u.may;
+            choice = u.choice;
+            there = u.there;
             cells = others;
             are_cells = are;
             more = more;
             answer = answer;
-            solved = solved;
+            solved = there;
             none_open = none;
             goal = refl;
           },
-          led ∙ ap (λ ys. proving (closed_over ys c (body others s d c answer)) s ∷ []) (sym none),
+          led
+              ∙ ap (λ v. proving (conclusion_then (v.case others) v.closed more answer) s ∷ []) (one_way x w is at)
+              ∙ ap (λ ys. proving (closed_over ys u.choice (body others s u.atom u.choice answer)) s ∷ []) (sym none),
         )
 
     -- WHAT IS TOLD OF THE CHOICE: it is closed

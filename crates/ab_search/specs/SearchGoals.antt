@@ -6,8 +6,8 @@ use Rattle.ab_logic.specs.Worlds.{read, declarations_of}
 use Rattle.ab_logic.specs.declared.world.World.{World}
 use Rattle.ab_formulas.specs.BodyMarks.{MayBeUnfolded}
 use Rattle.ab_theory.specs.Atoms.{defined_atom}
-use Rattle.ab_alternatives.specs.AtomReadings.{defined_read, HoldsDefined}
-use Rattle.ab_alternatives.specs.declared.atoms.DefinedAtom.{DefinedAtom}
+use Rattle.ab_steps.specs.ab_kernel.specs.ab_judgements.specs.ab_alternatives.specs.AtomReadings.{defined_read, HoldsDefined}
+use Rattle.ab_steps.specs.ab_kernel.specs.ab_judgements.specs.ab_alternatives.specs.declared.atoms.DefinedAtom.{DefinedAtom}
 use Rattle.ab_steps.specs.ab_kernel.specs.Layout.{Held}
 use Rattle.ab_steps.specs.Progress.{goals_of}
 use Rattle.ab_effects.specs.Search.{Unfolds, CanBeClosed}

@@ -6,9 +6,9 @@ ghost use Rattle.ab_logic.specs.declared.sequent.Hypothesis.{Hypothesis as AHypo
 ghost use Rattle.ab_search.specs.Choices.{IsBare};
 ghost use Rattle.ab_search.specs.declared.bare.Bare.{Bare as ABare};
 
-use ab_alternatives::sequents::without_marks;
 use ab_logic::{Hypothesis, World};
 use ab_norm::store::TermId;
+use ab_steps::kernel::judgements::alternatives::sequents::without_marks;
 use std::alloc::{AllocError, Global};
 
 /// A formula, and the same without its marks.

@@ -12,10 +12,10 @@ use crate::formula_views::{View, look};
 use crate::immediate_choices::at_once;
 use crate::kernel_steps::take;
 use crate::unfolding_steps::{Unfolded, atom_to_unfold, unfold_by};
-use ab_alternatives::DefinedAtom;
 use ab_logic::World;
 use ab_norm::types::Steps;
 use ab_steps::kernel::Proof;
+use ab_steps::kernel::judgements::alternatives::DefinedAtom;
 use ab_steps::take_back;
 use std::alloc::{AllocError, Global};
 

@@ -8,10 +8,10 @@ ghost use Rattle.ab_search.specs.Choices.{IsBare};
 ghost use Rattle.ab_search.specs.declared.bare.Bare.{Bare as ABare};
 
 use crate::bare::Bare;
-use ab_alternatives::sequents::marks_serve_in;
 use ab_logic::World;
 use ab_norm::store::TermId;
 use ab_norm::{equal, equal_up_to_names};
+use ab_steps::kernel::judgements::alternatives::sequents::marks_serve_in;
 use std::alloc::{AllocError, Global};
 
 /// Whether the two terms are the same past their hints.

@@ -7,9 +7,9 @@ ghost use Rattle.ab_formulas.specs.Sequents.{Sequent as APlainGoal, IsSequent, g
 ghost use Rattle.ab_logic.specs.Worlds.{IsWorld, read, declarations_of};
 ghost use Rattle.ab_theory.specs.Equations.{AreCells};
 ghost use Rattle.ab_theory.specs.Atoms.{Choice as APlainChoice, defined_atom, choices_of};
-ghost use Rattle.ab_alternatives.specs.ChoiceMatches.{Matches};
-ghost use Rattle.ab_alternatives.specs.AtomReadings.{defined_read, HoldsDefined};
-ghost use Rattle.ab_alternatives.specs.declared.choice_matches.Match.{Match as AMatch};
+ghost use Rattle.ab_steps.specs.ab_kernel.specs.ab_judgements.specs.ab_alternatives.specs.ChoiceMatches.{Matches};
+ghost use Rattle.ab_steps.specs.ab_kernel.specs.ab_judgements.specs.ab_alternatives.specs.AtomReadings.{defined_read, HoldsDefined};
+ghost use Rattle.ab_steps.specs.ab_kernel.specs.ab_judgements.specs.ab_alternatives.specs.declared.choice_matches.Match.{Match as AMatch};
 ghost use Rattle.ab_steps.specs.ab_kernel.specs.Layout.{IsProof};
 ghost use Rattle.ab_steps.specs.Progress.{goals_of, Follows};
 ghost use Rattle.ab_search.specs.SearchGoals.{First, IsAsked, MayUnfold, IsUnfolded};
@@ -19,12 +19,12 @@ ghost use Rattle.ab_search.specs.declared.bare.Bare.{Bare as ABare};
 ghost use Rattle.ab_search.specs.declared.unfolding_steps.Unfolded.TheVariants.{NoChoice, NotSo, Goal};
 
 use crate::bare::{Bare, with_bare};
-use ab_alternatives::instances::constants_of;
-use ab_alternatives::{
-    DefinedAtom, Match, choice_at, defined_atom, goal_constants, match_choice, may_be_unfolded,
-};
 use ab_logic::{Sequent, World};
 use ab_norm::types::Steps;
+use ab_steps::kernel::judgements::alternatives::instances::constants_of;
+use ab_steps::kernel::judgements::alternatives::{
+    DefinedAtom, Match, choice_at, defined_atom, goal_constants, match_choice, may_be_unfolded,
+};
 use ab_steps::kernel::{Proof, Step};
 use ab_steps::{Attempted, attempt_solving, first_goal};
 use std::alloc::{AllocError, Global};

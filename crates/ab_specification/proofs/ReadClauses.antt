@@ -31,7 +31,7 @@ use Rattle.ab_formulas.specs.Clauses.{Clause}
 use Rattle.ab_formulas.specs.CaseClauses.{in_terms}
 use Rattle.ab_formulas.specs.Programs.{IsGoalOrNone, IsProgramHead, IsProgramProposed}
 use Rattle.ab_declare.specs.ClauseReadings.{Parts, ClauseReading}
-use Rattle.ab_declare.specs.ClauseMeanings.{clause_scope, body_found, body_type, both_found, variable_names, variable_from, variables_from, Finds, IsKeptAs, ClauseMeansNothing}
+use Rattle.ab_declare.specs.ClauseMeanings.{clause_scope, body_found, body_type, both_found, parts_found, variable_names, variable_from, variables_from, Finds, IsKeptAs, ClauseMeansNothing}
 use Rattle.ab_declare.specs.ClauseAnswers.{IsClauseAnswer}
 use Rattle.ab_declare.proofs.Answering.{fine_parts}
 use Rattle.ab_declare.proofs.Heads.{IsListed, listed_in_first, listed_in_second, variable_listed, heads_read, known_weaker, StandsOver, nameless}
@@ -153,6 +153,19 @@ module _ (sg : Signature) (n : ℕ) (e : Parts) (B : Ty) (fine_head : IsFine sg 
   same_head : IsProgramHead (first_clause sg n e o B fine_head fine_body k kept).head ↔ IsProgramHead k.head
   same_head = subst (λ t. IsProgramHead (first_clause sg n e o B fine_head fine_body k kept).head ↔ IsProgramHead t) (sym head_is) (moved_head (λ i. n + i) (first_clause sg n e o B fine_head fine_body k kept).head)
 
+-- A CLAUSE THAT IS READ may be proposed, where its names fit what is declared
+module _ (sg : Signature) (kinds : List Name) (c : written.Clause) (n : ℕ) (e : Parts) (found : parts_found kinds sg c ≡ Ok e) (fine_head : IsFine sg e.head) (fine_body : IsFine sg e.body) where
+  goal : (b : Option Tree) → body_found (clause_scope kinds sg) b ≡ Ok e.body → (r : ClauseReading (variable_from n (variable_names e)) e o (body_type o b)) → IsGoalOrNone sg (normal_form sg [] r.body)
+  goal None is r =
+      let same : known (logical truth) prop ≡ e.body = cc in
+      inr (truth_alone sg (variable_from n (variable_names e)) r.types e.body r.body prop r.in_body (sym same) r.reads_body)
+  goal (Some b) is r = inl (body_typed sg n e o fine_head fine_body r)
+
+  pub read_proposed : (k : Clause) → IsKeptAs sg n e o (body_type o c.body) k → IsProgramProposed sg k
+  read_proposed k kept =
+      kept_proposed sg n e (body_type o c.body) fine_head fine_body k kept
+      (goal c.body (body_of (resolved (clause_scope kinds sg) [] c.head) (body_found (clause_scope kinds sg) c.body) e found) kept.one.reading)
+
 -- WHAT IS READ of a written clause
 pub reads_as : (t : Table) → IsTable t → (c : written.Clause) (n : ℕ) (k : Clause) → Finds (kinds t) (signature t) c (λ e. IsKeptAs (signature t) n e o (body_type o c.body) k) → ReadsAs (kinds t) (signature t) c k
 reads_as t table c n k (e, found, kept) =
@@ -161,7 +174,7 @@ reads_as t table c n k (e, found, kept) =
     let fine = fine_parts t table c e found in
     let one = one_clause sg n e o B fine.0 fine.1 k kept in
     record {
-      proposed = kept_proposed sg n e B fine.0 fine.1 k kept (goal c.body (body_of (resolved (clause_scope (kinds t) sg) [] c.head) (body_found (clause_scope (kinds t) sg) c.body) e found) fine.0 fine.1 kept.one.reading);
+      proposed = read_proposed sg (kinds t) c n e found fine.0 fine.1 k kept;
       means = record {
         parts = e;
         names = found;
@@ -171,13 +184,6 @@ reads_as t table c n k (e, found, kept) =
       };
       same_head = same_head sg n e B fine.0 fine.1 k kept;
     }
-  where
-    goal : (b : Option Tree) → body_found (clause_scope (kinds t) (signature t)) b ≡ Ok e.body → IsFine (signature t) e.head → IsFine (signature t) e.body
-        → (r : ClauseReading (variable_from n (variable_names e)) e o (body_type o b)) → IsGoalOrNone (signature t) (normal_form (signature t) [] r.body)
-    goal None is fine_head fine_body r =
-        let same : known (logical truth) prop ≡ e.body = cc in
-        inr (truth_alone (signature t) (variable_from n (variable_names e)) r.types e.body r.body prop r.in_body (sym same) r.reads_body)
-    goal (Some b) is fine_head fine_body r = inl (body_typed (signature t) n e o fine_head fine_body r)
 
 -- the answer to a clause at that type, where the same is declared as the table has
 module _ (t u : Table) (store : Contents) (ks : List Name) (sg : Signature) (n : ℕ) (c : written.Clause) (A : Ty) (r : Result ClauseTerm InferFault) (table : IsTable t) (is : A ≡ o) (same_kinds : kinds t ≡ ks) (same_signature : signature t ≡ sg)

@@ -2,3 +2,4 @@ pub mod Following
 pub mod Connectives
 pub mod Plain
 pub mod OwedJust
+pub mod GoalSequents

@@ -4,7 +4,7 @@ use Rattle.ab_formulas.specs.NewNames.{given}
 use Rattle.ab_formulas.specs.Sequents.{Sequent}
 use Rattle.ab_logic.specs.SequentReadings.{sequent_of}
 use Rattle.ab_logic.specs.Worlds.{read}
-use Rattle.ab_alternatives.specs.ab_equations.specs.Labels.{label_of}
+use Rattle.ab_steps.specs.ab_kernel.specs.ab_judgements.specs.ab_alternatives.specs.ab_equations.specs.Labels.{label_of}
 use Rattle.ab_conclusion.specs.InductionSizes.{AreNamedBy, label_at}
 use Rattle.ab_conclusion.proofs.NamingEach.{one_more, none_more}
 use Rattle.ab_conclusion.proofs.induction_names.hypothesis_labels.Goals as goal

@@ -1,7 +1,7 @@
 use Rattle.std.proofs.Common.{◌≡◌, ◌++◌, ◌-◌, List, map}
 use Rattle.ab_formulas.specs.NewNames.{Label}
 use Rattle.ab_logic.specs.SequentReadings.{sequent_of}
-use Rattle.ab_alternatives.specs.ab_equations.specs.Labels.{label_of}
+use Rattle.ab_steps.specs.ab_kernel.specs.ab_judgements.specs.ab_alternatives.specs.ab_equations.specs.Labels.{label_of}
 use Rattle.ab_conclusion.specs.InductionSizes.{AreNamedBy, label_at}
 use Rattle.ab_conclusion.proofs.induction_names.hypothesis_labels.Given as goal
 

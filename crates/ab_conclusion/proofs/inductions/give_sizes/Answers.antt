@@ -2,7 +2,7 @@ use Rattle.std.proofs.Common.{◌≡◌, List, [], refl, map, sym, ◌∙◌, ap
 use Rattle.ab_formulas.specs.NewNames.{Label}
 use Rattle.ab_formulas.specs.Sequents.{Sequent}
 use Rattle.ab_logic.specs.Worlds.{declarations_of}
-use Rattle.ab_alternatives.specs.ab_equations.specs.Labels.{label_of}
+use Rattle.ab_steps.specs.ab_kernel.specs.ab_judgements.specs.ab_alternatives.specs.ab_equations.specs.Labels.{label_of}
 use Rattle.ab_unify.specs.Problem.{cells_read}
 use Rattle.ab_theory.specs.Steps.{Step}
 use Rattle.ab_theory.specs.Rules.{NamedRule, Fails}

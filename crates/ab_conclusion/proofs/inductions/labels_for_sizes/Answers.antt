@@ -5,9 +5,9 @@ use Rattle.ab_term.specs.Terms.{Read}
 use Rattle.ab_logic.specs.SequentReadings.{sequent_of}
 use Rattle.ab_logic.specs.Worlds.{declarations_of, read}
 use Rattle.ab_theory.specs.Conjuncts.{conjuncts}
-use Rattle.ab_alternatives.specs.ab_equations.specs.Labels.{label_of}
-use Rattle.ab_alternatives.specs.ab_sequents.specs.Kinds.{are_plain, signs_by}
-use Rattle.ab_alternatives.specs.ab_sequents.proofs.PartSizes.{some_there, all_plain, some_marked}
+use Rattle.ab_steps.specs.ab_kernel.specs.ab_judgements.specs.ab_alternatives.specs.ab_equations.specs.Labels.{label_of}
+use Rattle.ab_steps.specs.ab_kernel.specs.ab_judgements.specs.ab_alternatives.specs.ab_sequents.specs.Kinds.{are_plain, signs_by}
+use Rattle.ab_steps.specs.ab_kernel.specs.ab_judgements.specs.ab_alternatives.specs.ab_sequents.proofs.PartSizes.{some_there, all_plain, some_marked}
 use Rattle.ab_meaning.specs.Refusals.{clash}
 use Rattle.ab_steps.specs.declared.fault.ProofCommandFault.{ProofCommandFault}
 use Rattle.ab_steps.specs.declared.fault.ProofCommandFault.TheVariants.{Mark}

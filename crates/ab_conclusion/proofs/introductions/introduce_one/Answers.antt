@@ -2,7 +2,7 @@ use Rattle.std.proofs.Common.{drop, sym, ◌∙◌, ap, subst}
 use Rattle.ab_logic.specs.Forms.{form_read}
 use Rattle.ab_formulas.specs.Sequents.{Sequent}
 use Rattle.ab_logic.specs.Worlds.{read}
-use Rattle.ab_alternatives.specs.ab_equations.specs.Labels.{label_of}
+use Rattle.ab_steps.specs.ab_kernel.specs.ab_judgements.specs.ab_alternatives.specs.ab_equations.specs.Labels.{label_of}
 use Rattle.ab_conclusion.specs.IntroductionSteps.{IsTakenOff}
 use Rattle.ab_conclusion.proofs.Introduces.{Asks, sure_for_all, sure_nabla, for_all_on, constant_on, hypothesis_on, nameless}
 use Rattle.ab_steps.proofs.Following.{some_goal}

@@ -9,7 +9,7 @@ use Rattle.ab_conclusion.proofs.unfoldings.unfold.Goals as goal
 
 pub returns-in_err-place-clause-follows : goal.returns-in_err-place-clause-follows
 returns-in_err-place-clause-follows g c =
-    follows_world c.args.world.now c.find_choice.new.world c.args.proof.now c.find_choice.ensures.grows c.find_choice.ensures.declared c.requires.proof
+    follows_world c.args.world.now c.find_way.new.world c.args.proof.now c.find_way.ensures.grows c.find_way.ensures.declared c.requires.proof
 
 pub returns-in_err-place-clause-refused : goal.returns-in_err-place-clause-refused
 returns-in_err-place-clause-refused g c fault e l =
@@ -18,32 +18,32 @@ returns-in_err-place-clause-refused g c fault e l =
 
 pub returns-in_err-place-clause-unchanged : goal.returns-in_err-place-clause-unchanged
 returns-in_err-place-clause-unchanged g c =
-    on_err _ c.from_residual.result (same_history c.args.world.now c.find_choice.new.world c.find_choice.ensures.grows c.args.proof.now c.requires.proof)
+    on_err _ c.from_residual.result (same_history c.args.world.now c.find_way.new.world c.find_way.ensures.grows c.args.proof.now c.requires.proof)
 
 pub unfold_by-requires-clause-proof : goal.unfold_by-requires-clause-proof
-unfold_by-requires-clause-proof g c = still_proof c.args.world.now c.find_choice.new.world c.find_choice.ensures.grows c.find_choice.ensures.declared c.args.proof.now c.requires.proof
+unfold_by-requires-clause-proof g c = still_proof c.args.world.now c.find_way.new.world c.find_way.ensures.grows c.find_way.ensures.declared c.args.proof.now c.requires.proof
 
 pub unfold_by-requires-clause-open : goal.unfold_by-requires-clause-open
 unfold_by-requires-clause-open g c =
-    let same = same_goals c.args.world.now c.find_choice.new.world c.args.proof.now c.find_choice.ensures.grows c.find_choice.ensures.declared c.requires.proof in
+    let same = same_goals c.args.world.now c.find_way.new.world c.args.proof.now c.find_way.ensures.grows c.find_way.ensures.declared c.requires.proof in
     λ none. c.requires.open (sym same ∙ none)
 
 pub returns-in_err-unfold_by-clause-follows : goal.returns-in_err-unfold_by-clause-follows
 returns-in_err-unfold_by-clause-follows g c =
-    follows_on c.args.world.now c.find_choice.new.world c.unfold_by.new.world c.args.proof.now c.args.proof.now c.unfold_by.new.proof
-    (follows_world c.args.world.now c.find_choice.new.world c.args.proof.now c.find_choice.ensures.grows c.find_choice.ensures.declared c.requires.proof) c.unfold_by.ensures.follows
+    follows_on c.args.world.now c.find_way.new.world c.unfold_by.new.world c.args.proof.now c.args.proof.now c.unfold_by.new.proof
+    (follows_world c.args.world.now c.find_way.new.world c.args.proof.now c.find_way.ensures.grows c.find_way.ensures.declared c.requires.proof) c.unfold_by.ensures.follows
 
 pub returns-in_err-unfold_by-clause-unchanged : goal.returns-in_err-unfold_by-clause-unchanged
 returns-in_err-unfold_by-clause-unchanged g c =
     on_err _ c.from_residual-in_err-unfold_by.result
-    (c.in_err-unfold_by.ensures.unchanged ∙ same_history c.args.world.now c.find_choice.new.world c.find_choice.ensures.grows c.args.proof.now c.requires.proof)
+    (c.in_err-unfold_by.ensures.unchanged ∙ same_history c.args.world.now c.find_way.new.world c.find_way.ensures.grows c.args.proof.now c.requires.proof)
 
 pub returns-clause-follows : goal.returns-clause-follows
 returns-clause-follows g c =
-    follows_on c.args.world.now c.find_choice.new.world c.unfold_by.new.world c.args.proof.now c.args.proof.now c.unfold_by.new.proof
-    (follows_world c.args.world.now c.find_choice.new.world c.args.proof.now c.find_choice.ensures.grows c.find_choice.ensures.declared c.requires.proof) c.unfold_by.ensures.follows
+    follows_on c.args.world.now c.find_way.new.world c.unfold_by.new.world c.args.proof.now c.args.proof.now c.unfold_by.new.proof
+    (follows_world c.args.world.now c.find_way.new.world c.args.proof.now c.find_way.ensures.grows c.find_way.ensures.declared c.requires.proof) c.unfold_by.ensures.follows
 
 pub returns-clause-applied : goal.returns-clause-applied
 returns-clause-applied g c l =
-    applied_there c.args.world.now c.find_choice.new.world c.args.proof.now c.find_choice.ensures.grows c.find_choice.ensures.declared c.requires.proof c.unfold_by.new.world c.unfold_by.new.proof l
+    applied_there c.args.world.now c.find_way.new.world c.args.proof.now c.find_way.ensures.grows c.find_way.ensures.declared c.requires.proof c.unfold_by.new.world c.unfold_by.new.proof l
     (c.in_ok-unfold_by.ensures.applied l)

@@ -17,7 +17,8 @@ use Rattle.ab_steps.specs.ProofEffects.{IsApplied}
 use Rattle.ab_steps.specs.Progress.{goals_of, Took}
 use Rattle.ab_steps.proofs.Following.{one_at_least, follows_on}
 use Rattle.ab_proofcmd.specs.CutRefusals.{CutFails}
-use Rattle.ab_proofcmd.proofs.Rows.{first_is_sequent, same_goals, follows_world, on_ok, on_err_so, States, assert_applied, cut_refused}
+use Rattle.ab_steps.proofs.GoalSequents.{first_is_sequent}
+use Rattle.ab_proofcmd.proofs.Rows.{same_goals, follows_world, on_ok, on_err_so, States, assert_applied, cut_refused}
 use Rattle.ab_proofcmd.proofs.assertions.assert.Goals as goal
 
 pub read_formula-requires-clause-sequent : goal.read_formula-requires-clause-sequent
@@ -25,7 +26,7 @@ read_formula-requires-clause-sequent g c =
     let w = c.args.world.now in
     let p = c.args.proof.now in
     let one = one_at_least (goals_of w p) c.requires.open in
-    subst (IsSequent (declarations_of w)) (sym (c.first_goal-goal.ensures.reads one.0 one.1 one.2)) (first_is_sequent w c.requires.world p c.requires.proof one.0 one.1 one.2)
+    subst (IsSequent (declarations_of w)) (sym (c.first_goal-goal.ensures.reads one.0 one.1 one.2)) (first_is_sequent w p c.requires.world c.requires.proof one.0 one.1 one.2)
 
 pub cut-requires-clause-proof : goal.cut-requires-clause-proof
 cut-requires-clause-proof g c = still_proof c.args.world.now c.read_formula.new.world c.read_formula.ensures.grows c.read_formula.ensures.declared c.args.proof.now c.requires.proof

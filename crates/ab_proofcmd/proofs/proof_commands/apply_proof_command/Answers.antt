@@ -191,16 +191,16 @@ pub returns-in-Permute-clause-applied : goal.returns-in-Permute-clause-applied
 returns-in-Permute-clause-applied g c =
     let l = given_label (option_copied c.args.label) in
     rw c.in-Permute.is
-    (subst (λ (xs : List ℕ). IfOk c.permute.result (λ u. IsApplied l (told.permute xs c.in-Permute.name) c.args.world.now c.args.proof.now c.permute.new.world c.permute.new.proof)) c.as_slice-in-Permute.ensures
-    (subst (λ (x : Option (List ℕ)). IfOk c.permute.result (λ u. IsApplied l (told.permute c.as_slice-in-Permute.result.now x) c.args.world.now c.args.proof.now c.permute.new.world c.permute.new.proof)) c.as_ref.ensures.value
-    (at_label (λ m. IsApplied m (told.permute c.as_slice-in-Permute.result.now (option_copied c.as_ref.result)) c.args.world.now c.args.proof.now c.permute.new.world c.permute.new.proof) c.permute.result l c.permute.ensures.applied)))
+    (subst (λ (xs : List ℕ). IfOk c.permute.result (λ u. IsApplied l (told.permute xs c.in-Permute.name) c.args.world.now c.args.proof.now c.permute.new.world c.permute.new.proof)) c.as_slice-order.ensures
+    (subst (λ (x : Option (List ℕ)). IfOk c.permute.result (λ u. IsApplied l (told.permute c.as_slice-order.result.now x) c.args.world.now c.args.proof.now c.permute.new.world c.permute.new.proof)) c.as_ref.ensures.value
+    (at_label (λ m. IsApplied m (told.permute c.as_slice-order.result.now (option_copied c.as_ref.result)) c.args.world.now c.args.proof.now c.permute.new.world c.permute.new.proof) c.permute.result l c.permute.ensures.applied)))
 
 pub returns-in-Permute-clause-refused : goal.returns-in-Permute-clause-refused
 returns-in-Permute-clause-refused g c fault e =
     let l = given_label (option_copied c.args.label) in
     rw c.in-Permute.is
-    (subst (λ (xs : List ℕ). IsRefused l (told.permute xs c.in-Permute.name) c.args.world.now c.args.proof.now fault) c.as_slice-in-Permute.ensures
-    (subst (λ (x : Option (List ℕ)). IsRefused l (told.permute c.as_slice-in-Permute.result.now x) c.args.world.now c.args.proof.now fault) c.as_ref.ensures.value
+    (subst (λ (xs : List ℕ). IsRefused l (told.permute xs c.in-Permute.name) c.args.world.now c.args.proof.now fault) c.as_slice-order.ensures
+    (subst (λ (x : Option (List ℕ)). IsRefused l (told.permute c.as_slice-order.result.now x) c.args.world.now c.args.proof.now fault) c.as_ref.ensures.value
     (c.permute.ensures.refused fault e l)))
 
 pub returns-in-Apply-clause-owes : goal.returns-in-Apply-clause-owes
@@ -255,3 +255,50 @@ returns-in-Skip-clause-applied g c =
 
 pub returns-in-Skip-clause-refused : goal.returns-in-Skip-clause-refused
 returns-in-Skip-clause-refused g c fault e = rw c.in-Skip.is (c.skip.ensures.refused fault e (given_label (option_copied c.args.label)))
+
+pub returns-in-Cut-clause-owes : goal.returns-in-Cut-clause-owes
+returns-in-Cut-clause-owes g c = rw c.in-Cut.is (whatever c.cut.result (λ s rest e. c.cut.ensures.follows.owes))
+
+pub returns-in-Cut-clause-applied : goal.returns-in-Cut-clause-applied
+returns-in-Cut-clause-applied g c =
+    rw c.in-Cut.is
+    (subst (λ (m : Label). IfOk c.cut.result (λ u. IsApplied m (told.cut c.in-Cut.name c.in-Cut.other) c.args.world.now c.args.proof.now c.cut.new.world c.cut.new.proof)) c.in_ok-wanted.ensures
+    c.cut.ensures.applied)
+
+pub returns-in-Cut-clause-refused : goal.returns-in-Cut-clause-refused
+returns-in-Cut-clause-refused g c fault e =
+    rw c.in-Cut.is
+    (subst (λ (m : Label). IsRefused m (told.cut c.in-Cut.name c.in-Cut.other) c.args.world.now c.args.proof.now fault) c.in_ok-wanted.ensures (c.cut.ensures.refused fault e))
+
+pub returns-in-Inst-clause-owes : goal.returns-in-Inst-clause-owes
+returns-in-Inst-clause-owes g c = rw c.in-Inst.is (whatever c.inst.result (λ s rest e. c.inst.ensures.follows.owes))
+
+pub returns-in-Inst-clause-applied : goal.returns-in-Inst-clause-applied
+returns-in-Inst-clause-applied g c =
+    let l = given_label (option_copied c.args.label) in
+    let done = λ (m : Label) (is : List Instance). IfOk c.inst.result (λ u. IsApplied m (told.inst c.in-Inst.name (map instance_of is)) c.args.world.now c.args.proof.now c.inst.new.world c.inst.new.proof) in
+    rw c.in-Inst.is
+    (subst (λ (is : List Instance). done l is) c.as_slice-in-Inst.ensures
+    (subst (λ (m : Label). done m c.as_slice-in-Inst.result.now) c.in_ok-wanted.ensures c.inst.ensures.applied))
+
+pub returns-in-Inst-clause-refused : goal.returns-in-Inst-clause-refused
+returns-in-Inst-clause-refused g c fault e =
+    let l = given_label (option_copied c.args.label) in
+    let refused = λ (m : Label) (is : List Instance). IsRefused m (told.inst c.in-Inst.name (map instance_of is)) c.args.world.now c.args.proof.now fault in
+    rw c.in-Inst.is
+    (subst (λ (is : List Instance). refused l is) c.as_slice-in-Inst.ensures
+    (subst (λ (m : Label). refused m c.as_slice-in-Inst.result.now) c.in_ok-wanted.ensures (c.inst.ensures.refused fault e)))
+
+pub returns-in-Monotone-clause-owes : goal.returns-in-Monotone-clause-owes
+returns-in-Monotone-clause-owes g c = rw c.in-Monotone.is (whatever c.monotone.result (λ s rest e. c.monotone.ensures.follows.owes))
+
+pub returns-in-Monotone-clause-applied : goal.returns-in-Monotone-clause-applied
+returns-in-Monotone-clause-applied g c =
+    rw c.in-Monotone.is
+    (subst (λ (m : Label). IfOk c.monotone.result (λ u. IsApplied m (told.monotone c.in-Monotone.name (tree_of c.in-Monotone.list)) c.args.world.now c.args.proof.now c.monotone.new.world c.monotone.new.proof)) c.in_ok-wanted.ensures
+    c.monotone.ensures.applied)
+
+pub returns-in-Monotone-clause-refused : goal.returns-in-Monotone-clause-refused
+returns-in-Monotone-clause-refused g c fault e =
+    rw c.in-Monotone.is
+    (subst (λ (m : Label). IsRefused m (told.monotone c.in-Monotone.name (tree_of c.in-Monotone.list)) c.args.world.now c.args.proof.now fault) c.in_ok-wanted.ensures (c.monotone.ensures.refused fault e))

@@ -13,7 +13,8 @@ use Rattle.ab_steps.specs.ProofEffects.{RefusedBy}
 use Rattle.ab_steps.specs.Progress.{goals_of}
 use Rattle.ab_steps.proofs.Following.{some_goal, one_at_least, follows_on}
 use Rattle.ab_proofcmd.specs.GoalExpressions.{IsReadAs}
-use Rattle.ab_proofcmd.proofs.Rows.{first_is_sequent, same_goals, follows_world, on_err, exists_sure, exists_applied, exists_refused}
+use Rattle.ab_steps.proofs.GoalSequents.{first_is_sequent}
+use Rattle.ab_proofcmd.proofs.Rows.{same_goals, follows_world, on_err, exists_sure, exists_applied, exists_refused}
 use Rattle.ab_proofcmd.proofs.witnesses.exists.Goals as goal
 
 pub read_term-requires-clause-sequent : goal.read_term-requires-clause-sequent
@@ -21,7 +22,7 @@ read_term-requires-clause-sequent g c =
     let w = c.args.world.now in
     let p = c.args.proof.now in
     let one = one_at_least (goals_of w p) c.requires.open in
-    subst (IsSequent (declarations_of w)) (sym (c.first_goal-goal.ensures.reads one.0 one.1 one.2)) (first_is_sequent w c.requires.world p c.requires.proof one.0 one.1 one.2)
+    subst (IsSequent (declarations_of w)) (sym (c.first_goal-goal.ensures.reads one.0 one.1 one.2)) (first_is_sequent w p c.requires.world c.requires.proof one.0 one.1 one.2)
 
 pub surely-requires-clause-proof : goal.surely-requires-clause-proof
 surely-requires-clause-proof g c = still_proof c.args.world.now c.read_term.new.world c.read_term.ensures.grows c.read_term.ensures.declared c.args.proof.now c.requires.proof

@@ -9,7 +9,7 @@ use Rattle.ab_logic.specs.SequentReadings.{sequent_of}
 use Rattle.ab_steps.specs.Progress.{SolvesNothing}
 use Rattle.ab_steps.proofs.Following.{at_first, first_at, follows_free}
 use Rattle.ab_search.specs.SearchSteps.{step_for}
-use Rattle.ab_search.proofs.Reading.{first_is_sequent}
+use Rattle.ab_steps.proofs.GoalSequents.{first_is_sequent}
 use Rattle.ab_search.proofs.Stepping.{plain, free, leads_there, never_fails}
 use Rattle.ab_search.proofs.kernel_steps.take.Goals as goal
 

@@ -4,17 +4,17 @@ use Rattle.std.proofs.Common.{◌≡◌, List, sym, ◌∙◌, ap, subst}
 use Rattle.std.proofs.lemmas.List.Elements.{All-head}
 use Rattle.ab_norm.specs.declared.nominal.Nominal.{Nominal}
 use Rattle.ab_unify.specs.Problem.{cells_read}
-use Rattle.ab_alternatives.specs.ab_instances.specs.ListReadings.{names_read}
+use Rattle.ab_steps.specs.ab_kernel.specs.ab_judgements.specs.ab_alternatives.specs.ab_instances.specs.ListReadings.{names_read}
 use Rattle.ab_formulas.specs.Declarations.{signature_in}
 use Rattle.ab_formulas.specs.Formulas.{IsFormula}
 use Rattle.ab_logic.specs.SequentReadings.{sequent_of}
 use Rattle.ab_formulas.specs.Sequents.{formulas}
 use Rattle.ab_logic.specs.Worlds.{declarations_of}
 use Rattle.ab_theory.specs.Atoms.{choices_of}
-use Rattle.ab_alternatives.specs.AtomReadings.{defined_read, choice_read}
-use Rattle.ab_alternatives.specs.ChoiceMatches.{Matches}
-use Rattle.ab_alternatives.specs.Choices.{read_choice, IsHeldFor}
-use Rattle.ab_alternatives.proofs.Unfoldable.{taken_by, clause_defines}
+use Rattle.ab_steps.specs.ab_kernel.specs.ab_judgements.specs.ab_alternatives.specs.AtomReadings.{defined_read, choice_read}
+use Rattle.ab_steps.specs.ab_kernel.specs.ab_judgements.specs.ab_alternatives.specs.ChoiceMatches.{Matches}
+use Rattle.ab_steps.specs.ab_kernel.specs.ab_judgements.specs.ab_alternatives.specs.Choices.{read_choice, IsHeldFor}
+use Rattle.ab_steps.specs.ab_kernel.specs.ab_judgements.specs.ab_alternatives.proofs.Unfoldable.{taken_by, clause_defines}
 use Rattle.ab_search.proofs.unfolding_steps.match_at.Goals as goal
 
 pub match_choice-requires-clause-taken : goal.match_choice-requires-clause-taken

@@ -1,7 +1,7 @@
 use Rattle.std.specs.Prelude.{Ok, Some}
 use Rattle.std.proofs.Common.{sym, ◌∙◌, ap}
-use Rattle.ab_alternatives.specs.declared.choice_matches.Match.{Match}
-use Rattle.ab_alternatives.specs.declared.choice_matches.Match.TheVariants.{Closed, Open, Apart, Stuck as Outside}
+use Rattle.ab_steps.specs.ab_kernel.specs.ab_judgements.specs.ab_alternatives.specs.declared.choice_matches.Match.{Match}
+use Rattle.ab_steps.specs.ab_kernel.specs.ab_judgements.specs.ab_alternatives.specs.declared.choice_matches.Match.TheVariants.{Closed, Open, Apart, Stuck as Outside}
 use Rattle.ab_steps.specs.ab_kernel.proofs.Later.{still_proof}
 use Rattle.ab_steps.proofs.Following.{follows_on}
 use Rattle.ab_search.proofs.Seen.{goals_then, follows_then, seen_sequent, seen_atom, no_choice, not_closed, closed_there, unfolded_before}
