@@ -12,8 +12,8 @@ use Rattle.ab_logic.specs.SequentReadings.{sequent_of}
 use Rattle.ab_formulas.specs.Sequents.{Variable, Sequent, IsSequent}
 use Rattle.ab_logic.specs.declared.world.World.{World}
 use Rattle.ab_logic.specs.declared.sequent.Sequent.{Sequent as Kept}
-use Rattle.ab_steps.specs.ab_kernel.specs.Layout.{Held, history_of, IsProof}
-use Rattle.ab_theory.proofs.Rooted.{open_are_sequents}
+use Rattle.ab_steps.specs.ab_kernel.specs.Layout.{Held, IsProof}
+use Rattle.ab_steps.proofs.GoalSequents.{goals_are_sequents}
 use Rattle.ab_steps.specs.Progress.{goals_of}
 use Rattle.ab_print.specs.GoalText as by_number
 use Rattle.ab_print.specs.GoalText.{cell_name}
@@ -51,7 +51,7 @@ module _ (w : World) (p : Held) (world : IsWorld w) (proof : IsProof w p) where
   gs = goals_of w p
 
   is_sequent : (i : ℕ) (g : Kept) → slice_get gs i ≡ Some (sequent_of w g) → IsSequent (declarations_of w) (sequent_of w g)
-  is_sequent i g at = all_at (IsSequent (declarations_of w)) gs i (sequent_of w g) (open_are_sequents (declarations_of w) world.sentences world.definitions (history_of w p).tree proof.valid proof.held.rooted) at
+  is_sequent i g at = all_at (IsSequent (declarations_of w)) gs i (sequent_of w g) (goals_are_sequents w p world proof) at
 
   -- the current goal
   pub first_shown : (g : Kept) → slice_get gs 0 ≡ Some (sequent_of w g) → (all : Bool)

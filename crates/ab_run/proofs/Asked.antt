@@ -8,7 +8,7 @@ use Rattle.ab_io.proofs.Streams.{front_none}
 use Rattle.ab_sigmod.specs.FileLoads.{FilesSeen, Load, IsLoad, AreLoads, no_load, then_load, Tells, Counted}
 use Rattle.ab_drill.specs.Drill.{script}
 use Rattle.ab_line.specs.Requests.{Origin, Request, the_input, the_file, the_drill}
-use Rattle.ab_states.specs.State.{State}
+use Rattle.ab_session.specs.ab_states.specs.State.{State}
 use Rattle.ab_run.specs.declared.status.Status.{Status}
 use Rattle.ab_run.specs.declared.status.Status.TheVariants.{Done, Refused, BadLine, ReadFault, WriteFault, NoMemory, Unfinished, TooLong, NoFile}
 use Rattle.ab_run.specs.declared.way.Way.{Way}

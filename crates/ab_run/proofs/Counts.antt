@@ -2,7 +2,7 @@
 use Rattle.std.proofs.Common.{◌≡◌, ◌<◌, ◌≤◌, ◌+◌, ◌↔◌, IsTrue, ℕ, zero, suc, false, nat_lt, if◌then◌else◌, [], ◌∷◌, length, refl, ap, ◌∙◌, arith, inl, inr}
 use Rattle.std.proofs.lemmas.Bool.{cases_Bool, lt-ltb, ltb-true}
 use Rattle.ab_io.specs.Count.{last_count}
-use Rattle.ab_states.specs.Reply.{is_refusal}
+use Rattle.ab_session.specs.ab_states.specs.Reply.{is_refusal}
 use Rattle.ab_run.specs.Report.{Report, refused_in, accepted_in}
 use Rattle.ab_run.specs.Progress.{one_more, refused_on, accepted_on}
 

@@ -15,19 +15,19 @@ use Rattle.ab_grammar.specs.CommandTrees.{Command}
 use Rattle.ab_declare.specs.DeclarationCommands.{Declares, new_kinds, new_constants, new_predicates}
 use Rattle.ab_declare.specs.DefinitionCommands.{block_with, predicate_of}
 use Rattle.ab_grammar.specs.FileTrees.{Item as FileItem}
-use Rattle.ab_states.specs.ab_specification.specs.ItemDeclarations.{ItemDeclares, new_kinds as item_kinds, new_constants as item_constants, new_clause, no_declaration}
-use Rattle.ab_states.specs.ab_specification.specs.FileDeclarations.{PlacedItem, AllDeclare, no_item, one_more}
+use Rattle.ab_session.specs.ab_states.specs.ab_specification.specs.ItemDeclarations.{ItemDeclares, new_kinds as item_kinds, new_constants as item_constants, new_clause, no_declaration}
+use Rattle.ab_session.specs.ab_states.specs.ab_specification.specs.FileDeclarations.{PlacedItem, AllDeclare, no_item, one_more}
 use Rattle.ab_theory.specs.Derivations.{Derivation}
-use Rattle.ab_states.specs.State.{State, Entry, empty}
-use Rattle.ab_states.specs.Replay.{IsReplayed}
+use Rattle.ab_session.specs.ab_states.specs.State.{State, Entry, empty}
+use Rattle.ab_session.specs.ab_states.specs.Replay.{IsReplayed}
 use Rattle.ab_logic.specs.Worlds.{defined, first_declarations}
 use Rattle.ab_logic.specs.declared.world.World.{World}
-use Rattle.ab_states.specs.declared.reply.Reply.{Reply as Kept}
-use Rattle.ab_states.specs.declared.reply.Reply.TheVariants.{Accepted, Completed, Admitted, Shown, Quit, Refused}
-use Rattle.ab_states.specs.Reply.{Reply, done, reply_of}
-use Rattle.ab_states.specs.DerivedTheorems.{IsDerived, AreDerived}
-use Rattle.ab_states.proofs.Assumed.{derived_on, are_derived_before}
-use Rattle.ab_states.specs.ForwardEffects.{assumed_after, theorem_of, GoesForward, unread, declined, declared, specified, item_declined, specified_twice, stated, showed, ended, switched, given_up, denied, led, proved}
+use Rattle.ab_session.specs.ab_states.specs.declared.reply.Reply.{Reply as Kept}
+use Rattle.ab_session.specs.ab_states.specs.declared.reply.Reply.TheVariants.{Accepted, Completed, Admitted, Shown, Quit, Refused}
+use Rattle.ab_session.specs.ab_states.specs.Reply.{Reply, done, reply_of}
+use Rattle.ab_session.specs.ab_states.specs.DerivedTheorems.{IsDerived, AreDerived}
+use Rattle.ab_session.specs.ab_states.proofs.Assumed.{derived_on, are_derived_before}
+use Rattle.ab_session.specs.ab_states.specs.ForwardEffects.{assumed_after, theorem_of, GoesForward, unread, declined, declared, specified, item_declined, specified_twice, stated, showed, ended, switched, given_up, denied, led, proved}
 use Rattle.ab_session.specs.SessionAnswers.{IsDerivedLast, IsProvedLast}
 use Rattle.ab_run.specs.ProvedTheorems.{IsBorneOut, AllDerived}
 use Rattle.ab_determinism.proofs.Taking.{holds_on}

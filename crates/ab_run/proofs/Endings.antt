@@ -15,7 +15,7 @@ use Rattle.ab_run.specs.declared.status.Status.{Status}
 use Rattle.ab_run.specs.declared.status.Status.TheVariants.{Done, Refused, ReadFault, WriteFault, NoMemory, Unfinished, TooLong}
 use Rattle.ab_run.specs.declared.running.TheConstants.{MAX_INPUT}
 use Rattle.ab_run.specs.declared.way.Way.{Way}
-use Rattle.ab_states.specs.State.{State, empty}
+use Rattle.ab_session.specs.ab_states.specs.State.{State, empty}
 use Rattle.ab_run.specs.Report.{Report, ReportOf, none, bytes_of, printed, refused_in, has_end, state_behind}
 use Rattle.ab_run.specs.Endings as ending
 use Rattle.ab_run.specs.Endings.{last_line}

@@ -4,8 +4,8 @@ use Rattle.ab_sigmod.specs.FileLoads.{Load}
 use Rattle.ab_lex.specs.declared.TheConstants.{COMMAND_LIMIT}
 use Rattle.ab_lex.specs.Commands.{Item}
 use Rattle.ab_lex.proofs.Cuts.{only_items}
-use Rattle.ab_states.specs.State.{State, empty}
-use Rattle.ab_states.specs.Reply.{Reply}
+use Rattle.ab_session.specs.ab_states.specs.State.{State, empty}
+use Rattle.ab_session.specs.ab_states.specs.Reply.{Reply}
 use Rattle.ab_determinism.specs.Sound.{IsSound}
 use Rattle.ab_determinism.proofs.Sound.{sound_beginning}
 use Rattle.ab_determinism.proofs.Taking.{sound_effect}

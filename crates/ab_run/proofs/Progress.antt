@@ -12,7 +12,7 @@ use Rattle.ab_io.proofs.Streams.{appends_none, appends_more}
 use Rattle.ab_lex.specs.Commands.{Item}
 use Rattle.ab_lex.specs.PendingText.{Pending}
 use Rattle.ab_lex.proofs.Awaiting.{items_same, items_next}
-use Rattle.ab_states.specs.State.{State}
+use Rattle.ab_session.specs.ab_states.specs.State.{State}
 use Rattle.ab_run.specs.declared.way.Way.{Way}
 use Rattle.ab_run.specs.Report.{Report, Reports, none, is_end, shown, bytes_of, has_end, state_behind}
 use Rattle.ab_run.specs.Progress.{Standing, moment, to_come, accepted_with, refused_with, accepted_on, refused_on, standing_behind, Answered, AnsweredSome, AnsweredReady, AnswersItem, HasNone}

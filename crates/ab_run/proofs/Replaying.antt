@@ -4,9 +4,9 @@ use Rattle.std.specs.List.{All}
 use Rattle.std.proofs.lemmas.List.Elements.{All-cons}
 use Rattle.ab_sigmod.specs.FileLoads.{Load}
 use Rattle.ab_lex.specs.Commands.{Item}
-use Rattle.ab_states.specs.State.{State}
-use Rattle.ab_states.specs.Replay.{IsReplayed}
-use Rattle.ab_states.proofs.Replaying.{replays_on}
+use Rattle.ab_session.specs.ab_states.specs.State.{State}
+use Rattle.ab_session.specs.ab_states.specs.Replay.{IsReplayed}
+use Rattle.ab_session.specs.ab_states.proofs.Replaying.{replays_on}
 use Rattle.ab_run.specs.declared.way.Way.{Way}
 use Rattle.ab_run.specs.Report.{Moment, Report, Reports, none, next, last, Replies, to_command, to_long}
 

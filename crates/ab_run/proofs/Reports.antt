@@ -6,7 +6,7 @@ use Rattle.ab_lex.specs.declared.TheConstants.{COMMAND_LIMIT}
 use Rattle.ab_lex.specs.Commands.{Item, ItemsOf}
 use Rattle.ab_lex.proofs.Cuts.{items_there}
 use Rattle.ab_lex.proofs.GoesOn.{items_on}
-use Rattle.ab_states.specs.State.{State, empty}
+use Rattle.ab_session.specs.ab_states.specs.State.{State, empty}
 use Rattle.ab_run.specs.declared.way.Showing.{Showing}
 use Rattle.ab_run.specs.declared.way.Way.{Way}
 use Rattle.ab_run.specs.Report.{Moment, Report, Reports, ReportOf, none, next, last, Replies, is_end, shown, bytes_of, has_end, state_behind}

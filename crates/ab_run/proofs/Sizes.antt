@@ -9,7 +9,7 @@ use Rattle.ab_lex.specs.declared.scanner.Mode.TheVariants.{Plain}
 use Rattle.ab_lex.specs.Commands.{CommandAt, Splits, no_more, one_more, Item, item_of, items_of_rest, ItemsOf}
 use Rattle.ab_lex.proofs.Cuts.{first_of_text}
 use Rattle.ab_lex.proofs.Unique.{found}
-use Rattle.ab_states.specs.State.{State}
+use Rattle.ab_session.specs.ab_states.specs.State.{State}
 use Rattle.ab_run.specs.declared.way.Way.{Way}
 use Rattle.ab_run.specs.Report.{Report, Reports, none, next, last}
 

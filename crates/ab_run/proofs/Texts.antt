@@ -13,7 +13,7 @@ use Rattle.ab_io.proofs.Streams.{appends_none, appends_more}
 use Rattle.ab_sigmod.specs.FileLoads.{FilesSeen, no_load}
 use Rattle.ab_formulas.specs.Declarations.{theorems_in}
 use Rattle.ab_drill.specs.Summary.{summary}
-use Rattle.ab_states.specs.State.{State, empty}
+use Rattle.ab_session.specs.ab_states.specs.State.{State, empty}
 use Rattle.ab_run.specs.declared.status.Status.{Status}
 use Rattle.ab_run.specs.declared.status.Status.TheVariants.{WriteFault, NoMemory}
 use Rattle.ab_run.specs.declared.way.Showing.{Showing}

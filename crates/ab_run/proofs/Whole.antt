@@ -12,8 +12,8 @@ use Rattle.ab_run.specs.declared.running.TheConstants.{MAX_INPUT}
 use Rattle.ab_run.specs.declared.way.Way.{Way}
 use Rattle.ab_run.specs.Status.{number_of}
 use Rattle.std.specs.Prelude.{true, IfSome}
-use Rattle.ab_states.specs.State.{State, empty}
-use Rattle.ab_states.specs.Replay.{none as replayed}
+use Rattle.ab_session.specs.ab_states.specs.State.{State, empty}
+use Rattle.ab_session.specs.ab_states.specs.Replay.{none as replayed}
 use Rattle.ab_run.specs.ProvedTheorems.{AllDerived}
 use Rattle.ab_run.specs.Report.{Report, Reports, ReportOf, has_end}
 use Rattle.ab_run.specs.Outside.{outside}

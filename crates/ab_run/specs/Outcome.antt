@@ -8,7 +8,7 @@ use Rattle.ab_io.specs.Loads.{FileMap, Answer, loaded, missing, failed, too_long
 use Rattle.ab_sigmod.specs.FileLoads.{FilesSeen, Load, IsLoad, AreLoads, longest}
 use Rattle.ab_drill.specs.Drill.{script}
 use Rattle.ab_line.specs.Requests.{Origin, Request, the_input, the_file, the_drill}
-use Rattle.ab_states.specs.State.{State, empty}
+use Rattle.ab_session.specs.ab_states.specs.State.{State, empty}
 use Rattle.ab_run.specs.declared.status.Status.{Status}
 use Rattle.ab_run.specs.declared.status.Status.TheVariants.{Done, Refused, ReadFault, WriteFault, NoMemory, Unfinished, TooLong}
 use Rattle.ab_run.specs.declared.running.TheConstants.{MAX_INPUT}

@@ -10,8 +10,8 @@ use Rattle.ab_io.specs.declared.sink.WriteFault.TheVariants.{Failed, Memory}
 use Rattle.ab_sigmod.specs.FileLoads.{FilesSeen, Load, AreLoads}
 use Rattle.ab_formulas.specs.Declarations.{theorems_in}
 use Rattle.ab_drill.specs.Summary.{summary}
-use Rattle.ab_states.specs.State.{State, empty}
-use Rattle.ab_states.specs.Reply.{Reply, is_refusal}
+use Rattle.ab_session.specs.ab_states.specs.State.{State, empty}
+use Rattle.ab_session.specs.ab_states.specs.Reply.{Reply, is_refusal}
 use Rattle.ab_session.specs.Contents.{state_of}
 use Rattle.ab_run.specs.declared.input.ReadStop.{ReadStop}
 use Rattle.ab_run.specs.declared.input.ReadStop.TheVariants.{Failed as ReadFailed, Memory as ReadMemory}

@@ -1,7 +1,7 @@
 -- Theorems that are proved, in terms of the kernel's derivations.
-use Rattle.ab_states.specs.State.{State}
-use Rattle.ab_states.specs.Reply.{Reply, completed, admitted}
-use Rattle.ab_states.specs.DerivedTheorems.{AreDerived}
+use Rattle.ab_session.specs.ab_states.specs.State.{State}
+use Rattle.ab_session.specs.ab_states.specs.Reply.{Reply, completed, admitted}
+use Rattle.ab_session.specs.ab_states.specs.DerivedTheorems.{AreDerived}
 use Rattle.ab_session.specs.SessionAnswers.{IsDerivedLast, IsProvedLast}
 
 -- where the reply says that a theorem is proved, it is the last of the state, and proved; where it says what it assumes, it is the

@@ -4,12 +4,12 @@ use Rattle.std.specs.Prelude.{◌≡◌, ℕ, suc, Bool, true, false, ◌||◌, 
 use Rattle.ab_lex.specs.Commands.{Item, ItemsOf, command, long}
 use Rattle.ab_sigmod.specs.FileLoads.{Load}
 use Rattle.ab_declare.specs.declared.refusal.Refusal.TheVariants.{TooLong}
-use Rattle.ab_states.specs.State.{State, empty}
+use Rattle.ab_session.specs.ab_states.specs.State.{State, empty}
 use Rattle.ab_formulas.specs.Declarations.{theorems_in}
 use Rattle.ab_drill.specs.declared.summary.Tallies.{Tallies}
 use Rattle.ab_drill.specs.Summary.{summary}
-use Rattle.ab_states.specs.Reply.{Reply, completed, admitted, quit, refused, is_refusal}
-use Rattle.ab_states.specs.StateEffects.{HasEffect}
+use Rattle.ab_session.specs.ab_states.specs.Reply.{Reply, completed, admitted, quit, refused, is_refusal}
+use Rattle.ab_session.specs.ab_states.specs.StateEffects.{HasEffect}
 use Rattle.ab_blocks.specs.Blocks.{block}
 use Rattle.ab_run.specs.declared.way.Showing.{Showing}
 use Rattle.ab_run.specs.declared.way.Showing.TheVariants.{Blocks, FirstLines, Summary}

@@ -4,7 +4,7 @@ ghost use Rattle.ab_io.specs.Count.{Rose};
 ghost use Rattle.ab_lex.specs.PendingText.{SameRest};
 ghost use Rattle.ab_sigmod.specs.Outcomes.{seen};
 ghost use Rattle.ab_logic.specs.declared.world.World.{World as AWorld};
-ghost use Rattle.ab_states.specs.Reply.{SpeaksOfNoGoal, reply_of, is_refusal};
+ghost use Rattle.ab_session.specs.ab_states.specs.Reply.{SpeaksOfNoGoal, reply_of, is_refusal};
 ghost use Rattle.ab_blocks.specs.Blocks.{block};
 ghost use Rattle.ab_session.specs.Contents.{state_of};
 ghost use Rattle.ab_run.specs.FirstLine.{first_line};
@@ -17,7 +17,7 @@ use ab_declare::Refusal;
 use ab_io::{Files, Sink, WriteFault, write_all};
 use ab_lex::{Next, Splitter};
 use ab_session::Session;
-use ab_states::Reply;
+use ab_session::states::Reply;
 use ab_types::Steps;
 use std::alloc::{AllocError, Global};
 

@@ -6,7 +6,7 @@ ghost use Rattle.ab_sigmod.specs.FileLoads.{Load};
 ghost use Rattle.ab_sigmod.specs.Outcomes.{seen};
 ghost use Rattle.ab_line.specs.Lines.{origin_of, request_of_line};
 ghost use Rattle.ab_line.specs.Requests.{Request, request_of_words};
-ghost use Rattle.ab_states.specs.Reply.{completed, admitted};
+ghost use Rattle.ab_session.specs.ab_states.specs.Reply.{completed, admitted};
 ghost use Rattle.ab_session.specs.Contents.{state_of};
 ghost use Rattle.ab_session.specs.SessionAnswers.{IsDerivedLast, IsProvedLast};
 ghost use Rattle.ab_run.specs.ProvedTheorems.{AllDerived};

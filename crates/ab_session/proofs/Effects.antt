@@ -2,8 +2,6 @@
 use Rattle.std.specs.Prelude.{IfSome}
 use Rattle.std.proofs.Common.{◌≡◌, ◌≢◌, ℕ, Bool, List, [], ◌∷◌, ◌++◌, length, map, Option, Some, None, option_map, is_some, refl, sym, ◌∙◌, ap, subst}
 use Rattle.std.proofs.lemmas.List.{map-append}
-use Rattle.std.specs.List.{All}
-use Rattle.std.proofs.lemmas.List.Elements.{All-head}
 use Rattle.ab_grammar.specs.Tree.{Tree}
 use Rattle.ab_grammar.specs.declared.head.Stand.TheVariants.{Outside}
 use Rattle.ab_grammar.specs.CommandTrees as told
@@ -15,14 +13,14 @@ use Rattle.ab_formulas.specs.Declarations.{Declarations, signature_in, theorem_i
 use Rattle.ab_formulas.proofs.TheoremPlaces.{theorem_new, assumed_new}
 use Rattle.ab_formulas.specs.Formulas.{IsSentence}
 use Rattle.ab_logic.specs.WorldGrowth.{Grows}
-use Rattle.ab_formulas.specs.Sequents.{Sequent, IsSequent}
+use Rattle.ab_formulas.specs.Sequents.{Sequent}
 use Rattle.ab_logic.specs.Worlds.{read, Holds, declarations_of}
 use Rattle.ab_logic.specs.declared.world.World.{World}
 use Rattle.ab_theory.specs.Derivations.{History, root, proves, open_goals, beginning}
 use Rattle.ab_steps.specs.ab_kernel.specs.Layout.{Held, history_of, IsProof}
 use Rattle.ab_theory.specs.Assumptions.{assumed_by}
 use Rattle.ab_theory.proofs.Assuming.{assumed_begun, assumed_more}
-use Rattle.ab_theory.proofs.Rooted.{open_are_sequents}
+use Rattle.ab_steps.proofs.GoalSequents.{first_is_sequent}
 use Rattle.ab_command.specs.declared.fault.Cause.{Cause}
 use Rattle.ab_command.specs.CommandReadings.{Fails}
 use Rattle.ab_steps.specs.Progress.{goals_of}
@@ -268,8 +266,7 @@ module _ (s : Contents) (bytes : List ℕ) (l : Option (List ℕ)) (c : ProofCom
     numbered = record {
       is = refl;
       sequent =
-          All-head (IsSequent (declarations_of s.world)) t rest
-          (subst (All (IsSequent (declarations_of s.world))) e (open_are_sequents (declarations_of s.world) is.world.sentences is.world.definitions (history_of s.world a.proof).tree tried.proof.valid tried.proof.held.rooted));
+          first_is_sequent s.world a.proof is.world tried.proof t rest e;
     };
   }
 

@@ -6,4 +6,5 @@ pub mod PlaceMarks
 pub mod ProofAttempts
 pub mod SessionAnswers
 -- Libraries that the crates above name through this one.
+pub use Rattle.ab_states
 pub use Rattle.ab_steps

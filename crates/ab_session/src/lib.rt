@@ -12,5 +12,6 @@ mod proof_steps;
 mod refusals;
 mod session;
 
+pub use ab_states as states;
 pub use ab_steps as steps;
 pub use session::{BackFault, Session};

@@ -1,4 +1,4 @@
-use Rattle.ab_states.specs.Reply.{completed, admitted}
+use Rattle.ab_session.specs.ab_states.specs.Reply.{completed, admitted}
 use Rattle.ab_run.proofs.Derived.{all_borne_out}
 use Rattle.ab_run.proofs.laws.completions_are_derived.Goals as goal
 

@@ -1,4 +1,4 @@
-use Rattle.ab_states.specs.Replay.{none}
+use Rattle.ab_session.specs.ab_states.specs.Replay.{none}
 use Rattle.ab_run.proofs.Replaying.{all_replayed}
 use Rattle.ab_run.proofs.laws.kept_commands_replay.Goals as goal
 

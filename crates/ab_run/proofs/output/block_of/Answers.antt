@@ -1,7 +1,7 @@
 use Rattle.std.proofs.Common.{◌≡◌, IfOk, sym, subst}
 use Rattle.std.specs.Option.{option_copied}
-use Rattle.ab_states.specs.State.{goals_of, goals_in}
-use Rattle.ab_states.specs.Reply.{reply_of}
+use Rattle.ab_session.specs.ab_states.specs.State.{goals_of, goals_in}
+use Rattle.ab_session.specs.ab_states.specs.Reply.{reply_of}
 use Rattle.ab_blocks.specs.Blocks.{block}
 use Rattle.ab_session.specs.Contents.{state_of}
 use Rattle.ab_run.proofs.output.block_of.Goals as goal

@@ -2,7 +2,7 @@ use Rattle.std.proofs.Common.{[], ◌∷◌, sym, refl, subst}
 use Rattle.ab_lex.specs.Commands.{command, long}
 use Rattle.ab_lex.specs.PendingText.{Awaits}
 use Rattle.ab_sigmod.specs.FileLoads.{no_load}
-use Rattle.ab_states.specs.Reply.{reply_of}
+use Rattle.ab_session.specs.ab_states.specs.Reply.{reply_of}
 use Rattle.ab_session.specs.Contents.{state_of}
 use Rattle.ab_run.specs.Progress.{moment}
 use Rattle.ab_run.specs.Report.{to_command, to_long}

@@ -1,6 +1,6 @@
 use Rattle.std.proofs.Common.{◌≡◌, ◌||◌, if◌then◌else◌, sym, ap, ◌∙◌, subst}
 use Rattle.ab_sigmod.specs.Outcomes.{seen}
-use Rattle.ab_states.specs.Reply.{reply_of}
+use Rattle.ab_session.specs.ab_states.specs.Reply.{reply_of}
 use Rattle.ab_session.specs.Contents.{state_of}
 use Rattle.ab_run.specs.declared.output.Progress.{Progress}
 use Rattle.ab_run.specs.Report.{is_end}

@@ -1,5 +1,5 @@
 use Rattle.std.proofs.Common.{◌≡◌, ◌≢◌, ◌||◌, true, false, [], if◌then◌else◌, IfOk, refl, sym, ap, ◌∙◌, subst}
-use Rattle.ab_states.specs.Reply.{reply_of, is_refusal}
+use Rattle.ab_session.specs.ab_states.specs.Reply.{reply_of, is_refusal}
 use Rattle.ab_blocks.specs.Blocks.{block}
 use Rattle.ab_session.specs.Contents.{state_of}
 use Rattle.ab_run.specs.declared.way.Showing.{Showing}

@@ -1,6 +1,6 @@
 use Rattle.std.proofs.Common.{option_map, subst}
 use Rattle.ab_sigmod.specs.Outcomes.{seen}
-use Rattle.ab_states.specs.Reply.{completed, admitted}
+use Rattle.ab_session.specs.ab_states.specs.Reply.{completed, admitted}
 use Rattle.ab_session.specs.Contents.{state_of}
 use Rattle.ab_run.specs.Outside.{outside}
 use Rattle.ab_run.specs.Ways.{way_of}
