@@ -24,5 +24,5 @@ module _ (types : Table) (store : Contents) (p : ConstId) where
 
       go : (what : Addition) → IsKept types store what → block_or what p (block_kept xs p) ≡ Some b → (block_kept xs p ≡ Some b → IsKeptBlock types store b) → IsKeptBlock types store b
       go (Theorem t) is f rest = rest f
-      go (Clause c) is f rest = rest f
+      go (Clause c h) is f rest = rest f
       go (Definition d) is f rest = test d (is_among d.predicates p) is f rest

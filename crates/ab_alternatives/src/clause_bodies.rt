@@ -39,7 +39,7 @@ pub struct Unfolding {
 
 /// The unfolding of the atom by the clause, with these constants for its names. `constants` are those of the atom. No
 /// cell is bound.
-pub(crate) fn make_unfolding<L>(
+pub fn make_unfolding<L>(
     alloc: Global,
     types: &mut TypeTable,
     store: &mut Store,

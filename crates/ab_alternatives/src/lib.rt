@@ -31,7 +31,7 @@ pub use atoms::{DefinedAtom, copy_clause, defined_atom};
 pub use choice_counts::{Choice, choice_at};
 pub use choice_matches::{Match, match_choice, solve_match};
 pub use choice_places::unfold_at;
-pub use clause_bodies::Unfolding;
+pub use clause_bodies::{Unfolding, make_unfolding};
 pub use conclusions::{Conclusion, solve_unfolding};
 pub use constants::goal_constants;
 pub use first_choice::{Found, first_unfolding};

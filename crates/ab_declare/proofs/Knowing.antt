@@ -43,7 +43,7 @@ drop_on done before xs l =
 no_kind : (w : World) (what : Addition) (ds : Declarations) → kinds_in (declaration_of w what ∷ ds) ≡ kinds_in ds
 no_kind w (Theorem e) ds = refl
 no_kind w (Definition b) ds = refl
-no_kind w (Clause c) ds = refl
+no_kind w (Clause c h) ds = refl
 
 kinds_are : (w : World) (done : ℕ) (xs : List Added) → CameInOrder w.types done xs → kinds_in (declared_from w done xs) ≡ kinds (drop done w.types)
 kinds_are w done [] order = kinds-declared (drop done w.types)

@@ -35,7 +35,7 @@ restored_is old new r = rw (sym r.types, sym r.nodes, sym r.cells, sym r.binding
 same_addition : (n : ℕ) (w : World) (what : Addition) → declaration_of (with_room n w) what ≡ declaration_of w what
 same_addition n w (Theorem e) = refl
 same_addition n w (Definition b) = refl
-same_addition n w (Clause c) = refl
+same_addition n w (Clause c h) = refl
 
 same_declared : (n : ℕ) (w : World) (done : ℕ) (xs : List Added) → declared_from (with_room n w) done xs ≡ declared_from w done xs
 same_declared n w done [] = refl

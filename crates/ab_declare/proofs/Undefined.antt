@@ -46,5 +46,5 @@ module _ (w : World) (p : Name) (absent : (c : ConstId) → HoldsConstant w.type
 
       one : (what : Addition) → IsKept w.types w.store what → block_in rest p ≡ None → block_in (declaration_of w what ∷ rest) p ≡ None
       one (Theorem e) k later = later
-      one (Clause c) k later = later
+      one (Clause c h) k later = later
       one (Definition b) k later = ap (λ r. if r then Some (definition_of w b) else block_in rest p) (none_named b.predicates k.predicates) ∙ later

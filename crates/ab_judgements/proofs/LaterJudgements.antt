@@ -1,7 +1,7 @@
 -- A judgement, its constants and its rules in a later world: they read as before.
 use Rattle.std.specs.Prelude.{IfSome, IsSome}
 use Rattle.std.specs.Option.{option_map}
-use Rattle.std.proofs.Common.{◌≡◌, ◌⊎◌, inl, inr, List, ◌++◌, map, Option, Some, None, refl, sym, ◌∙◌, ap, subst}
+use Rattle.std.proofs.Common.{◌≡◌, ◌⊎◌, inl, inr, List, map, Option, Some, None, refl, sym, ◌∙◌, ap, subst}
 use Rattle.ab_term.specs.Terms.{Read}
 use Rattle.ab_norm.specs.ab_store.specs.declared.node.TermId.{TermId}
 use Rattle.ab_norm.specs.ab_store.specs.Trees.{Contents}
@@ -14,11 +14,10 @@ use Rattle.ab_logic.specs.WorldGrowth.{Grows}
 use Rattle.ab_logic.specs.Worlds.{IsWorld, Holds, read, declarations_of}
 use Rattle.ab_logic.specs.declared.world.World.{World}
 use Rattle.ab_logic.proofs.Growing.{grows_store}
-use Rattle.ab_logic.proofs.Programs.{program_is}
 use Rattle.ab_theory.specs.Judgements as plain
 use Rattle.ab_theory.specs.Opening as opening
 use Rattle.ab_theory.specs.Parts.{parts_of}
-use Rattle.ab_theory.specs.SpecRules.{SpecRule, by_clause, by_part, clauses_for, list_rules, rules_unfocused, rules_for, rules_of}
+use Rattle.ab_theory.specs.SpecRules.{SpecRule, by_part, clauses_for, rules_unfocused, rules_for, rules_of}
 use Rattle.ab_theory.specs.Subjects as subjects
 use Rattle.ab_alternatives.specs.CaseSteps.{IsLater}
 use Rattle.ab_alternatives.specs.ab_equations.proofs.Going.{world_meanwhile}
@@ -78,7 +77,7 @@ module _ (w : World) (j : Judgement) where
   pub rules_known : HasRules w (subject.Judgement j) → IsSome (rules_of (program_in (declarations_of w)) (judgement_read w j))
   rules_known h = are_known (subjects.a_judgement (judgement_read w j)) (rules_of (program_in (declarations_of w)) (judgement_read w j)) h
 
-  -- an atom has those that stand among what was added, and that by the list
+  -- an atom has those by the clauses for it, and that by the list
   atom_listed : j.focus ≡ None → opening.kind_of (read w j.goal) ≡ opening.atomic → HasListed w j (rules_in (slots w j Program))
   atom_listed none kind =
       let cs = program_in (declarations_of w) in
@@ -86,7 +85,7 @@ module _ (w : World) (j : Judgement) where
       let A = read w j.goal in
       ap (λ f. rules_for cs (option_map (read w) f) L A) none
       ∙ ap (rules_unfocused cs L A) kind
-      ∙ ap Some (sym (program_rules w A L w.additions ∙ ap (λ ks. map by_clause (clauses_for A ks) ++ list_rules L) (sym (program_is w 0 w.additions))))
+      ∙ ap Some (sym (program_rules (clauses_for A cs) L))
 
   pub program_listed : HasRules w (subject.Judgement j) → j.focus ≡ None → (k : Kind) → kind_read k ≡ opening.kind_of (read w j.goal) → (k ≡ Atomic) ⊎ (k ≡ Undetermined) → HasListed w j (rules_in (slots w j Program))
   program_listed has none k kind (inl e) = atom_listed none (sym kind ∙ ap kind_read e)

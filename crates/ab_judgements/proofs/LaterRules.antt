@@ -14,30 +14,26 @@ use Rattle.ab_norm.specs.ab_store.specs.Naming.{IsTerm}
 use Rattle.ab_norm.specs.ab_store.specs.Trees.{tree_of}
 use Rattle.ab_unifiers.specs.Replacements.{Cell}
 use Rattle.ab_unify.proofs.Growth.{lifted}
-use Rattle.ab_formulas.specs.CaseClauses.{case_of}
 use Rattle.ab_formulas.specs.Declarations.{Declarations, signature_in}
 use Rattle.ab_formulas.specs.Formulas.{IsFormula}
+use Rattle.ab_formulas.specs.Programs.{program_in}
 use Rattle.ab_formulas.specs.Sequents.{formulas_of}
-use Rattle.ab_logic.specs.Worlds.{Holds, read, declarations_of, IsKept}
+use Rattle.ab_logic.specs.Worlds.{Holds, read, declarations_of}
 use Rattle.ab_logic.specs.SequentReadings.{sequent_of, HoldsSequent}
 use Rattle.ab_logic.specs.declared.world.World.{World}
-use Rattle.ab_logic.specs.declared.additions.Added.{Added}
-use Rattle.ab_logic.specs.declared.additions.Addition.{Addition}
-use Rattle.ab_logic.specs.declared.additions.Addition.TheVariants as added
 use Rattle.ab_logic.specs.declared.sequent.Sequent.{Sequent as Kept}
-use Rattle.ab_logic.proofs.Blocks.{same_clause}
 use Rattle.ab_logic.proofs.Growing.{map_same, same_sequent, still_held}
 use Rattle.ab_theory.specs.JudgementCases.{judgement_case}
 use Rattle.ab_theory.specs.Judgements as plain
 use Rattle.ab_theory.specs.Parts as parts
-use Rattle.ab_theory.specs.SpecRules.{SpecRule, by_part}
+use Rattle.ab_theory.specs.SpecRules.{SpecRule, by_clause, by_part, clauses_for}
 use Rattle.ab_alternatives.specs.CaseSteps.{IsLater}
 use Rattle.ab_alternatives.specs.ab_instances.proofs.Made.{names_stay, names_held}
 use Rattle.ab_judgements.specs.DemandReadings.{IsTypedJudgement}
 use Rattle.ab_judgements.specs.JudgementReadings.{judgement_read, HoldsJudgement}
 use Rattle.ab_judgements.specs.PartReadings.{name_read, part_read, HoldsName, HoldsPart}
 use Rattle.ab_judgements.specs.RuleSteps.{IsSplitting}
-use Rattle.ab_judgements.specs.RuleWalks.{clause_slot, slot_of, list_slot, slots, rules_in, IsSource, HasListed, IsRuled}
+use Rattle.ab_judgements.specs.RuleWalks.{list_slot, slots, rules_in, IsSource, HasListed, IsRuled}
 use Rattle.ab_judgements.specs.declared.focus_parts.Part.{Part}
 use Rattle.ab_judgements.specs.declared.judgements.Judgement.{Judgement}
 use Rattle.ab_judgements.specs.declared.part_names.PartName.{PartName}
@@ -94,24 +90,14 @@ module _ (w v : World) (later : IsLater w v) where
     map_same (part_read v.types v.store) (part_read w.types w.store) (HoldsPart w.types w.store) part_same ps.items h.0 ∙ h.3,
   )
 
-  addition_same : (A : Read) (a : Added) → IsKept w.types w.store a.what → slot_of v A a.what ≡ slot_of w A a.what
-  addition_same A a k = go a.what k
-    where
-      go : (what : Addition) → IsKept w.types w.store what → slot_of v A what ≡ slot_of w A what
-      go (added.Theorem t) h = refl
-      go (added.Definition b) h = refl
-      go (added.Clause c) h =
-          ap (λ cl. clause_slot A (case_of cl)) (same_clause w v later.grows.types.0 later.grows.types.1 later.grows.ids later.grows.readings later.grows.cell_ids later.grows.cells c h.held)
-
-  slots_same : All (λ (a : Added). IsKept w.types w.store a.what) w.additions → (j : Judgement) → HoldsJudgement w j → (s : Source) → IsSource w j s → slots v j s ≡ slots w j s
-  slots_same kept j held Program h =
-      ap (λ (xs : List Added). map (λ (a : Added). slot_of v (read v j.goal) a.what) xs ++ list_slot (read v j.context) ∷ []) later.additions
-      ∙ ap (λ A. map (λ (a : Added). slot_of v A a.what) w.additions ++ list_slot (read v j.context) ∷ []) (later.grows.readings j.goal held.goal)
-      ∙ ap (λ L. map (λ (a : Added). slot_of v (read w j.goal) a.what) w.additions ++ list_slot L ∷ []) (later.grows.readings j.context held.context)
-      ∙ ap (λ l. l ++ list_slot (read w j.context) ∷ [])
-      (map_same (λ (a : Added). slot_of v (read w j.goal) a.what) (λ (a : Added). slot_of w (read w j.goal) a.what) (λ (a : Added). IsKept w.types w.store a.what) (addition_same (read w j.goal)) w.additions kept)
-  slots_same kept j held Goal h = refl
-  slots_same kept j held (Focus ps) h =
+  slots_same : (j : Judgement) → HoldsJudgement w j → (s : Source) → IsSource w j s → slots v j s ≡ slots w j s
+  slots_same j held Program h =
+      let found : Declarations → Read → Read → List (Option SpecRule) = λ D A L. map (λ c. Some (by_clause c)) (clauses_for A (program_in D)) ++ list_slot L ∷ [] in
+      ap (λ D. found D (read v j.goal) (read v j.context)) later.declared
+      ∙ ap (λ A. found (declarations_of w) A (read v j.context)) (later.grows.readings j.goal held.goal)
+      ∙ ap (found (declarations_of w) (read w j.goal)) (later.grows.readings j.context held.context)
+  slots_same j held Goal h = refl
+  slots_same j held (Focus ps) h =
       ap (λ (l : List (Option SpecRule)). l ++ None ∷ [])
       (map_same (λ p. Some (by_part (part_read v.types v.store p))) (λ p. Some (by_part (part_read w.types w.store p))) (HoldsPart w.types w.store) (λ p k. ap (λ q. Some (by_part q)) (part_same p k)) ps.items h.0)
 
@@ -120,7 +106,7 @@ module _ (w v : World) (later : IsLater w v) where
     held = typed_held w x.judgement r.typed
 
     pub same_slots : slots v x.judgement x.source ≡ slots w x.judgement x.source
-    same_slots = slots_same r.world.additions x.judgement held x.source r.source
+    same_slots = slots_same x.judgement held x.source r.source
 
     pub same_judgement : judgement_read v x.judgement ≡ judgement_read w x.judgement
     same_judgement = judgement_same w v later.grows x.judgement held

@@ -31,15 +31,15 @@ mod KeptScopes
 mod DemandBodies
 mod TermsBelow
 mod PlaceRules
-mod PlaceLists
-mod LaterJudgements
+pub mod PlaceLists
+pub mod LaterJudgements
 mod DemandFormulas
 mod CutWorlds
 mod CaseTries
-mod LaterRules
+pub mod LaterRules
 mod NextPlace
 mod RuleWays
-mod SubjectForms
+pub mod SubjectForms
 mod NumberedRules
 mod StoresGrown
 mod ArgumentsEqual

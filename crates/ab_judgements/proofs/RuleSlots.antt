@@ -1,57 +1,44 @@
 -- The rules that stand at places are those of the judgement.
-use Rattle.std.specs.Prelude.{slice_get, filter, IsSome, if◌then◌else◌, codes, bytes_eq}
-use Rattle.std.specs.List.{list_any}
-use Rattle.std.specs.Option.{option_and_then, option_map}
-use Rattle.std.proofs.Common.{◌≡◌, ◌≢◌, ℕ, zero, suc, List, [], ◌∷◌, ◌++◌, map, length, Bool, true, false, Option, Some, None, refl, sym, ◌∙◌, ap}
-use Rattle.std.proofs.lemmas.List.Elements.{filter_map-append}
+use Rattle.std.specs.Prelude.{slice_get, filter, IsSome, if◌then◌else◌, bytes_eq}
+use Rattle.std.specs.List.{All, list_any}
+use Rattle.std.specs.Option.{option_map}
+use Rattle.std.proofs.Common.{◌≡◌, ◌≢◌, ℕ, zero, suc, ◌<◌, List, [], ◌∷◌, ◌++◌, map, length, get_or, Bool, true, false, Option, Some, None, refl, sym, ◌∙◌, ap, arith}
+use Rattle.std.proofs.lemmas.Bool.Decides.{Decides-eqb}
+use Rattle.std.proofs.lemmas.List.{length-map}
+use Rattle.std.proofs.lemmas.List.Elements.{All-head, All-tail}
 use Rattle.ab_term.specs.Terms.{constant, logical, nominal, variable, index, lam, spine, Read}
+use Rattle.ab_norm.specs.ab_types.specs.Ids.{HoldsConstant}
+use Rattle.ab_norm.specs.ab_types.specs.Sound.{IsTable}
+use Rattle.ab_norm.specs.ab_types.specs.declared.ids.ConstId.{ConstId}
 use Rattle.ab_unifiers.specs.Clauses.{Clause}
 use Rattle.ab_formulas.specs.CaseClauses.{case_of}
 use Rattle.ab_formulas.specs.Clauses as kept
-use Rattle.ab_formulas.specs.Programs.{Program}
-use Rattle.ab_typing.specs.DefinitionReadings.{clause_of}
-use Rattle.ab_logic.specs.Additions.{as_clause, clauses_with, clauses_kept}
-use Rattle.ab_logic.specs.Worlds.{read, clause_read}
+use Rattle.ab_formulas.specs.Programs.{Program, program_in}
+use Rattle.ab_typing.specs.DefinitionReadings.{name_of, clause_of}
+use Rattle.ab_typing.specs.declared.definitions.ClauseTerm.{ClauseTerm}
+use Rattle.ab_logic.specs.Additions.{same_constant, clause_at_place, clauses_with, clauses_kept, clause_places}
+use Rattle.ab_logic.specs.Worlds.{IsWorld, read, head_constant, clause_read, declarations_of, IsKept, IsHeadOf}
 use Rattle.ab_logic.specs.declared.world.World.{World}
 use Rattle.ab_logic.specs.declared.additions.Added.{Added}
 use Rattle.ab_logic.specs.declared.additions.Addition.{Addition}
 use Rattle.ab_logic.specs.declared.additions.Addition.TheVariants as added
-use Rattle.ab_typing.specs.declared.definitions.ClauseTerm.{ClauseTerm}
+use Rattle.ab_logic.proofs.Lookups.{headed_with, clauses_headed, places_lead}
+use Rattle.ab_logic.proofs.Programs.{program_is}
 use Rattle.ab_theory.specs.Opening.{Kind, compound, atomic, undetermined, kind_of, is_undetermined}
 use Rattle.ab_theory.specs.Parts.{Part}
 use Rattle.ab_theory.specs.SpecRules.{SpecRule, by_clause, by_list, by_part, clauses_for, is_nil, list_rules, rules_in_focus}
-use Rattle.ab_judgements.specs.RuleWalks.{head_constant, is_named, is_for, clause_slot, slot_of, list_slot, rules_in, rule_in}
+use Rattle.ab_alternatives.proofs.Placed.{same_by_name}
+use Rattle.ab_judgements.specs.RuleWalks.{clauses_of, clause_there, list_slot, rules_in, rule_in}
 
--- CLAUSES FOR AN ATOM
+-- CLAUSES FOR AN ATOM are those whose places are noted for its head
 
-none_for : (cs : Program) → filter (λ (c : Clause (List ℕ)). false) cs ≡ []
-none_for [] = refl
-none_for (c ∷ cs) = none_for cs
-
-clauses_are : (A : Read) (cs : Program) → clauses_for A cs ≡ filter (is_for A) cs
-clauses_are (lam B x t) cs = sym (none_for cs)
-clauses_are (spine (constant p) ts) cs = refl
-clauses_are (spine (logical l) ts) cs = sym (none_for cs)
-clauses_are (spine (nominal a) ts) cs = sym (none_for cs)
-clauses_are (spine (variable y) ts) cs = sym (none_for cs)
-clauses_are (spine (index i) ts) cs = sym (none_for cs)
-
-pub nil_so : (L : Read) → is_nil L ≡ is_named (head_constant L) (codes "nil")
-nil_so (lam B x t) = refl
-nil_so (spine (constant p) ts) = refl
-nil_so (spine (logical l) ts) = refl
-nil_so (spine (nominal a) ts) = refl
-nil_so (spine (variable y) ts) = refl
-nil_so (spine (index i) ts) = refl
-
--- by the constants at the heads
-pub for_so : (A : Read) (q : List ℕ) → Some q ≡ head_constant A → (c : Clause (List ℕ)) → bytes_eq c.predicate q ≡ is_for A c
-for_so (lam B x t) q e c = absurd (cc)
-for_so (spine (constant p) ts) q e c = let same : q ≡ p = cc in ap (bytes_eq c.predicate) same
-for_so (spine (logical l) ts) q e c = absurd (cc)
-for_so (spine (nominal a) ts) q e c = absurd (cc)
-for_so (spine (variable y) ts) q e c = absurd (cc)
-for_so (spine (index i) ts) q e c = absurd (cc)
+for_head : (A : Read) (q : List ℕ) → Some q ≡ head_constant A → (cs : Program) → clauses_for A cs ≡ filter (λ c. bytes_eq c.predicate q) cs
+for_head (lam B x t) q e cs = absurd (cc)
+for_head (spine (constant p) ts) q e cs = let same : p ≡ q = cc in ap (λ n. filter (λ (c : Clause (List ℕ)). bytes_eq c.predicate n) cs) same
+for_head (spine (logical l) ts) q e cs = absurd (cc)
+for_head (spine (nominal a) ts) q e cs = absurd (cc)
+for_head (spine (variable y) ts) q e cs = absurd (cc)
+for_head (spine (index i) ts) q e cs = absurd (cc)
 
 headed_so : (vs : List kept.ClauseVariable) (h b : Read) (p : List ℕ) → Some p ≡ head_constant h → p ≡ (case_of (record { variables = vs; head = h; body = b })).predicate
 headed_so vs (lam B x t) b p e = absurd (cc)
@@ -61,90 +48,118 @@ headed_so vs (spine (nominal a) ts) b p e = absurd (cc)
 headed_so vs (spine (variable y) ts) b p e = absurd (cc)
 headed_so vs (spine (index i) ts) b p e = absurd (cc)
 
-pub predicate_so : (w : World) (c : ClauseTerm) (p : List ℕ) → Some p ≡ head_constant (read w c.head) → p ≡ (clause_read w c).predicate
+predicate_so : (w : World) (c : ClauseTerm) (p : List ℕ) → Some p ≡ head_constant (read w c.head) → p ≡ (clause_read w c).predicate
 predicate_so w c p e = headed_so (clause_of w.types w.store c).variables (read w c.head) (read w c.body) p e
 
-module _ (w : World) (A : Read) where
-  abbrev pub at_addition : Added → Option SpecRule
-  at_addition a = slot_of w A a.what
+read_lead : {X Y : Type 0} (f : X → Y) (there : ℕ → Option X) (is : List ℕ) (ks : List X) → map there is ≡ map Some ks → map (λ i. option_map f (there i)) is ≡ map Some (map f ks)
+read_lead f there [] [] e = refl
+read_lead f there [] (k ∷ ks) e = absurd (cc)
+read_lead f there (i ∷ is) [] e = absurd (cc)
+read_lead f there (i ∷ is) (k ∷ ks) e =
+    let here : there i ≡ Some k = cc in
+    let rest : map there is ≡ map Some ks = cc in
+    ap (λ o. option_map f o ∷ map (λ j. option_map f (there j)) is) here ∙ ap (λ l. Some (f k) ∷ l) (read_lead f there is ks rest)
 
-  one_clause : (c : Clause (List ℕ)) (rs : List (Option SpecRule)) (cs : Program) → rules_in rs ≡ map by_clause (filter (is_for A) cs)
-      → rules_in (clause_slot A c ∷ rs) ≡ map by_clause (filter (is_for A) (c ∷ cs))
-  one_clause c rs cs rest = go (is_for A c)
+module _ (w : World) where
+  module _ (ok : IsTable w.types) (p : ConstId) (held : HoldsConstant w.types p) where
+    abbrev is_headed : Clause (List ℕ) → Bool
+    is_headed c = bytes_eq c.predicate (name_of w.types p)
+
+    same_test : (c : ClauseTerm) (h : ConstId) → IsHeadOf w.types w.store c h → same_constant h p ≡ is_headed (clause_read w c)
+    same_test c h head =
+        same_by_name w.types ok h p head.held held (same_constant h p) (λ e. ap (λ n. record { 0 = n }) ((Decides-eqb h.0 p.0).0 e), λ e. (Decides-eqb h.0 p.0).1 (ap (λ q. q.0) e))
+        ∙ ap (λ n. bytes_eq n (name_of w.types p)) (predicate_so w c (name_of w.types h) (sym head.is))
+
+    headed_are : (xs : List Added) → All (λ (a : Added). IsKept w.types w.store a.what) xs → map (clause_read w) (clauses_headed xs p) ≡ filter is_headed (map (clause_read w) (clauses_kept xs))
+    headed_are [] all = refl
+    headed_are (a ∷ xs) all = one a.what (All-head (λ (b : Added). IsKept w.types w.store b.what) a xs all) (headed_are xs (All-tail (λ (b : Added). IsKept w.types w.store b.what) a xs all))
+      where
+        test : (c : ClauseTerm) (t u : Bool) → t ≡ u → map (clause_read w) (clauses_headed xs p) ≡ filter is_headed (map (clause_read w) (clauses_kept xs))
+            → map (clause_read w) (if t then (c ∷ clauses_headed xs p) else (clauses_headed xs p))
+            ≡ (if u then (clause_read w c ∷ filter is_headed (map (clause_read w) (clauses_kept xs))) else (filter is_headed (map (clause_read w) (clauses_kept xs))))
+        test c true true e rest = ap (λ l. clause_read w c ∷ l) rest
+        test c true false e rest = absurd (cc)
+        test c false true e rest = absurd (cc)
+        test c false false e rest = rest
+
+        one : (what : Addition) → IsKept w.types w.store what → map (clause_read w) (clauses_headed xs p) ≡ filter is_headed (map (clause_read w) (clauses_kept xs))
+            → map (clause_read w) (headed_with what p (clauses_headed xs p)) ≡ filter is_headed (map (clause_read w) (clauses_with what (clauses_kept xs)))
+        one (added.Theorem e) k rest = rest
+        one (added.Definition b) k rest = rest
+        one (added.Clause c h) k rest = test c (same_constant h p) (is_headed (clause_read w c)) (same_test c h k.1) rest
+
+    -- THE PLACES OF ITS HEAD lead to the clauses for an atom
+    pub head_places : IsWorld w → (A : Read) → Some (name_of w.types p) ≡ head_constant A → map (clause_there w) (clause_places w.additions p) ≡ map Some (clauses_of w A)
+    head_places is A e =
+        read_lead (clause_read w) (clause_at_place w.additions) (clause_places w.additions p) (clauses_headed w.additions p) (places_lead w.additions p)
+        ∙ ap (map Some) (headed_are w.additions is.additions ∙ ap (filter is_headed) (sym (program_is w 0 w.additions)) ∙ sym (for_head A (name_of w.types p) e (program_in (declarations_of w))))
+
+-- the clause at the place of a number is the one of that number
+pub numbered_place : {X : Type 0} (there : ℕ → Option X) (is : List ℕ) (cs : List X) → map there is ≡ map Some cs → (n place : ℕ) → n < length is → place ≡ get_or is n 0 → slice_get cs n ≡ there place
+numbered_place there [] cs e n place low at = absurd (omega (arith, low))
+numbered_place there (i ∷ is) [] e n place low at = absurd (cc)
+numbered_place there (i ∷ is) (c ∷ cs) e zero place low at =
+    let here : there i ≡ Some c = cc in
+    sym here ∙ ap there (sym at)
+numbered_place there (i ∷ is) (c ∷ cs) e (suc n) place low at =
+    let rest : map there is ≡ map Some cs = cc in
+    numbered_place there is cs rest n place (omega (arith, low)) at
+
+pub as_many : {X : Type 0} (there : ℕ → Option X) (is : List ℕ) (cs : List X) → map there is ≡ map Some cs → length is ≡ length cs
+as_many there is cs e = sym (length-map is there) ∙ ap (λ l. length l) e ∙ length-map cs Some
+
+-- RULES AT PLACES, of which the last alone may have none
+
+module _ {X : Type 0} (f : X → SpecRule) (y : Option SpecRule) where
+  abbrev pub all_slots : List X → List (Option SpecRule)
+  all_slots xs = map (λ x. Some (f x)) xs ++ y ∷ []
+
+  at_other : (xs : List X) (place : ℕ) → place ≢ length xs → rule_in (all_slots xs) place ≡ option_map f (slice_get xs place)
+  at_other [] zero e = absurd (e refl)
+  at_other [] (suc k) e = refl
+  at_other (x ∷ xs) zero e = refl
+  at_other (x ∷ xs) (suc k) e = at_other xs k (λ h. e (ap suc h))
+
+  -- the rule at a place is the one of that number
+  pub numbered_rule : (xs : List X) (place : ℕ) → rule_in (all_slots xs) place ≡ slice_get (rules_in (all_slots xs)) place
+  numbered_rule [] place = go y place
     where
-      go : (b : Bool) → rules_in ((if b then Some (by_clause c) else None) ∷ rs) ≡ map by_clause (if b then (c ∷ filter (is_for A) cs) else (filter (is_for A) cs))
-      go true = ap (λ l. by_clause c ∷ l) rest
-      go false = rest
+      go : (o : Option SpecRule) (n : ℕ) → rule_in (o ∷ []) n ≡ slice_get (rules_in (o ∷ [])) n
+      go None zero = refl
+      go None (suc n) = refl
+      go (Some r) zero = refl
+      go (Some r) (suc n) = refl
+  numbered_rule (x ∷ xs) zero = refl
+  numbered_rule (x ∷ xs) (suc k) = numbered_rule xs k
 
-  added_rules : (xs : List Added) → rules_in (map at_addition xs) ≡ map by_clause (filter (is_for A) (map (clause_read w) (clauses_kept xs)))
-  added_rules [] = refl
-  added_rules (a ∷ xs) = one a.what (added_rules xs)
-    where
-      one : (what : Addition) → rules_in (map at_addition xs) ≡ map by_clause (filter (is_for A) (map (clause_read w) (clauses_kept xs)))
-          → rules_in (slot_of w A what ∷ map at_addition xs) ≡ map by_clause (filter (is_for A) (map (clause_read w) (clauses_with what (clauses_kept xs))))
-      one (added.Theorem e) rest = rest
-      one (added.Definition b) rest = rest
-      one (added.Clause c) rest = one_clause (clause_read w c) (map at_addition xs) (map (clause_read w) (clauses_kept xs)) rest
+  all_rules : (xs : List X) → rules_in (all_slots xs) ≡ map f xs ++ rules_in (y ∷ [])
+  all_rules [] = refl
+  all_rules (x ∷ xs) = ap (λ l. f x ∷ l) (all_rules xs)
 
-  list_rule : (L : Read) → rules_in (list_slot L ∷ []) ≡ list_rules L
-  list_rule L = go (is_nil L)
-    where
-      go : (b : Bool) → rules_in ((if b then None else Some by_list) ∷ []) ≡ (if b then [] else (by_list ∷ []))
-      go true = refl
-      go false = refl
+-- the rules for an atom, and behind them that by the list
+pub program_rules : (cs : Program) (L : Read) → rules_in (all_slots by_clause (list_slot L) cs) ≡ map by_clause cs ++ list_rules L
+program_rules cs L = all_rules by_clause (list_slot L) cs ∙ ap (λ l. map by_clause cs ++ l) (go (is_nil L))
+  where
+    go : (b : Bool) → rules_in ((if b then None else Some by_list) ∷ []) ≡ (if b then [] else (by_list ∷ []))
+    go true = refl
+    go false = refl
 
-  -- ALL RULES for an atom, and behind them that by the list
-  pub program_rules : (L : Read) (xs : List Added) → rules_in (map at_addition xs ++ list_slot L ∷ []) ≡ map by_clause (clauses_for A (map (clause_read w) (clauses_kept xs))) ++ list_rules L
-  program_rules L xs =
-      filter_map-append (λ r. r) (map at_addition xs) (list_slot L ∷ [])
-      ∙ ap (λ l. l ++ rules_in (list_slot L ∷ [])) (added_rules xs)
-      ∙ ap (λ l. map by_clause (filter (is_for A) (map (clause_read w) (clauses_kept xs))) ++ l) (list_rule L)
-      ∙ ap (λ cs. map by_clause cs ++ list_rules L) (sym (clauses_are A (map (clause_read w) (clauses_kept xs))))
-
-  -- the rule at a place
-
-  pub at_last : (y : Option SpecRule) (xs : List Added) (place : ℕ) → place ≡ length xs → rule_in (map at_addition xs ++ y ∷ []) place ≡ y
-  at_last y [] zero e = refl
-  at_last y [] (suc k) e = absurd (cc)
-  at_last y (x ∷ xs) zero e = absurd (cc)
-  at_last y (x ∷ xs) (suc k) e = at_last y xs k (let less : k ≡ length xs = cc in less)
-
-  at_other : (y : Option SpecRule) (xs : List Added) (place : ℕ) → place ≢ length xs → rule_in (map at_addition xs ++ y ∷ []) place ≡ option_and_then at_addition (slice_get xs place)
-  at_other y [] zero e = absurd (e refl)
-  at_other y [] (suc k) e = refl
-  at_other y (x ∷ xs) zero e = refl
-  at_other y (x ∷ xs) (suc k) e = at_other y xs k (λ h. e (ap suc h))
-
-  none_there : (o : Option Added) → option_and_then (λ (a : Added). as_clause a.what) o ≡ None → option_and_then at_addition o ≡ None
-  none_there None e = refl
-  none_there (Some a) e = go a.what e
-    where
-      go : (what : Addition) → as_clause what ≡ None → slot_of w A what ≡ None
-      go (added.Theorem t) h = refl
-      go (added.Definition b) h = refl
-      go (added.Clause c) h = absurd (cc)
-
-  some_there : (o : Option Added) (c : ClauseTerm) → option_and_then (λ (a : Added). as_clause a.what) o ≡ Some c → option_and_then at_addition o ≡ clause_slot A (clause_read w c)
-  some_there None c e = absurd (cc)
-  some_there (Some a) c e = go a.what e
-    where
-      go : (what : Addition) → as_clause what ≡ Some c → slot_of w A what ≡ clause_slot A (clause_read w c)
-      go (added.Theorem t) h = absurd (cc)
-      go (added.Definition b) h = absurd (cc)
-      go (added.Clause d) h = let same : d ≡ c = cc in ap (λ k. clause_slot A (clause_read w k)) same
-
-  pub at_none : (y : Option SpecRule) (xs : List Added) (place : ℕ) → place ≢ length xs → option_and_then (λ (a : Added). as_clause a.what) (slice_get xs place) ≡ None → rule_in (map at_addition xs ++ y ∷ []) place ≡ None
-  at_none y xs place e none = at_other y xs place e ∙ none_there (slice_get xs place) none
-
-  pub at_clause : (y : Option SpecRule) (xs : List Added) (place : ℕ) → place ≢ length xs → (c : ClauseTerm) → option_and_then (λ (a : Added). as_clause a.what) (slice_get xs place) ≡ Some c
-      → rule_in (map at_addition xs ++ y ∷ []) place ≡ clause_slot A (clause_read w c)
-  at_clause y xs place e c there = at_other y xs place e ∙ some_there (slice_get xs place) c there
-
--- PARTS
+-- what stands at the place of a number gives the rule of that number
+pub at_number : (w : World) (A L : Read) (is : List ℕ) → map (clause_there w) is ≡ map Some (clauses_of w A) → (n place : ℕ) → n ≢ length is → n < length is → place ≡ get_or is n 0
+    → (o : Option ClauseTerm) → o ≡ clause_at_place w.additions place → option_map (λ c. by_clause (clause_read w c)) o ≡ rule_in (all_slots by_clause (list_slot L) (clauses_of w A)) n
+at_number w A L is lead n place other low at o there =
+    both o
+    ∙ ap (λ k. option_map by_clause (option_map (clause_read w) k)) there
+    ∙ ap (option_map by_clause) (sym (numbered_place (clause_there w) is (clauses_of w A) lead n place low at))
+    ∙ sym (at_other by_clause (list_slot L) (clauses_of w A) n (λ e. other (e ∙ sym (as_many (clause_there w) is (clauses_of w A) lead))))
+  where
+    both : (k : Option ClauseTerm) → option_map (λ c. by_clause (clause_read w c)) k ≡ option_map by_clause (option_map (clause_read w) k)
+    both None = refl
+    both (Some c) = refl
 
 module _ {X : Type 0} (f : X → Part) where
   abbrev pub part_slots : List X → List (Option SpecRule)
-  part_slots ps = map (λ p. Some (by_part (f p))) ps ++ None ∷ []
+  part_slots ps = all_slots (λ p. by_part (f p)) None ps
 
   pub part_rules : (ps : List X) → rules_in (part_slots ps) ≡ map by_part (map f ps)
   part_rules [] = refl

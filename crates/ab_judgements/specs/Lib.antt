@@ -1,6 +1,5 @@
--- Judgements on shared terms: how they read. What they mean is told by `ab_theory`. `Shapes`, `ShapeReadings`, `PartWalks`,
--- `DemandReadings`, `DemandWalks`, `ListItems`, `RuleWalks` and `RuleSteps` serve private contracts.
--- `ListItems`, `DemandReadings`, `RuleWalks` and `RuleSteps` serve private contracts.
+-- Judgements on shared terms: how they read, where their rules stand, and what a rule demands. What they mean is told by
+-- `ab_theory`. `Shapes`, `ShapeReadings`, `PartWalks`, `DemandWalks`, `ListItems` and `RuleSteps` serve private contracts.
 pub mod JudgementReadings
 pub mod KindReadings
 pub mod SubjectReadings

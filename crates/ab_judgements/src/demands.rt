@@ -28,7 +28,7 @@ use std::alloc::{AllocError, Global};
 
 /// A rule by which a judgement may hold.
 #[derive(Drop)]
-pub(crate) enum Rule {
+pub enum Rule {
     /// A clause of the program, whose head the goal is.
     Clause(ClauseTerm),
     /// Some formula of the list, which comes into focus.
@@ -41,10 +41,10 @@ pub(crate) enum Rule {
 
 /// What a rule demands: cells of its own, equations, and the body.
 #[derive(Drop)]
-pub(crate) struct DemandTerm {
-    pub(crate) own: Vec<CellId>,
-    pub(crate) equations: Vec<Equation>,
-    pub(crate) body: TermId,
+pub struct DemandTerm {
+    pub own: Vec<CellId>,
+    pub equations: Vec<Equation>,
+    pub body: TermId,
 }
 
 /// Nothing but the body.
@@ -62,7 +62,7 @@ fn body_alone(alloc: Global, body: TermId) -> DemandTerm
 
 /// What the rule demands of the judgement. The judgements of the body have the mark. `constants` are those of the judgement. No
 /// cell is bound, before and after.
-pub(crate) fn make_demand<L>(
+pub fn make_demand<L>(
     alloc: Global,
     world: &mut World,
     judgement: &Judgement,

@@ -1,20 +1,17 @@
-//! The rules by which a judgement may hold, place by place: for an atom the clauses of the program, and then the list; else
-//! the goal, which is opened; or the parts of the formula in focus.
-ghost use Rattle.std.specs.Prelude.{◌≡◌, ◌+◌, ◌∷◌, List, Option, length, slice_get, IfOk, IfSome, Ok, None, Some};
+//! The rules by which a judgement may hold, place by place: for an atom the clauses of the program with its head, and then
+//! the list; else the goal, which is opened; or the parts of the formula in focus.
+ghost use Rattle.std.specs.Prelude.{◌≡◌, ◌+◌, List, length, map, slice_get, IfOk, IfSome, Some};
 ghost use Rattle.std.specs.Option.{option_map};
-ghost use Rattle.ab_norm.specs.ab_types.specs.Ids.{HoldsConstant};
-ghost use Rattle.ab_typing.specs.DefinitionReadings.{name_of};
 ghost use Rattle.ab_unify.specs.Problem.{cells_read};
 ghost use Rattle.ab_alternatives.specs.CaseSteps.{IsLater};
-ghost use Rattle.ab_logic.specs.Worlds.{IsWorld, IsKeptProgramClause, Holds, read, clause_read};
+ghost use Rattle.ab_logic.specs.Worlds.{IsWorld, Holds, read};
 ghost use Rattle.ab_logic.specs.declared.world.World.{World as AWorld};
-ghost use Rattle.ab_theory.specs.SpecRules.{SpecRule as ARule, by_part, is_nil};
+ghost use Rattle.ab_theory.specs.SpecRules.{by_part, is_nil};
 ghost use Rattle.ab_judgements.specs.DemandReadings.{rule_read, IsTypedJudgement, IsRuleFor};
 ghost use Rattle.ab_judgements.specs.JudgementReadings.{HoldsJudgement};
 ghost use Rattle.ab_judgements.specs.PartReadings.{part_read};
 ghost use Rattle.ab_judgements.specs.SubjectReadings.{HasRules};
-ghost use Rattle.ab_judgements.specs.RuleWalks.{slots, rules_in, rule_in, head_constant, is_for, list_slot, AreParts, IsSource, HasRulesAt, IsRuled};
-ghost use Rattle.ab_judgements.specs.declared.demands.Rule.{Rule as AKeptRule};
+ghost use Rattle.ab_judgements.specs.RuleWalks.{clauses_of, clause_there, slots, rules_in, rule_in, list_slot, AreParts, IsSource, HasRulesAt, IsRuled};
 ghost use Rattle.ab_judgements.specs.declared.judgements.Judgement.{Judgement as AKeptJudgement};
 ghost use Rattle.ab_judgements.specs.declared.rule_places.Source.TheVariants.{Program};
 ghost use Rattle.ab_judgements.specs.declared.subjects.Subject.TheVariants.{Judgement as AJudgement};
@@ -25,19 +22,17 @@ use crate::focus_parts::{Part, parts};
 use crate::judgements::Judgement;
 use crate::kinds::{Kind, kind_of};
 use crate::part_names::copy_names;
-use ab_alternatives::{are_same, copy_clause};
+use ab_alternatives::copy_clause;
 use ab_logic::World;
 use ab_norm::Nominal;
-use ab_norm::store::{Head, Node, TermId};
-use ab_norm::types::ConstId;
+use ab_norm::store::TermId;
 use ab_norm::types::laws::has_unique_ids;
-use ab_typing::ClauseTerm;
 use std::alloc::{AllocError, Global};
 
 /// Where the rules of a judgement stand.
 #[derive(Drop)]
-pub(crate) enum Source {
-    /// Among what was added to the world, and behind that the rule by the list.
+pub enum Source {
+    /// They are the clauses of the program for the goal, and behind these the rule by the list.
     Program,
     /// There is one: the goal is opened.
     Goal,
@@ -47,10 +42,10 @@ pub(crate) enum Source {
 
 /// A judgement, its constants, and where its rules stand.
 #[derive(Drop)]
-pub(crate) struct Ruled {
-    pub(crate) judgement: Judgement,
-    pub(crate) constants: Vec<Nominal>,
-    pub(crate) source: Source,
+pub struct Ruled {
+    pub judgement: Judgement,
+    pub constants: Vec<Nominal>,
+    pub source: Source,
 }
 
 /// Where the judgement's rules stand.
@@ -74,7 +69,7 @@ fn source_of(alloc: Global, world: &mut World, judgement: &Judgement) -> Result<
 }
 
 /// The judgement, with its constants and where its rules stand.
-pub(crate) fn with_rules(
+pub fn with_rules(
     alloc: Global,
     world: &mut World,
     judgement: &Judgement,
@@ -97,48 +92,29 @@ pub(crate) fn with_rules(
     })
 }
 
+/// The places, among what was added, of the clauses of the program for the atom, in order.
+fn clause_places(world: &World, atom: TermId) -> &[usize]
+    requires world { IsWorld world.now }
+    requires atom { Holds world.now atom }
+    ensures { map (clause_there world.now) result.now ≡ map Some (clauses_of world.now (read world.now atom)) }
+{
+    has_unique_ids(&world.types);
+    match world.head_constant(atom) {
+        None => &[],
+        Some(head) => world.clause_places(head),
+    }
+}
+
 /// The last place.
-pub(crate) fn last_place(world: &World, ruled: &Ruled) -> usize
+pub fn last_place(world: &World, ruled: &Ruled) -> usize
+    requires { IsRuled world.now ruled.now }
     ensures { result + 1 ≡ length (slots world.now ruled.now.judgement ruled.now.source) }
 {
     match &ruled.source {
-        Source::Program => world.len(),
+        Source::Program => clause_places(world, ruled.judgement.goal).len(),
         Source::Goal => 0,
         Source::Focus(parts) => parts.len(),
     }
-}
-
-/// The constant that is the term's head, if one is.
-fn constant_at(world: &World, term: TermId) -> Option<ConstId>
-    requires world { IsWorld world.now }
-    requires term { Holds world.now term }
-    ensures reads { option_map (name_of world.now.types) result ≡ head_constant (read world.now term) }
-    ensures held { IfSome result (HoldsConstant world.now.types) }
-{
-    match world.store.view(term) {
-        Node::Lam(_, _, _) => None,
-        Node::Spine(head, _) => match *head {
-            Head::Const(constant) => Some(constant),
-            _ => None,
-        },
-    }
-}
-
-/// Whether the clause of the program is one for the atom.
-fn is_for(world: &World, atom: TermId, clause: &ClauseTerm) -> bool
-    requires world { IsWorld world.now }
-    requires atom { Holds world.now atom }
-    requires clause { IsKeptProgramClause world.now.types world.now.store clause.now }
-    ensures { result ≡ is_for (read world.now atom) (clause_read world.now clause.now) }
-{
-    has_unique_ids(&world.types);
-    let Some(asked) = constant_at(world, atom) else {
-        return false;
-    };
-    let Some(given) = constant_at(world, clause.head) else {
-        return false;
-    };
-    are_same(given, asked)
 }
 
 /// Whether the list is `nil`.
@@ -147,7 +123,7 @@ fn is_nil(world: &World, list: TermId) -> bool
     requires list { Holds world.now list }
     ensures { result ≡ is_nil (read world.now list) }
 {
-    match constant_at(world, list) {
+    match world.head_constant(list) {
         None => false,
         Some(constant) => world.types.const_name(constant).as_str() == "nil",
     }
@@ -167,27 +143,28 @@ fn list_rule(world: &World, list: TermId) -> Option<Rule>
     }
 }
 
-/// The rule at the place among what was added, or behind that.
+/// The rule by the clause of this number for the judgement's goal, or behind all these by the list.
 fn program_rule(
     alloc: Global,
     world: &World,
     judgement: &Judgement,
-    place: usize,
+    number: usize,
 ) -> Result<Option<Rule>, AllocError>
     requires world { IsWorld world.now }
     requires judgement { IsTypedJudgement world.now judgement.now }
-    ensures reads { IfOk result (λ found. option_map (rule_read world.now) found ≡ rule_in (slots world.now judgement.now Program) place) }
+    ensures reads { IfOk result (λ found. option_map (rule_read world.now) found ≡ rule_in (slots world.now judgement.now Program) number) }
     ensures fits { IfOk result (λ found. IfSome found (IsRuleFor world.now judgement.now)) }
 {
-    if place == world.len() {
+    let places = clause_places(world, judgement.goal);
+    if number == places.len() {
         return Ok(list_rule(world, judgement.context));
     }
-    let Some(clause) = world.clause_at(place) else {
+    let Some(place) = places.get(number) else {
         return Ok(None);
     };
-    if !is_for(world, judgement.goal, clause) {
+    let Some(clause) = world.clause_at(*place) else {
         return Ok(None);
-    }
+    };
     let copied = copy_clause(alloc, clause)?;
     Ok(Some(Rule::Clause(copied)))
 }
@@ -221,8 +198,8 @@ fn part_rule(alloc: Global, parts: &[Part], place: usize) -> Result<Option<Rule>
     }
 }
 
-/// The rule at the place, if one stands there.
-pub(crate) fn rule_at(
+/// The rule at the place, if one stands there. No other place than the last is empty, so it is the rule of this number too.
+pub fn rule_at(
     alloc: Global,
     world: &World,
     ruled: &Ruled,
@@ -230,6 +207,7 @@ pub(crate) fn rule_at(
 ) -> Result<Option<Rule>, AllocError>
     requires { IsRuled world.now ruled.now }
     ensures reads { IfOk result (λ found. option_map (rule_read world.now) found ≡ rule_in (slots world.now ruled.now.judgement ruled.now.source) place) }
+    ensures numbered { IfOk result (λ found. option_map (rule_read world.now) found ≡ slice_get (rules_in (slots world.now ruled.now.judgement ruled.now.source)) place) }
     ensures fits { IfOk result (λ found. IfSome found (IsRuleFor world.now ruled.now.judgement)) }
 {
     match &ruled.source {
@@ -243,51 +221,4 @@ pub(crate) fn rule_at(
         }
         Source::Focus(parts) => part_rule(alloc, parts, place),
     }
-}
-
-/// The rule at the place, if one stands there and none of `left` others is to be passed before; else one less is left where a rule
-/// stands there.
-fn pass_place(
-    alloc: Global,
-    world: &World,
-    ruled: &Ruled,
-    place: usize,
-    left: &mut usize,
-) -> Result<Option<Rule>, AllocError>
-    requires { IsRuled world.now ruled.now }
-    ensures found { (r : AKeptRule) (rs : List (Option ARule)) → result ≡ Ok (Some r) →
-        slice_get (rules_in (rule_in (slots world.now ruled.now.judgement ruled.now.source) place ∷ rs)) left.old ≡ Some (rule_read world.now r) }
-    ensures passed { (rs : List (Option ARule)) → result ≡ Ok None →
-        slice_get (rules_in (rule_in (slots world.now ruled.now.judgement ruled.now.source) place ∷ rs)) left.old ≡ slice_get (rules_in rs) left.new }
-    ensures fits { IfOk result (λ found. IfSome found (IsRuleFor world.now ruled.now.judgement)) }
-{
-    let Some(rule) = rule_at(alloc, world, ruled, place)? else {
-        return Ok(None);
-    };
-    if *left == 0 {
-        return Ok(Some(rule));
-    }
-    *left -= 1;
-    Ok(None)
-}
-
-/// The rule of this number, counted from 0, if there are so many.
-pub(crate) fn nth_rule(
-    alloc: Global,
-    world: &World,
-    ruled: &Ruled,
-    number: usize,
-) -> Result<Option<Rule>, AllocError>
-    requires { IsRuled world.now ruled.now }
-    ensures reads { IfOk result (λ found. option_map (rule_read world.now) found ≡ slice_get (rules_in (slots world.now ruled.now.judgement ruled.now.source)) number) }
-    ensures fits { IfOk result (λ found. IfSome found (IsRuleFor world.now ruled.now.judgement)) }
-{
-    let last = last_place(world, ruled);
-    let mut left = number;
-    for place in 0..last {
-        if let Some(rule) = pass_place(alloc, world, ruled, place, &mut left)? {
-            return Ok(Some(rule));
-        }
-    }
-    pass_place(alloc, world, ruled, last, &mut left)
 }

@@ -22,7 +22,7 @@ ghost use Rattle.ab_judgements.specs.declared.subjects.Subject.TheVariants.{Judg
 
 use crate::demands::{Rule, make_demand};
 use crate::judgements::Judgement;
-use crate::rule_places::{Ruled, nth_rule, with_rules};
+use crate::rule_places::{Ruled, rule_at, with_rules};
 use ab_alternatives::equations::CaseSolution;
 use ab_alternatives::{Conclusion, Unfolding, mark_above, solve_unfolding};
 use ab_logic::{Sequent, World};
@@ -157,7 +157,7 @@ pub(crate) fn unfold_judgement_at<L>(
     ensures steps { steps.old ≤ steps.new }
 {
     let ruled = with_rules(alloc, world, judgement)?;
-    let Some(rule) = nth_rule(alloc, world, &ruled, number)? else {
+    let Some(rule) = rule_at(alloc, world, &ruled, number)? else {
         return Ok(None);
     };
     let solved = unfold_rule(alloc, world, &ruled, &rule, goal, steps)?;

@@ -34,7 +34,7 @@ use Rattle.ab_formulas.specs.Declarations.{Declarations, a_block, a_program_clau
 use Rattle.ab_formulas.specs.Programs.{IsGoalOrNone, IsProgramKept}
 use Rattle.ab_term.specs.Terms.{Read}
 use Rattle.ab_logic.specs.Additions.{block_or, block_kept, is_among}
-use Rattle.ab_logic.specs.Worlds.{read, Holds, HoldsCell, variable_of, declared, defined, definition_of, declaration_of, declared_from, CameInOrder, IsKeptClause, IsKeptBlock, IsKept}
+use Rattle.ab_logic.specs.Worlds.{read, Holds, HoldsCell, variable_of, head_constant, declared, defined, definition_of, declaration_of, declared_from, CameInOrder, IsKeptClause, IsKeptBlock, IsKept}
 use Rattle.ab_formulas.specs.Sequents.{Variable}
 use Rattle.ab_logic.specs.declared.world.World.{World}
 use Rattle.ab_logic.specs.declared.additions.Added.{Added}
@@ -94,7 +94,7 @@ module _ (w : World) where
         one : (what : Addition) → IsKept w.types w.store what → option_map (definition_of w) (block_kept xs p) ≡ block_in rest (name_of w.types p)
             → option_map (definition_of w) (block_or what p (block_kept xs p)) ≡ block_in (declaration_of w what ∷ rest) (name_of w.types p)
         one (Theorem e) k later = later
-        one (Clause c) k later = later
+        one (Clause c h) k later = later
         one (Definition b) k later = test b (is_among b.predicates p) (list_any (bytes_eq (name_of w.types p)) (map (name_of w.types) b.predicates)) (same_search w.types unique p held b.predicates k.predicates) later
 
 -- what was proposed is kept, where the clauses have no fault
@@ -157,7 +157,7 @@ module _ (w v : World) (more : Table) (grown : v.types ≡ w.types ++ more)
   same_addition : (what : Addition) → IsKept w.types w.store what → declaration_of v what ≡ declaration_of w what
   same_addition (Theorem e) k = ap (λ F. a_theorem e.name F e.assumed) (reads e.formula k)
   same_addition (Definition b) k = ap a_block (same_definition b k)
-  same_addition (Clause c) k = ap (λ d. a_program_clause (case_of d)) (same_clause c k.held)
+  same_addition (Clause c h) k = ap (λ d. a_program_clause (case_of d)) (same_clause c k.0.held)
 
   larger : typing.IsExtendedBy (signature w.types) (signature v.types)
   larger = subst (λ t. typing.IsExtendedBy (signature w.types) (signature t)) (sym grown) (same_signature w.types more)
@@ -205,21 +205,30 @@ module _ (w v : World) (more : Table) (grown : v.types ≡ w.types ++ more)
     k.1,
   )
 
+  still_constant : (p : ConstId) → HoldsConstant w.types p → HoldsConstant v.types p
+  still_constant p h = subst (λ t. HoldsConstant t p) (sym grown) (holds_constant w.types more p h)
+
   pub still_kept : (what : Addition) → IsKept w.types w.store what → IsKept v.types v.store what
   still_kept (Theorem e) k = ids e.formula k
   still_kept (Definition b) k = record {
     predicates =
-        All-weaker (HoldsConstant w.types) (HoldsConstant v.types) (λ p h. subst (λ t. HoldsConstant t p) (sym grown) (holds_constant w.types more p h)) b.predicates k.predicates;
+        All-weaker (HoldsConstant w.types) (HoldsConstant v.types) still_constant b.predicates k.predicates;
     clauses = All-weaker (IsKeptClause w.types w.store) (IsKeptClause v.types v.store) clause_kept b.clauses k.clauses;
   }
-  still_kept (Clause c) k = record {
-    held = record {
-      variables = All-weaker (HoldsCell w) (HoldsCell v) cell_ids c.variables k.held.variables;
-      head = ids c.head k.held.head;
-      body = ids c.body k.held.body;
-    };
-    well = subst (IsProgramKept (signature v.types)) (sym (same_clause c k.held)) (still_program (clause_of w.types w.store c) k.well);
-  }
+  still_kept (Clause c h) k = (
+    record {
+      held = record {
+        variables = All-weaker (HoldsCell w) (HoldsCell v) cell_ids c.variables k.0.held.variables;
+        head = ids c.head k.0.held.head;
+        body = ids c.body k.0.held.body;
+      };
+      well = subst (IsProgramKept (signature v.types)) (sym (same_clause c k.0.held)) (still_program (clause_of w.types w.store c) k.0.well);
+    },
+    record {
+      held = still_constant h k.1.held;
+      is = ap head_constant (reads c.head k.0.held.head) ∙ k.1.is ∙ ap Some (sym (same_name h k.1.held));
+    },
+  )
 
   pub all_kept : (xs : List Added) → All (λ (a : Added). IsKept w.types w.store a.what) xs → All (λ (a : Added). IsKept v.types v.store a.what) xs
   all_kept xs = All-weaker (λ (a : Added). IsKept w.types w.store a.what) (λ (a : Added). IsKept v.types v.store a.what) (λ a. still_kept a.what) xs

@@ -24,7 +24,7 @@ behind (table.a_constant c ∷ s) ds = behind s ds
 one_more : (w : World) (what : Addition) (ds : Declarations) → count_added (declaration_of w what ∷ ds) ≡ suc (count_added ds)
 one_more w (Theorem e) ds = refl
 one_more w (Definition b) ds = refl
-one_more w (Clause c) ds = refl
+one_more w (Clause c h) ds = refl
 
 pub as_many : (w : World) (done : ℕ) (xs : List Added) → count_added (declared_from w done xs) ≡ length xs
 as_many w done [] = none_added (drop done w.types)

@@ -1,40 +1,20 @@
 -- The first of what was added, alone: the places that are noted for it.
-use Rattle.std.specs.Prelude.{slice_get, nat_lt}
-use Rattle.std.specs.Option.{option_and_then}
-use Rattle.std.proofs.Common.{◌≡◌, ℕ, zero, suc, ◌+◌, ◌-◌, ◌≤◌, Bool, true, false, if◌then◌else◌, Option, Some, None, List, [], ◌∷◌, length, take, drop, refl, sym, ◌∙◌, ap, subst, arith}
+use Rattle.std.specs.Prelude.{slice_get, nat_lt, IsSome}
+use Rattle.std.specs.Option.{option_and_then, option_to_list}
+use Rattle.std.proofs.Common.{◌≡◌, ℕ, zero, suc, ◌+◌, ◌<◌, ◌≤◌, Bool, true, false, if◌then◌else◌, Option, Some, None, List, [], ◌∷◌, ◌++◌, length, take, refl, sym, ◌∙◌, ap, subst, arith, length-append, append-nil}
+use Rattle.std.proofs.Math.Seq.{take-append_seam}
 use Rattle.std.proofs.lemmas.Bool.{ltb-false, le-ltb}
 use Rattle.std.proofs.lemmas.Bool.Decides.{Decides-ltb}
 use Rattle.ab_store.specs.ab_types.specs.declared.ids.ConstId.{ConstId}
 use Rattle.ab_typing.specs.declared.definitions.Block.{Block}
-use Rattle.ab_logic.specs.Additions.{as_theorem, as_block, theorem_at_place, entries_with, entries_of, places_with, places_from, place_or, block_place, if_there, checked, is_among, IsFiled}
+use Rattle.ab_typing.specs.declared.definitions.ClauseTerm.{ClauseTerm}
+use Rattle.ab_logic.specs.Additions.{as_block, same_constant, places_with, places_from, place_or, block_place, if_there, checked, is_among, head_place, clause_places, without_last, IsFiled}
 use Rattle.ab_logic.specs.declared.additions.Added.{Added}
 use Rattle.ab_logic.specs.declared.additions.TheoremEntry.{TheoremEntry}
 use Rattle.ab_logic.specs.declared.additions.Addition.{Addition}
 use Rattle.ab_logic.specs.declared.additions.Addition.TheVariants.{Theorem, Definition, Clause}
-
--- theorems
-
-front_places : (n k : ℕ) (xs : List Added) → take (length (entries_of (take n xs))) (places_from k xs) ≡ places_from k (take n xs)
-front_places zero k xs = refl
-front_places (suc n) k [] = refl
-front_places (suc n) k (a ∷ xs) = go a.what (front_places n (suc k) xs)
-  where
-    go : (what : Addition) → take (length (entries_of (take n xs))) (places_from (suc k) xs) ≡ places_from (suc k) (take n xs)
-        → take (length (entries_with what (entries_of (take n xs)))) (places_with what k (places_from (suc k) xs)) ≡ places_with what k (places_from (suc k) (take n xs))
-    go (Theorem e) rest = ap (λ (ps : List (List ℕ × ℕ)). (e.name, k) ∷ ps) rest
-    go (Definition b) rest = rest
-    go (Clause c) rest = rest
-
-parts : (n : ℕ) (xs : List Added) → length (entries_of xs) ≡ length (entries_of (take n xs)) + length (entries_of (drop n xs))
-parts zero xs = omega arith
-parts (suc n) [] = refl
-parts (suc n) (a ∷ xs) = go a.what (parts n xs)
-  where
-    go : (what : Addition) → length (entries_of xs) ≡ length (entries_of (take n xs)) + length (entries_of (drop n xs))
-        → length (entries_with what (entries_of xs)) ≡ length (entries_with what (entries_of (take n xs))) + length (entries_of (drop n xs))
-    go (Theorem e) rest = omega (arith, rest)
-    go (Definition b) rest = rest
-    go (Clause c) rest = rest
+use Rattle.ab_logic.proofs.ClausePlaces.{one_more, one_less}
+use Rattle.ab_logic.proofs.Lookups.{places_end}
 
 -- definitions
 
@@ -87,7 +67,7 @@ module _ (p : ConstId) where
       go : (what : Addition) → cut n (block_place (suc k) xs p) ≡ None → cut n (place_or what p k (block_place (suc k) xs p)) ≡ None
       go (Theorem e) rest = rest
       go (Definition b) rest = test (is_among b.predicates p) rest
-      go (Clause c) rest = rest
+      go (Clause c h) rest = rest
 
   place_cut : (k m : ℕ) (xs : List Added) → block_place k (take m xs) p ≡ cut (k + m) (block_place k xs p)
   place_cut k zero xs = sym (after k (k + 0) xs (omega arith))
@@ -103,70 +83,50 @@ module _ (p : ConstId) where
           → place_or what p k (block_place (suc k) (take m xs) p) ≡ cut (k + suc m) (place_or what p k (block_place (suc k) xs p))
       go (Theorem e) rest = rest
       go (Definition b) rest = test (is_among b.predicates p) rest
-      go (Clause c) rest = rest
+      go (Clause c h) rest = rest
 
--- what is noted, cut so, is what is noted of the first
-pub filed_cut : (n m : ℕ) (xs : List Added) (names : List (List ℕ × ℕ)) (places : ConstId → Option ℕ) → m ≡ length (entries_of xs) - length (entries_of (drop n xs)) → IsFiled xs names places → IsFiled (take n xs) (take m names) places
-filed_cut n m xs names places e filed =
-    let all = parts n xs in
-    let left : m ≡ length (entries_of (take n xs)) = omega (arith, e, all) in
-    record {
-      theorems = ap (λ (ns : List (List ℕ × ℕ)). take m ns) filed.theorems ∙ ap (λ k. take k (places_from 0 xs)) left ∙ front_places n 0 xs;
-      definitions = λ p. checked_cut p n xs (places p) ∙ ap (cut n) (filed.definitions p) ∙ sym (place_cut p 0 n xs ∙ ap (λ m. cut m (block_place 0 xs p)) (let same : 0 + n ≡ n = omega arith in same));
-    }
+-- THE LAST OF WHAT WAS ADDED is dropped: what is noted then, where names and heads are as they should be
+module _ (xs : List Added) (a : Added) (names new : List (List ℕ × ℕ)) (places : ConstId → Option ℕ) (heads later : ConstId → List ℕ) (filed : IsFiled (xs ++ a ∷ []) names places heads) where
+  last_dropped : (names ≡ places_from 0 xs ++ places_with a.what (length xs) [] → new ≡ places_from 0 xs)
+      → ((p : ConstId) → heads p ≡ clause_places xs p ++ head_place a.what p (length xs) [] → later p ≡ clause_places xs p) → IsFiled xs new places later
+  last_dropped named noted = record {
+    theorems = named (filed.theorems ∙ places_end 0 xs a ∙ ap (λ k. places_from 0 xs ++ places_with a.what k []) (let same : 0 + length xs ≡ length xs = omega arith in same));
+    definitions = λ p.
+        subst (λ (ys : List Added). option_and_then (checked ys p) (places p) ≡ block_place 0 ys p) (take-append_seam xs (a ∷ []))
+        (checked_cut p (length xs) (xs ++ a ∷ []) (places p) ∙ ap (cut (length xs)) (filed.definitions p)
+        ∙ sym (place_cut p 0 (length xs) (xs ++ a ∷ []) ∙ ap (λ m. cut m (block_place 0 (xs ++ a ∷ []) p)) (let same : 0 + length xs ≡ length xs = omega arith in same)));
+    clauses = λ p. noted p (filed.clauses p ∙ one_more xs a p);
+  }
 
--- THEOREMS BEHIND A PLACE, found one after another
+same_front : {X : Type 0} (xs ys : List X) (x y : X) → xs ++ x ∷ [] ≡ ys ++ y ∷ [] → xs ≡ ys
+same_front xs ys x y e =
+    let same : length xs ≡ length ys = omega (arith, length-append xs (x ∷ []), length-append ys (y ∷ []), ap length e) in
+    sym (take-append_seam xs (x ∷ [])) ∙ ap (take (length xs)) e ∙ ap (λ n. take n (ys ++ y ∷ [])) same ∙ take-append_seam ys (y ∷ [])
 
-nothing_left : {X : Type 0} (xs : List X) (k : ℕ) → length xs ≤ k → drop k xs ≡ []
-nothing_left [] zero l = refl
-nothing_left [] (suc k) l = refl
-nothing_left (x ∷ xs) zero l = absurd (omega (arith, l))
-nothing_left (x ∷ xs) (suc k) l = nothing_left xs k (omega (arith, l))
+-- an element was taken off a list that has one
+last_off : {X : Type 0} (old new front : List X) (r : Option X) (x : X) → old ≡ new ++ option_to_list r → (0 < length old → IsSome r) → old ≡ front ++ x ∷ [] → new ≡ front
+last_off {X = X} old new front None x e found is =
+    let all = length-append front (x ∷ []) in
+    let some : IsSome {T = X} None = found (let less : 0 < length old = omega (arith, ap length is, all) in less) in absurd (cc)
+last_off old new front (Some y) x e found is = same_front new front y x (sym e ∙ is)
 
--- what stands at a place, and how many theorems from there on: one more than behind it, or as many
-next : (k : ℕ) (xs : List Added) → theorem_at_place xs k ≡ None → length (entries_of (drop k xs)) ≡ length (entries_of (drop (suc k) xs))
-next zero [] e = refl
-next (suc k) [] e = refl
-next (suc k) (a ∷ xs) e = next k xs e
-next zero (a ∷ xs) e = go a.what e
-  where
-    go : (what : Addition) → as_theorem what ≡ None → length (entries_with what (entries_of xs)) ≡ length (entries_of xs)
-    go (Theorem x) e = absurd (cc)
-    go (Definition b) e = refl
-    go (Clause c) e = refl
+module _ (xs : List Added) (before : ℕ) (names : List (List ℕ × ℕ)) (places : ConstId → Option ℕ) (heads : ConstId → List ℕ) where
+  pub theorem_off : (e : TheoremEntry) (new : List (List ℕ × ℕ)) (r : Option (List ℕ × ℕ)) → IsFiled (xs ++ record { what = Theorem e; before = before } ∷ []) names places heads
+      → names ≡ new ++ option_to_list r → (0 < length names → IsSome r) → IsFiled xs new places heads
+  theorem_off e new r filed popped found =
+      last_dropped xs (record { what = Theorem e; before = before }) names new places heads heads filed
+      (λ is. last_off names new (places_from 0 xs) r (e.name, length xs) popped found is)
+      (λ p is. is ∙ append-nil (clause_places xs p))
 
-one_next : (k : ℕ) (xs : List Added) (x : TheoremEntry) → theorem_at_place xs k ≡ Some x → length (entries_of (drop k xs)) ≡ suc (length (entries_of (drop (suc k) xs)))
-one_next zero [] x e = absurd (cc)
-one_next (suc k) [] x e = absurd (cc)
-one_next (suc k) (a ∷ xs) x e = one_next k xs x e
-one_next zero (a ∷ xs) x e = go a.what e
-  where
-    go : (what : Addition) → as_theorem what ≡ Some x → length (entries_with what (entries_of xs)) ≡ suc (length (entries_of xs))
-    go (Theorem y) e = refl
-    go (Definition b) e = absurd (cc)
-    go (Clause c) e = absurd (cc)
+  pub definition_off : (b : Block) → IsFiled (xs ++ record { what = Definition b; before = before } ∷ []) names places heads → IsFiled xs names places heads
+  definition_off b filed =
+      last_dropped xs (record { what = Definition b; before = before }) names names places heads heads filed
+      (λ is. is ∙ append-nil (places_from 0 xs))
+      (λ p is. is ∙ append-nil (clause_places xs p))
 
--- so many names are left when the theorems from the one place up to the other are gone
-pub record IsLeft (names from place : ℕ) (xs : List Added) : Type 0 where
-  pub left : names ≡ length (entries_of xs) - (length (entries_of (drop from xs)) - length (entries_of (drop place xs)))
-  pub fewer : length (entries_of (drop place xs)) ≤ length (entries_of (drop from xs))
-
-pub all_left : (names from : ℕ) (xs : List Added) → names ≡ length (entries_of xs) → IsLeft names from from xs
-all_left names from xs e = record { left = omega (arith, e); fewer = omega arith }
-
-pub same_left : (names from place : ℕ) (xs : List Added) → IsLeft names from place xs → theorem_at_place xs place ≡ None → IsLeft names from (place + 1) xs
-same_left names from place xs is e =
-    let same = next place xs e in
-    let more : suc place ≡ place + 1 = omega arith in
-    subst (λ k. IsLeft names from k xs) more (record { left = omega (arith, is.left, same); fewer = omega (arith, is.fewer, same) })
-
-pub one_left : (names from place : ℕ) (xs : List Added) (x : TheoremEntry) → IsLeft names from place xs → theorem_at_place xs place ≡ Some x → IsLeft (names - 1) from (place + 1) xs
-one_left names from place xs x is e =
-    let less = one_next place xs x e in
-    let more : suc place ≡ place + 1 = omega arith in
-    subst (λ k. IsLeft (names - 1) from k xs) more (record { left = omega (arith, is.left, is.fewer, less); fewer = omega (arith, is.fewer, less) })
-
-pub rest_left : (names from place : ℕ) (xs : List Added) → length xs ≤ place → IsLeft names from place xs → names ≡ length (entries_of xs) - length (entries_of (drop from xs))
-rest_left names from place xs l is =
-    let none : length (entries_of (drop place xs)) ≡ 0 = ap (λ ys. length (entries_of ys)) (nothing_left xs place l) in
-    omega (arith, is.left, none)
+  pub clause_off : (c : ClauseTerm) (h : ConstId) (later : ConstId → List ℕ) → IsFiled (xs ++ record { what = Clause c h; before = before } ∷ []) names places heads
+      → ((p : ConstId) → later p ≡ (if same_constant h p then (without_last (heads p)) else (heads p))) → IsFiled xs names places later
+  clause_off c h later filed dropped =
+      last_dropped xs (record { what = Clause c h; before = before }) names names places heads later filed
+      (λ is. is ∙ append-nil (places_from 0 xs))
+      (λ p is. one_less (same_constant h p) (clause_places xs p) (heads p) (later p) (length xs) is (dropped p))

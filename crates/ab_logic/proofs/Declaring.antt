@@ -76,7 +76,7 @@ definitions_declared D s all = definitions_behind D (declared s) all (λ p b e. 
 constant_in_none : (w : World) (what : Addition) (ds : Declarations) → constants_in (declaration_of w what ∷ ds) ≡ constants_in ds
 constant_in_none w (Theorem e) ds = refl
 constant_in_none w (Definition b) ds = refl
-constant_in_none w (AClause c) ds = refl
+constant_in_none w (AClause c h) ds = refl
 
 pub theorem_found : (w : World) (done : ℕ) (xs : List Added) (name : List ℕ) → theorem_in (declared_from w done xs) name ≡ option_map (λ (e : TheoremEntry). read w e.formula) (entry_in xs name)
 theorem_found w done [] name = theorem-declared (drop done w.types) name
@@ -95,7 +95,7 @@ theorem_found w done (a ∷ xs) name =
         → theorem_in (declaration_of w what ∷ declared_from w a.before xs) name ≡ option_map (λ (e : TheoremEntry). read w e.formula) (entry_or what name (entry_in xs name))
     one (Theorem e) rest = test e (bytes_eq name e.name) rest
     one (Definition b) rest = rest
-    one (AClause c) rest = rest
+    one (AClause c h) rest = rest
 
 pub assumed_found : (w : World) (done : ℕ) (xs : List Added) (name : List ℕ) → assumed_in (declared_from w done xs) name ≡ places_in (entry_in xs name)
 assumed_found w done [] name = assumed-declared (drop done w.types) name
@@ -114,7 +114,7 @@ assumed_found w done (a ∷ xs) name =
         → assumed_in (declaration_of w what ∷ declared_from w a.before xs) name ≡ places_in (entry_or what name (entry_in xs name))
     one (Theorem e) rest = test e (bytes_eq name e.name) rest
     one (Definition b) rest = rest
-    one (AClause c) rest = rest
+    one (AClause c h) rest = rest
 
 abbrev pub shown : World → TheoremEntry → List ℕ × Read
 shown w e = (e.name, read w e.formula)
@@ -130,7 +130,7 @@ theorems_are w done (a ∷ xs) =
         → theorems_in (declaration_of w what ∷ declared_from w a.before xs) ≡ map (shown w) (entries_with what (entries_of xs))
     one (Theorem e) rest = ap (λ ts. shown w e ∷ ts) rest
     one (Definition b) rest = rest
-    one (AClause c) rest = rest
+    one (AClause c h) rest = rest
 
 abbrev pub kept_places : TheoremEntry → List ℕ
 kept_places e = e.assumed
@@ -146,7 +146,7 @@ assumptions_are w done (a ∷ xs) =
         → assumptions_in (declaration_of w what ∷ declared_from w a.before xs) ≡ map kept_places (entries_with what (entries_of xs))
     one (Theorem e) rest = ap (λ l. kept_places e ∷ l) rest
     one (Definition b) rest = rest
-    one (AClause c) rest = rest
+    one (AClause c h) rest = rest
 
 pub order_within : (types : Table) (done : ℕ) (xs : List Added) → CameInOrder types done xs → done ≤ length types
 order_within types done [] order = order

@@ -5,6 +5,7 @@ use Rattle.std.proofs.lemmas.List.Elements.{All-nil, All-head, All-tail, All-wea
 use Rattle.ab_store.specs.ab_types.specs.Entries as table
 use Rattle.ab_store.specs.ab_types.specs.Entries.{Table, signature, first_entries}
 use Rattle.ab_store.specs.ab_types.specs.Ids.{type_of}
+use Rattle.ab_store.specs.ab_types.specs.declared.ids.ConstId.{ConstId}
 use Rattle.ab_store.specs.ab_types.proofs.Entries.{same_type}
 use Rattle.ab_store.specs.declared.node.TermId.{TermId}
 use Rattle.ab_store.specs.declared.node.CellId.{CellId}
@@ -20,7 +21,7 @@ use Rattle.ab_typing.specs.declared.definitions.Block.{Block}
 use Rattle.ab_typing.specs.declared.definitions.ClauseTerm.{ClauseTerm}
 use Rattle.ab_formulas.specs.Declarations.{signature_in, IsDefining, HaveSentences, HaveDefinitions}
 use Rattle.ab_formulas.specs.Formulas.{IsSentence}
-use Rattle.ab_logic.specs.Worlds.{read, Holds, HoldsCell, variable_of, declared, definition_of, declaration_of, declared_from, declarations_of, IsKeptBlock, IsKeptProgramClause, clause_read, IsKept, IsWorld}
+use Rattle.ab_logic.specs.Worlds.{read, Holds, HoldsCell, variable_of, declared, definition_of, declaration_of, declared_from, declarations_of, IsKeptBlock, IsKeptProgramClause, IsHeadOf, clause_read, IsKept, IsWorld}
 use Rattle.ab_logic.specs.SequentReadings.{hypothesis_of, sequent_of, HoldsSequent}
 use Rattle.ab_logic.specs.WorldGrowth.{Grows}
 use Rattle.ab_logic.specs.declared.world.World.{World}
@@ -158,10 +159,10 @@ grows_block w b before is last held =
     (definitions_defined (declarations_of w) (definition_of w b) is.definitions
     (subst (λ sg. All (IsDefining sg) (definition_of w b).clauses) (same_constants w is) (block_defines w b held)))
 
-pub grows_clause : (w : World) (c : ClauseTerm) (before : ℕ) → IsWorld w → before ≡ length w.types → IsKeptProgramClause w.types w.store c
-    → Grows w (record { types = w.types; store = w.store; additions = w.additions ++ record { what = Clause c; before = before } ∷ [] })
-grows_clause w c before is last held =
-    grows_added w (record { what = Clause c; before = before }) is last held
+pub grows_clause : (w : World) (c : ClauseTerm) (h : ConstId) (before : ℕ) → IsWorld w → before ≡ length w.types → IsKeptProgramClause w.types w.store c → IsHeadOf w.types w.store c h
+    → Grows w (record { types = w.types; store = w.store; additions = w.additions ++ record { what = Clause c h; before = before } ∷ [] })
+grows_clause w c h before is last held head =
+    grows_added w (record { what = Clause c h; before = before }) is last (held, head)
     (sentences_clause (declarations_of w) (clause_read w c) is.sentences)
     (definitions_clause (declarations_of w) (clause_read w c) is.definitions)
 

@@ -1,3 +1,4 @@
+pub mod ClausePlaces
 pub mod Cutting
 pub mod Counts
 pub mod Counting

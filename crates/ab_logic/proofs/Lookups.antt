@@ -4,7 +4,7 @@ use Rattle.std.specs.Option.{option_map, option_and_then}
 use Rattle.std.specs.Cmp.Lexicographic.{pointwise}
 use Rattle.std.specs.Map.{lookup}
 use Rattle.std.specs.List.{All}
-use Rattle.std.proofs.Common.{◌≡◌, ◌⊎◌, inl, inr, ℕ, zero, suc, ◌+◌, ◌<◌, ◌||◌, nat_eq, Bool, true, false, cond, if◌then◌else◌, Option, Some, None, List, [], ◌∷◌, ◌++◌, take, drop, length, bytes_eq, refl, sym, ◌∙◌, ap, subst, arith, append_assoc, append-nil, length-append}
+use Rattle.std.proofs.Common.{◌≡◌, ◌⊎◌, inl, inr, ℕ, zero, suc, ◌+◌, ◌<◌, ◌||◌, nat_eq, Bool, true, false, cond, if◌then◌else◌, Option, Some, None, List, [], ◌∷◌, ◌++◌, map, take, drop, length, bytes_eq, refl, sym, ◌∙◌, ap, subst, arith, append_assoc, append-nil, length-append}
 use Rattle.std.proofs.lemmas.Bool.Decides.{Decides-eqb}
 use Rattle.std.proofs.lemmas.List.{take-append-drop}
 use Rattle.std.proofs.lemmas.List.Elements.{All-head, All-tail}
@@ -14,11 +14,12 @@ use Rattle.ab_store.specs.ab_types.specs.declared.ids.ConstId.{ConstId}
 use Rattle.ab_store.specs.declared.node.TermId.{TermId}
 use Rattle.ab_typing.specs.declared.definitions.Block.{Block}
 use Rattle.ab_typing.specs.declared.definitions.ClauseTerm.{ClauseTerm}
-use Rattle.ab_logic.specs.Additions.{entry_or, entry_in, entries_with, entries_of, same_constant, is_among, block_or, block_kept, as_theorem, as_block, theorem_at_place, block_at_place, places_with, places_from, place_or, block_place, if_there, checked, IsFiled}
+use Rattle.ab_logic.specs.Additions.{entry_or, entry_in, entries_with, entries_of, same_constant, is_among, block_or, block_kept, as_theorem, as_clause, as_block, theorem_at_place, clause_at_place, block_at_place, places_with, places_from, place_or, block_place, if_there, checked, head_place, head_places, clause_places, IsFiled}
 use Rattle.ab_logic.specs.declared.additions.Added.{Added}
 use Rattle.ab_logic.specs.declared.additions.Addition.{Addition}
 use Rattle.ab_logic.specs.declared.additions.Addition.TheVariants.{Theorem, Definition, Clause}
 use Rattle.ab_logic.specs.declared.additions.TheoremEntry.{TheoremEntry}
+use Rattle.ab_logic.proofs.ClausePlaces.{one_more}
 
 -- elements of a list, by their places
 
@@ -60,7 +61,7 @@ found_from k front (a ∷ xs) = go a.what (theorem_here front a xs) (later (foun
         → option_and_then (theorem_at_place (front ++ a ∷ xs)) (lookup (pointwise nat_eq k) (places_with what (length front) (places_from (suc (length front)) xs))) ≡ entry_or what k (entry_in xs k)
     go (Theorem e) here rest = by_test (theorem_at_place (front ++ a ∷ xs)) (pointwise nat_eq k e.name) (length front) e (lookup (pointwise nat_eq k) (places_from (suc (length front)) xs)) (entry_in xs k) here rest
     go (Definition b) here rest = rest
-    go (Clause c) here rest = rest
+    go (Clause c h) here rest = rest
 
 pub found : (k : List ℕ) (xs : List Added) (names : List (List ℕ × ℕ)) → names ≡ places_from 0 xs → option_and_then (theorem_at_place xs) (lookup (pointwise nat_eq k) names) ≡ entry_in xs k
 found k xs names is = ap (λ es. option_and_then (theorem_at_place xs) (lookup (pointwise nat_eq k) es)) is ∙ found_from k [] xs
@@ -84,7 +85,7 @@ listed_from i front (a ∷ xs) = go a.what (theorem_here front a xs) (λ j. late
     go (Theorem e) here rest zero = here
     go (Theorem e) here rest (suc j) = rest j
     go (Definition b) here rest j = rest j
-    go (Clause c) here rest j = rest j
+    go (Clause c h) here rest j = rest j
 
 pub listed : (i : ℕ) (xs : List Added) (names : List (List ℕ × ℕ)) → names ≡ places_from 0 xs → option_and_then (λ (p : List ℕ × ℕ). theorem_at_place xs p.1) (slice_get names i) ≡ slice_get (entries_of xs) i
 listed i xs names is = ap (λ (es : List (List ℕ × ℕ)). option_and_then (λ (p : List ℕ × ℕ). theorem_at_place xs p.1) (slice_get es i)) is ∙ listed_from i [] xs
@@ -96,14 +97,14 @@ counted_from n (a ∷ xs) = go a.what (counted_from (suc n) xs)
     go : (what : Addition) → length (places_from (suc n) xs) ≡ length (entries_of xs) → length (places_with what n (places_from (suc n) xs)) ≡ length (entries_with what (entries_of xs))
     go (Theorem e) rest = ap suc rest
     go (Definition b) rest = rest
-    go (Clause c) rest = rest
+    go (Clause c h) rest = rest
 
 pub counted : (xs : List Added) (names : List (List ℕ × ℕ)) → names ≡ places_from 0 xs → length names ≡ length (entries_of xs)
 counted xs names is = ap length is ∙ counted_from 0 xs
 
 -- one more at the end
 
-places_end : (n : ℕ) (xs : List Added) (a : Added) → places_from n (xs ++ a ∷ []) ≡ places_from n xs ++ places_with a.what (n + length xs) []
+pub places_end : (n : ℕ) (xs : List Added) (a : Added) → places_from n (xs ++ a ∷ []) ≡ places_from n xs ++ places_with a.what (n + length xs) []
 places_end n [] a = ap (λ k. places_with a.what k []) (let same : n ≡ n + 0 = omega arith in same)
 places_end n (b ∷ xs) a = go b.what (places_end (suc n) xs a ∙ ap (λ k. places_from (suc n) xs ++ places_with a.what k []) (let same : suc n + length xs ≡ n + suc (length xs) = omega arith in same))
   where
@@ -111,7 +112,7 @@ places_end n (b ∷ xs) a = go b.what (places_end (suc n) xs a ∙ ap (λ k. pla
         → places_with what n (places_from (suc n) (xs ++ a ∷ [])) ≡ places_with what n (places_from (suc n) xs) ++ places_with a.what (n + suc (length xs)) []
     go (Theorem e) rest = ap (λ l. (e.name, n) ∷ l) rest
     go (Definition b) rest = rest
-    go (Clause c) rest = rest
+    go (Clause c h) rest = rest
 
 kept_end : (xs : List Added) (a : Added) (p : ConstId) → as_block a.what p ≡ None → block_kept (xs ++ a ∷ []) p ≡ block_kept xs p
 kept_end [] a p none = none
@@ -129,7 +130,7 @@ kept_new (b ∷ xs) a p none = go b.what (kept_new xs a p) none
     go : (what : Addition) → (block_kept xs p ≡ None → block_kept (xs ++ a ∷ []) p ≡ as_block a.what p)
         → block_or what p (block_kept xs p) ≡ None → block_or what p (block_kept (xs ++ a ∷ []) p) ≡ as_block a.what p
     go (Theorem e) rest n = rest n
-    go (Clause c) rest n = rest n
+    go (Clause c h) rest n = rest n
     go (Definition c) rest n = test c (is_among c.predicates p) rest n
 
 -- a place of the list leads where it led, and what stands at the end is no definition of the predicate
@@ -180,7 +181,7 @@ place_leads p front (a ∷ xs) = go a.what (block_here front a xs p) (later (pla
         → option_and_then (block_at_place (front ++ a ∷ xs) p) (block_place (suc (length front)) xs p) ≡ block_kept xs p
         → option_and_then (block_at_place (front ++ a ∷ xs) p) (place_or what p (length front) (block_place (suc (length front)) xs p)) ≡ block_or what p (block_kept xs p)
     go (Theorem e) here rest = rest
-    go (Clause c) here rest = rest
+    go (Clause c h) here rest = rest
     go (Definition b) here rest = test b (is_among b.predicates p) (length front) (block_place (suc (length front)) xs p) (block_kept xs p) here rest
 
 pub block_found : (xs : List Added) (p : ConstId) (o : Option ℕ) → option_and_then (checked xs p) o ≡ block_place 0 xs p → option_and_then (block_at_place xs p) o ≡ block_kept xs p
@@ -189,7 +190,7 @@ block_found xs p o is = sym (checked_leads xs p o) ∙ ap (option_and_then (bloc
 -- the first place stays what it was where no definition of the predicate is put behind
 place_none : (what : Addition) (p : ConstId) (n : ℕ) → as_block what p ≡ None → place_or what p n None ≡ None
 place_none (Theorem e) p n none = refl
-place_none (Clause c) p n none = refl
+place_none (Clause c h) p n none = refl
 place_none (Definition b) p n none = go (is_among b.predicates p) none
   where
     go : (t : Bool) → (if t then Some b else None) ≡ None → (if t then Some n else None) ≡ None
@@ -211,7 +212,7 @@ no_place n (b ∷ xs) p none = go b.what (no_place (suc n) xs p) none
 
     go : (what : Addition) → (block_kept xs p ≡ None → block_place (suc n) xs p ≡ None) → block_or what p (block_kept xs p) ≡ None → place_or what p n (block_place (suc n) xs p) ≡ None
     go (Theorem e) rest m = rest m
-    go (Clause c) rest m = rest m
+    go (Clause c h) rest m = rest m
     go (Definition c) rest m = test c (is_among c.predicates p) rest m
 
 place_new : (n : ℕ) (xs : List Added) (a : Added) (p : ConstId) → block_kept xs p ≡ None → block_place n (xs ++ a ∷ []) p ≡ place_or a.what p (n + length xs) None
@@ -225,7 +226,7 @@ place_new n (b ∷ xs) a p none = go b.what (λ m. place_new (suc n) xs a p m �
     go : (what : Addition) → (block_kept xs p ≡ None → block_place (suc n) (xs ++ a ∷ []) p ≡ place_or a.what p (n + suc (length xs)) None)
         → block_or what p (block_kept xs p) ≡ None → place_or what p n (block_place (suc n) (xs ++ a ∷ []) p) ≡ place_or a.what p (n + suc (length xs)) None
     go (Theorem e) rest m = rest m
-    go (Clause c) rest m = rest m
+    go (Clause c h) rest m = rest m
     go (Definition c) rest m = test c (is_among c.predicates p) (block_place (suc n) (xs ++ a ∷ []) p) (place_or a.what p (n + suc (length xs)) None) rest m
 
 checked_end : (xs : List Added) (a : Added) (p : ConstId) → as_block a.what p ≡ None → (o : Option ℕ) → option_and_then (checked (xs ++ a ∷ []) p) o ≡ option_and_then (checked xs p) o
@@ -237,12 +238,16 @@ one_on : (xs : List Added) (a : Added) (p : ConstId) (o : Option ℕ) → as_blo
     → option_and_then (checked (xs ++ a ∷ []) p) o ≡ block_place 0 (xs ++ a ∷ []) p
 one_on xs a p o none is = checked_end xs a p none o ∙ is ∙ sym (place_end 0 xs a p none)
 
-pub nothing_filed : (places : ConstId → Option ℕ) → IsFiled [] [] places
-nothing_filed places = record { theorems = refl; definitions = λ p. go p (places p) }
+pub nothing_filed : (places : ConstId → Option ℕ) (heads : ConstId → List ℕ) → ((p : ConstId) → heads p ≡ []) → IsFiled [] [] places heads
+nothing_filed places heads none = record { theorems = refl; definitions = λ p. go p (places p); clauses = none }
   where
     go : (p : ConstId) (o : Option ℕ) → option_and_then (checked [] p) o ≡ None
     go p None = refl
     go p (Some i) = refl
+
+-- what is no clause is put behind
+same_heads : (xs : List Added) (a : Added) (p : ConstId) (is : List ℕ) → is ≡ clause_places xs p → head_place a.what p (length xs) [] ≡ [] → is ≡ clause_places (xs ++ a ∷ []) p
+same_heads xs a p is e none = e ∙ sym (one_more xs a p ∙ ap (λ js. clause_places xs p ++ js) none ∙ append-nil (clause_places xs p))
 
 -- a theorem is filed
 
@@ -258,11 +263,11 @@ not_noted k n (a ∷ xs) none = go a.what (not_noted k (suc n) xs) none
     go : (what : Addition) → (entry_in xs k ≡ None → lookup (pointwise nat_eq k) (places_from (suc n) xs) ≡ None) → entry_or what k (entry_in xs k) ≡ None → lookup (pointwise nat_eq k) (places_with what n (places_from (suc n) xs)) ≡ None
     go (Theorem e) rest m = test e (pointwise nat_eq k e.name) rest m
     go (Definition b) rest m = rest m
-    go (Clause c) rest m = rest m
+    go (Clause c h) rest m = rest m
 
-module _ {S : Type 0} (m : IndexMap (List ℕ) ℕ S) (xs : List Added) (places : ConstId → Option ℕ) (filed : IsFiled xs m.entries places) where
+module _ {S : Type 0} (m : IndexMap (List ℕ) ℕ S) (xs : List Added) (places : ConstId → Option ℕ) (heads : ConstId → List ℕ) (filed : IsFiled xs m.entries places heads) where
   pub theorem_filed : (k : List ℕ) (e : TheoremEntry) (before : ℕ) (es : List (List ℕ × ℕ)) (n : ℕ) → entry_in xs k ≡ None → n ≡ length xs → e.name ≡ k
-      → es ≡ insert_entry (pointwise nat_eq) m.entries k n → IsFiled (xs ++ record { what = Theorem e; before = before } ∷ []) es places
+      → es ≡ insert_entry (pointwise nat_eq) m.entries k n → IsFiled (xs ++ record { what = Theorem e; before = before } ∷ []) es places heads
   theorem_filed k e before es n new end named put = record {
     theorems =
         put
@@ -273,17 +278,28 @@ module _ {S : Type 0} (m : IndexMap (List ℕ) ℕ S) (xs : List Added) (places 
         ∙ ap (λ i. places_from 0 xs ++ (e.name, i) ∷ []) (let same : length xs ≡ 0 + length xs = omega arith in same)
         ∙ sym (places_end 0 xs (record { what = Theorem e; before = before }));
     definitions = λ p. one_on xs (record { what = Theorem e; before = before }) p (places p) refl (filed.definitions p);
+    clauses = λ p. same_heads xs (record { what = Theorem e; before = before }) p (heads p) (filed.clauses p) refl;
   }
 
 -- a clause of the program is filed
-pub clause_filed : (xs : List Added) (names : List (List ℕ × ℕ)) (places : ConstId → Option ℕ) (c : ClauseTerm) (before : ℕ) → IsFiled xs names places
-    → IsFiled (xs ++ record { what = Clause c; before = before } ∷ []) names places
-clause_filed xs names places c before filed =
-    let a : Added = record { what = Clause c; before = before } in
+pub clause_filed : (xs : List Added) (names : List (List ℕ × ℕ)) (places : ConstId → Option ℕ) (heads new : ConstId → List ℕ) (c : ClauseTerm) (h : ConstId) (before : ℕ) (n : ℕ) → IsFiled xs names places heads
+    → n ≡ length xs → ((p : ConstId) → new p ≡ heads p ++ (if same_constant h p then (n ∷ []) else []))
+    → IsFiled (xs ++ record { what = Clause c h; before = before } ∷ []) names places new
+clause_filed xs names places heads new c h before n filed end put =
+    let a : Added = record { what = Clause c h; before = before } in
     record {
       theorems = filed.theorems ∙ sym (places_end 0 xs a ∙ append-nil (places_from 0 xs));
       definitions = λ p. one_on xs a p (places p) refl (filed.definitions p);
+      clauses = λ p.
+          put p
+          ∙ ap (λ is. is ++ (if same_constant h p then (n ∷ []) else [])) (filed.clauses p)
+          ∙ ap (λ k. clause_places xs p ++ (if same_constant h p then (k ∷ []) else [])) end
+          ∙ sym (one_more xs a p);
     }
+
+-- it isn't put behind
+pub clause_dropped : (xs : List Added) (names : List (List ℕ × ℕ)) (places : ConstId → Option ℕ) (heads new : ConstId → List ℕ) → IsFiled xs names places heads → ((p : ConstId) → new p ≡ heads p) → IsFiled xs names places new
+clause_dropped xs names places heads new filed same = record { theorems = filed.theorems; definitions = filed.definitions; clauses = λ p. same p ∙ filed.clauses p }
 
 -- a definition is filed
 
@@ -296,10 +312,10 @@ one_of P (q ∷ ps) p all e = go (same_constant q p) refl (one_of P ps p (All-ta
     go true s rest f = subst P (ap (λ n. record { 0 = n }) ((Decides-eqb q.0 p.0).0 s)) (All-head P q ps all)
     go false s rest f = rest f
 
-module _ (xs : List Added) (names : List (List ℕ × ℕ)) (old new : ConstId → Option ℕ) (filed : IsFiled xs names old) (b : Block) (none : All (λ p. block_kept xs p ≡ None) b.predicates) where
+module _ (xs : List Added) (names : List (List ℕ × ℕ)) (old new : ConstId → Option ℕ) (heads : ConstId → List ℕ) (filed : IsFiled xs names old heads) (b : Block) (none : All (λ p. block_kept xs p ≡ None) b.predicates) where
   -- it isn't put behind
-  pub definition_dropped : (n : ℕ) → n ≡ length xs → ((p : ConstId) → (new p ≡ old p) ⊎ ((new p ≡ Some n) × (is_among b.predicates p ≡ true))) → IsFiled xs names new
-  definition_dropped n end part = record { theorems = filed.theorems; definitions = λ p. go p (part p) }
+  pub definition_dropped : (n : ℕ) → n ≡ length xs → ((p : ConstId) → (new p ≡ old p) ⊎ ((new p ≡ Some n) × (is_among b.predicates p ≡ true))) → IsFiled xs names new heads
+  definition_dropped n end part = record { theorems = filed.theorems; definitions = λ p. go p (part p); clauses = filed.clauses }
     where
       go : (p : ConstId) → (new p ≡ old p) ⊎ ((new p ≡ Some n) × (is_among b.predicates p ≡ true)) → option_and_then (checked xs p) (new p) ≡ block_place 0 xs p
       go p (inl same) = ap (option_and_then (checked xs p)) same ∙ filed.definitions p
@@ -310,10 +326,11 @@ module _ (xs : List Added) (names : List (List ℕ × ℕ)) (old new : ConstId �
           ∙ sym (no_place 0 xs p (one_of (λ q. block_kept xs q ≡ None) b.predicates p none at.1))
 
   pub definition_filed : (n before : ℕ) → n ≡ length xs → ((p : ConstId) → new p ≡ (if is_among b.predicates p then Some n else old p))
-      → IsFiled (xs ++ record { what = Definition b; before = before } ∷ []) names new
+      → IsFiled (xs ++ record { what = Definition b; before = before } ∷ []) names new heads
   definition_filed n before end put = record {
     theorems = filed.theorems ∙ sym (places_end 0 xs a ∙ append-nil (places_from 0 xs));
     definitions = λ p. go p (is_among b.predicates p) refl (put p);
+    clauses = λ p. same_heads xs a p (heads p) (filed.clauses p) refl;
   }
     where
       a : Added
@@ -346,7 +363,7 @@ held_entry P Q of_theorem (a ∷ xs) k all = go a.what (All-head (λ (b : Added)
         → IfSome (option_map (λ (e : TheoremEntry). e.formula) (entry_or what k (entry_in xs k))) Q
     go (Theorem e) p rest = test e (bytes_eq k e.name) (of_theorem e p) rest
     go (Definition b) p rest = rest
-    go (Clause c) p rest = rest
+    go (Clause c h) p rest = rest
 
 -- places that are noted one after another
 
@@ -391,3 +408,40 @@ put_some p n i ps old new e = go (is_among (take i ps) p) refl e
     go : (t : Bool) → is_among (take i ps) p ≡ t → new ≡ (if t then Some n else old) → (new ≡ old) ⊎ ((new ≡ Some n) × (is_among ps p ≡ true))
     go true t f = inr (f, ap (λ qs. is_among qs p) (sym (take-append-drop i ps)) ∙ still_among (take i ps) (drop i ps) p t)
     go false t f = inl f
+
+-- clauses by the constant at their head
+
+abbrev pub headed_with : Addition → ConstId → List ClauseTerm → List ClauseTerm
+headed_with (Theorem e) p rest = rest
+headed_with (Definition b) p rest = rest
+headed_with (Clause c h) p rest = if same_constant h p then (c ∷ rest) else rest
+
+abbrev pub clauses_headed : List Added → ConstId → List ClauseTerm
+clauses_headed [] p = []
+clauses_headed (a ∷ xs) p = headed_with a.what p (clauses_headed xs p)
+
+heads_lead : (p : ConstId) (front xs : List Added) → map (clause_at_place (front ++ xs)) (head_places (length front) xs p) ≡ map Some (clauses_headed xs p)
+heads_lead p front [] = refl
+heads_lead p front (a ∷ xs) = go a.what (ap (option_and_then (λ (b : Added). as_clause b.what)) (element_here front a xs)) (later (heads_lead p (front ++ a ∷ []) xs))
+  where
+    later : map (clause_at_place ((front ++ a ∷ []) ++ xs)) (head_places (length (front ++ a ∷ [])) xs p) ≡ map Some (clauses_headed xs p)
+        → map (clause_at_place (front ++ a ∷ xs)) (head_places (suc (length front)) xs p) ≡ map Some (clauses_headed xs p)
+    later rest =
+        ap (λ (zs : List Added). map (clause_at_place zs) (head_places (suc (length front)) xs p)) (sym (append_assoc front (a ∷ []) xs))
+        ∙ ap (λ n. map (clause_at_place ((front ++ a ∷ []) ++ xs)) (head_places n xs p)) (sym (one_longer front a))
+        ∙ rest
+
+    test : (c : ClauseTerm) (t : Bool) → clause_at_place (front ++ a ∷ xs) (length front) ≡ Some c → map (clause_at_place (front ++ a ∷ xs)) (head_places (suc (length front)) xs p) ≡ map Some (clauses_headed xs p)
+        → map (clause_at_place (front ++ a ∷ xs)) (if t then (length front ∷ head_places (suc (length front)) xs p) else (head_places (suc (length front)) xs p)) ≡ map Some (if t then (c ∷ clauses_headed xs p) else (clauses_headed xs p))
+    test c true here rest = ap (λ (o : Option ClauseTerm). o ∷ map (clause_at_place (front ++ a ∷ xs)) (head_places (suc (length front)) xs p)) here ∙ ap (λ (os : List (Option ClauseTerm)). Some c ∷ os) rest
+    test c false here rest = rest
+
+    go : (what : Addition) → clause_at_place (front ++ a ∷ xs) (length front) ≡ as_clause what → map (clause_at_place (front ++ a ∷ xs)) (head_places (suc (length front)) xs p) ≡ map Some (clauses_headed xs p)
+        → map (clause_at_place (front ++ a ∷ xs)) (head_place what p (length front) (head_places (suc (length front)) xs p)) ≡ map Some (headed_with what p (clauses_headed xs p))
+    go (Theorem e) here rest = rest
+    go (Definition b) here rest = rest
+    go (Clause c h) here rest = test c (same_constant h p) here rest
+
+-- the places of a head lead to its clauses, in order
+pub places_lead : (xs : List Added) (p : ConstId) → map (clause_at_place xs) (clause_places xs p) ≡ map Some (clauses_headed xs p)
+places_lead xs p = heads_lead p [] xs

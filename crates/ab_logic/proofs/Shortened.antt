@@ -41,7 +41,7 @@ entry_front (suc n) (a ∷ xs) name e there = go a.what (entry_front n xs name e
     go : (what : Addition) → (entry_in (take n xs) name ≡ Some e → entry_in xs name ≡ Some e) → entry_or what name (entry_in (take n xs) name) ≡ Some e → entry_or what name (entry_in xs name) ≡ Some e
     go (Theorem f) rest q = test f (bytes_eq name f.name) rest q
     go (Definition b) rest q = rest q
-    go (Clause c) rest q = rest q
+    go (Clause c h) rest q = rest q
 
 same_declared : (w : World) (ys : List Added) (done : ℕ) (xs : List Added) → declared_from (with_additions w ys) done xs ≡ declared_from w done xs
 same_declared w ys done [] = refl
@@ -80,7 +80,7 @@ module _ (w : World) where
       go : (what : Addition) → (block_in (declared_from w a.before (take n xs)) p ≡ Some b → block_in (declared_from w a.before xs) p ≡ Some b)
           → block_in (declaration_of w what ∷ declared_from w a.before (take n xs)) p ≡ Some b → block_in (declaration_of w what ∷ declared_from w a.before xs) p ≡ Some b
       go (Theorem e) rest q = rest q
-      go (Clause c) rest q = rest q
+      go (Clause c h) rest q = rest q
       go (Definition c) rest q = test (definition_of w c) (list_any (bytes_eq p) (definition_of w c).predicates) rest q
 
   -- what is declared then
@@ -100,12 +100,12 @@ module _ (w : World) where
   dropped : (what : Addition) (D : Declarations) → with_first 0 (declaration_of w what ∷ D) ≡ with_first 0 D
   dropped (Theorem e) D = refl
   dropped (Definition b) D = refl
-  dropped (Clause c) D = refl
+  dropped (Clause c h) D = refl
 
   stays : (n : ℕ) (what : Addition) (D : Declarations) → with_first (suc n) (declaration_of w what ∷ D) ≡ declaration_of w what ∷ with_first n D
   stays n (Theorem e) D = refl
   stays n (Definition b) D = refl
-  stays n (Clause c) D = refl
+  stays n (Clause c h) D = refl
 
   declared_front : (n done : ℕ) (xs : List Added) → CameInOrder w.types done xs → declared_from w done (take n xs) ≡ with_first n (declared_from w done xs)
   declared_front zero done [] order = sym (all_declared 0 (drop done w.types))

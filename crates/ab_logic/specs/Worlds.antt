@@ -1,19 +1,20 @@
 -- What a world stands for: what its ids read as, and the declarations in it.
-use Rattle.std.specs.Prelude.{◌≡◌, ℕ, suc, ◌-◌, ◌≤◌, List, [], ◌∷◌, ◌++◌, map, length, take, drop, codes, true, All}
+use Rattle.std.specs.Prelude.{◌≡◌, ℕ, suc, ◌-◌, ◌≤◌, List, [], ◌∷◌, ◌++◌, map, length, take, drop, codes, true, All, Option, Some, None}
 use Rattle.ab_store.specs.ab_types.specs.Ids.{type_of, HoldsConstant}
+use Rattle.ab_store.specs.ab_types.specs.declared.ids.ConstId.{ConstId}
 use Rattle.ab_store.specs.ab_types.specs.Entries as table
 use Rattle.ab_store.specs.ab_types.specs.Entries.{Table, signature, first_entries}
 use Rattle.ab_store.specs.declared.node.TermId.{TermId}
 use Rattle.ab_store.specs.declared.node.CellId.{CellId}
 use Rattle.ab_store.specs.Trees as store
-use Rattle.ab_term.specs.Terms.{Read}
+use Rattle.ab_term.specs.Terms.{constant, spine, Read}
 use Rattle.ab_store.specs.Trees.{Contents, tree_of}
 use Rattle.ab_store.specs.Naming.{IsTypedBy}
 use Rattle.ab_unifiers.specs.Member.{member_clauses}
 use Rattle.ab_unifiers.specs.Clauses as cases
 use Rattle.ab_formulas.specs.Clauses as kept
 use Rattle.ab_formulas.specs.CaseClauses.{case_of, IsWellKept}
-use Rattle.ab_typing.specs.DefinitionReadings.{clause_of, block_of, HoldsClause}
+use Rattle.ab_typing.specs.DefinitionReadings.{name_of, clause_of, block_of, HoldsClause}
 use Rattle.ab_typing.specs.declared.definitions.Block.{Block as KeptBlock}
 use Rattle.ab_typing.specs.declared.definitions.ClauseTerm.{ClauseTerm}
 use Rattle.ab_formulas.specs.Formulas.{IsFormula}
@@ -57,6 +58,11 @@ defined b = record { inductive = b.inductive; predicates = b.predicates; clauses
 abbrev pub definition_of : World → KeptBlock → Block
 definition_of w b = defined (block_of w.types w.store b)
 
+-- the constant at the term's head, if one is there
+abbrev pub head_constant : Read → Option (List ℕ)
+head_constant (spine (constant p) ts) = Some p
+head_constant _ = None
+
 -- a clause of the program, as it is kept by its terms
 abbrev pub clause_read : World → ClauseTerm → cases.Clause (List ℕ)
 clause_read w c = case_of (clause_of w.types w.store c)
@@ -65,7 +71,7 @@ clause_read w c = case_of (clause_of w.types w.store c)
 abbrev pub declaration_of : World → Addition → Declaration
 declaration_of w (Theorem e) = a_theorem e.name (read w e.formula) e.assumed
 declaration_of w (Definition b) = a_block (definition_of w b)
-declaration_of w (Clause c) = a_program_clause (clause_read w c)
+declaration_of w (Clause c h) = a_program_clause (clause_read w c)
 
 -- what was declared behind the first `done` entries of the table: each addition stands behind the entries that were
 -- there when it was made
@@ -114,11 +120,16 @@ module _ (types : Table) (terms : Contents) where
     pub predicates : All (HoldsConstant types) b.predicates
     pub clauses : All IsKeptClause b.clauses
 
+  -- the constant is there, and stands at the clause's head
+  pub record IsHeadOf (c : ClauseTerm) (h : ConstId) : Type 0 where
+    pub held : HoldsConstant types h
+    pub is : head_constant (tree_of types terms c.head) ≡ Some (name_of types h)
+
   -- what is added is there
   abbrev pub IsKept : Addition → Type 0
   IsKept (Theorem e) = store.Holds terms e.formula
   IsKept (Definition b) = IsKeptBlock b
-  IsKept (Clause c) = IsKeptProgramClause c
+  IsKept (Clause c h) = IsKeptProgramClause c × IsHeadOf c h
 
 -- WHAT IS TRUE OF EVERY WORLD: its table begins with what is built in, its store is of its table, no cell is bound, each
 -- theorem is a formula that speaks of no goal, and each definition is by clauses that define

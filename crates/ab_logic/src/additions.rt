@@ -1,8 +1,8 @@
 //! What was added to a world behind kinds and constants, in order: definitions, clauses of the program, theorems.
-ghost use Rattle.std.specs.Prelude.{◌≡◌, ◌⊎◌, [], ◌∷◌, ◌++◌, take, length, OnOk, OnErr, slice_get, true, None, Some, All, if◌then◌else◌};
+ghost use Rattle.std.specs.Prelude.{◌≡◌, ◌⊎◌, ◌-◌, [], ◌∷◌, ◌++◌, take, length, OnOk, OnErr, slice_get, true, None, Some, All, if◌then◌else◌};
 ghost use Rattle.std.specs.HashMap.{get};
 ghost use Rattle.std.specs.Option.{option_map, option_copied};
-ghost use Rattle.ab_logic.specs.Additions.{same_constant, is_among, as_theorem, as_block, as_clause, theorem_at_place, block_at_place, clause_at_place, entry_in, entries_of, places_in, block_kept};
+ghost use Rattle.ab_logic.specs.Additions.{same_constant, is_among, as_theorem, as_block, as_clause, theorem_at_place, block_at_place, clause_at_place, entry_in, entries_of, places_in, block_kept, clause_places, noted, without_last};
 ghost use Rattle.ab_logic.specs.declared.additions.Addition.TheVariants.{Theorem, Definition, Clause};
 
 use crate::lists::Places;
@@ -29,7 +29,8 @@ pub struct TheoremEntry {
 pub enum Addition {
     Theorem(TheoremEntry),
     Definition(Block),
-    Clause(ClauseTerm),
+    /// A clause of the program, and the constant at its head.
+    Clause(ClauseTerm, ConstId),
 }
 
 impl Addition {
@@ -40,7 +41,7 @@ impl Addition {
         match self {
             Addition::Theorem(entry) => Some(entry),
             Addition::Definition(_) => None,
-            Addition::Clause(_) => None,
+            Addition::Clause(_, _) => None,
         }
     }
 
@@ -51,7 +52,7 @@ impl Addition {
         match self {
             Addition::Theorem(_) => None,
             Addition::Definition(_) => None,
-            Addition::Clause(clause) => Some(clause),
+            Addition::Clause(clause, _) => Some(clause),
         }
     }
 
@@ -61,7 +62,7 @@ impl Addition {
     {
         match self {
             Addition::Theorem(_) => None,
-            Addition::Clause(_) => None,
+            Addition::Clause(_, _) => None,
             Addition::Definition(block) => {
                 if block.predicates.as_slice().contains(&predicate) {
                     Some(block)
@@ -80,12 +81,14 @@ pub struct Added {
     pub(crate) before: usize,
 }
 
-/// Theorems and definitions in order, looked up by name and by predicate. Contracts see the list.
+/// Theorems, definitions and clauses of the program in order, looked up by name, by predicate and by head. Contracts see
+/// the list.
 #[derive(Drop)]
 pub(crate) struct Additions {
     list: Vec<Added>,
     by_name: IndexMap<Name, usize>,
     by_predicate: HashMap<ConstId, usize>,
+    by_head: HashMap<ConstId, Vec<usize>>,
 }
 
 impl Model for Additions {
@@ -95,11 +98,11 @@ impl Model for Additions {
 
     ghost Value = { List Added };
 
-    ghost use Rattle.ab_logic.specs.Additions.{same_constant, IsFiled};
+    ghost use Rattle.ab_logic.specs.Additions.{same_constant, noted, IsFiled};
 
     ghost view = { λ a. a.list.items };
 
-    ghost invariant = { λ a. IsFiled a.list.items a.by_name.entries (get same_constant a.by_predicate) };
+    ghost invariant = { λ a. IsFiled a.list.items a.by_name.entries (get same_constant a.by_predicate) (noted a.by_head) };
 }
 
 impl Additions {
@@ -111,6 +114,7 @@ impl Additions {
             list: Vec::new(alloc),
             by_name: IndexMap::new(alloc),
             by_predicate: HashMap::new(alloc),
+            by_head: HashMap::new(alloc),
         }
     }
 
@@ -143,6 +147,16 @@ impl Additions {
         match self.list.get(place) {
             None => None,
             Some(added) => added.what.clause(),
+        }
+    }
+
+    /// The places of the clauses of the program with the constant at their head, in order.
+    pub(crate) fn clause_places(&self, head: ConstId) -> &[usize]
+        ensures { result.now ≡ clause_places self.now head }
+    {
+        match self.by_head.get(&head) {
+            None => &[],
+            Some(places) => places.as_slice(),
         }
     }
 
@@ -263,13 +277,21 @@ impl Additions {
         Ok(())
     }
 
-    /// Puts a clause of the program behind the others.
-    pub(crate) fn add_clause(&mut self, clause: ClauseTerm, before: usize) -> Result<(), AllocError>
-        ensures added { OnOk result (self.new ≡ self.old ++ record { what = Clause clause; before = before } ∷ []) }
+    /// Puts a clause of the program, with the constant at its head, behind the others.
+    pub(crate) fn add_clause(
+        &mut self,
+        clause: ClauseTerm,
+        head: ConstId,
+        before: usize,
+    ) -> Result<(), AllocError>
+        ensures added { OnOk result (self.new ≡ self.old ++ record { what = Clause clause head; before = before } ∷ []) }
         ensures err { OnErr result (self.new ≡ self.old) }
     {
+        let alloc = self.alloc();
+        let place = self.list.len();
         self.list.reserve(1)?;
-        let what = Addition::Clause(clause);
+        note_place(alloc, &mut self.by_head, head, place)?;
+        let what = Addition::Clause(clause, head);
         self.list.push_reserved(Added { what, before });
         Ok(())
     }
@@ -278,15 +300,26 @@ impl Additions {
     pub(crate) fn truncate(&mut self, len: usize)
         ensures { self.new ≡ take len self.old }
     {
-        let mut names = self.by_name.len();
         for place in len..self.list.len() {
-            match self.theorem_in(place) {
-                None => {}
-                Some(_) => names = names.saturating_sub(1),
-            }
+            let _ = place;
+            self.drop_last();
         }
-        self.by_name.truncate(names);
-        self.list.truncate(len);
+    }
+
+    /// Drops the last addition.
+    fn drop_last(&mut self)
+        ensures { self.new ≡ take (length self.old - 1) self.old }
+    {
+        let Some(added) = self.list.pop() else {
+            return;
+        };
+        match &added.what {
+            Addition::Theorem(_) => {
+                let _ = self.by_name.pop();
+            }
+            Addition::Definition(_) => {}
+            Addition::Clause(_, head) => drop_place(&mut self.by_head, *head),
+        }
     }
 }
 
@@ -305,4 +338,32 @@ fn file_all(
         places.insert(*predicate, place)?;
     }
     Ok(())
+}
+
+/// Notes the place behind those of the constant.
+fn note_place(
+    alloc: Global,
+    places: &mut HashMap<ConstId, Vec<usize>>,
+    head: ConstId,
+    place: usize,
+) -> Result<(), AllocError>
+    ensures noted { OnOk result ((p : ConstId) → noted places.new p ≡ noted places.old p ++ (if same_constant head p then (place ∷ []) else [])) }
+    ensures err { OnErr result ((p : ConstId) → noted places.new p ≡ noted places.old p) }
+{
+    if let Some(found) = places.get_mut(&head) {
+        found.push(place)?;
+        return Ok(());
+    }
+    let first = vec![in alloc; place]?;
+    places.insert(head, first)?;
+    Ok(())
+}
+
+/// Drops the last of the constant's places.
+fn drop_place(places: &mut HashMap<ConstId, Vec<usize>>, head: ConstId)
+    ensures { (p : ConstId) → noted places.new p ≡ (if same_constant head p then (without_last (noted places.old p)) else (noted places.old p)) }
+{
+    if let Some(found) = places.get_mut(&head) {
+        let _ = found.pop();
+    }
 }

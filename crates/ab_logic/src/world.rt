@@ -1,5 +1,5 @@
 //! Worlds: what was declared, and the terms that are shared.
-ghost use Rattle.std.specs.Prelude.{◌≡◌, ◌⊎◌, ◌+◌, ◌-◌, ◌≤◌, [], ◌∷◌, ◌++◌, take, IsTrue, IsFalse, map, length, IfOk, IfSome, OnOk, OnErr, IfErr, IsSome, slice_get, Some, None, Err, All};
+ghost use Rattle.std.specs.Prelude.{◌≡◌, ◌⊎◌, ◌+◌, ◌-◌, ◌≤◌, [], ◌∷◌, ◌++◌, take, map, length, IfOk, IfSome, OnOk, OnErr, IfErr, IsSome, slice_get, Some, None, Err, All};
 ghost use Rattle.std.specs.Option.{option_map, option_copied};
 ghost use Rattle.ab_store.specs.ab_types.specs.Entries.{first_entries};
 ghost use Rattle.ab_store.specs.ab_types.specs.Ids.{HoldsConstant};
@@ -10,9 +10,9 @@ ghost use Rattle.ab_formulas.specs.Clauses.{Block as ABlock};
 ghost use Rattle.ab_formulas.specs.Declarations.{Declarations, ArePlacesUpTo, signature_in, theorem_in, theorems_in, assumed_in, assumptions_in, block_in, with_first, a_theorem, a_block, a_program_clause};
 ghost use Rattle.ab_formulas.specs.Programs.{IsProgramHead, IsProgramProposed};
 ghost use Rattle.ab_formulas.specs.Formulas.{IsSentence};
-ghost use Rattle.ab_logic.specs.Additions.{entry_in, block_kept, clause_at_place, IsMemory};
+ghost use Rattle.ab_logic.specs.Additions.{entry_in, block_kept, clause_at_place, clause_places, IsMemory};
 ghost use Rattle.ab_logic.specs.NewDefinitions.{AreNew, IsFirstDefined, IsDefinable, IsDefineFault};
-ghost use Rattle.ab_logic.specs.Worlds.{read, Holds, clause_read, definition_of, declarations_of, count_added, first_declarations, IsKeptBlock, IsWorld};
+ghost use Rattle.ab_logic.specs.Worlds.{read, Holds, head_constant, clause_read, definition_of, declarations_of, count_added, first_declarations, IsKeptBlock, IsWorld};
 ghost use Rattle.ab_logic.specs.WorldGrowth.{Grows};
 ghost use Rattle.ab_logic.specs.declared.world.DefineFault.{DefineFault as AFault};
 
@@ -231,27 +231,35 @@ impl World {
         ensures steps { steps.new ≡ steps.old }
     {
         let _ = steps;
-        if !self.is_program_head(clause.head) {
+        let Some(head) = self.head_constant(clause.head) else {
             return Err(DefineFault::BadHead(number));
-        }
+        };
         let before = self.types.len();
-        self.additions.add_clause(clause, before)?;
+        self.additions.add_clause(clause, head, before)?;
         Ok(())
     }
 
-    /// Whether the term is a constant with what it is given.
-    fn is_program_head(&self, head: TermId) -> bool
-        requires { Holds self.now head }
-        ensures yes { IsTrue result → IsProgramHead (read self.now head) }
-        ensures no { IsFalse result → IsProgramHead (read self.now head) → ⊥ }
+    /// The constant at the term's head, if one is there.
+    pub fn head_constant(&self, term: TermId) -> Option<ConstId>
+        requires world { IsWorld self.now }
+        requires term { Holds self.now term }
+        ensures reads { option_map (name_of self.now.types) result ≡ head_constant (read self.now term) }
+        ensures held { IfSome result (HoldsConstant self.now.types) }
     {
-        match self.store.view(head) {
-            Node::Lam(_, _, _) => false,
+        match self.store.view(term) {
+            Node::Lam(_, _, _) => None,
             Node::Spine(head, _) => match *head {
-                Head::Const(_) => true,
-                _ => false,
+                Head::Const(constant) => Some(constant),
+                _ => None,
             },
         }
+    }
+
+    /// The places, among what was added, of the clauses of the program with the constant at their head, in order.
+    pub fn clause_places(&self, head: ConstId) -> &[usize]
+        ensures { result.now ≡ clause_places self.now.additions head }
+    {
+        self.additions.clause_places(head)
     }
 
     /// The clause of the program at this place of what was added, if one stands there.

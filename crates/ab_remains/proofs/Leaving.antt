@@ -25,7 +25,7 @@ use Rattle.ab_formulas.specs.Programs.{IsProgramKept}
 use Rattle.ab_formulas.specs.Declarations.{HaveSentences, HaveDefinitions}
 use Rattle.ab_typing.specs.DefinitionReadings.{clause_of, HoldsClause}
 use Rattle.ab_typing.specs.declared.definitions.ClauseTerm.{ClauseTerm}
-use Rattle.ab_logic.specs.Worlds.{Holds, HoldsCell, variable_of, declarations_of, IsKept, IsKeptClause, IsWorld}
+use Rattle.ab_logic.specs.Worlds.{Holds, HoldsCell, variable_of, head_constant, declarations_of, IsKept, IsKeptClause, IsWorld}
 use Rattle.ab_logic.specs.WorldGrowth.{Grows}
 use Rattle.ab_logic.specs.declared.world.World.{World}
 use Rattle.ab_logic.specs.declared.additions.Added.{Added}
@@ -110,7 +110,10 @@ module _ (w : World) (s : Contents) (is : IsWorld w) (typed : IsTypedBy w.types 
         well = subst (IsWellKept (signature w.types)) (clause_reads c there) kept.well;
         body = subst (IsFormula (signature w.types)) (front.trees w.types c.body there.body) kept.body;
       }
-  kept_left (Clause c) k h = record { held = h; well = subst (IsProgramKept (signature w.types)) (clause_reads c h) k.well }
+  kept_left (Clause c p) k h = (
+    record { held = h; well = subst (IsProgramKept (signature w.types)) (clause_reads c h) k.0.well },
+    record { held = k.1.held; is = ap head_constant (sym (front.trees w.types c.head h.head)) ∙ k.1.is },
+  )
 
   all_left : All (λ (a : Added). IsKept w.types s a.what) w.additions
   all_left i d l = kept_left (get_or w.additions i d).what (is.additions i d l) (held i d l)
@@ -168,12 +171,12 @@ still_added e v ids cells (Definition b) h = All-weaker (HoldsClause e.types e.s
   where
     clause_there : (c : ClauseTerm) → HoldsClause e.types e.store c → HoldsClause v.types v.store c
     clause_there c k = record { variables = All-weaker (HoldsCell e) (HoldsCell v) cells c.variables k.variables; head = ids c.head k.head; body = ids c.body k.body }
-still_added e v ids cells (Clause c) k = record { variables = All-weaker (HoldsCell e) (HoldsCell v) cells c.variables k.variables; head = ids c.head k.head; body = ids c.body k.body }
+still_added e v ids cells (Clause c h) k = record { variables = All-weaker (HoldsCell e) (HoldsCell v) cells c.variables k.variables; head = ids c.head k.head; body = ids c.body k.body }
 
 kept_held : (w : World) (what : Addition) → IsKept w.types w.store what → HoldsAddition w what
 kept_held w (Theorem x) k = k
 kept_held w (Definition b) k = All-weaker (IsKeptClause w.types w.store) (HoldsClause w.types w.store) (λ c h. h.held) b.clauses k.clauses
-kept_held w (Clause c) k = k.held
+kept_held w (Clause c h) k = k.0.held
 
 pub world_holds : (w : World) → IsWorld w → All (λ (a : Added). HoldsAddition w a.what) w.additions
 world_holds w is = All-weaker (λ (a : Added). IsKept w.types w.store a.what) (λ (a : Added). HoldsAddition w a.what) (λ a. kept_held w a.what) w.additions is.additions

@@ -10,4 +10,4 @@ use Rattle.ab_logic.specs.declared.additions.Addition.TheVariants.{Theorem, Defi
 abbrev pub HoldsAddition : World → Addition → Type 0
 HoldsAddition w (Theorem e) = Holds w e.formula
 HoldsAddition w (Definition b) = All (HoldsClause w.types w.store) b.clauses
-HoldsAddition w (Clause c) = HoldsClause w.types w.store c
+HoldsAddition w (Clause c h) = HoldsClause w.types w.store c

@@ -38,7 +38,7 @@ fn mark_to_addition(world: &World, mark: Mark, addition: &Addition) -> Mark
     match addition {
         Addition::Theorem(entry) => world.store.mark_to_term(mark, entry.formula),
         Addition::Definition(block) => mark_to_clauses(world, mark, block.clauses.as_slice()),
-        Addition::Clause(clause) => mark_to_clause(world, mark, clause),
+        Addition::Clause(clause, _) => mark_to_clause(world, mark, clause),
     }
 }
 

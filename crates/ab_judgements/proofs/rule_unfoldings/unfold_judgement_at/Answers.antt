@@ -28,7 +28,7 @@ returns-in_default-clause-none g c = λ rs listed e.
     let j = c.args.judgement.now in
     let x = c.in_ok-ruled.ruled in
     let same = listed_same w u c.with_rules.ensures.later c.with_rules.ensures.cells j c.requires.judgement x c.in_ok-ruled.ensures.judgement rs listed c.in_ok-ruled.ensures.ruled in
-    ap (λ l. slice_get l c.args.number) (sym same) ∙ sym c.in_ok-rule.ensures.reads ∙ ap (option_map (rule_read u)) c.in_default.is
+    ap (λ l. slice_get l c.args.number) (sym same) ∙ sym c.in_ok-rule.ensures.numbered ∙ ap (option_map (rule_read u)) c.in_default.is
 
 pub returns-clause-unified : goal.returns-clause-unified
 returns-clause-unified g c = λ rs p listed e.
@@ -37,7 +37,7 @@ returns-clause-unified g c = λ rs p listed e.
     let j = c.args.judgement.now in
     let x = c.in_ok-ruled.ruled in
     let same = listed_same w u c.with_rules.ensures.later c.with_rules.ensures.cells j c.requires.judgement x c.in_ok-ruled.ensures.judgement rs listed c.in_ok-ruled.ensures.ruled in
-    let there = ap (λ l. slice_get l c.args.number) (sym same) ∙ sym c.in_ok-rule.ensures.reads ∙ ap (option_map (rule_read u)) c.in-Some.is in
+    let there = ap (λ l. slice_get l c.args.number) (sym same) ∙ sym c.in_ok-rule.ensures.numbered ∙ ap (option_map (rule_read u)) c.in-Some.is in
     let y = c.unfold_rule.new.world in
     let one : c.in_ok-solved.solved ≡ Unified p = cc in (
       rule_read u c.in-Some.rule,
@@ -53,7 +53,7 @@ returns-clause-apart g c = λ rs listed e.
     let j = c.args.judgement.now in
     let x = c.in_ok-ruled.ruled in
     let same = listed_same w u c.with_rules.ensures.later c.with_rules.ensures.cells j c.requires.judgement x c.in_ok-ruled.ensures.judgement rs listed c.in_ok-ruled.ensures.ruled in
-    let there = ap (λ l. slice_get l c.args.number) (sym same) ∙ sym c.in_ok-rule.ensures.reads ∙ ap (option_map (rule_read u)) c.in-Some.is in
+    let there = ap (λ l. slice_get l c.args.number) (sym same) ∙ sym c.in_ok-rule.ensures.numbered ∙ ap (option_map (rule_read u)) c.in-Some.is in
     let one : c.in_ok-solved.solved ≡ Apart = cc in (
       rule_read u c.in-Some.rule,
       there,
@@ -68,7 +68,7 @@ returns-clause-stuck g c = λ rs i listed e.
     let j = c.args.judgement.now in
     let x = c.in_ok-ruled.ruled in
     let same = listed_same w u c.with_rules.ensures.later c.with_rules.ensures.cells j c.requires.judgement x c.in_ok-ruled.ensures.judgement rs listed c.in_ok-ruled.ensures.ruled in
-    let there = ap (λ l. slice_get l c.args.number) (sym same) ∙ sym c.in_ok-rule.ensures.reads ∙ ap (option_map (rule_read u)) c.in-Some.is in
+    let there = ap (λ l. slice_get l c.args.number) (sym same) ∙ sym c.in_ok-rule.ensures.numbered ∙ ap (option_map (rule_read u)) c.in-Some.is in
     let one : c.in_ok-solved.solved ≡ Stuck i = cc in (
       rule_read u c.in-Some.rule,
       there,
