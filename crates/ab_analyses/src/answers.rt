@@ -1,7 +1,9 @@
-//! What is answered of an atom.
+//! What is answered of an atom or a judgement.
 
 use ab_norm::Nominal;
 use ab_norm::store::{CellId, Equation, TermId};
+use std::alloc::AllocError;
+use thiserror::Error;
 
 /// A variable of a goal, and the term that it becomes.
 #[derive(Clone, Copy)]
@@ -19,4 +21,26 @@ pub struct Alternative {
     pub made: Vec<CellId>,
     pub equations: Vec<Equation>,
     pub body: TermId,
+}
+
+/// Why there are no alternatives.
+#[derive(Debug, Drop, Error)]
+pub enum AtomFault {
+    /// The formula is no defined atom and no judgement, or by which rules the judgement may hold isn't known.
+    #[error("NoAtom")]
+    NoAtom,
+    /// There was no memory.
+    #[error("Memory")]
+    Memory(AllocError),
+}
+
+impl From<AllocError> for AtomFault {
+    ghost use Rattle.std.specs.Prelude.{◌≡◌};
+    ghost use Rattle.ab_analyses.specs.declared.answers.AtomFault.{AtomFault};
+
+    ghost from_gives = { λ a f. f ≡ AtomFault.Memory a };
+
+    fn from(fault: AllocError) -> AtomFault {
+        AtomFault::Memory(fault)
+    }
 }

@@ -136,7 +136,7 @@ fn by_choices<L>(
 
 /// The alternatives of the atom in the goal, in order: one for each clause of its predicate and each choice of constants for the
 /// clause's names. On the left the goal's variables are raised over new constants, on the right they stay. No cell is bound.
-pub fn atom_alternatives<L>(
+pub(crate) fn atom_alternatives<L>(
     alloc: Global,
     world: &mut World,
     goal: &Sequent,
