@@ -11,7 +11,7 @@ use Rattle.ab_session.specs.Origins.{WentOn, CameBy, CameFrom, Remembers, begun,
 use Rattle.ab_session.proofs.Origins.{pasts, latest}
 
 -- a list by its last element
-last_split : (ks : List Kept) (k : Kept) → slice_get ks (length ks - 1) ≡ Some k → (front : List Kept) × (ks ≡ front ++ k ∷ [])
+pub last_split : (ks : List Kept) (k : Kept) → slice_get ks (length ks - 1) ≡ Some k → (front : List Kept) × (ks ≡ front ++ k ∷ [])
 last_split [] k e = absurd (cc)
 last_split (j ∷ []) k e = let same : j ≡ k = cc in ([], ap (λ x. x ∷ []) same)
 last_split (j ∷ i ∷ ks) k e =

@@ -22,7 +22,7 @@ use Rattle.ab_effects.specs.ProofCommands.{effect}
 use Rattle.ab_meaning.specs.Refusals as row
 use Rattle.ab_effects.specs.Debts.{debts_at}
 use Rattle.ab_effects.specs.Row.{Row, Leads, Refuses}
-use Rattle.ab_steps.specs.Progress.{goals_of, Advances, Follows}
+use Rattle.ab_steps.specs.Progress.{goals_of, Advances}
 use Rattle.ab_steps.proofs.Following.{nothing_left}
 use Rattle.ab_steps.proofs.OwedJust.{OwesJust}
 use Rattle.ab_steps.specs.ProofEffects.{IsApplied, OwesFor, IsRefused, RefusedBy}

@@ -1,5 +1,5 @@
 -- Whether one of the kept commands read a specification.
-use Rattle.std.proofs.Common.{◌≡◌, ◌||◌, ℕ, Bool, List, [], ◌∷◌, ◌++◌, map, reverse, Option, Some, None, is_some, option_map, refl, sym, ◌∙◌, ap}
+use Rattle.std.proofs.Common.{◌≡◌, ◌||◌, Bool, List, [], ◌∷◌, ◌++◌, map, reverse, Option, Some, None, is_some, option_map, refl, sym, ◌∙◌, ap}
 use Rattle.std.specs.List.{list_any}
 use Rattle.std.proofs.lemmas.List.{reverse-append, reverse-reverse, map-append}
 use Rattle.ab_sigmod.specs.declared.spec.Spec.{Spec}

@@ -13,3 +13,5 @@ mod Specified
 mod KeptFiles
 mod TakingBack
 mod Began
+mod Remaining
+mod Replied

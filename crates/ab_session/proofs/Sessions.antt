@@ -1,6 +1,6 @@
 -- What stays true of a session where its world grows.
 use Rattle.std.specs.Prelude.{slice_get, IfSome}
-use Rattle.std.proofs.Common.{◌≡◌, ◌⊎◌, inl, inr, true, ℕ, zero, suc, ◌+◌, ◌<◌, List, [], ◌∷◌, ◌++◌, length, map, Option, Some, None, option_map, refl, sym, ◌∙◌, ap, subst, append_assoc, append-nil, length-append}
+use Rattle.std.proofs.Common.{◌≡◌, ◌⊎◌, inl, inr, true, ℕ, zero, suc, ◌+◌, ◌<◌, List, [], ◌∷◌, ◌++◌, length, map, Option, Some, None, option_map, refl, sym, ◌∙◌, ap, subst, append-nil, length-append}
 use Rattle.ab_term.specs.Types.{Ty}
 use Rattle.ab_term.specs.Constants.{Constant}
 use Rattle.ab_term.specs.Terms.{Read}
@@ -49,7 +49,7 @@ later_proofs w v ps grows same are = record {
 pub same_proofs : (w v : World) (ps : List Held) → Grows w v → declarations_of v ≡ declarations_of w → AreProofs w ps → AreProofs v ps
 same_proofs w v ps grows same are = later_proofs w v ps grows (ap (λ D. length (theorems_in D)) same) are
 
-pushed : {X : Type 0} (xs : List X) (y x : X) (place : ℕ) → slice_get (xs ++ y ∷ []) place ≡ Some x → (slice_get xs place ≡ Some x) ⊎ ((place ≡ length xs) × (x ≡ y))
+pub pushed : {X : Type 0} (xs : List X) (y x : X) (place : ℕ) → slice_get (xs ++ y ∷ []) place ≡ Some x → (slice_get xs place ≡ Some x) ⊎ ((place ≡ length xs) × (x ≡ y))
 pushed [] y x zero e = let same : y ≡ x = cc in inr (refl, sym same)
 pushed [] y x (suc n) e = cc
 pushed (z ∷ xs) y x zero e = inl e

@@ -5,7 +5,7 @@ use Rattle.ab_grammar.specs.CommandTrees as told
 use Rattle.ab_formulas.specs.Declarations.{Declarations, theorems_in}
 use Rattle.ab_formulas.proofs.Declaring.{theorems_in-append}
 use Rattle.ab_grammar.specs.FileTrees.{Item}
-use Rattle.ab_sigmod.specs.FileLoads.{FilesSeen, Load, AreLoads, no_load}
+use Rattle.ab_sigmod.specs.FileLoads.{FilesSeen, AreLoads, no_load}
 use Rattle.ab_sigmod.specs.FileOrder as file
 use Rattle.ab_sigmod.specs.FileOrder.{Fault, IsSpecification, IsRefused}
 use Rattle.ab_sigmod.specs.declared.spec.Spec.{Spec}
@@ -32,7 +32,7 @@ use Rattle.ab_session.specs.declared.command_history.Kept.{Kept}
 use Rattle.ab_session.specs.Contents.{Contents, Past, past_of, entry_of, attempt_of, entries_of, state_of}
 use Rattle.ab_session.specs.Sessions.{IsSound}
 use Rattle.ab_session.specs.Origins.{CameBy, CameFrom, IsSession}
-use Rattle.ab_session.specs.SessionAnswers.{KeepsOneMore, KeepsFewer, IsEntryAnswer, IsFileAnswer, IsAnswer, IsBefore}
+use Rattle.ab_session.specs.SessionAnswers.{IsEntryAnswer, IsFileAnswer, IsBefore}
 use Rattle.ab_session.proofs.Sayings.{none_tried}
 use Rattle.ab_session.proofs.Sessions.{later_proofs, in_world, no_theorem_more}
 use Rattle.ab_session.proofs.Origins.{came, went_nowhere}
@@ -192,31 +192,6 @@ module _ (f g : FilesSeen) (old : Contents) (bytes x : List ℕ) (said : Command
     pub if_read_answer : {E : Type 0} (spec : Spec) (new : Contents) (r : Result Reply E) → WasRead x f g spec → IfOk r (IsEntryAnswer old (with_files (files_of spec) bytes) new) → IfOk r (IsFileAnswer f g old bytes new)
     if_read_answer spec new (Ok r) was a = read_answer spec new r was a
     if_read_answer spec new (Err e) was a = tt
-
--- THE ANSWER TO A COMMAND, whichever it is
-
--- no file was loaded
-pub none_loaded : (f : FilesSeen) (s : State) (bytes : List ℕ) (r : reply.Reply) (t : State) → HasEffect s bytes [] r t → HasEffectOver f f s bytes r t
-none_loaded f s bytes r t h = record { loads = []; asked = no_load; effect = h }
-
-pub if_none_loaded : {E : Type 0} (f : FilesSeen) (old : Contents) (bytes : List ℕ) (new : Contents) (n m : ℕ) (r : Result Reply E) → IfOk r (IsAnswer old bytes new n m)
-    → IfOk r (λ q. HasEffectOver f f (state_of old) bytes (reply.reply_of new.world q) (state_of new))
-if_none_loaded f old bytes new n m (Ok r) a = none_loaded f (state_of old) bytes (reply.reply_of new.world r) (state_of new) a.effect
-if_none_loaded f old bytes new n m (Err e) a = tt
-
-module _ {E : Type 0} (f g : FilesSeen) (old : Contents) (bytes : List ℕ) (new : Contents) where
-  pub effect_of : (r : Result Reply E) → IfOk r (IsFileAnswer f g old bytes new) → IfOk r (λ q. HasEffectOver f g (state_of old) bytes (reply.reply_of new.world q) (state_of new))
-  effect_of (Ok r) a = a.effect
-  effect_of (Err e) a = tt
-
-  pub keeps_of : (r : Result Reply E) → IfOk r (IsFileAnswer f g old bytes new) → IfOk r (λ q. KeepsOneMore (state_of old) bytes (state_of new) → CameFrom old new)
-  keeps_of (Ok r) a = a.kept
-  keeps_of (Err e) a = tt
-
-  -- nothing is taken back
-  pub takes_none : (P : Type 0) (r : Result Reply E) → IfOk r (IsFileAnswer f g old bytes new) → IfOk r (λ q. KeepsFewer (state_of old) (state_of new) → P)
-  takes_none P (Ok r) a = λ less. absurd (a.none_taken_back less)
-  takes_none P (Err e) a = tt
 
 -- where no file is asked for, a specification is kept
 pub kept_already : (s : State) (bytes x : List ℕ) → Commands s bytes (told.specification x) → ((y : List ℕ) → ¬ AsksFor s bytes y) → is_specified s ≡ true

@@ -5,6 +5,8 @@ pub mod Origins
 pub mod PlaceMarks
 pub mod ProofAttempts
 pub mod SessionAnswers
+pub mod Remains
+pub mod LatestNames
 -- Libraries that the crates above name through this one.
 pub use Rattle.ab_states
 pub use Rattle.ab_steps

@@ -80,6 +80,18 @@ pub record IsAnswer (old : Contents) (bytes : List ℕ) (new : Contents) (before
   pub steps : KeepsFewer (state_of old) (state_of new) →
       after + length new.world.types + length new.world.additions ≡ before + length old.world.types + length old.world.additions
 
+-- what any command leaves, where files told of the one before and tell of the other now
+pub record IsReplied (before after : FilesSeen) (old : Contents) (bytes : List ℕ) (new : Contents) (from to : ℕ) (reply : Reply) : Type 0 where
+  pub effect : HasEffectOver before after (state_of old) bytes (reply_of new.world reply) (state_of new)
+  pub speaks : SpeaksOfNoGoal new.world reply
+  pub completed : (name : List ℕ) → reply ≡ Completed name → IsProvedLast (declarations_of new.world) name
+  pub admitted : (name : List ℕ) (names : List (List ℕ)) → reply ≡ Admitted name names → IsDerivedLast (declarations_of new.world) name
+  pub refused : (r : Refusal) → reply ≡ Refused r → IsRestored old.world new.world
+  pub kept : KeepsOneMore (state_of old) bytes (state_of new) → CameFrom old new
+  pub taken_back : KeepsFewer (state_of old) (state_of new) → Precedes new old
+  pub steps : KeepsFewer (state_of old) (state_of new) →
+      to + length new.world.types + length new.world.additions ≡ from + length old.world.types + length old.world.additions
+
 -- how many steps stand in the proof that is being made
 abbrev pub steps_standing : World → Option Attempt → ℕ
 steps_standing w None = 0

@@ -5,6 +5,7 @@ mod assumptions;
 mod attempt;
 mod attempt_steps;
 mod command_history;
+mod latest_marks;
 pub mod laws;
 mod past_proofs;
 mod place_marks;

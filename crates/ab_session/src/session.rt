@@ -8,7 +8,7 @@ ghost use Rattle.ab_syntax.specs.SyntaxTrees as trees;
 ghost use Rattle.ab_syntax.specs.Commands.{command_of, proof_command_of, defined_of, clause_of};
 ghost use Rattle.ab_formulas.specs.Declarations.{theorems_in};
 ghost use Rattle.ab_logic.specs.SequentReadings.{sequent_of, HoldsSequent};
-ghost use Rattle.ab_logic.specs.Worlds.{IsWorld};
+ghost use Rattle.ab_logic.specs.Worlds.{declarations_of, IsWorld};
 ghost use Rattle.ab_steps.specs.ab_kernel.specs.Layout.{IsProof};
 ghost use Rattle.ab_declare.specs.declared.refusal.Refusal.{Refusal as ARefusal};
 ghost use Rattle.ab_declare.specs.Moments.{IsRestored};
@@ -23,11 +23,14 @@ ghost use Rattle.ab_states.specs.declared.reply.Reply.TheVariants.{Completed, Ad
 ghost use Rattle.ab_session.specs.Contents.{Contents, state_of};
 ghost use Rattle.ab_session.specs.Origins.{CameFrom, Precedes};
 ghost use Rattle.ab_session.specs.Sessions.{IsProofOf};
-ghost use Rattle.ab_session.specs.SessionAnswers.{IsDerivedLast, IsProvedLast, KeepsOneMore, KeepsFewer, IsEntryAnswer, IsForwardAnswer, IsFileAnswer, IsAnswer, IsBefore};
+ghost use Rattle.ab_session.specs.SessionAnswers.{IsDerivedLast, IsProvedLast, KeepsOneMore, KeepsFewer, IsEntryAnswer, IsForwardAnswer, IsFileAnswer, IsAnswer, IsReplied, IsBefore};
+ghost use Rattle.ab_session.specs.Remains.{NothingIsLeftOver};
+ghost use Rattle.ab_session.specs.LatestNames.{IsFreed};
 
 use crate::attempt::Attempt;
 use crate::attempt_steps::{Outcome, advance};
 use crate::command_history::{Before, Deed, Kept, keep, make_room, reads_files};
+use crate::latest_marks::mark_to_latest;
 use crate::past_proofs::reopen;
 use crate::refusals::{files_unread, unread};
 use ab_command::{Unread, read_command};
@@ -36,6 +39,7 @@ use ab_declare::{
 };
 use ab_io::Files;
 use ab_logic::{Sequent, World};
+use ab_proof_marks::remains::drop_unnamed;
 use ab_sigmod::{Spec, read_spec};
 use ab_states::Reply;
 use ab_states::specification::declare_specification;
@@ -159,7 +163,8 @@ impl Session {
     /// Takes one command, its full stop included: the reply, and the next state. A command that is refused leaves the
     /// session as it was, and so does want of memory. A specification reads its files, where none is kept, and no other command
     /// asks for a file. What is kept can be taken back, to each node, cell, type and declaration, and what takes back counts a
-    /// step for each entry of the table and each declaration that goes.
+    /// step for each entry of the table and each declaration that goes. What a kept command made on its way goes, but for what
+    /// the session names.
     pub fn accept<F: Files, L>(
         &mut self,
         files: &mut F,
@@ -175,9 +180,32 @@ impl Session {
         ensures admitted { (name : List ℕ) (names : List (List ℕ)) → IfOk result (λ reply. reply ≡ Admitted name names → IsDerivedLast (state_of self.new).declarations name) }
         ensures refused { (r : ARefusal) → IfOk result (λ reply. reply ≡ Refused r → IsRestored self.old.world self.new.world) }
         ensures kept { IfOk result (λ reply. KeepsOneMore (state_of self.old) command.now (state_of self.new) → CameFrom self.old self.new) }
+        ensures least { IfOk result (λ reply. KeepsOneMore (state_of self.old) command.now (state_of self.new) → NothingIsLeftOver self.old self.new) }
         ensures taken_back { IfOk result (λ reply. KeepsFewer (state_of self.old) (state_of self.new) → Precedes self.new self.old) }
         ensures steps { IfOk result (λ reply. KeepsFewer (state_of self.old) (state_of self.new) →
             steps.new + length self.new.world.types + length self.new.world.additions ≡ steps.old + length self.old.world.types + length self.old.world.additions) }
+        ensures err { OnErr result (state_of self.new ≡ state_of self.old) }
+        ensures unloaded { ((x : List ℕ) → ¬ AsksFor (state_of self.old) command.now x) → files.new ≡ files.old }
+    {
+        let kept = self.kept();
+        let reply = self.answer(files, command, steps)?;
+        if self.kept() > kept {
+            self.drop_leftovers(steps);
+        }
+        Ok(reply)
+    }
+
+    /// Takes one command. What it made on its way is still there.
+    fn answer<F: Files, L>(
+        &mut self,
+        files: &mut F,
+        command: &[u8],
+        steps: &mut Steps<L>,
+    ) -> Result<Reply, AllocError>
+        ensures answer { IfOk result (IsReplied
+            (seen (F.files files.old) (F.plan files.old) (F.faults files.old) (F.misses files.old) (F.long_files files.old))
+            (seen (F.files files.new) (F.plan files.new) (F.faults files.new) (F.misses files.new) (F.long_files files.new))
+            self.old command.now self.new steps.old steps.new) }
         ensures err { OnErr result (state_of self.new ≡ state_of self.old) }
         ensures unloaded { ((x : List ℕ) → ¬ AsksFor (state_of self.old) command.now x) → files.new ≡ files.old }
     {
@@ -187,6 +215,27 @@ impl Session {
             Err(Unread::Refused(cause)) => Ok(Reply::Refused(unread(cause))),
             Err(Unread::Memory(fault)) => Err(fault),
         }
+    }
+
+    /// Drops what stands at the ends of the world behind a kept command and isn't named.
+    fn drop_leftovers<L>(&mut self, steps: &mut Steps<L>)
+        ensures freed { (e : Contents) → CameFrom e self.old → IsFreed e self.old self.new }
+        ensures declared { declarations_of self.new.world ≡ declarations_of self.old.world }
+        ensures steps { steps.new ≡ steps.old }
+    {
+        let Some(latest) = self.kept.last() else {
+            return;
+        };
+        let before = latest.before.moment;
+        let world = &mut self.world;
+        let named = mark_to_latest(
+            world,
+            before.mark,
+            latest,
+            self.attempt.as_ref(),
+            &self.proofs,
+        );
+        drop_unnamed(world, &before.mark, before.additions, named, steps);
     }
 
     /// Takes the last kept command back: the state is the one that replaying the others gives. It takes no memory, and counts a step for each entry of the table of types and each

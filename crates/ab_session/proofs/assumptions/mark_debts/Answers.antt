@@ -1,4 +1,4 @@
-use Rattle.std.proofs.Common.{◌+◌, [], ◌∷◌, ◌++◌, List, ℕ, map, take, sym, ◌∙◌, ap, subst}
+use Rattle.std.proofs.Common.{◌+◌, [], ◌∷◌, ◌++◌, map, take, sym, ◌∙◌, ap, subst}
 use Rattle.ab_logic.specs.Worlds.{declarations_of}
 use Rattle.ab_theory.specs.Assumptions.{places_of, all_places}
 use Rattle.ab_steps.specs.ab_kernel.specs.Debts.{debt_of}

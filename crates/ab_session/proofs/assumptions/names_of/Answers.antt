@@ -1,9 +1,8 @@
-use Rattle.std.proofs.Common.{◌≤◌, List, ℕ, length, get_or, sym, ◌∙◌, ap}
+use Rattle.std.proofs.Common.{◌≤◌, length, get_or, sym, ◌∙◌, ap}
 use Rattle.std.proofs.lemmas.Grind.{get_or_default_zero}
 use Rattle.ab_formulas.specs.Declarations.{theorems_in}
 use Rattle.ab_formulas.proofs.TheoremPlaces.{place_below}
 use Rattle.ab_logic.specs.Worlds.{read, declarations_of}
-use Rattle.ab_logic.specs.declared.additions.TheoremEntry.{TheoremEntry}
 use Rattle.ab_session.proofs.DebtPlaces.{name_there, name_next, one_more_name}
 use Rattle.ab_session.proofs.assumptions.names_of.Goals as goal
 use Rattle.ab_session.proofs.assumptions.names_of.Goals.{in-None, in-Some}

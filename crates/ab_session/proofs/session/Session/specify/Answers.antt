@@ -1,4 +1,4 @@
-use Rattle.std.proofs.Common.{◌≡◌, true, false, refl, sym, ◌∙◌}
+use Rattle.std.proofs.Common.{refl, sym, ◌∙◌}
 use Rattle.ab_session.proofs.Specified.{twice_answer, unread_answer, if_read_answer}
 use Rattle.ab_session.proofs.session.Session.specify.Goals as goal
 
