@@ -1,5 +1,21 @@
+mod Ahead
 mod Bare
+mod FlexibleHeads
+pub mod FormMade
+mod HeadsApart
+pub mod LaterWorlds
+mod LayerMade
 mod Listing
 mod Moving
-pub mod Problems
+mod NewConclusion
+pub mod Opened
+mod OtherCounts
+pub mod Placing
+mod Posed
+mod Quantified
+mod Raised
+mod Resolved
+mod SameHeads
+mod SeenParts
 mod Targets
+mod TypedScopes

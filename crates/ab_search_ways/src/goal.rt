@@ -1,8 +1,8 @@
 //! Goals of a search.
-ghost use Rattle.std.specs.Prelude.{◌≡◌, IfOk};
-ghost use Rattle.ab_norm.specs.ab_types.specs.Entries.{Table};
-ghost use Rattle.ab_norm.specs.ab_store.specs.Trees.{Contents};
-ghost use Rattle.ab_norm.specs.ab_store.specs.Reading.{reading};
+ghost use Rattle.std.specs.Prelude.{◌≡◌, [], ◌∷◌, ◌++◌, List, IfOk};
+ghost use Rattle.ab_norm.specs.ab_store.specs.declared.node.TermId.{TermId as AnId};
+ghost use Rattle.ab_logic.specs.Worlds.{read};
+ghost use Rattle.ab_logic.specs.declared.world.World.{World};
 ghost use Rattle.ab_search_trees.specs.Goals as tree;
 ghost use Rattle.ab_search_ways.specs.GoalReadings.{goal_read};
 
@@ -10,31 +10,35 @@ use ab_norm::Nominal;
 use ab_norm::store::TermId;
 use std::alloc::{AllocError, Global};
 
-/// A goal of a search. Its ids stay while cells are bound, and read as what was put in then.
+/// A goal of a search: from the hypotheses of the sequent, and some more, a conclusion.
 #[derive(Drop)]
 pub struct Goal {
-    pub(crate) hypotheses: Vec<TermId>,
-    pub(crate) conclusion: TermId,
+    /// What was assumed on the way.
+    pub added: Vec<TermId>,
+    pub conclusion: TermId,
     /// So many conclusions may still be unfolded, one after another.
-    pub(crate) depth: usize,
+    pub depth: usize,
     /// The nominal constants of the branch, in order of number.
-    pub(crate) constants: Vec<Nominal>,
+    pub constants: Vec<Nominal>,
     /// Nothing was unfolded and no `exists` opened above it.
-    pub(crate) untouched: bool,
+    pub untouched: bool,
     /// So many layers of a judgement may still be opened.
-    pub(crate) layers: usize,
+    pub layers: usize,
     /// The right part of a conjunction is taken first.
-    pub(crate) member_first: bool,
+    pub member_first: bool,
 }
 
 impl Goal {
     /// The same goal with another conclusion.
     pub fn asking(&self, alloc: Global, conclusion: TermId) -> Result<Goal, AllocError>
-        ensures { IfOk result (λ g. (types : Table) (store : Contents) →
-            goal_read types store g ≡ tree.asking (reading types store conclusion) (goal_read types store self.now)) }
+        ensures reads { IfOk result (λ g. (w : World) (base : List AnId) →
+            goal_read w base g ≡ tree.asking (read w conclusion) (goal_read w base self.now)) }
+        ensures added { IfOk result (λ g. g.added.items ≡ self.now.added.items) }
+        ensures constants { IfOk result (λ g. g.constants.items ≡ self.now.constants.items) }
+        ensures conclusion { IfOk result (λ g. g.conclusion ≡ conclusion) }
     {
         Ok(Goal {
-            hypotheses: Vec::from_slice(alloc, &self.hypotheses)?,
+            added: Vec::from_slice(alloc, &self.added)?,
             conclusion,
             depth: self.depth,
             constants: Vec::from_slice(alloc, &self.constants)?,
@@ -46,11 +50,14 @@ impl Goal {
 
     /// The goal with one hypothesis more, behind the others.
     pub fn assuming(self, formula: TermId) -> Result<Goal, AllocError>
-        ensures { IfOk result (λ g. (types : Table) (store : Contents) →
-            goal_read types store g ≡ tree.assuming (reading types store formula) (goal_read types store self)) }
+        ensures reads { IfOk result (λ g. (w : World) (base : List AnId) →
+            goal_read w base g ≡ tree.assuming (read w formula) (goal_read w base self)) }
+        ensures added { IfOk result (λ g. g.added.items ≡ self.added.items ++ formula ∷ []) }
+        ensures constants { IfOk result (λ g. g.constants.items ≡ self.constants.items) }
+        ensures conclusion { IfOk result (λ g. g.conclusion ≡ self.conclusion) }
     {
         let mut goal = self;
-        goal.hypotheses.push(formula)?;
+        goal.added.push(formula)?;
         Ok(goal)
     }
 }

@@ -1,73 +1,70 @@
-//! A hypothesis by a map of its constants is made equal to the conclusion.
-ghost use Rattle.std.specs.Prelude.{◌≡◌, ◌≢◌, ◌↔◌, ◌≤◌, ℕ, [], List, map, All, AllPairs, IfOk, codes};
-ghost use Rattle.ab_term.specs.Types.{prop, Ty};
-ghost use Rattle.ab_term.specs.Variables.{Substitution, image};
-ghost use Rattle.ab_term.specs.Sameness.{same_number};
-ghost use Rattle.ab_norm.specs.ab_store.specs.declared.node.TermId.{TermId};
-ghost use Rattle.ab_norm.specs.ab_store.specs.Reading.{reading};
-ghost use Rattle.ab_norm.specs.ab_store.specs.Naming.{IsTypedBy, IsTerm};
+//! The way by a hypothesis and a map of its constants.
+ghost use Rattle.std.specs.Prelude.{◌≡◌, ◌≢◌, ◌≤◌, ◌∷◌, [], map, All, AllPairs, IfOk};
+ghost use Rattle.ab_term.specs.Names.{permute, support};
+ghost use Rattle.ab_unifiers.specs.Choices.{in_order};
 ghost use Rattle.ab_norm.specs.Nominals.{HoldsNominal};
-ghost use Rattle.ab_unifiers.specs.Replacements.{Cell};
-ghost use Rattle.ab_unifiers.specs.Unification as rules;
-ghost use Rattle.ab_unifiers.specs.Unification.{Solves};
-ghost use Rattle.ab_unify.specs.Problem.{cells_read};
-ghost use Rattle.ab_unify.specs.StoreChanges.{Grows, IsFree};
-ghost use Rattle.ab_unify.specs.UnifyAnswers.{HasSolution, IsUnified, OnUnified, UnlessUnified, AreLeft};
-ghost use Rattle.ab_unify.specs.declared.answers.Solved.TheVariants.{Apart, Stuck};
+ghost use Rattle.ab_formulas.specs.Marks.{erased};
 ghost use Rattle.ab_instances.specs.ListReadings.{names_read};
-ghost use Rattle.ab_search_trees.specs.Guesses.{HoldsOf};
-ghost use Rattle.ab_search_ways.specs.WayProblems.{hypothesis_problem};
+ghost use Rattle.ab_logic.specs.WorldGrowth.{Grows};
+ghost use Rattle.ab_logic.specs.Worlds.{IsWorld, read, declarations_of};
+ghost use Rattle.ab_search_trees.specs.Maps.{mapping};
+ghost use Rattle.ab_search_trees.specs.Ways.{equating};
+ghost use Rattle.ab_search_ways.specs.GoalReadings.{HoldsGoal, IsFormulaIn};
+ghost use Rattle.ab_search_ways.specs.MadeWays.{MakesWay};
 
+use crate::goal::Goal;
 use crate::hypothesis_sides::sides;
+use crate::way::Way;
+use ab_logic::World;
 use ab_norm::Nominal;
-use ab_norm::store::{CellId, Store, TermId};
-use ab_norm::types::{Steps, TypeTable};
-use ab_unify::{Solved, unify};
+use ab_norm::store::{CellId, TermId};
+use ab_norm::types::Steps;
+use ab_sequents::marks_serve_in;
 use std::alloc::{AllocError, Global};
 
-/// Makes the hypothesis, by the map that sends its constants to the targets, equal to the conclusion, past marks. `flexible`
-/// are the cells that may be bound, in order of age. Cells are bound after `Unified`, and then each term reads as its image
-/// under the answer; else none is bound or made.
-pub fn unify_hypothesis<L>(
+/// The way by the hypothesis and the map that sends its constants, which are these in order, to the targets: it is made equal to
+/// the conclusion, past marks, and its marks are to serve.
+pub fn way_by_hypothesis<L>(
     alloc: Global,
-    types: &mut TypeTable,
-    store: &mut Store,
+    world: &mut World,
+    flexible: &[CellId],
+    goal: &Goal,
     hypothesis: TermId,
     names: &[Nominal],
     targets: &[Nominal],
-    conclusion: TermId,
-    flexible: &[CellId],
     steps: &mut Steps<L>,
-) -> Result<Solved, AllocError>
-    requires store { IsTypedBy types.old store.old }
-    requires hypothesis { IsTerm types.old store.old [] hypothesis prop }
-    requires conclusion { IsTerm types.old store.old [] conclusion prop }
-    requires names { All (HoldsNominal types.old) names.now }
-    requires targets { All (HoldsNominal types.old) targets.now }
-    requires once { AllPairs (λ a b. a ≢ b) (names_read types.old names.now) }
-    requires different { AllPairs (λ a b. a ≢ b) (names_read types.old targets.now) }
-    requires types { map (λ a. a.type) (names_read types.old targets.now) ≡ map (λ b. b.type) (names_read types.old names.now) }
-    requires over { HoldsOf (names_read types.old names.now) (reading types.old store.old hypothesis) }
-    requires flexible { All (IsFree store.old) flexible.now }
-    ensures unified { IfOk result (λ s. IsUnified s ↔ HasSolution (hypothesis_problem types.old store.old flexible.now hypothesis names.now targets.now conclusion)) }
-    ensures apart { IfOk result (λ s. (s ≡ Apart) ↔ Solves (codes "x") (hypothesis_problem types.old store.old flexible.now hypothesis names.now targets.now conclusion) rules.apart) }
-    ensures stuck { IfOk result (λ s. (place : ℕ) → (s ≡ Stuck place) ↔ Solves (codes "x") (hypothesis_problem types.old store.old flexible.now hypothesis names.now targets.now conclusion) (rules.stuck place)) }
-    ensures reads { OnUnified result ((more : List (Cell (List ℕ))) (q : Substitution ℕ (List ℕ)) →
-        Solves (codes "x") (hypothesis_problem types.old store.old flexible.now hypothesis names.now targets.now conclusion) (rules.unified more q) →
-        (G : List Ty) (t : TermId) (A : Ty) → IsTerm types.old store.old G t A →
-        reading types.new store.new t ≡ image same_number q (reading types.old store.old t)) }
-    ensures cells { OnUnified result ((more : List (Cell (List ℕ))) (q : Substitution ℕ (List ℕ)) →
-        Solves (codes "x") (hypothesis_problem types.old store.old flexible.now hypothesis names.now targets.now conclusion) (rules.unified more q) →
-        cells_read types.new store.new ≡ more) }
-    ensures left { OnUnified result ((more : List (Cell (List ℕ))) (q : Substitution ℕ (List ℕ)) →
-        Solves (codes "x") (hypothesis_problem types.old store.old flexible.now hypothesis names.now targets.now conclusion) (rules.unified more q) →
-        AreLeft store.old flexible.now types.new store.new q) }
-    ensures as_before { UnlessUnified result ((store.new.cells ≡ store.old.cells) × (store.new.bindings ≡ store.old.bindings)) }
-    ensures grows { Grows types.old store.old types.new store.new }
+) -> Result<Way, AllocError>
+    requires world { IsWorld world.old }
+    requires goal { HoldsGoal world.old goal.now }
+    requires conclusion { IsFormulaIn world.old goal.now.conclusion }
+    requires hypothesis { IsFormulaIn world.old hypothesis }
+    requires all { names_read world.old.types names.now ≡ in_order (support (read world.old hypothesis)) }
+    requires names { All (HoldsNominal world.old.types) names.now }
+    requires targets { All (HoldsNominal world.old.types) targets.now }
+    requires different { AllPairs (λ a b. a ≢ b) (names_read world.old.types targets.now) }
+    requires types { map (λ a. a.type) (names_read world.old.types targets.now) ≡ map (λ b. b.type) (names_read world.old.types names.now) }
+    ensures made { IfOk result (MakesWay world.old flexible.now goal.now
+        (λ now g. let B = read world.old hypothesis in equating (declarations_of world.old) now g
+        (permute (mapping (in_order (support B)) (names_read world.old.types targets.now)) (erased B)) (erased g.conclusion) ((g.conclusion, B) ∷ [])) world.new) }
+    ensures grows { Grows world.old world.new }
+    ensures declared { declarations_of world.new ≡ declarations_of world.old }
     ensures steps { steps.old ≤ steps.new }
 {
+    let serves = marks_serve_in(world, goal.conclusion, hypothesis);
     let equation = sides(
-        alloc, types, store, hypothesis, names, targets, conclusion, steps,
+        alloc,
+        &world.types,
+        &mut world.store,
+        hypothesis,
+        names,
+        targets,
+        goal.conclusion,
+        steps,
     )?;
-    unify(alloc, types, store, &[equation], flexible, steps)
+    Ok(Way {
+        flexible: Vec::from_slice(alloc, flexible)?,
+        equations: Vec::from_array(alloc, [equation])?,
+        serves,
+        goals: Vec::new(alloc),
+    })
 }

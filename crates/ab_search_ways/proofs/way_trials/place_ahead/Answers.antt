@@ -1,0 +1,33 @@
+use Rattle.std.proofs.Common.{◌++◌, sym, ap, ◌∙◌, subst}
+use Rattle.std.specs.Prelude.{is_none}
+use Rattle.std.proofs.lemmas.List.Elements.{All-weaker, filter-append}
+use Rattle.ab_norm.specs.ab_store.specs.Reading.{binding_of}
+use Rattle.ab_norm.proofs.Frame.{typed_on}
+use Rattle.ab_search_ways.specs.GoalReadings.{IsTypedGoal}
+use Rattle.ab_search_ways.specs.GoalsLeft.{unbound_in, IsResolved}
+use Rattle.ab_search_ways.proofs.Resolved.{goal_kept, resolved_both}
+use Rattle.ab_search_ways.proofs.way_trials.place_ahead.Goals as goal
+
+pub add_resolved-requires-2-clause-goals : goal.add_resolved-requires-2-clause-goals
+add_resolved-requires-2-clause-goals g c =
+    let types = c.args.types.now in
+    All-weaker (IsTypedGoal types c.args.store.now) (IsTypedGoal types c.add_resolved.new.store) (goal_kept types c.args.store.now c.add_resolved.new.store c.add_resolved.ensures.adds) c.args.rest.now c.requires.rest
+
+pub returns-clause-adds : goal.returns-clause-adds
+returns-clause-adds g c = typed_on c.args.types.now c.args.store.now c.add_resolved.new.store c.add_resolved-2.new.store c.add_resolved.ensures.adds c.add_resolved-2.ensures.adds
+
+pub returns-clause-left : goal.returns-clause-left
+returns-clause-left g c =
+    let types = c.args.types.now in
+    let old = c.args.store.now in
+    let mid = c.add_resolved.new.store in
+    let new = c.add_resolved-2.new.store in
+    let way = c.args.way.now in
+    let first = subst (λ b. IsResolved types old mid b way.goals.items c.add_resolved.new.list.items) c.new-goals.ensures.items (subst (λ gs. IsResolved types old mid c.new-goals.result.items gs c.add_resolved.new.list.items) c.deref-2.ensures.value c.in_ok-add_resolved.ensures.resolved) in
+    record {
+      cells =
+          c.in_ok-add_unbound-2.ensures
+          ∙ ap (λ l. l ++ unbound_in old c.args.made.now) (c.in_ok-add_unbound.ensures ∙ ap (λ l. l ++ unbound_in old c.deref.result.now) c.new-flexible.ensures.items ∙ ap (unbound_in old) c.deref.ensures.value)
+          ∙ sym (filter-append (λ d. is_none (binding_of old d)) way.flexible.items c.args.made.now);
+      goals = resolved_both types old mid new c.add_resolved.ensures.adds c.add_resolved-2.ensures.adds way.goals.items c.args.rest.now c.add_resolved.new.list.items c.add_resolved-2.new.list.items c.requires.rest first c.in_ok-add_resolved-2.ensures.resolved;
+    }

@@ -1,0 +1,108 @@
+//! What is left once the sides of a way are made equal: the cells that are unbound, and goals with what cells are bound to in
+//! their places.
+ghost use Rattle.std.specs.Prelude.{◌≡◌, ◌≤◌, ◌++◌, [], List, map, All, IfOk, OnOk};
+ghost use Rattle.ab_term.specs.Types.{prop};
+ghost use Rattle.ab_term.specs.Terms.{Read};
+ghost use Rattle.ab_norm.specs.ab_store.specs.Trees.{HoldsCell, tree_of};
+ghost use Rattle.ab_norm.specs.ab_store.specs.Reading.{reading};
+ghost use Rattle.ab_norm.specs.ab_store.specs.Naming.{IsTypedBy, IsTerm};
+ghost use Rattle.ab_norm.specs.NodeGrowth.{AddsTypedTerms};
+ghost use Rattle.ab_search_ways.specs.GoalReadings.{goal_by, IsTypedGoal};
+ghost use Rattle.ab_search_ways.specs.GoalsLeft.{IsResolved, unbound_in};
+
+use crate::goal::Goal;
+use ab_norm::copy_resolved;
+use ab_norm::store::{CellId, Store, TermId};
+use ab_norm::types::{Steps, TypeTable};
+use std::alloc::{AllocError, Global};
+
+/// Adds those of the cells that are bound to nothing, in their order.
+pub(crate) fn add_unbound(
+    store: &Store,
+    cells: &[CellId],
+    kept: &mut Vec<CellId>,
+) -> Result<(), AllocError>
+    requires { All (HoldsCell store.now) cells.now }
+    ensures { OnOk result (kept.new.items ≡ kept.old.items ++ unbound_in store.now cells.now) }
+{
+    for cell in cells {
+        if store.binding(*cell).is_none() {
+            kept.push(*cell)?;
+        }
+    }
+    Ok(())
+}
+
+/// The formulas, with what cells are bound to in their places.
+fn resolved_terms<L>(
+    alloc: Global,
+    types: &TypeTable,
+    store: &mut Store,
+    ids: &[TermId],
+    steps: &mut Steps<L>,
+) -> Result<Vec<TermId>, AllocError>
+    requires store { IsTypedBy types.now store.old }
+    requires ids { All (λ t. IsTerm types.now store.old [] t prop) ids.now }
+    ensures reads { IfOk result (λ list. map (tree_of types.now store.new) list.items ≡ map (reading types.now store.old) ids.now) }
+    ensures typed { IfOk result (λ list. All (λ t. IsTerm types.now store.new [] t prop) list.items) }
+    ensures adds { AddsTypedTerms types.now store.old store.new }
+    ensures steps { steps.old ≤ steps.new }
+{
+    let mut list = Vec::new(alloc);
+    for id in ids {
+        list.push(copy_resolved(alloc, types, store, *id, steps)?)?;
+    }
+    Ok(list)
+}
+
+/// The goal, with what cells are bound to in their places.
+fn resolved_goal<L>(
+    alloc: Global,
+    types: &TypeTable,
+    store: &mut Store,
+    goal: &Goal,
+    steps: &mut Steps<L>,
+) -> Result<Goal, AllocError>
+    requires store { IsTypedBy types.now store.old }
+    requires goal { IsTypedGoal types.now store.old goal.now }
+    ensures reads { IfOk result (λ g. (before : List Read) → goal_by (tree_of types.now store.new) types.now before g ≡ goal_by (reading types.now store.old) types.now before goal.now) }
+    ensures typed { IfOk result (λ g. IsTypedGoal types.now store.new g) }
+    ensures names { IfOk result (λ g. g.constants.items ≡ goal.now.constants.items) }
+    ensures adds { AddsTypedTerms types.now store.old store.new }
+    ensures steps { steps.old ≤ steps.new }
+{
+    let added = resolved_terms(alloc, types, store, &goal.added, steps)?;
+    let conclusion = copy_resolved(alloc, types, store, goal.conclusion, steps)?;
+    Ok(Goal {
+        added,
+        conclusion,
+        depth: goal.depth,
+        constants: Vec::from_slice(alloc, &goal.constants)?,
+        untouched: goal.untouched,
+        layers: goal.layers,
+        member_first: goal.member_first,
+    })
+}
+
+/// Adds the goals, with what cells are bound to in their places.
+pub(crate) fn add_resolved<L>(
+    alloc: Global,
+    types: &TypeTable,
+    store: &mut Store,
+    goals: &[Goal],
+    list: &mut Vec<Goal>,
+    steps: &mut Steps<L>,
+) -> Result<(), AllocError>
+    requires store { IsTypedBy types.now store.old }
+    requires goals { All (IsTypedGoal types.now store.old) goals.now }
+    requires list { All (IsTypedGoal types.now store.old) list.old.items }
+    ensures resolved { OnOk result (IsResolved types.now store.old store.new list.old.items goals.now list.new.items) }
+    ensures adds { AddsTypedTerms types.now store.old store.new }
+    ensures steps { steps.old ≤ steps.new }
+{
+    for goal in goals {
+        let made = resolved_goal(alloc, types, store, goal, steps)?;
+        list.push(made)?;
+    }
+    Ok(())
+}
