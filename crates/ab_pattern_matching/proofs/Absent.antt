@@ -1,26 +1,22 @@
 -- What can be read off a term and off its parts, with terms put in for other variables.
-use Rattle.std.proofs.Common.{◌≡◌, inl, inr, ℕ, List, [], ◌∷◌, ◌++◌, Bool, true, false, cond, ◌&&◌, ◌||◌, Option, Some, None, is_some, refl, sym, ◌∙◌, ap, subst}
+use Rattle.std.proofs.Common.{◌≡◌, inl, inr, ℕ, List, [], ◌∷◌, ◌++◌, Bool, true, false, cond, Option, Some, None, is_some, refl, sym, ◌∙◌, ap, subst}
 use Rattle.std.proofs.lemmas.Bool.{false≢true, and_parts, or_parts, or_from, or_left, false_from_ne_true}
-use Rattle.ab_term.specs.Types.{Ty, kind, arrow}
 use Rattle.ab_term.specs.Terms.{Variable, Head, constant, logical, nominal, variable, index, Term, lam, spine, Terms, no_terms, term}
-use Rattle.ab_term.specs.Typing.{Signature, head_type, HasType, TakeType, typed_spine, take_none, take_term}
 use Rattle.ab_term.specs.Translation.{translate_head, forget, forget_all}
 use Rattle.ab_term.specs.Variables.{variables_of_head, variables, variables_of_all, put_for, put_at, image_by, image_all_by}
-use Rattle.ab_term.specs.Sameness.{same_numbered, same_head, same_term}
-use Rattle.ab_term.proofs.Same.{same_numbered-Decides, same_head-Decides, same_term-Decides}
+use Rattle.ab_term.specs.Sameness.{same_numbered}
+use Rattle.ab_term.proofs.Same.{same_numbered-Decides}
 use Rattle.ab_term.proofs.PastHints.{variables-forget}
 use Rattle.ab_unifiers.specs.Patterns.{pattern}
 use Rattle.ab_unifiers.specs.Replacements.{holds, is_flexible, has_patterns, all_have_patterns, patterns_at}
-use Rattle.ab_unifiers.specs.Unification.{Equation, Result, parts, paired}
-use Rattle.ab_unifiers.specs.Unifiers.{IsTypedEquation}
 use Rattle.ab_unifiers.specs.Clauses.{Within}
 use Rattle.ab_unifiers.proofs.Agreeing.{holds_front, holds_behind, image_agrees, image_pattern, pattern_rigid}
 use Rattle.ab_unifiers.proofs.Avoiding.{not_held}
 use Rattle.ab_unifiers.proofs.Readings.{pattern_back}
 use Rattle.ab_unifiers.proofs.Values.{forget_pattern}
-use Rattle.ab_unifiers.proofs.Views.{IsPattern, is_pattern}
+use Rattle.ab_unifiers.proofs.Views.{is_pattern}
 use Rattle.ab_search_trees.specs.Lifting.{Guess}
-use Rattle.ab_pattern_matching.specs.Reading.{read_at, can_read, can_read_one, Every, HasNoneOf, but}
+use Rattle.ab_pattern_matching.specs.Reading.{read_at, can_read, can_read_one, HasNoneOf, but}
 
 -- what the variables don't stand in
 pub no_front : (vs ws : List (Variable ℕ)) (y : Variable ℕ) → holds (vs ++ ws) y ≡ false → holds vs y ≡ false

@@ -1,38 +1,35 @@
 -- AN ALTERNATIVE ON THE RIGHT, AGAIN: both alternatives' sides are the clause's, raised in two ways.
-use Rattle.std.proofs.Common.{◌≡◌, ◌≢◌, ◌⊎◌, inl, inr, ℕ, suc, ◌+◌, ◌<◌, ◌≤◌, List, [], ◌∷◌, ◌++◌, map, length, Bool, true, false, not, Some, None, refl, sym, ◌∙◌, ap, subst, arith}
-use Rattle.std.specs.Prelude.{Contains, All, AllPairs}
-use Rattle.std.proofs.lemmas.Bool.{false≢true, false_from_ne_true}
+use Rattle.std.proofs.Common.{◌≡◌, ◌≢◌, ◌⊎◌, inl, inr, ℕ, suc, ◌+◌, ◌<◌, ◌≤◌, List, [], ◌∷◌, ◌++◌, map, length, true, not, Some, None, refl, sym, ◌∙◌, ap, subst, arith}
+use Rattle.std.specs.Prelude.{Contains, AllPairs}
+use Rattle.std.proofs.lemmas.Bool.{false_from_ne_true}
 use Rattle.std.proofs.lemmas.List.Elements.{All-append, Contains-append_left, Contains-append_right}
-use Rattle.ab_term.specs.Types.{Ty, kind, prop}
-use Rattle.ab_term.specs.Terms.{Nominal, Variable, constant, nominal, variable, Term, spine, Terms, no_terms, term}
-use Rattle.ab_term.specs.Typing.{Signature, HasType, TakeType, typed_spine, take_none, take_term}
+use Rattle.ab_term.specs.Types.{Ty, prop}
+use Rattle.ab_term.specs.Terms.{Nominal, Variable, Term, Terms, no_terms, term}
+use Rattle.ab_term.specs.Typing.{Signature, HasType, TakeType, take_term}
 use Rattle.ab_term.specs.Names.{moved_by, rename, rename_all, permute, support, support_of_all, IsPermutationTable}
 use Rattle.ab_term.specs.Translation.{forget, forget_all}
 use Rattle.ab_term.specs.Variables.{Substitution, variables, variables_of_all, value_in, image, image_all, image_by, image_all_by}
 use Rattle.ab_term.specs.Sameness.{same_number}
-use Rattle.ab_term.specs.Abstraction.{over, name_terms}
 use Rattle.ab_term.proofs.Depends.{nothing, image_all_agrees, image_all_nothing}
-use Rattle.ab_term.proofs.Lists.{Contains-none, Contains-here, Contains-there, Contains-cases, Contains-map, Contains-from_map}
-use Rattle.ab_term.proofs.Permutations.{swapped, IsOneToOne, one_to_one}
-use Rattle.ab_term.proofs.PastHints.{variables-forget}
+use Rattle.ab_term.proofs.Lists.{Contains-none, Contains-cases, Contains-map, Contains-from_map}
+use Rattle.ab_term.proofs.Permutations.{swapped, one_to_one}
 use Rattle.ab_term.proofs.Stands.{either}
 use Rattle.ab_unifiers.specs.Replacements.{Cell, holds}
 use Rattle.ab_unifiers.specs.Unification.{Equation, unified, Solves}
 use Rattle.ab_unifiers.specs.Unifiers.{given, AreTyped, AreKnown, AreOver}
-use Rattle.ab_unifiers.specs.Clauses.{Clause, Each, numbered, clause_variables, clause_names, name_term, filled, head_of, put_together, IsClause, Within}
+use Rattle.ab_unifiers.specs.Clauses.{Clause, Each, numbered, clause_variables, clause_names, name_term, filled, put_together, IsClause}
 use Rattle.ab_unifiers.specs.Choices.{is_in, in_order, outside}
-use Rattle.ab_unifiers.specs.Alternatives.{Scope, on_right, alternative, arguments_equal, unchosen, cells_over, made_over, made_terms}
+use Rattle.ab_unifiers.specs.Alternatives.{Scope, on_right, alternative, arguments_equal, cells_over, made_over, made_terms}
 use Rattle.ab_unifiers.proofs.Agreeing.{holds_front, holds_behind}
-use Rattle.ab_unifiers.proofs.Choosing.{contains_in, in_or_outside, outside_contains, ordered_contains, ordered_pairs, kept_pairs}
+use Rattle.ab_unifiers.proofs.Choosing.{in_or_outside, outside_contains, ordered_contains, ordered_pairs, kept_pairs}
 use Rattle.ab_unifiers.proofs.Constants as constants
 use Rattle.ab_unifiers.proofs.Covered.{found_of_all, names_typed}
 use Rattle.ab_unifiers.proofs.Rows.{together_all, numbered_within}
 use Rattle.ab_unifiers.proofs.Unifier.{arguments_of, made_have, names_have}
 use Rattle.ab_unifiers.proofs.Variables as stand
 use Rattle.ab_search_trees.specs.Lifting.{Guess, IsGuessFor, MakesEqual}
-use Rattle.ab_pattern_matching.specs.Reading.{HasNoneOf, LeftsWithout, HoldNoneOf}
-use Rattle.ab_pattern_matching.specs.Raising.{Bare, Raising, raised, raised_term, raising, AreRaised, IsApart, AreRaisings, missing}
-use Rattle.ab_pattern_matching.proofs.Absent.{no_front, no_behind}
+use Rattle.ab_pattern_matching.specs.Reading.{LeftsWithout, HoldNoneOf}
+use Rattle.ab_pattern_matching.specs.Raising.{Bare, Raising, raised, raised_term, AreRaised, IsApart, AreRaisings, missing}
 use Rattle.ab_pattern_matching.proofs.TwoWays.{only_raised, held_map}
 use Rattle.ab_pattern_matching.proofs.OfClauses.{numbered_one, from_to, raised_are_made, types_moved, side, side_typed, side_holds, side_constants, first_raised, second_raised}
 use Rattle.ab_pattern_matching.proofs.Over.{matches_over}

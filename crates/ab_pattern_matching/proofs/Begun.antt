@@ -1,12 +1,10 @@
 -- A problem as it is given, with a guess that makes all sides the same and holds none of their constants.
-use Rattle.std.proofs.Common.{◌≡◌, ◌⊎◌, inl, inr, ℕ, zero, suc, ◌<◌, ◌≤◌, List, [], ◌∷◌, ◌++◌, map, length, Bool, true, false, Option, Some, None, refl, sym, ◌∙◌, ap, subst, arith}
+use Rattle.std.proofs.Common.{◌≡◌, ◌⊎◌, inl, inr, ℕ, zero, suc, ◌<◌, List, [], ◌∷◌, ◌++◌, map, length, true, false, Some, None, refl, sym, ◌∙◌, ap, subst, arith}
 use Rattle.std.specs.Prelude.{Contains}
 use Rattle.std.proofs.lemmas.Bool.{false≢true, or_left, or_right, false_from_ne_true}
-use Rattle.ab_term.specs.Terms.{Nominal, Variable, Head, nominal, index, Term}
-use Rattle.ab_term.specs.Typing.{Signature, HasType}
+use Rattle.ab_term.specs.Terms.{Nominal, Variable, Head, nominal, index}
+use Rattle.ab_term.specs.Typing.{Signature}
 use Rattle.ab_term.specs.Names.{support}
-use Rattle.ab_term.specs.Translation.{forget}
-use Rattle.ab_term.specs.Variables.{image_by}
 use Rattle.ab_term.specs.Sameness.{same_head}
 use Rattle.ab_term.specs.Abstraction.{among, under}
 use Rattle.ab_term.proofs.Determined.{NoIndex}
@@ -14,16 +12,16 @@ use Rattle.ab_term.proofs.Lists.{Contains-none, Contains-cases}
 use Rattle.ab_term.proofs.Same.{same_head-Decides}
 use Rattle.ab_term.proofs.Stands.{either}
 use Rattle.ab_term.proofs.Only.{among-under, among-append, innermost_stands, among_front, among_behind}
-use Rattle.ab_unifiers.specs.Replacements.{Cell, holds}
+use Rattle.ab_unifiers.specs.Replacements.{Cell}
 use Rattle.ab_unifiers.specs.Unification.{Equation, Answer, Solves}
 use Rattle.ab_unifiers.specs.Unifiers.{given, IsTypedEquation, AreTyped, AreKnown, IsOver, AreOver}
-use Rattle.ab_unifiers.proofs.Following.{Put, Fits, follows_none}
-use Rattle.ab_unifiers.proofs.General.{Scoped, AllScoped, Alike, AllAlike}
-use Rattle.ab_unifiers.proofs.Most.{Most, Run, most}
+use Rattle.ab_unifiers.proofs.Following.{Fits, follows_none}
+use Rattle.ab_unifiers.proofs.General.{Scoped, AllScoped, AllAlike}
+use Rattle.ab_unifiers.proofs.Most.{Most, most}
 use Rattle.ab_unifiers.proofs.Problems.{problem}
 use Rattle.ab_search_trees.specs.Lifting.{Guess, IsGuessFor, MakesEqual}
 use Rattle.ab_search_trees.proofs.Guessed.{contained, support_only, over_known}
-use Rattle.ab_pattern_matching.specs.Reading.{Every, IsGuessOver, HoldNoneOf}
+use Rattle.ab_pattern_matching.specs.Reading.{IsGuessOver, HoldNoneOf}
 use Rattle.ab_pattern_matching.proofs.Going.{every_typed, every_scoped, every_alike, Going}
 
 -- the bound names of a context

@@ -11,7 +11,7 @@ use Rattle.ab_term.proofs.Compositions.{then_by, image_composed, image_typed}
 use Rattle.ab_term.proofs.Determined.{NoIndex}
 use Rattle.ab_term.proofs.Only.{image_by_only}
 use Rattle.ab_term.proofs.Translations.{translate_typed}
-use Rattle.ab_unifiers.specs.Replacements.{Cell, Change, holds}
+use Rattle.ab_unifiers.specs.Replacements.{Change, holds}
 use Rattle.ab_unifiers.specs.Unification.{Equation, State, Result, parts, replaced, rule, image_of}
 use Rattle.ab_unifiers.specs.Unifiers.{IsTypedEquation, AreTyped, AreKnown}
 use Rattle.ab_unifiers.proofs.Steps.{OnResult}
@@ -21,7 +21,7 @@ use Rattle.ab_unifiers.proofs.Ruling.{Right}
 use Rattle.ab_unifiers.proofs.Flexible.{rule_right}
 use Rattle.ab_unifiers.proofs.Following.{Put, Fits, Follows, follows_on, Known, KnownValues, plain, plain_typed, image_plain, agrees_below}
 use Rattle.ab_unifiers.proofs.General.{Scoped, AllScoped, Alike, AllAlike, General, rule_general}
-use Rattle.ab_pattern_matching.specs.Reading.{Every, HasNoneOf, but}
+use Rattle.ab_pattern_matching.specs.Reading.{Every, but}
 use Rattle.ab_pattern_matching.proofs.Lists.{every_weaker, every_map, every_both, every_split}
 use Rattle.ab_pattern_matching.proofs.Absent.{no_both, absent_alike}
 

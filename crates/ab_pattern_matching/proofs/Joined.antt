@@ -1,13 +1,12 @@
 -- Patterns whose first names are constants: names before others, and constants renamed.
-use Rattle.std.proofs.Common.{◌≡◌, ◌⊎◌, inl, inr, ℕ, List, [], ◌∷◌, ◌++◌, map, Bool, true, false, ◌||◌, refl, sym, ◌∙◌, ap, subst}
+use Rattle.std.proofs.Common.{◌≡◌, inl, inr, ℕ, List, [], ◌∷◌, ◌++◌, map, true, false, refl, sym, ◌∙◌, ap, subst}
 use Rattle.std.specs.Prelude.{◌≢◌, Contains, AllPairs}
-use Rattle.std.proofs.lemmas.Bool.{false≢true, or_parts, or_cases, or_left, or_right, or_from, false_from_ne_true}
+use Rattle.std.proofs.lemmas.Bool.{false≢true, or_cases, or_left, or_right, false_from_ne_true}
 use Rattle.std.proofs.lemmas.List.Elements.{All-contains, Contains-append_left, Contains-append_right}
 use Rattle.ab_term.specs.Types.{Ty}
-use Rattle.ab_term.specs.Terms.{Nominal, Head, constant, logical, nominal, variable, index, Term, Terms, no_terms, term, joined}
-use Rattle.ab_term.specs.Names.{rename_head, rename, rename_all, support_of_head, support, support_of_all}
+use Rattle.ab_term.specs.Terms.{Nominal, Head, constant, logical, nominal, variable, index, Terms, no_terms, joined}
+use Rattle.ab_term.specs.Names.{rename_head, rename, rename_all, support, support_of_all}
 use Rattle.ab_term.specs.Expansion.{expansion}
-use Rattle.ab_term.specs.Translation.{forget}
 use Rattle.ab_term.specs.Sameness.{same_head}
 use Rattle.ab_term.specs.Abstraction.{among, is_name, over, name_terms}
 use Rattle.ab_term.proofs.Forgetting.{forget_plain}
@@ -18,7 +17,7 @@ use Rattle.ab_term.proofs.Recognising.{expansion_of_one}
 use Rattle.ab_term.proofs.Renamings.{rename-expansion_of}
 use Rattle.ab_term.proofs.Same.{same_head-Decides}
 use Rattle.ab_term.proofs.Stands.{either, support-expansion_of}
-use Rattle.ab_unifiers.proofs.Views.{IsName, IsPattern, pattern_end, pattern_more}
+use Rattle.ab_unifiers.proofs.Views.{IsPattern, pattern_end, pattern_more}
 use Rattle.ab_search_trees.proofs.Guessed.{contained}
 
 abbrev pub BareTerms : Type 0

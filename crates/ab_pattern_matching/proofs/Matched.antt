@@ -1,13 +1,13 @@
 -- MATCHING: where no left side holds what may be replaced, a rule that replaces a variable puts in what is read off; and
 -- where no rule applies, nothing can be read off.
-use Rattle.std.proofs.Common.{◌≡◌, ℕ, ◌<◌, List, [], ◌∷◌, ◌++◌, map, length, Bool, true, false, cond, ◌&&◌, ◌||◌, not, Option, Some, None, is_some, refl, sym, ◌∙◌, ap, subst}
+use Rattle.std.proofs.Common.{◌≡◌, ℕ, List, [], ◌∷◌, ◌++◌, Bool, true, false, cond, ◌||◌, not, Option, Some, None, is_some, refl, sym, ◌∙◌, ap, subst}
 use Rattle.std.proofs.lemmas.Bool.{false≢true, and_from, or_from, or_left, false_from_ne_true}
 use Rattle.ab_term.specs.Terms.{Variable, Head, constant, logical, nominal, variable, index, Term, lam, spine, Terms, no_terms, term}
-use Rattle.ab_term.specs.Types.{Ty, kind, arrow}
+use Rattle.ab_term.specs.Types.{Ty}
 use Rattle.ab_term.specs.Typing.{Signature, HasType, typed_lam, typed_spine}
-use Rattle.ab_term.specs.Translation.{translate_head, forget, forget_all}
+use Rattle.ab_term.specs.Translation.{forget, forget_all}
 use Rattle.ab_term.specs.Variables.{variables_of_head, variables, variables_of_all, image_by, image, composition}
-use Rattle.ab_term.specs.Sameness.{same_numbered, same_head, same_number, same_term}
+use Rattle.ab_term.specs.Sameness.{same_numbered, same_head, same_number}
 use Rattle.ab_term.specs.Abstraction.{under}
 use Rattle.ab_term.proofs.Determined.{NoIndex}
 use Rattle.ab_term.proofs.Depends.{image_unmoved}
@@ -15,7 +15,7 @@ use Rattle.ab_term.proofs.Forgetting.{forget_plain}
 use Rattle.ab_term.proofs.Same.{same_numbered-Decides, same_term-Decides}
 use Rattle.ab_unifiers.specs.Patterns.{pattern}
 use Rattle.ab_unifiers.specs.Replacements.{Cell, Change, without, holds, is_flexible, has_patterns, all_have_patterns, occurs, no_foreign, pruned_here, pruned, pruned_all}
-use Rattle.ab_unifiers.specs.Unification.{Equation, State, Answer, unified, apart, stuck, Result, clash, parts, replaced, or_else, paired, equal_sides, bodies, rigid_heads, begun, put_in, pattern_of, pattern_and_rigid, one_variable, two_variables, either_way, rule, goes_on, image_of, Solves, at_end, by_step}
+use Rattle.ab_unifiers.specs.Unification.{Equation, State, Answer, unified, apart, stuck, Result, clash, parts, replaced, or_else, paired, equal_sides, bodies, rigid_heads, begun, put_in, pattern_of, pattern_and_rigid, one_variable, two_variables, either_way, rule, Solves, at_end, by_step}
 use Rattle.ab_unifiers.specs.Unifiers.{IsTypedEquation}
 use Rattle.ab_unifiers.specs.Clauses.{Within}
 use Rattle.ab_unifiers.proofs.Agreeing.{pattern_rigid}
@@ -25,14 +25,14 @@ use Rattle.ab_unifiers.proofs.General.{Alike}
 use Rattle.ab_unifiers.proofs.Keys.{not_itself}
 use Rattle.ab_unifiers.proofs.Readings.{pattern_back}
 use Rattle.ab_unifiers.proofs.Views.{IsPattern, pattern_end, pattern_more, is_pattern}
-use Rattle.ab_pattern_matching.specs.Reading.{read_at, can_read, can_read_one, Every, HasNoneOf, but, NoneRead, NoneMatters, ReadInTurn, LeftsWithout}
+use Rattle.ab_pattern_matching.specs.Reading.{can_read, can_read_one, Every, HasNoneOf, but, NoneRead, NoneMatters, ReadInTurn, LeftsWithout}
 use Rattle.ab_pattern_matching.proofs.Lists.{every_weaker, every_both, every_split}
 use Rattle.ab_pattern_matching.proofs.Ruled.{Replaces, is_solved, is_narrowed, is_put, are_joined, the_other_way}
-use Rattle.ab_pattern_matching.proofs.Absent.{no_front, no_behind, no_both, none_there, but_none, absent_alike}
+use Rattle.ab_pattern_matching.proofs.Absent.{no_front, no_behind, no_both, none_there, absent_alike}
 use Rattle.ab_pattern_matching.proofs.Parts.{forgotten_absent, image_still, lefts_of_parts, unread_whole, matterless_parts}
 use Rattle.ab_pattern_matching.proofs.Turns.{Stepped, parted, changed, step_view, Ended, all_solved, none_applies, are_apart, end_view}
 use Rattle.ab_pattern_matching.proofs.Going.{Going, around, taken_out, in_between, parts_going, change_going}
-use Rattle.ab_pattern_matching.proofs.Solved.{gives_of, replaces_of, stay_within, lefts_after, unread_before, matterless_after}
+use Rattle.ab_pattern_matching.proofs.Solved.{gives_of, replaces_of, lefts_after, unread_before, matterless_after}
 
 -- A TERM WITHOUT WHAT IS FLEXIBLE
 module _ {Hint : Type 0} (ys : List (Variable ℕ)) where

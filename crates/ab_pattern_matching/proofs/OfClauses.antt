@@ -1,16 +1,16 @@
 -- A CLAUSE'S SIDES AS RAISED TERMS: its variables become fresh ones, which are raised over constants by each alternative.
-use Rattle.std.proofs.Common.{◌≡◌, ◌≢◌, ◌⊎◌, inl, inr, ℕ, zero, suc, ◌+◌, ◌-◌, ◌<◌, ◌≤◌, List, [], ◌∷◌, ◌++◌, map, length, Bool, true, false, cond, ◌||◌, Option, Some, None, option_map, refl, sym, ◌∙◌, ap, subst, arith}
+use Rattle.std.proofs.Common.{◌≡◌, ◌⊎◌, inl, inr, ℕ, suc, ◌+◌, ◌-◌, List, [], ◌∷◌, ◌++◌, map, length, Bool, true, false, cond, Option, Some, None, option_map, refl, sym, ◌∙◌, ap, subst, arith}
 use Rattle.std.specs.Prelude.{Contains}
-use Rattle.std.proofs.lemmas.Bool.{false≢true, or_cases, or_left, or_right, false_from_ne_true}
-use Rattle.ab_term.specs.Types.{Ty, kind}
-use Rattle.ab_term.specs.Terms.{Nominal, Variable, nominal, variable, Term, spine, Terms, no_terms, term}
-use Rattle.ab_term.specs.Typing.{Signature, HasType, TakeType, take_none, take_term}
-use Rattle.ab_term.specs.Names.{moved_by, rename, permute, support, support_of_all, IsPermutationTable}
+use Rattle.std.proofs.lemmas.Bool.{false≢true, or_cases, or_left, or_right}
+use Rattle.ab_term.specs.Types.{Ty}
+use Rattle.ab_term.specs.Terms.{Nominal, Variable, nominal, variable, Term, no_terms}
+use Rattle.ab_term.specs.Typing.{Signature, HasType}
+use Rattle.ab_term.specs.Names.{moved_by, rename, permute, support, IsPermutationTable}
 use Rattle.ab_term.specs.Expansion.{expansion}
 use Rattle.ab_term.specs.Translation.{forget}
-use Rattle.ab_term.specs.Variables.{Substitution, variables, variables_of_all, value_in, image, image_all, image_by, IsTyped}
+use Rattle.ab_term.specs.Variables.{Substitution, variables, value_in, image, image_by, IsTyped}
 use Rattle.ab_term.specs.Sameness.{same_numbered, same_number}
-use Rattle.ab_term.specs.Abstraction.{over, given_names, name_terms}
+use Rattle.ab_term.specs.Abstraction.{over, given_names}
 use Rattle.ab_term.proofs.Compositions.{then_by, image_composed}
 use Rattle.ab_term.proofs.Depends.{image_rigid}
 use Rattle.ab_term.proofs.Expansions.{expansion_typed}
@@ -27,8 +27,8 @@ use Rattle.ab_term.proofs.PastHints.{variables-forget}
 use Rattle.ab_term.proofs.Translations.{translate_typed, translate-expansion, support-translate}
 use Rattle.ab_term.proofs.UpToNames.{rename-itself}
 use Rattle.ab_unifiers.specs.Replacements.{Cell, holds}
-use Rattle.ab_unifiers.specs.Clauses.{Clause, Each, numbered, clause_variables, clause_names, put_together, name_term, filled, IsClause, Within}
-use Rattle.ab_unifiers.specs.Alternatives.{cells_over, made_over, made_terms}
+use Rattle.ab_unifiers.specs.Clauses.{Clause, Each, numbered, clause_variables, clause_names, name_term, filled}
+use Rattle.ab_unifiers.specs.Alternatives.{made_over, made_terms}
 use Rattle.ab_unifiers.proofs.Core.{variables_found, names_found}
 use Rattle.ab_unifiers.proofs.Covered.{names_typed}
 use Rattle.ab_unifiers.proofs.Following.{Put, plain, plain_typed, image_plain}

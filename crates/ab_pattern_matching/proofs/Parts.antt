@@ -1,17 +1,16 @@
 -- An equation and its parts: what can be read off, and what matters, is the same for both.
-use Rattle.std.proofs.Common.{◌≡◌, ℕ, List, [], ◌∷◌, Bool, true, false, ◌||◌, Option, Some, None, refl, sym, ◌∙◌, ap, subst}
+use Rattle.std.proofs.Common.{◌≡◌, ℕ, List, true, false, Some, None, refl, sym, ◌∙◌, ap, subst}
 use Rattle.std.proofs.lemmas.Bool.{or_parts, or_from, false_from_ne_true, false≢true}
 use Rattle.ab_term.specs.Types.{Ty, kind}
 use Rattle.ab_term.specs.Terms.{Variable, Head, Term, lam, spine, Terms, no_terms, term}
 use Rattle.ab_term.specs.Typing.{Signature, head_type, HasType, TakeType, typed_spine, take_none, take_term}
 use Rattle.ab_term.specs.Translation.{forget, forget_all}
 use Rattle.ab_term.specs.Variables.{variables_of_head, variables, variables_of_all, image_by, image_all_by}
-use Rattle.ab_term.specs.Sameness.{same_term}
 use Rattle.ab_term.proofs.Same.{same_head-Decides, same_term-Decides}
 use Rattle.ab_term.proofs.Depends.{image_unmoved}
 use Rattle.ab_term.proofs.PastHints.{variables-forget, variables_past_hints}
 use Rattle.ab_unifiers.specs.Replacements.{Cell, holds, is_flexible}
-use Rattle.ab_unifiers.specs.Unification.{Equation, Result, parts, paired}
+use Rattle.ab_unifiers.specs.Unification.{Equation, parts, paired}
 use Rattle.ab_unifiers.specs.Clauses.{Within}
 use Rattle.ab_unifiers.proofs.Agreeing.{contains_holds}
 use Rattle.ab_search_trees.specs.Lifting.{Guess}

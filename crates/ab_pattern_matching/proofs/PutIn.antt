@@ -8,19 +8,19 @@ use Rattle.ab_term.specs.Translation.{forget}
 use Rattle.ab_term.specs.Variables.{Substitution, variables, image_by}
 use Rattle.ab_term.proofs.Compositions.{then_by, image_composed}
 use Rattle.ab_term.proofs.Depends.{image_unmoved}
-use Rattle.ab_term.proofs.Images.{IsTypedMap, image_by_typed}
+use Rattle.ab_term.proofs.Images.{image_by_typed}
 use Rattle.ab_term.proofs.PastHints.{variables-forget}
 use Rattle.ab_term.proofs.Translations.{translate_typed, typed_before}
 use Rattle.ab_unifiers.specs.Replacements.{Cell, holds}
 use Rattle.ab_unifiers.specs.Unification.{Equation, Answer, unified, apart, stuck, Solves}
-use Rattle.ab_unifiers.specs.Unifiers.{given, IsTypedEquation, AreTyped, AreKnown, AreOver}
+use Rattle.ab_unifiers.specs.Unifiers.{given, AreTyped, AreKnown, AreOver}
 use Rattle.ab_unifiers.specs.Clauses.{Within}
 use Rattle.ab_unifiers.proofs.Agreeing.{contains_holds}
 use Rattle.ab_unifiers.proofs.Ending.{answered}
 use Rattle.ab_unifiers.proofs.Following.{Put, only_on, Fits, only_on_fits}
 use Rattle.ab_unifiers.proofs.General.{AllAlike}
 use Rattle.ab_unifiers.proofs.Variables.{Has, has_held, held_has, image_by_has}
-use Rattle.ab_pattern_matching.specs.Reading.{can_read, Every, HasNoneOf, but, NoneRead, NoneMatters, ReadInTurn, LeftsWithout, HoldNoneOf, ArePutIn}
+use Rattle.ab_pattern_matching.specs.Reading.{can_read, HasNoneOf, but, NoneRead, NoneMatters, ReadInTurn, LeftsWithout, HoldNoneOf, ArePutIn}
 use Rattle.ab_pattern_matching.proofs.Begun.{no_index_among, begins, not_apart}
 use Rattle.ab_pattern_matching.proofs.Going.{but_typed}
 use Rattle.ab_pattern_matching.proofs.Matched.{matched}

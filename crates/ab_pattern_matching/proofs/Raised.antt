@@ -1,13 +1,13 @@
 -- A TERM, RAISED: what stands in it, and what can be read off it, in two ways of raising.
-use Rattle.std.proofs.Common.{◌≡◌, ◌⊎◌, inl, inr, ℕ, List, [], ◌∷◌, ◌++◌, map, Bool, true, false, cond, ◌||◌, Option, Some, None, is_some, refl, sym, ◌∙◌, ap, subst}
+use Rattle.std.proofs.Common.{◌≡◌, ◌⊎◌, inl, inr, ℕ, List, [], ◌∷◌, ◌++◌, map, Bool, true, false, cond, Option, Some, None, is_some, refl, sym, ◌∙◌, ap, subst}
 use Rattle.std.specs.Prelude.{◌≢◌, Contains, AllPairs}
 use Rattle.std.proofs.lemmas.Bool.{false≢true, or_cases, or_left, or_right, or_from, false_from_ne_true}
 use Rattle.std.proofs.lemmas.List.Elements.{Contains-append_left, Contains-append_right}
 use Rattle.ab_term.specs.Types.{Ty, kind}
-use Rattle.ab_term.specs.Terms.{Nominal, Variable, Head, constant, logical, nominal, variable, index, Term, lam, spine, Terms, no_terms, term}
-use Rattle.ab_term.specs.Typing.{Signature, head_type, HasType, TakeType, typed_lam, typed_spine, take_none, take_term}
-use Rattle.ab_term.specs.Names.{rename_head, rename, rename_all, support, support_of_all, support_of_head}
-use Rattle.ab_term.specs.Variables.{variables_of_head, variables, variables_of_all, put_for, image_by, image_all_by}
+use Rattle.ab_term.specs.Terms.{Nominal, Variable, Head, constant, logical, nominal, variable, index, spine, no_terms, term}
+use Rattle.ab_term.specs.Typing.{Signature, HasType, TakeType, typed_lam, typed_spine, take_none, take_term}
+use Rattle.ab_term.specs.Names.{rename_head, rename, rename_all, support, support_of_all}
+use Rattle.ab_term.specs.Variables.{variables, variables_of_all, put_for, image_by, image_all_by}
 use Rattle.ab_term.specs.Sameness.{same_numbered}
 use Rattle.ab_term.specs.Abstraction.{among, over, name_terms}
 use Rattle.ab_term.proofs.Depends.{image_unmoved}
@@ -20,7 +20,6 @@ use Rattle.ab_term.proofs.Renamings.{rename_typed}
 use Rattle.ab_term.proofs.Same.{same_numbered-Decides}
 use Rattle.ab_unifiers.specs.Patterns.{pattern}
 use Rattle.ab_unifiers.specs.Replacements.{holds}
-use Rattle.ab_unifiers.specs.Clauses.{Within}
 use Rattle.ab_unifiers.proofs.Agreeing.{contains_holds, holds_front, holds_behind, image_pattern, pattern_rigid}
 use Rattle.ab_unifiers.proofs.Pruning.{spine_args}
 use Rattle.ab_unifiers.proofs.Readings.{pattern_back}

@@ -1,10 +1,10 @@
 -- THE GUESS FOR THE SECOND raising: what is put in for the first, its constants permuted, abstracted over those of the second.
-use Rattle.std.proofs.Common.{◌≡◌, ◌⊎◌, inl, inr, ℕ, List, [], ◌∷◌, map, Bool, true, false, cond, not, ◌||◌, Option, Some, None, refl, sym, ◌∙◌, ap, subst}
+use Rattle.std.proofs.Common.{◌≡◌, inl, inr, ℕ, List, [], ◌∷◌, map, Bool, true, false, cond, not, ◌||◌, Some, None, refl, sym, ◌∙◌, ap, subst}
 use Rattle.std.specs.Prelude.{Contains}
 use Rattle.std.proofs.lemmas.Bool.{false≢true, or_cases, or_left, or_right, false_from_ne_true}
 use Rattle.ab_term.specs.Terms.{Nominal, Variable, nominal, variable}
 use Rattle.ab_term.specs.Typing.{Signature, HasType}
-use Rattle.ab_term.specs.Names.{moved_by, rename, permute, support, IsPermutationTable}
+use Rattle.ab_term.specs.Names.{moved_by, permute, support, IsPermutationTable}
 use Rattle.ab_term.specs.Variables.{image_by}
 use Rattle.ab_term.specs.Sameness.{same_numbered}
 use Rattle.ab_term.specs.Abstraction.{over, name_terms, abstracted}
@@ -18,7 +18,7 @@ use Rattle.ab_term.proofs.Renamings.{rename_typed, support-rename}
 use Rattle.ab_term.proofs.Lists.{Contains-from_map}
 use Rattle.ab_term.proofs.Same.{same_numbered-Decides}
 use Rattle.ab_unifiers.specs.Replacements.{holds}
-use Rattle.ab_unifiers.specs.Choices.{is_in, outside}
+use Rattle.ab_unifiers.specs.Choices.{is_in}
 use Rattle.ab_unifiers.proofs.Choosing.{in_contains, kept_contains}
 use Rattle.ab_unifiers.proofs.Constants as constants
 use Rattle.ab_search_trees.specs.Lifting.{Guess}

@@ -1,14 +1,14 @@
 -- WHAT UNIFIES IS READ OFF: along the steps to an answer, variables that no left side holds and that can't be read off are
 -- never touched, so in the end no right side depended on them.
-use Rattle.std.proofs.Common.{◌≡◌, ℕ, ◌<◌, List, [], ◌∷◌, ◌++◌, map, length, true, false, Option, Some, None, refl, sym, ◌∙◌, ap, subst}
+use Rattle.std.proofs.Common.{◌≡◌, ℕ, List, [], ◌∷◌, ◌++◌, map, length, true, false, Some, None, sym, ◌∙◌, ap, subst}
 use Rattle.ab_term.specs.Terms.{Nominal, Variable, Head, nominal, Term}
 use Rattle.ab_term.specs.Typing.{Signature}
 use Rattle.ab_term.specs.Translation.{forget}
-use Rattle.ab_term.specs.Variables.{variables, Substitution, value_in, image, image_by, composition, IsTyped}
+use Rattle.ab_term.specs.Variables.{Substitution, value_in, image, image_by, composition, IsTyped}
 use Rattle.ab_term.specs.Sameness.{same_number}
 use Rattle.ab_term.proofs.Determined.{NoIndex}
 use Rattle.ab_unifiers.specs.Replacements.{Cell, Change, holds}
-use Rattle.ab_unifiers.specs.Unification.{Equation, State, Answer, unified, apart, stuck, Result, parts, replaced, rule, goes_on, image_of, Solves, at_end, by_step}
+use Rattle.ab_unifiers.specs.Unification.{Equation, State, Answer, unified, apart, stuck, Result, parts, replaced, rule, image_of, Solves, at_end, by_step}
 use Rattle.ab_unifiers.specs.Unifiers.{given, IsTypedEquation, AreTyped, AreKnown, AreOver}
 use Rattle.ab_unifiers.specs.Clauses.{Within}
 use Rattle.ab_unifiers.proofs.Avoiding.{Without, avoids_if, image_avoids}
@@ -16,14 +16,14 @@ use Rattle.ab_unifiers.proofs.Steps.{OnResult}
 use Rattle.ab_unifiers.proofs.Following.{Put, Fits, Follows, follows_on}
 use Rattle.ab_unifiers.proofs.General.{Scoped, AllAlike}
 use Rattle.ab_pattern_matching.specs.Reading.{can_read, Every, HasNoneOf, but, NoneRead, NoneMatters, ReadInTurn, LeftsWithout, HoldNoneOf}
-use Rattle.ab_pattern_matching.proofs.Lists.{every_weaker, every_map, every_mapped, every_both, every_split}
+use Rattle.ab_pattern_matching.proofs.Lists.{every_weaker, every_map, every_both, every_split}
 use Rattle.ab_pattern_matching.proofs.Ruled.{Replaces, Gives, rule_gives, replaced_by}
 use Rattle.ab_pattern_matching.proofs.Untouched.{Untouched, untouched, have_patterns}
 use Rattle.ab_pattern_matching.proofs.Absent.{unread_absent, absent_alike}
 use Rattle.ab_pattern_matching.proofs.Parts.{lefts_of_parts, unread_parts, matterless_whole}
 use Rattle.ab_pattern_matching.proofs.Turns.{Stepped, parted, changed, step_view, Ended, all_solved, none_applies, are_apart, end_view}
 use Rattle.ab_pattern_matching.proofs.Begun.{no_index_among, begins}
-use Rattle.ab_pattern_matching.proofs.Going.{avoids_then, transported, Going, After, around, taken_out, in_between, parts_going, change_going}
+use Rattle.ab_pattern_matching.proofs.Going.{avoids_then, transported, Going, around, taken_out, in_between, parts_going, change_going}
 
 module _ {Hint : Type 0} (x : Hint) (s : State Hint) where
   pub gives_of : (e : Equation Hint) (r : Result Hint) → rule x s.cells s.flexible e ≡ Some r → Gives x s.cells s.flexible e.left e.right r

@@ -1,19 +1,18 @@
 -- THE SIDES MAY CHANGE PLACES: each rule gives the same the other way round, so the answer is the same.
 use Rattle.std.proofs.Common.{◌≡◌, ◌⊎◌, inl, inr, ℕ, ◌≤◌, List, [], ◌∷◌, ◌++◌, map, length, Bool, true, false, cond, ◌&&◌, ◌||◌, not, Option, Some, None, option_map, refl, sym, ◌∙◌, ap, subst, arith}
-use Rattle.std.proofs.lemmas.Bool.{false≢true, false_from_ne_true}
+use Rattle.std.proofs.lemmas.Bool.{false≢true}
 use Rattle.ab_term.specs.Types.{Ty, kind, arity}
 use Rattle.ab_term.specs.Terms.{Variable, Head, constant, logical, nominal, variable, index, Term, lam, spine, Terms, no_terms, term}
 use Rattle.ab_term.specs.Typing.{Signature, HasType, TakeType}
-use Rattle.ab_term.specs.Translation.{forget}
 use Rattle.ab_term.specs.Variables.{Substitution, composition}
 use Rattle.ab_term.specs.Sameness.{same_numbered, same_head, same_number, same_term}
 use Rattle.ab_term.specs.Abstraction.{Distinct}
 use Rattle.ab_term.proofs.Abstracting.{named_length}
 use Rattle.ab_term.proofs.Same.{same_numbered-Decides, same_head-Decides, same_term-Decides}
 use Rattle.ab_term.proofs.Translations.{map-append}
-use Rattle.ab_unifiers.specs.Patterns.{pattern, applied, kept, kept_type}
-use Rattle.ab_unifiers.specs.Replacements.{Cell, Change, without, holds, is_flexible, made, next_variable, narrowed}
-use Rattle.ab_unifiers.specs.Unification.{Equation, State, Answer, unified, apart, stuck, Result, clash, parts, replaced, or_else, paired, equal_sides, bodies, rigid_heads, is_older, agreeing, unchanged, pattern_of, pattern_and_rigid, same_variable_at, one_variable, two_at, two_variables, either_way, rule, Found, found_at, first_found, Next, finished, goes_on, image_of, ending, carried, next_by, next, Solves, at_end, by_step}
+use Rattle.ab_unifiers.specs.Patterns.{pattern, kept_type}
+use Rattle.ab_unifiers.specs.Replacements.{Cell, without, holds, is_flexible, made, next_variable, narrowed}
+use Rattle.ab_unifiers.specs.Unification.{Equation, State, Answer, Result, clash, parts, replaced, or_else, paired, equal_sides, bodies, rigid_heads, is_older, agreeing, unchanged, pattern_of, pattern_and_rigid, same_variable_at, one_variable, two_at, two_variables, either_way, rule, Found, found_at, first_found, Next, finished, goes_on, image_of, ending, carried, next_by, next, Solves, at_end, by_step}
 use Rattle.ab_unifiers.specs.Unifiers.{given, IsTypedEquation, AreTyped, AreKnown}
 use Rattle.ab_unifiers.proofs.Narrowing.{narrowed_same}
 use Rattle.ab_unifiers.proofs.Problems.{problem}

@@ -1,9 +1,8 @@
 -- One step, seen: the equation at which a rule applies, what the rule gives, and what the step leads to.
-use Rattle.std.proofs.Common.{◌≡◌, ℕ, List, [], ◌∷◌, ◌++◌, map, Option, Some, None, refl, sym, ◌∙◌, ap, subst}
-use Rattle.ab_term.specs.Terms.{Variable}
+use Rattle.std.proofs.Common.{◌≡◌, List, [], ◌∷◌, ◌++◌, map, Option, Some, None, refl, ap, subst}
 use Rattle.ab_term.specs.Variables.{composition}
 use Rattle.ab_term.specs.Sameness.{same_number}
-use Rattle.ab_unifiers.specs.Replacements.{Cell, Change}
+use Rattle.ab_unifiers.specs.Replacements.{Change}
 use Rattle.ab_unifiers.specs.Unification.{Equation, State, Answer, unified, apart, stuck, Result, clash, parts, replaced, rule, Found, found_at, first_found, finished, goes_on, image_of, ending, carried, next_by, next}
 use Rattle.ab_pattern_matching.specs.Reading.{Every}
 

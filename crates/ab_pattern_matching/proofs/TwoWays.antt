@@ -1,9 +1,9 @@
 -- TWO WAYS OF RAISING ONE PROBLEM: what is read off in turn in the first is so in the second.
-use Rattle.std.proofs.Common.{◌≡◌, ◌⊎◌, inl, inr, ℕ, List, [], ◌∷◌, ◌++◌, map, filter, Bool, true, false, cond, ◌||◌, Option, Some, None, option_map, refl, sym, ◌∙◌, ap, subst}
+use Rattle.std.proofs.Common.{◌≡◌, ◌⊎◌, inl, inr, ℕ, List, [], ◌∷◌, ◌++◌, map, filter, Bool, true, false, cond, Some, None, option_map, refl, sym, ◌∙◌, ap, subst}
 use Rattle.std.specs.Prelude.{Contains}
-use Rattle.std.proofs.lemmas.Bool.{false≢true, or_cases, or_left, or_right, false_from_ne_true, true_from_ne_false}
+use Rattle.std.proofs.lemmas.Bool.{false≢true, or_cases, or_left, or_right, false_from_ne_true}
 use Rattle.ab_term.specs.Types.{Ty}
-use Rattle.ab_term.specs.Terms.{Nominal, Variable, Head, constant, logical, nominal, variable, index, Term, lam, spine, Terms, no_terms, term}
+use Rattle.ab_term.specs.Terms.{Nominal, Variable, Head, constant, logical, nominal, variable, index, lam, spine, Terms, no_terms, term}
 use Rattle.ab_term.specs.Typing.{Signature, HasType}
 use Rattle.ab_term.specs.Names.{moved_by, rename_head, rename, rename_all, permute, support}
 use Rattle.ab_term.specs.Translation.{forget}
@@ -27,7 +27,7 @@ use Rattle.ab_unifiers.proofs.General.{AllAlike}
 use Rattle.ab_unifiers.proofs.Variables as stand
 use Rattle.ab_search_trees.specs.Lifting.{Guess}
 use Rattle.ab_search_trees.proofs.Lifts.{filter_held, filter_from}
-use Rattle.ab_pattern_matching.specs.Reading.{can_read, Every, HasNoneOf, but, NoneRead, NoneMatters, ReadInTurn, LeftsWithout}
+use Rattle.ab_pattern_matching.specs.Reading.{can_read, HasNoneOf, but, NoneRead, NoneMatters, ReadInTurn, LeftsWithout}
 use Rattle.ab_pattern_matching.specs.Raising.{Bare, Raising, raised, raised_term, raising, AreRaised, IsApart, AreRaisings}
 use Rattle.ab_pattern_matching.proofs.Going.{but_typed}
 use Rattle.ab_pattern_matching.proofs.Parts.{image_still}

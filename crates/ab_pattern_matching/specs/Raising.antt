@@ -3,7 +3,7 @@ use Rattle.std.specs.Prelude.{◌≡◌, ◌≢◌, ◌⊎◌, ℕ, List, map, t
 use Rattle.ab_term.specs.Types.{Ty}
 use Rattle.ab_term.specs.Terms.{Nominal, Variable, Term}
 use Rattle.ab_term.specs.Typing.{Signature, HasType}
-use Rattle.ab_term.specs.Names.{support, moved_by, permute, IsPermutationTable}
+use Rattle.ab_term.specs.Names.{support, moved_by, IsPermutationTable}
 use Rattle.ab_term.specs.Translation.{forget}
 use Rattle.ab_term.specs.Variables.{variables, image_by}
 use Rattle.ab_term.specs.Abstraction.{over, given_names}

@@ -1,6 +1,6 @@
 -- WHAT CAN BE READ OFF. Where a variable stands in a term, given different names and under none of the variables, then from
 -- what the term is to be equal to one reads off what the variable is.
-use Rattle.std.specs.Prelude.{◌≡◌, ℕ, List, [], ◌∷◌, Bool, true, false, cond, ◌||◌, Option, Some, None, is_some, Contains}
+use Rattle.std.specs.Prelude.{◌≡◌, ℕ, List, [], ◌∷◌, Bool, true, false, cond, ◌||◌, Some, None, is_some, Contains}
 use Rattle.ab_term.specs.Terms.{Nominal, Variable, Head, variable, Term, lam, spine, Terms, no_terms, term}
 use Rattle.ab_term.specs.Typing.{Signature, HasType}
 use Rattle.ab_term.specs.Names.{support}

@@ -1,5 +1,5 @@
 -- What is like a judgement is one, of the same mark.
-use Rattle.std.proofs.Common.{◌≡◌, List, Some, None, refl, ◌∙◌, ap}
+use Rattle.std.proofs.Common.{sym, ◌≡◌, List, Some, None, refl, ◌∙◌, ap}
 use Rattle.ab_term.specs.Logical.{judgement, focused_judgement}
 use Rattle.ab_term.specs.Terms.{Nominal, logical, spine, no_terms, term, Read}
 use Rattle.ab_term.specs.Names.{permute, moved_by}
@@ -21,17 +21,20 @@ use Rattle.ab_search_proofs.proofs.AtomsAlike.{marked_made, other_made}
 
 module _ (D : Declarations) (vs : List StandIn) where
   -- THE JUDGEMENT of the sequent, which is no atom
-  pub record JudgementLike (j : Judgement) (G : Read) : Type 0 where
+  pub record JudgementLike (ps : List (Nominal × Nominal)) (j : Judgement) (G : Read) : Type 0 where
     pub judged : Judgement
     pub is : as_judgement G ≡ Some judged
     pub sign : judged.sign ≡ j.sign
     pub no_atom : defined_atom D G ≡ None
+    pub context : forget (permute ps (image same_number (replacing vs) j.context)) ≡ forget judged.context
+    pub goal : forget (permute ps (image same_number (replacing vs) j.goal)) ≡ forget judged.goal
+    pub unfocused : j.focus ≡ None → judged.focus ≡ None
 
   module _ (ps : List (Nominal × Nominal)) where
     abbrev here : Read → Read
     here t = permute ps (image same_number (replacing vs) t)
 
-    as_like : (m : Sign) (A B G : Read) (j : Judgement) → judgement_as m A ≡ Some j → forget (here A) ≡ forget B → as_judgement G ≡ judgement_as m B → defined_atom D G ≡ defined_as D m B → JudgementLike j G
+    as_like : (m : Sign) (A B G : Read) (j : Judgement) → judgement_as m A ≡ Some j → forget (here A) ≡ forget B → as_judgement G ≡ judgement_as m B → defined_atom D G ≡ defined_as D m B → JudgementLike ps j G
     as_like m (spine (logical judgement) (term L (term H no_terms))) B G j e s is none =
         let given : Judgement = record { sign = m; context = L; focus = None; goal = H } in
         let same : given ≡ j = cc in
@@ -44,6 +47,9 @@ module _ (D : Declarations) (vs : List StandIn) where
           is = is ∙ ap (judgement_as m) whole;
           sign = ap (λ k. k.sign) same;
           no_atom = none ∙ ap (defined_as D m) whole;
+          context = ap (λ k. forget (here k.context)) (sym same) ∙ one.3;
+          goal = ap (λ k. forget (here k.goal)) (sym same) ∙ two.3;
+          unfocused = λ q. refl;
         }
     as_like m (spine (logical focused_judgement) (term L (term K (term H no_terms)))) B G j e s is none =
         let given : Judgement = record { sign = m; context = L; focus = Some K; goal = H } in
@@ -59,13 +65,16 @@ module _ (D : Declarations) (vs : List StandIn) where
           is = is ∙ ap (judgement_as m) whole;
           sign = ap (λ k. k.sign) same;
           no_atom = none ∙ ap (defined_as D m) whole;
+          context = ap (λ k. forget (here k.context)) (sym same) ∙ one.3;
+          goal = ap (λ k. forget (here k.goal)) (sym same) ∙ three.3;
+          unfocused = λ q. absurd (let bad : Some K ≡ None = ap (λ k. k.focus) same ∙ q in cc);
         }
     as_like m _ B G j e s is none = absurd (cc)
 
-  pub judgement_like : (C G : Read) → IsLike D vs C G → (j : Judgement) → as_judgement C ≡ Some j → JudgementLike j G
+  pub judgement_like : (C G : Read) (l : IsLike D vs C G) (j : Judgement) → as_judgement C ≡ Some j → JudgementLike (l.same).0 j G
   judgement_like C G l j e = go (form_of C) refl (like_form D vs C G l) e
     where
-      go : (k : Form) → form_of C ≡ k → FormMade nothing (form_renamed (moved_by (l.same).0) (form_under (replacing vs) k)) (form_of G) → judgement_in k C ≡ Some j → JudgementLike j G
+      go : (k : Form) → form_of C ≡ k → FormMade nothing (form_renamed (moved_by (l.same).0) (form_under (replacing vs) k)) (form_of G) → judgement_in k C ≡ Some j → JudgementLike (l.same).0 j G
       go (marked m A) p made q =
           let b = marked_made nothing m (permute (l.same).0 (image same_number (replacing vs) A)) (form_of G) made in
           as_like (l.same).0 m A b.0 G j q (made_so (permute (l.same).0 (image same_number (replacing vs) A)) b.0 b.2) (ap (λ k. judgement_in k G) b.1) (ap (λ k. defined_form D k G) b.1)

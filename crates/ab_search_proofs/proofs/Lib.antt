@@ -23,3 +23,8 @@ pub mod Places
 pub mod Derived
 pub mod JudgementsAlike
 pub mod Ruled
+pub mod VariableHeads
+pub mod OpenedAlike
+pub mod Alone
+pub mod Opening
+pub mod Sentences

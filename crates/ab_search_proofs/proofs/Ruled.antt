@@ -69,7 +69,7 @@ module _ (D : Declarations) (programs : HavePrograms D) (has : HasMember (signat
   abbrev sg : Signature
   sg = signature_in D
 
-  pub like_judgement : JudgementLike D vs i.judgement s.conclusion
+  pub like_judgement : JudgementLike D vs (l.conclusion.same).0 i.judgement s.conclusion
   like_judgement = judgement_like D vs C s.conclusion l.conclusion i.judgement i.is
 
   abbrev j : Judgement

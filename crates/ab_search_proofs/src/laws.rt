@@ -1,7 +1,7 @@
 //! The steps of the kernel that carry out what a search shows: each is allowed at every sequent like the goal, and its premises are like the
 //! goals that are shown next.
 
-ghost use Rattle.std.specs.Prelude.{◌≡◌, ◌≢◌, ℕ, List, [], ◌∷◌, ◌++◌, All, Contains, map, codes, true, false};
+ghost use Rattle.std.specs.Prelude.{◌≡◌, ◌≢◌, ℕ, List, [], ◌∷◌, ◌++◌, All, Contains, map, codes, true, false, Some, None};
 ghost use Rattle.ab_term.specs.Types.{Ty};
 ghost use Rattle.ab_term.specs.Terms.{Nominal, Variable, Read};
 ghost use Rattle.ab_term.specs.Typing.{HasType};
@@ -13,14 +13,19 @@ ghost use Rattle.ab_unifiers.specs.Clauses.{Clause, name_term};
 ghost use Rattle.ab_unifiers.specs.Choices.{in_order};
 ghost use Rattle.ab_unifiers.specs.Member.{HasMember};
 ghost use Rattle.ab_formulas.specs.Declarations.{Declarations, HaveSentences, HaveDefinitions, signature_in};
+ghost use Rattle.ab_formulas.specs.BodyMarks.{MayBeUnfolded, mark_above};
+ghost use Rattle.ab_formulas.specs.Formulas.{IsFormula, IsSentence};
 ghost use Rattle.ab_formulas.specs.Forms.{truth, equal, both, either, implies, for_all, exists, nabla, form_of};
 ghost use Rattle.ab_formulas.specs.Marks.{erased, MarksServeIn};
 ghost use Rattle.ab_formulas.specs.GoalTerms.{HoldsOnly};
 ghost use Rattle.ab_formulas.specs.NewNames.{Label, Names};
 ghost use Rattle.ab_formulas.specs.Programs.{HavePrograms};
 ghost use Rattle.ab_formulas.specs.Sequents.{Sequent, IsSequent, formulas};
-ghost use Rattle.ab_theory.specs.Derivations.{Derivation};
+ghost use Rattle.ab_theory.specs.Derivations.{Derivation, IsDerivation};
 ghost use Rattle.ab_theory.specs.Atoms.{Defined};
+ghost use Rattle.ab_theory.specs.Judgements.{Judgement, as_judgement};
+ghost use Rattle.ab_theory.specs.Opening.{compound, atomic, kind_of, open_goal};
+ghost use Rattle.ab_theory.specs.SpecRules.{is_nil, some_item};
 ghost use Rattle.ab_theory.specs.Steps.{initial, true_right, and_right, or_right, arrow_right, for_all_right, exists_right, nabla_right, equal_right, definition_right};
 ghost use Rattle.ab_search_trees.specs.Guesses.{a_variable};
 ghost use Rattle.ab_search_proofs.specs.Likeness.{StandIn, replaced, IsLikeGoal, AreLike};
@@ -79,6 +84,15 @@ pub fn step_of_a_rule()
         (place : ℕ) × LeadsTo D (definition_right place) s (λ ps. (t : Sequent) × (ps ≡ t ∷ []) × ComesTo D vs Hs B t) }
 {}
 
+/// The rules that demand nothing else are solved everywhere: a judgement whose goal is made of others opens, all layers at once; and an atom may come
+/// of some formula of a list that isn't `nil`.
+pub fn rules_of_goals_and_lists_are_solved()
+    ensures opening { (D : Declarations) → HasMember (signature_in D) → (ys : List (Variable ℕ)) (C : Read) → IsFormula (signature_in D) C → HoldsOnly ys C → (j : Judgement) → as_judgement C ≡ Some j → MayBeUnfolded j.sign →
+        j.focus ≡ None → kind_of j.goal ≡ compound → IsByRule D ys C [] (open_goal (mark_above j.sign) j.context j.goal) }
+    ensures listing { (D : Declarations) → HasMember (signature_in D) → (ys : List (Variable ℕ)) (C : Read) → IsFormula (signature_in D) C → HoldsOnly ys C → (j : Judgement) → as_judgement C ≡ Some j → MayBeUnfolded j.sign →
+        j.focus ≡ None → kind_of j.goal ≡ atomic → is_nil j.context ≡ false → IsByRule D ys C [] (some_item (mark_above j.sign) j.context j.goal) }
+{}
+
 /// WHERE A SEARCH BEGINS: a sequent is like the goal that it is itself, each of its variables standing in for itself.
 pub fn a_sequent_is_like_itself()
     ensures { (D : Declarations) (s : Sequent) → IsSequent D s → IsLikeGoal D (themselves s) (formulas s.hypotheses) s.conclusion s }
@@ -88,4 +102,10 @@ pub fn a_sequent_is_like_itself()
 pub fn proved_goals_are_derived()
     ensures { (D : Declarations) → HaveSentences D → HaveDefinitions D → HavePrograms D → HasMember (signature_in D) → (vs : List StandIn) (Hs : List Read) (C : Read) → Proved D (map replaced vs) Hs C →
         (s : Sequent) → IsSequent D s → IsLikeGoal D vs Hs C s → (d : Derivation) × IsWhole D s d }
+{}
+
+/// So a sentence that a search proves has a derivation, without gaps.
+pub fn proved_sentences_have_derivations()
+    ensures { (D : Declarations) → HaveSentences D → HaveDefinitions D → HavePrograms D → HasMember (signature_in D) → (F : Read) → IsSentence (signature_in D) F → Proved D [] [] F →
+        (d : Derivation) × IsDerivation D F d }
 {}

@@ -1,6 +1,4 @@
 use Rattle.std.proofs.Common.{[]}
-use Rattle.ab_unifiers.specs.Unification.{unified}
-use Rattle.ab_unifiers.specs.Unifiers.{given}
 use Rattle.ab_pattern_matching.proofs.Begun.{guess_over, guess_fits, given_alike, none_held}
 use Rattle.ab_pattern_matching.proofs.Solved.{problem_read}
 use Rattle.ab_pattern_matching.proofs.laws.what_unifies_is_read_off.Goals as goal
