@@ -10,8 +10,9 @@ mod Moving
 mod NewConclusion
 pub mod Opened
 mod OtherCounts
+pub mod PlacesKept
 pub mod Placing
-mod Posed
+pub mod Posed
 mod Quantified
 mod Raised
 mod Resolved
@@ -19,3 +20,4 @@ mod SameHeads
 mod SeenParts
 mod Targets
 mod TypedScopes
+mod Valued

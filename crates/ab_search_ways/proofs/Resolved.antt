@@ -74,7 +74,7 @@ module _ (types : Table) (s t u : Contents) (so_far : AddsTypedTerms types s t) 
   pub goals_kept : (gs : List Goal) → All (IsTypedGoal types t) gs → All (IsTypedGoal types u) gs
   goals_kept gs all = All-weaker (IsTypedGoal types t) (IsTypedGoal types u) (goal_kept types t u adds) gs all
 
-  same_goals : (hs : List Read) (gs : List Goal) → All (IsTypedGoal types t) gs → map (goal_by (tree_of types u) types hs) gs ≡ map (goal_by (tree_of types t) types hs) gs
+  pub same_goals : (hs : List Read) (gs : List Goal) → All (IsTypedGoal types t) gs → map (goal_by (tree_of types u) types hs) gs ≡ map (goal_by (tree_of types t) types hs) gs
   same_goals hs gs all =
       map_same (goal_by (tree_of types u) types hs) (goal_by (tree_of types t) types hs) (IsTypedGoal types t) (λ g h.
       ap (λ l. plain_goal (hs ++ l) (tree_of types u g.conclusion) (names_read types g.constants.items) g) (same_trees g.added.items h.added)
@@ -132,3 +132,11 @@ module _ (types : Table) (s t u : Contents) (one : AddsTypedTerms types s t) (tw
         ∙ ap (λ ns. ns ++ map (λ (g : Goal). g.constants.items) rest) first.names
         ∙ sym (map-append (λ (g : Goal). g.constants.items) goals rest);
   }
+
+-- what is left stays
+pub left_kept : (types : Table) (s t u : Contents) (so_far : AddsTypedTerms types s t) (adds : AddsTypedTerms types t u) (gs : List Goal) (now : List Goal) → IsResolved types s t [] gs now → IsResolved types s u [] gs now
+left_kept types s t u so_far adds gs now r = record {
+  reads = λ hs. same_goals types s t u so_far adds hs now r.typed ∙ r.reads hs;
+  typed = goals_kept types s t u so_far adds now r.typed;
+  names = r.names;
+}

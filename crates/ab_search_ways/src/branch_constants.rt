@@ -13,7 +13,7 @@ use ab_norm::types::{TypeId, TypeTable};
 use std::alloc::{AllocError, Global};
 
 /// A constant of the type that none of these is: it has the least number, from 1 on, that none of them has.
-pub(crate) fn new_constant(
+pub fn new_constant(
     alloc: Global,
     types: &TypeTable,
     held: &[Nominal],

@@ -7,10 +7,12 @@ ghost use Rattle.ab_norm.specs.ab_store.specs.Trees.{HoldsCell, tree_of};
 ghost use Rattle.ab_norm.specs.ab_store.specs.Reading.{reading};
 ghost use Rattle.ab_norm.specs.ab_store.specs.Naming.{IsTypedBy, IsTerm};
 ghost use Rattle.ab_norm.specs.NodeGrowth.{AddsTypedTerms};
+ghost use Rattle.ab_search_ways.specs.Answers.{HoldsValue, IsAnswerFor};
 ghost use Rattle.ab_search_ways.specs.GoalReadings.{goal_by, IsTypedGoal};
 ghost use Rattle.ab_search_ways.specs.GoalsLeft.{IsResolved, unbound_in};
 
 use crate::goal::Goal;
+use crate::way::Value;
 use ab_norm::copy_resolved;
 use ab_norm::store::{CellId, Store, TermId};
 use ab_norm::types::{Steps, TypeTable};
@@ -105,4 +107,50 @@ pub(crate) fn add_resolved<L>(
         list.push(made)?;
     }
     Ok(())
+}
+
+/// What the cell is bound to, if anything, with what cells in it are bound to in their places.
+fn value_of<L>(
+    alloc: Global,
+    types: &TypeTable,
+    store: &mut Store,
+    cell: CellId,
+    steps: &mut Steps<L>,
+) -> Result<Value, AllocError>
+    requires store { IsTypedBy types.now store.old }
+    requires cell { HoldsCell store.old cell }
+    ensures cell { IfOk result (λ v. v.cell ≡ cell) }
+    ensures held { IfOk result (HoldsValue types.now store.new) }
+    ensures adds { AddsTypedTerms types.now store.old store.new }
+    ensures steps { steps.old ≤ steps.new }
+{
+    let Some(bound) = store.binding(cell) else {
+        return Ok(Value { cell, term: None });
+    };
+    let term = copy_resolved(alloc, types, store, bound, steps)?;
+    Ok(Value {
+        cell,
+        term: Some(term),
+    })
+}
+
+/// What the cells are bound to, with what cells in it are bound to in their places.
+pub(crate) fn values_of<L>(
+    alloc: Global,
+    types: &TypeTable,
+    store: &mut Store,
+    cells: &[CellId],
+    steps: &mut Steps<L>,
+) -> Result<Vec<Value>, AllocError>
+    requires store { IsTypedBy types.now store.old }
+    requires cells { All (HoldsCell store.old) cells.now }
+    ensures answer { IfOk result (λ list. IsAnswerFor types.now store.new cells.now list.items) }
+    ensures adds { AddsTypedTerms types.now store.old store.new }
+    ensures steps { steps.old ≤ steps.new }
+{
+    let mut list = Vec::new(alloc);
+    for cell in cells {
+        list.push(value_of(alloc, types, store, *cell, steps)?)?;
+    }
+    Ok(list)
 }

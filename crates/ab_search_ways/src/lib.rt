@@ -17,7 +17,7 @@ mod way;
 mod way_trials;
 
 pub use blindness::is_blind;
-pub use branch_constants::with_placed;
+pub use branch_constants::{new_constant, with_placed};
 pub use constant_maps::next_map;
 pub use form_ways::{second_way_by_form, way_by_form, way_by_truth};
 pub use goal::Goal;
@@ -25,5 +25,5 @@ pub use hypothesis_sides::sides;
 pub use hypothesis_ways::way_by_hypothesis;
 pub use permutations::permutation_of;
 pub use rigid_heads::{different_heads_are_apart, have_different_heads};
-pub use way::{Place, Tried, Way};
+pub use way::{Place, Tried, Value, Way};
 pub use way_trials::try_way;

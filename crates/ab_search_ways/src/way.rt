@@ -1,7 +1,7 @@
 //! Ways to go on in a search, and what comes of one.
 
 use crate::goal::Goal;
-use ab_norm::store::{CellId, Equation};
+use ab_norm::store::{CellId, Equation, TermId};
 
 /// A way to go on from a goal: the cells that may be bound, the sides that are to be made equal, and the goals that take the
 /// goal's place.
@@ -14,11 +14,20 @@ pub struct Way {
     pub goals: Vec<Goal>,
 }
 
-/// A place of the tree: the cells that may be bound, and the goals that are left, the first one first.
+/// A cell, and what was put in for it, if anything.
+#[derive(Clone, Copy)]
+pub struct Value {
+    pub cell: CellId,
+    pub term: Option<TermId>,
+}
+
+/// A place of the tree: the cells that may be bound, and the goals that are left, the first one first; and the answer of the way
+/// that led to it, which has a value for each cell of the way, in order.
 #[derive(Drop)]
 pub struct Place {
     pub flexible: Vec<CellId>,
     pub goals: Vec<Goal>,
+    pub answer: Vec<Value>,
 }
 
 /// What comes of a way that is tried.

@@ -9,12 +9,13 @@ ghost use Rattle.ab_logic.specs.WorldGrowth.{Grows};
 ghost use Rattle.ab_logic.specs.Worlds.{IsWorld, declarations_of};
 ghost use Rattle.ab_search_trees.specs.Goals.{Now};
 ghost use Rattle.ab_search_trees.specs.Ways.{Way as AWay};
+ghost use Rattle.ab_search_ways.specs.Answers.{IsAnswerFor, IsAnswered};
 ghost use Rattle.ab_search_ways.specs.GoalReadings.{goal_read, HoldsGoal, IsTypedGoal};
 ghost use Rattle.ab_search_ways.specs.MadeWays.{HoldsWay, IsTypedWay, IsMade, IsTried};
 ghost use Rattle.ab_search_ways.specs.GoalsLeft.{IsLeft};
 
 use crate::goal::Goal;
-use crate::goals_left::{add_resolved, add_unbound};
+use crate::goals_left::{add_resolved, add_unbound, values_of};
 use crate::way::{Place, Tried, Way};
 use ab_logic::World;
 use ab_norm::store::{CellId, Store};
@@ -38,6 +39,7 @@ fn place_ahead<L>(
     requires goals { All (IsTypedGoal types.now store.old) way.now.goals.items }
     requires rest { All (IsTypedGoal types.now store.old) rest.now }
     ensures left { IfOk result (IsLeft types.now store.old store.new (way.now.flexible.items ++ made.now) (way.now.goals.items ++ rest.now)) }
+    ensures answer { IfOk result (λ place. IsAnswerFor types.now store.new way.now.flexible.items place.answer.items) }
     ensures adds { AddsTypedTerms types.now store.old store.new }
     ensures steps { steps.old ≤ steps.new }
 {
@@ -47,7 +49,12 @@ fn place_ahead<L>(
     let mut goals = Vec::new(alloc);
     add_resolved(alloc, types, store, &way.goals, &mut goals, steps)?;
     add_resolved(alloc, types, store, rest, &mut goals, steps)?;
-    Ok(Place { flexible, goals })
+    let answer = values_of(alloc, types, store, &way.flexible, steps)?;
+    Ok(Place {
+        flexible,
+        goals,
+        answer,
+    })
 }
 
 /// Tries the way. Cells are bound then where its sides are made equal.
@@ -65,6 +72,7 @@ fn solve_way<L>(
     requires rest_typed { All (IsTypedGoal world.old.types world.old.store) rest.now }
     ensures tried { IfOk result (λ tried. (base : List AnId) (now : Now) (w : AWay) → IsMade world.old base w way.now →
         IsTried world.new base now w (map (goal_read world.old base) rest.now) tried) }
+    ensures answer { IfOk result (IsAnswered world.new.types world.new.store way.now.flexible.items) }
     ensures grows { changed.Grows world.old.types world.old.store world.new.types world.new.store }
     ensures additions { world.new.additions ≡ world.old.additions }
     ensures steps { steps.old ≤ steps.new }
@@ -114,6 +122,7 @@ pub fn try_way<L>(
     requires rest_typed { All (IsTypedGoal world.old.types world.old.store) rest.now }
     ensures tried { IfOk result (λ tried. (base : List AnId) (now : Now) (w : AWay) → IsMade world.old base w way.now →
         IsTried world.new base now w (map (goal_read world.old base) rest.now) tried) }
+    ensures answer { IfOk result (IsAnswered world.new.types world.new.store way.now.flexible.items) }
     ensures grows { Grows world.old world.new }
     ensures declared { declarations_of world.new ≡ declarations_of world.old }
     ensures steps { steps.old ≤ steps.new }
