@@ -1,0 +1,11 @@
+mod Brought
+mod ClauseChoice
+mod ClauseMade
+mod FreshConstants
+mod MapsInTurn
+mod Rows
+mod RuleChoice
+mod RuleMade
+mod TargetLists
+mod Turns
+mod WaysInTurn

@@ -1,0 +1,120 @@
+-- WHERE THE SEARCH of a sequent begins is a place of the tree.
+use Rattle.std.specs.List.{All}
+use Rattle.std.specs.Prelude.{AllPairs, slice_get, option_map}
+use Rattle.std.proofs.Common.{◌≡◌, ◌≢◌, ℕ, List, [], ◌∷◌, ◌++◌, map, Bool, Some, true, false, refl, sym, ◌∙◌, ap, subst, append-nil}
+use Rattle.std.proofs.lemmas.Bool.{false≢true}
+use Rattle.std.proofs.lemmas.List.Elements.{All-nil, All-cons, All-head, All-tail, All-map, All-weaker}
+use Rattle.std.proofs.lemmas.Option.{slice_get-map, slice_get-get_or}
+use Rattle.ab_term.specs.Terms.{Nominal, Read}
+use Rattle.ab_term.specs.Typing.{HasType}
+use Rattle.ab_term.specs.Types.{prop}
+use Rattle.ab_term.proofs.Lists.{Contains-none}
+use Rattle.ab_norm.specs.ab_store.specs.Trees.{cell_of}
+use Rattle.ab_norm.specs.ab_store.specs.declared.node.CellId.{CellId}
+use Rattle.ab_norm.specs.ab_store.specs.declared.node.TermId.{TermId}
+use Rattle.ab_norm.specs.Nominals.{HoldsNominal}
+use Rattle.ab_unifiers.specs.Choices.{in_order}
+use Rattle.ab_unifiers.proofs.Choosing.{ordered_pairs}
+use Rattle.ab_unify.specs.Problem.{cell_read, cells_read}
+use Rattle.ab_unify.specs.StoreChanges.{IsFree}
+use Rattle.ab_next_ways.specs.ab_judgements.specs.ab_alternatives.specs.ab_instances.specs.ListReadings.{names_read}
+use Rattle.ab_formulas.specs.Declarations.{signature_in}
+use Rattle.ab_formulas.specs.Formulas.{IsFormula}
+use Rattle.ab_formulas.specs.Sequents.{Variable, IsSequent, formulas, goal_names}
+use Rattle.ab_theory.specs.Equations.{AreCells}
+use Rattle.ab_logic.specs.Worlds.{IsWorld, Holds, HoldsCell, read, variable_of, declarations_of}
+use Rattle.ab_logic.specs.SequentReadings.{hypothesis_of, sequent_of, HoldsSequent}
+use Rattle.ab_logic.specs.declared.world.World.{World}
+use Rattle.ab_logic.specs.declared.sequent.Sequent.{Sequent as Kept}
+use Rattle.ab_logic.specs.declared.sequent.Hypothesis.{Hypothesis}
+use Rattle.ab_logic.proofs.Growing.{same_constants}
+use Rattle.ab_search_trees.specs.Goals as tree
+use Rattle.ab_search_trees.specs.Goals.{beginning, first_goal}
+use Rattle.ab_search_trees.specs.Tree.{Leaf, Leaves}
+use Rattle.ab_search_trees.specs.Outcomes.{Searched}
+use Rattle.ab_search_trees.proofs.Facts.{AllTasks}
+use Rattle.ab_search_trees.proofs.Root.{task}
+use Rattle.ab_next_ways.specs.ab_search_ways.specs.Answers.{HoldsValue}
+use Rattle.ab_next_ways.specs.ab_search_ways.specs.GoalReadings.{goal_read, HoldsGoal, IsAside, IsPlace}
+use Rattle.ab_next_ways.specs.ab_search_ways.specs.declared.goal.Goal.{Goal}
+use Rattle.ab_next_ways.specs.ab_search_ways.specs.declared.way.Place.{Place}
+use Rattle.ab_walk.specs.Places.{HasLeaves}
+
+abbrev goal_of : List Read → Read → ℕ → List Nominal → Bool → ℕ → Bool → tree.Goal
+goal_of hs F d ns u l m = record { hypotheses = hs; conclusion = F; depth = d; constants = ns; untouched = u; layers = l; member_first = m }
+
+abbrev pub formula_of : Hypothesis → TermId
+formula_of h = h.formula
+
+module _ (w : World) (is : IsWorld w) (p : Kept) (held : HoldsSequent w p) (sequent : IsSequent (declarations_of w) (sequent_of w p)) where
+  -- the sequent's variables are cells
+  are_cells : AreCells (cells_read w.types w.store) (sequent_of w p)
+  are_cells =
+      All-map (λ (x : Variable). slice_get (cells_read w.types w.store) x.number ≡ Some (record { hint = x.name; type = x.type })) (variable_of w) p.variables
+      (All-weaker (HoldsCell w) (λ c. slice_get (cells_read w.types w.store) c.0 ≡ Some (cell_read w.types (cell_of w.store c))) there p.variables held.variables)
+    where
+      there : (c : CellId) → HoldsCell w c → slice_get (cells_read w.types w.store) c.0 ≡ Some (cell_read w.types (cell_of w.store c))
+      there c l = slice_get-map (cell_read w.types) w.store.cells c.0 ∙ ap (option_map (cell_read w.types)) (slice_get-get_or w.store.cells c.0 _ l)
+
+  read_all : (hs : List Hypothesis) → map (read w) (map formula_of hs) ≡ formulas (map (hypothesis_of w) hs)
+  read_all [] = refl
+  read_all (h ∷ hs) = ap (λ l. read w h.formula ∷ l) (read_all hs)
+
+  all_aside : (hs : List Hypothesis) → All (λ (h : Hypothesis). Holds w h.formula) hs → All (IsFormula (signature_in (declarations_of w))) (formulas (map (hypothesis_of w) hs)) → All (IsAside w []) (map formula_of hs)
+  all_aside [] there fs = All-nil (IsAside w [])
+  all_aside (h ∷ hs) there fs =
+      All-cons (IsAside w []) h.formula (map formula_of hs)
+      (record {
+        formula = (All-head (λ (k : Hypothesis). Holds w k.formula) h hs there, subst (λ sg. HasType sg [] (read w h.formula) prop) (sym (same_constants w is)) (All-head (IsFormula (signature_in (declarations_of w))) (read w h.formula) (formulas (map (hypothesis_of w) hs)) fs).typed);
+        apart = λ y m c. Contains-none _ c;
+      })
+      (all_aside hs (All-tail (λ (k : Hypothesis). Holds w k.formula) h hs there) (All-tail (IsFormula (signature_in (declarations_of w))) (read w h.formula) (formulas (map (hypothesis_of w) hs)) fs))
+
+  -- the goal with nothing added
+  module _ (depth : ℕ) (k : Goal) (added : k.added.items ≡ []) (conclusion : k.conclusion ≡ p.conclusion) (deep : k.depth ≡ depth) (constants : names_read w.types k.constants.items ≡ in_order (goal_names (sequent_of w p)))
+      (names : All (HoldsNominal w.types) k.constants.items) (untouched : k.untouched ≡ true) (layers : k.layers ≡ 1000) (member_first : k.member_first ≡ false) where
+    reads : goal_read w (map formula_of p.hypotheses) k ≡ first_goal depth (sequent_of w p)
+    reads =
+        let hs = formulas (map (hypothesis_of w) p.hypotheses) in
+        let ns = names_read w.types k.constants.items in
+        let none : map (read w) (map formula_of p.hypotheses) ++ map (read w) k.added.items ≡ hs = ap (λ l. map (read w) (map formula_of p.hypotheses) ++ map (read w) l) added ∙ append-nil (map (read w) (map formula_of p.hypotheses)) ∙ read_all p.hypotheses in
+        ap (λ l. goal_of l (read w k.conclusion) k.depth ns k.untouched k.layers k.member_first) none
+        ∙ ap (λ t. goal_of hs (read w t) k.depth ns k.untouched k.layers k.member_first) conclusion
+        ∙ ap (λ d. goal_of hs (read w p.conclusion) d ns k.untouched k.layers k.member_first) deep
+        ∙ ap (λ l. goal_of hs (read w p.conclusion) depth l k.untouched k.layers k.member_first) constants
+        ∙ ap (λ b. goal_of hs (read w p.conclusion) depth (in_order (goal_names (sequent_of w p))) b k.layers k.member_first) untouched
+        ∙ ap (λ n. goal_of hs (read w p.conclusion) depth (in_order (goal_names (sequent_of w p))) true n k.member_first) layers
+        ∙ ap (λ b. goal_of hs (read w p.conclusion) depth (in_order (goal_names (sequent_of w p))) true 1000 b) member_first
+
+    pub first_place : IsPlace w (map formula_of p.hypotheses) [] (k ∷ []) (beginning (cells_read w.types w.store) (sequent_of w p)) (first_goal depth (sequent_of w p) ∷ [])
+    first_place = record {
+      variables = record { cells = refl; replaced = refl; free = All-nil (IsFree w.store) };
+      aside = all_aside p.hypotheses held.hypotheses (All-tail (IsFormula (signature_in (declarations_of w))) (read w p.conclusion) (formulas (map (hypothesis_of w) p.hypotheses)) sequent.formulas);
+      reads = ap (λ g. g ∷ []) reads;
+      held = All-cons (HoldsGoal w) k []
+          (record {
+            added = subst (All (Holds w)) (sym added) (All-nil (Holds w));
+            conclusion = subst (Holds w) (sym conclusion) held.conclusion;
+            constants = names;
+            once = subst (AllPairs (λ (a b : Nominal). a ≢ b)) (sym constants) (ordered_pairs (goal_names (sequent_of w p)));
+          })
+          (All-nil (HoldsGoal w));
+    }
+
+  -- WHERE THE SEARCH BEGINS has the sequent's leaves
+  pub begins : (depth : ℕ) (base : List TermId) (place : Place) → place.answer.items ≡ [] → IsPlace w base place.flexible.items place.goals.items (beginning (cells_read w.types w.store) (sequent_of w p)) (first_goal depth (sequent_of w p) ∷ [])
+      → (ls : List Leaf) → Searched (declarations_of w) (cells_read w.types w.store) depth (sequent_of w p) ls → HasLeaves w base place ls
+  begins depth base place none is_place ls searched =
+      let D = declarations_of w in
+      let cells = cells_read w.types w.store in
+      let s = sequent_of w p in
+      let now = beginning cells s in (
+        now,
+        record {
+          place = record { variables = is_place.variables; aside = is_place.aside; reads = refl; held = is_place.held };
+          flexible = λ y h. absurd (false≢true h);
+          tasks = subst (AllTasks (signature_in D) now) (sym is_place.reads) (task D cells depth s sequent are_cells, tt);
+          answer = subst (All (HoldsValue w.types w.store)) (sym none) (All-nil (HoldsValue w.types w.store));
+        },
+        subst (λ gs. Leaves D now gs ls) (sym is_place.reads) searched,
+      )

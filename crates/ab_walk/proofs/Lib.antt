@@ -1,0 +1,12 @@
+mod ListEnds
+mod OutcomesJoined
+mod Seeing
+mod LeavesOnWays
+mod TypedWays
+mod LaterPlaces
+mod WorldsAgain
+mod TurnsTaken
+mod Stacking
+mod PathsHeld
+mod StepsTaken
+mod Beginnings

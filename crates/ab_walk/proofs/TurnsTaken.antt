@@ -1,0 +1,297 @@
+-- ONE TURN at a place: what it does with the leaves that are still to come.
+use Rattle.std.specs.List.{All}
+use Rattle.std.proofs.Common.{◌≡◌, ℕ, List, [], ◌∷◌, ◌++◌, map, codes, Bool, None, refl, sym, ◌∙◌, ap, subst, append_assoc, append-nil}
+use Rattle.std.proofs.lemmas.List.Elements.{All-head, All-tail}
+use Rattle.ab_norm.specs.ab_store.specs.declared.node.TermId.{TermId}
+use Rattle.ab_unifiers.specs.Unification.{apart, stuck, Solves}
+use Rattle.ab_unify.specs.Problem.{variables_read}
+use Rattle.ab_unify.specs.UnifyAnswers.{HasSolution}
+use Rattle.ab_formulas.specs.Declarations.{Declarations, signature_in}
+use Rattle.ab_logic.specs.Worlds.{IsWorld, read, declarations_of}
+use Rattle.ab_logic.specs.declared.world.World.{World}
+use Rattle.ab_logic.proofs.BuiltIn.{has_member}
+use Rattle.ab_logic.proofs.Programs.{have_programs}
+use Rattle.ab_search_trees.specs.Goals.{Goal, Now, goal_under}
+use Rattle.ab_search_trees.specs.Ways.{Way, ways}
+use Rattle.ab_search_trees.specs.Tree.{Leaf, stuck_at, unseen, problem_of, Serve, now_after, Leaves, LeavesBy, LeavesOn, no_goal, a_goal}
+use Rattle.ab_search_trees.specs.Judgements.{is_blind}
+use Rattle.ab_search_trees.proofs.Facts.{AllTasks, all_tasks_both}
+use Rattle.ab_search_trees.proofs.Against.{amid}
+use Rattle.ab_search_trees.proofs.Carried.{AreFlexible, after_flexible, tasks_under}
+use Rattle.ab_search_trees.proofs.Growing.{tasks_grown}
+use Rattle.ab_search_trees.proofs.Shows.{IsFine, EachFine}
+use Rattle.ab_search_trees.proofs.ShowsRest.{ways_fine}
+use Rattle.ab_norm.specs.ab_store.specs.declared.node.CellId.{CellId}
+use Rattle.ab_next_ways.specs.ab_search_ways.specs.Answers.{HoldsValue, IsAnswered}
+use Rattle.ab_next_ways.specs.ab_search_ways.specs.GoalReadings.{goal_read, HoldsGoal, IsTypedGoal, StandsFor}
+use Rattle.ab_next_ways.specs.ab_search_ways.specs.MadeWays.{IsMade, HoldsWay, IsTypedWay, IsTried}
+use Rattle.ab_next_ways.specs.ab_search_ways.specs.declared.goal.Goal.{Goal as Kept}
+use Rattle.ab_next_ways.specs.ab_search_ways.specs.declared.way.Way.{Way as AWay}
+use Rattle.ab_next_ways.specs.ab_search_ways.specs.declared.way.Place.{Place}
+use Rattle.ab_next_ways.specs.ab_search_ways.specs.declared.way.Tried.{Tried}
+use Rattle.ab_next_ways.specs.ab_search_ways.specs.declared.way.Tried.TheVariants as tries
+use Rattle.ab_next_ways.specs.ab_search_ways.specs.declared.way.Tried.TheVariants.{Apart, Refused, Ahead}
+use Rattle.ab_next_ways.specs.ab_search_ways.proofs.LaterWorlds.{goal_same, later_variables}
+use Rattle.ab_next_ways.specs.Cursors.{AreLeft, HoldsCursor}
+use Rattle.ab_next_ways.specs.Steps.{IsPassed, IsNextWay, IsStep}
+use Rattle.ab_next_ways.specs.declared.next_ways.Step.{Step}
+use Rattle.ab_next_ways.specs.declared.next_ways.Step.TheVariants.{Made, Passed, Ended}
+use Rattle.ab_next_ways.specs.declared.cursor.Cursor.{Cursor}
+use Rattle.ab_next_ways.specs.declared.cursor.Cursor.TheVariants.{Start}
+use Rattle.ab_walk.specs.Places.{goals_read, IsSearched, HasLeaves}
+use Rattle.ab_walk.specs.Standing.{AreLeaves, LeftAt, IsOpen, IsLater, IsOpenAgain, blind_if}
+use Rattle.ab_walk.proofs.LaterPlaces.{leaves_for, cursor_carried, left_carried, goals_same, goals_held, tasks_later, searched_later}
+use Rattle.ab_walk.proofs.LeavesOnWays.{behind_apart, split_first, none_left, on_apart, on_stuck, on_refused, on_ahead}
+use Rattle.ab_walk.proofs.TypedWays.{goals_typed, typed_way}
+use Rattle.ab_walk.proofs.WorldsAgain.{later_on, cells_again}
+
+fine_behind : (D : Declarations) (now : Now) (g : Goal) (vs ws : List Way) → EachFine D now g (vs ++ ws) → EachFine D now g ws
+fine_behind D now g [] ws f = f
+fine_behind D now g (v ∷ vs) ws f = fine_behind D now g vs ws f.1
+
+-- a search of a place begins
+module _ (w : World) (is : IsWorld w) (base : List TermId) where
+  start : (now : Now) → AreFlexible now → (ks : List Kept) → AllTasks (signature_in (declarations_of w)) now (goals_read w base ks) → (ls : List Leaf) → Leaves (declarations_of w) now (goals_read w base ks) ls → LeftAt w base now ks Start ls
+  start now f [] t ls no_goal = refl
+  start now f (k ∷ ks) t ls (a_goal {ls = front} d) = (
+    tt,
+    record {
+      ways = ways (declarations_of w) now (goal_read w base k);
+      front = front;
+      left = refl;
+      fine = ways_fine (declarations_of w) is.definitions (have_programs w is) now f (goal_read w base k) t.0 (has_member w is);
+      by = d;
+      all = refl;
+    },
+  )
+
+  pub starts : (p : Place) (ls : List Leaf) → HasLeaves w base p ls → IsOpen w base p Start ls
+  starts p ls h = let s = h.1 in (h.0, s, start h.0 s.flexible p.goals.items s.tasks ls h.2)
+
+-- A PLACE with a first goal, these behind it
+module _ (old : World) (is : IsWorld old) (base : List TermId) (p : Place) (k : Kept) (ks : List Kept) (goals : p.goals.items ≡ k ∷ ks) where
+  abbrev pub g : Goal
+  g = goal_read old base k
+
+  abbrev pub gs : List Goal
+  gs = goals_read old base ks
+
+  -- these leaves are still to come
+  abbrev pub AreOpen : Now → Cursor → List Leaf → Type 0
+  AreOpen now c ls = IsSearched old base p now × HoldsCursor old base k c × AreLeaves (declarations_of old) now old.types g gs c ls
+
+  pub opened : (c : Cursor) (ls : List Leaf) → IsOpen old base p c ls → (now : Now) × AreOpen now c ls
+  opened c ls o = let l = subst (λ l. LeftAt old base o.0 l c ls) goals o.2 in (o.0, (o.1, l.0, l.1))
+
+  module _ (now : Now) (s : IsSearched old base p now) where
+    pub all_held : All (HoldsGoal old) (k ∷ ks)
+    all_held = subst (All (HoldsGoal old)) goals s.place.held
+
+    pub held : HoldsGoal old k
+    held = All-head (HoldsGoal old) k ks all_held
+
+    pub rest_held : All (HoldsGoal old) ks
+    rest_held = All-tail (HoldsGoal old) k ks all_held
+
+    tasks : AllTasks (signature_in (declarations_of old)) now (g ∷ gs)
+    tasks = subst (λ l. AllTasks (signature_in (declarations_of old)) now (goals_read old base l)) goals s.tasks
+
+    pub typed : IsTypedGoal old.types old.store k
+    typed = All-head (IsTypedGoal old.types old.store) k ks (goals_typed old is base now (k ∷ ks) tasks all_held)
+
+    -- wherever the first world is again, with the types of a later one
+    pub again : (new : World) → IsLater old new → (c : Cursor) (ls : List Leaf) → HoldsCursor new base k c → AreLeaves (declarations_of old) now new.types g gs c ls → IsOpenAgain old new base p c ls
+    again new later c ls h a x same types =
+        let at = searched_later old x same.later (cells_again old x is same) base p now s in
+        let there = goal_same old x same.later.grows p.flexible.items base s.place.aside k held in
+        let before = goal_same old new later.grows p.flexible.items base s.place.aside k held in
+        let rest = goals_same old x same.later p.flexible.items base s.place.aside ks rest_held in
+        let left : LeftAt x base now (k ∷ ks) c ls = (
+          cursor_carried new x ([], types ∙ sym (append-nil new.types)) base k (there ∙ sym before) c h,
+          leaves_for now x.types (declarations_of x) (declarations_of old) same.later.declared (goal_read x base k) g there (goals_read x base ks) gs rest c ls
+              (subst (λ t. AreLeaves (declarations_of old) now t g gs c ls) (sym types) a),
+        ) in
+        (now, at, subst (λ l. LeftAt x base now l c ls) (sym goals) left)
+
+    -- IN A LATER WORLD
+    module _ (new : World) (is_new : IsWorld new) (later : IsLater old new) where
+      same_goal : goal_read new base k ≡ g
+      same_goal = goal_same old new later.grows p.flexible.items base s.place.aside k held
+
+      pub same_rest : goals_read new base ks ≡ gs
+      same_rest = goals_same old new later p.flexible.items base s.place.aside ks rest_held
+
+      pub still_held : All (HoldsGoal new) ks
+      still_held = goals_held old new later ks rest_held
+
+      pub still_typed : All (IsTypedGoal new.types new.store) ks
+      still_typed = goals_typed new is_new base now ks (tasks_later old new later now gs (goals_read new base ks) same_rest tasks.1) still_held
+
+      -- some ways are passed
+      pub passed : (c d : Cursor) (ls : List Leaf) (a : AreLeaves (declarations_of old) now old.types g gs c ls) → HoldsCursor new base k d
+          → IsPassed new base now g a.ways d (declarations_of new) new.types → IsOpenAgain old new base p d ls
+      passed c d ls a h t = again new later d ls h (record {
+        ways = t.1;
+        front = a.front;
+        left = subst (λ D. AreLeft D now g new.types d t.1) later.declared t.4;
+        fine = fine_behind (declarations_of old) now g t.0 t.1 (subst (EachFine (declarations_of old) now g) t.2 a.fine);
+        by = behind_apart t.0 t.1 a.front t.3 (subst (λ ws. LeavesBy (declarations_of old) now ws gs a.front) t.2 a.by);
+        all = a.all;
+      })
+
+      -- no way is left
+      pub over : (c : Cursor) (ls : List Leaf) (a : AreLeaves (declarations_of old) now old.types g gs c ls) → a.ways ≡ [] → ls ≡ unseen now g
+      over c ls a e = a.all ∙ ap (λ l. l ++ unseen now g) (none_left a.front (subst (λ ws. LeavesBy (declarations_of old) now ws gs a.front) e a.by))
+
+      -- THE NEXT WAY IS MADE
+      module _ (c d : Cursor) (ls : List Leaf) (a : AreLeaves (declarations_of old) now old.types g gs c ls) (h : HoldsCursor new base k d) (made : AWay) (t : IsNextWay new base now g a.ways d (declarations_of new) made) where
+        abbrev D : Declarations
+        D = declarations_of old
+
+        abbrev pub way : Way
+        way = t.0
+
+        all_fine : EachFine D now g (way ∷ t.1)
+        all_fine = subst (EachFine D now g) t.2 a.fine
+
+        pub way_typed : IsTypedWay new made
+        way_typed = typed_way new is_new now g way (subst (λ E. IsFine E now g way) (sym later.declared) all_fine.0) base made t.3
+
+        split : (front : List Leaf) × (back : List Leaf) × (a.front ≡ front ++ back) × LeavesOn D now way gs front × LeavesBy D now t.1 gs back
+        split = split_first way t.1 a.front (subst (λ ws. LeavesBy D now ws gs a.front) t.2 a.by)
+
+        abbrev on_it : List Leaf
+        on_it = split.0
+
+        abbrev behind : List Leaf
+        behind = split.1 ++ unseen now g
+
+        whole : ls ≡ on_it ++ behind
+        whole = a.all ∙ ap (λ l. l ++ unseen now g) split.2 ∙ append_assoc on_it split.1 (unseen now g)
+
+        -- AND IT IS TRIED
+        module _ (last : World) (is_last : IsWorld last) (tried_later : IsLater new last) where
+          from_old : IsLater old last
+          from_old = later_on old new last later tried_later
+
+          open_behind : IsOpenAgain old last base p d behind
+          open_behind =
+              let there : goal_read last base k ≡ goal_read new base k = goal_same old last from_old.grows p.flexible.items base s.place.aside k held ∙ sym same_goal in
+              again last from_old d behind (cursor_carried new last tried_later.grows.types base k there d h)
+              (record {
+                ways = t.1;
+                front = split.1;
+                left = left_carried new last tried_later.grows.types base k there D now g t.1 d h (subst (λ E. AreLeft E now g new.types d t.1) later.declared t.4);
+                fine = all_fine.1;
+                by = split.4;
+                all = refl;
+              })
+
+          none_on : on_it ≡ [] → IsOpenAgain old last base p d ls
+          none_on e = subst (IsOpenAgain old last base p d) (sym (whole ∙ ap (λ l. l ++ behind) e)) open_behind
+
+          pub were_apart : Solves (codes "x") (problem_of way) apart → IsOpenAgain old last base p d ls
+          were_apart p = none_on (on_apart split.3 p)
+
+          pub was_refused : HasSolution (problem_of way) × (¬ Serve way) → IsOpenAgain old last base p d ls
+          was_refused r = none_on (on_refused split.3 r.0 r.1)
+
+          pub was_stuck : (i : ℕ) → Solves (codes "x") (problem_of way) (stuck i) → (rest : List Leaf) × (ls ≡ stuck_at i ∷ rest) × IsOpenAgain old last base p d rest
+          was_stuck i p = (behind, whole ∙ ap (λ l. l ++ behind) (on_stuck i split.3 p), open_behind)
+
+          -- THE PLACE AHEAD
+          pub went_ahead : (q : Place) → All (HoldsValue last.types last.store) q.answer.items → IsTried last base now way (goals_read new base ks) (Ahead q)
+              → (front : List Leaf) × (rest : List Leaf) × (ls ≡ front ++ rest) × IsOpen last base q Start front × IsOpenAgain old last base p d rest
+          went_ahead q answered r =
+              let sg = signature_in D in
+              let mid = amid D now way in
+              let f = all_fine.0 in
+              let more = r.1 in
+              let answer = r.2 in
+              let after = now_after now way more answer in
+              let mids : AllTasks sg mid (way.goals ++ gs) = all_tasks_both sg mid way.goals gs f.tasks (tasks_grown sg now mid (λ y. None) (λ y. None) f.grown gs tasks.1) in
+              let led : map (goal_under answer) (way.goals ++ goals_read new base ks) ≡ map (goal_under answer) (way.goals ++ gs) = ap (λ l. map (goal_under answer) (way.goals ++ l)) same_rest in
+              let reads : goals_read last base q.goals.items ≡ map (goal_under answer) (way.goals ++ gs) = r.4.reads ∙ led in
+              let under = tasks_under sg mid f.flexible way.equations f.typed f.over more answer r.3 after.answer after.held (way.goals ++ gs) mids in
+              let leaves = on_ahead more answer split.3 r.3 r.0 in
+              let searched : IsSearched last base q after = record {
+                place = record { variables = r.4.variables; aside = r.4.aside; reads = refl; held = r.4.held };
+                flexible = after_flexible sg mid f.flexible way.equations f.typed f.over more answer r.3 after.answer after.held;
+                tasks = tasks_later old last from_old after (map (goal_under answer) (way.goals ++ gs)) (goals_read last base q.goals.items) reads under;
+                answer = answered;
+              } in
+              let there : Leaves (declarations_of last) after (goals_read last base q.goals.items) on_it =
+              subst (λ E. Leaves E after (goals_read last base q.goals.items) on_it) (sym from_old.declared) (subst (λ l. Leaves D after l on_it) (sym reads) leaves) in
+              (on_it, behind, whole, starts last is_last base q on_it (after, searched, there), open_behind)
+
+-- THE ROW OF WAYS TOOK A STEP from the first goal of a place, the others behind it
+pub record Stepped (old : World) (base : List TermId) (p : Place) (c : Cursor) (k : Kept) (ks : List Kept) (v : World) (d : Cursor) (step : Step) : Type 0 where
+  pub world : IsWorld old
+  pub goals : p.goals.items ≡ k ∷ ks
+  pub later : IsLater old v
+  pub cursor : HoldsCursor v base k d
+  pub told : (now : Now) (ws : List Way) → StandsFor old p.flexible.items now → AreLeft (declarations_of old) now (goal_read old base k) old.types c ws → IsStep v base now (goal_read old base k) ws d step
+
+module _ (old : World) (base : List TermId) (p : Place) (c : Cursor) (k : Kept) (ks : List Kept) (v : World) (d : Cursor) (step : Step) (t : Stepped old base p c k ks v d step) where
+  pub rest_there : (ls : List Leaf) → IsOpen old base p c ls → All (HoldsGoal v) ks × All (IsTypedGoal v.types v.store) ks
+  rest_there ls o = (
+    still_held old t.world base p k ks t.goals o.0 o.1 v t.later.grows.world t.later,
+    still_typed old t.world base p k ks t.goals o.0 o.1 v t.later.grows.world t.later,
+  )
+
+  module _ (ls : List Leaf) (o : IsOpen old base p c ls) where
+    here : (now : Now) × AreOpen old t.world base p k ks t.goals now c ls
+    here = opened old t.world base p k ks t.goals c ls o
+
+    abbrev now : Now
+    now = here.0
+
+    searched : IsSearched old base p now
+    searched = here.1.0
+
+    leaves : AreLeaves (declarations_of old) now old.types (goal_read old base k) (goals_read old base ks) c ls
+    leaves = here.1.2
+
+    stepped : IsStep v base now (goal_read old base k) leaves.ways d step
+    stepped = t.told now leaves.ways searched.place.variables leaves.left
+
+    pub turn_passed : step ≡ Passed → IsOpenAgain old v base p d ls
+    turn_passed e = passed old t.world base p k ks t.goals now searched v t.later.grows.world t.later c d ls leaves t.cursor (subst (IsStep v base now (goal_read old base k) leaves.ways d) e stepped)
+
+    pub turn_over : step ≡ Ended → (b : Bool) → b ≡ is_blind (variables_read v.types v.store p.flexible.items) (read v k.conclusion) → ls ≡ blind_if b
+    turn_over e b blind =
+        let stands = searched.place.variables in
+        let flexible = later_variables old v t.later.grows p.flexible.items stands.free ∙ stands.replaced in
+        let formula = t.later.grows.readings k.conclusion (held old t.world base p k ks t.goals now searched).conclusion in
+        over old t.world base p k ks t.goals now searched v t.later.grows.world t.later c ls leaves (subst (IsStep v base now (goal_read old base k) leaves.ways d) e stepped)
+        ∙ ap blind_if (sym (blind ∙ ap (λ ys. is_blind ys (read v k.conclusion)) flexible ∙ ap (is_blind now.flexible) formula))
+
+    module _ (made : AWay) (e : step ≡ Made made) where
+      next : IsNextWay v base now (goal_read old base k) leaves.ways d (declarations_of v) made
+      next = subst (IsStep v base now (goal_read old base k) leaves.ways d) e stepped
+
+      pub made_held : HoldsWay v made
+      made_held = (next.3).held
+
+      pub made_typed : IsTypedWay v made
+      made_typed = way_typed old t.world base p k ks t.goals now searched v t.later.grows.world t.later c d ls leaves t.cursor made next
+
+      -- AND THE WAY WAS TRIED
+      module _ (last : World) (later : IsLater v last) (tried : Tried) (told : (base : List TermId) (now : Now) (w : Way) → IsMade v base w made → IsTried last base now w (map (goal_read v base) ks) tried) where
+        as_told : IsTried last base now next.0 (goals_read v base ks) tried
+        as_told = told base now next.0 next.3
+
+        abbrev at : Tried → Type 0
+        at r = IsTried last base now next.0 (goals_read v base ks) r
+
+        pub turn_apart : tried ≡ Apart → IsOpenAgain old last base p d ls
+        turn_apart e = were_apart old t.world base p k ks t.goals now searched v t.later.grows.world t.later c d ls leaves t.cursor made next last later.grows.world later (subst at e as_told)
+
+        pub turn_refused : tried ≡ Refused → IsOpenAgain old last base p d ls
+        turn_refused e = was_refused old t.world base p k ks t.goals now searched v t.later.grows.world t.later c d ls leaves t.cursor made next last later.grows.world later (subst at e as_told)
+
+        pub turn_stuck : (i : ℕ) → tried ≡ tries.Stuck i → (rest : List Leaf) × (ls ≡ stuck_at i ∷ rest) × IsOpenAgain old last base p d rest
+        turn_stuck i e = was_stuck old t.world base p k ks t.goals now searched v t.later.grows.world t.later c d ls leaves t.cursor made next last later.grows.world later i (subst at e as_told)
+
+        pub turn_ahead : (cells : List CellId) (answered : IsAnswered last.types last.store cells tried) (q : Place) → tried ≡ Ahead q → (front : List Leaf) × (rest : List Leaf) × (ls ≡ front ++ rest) × IsOpen last base q Start front × IsOpenAgain old last base p d rest
+        turn_ahead cells answered q e = went_ahead old t.world base p k ks t.goals now searched v t.later.grows.world t.later c d ls leaves t.cursor made next last later.grows.world later q (subst (IsAnswered last.types last.store cells) e answered).held (subst at e as_told)
