@@ -58,37 +58,37 @@ module _ (sg : Signature) {Hint : Type 0} (x : Hint) (c : Clause Hint) (ns : Lis
   abbrev second_put : Substitution ℕ Hint
   second_put = filled x c (made_terms x k right c.variables) (map (moved_by ps) ns)
 
-  abbrev own_side : Term ℕ Hint → Bare
+  abbrev pub own_side : Term ℕ Hint → Bare
   own_side = side sg x c n k left right ns types ps permutation (n + k)
 
   -- an argument of the clause's head
-  record Good (u : Term ℕ Hint) : Type 0 where
+  pub record Good (u : Term ℕ Hint) : Type 0 where
     pub type : Ty
     pub typed : HasType sg [] u type
     pub own : (y : Variable ℕ) → holds (variables u) y ≡ true → holds (clause_variables c ++ clause_names c) y ≡ true
     pub none : support u ≡ []
 
-  abbrev Goods : Terms ℕ Hint → Type 0
+  abbrev pub Goods : Terms ℕ Hint → Type 0
   Goods no_terms = Unit {0}
   Goods (term u us) = Good u × Goods us
 
-  goods : {A B : Ty} (us : Terms ℕ Hint) → TakeType sg [] us A B → ((y : Variable ℕ) → holds (variables_of_all us) y ≡ true → holds (clause_variables c ++ clause_names c) y ≡ true) → support_of_all us ≡ [] → Goods us
+  pub goods : {A B : Ty} (us : Terms ℕ Hint) → TakeType sg [] us A B → ((y : Variable ℕ) → holds (variables_of_all us) y ≡ true → holds (clause_variables c ++ clause_names c) y ≡ true) → support_of_all us ≡ [] → Goods us
   goods no_terms d f e = tt
   goods (term u us) (take_term {A = A} d ds) f e =
       let none = nil_parts (support u) (support_of_all us) e in
       (record { type = A; typed = d; own = λ y h. f y (holds_front (variables u) (variables_of_all us) y h); none = none.0 }, goods us ds (λ y h. f y (holds_behind (variables u) (variables_of_all us) y h)) none.1)
 
-  abbrev sides_of : Terms ℕ Hint → Terms ℕ Hint → List Bare
+  abbrev pub sides_of : Terms ℕ Hint → Terms ℕ Hint → List Bare
   sides_of no_terms us = []
   sides_of (term t ts) no_terms = []
   sides_of (term t ts) (term u us) = own_side u ∷ sides_of ts us
 
-  sides_all : (Q : Bare → Type 0) → ((u : Term ℕ Hint) → Good u → Q (own_side u)) → (ts us : Terms ℕ Hint) → Goods us → (t : Bare) → Contains (sides_of ts us) t → Q t
+  pub sides_all : (Q : Bare → Type 0) → ((u : Term ℕ Hint) → Good u → Q (own_side u)) → (ts us : Terms ℕ Hint) → Goods us → (t : Bare) → Contains (sides_of ts us) t → Q t
   sides_all Q q no_terms us g t m = absurd (Contains-none t m)
   sides_all Q q (term s ts) no_terms g t m = absurd (Contains-none t m)
   sides_all Q q (term s ts) (term u us) g t m = either (λ e. subst Q e (q u g.0)) (λ i. sides_all Q q ts us g.1 t i) (Contains-cases (own_side u) (sides_of ts us) t m)
 
-  first_each : (p : ℕ) (ts us : Terms ℕ Hint) → Goods us → AreRaised first_way ws (sides_of ts us) (arguments_equal x p ts (image_all same_number first_put us))
+  pub first_each : (p : ℕ) (ts us : Terms ℕ Hint) → Goods us → AreRaised first_way ws (sides_of ts us) (arguments_equal x p ts (image_all same_number first_put us))
   first_each p no_terms us g = tt
   first_each p (term t ts) no_terms g = tt
   first_each p (term t ts) (term u us) g = (first_raised sg x c n k left right ns types ps permutation (n + k) u g.0.typed g.0.own, first_each (suc p) ts us g.1)
@@ -119,7 +119,7 @@ module _ (sg : Signature) {Hint : Type 0} (x : Hint) (c : Clause Hint) (ns : Lis
         (one, lefts_each (suc p) ts ss us rest)
 
   -- left sides whose variables have lower numbers
-  lefts_low : (zs : List (Variable ℕ)) (i : ℕ) → ((y : Variable ℕ) → holds zs y ≡ true → i ≤ y.name) → (p : ℕ) (ts us : Terms ℕ Hint) → ((y : Variable ℕ) → holds (variables_of_all ts) y ≡ true → y.name < i) → LeftsWithout zs (arguments_equal x p ts us)
+  pub lefts_low : (zs : List (Variable ℕ)) (i : ℕ) → ((y : Variable ℕ) → holds zs y ≡ true → i ≤ y.name) → (p : ℕ) (ts us : Terms ℕ Hint) → ((y : Variable ℕ) → holds (variables_of_all ts) y ≡ true → y.name < i) → LeftsWithout zs (arguments_equal x p ts us)
   lefts_low zs i high p no_terms us low = tt
   lefts_low zs i high p (term t ts) no_terms low = tt
   lefts_low zs i high p (term t ts) (term u us) low = (

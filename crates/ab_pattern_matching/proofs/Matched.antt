@@ -86,6 +86,7 @@ module _ {Hint : Type 0} (x : Hint) (cells : List (Cell Hint)) (ys : List (Varia
   pub record Matches (u : Term ℕ Hint) (c : Change Hint) : Type 0 where
     pub fewer : Within c.flexible ys
     pub gone : HasNoneOf c.flexible u
+    pub same : c.cells ≡ cells
 
   solved_matches : (z : Variable ℕ) (ts : Terms ℕ Hint) (h : Head ℕ) (us : Terms ℕ Hint) (names : List (Head ℕ)) → IsPattern z.type ts names → HasNoneOf ys (spine h us) → Matches (spine (variable z) ts) (put_in x cells ys z names (spine h us) (pruned x ys names (spine h us) (begun x cells ys z)))
   solved_matches z ts h us names p n =
@@ -93,6 +94,7 @@ module _ {Hint : Type 0} (x : Hint) (cells : List (Cell Hint)) (ys : List (Varia
       record {
         fewer = λ y e. without_held z ys y (subst (λ l. holds l y ≡ true) left e);
         gone = λ y e. alone y (subst (λ l. holds l y ≡ true) left e);
+        same = ap (λ c. c.cells) (pruned_none ys x names (spine h us) (begun x cells ys z) n);
       }
     where
       alone : (y : Variable ℕ) → holds (without z ys) y ≡ true → holds (variables (spine (variable z) ts)) y ≡ false
@@ -195,14 +197,14 @@ module _ (sg : Signature) (others : List (Head ℕ)) (none : NoIndex others) {Hi
   stuck_unread s f g [] t l n = tt
   stuck_unread s f g (e ∷ es) t l n = (ap (can_read s.flexible) (none_put s f g (forget e.right)) ∙ unread_stuck sg x s.cells s.flexible e t.0 l.0 n.0, stuck_unread s f g es t.1 l.1 n.1)
 
-  -- what an answer says
-  abbrev Says : Answer Hint → Type 0
-  Says (unified more q) = Unit {0}
-  Says apart = Unit {0}
-  Says (stuck i) = ⊥
+  -- what an answer says: no variable was made, and it isn't stuck
+  abbrev pub Says : List (Cell Hint) → Answer Hint → Type 0
+  Says cells (unified more q) = more ≡ cells
+  Says cells apart = Unit {0}
+  Says cells (stuck i) = ⊥
 
-  not_stuck : (s : State Hint) (f : Put) → Going sg others none x s f → LeftsWithout s.flexible s.equations → ReadInTurn s.flexible f s.equations → (a : Answer Hint) → Ended x s a → Says a
-  not_stuck s f g l turn a (all_solved e) = tt
+  not_stuck : (s : State Hint) (f : Put) → Going sg others none x s f → LeftsWithout s.flexible s.equations → ReadInTurn s.flexible f s.equations → (a : Answer Hint) → Ended x s a → Says s.cells a
+  not_stuck s f g l turn a (all_solved e) = refl
   not_stuck s f g l turn a are_apart = tt
   not_stuck s f g l turn a (none_applies e es w n) =
       let matters = subst (NoneMatters s.flexible f) w (turn s.flexible (λ y h. h) (stuck_unread s f g s.equations g.typed l n)) in
@@ -213,14 +215,14 @@ module _ (sg : Signature) (others : List (Head ℕ)) (none : NoIndex others) {Hi
 
   -- from a state on, whatever the guess
   abbrev Matches_on : State Hint → Answer Hint → Type 0
-  Matches_on m a = (f : Put) → Going sg others none x m f → LeftsWithout m.flexible m.equations → ReadInTurn m.flexible f m.equations → Says a
+  Matches_on m a = (f : Put) → Going sg others none x m f → LeftsWithout m.flexible m.equations → ReadInTurn m.flexible f m.equations → Says m.cells a
 
   unread_known : (us ys : List (Variable ℕ)) (f : Put) → ((y : Variable ℕ) → holds ys y ≡ false → f y ≡ None) → (e : Equation Hint) → Within us ys → Alike f e.left e.right → HasNoneOf ys e.left → HasNoneOf us e.right → can_read us (image_by (but us f) (forget e.right)) ≡ false
   unread_known us ys f none e w a l r =
       ap (can_read us) (absent_alike us f e.right r ∙ sym a ∙ image_still ys f none e.left l)
       ∙ none_there us (forget e.left) (λ y h. forgotten_absent ys e.left l y (w y h))
 
-  match_step : (s : State Hint) (f : Put) → Going sg others none x s f → LeftsWithout s.flexible s.equations → ReadInTurn s.flexible f s.equations → (m : State Hint) → Stepped x s m → (a : Answer Hint) → Matches_on m a → Says a
+  match_step : (s : State Hint) (f : Put) → Going sg others none x s f → LeftsWithout s.flexible s.equations → ReadInTurn s.flexible f s.equations → (m : State Hint) → Stepped x s m → (a : Answer Hint) → Matches_on m a → Says s.cells a
   match_step s f g l turn m (parted before e es behind q here_rule) a rest =
       let here = around sg others none x s f g before e behind q in
       let ys = s.flexible in
@@ -244,7 +246,7 @@ module _ (sg : Signature) (others : List (Head ℕ)) (none : NoIndex others) {Hi
       let after = change_going sg others none x s f g before e c behind q here_rule in
       let typed = after.safe.typed in
       let fits = left_matches x s.cells ys k lefts.0 in
-      rest after.follows.next (after.going (composition same_number s.pairs c.pairs))
+      subst (λ k. Says k a) fits.same (rest after.follows.next (after.going (composition same_number s.pairs c.pairs))
       (lefts_after sg x s f c.flexible g.known fits.fewer e.left e.right c k (λ y h. lefts.0 y (fits.fewer y h)) fits.gone (before ++ behind) (every_weaker (λ d. HasNoneOf ys d.left) (λ d. HasNoneOf c.flexible d.left) (λ d n y h. n y (fits.fewer y h)) (before ++ behind) lefts.1))
       (λ us v r.
       let U : Equation Hint → Type 0 = λ d. can_read us (image_by (but us f) (forget d.right)) ≡ false in
@@ -255,9 +257,9 @@ module _ (sg : Signature) (others : List (Head ℕ)) (none : NoIndex others) {Hi
       let reads = every_split U before behind (unread_before sg x s f us g.known within e.left e.right c k left right after.follows typed (before ++ behind) here.rest_typed here.rest_scoped r) in
       let whole = subst (NoneRead us f) (sym q) (every_both U before (e ∷ behind) reads.0 (unread_known us ys f g.fits.none e within here.alike lefts.0 right, reads.1)) in
       let matters = taken_out sg others none x M s.equations before e behind q (turn us within whole) in
-      matterless_after sg x s f us g.known within e.left e.right c k left right after.follows typed (before ++ behind) here.rest_typed here.rest_scoped matters.1)
+      matterless_after sg x s f us g.known within e.left e.right c k left right after.follows typed (before ++ behind) here.rest_typed here.rest_scoped matters.1))
 
   -- ALONG THE STEPS
-  pub matched : (s : State Hint) (f : Put) → Going sg others none x s f → LeftsWithout s.flexible s.equations → ReadInTurn s.flexible f s.equations → (a : Answer Hint) → Solves x s a → Says a
+  pub matched : (s : State Hint) (f : Put) → Going sg others none x s f → LeftsWithout s.flexible s.equations → ReadInTurn s.flexible f s.equations → (a : Answer Hint) → Solves x s a → Says s.cells a
   matched s f g l turn a (at_end e) = not_stuck s f g l turn a (end_view x s a e)
   matched s f g l turn a (by_step {r = m} e p) = match_step s f g l turn m (step_view x s m e) a (λ f2 g2 l2 t2. matched m f2 g2 l2 t2 a p)

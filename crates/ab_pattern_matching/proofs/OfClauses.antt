@@ -87,7 +87,7 @@ module _ {Hint : Type 0} (x : Hint) (N n : ℕ) (left : List Nominal) where
       ∙ ap (λ l. record { name = n + j; type = over left c.type } ∷ l)
       (ap (λ i. map (raised (from_to N n left)) (numbered i cs)) (sym first) ∙ raised_are_made (suc j) cs ∙ ap (λ i. made_over x i left cs) second)
 
-  given_each : (j : ℕ) (cs : List (Cell Hint)) → Each (λ y t. t ≡ given_names x (new_over (n + y.name) left y.type) left y.type) (numbered j cs) (made_terms x (n + j) left cs)
+  pub given_each : (j : ℕ) (cs : List (Cell Hint)) → Each (λ y t. t ≡ given_names x (new_over (n + y.name) left y.type) left y.type) (numbered j cs) (made_terms x (n + j) left cs)
   given_each j [] = tt
   given_each j (c ∷ cs) = (refl, let next : n + suc j ≡ suc (n + j) = omega arith in subst (λ i. Each (λ y t. t ≡ given_names x (new_over (n + y.name) left y.type) left y.type) (numbered (suc j) cs) (made_terms x i left cs)) next (given_each (suc j) cs))
 

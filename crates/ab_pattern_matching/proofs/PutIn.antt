@@ -36,6 +36,13 @@ module _ (sg : Signature) {Hint : Type 0} (x : Hint) (es : List (Equation Hint))
       go apart p = absurd (not_apart sg x es cells zs ns f typed known over clean fits alike apart p)
       go (stuck i) p = absurd (matched sg (map nominal ns) (no_index_among ns) x (given es cells zs) f (begins sg x es cells zs ns f typed known over clean fits alike) lefts turn (stuck i) p)
 
+  -- and no variable is made
+  pub unifies_alone : LeftsWithout zs es → ReadInTurn zs f es → (q : Substitution ℕ Hint) × Solves x (given es cells zs) (unified cells q)
+  unifies_alone lefts turn =
+      let r = unifies_in_turn lefts turn in
+      let same : r.0 ≡ cells = matched sg (map nominal ns) (no_index_among ns) x (given es cells zs) f (begins sg x es cells zs ns f typed known over clean fits alike) lefts turn (unified r.0 r.1) r.2 in
+      (r.1, subst (λ k. Solves x (given es cells zs) (unified k r.1)) same r.2)
+
 module _ (sg : Signature) (ys zs : List (Variable ℕ)) (f : Put) (fits : Fits sg [] ys f) (within : Within zs ys) (closed : (y : Variable ℕ) (v : Term ℕ (Unit {0})) → holds zs y ≡ false → f y ≡ Some v → HasNoneOf zs v) where
   pub kept_fits : Fits sg [] zs (only_on zs f)
   kept_fits = only_on_fits sg [] zs f fits.typed fits.has (λ y h. fits.some y (within y h))

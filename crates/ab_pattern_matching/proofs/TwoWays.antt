@@ -48,7 +48,7 @@ map_held g (v ∷ ws) y h = elim (or_cases (same_numbered (g v) y) (holds (map g
   | inr i ↦ (let r = map_held g ws y i in (r.0, or_right (same_numbered v r.0) (holds ws r.0) r.1, r.2))
 ]
 
-test_from : (test : Variable ℕ → Bool) (ys : List (Variable ℕ)) (y : Variable ℕ) → holds (filter test ys) y ≡ true → test y ≡ true
+pub test_from : (test : Variable ℕ → Bool) (ys : List (Variable ℕ)) (y : Variable ℕ) → holds (filter test ys) y ≡ true → test y ≡ true
 test_from test [] y h = absurd (false≢true h)
 test_from test (z ∷ ys) y h = go (test z) refl h (λ i. test_from test ys y i)
   where
@@ -56,7 +56,7 @@ test_from test (z ∷ ys) y h = go (test z) refl h (λ i. test_from test ys y i)
     go true t h rest = elim (or_cases (same_numbered z y) (holds (filter test ys) y) h) [ inl s ↦ sym (ap test ((same_numbered-Decides z y).0 s)) ∙ t | inr i ↦ rest i ]
     go false t h rest = rest h
 
-filtered : (test : Variable ℕ → Bool) (ys : List (Variable ℕ)) (y : Variable ℕ) → holds ys y ≡ true → test y ≡ holds (filter test ys) y
+pub filtered : (test : Variable ℕ → Bool) (ys : List (Variable ℕ)) (y : Variable ℕ) → holds ys y ≡ true → test y ≡ holds (filter test ys) y
 filtered test ys y h = go (test y) refl
   where
     go : (b : Bool) → test y ≡ b → test y ≡ holds (filter test ys) y
@@ -72,7 +72,7 @@ head_same m (variable y) = refl
 head_same m (index i) = refl
 
 mutual
-  variables_same : (m : Nominal → Nominal) (t : Bare) → variables (rename m t) ≡ variables t
+  pub variables_same : (m : Nominal → Nominal) (t : Bare) → variables (rename m t) ≡ variables t
   variables_same m (lam A x t) = variables_same m t
   variables_same m (spine h ts) = ap (λ l. l ++ variables_of_all (rename_all m ts)) (head_same m h) ∙ ap (λ l. variables_of_head h ++ l) (all_variables_same m ts)
 
