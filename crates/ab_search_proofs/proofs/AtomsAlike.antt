@@ -36,6 +36,7 @@ module _ (D : Declarations) (vs : List StandIn) where
     pub sign : atom.sign ≡ d.sign
     pub predicate : atom.predicate ≡ d.predicate
     pub block : atom.block ≡ d.block
+    pub arguments : forget_all (rename_all (moved_by ps) (image_all same_number (replacing vs) d.arguments)) ≡ forget_all atom.arguments
     pub holds : (a : Nominal) → Contains (support G) a → Contains (support_of_all atom.arguments) a
 
   as_like : (ps : List (Nominal × Nominal)) (m : Sign) (A B G : Read) (d : Defined) → defined_as D m A ≡ Some d → forget (permute ps (image same_number (replacing vs) A)) ≡ forget B → defined_atom D G ≡ defined_as D m B → AtomLike ps d G
@@ -61,6 +62,7 @@ module _ (D : Declarations) (vs : List StandIn) where
             sign = ap (λ z. z.sign) same;
             predicate = ap (λ z. z.predicate) same;
             block = ap (λ z. z.block) same;
+            arguments = ap (λ z. forget_all (rename_all (moved_by ps) (image_all same_number (replacing vs) z.arguments))) (sym same) ∙ begun.2;
             holds = λ a i. subst (λ l. Contains l a) (ap support (atom_of D G atom is).formula ∙ with_mark_support m (spine (constant p) ts)) i;
           }
 

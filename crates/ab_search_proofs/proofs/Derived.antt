@@ -36,10 +36,10 @@ use Rattle.ab_search_proofs.proofs.Ruled.{rule_step}
 use Rattle.ab_search_proofs.proofs.Places.{some_cells, some_label}
 
 -- a whole derivation for each sequent
-abbrev AreWhole : Declarations → List Sequent → Derivations → Type 0
+abbrev pub AreWhole : Declarations → List Sequent → Derivations → Type 0
 AreWhole D ps ds = (roots ds ≡ ps) × AllValid D ds × (all_open_goals ds ≡ []) × (all_debts ds ≡ [])
 
-abbrev Whole : Declarations → Sequent → Type 0
+abbrev pub Whole : Declarations → Sequent → Type 0
 Whole D s = (d : Derivation) × IsWhole D s d
 
 one_more : (D : Declarations) (s : Sequent) (ps : List Sequent) → Whole D s → (ds : Derivations) × AreWhole D ps ds → (ds : Derivations) × AreWhole D (s ∷ ps) ds
@@ -62,36 +62,36 @@ module _ (D : Declarations) (sentences : HaveSentences D) (definitions : HaveDef
   )
 
   -- what a step leads to is derived
-  after : (P : List Sequent → Type 0) (step : Step) (s : Sequent) → IsSequent D s → debts_of step ≡ [] → LeadsTo D step s P → ((ps : List Sequent) → P ps → All (IsSequent D) ps → (ds : Derivations) × AreWhole D ps ds) → Whole D s
+  pub after : (P : List Sequent → Type 0) (step : Step) (s : Sequent) → IsSequent D s → debts_of step ≡ [] → LeadsTo D step s P → ((ps : List Sequent) → P ps → All (IsSequent D) ps → (ds : Derivations) × AreWhole D ps ds) → Whole D s
   after P step s is free l derive =
       let at = some_cells s is.numbers_differ in
       let t = l.some at.0 at.1 in
       let rule : Rule D step s t.0 = (at.0, at.1, t.1) in
       stepped step s t.0 free rule (derive t.0 (l.all t.0 rule) (kept_by_rule D sentences definitions programs has step s t.0 is rule))
 
-  no_premise : (vs : List StandIn) (Hs : List Read) (ps : List Sequent) → AreLike D vs Hs [] ps → (ds : Derivations) × AreWhole D ps ds
+  pub no_premise : (vs : List StandIn) (Hs : List Read) (ps : List Sequent) → AreLike D vs Hs [] ps → (ds : Derivations) × AreWhole D ps ds
   no_premise vs Hs [] l = (none, (refl, tt, refl, refl))
   no_premise vs Hs (p ∷ ps) l = absurd l
 
   -- any sequent like the goal
-  abbrev Derives : List StandIn → List Read → Read → Type 0
+  abbrev pub Derives : List StandIn → List Read → Read → Type 0
   Derives vs Hs C = (s : Sequent) → IsSequent D s → IsLikeGoal D vs Hs C s → Whole D s
 
-  one_premise : (vs : List StandIn) (Hs : List Read) (A : Read) → Derives vs Hs A → (ps : List Sequent) → AreLike D vs Hs (A ∷ []) ps → All (IsSequent D) ps → (ds : Derivations) × AreWhole D ps ds
+  pub one_premise : (vs : List StandIn) (Hs : List Read) (A : Read) → Derives vs Hs A → (ps : List Sequent) → AreLike D vs Hs (A ∷ []) ps → All (IsSequent D) ps → (ds : Derivations) × AreWhole D ps ds
   one_premise vs Hs A a [] l is = absurd l
   one_premise vs Hs A a (p ∷ []) l is = one_more D p [] (a p (All-head (IsSequent D) p [] is) l.0) (none, (refl, tt, refl, refl))
   one_premise vs Hs A a (p ∷ q ∷ ps) l is = absurd l.1
 
-  two_premises : (vs : List StandIn) (Hs : List Read) (A B : Read) → Derives vs Hs A → Derives vs Hs B → (ps : List Sequent) → AreLike D vs Hs (A ∷ B ∷ []) ps → All (IsSequent D) ps → (ds : Derivations) × AreWhole D ps ds
+  pub two_premises : (vs : List StandIn) (Hs : List Read) (A B : Read) → Derives vs Hs A → Derives vs Hs B → (ps : List Sequent) → AreLike D vs Hs (A ∷ B ∷ []) ps → All (IsSequent D) ps → (ds : Derivations) × AreWhole D ps ds
   two_premises vs Hs A B a b [] l is = absurd l
   two_premises vs Hs A B a b (p ∷ ps) l is = one_more D p ps (a p (All-head (IsSequent D) p ps is) l.0) (one_premise vs Hs B b ps l.1 (All-tail (IsSequent D) p ps is))
 
-  one_sequent : (t : Sequent) → (IsSequent D t → Whole D t) → (ps : List Sequent) → ps ≡ t ∷ [] → All (IsSequent D) ps → (ds : Derivations) × AreWhole D ps ds
+  pub one_sequent : (t : Sequent) → (IsSequent D t → Whole D t) → (ps : List Sequent) → ps ≡ t ∷ [] → All (IsSequent D) ps → (ds : Derivations) × AreWhole D ps ds
   one_sequent t w ps e is =
       subst (λ qs. (ds : Derivations) × AreWhole D qs ds) (sym e) (one_more D t [] (w (All-head (IsSequent D) t [] (subst (All (IsSequent D)) e is))) (none, (refl, tt, refl, refl)))
 
   -- what comes to a sequent like the goal
-  comes : (vs : List StandIn) (Hs : List Read) (C : Read) → Derives vs Hs C → (s : Sequent) → ComesTo D vs Hs C s → IsSequent D s → Whole D s
+  pub comes : (vs : List StandIn) (Hs : List Read) (C : Read) → Derives vs Hs C → (s : Sequent) → ComesTo D vs Hs C s → IsSequent D s → Whole D s
   comes vs Hs C derive s (it_is l) is = derive s is l
   comes vs Hs C derive s (coming.by_term u t l rest) is = after (λ ps. ps ≡ t ∷ []) (exists_right u) s is refl l (λ ps e k. one_sequent t (λ j. comes vs Hs C derive t rest j) ps e k)
   comes vs Hs C derive s (coming.by_constant t l rest) is = after (λ ps. ps ≡ t ∷ []) nabla_right s is refl l (λ ps e k. one_sequent t (λ j. comes vs Hs C derive t rest j) ps e k)

@@ -84,7 +84,7 @@ module _ (D : Declarations) (vs : List StandIn) (v : StandIn) (new : All (λ (y 
   all_more_like (B ∷ Hs) [] e = absurd e
   all_more_like (B ∷ Hs) (G ∷ Gs) e = (more_like B G e.0, all_more_like Hs Gs e.1)
 
-module _ (D : Declarations) (vs : List StandIn) (Hs : List Read) (C : Read) (s : Sequent) (l : IsLikeGoal D vs Hs C s) (A : Ty) (F : Read) (n : ℕ) (e : form_of C ≡ for_all A F) (new : All (λ (y : tree.Variable ℕ). y.name ≢ n) (map replaced vs)) where
+module _ (D : Declarations) (vs : List StandIn) (Hs : List Read) (C : Read) (s : Sequent) (l : IsLikeGoal D vs Hs C s) (A : Ty) (F : Read) (n : ℕ) (scope : IsScope (signature_in D) (map replaced vs) A F) (new : All (λ (y : tree.Variable ℕ). y.name ≢ n) (map replaced vs)) where
   abbrev sg : Signature
   sg = signature_in D
 
@@ -175,7 +175,6 @@ module _ (D : Declarations) (vs : List StandIn) (Hs : List Read) (C : Read) (s :
 
     pub generic_like : (H : Read) → forget (permute ps (image same_number (replacing vs) F)) ≡ forget H → IsLikeGoal D (stand_in ∷ vs) Hs (instance F asked) (proving (instance H (applied x names)) (with_variable x s))
     generic_like H same =
-        let scope = for_all_known D vs C s.conclusion A F l.conclusion e in
         let wide : IsScope sg (map replaced (stand_in ∷ vs)) A F = record { typed = scope.typed; stands = scope.stands; known = more_known D vs stand_in new F scope.known } in
         let part = instance_part sg (map replaced (stand_in ∷ vs)) wide asked_typed asked_known in
         record {
@@ -198,24 +197,26 @@ module _ (D : Declarations) (vs : List StandIn) (Hs : List Read) (C : Read) (s :
   abbrev pub Generic : List Sequent → Type 0
   Generic qs = (v : StandIn) × (replaced v ≡ record { name = n; type = over ns A }) × AreLike D (v ∷ vs) Hs (instance F (a_variable n ns A) ∷ []) qs
 
-  pub variable_step : LeadsTo D for_all_right s Generic
-  variable_step =
-      let k = like_for_all D vs C s.conclusion A F l.conclusion e in
-      let q : as_for_all s.conclusion ≡ Some (A, k.0) = ap for_all_in k.1 in
-      let held = in_order (support s.conclusion) in
-      let is : IsSupport s.conclusion held = record { same = λ a. (contains_ordered (support s.conclusion) a, ordered_contains (support s.conclusion) a); once = ordered_pairs (support s.conclusion); order = ordered_sorted (support s.conclusion) } in
-      let free = some_name s (rules.hint_of k.0) in
-      leads_to D for_all_right s Generic
-      (λ cells are. (proving (instance k.0 (applied (raised (length cells) free.0 A held) held)) (with_variable (raised (length cells) free.0 A held) s) ∷ [], ((A, k.0), q, ((held, free.0), (is, free.1), refl))))
-      (λ cells are i f. f.2)
-      (λ cells are qs h.
-      let p : h.0 ≡ (A, k.0) = same_option (sym h.1 ∙ q) in
-      let names = ((h.2).0).0 in
-      let name = ((h.2).0).1 in
-      let w = stand_in (length cells) name names (((h.2).1).0) (new_number cells s are) in (
-        w,
-        refl,
-        subst (AreLike D (w ∷ vs) Hs (instance F (a_variable n ns A) ∷ []))
-            (sym ((h.2).2 ∙ ap (λ (z : Ty × Read). proving (instance z.1 (applied (raised (length cells) name z.0 names) names)) (with_variable (raised (length cells) name z.0 names) s) ∷ []) p))
-            (generic_like (length cells) name names (((h.2).1).0) (new_number cells s are) k.0 k.2, tt),
-      ))
+pub variable_step : (D : Declarations) (vs : List StandIn) (Hs : List Read) (C : Read) (s : Sequent) (l : IsLikeGoal D vs Hs C s) (A : Ty) (F : Read) (n : ℕ) (e : form_of C ≡ for_all A F) (new : All (λ (y : tree.Variable ℕ). y.name ≢ n) (map replaced vs))
+    → LeadsTo D for_all_right s (Generic D vs Hs C s l A F n (for_all_known D vs C s.conclusion A F l.conclusion e) new)
+variable_step D vs Hs C s l A F n e new =
+    let scope = for_all_known D vs C s.conclusion A F l.conclusion e in
+    let k = like_for_all D vs C s.conclusion A F l.conclusion e in
+    let q : as_for_all s.conclusion ≡ Some (A, k.0) = ap for_all_in k.1 in
+    let held = in_order (support s.conclusion) in
+    let is : IsSupport s.conclusion held = record { same = λ a. (contains_ordered (support s.conclusion) a, ordered_contains (support s.conclusion) a); once = ordered_pairs (support s.conclusion); order = ordered_sorted (support s.conclusion) } in
+    let free = some_name s (rules.hint_of k.0) in
+    leads_to D for_all_right s (Generic D vs Hs C s l A F n scope new)
+    (λ cells are. (proving (instance k.0 (applied (raised (length cells) free.0 A held) held)) (with_variable (raised (length cells) free.0 A held) s) ∷ [], ((A, k.0), q, ((held, free.0), (is, free.1), refl))))
+    (λ cells are i f. f.2)
+    (λ cells are qs h.
+    let p : h.0 ≡ (A, k.0) = same_option (sym h.1 ∙ q) in
+    let names = ((h.2).0).0 in
+    let name = ((h.2).0).1 in
+    let w = stand_in D vs Hs C s l A F n scope new (length cells) name names (((h.2).1).0) (new_number cells s are) in (
+      w,
+      refl,
+      subst (AreLike D (w ∷ vs) Hs (instance F (a_variable n (in_order (support C)) A) ∷ []))
+          (sym ((h.2).2 ∙ ap (λ (z : Ty × Read). proving (instance z.1 (applied (raised (length cells) name z.0 names) names)) (with_variable (raised (length cells) name z.0 names) s) ∷ []) p))
+          (generic_like D vs Hs C s l A F n scope new (length cells) name names (((h.2).1).0) (new_number cells s are) k.0 k.2, tt),
+    ))

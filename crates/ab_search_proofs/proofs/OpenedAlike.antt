@@ -29,7 +29,7 @@ IsSingle (spine (logical spec_implication) (term F (term G no_terms))) = ⊥
 IsSingle (spine (logical spec_conjunction) (term F (term G no_terms))) = ⊥
 IsSingle G = Unit {0}
 
-single_opened : (m : Sign) (L G : Read) → IsSingle G → open_goal m L G ≡ marked_judgement m L G
+pub single_opened : (m : Sign) (L G : Read) → IsSingle G → open_goal m L G ≡ marked_judgement m L G
 single_opened m L (spine (logical (spec_universal A)) (term (lam B x G) no_terms)) i = absurd i
 single_opened m L (spine (logical spec_implication) (term F (term G no_terms))) i = absurd i
 single_opened m L (spine (logical spec_conjunction) (term F (term G no_terms))) i = absurd i
@@ -37,16 +37,16 @@ single_opened m L G i = refl
 
 -- TYPES of its parts
 module _ (sg : Signature) where
-  arguments_of : {Γ : List Ty} (l : Logical) {ts : Terms ℕ (List ℕ)} {A : Ty} → HasType sg Γ (spine (logical l) ts) A → TakeType sg Γ ts (logical_type l) A
+  pub arguments_of : {Γ : List Ty} (l : Logical) {ts : Terms ℕ (List ℕ)} {A : Ty} → HasType sg Γ (spine (logical l) ts) A → TakeType sg Γ ts (logical_type l) A
   arguments_of {Γ = Γ} l {ts = ts} {A = A} (typed_spine {A = D} e ds) = let same : D ≡ logical_type l = cc in subst (λ E. TakeType sg Γ ts E A) same ds
 
-  first_of : {Γ : List Ty} {A B C : Ty} {t : Read} {ts : Terms ℕ (List ℕ)} → TakeType sg Γ (term t ts) (arrow A B) C → HasType sg Γ t A
+  pub first_of : {Γ : List Ty} {A B C : Ty} {t : Read} {ts : Terms ℕ (List ℕ)} → TakeType sg Γ (term t ts) (arrow A B) C → HasType sg Γ t A
   first_of (take_term d ds) = d
 
-  rest_of : {Γ : List Ty} {A B C : Ty} {t : Read} {ts : Terms ℕ (List ℕ)} → TakeType sg Γ (term t ts) (arrow A B) C → TakeType sg Γ ts B C
+  pub rest_of : {Γ : List Ty} {A B C : Ty} {t : Read} {ts : Terms ℕ (List ℕ)} → TakeType sg Γ (term t ts) (arrow A B) C → TakeType sg Γ ts B C
   rest_of (take_term d ds) = ds
 
-  body_of : {Γ : List Ty} {A B C : Ty} {x : List ℕ} {t : Read} → HasType sg Γ (lam C x t) (arrow A B) → HasType sg (A ∷ Γ) t B
+  pub body_of : {Γ : List Ty} {A B C : Ty} {x : List ℕ} {t : Read} → HasType sg Γ (lam C x t) (arrow A B) → HasType sg (A ∷ Γ) t B
   body_of (typed_lam d) = d
 
   module _ (vs : List StandIn) (typed : IsTyped sg (replacing vs)) (ps : List (Nominal × Nominal)) where

@@ -44,7 +44,7 @@ module _ (ps : List (Nominal × Nominal)) (vs : List StandIn) where
   abbrev moved : Terms ℕ (List ℕ) → Terms ℕ (Unit {0})
   moved ts = forget_all (rename_all (moved_by ps) (image_all same_number r ts))
 
-  compound_like : (G H : Read) → forget (permute ps (image same_number r G)) ≡ forget H → kind_of G ≡ compound → kind_of H ≡ compound
+  pub compound_like : (G H : Read) → forget (permute ps (image same_number r G)) ≡ forget H → kind_of G ≡ compound → kind_of H ≡ compound
   compound_like (lam A x t) H e k = absurd (cc)
   compound_like (spine (constant c) ts) H e k = absurd (cc)
   compound_like (spine (nominal a) ts) H e k = absurd (cc)

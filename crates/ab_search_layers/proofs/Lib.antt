@@ -1,0 +1,15 @@
+pub mod Opens
+pub mod Meeting
+pub mod Putting
+pub mod Suiting
+pub mod SuitingJudgements
+pub mod TakenOut
+pub mod LeftSteps
+pub mod OpenedLeft
+pub mod Through
+pub mod Faced
+pub mod Clashing
+pub mod NoMember
+pub mod Void
+pub mod Layers
+pub mod Early
