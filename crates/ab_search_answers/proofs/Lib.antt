@@ -1,0 +1,16 @@
+pub mod Alone
+pub mod Filled
+pub mod Final
+pub mod Under
+pub mod Signs
+pub mod Scoped
+pub mod Inside
+pub mod Safe
+pub mod SafeMore
+pub mod SafeRest
+pub mod Reached
+pub mod ByClauses
+pub mod ByRules
+pub mod Rooted
+pub mod Queries
+pub mod Derived

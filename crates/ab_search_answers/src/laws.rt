@@ -1,0 +1,54 @@
+//! From an answer of the search tree to a proof.
+
+ghost use Rattle.std.specs.Prelude.{◌≡◌, ℕ, List, [], map, length, Contains};
+ghost use Rattle.ab_term.specs.Terms.{Read};
+ghost use Rattle.ab_term.specs.Variables.{image};
+ghost use Rattle.ab_term.specs.Sameness.{same_number};
+ghost use Rattle.ab_unifiers.specs.Replacements.{Cell};
+ghost use Rattle.ab_unifiers.specs.Member.{HasMember};
+ghost use Rattle.ab_formulas.specs.Declarations.{Declarations, HaveSentences, HaveDefinitions, signature_in};
+ghost use Rattle.ab_formulas.specs.Programs.{HavePrograms};
+ghost use Rattle.ab_formulas.specs.Sequents.{Sequent, IsSequent, formulas, goal_names, in_terms, proving};
+ghost use Rattle.ab_theory.specs.Derivations.{Derivation};
+ghost use Rattle.ab_theory.specs.Equations.{AreCells};
+ghost use Rattle.ab_search_trees.specs.Goals.{Now};
+ghost use Rattle.ab_search_trees.specs.Tree.{Leaf, found};
+ghost use Rattle.ab_search_trees.specs.Outcomes.{Searched, closed, outcome_of, Asks, whole_answer};
+ghost use Rattle.ab_search_proofs.specs.Whole.{IsWhole};
+ghost use Rattle.ab_search_layers.specs.Layered.{MemberIsDefined, Layered};
+ghost use Rattle.ab_search_answers.specs.Below.{PartEvidence};
+ghost use Rattle.ab_search_answers.specs.Unmarked.{HasNoHash, HaveNoHash};
+
+/// AN ANSWER IS A PROOF of the sequent that was searched, over its own variables: with terms for the variables that the search brought, and with
+/// constants for those that stayed open. No judgement is marked `#`; and for the rules of a formula in
+/// focus the evidence is given.
+pub fn answers_are_proofs()
+    ensures { (D : Declarations) (cells : List (Cell (List ℕ))) (depth : ℕ) (s : Sequent) (ls : List Leaf) (last : Now) →
+        HaveDefinitions D → HavePrograms D → HasMember (signature_in D) → IsSequent D s → AreCells cells s →
+        HasNoHash s.conclusion → HaveNoHash D → PartEvidence D →
+        Searched D cells depth s ls → Contains ls (found last) → Layered D (map in_terms s.variables) (formulas s.hypotheses) s.conclusion }
+{}
+
+/// AN ANSWER OF A QUERY IS A PROOF of the query's formula, with what the answer puts in for the variables that the search made for the quantifiers in front, and
+/// with constants for those that stayed open: so each answer is true of what it prints.
+pub fn answers_of_queries_are_proofs()
+    ensures { (D : Declarations) (cells : List (Cell (List ℕ))) (depth : ℕ) (s : Sequent) (E : Read) (ls : List Leaf) (last : Now) →
+        HaveDefinitions D → HavePrograms D → HasMember (signature_in D) → IsSequent D s → AreCells cells s → HasNoHash s.conclusion → HaveNoHash D → PartEvidence D →
+        formulas s.hypotheses ≡ [] → goal_names s ≡ [] → Asks (length cells) s.conclusion E →
+        Searched D cells depth s ls → Contains ls (found last) → Layered D (map in_terms s.variables) [] (image same_number (whole_answer last) E) }
+{}
+
+/// WHAT A SEARCH CLOSES IS DERIVED: the sequent has a whole derivation by the rules, which takes no theorem and admits nothing.
+pub fn closed_goals_are_derived()
+    ensures { (D : Declarations) (cells : List (Cell (List ℕ))) (depth : ℕ) (s : Sequent) (ls : List Leaf) →
+        HaveSentences D → HaveDefinitions D → HavePrograms D → HasMember (signature_in D) → MemberIsDefined D → IsSequent D s → AreCells cells s → HasNoHash s.conclusion → HaveNoHash D → PartEvidence D →
+        Searched D cells depth s ls → outcome_of ls ≡ closed → (d : Derivation) × IsWhole D s d }
+{}
+
+/// WHAT AN ANSWER OF A QUERY PRINTS IS DERIVED: asked by itself it is a sequent, which has a whole derivation by the rules.
+pub fn printed_answers_are_derived()
+    ensures { (D : Declarations) (cells : List (Cell (List ℕ))) (depth : ℕ) (s : Sequent) (E : Read) (ls : List Leaf) (last : Now) →
+        HaveSentences D → HaveDefinitions D → HavePrograms D → HasMember (signature_in D) → MemberIsDefined D → IsSequent D s → AreCells cells s → HasNoHash s.conclusion → HaveNoHash D → PartEvidence D →
+        formulas s.hypotheses ≡ [] → goal_names s ≡ [] → Asks (length cells) s.conclusion E → Searched D cells depth s ls → Contains ls (found last) →
+        let printed = proving (image same_number (whole_answer last) E) s in IsSequent D printed × (d : Derivation) × IsWhole D printed d }
+{}
