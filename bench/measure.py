@@ -11,7 +11,7 @@ ROOT = os.path.dirname(os.path.dirname(os.path.abspath(__file__)))
 
 def program():
     """The built program: the word of the line, or bin/abella."""
-    return sys.argv[1] if len(sys.argv) > 1 else f"{ROOT}/bin/abella"
+    return os.path.abspath(sys.argv[1]) if len(sys.argv) > 1 else f"{ROOT}/bin/abella"
 
 
 def with_all_stack():
@@ -20,13 +20,17 @@ def with_all_stack():
     resource.setrlimit(resource.RLIMIT_STACK, (hard, hard))
 
 
-def run(script, words=()):
-    """Returns seconds, what was used, the status and the last line of what is printed, where the line has these words and the script is the input."""
-    with tempfile.TemporaryFile() as text, tempfile.TemporaryFile() as out:
+def run(script, words=(), files=()):
+    """Returns seconds, what was used, the status and the last line of what is printed, where the line has these words, the script is the
+    input, and these files, by their names, lie where it runs."""
+    with tempfile.TemporaryFile() as text, tempfile.TemporaryFile() as out, tempfile.TemporaryDirectory() as room:
         text.write(script.encode())
         text.seek(0)
+        for name, lines in files:
+            with open(f"{room}/{name}", "w", encoding="ascii") as file:
+                file.write(lines)
         begun = time.monotonic()
-        with subprocess.Popen([program(), *words], stdin=text, stdout=out, preexec_fn=with_all_stack) as ran:
+        with subprocess.Popen([program(), *words], stdin=text, stdout=out, cwd=room, preexec_fn=with_all_stack) as ran:
             _, status, used = os.wait4(ran.pid, 0)
             ran.returncode = os.waitstatus_to_exitcode(status)
         seconds = time.monotonic() - begun
@@ -41,9 +45,9 @@ def measure(script, words=()):
     return seconds, used.ru_maxrss / 1024, status, last
 
 
-def cost(script):
-    """Returns processor seconds, peak memory in MB and the status."""
-    _, used, status, _ = run(script)
+def cost(script, files=()):
+    """Returns processor seconds, peak memory in MB and the status, where these files lie beside."""
+    _, used, status, _ = run(script, files=files)
     return used.ru_utime + used.ru_stime, used.ru_maxrss / 1024, status
 
 
