@@ -1,6 +1,6 @@
 -- A way to unfold the conclusion of one goal, over two lists of numbers, has one outcome.
-use Rattle.std.specs.Prelude.{All, slice_get}
-use Rattle.std.proofs.Common.{◌≡◌, ℕ, zero, suc, List, [], ◌∷◌, ◌++◌, map, length, drop, Some, refl, sym, ◌∙◌, ap, subst, codes}
+use Rattle.std.specs.Prelude.{All}
+use Rattle.std.proofs.Common.{◌≡◌, ℕ, List, [], ◌∷◌, ◌++◌, map, length, drop, refl, sym, ◌∙◌, ap, subst, codes}
 use Rattle.std.proofs.lemmas.List.Elements.{All-nil, All-cons}
 use Rattle.ab_term.specs.Terms.{Read}
 use Rattle.ab_term.specs.Variables.{Substitution, image}
@@ -124,16 +124,6 @@ module _ (D : Declarations) (s u : Sequent) (x y : Subject) (same : IsSameSubjec
       outcomes (ways_of s x) (ways_of u y) (ways_of (moved_goal F s) (moved_subject F x)) (ways_follow F s x (first_good D s u x y same cells others are also))
       (subst (λ q. Each (WayFollows G) (ways_of u y) (ways_of q (moved_subject F x))) (sym meet)
       (subst (λ z. Each (WayFollows G) (ways_of u y) (ways_of (moved_goal G u) z)) (sym (subjects_meet D s u x y same cells others are also)) second))
-
-  -- at each place
-  pub at_place : (i : ℕ) (w : Way) → slice_get (ways_of s x) i ≡ Some w → (v : Way) × (slice_get (ways_of u y) i ≡ Some v) × HasItsOutcome s u cells others w v
-  at_place i w there = go (ways_of s x) (ways_of u y) i there ways_correspond
-    where
-      go : (ws vs : List Way) (i : ℕ) → slice_get ws i ≡ Some w → Each (HasItsOutcome s u cells others) ws vs → (v : Way) × (slice_get vs i ≡ Some v) × HasItsOutcome s u cells others w v
-      go [] vs i there each = absurd (cc)
-      go (z ∷ ws) [] i there each = absurd each
-      go (z ∷ ws) (v ∷ vs) zero there each = let same : z ≡ w = cc in (v, refl, subst (λ k. HasItsOutcome s u cells others k v) same each.0)
-      go (z ∷ ws) (v ∷ vs) (suc i) there each = go ws vs i there each.1
 
 -- where nothing is left open the body is the conclusion
 

@@ -4,7 +4,7 @@ mod ClauseMade
 mod FreshConstants
 mod MapsInTurn
 mod Rows
-mod RuleChoice
+pub mod RuleChoice
 mod RuleMade
 mod TargetLists
 mod Turns

@@ -1,12 +1,13 @@
-mod Finding
-mod Forms
-mod Going
-mod Layers
-mod Making
-mod Numbered
-mod Parting
-mod Reading
-mod Refuting
-mod Seen
-mod Stepping
-pub mod Unfoldings
+pub mod Counting
+pub mod Staying
+pub mod MoreTerms
+pub mod MadeBeside
+pub mod CellTerms
+pub mod StandIns
+pub mod Likenesses
+pub mod Parts
+pub mod RulePlans
+mod BoundCells
+mod EntriesKept
+mod Searching
+mod PendingGoals

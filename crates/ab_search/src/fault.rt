@@ -6,7 +6,10 @@ use thiserror::Error;
 /// Why a search closed no goal.
 #[derive(Debug, Drop, Error)]
 pub enum SearchFault {
-    /// No choice closes the goal.
+    /// No way closes the goal, and of the equations that are outside the patterns the first has this number, counted from 1.
+    #[error("NotPattern")]
+    NotPattern(usize),
+    /// No way closes the goal.
     #[error("NotFound")]
     NotFound,
     /// There was no memory.

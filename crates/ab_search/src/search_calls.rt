@@ -1,45 +1,50 @@
 //! Search: a goal is closed outright.
-ghost use Rattle.std.specs.Prelude.{◌≡◌, ◌≢◌, [], ◌∷◌, List, Err, IfOk, IsTrue, IsFalse, OnOk, OnErr};
-ghost use Rattle.ab_formulas.specs.Sequents.{Sequent};
-ghost use Rattle.ab_logic.specs.Worlds.{IsWorld, declarations_of};
+ghost use Rattle.std.specs.Prelude.{◌≡◌, ◌≢◌, ◌≤◌, ℕ, [], Err, OnOk, OnErr};
+ghost use Rattle.ab_logic.specs.Worlds.{IsWorld};
 ghost use Rattle.ab_steps.specs.ab_kernel.specs.Layout.{history_of, IsProof};
 ghost use Rattle.ab_steps.specs.Progress.{goals_of, Follows};
-ghost use Rattle.ab_search.specs.SearchGoals.{IsClosed, StaysOpen};
-ghost use Rattle.ab_effects.specs.Search.{CanBeClosed};
+ghost use Rattle.ab_search.specs.Frames.{HoldsPath};
+ghost use Rattle.ab_search.specs.GoalCounts.{FirstGaveWay};
+ghost use Rattle.ab_search.specs.Searched.{IsClosed, IsNotFound, IsOutside};
 
-use crate::bare::{with_bare, with_bare_all};
+use crate::carrying::carry_out;
 use crate::fault::SearchFault;
-use crate::goal_search::close;
+use crate::final_path::final_path;
 use ab_logic::World;
 use ab_norm::types::Steps;
 use ab_steps::kernel::Proof;
 use ab_steps::{first_goal, take_back};
+use ab_walk::{Frame, Told, search as walk};
 use std::alloc::{AllocError, Global};
 
-/// Closes the first goal, where it can be closed with at most so many conclusions unfolded one after another. Where it
-/// can't be, some steps may stand.
-fn try_closing<L>(
+/// Closes the first goal by the path.
+fn close<L>(
     alloc: Global,
     world: &mut World,
     proof: &mut Proof,
-    depth: u32,
+    path: &[Frame],
     steps: &mut Steps<L>,
-) -> Result<bool, AllocError>
+) -> Result<(), AllocError>
     requires world { IsWorld world.old }
     requires proof { IsProof world.old proof.old }
-    requires open { goals_of world.old proof.old ≢ [] }
+    requires path { HoldsPath world.old.types world.old.store path.now }
     ensures follows { Follows world.old proof.old world.new proof.new }
-    ensures closed { IfOk result (λ b. IsTrue b → IsClosed world.old proof.old depth world.new proof.new) }
-    ensures stays { IfOk result (λ b. IsFalse b → StaysOpen world.old proof.old depth) }
+    ensures gave_way { OnOk result (FirstGaveWay world.old proof.old world.new proof.new 1 0) }
+    ensures unchanged { OnErr result (history_of world.new proof.new ≡ history_of world.old proof.old) }
+    ensures steps { steps.old ≤ steps.new }
 {
-    let goal = first_goal(world, proof);
-    let given = with_bare_all(alloc, world, goal.hypotheses.as_slice())?;
-    let asked = with_bare(alloc, world, goal.conclusion)?;
-    close(alloc, world, proof, &given, asked, depth, steps)
+    let entries = final_path(alloc, world, path, steps)?;
+    let standing = proof.steps();
+    match carry_out(alloc, world, proof, &entries, steps) {
+        Ok(()) => Ok(()),
+        Err(fault) => {
+            take_back(world, proof, standing, steps);
+            Err(fault)
+        }
+    }
 }
 
-/// Closes the first goal, where it can be closed outright with at most so many conclusions unfolded one after another. A
-/// search that finds nothing changes nothing.
+/// Closes the first goal, where the search of it to the depth has an answer. A search that has none changes nothing.
 pub fn search<L>(
     alloc: Global,
     world: &mut World,
@@ -51,19 +56,23 @@ pub fn search<L>(
     requires proof { IsProof world.old proof.old }
     requires open { goals_of world.old proof.old ≢ [] }
     ensures follows { Follows world.old proof.old world.new proof.new }
-    ensures closed { OnOk result ((s : Sequent) (rest : List Sequent) → goals_of world.old proof.old ≡ s ∷ rest →
-        CanBeClosed (declarations_of world.old) depth s × (goals_of world.new proof.new ≡ rest)) }
-    ensures not_found { result ≡ Err SearchFault.NotFound → (s : Sequent) (rest : List Sequent) →
-        goals_of world.old proof.old ≡ s ∷ rest → ¬ CanBeClosed (declarations_of world.old) depth s }
+    ensures closed { OnOk result (IsClosed world.old proof.old depth world.new proof.new) }
+    ensures not_found { result ≡ Err SearchFault.NotFound → IsNotFound world.old proof.old depth }
+    ensures not_pattern { (n : ℕ) → result ≡ Err (SearchFault.NotPattern n) → IsOutside world.old proof.old depth n }
     ensures unchanged { OnErr result (history_of world.new proof.new ≡ history_of world.old proof.old) }
+    ensures steps { steps.old ≤ steps.new }
 {
-    let standing = proof.steps();
-    match try_closing(alloc, world, proof, depth, steps) {
-        Ok(true) => Ok(()),
-        other => {
-            take_back(world, proof, standing, steps);
-            other?;
-            Err(SearchFault::NotFound)
+    let mut path = Vec::new(alloc);
+    let goal = first_goal(world, proof);
+    match walk(alloc, world, goal, depth as usize, &mut path, steps)? {
+        Told::Not(Some(place), _) => match place.checked_add(1) {
+            Some(number) => Err(SearchFault::NotPattern(number)),
+            None => Err(SearchFault::Memory(AllocError)),
+        },
+        Told::Not(None, _) => Err(SearchFault::NotFound),
+        Told::Found => {
+            close(alloc, world, proof, &path, steps)?;
+            Ok(())
         }
     }
 }

@@ -1,160 +1,223 @@
-//! The conclusion of the first goal is unfolded by a choice, where no variable is left open.
-ghost use Rattle.std.specs.Prelude.{◌≡◌, ◌≢◌, ◌<◌, ◌^◌, [], ◌∷◌, ℕ, Ok, Some, None, IfOk, IfSome, IsNone, slice_get};
-ghost use Rattle.ab_unify.specs.Problem.{cells_read};
+//! The steps of the kernel for a clause of a definition, and for a layer of a judgement.
+ghost use Rattle.std.specs.Prelude.{◌≡◌, ◌≤◌, All, IfOk, OnOk};
+ghost use Rattle.ab_norm.specs.Nominals.{HoldsNominal};
+ghost use Rattle.ab_formulas.specs.Declarations.{signature_in};
+ghost use Rattle.ab_formulas.specs.Formulas.{IsFormula};
+ghost use Rattle.ab_formulas.specs.Sequents.{IsSequent};
+ghost use Rattle.ab_logic.specs.Worlds.{IsWorld, Holds, read, declarations_of};
 ghost use Rattle.ab_logic.specs.WorldGrowth.{Grows};
-ghost use Rattle.ab_logic.specs.SequentReadings.{HoldsSequent, sequent_of};
-ghost use Rattle.ab_formulas.specs.Sequents.{Sequent as APlainGoal, IsSequent, goal_names};
-ghost use Rattle.ab_logic.specs.Worlds.{IsWorld, read, declarations_of};
-ghost use Rattle.ab_theory.specs.Equations.{AreCells};
-ghost use Rattle.ab_theory.specs.Atoms.{Choice as APlainChoice, defined_atom, choices_of};
-ghost use Rattle.ab_steps.specs.ab_kernel.specs.ab_judgements.specs.ab_alternatives.specs.ChoiceMatches.{Matches};
-ghost use Rattle.ab_steps.specs.ab_kernel.specs.ab_judgements.specs.ab_alternatives.specs.AtomReadings.{defined_read, HoldsDefined};
-ghost use Rattle.ab_steps.specs.ab_kernel.specs.ab_judgements.specs.ab_alternatives.specs.declared.choice_matches.Match.{Match as AMatch};
+ghost use Rattle.ab_logic.specs.SequentReadings.{sequent_of, HoldsSequent};
 ghost use Rattle.ab_steps.specs.ab_kernel.specs.Layout.{IsProof};
-ghost use Rattle.ab_steps.specs.Progress.{goals_of, Follows};
-ghost use Rattle.ab_search.specs.SearchGoals.{First, IsAsked, MayUnfold, IsUnfolded};
-ghost use Rattle.ab_effects.specs.Search.{Unfolds};
-ghost use Rattle.ab_search.specs.Layers.{layers};
-ghost use Rattle.ab_search.specs.declared.bare.Bare.{Bare as ABare};
-ghost use Rattle.ab_search.specs.declared.unfolding_steps.Unfolded.TheVariants.{NoChoice, NotSo, Goal};
+ghost use Rattle.ab_steps.specs.Progress.{Follows};
+ghost use Rattle.ab_search.specs.GoalCounts.{GaveWayTo};
+ghost use Rattle.ab_search.specs.MoreTerms.{GotTerms};
+ghost use Rattle.ab_search.specs.Paths.{IsFormulaIn, HoldsClause, AreStandIns};
 
-use crate::bare::{Bare, with_bare};
+use crate::carried_terms::carried;
+use crate::cell_terms::over_constants;
+use crate::clause_places::place_of_clause;
+use crate::kernel_steps::{conclusion_at, goal_at, take};
+use crate::likeness::{Likeness, StandIn, compare};
+use crate::open_parts::left_by_choice;
+use crate::opened_hypotheses::is_compound;
+use crate::taken::ClauseTaken;
 use ab_logic::{Sequent, World};
+use ab_norm::Nominal;
+use ab_norm::store::TermId;
 use ab_norm::types::Steps;
-use ab_steps::kernel::judgements::alternatives::instances::constants_of;
-use ab_steps::kernel::judgements::alternatives::{
-    DefinedAtom, Match, choice_at, defined_atom, goal_constants, match_choice, may_be_unfolded,
-};
+use ab_steps::kernel::judgements::alternatives::instances::{constants_of, outside};
+use ab_steps::kernel::judgements::alternatives::{choice_at, defined_atom, goal_constants};
 use ab_steps::kernel::{Proof, Step};
-use ab_steps::{Attempted, attempt_solving, first_goal};
 use std::alloc::{AllocError, Global};
 
-/// What came of a choice.
-#[derive(Clone, Copy)]
-pub(crate) enum Unfolded {
-    /// There are not so many choices.
-    NoChoice,
-    /// The conclusion doesn't unfold by it, or a variable is left open.
-    NotSo,
-    /// It was unfolded to this.
-    Goal(Bare),
+/// A step that unfolds the conclusion of a goal: its place; the terms for the variables that it leaves open; and how many constants
+/// are chosen anew behind these, where there are such variables.
+#[derive(Drop)]
+pub(crate) struct Unfolding {
+    pub(crate) place: usize,
+    pub(crate) terms: Vec<TermId>,
+    pub(crate) names: usize,
 }
 
-/// The defined atom that the first goal's conclusion is, if it is one whose mark allows to unfold it.
-pub(crate) fn atom_to_unfold(
-    alloc: Global,
-    world: &World,
-    proof: &Proof,
-) -> Result<Option<DefinedAtom>, AllocError>
-    requires world { IsWorld world.now }
-    requires proof { IsProof world.now proof.now }
-    requires open { goals_of world.now proof.now ≢ [] }
-    ensures some { IfOk result (λ o. IfSome o (MayUnfold world.now proof.now)) }
-    ensures none { IfOk result (λ o. IsNone o → First world.now proof.now (λ s. (place : ℕ) (t : APlainGoal) → ¬ Unfolds (declarations_of world.now) s place t)) }
-{
-    let Some(atom) = defined_atom(alloc, world, first_goal(world, proof).conclusion)? else {
-        return Ok(None);
-    };
-    if may_be_unfolded(atom.sign) {
-        Ok(Some(atom))
-    } else {
-        Ok(None)
-    }
-}
-
-/// How the choice of this place makes the atom of the goal's conclusion an instance, if there are so many.
-fn match_at<L>(
+/// Those of the terms that have these places, abstracted over the constants.
+fn terms_for(
     alloc: Global,
     world: &mut World,
-    atom: &DefinedAtom,
-    goal: &Sequent,
+    constants: &[Nominal],
+    terms: &[TermId],
+    places: &[usize],
+) -> Result<Vec<TermId>, AllocError>
+    requires world { IsWorld world.old }
+    requires constants { All (HoldsNominal world.old.types) constants.now }
+    requires terms { All (Holds world.old) terms.now }
+    ensures held { IfOk result (λ list. All (Holds world.new) list.items) }
+    ensures got { GotTerms world.old world.new }
+{
+    let mut list = Vec::new(alloc);
+    for place in places {
+        let Some(term) = terms.get(*place) else {
+            return Err(AllocError);
+        };
+        list.push(over_constants(alloc, &mut world.store, constants, *term)?)?;
+    }
+    Ok(list)
+}
+
+/// What a clause leaves of a goal: the clause's place; the places of its variables that stay open; the atom's constants that weren't
+/// chosen for its names; and how many were chosen.
+#[derive(Drop)]
+struct Opening {
     place: usize,
+    left: Vec<usize>,
+    unchosen: Vec<Nominal>,
+    chosen: usize,
+}
+
+/// What the clause leaves of the goal, whose constants are so like those of the path.
+fn opening_by_clause<L>(
+    alloc: Global,
+    world: &mut World,
+    goal: &Sequent,
+    like: &Likeness,
+    clause: &ClauseTaken,
     steps: &mut Steps<L>,
-) -> Result<Option<Match>, AllocError>
+) -> Result<Opening, AllocError>
+    requires world { IsWorld world.old }
+    requires goal { HoldsSequent world.old goal.now }
+    requires formula { IsFormula (signature_in (declarations_of world.old)) (read world.old goal.now.conclusion) }
+    ensures unchosen { IfOk result (λ o. All (HoldsNominal world.old.types) o.unchosen.items) }
+    ensures grows { Grows world.old world.new }
+    ensures declared { declarations_of world.new ≡ declarations_of world.old }
+    ensures steps { steps.old ≤ steps.new }
+{
+    let Some(atom) = defined_atom(alloc, world, goal.conclusion)? else {
+        return Err(AllocError);
+    };
+    let constants = constants_of(alloc, &world.types, &world.store, &atom.arguments)?;
+    let held = goal_constants(alloc, world, goal)?;
+    let place = place_of_clause(alloc, world, &atom, &constants, &held, like, clause)?;
+    let Some(choice) = choice_at(alloc, world, &atom, &constants, &held, place)? else {
+        return Err(AllocError);
+    };
+    let unchosen = outside(alloc, &world.types, &constants, &choice.names)?;
+    let left = left_by_choice(alloc, world, &atom, &constants, &choice, steps)?;
+    Ok(Opening {
+        place,
+        left,
+        unchosen,
+        chosen: choice.names.len(),
+    })
+}
+
+/// The step for the clause at the goal, whose conclusion is like the formula.
+fn unfolding_by_clause<L>(
+    alloc: Global,
+    world: &mut World,
+    goal: &Sequent,
+    stand_ins: &[StandIn],
+    formula: TermId,
+    clause: &ClauseTaken,
+    steps: &mut Steps<L>,
+) -> Result<Unfolding, AllocError>
     requires world { IsWorld world.old }
     requires goal { HoldsSequent world.old goal.now }
     requires sequent { IsSequent (declarations_of world.old) (sequent_of world.old goal.now) }
-    requires atom { HoldsDefined world.old atom.now }
-    requires conclusion { defined_atom (declarations_of world.old) (sequent_of world.old goal.now).conclusion ≡ Some (defined_read world.old atom.now) }
-    ensures none { result ≡ Ok None →
-        slice_get (choices_of (goal_names (sequent_of world.old goal.now)) (defined_read world.old atom.now)) place ≡ None }
-    ensures matched { (m : AMatch) → result ≡ Ok (Some m) →
-        (c : APlainChoice) × (slice_get (choices_of (goal_names (sequent_of world.old goal.now)) (defined_read world.old atom.now)) place ≡ Some c)
-        × Matches (cells_read world.old.types world.old.store) (sequent_of world.old goal.now) (defined_read world.old atom.now) c m }
+    requires stand_ins { AreStandIns world.old stand_ins.now }
+    requires formula { Holds world.old formula }
+    requires values { All (Holds world.old) clause.now.values.items }
+    ensures terms { IfOk result (λ u. All (Holds world.new) u.terms.items) }
     ensures grows { Grows world.old world.new }
     ensures declared { declarations_of world.new ≡ declarations_of world.old }
-    ensures cells { cells_read world.new.types world.new.store ≡ cells_read world.old.types world.old.store }
+    ensures steps { steps.old ≤ steps.new }
 {
-    let constants = constants_of(alloc, &world.types, &world.store, &atom.arguments)?;
-    let held = goal_constants(alloc, world, goal)?;
-    let Some(choice) = choice_at(alloc, world, atom, &constants, &held, place)? else {
-        return Ok(None);
+    let like = compare(alloc, world, stand_ins, formula, goal.conclusion, steps)?;
+    let opening = opening_by_clause(alloc, world, goal, &like, clause, steps)?;
+    let values = carried(alloc, world, stand_ins, &like, goal, &clause.values, steps)?;
+    let terms = terms_for(alloc, world, &opening.unchosen, &values, &opening.left)?;
+    let names = if opening.left.is_empty() {
+        0
+    } else {
+        opening.chosen
     };
-    let names = &choice.names;
-    let matched = match_choice(alloc, world, atom, &constants, choice.clause, names, steps)?;
-    Ok(Some(matched))
+    Ok(Unfolding {
+        place: opening.place,
+        terms,
+        names,
+    })
 }
 
-/// Unfolds the first goal's conclusion by the choice of this place, which does it and leaves no variable open.
-fn take_choice<L>(
+/// Takes the step at the goal of this place, and those that put in what it leaves open.
+pub(crate) fn unfold<L>(
+    world: &mut World,
+    proof: &mut Proof,
+    place: usize,
+    unfolded: &Unfolding,
+    steps: &mut Steps<L>,
+) -> Result<(), AllocError>
+    requires world { IsWorld world.old }
+    requires proof { IsProof world.old proof.old }
+    requires terms { All (Holds world.old) unfolded.now.terms.items }
+    ensures follows { Follows world.old proof.old world.new proof.new }
+    ensures gave_way { OnOk result (GaveWayTo world.old proof.old world.new proof.new place 1) }
+    ensures steps { steps.old ≤ steps.new }
+{
+    take(
+        world,
+        proof,
+        place,
+        Step::DefRight(unfolded.place),
+        1,
+        steps,
+    )?;
+    for term in unfolded.terms.as_slice() {
+        take(world, proof, place, Step::ExistsRight(*term), 1, steps)?;
+    }
+    for _ in 0..unfolded.names {
+        take(world, proof, place, Step::NablaRight, 1, steps)?;
+    }
+    Ok(())
+}
+
+/// Unfolds the conclusion of the goal of this place, which is like the formula, by the clause.
+pub(crate) fn take_clause<L>(
     alloc: Global,
     world: &mut World,
     proof: &mut Proof,
     place: usize,
+    stand_ins: &[StandIn],
+    formula: TermId,
+    clause: &ClauseTaken,
     steps: &mut Steps<L>,
-) -> Result<Bare, AllocError>
+) -> Result<(), AllocError>
     requires world { IsWorld world.old }
     requires proof { IsProof world.old proof.old }
-    requires open { goals_of world.old proof.old ≢ [] }
-    requires unfolds { First world.old proof.old (λ s. AreCells (cells_read world.old.types world.old.store) s
-        × (t : APlainGoal) × Unfolds (declarations_of world.old) s place t) }
+    requires stand_ins { AreStandIns world.old stand_ins.now }
+    requires formula { IsFormulaIn world.old formula }
+    requires clause { HoldsClause world.old clause.now }
     ensures follows { Follows world.old proof.old world.new proof.new }
-    ensures unfolded { IfOk result (λ b. IsUnfolded world.old proof.old place world.new proof.new) }
-    ensures asked { IfOk result (IsAsked world.new proof.new) }
-    ensures few { IfOk result (λ b. layers (read world.new b.formula) < 2 ^ 64) }
+    ensures gave_way { OnOk result (GaveWayTo world.old proof.old world.new proof.new place 1) }
+    ensures steps { steps.old ≤ steps.new }
 {
-    match attempt_solving(world, proof, 0, Step::DefRight(place), steps)? {
-        Attempted::Taken(_) => {
-            let conclusion = first_goal(world, proof).conclusion;
-            let _place = conclusion.place();
-            with_bare(alloc, world, conclusion)
-        }
-        Attempted::Failed(_) => unreachable!(),
-        Attempted::Stuck(_) => unreachable!(),
-    }
+    let goal = goal_at(proof, place)?;
+    let made = unfolding_by_clause(alloc, world, goal, stand_ins, formula, clause, steps)?;
+    unfold(world, proof, place, &made, steps)
 }
 
-/// Unfolds the first goal's conclusion by the choice of this place, where that leaves no variable open. The atom is the
-/// conclusion's.
-pub(crate) fn unfold_by<L>(
-    alloc: Global,
+/// Opens the judgement that the conclusion of the goal of this place is, all its layers at once, if that wasn't done before.
+pub(crate) fn take_layer<L>(
     world: &mut World,
     proof: &mut Proof,
-    atom: &DefinedAtom,
     place: usize,
     steps: &mut Steps<L>,
-) -> Result<Unfolded, AllocError>
+) -> Result<(), AllocError>
     requires world { IsWorld world.old }
     requires proof { IsProof world.old proof.old }
-    requires open { goals_of world.old proof.old ≢ [] }
-    requires atom { MayUnfold world.old proof.old atom.now }
     ensures follows { Follows world.old proof.old world.new proof.new }
-    ensures none { result ≡ Ok NoChoice → First world.old proof.old (λ s. (i : ℕ) (t : APlainGoal) → Unfolds (declarations_of world.old) s i t → i < place) }
-    ensures not_so { result ≡ Ok NotSo → First world.old proof.old (λ s. (t : APlainGoal) → ¬ Unfolds (declarations_of world.old) s place t) }
-    ensures kept { result ≡ Ok NotSo → proof.new ≡ proof.old }
-    ensures unfolded { (b : ABare) → result ≡ Ok (Goal b) → IsUnfolded world.old proof.old place world.new proof.new }
-    ensures asked { (b : ABare) → result ≡ Ok (Goal b) → IsAsked world.new proof.new b }
-    ensures few { (b : ABare) → result ≡ Ok (Goal b) → layers (read world.new b.formula) < 2 ^ 64 }
+    ensures gave_way { OnOk result (GaveWayTo world.old proof.old world.new proof.new place 1) }
+    ensures steps { steps.old ≤ steps.new }
 {
-    let goal = first_goal(world, proof);
-    match match_at(alloc, world, atom, goal, place, steps)? {
-        None => Ok(Unfolded::NoChoice),
-        Some(Match::Closed) => {
-            let asked = take_choice(alloc, world, proof, place, steps)?;
-            Ok(Unfolded::Goal(asked))
-        }
-        Some(Match::Open(_)) => Ok(Unfolded::NotSo),
-        Some(Match::Apart) => Ok(Unfolded::NotSo),
-        Some(Match::Stuck(_)) => Ok(Unfolded::NotSo),
+    if is_compound(world, conclusion_at(proof, place)?) {
+        take(world, proof, place, Step::DefRight(0), 1, steps)?;
     }
+    Ok(())
 }

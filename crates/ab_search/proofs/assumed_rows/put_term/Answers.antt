@@ -1,0 +1,23 @@
+use Rattle.std.proofs.lemmas.Result.{on_ok_weaker}
+use Rattle.ab_search.proofs.MadeBeside.{only_made, made_first, gave_made_first}
+use Rattle.ab_search.proofs.assumed_rows.put_term.Goals as goal
+
+pub returns-in_err-term-clause-follows : goal.returns-in_err-term-clause-follows
+returns-in_err-term-clause-follows g c =
+    let got = c.raised_term.ensures.got in
+    only_made c.args.world.now c.raised_term.new.world c.args.proof.now c.requires.proof got.grows got.declared
+
+pub take-requires-clause-proof : goal.take-requires-clause-proof
+take-requires-clause-proof g c =
+    let got = c.raised_term.ensures.got in
+    (only_made c.args.world.now c.raised_term.new.world c.args.proof.now c.requires.proof got.grows got.declared).proof
+
+pub returns-clause-follows : goal.returns-clause-follows
+returns-clause-follows g c =
+    let got = c.raised_term.ensures.got in
+    made_first c.args.world.now c.raised_term.new.world c.take.new.world c.args.proof.now c.take.new.proof c.requires.proof got.grows got.declared c.take.ensures.follows
+
+pub returns-clause-gave_way : goal.returns-clause-gave_way
+returns-clause-gave_way g c =
+    on_ok_weaker c.take.result
+    (λ gave. gave_made_first c.args.world.now c.raised_term.new.world c.take.new.world c.args.proof.now c.take.new.proof c.args.place 1 c.requires.proof c.raised_term.ensures.got.grows gave) c.take.ensures.taken

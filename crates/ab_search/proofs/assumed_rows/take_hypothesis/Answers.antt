@@ -1,0 +1,22 @@
+use Rattle.std.proofs.Common.{arith}
+use Rattle.ab_steps.proofs.Following.{follows_on}
+use Rattle.ab_search.proofs.Counting.{on_first}
+use Rattle.ab_search.proofs.assumed_rows.take_hypothesis.Goals as goal
+
+pub returns-in_err-taken-clause-follows : goal.returns-in_err-taken-clause-follows
+returns-in_err-taken-clause-follows g c =
+    follows_on c.args.world.now c.loop.world c.take_bound.new.world c.args.proof.now c.loop.proof c.take_bound.new.proof c.loop.invariant.follows c.take_bound.ensures.follows
+
+pub loop-preserved : goal.loop-preserved
+loop-preserved g c =
+    let w = c.args.world.now in
+    let p = c.args.proof.now in
+    let l = c.loop in
+    let u = c.take_bound.new.world in
+    let r = c.take_bound.new.proof in
+    record {
+      follows = follows_on w l.world u p l.proof r l.invariant.follows c.take_bound.ensures.follows;
+      gave = on_first w l.world u p l.proof r c.args.place 0 1 l.invariant.gave c.in_ok-taken.ensures.gave_way;
+      terms = c.in_ok-taken.ensures.terms;
+      steps = omega (arith, l.invariant.steps, c.take_bound.ensures.steps);
+    }

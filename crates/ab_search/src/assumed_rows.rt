@@ -1,0 +1,210 @@
+//! A rule of a judgement leaves names open at the kernel, and a hypothesis closes what it leaves, some of whose `exists` bind these names.
+//! The hypothesis is taken over with the goal's constants, and what it says there is stands for the names.
+ghost use Rattle.std.specs.Prelude.{◌≤◌, All, IfOk, IfSome, OnOk};
+ghost use Rattle.ab_logic.specs.Worlds.{IsWorld, Holds};
+ghost use Rattle.ab_logic.specs.declared.world.World.{World as AWorld};
+ghost use Rattle.ab_steps.specs.ab_kernel.specs.Layout.{IsProof};
+ghost use Rattle.ab_steps.specs.Progress.{Follows};
+ghost use Rattle.ab_search.specs.GoalCounts.{GaveWayTo};
+ghost use Rattle.ab_search.specs.RulePlans.{NamesTerm, HoldsRow};
+
+use crate::kernel_steps::{auto, goal_at, last_name, name_at, take};
+use crate::opened_hypotheses::{close_apart, last_variable_given};
+use crate::raised_terms::raised_term;
+use crate::rule_terms::{Assumed, NameTerm, OpenName};
+use ab_logic::World;
+use ab_norm::Nominal;
+use ab_norm::name::Name;
+use ab_norm::store::TermId;
+use ab_norm::types::Steps;
+use ab_steps::kernel::{Proof, Step};
+use std::alloc::{AllocError, Global};
+
+/// The number of the rule, the judgement's constants, the names that the rule leaves open, and the hypothesis.
+#[derive(Drop)]
+pub(crate) struct AssumedRow {
+    pub(crate) rule: usize,
+    pub(crate) constants: Vec<Nominal>,
+    pub(crate) open: Vec<OpenName>,
+    pub(crate) found: Assumed,
+}
+
+/// A hypothesis, and the terms for the names that it bound.
+#[derive(Drop)]
+struct Taken {
+    name: Name,
+    terms: Vec<TermId>,
+}
+
+/// Puts a new variable for the name that the hypothesis binds first.
+fn take_bound<L>(
+    alloc: Global,
+    world: &mut World,
+    proof: &mut Proof,
+    place: usize,
+    taken: Taken,
+    steps: &mut Steps<L>,
+) -> Result<Taken, AllocError>
+    requires world { IsWorld world.old }
+    requires proof { IsProof world.old proof.old }
+    requires terms { All (Holds world.old) taken.terms.items }
+    ensures follows { Follows world.old proof.old world.new proof.new }
+    ensures gave_way { OnOk result (GaveWayTo world.old proof.old world.new proof.new place 1) }
+    ensures terms { IfOk result (λ one. All (Holds world.new) one.terms.items) }
+    ensures steps { steps.old ≤ steps.new }
+{
+    let Some(formula) = goal_at(proof, place)?.look(&taken.name) else {
+        return Err(AllocError);
+    };
+    let step = Step::ExistsLeft(taken.name, auto());
+    take(world, proof, place, step, 1, steps)?;
+    let name = last_name(alloc, proof, place, 0)?;
+    let mut terms = taken.terms;
+    terms.push(last_variable_given(alloc, world, proof, place, formula)?)?;
+    Ok(Taken { name, terms })
+}
+
+/// Takes the formula over at the goal of this place, by the hypothesis of this number.
+fn take_formula<L>(
+    alloc: Global,
+    world: &mut World,
+    proof: &mut Proof,
+    place: usize,
+    number: usize,
+    formula: TermId,
+    steps: &mut Steps<L>,
+) -> Result<Name, AllocError>
+    requires world { IsWorld world.old }
+    requires proof { IsProof world.old proof.old }
+    requires formula { Holds world.old formula }
+    ensures follows { Follows world.old proof.old world.new proof.new }
+    ensures gave_way { OnOk result (GaveWayTo world.old proof.old world.new proof.new place 1) }
+    ensures steps { steps.old ≤ steps.new }
+{
+    let given = name_at(alloc, proof, place, number)?;
+    let step = Step::CutFormula(formula, auto());
+    take(world, proof, place, step, 2, steps)?;
+    take(world, proof, place, Step::Initial(given), 0, steps)?;
+    last_name(alloc, proof, place, 0)
+}
+
+/// Takes the hypothesis over at the goal of this place, and puts new variables for the names that it binds.
+fn take_hypothesis<L>(
+    alloc: Global,
+    world: &mut World,
+    proof: &mut Proof,
+    place: usize,
+    found: &Assumed,
+    steps: &mut Steps<L>,
+) -> Result<Taken, AllocError>
+    requires world { IsWorld world.old }
+    requires proof { IsProof world.old proof.old }
+    requires formula { Holds world.old found.now.formula }
+    ensures follows { Follows world.old proof.old world.new proof.new }
+    ensures gave_way { OnOk result (GaveWayTo world.old proof.old world.new proof.new place 1) }
+    ensures terms { IfOk result (λ one. All (Holds world.new) one.terms.items) }
+    ensures steps { steps.old ≤ steps.new }
+{
+    let name = take_formula(
+        alloc,
+        world,
+        proof,
+        place,
+        found.number,
+        found.formula,
+        steps,
+    )?;
+    let mut taken = Taken {
+        name,
+        terms: Vec::new(alloc),
+    };
+    for _ in 0..found.bound {
+        taken = take_bound(alloc, world, proof, place, taken, steps)?;
+    }
+    Ok(taken)
+}
+
+/// The term for the name of this number, where these stand for the names that the hypothesis binds.
+fn term_for_name(names: &[NameTerm], bound: &[TermId], number: usize) -> Option<TermId>
+    ensures { (w : AWorld) → All (NamesTerm w) names.now → All (Holds w) bound.now → IfSome result (Holds w) }
+{
+    match names.get(number)? {
+        NameTerm::Term(term) => Some(*term),
+        NameTerm::Bound(one) => bound.get(*one).copied(),
+    }
+}
+
+/// Puts a term for the name of this number that the rule leaves open.
+fn put_term<L>(
+    alloc: Global,
+    world: &mut World,
+    proof: &mut Proof,
+    place: usize,
+    row: &AssumedRow,
+    bound: &[TermId],
+    number: usize,
+    steps: &mut Steps<L>,
+) -> Result<(), AllocError>
+    requires world { IsWorld world.old }
+    requires proof { IsProof world.old proof.old }
+    requires row { HoldsRow world.old row.now }
+    requires bound { All (Holds world.old) bound.now }
+    ensures follows { Follows world.old proof.old world.new proof.new }
+    ensures gave_way { OnOk result (GaveWayTo world.old proof.old world.new proof.new place 1) }
+    ensures steps { steps.old ≤ steps.new }
+{
+    let Some(one) = row.open.get(number) else {
+        return Err(AllocError);
+    };
+    let Some(found) = term_for_name(&row.found.names, bound, number) else {
+        return Err(AllocError);
+    };
+    let term = raised_term(alloc, world, &row.constants, *one, found)?;
+    take(world, proof, place, Step::ExistsRight(term), 1, steps)
+}
+
+/// Puts terms for the names that the rule leaves open.
+fn put_terms<L>(
+    alloc: Global,
+    world: &mut World,
+    proof: &mut Proof,
+    place: usize,
+    row: &AssumedRow,
+    bound: &[TermId],
+    steps: &mut Steps<L>,
+) -> Result<(), AllocError>
+    requires world { IsWorld world.old }
+    requires proof { IsProof world.old proof.old }
+    requires row { HoldsRow world.old row.now }
+    requires bound { All (Holds world.old) bound.now }
+    ensures follows { Follows world.old proof.old world.new proof.new }
+    ensures gave_way { OnOk result (GaveWayTo world.old proof.old world.new proof.new place 1) }
+    ensures steps { steps.old ≤ steps.new }
+{
+    for number in 0..row.open.len() {
+        put_term(alloc, world, proof, place, row, bound, number, steps)?;
+    }
+    Ok(())
+}
+
+/// Takes the rule at the goal of this place, and closes what it leaves by the hypothesis.
+pub(crate) fn close_by_row<L>(
+    alloc: Global,
+    world: &mut World,
+    proof: &mut Proof,
+    place: usize,
+    row: &AssumedRow,
+    steps: &mut Steps<L>,
+) -> Result<(), AllocError>
+    requires world { IsWorld world.old }
+    requires proof { IsProof world.old proof.old }
+    requires row { HoldsRow world.old row.now }
+    ensures follows { Follows world.old proof.old world.new proof.new }
+    ensures gave_way { OnOk result (GaveWayTo world.old proof.old world.new proof.new place 0) }
+    ensures steps { steps.old ≤ steps.new }
+{
+    take(world, proof, place, Step::DefRight(row.rule), 1, steps)?;
+    let taken = take_hypothesis(alloc, world, proof, place, &row.found, steps)?;
+    put_terms(alloc, world, proof, place, row, &taken.terms, steps)?;
+    close_apart(alloc, world, proof, place, taken.name, steps)
+}
