@@ -1,9 +1,9 @@
-mod Readings
+pub mod Readings
 mod Skeletons
-mod Places
-mod Asked
+pub mod Places
+pub mod Asked
 mod Opened
 mod Uses
 mod Analysed
-mod Commands
+pub mod Commands
 mod Instances

@@ -20,7 +20,7 @@ use Rattle.ab_meaning.specs.Terms.{made, scope_of, MeansIn, MeansNothingIn, Asse
 use Rattle.ab_existence.specs.Certainty.{IsCertain}
 use Rattle.ab_existence.proofs.Certain.{sure, and_so, and_also, there_or_not, least}
 
-parted : {X : Type 0} (As Bs Cs Ds : List X) → length As ≡ length Cs → As ++ Bs ≡ Cs ++ Ds → (As ≡ Cs) × (Bs ≡ Ds)
+pub parted : {X : Type 0} (As Bs Cs Ds : List X) → length As ≡ length Cs → As ++ Bs ≡ Cs ++ Ds → (As ≡ Cs) × (Bs ≡ Ds)
 parted [] Bs [] Ds l e = (refl, e)
 parted [] Bs (C ∷ Cs) Ds l e = absurd (omega (arith, l))
 parted (A ∷ As) Bs [] Ds l e = absurd (omega (arith, l))
@@ -32,7 +32,7 @@ parted (A ∷ As) Bs (C ∷ Cs) Ds l e =
 
 module _ (make : Making) where
   -- there is a type for each place
-  counted : {types : Name → Ty} {G : List Ty} {e : Resolved} {t : Raw} {A : Ty} {As : List Ty} → Reads make types G e t A As → length As ≡ length (places_of e)
+  pub counted : {types : Name → Ty} {G : List Ty} {e : Resolved} {t : Raw} {A : Ty} {As : List Ty} → Reads make types G e t A As → length As ≡ length (places_of e)
   counted (reads_bound h) = refl
   counted reads_known = refl
   counted (reads_free p) = refl
@@ -43,7 +43,7 @@ module _ (make : Making) where
   counted (reads_bind p k d) = omega (arith, counted d)
 
   -- the types at its names determine the term and its type
-  determined : {types others : Name → Ty} {G H : List Ty} {e : Resolved} {t u : Raw} {A B : Ty} {As Bs : List Ty}
+  pub determined : {types others : Name → Ty} {G H : List Ty} {e : Resolved} {t u : Raw} {A B : Ty} {As Bs : List Ty}
       → Reads make types G e t A As → Reads make others H e u B Bs → G ≡ H → As ≡ Bs → (t ≡ u) × (A ≡ B)
   determined (reads_bound {i = i} {A = A} h) (reads_bound {A = B} k) context same =
       let both : Some A ≡ Some B = sym h ∙ ap (λ G. type_at G i) context ∙ k in
@@ -89,7 +89,7 @@ module _ (make : Making) where
       by_test false e = inr (λ same. let yes = (same_type-Decides A B).1 same in absurd (cc))
 
   -- lists that nowhere differ are the same
-  nowhere_different : (As Bs : List Ty) → length As ≡ length Bs → ((k : ℕ) → k < length As → get_or As k prop ≢ get_or Bs k prop → ⊥) → As ≡ Bs
+  pub nowhere_different : (As Bs : List Ty) → length As ≡ length Bs → ((k : ℕ) → k < length As → get_or As k prop ≢ get_or Bs k prop → ⊥) → As ≡ Bs
   nowhere_different [] [] l f = refl
   nowhere_different [] (B ∷ Bs) l f = absurd (omega (arith, l))
   nowhere_different (A ∷ As) [] l f = absurd (omega (arith, l))

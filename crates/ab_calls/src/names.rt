@@ -31,14 +31,17 @@ fn faults_of_texts_are_named(rt: HostRuntime) -> Result<(), Fail> {
 fn faults_of_proofs_are_named(rt: HostRuntime) -> Result<(), Fail> {
     let alloc = rt.alloc();
     let names = format!(in alloc;
-        "{} {} {} {} {} {}",
+        "{} {} {} {} {} {} {}",
         KernelFault::RuleFails(1),
         KernelFault::NotPattern(1),
         KernelFault::Memory(AllocError),
         SearchFault::NotFound,
+        SearchFault::NotPattern(1),
         SearchFault::Memory(AllocError),
         ProofCommandFault::WrongShape
     )?;
-    assert!(rt; names.as_str() == "RuleFails NotPattern Memory NotFound Memory WrongShape");
+    assert!(rt;
+        names.as_str() == "RuleFails NotPattern Memory NotFound NotPattern Memory WrongShape"
+    );
     Ok(())
 }

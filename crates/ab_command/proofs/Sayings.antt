@@ -1,5 +1,5 @@
 -- What bytes say is one command or one cause why they say none, and a command that they say stands there.
-use Rattle.std.proofs.Common.{◌≡◌, ◌↔◌, ◌+◌, ℕ, Bool, List, length, Option, Some, None, refl, sym, ap, ◌∙◌, subst, arith, inl, inr}
+use Rattle.std.proofs.Common.{◌≡◌, ◌↔◌, ◌+◌, ℕ, Bool, List, Option, Some, None, refl, sym, ap, ◌∙◌, subst, arith, inl, inr}
 use Rattle.ab_lex.specs.declared.token.Token.{Token}
 use Rattle.ab_lex.specs.Tokens.{TokensOf, place_of}
 use Rattle.ab_lex.proofs.OneReading.{tokens_unique, fault_unique, fault_excludes}
@@ -113,7 +113,7 @@ module _ (b : List ℕ) (proving : Bool) where
   says_or_fails c _ h (not_built ts t f x n) =
       let e = tokens_unique h.fits.tokens_are f.tokens_are in
       let g : c ≡ t = one_command (tokens_in b ts) c t (subst (λ q. Accepted CommandText (tokens_in b q) c) e h.spells) x in
-      n (subst (λ u. IsBuilt (length ts) u) g (subst (λ (q : List Token). IsBuilt (length q) c) e h.built))
+      n (subst IsBuilt g h.built)
 
 -- the place that tokens tell
 module _ (b : List ℕ) (ts : List Token) (proving : Bool) (t : TokensOf b ts) (o : Option Stand) (told : (d : Stand) → (o ≡ Some d) ↔ StandsAt (tokens_in b ts) d) where

@@ -1,5 +1,5 @@
 -- What the bytes of a command say: the command, as the grammar's tree, or the first cause why they say none.
-use Rattle.std.specs.Prelude.{◌≡◌, ◌+◌, ℕ, Bool, true, false, List, length}
+use Rattle.std.specs.Prelude.{◌≡◌, ◌+◌, ℕ, Bool, true, false, List}
 use Rattle.ab_lex.specs.declared.token.Token.{Token}
 use Rattle.ab_lex.specs.declared.token.LexFault.{LexFault}
 use Rattle.ab_lex.specs.Tokens.{TokensOf, FaultOf, BeginsAt, place_of}
@@ -42,7 +42,7 @@ pub record Says (bytes : List ℕ) (proving : Bool) (c : Command) : Type 0 where
   pub tokens : List Token
   pub fits : Fits bytes proving tokens
   pub spells : Accepted CommandText (tokens_in bytes tokens) c
-  pub built : IsBuilt (length tokens) c
+  pub built : IsBuilt c
 
 -- THEY SAY NO COMMAND that is built, and this is the first cause, in the order in which they are looked at: bytes that are no token,
 -- the place, the grammar with its bound on nesting, and what is built
@@ -51,7 +51,7 @@ pub data Fails (bytes : List ℕ) (proving : Bool) : Cause → Type 0 where
   out_of_place : (ts : List Token) (d : Stand) → TokensOf bytes ts → StandsAt (tokens_in bytes ts) d → ¬ StandsHere d proving → Fails bytes proving WrongPlace
   ungrammatical : (ts : List Token) (i place : ℕ) → Fits bytes proving ts → SyntaxAt CommandText (tokens_in bytes ts) i → IsCommandPlace bytes ts i place → Fails bytes proving (Syntax place)
   too_nested : (ts : List Token) (i : ℕ) → Fits bytes proving ts → TooNestedAt CommandText (tokens_in bytes ts) i → Fails bytes proving (TooNested (nested_place bytes ts i))
-  not_built : (ts : List Token) (c : Command) → Fits bytes proving ts → Accepted CommandText (tokens_in bytes ts) c → ¬ IsBuilt (length ts) c → Fails bytes proving NotBuilt
+  not_built : (ts : List Token) (c : Command) → Fits bytes proving ts → Accepted CommandText (tokens_in bytes ts) c → ¬ IsBuilt c → Fails bytes proving NotBuilt
 
 -- want of memory says nothing of the bytes
 abbrev pub FailsBy : List ℕ → Bool → Unread → Type 0

@@ -87,7 +87,7 @@ pub fn read_command(alloc: Global, bytes: &[u8], is_open: bool) -> Result<Comman
 {
     let tokens = tokens_here(alloc, bytes, is_open)?;
     let command = spelled(alloc, bytes, &tokens, is_open)?;
-    if is_built(&command, tokens.len()) {
+    if is_built(&command) {
         Ok(command)
     } else {
         Err(Unread::Refused(Cause::NotBuilt))

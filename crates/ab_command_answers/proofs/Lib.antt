@@ -1,1 +1,1 @@
-mod Says
+pub mod Says

@@ -1,5 +1,5 @@
 -- Each text says a command, or there is a cause why it says none.
-use Rattle.std.proofs.Common.{◌≡◌, ◌⊎◌, inl, inr, ℕ, ◌+◌, ◌-◌, ◌≤◌, Bool, true, false, List, length, refl, arith}
+use Rattle.std.proofs.Common.{◌⊎◌, inl, inr, ℕ, ◌-◌, ◌≤◌, Bool, true, false, List, refl, arith}
 use Rattle.ab_lex.specs.declared.token.Token.{Token}
 use Rattle.ab_lex.specs.declared.token.LexFault.{LexFault}
 use Rattle.ab_lex.specs.Tokens.{TokensOf, FaultFrom, FaultOf, here, gap_before, token_before, BeginsFrom, begins, gap_first, place_of}
@@ -46,7 +46,7 @@ module _ (bytes : List ℕ) (proving : Bool) where
 
   by_answer : (ts : List Token) → Fits bytes proving ts → HasAnswer CommandText (tokens_in bytes ts) → IsCertain Read
   by_answer ts fits (HasAnswer.accepted {a = c} spelt) =
-      and_also (there_or_not (IsBuilt (length ts) c))
+      and_also (there_or_not (IsBuilt c))
       (λ built. elim built [
         | inl is ↦ inl (c, record { tokens = ts; fits = fits; spells = spelt; built = is })
         | inr out ↦ inr (NotBuilt, Fails.not_built ts c fits spelt out)

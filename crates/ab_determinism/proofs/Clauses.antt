@@ -1,5 +1,5 @@
 -- A clause has one meaning, or none for one cause.
-use Rattle.std.specs.Prelude.{None, Ok, Err, All, not, if◌then◌else◌}
+use Rattle.std.specs.Prelude.{None, Ok, Err, All, if◌then◌else◌}
 use Rattle.std.proofs.Common.{◌≡◌, inl, inr, ℕ, suc, List, [], ◌∷◌, ◌++◌, Bool, true, false, get_or, refl, sym, ◌∙◌, ap, subst, arith}
 use Rattle.std.proofs.lemmas.Bool.{cases_lt}
 use Rattle.std.proofs.lemmas.List.Elements.{All-nil, All-cons, All-head, All-tail, All-append, All-push}

@@ -30,7 +30,7 @@ use Rattle.ab_states.specs.ForwardEffects.{Commands, Faces, beginning, left_with
 use Rattle.ab_states.specs.Replay.{Replays, none, next}
 use Rattle.ab_determinism.specs.Sound.{AreSound, IsSound}
 use Rattle.ab_determinism.proofs.Sound.{has_lists, has_member, sound_forward}
-use Rattle.ab_determinism.proofs.Closing.{closed_also}
+use Rattle.ab_determinism.proofs.Searching.{one_refusal, closed_or_refused}
 use Rattle.ab_determinism.proofs.Declaring.{one_statement, one_declaring, one_declining, declares_or_not, states_or_not, shows_or_not}
 
 -- A PROOF COMMAND at two sequents that are one goal with names for numbers
@@ -43,7 +43,7 @@ module _ (D : Declarations) (sound : AreSound D) (l : Label) (s u : Sequent) (is
   one_making c ps qs a b = (both_once c).goals ps qs a b
 
   one_denial : (c : ProofCommand) → (r q : Refusal) → Denies D l c s r → Denies D l c u q → r ≡ q
-  one_denial (search n) r q a b = a.1 ∙ sym b.1
+  one_denial (search n) r q a b = one_refusal D sound.definitions sound.programs l s u is its same n r q a b
   one_denial c r q a b = a.is ∙ ap refusal_for ((both_once c).refusal a.cause b.cause a.refuses b.refuses) ∙ sym b.is
 
   -- it owes the same at both
@@ -53,7 +53,7 @@ module _ (D : Declarations) (sound : AreSound D) (l : Label) (s u : Sequent) (is
   one_owing c = refl
 
   makes_or_denies : (c : ProofCommand) → (ps : List Sequent) (r : Refusal) → Makes D l c s ps → Denies D l c u r → ⊥
-  makes_or_denies (search n) ps r a b = b.0 (closed_also D sound.sentences sound.definitions sound.programs (has_member D sound) n s u is its same a.0)
+  makes_or_denies (search n) ps r a b = closed_or_refused D sound.definitions sound.programs l s u is its same n ps r a b
   makes_or_denies c ps r a b = (both_once c).apart ps b.cause a b.refuses
 
 -- WHAT A COMMAND DOES, by what it says, where what was declared is sound

@@ -17,7 +17,7 @@ use Rattle.ab_term.proofs.Same.{same_term-Decides}
 use Rattle.ab_term.proofs.Translations.{translate-shift, translate-instance_by_all}
 use Rattle.ab_unifiers.specs.Member.{before, in_the_list}
 use Rattle.ab_formulas.specs.Declarations.{Declarations}
-use Rattle.ab_formulas.specs.Sequents.{Variable, Sequent, IsSequent, HoldsOnly, in_terms}
+use Rattle.ab_formulas.specs.Sequents.{Sequent, IsSequent, HoldsOnly, in_terms}
 use Rattle.ab_formulas.specs.NamedGoals.{name_in, with_names}
 use Rattle.ab_theory.specs.Contexts.{without_item, list_if_same, cut_list, replace_constants, is_within}
 use Rattle.ab_theory.specs.Judgements.{Judgement, unless_focused, parts_unfocused, as_judgement, as_unfocused}

@@ -34,13 +34,12 @@ mod Faults
 mod Clauses
 mod Definitions
 mod Defining
-mod Places
 mod Judged
-mod Closing
 mod Declaring
 mod Statements
 mod Programs
 pub mod Sound
+mod Searching
 pub mod Effects
 pub mod Taking
 pub mod OneEffect

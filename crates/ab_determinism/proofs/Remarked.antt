@@ -26,7 +26,7 @@ module _ (f : ℕ → ℕ) where
 
   -- MARKS
 
-  pub making_told : (h : Head ℕ) → making_of (translate_head f h) ≡ making_of h
+  making_told : (h : Head ℕ) → making_of (translate_head f h) ≡ making_of h
   making_told (constant c) = refl
   making_told (logical l) = refl
   making_told (nominal a) = refl

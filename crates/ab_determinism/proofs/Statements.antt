@@ -13,7 +13,7 @@ use Rattle.ab_grammar.specs.declared.Quant.{Quant}
 use Rattle.ab_grammar.specs.Tree as tree
 use Rattle.ab_grammar.specs.Tree.{Tree, Trees, no_trees, Focus}
 use Rattle.ab_meaning.specs.ResolvedNames.{Name, Resolved, bound, known, free, apply, behind, abs, equal, bind}
-use Rattle.ab_meaning.specs.Scopes.{Scope, Place, elsewhere, or_else, index_of, truth_named, variable_named, constant_at, nominal_named, clause_variable, head_named, Found, or_unknown, made_of, made_of_both, connective, joined, before_list, empty_list, put_before, is_list, first_list, with_goal, with_focus_and_goal, pi_over, after, written, with_binder, with_binders, under, is_pi, resolved, applied, pi_applied, context, items_before, judgement}
+use Rattle.ab_meaning.specs.Scopes.{Scope, Place, elsewhere, or_else, index_of, truth_named, variable_named, constant_at, nominal_named, clause_variable, head_named, Found, or_unknown, made_of, made_of_both, connective, joined, empty_list, put_before, is_list, first_list, with_goal, with_focus_and_goal, pi_over, after, written, with_binder, with_binders, under, is_pi, resolved, applied, pi_applied, context, items_before, judgement}
 use Rattle.ab_meaning.specs.Normal.{normal_form}
 use Rattle.ab_meaning.specs.ClosedScopes.{IsClosedScope}
 use Rattle.ab_meaning.proofs.Heads.{RawHas, reads_has, normal_form_has}

@@ -1,7 +1,7 @@
 //! Each proof command has one answer at a goal.
 ghost use Rattle.std.specs.Prelude.{◌≡◌, ℕ, List, map};
 ghost use Rattle.ab_term.specs.Terms.{Read};
-ghost use Rattle.ab_grammar.specs.CommandTrees.{ProofCommand};
+ghost use Rattle.ab_grammar.specs.CommandTrees.{ProofCommand, search};
 ghost use Rattle.ab_unifiers.specs.Member.{HasMember};
 ghost use Rattle.ab_formulas.specs.Declarations.{Declarations, HaveDefinitions, HaveSentences, signature_in};
 ghost use Rattle.ab_formulas.specs.Programs.{HavePrograms};
@@ -13,6 +13,8 @@ ghost use Rattle.ab_infer.specs.Lists.{HasLists};
 ghost use Rattle.ab_effects.specs.ProofCommands.{effect};
 ghost use Rattle.ab_meaning.specs.Refusals.{Refusal};
 ghost use Rattle.ab_effects.specs.Row.{Leads, Refuses};
+ghost use Rattle.ab_declare.specs.declared.refusal.Refusal.{Refusal as Told};
+ghost use Rattle.ab_states.specs.ProofCommandEffects.{Makes, Denies};
 ghost use Rattle.ab_determinism.specs.OpeningCommands.{OpensNothing};
 ghost use Rattle.ab_determinism.specs.UsesByNames.{IsSameUse};
 
@@ -41,6 +43,15 @@ pub fn every_proof_command_has_one_answer()
         Refuses (effect D l command s) f → Refuses (effect D l command u) g → f ≡ g }
     ensures one_list { (D : Declarations) (l : Label) (command : ProofCommand) (s u : Sequent) (ps qs : List Sequent) → HasLists D → HaveSentences D → HaveDefinitions D → HavePrograms D → HasMember (signature_in D) → IsSequent D s → IsSequent D u → named s ≡ named u →
         Leads (effect D l command s) ps → Leads (effect D l command u) qs → map named ps ≡ map named qs }
+{}
+
+/// A SEARCH HAS ONE ANSWER, though it has no row: in two goals that are the same with names for numbers it doesn't close one and
+/// get refused in the other, and it is refused for at most one cause.
+pub fn searches_have_one_answer()
+    ensures apart { (D : Declarations) (l : Label) (depth : ℕ) (s u : Sequent) (ps : List Sequent) (r : Told) → HaveDefinitions D → HavePrograms D → IsSequent D s → IsSequent D u → named s ≡ named u →
+        Makes D l (search depth) s ps → Denies D l (search depth) u r → ⊥ }
+    ensures one_refusal { (D : Declarations) (l : Label) (depth : ℕ) (s u : Sequent) (r q : Told) → HaveDefinitions D → HavePrograms D → IsSequent D s → IsSequent D u → named s ≡ named u →
+        Denies D l (search depth) s r → Denies D l (search depth) u q → r ≡ q }
 {}
 
 /// USING A FORMULA HAS ONE OUTCOME, whatever the numbers: in two goals that are the same with names for numbers it leaves the

@@ -1,9 +1,8 @@
-use Rattle.std.proofs.Common.{◌≡◌, length, sym, ap, ◌∙◌, subst}
+use Rattle.std.proofs.Common.{subst}
 use Rattle.ab_grammar.specs.CommandTable.{CommandText}
 use Rattle.ab_grammar.specs.Language.{Accepted}
 use Rattle.ab_syntax.specs.Tokens.{tokens_in}
 use Rattle.ab_syntax.specs.Commands.{command_of}
-use Rattle.ab_command.specs.Supported.{IsBuilt}
 use Rattle.ab_command.specs.CommandReadings.{not_built}
 use Rattle.ab_command.proofs.command_reader.read_command.Goals as goal
 
@@ -12,5 +11,4 @@ returns-clause-unread c =
     let ts = c.in_ok-tokens.tokens.items in
     let t = command_of c.in_ok-command.command in
     let read : Accepted CommandText (tokens_in c.args.bytes.now ts) t = subst (λ q. Accepted CommandText (tokens_in c.args.bytes.now q) t) c.deref.ensures.value c.in_ok-command.ensures.read in
-    let count : c.len.result ≡ length ts = c.len.ensures ∙ (sym c.deref.ensures.len ∙ ap length c.deref.ensures.value) in
-    not_built ts t c.in_ok-tokens.ensures.fits read (λ b. let x = c.is_built.ensures.1 (subst (λ n. IsBuilt n t) (sym count) b) in let y = c.if-is_built.false in absurd (cc))
+    not_built ts t c.in_ok-tokens.ensures.fits read (λ b. let x = c.is_built.ensures.1 b in let y = c.if-is_built.false in absurd (cc))
