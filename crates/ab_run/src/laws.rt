@@ -5,7 +5,11 @@ ghost use Rattle.ab_lex.specs.Commands.{Item};
 ghost use Rattle.ab_sigmod.specs.FileLoads.{Load};
 ghost use Rattle.ab_session.specs.ab_states.specs.State.{State};
 ghost use Rattle.ab_session.specs.ab_states.specs.Replay.{IsReplayed};
-ghost use Rattle.ab_session.specs.ab_states.specs.Reply.{completed, admitted};
+ghost use Rattle.ab_session.specs.ab_states.specs.Reply.{Reply, completed, admitted};
+ghost use Rattle.ab_session.specs.ab_states.specs.StateEffects.{HasEffect};
+ghost use Rattle.ab_session.specs.Contents.{Contents, state_of};
+ghost use Rattle.ab_session.specs.Origins.{IsSession};
+ghost use Rattle.ab_determinism.specs.Sound.{IsSound};
 ghost use Rattle.ab_session.specs.SessionAnswers.{IsDerivedLast, IsProvedLast};
 ghost use Rattle.ab_run.specs.declared.way.Way.{Way};
 ghost use Rattle.ab_run.specs.Report.{Moment, Report, ReportOf, Reports, has_end};
@@ -30,6 +34,24 @@ pub fn last_reply_ends_a_report()
 /// Each state of a report is the one that its kept commands lead to.
 pub fn kept_commands_replay()
     ensures { (way : Way) (text : List ℕ) (loads : List Load) (r : Report) → ReportOf way text loads r → All (λ (m : Moment). IsReplayed m.state) r }
+{}
+
+/// The state of a session is sound, since its kept commands lead to it: what is declared is, and a formula that is being proved is a
+/// sentence.
+pub fn sessions_have_sound_states()
+    ensures { (s : Contents) → IsSession s → IsSound (state_of s) }
+{}
+
+/// A command has one answer in a session, whatever it takes back, where loads begin alike: one reply, one state behind it, and one front
+/// of the loads that it asks for. So in a session each refusal comes exactly where what it speaks of is the first of what is asked that
+/// isn't there.
+pub fn commands_have_one_answer_in_a_session()
+    ensures replies { (s : Contents) (bytes : List ℕ) (loads others rest more : List Load) (r q : Reply) (t u : State) → IsSession s → loads ++ rest ≡ others ++ more
+        → HasEffect (state_of s) bytes loads r t → HasEffect (state_of s) bytes others q u → r ≡ q }
+    ensures states { (s : Contents) (bytes : List ℕ) (loads others rest more : List Load) (r q : Reply) (t u : State) → IsSession s → loads ++ rest ≡ others ++ more
+        → HasEffect (state_of s) bytes loads r t → HasEffect (state_of s) bytes others q u → t ≡ u }
+    ensures loads { (s : Contents) (bytes : List ℕ) (loads others rest more : List Load) (r q : Reply) (t u : State) → IsSession s → loads ++ rest ≡ others ++ more
+        → HasEffect (state_of s) bytes loads r t → HasEffect (state_of s) bytes others q u → loads ≡ others }
 {}
 
 /// Where a report says that a theorem is proved, it stands last in the state behind the command, and is proved with each theorem that it

@@ -29,13 +29,14 @@ use Rattle.ab_steps.specs.ProofEffects.{IsApplied, OwesFor, IsRefused, RefusedBy
 use Rattle.ab_steps.specs.declared.fault.ProofCommandFault.{ProofCommandFault}
 use Rattle.ab_steps.specs.declared.fault.ProofCommandFault.TheVariants.{Unknown, Clash, TypeClash, Untyped, NoHypothesis, WrongShape, Mark, NoMatch, NotPattern, Unresolved, NamesSpent, Memory}
 use Rattle.ab_proofcmd.specs.SupportedCommands.{IsBuilt}
-use Rattle.ab_effects.specs.Search.{CanBeClosed}
+use Rattle.ab_search_trees.specs.Outcomes.{Outcome, not_pattern, not_found}
+use Rattle.ab_search.specs.Searched.{FirstComesTo, IsClosed, IsNotFound, IsOutside}
 use Rattle.ab_declare.specs.declared.refusal.Refusal.{Refusal}
-use Rattle.ab_declare.specs.declared.refusal.Refusal.TheVariants.{NotFound}
+use Rattle.ab_declare.specs.declared.refusal.Refusal.TheVariants as Told
 use Rattle.ab_declare.specs.Moments.{HasMore, IsRestored}
 use Rattle.ab_declare.specs.Refusals.{refusal_for}
 use Rattle.ab_declare.proofs.Restoring.{restored_grows, restored_declares}
-use Rattle.ab_states.specs.ProofCommandEffects.{Makes, RefusesSo, Denies}
+use Rattle.ab_states.specs.ProofCommandEffects.{Makes, RefusesSo, refusal_of, Denies}
 use Rattle.ab_states.specs.Reply.{reply_of, done}
 use Rattle.ab_states.specs.declared.reply.Reply.{Reply}
 use Rattle.ab_session.specs.declared.attempt.Attempt.{Attempt}
@@ -116,13 +117,17 @@ denied_by_row l c w p f r built refused tells s rest e =
 
 -- By searching
 
-pub made_by_search : (l : Label) (n : ℕ) (w v : World) (p q : Held)
-    → ((s : Sequent) (rest : List Sequent) → goals_of w p ≡ s ∷ rest → CanBeClosed (declarations_of w) n s × (goals_of v q ≡ rest)) → IsMade l (told.search n) w p v q
+pub made_by_search : (l : Label) (n : ℕ) (w v : World) (p q : Held) → IsClosed w p n v q → IsMade l (told.search n) w p v q
 made_by_search l n w v p q closed s rest e = let c = closed s rest e in ([], (c.0, refl), c.1)
 
-pub denied_by_search : (l : Label) (n : ℕ) (w : World) (p : Held)
-    → ((s : Sequent) (rest : List Sequent) → goals_of w p ≡ s ∷ rest → ¬ CanBeClosed (declarations_of w) n s) → IsDenied l (told.search n) w p NotFound
-denied_by_search l n w p none s rest e = (none s rest e, refl)
+denied_by_search : (l : Label) (n : ℕ) (w : World) (p : Held) (o : Outcome) (r : Refusal) → refusal_of o ≡ Some r → FirstComesTo w p n o → IsDenied l (told.search n) w p r
+denied_by_search l n w p o r is comes s rest e = (o, comes s rest e, is)
+
+pub denied_not_found : (l : Label) (n : ℕ) (w : World) (p : Held) → IsNotFound w p n → IsDenied l (told.search n) w p Told.NotFound
+denied_not_found l n w p = denied_by_search l n w p not_found Told.NotFound refl
+
+pub denied_not_pattern : (l : Label) (n : ℕ) (w : World) (p : Held) (number : ℕ) → IsOutside w p n number → IsDenied l (told.search n) w p (Told.NotPattern number)
+denied_not_pattern l n w p number outside = denied_by_search l n w p (not_pattern outside.0) (Told.NotPattern number) (ap (λ k. Some (Told.NotPattern k)) (sym outside.1)) outside.2
 
 -- a theorem adds no clause of the program
 theorem_adds_none : (v u : World) (x : List ℕ) (F : Read) (js : List ℕ) → declarations_of u ≡ declarations_of v ++ a_theorem x F js ∷ [] → AddsNone v u

@@ -1,6 +1,6 @@
 -- The effects of commands on a session, from what the calls below say.
 use Rattle.std.specs.Prelude.{IfSome}
-use Rattle.std.proofs.Common.{◌≡◌, ◌≢◌, ℕ, Bool, List, [], ◌∷◌, ◌++◌, length, map, Option, Some, None, option_map, is_some, refl, sym, ◌∙◌, ap, subst}
+use Rattle.std.proofs.Common.{◌≡◌, ◌≢◌, ℕ, Bool, true, false, List, [], ◌∷◌, ◌++◌, length, map, Option, Some, None, option_map, is_some, refl, sym, ◌∙◌, ap, subst}
 use Rattle.std.proofs.lemmas.List.{map-append}
 use Rattle.ab_grammar.specs.Tree.{Tree}
 use Rattle.ab_grammar.specs.declared.head.Stand.TheVariants.{Outside}
@@ -13,6 +13,7 @@ use Rattle.ab_formulas.specs.Declarations.{Declarations, signature_in, theorem_i
 use Rattle.ab_formulas.proofs.TheoremPlaces.{theorem_new, assumed_new}
 use Rattle.ab_formulas.specs.Formulas.{IsSentence}
 use Rattle.ab_logic.specs.WorldGrowth.{Grows}
+use Rattle.ab_logic.proofs.Growing.{grows_not}
 use Rattle.ab_formulas.specs.Sequents.{Sequent}
 use Rattle.ab_logic.specs.Worlds.{read, Holds, declarations_of}
 use Rattle.ab_logic.specs.declared.world.World.{World}
@@ -21,8 +22,6 @@ use Rattle.ab_steps.specs.ab_kernel.specs.Layout.{Held, history_of, IsProof}
 use Rattle.ab_theory.specs.Assumptions.{assumed_by}
 use Rattle.ab_theory.proofs.Assuming.{assumed_begun, assumed_more}
 use Rattle.ab_steps.proofs.GoalSequents.{first_is_sequent}
-use Rattle.ab_command.specs.declared.fault.Cause.{Cause}
-use Rattle.ab_command.specs.CommandReadings.{Fails}
 use Rattle.ab_steps.specs.Progress.{goals_of}
 use Rattle.ab_steps.proofs.Following.{one_at_least}
 use Rattle.ab_steps.proofs.OwedJust.{just_owes}
@@ -37,13 +36,12 @@ use Rattle.ab_effects.specs.ProofCommands.{given_label}
 use Rattle.ab_effects.specs.Debts.{debts_at}
 use Rattle.ab_steps.specs.ProofEffects.{OwesFor}
 use Rattle.ab_states.specs.State as plain
-use Rattle.ab_states.specs.State.{State, Entry, is_open}
+use Rattle.ab_states.specs.State.{State, Entry}
 use Rattle.ab_states.specs.Reply as reply
-use Rattle.ab_states.specs.Reply.{unread_for}
-use Rattle.ab_states.proofs.Replaying.{forward_replayed}
+use Rattle.ab_states.proofs.Replaying.{done_kept, forward_replayed}
 use Rattle.ab_states.proofs.Assumed.{are_proved}
 use Rattle.ab_states.specs.ForwardEffects as effect
-use Rattle.ab_states.specs.ForwardEffects.{Commands, Faces, GoesForward, unread, declined, declared, stated, showed, ended, switched, given_up, denied, led, proved}
+use Rattle.ab_states.specs.ForwardEffects.{Commands, Faces, GoesForward, declined, declared, stated, showed, ended, switched, given_up, denied, led, proved}
 use Rattle.ab_states.specs.declared.reply.Reply.{Reply}
 use Rattle.ab_states.specs.declared.reply.Reply.TheVariants.{Accepted, Completed, Admitted, Shown, Quit, Refused}
 use Rattle.ab_session.specs.declared.attempt.Attempt.{Attempt}
@@ -51,13 +49,15 @@ use Rattle.ab_session.specs.declared.command_history.Kept.{Kept}
 use Rattle.ab_session.specs.Contents.{Contents, Past, past_of, entry_of, attempt_of, entries_of, state_of}
 use Rattle.ab_session.specs.Sessions.{IsTried, AreProofs, IsSound}
 use Rattle.ab_session.specs.declared.command_history.Deed.TheVariants.{Went}
-use Rattle.ab_session.specs.Origins.{CameBy, CameFrom, later, IsSession}
+use Rattle.ab_session.specs.Origins.{CameBy, CameFrom, later, IsSession, IsSame}
+use Rattle.ab_session.specs.Lasting.{Stays}
 use Rattle.ab_session.specs.ProofAttempts.{IsUnchanged, GoesOn, IsCompleted, IsRefusedSo}
 use Rattle.ab_session.specs.SessionAnswers.{IsDerivedLast, IsProvedLast, IsEntryAnswer, IsForwardAnswer, IsBefore}
-use Rattle.ab_session.proofs.Replies.{done_completed, done_admitted, done_refused, done_speaks, no_names}
+use Rattle.ab_session.proofs.Replies.{done_completed, done_admitted, done_speaks, no_names}
 use Rattle.ab_session.proofs.Sayings.{none_tried}
 use Rattle.ab_session.proofs.Sessions.{as_many, later_proofs, same_proofs, proved_proofs, proofs_derive, same_session, same_state, in_world, one_more}
 use Rattle.ab_session.proofs.Origins.{pasts, latest, attempt_is, came, went_nowhere, session_grown}
+use Rattle.ab_session.proofs.Lasting.{same_itself}
 
 abbrev pub made : World → List Held → Option Attempt → Bool → List Past → Contents
 made w ps o all ks = record { world = w; proofs = ps; attempt = o; all_subgoals = all; past = ks }
@@ -75,22 +75,19 @@ seen s old bytes new r same = subst (λ o. IsForwardAnswer o bytes new r) same
 pub meant : (s old : Contents) (bytes : List ℕ) (c : Command) → s ≡ old → Commands (state_of old) bytes c → Commands (state_of s) bytes c
 meant s old bytes c same = subst (λ o. Commands (state_of o) bytes c) (sym same)
 
--- Answers by their replies: what is accepted or shown proves no theorem and refuses nothing
+-- Answers by their replies: what is accepted or shown proves no theorem, and what isn't kept leaves the session
 
 accepted : (old : Contents) (bytes : List ℕ) (new : Contents) → GoesForward (state_of old) (plain.plain bytes) reply.accepted (state_of new) → CameFrom old new → IsForwardAnswer old bytes new Accepted
-accepted old bytes new e from = record { effect = e; speaks = tt; completed = λ name bad. absurd (cc); admitted = λ name names bad. absurd (cc); refused = λ r bad. absurd (cc); kept = λ yes. from }
+accepted old bytes new e from = record { effect = e; speaks = tt; completed = λ name bad. absurd (cc); admitted = λ name names bad. absurd (cc); unchanged = λ bad. absurd (cc); kept = λ yes. from }
 
-refused : (old : Contents) (bytes : List ℕ) (new : Contents) (r : Refusal) → GoesForward (state_of old) (plain.plain bytes) (reply.refused r) (state_of new) → IsRestored old.world new.world → IsForwardAnswer old bytes new (Refused r)
-refused old bytes new r e restored = record { effect = e; speaks = tt; completed = λ name bad. absurd (cc); admitted = λ name names bad. absurd (cc); refused = λ q same. restored; kept = λ bad. absurd (cc) }
+refused : (old : Contents) (bytes : List ℕ) (new : Contents) (r : Refusal) → GoesForward (state_of old) (plain.plain bytes) (reply.refused r) (state_of new) → IsSame old new → IsForwardAnswer old bytes new (Refused r)
+refused old bytes new r e same = record { effect = e; speaks = tt; completed = λ name bad. absurd (cc); admitted = λ name names bad. absurd (cc); unchanged = λ not_kept. same; kept = λ bad. absurd (cc) }
 
 module _ (s : Contents) (bytes : List ℕ) where
   -- nothing changes
 
-  pub unread_answer : (c : Cause) → Fails bytes (is_open (state_of s)) c → IsForwardAnswer s bytes s (Refused (unread_for c))
-  unread_answer c fails = refused s bytes s (unread_for c) (unread c fails) (restored_itself s.world)
-
   pub quit_answer : Commands (state_of s) bytes told.quit → IsForwardAnswer s bytes s Quit
-  quit_answer said = record { effect = ended said; speaks = tt; completed = λ name bad. absurd (cc); admitted = λ name names bad. absurd (cc); refused = λ r bad. absurd (cc); kept = λ bad. absurd (cc) }
+  quit_answer said = record { effect = ended said; speaks = tt; completed = λ name bad. absurd (cc); admitted = λ name names bad. absurd (cc); unchanged = λ not_kept. same_itself s; kept = λ bad. absurd (cc) }
 
   pub shown_answer : (x y : List ℕ) (t : TermId) → y ≡ x → Commands (state_of s) bytes (told.show x) → theorem_in (declarations_of s.world) x ≡ Some (read s.world t)
       → Holds s.world t → variables (read s.world t) ≡ [] → IsForwardAnswer s bytes s (Shown y t)
@@ -99,7 +96,7 @@ module _ (s : Contents) (bytes : List ℕ) where
     speaks = (held, closed);
     completed = λ name bad. absurd (cc);
     admitted = λ name names bad. absurd (cc);
-    refused = λ r bad. absurd (cc);
+    unchanged = λ not_kept. same_itself s;
     kept = λ bad. absurd (cc);
   }
 
@@ -107,7 +104,7 @@ module _ (s : Contents) (bytes : List ℕ) where
   missing_answer x y copied said none =
       refused s bytes s (Unknown y None)
       (subst (λ z. GoesForward (state_of s) (plain.plain bytes) (reply.refused (Unknown z None)) (state_of s)) (sym copied) (declined (told.show x) (Unknown x None) said (no_theorem none)))
-      (restored_itself s.world)
+      (same_itself s)
 
   -- one command more is kept, and nothing else changes but this
   module _ (is : IsSound s) (ks : List Past) (more : entries_of ks ≡ entries_of s.past ++ plain.plain bytes ∷ []) where
@@ -153,7 +150,7 @@ module _ (s : Contents) (bytes : List ℕ) where
   declined_answer c v r is said d = refused s bytes (in_world v s) r
       (subst (λ (t : State). GoesForward (state_of s) (plain.plain bytes) (reply.refused r) t)
       (sym (same_state s v (restored_grows s.world v is.world d.restored) (restored_declares s.world v d.restored) is)) (declined c r said d.declines))
-      d.restored
+      (record { world = d.restored; proofs = refl; attempt = refl; all_subgoals = refl; past = refl })
 
 -- Sessions
 
@@ -215,6 +212,34 @@ session_same s v ps o ks a b c is grows declares = subst IsSession (sym (room_is
 pub state_same : (s old : Contents) (v : World) (ps : List Held) (o : Option Attempt) (ks : List Past) → s ≡ old → ps ≡ s.proofs → o ≡ s.attempt → ks ≡ s.past → IsSession s → Grows s.world v
     → declarations_of v ≡ declarations_of s.world → state_of (made v ps o s.all_subgoals ks) ≡ state_of old
 state_same s old v ps o ks same a b c is grows declares = ap state_of (room_is s v ps o ks a b c) ∙ same_state s v grows declares is.sound ∙ ap state_of same
+
+-- so it stays
+
+pub stays_so : (s old : Contents) (v : World) (ps : List Held) (o : Option Attempt) (ks : List Past) → s ≡ old → ps ≡ s.proofs → o ≡ s.attempt → ks ≡ s.past → IsSession s → Grows s.world v
+    → declarations_of v ≡ declarations_of s.world → Stays old (made v ps o s.all_subgoals ks)
+stays_so s old v ps o ks same a b c is grows declares = record {
+  state = state_same s old v ps o ks same a b c is grows declares;
+  world = subst (λ (t : Contents). Grows t.world v) same grows;
+  proofs = a ∙ ap (λ (t : Contents). t.proofs) same;
+  attempt = b ∙ ap (λ (t : Contents). t.attempt) same;
+  past = c ∙ ap (λ (t : Contents). t.past) same;
+}
+
+-- in its own world, where room was made
+pub stays_there : (s old : Contents) (ps : List Held) (ks : List Past) → s ≡ old → ps ≡ s.proofs → ks ≡ s.past → IsSession s → Stays old (made s.world ps s.attempt s.all_subgoals ks)
+stays_there s old ps ks same a c is = stays_so s old s.world ps s.attempt ks same a refl c is (grows_not s.world is.sound.world) refl
+
+-- in a world that is as it was, but for room
+pub stays_restored : (s old : Contents) (v : World) (ks : List Past) → s ≡ old → ks ≡ s.past → IsSession s → IsRestored s.world v → Stays old (made v s.proofs s.attempt s.all_subgoals ks)
+stays_restored s old v ks same c is r = stays_so s old v s.proofs s.attempt ks same refl refl c is (restored_grows s.world v is.sound.world r) (restored_declares s.world v r)
+
+-- or where that is the same
+pub stays_unmoved : (s old : Contents) (v : World) (ks : List Past) → s ≡ old → ks ≡ s.past → IsSession s → v ≡ s.world → Stays old (made v s.proofs s.attempt s.all_subgoals ks)
+stays_unmoved s old v ks same c is e = stays_restored s old v ks same c is (subst (IsRestored s.world) (sym e) (restored_itself s.world))
+
+-- or where nothing was done
+pub stays_itself : (s old : Contents) → s ≡ old → IsSession s → Stays old old
+stays_itself s old same is = subst (Stays old) same (stays_there s old s.proofs s.past same refl refl is)
 
 -- What is declared, in a session that made room
 
@@ -308,7 +333,7 @@ module _ (s : Contents) (bytes : List ℕ) (l : Option (List ℕ)) (c : ProofCom
       refused s bytes (made v s.proofs (Some b) s.all_subgoals ks) r
       (subst (λ (t : State). GoesForward (state_of s) (plain.plain bytes) (reply.refused r) t) (sym (state_unchanged v b ks same d.unchanged))
       (denied l c (attempt_of s.world a) g.0 (map named g.1) r (faces g.0 g.1 g.2) (d.denied g.0 g.1 g.2)))
-      d.restored
+      (record { world = d.restored; proofs = refl; attempt = ap Some (attempt_is a b d.unchanged.name d.unchanged.formula d.unchanged.proof) ∙ sym here; all_subgoals = refl; past = same })
 
   -- what it assumes then
 
@@ -417,6 +442,6 @@ module _ (s : Contents) (bytes : List ℕ) (l : Option (List ℕ)) (c : ProofCom
           speaks = done_speaks v r a.name names g.replied;
           completed = completed_so;
           admitted = admitted_so;
-          refused = λ q e. done_refused a.name names q (sym g.replied ∙ ap (reply.reply_of v) e);
+          unchanged = λ not_kept. let bad : true ≡ false = sym (done_kept a.name names) ∙ ap reply.is_kept (sym g.replied) ∙ not_kept in absurd (cc);
           kept = λ yes. from;
         }

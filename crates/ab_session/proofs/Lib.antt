@@ -7,6 +7,7 @@ mod Carried
 mod StepCounts
 mod Origins
 mod Single
+mod Lasting
 mod Effects
 mod KeptCommands
 mod Specified

@@ -1,11 +1,10 @@
 -- Answers to any command, and to one behind which the world is cut.
 use Rattle.std.specs.Prelude.{Result, Ok, Err, IfOk}
-use Rattle.std.proofs.Common.{◌≡◌, inl, inr, true, false, ℕ, ◌<◌, ◌≤◌, List, [], ◌∷◌, length, refl, sym, ◌∙◌, ap, subst, arith, length-append}
+use Rattle.std.proofs.Common.{◌≡◌, ◌⊎◌, inl, inr, true, false, ℕ, ◌<◌, ◌≤◌, List, [], ◌∷◌, length, refl, sym, ◌∙◌, ap, subst, arith, length-append}
 use Rattle.ab_sigmod.specs.FileLoads.{FilesSeen, Load, no_load}
 use Rattle.ab_logic.specs.Worlds.{declarations_of}
 use Rattle.ab_logic.specs.declared.world.World.{World}
 use Rattle.ab_declare.specs.declared.refusal.Refusal.{Refusal}
-use Rattle.ab_declare.proofs.Restoring.{restored_itself}
 use Rattle.ab_states.specs.State as plain
 use Rattle.ab_states.specs.State.{State, Entry, with_files}
 use Rattle.ab_states.specs.Reply as reply
@@ -16,51 +15,72 @@ use Rattle.ab_states.proofs.Replaying.{kept_by, replays_keep}
 use Rattle.ab_states.specs.declared.reply.Reply.{Reply}
 use Rattle.ab_states.specs.declared.reply.Reply.TheVariants.{Accepted, Completed, Admitted, Shown, Quit, Refused}
 use Rattle.ab_session.specs.Contents.{Contents, state_of}
-use Rattle.ab_session.specs.Origins.{CameFrom}
+use Rattle.ab_session.specs.Sessions.{IsSound}
+use Rattle.ab_session.specs.Origins.{CameFrom, IsSame}
 use Rattle.ab_session.specs.Remains.{NothingIsLeftOver}
 use Rattle.ab_session.specs.LatestNames.{IsFreed}
 use Rattle.ab_session.specs.SessionAnswers.{IsDerivedLast, IsProvedLast, KeepsOneMore, KeepsFewer, IsFileAnswer, IsAnswer, IsReplied}
 use Rattle.ab_session.proofs.TakingBack.{not_kept, not_fewer}
+use Rattle.ab_session.proofs.Lasting.{same_itself, same_lasts, none_fewer, came_if_more, same_if_same, goes_by, came_lasts, going_lasts, earlier_lasts}
+
+-- a state that is the same, or keeps one command more, keeps none fewer
+
+as_many : (s t : State) → t ≡ s → KeepsFewer s t → ⊥
+as_many s t same less = omega (arith, less, ap (λ (u : State). length u.kept) same)
+
+more_or_fewer : (s t : State) (bytes : List ℕ) → KeepsOneMore s bytes t → KeepsFewer s t → ⊥
+more_or_fewer s t bytes more less = omega (arith, less, ap length more.kept, length-append s.kept (more.entry ∷ []))
 
 -- Answers of each kind
 
-pub unread_replied : (f : FilesSeen) (s : Contents) (bytes : List ℕ) (n : ℕ) (r : Refusal) → HasEffect (state_of s) bytes [] (reply.refused r) (state_of s) → IsReplied f f s bytes s n n (Refused r)
-unread_replied f s bytes n r effect = record {
+pub unread_replied : (f : FilesSeen) (s : Contents) (bytes : List ℕ) (n : ℕ) (r : Refusal) → IsSound s → HasEffect (state_of s) bytes [] (reply.refused r) (state_of s) → IsReplied f f s bytes s n n (Refused r)
+unread_replied f s bytes n r is effect = record {
   effect = record { loads = []; asked = no_load; effect = effect };
   speaks = tt;
   completed = λ name bad. absurd (cc);
   admitted = λ name names bad. absurd (cc);
-  refused = λ q same. restored_itself s.world;
+  refused = λ q same. same_itself s;
+  unchanged = λ same. same_itself s;
   kept = λ more. absurd (not_kept (state_of s) bytes more);
+  lasts = λ none. same_lasts s s is (same_itself s);
+  lasted = λ less. absurd (not_fewer (state_of s) less);
   taken_back = λ less. absurd (not_fewer (state_of s) less);
   steps = λ less. absurd (not_fewer (state_of s) less);
 }
 
-pub if_plain_replied : {E : Type 0} (f : FilesSeen) (old new : Contents) (bytes : List ℕ) (n m : ℕ) (r : Result Reply E) → IfOk r (IsAnswer old bytes new n m) → IfOk r (IsReplied f f old bytes new n m)
-if_plain_replied f old new bytes n m (Ok r) a = record {
+pub if_plain_replied : {E : Type 0} (f : FilesSeen) (old new : Contents) (bytes : List ℕ) (n m : ℕ) (r : Result Reply E) → IsSound old → IfOk r (IsAnswer old bytes new n m) → IfOk r (IsReplied f f old bytes new n m)
+if_plain_replied f old new bytes n m (Ok r) is a = record {
   effect = record { loads = []; asked = no_load; effect = a.effect };
   speaks = a.speaks;
   completed = a.completed;
   admitted = a.admitted;
   refused = a.refused;
-  kept = a.kept;
+  unchanged = λ same. same_if_same old new (a.goes_on (λ less. as_many (state_of old) (state_of new) same less)) same;
+  kept = λ more. came_if_more old new (a.goes_on (λ less. more_or_fewer (state_of old) (state_of new) bytes more less)) bytes more;
+  lasts = λ none. going_lasts old new is (a.goes_on none);
+  lasted = λ less. earlier_lasts new old is (a.taken_back less);
   taken_back = a.taken_back;
   steps = a.steps;
 }
-if_plain_replied f old new bytes n m (Err e) a = tt
+if_plain_replied f old new bytes n m (Err e) is a = tt
 
-pub if_files_replied : {E : Type 0} (f g : FilesSeen) (old new : Contents) (bytes : List ℕ) (n m : ℕ) (r : Result Reply E) → IfOk r (IsFileAnswer f g old bytes new) → IfOk r (IsReplied f g old bytes new n m)
-if_files_replied f g old new bytes n m (Ok r) a = record {
-  effect = a.effect;
-  speaks = a.speaks;
-  completed = a.completed;
-  admitted = a.admitted;
-  refused = a.refused;
-  kept = a.kept;
-  taken_back = λ less. absurd (a.none_taken_back less);
-  steps = λ less. absurd (a.none_taken_back less);
-}
-if_files_replied f g old new bytes n m (Err e) a = tt
+pub if_files_replied : {E : Type 0} (f g : FilesSeen) (old new : Contents) (bytes : List ℕ) (n m : ℕ) (r : Result Reply E) → IsSound old → IfOk r (IsFileAnswer f g old bytes new) → IfOk r (IsReplied f g old bytes new n m)
+if_files_replied f g old new bytes n m (Ok r) is a =
+    let on : IsSame old new ⊎ CameFrom old new = goes_by old new (is_kept (reply_of new.world r)) a.unchanged a.kept in
+    record {
+      effect = a.effect;
+      speaks = a.speaks;
+      completed = a.completed;
+      admitted = a.admitted;
+      refused = λ q e. a.unchanged (ap (λ x. is_kept (reply_of new.world x)) e);
+      unchanged = same_if_same old new on;
+      kept = came_if_more old new on bytes;
+      lasts = λ none. going_lasts old new is on;
+      lasted = λ less. absurd (none_fewer old new on less);
+      taken_back = λ less. absurd (none_fewer old new on less);
+      steps = λ less. absurd (none_fewer old new on less);
+    }
+if_files_replied f g old new bytes n m (Err e) is a = tt
 
 -- Where more commands are kept than before, one more is, and its reply is one of those of kept commands
 
@@ -129,7 +149,10 @@ module _ (f g : FilesSeen) (old mid new : Contents) (bytes : List ℕ) (n m : �
         completed = λ name e. subst (λ D. IsProvedLast D name) (sym declared) (a.completed name e);
         admitted = λ name names e. subst (λ D. IsDerivedLast D name) (sym declared) (a.admitted name names e);
         refused = λ q e. absurd (not_refused q e);
+        unchanged = λ same. absurd (omega (arith, longer, ap (λ (t : State). length t.kept) free.state, ap (λ (t : State). length t.kept) same));
         kept = λ more. free.came;
+        lasts = λ none. came_lasts old new free.came;
+        lasted = λ less. absurd (fewer_none less);
         taken_back = λ less. absurd (fewer_none less);
         steps = λ less. absurd (fewer_none less);
       }

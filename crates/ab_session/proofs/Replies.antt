@@ -2,8 +2,7 @@
 use Rattle.std.proofs.Common.{◌≡◌, ℕ, List, [], ◌∷◌, refl}
 use Rattle.ab_formulas.specs.Declarations.{Declarations, names_at}
 use Rattle.ab_logic.specs.declared.world.World.{World}
-use Rattle.ab_declare.specs.declared.refusal.Refusal.{Refusal}
-use Rattle.ab_states.specs.Reply.{completed, admitted, refused, reply_of, done, SpeaksOfNoGoal}
+use Rattle.ab_states.specs.Reply.{completed, admitted, reply_of, done, SpeaksOfNoGoal}
 use Rattle.ab_states.specs.declared.reply.Reply.{Reply as Kept}
 use Rattle.ab_states.specs.declared.reply.Reply.TheVariants.{Accepted, Completed, Admitted, Shown, Quit, Refused}
 
@@ -16,11 +15,7 @@ pub done_admitted : (x : List ℕ) (ns : List (List ℕ)) (y : List ℕ) (ms : L
 done_admitted x [] y ms e = absurd (cc)
 done_admitted x (n ∷ ns) y ms e = let same : x ≡ y = cc in same
 
-pub done_refused : {P : Type 0} (x : List ℕ) (ns : List (List ℕ)) (r : Refusal) → done x ns ≡ refused r → P
-done_refused x [] r e = absurd (cc)
-done_refused x (n ∷ ns) r e = absurd (cc)
-
--- and shows no formula
+-- and it shows no formula
 pub done_speaks : (w : World) (r : Kept) (x : List ℕ) (ns : List (List ℕ)) → reply_of w r ≡ done x ns → SpeaksOfNoGoal w r
 done_speaks w Accepted x ns e = tt
 done_speaks w (Completed n) x ns e = tt

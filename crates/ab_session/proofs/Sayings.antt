@@ -1,17 +1,13 @@
--- Where commands stand that the bytes say, and which of them are built.
+-- Where commands stand that the bytes say.
 use Rattle.std.proofs.Common.{◌≡◌, ◌≢◌, ℕ, Bool, true, false, List, Option, Some, None, is_some, option_map, refl, sym, ◌∙◌, subst}
 use Rattle.ab_grammar.specs.declared.head.Stand.TheVariants.{Outside, Inside}
 use Rattle.ab_grammar.specs.CommandTrees.{Command, specification}
 use Rattle.ab_grammar.specs.CommandTable.{standing}
-use Rattle.ab_syntax.specs.declared.command.ProofCommand.{ProofCommand}
-use Rattle.ab_syntax.specs.declared.command.ProofCommand.TheVariants as plain
 use Rattle.ab_syntax.specs.declared.command.Command.{Command as Said}
 use Rattle.ab_syntax.specs.declared.command.Command.TheVariants as said
-use Rattle.ab_syntax.specs.Commands.{command_of, proof_command_of}
-use Rattle.ab_command.specs.Supported.{IsBuiltInProof}
+use Rattle.ab_syntax.specs.Commands.{command_of}
 use Rattle.ab_command.specs.CommandReadings.{StandsHere}
 use Rattle.ab_command.proofs.Sayings.{said_stands}
-use Rattle.ab_proofcmd.specs.SupportedCommands.{IsBuilt}
 use Rattle.ab_states.specs.State.{is_open}
 use Rattle.ab_states.specs.ForwardEffects.{Commands}
 use Rattle.ab_session.specs.Contents.{Contents, attempt_of, state_of}
@@ -53,30 +49,6 @@ one_tried s bytes c said e =
 
 pub some_tried : (s : Contents) (bytes : List ℕ) (c : Command) → Commands (state_of s) bytes c → standing c ≡ Inside → s.attempt ≡ None → ⊥
 some_tried s bytes c said e none = none_open s.attempt none (one_tried s bytes c said e)
-
--- a proof command that is built, and isn't `search`, has its row
-pub has_row : (count : ℕ) (c : ProofCommand) → ((n : ℕ) → c ≡ plain.Search n → ⊥) → IsBuiltInProof count (proof_command_of c) → IsBuilt (proof_command_of c)
-has_row count (plain.Intros xs) n h = h
-has_row count (plain.Induction ns) n h = h
-has_row count plain.Coinduction n h = h
-has_row count (plain.Case x keep) n h = h
-has_row count (plain.Apply x vs is) n h = h
-has_row count (plain.Backchain x is) n h = h
-has_row count (plain.Cut x y) n h = h
-has_row count (plain.Inst x is) n h = h
-has_row count (plain.Monotone x e) n h = h
-has_row count (plain.Search d) n h = absurd (n d refl)
-has_row count plain.Skip n h = h
-has_row count plain.Split n h = h
-has_row count plain.SplitAll n h = h
-has_row count plain.Left n h = h
-has_row count plain.Right n h = h
-has_row count (plain.Exists e) n h = h
-has_row count plain.Unfold n h = h
-has_row count (plain.Assert e) n h = h
-has_row count (plain.Clear xs) n h = h
-has_row count (plain.Rename x y) n h = h
-has_row count (plain.Permute ns x) n h = h
 
 -- a command that isn't a specification says none
 pub no_specification : (c : Said) → ((x : List ℕ) → c ≡ said.Specification x → ⊥) → (x : List ℕ) → command_of c ≢ specification x

@@ -1,6 +1,6 @@
 -- A specification: the session behind what its files declare, and the answers to the command.
 use Rattle.std.specs.Prelude.{Result, Ok, Err, IfOk}
-use Rattle.std.proofs.Common.{◌≡◌, ℕ, ◌<◌, Bool, true, false, List, [], ◌∷◌, ◌++◌, length, None, option_map, inl, inr, refl, sym, ◌∙◌, ap, subst, arith, append-nil}
+use Rattle.std.proofs.Common.{◌≡◌, ℕ, Bool, true, false, List, [], ◌∷◌, ◌++◌, length, None, option_map, refl, sym, ◌∙◌, ap, subst, append-nil}
 use Rattle.ab_grammar.specs.CommandTrees as told
 use Rattle.ab_formulas.specs.Declarations.{Declarations, theorems_in}
 use Rattle.ab_formulas.proofs.Declaring.{theorems_in-append}
@@ -14,7 +14,7 @@ use Rattle.ab_logic.specs.Worlds.{declarations_of}
 use Rattle.ab_logic.specs.declared.world.World.{World}
 use Rattle.ab_declare.specs.declared.refusal.Refusal.{Refusal}
 use Rattle.ab_declare.specs.declared.refusal.Refusal.TheVariants.{Clash}
-use Rattle.ab_declare.proofs.Restoring.{restored_grows, restored_declares, restored_itself}
+use Rattle.ab_declare.proofs.Restoring.{restored_grows, restored_declares}
 use Rattle.ab_states.specs.ab_specification.specs.ItemDeclarations.{ItemDeclares, new_kinds, new_constants, new_clause, no_declaration}
 use Rattle.ab_states.specs.ab_specification.specs.FileDeclarations.{PlacedItem, items_of, AllDeclare, no_item, one_more}
 use Rattle.ab_states.specs.ab_specification.specs.SpecificationAnswers.{IsSpecified, IsUnspecified}
@@ -24,7 +24,6 @@ use Rattle.ab_states.specs.Reply as reply
 use Rattle.ab_states.specs.Reply.{files_unread_for}
 use Rattle.ab_states.specs.ForwardEffects.{Commands, GoesForward, specified, item_declined, specified_twice}
 use Rattle.ab_states.specs.StateEffects.{AsksFor, HasEffect, forward, by_files, unread_files, HasEffectOver}
-use Rattle.ab_states.proofs.Replaying.{kept_by}
 use Rattle.ab_states.specs.declared.reply.Reply.{Reply}
 use Rattle.ab_states.specs.declared.reply.Reply.TheVariants.{Accepted, Refused}
 use Rattle.ab_session.specs.declared.command_history.Deed.TheVariants.{Went}
@@ -37,7 +36,7 @@ use Rattle.ab_session.proofs.Sayings.{none_tried}
 use Rattle.ab_session.proofs.Sessions.{later_proofs, in_world, no_theorem_more}
 use Rattle.ab_session.proofs.Origins.{came, went_nowhere}
 use Rattle.ab_session.proofs.Effects.{made, meant, no_attempt, session_same, state_restored, session_behind}
-use Rattle.ab_session.proofs.TakingBack.{not_more, no_fewer}
+use Rattle.ab_session.proofs.Lasting.{same_itself}
 
 -- what items declare are no theorems
 
@@ -83,7 +82,7 @@ module _ (s old : Contents) (bytes x : List ℕ) (fs : List file.Read) (v : Worl
       speaks = tt;
       completed = λ name bad. absurd (cc);
       admitted = λ name names bad. absurd (cc);
-      refused = λ q e. d.restored;
+      unchanged = λ not_kept. record { world = d.restored; proofs = refl; attempt = refl; all_subgoals = refl; past = refl };
       kept = λ bad. absurd (cc);
     }
 
@@ -119,7 +118,7 @@ module _ (s old : Contents) (bytes x : List ℕ) (fs : List file.Read) (v : Worl
       speaks = tt;
       completed = λ name bad. absurd (cc);
       admitted = λ name names bad. absurd (cc);
-      refused = λ r bad. absurd (cc);
+      unchanged = λ bad. absurd (cc);
       kept = λ yes. from;
     }
 
@@ -139,20 +138,16 @@ module _ (s old : Contents) (bytes x : List ℕ) (fs : List file.Read) (v : Worl
 -- What the whole command answers
 
 module _ (f g : FilesSeen) (old : Contents) (bytes x : List ℕ) (said : Commands (state_of old) bytes (told.specification x)) where
-  -- nothing is left of a refusal
+  -- a refusal leaves the session
   unchanged : (r : Refusal) → HasEffectOver f g (state_of old) bytes (reply.refused r) (state_of old) → IsFileAnswer f g old bytes old (Refused r)
   unchanged r effect = record {
     effect = effect;
     speaks = tt;
     completed = λ name bad. absurd (cc);
     admitted = λ name names bad. absurd (cc);
-    refused = λ q e. restored_itself old.world;
-    kept = λ more. absurd (not_more (state_of old).kept more.entry more.kept);
-    none_taken_back = λ less. absurd (less_than_itself (length (state_of old).kept) less);
+    unchanged = λ not_kept. same_itself old;
+    kept = λ bad. absurd (cc);
   }
-    where
-      less_than_itself : (n : ℕ) → n < n → ⊥
-      less_than_itself n h = omega (arith, h)
 
   pub twice_answer : (y : List ℕ) → y ≡ x → f ≡ g → is_specified (state_of old) ≡ true → IsFileAnswer f g old bytes old (Refused (Clash y None))
   twice_answer y copied same kept =
@@ -180,13 +175,8 @@ module _ (f g : FilesSeen) (old : Contents) (bytes x : List ℕ) (said : Command
       speaks = a.speaks;
       completed = a.completed;
       admitted = a.admitted;
-      refused = a.refused;
-      kept = λ more.
-          elim (kept_by a.effect) [
-            | inl h ↦ absurd (not_more (state_of old).kept more.entry (sym (ap (λ (u : State). u.kept) h.1) ∙ more.kept))
-            | inr h ↦ a.kept h.0
-          ];
-      none_taken_back = λ less. no_fewer (state_of old) (state_of new) (with_files (files_of spec) bytes) (reply.reply_of new.world r) a.effect less;
+      unchanged = a.unchanged;
+      kept = a.kept;
     }
 
     pub if_read_answer : {E : Type 0} (spec : Spec) (new : Contents) (r : Result Reply E) → WasRead x f g spec → IfOk r (IsEntryAnswer old (with_files (files_of spec) bytes) new) → IfOk r (IsFileAnswer f g old bytes new)

@@ -1,13 +1,13 @@
 -- What commands that take back answer, and what those that go forward answer seen beside them.
 use Rattle.std.specs.Prelude.{Result, Ok, Err, IfOk, OnOk, OnErr, is_ok, is_err}
-use Rattle.std.proofs.Common.{◌≡◌, inl, inr, true, false, ℕ, ◌+◌, ◌<◌, List, [], ◌∷◌, ◌++◌, length, None, is_some, refl, sym, ◌∙◌, ap, subst, arith, length-append}
+use Rattle.std.proofs.Common.{◌≡◌, inl, inr, true, false, ℕ, ◌+◌, ◌<◌, List, [], ◌∷◌, length, None, is_some, refl, sym, ◌∙◌, ap, subst, arith, length-append}
 use Rattle.std.proofs.lemmas.List.{length-map, length-reverse}
 use Rattle.ab_grammar.specs.CommandTrees as told
 use Rattle.ab_declare.specs.declared.refusal.Refusal.TheVariants.{NothingToUndo}
-use Rattle.ab_declare.proofs.Restoring.{restored_itself}
 use Rattle.ab_states.specs.State as plain
 use Rattle.ab_states.specs.State.{State, Entry, is_open}
 use Rattle.ab_states.specs.Reply as reply
+use Rattle.ab_states.specs.Reply.{is_kept}
 use Rattle.ab_states.specs.Replay.{IsReplayed}
 use Rattle.ab_states.specs.ForwardEffects.{Commands, GoesForward}
 use Rattle.ab_states.specs.StateEffects.{HasEffect, forward, took_back, nothing_kept, undid, began, emptied}
@@ -19,20 +19,13 @@ use Rattle.ab_session.specs.Contents.{Contents, past_of, entries_of, state_of}
 use Rattle.ab_session.specs.Origins.{CameFrom, Precedes, itself, further}
 use Rattle.ab_session.specs.SessionAnswers.{KeepsOneMore, KeepsFewer, IsForwardAnswer, IsAnswer}
 use Rattle.ab_session.proofs.Sayings.{open_as, one_tried}
-use Rattle.ab_session.proofs.Origins.{pasts, length-entries, state_before, state_empty, fewer}
+use Rattle.ab_session.proofs.Origins.{pasts, length-entries, state_before, state_empty}
+use Rattle.ab_session.proofs.Lasting.{same_itself, none_back}
 
 -- Numbers of kept commands
 
 pub kept_many : (ks : List Kept) → length (entries_of (pasts ks)) ≡ length ks
 kept_many ks = length-entries (pasts ks) ∙ length-reverse _ ∙ length-map ks past_of
-
-pub not_more : (xs : List Entry) (x : Entry) → xs ≡ xs ++ x ∷ [] → ⊥
-not_more xs x e = omega (arith, ap length e, length-append xs (x ∷ []))
-
--- an earlier session keeps no command more
-not_earlier : (s t : Contents) (x : Entry) → Precedes t s → (state_of t).kept ≡ (state_of s).kept ++ x ∷ [] → ⊥
-not_earlier s t x p e =
-    omega (arith, fewer t s p, length-entries s.past, length-entries t.past, ap length e, length-append (state_of s).kept (x ∷ []))
 
 -- A command that goes forward
 
@@ -49,11 +42,11 @@ answered old new bytes n m r a = record {
   speaks = a.speaks;
   completed = a.completed;
   admitted = a.admitted;
-  refused = a.refused;
-  kept = λ more.
+  refused = λ q e. a.unchanged (ap (λ x. is_kept (reply.reply_of new.world x)) e);
+  goes_on = λ none.
       elim (kept_by a.effect) [
-        | inl x ↦ absurd (not_more (state_of old).kept more.entry (sym (ap (λ (u : State). u.kept) x.1) ∙ more.kept))
-        | inr x ↦ a.kept x.0
+        | inl x ↦ inl (a.unchanged x.0)
+        | inr x ↦ inr (a.kept x.0)
       ];
   taken_back = λ less. absurd (no_fewer (state_of old) (state_of new) (plain.plain bytes) (reply.reply_of new.world r) a.effect less);
   steps = λ less. absurd (no_fewer (state_of old) (state_of new) (plain.plain bytes) (reply.reply_of new.world r) a.effect less);
@@ -77,7 +70,7 @@ module _ (s : Contents) (bytes : List ℕ) where
     completed = λ name bad. absurd (cc);
     admitted = λ name names bad. absurd (cc);
     refused = λ r bad. absurd (cc);
-    kept = λ more. absurd (not_earlier s t more.entry p more.kept);
+    goes_on = λ none. inl (none_back t s p none);
     taken_back = λ less. p;
     steps = λ less. sum;
   }
@@ -88,8 +81,8 @@ module _ (s : Contents) (bytes : List ℕ) where
     speaks = tt;
     completed = λ name bad. absurd (cc);
     admitted = λ name names bad. absurd (cc);
-    refused = λ r same. restored_itself s.world;
-    kept = λ more. absurd (not_earlier s s more.entry itself more.kept);
+    refused = λ r same. same_itself s;
+    goes_on = λ none. inl (same_itself s);
     taken_back = λ less. itself;
     steps = λ less. omega (arith, less);
   }
@@ -135,7 +128,7 @@ not_ok (Err x) e = refl
 -- a state keeps no command more and none fewer than itself
 
 pub not_kept : (s : State) (bytes : List ℕ) → KeepsOneMore s bytes s → ⊥
-not_kept s bytes more = not_more s.kept more.entry more.kept
+not_kept s bytes more = omega (arith, ap length more.kept, length-append s.kept (more.entry ∷ []))
 
 pub not_fewer : (s : State) → KeepsFewer s s → ⊥
 not_fewer s less = omega (arith, less)

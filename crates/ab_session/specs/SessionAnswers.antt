@@ -1,12 +1,12 @@
 -- What a command leaves of a session, by the answer to it.
-use Rattle.std.specs.Prelude.{◌≡◌, ℕ, ◌+◌, ◌<◌, true, List, [], ◌∷◌, ◌++◌, Option, Some, None, length}
+use Rattle.std.specs.Prelude.{◌≡◌, ◌⊎◌, ℕ, ◌+◌, ◌<◌, true, false, List, [], ◌∷◌, ◌++◌, Option, Some, None, length}
 use Rattle.ab_formulas.specs.Declarations.{Declarations, theorems_in}
 use Rattle.ab_logic.specs.Worlds.{declarations_of}
 use Rattle.ab_logic.specs.declared.world.World.{World}
 use Rattle.ab_theory.specs.Derivations.{Derivation}
 use Rattle.ab_steps.specs.ab_kernel.specs.Layout.{history_of}
 use Rattle.ab_declare.specs.declared.refusal.Refusal.{Refusal}
-use Rattle.ab_declare.specs.Moments.{IsMoment, IsRestored}
+use Rattle.ab_declare.specs.Moments.{IsMoment}
 use Rattle.ab_states.specs.DerivedTheorems.{IsDerived, IsProved}
 use Rattle.ab_sigmod.specs.FileLoads.{FilesSeen}
 use Rattle.ab_states.specs.State.{State, Entry, plain}
@@ -18,7 +18,8 @@ use Rattle.ab_states.specs.declared.reply.Reply.TheVariants.{Completed, Admitted
 use Rattle.ab_session.specs.declared.attempt.Attempt.{Attempt}
 use Rattle.ab_session.specs.declared.command_history.Before.{Before}
 use Rattle.ab_session.specs.Contents.{Contents, state_of}
-use Rattle.ab_session.specs.Origins.{CameFrom, Precedes}
+use Rattle.ab_session.specs.Origins.{CameFrom, Precedes, IsSame}
+use Rattle.ab_session.specs.Lasting.{Lasts}
 
 -- THE LAST OF THE THEOREMS HAS THE NAME, and a derivation, perhaps with gaps, from what was declared before it
 pub record IsDerivedLast (D : Declarations) (name : List ℕ) : Type 0 where
@@ -44,13 +45,13 @@ abbrev pub KeepsFewer : State → State → Type 0
 KeepsFewer s t = length t.kept < length s.kept
 
 -- the reply and the next state are the effect of a command that goes forward, as it would be kept; a formula that is shown speaks
--- of no goal, a completed theorem is proved, or derived where it assumes some, nothing is left of what is refused, and what is kept leads back
+-- of no goal, a completed theorem is proved, or derived where it assumes some, what isn't kept leaves the session, and what is kept leads back
 pub record IsEntryAnswer (old : Contents) (e : Entry) (new : Contents) (reply : Reply) : Type 0 where
   pub effect : GoesForward (state_of old) e (reply_of new.world reply) (state_of new)
   pub speaks : SpeaksOfNoGoal new.world reply
   pub completed : (name : List ℕ) → reply ≡ Completed name → IsProvedLast (declarations_of new.world) name
   pub admitted : (name : List ℕ) (names : List (List ℕ)) → reply ≡ Admitted name names → IsDerivedLast (declarations_of new.world) name
-  pub refused : (r : Refusal) → reply ≡ Refused r → IsRestored old.world new.world
+  pub unchanged : is_kept (reply_of new.world reply) ≡ false → IsSame old new
   pub kept : is_kept (reply_of new.world reply) ≡ true → CameFrom old new
 
 -- the same of a command that reads no file
@@ -63,19 +64,18 @@ pub record IsFileAnswer (before after : FilesSeen) (old : Contents) (bytes : Lis
   pub speaks : SpeaksOfNoGoal new.world reply
   pub completed : (name : List ℕ) → reply ≡ Completed name → IsProvedLast (declarations_of new.world) name
   pub admitted : (name : List ℕ) (names : List (List ℕ)) → reply ≡ Admitted name names → IsDerivedLast (declarations_of new.world) name
-  pub refused : (r : Refusal) → reply ≡ Refused r → IsRestored old.world new.world
-  pub kept : KeepsOneMore (state_of old) bytes (state_of new) → CameFrom old new
-  pub none_taken_back : ¬ KeepsFewer (state_of old) (state_of new)
+  pub unchanged : is_kept (reply_of new.world reply) ≡ false → IsSame old new
+  pub kept : is_kept (reply_of new.world reply) ≡ true → CameFrom old new
 
--- the same for any other command, without a load; what takes back leads to an earlier session, and steps go from the one number to the
+-- the same for any other command, without a load; what takes nothing back leaves the session or leads on from it, and what takes back leads to an earlier session, and steps go from the one number to the
 -- other by one for each entry of the table and each declaration that goes
 pub record IsAnswer (old : Contents) (bytes : List ℕ) (new : Contents) (before after : ℕ) (reply : Reply) : Type 0 where
   pub effect : HasEffect (state_of old) bytes [] (reply_of new.world reply) (state_of new)
   pub speaks : SpeaksOfNoGoal new.world reply
   pub completed : (name : List ℕ) → reply ≡ Completed name → IsProvedLast (declarations_of new.world) name
   pub admitted : (name : List ℕ) (names : List (List ℕ)) → reply ≡ Admitted name names → IsDerivedLast (declarations_of new.world) name
-  pub refused : (r : Refusal) → reply ≡ Refused r → IsRestored old.world new.world
-  pub kept : KeepsOneMore (state_of old) bytes (state_of new) → CameFrom old new
+  pub refused : (r : Refusal) → reply ≡ Refused r → IsSame old new
+  pub goes_on : ¬ KeepsFewer (state_of old) (state_of new) → IsSame old new ⊎ CameFrom old new
   pub taken_back : KeepsFewer (state_of old) (state_of new) → Precedes new old
   pub steps : KeepsFewer (state_of old) (state_of new) →
       after + length new.world.types + length new.world.additions ≡ before + length old.world.types + length old.world.additions
@@ -86,8 +86,11 @@ pub record IsReplied (before after : FilesSeen) (old : Contents) (bytes : List �
   pub speaks : SpeaksOfNoGoal new.world reply
   pub completed : (name : List ℕ) → reply ≡ Completed name → IsProvedLast (declarations_of new.world) name
   pub admitted : (name : List ℕ) (names : List (List ℕ)) → reply ≡ Admitted name names → IsDerivedLast (declarations_of new.world) name
-  pub refused : (r : Refusal) → reply ≡ Refused r → IsRestored old.world new.world
+  pub refused : (r : Refusal) → reply ≡ Refused r → IsSame old new
+  pub unchanged : state_of new ≡ state_of old → IsSame old new
   pub kept : KeepsOneMore (state_of old) bytes (state_of new) → CameFrom old new
+  pub lasts : ¬ KeepsFewer (state_of old) (state_of new) → Lasts old new
+  pub lasted : KeepsFewer (state_of old) (state_of new) → Lasts new old
   pub taken_back : KeepsFewer (state_of old) (state_of new) → Precedes new old
   pub steps : KeepsFewer (state_of old) (state_of new) →
       to + length new.world.types + length new.world.additions ≡ from + length old.world.types + length old.world.additions

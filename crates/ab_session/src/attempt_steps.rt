@@ -6,7 +6,6 @@ ghost use Rattle.ab_formulas.specs.Declarations.{ArePlacesUpTo, a_theorem, names
 ghost use Rattle.ab_formulas.specs.Formulas.{IsSentence};
 ghost use Rattle.ab_logic.specs.WorldGrowth.{Grows};
 ghost use Rattle.ab_logic.specs.Worlds.{read, Holds, declarations_of, IsWorld};
-ghost use Rattle.ab_command.specs.Supported.{IsBuiltInProof};
 ghost use Rattle.ab_effects.specs.ProofCommands.{given_label};
 ghost use Rattle.ab_theory.specs.Assumptions.{assumed_by};
 ghost use Rattle.ab_steps.specs.ab_kernel.specs.Layout.{history_of};
@@ -95,7 +94,6 @@ pub(crate) fn advance<L>(
 ) -> Result<Outcome, AllocError>
     requires world { IsWorld world.old }
     requires attempt { IsTried world.old attempt.old }
-    requires built { (count : ℕ) × IsBuiltInProof count (proof_command_of command.now) }
     ensures advanced { IfOk result (Advanced (given_label (option_copied label.entry)) (proof_command_of command.now) world.old attempt.old world.new attempt.new) }
     ensures err { OnErr result (IsUnchanged world.old attempt.old world.new attempt.new) }
 {

@@ -1,5 +1,5 @@
-//! Proof commands that are carried out on a proof: `search` outright, and each other by its row.
-ghost use Rattle.std.specs.Prelude.{◌≡◌, ◌≢◌, ℕ, [], IfOk, IfSome, IsNone, OnErr};
+//! Proof commands that are carried out on a proof: `search` by its tree, and each other by its row.
+ghost use Rattle.std.specs.Prelude.{◌≡◌, ◌≢◌, [], IfOk, IfSome, IsNone, OnErr};
 ghost use Rattle.std.specs.Option.{option_copied};
 ghost use Rattle.ab_grammar.specs.CommandTrees.{search};
 ghost use Rattle.ab_syntax.specs.Commands.{proof_command_of};
@@ -8,7 +8,6 @@ ghost use Rattle.ab_logic.specs.Worlds.{IsWorld};
 ghost use Rattle.ab_steps.specs.ab_kernel.specs.Layout.{history_of, IsProof};
 ghost use Rattle.ab_steps.specs.Progress.{goals_of, Advances, Follows};
 ghost use Rattle.ab_steps.specs.ProofEffects.{OwesFor};
-ghost use Rattle.ab_command.specs.Supported.{IsBuiltInProof};
 ghost use Rattle.ab_effects.specs.ProofCommands.{given_label};
 ghost use Rattle.ab_proofcmd.specs.SupportedCommands.{IsBuilt};
 ghost use Rattle.ab_session.specs.ProofAttempts.{IsMade, IsDenied};
@@ -24,7 +23,7 @@ use ab_store::types::Steps;
 use ab_syntax::ProofCommand;
 use std::alloc::{AllocError, Global};
 
-/// Closes the first goal, or refuses where it can't be closed outright.
+/// Closes the first goal where its search tree has an answer, or refuses as the tree says.
 fn by_search<L>(
     alloc: Global,
     world: &mut World,
@@ -44,6 +43,7 @@ fn by_search<L>(
     match search(alloc, world, proof, depth, steps) {
         Ok(()) => Ok(None),
         Err(SearchFault::NotFound) => Ok(Some(Refusal::NotFound)),
+        Err(SearchFault::NotPattern(number)) => Ok(Some(Refusal::NotPattern(number))),
         Err(SearchFault::Memory(fault)) => Err(fault),
     }
 }
@@ -86,7 +86,6 @@ pub(crate) fn carry_out<L>(
     requires world { IsWorld world.old }
     requires proof { IsProof world.old proof.old }
     requires open { goals_of world.old proof.old ≢ [] }
-    requires built { (count : ℕ) × IsBuiltInProof count (proof_command_of command.now) }
     ensures advances { Advances world.old proof.old world.new proof.new }
     ensures owes { IfOk result (λ o. IsNone o → OwesFor (proof_command_of command.now) world.old proof.old world.new proof.new) }
     ensures made { IfOk result (λ o. IsNone o → IsMade (given_label (option_copied label.entry)) (proof_command_of command.now) world.old proof.old world.new proof.new) }

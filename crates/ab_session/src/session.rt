@@ -1,7 +1,7 @@
 //! A session: what the commands so far have led to.
 //!
 //! Every proof goes through the kernel, which alone makes derivations, and each theorem's proof stays as long as it does.
-ghost use Rattle.std.specs.Prelude.{◌≡◌, ◌≢◌, ◌↔◌, ◌<◌, ℕ, ◌+◌, List, [], true, false, None, length, map, slice_get, is_some, IfOk, IfSome, IsSome, IsErr, IsTrue, IsFalse, OnOk, OnErr};
+ghost use Rattle.std.specs.Prelude.{◌≡◌, ◌≢◌, ◌↔◌, ◌<◌, ◌≤◌, ℕ, ◌+◌, List, [], true, false, None, length, map, slice_get, is_some, IfOk, IfSome, IsSome, IsErr, IsTrue, IsFalse, OnOk, OnErr};
 ghost use Rattle.std.specs.Option.{option_map, option_copied};
 ghost use Rattle.ab_grammar.specs.CommandTrees as told;
 ghost use Rattle.ab_syntax.specs.SyntaxTrees as trees;
@@ -11,7 +11,6 @@ ghost use Rattle.ab_logic.specs.SequentReadings.{sequent_of, HoldsSequent};
 ghost use Rattle.ab_logic.specs.Worlds.{declarations_of, IsWorld};
 ghost use Rattle.ab_steps.specs.ab_kernel.specs.Layout.{IsProof};
 ghost use Rattle.ab_declare.specs.declared.refusal.Refusal.{Refusal as ARefusal};
-ghost use Rattle.ab_declare.specs.Moments.{IsRestored};
 ghost use Rattle.ab_formulas.specs.NamedGoals.{named};
 ghost use Rattle.ab_sigmod.specs.Outcomes.{seen, files_of};
 ghost use Rattle.ab_states.specs.State.{empty, with_files, is_open, is_specified, goals_of, goals_in};
@@ -21,7 +20,8 @@ ghost use Rattle.ab_states.specs.ForwardEffects.{Commands};
 ghost use Rattle.ab_states.specs.StateEffects.{AsksFor, HasEffectOver, IsBeforeLast};
 ghost use Rattle.ab_states.specs.declared.reply.Reply.TheVariants.{Completed, Admitted, Refused};
 ghost use Rattle.ab_session.specs.Contents.{Contents, state_of};
-ghost use Rattle.ab_session.specs.Origins.{CameFrom, Precedes};
+ghost use Rattle.ab_session.specs.Origins.{CameFrom, IsSession, Precedes, IsSame};
+ghost use Rattle.ab_session.specs.Lasting.{Lasts, Stays};
 ghost use Rattle.ab_session.specs.Sessions.{IsProofOf};
 ghost use Rattle.ab_session.specs.SessionAnswers.{IsDerivedLast, IsProvedLast, KeepsOneMore, KeepsFewer, IsEntryAnswer, IsForwardAnswer, IsFileAnswer, IsAnswer, IsReplied, IsBefore};
 ghost use Rattle.ab_session.specs.Remains.{NothingIsLeftOver};
@@ -100,6 +100,14 @@ impl Session {
         })
     }
 
+    /// WHAT IS TRUE OF EVERY SESSION: it is sound, its state is the one that replaying its kept commands gives, and each of them
+    /// led from one session to the next.
+    pub fn stands(&self)
+        ensures { IsSession self.now }
+    {
+        let _ = &self.kept;
+    }
+
     /// How many commands are kept.
     pub fn kept(&self) -> usize
         ensures { result ≡ length (state_of self.now).kept }
@@ -161,7 +169,8 @@ impl Session {
     }
 
     /// Takes one command, its full stop included: the reply, and the next state. A command that is refused leaves the
-    /// session as it was, and so does want of memory. A specification reads its files, where none is kept, and no other command
+    /// session as it was, to each node, and so does want of memory, but for terms that were made. Where nothing is taken back, all
+    /// that the session holds reads as before, and each theorem has the derivation that it had. A specification reads its files, where none is kept, and no other command
     /// asks for a file. What is kept can be taken back, to each node, cell, type and declaration, and what takes back counts a
     /// step for each entry of the table and each declaration that goes. What a kept command made on its way goes, but for what
     /// the session names.
@@ -178,13 +187,17 @@ impl Session {
         ensures reply { IfOk result (SpeaksOfNoGoal self.new.world) }
         ensures completed { (name : List ℕ) → IfOk result (λ reply. reply ≡ Completed name → IsProvedLast (state_of self.new).declarations name) }
         ensures admitted { (name : List ℕ) (names : List (List ℕ)) → IfOk result (λ reply. reply ≡ Admitted name names → IsDerivedLast (state_of self.new).declarations name) }
-        ensures refused { (r : ARefusal) → IfOk result (λ reply. reply ≡ Refused r → IsRestored self.old.world self.new.world) }
+        ensures refused { (r : ARefusal) → IfOk result (λ reply. reply ≡ Refused r → IsSame self.old self.new) }
+        ensures unchanged { IfOk result (λ reply. state_of self.new ≡ state_of self.old → IsSame self.old self.new) }
         ensures kept { IfOk result (λ reply. KeepsOneMore (state_of self.old) command.now (state_of self.new) → CameFrom self.old self.new) }
         ensures least { IfOk result (λ reply. KeepsOneMore (state_of self.old) command.now (state_of self.new) → NothingIsLeftOver self.old self.new) }
+        ensures lasts { IfOk result (λ reply. ¬ KeepsFewer (state_of self.old) (state_of self.new) → Lasts self.old self.new) }
         ensures taken_back { IfOk result (λ reply. KeepsFewer (state_of self.old) (state_of self.new) → Precedes self.new self.old) }
+        ensures lasted { IfOk result (λ reply. KeepsFewer (state_of self.old) (state_of self.new) → Lasts self.new self.old) }
         ensures steps { IfOk result (λ reply. KeepsFewer (state_of self.old) (state_of self.new) →
             steps.new + length self.new.world.types + length self.new.world.additions ≡ steps.old + length self.old.world.types + length self.old.world.additions) }
         ensures err { OnErr result (state_of self.new ≡ state_of self.old) }
+        ensures stays { OnErr result (Stays self.old self.new) }
         ensures unloaded { ((x : List ℕ) → ¬ AsksFor (state_of self.old) command.now x) → files.new ≡ files.old }
     {
         let kept = self.kept();
@@ -206,7 +219,7 @@ impl Session {
             (seen (F.files files.old) (F.plan files.old) (F.faults files.old) (F.misses files.old) (F.long_files files.old))
             (seen (F.files files.new) (F.plan files.new) (F.faults files.new) (F.misses files.new) (F.long_files files.new))
             self.old command.now self.new steps.old steps.new) }
-        ensures err { OnErr result (state_of self.new ≡ state_of self.old) }
+        ensures err { OnErr result (Stays self.old self.new) }
         ensures unloaded { ((x : List ℕ) → ¬ AsksFor (state_of self.old) command.now x) → files.new ≡ files.old }
     {
         match read_command(self.alloc, command, self.attempt.is_some()) {
@@ -247,6 +260,8 @@ impl Session {
         ensures replayed { IsReplayed (state_of self.new) }
         ensures closed { OnErr result (self.new.attempt ≡ None) }
         ensures err { OnErr result (self.new ≡ self.old) }
+        ensures lasted { OnOk result (Lasts self.new self.old) }
+        ensures counted { steps.old ≤ steps.new }
         ensures steps { steps.new + length self.new.world.types + length self.new.world.additions ≡ steps.old + length self.old.world.types + length self.old.world.additions }
     {
         match self.kept.pop() {
@@ -279,7 +294,7 @@ impl Session {
         requires said { Commands (state_of self.old) bytes.now (command_of command.now) }
         requires unread { (x : List ℕ) → command_of command.now ≢ told.specification x }
         ensures answer { IfOk result (IsAnswer self.old bytes.now self.new steps.old steps.new) }
-        ensures err { OnErr result (state_of self.new ≡ state_of self.old) }
+        ensures err { OnErr result (Stays self.old self.new) }
     {
         match command {
             Command::Kind(names) => {
@@ -335,7 +350,7 @@ impl Session {
     ) -> Result<Reply, AllocError>
         requires { Commands (state_of self.old) bytes.now (told.kinds names.now) }
         ensures answer { IfOk result (IsForwardAnswer self.old bytes.now self.new) }
-        ensures err { OnErr result (state_of self.new ≡ state_of self.old) }
+        ensures err { OnErr result (Stays self.old self.new) }
     {
         let before = self.before();
         let bytes = make_room(self.alloc, &mut self.kept, bytes)?;
@@ -358,7 +373,7 @@ impl Session {
     ) -> Result<Reply, AllocError>
         requires { Commands (state_of self.old) bytes.now (told.constants names.now (trees.type_of parse.now)) }
         ensures answer { IfOk result (IsForwardAnswer self.old bytes.now self.new) }
-        ensures err { OnErr result (state_of self.new ≡ state_of self.old) }
+        ensures err { OnErr result (Stays self.old self.new) }
     {
         let before = self.before();
         let bytes = make_room(self.alloc, &mut self.kept, bytes)?;
@@ -382,7 +397,7 @@ impl Session {
     ) -> Result<Reply, AllocError>
         requires { Commands (state_of self.old) bytes.now (told.define inductive (map defined_of predicates.now) (map clause_of clauses.now)) }
         ensures answer { IfOk result (IsForwardAnswer self.old bytes.now self.new) }
-        ensures err { OnErr result (state_of self.new ≡ state_of self.old) }
+        ensures err { OnErr result (Stays self.old self.new) }
     {
         let before = self.before();
         let bytes = make_room(self.alloc, &mut self.kept, bytes)?;
@@ -422,7 +437,7 @@ impl Session {
             (seen (F.files files.old) (F.plan files.old) (F.faults files.old) (F.misses files.old) (F.long_files files.old))
             (seen (F.files files.new) (F.plan files.new) (F.faults files.new) (F.misses files.new) (F.long_files files.new))
             self.old bytes.now self.new) }
-        ensures err { OnErr result (state_of self.new ≡ state_of self.old) }
+        ensures err { OnErr result (Stays self.old self.new) }
         ensures unloaded { is_specified (state_of self.old) ≡ true → files.new ≡ files.old }
     {
         if self.is_specified() {
@@ -445,7 +460,7 @@ impl Session {
         requires said { (x : List ℕ) × Commands (state_of self.old) bytes.now (told.specification x) }
         requires first { is_specified (state_of self.old) ≡ false }
         ensures answer { IfOk result (IsEntryAnswer self.old (with_files (files_of spec) bytes.now) self.new) }
-        ensures err { OnErr result (state_of self.new ≡ state_of self.old) }
+        ensures err { OnErr result (Stays self.old self.new) }
     {
         let before = self.before();
         let bytes = make_room(self.alloc, &mut self.kept, bytes)?;
@@ -473,7 +488,7 @@ impl Session {
     ) -> Result<Reply, AllocError>
         requires { Commands (state_of self.old) bytes.now (told.theorem name.now (trees.tree_of parse.now)) }
         ensures answer { IfOk result (IsForwardAnswer self.old bytes.now self.new) }
-        ensures err { OnErr result (state_of self.new ≡ state_of self.old) }
+        ensures err { OnErr result (Stays self.old self.new) }
     {
         let before = self.before();
         let bytes = make_room(self.alloc, &mut self.kept, bytes)?;
@@ -496,7 +511,8 @@ impl Session {
     /// `Show w`
     fn show(&self, bytes: &[u8], name: &Name) -> Result<Reply, AllocError>
         requires { Commands (state_of self.now) bytes.now (told.show name.now) }
-        ensures { IfOk result (IsForwardAnswer self.now bytes.now self.now) }
+        ensures answer { IfOk result (IsForwardAnswer self.now bytes.now self.now) }
+        ensures err { OnErr result (Stays self.now self.now) }
     {
         let _ = bytes;
         let copy = name.copy(self.alloc)?;
@@ -510,7 +526,7 @@ impl Session {
     fn set_subgoals(&mut self, bytes: &[u8], on: bool) -> Result<Reply, AllocError>
         requires { Commands (state_of self.old) bytes.now (told.subgoals on) }
         ensures answer { IfOk result (IsForwardAnswer self.old bytes.now self.new) }
-        ensures err { OnErr result (state_of self.new ≡ state_of self.old) }
+        ensures err { OnErr result (Stays self.old self.new) }
     {
         let before = self.before();
         let bytes = make_room(self.alloc, &mut self.kept, bytes)?;
@@ -523,7 +539,7 @@ impl Session {
     fn abort(&mut self, bytes: &[u8]) -> Result<Reply, AllocError>
         requires { Commands (state_of self.old) bytes.now told.abort }
         ensures answer { IfOk result (IsForwardAnswer self.old bytes.now self.new) }
-        ensures err { OnErr result (state_of self.new ≡ state_of self.old) }
+        ensures err { OnErr result (Stays self.old self.new) }
     {
         let before = self.before();
         let bytes = make_room(self.alloc, &mut self.kept, bytes)?;
@@ -544,7 +560,7 @@ impl Session {
     ) -> Result<Reply, AllocError>
         requires { Commands (state_of self.old) bytes.now (told.in_proof (option_copied label) (proof_command_of command.now)) }
         ensures answer { IfOk result (IsForwardAnswer self.old bytes.now self.new) }
-        ensures err { OnErr result (state_of self.new ≡ state_of self.old) }
+        ensures err { OnErr result (Stays self.old self.new) }
     {
         let before = self.before();
         let bytes = make_room(self.alloc, &mut self.kept, bytes)?;

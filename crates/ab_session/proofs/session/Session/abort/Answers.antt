@@ -6,7 +6,8 @@ use Rattle.ab_session.specs.declared.command_history.Kept.{Kept}
 use Rattle.ab_session.specs.Contents.{contents}
 use Rattle.ab_session.proofs.Origins.{pasts}
 use Rattle.ab_session.proofs.Sayings.{some_tried}
-use Rattle.ab_session.proofs.Effects.{past_more, meant}
+use Rattle.ab_session.proofs.Carried.{on_error}
+use Rattle.ab_session.proofs.Effects.{past_more, stays_there, meant}
 use Rattle.ab_session.proofs.KeptCommands.{session_given_up, given_up_so}
 use Rattle.ab_session.proofs.session.Session.abort.Goals as goal
 
@@ -29,3 +30,8 @@ returns-clause-answer c =
     let k : Kept = record { bytes = c.in_ok-bytes.bytes; spec = None; before = c.before-before.result; deed = GaveUp c.in-Some.attempt } in
     given_up_so s c.args.self.now c.args.bytes.now k (pasts c.keep.new.kept.items) c.self.view_is c.self.invariant c.before-before.ensures (ap plain c.in_ok-bytes.ensures.command)
     (past_more c.self.inside.kept.items c.make_room.new.kept.items c.keep.new.kept.items k c.make_room.ensures.kept c.keep.ensures) c.in-Some.attempt _ (sym c.take.ensures.value ∙ c.in-Some.is) c.take.ensures.after refl c.requires
+
+pub returns-in_err-bytes-clause-err : goal.returns-in_err-bytes-clause-err
+returns-in_err-bytes-clause-err c =
+    let s = contents c.self.inside in
+    on_error _ (stays_there s c.args.self.now s.proofs (pasts c.make_room.new.kept.items) c.self.view_is refl (ap pasts c.make_room.ensures.kept) c.self.invariant)

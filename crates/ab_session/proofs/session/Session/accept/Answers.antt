@@ -1,6 +1,7 @@
 use Rattle.std.proofs.Common.{◌∙◌, arith}
 use Rattle.ab_sigmod.specs.FileLoads.{FilesSeen}
 use Rattle.ab_sigmod.specs.Outcomes.{seen}
+use Rattle.ab_session.proofs.Carried.{on_error}
 use Rattle.ab_session.proofs.Replied.{IsAccepted, accepted_cut, accepted_as_is}
 use Rattle.ab_session.proofs.session.Session.accept.Given as given
 use Rattle.ab_session.proofs.session.Session.accept.Goals as goal
@@ -50,3 +51,15 @@ returns-clause-taken_back g c = (accepted g c).replied.taken_back
 
 pub returns-clause-steps : goal.returns-clause-steps
 returns-clause-steps g c = (accepted g c).replied.steps
+
+pub returns-clause-unchanged : goal.returns-clause-unchanged
+returns-clause-unchanged g c = (accepted g c).replied.unchanged
+
+pub returns-clause-lasts : goal.returns-clause-lasts
+returns-clause-lasts g c = (accepted g c).replied.lasts
+
+pub returns-clause-lasted : goal.returns-clause-lasted
+returns-clause-lasted g c = (accepted g c).replied.lasted
+
+pub returns-in_err-reply-clause-err : goal.returns-in_err-reply-clause-err
+returns-in_err-reply-clause-err g c = on_error _ c.in_err-reply.ensures.err.state

@@ -21,7 +21,7 @@ returns-in-Theorem-clause-answer g c =
 
 pub returns-in-Show-clause-answer : goal.returns-in-Show-clause-answer
 returns-in-Show-clause-answer g c =
-    if_answered c.args.self.now c.args.self.now c.args.bytes.now c.args.steps.now c.args.steps.now c.show.result c.show.ensures
+    if_answered c.args.self.now c.args.self.now c.args.bytes.now c.args.steps.now c.args.steps.now c.show.result c.show.ensures.answer
 
 pub returns-in-Quit-clause-answer : goal.returns-in-Quit-clause-answer
 returns-in-Quit-clause-answer g c =

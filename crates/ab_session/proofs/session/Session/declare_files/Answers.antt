@@ -9,7 +9,7 @@ use Rattle.ab_session.specs.declared.command_history.Kept.{Kept}
 use Rattle.ab_session.specs.Contents.{contents}
 use Rattle.ab_session.proofs.Origins.{pasts}
 use Rattle.ab_session.proofs.Carried.{on_error}
-use Rattle.ab_session.proofs.Effects.{past_more, session_same, state_same}
+use Rattle.ab_session.proofs.Effects.{past_more, session_same, stays_restored, stays_there}
 use Rattle.ab_session.proofs.Specified.{session_unspecified, unspecified_so, session_specified, specified_so}
 use Rattle.ab_session.proofs.session.Session.declare_files.Goals as goal
 
@@ -24,11 +24,7 @@ invariant_of-self-in_err-refusal g c =
 pub returns-in_err-refusal-clause-err : goal.returns-in_err-refusal-clause-err
 returns-in_err-refusal-clause-err g c =
     let s = contents c.self.inside in
-    let w = c.self.inside.world in
-    let v = c.declare_specification.new.world in
-    let r = c.in_err-refusal.ensures.err in
-    on_error _
-    (state_same s c.args.self.now v s.proofs s.attempt (pasts c.make_room.new.kept.items) c.self.view_is refl refl (ap pasts c.make_room.ensures.kept) c.self.invariant (restored_grows w v c.self.invariant.sound.world r) (restored_declares w v r))
+    on_error _ (stays_restored s c.args.self.now c.declare_specification.new.world (pasts c.make_room.new.kept.items) c.self.view_is (ap pasts c.make_room.ensures.kept) c.self.invariant c.in_err-refusal.ensures.err)
 
 pub invariant_of-self-in-Some-1 : goal.invariant_of-self-in-Some-1
 invariant_of-self-in-Some-1 g c =
@@ -63,3 +59,8 @@ returns-in-None-clause-answer g c =
     specified_so s c.args.self.now c.args.bytes.now said.0 (files_of c.args.spec) c.declare_specification.new.world (pasts c.push_reserved.new.self.items) c.self.view_is c.self.invariant said.1 c.requires.first
     d k c.before-before.ensures refl (ap (with_files (files_of c.args.spec)) c.in_ok-bytes.ensures.command)
     (past_more c.self.inside.kept.items c.make_room.new.kept.items c.push_reserved.new.self.items k c.make_room.ensures.kept c.push_reserved.ensures.items)
+
+pub returns-in_err-bytes-clause-err : goal.returns-in_err-bytes-clause-err
+returns-in_err-bytes-clause-err g c =
+    let s = contents c.self.inside in
+    on_error _ (stays_there s c.args.self.now s.proofs (pasts c.make_room.new.kept.items) c.self.view_is refl (ap pasts c.make_room.ensures.kept) c.self.invariant)

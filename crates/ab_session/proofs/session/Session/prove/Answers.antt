@@ -11,7 +11,8 @@ use Rattle.ab_session.proofs.Origins.{pasts}
 use Rattle.ab_session.specs.SessionAnswers.{IsForwardAnswer}
 use Rattle.ab_session.proofs.Sayings.{some_tried}
 use Rattle.ab_session.proofs.Origins.{attempt_is}
-use Rattle.ab_session.proofs.Effects.{made, past_more, seen, meant, session_same, state_same, denied_answer}
+use Rattle.ab_session.proofs.Carried.{on_error}
+use Rattle.ab_session.proofs.Effects.{made, past_more, seen, meant, session_same, stays_so, stays_there, denied_answer}
 use Rattle.ab_session.proofs.KeptCommands.{session_led, led_so, session_proved, proved_so}
 use Rattle.ab_session.proofs.session.Session.prove.Goals as goal
 
@@ -20,9 +21,6 @@ unreachable-requires g c =
     let s = contents c.self.inside in
     let none : s.attempt ≡ None = sym c.take.ensures.value ∙ c.in_default.is in
     some_tried s c.args.bytes.now (told.in_proof (option_copied c.args.label) (proof_command_of c.args.command.now)) (meant s c.args.self.now c.args.bytes.now (told.in_proof (option_copied c.args.label) (proof_command_of c.args.command.now)) c.self.view_is c.requires) refl none
-
-pub advance-requires-clause-built : goal.advance-requires-clause-built
-advance-requires-clause-built g c = (_, c.requires.built)
 
 pub invariant_of-self-in-Ok-Completed : goal.invariant_of-self-in-Ok-Completed
 invariant_of-self-in-Ok-Completed g c =
@@ -79,7 +77,7 @@ returns-in-Err-clause-err g c =
     let here : s.attempt ≡ Some a = sym c.take.ensures.value ∙ c.in-Some.is in
     let u = c.in-Err.ensures.err in
     let back = ap Some (attempt_is a b u.name u.formula u.proof) ∙ sym here in
-    state_same s c.args.self.now v c.reserve.new.self.items (Some b) (pasts c.make_room.new.kept.items) c.self.view_is c.reserve.ensures.items back (ap pasts c.make_room.ensures.kept) c.self.invariant u.grows u.declared
+    stays_so s c.args.self.now v c.reserve.new.self.items (Some b) (pasts c.make_room.new.kept.items) c.self.view_is c.reserve.ensures.items back (ap pasts c.make_room.ensures.kept) c.self.invariant u.grows u.declared
 
 pub returns-in-Ok-Completed-clause-answer : goal.returns-in-Ok-Completed-clause-answer
 returns-in-Ok-Completed-clause-answer g c =
@@ -116,3 +114,13 @@ returns-in-Ok-Refused-clause-answer g c =
     subst (λ ps. IsForwardAnswer c.args.self.now c.args.bytes.now (made v ps (Some b) s.all_subgoals (pasts c.make_room.new.kept.items)) (Refused c.in-Ok-Refused.refusal)) (sym c.reserve.ensures.items)
     (seen s c.args.self.now c.args.bytes.now (made v s.proofs (Some b) s.all_subgoals (pasts c.make_room.new.kept.items)) (Refused c.in-Ok-Refused.refusal) c.self.view_is
     (denied_answer s c.args.bytes.now (option_copied c.args.label) (proof_command_of c.args.command.now) c.in-Some.attempt c.self.invariant.sound here said v b c.in-Ok-Refused.refusal (pasts c.make_room.new.kept.items) (ap pasts c.make_room.ensures.kept) d))
+
+pub returns-in_err-bytes-clause-err : goal.returns-in_err-bytes-clause-err
+returns-in_err-bytes-clause-err g c =
+    let s = contents c.self.inside in
+    on_error _ (stays_there s c.args.self.now s.proofs (pasts c.make_room.new.kept.items) c.self.view_is refl (ap pasts c.make_room.ensures.kept) c.self.invariant)
+
+pub returns-in_err-reserve-clause-err : goal.returns-in_err-reserve-clause-err
+returns-in_err-reserve-clause-err g c =
+    let s = contents c.self.inside in
+    on_error _ (stays_there s c.args.self.now c.reserve.new.self.items (pasts c.make_room.new.kept.items) c.self.view_is c.reserve.ensures.items (ap pasts c.make_room.ensures.kept) c.self.invariant)

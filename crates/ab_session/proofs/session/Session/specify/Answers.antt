@@ -1,4 +1,7 @@
 use Rattle.std.proofs.Common.{refl, sym, ◌∙◌}
+use Rattle.ab_session.specs.Contents.{contents}
+use Rattle.ab_session.proofs.Carried.{on_error}
+use Rattle.ab_session.proofs.Effects.{stays_itself}
 use Rattle.ab_session.proofs.Specified.{twice_answer, unread_answer, if_read_answer}
 use Rattle.ab_session.proofs.session.Session.specify.Goals as goal
 
@@ -18,3 +21,9 @@ pub returns-in_ok-files_unread-in-Err-clause-answer : goal.returns-in_ok-files_u
 returns-in_ok-files_unread-in-Err-clause-answer g c =
     let t = c.in_ok-files_unread-in-Err.ensures in
     unread_answer _ _ c.args.self.now c.args.bytes.now c.args.name.now c.requires (sym c.is_specified.ensures ∙ c.if-is_specified.false) t.0 _ (c.in-Err.ensures.refused t.0 t.1) t.2
+
+pub returns-in_err-copy-clause-err : goal.returns-in_err-copy-clause-err
+returns-in_err-copy-clause-err g c = on_error _ (stays_itself (contents c.self.inside) c.args.self.now c.self.view_is c.self.invariant)
+
+pub returns-in_err-files_unread-in-Err-clause-err : goal.returns-in_err-files_unread-in-Err-clause-err
+returns-in_err-files_unread-in-Err-clause-err g c = on_error _ (stays_itself (contents c.self.inside) c.args.self.now c.self.view_is c.self.invariant)

@@ -8,7 +8,7 @@ use Rattle.ab_session.specs.declared.command_history.Kept.{Kept}
 use Rattle.ab_session.specs.Contents.{contents}
 use Rattle.ab_session.proofs.Origins.{pasts}
 use Rattle.ab_session.proofs.Carried.{on_error}
-use Rattle.ab_session.proofs.Effects.{past_more, session_same, state_same, session_declined, declined_so}
+use Rattle.ab_session.proofs.Effects.{past_more, session_same, stays_so, stays_there, stays_restored, session_declined, declined_so}
 use Rattle.ab_session.proofs.KeptCommands.{session_stated_so, stated_so}
 use Rattle.ab_session.proofs.session.Session.state_theorem.Goals as goal
 
@@ -23,11 +23,7 @@ invariant_of-self-in_err-refusal g c =
 pub returns-in_err-refusal-clause-err : goal.returns-in_err-refusal-clause-err
 returns-in_err-refusal-clause-err g c =
     let s = contents c.self.inside in
-    let w = c.self.inside.world in
-    let v = c.state_formula.new.world in
-    let r = c.in_err-refusal.ensures.err in
-    on_error _
-    (state_same s c.args.self.now v s.proofs s.attempt (pasts c.make_room.new.kept.items) c.self.view_is refl refl (ap pasts c.make_room.ensures.kept) c.self.invariant (restored_grows w v c.self.invariant.sound.world r) (restored_declares w v r))
+    on_error _ (stays_restored s c.args.self.now c.state_formula.new.world (pasts c.make_room.new.kept.items) c.self.view_is (ap pasts c.make_room.ensures.kept) c.self.invariant c.in_err-refusal.ensures.err)
 
 pub invariant_of-self-in-Refused-1 : goal.invariant_of-self-in-Refused-1
 invariant_of-self-in-Refused-1 g c =
@@ -52,7 +48,7 @@ returns-in_err-proof-in-Formula-clause-err g c =
     let s = contents c.self.inside in
     let d = rw c.in-Formula.is at c.in_ok-refusal.ensures.answer in
     on_error _
-    (state_same s c.args.self.now c.state_formula.new.world s.proofs s.attempt (pasts c.make_room.new.kept.items) c.self.view_is refl refl (ap pasts c.make_room.ensures.kept) c.self.invariant d.grows d.declared)
+    (stays_so s c.args.self.now c.state_formula.new.world s.proofs s.attempt (pasts c.make_room.new.kept.items) c.self.view_is refl refl (ap pasts c.make_room.ensures.kept) c.self.invariant d.grows d.declared)
 
 pub invariant_of-self-in-Formula : goal.invariant_of-self-in-Formula
 invariant_of-self-in-Formula g c =
@@ -73,3 +69,13 @@ returns-in_ok-proof-in-Formula-clause-answer g c =
     (past_more c.self.inside.kept.items c.make_room.new.kept.items c.keep.new.kept.items k c.make_room.ensures.kept c.keep.ensures)
     c.args.name.now c.in_ok-copy.copy (trees.tree_of c.args.parse.now) c.in-Formula.formula c.state_formula.new.world c.in_ok-proof-in-Formula.proof
     c.in_ok-copy.ensures d c.in_ok-proof-in-Formula.ensures.proof c.in_ok-proof-in-Formula.ensures.begins refl c.requires
+
+pub returns-in_err-bytes-clause-err : goal.returns-in_err-bytes-clause-err
+returns-in_err-bytes-clause-err g c =
+    let s = contents c.self.inside in
+    on_error _ (stays_there s c.args.self.now s.proofs (pasts c.make_room.new.kept.items) c.self.view_is refl (ap pasts c.make_room.ensures.kept) c.self.invariant)
+
+pub returns-in_err-copy-clause-err : goal.returns-in_err-copy-clause-err
+returns-in_err-copy-clause-err g c =
+    let s = contents c.self.inside in
+    on_error _ (stays_there s c.args.self.now s.proofs (pasts c.make_room.new.kept.items) c.self.view_is refl (ap pasts c.make_room.ensures.kept) c.self.invariant)
