@@ -15,6 +15,7 @@ use Rattle.ab_term.specs.Terms.{constant, logical, index, lam, spine, no_terms, 
 use Rattle.ab_term.specs.Variables.{Substitution, value_in, image, IsTyped}
 use Rattle.ab_term.specs.Sameness.{same_number}
 use Rattle.ab_term.proofs.Lists.{Contains-none, Contains-cases, Contains-from_map}
+use Rattle.ab_unifiers.specs.Replacements.{Cell}
 use Rattle.ab_unifiers.specs.Clauses.{Clause}
 use Rattle.ab_unifiers.specs.Member.{HasMember, in_the_list}
 use Rattle.ab_formulas.specs.Declarations.{Declarations, signature_in}
@@ -27,8 +28,9 @@ use Rattle.ab_search_trees.specs.Judgements.{opens_by_layers, known, search_rule
 use Rattle.ab_search_trees.specs.Ways.{unfolds, demanded}
 use Rattle.ab_search_clauses.proofs.ByList.{judged_under, judgement_image, listed_so, list_evidence}
 use Rattle.ab_search_judgements.proofs.RulePath.{terms, gives}
-use Rattle.ab_search_layers.specs.Layered.{Layered, it_stays, by_rule as layered_rule, by_empty_list as layered_empty}
-use Rattle.ab_search_answers.specs.Below.{in_the_end, EvidenceFor, PartEvidence}
+use Rattle.ab_search_layers.specs.Layered.{Layered, it_stays, it_opens, by_rule as layered_rule, by_empty_list as layered_empty}
+use Rattle.ab_search_answers.proofs.ByParts.{nameless_evidence}
+use Rattle.ab_search_answers.specs.Below.{in_the_end, EvidenceFor, NamedPartEvidence}
 
 -- BY A CLAUSE of the program
 pub by_clause_evidence : (D : Declarations) → HavePrograms D → HasMember (signature_in D) → (c : Clause (List ℕ)) → EvidenceFor D (by_clause c)
@@ -36,7 +38,7 @@ by_clause_evidence D program has c now last g depth j ys Hs more q n is plainly 
     let place = taken.place in
     let B = image same_number (in_the_end last q n) (demanded (length now.cells) j (by_clause c)).body in
     layered_rule (terms D program has now last place.flexible g place.task depth j is plainly c there ys more q n taken.solved taken.below.later taken.known) B B whole
-    (gives D program has now last place.flexible g place.task depth j is plainly c there ys more q n taken.solved taken.below.later taken.known) it_stays shown
+    (gives D program has now last place.flexible g place.task depth j is plainly c there ys more q n taken.solved taken.below.later taken.known) (it_opens it_stays) shown
 
 -- an item of the list, under what is put in
 item_under : (sg : Signature) (r : Substitution ℕ (List ℕ)) → IsTyped sg r → (L A : Read) → image same_number r (some_item plain L A) ≡ some_item plain (image same_number r L) (image same_number r A)
@@ -72,7 +74,7 @@ by_list_evidence D has now last g depth j ys Hs more q n is plainly there taken 
         let B = image same_number r (demanded (length now.cells) j by_list).body in
         layered_rule [] B B whole
         (list_evidence D has g.conclusion taken.place.task.conclusion.formula j is (ap unfolds plainly) there ys r typed (taken.known g.conclusion (λ y m. inl m)) e (length now.cells))
-        it_stays shown
+        (it_opens it_stays) shown
 
 -- BY OPENING none is taken: what is made of others is opened layer by layer
 module _ (D : Declarations) (j : Judgement) where
@@ -109,9 +111,17 @@ module _ (D : Declarations) (j : Judgement) where
       go (Some F) atomic m = in_focus (list_any (λ (p : Part). is_undetermined (kind_of p.atom)) (parts_of F)) (parts_of F) m
       go (Some F) undetermined m = Contains-none by_opening m
 
+-- BY A PART of the formula in focus, with names or without
+part_evidence : (D : Declarations) → HavePrograms D → HasMember (signature_in D) → NamedPartEvidence D → (p : Part) → EvidenceFor D (by_part p)
+part_evidence D program has parts p = go p.names refl
+  where
+    go : (cs : List (Cell (List ℕ))) → p.names ≡ cs → EvidenceFor D (by_part p)
+    go [] e = nameless_evidence D program has p e
+    go (c ∷ cs) e = parts p (λ k. let bad : c ∷ cs ≡ [] = sym e ∙ k in cc)
+
 -- EACH RULE
-pub rule_evidence : (D : Declarations) → HavePrograms D → HasMember (signature_in D) → PartEvidence D → (s : SpecRule) → EvidenceFor D s
+pub rule_evidence : (D : Declarations) → HavePrograms D → HasMember (signature_in D) → NamedPartEvidence D → (s : SpecRule) → EvidenceFor D s
 rule_evidence D program has parts (by_clause c) = by_clause_evidence D program has c
-rule_evidence D program has parts (by_part p) = parts p
+rule_evidence D program has parts (by_part p) = part_evidence D program has parts p
 rule_evidence D program has parts by_list = by_list_evidence D has
 rule_evidence D program has parts by_opening = λ now last g depth j ys Hs more q n is plainly there taken whole shown. absurd (no_opening D j there)

@@ -10,7 +10,9 @@ pub mod SafeMore
 pub mod SafeRest
 pub mod Reached
 pub mod ByClauses
+pub mod ByParts
 pub mod ByRules
 pub mod Rooted
 pub mod Queries
 pub mod Derived
+pub mod WaysUnmarked

@@ -41,7 +41,7 @@ use Rattle.ab_search_trees.proofs.Shows.{IsFine}
 use Rattle.ab_search_trees.proofs.ShowsMore.{term_fine}
 use Rattle.ab_search_trees.proofs.ShowsRest.{ways_fine}
 use Rattle.ab_search_layers.specs.Layered.{Layered}
-use Rattle.ab_search_answers.specs.Below.{and_filled, PartEvidence}
+use Rattle.ab_search_answers.specs.Below.{and_filled, NamedPartEvidence}
 use Rattle.ab_search_answers.specs.Unmarked.{HasNoHash, HaveNoHash}
 use Rattle.ab_search_answers.proofs.ByClauses.{clause_evidence}
 use Rattle.ab_search_answers.proofs.ByRules.{rule_evidence}
@@ -60,7 +60,7 @@ pub record IsTold (D : Declarations) (own : List (Variable ℕ)) (last : Now) (F
   pub fillings : (a : Nominal) → Contains (support F) a → Contains (filled_constants last.held last.flexible) a
   pub proved : Layered D own [] F
 
-module _ (D : Declarations) (defs : HaveDefinitions D) (program : HavePrograms D) (has : HasMember (signature_in D)) (none : HaveNoHash D) (rules : PartEvidence D) (own : List (Variable ℕ)) where
+module _ (D : Declarations) (defs : HaveDefinitions D) (program : HavePrograms D) (has : HasMember (signature_in D)) (none : HaveNoHash D) (rules : NamedPartEvidence D) (own : List (Variable ℕ)) where
   abbrev sg : Signature
   sg = signature_in D
 
@@ -170,7 +170,7 @@ module _ (D : Declarations) (defs : HaveDefinitions D) (program : HavePrograms D
   ]
 
 -- of a sequent without hypotheses and constants
-pub query_answer : (D : Declarations) (defs : HaveDefinitions D) (program : HavePrograms D) (has : HasMember (signature_in D)) (none : HaveNoHash D) (rules : PartEvidence D) (cells : List (Cell (List ℕ))) (depth : ℕ) (s : Sequent) → IsSequent D s → AreCells cells s → HasNoHash s.conclusion → formulas s.hypotheses ≡ [] → goal_names s ≡ []
+pub query_answer : (D : Declarations) (defs : HaveDefinitions D) (program : HavePrograms D) (has : HasMember (signature_in D)) (none : HaveNoHash D) (rules : NamedPartEvidence D) (cells : List (Cell (List ℕ))) (depth : ℕ) (s : Sequent) → IsSequent D s → AreCells cells s → HasNoHash s.conclusion → formulas s.hypotheses ≡ [] → goal_names s ≡ []
     → (E : Read) → Asks (length cells) s.conclusion E → (ls : List Leaf) → Searched D cells depth s ls → (last : Now) → Contains ls (found last) → IsTold D (map in_terms s.variables) last (image same_number (whole_answer last) E)
 query_answer D defs program has none rules cells depth s is are unmarked none_given none_named E asks ls l last m =
     let own = map in_terms s.variables in

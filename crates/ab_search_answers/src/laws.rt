@@ -7,25 +7,34 @@ ghost use Rattle.ab_term.specs.Sameness.{same_number};
 ghost use Rattle.ab_unifiers.specs.Replacements.{Cell};
 ghost use Rattle.ab_unifiers.specs.Member.{HasMember};
 ghost use Rattle.ab_formulas.specs.Declarations.{Declarations, HaveSentences, HaveDefinitions, signature_in};
+ghost use Rattle.ab_formulas.specs.Formulas.{IsFormula};
 ghost use Rattle.ab_formulas.specs.Programs.{HavePrograms};
 ghost use Rattle.ab_formulas.specs.Sequents.{Sequent, IsSequent, formulas, goal_names, in_terms, proving};
 ghost use Rattle.ab_theory.specs.Derivations.{Derivation};
 ghost use Rattle.ab_theory.specs.Equations.{AreCells};
-ghost use Rattle.ab_search_trees.specs.Goals.{Now};
+ghost use Rattle.ab_search_trees.specs.Goals.{Goal, Now};
+ghost use Rattle.ab_search_trees.specs.Ways.{Way, ways};
 ghost use Rattle.ab_search_trees.specs.Tree.{Leaf, found};
 ghost use Rattle.ab_search_trees.specs.Outcomes.{Searched, closed, outcome_of, Asks, whole_answer};
 ghost use Rattle.ab_search_proofs.specs.Whole.{IsWhole};
 ghost use Rattle.ab_search_layers.specs.Layered.{MemberIsDefined, Layered};
-ghost use Rattle.ab_search_answers.specs.Below.{PartEvidence};
+ghost use Rattle.ab_search_answers.specs.Below.{NamedPartEvidence};
 ghost use Rattle.ab_search_answers.specs.Unmarked.{HasNoHash, HaveNoHash};
 
+/// NO JUDGEMENT COMES TO BE MARKED as coinduction marks: the ways of a goal whose conclusion has none leave such goals alone. So it is asked of the sequent
+/// that is searched, and of the bodies of definitions, and of no goal on the way.
+pub fn ways_bring_no_coinductive_judgement()
+    ensures { (D : Declarations) (now : Now) (g : Goal) → HaveDefinitions D → HaveNoHash D → IsFormula (signature_in D) g.conclusion → HasNoHash g.conclusion →
+        (w : Way) → Contains (ways D now g) w → (h : Goal) → Contains w.goals h → HasNoHash h.conclusion }
+{}
+
 /// AN ANSWER IS A PROOF of the sequent that was searched, over its own variables: with terms for the variables that the search brought, and with
-/// constants for those that stayed open. No judgement is marked `#`; and for the rules of a formula in
-/// focus the evidence is given.
+/// constants for those that stayed open. No judgement is marked `#`; and for the parts of a formula in focus that have names
+/// the evidence is given.
 pub fn answers_are_proofs()
     ensures { (D : Declarations) (cells : List (Cell (List ℕ))) (depth : ℕ) (s : Sequent) (ls : List Leaf) (last : Now) →
         HaveDefinitions D → HavePrograms D → HasMember (signature_in D) → IsSequent D s → AreCells cells s →
-        HasNoHash s.conclusion → HaveNoHash D → PartEvidence D →
+        HasNoHash s.conclusion → HaveNoHash D → NamedPartEvidence D →
         Searched D cells depth s ls → Contains ls (found last) → Layered D (map in_terms s.variables) (formulas s.hypotheses) s.conclusion }
 {}
 
@@ -33,7 +42,7 @@ pub fn answers_are_proofs()
 /// with constants for those that stayed open: so each answer is true of what it prints.
 pub fn answers_of_queries_are_proofs()
     ensures { (D : Declarations) (cells : List (Cell (List ℕ))) (depth : ℕ) (s : Sequent) (E : Read) (ls : List Leaf) (last : Now) →
-        HaveDefinitions D → HavePrograms D → HasMember (signature_in D) → IsSequent D s → AreCells cells s → HasNoHash s.conclusion → HaveNoHash D → PartEvidence D →
+        HaveDefinitions D → HavePrograms D → HasMember (signature_in D) → IsSequent D s → AreCells cells s → HasNoHash s.conclusion → HaveNoHash D → NamedPartEvidence D →
         formulas s.hypotheses ≡ [] → goal_names s ≡ [] → Asks (length cells) s.conclusion E →
         Searched D cells depth s ls → Contains ls (found last) → Layered D (map in_terms s.variables) [] (image same_number (whole_answer last) E) }
 {}
@@ -41,14 +50,14 @@ pub fn answers_of_queries_are_proofs()
 /// WHAT A SEARCH CLOSES IS DERIVED: the sequent has a whole derivation by the rules, which takes no theorem and admits nothing.
 pub fn closed_goals_are_derived()
     ensures { (D : Declarations) (cells : List (Cell (List ℕ))) (depth : ℕ) (s : Sequent) (ls : List Leaf) →
-        HaveSentences D → HaveDefinitions D → HavePrograms D → HasMember (signature_in D) → MemberIsDefined D → IsSequent D s → AreCells cells s → HasNoHash s.conclusion → HaveNoHash D → PartEvidence D →
+        HaveSentences D → HaveDefinitions D → HavePrograms D → HasMember (signature_in D) → MemberIsDefined D → IsSequent D s → AreCells cells s → HasNoHash s.conclusion → HaveNoHash D → NamedPartEvidence D →
         Searched D cells depth s ls → outcome_of ls ≡ closed → (d : Derivation) × IsWhole D s d }
 {}
 
 /// WHAT AN ANSWER OF A QUERY PRINTS IS DERIVED: asked by itself it is a sequent, which has a whole derivation by the rules.
 pub fn printed_answers_are_derived()
     ensures { (D : Declarations) (cells : List (Cell (List ℕ))) (depth : ℕ) (s : Sequent) (E : Read) (ls : List Leaf) (last : Now) →
-        HaveSentences D → HaveDefinitions D → HavePrograms D → HasMember (signature_in D) → MemberIsDefined D → IsSequent D s → AreCells cells s → HasNoHash s.conclusion → HaveNoHash D → PartEvidence D →
+        HaveSentences D → HaveDefinitions D → HavePrograms D → HasMember (signature_in D) → MemberIsDefined D → IsSequent D s → AreCells cells s → HasNoHash s.conclusion → HaveNoHash D → NamedPartEvidence D →
         formulas s.hypotheses ≡ [] → goal_names s ≡ [] → Asks (length cells) s.conclusion E → Searched D cells depth s ls → Contains ls (found last) →
         let printed = proving (image same_number (whole_answer last) E) s in IsSequent D printed × (d : Derivation) × IsWhole D printed d }
 {}

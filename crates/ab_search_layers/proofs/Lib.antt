@@ -11,5 +11,6 @@ pub mod Faced
 pub mod Clashing
 pub mod NoMember
 pub mod Void
+pub mod Giving
 pub mod Layers
 pub mod Early

@@ -15,6 +15,7 @@ use Rattle.ab_unifiers.specs.Choices.{in_order}
 use Rattle.ab_unifiers.specs.Member.{member_clauses}
 use Rattle.ab_formulas.specs.BodyMarks.{mark_above}
 use Rattle.ab_formulas.specs.Declarations.{Declarations, Block, block_in, signature_in}
+use Rattle.ab_formulas.specs.Formulas.{IsFormula}
 use Rattle.ab_formulas.specs.Forms.{truth, equal, both, either, implies, for_all, exists, nabla, other, form_of}
 use Rattle.ab_formulas.specs.Marks.{erased, MarksServeIn}
 use Rattle.ab_formulas.specs.GoalTerms.{HoldsOnly}
@@ -33,6 +34,14 @@ pub data OpensTo : Read → Read → Type 0 where
   in_both : {A B C E : Read} → OpensTo A C → OpensTo B E → OpensTo (opening.both A B) (opening.both C E)
   in_nabla : {A B : Ty} {x : List ℕ} {F G : Read} → OpensTo F G → OpensTo (spine (logical (plain.nabla A)) (term (lam B x F) no_terms)) (spine (logical (plain.nabla A)) (term (lam B x G) no_terms))
   in_exists : {A B : Ty} {x : List ℕ} {F G : Read} → OpensTo F G → OpensTo (spine (logical (plain.existential A)) (term (lam B x F) no_terms)) (spine (logical (plain.existential A)) (term (lam B x G) no_terms))
+
+-- THE FIRST, which is shown, GIVES THE SECOND, which a rule leaves: it opens to it, past hints; or the second says that something exists, and the first
+-- gives that of some term over these variables; or both say so, and the first gives the second of whatever term.
+pub data Gives (D : Declarations) (ys : List (tree.Variable ℕ)) : Read → Read → Type 0 where
+  it_opens : {F B : Read} → OpensTo F B → Gives D ys F B
+  but_for_hints : {F K B : Read} → IsFormula (signature_in D) K → EqualPastHints K B → Gives D ys F K → Gives D ys F B
+  of_a_term : {F B S : Read} {A : Ty} (t : Read) → form_of B ≡ exists A S → HasType (signature_in D) [] t A → HoldsOnly ys t → Gives D ys F (instance S t) → Gives D ys F B
+  of_each_term : {F B R S : Read} {A : Ty} → IsFormula (signature_in D) F → form_of F ≡ exists A R → form_of B ≡ exists A S → ((t : Read) → HasType (signature_in D) [] t A → Gives D ys (instance R t) (instance S t)) → Gives D ys F B
 
 -- `member` is defined as it is built in
 pub record MemberIsDefined (D : Declarations) : Type 0 where
@@ -60,7 +69,7 @@ pub data Layered (D : Declarations) : List (tree.Variable ℕ) → List Read →
   by_layer : {ys : List (tree.Variable ℕ)} {Hs : List Read} {C F : Read} → form_of C ≡ other → opened_once C ≡ Some F → Layered D ys Hs F → Layered D ys Hs C
   by_clause : {ys : List (tree.Variable ℕ)} {Hs : List Read} {C : Read} (d : Defined) (c : Clause (List ℕ)) (us : List Read) (ns : List Nominal)
       → IsByClause D ys C d c us ns → Layered D ys Hs (body_by d c us ns) → Layered D ys Hs C
-  -- of a judgement without a layer: what the rule leaves is B, and what is shown opens to it
-  by_rule : {ys : List (tree.Variable ℕ)} {Hs : List Read} {C : Read} (us : List Read) (B F : Read) → opened_once C ≡ None → IsByRule D ys C us B → OpensTo F B → Layered D ys Hs F → Layered D ys Hs C
+  -- of a judgement without a layer: what the rule leaves is B, and what is shown gives it
+  by_rule : {ys : List (tree.Variable ℕ)} {Hs : List Read} {C : Read} (us : List Read) (B F : Read) → opened_once C ≡ None → IsByRule D ys C us B → Gives D ys F B → Layered D ys Hs F → Layered D ys Hs C
   -- of a judgement whose list is `nil`, by some formula of the list, though it has none: then a hypothesis says what can't be
   by_empty_list : {ys : List (tree.Variable ℕ)} {Hs : List Read} {C : Read} (j : Judgement) → as_judgement C ≡ Some j → j.focus ≡ None → is_nil j.context ≡ true → Layered D ys Hs (some_item (mark_above j.sign) j.context j.goal) → Layered D ys Hs C

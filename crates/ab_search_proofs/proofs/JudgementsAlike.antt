@@ -29,6 +29,7 @@ module _ (D : Declarations) (vs : List StandIn) where
     pub context : forget (permute ps (image same_number (replacing vs) j.context)) ≡ forget judged.context
     pub goal : forget (permute ps (image same_number (replacing vs) j.goal)) ≡ forget judged.goal
     pub unfocused : j.focus ≡ None → judged.focus ≡ None
+    pub focused : (F : Read) → j.focus ≡ Some F → (K : Read) × (judged.focus ≡ Some K) × (forget (permute ps (image same_number (replacing vs) F)) ≡ forget K)
 
   module _ (ps : List (Nominal × Nominal)) where
     abbrev here : Read → Read
@@ -50,6 +51,7 @@ module _ (D : Declarations) (vs : List StandIn) where
           context = ap (λ k. forget (here k.context)) (sym same) ∙ one.3;
           goal = ap (λ k. forget (here k.goal)) (sym same) ∙ two.3;
           unfocused = λ q. refl;
+          focused = λ F q. absurd (let bad : None ≡ Some F = ap (λ k. k.focus) same ∙ q in cc);
         }
     as_like m (spine (logical focused_judgement) (term L (term K (term H no_terms)))) B G j e s is none =
         let given : Judgement = record { sign = m; context = L; focus = Some K; goal = H } in
@@ -68,6 +70,7 @@ module _ (D : Declarations) (vs : List StandIn) where
           context = ap (λ k. forget (here k.context)) (sym same) ∙ one.3;
           goal = ap (λ k. forget (here k.goal)) (sym same) ∙ three.3;
           unfocused = λ q. absurd (let bad : Some K ≡ None = ap (λ k. k.focus) same ∙ q in cc);
+          focused = λ F q. (let there : Some K ≡ Some F = ap (λ k. k.focus) same ∙ q in let in_focus : K ≡ F = cc in (two.0, refl, ap (λ k. forget (here k)) (sym in_focus) ∙ two.3));
         }
     as_like m _ B G j e s is none = absurd (cc)
 

@@ -27,4 +27,7 @@ pub mod VariableHeads
 pub mod OpenedAlike
 pub mod Alone
 pub mod Opening
+pub mod PartsAlike
+pub mod PartAlone
+pub mod PartsUnder
 pub mod Sentences

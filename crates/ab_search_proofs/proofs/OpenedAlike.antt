@@ -60,7 +60,7 @@ module _ (sg : Signature) where
     abbrev pub Like : Read → Read → Type 0
     Like t u = forget (here t) ≡ forget u
 
-    like_shift : (t u : Read) → Like t u → Like (shift zero t) (shift zero u)
+    pub like_shift : (t u : Read) → Like t u → Like (shift zero t) (shift zero u)
     like_shift t u e =
         ap (λ k. forget (rename m k)) (sym (shift-image_by sg ℕ (List ℕ) (value_in same_number (replacing vs)) (map_typed sg same_number (replacing vs) typed) t zero))
         ∙ ap forget (rename-shift m (image same_number (replacing vs) t) zero)
@@ -68,7 +68,7 @@ module _ (sg : Signature) where
         ∙ ap (shift zero) e
         ∙ sym (translate-shift (λ k. k) (λ k. tt) u zero)
 
-    like_two : (l : Logical) (t v u w : Read) → Like t u → Like v w → Like (spine (logical l) (term t (term v no_terms))) (spine (logical l) (term u (term w no_terms)))
+    pub like_two : (l : Logical) (t v u w : Read) → Like t u → Like v w → Like (spine (logical l) (term t (term v no_terms))) (spine (logical l) (term u (term w no_terms)))
     like_two l t v u w d e = ap (λ k. spine (logical l) (term k (term (forget (here v)) no_terms))) d ∙ ap (λ k. spine (logical l) (term (forget u) (term k no_terms))) e
 
     like_before : (F L G M : Read) → Like F G → Like L M → Like (before F L) (before G M)
@@ -139,7 +139,7 @@ module _ (sg : Signature) where
       not_two k none (spine (logical l) (term t (term u (term v ts)))) V W e i = cc
       not_two k none (spine (logical l) (term t (term u no_terms))) V W e i = let same : l ≡ k = cc in none t u (subst (λ z. IsSingle (spine (logical z) (term t (term u no_terms)))) same i)
 
-      single_like : (G H : Read) → HasType sg Γ G o → Like G H → IsSingle G → IsSingle H
+      pub single_like : (G H : Read) → HasType sg Γ G o → Like G H → IsSingle G → IsSingle H
       single_like G (spine (logical (spec_universal A)) (term (lam B x h) no_terms)) d e i = not_universal G A B (forget h) d e i
       single_like G (spine (logical spec_implication) (term F (term h no_terms))) d e i = not_two spec_implication (λ t u n. n) G (forget F) (forget h) e i
       single_like G (spine (logical spec_conjunction) (term F (term h no_terms))) d e i = not_two spec_conjunction (λ t u n. n) G (forget F) (forget h) e i

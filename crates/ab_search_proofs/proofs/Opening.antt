@@ -52,7 +52,7 @@ module _ (ps : List (Nominal × Nominal)) (vs : List StandIn) where
   compound_like (spine (index i) ts) H e k = absurd (cc)
   compound_like (spine (logical l) ts) H e k = ap kind_of (begins_logical l (moved ts) H e).1
 
-  atomic_like : (G H : Read) → forget (permute ps (image same_number r G)) ≡ forget H → kind_of G ≡ atomic → kind_of H ≡ atomic
+  pub atomic_like : (G H : Read) → forget (permute ps (image same_number r G)) ≡ forget H → kind_of G ≡ atomic → kind_of H ≡ atomic
   atomic_like (lam A x t) H e k = absurd (cc)
   atomic_like (spine (logical l) ts) H e k = absurd (cc)
   atomic_like (spine (variable y) ts) H e k = absurd (cc)

@@ -19,13 +19,14 @@ ghost use Rattle.ab_formulas.specs.Forms.{truth, equal, both, either, implies, f
 ghost use Rattle.ab_formulas.specs.Marks.{erased, MarksServeIn};
 ghost use Rattle.ab_formulas.specs.GoalTerms.{HoldsOnly};
 ghost use Rattle.ab_formulas.specs.NewNames.{Label, Names};
-ghost use Rattle.ab_formulas.specs.Programs.{HavePrograms};
+ghost use Rattle.ab_formulas.specs.Programs.{HavePrograms, program_in};
 ghost use Rattle.ab_formulas.specs.Sequents.{Sequent, IsSequent, formulas};
 ghost use Rattle.ab_theory.specs.Derivations.{Derivation, IsDerivation};
 ghost use Rattle.ab_theory.specs.Atoms.{Defined};
 ghost use Rattle.ab_theory.specs.Judgements.{Judgement, as_judgement};
-ghost use Rattle.ab_theory.specs.Opening.{compound, atomic, kind_of, open_goal};
-ghost use Rattle.ab_theory.specs.SpecRules.{is_nil, some_item};
+ghost use Rattle.ab_theory.specs.Opening.{compound, atomic, kind_of, open_goal, conjunction_of};
+ghost use Rattle.ab_theory.specs.Parts.{Part, parts_of};
+ghost use Rattle.ab_theory.specs.SpecRules.{SpecRule, rules_of, is_nil, some_item};
 ghost use Rattle.ab_theory.specs.Steps.{initial, true_right, and_right, or_right, arrow_right, for_all_right, exists_right, nabla_right, equal_right, definition_right};
 ghost use Rattle.ab_search_trees.specs.Guesses.{a_variable};
 ghost use Rattle.ab_search_proofs.specs.Likeness.{StandIn, replaced, IsLikeGoal, AreLike};
@@ -91,6 +92,13 @@ pub fn rules_of_goals_and_lists_are_solved()
         j.focus ≡ None → kind_of j.goal ≡ compound → IsByRule D ys C [] (open_goal (mark_above j.sign) j.context j.goal) }
     ensures listing { (D : Declarations) → HasMember (signature_in D) → (ys : List (Variable ℕ)) (C : Read) → IsFormula (signature_in D) C → HoldsOnly ys C → (j : Judgement) → as_judgement C ≡ Some j → MayBeUnfolded j.sign →
         j.focus ≡ None → kind_of j.goal ≡ atomic → is_nil j.context ≡ false → IsByRule D ys C [] (some_item (mark_above j.sign) j.context j.goal) }
+{}
+
+/// A part of the formula in focus that has no names is solved everywhere, where its atom is the goal: what is left are its goals, opened.
+pub fn parts_without_names_are_solved()
+    ensures { (D : Declarations) → HasMember (signature_in D) → (ys : List (Variable ℕ)) (C : Read) → IsFormula (signature_in D) C → HoldsOnly ys C → (j : Judgement) → as_judgement C ≡ Some j → MayBeUnfolded j.sign →
+        (F : Read) → j.focus ≡ Some F → (rs : List SpecRule) → rules_of (program_in D) j ≡ Some rs → (p : Part) → Contains (parts_of F) p → p.names ≡ [] → EqualPastHints p.atom j.goal →
+        IsByRule D ys C [] (conjunction_of (map (open_goal (mark_above j.sign) j.context) p.goals)) }
 {}
 
 /// WHERE A SEARCH BEGINS: a sequent is like the goal that it is itself, each of its variables standing in for itself.
