@@ -1,0 +1,114 @@
+-- EACH TEXT HAS A REPORT, or it is cut short.
+use Rattle.std.proofs.Common.{◌≡◌, ◌⊎◌, inl, inr, ℕ, Bool, true, false, List, [], ◌∷◌, ◌++◌, refl, ap}
+use Rattle.ab_lex.specs.declared.TheConstants.{COMMAND_LIMIT}
+use Rattle.ab_lex.specs.Commands.{Item, command, long}
+use Rattle.ab_lex.proofs.Cuts.{items_there}
+use Rattle.ab_sigmod.specs.FileLoads.{FilesSeen, Load, AreLoads, no_load}
+use Rattle.ab_sigmod.proofs.Appending.{loads_on}
+use Rattle.ab_declare.specs.declared.refusal.Refusal.TheVariants.{TooLong}
+use Rattle.ab_states.specs.State.{State, empty}
+use Rattle.ab_states.specs.Reply.{refused}
+use Rattle.ab_states.specs.Replay.{IsReplayed, none}
+use Rattle.ab_states.proofs.Replaying.{replays_on}
+use Rattle.ab_determinism.specs.Sound.{IsSound}
+use Rattle.ab_determinism.proofs.Sound.{sound_beginning}
+use Rattle.ab_determinism.proofs.Taking.{sound_effect}
+use Rattle.ab_existence.specs.Certainty.{IsCertain}
+use Rattle.ab_existence.proofs.Certain.{sure, and_so, and_also, there_or_not}
+use Rattle.ab_effect_answers.specs.WholeStates.{HasGoals}
+use Rattle.ab_effect_answers.specs.SomeEffects.{CommandFindsNames, HasSomeEffect}
+use Rattle.ab_effect_answers.proofs.Effects.{effect_answered}
+use Rattle.ab_run.specs.declared.way.Way.{Way}
+use Rattle.ab_run.specs.ProvedTheorems.{IsBorneOut}
+use Rattle.ab_run.specs.Report as run
+use Rattle.ab_run.specs.Report.{Moment, Report, Replies, to_command, to_long, Reports, next, last, is_end}
+use Rattle.ab_report_answers.specs.SomeReports.{HasReport, CutsShort, no_sequent, names_run_out, not_borne_out, StopsShort, IsCutShort}
+
+-- what is true of every state of a run
+pub record IsReached (s : State) : Type 0 where
+  pub sound : IsSound s
+  pub replayed : IsReplayed s
+
+module _ (way : Way) where
+  -- the items have a report from this state on
+  pub record AreReported (s : State) (items : List Item) (before : FilesSeen) : Type 0 where
+    pub loads : List Load
+    pub after : FilesSeen
+    pub asked : AreLoads before loads after
+    pub report : Report
+    pub reports : Reports way s items loads report
+
+  abbrev Answer : State → List Item → FilesSeen → Type 0
+  Answer s items before = AreReported s items before ⊎ StopsShort way s items before
+
+  -- one item more in front
+  module _ (s : State) (i : Item) (items : List Item) (before after : FilesSeen) (loads : List Load) (asked : AreLoads before loads after) (m : Moment) (replies : Replies s i loads m) where
+    in_front : is_end way m.reply ≡ false → Answer m.state items after → Answer s (i ∷ items) before
+    in_front on (inl r) = inl (record { loads = loads ++ r.loads; after = r.after; asked = loads_on asked r.asked; report = m ∷ r.report; reports = next m replies on r.reports })
+    in_front on (inr c) = inr (record {
+      answered = i ∷ c.answered;
+      bytes = c.bytes;
+      others = c.others;
+      items_are = ap (λ (is : List Item). i ∷ is) c.items_are;
+      loads = loads ++ c.loads;
+      after = c.after;
+      asked = loads_on asked c.asked;
+      report = m ∷ c.report;
+      reports = next m replies on c.reports;
+      goes_on = rw on c.goes_on;
+      cuts = c.cuts;
+    })
+
+    at_end : is_end way m.reply ≡ true → Answer s (i ∷ items) before
+    at_end ends = inl (record { loads = loads; after = after; asked = asked; report = m ∷ []; reports = last m replies ends })
+
+    by_end : (b : Bool) → is_end way m.reply ≡ b → IsCertain (Answer m.state items after) → IsCertain (Answer s (i ∷ items) before)
+    by_end true ends rest = sure (at_end ends)
+    by_end false on rest = and_also rest (in_front on)
+
+  -- the next command cuts it short
+  cut_here : (s : State) (bytes : List ℕ) (items : List Item) (before : FilesSeen) → CutsShort s bytes → Answer s (command bytes ∷ items) before
+  cut_here s bytes items before cuts =
+      inr (record { answered = []; bytes = bytes; others = items; items_are = refl; loads = []; after = before; asked = no_load; report = []; reports = run.none; goes_on = refl; cuts = cuts })
+
+  module _ (s : State) (bytes : List ℕ) (items : List Item) (before : FilesSeen) (reached : IsReached s) (on : (t : State) (after : FilesSeen) → IsReached t → IsCertain (Answer t items after)) where
+    by_effect : HasSomeEffect before s bytes → IsCertain (Answer s (command bytes ∷ items) before)
+    by_effect (after, reply, t, e) =
+        and_so (there_or_not (IsBorneOut reply t))
+        (λ some. elim some [
+          | inl borne ↦ (let m : Moment = record { reply = reply; state = t } in
+              by_end s (command bytes) items before after e.loads e.asked m (to_command m e.effect borne) (is_end way reply) refl
+              (on t after (record { sound = sound_effect e.effect reached.sound; replayed = replays_on e.effect reached.replayed })))
+          | inr isnt ↦ sure (cut_here s bytes items before (not_borne_out e.effect isnt))
+        ])
+
+    command_reported : IsCertain (Answer s (command bytes ∷ items) before)
+    command_reported =
+        and_so (there_or_not (HasGoals s.declarations s.attempt))
+        (λ some. elim some [
+          | inl goals ↦ and_so (there_or_not (CommandFindsNames s bytes))
+              (λ found. elim found [
+                | inl names ↦ and_so (effect_answered before s bytes (record { definitions = reached.sound.declarations.definitions; replayed = reached.replayed; goals = goals }) names) by_effect
+                | inr isnt ↦ sure (cut_here s bytes items before (names_run_out isnt))
+              ])
+          | inr isnt ↦ sure (cut_here s bytes items before (no_sequent isnt))
+        ])
+
+  long_reported : (s : State) (items : List Item) (before : FilesSeen) → IsCertain (Answer s items before) → IsCertain (Answer s (long ∷ items) before)
+  long_reported s items before rest =
+      let m : Moment = record { reply = refused TooLong; state = s } in
+      by_end s long items before before [] no_load m (to_long m refl refl) (is_end way (refused TooLong)) refl rest
+
+  items_reported : (items : List Item) (s : State) (before : FilesSeen) → IsReached s → IsCertain (Answer s items before)
+  items_reported [] s before reached = sure (inl (record { loads = []; after = before; asked = no_load; report = []; reports = run.none }))
+  items_reported (command bytes ∷ items) s before reached = command_reported s bytes items before reached (λ t after there. items_reported items t after there)
+  items_reported (long ∷ items) s before reached = long_reported s items before (items_reported items s before reached)
+
+  pub text_reported : (text : List ℕ) (before : FilesSeen) → IsCertain (HasReport way text before ⊎ IsCutShort way text before)
+  text_reported text before =
+      let items = items_there COMMAND_LIMIT text in
+      and_also (items_reported items.0 empty before (record { sound = sound_beginning; replayed = none }))
+      (λ a. elim a [
+        | inl r ↦ inl (r.loads, r.after, r.asked, r.report, record { items = items.0; items_are = items.1; reports = r.reports })
+        | inr c ↦ inr (items.0, items.1, c)
+      ])
