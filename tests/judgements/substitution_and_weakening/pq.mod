@@ -1,0 +1,1 @@
+module pq. q X :- p X.

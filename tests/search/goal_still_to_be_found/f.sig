@@ -1,0 +1,1 @@
+sig f. type a o.

@@ -1,0 +1,1 @@
+module loop. accumulate loop.
