@@ -40,7 +40,7 @@ module _ (sg : Signature) {Hint : Type 0} where
         ∙ ap (λ z. substitute b.type w zero (substitute A z (suc (0 + length Es)) X)) (unmoved u u_typed zero)
         ∙ ap (λ n. substitute b.type w zero (substitute A u (suc n) X)) long
 
-    closed-substitute : (Es : List Ty) (bs : List (Cell Hint)) (vs : List (Option (Term ℕ Hint))) (M : Term ℕ Hint) → AllTyped sg prop bs vs → HasType sg (context_of bs (Es ++ A ∷ G)) M prop
+    pub closed-substitute : (Es : List Ty) (bs : List (Cell Hint)) (vs : List (Option (Term ℕ Hint))) (M : Term ℕ Hint) → AllTyped sg prop bs vs → HasType sg (context_of bs (Es ++ A ∷ G)) M prop
         → substitute A u (length Es) (closed_with bs vs M) ≡ closed_with bs vs (substitute A u (length bs + length Es) M)
     closed-substitute Es [] [] M d e = ap (λ n. substitute A u n M) (let long : length Es ≡ 0 + length Es = omega arith in long)
     closed-substitute Es [] (v ∷ vs) M d e = absurd d
@@ -49,7 +49,7 @@ module _ (sg : Signature) {Hint : Type 0} where
         past_one Es b v bs vs (closed_with bs vs M) d (closed_with_typed sg {G = b.type ∷ (Es ++ A ∷ G)} bs vs M d.1 e)
         ∙ ap (put_or closing b v) (closed-substitute (b.type ∷ Es) bs vs M d.1 e ∙ ap (λ n. closed_with bs vs (substitute A u n M)) (let long : length bs + suc (length Es) ≡ suc (length bs) + length Es = omega arith in long))
 
-  inserted_in : (A : Ty) (bs : List (Cell Hint)) (j : ℕ) (G H : List Ty) → Insert j A G H → Insert (length bs + j) A (context_of bs G) (context_of bs H)
+  pub inserted_in : (A : Ty) (bs : List (Cell Hint)) (j : ℕ) (G H : List Ty) → Insert j A G H → Insert (length bs + j) A (context_of bs G) (context_of bs H)
   inserted_in A [] j G H p = subst (λ n. Insert n A G H) (let long : j ≡ 0 + j = omega arith in long) p
   inserted_in A (b ∷ bs) j G H p = subst (λ n. Insert n A (context_of bs (b.type ∷ G)) (context_of bs (b.type ∷ H))) (let long : length bs + suc j ≡ suc (length bs) + j = omega arith in long) (inserted_in A bs (suc j) (b.type ∷ G) (b.type ∷ H) (there p))
 

@@ -7,7 +7,7 @@ use Rattle.ab_formulas.specs.Declarations.{Declarations, HaveDefinitions}
 use Rattle.ab_search_trees.specs.Goals.{Goal}
 use Rattle.ab_search_trees.specs.Ways.{by_choice}
 use Rattle.ab_search_clauses.proofs.OnPath.{terms, gives, leaves}
-use Rattle.ab_search_answers.specs.Below.{in_the_end, ClauseEvidence}
+use Rattle.ab_search_answers.proofs.Below.{in_the_end, ClauseEvidence}
 
 pub clause_evidence : (D : Declarations) → HaveDefinitions D → ClauseEvidence D
 clause_evidence D defs now last g depth d c ys more q n is may there taken =

@@ -15,7 +15,6 @@ use Rattle.ab_term.specs.Terms.{constant, logical, index, lam, spine, no_terms, 
 use Rattle.ab_term.specs.Variables.{Substitution, value_in, image, IsTyped}
 use Rattle.ab_term.specs.Sameness.{same_number}
 use Rattle.ab_term.proofs.Lists.{Contains-none, Contains-cases, Contains-from_map}
-use Rattle.ab_unifiers.specs.Replacements.{Cell}
 use Rattle.ab_unifiers.specs.Clauses.{Clause}
 use Rattle.ab_unifiers.specs.Member.{HasMember, in_the_list}
 use Rattle.ab_formulas.specs.Declarations.{Declarations, signature_in}
@@ -29,8 +28,9 @@ use Rattle.ab_search_trees.specs.Ways.{unfolds, demanded}
 use Rattle.ab_search_clauses.proofs.ByList.{judged_under, judgement_image, listed_so, list_evidence}
 use Rattle.ab_search_judgements.proofs.RulePath.{terms, gives}
 use Rattle.ab_search_layers.specs.Layered.{Layered, it_stays, it_opens, by_rule as layered_rule, by_empty_list as layered_empty}
-use Rattle.ab_search_answers.proofs.ByParts.{nameless_evidence}
-use Rattle.ab_search_answers.specs.Below.{in_the_end, EvidenceFor, NamedPartEvidence}
+use Rattle.ab_search_answers.proofs.NamedParts as named
+use Rattle.ab_search_answers.proofs.PartWherever as wherever
+use Rattle.ab_search_answers.proofs.Below.{in_the_end, EvidenceFor}
 
 -- BY A CLAUSE of the program
 pub by_clause_evidence : (D : Declarations) → HavePrograms D → HasMember (signature_in D) → (c : Clause (List ℕ)) → EvidenceFor D (by_clause c)
@@ -112,16 +112,15 @@ module _ (D : Declarations) (j : Judgement) where
       go (Some F) undetermined m = Contains-none by_opening m
 
 -- BY A PART of the formula in focus, with names or without
-part_evidence : (D : Declarations) → HavePrograms D → HasMember (signature_in D) → NamedPartEvidence D → (p : Part) → EvidenceFor D (by_part p)
-part_evidence D program has parts p = go p.names refl
-  where
-    go : (cs : List (Cell (List ℕ))) → p.names ≡ cs → EvidenceFor D (by_part p)
-    go [] e = nameless_evidence D program has p e
-    go (c ∷ cs) e = parts p (λ k. let bad : c ∷ cs ≡ [] = sym e ∙ k in cc)
+part_evidence : (D : Declarations) → HavePrograms D → HasMember (signature_in D) → (p : Part) → EvidenceFor D (by_part p)
+part_evidence D program has p now last g depth j ys Hs more q n is plainly there taken whole shown =
+    layered_rule (wherever.us D program has p now last g depth j ys more q n is plainly there taken) (named.left D program has p now last g depth j ys more q n is plainly there taken)
+    (image same_number (in_the_end last q n) (demanded (length now.cells) j (by_part p)).body) whole
+    (wherever.part_rule D program has p now last g depth j ys more q n is plainly there taken) (named.gives D program has p now last g depth j ys more q n is plainly there taken) shown
 
 -- EACH RULE
-pub rule_evidence : (D : Declarations) → HavePrograms D → HasMember (signature_in D) → NamedPartEvidence D → (s : SpecRule) → EvidenceFor D s
-rule_evidence D program has parts (by_clause c) = by_clause_evidence D program has c
-rule_evidence D program has parts (by_part p) = part_evidence D program has parts p
-rule_evidence D program has parts by_list = by_list_evidence D has
-rule_evidence D program has parts by_opening = λ now last g depth j ys Hs more q n is plainly there taken whole shown. absurd (no_opening D j there)
+pub rule_evidence : (D : Declarations) → HavePrograms D → HasMember (signature_in D) → (s : SpecRule) → EvidenceFor D s
+rule_evidence D program has (by_clause c) = by_clause_evidence D program has c
+rule_evidence D program has (by_part p) = part_evidence D program has p
+rule_evidence D program has by_list = by_list_evidence D has
+rule_evidence D program has by_opening = λ now last g depth j ys Hs more q n is plainly there taken whole shown. absurd (no_opening D j there)

@@ -25,7 +25,6 @@ use Rattle.ab_search_proofs.specs.Whole.{itself, themselves, IsWhole}
 use Rattle.ab_search_proofs.proofs.Begins.{begins}
 use Rattle.ab_search_layers.specs.Layered.{MemberIsDefined, it_stays, it_opens, Layered}
 use Rattle.ab_search_layers.proofs.Layers.{derived}
-use Rattle.ab_search_answers.specs.Below.{NamedPartEvidence}
 use Rattle.ab_search_answers.specs.Unmarked.{HasNoHash, HaveNoHash}
 use Rattle.ab_search_answers.proofs.Filled.{filled_constants, filled_differ}
 use Rattle.ab_search_answers.proofs.Queries.{IsTold, query_answer}
@@ -43,19 +42,19 @@ module _ (D : Declarations) (sentences : HaveSentences D) (defs : HaveDefinition
       let own = subst (λ ys. Layered D ys (formulas s.hypotheses) s.conclusion) (sym (own_stand_ins s.variables)) p in
       derived D sentences defs program has defined (map replaced (themselves s)) (formulas s.hypotheses) s.conclusion own s.conclusion (it_opens it_stays) (themselves s) refl s is (begins D s is)
 
-  pub closed_derived : HaveNoHash D → NamedPartEvidence D → (cells : List (Cell (List ℕ))) (depth : ℕ) (s : Sequent) → IsSequent D s → AreCells cells s → HasNoHash s.conclusion → (ls : List Leaf) → Searched D cells depth s ls → outcome_of ls ≡ closed → (d : Derivation) × IsWhole D s d
-  closed_derived none rules cells depth s is are unmarked ls l e =
+  pub closed_derived : HaveNoHash D → (cells : List (Cell (List ℕ))) (depth : ℕ) (s : Sequent) → IsSequent D s → AreCells cells s → HasNoHash s.conclusion → (ls : List Leaf) → Searched D cells depth s ls → outcome_of ls ≡ closed → (d : Derivation) × IsWhole D s d
+  closed_derived none cells depth s is are unmarked ls l e =
       let f = closed_found ls e in
-      proved_derived s is (answer_layered D cells depth s is are unmarked defs program has none rules ls l f.0 f.1)
+      proved_derived s is (answer_layered D cells depth s is are unmarked defs program has none ls l f.0 f.1)
 
   -- what an answer of a query prints, asked by itself
-  module _ (none : HaveNoHash D) (rules : NamedPartEvidence D) (cells : List (Cell (List ℕ))) (depth : ℕ) (s : Sequent) (is : IsSequent D s) (are : AreCells cells s) (unmarked : HasNoHash s.conclusion) (no_formulas : formulas s.hypotheses ≡ []) (no_names : goal_names s ≡ []) (E : Read) (asks : Asks (length cells) s.conclusion E)
+  module _ (none : HaveNoHash D) (cells : List (Cell (List ℕ))) (depth : ℕ) (s : Sequent) (is : IsSequent D s) (are : AreCells cells s) (unmarked : HasNoHash s.conclusion) (no_formulas : formulas s.hypotheses ≡ []) (no_names : goal_names s ≡ []) (E : Read) (asks : Asks (length cells) s.conclusion E)
       (ls : List Leaf) (searched : Searched D cells depth s ls) (last : Now) (there : Contains ls (found last)) where
     abbrev printed : Read
     printed = image same_number (whole_answer last) E
 
     told : IsTold D (map in_terms s.variables) last (image same_number (whole_answer last) E)
-    told = query_answer D defs program has none rules cells depth s is are unmarked no_formulas no_names E asks ls searched last there
+    told = query_answer D defs program has none cells depth s is are unmarked no_formulas no_names E asks ls searched last there
 
     pub printed_sequent : IsSequent D (proving (image same_number (whole_answer last) E) s)
     printed_sequent = record {

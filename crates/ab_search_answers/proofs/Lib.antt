@@ -1,4 +1,5 @@
 pub mod Alone
+pub mod Below
 pub mod Filled
 pub mod Final
 pub mod Under
@@ -16,3 +17,14 @@ pub mod Rooted
 pub mod Queries
 pub mod Derived
 pub mod WaysUnmarked
+pub mod Given
+pub mod NamedParts
+pub mod NamesThere
+pub mod Texts
+pub mod Through
+pub mod OpenRows
+pub mod PartMatched
+pub mod PartDemand
+pub mod PartEnd
+pub mod PartWherever
+pub mod TextClauses

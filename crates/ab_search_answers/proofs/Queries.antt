@@ -41,7 +41,7 @@ use Rattle.ab_search_trees.proofs.Shows.{IsFine}
 use Rattle.ab_search_trees.proofs.ShowsMore.{term_fine}
 use Rattle.ab_search_trees.proofs.ShowsRest.{ways_fine}
 use Rattle.ab_search_layers.specs.Layered.{Layered}
-use Rattle.ab_search_answers.specs.Below.{and_filled, NamedPartEvidence}
+use Rattle.ab_search_answers.proofs.Below.{and_filled}
 use Rattle.ab_search_answers.specs.Unmarked.{HasNoHash, HaveNoHash}
 use Rattle.ab_search_answers.proofs.ByClauses.{clause_evidence}
 use Rattle.ab_search_answers.proofs.ByRules.{rule_evidence}
@@ -60,7 +60,7 @@ pub record IsTold (D : Declarations) (own : List (Variable ℕ)) (last : Now) (F
   pub fillings : (a : Nominal) → Contains (support F) a → Contains (filled_constants last.held last.flexible) a
   pub proved : Layered D own [] F
 
-module _ (D : Declarations) (defs : HaveDefinitions D) (program : HavePrograms D) (has : HasMember (signature_in D)) (none : HaveNoHash D) (rules : NamedPartEvidence D) (own : List (Variable ℕ)) where
+module _ (D : Declarations) (defs : HaveDefinitions D) (program : HavePrograms D) (has : HasMember (signature_in D)) (none : HaveNoHash D) (own : List (Variable ℕ)) where
   abbrev sg : Signature
   sg = signature_in D
 
@@ -162,7 +162,7 @@ module _ (D : Declarations) (defs : HaveDefinitions D) (program : HavePrograms D
 
   pub query_layered : (n : ℕ) (C E : Read) → Asks n C E → Next n C E
   query_layered n C E asks_all cells long ys held depth u layers S f t k ls l last m =
-      let leads = answers_lead D (λ now g f t. ways_fine D defs program now f g t has) (λ now S g ys f t k. ways_safe D defs program has none (clause_evidence D defs) (rule_evidence D program has rules) now S f g ys t k (ways_fine D defs program now f g t has)) S (own ∷ []) l f (λ k d l. absurd (omega (arith, l))) (t, tt) (k, tt) last m in
+      let leads = answers_lead D (λ now g f t. ways_fine D defs program now f g t has) (λ now S g ys f t k. ways_safe D defs program has none (clause_evidence D defs) (rule_evidence D program has) now S f g ys t k (ways_fine D defs program now f g t has)) S (own ∷ []) l f (λ k d l. absurd (omega (arith, l))) (t, tt) (k, tt) last m in
       subst (IsTold D own last) (ap (image same_number (and_filled last leads.put)) (sym (image_none C)) ∙ sym (leads.whole [] C _ t.conclusion.formula.typed)) (told_at (at cells ys held) last S C depth u layers t k leads)
   query_layered n C E (asks_for {A = A} {F = F} asks) cells long ys held depth u layers S f t k ls (a_goal {ls = ms} p) last m = elim (contains_split ms [] (found last) m) [
     | inl c ↦ by_depth A F E n (λ cells long ys held depth u layers S f t k ls l last m. query_layered (suc n) (instance F (a_variable n [] A)) E asks cells long ys held depth u layers S f t k ls l last m) cells long ys held u layers S f depth t k ms p last c
@@ -170,14 +170,14 @@ module _ (D : Declarations) (defs : HaveDefinitions D) (program : HavePrograms D
   ]
 
 -- of a sequent without hypotheses and constants
-pub query_answer : (D : Declarations) (defs : HaveDefinitions D) (program : HavePrograms D) (has : HasMember (signature_in D)) (none : HaveNoHash D) (rules : NamedPartEvidence D) (cells : List (Cell (List ℕ))) (depth : ℕ) (s : Sequent) → IsSequent D s → AreCells cells s → HasNoHash s.conclusion → formulas s.hypotheses ≡ [] → goal_names s ≡ []
+pub query_answer : (D : Declarations) (defs : HaveDefinitions D) (program : HavePrograms D) (has : HasMember (signature_in D)) (none : HaveNoHash D) (cells : List (Cell (List ℕ))) (depth : ℕ) (s : Sequent) → IsSequent D s → AreCells cells s → HasNoHash s.conclusion → formulas s.hypotheses ≡ [] → goal_names s ≡ []
     → (E : Read) → Asks (length cells) s.conclusion E → (ls : List Leaf) → Searched D cells depth s ls → (last : Now) → Contains ls (found last) → IsTold D (map in_terms s.variables) last (image same_number (whole_answer last) E)
-query_answer D defs program has none rules cells depth s is are unmarked none_given none_named E asks ls l last m =
+query_answer D defs program has none cells depth s is are unmarked none_given none_named E asks ls l last m =
     let own = map in_terms s.variables in
     let now = beginning cells s in
     let no_names : in_order (goal_names s) ≡ [] = ap in_order none_named in
     let S : Scopes = λ y. [] in
-    query_layered D defs program has none rules own (length cells) s.conclusion E asks cells refl [] (in_order (goal_names s)) depth true most_layers S (λ y h. absurd (false≢true h))
+    query_layered D defs program has none own (length cells) s.conclusion E asks cells refl [] (in_order (goal_names s)) depth true most_layers S (λ y h. absurd (false≢true h))
     (subst (λ ns. IsTask (signature_in D) now (goal [] ns)) no_names (subst (λ Hs. IsTask (signature_in D) now (goal Hs (in_order (goal_names s)))) none_given (task D cells depth s is are)))
     (subst (λ ns. IsScoped now S (goal [] ns) own) no_names (subst (λ Hs. IsScoped now S (goal Hs (in_order (goal_names s))) own) none_given (root_scoped D cells depth s is are unmarked)))
     ls (subst (λ ns. Leaves D now (goal [] ns ∷ []) ls) no_names (subst (λ Hs. Leaves D now (goal Hs (in_order (goal_names s)) ∷ []) ls) none_given l)) last m

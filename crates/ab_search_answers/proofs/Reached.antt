@@ -46,7 +46,7 @@ use Rattle.ab_search_answers.proofs.Filled.{filling_typed, filling_keys, filled_
 use Rattle.ab_search_answers.proofs.Final.{Scopes, from_on, scope_before, scope_from, IsFinal, final_scope}
 use Rattle.ab_search_answers.proofs.Under.{final_under}
 use Rattle.ab_search_answers.proofs.Scoped.{IsScoped, AllScoped, each_in, all_scoped_both, in_grown, all_scoped_grown, all_scoped_under}
-use Rattle.ab_search_answers.specs.Below.{and_filled, in_the_end, IsBelow, IsTaken}
+use Rattle.ab_search_answers.proofs.Below.{and_filled, in_the_end, IsBelow, IsTaken}
 use Rattle.ab_search_answers.proofs.Safe.{amid_way, IsSafe, EachSafe}
 
 grows_longer : (cells more : List (Cell (List ℕ))) → Grows cells more → length cells ≤ length more

@@ -28,7 +28,7 @@ use Rattle.ab_search_layers.specs.Layered.{Layered}
 use Rattle.ab_search_answers.proofs.Final.{Scopes, InScope, IsFinal}
 use Rattle.ab_search_answers.proofs.Scoped.{IsScoped, part_there}
 use Rattle.ab_search_answers.specs.Unmarked.{HasNoHash, HaveNoHash}
-use Rattle.ab_search_answers.specs.Below.{and_filled, NamedPartEvidence}
+use Rattle.ab_search_answers.proofs.Below.{and_filled}
 use Rattle.ab_search_answers.proofs.SafeRest.{ways_safe}
 use Rattle.ab_search_answers.proofs.ByClauses.{clause_evidence}
 use Rattle.ab_search_answers.proofs.ByRules.{rule_evidence}
@@ -72,10 +72,10 @@ module _ (D : Declarations) (cells : List (Cell (List ℕ))) (depth : ℕ) (s : 
   all_stay r final (t ∷ ts) over = ap (λ k. k ∷ map (image same_number r) ts) (stays r final t (over t (Contains-here t ts))) ∙ ap (λ k. t ∷ k) (all_stay r final ts (λ v m. over v (Contains-there t ts v m)))
 
   -- THE SEQUENT IS PROVED by whatever answer is among the leaves
-  pub answer_layered : HaveDefinitions D → HavePrograms D → HasMember (signature_in D) → HaveNoHash D → NamedPartEvidence D → (ls : List Leaf) → Searched D cells depth s ls → (last : Now) → Contains ls (found last) → Layered D own (formulas s.hypotheses) s.conclusion
-  answer_layered defs program has none_there rules ls l last m =
+  pub answer_layered : HaveDefinitions D → HavePrograms D → HasMember (signature_in D) → HaveNoHash D → (ls : List Leaf) → Searched D cells depth s ls → (last : Now) → Contains ls (found last) → Layered D own (formulas s.hypotheses) s.conclusion
+  answer_layered defs program has none_there ls l last m =
       let t : IsTask (signature_in D) now g = task D cells depth s is are in
-      let leads = answers_lead D (λ now g f t. ways_fine D defs program now f g t has) (λ now S g ys f t k. ways_safe D defs program has none_there (clause_evidence D defs) (rule_evidence D program has rules) now S f g ys t k (ways_fine D defs program now f g t has)) none (own ∷ []) l
+      let leads = answers_lead D (λ now g f t. ways_fine D defs program now f g t has) (λ now S g ys f t k. ways_safe D defs program has none_there (clause_evidence D defs) (rule_evidence D program has) now S f g ys t k (ways_fine D defs program now f g t has)) none (own ∷ []) l
       (λ y h. absurd (false≢true h)) (λ k d l. absurd (omega (arith, l))) (t, tt) (root_scoped, tt) last m in
       let r = and_filled last leads.put in
       subst (λ Hs. Layered D own Hs s.conclusion) (all_stay r leads.final (formulas s.hypotheses) (λ H i. (part_there (signature_in D) now g.constants g.untouched g.hypotheses t.hypotheses H i).facts.over))

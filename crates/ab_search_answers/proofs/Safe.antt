@@ -44,7 +44,7 @@ use Rattle.ab_search_layers.specs.Layered.{Layered, by_truth as layered_truth, b
 use Rattle.ab_search_answers.proofs.Final.{Scopes, from_on, InScope, IsFinal}
 use Rattle.ab_search_answers.proofs.Under.{BothIn}
 use Rattle.ab_search_answers.proofs.Scoped.{IsScoped, part_there, in_grown, scoped_grown}
-use Rattle.ab_search_answers.specs.Below.{in_the_end, IsTaken}
+use Rattle.ab_search_answers.proofs.Below.{in_the_end, IsTaken}
 use Rattle.ab_search_answers.specs.Unmarked.{HasNoHash}
 use Rattle.ab_search_answers.proofs.Inside.{Inside, sides_inside, map_there}
 use Rattle.ab_search_answers.proofs.Signs.{PartsNone, parts_none}

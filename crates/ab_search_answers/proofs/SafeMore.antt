@@ -40,7 +40,7 @@ use Rattle.ab_search_layers.specs.Layered.{Layered, by_constant as layered_const
 use Rattle.ab_search_answers.proofs.Filled.{name_typed, name_without}
 use Rattle.ab_search_answers.proofs.Final.{Scopes, IsIn, InScope, scope_from, IsFinal, final_scope, final_clear}
 use Rattle.ab_search_answers.proofs.Scoped.{IsScoped, part_there, in_grown, scoped_grown}
-use Rattle.ab_search_answers.specs.Below.{in_the_end}
+use Rattle.ab_search_answers.proofs.Below.{in_the_end}
 use Rattle.ab_search_answers.proofs.Inside.{placed_more}
 use Rattle.ab_search_answers.proofs.Signs.{instance_none}
 use Rattle.ab_search_answers.proofs.Safe.{of_one, IsSafe, T, inside_scope, whole_scope, parts_at, none_at, inside}

@@ -57,7 +57,7 @@ use Rattle.ab_search_layers.specs.Layered.{Layered, by_layer as layered_layer, b
 use Rattle.ab_search_answers.proofs.Final.{Scopes, IsIn, scope_from, IsFinal}
 use Rattle.ab_search_answers.proofs.Under.{BothIn}
 use Rattle.ab_search_answers.proofs.Scoped.{IsScoped, in_grown, scoped_grown}
-use Rattle.ab_search_answers.specs.Below.{in_the_end, atom_under, ClauseEvidence, EvidenceFor}
+use Rattle.ab_search_answers.proofs.Below.{in_the_end, atom_under, ClauseEvidence, EvidenceFor}
 use Rattle.ab_search_answers.proofs.Inside.{opened_inside, arguments_inside, taken_more}
 use Rattle.ab_search_answers.specs.Unmarked.{HasNoHash, HaveNoHash}
 use Rattle.ab_search_answers.proofs.Signs.{image_none as image_none_marked, opened_none, marked_none, choice_none, demand_none, unmarked_judgement}

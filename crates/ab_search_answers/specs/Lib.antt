@@ -1,5 +1,5 @@
--- FROM AN ANSWER OF THE TREE, with what it leaves open filled, to a proof of the search.
--- What is put in below a place, down to an answer; and the evidence that clauses and rules ask for.
-pub mod Below
+-- What is asked of formulas and of declarations, so that an answer of the search tree is a proof.
 -- Formulas without judgements that coinduction marked.
 pub mod Unmarked
+-- Clauses whose bodies come from texts.
+pub mod FromTexts

@@ -1,5 +1,5 @@
 -- EVIDENCE FOR A CLAUSE: it gives the atom at last, and is solved wherever the atom comes to stand.
-use Rattle.std.proofs.Common.{◌≡◌, ◌≢◌, inl, inr, ℕ, ◌+◌, List, [], ◌∷◌, ◌++◌, map, length, codes, not, true, false, Some, None, refl, sym, ◌∙◌, ap, subst, arith}
+use Rattle.std.proofs.Common.{◌≡◌, ◌≢◌, inl, inr, ℕ, ◌+◌, List, [], ◌∷◌, ◌++◌, map, length, codes, not, true, false, Some, refl, sym, ◌∙◌, ap, subst, arith}
 use Rattle.std.specs.Prelude.{All, Contains}
 use Rattle.std.proofs.lemmas.Bool.{false_from_ne_true}
 use Rattle.std.proofs.lemmas.List.Elements.{All-contains}
@@ -15,7 +15,6 @@ use Rattle.ab_term.proofs.Compositions.{image_typed}
 use Rattle.ab_term.proofs.Lists.{Contains-none, Contains-cases, Contains-map, Contains-from_map, All-from_contains}
 use Rattle.ab_term.proofs.Permutations.{one_to_one}
 use Rattle.ab_term.proofs.Renamings.{support-rename, rename_typed}
-use Rattle.ab_term.proofs.Stands.{variables-image}
 use Rattle.ab_term.proofs.Translations.{translate-rename}
 use Rattle.ab_unifiers.specs.Replacements.{Cell, holds}
 use Rattle.ab_unifiers.specs.Unification.{unified, Solves}
@@ -48,13 +47,11 @@ use Rattle.ab_search_trees.specs.Ways.{unfolds, with_constants, by_choice}
 use Rattle.ab_search_trees.proofs.Carried.{AreFlexible}
 use Rattle.ab_search_trees.proofs.Exact.{marked_image}
 use Rattle.ab_search_trees.proofs.Facts.{IsTask}
-use Rattle.ab_search_trees.proofs.Unmarked.{variables_rename}
-use Rattle.ab_search_proofs.specs.Likeness.{StandIn, replaced, put_in, replacing, AreStandIns, IsLike}
+use Rattle.ab_search_proofs.specs.Likeness.{StandIn, replaced, replacing, AreStandIns, IsLike}
 use Rattle.ab_search_proofs.specs.Proved.{IsSolved, IsSolvedWherever, IsByClause, body_by}
 use Rattle.ab_search_proofs.proofs.AtomsAlike.{AtomLike, atom_like}
-use Rattle.ab_search_proofs.proofs.Back.{found_in}
 use Rattle.ab_search_proofs.proofs.Extending.{sent_once}
-use Rattle.ab_search_proofs.proofs.StandIns.{stand_ins_typed, stand_ins_nameless, stand_ins_known, under_support}
+use Rattle.ab_search_proofs.proofs.StandIns.{stand_ins_typed, stand_ins_nameless, under_support}
 use Rattle.ab_search_clauses.specs.Paths.{at_last, atom_at_last, terms_at_last, IsAtLast}
 use Rattle.ab_search_clauses.proofs.Atoms.{IsChoice, is_choice, may_unfold, mark_under, unmarked_same, atom_image}
 use Rattle.ab_search_clauses.proofs.MarksMoved.{marked_moved}
@@ -65,6 +62,7 @@ use Rattle.ab_search_clauses.proofs.There as there_is
 use Rattle.ab_search_clauses.proofs.Wherever.{unified_there}
 use Rattle.ab_search_clauses.proofs.Along as along
 use Rattle.ab_search_clauses.proofs.Along.{each_unmapped}
+use Rattle.ab_search_clauses.proofs.AtPlace.{stood_known}
 
 module _ (D : Declarations) (defs : HaveDefinitions D) (now : Now) (flexible : AreFlexible now) (g : Goal) (t : IsTask (signature_in D) now g) (depth : ℕ) (d : Defined) (is : defined_atom D g.conclusion ≡ Some d) (c : Choice) (there : Contains (choices_of g.constants d) c)
     (ys : List (tree.Variable ℕ)) (later fill : Substitution ℕ (List ℕ)) (last : IsAtLast (signature_in D) now g (by_choice D now g depth d c) c.names ys later fill)
@@ -244,17 +242,7 @@ module _ (D : Declarations) (defs : HaveDefinitions D) (now : Now) (flexible : A
         (subst (Contains (support from.0)) one (under_support (replacing vs) (stand_ins_nameless s vs are) from.0 b2.0 b2.1)))))
 
     terms_known : All (HoldsOnly (map in_terms s.variables)) terms
-    terms_known = All-from_contains (HoldsOnly (map in_terms s.variables)) terms (λ w i.
-        let from = Contains-from_map here us w i in
-        let u = from.0 in
-        subst (HoldsOnly (map in_terms s.variables)) from.2 (All-from_contains (Contains (map in_terms s.variables)) (variables (here u)) (λ y j.
-        elim (variables-image (value_in same_number (replacing vs)) u y (subst (λ l. Contains l y) (variables_rename m (image same_number (replacing vs) u)) j)) [
-          | inl a ↦ (
-              let scoped : Contains (map replaced vs) y = subst (λ l. Contains l y) (sym same_variables) (All-contains (Contains ys) (variables u) y (All-contains (HoldsOnly ys) us u (taken.us_known D defs now flexible g t depth d is c there ys later fill last) from.1) a.0) in
-              let v = Contains-from_map replaced vs y scoped in
-              absurd (let bad : None ≡ Some (put_in v.0) = sym a.1 ∙ ap (value_in same_number (replacing vs)) (sym v.2) ∙ found_in sg s vs are.numbers_differ v.0 v.1 in cc))
-          | inr a ↦ stand_ins_known s vs are a.0 a.1 (a.2).1 y a.3
-        ])))
+    terms_known = stood_known sg s vs are ps ys same_variables us (taken.us_known D defs now flexible g t depth d is c there ys later fill last)
 
     -- ITS PROBLEM
     abbrev n : ℕ

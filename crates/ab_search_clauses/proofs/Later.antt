@@ -61,7 +61,7 @@ module _ (sg : Signature) (ps : List (Nominal × Nominal)) (permutation : IsPerm
   becomes_typed = then_typed sg filler stood filler_typed stood_typed
 
   -- what is filled becomes a constant
-  becomes_filled : (y : Variable ℕ) (v : Read) → value_in same_number fill y ≡ Some v → (b : Nominal) × (becomes y ≡ Some (expansion tt y.type (nominal b)))
+  pub becomes_filled : (y : Variable ℕ) (v : Read) → value_in same_number fill y ≡ Some v → (b : Nominal) × (becomes y ≡ Some (expansion tt y.type (nominal b)))
   becomes_filled y v e =
       let c = constant_for sg names fill filled constants y v e in
       let b = moved_by ps c.0 in

@@ -5,12 +5,16 @@ pub mod Turned
 pub mod Kept
 pub mod Later
 pub mod Guessing
+pub mod Wider
+pub mod Anyway
 pub mod Standing
+pub mod PutFirst
 pub mod Wherever
 pub mod Along
 pub mod Puts
 pub mod MarksMoved
 pub mod Lifted
+pub mod AtPlace
 pub mod There
 pub mod Opens
 pub mod Solving

@@ -109,7 +109,7 @@ module _ (sg : Signature) (k : ℕ) (S : List Nominal) (cs : List (Cell (List �
   old_stays t old = image_agrees (value_in same_number unifier) (value_in same_number []) t (λ y m. not_unified y (false_from_ne_true (holds zs y) (λ h.
       let high = (numbered_within k (cells_over x S cs) y h).0 in let low = old y m in omega (arith, high, low)))) ∙ image_none t
 
-  value_listed : (y : tree.Variable ℕ) (v : Read) → value_in same_number unifier y ≡ Some v → Contains values v
+  pub value_listed : (y : tree.Variable ℕ) (v : Read) → value_in same_number unifier y ≡ Some v → Contains values v
   value_listed = found_of_all (Contains values) unifier (together_all (Contains values) zs values (listed zs values values_any (λ v m. m)))
     where
       listed : (ys : List (tree.Variable ℕ)) (vs : List Read) → Each (λ y v. Unit {0}) ys vs → ((v : Read) → Contains vs v → Contains values v) → Each (λ y v. Contains values v) ys vs

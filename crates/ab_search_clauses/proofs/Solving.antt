@@ -1,6 +1,6 @@
 -- A CHOICE IS SOLVED, where its equations are unified and no variable is made: with the terms for the variables that stay open, its body is what the terms
 -- for all of the clause's variables make of it.
-use Rattle.std.proofs.Common.{◌≡◌, inl, inr, ℕ, ◌<◌, List, [], ◌∷◌, ◌++◌, map, length, codes, true, Some, sym, ◌∙◌, ap, subst}
+use Rattle.std.proofs.Common.{◌≡◌, ℕ, ◌<◌, List, [], ◌++◌, map, length, codes, true, Some, sym, ◌∙◌, ap, subst}
 use Rattle.std.specs.Prelude.{All, Contains}
 use Rattle.std.proofs.Math.Seq.{drop-append_seam}
 use Rattle.ab_term.specs.Terms as tree
@@ -9,14 +9,13 @@ use Rattle.ab_term.specs.Typing.{Signature, HasType}
 use Rattle.ab_term.specs.Translation.{forget, EqualPastHints}
 use Rattle.ab_term.specs.Variables.{Substitution, variables, image, one_by_one}
 use Rattle.ab_term.specs.Sameness.{same_number}
-use Rattle.ab_term.proofs.Lists.{Contains-none, All-from_contains, Contains-here, Contains-there}
+use Rattle.ab_term.proofs.Lists.{All-from_contains}
 use Rattle.ab_unifiers.specs.Replacements.{Cell, holds}
 use Rattle.ab_unifiers.specs.Unification.{Equation, unified, Solves}
 use Rattle.ab_unifiers.specs.Unifiers.{given, IsCell, AreTyped, AreKnown, AreOver, AllHoldCells, IsUnifier}
 use Rattle.ab_unifiers.specs.Clauses.{Each, put_together, Clause, clause_variables, filled, head_of, AreFor, HoldsNone}
 use Rattle.ab_formulas.specs.Sequents.{Variable, in_terms, Sequent, IsSequent, goal_names, names_of}
 use Rattle.ab_theory.specs.Equations.{made, AreCells}
-use Rattle.std.proofs.lemmas.List.Elements.{Contains-append_cases, Contains-append_left, Contains-append_right}
 use Rattle.ab_term.specs.Names.{support, HasOneTypeEach}
 use Rattle.ab_unifiers.proofs.Agreeing.{contains_holds}
 use Rattle.ab_unifiers.proofs.Following.{plain, image_plain}
@@ -32,6 +31,7 @@ use Rattle.ab_search_trees.proofs.Bodies.{makes_marked}
 use Rattle.ab_search_proofs.specs.Proved.{IsSolved}
 use Rattle.ab_search_clauses.proofs.Opens as opens
 use Rattle.ab_search_clauses.proofs.There as there
+use Rattle.ab_search_clauses.proofs.AtPlace.{names_from, kept_behind}
 
 module _ (D : Declarations) (s : Sequent) (is : IsSequent D s) (atom : Defined) (atom_is : defined_atom D s.conclusion ≡ Some atom) (c : Clause (List ℕ)) (defining : IsDefining (signature_in D) c) (one_predicate : c.predicate ≡ atom.predicate)
     (ns : List Nominal) (types : map (λ a. a.type) ns ≡ map (λ z. z.type) c.names) (cells : List (Cell (List ℕ))) (cells_are : AreCells cells s)
@@ -126,21 +126,10 @@ module _ (D : Declarations) (s : Sequent) (is : IsSequent D s) (atom : Defined) 
     open_typed : Each (λ (y : Variable) t. HasType sg [] t y.type) left_open terms
     open_typed = opens.open_typed sg cells own_cells equations values values_typed values_low typed_there known_there_is over_there cells_there flexible_cells is_unifier p solves
 
-    terms_names : (ts : List Read) → ((t : Read) → Contains ts t → Contains values t) → (a : Nominal) → Contains (names_of ts) a → Contains (names_of us) a
-    terms_names [] f a m = absurd (Contains-none a m)
-    terms_names (t ∷ ts) f a m = elim (Contains-append_cases (support t) (names_of ts) a m) [ inl i ↦ values_names t (f t (Contains-here t ts)) a i | inr i ↦ terms_names ts (λ u j. f u (Contains-there t ts u j)) a i ]
-
     still_one : HasOneTypeEach (goal_names s ++ (ns ++ names_of terms))
-    still_one a b m l e = one_type a b (wider a m) (wider b l) e
-      where
-        wider : (d : Nominal) → Contains (goal_names s ++ (ns ++ names_of terms)) d → Contains (goal_names s ++ (ns ++ names_of us)) d
-        wider d m = elim (Contains-append_cases (goal_names s) (ns ++ names_of terms) d m) [
-          | inl i ↦ Contains-append_left (goal_names s) (ns ++ names_of us) d i
-          | inr i ↦ Contains-append_right (goal_names s) (ns ++ names_of us) d (elim (Contains-append_cases ns (names_of terms) d i) [
-            | inl j ↦ Contains-append_left ns (names_of us) d j
-            | inr j ↦ Contains-append_right ns (names_of us) d (terms_names terms terms_in d j)
-          ])
-        ]
+    still_one a b m l e =
+        let wider = kept_behind (goal_names s) (ns ++ names_of terms) (ns ++ names_of us) (kept_behind ns (names_of terms) (names_of us) (names_from values us values_names terms terms_in)) in
+        one_type a b (wider a m) (wider b l) e
 
     -- THE BODY
     bare_formula : IsFormula sg bare_body

@@ -1,7 +1,7 @@
 -- WHERE THE ATOM STANDS: the terms for the clause's variables, abstracted over the constants that weren't chosen, make the sides of the choice's
 -- equations equal, and hold none of the equations' constants.
-use Rattle.std.proofs.Common.{◌≡◌, ◌⊎◌, inl, inr, ℕ, ◌<◌, List, [], ◌++◌, map, length, codes, true, false, Some, None, option_map, sym, ◌∙◌, ap, subst}
-use Rattle.std.specs.Prelude.{All, Contains, slice_get}
+use Rattle.std.proofs.Common.{◌≡◌, ◌⊎◌, inl, inr, ℕ, ◌<◌, List, [], ◌++◌, map, length, codes, true, false, Some, None, sym, ◌∙◌, ap, subst}
+use Rattle.std.specs.Prelude.{All, Contains}
 use Rattle.std.proofs.lemmas.Bool.{false≢true}
 use Rattle.std.proofs.lemmas.List.Elements.{All-contains}
 use Rattle.ab_term.specs.Types.{prop}
@@ -12,7 +12,7 @@ use Rattle.ab_term.specs.Names.{support, support_of_all}
 use Rattle.ab_term.specs.Translation.{forget, forget_all, EqualPastHints}
 use Rattle.ab_term.specs.Variables.{Substitution, variables, variables_of_all, value_in, image, image_all, image_by, IsTyped}
 use Rattle.ab_term.specs.Sameness.{same_number}
-use Rattle.ab_term.proofs.Lists.{Contains-none, Contains-from_map}
+use Rattle.ab_term.proofs.Lists.{Contains-none}
 use Rattle.ab_unifiers.specs.Replacements.{Cell, holds}
 use Rattle.ab_unifiers.specs.Unification.{Equation}
 use Rattle.ab_unifiers.specs.Unifiers.{IsCell, AreTyped, AreKnown, AreOver, AllHoldCells, Unifies, IsUnifier, sides}
@@ -33,7 +33,7 @@ use Rattle.ab_unifiers.proofs.Sides.{arguments_unify, all_sides}
 use Rattle.ab_unifiers.proofs.Unifier.{to_cells, from_cells, filled_typed, made_have, names_have, have_each, append-none}
 use Rattle.ab_unifiers.proofs.Variables.{holds_contains}
 use Rattle.ab_formulas.specs.Declarations.{Declarations, signature_in, IsDefining}
-use Rattle.ab_formulas.specs.Sequents.{Variable, Sequent, IsSequent, goal_names, names_of, in_terms}
+use Rattle.ab_formulas.specs.Sequents.{Sequent, IsSequent, goal_names, names_of, in_terms}
 use Rattle.ab_theory.specs.Analysis.{scope_of}
 use Rattle.ab_theory.specs.Atoms.{Defined, Choice, defined_atom}
 use Rattle.ab_theory.specs.Equations.{AreCells}
@@ -48,6 +48,7 @@ use Rattle.ab_search_trees.proofs.Lifts.{cells_all_over}
 use Rattle.ab_pattern_matching.specs.Reading.{HoldNoneOf, IsGuessOver}
 use Rattle.ab_formulas.specs.GoalTerms.{HoldsOnly}
 use Rattle.ab_search_clauses.proofs.Lifted as lifting
+use Rattle.ab_search_clauses.proofs.AtPlace.{cell_here}
 
 module _ (D : Declarations) (s : Sequent) (is : IsSequent D s) (atom : Defined) (atom_is : defined_atom D s.conclusion ≡ Some atom) (c : Clause (List ℕ)) (defining : IsDefining (signature_in D) c) (one_predicate : c.predicate ≡ atom.predicate)
     (ns : List Nominal) (types : map (λ a. a.type) ns ≡ map (λ z. z.type) c.names) (cells : List (Cell (List ℕ))) (cells_are : AreCells cells s)
@@ -95,18 +96,13 @@ module _ (D : Declarations) (s : Sequent) (is : IsSequent D s) (atom : Defined) 
   pub known_flexible : AreKnown (cells ++ own) zs
   known_flexible = problem.1
 
-  cell_here : (y : tree.Variable ℕ) → Contains (map in_terms s.variables) y → IsCell cells y
-  cell_here y m =
-      let from = Contains-from_map in_terms s.variables y m in
-      subst (IsCell cells) from.2 (ap (option_map (λ (k : Cell (List ℕ)). k.type)) (All-contains (λ (v : Variable). slice_get cells v.number ≡ Some (record { hint = v.name; type = v.type })) s.variables from.0 cells_are from.1))
-
   -- as a place of a search
   abbrev place : Now
   place = record { cells = cells; flexible = []; answer = []; held = [] }
 
   facts : Facts place (goal_names s) false (spine (constant atom.predicate) atom.arguments)
   facts = record {
-    over = λ y m. cell_here y (All-contains (Contains (map in_terms s.variables)) (variables (spine (constant atom.predicate) atom.arguments)) y atom_here.closed m);
+    over = λ y m. cell_here s cells cells_are y (All-contains (Contains (map in_terms s.variables)) (variables (spine (constant atom.predicate) atom.arguments)) y atom_here.closed m);
     constants = atom_here.held;
     fixed = λ e. absurd (false≢true e);
   }

@@ -59,24 +59,66 @@ module _ (sg : Signature) (ws : List (Variable ℕ)) (constants : List Nominal) 
 
   module _ (agree : (w : Variable ℕ) → holds ws w ≡ true → image_by g (raised_term second w) ≡ image_by fill (image_by h (raised_term first w)))
       (values : (w : Variable ℕ) → holds ws w ≡ true → (y : Variable ℕ) → holds (variables (image_by h (raised_term first w))) y ≡ true → IsFilled y) where
+    -- ANOTHER VARIABLE of a term: it isn't raised and there is no guess for it, and what is put in for it later stays then
+    pub record IsOther (y : Variable ℕ) : Type 0 where
+      pub unraised : holds ws y ≡ false
+      pub unguessed : h y ≡ None
+      pub filled : IsFilled y
+      pub settled : (z : Variable ℕ) → holds (variables filled.1.0) z ≡ true → (holds ws z ≡ false) × (g z ≡ None)
+
+    -- each variable of the term is raised, or another
+    abbrev pub IsOver : Bare → Type 0
+    IsOver t = (y : Variable ℕ) → holds (variables t) y ≡ true → (holds ws y ≡ true) ⊎ IsOther y
+
+    -- the term, with what is put in later for the others
+    abbrev pub settled_term : Bare → Bare
+    settled_term = image_by (but ws fill)
+
+    others_typed : IsTypedMap sg (but ws fill)
+    others_typed = but_typed sg ws fill fill_typed
+
+    but_none : (us : List (Variable ℕ)) (f : Guess) (y : Variable ℕ) → f y ≡ None → but us f y ≡ None
+    but_none us f y e = go (holds us y)
+      where
+        go : (b : Bool) → cond b None (f y) ≡ None
+        go true = refl
+        go false = e
+
+    -- what is put in for another stays
+    other_stays : (y : Variable ℕ) (o : IsOther y) (f : Guess) → ((z : Variable ℕ) → g z ≡ None → f z ≡ None) → then_by f y (then_by (raising second ws) y (but ws fill y)) ≡ fill y
+    other_stays y o f none =
+        let v = o.filled.1.0 in
+        ap (λ b. then_by f y (then_by (raising second ws) y (cond b None (fill y)))) o.unraised
+        ∙ ap (λ k. then_by f y (then_by (raising second ws) y k)) o.filled.1.1
+        ∙ ap (λ t. Some (image_by f t)) (image_unmoved (raising second ws) v (λ z m. ap (λ b. cond b (Some (raised_term second z)) None) (o.settled z (contains_holds (variables v) z m)).0))
+        ∙ ap Some (image_unmoved f v (λ z m. none z (o.settled z (contains_holds (variables v) z m)).1))
+        ∙ sym o.filled.1.1
+
+    unguessed_then : (y : Variable ℕ) (o : IsOther y) (f : Guess) → f y ≡ None → then_by f y (raising first ws y) ≡ None
+    unguessed_then y o f e = ap (λ b. then_by f y (cond b (Some (raised_term first y)) None)) o.unraised ∙ e
+
     -- with terms for all of them
-    whole : {G : List Ty} {t : Bare} {A : Ty} → HasType sg G t A → ((y : Variable ℕ) → holds (variables t) y ≡ true → holds ws y ≡ true) → image_by g (image_by (raising second ws) t) ≡ image_by fill (image_by h (image_by (raising first ws) t))
+    whole : {G : List Ty} {t : Bare} {A : Ty} → HasType sg G t A → IsOver t → image_by g (image_by (raising second ws) (settled_term t)) ≡ image_by fill (image_by h (image_by (raising first ws) t))
     whole {t = t} d own =
-        image_composed sg ℕ (Unit {0}) (raising second ws) g (raising_typed sg second ws) g_typed d
-        ∙ image_agrees (λ y. then_by g y (raising second ws y)) (λ y. then_by fill y (then_by h y (raising first ws y))) t (λ y m. at y (own y m))
+        ap (image_by g) (image_composed sg ℕ (Unit {0}) (but ws fill) (raising second ws) others_typed (raising_typed sg second ws) d)
+        ∙ image_composed sg ℕ (Unit {0}) (λ y. then_by (raising second ws) y (but ws fill y)) g (then_typed sg (but ws fill) (raising second ws) others_typed (raising_typed sg second ws)) g_typed d
+        ∙ image_agrees (λ y. then_by g y (then_by (raising second ws) y (but ws fill y))) (λ y. then_by fill y (then_by h y (raising first ws y))) t (λ y m. at y (own y m))
         ∙ sym (image_composed sg ℕ (Unit {0}) (λ y. then_by h y (raising first ws y)) fill (then_typed sg (raising first ws) h (raising_typed sg first ws) h_typed) fill_typed d)
         ∙ sym (ap (image_by fill) (image_composed sg ℕ (Unit {0}) (raising first ws) h (raising_typed sg first ws) h_typed d))
       where
-        at : (y : Variable ℕ) → holds ws y ≡ true → then_by g y (raising second ws y) ≡ then_by fill y (then_by h y (raising first ws y))
-        at y i = ap (λ b. then_by g y (cond b (Some (raised_term second y)) None)) i ∙ ap Some (agree y i) ∙ sym (ap (λ b. then_by fill y (then_by h y (cond b (Some (raised_term first y)) None))) i)
+        at : (y : Variable ℕ) → (holds ws y ≡ true) ⊎ IsOther y → then_by g y (then_by (raising second ws) y (but ws fill y)) ≡ then_by fill y (then_by h y (raising first ws y))
+        at y (inl i) =
+            ap (λ b. then_by g y (then_by (raising second ws) y (cond b None (fill y)))) i
+            ∙ ap (λ b. then_by g y (cond b (Some (raised_term second y)) None)) i ∙ ap Some (agree y i) ∙ sym (ap (λ b. then_by fill y (then_by h y (cond b (Some (raised_term first y)) None))) i)
+        at y (inr o) = other_stays y o g (λ z e. e) ∙ sym (ap (then_by fill y) (unguessed_then y o h o.unguessed))
 
     -- what stands in a value
-    good : {G : List Ty} {t : Bare} {A : Ty} → HasType sg G t A → ((y : Variable ℕ) → holds (variables t) y ≡ true → holds ws y ≡ true) → (y : Variable ℕ) → holds (variables (image_by h (image_by (raising first ws) t))) y ≡ true → IsFilled y
+    good : {G : List Ty} {t : Bare} {A : Ty} → HasType sg G t A → IsOver t → (y : Variable ℕ) → holds (variables (image_by h (image_by (raising first ws) t))) y ≡ true → IsFilled y
     good {t = t} d own = stand.has_held IsFilled (image_by h (image_by (raising first ws) t))
-        (subst (stand.Has IsFilled) (sym (all_in sg ws first h h_typed d (λ y m n. absurd (false≢true (sym n ∙ own y m)))))
-        (stand.image_by_has (λ y. holds ws y ≡ true) IsFilled (value_of sg ws first h h_typed) (λ y v e. value y v (holds ws y) refl e)
-        (λ y e i. absurd (let some : Some (image_by h (raised_term first y)) ≡ None = sym (ap (λ b. cond b (Some (image_by h (raised_term first y))) None) i) ∙ e in cc)) t
-        (stand.held_has (λ y. holds ws y ≡ true) t own)))
+        (subst (stand.Has IsFilled) (sym (all_in sg ws first h h_typed d (λ y m n. elim (own y m) [ inl i ↦ absurd (false≢true (sym n ∙ i)) | inr o ↦ o.unguessed ])))
+        (stand.image_by_has (λ y. (holds ws y ≡ true) ⊎ IsOther y) IsFilled (value_of sg ws first h h_typed) (λ y v e. value y v (holds ws y) refl e)
+        (λ y e p. elim p [ inl i ↦ absurd (let some : Some (image_by h (raised_term first y)) ≡ None = sym (ap (λ b. cond b (Some (image_by h (raised_term first y))) None) i) ∙ e in cc) | inr o ↦ o.filled ]) t
+        (stand.held_has (λ y. (holds ws y ≡ true) ⊎ IsOther y) t own)))
       where
         value : (y : Variable ℕ) (v : Bare) (b : Bool) → holds ws y ≡ b → cond b (Some (image_by h (raised_term first y))) None ≡ Some v → stand.Has IsFilled v
         value y v true i e = let same : image_by h (raised_term first y) ≡ v = cc in subst (stand.Has IsFilled) same (stand.held_has IsFilled (image_by h (raised_term first y)) (values y i))
@@ -150,18 +192,29 @@ module _ (sg : Signature) (ws : List (Variable ℕ)) (constants : List Nominal) 
             ap (λ b. cond b (Some (bare_own (moved y))) (fill y)) i,
           )
 
-      module _ {G : List Ty} {t : Bare} {A : Ty} (d : HasType sg G t A) (own : (y : Variable ℕ) → holds (variables t) y ≡ true → holds ws y ≡ true) (u v : Bare) (is_first : u ≡ image_by (raising first ws) t) (is_second : v ≡ image_by (raising second ws) t) where
+      -- one of the others, with terms put in
+      at_other : (y : Variable ℕ) (o : IsOther y) → then_by (but us g) y (then_by (raising second ws) y (but ws fill y)) ≡ then_by through y (then_by (but firsts h) y (raising first ws y))
+      at_other y o =
+          other_stays y o (but us g) (λ z e. but_none us g z e)
+          ∙ sym (ap (λ b. cond b (Some (bare_own (record { name = move y.name; type = y.type }))) (fill y)) (false_from_ne_true (holds firsts y) (λ f. false≢true (sym o.filled.0 ∙ firsts_in y f))))
+          ∙ sym (ap (then_by through y) (unguessed_then y o (but firsts h) (but_none firsts h y o.unguessed)))
+
+      module _ {G : List Ty} {t : Bare} {A : Ty} (d : HasType sg G t A) (own : IsOver t) (u v : Bare) (is_first : u ≡ image_by (raising first ws) t) (is_second : v ≡ image_by (raising second ws) (settled_term t)) where
         in_steps : image_by (but us g) v ≡ image_by through (image_by (but firsts h) u)
         in_steps =
             ap (image_by (but us g)) is_second
-            ∙ image_composed sg ℕ (Unit {0}) (raising second ws) (but us g) (raising_typed sg second ws) (but_typed sg us g g_typed) d
-            ∙ image_agrees (λ y. then_by (but us g) y (raising second ws y)) (λ y. then_by through y (then_by (but firsts h) y (raising first ws y))) t (λ y m. at y (own y m))
+            ∙ ap (image_by (but us g)) (image_composed sg ℕ (Unit {0}) (but ws fill) (raising second ws) others_typed (raising_typed sg second ws) d)
+            ∙ image_composed sg ℕ (Unit {0}) (λ y. then_by (raising second ws) y (but ws fill y)) (but us g) (then_typed sg (but ws fill) (raising second ws) others_typed (raising_typed sg second ws)) (but_typed sg us g g_typed) d
+            ∙ image_agrees (λ y. then_by (but us g) y (then_by (raising second ws) y (but ws fill y))) (λ y. then_by through y (then_by (but firsts h) y (raising first ws y))) t (λ y m. at y (own y m))
             ∙ sym (image_composed sg ℕ (Unit {0}) (λ y. then_by (but firsts h) y (raising first ws y)) through (then_typed sg (raising first ws) (but firsts h) (raising_typed sg first ws) (but_typed sg firsts h h_typed)) through_typed d)
             ∙ sym (ap (image_by through) (image_composed sg ℕ (Unit {0}) (raising first ws) (but firsts h) (raising_typed sg first ws) (but_typed sg firsts h h_typed) d))
             ∙ ap (λ k. image_by through (image_by (but firsts h) k)) (sym is_first)
           where
-            at : (y : Variable ℕ) → holds ws y ≡ true → then_by (but us g) y (raising second ws y) ≡ then_by through y (then_by (but firsts h) y (raising first ws y))
-            at y i = ap (λ b. then_by (but us g) y (cond b (Some (raised_term second y)) None)) i ∙ ap Some (point y i) ∙ sym (ap (λ b. then_by through y (then_by (but firsts h) y (cond b (Some (raised_term first y)) None))) i)
+            at : (y : Variable ℕ) → (holds ws y ≡ true) ⊎ IsOther y → then_by (but us g) y (then_by (raising second ws) y (but ws fill y)) ≡ then_by through y (then_by (but firsts h) y (raising first ws y))
+            at y (inl i) =
+                ap (λ b. then_by (but us g) y (then_by (raising second ws) y (cond b None (fill y)))) i
+                ∙ ap (λ b. then_by (but us g) y (cond b (Some (raised_term second y)) None)) i ∙ ap Some (point y i) ∙ sym (ap (λ b. then_by through y (then_by (but firsts h) y (cond b (Some (raised_term first y)) None))) i)
+            at y (inr o) = at_other y o
 
         -- the variables before
         abbrev Stands : Variable ℕ → Type 0
@@ -170,10 +223,10 @@ module _ (sg : Signature) (ws : List (Variable ℕ)) (constants : List Nominal) 
         stands : (y : Variable ℕ) → holds (variables (image_by (but firsts h) u)) y ≡ true → (holds (map (raised first) (filter (λ w. holds us (raised second w)) ws)) y ≡ true) ⊎ IsFilled y
         stands = stand.has_held Stands (image_by (but firsts h) u)
             (subst (λ k. stand.Has Stands (image_by (but firsts h) k)) (sym is_first)
-            (subst (stand.Has Stands) (sym (all_in sg ws first (but firsts h) (but_typed sg firsts h h_typed) d (λ y m n. absurd (false≢true (sym n ∙ own y m)))))
-            (stand.image_by_has (λ y. holds ws y ≡ true) Stands (value_of sg ws first (but firsts h) (but_typed sg firsts h h_typed)) (λ y v e. value y v (holds ws y) refl e)
-            (λ y e i. absurd (let some : Some (image_by (but firsts h) (raised_term first y)) ≡ None = sym (ap (λ b. cond b (Some (image_by (but firsts h) (raised_term first y))) None) i) ∙ e in cc)) t
-            (stand.held_has (λ y. holds ws y ≡ true) t own))))
+            (subst (stand.Has Stands) (sym (all_in sg ws first (but firsts h) (but_typed sg firsts h h_typed) d (λ y m n. elim (own y m) [ inl i ↦ absurd (false≢true (sym n ∙ i)) | inr o ↦ but_none firsts h y o.unguessed ])))
+            (stand.image_by_has (λ y. (holds ws y ≡ true) ⊎ IsOther y) Stands (value_of sg ws first (but firsts h) (but_typed sg firsts h h_typed)) (λ y v e. value y v (holds ws y) refl e)
+            (λ y e p. elim p [ inl i ↦ absurd (let some : Some (image_by (but firsts h) (raised_term first y)) ≡ None = sym (ap (λ b. cond b (Some (image_by (but firsts h) (raised_term first y))) None) i) ∙ e in cc) | inr o ↦ inr o.filled ]) t
+            (stand.held_has (λ y. (holds ws y ≡ true) ⊎ IsOther y) t own))))
           where
             inner : (w : Variable ℕ) → holds ws w ≡ true → (b : Bool) → holds us (raised second w) ≡ b → stand.Has Stands (image_by (but firsts h) (raised_term first w))
             inner w i true j =
@@ -210,12 +263,12 @@ module _ (sg : Signature) (ws : List (Variable ℕ)) (constants : List Nominal) 
             ∙ image_agrees through fill (image_by h u) (λ z m. ap (λ b. cond b (Some (bare_own (moved z))) (fill z)) (false_from_ne_true (holds firsts z) (λ f. false≢true (sym (good d own z (subst (λ k. holds (variables (image_by h k)) z ≡ true) is_first m)).0 ∙ firsts_in z f))))
             ∙ ap (λ k. image_by fill (image_by h k)) is_first ∙ sym (whole d own) ∙ sym (ap (image_by g) is_second)
 
-    -- the terms are typed, and over the variables that are raised
+    -- the terms are typed, and over the variables that are raised, and others
     abbrev pub AreOverThem : List Bare → Type 0
-    AreOverThem ts = (t : Bare) → Contains ts t → ((G : List Ty) × (A : Ty) × HasType sg G t A) × ((y : Variable ℕ) → holds (variables t) y ≡ true → holds ws y ≡ true)
+    AreOverThem ts = (t : Bare) → Contains ts t → ((G : List Ty) × (A : Ty) × HasType sg G t A) × IsOver t
 
     module _ {Hint : Type 0} (us : List (Variable ℕ)) (within : Within us (map (raised second) ws)) where
-      all_unread : (ts : List Bare) → AreOverThem ts → (es ds : List (Equation Hint)) → AreRaised first ws ts es → AreRaised second ws ts ds → NoneRead us g ds → NoneRead (firsts us within) h es
+      all_unread : (ts : List Bare) → AreOverThem ts → (es ds : List (Equation Hint)) → AreRaised first ws ts es → AreRaised second ws (map settled_term ts) ds → NoneRead us g ds → NoneRead (firsts us within) h es
       all_unread [] o [] [] a b n = tt
       all_unread [] o [] (d ∷ ds) a b n = absurd b
       all_unread [] o (e ∷ es) ds a b n = absurd a
@@ -225,7 +278,7 @@ module _ (sg : Signature) (ws : List (Variable ℕ)) (constants : List Nominal) 
           let k = o t (Contains-here t ts) in
           (unread us within (k.0).2 k.1 (forget e.right) (forget d.right) a.0 b.0 n.0, all_unread ts (λ v m. o v (Contains-there t ts v m)) es ds a.1 b.1 n.1)
 
-      all_matterless : (ts : List Bare) → AreOverThem ts → (es ds : List (Equation Hint)) → AreRaised first ws ts es → AreRaised second ws ts ds → NoneMatters (firsts us within) h es → NoneMatters us g ds
+      all_matterless : (ts : List Bare) → AreOverThem ts → (es ds : List (Equation Hint)) → AreRaised first ws ts es → AreRaised second ws (map settled_term ts) ds → NoneMatters (firsts us within) h es → NoneMatters us g ds
       all_matterless [] o [] [] a b n = tt
       all_matterless [] o [] (d ∷ ds) a b n = absurd b
       all_matterless [] o (e ∷ es) ds a b n = absurd a
@@ -236,5 +289,5 @@ module _ (sg : Signature) (ws : List (Variable ℕ)) (constants : List Nominal) 
           (matterless us within (k.0).2 k.1 (forget e.right) (forget d.right) a.0 b.0 n.0, all_matterless ts (λ v m. o v (Contains-there t ts v m)) es ds a.1 b.1 n.1)
 
     -- WHAT IS READ OFF IN TURN before is so after
-    pub turn_filled : {Hint : Type 0} (ts : List Bare) → AreOverThem ts → (es ds : List (Equation Hint)) → AreRaised first ws ts es → AreRaised second ws ts ds → ReadInTurn (map (raised first) ws) h es → ReadInTurn (map (raised second) ws) g ds
-    turn_filled ts o es ds a b turn us w n = all_matterless us w ts o es ds a b (turn (firsts us w) (firsts_in us w) (all_unread us w ts o es ds a b n))
+    pub turn_through : {Hint : Type 0} (ts : List Bare) → AreOverThem ts → (es ds : List (Equation Hint)) → AreRaised first ws ts es → AreRaised second ws (map settled_term ts) ds → ReadInTurn (map (raised first) ws) h es → ReadInTurn (map (raised second) ws) g ds
+    turn_through ts o es ds a b turn us w n = all_matterless us w ts o es ds a b (turn (firsts us w) (firsts_in us w) (all_unread us w ts o es ds a b n))

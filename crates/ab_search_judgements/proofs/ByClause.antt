@@ -1,18 +1,18 @@
 -- A JUDGEMENT BY A CLAUSE OF THE PROGRAM, on the way of a search: the rule is there and is solved wherever the judgement comes to stand.
 use Rattle.std.proofs.Common.{◌≡◌, ◌⊎◌, inl, inr, ℕ, ◌+◌, ◌<◌, ◌≤◌, List, [], ◌∷◌, ◌++◌, map, length, codes, true, false, Some, None, option_map, refl, sym, ◌∙◌, ap, subst, arith, append-nil, length-append}
-use Rattle.std.specs.Prelude.{All, Contains, slice_get}
+use Rattle.std.specs.Prelude.{All, Contains}
 use Rattle.std.proofs.lemmas.Bool.{false_from_ne_true}
-use Rattle.std.proofs.lemmas.List.Elements.{All-contains, Contains-append_cases, Contains-append_left, Contains-append_right}
+use Rattle.std.proofs.lemmas.List.Elements.{All-contains, Contains-append_left}
 use Rattle.ab_term.specs.Types.{Ty, olist}
 use Rattle.ab_term.specs.Terms as tree
 use Rattle.ab_term.specs.Terms.{Nominal, constant, spine, Terms, Read}
 use Rattle.ab_term.specs.Typing.{Signature, HasType}
 use Rattle.ab_term.specs.Names.{support, rename, rename_all, permute, moved_by, IsPermutationTable, HasOneTypeEach}
 use Rattle.ab_term.specs.Translation.{forget, forget_all, EqualPastHints}
-use Rattle.ab_term.specs.Variables.{Substitution, variables, value_in, image, image_all, image_by, one_by_one, IsTyped}
+use Rattle.ab_term.specs.Variables.{Substitution, variables, image, image_all, image_by, one_by_one, IsTyped}
 use Rattle.ab_term.specs.Sameness.{same_number}
 use Rattle.ab_term.proofs.Compositions.{image_typed}
-use Rattle.ab_term.proofs.Lists.{Contains-none, Contains-here, Contains-there, Contains-map, Contains-from_map, All-from_contains}
+use Rattle.ab_term.proofs.Lists.{Contains-none, Contains-map, All-from_contains}
 use Rattle.ab_term.proofs.PastHints.{variables_past_hints}
 use Rattle.ab_term.proofs.Permutations.{one_to_one}
 use Rattle.ab_term.proofs.Renamings.{rename_typed}
@@ -68,15 +68,13 @@ use Rattle.ab_search_trees.proofs.Facts.{IsTask}
 use Rattle.ab_search_trees.proofs.Forms.{begins_constant}
 use Rattle.ab_search_trees.proofs.Lifts.{known_cell}
 use Rattle.ab_search_trees.proofs.RuleWays.{is_rule_of}
-use Rattle.ab_search_trees.proofs.Unmarked.{variables_rename}
 use Rattle.ab_pattern_matching.specs.Raising.{AreRaised}
 use Rattle.ab_pattern_matching.specs.Reading.{LeftsWithout}
 use Rattle.ab_pattern_matching.proofs.OfClauses.{from_to}
-use Rattle.ab_search_proofs.specs.Likeness.{StandIn, replaced, put_in, replacing, AreStandIns, IsLike}
+use Rattle.ab_search_proofs.specs.Likeness.{StandIn, replaced, replacing, AreStandIns, IsLike}
 use Rattle.ab_search_proofs.specs.Proved.{IsRuleSolved, HasSolvedRule, IsByRule}
 use Rattle.ab_search_proofs.proofs.JudgementsAlike.{JudgementLike, judgement_like}
-use Rattle.ab_search_proofs.proofs.StandIns.{stand_ins_typed, stand_ins_known}
-use Rattle.ab_search_proofs.proofs.Back.{found_in}
+use Rattle.ab_search_proofs.proofs.StandIns.{stand_ins_typed}
 use Rattle.ab_search_proofs.proofs.Unfolds.{place_of}
 use Rattle.ab_search_clauses.specs.Paths.{at_last, IsAtLast}
 use Rattle.ab_search_clauses.proofs.Atoms.{arguments_met}
@@ -94,6 +92,7 @@ use Rattle.ab_search_judgements.proofs.Shapes as shapes
 use Rattle.ab_search_judgements.proofs.Shapes.{Become, images_become, renamed_are}
 use Rattle.ab_search_judgements.proofs.Listed.{listed_so}
 use Rattle.ab_search_judgements.proofs.Fresh.{fresh_right, fresh_moved, between}
+use Rattle.ab_search_clauses.proofs.AtPlace.{cell_here, stood_known, names_from, kept_behind}
 
 two_maps : (f g : Read → Read) (ts : List Read) → map g (map f ts) ≡ map (λ t. g (f t)) ts
 two_maps f g [] = refl
@@ -362,16 +361,11 @@ module _ (D : Declarations) (program : HavePrograms D) (has : HasMember (signatu
 
     -- OVER THESE CELLS
     module _ (cells : List (Cell (List ℕ))) (cells_are : AreCells cells s) where
-      cell_here : (y : tree.Variable ℕ) → Contains (map in_terms s.variables) y → IsCell cells y
-      cell_here y i =
-          let from = Contains-from_map in_terms s.variables y i in
-          subst (IsCell cells) from.2 (ap (option_map (λ (k : Cell (List ℕ)). k.type)) (All-contains (λ (v : sequents.Variable). slice_get cells v.number ≡ Some (record { hint = v.name; type = v.type })) s.variables from.0 cells_are from.1))
-
       place_parts : JudgementKnown sg (IsCell cells) (goal_names s) place
       place_parts =
           let may = (goal_of D s sequent).conclusion in
           judgement_known sg (IsCell cells) (goal_names s) s.conclusion place place_is may.formula.typed
-          (record { over = λ y i. cell_here y (All-contains (Contains (map in_terms s.variables)) (variables s.conclusion) y may.closed i); names = may.names })
+          (record { over = λ y i. cell_here s cells cells_are y (All-contains (Contains (map in_terms s.variables)) (variables s.conclusion) y may.closed i); names = may.names })
 
       abbrev k : ℕ
       k = length cells
@@ -503,17 +497,7 @@ module _ (D : Declarations) (program : HavePrograms D) (has : HasMember (signatu
 
       -- THE RULE IS SOLVED
       terms_known : All (HoldsOnly (map in_terms s.variables)) (map (λ u. permute ps (image same_number (replacing vs) u)) us)
-      terms_known = All-from_contains (HoldsOnly (map in_terms s.variables)) (map (λ u. permute ps (image same_number (replacing vs) u)) us) (λ w i.
-          let from = Contains-from_map here us w i in
-          let u = from.0 in
-          subst (HoldsOnly (map in_terms s.variables)) from.2 (All-from_contains (Contains (map in_terms s.variables)) (variables (here u)) (λ y l.
-          elim (variables-image (value_in same_number (replacing vs)) u y (subst (λ l. Contains l y) (variables_rename m (image same_number (replacing vs) u)) l)) [
-            | inl a ↦ (
-                let scoped : Contains (map replaced vs) y = subst (λ l. Contains l y) (sym same_variables) (All-contains (Contains ys) (variables u) y (All-contains (HoldsOnly ys) us u us_known from.1) a.0) in
-                let v = Contains-from_map replaced vs y scoped in
-                absurd (let bad : None ≡ Some (put_in v.0) = sym a.1 ∙ ap (value_in same_number (replacing vs)) (sym v.2) ∙ found_in sg s vs are.numbers_differ v.0 v.1 in cc))
-            | inr a ↦ stand_ins_known s vs are a.0 a.1 (a.2).1 y a.3
-          ])))
+      terms_known = stood_known sg s vs are ps ys same_variables us us_known
 
       values_known : (v : Read) → Contains values v → (y : tree.Variable ℕ) → Contains (variables v) y → Contains (map in_terms s.variables) y
       values_known = lifting.values_known sg (length cells) (constants_of place) own (map (λ u. permute ps (image same_number (replacing vs) u)) us) terms_are (map in_terms s.variables) terms_known
@@ -566,20 +550,10 @@ module _ (D : Declarations) (program : HavePrograms D) (has : HasMember (signatu
           ∙ ap (λ t. forget (here t)) B_is
 
       still_one : HasOneTypeEach (goal_names s ++ names_of open_terms)
-      still_one a b i l e = one_type a b (wider a i) (wider b l) e
-        where
-          inside : (ts : List Read) → ((t : Read) → Contains ts t → Contains values t) → (a : Nominal) → Contains (names_of ts) a → Contains (names_of (map (λ u. permute ps (image same_number (replacing vs) u)) us)) a
-          inside [] f a i = absurd (Contains-none a i)
-          inside (t ∷ ts) f a i = elim (Contains-append_cases (support t) (names_of ts) a i) [
-            | inl k ↦ lifting.values_names sg (length cells) (constants_of place) own (map (λ u. permute ps (image same_number (replacing vs) u)) us) terms_are t (f t (Contains-here t ts)) a k
-            | inr k ↦ inside ts (λ u l. f u (Contains-there t ts u l)) a k
-          ]
-
-          wider : (d : Nominal) → Contains (goal_names s ++ names_of open_terms) d → Contains (goal_names s ++ names_of (map (λ u. permute ps (image same_number (replacing vs) u)) us)) d
-          wider d i = elim (Contains-append_cases (goal_names s) (names_of open_terms) d i) [
-            | inl k ↦ Contains-append_left (goal_names s) (names_of (map (λ u. permute ps (image same_number (replacing vs) u)) us)) d k
-            | inr k ↦ Contains-append_right (goal_names s) (names_of (map (λ u. permute ps (image same_number (replacing vs) u)) us)) d (inside open_terms terms_in d k)
-          ]
+      still_one a b i l e =
+          let ws = map (λ u. permute ps (image same_number (replacing vs) u)) us in
+          let wider = kept_behind (goal_names s) (names_of open_terms) (names_of ws) (names_from values ws (lifting.values_names sg (length cells) (constants_of place) own ws terms_are) open_terms terms_in) in
+          one_type a b (wider a i) (wider b l) e
 
       -- as the case of the rule
       abbrev case_with : List (Cell (List ℕ)) → List (Cell (List ℕ)) → Demand → Case

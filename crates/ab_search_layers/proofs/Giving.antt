@@ -28,7 +28,7 @@ use Rattle.ab_theory.specs.Steps.{exists_right}
 use Rattle.ab_search_proofs.specs.Likeness.{StandIn, replaced, replacing, IsLike, AreLike}
 use Rattle.ab_search_proofs.proofs.Derived.{after, one_premise}
 use Rattle.ab_search_proofs.proofs.Witnesses.{term_step}
-use Rattle.ab_search_layers.specs.Layered.{OpensTo, it_stays, a_layer, in_both, in_nabla, in_exists, Gives, it_opens, but_for_hints, of_a_term, of_each_term}
+use Rattle.ab_search_layers.specs.Layered.{OpensTo, it_stays, a_layer, in_both, in_nabla, in_exists, Gives, it_opens, but_for_hints, of_a_term, of_each_term, of_any_term}
 use Rattle.ab_search_layers.proofs.Faced.{faced}
 use Rattle.ab_search_layers.proofs.Meeting.{typed_are_fine, meets}
 use Rattle.ab_search_layers.proofs.Opens.{layer}
@@ -44,8 +44,19 @@ pub record IsWithEach (D : Declarations) (ys : List (tree.Variable ℕ)) (C E : 
   pub there : form_of E ≡ exists type scope_there
   pub each : (t : Read) → HasType (signature_in D) [] t type → Gives D ys (instance scope t) (instance scope_there t)
 
+-- the first alone does
+pub record IsByAny (D : Declarations) (ys : List (tree.Variable ℕ)) (C E : Read) : Type 0 where
+  pub type : Ty
+  pub scope : Read
+  pub here : form_of C ≡ exists type scope
+  pub any : (t : Read) → HasType (signature_in D) [] t type → Gives D ys (instance scope t) E
+
+-- past the terms: it opens, or it is of such a form
+abbrev pub IsPastTerms : Declarations → List (tree.Variable ℕ) → Read → Read → Type 0
+IsPastTerms D ys C E = OpensTo C E ⊎ (IsWithEach D ys C E ⊎ IsByAny D ys C E)
+
 -- what is of that form
-record IsExists (C : Read) (A : Ty) (R : Read) : Type 0 where
+pub record IsExists (C : Read) (A : Ty) (R : Read) : Type 0 where
   pub type : Ty
   pub hint : List ℕ
   pub body : Read
@@ -81,7 +92,7 @@ with_is (plain.plus i) t A R e = absurd (cc)
 with_is (plain.hash i) t A R e = absurd (cc)
 with_is _ t A R e = absurd (cc)
 
-is_exists : (C : Read) (A : Ty) (R : Read) → form_of C ≡ exists A R → StandsIn a_formula C → IsExists C A R
+pub is_exists : (C : Read) (A : Ty) (R : Read) → form_of C ≡ exists A R → StandsIn a_formula C → IsExists C A R
 is_exists (lam B x t) A R e s = absurd s
 is_exists (spine (constant c) ts) A R e s = absurd (cc)
 is_exists (spine (nominal a) ts) A R e s = absurd (cc)
@@ -108,6 +119,7 @@ gives_stands D ys (of_a_term {B = E} {S = S} {A = A} t e typed known g) s =
     let scope : StandsIn a_scope S = subst (StandsIn a_scope) (sym x.scope) (subst (StandsIn a_formula) x.whole s).1.0 in
     gives_stands D ys g (instance_stands S t scope)
 gives_stands D ys (of_each_term formula h k each) s = formula.stands
+gives_stands D ys (of_any_term formula h any) s = formula.stands
 
 -- WHAT IS LIKE A FORMULA is like one that is the same past hints
 like_past_hints : (D : Declarations) (vs : List StandIn) (K E G : Read) → IsFormula (signature_in D) K → forget K ≡ forget E → IsLike D vs E G → IsLike D vs K G
@@ -143,11 +155,12 @@ module _ (D : Declarations) (sentences : HaveSentences D) (definitions : HaveDef
       after D sentences definitions programs has (AreLike D vs Hs (instance S t ∷ [])) (exists_right w.0) s is refl w.1 (one_premise D sentences definitions programs has vs Hs (instance S t) next)
 
   -- FIRST THE TERMS
-  pub terms_first : (ys : List (tree.Variable ℕ)) (vs : List StandIn) (Hs : List Read) (C E : Read) → map replaced vs ≡ ys → Gives D ys C E → ((K : Read) → OpensTo C K ⊎ IsWithEach D ys C K → Goal vs Hs K) → Goal vs Hs E
+  pub terms_first : (ys : List (tree.Variable ℕ)) (vs : List StandIn) (Hs : List Read) (C E : Read) → map replaced vs ≡ ys → Gives D ys C E → ((K : Read) → IsPastTerms D ys C K → Goal vs Hs K) → Goal vs Hs E
   terms_first ys vs Hs C E q (it_opens o) base = base E (inl o)
   terms_first ys vs Hs C E q (but_for_hints {K = K} formula e g) base = same_past_hints vs Hs K E formula e (terms_first ys vs Hs C K q g base)
   terms_first ys vs Hs C E q (of_a_term {S = S} {A = A} t e typed known g) base = put_in vs Hs E S t A e typed (subst (λ ks. HoldsOnly ks t) (sym q) known) (terms_first ys vs Hs C (instance S t) q g base)
-  terms_first ys vs Hs C E q (of_each_term {R = R} {S = S} {A = A} formula h k each) base = base E (inr (record { type = A; scope = R; scope_there = S; here = h; there = k; each = each }))
+  terms_first ys vs Hs C E q (of_each_term {R = R} {S = S} {A = A} formula h k each) base = base E (inr (inl (record { type = A; scope = R; scope_there = S; here = h; there = k; each = each })))
+  terms_first ys vs Hs C E q (of_any_term {R = R} {A = A} formula h any) base = base E (inr (inr (record { type = A; scope = R; here = h; any = any })))
 
   -- OF A HYPOTHESIS
   pub leaf_given : (ys : List (tree.Variable ℕ)) (H C E : Read) → Gives D ys C E → IsLeaf H C → (vs : List StandIn) → ((y : tree.Variable ℕ) → Contains ys y → Contains (map replaced vs) y) → (Hs : List Read) → Contains Hs H → Goal vs Hs E
@@ -164,3 +177,10 @@ module _ (D : Declarations) (sentences : HaveSentences D) (definitions : HaveDef
       (λ t free typed w holds Rs c.
       let one : IsLeaf (instance (lam x.type p.0 p.1) t) (instance R t) = subst (λ z. IsLeaf (instance (lam x.type p.0 p.1) t) (instance z t)) (sym x.scope) (leaf_put x.type t zero p.3) in
       put_in (w ∷ vs) Rs E S t A k typed holds (leaf_given ys (instance (lam x.type p.0 p.1) t) (instance R t) (instance S t) (each t typed) one (w ∷ vs) (λ y n. Contains-there (replaced w) (map replaced vs) y (known y n)) Rs c))
+  leaf_given ys H C E (of_any_term {R = R} {A = A} formula h any) l vs known Hs m =
+      let x = is_exists C A R h l.stands_there in
+      let p = leaf_exists A x.type x.hint H x.body (subst (IsLeaf H) x.whole l) in
+      exists_left_through D sentences definitions programs has vs Hs (spine (logical (plain.existential A)) (term (lam x.type p.0 p.1) no_terms)) E (lam x.type p.0 p.1) A refl (subst (Contains Hs) p.2 m)
+      (λ t free typed w holds Rs c.
+      let one : IsLeaf (instance (lam x.type p.0 p.1) t) (instance R t) = subst (λ z. IsLeaf (instance (lam x.type p.0 p.1) t) (instance z t)) (sym x.scope) (leaf_put x.type t zero p.3) in
+      leaf_given ys (instance (lam x.type p.0 p.1) t) (instance R t) E (any t typed) one (w ∷ vs) (λ y n. Contains-there (replaced w) (map replaced vs) y (known y n)) Rs c)

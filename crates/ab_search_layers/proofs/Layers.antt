@@ -91,7 +91,7 @@ module _ (D : Declarations) (sentences : HaveSentences D) (definitions : HaveDef
 
   -- where no `exists` is shown
   alone : (ys : List (tree.Variable ℕ)) (vs : List StandIn) (Hs : List Read) (C E : Read) → map replaced vs ≡ ys → ((A : Ty) (R : Read) → form_of C ≡ exists A R → ⊥) → Gives D ys C E → ((K : Read) → OpensTo C K → Goal vs Hs K) → Goal vs Hs E
-  alone ys vs Hs C E q none g base = terms_first D sentences definitions programs has ys vs Hs C E q g (λ K k. elim k [ inl o ↦ base K o | inr w ↦ absurd (none w.type w.scope w.here) ])
+  alone ys vs Hs C E q none g base = terms_first D sentences definitions programs has ys vs Hs C E q g (λ K k. elim k [ inl o ↦ base K o | inr w ↦ elim w [ inl e ↦ absurd (none e.type e.scope e.here) | inr a ↦ absurd (none a.type a.scope a.here) ] ])
 
   pub derived : (ys : List (tree.Variable ℕ)) (Hs : List Read) (C : Read) → Layered D ys Hs C → (E : Read) → Gives D ys C E → (vs : List StandIn) → map replaced vs ≡ ys → Goal vs Hs E
   derived ys Hs C (by_truth e) E g vs q =
@@ -127,14 +127,22 @@ module _ (D : Declarations) (sentences : HaveSentences D) (definitions : HaveDef
       let holds = subst (λ ks. HoldsOnly ks t) (sym q) known in
       terms_first D sentences definitions programs has ys vs Hs C E q g (λ K k. elim k [
         | inl o ↦ (let x = seen (exists A F) o e in put_in D sentences definitions programs has vs Hs K x.0 t A x.1 typed holds (derived ys Hs (instance F t) p (instance x.0 t) (it_opens (x.2 t)) vs q))
-        | inr w ↦ (
-            let same : exists A F ≡ exists w.type w.scope = sym e ∙ w.here in
-            let type : A ≡ w.type = cc in
-            let scope : F ≡ w.scope = cc in
-            let fits = subst (HasType (signature_in D) [] t) type typed in
-            put_in D sentences definitions programs has vs Hs K w.scope_there t w.type w.there fits holds
-            (derived ys Hs (instance F t) p (instance w.scope_there t) (subst (λ z. Gives D ys (instance z t) (instance w.scope_there t)) (sym scope) (w.each t fits)) vs q)
-            )
+        | inr w ↦ elim w [
+          | inl w ↦ (
+              let same : exists A F ≡ exists w.type w.scope = sym e ∙ w.here in
+              let type : A ≡ w.type = cc in
+              let scope : F ≡ w.scope = cc in
+              let fits = subst (HasType (signature_in D) [] t) type typed in
+              put_in D sentences definitions programs has vs Hs K w.scope_there t w.type w.there fits holds
+              (derived ys Hs (instance F t) p (instance w.scope_there t) (subst (λ z. Gives D ys (instance z t) (instance w.scope_there t)) (sym scope) (w.each t fits)) vs q)
+              )
+          | inr w ↦ (
+              let same : exists A F ≡ exists w.type w.scope = sym e ∙ w.here in
+              let type : A ≡ w.type = cc in
+              let scope : F ≡ w.scope = cc in
+              derived ys Hs (instance F t) p K (subst (λ z. Gives D ys (instance z t) K) (sym scope) (w.any t (subst (HasType (signature_in D) [] t) type typed))) vs q
+              )
+        ]
       ])
   derived ys Hs C (by_variable {F = F} {A = A} n e new p) E g vs q =
       let x : tree.Variable ℕ = record { name = n; type = over (in_order (support C)) A } in

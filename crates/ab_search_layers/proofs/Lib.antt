@@ -12,5 +12,6 @@ pub mod Clashing
 pub mod NoMember
 pub mod Void
 pub mod Giving
+pub mod PastHints
 pub mod Layers
 pub mod Early

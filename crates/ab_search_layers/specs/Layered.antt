@@ -36,12 +36,14 @@ pub data OpensTo : Read → Read → Type 0 where
   in_exists : {A B : Ty} {x : List ℕ} {F G : Read} → OpensTo F G → OpensTo (spine (logical (plain.existential A)) (term (lam B x F) no_terms)) (spine (logical (plain.existential A)) (term (lam B x G) no_terms))
 
 -- THE FIRST, which is shown, GIVES THE SECOND, which a rule leaves: it opens to it, past hints; or the second says that something exists, and the first
--- gives that of some term over these variables; or both say so, and the first gives the second of whatever term.
+-- gives that of some term over these variables; or both say so, and the first gives the second of whatever term; or the first alone says so, and gives the
+-- second by whatever term.
 pub data Gives (D : Declarations) (ys : List (tree.Variable ℕ)) : Read → Read → Type 0 where
   it_opens : {F B : Read} → OpensTo F B → Gives D ys F B
   but_for_hints : {F K B : Read} → IsFormula (signature_in D) K → EqualPastHints K B → Gives D ys F K → Gives D ys F B
   of_a_term : {F B S : Read} {A : Ty} (t : Read) → form_of B ≡ exists A S → HasType (signature_in D) [] t A → HoldsOnly ys t → Gives D ys F (instance S t) → Gives D ys F B
   of_each_term : {F B R S : Read} {A : Ty} → IsFormula (signature_in D) F → form_of F ≡ exists A R → form_of B ≡ exists A S → ((t : Read) → HasType (signature_in D) [] t A → Gives D ys (instance R t) (instance S t)) → Gives D ys F B
+  of_any_term : {F B R : Read} {A : Ty} → IsFormula (signature_in D) F → form_of F ≡ exists A R → ((t : Read) → HasType (signature_in D) [] t A → Gives D ys (instance R t) B) → Gives D ys F B
 
 -- `member` is defined as it is built in
 pub record MemberIsDefined (D : Declarations) : Type 0 where

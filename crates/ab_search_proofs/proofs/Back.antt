@@ -77,7 +77,7 @@ module _ (sg : Signature) (s : Sequent) where
   all_back P each vs all = All-map P (λ (v : StandIn). (in_terms v.variable, put_back v)) vs (All-weaker (IsStandIn s) (λ v. P (in_terms v.variable, put_back v)) each vs all)
 
   module _ (vs : List StandIn) (are : AreStandIns s vs) where
-    back_typed : IsTyped sg (back vs)
+    pub back_typed : IsTyped sg (back vs)
     back_typed = all_back (λ p. HasType sg [] p.1 p.0.type) back_typed_one vs are.all
 
     back_nameless : (y : tree.Variable ℕ) (t : Read) → value_in same_number (back vs) y ≡ Some t → support t ≡ []

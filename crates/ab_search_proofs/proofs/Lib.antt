@@ -28,6 +28,7 @@ pub mod OpenedAlike
 pub mod Alone
 pub mod Opening
 pub mod PartsAlike
+pub mod PartThere
 pub mod PartAlone
 pub mod PartsUnder
 pub mod Sentences

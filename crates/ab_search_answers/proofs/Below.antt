@@ -1,5 +1,5 @@
 -- WHAT IS PUT IN BELOW A PLACE of the tree, down to an answer: what is unified on the way, and then a constant for each variable that stays open.
-use Rattle.std.proofs.Common.{◌≡◌, ◌≢◌, ◌⊎◌, ℕ, ◌≤◌, List, [], map, length, codes, true, Some, None}
+use Rattle.std.proofs.Common.{◌≡◌, ◌⊎◌, ℕ, ◌≤◌, List, map, length, codes, true, Some, None}
 use Rattle.std.specs.Prelude.{Contains}
 use Rattle.ab_term.specs.Terms.{Nominal, Variable, Read}
 use Rattle.ab_term.specs.Typing.{Signature}
@@ -12,8 +12,7 @@ use Rattle.ab_formulas.specs.GoalTerms.{HoldsOnly}
 use Rattle.ab_formulas.specs.Marks.{plain}
 use Rattle.ab_theory.specs.Atoms.{Defined, Choice, defined_atom, choices_of}
 use Rattle.ab_theory.specs.Judgements.{Judgement, as_judgement}
-use Rattle.ab_theory.specs.Parts.{Part}
-use Rattle.ab_theory.specs.SpecRules.{SpecRule, by_part}
+use Rattle.ab_theory.specs.SpecRules.{SpecRule}
 use Rattle.ab_search_trees.specs.Goals.{Goal, Now}
 use Rattle.ab_search_trees.specs.Judgements.{opened_once, search_rules}
 use Rattle.ab_search_trees.specs.Outcomes.{filling}
@@ -81,7 +80,3 @@ EvidenceFor D s =
     let r = in_the_end last q n in
     as_judgement g.conclusion ≡ Some j → j.sign ≡ plain → Contains (search_rules D j) s → IsTaken D now g ys (by_rule D now g depth j s) last more q n → opened_once (image same_number r g.conclusion) ≡ None →
     Layered D ys Hs (image same_number r (demanded (length now.cells) j s).body) → Layered D ys Hs (image same_number r g.conclusion)
-
--- for the parts of formulas in focus that have names
-abbrev pub NamedPartEvidence : Declarations → Type 0
-NamedPartEvidence D = (p : Part) → p.names ≢ [] → EvidenceFor D (by_part p)
