@@ -1,0 +1,5 @@
+mod Readings
+mod Stepping
+pub mod Effects
+pub mod Searching
+pub mod Proofs

@@ -1,0 +1,17 @@
+pub mod Trees
+pub mod Named
+pub mod Hypotheses
+pub mod Moving
+pub mod Waiting
+pub mod Reaching
+pub mod Opening
+pub mod Introducing
+pub mod Itself
+pub mod Parting
+pub mod Casing
+pub mod Permuting
+pub mod Remaining
+pub mod Givens
+pub mod Asking
+pub mod Applying
+pub mod Extending

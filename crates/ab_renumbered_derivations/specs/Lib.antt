@@ -1,0 +1,1 @@
+-- What the laws speak of stands in the crates below.

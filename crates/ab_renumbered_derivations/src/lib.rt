@@ -1,0 +1,4 @@
+//! Derivations by other numbers for variables: laws.
+#![tactic(auto)]
+
+pub mod laws;

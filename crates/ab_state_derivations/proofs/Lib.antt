@@ -1,0 +1,4 @@
+mod Declaring
+mod Forward
+pub mod Histories
+pub mod Searches

@@ -1,0 +1,2 @@
+-- States that derivations bear out.
+pub mod DerivedStates
