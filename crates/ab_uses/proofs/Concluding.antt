@@ -14,7 +14,11 @@ use Rattle.ab_norm.proofs.Frame.{still_read, still_held}
 use Rattle.ab_unifiers.specs.Replacements.{occurs}
 use Rattle.ab_patterns.proofs.Bound.{same_cell}
 use Rattle.ab_unify.specs.StoreChanges.{Grows}
-use Rattle.ab_uses.specs.UseCells.{StageIsHeld}
+use Rattle.ab_term.specs.Terms.{Nominal}
+use Rattle.ab_uses.specs.UseCells.{StageIsTyped, stages_read}
+use Rattle.ab_uses.specs.StageReadings.{stage_by}
+use Rattle.ab_uses.specs.ClosedReadings.{closed_reading}
+use Rattle.ab_uses.specs.declared.stage.Stage.{Stage}
 use Rattle.ab_uses.specs.UseSolutions.{missing, stands_in, is_open}
 use Rattle.ab_uses.specs.ChoiceAnswers.{is_left_in, IsLeft}
 use Rattle.ab_uses.specs.declared.use_answers.Use.{Use}
@@ -71,8 +75,8 @@ module _ (T : Table) (S V W : Contents) (adds : AddsTypedTerms T S V) (more : Ad
   all_open_same cs = filter_same (is_open T W (ts ++ r ∷ [])) (is_left_in T S (As ++ R ∷ [])) open_same cs
 
   -- WHERE ONE IS OPEN
-  pub left_open : (cs : List CellId) (l : List TermId) → l ≡ ts ++ r ∷ [] → (c : CellId) (rest : List CellId) → filter (is_open T W l) cs ≡ c ∷ rest → (x : List ℕ) → x ≡ (cell_of W c).hint → (now : Contents) → IsLeft T S As R cs now (Open x)
-  left_open cs l whole c rest first x name now = (
+  pub left_open : (cs : List CellId) (l : List TermId) → l ≡ ts ++ r ∷ [] → (c : CellId) (rest : List CellId) → filter (is_open T W l) cs ≡ c ∷ rest → (x : List ℕ) → x ≡ (cell_of W c).hint → (ss : List Stage) (known : List Nominal) (now : Contents) → IsLeft T S As R ss known cs now (Open x)
+  left_open cs l whole c rest first x name ss known now = (
     c,
     rest,
     sym (all_open_same cs) ∙ ap (λ k. filter (is_open T W k) cs) (sym whole) ∙ first,
@@ -80,8 +84,9 @@ module _ (T : Table) (S V W : Contents) (adds : AddsTypedTerms T S V) (more : Ad
   )
 
   -- WHERE NONE IS, once stages are closed
-  pub left_used : (cs : List CellId) (l : List TermId) → l ≡ ts ++ r ∷ [] → filter (is_open T W l) cs ≡ [] → Holds W r → (now : Contents) → Grows T W T now → (u : Use) → All (StageIsHeld now) u.stages.items → u.awaited.items ≡ ts → u.result ≡ r → IsLeft T S As R cs now (Used u)
-  left_used cs l whole none here now g u stages list is =
+  pub left_used : (cs : List CellId) (l : List TermId) → l ≡ ts ++ r ∷ [] → filter (is_open T W l) cs ≡ [] → Holds W r → (now : Contents) → Grows T W T now → (u : Use) → All (StageIsTyped T now) u.stages.items → u.awaited.items ≡ ts → u.result ≡ r
+      → (ss : List Stage) (known : List Nominal) → stages_read T now u.stages.items ≡ map (stage_by T (closed_reading T S known cs)) ss → IsLeft T S As R ss known cs now (Used u)
+  left_used cs l whole none here now g u stages list is ss known closed =
       let lasting = still_held V W ts more held in (
         sym (all_open_same cs) ∙ ap (λ k. filter (is_open T W k) cs) (sym whole) ∙ none,
         stages,
@@ -89,4 +94,5 @@ module _ (T : Table) (S V W : Contents) (adds : AddsTypedTerms T S V) (more : Ad
         subst (Holds now) (sym is) (g.trees r here).0,
         ap (map (tree_of T now)) list ∙ trees_last T T W now g ts lasting ∙ awaited_trees,
         ap (tree_of T now) is ∙ (g.trees r here).1 ∙ result_tree,
+        closed,
       )

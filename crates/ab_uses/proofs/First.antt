@@ -16,7 +16,7 @@ use Rattle.ab_uses.specs.ChoiceAnswers.{ComesOut}
 use Rattle.ab_uses.specs.ChoiceTrials.{decides, stands_outside, NoneServes, IsFirstOf, FirstComesOut}
 use Rattle.ab_uses.specs.declared.outcome.Outcome.{Outcome}
 use Rattle.ab_uses.specs.declared.outcome.Outcome.TheVariants.{PassedOver, Apart, Stuck, Open, Used}
-use Rattle.ab_uses.proofs.Outside.{outside_numbered}
+use Rattle.ab_consequences.proofs.Outside.{outside_numbered}
 
 module _ (cells : List (Cell (List ℕ))) (u : Using) where
   abbrev Never : List Nominal → Type 0

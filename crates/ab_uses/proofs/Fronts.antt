@@ -1,25 +1,17 @@
 -- Formulas with parts in front, and what is left of them once a part is taken off.
-use Rattle.std.proofs.Common.{◌≡◌, ℕ, suc, List, [], ◌∷◌, map, codes, refl, sym, ◌∙◌, ap, subst, zero}
+use Rattle.std.proofs.Common.{◌≡◌, ℕ, List, [], ◌∷◌, map, subst}
 use Rattle.ab_term.specs.Types.{Ty, arrow, prop}
-use Rattle.ab_term.specs.Logical.{universal, nabla, implication}
-use Rattle.ab_term.specs.Terms.{Nominal, Variable, nominal, logical, lam, spine, no_terms, term, Terms, Read}
+use Rattle.ab_term.specs.Logical.{universal, nabla}
+use Rattle.ab_term.specs.Terms.{Nominal, logical, lam, spine, no_terms, term, Read}
 use Rattle.ab_term.specs.Typing.{Signature, IsExtendedBy, HasType, typed_spine, take_term}
-use Rattle.ab_term.specs.Substitution.{substitute_by, instance}
 use Rattle.ab_term.proofs.Preservation.{instance_typed}
 use Rattle.ab_term.proofs.Unique.{more_typed}
 use Rattle.ab_theory.specs.Pieces.{Part, variable_for, given_term, constant_for, antecedent}
 use Rattle.ab_theory.specs.Uses.{with_term, left_side, right_side, used, types_chosen}
+use Rattle.ab_consequences.proofs.UseStages.{front_put}
 use Rattle.ab_uses.specs.UseCells.{HasParts, has_none, has_variable, has_given, has_constant, has_antecedent}
 
 module _ (sg : Signature) where
-  -- a term that is put in leaves what stands in front
-  pub front_put : (apply : Read → Terms ℕ (List ℕ) → Read) (u : Read) (k : ℕ) {ps : List Part} {t : Read} → HasParts sg ps t → HasParts sg ps (substitute_by apply u k t)
-  front_put apply u k has_none = has_none
-  front_put apply u k (has_variable h) = has_variable (front_put apply _ (suc k) h)
-  front_put apply u k (has_given d h) = has_given d (front_put apply _ (suc k) h)
-  front_put apply u k (has_constant h) = has_constant (front_put apply _ (suc k) h)
-  front_put apply u k (has_antecedent h) = has_antecedent (front_put apply u k h)
-
   pub front_first : {p : Part} {ps : List Part} {F : Read} → HasParts sg (p ∷ ps) F → HasParts sg (p ∷ []) F
   front_first (has_variable h) = has_variable has_none
   front_first (has_given d h) = has_given d has_none
@@ -29,10 +21,10 @@ module _ (sg : Signature) where
   -- what is left has the other parts in front
   pub front_rest : (held : List Nominal) (n : ℕ) (names : List Nominal) {p : Part} {ps : List Part} {F : Read} → map (λ a. a.type) names ≡ types_chosen (p ∷ ps)
       → HasParts sg (p ∷ ps) F → HasParts sg ps (used held n (p ∷ []) names F).result
-  front_rest held n names e (has_variable h) = front_put _ _ _ h
-  front_rest held n names e (has_given d h) = front_put _ _ _ h
+  front_rest held n names e (has_variable h) = front_put sg _ _ _ h
+  front_rest held n names e (has_given d h) = front_put sg _ _ _ h
   front_rest held n [] e (has_constant h) = absurd (cc)
-  front_rest held n (a ∷ names) e (has_constant h) = front_put _ _ _ h
+  front_rest held n (a ∷ names) e (has_constant h) = front_put sg _ _ _ h
   front_rest held n names e (has_antecedent h) = h
 
   universal_scope : {A B : Ty} {y : List ℕ} {t : Read} → HasType sg [] (spine (logical (universal A)) (term (lam B y t) no_terms)) prop → HasType sg [] (lam B y t) (arrow A prop)
@@ -43,6 +35,9 @@ module _ (sg : Signature) where
 
   pub variable_put : {x : List ℕ} {A : Ty} {F u : Read} → HasParts sg (variable_for x A ∷ []) F → HasType sg [] F prop → HasType sg [] u A → HasType sg [] (with_term F u) prop
   variable_put (has_variable h) d e = instance_typed sg (universal_scope d) e
+
+  pub given_is : {F u : Read} → HasParts sg (given_term u ∷ []) F → (A : Ty) × HasType sg [] u A
+  given_is (has_given {A = A} e h) = (A, e)
 
   pub given_put : {F u : Read} → HasParts sg (given_term u ∷ []) F → HasType sg [] F prop → HasType sg [] (with_term F u) prop
   given_put (has_given e h) d = instance_typed sg (universal_scope d) e

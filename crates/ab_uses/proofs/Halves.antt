@@ -6,7 +6,6 @@ use Rattle.std.proofs.lemmas.List.Elements.{All-nil, All-drop, All-get_or}
 use Rattle.ab_term.specs.Types.{Ty, prop}
 use Rattle.ab_norm.specs.ab_types.specs.Entries.{Table, signature}
 use Rattle.ab_norm.specs.ab_store.specs.declared.node.TermId.{TermId}
-use Rattle.ab_term.specs.Terms.{Read}
 use Rattle.ab_norm.specs.ab_store.specs.Trees.{Contents, tree_of}
 use Rattle.ab_norm.specs.ab_store.specs.Growth.{IsExtendedBy}
 use Rattle.ab_norm.specs.ab_store.specs.Naming.{IsTypedBy, IsTerm}
@@ -19,14 +18,15 @@ use Rattle.ab_unify.specs.StoreChanges.{Grows}
 use Rattle.ab_unify.proofs.Growth.{grows_on, grows_none}
 use Rattle.ab_alternatives.specs.ab_instances.specs.ListReadings.{names_read, trees_at}
 use Rattle.ab_alternatives.specs.ab_instances.specs.RaisedCells.{ids_from}
-use Rattle.ab_alternatives.specs.ab_instances.proofs.Made.{names_held, names_stay, variables_at}
+use Rattle.ab_alternatives.specs.ab_instances.proofs.Made.{names_held, variables_at}
 use Rattle.ab_theory.specs.Uses.{Use, used, types_chosen, nothing_taken}
-use Rattle.ab_uses.specs.UseCells.{part_read, parts_read, HoldsPart, HasParts, names_left, and_then, StageIsHeld, IsUnderWay, GoesOn, IsMade}
+use Rattle.ab_consequences.specs.UseStages.{stages_of}
+use Rattle.ab_uses.specs.UseCells.{part_read, parts_read, HoldsPart, HasParts, names_left, and_then, StageIsTyped, stages_read, IsUnderWay, GoesOn, GoesOnBy, IsMade}
 use Rattle.ab_uses.specs.declared.made_uses.Made.{Made}
 use Rattle.ab_uses.specs.declared.part.Part.{Part}
 use Rattle.ab_uses.proofs.Parted.{parts_held}
 use Rattle.ab_uses.proofs.Steps.{ids_append, and_assoc}
-use Rattle.ab_uses.proofs.Rest.{chosen_apart, names_are, names_are_held, fit_is, front_is, rest_used, passed_first}
+use Rattle.ab_uses.proofs.Rest.{chosen_apart, names_are_held, fit_is, front_is, rest_used, rest_stages, passed_first}
 
 pub half_way : (T : Table) (S : Contents) (before : List (Cell (List ℕ))) (u : Use) (m : Made) → IsMade T S before u m → IsUnderWay T S m
 half_way T S before u m a = record { formulas = a.formulas; formula = a.formula; stages = a.stages }
@@ -66,6 +66,8 @@ pub record HalfMade (T0 : Table) (S0 : Contents) (held : List Nominal) (chosen :
   pub made : IsMade T S (cells_read T0 S0) done m
   pub whole : used (names_read T0 held) (length (cells_read T0 S0)) (parts_read T0 S0 parts) (names_read T0 chosen) (tree_of T0 S0 formula)
       ≡ and_then done (used (names_read T held) (length S.cells) (parts_read T S (drop i parts)) (names_read T left) (tree_of T S m.result))
+  pub staged : stages_of (names_read T0 held) (length (cells_read T0 S0)) (parts_read T0 S0 parts) (names_read T0 chosen)
+      ≡ stages_read T S m.stages.items ++ stages_of (names_read T held) (length S.cells) (parts_read T S (drop i parts)) (names_read T left)
   pub held_left : All (HoldsNominal T) left
   pub front : HasParts (signature T) (parts_read T S (drop i parts)) (tree_of T S m.result)
   pub fit : map (λ a. a.type) (names_read T left) ≡ types_chosen (parts_read T S (drop i parts))
@@ -103,7 +105,8 @@ module _ (T0 T U : Table) (S0 S V : Contents) (held chosen : List Nominal) (part
       ∙ ap (λ b. b && (used (names_read T held) (length S.cells) (parts_read T S (p ∷ rest)) (names_read T left) (tree_of T S m.result)).outside) h.made.outside
       ∙ passed_first (names_read T held) (length S.cells) (part_read T S p) (parts_read T S rest) (names_read T left) (tree_of T S m.result) first_fit e
 
-  module _ (g : Grows T S U V) (e : IsExtendedBy S V) (k : Made) (next : List Nominal) (next_is : next ≡ names_left (part_read T S p) left) (a : GoesOn T S m first U V k) where
+  module _ (g : Grows T S U V) (e : IsExtendedBy S V) (k : Made) (next : List Nominal) (next_is : next ≡ names_left (part_read T S p) left) (a : GoesOn T S m first U V k)
+      (b : GoesOnBy T S m (stages_of (names_read T held) (length S.cells) (part_read T S p ∷ []) (names_read T left)) U V k) where
     held_now : All (HoldsNominal T) held
     held_now = names_held T0 T h.grows.table held held_all
 
@@ -119,6 +122,11 @@ module _ (T0 T U : Table) (S0 S V : Contents) (held chosen : List Nominal) (part
       whole = whole_is
           ∙ ap (and_then h.done) (rest_used T U S V g m k held left next held_now h.held_left p rest rest_all first_fit next_is a)
           ∙ and_assoc h.done first _;
+      staged = h.staged
+          ∙ ap (λ ps. stages_read T S m.stages.items ++ stages_of (names_read T held) (length S.cells) (parts_read T S ps) (names_read T left)) parts_are
+          ∙ ap (λ l. stages_read T S m.stages.items ++ l) (rest_stages T U S V g m k held left next held_now h.held_left p rest rest_all first_fit next_is a)
+          ∙ sym (append_assoc (stages_read T S m.stages.items) (stages_of (names_read T held) (length S.cells) (part_read T S p ∷ []) (names_read T left)) _)
+          ∙ ap (λ l. l ++ stages_of (names_read U held) (length V.cells) (parts_read U V rest) (names_read U next)) (sym b);
       held_left = names_are_held T U S V g m k held left next held_now h.held_left p rest rest_all first_fit next_is;
       front = front_is T U S V g m k held left next held_now h.held_left p rest rest_all first_fit next_is a first_front;
       fit = fit_is T U S V g m k held left next held_now h.held_left p rest rest_all first_fit next_is;
@@ -144,6 +152,14 @@ half_done T0 T S0 S held chosen parts formula i left m all h =
     ∙ ap (λ R. and_then h.done (nothing_taken R)) h.made.result
     ∙ and_nothing h.done)) h.made
 
+-- and its stages are those of the parts
+pub half_staged : (T0 T : Table) (S0 S : Contents) (held chosen : List Nominal) (parts : List Part) (formula : TermId) (i : ℕ) (left : List Nominal) (m : Made) → length parts ≤ i → HalfMade T0 S0 held chosen parts formula T S i left m
+    → stages_read T S m.stages.items ≡ stages_of (names_read T0 held) (length (cells_read T0 S0)) (parts_read T0 S0 parts) (names_read T0 chosen)
+half_staged T0 T S0 S held chosen parts formula i left m all h =
+    sym (h.staged
+    ∙ ap (λ ps. stages_read T S m.stages.items ++ stages_of (names_read T held) (length S.cells) (parts_read T S ps) (names_read T left)) (drop_all i parts all)
+    ∙ append-nil (stages_read T S m.stages.items))
+
 -- at first nothing is made
 pub half_none : (T : Table) (S : Contents) → IsTypedBy T S → (held chosen : List Nominal) (parts : List Part) (formula : TermId) (m : Made) → m.cells.items ≡ [] → m.antecedents.items ≡ [] → m.stages.items ≡ [] → m.result ≡ formula
     → All (HoldsNominal T) chosen → IsTerm T S [] formula prop → HasParts (signature T) (parts_read T S parts) (tree_of T S formula) → map (λ a. a.type) (names_read T chosen) ≡ types_chosen (parts_read T S parts)
@@ -161,10 +177,12 @@ half_none T S typed held chosen parts formula m cells ants stages result chosen_
     formulas = subst (All (λ t. IsTerm T S [] t prop)) (sym ants) (All-nil (λ t. IsTerm T S [] t prop));
     result = ap (tree_of T S) result;
     formula = subst (λ t. IsTerm T S [] t prop) (sym result) is;
-    stages = subst (All (StageIsHeld S)) (sym stages) (All-nil (StageIsHeld S));
+    stages = subst (All (StageIsTyped T S)) (sym stages) (All-nil (StageIsTyped T S));
   };
   whole = ap (λ n. used (names_read T held) n (parts_read T S parts) (names_read T chosen) (tree_of T S formula)) (length-map S.cells (cell_read T))
       ∙ ap (λ t. used (names_read T held) (length S.cells) (parts_read T S parts) (names_read T chosen) (tree_of T S t)) (sym result);
+  staged = ap (λ n. stages_of (names_read T held) n (parts_read T S parts) (names_read T chosen)) (length-map S.cells (cell_read T))
+      ∙ ap (λ l. stages_read T S l ++ stages_of (names_read T held) (length S.cells) (parts_read T S parts) (names_read T chosen)) (sym stages);
   held_left = chosen_all;
   front = subst (λ t. HasParts (signature T) (parts_read T S parts) (tree_of T S t)) (sym result) front;
   fit = fit;

@@ -1,10 +1,11 @@
 -- A question that is asked lasts as the world grows, and stands for the same.
 use Rattle.std.specs.List.{All}
 use Rattle.std.specs.Option.{option_map}
-use Rattle.std.proofs.Common.{◌≡◌, ℕ, List, [], ◌∷◌, map, Option, Some, None, refl, sym, ◌∙◌, ap, subst}
+use Rattle.std.specs.Prelude.{Contains}
+use Rattle.std.proofs.Common.{◌≡◌, ◌≤◌, List, [], ◌∷◌, ◌++◌, map, length, Option, Some, None, refl, sym, ◌∙◌, ap, subst}
 use Rattle.std.proofs.lemmas.List.Elements.{All-head, All-tail, All-weaker}
 use Rattle.ab_term.specs.Types.{Ty, prop}
-use Rattle.ab_term.specs.Terms.{Nominal, Read}
+use Rattle.ab_term.specs.Terms.{Read}
 use Rattle.ab_term.specs.Typing.{HasType}
 use Rattle.ab_norm.specs.ab_types.specs.Entries.{Table, signature, IsExtendedBy as IsPartOf}
 use Rattle.ab_norm.specs.ab_types.specs.Ids.{HoldsType, type_of}
@@ -13,22 +14,20 @@ use Rattle.ab_norm.specs.ab_types.proofs.Entries.{same_type, type_still_held}
 use Rattle.ab_norm.specs.ab_store.specs.declared.node.TermId.{TermId}
 use Rattle.ab_norm.specs.ab_store.specs.Trees.{tree_of}
 use Rattle.ab_norm.specs.ab_store.specs.Naming.{IsTerm}
-use Rattle.ab_norm.specs.Nominals.{HoldsNominal}
 use Rattle.ab_unify.proofs.Growth.{lifted}
 use Rattle.ab_alternatives.specs.ab_instances.specs.ListReadings.{names_read}
 use Rattle.ab_alternatives.specs.ab_instances.proofs.Made.{names_stay, names_held}
-use Rattle.ab_unifiers.specs.Choices.{in_order}
 use Rattle.ab_logic.specs.WorldGrowth.{Grows}
-use Rattle.ab_formulas.specs.Sequents.{Sequent, goal_names}
-use Rattle.ab_logic.specs.Worlds.{Holds, read}
+use Rattle.ab_formulas.specs.Sequents.{Sequent}
 use Rattle.ab_logic.specs.declared.world.World.{World}
 use Rattle.ab_theory.specs.Pieces as plain
 use Rattle.ab_theory.specs.Pieces.{given_term, variable_for, constant_for}
-use Rattle.ab_theory.specs.UseAnswers.{Using}
+use Rattle.ab_theory.specs.Uses.{given_constants, Aim as Told}
+use Rattle.ab_consequences.specs.UsesFollow.{antecedents_among, AreNone}
 use Rattle.ab_uses.specs.UseCells.{HoldsPart, part_read, parts_read, HasParts, has_none, has_variable, has_given, has_constant, has_antecedent}
 use Rattle.ab_uses.specs.declared.part.Part.{Part}
 use Rattle.ab_uses.specs.declared.part.Part.TheVariants.{Variable, Given, Constant, Antecedent}
-use Rattle.ab_uses.specs.UseSolutions.{IsFormulaTerm, IsFormulaTermIfAny, aim_in}
+use Rattle.ab_uses.specs.UseSolutions.{IsFormulaTermIfAny, aim_in}
 use Rattle.ab_uses.specs.Questions.{IsPosed, using_at}
 use Rattle.ab_uses.specs.declared.aim.Aim.{Aim}
 use Rattle.ab_uses.specs.declared.question.Question.{Question}
@@ -101,10 +100,16 @@ module _ (w v : World) (g : Grows w v) where
       held = names_held w.types v.types g.types q.held.items h.held;
       names = names_stay w.types v.types g.types q.held.items h.held ∙ h.names;
       known = names_held w.types v.types g.types q.known.items h.known;
+      all_known = λ a m.
+          let same = ap (λ l. l ++ given_constants (parts_read v.types v.store q.parts.items)) (names_stay w.types v.types g.types q.held.items h.held)
+          ∙ ap (λ ps. names_read w.types q.held.items ++ given_constants ps) (same_parts q.parts.items h.parts) in
+          subst (λ l. Contains l a) (sym (names_stay w.types v.types g.types q.known.items h.known)) (h.all_known a (subst (λ l. Contains l a) same m));
       parts = All-weaker (HoldsPart w.types w.store) (HoldsPart v.types v.store) part_stays q.parts.items h.parts;
       formula = term_stays q.formula prop h.formula;
       front = subst (λ ps. HasParts (signature v.types) ps (tree_of v.types v.store q.formula)) (sym (same_parts q.parts.items h.parts))
           (subst (HasParts (signature v.types) (parts_read w.types w.store q.parts.items)) (sym (g.readings q.formula h.formula.0)) (front_stays w.types v.types g.types h.front));
       hypotheses = All-weaker (IsFormulaTermIfAny w.types w.store) (IsFormulaTermIfAny v.types v.store) any_stays aim.hypotheses.items h.hypotheses;
       conclusion = any_stays aim.conclusion h.conclusion;
+      enough = subst (λ ps. length aim.hypotheses.items ≤ antecedents_among ps) (sym (same_parts q.parts.items h.parts)) h.enough;
+      alone = λ e. subst (λ (a : Told). AreNone a.hypotheses) (sym (same_aim aim h.hypotheses h.conclusion)) (h.alone e);
     }

@@ -14,13 +14,12 @@ mod NewVariables
 mod Steps
 mod Rest
 mod Halves
-pub mod Begun
 mod TermsGiven
 mod PartsMade
 -- Lemmas of how a use of a formula is found.
-pub mod Outside
 pub mod Left
 pub mod Filling
+pub mod Closing
 pub mod Concluding
 pub mod ErasedTyped
 pub mod Equations

@@ -1,14 +1,14 @@
 -- What is made so far stays, where a table and a store grow; and what each part makes of it.
-use Rattle.std.proofs.Common.{◌≡◌, ℕ, suc, ◌+◌, List, [], ◌∷◌, ◌++◌, map, length, codes, Bool, true, false, not, refl, sym, ◌∙◌, ap, subst, append-nil}
+use Rattle.std.proofs.Common.{◌≡◌, ℕ, List, [], ◌∷◌, ◌++◌, map, length, true, refl, sym, ◌∙◌, ap, subst, append-nil}
 use Rattle.std.specs.List.{All}
 use Rattle.std.proofs.lemmas.List.{map-append}
-use Rattle.std.proofs.lemmas.List.Elements.{All-head, All-tail, All-nil, All-cons, All-push, All-weaker}
+use Rattle.std.proofs.lemmas.List.Elements.{All-head, All-tail, All-push, All-weaker}
 use Rattle.ab_term.specs.Types.{Ty, prop}
 use Rattle.ab_term.specs.Terms as tree
 use Rattle.ab_term.specs.Typing.{HasType}
 use Rattle.ab_norm.specs.ab_types.specs.Entries.{Table, signature}
+use Rattle.ab_norm.specs.ab_types.proofs.Entries.{type_still_held}
 use Rattle.ab_norm.specs.ab_store.specs.declared.node.TermId.{TermId}
-use Rattle.ab_norm.specs.ab_store.specs.declared.node.CellId.{CellId}
 use Rattle.ab_term.specs.Terms.{Read}
 use Rattle.ab_norm.specs.ab_store.specs.Trees.{Contents, Holds, tree_of}
 use Rattle.ab_norm.specs.ab_store.specs.Naming.{IsTypedBy, IsTerm}
@@ -17,10 +17,14 @@ use Rattle.ab_unify.specs.Problem.{cell_read, cells_read}
 use Rattle.ab_unify.specs.StoreChanges.{Grows}
 use Rattle.ab_unify.proofs.Growth.{grown_term, grows_terms}
 use Rattle.ab_alternatives.specs.ab_instances.specs.ListReadings.{trees_at}
-use Rattle.ab_theory.specs.Pieces.{variable_for, given_term, constant_for, antecedent}
+use Rattle.ab_theory.specs.Pieces.{given_term, constant_for, antecedent}
 use Rattle.ab_theory.specs.Uses.{used, left_side, right_side}
-use Rattle.ab_uses.specs.UseCells.{StageIsHeld, HasParts, IsUnderWay, GoesOn}
+use Rattle.ab_consequences.specs.Leading as leading
+use Rattle.ab_consequences.specs.Leading.{instance_by, chosen}
+use Rattle.ab_uses.specs.StageReadings.{stage_by}
+use Rattle.ab_uses.specs.UseCells.{StageIsTyped, stages_read, HasParts, IsUnderWay, GoesOn}
 use Rattle.ab_uses.proofs.Fronts.{sides_typed}
+use Rattle.ab_uses.proofs.Parted.{type_stays}
 use Rattle.ab_uses.specs.declared.made_uses.Made.{Made}
 use Rattle.ab_uses.specs.declared.stage.Stage.{Stage}
 use Rattle.ab_uses.specs.declared.stage.Stage.TheVariants.{Instance, Chosen, Antecedent}
@@ -29,13 +33,34 @@ module _ (T U : Table) (S V : Contents) (g : Grows T S U V) where
   pub formulas_on : (ts : List TermId) → All (λ t. IsTerm T S [] t prop) ts → All (λ t. IsTerm U V [] t prop) ts
   formulas_on ts all = All-weaker (λ t. IsTerm T S [] t prop) (λ t. IsTerm U V [] t prop) (λ t h. grown_term T U S V g [] t prop h) ts all
 
-  pub stage_on : (s : Stage) → StageIsHeld S s → StageIsHeld V s
-  stage_on (Instance t) h = (g.trees t h).0
-  stage_on (Chosen F) h = (g.trees F h).0
+  pub stage_on : (s : Stage) → StageIsTyped T S s → StageIsTyped U V s
+  stage_on (Instance t) h = (h.0, grown_term T U S V g [] t h.0 h.1)
+  stage_on (Chosen a F) h = (type_still_held T U g.table a.ty h.0, grown_term T U S V g [] F prop h.1)
   stage_on Antecedent h = tt
 
-  pub stages_on : (ss : List Stage) → All (StageIsHeld S) ss → All (StageIsHeld V) ss
-  stages_on ss all = All-weaker (StageIsHeld S) (StageIsHeld V) (λ s h. stage_on s h) ss all
+  pub stages_on : (ss : List Stage) → All (StageIsTyped T S) ss → All (StageIsTyped U V) ss
+  stages_on ss all = All-weaker (StageIsTyped T S) (StageIsTyped U V) (λ s h. stage_on s h) ss all
+
+  stage_same : (s : Stage) → StageIsTyped T S s → stage_by U (tree_of U V) s ≡ stage_by T (tree_of T S) s
+  stage_same (Instance t) h = ap instance_by (g.trees t h.1.0).1
+  stage_same (Chosen a F) h = ap (λ A. chosen (record { number = a.number; type = A })) (type_stays T U g.table a.ty h.0)
+  stage_same Antecedent h = refl
+
+  -- stages stand for what they stood for
+  pub stages_same : (ss : List Stage) → All (StageIsTyped T S) ss → stages_read U V ss ≡ stages_read T S ss
+  stages_same [] all = refl
+  stages_same (s ∷ ss) all =
+      ap (λ p. p ∷ stages_read U V ss) (stage_same s (All-head (StageIsTyped T S) s ss all))
+      ∙ ap (λ l. stage_by T (tree_of T S) s ∷ l) (stages_same ss (All-tail (StageIsTyped T S) s ss all))
+
+  -- and one more is taken
+  pub one_more_stage : (m : Made) (list : List Stage) (s : Stage) (p : leading.Stage) → All (StageIsTyped T S) m.stages.items → list ≡ m.stages.items ++ s ∷ [] → stage_by U (tree_of U V) s ≡ p
+      → stages_read U V list ≡ stages_read T S m.stages.items ++ p ∷ []
+  one_more_stage m list s p all push is =
+      ap (stages_read U V) push
+      ∙ map-append (stage_by U (tree_of U V)) m.stages.items (s ∷ [])
+      ∙ ap (λ l. l ++ stage_by U (tree_of U V) s ∷ []) (stages_same m.stages.items all)
+      ∙ ap (λ q. stages_read T S m.stages.items ++ q ∷ []) is
 
   pub trees_on : (ts : List TermId) → All (λ t. IsTerm T S [] t prop) ts → trees_at U V ts ≡ trees_at T S ts
   trees_on [] all = refl
@@ -45,11 +70,11 @@ module _ (T U : Table) (S V : Contents) (g : Grows T S U V) where
 
 -- with another result and a stage more, where the antecedents are the same
 pub under_way_on : (T U : Table) (S V : Contents) → Grows T S U V → (m n : Made) (s : Stage) → IsUnderWay T S m → n.antecedents.items ≡ m.antecedents.items → n.stages.items ≡ m.stages.items ++ s ∷ []
-    → StageIsHeld V s → Holds V n.result → HasType (signature U) [] (tree_of U V n.result) prop → IsUnderWay U V n
+    → StageIsTyped U V s → Holds V n.result → HasType (signature U) [] (tree_of U V n.result) prop → IsUnderWay U V n
 under_way_on T U S V g m n s way ants stages held there typed = record {
   formulas = subst (All (λ t. IsTerm U V [] t prop)) (sym ants) (formulas_on T U S V g m.antecedents.items way.formulas);
   formula = (there, typed);
-  stages = subst (All (StageIsHeld V)) (sym stages) (All-push (StageIsHeld V) m.stages.items s (stages_on T U S V g m.stages.items way.stages) held);
+  stages = subst (All (StageIsTyped U V)) (sym stages) (All-push (StageIsTyped U V) m.stages.items s (stages_on T U S V g m.stages.items way.stages) held);
 }
 
 -- the same, as it stands
@@ -57,7 +82,7 @@ pub under_way_still : (T U : Table) (S V : Contents) → Grows T S U V → (m n 
 under_way_still T U S V g m n way ants result stages = record {
   formulas = subst (λ l. All (λ t. IsTerm U V [] t prop) l.items) (sym ants) (formulas_on T U S V g m.antecedents.items way.formulas);
   formula = subst (λ t. IsTerm U V [] t prop) (sym result) (grown_term T U S V g [] m.result prop way.formula);
-  stages = subst (λ l. All (StageIsHeld V) l.items) (sym stages) (stages_on T U S V g m.stages.items way.stages);
+  stages = subst (λ l. All (StageIsTyped U V) l.items) (sym stages) (stages_on T U S V g m.stages.items way.stages);
 }
 
 no_cell_more : (T : Table) (S V : Contents) → V.cells ≡ S.cells → cells_read T V ≡ cells_read T S ++ []
@@ -102,7 +127,7 @@ antecedent_goes T S m n left typed way front cells ants stages left_held right_h
   under_way = record {
     formulas = subst (All (λ t. IsTerm T S [] t prop)) (sym ants) (All-push (λ t. IsTerm T S [] t prop) m.antecedents.items left way.formulas (left_held, subst (λ u. HasType (signature T) [] u prop) (sym left_is) sides.0));
     formula = (right_held, subst (λ u. HasType (signature T) [] u prop) (sym right_is) sides.1);
-    stages = subst (All (StageIsHeld S)) (sym stages) (All-push (StageIsHeld S) m.stages.items Antecedent way.stages tt);
+    stages = subst (All (StageIsTyped T S)) (sym stages) (All-push (StageIsTyped T S) m.stages.items Antecedent way.stages tt);
   };
 }
   where

@@ -13,7 +13,6 @@ use Rattle.ab_norm.specs.ab_types.specs.Ids.{HoldsType, type_of}
 use Rattle.ab_norm.specs.ab_types.specs.declared.ids.TypeId.{TypeId}
 use Rattle.ab_norm.specs.ab_store.specs.declared.node.CellId.{CellId}
 use Rattle.ab_norm.specs.ab_store.specs.declared.node.TermId.{TermId}
-use Rattle.ab_term.specs.Terms.{Read}
 use Rattle.ab_norm.specs.ab_store.specs.Trees.{Contents, HoldsCell, cell_of, tree_of}
 use Rattle.ab_norm.specs.ab_store.specs.Naming.{IsTypedBy}
 use Rattle.ab_norm.specs.NodeGrowth.{AddsTypedTerms}
@@ -29,11 +28,13 @@ use Rattle.ab_alternatives.specs.ab_instances.specs.ListReadings.{names_read, tr
 use Rattle.ab_alternatives.specs.ab_instances.proofs.Made.{names_stay}
 use Rattle.ab_theory.specs.Pieces.{variable_for}
 use Rattle.ab_theory.specs.Uses.{used, cell_over, with_term}
-use Rattle.ab_uses.specs.UseCells.{HasParts, IsUnderWay, GoesOn}
+use Rattle.ab_consequences.specs.Leading.{instance_by}
+use Rattle.ab_consequences.specs.UseStages.{stages_of}
+use Rattle.ab_uses.specs.UseCells.{HasParts, IsUnderWay, GoesOn, GoesOnBy, stages_read}
 use Rattle.ab_uses.specs.declared.made_uses.Made.{Made}
 use Rattle.ab_uses.proofs.Fronts.{variable_put, front_more}
 use Rattle.ab_uses.proofs.Parted.{signature_more, type_stays}
-use Rattle.ab_uses.proofs.Moved.{trees_on}
+use Rattle.ab_uses.proofs.Moved.{trees_on, stages_same}
 
 -- one cell more
 pub all_with : (T U : Table) (S V : Contents) → IsTypedBy T S → Grows T S U V → (made : CellId) → made.0 ≡ length S.cells → length V.cells ≡ length S.cells + 1
@@ -102,6 +103,28 @@ variable_put_in T U S V W X typed g given opened m k n was cell number pushed k_
     ∙ ap (λ t. with_term (tree_of U W t) (tree_of U W term)) k_result
     ∙ ap (λ F. with_term F (tree_of U W term)) (both.trees m.result was.formula.0).1
     ∙ ap (with_term (tree_of T S m.result)) given_is)
+
+-- and the stage is the variable's
+pub variable_stage : {E : Type 0} (T U : Table) (S V W X : Contents) → (g : Grows T S U V) → (given : AddsTypedTerms U V W) → (m k n : Made) → IsUnderWay T S m → k.stages ≡ m.stages → (cell : CellId) → cell.0 ≡ length S.cells
+    → (held chosen free : List Nominal) → All (HoldsNominal T) free → names_read T free ≡ outside (names_read T held) (names_read T chosen) → (free2 : List Nominal) → free2 ≡ free
+    → (hint : List ℕ) (ty : TypeId) → HoldsType T ty
+    → (term : TermId) → tree_of U W term ≡ given_names (codes "x") (record { name = cell.0; type = over (names_read U free2) (type_of U ty) }) (names_read U free2) (type_of U ty)
+    → (r : Result (Unit {0}) E) → OnOk r (GoesOnBy U W k (instance_by (tree_of U W term) ∷ []) U X n)
+    → OnOk r (GoesOnBy T S m (stages_of (names_read T held) (length S.cells) (variable_for hint (type_of T ty) ∷ []) (names_read T chosen)) U X n)
+variable_stage T U S V W X g given m k n was stages cell number held chosen free free_held free_is free2 free2_is hint ty ty_held term term_is (Err e) staged = tt
+variable_stage T U S V W X g given m k n was stages cell number held chosen free free_held free_is free2 free2_is hint ty ty_held term term_is (Ok v) staged =
+    let A = type_of T ty in
+    let out = outside (names_read T held) (names_read T chosen) in
+    let both = grows_on T U U S V W g (grows_terms U V W given) in
+    let is = term_is
+    ∙ ap (λ ns. given_names (codes "x") (record { name = cell.0; type = over (names_read U ns) (type_of U ty) }) (names_read U ns) (type_of U ty)) free2_is
+    ∙ ap (λ l. given_names (codes "x") (record { name = cell.0; type = over l (type_of U ty) }) l (type_of U ty)) (names_stay T U g.table free free_held ∙ free_is)
+    ∙ ap (λ B. given_names (codes "x") (record { name = cell.0; type = over out B }) out B) (type_stays T U g.table ty ty_held)
+    ∙ ap (λ (i : ℕ). given_names (codes "x") (record { name = i; type = over out A }) out A) number in
+    staged
+    ∙ ap (λ l. stages_read U W l.items ++ instance_by (tree_of U W term) ∷ []) stages
+    ∙ ap (λ l. l ++ instance_by (tree_of U W term) ∷ []) (stages_same T U S W both m.stages.items was.stages)
+    ∙ ap (λ t. stages_read T S m.stages.items ++ instance_by t ∷ []) is
 
 -- the same of what making a cell answers
 pub made_all : {E : Type 0} (T U : Table) (S V : Contents) → IsTypedBy T S → Grows T S U V → (r : Result CellId E) → IfOk r (λ c. HoldsCell V c) → IfOk r (λ c. ¬ HoldsCell S c) → OnOk r (length V.cells ≡ length S.cells + 1)

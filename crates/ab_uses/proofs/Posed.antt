@@ -1,7 +1,9 @@
 -- A formula that may be used is a question that may be asked.
 use Rattle.std.specs.List.{All}
 use Rattle.std.specs.Option.{option_map}
-use Rattle.std.proofs.Common.{◌≡◌, ℕ, List, [], ◌∷◌, ◌++◌, map, Option, Some, None, refl, sym, ◌∙◌, ap, subst}
+use Rattle.std.specs.Prelude.{is_some}
+use Rattle.std.proofs.Common.{◌≡◌, ◌≤◌, ℕ, List, [], ◌∷◌, ◌++◌, map, length, true, Option, Some, None, refl, sym, ◌∙◌, ap, subst, arith}
+use Rattle.std.proofs.lemmas.List.{length-map}
 use Rattle.std.proofs.lemmas.List.Elements.{All-head, All-tail, All-nil, All-cons, All-weaker}
 use Rattle.ab_term.specs.Types.{Ty, prop}
 use Rattle.ab_term.specs.Typing.{Signature, HasType}
@@ -25,12 +27,18 @@ use Rattle.ab_theory.specs.Pieces as plain
 use Rattle.ab_theory.specs.Pieces.{Given, pieces, parts}
 use Rattle.ab_theory.specs.Uses.{given_constants}
 use Rattle.ab_uses.specs.UseCells.{HoldsPart, parts_read, HasParts}
-use Rattle.ab_uses.proofs.Begun.{begun}
+use Rattle.ab_consequences.specs.UsesFollow.{antecedents_among}
+use Rattle.ab_consequences.proofs.Begun.{begun}
 use Rattle.ab_uses.specs.UseSolutions.{IsFormulaTerm, IsFormulaTermIfAny, aim_in}
 use Rattle.ab_uses.specs.Questions.{IsPosed, using_at}
-use Rattle.ab_uses.specs.UseReadings.{aim_of, using_of, IsOfGoal, IsOfGoalIfAny, MayBeUsed}
+use Rattle.ab_uses.specs.UseReadings.{aim_of, using_of, IsOfGoalIfAny, MayBeUsed}
 use Rattle.ab_uses.specs.declared.aim.Aim.{Aim}
 use Rattle.ab_uses.specs.declared.question.Question.{Question}
+use Rattle.ab_uses.proofs.Known.{known_within}
+
+given_some : {A B : Type 0} (f : A → B) (o : Option A) → is_some o ≡ true → is_some (option_map f o) ≡ true
+given_some f None e = absurd (cc)
+given_some f (Some x) e = refl
 
 module _ (w : World) (is : IsWorld w) (g : Kept) where
   abbrev D : Declarations
@@ -75,16 +83,22 @@ module _ (w : World) (is : IsWorld w) (g : Kept) where
 
       -- SO IT IS POSED
       pub posed : All (HoldsIfAny w) aim.hypotheses.items → HoldsIfAny w aim.conclusion → All (HoldsPart w.types w.store) q.parts.items → All (HoldsNominal w.types) q.held.items → All (HoldsNominal w.types) q.known.items
-          → names_read w.types q.held.items ≡ in_order (goal_names (sequent_of w g)) → IsPosed w (sequent_of w g) q aim
-      posed hypotheses conclusion parts_held names_held known names = record {
+          → names_read w.types q.held.items ≡ in_order (goal_names (sequent_of w g))
+          → names_read w.types q.known.items ≡ in_order (goal_names (sequent_of w g)) ++ in_order (given_constants (parts (map (given_of w) gs) (pieces n (read w F)))) → IsPosed w (sequent_of w g) q aim
+      posed hypotheses conclusion parts_held names_held known names known_names = record {
         world = is;
         held = names_held;
         names = names;
         known = known;
+        all_known = known_within (names_read w.types q.held.items) (names_read w.types q.known.items) (goal_names s) (given_constants (parts_read w.types w.store q.parts.items)) names (known_so known_names);
         parts = parts_held;
         formula = subst (IsFormulaTerm w.types w.store) (sym formula) (held, typed);
         front = subst (λ (t : TermId). HasParts (signature w.types) (parts_read w.types w.store q.parts.items) (tree_of w.types w.store t)) (sym formula)
             (subst (λ (ps : List plain.Part). HasParts (signature w.types) ps (read w F)) (sym parts_are) front);
         hypotheses = all_formulas aim.hypotheses.items hypotheses usable.hypotheses;
         conclusion = any_formula aim.conclusion conclusion usable.conclusion;
+        enough =
+            subst (λ (ps : List plain.Part). length aim.hypotheses.items ≤ antecedents_among ps) (sym parts_are)
+            (let counted = length-map aim.hypotheses.items (option_map (read w)) in let few = usable.enough in omega (arith, counted, few));
+        alone = λ e. usable.alone (given_some (read w) aim.conclusion e);
       }

@@ -1,15 +1,14 @@
 -- One part is taken off, and then the others.
-use Rattle.std.proofs.Common.{◌≡◌, ℕ, suc, ◌+◌, List, [], ◌∷◌, ◌++◌, map, length, false, ◌&&◌, refl, sym, ◌∙◌, ap, subst, length-append}
+use Rattle.std.proofs.Common.{◌≡◌, ℕ, ◌+◌, List, [], ◌∷◌, ◌++◌, map, length, false, ◌&&◌, refl, sym, ◌∙◌, ap, subst, length-append}
 use Rattle.std.specs.List.{All}
 use Rattle.std.proofs.lemmas.List.{length-map}
-use Rattle.std.proofs.lemmas.List.Elements.{All-tail, All-nil}
-use Rattle.ab_term.specs.Types.{Ty}
+use Rattle.std.proofs.lemmas.List.Elements.{All-tail}
 use Rattle.ab_term.specs.Terms as tree
 use Rattle.ab_norm.specs.ab_types.specs.Entries.{Table, signature}
 use Rattle.ab_term.specs.Terms.{Read}
 use Rattle.ab_norm.specs.ab_store.specs.Trees.{Contents, tree_of}
 use Rattle.ab_norm.specs.declared.nominal.Nominal.{Nominal}
-use Rattle.ab_norm.specs.Nominals.{nominal_of, HoldsNominal}
+use Rattle.ab_norm.specs.Nominals.{HoldsNominal}
 use Rattle.ab_unify.specs.Problem.{cell_read, cells_read}
 use Rattle.ab_unify.specs.StoreChanges.{Grows}
 use Rattle.ab_alternatives.specs.ab_instances.specs.ListReadings.{names_read}
@@ -17,12 +16,13 @@ use Rattle.ab_alternatives.specs.ab_instances.proofs.Made.{names_stay, names_hel
 use Rattle.ab_theory.specs.Pieces as plain
 use Rattle.ab_theory.specs.Pieces.{variable_for, given_term, constant_for, antecedent}
 use Rattle.ab_theory.specs.Uses.{Use, used, types_chosen}
+use Rattle.ab_consequences.specs.UseStages.{stages_of}
 use Rattle.ab_uses.specs.UseCells.{part_read, parts_read, HoldsPart, HasParts, names_left, and_then, GoesOn}
 use Rattle.ab_uses.specs.declared.made_uses.Made.{Made}
 use Rattle.ab_uses.specs.declared.part.Part.{Part}
 use Rattle.ab_uses.proofs.Fronts.{front_rest, front_more}
 use Rattle.ab_uses.proofs.Parted.{parts_stay, signature_more}
-use Rattle.ab_uses.proofs.Steps.{used_step}
+use Rattle.ab_uses.proofs.Steps.{used_step, stages_step}
 
 pub chosen_apart : (p : plain.Part) (ps : List plain.Part) → types_chosen (p ∷ ps) ≡ types_chosen (p ∷ []) ++ types_chosen ps
 chosen_apart (variable_for x A) ps = refl
@@ -97,6 +97,16 @@ module _ (T U : Table) (S V : Contents) (g : Grows T S U V) (m k : Made) (held c
         ∙ ap (λ ps. and_then first (used (names_read U held) (length V.cells) ps (names_left (part_read T S p) C) first.result)) (sym parts_are)
         ∙ ap (λ l. and_then first (used (names_read U held) (length V.cells) (parts_read U V rest) l first.result)) (sym names_are)
         ∙ ap (λ G. and_then first (used (names_read U held) (length V.cells) (parts_read U V rest) (names_read U left) G)) (sym a.result)
+
+    pub rest_stages : stages_of (names_read T held) (length S.cells) (parts_read T S (p ∷ rest)) C
+        ≡ stages_of (names_read T held) (length S.cells) (part_read T S p ∷ []) C ++ stages_of (names_read U held) (length V.cells) (parts_read U V rest) (names_read U left)
+    rest_stages =
+        let ss = stages_of (names_read T held) (length S.cells) (part_read T S p ∷ []) C in
+        stages_step (names_read T held) (length S.cells) (part_read T S p) (parts_read T S rest) C F fit
+        ∙ ap (λ l. ss ++ stages_of l (length S.cells + length first.variables) (parts_read T S rest) (names_left (part_read T S p) C)) (sym (names_stay T U g.table held held_all))
+        ∙ ap (λ n. ss ++ stages_of (names_read U held) n (parts_read T S rest) (names_left (part_read T S p) C)) (sym count)
+        ∙ ap (λ ps. ss ++ stages_of (names_read U held) (length V.cells) ps (names_left (part_read T S p) C)) (sym parts_are)
+        ∙ ap (λ l. ss ++ stages_of (names_read U held) (length V.cells) (parts_read U V rest) l) (sym names_are)
 
 -- where the first is passed over, all is
 pub passed_first : (held : List tree.Nominal) (n : ℕ) (p : plain.Part) (ps : List plain.Part) (names : List tree.Nominal) (F : Read) → map (λ a. a.type) names ≡ types_chosen (p ∷ ps)

@@ -27,7 +27,10 @@ use Rattle.ab_theory.specs.Pieces as plain
 use Rattle.ab_theory.specs.Uses.{types_chosen, given_constants}
 use Rattle.ab_theory.specs.Uses as uses
 use Rattle.ab_theory.specs.UseAnswers.{Using, case_by, IsFirst}
-use Rattle.ab_uses.specs.UseCells.{parts_read, StageIsHeld}
+use Rattle.ab_logic.specs.Worlds.{declarations_of}
+use Rattle.ab_consequences.specs.UsesFollow.{StagesLead}
+use Rattle.ab_consequences.proofs.UsesFollow.{leads_newly}
+use Rattle.ab_uses.specs.UseCells.{parts_read, StageIsTyped}
 use Rattle.ab_uses.specs.declared.stage.Stage.{Stage}
 use Rattle.ab_uses.specs.declared.stage.Stage.TheVariants as stage
 use Rattle.ab_uses.specs.NamedTerms.{types_named}
@@ -53,9 +56,9 @@ over_cells w s h =
     there : (c : CellId) → HoldsCell w c → slice_get (cells_read w.types w.store) c.0 ≡ Some (cell_read w.types (cell_of w.store c))
     there c l = slice_get-map (cell_read w.types) w.store.cells c.0 ∙ ap (option_map (cell_read w.types)) (slice_get-get_or w.store.cells c.0 _ l)
 
-stage_there : (x : World) (s : Stage) → StageIsHeld x.store s → HoldsStage x s
-stage_there x (stage.Instance t) k = k
-stage_there x (stage.Chosen F) k = k
+stage_there : (x : World) (s : Stage) → StageIsTyped x.types x.store s → HoldsStage x s
+stage_there x (stage.Instance t) k = k.1.0
+stage_there x (stage.Chosen a F) k = (k.0, k.1.0)
 stage_there x stage.Antecedent k = tt
 
 -- a choice of which nothing is chosen, for all names of a question
@@ -134,4 +137,16 @@ module _ (w : World) (g : Kept) (q : Question) (types : List TypeId) (b : Begun)
       pub used_found : (found : Use) → Told (outcome.Used found) → Finds u x (Used found)
       used_found found c =
           let h = there (outcome.Used found) c in
-          (All-weaker (StageIsHeld x.store) (HoldsStage x) (stage_there x) found.stages.items h.2.1, h.2.2, h.2.3, (h.2.4.0, (cells_in, are, h.0, first h.0 h.1, h.2.4.1), h.2.4.2, h.2.4.3))
+          let K = h.2.4.0 in
+          let closed = h.2.4.4 in (
+            All-weaker (StageIsTyped x.types x.store) (HoldsStage x) (stage_there x) found.stages.items h.2.1,
+            h.2.2,
+            h.2.3,
+            (
+              K,
+              (cells_in, are, h.0, first h.0 h.1, h.2.4.1),
+              h.2.4.2,
+              h.2.4.3,
+              λ may. (_, subst (StagesLead (declarations_of x) u K _) (sym closed.2) (leads_newly (declarations_of x) cells_in u h.0 closed.0 K may are (first h.0 h.1) h.2.4.1 closed.1)),
+            ),
+          )

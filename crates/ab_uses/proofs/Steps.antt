@@ -1,5 +1,5 @@
 -- A use is made part by part.
-use Rattle.std.proofs.Common.{◌≡◌, ℕ, suc, ◌+◌, List, [], ◌∷◌, ◌++◌, map, length, Bool, true, false, ◌&&◌, not, codes, refl, sym, ◌∙◌, ap, subst, arith, length-append}
+use Rattle.std.proofs.Common.{◌≡◌, ℕ, suc, ◌+◌, List, [], ◌∷◌, ◌++◌, map, length, Bool, true, false, ◌&&◌, not, codes, refl, sym, ◌∙◌, ap, arith}
 use Rattle.std.proofs.lemmas.List.{append_assoc}
 use Rattle.ab_term.specs.Terms.{Nominal, Read}
 use Rattle.ab_term.specs.Names.{support}
@@ -9,6 +9,8 @@ use Rattle.ab_unifiers.specs.Choices.{is_in, outside}
 use Rattle.ab_alternatives.specs.ab_instances.specs.RaisedCells.{ids_from}
 use Rattle.ab_theory.specs.Pieces.{Part, variable_for, given_term, constant_for, antecedent}
 use Rattle.ab_theory.specs.Uses.{Use, used, types_chosen, and_variable, and_antecedent, and_outside, cell_over, with_term, left_side, right_side}
+use Rattle.ab_consequences.specs.Leading.{instance_by, chosen, met}
+use Rattle.ab_consequences.specs.UseStages.{stages_of}
 use Rattle.ab_uses.specs.UseCells.{names_left, and_then}
 
 and_true : (b c : Bool) → (b && c) ≡ ((b && true) && c)
@@ -34,6 +36,18 @@ used_step held n (constant_for A) ps (a ∷ names) F e =
     ∙ ap (λ b. record (used held (n + 0) ps names (with_term F (name_term (codes "x") a))) { outside = b }) (and_true (not (is_in (support F) a)) _)
 used_step held n antecedent ps [] F e = ap (λ k. and_antecedent (left_side F) (used held k ps [] (right_side F))) (none_more n)
 used_step held n antecedent ps (a ∷ names) F e = ap (λ k. and_antecedent (left_side F) (used held k ps (a ∷ names) (right_side F))) (none_more n)
+
+-- and so are the stages
+pub stages_step : (held : List Nominal) (n : ℕ) (p : Part) (ps : List Part) (names : List Nominal) (F : Read) → map (λ a. a.type) names ≡ types_chosen (p ∷ ps)
+    → stages_of held n (p ∷ ps) names ≡ stages_of held n (p ∷ []) names ++ stages_of held (n + length (used held n (p ∷ []) names F).variables) ps (names_left p names)
+stages_step held n (variable_for x A) ps [] F e = ap (λ k. instance_by (given_names (codes "x") (record { name = n; type = over (outside held []) A }) (outside held []) A) ∷ stages_of held k ps []) (one_more n)
+stages_step held n (variable_for x A) ps (a ∷ names) F e = ap (λ k. instance_by (given_names (codes "x") (record { name = n; type = over (outside held (a ∷ names)) A }) (outside held (a ∷ names)) A) ∷ stages_of held k ps (a ∷ names)) (one_more n)
+stages_step held n (given_term t) ps [] F e = ap (λ k. instance_by t ∷ stages_of held k ps []) (none_more n)
+stages_step held n (given_term t) ps (a ∷ names) F e = ap (λ k. instance_by t ∷ stages_of held k ps (a ∷ names)) (none_more n)
+stages_step held n (constant_for A) ps [] F e = absurd (cc)
+stages_step held n (constant_for A) ps (a ∷ names) F e = ap (λ k. chosen a ∷ stages_of held k ps names) (none_more n)
+stages_step held n antecedent ps [] F e = ap (λ k. met ∷ stages_of held k ps []) (none_more n)
+stages_step held n antecedent ps (a ∷ names) F e = ap (λ k. met ∷ stages_of held k ps (a ∷ names)) (none_more n)
 
 pub and_assoc : (u v w : Use) → and_then u (and_then v w) ≡ and_then (and_then u v) w
 and_assoc u v w =

@@ -1,5 +1,5 @@
 -- Terms that are given for names.
-use Rattle.std.proofs.Common.{◌≡◌, ℕ, List, [], ◌∷◌, ◌++◌, map, filter, Bool, true, false, not, cond, bytes_eq, Option, Some, None, refl, sym, ◌∙◌, ap}
+use Rattle.std.proofs.Common.{◌≡◌, ℕ, List, [], ◌∷◌, ◌++◌, Bool, true, false, not, cond, bytes_eq, Some, None, refl, ap}
 use Rattle.ab_theory.specs.Pieces.{Given, given_for, given_otherwise}
 
 pub none_given : (x : List ℕ) (gs : List Given) → given_for x gs ≡ None → given_otherwise x gs ≡ gs

@@ -1,24 +1,22 @@
 -- A use that was made on shared terms is the case of its choice, and what comes of it is what comes of the choice.
 use Rattle.std.specs.List.{All}
-use Rattle.std.specs.Prelude.{is_some}
+use Rattle.std.specs.Prelude.{Contains, is_some}
 use Rattle.std.specs.Option.{option_map}
-use Rattle.std.proofs.Common.{◌≡◌, ℕ, suc, ◌+◌, ◌-◌, ◌≤◌, List, [], ◌∷◌, ◌++◌, map, length, take, codes, Option, Some, None, true, false, refl, sym, ◌∙◌, ap, subst, arith, length-append}
+use Rattle.std.proofs.Common.{◌≡◌, ℕ, suc, ◌+◌, ◌-◌, ◌≤◌, List, [], ◌∷◌, ◌++◌, map, length, take, codes, Option, Some, None, true, refl, sym, ◌∙◌, ap, subst, arith, length-append}
 use Rattle.std.proofs.lemmas.List.{length-map}
 use Rattle.std.proofs.lemmas.List.Elements.{All-head, All-tail, All-weaker}
 use Rattle.std.proofs.lemmas.Simd.{map-map}
 use Rattle.std.proofs.Math.Seq.{take-append_seam}
-use Rattle.ab_term.specs.Types.{Ty, prop}
+use Rattle.ab_term.specs.Types.{prop}
 use Rattle.ab_term.specs.Terms as tree
 use Rattle.ab_term.specs.Variables.{Substitution, image}
 use Rattle.ab_term.specs.Sameness.{same_number}
 use Rattle.ab_norm.specs.ab_types.specs.Entries.{Table}
 use Rattle.ab_norm.specs.ab_store.specs.declared.node.TermId.{TermId}
-use Rattle.ab_norm.specs.ab_store.specs.declared.node.CellId.{CellId}
 use Rattle.ab_norm.specs.ab_store.specs.declared.node.Equation.{Equation as Kept}
 use Rattle.ab_term.specs.Terms.{Read}
-use Rattle.ab_norm.specs.ab_store.specs.Trees.{Contents, Holds, tree_of}
+use Rattle.ab_norm.specs.ab_store.specs.Trees.{Contents, tree_of}
 use Rattle.ab_norm.specs.ab_store.specs.Reading.{reading}
-use Rattle.ab_norm.specs.ab_store.specs.Naming.{IsTerm}
 use Rattle.ab_norm.specs.ab_store.proofs.Growing.{unbound_reads}
 use Rattle.ab_norm.specs.NodeGrowth.{AddsTypedTerms}
 use Rattle.ab_unifiers.specs.Replacements.{Cell}
@@ -27,7 +25,7 @@ use Rattle.ab_unifiers.specs.Unification.{Equation, Solves, unified}
 use Rattle.ab_unifiers.specs.Unifiers.{given}
 use Rattle.ab_unify.specs.Problem.{cell_read, cells_read, variables_read, equations_from, problem}
 use Rattle.ab_unify.specs.StoreChanges.{Grows}
-use Rattle.ab_unify.proofs.Growth.{grown_term}
+use Rattle.ab_unify.proofs.Growth.{grown_term, grows_terms}
 use Rattle.ab_alternatives.specs.ab_instances.specs.RaisedCells.{ids_from}
 use Rattle.ab_formulas.specs.Sequents.{Variable}
 use Rattle.ab_theory.specs.Splits.{problem_of}
@@ -37,17 +35,41 @@ use Rattle.ab_alternatives.specs.LeftAlternatives.{trees_from}
 use Rattle.ab_theory.specs.Uses as uses
 use Rattle.ab_theory.specs.Uses.{Use, equations, equation_behind, awaiting, use_by}
 use Rattle.ab_theory.specs.UseAnswers.{Using, case_by, standing_in, awaited, result_in}
-use Rattle.ab_uses.specs.UseCells.{IsMade, StageIsHeld}
+use Rattle.ab_unifiers.specs.Choices.{in_order}
+use Rattle.ab_formulas.specs.Sequents.{goal_names}
+use Rattle.ab_consequences.specs.NewConstants.{pairs_for}
+use Rattle.ab_consequences.specs.UseStages.{stages_of, stage_under}
+use Rattle.ab_uses.specs.UseCells.{IsMade, stages_read}
 use Rattle.ab_uses.specs.declared.made_uses.Made.{Made}
-use Rattle.ab_uses.specs.declared.stage.Stage.{Stage}
-use Rattle.ab_uses.specs.declared.stage.Stage.TheVariants as stage
 use Rattle.ab_uses.specs.UseSolutions.{missing, equation_at, all_equations, behind_all, IsFormulaTerm, IsFormulaTermIfAny, aim_in}
 use Rattle.ab_uses.specs.ChoiceAnswers.{IsSolvedSo, ComesOut}
 use Rattle.ab_uses.specs.declared.aim.Aim.{Aim}
 use Rattle.ab_uses.specs.declared.outcome.Outcome.{Outcome}
 use Rattle.ab_uses.specs.declared.outcome.Outcome.TheVariants.{PassedOver, Apart, Stuck, Open, Used}
+use Rattle.ab_theory.specs.Pieces.{Part}
+use Rattle.ab_theory.specs.Uses.{used, types_chosen, given_constants}
+use Rattle.ab_consequences.specs.UsesFollow.{antecedents_among, AreNone}
+use Rattle.ab_consequences.proofs.Counted.{used_count}
+use Rattle.ab_consequences.proofs.UsesFollow.{no_equations}
+use Rattle.ab_consequences.proofs.UseStages.{types_of}
 use Rattle.ab_uses.proofs.Equations.{map_missing}
+use Rattle.ab_uses.proofs.Moved.{stages_same}
 use Rattle.ab_uses.proofs.Left.{awaiting_is, behind_image, awaited_is, result_is}
+
+-- as many antecedents are made as are among the parts
+pub enough_made : (U : Table) (V : Contents) (before : List (Cell (List ℕ))) (held : List tree.Nominal) (n : ℕ) (ps : List Part) (names : List tree.Nominal) (F : Read) (m : Made) → types_of names ≡ types_chosen ps
+    → IsMade U V before (used held n ps names F) m → length m.antecedents.items ≡ antecedents_among ps
+enough_made U V before held n ps names F m types made =
+    sym (length-map m.antecedents.items (tree_of U V)) ∙ ap length made.antecedents ∙ used_count held n ps names F types
+
+-- where nothing is given for antecedents there is one equation at most
+pub one_at_most : (x : uses.Aim) (As : List Read) (R : Read) → AreNone x.hypotheses → length (all_equations x As R) ≤ 1
+one_at_most x As R none =
+    subst (λ (l : List (Equation (List ℕ))). length (l ++ equation_at (length l) x.conclusion R) ≤ 1) (sym (no_equations 0 x.hypotheses As none)) (go x.conclusion)
+  where
+    go : (o : Option Read) → length ([] ++ equation_at 0 o R) ≤ 1
+    go None = omega arith
+    go (Some C) = omega arith
 
 -- what the formula is used for stays, where a table and a store grow
 module _ (T U : Table) (S V : Contents) (g : Grows T S U V) where
@@ -78,14 +100,6 @@ module _ (T U : Table) (S V : Contents) (g : Grows T S U V) where
   same_aim a hs c =
       ap (λ l. record { hypotheses = l; conclusion = option_map (tree_of U V) a.conclusion }) (all_read a.hypotheses.items hs)
       ∙ ap (λ o. record { hypotheses = map (option_map (tree_of T S)) a.hypotheses.items; conclusion = o }) (any_read a.conclusion c)
-
-  stage_grown : (s : Stage) → StageIsHeld S s → StageIsHeld V s
-  stage_grown (stage.Instance t) h = (g.trees t h).0
-  stage_grown (stage.Chosen F) h = (g.trees F h).0
-  stage_grown stage.Antecedent h = tt
-
-  pub stages_grown : (ss : List Stage) → All (StageIsHeld S) ss → All (StageIsHeld V) ss
-  stages_grown ss all = All-weaker (StageIsHeld S) (StageIsHeld V) stage_grown ss all
 
 -- equations where no cell is bound
 unbound_equations : (T : Table) (S : Contents) → S.bindings ≡ [] → (k : ℕ) (es : List Kept) → equations_from T S k es ≡ trees_from T S k es
@@ -144,7 +158,9 @@ module _ (U : Table) (V W : Contents) (before : List (Cell (List ℕ))) (u : Use
 module _ (T U : Table) (S V W : Contents) (x : Using) (names : List tree.Nominal) (aim : Aim) (m : Made) (es : List Kept)
     (is : IsMade U V (cells_read T S) (use_by x.goal (length (cells_read T S)) x.parts x.formula names) m) (adds : AddsTypedTerms U V W) (none : W.bindings ≡ [])
     (reads : trees_from U W 0 es ≡ all_equations (aim_in U V aim) (map (tree_of U V) m.antecedents.items) (tree_of U V m.result))
-    (aim_is : aim_in U V aim ≡ x.aim) (few : is_some aim.conclusion ≡ true → length es ≤ 1) (enough : length aim.hypotheses.items ≤ length m.antecedents.items) where
+    (aim_is : aim_in U V aim ≡ x.aim) (few : is_some aim.conclusion ≡ true → length es ≤ 1) (enough : length aim.hypotheses.items ≤ length m.antecedents.items)
+    (staged : stages_read U V m.stages.items ≡ stages_of (in_order (goal_names x.goal)) (length (cells_read T S)) x.parts names) (known : List tree.Nominal)
+    (within : (a : tree.Nominal) → Contains (names ++ (goal_names x.goal ++ given_constants x.parts)) a → Contains known a) where
   abbrev there : List (Cell (List ℕ))
   there = cells_read T S
 
@@ -241,8 +257,11 @@ module _ (T U : Table) (S V W : Contents) (x : Using) (names : List tree.Nominal
       → ys ≡ standing_in (K answer) (made there more answer)
   open_is more answer ys e = e ∙ ap (λ l. standing_in (K answer) (made l more answer)) (before_is U V W there u m is adds)
 
+  staged_later : stages_read U W m.stages.items ≡ stages_of (in_order (goal_names x.goal)) (length there) x.parts names
+  staged_later = stages_same U U V W (grows_terms U V W adds) m.stages.items is.stages ∙ staged
+
   -- SO THE CHOICE COMES OUT
-  pub comes_out : (X : Table) (Y : Contents) (o : Outcome) → IsSolvedSo U W es m.cells.items As m.result X Y o → ComesOut there x names X Y o
+  pub comes_out : (X : Table) (Y : Contents) (o : Outcome) → IsSolvedSo U W es m.cells.items As m.result m.stages.items known X Y o → ComesOut there x names X Y o
   comes_out X Y PassedOver e = absurd e
   comes_out X Y Apart e = (is.outside, subst (λ p. Solves (codes "x") p rules.apart) problem_is e)
   comes_out X Y (Stuck i) e = (is.outside, subst (λ p. Solves (codes "x") p (rules.stuck i)) problem_is e)
@@ -266,5 +285,12 @@ module _ (T U : Table) (S V W : Contents) (x : Using) (names : List tree.Nominal
       record { more = e.0; answer = e.1; solved = subst (λ p. Solves (codes "x") p (unified e.0 e.1)) problem_is e.2; left = left_is e.1; left_open = open_is e.0 e.1 [] e.3 },
       e.7 ∙ awaited_so e.1,
       e.8 ∙ result_so e.1,
+      (
+        known,
+        within,
+        e.9
+            ∙ ap (λ l. map (stage_under (pairs_for known (made l e.0 e.1))) (map (stage_under e.1) (stages_read U W m.stages.items))) (before_is U V W there u m is adds)
+            ∙ ap (λ l. map (stage_under (pairs_for known (made there e.0 e.1))) (map (stage_under e.1) l)) staged_later,
+      ),
     ),
   )

@@ -1,20 +1,19 @@
 -- A use, made on shared terms: what parts stand for, which formula has them, and what is read of what was made.
-use Rattle.std.specs.Prelude.{◌≡◌, ℕ, List, [], ◌∷◌, ◌++◌, map, length, true, Bool, ◌&&◌, All}
+use Rattle.std.specs.Prelude.{◌≡◌, ℕ, List, [], ◌∷◌, ◌++◌, map, length, true, ◌&&◌, All}
 use Rattle.ab_term.specs.Types.{Ty, prop}
-use Rattle.ab_term.specs.Logical.{universal, nabla, implication}
-use Rattle.ab_term.specs.Terms.{logical, lam, spine, no_terms, term, Read}
-use Rattle.ab_term.specs.Typing.{Signature, HasType}
 use Rattle.ab_norm.specs.ab_types.specs.Entries.{Table}
 use Rattle.ab_norm.specs.ab_types.specs.Ids.{HoldsType, type_of}
-use Rattle.ab_norm.specs.ab_store.specs.declared.node.TermId.{TermId}
 use Rattle.ab_norm.specs.ab_store.specs.Trees.{Contents, Holds, tree_of}
 use Rattle.ab_norm.specs.ab_store.specs.Naming.{IsTerm}
+use Rattle.ab_norm.specs.Nominals.{HoldsNominal}
 use Rattle.ab_unifiers.specs.Replacements.{Cell}
 use Rattle.ab_unifiers.specs.Clauses.{numbered}
 use Rattle.ab_unify.specs.Problem.{cells_read, variables_read}
 use Rattle.ab_alternatives.specs.ab_instances.specs.ListReadings.{trees_at}
 use Rattle.ab_alternatives.specs.ab_instances.specs.RaisedCells.{ids_from}
+use Rattle.ab_consequences.specs.Leading as leading
 use Rattle.ab_theory.specs.Pieces as plain
+pub use Rattle.ab_consequences.specs.UseStages.{HasParts, has_none, has_variable, has_given, has_constant, has_antecedent}
 use Rattle.ab_theory.specs.Pieces.{variable_for, given_term, constant_for, antecedent}
 use Rattle.ab_theory.specs.Uses.{Use}
 use Rattle.ab_uses.specs.declared.part.Part.{Part}
@@ -22,6 +21,7 @@ use Rattle.ab_uses.specs.declared.part.Part.TheVariants.{Variable, Given, Consta
 use Rattle.ab_uses.specs.declared.stage.Stage.{Stage}
 use Rattle.ab_uses.specs.declared.stage.Stage.TheVariants as stage
 use Rattle.ab_uses.specs.declared.made_uses.Made.{Made}
+use Rattle.ab_uses.specs.StageReadings.{stage_by}
 
 module _ (types : Table) (store : Contents) where
   -- what a part stands for
@@ -41,24 +41,15 @@ module _ (types : Table) (store : Contents) where
   HoldsPart (Constant a) = HoldsType types a
   HoldsPart Antecedent = Unit {0}
 
--- THE FORMULA HAS THESE PARTS in front: a quantifier at the type, or an antecedent, for each; a term that is given is one of
--- the quantifier's type
-pub data HasParts (sg : Signature) : List plain.Part → Read → Type 0 where
-  has_none : {F : Read} → HasParts sg [] F
-  has_variable : {x y : List ℕ} {A : Ty} {ps : List plain.Part} {t : Read}
-      → HasParts sg ps t → HasParts sg (variable_for x A ∷ ps) (spine (logical (universal A)) (term (lam A y t) no_terms))
-  has_given : {u : Read} {y : List ℕ} {A : Ty} {ps : List plain.Part} {t : Read}
-      → HasType sg [] u A → HasParts sg ps t → HasParts sg (given_term u ∷ ps) (spine (logical (universal A)) (term (lam A y t) no_terms))
-  has_constant : {y : List ℕ} {A : Ty} {ps : List plain.Part} {t : Read}
-      → HasParts sg ps t → HasParts sg (constant_for A ∷ ps) (spine (logical (nabla A)) (term (lam A y t) no_terms))
-  has_antecedent : {A B : Read} {ps : List plain.Part}
-      → HasParts sg ps B → HasParts sg (antecedent ∷ ps) (spine (logical implication) (term A (term B no_terms)))
+  -- what a stage names is there: a term of some type, or a constant with a formula
+  abbrev pub StageIsTyped : Stage → Type 0
+  StageIsTyped (stage.Instance t) = (A : Ty) × IsTerm types store [] t A
+  StageIsTyped (stage.Chosen a F) = HoldsNominal types a × IsTerm types store [] F prop
+  StageIsTyped stage.Antecedent = Unit {0}
 
--- what a stage names is there
-abbrev pub StageIsHeld : Contents → Stage → Type 0
-StageIsHeld store (stage.Instance t) = Holds store t
-StageIsHeld store (stage.Chosen F) = Holds store F
-StageIsHeld store stage.Antecedent = Unit {0}
+  -- what stages stand for
+  abbrev pub stages_read : List Stage → List leading.Stage
+  stages_read = map (stage_by types (tree_of types store))
 
 -- THE USE IS MADE, where there were these cells before: its variables are the last cells, and its antecedents and its result
 -- are formulas
@@ -71,7 +62,7 @@ pub record IsMade (types : Table) (store : Contents) (before : List (Cell (List 
   pub formulas : All (λ t. IsTerm types store [] t prop) m.antecedents.items
   pub result : tree_of types store m.result ≡ u.result
   pub formula : IsTerm types store [] m.result prop
-  pub stages : All (StageIsHeld store) m.stages.items
+  pub stages : All (StageIsTyped types store) m.stages.items
 
 -- the constants that are left for the parts behind this one
 abbrev pub names_left : {X : Type 0} → plain.Part → List X → List X
@@ -94,7 +85,7 @@ and_then u v = record {
 pub record IsUnderWay (types : Table) (store : Contents) (m : Made) : Type 0 where
   pub formulas : All (λ t. IsTerm types store [] t prop) m.antecedents.items
   pub formula : IsTerm types store [] m.result prop
-  pub stages : All (StageIsHeld store) m.stages.items
+  pub stages : All (StageIsTyped types store) m.stages.items
 
 -- it goes on by what this use takes off the formula that it had come to
 pub record GoesOn (T : Table) (S : Contents) (m : Made) (u : Use) (U : Table) (V : Contents) (n : Made) : Type 0 where
@@ -104,3 +95,7 @@ pub record GoesOn (T : Table) (S : Contents) (m : Made) (u : Use) (U : Table) (V
   pub antecedents : trees_at U V n.antecedents.items ≡ trees_at T S m.antecedents.items ++ u.antecedents
   pub result : tree_of U V n.result ≡ u.result
   pub under_way : IsUnderWay U V n
+
+-- these stages are taken besides
+abbrev pub GoesOnBy : Table → Contents → Made → List leading.Stage → Table → Contents → Made → Type 0
+GoesOnBy T S m ss U V n = stages_read U V n.stages.items ≡ stages_read T S m.stages.items ++ ss

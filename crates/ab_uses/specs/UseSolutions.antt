@@ -1,6 +1,6 @@
 -- How a use is solved, on shared terms: what must be equal, what is awaited, and what stands in it. Public contracts don't
 -- speak of this.
-use Rattle.std.specs.Prelude.{ℕ, List, [], ◌∷◌, ◌++◌, length, map, filter, Bool, ◌&&◌, is_none, Option, Some, None, All}
+use Rattle.std.specs.Prelude.{ℕ, List, [], ◌∷◌, ◌++◌, length, map, Bool, ◌&&◌, is_none, Option, Some, None}
 use Rattle.std.specs.List.{list_any}
 use Rattle.std.specs.Option.{option_map}
 use Rattle.ab_term.specs.Types.{prop}

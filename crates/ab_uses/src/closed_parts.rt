@@ -1,14 +1,25 @@
 //! What is taken off a formula, with what cells are bound to in their places.
-ghost use Rattle.std.specs.Prelude.{◌≡◌, ◌≤◌, All, IfOk, Some};
+ghost use Rattle.std.specs.Prelude.{◌≡◌, ◌≢◌, ◌≤◌, [], ◌∷◌, ◌++◌, map, All, IfOk, OnOk};
 ghost use Rattle.ab_norm.specs.ab_types.specs.Ids.{HoldsType, type_of};
-ghost use Rattle.ab_norm.specs.ab_store.specs.Trees.{HoldsCell, cell_of};
+ghost use Rattle.ab_term.specs.Variables.{image};
+ghost use Rattle.ab_term.specs.Sameness.{same_number};
+ghost use Rattle.ab_norm.specs.ab_store.specs.declared.node.CellId.{CellId as ACell};
+ghost use Rattle.ab_norm.specs.ab_store.specs.declared.node.TermId.{TermId as AnId};
+ghost use Rattle.ab_norm.specs.ab_store.specs.Trees.{Holds, HoldsCell, cell_of, tree_of};
+ghost use Rattle.ab_norm.specs.ab_store.specs.Reading.{binding_of, cell_variable, reading};
 ghost use Rattle.ab_norm.specs.ab_store.specs.Bindings.{IsUnbound};
 ghost use Rattle.ab_norm.specs.ab_store.specs.Naming.{IsTypedBy};
 ghost use Rattle.ab_norm.specs.NodeGrowth.{AddsTypedTerms};
-ghost use Rattle.ab_norm.specs.Nominals.{HoldsNominal};
-ghost use Rattle.ab_norm.specs.declared.nominal.Nominal.{Nominal as ANominal};
+ghost use Rattle.ab_norm.specs.Nominals.{HoldsNominal, nominal_of};
+ghost use Rattle.ab_unifiers.specs.Choices as plain;
+ghost use Rattle.ab_alternatives.specs.ab_instances.specs.ListReadings.{names_read};
+ghost use Rattle.ab_theory.specs.Rules.{name_term};
 ghost use Rattle.ab_unify.specs.StoreChanges.{Grows};
-ghost use Rattle.ab_uses.specs.UseCells.{StageIsHeld};
+ghost use Rattle.ab_unify.specs.UnifyAnswers.{AreInAge};
+ghost use Rattle.ab_consequences.specs.NewConstants.{constants_for};
+ghost use Rattle.ab_uses.specs.StageReadings.{stage_by};
+ghost use Rattle.ab_uses.specs.ClosedReadings.{open_among, closed_reading};
+ghost use Rattle.ab_uses.specs.UseCells.{StageIsTyped, stages_read};
 
 use crate::stage::Stage;
 use ab_alternatives::instances::choices;
@@ -18,23 +29,26 @@ use ab_norm::{Nominal, copy_resolved, eta};
 use ab_patterns::occurs;
 use std::alloc::{AllocError, Global};
 
-/// A constant of the type that isn't among these.
+/// A constant of the type that isn't among these: the one of the least number.
 fn new_constant(
     alloc: Global,
     types: &TypeTable,
     ty: TypeId,
     known: &[Nominal],
-) -> Result<Option<Nominal>, AllocError>
+) -> Result<Nominal, AllocError>
     requires ty { HoldsType types.now ty }
     requires known { All (HoldsNominal types.now) known.now }
-    ensures held { IfOk result (λ o. (a : ANominal) → o ≡ Some a → HoldsNominal types.now a) }
-    ensures ty { IfOk result (λ o. (a : ANominal) → o ≡ Some a → type_of types.now a.ty ≡ type_of types.now ty) }
+    ensures held { IfOk result (HoldsNominal types.now) }
+    ensures new { IfOk result (λ a. nominal_of types.now a ≡ plain.new_constant (names_read types.now known.now) (type_of types.now ty)) }
 {
     let list = choices(alloc, types, &[ty], &[], known)?;
     let Some(names) = list.as_slice().first() else {
-        return Ok(None);
+        unreachable!();
     };
-    Ok(names.as_slice().first().copied())
+    let Some(constant) = names.as_slice().first() else {
+        unreachable!();
+    };
+    Ok(*constant)
 }
 
 /// The cell, which is bound to nothing, is bound to the constant of its type.
@@ -51,6 +65,10 @@ fn bind_constant<L>(
     requires unbound { IsUnbound store.old cell }
     requires constant { HoldsNominal types.now constant }
     requires ty { type_of types.now constant.ty ≡ type_of types.now (cell_of store.old cell).ty }
+    ensures reads { OnOk result ((t : AnId) → Holds store.old t →
+        reading types.now store.new t
+        ≡ image same_number ((cell_variable types.now store.old cell, name_term (nominal_of types.now constant)) ∷ []) (reading types.now store.old t)) }
+    ensures others { OnOk result ((c : ACell) → c.0 ≢ cell.0 → binding_of store.new c ≡ binding_of store.old c) }
     ensures grows { Grows types.now store.old types.now store.new }
     ensures steps { steps.old ≤ steps.new }
 {
@@ -58,7 +76,7 @@ fn bind_constant<L>(
     let term = eta(alloc, types, store, head, constant.ty)?;
     let resolved = copy_resolved(alloc, types, store, term, steps)?;
     if occurs(alloc, store, cell, resolved)? {
-        return Ok(());
+        unreachable!();
     }
     store.reserve(1)?;
     store.bind(cell, resolved, steps);
@@ -77,6 +95,10 @@ fn fill<L>(
     requires store { IsTypedBy types.now store.old }
     requires cell { HoldsCell store.old cell }
     requires known { All (HoldsNominal types.now) known.old.items }
+    ensures reads { OnOk result ((t : AnId) → Holds store.old t → reading types.now store.new t ≡ closed_reading types.now store.old (names_read types.now known.old.items) (cell ∷ []) t) }
+    ensures names { OnOk result (names_read types.now known.new.items
+        ≡ names_read types.now known.old.items ++ constants_for (names_read types.now known.old.items) (open_among types.now store.old (cell ∷ []))) }
+    ensures others { OnOk result ((c : ACell) → c.0 ≢ cell.0 → binding_of store.new c ≡ binding_of store.old c) }
     ensures grows { Grows types.now store.old types.now store.new }
     ensures known { All (HoldsNominal types.now) known.new.items }
     ensures steps { steps.old ≤ steps.new }
@@ -85,9 +107,7 @@ fn fill<L>(
         return Ok(());
     }
     let ty = store.cell_type(cell);
-    let Some(constant) = new_constant(alloc, types, ty, known)? else {
-        return Ok(());
-    };
+    let constant = new_constant(alloc, types, ty, known)?;
     known.push(constant)?;
     bind_constant(alloc, types, store, cell, constant, steps)
 }
@@ -103,7 +123,9 @@ fn fill_all<L>(
 ) -> Result<(), AllocError>
     requires store { IsTypedBy types.now store.old }
     requires cells { All (HoldsCell store.old) cells.now }
+    requires in_age { AreInAge cells.now }
     requires known { All (HoldsNominal types.now) known.old.items }
+    ensures reads { OnOk result ((t : AnId) → Holds store.old t → reading types.now store.new t ≡ closed_reading types.now store.old (names_read types.now known.old.items) cells.now t) }
     ensures grows { Grows types.now store.old types.now store.new }
     ensures steps { steps.old ≤ steps.new }
 {
@@ -122,8 +144,9 @@ fn resolve_stage<L>(
     steps: &mut Steps<L>,
 ) -> Result<Stage, AllocError>
     requires store { IsTypedBy types.now store.old }
-    requires stage { StageIsHeld store.old stage.now }
-    ensures held { IfOk result (λ s. StageIsHeld store.new s) }
+    requires stage { StageIsTyped types.now store.old stage.now }
+    ensures typed { IfOk result (StageIsTyped types.now store.new) }
+    ensures reads { IfOk result (λ s. stage_by types.now (tree_of types.now store.new) s ≡ stage_by types.now (reading types.now store.old) stage.now) }
     ensures adds { AddsTypedTerms types.now store.old store.new }
     ensures steps { steps.old ≤ steps.new }
 {
@@ -132,9 +155,9 @@ fn resolve_stage<L>(
             let resolved = copy_resolved(alloc, types, store, *term, steps)?;
             Ok(Stage::Instance(resolved))
         }
-        Stage::Chosen(formula) => {
+        Stage::Chosen(constant, formula) => {
             let resolved = copy_resolved(alloc, types, store, *formula, steps)?;
-            Ok(Stage::Chosen(resolved))
+            Ok(Stage::Chosen(*constant, resolved))
         }
         Stage::Antecedent => Ok(Stage::Antecedent),
     }
@@ -153,9 +176,12 @@ pub(crate) fn close_stages<L>(
 ) -> Result<Vec<Stage>, AllocError>
     requires store { IsTypedBy types.now store.old }
     requires cells { All (HoldsCell store.old) cells.now }
+    requires in_age { AreInAge cells.now }
     requires known { All (HoldsNominal types.now) known.old.items }
-    requires stages { All (StageIsHeld store.old) stages.now }
-    ensures held { IfOk result (λ list. All (StageIsHeld store.new) list.items) }
+    requires stages { All (StageIsTyped types.now store.old) stages.now }
+    ensures typed { IfOk result (λ list. All (StageIsTyped types.now store.new) list.items) }
+    ensures reads { IfOk result (λ list. stages_read types.now store.new list.items
+        ≡ map (stage_by types.now (closed_reading types.now store.old (names_read types.now known.old.items) cells.now)) stages.now) }
     ensures grows { Grows types.now store.old types.now store.new }
     ensures steps { steps.old ≤ steps.new }
 {

@@ -9,7 +9,8 @@ ghost use Rattle.ab_unify.specs.Problem.{cells_read};
 ghost use Rattle.ab_unify.specs.StoreChanges.{Grows};
 ghost use Rattle.ab_alternatives.specs.ab_instances.specs.ListReadings.{names_read};
 ghost use Rattle.ab_theory.specs.Uses.{used, types_chosen};
-ghost use Rattle.ab_uses.specs.UseCells.{HoldsPart, part_read, parts_read, HasParts, names_left, IsMade};
+ghost use Rattle.ab_consequences.specs.UseStages.{stages_of};
+ghost use Rattle.ab_uses.specs.UseCells.{HoldsPart, part_read, parts_read, HasParts, names_left, IsMade, stages_read};
 ghost use Rattle.ab_uses.specs.declared.made_uses.Made.{Made as AMade};
 
 use crate::made_uses::Made;
@@ -55,6 +56,8 @@ pub fn make_use<L>(
     requires fit { map (λ a. a.type) (names_read types.old chosen.now) ≡ types_chosen (parts_read types.old store.old parts.now) }
     ensures made { (m : AMade) → result ≡ Ok (Some m) → IsMade types.new store.new (cells_read types.old store.old)
         (used (names_read types.old held.now) (length (cells_read types.old store.old)) (parts_read types.old store.old parts.now) (names_read types.old chosen.now) (tree_of types.old store.old formula)) m }
+    ensures stages { (m : AMade) → result ≡ Ok (Some m) → stages_read types.new store.new m.stages.items
+        ≡ stages_of (names_read types.old held.now) (length (cells_read types.old store.old)) (parts_read types.old store.old parts.now) (names_read types.old chosen.now) }
     ensures passed_over { result ≡ Ok None →
         (used (names_read types.old held.now) (length (cells_read types.old store.old)) (parts_read types.old store.old parts.now) (names_read types.old chosen.now) (tree_of types.old store.old formula)).outside ≡ false }
     ensures grows { Grows types.old store.old types.new store.new }

@@ -7,7 +7,7 @@ ghost use Rattle.ab_norm.specs.ab_types.specs.Entries.{signature};
 ghost use Rattle.ab_norm.specs.ab_types.specs.Ids.{HoldsType, type_of};
 ghost use Rattle.ab_norm.specs.ab_store.specs.Trees.{Holds, tree_of};
 ghost use Rattle.ab_norm.specs.ab_store.specs.Growth.{IsExtendedBy};
-ghost use Rattle.ab_norm.specs.ab_store.specs.Naming.{IsTypedBy};
+ghost use Rattle.ab_norm.specs.ab_store.specs.Naming.{IsTypedBy, IsTerm};
 ghost use Rattle.ab_norm.specs.NodeGrowth.{AddsTypedTerms};
 ghost use Rattle.ab_norm.specs.Nominals.{HoldsNominal, nominal_of};
 ghost use Rattle.ab_unifiers.specs.Choices.{is_in};
@@ -16,7 +16,9 @@ ghost use Rattle.ab_alternatives.specs.ab_instances.specs.ListReadings.{names_re
 ghost use Rattle.ab_theory.specs.Pieces.{variable_for, given_term, constant_for, antecedent};
 ghost use Rattle.ab_theory.specs.Uses.{used, types_chosen};
 ghost use Rattle.ab_theory.specs.Uses as spec;
-ghost use Rattle.ab_uses.specs.UseCells.{HoldsPart, part_read, HasParts, IsUnderWay, GoesOn};
+ghost use Rattle.ab_consequences.specs.Leading.{instance_by, chosen, met};
+ghost use Rattle.ab_consequences.specs.UseStages.{stages_of};
+ghost use Rattle.ab_uses.specs.UseCells.{HoldsPart, part_read, HasParts, IsUnderWay, GoesOn, GoesOnBy};
 
 use crate::formulas::{sides_of, with_term};
 use crate::made_uses::Made;
@@ -40,13 +42,14 @@ fn open_with<L>(
     steps: &mut Steps<L>,
 ) -> Result<(), AllocError>
     requires store { IsTypedBy types.now store.old }
-    requires term { Holds store.old term }
+    requires term { (A : Ty) × IsTerm types.now store.old [] term A }
     requires under_way { IsUnderWay types.now store.old made.old }
     requires fits { HasType (signature types.now) [] (spec.with_term (tree_of types.now store.old made.old.result) (tree_of types.now store.old term)) prop }
     ensures adds { AddsTypedTerms types.now store.old store.new }
     ensures under_way { OnOk result (IsUnderWay types.now store.new made.new) }
     ensures cells { made.new.cells ≡ made.old.cells }
     ensures antecedents { made.new.antecedents ≡ made.old.antecedents }
+    ensures stages { OnOk result (GoesOnBy types.now store.old made.old (instance_by (tree_of types.now store.old term) ∷ []) types.now store.new made.new) }
     ensures result { OnOk result (tree_of types.now store.new made.new.result ≡ spec.with_term (tree_of types.now store.old made.old.result) (tree_of types.now store.old term)) }
     ensures steps { steps.old ≤ steps.new }
 {
@@ -76,6 +79,9 @@ fn put_variable<L>(
     requires front { HasParts (signature types.old) (variable_for hint.now (type_of types.old ty) ∷ []) (tree_of types.old store.old made.old.result) }
     ensures goes { OnOk result (GoesOn types.old store.old made.old
         (used (names_read types.old held.now) (length store.old.cells) (variable_for hint.now (type_of types.old ty) ∷ []) (names_read types.old chosen.now) (tree_of types.old store.old made.old.result))
+        types.new store.new made.new) }
+    ensures stages { OnOk result (GoesOnBy types.old store.old made.old
+        (stages_of (names_read types.old held.now) (length store.old.cells) (variable_for hint.now (type_of types.old ty) ∷ []) (names_read types.old chosen.now))
         types.new store.new made.new) }
     ensures grows { Grows types.old store.old types.new store.new }
     ensures before { IsExtendedBy store.old store.new }
@@ -122,6 +128,7 @@ fn put_constant<L>(
     ensures goes { result ≡ Ok true → GoesOn types.now store.old made.old
         (used [] (length store.old.cells) (constant_for (type_of types.now a.ty) ∷ []) (nominal_of types.now a ∷ []) (tree_of types.now store.old made.old.result))
         types.now store.new made.new }
+    ensures stages { result ≡ Ok true → GoesOnBy types.now store.old made.old (chosen (nominal_of types.now a) ∷ []) types.now store.new made.new }
     ensures passed_over { result ≡ Ok false → is_in (support (tree_of types.now store.old made.old.result)) (nominal_of types.now a) ≡ true }
     ensures adds { AddsTypedTerms types.now store.old store.new }
     ensures steps { steps.old ≤ steps.new }
@@ -131,7 +138,7 @@ fn put_constant<L>(
     }
     let term = eta(alloc, types, store, Head::Nominal(a.number, a.ty), a.ty)?;
     let opened = with_term(alloc, types, store, made.result, term, steps)?;
-    made.stages.push(Stage::Chosen(opened))?;
+    made.stages.push(Stage::Chosen(a, opened))?;
     made.result = opened;
     Ok(true)
 }
@@ -144,6 +151,7 @@ fn take_antecedent(types: &TypeTable, store: &Store, made: &mut Made) -> Result<
     ensures goes { OnOk result (GoesOn types.now store.now made.old
         (used [] (length store.now.cells) (antecedent ∷ []) [] (tree_of types.now store.now made.old.result))
         types.now store.now made.new) }
+    ensures stages { OnOk result (GoesOnBy types.now store.now made.old (met ∷ []) types.now store.now made.new) }
 {
     let _ = types;
     let sides = sides_of(store, made.result);
@@ -173,6 +181,9 @@ pub(crate) fn take_part<L>(
     requires fit { (more : List Ty) × (map (λ a. a.type) (names_read types.old chosen.now) ≡ types_chosen (part_read types.old store.old part.now ∷ []) ++ more) }
     ensures goes { result ≡ Ok true → GoesOn types.old store.old made.old
         (used (names_read types.old held.now) (length store.old.cells) (part_read types.old store.old part.now ∷ []) (names_read types.old chosen.now) (tree_of types.old store.old made.old.result))
+        types.new store.new made.new }
+    ensures stages { result ≡ Ok true → GoesOnBy types.old store.old made.old
+        (stages_of (names_read types.old held.now) (length store.old.cells) (part_read types.old store.old part.now ∷ []) (names_read types.old chosen.now))
         types.new store.new made.new }
     ensures passed_over { result ≡ Ok false →
         (used (names_read types.old held.now) (length store.old.cells) (part_read types.old store.old part.now ∷ []) (names_read types.old chosen.now) (tree_of types.old store.old made.old.result)).outside ≡ false }

@@ -1,19 +1,21 @@
 //! A formula is used by one choice of constants: its equations are solved, and what is left is told.
-ghost use Rattle.std.specs.Prelude.{◌≡◌, ◌≤◌, ◌-◌, ◌++◌, [], map, length, All, IfOk};
+ghost use Rattle.std.specs.Prelude.{◌≡◌, ◌≤◌, ◌-◌, ◌++◌, [], map, length, All, Contains, IfOk, is_some, true};
+ghost use Rattle.ab_consequences.specs.UsesFollow.{antecedents_among, AreNone};
 ghost use Rattle.ab_term.specs.Types.{prop};
 ghost use Rattle.ab_norm.specs.ab_types.specs.Entries.{signature};
 ghost use Rattle.ab_norm.specs.ab_store.specs.Trees.{HoldsCell, tree_of};
 ghost use Rattle.ab_norm.specs.ab_store.specs.Naming.{IsTypedBy, IsTerm};
 ghost use Rattle.ab_norm.specs.Nominals.{HoldsNominal};
-ghost use Rattle.ab_unify.specs.UnifyAnswers.{IsTypedPair};
+ghost use Rattle.ab_term.specs.Terms as tree;
+ghost use Rattle.ab_unify.specs.UnifyAnswers.{IsTypedPair, AreInAge};
 ghost use Rattle.ab_alternatives.specs.ab_equations.specs.Meanwhile.{AreFrom};
 ghost use Rattle.ab_unify.specs.Problem.{cells_read};
 ghost use Rattle.ab_unify.specs.StoreChanges.{Grows};
 ghost use Rattle.ab_alternatives.specs.ab_instances.specs.ListReadings.{names_read};
 ghost use Rattle.ab_formulas.specs.Sequents.{Sequent as APlainGoal, goal_names};
 ghost use Rattle.ab_unifiers.specs.Choices.{in_order};
-ghost use Rattle.ab_theory.specs.Uses.{types_chosen};
-ghost use Rattle.ab_uses.specs.UseCells.{HoldsPart, parts_read, HasParts, StageIsHeld};
+ghost use Rattle.ab_theory.specs.Uses.{types_chosen, given_constants};
+ghost use Rattle.ab_uses.specs.UseCells.{HoldsPart, parts_read, HasParts, StageIsTyped};
 ghost use Rattle.ab_uses.specs.UseSolutions.{missing, IsFormulaTerm, IsFormulaTermIfAny, aim_in};
 ghost use Rattle.ab_uses.specs.ChoiceAnswers.{IsLeft, IsSolvedSo, ComesOut};
 
@@ -55,10 +57,11 @@ fn conclude<L>(
     requires store { IsTypedBy types.now store.old }
     requires awaited { All (IsFormulaTerm types.now store.old) awaited.now }
     requires formula { IsFormulaTerm types.now store.old made.now.result }
-    requires stages { All (StageIsHeld store.old) made.now.stages.items }
+    requires stages { All (StageIsTyped types.now store.old) made.now.stages.items }
     requires cells { All (HoldsCell store.old) cells.now }
+    requires in_age { AreInAge cells.now }
     requires known { All (HoldsNominal types.now) known.old.items }
-    ensures left { IfOk result (λ o. IsLeft types.now store.old awaited.now made.now.result cells.now store.new o) }
+    ensures left { IfOk result (λ o. IsLeft types.now store.old awaited.now made.now.result made.now.stages.items (names_read types.now known.old.items) cells.now store.new o) }
     ensures grows { Grows types.now store.old types.now store.new }
     ensures steps { steps.old ≤ steps.new }
 {
@@ -95,10 +98,10 @@ fn solve_made<L>(
     requires many { length aim.now.hypotheses.items ≤ length made.now.antecedents.items }
     requires antecedents { All (IsFormulaTerm types.old store.old) made.now.antecedents.items }
     requires formula { IsFormulaTerm types.old store.old made.now.result }
-    requires stages { All (StageIsHeld store.old) made.now.stages.items }
+    requires stages { All (StageIsTyped types.old store.old) made.now.stages.items }
     requires known { All (HoldsNominal types.old) known.old.items }
     ensures solved { IfOk result (λ o. IsSolvedSo types.old store.old equations.now made.now.cells.items
-        (missing aim.now.hypotheses.items made.now.antecedents.items) made.now.result types.new store.new o) }
+        (missing aim.now.hypotheses.items made.now.antecedents.items) made.now.result made.now.stages.items (names_read types.old known.old.items) types.new store.new o) }
     ensures grows { Grows types.old store.old types.new store.new }
     ensures steps { steps.old ≤ steps.new }
 {
@@ -131,6 +134,8 @@ pub(crate) fn use_choice<L>(
     requires unbound { store.old.bindings ≡ [] }
     requires held { All (HoldsNominal types.old) held.now }
     requires known { All (HoldsNominal types.old) known.now }
+    requires all_known { (a : tree.Nominal) → Contains (names_read types.old held.now ++ given_constants (parts_read types.old store.old parts.now)) a →
+        Contains (names_read types.old known.now) a }
     requires parts { All (HoldsPart types.old store.old) parts.now }
     requires names { All (HoldsNominal types.old) names.now }
     requires formula { IsFormulaTerm types.old store.old formula }
@@ -138,6 +143,8 @@ pub(crate) fn use_choice<L>(
     requires fit { map (λ a. a.type) (names_read types.old names.now) ≡ types_chosen (parts_read types.old store.old parts.now) }
     requires hypotheses { All (IsFormulaTermIfAny types.old store.old) aim.now.hypotheses.items }
     requires conclusion { IsFormulaTermIfAny types.old store.old aim.now.conclusion }
+    requires enough { length aim.now.hypotheses.items ≤ antecedents_among (parts_read types.old store.old parts.now) }
+    requires alone { is_some aim.now.conclusion ≡ true → AreNone (aim_in types.old store.old aim.now).hypotheses }
     ensures comes_out { IfOk result (λ o. (s : APlainGoal) → names_read types.old held.now ≡ in_order (goal_names s) →
         ComesOut (cells_read types.old store.old)
         (record { goal = s; parts = parts_read types.old store.old parts.now; aim = aim_in types.old store.old aim.now; formula = tree_of types.old store.old formula })
@@ -148,13 +155,7 @@ pub(crate) fn use_choice<L>(
     let Some(made) = make_use(alloc, types, store, held, parts, names, formula, steps)? else {
         return Ok(Outcome::PassedOver);
     };
-    if aim.hypotheses.len() > made.antecedents.len() {
-        return Err(AllocError);
-    }
     let equations = equate(alloc, types, store, aim, &made.antecedents, made.result)?;
-    if aim.conclusion.is_some() && equations.len() > 1 {
-        return Err(AllocError);
-    }
     let mut all = both(alloc, known, names)?;
     solve_made(alloc, types, store, aim, &made, &equations, &mut all, steps)
 }

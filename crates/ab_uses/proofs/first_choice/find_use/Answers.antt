@@ -15,7 +15,7 @@ try_from-requires-clause-posed g c =
     let w = c.args.world.now in
     let told = c.in_ok-question.ensures in
     posed w c.requires.world c.args.goal.now c.args.formula c.args.count c.args.given.now c.args.aim.now c.in_ok-question.question told.formula told.parts c.requires.formula c.requires.usable c.requires.hypotheses c.requires.conclusion
-    told.parts_held told.held told.known told.names
+    told.parts_held told.held told.known told.names told.known_names
 
 pub try_from-requires-clause-types : goal.try_from-requires-clause-types
 try_from-requires-clause-types g c =

@@ -1,4 +1,4 @@
-use Rattle.std.proofs.Common.{◌≡◌, None, map, sym, ◌∙◌, ap}
+use Rattle.std.proofs.Common.{map, sym, ◌∙◌, ap}
 use Rattle.ab_theory.specs.Pieces as spec
 use Rattle.ab_uses.specs.GivenReadings.{given_of}
 use Rattle.ab_uses.proofs.TermsGiven.{none_given}

@@ -44,6 +44,6 @@ loop-part-preserved g c =
     record {
       half = half_step c.args.types.now c.loop-part.types c.take_part.new.types c.args.store.now c.loop-part.store c.take_part.new.store c.args.held.now c.args.chosen.now c.args.parts.now c.args.formula c.loop-part.part-index c.part-item.result (omega (arith, c.loop-part-test.true)) c.part-item.is
           c.loop-part.left.now c.loop-part.made c.requires.held c.requires.parts c.loop-part.invariant.half c.in_ok-take_part.ensures.grows c.in_ok-take_part.ensures.before c.take_part.new.made c.left_behind-left.result.now
-          (c.left_behind-left.ensures c.loop-part.types c.loop-part.store) (c.in_ok-take_part.ensures.goes (ap Ok yes));
+          (c.left_behind-left.ensures c.loop-part.types c.loop-part.store) (c.in_ok-take_part.ensures.goes (ap Ok yes)) (c.in_ok-take_part.ensures.stages (ap Ok yes));
       steps = omega (arith, c.loop-part.invariant.steps, c.in_ok-take_part.ensures.steps);
     }

@@ -1,5 +1,7 @@
-use Rattle.std.proofs.Common.{◌≡◌, List, Ok, arith, refl, ◌∙◌, ap, subst}
-use Rattle.std.specs.Prelude.{IfOk}
+use Rattle.std.proofs.Common.{◌≡◌, ◌++◌, List, refl, sym, ◌∙◌, ap, subst}
+use Rattle.std.specs.Prelude.{IfOk, Contains}
+use Rattle.ab_theory.specs.Uses.{given_constants}
+use Rattle.ab_norm.specs.declared.nominal.Nominal.{Nominal}
 use Rattle.ab_alternatives.specs.ab_equations.proofs.Restored as restored
 use Rattle.ab_norm.proofs.Frame.{if_ok}
 use Rattle.ab_unifiers.specs.Choices.{in_order}
@@ -22,6 +24,15 @@ use Rattle.ab_uses.specs.declared.outcome.Outcome.TheVariants.{PassedOver, Apart
 use Rattle.ab_uses.proofs.Undone.{comes_out_still}
 use Rattle.ab_uses.proofs.one_choice.try_choice.Goals as goal
 use Rattle.ab_uses.proofs.one_choice.try_choice.Goals.{in_default-via-in-Ok+in-Stuck-1, in_default-via-in-Err-1}
+
+pub use_choice-requires-clause-all_known : goal.use_choice-requires-clause-all_known
+use_choice-requires-clause-all_known g c a m =
+    let w = c.args.world.now in
+    let q = c.args.question.now in
+    subst (λ (l : List Nominal). Contains (names_read w.types l) a) (sym c.deref-2.ensures.value)
+    (c.requires.posed.all_known a
+    (subst (λ (l : List Nominal). Contains (names_read w.types l ++ given_constants (parts_read w.types w.store q.parts.items)) a) c.deref.ensures.value
+    (subst (λ (l : List Part). Contains (names_read w.types c.deref.result.now ++ given_constants (parts_read w.types w.store l)) a) c.deref-3.ensures.value m)))
 
 pub returns-in-Ok-PassedOver-clause-comes_out : goal.returns-in-Ok-PassedOver-clause-comes_out
 returns-in-Ok-PassedOver-clause-comes_out g c =

@@ -1,10 +1,12 @@
-use Rattle.std.proofs.Common.{[], refl, sym, subst}
+use Rattle.std.proofs.Common.{[], refl, sym, ap, subst}
 use Rattle.ab_term.specs.Types.{prop}
 use Rattle.ab_term.specs.Typing.{HasType}
 use Rattle.ab_norm.specs.ab_types.specs.Entries.{signature}
 use Rattle.ab_unify.proofs.Growth.{typed_terms, grows_terms}
+use Rattle.ab_norm.specs.ab_store.specs.Trees.{tree_of}
+use Rattle.ab_consequences.specs.Leading.{instance_by}
 use Rattle.ab_uses.specs.declared.stage.Stage.TheVariants.{Instance}
-use Rattle.ab_uses.proofs.Moved.{under_way_on}
+use Rattle.ab_uses.proofs.Moved.{under_way_on, stage_on, one_more_stage}
 use Rattle.ab_uses.proofs.one_part.open_with.Goals as goal
 
 pub returns-in_err-opened-clause-adds : goal.returns-in_err-opened-clause-adds
@@ -23,4 +25,13 @@ returns-clause-under_way g c =
     let new = c.with_term.new.store in
     let made = c.in_ok-opened.ensures in
     under_way_on types types old new (grows_terms types old new (typed_terms types old new c.requires.store made.adds)) c.args.made.now _ (Instance c.args.term) c.requires.under_way refl c.in_ok-push.ensures.items
-    (made.adds.before.ids c.args.term c.requires.term) made.held (subst (λ u. HasType (signature types) [] u prop) (sym made.tree) c.requires.fits)
+    (stage_on types types old new (grows_terms types old new (typed_terms types old new c.requires.store made.adds)) (Instance c.args.term) c.requires.term) made.held (subst (λ u. HasType (signature types) [] u prop) (sym made.tree) c.requires.fits)
+
+pub returns-clause-stages : goal.returns-clause-stages
+returns-clause-stages g c =
+    let types = c.args.types.now in
+    let old = c.args.store.now in
+    let new = c.with_term.new.store in
+    let made = c.in_ok-opened.ensures in
+    one_more_stage types types old new (grows_terms types old new (typed_terms types old new c.requires.store made.adds)) c.args.made.now _ (Instance c.args.term) (instance_by (tree_of types old c.args.term)) c.requires.under_way.stages c.in_ok-push.ensures.items
+    (ap instance_by (made.adds.before.trees types c.args.term c.requires.term.1.0))

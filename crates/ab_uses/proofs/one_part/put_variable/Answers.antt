@@ -1,6 +1,9 @@
-use Rattle.std.proofs.Common.{refl, sym, ◌∙◌, ap, subst}
+use Rattle.std.proofs.Common.{[], codes, refl, sym, ◌∙◌, ap, subst}
 use Rattle.std.specs.List.{All}
 use Rattle.ab_term.specs.Abstraction.{over}
+use Rattle.ab_term.specs.Typing.{HasType}
+use Rattle.ab_term.proofs.Hinted.{given_typed}
+use Rattle.ab_norm.specs.ab_types.specs.Entries.{signature}
 use Rattle.ab_norm.specs.ab_types.specs.Ids.{type_of}
 use Rattle.ab_norm.specs.ab_types.proofs.Entries.{type_still_held}
 use Rattle.ab_norm.specs.ab_store.proofs.Growing.{extended_on}
@@ -11,7 +14,7 @@ use Rattle.ab_alternatives.specs.ab_instances.specs.ListReadings.{names_read}
 use Rattle.ab_alternatives.specs.ab_instances.proofs.Made.{names_stay, names_held}
 use Rattle.ab_uses.proofs.Parted.{type_stays}
 use Rattle.ab_uses.proofs.Moved.{under_way_still}
-use Rattle.ab_uses.proofs.NewVariables.{variable_fits, variable_put_in}
+use Rattle.ab_uses.proofs.NewVariables.{variable_fits, variable_put_in, variable_stage}
 use Rattle.ab_uses.proofs.one_part.put_variable.Goals as goal
 
 pub given_constants-requires-clause-ty : goal.given_constants-requires-clause-ty
@@ -49,6 +52,13 @@ returns-in_err-push-clause-grows g c =
 pub returns-in_err-push-clause-before : goal.returns-in_err-push-clause-before
 returns-in_err-push-clause-before g c = extended_on c.args.store.now c.cell_over_constants.new.store c.given_constants.new.store c.in_ok-cell.ensures.before c.in_ok-term.ensures.adds.before
 
+pub open_with-requires-clause-term : goal.open_with-requires-clause-term
+open_with-requires-clause-term g c =
+    let U = c.cell_over_constants.new.types in
+    let names = names_read U c.deref-2.result.now in
+    let A = type_of U c.args.ty in
+    (A, (c.in_ok-term.ensures.held, subst (λ u. HasType (signature U) [] u A) (sym c.in_ok-term.ensures.tree) (given_typed (signature U) (codes "x") [] (record { name = c.in_ok-cell.cell.0; type = over names A }) names A refl)))
+
 pub open_with-requires-clause-under_way : goal.open_with-requires-clause-under_way
 open_with-requires-clause-under_way g c =
     let U = c.cell_over_constants.new.types in
@@ -85,3 +95,10 @@ pub returns-clause-before : goal.returns-clause-before
 returns-clause-before g c =
     extended_on c.args.store.now c.cell_over_constants.new.store c.open_with.new.store c.in_ok-cell.ensures.before
     (extended_on c.cell_over_constants.new.store c.given_constants.new.store c.open_with.new.store c.in_ok-term.ensures.adds.before c.open_with.ensures.adds.before)
+
+pub returns-clause-stages : goal.returns-clause-stages
+returns-clause-stages g c =
+    variable_stage c.args.types.now c.cell_over_constants.new.types c.args.store.now c.cell_over_constants.new.store c.given_constants.new.store c.open_with.new.store c.in_ok-cell.ensures.grows c.in_ok-term.ensures.adds c.args.made.now
+    (record { cells = c.push.new.self; antecedents = c.args.made.now.antecedents; result = c.args.made.now.result; stages = c.args.made.now.stages }) c.open_with.new.made c.requires.under_way refl c.in_ok-cell.cell c.in_ok-cell.ensures.number
+    c.args.held.now c.args.chosen.now c.in_ok-free.free.items c.in_ok-free.ensures.held c.in_ok-free.ensures.list c.deref-2.result.now c.deref-2.ensures.value c.args.hint.now c.args.ty c.requires.ty
+    c.in_ok-term.term c.in_ok-term.ensures.tree c.open_with.result c.open_with.ensures.stages

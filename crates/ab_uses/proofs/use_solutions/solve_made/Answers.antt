@@ -14,12 +14,15 @@ use Rattle.ab_unify.proofs.Growth.{grows_on, grown_term}
 use Rattle.ab_unify.specs.declared.answers.Solved.TheVariants.{Unified}
 use Rattle.ab_unify.specs.UnifyAnswers.{HasSolution, AreNewCells, AreInAge, AreLeft}
 use Rattle.ab_alternatives.specs.ab_equations.proofs.Outcomes.{at_ok, at_unified}
-use Rattle.ab_alternatives.specs.ab_instances.proofs.Made.{names_held}
+use Rattle.ab_alternatives.specs.ab_instances.proofs.Made.{names_held, names_stay}
 use Rattle.ab_alternatives.proofs.LeftOpen.{from_held, all_there}
 use Rattle.ab_uses.specs.UseSolutions.{missing, IsFormulaTerm}
 use Rattle.ab_uses.specs.ChoiceAnswers.{IsLeft}
 use Rattle.ab_uses.proofs.Concluding.{all_missing}
-use Rattle.ab_uses.proofs.Filling.{stages_last}
+use Rattle.ab_alternatives.specs.ab_equations.proofs.Answering.{behind_age}
+use Rattle.ab_alternatives.specs.ab_instances.specs.ListReadings.{names_read}
+use Rattle.ab_term.specs.Terms.{Nominal}
+use Rattle.ab_uses.proofs.Moved.{stages_on}
 use Rattle.ab_uses.proofs.Solved.{solved_so}
 use Rattle.ab_uses.proofs.use_solutions.solve_made.Goals as goal
 
@@ -31,7 +34,7 @@ unify-requires-clause-flexible g c =
     (All-weaker (HoldsCell S) (IsFree S) (λ d h. (h, ap (λ bs. bound_in bs d) c.requires.unbound)) own (from_held S (length S.cells - length own) own c.requires.own))
 
 pub conclude-requires-clause-stages : goal.conclude-requires-clause-stages
-conclude-requires-clause-stages g c = stages_last c.args.types.now c.unify.new.types c.args.store.now c.unify.new.store c.unify.ensures.grows c.args.made.now.stages.items c.requires.stages
+conclude-requires-clause-stages g c = stages_on c.args.types.now c.unify.new.types c.args.store.now c.unify.new.store c.unify.ensures.grows c.args.made.now.stages.items c.requires.stages
 
 pub conclude-requires-clause-known : goal.conclude-requires-clause-known
 conclude-requires-clause-known g c = names_held c.args.types.now c.unify.new.types c.unify.ensures.grows.table c.args.known.now.items c.requires.known
@@ -68,6 +71,22 @@ conclude-requires-clause-cells g c =
     ∙ ap (λ l. own ++ l) c.as_slice.ensures in
     subst (All (HoldsCell V)) (sym cells_are) (all_there S V (λ d h. (c.unify.ensures.grows.cells d h).0) (length S.cells - length own) own more c.requires.own new in_age)
 
+pub conclude-requires-clause-in_age : goal.conclude-requires-clause-in_age
+conclude-requires-clause-in_age g c =
+    let S = c.args.store.now in
+    let V = c.unify.new.store in
+    let own = c.args.made.now.cells.items in
+    let more = c.in-Unified.more in
+    let answered = c.in_ok-more.was ∙ ap Ok c.in-Unified.is in
+    let new : AreNewCells S V more = at_unified c.unify.result more (AreNewCells S V) answered c.unify.ensures.made in
+    let in_age : AreInAge more = at_unified c.unify.result more AreInAge answered c.unify.ensures.in_age in
+    let cells_are =
+    c.deref-in-Unified-5.ensures.value
+    ∙ c.in_ok-cells-in-Unified.ensures
+    ∙ ap (λ l. l ++ c.as_slice.result.now) c.deref-in-Unified.ensures.value
+    ∙ ap (λ l. own ++ l) c.as_slice.ensures in
+    subst AreInAge (sym cells_are) (behind_age S V (λ d h. (c.unify.ensures.grows.cells d h).0) (length S.cells - length own) own more c.requires.own new in_age)
+
 pub returns-in_ok-awaited-in-Unified-clause-solved : goal.returns-in_ok-awaited-in-Unified-clause-solved
 returns-in_ok-awaited-in-Unified-clause-solved g c =
     let T = c.args.types.now in
@@ -82,6 +101,8 @@ returns-in_ok-awaited-in-Unified-clause-solved g c =
     let more = c.in-Unified.more in
     let hs = c.args.aim.now.hypotheses.items in
     let As = made.antecedents.items in
+    let stages = made.stages.items in
+    let known = names_read T c.args.known.now.items in
     let answered = c.in_ok-more.was ∙ ap Ok c.in-Unified.is in
     let solution : HasSolution (problem T S es ys) = (at_ok c.unify.result (Unified more) _ answered c.unify.ensures.unified).0 tt in
     let cells = solution.0 in
@@ -107,9 +128,10 @@ returns-in_ok-awaited-in-Unified-clause-solved g c =
     (λ o l.
     solved_so T U S V c.unify.ensures.grows c.requires.unbound es own (missing hs As) made.result cells answer solves reads same_cells
     (subst (λ (k : List CellId). AreLeft S k U V answer) c.deref.ensures.value left) c.requires.own
-    (all_missing (IsFormulaTerm T S) hs As c.requires.antecedents) c.requires.formula more new in_age W o
-    (subst (λ (k : List CellId). IsLeft U V (missing hs As) made.result k W o) cells_are
-    (subst (λ (k : List TermId). IsLeft U V k made.result c.deref-in-Unified-5.result.now W o) awaited_are l)))
+    (all_missing (IsFormulaTerm T S) hs As c.requires.antecedents) c.requires.formula more new in_age stages c.requires.stages known W o
+    (subst (λ (k : List CellId). IsLeft U V (missing hs As) made.result stages known k W o) cells_are
+    (subst (λ (k : List TermId). IsLeft U V k made.result stages known c.deref-in-Unified-5.result.now W o) awaited_are
+    (subst (λ (k : List Nominal). IsLeft U V c.deref-in-Unified-4.result.now made.result stages k c.deref-in-Unified-5.result.now W o) (names_stay T U c.unify.ensures.grows.table c.args.known.now.items c.requires.known) l))))
     c.conclude.ensures.left
 
 pub returns-in_ok-awaited-in-Unified-clause-grows : goal.returns-in_ok-awaited-in-Unified-clause-grows

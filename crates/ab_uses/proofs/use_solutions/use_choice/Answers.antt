@@ -1,11 +1,10 @@
 use Rattle.std.specs.Prelude.{is_some, ◌≤◌}
 use Rattle.std.specs.List.{All}
-use Rattle.std.proofs.Common.{◌≡◌, true, false, List, map, length, Ok, arith, ◌∙◌, ap, sym, subst}
+use Rattle.std.proofs.Common.{◌≡◌, true, List, map, length, Ok, arith, ◌∙◌, ap, sym, subst}
 use Rattle.std.proofs.lemmas.List.Elements.{All-append}
 use Rattle.ab_norm.specs.Nominals.{HoldsNominal}
 use Rattle.ab_norm.proofs.Frame.{if_ok}
 use Rattle.ab_unify.specs.Problem.{cells_read}
-use Rattle.ab_unify.specs.StoreChanges.{Grows}
 use Rattle.ab_unify.proofs.Growth.{grows_on, grows_terms}
 use Rattle.ab_alternatives.specs.ab_instances.proofs.Made.{names_held}
 use Rattle.ab_term.specs.Terms.{Nominal}
@@ -17,10 +16,17 @@ use Rattle.ab_alternatives.specs.ab_instances.specs.ListReadings.{names_read}
 use Rattle.ab_uses.specs.UseCells.{parts_read, IsMade}
 use Rattle.ab_uses.specs.UseSolutions.{missing, all_equations, aim_in}
 use Rattle.ab_uses.specs.ChoiceAnswers.{IsSolvedSo}
-use Rattle.ab_theory.specs.Uses.{used}
-use Rattle.ab_uses.proofs.UseMade.{comes_out, own_from, same_aim, stages_grown, one_grown, formulas_grown}
+use Rattle.ab_theory.specs.Uses.{used, Aim}
+use Rattle.ab_consequences.specs.UsesFollow.{AreNone}
+use Rattle.ab_uses.proofs.Equations.{trees_count}
+use Rattle.ab_uses.proofs.UseMade.{comes_out, enough_made, one_at_most, own_from, same_aim, one_grown, formulas_grown}
+use Rattle.ab_uses.proofs.Moved.{stages_on}
+use Rattle.ab_uses.proofs.Known.{all_within}
+use Rattle.ab_theory.specs.Uses.{given_constants}
+use Rattle.ab_formulas.specs.Sequents.{goal_names}
+use Rattle.ab_consequences.specs.UseStages.{stages_of}
+use Rattle.ab_uses.specs.UseCells.{stages_read}
 use Rattle.ab_uses.proofs.use_solutions.use_choice.Goals as goal
-use Rattle.ab_uses.proofs.use_solutions.use_choice.Goals.{else-is_some-via-then-is_some+else-len-gt1, else-is_some-via-else-is_some}
 
 pub equate-requires-clause-formula : goal.equate-requires-clause-formula
 equate-requires-clause-formula g c = (c.make_use.ensures.made c.in-Some.made (c.in_ok-made.was ∙ ap Ok c.in-Some.is)).formula
@@ -29,9 +35,30 @@ pub returns-in_err-equations-clause-grows : goal.returns-in_err-equations-clause
 returns-in_err-equations-clause-grows g c =
     grows_on c.args.types.now c.make_use.new.types c.make_use.new.types c.args.store.now c.make_use.new.store c.equate.new.store c.make_use.ensures.grows (grows_terms c.make_use.new.types c.make_use.new.store c.equate.new.store c.equate.ensures.adds)
 
-pub returns-then-len-gt1-clause-grows : goal.returns-then-len-gt1-clause-grows
-returns-then-len-gt1-clause-grows g c =
-    grows_on c.args.types.now c.make_use.new.types c.make_use.new.types c.args.store.now c.make_use.new.store c.equate.new.store c.make_use.ensures.grows (grows_terms c.make_use.new.types c.make_use.new.store c.equate.new.store c.equate.ensures.adds)
+pub equate-requires-clause-many : goal.equate-requires-clause-many
+equate-requires-clause-many g c =
+    let T = c.args.types.now in
+    let S = c.args.store.now in
+    let names = names_read T c.args.names.now in
+    let ps = parts_read T S c.args.parts.now in
+    let m = c.in-Some.made in
+    let made = c.make_use.ensures.made m (c.in_ok-made.was ∙ ap Ok c.in-Some.is) in
+    let count = enough_made c.make_use.new.types c.make_use.new.store (cells_read T S) (names_read T c.args.held.now) (length (cells_read T S)) ps names (tree_of T S c.args.formula) m c.requires.fit made in
+    let given = c.requires.enough in
+    let listed = ap length c.deref.ensures.value in
+    omega (arith, count, given, listed)
+
+pub solve_made-requires-clause-many : goal.solve_made-requires-clause-many
+solve_made-requires-clause-many g c =
+    let T = c.args.types.now in
+    let S = c.args.store.now in
+    let names = names_read T c.args.names.now in
+    let ps = parts_read T S c.args.parts.now in
+    let m = c.in-Some.made in
+    let made = c.make_use.ensures.made m (c.in_ok-made.was ∙ ap Ok c.in-Some.is) in
+    let count = enough_made c.make_use.new.types c.make_use.new.store (cells_read T S) (names_read T c.args.held.now) (length (cells_read T S)) ps names (tree_of T S c.args.formula) m c.requires.fit made in
+    let given = c.requires.enough in
+    omega (arith, count, given)
 
 pub returns-in_err-all-clause-grows : goal.returns-in_err-all-clause-grows
 returns-in_err-all-clause-grows g c =
@@ -59,7 +86,7 @@ solve_made-requires-clause-formula g c =
 pub solve_made-requires-clause-stages : goal.solve_made-requires-clause-stages
 solve_made-requires-clause-stages g c =
     let made = c.make_use.ensures.made c.in-Some.made (c.in_ok-made.was ∙ ap Ok c.in-Some.is) in
-    stages_grown c.make_use.new.types c.make_use.new.types c.make_use.new.store c.equate.new.store (grows_terms c.make_use.new.types c.make_use.new.store c.equate.new.store c.equate.ensures.adds) c.in-Some.made.stages.items made.stages
+    stages_on c.make_use.new.types c.make_use.new.types c.make_use.new.store c.equate.new.store (grows_terms c.make_use.new.types c.make_use.new.store c.equate.new.store c.equate.ensures.adds) c.in-Some.made.stages.items made.stages
 
 pub solve_made-requires-clause-known : goal.solve_made-requires-clause-known
 solve_made-requires-clause-known g c =
@@ -88,13 +115,17 @@ returns-clause-comes_out g c =
     let names = names_read T c.args.names.now in
     let es = c.in_ok-equations.equations.items in
     let made = c.make_use.ensures.made m (c.in_ok-made.was ∙ ap Ok c.in-Some.is) in
-    let a = c.len.ensures in
-    let b = c.len-2.ensures in
-    let less = c.if-len.false in
-    let few : is_some aim.conclusion ≡ true → length es ≤ 1 = elim c.else-is_some.branch [
-      | else-is_some-via-then-is_some+else-len-gt1 w ↦ λ e. let k = w.len-then-is_some.ensures in let l = w.if-len-gt1.false in omega (arith, k, l)
-      | else-is_some-via-else-is_some w ↦ λ e. let clash : true ≡ false = sym e ∙ sym c.is_some.ensures ∙ w.if-is_some.false in absurd (cc)
-    ] in
+    let staged = c.make_use.ensures.stages m (c.in_ok-made.was ∙ ap Ok c.in-Some.is) in
+    let known = names_read U c.in_ok-all.all.items in
+    let count = enough_made U V (cells_read T S) (names_read T c.args.held.now) (length (cells_read T S)) ps names F m c.requires.fit made in
+    let given = c.requires.enough in
+    let aimed = same_aim T U S V c.make_use.ensures.grows aim c.requires.hypotheses c.requires.conclusion in
+    let few : is_some aim.conclusion ≡ true → length es ≤ 1 =
+    λ e.
+    let one = one_at_most (aim_in U V aim) (map (tree_of U V) c.deref.result.now) (tree_of U V m.result) (subst (λ (x : Aim). AreNone x.hypotheses) (sym aimed) (c.requires.alone e)) in
+    let read = ap length c.in_ok-equations.ensures.reads in
+    let kept = trees_count U W 0 es in
+    omega (arith, one, read, kept) in
     if_ok c.solve_made.result
     (λ o t s e.
     comes_out T U S V W (record { goal = s; parts = ps; aim = aim_in T S aim; formula = F }) names aim m es
@@ -104,7 +135,10 @@ returns-clause-comes_out g c =
     (c.in_ok-equations.ensures.reads ∙ ap (λ (l : List TermId). all_equations (aim_in U V aim) (map (tree_of U V) l) (tree_of U V m.result)) c.deref.ensures.value)
     (same_aim T U S V c.make_use.ensures.grows aim c.requires.hypotheses c.requires.conclusion)
     few
-    (omega (arith, a, b, less))
+    (omega (arith, count, given))
+    (subst (λ (l : List Nominal). stages_read U V m.stages.items ≡ stages_of l (length (cells_read T S)) ps names) e staged)
+    known
+    (all_within T U c.make_use.ensures.grows.table c.args.known.now c.args.names.now c.in_ok-all.all.items c.in_ok-all.ensures c.requires.known c.requires.names (goal_names s) (given_constants ps) (names_read T c.args.held.now) e c.requires.all_known)
     c.solve_made.new.types c.solve_made.new.store o
-    (subst (λ (l : List Equation). IsSolvedSo U W l m.cells.items (missing aim.hypotheses.items m.antecedents.items) m.result c.solve_made.new.types c.solve_made.new.store o) c.deref-2.ensures.value t))
+    (subst (λ (l : List Equation). IsSolvedSo U W l m.cells.items (missing aim.hypotheses.items m.antecedents.items) m.result m.stages.items known c.solve_made.new.types c.solve_made.new.store o) c.deref-2.ensures.value t))
     c.solve_made.ensures.solved

@@ -8,7 +8,7 @@ use Rattle.ab_term.specs.Logical.{truth, falsity, conjunction, disjunction, impl
 use Rattle.ab_term.specs.Terms.{constant, nominal, variable, index, logical, lam, spine, no_terms, term, Read}
 use Rattle.ab_term.specs.Typing.{Signature, HasType, typed_lam, typed_spine, take_term}
 use Rattle.ab_theory.specs.Pieces.{Piece, universal_of, nabla_of, antecedent_of, pieces, type_named, Given, given_for, given_otherwise, part_for, parts, constant_for}
-use Rattle.ab_uses.specs.UseCells.{HasParts, has_none, has_variable, has_given, has_constant, has_antecedent}
+use Rattle.ab_consequences.specs.UseStages.{HasParts, has_none, has_variable, has_given, has_constant, has_antecedent}
 
 eq_symmetric : (x y : List ℕ) → bytes_eq x y ≡ bytes_eq y x
 eq_symmetric x y = go (bytes_eq x y) refl (bytes_eq y x) refl

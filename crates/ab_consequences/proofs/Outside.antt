@@ -1,18 +1,17 @@
 -- Whether constants stand outside the formulas that their names are taken off doesn't depend on how variables are numbered.
-use Rattle.std.specs.Prelude.{ℕ, zero, suc, not, Bool, ◌&&◌, codes, List, [], ◌∷◌}
+use Rattle.std.specs.Prelude.{ℕ, zero, suc, not, ◌&&◌, codes, List, [], ◌∷◌}
 use Rattle.std.proofs.Common.{◌≡◌, map, refl, sym, ◌∙◌, ap}
 use Rattle.ab_term.specs.Types.{Ty, kind, arrow}
-use Rattle.ab_term.specs.Terms.{Nominal, Variable, Head, nominal, variable, lam, spine, Term, Terms, no_terms, term, Read}
+use Rattle.ab_term.specs.Terms.{Nominal, nominal, variable, lam, spine, Terms, no_terms, term, Read}
 use Rattle.ab_term.specs.Expansion.{expansion}
 use Rattle.ab_term.specs.Names.{support}
-use Rattle.ab_term.specs.Substitution.{instance}
 use Rattle.ab_term.specs.Translation.{translate, translate_all}
 use Rattle.ab_term.specs.Abstraction.{over, given_names, name_terms}
 use Rattle.ab_term.proofs.Translations.{translate-instance, translate-expansion, translate-expansion_of, support-translate}
 use Rattle.ab_unifiers.specs.Clauses.{name_term}
 use Rattle.ab_unifiers.specs.Choices.{is_in, outside}
 use Rattle.ab_theory.specs.Pieces.{Part, variable_for, given_term, constant_for, antecedent}
-use Rattle.ab_theory.specs.Uses.{with_term, left_side, right_side, used}
+use Rattle.ab_theory.specs.Uses.{with_term, right_side, used}
 
 -- with one number for all variables
 abbrev blurred : Read → Read

@@ -1,0 +1,15 @@
+pub mod Permuted
+pub mod Allowed
+pub mod Swapping
+pub mod Leading
+pub mod UseStages
+pub mod UseAnswered
+pub mod Filling
+pub mod Choosing
+pub mod Outside
+pub mod UsesFollow
+pub mod Counted
+pub mod Begun
+pub mod Marks
+pub mod Rows
+pub mod Newest
