@@ -1,5 +1,5 @@
 -- Definitions that are kept: how they read, in a world that has grown too, and that they define.
-use Rattle.std.proofs.Common.{◌≡◌, inl, inr, ℕ, ◌-◌, List, [], ◌∷◌, ◌++◌, map, take, drop, Bool, true, false, Some, if◌then◌else◌, bytes_eq, codes, refl, sym, ◌∙◌, ap, subst}
+use Rattle.std.proofs.Common.{◌≡◌, inl, inr, ℕ, ◌-◌, List, [], ◌∷◌, ◌++◌, map, take, drop, Bool, true, false, Some, None, if◌then◌else◌, bytes_eq, codes, refl, sym, ◌∙◌, ap, subst}
 use Rattle.std.specs.List.{All, list_any}
 use Rattle.std.specs.Option.{option_map}
 use Rattle.std.proofs.lemmas.List.Elements.{All-nil, All-cons, All-head, All-tail, All-weaker}
@@ -42,7 +42,7 @@ use Rattle.ab_logic.specs.declared.additions.Addition.{Addition}
 use Rattle.ab_logic.specs.declared.additions.Addition.TheVariants.{Theorem, Definition, Clause}
 use Rattle.ab_formulas.proofs.Images.{image_stands}
 use Rattle.ab_formulas.proofs.Declaring.{or_else, block_in-append}
-use Rattle.ab_logic.proofs.Declaring.{block-declared, ReadsSame, declared_on, order_on}
+use Rattle.ab_logic.proofs.Declaring.{block-declared, in_rest, in_part, ReadsSame, declared_on, order_on}
 
 -- what is well kept defines
 
@@ -72,14 +72,14 @@ module _ (w : World) where
   module _ (unique : (p q : ConstId) → HoldsConstant w.types p → HoldsConstant w.types q → (constant_of w.types p).name ≡ (constant_of w.types q).name → p ≡ q) (p : ConstId) (held : HoldsConstant w.types p) where
     pub block_found : (done : ℕ) (xs : List Added) → All (λ (a : Added). IsKept w.types w.store a.what) xs
         → option_map (definition_of w) (block_kept xs p) ≡ block_in (declared_from w done xs) (name_of w.types p)
-    block_found done [] all = sym (block-declared (drop done w.types) (name_of w.types p))
+    block_found done [] all = sym (in_rest (λ ds. block_in ds (name_of w.types p) ≡ None) (λ t. block-declared t (name_of w.types p)) done w.types)
     block_found done (a ∷ xs) all =
         one a.what (All-head (λ (x : Added). IsKept w.types w.store x.what) a xs all) (block_found a.before xs (All-tail (λ (x : Added). IsKept w.types w.store x.what) a xs all))
         ∙ sym (block_in-append front (declaration_of w a.what ∷ rest) (name_of w.types p)
-        ∙ ap (λ o. or_else o (block_in (declaration_of w a.what ∷ rest) (name_of w.types p))) (block-declared (take (a.before - done) (drop done w.types)) (name_of w.types p)))
+        ∙ ap (λ o. or_else o (block_in (declaration_of w a.what ∷ rest) (name_of w.types p))) (in_part (λ ds. block_in ds (name_of w.types p) ≡ None) (λ t. block-declared t (name_of w.types p)) (a.before - done) done w.types))
       where
         front : Declarations
-        front = declared (take (a.before - done) (drop done w.types))
+        front = take (a.before - done) (drop done (declared w.types))
 
         rest : Declarations
         rest = declared_from w a.before xs

@@ -1,5 +1,5 @@
 -- How many definitions, clauses of the program and theorems are declared.
-use Rattle.std.proofs.Common.{◌≡◌, ℕ, suc, ◌-◌, List, [], ◌∷◌, ◌++◌, length, take, drop, refl, ◌∙◌, ap}
+use Rattle.std.proofs.Common.{◌≡◌, ℕ, suc, ◌-◌, List, [], ◌∷◌, ◌++◌, length, refl, ◌∙◌, ap}
 use Rattle.ab_store.specs.ab_types.specs.Entries as table
 use Rattle.ab_store.specs.ab_types.specs.Entries.{Table}
 use Rattle.ab_formulas.specs.Declarations.{Declarations}
@@ -8,6 +8,7 @@ use Rattle.ab_logic.specs.declared.world.World.{World}
 use Rattle.ab_logic.specs.declared.additions.Added.{Added}
 use Rattle.ab_logic.specs.declared.additions.Addition.{Addition}
 use Rattle.ab_logic.specs.declared.additions.Addition.TheVariants.{Theorem, Definition, Clause}
+use Rattle.ab_logic.proofs.Declaring.{in_rest, in_part}
 
 none_added : (s : Table) → count_added (declared s) ≡ 0
 none_added [] = refl
@@ -27,8 +28,9 @@ one_more w (Definition b) ds = refl
 one_more w (Clause c h) ds = refl
 
 pub as_many : (w : World) (done : ℕ) (xs : List Added) → count_added (declared_from w done xs) ≡ length xs
-as_many w done [] = none_added (drop done w.types)
+as_many w done [] = in_rest (λ ds. count_added ds ≡ 0) none_added done w.types
 as_many w done (a ∷ xs) =
-    behind (take (a.before - done) (drop done w.types)) (declaration_of w a.what ∷ declared_from w a.before xs)
+    in_part (λ ds. count_added (ds ++ (declaration_of w a.what ∷ declared_from w a.before xs)) ≡ count_added (declaration_of w a.what ∷ declared_from w a.before xs))
+    (λ t. behind t (declaration_of w a.what ∷ declared_from w a.before xs)) (a.before - done) done w.types
     ∙ one_more w a.what (declared_from w a.before xs)
     ∙ ap suc (as_many w a.before xs)

@@ -111,11 +111,11 @@ grows_types old new store xs is part =
     (still_typed old part.0 store is.typed) refl (λ m has. kept_itself store m has))
 
 -- one addition more
-pub declares_more : (w : World) (a : Added) → IsWorld w → a.before ≡ length w.types
+pub declares_more : (w : World) (a : Added) → IsWorld w → a.before ≡ length (declared w.types)
     → declarations_of (record { types = w.types; store = w.store; additions = w.additions ++ a ∷ [] }) ≡ declarations_of w ++ declaration_of w a.what ∷ []
 declares_more w a is last = declared_added w 0 w.additions a is.order last
 
-grows_added : (w : World) (a : Added) → IsWorld w → a.before ≡ length w.types → IsKept w.types w.store a.what
+grows_added : (w : World) (a : Added) → IsWorld w → a.before ≡ length (declared w.types) → IsKept w.types w.store a.what
     → HaveSentences (declarations_of w ++ declaration_of w a.what ∷ []) → HaveDefinitions (declarations_of w ++ declaration_of w a.what ∷ [])
     → Grows w (record { types = w.types; store = w.store; additions = w.additions ++ a ∷ [] })
 grows_added w a is last held sentences definitions =
@@ -140,7 +140,7 @@ grows_added w a is last held sentences definitions =
       };
     }
 
-pub grows_theorem : (w : World) (e : TheoremEntry) (before : ℕ) → IsWorld w → before ≡ length w.types → Holds w e.formula
+pub grows_theorem : (w : World) (e : TheoremEntry) (before : ℕ) → IsWorld w → before ≡ length (declared w.types) → Holds w e.formula
     → IsSentence (signature_in (declarations_of w)) (read w e.formula)
     → Grows w (record { types = w.types; store = w.store; additions = w.additions ++ record { what = Theorem e; before = before } ∷ [] })
 grows_theorem w e before is last held sentence =
@@ -151,7 +151,7 @@ grows_theorem w e before is last held sentence =
 pub same_constants : (w : World) → IsWorld w → signature w.types ≡ signature_in (declarations_of w)
 same_constants w is = ap table.type_in (sym (constants_are w 0 w.additions is.order))
 
-pub grows_block : (w : World) (b : Block) (before : ℕ) → IsWorld w → before ≡ length w.types → IsKeptBlock w.types w.store b
+pub grows_block : (w : World) (b : Block) (before : ℕ) → IsWorld w → before ≡ length (declared w.types) → IsKeptBlock w.types w.store b
     → Grows w (record { types = w.types; store = w.store; additions = w.additions ++ record { what = Definition b; before = before } ∷ [] })
 grows_block w b before is last held =
     grows_added w (record { what = Definition b; before = before }) is last held
@@ -159,7 +159,7 @@ grows_block w b before is last held =
     (definitions_defined (declarations_of w) (definition_of w b) is.definitions
     (subst (λ sg. All (IsDefining sg) (definition_of w b).clauses) (same_constants w is) (block_defines w b held)))
 
-pub grows_clause : (w : World) (c : ClauseTerm) (h : ConstId) (before : ℕ) → IsWorld w → before ≡ length w.types → IsKeptProgramClause w.types w.store c → IsHeadOf w.types w.store c h
+pub grows_clause : (w : World) (c : ClauseTerm) (h : ConstId) (before : ℕ) → IsWorld w → before ≡ length (declared w.types) → IsKeptProgramClause w.types w.store c → IsHeadOf w.types w.store c h
     → Grows w (record { types = w.types; store = w.store; additions = w.additions ++ record { what = Clause c h; before = before } ∷ [] })
 grows_clause w c h before is last held head =
     grows_added w (record { what = Clause c h; before = before }) is last (held, head)

@@ -11,3 +11,4 @@ pub mod Growing
 pub mod Shortened
 pub mod BuiltIn
 pub mod Members
+pub mod Declared

@@ -15,7 +15,7 @@ use Rattle.ab_logic.specs.declared.world.World.{World}
 use Rattle.ab_logic.specs.declared.additions.Added.{Added}
 use Rattle.ab_logic.specs.declared.additions.Addition.{Addition}
 use Rattle.ab_logic.specs.declared.additions.Addition.TheVariants.{Theorem, Definition, Clause}
-use Rattle.ab_logic.proofs.Declaring.{constants_are}
+use Rattle.ab_logic.proofs.Declaring.{in_rest, in_part, constants_are}
 
 pub program-declared : (s : Table) → program_in (declared s) ≡ []
 program-declared [] = refl
@@ -24,10 +24,10 @@ program-declared (table.a_type A ∷ s) = program-declared s
 program-declared (table.a_constant c ∷ s) = program-declared s
 
 pub program_is : (w : World) (done : ℕ) (xs : List Added) → program_in (declared_from w done xs) ≡ map (clause_read w) (clauses_kept xs)
-program_is w done [] = program-declared (drop done w.types)
+program_is w done [] = in_rest (λ ds. program_in ds ≡ []) program-declared done w.types
 program_is w done (a ∷ xs) =
-    program_in-append (declared (take (a.before - done) (drop done w.types))) (declaration_of w a.what ∷ declared_from w a.before xs)
-    ∙ ap (λ cs. cs ++ program_in (declaration_of w a.what ∷ declared_from w a.before xs)) (program-declared (take (a.before - done) (drop done w.types)))
+    program_in-append (take (a.before - done) (drop done (declared w.types))) (declaration_of w a.what ∷ declared_from w a.before xs)
+    ∙ ap (λ cs. cs ++ program_in (declaration_of w a.what ∷ declared_from w a.before xs)) (in_part (λ ds. program_in ds ≡ []) program-declared (a.before - done) done w.types)
     ∙ one a.what (program_is w a.before xs)
   where
     one : (what : Addition) → program_in (declared_from w a.before xs) ≡ map (clause_read w) (clauses_kept xs)

@@ -1,8 +1,8 @@
 -- A world with the first of its additions alone: what it declares, and that it is one.
 use Rattle.std.specs.Option.{option_map}
 use Rattle.std.specs.List.{All, list_any}
-use Rattle.std.proofs.Common.{◌≡◌, ℕ, zero, suc, ◌+◌, ◌-◌, ◌≤◌, Bool, true, false, if◌then◌else◌, Option, Some, None, List, [], ◌∷◌, ◌++◌, take, drop, bytes_eq, refl, sym, ◌∙◌, ap, subst, arith}
-use Rattle.std.proofs.lemmas.List.{take-append-drop, drop-drop}
+use Rattle.std.proofs.Common.{◌≡◌, ℕ, zero, suc, ◌-◌, Bool, true, false, if◌then◌else◌, Option, Some, None, List, [], ◌∷◌, ◌++◌, take, drop, bytes_eq, refl, sym, ◌∙◌, ap, subst}
+use Rattle.std.proofs.lemmas.List.{take-append-drop}
 use Rattle.std.proofs.lemmas.List.Elements.{All-take}
 use Rattle.ab_store.specs.ab_types.specs.Entries as table
 use Rattle.ab_store.specs.ab_types.specs.Entries.{Table}
@@ -16,7 +16,7 @@ use Rattle.ab_logic.specs.declared.additions.Added.{Added}
 use Rattle.ab_logic.specs.declared.additions.Addition.{Addition}
 use Rattle.ab_logic.specs.declared.additions.Addition.TheVariants.{Theorem, Definition, Clause}
 use Rattle.ab_logic.specs.declared.additions.TheoremEntry.{TheoremEntry}
-use Rattle.ab_logic.proofs.Declaring.{declared-append, theorem_found, block_in-append, block-declared, or_else, order_within, constants_are}
+use Rattle.ab_logic.proofs.Declaring.{in_rest, in_part, drop_on, theorem_found, block_in-append, block-declared, or_else, order_within, constants_are}
 
 -- THE WORLD WITH ITS FIRST ADDITIONS ALONE
 abbrev pub with_additions : World → List Added → World
@@ -46,12 +46,7 @@ entry_front (suc n) (a ∷ xs) name e there = go a.what (entry_front n xs name e
 same_declared : (w : World) (ys : List Added) (done : ℕ) (xs : List Added) → declared_from (with_additions w ys) done xs ≡ declared_from w done xs
 same_declared w ys done [] = refl
 same_declared w ys done (a ∷ xs) =
-    ap (λ ds. declared (take (a.before - done) (drop done w.types)) ++ declaration_of w a.what ∷ ds) (same_declared w ys a.before xs)
-
-drop_past : (done before : ℕ) (xs : Table) → done ≤ before → drop (before - done) (drop done xs) ≡ drop before xs
-drop_past done before xs l =
-    let e : done + (before - done) ≡ before = omega arith in
-    drop-drop (before - done) done xs ∙ ap (λ k. drop k xs) e
+    ap (λ ds. take (a.before - done) (drop done (declared w.types)) ++ declaration_of w a.what ∷ ds) (same_declared w ys a.before xs)
 
 module _ (w : World) where
   theorem_front : (n : ℕ) (name : List ℕ) (F : Read) → theorem_in (declared_from w 0 (take n w.additions)) name ≡ Some F → theorem_in (declared_from w 0 w.additions) name ≡ Some F
@@ -63,11 +58,11 @@ module _ (w : World) where
 
   block_step : (done : ℕ) (a : Added) (xs : List Added) (p : List ℕ) → block_in (declared_from w done (a ∷ xs)) p ≡ block_in (declaration_of w a.what ∷ declared_from w a.before xs) p
   block_step done a xs p =
-      block_in-append (declared (take (a.before - done) (drop done w.types))) (declaration_of w a.what ∷ declared_from w a.before xs) p
-      ∙ ap (λ o. or_else o (block_in (declaration_of w a.what ∷ declared_from w a.before xs) p)) (block-declared (take (a.before - done) (drop done w.types)) p)
+      block_in-append (take (a.before - done) (drop done (declared w.types))) (declaration_of w a.what ∷ declared_from w a.before xs) p
+      ∙ ap (λ o. or_else o (block_in (declaration_of w a.what ∷ declared_from w a.before xs) p)) (in_part (λ ds. block_in ds p ≡ None) (λ t. block-declared t p) (a.before - done) done w.types)
 
   block_front : (n done : ℕ) (xs : List Added) (p : List ℕ) (b : Block) → block_in (declared_from w done (take n xs)) p ≡ Some b → block_in (declared_from w done xs) p ≡ Some b
-  block_front zero done xs p b there = let none = sym (block-declared (drop done w.types) p) ∙ there in absurd (cc)
+  block_front zero done xs p b there = let none = sym (in_rest (λ ds. block_in ds p ≡ None) (λ t. block-declared t p) done w.types) ∙ there in absurd (cc)
   block_front (suc n) done [] p b there = there
   block_front (suc n) done (a ∷ xs) p b there =
       block_step done a xs p ∙ go a.what (block_front n a.before xs p b) (sym (block_step done a (take n xs) p) ∙ there)
@@ -107,22 +102,27 @@ module _ (w : World) where
   stays n (Definition b) D = refl
   stays n (Clause c h) D = refl
 
+  part_stays : (n k done : ℕ) (D : Declarations) → with_first n (take k (drop done (declared w.types)) ++ D) ≡ take k (drop done (declared w.types)) ++ with_first n D
+  part_stays n k done D = in_part (λ ds. with_first n (ds ++ D) ≡ ds ++ with_first n D) (λ t. only_declared n t D) k done w.types
+
+  rest_stays : (n done : ℕ) → with_first n (drop done (declared w.types)) ≡ drop done (declared w.types)
+  rest_stays n done = in_rest (λ ds. with_first n ds ≡ ds) (all_declared n) done w.types
+
   declared_front : (n done : ℕ) (xs : List Added) → CameInOrder w.types done xs → declared_from w done (take n xs) ≡ with_first n (declared_from w done xs)
-  declared_front zero done [] order = sym (all_declared 0 (drop done w.types))
+  declared_front zero done [] order = sym (rest_stays 0 done)
   declared_front zero done (a ∷ xs) order =
       let k = a.before - done in
-      let es = drop done w.types in
-      sym (only_declared 0 (take k es) (declaration_of w a.what ∷ declared_from w a.before xs)
-      ∙ ap (λ ds. declared (take k es) ++ ds) (dropped a.what (declared_from w a.before xs) ∙ sym (declared_front zero a.before xs order.1))
-      ∙ ap (λ zs. declared (take k es) ++ declared zs) (sym (drop_past done a.before w.types order.0))
-      ∙ sym (declared-append (take k es) (drop k es))
-      ∙ ap declared (take-append-drop k es))
-  declared_front (suc n) done [] order = sym (all_declared (suc n) (drop done w.types))
+      let es = drop done (declared w.types) in
+      sym (part_stays 0 k done (declaration_of w a.what ∷ declared_from w a.before xs)
+      ∙ ap (λ ds. take k es ++ ds) (dropped a.what (declared_from w a.before xs) ∙ sym (declared_front zero a.before xs order.1))
+      ∙ ap (λ zs. take k es ++ zs) (sym (drop_on done a.before (declared w.types) order.0))
+      ∙ take-append-drop k es)
+  declared_front (suc n) done [] order = sym (rest_stays (suc n) done)
   declared_front (suc n) done (a ∷ xs) order =
       let k = a.before - done in
-      let es = drop done w.types in
-      sym (only_declared (suc n) (take k es) (declaration_of w a.what ∷ declared_from w a.before xs)
-      ∙ ap (λ ds. declared (take k es) ++ ds) (stays n a.what (declared_from w a.before xs) ∙ ap (λ ds. declaration_of w a.what ∷ ds) (sym (declared_front n a.before xs order.1))))
+      let es = drop done (declared w.types) in
+      sym (part_stays (suc n) k done (declaration_of w a.what ∷ declared_from w a.before xs)
+      ∙ ap (λ ds. take k es ++ ds) (stays n a.what (declared_from w a.before xs) ∙ ap (λ ds. declaration_of w a.what ∷ ds) (sym (declared_front n a.before xs order.1))))
 
   pub declares_front : (n : ℕ) → IsWorld w → declarations_of (with_additions w (take n w.additions)) ≡ with_first n (declarations_of w)
   declares_front n is = same_declared w (take n w.additions) 0 (take n w.additions) ∙ declared_front n 0 w.additions is.order

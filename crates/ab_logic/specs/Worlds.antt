@@ -33,12 +33,11 @@ read w t = tree_of w.types w.store t
 abbrev pub Holds : World → TermId → Type 0
 Holds w t = store.Holds w.store t
 
+abbrev pub variable_at : Table → Contents → CellId → Variable
+variable_at types contents c = record { number = c.0; type = type_of types (store.cell_of contents c).ty; name = (store.cell_of contents c).hint }
+
 abbrev pub variable_of : World → CellId → Variable
-variable_of w c = record {
-  number = c.0;
-  type = type_of w.types (store.cell_of w.store c).ty;
-  name = (store.cell_of w.store c).hint;
-}
+variable_of w = variable_at w.types w.store
 
 abbrev pub HoldsCell : World → CellId → Type 0
 HoldsCell w c = store.HoldsCell w.store c
@@ -73,11 +72,11 @@ declaration_of w (Theorem e) = a_theorem e.name (read w e.formula) e.assumed
 declaration_of w (Definition b) = a_block (definition_of w b)
 declaration_of w (Clause c h) = a_program_clause (clause_read w c)
 
--- what was declared behind the first `done` entries of the table: each addition stands behind the entries that were
--- there when it was made
+-- what was declared behind the first `done` kinds and constants: each addition stands behind those that were declared when
+-- it was made
 abbrev pub declared_from : World → ℕ → List Added → Declarations
-declared_from w done [] = declared (drop done w.types)
-declared_from w done (a ∷ xs) = declared (take (a.before - done) (drop done w.types)) ++ declaration_of w a.what ∷ declared_from w a.before xs
+declared_from w done [] = drop done (declared w.types)
+declared_from w done (a ∷ xs) = take (a.before - done) (drop done (declared w.types)) ++ declaration_of w a.what ∷ declared_from w a.before xs
 
 -- THE DECLARATIONS of a world, in order
 abbrev pub declarations_of : World → Declarations
@@ -99,9 +98,9 @@ member_block = record { inductive = true; predicates = codes "member" ∷ []; cl
 abbrev pub first_declarations : Declarations
 first_declarations = declared first_entries ++ a_block member_block ∷ []
 
--- additions were made one after another, while the table grew
+-- additions were made one after another, while kinds and constants were declared
 abbrev pub CameInOrder : Table → ℕ → List Added → Type 0
-CameInOrder types done [] = done ≤ length types
+CameInOrder types done [] = done ≤ length (declared types)
 CameInOrder types done (a ∷ xs) = (done ≤ a.before) × CameInOrder types a.before xs
 
 module _ (types : Table) (terms : Contents) where

@@ -74,7 +74,7 @@ impl Addition {
     }
 }
 
-/// What was added, and how many entries the table of types had then.
+/// What was added, and how many kinds and constants were declared before it.
 #[derive(Drop)]
 pub struct Added {
     pub(crate) what: Addition,

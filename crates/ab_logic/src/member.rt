@@ -99,8 +99,8 @@ fn first_clause(alloc: Global, store: &mut Store, words: Words) -> Result<Clause
 {
     let a = new_variable(alloc, store, "A", words.o)?;
     let l = new_variable(alloc, store, "L", words.olist)?;
-    let list = applied(alloc, store, words.cons, a.term, l.term)?;
-    let head = applied(alloc, store, words.member, a.term, list)?;
+    let list = apply_to_two(alloc, store, words.cons, a.term, l.term)?;
+    let head = apply_to_two(alloc, store, words.member, a.term, list)?;
     let body = store.spine(Head::Logic(Logical::True), Vec::new(alloc))?;
     let variables = Vec::from_array(alloc, [a.cell, l.cell])?;
     Ok(ClauseTerm {
@@ -121,9 +121,9 @@ fn later_clause(alloc: Global, store: &mut Store, words: Words) -> Result<Clause
     let a = new_variable(alloc, store, "A", words.o)?;
     let b = new_variable(alloc, store, "B", words.o)?;
     let l = new_variable(alloc, store, "L", words.olist)?;
-    let list = applied(alloc, store, words.cons, b.term, l.term)?;
-    let head = applied(alloc, store, words.member, a.term, list)?;
-    let body = applied(alloc, store, words.member, a.term, l.term)?;
+    let list = apply_to_two(alloc, store, words.cons, b.term, l.term)?;
+    let head = apply_to_two(alloc, store, words.member, a.term, list)?;
+    let body = apply_to_two(alloc, store, words.member, a.term, l.term)?;
     let variables = Vec::from_array(alloc, [a.cell, b.cell, l.cell])?;
     Ok(ClauseTerm {
         variables: ClauseCells::from_vec(variables),
@@ -154,7 +154,7 @@ fn new_variable(
 }
 
 /// The constant, given two terms.
-fn applied(
+fn apply_to_two(
     alloc: Global,
     store: &mut Store,
     head: ConstId,

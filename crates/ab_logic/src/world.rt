@@ -100,7 +100,7 @@ impl World {
         }
         let alloc = self.additions.alloc();
         if let Some(fault) = first_fault(alloc, &self.types, &self.store, &block)? {
-            return Err(self.told(fault)?);
+            return Err(self.define_fault(fault)?);
         }
         self.put(block)?;
         Ok(())
@@ -135,7 +135,7 @@ impl World {
     }
 
     /// What is told of the fault of a definition's clauses.
-    fn told(&self, fault: ClauseFault) -> Result<DefineFault, AllocError>
+    fn define_fault(&self, fault: ClauseFault) -> Result<DefineFault, AllocError>
         requires { HoldsFault self.now.types fault }
         ensures { IfOk result (λ told. (b : ABlock) (D : Declarations) → AreNew D b.predicates → IsFaultOf b (fault_of self.now.types fault) → IsDefineFault D b told) }
     {
@@ -158,7 +158,7 @@ impl World {
         ensures types { self.new.types ≡ self.old.types }
         ensures err { OnErr result (self.new ≡ self.old) }
     {
-        let before = self.types.len();
+        let before = self.types.count_declared();
         self.additions.add_definition(block, before)?;
         Ok(())
     }
@@ -187,7 +187,7 @@ impl World {
         if self.theorem(&name).is_some() {
             return Err(DefineFault::Clash(name));
         }
-        let before = self.types.len();
+        let before = self.types.count_declared();
         self.additions
             .add_theorem(name, formula, Places::from_vec(assumed), before)?;
         Ok(())
@@ -234,7 +234,7 @@ impl World {
         let Some(head) = self.head_constant(clause.head) else {
             return Err(DefineFault::BadHead(number));
         };
-        let before = self.types.len();
+        let before = self.types.count_declared();
         self.additions.add_clause(clause, head, before)?;
         Ok(())
     }

@@ -1,2 +1,3 @@
 mod Stepping
+mod StepTypes
 pub mod Holding

@@ -33,7 +33,7 @@ pub record IsFront (nodes all : List ProofNode) : Type 0 where
 pub front_itself : (nodes : List ProofNode) → IsFront nodes nodes
 front_itself nodes = record { few = omega arith; goals = λ i l. refl; steps = λ i. inr refl }
 
-same_or_not : (i j : ℕ) → (i ≡ j) ⊎ (¬ (i ≡ j))
+pub same_or_not : (i j : ℕ) → (i ≡ j) ⊎ (¬ (i ≡ j))
 same_or_not i j = elim (nat_order i j) [
   | inl l ↦ inr (λ e. omega (arith, e, l))
   | inr (inl e) ↦ inl e
@@ -56,6 +56,10 @@ module _ (r : Refinement) (nodes : List ProofNode) where
   long : length kept ≡ count
   long = length-take-le count nodes (omega arith)
 
+  -- each other node is as it was
+  pub other_node : (i : ℕ) → i < count → ¬ (i ≡ r.node) → node_at (nodes_before r nodes) i ≡ node_at nodes i
+  other_node i l e = get_or-set_other kept r.node i (cleared (node_at kept r.node)) no_node e ∙ get_or-take count nodes i no_node l
+
   -- each node is as it was, or without its step
   one_node : (i : ℕ) → i < count → (node_at (nodes_before r nodes) i ≡ node_at nodes i) ⊎ (node_at (nodes_before r nodes) i ≡ cleared (node_at nodes i))
   one_node i l =
@@ -64,7 +68,7 @@ module _ (r : Refinement) (nodes : List ProofNode) where
         | inl e ↦ inr (
             ap (node_at (nodes_before r nodes)) e ∙ get_or-set_same kept r.node (cleared (node_at kept r.node)) no_node (omega (arith, e, l, long))
             ∙ ap (λ k. cleared (node_at kept k)) (sym e) ∙ ap cleared there)
-        | inr e ↦ inl (get_or-set_other kept r.node i (cleared (node_at kept r.node)) no_node e ∙ there)
+        | inr e ↦ inl (other_node i l e)
       ]
 
   no_step_past : (i : ℕ) → count ≤ i → (node_at (nodes_before r nodes) i).step ≡ None

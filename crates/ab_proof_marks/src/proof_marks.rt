@@ -4,7 +4,7 @@ ghost use Rattle.std.specs.List.{AllWithin};
 ghost use Rattle.ab_kernel.specs.declared.node.ProofNode.{ProofNode as ANode};
 ghost use Rattle.ab_kernel.specs.declared.proof.Refinement.{Refinement as ARefinement};
 ghost use Rattle.ab_remains.specs.RaisedMarks.{IsRaised, IsRaisedFor};
-ghost use Rattle.ab_proof_marks.specs.NamedInProofs.{HoldsGoal, HoldsStepOf, HoldsFrom, KeepsFrom, HoldsBehind, KeepsBehind, nodes_standing};
+ghost use Rattle.ab_proof_marks.specs.NamedInProofs.{HoldsGoal, HoldsTermsOf, HoldsFrom, KeepsFrom, HoldsBehind, KeepsBehind, nodes_standing};
 
 use crate::step_marks::mark_to_step;
 use ab_kernel::{Proof, Refinement};
@@ -26,9 +26,9 @@ fn mark_to_goals(world: &World, mark: Mark, proof: &Proof, first: usize) -> Mark
     raised
 }
 
-/// The mark, raised for the step that was taken, if its node holds one.
+/// The mark, raised for the terms of the step that was taken, if its node holds one.
 fn mark_to_step_of(world: &World, mark: Mark, proof: &Proof, refinement: Refinement) -> Mark
-    ensures { IsRaisedFor world.now (λ v. HoldsStepOf proof.now.nodes v refinement) mark result }
+    ensures { IsRaisedFor world.now (λ v. HoldsTermsOf proof.now.nodes v refinement) mark result }
 {
     match proof.node(refinement.node) {
         None => mark,
@@ -39,11 +39,11 @@ fn mark_to_step_of(world: &World, mark: Mark, proof: &Proof, refinement: Refinem
     }
 }
 
-/// The mark, raised for the steps from this number on.
+/// The mark, raised for the terms of the steps from this number on.
 fn mark_to_steps(world: &World, mark: Mark, proof: &Proof, first: usize) -> Mark
     ensures { IsRaised world.now
-        (λ v. AllWithin (λ (r : ARefinement). HoldsStepOf proof.now.nodes world.now r → HoldsStepOf proof.now.nodes v r) (reverse proof.now.journal) first (length proof.now.journal))
-        (λ v. AllWithin (HoldsStepOf proof.now.nodes v) (reverse proof.now.journal) first (length proof.now.journal)) mark result }
+        (λ v. AllWithin (λ (r : ARefinement). HoldsTermsOf proof.now.nodes world.now r → HoldsTermsOf proof.now.nodes v r) (reverse proof.now.journal) first (length proof.now.journal))
+        (λ v. AllWithin (HoldsTermsOf proof.now.nodes v) (reverse proof.now.journal) first (length proof.now.journal)) mark result }
 {
     let mut raised = mark;
     for place in first..proof.steps() {
@@ -54,7 +54,7 @@ fn mark_to_steps(world: &World, mark: Mark, proof: &Proof, first: usize) -> Mark
     raised
 }
 
-/// The mark, raised for what the proof names at the nodes from the one number on and by the steps from the other on.
+/// The mark, raised for what the goals of the nodes from the one number on name, and for the terms of the steps from the other on.
 pub fn mark_to_proof(world: &World, mark: Mark, proof: &Proof, node: usize, step: usize) -> Mark
     ensures { IsRaised world.now (λ v. KeepsFrom world.now v proof.now node step) (λ v. HoldsFrom v proof.now node step) mark result }
 {
@@ -76,7 +76,8 @@ fn count_standing(proof: &Proof, steps: usize) -> usize
     count
 }
 
-/// The mark, raised for what the steps behind the first so many name. It costs what those steps made.
+/// The mark, raised for the terms of the steps behind the first so many, and for what their premises name. It costs what those steps
+/// made.
 pub fn mark_to_steps_behind(world: &World, mark: Mark, proof: &Proof, steps: usize) -> Mark
     ensures { IsRaised world.now (λ v. KeepsBehind world.now v proof.now steps) (λ v. HoldsBehind v proof.now steps) mark result }
 {

@@ -137,16 +137,16 @@ module _ (w : World) (s : Contents) (is : IsWorld w) (typed : IsTypedBy w.types 
   pub world_left : IsLeft w (record { types = w.types; store = s; additions = w.additions })
   world_left = record {
     world = left_is;
-    types = refl;
+    types = record { front = ([], sym (append-nil w.types)); same_kinds = refl; same_constants = refl };
     additions = refl;
     declared = same_declared;
     reads = grows_store w.types s w.store w.additions left_is front is.typed;
   }
 
 -- what stood before is left
-pub left_before : (e w v : World) (m whole : Mark) (n : ℕ) → IsWorld e → IsCounted e m n → Grows e w → IsLeft w v → Reaches v m → HasMark w.store whole → IsNoLater m whole
+pub left_before : (e w v : World) (m whole : Mark) (n : ℕ) → IsWorld e → IsCounted e m n → Grows e w → IsLeft w v → v.types ≡ w.types → Reaches v m → HasMark w.store whole → IsNoLater m whole
     → ((k : Mark) → HasMark w.store k → IsNoLater k whole → KeepsMark w.store v.store k) → Grows e v
-left_before e w v m whole n is counted grows left reaches has later keeps_marks =
+left_before e w v m whole n is counted grows left same reaches has later keeps_marks =
     let there : (t : TermId) → Holds e t → Holds v t = λ t h. omega (arith, h, counted.nodes, reaches.0) in
     let cell_there : (c : CellId) → HoldsCell e c → HoldsCell v c = λ c h. omega (arith, h, counted.cells, reaches.1) in
     record {
@@ -154,7 +154,7 @@ left_before e w v m whole n is counted grows left reaches has later keeps_marks 
       readings = λ t h. sym (left.reads.readings t (there t h)) ∙ grows.readings t h;
       cell_ids = cell_there;
       cells = λ c h. sym (left.reads.cells c (cell_there c h)) ∙ grows.cells c h;
-      types = (grows.types.0, left.types ∙ grows.types.1);
+      types = (grows.types.0, same ∙ grows.types.1);
       marks = λ k had.
           let kept = grows.marks k had in
           kept_on e.store w.store v.store k kept
@@ -194,19 +194,30 @@ additions_held e w v m n is counted grows reaches rest i d l = elim (below_or_no
 
 -- no world that was one before and holds as much has fewer nodes and cells
 
-front_node : (v w : World) → IsWorld v → Grows v w → (n : ℕ) (d : Node) → n < length v.store.nodes → get_or w.store.nodes n d ≡ get_or v.store.nodes n d
-front_node v w is grows n d l =
-    let m : Mark = record { bindings = 0; nodes = length v.store.nodes; cells = length v.store.cells } in
-    let all : take (length v.store.nodes) v.store.nodes ≡ v.store.nodes = take_all (length v.store.nodes) v.store.nodes (omega arith) in
-    let has : HasMark v.store m = record {
-      bindings = omega arith;
-      nodes = omega arith;
-      cells = omega arith;
-      nodes_name = subst (NodesNameEarlier (length v.store.cells)) (sym all) is.typed.earlier;
-      bindings_name = λ i x u. absurd (omega (arith, u, length-take 0 v.store.bindings));
-    } in
-    let same : take (length v.store.nodes) w.store.nodes ≡ take (length v.store.nodes) v.store.nodes = ap (λ (s : Contents). s.nodes) (grows.marks m has).same in
-    sym (get_or-take (length v.store.nodes) w.store.nodes n d l) ∙ ap (λ xs. get_or xs n d) (same ∙ all)
+-- the nodes and cells of a world that was one before
+
+module _ (v w : World) (is : IsWorld v) (grows : Grows v w) where
+  abbrev whole_mark : Mark
+  whole_mark = record { bindings = 0; nodes = length v.store.nodes; cells = length v.store.cells }
+
+  has_whole : HasMark v.store whole_mark
+  has_whole = record {
+    bindings = omega arith;
+    nodes = omega arith;
+    cells = omega arith;
+    nodes_name = subst (NodesNameEarlier (length v.store.cells)) (sym (take_all (length v.store.nodes) v.store.nodes (omega arith))) is.typed.earlier;
+    bindings_name = λ i x u. absurd (omega (arith, u, length-take 0 v.store.bindings));
+  }
+
+  pub node_before : (n : ℕ) (d : Node) → n < length v.store.nodes → get_or w.store.nodes n d ≡ get_or v.store.nodes n d
+  node_before n d l =
+      sym (get_or-take (length v.store.nodes) w.store.nodes n d l)
+      ∙ ap (λ xs. get_or xs n d) (ap (λ (s : Contents). s.nodes) (grows.marks whole_mark has_whole).same ∙ take_all (length v.store.nodes) v.store.nodes (omega arith))
+
+  pub cell_before : (n : ℕ) (d : CellEntry) → n < length v.store.cells → get_or w.store.cells n d ≡ get_or v.store.cells n d
+  cell_before n d l =
+      sym (get_or-take (length v.store.cells) w.store.cells n d l)
+      ∙ ap (λ xs. get_or xs n d) (ap (λ (s : Contents). s.cells) (grows.marks whole_mark has_whole).same ∙ take_all (length v.store.cells) v.store.cells (omega arith))
 
 few_cells : (v : World) (j : ℕ) (n : Node) → NodeNames j (length v.store.cells) n → cells_in_node n ≤ length v.store.cells
 few_cells v j n names = by_cell (cell_in_node n) refl
@@ -218,5 +229,5 @@ few_cells v j n names = by_cell (cell_in_node n) refl
 pub cells_needed : (v w : World) (n nodes : ℕ) → IsWorld v → Grows v w → nodes ≤ length v.store.nodes → n < nodes → cells_in_node (get_or w.store.nodes n no_node) ≤ length v.store.cells
 cells_needed v w n nodes is grows long l =
     let there : n < length v.store.nodes = omega (arith, l, long) in
-    subst (λ x. cells_in_node x ≤ length v.store.cells) (sym (front_node v w is grows n no_node there))
+    subst (λ x. cells_in_node x ≤ length v.store.cells) (sym (node_before v w is grows n no_node there))
     (few_cells v n (get_or v.store.nodes n no_node) (is.typed.earlier n no_node there))

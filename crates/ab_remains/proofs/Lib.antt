@@ -1,2 +1,3 @@
 pub mod Raising
 mod Leaving
+mod Shorter

@@ -16,12 +16,12 @@ below_or_not : (a b : ℕ) → (a < b) ⊎ (b ≤ a)
 below_or_not a b = search arith
 
 -- no mark is raised for what needs none
-pub raised_not : (w : World) (m : Mark) (K H : World → Type 0) → ((v : World) → v.types ≡ w.types → K v) → IsRaised w K H m m
+pub raised_not : (w : World) (m : Mark) (K H : World → Type 0) → ((v : World) → K v) → IsRaised w K H m m
 raised_not w m K H all = record {
   bindings = refl;
   later = (omega arith, omega arith, omega arith);
   within = λ h. h;
-  enough = λ v types h. all v types;
+  enough = λ v h. all v;
   least = λ v h held. h;
 }
 
@@ -32,7 +32,7 @@ module _ (w : World) (m r : Mark) where
       bindings = refl;
       later = (omega arith, omega arith, omega arith);
       within = λ reaches. (omega (arith, h, reaches.0), reaches.1);
-      enough = λ v types reaches there. omega (arith, reaches.0);
+      enough = λ v reaches there. omega (arith, reaches.0);
       least = λ v reaches there. (omega (arith, there, reaches.0), reaches.1);
     })
     | inr h ↦ subst (IsRaisedFor w (λ v. Holds v t) m) (sym (absent (λ there. omega (arith, h, there))))
@@ -40,7 +40,7 @@ module _ (w : World) (m r : Mark) where
           bindings = refl;
           later = (omega arith, omega arith, omega arith);
           within = λ reaches. reaches;
-          enough = λ v types reaches there. absurd (omega (arith, h, there));
+          enough = λ v reaches there. absurd (omega (arith, h, there));
           least = λ v reaches there. reaches;
         })
   ]
@@ -51,7 +51,7 @@ module _ (w : World) (m r : Mark) where
       bindings = refl;
       later = (omega arith, omega arith, omega arith);
       within = λ reaches. (reaches.0, omega (arith, h, reaches.1));
-      enough = λ v types reaches there. omega (arith, reaches.1);
+      enough = λ v reaches there. omega (arith, reaches.1);
       least = λ v reaches there. (reaches.0, omega (arith, there, reaches.1));
     })
     | inr h ↦ subst (IsRaisedFor w (λ v. HoldsCell v c) m) (sym (absent (λ there. omega (arith, h, there))))
@@ -59,7 +59,7 @@ module _ (w : World) (m r : Mark) where
           bindings = refl;
           later = (omega arith, omega arith, omega arith);
           within = λ reaches. reaches;
-          enough = λ v types reaches there. absurd (omega (arith, h, there));
+          enough = λ v reaches there. absurd (omega (arith, h, there));
           least = λ v reaches there. reaches;
         })
   ]
@@ -71,17 +71,17 @@ module _ (w : World) (a b c : Mark) (K H K' H' : World → Type 0) where
     bindings = y.bindings ∙ x.bindings;
     later = (omega (arith, x.later.0, y.later.0), omega (arith, x.later.1, y.later.1), omega (arith, x.later.2, y.later.2));
     within = λ reaches. y.within (x.within reaches);
-    enough = λ v types reaches. (x.enough v types (omega (arith, reaches.0, y.later.1), omega (arith, reaches.1, y.later.2)), y.enough v types reaches);
+    enough = λ v reaches. (x.enough v (omega (arith, reaches.0, y.later.1), omega (arith, reaches.1, y.later.2)), y.enough v reaches);
     least = λ v reaches h. y.least v (x.least v reaches h.0) h.1;
   }
 
 -- for the same thing in other words
-pub raised_as : (w : World) (a b : Mark) (K H K' H' : World → Type 0) → ((v : World) → v.types ≡ w.types → K v → K' v) → ((v : World) → H' v → H v) → IsRaised w K H a b → IsRaised w K' H' a b
+pub raised_as : (w : World) (a b : Mark) (K H K' H' : World → Type 0) → ((v : World) → K v → K' v) → ((v : World) → H' v → H v) → IsRaised w K H a b → IsRaised w K' H' a b
 raised_as w a b K H K' H' keeps holds x = record {
   bindings = x.bindings;
   later = x.later;
   within = x.within;
-  enough = λ v types reaches. keeps v types (x.enough v types reaches);
+  enough = λ v reaches. keeps v (x.enough v reaches);
   least = λ v reaches h. x.least v reaches (holds v h);
 }
 
@@ -92,19 +92,19 @@ module _ {X : Type 0} (w : World) (xs : List X) (K H : World → X → Type 0) (
       → IsRaised w (λ v. AllWithin (K v) xs low (i + 1)) (λ v. AllWithin (H v) xs low (i + 1)) a c
   raised_one_more c x from there is so_far one =
       raised_as w a c (λ v. AllWithin (K v) xs low i × K v x) (λ v. AllWithin (H v) xs low i × H v x) (λ v. AllWithin (K v) xs low (i + 1)) (λ v. AllWithin (H v) xs low (i + 1))
-      (λ v types h. AllWithin-more (K v) xs low i h.0 (at_read xs (K v) i x there is h.1))
+      (λ v h. AllWithin-more (K v) xs low i h.0 (at_read xs (K v) i x there is h.1))
       (λ v h. (λ k d l u. h k d l (omega (arith, u)), subst (H v) (sym is) (h i x from (omega arith))))
       (raised_both w a b c (λ v. AllWithin (K v) xs low i) (λ v. AllWithin (H v) xs low i) (λ v. K v x) (λ v. H v x) so_far one)
 
   pub raised_none_yet : i ≤ low → IsRaised w (λ v. AllWithin (K v) xs low i) (λ v. AllWithin (H v) xs low i) a a
-  raised_none_yet e = raised_not w a (λ v. AllWithin (K v) xs low i) (λ v. AllWithin (H v) xs low i) (λ v types k d l u. absurd (omega (arith, e, l, u)))
+  raised_none_yet e = raised_not w a (λ v. AllWithin (K v) xs low i) (λ v. AllWithin (H v) xs low i) (λ v k d l u. absurd (omega (arith, e, l, u)))
 
 -- for all of a list
 pub raised_for_all : {X : Type 0} (w : World) (xs : List X) (H : World → X → Type 0) (i : ℕ) (a b : Mark) → length xs ≤ i → i ≤ length xs
     → IsRaised w (λ v. AllWithin (λ x. H w x → H v x) xs 0 i) (λ v. AllWithin (H v) xs 0 i) a b → IsRaisedFor w (λ v. All (H v) xs) a b
 raised_for_all w xs H i a b high low =
     raised_as w a b (λ v. AllWithin (λ x. H w x → H v x) xs 0 i) (λ v. AllWithin (H v) xs 0 i) (λ v. All (H w) xs → All (H v) xs) (λ v. All (H v) xs)
-    (λ v types h all k d u. h k d (omega arith) (omega (arith, high, u)) (all k d u))
+    (λ v h all k d u. h k d (omega arith) (omega (arith, high, u)) (all k d u))
     (λ v h k d l u. h k d (omega (arith, low, u)))
 
 -- what holds while a mark is raised for the things of a list behind the first so many
@@ -131,7 +131,7 @@ module _ {X : Type 0} (w : World) (xs : List X) (H : World → X → Type 0) (lo
   pub raised_for_each : length xs ≤ i → IsRaisedSoFar w xs H low i a b → IsRaised w (λ v. AllWithin (λ x. H w x → H v x) xs low (length xs)) (λ v. AllWithin (H v) xs low (length xs)) a b
   raised_for_each high so_far =
       raised_as w a b (λ v. AllWithin (λ x. H w x → H v x) xs low i) (λ v. AllWithin (H v) xs low i) (λ v. AllWithin (λ x. H w x → H v x) xs low (length xs)) (λ v. AllWithin (H v) xs low (length xs))
-      (λ v types h k d l u. h k d l (omega (arith, high, u)))
+      (λ v h k d l u. h k d l (omega (arith, high, u)))
       (λ v h k d l u. h k d l (within so_far.place l u))
       so_far.raised
     where
@@ -142,7 +142,7 @@ module _ {X : Type 0} (w : World) (xs : List X) (H : World → X → Type 0) (lo
   pub raised_for_rest : length xs ≤ i → IsRaisedSoFar w xs H low i a b → IsRaisedFor w (λ v. AllWithin (H v) xs low (length xs)) a b
   raised_for_rest high so_far =
       raised_as w a b (λ v. AllWithin (λ x. H w x → H v x) xs low (length xs)) (λ v. AllWithin (H v) xs low (length xs)) (λ v. AllWithin (H w) xs low (length xs) → AllWithin (H v) xs low (length xs)) (λ v. AllWithin (H v) xs low (length xs))
-      (λ v types h all k d l u. h k d l u (all k d l u))
+      (λ v h all k d l u. h k d l u (all k d l u))
       (λ v h. h)
       (raised_for_each high so_far)
 

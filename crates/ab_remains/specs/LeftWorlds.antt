@@ -1,5 +1,6 @@
--- What is left of a world that is cut by a mark.
+-- What is left of a world once what nothing names is dropped from its ends.
 use Rattle.std.specs.Prelude.{◌≡◌, ℕ, ◌≤◌, length}
+use Rattle.ab_store.specs.ab_types.specs.LastTypes.{LosesTypes}
 use Rattle.ab_store.specs.declared.mark.Mark.{Mark}
 use Rattle.ab_store.specs.Marks.{HasMark}
 use Rattle.ab_logic.specs.Worlds.{declarations_of, IsWorld}
@@ -16,7 +17,7 @@ pub record IsCounted (w : World) (m : Mark) (count : ℕ) : Type 0 where
 -- THE SECOND WORLD IS WHAT IS LEFT OF THE FIRST: it declares the same, and what it holds reads as before
 pub record IsLeft (old new : World) : Type 0 where
   pub world : IsWorld new
-  pub types : new.types ≡ old.types
+  pub types : LosesTypes old.types new.types
   pub additions : new.additions ≡ old.additions
   pub declared : declarations_of new ≡ declarations_of old
   pub reads : Grows new old
@@ -24,3 +25,7 @@ pub record IsLeft (old new : World) : Type 0 where
 -- the second world has as many nodes and cells as the first
 abbrev pub IsNoLonger : World → World → Type 0
 IsNoLonger w v = (length w.store.nodes ≤ length v.store.nodes) × (length w.store.cells ≤ length v.store.cells)
+
+-- the second world has as many types as the first, if it declares the same
+abbrev pub HasAllTypes : World → World → Type 0
+HasAllTypes w v = declarations_of v ≡ declarations_of w → length w.types ≤ length v.types

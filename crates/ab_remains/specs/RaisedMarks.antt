@@ -8,13 +8,13 @@ use Rattle.ab_logic.specs.declared.world.World.{World}
 abbrev pub Reaches : World → Mark → Type 0
 Reaches w m = (m.nodes ≤ length w.store.nodes) × (m.cells ≤ length w.store.cells)
 
--- THE MARK WAS RAISED in the world: of each world with the same table that reaches the new mark the first property holds; and each
--- world that reaches the old mark and has the second property reaches the new one, so the mark was raised no further than that takes
+-- THE MARK WAS RAISED in the world: of each world that reaches the new mark the first property holds; and each world that reaches
+-- the old mark and has the second property reaches the new one, so the mark was raised no further than that takes
 pub record IsRaised (w : World) (Keeps Holds : World → Type 0) (old new : Mark) : Type 0 where
   pub bindings : new.bindings ≡ old.bindings
   pub later : IsNoLater old new
   pub within : Reaches w old → Reaches w new
-  pub enough : (v : World) → v.types ≡ w.types → Reaches v new → Keeps v
+  pub enough : (v : World) → Reaches v new → Keeps v
   pub least : (v : World) → Reaches v old → Holds v → Reaches v new
 
 -- THE MARK WAS RAISED FOR A THING: worlds that reach the new mark hold it, if this one does

@@ -76,7 +76,7 @@ module _ (s t : Table) where
   head_typed (Cell c) h = h
   head_typed (Index i) h = h
 
-  node_typed : (n : Node) → NodeIsTyped s n → NodeIsTyped (s ++ t) n
+  pub node_typed : (n : Node) → NodeIsTyped s n → NodeIsTyped (s ++ t) n
   node_typed (Lam a x b) h = holds_type s t a h
   node_typed (Spine g ts) h = head_typed g h
 

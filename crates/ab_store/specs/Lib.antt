@@ -5,6 +5,7 @@ pub mod Bindings
 pub mod Naming
 pub mod Marks
 pub mod Growth
+pub mod NamedTypes
 pub mod Layout
 -- Libraries that the crates above name through this one.
 pub use Rattle.ab_types.specs.ab_name

@@ -1,6 +1,7 @@
 //! The numbers of terms and cells, and the nodes of terms.
 ghost use Rattle.std.specs.Prelude.{◌≡◌, IfOk};
 ghost use Rattle.ab_store.specs.Marks.{cell_in_node};
+ghost use Rattle.ab_store.specs.NamedTypes.{type_in_logical, type_in_head, type_in_node};
 
 use crate::list::Arguments;
 use ab_types::name::Name;
@@ -65,6 +66,22 @@ pub enum Logical {
     With,
 }
 
+impl Logical {
+    /// The type that the constant is at, if it is at one.
+    fn ty(self) -> Option<TypeId>
+        ensures { result ≡ type_in_logical self }
+    {
+        match self {
+            Logical::Equal(ty) => Some(ty),
+            Logical::Forall(ty) => Some(ty),
+            Logical::Exists(ty) => Some(ty),
+            Logical::Nabla(ty) => Some(ty),
+            Logical::Pi(ty) => Some(ty),
+            _ => None,
+        }
+    }
+}
+
 /// What is given arguments.
 #[derive(Clone, Copy, PartialEq, Eq)]
 pub enum Head {
@@ -78,6 +95,19 @@ pub enum Head {
     Cell(CellId),
     /// A bound name, by the number of binders between it and its own.
     Index(usize),
+}
+
+impl Head {
+    /// The type that the head names, if it names one.
+    fn ty(self) -> Option<TypeId>
+        ensures { result ≡ type_in_head self }
+    {
+        match self {
+            Head::Logic(logical) => logical.ty(),
+            Head::Nominal(_, ty) => Some(ty),
+            _ => None,
+        }
+    }
 }
 
 /// A node of a term.
@@ -100,6 +130,16 @@ impl Node {
                 Head::Cell(cell) => Some(cell),
                 _ => None,
             },
+        }
+    }
+
+    /// The type that the node names, if it names one.
+    pub(crate) fn ty(&self) -> Option<TypeId>
+        ensures { result ≡ type_in_node self.now }
+    {
+        match self {
+            Node::Lam(ty, _, _) => Some(*ty),
+            Node::Spine(head, _) => head.ty(),
         }
     }
 

@@ -5,7 +5,8 @@ ghost use Rattle.ab_term.specs.Terms.{lam, spine, terms_of};
 ghost use Rattle.ab_term.specs.Reach as tree;
 ghost use Rattle.ab_term.specs.Names.{support};
 ghost use Rattle.ab_term.specs.Variables.{image, variables, one_by_one};
-ghost use Rattle.ab_types.specs.Entries.{Table};
+ghost use Rattle.ab_types.specs.Entries.{Table, types, constants};
+ghost use Rattle.ab_types.specs.LastTypes.{types_up_to};
 ghost use Rattle.ab_types.specs.Ids.{type_of, HoldsType};
 ghost use Rattle.ab_store.specs.Trees.{Contents, Holds, HoldsCell, cell_of, tree_of, head_reading, node_tree};
 ghost use Rattle.ab_store.specs.Reading.{same_number, binding_of, cell_variable, pairs, reading, given, node_reading};
@@ -13,6 +14,7 @@ ghost use Rattle.ab_store.specs.Bindings.{StandsIn, IsUnbound, IsResolved, AreIn
 ghost use Rattle.ab_store.specs.Growth.{IsExtendedBy};
 ghost use Rattle.ab_store.specs.Marks.{HasMark, KeepsMark, IsNoLater, at_mark, to_term, to_cell, cells_in_node, no_node};
 ghost use Rattle.ab_store.specs.Naming.{HoldsHead, NodeNames, HeadIsTyped, NodeIsTyped, IsTypedBy, IsTerm};
+ghost use Rattle.ab_store.specs.NamedTypes.{TypesBehind, type_in_node, type_in_cell, IsLastTold};
 ghost use Rattle.ab_store.specs.Layout.{HoldOf, HoldOfAll};
 
 use crate::facts::Facts;
@@ -20,7 +22,7 @@ use crate::list::Arguments;
 use crate::mark::Mark;
 use crate::node::{Binding, CellEntry, CellId, Head, Node, TermId};
 use ab_types::name::Name;
-use ab_types::{Steps, TypeId};
+use ab_types::{Steps, TypeId, later};
 use std::alloc::{AllocError, Global};
 use std::marker::Model;
 
@@ -40,7 +42,7 @@ struct Slot {
 
 impl Slot {
     /// The same cell, unbound.
-    fn unbound(&self, alloc: Global) -> Result<Slot, AllocError>
+    fn unbound_slot(&self, alloc: Global) -> Result<Slot, AllocError>
         ensures cell { IfOk result (λ slot. slot.cell ≡ self.now.cell) }
         ensures unbound { IfOk result (λ slot. slot.binding ≡ None) }
     {
@@ -60,7 +62,7 @@ fn all_unbound(alloc: Global, slots: &[Slot]) -> Result<Vec<Slot>, AllocError>
 {
     let mut made = Vec::new(alloc);
     for slot in slots {
-        made.push(slot.unbound(alloc)?)?;
+        made.push(slot.unbound_slot(alloc)?)?;
     }
     Ok(made)
 }
@@ -280,6 +282,40 @@ impl Store {
             }
         }
         mark
+    }
+
+    /// The last type of the table that nodes and cells name behind those that the mark counts, if they name one.
+    pub fn last_type(&self, first: &Mark) -> Option<TypeId>
+        ensures enough { (old new : Table) → IsTypedBy old self.now → constants new ≡ constants old →
+            types_up_to result ≤ length (types new) → TypesBehind new first.now self.now }
+        ensures least { (t : Table) → TypesBehind t first.now self.now → types_up_to result ≤ length (types t) }
+    {
+        later(
+            self.last_in_nodes(first.nodes),
+            self.last_in_cells(first.cells),
+        )
+    }
+
+    /// The last type that nodes behind the first so many name.
+    fn last_in_nodes(&self, first: usize) -> Option<TypeId>
+        ensures { IsLastTold (map type_in_node self.now.nodes) first result }
+    {
+        let mut last = None;
+        for place in first..self.entries.len() {
+            last = later(last, self.entries[place].node.ty());
+        }
+        last
+    }
+
+    /// The last type that cells behind the first so many are of.
+    fn last_in_cells(&self, first: usize) -> Option<TypeId>
+        ensures { IsLastTold (map type_in_cell self.now.cells) first result }
+    {
+        let mut last = None;
+        for place in first..self.slots.len() {
+            last = later(last, Some(self.slots[place].cell.ty));
+        }
+        last
     }
 
     /// Undoes the bindings made since the mark, and counts a step for each. Nodes and cells stay, and so does the room

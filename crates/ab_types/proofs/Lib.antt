@@ -6,4 +6,5 @@ pub mod Kept
 mod Grown
 mod Refusals
 mod Cutting
+pub mod Sorts
 mod First

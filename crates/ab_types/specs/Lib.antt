@@ -3,6 +3,7 @@
 pub mod Entries
 pub mod Ids
 pub mod Sound
+pub mod LastTypes
 pub mod Codes
 pub mod Columns
 pub mod Layout

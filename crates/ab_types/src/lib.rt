@@ -12,6 +12,6 @@ mod tally;
 
 pub use ab_name as name;
 pub use fault::TableFault;
-pub use ids::{ConstId, KindId, TypeId, TypeView};
+pub use ids::{ConstId, KindId, TypeId, TypeView, later};
 pub use steps::Steps;
 pub use table::TypeTable;

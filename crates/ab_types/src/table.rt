@@ -1,9 +1,10 @@
 //! The table of kinds, constants and types.
-ghost use Rattle.std.specs.Prelude.{◌≡◌, ◌↔◌, ℕ, ◌+◌, ◌-◌, ◌<◌, ◌≤◌, ◌∷◌, ◌++◌, [], length, map, take, IfOk, OnOk, OnErr, IfSome, IsErrOf, IsNone, Contains, Some};
+ghost use Rattle.std.specs.Prelude.{◌≡◌, ◌↔◌, ℕ, ◌+◌, ◌-◌, ◌<◌, ◌≤◌, ◌∷◌, ◌++◌, [], length, map, take, IfOk, OnOk, OnErr, IfSome, IsErrOf, IsNone, IsTrue, Contains, Some};
 ghost use Rattle.ab_term.specs.Types as plain;
 ghost use Rattle.ab_term.specs.Constants.{constant, names};
-ghost use Rattle.ab_types.specs.Entries.{kinds, constants, a_kind, a_type, a_constant, signature, first_entries, IsExtendedBy, FindsOrAdds};
+ghost use Rattle.ab_types.specs.Entries.{Table, kinds, types, constants, a_kind, a_type, a_constant, signature, first_entries, IsExtendedBy, FindsOrAdds};
 ghost use Rattle.ab_types.specs.Ids.{HoldsKind, HoldsType, HoldsConstant, HoldsView, kind_of, type_of, constant_of, seen_type};
+ghost use Rattle.ab_types.specs.LastTypes.{types_up_to, LosesTypes, HasEnough, EndsSpare};
 ghost use Rattle.ab_types.specs.Sound.{IsTable};
 
 use crate::builtin::{first_constants, first_kinds, first_order, first_types};
@@ -207,6 +208,13 @@ impl TypeTable {
         self.order.len()
     }
 
+    /// How many kinds and constants there are.
+    pub fn count_declared(&self) -> usize
+        ensures { result ≡ length (kinds self.now) + length (constants self.now) }
+    {
+        self.kinds.len() + self.constants.len()
+    }
+
     /// Drops the entries behind the first `len`, and counts a step for each. Ids of the others stay as they are.
     pub fn cut_to<L>(&mut self, len: usize, steps: &mut Steps<L>)
         requires begins { length first_entries ≤ len }
@@ -219,6 +227,43 @@ impl TypeTable {
         while self.len() > len {
             self.drop_last();
             steps.tick();
+        }
+    }
+
+    /// Drops types at the end, and counts a step for each: all that stand behind the first `len` entries, behind each kind and
+    /// each constant, and behind the named type. Ids of the others stay as they are.
+    pub fn drop_types<L>(&mut self, len: usize, named: Option<TypeId>, steps: &mut Steps<L>)
+        requires begins { length first_entries ≤ len }
+        requires enough { HasEnough len named self.old }
+        ensures loses { LosesTypes self.old self.new }
+        ensures enough { HasEnough len named self.new }
+        ensures least { (t : Table) → LosesTypes self.old t → HasEnough len named t → length self.new ≤ length t }
+        ensures steps { steps.new + length self.new ≡ steps.old + length self.old }
+        ensures table { IsTable self.new }
+    {
+        while self.ends_spare(len, named) {
+            self.drop_last();
+            steps.tick();
+        }
+    }
+
+    /// Whether the last entry is a type behind the first `len` entries and behind the named type.
+    fn ends_spare(&self, len: usize, named: Option<TypeId>) -> bool
+        requires { types_up_to named ≤ length (types self.now) }
+        ensures spare { IsTrue result ↔ EndsSpare len named self.now }
+        ensures table { IsTable self.now }
+    {
+        if self.order.len() <= len {
+            return false;
+        }
+        match self.order.last() {
+            Some(Sort::Ty) => match named {
+                None => true,
+                Some(ty) => self.types.len() > ty.0 + 1,
+            },
+            Some(Sort::Kind) => false,
+            Some(Sort::Constant) => false,
+            None => false,
         }
     }
 

@@ -17,8 +17,8 @@ pub returns-clause-reads : goal.returns-clause-reads
 returns-clause-reads c = λ types are.
     let s1 = c.new_variable.new.store in
     let s2 = c.new_variable-2.new.store in
-    let s3 = c.applied.new.store in
-    let s4 = c.applied-2.new.store in
+    let s3 = c.apply_to_two.new.store in
+    let s4 = c.apply_to_two-2.new.store in
     let s5 = c.spine.new.self in
     let e12 = c.in_ok-l.ensures.before in
     let e23 = c.in_ok-list.ensures.before in
@@ -51,8 +51,8 @@ pub returns-clause-held : goal.returns-clause-held
 returns-clause-held c = λ types.
     let s1 = c.new_variable.new.store in
     let s2 = c.new_variable-2.new.store in
-    let s3 = c.applied.new.store in
-    let s4 = c.applied-2.new.store in
+    let s3 = c.apply_to_two.new.store in
+    let s4 = c.apply_to_two-2.new.store in
     let s5 = c.spine.new.self in
     let e12 = c.in_ok-l.ensures.before in
     let e23 = c.in_ok-list.ensures.before in
@@ -75,8 +75,8 @@ pub returns-clause-before : goal.returns-clause-before
 returns-clause-before c =
     let s1 = c.new_variable.new.store in
     let s2 = c.new_variable-2.new.store in
-    let s3 = c.applied.new.store in
-    let s4 = c.applied-2.new.store in
+    let s3 = c.apply_to_two.new.store in
+    let s4 = c.apply_to_two-2.new.store in
     let s5 = c.spine.new.self in
     let e12 = c.in_ok-l.ensures.before in
     let e23 = c.in_ok-list.ensures.before in

@@ -5,6 +5,7 @@ use Rattle.ab_logic.specs.Worlds.{read, declarations_of}
 use Rattle.ab_logic.specs.declared.additions.Added.{Added}
 use Rattle.ab_logic.specs.declared.additions.Addition.TheVariants.{Theorem}
 use Rattle.ab_logic.specs.declared.additions.TheoremEntry.{TheoremEntry}
+use Rattle.ab_logic.proofs.Declaring.{length-declared}
 use Rattle.ab_logic.proofs.Growing.{declares_more, grows_theorem}
 use Rattle.ab_logic.proofs.world.World.add_theorem.Goals as goal
 
@@ -13,7 +14,7 @@ returns-clause-added c =
     let w = c.args.self.now in
     let e : TheoremEntry = record { name = c.args.name; formula = c.args.formula; assumed = c.from_vec.result } in
     subst (λ (xs : List Added). declarations_of (record { types = w.types; store = w.store; additions = xs }) ≡ declarations_of w ++ a_theorem c.args.name (read w c.args.formula) c.args.assumed.items ∷ [])
-    (sym c.in_ok-add_theorem.ensures.added) (declares_more w (record { what = Theorem e; before = c.len-before.result }) c.requires.world c.len-before.ensures.len
+    (sym c.in_ok-add_theorem.ensures.added) (declares_more w (record { what = Theorem e; before = c.count_declared-before.result }) c.requires.world (c.count_declared-before.ensures ∙ sym (length-declared w.types))
     ∙ ap (λ js. declarations_of w ++ a_theorem c.args.name (read w c.args.formula) js ∷ []) c.from_vec.ensures)
 
 pub returns-clause-grows : goal.returns-clause-grows
@@ -21,4 +22,4 @@ returns-clause-grows c =
     let w = c.args.self.now in
     let e : TheoremEntry = record { name = c.args.name; formula = c.args.formula; assumed = c.from_vec.result } in
     subst (λ (xs : List Added). Grows w (record { types = w.types; store = w.store; additions = xs }))
-    (sym c.in_ok-add_theorem.ensures.added) (grows_theorem w e c.len-before.result c.requires.world c.len-before.ensures.len c.requires.formula c.requires.sentence)
+    (sym c.in_ok-add_theorem.ensures.added) (grows_theorem w e c.count_declared-before.result c.requires.world (c.count_declared-before.ensures ∙ sym (length-declared w.types)) c.requires.formula c.requires.sentence)

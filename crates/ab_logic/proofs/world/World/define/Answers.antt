@@ -12,7 +12,7 @@ pub returns-in-Some-2-clause-refused : goal.returns-in-Some-2-clause-refused
 returns-in-Some-2-clause-refused g c =
     let w = c.args.self.now in
     let b = block_of w.types w.store c.args.block in
-    c.in_ok-told.ensures b (declarations_of w) (subst (λ ps. AreNew (declarations_of w) (map (name_of w.types) ps)) c.as_slice.ensures (c.first_defined.ensures.new c.in_default.is))
+    c.in_ok-define_fault.ensures b (declarations_of w) (subst (λ ps. AreNew (declarations_of w) (map (name_of w.types) ps)) c.as_slice.ensures (c.first_defined.ensures.new c.in_default.is))
     (c.in_ok-fault.ensures.first c.in-Some-2.fault c.in-Some-2.is)
 
 pub put-requires-clause-kept : goal.put-requires-clause-kept
