@@ -1,12 +1,11 @@
 -- What a world's table and its declarations have in common, and what is declared by entries of a table.
-use Rattle.std.specs.Prelude.{◌≡◌, ℕ, ◌+◌, ◌-◌, ◌≤◌, List, [], ◌∷◌, ◌++◌, map, take, drop}
-use Rattle.std.proofs.Common.{refl, sym, ◌∙◌, ap, arith, drop-drop}
+use Rattle.std.specs.Prelude.{◌≡◌, ℕ, ◌-◌, List, [], ◌∷◌, ◌++◌, map, take, drop}
+use Rattle.std.proofs.Common.{refl, sym, ◌∙◌, ap}
 use Rattle.std.proofs.lemmas.List.{take-append-drop}
 use Rattle.ab_term.specs.Types.{Ty}
 use Rattle.ab_norm.specs.ab_types.specs.Entries as table
 use Rattle.ab_term.specs.Constants.{names, constant}
 use Rattle.ab_norm.specs.ab_types.specs.Entries.{Table, kinds, constants}
-use Rattle.ab_norm.specs.ab_types.proofs.Entries.{kinds-append}
 use Rattle.ab_meaning.specs.Terms.{kinds_in}
 use Rattle.ab_formulas.specs.Declarations.{Declarations, a_kind, a_constant, a_block, a_program_clause, a_theorem, constants_in}
 use Rattle.ab_logic.specs.Worlds.{declared, declaration_of, declared_from, declarations_of, CameInOrder, IsWorld}
@@ -14,7 +13,7 @@ use Rattle.ab_logic.specs.declared.world.World.{World}
 use Rattle.ab_logic.specs.declared.additions.Added.{Added}
 use Rattle.ab_logic.specs.declared.additions.Addition.{Addition}
 use Rattle.ab_logic.specs.declared.additions.Addition.TheVariants.{Theorem, Definition, Clause}
-use Rattle.ab_logic.proofs.Declaring.{constants_are}
+use Rattle.ab_logic.proofs.Declaring.{drop_on, constants_are}
 use Rattle.ab_declare.specs.DeclarationAnswers.{Knows}
 
 pub kinds-declared : (s : Table) → kinds_in (declared s) ≡ kinds s
@@ -31,13 +30,8 @@ kinds_in-append (a_block b ∷ D) E = kinds_in-append D E
 kinds_in-append (a_program_clause c ∷ D) E = kinds_in-append D E
 kinds_in-append (a_theorem n F js ∷ D) E = kinds_in-append D E
 
-kinds_split : (k : ℕ) (xs : Table) → kinds (take k xs) ++ kinds (drop k xs) ≡ kinds xs
-kinds_split k xs = sym (kinds-append (take k xs) (drop k xs)) ∙ ap kinds (take-append-drop k xs)
-
-drop_on : (done before : ℕ) (xs : Table) → done ≤ before → drop (before - done) (drop done xs) ≡ drop before xs
-drop_on done before xs l =
-    let e : done + (before - done) ≡ before = omega arith in
-    drop-drop (before - done) done xs ∙ ap (λ k. drop k xs) e
+kinds_split : (k : ℕ) (ds : Declarations) → kinds_in (take k ds) ++ kinds_in (drop k ds) ≡ kinds_in ds
+kinds_split k ds = sym (kinds_in-append (take k ds) (drop k ds)) ∙ ap kinds_in (take-append-drop k ds)
 
 -- what is added behind a table's entries is no kind
 no_kind : (w : World) (what : Addition) (ds : Declarations) → kinds_in (declaration_of w what ∷ ds) ≡ kinds_in ds
@@ -45,14 +39,13 @@ no_kind w (Theorem e) ds = refl
 no_kind w (Definition b) ds = refl
 no_kind w (Clause c h) ds = refl
 
-kinds_are : (w : World) (done : ℕ) (xs : List Added) → CameInOrder w.types done xs → kinds_in (declared_from w done xs) ≡ kinds (drop done w.types)
-kinds_are w done [] order = kinds-declared (drop done w.types)
+kinds_are : (w : World) (done : ℕ) (xs : List Added) → CameInOrder w.types done xs → kinds_in (declared_from w done xs) ≡ kinds_in (drop done (declared w.types))
+kinds_are w done [] order = refl
 kinds_are w done (a ∷ xs) order =
-    let es = drop done w.types in
+    let es = drop done (declared w.types) in
     let k = a.before - done in
-    kinds_in-append (declared (take k es)) (declaration_of w a.what ∷ declared_from w a.before xs)
-    ∙ ap (λ cs. cs ++ kinds_in (declaration_of w a.what ∷ declared_from w a.before xs)) (kinds-declared (take k es))
-    ∙ ap (λ cs. kinds (take k es) ++ cs) (no_kind w a.what (declared_from w a.before xs) ∙ kinds_are w a.before xs order.1 ∙ ap kinds (sym (drop_on done a.before w.types order.0)))
+    kinds_in-append (take k es) (declaration_of w a.what ∷ declared_from w a.before xs)
+    ∙ ap (λ cs. kinds_in (take k es) ++ cs) (no_kind w a.what (declared_from w a.before xs) ∙ kinds_are w a.before xs order.1 ∙ ap kinds_in (sym (drop_on done a.before (declared w.types) order.0)))
     ∙ kinds_split k es
 
 pub world_constants : (w : World) → IsWorld w → constants_in (declarations_of w) ≡ constants w.types
@@ -60,7 +53,7 @@ world_constants w is = constants_are w 0 w.additions is.order
 
 -- a world's table knows what its declarations do
 pub world_knows : (w : World) → IsWorld w → Knows w.types (declarations_of w)
-world_knows w is = record { kinds = kinds_are w 0 w.additions is.order; constants = ap names (constants_are w 0 w.additions is.order) }
+world_knows w is = record { kinds = kinds_are w 0 w.additions is.order ∙ kinds-declared w.types; constants = ap names (constants_are w 0 w.additions is.order) }
 
 -- kinds and constants as they stand in a table
 

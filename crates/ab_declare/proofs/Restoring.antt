@@ -40,7 +40,7 @@ same_addition n w (Clause c h) = refl
 same_declared : (n : ℕ) (w : World) (done : ℕ) (xs : List Added) → declared_from (with_room n w) done xs ≡ declared_from w done xs
 same_declared n w done [] = refl
 same_declared n w done (a ∷ xs) =
-    let front = declared (take (a.before - done) (drop done w.types)) in
+    let front = take (a.before - done) (drop done (declared w.types)) in
     ap (λ d. front ++ d ∷ declared_from (with_room n w) a.before xs) (same_addition n w a.what)
     ∙ ap (λ ds. front ++ declaration_of w a.what ∷ ds) (same_declared n w a.before xs)
 

@@ -17,7 +17,7 @@ use Rattle.ab_logic.specs.declared.additions.Added.{Added}
 use Rattle.ab_logic.specs.declared.additions.Addition.{Addition}
 use Rattle.ab_logic.specs.declared.additions.Addition.TheVariants.{Theorem, Definition, Clause}
 use Rattle.ab_formulas.proofs.Declaring.{or_else, block_in-append}
-use Rattle.ab_logic.proofs.Declaring.{block-declared}
+use Rattle.ab_logic.proofs.Declaring.{block-declared, in_rest, in_part}
 
 abbrev Name : Type 0
 Name = List ℕ
@@ -32,14 +32,14 @@ module _ (w : World) (p : Name) (absent : (c : ConstId) → HoldsConstant w.type
       go false e rest = ap (λ r. r || list_any (bytes_eq p) (map (name_of w.types) cs)) e ∙ rest
 
   pub undefined : (done : ℕ) (xs : List Added) → All (λ (a : Added). IsKept w.types w.store a.what) xs → block_in (declared_from w done xs) p ≡ None
-  undefined done [] all = block-declared (drop done w.types) p
+  undefined done [] all = in_rest (λ ds. block_in ds p ≡ None) (λ t. block-declared t p) done w.types
   undefined done (a ∷ xs) all =
       block_in-append front (declaration_of w a.what ∷ rest) p
-      ∙ ap (λ o. or_else o (block_in (declaration_of w a.what ∷ rest) p)) (block-declared (take (a.before - done) (drop done w.types)) p)
+      ∙ ap (λ o. or_else o (block_in (declaration_of w a.what ∷ rest) p)) (in_part (λ ds. block_in ds p ≡ None) (λ t. block-declared t p) (a.before - done) done w.types)
       ∙ one a.what (All-head (λ (x : Added). IsKept w.types w.store x.what) a xs all) (undefined a.before xs (All-tail (λ (x : Added). IsKept w.types w.store x.what) a xs all))
     where
       front : Declarations
-      front = declared (take (a.before - done) (drop done w.types))
+      front = take (a.before - done) (drop done (declared w.types))
 
       rest : Declarations
       rest = declared_from w a.before xs

@@ -1,6 +1,6 @@
 //! The names of a chain of files.
 ghost use Rattle.std.specs.Prelude.{◌≡◌};
-ghost use Rattle.ab_syntax.specs.Items.{list_of};
+ghost use Rattle.ab_syntax.specs.ab_expressions.specs.Items.{list_of};
 
 use ab_norm::name::Name;
 use ab_syntax::Items;
@@ -14,7 +14,7 @@ pub struct Chain {
 
 impl Model for Chain {
     ghost use Rattle.std.specs.Prelude.{ℕ, List};
-    ghost use Rattle.ab_syntax.specs.Items.{list_of};
+    ghost use Rattle.ab_syntax.specs.ab_expressions.specs.Items.{list_of};
 
     ghost Value = { List (List ℕ) };
 

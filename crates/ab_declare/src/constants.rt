@@ -5,7 +5,7 @@ ghost use Rattle.ab_norm.specs.ab_types.specs.Entries.{constants, a_constant, Is
 ghost use Rattle.ab_term.specs.Constants as table;
 ghost use Rattle.ab_norm.specs.ab_types.specs.Ids.{HoldsType, type_of};
 ghost use Rattle.ab_grammar.specs.CommandTrees as command;
-ghost use Rattle.ab_syntax.specs.SyntaxTrees as trees;
+ghost use Rattle.ab_syntax.specs.ab_expressions.specs.SyntaxTrees as trees;
 ghost use Rattle.ab_logic.specs.Worlds.{IsWorld};
 ghost use Rattle.ab_declare.specs.declared.refusal.Refusal.TheVariants.{Clash};
 ghost use Rattle.ab_declare.specs.DeclarationCommands.{first_taken};
@@ -46,7 +46,7 @@ fn add_constants(
 }
 
 /// The first of the names that is taken. They are tried at some type, and go again.
-fn taken<L>(
+fn taken_name<L>(
     alloc: Global,
     types: &mut TypeTable,
     names: &[Name],
@@ -77,7 +77,7 @@ fn try_constants<L>(
     ensures answer { IfOk result (TableDeclared types.old types.new (command.constants names.now (trees.type_of parse.now))) }
     ensures kept { IsExtendedBy types.old types.new }
 {
-    if let Some(refusal) = taken(alloc, types, names, steps)? {
+    if let Some(refusal) = taken_name(alloc, types, names, steps)? {
         return Ok(Some(refusal));
     }
     match read_type(alloc, types, parse) {

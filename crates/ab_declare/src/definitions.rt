@@ -22,7 +22,7 @@ use ab_typing::{Block, ClauseTerm, ClauseTerms, Predicates};
 use std::alloc::{AllocError, Global};
 
 /// What is told of the fault of a definition.
-fn halted(fault: DefineFault) -> Halt
+fn halt_for(fault: DefineFault) -> Halt
     ensures { result ≡ halt_by fault }
 {
     match fault {
@@ -66,7 +66,7 @@ fn try_definition<L>(
     let block = block_of(inductive, ids, terms);
     match world.define(block, steps) {
         Ok(()) => Ok(()),
-        Err(fault) => Err(halted(fault)),
+        Err(fault) => Err(halt_for(fault)),
     }
 }
 

@@ -4,7 +4,7 @@ ghost use Rattle.ab_term.specs.Types.{arrow, prop};
 ghost use Rattle.ab_norm.specs.ab_types.specs.Entries.{Table};
 ghost use Rattle.ab_norm.specs.ab_types.specs.Sound.{IsTable};
 ghost use Rattle.ab_norm.specs.ab_types.specs.Ids.{HoldsType, type_of};
-ghost use Rattle.ab_syntax.specs.SyntaxTrees.{tree_of};
+ghost use Rattle.ab_syntax.specs.ab_expressions.specs.SyntaxTrees.{tree_of};
 ghost use Rattle.ab_meaning.specs.Scopes.{resolved};
 ghost use Rattle.ab_inference.specs.Inferences.{IsFormulas};
 ghost use Rattle.ab_infer.specs.NameScopes.{scope_of};

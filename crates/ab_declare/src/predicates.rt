@@ -4,7 +4,7 @@ ghost use Rattle.ab_term.specs.Types.{Ty};
 ghost use Rattle.ab_norm.specs.ab_types.specs.Entries.{kinds, constants, IsExtendedBy};
 ghost use Rattle.ab_norm.specs.ab_types.specs.Sound.{IsTable};
 ghost use Rattle.ab_meaning.specs.Types.{written_type, type_place};
-ghost use Rattle.ab_syntax.specs.SyntaxTrees as trees;
+ghost use Rattle.ab_syntax.specs.ab_expressions.specs.SyntaxTrees as trees;
 ghost use Rattle.ab_syntax.specs.Commands.{defined_of};
 ghost use Rattle.ab_declare.specs.DefinitionCommands.{EndsInProp, IsPredicate, IsNoPredicate, FirstTold};
 ghost use Rattle.ab_declare.specs.Halts.{Halts, HasKinds, ArePut, ArentPut};

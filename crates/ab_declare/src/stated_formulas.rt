@@ -6,7 +6,7 @@ ghost use Rattle.ab_norm.specs.ab_types.specs.Sound.{IsTable};
 ghost use Rattle.ab_norm.specs.ab_store.specs.Naming.{IsTypedBy};
 ghost use Rattle.ab_norm.specs.NodeGrowth.{AddsTypedTerms};
 ghost use Rattle.ab_grammar.specs.Tree.{place_of};
-ghost use Rattle.ab_syntax.specs.SyntaxTrees.{tree_of};
+ghost use Rattle.ab_syntax.specs.ab_expressions.specs.SyntaxTrees.{tree_of};
 ghost use Rattle.ab_meaning.specs.Scopes.{resolved, elsewhere};
 ghost use Rattle.ab_infer.specs.ElaborationAnswers.{IsAnswer};
 ghost use Rattle.ab_logic.specs.Worlds.{IsWorld};

@@ -52,7 +52,7 @@ fn is_same_pair(known: Swap, pair: Swap) -> bool
 }
 
 /// The first of the pairs that has a constant in common with this one.
-fn meeting(decided: &[Swap], pair: Swap) -> Option<Swap>
+fn first_meeting(decided: &[Swap], pair: Swap) -> Option<Swap>
     ensures { MatchOption result
         (All (λ d. (d.from ≢ pair.from) × (d.to ≢ pair.to)) decided.now)
         (λ d. Contains decided.now d × ((d.from ≡ pair.from) ⊎ (d.to ≡ pair.to))) }
@@ -74,7 +74,7 @@ fn decide(decided: &mut Vec<Swap>, pair: Swap) -> Result<bool, AllocError>
         HoldsNominal types pair.from → HoldsNominal types pair.to → HoldsPairs types decided.old.items →
         Found types decided.old.items decided.new.items (λ f. f (nominal_of types pair.from) ≡ nominal_of types pair.to) answer) }
 {
-    match meeting(decided, pair) {
+    match first_meeting(decided, pair) {
         Some(known) => Ok(is_same_pair(known, pair)),
         None => {
             decided.push(pair)?;

@@ -12,7 +12,7 @@ use crate::nominal::{Nominal, Swap};
 use std::alloc::{AllocError, Global};
 
 /// What the table makes of the constant.
-pub(crate) fn moved(table: &[Swap], a: Nominal) -> Nominal
+pub(crate) fn moved_constant(table: &[Swap], a: Nominal) -> Nominal
     ensures { (types : Table) → IsTable types → HoldsPairs types table.now → HoldsNominal types a →
         HoldsNominal types result × (nominal_of types result ≡ moved_by (pairs_of types table.now) (nominal_of types a)) }
 {
@@ -85,7 +85,7 @@ fn settle(alloc: Global, table: &mut Vec<Swap>, pair: Swap) -> Result<(), AllocE
 {
     include(table, pair.from)?;
     include(table, pair.to)?;
-    let now = moved(table, pair.from);
+    let now = moved_constant(table, pair.from);
     *table = exchange(alloc, table, now, pair.to)?;
     Ok(())
 }

@@ -13,7 +13,7 @@ ghost use Rattle.ab_norm.specs.Nominals.{pairs_of, HoldsPairs};
 
 use crate::memo::Memo;
 use crate::nominal::{Nominal, Permutation, Swap, Swaps};
-use crate::permutation_tables::moved;
+use crate::permutation_tables::moved_constant;
 use crate::resolved_copies::copy_resolved;
 use crate::term_walks::{Change, walk};
 use ab_store::types::laws::has_unique_ids;
@@ -78,7 +78,7 @@ pub(crate) fn rename_head(head: Head, table: &[Swap]) -> Head
 {
     match head {
         Head::Nominal(number, ty) => {
-            let to = moved(table, Nominal { number, ty });
+            let to = moved_constant(table, Nominal { number, ty });
             Head::Nominal(to.number, to.ty)
         }
         Head::Const(_) | Head::Logic(_) | Head::Cell(_) | Head::Index(_) => head,

@@ -61,7 +61,7 @@ fn names_of(
     let mut seen = Seen::new(alloc);
     gather(store, id, &mut found, &mut seen)?;
     let count = found.len();
-    listed(alloc, found, count)
+    list_constants(alloc, found, count)
 }
 
 /// Puts the head into the set, where it is a nominal constant.
@@ -148,7 +148,7 @@ fn gather_all(
 }
 
 /// The constants of the set, in their order.
-fn listed(
+fn list_constants(
     alloc: Global,
     mut found: BTreeSet<Nominal>,
     count: usize,

@@ -36,7 +36,7 @@ sunk_more k (tree.nominal a) = refl
 sunk_more k (tree.variable y) = refl
 sunk_more k (tree.index i) = let e : i + suc k ≡ suc (i + k) = omega arith in ap tree.index e
 
-close_all_read : (at : ℕ) (h : tree.Head ℕ) (f : TermId → Read) (ts : List TermId) → closing.close_all at h (terms_of (map f ts)) ≡ terms_of (map (λ t. closing.close at h (f t)) ts)
+pub close_all_read : (at : ℕ) (h : tree.Head ℕ) (f : TermId → Read) (ts : List TermId) → closing.close_all at h (terms_of (map f ts)) ≡ terms_of (map (λ t. closing.close at h (f t)) ts)
 close_all_read at h f [] = refl
 close_all_read at h f (t ∷ ts) = ap (term (closing.close at h (f t))) (close_all_read at h f ts)
 

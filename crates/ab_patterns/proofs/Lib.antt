@@ -12,6 +12,8 @@ pub mod ArgumentNames
 pub mod Closed
 pub mod ToldApart
 pub mod Closings
+pub mod UnderAll
+pub mod Over
 pub mod Keeping
 pub mod Standing
 pub mod Bound

@@ -41,7 +41,7 @@ told_here types store (Index i) head h typed = (h.0, h.2, typed h.1)
 told_here types store (Cell c) head h typed = tt
 
 -- another head than a cell is only shifted
-other_head : (types : Table) (store : Contents) (at : ℕ) (c : CellId) (h : Head) → h ≢ Cell c → shift_head at (head_reading types store h) ≡ closing.close_head at (head_reading types store (Cell c)) (head_reading types store h)
+pub other_head : (types : Table) (store : Contents) (at : ℕ) (c : CellId) (h : Head) → h ≢ Cell c → shift_head at (head_reading types store h) ≡ closing.close_head at (head_reading types store (Cell c)) (head_reading types store h)
 other_head types store at c (Const k) n = refl
 other_head types store at c (Logic l) n = refl
 other_head types store at c (Nominal m a) n = refl

@@ -3,6 +3,8 @@
 pub mod EquationReadings
 pub mod Flexible
 pub mod Abstraction
+pub mod Existentials
 -- Names as lists, and what walks keep: words that only proofs and private contracts speak.
 pub mod ArgumentNames
 pub mod ReadingWalks
+pub use Rattle.ab_unifiers

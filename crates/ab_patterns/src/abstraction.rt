@@ -18,7 +18,7 @@ use ab_norm::types::{TypeId, TypeTable, TypeView};
 use std::alloc::{AllocError, Global};
 
 /// The sum of the numbers. More than there are numbers is want of memory.
-fn sum(a: usize, b: usize) -> Result<usize, AllocError>
+pub(crate) fn sum(a: usize, b: usize) -> Result<usize, AllocError>
     ensures { IfOk result (λ n. n ≡ a + b) }
 {
     match a.checked_add(b) {
@@ -189,7 +189,7 @@ fn close_all(
 }
 
 /// The term, abstracted over the names, the first outermost, as something of this type.
-pub(crate) fn abstracted(
+pub(crate) fn abstract_over(
     alloc: Global,
     types: &TypeTable,
     store: &mut Store,
@@ -213,7 +213,7 @@ pub(crate) fn abstracted(
         [first, rest @ ..] => match types.view(ty) {
             TypeView::Base(_) => Ok(term),
             TypeView::Arrow(from, to) => {
-                let inner = abstracted(alloc, types, store, to, rest, term)?;
+                let inner = abstract_over(alloc, types, store, to, rest, term)?;
                 let closed = close(alloc, store, *first, inner)?;
                 store.lam(from, Name::from_text(alloc, "x")?, closed)
             }

@@ -8,7 +8,7 @@ ghost use Rattle.ab_norm.specs.NodeGrowth.{AddsTypedTerms};
 ghost use Rattle.ab_unifiers.specs.Patterns as solve;
 ghost use Rattle.ab_patterns.specs.ArgumentNames.{name_list};
 
-use crate::abstraction::abstracted;
+use crate::abstraction::abstract_over;
 use ab_norm::eta;
 use ab_norm::store::{CellId, Head, Store, TermId};
 use ab_norm::types::{TypeId, TypeTable, TypeView};
@@ -35,7 +35,7 @@ pub fn keep_heads(heads: &[Head], keep: &[bool], into: &mut Vec<Head>) -> Result
 }
 
 /// The cell, given the names.
-pub fn applied(
+pub fn apply_cell(
     alloc: Global,
     types: &TypeTable,
     store: &mut Store,
@@ -76,7 +76,7 @@ pub fn value(
     ensures adds { AddsTypedTerms types.now store.old store.new }
 {
     let ty = store.cell_type(cell);
-    abstracted(alloc, types, store, ty, names, term)
+    abstract_over(alloc, types, store, ty, names, term)
 }
 
 /// Adds the names, as arguments for something of this type.

@@ -12,7 +12,11 @@ use ab_norm::store::Head;
 use std::alloc::{AllocError, Global};
 
 /// At each place, whether the names are the same.
-pub fn agreeing(alloc: Global, names: &[Head], others: &[Head]) -> Result<Vec<bool>, AllocError>
+pub fn agreement_flags(
+    alloc: Global,
+    names: &[Head],
+    others: &[Head],
+) -> Result<Vec<bool>, AllocError>
     ensures { IfOk result (λ keep. (types : Table) (store : Contents) → IsTable types →
         All (HeadIsTyped types) names.now → All (HeadIsTyped types) others.now →
         keep.items ≡ solve.agreeing (map (head_reading types store) names.now) (map (head_reading types store) others.now)) }

@@ -52,7 +52,7 @@ impl FlexibleCells {
     pub fn to_vec(&self, alloc: Global) -> Result<Vec<CellId>, AllocError>
         ensures { IfOk result (λ cells. cells.items ≡ self.now.items) }
     {
-        listed(alloc, &self.row, &self.places)
+        list_cells(alloc, &self.row, &self.places)
     }
 
     /// Adds a cell, the youngest. Where memory runs out the cells stay as they were.
@@ -96,7 +96,7 @@ impl FlexibleCells {
 }
 
 /// The cells of the row that count where they stand.
-fn listed(
+fn list_cells(
     alloc: Global,
     row: &[CellId],
     places: &HashMap<CellId, usize>,

@@ -4,8 +4,10 @@
 mod abstraction;
 mod applied_cells;
 mod bound_cells;
+mod closed_cells;
 mod equality;
 mod equation;
+mod existentials;
 mod flags;
 mod flexible_cells;
 mod foreign_names;
@@ -20,10 +22,11 @@ mod rigid_rules;
 mod visited_nodes;
 
 pub use abstraction::{close, shift_head};
-pub use applied_cells::{applied, keep_heads, value};
+pub use applied_cells::{apply_cell, keep_heads, value};
 pub use bound_cells::put;
 pub use equation::Numbered;
-pub use flags::{agreeing, common, keeps_all};
+pub use existentials::exists_over;
+pub use flags::{agreement_flags, common, keeps_all};
 pub use flexible_cells::{FlexibleCells, is_flexible};
 pub use foreign_names::has_no_foreign;
 pub use names::pattern;

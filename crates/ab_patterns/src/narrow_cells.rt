@@ -15,7 +15,7 @@ ghost use Rattle.ab_norm.specs.ab_store.specs.Naming.{HoldsHead, HeadIsTyped, Is
 ghost use Rattle.ab_unifiers.specs.Patterns as solve;
 ghost use Rattle.ab_unifiers.specs.Replacements.{one};
 
-use crate::applied_cells::{applied, keep_heads};
+use crate::applied_cells::{apply_cell, keep_heads};
 use crate::bound_cells::put;
 use ab_norm::store::{CellId, Head, Mark, Store, TermId};
 use ab_norm::types::{Steps, TypeTable};
@@ -59,6 +59,6 @@ pub fn narrow<L>(
 {
     let mut left = Vec::new(alloc);
     keep_heads(names, keep, &mut left)?;
-    let term = applied(alloc, types, store, made, &left)?;
+    let term = apply_cell(alloc, types, store, made, &left)?;
     put(alloc, types, store, cell, names, term, steps)
 }

@@ -234,7 +234,7 @@ returns-in-Err-clause-defined g c =
     let f = c.in-Err.fault in
     let told = not_put_in w c.requires.world i ds cs t ids one.put one.kinds u c.read_clauses.new.store one.kept more same_kinds same_constants four.table four.adds c.in_ok-terms.terms.items four.read typed f
     (subst (λ (b : KeptBlock). IsDefineFault (declarations_of v) (clauses.block_of u c.read_clauses.new.store b) f) c.block_of-block.ensures c.in-Err.ensures.refused) in
-    subst (Halts (DefinesNothing (declarations_of w) i ds cs)) (sym c.halted.ensures) told
+    subst (Halts (DefinesNothing (declarations_of w) i ds cs)) (sym c.halt_for.ensures) told
 
 pub returns-in-Err-clause-more : goal.returns-in-Err-clause-more
 returns-in-Err-clause-more g c =

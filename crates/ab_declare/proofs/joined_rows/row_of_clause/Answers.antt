@@ -3,7 +3,7 @@ use Rattle.std.proofs.Common.{[], sym, ap, ◌∙◌, subst}
 use Rattle.std.proofs.lemmas.Result.{err_from_is_err_and}
 use Rattle.ab_term.specs.Types.{arrow}
 use Rattle.ab_norm.specs.ab_types.specs.Ids.{type_of}
-use Rattle.ab_syntax.specs.SyntaxTrees.{tree_of}
+use Rattle.ab_syntax.specs.ab_expressions.specs.SyntaxTrees.{tree_of}
 use Rattle.ab_meaning.specs.Scopes.{resolved}
 use Rattle.ab_infer.specs.NameScopes.{scope_of, names_in}
 use Rattle.ab_infer.specs.Rows.{Grew}

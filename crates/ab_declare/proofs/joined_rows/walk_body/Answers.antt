@@ -1,6 +1,6 @@
 use Rattle.std.specs.Prelude.{option_map}
 use Rattle.std.proofs.Common.{sym, subst}
-use Rattle.ab_syntax.specs.SyntaxTrees.{tree_of}
+use Rattle.ab_syntax.specs.ab_expressions.specs.SyntaxTrees.{tree_of}
 use Rattle.ab_infer.specs.NameScopes.{scope_of}
 use Rattle.ab_infer.specs.Rows.{Grew}
 use Rattle.ab_declare.specs.ClauseMeanings.{body_found}

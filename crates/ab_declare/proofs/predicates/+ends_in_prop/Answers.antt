@@ -1,6 +1,6 @@
 use Rattle.std.proofs.Common.{refl, ◌∙◌, sym, ap}
 use Rattle.ab_meaning.specs.Types.{written_type}
-use Rattle.ab_syntax.specs.SyntaxTrees as trees
+use Rattle.ab_syntax.specs.ab_expressions.specs.SyntaxTrees as trees
 use Rattle.ab_inference.proofs.WrittenTyping.{arrow_whole}
 use Rattle.ab_declare.proofs.Ending.{arrow_ends}
 use Rattle.ab_declare.proofs.predicates.+ends_in_prop.Goals as goal

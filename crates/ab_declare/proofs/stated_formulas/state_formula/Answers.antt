@@ -1,7 +1,7 @@
 use Rattle.std.specs.Prelude.{None}
 use Rattle.std.proofs.Common.{[], refl, sym, ◌∙◌, subst, append-nil}
 use Rattle.ab_grammar.specs.CommandTrees as command
-use Rattle.ab_syntax.specs.SyntaxTrees.{tree_of}
+use Rattle.ab_syntax.specs.ab_expressions.specs.SyntaxTrees.{tree_of}
 use Rattle.ab_logic.specs.Worlds.{read, declarations_of}
 use Rattle.ab_declare.specs.declared.refusal.Refusal.TheVariants.{Clash}
 use Rattle.ab_declare.specs.DeclarationCommands.{Declines, theorem_taken}

@@ -10,8 +10,8 @@ returns c = λ types ok hf ht permutes.
     let one = c.in_ok-include.ensures types ok hf permutes in
     let two = c.in_ok-include-2.ensures types ok ht one.permutes in
     let held = two.permutes.0 in
-    let now = c.moved-now.ensures types ok (subst (HoldsPairs types) (sym c.deref.ensures.value) held) hf in
+    let now = c.moved_constant-now.ensures types ok (subst (HoldsPairs types) (sym c.deref.ensures.value) held) hf in
     let made = c.in_ok-table.ensures types ok now.0 ht (subst (HoldsPairs types) (sym c.deref-2.ensures.value) held) in
-    settled types ok c.args.pair c.moved-now.result c.args.table.now.items c.include.new.table.items c.include-2.new.table.items c.in_ok-table.field-0.items c.requires one two
+    settled types ok c.args.pair c.moved_constant-now.result c.args.table.now.items c.include.new.table.items c.include-2.new.table.items c.in_ok-table.field-0.items c.requires one two
     (now.1 ∙ ap (λ l. moved_by (pairs_of types l) (nominal_of types c.args.pair.from)) c.deref.ensures.value)
-    (made.0, made.1 ∙ ap (λ l. map (retargeted (nominal_of types c.moved-now.result) (nominal_of types c.args.pair.to)) (pairs_of types l)) c.deref-2.ensures.value)
+    (made.0, made.1 ∙ ap (λ l. map (retargeted (nominal_of types c.moved_constant-now.result) (nominal_of types c.args.pair.to)) (pairs_of types l)) c.deref-2.ensures.value)

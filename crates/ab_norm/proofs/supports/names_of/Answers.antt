@@ -16,13 +16,13 @@ returns-clause-reads c =
     let types = c.args.types.now in
     let tree = tree_of types c.args.store.now c.args.id in
     let held : All (HoldsNominal types) c.gather.new.found.keys = c.in_ok-gather.ensures.held types c.requires.store (subst (All (HoldsNominal types)) (sym c.new-found.ensures.empty) (All-nil (HoldsNominal types))) in
-    if_ok c.listed.result (λ list same.
+    if_ok c.list_constants.result (λ list same.
     as_support types list.items tree
     (named types c.gather.new.found.keys list.items (support tree) same c.new-found.result.keys c.new-found.ensures.empty (c.in_ok-gather.ensures.gathers types))
     (different types c.gather.new.found.keys list.items (support tree) same c.requires.types c.len-count.ensures.ordered held)
-    (ordered types c.gather.new.found.keys list.items (support tree) same c.len-count.ensures.ordered)) c.listed.ensures
+    (ordered types c.gather.new.found.keys list.items (support tree) same c.len-count.ensures.ordered)) c.list_constants.ensures
 
 pub returns-clause-held : goal.returns-clause-held
 returns-clause-held c =
     let held : All (HoldsNominal c.args.types.now) c.gather.new.found.keys = c.in_ok-gather.ensures.held c.args.types.now c.requires.store (subst (All (HoldsNominal c.args.types.now)) (sym c.new-found.ensures.empty) (All-nil (HoldsNominal c.args.types.now))) in
-    if_ok c.listed.result (λ list same. subst (All (HoldsNominal c.args.types.now)) (sym same) held) c.listed.ensures
+    if_ok c.list_constants.result (λ list same. subst (All (HoldsNominal c.args.types.now)) (sym same) held) c.list_constants.ensures

@@ -1,6 +1,6 @@
 use Rattle.ab_norm.proofs.Frame.{if_ok, typed_more}
 use Rattle.ab_patterns.proofs.GivenNames.{applied_reads}
-use Rattle.ab_patterns.proofs.applied_cells.applied.Goals as goal
+use Rattle.ab_patterns.proofs.applied_cells.apply_cell.Goals as goal
 
 pub returns-clause-reads : goal.returns-clause-reads
 returns-clause-reads c =

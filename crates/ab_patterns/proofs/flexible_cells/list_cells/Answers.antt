@@ -3,8 +3,8 @@ use Rattle.std.specs.HashMap.{get}
 use Rattle.ab_norm.specs.ab_store.specs.declared.node.CellId.{CellId}
 use Rattle.ab_patterns.specs.Flexible.{same_cell, counts, listed_from}
 use Rattle.ab_patterns.proofs.Placed.{listed_next}
-use Rattle.ab_patterns.proofs.flexible_cells.listed.Goals as goal
-use Rattle.ab_patterns.proofs.flexible_cells.listed.Goals.{then-counts+in_ok-push, else-counts}
+use Rattle.ab_patterns.proofs.flexible_cells.list_cells.Goals as goal
+use Rattle.ab_patterns.proofs.flexible_cells.list_cells.Goals.{then-counts+in_ok-push, else-counts}
 
 pub loop-at-preserved : goal.loop-at-preserved
 loop-at-preserved c =

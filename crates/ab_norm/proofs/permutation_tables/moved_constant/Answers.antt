@@ -1,7 +1,7 @@
 use Rattle.std.proofs.Common.{arith, refl}
 use Rattle.ab_norm.proofs.Compared.{apart}
 use Rattle.ab_norm.proofs.Completed.{moved_here, moved_next}
-use Rattle.ab_norm.proofs.permutation_tables.moved.Goals as goal
+use Rattle.ab_norm.proofs.permutation_tables.moved_constant.Goals as goal
 
 pub returns-then-is_one : goal.returns-then-is_one
 returns-then-is_one c = λ types ok held ha. (

@@ -1,5 +1,5 @@
 use Rattle.std.proofs.Common.{◌≡◌, ◌++◌, length}
-use Rattle.ab_norm.proofs.supports.listed.Given as goal
+use Rattle.ab_norm.proofs.supports.list_constants.Given as goal
 
 -- those that are out, and then those that are still in
 abbrev pub invariant-loop-a : goal.invariant-loop-a
