@@ -2,6 +2,7 @@ mod Brought
 mod ClauseChoice
 mod ClauseMade
 mod FreshConstants
+mod Led
 mod MapsInTurn
 mod Rows
 pub mod RuleChoice

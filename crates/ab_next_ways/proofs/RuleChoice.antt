@@ -20,9 +20,9 @@ use Rattle.ab_theory.proofs.JudgementRules.{judgement_known}
 use Rattle.ab_theory.proofs.RuleDemands.{FocusKnown, JudgementKnown}
 use Rattle.ab_judgements.specs.ab_alternatives.specs.CaseSteps.{IsLater}
 use Rattle.ab_judgements.specs.DemandReadings.{IsTypedJudgement}
-use Rattle.ab_judgements.specs.JudgementReadings.{judgement_read, HoldsJudgement}
+use Rattle.ab_judgements.specs.ab_judgement_forms.specs.JudgementReadings.{judgement_read, HoldsJudgement}
 use Rattle.ab_judgements.specs.RuleWalks.{slots, rules_in, IsRuled}
-use Rattle.ab_judgements.specs.declared.judgements.Judgement.{Judgement as Kept}
+use Rattle.ab_judgements.specs.ab_judgement_forms.specs.declared.judgements.Judgement.{Judgement as Kept}
 use Rattle.ab_judgements.specs.declared.rule_places.Ruled.{Ruled}
 use Rattle.ab_judgements.proofs.LaterJudgements.{judgement_same}
 use Rattle.ab_search_trees.specs.Goals as tree

@@ -1,5 +1,6 @@
 -- The ways of a goal, one after another, on shared terms: which are still to be gone.
 pub mod Cursors
+pub mod Stages
 pub mod Steps
 pub mod Unfoldable
 -- Libraries that the crates above name through this one.

@@ -8,9 +8,9 @@ use Rattle.ab_theory.specs.Opening.{kind_of}
 use Rattle.ab_judgements.specs.ab_alternatives.specs.AtomReadings.{defined_read, HoldsDefined}
 use Rattle.ab_judgements.specs.ab_alternatives.specs.declared.atoms.DefinedAtom.{DefinedAtom}
 use Rattle.ab_judgements.specs.DemandReadings.{IsTypedJudgement}
-use Rattle.ab_judgements.specs.JudgementReadings.{judgement_read, HoldsJudgement}
+use Rattle.ab_judgements.specs.ab_judgement_forms.specs.JudgementReadings.{judgement_read, HoldsJudgement}
 use Rattle.ab_judgements.specs.SubjectReadings.{HasRules}
-use Rattle.ab_judgements.specs.declared.judgements.Judgement.{Judgement}
+use Rattle.ab_judgements.specs.ab_judgement_forms.specs.declared.judgements.Judgement.{Judgement}
 use Rattle.ab_judgements.specs.declared.subjects.Subject.TheVariants.{Judgement as AJudgement}
 use Rattle.ab_search_trees.specs.Goals as tree
 use Rattle.ab_search_trees.specs.Goals.{Now}

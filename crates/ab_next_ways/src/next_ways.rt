@@ -1,5 +1,5 @@
 //! The next way of a goal: one turn on its row of ways.
-ghost use Rattle.std.specs.Prelude.{◌≡◌, ◌≤◌, ◌∷◌, ◌++◌, ◌+◌, List, All, IfOk, IfSome, Some, slice_get};
+ghost use Rattle.std.specs.Prelude.{◌≡◌, ◌<◌, ◌≤◌, ◌∷◌, ◌++◌, ◌+◌, List, length, All, IfOk, IfSome, Some, slice_get};
 ghost use Rattle.std.specs.Option.{option_map};
 ghost use Rattle.ab_term.specs.Terms.{Read, Nominal as ANominal};
 ghost use Rattle.ab_term.specs.Names.{support};
@@ -13,6 +13,7 @@ ghost use Rattle.ab_search_trees.specs.Ways.{Way as AWay};
 ghost use Rattle.ab_search_trees.specs.Maps.{targets};
 ghost use Rattle.ab_search_ways.specs.GoalReadings.{goal_read, HoldsGoal, IsTypedGoal, IsFormulaIn, IsAside, StandsFor};
 ghost use Rattle.ab_next_ways.specs.Cursors.{by_hypotheses_from, by_maps, AreLeft, HoldsMap, HoldsCursor};
+ghost use Rattle.ab_next_ways.specs.Stages.{at_hypothesis, at_maps, stage, LedOnward};
 ghost use Rattle.ab_next_ways.specs.Steps.{IsPassed, IsNextWay, IsStep, step_of, behind_choice, behind_rule};
 
 use crate::clause_ways::way_by_choice;
@@ -81,6 +82,7 @@ fn go_to_hypothesis(
         let D = declarations_of world.now in let g = goal_read world.now base.now goal.now in
         ws ≡ by_hypotheses_from D now g number → IsPassed world.now base.now now g ws cursor D world.now.types) }
     ensures held { IfOk result (HoldsCursor world.now base.now goal.now) }
+    ensures onward { let n = length (goal_read world.now base.now goal.now).hypotheses in IfOk result (λ cursor. stage n cursor < at_hypothesis n number) }
 {
     different_heads_are_apart();
     let Some(hypothesis) = hypothesis_at(base, goal, number) else {
@@ -122,6 +124,7 @@ fn way_by_map<L>(
         ws ≡ by_maps D now g B (names_read world.old.types list.now ∷ after) ++ by_hypotheses_from D now g (number + 1) →
         IsNextWay world.new base.now now g ws cursor.new D made) }
     ensures held { IfOk result (λ made. HoldsCursor world.new base.now goal.now cursor.new) }
+    ensures onward { let n = length (goal_read world.old base.now goal.now).hypotheses in IfOk result (λ made. stage n cursor.new ≤ at_maps n number) }
     ensures grows { Grows world.old world.new }
     ensures declared { declarations_of world.new ≡ declarations_of world.old }
     ensures steps { steps.old ≤ steps.new }
@@ -194,6 +197,7 @@ pub fn next_way<L>(
         let g = goal_read world.old base.now goal.now in
         AreLeft (declarations_of world.old) now g world.old.types cursor.old ws → IsStep world.new base.now now g ws cursor.new step) }
     ensures held { IfOk result (λ step. HoldsCursor world.new base.now goal.now cursor.new) }
+    ensures onward { let n = length (goal_read world.old base.now goal.now).hypotheses in IfOk result (LedOnward n cursor.old cursor.new) }
     ensures grows { Grows world.old world.new }
     ensures declared { declarations_of world.new ≡ declarations_of world.old }
     ensures steps { steps.old ≤ steps.new }

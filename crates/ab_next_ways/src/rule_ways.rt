@@ -10,7 +10,7 @@ ghost use Rattle.ab_theory.specs.Opening.{kind_of};
 ghost use Rattle.ab_theory.specs.SpecRules.{demand_of};
 ghost use Rattle.ab_judgements.specs.ab_alternatives.specs.CaseSteps.{IsLater};
 ghost use Rattle.ab_judgements.specs.DemandReadings.{rule_read, IsRuleFor, IsDemanded};
-ghost use Rattle.ab_judgements.specs.JudgementReadings.{judgement_read, HoldsJudgement};
+ghost use Rattle.ab_judgements.specs.ab_judgement_forms.specs.JudgementReadings.{judgement_read, HoldsJudgement};
 ghost use Rattle.ab_judgements.specs.RuleWalks.{IsRuled};
 ghost use Rattle.ab_search_trees.specs.Goals as tree;
 ghost use Rattle.ab_search_trees.specs.Judgements.{opens_by_layers};

@@ -8,7 +8,7 @@ use Rattle.ab_formulas.specs.Marks.{Sign, plain, star_of, at_of, plus_of, hash_o
 abbrev pub Decided : Type 0 → Type 0
 Decided P = P ⊎ ¬ P
 
-same_number_or : (i j : ℕ) → Decided (i ≡ j)
+pub same_number_or : (i j : ℕ) → Decided (i ≡ j)
 same_number_or zero zero = inl refl
 same_number_or zero (suc j) = inr (λ e. absurd (omega (arith, e)))
 same_number_or (suc i) zero = inr (λ e. absurd (omega (arith, e)))
@@ -45,7 +45,7 @@ serves_or (hash_of i) (hash_of j) = same_number_or i j
 serves_or (hash_of i) plain = inl tt
 serves_or _ _ = inr (λ e. e)
 
-both_or : {P Q : Type 0} → Decided P → Decided Q → Decided (P × Q)
+pub both_or : {P Q : Type 0} → Decided P → Decided Q → Decided (P × Q)
 both_or (inl p) (inl q) = inl (p, q)
 both_or (inl p) (inr m) = inr (λ e. m e.1)
 both_or (inr n) o = inr (λ e. n e.0)

@@ -5,6 +5,8 @@ pub mod One
 pub mod Weights
 pub mod Deciding
 pub mod Smaller
+pub mod SmallerOr
+pub mod Walks
 pub mod Some
 pub mod Telling
 pub mod Listed

@@ -1,5 +1,6 @@
--- A list of goals whose conclusions are formulas has a list of leaves.
-use Rattle.std.proofs.Common.{◌≡◌, inl, inr, ℕ, zero, suc, ◌<◌, ◌≤◌, List, [], ◌∷◌, ◌++◌, map, codes, refl, ◌∙◌, arith}
+-- A list of goals whose conclusions are formulas has a list of leaves, and is walked in so many turns. The number is told of every
+-- goal; where the definitions aren't what they are to be, it says nothing.
+use Rattle.std.proofs.Common.{◌≡◌, ◌⊎◌, inl, inr, ℕ, zero, suc, ◌<◌, ◌≤◌, ◌+◌, List, [], ◌∷◌, ◌++◌, map, codes, refl, ◌∙◌, arith}
 use Rattle.ab_term.specs.Variables.{Substitution, value_in}
 use Rattle.ab_term.specs.Sameness.{same_number}
 use Rattle.std.proofs.lemmas.List.Elements.{All-head}
@@ -12,11 +13,13 @@ use Rattle.ab_formulas.specs.Declarations.{Declarations, signature_in, HaveDefin
 use Rattle.ab_formulas.proofs.Images.{image_stands}
 use Rattle.ab_search_trees.specs.Goals.{Goal, Now, goal_under, beginning, first_goal}
 use Rattle.ab_search_trees.specs.Ways.{Way, ways}
-use Rattle.ab_search_trees.specs.Tree.{Leaf, found, stuck_at, problem_of, Serve, now_after, unseen, Leaves, LeavesBy, LeavesOn, no_goal, a_goal, no_way, a_way, are_apart, are_stuck, dont_serve, go_on}
+use Rattle.ab_search_trees.specs.Tree.{Leaf, found, stuck_at, problem_of, Serve, now_after, unseen, Leaves}
 use Rattle.ab_search_trees.specs.Outcomes.{Searched}
 use Rattle.ab_search_trees.proofs.Weights.{weight, image_weighs}
 use Rattle.ab_search_trees.proofs.Deciding.{Decided, all_serve_or}
 use Rattle.ab_search_trees.proofs.Smaller.{Less, in_depth, in_layers, in_weight, AllSmaller, EachWay, ways_smaller}
+use Rattle.ab_search_trees.proofs.SmallerOr.{stands_or, each_way_or}
+use Rattle.ab_search_trees.proofs.Walks.{idle_turns, Walked, WalkedBy, WalkedOn, no_goal, a_goal, no_way, a_way, are_apart, are_stuck, dont_serve, go_on, leaves_walked}
 
 -- of the same measure
 record Like (g h : Goal) : Type 0 where
@@ -59,17 +62,24 @@ smaller_stand : (g : Goal) (hs gs : List Goal) → AllSmaller g hs → AllStand 
 smaller_stand g [] gs a s = s
 smaller_stand g (h ∷ hs) gs a s = ((a.0).stands, smaller_stand g hs gs a.1 s)
 
-module _ (D : Declarations) (defs : HaveDefinitions D) where
+module _ (D : Declarations) where
+  -- unless a definition isn't one
+  abbrev Unless : Type 0 → Type 0
+  Unless P = P ⊎ ¬ HaveDefinitions D
+
+  abbrev pub IsWalked : Now → List Goal → Type 0
+  IsWalked now gs = (ls : List Leaf) × (n : ℕ) × Walked D now gs ls n
+
   -- whatever is put in, these goals have leaves
   abbrev Ready : List Goal → Type 0
-  Ready gs = (now : Now) (hs : List Goal) → AllLike gs hs → (ls : List Leaf) × Leaves D now hs ls
+  Ready gs = (now : Now) (hs : List Goal) → AllLike gs hs → Unless (IsWalked now hs)
 
   ready_like : (gs hs : List Goal) → AllLike gs hs → Ready gs → Ready hs
   ready_like gs hs l r now ks m = r now ks (like_then gs hs ks l m)
 
   -- the goal has them, whatever stands behind it
   abbrev Has : Goal → Type 0
-  Has g = (gs : List Goal) → AllStand gs → Ready gs → (now : Now) → (ls : List Leaf) × Leaves D now (g ∷ gs) ls
+  Has g = (gs : List Goal) → AllStand gs → Ready gs → (now : Now) → Unless (IsWalked now (g ∷ gs))
 
   -- so does each smaller one
   abbrev Below : Goal → Type 0
@@ -87,29 +97,44 @@ module _ (D : Declarations) (defs : HaveDefinitions D) where
     ready_both (h ∷ hs) a now (k ∷ ks) l =
         below k (l.0).stands (less_like g h k (a.0).less l.0) ks (like_stand (hs ++ gs) ks l.1) (ready_like (hs ++ gs) ks l.1 (ready_both hs a.1)) now
 
-    on_answer : (now : Now) (w : Way) → AllSmaller g w.goals → (a : Answer (List ℕ)) → Solves (codes "x") (problem_of w) a → (ls : List Leaf) × LeavesOn D now w gs ls
-    on_answer now w s apart p = ([], are_apart p)
-    on_answer now w s (stuck i) p = (stuck_at i ∷ [], are_stuck p)
+    abbrev OnIt : Now → Way → Type 0
+    OnIt now w = (ls : List Leaf) × (n : ℕ) × WalkedOn D now w gs ls n
+
+    abbrev ByThem : Now → List Way → Type 0
+    ByThem now ws = (ls : List Leaf) × (n : ℕ) × WalkedBy D now ws gs ls n
+
+    on_answer : (now : Now) (w : Way) → AllSmaller g w.goals → (a : Answer (List ℕ)) → Solves (codes "x") (problem_of w) a → Unless (OnIt now w)
+    on_answer now w s apart p = inl ([], 0, are_apart p)
+    on_answer now w s (stuck i) p = inl (stuck_at i ∷ [], 0, are_stuck p)
     on_answer now w s (unified more q) p = go (all_serve_or w.serving)
       where
-        go : Decided (Serve w) → (ls : List Leaf) × LeavesOn D now w gs ls
-        go (inr n) = ([], dont_serve more q p n)
-        go (inl v) =
-            let r = ready_both w.goals s (now_after now w more q) (map (goal_under q) (w.goals ++ gs)) (all_like_under q (w.goals ++ gs) (smaller_stand g w.goals gs s stand)) in
-            (r.0, go_on more q p v r.1)
+        go : Decided (Serve w) → Unless (OnIt now w)
+        go (inr n) = inl ([], 0, dont_serve more q p n)
+        go (inl v) = elim (ready_both w.goals s (now_after now w more q) (map (goal_under q) (w.goals ++ gs)) (all_like_under q (w.goals ++ gs) (smaller_stand g w.goals gs s stand))) [
+          | inl r ↦ inl (r.0, r.1, go_on more q p v r.2)
+          | inr n ↦ inr n
+        ]
 
-    by_ways : (now : Now) (ws : List Way) → EachWay g ws → (ls : List Leaf) × LeavesBy D now ws gs ls
-    by_ways now [] s = ([], no_way)
+    both_ways : (now : Now) (w : Way) (ws : List Way) → Unless (OnIt now w) → Unless (ByThem now ws) → Unless (ByThem now (w ∷ ws))
+    both_ways now w ws (inl one) (inl rest) = inl (one.0 ++ rest.0, suc (one.1 + rest.1), a_way one.2 rest.2)
+    both_ways now w ws (inr n) rest = inr n
+    both_ways now w ws (inl one) (inr n) = inr n
+
+    by_ways : (now : Now) (ws : List Way) → EachWay g ws → Unless (ByThem now ws)
+    by_ways now [] s = inl ([], 0, no_way)
     by_ways now (w ∷ ws) s =
         let a = answered (codes "x") (problem_of w) in
-        let one = on_answer now w s.0 a.0 a.1 in
-        let rest = by_ways now ws s.1 in
-        (one.0 ++ rest.0, a_way one.1 rest.1)
+        both_ways now w ws (on_answer now w s.0 a.0 a.1) (by_ways now ws s.1)
 
   one_goal : (g : Goal) → StandsIn a_formula g.conclusion → Below g → Has g
-  one_goal g s below gs stand ready now =
-      let r = by_ways g below gs stand ready now (ways D now g) (ways_smaller D now g s defs) in
-      (r.0 ++ unseen now g, a_goal r.1)
+  one_goal g s below gs stand ready now = go (each_way_or g (ways D now g))
+    where
+      go : Decided (EachWay g (ways D now g)) → Unless (IsWalked now (g ∷ gs))
+      go (inr n) = inr (λ defs. n (ways_smaller D now g s defs))
+      go (inl smaller) = elim (by_ways g below gs stand ready now (ways D now g) smaller) [
+        | inl r ↦ inl (r.0 ++ unseen now g, suc (idle_turns g + r.1), a_goal r.2)
+        | inr n ↦ inr n
+      ]
 
   -- by the depth, then the layers, then the weight
 
@@ -133,12 +158,39 @@ module _ (D : Declarations) (defs : HaveDefinitions D) where
   by_depth (suc d) g s e = by_layers g.depth (λ h t less. by_depth d h t (omega (arith, less, e))) (suc g.layers) g s refl (omega arith)
 
   none_ready : Ready []
-  none_ready now [] l = (found now ∷ [], no_goal)
+  none_ready now [] l = inl (found now ∷ [], 1, no_goal)
   none_ready now (h ∷ hs) l = absurd l
 
-  -- THERE ARE LEAVES
-  pub some_list : (now : Now) (g : Goal) → StandsIn a_formula g.conclusion → (ls : List Leaf) × Leaves D now (g ∷ []) ls
-  some_list now g s = by_depth (suc g.depth) g s (omega arith) [] tt none_ready now
+  -- what is known of a goal, whatever it is
+  abbrev Known : Now → Goal → Type 0
+  Known now g = IsWalked now (g ∷ []) ⊎ ¬ (HaveDefinitions D × StandsIn a_formula g.conclusion)
+
+  known : (now : Now) (g : Goal) → Known now g
+  known now g = go (stands_or a_formula g.conclusion)
+    where
+      go : Decided (StandsIn a_formula g.conclusion) → Known now g
+      go (inr n) = inr (λ p. n p.1)
+      go (inl s) = elim (by_depth (suc g.depth) g s (omega arith) [] tt none_ready now) [ inl r ↦ inl r | inr n ↦ inr (λ p. n p.0) ]
+
+  abbrev number_in : (now : Now) (g : Goal) → Known now g → ℕ
+  number_in now g (inl r) = r.1
+  number_in now g (inr n) = 0
+
+  -- SO MANY TURNS does a walk from the goal take
+  pub turns_from : Now → Goal → ℕ
+  turns_from now g = number_in now g (known now g)
+
+  -- THERE ARE LEAVES, and it is walked in these turns
+  pub some_walk : HaveDefinitions D → (now : Now) (g : Goal) → StandsIn a_formula g.conclusion → (ls : List Leaf) × Walked D now (g ∷ []) ls (turns_from now g)
+  unfolding turns_from
+  some_walk defs now g s = go (known now g)
+    where
+      go : (o : Known now g) → (ls : List Leaf) × Walked D now (g ∷ []) ls (number_in now g o)
+      go (inl r) = (r.0, r.2)
+      go (inr n) = absurd (n (defs, s))
+
+  some_list : HaveDefinitions D → (now : Now) (g : Goal) → StandsIn a_formula g.conclusion → (ls : List Leaf) × Leaves D now (g ∷ []) ls
+  some_list defs now g s = let r = some_walk defs now g s in (r.0, leaves_walked D r.1)
 
 -- A SEARCH has a list of leaves
 pub searched : (D : Declarations) → HaveDefinitions D → (cells : List (Cell (List ℕ))) (depth : ℕ) (s : Sequent) → IsSequent D s → (ls : List Leaf) × Searched D cells depth s ls

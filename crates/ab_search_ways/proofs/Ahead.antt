@@ -188,7 +188,7 @@ module _ (w : World) (is : IsWorld w) (made : Way) (there : HoldsWay w made) (sa
     all_said = All-append (IsTypedGoal T S) made.goals.items rest said.goals rest_said
 
     goals_are : (base : List TermId) → All (IsAside w flexible) base → (way : trees.Way) → map (goal_read w base) made.goals.items ≡ way.goals
-        → map (goal_read x base) p.goals.items ≡ map (goal_under q) (way.goals ++ map (goal_read w base) rest)
+        → map (goal_read x base) p.goals ≡ map (goal_under q) (way.goals ++ map (goal_read w base) rest)
     goals_are base aside way same =
         let hs = map (tree_of U X) base in
         let gs = made.goals.items ++ rest in
@@ -284,10 +284,10 @@ module _ (w : World) (is : IsWorld w) (made : Way) (there : HoldsWay w made) (sa
         (goals_there gs (All-tail (IsTypedGoal U X) h gs a) (All-tail (λ (h : Goal). AreConstants U h.constants.items) h gs b))
 
     pub place_is : (base : List TermId) (now : Now) (way : trees.Way) → IsMade w base way made
-        → IsPlace x base p.flexible.items p.goals.items (now_after now way more q) (map (goal_under q) (way.goals ++ map (goal_read w base) rest))
+        → IsPlace x base p.flexible.items p.goals (now_after now way more q) (map (goal_under q) (way.goals ++ map (goal_read w base) rest))
     place_is base now way m = record {
       variables = record { cells = ap (map (cell_read U)) adds.cells ∙ cells; replaced = replaced_are way m.cells m.replaced; free = all_free };
       aside = All-weaker (IsAside w flexible) (IsAside x p.flexible.items) aside_still base m.aside;
       reads = goals_are base m.aside way m.goals;
-      held = goals_there p.goals.items is_left.goals.typed (constants_are p.goals.items (made.goals.items ++ rest) is_left.goals.names all_there);
+      held = goals_there p.goals is_left.goals.typed (constants_are p.goals (made.goals.items ++ rest) is_left.goals.names all_there);
     }

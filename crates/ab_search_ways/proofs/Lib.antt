@@ -20,4 +20,5 @@ mod SameHeads
 mod SeenParts
 mod Targets
 mod TypedScopes
+mod Untouched
 mod Valued

@@ -46,7 +46,7 @@ module _ (T U : Table) (S V : Contents) (part : IsPartOf T U) (trees : (t : Term
 
   pub place_stays : (p : Place) → HoldsPlace T S p → HoldsPlace U V p
   place_stays p h = record {
-    goals = All-weaker (IsNamedGoal T S) (IsNamedGoal U V) goal_stays p.goals.items h.goals;
+    goals = All-weaker (IsNamedGoal T S) (IsNamedGoal U V) goal_stays p.goals h.goals;
     flexible = All-weaker (HoldsCell S) (HoldsCell V) (λ c k. (cells c k).0) p.flexible.items h.flexible;
     answer = All-weaker (HoldsValue T S) (HoldsValue U V) value_stays p.answer.items h.answer;
   }

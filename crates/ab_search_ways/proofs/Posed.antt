@@ -96,4 +96,4 @@ module _ (w x : World) (is : IsWorld w) (additions : x.additions ≡ w.additions
   tried_still base now way gs Apart k = k
   tried_still base now way gs (Stuck i) k = k
   tried_still base now way gs Refused k = k
-  tried_still base now way gs (Ahead p) k = (k.0, k.1, k.2, k.3, place_still base p.flexible.items p.goals.items _ _ k.4)
+  tried_still base now way gs (Ahead p) k = (k.0, k.1, k.2, k.3, place_still base p.flexible.items p.goals _ _ k.4)

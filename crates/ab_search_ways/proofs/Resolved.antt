@@ -2,14 +2,16 @@
 use Rattle.std.specs.List.{All}
 use Rattle.std.proofs.Common.{◌≡◌, ℕ, ◌+◌, ◌<◌, List, [], ◌∷◌, ◌++◌, map, take, length, get_or, sym, ◌∙◌, ap, subst, append-nil, append_assoc}
 use Rattle.std.proofs.lemmas.List.{map_more, map-append}
-use Rattle.std.proofs.lemmas.List.Elements.{All-push, All-weaker}
+use Rattle.std.specs.Prelude.{is_none}
+use Rattle.std.proofs.lemmas.List.Elements.{All-push, All-weaker, filter-append}
 use Rattle.ab_term.specs.Types.{prop}
 use Rattle.ab_term.specs.Terms as terms
 use Rattle.ab_term.specs.Terms.{Read}
 use Rattle.ab_norm.specs.ab_types.specs.Entries.{Table}
+use Rattle.ab_norm.specs.ab_store.specs.declared.node.CellId.{CellId}
 use Rattle.ab_norm.specs.ab_store.specs.declared.node.TermId.{TermId}
 use Rattle.ab_norm.specs.ab_store.specs.Trees.{Contents, tree_of}
-use Rattle.ab_norm.specs.ab_store.specs.Reading.{reading}
+use Rattle.ab_norm.specs.ab_store.specs.Reading.{reading, binding_of}
 use Rattle.ab_norm.specs.ab_store.specs.Naming.{IsTerm}
 use Rattle.ab_norm.specs.NodeGrowth.{AddsTypedTerms}
 use Rattle.ab_norm.proofs.Frame.{typed_none}
@@ -18,9 +20,14 @@ use Rattle.ab_instances.specs.ListReadings.{names_read}
 use Rattle.ab_logic.proofs.Growing.{map_same}
 use Rattle.ab_search_trees.specs.Goals as tree
 use Rattle.ab_search_ways.specs.GoalReadings.{goal_by, IsTypedGoal}
-use Rattle.ab_search_ways.specs.GoalsLeft.{IsResolved}
+use Rattle.ab_search_ways.specs.GoalsLeft.{IsResolved, unbound_in}
 use Rattle.ab_search_ways.specs.declared.goal.Goal.{Goal}
 use Rattle.ab_search_ways.proofs.Bare.{kept_term}
+
+-- the cells that are bound to nothing of two lists
+pub unbound_both : (store : Contents) (cs ds none same kept now : List CellId) → none ≡ [] → same ≡ cs → kept ≡ none ++ unbound_in store same → now ≡ kept ++ unbound_in store ds → now ≡ unbound_in store (cs ++ ds)
+unbound_both store cs ds none same kept now e f g h =
+    h ∙ ap (λ l. l ++ unbound_in store ds) (g ∙ ap (λ l. l ++ unbound_in store same) e ∙ ap (unbound_in store) f) ∙ sym (filter-append (λ d. is_none (binding_of store d)) cs ds)
 
 -- a goal that was made stays
 pub goal_kept : (types : Table) (t u : Contents) → AddsTypedTerms types t u → (g : Goal) → IsTypedGoal types t g → IsTypedGoal types u g

@@ -35,6 +35,6 @@ pub record IsNamedGoal (types : Table) (store : Contents) (g : Goal) : Type 0 wh
 
 -- WHAT A PLACE NAMES IS THERE: its goals say formulas, its cells are there, and its answer's terms are of the types of their cells
 pub record HoldsPlace (types : Table) (store : Contents) (p : Place) : Type 0 where
-  pub goals : All (IsNamedGoal types store) p.goals.items
+  pub goals : All (IsNamedGoal types store) p.goals
   pub flexible : All (HoldsCell store) p.flexible.items
   pub answer : All (HoldsValue types store) p.answer.items

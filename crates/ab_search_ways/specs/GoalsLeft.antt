@@ -24,7 +24,11 @@ pub record IsResolved (types : Table) (old new : Contents) (before goals now : L
   pub typed : All (IsTypedGoal types new) now
   pub names : SameNames now (before ++ goals)
 
+-- no binding changes what the goal says
+abbrev pub IsUntouched : Table → Contents → Goal → Type 0
+IsUntouched types store g = (before : List Read) → goal_by (reading types store) types before g ≡ goal_by (tree_of types store) types before g
+
 -- of these cells and goals, this place is left
 pub record IsLeft (types : Table) (old new : Contents) (cs : List CellId) (gs : List Goal) (p : Place) : Type 0 where
   pub cells : p.flexible.items ≡ unbound_in old cs
-  pub goals : IsResolved types old new [] gs p.goals.items
+  pub goals : IsResolved types old new [] gs p.goals

@@ -56,7 +56,7 @@ module _ (w : World) (base : List TermId) where
   IsTried now way gs Refused = HasSolution (problem_of way) × (¬ Serve way)
   IsTried now way gs (Ahead p) =
       Serve way × (more : List (Cell (List ℕ))) × (q : Substitution ℕ (List ℕ)) × Solves (codes "x") (problem_of way) (unified more q)
-      × IsPlace w base p.flexible.items p.goals.items (now_after now way more q) (map (goal_under q) (way.goals ++ gs))
+      × IsPlace w base p.flexible.items p.goals (now_after now way more q) (map (goal_under q) (way.goals ++ gs))
 
 -- FROM A GOAL of the first world the way is made in the second, whatever base it stands on
 abbrev pub MakesWay : World → List CellId → Goal → (Now → tree.Goal → trees.Way) → World → Way → Type 0

@@ -39,7 +39,7 @@ fn leading_to(alloc: Global, flexible: &[CellId], goals: Vec<Goal>) -> Result<Wa
 }
 
 /// The way that leads to the goal with this conclusion.
-fn asking(
+fn way_to_conclusion(
     alloc: Global,
     world: &World,
     flexible: &[CellId],
@@ -57,7 +57,7 @@ fn asking(
 }
 
 /// The way that makes the two sides equal.
-fn equating(
+fn way_by_equation(
     alloc: Global,
     world: &World,
     flexible: &[CellId],
@@ -210,7 +210,7 @@ fn by_for_all<L>(
     }
     let names = constants_of(alloc, &world.types, &world.store, &[goal.conclusion])?;
     let made = raise(alloc, world, ty, body, &names, steps)?;
-    Ok(Some(asking(alloc, world, flexible, goal, made.formula)?))
+    Ok(Some(way_to_conclusion(alloc, world, flexible, goal, made.formula)?))
 }
 
 /// The way by a layer of a judgement, where one may still be opened.
@@ -273,10 +273,10 @@ pub fn way_by_form<L>(
 {
     match shape(world, goal.conclusion) {
         Form::Equal(_, left, right) => {
-            Ok(Some(equating(alloc, world, flexible, goal, left, right)?))
+            Ok(Some(way_by_equation(alloc, world, flexible, goal, left, right)?))
         }
         Form::And(left, right) => Ok(Some(by_both(alloc, world, flexible, goal, left, right)?)),
-        Form::Or(left, _) => Ok(Some(asking(alloc, world, flexible, goal, left)?)),
+        Form::Or(left, _) => Ok(Some(way_to_conclusion(alloc, world, flexible, goal, left)?)),
         Form::Arrow(given, asked) => {
             Ok(Some(by_implication(alloc, world, flexible, goal, given, asked)?))
         }
@@ -304,7 +304,7 @@ pub fn second_way_by_form(
     ensures { IfOk result (MakesWayAt world.now flexible.now goal.now (λ now g. trees.by_form (declarations_of world.now) now g (form_of g.conclusion)) 1 world.now) }
 {
     match shape(world, goal.conclusion) {
-        Form::Or(_, right) => Ok(Some(asking(alloc, world, flexible, goal, right)?)),
+        Form::Or(_, right) => Ok(Some(way_to_conclusion(alloc, world, flexible, goal, right)?)),
         _ => Ok(None),
     }
 }

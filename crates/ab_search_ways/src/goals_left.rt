@@ -1,17 +1,19 @@
 //! What is left once the sides of a way are made equal: the cells that are unbound, and goals with what cells are bound to in
-//! their places.
-ghost use Rattle.std.specs.Prelude.{◌≡◌, ◌≤◌, ◌++◌, [], List, map, All, IfOk, OnOk};
+//! their places. Goals that wait and that no binding touches are shared.
+ghost use Rattle.std.specs.Prelude.{◌≡◌, ◌≤◌, ◌++◌, [], List, map, drop, length, false, All, IfOk, OnOk};
 ghost use Rattle.ab_term.specs.Types.{prop};
 ghost use Rattle.ab_term.specs.Terms.{Read};
+ghost use Rattle.ab_norm.specs.ab_types.specs.Entries.{Table};
 ghost use Rattle.ab_norm.specs.ab_store.specs.Trees.{HoldsCell, tree_of};
 ghost use Rattle.ab_norm.specs.ab_store.specs.Reading.{reading};
 ghost use Rattle.ab_norm.specs.ab_store.specs.Naming.{IsTypedBy, IsTerm};
 ghost use Rattle.ab_norm.specs.NodeGrowth.{AddsTypedTerms};
 ghost use Rattle.ab_search_ways.specs.Answers.{HoldsValue, IsAnswerFor};
 ghost use Rattle.ab_search_ways.specs.GoalReadings.{goal_by, IsTypedGoal};
-ghost use Rattle.ab_search_ways.specs.GoalsLeft.{IsResolved, unbound_in};
+ghost use Rattle.ab_search_ways.specs.GoalsLeft.{IsResolved, IsUntouched, unbound_in};
 
 use crate::goal::Goal;
+use crate::goal_lists::Goals;
 use crate::way::Value;
 use ab_norm::copy_resolved;
 use ab_norm::store::{CellId, Store, TermId};
@@ -107,6 +109,73 @@ pub(crate) fn add_resolved<L>(
         list.push(made)?;
     }
     Ok(())
+}
+
+/// Whether a bound cell may stand in what the goal says. False only where none does.
+fn is_touched(store: &Store, goal: &Goal) -> bool
+    requires goal { (types : Table) × IsTypedGoal types store.now goal.now }
+    ensures { result ≡ false → (types : Table) → IsUntouched types store.now goal.now }
+{
+    for id in &goal.added {
+        if store.has_bound_cells(*id) {
+            return true;
+        }
+    }
+    store.has_bound_cells(goal.conclusion)
+}
+
+/// So many of the goals come up to the last in which a bound cell may stand.
+fn count_touched(store: &Store, goals: &Goals) -> Result<usize, AllocError>
+    requires goals { (types : Table) × All (IsTypedGoal types store.now) goals.now }
+    ensures within { IfOk result (λ n. n ≤ length goals.now) }
+    ensures behind { IfOk result (λ n. (types : Table) → All (IsUntouched types store.now) (drop n goals.now)) }
+{
+    if !store.has_bindings() {
+        return Ok(0);
+    }
+    let mut left = goals;
+    let mut number: usize = 0;
+    let mut count: usize = 0;
+    while let Some((goal, behind)) = left.split_first() {
+        let Some(next) = number.checked_add(1) else {
+            return Err(AllocError);
+        };
+        number = next;
+        if is_touched(store, goal) {
+            count = number;
+        }
+        left = behind;
+    }
+    Ok(count)
+}
+
+/// Adds the goals, with what cells are bound to in their places, up to the last in which a bound cell may stand; and tells those
+/// behind it, which stay as they are.
+pub(crate) fn add_touched<L>(
+    alloc: Global,
+    types: &TypeTable,
+    store: &mut Store,
+    goals: &Goals,
+    list: &mut Vec<Goal>,
+    steps: &mut Steps<L>,
+) -> Result<Goals, AllocError>
+    requires store { IsTypedBy types.now store.old }
+    requires goals { All (IsTypedGoal types.now store.old) goals.now }
+    requires list { All (IsTypedGoal types.now store.old) list.old.items }
+    ensures resolved { IfOk result (λ kept. IsResolved types.now store.old store.new list.old.items goals.now (list.new.items ++ kept)) }
+    ensures adds { AddsTypedTerms types.now store.old store.new }
+    ensures steps { steps.old ≤ steps.new }
+{
+    let count = count_touched(store, goals)?;
+    let mut left = goals;
+    'touched: for _i in 0..count {
+        let Some((goal, behind)) = left.split_first() else {
+            unreachable!();
+        };
+        list.push(resolved_goal(alloc, types, store, goal, steps)?)?;
+        left = behind;
+    }
+    left.shared()
 }
 
 /// What the cell is bound to, if anything, with what cells in it are bound to in their places.

@@ -149,7 +149,7 @@ fn between(
 }
 
 /// The judgement of the list and the goal.
-fn judged(
+fn unmarked_judgement(
     alloc: Global,
     types: &TypeTable,
     store: &mut Store,
@@ -208,8 +208,8 @@ fn both_judged(
         ≡ both (judgements.judged (tree_of types.now store.old list) (tree_of types.now store.old left)) (judgements.judged (tree_of types.now store.old list) (tree_of types.now store.old right))) }
     ensures adds { AddsTypedTerms types.now store.old store.new }
 {
-    let left = judged(alloc, types, store, list, left)?;
-    let right = judged(alloc, types, store, list, right)?;
+    let left = unmarked_judgement(alloc, types, store, list, left)?;
+    let right = unmarked_judgement(alloc, types, store, list, right)?;
     between(alloc, types, store, Head::Logic(Logical::And), left, right)
 }
 
@@ -235,7 +235,7 @@ fn judged_under(
     match store.view(abstraction).copy(alloc)? {
         Node::Spine(_, _) => Ok(None),
         Node::Lam(_, hint, goal) => {
-            let inner = judged(alloc, types, store, list, goal)?;
+            let inner = unmarked_judgement(alloc, types, store, list, goal)?;
             let under = store.lam(ty, hint, inner)?;
             let nabla = Head::Logic(Logical::Nabla(ty));
             let formula = store.spine(nabla, Vec::from_array(alloc, [under])?)?;
@@ -270,7 +270,7 @@ pub(crate) fn layer_of(
         }
         Layer::Imply(given, asked) => {
             let list = list_before(alloc, world, given, list)?;
-            let opened = judged(alloc, &world.types, &mut world.store, list, asked)?;
+            let opened = unmarked_judgement(alloc, &world.types, &mut world.store, list, asked)?;
             Ok(Some(opened))
         }
         Layer::Pi(ty, abstraction) => {

@@ -35,7 +35,7 @@ fn is_one(types: &TypeTable, a: Nominal, b: Nominal) -> bool
 }
 
 /// The constant, or of the two the other one.
-fn exchanged(types: &TypeTable, x: Nominal, y: Nominal, a: Nominal) -> Nominal
+fn exchanged_constant(types: &TypeTable, x: Nominal, y: Nominal, a: Nominal) -> Nominal
     requires table { IsTable types.now }
     requires x { HoldsNominal types.now x }
     requires y { HoldsNominal types.now y }
@@ -69,7 +69,7 @@ fn exchange_all(
 {
     let mut list = Vec::new(alloc);
     for a in names {
-        list.push(exchanged(types, x, y, *a))?;
+        list.push(exchanged_constant(types, x, y, *a))?;
     }
     Ok(list)
 }

@@ -1,6 +1,7 @@
 //! Ways to go on in a search, and what comes of one.
 
 use crate::goal::Goal;
+use crate::goal_lists::Goals;
 use ab_norm::store::{CellId, Equation, TermId};
 
 /// A way to go on from a goal: the cells that may be bound, the sides that are to be made equal, and the goals that take the
@@ -26,7 +27,7 @@ pub struct Value {
 #[derive(Drop)]
 pub struct Place {
     pub flexible: Vec<CellId>,
-    pub goals: Vec<Goal>,
+    pub goals: Goals,
     pub answer: Vec<Value>,
 }
 

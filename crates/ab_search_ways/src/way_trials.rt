@@ -14,8 +14,8 @@ ghost use Rattle.ab_search_ways.specs.GoalReadings.{goal_read, HoldsGoal, IsType
 ghost use Rattle.ab_search_ways.specs.MadeWays.{HoldsWay, IsTypedWay, IsMade, IsTried};
 ghost use Rattle.ab_search_ways.specs.GoalsLeft.{IsLeft};
 
-use crate::goal::Goal;
-use crate::goals_left::{add_resolved, add_unbound, values_of};
+use crate::goal_lists::Goals;
+use crate::goals_left::{add_resolved, add_touched, add_unbound, values_of};
 use crate::way::{Place, Tried, Way};
 use ab_logic::World;
 use ab_norm::store::{CellId, Store};
@@ -30,7 +30,7 @@ fn place_ahead<L>(
     store: &mut Store,
     way: &Way,
     made: &[CellId],
-    rest: &[Goal],
+    rest: &Goals,
     steps: &mut Steps<L>,
 ) -> Result<Place, AllocError>
     requires store { IsTypedBy types.now store.old }
@@ -46,9 +46,10 @@ fn place_ahead<L>(
     let mut flexible = Vec::new(alloc);
     add_unbound(store, &way.flexible, &mut flexible)?;
     add_unbound(store, made, &mut flexible)?;
-    let mut goals = Vec::new(alloc);
-    add_resolved(alloc, types, store, &way.goals, &mut goals, steps)?;
-    add_resolved(alloc, types, store, rest, &mut goals, steps)?;
+    let mut list = Vec::new(alloc);
+    add_resolved(alloc, types, store, &way.goals, &mut list, steps)?;
+    let kept = add_touched(alloc, types, store, rest, &mut list, steps)?;
+    let goals = kept.with_all(alloc, list)?;
     let answer = values_of(alloc, types, store, &way.flexible, steps)?;
     Ok(Place {
         flexible,
@@ -62,7 +63,7 @@ fn solve_way<L>(
     alloc: Global,
     world: &mut World,
     way: &Way,
-    rest: &[Goal],
+    rest: &Goals,
     steps: &mut Steps<L>,
 ) -> Result<Tried, AllocError>
     requires world { IsWorld world.old }
@@ -112,7 +113,7 @@ pub fn try_way<L>(
     alloc: Global,
     world: &mut World,
     way: &Way,
-    rest: &[Goal],
+    rest: &Goals,
     steps: &mut Steps<L>,
 ) -> Result<Tried, AllocError>
     requires world { IsWorld world.old }

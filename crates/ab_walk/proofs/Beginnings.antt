@@ -15,7 +15,7 @@ use Rattle.ab_norm.specs.ab_store.specs.declared.node.TermId.{TermId}
 use Rattle.ab_norm.specs.Nominals.{HoldsNominal}
 use Rattle.ab_unifiers.specs.Choices.{in_order}
 use Rattle.ab_unifiers.proofs.Choosing.{ordered_pairs}
-use Rattle.ab_unify.specs.Problem.{cell_read, cells_read}
+use Rattle.ab_unify.specs.Problem.{cell_read, cells_read, variables_read}
 use Rattle.ab_unify.specs.StoreChanges.{IsFree}
 use Rattle.ab_next_ways.specs.ab_judgements.specs.ab_alternatives.specs.ab_instances.specs.ListReadings.{names_read}
 use Rattle.ab_formulas.specs.Declarations.{signature_in}
@@ -29,11 +29,13 @@ use Rattle.ab_logic.specs.declared.sequent.Sequent.{Sequent as Kept}
 use Rattle.ab_logic.specs.declared.sequent.Hypothesis.{Hypothesis}
 use Rattle.ab_logic.proofs.Growing.{same_constants}
 use Rattle.ab_search_trees.specs.Goals as tree
-use Rattle.ab_search_trees.specs.Goals.{beginning, first_goal}
-use Rattle.ab_search_trees.specs.Tree.{Leaf, Leaves}
+use Rattle.ab_search_trees.specs.Goals.{Now, beginning, first_goal}
+use Rattle.ab_search_trees.specs.Tree.{Leaf}
 use Rattle.ab_search_trees.specs.Outcomes.{Searched}
 use Rattle.ab_search_trees.proofs.Facts.{AllTasks}
 use Rattle.ab_search_trees.proofs.Root.{task}
+use Rattle.ab_search_trees.proofs.Some.{turns_from, some_walk}
+use Rattle.ab_search_trees.proofs.Walks.{Walked, leaves_walked}
 use Rattle.ab_next_ways.specs.ab_search_ways.specs.Answers.{HoldsValue}
 use Rattle.ab_next_ways.specs.ab_search_ways.specs.GoalReadings.{goal_read, HoldsGoal, IsAside, IsPlace}
 use Rattle.ab_next_ways.specs.ab_search_ways.specs.declared.goal.Goal.{Goal}
@@ -42,6 +44,18 @@ use Rattle.ab_walk.specs.Places.{HasLeaves}
 
 abbrev goal_of : List Read → Read → ℕ → List Nominal → Bool → ℕ → Bool → tree.Goal
 goal_of hs F d ns u l m = record { hypotheses = hs; conclusion = F; depth = d; constants = ns; untouched = u; layers = l; member_first = m }
+
+-- the variables where a search begins: from its cells, and the constants of its goal
+abbrev now_at : World → List CellId → List Nominal → Now
+now_at w flexible ns = record { cells = cells_read w.types w.store; flexible = variables_read w.types w.store flexible; answer = []; held = ns }
+
+abbrev turns_of : World → List TermId → List CellId → List Goal → ℕ
+turns_of w base flexible [] = 0
+turns_of w base flexible (k ∷ ks) = turns_from (declarations_of w) (now_at w flexible (names_read w.types k.constants.items)) (goal_read w base k)
+
+-- SO MANY TURNS lead through the tree of the place's first goal
+pub turns_at : World → List TermId → Place → ℕ
+turns_at w base p = turns_of w base p.flexible.items p.goals
 
 abbrev pub formula_of : Hypothesis → TermId
 formula_of h = h.formula
@@ -101,20 +115,45 @@ module _ (w : World) (is : IsWorld w) (p : Kept) (held : HoldsSequent w p) (sequ
           (All-nil (HoldsGoal w));
     }
 
-  -- WHERE THE SEARCH BEGINS has the sequent's leaves
-  pub begins : (depth : ℕ) (base : List TermId) (place : Place) → place.answer.items ≡ [] → IsPlace w base place.flexible.items place.goals.items (beginning (cells_read w.types w.store) (sequent_of w p)) (first_goal depth (sequent_of w p) ∷ [])
-      → (ls : List Leaf) → Searched (declarations_of w) (cells_read w.types w.store) depth (sequent_of w p) ls → HasLeaves w base place ls
-  begins depth base place none is_place ls searched =
-      let D = declarations_of w in
-      let cells = cells_read w.types w.store in
-      let s = sequent_of w p in
-      let now = beginning cells s in (
-        now,
-        record {
-          place = record { variables = is_place.variables; aside = is_place.aside; reads = refl; held = is_place.held };
-          flexible = λ y h. absurd (false≢true h);
-          tasks = subst (AllTasks (signature_in D) now) (sym is_place.reads) (task D cells depth s sequent are_cells, tt);
-          answer = subst (All (HoldsValue w.types w.store)) (sym none) (All-nil (HoldsValue w.types w.store));
-        },
-        subst (λ gs. Leaves D now gs ls) (sym is_place.reads) searched,
-      )
+  -- WHERE THE SEARCH BEGINS has the sequent's leaves, and these turns lead through them
+  module _ (depth : ℕ) (base : List TermId) (place : Place) (none : place.answer.items ≡ [])
+      (is_place : IsPlace w base place.flexible.items place.goals (beginning (cells_read w.types w.store) (sequent_of w p)) (first_goal depth (sequent_of w p) ∷ [])) where
+    abbrev now : Now
+    now = beginning (cells_read w.types w.store) (sequent_of w p)
+
+    abbrev first : tree.Goal
+    first = first_goal depth (sequent_of w p)
+
+    same_now : (ns : List Nominal) → ns ≡ in_order (goal_names (sequent_of w p)) → now ≡ now_at w place.flexible.items ns
+    same_now ns e =
+        ap (λ l. record { cells = cells_read w.types w.store; flexible = l; answer = []; held = in_order (goal_names (sequent_of w p)) }) (sym is_place.variables.replaced)
+        ∙ ap (λ l. record { cells = cells_read w.types w.store; flexible = variables_read w.types w.store place.flexible.items; answer = []; held = l }) (sym e)
+
+    same_turns : (gs : List Goal) → map (goal_read w base) gs ≡ first ∷ [] → turns_from (declarations_of w) now first ≡ turns_of w base place.flexible.items gs
+    same_turns [] e = absurd (cc)
+    same_turns (k ∷ ks) e =
+        let same : goal_read w base k ≡ first = cc in
+        ap (λ m. turns_from (declarations_of w) m first) (same_now (names_read w.types k.constants.items) (ap (λ (g : tree.Goal). g.constants) same))
+        ∙ ap (turns_from (declarations_of w) (now_at w place.flexible.items (names_read w.types k.constants.items))) (sym same)
+
+    pub begins : (ls : List Leaf) × Searched (declarations_of w) (cells_read w.types w.store) depth (sequent_of w p) ls × HasLeaves w base place ls (turns_at w base place)
+    unfolding turns_at
+    begins =
+        let D = declarations_of w in
+        let sg = signature_in D in
+        let cells = cells_read w.types w.store in
+        let s = sequent_of w p in
+        let walk = some_walk D is.definitions now first (All-head (IsFormula sg) s.conclusion (formulas s.hypotheses) sequent.formulas).stands in (
+          walk.0,
+          leaves_walked D walk.1,
+          (
+            now,
+            record {
+              place = record { variables = is_place.variables; aside = is_place.aside; reads = refl; held = is_place.held };
+              flexible = λ y h. absurd (false≢true h);
+              tasks = subst (AllTasks sg now) (sym is_place.reads) (task D cells depth s sequent are_cells, tt);
+              answer = subst (All (HoldsValue w.types w.store)) (sym none) (All-nil (HoldsValue w.types w.store));
+            },
+            subst (λ gs. Walked D now gs walk.0 (turns_at w base place)) (sym is_place.reads) (subst (Walked D now (first ∷ []) walk.0) (same_turns place.goals is_place.reads) walk.1),
+          ),
+        )

@@ -34,9 +34,9 @@ use Rattle.ab_walk.specs.Places.{goals_read, IsSearched}
 use Rattle.ab_walk.specs.Standing.{AreLeaves, LeftAt, IsOpen, IsLater}
 
 -- the same of declarations and goals that are the same
-pub leaves_for : (now : Now) (types : Table) (D E : Declarations) → D ≡ E → (g h : Goal) → g ≡ h → (gs hs : List Goal) → gs ≡ hs → (c : Cursor) (ls : List Leaf) → AreLeaves E now types h hs c ls → AreLeaves D now types g gs c ls
-leaves_for now types D E d g h e gs hs f c ls a =
-    subst (λ F. AreLeaves F now types g gs c ls) (sym d) (subst (λ k. AreLeaves E now types k gs c ls) (sym e) (subst (λ ks. AreLeaves E now types h ks c ls) (sym f) a))
+pub leaves_for : (now : Now) (types : Table) (D E : Declarations) → D ≡ E → (g h : Goal) → g ≡ h → (gs hs : List Goal) → gs ≡ hs → (c : Cursor) (ls : List Leaf) (n : ℕ) → AreLeaves E now types h hs c ls n → AreLeaves D now types g gs c ls n
+leaves_for now types D E d g h e gs hs f c ls n a =
+    subst (λ F. AreLeaves F now types g gs c ls n) (sym d) (subst (λ k. AreLeaves E now types k gs c ls n) (sym e) (subst (λ ks. AreLeaves E now types h ks c ls n) (sym f) a))
 
 -- what a cursor names stays where types are added
 module _ (w v : World) (part : IsPartOf w.types v.types) (base : List TermId) (k : Kept) (same : goal_read v base k ≡ goal_read w base k) where
@@ -104,27 +104,27 @@ module _ (w v : World) (later : IsLater w v) where
             };
             aside = all_aside w v later.grows p.flexible.items base s.place.aside;
             reads = refl;
-            held = goals_held p.goals.items s.place.held;
+            held = goals_held p.goals s.place.held;
           };
           flexible = s.flexible;
-          tasks = tasks_later now (goals_read w base p.goals.items) (goals_read v base p.goals.items) (goals_same p.flexible.items base s.place.aside p.goals.items s.place.held) s.tasks;
+          tasks = tasks_later now (goals_read w base p.goals) (goals_read v base p.goals) (goals_same p.flexible.items base s.place.aside p.goals s.place.held) s.tasks;
           answer = values_later w v later.grows p.answer.items s.answer;
         }
 
-    left_at_later : (flexible : List CellId) (base : List TermId) → All (IsAside w flexible) base → (now : Now) (ks : List Kept) → All (HoldsGoal w) ks → (c : Cursor) (ls : List Leaf) → LeftAt w base now ks c ls → LeftAt v base now ks c ls
-    left_at_later flexible base aside now [] held c ls l = l
-    left_at_later flexible base aside now (k ∷ ks) held c ls l =
+    left_at_later : (flexible : List CellId) (base : List TermId) → All (IsAside w flexible) base → (now : Now) (ks : List Kept) → All (HoldsGoal w) ks → (c : Cursor) (ls : List Leaf) (n : ℕ) → LeftAt w base now ks c ls n → LeftAt v base now ks c ls n
+    left_at_later flexible base aside now [] held c ls n l = l
+    left_at_later flexible base aside now (k ∷ ks) held c ls n l =
         let D = declarations_of w in
         let part = later.grows.types in
         let same = goal_same w v later.grows flexible base aside k (All-head (HoldsGoal w) k ks held) in
         let rest = goals_same flexible base aside ks (All-tail (HoldsGoal w) k ks held) in
         let at = l.1 in (
           cursor_carried w v part base k same c l.0,
-          leaves_for now v.types (declarations_of v) D later.declared (goal_read v base k) (goal_read w base k) same (goals_read v base ks) (goals_read w base ks) rest c ls
-              (record { ways = at.ways; front = at.front; left = left_carried w v part base k same D now (goal_read w base k) at.ways c l.0 at.left; fine = at.fine; by = at.by; all = at.all }),
+          leaves_for now v.types (declarations_of v) D later.declared (goal_read v base k) (goal_read w base k) same (goals_read v base ks) (goals_read w base ks) rest c ls n
+              (record { ways = at.ways; front = at.front; left = left_carried w v part base k same D now (goal_read w base k) at.ways c l.0 at.left; fine = at.fine; turns = at.turns; by = at.by; all = at.all; many = at.many }),
         )
 
-    pub open_later : (base : List TermId) (p : Place) (c : Cursor) (ls : List Leaf) → IsOpen w base p c ls → IsOpen v base p c ls
-    open_later base p c ls o =
+    pub open_later : (base : List TermId) (p : Place) (c : Cursor) (ls : List Leaf) (n : ℕ) → IsOpen w base p c ls n → IsOpen v base p c ls n
+    open_later base p c ls n o =
         let s = o.1 in
-        (o.0, searched_later base p o.0 s, left_at_later p.flexible.items base s.place.aside o.0 p.goals.items s.place.held c ls o.2)
+        (o.0, searched_later base p o.0 s, left_at_later p.flexible.items base s.place.aside o.0 p.goals s.place.held c ls n o.2)

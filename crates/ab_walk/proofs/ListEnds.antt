@@ -1,13 +1,6 @@
--- The first and the last item of a list.
-use Rattle.std.proofs.Common.{◌≡◌, ℕ, suc, ◌-◌, ◌<◌, ◌≤◌, List, [], ◌∷◌, ◌++◌, length, take, drop, get_or, set, refl, sym, ◌∙◌, ap, arith, take_all, length-append}
+-- The last item of a list.
+use Rattle.std.proofs.Common.{◌≡◌, ℕ, suc, ◌-◌, ◌<◌, List, [], ◌∷◌, ◌++◌, length, get_or, set, refl, sym, ◌∙◌, ap, arith, length-append}
 use Rattle.std.proofs.Math.Seq.{set-append_seam}
-
--- the first, and those behind it
-pub parted : {X : Type 0} (xs : List X) (x : X) → 1 ≤ length xs → x ≡ get_or xs 0 x → xs ≡ x ∷ take (length xs - 1) (drop 1 xs)
-parted [] x l e = absurd (omega (arith, l))
-parted (a ∷ xs) x l e =
-    let less : suc (length xs) - 1 ≡ length xs = omega arith in
-    ap (λ k. k ∷ xs) (sym e) ∙ ap (λ l. x ∷ l) (sym (ap (λ n. take n xs) less ∙ take_all (length xs) xs (omega arith)))
 
 pub not_empty : {X : Type 0} (xs : List X) (x : X) → xs ++ x ∷ [] ≡ [] → ⊥
 not_empty [] x e = absurd (cc)

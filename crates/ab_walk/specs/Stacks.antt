@@ -1,5 +1,5 @@
 -- THE STACK OF A WALK: the places whose ways are being gone, and which leaves are still to come. Public contracts don't speak of it.
-use Rattle.std.specs.Prelude.{◌≡◌, List, [], ◌∷◌, ◌++◌, length, Option, Some, None}
+use Rattle.std.specs.Prelude.{◌≡◌, ℕ, ◌+◌, ◌<◌, List, [], ◌∷◌, ◌++◌, length, Option, Some, None}
 use Rattle.ab_norm.specs.ab_store.specs.declared.node.TermId.{TermId}
 use Rattle.ab_norm.specs.ab_store.specs.declared.mark.Mark.{Mark}
 use Rattle.ab_norm.specs.ab_store.specs.Marks.{HasMark}
@@ -23,26 +23,26 @@ pub record IsBefore (u : World) (m : Mark) (w : World) : Type 0 where
   pub nodes : m.nodes ≡ length u.store.nodes
   pub cells : m.cells ≡ length u.store.cells
 
--- THESE LEAVES ARE STILL TO COME at the places: those of the last one, and then those of the others, each in the world before
--- the way to the next was made
-pub data IsStack (first : World) (base : List TermId) : World → List Frame → List Leaf → Type 0 where
-  no_frame : {w : World} → IsAgain first w → IsStack first base w [] []
-  a_frame : {u w : World} {fs : List Frame} {back : List Leaf} (f : Frame) (front : List Leaf)
-      → IsBefore u f.mark w → IsOpen w base f.place f.cursor front → IsStack first base u fs back → IsStack first base w (fs ++ f ∷ []) (front ++ back)
+-- THESE LEAVES ARE STILL TO COME at the places, in so many turns: those of the last one, and then those of the others, each in the
+-- world before the way to the next was made
+pub data IsStack (first : World) (base : List TermId) : World → List Frame → List Leaf → ℕ → Type 0 where
+  no_frame : {w : World} → IsAgain first w → IsStack first base w [] [] 0
+  a_frame : {u w : World} {fs : List Frame} {back : List Leaf} {n : ℕ} (f : Frame) (front : List Leaf) (m : ℕ)
+      → IsBefore u f.mark w → IsOpen w base f.place f.cursor front m → IsStack first base u fs back n → IsStack first base w (fs ++ f ∷ []) (front ++ back) (m + n)
 
 -- what was seen tells these leaves
 abbrev pub IsTold : List Leaf → Seen → Type 0
 IsTold done seen = Tells done (Not seen.stuck seen.blind)
 
--- THE WALK STANDS SO: all leaves are those that were seen, and then those that are still to come
-pub record IsUnderway (first : World) (base : List TermId) (ls : List Leaf) (w : World) (frames : List Frame) (seen : Seen) : Type 0 where
+-- THE WALK STANDS SO: all leaves are those that were seen, and then those that are still to come, in so many turns
+pub record IsUnderway (first : World) (base : List TermId) (ls : List Leaf) (n : ℕ) (w : World) (frames : List Frame) (seen : Seen) : Type 0 where
   pub done : List Leaf
   pub left : List Leaf
   pub all : ls ≡ done ++ left
-  pub stack : IsStack first base w frames left
+  pub stack : IsStack first base w frames left n
   pub told : IsTold done seen
 
--- it goes on, or tells the leaves, and where the goals were closed the places stand on the path
-abbrev pub GoesOn : World → List TermId → List Leaf → World → List Frame → Seen → Option Told → Type 0
-GoesOn first base ls w frames seen None = IsUnderway first base ls w frames seen
-GoesOn first base ls w frames seen (Some told) = Tells ls told × UnlessFound told (IsAsBefore first w) × WhereFound told (HoldsPath w.types w.store frames)
+-- it goes on, with fewer turns to come, or tells the leaves, and where the goals were closed the places stand on the path
+abbrev pub GoesOn : World → List TermId → List Leaf → ℕ → World → List Frame → Seen → Option Told → Type 0
+GoesOn first base ls n w frames seen None = (m : ℕ) × (m < n) × IsUnderway first base ls m w frames seen
+GoesOn first base ls n w frames seen (Some told) = Tells ls told × UnlessFound told (IsAsBefore first w) × WhereFound told (HoldsPath w.types w.store frames)

@@ -1,5 +1,5 @@
--- Which leaves of a place are still to come, by where the search of its first goal stands. Public contracts don't speak of it.
-use Rattle.std.specs.Prelude.{◌≡◌, List, [], ◌∷◌, ◌++◌, Bool, cond}
+-- Which leaves of a place are still to come, and in how many turns, by where the search of its first goal stands. Public contracts don't speak of it.
+use Rattle.std.specs.Prelude.{◌≡◌, ℕ, suc, ◌+◌, ◌<◌, List, [], ◌∷◌, ◌++◌, length, Bool, cond}
 use Rattle.ab_norm.specs.ab_types.specs.Entries.{Table}
 use Rattle.ab_norm.specs.ab_store.specs.declared.node.TermId.{TermId}
 use Rattle.ab_formulas.specs.Declarations.{Declarations}
@@ -8,12 +8,14 @@ use Rattle.ab_logic.specs.Worlds.{declarations_of}
 use Rattle.ab_logic.specs.declared.world.World.{World}
 use Rattle.ab_search_trees.specs.Goals.{Goal, Now}
 use Rattle.ab_search_trees.specs.Ways.{Way}
-use Rattle.ab_search_trees.specs.Tree.{Leaf, found, stuck_at, blind, unseen, LeavesBy}
+use Rattle.ab_search_trees.specs.Tree.{Leaf, found, stuck_at, blind, unseen}
 use Rattle.ab_search_trees.proofs.Shows.{EachFine}
+use Rattle.ab_search_trees.proofs.Walks.{WalkedBy}
 use Rattle.ab_next_ways.specs.ab_search_ways.specs.GoalReadings.{goal_read}
 use Rattle.ab_next_ways.specs.ab_search_ways.specs.declared.goal.Goal.{Goal as Kept}
 use Rattle.ab_next_ways.specs.ab_search_ways.specs.declared.way.Place.{Place}
 use Rattle.ab_next_ways.specs.Cursors.{AreLeft, HoldsCursor}
+use Rattle.ab_next_ways.specs.Stages.{stage}
 use Rattle.ab_next_ways.specs.declared.cursor.Cursor.{Cursor}
 use Rattle.ab_next_ways.specs.declared.cursor.Cursor.TheVariants.{Start}
 use Rattle.ab_walk.specs.Places.{goals_read, IsSearched}
@@ -21,22 +23,24 @@ use Rattle.ab_walk.specs.Told.{IsAsBefore}
 use Rattle.ab_walk.specs.declared.turns.Turn.{Turn}
 use Rattle.ab_walk.specs.declared.turns.Turn.TheVariants.{Closed, Ended, Nothing, Stuck, Ahead}
 
--- THE LEAVES STILL TO COME from a goal with these goals behind: those on the ways left, and where the search is blind
-pub record AreLeaves (D : Declarations) (now : Now) (types : Table) (g : Goal) (gs : List Goal) (c : Cursor) (ls : List Leaf) : Type 0 where
+-- THE LEAVES STILL TO COME from a goal with these goals behind, in so many turns: those on the ways left, and where the search is blind
+pub record AreLeaves (D : Declarations) (now : Now) (types : Table) (g : Goal) (gs : List Goal) (c : Cursor) (ls : List Leaf) (n : ℕ) : Type 0 where
   pub ways : List Way
   pub front : List Leaf
   pub left : AreLeft D now g types c ways
   pub fine : EachFine D now g ways
-  pub by : LeavesBy D now ways gs front
+  pub turns : ℕ
+  pub by : WalkedBy D now ways gs front turns
   pub all : ls ≡ front ++ unseen now g
+  pub many : n ≡ suc (stage (length g.hypotheses) c + turns)
 
-abbrev pub LeftAt : World → List TermId → Now → List Kept → Cursor → List Leaf → Type 0
-LeftAt w base now [] c ls = ls ≡ found now ∷ []
-LeftAt w base now (k ∷ ks) c ls = HoldsCursor w base k c × AreLeaves (declarations_of w) now w.types (goal_read w base k) (goals_read w base ks) c ls
+abbrev pub LeftAt : World → List TermId → Now → List Kept → Cursor → List Leaf → ℕ → Type 0
+LeftAt w base now [] c ls n = ls ≡ found now ∷ []
+LeftAt w base now (k ∷ ks) c ls n = HoldsCursor w base k c × AreLeaves (declarations_of w) now w.types (goal_read w base k) (goals_read w base ks) c ls n
 
 -- those of the place
-abbrev pub IsOpen : World → List TermId → Place → Cursor → List Leaf → Type 0
-IsOpen w base p c ls = (now : Now) × IsSearched w base p now × LeftAt w base now p.goals.items c ls
+abbrev pub IsOpen : World → List TermId → Place → Cursor → List Leaf → ℕ → Type 0
+IsOpen w base p c ls n = (now : Now) × IsSearched w base p now × LeftAt w base now p.goals c ls n
 
 -- the second world came of the first: it grew, and declares the same
 pub record IsLater (u w : World) : Type 0 where
@@ -49,18 +53,20 @@ pub record IsAgain (u w : World) : Type 0 where
   pub same : IsAsBefore u w
 
 -- wherever the first world is again, with the types of the second
-abbrev pub IsOpenAgain : World → World → List TermId → Place → Cursor → List Leaf → Type 0
-IsOpenAgain old new base p c ls = (x : World) → IsAgain old x → x.types ≡ new.types → IsOpen x base p c ls
+abbrev pub IsOpenAgain : World → World → List TermId → Place → Cursor → List Leaf → ℕ → Type 0
+IsOpenAgain old new base p c ls n = (x : World) → IsAgain old x → x.types ≡ new.types → IsOpen x base p c ls n
 
 abbrev pub blind_if : Bool → List Leaf
 blind_if b = cond b (blind ∷ []) []
 
 -- WHAT A TURN AT THE PLACE DID with the leaves that were still to come: it was the one of a closed goal; those of the ways were
--- over; none was passed; an equation outside the patterns was; or those of another place come first
-module _ (old : World) (base : List TermId) (p : Place) (c : Cursor) (new : World) (ls : List Leaf) where
+-- over; none was passed; an equation outside the patterns was; or those of another place come first. Fewer turns are to come.
+module _ (old : World) (base : List TermId) (p : Place) (c : Cursor) (new : World) (ls : List Leaf) (n : ℕ) where
   abbrev pub IsTurn : Turn → Type 0
   IsTurn Closed = (now : Now) × (ls ≡ found now ∷ [])
-  IsTurn (Ended here) = ls ≡ blind_if here
-  IsTurn Nothing = IsOpenAgain old new base p c ls
-  IsTurn (Stuck i) = (rest : List Leaf) × (ls ≡ stuck_at i ∷ rest) × IsOpenAgain old new base p c rest
-  IsTurn (Ahead q) = (front : List Leaf) × (rest : List Leaf) × (ls ≡ front ++ rest) × IsOpen new base q Start front × IsOpenAgain old new base p c rest
+  IsTurn (Ended here) = (ls ≡ blind_if here) × (0 < n)
+  IsTurn Nothing = (m : ℕ) × (m < n) × IsOpenAgain old new base p c ls m
+  IsTurn (Stuck i) = (rest : List Leaf) × (ls ≡ stuck_at i ∷ rest) × (m : ℕ) × (m < n) × IsOpenAgain old new base p c rest m
+  IsTurn (Ahead q) =
+      (front : List Leaf) × (rest : List Leaf) × (ls ≡ front ++ rest)
+      × (k : ℕ) × (m : ℕ) × (k + m < n) × IsOpen new base q Start front k × IsOpenAgain old new base p c rest m

@@ -1,5 +1,5 @@
 //! The places on the way to where a walk stands, the last one last.
-ghost use Rattle.std.specs.Prelude.{◌≡◌, ◌≤◌, ◌++◌, ◌∷◌, [], List, IfOk};
+ghost use Rattle.std.specs.Prelude.{◌≡◌, ℕ, ◌≤◌, ◌++◌, ◌∷◌, [], List, IfOk};
 ghost use Rattle.ab_norm.specs.ab_store.specs.declared.node.TermId.{TermId as AnId};
 ghost use Rattle.ab_logic.specs.Worlds.{IsWorld};
 ghost use Rattle.ab_logic.specs.declared.world.World.{World as AWorld};
@@ -30,8 +30,8 @@ pub struct Frame {
 /// Leaves the last place, and takes back what was made on the way to it.
 fn leave<L>(world: &mut World, stack: &mut Vec<Frame>, steps: &mut Steps<L>)
     requires before { (fs : List AFrame) × (f : AFrame) × (u : AWorld) × (stack.old.items ≡ fs ++ f ∷ []) × IsBefore u f.mark world.old }
-    ensures left { (first : AWorld) (base : List AnId) (fs : List AFrame) (f : AFrame) (u : AWorld) (ls : List Leaf) → stack.old.items ≡ fs ++ f ∷ [] →
-        IsBefore u f.mark world.old → IsStack first base u fs ls → IsStack first base world.new stack.new.items ls }
+    ensures left { (first : AWorld) (base : List AnId) (fs : List AFrame) (f : AFrame) (u : AWorld) (ls : List Leaf) (n : ℕ) → stack.old.items ≡ fs ++ f ∷ [] →
+        IsBefore u f.mark world.old → IsStack first base u fs ls n → IsStack first base world.new stack.new.items ls n }
     ensures steps { steps.old ≤ steps.new }
 {
     if let Some(frame) = stack.pop() {
@@ -49,10 +49,10 @@ pub(crate) fn take_step<L>(
     steps: &mut Steps<L>,
 ) -> Result<Option<Told>, AllocError>
     requires world { IsWorld world.old }
-    requires underway { (first : AWorld) × (ls : List Leaf) × IsUnderway first base.now ls world.old stack.old.items seen.old }
-    ensures goes_on { IfOk result (λ told. (first : AWorld) (ls : List Leaf) → IsUnderway first base.now ls world.old stack.old.items seen.old →
-        GoesOn first base.now ls world.new stack.new.items seen.new told) }
-    ensures later { (first : AWorld) (ls : List Leaf) → IsUnderway first base.now ls world.old stack.old.items seen.old → IsLater first world.new }
+    requires underway { (first : AWorld) × (ls : List Leaf) × (n : ℕ) × IsUnderway first base.now ls n world.old stack.old.items seen.old }
+    ensures goes_on { IfOk result (λ told. (first : AWorld) (ls : List Leaf) (n : ℕ) → IsUnderway first base.now ls n world.old stack.old.items seen.old →
+        GoesOn first base.now ls n world.new stack.new.items seen.new told) }
+    ensures later { (first : AWorld) (ls : List Leaf) (n : ℕ) → IsUnderway first base.now ls n world.old stack.old.items seen.old → IsLater first world.new }
     ensures steps { steps.old ≤ steps.new }
 {
     let mark = world.store.mark();

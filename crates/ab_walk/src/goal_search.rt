@@ -17,7 +17,7 @@ use crate::frames::Frame;
 use crate::walk::{Told, walk};
 use ab_logic::{Sequent, World};
 use ab_next_ways::judgements::alternatives::goal_constants;
-use ab_next_ways::ways::{Goal, Place};
+use ab_next_ways::ways::{Goal, Goals, Place};
 use ab_norm::store::TermId;
 use ab_norm::types::Steps;
 use std::alloc::{AllocError, Global};
@@ -48,7 +48,7 @@ fn first_place(
     requires sequent { IsSequent (declarations_of world.now) (sequent_of world.now goal.now) }
     ensures place { IfOk result (λ place. (base : List AnId) → base ≡ map (λ h. h.formula) goal.now.hypotheses →
         let s = sequent_of world.now goal.now in
-        IsPlace world.now base place.flexible.items place.goals.items (beginning (cells_read world.now.types world.now.store) s) (first_goal depth s ∷ [])) }
+        IsPlace world.now base place.flexible.items place.goals (beginning (cells_read world.now.types world.now.store) s) (first_goal depth s ∷ [])) }
     ensures answer { IfOk result (λ place. place.answer.items ≡ []) }
 {
     let first = Goal {
@@ -62,7 +62,7 @@ fn first_place(
     };
     Ok(Place {
         flexible: Vec::new(alloc),
-        goals: Vec::from_array(alloc, [first])?,
+        goals: Goals::none().with_first(alloc, first)?,
         answer: Vec::new(alloc),
     })
 }

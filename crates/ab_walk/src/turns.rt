@@ -1,5 +1,5 @@
 //! One turn at a place of a search tree.
-ghost use Rattle.std.specs.Prelude.{◌≡◌, ◌≤◌, List, IfOk};
+ghost use Rattle.std.specs.Prelude.{◌≡◌, ℕ, ◌≤◌, List, IfOk};
 ghost use Rattle.ab_logic.specs.WorldGrowth.{Grows};
 ghost use Rattle.ab_logic.specs.Worlds.{IsWorld, declarations_of};
 ghost use Rattle.ab_search_trees.specs.Tree.{Leaf};
@@ -37,13 +37,13 @@ pub(crate) fn take_turn<L>(
     steps: &mut Steps<L>,
 ) -> Result<Turn, AllocError>
     requires world { IsWorld world.old }
-    requires open { (ls : List Leaf) × IsOpen world.old base.now place.now cursor.old ls }
-    ensures turn { IfOk result (λ turn. (ls : List Leaf) → IsOpen world.old base.now place.now cursor.old ls → IsTurn world.old base.now place.now cursor.new world.new ls turn) }
+    requires open { (ls : List Leaf) × (n : ℕ) × IsOpen world.old base.now place.now cursor.old ls n }
+    ensures turn { IfOk result (λ turn. (ls : List Leaf) (n : ℕ) → IsOpen world.old base.now place.now cursor.old ls n → IsTurn world.old base.now place.now cursor.new world.new ls n turn) }
     ensures grows { Grows world.old world.new }
     ensures declared { declarations_of world.new ≡ declarations_of world.old }
     ensures steps { steps.old ≤ steps.new }
 {
-    let [goal, rest @ ..] = place.goals.as_slice() else {
+    let Some((goal, rest)) = place.goals.split_first() else {
         return Ok(Turn::Closed);
     };
     let flexible = place.flexible.as_slice();

@@ -1,5 +1,5 @@
 //! The walk of a search tree.
-ghost use Rattle.std.specs.Prelude.{◌≡◌, ◌≤◌, [], List, IfOk};
+ghost use Rattle.std.specs.Prelude.{◌≡◌, ℕ, ◌≤◌, [], List, IfOk};
 ghost use Rattle.ab_logic.specs.WorldGrowth.{Grows};
 ghost use Rattle.ab_logic.specs.Worlds.{IsWorld, declarations_of};
 ghost use Rattle.ab_search_trees.specs.Tree.{Leaf};
@@ -26,7 +26,7 @@ pub enum Told {
 }
 
 /// Goes on from the place until every goal is closed, or no place is left. The stack is empty before; where every goal was closed, it
-/// holds the places on the way. More turns than there are numbers of 64 bits are answered by want of memory.
+/// holds the places on the way. No more turns are taken than lead through the leaves.
 fn walk_on<L>(
     alloc: Global,
     world: &mut World,
@@ -35,10 +35,11 @@ fn walk_on<L>(
     stack: &mut Vec<Frame>,
     steps: &mut Steps<L>,
 ) -> Result<Told, AllocError>
+    ghost turns: { ℕ }
     requires world { IsWorld world.old }
-    requires place { (ls : List Leaf) × HasLeaves world.old base.now place ls }
+    requires place { (ls : List Leaf) × HasLeaves world.old base.now place ls turns }
     requires empty { stack.old.items ≡ [] }
-    ensures told { IfOk result (λ told. (ls : List Leaf) → HasLeaves world.old base.now place ls → Tells ls told) }
+    ensures told { IfOk result (λ told. (ls : List Leaf) → HasLeaves world.old base.now place ls turns → Tells ls told) }
     ensures as_before { IfOk result (λ told. UnlessFound told (IsAsBefore world.old world.new)) }
     ensures path { IfOk result (λ told. WhereFound told (HoldsPath world.new.types world.new.store stack.new.items)) }
     ensures grows { Grows world.old world.new }
@@ -56,12 +57,13 @@ fn walk_on<L>(
         stuck: None,
         blind: false,
     };
-    'turns: for _ in 0..usize::MAX {
+    let mut taken = Steps::<()>::new();
+    'turns: loop {
+        taken.tick();
         if let Some(told) = take_step(alloc, world, base, stack, &mut seen, steps)? {
             return Ok(told);
         }
     }
-    Err(AllocError)
 }
 
 /// THE WALK from a place of the tree, whose goals these are: each way of the first is tried, one after another, and where it leads
@@ -76,10 +78,11 @@ pub(crate) fn walk<L>(
     path: &mut Vec<Frame>,
     steps: &mut Steps<L>,
 ) -> Result<Told, AllocError>
+    ghost turns: { ℕ }
     requires world { IsWorld world.old }
-    requires place { (ls : List Leaf) × HasLeaves world.old base.now place ls }
+    requires place { (ls : List Leaf) × HasLeaves world.old base.now place ls turns }
     requires empty { path.old.items ≡ [] }
-    ensures told { IfOk result (λ told. (ls : List Leaf) → HasLeaves world.old base.now place ls → Tells ls told) }
+    ensures told { IfOk result (λ told. (ls : List Leaf) → HasLeaves world.old base.now place ls turns → Tells ls told) }
     ensures as_before { IfOk result (λ told. UnlessFound told (IsAsBefore world.old world.new)) }
     ensures path { IfOk result (λ told. WhereFound told (HoldsPath world.new.types world.new.store path.new.items)) }
     ensures grows { Grows world.old world.new }

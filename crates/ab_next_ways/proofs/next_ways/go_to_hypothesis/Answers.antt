@@ -1,7 +1,8 @@
-use Rattle.std.proofs.Common.{◌≡◌, ◌+◌, [], None, Some, true, false, sym, ◌∙◌, ap, subst, refl, rules, append-nil}
+use Rattle.std.proofs.Common.{◌≡◌, ◌+◌, [], length, None, Some, true, false, sym, ◌∙◌, ap, subst, refl, rules, append-nil}
 use Rattle.std.specs.List.{All}
 use Rattle.std.specs.Prelude.{slice_get}
 use Rattle.std.specs.Option.{option_map}
+use Rattle.std.proofs.lemmas.Option.{slice_get_within}
 use Rattle.ab_term.specs.Names.{support}
 use Rattle.ab_term.proofs.Lists.{Contains-none}
 use Rattle.ab_norm.specs.Nominals.{HoldsNominal}
@@ -12,6 +13,7 @@ use Rattle.ab_search_trees.specs.Judgements.{is_blind}
 use Rattle.ab_search_trees.specs.Ways.{by_hypothesis}
 use Rattle.ab_search_ways.specs.GoalReadings.{goal_read}
 use Rattle.ab_next_ways.specs.Cursors.{by_hypotheses_from}
+use Rattle.ab_next_ways.proofs.Led.{to_end, to_form, to_maps, to_next}
 use Rattle.ab_next_ways.proofs.WaysInTurn.{when_blind, when_seen, hypothesis_next}
 use Rattle.ab_next_ways.proofs.MapsInTurn.{starts, starts_held}
 use Rattle.ab_next_ways.proofs.next_ways.go_to_hypothesis.Goals as goal
@@ -70,3 +72,20 @@ returns-then-have_different_heads-clause-passed c = λ now ws stands e.
       λ way m. c.different_heads_are_apart.ensures D now g B way (sym c.have_different_heads.ensures ∙ c.if-have_different_heads.true) m,
       ap (by_hypotheses_from D now g) (sym c.in_ok-next.ensures),
     )
+
+pub returns-then-is_blind-clause-onward : goal.returns-then-is_blind-clause-onward
+returns-then-is_blind-clause-onward c = to_end (length (goal_read c.args.world.now c.args.base.now c.args.goal.now).hypotheses) c.args.number
+
+pub returns-in_default-clause-onward : goal.returns-in_default-clause-onward
+returns-in_default-clause-onward c = to_form (length (goal_read c.args.world.now c.args.base.now c.args.goal.now).hypotheses) c.args.number
+
+pub returns-clause-onward : goal.returns-clause-onward
+returns-clause-onward c = to_maps (length (goal_read c.args.world.now c.args.base.now c.args.goal.now).hypotheses) c.args.number
+
+pub returns-then-have_different_heads-clause-onward : goal.returns-then-have_different_heads-clause-onward
+returns-then-have_different_heads-clause-onward c =
+    let w = c.args.world.now in
+    let g = goal_read w c.args.base.now c.args.goal.now in
+    let B = read w c.in-Some.hypothesis in
+    let at : slice_get g.hypotheses c.args.number ≡ Some B = sym (c.hypothesis_at.ensures.reads w) ∙ ap (option_map (read w)) c.in-Some.is in
+    to_next (length g.hypotheses) c.args.number c.in_ok-next.field-0 (slice_get_within g.hypotheses c.args.number B at) c.in_ok-next.ensures

@@ -1,8 +1,9 @@
-use Rattle.std.proofs.Common.{◌≡◌, ◌≢◌, ◌++◌, ◌+◌, map, None, Some, sym, ◌∙◌, ap, subst}
+use Rattle.std.proofs.Common.{◌≡◌, ◌≢◌, ◌++◌, ◌+◌, length, map, None, Some, sym, ◌∙◌, ap, subst}
 use Rattle.std.specs.List.{All}
 use Rattle.std.specs.Prelude.{IfSome, AllPairs}
 use Rattle.std.specs.Option.{option_map}
 use Rattle.std.proofs.lemmas.List.Elements.{All-weaker}
+use Rattle.std.proofs.lemmas.Option.{slice_get_within}
 use Rattle.ab_term.specs.Terms.{Nominal}
 use Rattle.ab_term.specs.Names.{support}
 use Rattle.ab_norm.specs.Nominals.{HoldsNominal}
@@ -13,6 +14,7 @@ use Rattle.ab_judgements.specs.ab_alternatives.specs.ab_instances.proofs.Made.{n
 use Rattle.ab_logic.specs.Worlds.{read, declarations_of}
 use Rattle.ab_search_ways.specs.GoalReadings.{goal_read, IsFormulaIn, IsAside}
 use Rattle.ab_next_ways.specs.Cursors.{by_maps, by_hypotheses_from}
+use Rattle.ab_next_ways.proofs.Led.{behind_maps}
 use Rattle.ab_next_ways.proofs.MapsInTurn.{by_map, made_of, next_of, left_none, left_some, held_some}
 use Rattle.ab_next_ways.proofs.TargetLists.{targets_right}
 use Rattle.ab_next_ways.proofs.next_ways.way_by_map.Goals as goal
@@ -125,3 +127,9 @@ returns-in_ok-next-in-None-clause-made g c = λ now before after ws stands B at 
           D now before after B at all split c.in-None.is
           ∙ ap (by_hypotheses_from D now G) (sym c.in_ok-next-in-None.ensures),
     )
+
+pub returns-in_ok-next-in-None-clause-onward : goal.returns-in_ok-next-in-None-clause-onward
+returns-in_ok-next-in-None-clause-onward g c =
+    let hs = (goal_read c.args.world.now c.args.base.now c.args.goal.now).hypotheses in
+    let h = c.requires.map in
+    behind_maps (length hs) c.args.number c.in_ok-next-in-None.field-0 (slice_get_within hs c.args.number h.hypothesis h.there) c.in_ok-next-in-None.ensures

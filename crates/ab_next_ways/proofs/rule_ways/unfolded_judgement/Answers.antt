@@ -2,7 +2,7 @@ use Rattle.std.proofs.Common.{◌≢◌, sym, ◌∙◌, rules, arith}
 use Rattle.ab_logic.specs.Worlds.{declarations_of}
 use Rattle.ab_formulas.specs.Programs.{program_in}
 use Rattle.ab_theory.specs.Subjects.{a_judgement}
-use Rattle.ab_judgements.specs.JudgementReadings.{judgement_read}
+use Rattle.ab_judgements.specs.ab_judgement_forms.specs.JudgementReadings.{judgement_read}
 use Rattle.ab_next_ways.proofs.ClauseChoice.{unfolds_so}
 use Rattle.ab_next_ways.proofs.RuleChoice.{are_known, judgement_typed}
 use Rattle.ab_next_ways.proofs.rule_ways.unfolded_judgement.Goals as goal

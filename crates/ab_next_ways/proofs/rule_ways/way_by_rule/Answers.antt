@@ -4,7 +4,7 @@ use Rattle.std.specs.Option.{option_map}
 use Rattle.ab_logic.specs.Worlds.{declarations_of}
 use Rattle.ab_judgements.specs.ab_alternatives.proofs.Passed.{later_on}
 use Rattle.ab_judgements.specs.DemandReadings.{rule_read, IsRuleFor}
-use Rattle.ab_judgements.specs.JudgementReadings.{judgement_read}
+use Rattle.ab_judgements.specs.ab_judgement_forms.specs.JudgementReadings.{judgement_read}
 use Rattle.ab_search_trees.specs.Ways.{by_rule}
 use Rattle.ab_search_ways.specs.GoalReadings.{goal_read}
 use Rattle.ab_search_ways.proofs.LaterWorlds.{later_goal}

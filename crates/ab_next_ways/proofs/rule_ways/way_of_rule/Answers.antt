@@ -1,7 +1,7 @@
 use Rattle.std.proofs.Common.{◌++◌, true, refl, ◌∙◌, ap}
 use Rattle.ab_logic.specs.Worlds.{declarations_of}
 use Rattle.ab_judgements.specs.DemandReadings.{rule_read}
-use Rattle.ab_judgements.specs.JudgementReadings.{judgement_read}
+use Rattle.ab_judgements.specs.ab_judgement_forms.specs.JudgementReadings.{judgement_read}
 use Rattle.ab_next_ways.proofs.RuleMade.{rule_made}
 use Rattle.ab_next_ways.proofs.rule_ways.way_of_rule.Goals as goal
 

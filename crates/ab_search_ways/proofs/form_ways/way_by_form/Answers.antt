@@ -19,14 +19,14 @@ by_exists-requires-clause-body g c = scope_of_exists c.args.world.now c.args.goa
 pub by_for_all-requires-clause-body : goal.by_for_all-requires-clause-body
 by_for_all-requires-clause-body g c = scope_of_for_all c.args.world.now c.args.goal.now.conclusion c.in-Forall.body c.in-Forall.ty c.requires.conclusion c.in-Forall.ensures.held c.in-Forall.ensures.reads
 
-pub returns-in_ok-equating-in-Equal-clause-made : goal.returns-in_ok-equating-in-Equal-clause-made
-returns-in_ok-equating-in-Equal-clause-made g c = λ base now aside stands.
+pub returns-in_ok-way_by_equation-in-Equal-clause-made : goal.returns-in_ok-way_by_equation-in-Equal-clause-made
+returns-in_ok-way_by_equation-in-Equal-clause-made g c = λ base now aside stands.
     let w = c.args.world.now in
     let k = goal_read w base c.args.goal.now in
     let D = declarations_of w in (
       equating D now k (read w c.in-Equal.left) (read w c.in-Equal.right) [],
       ap (λ f. slice_get (by_form D now k f) 0) (sym c.in-Equal.ensures.reads),
-      c.in_ok-equating-in-Equal.ensures base now aside stands,
+      c.in_ok-way_by_equation-in-Equal.ensures base now aside stands,
     )
 
 pub returns-in_ok-by_both-in-And-clause-made : goal.returns-in_ok-by_both-in-And-clause-made
@@ -39,14 +39,14 @@ returns-in_ok-by_both-in-And-clause-made g c = λ base now aside stands.
       c.in_ok-by_both-in-And.ensures base now aside stands,
     )
 
-pub returns-in_ok-asking-in-Or-clause-made : goal.returns-in_ok-asking-in-Or-clause-made
-returns-in_ok-asking-in-Or-clause-made g c = λ base now aside stands.
+pub returns-in_ok-way_to_conclusion-in-Or-clause-made : goal.returns-in_ok-way_to_conclusion-in-Or-clause-made
+returns-in_ok-way_to_conclusion-in-Or-clause-made g c = λ base now aside stands.
     let w = c.args.world.now in
     let k = goal_read w base c.args.goal.now in
     let D = declarations_of w in (
       leading_to D now k (tree.asking (read w c.in-Or.left) k ∷ []),
       ap (λ f. slice_get (by_form D now k f) 0) (sym c.in-Or.ensures.reads),
-      c.in_ok-asking-in-Or.ensures base now aside stands,
+      c.in_ok-way_to_conclusion-in-Or.ensures base now aside stands,
     )
 
 pub returns-in_ok-by_implication-in-Arrow-clause-made : goal.returns-in_ok-by_implication-in-Arrow-clause-made

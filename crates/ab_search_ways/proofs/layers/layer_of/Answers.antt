@@ -29,33 +29,33 @@ pub returns-in_err-opened-in-Imply-clause-grows : goal.returns-in_err-opened-in-
 returns-in_err-opened-in-Imply-clause-grows c =
     let w = c.args.world.now in
     let v = c.list_before.new.world in
-    let S = c.judged.new.store in
+    let S = c.unmarked_judgement.new.store in
     (later_by w (record { types = v.types; store = S; additions = v.additions }) c.requires.world c.list_before.ensures.types c.list_before.ensures.additions
-    (typed_on w.types w.store v.store S c.list_before.ensures.adds (subst (λ t. AddsTypedTerms t v.store S) c.list_before.ensures.types c.judged.ensures.adds))).0
+    (typed_on w.types w.store v.store S c.list_before.ensures.adds (subst (λ t. AddsTypedTerms t v.store S) c.list_before.ensures.types c.unmarked_judgement.ensures.adds))).0
 
 pub returns-in_err-opened-in-Imply-clause-declared : goal.returns-in_err-opened-in-Imply-clause-declared
 returns-in_err-opened-in-Imply-clause-declared c =
     let w = c.args.world.now in
     let v = c.list_before.new.world in
-    let S = c.judged.new.store in
+    let S = c.unmarked_judgement.new.store in
     (later_by w (record { types = v.types; store = S; additions = v.additions }) c.requires.world c.list_before.ensures.types c.list_before.ensures.additions
-    (typed_on w.types w.store v.store S c.list_before.ensures.adds (subst (λ t. AddsTypedTerms t v.store S) c.list_before.ensures.types c.judged.ensures.adds))).1
+    (typed_on w.types w.store v.store S c.list_before.ensures.adds (subst (λ t. AddsTypedTerms t v.store S) c.list_before.ensures.types c.unmarked_judgement.ensures.adds))).1
 
 pub returns-in_ok-opened-in-Imply-clause-grows : goal.returns-in_ok-opened-in-Imply-clause-grows
 returns-in_ok-opened-in-Imply-clause-grows c =
     let w = c.args.world.now in
     let v = c.list_before.new.world in
-    let S = c.judged.new.store in
+    let S = c.unmarked_judgement.new.store in
     (later_by w (record { types = v.types; store = S; additions = v.additions }) c.requires.world c.list_before.ensures.types c.list_before.ensures.additions
-    (typed_on w.types w.store v.store S c.list_before.ensures.adds (subst (λ t. AddsTypedTerms t v.store S) c.list_before.ensures.types c.judged.ensures.adds))).0
+    (typed_on w.types w.store v.store S c.list_before.ensures.adds (subst (λ t. AddsTypedTerms t v.store S) c.list_before.ensures.types c.unmarked_judgement.ensures.adds))).0
 
 pub returns-in_ok-opened-in-Imply-clause-declared : goal.returns-in_ok-opened-in-Imply-clause-declared
 returns-in_ok-opened-in-Imply-clause-declared c =
     let w = c.args.world.now in
     let v = c.list_before.new.world in
-    let S = c.judged.new.store in
+    let S = c.unmarked_judgement.new.store in
     (later_by w (record { types = v.types; store = S; additions = v.additions }) c.requires.world c.list_before.ensures.types c.list_before.ensures.additions
-    (typed_on w.types w.store v.store S c.list_before.ensures.adds (subst (λ t. AddsTypedTerms t v.store S) c.list_before.ensures.types c.judged.ensures.adds))).1
+    (typed_on w.types w.store v.store S c.list_before.ensures.adds (subst (λ t. AddsTypedTerms t v.store S) c.list_before.ensures.types c.unmarked_judgement.ensures.adds))).1
 
 pub judged_under-requires-clause-list : goal.judged_under-requires-clause-list
 judged_under-requires-clause-list c =

@@ -10,7 +10,7 @@ pub loop-a-preserved : goal.loop-a-preserved
 loop-a-preserved c =
     let types = c.args.types.now in
     record {
-      list = exchanged_more types (exchange (nominal_of types c.args.x) (nominal_of types c.args.y)) c.args.names.now c.loop-a.list.items c.push.new.self.items c.exchanged.result c.loop-a.a-index (record { number = 0; ty = record { 0 = 0 } }) c.loop-a-test.true
-          c.loop-a.invariant.list c.exchanged.ensures.reads c.in_ok-push.ensures.items;
-      held = subst (All (HoldsNominal types)) (sym c.in_ok-push.ensures.items) (All-push (HoldsNominal types) c.loop-a.list.items c.exchanged.result c.loop-a.invariant.held c.exchanged.ensures.held);
+      list = exchanged_more types (exchange (nominal_of types c.args.x) (nominal_of types c.args.y)) c.args.names.now c.loop-a.list.items c.push.new.self.items c.exchanged_constant.result c.loop-a.a-index (record { number = 0; ty = record { 0 = 0 } }) c.loop-a-test.true
+          c.loop-a.invariant.list c.exchanged_constant.ensures.reads c.in_ok-push.ensures.items;
+      held = subst (All (HoldsNominal types)) (sym c.in_ok-push.ensures.items) (All-push (HoldsNominal types) c.loop-a.list.items c.exchanged_constant.result c.loop-a.invariant.held c.exchanged_constant.ensures.held);
     }

@@ -1,4 +1,4 @@
-use Rattle.std.proofs.Common.{List, [], ◌∷◌, map, true, false, refl, sym, subst}
+use Rattle.std.proofs.Common.{List, [], ◌∷◌, map, true, false, refl, sym, ◌∙◌, ap, subst}
 use Rattle.ab_norm.specs.ab_store.specs.declared.node.CellId.{CellId}
 use Rattle.ab_norm.specs.ab_store.specs.declared.node.TermId.{TermId}
 use Rattle.ab_unify.specs.Problem.{cells_read}
@@ -17,9 +17,9 @@ returns-clause-place c = λ base e.
     let made = c.in_ok-goal_constants.field-0 in
     let now : Now = beginning (cells_read w.types w.store) (sequent_of w p) in
     let gs : List tree.Goal = first_goal c.args.depth (sequent_of w p) ∷ [] in
-    let kept = c.in_ok-from_array.field-0.items in
+    let kept = c.in_ok-with_first.field-0 in
     let first : Goal = record { added = c.new.result; conclusion = p.conclusion; depth = c.args.depth; constants = made; untouched = true; layers = 1000; member_first = false } in
     subst (λ (b : List TermId). IsPlace w b c.new-2.result.items kept now gs) (sym e)
     (subst (λ (l : List CellId). IsPlace w (map formula_of p.hypotheses) l kept now gs) (sym c.new-2.ensures.items)
-    (subst (λ (l : List Goal). IsPlace w (map formula_of p.hypotheses) [] l now gs) (sym c.in_ok-from_array.ensures.items)
+    (subst (λ (l : List Goal). IsPlace w (map formula_of p.hypotheses) [] l now gs) (sym (c.in_ok-with_first.ensures ∙ ap (λ (l : List Goal). first ∷ l) c.none.ensures))
     (first_place w c.requires.world p c.requires.goal c.requires.sequent c.args.depth first c.new.ensures.items refl refl c.in_ok-goal_constants.ensures.list c.in_ok-goal_constants.ensures.held refl refl refl)))

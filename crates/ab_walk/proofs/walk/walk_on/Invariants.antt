@@ -1,4 +1,4 @@
-use Rattle.std.proofs.Common.{◌≤◌, List}
+use Rattle.std.proofs.Common.{ℕ, ◌+◌, ◌-◌, ◌≤◌, List}
 use Rattle.ab_search_trees.specs.Tree.{Leaf}
 use Rattle.ab_walk.specs.Places.{HasLeaves}
 use Rattle.ab_walk.specs.Stacks.{IsUnderway}
@@ -6,6 +6,10 @@ use Rattle.ab_walk.proofs.walk.walk_on.Given as goal
 
 abbrev pub invariant-turns : goal.invariant-turns
 invariant-turns g l = record {
-  underway : (ls : List Leaf) → HasLeaves l.fn.world l.base l.fn.place ls → IsUnderway l.fn.world l.base ls l.world l.stack.items l.seen;
+  underway : (ls : List Leaf) → HasLeaves l.fn.world l.base l.fn.place ls g.turns → (n : ℕ) × (l.taken + n ≤ g.turns) × IsUnderway l.fn.world l.base ls n l.world l.stack.items l.seen;
   steps : l.fn.steps ≤ l.steps;
 }
+
+-- each turn is one of those that lead through the leaves
+abbrev pub decreases-turns : goal.decreases-turns
+decreases-turns g l = g.turns - l.taken
