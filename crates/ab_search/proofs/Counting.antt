@@ -4,8 +4,8 @@ use Rattle.std.proofs.lemmas.List.{append_assoc}
 use Rattle.ab_formulas.specs.Sequents.{Sequent}
 use Rattle.ab_formulas.proofs.KernelSplits.{within, at_place}
 use Rattle.ab_logic.specs.declared.world.World.{World}
-use Rattle.ab_steps.specs.ab_kernel.specs.Layout.{Held}
-use Rattle.ab_steps.specs.Progress.{goals_of, IsAt}
+use Rattle.ab_steps.specs.ab_kernel.specs.Layout.{Held, goals_of}
+use Rattle.ab_steps.specs.Progress.{IsAt}
 use Rattle.ab_search.specs.GoalCounts.{GaveWayTo, FirstGaveWay}
 
 -- one at least

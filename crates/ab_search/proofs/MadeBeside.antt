@@ -10,9 +10,9 @@ use Rattle.ab_logic.specs.Worlds.{read, declarations_of}
 use Rattle.ab_logic.specs.WorldGrowth.{Grows}
 use Rattle.ab_logic.specs.declared.world.World.{World}
 use Rattle.ab_theory.specs.Derivations.{History, open_goals}
-use Rattle.ab_steps.specs.ab_kernel.specs.Layout.{Held, IsProof}
+use Rattle.ab_steps.specs.ab_kernel.specs.Layout.{Held, IsProof, goals_of}
 use Rattle.ab_steps.specs.ab_kernel.proofs.Later.{same_history, still_proof}
-use Rattle.ab_steps.specs.Progress.{goals_of, Follows}
+use Rattle.ab_steps.specs.Progress.{Follows}
 use Rattle.ab_steps.proofs.Following.{follows_on, follows_same}
 use Rattle.ab_search.specs.GoalCounts.{GaveWayTo}
 use Rattle.ab_search.proofs.Counting.{gave_before}

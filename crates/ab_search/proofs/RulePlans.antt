@@ -16,16 +16,16 @@ use Rattle.ab_logic.specs.declared.world.World.{World}
 use Rattle.ab_logic.proofs.Growing.{same_constants, grows_on}
 use Rattle.ab_steps.specs.ab_kernel.specs.ab_judgements.specs.ab_alternatives.specs.ab_instances.proofs.Made.{names_held}
 use Rattle.ab_search.specs.declared.assumed_rows.AssumedRow.{AssumedRow}
-use Rattle.ab_search.specs.declared.rule_terms.NameTerm.{NameTerm}
-use Rattle.ab_search.specs.declared.rule_terms.NameTerm.TheVariants.{Term, Bound}
-use Rattle.ab_search.specs.declared.taken.Entry.{Entry}
-use Rattle.ab_search.specs.declared.taken.RuleTaken.{RuleTaken}
-use Rattle.ab_walk.specs.ab_next_ways.specs.ab_search_ways.specs.GoalReadings.{IsFormulaIn}
-use Rattle.ab_search.specs.Frames.{IsLater}
-use Rattle.ab_search.specs.Parts.{HoldsPathFrom}
-use Rattle.ab_search.specs.Paths.{IsTermIn}
+use Rattle.ab_search_paths.specs.declared.terms_of_rules.NameTerm.{NameTerm}
+use Rattle.ab_search_paths.specs.declared.terms_of_rules.NameTerm.TheVariants.{Term, Bound}
+use Rattle.ab_search_paths.specs.declared.taken.Entry.{Entry}
+use Rattle.ab_search_paths.specs.declared.taken.RuleTaken.{RuleTaken}
+use Rattle.ab_search_paths.specs.ab_walk.specs.ab_next_ways.specs.ab_search_ways.specs.GoalReadings.{IsFormulaIn}
+use Rattle.ab_search_paths.specs.Frames.{IsLater}
+use Rattle.ab_search_paths.specs.Parts.{HoldsPathFrom}
+use Rattle.ab_search_paths.specs.Paths.{IsTermIn}
 use Rattle.ab_search.specs.RulePlans.{NamesTerm, HoldsRow}
-use Rattle.ab_search.proofs.Staying.{term_then, entries_then}
+use Rattle.ab_search_paths.proofs.Staying.{term_then, entries_then}
 
 -- a world grew twice
 pub later_twice : (u w v : World) → Grows u w → declarations_of w ≡ declarations_of u → Grows w v → declarations_of v ≡ declarations_of w → IsLater u v

@@ -7,21 +7,24 @@ use Rattle.ab_logic.specs.WorldGrowth.{Grows}
 use Rattle.ab_logic.specs.Worlds.{IsWorld, declarations_of}
 use Rattle.ab_logic.specs.SequentReadings.{HoldsSequent, sequent_of}
 use Rattle.ab_logic.specs.declared.world.World.{World}
+use Rattle.ab_logic.proofs.Programs.{have_programs}
+use Rattle.ab_logic.proofs.BuiltIn.{has_member}
 use Rattle.ab_logic.specs.declared.sequent.Sequent.{Sequent as Kept}
 use Rattle.ab_theory.specs.Derivations.{History, open_goals}
 use Rattle.ab_search_trees.specs.Tree.{Leaf}
-use Rattle.ab_search_trees.specs.Outcomes.{Outcome, closed, outcome_of, Searched, ComesTo}
-use Rattle.ab_steps.specs.ab_kernel.specs.Layout.{Held, history_of, IsProof}
+use Rattle.ab_search_trees.specs.Outcomes.{Outcome, closed, not_found, outcome_of, Searched, ComesTo}
+use Rattle.ab_search_completeness.proofs.Complete.{none_guessed}
+use Rattle.ab_steps.specs.ab_kernel.specs.Layout.{Held, history_of, IsProof, goals_of}
 use Rattle.ab_steps.specs.ab_kernel.proofs.Later.{same_history, still_proof}
 use Rattle.ab_steps.specs.ab_kernel.proofs.NewNumbers.{over_cells}
-use Rattle.ab_steps.specs.Progress.{goals_of, Follows}
+use Rattle.ab_steps.specs.Progress.{Follows}
 use Rattle.ab_steps.proofs.Following.{follows_on, follows_same}
-use Rattle.ab_steps.proofs.GoalSequents.{first_is_sequent}
-use Rattle.ab_walk.specs.Told.{Tells, outcome_without}
-use Rattle.ab_walk.specs.declared.walk.Told.{Told}
-use Rattle.ab_walk.specs.declared.walk.Told.TheVariants.{Found, Not}
+use Rattle.ab_steps.specs.ab_kernel.proofs.GoalSequents.{first_is_sequent}
+use Rattle.ab_search_paths.specs.ab_walk.specs.Told.{Tells, outcome_without}
+use Rattle.ab_search_paths.specs.ab_walk.specs.declared.walk.Told.{Told}
+use Rattle.ab_search_paths.specs.ab_walk.specs.declared.walk.Told.TheVariants.{Found, Not}
 use Rattle.ab_search.specs.GoalCounts.{FirstGaveWay}
-use Rattle.ab_search.specs.Searched.{FirstComesTo, IsClosed}
+use Rattle.ab_search.specs.Searched.{FirstComesTo, IsClosed, MissesNone}
 use Rattle.ab_search.proofs.Counting.{first_on, first_still, closed_first}
 
 -- the first goal of the proof, as it is kept
@@ -54,6 +57,11 @@ module _ (w : World) (p : Held) (k : Kept) (first : IsFirst w p k) where
 
   pub told_found : HoldsSequent w k → (depth : ℕ) (told : Told) → IsToldOf w depth (sequent_of w k) told → told ≡ Found → FirstComesTo w p depth closed
   told_found held depth told x e = comes_to held depth closed x.0 x.1 (subst (Tells x.0) e x.2)
+
+-- where nothing is found no derivation is missed
+pub misses_none : (w : World) (p : Held) → IsWorld w → IsProof w p → (depth : ℕ) → FirstComesTo w p depth not_found → MissesNone w p depth
+misses_none w p world proof depth comes s rest goals sees d =
+    none_guessed (declarations_of w) world.definitions (have_programs w world) (has_member w world) depth s (first_is_sequent w p world proof s rest goals) (comes s rest goals) sees d
 
 -- the proof stands as it stood, in a world that grew
 module _ (w v : World) (p : Held) (grows : Grows w v) (declared : declarations_of v ≡ declarations_of w) (proof : IsProof w p) where

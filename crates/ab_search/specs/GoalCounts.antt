@@ -2,8 +2,8 @@
 use Rattle.std.specs.Prelude.{◌≡◌, ℕ, List, ◌++◌, length}
 use Rattle.ab_formulas.specs.Sequents.{Sequent}
 use Rattle.ab_logic.specs.declared.world.World.{World}
-use Rattle.ab_steps.specs.ab_kernel.specs.Layout.{Held}
-use Rattle.ab_steps.specs.Progress.{goals_of, GaveWay}
+use Rattle.ab_steps.specs.ab_kernel.specs.Layout.{Held, goals_of}
+use Rattle.ab_steps.specs.Progress.{GaveWay}
 
 -- the goal of this place gave way to so many
 abbrev pub GaveWayTo : World → Held → World → Held → ℕ → ℕ → Type 0

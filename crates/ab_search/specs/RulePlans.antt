@@ -3,13 +3,13 @@ use Rattle.std.specs.Prelude.{All}
 use Rattle.ab_norm.specs.Nominals.{HoldsNominal}
 use Rattle.ab_logic.specs.Worlds.{Holds}
 use Rattle.ab_logic.specs.declared.world.World.{World}
-use Rattle.ab_search.specs.declared.rule_terms.NameTerm.{NameTerm}
-use Rattle.ab_search.specs.declared.rule_terms.NameTerm.TheVariants.{Term, Bound}
+use Rattle.ab_search_paths.specs.declared.terms_of_rules.NameTerm.{NameTerm}
+use Rattle.ab_search_paths.specs.declared.terms_of_rules.NameTerm.TheVariants.{Term, Bound}
 use Rattle.ab_search.specs.declared.assumed_rows.AssumedRow.{AssumedRow}
 use Rattle.ab_search.specs.declared.rule_plans.RuleGoal.{RuleGoal}
 use Rattle.ab_search.specs.declared.rule_plans.RulePlan.{RulePlan}
 use Rattle.ab_search.specs.declared.rule_plans.RulePlan.TheVariants.{Unfold, Assume, Nothing}
-use Rattle.ab_search.specs.Likenesses.{IsLikeness}
+use Rattle.ab_search_paths.specs.Likenesses.{IsLikeness}
 
 -- the term that stands for the name is there
 abbrev pub NamesTerm : World → NameTerm → Type 0

@@ -10,13 +10,12 @@ ghost use Rattle.ab_search.specs.RulePlans.{NamesTerm, HoldsRow};
 
 use crate::kernel_steps::{auto, goal_at, last_name, name_at, take};
 use crate::opened_hypotheses::{close_apart, last_variable_given};
-use crate::raised_terms::raised_term;
-use crate::rule_terms::{Assumed, NameTerm, OpenName};
 use ab_logic::World;
 use ab_norm::Nominal;
 use ab_norm::name::Name;
 use ab_norm::store::TermId;
 use ab_norm::types::Steps;
+use ab_search_paths::{Assumed, NameTerm, OpenName, raised_term};
 use ab_steps::kernel::{Proof, Step};
 use std::alloc::{AllocError, Global};
 

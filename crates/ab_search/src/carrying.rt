@@ -3,23 +3,22 @@ ghost use Rattle.std.specs.Prelude.{◌≡◌, ◌<◌, ◌≤◌, ◌+◌, ℕ,
 ghost use Rattle.ab_logic.specs.Worlds.{IsWorld};
 ghost use Rattle.ab_logic.specs.declared.world.World.{World as AWorld};
 ghost use Rattle.ab_theory.specs.Derivations.{debts_of};
-ghost use Rattle.ab_steps.specs.ab_kernel.specs.RuleAnswers.{step_of, HoldsStep};
+ghost use Rattle.ab_steps.specs.ab_kernel.specs.ab_rules.specs.RuleAnswers.{step_of, HoldsStep};
 ghost use Rattle.ab_steps.specs.ab_kernel.specs.Layout.{IsProof};
 ghost use Rattle.ab_steps.specs.Progress.{Follows};
 ghost use Rattle.ab_search.specs.GoalCounts.{GaveWayTo, FirstGaveWay};
-ghost use Rattle.ab_search.specs.Paths.{HoldsEntry, HoldsTaken, AreStandIns};
-ghost use Rattle.ab_search.specs.declared.taken.Taken.TheVariants.{Rule};
+ghost use Rattle.ab_search_paths.specs.Paths.{HoldsEntry, HoldsTaken, AreStandIns};
+ghost use Rattle.ab_search_paths.specs.declared.taken.Taken.TheVariants.{Rule};
 
 use crate::empty_lists::close_by_empty_list;
 use crate::kernel_steps::{auto, take};
-use crate::likeness::StandIn;
 use crate::opened_hypotheses::close_by;
 use crate::quantifier_steps::{take_term, take_variable};
 use crate::rule_steps::{RuleTurn, take_rule};
-use crate::taken::{Entry, RuleTaken, Taken};
 use crate::unfolding_steps::{take_clause, take_layer};
 use ab_logic::World;
 use ab_norm::types::Steps;
+use ab_search_paths::{Entry, RuleTaken, StandIn, Taken};
 use ab_steps::kernel::{Proof, Step};
 use std::alloc::{AllocError, Global};
 

@@ -1,11 +1,11 @@
-//! Steps of the kernel at one of its open goals, none of which is refused.
+//! Steps of the kernel at one of its open goals. One that is refused is answered as want of memory.
 ghost use Rattle.std.specs.Prelude.{◌≡◌, ◌≢◌, ◌≤◌, ℕ, [], Ok, Some, IfOk, OnOk, OnErr};
 ghost use Rattle.ab_formulas.specs.Sequents.{IsSequent};
 ghost use Rattle.ab_logic.specs.Worlds.{IsWorld, Holds, HoldsCell, declarations_of};
 ghost use Rattle.ab_logic.specs.SequentReadings.{sequent_of, HoldsSequent};
 ghost use Rattle.ab_logic.specs.declared.world.World.{World as AWorld};
 ghost use Rattle.ab_theory.specs.Derivations.{debts_of};
-ghost use Rattle.ab_steps.specs.ab_kernel.specs.RuleAnswers.{step_of, HoldsStep};
+ghost use Rattle.ab_steps.specs.ab_kernel.specs.ab_rules.specs.RuleAnswers.{step_of, HoldsStep};
 ghost use Rattle.ab_steps.specs.ab_kernel.specs.Layout.{IsProof};
 ghost use Rattle.ab_steps.specs.Progress.{Follows};
 ghost use Rattle.ab_search.specs.GoalCounts.{GaveWayTo};

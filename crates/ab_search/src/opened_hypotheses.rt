@@ -7,20 +7,17 @@ ghost use Rattle.ab_steps.specs.Progress.{Follows};
 ghost use Rattle.ab_norm.specs.ab_store.specs.declared.node.TermId.{TermId as AnId};
 ghost use Rattle.ab_search.specs.GoalCounts.{GaveWayTo};
 ghost use Rattle.ab_search.specs.declared.opened_hypotheses.Apart.TheVariants.{Terms};
-ghost use Rattle.ab_search.specs.MoreTerms.{GotTerms};
-ghost use Rattle.ab_search.specs.Paths.{IsFormulaIn, AreStandIns};
+ghost use Rattle.ab_search_paths.specs.MoreTerms.{GotTerms};
+ghost use Rattle.ab_search_paths.specs.Paths.{IsFormulaIn, AreStandIns};
 
-use crate::carried_terms::permuted;
-use crate::cell_terms::cell_given;
 use crate::kernel_steps::{
     auto, conclusion_at, goal_at, last_name, last_variable, name_at, take, try_step,
 };
-use crate::likeness::{StandIn, compare_terms, put_in};
-use crate::opened_formulas::opened;
 use ab_logic::{Form, World, shape};
 use ab_norm::name::Name;
 use ab_norm::store::TermId;
 use ab_norm::types::Steps;
+use ab_search_paths::{StandIn, cell_given, compare_terms, open_formula, permuted_term, put_in};
 use ab_steps::kernel::judgements::alternatives::instances::constants_of;
 use ab_steps::kernel::judgements::{Kind, as_judgement, kind_of};
 use ab_steps::kernel::{Proof, Step};
@@ -290,10 +287,10 @@ fn formula_at<L>(
 {
     let conclusion = conclusion_at(proof, place)?;
     let here = put_in(alloc, world, stand_ins, &[formula], steps)?;
-    let wide = opened(alloc, world, here[0])?;
-    let asked = opened(alloc, world, conclusion)?;
+    let wide = open_formula(alloc, world, here[0])?;
+    let asked = open_formula(alloc, world, conclusion)?;
     let like = compare_terms(alloc, world, wide, asked)?;
-    permuted(alloc, world, &like, here[0])
+    permuted_term(alloc, world, &like, here[0])
 }
 
 /// The hypothesis, which the path's formula is like but for judgements that are opened, is taken over as that formula: it is the last

@@ -6,17 +6,15 @@ ghost use Rattle.ab_logic.specs.Worlds.{IsWorld, Holds, HoldsCell};
 ghost use Rattle.ab_steps.specs.ab_kernel.specs.Layout.{IsProof};
 ghost use Rattle.ab_steps.specs.Progress.{Follows};
 ghost use Rattle.ab_search.specs.GoalCounts.{GaveWayTo};
-ghost use Rattle.ab_search.specs.MoreTerms.{GotTerms};
-ghost use Rattle.ab_search.specs.Paths.{IsFormulaIn, IsTermIn, HoldsVariable, AreStandIns};
+ghost use Rattle.ab_search_paths.specs.MoreTerms.{GotTerms};
+ghost use Rattle.ab_search_paths.specs.Paths.{IsFormulaIn, IsTermIn, HoldsVariable, AreStandIns};
 
-use crate::carried_terms::carried;
-use crate::cell_terms::cell_for;
 use crate::kernel_steps::{conclusion_at, goal_at, last_variable, take};
-use crate::likeness::{Likeness, StandIn, add_stand_in, compare};
 use ab_logic::World;
 use ab_norm::Nominal;
 use ab_norm::store::{CellId, TermId};
 use ab_norm::types::Steps;
+use ab_search_paths::{Likeness, StandIn, add_stand_in, carry_terms, cell_for, compare};
 use ab_steps::kernel::judgements::alternatives::instances::constants_of;
 use ab_steps::kernel::{Proof, Step};
 use std::alloc::{AllocError, Global};
@@ -43,7 +41,7 @@ fn term_at<L>(
 {
     let goal = goal_at(proof, place)?;
     let like = compare(alloc, world, stand_ins, formula, goal.conclusion, steps)?;
-    let list = carried(alloc, world, stand_ins, &like, goal, &[term], steps)?;
+    let list = carry_terms(alloc, world, stand_ins, &like, goal, &[term], steps)?;
     Ok(list[0])
 }
 
@@ -72,7 +70,7 @@ pub(crate) fn take_term<L>(
 }
 
 /// The path's constants in the order in which the kernel has what they are there.
-fn reordered(
+fn reorder_constants(
     alloc: Global,
     like: &Likeness,
     constants: &[Nominal],
@@ -115,7 +113,7 @@ fn reordered_at<L>(
     let conclusion = conclusion_at(proof, place)?;
     let like = compare(alloc, world, stand_ins, formula, conclusion, steps)?;
     let kernel = constants_of(alloc, &world.types, &world.store, &[conclusion])?;
-    reordered(alloc, &like, constants, &kernel)
+    reorder_constants(alloc, &like, constants, &kernel)
 }
 
 /// A term stands in for the variable from now on: the other one, given its constants, abstracted over those of the variable.

@@ -5,27 +5,23 @@ ghost use Rattle.ab_logic.specs.Worlds.{IsWorld, Holds};
 ghost use Rattle.ab_logic.specs.declared.world.World.{World as AWorld};
 ghost use Rattle.ab_steps.specs.ab_kernel.specs.ab_judgements.specs.DemandReadings.{IsRuleFor};
 ghost use Rattle.ab_steps.specs.ab_kernel.specs.ab_judgements.specs.RuleWalks.{IsRuled};
-ghost use Rattle.ab_walk.specs.ab_next_ways.specs.ab_search_ways.specs.GoalReadings.{IsFormulaIn as IsTypedFormula};
-ghost use Rattle.ab_search.specs.Frames.{IsLater};
-ghost use Rattle.ab_search.specs.MoreTerms.{GotTerms};
-ghost use Rattle.ab_search.specs.Parts.{HoldsPathFrom, HoldsAssumed};
-ghost use Rattle.ab_search.specs.Paths.{AreStandIns};
+ghost use Rattle.ab_search_paths.specs.ab_walk.specs.ab_next_ways.specs.ab_search_ways.specs.GoalReadings.{IsFormulaIn as IsTypedFormula};
+ghost use Rattle.ab_search_paths.specs.Frames.{IsLater};
+ghost use Rattle.ab_search_paths.specs.MoreTerms.{GotTerms};
+ghost use Rattle.ab_search_paths.specs.Parts.{HoldsPathFrom, HoldsAssumed};
+ghost use Rattle.ab_search_paths.specs.Paths.{AreStandIns};
 ghost use Rattle.ab_search.specs.RulePlans.{NamesTerm, HoldsRuleGoal, HoldsPlan};
 
 use crate::assumed_rows::AssumedRow;
-use crate::carried_terms::carried;
-use crate::likeness::{Likeness, StandIn, compare};
-use crate::open_parts::left_by_rule;
-use crate::part_names::closed_names;
-use crate::raised_terms::raised_terms;
-use crate::rule_terms::{Assumed, NameTerm, OpenName, RuleTerms, open_names, rule_terms};
-use crate::taken::{Entry, RuleTaken};
 use crate::unfolding_steps::Unfolding;
-use crate::ways_taken::ruled_judgement;
 use ab_logic::{Sequent, World};
 use ab_norm::Nominal;
 use ab_norm::store::TermId;
 use ab_norm::types::Steps;
+use ab_search_paths::{
+    Assumed, Entry, Likeness, NameTerm, OpenName, RuleTaken, RuleTerms, StandIn, carry_terms,
+    closed_names, compare, left_by_rule, open_names, raised_terms, rule_terms, ruled_judgement,
+};
 use ab_steps::kernel::judgements::{Rule, Ruled, rule_at, with_rules};
 use std::alloc::{AllocError, Global};
 
@@ -89,7 +85,7 @@ fn plan_with_terms<L>(
     ensures got { GotTerms world.old world.new }
     ensures steps { steps.old ≤ steps.new }
 {
-    let here = carried(alloc, world, stand_ins, &at.like, goal, terms, steps)?;
+    let here = carry_terms(alloc, world, stand_ins, &at.like, goal, terms, steps)?;
     let terms = raised_terms(alloc, world, &at.constants, &at.open, &here)?;
     let unfolding = Unfolding {
         place: at.number,
@@ -176,7 +172,7 @@ fn plan_with_hypothesis<L>(
     ensures steps { steps.old ≤ steps.new }
 {
     let terms = formula_and_terms(alloc, found)?;
-    let here = carried(alloc, world, stand_ins, &at.like, goal, &terms, steps)?;
+    let here = carry_terms(alloc, world, stand_ins, &at.like, goal, &terms, steps)?;
     Ok(RulePlan::Assume(AssumedRow {
         rule: at.number,
         constants: at.constants,

@@ -5,17 +5,16 @@ ghost use Rattle.ab_steps.specs.ab_kernel.specs.Layout.{IsProof};
 ghost use Rattle.ab_steps.specs.Progress.{Follows};
 ghost use Rattle.ab_search.specs.GoalCounts.{GaveWayTo};
 ghost use Rattle.ab_search.specs.declared.rule_steps.RuleTurn.TheVariants.{Gone, Closed, Empty};
-ghost use Rattle.ab_search.specs.Paths.{IsFormulaIn, IsTermIn, HoldsEntry, AreStandIns};
+ghost use Rattle.ab_search_paths.specs.Paths.{IsFormulaIn, IsTermIn, HoldsEntry, AreStandIns};
 
 use crate::assumed_rows::close_by_row;
 use crate::kernel_steps::goal_at;
-use crate::likeness::StandIn;
 use crate::rule_plans::{RulePlan, plan};
-use crate::taken::{Entry, RuleTaken};
 use crate::unfolding_steps::unfold;
 use ab_logic::World;
 use ab_norm::store::TermId;
 use ab_norm::types::Steps;
+use ab_search_paths::{Entry, RuleTaken, StandIn};
 use ab_steps::kernel::Proof;
 use std::alloc::{AllocError, Global};
 

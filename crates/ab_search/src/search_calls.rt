@@ -1,20 +1,20 @@
-//! Search: a goal is closed outright.
+//! Search: a goal is searched by its tree, and an answer is carried out.
 ghost use Rattle.std.specs.Prelude.{◌≡◌, ◌≢◌, ◌≤◌, ℕ, [], Err, OnOk, OnErr};
 ghost use Rattle.ab_logic.specs.Worlds.{IsWorld};
-ghost use Rattle.ab_steps.specs.ab_kernel.specs.Layout.{history_of, IsProof};
-ghost use Rattle.ab_steps.specs.Progress.{goals_of, Follows};
-ghost use Rattle.ab_search.specs.Frames.{HoldsPath};
+ghost use Rattle.ab_steps.specs.ab_kernel.specs.Layout.{history_of, IsProof, goals_of};
+ghost use Rattle.ab_steps.specs.Progress.{Follows};
+ghost use Rattle.ab_search_paths.specs.Frames.{HoldsPath};
 ghost use Rattle.ab_search.specs.GoalCounts.{FirstGaveWay};
-ghost use Rattle.ab_search.specs.Searched.{IsClosed, IsNotFound, IsOutside};
+ghost use Rattle.ab_search.specs.Searched.{IsClosed, IsNotFound, IsOutside, MissesNone};
 
 use crate::carrying::carry_out;
 use crate::fault::SearchFault;
-use crate::final_path::final_path;
 use ab_logic::World;
 use ab_norm::types::Steps;
+use ab_search_paths::final_path;
+use ab_search_paths::walk::{Frame, Told, search as walk};
 use ab_steps::kernel::Proof;
 use ab_steps::{first_goal, take_back};
-use ab_walk::{Frame, Told, search as walk};
 use std::alloc::{AllocError, Global};
 
 /// Closes the first goal by the path.
@@ -58,6 +58,7 @@ pub fn search<L>(
     ensures follows { Follows world.old proof.old world.new proof.new }
     ensures closed { OnOk result (IsClosed world.old proof.old depth world.new proof.new) }
     ensures not_found { result ≡ Err SearchFault.NotFound → IsNotFound world.old proof.old depth }
+    ensures complete { result ≡ Err SearchFault.NotFound → MissesNone world.old proof.old depth }
     ensures not_pattern { (n : ℕ) → result ≡ Err (SearchFault.NotPattern n) → IsOutside world.old proof.old depth n }
     ensures unchanged { OnErr result (history_of world.new proof.new ≡ history_of world.old proof.old) }
     ensures steps { steps.old ≤ steps.new }

@@ -10,21 +10,19 @@ ghost use Rattle.ab_logic.specs.SequentReadings.{sequent_of, HoldsSequent};
 ghost use Rattle.ab_steps.specs.ab_kernel.specs.Layout.{IsProof};
 ghost use Rattle.ab_steps.specs.Progress.{Follows};
 ghost use Rattle.ab_search.specs.GoalCounts.{GaveWayTo};
-ghost use Rattle.ab_search.specs.MoreTerms.{GotTerms};
-ghost use Rattle.ab_search.specs.Paths.{IsFormulaIn, HoldsClause, AreStandIns};
+ghost use Rattle.ab_search_paths.specs.MoreTerms.{GotTerms};
+ghost use Rattle.ab_search_paths.specs.Paths.{IsFormulaIn, HoldsClause, AreStandIns};
 
-use crate::carried_terms::carried;
-use crate::cell_terms::over_constants;
-use crate::clause_places::place_of_clause;
 use crate::kernel_steps::{conclusion_at, goal_at, take};
-use crate::likeness::{Likeness, StandIn, compare};
-use crate::open_parts::left_by_choice;
 use crate::opened_hypotheses::is_compound;
-use crate::taken::ClauseTaken;
 use ab_logic::{Sequent, World};
 use ab_norm::Nominal;
 use ab_norm::store::TermId;
 use ab_norm::types::Steps;
+use ab_search_paths::{
+    ClauseTaken, Likeness, StandIn, carry_terms, compare, left_by_choice, over_constants,
+    place_of_clause,
+};
 use ab_steps::kernel::judgements::alternatives::instances::{constants_of, outside};
 use ab_steps::kernel::judgements::alternatives::{choice_at, defined_atom, goal_constants};
 use ab_steps::kernel::{Proof, Step};
@@ -132,7 +130,7 @@ fn unfolding_by_clause<L>(
 {
     let like = compare(alloc, world, stand_ins, formula, goal.conclusion, steps)?;
     let opening = opening_by_clause(alloc, world, goal, &like, clause, steps)?;
-    let values = carried(alloc, world, stand_ins, &like, goal, &clause.values, steps)?;
+    let values = carry_terms(alloc, world, stand_ins, &like, goal, &clause.values, steps)?;
     let terms = terms_for(alloc, world, &opening.unchosen, &values, &opening.left)?;
     let names = if opening.left.is_empty() {
         0

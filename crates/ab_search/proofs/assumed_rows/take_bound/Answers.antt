@@ -1,7 +1,7 @@
 use Rattle.std.proofs.lemmas.List.Elements.{All-weaker}
 use Rattle.ab_logic.specs.Worlds.{Holds}
 use Rattle.ab_search.proofs.MadeBeside.{made_last, gave_made_last}
-use Rattle.ab_search.proofs.Parts.{pushed}
+use Rattle.ab_search_paths.proofs.Parts.{pushed}
 use Rattle.ab_search.proofs.assumed_rows.take_bound.Goals as goal
 
 pub returns-in_err-last_variable_given-clause-follows : goal.returns-in_err-last_variable_given-clause-follows

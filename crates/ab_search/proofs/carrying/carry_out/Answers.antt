@@ -1,7 +1,7 @@
 use Rattle.std.proofs.Common.{length, arith}
 use Rattle.ab_steps.proofs.Following.{follows_on}
 use Rattle.ab_search.proofs.Counting.{first_on}
-use Rattle.ab_search.proofs.Staying.{entries_then}
+use Rattle.ab_search_paths.proofs.Staying.{entries_then}
 use Rattle.ab_search.proofs.carrying.carry_out.Goals as goal
 
 pub take_at-requires-clause-path : goal.take_at-requires-clause-path

@@ -1,7 +1,7 @@
 use Rattle.std.specs.Prelude.{◌≤◌, length}
 use Rattle.ab_steps.specs.Progress.{Follows}
 use Rattle.ab_search.specs.GoalCounts.{FirstGaveWay}
-use Rattle.ab_search.specs.Paths.{AreStandIns}
+use Rattle.ab_search_paths.specs.Paths.{AreStandIns}
 use Rattle.ab_search.proofs.carrying.carry_out.Given as goal
 
 abbrev pub invariant-loop-place : goal.invariant-loop-place

@@ -1,4 +1,4 @@
-use Rattle.ab_search.proofs.Staying.{stand_ins_then}
+use Rattle.ab_search_paths.proofs.Staying.{stand_ins_then}
 use Rattle.ab_search.proofs.carrying.put_in_or_unfold.Goals as goal
 
 pub returns-in-Term-clause-stand_ins : goal.returns-in-Term-clause-stand_ins

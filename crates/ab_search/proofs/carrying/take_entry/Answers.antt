@@ -2,7 +2,7 @@ use Rattle.std.proofs.Common.{length, sym, subst}
 use Rattle.std.proofs.lemmas.Result.{on_ok_weaker}
 use Rattle.ab_steps.proofs.Following.{follows_not}
 use Rattle.ab_search.specs.GoalCounts.{FirstGaveWay}
-use Rattle.ab_search.specs.Paths.{HoldsTaken}
+use Rattle.ab_search_paths.specs.Paths.{HoldsTaken}
 use Rattle.ab_search.proofs.carrying.take_entry.Goals as goal
 
 pub returns-in_err-place-clause-follows : goal.returns-in_err-place-clause-follows

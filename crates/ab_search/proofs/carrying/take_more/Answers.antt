@@ -1,7 +1,7 @@
 use Rattle.std.proofs.Common.{◌+◌, length, sym, ap, subst}
 use Rattle.std.proofs.lemmas.Result.{on_ok_weaker}
 use Rattle.ab_search.specs.GoalCounts.{FirstGaveWay}
-use Rattle.ab_search.specs.Paths.{AreStandIns}
+use Rattle.ab_search_paths.specs.Paths.{AreStandIns}
 use Rattle.ab_search.proofs.Counting.{among}
 use Rattle.ab_search.proofs.carrying.take_more.Goals as goal
 

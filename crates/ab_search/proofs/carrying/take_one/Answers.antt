@@ -1,9 +1,9 @@
 use Rattle.std.proofs.Common.{◌+◌, length, sym, ap, subst}
 use Rattle.std.proofs.lemmas.Result.{on_ok_weaker}
 use Rattle.ab_search.specs.GoalCounts.{FirstGaveWay}
-use Rattle.ab_search.specs.Paths.{AreStandIns}
+use Rattle.ab_search_paths.specs.Paths.{AreStandIns}
 use Rattle.ab_search.proofs.Counting.{among}
-use Rattle.ab_search.proofs.Staying.{stand_ins_then}
+use Rattle.ab_search_paths.proofs.Staying.{stand_ins_then}
 use Rattle.ab_search.proofs.carrying.take_one.Goals as goal
 
 pub returns-in_err-take-clause-stand_ins : goal.returns-in_err-take-clause-stand_ins

@@ -2,10 +2,10 @@ use Rattle.std.specs.Prelude.{Ok}
 use Rattle.std.proofs.Common.{◌+◌, length, sym, ◌∙◌, ap, subst}
 use Rattle.ab_steps.proofs.Following.{follows_on}
 use Rattle.ab_search.specs.GoalCounts.{FirstGaveWay}
-use Rattle.ab_search.specs.Paths.{AreStandIns}
+use Rattle.ab_search_paths.specs.Paths.{AreStandIns}
 use Rattle.ab_search.proofs.Counting.{among}
 use Rattle.ab_search.proofs.PendingGoals.{one_less, less_behind}
-use Rattle.ab_search.proofs.Staying.{stand_ins_then}
+use Rattle.ab_search_paths.proofs.Staying.{stand_ins_then}
 use Rattle.ab_search.proofs.carrying.take_rule_with.Goals as goal
 
 pub returns-in_err-ways-clause-stand_ins : goal.returns-in_err-ways-clause-stand_ins

@@ -1,7 +1,7 @@
 use Rattle.std.proofs.Common.{length}
 use Rattle.std.proofs.lemmas.Result.{on_ok_weaker}
 use Rattle.ab_search.proofs.PendingGoals.{one_less}
-use Rattle.ab_search.proofs.Staying.{stand_ins_then}
+use Rattle.ab_search_paths.proofs.Staying.{stand_ins_then}
 use Rattle.ab_search.proofs.carrying.take_simple.Goals as goal
 
 pub returns-in-Truth-clause-gave_way : goal.returns-in-Truth-clause-gave_way

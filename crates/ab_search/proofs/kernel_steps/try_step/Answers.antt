@@ -4,7 +4,7 @@ use Rattle.std.proofs.Common.{◌≡◌, ◌⊎◌, inl, inr, ℕ, refl, sym, �
 use Rattle.ab_steps.specs.declared.goal_steps.Attempted.{Attempted}
 use Rattle.ab_steps.specs.declared.goal_steps.Attempted.TheVariants.{Taken, Failed, Stuck}
 use Rattle.ab_theory.specs.Derivations.{debts_of}
-use Rattle.ab_steps.specs.ab_kernel.specs.RuleAnswers.{step_of}
+use Rattle.ab_steps.specs.ab_kernel.specs.ab_rules.specs.RuleAnswers.{step_of}
 use Rattle.ab_steps.proofs.Following.{follows_free}
 use Rattle.ab_search.proofs.kernel_steps.try_step.Goals as goal
 

@@ -3,7 +3,7 @@ use Rattle.std.proofs.lemmas.Result.{on_ok_weaker}
 use Rattle.ab_theory.specs.Derivations.{History, open_goals}
 use Rattle.ab_steps.proofs.Following.{follows_on, as_before}
 use Rattle.ab_search.proofs.Counting.{on_first, gave_before}
-use Rattle.ab_search.proofs.Staying.{stand_ins_then}
+use Rattle.ab_search_paths.proofs.Staying.{stand_ins_then}
 use Rattle.ab_search.proofs.opened_hypotheses.close_by.Goals as goal
 
 pub take_over-requires-clause-stand_ins : goal.take_over-requires-clause-stand_ins

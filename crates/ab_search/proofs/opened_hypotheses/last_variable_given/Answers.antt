@@ -1,4 +1,4 @@
-use Rattle.ab_search.proofs.MoreTerms.{got_adds}
+use Rattle.ab_search_paths.proofs.MoreTerms.{got_adds}
 use Rattle.ab_search.proofs.opened_hypotheses.last_variable_given.Goals as goal
 
 pub returns-clause-got : goal.returns-clause-got

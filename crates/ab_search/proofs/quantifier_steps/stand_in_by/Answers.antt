@@ -1,9 +1,9 @@
 use Rattle.ab_norm.specs.ab_types.specs.Ids.{type_of}
 use Rattle.ab_norm.specs.ab_store.specs.Trees.{cell_of}
 use Rattle.ab_logic.specs.declared.world.World.{World}
-use Rattle.ab_search.proofs.MoreTerms.{got_adds}
-use Rattle.ab_search.proofs.StandIns.{of_declared}
-use Rattle.ab_search.proofs.Staying.{stand_ins_then}
+use Rattle.ab_search_paths.proofs.MoreTerms.{got_adds}
+use Rattle.ab_search_paths.proofs.StandIns.{of_declared}
+use Rattle.ab_search_paths.proofs.Staying.{stand_ins_then}
 use Rattle.ab_search.proofs.quantifier_steps.stand_in_by.Goals as goal
 
 pub returns-in_err-term-clause-stand_ins : goal.returns-in_err-term-clause-stand_ins

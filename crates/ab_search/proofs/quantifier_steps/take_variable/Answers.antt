@@ -9,11 +9,11 @@ use Rattle.ab_steps.specs.ab_kernel.specs.Layout.{Held, IsProof}
 use Rattle.ab_steps.specs.ab_kernel.specs.ab_judgements.specs.ab_alternatives.specs.ab_instances.proofs.Made.{names_held}
 use Rattle.ab_steps.specs.ab_kernel.proofs.Later.{still_proof}
 use Rattle.ab_steps.specs.Progress.{Follows}
-use Rattle.ab_search.specs.MoreTerms.{GotTerms}
-use Rattle.ab_search.specs.Paths.{AreStandIns}
-use Rattle.ab_search.specs.declared.likeness.StandIn.{StandIn}
+use Rattle.ab_search_paths.specs.MoreTerms.{GotTerms}
+use Rattle.ab_search_paths.specs.Paths.{AreStandIns}
+use Rattle.ab_search_paths.specs.declared.likeness.StandIn.{StandIn}
 use Rattle.ab_search.proofs.MadeBeside.{only_made, made_first, made_last, gave_made_first, gave_made_last}
-use Rattle.ab_search.proofs.Staying.{stand_ins_then}
+use Rattle.ab_search_paths.proofs.Staying.{stand_ins_then}
 use Rattle.ab_search.proofs.quantifier_steps.take_variable.Goals as goal
 
 -- a step, once terms were added

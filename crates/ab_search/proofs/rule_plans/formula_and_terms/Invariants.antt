@@ -2,7 +2,7 @@ use Rattle.std.specs.List.{All}
 use Rattle.std.proofs.Common.{◌≡◌}
 use Rattle.ab_logic.specs.Worlds.{Holds}
 use Rattle.ab_logic.specs.declared.world.World.{World}
-use Rattle.ab_search.specs.Parts.{HoldsAssumed}
+use Rattle.ab_search_paths.specs.Parts.{HoldsAssumed}
 use Rattle.ab_search.proofs.rule_plans.formula_and_terms.Given as goal
 
 abbrev pub invariant-loop-name : goal.invariant-loop-name

@@ -1,4 +1,4 @@
-use Rattle.ab_search.proofs.Parts.{rule_stays, rule_held}
+use Rattle.ab_search_paths.proofs.Parts.{rule_stays, rule_held}
 use Rattle.ab_search.proofs.RulePlans.{later_twice}
 use Rattle.ab_search.proofs.rule_plans.open_at.Goals as goal
 

@@ -2,9 +2,9 @@ use Rattle.std.specs.List.{All}
 use Rattle.std.proofs.Common.{sym, subst}
 use Rattle.ab_logic.specs.Worlds.{Holds}
 use Rattle.ab_logic.proofs.Growing.{still_held}
-use Rattle.ab_search.specs.Parts.{HoldsRuleTerms}
+use Rattle.ab_search_paths.specs.Parts.{HoldsRuleTerms}
 use Rattle.ab_search.proofs.RulePlans.{later_twice, terms_held, path_then}
-use Rattle.ab_search.proofs.Staying.{stand_ins_then}
+use Rattle.ab_search_paths.proofs.Staying.{stand_ins_then}
 use Rattle.ab_search.proofs.rule_plans.plan.Goals as goal
 
 pub plan_with_terms-requires-clause-goal : goal.plan_with_terms-requires-clause-goal

@@ -7,11 +7,11 @@ use Rattle.ab_search.proofs.rule_plans.plan_with_hypothesis.Goals as goal
 pub returns-clause-plan : goal.returns-clause-plan
 returns-clause-plan g c =
     let w = c.args.world.now in
-    let v = c.carried.new.world in
+    let v = c.carry_terms.new.world in
     let held = subst (All (Holds v)) (sym c.deref-2.ensures.value) c.in_ok-here.ensures.held in
     let found = c.in_ok-assumed_with.ensures in
     record {
-      constants = names_held w.types v.types c.carried.ensures.got.grows.types c.args.at.constants.items c.requires.at.constants;
+      constants = names_held w.types v.types c.carry_terms.ensures.got.grows.types c.args.at.constants.items c.requires.at.constants;
       formula = found.formula v held;
       names = found.names v held;
     }

@@ -1,6 +1,6 @@
 use Rattle.ab_steps.specs.ab_kernel.specs.ab_judgements.specs.ab_alternatives.specs.ab_instances.proofs.Made.{names_held}
 use Rattle.ab_search.proofs.RulePlans.{later_twice}
-use Rattle.ab_search.proofs.Staying.{stand_ins_then}
+use Rattle.ab_search_paths.proofs.Staying.{stand_ins_then}
 use Rattle.ab_search.proofs.rule_plans.rule_goal.Goals as goal
 
 pub returns-in_err-open-clause-later : goal.returns-in_err-open-clause-later

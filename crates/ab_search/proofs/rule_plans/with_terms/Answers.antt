@@ -1,7 +1,7 @@
 use Rattle.std.proofs.Common.{◌∙◌, ap}
 use Rattle.ab_logic.specs.Worlds.{Holds}
 use Rattle.ab_search.specs.RulePlans.{NamesTerm}
-use Rattle.ab_search.proofs.Parts.{at_place, pushed}
+use Rattle.ab_search_paths.proofs.Parts.{at_place, pushed}
 use Rattle.ab_search.proofs.rule_plans.with_terms.Goals as goal
 use Rattle.ab_search.proofs.rule_plans.with_terms.Goals.{in-Bound+in_ok-push-in-Bound, in-Term+in-Some+in_ok-push-in-Term}
 

@@ -1,11 +1,11 @@
 use Rattle.std.specs.Prelude.{Option}
 use Rattle.std.proofs.Common.{◌≡◌, ℕ, sym, ◌∙◌, subst, arith}
 use Rattle.ab_patterns.proofs.Renewed.{on_err_then}
-use Rattle.ab_walk.specs.Paths.{HoldsPath, WhereFound}
-use Rattle.ab_walk.specs.Told.{outcome_without}
-use Rattle.ab_walk.specs.declared.walk.Told.{Told}
+use Rattle.ab_search_paths.specs.ab_walk.specs.Paths.{HoldsPath, WhereFound}
+use Rattle.ab_search_paths.specs.ab_walk.specs.Told.{outcome_without}
+use Rattle.ab_search_paths.specs.ab_walk.specs.declared.walk.Told.{Told}
 use Rattle.ab_search.specs.Searched.{FirstComesTo}
-use Rattle.ab_search.proofs.Searching.{first_sequent, some_value, told_not, told_found, proof_later, history_later, follows_later, follows_behind, closed_behind}
+use Rattle.ab_search.proofs.Searching.{first_sequent, misses_none, some_value, told_not, told_found, proof_later, history_later, follows_later, follows_behind, closed_behind}
 use Rattle.ab_search.proofs.search_calls.search.Goals as goal
 
 pub search-requires-clause-sequent : goal.search-requires-clause-sequent
@@ -60,6 +60,15 @@ returns-in-Not-None-default-clause-not_found g c = λ e.
     let a = c.in-Not-None-default in
     subst (λ (o : Option ℕ). FirstComesTo w p c.args.depth (outcome_without o)) a.field-0-is
     (told_not w p c.first_goal-goal.result.now c.first_goal-goal.ensures.reads c.first_goal-goal.ensures.held c.args.depth c.in_ok-place.field-0 a.field-0 a.field-1 c.in_ok-place.ensures.told a.is)
+
+pub returns-in-Not-None-default-clause-complete : goal.returns-in-Not-None-default-clause-complete
+returns-in-Not-None-default-clause-complete g c = λ e.
+    let w = c.args.world.now in
+    let p = c.args.proof.now in
+    let a = c.in-Not-None-default in
+    misses_none w p c.requires.world c.requires.proof c.args.depth
+    (subst (λ (o : Option ℕ). FirstComesTo w p c.args.depth (outcome_without o)) a.field-0-is
+    (told_not w p c.first_goal-goal.result.now c.first_goal-goal.ensures.reads c.first_goal-goal.ensures.held c.args.depth c.in_ok-place.field-0 a.field-0 a.field-1 c.in_ok-place.ensures.told a.is))
 
 pub returns-in-Not-None-default-clause-unchanged : goal.returns-in-Not-None-default-clause-unchanged
 returns-in-Not-None-default-clause-unchanged g c =

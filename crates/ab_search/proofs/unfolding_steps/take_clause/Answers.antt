@@ -2,7 +2,7 @@ use Rattle.std.proofs.lemmas.List.Elements.{All-weaker}
 use Rattle.std.proofs.lemmas.Result.{on_ok_weaker}
 use Rattle.ab_logic.specs.Worlds.{Holds}
 use Rattle.ab_steps.specs.ab_kernel.proofs.Later.{still_proof}
-use Rattle.ab_search.specs.Paths.{IsTermIn}
+use Rattle.ab_search_paths.specs.Paths.{IsTermIn}
 use Rattle.ab_search.proofs.MadeBeside.{only_made, made_first, gave_made_first}
 use Rattle.ab_search.proofs.unfolding_steps.take_clause.Goals as goal
 

@@ -9,8 +9,8 @@ use Rattle.ab_norm.specs.Nominals.{HoldsNominal}
 use Rattle.ab_norm.specs.declared.nominal.Nominal.{Nominal}
 use Rattle.ab_logic.specs.Worlds.{Holds}
 use Rattle.ab_logic.specs.declared.world.World.{World}
-use Rattle.ab_search.specs.MoreTerms.{GotTerms}
-use Rattle.ab_search.proofs.MoreTerms.{got_on, got_over, still_held}
+use Rattle.ab_search_paths.specs.MoreTerms.{GotTerms}
+use Rattle.ab_search_paths.proofs.MoreTerms.{got_on, got_over, still_held}
 use Rattle.ab_search.proofs.unfolding_steps.terms_for.Goals as goal
 
 -- one term more

@@ -1,6 +1,6 @@
 use Rattle.std.specs.List.{All}
 use Rattle.ab_logic.specs.Worlds.{Holds}
-use Rattle.ab_search.specs.MoreTerms.{GotTerms}
+use Rattle.ab_search_paths.specs.MoreTerms.{GotTerms}
 use Rattle.ab_search.proofs.unfolding_steps.terms_for.Given as goal
 
 abbrev pub invariant-loop-place : goal.invariant-loop-place

@@ -1,6 +1,6 @@
 use Rattle.std.proofs.Common.{sym, subst}
-use Rattle.ab_search.specs.Paths.{AreStandIns}
-use Rattle.ab_search.proofs.Staying.{fewer_stand_ins}
+use Rattle.ab_search_paths.specs.Paths.{AreStandIns}
+use Rattle.ab_search_paths.proofs.Staying.{fewer_stand_ins}
 use Rattle.ab_search.proofs.carrying.Progress.next.Goals as goal
 
 pub returns-in-Some-clause-stand_ins : goal.returns-in-Some-clause-stand_ins

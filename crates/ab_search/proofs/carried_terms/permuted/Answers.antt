@@ -1,5 +1,0 @@
-use Rattle.ab_search.proofs.MoreTerms.{got_adds}
-use Rattle.ab_search.proofs.carried_terms.permuted.Goals as goal
-
-pub returns-clause-got : goal.returns-clause-got
-returns-clause-got c = got_adds c.args.world.now c.permute.new.store c.requires.world c.permute.ensures.adds

@@ -1,4 +1,0 @@
-use Rattle.ab_search.proofs.first_cells.+cell_between.Given as goal
-
-abbrev pub decreases-cell_between : goal.decreases-cell_between
-decreases-cell_between l = l.body.0

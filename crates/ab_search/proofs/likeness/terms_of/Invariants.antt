@@ -1,6 +1,0 @@
-use Rattle.std.proofs.Common.{◌≡◌, map, take}
-use Rattle.ab_search.specs.declared.likeness.StandIn.{StandIn}
-use Rattle.ab_search.proofs.likeness.terms_of.Given as goal
-
-abbrev pub invariant-loop-one : goal.invariant-loop-one
-invariant-loop-one l = l.list.items ≡ map (λ (s : StandIn). s.term) (take l.one-index l.stand_ins)
