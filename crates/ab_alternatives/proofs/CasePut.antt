@@ -23,10 +23,9 @@ use Rattle.ab_unifiers.proofs.Lifting.{OfCells, made_terms_typed}
 use Rattle.ab_unifiers.proofs.Rows.{together_typed}
 use Rattle.ab_unifiers.proofs.Variables.{Has, held_has, has_held}
 use Rattle.ab_typing.specs.declared.definitions.ClauseTerm.{ClauseTerm}
-use Rattle.ab_unify.specs.Problem.{cell_read, cells_read, variables_read}
+use Rattle.ab_unify.specs.Problem.{cell_read, cells_read, variables_read, cells_at}
 use Rattle.ab_unify.specs.StoreChanges.{Grows}
 use Rattle.ab_norm.specs.ab_store.specs.Reading.{cell_variable}
-use Rattle.ab_instances.specs.ListReadings.{cells_at}
 use Rattle.ab_instances.proofs.Fitting.{variables_stay}
 use Rattle.ab_formulas.specs.Formulas.{IsFormula}
 use Rattle.ab_formulas.specs.Declarations.{IsDefining, signature_in}

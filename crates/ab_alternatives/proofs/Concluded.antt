@@ -23,7 +23,8 @@ use Rattle.ab_instances.specs.ListReadings.{names_read}
 use Rattle.ab_instances.proofs.Made.{names_stay}
 use Rattle.ab_theory.specs.Equations.{made}
 use Rattle.ab_equations.specs.Meanwhile.{AreFrom, unbound_of}
-use Rattle.ab_alternatives.specs.RightAlternatives.{variable_at, closed_by, Becomes}
+use Rattle.ab_alternatives.specs.RightAlternatives.{closed_by, Becomes}
+use Rattle.ab_logic.specs.Worlds.{variable_at}
 use Rattle.ab_alternatives.specs.declared.clause_bodies.Unfolding.{Unfolding}
 use Rattle.ab_alternatives.proofs.LeftOpen.{left_open}
 

@@ -21,7 +21,7 @@ use Rattle.ab_unify.specs.UnifyAnswers.{AreNewCells, AreInAge, AreLeft}
 use Rattle.ab_theory.specs.Equations.{stays, variables_from, made}
 use Rattle.ab_equations.specs.Meanwhile.{AreFrom, unbound_of}
 use Rattle.ab_equations.proofs.Answering.{from_count, behind_which, behind_age}
-use Rattle.ab_alternatives.specs.RightAlternatives.{variable_at}
+use Rattle.ab_logic.specs.Worlds.{variable_at}
 
 dropped : (types : Table) (cells : List CellEntry) (n : ℕ) (d : CellEntry) → n < length cells → drop n (map (cell_read types) cells) ≡ cell_read types (get_or cells n d) ∷ drop (suc n) (map (cell_read types) cells)
 dropped types [] n d l = absurd (omega (arith, l))

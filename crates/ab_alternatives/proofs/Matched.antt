@@ -10,7 +10,7 @@ use Rattle.ab_unify.specs.Problem.{cells_read}
 use Rattle.ab_unify.specs.StoreChanges.{Grows}
 use Rattle.ab_unify.specs.UnifyAnswers.{AreNewCells, AreInAge, AreLeft}
 use Rattle.ab_equations.specs.Meanwhile.{AreFrom, unbound_of}
-use Rattle.ab_alternatives.specs.RightAlternatives.{variable_at}
+use Rattle.ab_logic.specs.Worlds.{variable_at}
 use Rattle.ab_alternatives.specs.ChoiceMatches.{IsMatch, TellsOpen, cells_before}
 use Rattle.ab_alternatives.specs.declared.choice_matches.Match.{Match}
 use Rattle.ab_alternatives.specs.declared.choice_matches.Match.TheVariants.{Closed, Open, Apart, Stuck}

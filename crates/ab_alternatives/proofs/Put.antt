@@ -19,8 +19,8 @@ use Rattle.ab_unifiers.specs.Unification as solve
 use Rattle.ab_unifiers.specs.Clauses.{numbered, put_together}
 use Rattle.ab_unifiers.specs.Alternatives.{cells_over, made_terms, cells_of, arguments_equal}
 use Rattle.ab_unifiers.proofs.Variables.{holds_contains}
-use Rattle.ab_unify.specs.Problem.{cell_read, cells_read, variables_read}
-use Rattle.ab_instances.specs.ListReadings.{cells_at, trees_at}
+use Rattle.ab_unify.specs.Problem.{cell_read, cells_read, variables_read, cells_at}
+use Rattle.ab_instances.specs.ListReadings.{trees_at}
 use Rattle.ab_formulas.specs.Sequents.{in_terms}
 use Rattle.ab_logic.specs.Worlds.{variable_of}
 use Rattle.ab_logic.specs.declared.world.World.{World}

@@ -18,9 +18,9 @@ use Rattle.ab_norm.specs.ab_store.specs.Naming.{IsTypedBy, IsTerm}
 use Rattle.ab_unifiers.specs.Replacements.{Cell}
 use Rattle.ab_unifiers.specs.Clauses.{Each, numbered}
 use Rattle.ab_unifiers.specs.Alternatives.{cells_over, made_over, made_terms}
-use Rattle.ab_unify.specs.Problem.{cell_read, cells_read, variables_read}
+use Rattle.ab_unify.specs.Problem.{cell_read, cells_read, variables_read, cells_at}
 use Rattle.ab_unify.specs.StoreChanges.{Grows}
-use Rattle.ab_instances.specs.ListReadings.{cells_at, trees_at}
+use Rattle.ab_instances.specs.ListReadings.{trees_at}
 use Rattle.ab_instances.specs.CellBindings.{CanBeBound}
 use Rattle.ab_instances.specs.declared.raised_variables.Over.{Over}
 use Rattle.ab_instances.proofs.Bound.{each_length}

@@ -21,10 +21,10 @@ use Rattle.ab_unifiers.specs.Alternatives.{cells_over, made_over, made_terms, ar
 use Rattle.ab_typing.specs.DefinitionReadings.{name_of}
 use Rattle.ab_formulas.specs.Marks.{Sign}
 use Rattle.ab_formulas.specs.BodyMarks.{mark_below, marked_in}
-use Rattle.ab_unify.specs.Problem.{cell_read, cells_read, variables_read}
+use Rattle.ab_unify.specs.Problem.{cell_read, cells_read, variables_read, cells_at}
 use Rattle.ab_unify.specs.StoreChanges.{Grows}
 use Rattle.ab_unify.proofs.Growth.{grows_on, grows_terms}
-use Rattle.ab_instances.specs.ListReadings.{given_at, cells_at}
+use Rattle.ab_instances.specs.ListReadings.{given_at}
 use Rattle.ab_instances.specs.declared.raised_variables.Over.{Over}
 use Rattle.ab_theory.specs.Atoms.{Choice}
 use Rattle.ab_theory.specs.RaisedAlternatives.{raised_cells}

@@ -17,8 +17,8 @@ use Rattle.ab_unify.specs.UnifyAnswers.{IsTypedPair}
 use Rattle.ab_unifiers.specs.Clauses.{Each, put_together, filled}
 use Rattle.ab_unifiers.specs.Choices.{in_order, outside}
 use Rattle.ab_unifiers.specs.Alternatives.{cells_over, made_over, made_terms, arguments_equal}
-use Rattle.ab_unify.specs.Problem.{cells_read, variables_read}
-use Rattle.ab_instances.specs.ListReadings.{cells_at, trees_at}
+use Rattle.ab_unify.specs.Problem.{cells_read, variables_read, cells_at}
+use Rattle.ab_instances.specs.ListReadings.{trees_at}
 use Rattle.ab_instances.specs.declared.raised_variables.Over.{Over}
 use Rattle.ab_formulas.specs.Marks.{Sign}
 use Rattle.ab_logic.specs.Worlds.{variable_of}

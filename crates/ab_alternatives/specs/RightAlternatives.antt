@@ -7,11 +7,9 @@ use Rattle.ab_term.specs.Abstraction.{close}
 use Rattle.ab_term.specs.Variables.{Substitution, image, image_all}
 use Rattle.ab_term.specs.Sameness.{same_number}
 use Rattle.ab_norm.specs.ab_types.specs.Entries.{Table}
-use Rattle.ab_norm.specs.ab_types.specs.Ids.{type_of}
-use Rattle.ab_norm.specs.ab_store.specs.declared.node.CellId.{CellId}
 use Rattle.ab_norm.specs.ab_store.specs.declared.node.TermId.{TermId}
 use Rattle.ab_norm.specs.ab_store.specs.Naming.{IsTerm}
-use Rattle.ab_norm.specs.ab_store.specs.Trees.{Contents, cell_of, tree_of}
+use Rattle.ab_norm.specs.ab_store.specs.Trees.{Contents, tree_of}
 use Rattle.ab_unifiers.specs.Replacements.{Cell}
 use Rattle.ab_unifiers.specs.Unification.{unified, Solves}
 use Rattle.ab_unify.specs.UnifyAnswers.{IsTypedPair}
@@ -27,10 +25,6 @@ use Rattle.ab_alternatives.specs.LeftAlternatives.{unchosen_in, trees_from}
 use Rattle.ab_theory.specs.Splits.{problem_of}
 use Rattle.ab_theory.specs.Unfolding.{unfolding_case, exists_all, unfolded}
 use Rattle.ab_alternatives.specs.declared.clause_bodies.Unfolding.{Unfolding}
-
--- the variable of a cell
-abbrev pub variable_at : Table → Contents → CellId → Variable
-variable_at types store c = record { number = c.0; type = type_of types (cell_of store c).ty; name = (cell_of store c).hint }
 
 -- `nabla` over the constants, whose binders have these hints
 abbrev pub nabla_by : List (List ℕ) → List Nominal → Read → Read

@@ -14,7 +14,8 @@ ghost use Rattle.ab_unify.specs.Problem.{problem};
 ghost use Rattle.ab_unify.specs.StoreChanges.{Grows};
 ghost use Rattle.ab_instances.specs.ListReadings.{names_read};
 ghost use Rattle.ab_equations.specs.Meanwhile.{AreFrom, unbound_of};
-ghost use Rattle.ab_alternatives.specs.RightAlternatives.{variable_at, closed_by, Becomes};
+ghost use Rattle.ab_alternatives.specs.RightAlternatives.{closed_by, Becomes};
+ghost use Rattle.ab_logic.specs.Worlds.{variable_at};
 ghost use Rattle.ab_alternatives.specs.declared.conclusions.Conclusion.TheVariants.{Formula, Apart, Stuck};
 
 use crate::clause_bodies::Unfolding;

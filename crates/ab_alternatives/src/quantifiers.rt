@@ -9,7 +9,8 @@ ghost use Rattle.ab_norm.specs.NodeGrowth.{AddsTypedTerms};
 ghost use Rattle.ab_norm.specs.Nominals.{HoldsNominal};
 ghost use Rattle.ab_instances.specs.ListReadings.{names_read};
 ghost use Rattle.ab_theory.specs.Unfolding.{exists_all};
-ghost use Rattle.ab_alternatives.specs.RightAlternatives.{variable_at, nabla_by};
+ghost use Rattle.ab_alternatives.specs.RightAlternatives.{nabla_by};
+ghost use Rattle.ab_logic.specs.Worlds.{variable_at};
 
 use ab_norm::Nominal;
 use ab_norm::name::Name;

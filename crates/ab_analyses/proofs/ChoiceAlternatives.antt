@@ -22,7 +22,7 @@ use Rattle.ab_unifiers.specs.Replacements.{Cell, holds}
 use Rattle.ab_unifiers.specs.Choices.{outside}
 use Rattle.ab_unifiers.specs.Clauses.{Each, put_together}
 use Rattle.ab_unifiers.specs.Alternatives.{cells_of, arguments_equal}
-use Rattle.ab_unify.specs.Problem.{cell_read, cells_read, variables_read}
+use Rattle.ab_unify.specs.Problem.{cell_read, cells_read, variables_read, cells_at}
 use Rattle.ab_unify.specs.StoreChanges.{Grows}
 use Rattle.ab_unify.specs.UnifyAnswers.{IsTypedPair}
 use Rattle.ab_unify.proofs.Growth.{grown_type}
@@ -39,7 +39,7 @@ use Rattle.ab_logic.specs.declared.sequent.Sequent.{Sequent}
 use Rattle.ab_theory.specs.Analysis.{scope_of}
 use Rattle.ab_theory.specs.Atoms.{Defined, Choice}
 use Rattle.ab_theory.specs.RaisedAlternatives.{raised_cells, raised_terms}
-use Rattle.ab_alternatives.specs.ab_instances.specs.ListReadings.{names_read, cells_at, trees_at}
+use Rattle.ab_alternatives.specs.ab_instances.specs.ListReadings.{names_read, trees_at}
 use Rattle.ab_alternatives.specs.ab_instances.proofs.Fitting.{variables_stay}
 use Rattle.ab_alternatives.specs.ab_instances.proofs.Made.{names_held, names_stay}
 use Rattle.ab_alternatives.specs.ab_sequents.proofs.MarkedAtoms.{marked_not}

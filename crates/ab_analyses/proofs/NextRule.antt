@@ -6,9 +6,9 @@ use Rattle.ab_unify.specs.Problem.{cells_read}
 use Rattle.ab_logic.specs.declared.world.World.{World}
 use Rattle.ab_theory.specs.SpecRules.{SpecRule}
 use Rattle.ab_alternatives.specs.CaseSteps.{IsLater}
-use Rattle.ab_judgements.specs.JudgementReadings.{judgement_read, HoldsJudgement}
+use Rattle.ab_judgements.specs.ab_judgement_forms.specs.JudgementReadings.{judgement_read, HoldsJudgement}
 use Rattle.ab_judgements.specs.RuleWalks.{slots, rules_in, rule_in, HasListed, IsRuled}
-use Rattle.ab_judgements.specs.declared.judgements.Judgement.{Judgement}
+use Rattle.ab_judgements.specs.ab_judgement_forms.specs.declared.judgements.Judgement.{Judgement}
 use Rattle.ab_judgements.specs.declared.rule_places.Ruled.{Ruled}
 use Rattle.ab_judgements.proofs.LaterJudgements.{judgement_same, same_listed}
 use Rattle.ab_judgements.proofs.LaterRules.{same_slots, same_judgement}

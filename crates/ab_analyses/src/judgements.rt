@@ -6,7 +6,7 @@ ghost use Rattle.ab_logic.specs.Worlds.{IsWorld};
 ghost use Rattle.ab_theory.specs.SpecRules.{SpecRule as APlainRule};
 ghost use Rattle.ab_alternatives.specs.CaseSteps.{IsLater};
 ghost use Rattle.ab_judgements.specs.DemandReadings.{rule_read, IsTypedJudgement, IsRuleFor};
-ghost use Rattle.ab_judgements.specs.JudgementReadings.{judgement_read, HoldsJudgement};
+ghost use Rattle.ab_judgements.specs.ab_judgement_forms.specs.JudgementReadings.{judgement_read, HoldsJudgement};
 ghost use Rattle.ab_judgements.specs.RuleWalks.{slots, rule_in, rules_in, HasListed, IsRuled};
 ghost use Rattle.ab_judgements.specs.SubjectReadings.{HasRules};
 ghost use Rattle.ab_judgements.specs.declared.subjects.Subject.TheVariants.{Judgement as AJudgement};

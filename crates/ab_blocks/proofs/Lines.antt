@@ -12,9 +12,8 @@ use Rattle.ab_logic.specs.SequentReadings.{sequent_of}
 use Rattle.ab_formulas.specs.Sequents.{Variable, Sequent, IsSequent}
 use Rattle.ab_logic.specs.declared.world.World.{World}
 use Rattle.ab_logic.specs.declared.sequent.Sequent.{Sequent as Kept}
-use Rattle.ab_steps.specs.ab_kernel.specs.Layout.{Held, IsProof}
-use Rattle.ab_steps.proofs.GoalSequents.{goals_are_sequents}
-use Rattle.ab_steps.specs.Progress.{goals_of}
+use Rattle.ab_states.specs.ab_kernel.specs.Layout.{Held, IsProof, goals_of}
+use Rattle.ab_states.specs.ab_kernel.proofs.GoalSequents.{goals_are_sequents}
 use Rattle.ab_print.specs.GoalText as by_number
 use Rattle.ab_print.specs.GoalText.{cell_name}
 use Rattle.ab_formulas.specs.NamedGoals.{Goal, named}

@@ -5,9 +5,9 @@ use Rattle.ab_term.specs.Translation.{translate}
 use Rattle.ab_print.specs.GoalText.{reply_line}
 use Rattle.ab_formulas.specs.NamedGoals.{Named, Goal}
 use Rattle.ab_print.specs.NamedGoalText.{shown as term, goal_lines, other_goal}
-use Rattle.ab_declare.specs.declared.refusal.Place.{Place}
-use Rattle.ab_declare.specs.declared.refusal.Refusal.{Refusal}
-use Rattle.ab_declare.specs.declared.refusal.Refusal.TheVariants.{Syntax, TooLong, Unknown, Clash, TypeClash, Untyped, NotStratified, BadHead, WrongPlace, NoHypothesis, WrongShape, NoMatch, NotPattern, Unresolved, Mark, NotFound, NothingToUndo, FileMissing, FileFault, FileTooLong, WrongTitle, Circular, TooNested, NamesSpent, TooManyFiles, NotBuilt}
+use Rattle.ab_states.specs.ab_specification.specs.ab_declare.specs.declared.refusal.Place.{Place}
+use Rattle.ab_states.specs.ab_specification.specs.ab_declare.specs.declared.refusal.Refusal.{Refusal}
+use Rattle.ab_states.specs.ab_specification.specs.ab_declare.specs.declared.refusal.Refusal.TheVariants.{Syntax, TooLong, Unknown, Clash, TypeClash, Untyped, NotStratified, BadHead, WrongPlace, NoHypothesis, WrongShape, NoMatch, NotPattern, Unresolved, Mark, NotFound, NothingToUndo, FileMissing, FileFault, FileTooLong, WrongTitle, Circular, TooNested, NamesSpent, TooManyFiles, NotBuilt}
 use Rattle.ab_states.specs.State.{State, goals_of}
 use Rattle.ab_states.specs.Reply.{Reply, accepted, completed, admitted, shown, quit, refused}
 

@@ -1,14 +1,13 @@
 //! What is printed of the goals of a proof.
 ghost use Rattle.std.specs.Prelude.{◌≡◌, ◌++◌, drop, map, OnOk};
 ghost use Rattle.ab_logic.specs.Worlds.{IsWorld};
-ghost use Rattle.ab_steps.specs.ab_kernel.specs.Layout.{IsProof};
-ghost use Rattle.ab_steps.specs.Progress.{goals_of};
+ghost use Rattle.ab_states.specs.ab_kernel.specs.Layout.{IsProof, goals_of};
 ghost use Rattle.ab_formulas.specs.NamedGoals.{named};
 ghost use Rattle.ab_blocks.specs.Blocks.{others_from, goals_shown};
 
 use ab_logic::World;
 use ab_print::{show_goal, show_other};
-use ab_steps::kernel::Proof;
+use ab_states::kernel::Proof;
 use std::alloc::{AllocError, Global};
 
 /// Appends the goals behind the current one.

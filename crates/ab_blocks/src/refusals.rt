@@ -2,8 +2,8 @@
 ghost use Rattle.std.specs.Prelude.{◌≡◌, ◌++◌, codes, decimal, OnOk};
 ghost use Rattle.ab_blocks.specs.Blocks.{class, in_file, at_place, named, all_named, detail};
 
-use ab_declare::{Place, Refusal};
 use ab_name::Name;
+use ab_states::specification::declare::{Place, Refusal};
 use itoa::Buffer;
 use std::alloc::AllocError;
 
@@ -55,13 +55,10 @@ fn write_name_in(name: &Name, file: &Option<Name>, out: &mut Vec<u8>) -> Result<
 pub(crate) fn write_names(names: &[Name], out: &mut Vec<u8>) -> Result<(), AllocError>
     ensures { OnOk result (out.new.items ≡ out.old.items ++ all_named names.now) }
 {
-    match names {
-        [] => Ok(()),
-        [first, rest @ ..] => {
-            write_name(first, out)?;
-            write_names(rest, out)
-        }
+    'names: for name in names {
+        write_name(name, out)?;
     }
+    Ok(())
 }
 
 /// The number and the class of a refusal.

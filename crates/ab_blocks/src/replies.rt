@@ -3,7 +3,7 @@ ghost use Rattle.std.specs.Prelude.{◌≡◌, ◌++◌, [], map, length, OnOk, 
 ghost use Rattle.std.specs.Option.{option_copied};
 ghost use Rattle.ab_term.specs.Variables.{variables};
 ghost use Rattle.ab_logic.specs.Worlds.{IsWorld};
-ghost use Rattle.ab_steps.specs.ab_kernel.specs.Layout.{IsProof};
+ghost use Rattle.ab_states.specs.ab_kernel.specs.Layout.{IsProof};
 ghost use Rattle.ab_states.specs.State.{State, goals_of, goals_in};
 ghost use Rattle.ab_states.specs.Reply.{SpeaksOfNoGoal, reply_of};
 ghost use Rattle.ab_blocks.specs.Blocks.{text, block};
@@ -13,7 +13,7 @@ use crate::refusals::{write_names, write_refusal};
 use ab_logic::World;
 use ab_print::{show_reply, show_term};
 use ab_states::Reply;
-use ab_steps::kernel::Proof;
+use ab_states::kernel::Proof;
 use std::alloc::{AllocError, Global};
 
 /// Appends what stands behind the number of kept commands.

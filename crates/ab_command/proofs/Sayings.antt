@@ -12,7 +12,7 @@ use Rattle.ab_grammar.specs.Language.{Accepted, SyntaxAt, TooNestedAt}
 use Rattle.ab_grammar.proofs.Standing.{command_stands}
 use Rattle.ab_grammar.proofs.OneCommand.{one_command}
 use Rattle.ab_grammar.proofs.OneAnswer as answers
-use Rattle.ab_syntax.specs.Tokens.{tokens_in}
+use Rattle.ab_syntax.specs.ab_expressions.specs.Tokens.{tokens_in}
 use Rattle.ab_syntax.specs.Faults.{fault_place, nested_place, IsTold, IsCommandPlace}
 use Rattle.ab_command.specs.declared.fault.Cause.{Cause}
 use Rattle.ab_command.specs.declared.fault.Cause.TheVariants.{Syntax, WrongPlace, TooNested}

@@ -8,7 +8,7 @@ use Rattle.ab_grammar.specs.declared.head.Stand.TheVariants.{Outside, Inside, An
 use Rattle.ab_grammar.specs.CommandTrees.{Command}
 use Rattle.ab_grammar.specs.CommandTable.{CommandText, StandsAt}
 use Rattle.ab_grammar.specs.Language.{Accepted, SyntaxAt, TooNestedAt}
-use Rattle.ab_syntax.specs.Tokens.{tokens_in}
+use Rattle.ab_syntax.specs.ab_expressions.specs.Tokens.{tokens_in}
 use Rattle.ab_syntax.specs.Faults.{nested_place, IsCommandPlace}
 use Rattle.ab_command.specs.declared.fault.Cause.{Cause}
 use Rattle.ab_command.specs.declared.fault.Cause.TheVariants.{Syntax, WrongPlace, TooNested, NotBuilt}

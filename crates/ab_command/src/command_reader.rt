@@ -4,7 +4,7 @@ ghost use Rattle.ab_lex.specs.declared.token.LexFault.{LexFault};
 ghost use Rattle.ab_lex.specs.Tokens.{TokensOf, FaultOf, place_of};
 ghost use Rattle.ab_grammar.specs.CommandTable.{CommandText};
 ghost use Rattle.ab_grammar.specs.Language.{Accepted};
-ghost use Rattle.ab_syntax.specs.Tokens.{tokens_in};
+ghost use Rattle.ab_syntax.specs.ab_expressions.specs.Tokens.{tokens_in};
 ghost use Rattle.ab_syntax.specs.Commands.{command_of};
 ghost use Rattle.ab_command.specs.CommandReadings.{StandsHere, Fits, Says, Fails, FailsBy};
 
@@ -67,7 +67,12 @@ fn tokens_here(alloc: Global, bytes: &[u8], is_open: bool) -> Result<Vec<Token>,
 }
 
 /// The command of the grammar that the tokens spell.
-fn spelled(alloc: Global, bytes: &[u8], tokens: &[Token], is_open: bool) -> Result<Command, Unread>
+fn command_of_tokens(
+    alloc: Global,
+    bytes: &[u8],
+    tokens: &[Token],
+    is_open: bool,
+) -> Result<Command, Unread>
     requires { Fits bytes.now is_open tokens.now }
     ensures read { IfOk result (λ c. Accepted CommandText (tokens_in bytes.now tokens.now) (command_of c)) }
     ensures unread { IfErr result (FailsBy bytes.now is_open) }
@@ -86,7 +91,7 @@ pub fn read_command(alloc: Global, bytes: &[u8], is_open: bool) -> Result<Comman
     ensures unread { IfErr result (FailsBy bytes.now is_open) }
 {
     let tokens = tokens_here(alloc, bytes, is_open)?;
-    let command = spelled(alloc, bytes, &tokens, is_open)?;
+    let command = command_of_tokens(alloc, bytes, &tokens, is_open)?;
     if is_built(&command) {
         Ok(command)
     } else {

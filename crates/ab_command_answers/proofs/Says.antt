@@ -10,7 +10,7 @@ use Rattle.ab_grammar.specs.declared.head.Stand.{Stand}
 use Rattle.ab_grammar.specs.declared.head.Stand.TheVariants.{Outside, Inside, Anywhere}
 use Rattle.ab_grammar.specs.CommandTrees.{Command}
 use Rattle.ab_grammar.specs.CommandTable.{CommandText, StandsAt}
-use Rattle.ab_syntax.specs.Tokens.{origin_of, tokens_in}
+use Rattle.ab_syntax.specs.ab_expressions.specs.Tokens.{origin_of, tokens_in}
 use Rattle.ab_syntax.specs.Faults.{place_past, nested_place, IsWordAlone}
 use Rattle.ab_language_laws.specs.TextAnswers.{HasAnswer}
 use Rattle.ab_language_laws.proofs.Commands.{command_answer}

@@ -14,7 +14,7 @@ use Rattle.ab_logic.specs.declared.world.World.{World}
 use Rattle.ab_theory.specs.Steps.{for_all_right, nabla_right, arrow_right}
 use Rattle.ab_theory.specs.Rules.{NamedRule, Fails, raised, applied, name_term}
 use Rattle.ab_theory.proofs.NewNumbers.{new_number}
-use Rattle.ab_steps.specs.ab_kernel.specs.Layout.{Held, IsProof}
+use Rattle.ab_steps.specs.ab_kernel.specs.Layout.{Held, IsProof, goals_of}
 use Rattle.ab_effects.specs.ProofCommands.{effect, introducing, left_over, clashing_names}
 use Rattle.ab_effects.specs.Introductions.{Introduced, Unnamed, first_label, others, taken_off}
 use Rattle.ab_effects.specs.Openings.{Taken}
@@ -23,7 +23,7 @@ use Rattle.ab_effects.specs.Row.{Leads, Refuses}
 use Rattle.ab_steps.specs.ProofEffects.{RefusedBy}
 use Rattle.ab_steps.specs.declared.fault.ProofCommandFault.{ProofCommandFault}
 use Rattle.ab_steps.specs.declared.fault.ProofCommandFault.TheVariants.{Unknown, Clash, TypeClash, Untyped, NoHypothesis, WrongShape, Mark, NoMatch, NotPattern, Unresolved, NamesSpent, Memory}
-use Rattle.ab_steps.specs.Progress.{goals_of, Follows, Took, FailsAt, Holds}
+use Rattle.ab_steps.specs.Progress.{Follows, Took, FailsAt, Holds}
 use Rattle.ab_steps.proofs.Following.{first_at, at_first, one_at_least, follows_on, follows_not}
 use Rattle.ab_steps.proofs.Connectives.{connectives, rigid_applied, rigid_name, same_connectives, fewer_for_all, fewer_nabla, fewer_implies, for_all_is, nabla_is, implies_is}
 use Rattle.ab_conclusion.specs.IntroductionSteps.{LeadsOn, IsTakenOff, IsAtItsEnd, IsNameless}

@@ -15,11 +15,11 @@ use Rattle.ab_theory.specs.Conjuncts.{conjuncts}
 use Rattle.ab_theory.specs.Steps.{and_right}
 use Rattle.ab_theory.specs.Rules.{NamedRule, Fails}
 use Rattle.ab_theory.proofs.Conjuncts.{both_conjuncts, alone_conjuncts}
-use Rattle.ab_steps.specs.ab_kernel.specs.Layout.{Held, IsProof}
+use Rattle.ab_steps.specs.ab_kernel.specs.Layout.{Held, IsProof, goals_of}
 use Rattle.ab_effects.specs.ProofCommands.{effect}
 use Rattle.ab_meaning.specs.Refusals.{wrong_shape}
 use Rattle.ab_effects.specs.Row.{Leads, Refuses}
-use Rattle.ab_steps.specs.Progress.{goals_of, IsAt, Follows, Took, FailsAt}
+use Rattle.ab_steps.specs.Progress.{IsAt, Follows, Took, FailsAt}
 use Rattle.ab_conclusion.specs.Conjunctions.{Parted, none, whole, halves, AreParted}
 use Rattle.ab_steps.proofs.Following.{Somewhere, somewhere, follows_on, follows_not}
 use Rattle.ab_steps.proofs.Connectives.{connectives, both_is, fewer_both}

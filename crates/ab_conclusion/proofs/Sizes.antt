@@ -23,7 +23,7 @@ use Rattle.ab_meaning.specs.Refusals.{clash}
 use Rattle.ab_effects.specs.Row.{Row, leads, Leads}
 use Rattle.ab_steps.specs.ProofEffects.{RefusedBy}
 use Rattle.ab_steps.specs.Progress.{SolvesNothing}
-use Rattle.ab_steps.specs.ab_kernel.specs.SizeSteps.{same_by, smaller_by, step_by}
+use Rattle.ab_steps.specs.ab_kernel.specs.ab_rules.specs.SizeSteps.{same_by, smaller_by, step_by}
 use Rattle.ab_steps.specs.declared.fault.ProofCommandFault.{ProofCommandFault}
 use Rattle.ab_steps.specs.declared.fault.ProofCommandFault.TheVariants.{Unknown, Clash, TypeClash, Untyped, NoHypothesis, WrongShape, Mark, NoMatch, NotPattern, Unresolved, NamesSpent, Memory}
 use Rattle.ab_conclusion.specs.InductionSizes.{AreNamedBy, MayGetSizes, GetsNoSizes, command_by, word_by}

@@ -20,15 +20,15 @@ use Rattle.ab_theory.specs.Subjects.{Subject, subject_of, sign_of}
 use Rattle.ab_theory.specs.Steps.{definition_right}
 use Rattle.ab_steps.specs.ab_kernel.proofs.NewNumbers.{over_cells}
 use Rattle.ab_theory.specs.Derivations.{History, open_goals}
-use Rattle.ab_steps.specs.ab_kernel.specs.Layout.{Held, IsProof}
+use Rattle.ab_steps.specs.ab_kernel.specs.Layout.{Held, IsProof, goals_of}
 use Rattle.ab_steps.specs.ab_kernel.proofs.Later.{same_history, still_proof}
-use Rattle.ab_steps.proofs.GoalSequents.{first_is_sequent}
+use Rattle.ab_steps.specs.ab_kernel.proofs.GoalSequents.{first_is_sequent}
 use Rattle.ab_effects.specs.ProofCommands.{effect}
 use Rattle.ab_effects.specs.Row.{Leads}
 use Rattle.ab_steps.specs.ProofEffects.{IsApplied, RefusedBy}
 use Rattle.ab_steps.specs.declared.fault.ProofCommandFault.{ProofCommandFault}
 use Rattle.ab_steps.specs.declared.fault.ProofCommandFault.TheVariants.{Mark, NoMatch, NotPattern, Unresolved, Memory}
-use Rattle.ab_steps.specs.Progress.{goals_of, Follows, TookInto, FailsBy, StuckAt}
+use Rattle.ab_steps.specs.Progress.{Follows, TookInto, FailsBy, StuckAt}
 use Rattle.ab_steps.proofs.Following.{first_at, one_at_least, follows_same}
 use Rattle.ab_steps.specs.ab_kernel.specs.ab_judgements.specs.SubjectAnswers.{FindsWay}
 use Rattle.ab_steps.specs.ab_kernel.specs.ab_judgements.specs.ab_alternatives.specs.declared.first_choice.Found.TheVariants.{Closed, Open, Stuck, Nothing}

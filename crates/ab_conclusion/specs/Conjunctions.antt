@@ -4,8 +4,7 @@ use Rattle.ab_term.specs.Terms.{Read}
 use Rattle.ab_formulas.specs.Forms.{as_both}
 use Rattle.ab_formulas.specs.Sequents.{Sequent, proving}
 use Rattle.ab_logic.specs.declared.world.World.{World}
-use Rattle.ab_steps.specs.ab_kernel.specs.Layout.{Held}
-use Rattle.ab_steps.specs.Progress.{goals_of}
+use Rattle.ab_steps.specs.ab_kernel.specs.Layout.{Held, goals_of}
 
 -- each goal that asks for a conjunction gave way to its halves, and so did these
 pub data Parted : List Sequent → List Sequent → Type 0 where

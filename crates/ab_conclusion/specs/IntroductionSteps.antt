@@ -5,9 +5,8 @@ use Rattle.ab_formulas.specs.Forms.{form_of}
 use Rattle.ab_formulas.specs.Sequents.{Sequent}
 use Rattle.ab_logic.specs.Worlds.{declarations_of}
 use Rattle.ab_logic.specs.declared.world.World.{World}
-use Rattle.ab_steps.specs.ab_kernel.specs.Layout.{Held}
+use Rattle.ab_steps.specs.ab_kernel.specs.Layout.{Held, goals_of}
 use Rattle.ab_effects.specs.Introductions.{IsKept, Introduced, Unnamed}
-use Rattle.ab_steps.specs.Progress.{goals_of}
 use Rattle.ab_steps.proofs.Connectives.{connectives}
 use Rattle.ab_conclusion.specs.declared.introductions.Taken.{Taken}
 use Rattle.ab_conclusion.specs.declared.introductions.Taken.TheVariants.{Nothing, Next, Nameless}

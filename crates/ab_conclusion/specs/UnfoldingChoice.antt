@@ -9,8 +9,7 @@ use Rattle.ab_theory.specs.Equations.{AreCells}
 use Rattle.ab_theory.specs.Subjects.{Subject, subject_of, sign_of}
 use Rattle.ab_steps.specs.ab_kernel.specs.ab_judgements.specs.SubjectAnswers.{FindsWay}
 use Rattle.ab_steps.specs.ab_kernel.specs.ab_judgements.specs.ab_alternatives.specs.declared.first_choice.Found.TheVariants.{Closed}
-use Rattle.ab_steps.specs.ab_kernel.specs.Layout.{Held}
-use Rattle.ab_steps.specs.Progress.{goals_of}
+use Rattle.ab_steps.specs.ab_kernel.specs.Layout.{Held, goals_of}
 
 -- the conclusion is a subject that may be unfolded, and the way of this place is the first that may do it, which leaves nothing
 -- open

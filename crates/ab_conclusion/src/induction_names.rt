@@ -83,7 +83,7 @@ fn hypothesis_name(
 }
 
 /// The word with the number behind it.
-fn numbered(alloc: Global, word: &str, number: u128) -> Result<Name, AllocError>
+fn numbered_word(alloc: Global, word: &str, number: u128) -> Result<Name, AllocError>
     ensures { IfOk result (λ name. name ≡ word.now ++ decimal number) }
 {
     let text = format!(in alloc; "{word}{number}")?;
@@ -109,7 +109,7 @@ fn first_free(alloc: Global, world: &World, goal: &Sequent, word: &str) -> Resul
     }
     let last = last_number(goal);
     for number in 1..last + 1 {
-        let name = numbered(alloc, word, number)?;
+        let name = numbered_word(alloc, word, number)?;
         if !goal.uses(&name) {
             return Ok(name);
         }

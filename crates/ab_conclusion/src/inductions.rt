@@ -5,11 +5,11 @@ ghost use Rattle.ab_grammar.specs.CommandTrees as told;
 ghost use Rattle.ab_logic.specs.SequentReadings.{HoldsSequent, sequent_of};
 ghost use Rattle.ab_logic.specs.Worlds.{IsWorld, declarations_of};
 ghost use Rattle.ab_logic.specs.declared.world.World.{World as AWorld};
-ghost use Rattle.ab_steps.specs.Progress.{goals_of, Follows};
+ghost use Rattle.ab_steps.specs.Progress.{Follows};
 ghost use Rattle.ab_steps.specs.ProofEffects.{IsApplied, IsRefused};
-ghost use Rattle.ab_steps.specs.ab_kernel.specs.Layout.{history_of, IsProof};
-ghost use Rattle.ab_steps.specs.ab_kernel.specs.RuleAnswers.{step_of, HoldsStep};
-ghost use Rattle.ab_steps.specs.ab_kernel.specs.SizeSteps.{step_by};
+ghost use Rattle.ab_steps.specs.ab_kernel.specs.Layout.{history_of, IsProof, goals_of};
+ghost use Rattle.ab_steps.specs.ab_kernel.specs.ab_rules.specs.RuleAnswers.{step_of, HoldsStep};
+ghost use Rattle.ab_steps.specs.ab_kernel.specs.ab_rules.specs.SizeSteps.{step_by};
 ghost use Rattle.ab_steps.specs.declared.fault.ProofCommandFault.{ProofCommandFault};
 ghost use Rattle.ab_conclusion.specs.InductionSizes.{MayGetSizes, GetsNoSizes, command_by, word_by};
 

@@ -15,116 +15,14 @@ use Rattle.ab_meaning.specs.Types.{is_listed}
 use Rattle.ab_inference.specs.declared.fault.InferFault.TheVariants.{Unknown, TypeClash, Untyped, Memory}
 use Rattle.ab_infer.specs.Occurrences.{free_names, with_name, with_names}
 use Rattle.ab_formulas.specs.Clauses.{Clause}
-use Rattle.ab_declare.specs.KeptClauses.{kept_clause}
-use Rattle.ab_declare.specs.ClauseReadings.{Parts, places_in, ClauseReading, HasOneReading, IsFirstOpen}
-use Rattle.ab_declare.specs.ClauseMeanings.{parts_found, body_type, variable_names, variable_from, variables_from, closes_body, numbered_names, IsKeptAs}
-use Rattle.ab_declare.specs.declared.refusal.Refusal.{Refusal}
-use Rattle.ab_declare.specs.declared.refusal.Refusal.TheVariants as refusal
-use Rattle.ab_declare.specs.Refusals.{here}
-use Rattle.ab_declare.specs.DefinitionCommands.{MeansKept, MeanKept, IsRead, IsUnread}
-
-abbrev head_given : Head ℕ → Ty
-head_given (variable y) = y.type
-head_given _ = prop
-
--- the type at a name's head or at a binder
-abbrev type_given : Raw → Ty
-type_given (atom h) = head_given h
-type_given (abstraction A x t) = A
-type_given (application t u) = prop
-
-abbrev body : Raw → Raw
-body (atom h) = atom h
-body (abstraction A x t) = t
-body (application t u) = u
-
-abbrev function : Raw → Raw
-function (atom h) = atom h
-function (abstraction A x t) = t
-function (application t u) = t
-
-joined_same : (As Bs Cs Ds : List Ty) → As ≡ Cs → Bs ≡ Ds → As ++ Bs ≡ Cs ++ Ds
-joined_same As Bs Cs Ds e f = ap (λ l. l ++ Bs) e ∙ ap (λ l. Cs ++ l) f
-
-begun_same : (A C : Ty) (As Cs : List Ty) → A ≡ C → As ≡ Cs → A ∷ As ≡ C ∷ Cs
-begun_same A C As Cs e f = ap (λ B. B ∷ As) e ∙ ap (λ l. C ∷ l) f
-
--- readings that are one term give the same types to binders and free names
-module _ (n : ℕ) (names : List Name) where
-  given_same : {types others : Name → Ty} {G H : List Ty} {e : Resolved} {t u : Raw} {A B : Ty} {As Bs : List Ty}
-      → Reads (variable_from n names) types G e t A As → Reads (variable_from n names) others H e u B Bs → t ≡ u → As ≡ Bs
-  given_same (reads_bound h) (reads_bound k) s = refl
-  given_same reads_known reads_known s = refl
-  given_same (reads_free f) (reads_free f2) s = ap (λ A. A ∷ []) (ap type_given s)
-  given_same (reads_apply {As = As} {Bs = Bs} d h) (reads_apply {As = Cs} {Bs = Ds} d2 h2) s =
-      joined_same As Bs Cs Ds (given_same d d2 (ap function s)) (given_same h h2 (ap body s))
-  given_same (reads_behind {As = As} {Bs = Bs} d h) (reads_behind {As = Cs} {Bs = Ds} d2 h2) s =
-      joined_same As Bs Cs Ds (given_same d d2 (ap body s)) (given_same h h2 (ap function s))
-  given_same (reads_abs {A = A} {As = As} f d) (reads_abs {A = C} {As = Cs} f2 d2) s = begun_same A C As Cs (ap type_given s) (given_same d d2 (ap body s))
-  given_same (reads_equal {As = As} {Bs = Bs} d h) (reads_equal {As = Cs} {Bs = Ds} d2 h2) s =
-      joined_same As Bs Cs Ds (given_same d d2 (ap (λ r. body (function r)) s)) (given_same h h2 (ap body s))
-  given_same (reads_bind {A = A} {As = As} f k d) (reads_bind {A = C} {As = Cs} f2 k2 d2) s =
-      begun_same A C As Cs (ap (λ r. type_given (body r)) s) (given_same d d2 (ap (λ r. body (body r)) s))
-
-  typed_same : {types others : Name → Ty} {G H : List Ty} {e : Resolved} {t u : Raw} {A B : Ty} {As Bs : List Ty}
-      → Reads (variable_from n names) types G e t A As → Reads (variable_from n names) others H e u B Bs → t ≡ u → All (λ x. types x ≡ others x) (free_names e)
-  typed_same {types = types} {others = others} (reads_bound h) (reads_bound k) s = All-nil (λ x. types x ≡ others x)
-  typed_same {types = types} {others = others} reads_known reads_known s = All-nil (λ x. types x ≡ others x)
-  typed_same {types = types} {others = others} (reads_free {x = x} f) (reads_free f2) s = All-cons (λ x. types x ≡ others x) x [] (ap type_given s) (All-nil (λ x. types x ≡ others x))
-  typed_same {types = types} {others = others} (reads_apply {e = e} {f = f} d h) (reads_apply d2 h2) s =
-      All-append (λ x. types x ≡ others x) (free_names e) (free_names f) (typed_same d d2 (ap function s)) (typed_same h h2 (ap body s))
-  typed_same {types = types} {others = others} (reads_behind {e = e} {f = f} d h) (reads_behind d2 h2) s =
-      All-append (λ x. types x ≡ others x) (free_names e) (free_names f) (typed_same d d2 (ap body s)) (typed_same h h2 (ap function s))
-  typed_same (reads_abs f d) (reads_abs f2 d2) s = typed_same d d2 (ap body s)
-  typed_same {types = types} {others = others} (reads_equal {e = e} {f = f} d h) (reads_equal d2 h2) s =
-      All-append (λ x. types x ≡ others x) (free_names e) (free_names f) (typed_same d d2 (ap (λ r. body (function r)) s)) (typed_same h h2 (ap body s))
-  typed_same (reads_bind f k d) (reads_bind f2 k2 d2) s = typed_same d d2 (ap (λ r. body (body r)) s)
-
-all_with : (P : Name → Type 0) (xs ys : List Name) → All P xs → All P ys → All P (with_names xs ys)
-all_with P xs [] a b = a
-all_with P xs (y ∷ ys) a b = all_with P (with_name xs y) ys (one (is_listed xs y)) (All-tail P y ys b)
-  where
-    one : (c : Bool) → All P (if c then xs else (xs ++ y ∷ []))
-    one true = a
-    one false = All-push P xs y a (All-head P y ys b)
-
-variables_same : (n : ℕ) (types others : Name → Ty) (xs : List Name) → All (λ x. types x ≡ others x) xs → variables_from n types xs ≡ variables_from n others xs
-variables_same n types others [] all = refl
-variables_same n types others (x ∷ xs) all =
-    ap (λ A. record { number = n; type = A; hint = x } ∷ variables_from (suc n) types xs) (All-head (λ y. types y ≡ others y) x xs all)
-    ∙ ap (λ vs. record { number = n; type = others x; hint = x } ∷ vs) (variables_same (suc n) types others xs (All-tail (λ y. types y ≡ others y) x xs all))
-
--- WHAT IS KEPT is one
-one_kept : (sg : Signature) (n : ℕ) (e : Parts) (A B : Ty) (k l : Clause) → IsKeptAs sg n e A B k → IsKeptAs sg n e A B l → k ≡ l
-one_kept sg n e A B k l a b =
-    let r = a.one.reading in
-    let q = b.one.reading in
-    let same = b.one.alone r in
-    let names = variable_names e in
-    let typed = all_with (λ x. r.types x ≡ q.types x) [] (free_names e.head ++ free_names e.body) (All-nil (λ x. r.types x ≡ q.types x))
-    (All-append (λ x. r.types x ≡ q.types x) (free_names e.head) (free_names e.body) (typed_same n names r.reads_head q.reads_head same.0) (typed_same n names r.reads_body q.reads_body same.1)) in
-    a.is
-    ∙ (ap (λ h. kept_clause (closes_body A (normal_form sg [] h)) (variables_from n r.types names) (normal_form sg [] h) (normal_form sg [] r.body)) same.0
-    ∙ (ap (λ t. kept_clause (closes_body A (normal_form sg [] q.head)) (variables_from n r.types names) (normal_form sg [] q.head) (normal_form sg [] t)) same.1
-    ∙ (ap (λ vs. kept_clause (closes_body A (normal_form sg [] q.head)) vs (normal_form sg [] q.head) (normal_form sg [] q.body)) (variables_same n r.types q.types names typed) ∙ sym b.is)))
-
-one_not_several : (n : ℕ) (names : List Name) (e : Parts) (A B : Ty) (p : ℕ) → HasOneReading (variable_from n names) e A B → IsFirstOpen (variable_from n names) e A B p → ⊥
-one_not_several n names e A B p one several =
-    let d = several.differ in
-    let x = one.alone d.one in
-    let y = one.alone d.other in
-    let first = given_same n names d.one.reads_head d.other.reads_head (x.0 ∙ sym y.0) in
-    let second = given_same n names d.one.reads_body d.other.reads_body (x.1 ∙ sym y.1) in
-    d.apart (ap (λ l. get_or l several.number prop) (joined_same d.one.in_head d.one.in_body d.other.in_head d.other.in_body first second))
-
-one_place : (n : ℕ) (names : List Name) (e : Parts) (A B : Ty) (p q : ℕ) → IsFirstOpen (variable_from n names) e A B p → IsFirstOpen (variable_from n names) e A B q → p ≡ q
-one_place n names e A B p q a b =
-    let same : a.number ≡ b.number =
-    elim (cases_lt a.number b.number) [
-      | inl l ↦ absurd (b.first a.number l a.differ)
-      | inr g ↦ elim (cases_lt b.number a.number) [ inl l ↦ absurd (a.first b.number l b.differ) | inr k ↦ omega arith ]
-    ] in
-    a.place_is ∙ ap (λ m. get_or (places_in e) m 0) same ∙ sym b.place_is
+use Rattle.ab_states.specs.ab_specification.proofs.OneClause.{one_kept, one_not_several, one_place}
+use Rattle.ab_states.specs.ab_specification.specs.ab_declare.specs.KeptClauses.{kept_clause}
+use Rattle.ab_states.specs.ab_specification.specs.ab_declare.specs.ClauseReadings.{Parts, places_in, ClauseReading, HasOneReading, IsFirstOpen}
+use Rattle.ab_states.specs.ab_specification.specs.ab_declare.specs.ClauseMeanings.{parts_found, body_type, variable_names, variable_from, variables_from, closes_body, numbered_names, IsKeptAs}
+use Rattle.ab_states.specs.ab_specification.specs.ab_declare.specs.declared.refusal.Refusal.{Refusal}
+use Rattle.ab_states.specs.ab_specification.specs.ab_declare.specs.declared.refusal.Refusal.TheVariants as refusal
+use Rattle.ab_states.specs.ab_specification.specs.ab_declare.specs.Refusals.{here}
+use Rattle.ab_states.specs.ab_specification.specs.ab_declare.specs.DefinitionCommands.{MeansKept, MeanKept, IsRead, IsUnread}
 
 module _ (ks : List Name) (sg : Signature) where
   one_named : (c : written.Clause) (e f : Parts) → parts_found ks sg c ≡ Ok e → parts_found ks sg c ≡ Ok f → f ≡ e

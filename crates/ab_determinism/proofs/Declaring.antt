@@ -14,9 +14,9 @@ use Rattle.ab_meaning.proofs.Heads.{ResolvedHas}
 use Rattle.ab_meaning.proofs.Standing.{IsDeclared}
 use Rattle.ab_meaning.proofs.Resolving.{names_are_declared}
 use Rattle.ab_determinism.proofs.OneReading.{means_or_not_in, one_meaning_in, one_cause_in}
-use Rattle.ab_declare.specs.declared.refusal.Refusal.{Refusal}
-use Rattle.ab_declare.specs.Refusals.{refusal_for}
-use Rattle.ab_declare.specs.DeclarationCommands.{scope_of, States, Declares, new_kinds, new_constants, new_predicates, Declines, kind_taken, constant_taken, type_unknown, type_unfit, defines_nothing, theorem_taken, states_nothing, no_theorem}
+use Rattle.ab_states.specs.ab_specification.specs.ab_declare.specs.declared.refusal.Refusal.{Refusal}
+use Rattle.ab_states.specs.ab_specification.specs.ab_declare.specs.Refusals.{refusal_for}
+use Rattle.ab_states.specs.ab_specification.specs.ab_declare.specs.DeclarationCommands.{scope_of, States, Declares, new_kinds, new_constants, new_predicates, Declines, kind_taken, constant_taken, type_unknown, type_unfit, defines_nothing, theorem_taken, states_nothing, no_theorem}
 use Rattle.ab_determinism.proofs.Definitions.{one_defining, one_refusal, defines_or_not}
 
 no_free : (e : Resolved) → ResolvedHas IsDeclared e → FreeAreNominal e

@@ -17,13 +17,13 @@ use Rattle.ab_formulas.specs.ProposedClauses.{IsProposed}
 use Rattle.ab_formulas.specs.Heads.{IsHeadOf}
 use Rattle.ab_formulas.proofs.ClausesCased.{is_clause}
 use Rattle.ab_formulas.proofs.Proposing.{well_kept}
-use Rattle.ab_declare.specs.ClauseMeanings.{body_type}
-use Rattle.ab_declare.proofs.Resolving.{parts_fine}
-use Rattle.ab_declare.proofs.Proposed.{kept_proposed}
+use Rattle.ab_states.specs.ab_specification.specs.ab_declare.specs.ClauseMeanings.{body_type}
+use Rattle.ab_states.specs.ab_specification.specs.ab_declare.proofs.Resolving.{parts_fine}
+use Rattle.ab_states.specs.ab_specification.specs.ab_declare.proofs.Proposed.{kept_proposed}
 use Rattle.ab_formulas.specs.Formulas.{a_formula}
 use Rattle.ab_formulas.specs.Declarations.{IsDefining}
 use Rattle.ab_formulas.proofs.Images.{image_stands}
-use Rattle.ab_declare.specs.DefinitionCommands.{MeansKept, MeanKept}
+use Rattle.ab_states.specs.ab_specification.specs.ab_declare.specs.DefinitionCommands.{MeansKept, MeanKept}
 
 of_prop : (b : Option Tree) → body_type prop b ≡ prop
 of_prop None = refl

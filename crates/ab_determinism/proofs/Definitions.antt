@@ -10,9 +10,9 @@ use Rattle.ab_determinism.proofs.Faults.{one_first_fault, no_fault}
 use Rattle.ab_formulas.specs.Declarations.{Declarations, a_block, constant_names}
 use Rattle.ab_logic.specs.Worlds.{defined}
 use Rattle.ab_meaning.specs.Terms.{kinds_in}
-use Rattle.ab_declare.specs.declared.refusal.Refusal.{Refusal}
-use Rattle.ab_declare.specs.declared.refusal.Refusal.TheVariants.{Unknown}
-use Rattle.ab_declare.specs.DefinitionCommands.{FirstTold, this, later, predicates_found, predicate_of, signature_with, block_with, refusal_of, IsPredicateType, IsPredicate, IsNoPredicate, IsNamed, IsUnnamed, MeanKept, IsRead, IsUnread, HasPredicates, HasNames, HasTypes, Defines, DefinesNothing, predicate_unnamed, clause_unnamed, no_predicate, clause_unread, faulty}
+use Rattle.ab_states.specs.ab_specification.specs.ab_declare.specs.declared.refusal.Refusal.{Refusal}
+use Rattle.ab_states.specs.ab_specification.specs.ab_declare.specs.declared.refusal.Refusal.TheVariants.{Unknown}
+use Rattle.ab_states.specs.ab_specification.specs.ab_declare.specs.DefinitionCommands.{FirstTold, this, later, predicates_found, predicate_of, signature_with, block_with, refusal_of, IsPredicateType, IsPredicate, IsNoPredicate, IsNamed, IsUnnamed, MeanKept, IsRead, IsUnread, HasPredicates, HasNames, HasTypes, Defines, DefinesNothing, predicate_unnamed, clause_unnamed, no_predicate, clause_unread, faulty}
 use Rattle.ab_determinism.proofs.Clauses.{same_clauses, all_read, read_or_not, one_cause}
 
 -- THE FIRST of some things of which something is told

@@ -9,10 +9,10 @@ use Rattle.ab_command.specs.declared.fault.Cause.{Cause}
 use Rattle.ab_command.specs.CommandReadings.{Fails}
 use Rattle.ab_command.proofs.Sayings.{says_one, fails_one, says_or_fails}
 use Rattle.ab_sigmod.specs.FileOrder as file
-use Rattle.ab_declare.specs.declared.refusal.Refusal.{Refusal}
-use Rattle.ab_declare.specs.declared.refusal.Refusal.TheVariants.{Clash}
-use Rattle.ab_declare.specs.Refusals.{refusal_for}
-use Rattle.ab_declare.specs.DeclarationCommands.{States, Declares, Declines, new_kinds, new_constants, new_predicates, kind_taken, constant_taken, type_unknown, type_unfit, defines_nothing, theorem_taken, states_nothing, no_theorem}
+use Rattle.ab_states.specs.ab_specification.specs.ab_declare.specs.declared.refusal.Refusal.{Refusal}
+use Rattle.ab_states.specs.ab_specification.specs.ab_declare.specs.declared.refusal.Refusal.TheVariants.{Clash}
+use Rattle.ab_states.specs.ab_specification.specs.ab_declare.specs.Refusals.{refusal_for}
+use Rattle.ab_states.specs.ab_specification.specs.ab_declare.specs.DeclarationCommands.{States, Declares, Declines, new_kinds, new_constants, new_predicates, kind_taken, constant_taken, type_unknown, type_unfit, defines_nothing, theorem_taken, states_nothing, no_theorem}
 use Rattle.ab_states.specs.ab_specification.specs.FileDeclarations.{SpecDeclares, SpecDeclines, items_of}
 use Rattle.ab_states.specs.ab_specification.proofs.OneSpecification.{all_or_first, one_list, one_first}
 use Rattle.ab_formulas.specs.NamedGoals.{Goal, named}

@@ -6,9 +6,9 @@ use Rattle.ab_sigmod.specs.FileOrder as file
 use Rattle.ab_sigmod.specs.FileOrder.{Fault, IsSpecification, IsRefused}
 use Rattle.ab_sigmod.proofs.OneWay.{read_or_refused, one_reading, one_fault}
 use Rattle.ab_command.proofs.Sayings.{says_one, says_or_fails}
-use Rattle.ab_declare.specs.DeclarationCommands.{Declares, Declines, new_kinds, new_constants, new_predicates, kind_taken, constant_taken, type_unknown, type_unfit, defines_nothing, theorem_taken, states_nothing, no_theorem}
-use Rattle.ab_declare.specs.declared.refusal.Refusal.{Refusal}
-use Rattle.ab_declare.specs.declared.refusal.Refusal.TheVariants.{NothingToUndo}
+use Rattle.ab_states.specs.ab_specification.specs.ab_declare.specs.DeclarationCommands.{Declares, Declines, new_kinds, new_constants, new_predicates, kind_taken, constant_taken, type_unknown, type_unfit, defines_nothing, theorem_taken, states_nothing, no_theorem}
+use Rattle.ab_states.specs.ab_specification.specs.ab_declare.specs.declared.refusal.Refusal.{Refusal}
+use Rattle.ab_states.specs.ab_specification.specs.ab_declare.specs.declared.refusal.Refusal.TheVariants.{NothingToUndo}
 use Rattle.ab_formulas.specs.Declarations.{Declarations}
 use Rattle.ab_states.specs.State.{State, Entry, plain, with_files, empty, is_open, is_specified}
 use Rattle.ab_states.specs.Reply.{Reply, accepted, refused, files_unread_for}

@@ -13,7 +13,7 @@ use Rattle.ab_formulas.proofs.ProgramClauses.{is_program_clause}
 use Rattle.ab_formulas.proofs.Programs.{program_in-append}
 use Rattle.ab_meaning.specs.Terms.{kinds_in}
 use Rattle.ab_infer.specs.Lists.{HasLists}
-use Rattle.ab_declare.proofs.Resolving.{parts_fine}
+use Rattle.ab_states.specs.ab_specification.specs.ab_declare.proofs.Resolving.{parts_fine}
 use Rattle.ab_states.specs.ab_specification.specs.ItemDeclarations.{IsInProgram}
 use Rattle.ab_states.specs.ab_specification.proofs.ReadClauses.{read_proposed}
 

@@ -8,7 +8,7 @@ use Rattle.ab_formulas.specs.Sequents.{Sequent, IsSequent}
 use Rattle.ab_formulas.specs.NamedGoals.{named}
 use Rattle.ab_search_trees.specs.Outcomes.{closed}
 use Rattle.ab_search_trees.proofs.Numberings.{one_coming}
-use Rattle.ab_declare.specs.declared.refusal.Refusal.{Refusal}
+use Rattle.ab_states.specs.ab_specification.specs.ab_declare.specs.declared.refusal.Refusal.{Refusal}
 use Rattle.ab_states.specs.ProofCommandEffects.{Makes, refusal_of, Denies}
 
 module _ (D : Declarations) (definitions : HaveDefinitions D) (programs : HavePrograms D) (l : Label) (s u : Sequent) (is : IsSequent D s) (its : IsSequent D u) (same : named s ≡ named u) where

@@ -19,8 +19,8 @@ use Rattle.ab_logic.specs.Worlds.{declared, defined, member_block, first_declara
 use Rattle.ab_formulas.proofs.Declaring.{sentences_behind, sentences_added, sentences_defined, definitions_behind, definitions_added, definitions_defined, extends_not, extends_on, more_constants, still_sentence}
 use Rattle.ab_logic.proofs.Declaring.{theorem-declared, block-declared}
 use Rattle.ab_meaning.specs.Terms.{kinds_in}
-use Rattle.ab_declare.specs.DeclarationCommands.{Declares, new_kinds, new_constants, new_predicates}
-use Rattle.ab_declare.specs.DefinitionCommands.{Defines, predicate_of, block_with}
+use Rattle.ab_states.specs.ab_specification.specs.ab_declare.specs.DeclarationCommands.{Declares, new_kinds, new_constants, new_predicates}
+use Rattle.ab_states.specs.ab_specification.specs.ab_declare.specs.DefinitionCommands.{Defines, predicate_of, block_with}
 use Rattle.ab_infer.specs.Lists.{HasLists}
 use Rattle.ab_grammar.specs.FileTrees.{Item}
 use Rattle.ab_states.specs.ab_specification.specs.ItemDeclarations.{ItemDeclares, new_kinds as item_kinds, new_constants as item_constants, new_clause, no_declaration}

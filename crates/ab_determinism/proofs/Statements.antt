@@ -28,7 +28,7 @@ use Rattle.ab_infer.proofs.Fitting.{reading_fits}
 use Rattle.ab_infer.proofs.Normalising.{normal_form_typed}
 use Rattle.ab_meaning.specs.Terms.{made}
 use Rattle.ab_infer.specs.Lists.{HasLists}
-use Rattle.ab_declare.specs.DeclarationCommands.{scope_of, States}
+use Rattle.ab_states.specs.ab_specification.specs.ab_declare.specs.DeclarationCommands.{scope_of, States}
 
 -- EACH NAME FITS, where what is declared alone is known
 module _ (sg : Signature) where

@@ -13,7 +13,7 @@ ghost use Rattle.ab_infer.specs.Lists.{HasLists};
 ghost use Rattle.ab_effects.specs.ProofCommands.{effect};
 ghost use Rattle.ab_meaning.specs.Refusals.{Refusal};
 ghost use Rattle.ab_effects.specs.Row.{Leads, Refuses};
-ghost use Rattle.ab_declare.specs.declared.refusal.Refusal.{Refusal as Told};
+ghost use Rattle.ab_states.specs.ab_specification.specs.ab_declare.specs.declared.refusal.Refusal.{Refusal as Told};
 ghost use Rattle.ab_states.specs.ProofCommandEffects.{Makes, Denies};
 ghost use Rattle.ab_determinism.specs.OpeningCommands.{OpensNothing};
 ghost use Rattle.ab_determinism.specs.UsesByNames.{IsSameUse};

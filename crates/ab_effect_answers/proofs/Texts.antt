@@ -7,7 +7,7 @@ use Rattle.ab_grammar.specs.Token.{Token, other, stop}
 use Rattle.ab_grammar.specs.FileTrees.{Item}
 use Rattle.ab_grammar.specs.FileTable.{TitleText, ItemText}
 use Rattle.ab_grammar.specs.FileTokens.{item_tokens, sentence}
-use Rattle.ab_syntax.specs.Tokens.{token_of, tokens_from}
+use Rattle.ab_syntax.specs.ab_expressions.specs.Tokens.{token_of, tokens_from}
 use Rattle.ab_sigmod.specs.FileNames.{File, slash, IsTitle}
 use Rattle.ab_sigmod.specs.FileTexts.{TextFault, syntax, too_nested, wrong_title, for_its_form, for_its_depth, ItemsRead, none_yet, one_more, Titled, Begins, Says, IsFaulty, no_tokens, no_title, other_title, no_item}
 use Rattle.ab_sigmod.proofs.Sentences.{divided, some_taken}

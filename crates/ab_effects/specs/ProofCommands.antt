@@ -186,7 +186,7 @@ reading_for D s known names (i ∷ is) k =
     makes {A = Read} (MeansIn D (scope_with D s known) i.term a.type) (MeansNothingIn (scope_with D s known) i.term a.type) (λ t.
     reading_for D s (known ++ support t) names is (λ rs. k ((a, t) ∷ rs))))
 
--- `search` has no row: it closes the goal outright
+-- `search` has no row: what it comes to is told by the tree of the goal
 abbrev pub no_row : Row
 no_row = unless (Some wrong_shape) (leads [])
 

@@ -1,4 +1,3 @@
-pub mod Free
 pub mod Variables
 pub mod Going
 pub mod NewVariables

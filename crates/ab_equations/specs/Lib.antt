@@ -3,3 +3,4 @@
 pub mod Labels
 -- A world while cells are bound: which case of a goal stands in it.
 pub mod Meanwhile
+pub use Rattle.ab_free_names

@@ -6,7 +6,7 @@ ghost use Rattle.ab_norm.specs.NodeGrowth.{AddsTerms};
 ghost use Rattle.ab_logic.specs.SequentReadings.{HoldsSequent};
 ghost use Rattle.ab_equations.specs.Meanwhile.{IsMeanwhile, GoesOn, hypothesis_at, hypothesis_read, IsPutIn, IsCarried};
 
-use crate::cells::unbound;
+use crate::cells::unbound_cells;
 use crate::stand_ins::stand_for_all;
 use ab_logic::{Hypotheses, Hypothesis, Sequent, Variables, World};
 use ab_norm::copy_resolved;
@@ -40,7 +40,7 @@ fn resolved_hypotheses<L>(
 
 /// The goal with what cells are bound to in their places, over those of its variables that are unbound. What no binding
 /// touches is shared with the goal.
-fn resolved<L>(
+fn resolved_goal<L>(
     alloc: Global,
     world: &mut World,
     goal: &Sequent,
@@ -54,7 +54,7 @@ fn resolved<L>(
     ensures cells { world.new.store.cells ≡ world.old.store.cells }
     ensures steps { steps.old ≤ steps.new }
 {
-    let variables = unbound(alloc, &world.store, goal.variables.as_slice())?;
+    let variables = unbound_cells(alloc, &world.store, goal.variables.as_slice())?;
     let hypotheses = resolved_hypotheses(
         alloc,
         &world.types,
@@ -96,7 +96,7 @@ pub(crate) fn carry<L>(
     ensures carried { IfOk result (λ g. IsCarried world.old made.now goal world.new g) }
     ensures steps { steps.old ≤ steps.new }
 {
-    let left = unbound(alloc, &world.store, made)?;
+    let left = unbound_cells(alloc, &world.store, made)?;
     let over = stand_for_all(alloc, world, &left, goal, steps)?;
-    resolved(alloc, world, &over, steps)
+    resolved_goal(alloc, world, &over, steps)
 }

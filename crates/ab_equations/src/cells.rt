@@ -17,7 +17,7 @@ pub fn goals_are_over_cells()
 {}
 
 /// The cells that are bound to nothing, in their order.
-pub(crate) fn unbound(
+pub(crate) fn unbound_cells(
     alloc: Global,
     store: &Store,
     cells: &[CellId],

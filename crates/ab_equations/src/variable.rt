@@ -52,7 +52,7 @@ fn is_free(world: &World, sequent: &Sequent, name: &Name) -> bool
 }
 
 /// The stem with the number.
-fn numbered(alloc: Global, stem: &Name, number: u128) -> Result<Name, AllocError>
+fn numbered_stem(alloc: Global, stem: &Name, number: u128) -> Result<Name, AllocError>
     ensures { IfOk result (λ name. name ≡ stem.now ++ decimal number) }
 {
     let text = format!(in alloc; "{}{}", stem.as_str(), number)?;
@@ -76,7 +76,7 @@ fn first_free(
     ensures { IfOk result (λ name. (n : ℕ) × IsLeast (IsNumberFree (declarations_of world.now) (sequent_of world.now sequent.now) stem.now) n × (name ≡ stem.now ++ decimal n)) }
 {
     for number in first..last + 1 {
-        let name = numbered(alloc, stem, number)?;
+        let name = numbered_stem(alloc, stem, number)?;
         if is_free(world, sequent, &name) {
             return Ok(name);
         }

@@ -10,99 +10,14 @@ use Rattle.std.proofs.lemmas.List.Elements.{All-nil, All-cons, Contains-append_l
 use Rattle.std.proofs.lemmas.Slice.Eq.{bytes_eq-Decides}
 use Rattle.std.proofs.Math.Seq.{drop-append_seam}
 use Rattle.std.proofs.lemmas.Bool.{cases_lt}
-use Rattle.indexmap.proofs.IndexTableLemmas.Probe.{pigeonhole}
 use Rattle.ab_term.proofs.Lists.{Contains-none, Contains-here, Contains-there, Contains-cases, Contains-map, All-from_contains}
 use Rattle.ab_formulas.specs.Declarations.{Declarations, constant_names}
 use Rattle.ab_formulas.specs.Sequents.{Sequent, Variable, Hypothesis, IsUsed, named}
 use Rattle.ab_formulas.specs.NewNames.{IsFreeName, IsNominalName, IsDigit, IsStem, IsNamedFor}
 use Rattle.ab_formulas.specs.FreeStems.{variable_names, taken_names, IsNumberFree, EndsInNoDigit}
+use Rattle.ab_free_names.proofs.Free.{same_decimal, behind, too_many, no_nominal}
 use Rattle.ab_existence.specs.Certainty.{IsCertain}
 use Rattle.ab_existence.proofs.Certain.{sure, and_so, and_also, there_or_not, least}
-
-same_decimal : (m n : ℕ) → m < 2 ^ 100 → n < 2 ^ 100 → decimal m ≡ decimal n → m ≡ n
-same_decimal m n p q e =
-    sym (decimal_is_IsNumeral_wide m (omega arith)).1 ∙ ap (digits_value 10) e ∙ (decimal_is_IsNumeral_wide n (omega arith)).1
-
--- where the name stands first
-abbrev place : List (List ℕ) → List ℕ → ℕ
-place [] x = 0
-place (y ∷ ys) x = if bytes_eq x y then 0 else suc (place ys x)
-
-record IsPlace (xs : List (List ℕ)) (x : List ℕ) (i : ℕ) : Type 0 where
-  pub within : i < length xs
-  pub there : get_or xs i [] ≡ x
-
-found : (y x : List ℕ) (ys : List (List ℕ)) (b : Bool) → bytes_eq x y ≡ b → (y ≡ x) ⊎ IsPlace ys x (place ys x) → IsPlace (y ∷ ys) x (if b then 0 else suc (place ys x))
-found y x ys true e rest = record { within = omega arith; there = sym ((bytes_eq-Decides x y).0 e) }
-found y x ys false e (inl same) = let yes = (bytes_eq-Decides x y).1 (sym same) in cc
-found y x ys false e (inr p) = let l = p.within in record { within = omega (arith, l); there = p.there }
-
-is_place : (xs : List (List ℕ)) (x : List ℕ) → Contains xs x → IsPlace xs x (place xs x)
-is_place [] x c = absurd (Contains-none x c)
-is_place (y ∷ ys) x c = found y x ys (bytes_eq x y) refl (elim (Contains-cases y ys x c) [ inl e ↦ inl e | inr d ↦ inr (is_place ys x d) ])
-
-behind : (xs ys zs : List ℕ) → xs ++ ys ≡ xs ++ zs → ys ≡ zs
-behind xs ys zs e = sym (drop-append_seam xs ys) ∙ ap (drop (length xs)) e ∙ drop-append_seam xs zs
-
--- more numbers than names
-too_many : (taken : List (List ℕ)) (stem : List ℕ) (first count : ℕ) → length taken < count → first + count ≤ 2 ^ 100
-    → ((m : ℕ) → first ≤ m → m < first + count → Contains taken (stem ++ decimal m)) → ⊥
-too_many taken stem first count more small all =
-    let f : ℕ → ℕ = λ i. place taken (stem ++ decimal (first + i)) in
-    let at : (i : ℕ) → i < count → IsPlace taken (stem ++ decimal (first + i)) (place taken (stem ++ decimal (first + i))) =
-    λ i l. is_place taken (stem ++ decimal (first + i)) (all (first + i) (omega arith) (omega (arith, l))) in
-    let fits : count ≤ length taken =
-    pigeonhole count (length taken) (λ i. place taken (stem ++ decimal (first + i)))
-    (λ i l. (at i l).within)
-    (λ i j l k e.
-    let names : stem ++ decimal (first + i) ≡ stem ++ decimal (first + j) = sym (at i l).there ∙ ap (λ n. get_or taken n []) e ∙ (at j k).there in
-    let numbers : first + i ≡ first + j = same_decimal (first + i) (first + j) (omega (arith, l, small)) (omega (arith, k, small)) (behind stem (decimal (first + i)) (decimal (first + j)) names) in
-    omega (arith, numbers)) in
-    omega (arith, fits, more)
-
--- digits
-
-digit_of : (n i : ℕ) → n < 2 ^ 100 → i < length (decimal n) → IsDigit (get_or (decimal n) i 0)
-digit_of n i small l = digit_at (decimal n) i (decimal_is_IsNumeral_wide n (omega arith)).0.1 l
-
--- no number behind the stem makes the name of a nominal constant, where the stem isn't n
-last : (xs : List ℕ) → (xs ≡ []) ⊎ ((front : List ℕ) × (b : ℕ) × (xs ≡ front ++ b ∷ []))
-last [] = inl refl
-last (x ∷ xs) =
-    elim (last xs) [
-      | inl e ↦ inr ([], x, ap (λ ys. x ∷ ys) e)
-      | inr p ↦ inr (x ∷ p.0, p.1, ap (λ ys. x ∷ ys) p.2)
-    ]
-
-at_seam : (xs : List ℕ) (c : ℕ) (ys : List ℕ) → get_or (xs ++ c ∷ ys) (length xs) 0 ≡ c
-at_seam [] c ys = refl
-at_seam (x ∷ xs) c ys = at_seam xs c ys
-
-no_nominal : (stem : List ℕ) → EndsInNoDigit stem → stem ≢ codes "n" → (m : ℕ) → m < 2 ^ 100 → ¬ IsNominalName (stem ++ decimal m)
-no_nominal [] ends other m small is =
-    let some = (decimal_is_IsNumeral_wide m (omega arith)).0.0 in
-    let first = digit_of m 0 small some in
-    let byte : get_or (decimal m) 0 0 ≡ 110 = ap (λ (x : List ℕ). get_or x 0 0) is.written in
-    omega (arith, first.1, byte)
-no_nominal (b ∷ rest) ends other m small is =
-    let k = is.number in
-    let within = is.within in
-    let byte : b ≡ 110 = ap (λ (x : List ℕ). get_or x 0 0) is.written in
-    let tail : rest ++ decimal m ≡ decimal k = ap (drop 1) is.written in
-    elim (last rest) [
-      | inl e ↦ other (ap (λ x. x ∷ rest) byte ∙ ap (λ xs. 110 ∷ xs) e)
-      | inr p ↦
-          let front = p.0 in
-          let c = p.1 in
-          let long : length (decimal k) ≡ length front + 1 + length (decimal m) =
-          ap length (sym tail) ∙ length-append rest (decimal m) ∙ omega (arith, ap length p.2, length-append front (c ∷ [])) in
-          let whole : front ++ c ∷ decimal m ≡ decimal k =
-          sym (append_assoc front (c ∷ []) (decimal m)) ∙ ap (λ xs. xs ++ decimal m) (sym p.2) ∙ tail in
-          let there : get_or (decimal k) (length front) 0 ≡ c =
-          ap (λ (xs : List ℕ). get_or xs (length front) 0) (sym whole) ∙ at_seam front c (decimal m) in
-          let digit : IsDigit c = subst IsDigit there (digit_of k (length front) (omega (arith, within)) (omega (arith, long))) in
-          ends (b ∷ front) c (ap (λ xs. b ∷ xs) p.2) digit
-    ]
 
 -- among names, or not
 among_or_not : (xs : List (List ℕ)) (x : List ℕ) → Contains xs x ⊎ (Contains xs x → ⊥)

@@ -11,12 +11,12 @@ use Rattle.ab_logic.specs.Worlds.{IsWorld, declarations_of}
 use Rattle.ab_logic.specs.declared.world.World.{World}
 use Rattle.ab_theory.specs.Equations.{AreCells}
 use Rattle.ab_theory.specs.Rules.{NamedRule, Fails, Stuck}
-use Rattle.ab_steps.specs.ab_kernel.specs.Layout.{Held, IsProof}
+use Rattle.ab_steps.specs.ab_kernel.specs.Layout.{Held, IsProof, goals_of}
 use Rattle.ab_effects.specs.CaseAnalysis.{AllOpened, SomeNameless}
 use Rattle.ab_effects.specs.ProofCommands.{cases, analysing}
 use Rattle.ab_meaning.specs.Refusals.{Refusal, wrong_shape, mark, not_pattern, names_spent}
 use Rattle.ab_effects.specs.Row.{Leads, Refuses}
-use Rattle.ab_steps.specs.Progress.{goals_of, TookInto, FailsBy, StuckAt}
+use Rattle.ab_steps.specs.Progress.{TookInto, FailsBy, StuckAt}
 use Rattle.ab_steps.proofs.Following.{first_at, one_at_least}
 use Rattle.ab_hypothesis.specs.HypothesisProgress.{HasAt}
 use Rattle.ab_hypothesis.specs.CaseAnswers.{IsAtom, rest_of, Begun, TakenApart, CantTake}

@@ -1,22 +1,23 @@
 -- A hypothesis or the conclusion gives way to a formula that comes of it, step by step.
 use Rattle.std.specs.Prelude.{Result, Ok, Err, IfOk, OnOk, OnErr}
-use Rattle.std.proofs.Common.{◌≡◌, ◌≢◌, ℕ, suc, length, Bool, true, List, [], ◌∷◌, ◌++◌, Option, Some, None, refl, sym, ◌∙◌, ap, subst, append_assoc}
+use Rattle.std.specs.Option.{IsSome}
+use Rattle.std.proofs.Common.{◌≡◌, ◌≢◌, ℕ, suc, length, Bool, true, false, List, [], ◌∷◌, ◌++◌, Option, Some, None, refl, sym, ◌∙◌, ap, subst, append_assoc}
 use Rattle.ab_term.specs.Terms.{Read}
-use Rattle.ab_formulas.specs.NewNames.{given, Names}
-use Rattle.ab_formulas.specs.Sequents.{Sequent, formula_of, proving, assuming, without}
+use Rattle.ab_formulas.specs.NewNames.{given, Names, NoName}
+use Rattle.ab_formulas.specs.Sequents.{Sequent, IsUsed, formula_of, proving, assuming, without}
 use Rattle.ab_logic.specs.declared.world.World.{World}
 use Rattle.ab_theory.specs.Steps.{initial, cut_formula}
-use Rattle.ab_steps.specs.ab_kernel.specs.Terms.{Adds}
+use Rattle.ab_steps.specs.ab_kernel.specs.ab_rules.specs.Terms.{Adds}
 use Rattle.ab_theory.specs.Derivations.{History, open_goals}
-use Rattle.ab_steps.specs.ab_kernel.specs.Layout.{Held, IsProof}
+use Rattle.ab_steps.specs.ab_kernel.specs.Layout.{Held, IsProof, goals_of}
 use Rattle.ab_steps.specs.ab_kernel.proofs.Later.{still_proof}
 use Rattle.ab_steps.proofs.Following.{follows_same, as_before}
-use Rattle.ab_steps.specs.Progress.{goals_of, IsAt, Took, Follows}
+use Rattle.ab_steps.specs.Progress.{IsAt, Took, Follows}
 use Rattle.ab_hypothesis.specs.HypothesisProgress.{HasAt, MovedTo}
-use Rattle.ab_hypothesis.proofs.Hypotheses.{entry, named_stays, named_last, named_still_none, others_last}
+use Rattle.ab_hypothesis.proofs.Hypotheses.{entry, named_gone, named_past, named_stays, named_last, named_still_none, others_last}
 use Rattle.ab_hypothesis.proofs.Owned.{without_past}
 use Rattle.ab_hypothesis.proofs.Rows.{renamed}
-use Rattle.ab_hypothesis.proofs.Steps.{without_last}
+use Rattle.ab_hypothesis.proofs.StepsTaken.{without_last}
 
 pub in_ok : {A E : Type 0} {P Q : A → Type 0} (r : Result A E) → ((x : A) → P x → Q x) → IfOk r P → IfOk r Q
 in_ok (Ok x) f p = f x p
@@ -132,6 +133,16 @@ module _ (w u : World) (p r : Held) (name y : List ℕ) (F : Read)
           at = first x o (assuming y F (without name s)) rest (without_old s rest goals);
           has = own_found s rest goals;
         })
+
+    -- its name is free
+    pub name_free : (g : List ℕ) → g ≡ name → ((before behind : List Sequent) (k : Sequent) → IsAt x o 0 before k behind → NoName (given g) k)
+        → (s : Sequent) (rest : List Sequent) → goals_of w p ≡ s ∷ rest → ⊥
+    name_free g e unnamed s rest goals =
+        let k : Sequent = assuming y F (without name s) in
+        let used : IsUsed k name = subst (λ n. IsUsed k n) e (unnamed [] rest k (first x o k rest (without_old s rest goals))) in
+        let free : formula_of k name ≡ None = named_past (without name s).hypotheses y name F (apart s rest goals) ∙ named_gone s.hypotheses name in
+        let clash : false ≡ true = subst (λ (z : Option Read). IsSome z) free used in
+        cc
 
     pub hypothesis_changed : (z : World) (m : Held) (g : List ℕ) (G : Read) → g ≡ name → G ≡ F
         → ((before behind : List Sequent) (k : Sequent) → IsAt x o 0 before k behind → MovedTo (given g) G y k z m 0 before behind)

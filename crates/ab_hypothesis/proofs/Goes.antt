@@ -23,12 +23,12 @@ use Rattle.ab_effects.specs.Openings.{IsWhole, Nameless, none}
 use Rattle.ab_steps.specs.Progress.{IsAt, Follows, Took, Holds as Sure}
 use Rattle.ab_steps.proofs.Connectives.{connectives, fewer_both}
 use Rattle.ab_steps.proofs.Following.{one_goal}
-use Rattle.ab_steps.proofs.GoalSequents.{goals_are_sequents}
+use Rattle.ab_steps.specs.ab_kernel.proofs.GoalSequents.{goals_are_sequents}
 use Rattle.ab_hypothesis.specs.OwnNames.{IsOwn, AreOwn, HasAll, besides, weight}
 use Rattle.ab_hypothesis.specs.HypothesisProgress.{HasAt, Pending, OpensTo, Opens, Goes, CantOpen, OpenedTo, MovedTo}
 use Rattle.ab_hypothesis.proofs.Hypotheses.{entry}
 use Rattle.ab_hypothesis.proofs.Standing.{LabelsDiffer}
-use Rattle.ab_hypothesis.proofs.Steps.{Went, one_premise, opens_nothing, opens_whole, opens_parts, opens_exists, opens_nabla, nameless_whole}
+use Rattle.ab_hypothesis.proofs.StepsTaken.{Went, one_premise, opens_nothing, opens_whole, opens_parts, opens_exists, opens_nabla, nameless_whole}
 use Rattle.ab_hypothesis.proofs.Sure.{splits, takes_exists, takes_nabla}
 
 -- a rule that holds at the goal of a place

@@ -12,12 +12,12 @@ use Rattle.ab_logic.specs.Worlds.{declarations_of}
 use Rattle.ab_logic.specs.declared.world.World.{World}
 use Rattle.ab_theory.specs.Steps.{spec_cut}
 use Rattle.ab_theory.specs.Rules.{NamedRule, Fails}
-use Rattle.ab_steps.specs.ab_kernel.specs.Layout.{Held}
+use Rattle.ab_steps.specs.ab_kernel.specs.Layout.{Held, goals_of}
 use Rattle.ab_effects.specs.ProofCommands.{effect, clashing, missing}
 use Rattle.ab_effects.specs.Row.{Row, Leads, Refuses}
 use Rattle.ab_meaning.specs.Refusals.{Refusal, no_hypothesis}
 use Rattle.ab_steps.specs.ProofEffects.{IsApplied, IsRefused, RefusedBy}
-use Rattle.ab_steps.specs.Progress.{goals_of, Took}
+use Rattle.ab_steps.specs.Progress.{Took}
 use Rattle.ab_steps.specs.declared.fault.ProofCommandFault.{ProofCommandFault}
 use Rattle.ab_steps.proofs.Following.{first_at}
 use Rattle.ab_hypothesis.specs.JudgementSteps.{fault_at, IsntTaken}

@@ -7,10 +7,10 @@ use Rattle.ab_logic.specs.Worlds.{declarations_of}
 use Rattle.ab_logic.specs.declared.world.World.{World}
 use Rattle.ab_theory.specs.Steps.{Step}
 use Rattle.ab_theory.specs.Rules.{Fails}
-use Rattle.ab_steps.specs.ab_kernel.specs.Layout.{Held}
+use Rattle.ab_steps.specs.ab_kernel.specs.Layout.{Held, goals_of}
 use Rattle.ab_effects.specs.Row.{Row}
 use Rattle.ab_steps.specs.ProofEffects.{RefusedBy}
-use Rattle.ab_steps.specs.Progress.{goals_of, FailsBy}
+use Rattle.ab_steps.specs.Progress.{FailsBy}
 use Rattle.ab_steps.specs.declared.fault.ProofCommandFault.{ProofCommandFault}
 use Rattle.ab_steps.specs.declared.fault.ProofCommandFault.TheVariants.{Unknown, Clash, TypeClash, Untyped, NoHypothesis, WrongShape, Mark, NoMatch, NotPattern, Unresolved, NamesSpent, Memory}
 use Rattle.ab_steps.proofs.Following.{first_at}

@@ -3,7 +3,7 @@ pub mod Owned
 pub mod Standing
 pub mod Marked
 pub mod Sure
-pub mod Steps
+pub mod StepsTaken
 pub mod Goes
 pub mod Moves
 pub mod Naming

@@ -15,7 +15,7 @@ use Rattle.ab_hypothesis.specs.HypothesisProgress.{HasAt, CopiedTo, MovedTo}
 use Rattle.ab_hypothesis.proofs.Hypotheses.{entry, named_stays}
 use Rattle.ab_hypothesis.proofs.Owned.{named_hypotheses}
 use Rattle.ab_hypothesis.proofs.Goes.{holds_at, is_sequent}
-use Rattle.ab_hypothesis.proofs.Steps.{weakened}
+use Rattle.ab_hypothesis.proofs.StepsTaken.{weakened}
 use Rattle.ab_hypothesis.proofs.Sure.{weakens, closes, uncut}
 
 pub on_ok : {A E P Q : Type 0} (r : Result A E) → (P → Q) → OnOk r P → OnOk r Q

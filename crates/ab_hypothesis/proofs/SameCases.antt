@@ -22,7 +22,7 @@ use Rattle.ab_theory.specs.Subjects.{Subject, an_atom, a_judgement, cases_by}
 use Rattle.ab_formulas.specs.BodyMarks.{mark_below, marked_in}
 use Rattle.ab_formulas.specs.Members.{SameMembers}
 use Rattle.ab_formulas.proofs.AlternativesAgreeing.{choices_same}
-use Rattle.ab_steps.specs.ab_kernel.proofs.Chosen.{in_goal}
+use Rattle.ab_steps.specs.ab_kernel.specs.ab_rules.proofs.Chosen.{in_goal}
 use Rattle.ab_hypothesis.specs.CaseAnswers.{rest_of}
 use Rattle.ab_hypothesis.proofs.Hypotheses.{entry}
 use Rattle.ab_hypothesis.proofs.Standing.{LabelsDiffer, apart_from_own, with_own}

@@ -14,17 +14,17 @@ use Rattle.ab_logic.specs.declared.world.World.{World}
 use Rattle.ab_theory.specs.Row.{solves, Takes, Sticks}
 use Rattle.ab_theory.specs.Rules.{NamedRule, Stuck}
 use Rattle.ab_theory.specs.Steps.{equal_left}
-use Rattle.ab_steps.specs.ab_kernel.specs.Layout.{Held}
+use Rattle.ab_steps.specs.ab_kernel.specs.Layout.{Held, goals_of}
 use Rattle.ab_effects.specs.ProofCommands.{cases}
 use Rattle.ab_meaning.specs.Refusals.{not_pattern}
 use Rattle.ab_effects.specs.Row.{Leads, Refuses}
 use Rattle.ab_effects.specs.Solutions.{IsSolved, IsOutside}
-use Rattle.ab_steps.specs.Progress.{goals_of, TookInto, FailsBy, StuckAt}
+use Rattle.ab_steps.specs.Progress.{TookInto, FailsBy, StuckAt}
 use Rattle.ab_steps.proofs.Following.{first_at, one_at_least, place_of}
 use Rattle.ab_hypothesis.specs.CaseAnswers.{IsEquation, rest_of, Begun, TakenApart, CantTake}
 use Rattle.ab_hypothesis.specs.HypothesisProgress.{HasAt}
 use Rattle.ab_hypothesis.proofs.Hypotheses.{named_last}
-use Rattle.ab_hypothesis.proofs.Steps.{without_last}
+use Rattle.ab_hypothesis.proofs.StepsTaken.{without_last}
 use Rattle.ab_hypothesis.proofs.Sure.{solves_equal}
 
 found_once : (k : Sequent) (x : List ℕ) (F G : Read) → formula_of k x ≡ Some F → formula_of k x ≡ Some G → G ≡ F

@@ -27,7 +27,7 @@ use Rattle.ab_meaning.specs.Refusals.{not_pattern}
 use Rattle.ab_hypothesis.specs.CaseAnswers.{rest_of}
 use Rattle.ab_hypothesis.specs.AnalysedGoals.{Waits, AllWait, split_own}
 use Rattle.ab_hypothesis.proofs.Hypotheses.{entry, same_or_not, named_last}
-use Rattle.ab_hypothesis.proofs.Steps.{without_last}
+use Rattle.ab_hypothesis.proofs.StepsTaken.{without_last}
 use Rattle.ab_hypothesis.proofs.SameCases.{rest_variables, same_members, split_here, unsplit_here}
 
 -- EACH CASE WAITS

@@ -17,7 +17,7 @@ use Rattle.ab_formulas.specs.NewNames.{Label, given, NoName}
 use Rattle.ab_formulas.specs.Sequents.{Sequent, IsSequent, Fits, HoldsOnly, formula_of, formulas, formulas_of, goal_names, proving, assuming, without, IsUsed}
 use Rattle.ab_theory.specs.Steps.{initial, false_left, and_left, or_left, exists_left, nabla_left, equal_left, cut_formula, weaken}
 use Rattle.ab_theory.specs.Rules.{Fails}
-use Rattle.ab_steps.specs.ab_kernel.proofs.Chosen.{in_goal}
+use Rattle.ab_steps.specs.ab_kernel.specs.ab_rules.proofs.Chosen.{in_goal}
 use Rattle.ab_theory.proofs.Sequents.{found_there}
 use Rattle.ab_hypothesis.proofs.Hypotheses.{named_gone, named_past, named_still_none}
 use Rattle.ab_hypothesis.proofs.Marked.{serves_itself}

@@ -14,14 +14,14 @@ use Rattle.ab_logic.specs.WorldGrowth.{Grows}
 use Rattle.ab_logic.specs.Worlds.{declarations_of, Holds, read}
 use Rattle.ab_logic.specs.declared.world.World.{World}
 use Rattle.ab_theory.specs.Steps.{or_left, false_left}
-use Rattle.ab_steps.specs.ab_kernel.specs.Layout.{Held}
+use Rattle.ab_steps.specs.ab_kernel.specs.Layout.{Held, goals_of}
 use Rattle.ab_effects.specs.ProofCommands.{effect, cases, clashing}
 use Rattle.ab_effects.specs.Openings.{Opened, Nameless}
 use Rattle.ab_meaning.specs.Refusals.{Refusal, names_spent, wrong_shape, mark, not_pattern}
 use Rattle.ab_effects.specs.Row.{Leads, Refuses}
 use Rattle.ab_steps.specs.ProofEffects.{IsApplied, IsRefused, RefusedBy}
 use Rattle.ab_steps.specs.declared.fault.ProofCommandFault.{ProofCommandFault}
-use Rattle.ab_steps.specs.Progress.{goals_of, IsAt, Took, Holds as Sure}
+use Rattle.ab_steps.specs.Progress.{IsAt, Took, Holds as Sure}
 use Rattle.ab_steps.proofs.Following.{first_at, one_at_least}
 use Rattle.ab_hypothesis.specs.CaseAnswers.{IsOpened, HasCases, rest_of, Begun, TakenApart, CantTake}
 use Rattle.ab_hypothesis.specs.HypothesisRefusals.{IsFaultOf}
@@ -32,7 +32,7 @@ use Rattle.ab_hypothesis.proofs.Hypotheses.{named_still_none, named_last}
 use Rattle.ab_hypothesis.proofs.Goes.{holds_at}
 use Rattle.ab_hypothesis.proofs.Rows.{renamed}
 use Rattle.ab_hypothesis.proofs.Sure.{parts_or, closes_false}
-use Rattle.ab_hypothesis.proofs.Steps.{Went, without_last}
+use Rattle.ab_hypothesis.proofs.StepsTaken.{Went, without_last}
 
 module _ (D : Declarations) (F : Read) (l : Label) (goal s : Sequent) where
   pub opened_leads : (f : Form) → IsOpened f → (m : Label) (u : Sequent) → Opened D (F ∷ []) l s m u → Leads (cases D f F l goal s) (u ∷ [])

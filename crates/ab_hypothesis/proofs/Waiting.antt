@@ -7,14 +7,14 @@ use Rattle.ab_formulas.specs.NewNames.{Label}
 use Rattle.ab_formulas.specs.Sequents.{Sequent, formula_of, assuming, without}
 use Rattle.ab_logic.specs.Worlds.{declarations_of}
 use Rattle.ab_logic.specs.declared.world.World.{World}
-use Rattle.ab_steps.specs.ab_kernel.specs.Layout.{Held}
+use Rattle.ab_steps.specs.ab_kernel.specs.Layout.{Held, goals_of}
 use Rattle.ab_effects.specs.Openings.{Opened, Nameless}
 use Rattle.ab_effects.specs.CaseAnalysis.{AllOpened, none, one, SomeNameless, here, behind}
-use Rattle.ab_steps.specs.Progress.{goals_of, IsAt}
+use Rattle.ab_steps.specs.Progress.{IsAt}
 use Rattle.ab_hypothesis.specs.HypothesisProgress.{HasAt, OpenedTo}
 use Rattle.ab_hypothesis.specs.AnalysedGoals.{Waits, AllWait, FirstWait, FirstOpened, FirstNameless, OpenedSoFar}
 use Rattle.ab_hypothesis.proofs.Hypotheses.{named_last}
-use Rattle.ab_hypothesis.proofs.Steps.{without_last}
+use Rattle.ab_hypothesis.proofs.StepsTaken.{without_last}
 
 -- what was opened, and one more
 all_opened_more : (D : Declarations) (l m : Label) (gs us : List Sequent) (name : List ℕ) (F : Read) (s u : Sequent) → AllOpened D l gs us → Opened D (F ∷ []) l s m u

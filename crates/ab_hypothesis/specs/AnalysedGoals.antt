@@ -7,9 +7,8 @@ use Rattle.ab_formulas.specs.Sequents.{Sequent, formula_of, assuming}
 use Rattle.ab_logic.specs.Worlds.{declarations_of}
 use Rattle.ab_logic.specs.declared.world.World.{World}
 use Rattle.ab_theory.specs.Steps.{Step, definition_left}
-use Rattle.ab_steps.specs.ab_kernel.specs.Layout.{Held}
+use Rattle.ab_steps.specs.ab_kernel.specs.Layout.{Held, goals_of}
 use Rattle.ab_effects.specs.CaseAnalysis.{AllOpened, SomeNameless}
-use Rattle.ab_steps.specs.Progress.{goals_of}
 
 -- the last hypothesis of the goal has this name, and no other has it
 pub record Waits (name : List ℕ) (g : Sequent) : Type 0 where

@@ -6,11 +6,10 @@ use Rattle.ab_formulas.specs.NewNames.{Label}
 use Rattle.ab_formulas.specs.Sequents.{Sequent, formula_of, assuming, without}
 use Rattle.ab_logic.specs.Worlds.{declarations_of}
 use Rattle.ab_logic.specs.declared.world.World.{World}
-use Rattle.ab_steps.specs.ab_kernel.specs.Layout.{Held}
+use Rattle.ab_steps.specs.ab_kernel.specs.Layout.{Held, goals_of}
 use Rattle.ab_effects.specs.ProofCommands.{cases}
 use Rattle.ab_meaning.specs.Refusals.{Refusal}
 use Rattle.ab_effects.specs.Row.{Leads, Refuses}
-use Rattle.ab_steps.specs.Progress.{goals_of}
 
 -- a formula of this form is opened in its goal
 abbrev pub IsOpened : Form → Type 0

@@ -1,14 +1,16 @@
 -- What the calls that open formulas leave of a goal. The contracts of commands don't speak of this.
-use Rattle.std.specs.Prelude.{◌≡◌, ◌<◌, ℕ, List, map, All, Bool, Some, if◌then◌else◌}
+use Rattle.std.specs.Prelude.{◌≡◌, ◌<◌, ℕ, List, ◌∷◌, map, All, Bool, Some, if◌then◌else◌}
+use Rattle.ab_term.specs.Types.{Ty}
 use Rattle.ab_term.specs.Terms.{Read}
 use Rattle.ab_formulas.specs.Declarations.{Declarations}
 use Rattle.ab_formulas.specs.NewNames.{Label, auto, Names}
 use Rattle.ab_logic.specs.SequentReadings.{hypothesis_of}
 use Rattle.ab_logic.specs.Worlds.{Holds, declarations_of}
-use Rattle.ab_formulas.specs.Sequents.{Hypothesis, Sequent, formula_of, formulas, assuming, without}
+use Rattle.ab_formulas.specs.Sequents.{Hypothesis, Sequent, formula_of, formulas, goal_names, assuming, without}
+use Rattle.ab_formulas.specs.Cycles.{MayCycle, type_among}
 use Rattle.ab_logic.specs.declared.world.World.{World}
 use Rattle.ab_logic.specs.declared.sequent.Hypothesis.{Hypothesis as Kept}
-use Rattle.ab_steps.specs.ab_kernel.specs.Layout.{Held}
+use Rattle.ab_steps.specs.ab_kernel.specs.Layout.{Held, goals_of}
 use Rattle.ab_effects.specs.Openings.{Opened, Nameless}
 use Rattle.ab_steps.specs.Progress.{IsAt}
 use Rattle.ab_hypothesis.specs.OwnNames.{AreOwn, HasAll, besides, weight}
@@ -84,3 +86,7 @@ pub record MovedTo (l : Label) (F : Read) (H : List ℕ) (k : Sequent) (w : Worl
   pub base : Sequent
   pub names : Names l k name base
   pub at : IsAt w p place before (without H (assuming name F base)) behind
+
+-- the numbers may change places in the first goal, and one of them stands there at the type
+abbrev pub MayCycleAt : World → Held → List ℕ → Ty → Type 0
+MayCycleAt w p ns A = (s : Sequent) (rest : List Sequent) → goals_of w p ≡ s ∷ rest → MayCycle ns (goal_names s) × (type_among ns (goal_names s) ≡ Some A)

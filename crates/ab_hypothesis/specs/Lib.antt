@@ -7,3 +7,5 @@ pub mod AnalysedGoals
 pub mod HypothesisRefusals
 -- Rules of judgements.
 pub mod JudgementSteps
+-- A library that the crates above name through this one.
+pub use Rattle.ab_steps

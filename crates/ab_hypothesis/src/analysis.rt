@@ -4,9 +4,9 @@ ghost use Rattle.std.specs.Prelude.{◌≡◌, ◌≢◌, ◌+◌, ℕ, [], Ok, 
 ghost use Rattle.ab_formulas.specs.Forms.{form_of};
 ghost use Rattle.ab_logic.specs.Worlds.{IsWorld, Holds, read};
 ghost use Rattle.ab_equations.specs.Labels.{label_of};
-ghost use Rattle.ab_steps.specs.ab_kernel.specs.Layout.{history_of, IsProof};
+ghost use Rattle.ab_steps.specs.ab_kernel.specs.Layout.{history_of, IsProof, goals_of};
 ghost use Rattle.ab_meaning.specs.Refusals.{wrong_shape, mark, not_pattern, names_spent};
-ghost use Rattle.ab_steps.specs.Progress.{goals_of, Follows, TookInto, FailsBy, StuckAt};
+ghost use Rattle.ab_steps.specs.Progress.{Follows, TookInto, FailsBy, StuckAt};
 ghost use Rattle.ab_steps.specs.declared.goal_steps.Attempted.TheVariants.{Taken, Failed, Stuck};
 ghost use Rattle.ab_hypothesis.specs.OwnNames.{IsOwn};
 ghost use Rattle.ab_hypothesis.specs.HypothesisProgress.{HasAt};

@@ -9,9 +9,9 @@ ghost use Rattle.ab_equations.specs.Labels.{label_of};
 ghost use Rattle.ab_theory.specs.Steps.{spec_cut};
 ghost use Rattle.ab_effects.specs.ProofCommands.{missing};
 ghost use Rattle.ab_meaning.specs.Refusals.{no_hypothesis};
-ghost use Rattle.ab_steps.specs.ab_kernel.specs.Layout.{history_of, IsProof};
+ghost use Rattle.ab_steps.specs.ab_kernel.specs.Layout.{history_of, IsProof, goals_of};
 ghost use Rattle.ab_steps.specs.ProofEffects.{IsApplied, IsRefused};
-ghost use Rattle.ab_steps.specs.Progress.{goals_of, Follows, Took};
+ghost use Rattle.ab_steps.specs.Progress.{Follows, Took};
 ghost use Rattle.ab_steps.specs.declared.fault.ProofCommandFault.{ProofCommandFault as AFault};
 ghost use Rattle.ab_hypothesis.specs.JudgementSteps.{IsntTaken};
 

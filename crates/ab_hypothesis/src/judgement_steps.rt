@@ -2,9 +2,9 @@
 ghost use Rattle.std.specs.Prelude.{◌≡◌, ◌≢◌, [], Err, IfOk, OnOk, OnErr};
 ghost use Rattle.ab_equations.specs.Labels.{label_of};
 ghost use Rattle.ab_logic.specs.Worlds.{IsWorld};
-ghost use Rattle.ab_steps.specs.ab_kernel.specs.RuleAnswers.{step_of, HoldsStep};
-ghost use Rattle.ab_steps.specs.ab_kernel.specs.Layout.{history_of, IsProof};
-ghost use Rattle.ab_steps.specs.Progress.{goals_of, Follows, Took, SolvesNothing};
+ghost use Rattle.ab_steps.specs.ab_kernel.specs.ab_rules.specs.RuleAnswers.{step_of, HoldsStep};
+ghost use Rattle.ab_steps.specs.ab_kernel.specs.Layout.{history_of, IsProof, goals_of};
+ghost use Rattle.ab_steps.specs.Progress.{Follows, Took, SolvesNothing};
 ghost use Rattle.ab_theory.specs.Derivations.{debts_of};
 ghost use Rattle.ab_steps.specs.declared.fault.ProofCommandFault.{ProofCommandFault as AFault};
 ghost use Rattle.ab_hypothesis.specs.JudgementSteps.{fault_at, IsntTaken};

@@ -17,6 +17,7 @@ mod removals;
 mod replacements;
 mod stop;
 
+pub use ab_steps as steps;
 pub use cases::{case, label_clash};
 pub use exchanges::permute;
 pub use judgement_cuts::cut;

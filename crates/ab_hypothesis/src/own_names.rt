@@ -1,12 +1,11 @@
 //! Names for hypotheses that a command makes for itself and removes again.
-ghost use Rattle.std.specs.Prelude.{◌≡◌, ◌≢◌, ◌⊎◌, ◌+◌, ◌<◌, ◌^◌, ◌++◌, ◌↔◌, length, IfOk, IsTrue, IsFalse, None, codes};
-ghost use Rattle.std.specs.Fmt.{decimal};
+ghost use Rattle.std.specs.Prelude.{◌≡◌, ◌≢◌, ◌⊎◌, ◌+◌, ◌<◌, ◌^◌, ◌↔◌, length, IfOk, IsTrue, IsFalse, None};
 ghost use Rattle.ab_formulas.specs.NewNames.{given};
 ghost use Rattle.ab_logic.specs.SequentReadings.{sequent_of};
 ghost use Rattle.ab_formulas.specs.Sequents.{formula_of, IsUsed};
 ghost use Rattle.ab_logic.specs.declared.world.World.{World as AWorld};
 ghost use Rattle.ab_equations.specs.Labels.{label_of};
-ghost use Rattle.ab_hypothesis.specs.OwnNames.{IsOwn};
+ghost use Rattle.ab_hypothesis.specs.OwnNames.{IsOwn, IsFirstOwn, own_numbered};
 
 use ab_equations::Label;
 use ab_logic::{Sequent, World};
@@ -14,8 +13,8 @@ use ab_norm::name::Name;
 use std::alloc::{AllocError, Global};
 
 /// The name `_` with the number.
-fn numbered(alloc: Global, number: u128) -> Result<Name, AllocError>
-    ensures { IfOk result (λ name. name ≡ codes "_" ++ decimal number) }
+fn numbered_name(alloc: Global, number: u128) -> Result<Name, AllocError>
+    ensures { IfOk result (λ name. name ≡ own_numbered number) }
 {
     let text = format!(in alloc; "_{number}")?;
     Name::from_text(alloc, text.as_str())
@@ -61,10 +60,11 @@ pub fn own_name(
 ) -> Result<Name, AllocError>
     ensures new { IfOk result (λ name. (w : AWorld) → formula_of (sequent_of w sequent.now) name ≡ None) }
     ensures own { IfOk result (IsOwn (label_of label.now)) }
+    ensures first { IfOk result (IsFirstOwn (label_of label.now) (sequent_of world.now sequent.now)) }
 {
     let last = last_number(sequent);
     for number in 1..last + 1 {
-        let name = numbered(alloc, number)?;
+        let name = numbered_name(alloc, number)?;
         if is_new(world, sequent, label, &name) {
             return Ok(name);
         }

@@ -7,11 +7,11 @@ ghost use Rattle.ab_logic.specs.SequentReadings.{sequent_of};
 ghost use Rattle.ab_formulas.specs.Sequents.{Sequent as AGoal, without};
 ghost use Rattle.ab_logic.specs.Worlds.{IsWorld};
 ghost use Rattle.ab_logic.specs.declared.world.World.{World as AWorld};
-ghost use Rattle.ab_steps.specs.ab_kernel.specs.Layout.{history_of, IsProof};
+ghost use Rattle.ab_steps.specs.ab_kernel.specs.Layout.{history_of, IsProof, goals_of};
 ghost use Rattle.ab_effects.specs.ProofCommands.{missing, cleared};
 ghost use Rattle.ab_meaning.specs.Refusals.{no_hypothesis};
 ghost use Rattle.ab_steps.specs.ProofEffects.{IsApplied, IsRefused};
-ghost use Rattle.ab_steps.specs.Progress.{goals_of, Follows};
+ghost use Rattle.ab_steps.specs.Progress.{Follows};
 ghost use Rattle.ab_steps.specs.declared.fault.ProofCommandFault.{ProofCommandFault};
 
 use crate::goal_moves::forget;

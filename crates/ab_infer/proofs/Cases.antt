@@ -9,12 +9,12 @@ use Rattle.ab_grammar.specs.declared.Infix.{Infix}
 use Rattle.ab_grammar.specs.declared.Quant.{Quant}
 use Rattle.ab_grammar.specs.Tree as tree
 use Rattle.ab_grammar.specs.Tree.{Tree, Trees, trees_of}
-use Rattle.ab_syntax.specs.declared.tree.Binder.{Binder}
-use Rattle.ab_syntax.specs.declared.tree.Parse.{Parse}
-use Rattle.ab_syntax.specs.declared.tree.Parse.TheVariants as parse
-use Rattle.ab_syntax.specs.declared.items.Items.{Items}
-use Rattle.ab_syntax.specs.Items.{list_of}
-use Rattle.ab_syntax.specs.SyntaxTrees.{tree_of, binder_of}
+use Rattle.ab_syntax.specs.ab_expressions.specs.declared.tree.Binder.{Binder}
+use Rattle.ab_syntax.specs.ab_expressions.specs.declared.tree.Parse.{Parse}
+use Rattle.ab_syntax.specs.ab_expressions.specs.declared.tree.Parse.TheVariants as parse
+use Rattle.ab_syntax.specs.ab_expressions.specs.declared.items.Items.{Items}
+use Rattle.ab_syntax.specs.ab_expressions.specs.Items.{list_of}
+use Rattle.ab_syntax.specs.ab_expressions.specs.SyntaxTrees.{tree_of, binder_of}
 use Rattle.ab_meaning.specs.ResolvedNames as names
 use Rattle.ab_meaning.specs.ResolvedNames.{Name, quantified}
 use Rattle.ab_meaning.specs.Scopes as scopes

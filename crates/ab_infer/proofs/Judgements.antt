@@ -15,11 +15,11 @@ use Rattle.ab_norm.specs.ab_store.specs.declared.node.Logical.{Logical}
 use Rattle.ab_norm.specs.ab_store.specs.declared.node.Head.TheVariants.{Const, Logic}
 use Rattle.ab_grammar.specs.Tree as tree
 use Rattle.ab_grammar.specs.Tree.{Tree, Trees, trees_of}
-use Rattle.ab_syntax.specs.declared.tree.Parse.{Parse}
-use Rattle.ab_syntax.specs.declared.tree.Parse.TheVariants as parse
-use Rattle.ab_syntax.specs.declared.items.Items.{Items}
-use Rattle.ab_syntax.specs.Items.{list_of}
-use Rattle.ab_syntax.specs.SyntaxTrees.{tree_of}
+use Rattle.ab_syntax.specs.ab_expressions.specs.declared.tree.Parse.{Parse}
+use Rattle.ab_syntax.specs.ab_expressions.specs.declared.tree.Parse.TheVariants as parse
+use Rattle.ab_syntax.specs.ab_expressions.specs.declared.items.Items.{Items}
+use Rattle.ab_syntax.specs.ab_expressions.specs.Items.{list_of}
+use Rattle.ab_syntax.specs.ab_expressions.specs.SyntaxTrees.{tree_of}
 use Rattle.ab_meaning.specs.ResolvedNames as names
 use Rattle.ab_meaning.specs.ResolvedNames.{Name, Resolved, known}
 use Rattle.ab_meaning.specs.Scopes.{Scope, Found, made_of_both, before_list, empty_list, put_before, is_list, resolved, context, items_before, judgement}

@@ -9,14 +9,14 @@ use Rattle.ab_grammar.specs.declared.Infix.TheVariants as sign
 use Rattle.ab_grammar.specs.declared.Quant.{Quant}
 use Rattle.ab_grammar.specs.Tree as tree
 use Rattle.ab_grammar.specs.Tree.{Tree, Trees, Focus, trees_of}
-use Rattle.ab_syntax.specs.declared.tree.Binder.{Binder}
-use Rattle.ab_syntax.specs.declared.tree.Parse.{Parse}
-use Rattle.ab_syntax.specs.declared.tree.Parse.TheVariants.{rolls-Name, rolls-Apply, rolls-Abs, rolls-Join, rolls-Bind, rolls-Judge}
-use Rattle.ab_syntax.specs.declared.tree.Parse.TheVariants as parse
-use Rattle.ab_syntax.specs.declared.tree.Parse.TheFolds.{fold-roll-Parse}
-use Rattle.ab_syntax.specs.declared.items.Items.{Items}
-use Rattle.ab_syntax.specs.Items.{list_of}
-use Rattle.ab_syntax.specs.SyntaxTrees.{tree_of, tree_step, binder_of}
+use Rattle.ab_syntax.specs.ab_expressions.specs.declared.tree.Binder.{Binder}
+use Rattle.ab_syntax.specs.ab_expressions.specs.declared.tree.Parse.{Parse}
+use Rattle.ab_syntax.specs.ab_expressions.specs.declared.tree.Parse.TheVariants.{rolls-Name, rolls-Apply, rolls-Abs, rolls-Join, rolls-Bind, rolls-Judge}
+use Rattle.ab_syntax.specs.ab_expressions.specs.declared.tree.Parse.TheVariants as parse
+use Rattle.ab_syntax.specs.ab_expressions.specs.declared.tree.Parse.TheFolds.{fold-roll-Parse}
+use Rattle.ab_syntax.specs.ab_expressions.specs.declared.items.Items.{Items}
+use Rattle.ab_syntax.specs.ab_expressions.specs.Items.{list_of}
+use Rattle.ab_syntax.specs.ab_expressions.specs.SyntaxTrees.{tree_of, tree_step, binder_of}
 use Rattle.ab_meaning.specs.ResolvedNames as names
 use Rattle.ab_meaning.specs.ResolvedNames.{Name, Resolved}
 use Rattle.ab_meaning.specs.Scopes.{Scope, Found, made_of, made_of_both, joined, is_pi, resolved, applied, pi_applied, after}

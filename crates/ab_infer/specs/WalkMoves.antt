@@ -12,10 +12,10 @@ use Rattle.ab_norm.specs.ab_store.specs.Trees.{Contents, head_in}
 use Rattle.ab_grammar.specs.declared.Infix.{Infix}
 use Rattle.ab_grammar.specs.declared.Infix.TheVariants as sign
 use Rattle.ab_grammar.specs.Tree as tree
-use Rattle.ab_syntax.specs.declared.tree.Parse.{Parse}
-use Rattle.ab_syntax.specs.declared.tree.Parse.TheVariants as parse
-use Rattle.ab_syntax.specs.declared.items.Items.{Items}
-use Rattle.ab_syntax.specs.SyntaxTrees.{tree_of}
+use Rattle.ab_syntax.specs.ab_expressions.specs.declared.tree.Parse.{Parse}
+use Rattle.ab_syntax.specs.ab_expressions.specs.declared.tree.Parse.TheVariants as parse
+use Rattle.ab_syntax.specs.ab_expressions.specs.declared.items.Items.{Items}
+use Rattle.ab_syntax.specs.ab_expressions.specs.SyntaxTrees.{tree_of}
 use Rattle.ab_meaning.specs.ResolvedNames.{Name, Resolved, known, apply}
 use Rattle.ab_meaning.specs.Scopes.{Scope, Found, joined, made_of_both, applied, items_before, written}
 use Rattle.ab_inference.specs.declared.op.Op.{Op}

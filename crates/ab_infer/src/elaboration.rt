@@ -6,7 +6,7 @@ ghost use Rattle.ab_norm.specs.ab_types.specs.Sound.{IsTable};
 ghost use Rattle.ab_norm.specs.ab_store.specs.Naming.{IsTypedBy};
 ghost use Rattle.ab_norm.specs.NodeGrowth.{AddsTypedTerms};
 ghost use Rattle.ab_grammar.specs.Tree as tree;
-ghost use Rattle.ab_syntax.specs.SyntaxTrees.{tree_of};
+ghost use Rattle.ab_syntax.specs.ab_expressions.specs.SyntaxTrees.{tree_of};
 ghost use Rattle.ab_meaning.specs.Scopes.{resolved};
 ghost use Rattle.ab_infer.specs.ElaborationAnswers.{IsAnswer};
 ghost use Rattle.ab_infer.specs.ScopeReadings.{scope_of, HoldsScope};
@@ -15,7 +15,7 @@ use crate::answers::answer;
 use crate::expression_walk::row_of;
 use crate::ids::{formulas, numbers};
 use crate::readings::read_steps;
-use crate::scopes::{Scope, resolving};
+use crate::scopes::{Scope, resolution_scope};
 use ab_inference::InferFault;
 use ab_norm::store::{Store, TermId};
 use ab_norm::types::{Steps, TypeId, TypeTable};
@@ -62,7 +62,7 @@ pub fn elaborate<L>(
     ensures adds { AddsTypedTerms types.new store.old store.new }
     ensures steps { steps.old ≤ steps.new }
 {
-    let inner = resolving(alloc, scope)?;
+    let inner = resolution_scope(alloc, scope)?;
     let formulas = formulas(alloc, types)?;
     let row = row_of(alloc, types, store, formulas, &inner, parse)?;
     let numbers = numbers(alloc, &row.names)?;

@@ -6,7 +6,7 @@ ghost use Rattle.ab_norm.specs.ab_store.specs.Trees.{Contents};
 ghost use Rattle.ab_grammar.specs.declared.Quant.{Quant};
 ghost use Rattle.ab_meaning.specs.ResolvedNames.{quantified, apply};
 ghost use Rattle.ab_inference.specs.Programs.{binding_of};
-ghost use Rattle.ab_syntax.specs.SyntaxTrees.{tree_of, type_of as type_tree_of, binder_of};
+ghost use Rattle.ab_syntax.specs.ab_expressions.specs.SyntaxTrees.{tree_of, type_of as type_tree_of, binder_of};
 ghost use Rattle.ab_meaning.specs.Scopes as scopes;
 ghost use Rattle.ab_grammar.specs.Tree.{trees_of};
 ghost use Rattle.ab_meaning.specs.Scopes.{resolved, written, with_binders, under, after, pi_over, made_of_both, context, items_before};
@@ -31,7 +31,7 @@ use ab_syntax::{Binder, Parse, TypeParse};
 use std::alloc::Global;
 
 /// A word that stands for nothing.
-fn unknown(alloc: Global, text: &str) -> InferFault
+fn unknown_word(alloc: Global, text: &str) -> InferFault
     ensures { (found : scopes.Found) → found ≡ Err text.now → Fails found result }
 {
     match Name::from_text(alloc, text) {
@@ -89,14 +89,14 @@ fn turn_to_pi(alloc: Global, row: &mut Row) -> Result<(), InferFault>
         MatchResult result (λ u. Grew types store first row.new (after pi_over found)) (Fails (after pi_over found)) }
 {
     let Some(last) = row.steps.pop() else {
-        return Err(unknown(alloc, "pi"));
+        return Err(unknown_word(alloc, "pi"));
     };
     match last {
         Op::Abs(name, node, place) => {
             row.put(Op::Bind(Binds::Pi, name, node, place, None))?;
             Ok(())
         }
-        _ => Err(unknown(alloc, "pi")),
+        _ => Err(unknown_word(alloc, "pi")),
     }
 }
 
@@ -173,7 +173,7 @@ fn walk_application(
             let arguments = arguments.as_slice();
             if is_pi(head) {
                 if arguments.len() != 1 {
-                    return Err(unknown(alloc, "pi"));
+                    return Err(unknown_word(alloc, "pi"));
                 }
                 walk(alloc, types, store, formulas, scope, &arguments[0], row)?;
                 turn_to_pi(alloc, row)?;

@@ -9,7 +9,7 @@ ghost use Rattle.ab_norm.specs.ab_types.specs.Ids.{HoldsType, type_of};
 ghost use Rattle.ab_norm.specs.ab_types.specs.Sound.{IsTable};
 ghost use Rattle.ab_norm.specs.ab_store.specs.Trees.{Contents, logical_of};
 ghost use Rattle.ab_norm.specs.ab_store.specs.Naming.{IsTypedBy, LogicalIsTyped};
-ghost use Rattle.ab_syntax.specs.SyntaxTrees.{tree_of};
+ghost use Rattle.ab_syntax.specs.ab_expressions.specs.SyntaxTrees.{tree_of};
 ghost use Rattle.ab_meaning.specs.ResolvedNames.{known};
 ghost use Rattle.ab_meaning.specs.Scopes as scopes;
 ghost use Rattle.ab_inference.specs.Inferences.{IsFormulas};

@@ -22,7 +22,7 @@ ghost use Rattle.ab_inference.specs.Assignments.{settled_at};
 ghost use Rattle.ab_infer.specs.NormalTerms.{OpFits, AreFreeHeads, AreTypes, BecomeHeads, IsBuilt, head_at};
 ghost use Rattle.ab_infer.specs.Values.{HoldsValue, turned, Popped, Advances};
 
-use crate::value::{Value, given, one, pop, pop_term, two};
+use crate::value::{Value, one, pop, pop_term, two, with_argument};
 use ab_inference::{Binds, Formulas, Op, Settled};
 use ab_norm::name::Name;
 use ab_norm::store::{Arguments, Head, Logical, Store, TermId};
@@ -79,7 +79,7 @@ fn apply_last<L>(
     let Some(function) = pop(stack) else {
         return Ok(None);
     };
-    let made = given(alloc, types, store, function, argument, count)?;
+    let made = with_argument(alloc, types, store, function, argument, count)?;
     Ok(Some(made))
 }
 
@@ -107,7 +107,7 @@ fn apply_behind<L>(
     let Some(argument) = pop_term(alloc, types, store, stack)? else {
         return Ok(None);
     };
-    let made = given(alloc, types, store, function, argument, count)?;
+    let made = with_argument(alloc, types, store, function, argument, count)?;
     Ok(Some(made))
 }
 

@@ -22,7 +22,10 @@ pub struct Scope {
 }
 
 /// The scope in which names are resolved.
-pub(crate) fn resolving(alloc: Global, scope: &Scope) -> Result<crate::scope::Scope, AllocError>
+pub(crate) fn resolution_scope(
+    alloc: Global,
+    scope: &Scope,
+) -> Result<crate::scope::Scope, AllocError>
     ensures same { IfOk result (λ inner. (types : Table) (store : Contents) → resolving.scope_of types store inner ≡ scope_of types store scope.now) }
     ensures held { IfOk result (λ inner. (types : Table) (store : Contents) → HoldsScope types store scope.now → resolving.HoldsScope types store inner) }
 {

@@ -19,7 +19,7 @@ use ab_norm::types::{TypeId, TypeTable};
 use std::alloc::{AllocError, Global};
 
 /// The type of what takes two terms of a type to a third.
-fn pairing(types: &mut TypeTable, ty: TypeId) -> Result<TypeId, AllocError>
+fn pairing_type(types: &mut TypeTable, ty: TypeId) -> Result<TypeId, AllocError>
     requires table { IsTable types.old }
     requires ty { HoldsType types.old ty }
     ensures held { IfOk result (HoldsType types.new) }
@@ -63,7 +63,7 @@ pub(crate) fn connective(
         Infix::Imply => (Logical::Imply, formulas.o),
         Infix::With => (Logical::With, formulas.o),
     };
-    Ok(Some((Head::Logic(logical), pairing(types, ty)?)))
+    Ok(Some((Head::Logic(logical), pairing_type(types, ty)?)))
 }
 
 /// What is put for a sign before its operands; an equation gets a type variable, which is the answer.

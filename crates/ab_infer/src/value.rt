@@ -81,7 +81,7 @@ pub(crate) fn two(alloc: Global, first: TermId, last: TermId) -> Result<Argument
 }
 
 /// The value that the value is when it is given one argument more.
-pub(crate) fn given<L>(
+pub(crate) fn with_argument<L>(
     alloc: Global,
     types: &TypeTable,
     store: &mut Store,

@@ -8,12 +8,12 @@ use Rattle.ab_store.specs.ab_types.specs.Ids.{HoldsType, type_of}
 use Rattle.ab_store.specs.ab_types.specs.declared.ids.TypeId.{TypeId}
 use Rattle.ab_inference.proofs.Tables.{same_reading}
 use Rattle.ab_grammar.specs.Tree as tree
-use Rattle.ab_syntax.specs.SyntaxTrees.{type_step}
-use Rattle.ab_syntax.specs.SyntaxTrees as trees
-use Rattle.ab_syntax.specs.declared.tree.TypeParse.{TypeParse}
-use Rattle.ab_syntax.specs.declared.tree.TypeParse.TheVariants.{rolls-Base, rolls-Arrow}
-use Rattle.ab_syntax.specs.declared.tree.TypeParse.TheVariants as parse
-use Rattle.ab_syntax.specs.declared.tree.TypeParse.TheFolds.{fold-roll-TypeParse}
+use Rattle.ab_syntax.specs.ab_expressions.specs.SyntaxTrees.{type_step}
+use Rattle.ab_syntax.specs.ab_expressions.specs.SyntaxTrees as trees
+use Rattle.ab_syntax.specs.ab_expressions.specs.declared.tree.TypeParse.{TypeParse}
+use Rattle.ab_syntax.specs.ab_expressions.specs.declared.tree.TypeParse.TheVariants.{rolls-Base, rolls-Arrow}
+use Rattle.ab_syntax.specs.ab_expressions.specs.declared.tree.TypeParse.TheVariants as parse
+use Rattle.ab_syntax.specs.ab_expressions.specs.declared.tree.TypeParse.TheFolds.{fold-roll-TypeParse}
 use Rattle.ab_meaning.specs.Types.{is_listed, written_type, arrow_of}
 use Rattle.ab_inference.specs.declared.fault.InferFault.{InferFault}
 use Rattle.ab_inference.specs.declared.fault.InferFault.TheVariants.{Unknown, TypeClash, Untyped, Memory}

@@ -183,11 +183,11 @@ pub fn solve(
             return Ok(None);
         }
     }
-    Ok(Some(collected(alloc, filler, shapes, &marks)?))
+    Ok(Some(settled_variables(alloc, filler, shapes, &marks)?))
 }
 
 /// What all variables are, of which each is done.
-fn collected(
+fn settled_variables(
     alloc: Global,
     filler: TypeId,
     shapes: &[Shape],

@@ -12,7 +12,7 @@ ghost use Rattle.ab_inference.specs.VariableSteps.{Step, NoStep};
 
 use crate::op::{Binds, Op};
 use crate::shape::Shape;
-use crate::type_variables::{applied, step};
+use crate::type_variables::{application_type, step};
 use crate::work::Wanted;
 use ab_store::types::{TypeId, TypeTable};
 use std::alloc::{AllocError, Global};
@@ -115,7 +115,7 @@ fn infer_step(
             let Some((function, argument)) = pop_two(stack) else {
                 return Ok(None);
             };
-            let found = applied(alloc, types, shapes, function, argument)?;
+            let found = application_type(alloc, types, shapes, function, argument)?;
             Ok(found)
         }
         Op::Abs(_, node, _) => {
@@ -146,7 +146,7 @@ fn infer_step(
             let Some((argument, function)) = pop_two(stack) else {
                 return Ok(None);
             };
-            let found = applied(alloc, types, shapes, function, argument)?;
+            let found = application_type(alloc, types, shapes, function, argument)?;
             Ok(found)
         }
     }

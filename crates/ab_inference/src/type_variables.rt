@@ -77,7 +77,7 @@ pub fn step(
 }
 
 /// A new variable for the type of an application, where a term of the one type can be given one of the other.
-pub fn applied(
+pub fn application_type(
     alloc: Global,
     types: &TypeTable,
     shapes: &mut Vec<Shape>,

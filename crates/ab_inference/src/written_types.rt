@@ -2,7 +2,7 @@
 ghost use Rattle.std.specs.Prelude.{◌≡◌, bytes_eq, codes};
 ghost use Rattle.ab_store.specs.ab_types.specs.Entries.{kinds, constants, IsExtendedBy};
 ghost use Rattle.ab_store.specs.ab_types.specs.Sound.{IsTable};
-ghost use Rattle.ab_syntax.specs.SyntaxTrees as trees;
+ghost use Rattle.ab_syntax.specs.ab_expressions.specs.SyntaxTrees as trees;
 ghost use Rattle.ab_meaning.specs.Types.{type_place};
 ghost use Rattle.ab_inference.specs.WrittenTypes.{TypeAnswers, WrittenAnswers, KindAnswers};
 
@@ -10,7 +10,7 @@ use crate::fault::InferFault;
 use ab_store::name::Name;
 use ab_store::types::{TableFault, TypeId, TypeTable};
 use ab_syntax::TypeParse;
-use std::alloc::{AllocError, Global};
+use std::alloc::Global;
 
 /// A written type, and where `prop` stands in it.
 #[derive(Clone, Copy)]
@@ -115,7 +115,7 @@ fn read_kind(alloc: Global, types: &mut TypeTable, name: &Name) -> Result<Writte
             is_declarable: true,
         }),
         Err(TableFault::UnknownKind) => Err(InferFault::Unknown(name.copy(alloc)?)),
-        Err(TableFault::Clash) => Err(InferFault::Memory(AllocError)),
+        Err(TableFault::Clash) => unreachable!(),
         Err(TableFault::Memory(error)) => Err(InferFault::Memory(error)),
     }
 }

@@ -20,9 +20,9 @@ use Rattle.ab_unifiers.specs.Prefixes.{opened, arguments_of}
 use Rattle.ab_typing.specs.declared.definitions.ClauseTerm.{ClauseTerm}
 use Rattle.ab_typing.specs.DefinitionReadings.{variable_of, clause_of}
 use Rattle.ab_formulas.specs.CaseClauses.{case_of, IsWellKept}
-use Rattle.ab_unify.specs.Problem.{cell_read, cells_read, variables_read}
+use Rattle.ab_unify.specs.Problem.{cell_read, cells_read, variables_read, cells_at}
 use Rattle.ab_unify.specs.StoreChanges.{Grows}
-use Rattle.ab_instances.specs.ListReadings.{cells_at, trees_at}
+use Rattle.ab_instances.specs.ListReadings.{trees_at}
 use Rattle.ab_instances.proofs.Fitting.{in_terms_are, cells_are, variables_stay}
 use Rattle.ab_instances.proofs.Instanced.{body_direct, arguments_direct, arguments_typed}
 

@@ -28,10 +28,10 @@ use Rattle.ab_unifiers.proofs.Variables.{Has, has_held}
 use Rattle.ab_typing.specs.DefinitionReadings.{variable_of}
 use Rattle.ab_formulas.specs.CaseClauses as cases
 use Rattle.ab_formulas.specs.CaseClauses.{in_terms}
-use Rattle.ab_unify.specs.Problem.{cell_read, variables_read}
+use Rattle.ab_unify.specs.Problem.{cell_read, variables_read, cells_at}
 use Rattle.ab_unify.specs.StoreChanges.{Grows}
 use Rattle.ab_unify.proofs.Growth.{grown_type, grown_variable}
-use Rattle.ab_instances.specs.ListReadings.{cells_at, trees_at}
+use Rattle.ab_instances.specs.ListReadings.{trees_at}
 use Rattle.ab_instances.specs.CellBindings.{IsFor, CanBeBound}
 
 abbrev x : List ℕ

@@ -30,11 +30,11 @@ use Rattle.ab_unifiers.specs.Replacements.{Cell}
 use Rattle.ab_unifiers.specs.Clauses.{Each, numbered, name_term}
 use Rattle.ab_unifiers.specs.Alternatives.{cells_over, made_terms}
 use Rattle.ab_unifiers.proofs.Lifting.{made_terms_typed}
-use Rattle.ab_unify.specs.Problem.{cell_read, cells_read, variables_read}
+use Rattle.ab_unify.specs.Problem.{cell_read, cells_read, variables_read, cells_at}
 use Rattle.ab_unify.specs.StoreChanges.{Grows}
 use Rattle.ab_unify.proofs.Growth.{one_more, grown_type, grows_on, grows_terms}
 use Rattle.ab_unify.proofs.Cells.{cells_same}
-use Rattle.ab_instances.specs.ListReadings.{names_read, cells_at, trees_at}
+use Rattle.ab_instances.specs.ListReadings.{names_read, trees_at}
 use Rattle.ab_instances.specs.RaisedCells.{ids_from, given_all}
 use Rattle.ab_instances.proofs.Chosen.{rest_is}
 

@@ -1,25 +1,18 @@
--- What lists of constants, of cells and of terms stand for.
+-- What lists of constants and of terms stand for.
 use Rattle.std.specs.Prelude.{ℕ, List, map}
 use Rattle.ab_term.specs.Terms as tree
 use Rattle.ab_term.specs.Terms.{Terms, terms_of, Read}
 use Rattle.ab_norm.specs.ab_types.specs.Entries.{Table}
 use Rattle.ab_norm.specs.ab_store.specs.declared.node.TermId.{TermId}
-use Rattle.ab_norm.specs.ab_store.specs.declared.node.CellId.{CellId}
-use Rattle.ab_norm.specs.ab_store.specs.Trees.{Contents, cell_of, tree_of}
+use Rattle.ab_norm.specs.ab_store.specs.Trees.{Contents, tree_of}
 use Rattle.ab_norm.specs.declared.nominal.Nominal.{Nominal}
 use Rattle.ab_norm.specs.Nominals.{nominal_of}
-use Rattle.ab_unifiers.specs.Replacements.{Cell}
-use Rattle.ab_unify.specs.Problem.{cell_read}
 
 module _ (types : Table) where
   abbrev pub names_read : List Nominal → List tree.Nominal
   names_read = map (nominal_of types)
 
   module _ (store : Contents) where
-    -- hints and types of cells
-    abbrev pub cells_at : List CellId → List (Cell (List ℕ))
-    cells_at = map (λ c. cell_read types (cell_of store c))
-
     abbrev pub trees_at : List TermId → List Read
     trees_at = map (tree_of types store)
 

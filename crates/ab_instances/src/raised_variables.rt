@@ -11,9 +11,9 @@ ghost use Rattle.ab_norm.specs.NodeGrowth.{AddsTypedTerms};
 ghost use Rattle.ab_norm.specs.Nominals.{HoldsNominal};
 ghost use Rattle.ab_unifiers.specs.Clauses.{name_term, Each};
 ghost use Rattle.ab_unifiers.specs.Alternatives.{cells_over, made_over, made_terms};
-ghost use Rattle.ab_unify.specs.Problem.{cells_read, variables_read};
+ghost use Rattle.ab_unify.specs.Problem.{cells_read, variables_read, cells_at};
 ghost use Rattle.ab_unify.specs.StoreChanges.{Grows};
-ghost use Rattle.ab_instances.specs.ListReadings.{names_read, cells_at, trees_at, given_at};
+ghost use Rattle.ab_instances.specs.ListReadings.{names_read, trees_at, given_at};
 ghost use Rattle.ab_instances.specs.RaisedCells.{ids_from, given_all};
 
 use ab_norm::store::{CellId, Head, Store, TermId};
@@ -167,14 +167,14 @@ fn give(
     let mut terms = Vec::new(alloc);
     for i in 0..cells.len() {
         let left = store.cell_type(cells[i]);
-        let args = copied(alloc, forms)?;
+        let args = copy_terms(alloc, forms)?;
         terms.push(eta_given(alloc, types, store, Head::Cell(made[i]), args, left)?)?;
     }
     Ok(terms)
 }
 
 /// The terms of the slice.
-fn copied(alloc: Global, ids: &[TermId]) -> Result<Vec<TermId>, AllocError>
+fn copy_terms(alloc: Global, ids: &[TermId]) -> Result<Vec<TermId>, AllocError>
     ensures { IfOk result (λ list. list.items ≡ ids.now) }
 {
     ids.iter().copied().collect(alloc)

@@ -25,7 +25,7 @@ use Rattle.ab_theory.specs.Splits.{Case}
 use Rattle.ab_alternatives.specs.ab_equations.specs.Meanwhile.{AreFrom, count_before, case_read}
 use Rattle.ab_alternatives.specs.LeftAlternatives.{goal_for}
 use Rattle.ab_judgements.specs.DemandReadings.{rule_read, IsRuleFor, IsDemanded}
-use Rattle.ab_judgements.specs.JudgementReadings.{judgement_read}
+use Rattle.ab_judgement_forms.specs.JudgementReadings.{judgement_read}
 use Rattle.ab_judgements.specs.RuleSteps.{IsSplitting}
 use Rattle.ab_judgements.specs.declared.demands.DemandTerm.{DemandTerm}
 use Rattle.ab_judgements.specs.declared.demands.Rule.{Rule}

@@ -15,9 +15,9 @@ use Rattle.ab_unify.specs.Problem.{cell_read, cells_read}
 use Rattle.ab_unify.specs.StoreChanges.{Grows}
 use Rattle.ab_unify.proofs.Growth.{one_more}
 use Rattle.ab_theory.specs.Equations.{variables_from}
-use Rattle.ab_alternatives.specs.RightAlternatives.{variable_at}
-use Rattle.ab_judgements.specs.declared.part_names.PartName.{PartName}
-use Rattle.ab_judgements.specs.PartReadings.{name_read}
+use Rattle.ab_logic.specs.Worlds.{variable_at}
+use Rattle.ab_judgement_forms.specs.declared.part_names.PartName.{PartName}
+use Rattle.ab_judgement_forms.specs.PartReadings.{name_read}
 
 variables_push : (n : ℕ) (cs : List (Cell (List ℕ))) (c : Cell (List ℕ)) → variables_from n (cs ++ c ∷ []) ≡ variables_from n cs ++ record { number = n + length cs; type = c.type; name = c.hint } ∷ []
 variables_push n [] c = let e : n ≡ n + 0 = omega arith in ap (λ (k : ℕ). record { number = k; type = c.type; name = c.hint } ∷ []) e

@@ -23,23 +23,22 @@ use Rattle.ab_formulas.specs.Marks.{Sign}
 use Rattle.ab_formulas.specs.Programs.{goals_in}
 use Rattle.ab_formulas.specs.CaseClauses as cases
 use Rattle.ab_formulas.specs.CaseClauses.{case_of}
-use Rattle.ab_unify.specs.Problem.{cell_read, cells_read, variables_read}
+use Rattle.ab_unify.specs.Problem.{cell_read, cells_read, variables_read, cells_at}
 use Rattle.ab_unify.specs.StoreChanges.{Grows}
 use Rattle.ab_unify.proofs.Growth.{grows_on, grows_terms}
-use Rattle.ab_logic.specs.Worlds.{IsKeptProgramClause}
+use Rattle.ab_logic.specs.Worlds.{IsKeptProgramClause, variable_at}
 use Rattle.ab_theory.specs.Judgements.{Judgement, constants_of}
 use Rattle.ab_theory.specs.Opening.{open_goal, conjunction_of}
 use Rattle.ab_theory.specs.SpecRules.{Demand, stands_in_goals_alone, by_clause, demand_of}
 use Rattle.ab_theory.specs.Splits.{cell_for}
 use Rattle.ab_alternatives.specs.LeftAlternatives.{trees_from}
-use Rattle.ab_alternatives.specs.RightAlternatives.{variable_at}
-use Rattle.ab_alternatives.specs.ab_instances.specs.ListReadings.{cells_at, trees_at}
+use Rattle.ab_alternatives.specs.ab_instances.specs.ListReadings.{trees_at}
 use Rattle.ab_alternatives.proofs.Assembled.{cells_same, variables_same}
-use Rattle.ab_judgements.specs.DemandWalks.{under_variables, exists_names, chosen, stand_ins}
+use Rattle.ab_judgement_forms.specs.DemandWalks.{under_variables, exists_names, chosen, stand_ins}
 use Rattle.ab_judgements.proofs.DemandBodies.{clause_closed, clause_others, clause_terms, clause_head, clause_own, clause_body, clause_equations}
-use Rattle.ab_judgements.proofs.KeptScopes.{kept_variable}
-use Rattle.ab_judgements.proofs.StandIns.{IsBelow}
-use Rattle.ab_judgements.proofs.StoresGrown.{all_variables_stay, all_trees_stay, below_all, cells_by, kept_are, kept_cells, chosen_map}
+use Rattle.ab_judgement_forms.proofs.KeptScopes.{kept_variable}
+use Rattle.ab_judgement_forms.proofs.StandIns.{IsBelow}
+use Rattle.ab_judgement_forms.proofs.StoresGrown.{all_variables_stay, all_trees_stay, below_all, cells_by, kept_are, kept_cells, chosen_map}
 
 abbrev x : List ℕ
 x = codes "x"

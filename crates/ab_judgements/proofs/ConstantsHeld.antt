@@ -8,8 +8,8 @@ use Rattle.ab_unifiers.specs.Choices.{in_order}
 use Rattle.ab_logic.specs.Worlds.{read}
 use Rattle.ab_logic.specs.declared.world.World.{World}
 use Rattle.ab_theory.specs.Judgements.{constants_of, support_of_focus}
-use Rattle.ab_judgements.specs.declared.judgements.Judgement.{Judgement as Kept}
-use Rattle.ab_judgements.specs.JudgementReadings.{judgement_read, focus_in, terms_in}
+use Rattle.ab_judgement_forms.specs.declared.judgements.Judgement.{Judgement as Kept}
+use Rattle.ab_judgement_forms.specs.JudgementReadings.{judgement_read, focus_in, terms_in}
 
 module _ (w : World) where
   behind_list : (f : Option TermId) (g : TermId) → support_of_all (terms_of (map (read w) (focus_in f ++ g ∷ []))) ≡ support_of_focus (option_map (read w) f) ++ support (read w g)

@@ -21,12 +21,12 @@ use Rattle.ab_theory.specs.Equations.{variables_from}
 use Rattle.ab_theory.specs.Judgements.{Judgement, constants_of}
 use Rattle.ab_theory.specs.Parts.{Part, parts_of, under_all, put_under}
 use Rattle.ab_theory.specs.SpecRules.{stands_in_goals_alone, by_part, by_clause, demand_of}
-use Rattle.ab_judgements.proofs.ClosedInTurn.{map_then}
+use Rattle.ab_judgement_forms.proofs.ClosedInTurn.{map_then}
 use Rattle.ab_judgements.proofs.DemandsOfNames as demands
-use Rattle.ab_judgements.proofs.KeptScopes.{kept_variable, named, head_scope, goals_scopes, head_named, goals_named, head_is_scope, goals_are_scopes, alone_named}
+use Rattle.ab_judgement_forms.proofs.KeptScopes.{kept_variable, named, head_scope, goals_scopes, head_named, goals_named, head_is_scope, goals_are_scopes, alone_named}
 use Rattle.ab_judgements.proofs.PartScopes.{atom_scope, goal_scopes}
-use Rattle.ab_judgements.proofs.StandIns.{IsBelow}
-use Rattle.ab_judgements.specs.DemandWalks.{under_variables, chosen, stand_ins, body_with}
+use Rattle.ab_judgement_forms.proofs.StandIns.{IsBelow}
+use Rattle.ab_judgement_forms.specs.DemandWalks.{under_variables, chosen, stand_ins, body_with}
 
 -- A PART, of n variables before: its atom and its goals with new variables for the names; whether each of these is closed; and what becomes of
 -- the others

@@ -25,10 +25,10 @@ use Rattle.ab_theory.specs.Judgements.{support_of_focus}
 use Rattle.ab_theory.specs.SpecRules.{demand_of}
 use Rattle.ab_theory.proofs.RuleDemands.{FocusKnown, JudgementKnown, IsRuleOf, rule_well}
 use Rattle.ab_judgements.specs.DemandReadings.{rule_read, IsTypedJudgement, IsRuleFor}
-use Rattle.ab_judgements.specs.JudgementReadings.{judgement_read}
+use Rattle.ab_judgement_forms.specs.JudgementReadings.{judgement_read}
 use Rattle.ab_judgements.specs.declared.demands.Rule.{Rule}
 use Rattle.ab_judgements.specs.declared.demands.Rule.TheVariants.{Clause, Item, Opening, Part}
-use Rattle.ab_judgements.specs.declared.judgements.Judgement.{Judgement}
+use Rattle.ab_judgement_forms.specs.declared.judgements.Judgement.{Judgement}
 
 abbrev Any : tree.Variable ℕ → Type 0
 Any y = Unit {0}

@@ -18,10 +18,10 @@ use Rattle.ab_theory.specs.Parts.{parts_of}
 use Rattle.ab_theory.specs.SpecRules.{body_alone}
 use Rattle.ab_alternatives.specs.LeftAlternatives.{trees_from}
 use Rattle.ab_alternatives.proofs.Assembled.{cells_same}
-use Rattle.ab_judgements.specs.PartReadings.{part_read}
+use Rattle.ab_judgement_forms.specs.PartReadings.{part_read}
 use Rattle.ab_judgements.specs.DemandReadings.{IsTypedJudgement, IsRuleFor, IsDemanded}
-use Rattle.ab_judgements.specs.declared.focus_parts.Part.{Part as Kept}
-use Rattle.ab_judgements.specs.declared.judgements.Judgement.{Judgement}
+use Rattle.ab_judgement_forms.specs.declared.focus_parts.Part.{Part as Kept}
+use Rattle.ab_judgement_forms.specs.declared.judgements.Judgement.{Judgement}
 use Rattle.ab_judgements.specs.declared.demands.Rule.TheVariants.{Part}
 use Rattle.ab_judgements.specs.declared.demands.DemandTerm.{DemandTerm}
 

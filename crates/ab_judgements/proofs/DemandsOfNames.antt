@@ -27,11 +27,11 @@ use Rattle.ab_theory.specs.Splits.{cell_for}
 use Rattle.ab_theory.specs.Unfolding.{exists_all}
 use Rattle.ab_theory.specs.Opening.{open_goal, conjunction_of}
 use Rattle.ab_theory.specs.SpecRules.{Demand, demand_by, stands_in_goals_alone}
-use Rattle.ab_judgements.specs.DemandWalks.{chosen, stand_ins, exists_names, body_with}
-use Rattle.ab_judgements.proofs.ClosedInTurn.{closed_all, names_above, closed_all_typed}
+use Rattle.ab_judgement_forms.specs.DemandWalks.{chosen, stand_ins, exists_names, body_with}
+use Rattle.ab_judgement_forms.proofs.ClosedInTurn.{closed_all, names_above, closed_all_typed}
 use Rattle.ab_judgements.proofs.GoalsThrough.{IsLoose, expansion_loose, goal_openable, AllOpenable, body_through}
-use Rattle.ab_judgements.proofs.StandIns as stand
-use Rattle.ab_judgements.proofs.StandIns.{IsBelow, IsScope, AllScopes, kept_chosen, dropped_chosen, chosen_cells}
+use Rattle.ab_judgement_forms.proofs.StandIns as stand
+use Rattle.ab_judgement_forms.proofs.StandIns.{IsBelow, IsScope, AllScopes, kept_chosen, dropped_chosen, chosen_cells}
 
 -- what is made are variables, given constants
 made_loose : (k : ℕ) (S : List Nominal) (ys : List Variable) → Each (λ (y : tree.Variable ℕ) t. IsLoose t) (map in_terms ys) (made_terms (codes "x") k S (map cell_for ys))

@@ -31,12 +31,12 @@ use Rattle.ab_theory.specs.SpecRules.{demand_of}
 use Rattle.ab_theory.proofs.Demanded.{IsWellMade}
 use Rattle.ab_theory.proofs.RuleDemands.{FocusKnown, JudgementKnown, IsRuleOf, rule_well}
 use Rattle.ab_alternatives.specs.LeftAlternatives.{trees_from}
-use Rattle.ab_judgements.specs.JudgementReadings.{judgement_read}
+use Rattle.ab_judgement_forms.specs.JudgementReadings.{judgement_read}
 use Rattle.ab_judgements.specs.DemandReadings.{rule_read, IsTypedJudgement, IsRuleFor, IsDemandMade, IsDemandTerm}
 use Rattle.ab_judgements.specs.declared.demands.DemandTerm.{DemandTerm}
 use Rattle.ab_judgements.specs.declared.demands.Rule.{Rule}
 use Rattle.ab_judgements.specs.declared.demands.Rule.TheVariants.{Clause, Item, Opening, Part}
-use Rattle.ab_judgements.specs.declared.judgements.Judgement.{Judgement}
+use Rattle.ab_judgement_forms.specs.declared.judgements.Judgement.{Judgement}
 
 pairs_typed : (U : Table) (V : Contents) (k : ℕ) (es : List Equation) → AreTyped (signature U) (trees_from U V k es) → All (λ (e : Equation). Holds V e.left × Holds V e.right) es → All (IsTypedPair U V) es
 pairs_typed U V k [] d h = All-nil (IsTypedPair U V)

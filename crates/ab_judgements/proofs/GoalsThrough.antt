@@ -21,8 +21,8 @@ use Rattle.ab_theory.specs.Judgements.{marked_judgement}
 use Rattle.ab_theory.specs.Splits.{cell_for}
 use Rattle.ab_theory.specs.Unfolding.{exists_all}
 use Rattle.ab_theory.specs.Opening.{both, open_goal, conjunction_from, conjunction_of}
-use Rattle.ab_judgements.specs.DemandWalks.{exists_names}
-use Rattle.ab_judgements.proofs.ClosedInTurn.{closed_all, exists_closed}
+use Rattle.ab_judgement_forms.specs.DemandWalks.{exists_names}
+use Rattle.ab_judgement_forms.proofs.ClosedInTurn.{closed_all, exists_closed}
 
 -- CLOSED
 close_judged : (k : ℕ) (y : tree.Variable ℕ) (m : Sign) (L G : Read) → close k (variable y) (marked_judgement m L G) ≡ marked_judgement m (close k (variable y) L) (close k (variable y) G)

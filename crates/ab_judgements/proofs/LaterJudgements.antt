@@ -22,15 +22,15 @@ use Rattle.ab_theory.specs.Subjects as subjects
 use Rattle.ab_alternatives.specs.CaseSteps.{IsLater}
 use Rattle.ab_alternatives.specs.ab_equations.proofs.Going.{world_meanwhile}
 use Rattle.ab_alternatives.specs.ab_equations.proofs.Restored.{declarations_same}
-use Rattle.ab_judgements.specs.JudgementReadings.{judgement_read, HoldsJudgement}
-use Rattle.ab_judgements.specs.KindReadings.{kind_read}
-use Rattle.ab_judgements.specs.declared.kinds.Kind.{Kind}
-use Rattle.ab_judgements.specs.declared.kinds.Kind.TheVariants.{Atomic, Undetermined}
-use Rattle.ab_judgements.specs.PartReadings.{part_read}
+use Rattle.ab_judgement_forms.specs.JudgementReadings.{judgement_read, HoldsJudgement}
+use Rattle.ab_judgement_forms.specs.KindReadings.{kind_read}
+use Rattle.ab_judgement_forms.specs.declared.kinds.Kind.{Kind}
+use Rattle.ab_judgement_forms.specs.declared.kinds.Kind.TheVariants.{Atomic, Undetermined}
+use Rattle.ab_judgement_forms.specs.PartReadings.{part_read}
 use Rattle.ab_judgements.specs.RuleWalks.{slots, rules_in, HasListed}
 use Rattle.ab_judgements.specs.SubjectReadings.{HasRules}
-use Rattle.ab_judgements.specs.declared.focus_parts.Part.{Part as KeptPart}
-use Rattle.ab_judgements.specs.declared.judgements.Judgement.{Judgement}
+use Rattle.ab_judgement_forms.specs.declared.focus_parts.Part.{Part as KeptPart}
+use Rattle.ab_judgement_forms.specs.declared.judgements.Judgement.{Judgement}
 use Rattle.ab_judgements.specs.declared.rule_places.Source.TheVariants.{Program}
 use Rattle.ab_judgements.specs.declared.subjects.Subject.TheVariants as subject
 use Rattle.ab_judgements.proofs.RuleSlots.{program_rules, part_slots, part_rules, focus_rules}

@@ -30,13 +30,13 @@ use Rattle.ab_theory.specs.SpecRules.{SpecRule, by_clause, by_part, clauses_for}
 use Rattle.ab_alternatives.specs.CaseSteps.{IsLater}
 use Rattle.ab_alternatives.specs.ab_instances.proofs.Made.{names_stay, names_held}
 use Rattle.ab_judgements.specs.DemandReadings.{IsTypedJudgement}
-use Rattle.ab_judgements.specs.JudgementReadings.{judgement_read, HoldsJudgement}
-use Rattle.ab_judgements.specs.PartReadings.{name_read, part_read, HoldsName, HoldsPart}
+use Rattle.ab_judgement_forms.specs.JudgementReadings.{judgement_read, HoldsJudgement}
+use Rattle.ab_judgement_forms.specs.PartReadings.{name_read, part_read, HoldsName, HoldsPart}
 use Rattle.ab_judgements.specs.RuleSteps.{IsSplitting}
 use Rattle.ab_judgements.specs.RuleWalks.{list_slot, slots, rules_in, IsSource, HasListed, IsRuled}
-use Rattle.ab_judgements.specs.declared.focus_parts.Part.{Part}
-use Rattle.ab_judgements.specs.declared.judgements.Judgement.{Judgement}
-use Rattle.ab_judgements.specs.declared.part_names.PartName.{PartName}
+use Rattle.ab_judgement_forms.specs.declared.focus_parts.Part.{Part}
+use Rattle.ab_judgement_forms.specs.declared.judgements.Judgement.{Judgement}
+use Rattle.ab_judgement_forms.specs.declared.part_names.PartName.{PartName}
 use Rattle.ab_judgements.specs.declared.rule_places.Source.{Source}
 use Rattle.ab_judgements.specs.declared.rule_places.Source.TheVariants.{Program, Goal, Focus}
 use Rattle.ab_judgements.specs.declared.rule_places.Ruled.{Ruled}

@@ -8,8 +8,8 @@ use Rattle.ab_norm.specs.ab_types.specs.Ids.{type_of, HoldsType}
 use Rattle.ab_norm.specs.ab_types.specs.declared.ids.TypeId.{TypeId}
 use Rattle.ab_norm.specs.ab_types.proofs.Entries.{same_type, type_still_held}
 use Rattle.ab_unifiers.specs.Replacements.{Cell}
-use Rattle.ab_judgements.specs.PartReadings.{name_read, HoldsName}
-use Rattle.ab_judgements.specs.declared.part_names.PartName.{PartName}
+use Rattle.ab_judgement_forms.specs.PartReadings.{name_read, HoldsName}
+use Rattle.ab_judgement_forms.specs.declared.part_names.PartName.{PartName}
 
 type_stays : (s t : Table) → IsPartOf s t → (id : TypeId) → HoldsType s id → type_of t id ≡ type_of s id
 type_stays s t e id h = ap (λ t. type_of t id) e.1 ∙ same_type s e.0 id h

@@ -12,10 +12,10 @@ use Rattle.ab_formulas.specs.NewNames.{IsNamedFor}
 use Rattle.ab_theory.specs.Splits.{CaseOver, Split, IsUnsplit}
 use Rattle.ab_alternatives.specs.CaseSteps.{IsLater, ArePassed, AreStopped}
 use Rattle.ab_alternatives.proofs.Passed.{passed_on, stopped_on, stopped_in, all_passed}
-use Rattle.ab_judgements.specs.JudgementReadings.{judgement_read, HoldsJudgement}
+use Rattle.ab_judgement_forms.specs.JudgementReadings.{judgement_read, HoldsJudgement}
 use Rattle.ab_judgements.specs.RuleSteps.{cases_at, IsSplitting}
 use Rattle.ab_judgements.specs.RuleWalks.{slots, rules_in, rule_in, HasListed, IsRuled}
-use Rattle.ab_judgements.specs.declared.judgements.Judgement.{Judgement}
+use Rattle.ab_judgement_forms.specs.declared.judgements.Judgement.{Judgement}
 use Rattle.ab_judgements.specs.declared.rule_places.Ruled.{Ruled}
 use Rattle.ab_judgements.proofs.LaterJudgements.{judgement_same, same_listed}
 use Rattle.ab_judgements.proofs.LaterRules.{same_slots, same_judgement, still_ruled, splitting, same_cases}

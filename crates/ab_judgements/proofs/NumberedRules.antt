@@ -20,11 +20,11 @@ use Rattle.ab_alternatives.specs.CaseSteps.{IsLater}
 use Rattle.ab_alternatives.specs.ab_instances.proofs.Bound.{same_tree}
 use Rattle.ab_alternatives.specs.declared.first_choice.Found.{Found}
 use Rattle.ab_alternatives.specs.declared.first_choice.Found.TheVariants.{Nothing}
-use Rattle.ab_judgements.specs.JudgementReadings.{judgement_read, HoldsJudgement}
+use Rattle.ab_judgement_forms.specs.JudgementReadings.{judgement_read, HoldsJudgement}
 use Rattle.ab_judgements.specs.RuleSteps.{UnfoldsBy, NoneOf, IsFoundBy}
 use Rattle.ab_judgements.specs.RuleWalks.{slots, rules_in, rule_in, HasListed, IsRuled}
 use Rattle.ab_judgements.specs.SubjectAnswers.{IsUnfoldedBy, FindsWay}
-use Rattle.ab_judgements.specs.declared.judgements.Judgement.{Judgement}
+use Rattle.ab_judgement_forms.specs.declared.judgements.Judgement.{Judgement}
 use Rattle.ab_judgements.specs.declared.rule_places.Ruled.{Ruled}
 use Rattle.ab_judgements.proofs.LaterJudgements.{judgement_same, same_listed}
 use Rattle.ab_judgements.proofs.LaterRules.{same_slots, same_judgement}

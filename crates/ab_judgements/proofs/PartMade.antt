@@ -22,7 +22,7 @@ use Rattle.ab_unifiers.specs.Prefixes.{own_terms}
 use Rattle.ab_unifiers.specs.Alternatives.{cells_over, made_over, made_terms}
 use Rattle.ab_formulas.specs.Marks.{Sign}
 use Rattle.ab_formulas.specs.Sequents.{in_terms}
-use Rattle.ab_unify.specs.Problem.{cell_read, cells_read, variables_read}
+use Rattle.ab_unify.specs.Problem.{cell_read, cells_read, variables_read, cells_at}
 use Rattle.ab_unify.specs.StoreChanges.{Grows}
 use Rattle.ab_unify.proofs.Growth.{grows_on, grows_terms}
 use Rattle.ab_theory.specs.Equations.{variables_from}
@@ -32,17 +32,17 @@ use Rattle.ab_theory.specs.Parts.{Part as ThePart, parts_of, under_all, put_unde
 use Rattle.ab_theory.specs.SpecRules.{Demand, stands_in_goals_alone, by_part, demand_of}
 use Rattle.ab_theory.specs.Splits.{cell_for}
 use Rattle.ab_alternatives.specs.LeftAlternatives.{trees_from}
-use Rattle.ab_alternatives.specs.RightAlternatives.{variable_at}
-use Rattle.ab_alternatives.specs.ab_instances.specs.ListReadings.{cells_at, trees_at}
+use Rattle.ab_logic.specs.Worlds.{variable_at}
+use Rattle.ab_alternatives.specs.ab_instances.specs.ListReadings.{trees_at}
 use Rattle.ab_alternatives.proofs.Assembled.{cells_same, variables_same}
-use Rattle.ab_judgements.specs.DemandWalks.{exists_names, chosen, stand_ins}
-use Rattle.ab_judgements.specs.PartReadings.{name_read, part_read, HoldsPart}
-use Rattle.ab_judgements.specs.declared.focus_parts.Part.{Part}
+use Rattle.ab_judgement_forms.specs.DemandWalks.{exists_names, chosen, stand_ins}
+use Rattle.ab_judgement_forms.specs.PartReadings.{name_read, part_read, HoldsPart}
+use Rattle.ab_judgement_forms.specs.declared.focus_parts.Part.{Part}
 use Rattle.ab_judgements.proofs.CellsMade.{grows_by}
-use Rattle.ab_judgements.proofs.ClosedInTurn.{map_then}
+use Rattle.ab_judgement_forms.proofs.ClosedInTurn.{map_then}
 use Rattle.ab_judgements.proofs.DemandBodies.{atom_put, goals_put, part_closed, part_others, part_terms, part_equation, part_own, part_body, part_equations}
-use Rattle.ab_judgements.proofs.StandIns.{IsBelow}
-use Rattle.ab_judgements.proofs.StoresGrown.{all_variables_stay, all_trees_stay, below_all, cells_by, in_terms_by, cells_from, chosen_map}
+use Rattle.ab_judgement_forms.proofs.StandIns.{IsBelow}
+use Rattle.ab_judgement_forms.proofs.StoresGrown.{all_variables_stay, all_trees_stay, below_all, cells_by, in_terms_by, cells_from, chosen_map}
 
 abbrev x : List ℕ
 x = codes "x"

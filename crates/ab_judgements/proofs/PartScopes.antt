@@ -15,7 +15,7 @@ use Rattle.ab_unifiers.specs.Replacements.{Cell}
 use Rattle.ab_theory.specs.Parts.{Part, under_name, with_goal, parts_of, under_all}
 use Rattle.ab_theory.proofs.FocusParts.{types_of, inside}
 use Rattle.ab_theory.proofs.Known.{Known, known_first, known_second, known_body, known_raise}
-use Rattle.ab_judgements.proofs.StandIns.{IsBelow, IsScope, AllScopes}
+use Rattle.ab_judgement_forms.proofs.StandIns.{IsBelow, IsScope, AllScopes}
 
 module _ (sg : Signature) (n : ℕ) (M : List Nominal) where
   abbrev IsKnown : Read → Type 0

@@ -15,8 +15,8 @@ use Rattle.ab_norm.specs.NodeGrowth.{AddsTypedTerms}
 use Rattle.ab_unify.specs.StoreChanges.{Grows}
 use Rattle.ab_unify.proofs.Growth.{grows_on, grows_terms}
 use Rattle.ab_alternatives.proofs.Assembled.{still_held}
-use Rattle.ab_judgements.specs.PartReadings.{name_read, HoldsName}
-use Rattle.ab_judgements.specs.declared.part_names.PartName.{PartName}
+use Rattle.ab_judgement_forms.specs.PartReadings.{name_read, HoldsName}
+use Rattle.ab_judgement_forms.specs.declared.part_names.PartName.{PartName}
 use Rattle.ab_judgements.proofs.CellsMade.{grows_by}
 
 pub more_terms : (T U : Table) (S V W : Contents) → Grows T S U V → AddsTypedTerms U V W → Grows T S U W

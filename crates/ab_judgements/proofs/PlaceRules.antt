@@ -22,12 +22,12 @@ use Rattle.ab_logic.specs.declared.additions.Addition.TheVariants as added
 use Rattle.ab_theory.specs.Parts as plain
 use Rattle.ab_theory.specs.SpecRules.{clauses_for}
 use Rattle.ab_judgements.specs.DemandReadings.{IsRuleFor}
-use Rattle.ab_judgements.specs.PartReadings.{name_read, part_read, HoldsName, HoldsPart}
+use Rattle.ab_judgement_forms.specs.PartReadings.{name_read, part_read, HoldsName, HoldsPart}
 use Rattle.ab_judgements.specs.RuleWalks.{clauses_of, AreParts}
 use Rattle.ab_judgements.specs.declared.demands.Rule.TheVariants as rule
-use Rattle.ab_judgements.specs.declared.focus_parts.Part.{Part}
-use Rattle.ab_judgements.specs.declared.judgements.Judgement.{Judgement}
-use Rattle.ab_judgements.specs.declared.part_names.PartName.{PartName}
+use Rattle.ab_judgement_forms.specs.declared.focus_parts.Part.{Part}
+use Rattle.ab_judgement_forms.specs.declared.judgements.Judgement.{Judgement}
+use Rattle.ab_judgement_forms.specs.declared.part_names.PartName.{PartName}
 
 kept_passes : (q : Clause (List ℕ) → Bool) (cs : List (Clause (List ℕ))) (n : ℕ) (c : Clause (List ℕ)) → slice_get (filter q cs) n ≡ Some c → q c ≡ true
 kept_passes q [] zero c e = absurd (cc)

@@ -38,12 +38,12 @@ use Rattle.ab_alternatives.specs.FirstChoice.{Finds, IsFirstAt}
 use Rattle.ab_alternatives.specs.declared.first_choice.Found.{Found}
 use Rattle.ab_alternatives.specs.declared.first_choice.Found.TheVariants.{Closed, Open, Stuck, Nothing}
 use Rattle.ab_judgements.specs.DemandReadings.{IsTypedJudgement}
-use Rattle.ab_judgements.specs.JudgementReadings.{judgement_read, HoldsJudgement}
+use Rattle.ab_judgement_forms.specs.JudgementReadings.{judgement_read, HoldsJudgement}
 use Rattle.ab_judgements.specs.RuleSteps.{NoneOf, IsFoundBy}
 use Rattle.ab_judgements.specs.RuleWalks.{HasListed}
 use Rattle.ab_judgements.specs.SubjectAnswers.{IsFirstWay, FindsWay}
 use Rattle.ab_judgements.specs.SubjectReadings.{subject_read, HasRules}
-use Rattle.ab_judgements.specs.declared.judgements.Judgement.{Judgement}
+use Rattle.ab_judgement_forms.specs.declared.judgements.Judgement.{Judgement}
 use Rattle.ab_judgements.specs.declared.subjects.Subject.TheVariants as subject
 use Rattle.ab_judgements.proofs.LaterJudgements.{rules_known}
 

@@ -11,14 +11,13 @@ use Rattle.ab_norm.specs.ab_store.specs.Naming.{IsTypedBy}
 use Rattle.ab_norm.specs.ab_store.proofs.Growing.{unbound_reads}
 use Rattle.ab_unifiers.proofs.Agreeing.{contains_holds}
 use Rattle.ab_unifiers.proofs.Falling.{map_length}
-use Rattle.ab_unify.specs.Problem.{cell_read}
+use Rattle.ab_unify.specs.Problem.{cell_read, cells_at}
 use Rattle.ab_unify.proofs.Over.{reads_over}
 use Rattle.ab_formulas.specs.CaseClauses.{cell_of}
 use Rattle.ab_typing.specs.DefinitionReadings.{variable_of}
-use Rattle.ab_alternatives.specs.RightAlternatives.{variable_at}
-use Rattle.ab_alternatives.specs.ab_instances.specs.ListReadings.{cells_at}
-use Rattle.ab_judgements.proofs.KeptScopes.{kept_variable}
-use Rattle.ab_judgements.proofs.StandIns.{IsBelow}
+use Rattle.ab_logic.specs.Worlds.{variable_at}
+use Rattle.ab_judgement_forms.proofs.KeptScopes.{kept_variable}
+use Rattle.ab_judgement_forms.proofs.StandIns.{IsBelow}
 
 pub tree_below : (types : Table) (store : Contents) → IsTypedBy types store → store.bindings ≡ [] → (t : TermId) → Holds store t → IsBelow (length store.cells) (tree_of types store t)
 tree_below types store typed none t held y m =

@@ -16,8 +16,8 @@ use Rattle.ab_logic.specs.declared.world.World.{World}
 use Rattle.ab_theory.specs.Parts.{parts_of}
 use Rattle.ab_theory.specs.SpecRules.{SpecRule, by_clause, by_list, by_opening, by_part, Demand}
 use Rattle.ab_alternatives.specs.LeftAlternatives.{trees_from}
-use Rattle.ab_judgements.specs.PartReadings.{part_read, HoldsPart}
-use Rattle.ab_judgements.specs.declared.judgements.Judgement.{Judgement}
+use Rattle.ab_judgement_forms.specs.PartReadings.{part_read, HoldsPart}
+use Rattle.ab_judgement_forms.specs.declared.judgements.Judgement.{Judgement}
 use Rattle.ab_judgements.specs.declared.demands.Rule.{Rule}
 use Rattle.ab_judgements.specs.declared.demands.Rule.TheVariants.{Clause, Item, Opening, Part}
 use Rattle.ab_judgements.specs.declared.demands.DemandTerm.{DemandTerm}

@@ -25,7 +25,7 @@ use Rattle.ab_alternatives.specs.declared.choice_matches.Match.{Match}
 use Rattle.ab_alternatives.specs.declared.clause_bodies.Unfolding.{Unfolding}
 use Rattle.ab_alternatives.specs.declared.first_choice.Found.{Found}
 use Rattle.ab_alternatives.specs.declared.first_choice.Found.TheVariants.{Closed, Open, Stuck, Nothing}
-use Rattle.ab_judgements.specs.JudgementReadings.{judgement_read}
+use Rattle.ab_judgement_forms.specs.JudgementReadings.{judgement_read}
 use Rattle.ab_judgements.specs.RuleWalks.{rules_in, IsRuled}
 use Rattle.ab_judgements.specs.declared.demands.DemandTerm.{DemandTerm}
 use Rattle.ab_judgements.specs.declared.rule_places.Ruled.{Ruled}

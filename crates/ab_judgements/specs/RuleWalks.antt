@@ -14,10 +14,10 @@ use Rattle.ab_theory.specs.Judgements.{constants_of}
 use Rattle.ab_theory.specs.Parts.{parts_of}
 use Rattle.ab_theory.specs.SpecRules.{SpecRule, by_clause, by_list, by_opening, by_part, clauses_for, is_nil, rules_of}
 use Rattle.ab_judgements.specs.DemandReadings.{IsTypedJudgement}
-use Rattle.ab_judgements.specs.JudgementReadings.{judgement_read}
-use Rattle.ab_judgements.specs.PartReadings.{part_read, HoldsPart}
-use Rattle.ab_judgements.specs.declared.focus_parts.Part.{Part}
-use Rattle.ab_judgements.specs.declared.judgements.Judgement.{Judgement}
+use Rattle.ab_judgement_forms.specs.JudgementReadings.{judgement_read}
+use Rattle.ab_judgement_forms.specs.PartReadings.{part_read, HoldsPart}
+use Rattle.ab_judgement_forms.specs.declared.focus_parts.Part.{Part}
+use Rattle.ab_judgement_forms.specs.declared.judgements.Judgement.{Judgement}
 use Rattle.ab_judgements.specs.declared.rule_places.Source.{Source}
 use Rattle.ab_judgements.specs.declared.rule_places.Source.TheVariants.{Program, Goal, Focus}
 use Rattle.ab_judgements.specs.declared.rule_places.Ruled.{Ruled}

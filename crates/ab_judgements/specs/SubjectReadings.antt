@@ -7,7 +7,7 @@ use Rattle.ab_logic.specs.declared.world.World.{World}
 use Rattle.ab_theory.specs.SpecRules.{rules_of}
 use Rattle.ab_theory.specs.Subjects as plain
 use Rattle.ab_alternatives.specs.AtomReadings.{defined_read, HoldsDefined}
-use Rattle.ab_judgements.specs.JudgementReadings.{judgement_read, HoldsJudgement}
+use Rattle.ab_judgement_forms.specs.JudgementReadings.{judgement_read, HoldsJudgement}
 use Rattle.ab_judgements.specs.declared.subjects.Subject.{Subject}
 use Rattle.ab_judgements.specs.declared.subjects.Subject.TheVariants.{Atom, Judgement}
 

@@ -4,10 +4,10 @@ ghost use Rattle.ab_norm.specs.Nominals.{HoldsNominal};
 ghost use Rattle.ab_alternatives.specs.ab_instances.specs.ListReadings.{names_read};
 ghost use Rattle.ab_logic.specs.Worlds.{IsWorld};
 ghost use Rattle.ab_theory.specs.Judgements.{constants_of};
-ghost use Rattle.ab_judgements.specs.JudgementReadings.{judgement_read, terms_in, HoldsJudgement};
+ghost use Rattle.ab_judgement_forms.specs.JudgementReadings.{judgement_read, terms_in, HoldsJudgement};
 
-use crate::judgements::Judgement;
 use ab_alternatives::instances::constants_of;
+use ab_judgement_forms::Judgement;
 use ab_logic::World;
 use ab_norm::Nominal;
 use ab_norm::store::TermId;

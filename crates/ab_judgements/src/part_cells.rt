@@ -5,10 +5,10 @@ ghost use Rattle.ab_norm.specs.ab_store.specs.Growth.{IsExtendedBy};
 ghost use Rattle.ab_norm.specs.ab_store.specs.Naming.{IsTypedBy};
 ghost use Rattle.ab_unify.specs.Problem.{cell_read, cells_read};
 ghost use Rattle.ab_theory.specs.Equations.{variables_from};
-ghost use Rattle.ab_alternatives.specs.RightAlternatives.{variable_at};
-ghost use Rattle.ab_judgements.specs.PartReadings.{name_read, HoldsName};
+ghost use Rattle.ab_logic.specs.Worlds.{variable_at};
+ghost use Rattle.ab_judgement_forms.specs.PartReadings.{name_read, HoldsName};
 
-use crate::part_names::PartName;
+use ab_judgement_forms::PartName;
 use ab_norm::store::{CellId, Store};
 use ab_norm::types::TypeTable;
 use std::alloc::{AllocError, Global};

@@ -4,9 +4,9 @@ ghost use Rattle.ab_norm.specs.ab_store.specs.Trees.{Holds, tree_of};
 ghost use Rattle.ab_norm.specs.ab_store.specs.Naming.{IsTypedBy};
 ghost use Rattle.ab_norm.specs.NodeGrowth.{AddsTypedTerms};
 ghost use Rattle.ab_theory.specs.Parts as parts;
-ghost use Rattle.ab_judgements.specs.PartReadings.{name_read, HoldsName};
+ghost use Rattle.ab_judgement_forms.specs.PartReadings.{name_read, HoldsName};
 
-use crate::part_names::{PartName, under_all};
+use ab_judgement_forms::{PartName, under_all};
 use ab_norm::instantiate;
 use ab_norm::store::{Store, TermId};
 use ab_norm::types::{Steps, TypeTable};

@@ -45,7 +45,7 @@ fn under_constant(
 }
 
 /// The term, abstracted over the constants, the first outermost.
-fn abstracted(
+fn abstract_over(
     alloc: Global,
     types: &TypeTable,
     store: &mut Store,
@@ -90,7 +90,7 @@ pub fn replace_constants<L>(
     ensures additions { world.new.additions ≡ world.old.additions }
     ensures steps { steps.old ≤ steps.new }
 {
-    let abstraction = abstracted(alloc, &world.types, &mut world.store, constants, formula)?;
+    let abstraction = abstract_over(alloc, &world.types, &mut world.store, constants, formula)?;
     instantiate(
         alloc,
         &world.types,

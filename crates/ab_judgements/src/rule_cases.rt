@@ -16,17 +16,17 @@ ghost use Rattle.ab_alternatives.specs.ab_equations.specs.declared.cases.CaseSol
 ghost use Rattle.ab_alternatives.specs.CaseSteps.{IsLater, ArePassed, AreStopped};
 ghost use Rattle.ab_alternatives.specs.declared.all_cases.Splitting.TheVariants.{Goals, Stuck};
 ghost use Rattle.ab_judgements.specs.DemandReadings.{rule_read, IsTypedJudgement, IsRuleFor};
-ghost use Rattle.ab_judgements.specs.JudgementReadings.{judgement_read, HoldsJudgement};
+ghost use Rattle.ab_judgement_forms.specs.JudgementReadings.{judgement_read, HoldsJudgement};
 ghost use Rattle.ab_judgements.specs.RuleWalks.{slots, rule_in, HasListed};
 ghost use Rattle.ab_judgements.specs.RuleSteps.{cases_at, IsSplitting};
 ghost use Rattle.ab_judgements.specs.SubjectReadings.{HasRules};
 ghost use Rattle.ab_judgements.specs.declared.subjects.Subject.TheVariants.{Judgement as AJudgement};
 
 use crate::demands::{Rule, make_demand};
-use crate::judgements::Judgement;
 use crate::rule_places::{Ruled, last_place, rule_at, with_rules};
 use ab_alternatives::equations::{CaseSolution, solve_case};
 use ab_alternatives::{Splitting, both, goal_over, mark_below};
+use ab_judgement_forms::Judgement;
 use ab_logic::{Sequent, World};
 use ab_norm::name::Name;
 use ab_norm::types::Steps;

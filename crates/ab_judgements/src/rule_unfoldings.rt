@@ -13,7 +13,7 @@ ghost use Rattle.ab_alternatives.specs.ab_equations.specs.declared.cases.CaseSol
 ghost use Rattle.ab_alternatives.specs.CaseSteps.{IsLater};
 ghost use Rattle.ab_alternatives.specs.declared.conclusions.Conclusion.TheVariants.{Formula, Apart, Stuck};
 ghost use Rattle.ab_judgements.specs.DemandReadings.{rule_read, IsTypedJudgement, IsRuleFor, IsDemanded};
-ghost use Rattle.ab_judgements.specs.JudgementReadings.{judgement_read, HoldsJudgement};
+ghost use Rattle.ab_judgement_forms.specs.JudgementReadings.{judgement_read, HoldsJudgement};
 ghost use Rattle.ab_judgements.specs.RuleWalks.{HasListed, IsRuled};
 ghost use Rattle.ab_judgements.specs.RuleSteps.{demand_above, as_demand, UnfoldsBy, IsAdded};
 ghost use Rattle.ab_judgements.specs.SubjectAnswers.{IsUnfoldedBy};
@@ -21,10 +21,10 @@ ghost use Rattle.ab_judgements.specs.SubjectReadings.{HasRules};
 ghost use Rattle.ab_judgements.specs.declared.subjects.Subject.TheVariants.{Judgement as AJudgement};
 
 use crate::demands::{Rule, make_demand};
-use crate::judgements::Judgement;
 use crate::rule_places::{Ruled, rule_at, with_rules};
 use ab_alternatives::equations::CaseSolution;
 use ab_alternatives::{Conclusion, Unfolding, mark_above, solve_unfolding};
+use ab_judgement_forms::Judgement;
 use ab_logic::{Sequent, World};
 use ab_norm::types::Steps;
 use std::alloc::{AllocError, Global};

@@ -2,11 +2,9 @@
 ghost use Rattle.std.specs.Prelude.{◌≡◌, None, IsTrue, IsFalse, IsSome};
 ghost use Rattle.ab_formulas.specs.Programs.{Program};
 ghost use Rattle.ab_theory.specs.SpecRules.{rules_of};
-ghost use Rattle.ab_judgements.specs.JudgementReadings.{judgement_read, HoldsJudgement};
+ghost use Rattle.ab_judgement_forms.specs.JudgementReadings.{judgement_read, HoldsJudgement};
 
-use crate::judgements::Judgement;
-use crate::kinds::kind_of;
-use crate::undetermined_atoms::{has_undetermined_atom, is_undetermined};
+use ab_judgement_forms::{Judgement, has_undetermined_atom, is_undetermined, kind_of};
 use ab_logic::World;
 
 /// Whether it is known by which rules the judgement may hold: its goal is determined, and so is each atom of the formula in

@@ -3,12 +3,12 @@ ghost use Rattle.std.specs.Prelude.{◌≡◌, IfOk, IfSome};
 ghost use Rattle.std.specs.Option.{option_and_then, option_map};
 ghost use Rattle.ab_logic.specs.Worlds.{IsWorld, Holds, read, declarations_of};
 ghost use Rattle.ab_theory.specs.Subjects as plain;
-ghost use Rattle.ab_judgements.specs.JudgementReadings.{judgement_read, HoldsJudgement};
+ghost use Rattle.ab_judgement_forms.specs.JudgementReadings.{judgement_read, HoldsJudgement};
 ghost use Rattle.ab_judgements.specs.SubjectReadings.{subject_read, HoldsSubject, HasRules};
 
-use crate::judgements::{Judgement, as_judgement};
 use crate::rules::knows_rules;
 use ab_alternatives::{DefinedAtom, defined_atom};
+use ab_judgement_forms::{Judgement, as_judgement};
 use ab_logic::World;
 use ab_norm::store::TermId;
 use std::alloc::{AllocError, Global};

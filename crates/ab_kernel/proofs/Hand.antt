@@ -6,7 +6,7 @@ use Rattle.std.proofs.lemmas.Option.{slice_get_within}
 use Rattle.ab_logic.specs.SequentReadings.{sequent_of}
 use Rattle.ab_logic.specs.declared.world.World.{World}
 use Rattle.ab_logic.specs.declared.sequent.Sequent.{Sequent as Kept}
-use Rattle.ab_kernel.specs.declared.step.Step.{Step}
+use Rattle.ab_rules.specs.declared.step.Step.{Step}
 use Rattle.ab_kernel.specs.Nodes.{open_node, IsClear, sequents_in, no_node, node_at, step_held}
 use Rattle.ab_kernel.specs.Layout.{StepAt, numbers_down, nodes_before, steps_in, open_before, Stands, AreOpen, AreDistinct, Layers}
 use Rattle.ab_kernel.specs.declared.node.ProofNode.{ProofNode}

@@ -14,9 +14,9 @@ use Rattle.ab_theory.specs.Judgements.{as_unfocused, marked_judgement}
 use Rattle.ab_theory.specs.Row.{Row, leads, labelled}
 use Rattle.ab_theory.specs.Rules.{Making, row}
 use Rattle.ab_theory.specs.Steps.{spec_cut, spec_instance, spec_monotone}
-use Rattle.ab_kernel.specs.RuleAnswers.{Answers}
-use Rattle.ab_kernel.specs.declared.step.KernelFault.{KernelFault}
-use Rattle.ab_kernel.specs.declared.step.KernelFault.TheVariants.{RuleFails, NotPattern, Memory}
+use Rattle.ab_rules.specs.RuleAnswers.{Answers}
+use Rattle.ab_rules.specs.declared.step.KernelFault.{KernelFault}
+use Rattle.ab_rules.specs.declared.step.KernelFault.TheVariants.{RuleFails, NotPattern, Memory}
 
 -- what comes of a new hypothesis
 

@@ -11,12 +11,12 @@ use Rattle.ab_logic.specs.SequentReadings.{sequent_of, HoldsSequent}
 use Rattle.ab_logic.specs.declared.world.World.{World}
 use Rattle.ab_logic.proofs.Growing.{map_same, same_sequent, still_held}
 use Rattle.ab_norm.specs.Nominals.{nominal_of, HoldsNominal}
-use Rattle.ab_kernel.specs.declared.replaces.Replace.{Replace}
-use Rattle.ab_kernel.specs.declared.step.Step.{Step}
-use Rattle.ab_kernel.specs.declared.step.Step.TheVariants.{Initial, TrueRight, FalseLeft, AndRight, AndLeft, OrRight, OrLeft, ArrowRight, ArrowLeft, ForallRight, ForallLeft, ExistsRight, ExistsLeft, NablaRight, NablaLeft, EqualRight, EqualLeft, DefRight, DefLeft, Induction, Coinduction, CutFormula, UseTheorem, Weaken, SpecCut, SpecInst, SpecMonotone, Skip}
+use Rattle.ab_rules.specs.declared.replaces.Replace.{Replace}
+use Rattle.ab_rules.specs.declared.step.Step.{Step}
+use Rattle.ab_rules.specs.declared.step.Step.TheVariants.{Initial, TrueRight, FalseLeft, AndRight, AndLeft, OrRight, OrLeft, ArrowRight, ArrowLeft, ForallRight, ForallLeft, ExistsRight, ExistsLeft, NablaRight, NablaLeft, EqualRight, EqualLeft, DefRight, DefLeft, Induction, Coinduction, CutFormula, UseTheorem, Weaken, SpecCut, SpecInst, SpecMonotone, Skip}
 use Rattle.ab_kernel.specs.Nodes.{sequents_in}
 use Rattle.ab_kernel.specs.Layout.{StepAt, steps_in, Held, premises_of, sequents_before, made_by, history_of, HoldsProof, IsProof}
-use Rattle.ab_kernel.specs.RuleAnswers.{step_of, HoldsStep, HoldsReplace, label_of, replacements}
+use Rattle.ab_rules.specs.RuleAnswers.{step_of, HoldsStep, HoldsReplace, label_of, replacements}
 use Rattle.ab_theory.specs.Steps as plain
 use Rattle.ab_theory.specs.Derivations.{Derivation, root, Valid, History, after}
 use Rattle.ab_theory.specs.Growth.{AddsNoClause}

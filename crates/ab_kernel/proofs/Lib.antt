@@ -1,12 +1,6 @@
-pub mod Declared
-pub mod Adding
 mod JudgementRows
 mod Replacing
-pub mod Making
-pub mod Chosen
 pub mod NewNumbers
-mod Words
-mod Finding
 mod Sides
 pub mod Filling
 pub mod Hand
@@ -20,5 +14,5 @@ pub mod Earlier
 pub mod Trees
 pub mod Growing
 pub mod Owing
-mod SizeRows
 mod SubjectRows
+pub mod GoalSequents

@@ -10,13 +10,13 @@ use Rattle.ab_formulas.proofs.KernelSplits.{within}
 use Rattle.ab_logic.specs.declared.world.World.{World}
 use Rattle.ab_theory.specs.Derivations.{Debt, theorem_taken, goal_admitted, debts_of, debts, gaps, goals_admitted, open_goals}
 use Rattle.ab_theory.proofs.Debts.{goals_admitted-append, owes-refined, gaps-refined}
-use Rattle.ab_kernel.specs.RuleAnswers.{step_of}
+use Rattle.ab_rules.specs.RuleAnswers.{step_of}
 use Rattle.ab_kernel.specs.Debts.{debt_of, owed, owed_at}
 use Rattle.ab_kernel.specs.declared.debt.Debt.{Debt as Kept}
 use Rattle.ab_kernel.specs.declared.debt.Debt.TheVariants.{Theorem, Goal}
 use Rattle.ab_kernel.specs.declared.node.ProofNode.{ProofNode}
-use Rattle.ab_kernel.specs.declared.step.Step.{Step}
-use Rattle.ab_kernel.specs.declared.step.Step.TheVariants.{TrueRight}
+use Rattle.ab_rules.specs.declared.step.Step.{Step}
+use Rattle.ab_rules.specs.declared.step.Step.TheVariants.{TrueRight}
 use Rattle.ab_kernel.specs.Nodes.{node_at, no_node, step_held}
 use Rattle.ab_kernel.specs.Layout.{StepAt, sequents_before, premises_of, open_before, made_by, owed_by, Stands}
 use Rattle.ab_kernel.proofs.Standing.{reads_now, as_many}

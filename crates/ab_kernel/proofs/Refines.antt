@@ -14,15 +14,15 @@ use Rattle.ab_logic.specs.declared.world.World.{World}
 use Rattle.ab_logic.specs.declared.sequent.Sequent.{Sequent as Kept}
 use Rattle.ab_logic.proofs.BuiltIn.{has_member}
 use Rattle.ab_logic.proofs.Programs.{have_programs}
-use Rattle.ab_kernel.specs.declared.step.Step.{Step}
-use Rattle.ab_kernel.specs.declared.step.KernelFault.{KernelFault}
-use Rattle.ab_kernel.specs.declared.step.KernelFault.TheVariants.{RuleFails, NotPattern, Memory}
+use Rattle.ab_rules.specs.declared.step.Step.{Step}
+use Rattle.ab_rules.specs.declared.step.KernelFault.{KernelFault}
+use Rattle.ab_rules.specs.declared.step.KernelFault.TheVariants.{RuleFails, NotPattern, Memory}
 use Rattle.ab_kernel.specs.Nodes.{sequents_in}
 use Rattle.ab_kernel.specs.Layout.{StepAt, steps_in, Held, Stands, history_of, IsProof}
 use Rattle.ab_theory.specs.Row.{FailsFirst, Sticks}
 use Rattle.ab_theory.specs.Rules.{NamedRule, Fails, Stuck}
 use Rattle.ab_theory.proofs.Longer.{any_named}
-use Rattle.ab_kernel.specs.RuleAnswers.{Answers, row_at, step_of, HoldsStep, IsMemory}
+use Rattle.ab_rules.specs.RuleAnswers.{Answers, row_at, step_of, HoldsStep, IsMemory}
 use Rattle.ab_theory.specs.Derivations.{Derivation, root, Valid, goal_at, open_goals, GoalFails, GoalStuck, History, after, refined, IsStep}
 use Rattle.std.proofs.lemmas.List.{length-map}
 use Rattle.std.proofs.lemmas.Option.{slice_get_within, get_or_from_slice_get}

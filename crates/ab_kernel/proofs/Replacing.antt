@@ -29,9 +29,9 @@ use Rattle.ab_logic.specs.SequentReadings.{sequent_of}
 use Rattle.ab_logic.specs.declared.world.World.{World}
 use Rattle.ab_logic.specs.declared.sequent.Sequent.{Sequent as Kept}
 use Rattle.ab_theory.specs.Contexts.{MayBeReplaced, AllFit, replace_constants}
-use Rattle.ab_kernel.specs.RuleAnswers.{replacements, HoldsReplace}
-use Rattle.ab_kernel.specs.declared.replaces.Replace.{Replace}
-use Rattle.ab_kernel.proofs.Words.{same_signature, same_variables}
+use Rattle.ab_rules.specs.RuleAnswers.{replacements, HoldsReplace}
+use Rattle.ab_rules.specs.declared.replaces.Replace.{Replace}
+use Rattle.ab_rules.proofs.Words.{same_signature, same_variables}
 
 -- constants of a table, and the ids that stand for them
 

@@ -14,7 +14,7 @@ use Rattle.ab_logic.specs.declared.world.World.{World}
 use Rattle.ab_logic.specs.declared.sequent.Sequent.{Sequent as Kept}
 use Rattle.ab_formulas.proofs.Sides.{equation_sides}
 use Rattle.ab_theory.proofs.Sequents.{goal_of, found_may}
-use Rattle.ab_kernel.proofs.Words.{same_signature}
+use Rattle.ab_rules.proofs.Words.{same_signature}
 
 pub typed_pair : (w : World) → IsWorld w → (s : Kept) → IsSequent (declarations_of w) (sequent_of w s) → (H : List ℕ) (f a b : TermId)
     → formula_of (sequent_of w s) H ≡ Some (read w f) → as_equal (read w f) ≡ Some (read w a, read w b) → Holds w a → Holds w b

@@ -12,8 +12,8 @@ use Rattle.ab_logic.specs.declared.world.World.{World}
 use Rattle.ab_logic.specs.declared.sequent.Sequent.{Sequent as Kept}
 use Rattle.ab_formulas.specs.Sequents.{Sequent}
 use Rattle.ab_logic.specs.SequentReadings.{sequent_of}
-use Rattle.ab_kernel.specs.declared.step.Step.{Step as KeptStep}
-use Rattle.ab_kernel.specs.RuleAnswers.{step_of}
+use Rattle.ab_rules.specs.declared.step.Step.{Step as KeptStep}
+use Rattle.ab_rules.specs.RuleAnswers.{step_of}
 use Rattle.ab_formulas.specs.Declarations.{Declarations}
 use Rattle.ab_theory.specs.Rules.{NamedRule}
 use Rattle.ab_theory.specs.Derivations.{Derivation, root, open_goals, refined, History, after, IsStep}

@@ -6,12 +6,12 @@ use Rattle.std.proofs.Common.{◌≡◌, ℕ, ◌+◌, ◌<◌, ◌≤◌, Some,
 use Rattle.std.proofs.lemmas.List.{map-append, length-map}
 use Rattle.std.proofs.lemmas.List.Elements.{All-cons, All-weaker}
 use Rattle.ab_logic.specs.declared.world.World.{World}
-use Rattle.ab_kernel.specs.declared.step.Step.{Step}
+use Rattle.ab_rules.specs.declared.step.Step.{Step}
 use Rattle.ab_kernel.specs.Layout.{StepAt, numbers_down, made_by, Stands}
 use Rattle.ab_logic.specs.declared.sequent.Sequent.{Sequent as Kept}
 use Rattle.ab_formulas.specs.Sequents.{Sequent}
 use Rattle.ab_logic.specs.SequentReadings.{sequent_of}
-use Rattle.ab_kernel.specs.RuleAnswers.{step_of}
+use Rattle.ab_rules.specs.RuleAnswers.{step_of}
 use Rattle.ab_formulas.specs.Declarations.{Declarations}
 use Rattle.ab_theory.specs.Rules.{NamedRule}
 use Rattle.ab_theory.specs.Derivations.{open_goals, History, after, IsStep}

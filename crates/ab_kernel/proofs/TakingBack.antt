@@ -9,7 +9,7 @@ use Rattle.ab_logic.specs.declared.world.World.{World}
 use Rattle.ab_logic.specs.declared.sequent.Sequent.{Sequent as Kept}
 use Rattle.ab_formulas.specs.Sequents.{Sequent, IsSequent}
 use Rattle.ab_logic.specs.SequentReadings.{sequent_of, HoldsSequent}
-use Rattle.ab_kernel.specs.RuleAnswers.{HoldsStep}
+use Rattle.ab_rules.specs.RuleAnswers.{HoldsStep}
 use Rattle.ab_logic.specs.Worlds.{declarations_of}
 use Rattle.ab_theory.specs.Derivations.{root, Valid, open_goals, History, undone}
 use Rattle.ab_kernel.specs.declared.node.ProofNode.{ProofNode}

@@ -9,7 +9,7 @@ use Rattle.ab_logic.specs.SequentReadings.{sequent_of}
 use Rattle.ab_logic.specs.declared.world.World.{World}
 use Rattle.ab_logic.specs.declared.sequent.Sequent.{Sequent as Kept}
 use Rattle.ab_theory.specs.Steps.{Step}
-use Rattle.ab_kernel.specs.RuleAnswers.{step_of}
+use Rattle.ab_rules.specs.RuleAnswers.{step_of}
 use Rattle.ab_kernel.specs.declared.node.ProofNode.{ProofNode}
 use Rattle.ab_kernel.specs.Nodes.{open_node, IsClear, no_node, node_at, numbers_up}
 use Rattle.ab_theory.specs.Derivations.{Derivation, goal, by, Derivations, none, more, open_goals, all_open_goals, goals, refined, refined_in}

@@ -4,8 +4,8 @@ use Rattle.ab_logic.specs.declared.world.World.{World}
 use Rattle.ab_theory.specs.Derivations.{Debt, theorem_taken, goal_admitted, debts_of}
 use Rattle.ab_kernel.specs.declared.debt.Debt.{Debt as Kept}
 use Rattle.ab_kernel.specs.declared.debt.Debt.TheVariants.{Theorem, Goal}
-use Rattle.ab_kernel.specs.declared.step.Step.{Step}
-use Rattle.ab_kernel.specs.RuleAnswers.{step_of}
+use Rattle.ab_rules.specs.declared.step.Step.{Step}
+use Rattle.ab_rules.specs.RuleAnswers.{step_of}
 
 -- the debt that a kept one stands for
 abbrev pub debt_of : Kept → Debt

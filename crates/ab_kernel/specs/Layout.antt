@@ -1,4 +1,4 @@
--- How the fields of a `Proof` stand for its history, and what they were before a step. Contracts name `Held`, `history_of`,
+-- How the fields of a `Proof` stand for its history, and what they were before a step. Contracts name `Held`, `history_of`, `goals_of`,
 -- `HoldsProof`, `IsProof`, `before_last` and `Beyond` alone.
 use Rattle.std.specs.Prelude.{◌≡◌, ℕ, zero, suc, ◌+◌, ◌-◌, ◌≤◌, List, [], ◌∷◌, ◌++◌, length, map, take, drop, reverse, Some, slice_get, slice_set, vec_capacity, unwrap_or, ◌≢◌}
 use Rattle.std.specs.List.{All}
@@ -7,12 +7,12 @@ use Rattle.ab_formulas.specs.Sequents.{Sequent, IsSequent}
 use Rattle.ab_logic.specs.SequentReadings.{sequent_of, HoldsSequent}
 use Rattle.ab_logic.specs.Worlds.{declarations_of}
 use Rattle.ab_logic.specs.declared.world.World.{World}
-use Rattle.ab_kernel.specs.declared.step.Step.{Step}
+use Rattle.ab_rules.specs.declared.step.Step.{Step}
 use Rattle.ab_kernel.specs.declared.node.ProofNode.{ProofNode}
 use Rattle.ab_kernel.specs.declared.proof.Refinement.{Refinement}
 use Rattle.ab_kernel.specs.Nodes.{cleared, IsClear, sequents_in, node_at, step_held}
 use Rattle.ab_kernel.specs.declared.proof.Proof.TheInside.{Inside}
-use Rattle.ab_kernel.specs.RuleAnswers.{step_of, HoldsStep}
+use Rattle.ab_rules.specs.RuleAnswers.{step_of, HoldsStep}
 use Rattle.ab_kernel.specs.Debts.{owed as owed_debts}
 use Rattle.ab_theory.specs.Derivations.{Derivation, root, Valid, open_goals, Debt, debts_of, History, beginning, after, proves}
 use Rattle.ab_kernel.specs.NodeTrees.{Tree}
@@ -117,6 +117,10 @@ module _ (w : World) where
   -- THE PROOF, as a derivation and those before it
   abbrev pub history_of : Held → History
   history_of p = made_by (map (sequent_of w) (sequents_in p.nodes)) (steps_in p.nodes p.journal)
+
+  -- the open goals, from left to right
+  abbrev pub goals_of : Held → List Sequent
+  goals_of p = open_goals (history_of p).tree
 
   -- what the proof names is there, and it began with a sequent: this outlives whatever is declared
   pub record HoldsProof (p : Held) : Type 0 where

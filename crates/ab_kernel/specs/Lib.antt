@@ -1,10 +1,5 @@
 -- THE KERNEL: the rules on shared terms, and derivations with open goals.
 -- What the function of a rule answers, by the rule's row in `ab_theory`.
-pub mod RuleAnswers
-pub mod Items
-pub mod SizeSteps
-pub mod Terms
-pub mod UsedNumbers
 pub mod StandsAgain
 -- What a proof stands for: its nodes, and how its fields hold them.
 pub mod Nodes
@@ -13,3 +8,4 @@ pub mod Debts
 pub mod Layout
 -- Libraries that the crates above name through this one.
 pub use Rattle.ab_judgements
+pub use Rattle.ab_rules

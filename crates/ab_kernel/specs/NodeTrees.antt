@@ -5,7 +5,7 @@ use Rattle.ab_formulas.specs.Sequents.{Sequent}
 use Rattle.ab_logic.specs.SequentReadings.{sequent_of}
 use Rattle.ab_logic.specs.declared.world.World.{World}
 use Rattle.ab_theory.specs.Steps.{Step}
-use Rattle.ab_kernel.specs.RuleAnswers.{step_of}
+use Rattle.ab_rules.specs.RuleAnswers.{step_of}
 use Rattle.ab_kernel.specs.declared.node.ProofNode.{ProofNode}
 use Rattle.ab_kernel.specs.Nodes.{node_at}
 use Rattle.ab_theory.specs.Derivations.{Derivation, goal, by, Derivations, none, more}

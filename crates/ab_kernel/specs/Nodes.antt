@@ -1,8 +1,8 @@
 -- The nodes of a proof, by their numbers, and what they were before a step.
 use Rattle.std.specs.Prelude.{◌≡◌, ℕ, zero, suc, ◌+◌, List, [], ◌∷◌, ◌++◌, map, get_or, None, unwrap_or}
 use Rattle.ab_logic.specs.declared.sequent.Sequent.{Sequent}
-use Rattle.ab_kernel.specs.declared.step.Step.{Step}
-use Rattle.ab_kernel.specs.declared.step.Step.TheVariants.{TrueRight}
+use Rattle.ab_rules.specs.declared.step.Step.{Step}
+use Rattle.ab_rules.specs.declared.step.Step.TheVariants.{TrueRight}
 use Rattle.ab_kernel.specs.declared.node.ProofNode.{ProofNode}
 
 -- as many numbers from the first on

@@ -4,10 +4,10 @@ ghost use Rattle.std.specs.Option.{option_copied};
 ghost use Rattle.ab_logic.specs.declared.world.World.{World as AWorld};
 ghost use Rattle.ab_theory.specs.Derivations.{Debt as ADebt, debts_of, goals_admitted};
 ghost use Rattle.ab_kernel.specs.Debts.{debt_of, owed, owed_at};
-ghost use Rattle.ab_kernel.specs.RuleAnswers.{step_of};
+ghost use Rattle.ab_rules.specs.RuleAnswers.{step_of};
 
-use crate::step::Step;
 use ab_norm::name::Name;
+use ab_rules::Step;
 use std::alloc::{AllocError, Global};
 
 /// What a step of a proof owes.

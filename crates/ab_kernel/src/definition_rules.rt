@@ -5,16 +5,15 @@ ghost use Rattle.ab_logic.specs.SequentReadings.{sequent_of, HoldsSequent};
 ghost use Rattle.ab_formulas.specs.Sequents.{IsSequent};
 ghost use Rattle.ab_logic.specs.Worlds.{IsWorld, declarations_of};
 ghost use Rattle.ab_theory.specs.Steps as plain;
-ghost use Rattle.ab_kernel.specs.RuleAnswers.{Answers, label_of, row_at};
+ghost use Rattle.ab_rules.specs.RuleAnswers.{Answers, label_of, row_at};
 
-use crate::premise_lists::one;
-use crate::step::KernelFault;
 use ab_judgements::alternatives::equations::{CaseSolution, Label, name_by};
 use ab_judgements::alternatives::{Splitting, may_be_analysed, may_be_unfolded};
 use ab_judgements::{sign_of, split_subject, subject_of, unfold_subject_at};
 use ab_logic::{Sequent, World};
 use ab_norm::name::Name;
 use ab_norm::types::Steps;
+use ab_rules::{KernelFault, one};
 use std::alloc::{AllocError, Global};
 
 /// The conclusion is unfolded in the way of this place.

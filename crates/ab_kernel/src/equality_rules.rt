@@ -5,14 +5,13 @@ ghost use Rattle.ab_logic.specs.SequentReadings.{sequent_of, HoldsSequent};
 ghost use Rattle.ab_formulas.specs.Sequents.{IsSequent};
 ghost use Rattle.ab_logic.specs.Worlds.{IsWorld, declarations_of};
 ghost use Rattle.ab_theory.specs.Steps as plain;
-ghost use Rattle.ab_kernel.specs.RuleAnswers.{Answers, row_at};
+ghost use Rattle.ab_rules.specs.RuleAnswers.{Answers, row_at};
 
-use crate::premise_lists::one;
-use crate::step::KernelFault;
 use ab_judgements::alternatives::equations::{Solution, solve_in};
 use ab_logic::{Sequent, World, as_equal};
 use ab_norm::name::Name;
 use ab_norm::types::Steps;
+use ab_rules::{KernelFault, one};
 use std::alloc::Global;
 
 /// The sides of an equation are made equal throughout the goal, or nothing makes them equal.

@@ -7,23 +7,20 @@ ghost use Rattle.ab_logic.specs.WorldGrowth.{Grows};
 ghost use Rattle.ab_formulas.specs.Sequents.{assuming, proving};
 ghost use Rattle.ab_theory.specs.Row.{labelled, leads};
 ghost use Rattle.ab_theory.specs.Steps as plain;
-ghost use Rattle.ab_kernel.specs.RuleAnswers.{Answers, label_of, row_at, replacements, HoldsReplace};
+ghost use Rattle.ab_rules.specs.RuleAnswers.{Answers, label_of, row_at, replacements, HoldsReplace};
 
-use crate::premise_lists::{one, two};
 use crate::replaced_constants::{all_fit, may_be_replaced, with_terms};
-use crate::replaces::Replace;
-use crate::step::KernelFault;
-use crate::term_fit::fits_in;
 use ab_judgements::alternatives::equations::{Label, name_by};
 use ab_judgements::{as_unfocused, cut_list, is_within, judgement_of, list_type};
 use ab_logic::{Sequent, World};
 use ab_norm::name::Name;
 use ab_norm::store::TermId;
 use ab_norm::types::Steps;
+use ab_rules::{KernelFault, Replace, fits_in, one, two};
 use std::alloc::Global;
 
 /// The goal with the formula as one more hypothesis. That this gets a name is the condition of that number.
-fn assuming(
+fn goals_assuming(
     alloc: Global,
     world: &World,
     condition: usize,
@@ -102,7 +99,7 @@ pub(crate) fn spec_cut(
         return Err(KernelFault::RuleFails(3));
     };
     let made = judgement_of(alloc, world, left, goal)?;
-    assuming(alloc, world, 4, given, sequent, made)
+    goals_assuming(alloc, world, 4, given, sequent, made)
 }
 
 /// A judgement holds with terms in the places of nominal constants.
@@ -137,7 +134,7 @@ pub(crate) fn spec_instance<L>(
         return Err(KernelFault::RuleFails(4));
     }
     let made = with_terms(alloc, world, replaces, judgement, steps)?;
-    assuming(alloc, world, 5, given, sequent, made)
+    goals_assuming(alloc, world, 5, given, sequent, made)
 }
 
 /// A judgement holds with a list that has each item of its own.

@@ -2,8 +2,8 @@
 ghost use Rattle.std.specs.Prelude.{◌≡◌, ◌+◌, ◌^◌, ◌<◌, ◌++◌, IfOk, OnOk, OnErr, map, length, Some, None, [], vec_len, slice_set};
 ghost use Rattle.ab_kernel.specs.Nodes.{cleared, open_node, node_at, numbers_up};
 
-use crate::step::Step;
 use ab_logic::Sequent;
+use ab_rules::Step;
 use std::alloc::{AllocError, Global};
 use std::marker::Model;
 
@@ -84,7 +84,7 @@ impl ProofNode {
 }
 
 /// A node for each goal, of which nothing is done.
-fn opened(alloc: Global, sequents: Vec<Sequent>) -> Result<Vec<ProofNode>, AllocError>
+fn open_nodes(alloc: Global, sequents: Vec<Sequent>) -> Result<Vec<ProofNode>, AllocError>
     ensures { IfOk result (λ v. v.items ≡ map open_node sequents.items) }
 {
     let mut nodes = Vec::new(alloc);
@@ -95,7 +95,7 @@ fn opened(alloc: Global, sequents: Vec<Sequent>) -> Result<Vec<ProofNode>, Alloc
 }
 
 /// As many numbers from the first on.
-fn numbered(alloc: Global, first: usize, count: usize) -> Result<Children, AllocError>
+fn numbers_from(alloc: Global, first: usize, count: usize) -> Result<Children, AllocError>
     requires { first + count < 2 ^ 64 }
     ensures { IfOk result (λ children. children ≡ numbers_up first count) }
 {
@@ -116,8 +116,8 @@ pub(crate) fn take_in(
     ensures added { OnOk result (nodes.new.items ≡ nodes.old.items ++ map open_node premises.items) }
     ensures err { OnErr result (nodes.new.items ≡ nodes.old.items) }
 {
-    let children = numbered(alloc, nodes.len(), premises.len())?;
-    let mut fresh = opened(alloc, premises)?;
+    let children = numbers_from(alloc, nodes.len(), premises.len())?;
+    let mut fresh = open_nodes(alloc, premises)?;
     nodes.append(&mut fresh)?;
     Ok(children)
 }

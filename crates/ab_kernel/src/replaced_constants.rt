@@ -4,18 +4,16 @@ ghost use Rattle.ab_logic.specs.SequentReadings.{HoldsSequent, sequent_of};
 ghost use Rattle.ab_logic.specs.Worlds.{IsWorld, Holds, read, declarations_of};
 ghost use Rattle.ab_logic.specs.WorldGrowth.{Grows};
 ghost use Rattle.ab_theory.specs.Contexts.{AllFit, MayBeReplaced, replace_constants};
-ghost use Rattle.ab_kernel.specs.RuleAnswers.{replacements, HoldsReplace};
+ghost use Rattle.ab_rules.specs.RuleAnswers.{replacements, HoldsReplace};
 ghost use Rattle.ab_kernel.specs.StandsAgain.{StandsAgain};
 
-use crate::questions::support_in;
-use crate::replaces::Replace;
-use crate::term_fit::formulas_of;
 use ab_judgements::replace_constants;
 use ab_logic::{Sequent, World};
 use ab_norm::Nominal;
 use ab_norm::store::TermId;
 use ab_norm::types::Steps;
 use ab_norm::types::laws::has_unique_ids;
+use ab_rules::{Replace, formulas_of, support_in};
 use ab_typing::fits;
 use std::alloc::{AllocError, Global};
 

@@ -4,21 +4,19 @@ ghost use Rattle.ab_logic.specs.Worlds.{IsWorld, declarations_of};
 ghost use Rattle.ab_logic.specs.WorldGrowth.{Grows};
 ghost use Rattle.ab_logic.specs.SequentReadings.{sequent_of, HoldsSequent};
 ghost use Rattle.ab_formulas.specs.Sequents.{IsSequent};
-ghost use Rattle.ab_kernel.specs.RuleAnswers.{Answers, row_at, step_of, HoldsStep};
+ghost use Rattle.ab_rules.specs.RuleAnswers.{Answers, row_at, step_of, HoldsStep};
 
-use crate::closing_rules::{equal_right, false_left, initial, true_right};
 use crate::definition_rules::{definition_left, definition_right};
-use crate::eigenvariables::{exists_left, for_all_right, nabla_left, nabla_right};
 use crate::equality_rules::equal_left;
 use crate::judgement_rules::{spec_cut, spec_instance, spec_monotone};
-use crate::left_rules::{and_left, arrow_left, arrow_right, or_left, use_theorem, weaken};
-use crate::right_rules::{and_right, or_right};
-use crate::size_rules::give_sizes;
-use crate::step::{KernelFault, Step};
-use crate::witness_rules::{cut_formula, exists_right, for_all_left};
 use ab_judgements::alternatives::sequents::Kind;
 use ab_logic::{Sequent, World};
 use ab_norm::types::Steps;
+use ab_rules::{
+    KernelFault, Step, and_left, and_right, arrow_left, arrow_right, cut_formula, equal_right,
+    exists_left, exists_right, false_left, for_all_left, for_all_right, give_sizes, initial,
+    nabla_left, nabla_right, or_left, or_right, true_right, use_theorem, weaken,
+};
 use std::alloc::Global;
 
 /// The premises that the step leads to from the goal, or why it leads to none.

@@ -13,7 +13,7 @@ use Rattle.ab_lex.specs.Tokens.{hyphen, underscore, apostrophe, is_word_byte, Is
 use Rattle.ab_grammar.specs.Token as token
 use Rattle.ab_grammar.specs.Token.{Token}
 use Rattle.ab_grammar.specs.CommandTable.{listed}
-use Rattle.ab_syntax.specs.Tokens.{Row, reserved, otherwise, token_by}
+use Rattle.ab_syntax.specs.ab_expressions.specs.Tokens.{Row, reserved, otherwise, token_by}
 use Rattle.ab_grammar.specs.declared.Infix.{Infix}
 use Rattle.ab_grammar.specs.declared.Infix.TheVariants.{Arrow, Or, And, Equal, Imply, With, Cons}
 use Rattle.ab_grammar.specs.declared.Quant.{Quant}

@@ -23,7 +23,7 @@ use Rattle.ab_grammar.specs.Token as grammar
 use Rattle.ab_grammar.specs.Token.{Token, quantifier, pi_word, sign, left_paren, right_paren, left_brace, right_brace, left_bracket, right_bracket, turnstile, backslash, comma}
 use Rattle.ab_print.specs.Shapes.{Shape, word, truth, empty, applied, abstraction, join, bind, pi, judge, focus, marked, broken, Shapes, no_shapes, shape, is_none}
 use Rattle.ab_print.specs.ShapeText.{is_enclosed, enclosed, placed, bound, bare, arguments, context, further, items, token_bytes, part_bytes, part_tokens, bytes, tokens}
-use Rattle.ab_syntax.specs.Tokens.{token_by}
+use Rattle.ab_syntax.specs.ab_expressions.specs.Tokens.{token_by}
 use Rattle.ab_language_laws.specs.Spellings.{seen, HasTokens, IsName, AreNames, IsPlain, ArePlain}
 
 -- tokens and single spaces, one behind another

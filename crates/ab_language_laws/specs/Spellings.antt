@@ -7,7 +7,7 @@ use Rattle.ab_lex.specs.Spans.{bytes_at}
 use Rattle.ab_lex.specs.Tokens.{IsWord, TokensOf}
 use Rattle.ab_grammar.specs.Token as token
 use Rattle.ab_grammar.specs.Token.{Token}
-use Rattle.ab_syntax.specs.Tokens.{token_by}
+use Rattle.ab_syntax.specs.ab_expressions.specs.Tokens.{token_by}
 use Rattle.ab_print.specs.Shapes.{Shape, word, truth, empty, applied, abstraction, join, bind, pi, judge, focus, marked, broken, Shapes, no_shapes, shape}
 
 abbrev pub seen : List ℕ → List Lexed → List Token

@@ -20,7 +20,7 @@ fn stem(name: &[u8]) -> &[u8]
 }
 
 /// The stem with a number.
-fn numbered(alloc: Global, stem: &[u8], number: usize) -> Result<Vec<u8>, AllocError>
+fn numbered_stem(alloc: Global, stem: &[u8], number: usize) -> Result<Vec<u8>, AllocError>
     ensures { IfOk result (λ name. name.items ≡ stem.now ++ decimal number) }
 {
     let mut name = Vec::from_slice(alloc, stem)?;
@@ -50,11 +50,11 @@ pub(crate) fn choose(
     let stem = stem(hint);
     let most = part.end - part.start;
     for number in 1..most + 1 {
-        let name = numbered(alloc, stem, number)?;
+        let name = numbered_stem(alloc, stem, number)?;
         if !is_used(places, part, &name) {
             return Ok(name);
         }
     }
-    let name = numbered(alloc, stem, most + 1)?;
+    let name = numbered_stem(alloc, stem, most + 1)?;
     Ok(name)
 }

@@ -7,7 +7,7 @@ ghost use Rattle.ab_print.specs.Values.{shape_of, shapes_of};
 
 use crate::shape::{Shape, Shapes};
 use crate::shape_parts::{
-    between, judged, judged_in_focus, quantified, truth_value, with_mark, with_pi,
+    between, judged_in_focus, judgement_shape, quantified_shape, truth_value, with_mark, with_pi,
 };
 use ab_grammar::{Infix, Quant};
 use ab_store::{Head, Logical};
@@ -39,10 +39,10 @@ pub(crate) fn logical_form(
         Logical::Or => Ok(between(Infix::Or, arguments)),
         Logical::Arrow => Ok(between(Infix::Arrow, arguments)),
         Logical::Equal(_) => Ok(between(Infix::Equal, arguments)),
-        Logical::Forall(_) => Ok(quantified(Quant::Forall, arguments)),
-        Logical::Exists(_) => Ok(quantified(Quant::Exists, arguments)),
-        Logical::Nabla(_) => Ok(quantified(Quant::Nabla, arguments)),
-        Logical::Judge => judged(alloc, arguments),
+        Logical::Forall(_) => Ok(quantified_shape(Quant::Forall, arguments)),
+        Logical::Exists(_) => Ok(quantified_shape(Quant::Exists, arguments)),
+        Logical::Nabla(_) => Ok(quantified_shape(Quant::Nabla, arguments)),
+        Logical::Judge => judgement_shape(alloc, arguments),
         Logical::Focus => judged_in_focus(alloc, arguments),
         Logical::Star(level) => Ok(with_mark(b'*', level, arguments)),
         Logical::At(level) => Ok(with_mark(b'@', level, arguments)),

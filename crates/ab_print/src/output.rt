@@ -68,17 +68,12 @@ fn write_names(world: &World, cells: &[CellId], out: &mut Vec<u8>) -> Result<(),
     requires { All (HoldsCell world.now) cells.now }
     ensures { OnOk result (out.new.items ≡ out.old.items ++ names_line (map (λ x. x.name) (map (variable_of world.now) cells.now))) }
 {
-    match cells {
-        [] => {
-            out.push(b'\n')?;
-            Ok(())
-        }
-        [first, rest @ ..] => {
-            out.push(b' ')?;
-            out.extend_from_slice(world.store.cell_name(*first).as_str().as_bytes())?;
-            write_names(world, rest, out)
-        }
+    'names: for cell in cells {
+        out.push(b' ')?;
+        out.extend_from_slice(world.store.cell_name(*cell).as_str().as_bytes())?;
     }
+    out.push(b'\n')?;
+    Ok(())
 }
 
 /// Appends the line of the variables, where there are any.
@@ -104,16 +99,13 @@ fn write_hypotheses(
     requires held { All (λ h. Holds world.now h.formula) hypotheses.now }
     ensures { OnOk result (out.new.items ≡ out.old.items ++ hypothesis_lines (cell_name world.now.store) (map (hypothesis_of world.now) hypotheses.now)) }
 {
-    match hypotheses {
-        [] => Ok(()),
-        [first, rest @ ..] => {
-            out.extend_from_slice(first.name.as_str().as_bytes())?;
-            out.extend_from_slice(b" : ")?;
-            write_term(alloc, &world.types, &world.store, first.formula, out)?;
-            out.push(b'\n')?;
-            write_hypotheses(alloc, world, rest, out)
-        }
+    'lines: for hypothesis in hypotheses {
+        out.extend_from_slice(hypothesis.name.as_str().as_bytes())?;
+        out.extend_from_slice(b" : ")?;
+        write_term(alloc, &world.types, &world.store, hypothesis.formula, out)?;
+        out.push(b'\n')?;
     }
+    Ok(())
 }
 
 /// Appends the term: its parentheses as the grammar needs them, its bound names by their hints.

@@ -35,7 +35,7 @@ pub fn truth_value(value: bool, operands: Shapes) -> Shape
 }
 
 /// A quantifier before an abstraction.
-pub fn quantified(quant: Quant, operands: Shapes) -> Shape
+pub fn quantified_shape(quant: Quant, operands: Shapes) -> Shape
     ensures { shape_of result ≡ plain.quantified quant (shapes_of operands) }
 {
     let Shapes::More(first, end) = operands else {
@@ -141,7 +141,7 @@ fn written_from(alloc: Global, items: Shapes, list: Shape) -> Result<Shapes, All
 }
 
 /// With `nil` before a name that would else be read as a list.
-fn guarded(alloc: Global, ends_empty: bool, items: Shapes) -> Result<Shapes, AllocError>
+fn guard_list(alloc: Global, ends_empty: bool, items: Shapes) -> Result<Shapes, AllocError>
     ensures { IfOk result (λ guarded. shapes_of guarded ≡ plain.guarded ends_empty (shapes_of items)) }
 {
     if !ends_empty || !begins_with_name(&items) {
@@ -166,16 +166,16 @@ fn begins_with_name(items: &Shapes) -> bool
 }
 
 /// The items of a list, as a judgement writes them.
-fn written(alloc: Global, list: Shape) -> Result<Shapes, AllocError>
+fn list_items(alloc: Global, list: Shape) -> Result<Shapes, AllocError>
     ensures { IfOk result (λ items. shapes_of items ≡ plain.written (shape_of list)) }
 {
     let ends_empty = ends_empty(&list);
     let items = written_from(alloc, Shapes::End, list)?;
-    guarded(alloc, ends_empty, items)
+    guard_list(alloc, ends_empty, items)
 }
 
 /// A judgement of a list and a goal.
-pub fn judged(alloc: Global, operands: Shapes) -> Result<Shape, AllocError>
+pub fn judgement_shape(alloc: Global, operands: Shapes) -> Result<Shape, AllocError>
     ensures { IfOk result (λ s. shape_of s ≡ plain.judged (shapes_of operands)) }
 {
     let Shapes::More(list, others) = operands else {
@@ -187,7 +187,7 @@ pub fn judged(alloc: Global, operands: Shapes) -> Result<Shape, AllocError>
     let Shapes::End = Box::into_inner(end) else {
         return Ok(Shape::Broken);
     };
-    let items = written(alloc, Box::into_inner(list))?;
+    let items = list_items(alloc, Box::into_inner(list))?;
     Ok(Shape::Judge(Box::new(alloc, items)?, goal))
 }
 
@@ -207,6 +207,6 @@ pub fn judged_in_focus(alloc: Global, operands: Shapes) -> Result<Shape, AllocEr
     let Shapes::End = Box::into_inner(end) else {
         return Ok(Shape::Broken);
     };
-    let items = written(alloc, Box::into_inner(list))?;
+    let items = list_items(alloc, Box::into_inner(list))?;
     Ok(Shape::Focus(Box::new(alloc, items)?, formula, goal))
 }

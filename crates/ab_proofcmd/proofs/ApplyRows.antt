@@ -14,8 +14,8 @@ use Rattle.ab_effects.specs.ProofCommands.{effect, clashing, missing, repeated, 
 use Rattle.ab_meaning.specs.Refusals.{Refusal, clash, no_hypothesis, mark, names_spent}
 use Rattle.ab_effects.specs.Row.{Row, leads, makes, Leads, Refuses}
 use Rattle.ab_effects.specs.FormulaUses.{formula_named, names_in, formulas_in, using, OpenedBeside, NamelessBeside}
-use Rattle.ab_steps.specs.ProofEffects.{RefusedBy}
-use Rattle.ab_steps.specs.declared.fault.ProofCommandFault.{ProofCommandFault}
+use Rattle.ab_hypothesis.specs.ab_steps.specs.ProofEffects.{RefusedBy}
+use Rattle.ab_hypothesis.specs.ab_steps.specs.declared.fault.ProofCommandFault.{ProofCommandFault}
 use Rattle.ab_proofcmd.specs.GivenTerms.{AreGiven, AreNotGiven}
 use Rattle.ab_proofcmd.proofs.Given.{refused_by, given_leads, given_refuses, giving_refuses}
 use Rattle.ab_proofcmd.specs.Questions.{IsLookedUp, MayApply, MayBackchain}

@@ -5,7 +5,7 @@ use Rattle.ab_norm.specs.ab_store.specs.declared.node.TermId.{TermId}
 use Rattle.ab_logic.specs.WorldGrowth.{Grows}
 use Rattle.ab_logic.specs.Worlds.{Holds, read}
 use Rattle.ab_logic.specs.declared.world.World.{World}
-use Rattle.ab_steps.specs.ab_kernel.specs.Layout.{Held}
+use Rattle.ab_hypothesis.specs.ab_steps.specs.ab_kernel.specs.Layout.{Held}
 use Rattle.ab_proofcmd.specs.GoalCounts.{AwaitsOne, AwaitsAll}
 use Rattle.ab_proofcmd.proofs.Bared.{awaits_more, same_reads}
 use Rattle.ab_proofcmd.proofs.Staged.{rest_all, formulas_still, first_and_rest}

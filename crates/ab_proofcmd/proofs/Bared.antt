@@ -12,10 +12,10 @@ use Rattle.ab_logic.specs.Worlds.{Holds, read, declarations_of}
 use Rattle.ab_logic.specs.declared.world.World.{World}
 use Rattle.ab_theory.specs.Steps.{cut_formula, weaken}
 use Rattle.ab_theory.specs.Rules.{NamedRule}
-use Rattle.ab_steps.specs.ab_kernel.specs.Layout.{Held}
-use Rattle.ab_steps.specs.Progress.{goals_of, IsAt, TookInto}
+use Rattle.ab_hypothesis.specs.ab_steps.specs.ab_kernel.specs.Layout.{Held, goals_of}
+use Rattle.ab_hypothesis.specs.ab_steps.specs.Progress.{IsAt, TookInto}
 use Rattle.ab_hypothesis.proofs.Rows.{no_formula}
-use Rattle.ab_hypothesis.proofs.Steps.{without_last}
+use Rattle.ab_hypothesis.proofs.StepsTaken.{without_last}
 use Rattle.ab_proofcmd.specs.GoalCounts.{Gives, bared, Bares, AwaitsOne, AwaitsAll, ShowsAll, Turns}
 use Rattle.ab_proofcmd.proofs.Places.{gone}
 

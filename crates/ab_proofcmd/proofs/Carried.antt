@@ -19,27 +19,28 @@ use Rattle.ab_logic.specs.declared.sequent.Sequent.{Sequent as Kept}
 use Rattle.ab_theory.specs.Rules.{NamedRule}
 use Rattle.ab_theory.specs.Steps.{cut_formula}
 use Rattle.ab_theory.specs.Derivations.{History, open_goals}
-use Rattle.ab_steps.specs.ab_kernel.specs.Layout.{Held, IsProof}
-use Rattle.ab_steps.specs.ab_kernel.proofs.Later.{same_history, still_proof}
-use Rattle.ab_steps.proofs.GoalSequents.{first_is_sequent}
+use Rattle.ab_hypothesis.specs.ab_steps.specs.ab_kernel.specs.Layout.{Held, IsProof, goals_of}
+use Rattle.ab_hypothesis.specs.ab_steps.specs.ab_kernel.proofs.Later.{same_history, still_proof}
+use Rattle.ab_hypothesis.specs.ab_steps.specs.ab_kernel.proofs.GoalSequents.{first_is_sequent}
 use Rattle.ab_theory.specs.Pieces.{Given, antecedent_count}
 use Rattle.ab_theory.specs.UseAnswers.{awaited, result_in}
 use Rattle.ab_uses.specs.GivenReadings.{given_of}
 use Rattle.ab_uses.specs.declared.given_terms.GivenTerm.{GivenTerm}
 use Rattle.ab_uses.specs.declared.stage.Stage.{Stage}
 use Rattle.ab_uses.specs.declared.stage.Stage.TheVariants.{Instance as AnInstance, Chosen, Antecedent}
+use Rattle.ab_norm.specs.ab_types.proofs.Entries.{type_still_held}
 use Rattle.ab_uses.specs.UseReadings.{HoldsStage}
 use Rattle.ab_uses.specs.declared.use_answers.Use.{Use}
 use Rattle.ab_effects.specs.ProofCommands.{effect, repeated}
 use Rattle.ab_effects.specs.FormulaUses.{formulas_in, OpenedBeside, NamelessBeside}
-use Rattle.ab_steps.specs.ProofEffects.{IsApplied, IsRefused, RefusedBy}
-use Rattle.ab_steps.specs.Progress.{goals_of, IsAt, TookInto, Follows}
-use Rattle.ab_steps.specs.declared.fault.ProofCommandFault.{ProofCommandFault}
-use Rattle.ab_steps.specs.declared.fault.ProofCommandFault.TheVariants.{NamesSpent}
-use Rattle.ab_steps.proofs.Following.{first_at, one_at_least, follows_same}
+use Rattle.ab_hypothesis.specs.ab_steps.specs.ProofEffects.{IsApplied, IsRefused, RefusedBy}
+use Rattle.ab_hypothesis.specs.ab_steps.specs.Progress.{IsAt, TookInto, Follows}
+use Rattle.ab_hypothesis.specs.ab_steps.specs.declared.fault.ProofCommandFault.{ProofCommandFault}
+use Rattle.ab_hypothesis.specs.ab_steps.specs.declared.fault.ProofCommandFault.TheVariants.{NamesSpent}
+use Rattle.ab_hypothesis.specs.ab_steps.proofs.Following.{first_at, one_at_least, follows_same}
 use Rattle.ab_hypothesis.specs.HypothesisProgress.{HasAt}
 use Rattle.ab_hypothesis.proofs.Hypotheses.{named_last}
-use Rattle.ab_hypothesis.proofs.Steps.{without_last}
+use Rattle.ab_hypothesis.proofs.StepsTaken.{without_last}
 use Rattle.ab_proofcmd.specs.GoalCounts.{ShowsAll, OpensBeside, CantOpenBeside}
 use Rattle.ab_proofcmd.specs.Questions.{MayApply, MayBackchain, HoldsUse, HoldsAsked, Reads, AsksApply, AsksBackchain}
 use Rattle.ab_proofcmd.specs.RemainingGoals.{LeavesOpened, CantOpenResult}
@@ -82,7 +83,7 @@ module _ (w m v : World) (f : TermId) (terms : Vec GivenTerm Global) (found : Us
 
 stage_still : (w v : World) → Grows w v → (x : Stage) → HoldsStage w x → HoldsStage v x
 stage_still w v grows (AnInstance t) held = grows.ids t held
-stage_still w v grows (Chosen F) held = grows.ids F held
+stage_still w v grows (Chosen a F) held = (type_still_held w.types v.types grows.types a.ty held.0, grows.ids F held.1)
 stage_still w v grows Antecedent held = tt
 
 pub stages_there : (w v : World) → Grows w v → (stages : List Stage) → All (HoldsStage w) stages → All (HoldsStage v) stages

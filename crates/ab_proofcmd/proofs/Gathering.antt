@@ -15,7 +15,7 @@ use Rattle.ab_logic.specs.Worlds.{read, IsWorld}
 use Rattle.ab_logic.specs.declared.world.World.{World}
 use Rattle.ab_logic.specs.declared.sequent.Sequent.{Sequent}
 use Rattle.ab_logic.specs.declared.sequent.Hypothesis.{Hypothesis}
-use Rattle.ab_steps.specs.ab_kernel.proofs.Chosen.{names_in, names_more}
+use Rattle.ab_hypothesis.specs.ab_steps.specs.ab_kernel.specs.ab_rules.proofs.Chosen.{names_in, names_more}
 use Rattle.ab_uses.specs.GivenReadings.{given_of}
 use Rattle.ab_uses.specs.declared.given_terms.GivenTerm.{GivenTerm}
 use Rattle.ab_proofcmd.specs.GivenTerms.{values_of, values_in}

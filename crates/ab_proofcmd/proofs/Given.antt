@@ -18,9 +18,9 @@ use Rattle.ab_effects.specs.Row.{Row, leads, unless, Leads, Refuses}
 use Rattle.ab_meaning.specs.Terms.{MeansIn, entry_of, scope_of, kinds_in}
 use Rattle.ab_effects.specs.FormulaUses.{strange, given_twice, scope_with}
 use Rattle.ab_meaning.specs.Scopes.{Scope, in_proof}
-use Rattle.ab_steps.specs.ProofEffects.{RefusedBy}
-use Rattle.ab_steps.specs.declared.fault.ProofCommandFault.{ProofCommandFault}
-use Rattle.ab_steps.specs.declared.fault.ProofCommandFault.TheVariants.{Unknown, Clash, TypeClash, Untyped, NoHypothesis, WrongShape, Mark, NoMatch, NotPattern, Unresolved, NamesSpent, Memory}
+use Rattle.ab_hypothesis.specs.ab_steps.specs.ProofEffects.{RefusedBy}
+use Rattle.ab_hypothesis.specs.ab_steps.specs.declared.fault.ProofCommandFault.{ProofCommandFault}
+use Rattle.ab_hypothesis.specs.ab_steps.specs.declared.fault.ProofCommandFault.TheVariants.{Unknown, Clash, TypeClash, Untyped, NoHypothesis, WrongShape, Mark, NoMatch, NotPattern, Unresolved, NamesSpent, Memory}
 use Rattle.ab_proofcmd.specs.GivenTerms.{values_of, beside, AreRead, AreGiven}
 
 -- A ROW THAT REFUSES as another does

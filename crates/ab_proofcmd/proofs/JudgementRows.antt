@@ -26,16 +26,16 @@ use Rattle.ab_theory.specs.Rules.{NamedRule, Fails}
 use Rattle.ab_theory.proofs.JudgementRules.{unfocused_known}
 use Rattle.ab_theory.proofs.Known.{Known, known_marked}
 use Rattle.ab_theory.proofs.Sequents.{goal_of, found_may}
-use Rattle.ab_steps.specs.ab_kernel.specs.Layout.{Held}
+use Rattle.ab_hypothesis.specs.ab_steps.specs.ab_kernel.specs.Layout.{Held, goals_of}
 use Rattle.ab_effects.specs.FormulaUses.{given_twice}
 use Rattle.ab_effects.specs.ProofCommands.{effect, clashing, constant_in, no_constant, naming, reading_for}
 use Rattle.ab_effects.specs.Row.{Row, leads, unless, Leads, Refuses}
 use Rattle.ab_meaning.specs.Refusals.{Refusal, no_hypothesis, wrong_shape, names_spent}
 use Rattle.ab_meaning.specs.Terms.{Means}
-use Rattle.ab_steps.specs.ProofEffects.{IsApplied, IsRefused, RefusedBy}
-use Rattle.ab_steps.specs.Progress.{goals_of, Took}
-use Rattle.ab_steps.specs.declared.fault.ProofCommandFault.{ProofCommandFault}
-use Rattle.ab_steps.proofs.Following.{first_at}
+use Rattle.ab_hypothesis.specs.ab_steps.specs.ProofEffects.{IsApplied, IsRefused, RefusedBy}
+use Rattle.ab_hypothesis.specs.ab_steps.specs.Progress.{Took}
+use Rattle.ab_hypothesis.specs.ab_steps.specs.declared.fault.ProofCommandFault.{ProofCommandFault}
+use Rattle.ab_hypothesis.specs.ab_steps.proofs.Following.{first_at}
 use Rattle.ab_hypothesis.specs.JudgementSteps.{fault_at, IsntTaken}
 use Rattle.ab_hypothesis.proofs.JudgementSteps.{refused_so}
 use Rattle.ab_proofcmd.specs.GoalExpressions.{IsReadAs, fault_for}

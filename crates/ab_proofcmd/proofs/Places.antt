@@ -3,9 +3,9 @@ use Rattle.std.proofs.Common.{◌≡◌, ℕ, ◌+◌, List, [], ◌∷◌, ◌+
 use Rattle.std.proofs.lemmas.List.{length-append}
 use Rattle.ab_formulas.specs.Sequents.{Sequent}
 use Rattle.ab_logic.specs.declared.world.World.{World}
-use Rattle.ab_steps.specs.ab_kernel.specs.Layout.{Held}
+use Rattle.ab_hypothesis.specs.ab_steps.specs.ab_kernel.specs.Layout.{Held, goals_of}
 use Rattle.ab_theory.specs.Steps.{Step}
-use Rattle.ab_steps.specs.Progress.{goals_of, IsAt, TookInto}
+use Rattle.ab_hypothesis.specs.ab_steps.specs.Progress.{IsAt, TookInto}
 use Rattle.ab_proofcmd.specs.GoalCounts.{Gives}
 
 -- a step that was taken

@@ -31,10 +31,10 @@ use Rattle.ab_effects.specs.Row.{leads}
 use Rattle.ab_meaning.specs.Refusals.{unknown, type_clash, untyped}
 use Rattle.ab_meaning.specs.Terms.{Means, MeansIn, MeansNothingIn}
 use Rattle.ab_meaning.specs.Scopes.{nominal_number}
-use Rattle.ab_steps.specs.ab_kernel.specs.RuleAnswers.{replacements}
-use Rattle.ab_steps.specs.ab_kernel.specs.declared.replaces.Replace.{Replace}
-use Rattle.ab_steps.specs.ProofEffects.{RefusedBy}
-use Rattle.ab_steps.specs.declared.fault.ProofCommandFault.{ProofCommandFault}
+use Rattle.ab_hypothesis.specs.ab_steps.specs.ab_kernel.specs.ab_rules.specs.RuleAnswers.{replacements}
+use Rattle.ab_hypothesis.specs.ab_steps.specs.ab_kernel.specs.ab_rules.specs.declared.replaces.Replace.{Replace}
+use Rattle.ab_hypothesis.specs.ab_steps.specs.ProofEffects.{RefusedBy}
+use Rattle.ab_hypothesis.specs.ab_steps.specs.declared.fault.ProofCommandFault.{ProofCommandFault}
 use Rattle.ab_proofcmd.specs.GoalExpressions.{IsReadAs, fault_for}
 use Rattle.ab_proofcmd.specs.GivenTerms.{HoldsGiven, values_of, values_in, beside}
 use Rattle.ab_proofcmd.specs.ReplacedConstants.{replace_of, IsNextFor, AreReadFor}

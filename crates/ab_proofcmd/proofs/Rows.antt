@@ -19,17 +19,17 @@ use Rattle.ab_logic.specs.declared.world.World.{World}
 use Rattle.ab_theory.specs.Steps.{exists_right, cut_formula}
 use Rattle.ab_theory.specs.Rules.{NamedRule, Fails}
 use Rattle.ab_theory.specs.Derivations.{History, open_goals}
-use Rattle.ab_steps.specs.ab_kernel.specs.Layout.{Held, IsProof}
-use Rattle.ab_steps.specs.ab_kernel.proofs.Later.{same_history, still_proof}
+use Rattle.ab_hypothesis.specs.ab_steps.specs.ab_kernel.specs.Layout.{Held, IsProof, goals_of}
+use Rattle.ab_hypothesis.specs.ab_steps.specs.ab_kernel.proofs.Later.{same_history, still_proof}
 use Rattle.ab_effects.specs.ProofCommands.{effect, clashing}
 use Rattle.ab_meaning.specs.Refusals.{type_clash}
 use Rattle.ab_effects.specs.Row.{Leads}
 use Rattle.ab_meaning.specs.Terms.{Means}
-use Rattle.ab_steps.specs.ProofEffects.{IsApplied, RefusedBy}
-use Rattle.ab_steps.specs.Progress.{goals_of, Follows, Took, Holds}
-use Rattle.ab_steps.specs.declared.fault.ProofCommandFault.{ProofCommandFault}
-use Rattle.ab_steps.specs.declared.fault.ProofCommandFault.TheVariants.{Unknown, Clash, TypeClash, Untyped, NoHypothesis, WrongShape, Mark, NoMatch, NotPattern, Unresolved, NamesSpent, Memory}
-use Rattle.ab_steps.proofs.Following.{first_at, at_first, follows_same}
+use Rattle.ab_hypothesis.specs.ab_steps.specs.ProofEffects.{IsApplied, RefusedBy}
+use Rattle.ab_hypothesis.specs.ab_steps.specs.Progress.{Follows, Took, Holds}
+use Rattle.ab_hypothesis.specs.ab_steps.specs.declared.fault.ProofCommandFault.{ProofCommandFault}
+use Rattle.ab_hypothesis.specs.ab_steps.specs.declared.fault.ProofCommandFault.TheVariants.{Unknown, Clash, TypeClash, Untyped, NoHypothesis, WrongShape, Mark, NoMatch, NotPattern, Unresolved, NamesSpent, Memory}
+use Rattle.ab_hypothesis.specs.ab_steps.proofs.Following.{first_at, at_first, follows_same}
 use Rattle.ab_proofcmd.specs.GoalExpressions.{IsReadAs, fault_for}
 use Rattle.ab_proofcmd.specs.CutRefusals.{CutFails}
 

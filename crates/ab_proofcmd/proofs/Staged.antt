@@ -6,13 +6,14 @@ use Rattle.ab_norm.specs.ab_store.specs.declared.node.TermId.{TermId}
 use Rattle.ab_logic.specs.WorldGrowth.{Grows}
 use Rattle.ab_logic.specs.Worlds.{Holds}
 use Rattle.ab_logic.specs.declared.world.World.{World}
+use Rattle.ab_norm.specs.ab_types.proofs.Entries.{type_still_held}
 use Rattle.ab_uses.specs.UseReadings.{HoldsStage}
 use Rattle.ab_uses.specs.declared.stage.Stage.{Stage}
 use Rattle.ab_uses.specs.declared.stage.Stage.TheVariants.{Instance, Chosen, Antecedent}
 
 stage_still : (w v : World) → Grows w v → (x : Stage) → HoldsStage w x → HoldsStage v x
 stage_still w v grows (Instance t) held = grows.ids t held
-stage_still w v grows (Chosen F) held = grows.ids F held
+stage_still w v grows (Chosen a F) held = (type_still_held w.types v.types grows.types a.ty held.0, grows.ids F held.1)
 stage_still w v grows Antecedent held = tt
 
 pub stages_still : (w v : World) → Grows w v → (stages : List Stage) → All (HoldsStage w) stages → All (HoldsStage v) stages

@@ -26,8 +26,8 @@ use Rattle.ab_uses.specs.GivenReadings.{given_of}
 use Rattle.ab_uses.specs.declared.given_terms.GivenTerm.{GivenTerm}
 use Rattle.ab_effects.specs.ProofCommands.{reading_each}
 use Rattle.ab_effects.specs.Row.{leads, Refuses}
-use Rattle.ab_steps.specs.ProofEffects.{RefusedBy}
-use Rattle.ab_steps.specs.declared.fault.ProofCommandFault.{ProofCommandFault}
+use Rattle.ab_hypothesis.specs.ab_steps.specs.ProofEffects.{RefusedBy}
+use Rattle.ab_hypothesis.specs.ab_steps.specs.declared.fault.ProofCommandFault.{ProofCommandFault}
 use Rattle.ab_grammar.specs.Tree.{Tree}
 use Rattle.ab_inference.specs.declared.fault.InferFault.{InferFault}
 use Rattle.ab_inference.specs.declared.fault.InferFault.TheVariants as infer

@@ -17,16 +17,16 @@ use Rattle.ab_logic.specs.Worlds.{Holds, read, declarations_of}
 use Rattle.ab_logic.specs.declared.world.World.{World}
 use Rattle.ab_logic.specs.declared.sequent.Sequent.{Sequent as Kept}
 use Rattle.ab_theory.specs.Derivations.{open_goals}
-use Rattle.ab_steps.specs.ab_kernel.specs.Layout.{Held, history_of, IsProof}
-use Rattle.ab_steps.specs.ab_kernel.proofs.Later.{same_history, still_proof}
+use Rattle.ab_hypothesis.specs.ab_steps.specs.ab_kernel.specs.Layout.{Held, history_of, IsProof, goals_of}
+use Rattle.ab_hypothesis.specs.ab_steps.specs.ab_kernel.proofs.Later.{same_history, still_proof}
 use Rattle.ab_theory.specs.Pieces.{Given}
 use Rattle.ab_theory.specs.Uses.{implied}
 use Rattle.ab_uses.specs.GivenReadings.{given_of}
 use Rattle.ab_uses.specs.declared.given_terms.GivenTerm.{GivenTerm}
 use Rattle.ab_effects.specs.Openings.{Opened, Nameless}
 use Rattle.ab_effects.specs.FormulaUses.{itself, given_that, OpenedBeside, NamelessBeside}
-use Rattle.ab_steps.specs.Progress.{goals_of, IsAt, Follows}
-use Rattle.ab_steps.proofs.Following.{follows_same, found}
+use Rattle.ab_hypothesis.specs.ab_steps.specs.Progress.{IsAt, Follows}
+use Rattle.ab_hypothesis.specs.ab_steps.proofs.Following.{follows_same, found}
 use Rattle.ab_hypothesis.specs.HypothesisProgress.{HasAt, OpenedTo}
 use Rattle.ab_proofcmd.specs.GoalCounts.{Turns, OpensBeside, CantOpenBeside}
 

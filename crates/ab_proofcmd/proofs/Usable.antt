@@ -1,6 +1,8 @@
 -- What is asked of a formula that is used, and what was asked, in worlds that grow meanwhile.
 use Rattle.std.specs.Prelude.{Option, Some, None, All, Contains}
-use Rattle.std.proofs.Common.{◌≡◌, ℕ, zero, suc, List, [], ◌∷◌, map, refl, sym, ◌∙◌, ap, subst}
+use Rattle.std.specs.Prelude.{nat_lt, ◌||◌}
+use Rattle.std.proofs.lemmas.Bool.{false≢true}
+use Rattle.std.proofs.Common.{◌≡◌, ◌≤◌, inl, inr, Bool, ℕ, zero, suc, List, [], ◌∷◌, map, length, true, false, arith, refl, sym, ◌∙◌, ap, subst}
 use Rattle.std.proofs.lemmas.List.Elements.{All-cons, All-nil, All-head, All-tail, All-weaker, All-contains}
 use Rattle.ab_norm.specs.ab_types.specs.Entries as table
 use Rattle.ab_norm.specs.ab_types.specs.Entries.{Table}
@@ -22,7 +24,10 @@ use Rattle.ab_logic.specs.declared.world.World.{World}
 use Rattle.ab_logic.specs.declared.sequent.Sequent.{Sequent as Kept}
 use Rattle.ab_logic.proofs.Growing.{map_same, same_sequent}
 use Rattle.ab_theory.proofs.Sequents.{found_there}
-use Rattle.ab_theory.specs.Pieces.{Given, pieces, behind, type_named, AllServe}
+use Rattle.ab_formulas.proofs.Members.{place_cases}
+use Rattle.ab_theory.specs.Pieces.{Given, pieces, behind, type_named, antecedent_count, AllServe}
+use Rattle.ab_consequences.specs.UsesFollow.{AreNone}
+use Rattle.ab_consequences.proofs.Counted.{parts_count}
 use Rattle.ab_theory.specs.Uses.{Aim}
 use Rattle.ab_theory.specs.UseAnswers.{Using, IsUsedFor}
 use Rattle.ab_uses.specs.GivenReadings.{given_of, HoldsIfAny}
@@ -32,8 +37,8 @@ use Rattle.ab_uses.specs.declared.aim.Aim.{Aim as KeptAim}
 use Rattle.ab_effects.specs.ProofCommands.{repeated, left_to_show}
 use Rattle.ab_effects.specs.Row.{leads}
 use Rattle.ab_effects.specs.FormulaUses.{formula_or, formula_named, formulas_in, using}
-use Rattle.ab_steps.specs.ProofEffects.{RefusedBy}
-use Rattle.ab_steps.specs.declared.fault.ProofCommandFault.{ProofCommandFault}
+use Rattle.ab_hypothesis.specs.ab_steps.specs.ProofEffects.{RefusedBy}
+use Rattle.ab_hypothesis.specs.ab_steps.specs.declared.fault.ProofCommandFault.{ProofCommandFault}
 
 -- FORMULAS OF THE GOAL: its conclusion, its hypotheses, and each theorem
 module _ (D : Declarations) (s : Sequent) (is : IsSequent D s) where
@@ -81,6 +86,27 @@ module _ (D : Declarations) (s : Sequent) (is : IsSequent D s) where
   pub of_holes : (n : ℕ) → All (IsOfGoalIfAny D s) (repeated n)
   of_holes zero = All-nil (IsOfGoalIfAny D s)
   of_holes (suc n) = All-cons (IsOfGoalIfAny D s) None (repeated n) tt (of_holes n)
+
+-- where there aren't too many arguments there are antecedents for them
+pub few_enough : (b : Bool) (F : Read) (n m : ℕ) → m ≡ antecedent_count F → (b || nat_lt m n) ≡ false → n ≤ antecedent_count F
+few_enough true F n m e fine = let clash : true ≡ false = fine in absurd (cc)
+few_enough false F n m e fine = elim (place_cases m n) [
+  | inl p ↦ absurd (false≢true (sym fine ∙ p.1))
+  | inr p ↦ (let low = p.0 in omega (arith, e, low))
+]
+
+length_formulas : (s : Sequent) (vs : List Argument) → length (formulas_in s vs) ≡ length vs
+length_formulas s [] = refl
+length_formulas s (named H ∷ vs) = let rest = length_formulas s vs in omega (arith, rest)
+length_formulas s (hole ∷ vs) = let rest = length_formulas s vs in omega (arith, rest)
+
+length_holes : (n : ℕ) → length (repeated n) ≡ n
+length_holes zero = refl
+length_holes (suc n) = let rest = length_holes n in omega (arith, rest)
+
+holes_none : (n : ℕ) → AreNone (repeated n)
+holes_none zero = All-nil (λ (o : Option Read). o ≡ None)
+holes_none (suc n) = All-cons (λ (o : Option Read). o ≡ None) None (repeated n) refl (holes_none n)
 
 -- TERMS THAT ARE GIVEN, in a world that grew
 
@@ -159,9 +185,9 @@ module _ (w m : World) (goal : Kept) (f : TermId) (grown : Grows w m) (declared 
 
   module _ (is : IsSequent (declarations_of w) (sequent_of w goal)) (sentences : HaveSentences (declarations_of w)) (H : List ℕ) (found : formula_named (declarations_of w) (sequent_of w goal) H ≡ Some (read w f))
       (n : ℕ) (gs : List Given) (fits : All (λ (g : Given). Fits (declarations_of w) (sequent_of w goal) g.value g.type) gs) (names : All (λ (g : Given). type_named g.name (pieces n (read w f)) ≡ Some g.type) gs) (a : KeptAim) where
-    pub apply_usable : (vs : List Argument) → aim_of m a ≡ record { hypotheses = formulas_in (sequent_of m goal) vs; conclusion = None }
+    pub apply_usable : (vs : List Argument) → length vs ≡ n → n ≤ antecedent_count (read w f) → aim_of m a ≡ record { hypotheses = formulas_in (sequent_of m goal) vs; conclusion = None }
         → MayBeUsed (declarations_of m) (sequent_of m goal) (read m f) n gs (aim_of m a)
-    apply_usable vs as_aimed =
+    apply_usable vs long enough as_aimed =
         subst (MayBeUsed (declarations_of m) (sequent_of m goal) (read m f) n gs) (sym (apply_aim vs a as_aimed))
         (usable_here n gs (record { hypotheses = formulas_in (sequent_of w goal) vs; conclusion = None })
         (record {
@@ -170,10 +196,15 @@ module _ (w m : World) (goal : Kept) (f : TermId) (grown : Grows w m) (declared 
           names = names;
           hypotheses = of_arguments (declarations_of w) (sequent_of w goal) is vs;
           conclusion = tt;
+          enough =
+              let counted = length_formulas (sequent_of w goal) vs in
+              let parts_are = parts_count n (read w f) gs enough in
+              omega (arith, counted, parts_are, long);
+          alone = λ e. let clash : false ≡ true = e in cc;
         }))
 
-    pub backchain_usable : aim_of m a ≡ record { hypotheses = repeated n; conclusion = Some (read m goal.conclusion) } → MayBeUsed (declarations_of m) (sequent_of m goal) (read m f) n gs (aim_of m a)
-    backchain_usable as_aimed =
+    pub backchain_usable : n ≤ antecedent_count (read w f) → aim_of m a ≡ record { hypotheses = repeated n; conclusion = Some (read m goal.conclusion) } → MayBeUsed (declarations_of m) (sequent_of m goal) (read m f) n gs (aim_of m a)
+    backchain_usable enough as_aimed =
         subst (MayBeUsed (declarations_of m) (sequent_of m goal) (read m f) n gs) (sym (backchain_aim n a as_aimed))
         (usable_here n gs (record { hypotheses = repeated n; conclusion = Some (read w goal.conclusion) })
         (record {
@@ -182,4 +213,9 @@ module _ (w m : World) (goal : Kept) (f : TermId) (grown : Grows w m) (declared 
           names = names;
           hypotheses = of_holes (declarations_of w) (sequent_of w goal) is n;
           conclusion = of_conclusion (declarations_of w) (sequent_of w goal) is;
+          enough =
+              let counted = length_holes n in
+              let parts_are = parts_count n (read w f) gs enough in
+              omega (arith, counted, parts_are);
+          alone = λ e. holes_none n;
         }))

@@ -6,8 +6,8 @@ use Rattle.ab_formulas.specs.Declarations.{Declarations, signature_in}
 use Rattle.ab_formulas.specs.Formulas.{IsFormula}
 use Rattle.ab_formulas.specs.NewNames.{Label, NoName}
 use Rattle.ab_formulas.specs.Sequents.{Sequent, Fits}
-use Rattle.ab_steps.specs.declared.fault.ProofCommandFault.{ProofCommandFault}
-use Rattle.ab_steps.specs.declared.fault.ProofCommandFault.TheVariants.{TypeClash, NamesSpent, Memory}
+use Rattle.ab_hypothesis.specs.ab_steps.specs.declared.fault.ProofCommandFault.{ProofCommandFault}
+use Rattle.ab_hypothesis.specs.ab_steps.specs.declared.fault.ProofCommandFault.TheVariants.{TypeClash, NamesSpent, Memory}
 
 -- the term that begins at the place is no formula of the goal, or it is one and the hypothesis gets no name
 abbrev pub CutFails : Declarations → Read → Label → ℕ → Sequent → ProofCommandFault → Type 0

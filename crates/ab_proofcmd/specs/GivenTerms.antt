@@ -16,8 +16,8 @@ use Rattle.ab_effects.specs.ProofCommands.{giving}
 use Rattle.ab_effects.specs.Row.{leads}
 use Rattle.ab_meaning.specs.Terms.{MeansIn}
 use Rattle.ab_effects.specs.FormulaUses.{strange, given_twice, scope_with}
-use Rattle.ab_steps.specs.ProofEffects.{RefusedBy}
-use Rattle.ab_steps.specs.declared.fault.ProofCommandFault.{ProofCommandFault}
+use Rattle.ab_hypothesis.specs.ab_steps.specs.ProofEffects.{RefusedBy}
+use Rattle.ab_hypothesis.specs.ab_steps.specs.declared.fault.ProofCommandFault.{ProofCommandFault}
 
 -- a term that is given, and its type, are the world's
 abbrev pub HoldsGiven : World → GivenTerm → Type 0

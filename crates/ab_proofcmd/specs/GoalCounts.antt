@@ -5,12 +5,12 @@ use Rattle.ab_formulas.specs.NewNames.{Label}
 use Rattle.ab_formulas.specs.Sequents.{Sequent, proving, without}
 use Rattle.ab_logic.specs.Worlds.{declarations_of}
 use Rattle.ab_logic.specs.declared.world.World.{World}
-use Rattle.ab_steps.specs.ab_kernel.specs.Layout.{Held}
+use Rattle.ab_hypothesis.specs.ab_steps.specs.ab_kernel.specs.Layout.{Held, goals_of}
 use Rattle.ab_theory.specs.Pieces.{Given}
 use Rattle.ab_effects.specs.FormulaUses.{OpenedBeside, NamelessBeside}
 use Rattle.ab_effects.specs.ProofCommands.{is_used}
 use Rattle.ab_effects.specs.Debts.{taken_unless}
-use Rattle.ab_steps.specs.Progress.{goals_of, Owes, IsAt, GaveWay}
+use Rattle.ab_hypothesis.specs.ab_steps.specs.Progress.{Owes, IsAt, GaveWay}
 
 -- the goal of the place gave way to so many
 abbrev pub Gives : World → Held → World → Held → ℕ → ℕ → Type 0

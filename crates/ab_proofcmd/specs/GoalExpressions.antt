@@ -11,8 +11,8 @@ use Rattle.ab_logic.specs.Worlds.{read, Holds}
 use Rattle.ab_logic.specs.declared.world.World.{World}
 use Rattle.ab_meaning.specs.Refusals.{unknown, type_clash, untyped}
 use Rattle.ab_meaning.specs.Terms.{Means, MeansNothing}
-use Rattle.ab_steps.specs.declared.fault.ProofCommandFault.{ProofCommandFault}
-use Rattle.ab_steps.specs.declared.fault.ProofCommandFault.TheVariants as command
+use Rattle.ab_hypothesis.specs.ab_steps.specs.declared.fault.ProofCommandFault.{ProofCommandFault}
+use Rattle.ab_hypothesis.specs.ab_steps.specs.declared.fault.ProofCommandFault.TheVariants as command
 
 -- The term that the expression means in the goal at the type, which fits the goal, in a world that has it; or why it
 -- means none.

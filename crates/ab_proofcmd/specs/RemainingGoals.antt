@@ -5,10 +5,9 @@ use Rattle.ab_formulas.specs.NewNames.{Label}
 use Rattle.ab_formulas.specs.Sequents.{Sequent, proving}
 use Rattle.ab_logic.specs.Worlds.{declarations_of}
 use Rattle.ab_logic.specs.declared.world.World.{World}
-use Rattle.ab_steps.specs.ab_kernel.specs.Layout.{Held}
+use Rattle.ab_hypothesis.specs.ab_steps.specs.ab_kernel.specs.Layout.{Held, goals_of}
 use Rattle.ab_theory.specs.Pieces.{Given}
 use Rattle.ab_effects.specs.FormulaUses.{OpenedBeside, NamelessBeside}
-use Rattle.ab_steps.specs.Progress.{goals_of}
 
 -- the formulas are goals, and then the first goal in which this one was opened
 abbrev pub LeavesOpened : World → Held → World → Held → Label → List Given → List Read → Read → Type 0

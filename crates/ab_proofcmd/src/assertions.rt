@@ -3,29 +3,29 @@ ghost use Rattle.std.specs.Prelude.{◌≡◌, ◌≢◌, [], ◌∷◌, List, E
 ghost use Rattle.std.specs.Option.{option_map};
 ghost use Rattle.ab_grammar.specs.CommandTrees as told;
 ghost use Rattle.ab_grammar.specs.Tree as tree;
-ghost use Rattle.ab_syntax.specs.SyntaxTrees.{tree_of};
+ghost use Rattle.ab_syntax.specs.ab_expressions.specs.SyntaxTrees.{tree_of};
 ghost use Rattle.ab_logic.specs.SequentReadings.{sequent_of};
 ghost use Rattle.ab_formulas.specs.Sequents.{Sequent as AGoal};
 ghost use Rattle.ab_logic.specs.Worlds.{IsWorld, Holds, read, declarations_of};
 ghost use Rattle.ab_logic.specs.declared.world.World.{World as AWorld};
 ghost use Rattle.ab_equations.specs.Labels.{label_of};
 ghost use Rattle.ab_theory.specs.Steps.{cut_formula};
-ghost use Rattle.ab_steps.specs.ab_kernel.specs.Layout.{history_of, IsProof};
+ghost use Rattle.ab_hypothesis.specs.ab_steps.specs.ab_kernel.specs.Layout.{history_of, IsProof, goals_of};
 ghost use Rattle.ab_effects.specs.ProofCommands.{clashing};
 ghost use Rattle.ab_meaning.specs.Refusals.{clash};
-ghost use Rattle.ab_steps.specs.ProofEffects.{IsApplied, IsRefused};
-ghost use Rattle.ab_steps.specs.Progress.{goals_of, Follows, Took};
-ghost use Rattle.ab_steps.specs.declared.fault.ProofCommandFault.{ProofCommandFault as AFault};
+ghost use Rattle.ab_hypothesis.specs.ab_steps.specs.ProofEffects.{IsApplied, IsRefused};
+ghost use Rattle.ab_hypothesis.specs.ab_steps.specs.Progress.{Follows, Took};
+ghost use Rattle.ab_hypothesis.specs.ab_steps.specs.declared.fault.ProofCommandFault.{ProofCommandFault as AFault};
 ghost use Rattle.ab_proofcmd.specs.CutRefusals.{CutFails};
 
 use crate::expressions::{fault_for, read_formula};
 use ab_equations::Label;
+use ab_hypothesis::steps::kernel::{KernelFault, Proof, Step};
+use ab_hypothesis::steps::{ProofCommandFault, first_goal};
 use ab_logic::{Sequent, World};
 use ab_norm::name::Name;
 use ab_norm::store::TermId;
 use ab_norm::types::Steps;
-use ab_steps::kernel::{KernelFault, Proof, Step};
-use ab_steps::{ProofCommandFault, first_goal};
 use ab_syntax::Parse;
 use std::alloc::{AllocError, Global};
 

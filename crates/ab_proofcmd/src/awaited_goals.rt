@@ -1,18 +1,18 @@
 //! Formulas that are awaited become goals, and hypotheses of what is left.
 ghost use Rattle.std.specs.Prelude.{map, OnOk, IfOk, All};
 ghost use Rattle.ab_logic.specs.Worlds.{IsWorld, Holds, read};
-ghost use Rattle.ab_steps.specs.ab_kernel.specs.Layout.{IsProof};
-ghost use Rattle.ab_steps.specs.Progress.{Follows};
+ghost use Rattle.ab_hypothesis.specs.ab_steps.specs.ab_kernel.specs.Layout.{IsProof};
+ghost use Rattle.ab_hypothesis.specs.ab_steps.specs.Progress.{Follows};
 ghost use Rattle.ab_proofcmd.specs.GoalCounts.{Bares, AwaitsOne, AwaitsAll};
 
 use crate::many_goals::step_into;
 use crate::stages::own_at;
 use ab_equations::Label;
+use ab_hypothesis::steps::kernel::{Proof, Step};
 use ab_logic::World;
 use ab_norm::name::Name;
 use ab_norm::store::TermId;
 use ab_norm::types::Steps;
-use ab_steps::kernel::{Proof, Step};
 use std::alloc::{AllocError, Global};
 
 /// Removes the hypotheses of these names from the goal of this place, the last one first.

@@ -2,7 +2,7 @@
 ghost use Rattle.std.specs.Prelude.{◌≡◌, All};
 ghost use Rattle.ab_term.specs.Types.{prop, olist};
 ghost use Rattle.ab_norm.specs.ab_types.specs.Ids.{HoldsType, type_of};
-ghost use Rattle.ab_syntax.specs.SyntaxTrees.{tree_of};
+ghost use Rattle.ab_syntax.specs.ab_expressions.specs.SyntaxTrees.{tree_of};
 ghost use Rattle.ab_formulas.specs.Formulas.{HasOneTypeEach};
 ghost use Rattle.ab_logic.specs.WorldGrowth.{Grows};
 ghost use Rattle.ab_logic.specs.SequentReadings.{sequent_of, HoldsSequent};
@@ -14,14 +14,14 @@ ghost use Rattle.ab_proofcmd.specs.GoalExpressions.{IsReadAs};
 
 use crate::goal_scopes::scope_of;
 use ab_declare::formula_type;
+use ab_hypothesis::steps::ProofCommandFault;
+use ab_hypothesis::steps::kernel::judgements::list_type;
 use ab_infer::elaborate;
 use ab_inference::InferFault;
 use ab_logic::{Sequent, World};
 use ab_norm::store::TermId;
 use ab_norm::types::laws::has_unique_ids;
 use ab_norm::types::{Steps, TypeId};
-use ab_steps::ProofCommandFault;
-use ab_steps::kernel::judgements::list_type;
 use ab_syntax::Parse;
 use ab_uses::GivenTerm;
 use std::alloc::Global;

@@ -2,7 +2,7 @@
 ghost use Rattle.std.specs.Prelude.{◌≡◌, [], ◌∷◌, ◌++◌, map, bytes_eq, IfOk, OnOk, Err, Some, None, All};
 ghost use Rattle.std.specs.List.{list_any};
 ghost use Rattle.ab_grammar.specs.CommandTrees.{Instance as AnInstance};
-ghost use Rattle.ab_syntax.specs.SyntaxTrees.{tree_of};
+ghost use Rattle.ab_syntax.specs.ab_expressions.specs.SyntaxTrees.{tree_of};
 ghost use Rattle.ab_syntax.specs.Commands.{instance_of};
 ghost use Rattle.ab_formulas.specs.Formulas.{HasOneTypeEach};
 ghost use Rattle.ab_logic.specs.WorldGrowth.{Grows};
@@ -15,16 +15,16 @@ ghost use Rattle.ab_uses.specs.GivenReadings.{given_of};
 ghost use Rattle.ab_effects.specs.ProofCommands.{reading_each};
 ghost use Rattle.ab_effects.specs.Row.{leads, unless};
 ghost use Rattle.ab_effects.specs.FormulaUses.{given_twice, strange};
-ghost use Rattle.ab_steps.specs.ProofEffects.{RefusedBy};
-ghost use Rattle.ab_steps.specs.declared.fault.ProofCommandFault.{ProofCommandFault as AFault};
+ghost use Rattle.ab_hypothesis.specs.ab_steps.specs.ProofEffects.{RefusedBy};
+ghost use Rattle.ab_hypothesis.specs.ab_steps.specs.declared.fault.ProofCommandFault.{ProofCommandFault as AFault};
 ghost use Rattle.ab_proofcmd.specs.GivenTerms.{HoldsGiven, values_in, beside, IsNext, AreRead, AreGiven, AreNotGiven};
 
 use crate::expressions::{fault_for, read_beside};
+use ab_hypothesis::steps::ProofCommandFault;
 use ab_logic::{Sequent, World};
 use ab_norm::name::Name;
 use ab_norm::store::TermId;
 use ab_norm::types::Steps;
-use ab_steps::ProofCommandFault;
 use ab_syntax::Instance;
 use ab_uses::{GivenTerm, type_named};
 use std::alloc::{AllocError, Global};

@@ -2,27 +2,27 @@
 ghost use Rattle.std.specs.Prelude.{◌≡◌, ◌≢◌, [], map, Err, IfOk, OnOk, OnErr, All};
 ghost use Rattle.ab_grammar.specs.CommandTrees as told;
 ghost use Rattle.ab_syntax.specs.Commands.{instance_of};
-ghost use Rattle.ab_syntax.specs.SyntaxTrees.{tree_of};
+ghost use Rattle.ab_syntax.specs.ab_expressions.specs.SyntaxTrees.{tree_of};
 ghost use Rattle.ab_logic.specs.Worlds.{IsWorld, Holds, read};
 ghost use Rattle.ab_equations.specs.Labels.{label_of};
 ghost use Rattle.ab_theory.specs.Steps.{spec_instance, spec_monotone};
-ghost use Rattle.ab_steps.specs.ab_kernel.specs.Layout.{history_of, IsProof};
-ghost use Rattle.ab_steps.specs.ab_kernel.specs.RuleAnswers.{replacements, HoldsReplace};
-ghost use Rattle.ab_steps.specs.ProofEffects.{IsApplied, IsRefused};
-ghost use Rattle.ab_steps.specs.Progress.{goals_of, Follows, Took};
-ghost use Rattle.ab_steps.specs.declared.fault.ProofCommandFault.{ProofCommandFault as AFault};
+ghost use Rattle.ab_hypothesis.specs.ab_steps.specs.ab_kernel.specs.Layout.{history_of, IsProof, goals_of};
+ghost use Rattle.ab_hypothesis.specs.ab_steps.specs.ab_kernel.specs.ab_rules.specs.RuleAnswers.{replacements, HoldsReplace};
+ghost use Rattle.ab_hypothesis.specs.ab_steps.specs.ProofEffects.{IsApplied, IsRefused};
+ghost use Rattle.ab_hypothesis.specs.ab_steps.specs.Progress.{Follows, Took};
+ghost use Rattle.ab_hypothesis.specs.ab_steps.specs.declared.fault.ProofCommandFault.{ProofCommandFault as AFault};
 ghost use Rattle.ab_hypothesis.specs.JudgementSteps.{IsntTaken};
 
 use crate::expressions::{fault_for, read_list};
 use crate::replaced_constants::read_replaces;
 use ab_equations::Label;
+use ab_hypothesis::steps::kernel::{Proof, Replaces, Step};
+use ab_hypothesis::steps::{ProofCommandFault, first_goal};
 use ab_hypothesis::{again, label_clash, take_judgement_step};
 use ab_logic::World;
 use ab_norm::name::Name;
 use ab_norm::store::TermId;
 use ab_norm::types::Steps;
-use ab_steps::kernel::{Proof, Replaces, Step};
-use ab_steps::{ProofCommandFault, first_goal};
 use ab_syntax::{Instance, Parse};
 use std::alloc::Global;
 

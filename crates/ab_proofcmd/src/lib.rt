@@ -1,4 +1,4 @@
-//! Proof commands that use a formula or are given one, and one call for all proof commands.
+//! Proof commands that use a formula or are given one, and one call for all proof commands but `search`.
 #![tactic(auto)]
 
 mod application;
@@ -19,4 +19,5 @@ mod stages;
 mod use_results;
 mod witnesses;
 
-pub use proof_commands::{apply_proof_command, is_built};
+pub use ab_hypothesis as hypothesis;
+pub use proof_commands::apply_proof_command;

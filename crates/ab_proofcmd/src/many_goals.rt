@@ -2,15 +2,15 @@
 ghost use Rattle.std.specs.Prelude.{OnOk};
 ghost use Rattle.ab_logic.specs.Worlds.{IsWorld};
 ghost use Rattle.ab_theory.specs.Derivations.{debts_of};
-ghost use Rattle.ab_steps.specs.ab_kernel.specs.RuleAnswers.{step_of, HoldsStep};
-ghost use Rattle.ab_steps.specs.ab_kernel.specs.Layout.{IsProof};
-ghost use Rattle.ab_steps.specs.Progress.{FollowsBy, Owes, TookInto};
+ghost use Rattle.ab_hypothesis.specs.ab_steps.specs.ab_kernel.specs.ab_rules.specs.RuleAnswers.{step_of, HoldsStep};
+ghost use Rattle.ab_hypothesis.specs.ab_steps.specs.ab_kernel.specs.Layout.{IsProof};
+ghost use Rattle.ab_hypothesis.specs.ab_steps.specs.Progress.{FollowsBy, Owes, TookInto};
 ghost use Rattle.ab_proofcmd.specs.GoalCounts.{Gives};
 
+use ab_hypothesis::steps::kernel::{Proof, Step};
+use ab_hypothesis::steps::{Attempted, attempt_solving};
 use ab_logic::World;
 use ab_norm::types::Steps;
-use ab_steps::kernel::{Proof, Step};
-use ab_steps::{Attempted, attempt_solving};
 use std::alloc::AllocError;
 
 /// Takes a step at the goal of this place that leads to so many goals. A place of no goal, and a step that isn't taken or leads

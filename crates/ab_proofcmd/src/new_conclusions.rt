@@ -3,21 +3,21 @@ ghost use Rattle.std.specs.Prelude.{◌≡◌, map, OnOk, IfOk, All};
 ghost use Rattle.ab_norm.specs.ab_types.specs.Ids.{HoldsType};
 ghost use Rattle.ab_logic.specs.WorldGrowth.{Grows};
 ghost use Rattle.ab_logic.specs.Worlds.{IsWorld, Holds, read, declarations_of};
-ghost use Rattle.ab_steps.specs.ab_kernel.specs.Layout.{IsProof};
+ghost use Rattle.ab_hypothesis.specs.ab_steps.specs.ab_kernel.specs.Layout.{IsProof};
 ghost use Rattle.ab_uses.specs.GivenReadings.{given_of};
 ghost use Rattle.ab_theory.specs.Uses as uses;
 ghost use Rattle.ab_effects.specs.FormulaUses as spec;
-ghost use Rattle.ab_steps.specs.Progress.{Follows};
+ghost use Rattle.ab_hypothesis.specs.ab_steps.specs.Progress.{Follows};
 ghost use Rattle.ab_proofcmd.specs.GoalCounts.{Gives, Turns};
 
 use crate::many_goals::step_into;
 use crate::stages::{meet_equation, own_at};
 use ab_equations::Label;
+use ab_hypothesis::steps::kernel::{Proof, Step};
 use ab_logic::World;
 use ab_norm::name::Name;
 use ab_norm::store::{Head, Logical, TermId};
 use ab_norm::types::Steps;
-use ab_steps::kernel::{Proof, Step};
 use ab_uses::GivenTerm;
 use std::alloc::{AllocError, Global};
 

@@ -1,15 +1,15 @@
-//! A proof command is carried out.
-ghost use Rattle.std.specs.Prelude.{◌≡◌, ◌≢◌, ◌↔◌, [], Err, IfOk, OnOk, OnErr, IsTrue};
+//! A proof command that has a row is carried out.
+ghost use Rattle.std.specs.Prelude.{◌≡◌, ◌≢◌, [], Err, IfOk, OnOk, OnErr};
 ghost use Rattle.std.specs.Option.{option_copied};
 ghost use Rattle.ab_syntax.specs.Commands.{proof_command_of};
 ghost use Rattle.ab_logic.specs.Worlds.{IsWorld};
 ghost use Rattle.ab_equations.specs.Labels.{label_of};
-ghost use Rattle.ab_steps.specs.ab_kernel.specs.Layout.{history_of, IsProof};
-ghost use Rattle.ab_steps.specs.ProofEffects.{IsApplied, OwesFor, IsRefused};
-ghost use Rattle.ab_steps.specs.Progress.{goals_of, Advances};
-ghost use Rattle.ab_steps.specs.declared.fault.ProofCommandFault.{ProofCommandFault as AFault};
+ghost use Rattle.ab_hypothesis.specs.ab_steps.specs.ab_kernel.specs.Layout.{history_of, IsProof, goals_of};
+ghost use Rattle.ab_hypothesis.specs.ab_steps.specs.ProofEffects.{IsApplied, OwesFor, IsRefused};
+ghost use Rattle.ab_hypothesis.specs.ab_steps.specs.Progress.{Advances};
+ghost use Rattle.ab_hypothesis.specs.ab_steps.specs.declared.fault.ProofCommandFault.{ProofCommandFault as AFault};
 ghost use Rattle.ab_effects.specs.ProofCommands.{given_label};
-ghost use Rattle.ab_proofcmd.specs.SupportedCommands.{IsBuilt};
+ghost use Rattle.ab_proofcmd.specs.RowCommands.{HasRow};
 
 use crate::application::apply;
 use crate::assertions::assert;
@@ -18,43 +18,14 @@ use crate::judgement_commands::{inst, monotone};
 use crate::witnesses::exists;
 use ab_conclusion::{coinduction, induction, intros, left, right, skip, split, split_all, unfold};
 use ab_equations::Label;
+use ab_hypothesis::steps::ProofCommandFault;
+use ab_hypothesis::steps::kernel::Proof;
 use ab_hypothesis::{case, clear, cut, permute, rename};
 use ab_logic::World;
 use ab_norm::name::Name;
 use ab_norm::types::Steps;
-use ab_steps::ProofCommandFault;
-use ab_steps::kernel::Proof;
 use ab_syntax::ProofCommand;
 use std::alloc::{AllocError, Global};
-
-/// Whether the command is built. What isn't may not be carried out.
-pub fn is_built(command: &ProofCommand) -> bool
-    ensures { IsTrue result ↔ IsBuilt (proof_command_of command.now) }
-{
-    match command {
-        ProofCommand::Intros(_)
-        | ProofCommand::Induction(_)
-        | ProofCommand::Coinduction
-        | ProofCommand::Case(_, _)
-        | ProofCommand::Split
-        | ProofCommand::SplitAll
-        | ProofCommand::Left
-        | ProofCommand::Right
-        | ProofCommand::Unfold
-        | ProofCommand::Exists(_)
-        | ProofCommand::Assert(_)
-        | ProofCommand::Apply(_, _, _)
-        | ProofCommand::Backchain(_, _)
-        | ProofCommand::Clear(_)
-        | ProofCommand::Rename(_, _)
-        | ProofCommand::Permute(_, _)
-        | ProofCommand::Cut(_, _)
-        | ProofCommand::Inst(_, _)
-        | ProofCommand::Monotone(_, _)
-        | ProofCommand::Skip => true,
-        ProofCommand::Search(_) => false,
-    }
-}
 
 /// How the first new hypothesis is named.
 fn label_wanted(alloc: Global, label: Option<&Name>) -> Result<Label, AllocError>
@@ -79,7 +50,7 @@ pub fn apply_proof_command<L>(
     requires world { IsWorld world.old }
     requires proof { IsProof world.old proof.old }
     requires open { goals_of world.old proof.old ≢ [] }
-    requires built { IsBuilt (proof_command_of command.now) }
+    requires row { HasRow (proof_command_of command.now) }
     ensures follows { Advances world.old proof.old world.new proof.new }
     ensures owes { OnOk result (OwesFor (proof_command_of command.now) world.old proof.old world.new proof.new) }
     ensures applied { IfOk result (λ u. IsApplied (given_label (option_copied label.entry)) (proof_command_of command.now) world.old proof.old world.new proof.new) }

@@ -17,15 +17,15 @@ ghost use Rattle.ab_effects.specs.Row.{leads};
 ghost use Rattle.ab_effects.specs.FormulaUses as spec;
 ghost use Rattle.ab_effects.specs.FormulaUses.{names_in, formulas_in};
 ghost use Rattle.ab_theory.specs.UseAnswers.{IsUsedFor};
-ghost use Rattle.ab_steps.specs.ProofEffects.{RefusedBy};
-ghost use Rattle.ab_steps.specs.declared.fault.ProofCommandFault.{ProofCommandFault as AFault};
+ghost use Rattle.ab_hypothesis.specs.ab_steps.specs.ProofEffects.{RefusedBy};
+ghost use Rattle.ab_hypothesis.specs.ab_steps.specs.declared.fault.ProofCommandFault.{ProofCommandFault as AFault};
 ghost use Rattle.ab_proofcmd.specs.Questions.{HoldsUse, Reads};
 
+use ab_hypothesis::steps::{ProofCommandFault, not_pattern};
 use ab_logic::{Sequent, World};
 use ab_norm::name::Name;
 use ab_norm::store::TermId;
 use ab_norm::types::Steps;
-use ab_steps::{ProofCommandFault, not_pattern};
 use ab_syntax::Argument;
 use ab_uses::{Aim, Found, GivenTerm, Use, find_use};
 use std::alloc::{AllocError, Global};

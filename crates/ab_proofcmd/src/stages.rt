@@ -1,21 +1,21 @@
 //! A formula is derived from a hypothesis or a theorem, stage by stage.
 ghost use Rattle.std.specs.Prelude.{[], ◌∷◌, OnOk, All};
 ghost use Rattle.ab_logic.specs.Worlds.{IsWorld, Holds};
-ghost use Rattle.ab_steps.specs.ab_kernel.specs.Layout.{IsProof};
+ghost use Rattle.ab_hypothesis.specs.ab_steps.specs.ab_kernel.specs.Layout.{IsProof};
 ghost use Rattle.ab_uses.specs.UseReadings.{HoldsStage};
 ghost use Rattle.ab_theory.specs.Derivations.{theorem_taken};
 ghost use Rattle.ab_effects.specs.Debts.{taken_unless};
-ghost use Rattle.ab_steps.specs.Progress.{Advances, Follows, Owes};
+ghost use Rattle.ab_hypothesis.specs.ab_steps.specs.Progress.{Advances, Follows, Owes};
 ghost use Rattle.ab_proofcmd.specs.GoalCounts.{Gives};
 
 use crate::many_goals::step_into;
 use ab_equations::Label;
 use ab_hypothesis::own_name;
+use ab_hypothesis::steps::kernel::{Proof, Step};
 use ab_logic::World;
 use ab_norm::name::Name;
 use ab_norm::store::TermId;
 use ab_norm::types::Steps;
-use ab_steps::kernel::{Proof, Step};
 use ab_uses::Stage;
 use std::alloc::{AllocError, Global};
 
@@ -282,7 +282,7 @@ fn take_stage<L>(
 {
     match stage {
         Stage::Instance(term) => put_term(alloc, world, proof, place, current, *term, steps),
-        Stage::Chosen(formula) => put_constant(
+        Stage::Chosen(_, formula) => put_constant(
             alloc, world, proof, place, current, *formula, steps,
         ),
         Stage::Antecedent => match names.first() {

@@ -3,9 +3,9 @@ ghost use Rattle.std.specs.Prelude.{◌≡◌, map, OnOk, Err, All, List};
 ghost use Rattle.ab_norm.specs.ab_types.specs.Ids.{HoldsType};
 ghost use Rattle.ab_logic.specs.Worlds.{IsWorld, Holds, read};
 ghost use Rattle.ab_equations.specs.Labels.{label_of};
-ghost use Rattle.ab_steps.specs.ab_kernel.specs.Layout.{IsProof};
+ghost use Rattle.ab_hypothesis.specs.ab_steps.specs.ab_kernel.specs.Layout.{IsProof};
 ghost use Rattle.ab_uses.specs.GivenReadings.{given_of};
-ghost use Rattle.ab_steps.specs.Progress.{Follows};
+ghost use Rattle.ab_hypothesis.specs.ab_steps.specs.Progress.{Follows};
 ghost use Rattle.ab_hypothesis.specs.OwnNames.{IsOwn};
 ghost use Rattle.ab_hypothesis.specs.HypothesisProgress.{HasAt};
 ghost use Rattle.ab_hypothesis.specs.declared.stop.Stop.{Stop as AStop};
@@ -13,12 +13,12 @@ ghost use Rattle.ab_proofcmd.specs.GoalCounts.{OpensBeside, CantOpenBeside};
 
 use crate::new_conclusions::{given_that, turn};
 use ab_equations::Label;
+use ab_hypothesis::steps::kernel::Proof;
 use ab_hypothesis::{Stop, open_one};
 use ab_logic::World;
 use ab_norm::name::Name;
 use ab_norm::store::TermId;
 use ab_norm::types::Steps;
-use ab_steps::kernel::Proof;
 use ab_uses::GivenTerm;
 use std::alloc::{AllocError, Global};
 

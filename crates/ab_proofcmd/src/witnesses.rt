@@ -1,19 +1,19 @@
 //! A term for the name of an `exists`.
 ghost use Rattle.std.specs.Prelude.{◌≡◌, ◌≢◌, [], Err, IfOk, OnErr};
 ghost use Rattle.ab_grammar.specs.CommandTrees as told;
-ghost use Rattle.ab_syntax.specs.SyntaxTrees.{tree_of};
+ghost use Rattle.ab_syntax.specs.ab_expressions.specs.SyntaxTrees.{tree_of};
 ghost use Rattle.ab_formulas.specs.NewNames as plain;
 ghost use Rattle.ab_logic.specs.Worlds.{IsWorld};
-ghost use Rattle.ab_steps.specs.ab_kernel.specs.Layout.{history_of, IsProof};
-ghost use Rattle.ab_steps.specs.ProofEffects.{IsApplied, IsRefused};
-ghost use Rattle.ab_steps.specs.Progress.{goals_of, Follows};
-ghost use Rattle.ab_steps.specs.declared.fault.ProofCommandFault.{ProofCommandFault};
+ghost use Rattle.ab_hypothesis.specs.ab_steps.specs.ab_kernel.specs.Layout.{history_of, IsProof, goals_of};
+ghost use Rattle.ab_hypothesis.specs.ab_steps.specs.ProofEffects.{IsApplied, IsRefused};
+ghost use Rattle.ab_hypothesis.specs.ab_steps.specs.Progress.{Follows};
+ghost use Rattle.ab_hypothesis.specs.ab_steps.specs.declared.fault.ProofCommandFault.{ProofCommandFault};
 
 use crate::expressions::{fault_for, read_term};
+use ab_hypothesis::steps::kernel::{Proof, Step};
+use ab_hypothesis::steps::{ProofCommandFault, first_goal, surely};
 use ab_logic::{World, as_exists};
 use ab_norm::types::Steps;
-use ab_steps::kernel::{Proof, Step};
-use ab_steps::{ProofCommandFault, first_goal, surely};
 use ab_syntax::Parse;
 use std::alloc::Global;
 

@@ -3,23 +3,19 @@ use Rattle.std.specs.Prelude.{◌≡◌, ℕ, false, List, ◌∷◌, ◌++◌}
 use Rattle.ab_lex.specs.Commands.{Item, ItemsOf, command}
 use Rattle.ab_sigmod.specs.FileLoads.{FilesSeen, Load, AreLoads}
 use Rattle.ab_states.specs.State.{State, empty}
-use Rattle.ab_states.specs.Reply.{Reply}
-use Rattle.ab_states.specs.StateEffects.{HasEffect}
-use Rattle.ab_effect_answers.specs.WholeStates.{HasGoals}
 use Rattle.ab_effect_answers.specs.SomeEffects.{CommandFindsNames}
+use Rattle.ab_state_derivations.specs.DerivedStates.{ClosesMarked}
 use Rattle.ab_run.specs.declared.way.Way.{Way}
-use Rattle.ab_run.specs.ProvedTheorems.{IsBorneOut}
 use Rattle.ab_run.specs.Report.{Report, Reports, ReportOf, has_end, state_behind}
 
 abbrev pub HasReport : Way → List ℕ → FilesSeen → Type 0
 HasReport way text before = (loads : List Load) × (after : FilesSeen) × AreLoads before loads after × (r : Report) × ReportOf way text loads r
 
--- WHERE A COMMAND CUTS A REPORT SHORT: a goal of the open proof is no sequent, whatever numbers its variables get; or names run out
--- for what a proof command makes; or it has an effect whose reply tells of a theorem that has no derivation
+-- WHERE A COMMAND CUTS A REPORT SHORT: names run out for what a proof command makes; or it asks for a search, which closes a goal whose
+-- conclusion says a judgement that coinduction marks
 pub data CutsShort (s : State) (bytes : List ℕ) : Type 0 where
-  no_sequent : ¬ HasGoals s.declarations s.attempt → CutsShort s bytes
   names_run_out : ¬ CommandFindsNames s bytes → CutsShort s bytes
-  not_borne_out : {loads : List Load} {reply : Reply} {t : State} → HasEffect s bytes loads reply t → ¬ IsBorneOut reply t → CutsShort s bytes
+  search_of_marked : ClosesMarked s bytes → CutsShort s bytes
 
 -- from this state on, some of the items have a report, which doesn't end the run, and the next is a command that cuts it short
 pub record StopsShort (way : Way) (s : State) (items : List Item) (before : FilesSeen) : Type 0 where

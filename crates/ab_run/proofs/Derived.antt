@@ -12,8 +12,8 @@ use Rattle.ab_term.specs.Terms.{Read}
 use Rattle.ab_formulas.specs.Declarations.{Declarations, Block, a_kind, a_constant, a_block, a_theorem, theorems_in, names_at}
 use Rattle.ab_formulas.proofs.Declaring.{theorems_in-append}
 use Rattle.ab_grammar.specs.CommandTrees.{Command}
-use Rattle.ab_declare.specs.DeclarationCommands.{Declares, new_kinds, new_constants, new_predicates}
-use Rattle.ab_declare.specs.DefinitionCommands.{block_with, predicate_of}
+use Rattle.ab_session.specs.ab_states.specs.ab_specification.specs.ab_declare.specs.DeclarationCommands.{Declares, new_kinds, new_constants, new_predicates}
+use Rattle.ab_session.specs.ab_states.specs.ab_specification.specs.ab_declare.specs.DefinitionCommands.{block_with, predicate_of}
 use Rattle.ab_grammar.specs.FileTrees.{Item as FileItem}
 use Rattle.ab_session.specs.ab_states.specs.ab_specification.specs.ItemDeclarations.{ItemDeclares, new_kinds as item_kinds, new_constants as item_constants, new_clause, no_declaration}
 use Rattle.ab_session.specs.ab_states.specs.ab_specification.specs.FileDeclarations.{PlacedItem, AllDeclare, no_item, one_more}

@@ -3,7 +3,7 @@
 use Rattle.std.specs.Prelude.{◌≡◌, ℕ, suc, Bool, true, false, ◌||◌, ◌&&◌, if◌then◌else◌, List, [], ◌∷◌, ◌++◌, length}
 use Rattle.ab_lex.specs.Commands.{Item, ItemsOf, command, long}
 use Rattle.ab_sigmod.specs.FileLoads.{Load}
-use Rattle.ab_declare.specs.declared.refusal.Refusal.TheVariants.{TooLong}
+use Rattle.ab_session.specs.ab_states.specs.ab_specification.specs.ab_declare.specs.declared.refusal.Refusal.TheVariants.{TooLong}
 use Rattle.ab_session.specs.ab_states.specs.State.{State, empty}
 use Rattle.ab_formulas.specs.Declarations.{theorems_in}
 use Rattle.ab_drill.specs.declared.summary.Tallies.{Tallies}

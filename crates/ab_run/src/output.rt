@@ -13,11 +13,11 @@ ghost use Rattle.ab_run.specs.Progress.{RepliesNext, AnswersNext, AnsweredReady,
 
 use crate::way::{Showing, Way};
 use ab_blocks::block;
-use ab_declare::Refusal;
 use ab_io::{Files, Sink, WriteFault, write_all};
 use ab_lex::{Next, Splitter};
 use ab_session::Session;
 use ab_session::states::Reply;
+use ab_session::states::specification::declare::Refusal;
 use ab_types::Steps;
 use std::alloc::{AllocError, Global};
 

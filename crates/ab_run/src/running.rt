@@ -45,7 +45,7 @@ pub struct Ended {
 }
 
 /// How many bytes are read next, where so many have been: up to the last that is looked at, and then one more.
-fn wanted(taken: u64) -> usize
+fn bytes_wanted(taken: u64) -> usize
     requires { taken ≤ MAX_INPUT }
     ensures some { 0 < result }
     ensures few { result ≤ PIECE }
@@ -84,7 +84,7 @@ fn answer_input<F: Files, S: Source, O: Sink>(
     let mut splitter = Splitter::new(alloc);
     let mut taken: u64 = 0;
     'pieces: loop {
-        match read_piece(input, &mut splitter, &mut piece[..wanted(taken)]) {
+        match read_piece(input, &mut splitter, &mut piece[..bytes_wanted(taken)]) {
             Err(ReadStop::Memory) => return Status::NoMemory,
             Err(ReadStop::Failed) => return end_with(out, &READ_FAULT, Status::ReadFault),
             Ok(0) => return end_status(

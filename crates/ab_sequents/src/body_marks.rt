@@ -45,7 +45,7 @@ fn is_predicate(types: &TypeTable, head: Head, predicates: &[ConstId]) -> bool
 }
 
 /// The formula with the mark.
-pub fn marked(
+pub fn mark_formula(
     alloc: Global,
     store: &mut Store,
     sign: Sign,
@@ -115,7 +115,7 @@ fn mark(
         Node::Spine(head, args) => match making_of(head) {
             Making::ByHead => {
                 if is_predicate(types, head, predicates) {
-                    marked(alloc, store, sign, id)
+                    mark_formula(alloc, store, sign, id)
                 } else {
                     Ok(id)
                 }

@@ -56,7 +56,7 @@ fn standing_of(constant: Nominal, numbers: &[u32]) -> Standing
 }
 
 /// At which types constants stand that stand among the first or among the second.
-fn joined(types: &TypeTable, first: Standing, second: Standing) -> Standing
+fn join_types(types: &TypeTable, first: Standing, second: Standing) -> Standing
     ensures { (ns : List ℕ) (cs ds : List tree.Nominal) → IsStanding types.now ns cs first → IsStanding types.now ns ds second →
         IsStanding types.now ns (cs ++ ds) result }
 {
@@ -108,7 +108,7 @@ fn standing_under(
     let mut standing = Standing::Nowhere;
     for constant in &constants {
         let one = standing_of(*constant, numbers);
-        standing = joined(&world.types, standing, one);
+        standing = join_types(&world.types, standing, one);
     }
     Ok(standing)
 }
@@ -127,7 +127,7 @@ fn standing_in(
     let mut standing = standing_under(alloc, world, goal.conclusion, numbers)?;
     for h in goal.hypotheses.as_slice() {
         let one = standing_under(alloc, world, h.formula, numbers)?;
-        standing = joined(&world.types, standing, one);
+        standing = join_types(&world.types, standing, one);
     }
     Ok(standing)
 }

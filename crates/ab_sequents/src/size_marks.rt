@@ -13,7 +13,7 @@ ghost use Rattle.ab_theory.specs.Induction.{in_matrix, in_antecedent, in_consequ
 ghost use Rattle.ab_sequents.specs.Kinds.{marked_by};
 ghost use Rattle.ab_sequents.specs.SizeViews.{part_at, part_marked};
 
-use crate::body_marks::marked;
+use crate::body_marks::mark_formula;
 use crate::formula_views::{Outer, look_at};
 use crate::levels::Kind;
 use ab_logic::{Sign, World};
@@ -175,7 +175,7 @@ fn mark_antecedent(
         return Ok(id);
     }
     if place == 1 {
-        let made = marked(alloc, store, sign, left)?;
+        let made = mark_formula(alloc, store, sign, left)?;
         return arrow(alloc, store, made, right);
     }
     let made = mark_antecedent(alloc, store, place - 1, sign, right)?;
@@ -196,7 +196,7 @@ fn mark_consequent(
     ensures adds { AddsTerms store.old store.new }
 {
     let Outer::Arrow(left, right) = look_at(store, id) else {
-        return marked(alloc, store, sign, id);
+        return mark_formula(alloc, store, sign, id);
     };
     let made = mark_consequent(alloc, store, sign, right)?;
     arrow(alloc, store, left, made)

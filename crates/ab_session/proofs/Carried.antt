@@ -16,26 +16,26 @@ use Rattle.ab_theory.specs.Derivations.{History, Valid, open_goals, IsTreeOf}
 use Rattle.ab_theory.specs.Assumptions.{assumed_by}
 use Rattle.ab_theory.specs.Growth.{AddsNoClause}
 use Rattle.ab_theory.proofs.SameRules.{adds_behind}
-use Rattle.ab_steps.specs.ab_kernel.specs.Layout.{Held, history_of}
-use Rattle.ab_steps.specs.ab_kernel.proofs.Later.{AddsNone, same_history, outlived_proof}
+use Rattle.ab_proofcmd.specs.ab_hypothesis.specs.ab_steps.specs.ab_kernel.specs.Layout.{Held, history_of, goals_of}
+use Rattle.ab_proofcmd.specs.ab_hypothesis.specs.ab_steps.specs.ab_kernel.proofs.Later.{AddsNone, same_history, outlived_proof}
 use Rattle.ab_effects.specs.ProofCommands.{effect}
 use Rattle.ab_meaning.specs.Refusals as row
 use Rattle.ab_effects.specs.Debts.{debts_at}
 use Rattle.ab_effects.specs.Row.{Row, Leads, Refuses}
-use Rattle.ab_steps.specs.Progress.{goals_of, Advances}
-use Rattle.ab_steps.proofs.Following.{nothing_left}
-use Rattle.ab_steps.proofs.OwedJust.{OwesJust}
-use Rattle.ab_steps.specs.ProofEffects.{IsApplied, OwesFor, IsRefused, RefusedBy}
-use Rattle.ab_steps.specs.declared.fault.ProofCommandFault.{ProofCommandFault}
-use Rattle.ab_steps.specs.declared.fault.ProofCommandFault.TheVariants.{Unknown, Clash, TypeClash, Untyped, NoHypothesis, WrongShape, Mark, NoMatch, NotPattern, Unresolved, NamesSpent, Memory}
-use Rattle.ab_proofcmd.specs.SupportedCommands.{IsBuilt}
+use Rattle.ab_proofcmd.specs.ab_hypothesis.specs.ab_steps.specs.Progress.{Advances}
+use Rattle.ab_proofcmd.specs.ab_hypothesis.specs.ab_steps.proofs.Following.{nothing_left}
+use Rattle.ab_proofcmd.specs.ab_hypothesis.specs.ab_steps.proofs.OwedJust.{OwesJust}
+use Rattle.ab_proofcmd.specs.ab_hypothesis.specs.ab_steps.specs.ProofEffects.{IsApplied, OwesFor, IsRefused, RefusedBy}
+use Rattle.ab_proofcmd.specs.ab_hypothesis.specs.ab_steps.specs.declared.fault.ProofCommandFault.{ProofCommandFault}
+use Rattle.ab_proofcmd.specs.ab_hypothesis.specs.ab_steps.specs.declared.fault.ProofCommandFault.TheVariants.{Unknown, Clash, TypeClash, Untyped, NoHypothesis, WrongShape, Mark, NoMatch, NotPattern, Unresolved, NamesSpent, Memory}
+use Rattle.ab_proofcmd.specs.RowCommands.{HasRow}
 use Rattle.ab_search_trees.specs.Outcomes.{Outcome, not_pattern, not_found}
 use Rattle.ab_search.specs.Searched.{FirstComesTo, IsClosed, IsNotFound, IsOutside}
-use Rattle.ab_declare.specs.declared.refusal.Refusal.{Refusal}
-use Rattle.ab_declare.specs.declared.refusal.Refusal.TheVariants as Told
-use Rattle.ab_declare.specs.Moments.{HasMore, IsRestored}
-use Rattle.ab_declare.specs.Refusals.{refusal_for}
-use Rattle.ab_declare.proofs.Restoring.{restored_grows, restored_declares}
+use Rattle.ab_states.specs.ab_specification.specs.ab_declare.specs.declared.refusal.Refusal.{Refusal}
+use Rattle.ab_states.specs.ab_specification.specs.ab_declare.specs.declared.refusal.Refusal.TheVariants as Told
+use Rattle.ab_states.specs.ab_specification.specs.ab_declare.specs.Moments.{HasMore, IsRestored}
+use Rattle.ab_states.specs.ab_specification.specs.ab_declare.specs.Refusals.{refusal_for}
+use Rattle.ab_states.specs.ab_specification.specs.ab_declare.proofs.Restoring.{restored_grows, restored_declares}
 use Rattle.ab_states.specs.ProofCommandEffects.{Makes, RefusesSo, refusal_of, Denies}
 use Rattle.ab_states.specs.Reply.{reply_of, done}
 use Rattle.ab_states.specs.declared.reply.Reply.{Reply}
@@ -59,7 +59,7 @@ told_refuses r (Unresolved x) q h e = (row.unresolved x, h, e)
 told_refuses r NamesSpent q h e = (row.names_spent, h, e)
 told_refuses r (Memory f) q h e = absurd e
 
-row_makes : (D : Declarations) (l : Label) (c : ProofCommand) (s : Sequent) (ps : List Sequent) → IsBuilt c → Leads (effect D l c s) ps → Makes D l c s ps
+row_makes : (D : Declarations) (l : Label) (c : ProofCommand) (s : Sequent) (ps : List Sequent) → HasRow c → Leads (effect D l c s) ps → Makes D l c s ps
 row_makes D l (told.intros xs) s ps built h = h
 row_makes D l (told.induction ns) s ps built h = h
 row_makes D l told.coinduction s ps built h = h
@@ -82,7 +82,7 @@ row_makes D l (told.clear Hs) s ps built h = h
 row_makes D l (told.rename H x) s ps built h = h
 row_makes D l (told.permute ns x) s ps built h = h
 
-row_denies : (D : Declarations) (l : Label) (c : ProofCommand) (s : Sequent) (q : Refusal) → IsBuilt c → RefusesSo D l c s q → Denies D l c s q
+row_denies : (D : Declarations) (l : Label) (c : ProofCommand) (s : Sequent) (q : Refusal) → HasRow c → RefusesSo D l c s q → Denies D l c s q
 row_denies D l (told.intros xs) s q built h = h
 row_denies D l (told.induction ns) s q built h = h
 row_denies D l told.coinduction s q built h = h
@@ -105,12 +105,12 @@ row_denies D l (told.clear Hs) s q built h = h
 row_denies D l (told.rename H x) s q built h = h
 row_denies D l (told.permute ns x) s q built h = h
 
-pub made_by_row : (l : Label) (c : ProofCommand) (w v : World) (p q : Held) → IsBuilt c → IsApplied l c w p v q → IsMade l c w p v q
+pub made_by_row : (l : Label) (c : ProofCommand) (w v : World) (p q : Held) → HasRow c → IsApplied l c w p v q → IsMade l c w p v q
 made_by_row l c w v p q built applied s rest e =
     let a = applied s rest e in
     (a.0, row_makes (declarations_of w) l c s a.0 built a.1, a.2)
 
-pub denied_by_row : (l : Label) (c : ProofCommand) (w : World) (p : Held) (f : ProofCommandFault) (r : Refusal) → IsBuilt c → IsRefused l c w p f → TellsOf f r → IsDenied l c w p r
+pub denied_by_row : (l : Label) (c : ProofCommand) (w : World) (p : Held) (f : ProofCommandFault) (r : Refusal) → HasRow c → IsRefused l c w p f → TellsOf f r → IsDenied l c w p r
 denied_by_row l c w p f r built refused tells s rest e =
     let t = told_refuses (effect (declarations_of w) l c s) f r (refused s rest e) tells in
     row_denies (declarations_of w) l c s r built (record { cause = t.0; refuses = t.1; is = t.2 })

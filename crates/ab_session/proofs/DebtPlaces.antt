@@ -13,8 +13,8 @@ use Rattle.ab_formulas.proofs.TheoremPlaces.{name_last}
 use Rattle.ab_theory.specs.Derivations.{Debt}
 use Rattle.ab_theory.specs.Assumptions.{places_of, all_places, places_in_order}
 use Rattle.ab_theory.proofs.Assuming.{from_places, into_places, places_alike}
-use Rattle.ab_steps.specs.ab_kernel.specs.Debts.{debt_of}
-use Rattle.ab_steps.specs.ab_kernel.specs.declared.debt.Debt.{Debt as Kept}
+use Rattle.ab_proofcmd.specs.ab_hypothesis.specs.ab_steps.specs.ab_kernel.specs.Debts.{debt_of}
+use Rattle.ab_proofcmd.specs.ab_hypothesis.specs.ab_steps.specs.ab_kernel.specs.declared.debt.Debt.{Debt as Kept}
 use Rattle.ab_session.specs.PlaceMarks.{Marks}
 
 -- Debts

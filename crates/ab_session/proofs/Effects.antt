@@ -18,23 +18,22 @@ use Rattle.ab_formulas.specs.Sequents.{Sequent}
 use Rattle.ab_logic.specs.Worlds.{read, Holds, declarations_of}
 use Rattle.ab_logic.specs.declared.world.World.{World}
 use Rattle.ab_theory.specs.Derivations.{History, root, proves, open_goals, beginning}
-use Rattle.ab_steps.specs.ab_kernel.specs.Layout.{Held, history_of, IsProof}
+use Rattle.ab_proofcmd.specs.ab_hypothesis.specs.ab_steps.specs.ab_kernel.specs.Layout.{Held, history_of, IsProof, goals_of}
 use Rattle.ab_theory.specs.Assumptions.{assumed_by}
 use Rattle.ab_theory.proofs.Assuming.{assumed_begun, assumed_more}
-use Rattle.ab_steps.proofs.GoalSequents.{first_is_sequent}
-use Rattle.ab_steps.specs.Progress.{goals_of}
-use Rattle.ab_steps.proofs.Following.{one_at_least}
-use Rattle.ab_steps.proofs.OwedJust.{just_owes}
+use Rattle.ab_proofcmd.specs.ab_hypothesis.specs.ab_steps.specs.ab_kernel.proofs.GoalSequents.{first_is_sequent}
+use Rattle.ab_proofcmd.specs.ab_hypothesis.specs.ab_steps.proofs.Following.{one_at_least}
+use Rattle.ab_proofcmd.specs.ab_hypothesis.specs.ab_steps.proofs.OwedJust.{just_owes}
 use Rattle.ab_formulas.specs.NamedGoals.{named}
-use Rattle.ab_declare.specs.declared.refusal.Refusal.{Refusal}
-use Rattle.ab_declare.specs.declared.refusal.Refusal.TheVariants.{Unknown}
-use Rattle.ab_declare.specs.DeclarationAnswers.{IsDeclared, IsDeclined, IsStated}
-use Rattle.ab_declare.specs.DeclarationCommands.{no_theorem}
-use Rattle.ab_declare.specs.Moments.{IsRestored}
-use Rattle.ab_declare.proofs.Restoring.{restored_grows, restored_declares, restored_itself}
+use Rattle.ab_states.specs.ab_specification.specs.ab_declare.specs.declared.refusal.Refusal.{Refusal}
+use Rattle.ab_states.specs.ab_specification.specs.ab_declare.specs.declared.refusal.Refusal.TheVariants.{Unknown}
+use Rattle.ab_states.specs.ab_specification.specs.ab_declare.specs.DeclarationAnswers.{IsDeclared, IsDeclined, IsStated}
+use Rattle.ab_states.specs.ab_specification.specs.ab_declare.specs.DeclarationCommands.{no_theorem}
+use Rattle.ab_states.specs.ab_specification.specs.ab_declare.specs.Moments.{IsRestored}
+use Rattle.ab_states.specs.ab_specification.specs.ab_declare.proofs.Restoring.{restored_grows, restored_declares, restored_itself}
 use Rattle.ab_effects.specs.ProofCommands.{given_label}
 use Rattle.ab_effects.specs.Debts.{debts_at}
-use Rattle.ab_steps.specs.ProofEffects.{OwesFor}
+use Rattle.ab_proofcmd.specs.ab_hypothesis.specs.ab_steps.specs.ProofEffects.{OwesFor}
 use Rattle.ab_states.specs.State as plain
 use Rattle.ab_states.specs.State.{State, Entry}
 use Rattle.ab_states.specs.Reply as reply

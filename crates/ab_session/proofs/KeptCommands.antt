@@ -8,9 +8,9 @@ use Rattle.ab_logic.specs.Worlds.{read}
 use Rattle.ab_logic.specs.declared.world.World.{World}
 use Rattle.ab_logic.proofs.Growing.{grows_not}
 use Rattle.ab_theory.specs.Derivations.{proves, beginning}
-use Rattle.ab_steps.specs.ab_kernel.specs.Layout.{Held, history_of, IsProof}
-use Rattle.ab_steps.specs.ab_kernel.proofs.Earlier.{standing}
-use Rattle.ab_declare.specs.DeclarationAnswers.{IsStated}
+use Rattle.ab_proofcmd.specs.ab_hypothesis.specs.ab_steps.specs.ab_kernel.specs.Layout.{Held, history_of, IsProof}
+use Rattle.ab_proofcmd.specs.ab_hypothesis.specs.ab_steps.specs.ab_kernel.proofs.Earlier.{standing}
+use Rattle.ab_states.specs.ab_specification.specs.ab_declare.specs.DeclarationAnswers.{IsStated}
 use Rattle.ab_effects.specs.ProofCommands.{given_label}
 use Rattle.ab_states.specs.State as plain
 use Rattle.ab_states.specs.State.{Entry}

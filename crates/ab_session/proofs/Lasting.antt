@@ -4,9 +4,9 @@ use Rattle.std.proofs.Common.{◌≡◌, ◌⊎◌, inl, inr, true, false, ℕ, 
 use Rattle.ab_formulas.proofs.KernelSplits.{get_still}
 use Rattle.ab_logic.proofs.Growing.{grows_on}
 use Rattle.ab_logic.specs.WorldGrowth.{Grows}
-use Rattle.ab_steps.specs.ab_kernel.specs.Layout.{Held}
-use Rattle.ab_steps.specs.ab_kernel.proofs.Later.{same_read}
-use Rattle.ab_declare.proofs.Restoring.{restored_grows, restored_itself}
+use Rattle.ab_proofcmd.specs.ab_hypothesis.specs.ab_steps.specs.ab_kernel.specs.Layout.{Held}
+use Rattle.ab_proofcmd.specs.ab_hypothesis.specs.ab_steps.specs.ab_kernel.proofs.Later.{same_read}
+use Rattle.ab_states.specs.ab_specification.specs.ab_declare.proofs.Restoring.{restored_grows, restored_itself}
 use Rattle.ab_states.specs.State.{State}
 use Rattle.ab_session.specs.declared.attempt.Attempt.{Attempt}
 use Rattle.ab_session.specs.declared.command_history.Deed.{Deed}

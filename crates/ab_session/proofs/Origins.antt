@@ -5,11 +5,11 @@ use Rattle.ab_logic.specs.WorldGrowth.{Grows}
 use Rattle.ab_logic.specs.Worlds.{declarations_of, IsWorld}
 use Rattle.ab_logic.specs.declared.world.World.{World}
 use Rattle.ab_logic.proofs.Growing.{grows_on}
-use Rattle.ab_steps.specs.ab_kernel.specs.Layout.{Held, Beyond}
-use Rattle.ab_steps.specs.ab_kernel.proofs.Earlier.{standing, beyond_none}
-use Rattle.ab_declare.specs.declared.moment.Moment.{Moment}
-use Rattle.ab_declare.specs.Moments.{IsMoment, HasMore, IsRestored}
-use Rattle.ab_declare.proofs.Restoring.{restored_is, restored_grows, restored_declares}
+use Rattle.ab_proofcmd.specs.ab_hypothesis.specs.ab_steps.specs.ab_kernel.specs.Layout.{Held, Beyond}
+use Rattle.ab_proofcmd.specs.ab_hypothesis.specs.ab_steps.specs.ab_kernel.proofs.Earlier.{standing, beyond_none}
+use Rattle.ab_states.specs.ab_specification.specs.ab_declare.specs.declared.moment.Moment.{Moment}
+use Rattle.ab_states.specs.ab_specification.specs.ab_declare.specs.Moments.{IsMoment, HasMore, IsRestored}
+use Rattle.ab_states.specs.ab_specification.specs.ab_declare.proofs.Restoring.{restored_is, restored_grows, restored_declares}
 use Rattle.ab_states.specs.State as plain
 use Rattle.ab_states.specs.State.{State, Entry}
 use Rattle.ab_states.specs.Replay as replay

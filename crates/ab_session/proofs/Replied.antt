@@ -4,7 +4,7 @@ use Rattle.std.proofs.Common.{◌≡◌, ◌⊎◌, inl, inr, true, false, ℕ, 
 use Rattle.ab_sigmod.specs.FileLoads.{FilesSeen, Load, no_load}
 use Rattle.ab_logic.specs.Worlds.{declarations_of}
 use Rattle.ab_logic.specs.declared.world.World.{World}
-use Rattle.ab_declare.specs.declared.refusal.Refusal.{Refusal}
+use Rattle.ab_states.specs.ab_specification.specs.ab_declare.specs.declared.refusal.Refusal.{Refusal}
 use Rattle.ab_states.specs.State as plain
 use Rattle.ab_states.specs.State.{State, Entry, with_files}
 use Rattle.ab_states.specs.Reply as reply
@@ -134,8 +134,8 @@ module _ (f g : FilesSeen) (old mid new : Contents) (bytes : List ℕ) (n m : �
   not_refused : (q : Refusal) → r ≡ Refused q → ⊥
   not_refused q e = let bad : false ≡ true = sym (ap (λ x. is_kept (reply_of mid.world x)) e) ∙ one.replied in cc
 
-  replied_freed : IsReplied f g old bytes new n m r
-  replied_freed =
+  replied_freed : (k : ℕ) → IsReplied f g old bytes new n k r
+  replied_freed k =
       let same = same_reply new.world mid.world r one.replied in
       record {
         effect = record {
@@ -163,11 +163,10 @@ pub record IsAccepted (f g : FilesSeen) (old : Contents) (bytes : List ℕ) (new
   pub least : KeepsOneMore (state_of old) bytes (state_of new) → NothingIsLeftOver old new
 
 pub accepted_cut : (f g : FilesSeen) (old mid cut new : Contents) (bytes : List ℕ) (n m k : ℕ) (r : Reply) → IsReplied f g old bytes mid n m r → length (state_of old).kept < length (state_of mid).kept
-    → ((e : Contents) → CameFrom e mid → IsFreed e mid cut) → declarations_of cut.world ≡ declarations_of mid.world → new ≡ cut → k ≡ m → IsAccepted f g old bytes new n k r
-accepted_cut f g old mid cut new bytes n m k r a longer freed declared is same =
+    → ((e : Contents) → CameFrom e mid → IsFreed e mid cut) → declarations_of cut.world ≡ declarations_of mid.world → new ≡ cut → IsAccepted f g old bytes new n k r
+accepted_cut f g old mid cut new bytes n m k r a longer freed declared is =
     subst (λ t. IsAccepted f g old bytes t n k r) (sym is)
-    (subst (λ j. IsAccepted f g old bytes cut n j r) (sym same)
-    (record { replied = replied_freed f g old mid cut bytes n m r a longer freed declared; least = λ more. (free f g old mid cut bytes n m r a longer freed declared).none_over }))
+    (record { replied = replied_freed f g old mid cut bytes n m r a longer freed declared k; least = λ more. (free f g old mid cut bytes n m r a longer freed declared).none_over })
 
 pub accepted_as_is : (f g : FilesSeen) (old mid new : Contents) (bytes : List ℕ) (n m k : ℕ) (r : Reply) → IsReplied f g old bytes mid n m r → length (state_of mid).kept ≤ length (state_of old).kept
     → new ≡ mid → k ≡ m → IsAccepted f g old bytes new n k r

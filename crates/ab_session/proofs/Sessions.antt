@@ -14,12 +14,11 @@ use Rattle.ab_formulas.proofs.Declaring.{theorems_in-append}
 use Rattle.ab_formulas.proofs.KernelSplits.{within}
 use Rattle.ab_theory.specs.Derivations.{History, root, proves, open_goals, IsTreeOf}
 use Rattle.ab_theory.specs.Assumptions.{assumed_by}
-use Rattle.ab_steps.specs.ab_kernel.specs.Layout.{Held, history_of, IsProof}
-use Rattle.ab_steps.specs.ab_kernel.proofs.Later.{same_history, same_read, still_holds, still_proof}
-use Rattle.ab_steps.specs.Progress.{goals_of}
+use Rattle.ab_proofcmd.specs.ab_hypothesis.specs.ab_steps.specs.ab_kernel.specs.Layout.{Held, history_of, IsProof, goals_of}
+use Rattle.ab_proofcmd.specs.ab_hypothesis.specs.ab_steps.specs.ab_kernel.proofs.Later.{same_history, same_read, still_holds, still_proof}
 use Rattle.ab_formulas.specs.NamedGoals.{named}
-use Rattle.ab_declare.specs.DeclarationCommands.{Declares, new_kinds, new_constants, new_predicates}
-use Rattle.ab_declare.specs.DefinitionCommands.{predicate_of, block_with}
+use Rattle.ab_states.specs.ab_specification.specs.ab_declare.specs.DeclarationCommands.{Declares, new_kinds, new_constants, new_predicates}
+use Rattle.ab_states.specs.ab_specification.specs.ab_declare.specs.DefinitionCommands.{predicate_of, block_with}
 use Rattle.ab_states.specs.DerivedTheorems.{IsDerived, AreDerived}
 use Rattle.ab_states.proofs.Assumed.{derived_on, derived_last}
 use Rattle.ab_states.specs.State.{empty}

@@ -5,9 +5,9 @@ use Rattle.ab_store.specs.Marks.{at_mark}
 use Rattle.ab_store.specs.Trees.{Contents as Terms}
 use Rattle.ab_logic.specs.WorldGrowth.{Grows}
 use Rattle.ab_logic.specs.declared.world.World.{World}
-use Rattle.ab_steps.specs.ab_kernel.specs.Layout.{Held, before_steps, Beyond}
-use Rattle.ab_declare.specs.declared.moment.Moment.{Moment}
-use Rattle.ab_declare.specs.Moments.{IsMoment, IsRestored}
+use Rattle.ab_proofcmd.specs.ab_hypothesis.specs.ab_steps.specs.ab_kernel.specs.Layout.{Held, before_steps, Beyond}
+use Rattle.ab_states.specs.ab_specification.specs.ab_declare.specs.declared.moment.Moment.{Moment}
+use Rattle.ab_states.specs.ab_specification.specs.ab_declare.specs.Moments.{IsMoment, IsRestored}
 use Rattle.ab_session.specs.declared.attempt.Attempt.{Attempt}
 use Rattle.ab_session.specs.declared.command_history.Deed.{Deed}
 use Rattle.ab_session.specs.declared.command_history.Deed.TheVariants.{Went, Began, Completed, GaveUp}

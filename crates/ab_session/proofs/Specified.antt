@@ -12,9 +12,9 @@ use Rattle.ab_sigmod.specs.declared.spec.Spec.{Spec}
 use Rattle.ab_sigmod.specs.Outcomes.{files_of, WasRead, WasRefused}
 use Rattle.ab_logic.specs.Worlds.{declarations_of}
 use Rattle.ab_logic.specs.declared.world.World.{World}
-use Rattle.ab_declare.specs.declared.refusal.Refusal.{Refusal}
-use Rattle.ab_declare.specs.declared.refusal.Refusal.TheVariants.{Clash}
-use Rattle.ab_declare.proofs.Restoring.{restored_grows, restored_declares}
+use Rattle.ab_states.specs.ab_specification.specs.ab_declare.specs.declared.refusal.Refusal.{Refusal}
+use Rattle.ab_states.specs.ab_specification.specs.ab_declare.specs.declared.refusal.Refusal.TheVariants.{Clash}
+use Rattle.ab_states.specs.ab_specification.specs.ab_declare.proofs.Restoring.{restored_grows, restored_declares}
 use Rattle.ab_states.specs.ab_specification.specs.ItemDeclarations.{ItemDeclares, new_kinds, new_constants, new_clause, no_declaration}
 use Rattle.ab_states.specs.ab_specification.specs.FileDeclarations.{PlacedItem, items_of, AllDeclare, no_item, one_more}
 use Rattle.ab_states.specs.ab_specification.specs.SpecificationAnswers.{IsSpecified, IsUnspecified}

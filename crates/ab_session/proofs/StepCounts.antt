@@ -1,7 +1,7 @@
 -- Steps that are taken back one after another.
 use Rattle.std.proofs.Common.{◌≡◌, ◌⊎◌, inl, inr, ℕ, ◌+◌, ◌-◌, ◌<◌, ◌≤◌, length, refl, ◌∙◌, ap, arith}
-use Rattle.ab_steps.specs.ab_kernel.specs.Layout.{Held, before_last, before_steps, Beyond}
-use Rattle.ab_steps.specs.ab_kernel.proofs.Earlier.{shorter, before_more}
+use Rattle.ab_proofcmd.specs.ab_hypothesis.specs.ab_steps.specs.ab_kernel.specs.Layout.{Held, before_last, before_steps, Beyond}
+use Rattle.ab_proofcmd.specs.ab_hypothesis.specs.ab_steps.specs.ab_kernel.proofs.Earlier.{shorter, before_more}
 
 -- how far steps were taken back
 pub record IsBack (count : ℕ) (old now : Held) : Type 0 where

@@ -3,7 +3,7 @@ use Rattle.std.specs.Prelude.{Result, Ok, Err, IfOk, OnOk, OnErr, is_ok, is_err}
 use Rattle.std.proofs.Common.{◌≡◌, inl, inr, true, false, ℕ, ◌+◌, ◌<◌, List, [], ◌∷◌, length, None, is_some, refl, sym, ◌∙◌, ap, subst, arith, length-append}
 use Rattle.std.proofs.lemmas.List.{length-map, length-reverse}
 use Rattle.ab_grammar.specs.CommandTrees as told
-use Rattle.ab_declare.specs.declared.refusal.Refusal.TheVariants.{NothingToUndo}
+use Rattle.ab_states.specs.ab_specification.specs.ab_declare.specs.declared.refusal.Refusal.TheVariants.{NothingToUndo}
 use Rattle.ab_states.specs.State as plain
 use Rattle.ab_states.specs.State.{State, Entry, is_open}
 use Rattle.ab_states.specs.Reply as reply

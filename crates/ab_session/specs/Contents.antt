@@ -4,9 +4,8 @@ use Rattle.ab_sigmod.specs.FileOrder as file
 use Rattle.ab_sigmod.specs.Outcomes.{files_of}
 use Rattle.ab_logic.specs.Worlds.{read, declarations_of}
 use Rattle.ab_logic.specs.declared.world.World.{World}
-use Rattle.ab_steps.specs.ab_kernel.specs.Layout.{Held, history_of}
+use Rattle.ab_proofcmd.specs.ab_hypothesis.specs.ab_steps.specs.ab_kernel.specs.Layout.{Held, history_of, goals_of}
 use Rattle.ab_theory.specs.Assumptions.{assumed_by}
-use Rattle.ab_steps.specs.Progress.{goals_of}
 use Rattle.ab_formulas.specs.NamedGoals.{named}
 use Rattle.ab_states.specs.State as plain
 use Rattle.ab_states.specs.State.{State, Entry}

@@ -1,7 +1,7 @@
 -- What lasts from a session to a later one, and a session that a command leaves as it was.
 use Rattle.std.specs.Prelude.{◌≡◌, ℕ, List, ◌++◌, Some, slice_get}
 use Rattle.ab_logic.specs.WorldGrowth.{Grows}
-use Rattle.ab_steps.specs.ab_kernel.specs.Layout.{Held, history_of}
+use Rattle.ab_proofcmd.specs.ab_hypothesis.specs.ab_steps.specs.ab_kernel.specs.Layout.{Held, history_of}
 use Rattle.ab_session.specs.Contents.{Contents, state_of}
 
 -- WHAT THE FIRST SESSION HOLDS LASTS: each id of its world reads in the second's as it did, and each theorem, by its place, has the

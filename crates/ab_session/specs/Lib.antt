@@ -10,4 +10,3 @@ pub mod Remains
 pub mod LatestNames
 -- Libraries that the crates above name through this one.
 pub use Rattle.ab_states
-pub use Rattle.ab_steps

@@ -2,8 +2,8 @@
 -- session was shown when it was the present one, so going back only has to arrive at it.
 use Rattle.std.specs.Prelude.{◌≡◌, ℕ, List, [], ◌∷◌, ◌++◌, length, Option, Some, None}
 use Rattle.ab_logic.specs.WorldGrowth.{Grows}
-use Rattle.ab_steps.specs.ab_kernel.specs.Layout.{Held, Beyond}
-use Rattle.ab_declare.specs.Moments.{IsMoment, IsRestored}
+use Rattle.ab_proofcmd.specs.ab_hypothesis.specs.ab_steps.specs.ab_kernel.specs.Layout.{Held, Beyond}
+use Rattle.ab_states.specs.ab_specification.specs.ab_declare.specs.Moments.{IsMoment, IsRestored}
 use Rattle.ab_states.specs.Replay.{IsReplayed}
 use Rattle.ab_session.specs.declared.attempt.Attempt.{Attempt}
 use Rattle.ab_session.specs.declared.command_history.Deed.{Deed}

@@ -9,15 +9,15 @@ use Rattle.ab_logic.specs.Worlds.{read, declarations_of}
 use Rattle.ab_logic.specs.declared.world.World.{World}
 use Rattle.ab_theory.specs.Derivations.{IsTreeOf}
 use Rattle.ab_theory.specs.Assumptions.{assumed_by}
-use Rattle.ab_steps.specs.ab_kernel.specs.Layout.{Held, history_of, IsProof, Beyond}
+use Rattle.ab_proofcmd.specs.ab_hypothesis.specs.ab_steps.specs.ab_kernel.specs.Layout.{Held, history_of, IsProof, Beyond, goals_of}
 use Rattle.ab_meaning.specs.Refusals.{unknown, clash, type_clash, untyped, no_hypothesis, wrong_shape, mark, no_match, not_pattern, unresolved, names_spent}
-use Rattle.ab_steps.specs.Progress.{goals_of, Advances}
-use Rattle.ab_steps.specs.ProofEffects.{OwesFor}
-use Rattle.ab_steps.specs.declared.fault.ProofCommandFault.{ProofCommandFault}
-use Rattle.ab_steps.specs.declared.fault.ProofCommandFault.TheVariants.{Unknown, Clash, TypeClash, Untyped, NoHypothesis, WrongShape, Mark, NoMatch, NotPattern, Unresolved, NamesSpent, Memory}
-use Rattle.ab_declare.specs.declared.refusal.Refusal.{Refusal}
-use Rattle.ab_declare.specs.Moments.{IsRestored}
-use Rattle.ab_declare.specs.Refusals.{refusal_for}
+use Rattle.ab_proofcmd.specs.ab_hypothesis.specs.ab_steps.specs.Progress.{Advances}
+use Rattle.ab_proofcmd.specs.ab_hypothesis.specs.ab_steps.specs.ProofEffects.{OwesFor}
+use Rattle.ab_proofcmd.specs.ab_hypothesis.specs.ab_steps.specs.declared.fault.ProofCommandFault.{ProofCommandFault}
+use Rattle.ab_proofcmd.specs.ab_hypothesis.specs.ab_steps.specs.declared.fault.ProofCommandFault.TheVariants.{Unknown, Clash, TypeClash, Untyped, NoHypothesis, WrongShape, Mark, NoMatch, NotPattern, Unresolved, NamesSpent, Memory}
+use Rattle.ab_states.specs.ab_specification.specs.ab_declare.specs.declared.refusal.Refusal.{Refusal}
+use Rattle.ab_states.specs.ab_specification.specs.ab_declare.specs.Moments.{IsRestored}
+use Rattle.ab_states.specs.ab_specification.specs.ab_declare.specs.Refusals.{refusal_for}
 use Rattle.ab_states.specs.ProofCommandEffects.{Makes, Denies}
 use Rattle.ab_states.specs.Reply.{reply_of, done}
 use Rattle.ab_states.specs.declared.reply.Reply.{Reply}

@@ -4,9 +4,9 @@ use Rattle.ab_formulas.specs.Declarations.{Declarations, theorems_in}
 use Rattle.ab_logic.specs.Worlds.{declarations_of}
 use Rattle.ab_logic.specs.declared.world.World.{World}
 use Rattle.ab_theory.specs.Derivations.{Derivation}
-use Rattle.ab_steps.specs.ab_kernel.specs.Layout.{history_of}
-use Rattle.ab_declare.specs.declared.refusal.Refusal.{Refusal}
-use Rattle.ab_declare.specs.Moments.{IsMoment}
+use Rattle.ab_proofcmd.specs.ab_hypothesis.specs.ab_steps.specs.ab_kernel.specs.Layout.{history_of}
+use Rattle.ab_states.specs.ab_specification.specs.ab_declare.specs.declared.refusal.Refusal.{Refusal}
+use Rattle.ab_states.specs.ab_specification.specs.ab_declare.specs.Moments.{IsMoment}
 use Rattle.ab_states.specs.DerivedTheorems.{IsDerived, IsProved}
 use Rattle.ab_sigmod.specs.FileLoads.{FilesSeen}
 use Rattle.ab_states.specs.State.{State, Entry, plain}

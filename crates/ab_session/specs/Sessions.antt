@@ -5,8 +5,7 @@ use Rattle.ab_formulas.specs.Formulas.{IsSentence}
 use Rattle.ab_logic.specs.Worlds.{read, Holds, declarations_of, IsWorld}
 use Rattle.ab_logic.specs.declared.world.World.{World}
 use Rattle.ab_theory.specs.Derivations.{root, proves}
-use Rattle.ab_steps.specs.ab_kernel.specs.Layout.{Held, history_of, HoldsProof, IsProof}
-use Rattle.ab_steps.specs.Progress.{goals_of}
+use Rattle.ab_proofcmd.specs.ab_hypothesis.specs.ab_steps.specs.ab_kernel.specs.Layout.{Held, history_of, HoldsProof, IsProof, goals_of}
 use Rattle.ab_states.specs.DerivedTheorems.{IsDerived}
 use Rattle.ab_session.specs.declared.attempt.Attempt.{Attempt}
 use Rattle.ab_session.specs.Contents.{Contents}

@@ -4,13 +4,13 @@ ghost use Rattle.ab_term.specs.Terms.{Read};
 ghost use Rattle.ab_formulas.specs.Declarations.{ArePlacesUpTo, a_theorem, names_at, theorems_in};
 ghost use Rattle.ab_logic.specs.Worlds.{declarations_of, IsWorld};
 ghost use Rattle.ab_theory.specs.Assumptions.{all_places, assumed_by};
-ghost use Rattle.ab_steps.specs.ab_kernel.specs.Debts.{debt_of};
-ghost use Rattle.ab_steps.specs.ab_kernel.specs.Layout.{history_of};
+ghost use Rattle.ab_proofcmd.specs.ab_hypothesis.specs.ab_steps.specs.ab_kernel.specs.Debts.{debt_of};
+ghost use Rattle.ab_proofcmd.specs.ab_hypothesis.specs.ab_steps.specs.ab_kernel.specs.Layout.{history_of};
 ghost use Rattle.ab_session.specs.PlaceMarks.{Marks};
 
 use crate::place_marks::{mark_places, marked_places};
 use ab_logic::World;
-use ab_steps::kernel::{Debt, Proof};
+use ab_proofcmd::hypothesis::steps::kernel::{Debt, Proof};
 use ab_store::name::Name;
 use std::alloc::{AllocError, Global};
 

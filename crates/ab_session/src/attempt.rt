@@ -1,6 +1,6 @@
 //! A proof that is being made.
 
-use ab_steps::kernel::Proof;
+use ab_proofcmd::hypothesis::steps::kernel::Proof;
 use ab_store::TermId;
 use ab_store::name::Name;
 

@@ -4,8 +4,8 @@ ghost use Rattle.std.specs.List.{list_any};
 ghost use Rattle.ab_session.specs.declared.command_history.Kept.{Kept as AKept};
 
 use crate::attempt::Attempt;
-use ab_declare::Moment;
 use ab_sigmod::Spec;
+use ab_states::specification::declare::Moment;
 use ab_store::TermId;
 use ab_store::name::Name;
 use std::alloc::{AllocError, Global};

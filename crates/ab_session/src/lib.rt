@@ -14,5 +14,4 @@ mod refusals;
 mod session;
 
 pub use ab_states as states;
-pub use ab_steps as steps;
 pub use session::{BackFault, Session};

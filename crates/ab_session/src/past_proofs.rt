@@ -1,13 +1,13 @@
 //! The open proof as it was before a command.
 ghost use Rattle.std.specs.Prelude.{◌≡◌, List, Option, length};
-ghost use Rattle.ab_steps.specs.ab_kernel.specs.Layout.{Held, Beyond};
+ghost use Rattle.ab_proofcmd.specs.ab_hypothesis.specs.ab_steps.specs.ab_kernel.specs.Layout.{Held, Beyond};
 ghost use Rattle.ab_session.specs.Origins.{CameBy};
 ghost use Rattle.ab_session.specs.declared.attempt.Attempt.{Attempt as AnAttempt};
 
 use crate::attempt::Attempt;
 use crate::command_history::Deed;
 use ab_logic::World;
-use ab_steps::kernel::Proof;
+use ab_proofcmd::hypothesis::steps::kernel::Proof;
 use ab_store::types::Steps;
 
 /// Takes steps back until only so many stand. Each node is then as it was.

@@ -5,19 +5,19 @@ ghost use Rattle.ab_grammar.specs.CommandTrees.{search};
 ghost use Rattle.ab_syntax.specs.Commands.{proof_command_of};
 ghost use Rattle.ab_formulas.specs.NewNames.{Label};
 ghost use Rattle.ab_logic.specs.Worlds.{IsWorld};
-ghost use Rattle.ab_steps.specs.ab_kernel.specs.Layout.{history_of, IsProof};
-ghost use Rattle.ab_steps.specs.Progress.{goals_of, Advances, Follows};
-ghost use Rattle.ab_steps.specs.ProofEffects.{OwesFor};
+ghost use Rattle.ab_proofcmd.specs.ab_hypothesis.specs.ab_steps.specs.ab_kernel.specs.Layout.{history_of, IsProof, goals_of};
+ghost use Rattle.ab_proofcmd.specs.ab_hypothesis.specs.ab_steps.specs.Progress.{Advances, Follows};
+ghost use Rattle.ab_proofcmd.specs.ab_hypothesis.specs.ab_steps.specs.ProofEffects.{OwesFor};
 ghost use Rattle.ab_effects.specs.ProofCommands.{given_label};
-ghost use Rattle.ab_proofcmd.specs.SupportedCommands.{IsBuilt};
+ghost use Rattle.ab_proofcmd.specs.RowCommands.{HasRow};
 ghost use Rattle.ab_session.specs.ProofAttempts.{IsMade, IsDenied};
 
-use crate::refusals::told;
-use ab_declare::Refusal;
+use crate::refusals::refusal_of_fault;
 use ab_logic::World;
 use ab_proofcmd::apply_proof_command;
+use ab_proofcmd::hypothesis::steps::kernel::Proof;
 use ab_search::{SearchFault, search};
-use ab_steps::kernel::Proof;
+use ab_states::specification::declare::Refusal;
 use ab_store::name::Name;
 use ab_store::types::Steps;
 use ab_syntax::ProofCommand;
@@ -60,7 +60,7 @@ fn by_row<L>(
     requires world { IsWorld world.old }
     requires proof { IsProof world.old proof.old }
     requires open { goals_of world.old proof.old ≢ [] }
-    requires built { IsBuilt (proof_command_of command.now) }
+    requires row { HasRow (proof_command_of command.now) }
     ensures advances { Advances world.old proof.old world.new proof.new }
     ensures owes { IfOk result (λ o. IsNone o → OwesFor (proof_command_of command.now) world.old proof.old world.new proof.new) }
     ensures made { IfOk result (λ o. IsNone o → IsMade (given_label (option_copied label.entry)) (proof_command_of command.now) world.old proof.old world.new proof.new) }
@@ -70,7 +70,7 @@ fn by_row<L>(
 {
     match apply_proof_command(alloc, world, proof, label, command, steps) {
         Ok(()) => Ok(None),
-        Err(fault) => Ok(Some(told(fault)?)),
+        Err(fault) => Ok(Some(refusal_of_fault(fault)?)),
     }
 }
 

@@ -3,19 +3,19 @@ ghost use Rattle.std.specs.Prelude.{◌≡◌, Some, IfOk};
 ghost use Rattle.ab_sigmod.specs.FileOrder.{Fault};
 ghost use Rattle.ab_sigmod.specs.Outcomes.{fault_of};
 ghost use Rattle.ab_states.specs.Reply.{unread_for, files_unread_for};
-ghost use Rattle.ab_declare.specs.Refusals.{here};
+ghost use Rattle.ab_states.specs.ab_specification.specs.ab_declare.specs.Refusals.{here};
 ghost use Rattle.ab_states.specs.ab_specification.specs.FileDeclarations.{place_in};
 ghost use Rattle.ab_session.specs.ProofAttempts.{TellsOf};
 
 use ab_command::Cause;
-use ab_declare::{Chain, Place, Refusal};
+use ab_proofcmd::hypothesis::steps::ProofCommandFault;
 use ab_sigmod::SpecFault;
-use ab_steps::ProofCommandFault;
+use ab_states::specification::declare::{Chain, Place, Refusal};
 use ab_store::name::Name;
 use std::alloc::AllocError;
 
 /// The refusal of bytes that say no command.
-pub(crate) fn unread(cause: Cause) -> Refusal
+pub(crate) fn refusal_of_cause(cause: Cause) -> Refusal
     ensures { result ≡ unread_for cause }
 {
     match cause {
@@ -54,7 +54,7 @@ pub(crate) fn files_unread(fault: SpecFault) -> Result<Refusal, AllocError>
 }
 
 /// The refusal that the fault of a proof command is.
-pub(crate) fn told(fault: ProofCommandFault) -> Result<Refusal, AllocError>
+pub(crate) fn refusal_of_fault(fault: ProofCommandFault) -> Result<Refusal, AllocError>
     ensures { IfOk result (TellsOf fault) }
 {
     match fault {

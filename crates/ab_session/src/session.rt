@@ -4,13 +4,13 @@
 ghost use Rattle.std.specs.Prelude.{◌≡◌, ◌≢◌, ◌↔◌, ◌<◌, ◌≤◌, ℕ, ◌+◌, List, [], true, false, None, length, map, slice_get, is_some, IfOk, IfSome, IsSome, IsErr, IsTrue, IsFalse, OnOk, OnErr};
 ghost use Rattle.std.specs.Option.{option_map, option_copied};
 ghost use Rattle.ab_grammar.specs.CommandTrees as told;
-ghost use Rattle.ab_syntax.specs.SyntaxTrees as trees;
+ghost use Rattle.ab_syntax.specs.ab_expressions.specs.SyntaxTrees as trees;
 ghost use Rattle.ab_syntax.specs.Commands.{command_of, proof_command_of, defined_of, clause_of};
 ghost use Rattle.ab_formulas.specs.Declarations.{theorems_in};
 ghost use Rattle.ab_logic.specs.SequentReadings.{sequent_of, HoldsSequent};
 ghost use Rattle.ab_logic.specs.Worlds.{declarations_of, IsWorld};
-ghost use Rattle.ab_steps.specs.ab_kernel.specs.Layout.{IsProof};
-ghost use Rattle.ab_declare.specs.declared.refusal.Refusal.{Refusal as ARefusal};
+ghost use Rattle.ab_proofcmd.specs.ab_hypothesis.specs.ab_steps.specs.ab_kernel.specs.Layout.{IsProof};
+ghost use Rattle.ab_states.specs.ab_specification.specs.ab_declare.specs.declared.refusal.Refusal.{Refusal as ARefusal};
 ghost use Rattle.ab_formulas.specs.NamedGoals.{named};
 ghost use Rattle.ab_sigmod.specs.Outcomes.{seen, files_of};
 ghost use Rattle.ab_states.specs.State.{empty, with_files, is_open, is_specified, goals_of, goals_in};
@@ -30,20 +30,20 @@ ghost use Rattle.ab_session.specs.LatestNames.{IsFreed};
 use crate::attempt::Attempt;
 use crate::attempt_steps::{Outcome, advance};
 use crate::command_history::{Before, Deed, Kept, keep, make_room, reads_files};
-use crate::latest_marks::mark_to_latest;
+use crate::latest_marks::{last_type_of_latest, mark_to_latest};
 use crate::past_proofs::reopen;
-use crate::refusals::{files_unread, unread};
+use crate::refusals::{files_unread, refusal_of_cause};
 use ab_command::{Unread, read_command};
-use ab_declare::{
-    Moment, Refusal, Statement, declare_constants, declare_definition, declare_kinds, state_formula,
-};
 use ab_io::Files;
 use ab_logic::{Sequent, World};
 use ab_proof_marks::remains::drop_unnamed;
+use ab_proofcmd::hypothesis::steps::kernel::Proof;
 use ab_sigmod::{Spec, read_spec};
 use ab_states::Reply;
+use ab_states::specification::declare::{
+    Moment, Refusal, Statement, declare_constants, declare_definition, declare_kinds, state_formula,
+};
 use ab_states::specification::declare_specification;
-use ab_steps::kernel::Proof;
 use ab_store::TermId;
 use ab_store::name::Name;
 use ab_store::types::Steps;
@@ -225,16 +225,16 @@ impl Session {
         match read_command(self.alloc, command, self.attempt.is_some()) {
             Ok(Command::Specification(name)) => self.specify(files, command, &name, steps),
             Ok(said) => self.carry_out(command, &said, steps),
-            Err(Unread::Refused(cause)) => Ok(Reply::Refused(unread(cause))),
+            Err(Unread::Refused(cause)) => Ok(Reply::Refused(refusal_of_cause(cause))),
             Err(Unread::Memory(fault)) => Err(fault),
         }
     }
 
-    /// Drops what stands at the ends of the world behind a kept command and isn't named.
+    /// Drops what stands at the ends of the world behind a kept command and isn't named, and counts a step for each type.
     fn drop_leftovers<L>(&mut self, steps: &mut Steps<L>)
         ensures freed { (e : Contents) → CameFrom e self.old → IsFreed e self.old self.new }
         ensures declared { declarations_of self.new.world ≡ declarations_of self.old.world }
-        ensures steps { steps.new ≡ steps.old }
+        ensures steps { steps.new + length self.new.world.types ≡ steps.old + length self.old.world.types }
     {
         let Some(latest) = self.kept.last() else {
             return;
@@ -248,7 +248,16 @@ impl Session {
             self.attempt.as_ref(),
             &self.proofs,
         );
-        drop_unnamed(world, &before.mark, before.additions, named, steps);
+        let named_type = last_type_of_latest(latest, self.attempt.as_ref(), &self.proofs);
+        drop_unnamed(
+            world,
+            &before.mark,
+            before.types,
+            before.additions,
+            named,
+            named_type,
+            steps,
+        );
     }
 
     /// Takes the last kept command back: the state is the one that replaying the others gives. It takes no memory, and counts a step for each entry of the table of types and each

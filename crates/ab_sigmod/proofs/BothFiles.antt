@@ -1,7 +1,7 @@
 -- The two files of a specification: its signature, and then its module.
 use Rattle.std.proofs.Common.{◌≡◌, ℕ, List, [], ◌∷◌, map, ap, sym, ◌∙◌, subst}
 use Rattle.ab_grammar.specs.declared.file.FileKind.TheVariants.{Signature, Module}
-use Rattle.ab_syntax.specs.Items.{list_of}
+use Rattle.ab_syntax.specs.ab_expressions.specs.Items.{list_of}
 use Rattle.ab_sigmod.specs.declared.spec.SpecFile.{SpecFile}
 use Rattle.ab_sigmod.specs.declared.spec.Spec.{Spec}
 use Rattle.ab_sigmod.specs.FileNames.{File}

@@ -17,7 +17,7 @@ use Rattle.ab_grammar.specs.FileTable.{TitleText, ItemText}
 use Rattle.ab_grammar.specs.FileTokens.{item_tokens}
 use Rattle.ab_grammar.proofs.OneFile.{one_title, one_item}
 use Rattle.ab_grammar.proofs.OneAnswer.{text_or_syntax, text_or_nested, syntax_or_nested, one_syntax, one_nested}
-use Rattle.ab_syntax.specs.Tokens.{token_of, tokens_from}
+use Rattle.ab_syntax.specs.ab_expressions.specs.Tokens.{token_of, tokens_from}
 use Rattle.ab_syntax.specs.Faults.{place_past}
 use Rattle.ab_sigmod.specs.FileNames.{File, slash, IsTitle}
 use Rattle.ab_sigmod.specs.FileTexts.{TextFault, syntax, too_nested, wrong_title, Divided, IsRefused, for_its_form, for_its_depth, ItemRead, ItemsRead, none_yet, one_more, Titled, Begins, IsFaulty, no_tokens, no_title, other_title, no_item}

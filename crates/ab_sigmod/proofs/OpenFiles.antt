@@ -4,7 +4,7 @@ use Rattle.std.proofs.Math.Seq.{take-append_seam}
 use Rattle.std.proofs.lemmas.List.{map-append, length-map, take-map, drop-map}
 use Rattle.ab_lex.specs.declared.token.Token.{Token as Lexed}
 use Rattle.ab_grammar.specs.FileTrees.{Item}
-use Rattle.ab_syntax.specs.Items.{list_of}
+use Rattle.ab_syntax.specs.ab_expressions.specs.Items.{list_of}
 use Rattle.ab_sigmod.specs.declared.progress.OpenFile.{OpenFile}
 use Rattle.ab_sigmod.specs.declared.spec.SpecFile.{SpecFile}
 use Rattle.ab_sigmod.specs.FileNames.{File, name_of}

@@ -9,17 +9,17 @@ use Rattle.ab_grammar.specs.Nesting.{blamed}
 use Rattle.ab_grammar.specs.Language.{SyntaxAt, TooNestedAt}
 use Rattle.ab_grammar.specs.CommandForms.{Form}
 use Rattle.ab_grammar.specs.FileTokens.{sentence}
-use Rattle.ab_syntax.specs.Tokens.{token_of, tokens_from}
+use Rattle.ab_syntax.specs.ab_expressions.specs.Tokens.{token_of, tokens_from}
 use Rattle.ab_syntax.specs.Faults.{place_past}
-use Rattle.ab_syntax.specs.declared.fault.ParseFault.{ParseFault}
-use Rattle.ab_syntax.specs.declared.fault.ParseFault.TheVariants.{Syntax, TooNested, Memory}
+use Rattle.ab_syntax.specs.ab_expressions.specs.declared.fault.ParseFault.{ParseFault}
+use Rattle.ab_syntax.specs.ab_expressions.specs.declared.fault.ParseFault.TheVariants.{Syntax, TooNested, Memory}
 use Rattle.ab_lex.specs.Tokens.{TokensOf}
 use Rattle.ab_grammar.specs.declared.file.FileKind.{FileKind}
 use Rattle.ab_grammar.specs.FileTrees.{Item}
 use Rattle.ab_grammar.specs.FileTable.{TitleText, ItemText}
 use Rattle.ab_grammar.specs.FileTokens.{item_tokens}
 use Rattle.ab_grammar.specs.Language.{Accepted}
-use Rattle.ab_syntax.specs.Tokens.{StandIn}
+use Rattle.ab_syntax.specs.ab_expressions.specs.Tokens.{StandIn}
 use Rattle.ab_syntax.proofs.Standings.{tokens_stand}
 use Rattle.ab_sigmod.specs.FileNames.{File, slash, IsTitle}
 use Rattle.ab_sigmod.specs.declared.file_text.TextStop.{TextStop}

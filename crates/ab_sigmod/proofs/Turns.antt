@@ -3,12 +3,12 @@ use Rattle.std.proofs.Common.{◌≡◌, ◌<◌, ℕ, List, [], ◌∷◌, ◌+
 use Rattle.ab_lex.specs.declared.token.Token.{Token as Lexed}
 use Rattle.ab_grammar.specs.declared.file.FileKind.{FileKind}
 use Rattle.ab_grammar.specs.FileTrees.{accumulation}
-use Rattle.ab_syntax.specs.declared.items.Items.{Items}
-use Rattle.ab_syntax.specs.declared.fault.ParseFault.{ParseFault}
+use Rattle.ab_syntax.specs.ab_expressions.specs.declared.items.Items.{Items}
+use Rattle.ab_syntax.specs.ab_expressions.specs.declared.fault.ParseFault.{ParseFault}
 use Rattle.ab_syntax.specs.declared.spec_item.SpecItem.{SpecItem}
 use Rattle.ab_syntax.specs.declared.spec_item.FileItem.{FileItem}
 use Rattle.ab_syntax.specs.declared.spec_item.FileItem.TheVariants.{Own, Accumulation}
-use Rattle.ab_syntax.specs.Items.{list_of}
+use Rattle.ab_syntax.specs.ab_expressions.specs.Items.{list_of}
 use Rattle.ab_syntax.specs.FileItems.{own_item_of}
 use Rattle.ab_sigmod.specs.declared.file_text.TextStop.{TextStop}
 use Rattle.ab_sigmod.specs.declared.text.FileText.{FileText}

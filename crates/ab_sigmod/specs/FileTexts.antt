@@ -11,7 +11,7 @@ use Rattle.ab_grammar.specs.CommandForms.{Form}
 use Rattle.ab_grammar.specs.FileTrees.{Item}
 use Rattle.ab_grammar.specs.FileTable.{TitleText, ItemText}
 use Rattle.ab_grammar.specs.FileTokens.{item_tokens, sentence}
-use Rattle.ab_syntax.specs.Tokens.{tokens_from}
+use Rattle.ab_syntax.specs.ab_expressions.specs.Tokens.{tokens_from}
 use Rattle.ab_syntax.specs.Faults.{place_past}
 use Rattle.ab_sigmod.specs.FileNames.{File, IsTitle}
 

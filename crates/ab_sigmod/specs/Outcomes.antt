@@ -2,7 +2,7 @@
 use Rattle.std.specs.Prelude.{◌≡◌, ℕ, List, map, Option, Some, None}
 use Rattle.ab_io.specs.Loads.{FileMap}
 use Rattle.ab_io.specs.Plan.{Plan}
-use Rattle.ab_syntax.specs.Items.{list_of}
+use Rattle.ab_syntax.specs.ab_expressions.specs.Items.{list_of}
 use Rattle.ab_syntax.specs.FileItems.{own_item_of}
 use Rattle.ab_sigmod.specs.declared.spec.SpecFile.{SpecFile}
 use Rattle.ab_sigmod.specs.declared.spec.Spec.{Spec}

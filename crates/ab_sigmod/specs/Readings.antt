@@ -3,9 +3,9 @@ use Rattle.std.specs.Prelude.{◌≡◌, ◌<◌, ◌+◌, ℕ, List, [], ◌∷
 use Rattle.ab_lex.specs.declared.token.Token.{Token as Lexed}
 use Rattle.ab_grammar.specs.declared.file.FileKind.{FileKind}
 use Rattle.ab_grammar.specs.FileTrees.{Item}
-use Rattle.ab_syntax.specs.declared.items.Items.{Items}
+use Rattle.ab_syntax.specs.ab_expressions.specs.declared.items.Items.{Items}
 use Rattle.ab_syntax.specs.declared.spec_item.SpecItem.{SpecItem}
-use Rattle.ab_syntax.specs.Items.{list_of}
+use Rattle.ab_syntax.specs.ab_expressions.specs.Items.{list_of}
 use Rattle.ab_syntax.specs.FileItems.{own_item_of}
 use Rattle.std.specs.Prelude.{Vec}
 use Rattle.std.specs.Global.{Global}

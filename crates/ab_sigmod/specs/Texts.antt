@@ -6,11 +6,11 @@ use Rattle.ab_lex.specs.Tokens.{TokensOf, FaultOf, place_of}
 use Rattle.ab_grammar.specs.declared.file.FileKind.{FileKind}
 use Rattle.ab_grammar.specs.FileTable.{ItemText}
 use Rattle.ab_grammar.specs.FileTokens.{item_tokens}
-use Rattle.ab_syntax.specs.declared.fault.ParseFault.{ParseFault}
-use Rattle.ab_syntax.specs.declared.fault.ParseFault.TheVariants as parse
+use Rattle.ab_syntax.specs.ab_expressions.specs.declared.fault.ParseFault.{ParseFault}
+use Rattle.ab_syntax.specs.ab_expressions.specs.declared.fault.ParseFault.TheVariants as parse
 use Rattle.ab_syntax.specs.declared.spec_item.FileItem.{FileItem}
 use Rattle.ab_syntax.specs.FileItems.{item_of}
-use Rattle.ab_syntax.specs.Tokens.{StandIn, tokens_from}
+use Rattle.ab_syntax.specs.ab_expressions.specs.Tokens.{StandIn, tokens_from}
 use Rattle.ab_sigmod.specs.declared.file_text.TextStop.{TextStop}
 use Rattle.ab_sigmod.specs.declared.file_text.TextStop.TheVariants.{Syntax, TooNested, WrongTitle, Memory}
 use Rattle.ab_sigmod.specs.declared.text.FileText.{FileText}

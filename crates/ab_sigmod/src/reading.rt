@@ -1,6 +1,6 @@
 //! The files of a specification, one after another.
 ghost use Rattle.std.specs.Prelude.{◌≡◌, ◌≤◌, ◌↔◌, ◌∷◌, ◌++◌, List, [], map, IfOk, IfErr, IsTrue};
-ghost use Rattle.ab_syntax.specs.Items.{list_of};
+ghost use Rattle.ab_syntax.specs.ab_expressions.specs.Items.{list_of};
 ghost use Rattle.ab_sigmod.specs.FileNames.{name_of};
 ghost use Rattle.ab_sigmod.specs.FileOrder.{asked};
 ghost use Rattle.ab_sigmod.specs.Outcomes.{seen, read_of, fault_of, WasRead, IfRefused};

@@ -97,7 +97,7 @@ variables_same n types others (x ∷ xs) all =
     ∙ ap (λ vs. record { number = n; type = others x; hint = x } ∷ vs) (variables_same (suc n) types others xs (All-tail (λ y. types y ≡ others y) x xs all))
 
 -- WHAT IS KEPT is one
-one_kept : (sg : Signature) (n : ℕ) (e : Parts) (A B : Ty) (k l : Clause) → IsKeptAs sg n e A B k → IsKeptAs sg n e A B l → k ≡ l
+pub one_kept : (sg : Signature) (n : ℕ) (e : Parts) (A B : Ty) (k l : Clause) → IsKeptAs sg n e A B k → IsKeptAs sg n e A B l → k ≡ l
 one_kept sg n e A B k l a b =
     let r = a.one.reading in
     let q = b.one.reading in
@@ -110,7 +110,7 @@ one_kept sg n e A B k l a b =
     ∙ (ap (λ t. kept_clause (closes_body A (normal_form sg [] q.head)) (variables_from n r.types names) (normal_form sg [] q.head) (normal_form sg [] t)) same.1
     ∙ (ap (λ vs. kept_clause (closes_body A (normal_form sg [] q.head)) vs (normal_form sg [] q.head) (normal_form sg [] q.body)) (variables_same n r.types q.types names typed) ∙ sym b.is)))
 
-one_not_several : (n : ℕ) (names : List Name) (e : Parts) (A B : Ty) (p : ℕ) → HasOneReading (variable_from n names) e A B → IsFirstOpen (variable_from n names) e A B p → ⊥
+pub one_not_several : (n : ℕ) (names : List Name) (e : Parts) (A B : Ty) (p : ℕ) → HasOneReading (variable_from n names) e A B → IsFirstOpen (variable_from n names) e A B p → ⊥
 one_not_several n names e A B p one several =
     let d = several.differ in
     let x = one.alone d.one in
@@ -119,7 +119,7 @@ one_not_several n names e A B p one several =
     let second = given_same n names d.one.reads_body d.other.reads_body (x.1 ∙ sym y.1) in
     d.apart (ap (λ l. get_or l several.number prop) (joined_same d.one.in_head d.one.in_body d.other.in_head d.other.in_body first second))
 
-one_place : (n : ℕ) (names : List Name) (e : Parts) (A B : Ty) (p q : ℕ) → IsFirstOpen (variable_from n names) e A B p → IsFirstOpen (variable_from n names) e A B q → p ≡ q
+pub one_place : (n : ℕ) (names : List Name) (e : Parts) (A B : Ty) (p q : ℕ) → IsFirstOpen (variable_from n names) e A B p → IsFirstOpen (variable_from n names) e A B q → p ≡ q
 one_place n names e A B p q a b =
     let same : a.number ≡ b.number =
     elim (cases_lt a.number b.number) [

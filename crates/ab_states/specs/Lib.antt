@@ -8,3 +8,4 @@ pub mod StateEffects
 pub mod DerivedTheorems
 -- Libraries that the crates above name through this one.
 pub use Rattle.ab_specification
+pub use Rattle.ab_kernel

@@ -5,6 +5,7 @@ pub mod laws;
 mod names;
 mod reply;
 
+pub use ab_kernel as kernel;
 pub use ab_specification as specification;
 pub use names::Names;
 pub use reply::Reply;

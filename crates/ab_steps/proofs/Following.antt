@@ -8,15 +8,15 @@ use Rattle.ab_formulas.specs.Sequents.{Sequent}
 use Rattle.ab_logic.specs.declared.world.World.{World}
 use Rattle.ab_logic.proofs.Growing.{grows_on, grows_not}
 use Rattle.ab_theory.specs.Steps.{Step}
-use Rattle.ab_kernel.specs.declared.step.KernelFault.{KernelFault}
+use Rattle.ab_kernel.specs.ab_rules.specs.declared.step.KernelFault.{KernelFault}
 use Rattle.ab_theory.specs.Derivations.{Debt, debts_of, debts, History, IsStep, GoalFails, GoalStuck, undone, open_goals, Above}
-use Rattle.ab_kernel.specs.Layout.{Held, history_of, IsProof, before_steps, Beyond}
+use Rattle.ab_kernel.specs.Layout.{Held, history_of, IsProof, before_steps, Beyond, goals_of}
 use Rattle.ab_theory.proofs.Adding.{above_none, above_one, above_on, taken_at, failed_at, stuck_at}
 use Rattle.ab_kernel.proofs.Earlier.{standing, beyond_none, beyond_on}
 use Rattle.ab_kernel.proofs.Later.{same_history}
 use Rattle.ab_formulas.proofs.KernelSplits.{within, at_place, get_here}
 use Rattle.ab_steps.proofs.OwedJust.{OwesJust, just_refined, just_same, just_on}
-use Rattle.ab_steps.specs.Progress.{goals_of, IsAt, Advances, Owes, FollowsOwing, Follows, FollowsBy, Took, TookInto, FailsAt, FailsBy, StuckAt}
+use Rattle.ab_steps.specs.Progress.{IsAt, Advances, Owes, FollowsOwing, Follows, FollowsBy, Took, TookInto, FailsAt, FailsBy, StuckAt}
 
 -- what is owed more, and what follows
 

@@ -2,4 +2,3 @@ pub mod Following
 pub mod Connectives
 pub mod Plain
 pub mod OwedJust
-pub mod GoalSequents

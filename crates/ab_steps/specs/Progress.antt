@@ -8,12 +8,8 @@ use Rattle.ab_logic.specs.declared.world.World.{World}
 use Rattle.ab_unify.specs.Problem.{cells_read}
 use Rattle.ab_theory.specs.Steps.{Step, equal_left, definition_right, definition_left}
 use Rattle.ab_theory.specs.Rules.{NamedRule, Fails, Stuck}
-use Rattle.ab_theory.specs.Derivations.{Debt, debts, open_goals, Above}
-use Rattle.ab_kernel.specs.Layout.{Held, history_of, IsProof, Beyond}
-
--- the open goals, from left to right
-abbrev pub goals_of : World → Held → List Sequent
-goals_of w p = open_goals (history_of w p).tree
+use Rattle.ab_theory.specs.Derivations.{Debt, debts, Above}
+use Rattle.ab_kernel.specs.Layout.{Held, goals_of, history_of, IsProof, Beyond}
 
 -- the open goal of this place, with those before and behind it
 pub record IsAt (w : World) (p : Held) (place : ℕ) (before : List Sequent) (s : Sequent) (behind : List Sequent) : Type 0 where

@@ -5,12 +5,12 @@ use Rattle.ab_formulas.specs.NewNames.{Label}
 use Rattle.ab_formulas.specs.Sequents.{Sequent}
 use Rattle.ab_logic.specs.Worlds.{declarations_of}
 use Rattle.ab_logic.specs.declared.world.World.{World}
-use Rattle.ab_kernel.specs.Layout.{Held}
+use Rattle.ab_kernel.specs.Layout.{Held, goals_of}
 use Rattle.ab_effects.specs.ProofCommands.{effect}
 use Rattle.ab_meaning.specs.Refusals.{unknown, clash, type_clash, untyped, no_hypothesis, wrong_shape, mark, no_match, not_pattern, unresolved, names_spent}
 use Rattle.ab_effects.specs.Row.{Row, Leads, Refuses}
 use Rattle.ab_effects.specs.Debts.{debts_at}
-use Rattle.ab_steps.specs.Progress.{goals_of, Owes}
+use Rattle.ab_steps.specs.Progress.{Owes}
 use Rattle.ab_steps.specs.declared.fault.ProofCommandFault.{ProofCommandFault}
 use Rattle.ab_steps.specs.declared.fault.ProofCommandFault.TheVariants.{Unknown, Clash, TypeClash, Untyped, NoHypothesis, WrongShape, Mark, NoMatch, NotPattern, Unresolved, NamesSpent, Memory}
 

@@ -2,8 +2,7 @@
 ghost use Rattle.std.specs.Prelude.{◌≡◌, ◌≢◌, [], ◌∷◌, List};
 ghost use Rattle.ab_logic.specs.SequentReadings.{sequent_of, HoldsSequent};
 ghost use Rattle.ab_formulas.specs.Sequents.{Sequent as AGoal};
-ghost use Rattle.ab_kernel.specs.Layout.{IsProof};
-ghost use Rattle.ab_steps.specs.Progress.{goals_of};
+ghost use Rattle.ab_kernel.specs.Layout.{IsProof, goals_of};
 
 use ab_kernel::Proof;
 use ab_logic::{Sequent, World};

@@ -2,10 +2,10 @@
 ghost use Rattle.std.specs.Prelude.{◌≡◌, ◌≢◌, ℕ, ◌<◌, ◌≤◌, ◌-◌, length, Ok, IfOk, OnOk, OnErr, IsTrue, IsFalse};
 ghost use Rattle.ab_logic.specs.Worlds.{IsWorld};
 ghost use Rattle.ab_logic.specs.declared.world.World.{World as AWorld};
-ghost use Rattle.ab_kernel.specs.RuleAnswers.{step_of, HoldsStep};
+ghost use Rattle.ab_kernel.specs.ab_rules.specs.RuleAnswers.{step_of, HoldsStep};
 ghost use Rattle.ab_theory.specs.Derivations.{debts_of, undone};
-ghost use Rattle.ab_kernel.specs.Layout.{Held, history_of, IsProof};
-ghost use Rattle.ab_steps.specs.Progress.{goals_of, Advances, Follows, FollowsBy, Owes, Took, TookInto, FailsAt, FailsBy, Holds, StuckAt, SolvesNothing};
+ghost use Rattle.ab_kernel.specs.Layout.{Held, history_of, IsProof, goals_of};
+ghost use Rattle.ab_steps.specs.Progress.{Advances, Follows, FollowsBy, Owes, Took, TookInto, FailsAt, FailsBy, Holds, StuckAt, SolvesNothing};
 ghost use Rattle.ab_steps.specs.declared.goal_steps.Attempted.TheVariants.{Taken, Failed, Stuck};
 
 use ab_kernel::{KernelFault, Proof, Step};

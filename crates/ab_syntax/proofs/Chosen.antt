@@ -13,13 +13,13 @@ use Rattle.ab_grammar.proofs.Heads.{one_proof_head, no_command, no_labelled, pla
 use Rattle.ab_grammar.proofs.WholeCommands.{plain_row, proof_row, labelled_row, label_row, colon_refused}
 use Rattle.ab_syntax.specs.declared.command_heads.Opening.{Opening}
 use Rattle.ab_syntax.specs.declared.command_heads.Opening.TheVariants.{Plain, Proof, Label, Nothing}
-use Rattle.ab_syntax.specs.declared.located_tokens.Seen.{Seen}
-use Rattle.ab_syntax.specs.declared.stop.Stop.{Stop}
-use Rattle.ab_syntax.specs.declared.stop.Stop.TheVariants.{Syntax, TooNested, Memory}
-use Rattle.ab_syntax.specs.Kinds.{kind_of, IsWordKind}
+use Rattle.ab_expressions.specs.declared.located_tokens.Seen.{Seen}
+use Rattle.ab_expressions.specs.declared.stop.Stop.{Stop}
+use Rattle.ab_expressions.specs.declared.stop.Stop.TheVariants.{Syntax, TooNested, Memory}
+use Rattle.ab_expressions.specs.Kinds.{kind_of, IsWordKind}
 use Rattle.ab_syntax.specs.Openings.{BeginsNothing, IsOpening, IsOpeningAt}
-use Rattle.ab_syntax.specs.Reader.{seen, Refused}
-use Rattle.ab_syntax.proofs.Meanings.{kind_meant}
+use Rattle.ab_expressions.specs.Reader.{seen, Refused}
+use Rattle.ab_expressions.proofs.Meanings.{kind_meant}
 
 label_kind : (k : Token) (x : List ℕ) → ShowsLabel k x → IsWordKind (kind_of k)
 label_kind _ _ (shows_label x p n) = tt

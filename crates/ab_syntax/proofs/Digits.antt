@@ -10,7 +10,7 @@ use Rattle.std.proofs.lemmas.Int.Digits.{digits_value_more}
 use Rattle.std.proofs.lemmas.Fmt.{decimal-digits_value, length-decimal-le, first_decimal, digits_decimal, decimal_nonempty}
 use Rattle.std.proofs.lemmas.Grind.{common_steps}
 use Rattle.ab_grammar.specs.CommandTable.{IsNominal}
-use Rattle.ab_syntax.specs.Digits.{IsShort, IsPositive, HasNominalForm}
+use Rattle.ab_expressions.specs.Digits.{IsShort, IsPositive, HasNominalForm}
 
 abbrev pub AreDigits : List ℕ → Type 0
 AreDigits w = list_all is_ascii_digit w ≡ true

@@ -9,10 +9,10 @@ use Rattle.ab_grammar.specs.CommandTable.{ShowsLabel}
 use Rattle.ab_grammar.proofs.Heads.{plain_no_label, proof_no_label}
 use Rattle.ab_syntax.specs.declared.command_heads.Opening.{Opening}
 use Rattle.ab_syntax.specs.declared.command_heads.Opening.TheVariants.{Plain, Proof, Label, Nothing}
-use Rattle.ab_syntax.specs.declared.text.Text.{Text}
+use Rattle.ab_expressions.specs.declared.text.Text.{Text}
 use Rattle.ab_syntax.specs.Faults.{IsWordAlone}
 use Rattle.ab_syntax.specs.Openings.{IsOpeningAt}
-use Rattle.ab_syntax.specs.Reader.{seen, rest}
+use Rattle.ab_expressions.specs.Reader.{seen, rest}
 
 in_front : (ks : List Token) → first ks ≡ Some backslash → begins_with_backslash ks ≡ true
 in_front [] e = absurd (cc)

@@ -4,8 +4,8 @@ use Rattle.ab_grammar.specs.declared.head.Head.{Head}
 use Rattle.ab_grammar.specs.declared.head.ProofHead.{ProofHead}
 use Rattle.ab_grammar.specs.Token.{Token}
 use Rattle.ab_grammar.specs.CommandTable.{Opens, opens, opens_back, opens_reset, OpensProof, opens_proof, opens_exists, ShowsLabel, shows_label}
-use Rattle.ab_syntax.specs.declared.kind.Kind.TheVariants as kind
-use Rattle.ab_syntax.specs.Kinds.{kind_of}
+use Rattle.ab_expressions.specs.declared.kind.Kind.TheVariants as kind
+use Rattle.ab_expressions.specs.Kinds.{kind_of}
 use Rattle.ab_syntax.specs.Openings.{BeginsNothing}
 
 module _ (k : Token) (not_word : kind_of k ≡ kind.Word → ⊥) (not_back : kind_of k ≡ kind.Back → ⊥) (not_reset : kind_of k ≡ kind.Reset → ⊥) (not_exists : kind_of k ≡ kind.Exists → ⊥) where

@@ -3,9 +3,9 @@ use Rattle.std.proofs.Common.{◌≡◌, ◌↔◌, ◌<◌, ◌≤◌, ◌+◌,
 use Rattle.std.proofs.lemmas.List.{map-append, take_more, drop_more}
 use Rattle.ab_grammar.specs.Token.{Token, other, stop}
 use Rattle.ab_grammar.specs.FileTokens.{Open, outer, opened, sentence}
-use Rattle.ab_syntax.specs.declared.kind.Kind.{Kind}
-use Rattle.ab_syntax.specs.declared.kind.Kind.TheVariants.{LeftParen, LeftBrace, LeftBracket, RightParen, RightBrace, RightBracket}
-use Rattle.ab_syntax.specs.Kinds.{meaning}
+use Rattle.ab_expressions.specs.declared.kind.Kind.{Kind}
+use Rattle.ab_expressions.specs.declared.kind.Kind.TheVariants.{LeftParen, LeftBrace, LeftBracket, RightParen, RightBrace, RightBracket}
+use Rattle.ab_expressions.specs.Kinds.{meaning}
 
 sentence_step : (k : Token) (ks : List Token) → (k ≡ other stop → ⊥) → sentence (k ∷ ks) ≡ k ∷ sentence ks
 sentence_step (other stop) ks n = absurd (n refl)

@@ -8,9 +8,9 @@ use Rattle.ab_grammar.proofs.Following.{first, Followed, BeforeStop}
 use Rattle.ab_grammar.specs.Language.{Expression}
 use Rattle.ab_grammar.proofs.Reading.{ReadsOff}
 use Rattle.ab_grammar.proofs.FileRows.{goals_joined}
-use Rattle.ab_syntax.specs.declared.stop.Stop.{Stop}
+use Rattle.ab_expressions.specs.declared.stop.Stop.{Stop}
 use Rattle.ab_syntax.specs.Lists.{goals}
-use Rattle.ab_syntax.specs.Reader.{Refused}
+use Rattle.ab_expressions.specs.Reader.{Refused}
 use Rattle.ab_syntax.proofs.Passing.{refused_on}
 use Rattle.ab_syntax.proofs.Repeating.{ItemsTo, first_item, no_first_item, next_item, no_next_item, last_item}
 

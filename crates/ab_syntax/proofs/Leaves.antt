@@ -10,18 +10,18 @@ use Rattle.ab_grammar.proofs.Choosing.{one_reads, one_stops}
 use Rattle.ab_grammar.proofs.Shown.{ShowsOne}
 use Rattle.ab_grammar.specs.CommandTrees as tree
 use Rattle.ab_grammar.specs.CommandTable.{IsDeclarable, IsNominal, ShowsName, shows_name, ShowsDeclared, shows_declared, ShowsNominal, shows_nominal, ShowsArgument, shows_named, shows_hole, ShowsNumber, shows_number, ShowsDepth, shows_depth, ShowsLimit, shows_limit, ShowsText, shows_text, StandsAnywhere, stands_at}
-use Rattle.ab_syntax.specs.declared.located_tokens.Seen.{Seen}
-use Rattle.ab_syntax.specs.declared.text.Text.{Text}
-use Rattle.ab_syntax.specs.declared.kind.Kind.{Kind}
-use Rattle.ab_syntax.specs.declared.kind.Kind.TheVariants as kind
+use Rattle.ab_expressions.specs.declared.located_tokens.Seen.{Seen}
+use Rattle.ab_expressions.specs.declared.text.Text.{Text}
+use Rattle.ab_expressions.specs.declared.kind.Kind.{Kind}
+use Rattle.ab_expressions.specs.declared.kind.Kind.TheVariants as kind
 use Rattle.ab_syntax.specs.declared.leaf.NumberForm.TheVariants.{Nominal}
-use Rattle.ab_syntax.specs.declared.stop.Stop.TheVariants.{Syntax}
-use Rattle.ab_syntax.specs.Tokens.{unquoted}
-use Rattle.ab_syntax.specs.Kinds.{kind_of, meaning}
-use Rattle.ab_syntax.specs.Reader.{seen, rest, Found}
+use Rattle.ab_expressions.specs.declared.stop.Stop.TheVariants.{Syntax}
+use Rattle.ab_expressions.specs.Tokens.{unquoted}
+use Rattle.ab_expressions.specs.Kinds.{kind_of, meaning}
+use Rattle.ab_expressions.specs.Reader.{seen, rest, Found}
 use Rattle.ab_syntax.specs.Leaves.{Leaf, number_form, IsShown, IsTakenNext}
-use Rattle.ab_syntax.proofs.Meanings.{kind_meant}
-use Rattle.ab_syntax.proofs.Places.{rest_key}
+use Rattle.ab_expressions.proofs.Meanings.{kind_meant}
+use Rattle.ab_expressions.proofs.Places.{rest_key}
 
 module _ {A : Type 0} (Shows : Token → A → Type 0) (t : Text) (i : ℕ) where
   pub takes : ShowsOne Shows → (a : A) → Showing Shows a (rest t i) → ReadsOff (One Shows) Anything (rest t i) a (rest t (i + 1))

@@ -9,9 +9,9 @@ use Rattle.ab_grammar.proofs.Reading.{ReadsOff, ungrammatical, too_nested}
 use Rattle.ab_grammar.proofs.Choosing.{fewer_reads, fewer_refuses}
 use Rattle.ab_grammar.proofs.Continuing.{Continues}
 use Rattle.ab_grammar.proofs.Rows.{TwoParts}
-use Rattle.ab_syntax.specs.declared.stop.Stop.{Stop}
-use Rattle.ab_syntax.specs.declared.stop.Stop.TheVariants.{Syntax, TooNested, Memory}
-use Rattle.ab_syntax.specs.Reader.{Refused, Found, IsClosedBy}
+use Rattle.ab_expressions.specs.declared.stop.Stop.{Stop}
+use Rattle.ab_expressions.specs.declared.stop.Stop.TheVariants.{Syntax, TooNested, Memory}
+use Rattle.ab_expressions.specs.Reader.{Refused, Found, IsClosedBy}
 
 -- a refusal of the last part is one of the whole
 pub refused_on : {A B : Type 0} {H : List Spot → A → Type 0} {R : List Spot → B → Type 0} {F : List Token → Type 0} {f : A → B} {ms ks : List Token} → Continues H R F f ms ks

@@ -3,7 +3,7 @@ use Rattle.std.proofs.Common.{◌≡◌, ◌<◌, ℕ, true, List, [], ◌∷◌
 use Rattle.std.specs.List.{list_all}
 use Rattle.std.proofs.lemmas.Grind.{common_steps}
 use Rattle.std.proofs.lemmas.List.Elements.{All-nil, All-cons}
-use Rattle.ab_syntax.specs.Tokens.{is_text_byte}
+use Rattle.ab_expressions.specs.Tokens.{is_text_byte}
 
 below : (b : ℕ) → is_text_byte b ≡ true → b < 128
 below b h = grind (arith, common_steps)

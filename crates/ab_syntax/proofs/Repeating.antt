@@ -11,11 +11,11 @@ use Rattle.ab_grammar.proofs.Joining.{Example}
 use Rattle.ab_grammar.proofs.Choosing.{key_reads}
 use Rattle.ab_grammar.proofs.Looping.{SoFar, goes_on, item_fails, ends, first_read, first_fails, key_apart, key_missing, keyed_reads, keyed_refuses}
 use Rattle.ab_grammar.proofs.Rows.{TwoParts, two_parts}
-use Rattle.ab_syntax.specs.declared.stop.Stop.{Stop}
-use Rattle.ab_syntax.specs.declared.stop.Stop.TheVariants.{Syntax, TooNested, Memory}
-use Rattle.ab_syntax.specs.Kinds.{key_of}
+use Rattle.ab_expressions.specs.declared.stop.Stop.{Stop}
+use Rattle.ab_expressions.specs.declared.stop.Stop.TheVariants.{Syntax, TooNested, Memory}
+use Rattle.ab_expressions.specs.Kinds.{key_of}
 use Rattle.ab_syntax.specs.Lists.{ListForm}
-use Rattle.ab_syntax.specs.Reader.{IsTaken, Refused}
+use Rattle.ab_expressions.specs.Reader.{IsTaken, Refused}
 
 -- a key and a part
 pub keyed : {A : Type 0} (k : Token) (G : List Spot → A → Type 0) (F : List Token → Type 0) → Example G → TwoParts (Key k) (λ r. Unit {0}) G (Key k ▸ G) F (λ u b. b)

@@ -9,7 +9,7 @@ use Rattle.ab_lex.specs.declared.token.TokenKind.{TokenKind}
 use Rattle.ab_lex.specs.declared.token.TokenKind.TheVariants.{Word, Number, Text, Sign}
 use Rattle.ab_lex.specs.Tokens.{is_word_byte, IsWordTail, ends, byte, joined, IsWord, alone, letters, IsNumber, last_digit, digit, IsString, IsToken, TokenAt, token_at, TokensFrom, no_more, gap, token}
 use Rattle.ab_lex.specs.Units.{StringEnds, at_quote, in_string}
-use Rattle.ab_syntax.specs.Tokens.{origin_of, IsTokenOf, StandIn}
+use Rattle.ab_expressions.specs.Tokens.{origin_of, IsTokenOf, StandIn}
 
 module _ {X : Type 0} (P : X → Type 0) where
   all_cons : (x : X) (xs : List X) → P x → All P xs → All P (x ∷ xs)

@@ -11,8 +11,8 @@ use Rattle.ab_grammar.proofs.Joining.{Example}
 use Rattle.ab_grammar.proofs.Choosing.{fewer_reads}
 use Rattle.ab_grammar.proofs.Looping.{SoFar, token_missing, token_apart, goes_on, ends, some_read, some_missing}
 use Rattle.ab_grammar.proofs.Shown.{ShowsOne}
-use Rattle.ab_syntax.specs.declared.text.Text.{Text}
-use Rattle.ab_syntax.specs.Reader.{rest}
+use Rattle.ab_expressions.specs.declared.text.Text.{Text}
+use Rattle.ab_expressions.specs.Reader.{rest}
 use Rattle.ab_syntax.proofs.Leaves.{takes}
 
 module _ {A X : Type 0} (Shows : Token → A → Type 0) (meant : X → A) where

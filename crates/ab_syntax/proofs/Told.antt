@@ -6,14 +6,14 @@ use Rattle.ab_grammar.specs.Token.{Token}
 use Rattle.ab_grammar.specs.Nesting.{Spot, blamed}
 use Rattle.ab_grammar.specs.Language.{Accepted, SyntaxAt, TooNestedAt}
 use Rattle.ab_grammar.proofs.Following.{Followed}
-use Rattle.ab_syntax.specs.declared.text.Text.{Text}
-use Rattle.ab_syntax.specs.declared.stop.Stop.{Stop}
-use Rattle.ab_syntax.specs.declared.stop.Stop.TheVariants.{Syntax, TooNested, Memory}
-use Rattle.ab_syntax.specs.declared.fault.ParseFault.{ParseFault}
-use Rattle.ab_syntax.specs.declared.fault.ParseFault.TheVariants as fault
-use Rattle.ab_syntax.specs.Tokens.{tokens_from}
+use Rattle.ab_expressions.specs.declared.text.Text.{Text}
+use Rattle.ab_expressions.specs.declared.stop.Stop.{Stop}
+use Rattle.ab_expressions.specs.declared.stop.Stop.TheVariants.{Syntax, TooNested, Memory}
+use Rattle.ab_expressions.specs.declared.fault.ParseFault.{ParseFault}
+use Rattle.ab_expressions.specs.declared.fault.ParseFault.TheVariants as fault
+use Rattle.ab_expressions.specs.Tokens.{tokens_from}
 use Rattle.ab_syntax.specs.Faults.{place_from, place_past, IsTold, IsCommandPlaceFrom}
-use Rattle.ab_syntax.specs.Reader.{seen, place_of, rest, Found}
+use Rattle.ab_expressions.specs.Reader.{seen, place_of, rest, Found}
 use Rattle.ab_syntax.specs.Wholes.{Answers, IsAnswer, place_in, fault_of, told_by}
 use Rattle.ab_syntax.proofs.Wholes.{as_many, answers}
 

@@ -7,11 +7,11 @@ use Rattle.ab_grammar.specs.Nesting.{Spot}
 use Rattle.ab_grammar.specs.Language.{Accepted, SyntaxAt}
 use Rattle.ab_grammar.proofs.Reading.{ReadsOff, StopsAt, NestsAt}
 use Rattle.ab_grammar.proofs.WholeTexts.{accepted, refused, stopped, nested}
-use Rattle.ab_syntax.specs.declared.text.Text.{Text}
-use Rattle.ab_syntax.specs.declared.fault.ParseFault.{ParseFault}
-use Rattle.ab_syntax.specs.declared.stop.Stop.{Stop}
-use Rattle.ab_syntax.specs.declared.stop.Stop.TheVariants.{Syntax, TooNested, Memory}
-use Rattle.ab_syntax.specs.Reader.{seen, rest, Refused, Found}
+use Rattle.ab_expressions.specs.declared.text.Text.{Text}
+use Rattle.ab_expressions.specs.declared.fault.ParseFault.{ParseFault}
+use Rattle.ab_expressions.specs.declared.stop.Stop.{Stop}
+use Rattle.ab_expressions.specs.declared.stop.Stop.TheVariants.{Syntax, TooNested, Memory}
+use Rattle.ab_expressions.specs.Reader.{seen, rest, Refused, Found}
 use Rattle.ab_syntax.specs.Wholes.{Tells, Answers, IsComplete, IsAnswer, fault_of}
 
 -- behind all tokens it doesn't matter how far

@@ -4,7 +4,7 @@ use Rattle.ab_grammar.specs.Token.{Token, word}
 use Rattle.ab_grammar.specs.CommandTable.{StandsAnywhere, Word}
 use Rattle.ab_grammar.proofs.Following.{Anything, Showing, Without}
 use Rattle.ab_grammar.proofs.Reading.{ReadsOff}
-use Rattle.ab_syntax.specs.Reader.{IsWordTaken}
+use Rattle.ab_expressions.specs.Reader.{IsWordTaken}
 
 module _ (x : List ℕ) (ks ms : List Token) where
   pub word_taken : (b : Bool) → b ≡ true → IsWordTaken x ks ms b → Showing (StandsAnywhere (word x)) tt ks × ReadsOff (Word x) Anything ks tt ms

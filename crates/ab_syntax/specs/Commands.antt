@@ -12,8 +12,8 @@ use Rattle.ab_syntax.specs.declared.command.Command.TheVariants as plain
 use Rattle.ab_grammar.specs.declared.head.Head.{Head}
 use Rattle.ab_grammar.specs.declared.head.Head.TheVariants as head
 use Rattle.ab_grammar.specs.CommandTrees as tree
-use Rattle.ab_syntax.specs.Items.{list_of}
-use Rattle.ab_syntax.specs.SyntaxTrees.{type_of, tree_of}
+use Rattle.ab_expressions.specs.Items.{list_of}
+use Rattle.ab_expressions.specs.SyntaxTrees.{type_of, tree_of}
 
 abbrev pub defined_of : Defined → tree.Defined
 defined_of d = record { name = d.name; type_of = type_of d.ty }

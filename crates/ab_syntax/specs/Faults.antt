@@ -4,7 +4,7 @@ use Rattle.ab_lex.specs.declared.token.Token.{Token as Lexed}
 use Rattle.ab_grammar.specs.Token.{Token}
 use Rattle.ab_grammar.specs.Nesting.{blamed}
 use Rattle.ab_grammar.specs.CommandTable.{ShowsLabel}
-use Rattle.ab_syntax.specs.Tokens.{origin_of, tokens_from}
+use Rattle.ab_expressions.specs.Tokens.{origin_of, tokens_from}
 
 -- where the i-th of some tokens begins, counted from the origin; where there is none, the end
 abbrev pub place_from : ℕ → ℕ → List Lexed → ℕ → ℕ

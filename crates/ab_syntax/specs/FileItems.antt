@@ -4,8 +4,8 @@ use Rattle.ab_syntax.specs.declared.spec_item.SpecItem.{SpecItem}
 use Rattle.ab_syntax.specs.declared.spec_item.SpecItem.TheVariants.{Kind, Typed, Clause}
 use Rattle.ab_syntax.specs.declared.spec_item.FileItem.{FileItem}
 use Rattle.ab_syntax.specs.declared.spec_item.FileItem.TheVariants.{Own, Accumulation}
-use Rattle.ab_syntax.specs.Items.{list_of}
-use Rattle.ab_syntax.specs.SyntaxTrees.{type_of}
+use Rattle.ab_expressions.specs.Items.{list_of}
+use Rattle.ab_expressions.specs.SyntaxTrees.{type_of}
 use Rattle.ab_syntax.specs.Commands.{clause_of}
 
 abbrev pub own_item_of : SpecItem → Item

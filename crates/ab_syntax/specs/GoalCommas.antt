@@ -5,7 +5,7 @@ use Rattle.ab_grammar.specs.FileTokens as file
 use Rattle.ab_grammar.specs.FileTokens.{goal_tokens, clause_tokens}
 use Rattle.ab_syntax.specs.declared.goal_commas.OpenBracket.{OpenBracket}
 use Rattle.ab_syntax.specs.declared.goal_commas.ClausePart.{ClausePart}
-use Rattle.ab_syntax.specs.ReaderSteps.{stack}
+use Rattle.ab_expressions.specs.ReaderSteps.{stack}
 
 abbrev pub open_of : OpenBracket → file.Open
 open_of b = record { parenthesis = b.parenthesis; naming = b.naming }

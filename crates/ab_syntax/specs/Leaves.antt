@@ -12,9 +12,9 @@ use Rattle.ab_syntax.specs.declared.leaf.NameForm.{NameForm}
 use Rattle.ab_syntax.specs.declared.leaf.NameForm.TheVariants as names
 use Rattle.ab_syntax.specs.declared.leaf.NumberForm.{NumberForm}
 use Rattle.ab_syntax.specs.declared.leaf.NumberForm.TheVariants as numbers
-use Rattle.ab_syntax.specs.declared.text.Text.{Text}
+use Rattle.ab_expressions.specs.declared.text.Text.{Text}
 use Rattle.ab_syntax.specs.Commands.{argument_of}
-use Rattle.ab_syntax.specs.Reader.{rest}
+use Rattle.ab_expressions.specs.Reader.{rest}
 
 -- a form of one token: its tokens with their values, what is kept of a value, that a token shows one value, and a text
 pub record Leaf (X : Type 0) : Type 1 where

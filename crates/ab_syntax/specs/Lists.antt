@@ -14,12 +14,12 @@ use Rattle.ab_grammar.proofs.Looping.{follows_item}
 use Rattle.ab_syntax.specs.declared.command.ClauseParse.{ClauseParse}
 use Rattle.ab_syntax.specs.declared.command.Defined.{Defined}
 use Rattle.ab_syntax.specs.declared.command.Instance.{Instance}
-use Rattle.ab_syntax.specs.declared.kind.Kind.{Kind}
-use Rattle.ab_syntax.specs.declared.kind.Kind.TheVariants as kind
-use Rattle.ab_syntax.specs.declared.tree.Parse.{Parse}
-use Rattle.ab_syntax.specs.SyntaxTrees.{tree_of}
+use Rattle.ab_expressions.specs.declared.kind.Kind.{Kind}
+use Rattle.ab_expressions.specs.declared.kind.Kind.TheVariants as kind
+use Rattle.ab_expressions.specs.declared.tree.Parse.{Parse}
+use Rattle.ab_expressions.specs.SyntaxTrees.{tree_of}
 use Rattle.ab_syntax.specs.Commands.{defined_of, clause_of, instance_of}
-use Rattle.ab_syntax.specs.Kinds.{key_of, IsKey}
+use Rattle.ab_expressions.specs.Kinds.{key_of, IsKey}
 
 -- a list: the form of an item and what it stands for, the key between two items, what follows an item and what the list;
 -- that the list isn't followed by the key, and that what follows an item of the list may follow an item

@@ -3,12 +3,12 @@ use Rattle.std.specs.Prelude.{◌≡◌, ◌≢◌, ℕ, List, [], map, length, 
 use Rattle.ab_grammar.specs.Token.{Token}
 use Rattle.ab_grammar.specs.Nesting.{Spot, blamed}
 use Rattle.ab_grammar.specs.Language.{Accepted, SyntaxAt, TooNestedAt}
-use Rattle.ab_syntax.specs.declared.text.Text.{Text}
-use Rattle.ab_syntax.specs.declared.stop.Stop.{Stop}
-use Rattle.ab_syntax.specs.declared.stop.Stop.TheVariants.{Syntax, TooNested, Memory}
-use Rattle.ab_syntax.specs.declared.fault.ParseFault.{ParseFault}
-use Rattle.ab_syntax.specs.declared.fault.ParseFault.TheVariants as fault
-use Rattle.ab_syntax.specs.Reader.{rest}
+use Rattle.ab_expressions.specs.declared.text.Text.{Text}
+use Rattle.ab_expressions.specs.declared.stop.Stop.{Stop}
+use Rattle.ab_expressions.specs.declared.stop.Stop.TheVariants.{Syntax, TooNested, Memory}
+use Rattle.ab_expressions.specs.declared.fault.ParseFault.{ParseFault}
+use Rattle.ab_expressions.specs.declared.fault.ParseFault.TheVariants as fault
+use Rattle.ab_expressions.specs.Reader.{rest}
 
 -- why the tokens are no text of G, where the i-th was the next
 abbrev pub Tells : {A : Type 0} → (List Spot → A → Type 0) → List Token → ℕ → Stop → Type 0

@@ -1,15 +1,12 @@
 //! What is told of a whole text.
 ghost use Rattle.std.specs.Prelude.{◌≡◌, length, min};
 ghost use Rattle.ab_grammar.specs.Nesting.{blamed as blamed_of};
-ghost use Rattle.ab_syntax.specs.Reader.{rest};
+ghost use Rattle.ab_expressions.specs.Reader.{rest};
 ghost use Rattle.ab_syntax.specs.Faults.{IsTold};
 ghost use Rattle.ab_syntax.specs.Wholes.{place_in, IsAnswer};
 
 use crate::command_heads::{Opening, opening_at};
-use crate::fault::ParseFault;
-use crate::kind::Kind;
-use crate::stop::Stop;
-use crate::text::{Text, is_next};
+use ab_expressions::{Kind, ParseFault, Stop, Text, is_next};
 
 /// The place of a token, or that behind them all.
 fn place_at(text: &Text<'_>, here: usize) -> usize
@@ -23,7 +20,7 @@ fn place_at(text: &Text<'_>, here: usize) -> usize
 }
 
 /// The token that is told to be nested too deeply: the name before a backslash, in the backslash's place.
-fn blamed(text: &Text<'_>, here: usize) -> usize
+fn blamed_token(text: &Text<'_>, here: usize) -> usize
     ensures { result ≡ blamed_of (rest text.now 0) here }
 {
     if is_next(text, here, Kind::Backslash) {
@@ -51,14 +48,14 @@ pub(crate) fn answer<T: Drop>(
         }
         Err(stop) => match stop {
             Stop::Syntax => Err(ParseFault::Syntax(place_at(text, told))),
-            Stop::TooNested => Err(ParseFault::TooNested(place_at(text, blamed(text, here)))),
+            Stop::TooNested => Err(ParseFault::TooNested(place_at(text, blamed_token(text, here)))),
             Stop::Memory(error) => Err(ParseFault::Memory(error)),
         },
     }
 }
 
 /// The token that is told to be no command: a first word with which no command begins, where no colon is behind it.
-pub(crate) fn told(text: &Text<'_>, here: usize) -> usize
+pub(crate) fn token_told(text: &Text<'_>, here: usize) -> usize
     ensures { IsTold (rest text.now 0) (min here (length text.now.tokens.now)) result }
 {
     let refused = here.min(text.tokens.len());

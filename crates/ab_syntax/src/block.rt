@@ -3,23 +3,19 @@ ghost use Rattle.std.specs.Prelude.{[], map, option_map};
 ghost use Rattle.ab_grammar.proofs.Following.{BeforeStop, ClauseEnds};
 ghost use Rattle.ab_grammar.specs.CommandForms.{Optional};
 ghost use Rattle.ab_grammar.specs.CommandTable.{ClauseBody, Clauses, Row};
-ghost use Rattle.ab_syntax.specs.SyntaxTrees.{tree_of};
+ghost use Rattle.ab_expressions.specs.SyntaxTrees.{tree_of};
 ghost use Rattle.ab_syntax.specs.Commands.{clause_of, command_of, block_head};
-ghost use Rattle.ab_syntax.specs.Items.{list_of};
+ghost use Rattle.ab_expressions.specs.Items.{list_of};
 ghost use Rattle.ab_syntax.specs.Lists.{definienda, clauses};
-ghost use Rattle.ab_syntax.specs.Reader.{rest, Found};
+ghost use Rattle.ab_expressions.specs.Reader.{rest, Found};
 
-use crate::build::place_of;
 use crate::command::{ClauseParse, Command, Defined};
-use crate::items::Items;
-use crate::kind::Kind;
 use crate::leaf::{NameForm, take};
 use crate::list::{Item, items};
-use crate::step::read_expression;
-use crate::stop::Stop;
-use crate::text::{Text, closed, is_next, takes};
-use crate::tree::Parse;
-use crate::types::read_type;
+use ab_expressions::{
+    Items, Kind, Parse, Stop, Text, close_part, is_next, place_of, read_expression, read_type,
+    takes,
+};
 
 impl Item for Defined {
     ghost list = { definienda };
@@ -27,7 +23,7 @@ impl Item for Defined {
     /// Reads `w : type`.
     fn item(text: &Text<'_>, here: &mut usize) -> Result<Defined, Stop> {
         let name = take(text, here, NameForm::Declared);
-        let name = closed(text, here, Kind::Colon, name)?;
+        let name = close_part(text, here, Kind::Colon, name)?;
         let ty = read_type(text, here)?;
         Ok(Defined { name, ty })
     }
@@ -70,7 +66,7 @@ pub(crate) fn block(text: &Text<'_>, here: &mut usize, inductive: bool) -> Resul
     ensures { Found (Row (block_head inductive)) BeforeStop command_of (rest text.now here.old) (rest text.now here.new) result }
 {
     let predicates = items::<Defined>(text, here, Kind::Comma);
-    let predicates = closed(text, here, Kind::By, predicates)?;
+    let predicates = close_part(text, here, Kind::By, predicates)?;
     let clauses = optional_clauses(text, here)?;
     Ok(Command::Define(inductive, predicates, clauses))
 }

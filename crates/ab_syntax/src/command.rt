@@ -1,6 +1,5 @@
 //! The trees of commands, as they are written.
-use crate::items::Items;
-use crate::tree::{Parse, TypeParse};
+use ab_expressions::{Items, Parse, TypeParse};
 use ab_name::Name;
 
 /// A predicate that is defined, and its type.

@@ -4,15 +4,12 @@ ghost use Rattle.ab_lex.specs.Tokens.{TokensOf};
 ghost use Rattle.ab_grammar.specs.Token.{word};
 ghost use Rattle.ab_grammar.specs.CommandTable.{stand_of as stand_of_head, StandsAt};
 ghost use Rattle.ab_grammar.specs.declared.head.Stand.{Stand};
-ghost use Rattle.ab_syntax.specs.Tokens.{StandIn, tokens_from, tokens_in};
-ghost use Rattle.ab_syntax.specs.Reader.{seen, rest};
+ghost use Rattle.ab_expressions.specs.Tokens.{StandIn, tokens_from, tokens_in};
+ghost use Rattle.ab_expressions.specs.Reader.{seen, rest};
 ghost use Rattle.ab_syntax.specs.Openings.{IsOpening, IsOpeningAt};
 
-use crate::kind::Kind;
-use crate::located_tokens::Seen;
 use crate::parser::origin;
-use crate::text::{Text, next, see};
-use crate::words::{COMMANDS, PROOF_COMMANDS, lookup};
+use ab_expressions::{COMMANDS, Kind, PROOF_COMMANDS, Seen, Text, lookup, next, see};
 use ab_grammar::{Head, ProofHead, Stand};
 use ab_lex::Token;
 

@@ -8,29 +8,24 @@ ghost use Rattle.ab_grammar.specs.declared.file.FileKind.TheVariants.{Signature,
 ghost use Rattle.ab_grammar.specs.declared.Infix.TheVariants.{With};
 ghost use Rattle.ab_grammar.specs.Tree.{joined};
 ghost use Rattle.ab_grammar.proofs.Following.{Anything, Followed, BeforeStop};
-ghost use Rattle.ab_syntax.specs.Tokens.{StandIn, tokens_from};
-ghost use Rattle.ab_syntax.specs.Items.{list_of};
-ghost use Rattle.ab_syntax.specs.SyntaxTrees.{tree_of};
+ghost use Rattle.ab_expressions.specs.Tokens.{StandIn, tokens_from};
+ghost use Rattle.ab_expressions.specs.Items.{list_of};
+ghost use Rattle.ab_expressions.specs.SyntaxTrees.{tree_of};
 ghost use Rattle.ab_syntax.specs.FileItems.{item_of};
 ghost use Rattle.ab_syntax.specs.Faults.{place_past, nested_from};
-ghost use Rattle.ab_syntax.specs.Reader.{rest, Found};
+ghost use Rattle.ab_expressions.specs.Reader.{rest, Found};
 
 use crate::answer::answer;
-use crate::build::{boxed, place_of};
 use crate::command::ClauseParse;
-use crate::fault::ParseFault;
 use crate::goal_commas::see_item;
-use crate::items::Items;
-use crate::kind::Kind;
 use crate::leaf::{NameForm, take};
 use crate::list::{add, items};
 use crate::part::{keyword, name_and, takes_word};
 use crate::spec_item::{FileItem, SpecItem};
-use crate::step::read_expression;
-use crate::stop::Stop;
-use crate::text::{Text, closed, see_all, takes};
-use crate::tree::Parse;
-use crate::types::read_type;
+use ab_expressions::{
+    Items, Kind, Parse, ParseFault, Stop, Text, close_part, new_box, place_of, read_expression,
+    read_type, see_all, takes,
+};
 use ab_grammar::{FileKind, Infix};
 use ab_lex::Token;
 use ab_name::Name;
@@ -78,7 +73,7 @@ fn signature_item(text: &Text<'_>, here: &mut usize) -> Result<FileItem, Stop>
     }
     if takes_word(text, here, b"kind") {
         let kinds = items::<Name>(text, here, Kind::Comma);
-        let declared = closed(text, here, Kind::Type, kinds)?;
+        let declared = close_part(text, here, Kind::Type, kinds)?;
         return Ok(FileItem::Own(SpecItem::Kind(declared)));
     }
     keyword(text, here, b"accum_sig")?;
@@ -91,8 +86,8 @@ fn both(alloc: Global, left: Parse, right: Parse) -> Result<Parse, AllocError>
     ensures { IfOk result (λ r. tree_of r ≡ joined With (tree_of left) (tree_of right)) }
 {
     let place = place_of(&left);
-    let left = boxed(alloc, left)?;
-    let right = boxed(alloc, right)?;
+    let left = new_box(alloc, left)?;
+    let right = new_box(alloc, right)?;
     Ok(Parse::Join(Infix::With, left, right, place))
 }
 
@@ -139,11 +134,11 @@ fn read_item(text: &Text<'_>, here: &mut usize, kind: FileKind) -> Result<FileIt
     match kind {
         FileKind::Signature => {
             let item = signature_item(text, here);
-            closed(text, here, Kind::Stop, item)
+            close_part(text, here, Kind::Stop, item)
         }
         FileKind::Module => {
             let item = module_item(text, here);
-            closed(text, here, Kind::Stop, item)
+            close_part(text, here, Kind::Stop, item)
         }
     }
 }

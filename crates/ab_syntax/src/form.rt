@@ -2,16 +2,13 @@
 ghost use Rattle.ab_grammar.proofs.Following.{Followed, BeforeStop};
 ghost use Rattle.ab_grammar.specs.CommandTable.{LabelledForm, CommandForm, CommandText};
 ghost use Rattle.ab_syntax.specs.Commands.{command_of, proof_command_of};
-ghost use Rattle.ab_syntax.specs.Reader.{rest, Found};
+ghost use Rattle.ab_expressions.specs.Reader.{rest, Found};
 
 use crate::command::{Command, ProofCommand};
 use crate::command_heads::{Opening, opening_at, opening_of};
-use crate::kind::Kind;
 use crate::proof_row::proof_row;
 use crate::row::row;
-use crate::stop::Stop;
-use crate::text::{Text, closed, expect, name_of, next};
-use crate::words::takes_label;
+use ab_expressions::{Kind, Stop, Text, close_part, expect, name_of, next, takes_label};
 
 /// Reads a proof command behind a label.
 fn behind_label(text: &Text<'_>, here: &mut usize) -> Result<ProofCommand, Stop>
@@ -59,5 +56,5 @@ pub(crate) fn read_command(text: &Text<'_>, here: &mut usize) -> Result<Command,
     ensures { Found CommandText Followed command_of (rest text.now here.old) (rest text.now here.new) result }
 {
     let command = command_form(text, here);
-    closed(text, here, Kind::Stop, command)
+    close_part(text, here, Kind::Stop, command)
 }

@@ -2,14 +2,12 @@
 ghost use Rattle.std.specs.Prelude.{◌≡◌, ◌≤◌, ◌∷◌, ℕ, List, length, take, IfOk, map};
 ghost use Rattle.ab_grammar.specs.Token as Grammatical;
 ghost use Rattle.ab_grammar.specs.FileTokens.{opened, clause_tokens, item_tokens, sentence};
-ghost use Rattle.ab_syntax.specs.Tokens.{StandIn, tokens_from};
-ghost use Rattle.ab_syntax.specs.Kinds.{meaning};
-ghost use Rattle.ab_syntax.specs.Reader.{seen, place_of};
+ghost use Rattle.ab_expressions.specs.Tokens.{StandIn, tokens_from};
+ghost use Rattle.ab_expressions.specs.Kinds.{meaning};
+ghost use Rattle.ab_expressions.specs.Reader.{seen, place_of};
 ghost use Rattle.ab_syntax.specs.GoalCommas.{brackets_of, seen_behind};
 
-use crate::kind::Kind;
-use crate::located_tokens::Seen;
-use crate::text::{see, see_all};
+use ab_expressions::{Kind, Seen, see, see_all};
 use ab_grammar::FileKind;
 use ab_lex::Token;
 use std::alloc::{AllocError, Global};

@@ -3,14 +3,11 @@ ghost use Rattle.std.specs.Prelude.{IfOk};
 ghost use Rattle.ab_grammar.proofs.Following.{Anything};
 ghost use Rattle.ab_grammar.specs.CommandForms.{One};
 ghost use Rattle.ab_syntax.specs.Leaves.{Leaf, IsShown, IsTakenNext, name_form, number_form, argument};
-ghost use Rattle.ab_syntax.specs.Reader.{seen, rest, Found};
+ghost use Rattle.ab_expressions.specs.Reader.{seen, rest, Found};
 
 use crate::command::Argument;
-use crate::kind::Kind;
-use crate::located_tokens::Seen;
 use crate::numbers::{is_declarable, nominal, value};
-use crate::stop::Stop;
-use crate::text::{Text, name_of, next, spell};
+use ab_expressions::{Kind, Seen, Stop, Text, name_of, next, spell};
 use ab_name::Name;
 use std::alloc::{AllocError, Global};
 
@@ -22,7 +19,7 @@ pub(crate) trait Shown: Copy + Drop {
     ghost leaf: { Self → Leaf Self.Value };
 
     /// The value that a token shows, if it shows one.
-    fn shown(self, alloc: Global, token: Seen<'_>) -> Result<Option<Self::Value>, AllocError>
+    fn value_shown(self, alloc: Global, token: Seen<'_>) -> Result<Option<Self::Value>, AllocError>
         ensures { IfOk result (IsShown (leaf self) (seen token.entry)) };
 }
 
@@ -37,7 +34,7 @@ pub(crate) fn take_if<S: Shown>(
     let Some(token) = next(text, *here) else {
         return Ok(None);
     };
-    let value = form.shown(text.alloc, token)?;
+    let value = form.value_shown(text.alloc, token)?;
     *here += usize::from(value.is_some());
     Ok(value)
 }
@@ -65,7 +62,7 @@ impl Shown for NameForm {
 
     ghost leaf = { name_form };
 
-    fn shown(self, alloc: Global, token: Seen<'_>) -> Result<Option<Name>, AllocError> {
+    fn value_shown(self, alloc: Global, token: Seen<'_>) -> Result<Option<Name>, AllocError> {
         let written = token.written;
         let name = match (token.kind, self) {
             (Kind::Word, NameForm::Any) => written,
@@ -95,7 +92,7 @@ impl Shown for NumberForm {
 
     ghost leaf = { number_form };
 
-    fn shown(self, _alloc: Global, token: Seen<'_>) -> Result<Option<u32>, AllocError> {
+    fn value_shown(self, _alloc: Global, token: Seen<'_>) -> Result<Option<u32>, AllocError> {
         match (token.kind, self) {
             (Kind::Word, NumberForm::Nominal) => Ok(nominal(token.written)),
             (Kind::Number, NumberForm::Any) => Ok(Some(value(token.written))),
@@ -124,7 +121,7 @@ impl Shown for ArgumentForm {
 
     ghost leaf = { λ f. argument };
 
-    fn shown(self, alloc: Global, token: Seen<'_>) -> Result<Option<Argument>, AllocError> {
+    fn value_shown(self, alloc: Global, token: Seen<'_>) -> Result<Option<Argument>, AllocError> {
         match token.kind {
             Kind::Word if token.written == b"_".as_slice() => Ok(Some(Argument::Hole)),
             Kind::Word => Ok(Some(Argument::Named(name_of(alloc, token)?))),

@@ -4,16 +4,13 @@ ghost use Rattle.ab_grammar.specs.Language.{Key};
 ghost use Rattle.ab_grammar.specs.CommandForms.{One, Many, OneOrMore, Separated};
 ghost use Rattle.ab_grammar.proofs.Following.{Without};
 ghost use Rattle.ab_grammar.proofs.Reading.{ReadsOff};
-ghost use Rattle.ab_syntax.specs.Items.{list_of};
-ghost use Rattle.ab_syntax.specs.Kinds.{key_of};
+ghost use Rattle.ab_expressions.specs.Items.{list_of};
+ghost use Rattle.ab_expressions.specs.Kinds.{key_of};
 ghost use Rattle.ab_syntax.specs.Lists.{ListForm};
-ghost use Rattle.ab_syntax.specs.Reader.{rest, Found};
+ghost use Rattle.ab_expressions.specs.Reader.{rest, Found};
 
-use crate::items::Items;
-use crate::kind::Kind;
 use crate::leaf::{Shown, take_if};
-use crate::stop::Stop;
-use crate::text::{Text, takes};
+use ab_expressions::{Items, Kind, Stop, Text, takes};
 use std::alloc::AllocError;
 
 /// Puts an item behind the others.

@@ -4,7 +4,7 @@ ghost use Rattle.std.specs.List.{list_all};
 ghost use Rattle.std.specs.Char.{is_ascii_digit};
 ghost use Rattle.std.specs.Str.Parse.{digits_value};
 ghost use Rattle.ab_grammar.specs.CommandTable.{IsNominal, IsDeclarable};
-ghost use Rattle.ab_syntax.specs.Digits.{IsShort, IsPositive, HasNominalForm};
+ghost use Rattle.ab_expressions.specs.Digits.{IsShort, IsPositive, HasNominalForm};
 
 /// Whether all bytes are decimal digits.
 pub(crate) fn are_digits(bytes: &[u8]) -> bool

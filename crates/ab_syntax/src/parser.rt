@@ -3,19 +3,15 @@ ghost use Rattle.std.specs.Prelude.{◌≡◌, ℕ, IfOk};
 ghost use Rattle.ab_lex.specs.Tokens.{TokensOf};
 ghost use Rattle.ab_grammar.specs.Language.{Expression, TypeExpression, Accepted, SyntaxAt, TooNestedAt};
 ghost use Rattle.ab_grammar.specs.CommandTable.{CommandText};
-ghost use Rattle.ab_syntax.specs.Tokens.{StandIn, origin_of, tokens_from, tokens_in};
+ghost use Rattle.ab_expressions.specs.Tokens.{StandIn, origin_of, tokens_from, tokens_in};
 ghost use Rattle.ab_syntax.specs.Commands.{command_of};
-ghost use Rattle.ab_syntax.specs.SyntaxTrees.{tree_of, type_of};
+ghost use Rattle.ab_expressions.specs.SyntaxTrees.{tree_of, type_of};
 ghost use Rattle.ab_syntax.specs.Faults.{place_past, fault_place, nested_from, nested_place, IsCommandPlaceFrom, IsCommandPlace};
 
-use crate::answer::{answer, told};
+use crate::answer::{answer, token_told};
 use crate::command::Command;
-use crate::fault::ParseFault;
 use crate::form::read_command;
-use crate::step::read_expression;
-use crate::text::{Text, see_all};
-use crate::tree::{Parse, TypeParse};
-use crate::types::read_type;
+use ab_expressions::{Parse, ParseFault, Text, TypeParse, read_expression, read_type, see_all};
 use ab_lex::Token;
 use std::alloc::Global;
 
@@ -134,7 +130,7 @@ pub fn parse_command_from(
     };
     let mut here = 0;
     let found = read_command(&text, &mut here);
-    answer(&text, here, told(&text, here), found)
+    answer(&text, here, token_told(&text, here), found)
 }
 
 /// Reads a command, which is all of the tokens of the bytes.

@@ -5,20 +5,16 @@ ghost use Rattle.ab_grammar.proofs.Following.{Anything, Except, BeforeStop, Argu
 ghost use Rattle.ab_grammar.specs.CommandForms.{One, ◌▸◌, ◌◂◌, Optional};
 ghost use Rattle.ab_grammar.specs.CommandTable.{Name as AnyName, Word as WordForm, Arguments, Nominals, Instances};
 ghost use Rattle.ab_syntax.specs.Commands.{argument_of, instance_of};
-ghost use Rattle.ab_syntax.specs.Items.{list_of};
-ghost use Rattle.ab_syntax.specs.Kinds.{key_of, IsKey};
+ghost use Rattle.ab_expressions.specs.Items.{list_of};
+ghost use Rattle.ab_expressions.specs.Kinds.{key_of, IsKey};
 ghost use Rattle.ab_syntax.specs.Leaves.{ShowsInForm};
 ghost use Rattle.ab_syntax.specs.Lists.{declared_names, instances};
-ghost use Rattle.ab_syntax.specs.Reader.{rest, Found, IsWordTaken};
+ghost use Rattle.ab_expressions.specs.Reader.{rest, Found, IsWordTaken};
 
 use crate::command::{Argument, Instance};
-use crate::items::Items;
-use crate::kind::Kind;
 use crate::leaf::{ArgumentForm, NameForm, NumberForm, take};
 use crate::list::{Item, items, take_some};
-use crate::step::read_expression;
-use crate::stop::Stop;
-use crate::text::{Text, closed, expect, next, takes};
+use ab_expressions::{Items, Kind, Stop, Text, close_part, expect, next, read_expression, takes};
 use ab_name::Name;
 
 /// Takes the next token where it is this word, and says whether it is.
@@ -52,7 +48,7 @@ pub(crate) fn name_and(text: &Text<'_>, here: &mut usize, key: Kind) -> Result<N
     ensures { Found (AnyName ◂ Key (key_of key)) Anything (λ x. x) (rest text.now here.old) (rest text.now here.new) result }
 {
     let name = take(text, here, NameForm::Any);
-    closed(text, here, key, name)
+    close_part(text, here, key, name)
 }
 
 impl Item for Name {
@@ -97,7 +93,7 @@ pub(crate) fn nominals(text: &Text<'_>, here: &mut usize) -> Result<Items<u32>, 
 {
     expect(text, here, Kind::LeftParen)?;
     let numbers = take_some(text, here, NumberForm::Nominal);
-    closed(text, here, Kind::RightParen, numbers)
+    close_part(text, here, Kind::RightParen, numbers)
 }
 
 impl Item for Instance {

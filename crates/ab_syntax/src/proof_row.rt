@@ -5,16 +5,13 @@ ghost use Rattle.ab_grammar.specs.CommandForms.{One, Optional};
 ghost use Rattle.ab_grammar.proofs.Following.{BeforeStop};
 ghost use Rattle.ab_grammar.specs.CommandTable.{Keep, ShowsDepth, ProofRow};
 ghost use Rattle.ab_syntax.specs.Commands.{proof_command_of};
-ghost use Rattle.ab_syntax.specs.Reader.{rest, Found};
+ghost use Rattle.ab_expressions.specs.Reader.{rest, Found};
 
 use crate::command::{Instance, ProofCommand};
-use crate::kind::Kind;
 use crate::leaf::{NameForm, NumberForm, take, take_if};
 use crate::list::{items, take_all, take_some};
 use crate::part::{keyword, name_and, nominals, optional_arguments, optional_instances};
-use crate::step::read_expression;
-use crate::stop::Stop;
-use crate::text::{Text, closed, expect, is_next, takes};
+use ab_expressions::{Kind, Stop, Text, close_part, expect, is_next, read_expression, takes};
 use ab_grammar::ProofHead;
 
 /// Reads `( keep )`, where that is there.
@@ -23,7 +20,7 @@ fn optional_keep(text: &Text<'_>, here: &mut usize) -> Result<bool, Stop>
 {
     if takes(text, here, Kind::LeftParen) {
         let keep = keyword(text, here, b"keep");
-        closed(text, here, Kind::RightParen, keep)?;
+        close_part(text, here, Kind::RightParen, keep)?;
         return Ok(true);
     }
     Ok(false)

@@ -3,18 +3,14 @@ ghost use Rattle.ab_grammar.proofs.Following.{BeforeStop};
 ghost use Rattle.ab_grammar.specs.CommandTable.{Switch, Row};
 ghost use Rattle.ab_grammar.specs.declared.head.Head.TheVariants as head;
 ghost use Rattle.ab_syntax.specs.Commands.{command_of};
-ghost use Rattle.ab_syntax.specs.Reader.{rest, Found};
+ghost use Rattle.ab_expressions.specs.Reader.{rest, Found};
 
 use crate::block::block;
 use crate::command::Command;
-use crate::kind::Kind;
 use crate::leaf::{NameForm, NumberForm, take};
 use crate::list::items;
 use crate::part::{keyword, name_and, number_behind};
-use crate::step::read_expression;
-use crate::stop::Stop;
-use crate::text::{Text, closed, takes};
-use crate::types::read_type;
+use ab_expressions::{Kind, Stop, Text, close_part, read_expression, read_type, takes};
 use ab_grammar::Head;
 use ab_name::Name;
 
@@ -46,7 +42,7 @@ pub(crate) fn row(text: &Text<'_>, here: &mut usize, head: Head) -> Result<Comma
     match head {
         Head::Kind => {
             let names = items::<Name>(text, here, Kind::Comma);
-            Ok(Command::Kind(closed(text, here, Kind::Type, names)?))
+            Ok(Command::Kind(close_part(text, here, Kind::Type, names)?))
         }
         Head::Typed => {
             let names = items::<Name>(text, here, Kind::Comma)?;

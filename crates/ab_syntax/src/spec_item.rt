@@ -1,7 +1,6 @@
 //! The items of specification files, as they are written.
 use crate::command::ClauseParse;
-use crate::items::Items;
-use crate::tree::TypeParse;
+use ab_expressions::{Items, TypeParse};
 use ab_name::Name;
 
 /// An item of a specification file that declares something.

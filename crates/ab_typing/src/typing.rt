@@ -108,7 +108,7 @@ fn check_node(
         TypeView::Base(_) => match store.view(id) {
             Node::Lam(_, _, _) => Ok(false),
             Node::Spine(head, args) => {
-                match taken(types, store, built, scope.names.as_slice(), *head) {
+                match rest_of_head(types, store, built, scope.names.as_slice(), *head) {
                     None => Ok(false),
                     Some(rest) => {
                         check_all(types, store, built, scope, args.as_slice(), rest, ty)
@@ -223,7 +223,7 @@ fn check_all(
 }
 
 /// What the head takes; `None` where it is an index of no bound name.
-fn taken(
+fn rest_of_head(
     types: &TypeTable,
     store: &Store,
     built: BuiltIn,

@@ -9,7 +9,7 @@ use Rattle.ab_norm.specs.ab_types.specs.Entries.{Table}
 use Rattle.ab_norm.specs.ab_store.specs.declared.node.CellId.{CellId}
 use Rattle.ab_norm.specs.ab_store.specs.Trees.{Contents}
 use Rattle.ab_patterns.specs.declared.equation.Numbered.{Numbered}
-use Rattle.ab_unifiers.specs.Unification.{State, Equation, unified, image_of, Next, finished, goes_on, next_by, ending, carried}
+use Rattle.ab_patterns.specs.ab_unifiers.specs.Unification.{State, Equation, unified, image_of, Next, finished, goes_on, next_by, ending, carried}
 use Rattle.ab_unify.specs.declared.flexible_rules.Step.TheVariants.{NoRule, Clash, Parts, Replaced}
 use Rattle.ab_unify.specs.Problem.{cells_read, variables_read}
 use Rattle.ab_unify.specs.StoreChanges.{Changed}

@@ -15,14 +15,14 @@ use Rattle.ab_norm.specs.ab_store.specs.Trees.{Contents}
 use Rattle.ab_norm.specs.ab_store.specs.Reading.{reading}
 use Rattle.ab_norm.specs.ab_store.specs.Naming.{IsTypedBy, IsTerm}
 use Rattle.ab_norm.specs.ab_store.proofs.Putting.{read_typed}
-use Rattle.ab_unifiers.specs.Replacements.{Cell}
-use Rattle.ab_unifiers.specs.Unification as rules
-use Rattle.ab_unifiers.specs.Unification.{Solves}
-use Rattle.ab_unifiers.specs.Unifiers.{AreTyped, AreKnown, AreOver, Unifies, restricted, IsUnifier, IsMostGeneral}
-use Rattle.ab_unifiers.proofs.Unique.{unique}
-use Rattle.ab_unifiers.proofs.Problems.{answer_typed, answer_unifies}
-use Rattle.ab_unifiers.proofs.Given.{apart_none, most_general}
-use Rattle.ab_unifiers.proofs.Restricted.{restricted_general}
+use Rattle.ab_patterns.specs.ab_unifiers.specs.Replacements.{Cell}
+use Rattle.ab_patterns.specs.ab_unifiers.specs.Unification as rules
+use Rattle.ab_patterns.specs.ab_unifiers.specs.Unification.{Solves}
+use Rattle.ab_patterns.specs.ab_unifiers.specs.Unifiers.{AreTyped, AreKnown, AreOver, Unifies, restricted, IsUnifier, IsMostGeneral}
+use Rattle.ab_patterns.specs.ab_unifiers.proofs.Unique.{unique}
+use Rattle.ab_patterns.specs.ab_unifiers.proofs.Problems.{answer_typed, answer_unifies}
+use Rattle.ab_patterns.specs.ab_unifiers.proofs.Given.{apart_none, most_general}
+use Rattle.ab_patterns.specs.ab_unifiers.proofs.Restricted.{restricted_general}
 use Rattle.ab_unify.specs.Problem.{cells_read, variables_read, equations_from, equations_read, problem}
 use Rattle.ab_unify.specs.StoreChanges.{IsFree}
 use Rattle.ab_unify.proofs.RigidSolutions.{known_cells}

@@ -12,8 +12,8 @@ use Rattle.ab_norm.specs.ab_store.specs.declared.node.CellEntry.{CellEntry}
 use Rattle.ab_norm.specs.ab_store.specs.Trees.{Contents, HoldsCell, cell_of}
 use Rattle.ab_norm.specs.ab_store.specs.Reading.{cell_variable}
 use Rattle.ab_norm.specs.ab_store.specs.Naming.{IsTypedBy}
-use Rattle.ab_unifiers.specs.Replacements as solve
-use Rattle.ab_unifiers.proofs.Falling.{map_length}
+use Rattle.ab_patterns.specs.ab_unifiers.specs.Replacements as solve
+use Rattle.ab_patterns.specs.ab_unifiers.proofs.Falling.{map_length}
 use Rattle.ab_unify.specs.Problem.{cell_read, cells_read, variables_read}
 use Rattle.ab_unify.specs.StoreChanges.{Grows, IsFree}
 use Rattle.ab_unify.proofs.Growth.{grown_variable, one_more}

@@ -5,10 +5,10 @@ use Rattle.ab_term.specs.Types.{Ty}
 use Rattle.ab_term.specs.Terms.{Variable, Head, constant, logical, nominal, variable, index, Term, Terms, lam, spine}
 use Rattle.ab_term.specs.Sameness.{same_numbered, same_head}
 use Rattle.ab_term.proofs.Same.{same_numbered-Decides}
-use Rattle.ab_unifiers.specs.Patterns.{pattern}
-use Rattle.ab_unifiers.specs.Replacements.{Cell, holds, is_flexible}
-use Rattle.ab_unifiers.specs.Unification.{Result, clash, parts, paired, or_else, is_older, rigid_heads, pattern_of, pattern_and_rigid, same_variable_at, one_variable, two_at, two_variables}
-use Rattle.ab_unifiers.proofs.Falling.{older_holds}
+use Rattle.ab_patterns.specs.ab_unifiers.specs.Patterns.{pattern}
+use Rattle.ab_patterns.specs.ab_unifiers.specs.Replacements.{Cell, holds, is_flexible}
+use Rattle.ab_patterns.specs.ab_unifiers.specs.Unification.{Result, clash, parts, paired, or_else, is_older, rigid_heads, pattern_of, pattern_and_rigid, same_variable_at, one_variable, two_at, two_variables}
+use Rattle.ab_patterns.specs.ab_unifiers.proofs.Falling.{older_holds}
 use Rattle.ab_unify.specs.Outcome.{last_rules}
 
 abbrev Bytes : Type 0

@@ -1,7 +1,7 @@
 -- How many rules a step carries out.
 use Rattle.std.proofs.Common.{◌≡◌, ℕ, suc, ◌≤◌, None, refl, sym, ◌∙◌, ap, subst, arith}
-use Rattle.ab_unifiers.specs.Unification.{State, Answer, apart, rule, first_found, finished, goes_on, next_by, next, ending}
-use Rattle.ab_unifiers.proofs.Unique.{not_both, one_step}
+use Rattle.ab_patterns.specs.ab_unifiers.specs.Unification.{State, Answer, apart, rule, first_found, finished, goes_on, next_by, next, ending}
+use Rattle.ab_patterns.specs.ab_unifiers.proofs.Unique.{not_both, one_step}
 use Rattle.ab_unify.specs.RuleCounts.{Takes, no_rule, last_rule, one_rule}
 
 module _ {Hint : Type 0} (x : Hint) where

@@ -2,7 +2,7 @@
 use Rattle.std.proofs.Common.{◌≡◌, List, [], ◌∷◌, ◌++◌, Option, Some, None, refl, ◌∙◌, ap}
 use Rattle.std.specs.Prelude.{All}
 use Rattle.std.proofs.lemmas.List.Elements.{All-head, All-tail}
-use Rattle.ab_unifiers.specs.Unification.{Equation, Result, first_found, found_at}
+use Rattle.ab_patterns.specs.ab_unifiers.specs.Unification.{Equation, Result, first_found, found_at}
 
 module _ {Hint : Type 0} (f : Equation Hint → Option (Result Hint)) where
   pub found_first : (before : List (Equation Hint)) (e : Equation Hint) (behind : List (Equation Hint)) (r : Result Hint) → All (λ e. f e ≡ None) before → f e ≡ Some r

@@ -22,14 +22,14 @@ use Rattle.ab_norm.specs.ab_store.specs.Reading.{cell_variable}
 use Rattle.ab_norm.specs.ab_store.specs.Naming.{HoldsHead, HeadIsTyped, IsTypedBy}
 use Rattle.ab_norm.specs.ab_store.proofs.Tables.{head_typed}
 use Rattle.ab_norm.specs.NodeGrowth.{AddsTypedTerms}
-use Rattle.ab_unifiers.specs.Patterns.{applied, value, kept, kept_type}
-use Rattle.ab_unifiers.specs.Replacements as solve
-use Rattle.ab_unifiers.specs.Replacements.{Change, without, next_variable, narrowed, made}
-use Rattle.ab_unifiers.specs.Unification.{joined_at}
-use Rattle.ab_unifiers.proofs.Avoiding.{AreNames as AllNames, value_avoids, image_avoided}
+use Rattle.ab_patterns.specs.ab_unifiers.specs.Patterns.{applied, value, kept, kept_type}
+use Rattle.ab_patterns.specs.ab_unifiers.specs.Replacements as solve
+use Rattle.ab_patterns.specs.ab_unifiers.specs.Replacements.{Change, without, next_variable, narrowed, made}
+use Rattle.ab_patterns.specs.ab_unifiers.specs.Unification.{joined_at}
+use Rattle.ab_patterns.specs.ab_unifiers.proofs.Avoiding.{AreNames as AllNames, value_avoids, image_avoided}
 use Rattle.ab_patterns.proofs.Narrowed.{kept_all, kept_map, are_names}
-use Rattle.ab_unifiers.proofs.Pruning.{kept_pass}
-use Rattle.ab_unifiers.proofs.Readings.{kept_named}
+use Rattle.ab_patterns.specs.ab_unifiers.proofs.Pruning.{kept_pass}
+use Rattle.ab_patterns.specs.ab_unifiers.proofs.Readings.{kept_named}
 use Rattle.ab_patterns.proofs.Renewed.{named_still}
 use Rattle.ab_unify.specs.StoreChanges.{Grows, IsName, AreNames}
 use Rattle.ab_unify.proofs.Growth.{grows_on, grows_terms, grown_type, grown_variable}

@@ -14,9 +14,9 @@ use Rattle.ab_norm.specs.ab_store.specs.Reading.{reading}
 use Rattle.ab_norm.specs.ab_store.specs.Naming.{IsTypedBy, IsTerm}
 use Rattle.ab_norm.specs.ab_store.proofs.Putting.{read_typed}
 use Rattle.ab_patterns.specs.declared.equation.Numbered.{Numbered}
-use Rattle.ab_unifiers.specs.Replacements.{Change}
-use Rattle.ab_unifiers.specs.Unification.{image_of, rule, unchanged}
-use Rattle.ab_unifiers.proofs.Ruling.{image_none}
+use Rattle.ab_patterns.specs.ab_unifiers.specs.Replacements.{Change}
+use Rattle.ab_patterns.specs.ab_unifiers.specs.Unification.{image_of, rule, unchanged}
+use Rattle.ab_patterns.specs.ab_unifiers.proofs.Ruling.{image_none}
 use Rattle.ab_unify.specs.Problem.{cells_read, variables_read}
 use Rattle.ab_unify.specs.StoreChanges.{Grows, IsFree, Changed}
 use Rattle.ab_unify.specs.Outcome.{equation_read, IsTypedEquation, still}

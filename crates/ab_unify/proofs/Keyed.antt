@@ -9,16 +9,16 @@ use Rattle.ab_term.specs.Variables.{Substitution, image, composition}
 use Rattle.ab_term.specs.Sameness.{same_numbered, same_head, same_number, same_term}
 use Rattle.ab_term.specs.Abstraction.{among, under}
 use Rattle.ab_term.proofs.Same.{same_numbered-Decides}
-use Rattle.ab_unifiers.specs.Patterns.{pattern, applied, kept, kept_type}
-use Rattle.ab_unifiers.specs.Replacements.{Cell, Change, without, holds, is_flexible, has_patterns, occurs, no_foreign, made, next_variable, one, narrowed, pruned_names, pruned_here, pruned, pruned_all}
-use Rattle.ab_unifiers.specs.Unification.{Equation, State, Result, clash, parts, replaced, paired, equal_sides, bodies, rigid_heads, is_older, agreeing, begun, unchanged, put_in, pattern_of, pattern_and_rigid, same_variable_at, one_variable, joined_at, two_at, two_variables, either_way, rule, Found, finished, goes_on, first_found, found_at, carried, next_by, next, image_of, ending, apart, unified}
-use Rattle.ab_unifiers.specs.Unifiers.{AreKnown, IsCell, keys, Comes}
-use Rattle.ab_unifiers.proofs.Steps.{OnResult, OnFound, on_or_else, on_cond}
-use Rattle.ab_unifiers.proofs.Avoiding.{not_held}
-use Rattle.ab_unifiers.proofs.Agreeing.{holds_front, holds_behind, holds_itself}
-use Rattle.ab_unifiers.proofs.Keys.{keys-composition, KeysFine}
-use Rattle.ab_unifiers.proofs.Once.{first_once}
-use Rattle.ab_unifiers.proofs.Cells.{Grows, grows_none, grows_then}
+use Rattle.ab_patterns.specs.ab_unifiers.specs.Patterns.{pattern, applied, kept, kept_type}
+use Rattle.ab_patterns.specs.ab_unifiers.specs.Replacements.{Cell, Change, without, holds, is_flexible, has_patterns, occurs, no_foreign, made, next_variable, one, narrowed, pruned_names, pruned_here, pruned, pruned_all}
+use Rattle.ab_patterns.specs.ab_unifiers.specs.Unification.{Equation, State, Result, clash, parts, replaced, paired, equal_sides, bodies, rigid_heads, is_older, agreeing, begun, unchanged, put_in, pattern_of, pattern_and_rigid, same_variable_at, one_variable, joined_at, two_at, two_variables, either_way, rule, Found, finished, goes_on, first_found, found_at, carried, next_by, next, image_of, ending, apart, unified}
+use Rattle.ab_patterns.specs.ab_unifiers.specs.Unifiers.{AreKnown, IsCell, keys, Comes}
+use Rattle.ab_patterns.specs.ab_unifiers.proofs.Steps.{OnResult, OnFound, on_or_else, on_cond}
+use Rattle.ab_patterns.specs.ab_unifiers.proofs.Avoiding.{not_held}
+use Rattle.ab_patterns.specs.ab_unifiers.proofs.Agreeing.{holds_front, holds_behind, holds_itself}
+use Rattle.ab_patterns.specs.ab_unifiers.proofs.Keys.{keys-composition, KeysFine}
+use Rattle.ab_patterns.specs.ab_unifiers.proofs.Once.{first_once}
+use Rattle.ab_patterns.specs.ab_unifiers.proofs.Cells.{Grows, grows_none, grows_then}
 
 -- one of these, or a variable of the cells behind the first n
 abbrev Is : {Hint : Type 0} → ℕ → List (Variable ℕ) → List (Cell Hint) → Variable ℕ → Type 0

@@ -13,10 +13,10 @@ use Rattle.ab_norm.specs.ab_store.specs.Trees.{Contents, HoldsCell}
 use Rattle.ab_norm.specs.ab_store.specs.Reading.{cell_variable}
 use Rattle.ab_norm.specs.ab_store.specs.Bindings.{IsUnbound}
 use Rattle.ab_patterns.specs.declared.equation.Numbered.{Numbered}
-use Rattle.ab_unifiers.specs.Replacements.{Cell, holds}
-use Rattle.ab_unifiers.specs.Unifiers.{IsCell, keys}
-use Rattle.ab_unifiers.proofs.Agreeing.{contains_holds}
-use Rattle.ab_unifiers.proofs.Falling.{map_length}
+use Rattle.ab_patterns.specs.ab_unifiers.specs.Replacements.{Cell, holds}
+use Rattle.ab_patterns.specs.ab_unifiers.specs.Unifiers.{IsCell, keys}
+use Rattle.ab_patterns.specs.ab_unifiers.proofs.Agreeing.{contains_holds}
+use Rattle.ab_patterns.specs.ab_unifiers.proofs.Falling.{map_length}
 use Rattle.ab_patterns.proofs.Standing.{holds_contains}
 use Rattle.ab_unify.specs.Problem.{cell_read, cells_read, variables_read}
 use Rattle.ab_unify.specs.StoreChanges.{IsFree}

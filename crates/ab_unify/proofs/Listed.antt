@@ -12,7 +12,7 @@ use Rattle.ab_norm.specs.ab_types.specs.Entries.{Table}
 use Rattle.ab_norm.specs.ab_store.specs.declared.node.CellId.{CellId}
 use Rattle.ab_norm.specs.ab_store.specs.Trees.{Contents}
 use Rattle.ab_norm.specs.ab_store.specs.Reading.{cell_variable}
-use Rattle.ab_unifiers.specs.Replacements.{without}
+use Rattle.ab_patterns.specs.ab_unifiers.specs.Replacements.{without}
 use Rattle.ab_unify.specs.StoreChanges.{others_than}
 
 pub same_cell : (c d : CellId) → c.0 ≡ d.0 → c ≡ d

@@ -17,8 +17,8 @@ use Rattle.ab_norm.specs.ab_store.specs.Trees.{Contents, tree_of}
 use Rattle.ab_norm.specs.ab_store.specs.Reading.{cell_variable}
 use Rattle.ab_patterns.specs.declared.visited_nodes.Seen.{Seen}
 use Rattle.ab_patterns.specs.ReadingWalks.{has_been, deep}
-use Rattle.ab_unifiers.specs.Patterns.{pattern}
-use Rattle.ab_unifiers.specs.Replacements.{Change, holds, is_flexible, narrowed, pruned_names, pruned_here, pruned, pruned_all}
+use Rattle.ab_patterns.specs.ab_unifiers.specs.Patterns.{pattern}
+use Rattle.ab_patterns.specs.ab_unifiers.specs.Replacements.{Change, holds, is_flexible, narrowed, pruned_names, pruned_here, pruned, pruned_all}
 use Rattle.ab_unify.specs.Problem.{cell_read}
 use Rattle.ab_unify.specs.StoreChanges.{Changed}
 use Rattle.ab_unify.specs.Pruning.{AllPruned}

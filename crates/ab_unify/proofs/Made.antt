@@ -13,7 +13,7 @@ use Rattle.ab_norm.specs.ab_store.specs.Trees.{Contents, HoldsCell}
 use Rattle.ab_norm.specs.ab_store.specs.Reading.{bound_in}
 use Rattle.ab_norm.specs.ab_store.specs.Bindings.{AreInOrder}
 use Rattle.ab_norm.specs.ab_store.specs.Naming.{BindingIsTyped}
-use Rattle.ab_unifiers.specs.Replacements.{Change}
+use Rattle.ab_patterns.specs.ab_unifiers.specs.Replacements.{Change}
 use Rattle.ab_unify.specs.StoreChanges.{IsFree, Changed}
 use Rattle.ab_unify.proofs.Growth.{front_bindings, was_unbound}
 use Rattle.ab_unify.proofs.Listed.{same_cell}

@@ -2,9 +2,9 @@
 use Rattle.std.proofs.Common.{◌≡◌, ℕ, suc, ◌<◌, ◌++◌, map, Option, Some, None, refl, sym, ap, subst, arith}
 use Rattle.ab_term.specs.Variables.{Substitution, composition}
 use Rattle.ab_term.specs.Sameness.{same_number}
-use Rattle.ab_unifiers.specs.Unification.{State, Answer, apart, Result, clash, parts, replaced, rule, image_of, Found, first_found, finished, goes_on, carried, ending, next_by, next}
-use Rattle.ab_unifiers.proofs.Unique.{not_both, one_step}
-use Rattle.ab_unifiers.proofs.Ending.{answered, Takes, takes_none, takes_more, counted, steps_left, steps_fall}
+use Rattle.ab_patterns.specs.ab_unifiers.specs.Unification.{State, Answer, apart, Result, clash, parts, replaced, rule, image_of, Found, first_found, finished, goes_on, carried, ending, next_by, next}
+use Rattle.ab_patterns.specs.ab_unifiers.proofs.Unique.{not_both, one_step}
+use Rattle.ab_patterns.specs.ab_unifiers.proofs.Ending.{answered, Takes, takes_none, takes_more, counted, steps_left, steps_fall}
 
 module _ {Hint : Type 0} (x : Hint) where
   -- the same, where these pairs were put in

@@ -22,11 +22,11 @@ use Rattle.ab_norm.specs.ab_store.specs.Reading.{reading, cell_variable}
 use Rattle.ab_norm.specs.ab_store.specs.Bindings.{IsUnbound}
 use Rattle.ab_norm.specs.ab_store.specs.Naming.{IsTypedBy, IsTerm}
 use Rattle.ab_norm.specs.ab_store.proofs.Putting.{read_typed}
-use Rattle.ab_unifiers.specs.Patterns.{applied, kept, kept_type}
-use Rattle.ab_unifiers.specs.Replacements as solve
-use Rattle.ab_unifiers.specs.Replacements.{Change}
-use Rattle.ab_unifiers.proofs.Falling.{map_length}
-use Rattle.ab_unifiers.proofs.Pruning.{narrow_safe}
+use Rattle.ab_patterns.specs.ab_unifiers.specs.Patterns.{applied, kept, kept_type}
+use Rattle.ab_patterns.specs.ab_unifiers.specs.Replacements as solve
+use Rattle.ab_patterns.specs.ab_unifiers.specs.Replacements.{Change}
+use Rattle.ab_patterns.specs.ab_unifiers.proofs.Falling.{map_length}
+use Rattle.ab_patterns.specs.ab_unifiers.proofs.Pruning.{narrow_safe}
 use Rattle.ab_unify.specs.Problem.{cell_read}
 use Rattle.ab_unify.specs.StoreChanges.{others_than, Grows, IsFree, Changed}
 use Rattle.ab_unify.proofs.Growth.{grows_on, lifted, lifted_all, was_unbound, was_held}

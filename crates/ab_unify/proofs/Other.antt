@@ -19,13 +19,13 @@ use Rattle.ab_norm.specs.ab_store.specs.Trees.{Contents, cell_in, cell_of, head_
 use Rattle.ab_norm.specs.ab_store.specs.Reading.{bound_in, cell_variable}
 use Rattle.ab_norm.specs.ab_store.specs.Bindings.{cells_of, StandsIn, IsUnbound, IsResolved}
 use Rattle.ab_norm.specs.NodeGrowth.{AddsTypedTerms}
-use Rattle.ab_unifiers.specs.Patterns.{applied, value}
-use Rattle.ab_unifiers.specs.Replacements.{holds}
-use Rattle.ab_unifiers.specs.Replacements as solve
-use Rattle.ab_unifiers.proofs.Avoiding.{AreNames as AllNames, value_avoids}
-use Rattle.ab_unifiers.proofs.Values.{applied_typed, value_typed}
-use Rattle.ab_unifiers.proofs.Readings.{applied_only}
-use Rattle.ab_unifiers.proofs.Ruling.{image_none}
+use Rattle.ab_patterns.specs.ab_unifiers.specs.Patterns.{applied, value}
+use Rattle.ab_patterns.specs.ab_unifiers.specs.Replacements.{holds}
+use Rattle.ab_patterns.specs.ab_unifiers.specs.Replacements as solve
+use Rattle.ab_patterns.specs.ab_unifiers.proofs.Avoiding.{AreNames as AllNames, value_avoids}
+use Rattle.ab_patterns.specs.ab_unifiers.proofs.Values.{applied_typed, value_typed}
+use Rattle.ab_patterns.specs.ab_unifiers.proofs.Readings.{applied_only}
+use Rattle.ab_patterns.specs.ab_unifiers.proofs.Ruling.{image_none}
 use Rattle.ab_patterns.proofs.Standing.{avoids_then, stands_holds}
 use Rattle.ab_patterns.proofs.Bound.{same_cell}
 use Rattle.ab_unify.proofs.Listed as listed

@@ -19,8 +19,8 @@ use Rattle.ab_norm.specs.ab_store.specs.Reading.{pairs, reading}
 use Rattle.ab_norm.specs.ab_store.specs.Naming.{HeadNames, NodeNames, BindingIsTyped, IsTypedBy}
 use Rattle.ab_norm.specs.ab_store.proofs.Nodes.{terms_from-at}
 use Rattle.ab_norm.specs.ab_store.proofs.Putting.{pair}
-use Rattle.ab_unifiers.specs.Unifiers.{IsOver}
-use Rattle.ab_unifiers.proofs.Falling.{map_length}
+use Rattle.ab_patterns.specs.ab_unifiers.specs.Unifiers.{IsOver}
+use Rattle.ab_patterns.specs.ab_unifiers.proofs.Falling.{map_length}
 use Rattle.ab_patterns.proofs.Standing.{holds_contains}
 use Rattle.ab_unify.specs.Problem.{cell_read, cells_read}
 

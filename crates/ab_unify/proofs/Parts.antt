@@ -13,11 +13,11 @@ use Rattle.ab_norm.specs.ab_store.specs.Reading.{reading}
 use Rattle.ab_norm.specs.ab_store.specs.Bindings.{IsUnbound}
 use Rattle.ab_patterns.specs.declared.equation.Numbered.{Numbered}
 use Rattle.ab_patterns.specs.EquationReadings.{equation_of, HoldsEquation}
-use Rattle.ab_unifiers.specs.Replacements.{Cell, is_flexible}
-use Rattle.ab_unifiers.specs.Unification.{Equation, Result, clash, parts, replaced, or_else, paired, equal_sides, bodies, rigid_heads}
-use Rattle.ab_unifiers.specs.Unifiers.{AreTyped}
-use Rattle.ab_unifiers.proofs.Steps.{OnResult, on_or_else, on_cond}
-use Rattle.ab_unifiers.proofs.Ruling.{Right, equal_right, bodies_right, heads_right}
+use Rattle.ab_patterns.specs.ab_unifiers.specs.Replacements.{Cell, is_flexible}
+use Rattle.ab_patterns.specs.ab_unifiers.specs.Unification.{Equation, Result, clash, parts, replaced, or_else, paired, equal_sides, bodies, rigid_heads}
+use Rattle.ab_patterns.specs.ab_unifiers.specs.Unifiers.{AreTyped}
+use Rattle.ab_patterns.specs.ab_unifiers.proofs.Steps.{OnResult, on_or_else, on_cond}
+use Rattle.ab_patterns.specs.ab_unifiers.proofs.Ruling.{Right, equal_right, bodies_right, heads_right}
 use Rattle.ab_unify.specs.StoreChanges.{AllUnbound}
 use Rattle.ab_unify.specs.Outcome.{equation_read, IsTypedEquation}
 use Rattle.ab_unify.proofs.Pruned.{unbound_reads}

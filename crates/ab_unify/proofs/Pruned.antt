@@ -26,8 +26,8 @@ use Rattle.ab_norm.specs.ab_store.specs.Naming.{HeadIsTyped}
 use Rattle.ab_norm.specs.ab_store.proofs.Cells.{stands, numbered}
 use Rattle.ab_norm.specs.ab_store.proofs.Putting.{resolved_reads}
 use Rattle.ab_norm.specs.NodeGrowth.{AddsTypedTerms}
-use Rattle.ab_unifiers.specs.Replacements.{Change, holds, pruned_names, pruned, pruned_all, narrowed}
-use Rattle.ab_unifiers.proofs.Avoiding.{AreNames as AllNames}
+use Rattle.ab_patterns.specs.ab_unifiers.specs.Replacements.{Change, holds, pruned_names, pruned, pruned_all, narrowed}
+use Rattle.ab_patterns.specs.ab_unifiers.proofs.Avoiding.{AreNames as AllNames}
 use Rattle.ab_unify.specs.Problem.{cell_read}
 use Rattle.ab_unify.specs.StoreChanges.{IsFree, Changed, AllUnbound, IsName, AreNames}
 use Rattle.ab_unify.proofs.Growth.{grows_on, grows_terms}

@@ -22,11 +22,11 @@ use Rattle.ab_norm.specs.ab_store.specs.declared.mark.Mark.{Mark}
 use Rattle.ab_norm.specs.ab_store.specs.Marks.{HasMark, KeepsMark}
 use Rattle.ab_norm.specs.ab_store.specs.Naming.{IsTypedBy, IsTerm}
 use Rattle.ab_norm.specs.ab_store.proofs.Putting.{read_typed}
-use Rattle.ab_unifiers.specs.Patterns.{value}
-use Rattle.ab_unifiers.specs.Replacements as solve
-use Rattle.ab_unifiers.specs.Replacements.{Change}
-use Rattle.ab_unifiers.specs.Unification.{begun}
-use Rattle.ab_unifiers.proofs.Ruling.{image_none}
+use Rattle.ab_patterns.specs.ab_unifiers.specs.Patterns.{value}
+use Rattle.ab_patterns.specs.ab_unifiers.specs.Replacements as solve
+use Rattle.ab_patterns.specs.ab_unifiers.specs.Replacements.{Change}
+use Rattle.ab_patterns.specs.ab_unifiers.specs.Unification.{begun}
+use Rattle.ab_patterns.specs.ab_unifiers.proofs.Ruling.{image_none}
 use Rattle.ab_unify.specs.Problem.{cell_read, cells_read, variables_read}
 use Rattle.ab_unify.specs.StoreChanges.{others_than, Grows, IsFree, Changed}
 use Rattle.ab_unify.proofs.Growth.{grows_none, grows_on, lifted, was_unbound}

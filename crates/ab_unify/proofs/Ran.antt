@@ -7,8 +7,8 @@ use Rattle.ab_norm.specs.ab_store.specs.declared.node.CellId.{CellId}
 use Rattle.ab_norm.specs.ab_store.specs.Trees.{Contents}
 use Rattle.ab_norm.specs.ab_store.specs.Naming.{IsTypedBy}
 use Rattle.ab_patterns.specs.declared.equation.Numbered.{Numbered}
-use Rattle.ab_unifiers.specs.Unification.{Answer, Solves, at_end, by_step}
-use Rattle.ab_unifiers.proofs.Ending.{steps_left}
+use Rattle.ab_patterns.specs.ab_unifiers.specs.Unification.{Answer, Solves, at_end, by_step}
+use Rattle.ab_patterns.specs.ab_unifiers.proofs.Ending.{steps_left}
 use Rattle.ab_unify.specs.StoreChanges.{IsFree}
 use Rattle.ab_unify.proofs.Put.{starts}
 use Rattle.ab_unify.specs.Problem.{cells_read, variables_read}

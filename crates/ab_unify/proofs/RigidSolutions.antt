@@ -14,16 +14,16 @@ use Rattle.ab_norm.specs.ab_types.specs.Entries.{Table}
 use Rattle.ab_norm.specs.ab_store.specs.declared.node.CellId.{CellId}
 use Rattle.ab_norm.specs.ab_store.specs.Trees.{Contents, HoldsCell}
 use Rattle.ab_norm.specs.ab_store.specs.Reading.{cell_variable}
-use Rattle.ab_unifiers.specs.Patterns.{value}
-use Rattle.ab_unifiers.specs.Replacements.{Cell, Change, holds, has_patterns, occurs, no_foreign, pruned}
-use Rattle.ab_unifiers.specs.Unification.{begun}
-use Rattle.ab_unifiers.specs.Unifiers.{AreKnown}
-use Rattle.ab_unifiers.proofs.Views.{IsPattern}
-use Rattle.ab_unifiers.proofs.Values.{pattern_named, value_typed}
-use Rattle.ab_unifiers.proofs.Falling.{map_length}
-use Rattle.ab_unifiers.proofs.Avoiding.{Avoids, image_avoids, avoids_if}
-use Rattle.ab_unifiers.proofs.Pruned.{pruned_fine}
-use Rattle.ab_unifiers.proofs.Flexible.{Inv, inv_keeps, begun_fine}
+use Rattle.ab_patterns.specs.ab_unifiers.specs.Patterns.{value}
+use Rattle.ab_patterns.specs.ab_unifiers.specs.Replacements.{Cell, Change, holds, has_patterns, occurs, no_foreign, pruned}
+use Rattle.ab_patterns.specs.ab_unifiers.specs.Unification.{begun}
+use Rattle.ab_patterns.specs.ab_unifiers.specs.Unifiers.{AreKnown}
+use Rattle.ab_patterns.specs.ab_unifiers.proofs.Views.{IsPattern}
+use Rattle.ab_patterns.specs.ab_unifiers.proofs.Values.{pattern_named, value_typed}
+use Rattle.ab_patterns.specs.ab_unifiers.proofs.Falling.{map_length}
+use Rattle.ab_patterns.specs.ab_unifiers.proofs.Avoiding.{Avoids, image_avoids, avoids_if}
+use Rattle.ab_patterns.specs.ab_unifiers.proofs.Pruned.{pruned_fine}
+use Rattle.ab_patterns.specs.ab_unifiers.proofs.Flexible.{Inv, inv_keeps, begun_fine}
 use Rattle.ab_patterns.proofs.Standing.{holds_contains}
 use Rattle.ab_unify.specs.Problem.{cell_read, cells_read, variables_read}
 use Rattle.ab_unify.specs.StoreChanges.{IsFree}

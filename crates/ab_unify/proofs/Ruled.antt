@@ -12,7 +12,7 @@ use Rattle.ab_norm.specs.ab_types.specs.Entries.{Table, signature}
 use Rattle.ab_norm.specs.ab_types.specs.Ids.{type_of}
 use Rattle.ab_norm.specs.ab_store.specs.declared.node.TermId.{TermId}
 use Rattle.ab_norm.proofs.Frame.{adds_but_types}
-use Rattle.ab_unifiers.proofs.Values.{pattern_named}
+use Rattle.ab_patterns.specs.ab_unifiers.proofs.Values.{pattern_named}
 use Rattle.ab_norm.specs.ab_store.specs.declared.node.CellId.{CellId}
 use Rattle.ab_norm.specs.ab_store.specs.declared.node.Head as heads
 use Rattle.ab_norm.specs.ab_store.specs.Trees.{Contents, Holds, cell_in, cell_of, tree_of, head_in, head_reading}
@@ -20,12 +20,12 @@ use Rattle.ab_norm.specs.ab_store.specs.Reading.{bound_in}
 use Rattle.ab_norm.specs.ab_store.specs.Naming.{HeadIsTyped, IsTypedBy}
 use Rattle.ab_norm.specs.NodeGrowth.{AddsTypedTerms}
 use Rattle.ab_patterns.specs.EquationReadings.{names_of}
-use Rattle.ab_unifiers.specs.Patterns.{pattern}
-use Rattle.ab_unifiers.proofs.Views.{is_pattern}
-use Rattle.ab_unifiers.proofs.Readings.{pattern_distinct}
-use Rattle.ab_unifiers.proofs.Ruling.{distinct_names}
-use Rattle.ab_unifiers.specs.Replacements.{Cell, Change, has_patterns, occurs, no_foreign, pruned}
-use Rattle.ab_unifiers.specs.Unification.{Result, clash, replaced, begun, unchanged, put_in, pattern_of}
+use Rattle.ab_patterns.specs.ab_unifiers.specs.Patterns.{pattern}
+use Rattle.ab_patterns.specs.ab_unifiers.proofs.Views.{is_pattern}
+use Rattle.ab_patterns.specs.ab_unifiers.proofs.Readings.{pattern_distinct}
+use Rattle.ab_patterns.specs.ab_unifiers.proofs.Ruling.{distinct_names}
+use Rattle.ab_patterns.specs.ab_unifiers.specs.Replacements.{Cell, Change, has_patterns, occurs, no_foreign, pruned}
+use Rattle.ab_patterns.specs.ab_unifiers.specs.Unification.{Result, clash, replaced, begun, unchanged, put_in, pattern_of}
 use Rattle.ab_unify.specs.declared.flexible_rules.Step.TheVariants.{NoRule, Clash, Replaced}
 use Rattle.ab_unify.specs.Problem.{cell_read, cells_read, variables_read}
 use Rattle.ab_unify.specs.StoreChanges.{IsFree, Changed, AreNames}

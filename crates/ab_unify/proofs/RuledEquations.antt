@@ -7,8 +7,8 @@ use Rattle.ab_norm.specs.ab_store.specs.declared.node.CellId.{CellId}
 use Rattle.ab_norm.specs.ab_store.specs.Trees.{Contents}
 use Rattle.ab_norm.specs.ab_store.specs.Naming.{IsTypedBy}
 use Rattle.ab_norm.specs.NodeGrowth.{AddsTypedTerms}
-use Rattle.ab_unifiers.specs.Replacements.{Cell}
-use Rattle.ab_unifiers.specs.Unification.{Equation, Result, or_else, equal_sides, bodies, rigid_heads, rule}
+use Rattle.ab_patterns.specs.ab_unifiers.specs.Replacements.{Cell}
+use Rattle.ab_patterns.specs.ab_unifiers.specs.Unification.{Equation, Result, or_else, equal_sides, bodies, rigid_heads, rule}
 use Rattle.ab_unify.specs.declared.flexible_rules.Step.{Step}
 use Rattle.ab_unify.specs.Problem.{cells_read, variables_read}
 use Rattle.ab_unify.specs.StoreChanges.{IsFree}

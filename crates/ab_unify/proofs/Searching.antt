@@ -10,7 +10,7 @@ use Rattle.ab_norm.specs.ab_store.specs.declared.node.CellId.{CellId}
 use Rattle.ab_norm.specs.ab_store.specs.Trees.{Contents}
 use Rattle.ab_norm.specs.ab_store.specs.Naming.{IsTypedBy}
 use Rattle.ab_patterns.specs.declared.equation.Numbered.{Numbered}
-use Rattle.ab_unifiers.specs.Unification.{Equation, Result, clash, parts, replaced, rule, Found, first_found}
+use Rattle.ab_patterns.specs.ab_unifiers.specs.Unification.{Equation, Result, clash, parts, replaced, rule, Found, first_found}
 use Rattle.ab_unify.specs.declared.flexible_rules.Step.{Step}
 use Rattle.ab_unify.specs.declared.flexible_rules.Step.TheVariants.{NoRule, Clash, Parts, Replaced}
 use Rattle.ab_unify.specs.Problem.{cells_read, variables_read}

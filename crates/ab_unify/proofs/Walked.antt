@@ -18,8 +18,8 @@ use Rattle.ab_norm.specs.ab_store.specs.Trees.{Contents, Holds, tree_of, node_tr
 use Rattle.ab_norm.specs.ab_store.specs.Reading.{binding_of, cell_variable}
 use Rattle.ab_norm.specs.ab_store.specs.Naming.{NodeNames, IsTypedBy}
 use Rattle.ab_norm.specs.ab_store.proofs.Nodes.{terms_from-at}
-use Rattle.ab_unifiers.specs.Replacements.{Change, holds}
-use Rattle.ab_unifiers.proofs.Agreeing.{contains_holds}
+use Rattle.ab_patterns.specs.ab_unifiers.specs.Replacements.{Change, holds}
+use Rattle.ab_patterns.specs.ab_unifiers.proofs.Agreeing.{contains_holds}
 use Rattle.ab_unify.specs.Problem.{variables_read}
 use Rattle.ab_unify.specs.StoreChanges.{IsFree, Changed, AllUnbound}
 use Rattle.ab_unify.specs.Pruning.{HeadIsFree}

@@ -10,9 +10,9 @@ use Rattle.ab_norm.specs.ab_types.specs.Entries.{Table}
 use Rattle.ab_norm.specs.ab_store.specs.declared.node.CellId.{CellId}
 use Rattle.ab_norm.specs.ab_store.specs.Trees.{Contents}
 use Rattle.ab_norm.specs.ab_store.specs.Reading.{cell_variable}
-use Rattle.ab_unifiers.specs.Replacements.{Change, holds, without, is_flexible, occurs, pruned_here, pruned, pruned_all}
-use Rattle.ab_unifiers.proofs.Avoiding.{HeadAvoids, Avoids, AllAvoid, head_avoids, avoids_if, without_held}
-use Rattle.ab_unifiers.proofs.Falling.{holds_without}
+use Rattle.ab_patterns.specs.ab_unifiers.specs.Replacements.{Change, holds, without, is_flexible, occurs, pruned_here, pruned, pruned_all}
+use Rattle.ab_patterns.specs.ab_unifiers.proofs.Avoiding.{HeadAvoids, Avoids, AllAvoid, head_avoids, avoids_if, without_held}
+use Rattle.ab_patterns.specs.ab_unifiers.proofs.Falling.{holds_without}
 use Rattle.ab_unify.specs.Problem.{variables_read}
 use Rattle.ab_unify.specs.StoreChanges.{others_than}
 use Rattle.ab_unify.proofs.Listed.{variables_without}

@@ -3,9 +3,9 @@ use Rattle.std.specs.Prelude.{ℕ, List, cond}
 use Rattle.std.specs.List.{list_all}
 use Rattle.ab_term.specs.Terms.{Variable, Head}
 use Rattle.ab_term.specs.Abstraction.{among}
-use Rattle.ab_unifiers.specs.Patterns.{applied}
-use Rattle.ab_unifiers.specs.Replacements.{Cell, Change}
-use Rattle.ab_unifiers.specs.Unification.{begun, put_in, joined_at}
+use Rattle.ab_patterns.specs.ab_unifiers.specs.Patterns.{applied}
+use Rattle.ab_patterns.specs.ab_unifiers.specs.Replacements.{Cell, Change}
+use Rattle.ab_patterns.specs.ab_unifiers.specs.Unification.{begun, put_in, joined_at}
 
 -- z becomes y, where all names of y are among z's; else y becomes z, where all of z's are among y's; else both become a
 -- new variable over the common names

@@ -8,9 +8,9 @@ use Rattle.ab_norm.specs.ab_store.specs.Trees.{Contents}
 use Rattle.ab_norm.specs.ab_store.specs.Reading.{reading}
 use Rattle.ab_norm.specs.ab_store.specs.Naming.{IsTerm}
 use Rattle.ab_patterns.specs.declared.equation.Numbered.{Numbered}
-use Rattle.ab_unifiers.specs.Replacements.{Cell, Change}
-use Rattle.ab_unifiers.specs.Unification as solve
-use Rattle.ab_unifiers.specs.Unification.{Result, clash, parts, replaced, unchanged, or_else, pattern_and_rigid, one_variable, two_variables}
+use Rattle.ab_patterns.specs.ab_unifiers.specs.Replacements.{Cell, Change}
+use Rattle.ab_patterns.specs.ab_unifiers.specs.Unification as solve
+use Rattle.ab_patterns.specs.ab_unifiers.specs.Unification.{Result, clash, parts, replaced, unchanged, or_else, pattern_and_rigid, one_variable, two_variables}
 use Rattle.ab_unify.specs.declared.flexible_rules.Step.{Step}
 use Rattle.ab_unify.specs.declared.flexible_rules.Step.TheVariants.{NoRule, Clash, Parts, Replaced}
 use Rattle.ab_unify.specs.Problem.{cells_read, variables_read}

@@ -6,11 +6,11 @@ use Rattle.ab_norm.specs.ab_types.specs.Ids.{type_of}
 use Rattle.ab_norm.specs.ab_store.specs.declared.node.CellId.{CellId}
 use Rattle.ab_norm.specs.ab_store.specs.declared.node.CellEntry.{CellEntry}
 use Rattle.ab_norm.specs.ab_store.specs.declared.node.Equation.{Equation}
-use Rattle.ab_norm.specs.ab_store.specs.Trees.{Contents}
+use Rattle.ab_norm.specs.ab_store.specs.Trees.{Contents, cell_of}
 use Rattle.ab_norm.specs.ab_store.specs.Reading.{reading, cell_variable}
-use Rattle.ab_unifiers.specs.Replacements.{Cell}
-use Rattle.ab_unifiers.specs.Unification as solve
-use Rattle.ab_unifiers.specs.Unifiers.{given}
+use Rattle.ab_patterns.specs.ab_unifiers.specs.Replacements.{Cell}
+use Rattle.ab_patterns.specs.ab_unifiers.specs.Unification as solve
+use Rattle.ab_patterns.specs.ab_unifiers.specs.Unifiers.{given}
 
 -- the hint and the type of a cell
 abbrev pub cell_read : Table → CellEntry → Cell (List ℕ)
@@ -20,6 +20,10 @@ module _ (types : Table) (store : Contents) where
   -- all cells, in order
   abbrev pub cells_read : List (Cell (List ℕ))
   cells_read = map (cell_read types) store.cells
+
+  -- hints and types of cells
+  abbrev pub cells_at : List CellId → List (Cell (List ℕ))
+  cells_at = map (λ c. cell_read types (cell_of store c))
 
   -- cells as variables
   abbrev pub variables_read : List CellId → List (Variable ℕ)

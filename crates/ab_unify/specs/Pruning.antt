@@ -11,7 +11,7 @@ use Rattle.ab_norm.specs.ab_store.specs.Trees.{Contents, tree_of}
 use Rattle.ab_norm.specs.ab_store.specs.Reading.{cell_variable}
 use Rattle.ab_patterns.specs.declared.visited_nodes.Seen.{Seen}
 use Rattle.ab_patterns.specs.ReadingWalks.{has_been, deep}
-use Rattle.ab_unifiers.specs.Replacements.{Change, pruned}
+use Rattle.ab_patterns.specs.ab_unifiers.specs.Replacements.{Change, pruned}
 use Rattle.ab_unify.specs.StoreChanges.{IsFree}
 
 -- a cell that the head is, if it is one, may be bound

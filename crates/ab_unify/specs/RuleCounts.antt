@@ -1,6 +1,6 @@
 -- How many rules are carried out before a problem is answered.
 use Rattle.std.specs.Prelude.{◌≡◌, ℕ, suc, None}
-use Rattle.ab_unifiers.specs.Unification.{State, apart, rule, first_found, finished, goes_on, next}
+use Rattle.ab_patterns.specs.ab_unifiers.specs.Unification.{State, apart, rule, first_found, finished, goes_on, next}
 
 module _ {Hint : Type 0} (x : Hint) where
   -- so many; the one that finds two sides apart is the last

@@ -6,8 +6,8 @@ use Rattle.ab_norm.specs.ab_store.specs.declared.node.CellId.{CellId}
 use Rattle.ab_norm.specs.ab_store.specs.declared.node.Equation.{Equation as Given}
 use Rattle.ab_norm.specs.ab_store.specs.Trees.{Contents}
 use Rattle.ab_patterns.specs.declared.equation.Numbered.{Numbered}
-use Rattle.ab_unifiers.specs.Replacements.{Change}
-use Rattle.ab_unifiers.specs.Unification.{State, Equation, Answer, unified, apart, stuck, clash, parts, replaced, image_of, rule, Found, first_found, finished, goes_on, next, Solves}
+use Rattle.ab_patterns.specs.ab_unifiers.specs.Replacements.{Change}
+use Rattle.ab_patterns.specs.ab_unifiers.specs.Unification.{State, Equation, Answer, unified, apart, stuck, clash, parts, replaced, image_of, rule, Found, first_found, finished, goes_on, next, Solves}
 use Rattle.ab_unify.specs.declared.flexible_rules.Step.{Step}
 use Rattle.ab_unify.specs.declared.flexible_rules.Step.TheVariants.{NoRule, Clash, Parts, Replaced}
 use Rattle.ab_unify.specs.Problem.{cells_read, variables_read}

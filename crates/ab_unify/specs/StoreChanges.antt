@@ -15,7 +15,7 @@ use Rattle.ab_norm.specs.ab_store.specs.Reading.{reading}
 use Rattle.ab_norm.specs.ab_store.specs.Bindings.{IsUnbound}
 use Rattle.ab_norm.specs.ab_store.specs.Marks.{HasMark, KeepsMark}
 use Rattle.ab_norm.specs.ab_store.specs.Naming.{HeadIsTyped, IsTypedBy, IsTerm}
-use Rattle.ab_unifiers.specs.Replacements.{Change}
+use Rattle.ab_patterns.specs.ab_unifiers.specs.Replacements.{Change}
 pub use Rattle.ab_patterns.specs.Flexible.{others_than}
 use Rattle.ab_unify.specs.Problem.{cells_read, variables_read}
 

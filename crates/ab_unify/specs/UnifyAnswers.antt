@@ -9,9 +9,9 @@ use Rattle.ab_norm.specs.ab_store.specs.Trees.{Contents, HoldsCell}
 use Rattle.ab_norm.specs.ab_store.specs.Reading.{cell_variable}
 use Rattle.ab_norm.specs.ab_store.specs.Bindings.{IsUnbound}
 use Rattle.ab_norm.specs.ab_store.specs.Naming.{IsTerm}
-use Rattle.ab_unifiers.specs.Replacements.{Cell, holds}
-use Rattle.ab_unifiers.specs.Unifiers.{keys}
-use Rattle.ab_unifiers.specs.Unification.{State, unified, Solves}
+use Rattle.ab_patterns.specs.ab_unifiers.specs.Replacements.{Cell, holds}
+use Rattle.ab_patterns.specs.ab_unifiers.specs.Unifiers.{keys}
+use Rattle.ab_patterns.specs.ab_unifiers.specs.Unification.{State, unified, Solves}
 use Rattle.ab_unify.specs.declared.answers.Solved.{Solved}
 use Rattle.ab_unify.specs.declared.answers.Solved.TheVariants.{Unified, Apart, Stuck}
 

@@ -4,7 +4,7 @@ ghost use Rattle.ab_norm.specs.ab_types.specs.Entries.{Table};
 ghost use Rattle.ab_norm.specs.ab_store.specs.Naming.{IsTypedBy};
 ghost use Rattle.ab_norm.specs.NodeGrowth.{AddsTypedTerms};
 ghost use Rattle.ab_patterns.specs.EquationReadings.{equation_of, EquationIsResolved};
-ghost use Rattle.ab_unifiers.specs.Unification.{rule};
+ghost use Rattle.ab_patterns.specs.ab_unifiers.specs.Unification.{rule};
 ghost use Rattle.ab_unify.specs.Problem.{cells_read, variables_read};
 ghost use Rattle.ab_unify.specs.StoreChanges.{Grows, IsFree};
 ghost use Rattle.ab_unify.specs.Outcome.{equation_read, IsTypedEquation, Tells};
@@ -18,7 +18,7 @@ use ab_patterns::{FlexibleCells, Numbered, Simple, try_simple_rules};
 use std::alloc::{AllocError, Global};
 
 /// The equation with the bindings put in.
-fn resolved<L>(
+fn resolved_equation<L>(
     alloc: Global,
     types: &TypeTable,
     store: &mut Store,
@@ -93,6 +93,6 @@ pub(crate) fn apply_rule<L>(
     ensures tells { IfOk result (λ r. Tells types.old store.old flexible.old.items types.new store.new flexible.new.items r
         (rule (codes "x") (cells_read types.old store.old) (variables_read types.old store.old flexible.old.items) (equation_read types.old store.old equation))) }
 {
-    let plain = resolved(alloc, types, store, equation, steps)?;
+    let plain = resolved_equation(alloc, types, store, equation, steps)?;
     apply_to_resolved(alloc, types, store, flexible, plain, steps)
 }

@@ -12,15 +12,15 @@ ghost use Rattle.ab_norm.specs.ab_store.specs.Trees.{Contents, Holds, cell_of, t
 ghost use Rattle.ab_norm.specs.ab_store.specs.Reading.{cell_variable};
 ghost use Rattle.ab_norm.specs.ab_store.specs.Bindings.{StandsIn, IsResolved};
 ghost use Rattle.ab_norm.specs.ab_store.specs.Naming.{HeadIsTyped, IsTypedBy};
-ghost use Rattle.ab_unifiers.specs.Patterns as solve;
-ghost use Rattle.ab_unifiers.specs.Replacements.{Change, one};
-ghost use Rattle.ab_unifiers.specs.Unification.{begun, put_in};
+ghost use Rattle.ab_patterns.specs.ab_unifiers.specs.Patterns as solve;
+ghost use Rattle.ab_patterns.specs.ab_unifiers.specs.Replacements.{Change, one};
+ghost use Rattle.ab_patterns.specs.ab_unifiers.specs.Unification.{begun, put_in};
 ghost use Rattle.ab_unify.specs.Problem.{cells_read, variables_read};
 ghost use Rattle.ab_unify.specs.StoreChanges.{Grows, IsFree, Changed, others_than, AreNames};
 
 use ab_norm::store::{CellId, Head, Store, TermId};
 use ab_norm::types::{Steps, TypeTable};
-use ab_patterns::{FlexibleCells, applied, put};
+use ab_patterns::{FlexibleCells, apply_cell, put};
 use std::alloc::{AllocError, Global};
 
 /// Binds the cell, which is none of those that may still be replaced, so that, given the names, it is the term.
@@ -86,7 +86,7 @@ pub(crate) fn bind_to_cell<L>(
         Changed types.now store.old flexible.old.items (put_in (codes "x") cells ys y (map (head_reading types.now store.old) names.now)
         (solve.applied (codes "x") (cell_variable types.now store.old other) (map (head_reading types.now store.old) others.now)) (begun (codes "x") cells ys y)) types.now store.new flexible.new.items) }
 {
-    let term = applied(alloc, types, store, other, others)?;
+    let term = apply_cell(alloc, types, store, other, others)?;
     bind(alloc, types, store, cell, names, term, steps)?;
     flexible.remove(cell);
     Ok(())

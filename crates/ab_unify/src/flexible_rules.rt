@@ -11,8 +11,8 @@ ghost use Rattle.ab_norm.specs.ab_store.specs.Bindings.{IsResolved};
 ghost use Rattle.ab_norm.specs.ab_store.specs.Naming.{IsTypedBy, IsTerm};
 ghost use Rattle.ab_norm.specs.NodeGrowth.{AddsTypedTerms};
 ghost use Rattle.ab_patterns.specs.EquationReadings.{names_of};
-ghost use Rattle.ab_unifiers.specs.Patterns as solve;
-ghost use Rattle.ab_unifiers.specs.Unification.{pattern_of, same_variable_at, two_at};
+ghost use Rattle.ab_patterns.specs.ab_unifiers.specs.Patterns as solve;
+ghost use Rattle.ab_patterns.specs.ab_unifiers.specs.Unification.{pattern_of, same_variable_at, two_at};
 ghost use Rattle.ab_unify.specs.Problem.{cells_read, variables_read};
 ghost use Rattle.ab_unify.specs.StoreChanges.{Grows, IsFree, AreNames};
 ghost use Rattle.ab_unify.specs.Outcome.{Tells};
@@ -23,7 +23,7 @@ use crate::narrow_cells::narrow;
 use ab_norm::store::{CellId, Head, Store, TermId};
 use ab_norm::types::{Steps, TypeTable};
 use ab_patterns::{
-    FlexibleCells, Numbered, agreeing, has_no_foreign, has_patterns, occurs, pattern,
+    FlexibleCells, Numbered, agreement_flags, has_no_foreign, has_patterns, occurs, pattern,
 };
 use std::alloc::{AllocError, Global};
 
@@ -138,7 +138,7 @@ pub(crate) fn solve_one<L>(
         Some(names) => match given_names(alloc, types, store, cell, more)? {
             None => Ok(Step::NoRule),
             Some(others) => {
-                let keep = agreeing(alloc, &names, &others)?;
+                let keep = agreement_flags(alloc, &names, &others)?;
                 narrow(alloc, types, store, flexible, cell, &names, &keep, steps)?;
                 Ok(Step::Replaced)
             }

@@ -9,9 +9,9 @@ ghost use Rattle.ab_norm.specs.ab_store.specs.Trees.{Contents, cell_of, tree_of,
 ghost use Rattle.ab_norm.specs.ab_store.specs.Reading.{cell_variable};
 ghost use Rattle.ab_norm.specs.ab_store.specs.Bindings.{IsResolved};
 ghost use Rattle.ab_norm.specs.ab_store.specs.Naming.{IsTypedBy, IsTerm};
-ghost use Rattle.ab_unifiers.specs.Patterns as solve;
-ghost use Rattle.ab_unifiers.specs.Replacements.{pruned, has_patterns, occurs, no_foreign};
-ghost use Rattle.ab_unifiers.specs.Unification.{begun, put_in};
+ghost use Rattle.ab_patterns.specs.ab_unifiers.specs.Patterns as solve;
+ghost use Rattle.ab_patterns.specs.ab_unifiers.specs.Replacements.{pruned, has_patterns, occurs, no_foreign};
+ghost use Rattle.ab_patterns.specs.ab_unifiers.specs.Unification.{begun, put_in};
 ghost use Rattle.ab_unify.specs.Problem.{cells_read, variables_read};
 ghost use Rattle.ab_unify.specs.StoreChanges.{Grows, IsFree, Changed, AreNames};
 

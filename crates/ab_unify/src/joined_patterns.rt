@@ -7,7 +7,7 @@ ghost use Rattle.ab_norm.specs.ab_types.specs.Ids.{type_of};
 ghost use Rattle.ab_norm.specs.ab_store.specs.Trees.{Contents, cell_of, head_reading};
 ghost use Rattle.ab_norm.specs.ab_store.specs.Reading.{cell_variable};
 ghost use Rattle.ab_norm.specs.ab_store.specs.Naming.{IsTypedBy};
-ghost use Rattle.ab_unifiers.specs.Unification.{joined_at};
+ghost use Rattle.ab_patterns.specs.ab_unifiers.specs.Unification.{joined_at};
 ghost use Rattle.ab_unify.specs.Problem.{cells_read, variables_read};
 ghost use Rattle.ab_unify.specs.StoreChanges.{Grows, IsFree, Changed, AreNames};
 ghost use Rattle.ab_unify.specs.JoinedPatterns.{two_joined};
@@ -16,7 +16,7 @@ use crate::cell_bindings::{bind, bind_to_cell};
 use crate::narrow_cells::narrow;
 use ab_norm::store::{CellId, Head, Store};
 use ab_norm::types::{Steps, TypeTable};
-use ab_patterns::{FlexibleCells, applied, common, keep_heads, keeps_all};
+use ab_patterns::{FlexibleCells, apply_cell, common, keep_heads, keeps_all};
 use std::alloc::{AllocError, Global};
 
 /// Makes the older cell, given the names, and the younger one, given the others, the same: one is bound to the other where
@@ -101,6 +101,6 @@ fn join_both<L>(
     let made = narrow(alloc, types, store, flexible, older, names, keep, steps)?;
     let mut left = Vec::new(alloc);
     keep_heads(names, keep, &mut left)?;
-    let term = applied(alloc, types, store, made, &left)?;
+    let term = apply_cell(alloc, types, store, made, &left)?;
     bind(alloc, types, store, younger, others, term, steps)
 }

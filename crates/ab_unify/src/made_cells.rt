@@ -18,7 +18,7 @@ pub(crate) fn bindings_since(store: &Store, count: usize) -> &[Binding]
 }
 
 /// The cells of the set, in their order.
-fn listed(alloc: Global, mut cells: BTreeSet<CellId>) -> Result<Vec<CellId>, AllocError>
+fn list_cells(alloc: Global, mut cells: BTreeSet<CellId>) -> Result<Vec<CellId>, AllocError>
     ensures { IfOk result (λ list. list.items ≡ cells.keys) }
 {
     let mut list = Vec::new(alloc);
@@ -51,5 +51,5 @@ pub(crate) fn made_cells(
     }
     // the cells of a set are in order
     let _ = made.len();
-    listed(alloc, made)
+    list_cells(alloc, made)
 }

@@ -7,8 +7,8 @@ ghost use Rattle.ab_norm.specs.ab_types.specs.Ids.{type_of};
 ghost use Rattle.ab_norm.specs.ab_store.specs.Trees.{Contents, cell_of, head_reading};
 ghost use Rattle.ab_norm.specs.ab_store.specs.Reading.{cell_variable};
 ghost use Rattle.ab_norm.specs.ab_store.specs.Naming.{HeadIsTyped, IsTypedBy};
-ghost use Rattle.ab_unifiers.specs.Patterns as solve;
-ghost use Rattle.ab_unifiers.specs.Replacements.{Change, narrowed};
+ghost use Rattle.ab_patterns.specs.ab_unifiers.specs.Patterns as solve;
+ghost use Rattle.ab_patterns.specs.ab_unifiers.specs.Replacements.{Change, narrowed};
 ghost use Rattle.ab_unify.specs.StoreChanges.{Grows, IsFree, Changed};
 
 use ab_norm::store::{CellId, Head, Store};

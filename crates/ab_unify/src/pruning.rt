@@ -13,9 +13,9 @@ ghost use Rattle.ab_norm.specs.ab_store.specs.Trees.{Contents, Holds, cell_of, t
 ghost use Rattle.ab_norm.specs.ab_store.specs.Reading.{cell_variable};
 ghost use Rattle.ab_norm.specs.ab_store.specs.Bindings.{IsResolved};
 ghost use Rattle.ab_norm.specs.ab_store.specs.Naming.{HoldsHead, IsTypedBy, IsTerm};
-ghost use Rattle.ab_unifiers.specs.Patterns as solve;
-ghost use Rattle.ab_unifiers.specs.Replacements as replacing;
-ghost use Rattle.ab_unifiers.specs.Replacements.{Change, pruned_names, pruned_here, pruned, pruned_all};
+ghost use Rattle.ab_patterns.specs.ab_unifiers.specs.Patterns as solve;
+ghost use Rattle.ab_patterns.specs.ab_unifiers.specs.Replacements as replacing;
+ghost use Rattle.ab_patterns.specs.ab_unifiers.specs.Replacements.{Change, pruned_names, pruned_here, pruned, pruned_all};
 ghost use Rattle.ab_patterns.specs.ReadingWalks.{deep};
 ghost use Rattle.ab_unify.specs.Problem.{variables_read};
 ghost use Rattle.ab_unify.specs.Pruning.{AllPruned, HeadIsFree};

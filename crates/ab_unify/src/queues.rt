@@ -8,7 +8,7 @@ use std::alloc::{AllocError, Global};
 use std::collections::VecDeque;
 
 /// The equations, each with its number, from 0.
-pub(crate) fn numbered(
+pub(crate) fn number_equations(
     alloc: Global,
     equations: &[Equation],
 ) -> Result<VecDeque<Numbered>, AllocError>

@@ -10,8 +10,8 @@ ghost use Rattle.ab_norm.specs.ab_store.specs.Trees.{Contents, Holds, cell_of, t
 ghost use Rattle.ab_norm.specs.ab_store.specs.Reading.{cell_variable};
 ghost use Rattle.ab_norm.specs.ab_store.specs.Bindings.{IsResolved};
 ghost use Rattle.ab_norm.specs.ab_store.specs.Naming.{IsTypedBy, IsTerm};
-ghost use Rattle.ab_unifiers.specs.Replacements as solve;
-ghost use Rattle.ab_unifiers.specs.Unification.{rigid_heads};
+ghost use Rattle.ab_patterns.specs.ab_unifiers.specs.Replacements as solve;
+ghost use Rattle.ab_patterns.specs.ab_unifiers.specs.Unification.{rigid_heads};
 ghost use Rattle.ab_unify.specs.Problem.{cells_read, variables_read};
 ghost use Rattle.ab_unify.specs.StoreChanges.{Grows, IsFree};
 ghost use Rattle.ab_unify.specs.Outcome.{Tells, last_rules};

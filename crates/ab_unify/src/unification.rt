@@ -9,10 +9,10 @@ ghost use Rattle.ab_norm.specs.ab_store.specs.declared.node.TermId.{TermId};
 ghost use Rattle.ab_norm.specs.ab_store.specs.declared.node.CellId.{CellId};
 ghost use Rattle.ab_norm.specs.ab_store.specs.Reading.{reading};
 ghost use Rattle.ab_norm.specs.ab_store.specs.Naming.{IsTypedBy, IsTerm};
-ghost use Rattle.ab_unifiers.specs.Replacements.{Cell};
-ghost use Rattle.ab_unifiers.specs.Unification as rules;
-ghost use Rattle.ab_unifiers.specs.Unification.{Solves};
-ghost use Rattle.ab_unifiers.specs.Unifiers.{restricted, IsUnifier, IsMostGeneral};
+ghost use Rattle.ab_patterns.specs.ab_unifiers.specs.Replacements.{Cell};
+ghost use Rattle.ab_patterns.specs.ab_unifiers.specs.Unification as rules;
+ghost use Rattle.ab_patterns.specs.ab_unifiers.specs.Unification.{Solves};
+ghost use Rattle.ab_patterns.specs.ab_unifiers.specs.Unifiers.{restricted, IsUnifier, IsMostGeneral};
 ghost use Rattle.ab_unify.specs.Problem.{cells_read, variables_read, equations_read, problem};
 ghost use Rattle.ab_unify.specs.StoreChanges.{Grows, IsFree};
 ghost use Rattle.ab_unify.specs.declared.answers.Solved.TheVariants.{Apart, Stuck};
@@ -22,7 +22,7 @@ ghost use Rattle.ab_unify.specs.States.{numbered_from, verdict_of, unified_is, R
 
 use crate::answers::{Cells, Solved};
 use crate::made_cells::{bindings_since, made_cells};
-use crate::queues::numbered;
+use crate::queues::number_equations;
 use crate::runs::run;
 use crate::verdict::Verdict;
 use ab_norm::store::{CellId, Equation, Store};
@@ -52,7 +52,7 @@ fn solve<L>(
 {
     let bound = store.bindings().len();
     let mut left = FlexibleCells::from_slice(alloc, flexible)?;
-    let mut queue = numbered(alloc, equations)?;
+    let mut queue = number_equations(alloc, equations)?;
     let mut waiting = Vec::new(alloc);
     match run(
         alloc,

@@ -10,7 +10,8 @@ use Rattle.ab_norm.specs.ab_store.specs.Reading.{binding_of}
 use Rattle.ab_norm.proofs.Frame.{if_ok, typed_on, typed_from}
 use Rattle.ab_instances.specs.ListReadings.{names_read}
 use Rattle.ab_equations.specs.Meanwhile.{unbound_of}
-use Rattle.ab_alternatives.specs.RightAlternatives.{variable_at, closed_by}
+use Rattle.ab_alternatives.specs.RightAlternatives.{closed_by}
+use Rattle.ab_logic.specs.Worlds.{variable_at}
 use Rattle.ab_alternatives.proofs.conclusions.conclude.Goals as goal
 
 pub close_over-requires-clause-cells : goal.close_over-requires-clause-cells

@@ -12,7 +12,8 @@ use Rattle.ab_instances.specs.ListReadings.{names_read}
 use Rattle.ab_instances.proofs.Made.{names_held}
 use Rattle.ab_equations.specs.Meanwhile.{unbound_of}
 use Rattle.ab_equations.proofs.Outcomes.{at_ok, at_unified}
-use Rattle.ab_alternatives.specs.RightAlternatives.{variable_at, closed_by, Becomes}
+use Rattle.ab_alternatives.specs.RightAlternatives.{closed_by, Becomes}
+use Rattle.ab_logic.specs.Worlds.{variable_at}
 use Rattle.ab_alternatives.proofs.LeftOpen.{from_held, all_there}
 use Rattle.ab_alternatives.proofs.Concluded.{becomes}
 use Rattle.ab_alternatives.proofs.conclusions.solve_unfolding.Goals as goal

@@ -1,6 +1,6 @@
 use Rattle.std.proofs.Common.{refl}
 use Rattle.ab_judgements.specs.DemandReadings.{rule_read}
-use Rattle.ab_judgements.specs.JudgementReadings.{judgement_read}
+use Rattle.ab_judgements.specs.ab_judgement_forms.specs.JudgementReadings.{judgement_read}
 use Rattle.ab_judgements.proofs.LaterJudgements.{made_later}
 use Rattle.ab_analyses.specs.declared.answers.Alternative.{Alternative as Kept}
 use Rattle.ab_analyses.proofs.RuleAlternatives.{rule_stands, rule_held, rule_cells}

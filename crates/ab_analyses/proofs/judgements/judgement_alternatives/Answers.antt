@@ -1,7 +1,7 @@
 use Rattle.std.proofs.Common.{◌≡◌, ◌+◌, [], List, map, take, sym, ◌∙◌, ap, subst, arith, take_all}
 use Rattle.ab_unify.specs.Problem.{cells_read}
 use Rattle.ab_alternatives.proofs.Passed.{later_not, later_on}
-use Rattle.ab_judgements.specs.JudgementReadings.{judgement_read}
+use Rattle.ab_judgements.specs.ab_judgement_forms.specs.JudgementReadings.{judgement_read}
 use Rattle.ab_judgements.specs.RuleWalks.{slots}
 use Rattle.ab_judgements.proofs.LaterRules.{still_ruled}
 use Rattle.ab_analyses.specs.Alternatives.{by_rule}

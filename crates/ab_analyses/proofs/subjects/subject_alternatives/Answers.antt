@@ -4,7 +4,7 @@ use Rattle.ab_norm.proofs.Frame.{if_ok}
 use Rattle.ab_logic.specs.Worlds.{read, declarations_of}
 use Rattle.ab_theory.specs.Subjects.{an_atom, a_judgement, subject_of}
 use Rattle.ab_alternatives.specs.AtomReadings.{defined_read}
-use Rattle.ab_judgements.specs.JudgementReadings.{judgement_read}
+use Rattle.ab_judgements.specs.ab_judgement_forms.specs.JudgementReadings.{judgement_read}
 use Rattle.ab_judgements.specs.SubjectReadings.{subject_read, HoldsSubject, HasRules}
 use Rattle.ab_judgements.proofs.SubjectForms.{atom_typed, judgement_reads, judgement_typed}
 use Rattle.ab_analyses.proofs.subjects.subject_alternatives.Goals as goal

@@ -4,7 +4,7 @@ use Rattle.std.specs.Option.{option_copied}
 use Rattle.ab_logic.specs.SequentReadings.{sequent_of}
 use Rattle.ab_print.specs.GoalText as by_number
 use Rattle.ab_print.specs.GoalText.{cell_name}
-use Rattle.ab_steps.specs.Progress.{goals_of}
+use Rattle.ab_states.specs.ab_kernel.specs.Layout.{goals_of}
 use Rattle.ab_formulas.specs.NamedGoals.{named}
 use Rattle.ab_blocks.specs.Blocks.{others_if, goals_shown}
 use Rattle.ab_blocks.proofs.Lines.{on_ok, first_shown, none_left}

@@ -1,5 +1,5 @@
 use Rattle.std.proofs.Common.{sym}
-use Rattle.ab_steps.specs.Progress.{goals_of}
+use Rattle.ab_states.specs.ab_kernel.specs.Layout.{goals_of}
 use Rattle.ab_formulas.specs.NamedGoals.{named}
 use Rattle.ab_blocks.proofs.Lines.{other_shown}
 use Rattle.ab_blocks.proofs.goals.write_others.Goals as goal

@@ -1,7 +1,7 @@
 use Rattle.std.proofs.Common.{subst}
 use Rattle.ab_grammar.specs.CommandTable.{CommandText}
 use Rattle.ab_grammar.specs.Language.{Accepted}
-use Rattle.ab_syntax.specs.Tokens.{tokens_in}
+use Rattle.ab_syntax.specs.ab_expressions.specs.Tokens.{tokens_in}
 use Rattle.ab_syntax.specs.Commands.{command_of}
 use Rattle.ab_command.specs.CommandReadings.{not_built}
 use Rattle.ab_command.proofs.command_reader.read_command.Goals as goal

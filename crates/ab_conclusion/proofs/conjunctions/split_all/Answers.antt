@@ -3,7 +3,7 @@ use Rattle.ab_grammar.specs.CommandTrees as told
 use Rattle.ab_unify.specs.Problem.{cells_read}
 use Rattle.ab_logic.specs.Worlds.{declarations_of}
 use Rattle.ab_effects.specs.ProofCommands.{effect}
-use Rattle.ab_steps.specs.Progress.{goals_of}
+use Rattle.ab_steps.specs.ab_kernel.specs.Layout.{goals_of}
 use Rattle.ab_steps.specs.ProofEffects.{RefusedBy}
 use Rattle.ab_steps.specs.declared.fault.ProofCommandFault.TheVariants.{WrongShape}
 use Rattle.ab_steps.proofs.Following.{advances, first_at, some_goal, follows_on}

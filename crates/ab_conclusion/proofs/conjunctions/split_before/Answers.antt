@@ -1,6 +1,6 @@
 use Rattle.std.proofs.Common.{◌≡◌, ◌-◌, ◌<◌, ◌≤◌, length, ap, arith}
 use Rattle.ab_theory.specs.Derivations.{History, open_goals}
-use Rattle.ab_steps.specs.Progress.{goals_of}
+use Rattle.ab_steps.specs.ab_kernel.specs.Layout.{goals_of}
 use Rattle.ab_steps.proofs.Following.{follows_on}
 use Rattle.ab_conclusion.proofs.PartingGoals.{starts, parting_halves, parting_whole, parted_all, lighter_halves, lighter_whole}
 use Rattle.ab_conclusion.proofs.conjunctions.split_before.Goals as goal

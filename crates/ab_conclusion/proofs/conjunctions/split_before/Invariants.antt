@@ -1,5 +1,5 @@
 use Rattle.std.proofs.Common.{drop}
-use Rattle.ab_steps.specs.Progress.{goals_of}
+use Rattle.ab_steps.specs.ab_kernel.specs.Layout.{goals_of}
 use Rattle.ab_conclusion.proofs.PartingGoals.{Parting, weight}
 use Rattle.ab_conclusion.proofs.conjunctions.split_before.Given as goal
 

@@ -1,7 +1,7 @@
 use Rattle.std.proofs.Common.{◌+◌, ◌++◌, length, decimal, arith}
 use Rattle.ab_logic.specs.SequentReadings.{sequent_of, hypothesis_of}
 use Rattle.std.proofs.lemmas.List.{length-map}
-use Rattle.ab_steps.specs.ab_kernel.specs.ab_judgements.specs.ab_alternatives.specs.ab_equations.proofs.Free.{too_many}
+use Rattle.ab_steps.specs.ab_kernel.specs.ab_judgements.specs.ab_alternatives.specs.ab_equations.specs.ab_free_names.proofs.Free.{too_many}
 use Rattle.ab_conclusion.proofs.Numbering.{names_in, names_counted, used_among}
 use Rattle.ab_conclusion.proofs.induction_names.first_free.Goals as goal
 

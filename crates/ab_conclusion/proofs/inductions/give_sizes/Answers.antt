@@ -7,7 +7,7 @@ use Rattle.ab_unify.specs.Problem.{cells_read}
 use Rattle.ab_theory.specs.Steps.{Step}
 use Rattle.ab_theory.specs.Rules.{NamedRule, Fails}
 use Rattle.ab_theory.specs.Derivations.{debts_of}
-use Rattle.ab_steps.specs.ab_kernel.specs.SizeSteps.{step_by}
+use Rattle.ab_steps.specs.ab_kernel.specs.ab_rules.specs.SizeSteps.{step_by}
 use Rattle.ab_steps.specs.Progress.{SolvesNothing}
 use Rattle.ab_steps.proofs.Following.{at_first, first_at, some_goal, follows_free}
 use Rattle.ab_conclusion.specs.InductionSizes.{MayGetSizes, GetsNoSizes}

@@ -1,4 +1,4 @@
-use Rattle.ab_steps.specs.Progress.{goals_of}
+use Rattle.ab_steps.specs.ab_kernel.specs.Layout.{goals_of}
 use Rattle.ab_conclusion.proofs.Introduces.{Way, left_to_do}
 use Rattle.ab_conclusion.proofs.introductions.introduce.Given as goal
 

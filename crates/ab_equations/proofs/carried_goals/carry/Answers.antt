@@ -28,11 +28,11 @@ stand_for_all-requires-clause-in_age g c =
     let store = c.args.world.now.store in
     subst (AllPairs (λ (a b : CellId). a.0 < b.0)) (sym (c.deref.ensures.value ∙ c.in_ok-left.ensures)) (pairs_pass (λ d. is_none (binding_of store d)) (λ (a b : CellId). a.0 < b.0) c.args.made.now c.requires.in_age)
 
-pub resolved-requires-clause-world : goal.resolved-requires-clause-world
-resolved-requires-clause-world g c = still_meanwhile c.args.world.now c.stand_for_all.new.world c.stand_for_all.ensures.goes c.requires.world
+pub resolved_goal-requires-clause-world : goal.resolved_goal-requires-clause-world
+resolved_goal-requires-clause-world g c = still_meanwhile c.args.world.now c.stand_for_all.new.world c.stand_for_all.ensures.goes c.requires.world
 
 pub returns-clause-goes : goal.returns-clause-goes
-returns-clause-goes g c = goes_on c.args.world.now c.stand_for_all.new.world c.resolved.new.world c.stand_for_all.ensures.goes c.resolved.ensures.goes
+returns-clause-goes g c = goes_on c.args.world.now c.stand_for_all.new.world c.resolved_goal.new.world c.stand_for_all.ensures.goes c.resolved_goal.ensures.goes
 
 pub returns-clause-carried : goal.returns-clause-carried
 returns-clause-carried g c =
@@ -40,4 +40,4 @@ returns-clause-carried g c =
     let v = c.stand_for_all.new.world in
     let stand : StandForAll w (map (variable_of w) (unbound_of w.store c.args.made.now)) c.args.goal v c.in_ok-over.over =
     subst (λ (l : List CellId). StandForAll w (map (variable_of w) l) c.args.goal v c.in_ok-over.over) (c.deref.ensures.value ∙ c.in_ok-left.ensures) c.in_ok-over.ensures.stand in
-    if_ok c.resolved.result (λ k put. is_carried w v c.resolved.new.world c.args.made.now c.args.goal c.in_ok-over.over k c.requires.world c.requires.goal c.requires.made c.requires.apart stand put c.resolved.ensures.goes.types c.resolved.ensures.cells) c.resolved.ensures.put_in
+    if_ok c.resolved_goal.result (λ k put. is_carried w v c.resolved_goal.new.world c.args.made.now c.args.goal c.in_ok-over.over k c.requires.world c.requires.goal c.requires.made c.requires.apart stand put c.resolved_goal.ensures.goes.types c.resolved_goal.ensures.cells) c.resolved_goal.ensures.put_in

@@ -5,7 +5,7 @@ use Rattle.ab_formulas.specs.NewNames.{IsFreeName, IsNominalName}
 use Rattle.ab_logic.specs.Worlds.{declarations_of}
 use Rattle.ab_logic.specs.SequentReadings.{sequent_of}
 use Rattle.ab_formulas.specs.FreeStems.{taken_names}
-use Rattle.ab_equations.proofs.Free.{is_first, too_many}
+use Rattle.ab_free_names.proofs.Free.{is_first, too_many}
 use Rattle.ab_equations.proofs.variable.first_free.Goals as goal
 
 pub returns-then-is_free : goal.returns-then-is_free

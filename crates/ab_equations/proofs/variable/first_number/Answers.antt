@@ -1,6 +1,6 @@
 use Rattle.std.proofs.Common.{◌≡◌, ℕ, List, codes, sym, ◌∙◌}
 use Rattle.std.proofs.lemmas.Slice.Eq.{bytes_eq-Decides}
-use Rattle.ab_equations.proofs.Free.{from_one, behind_n}
+use Rattle.ab_free_names.proofs.Free.{from_one, behind_n}
 use Rattle.ab_equations.proofs.variable.first_number.Goals as goal
 
 pub returns-then-eq-clause-first : goal.returns-then-eq-clause-first

@@ -1,7 +1,7 @@
 use Rattle.std.proofs.Common.{◌≡◌, Bool, true, false, not, inl, inr, sym, ◌∙◌}
 use Rattle.std.proofs.lemmas.List.Elements.{Contains-append_right}
 use Rattle.ab_logic.specs.SequentReadings.{sequent_of}
-use Rattle.ab_equations.proofs.Free.{no_variable}
+use Rattle.ab_free_names.proofs.Free.{no_variable}
 use Rattle.ab_equations.proofs.variable.is_free.Goals as goal
 
 pub returns-then-is_constant-clause-taken : goal.returns-then-is_constant-clause-taken

@@ -11,7 +11,7 @@ use Rattle.ab_logic.specs.Worlds.{declarations_of, variable_of}
 use Rattle.ab_logic.specs.SequentReadings.{sequent_of}
 use Rattle.ab_logic.proofs.Declaring.{constants_are}
 use Rattle.ab_formulas.specs.FreeStems.{taken_names, variable_names}
-use Rattle.ab_equations.proofs.Free.{taken_not_free}
+use Rattle.ab_free_names.proofs.Free.{taken_not_free}
 use Rattle.ab_equations.proofs.variable.variable_name.Goals as goal
 
 pub first_free-requires-clause-start : goal.first_free-requires-clause-start

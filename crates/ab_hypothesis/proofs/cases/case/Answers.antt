@@ -8,7 +8,7 @@ use Rattle.ab_equations.specs.Labels.{label_of}
 use Rattle.ab_effects.specs.ProofCommands.{clashing}
 use Rattle.ab_meaning.specs.Refusals.{clash}
 use Rattle.ab_steps.specs.ProofEffects.{IsRefused}
-use Rattle.ab_steps.specs.Progress.{goals_of}
+use Rattle.ab_steps.specs.ab_kernel.specs.Layout.{goals_of}
 use Rattle.ab_steps.proofs.Following.{advances, first_at, one_at_least}
 use Rattle.ab_hypothesis.proofs.Taking.{case_applied, case_refused}
 use Rattle.ab_hypothesis.proofs.cases.case.Goals as goal

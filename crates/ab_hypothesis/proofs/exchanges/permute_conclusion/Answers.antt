@@ -1,4 +1,4 @@
-use Rattle.std.proofs.Common.{◌≡◌, None, [], ◌∷◌, ◌∙◌, ap, subst}
+use Rattle.std.proofs.Common.{◌≡◌, None, [], ◌∷◌, sym, ◌∙◌, ap, subst}
 use Rattle.ab_term.specs.Names as tree
 use Rattle.ab_norm.specs.ab_types.specs.Ids.{type_of}
 use Rattle.ab_grammar.specs.CommandTrees as told
@@ -7,6 +7,7 @@ use Rattle.ab_formulas.specs.Sequents.{Sequent, goal_names, proving}
 use Rattle.ab_logic.specs.Worlds.{declarations_of}
 use Rattle.ab_formulas.specs.Cycles.{cycle}
 use Rattle.ab_sequents.specs.NameTypes.{IsCommon}
+use Rattle.ab_sequents.specs.declared.name_types.Standing.TheVariants.{At}
 use Rattle.ab_effects.specs.ProofCommands.{effect}
 use Rattle.ab_steps.specs.ProofEffects.{RefusedBy}
 use Rattle.ab_steps.specs.declared.fault.ProofCommandFault.TheVariants.{TypeClash, WrongShape}
@@ -34,10 +35,15 @@ turn_conclusion-requires-clause-ty g c =
     let w = c.args.world.now in
     (subst (IsCommon w.types c.args.numbers.now (goal_names (sequent_of w c.first_goal-goal.result.now))) c.in-At.is c.in_ok-standing.ensures).1
 
-pub turn_conclusion-requires-clause-different : goal.turn_conclusion-requires-clause-different
-turn_conclusion-requires-clause-different g c =
+pub turn_conclusion-requires-clause-there : goal.turn_conclusion-requires-clause-there
+turn_conclusion-requires-clause-there g c s rest goals = ap (λ (k : Sequent). k.conclusion) (sym (c.first_goal-goal.ensures.reads s rest goals))
+
+pub turn_conclusion-requires-clause-cycles : goal.turn_conclusion-requires-clause-cycles
+turn_conclusion-requires-clause-cycles g c s rest goals =
     let w = c.args.world.now in
-    (subst (IsCommon w.types c.args.numbers.now (goal_names (sequent_of w c.first_goal-goal.result.now))) c.in-At.is c.in_ok-standing.ensures).0.different
+    let common = subst (IsCommon w.types c.args.numbers.now (goal_names (sequent_of w c.first_goal-goal.result.now))) c.in-At.is c.in_ok-standing.ensures in
+    let here = subst (λ k. IsCommon w.types c.args.numbers.now (goal_names k) (At c.in-At.ty)) (c.first_goal-goal.ensures.reads s rest goals) common in
+    (here.0, here.2)
 
 pub returns-in_ok-turn_conclusion-in-At-clause-applied : goal.returns-in_ok-turn_conclusion-in-At-clause-applied
 returns-in_ok-turn_conclusion-in-At-clause-applied g c l s rest goals =

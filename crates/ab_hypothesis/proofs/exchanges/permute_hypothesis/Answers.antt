@@ -4,8 +4,10 @@ use Rattle.ab_norm.specs.ab_types.specs.Ids.{type_of}
 use Rattle.ab_formulas.specs.Sequents.{Sequent, formula_of, goal_names, assuming, without}
 use Rattle.ab_logic.specs.Worlds.{declarations_of, read}
 use Rattle.ab_formulas.specs.Cycles.{cycle}
+use Rattle.ab_logic.specs.SequentReadings.{sequent_of}
 use Rattle.ab_sequents.specs.NameTypes.{IsCommon}
-use Rattle.ab_steps.specs.Progress.{goals_of}
+use Rattle.ab_sequents.specs.declared.name_types.Standing.TheVariants.{At}
+use Rattle.ab_steps.specs.ab_kernel.specs.Layout.{goals_of}
 use Rattle.ab_steps.proofs.Following.{first_at, one_at_least}
 use Rattle.ab_hypothesis.proofs.ExchangeRows.{hypothesis_leads}
 use Rattle.ab_hypothesis.proofs.exchanges.permute_hypothesis.Goals as goal
@@ -22,6 +24,13 @@ turn_hypothesis-requires-clause-there g c =
       at = first_at w p one.0 one.1 one.2;
       has = ap (λ s. formula_of s c.args.name.now) (sym (c.first_goal-goal.ensures.reads one.0 one.1 one.2)) ∙ sym (c.in-Some-look.ensures.reads w);
     }
+
+pub turn_hypothesis-requires-clause-cycles : goal.turn_hypothesis-requires-clause-cycles
+turn_hypothesis-requires-clause-cycles g c s rest goals =
+    let w = c.args.world.now in
+    let common = subst (IsCommon w.types c.args.numbers.now (goal_names (sequent_of w c.first_goal-goal.result.now))) c.in-At.is c.in_ok-standing.ensures in
+    let here = subst (λ k. IsCommon w.types c.args.numbers.now (goal_names k) (At c.in-At.ty)) (c.first_goal-goal.ensures.reads s rest goals) common in
+    (here.0, here.2)
 
 pub returns-in_ok-turn_hypothesis-in-Some-look-clause-applied : goal.returns-in_ok-turn_hypothesis-in-Some-look-clause-applied
 returns-in_ok-turn_hypothesis-in-Some-look-clause-applied g c l s rest goals =

@@ -3,8 +3,9 @@ use Rattle.std.proofs.Common.{◌≡◌, List, ◌∙◌, ap, sym, subst}
 use Rattle.ab_unify.specs.Problem.{cells_read}
 use Rattle.ab_logic.specs.Worlds.{declarations_of}
 use Rattle.ab_theory.specs.Derivations.{Debt}
-use Rattle.ab_steps.specs.ab_kernel.specs.RuleAnswers.{step_of}
-use Rattle.ab_steps.specs.Progress.{goals_of, FollowsBy}
+use Rattle.ab_steps.specs.ab_kernel.specs.ab_rules.specs.RuleAnswers.{step_of}
+use Rattle.ab_steps.specs.Progress.{FollowsBy}
+use Rattle.ab_steps.specs.ab_kernel.specs.Layout.{goals_of}
 use Rattle.ab_steps.proofs.Following.{some_goal, first_at, one_at_least}
 use Rattle.ab_steps.proofs.Plain.{never_stuck}
 use Rattle.ab_hypothesis.specs.JudgementSteps.{IsntTaken}

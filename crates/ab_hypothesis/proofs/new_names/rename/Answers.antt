@@ -3,7 +3,7 @@ use Rattle.std.proofs.Common.{◌≡◌, ◌∷◌, refl, sym, ◌∙◌, ap, su
 use Rattle.ab_formulas.specs.NewNames.{given, Names}
 use Rattle.ab_formulas.specs.Sequents.{formula_of, IsUsed, assuming, without}
 use Rattle.ab_logic.specs.Worlds.{read}
-use Rattle.ab_steps.specs.Progress.{goals_of}
+use Rattle.ab_steps.specs.ab_kernel.specs.Layout.{goals_of}
 use Rattle.ab_steps.proofs.Following.{first_at, one_at_least}
 use Rattle.ab_hypothesis.proofs.Rows.{no_formula, no_clash, renamed}
 use Rattle.ab_hypothesis.proofs.new_names.rename.Goals as goal

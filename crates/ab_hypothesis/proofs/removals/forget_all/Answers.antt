@@ -2,7 +2,7 @@ use Rattle.std.proofs.Common.{◌≡◌, [], ◌∷◌, take, sym, ◌∙◌, ap
 use Rattle.std.proofs.lemmas.List.{take_all}
 use Rattle.ab_formulas.specs.Sequents.{without}
 use Rattle.ab_effects.specs.ProofCommands.{cleared}
-use Rattle.ab_steps.specs.Progress.{goals_of}
+use Rattle.ab_steps.specs.ab_kernel.specs.Layout.{goals_of}
 use Rattle.ab_steps.proofs.Following.{follows_on, one_at_least}
 use Rattle.ab_hypothesis.proofs.Rows.{cleared_more}
 use Rattle.ab_hypothesis.proofs.removals.forget_all.Goals as goal

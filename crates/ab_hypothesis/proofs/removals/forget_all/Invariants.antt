@@ -1,7 +1,8 @@
 use Rattle.std.proofs.Common.{◌≡◌, List, ◌∷◌, take}
 use Rattle.ab_formulas.specs.Sequents.{Sequent}
 use Rattle.ab_effects.specs.ProofCommands.{cleared}
-use Rattle.ab_steps.specs.Progress.{goals_of, Follows}
+use Rattle.ab_steps.specs.Progress.{Follows}
+use Rattle.ab_steps.specs.ab_kernel.specs.Layout.{goals_of}
 use Rattle.ab_hypothesis.proofs.removals.forget_all.Given as goal
 
 abbrev pub invariant-loop-name : goal.invariant-loop-name

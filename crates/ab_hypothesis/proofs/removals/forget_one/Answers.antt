@@ -1,7 +1,7 @@
 use Rattle.std.specs.Prelude.{[]}
 use Rattle.std.proofs.Common.{◌∷◌, sym, ◌∙◌, ap, subst}
 use Rattle.ab_formulas.specs.Sequents.{IsUsed}
-use Rattle.ab_steps.specs.Progress.{goals_of}
+use Rattle.ab_steps.specs.ab_kernel.specs.Layout.{goals_of}
 use Rattle.ab_steps.proofs.Following.{first_at, one_at_least}
 use Rattle.ab_hypothesis.proofs.Moves.{on_ok}
 use Rattle.ab_hypothesis.proofs.Rows.{some_formula, no_formula, without_none}

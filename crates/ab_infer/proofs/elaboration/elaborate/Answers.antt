@@ -3,7 +3,7 @@ use Rattle.std.proofs.lemmas.Result.{err_from_is_err_and}
 use Rattle.ab_norm.specs.ab_types.specs.Ids.{type_of}
 use Rattle.ab_norm.specs.ab_types.proofs.Entries.{extended_by_itself, extended_twice, type_still_held}
 use Rattle.ab_grammar.specs.Tree.{place_of}
-use Rattle.ab_syntax.specs.SyntaxTrees.{tree_of}
+use Rattle.ab_syntax.specs.ab_expressions.specs.SyntaxTrees.{tree_of}
 use Rattle.ab_norm.proofs.Frame.{typed_none}
 use Rattle.ab_meaning.specs.Scopes.{resolved}
 use Rattle.ab_inference.specs.Sketches.{erase}

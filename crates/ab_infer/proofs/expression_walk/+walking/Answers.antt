@@ -4,7 +4,7 @@ use Rattle.std.proofs.lemmas.Result.{err_from_is_err_and}
 use Rattle.ab_norm.specs.ab_types.specs.Ids.{type_of}
 use Rattle.ab_norm.specs.ab_types.proofs.Entries.{extended_twice}
 use Rattle.ab_grammar.specs.Tree.{trees_of}
-use Rattle.ab_syntax.specs.SyntaxTrees.{tree_of, binder_of}
+use Rattle.ab_syntax.specs.ab_expressions.specs.SyntaxTrees.{tree_of, binder_of}
 use Rattle.ab_meaning.specs.ResolvedNames as names
 use Rattle.ab_meaning.specs.ResolvedNames.{quantified}
 use Rattle.ab_meaning.specs.Scopes.{is_pi, resolved, after, pi_over, with_binders, under, made_of_both, before_list, empty_list, context, items_before}
@@ -14,7 +14,7 @@ use Rattle.ab_infer.specs.Rows.{Grew}
 use Rattle.ab_infer.specs.WalkMoves.{judgement_head}
 use Rattle.ab_infer.proofs.Cases.{same_place, pi_many, pi_whole, head_whole, abs_whole, join_whole, argument_fails, argument_given, meets_bound, between_bound, binder_made, bound_names, first_and_rest}
 use Rattle.ab_infer.proofs.Grounds.{adds_none, adds_both, same_scope, written_later}
-use Rattle.ab_syntax.proofs.tree.Parse.TheLaws.{the_size}
+use Rattle.ab_syntax.specs.ab_expressions.proofs.tree.Parse.TheLaws.{the_size}
 use denote.Param.Weighed.{most}
 use Rattle.ab_infer.proofs.Depths.{list_is_less_deep, less_with_rank}
 use Rattle.ab_infer.proofs.Growing.{grew_abs, grew_apply, grew_bind}
@@ -27,7 +27,7 @@ walk_application-returns-then-arguments-ne1-clause-walked t c = λ is_one.
     let j = c.in-Apply in
     let s = scope_of c.args.types.now c.args.store.now c.args.scope.now in
     let bs = names_in c.args.row.now.bound.items in
-    c.unknown.ensures (resolved s bs (tree_of c.args.parse.now))
+    c.unknown_word.ensures (resolved s bs (tree_of c.args.parse.now))
     (pi_many s bs c.args.parse.now j.head j.arguments j.field-2 c.deref.result.now c.as_slice-arguments.result.now j.is c.deref.ensures c.as_slice-arguments.ensures (sym c.is_pi.ensures ∙ c.if-is_pi.true) c.if-arguments-ne1.true)
 
 pub walk_application-returns-in_err-walk-in-Apply-clause-walked : goal.walk_application-returns-in_err-walk-in-Apply-clause-walked

@@ -1,5 +1,5 @@
 use Rattle.std.proofs.Common.{subst}
-use Rattle.ab_syntax.specs.SyntaxTrees.{tree_of}
+use Rattle.ab_syntax.specs.ab_expressions.specs.SyntaxTrees.{tree_of}
 use Rattle.ab_meaning.specs.Scopes.{resolved}
 use Rattle.ab_infer.specs.NameScopes.{names_in, scope_of}
 use Rattle.ab_infer.specs.Rows.{Grew}

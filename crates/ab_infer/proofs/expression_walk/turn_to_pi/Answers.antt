@@ -6,7 +6,7 @@ use Rattle.ab_infer.proofs.expression_walk.turn_to_pi.Goals as goal
 pub returns-in_default : goal.returns-in_default
 returns-in_default c = λ types store first found g.
     let h = rw c.in_default.is at c.pop.ensures.cases in
-    c.unknown.ensures (after pi_over found) (nothing_over types store first c.args.row.now found g (empty_of c.args.row.now.steps.items (omega (arith, h.0, c.args.row.now.steps.ok.0))))
+    c.unknown_word.ensures (after pi_over found) (nothing_over types store first c.args.row.now found g (empty_of c.args.row.now.steps.items (omega (arith, h.0, c.args.row.now.steps.ok.0))))
 
 pub returns-in-Abs : goal.returns-in-Abs
 returns-in-Abs c = λ types store first found g.
@@ -18,5 +18,5 @@ returns-in-Abs c = λ types store first found g.
 pub returns : goal.returns
 returns c = λ types store first found g.
     let popped = rw c.in-Some.is at c.pop.ensures.items in
-    c.unknown-in_default-last.ensures (after pi_over found)
+    c.unknown_word-in_default-last.ensures (after pi_over found)
     (not_over types store first c.args.row.now found g c.pop.new.self.items c.in-Some.last popped (not_abs_item types store.cells c.args.row.now.names.items c.in-Some.last c.in_default-last.not-Abs))

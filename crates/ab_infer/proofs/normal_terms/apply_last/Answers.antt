@@ -15,17 +15,17 @@ returns-in_default-pop-clause-advances g c = λ base v x rest there here.
     let popped : Popped t s0 c.pop_term.new.store c.args.stack.now.items c.pop_term.new.stack.items (λ r. r) c.in-Some.argument = rw c.in-Some.is at c.in_ok-argument.ensures.popped in
     one_apply t base v x rest s0 (turned c.args.stack.now.items) popped.value (popped.was ∙ ap (λ l. popped.value ∷ l) c.in_default-pop.ensures.turned) here
 
-pub given-requires-clause-value : goal.given-requires-clause-value
-given-requires-clause-value g c =
+pub with_argument-requires-clause-value : goal.with_argument-requires-clause-value
+with_argument-requires-clause-value g c =
     (All-pop (HoldsValue c.args.types.now c.pop_term.new.store) c.pop_term.new.stack.items c.pop.new.stack.items (Some c.in-Some-pop.function) c.in-Some-pop.ensures.items c.in_ok-argument.ensures.stack).1
 
 pub returns-in_err-made-clause-stack : goal.returns-in_err-made-clause-stack
 returns-in_err-made-clause-stack g c =
-    values_kept c.args.types.now c.pop_term.new.store c.given.new.store c.in_err-made.ensures.adds c.pop.new.stack.items
+    values_kept c.args.types.now c.pop_term.new.store c.with_argument.new.store c.in_err-made.ensures.adds c.pop.new.stack.items
     (All-pop (HoldsValue c.args.types.now c.pop_term.new.store) c.pop_term.new.stack.items c.pop.new.stack.items (Some c.in-Some-pop.function) c.in-Some-pop.ensures.items c.in_ok-argument.ensures.stack).0
 
 pub returns-in_err-made-clause-adds : goal.returns-in_err-made-clause-adds
-returns-in_err-made-clause-adds g c = typed_on c.args.types.now c.args.store.now c.pop_term.new.store c.given.new.store c.in_ok-argument.ensures.adds c.in_err-made.ensures.adds
+returns-in_err-made-clause-adds g c = typed_on c.args.types.now c.args.store.now c.pop_term.new.store c.with_argument.new.store c.in_ok-argument.ensures.adds c.in_err-made.ensures.adds
 
 pub returns-clause-advances : goal.returns-clause-advances
 returns-clause-advances g c = λ base v x rest there here.
@@ -33,15 +33,15 @@ returns-clause-advances g c = λ base v x rest there here.
     let s0 = c.args.store.now in
     let s1 = c.pop_term.new.store in
     let popped : Popped t s0 s1 c.args.stack.now.items c.pop_term.new.stack.items (λ r. r) c.in-Some.argument = rw c.in-Some.is at c.in_ok-argument.ensures.popped in
-    run_application t base v x rest s0 s1 c.given.new.store c.in_ok-argument.ensures.adds c.in_ok-made.ensures.adds (turned c.args.stack.now.items) (turned c.pop.new.stack.items)
+    run_application t base v x rest s0 s1 c.with_argument.new.store c.in_ok-argument.ensures.adds c.in_ok-made.ensures.adds (turned c.args.stack.now.items) (turned c.pop.new.stack.items)
     popped.value c.in-Some-pop.function c.in_ok-made.made c.in-Some.argument
     (popped.was ∙ ap (λ l. popped.value ∷ l) c.in-Some-pop.ensures.turned)
     (all_turned (HoldsValue t s0) c.args.stack.now.items c.requires.stack) popped.tree c.in_ok-made.ensures.means here
 
 pub returns-clause-stack : goal.returns-clause-stack
 returns-clause-stack g c =
-    values_kept c.args.types.now c.pop_term.new.store c.given.new.store c.in_ok-made.ensures.adds c.pop.new.stack.items
+    values_kept c.args.types.now c.pop_term.new.store c.with_argument.new.store c.in_ok-made.ensures.adds c.pop.new.stack.items
     (All-pop (HoldsValue c.args.types.now c.pop_term.new.store) c.pop_term.new.stack.items c.pop.new.stack.items (Some c.in-Some-pop.function) c.in-Some-pop.ensures.items c.in_ok-argument.ensures.stack).0
 
 pub returns-clause-adds : goal.returns-clause-adds
-returns-clause-adds g c = typed_on c.args.types.now c.args.store.now c.pop_term.new.store c.given.new.store c.in_ok-argument.ensures.adds c.in_ok-made.ensures.adds
+returns-clause-adds g c = typed_on c.args.types.now c.args.store.now c.pop_term.new.store c.with_argument.new.store c.in_ok-argument.ensures.adds c.in_ok-made.ensures.adds

@@ -43,11 +43,11 @@ loop-i-preserved c =
       constants = c.settle.ensures.constants ∙ c.loop-i.invariant.constants;
     }
 
-pub collected-requires-clause-done : goal.collected-requires-clause-done
-collected-requires-clause-done c = λ k l. subst (λ m. IsDone m k) (sym c.deref.ensures.value) (c.loop-i.invariant.walking.walked.done k (omega (arith, c.loop-i-test.false, c.loop-i.auto.i-end)))
+pub settled_variables-requires-clause-done : goal.settled_variables-requires-clause-done
+settled_variables-requires-clause-done c = λ k l. subst (λ m. IsDone m k) (sym c.deref.ensures.value) (c.loop-i.invariant.walking.walked.done k (omega (arith, c.loop-i-test.false, c.loop-i.auto.i-end)))
 
 pub returns-clause-solved : goal.returns-clause-solved
 returns-clause-solved c =
-    let f = c.in_ok-collected.ensures in
+    let f = c.in_ok-settled_variables.ensures in
     all_walked c.args.types.now c.loop-i.types c.args.shapes.now c.loop-i.marks.items c.loop-i.i c.requires.held c.loop-i.invariant.walking (omega (arith, c.loop-i-test.false, c.loop-i.auto.i-end))
-    c.in_ok-collected.field-0.items f.len (λ k l. subst (λ m. mark_at m k ≡ Done (settled_at c.in_ok-collected.field-0.items k)) c.deref.ensures.value (f.found k l))
+    c.in_ok-settled_variables.field-0.items f.len (λ k l. subst (λ m. mark_at m k ≡ Done (settled_at c.in_ok-settled_variables.field-0.items k)) c.deref.ensures.value (f.found k l))

@@ -66,7 +66,7 @@ returns-in_ok-found-in-Known-clause-inferred c = λ first cells names rest out l
 
 pub returns-in_ok-found-in-Apply-clause-kept : goal.returns-in_ok-found-in-Apply-clause-kept
 returns-in_ok-found-in-Apply-clause-kept c =
-    kept_of c.args.types.now c.args.shapes.now.items c.applied.new.shapes.items _ c.in_ok-found-in-Apply.found (turned c.args.stack.now.items) (turned c.pop_two.new.stack.items) c.in_ok-found-in-Apply.ensures c.requires.stack
+    kept_of c.args.types.now c.args.shapes.now.items c.application_type.new.shapes.items _ c.in_ok-found-in-Apply.found (turned c.args.stack.now.items) (turned c.pop_two.new.stack.items) c.in_ok-found-in-Apply.ensures c.requires.stack
     (rest_two _ _ c.in-Some.argument c.in-Some.function c.in-Some.ensures)
 
 pub returns-in_ok-found-in-Apply-clause-inferred : goal.returns-in_ok-found-in-Apply-clause-inferred
@@ -74,7 +74,7 @@ returns-in_ok-found-in-Apply-clause-inferred c = λ first cells names rest out l
     let t = c.args.types.now in
     let s = c.args.shapes.now.items in
     let vs = turned c.pop_two.new.stack.items in
-    run_application t c.args.base first s rest out c.in_ok-found-in-Apply.found c.applied.new.shapes.items _ c.in_ok-found-in-Apply.ensures c.in-Some.function c.in-Some.argument vs
+    run_application t c.args.base first s rest out c.in_ok-found-in-Apply.found c.application_type.new.shapes.items _ c.in_ok-found-in-Apply.ensures c.in-Some.function c.in-Some.argument vs
     (λ v A q. q) (λ v A q. q)
     (subst (Running t c.args.base first s _ out) c.in-Some.ensures
     (subst (λ o. Running t c.args.base first s (item_of t cells names o ∷ rest) out (turned c.args.stack.now.items)) c.in-Apply.is here))
@@ -140,7 +140,7 @@ returns-in_default-pop_two-2-clause-inferred c = λ first cells names rest out l
 
 pub returns-in_ok-found-in-Behind-clause-kept : goal.returns-in_ok-found-in-Behind-clause-kept
 returns-in_ok-found-in-Behind-clause-kept c =
-    kept_of c.args.types.now c.args.shapes.now.items c.applied-in-Behind.new.shapes.items _ c.in_ok-found-in-Behind.found (turned c.args.stack.now.items) (turned c.pop_two-in-Behind.new.stack.items) c.in_ok-found-in-Behind.ensures c.requires.stack
+    kept_of c.args.types.now c.args.shapes.now.items c.application_type-in-Behind.new.shapes.items _ c.in_ok-found-in-Behind.found (turned c.args.stack.now.items) (turned c.pop_two-in-Behind.new.stack.items) c.in_ok-found-in-Behind.ensures c.requires.stack
     (rest_two _ _ c.in-Some-pop_two-2.function c.in-Some-pop_two-2.argument c.in-Some-pop_two-2.ensures)
 
 pub returns-in_ok-found-in-Behind-clause-inferred : goal.returns-in_ok-found-in-Behind-clause-inferred
@@ -148,7 +148,7 @@ returns-in_ok-found-in-Behind-clause-inferred c = λ first cells names rest out 
     let t = c.args.types.now in
     let s = c.args.shapes.now.items in
     let vs = turned c.pop_two-in-Behind.new.stack.items in
-    run_application_behind t c.args.base first s rest out c.in_ok-found-in-Behind.found c.applied-in-Behind.new.shapes.items _ c.in_ok-found-in-Behind.ensures c.in-Some-pop_two-2.argument c.in-Some-pop_two-2.function vs
+    run_application_behind t c.args.base first s rest out c.in_ok-found-in-Behind.found c.application_type-in-Behind.new.shapes.items _ c.in_ok-found-in-Behind.ensures c.in-Some-pop_two-2.argument c.in-Some-pop_two-2.function vs
     (λ v A q. q) (λ v A q. q)
     (subst (Running t c.args.base first s _ out) c.in-Some-pop_two-2.ensures
     (subst (λ o. Running t c.args.base first s (item_of t cells names o ∷ rest) out (turned c.args.stack.now.items)) c.in-Behind.is here))

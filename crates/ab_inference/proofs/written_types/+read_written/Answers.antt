@@ -1,6 +1,6 @@
 use Rattle.std.proofs.Common.{sym, ◌∙◌, ap, subst, refl}
 use Rattle.std.specs.Prelude.{Ok, ◌&&◌}
-use Rattle.ab_syntax.specs.SyntaxTrees as trees
+use Rattle.ab_syntax.specs.ab_expressions.specs.SyntaxTrees as trees
 use Rattle.ab_inference.specs.WrittenTypes.{WrittenAnswers}
 use Rattle.ab_inference.proofs.Tables.{still_held, same_kinds, same_constants}
 use Rattle.ab_inference.proofs.WrittenTyping.{type_base, arrow_whole, arrow_answer}

@@ -12,9 +12,9 @@ use Rattle.ab_unifiers.specs.Clauses.{Each, put_together, name_term}
 use Rattle.ab_unifiers.specs.Prefixes.{opened}
 use Rattle.ab_unifiers.specs.Alternatives.{cells_over, made_over, made_terms}
 use Rattle.ab_typing.specs.DefinitionReadings.{clause_of}
-use Rattle.ab_unify.specs.Problem.{cells_read, variables_read}
+use Rattle.ab_unify.specs.Problem.{cells_read, variables_read, cells_at}
 use Rattle.ab_unify.proofs.Growth.{grows_on, grows_terms, typed_terms}
-use Rattle.ab_instances.specs.ListReadings.{names_read, cells_at, trees_at, given_at}
+use Rattle.ab_instances.specs.ListReadings.{names_read, trees_at, given_at}
 use Rattle.ab_instances.specs.CellBindings.{CanBeBound}
 use Rattle.ab_instances.proofs.Made.{names_stay, names_held}
 use Rattle.ab_instances.proofs.Fitting.{in_terms_are, different_cells, can_bind}

@@ -2,9 +2,9 @@ use Rattle.std.proofs.Common.{ℕ, ◌++◌, ◌∷◌, [], codes, length, take,
 use Rattle.std.proofs.lemmas.List.{take_more}
 use Rattle.ab_norm.specs.ab_store.proofs.Growing.{extended_on}
 use Rattle.ab_unifiers.specs.Alternatives.{cells_over}
-use Rattle.ab_unify.specs.Problem.{cells_read}
+use Rattle.ab_unify.specs.Problem.{cells_read, cells_at}
 use Rattle.ab_unify.proofs.Growth.{grows_on}
-use Rattle.ab_instances.specs.ListReadings.{names_read, cells_at}
+use Rattle.ab_instances.specs.ListReadings.{names_read}
 use Rattle.ab_instances.specs.RaisedCells.{ids_from}
 use Rattle.ab_instances.proofs.Made.{names_held, cells_step, count_is, ids_push}
 use Rattle.ab_instances.proofs.raised_variables.make_cells.Goals as goal

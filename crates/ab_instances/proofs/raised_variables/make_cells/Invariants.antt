@@ -1,9 +1,9 @@
 use Rattle.std.proofs.Common.{◌≡◌, ◌++◌, codes, length, take}
 use Rattle.ab_norm.specs.ab_store.specs.Growth.{IsExtendedBy}
 use Rattle.ab_unifiers.specs.Alternatives.{cells_over}
-use Rattle.ab_unify.specs.Problem.{cells_read}
+use Rattle.ab_unify.specs.Problem.{cells_read, cells_at}
 use Rattle.ab_unify.specs.StoreChanges.{Grows}
-use Rattle.ab_instances.specs.ListReadings.{names_read, cells_at}
+use Rattle.ab_instances.specs.ListReadings.{names_read}
 use Rattle.ab_instances.specs.RaisedCells.{ids_from}
 use Rattle.ab_instances.proofs.raised_variables.make_cells.Given as goal
 

@@ -5,14 +5,14 @@ use Rattle.ab_norm.specs.ab_store.specs.declared.node.TermId.{TermId}
 use Rattle.ab_norm.specs.ab_store.specs.Trees.{Holds, HoldsCell, tree_of}
 use Rattle.ab_unifiers.specs.Alternatives.{cells_over, made_over, made_terms}
 use Rattle.ab_unify.proofs.Growth.{grows_on, grows_terms}
-use Rattle.ab_unify.specs.Problem.{cells_read}
-use Rattle.ab_alternatives.specs.RightAlternatives.{variable_at}
-use Rattle.ab_alternatives.specs.ab_instances.specs.ListReadings.{names_read, cells_at}
+use Rattle.ab_unify.specs.Problem.{cells_read, cells_at}
+use Rattle.ab_logic.specs.Worlds.{variable_at}
+use Rattle.ab_alternatives.specs.ab_instances.specs.ListReadings.{names_read}
 use Rattle.ab_logic.specs.Forms.{sign_of}
 use Rattle.ab_term.specs.Substitution.{instance_by_all}
 use Rattle.ab_theory.specs.Opening.{open_goal, conjunction_of}
 use Rattle.ab_theory.specs.SpecRules.{stands_in_goals_alone}
-use Rattle.ab_judgements.specs.DemandWalks.{under_variables, exists_names, chosen, stand_ins}
+use Rattle.ab_judgement_forms.specs.DemandWalks.{under_variables, exists_names, chosen, stand_ins}
 use Rattle.ab_judgements.proofs.ClauseMade as made
 use Rattle.ab_judgements.proofs.clause_demands.clause_demand.Goals as goal
 

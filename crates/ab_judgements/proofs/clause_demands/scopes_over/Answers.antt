@@ -3,11 +3,11 @@ use Rattle.ab_term.specs.Terms.{Read}
 use Rattle.ab_norm.specs.ab_store.specs.declared.node.TermId.{TermId}
 use Rattle.ab_norm.specs.ab_store.specs.Trees.{Holds, tree_of}
 use Rattle.ab_norm.proofs.Frame.{typed_on}
-use Rattle.ab_alternatives.specs.RightAlternatives.{variable_at}
-use Rattle.ab_judgements.specs.DemandWalks.{under_variables}
+use Rattle.ab_logic.specs.Worlds.{variable_at}
+use Rattle.ab_judgement_forms.specs.DemandWalks.{under_variables}
 use Rattle.ab_judgements.proofs.CellsMade.{still_at}
-use Rattle.ab_judgements.proofs.ClosedInTurn.{map_then}
-use Rattle.ab_judgements.proofs.OneMore.{one_more, one_more_held}
+use Rattle.ab_judgement_forms.proofs.ClosedInTurn.{map_then}
+use Rattle.ab_judgement_forms.proofs.OneMore.{one_more, one_more_held}
 use Rattle.ab_judgements.proofs.clause_demands.scopes_over.Goals as goal
 
 pub returns-in_err-under_cells-clause-adds : goal.returns-in_err-under_cells-clause-adds

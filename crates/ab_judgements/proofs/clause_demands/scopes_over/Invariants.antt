@@ -2,8 +2,8 @@ use Rattle.std.proofs.Common.{◌≡◌, map, take}
 use Rattle.std.specs.List.{All}
 use Rattle.ab_norm.specs.ab_store.specs.Trees.{Holds, tree_of}
 use Rattle.ab_norm.specs.NodeGrowth.{AddsTypedTerms}
-use Rattle.ab_alternatives.specs.RightAlternatives.{variable_at}
-use Rattle.ab_judgements.specs.DemandWalks.{under_variables}
+use Rattle.ab_logic.specs.Worlds.{variable_at}
+use Rattle.ab_judgement_forms.specs.DemandWalks.{under_variables}
 use Rattle.ab_judgements.proofs.clause_demands.scopes_over.Given as goal
 
 abbrev pub invariant-loop-goal : goal.invariant-loop-goal

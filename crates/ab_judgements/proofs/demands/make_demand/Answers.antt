@@ -6,7 +6,7 @@ use Rattle.ab_logic.specs.declared.world.World.{World}
 use Rattle.ab_logic.proofs.Growing.{grows_store}
 use Rattle.ab_theory.specs.SpecRules.{some_item, demand_of}
 use Rattle.ab_alternatives.proofs.Tried.{grown}
-use Rattle.ab_judgements.specs.JudgementReadings.{judgement_read}
+use Rattle.ab_judgement_forms.specs.JudgementReadings.{judgement_read}
 use Rattle.ab_judgements.specs.DemandReadings.{rule_read, IsRuleFor, IsDemanded, IsDemandMade}
 use Rattle.ab_judgements.specs.declared.demands.Rule.{Rule}
 use Rattle.ab_judgements.specs.declared.demands.Rule.TheVariants.{Clause, Part}

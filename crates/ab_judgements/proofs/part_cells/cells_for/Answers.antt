@@ -1,6 +1,6 @@
 use Rattle.std.proofs.Common.{◌∙◌, ap, arith}
 use Rattle.ab_norm.specs.ab_store.proofs.Growing.{extended_on}
-use Rattle.ab_judgements.specs.PartReadings.{name_read}
+use Rattle.ab_judgement_forms.specs.PartReadings.{name_read}
 use Rattle.ab_judgements.proofs.CellsMade.{cells_more, made_more, held_more}
 use Rattle.ab_judgements.proofs.part_cells.cells_for.Goals as goal
 

@@ -5,8 +5,8 @@ use Rattle.ab_norm.specs.ab_store.specs.Growth.{IsExtendedBy}
 use Rattle.ab_norm.specs.ab_store.specs.Naming.{IsTypedBy}
 use Rattle.ab_unify.specs.Problem.{cells_read}
 use Rattle.ab_theory.specs.Equations.{variables_from}
-use Rattle.ab_alternatives.specs.RightAlternatives.{variable_at}
-use Rattle.ab_judgements.specs.PartReadings.{name_read}
+use Rattle.ab_logic.specs.Worlds.{variable_at}
+use Rattle.ab_judgement_forms.specs.PartReadings.{name_read}
 use Rattle.ab_judgements.proofs.part_cells.cells_for.Given as goal
 
 abbrev pub invariant-loop-name : goal.invariant-loop-name

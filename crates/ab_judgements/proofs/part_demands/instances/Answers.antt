@@ -4,8 +4,8 @@ use Rattle.ab_term.specs.Substitution.{instance_by_all}
 use Rattle.ab_norm.specs.ab_store.specs.declared.node.TermId.{TermId}
 use Rattle.ab_norm.specs.ab_store.specs.Trees.{Holds, tree_of}
 use Rattle.ab_norm.proofs.Frame.{typed_on, typed_from, adds_but_types}
-use Rattle.ab_judgements.proofs.ClosedInTurn.{map_then}
-use Rattle.ab_judgements.proofs.OneMore.{one_more, one_more_held}
+use Rattle.ab_judgement_forms.proofs.ClosedInTurn.{map_then}
+use Rattle.ab_judgement_forms.proofs.OneMore.{one_more, one_more_held}
 use Rattle.ab_judgements.proofs.part_demands.instances.Goals as goal
 
 pub returns-in_err-instantiate-clause-adds : goal.returns-in_err-instantiate-clause-adds

@@ -11,7 +11,7 @@ use Rattle.ab_norm.specs.ab_store.specs.Trees.{Contents, HoldsCell, cell_of, cel
 use Rattle.ab_norm.proofs.Frame.{typed_on}
 use Rattle.ab_unifiers.specs.Prefixes.{own_terms}
 use Rattle.ab_unify.specs.Problem.{variables_read}
-use Rattle.ab_judgements.proofs.OneMore.{one_more, one_more_held}
+use Rattle.ab_judgement_forms.proofs.OneMore.{one_more, one_more_held}
 use Rattle.ab_judgements.proofs.part_demands.own_forms.Goals as goal
 
 abbrev form : Table → Contents → CellId → Read

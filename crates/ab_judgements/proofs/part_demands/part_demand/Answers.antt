@@ -3,17 +3,17 @@ use Rattle.ab_term.specs.Substitution.{instance_by_all}
 use Rattle.ab_norm.specs.ab_store.specs.Trees.{Holds, tree_of}
 use Rattle.ab_unifiers.specs.Prefixes.{own_terms}
 use Rattle.ab_unifiers.specs.Replacements.{Cell}
-use Rattle.ab_unify.specs.Problem.{cells_read, variables_read}
+use Rattle.ab_unify.specs.Problem.{cells_read, variables_read, cells_at}
 use Rattle.ab_unify.proofs.Growth.{grows_terms}
 use Rattle.ab_logic.specs.Forms.{sign_of}
 use Rattle.ab_theory.specs.Equations.{variables_from}
 use Rattle.ab_theory.specs.Opening.{open_goal, conjunction_of}
 use Rattle.ab_theory.specs.Parts.{under_all, put_under}
 use Rattle.ab_theory.specs.SpecRules.{stands_in_goals_alone}
-use Rattle.ab_alternatives.specs.RightAlternatives.{variable_at}
-use Rattle.ab_alternatives.specs.ab_instances.specs.ListReadings.{cells_at, names_read}
-use Rattle.ab_judgements.specs.DemandWalks.{exists_names, chosen, stand_ins}
-use Rattle.ab_judgements.specs.PartReadings.{name_read}
+use Rattle.ab_logic.specs.Worlds.{variable_at}
+use Rattle.ab_alternatives.specs.ab_instances.specs.ListReadings.{names_read}
+use Rattle.ab_judgement_forms.specs.DemandWalks.{exists_names, chosen, stand_ins}
+use Rattle.ab_judgement_forms.specs.PartReadings.{name_read}
 use Rattle.ab_judgements.proofs.PartMade as made
 use Rattle.ab_judgements.proofs.PartSteps as steps
 use Rattle.ab_judgements.proofs.part_demands.part_demand.Goals as goal

@@ -4,9 +4,9 @@ use Rattle.ab_norm.specs.ab_store.specs.declared.node.TermId.{TermId}
 use Rattle.ab_norm.specs.ab_store.specs.Trees.{Holds, tree_of}
 use Rattle.ab_norm.proofs.Frame.{typed_on}
 use Rattle.ab_theory.specs.Parts.{under_all}
-use Rattle.ab_judgements.specs.PartReadings.{name_read}
-use Rattle.ab_judgements.proofs.ClosedInTurn.{map_then}
-use Rattle.ab_judgements.proofs.OneMore.{one_more, one_more_held}
+use Rattle.ab_judgement_forms.specs.PartReadings.{name_read}
+use Rattle.ab_judgement_forms.proofs.ClosedInTurn.{map_then}
+use Rattle.ab_judgement_forms.proofs.OneMore.{one_more, one_more_held}
 use Rattle.ab_judgements.proofs.part_demands.scopes_under.Goals as goal
 
 pub returns-in_err-under_all-clause-adds : goal.returns-in_err-under_all-clause-adds

@@ -3,7 +3,7 @@ use Rattle.std.specs.List.{All}
 use Rattle.ab_norm.specs.ab_store.specs.Trees.{Holds, tree_of}
 use Rattle.ab_norm.specs.NodeGrowth.{AddsTypedTerms}
 use Rattle.ab_theory.specs.Parts.{under_all}
-use Rattle.ab_judgements.specs.PartReadings.{name_read}
+use Rattle.ab_judgement_forms.specs.PartReadings.{name_read}
 use Rattle.ab_judgements.proofs.part_demands.scopes_under.Given as goal
 
 abbrev pub invariant-loop-goal : goal.invariant-loop-goal

@@ -3,7 +3,7 @@ use Rattle.ab_term.specs.Substitution.{instance_by_all}
 use Rattle.ab_norm.specs.ab_store.specs.Trees.{tree_of}
 use Rattle.ab_norm.proofs.Frame.{if_ok, typed_from, typed_on, adds_but_types}
 use Rattle.ab_theory.specs.Parts.{under_all}
-use Rattle.ab_judgements.specs.PartReadings.{name_read}
+use Rattle.ab_judgement_forms.specs.PartReadings.{name_read}
 use Rattle.ab_judgements.proofs.part_instances.put_under.Goals as goal
 
 pub returns-clause-tree : goal.returns-clause-tree

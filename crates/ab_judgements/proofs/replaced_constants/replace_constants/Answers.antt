@@ -16,7 +16,7 @@ pub returns-clause-reads : goal.returns-clause-reads
 returns-clause-reads g c =
     let T = c.args.world.now.types in
     let S = c.args.world.now.store in
-    let U = c.abstracted.new.store in
+    let U = c.abstract_over.new.store in
     let one = c.in_ok-abstraction.ensures in
     let names = names_read T c.args.constants.now in
     let terms = still_read_before T S U c.args.terms.now one.adds.before c.requires.terms in
@@ -29,7 +29,7 @@ pub returns-clause-grows : goal.returns-clause-grows
 returns-clause-grows g c =
     let T = c.args.world.now.types in
     let S = c.args.world.now.store in
-    let U = c.abstracted.new.store in
+    let U = c.abstract_over.new.store in
     let one = c.in_ok-abstraction.ensures.adds in
     let two = typed_on T S U c.instantiate.new.store one (typed_from T U c.instantiate.new.store c.instantiate.ensures.adds one.typed) in
     grows_store _ _ _ _ c.requires.world two.before two.typed

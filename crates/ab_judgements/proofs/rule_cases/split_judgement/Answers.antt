@@ -9,7 +9,7 @@ use Rattle.ab_theory.specs.JudgementCases.{judgement_case}
 use Rattle.ab_theory.specs.Splits.{Split}
 use Rattle.ab_alternatives.specs.CaseSteps.{ArePassed}
 use Rattle.ab_alternatives.proofs.Passed.{later_not, later_on, passed_none}
-use Rattle.ab_judgements.specs.JudgementReadings.{judgement_read}
+use Rattle.ab_judgement_forms.specs.JudgementReadings.{judgement_read}
 use Rattle.ab_judgements.specs.RuleSteps.{cases_at}
 use Rattle.ab_judgements.specs.RuleWalks.{slots}
 use Rattle.ab_judgements.proofs.LaterRules.{splitting}

@@ -8,7 +8,7 @@ use Rattle.ab_alternatives.specs.CaseSteps.{ArePassed, AreStopped}
 use Rattle.ab_alternatives.specs.ab_equations.specs.declared.cases.CaseSolution.TheVariants.{Stuck}
 use Rattle.ab_alternatives.proofs.Passed.{passed_never, passed_goal, stopped_here}
 use Rattle.ab_judgements.specs.DemandReadings.{rule_read}
-use Rattle.ab_judgements.specs.JudgementReadings.{judgement_read}
+use Rattle.ab_judgement_forms.specs.JudgementReadings.{judgement_read}
 use Rattle.ab_judgements.specs.RuleSteps.{cases_at}
 use Rattle.ab_judgements.specs.RuleWalks.{slots}
 use Rattle.ab_judgements.proofs.CutWorlds.{cut_later, cut_cells}

@@ -10,7 +10,7 @@ use Rattle.ab_theory.specs.Subjects.{way_by_rule}
 use Rattle.ab_alternatives.specs.declared.choice_matches.Match.TheVariants as match
 use Rattle.ab_alternatives.specs.declared.first_choice.Found.{Found}
 use Rattle.ab_alternatives.specs.declared.first_choice.Found.TheVariants.{Closed, Open, Stuck}
-use Rattle.ab_judgements.specs.JudgementReadings.{judgement_read}
+use Rattle.ab_judgement_forms.specs.JudgementReadings.{judgement_read}
 use Rattle.ab_judgements.specs.RuleSteps.{NoneOf, IsFoundBy}
 use Rattle.ab_judgements.specs.RuleWalks.{rules_in}
 use Rattle.ab_judgements.proofs.rule_matches.find_at.Goals as goal

@@ -1,7 +1,7 @@
 use Rattle.std.proofs.Common.{◌≡◌, ◌<◌, ◌+◌, [], ◌∷◌, take, length, Ok, ◌∙◌, ap, subst, arith}
 use Rattle.ab_alternatives.proofs.Passed.{later_on}
 use Rattle.ab_alternatives.specs.declared.first_choice.Found.TheVariants.{Nothing}
-use Rattle.ab_judgements.specs.JudgementReadings.{judgement_read}
+use Rattle.ab_judgement_forms.specs.JudgementReadings.{judgement_read}
 use Rattle.ab_judgements.specs.RuleSteps.{NoneOf}
 use Rattle.ab_judgements.specs.RuleWalks.{slots, rules_in, rule_in}
 use Rattle.ab_unify.specs.Problem.{cells_read}

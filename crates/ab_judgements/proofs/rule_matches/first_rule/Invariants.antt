@@ -2,7 +2,7 @@ use Rattle.std.proofs.Common.{◌≡◌, ◌≤◌, take, length}
 use Rattle.ab_unify.specs.Problem.{cells_read}
 use Rattle.ab_formulas.specs.Sequents.{Sequent}
 use Rattle.ab_alternatives.specs.CaseSteps.{IsLater}
-use Rattle.ab_judgements.specs.JudgementReadings.{judgement_read}
+use Rattle.ab_judgement_forms.specs.JudgementReadings.{judgement_read}
 use Rattle.ab_judgements.specs.RuleSteps.{NoneOf}
 use Rattle.ab_judgements.specs.RuleWalks.{slots, rules_in, IsRuled}
 use Rattle.ab_judgements.proofs.rule_matches.first_rule.Given as goal

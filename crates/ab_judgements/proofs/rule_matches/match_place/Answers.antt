@@ -3,7 +3,7 @@ use Rattle.std.proofs.Common.{◌≡◌, sym, ◌∙◌, ap, subst}
 use Rattle.ab_unify.specs.Problem.{cells_read}
 use Rattle.ab_theory.specs.Subjects.{way_by_rule}
 use Rattle.ab_judgements.specs.DemandReadings.{rule_read}
-use Rattle.ab_judgements.specs.JudgementReadings.{judgement_read}
+use Rattle.ab_judgement_forms.specs.JudgementReadings.{judgement_read}
 use Rattle.ab_judgements.specs.RuleSteps.{MatchesBy}
 use Rattle.ab_judgements.proofs.CutWorlds.{cut_later, cut_cells}
 use Rattle.ab_judgements.proofs.rule_matches.match_place.Goals as goal

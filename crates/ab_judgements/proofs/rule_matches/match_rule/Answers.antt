@@ -1,7 +1,7 @@
 use Rattle.ab_norm.proofs.Frame.{if_ok}
 use Rattle.ab_unify.proofs.Growth.{grows_on}
 use Rattle.ab_judgements.specs.DemandReadings.{rule_read}
-use Rattle.ab_judgements.specs.JudgementReadings.{judgement_read}
+use Rattle.ab_judgement_forms.specs.JudgementReadings.{judgement_read}
 use Rattle.ab_judgements.specs.RuleSteps.{demand_above, as_demand}
 use Rattle.ab_judgements.proofs.DemandCases.{own_last}
 use Rattle.ab_judgements.proofs.RuleWays.{matched_so}

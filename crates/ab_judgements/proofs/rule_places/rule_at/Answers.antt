@@ -4,9 +4,9 @@ use Rattle.std.proofs.Common.{List, None, sym, ◌∙◌, ap, subst}
 use Rattle.ab_norm.proofs.Frame.{if_ok}
 use Rattle.ab_logic.specs.Worlds.{read}
 use Rattle.ab_theory.specs.SpecRules.{by_clause, by_part}
-use Rattle.ab_judgements.specs.PartReadings.{part_read}
+use Rattle.ab_judgement_forms.specs.PartReadings.{part_read}
 use Rattle.ab_judgements.specs.RuleWalks.{clauses_of, list_slot, slots, rules_in, rule_in, AreParts, IsSource}
-use Rattle.ab_judgements.specs.declared.focus_parts.Part.{Part}
+use Rattle.ab_judgement_forms.specs.declared.focus_parts.Part.{Part}
 use Rattle.ab_judgements.proofs.RuleSlots.{at_part, numbered_rule}
 use Rattle.ab_judgements.proofs.rule_places.rule_at.Goals as goal
 

@@ -3,7 +3,7 @@ use Rattle.ab_unifiers.specs.Unification.{apart, stuck, Solves}
 use Rattle.ab_unify.proofs.Growth.{grows_on}
 use Rattle.ab_formulas.specs.BodyMarks.{mark_above}
 use Rattle.ab_judgements.specs.DemandReadings.{rule_read}
-use Rattle.ab_judgements.specs.JudgementReadings.{judgement_read}
+use Rattle.ab_judgement_forms.specs.JudgementReadings.{judgement_read}
 use Rattle.ab_judgements.specs.RuleSteps.{demand_above, as_demand}
 use Rattle.ab_judgements.proofs.DemandCases.{own_last}
 use Rattle.ab_judgements.proofs.DemandFormulas.{body_formula}

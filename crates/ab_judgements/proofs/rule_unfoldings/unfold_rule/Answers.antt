@@ -7,7 +7,7 @@ use Rattle.ab_logic.specs.declared.world.World.{World}
 use Rattle.ab_theory.specs.Splits.{IsOpen}
 use Rattle.ab_theory.specs.Subjects.{way_by_rule}
 use Rattle.ab_judgements.specs.DemandReadings.{rule_read}
-use Rattle.ab_judgements.specs.JudgementReadings.{judgement_read}
+use Rattle.ab_judgement_forms.specs.JudgementReadings.{judgement_read}
 use Rattle.ab_judgements.specs.SubjectAnswers.{IsUnfoldedBy}
 use Rattle.ab_judgements.proofs.CutWorlds.{undone_later}
 use Rattle.ab_judgements.proofs.NumberedRules.{unfolded_by}

@@ -1,7 +1,7 @@
 use Rattle.std.proofs.Common.{length, subst}
 use Rattle.ab_theory.specs.SpecRules.{demand_of}
 use Rattle.ab_judgements.specs.DemandReadings.{rule_read, IsDemanded}
-use Rattle.ab_judgements.specs.JudgementReadings.{judgement_read}
+use Rattle.ab_judgement_forms.specs.JudgementReadings.{judgement_read}
 use Rattle.ab_judgements.proofs.LaterJudgements.{made_later}
 use Rattle.ab_judgements.proofs.rule_unfoldings.unfolding_by.Goals as goal
 

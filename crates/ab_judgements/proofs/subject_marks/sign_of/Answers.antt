@@ -3,7 +3,7 @@ use Rattle.ab_formulas.specs.Programs.{program_in}
 use Rattle.ab_logic.specs.Worlds.{declarations_of}
 use Rattle.ab_theory.specs.SpecRules.{rules_of}
 use Rattle.ab_alternatives.specs.AtomReadings.{defined_read}
-use Rattle.ab_judgements.specs.JudgementReadings.{judgement_read}
+use Rattle.ab_judgement_forms.specs.JudgementReadings.{judgement_read}
 use Rattle.ab_judgements.specs.SubjectReadings.{subject_read}
 use Rattle.ab_judgements.proofs.Signs.{atom_sign, judgement_sign}
 use Rattle.ab_judgements.proofs.subject_marks.sign_of.Goals as goal

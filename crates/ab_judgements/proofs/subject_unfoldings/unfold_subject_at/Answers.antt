@@ -12,7 +12,7 @@ use Rattle.ab_theory.specs.Splits.{NeverArises, IsOpen}
 use Rattle.ab_theory.specs.Subjects.{Way, an_atom, subject_of, way_by_choice, way_by_rule, ways_of}
 use Rattle.ab_theory.proofs.SubjectParts.{subject_is, made_there}
 use Rattle.ab_alternatives.specs.AtomReadings.{defined_read}
-use Rattle.ab_judgements.specs.JudgementReadings.{judgement_read}
+use Rattle.ab_judgement_forms.specs.JudgementReadings.{judgement_read}
 use Rattle.ab_judgements.specs.SubjectAnswers.{IsUnfoldedBy}
 use Rattle.ab_judgements.specs.SubjectReadings.{subject_read, HoldsSubject, HasRules}
 use Rattle.ab_judgements.proofs.SubjectForms.{formula_in, judgement_reads, judgement_typed}

@@ -6,7 +6,7 @@ use Rattle.ab_formulas.specs.Sequents.{Sequent, proving}
 use Rattle.ab_logic.specs.Worlds.{read}
 use Rattle.ab_logic.specs.SequentReadings.{sequent_of, HoldsSequent}
 use Rattle.ab_logic.specs.declared.sequent.Sequent.{Sequent as Kept}
-use Rattle.ab_kernel.specs.RuleAnswers.{label_of}
+use Rattle.ab_rules.specs.RuleAnswers.{label_of}
 use Rattle.ab_kernel.proofs.judgement_rules.proving_and_assuming.Goals as goal
 
 pub returns : goal.returns

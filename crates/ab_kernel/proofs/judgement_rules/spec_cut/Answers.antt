@@ -9,8 +9,8 @@ use Rattle.ab_logic.proofs.Growing.{grows_on, same_sequent, still_held}
 use Rattle.ab_theory.specs.Contexts.{cut_list}
 use Rattle.ab_theory.specs.Judgements.{marked_judgement}
 use Rattle.ab_theory.specs.Rules.{by_hint}
-use Rattle.ab_kernel.specs.RuleAnswers.{label_of}
-use Rattle.ab_kernel.proofs.Declared.{declared_same, declared_on}
+use Rattle.ab_rules.specs.RuleAnswers.{label_of}
+use Rattle.ab_logic.proofs.Declared.{declared_same, declared_on}
 use Rattle.ab_kernel.proofs.JudgementRows.{cut_row, with_same}
 use Rattle.ab_kernel.proofs.judgement_rules.spec_cut.Goals as goal
 
@@ -57,8 +57,8 @@ returns-in_err-made-clause-declared c =
     let two = c.in_err-made.ensures in
     declared_on c.args.world.now c.cut_list.new.world c.judgement_of.new.world c.requires.world one.grows one.additions one.types two.grows two.additions two.types
 
-pub assuming-requires-clause-held : goal.assuming-requires-clause-held
-assuming-requires-clause-held c =
+pub goals_assuming-requires-clause-held : goal.goals_assuming-requires-clause-held
+goals_assuming-requires-clause-held c =
     let w = c.args.world.now in
     let v = c.judgement_of.new.world in
     still_held w v (grows_on w c.cut_list.new.world v c.in_ok-left.ensures.grows c.in_ok-made.ensures.grows) c.args.sequent.now c.requires.held
@@ -87,5 +87,5 @@ returns-clause-answers c =
     let found : cut_list (read w p.list) (read w q.item) (read w q.rest) ≡ Some left = sym one.reads ∙ ap (option_map (read u)) c.in-Some-2.is in
     let reads : read v c.in_ok-made.made ≡ marked_judgement plain left (read w p.goal) = c.in_ok-made.ensures.reads ∙ ap (marked_judgement plain left) (one.grows.readings p.goal p.ensures.held.1) in
     cut_row v D (by_hint D (cells_read w.types w.store)) (label_of c.args.given.now) (sequent_of w s) c.args.name.now (read w c.in-Some.formula) (read w p.list, read w p.goal) (sym (c.in-Some.ensures.reads w)) (sym p.ensures.reads)
-    c.args.other.now (read w c.in-Some-look.cutting) left (read w q.rest, read w q.item) c.assuming.result (sym (c.in-Some-look.ensures.reads w)) (sym q.ensures.reads) found
-    (with_same v 4 (label_of c.args.given.now) c.assuming.result (sequent_of v s) (sequent_of w s) (same_sequent w v grown s c.requires.held) (read v c.in_ok-made.made) (marked_judgement plain left (read w p.goal)) reads c.assuming.ensures)
+    c.args.other.now (read w c.in-Some-look.cutting) left (read w q.rest, read w q.item) c.goals_assuming.result (sym (c.in-Some-look.ensures.reads w)) (sym q.ensures.reads) found
+    (with_same v 4 (label_of c.args.given.now) c.goals_assuming.result (sequent_of v s) (sequent_of w s) (same_sequent w v grown s c.requires.held) (read v c.in_ok-made.made) (marked_judgement plain left (read w p.goal)) reads c.goals_assuming.ensures)

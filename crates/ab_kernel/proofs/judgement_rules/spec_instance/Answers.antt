@@ -9,8 +9,8 @@ use Rattle.ab_logic.proofs.Growing.{grows_on, same_sequent, still_held}
 use Rattle.ab_theory.specs.Contexts.{replace_constants}
 use Rattle.ab_theory.specs.Judgements.{marked_judgement}
 use Rattle.ab_theory.specs.Rules.{by_hint}
-use Rattle.ab_kernel.specs.RuleAnswers.{label_of, replacements}
-use Rattle.ab_kernel.proofs.Declared.{declared_same, declared_on}
+use Rattle.ab_rules.specs.RuleAnswers.{label_of, replacements}
+use Rattle.ab_logic.proofs.Declared.{declared_same, declared_on}
 use Rattle.ab_kernel.proofs.Later.{same_replacements, still_replaces}
 use Rattle.ab_kernel.proofs.Replacing.{may_before, fit_before}
 use Rattle.ab_kernel.proofs.JudgementRows.{instance_row, with_same}
@@ -88,8 +88,8 @@ returns-in_err-made-clause-declared g c =
     let two = c.in_err-made.ensures in
     declared_on c.args.world.now c.judgement_of.new.world c.with_terms.new.world c.requires.world one.grows one.additions one.types two.grows two.additions two.types
 
-pub assuming-requires-clause-held : goal.assuming-requires-clause-held
-assuming-requires-clause-held g c =
+pub goals_assuming-requires-clause-held : goal.goals_assuming-requires-clause-held
+goals_assuming-requires-clause-held g c =
     let w = c.args.world.now in
     let v = c.with_terms.new.world in
     still_held w v (grows_on w c.judgement_of.new.world v c.in_ok-judgement.ensures.grows c.in_ok-made.ensures.grows) c.args.sequent.now c.requires.held
@@ -124,5 +124,5 @@ returns-clause-answers g c =
     ∙ ap (λ (qs : List (Nominal × Read)). replace_constants qs (read u c.in_ok-judgement.judgement)) same
     ∙ ap (replace_constants (replacements w rs)) one.reads in
     instance_row v D (by_hint D (cells_read w.types w.store)) (label_of c.args.given.now) (sequent_of w s) c.args.name.now (read w c.in-Some.formula) (read w p.list, read w p.goal) (sym (c.in-Some.ensures.reads w)) (sym p.ensures.reads)
-    (replacements w rs) c.assuming.result (may.0 c.if-not-branch.false) (fit.0 c.if-not-branch-2.false)
-    (with_same v 5 (label_of c.args.given.now) c.assuming.result (sequent_of v s) (sequent_of w s) (same_sequent w v grown s c.requires.held) (read v c.in_ok-made.made) (replace_constants (replacements w rs) J) reads c.assuming.ensures)
+    (replacements w rs) c.goals_assuming.result (may.0 c.if-not-branch.false) (fit.0 c.if-not-branch-2.false)
+    (with_same v 5 (label_of c.args.given.now) c.goals_assuming.result (sequent_of v s) (sequent_of w s) (same_sequent w v grown s c.requires.held) (read v c.in_ok-made.made) (replace_constants (replacements w rs) J) reads c.goals_assuming.ensures)

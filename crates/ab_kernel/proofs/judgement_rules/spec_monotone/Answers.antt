@@ -10,8 +10,8 @@ use Rattle.ab_logic.proofs.Growing.{grows_on, same_sequent, still_held}
 use Rattle.ab_theory.specs.Contexts.{is_within}
 use Rattle.ab_theory.specs.Judgements.{marked_judgement}
 use Rattle.ab_theory.specs.Rules.{by_hint}
-use Rattle.ab_kernel.specs.RuleAnswers.{label_of}
-use Rattle.ab_kernel.proofs.Declared.{declared_same, declared_on}
+use Rattle.ab_rules.specs.RuleAnswers.{label_of}
+use Rattle.ab_logic.proofs.Declared.{declared_same, declared_on}
 use Rattle.ab_kernel.proofs.JudgementRows.{monotone_row, beside_same}
 use Rattle.ab_kernel.proofs.judgement_rules.spec_monotone.Goals as goal
 

@@ -8,9 +8,9 @@ use Rattle.ab_norm.specs.ab_store.specs.declared.node.TermId.{TermId}
 use Rattle.ab_typing.specs.Cells as cells
 use Rattle.ab_formulas.specs.GoalTerms as fitting
 use Rattle.ab_logic.specs.Worlds.{read}
-use Rattle.ab_kernel.specs.RuleAnswers.{HoldsReplace}
-use Rattle.ab_kernel.specs.declared.replaces.Replace.{Replace}
-use Rattle.ab_kernel.proofs.Words.{all_held, all_formulas}
+use Rattle.ab_rules.specs.RuleAnswers.{HoldsReplace}
+use Rattle.ab_rules.specs.declared.replaces.Replace.{Replace}
+use Rattle.ab_rules.proofs.Words.{all_held, all_formulas}
 use Rattle.ab_kernel.proofs.Replacing.{fit_none, fit_whole, fits_not, fit_more}
 use Rattle.ab_kernel.proofs.replaced_constants.all_fit.Goals as goal
 

@@ -1,5 +1,5 @@
 use Rattle.std.proofs.Common.{◌≡◌, map, take}
-use Rattle.ab_kernel.specs.declared.replaces.Replace.{Replace}
+use Rattle.ab_rules.specs.declared.replaces.Replace.{Replace}
 use Rattle.ab_kernel.proofs.replaced_constants.constants_of.Given as goal
 
 abbrev pub invariant-loop-replace : goal.invariant-loop-replace

@@ -4,12 +4,12 @@ use Rattle.ab_grammar.specs.CommandTrees as told
 use Rattle.ab_syntax.specs.Commands.{argument_of, instance_of}
 use Rattle.ab_logic.specs.SequentReadings.{sequent_of}
 use Rattle.ab_equations.specs.Labels.{label_of}
-use Rattle.ab_steps.specs.ab_kernel.proofs.Later.{same_history, still_proof}
-use Rattle.ab_steps.specs.ProofEffects.{IsRefused}
-use Rattle.ab_steps.specs.declared.fault.ProofCommandFault.TheVariants.{NamesSpent, Memory}
+use Rattle.ab_hypothesis.specs.ab_steps.specs.ab_kernel.proofs.Later.{same_history, still_proof}
+use Rattle.ab_hypothesis.specs.ab_steps.specs.ProofEffects.{IsRefused}
+use Rattle.ab_hypothesis.specs.ab_steps.specs.declared.fault.ProofCommandFault.TheVariants.{NamesSpent, Memory}
 use Rattle.ab_effects.specs.ProofCommands.{is_used}
 use Rattle.ab_effects.specs.Debts.{taken_unless}
-use Rattle.ab_steps.proofs.Following.{advances, advances_on, owes_before}
+use Rattle.ab_hypothesis.specs.ab_steps.proofs.Following.{advances, advances_on, owes_before}
 use Rattle.ab_proofcmd.proofs.Given.{same_fault}
 use Rattle.ab_proofcmd.proofs.Carried.{first_sequent, same_goals, follows_world, refused_at, on_err, apply_done, apply_spent}
 use Rattle.ab_proofcmd.proofs.application.apply.Goals as goal

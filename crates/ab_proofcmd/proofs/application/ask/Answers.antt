@@ -15,14 +15,14 @@ use Rattle.ab_theory.specs.Uses.{Aim}
 use Rattle.ab_theory.specs.UseAnswers.{IsUsedFor}
 use Rattle.ab_effects.specs.ProofCommands.{effect, left_to_show}
 use Rattle.ab_effects.specs.Row.{leads}
-use Rattle.ab_effects.specs.FormulaUses.{formulas_in, using}
-use Rattle.ab_steps.specs.ProofEffects.{RefusedBy}
+use Rattle.ab_effects.specs.FormulaUses.{given_twice, formulas_in, using}
+use Rattle.ab_hypothesis.specs.ab_steps.specs.ProofEffects.{RefusedBy}
 use Rattle.ab_proofcmd.specs.GivenTerms.{AreGiven, AreNotGiven}
 use Rattle.ab_proofcmd.proofs.Given.{same_fault}
-use Rattle.ab_steps.specs.declared.fault.ProofCommandFault.TheVariants.{Mark}
+use Rattle.ab_hypothesis.specs.ab_steps.specs.declared.fault.ProofCommandFault.TheVariants.{Mark}
 use Rattle.ab_proofcmd.specs.Questions.{Reads}
 use Rattle.ab_proofcmd.proofs.ApplyRows.{apply_ungiven, apply_unserved, apply_unused}
-use Rattle.ab_proofcmd.proofs.Usable.{IsGiven, sequent_here, apply_aim, apply_usable, serve_here, serve_there, unused_here, used_here}
+use Rattle.ab_proofcmd.proofs.Usable.{IsGiven, few_enough, sequent_here, apply_aim, apply_usable, serve_here, serve_there, unused_here, used_here}
 use Rattle.ab_proofcmd.proofs.Carried.{asks_apply}
 use Rattle.ab_proofcmd.proofs.application.ask.Goals as goal
 
@@ -78,7 +78,8 @@ use_of-requires-clause-usable g c =
     let same : c.as_slice-2.result.now ≡ c.in_ok-terms.terms.items = search rules in
     subst (λ ts. MayBeUsed (declarations_of m) (sequent_of m c.args.goal.now) (read m c.in_ok-formula.formula) n (map (given_of m) ts) (aim_of m a)) (sym same)
     (apply_usable w m c.args.goal.now c.in_ok-formula.formula c.read_given.ensures.grows c.read_given.ensures.declared c.requires.goal c.in_ok-formula.ensures.held c.requires.sequent c.requires.world.sentences
-    c.args.name.now c.in_ok-formula.ensures.found.named n (map (given_of m) c.in_ok-terms.terms.items) c.in_ok-terms.ensures.fits c.in_ok-terms.ensures.names a (map argument_of c.args.arguments.now) (c.in_ok-aim.ensures.aim m))
+    c.args.name.now c.in_ok-formula.ensures.found.named n (map (given_of m) c.in_ok-terms.terms.items) c.in_ok-terms.ensures.fits c.in_ok-terms.ensures.names a (map argument_of c.args.arguments.now) (length-map c.args.arguments.now argument_of)
+    (few_enough (given_twice (map instance_of c.args.given.now)) (read w c.in_ok-formula.formula) n c.in_ok-antecedents.antecedents c.in_ok-antecedents.ensures.count c.in_ok-terms.ensures.given.shaped) (c.in_ok-aim.ensures.aim m))
 
 pub returns-in_err-found-clause-grows : goal.returns-in_err-found-clause-grows
 returns-in_err-found-clause-grows g c = grows_on c.args.world.now c.read_given.new.world c.use_of.new.world c.read_given.ensures.grows c.use_of.ensures.grows

@@ -8,10 +8,11 @@ use Rattle.ab_logic.specs.Worlds.{read}
 use Rattle.ab_equations.specs.Labels.{label_of}
 use Rattle.ab_uses.specs.GivenReadings.{given_of}
 use Rattle.ab_uses.specs.declared.given_terms.GivenTerm.{GivenTerm}
-use Rattle.ab_steps.specs.Progress.{goals_of, Owes}
+use Rattle.ab_hypothesis.specs.ab_steps.specs.Progress.{Owes}
+use Rattle.ab_hypothesis.specs.ab_steps.specs.ab_kernel.specs.Layout.{goals_of}
 use Rattle.ab_effects.specs.ProofCommands.{is_used}
 use Rattle.ab_effects.specs.Debts.{taken_unless}
-use Rattle.ab_steps.proofs.Following.{advances, advances_on, owes_before, owes_behind}
+use Rattle.ab_hypothesis.specs.ab_steps.proofs.Following.{advances, advances_on, owes_before, owes_behind}
 use Rattle.ab_hypothesis.proofs.Moves.{on_ok}
 use Rattle.ab_proofcmd.specs.GoalCounts.{ShowsAll, OpensBeside, CantOpenBeside}
 use Rattle.ab_proofcmd.proofs.Usable.{IsGiven, all_later, still_given, formulas_later}

@@ -8,8 +8,8 @@ use Rattle.ab_logic.specs.Worlds.{read, declarations_of}
 use Rattle.ab_equations.specs.Labels.{label_of}
 use Rattle.ab_effects.specs.ProofCommands.{effect}
 use Rattle.ab_meaning.specs.Refusals.{clash, no_hypothesis}
-use Rattle.ab_steps.specs.ProofEffects.{RefusedBy}
-use Rattle.ab_steps.specs.declared.fault.ProofCommandFault.TheVariants.{Clash}
+use Rattle.ab_hypothesis.specs.ab_steps.specs.ProofEffects.{RefusedBy}
+use Rattle.ab_hypothesis.specs.ab_steps.specs.declared.fault.ProofCommandFault.TheVariants.{Clash}
 use Rattle.ab_proofcmd.proofs.ApplyRows.{apply_clash, apply_unnamed, apply_missing}
 use Rattle.ab_proofcmd.proofs.application.look_up.Goals as goal
 

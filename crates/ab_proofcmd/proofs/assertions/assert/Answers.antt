@@ -3,21 +3,21 @@ use Rattle.std.proofs.Common.{◌≡◌, sym, ◌∙◌, ap, subst}
 use Rattle.ab_term.specs.Types.{prop}
 use Rattle.ab_grammar.specs.CommandTrees as told
 use Rattle.ab_grammar.specs.Tree as tree
-use Rattle.ab_syntax.specs.SyntaxTrees.{tree_of}
+use Rattle.ab_syntax.specs.ab_expressions.specs.SyntaxTrees.{tree_of}
 use Rattle.ab_formulas.specs.Sequents.{IsSequent, Fits}
 use Rattle.ab_logic.specs.Worlds.{read, declarations_of}
 use Rattle.ab_equations.specs.Labels.{label_of}
 use Rattle.ab_theory.specs.Steps.{cut_formula}
-use Rattle.ab_steps.specs.ab_kernel.specs.Layout.{history_of}
-use Rattle.ab_steps.specs.ab_kernel.proofs.Later.{same_history, still_proof}
+use Rattle.ab_hypothesis.specs.ab_steps.specs.ab_kernel.specs.Layout.{history_of, goals_of}
+use Rattle.ab_hypothesis.specs.ab_steps.specs.ab_kernel.proofs.Later.{same_history, still_proof}
 use Rattle.ab_effects.specs.ProofCommands.{clashing}
 use Rattle.ab_meaning.specs.Refusals.{clash}
 use Rattle.ab_meaning.specs.Terms.{Means}
-use Rattle.ab_steps.specs.ProofEffects.{IsApplied}
-use Rattle.ab_steps.specs.Progress.{goals_of, Took}
-use Rattle.ab_steps.proofs.Following.{one_at_least, follows_on}
+use Rattle.ab_hypothesis.specs.ab_steps.specs.ProofEffects.{IsApplied}
+use Rattle.ab_hypothesis.specs.ab_steps.specs.Progress.{Took}
+use Rattle.ab_hypothesis.specs.ab_steps.proofs.Following.{one_at_least, follows_on}
 use Rattle.ab_proofcmd.specs.CutRefusals.{CutFails}
-use Rattle.ab_steps.proofs.GoalSequents.{first_is_sequent}
+use Rattle.ab_hypothesis.specs.ab_steps.specs.ab_kernel.proofs.GoalSequents.{first_is_sequent}
 use Rattle.ab_proofcmd.proofs.Rows.{same_goals, follows_world, on_ok, on_err_so, States, assert_applied, cut_refused}
 use Rattle.ab_proofcmd.proofs.assertions.assert.Goals as goal
 

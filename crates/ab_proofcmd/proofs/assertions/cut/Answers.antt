@@ -4,8 +4,8 @@ use Rattle.ab_unify.specs.Problem.{cells_read}
 use Rattle.ab_logic.specs.Worlds.{read, declarations_of}
 use Rattle.ab_equations.specs.Labels.{label_of}
 use Rattle.ab_theory.specs.Steps.{cut_formula}
-use Rattle.ab_steps.proofs.Plain.{never_stuck}
-use Rattle.ab_steps.proofs.Following.{follows_same, as_before, by_step, took}
+use Rattle.ab_hypothesis.specs.ab_steps.proofs.Plain.{never_stuck}
+use Rattle.ab_hypothesis.specs.ab_steps.proofs.Following.{follows_same, as_before, by_step, took}
 use Rattle.ab_proofcmd.proofs.assertions.cut.Goals as goal
 
 pub returns-in-Ok-clause-took : goal.returns-in-Ok-clause-took

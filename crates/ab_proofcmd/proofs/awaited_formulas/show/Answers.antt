@@ -3,8 +3,8 @@ use Rattle.std.specs.List.{All}
 use Rattle.ab_logic.specs.Worlds.{Holds, read}
 use Rattle.ab_uses.specs.UseReadings.{HoldsStage}
 use Rattle.ab_effects.specs.Debts.{taken_unless}
-use Rattle.ab_steps.specs.Progress.{Advances, Owes}
-use Rattle.ab_steps.proofs.Following.{advances, advances_on, owes_before, owes_behind}
+use Rattle.ab_hypothesis.specs.ab_steps.specs.Progress.{Advances, Owes}
+use Rattle.ab_hypothesis.specs.ab_steps.proofs.Following.{advances, advances_on, owes_before, owes_behind}
 use Rattle.ab_hypothesis.proofs.Moves.{on_ok}
 use Rattle.ab_proofcmd.specs.GoalCounts.{AwaitsAll}
 use Rattle.ab_proofcmd.proofs.Bared.{shows}

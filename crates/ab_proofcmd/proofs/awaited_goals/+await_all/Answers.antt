@@ -1,7 +1,7 @@
 use Rattle.std.proofs.Common.{map, arith, sym, subst}
 use Rattle.std.proofs.lemmas.Result.{IfOk-weaker}
 use Rattle.ab_logic.specs.Worlds.{read}
-use Rattle.ab_steps.proofs.Following.{follows_on}
+use Rattle.ab_hypothesis.specs.ab_steps.proofs.Following.{follows_on}
 use Rattle.ab_proofcmd.specs.GoalCounts.{AwaitsAll}
 use Rattle.ab_proofcmd.proofs.Bared.{awaits_none}
 use Rattle.ab_proofcmd.proofs.Staged.{rest_shorter, none_left}

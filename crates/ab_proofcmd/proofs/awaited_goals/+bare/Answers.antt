@@ -1,7 +1,7 @@
 use Rattle.std.proofs.Common.{List, ℕ, ◌-◌, take, drop, length, sym, subst}
 use Rattle.ab_theory.specs.Steps.{weaken}
-use Rattle.ab_steps.specs.Progress.{TookInto}
-use Rattle.ab_steps.proofs.Following.{follows_on}
+use Rattle.ab_hypothesis.specs.ab_steps.specs.Progress.{TookInto}
+use Rattle.ab_hypothesis.specs.ab_steps.proofs.Following.{follows_on}
 use Rattle.ab_hypothesis.proofs.Moves.{on_ok}
 use Rattle.ab_proofcmd.specs.GoalCounts.{Bares}
 use Rattle.ab_proofcmd.proofs.Bared.{bares_one}

@@ -1,6 +1,6 @@
 use Rattle.std.proofs.Common.{◌≡◌, List, ℕ, [], ◌∷◌, ◌++◌, sym, ◌∙◌, ap, subst, rules}
 use Rattle.ab_logic.specs.Worlds.{read}
-use Rattle.ab_steps.proofs.Following.{follows_on}
+use Rattle.ab_hypothesis.specs.ab_steps.proofs.Following.{follows_on}
 use Rattle.ab_proofcmd.specs.GoalCounts.{Bares}
 use Rattle.ab_proofcmd.proofs.Bared.{awaits_one}
 use Rattle.ab_proofcmd.proofs.awaited_goals.await_one.Goals as goal

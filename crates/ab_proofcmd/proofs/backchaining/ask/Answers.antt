@@ -1,5 +1,5 @@
 use Rattle.std.specs.Prelude.{◌≡◌, ℕ, [], Some, None, map, All, Bool, false, IsTrue}
-use Rattle.std.proofs.Common.{refl, sym, ◌∙◌, ap, subst, rules}
+use Rattle.std.proofs.Common.{refl, sym, ◌∙◌, ap, subst, rules, arith}
 use Rattle.ab_grammar.specs.CommandTrees as told
 use Rattle.ab_syntax.specs.Commands.{instance_of}
 use Rattle.ab_formulas.specs.Marks.{MarksServeIn}
@@ -14,8 +14,8 @@ use Rattle.ab_uses.specs.UseReadings.{aim_of, MayBeUsed}
 use Rattle.ab_effects.specs.ProofCommands.{effect, left_to_show, repeated}
 use Rattle.ab_effects.specs.Row.{leads}
 use Rattle.ab_effects.specs.FormulaUses.{formula_named, using}
-use Rattle.ab_steps.specs.ProofEffects.{RefusedBy}
-use Rattle.ab_steps.specs.declared.fault.ProofCommandFault.TheVariants.{NoHypothesis, Mark}
+use Rattle.ab_hypothesis.specs.ab_steps.specs.ProofEffects.{RefusedBy}
+use Rattle.ab_hypothesis.specs.ab_steps.specs.declared.fault.ProofCommandFault.TheVariants.{NoHypothesis, Mark}
 use Rattle.ab_proofcmd.specs.GivenTerms.{AreGiven, AreNotGiven}
 use Rattle.ab_proofcmd.proofs.Given.{same_fault}
 use Rattle.ab_proofcmd.specs.Questions.{Reads}
@@ -101,7 +101,7 @@ use_of-requires-clause-usable g c =
     let same : c.as_slice.result.now ≡ c.in_ok-terms.terms.items = search rules in
     subst (λ ts. MayBeUsed (declarations_of m) (sequent_of m c.args.goal.now) (read m c.in-Some.formula) n (map (given_of m) ts) (aim_of m a)) (sym same)
     (backchain_usable w m c.args.goal.now c.in-Some.formula c.read_given.ensures.grows c.read_given.ensures.declared c.requires.goal c.in-Some.ensures.held c.requires.sequent c.requires.world.sentences
-    c.args.name.now (sym c.in-Some.ensures.reads) n (map (given_of m) c.in_ok-terms.terms.items) c.in_ok-terms.ensures.fits c.in_ok-terms.ensures.names a (c.in_ok-aim.ensures.aim m))
+    c.args.name.now (sym c.in-Some.ensures.reads) n (map (given_of m) c.in_ok-terms.terms.items) c.in_ok-terms.ensures.fits c.in_ok-terms.ensures.names a (let counted = c.in_ok-count.ensures.count in omega (arith, counted)) (c.in_ok-aim.ensures.aim m))
 
 pub returns-in_err-found-clause-grows : goal.returns-in_err-found-clause-grows
 returns-in_err-found-clause-grows g c = grows_on c.args.world.now c.read_given.new.world c.use_of.new.world c.read_given.ensures.grows c.use_of.ensures.grows

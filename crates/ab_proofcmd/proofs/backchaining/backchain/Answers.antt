@@ -3,11 +3,11 @@ use Rattle.std.proofs.Common.{refl, sym, ◌∙◌, ap, subst}
 use Rattle.ab_grammar.specs.CommandTrees as told
 use Rattle.ab_syntax.specs.Commands.{instance_of}
 use Rattle.ab_logic.specs.SequentReadings.{sequent_of}
-use Rattle.ab_steps.specs.ab_kernel.proofs.Later.{same_history, still_proof}
-use Rattle.ab_steps.specs.ProofEffects.{IsRefused}
+use Rattle.ab_hypothesis.specs.ab_steps.specs.ab_kernel.proofs.Later.{same_history, still_proof}
+use Rattle.ab_hypothesis.specs.ab_steps.specs.ProofEffects.{IsRefused}
 use Rattle.ab_effects.specs.ProofCommands.{is_used}
 use Rattle.ab_effects.specs.Debts.{taken_unless}
-use Rattle.ab_steps.proofs.Following.{advances, advances_on, owes_before}
+use Rattle.ab_hypothesis.specs.ab_steps.proofs.Following.{advances, advances_on, owes_before}
 use Rattle.ab_proofcmd.proofs.Given.{same_fault}
 use Rattle.ab_proofcmd.proofs.Carried.{first_sequent, same_goals, follows_world, refused_at, on_err, backchain_done}
 use Rattle.ab_proofcmd.proofs.backchaining.backchain.Goals as goal

@@ -1,6 +1,6 @@
 use Rattle.std.proofs.Common.{refl, sym, subst}
 use Rattle.ab_norm.specs.ab_types.specs.Ids.{type_of}
-use Rattle.ab_syntax.specs.SyntaxTrees.{tree_of}
+use Rattle.ab_syntax.specs.ab_expressions.specs.SyntaxTrees.{tree_of}
 use Rattle.ab_declare.proofs.Statements.{grows_later, declares_same}
 use Rattle.ab_logic.specs.SequentReadings.{sequent_of}
 use Rattle.ab_proofcmd.specs.GivenTerms.{values_in, beside}

@@ -2,7 +2,7 @@ use Rattle.std.specs.Prelude.{◌≡◌}
 use Rattle.std.proofs.Common.{subst}
 use Rattle.ab_logic.specs.SequentReadings.{sequent_of}
 use Rattle.ab_logic.specs.Worlds.{declarations_of}
-use Rattle.ab_syntax.specs.SyntaxTrees.{tree_of}
+use Rattle.ab_syntax.specs.ab_expressions.specs.SyntaxTrees.{tree_of}
 use Rattle.ab_proofcmd.specs.GoalExpressions.{IsReadAs}
 use Rattle.ab_proofcmd.proofs.expressions.read_list.Goals as goal
 

@@ -10,7 +10,7 @@ use Rattle.ab_theory.specs.Pieces.{pieces}
 use Rattle.ab_uses.specs.GivenReadings.{given_of}
 use Rattle.ab_effects.specs.ProofCommands.{reading_each}
 use Rattle.ab_effects.specs.Row.{leads}
-use Rattle.ab_steps.specs.ProofEffects.{RefusedBy}
+use Rattle.ab_hypothesis.specs.ab_steps.specs.ProofEffects.{RefusedBy}
 use Rattle.ab_proofcmd.specs.GivenTerms.{values_in, beside, IsNext, AreRead}
 use Rattle.ab_proofcmd.proofs.Given.{same_fault}
 use Rattle.ab_proofcmd.proofs.TermSets.{ReadSoFar, one_now, read_one_more, unread_next, parted, one_longer}

@@ -8,7 +8,7 @@ use Rattle.ab_uses.specs.GivenReadings.{given_of}
 use Rattle.ab_effects.specs.ProofCommands.{reading_each, giving}
 use Rattle.ab_effects.specs.Row.{leads}
 use Rattle.ab_effects.specs.FormulaUses.{given_twice}
-use Rattle.ab_steps.specs.declared.fault.ProofCommandFault.TheVariants.{WrongShape}
+use Rattle.ab_hypothesis.specs.ab_steps.specs.declared.fault.ProofCommandFault.TheVariants.{WrongShape}
 use Rattle.ab_proofcmd.specs.GivenTerms.{AreNotGiven}
 use Rattle.ab_proofcmd.proofs.Given.{refused_by, same_fault, read_named, unread_refuses, misshapen_refuses}
 use Rattle.ab_proofcmd.proofs.given_terms.read_given.Goals.{then-is_given_twice-via-then-is_given_twice, then-is_given_twice-via-else-is_given_twice+then-too_many}

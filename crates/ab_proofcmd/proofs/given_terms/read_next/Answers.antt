@@ -8,7 +8,7 @@ use Rattle.ab_logic.specs.Worlds.{read, declarations_of}
 use Rattle.ab_theory.specs.Pieces.{pieces}
 use Rattle.ab_effects.specs.ProofCommands.{reading_each}
 use Rattle.ab_effects.specs.Row.{leads}
-use Rattle.ab_steps.specs.ProofEffects.{RefusedBy}
+use Rattle.ab_hypothesis.specs.ab_steps.specs.ProofEffects.{RefusedBy}
 use Rattle.ab_proofcmd.specs.GivenTerms.{values_in}
 use Rattle.ab_proofcmd.specs.GoalExpressions.{fault_for}
 use Rattle.ab_proofcmd.proofs.TermSets.{holds_later, next_given, next_unread}

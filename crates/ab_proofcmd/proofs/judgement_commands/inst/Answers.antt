@@ -7,14 +7,14 @@ use Rattle.ab_logic.specs.SequentReadings.{sequent_of}
 use Rattle.ab_logic.specs.Worlds.{declarations_of}
 use Rattle.ab_equations.specs.Labels.{label_of}
 use Rattle.ab_theory.specs.Steps.{spec_instance}
-use Rattle.ab_steps.specs.ab_kernel.specs.Layout.{history_of}
-use Rattle.ab_steps.specs.ab_kernel.specs.RuleAnswers.{replacements}
-use Rattle.ab_steps.specs.ab_kernel.proofs.Later.{same_history, still_proof}
+use Rattle.ab_hypothesis.specs.ab_steps.specs.ab_kernel.specs.Layout.{history_of}
+use Rattle.ab_hypothesis.specs.ab_steps.specs.ab_kernel.specs.ab_rules.specs.RuleAnswers.{replacements}
+use Rattle.ab_hypothesis.specs.ab_steps.specs.ab_kernel.proofs.Later.{same_history, still_proof}
 use Rattle.ab_effects.specs.ProofCommands.{clashing}
 use Rattle.ab_meaning.specs.Refusals.{clash}
-use Rattle.ab_steps.specs.ProofEffects.{IsApplied, IsRefused}
-use Rattle.ab_steps.specs.Progress.{Took}
-use Rattle.ab_steps.proofs.Following.{follows_on}
+use Rattle.ab_hypothesis.specs.ab_steps.specs.ProofEffects.{IsApplied, IsRefused}
+use Rattle.ab_hypothesis.specs.ab_steps.specs.Progress.{Took}
+use Rattle.ab_hypothesis.specs.ab_steps.proofs.Following.{follows_on}
 use Rattle.ab_proofcmd.specs.ReplacedConstants.{MayReplace}
 use Rattle.ab_proofcmd.proofs.Given.{same_fault}
 use Rattle.ab_proofcmd.proofs.Carried.{first_sequent, refused_at}

@@ -3,22 +3,22 @@ use Rattle.std.specs.Option.{option_map}
 use Rattle.std.proofs.Common.{sym, ◌∙◌, ap, subst}
 use Rattle.ab_term.specs.Types.{olist}
 use Rattle.ab_grammar.specs.CommandTrees as told
-use Rattle.ab_syntax.specs.SyntaxTrees.{tree_of}
+use Rattle.ab_syntax.specs.ab_expressions.specs.SyntaxTrees.{tree_of}
 use Rattle.ab_formulas.specs.Sequents.{Fits, IsUsed, formula_of}
 use Rattle.ab_logic.specs.SequentReadings.{sequent_of}
 use Rattle.ab_logic.specs.Worlds.{read, declarations_of}
 use Rattle.ab_equations.specs.Labels.{label_of}
 use Rattle.ab_theory.specs.Steps.{spec_monotone}
 use Rattle.ab_hypothesis.proofs.Rows.{some_formula, no_formula}
-use Rattle.ab_steps.specs.ab_kernel.specs.Layout.{history_of}
-use Rattle.ab_steps.specs.ab_kernel.proofs.Later.{same_history, still_proof}
+use Rattle.ab_hypothesis.specs.ab_steps.specs.ab_kernel.specs.Layout.{history_of}
+use Rattle.ab_hypothesis.specs.ab_steps.specs.ab_kernel.proofs.Later.{same_history, still_proof}
 use Rattle.ab_effects.specs.ProofCommands.{effect, clashing}
 use Rattle.ab_meaning.specs.Refusals.{clash}
 use Rattle.ab_meaning.specs.Terms.{Means}
-use Rattle.ab_steps.specs.ProofEffects.{IsApplied, RefusedBy}
-use Rattle.ab_steps.specs.Progress.{Took}
-use Rattle.ab_steps.specs.declared.fault.ProofCommandFault.TheVariants.{NoHypothesis}
-use Rattle.ab_steps.proofs.Following.{follows_on}
+use Rattle.ab_hypothesis.specs.ab_steps.specs.ProofEffects.{IsApplied, RefusedBy}
+use Rattle.ab_hypothesis.specs.ab_steps.specs.Progress.{Took}
+use Rattle.ab_hypothesis.specs.ab_steps.specs.declared.fault.ProofCommandFault.TheVariants.{NoHypothesis}
+use Rattle.ab_hypothesis.specs.ab_steps.proofs.Following.{follows_on}
 use Rattle.ab_proofcmd.specs.GoalExpressions.{IsReadAs}
 use Rattle.ab_proofcmd.proofs.Carried.{first_sequent}
 use Rattle.ab_proofcmd.proofs.JudgementRows.{MayWiden, list_refused, monotone_missing, monotone_applied, monotone_refused}

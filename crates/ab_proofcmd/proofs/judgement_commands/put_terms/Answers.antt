@@ -3,8 +3,8 @@ use Rattle.std.proofs.Common.{List, ℕ, subst}
 use Rattle.ab_formulas.specs.NewNames.{Label}
 use Rattle.ab_equations.specs.Labels.{label_of}
 use Rattle.ab_theory.specs.Steps.{spec_instance}
-use Rattle.ab_steps.specs.ab_kernel.specs.RuleAnswers.{replacements}
-use Rattle.ab_steps.specs.Progress.{Took}
+use Rattle.ab_hypothesis.specs.ab_steps.specs.ab_kernel.specs.ab_rules.specs.RuleAnswers.{replacements}
+use Rattle.ab_hypothesis.specs.ab_steps.specs.Progress.{Took}
 use Rattle.ab_hypothesis.specs.JudgementSteps.{IsntTaken}
 use Rattle.ab_proofcmd.proofs.judgement_commands.put_terms.Goals as goal
 

@@ -4,7 +4,7 @@ use Rattle.ab_formulas.specs.NewNames.{Label}
 use Rattle.ab_equations.specs.Labels.{label_of}
 use Rattle.ab_logic.specs.Worlds.{read}
 use Rattle.ab_theory.specs.Steps.{spec_monotone}
-use Rattle.ab_steps.specs.Progress.{Took}
+use Rattle.ab_hypothesis.specs.ab_steps.specs.Progress.{Took}
 use Rattle.ab_hypothesis.specs.JudgementSteps.{IsntTaken}
 use Rattle.ab_proofcmd.proofs.judgement_commands.widen.Goals as goal
 

@@ -2,9 +2,9 @@ use Rattle.std.specs.Prelude.{Ok}
 use Rattle.std.proofs.Common.{◌≡◌, refl, rules}
 use Rattle.ab_logic.proofs.Growing.{grows_not}
 use Rattle.ab_theory.specs.Derivations.{debts_of}
-use Rattle.ab_steps.specs.declared.goal_steps.Attempted.TheVariants.{Taken}
-use Rattle.ab_steps.specs.ab_kernel.specs.RuleAnswers.{step_of}
-use Rattle.ab_steps.proofs.Following.{by_same}
+use Rattle.ab_hypothesis.specs.ab_steps.specs.declared.goal_steps.Attempted.TheVariants.{Taken}
+use Rattle.ab_hypothesis.specs.ab_steps.specs.ab_kernel.specs.ab_rules.specs.RuleAnswers.{step_of}
+use Rattle.ab_hypothesis.specs.ab_steps.proofs.Following.{by_same}
 use Rattle.ab_proofcmd.proofs.Places.{gives_so}
 use Rattle.ab_proofcmd.proofs.many_goals.step_into.Goals as goal
 

@@ -1,7 +1,7 @@
 use Rattle.std.proofs.Common.{◌-◌, take, drop, length, sym, subst, ◌∙◌}
 use Rattle.std.proofs.lemmas.Result.{IfOk-weaker}
 use Rattle.ab_logic.proofs.Growing.{grows_on}
-use Rattle.ab_steps.specs.ab_kernel.proofs.Declared.{declared_same}
+use Rattle.ab_logic.proofs.Declared.{declared_same}
 use Rattle.ab_proofcmd.proofs.Staged.{first_so, first_all}
 use Rattle.ab_proofcmd.proofs.Turned.{HoldsGiven, one_there, said_more}
 use Rattle.ab_proofcmd.proofs.new_conclusions.+given_that.Goals as goal

@@ -1,6 +1,6 @@
 use Rattle.std.proofs.Common.{◌≡◌, ◌+◌, subst, rules}
 use Rattle.ab_logic.specs.Worlds.{read}
-use Rattle.ab_steps.proofs.Following.{follows_on}
+use Rattle.ab_hypothesis.specs.ab_steps.proofs.Following.{follows_on}
 use Rattle.ab_hypothesis.proofs.Moves.{on_ok}
 use Rattle.ab_proofcmd.specs.GoalCounts.{Gives}
 use Rattle.ab_proofcmd.proofs.Bared.{turned}

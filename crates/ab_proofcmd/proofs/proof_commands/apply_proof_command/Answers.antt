@@ -6,10 +6,10 @@ use Rattle.ab_syntax.specs.declared.command.Argument.{Argument}
 use Rattle.ab_syntax.specs.declared.command.Instance.{Instance}
 use Rattle.ab_syntax.specs.declared.command.ProofCommand.{ProofCommand}
 use Rattle.ab_syntax.specs.Commands.{argument_of, instance_of}
-use Rattle.ab_syntax.specs.Items.{list_of}
-use Rattle.ab_syntax.specs.SyntaxTrees.{tree_of}
+use Rattle.ab_syntax.specs.ab_expressions.specs.Items.{list_of}
+use Rattle.ab_syntax.specs.ab_expressions.specs.SyntaxTrees.{tree_of}
 use Rattle.ab_formulas.specs.NewNames.{Label}
-use Rattle.ab_steps.specs.ProofEffects.{IsApplied, IsRefused}
+use Rattle.ab_hypothesis.specs.ab_steps.specs.ProofEffects.{IsApplied, IsRefused}
 use Rattle.ab_effects.specs.ProofCommands.{given_label}
 use Rattle.ab_proofcmd.proofs.Answered.{at_label, whatever}
 use Rattle.ab_proofcmd.proofs.proof_commands.apply_proof_command.Goals as goal

@@ -6,8 +6,8 @@ use Rattle.ab_effects.specs.ProofCommands.{left_to_show}
 use Rattle.ab_meaning.specs.Refusals.{not_pattern}
 use Rattle.ab_effects.specs.Row.{leads, Refuses}
 use Rattle.ab_effects.specs.FormulaUses.{apart, outside, left_open}
-use Rattle.ab_steps.specs.ProofEffects.{RefusedBy}
-use Rattle.ab_steps.specs.declared.fault.ProofCommandFault.TheVariants.{NoMatch, NotPattern, Unresolved, Memory}
+use Rattle.ab_hypothesis.specs.ab_steps.specs.ProofEffects.{RefusedBy}
+use Rattle.ab_hypothesis.specs.ab_steps.specs.declared.fault.ProofCommandFault.TheVariants.{NoMatch, NotPattern, Unresolved, Memory}
 use Rattle.ab_proofcmd.proofs.questions.use_of.Goals as goal
 
 pub returns-in-NoMatch-clause-refused : goal.returns-in-NoMatch-clause-refused

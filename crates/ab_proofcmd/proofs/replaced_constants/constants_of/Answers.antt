@@ -12,9 +12,9 @@ use Rattle.ab_logic.specs.Worlds.{read, declarations_of}
 use Rattle.ab_theory.specs.Judgements.{marked_judgement}
 use Rattle.ab_effects.specs.ProofCommands.{effect, no_constant}
 use Rattle.ab_effects.specs.Row.{leads, unless}
-use Rattle.ab_steps.specs.ProofEffects.{RefusedBy}
-use Rattle.ab_steps.specs.declared.fault.ProofCommandFault.TheVariants.{WrongShape}
-use Rattle.ab_steps.specs.ab_kernel.proofs.Declared.{declared_same}
+use Rattle.ab_hypothesis.specs.ab_steps.specs.ProofEffects.{RefusedBy}
+use Rattle.ab_hypothesis.specs.ab_steps.specs.declared.fault.ProofCommandFault.TheVariants.{WrongShape}
+use Rattle.ab_logic.proofs.Declared.{declared_same}
 use Rattle.ab_proofcmd.proofs.Given.{same_fault}
 use Rattle.ab_proofcmd.proofs.JudgementRows.{found_as, inst_twice, inst_strange}
 use Rattle.ab_proofcmd.proofs.replaced_constants.constants_of.Goals as goal

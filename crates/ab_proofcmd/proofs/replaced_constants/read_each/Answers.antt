@@ -10,7 +10,7 @@ use Rattle.ab_norm.specs.Nominals.{nominal_of}
 use Rattle.ab_uses.specs.GivenReadings.{given_of}
 use Rattle.ab_effects.specs.ProofCommands.{reading_for}
 use Rattle.ab_effects.specs.Row.{leads}
-use Rattle.ab_steps.specs.ProofEffects.{RefusedBy}
+use Rattle.ab_hypothesis.specs.ab_steps.specs.ProofEffects.{RefusedBy}
 use Rattle.ab_proofcmd.specs.GivenTerms.{values_in, beside}
 use Rattle.ab_proofcmd.specs.ReplacedConstants.{IsNextFor, AreReadFor}
 use Rattle.ab_proofcmd.proofs.Given.{same_fault}

@@ -9,8 +9,8 @@ use Rattle.ab_logic.specs.Worlds.{declarations_of}
 use Rattle.ab_effects.specs.ProofCommands.{reading_for}
 use Rattle.ab_effects.specs.Row.{leads}
 use Rattle.ab_meaning.specs.Refusals.{unknown}
-use Rattle.ab_steps.specs.ProofEffects.{RefusedBy}
-use Rattle.ab_steps.specs.declared.fault.ProofCommandFault.TheVariants.{Unknown}
+use Rattle.ab_hypothesis.specs.ab_steps.specs.ProofEffects.{RefusedBy}
+use Rattle.ab_hypothesis.specs.ab_steps.specs.declared.fault.ProofCommandFault.TheVariants.{Unknown}
 use Rattle.ab_proofcmd.specs.GivenTerms.{values_in}
 use Rattle.ab_proofcmd.proofs.TermSets.{type_later, holds_later}
 use Rattle.ab_proofcmd.proofs.ReplacedSets.{next_given, next_unread}

@@ -12,7 +12,7 @@ use Rattle.ab_theory.specs.Contexts.{AllFit}
 use Rattle.ab_uses.specs.GivenReadings.{given_of}
 use Rattle.ab_effects.specs.ProofCommands.{effect, reading_for}
 use Rattle.ab_effects.specs.Row.{leads}
-use Rattle.ab_steps.specs.ProofEffects.{RefusedBy}
+use Rattle.ab_hypothesis.specs.ab_steps.specs.ProofEffects.{RefusedBy}
 use Rattle.ab_proofcmd.specs.GivenTerms.{HoldsGiven}
 use Rattle.ab_proofcmd.specs.ReplacedConstants.{replace_of, AreReadFor}
 use Rattle.ab_proofcmd.proofs.Given.{same_fault}

@@ -2,7 +2,7 @@ use Rattle.std.specs.Prelude.{All, unwrap_or}
 use Rattle.std.proofs.Common.{[], ◌∷◌, map, take, sym, ◌∙◌, ap, subst}
 use Rattle.std.proofs.lemmas.List.Elements.{All-cons, All-nil, All-append}
 use Rattle.ab_uses.specs.GivenReadings.{given_of}
-use Rattle.ab_steps.specs.ab_kernel.specs.RuleAnswers.{replacements, HoldsReplace}
+use Rattle.ab_hypothesis.specs.ab_steps.specs.ab_kernel.specs.ab_rules.specs.RuleAnswers.{replacements, HoldsReplace}
 use Rattle.ab_proofcmd.specs.GivenTerms.{HoldsGiven}
 use Rattle.ab_proofcmd.specs.ReplacedConstants.{replace_of}
 use Rattle.ab_proofcmd.proofs.TermSets.{one_longer}

@@ -2,7 +2,7 @@ use Rattle.std.specs.Prelude.{All}
 use Rattle.std.proofs.Common.{◌≡◌, take, map}
 use Rattle.ab_logic.specs.declared.world.World.{World}
 use Rattle.ab_uses.specs.GivenReadings.{given_of}
-use Rattle.ab_steps.specs.ab_kernel.specs.RuleAnswers.{replacements, HoldsReplace}
+use Rattle.ab_hypothesis.specs.ab_steps.specs.ab_kernel.specs.ab_rules.specs.RuleAnswers.{replacements, HoldsReplace}
 use Rattle.ab_proofcmd.specs.GivenTerms.{HoldsGiven}
 use Rattle.ab_proofcmd.specs.ReplacedConstants.{replace_of}
 use Rattle.ab_proofcmd.proofs.replaced_constants.replaces_of.Given as goal

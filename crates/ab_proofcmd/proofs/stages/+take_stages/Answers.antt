@@ -1,5 +1,5 @@
 use Rattle.std.proofs.Common.{arith}
-use Rattle.ab_steps.proofs.Following.{follows_on}
+use Rattle.ab_hypothesis.specs.ab_steps.proofs.Following.{follows_on}
 use Rattle.ab_hypothesis.proofs.Moves.{on_ok}
 use Rattle.ab_proofcmd.proofs.Places.{gives_on}
 use Rattle.ab_proofcmd.proofs.Staged.{rest_shorter, stages_rest}

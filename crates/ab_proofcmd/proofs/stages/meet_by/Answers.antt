@@ -1,4 +1,4 @@
-use Rattle.ab_steps.proofs.Following.{follows_on}
+use Rattle.ab_hypothesis.specs.ab_steps.proofs.Following.{follows_on}
 use Rattle.ab_proofcmd.proofs.Places.{gives_on}
 use Rattle.ab_proofcmd.proofs.stages.meet_by.Goals as goal
 

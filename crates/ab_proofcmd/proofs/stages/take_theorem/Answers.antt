@@ -1,7 +1,7 @@
 use Rattle.std.specs.Prelude.{[], ◌∷◌}
 use Rattle.std.proofs.Common.{subst}
 use Rattle.ab_theory.specs.Derivations.{theorem_taken}
-use Rattle.ab_steps.specs.Progress.{Owes}
+use Rattle.ab_hypothesis.specs.ab_steps.specs.Progress.{Owes}
 use Rattle.ab_proofcmd.proofs.stages.take_theorem.Goals as goal
 
 pub returns-clause-owes : goal.returns-clause-owes

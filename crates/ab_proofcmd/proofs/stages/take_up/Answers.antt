@@ -1,4 +1,4 @@
-use Rattle.ab_steps.proofs.Following.{advances}
+use Rattle.ab_hypothesis.specs.ab_steps.proofs.Following.{advances}
 use Rattle.ab_hypothesis.proofs.Moves.{on_ok}
 use Rattle.ab_proofcmd.proofs.stages.take_up.Goals as goal
 

@@ -4,8 +4,8 @@ use Rattle.ab_logic.specs.Worlds.{read}
 use Rattle.ab_equations.specs.Labels.{label_of}
 use Rattle.ab_uses.specs.GivenReadings.{given_of}
 use Rattle.ab_hypothesis.specs.declared.stop.Stop.{Stop}
-use Rattle.ab_steps.specs.ab_kernel.proofs.Later.{still_proof}
-use Rattle.ab_steps.proofs.Following.{follows_on}
+use Rattle.ab_hypothesis.specs.ab_steps.specs.ab_kernel.proofs.Later.{still_proof}
+use Rattle.ab_hypothesis.specs.ab_steps.proofs.Following.{follows_on}
 use Rattle.ab_proofcmd.proofs.Turned.{follows_later, conclusion_at, has_still, opens_beside, cant_open_beside}
 use Rattle.ab_proofcmd.proofs.use_results.open_beside.Goals as goal
 

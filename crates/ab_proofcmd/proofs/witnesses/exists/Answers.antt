@@ -1,19 +1,19 @@
 use Rattle.std.specs.Prelude.{◌≡◌, Err}
 use Rattle.std.proofs.Common.{sym, ◌∙◌, ap, subst}
 use Rattle.ab_grammar.specs.CommandTrees as told
-use Rattle.ab_syntax.specs.SyntaxTrees.{tree_of}
+use Rattle.ab_syntax.specs.ab_expressions.specs.SyntaxTrees.{tree_of}
 use Rattle.ab_norm.specs.ab_types.specs.Ids.{type_of}
 use Rattle.ab_formulas.specs.Forms.{as_exists}
 use Rattle.ab_formulas.specs.Sequents.{Sequent, IsSequent, Fits}
 use Rattle.ab_logic.specs.Worlds.{read, declarations_of}
-use Rattle.ab_steps.specs.ab_kernel.proofs.Later.{same_history, still_proof}
+use Rattle.ab_hypothesis.specs.ab_steps.specs.ab_kernel.proofs.Later.{same_history, still_proof}
 use Rattle.ab_meaning.specs.Terms.{Means}
 use Rattle.ab_effects.specs.ProofCommands.{effect}
-use Rattle.ab_steps.specs.ProofEffects.{RefusedBy}
-use Rattle.ab_steps.specs.Progress.{goals_of}
-use Rattle.ab_steps.proofs.Following.{some_goal, one_at_least, follows_on}
+use Rattle.ab_hypothesis.specs.ab_steps.specs.ProofEffects.{RefusedBy}
+use Rattle.ab_hypothesis.specs.ab_steps.specs.ab_kernel.specs.Layout.{goals_of}
+use Rattle.ab_hypothesis.specs.ab_steps.proofs.Following.{some_goal, one_at_least, follows_on}
 use Rattle.ab_proofcmd.specs.GoalExpressions.{IsReadAs}
-use Rattle.ab_steps.proofs.GoalSequents.{first_is_sequent}
+use Rattle.ab_hypothesis.specs.ab_steps.specs.ab_kernel.proofs.GoalSequents.{first_is_sequent}
 use Rattle.ab_proofcmd.proofs.Rows.{same_goals, follows_world, on_err, exists_sure, exists_applied, exists_refused}
 use Rattle.ab_proofcmd.proofs.witnesses.exists.Goals as goal
 

@@ -23,7 +23,7 @@ returns-in-Err-Memory g c = record {
   ran =
       let h = rw c.in-Err-Memory.field-0-is at c.in-Err-Memory.ensures.stopped in
       ran_no_memory c.args.way (g.S.Source.left c.args.input.now) (g.S.Source.left c.pieces.input) (g.O.Sink.written c.args.out.now) (g.O.Sink.written c.pieces.out) c.pieces.splitter (standing_of c.pieces.progress) c.pieces.taken c.pieces.invariant.running
-      _ (g.S.Source.left c.read_piece.new.input) (g.S.Source.faults c.args.input.now) (g.S.Source.faults c.read_piece.new.input) (g.O.Sink.faults c.args.out.now) (g.O.Sink.faults c.pieces.out) h (omega (arith, c.wanted.ensures.within, length-take {A = ℕ}));
+      _ (g.S.Source.left c.read_piece.new.input) (g.S.Source.faults c.args.input.now) (g.S.Source.faults c.read_piece.new.input) (g.O.Sink.faults c.args.out.now) (g.O.Sink.faults c.pieces.out) h (omega (arith, c.bytes_wanted.ensures.within, length-take {A = ℕ}));
 }
 
 pub returns-in-Err-Failed : goal.returns-in-Err-Failed
@@ -50,7 +50,7 @@ returns-in-Ok g c = record {
   ran =
       let t = c.in-Ok.field-0-test.1 in
       let full : c.pieces.taken ≡ MAX_INPUT = c.if-taken-eq-MAX_INPUT.true in
-      let one : c.in-Ok.field-0 ≡ 1 = omega (arith, t, c.in-Ok.ensures.fits, c.wanted.ensures.within, length-take {A = ℕ}) in
+      let one : c.in-Ok.field-0 ≡ 1 = omega (arith, t, c.in-Ok.ensures.fits, c.bytes_wanted.ensures.within, length-take {A = ℕ}) in
       ran_too_long c.args.way (g.S.Source.left c.args.input.now) (g.S.Source.left c.pieces.input) (g.O.Sink.written c.args.out.now) (g.O.Sink.written c.pieces.out) c.pieces.splitter (standing_of c.pieces.progress) c.pieces.taken c.pieces.invariant.running
       c.end_with-in-Ok.result c.in-Ok.field-0 (g.S.Source.left c.read_piece.new.input) (g.O.Sink.written c.end_with-in-Ok.new.out) c.read_piece.new.splitter
       (g.S.Source.faults c.args.input.now) (g.S.Source.faults c.read_piece.new.input) (g.O.Sink.faults c.args.out.now) (g.O.Sink.faults c.pieces.out) (g.O.Sink.faults c.end_with-in-Ok.new.out)
@@ -61,7 +61,7 @@ pub returns-in-Err-Failed-answer_ready : goal.returns-in-Err-Failed-answer_ready
 returns-in-Err-Failed-answer_ready g c = record {
   ran =
       let n = c.pieces.invariant.running.few in let a = c.if-taken-eq-MAX_INPUT.false in
-      let fits : c.pieces.taken + c.in-Ok-2.count ≤ MAX_INPUT = omega (arith, c.in-Ok-2.ensures.fits, c.wanted.ensures.exact, length-take {A = ℕ}) in
+      let fits : c.pieces.taken + c.in-Ok-2.count ≤ MAX_INPUT = omega (arith, c.in-Ok-2.ensures.fits, c.bytes_wanted.ensures.exact, length-take {A = ℕ}) in
       let e = rw c.in-Err-Failed-answer_ready.field-0-is at c.in-Err-Failed-answer_ready.ensures.failed in
       let h = rw c.in-Err-Failed-answer_ready.field-0-is at c.in-Err-Failed-answer_ready.ensures.answered in
       ran_write_fault c.args.way (g.S.Source.left c.args.input.now) (g.S.Source.left c.pieces.input) (g.O.Sink.written c.args.out.now) (g.O.Sink.written c.pieces.out) c.pieces.splitter (standing_of c.pieces.progress) c.pieces.taken c.pieces.invariant.running
@@ -74,7 +74,7 @@ pub returns-in-Err-Memory-answer_ready : goal.returns-in-Err-Memory-answer_ready
 returns-in-Err-Memory-answer_ready g c = record {
   ran =
       let n = c.pieces.invariant.running.few in let a = c.if-taken-eq-MAX_INPUT.false in
-      let fits : c.pieces.taken + c.in-Ok-2.count ≤ MAX_INPUT = omega (arith, c.in-Ok-2.ensures.fits, c.wanted.ensures.exact, length-take {A = ℕ}) in
+      let fits : c.pieces.taken + c.in-Ok-2.count ≤ MAX_INPUT = omega (arith, c.in-Ok-2.ensures.fits, c.bytes_wanted.ensures.exact, length-take {A = ℕ}) in
       let h = rw c.in-Err-Memory-answer_ready.field-0-is at c.in-Err-Memory-answer_ready.ensures.answered in
       ran_no_room c.args.way (g.S.Source.left c.args.input.now) (g.S.Source.left c.pieces.input) (g.O.Sink.written c.args.out.now) (g.O.Sink.written c.pieces.out) c.pieces.splitter (standing_of c.pieces.progress) c.pieces.taken c.pieces.invariant.running
       c.in-Ok-2.count (g.S.Source.left c.read_piece.new.input) c.read_piece.new.splitter c.in-Ok-2.ensures.fed fits (g.O.Sink.written c.answer_ready.new.out)
@@ -84,13 +84,13 @@ returns-in-Err-Memory-answer_ready g c = record {
 pub pieces-preserved : goal.pieces-preserved
 pieces-preserved g c =
     let n = c.pieces.invariant.running.few in let a = c.if-taken-eq-MAX_INPUT.false in
-    let fits : c.pieces.taken + c.in-Ok-2.count ≤ MAX_INPUT = omega (arith, c.in-Ok-2.ensures.fits, c.wanted.ensures.exact, length-take {A = ℕ}) in
+    let fits : c.pieces.taken + c.in-Ok-2.count ≤ MAX_INPUT = omega (arith, c.in-Ok-2.ensures.fits, c.bytes_wanted.ensures.exact, length-take {A = ℕ}) in
     let r = runs_on c.args.way (g.S.Source.left c.args.input.now) (g.S.Source.left c.pieces.input) (g.O.Sink.written c.args.out.now) (g.O.Sink.written c.pieces.out) c.pieces.splitter (standing_of c.pieces.progress) c.pieces.taken c.pieces.invariant.running
     c.in-Ok-2.count (g.S.Source.left c.read_piece.new.input) c.read_piece.new.splitter c.in-Ok-2.ensures.fed fits (g.O.Sink.written c.answer_ready.new.out) c.answer_ready.new.splitter (standing_of c.answer_ready.new.progress)
     c.in-Ok-answer_ready.ensures.answered.0 c.if-progress.false (c.in-Ok-answer_ready.ensures.answered.1 c.if-progress.false) c.answer_ready.ensures.rest in
     record {
       running = subst (λ n. Running c.args.way (g.S.Source.left c.args.input.now) (g.S.Source.left c.read_piece.new.input) (g.O.Sink.written c.args.out.now) (g.O.Sink.written c.answer_ready.new.out) (seen (g.F.Files.files c.args.files.now) (g.F.Files.plan c.args.files.now) (g.F.Files.faults c.args.files.now) (g.F.Files.misses c.args.files.now) (g.F.Files.long_files c.args.files.now)) (seen (g.F.Files.files c.answer_ready.new.files) (g.F.Files.plan c.answer_ready.new.files) (g.F.Files.faults c.answer_ready.new.files) (g.F.Files.misses c.answer_ready.new.files) (g.F.Files.long_files c.answer_ready.new.files)) c.answer_ready.new.splitter (standing_of c.answer_ready.new.progress) (c.pieces.taken + n)) (sym c.in-Ok-2.count-is) r;
-      room = omega (arith, length-append {A = ℕ}, length-drop {A = ℕ}, length-take {A = ℕ}, c.read_piece.auto.piece, c.wanted.ensures.few, c.pieces.invariant.room);
+      room = omega (arith, length-append {A = ℕ}, length-drop {A = ℕ}, length-take {A = ℕ}, c.read_piece.auto.piece, c.bytes_wanted.ensures.few, c.pieces.invariant.room);
       reads = omega (arith, c.pieces.invariant.reads, c.read_piece.ensures.faults_never_fall);
       writes = omega (arith, c.pieces.invariant.writes, c.answer_ready.ensures.faults_never_fall);
     }
@@ -99,7 +99,7 @@ pub returns-then-progress : goal.returns-then-progress
 returns-then-progress g c = record {
   ran =
       let n = c.pieces.invariant.running.few in let a = c.if-taken-eq-MAX_INPUT.false in
-      let fits : c.pieces.taken + c.in-Ok-2.count ≤ MAX_INPUT = omega (arith, c.in-Ok-2.ensures.fits, c.wanted.ensures.exact, length-take {A = ℕ}) in
+      let fits : c.pieces.taken + c.in-Ok-2.count ≤ MAX_INPUT = omega (arith, c.in-Ok-2.ensures.fits, c.bytes_wanted.ensures.exact, length-take {A = ℕ}) in
       let r = ran_to_quit c.args.way (g.S.Source.left c.args.input.now) (g.S.Source.left c.pieces.input) (g.O.Sink.written c.args.out.now) (g.O.Sink.written c.pieces.out) c.pieces.splitter (standing_of c.pieces.progress) c.pieces.taken c.pieces.invariant.running
       c.in-Ok-2.count (g.S.Source.left c.read_piece.new.input) c.read_piece.new.splitter c.in-Ok-2.ensures.fed fits (g.O.Sink.written c.answer_ready.new.out) c.answer_ready.new.splitter (standing_of c.answer_ready.new.progress)
       c.in-Ok-answer_ready.ensures.answered.0 c.if-progress.true

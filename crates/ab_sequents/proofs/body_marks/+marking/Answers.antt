@@ -74,4 +74,4 @@ pub mark-is_predicate-requires-clause-head : goal.mark-is_predicate-requires-cla
 mark-is_predicate-requires-clause-head t c = subst (NodeIsTyped c.args.types.now) (sym c.in_ok-ty.ensures ∙ c.in-Spine.is) (c.view.ensures.typed c.args.types.now c.requires.store)
 
 pub mark-returns-then-is_predicate-clause-adds : goal.mark-returns-then-is_predicate-clause-adds
-mark-returns-then-is_predicate-clause-adds t c = record { before = c.marked.ensures.adds.before; cells = c.marked.ensures.adds.cells; typed = c.marked.ensures.adds.typed c.args.types.now c.requires.store }
+mark-returns-then-is_predicate-clause-adds t c = record { before = c.mark_formula.ensures.adds.before; cells = c.mark_formula.ensures.adds.cells; typed = c.mark_formula.ensures.adds.typed c.args.types.now c.requires.store }

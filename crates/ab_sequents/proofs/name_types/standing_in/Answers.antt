@@ -16,8 +16,8 @@ loop-h-preserved c =
     let C = support (read w c.args.goal.now.conclusion) in
     let done = map (hypothesis_of w) (take c.loop-h.h-index hs) in
     let h = hypothesis_of w c.h-item.result in
-    let joined = c.joined-standing.ensures ns (C ++ names_of (formulas done)) (support h.formula) c.loop-h.invariant c.in_ok-one.ensures in
-    subst (λ l. IsStanding w.types ns l c.joined-standing.result)
+    let joined = c.join_types-standing.ensures ns (C ++ names_of (formulas done)) (support h.formula) c.loop-h.invariant c.in_ok-one.ensures in
+    subst (λ l. IsStanding w.types ns l c.join_types-standing.result)
     (append_assoc C (names_of (formulas done)) (support h.formula)
     ∙ ap (λ l. C ++ l)
     (sym (names_last done h)

@@ -16,8 +16,8 @@ loop-constant-preserved c =
     let cs = c.deref-constant-items.result.now in
     let i = c.loop-constant.constant-index in
     let held = subst (All (HoldsNominal types)) (sym c.deref-constant-items.ensures.value) c.in_ok-constants.ensures.held in
-    subst (λ l. IsStanding types ns l c.joined-standing.result) (sym (map_more (nominal_of types) cs i _ c.loop-constant-test.true))
-    (c.joined-standing.ensures ns (map (nominal_of types) (take i cs)) _ c.loop-constant.invariant (c.standing_of-one.ensures types (held i _ c.loop-constant-test.true)))
+    subst (λ l. IsStanding types ns l c.join_types-standing.result) (sym (map_more (nominal_of types) cs i _ c.loop-constant-test.true))
+    (c.join_types-standing.ensures ns (map (nominal_of types) (take i cs)) _ c.loop-constant.invariant (c.standing_of-one.ensures types (held i _ c.loop-constant-test.true)))
 
 pub returns : goal.returns
 returns c =

@@ -16,7 +16,7 @@ returns-in_default t c = record {
 }
 
 pub returns-then-place-eq1-clause-adds : goal.returns-then-place-eq1-clause-adds
-returns-then-place-eq1-clause-adds t c = adds_on c.args.store.now c.marked.new.store c.arrow.new.store c.in_ok-made.ensures.adds c.arrow.ensures.adds
+returns-then-place-eq1-clause-adds t c = adds_on c.args.store.now c.mark_formula.new.store c.arrow.new.store c.in_ok-made.ensures.adds c.arrow.ensures.adds
 
 pub returns-clause-adds : goal.returns-clause-adds
 returns-clause-adds t c = adds_on c.args.store.now c.mark_antecedent.new.store c.arrow-2.new.store c.in_ok-made-2.ensures.adds c.arrow-2.ensures.adds

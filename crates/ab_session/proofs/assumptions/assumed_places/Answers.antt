@@ -3,8 +3,8 @@ use Rattle.ab_formulas.specs.Declarations.{theorems_in}
 use Rattle.ab_logic.specs.Worlds.{declarations_of}
 use Rattle.ab_theory.specs.Derivations.{debts}
 use Rattle.ab_theory.specs.Assumptions.{all_places, in_order, assumed_by}
-use Rattle.ab_steps.specs.ab_kernel.specs.Debts.{debt_of}
-use Rattle.ab_steps.specs.ab_kernel.specs.Layout.{history_of}
+use Rattle.ab_proofcmd.specs.ab_hypothesis.specs.ab_steps.specs.ab_kernel.specs.Debts.{debt_of}
+use Rattle.ab_proofcmd.specs.ab_hypothesis.specs.ab_steps.specs.ab_kernel.specs.Layout.{history_of}
 use Rattle.ab_session.specs.PlaceMarks.{Marks}
 use Rattle.ab_session.proofs.DebtPlaces.{debts_alike, none_yet, marks_for_all, written, placed}
 use Rattle.ab_session.proofs.assumptions.assumed_places.Goals as goal

@@ -1,7 +1,7 @@
 use Rattle.std.proofs.Common.{◌+◌, [], ◌∷◌, ◌++◌, map, take, sym, ◌∙◌, ap, subst}
 use Rattle.ab_logic.specs.Worlds.{declarations_of}
 use Rattle.ab_theory.specs.Assumptions.{places_of, all_places}
-use Rattle.ab_steps.specs.ab_kernel.specs.Debts.{debt_of}
+use Rattle.ab_proofcmd.specs.ab_hypothesis.specs.ab_steps.specs.ab_kernel.specs.Debts.{debt_of}
 use Rattle.ab_session.specs.PlaceMarks.{Marks}
 use Rattle.ab_session.proofs.DebtPlaces.{one_more_debt}
 use Rattle.ab_session.proofs.assumptions.mark_debts.Goals as goal

@@ -2,9 +2,9 @@ use Rattle.std.proofs.Common.{◌≡◌, is_some, refl, sym, ap, subst}
 use Rattle.std.specs.Option.{option_copied}
 use Rattle.ab_syntax.specs.Commands.{proof_command_of}
 use Rattle.ab_effects.specs.ProofCommands.{given_label}
-use Rattle.ab_steps.specs.ab_kernel.specs.Layout.{history_of}
-use Rattle.ab_steps.proofs.Following.{nothing_left}
-use Rattle.ab_steps.specs.Progress.{Advances}
+use Rattle.ab_proofcmd.specs.ab_hypothesis.specs.ab_steps.specs.ab_kernel.specs.Layout.{history_of}
+use Rattle.ab_proofcmd.specs.ab_hypothesis.specs.ab_steps.proofs.Following.{nothing_left}
+use Rattle.ab_proofcmd.specs.ab_hypothesis.specs.ab_steps.specs.Progress.{Advances}
 use Rattle.ab_session.specs.ProofAttempts.{IsDenied}
 use Rattle.ab_session.proofs.Carried.{has_more, at_some, on_error, stayed, went_on, still_open, completed, refused_so}
 use Rattle.ab_session.proofs.attempt_steps.advance.Goals as goal

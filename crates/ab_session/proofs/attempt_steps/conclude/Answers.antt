@@ -4,7 +4,7 @@ use Rattle.ab_logic.specs.Worlds.{declarations_of}
 use Rattle.ab_theory.specs.Derivations.{debts}
 use Rattle.ab_theory.specs.Assumptions.{all_places}
 use Rattle.ab_theory.proofs.Assuming.{places_grow}
-use Rattle.ab_steps.specs.ab_kernel.specs.Layout.{history_of}
+use Rattle.ab_proofcmd.specs.ab_hypothesis.specs.ab_steps.specs.ab_kernel.specs.Layout.{history_of}
 use Rattle.ab_session.proofs.attempt_steps.conclude.Goals as goal
 
 pub names_of-requires : goal.names_of-requires

@@ -1,6 +1,6 @@
 use Rattle.std.proofs.Common.{◌≡◌, ◌-◌, length, refl, ◌∙◌, ap, arith}
-use Rattle.ab_steps.specs.ab_kernel.specs.Layout.{Held}
-use Rattle.ab_steps.specs.ab_kernel.proofs.Earlier.{standing, shorter}
+use Rattle.ab_proofcmd.specs.ab_hypothesis.specs.ab_steps.specs.ab_kernel.specs.Layout.{Held}
+use Rattle.ab_proofcmd.specs.ab_hypothesis.specs.ab_steps.specs.ab_kernel.proofs.Earlier.{standing, shorter}
 use Rattle.ab_session.proofs.StepCounts.{not_yet, one_back, all_back}
 use Rattle.ab_session.proofs.past_proofs.rewind_proof.Goals as goal
 

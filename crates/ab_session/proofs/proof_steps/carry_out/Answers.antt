@@ -1,6 +1,6 @@
 use Rattle.std.specs.Option.{option_copied}
 use Rattle.ab_effects.specs.ProofCommands.{given_label}
-use Rattle.ab_steps.proofs.Following.{advances}
+use Rattle.ab_proofcmd.specs.ab_hypothesis.specs.ab_steps.proofs.Following.{advances}
 use Rattle.ab_session.proofs.Carried.{on_answer}
 use Rattle.ab_session.proofs.proof_steps.carry_out.Goals as goal
 

@@ -1,6 +1,6 @@
 use Rattle.std.proofs.Common.{refl, ap}
-use Rattle.ab_syntax.specs.Items.{list_of}
-use Rattle.ab_declare.specs.declared.refusal.Refusal.TheVariants.{Syntax, TooNested, Circular}
+use Rattle.ab_syntax.specs.ab_expressions.specs.Items.{list_of}
+use Rattle.ab_states.specs.ab_specification.specs.ab_declare.specs.declared.refusal.Refusal.TheVariants.{Syntax, TooNested, Circular}
 use Rattle.ab_sigmod.specs.FileTexts.{syntax, too_nested, wrong_title}
 use Rattle.ab_sigmod.specs.FileOrder.{file_missing, file_fault, file_too_long, text_fault, circular, too_many_files}
 use Rattle.ab_sigmod.specs.Outcomes.{fault_of}

@@ -3,7 +3,7 @@ use Rattle.std.proofs.lemmas.List.{drop-drop}
 use Rattle.std.proofs.lemmas.Result.{err_from_is_err_and}
 use Rattle.ab_lex.specs.declared.token.Token.{Token as Lexed}
 use Rattle.ab_grammar.specs.FileTokens.{sentence}
-use Rattle.ab_syntax.specs.Tokens.{tokens_from}
+use Rattle.ab_syntax.specs.ab_expressions.specs.Tokens.{tokens_from}
 use Rattle.ab_sigmod.specs.Texts.{unread}
 use Rattle.ab_sigmod.proofs.Sentences.{to_end, some_taken, item_read, no_item_read}
 use Rattle.ab_sigmod.proofs.file_text.next_item.Goals as goal

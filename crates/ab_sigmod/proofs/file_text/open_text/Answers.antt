@@ -1,7 +1,7 @@
 use Rattle.std.proofs.Common.{◌≢◌, Err, ap, rules}
 use Rattle.std.proofs.lemmas.List.Elements.{All-take}
 use Rattle.std.proofs.lemmas.Result.{err_from_is_err_and}
-use Rattle.ab_syntax.specs.Tokens.{IsTokenOf}
+use Rattle.ab_syntax.specs.ab_expressions.specs.Tokens.{IsTokenOf}
 use Rattle.ab_sigmod.specs.FileNames.{File, IsTitle}
 use Rattle.ab_sigmod.proofs.Sentences.{stand, no_tokens_read, no_title_read, other_title_read, title_read}
 use Rattle.ab_sigmod.proofs.file_text.open_text.Goals as goal

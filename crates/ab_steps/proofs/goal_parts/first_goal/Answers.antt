@@ -1,6 +1,6 @@
 use Rattle.std.specs.Prelude.{slice_get}
 use Rattle.std.proofs.Common.{◌≡◌, None, sym}
-use Rattle.ab_steps.specs.Progress.{goals_of}
+use Rattle.ab_kernel.specs.Layout.{goals_of}
 use Rattle.ab_steps.proofs.Following.{none_first}
 use Rattle.ab_steps.proofs.goal_parts.first_goal.Goals as goal
 

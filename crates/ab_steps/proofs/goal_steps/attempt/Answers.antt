@@ -1,7 +1,7 @@
 use Rattle.std.specs.Prelude.{Err}
 use Rattle.std.proofs.Common.{◌∙◌, ap}
 use Rattle.ab_theory.specs.Derivations.{debts_of}
-use Rattle.ab_kernel.specs.RuleAnswers.{step_of}
+use Rattle.ab_kernel.specs.ab_rules.specs.RuleAnswers.{step_of}
 use Rattle.ab_unify.specs.Problem.{cells_read}
 use Rattle.ab_logic.specs.Worlds.{declarations_of}
 use Rattle.ab_steps.proofs.Plain.{never_stuck}

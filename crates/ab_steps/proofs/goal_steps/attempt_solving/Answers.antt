@@ -1,7 +1,7 @@
 use Rattle.std.specs.Prelude.{Err}
 use Rattle.std.proofs.Common.{◌≡◌, refl, ◌∙◌, ap, subst}
 use Rattle.ab_theory.specs.Derivations.{debts_of}
-use Rattle.ab_kernel.specs.RuleAnswers.{step_of}
+use Rattle.ab_kernel.specs.ab_rules.specs.RuleAnswers.{step_of}
 use Rattle.ab_steps.specs.Progress.{TookInto, FailsBy, StuckAt}
 use Rattle.ab_steps.proofs.Following.{by_step, by_same, owes_step, as_before, took_into, failed_by, sticks_there}
 use Rattle.ab_steps.proofs.goal_steps.attempt_solving.Goals as goal

@@ -1,6 +1,6 @@
 use Rattle.std.proofs.Common.{ap, sym, ◌∙◌}
-use Rattle.ab_syntax.specs.declared.stop.Stop.{Stop}
-use Rattle.ab_syntax.specs.declared.fault.ParseFault.TheVariants.{Syntax, TooNested}
+use Rattle.ab_expressions.specs.declared.stop.Stop.{Stop}
+use Rattle.ab_expressions.specs.declared.fault.ParseFault.TheVariants.{Syntax, TooNested}
 use Rattle.ab_syntax.specs.Wholes.{place_in, fault_of}
 use Rattle.ab_syntax.proofs.Wholes.{all_read, more_left, not_read}
 use Rattle.ab_syntax.proofs.answer.answer.Goals as goal
@@ -20,7 +20,7 @@ pub returns-in-TooNested : goal.returns-in-TooNested
 returns-in-TooNested g c =
     let fault = λ (s : Stop). fault_of c.args.text.now c.args.here c.args.told s in
     not_read c.args.text.now c.args.here c.args.told c.args.part c.in-Err.stop _ c.in-Err.is
-    (ap TooNested (c.place_at-in-TooNested.ensures ∙ ap (place_in c.args.text.now) c.blamed.ensures) ∙ ap fault (sym c.in-TooNested.is))
+    (ap TooNested (c.place_at-in-TooNested.ensures ∙ ap (place_in c.args.text.now) c.blamed_token.ensures) ∙ ap fault (sym c.in-TooNested.is))
 
 pub returns-in-Memory : goal.returns-in-Memory
 returns-in-Memory g c =

@@ -7,7 +7,7 @@ use Rattle.ab_grammar.proofs.Beginnings.{expression_example}
 use Rattle.ab_grammar.proofs.Choices.{with_body, no_body}
 use Rattle.ab_grammar.proofs.Choosing.{fewer_reads}
 use Rattle.ab_grammar.proofs.Rows.{clause_end_follows}
-use Rattle.ab_syntax.specs.Reader.{rest}
+use Rattle.ab_expressions.specs.Reader.{rest}
 use Rattle.ab_syntax.proofs.Passing.{refused_on, refused_fewer}
 use Rattle.ab_syntax.proofs.Repeating.{keyed, taken, left_there, key_taken}
 use Rattle.ab_syntax.proofs.block.clause_body.Goals as goal

@@ -1,10 +1,10 @@
 use Rattle.std.proofs.Common.{map}
 use Rattle.ab_grammar.proofs.Choices.{with_clauses, no_clauses}
 use Rattle.ab_syntax.specs.declared.command.ClauseParse.{ClauseParse}
-use Rattle.ab_syntax.specs.declared.items.Items.{Items}
+use Rattle.ab_expressions.specs.declared.items.Items.{Items}
 use Rattle.ab_syntax.specs.Commands.{clause_of}
-use Rattle.ab_syntax.specs.Items.{list_of}
-use Rattle.ab_syntax.specs.Reader.{rest}
+use Rattle.ab_expressions.specs.Items.{list_of}
+use Rattle.ab_expressions.specs.Reader.{rest}
 use Rattle.ab_syntax.proofs.Passing.{found_on}
 use Rattle.ab_syntax.proofs.block.optional_clauses.Goals as goal
 

@@ -2,12 +2,12 @@ use Rattle.std.proofs.Common.{sym, subst, ◌∙◌}
 use Rattle.ab_grammar.specs.declared.head.Head.TheVariants.{Back, Reset}
 use Rattle.ab_grammar.specs.declared.head.ProofHead.TheVariants.{Exists}
 use Rattle.ab_grammar.specs.CommandTable.{Opens, opens_back, opens_reset, OpensProof, opens_exists}
-use Rattle.ab_syntax.specs.declared.kind.Kind.{Kind}
-use Rattle.ab_syntax.specs.Kinds.{meaning}
+use Rattle.ab_expressions.specs.declared.kind.Kind.{Kind}
+use Rattle.ab_expressions.specs.Kinds.{meaning}
 use Rattle.ab_syntax.specs.Openings.{IsOpening}
-use Rattle.ab_syntax.specs.Reader.{seen}
+use Rattle.ab_expressions.specs.Reader.{seen}
 use Rattle.ab_syntax.proofs.FirstToken.{begins_nothing}
-use Rattle.ab_syntax.proofs.Meanings.{kind_meant}
+use Rattle.ab_expressions.proofs.Meanings.{kind_meant}
 use Rattle.ab_syntax.proofs.command_heads.opening_of.Goals as goal
 
 pub returns-in-Word : goal.returns-in-Word

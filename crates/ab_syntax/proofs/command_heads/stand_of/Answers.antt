@@ -1,5 +1,5 @@
 use Rattle.std.proofs.Common.{ℕ, sym, subst}
-use Rattle.ab_syntax.specs.Tokens.{StandIn}
+use Rattle.ab_expressions.specs.Tokens.{StandIn}
 use Rattle.ab_syntax.proofs.Standings.{tokens_of_stand}
 use Rattle.ab_syntax.proofs.command_heads.stand_of.Goals as goal
 

@@ -5,10 +5,10 @@ use Rattle.ab_grammar.specs.declared.head.Stand.TheVariants.{Inside}
 use Rattle.ab_grammar.specs.Token.{colon}
 use Rattle.ab_grammar.proofs.Following.{first}
 use Rattle.ab_grammar.specs.CommandTable.{StandsAt}
-use Rattle.ab_syntax.specs.declared.kind.Kind.TheVariants as kind
-use Rattle.ab_syntax.specs.Tokens.{token_of, tokens_from}
-use Rattle.ab_syntax.specs.Reader.{seen}
-use Rattle.ab_syntax.proofs.Seeing.{of_kind, kind_is}
+use Rattle.ab_expressions.specs.declared.kind.Kind.TheVariants as kind
+use Rattle.ab_expressions.specs.Tokens.{token_of, tokens_from}
+use Rattle.ab_expressions.specs.Reader.{seen}
+use Rattle.ab_expressions.proofs.Seeing.{of_kind, kind_is}
 use Rattle.ab_syntax.proofs.Standing.{first_at, none_at, exactly, nowhere, plain_stands, proof_stands, label_stands, nothing_stands, no_colon_stands}
 use Rattle.ab_syntax.proofs.command_heads.stand_of_from.Goals as goal
 use Rattle.ab_syntax.proofs.command_heads.stand_of_from.Goals.{else-tokens-gt1-via-then-tokens-gt1+else-eq, else-tokens-gt1-via-else-tokens-gt1}

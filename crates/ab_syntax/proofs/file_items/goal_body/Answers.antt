@@ -4,7 +4,7 @@ use Rattle.ab_grammar.specs.Token.{other, from}
 use Rattle.ab_grammar.specs.FileTable.{Goals}
 use Rattle.ab_grammar.proofs.Following.{first, BeforeStop}
 use Rattle.ab_grammar.proofs.FileRows.{goals_example, with_goals, no_goals}
-use Rattle.ab_syntax.specs.Reader.{rest}
+use Rattle.ab_expressions.specs.Reader.{rest}
 use Rattle.ab_syntax.proofs.Passing.{refused_on}
 use Rattle.ab_syntax.proofs.Repeating.{keyed, taken, left_there, key_taken}
 use Rattle.ab_syntax.proofs.file_items.goal_body.Goals as goal

@@ -1,6 +1,6 @@
 use Rattle.std.proofs.lemmas.Result.{err_from_is_err_and}
 use Rattle.ab_grammar.specs.Token.{comma}
-use Rattle.ab_syntax.specs.Reader.{rest}
+use Rattle.ab_expressions.specs.Reader.{rest}
 use Rattle.ab_syntax.proofs.Repeating.{taken, left_there}
 use Rattle.ab_syntax.proofs.GoalLists.{first_goal, no_first_goal, next_goal, no_next_goal, last_goal}
 use Rattle.ab_syntax.proofs.file_items.goals.Goals as goal

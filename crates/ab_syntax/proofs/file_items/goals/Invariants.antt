@@ -1,6 +1,6 @@
 use Rattle.std.proofs.Common.{length}
-use Rattle.ab_syntax.specs.SyntaxTrees.{tree_of}
-use Rattle.ab_syntax.specs.Reader.{rest}
+use Rattle.ab_expressions.specs.SyntaxTrees.{tree_of}
+use Rattle.ab_expressions.specs.Reader.{rest}
 use Rattle.ab_syntax.proofs.GoalLists.{GoalsTo}
 use Rattle.ab_syntax.proofs.file_items.goals.Given as goal
 

@@ -6,7 +6,7 @@ use Rattle.ab_grammar.specs.FileTable.{ItemForm}
 use Rattle.ab_grammar.specs.CommandTable.{StandsAnywhere}
 use Rattle.ab_grammar.proofs.Following.{Without, BeforeStop}
 use Rattle.ab_grammar.proofs.FileRows.{with_modules, with_clause, behind_accumulation, program_clause}
-use Rattle.ab_syntax.specs.Reader.{rest}
+use Rattle.ab_expressions.specs.Reader.{rest}
 use Rattle.ab_syntax.proofs.Passing.{refused_on, refused_first, refused_from}
 use Rattle.ab_syntax.proofs.WordsTaken.{word_taken, no_word_taken}
 use Rattle.ab_syntax.proofs.file_items.module_item.Goals as goal

@@ -4,7 +4,7 @@ use Rattle.ab_grammar.specs.Token.{comma}
 use Rattle.ab_grammar.specs.FileTable.{Names}
 use Rattle.ab_grammar.proofs.Following.{BeforeStop}
 use Rattle.ab_syntax.specs.Lists.{file_names}
-use Rattle.ab_syntax.specs.Reader.{rest}
+use Rattle.ab_expressions.specs.Reader.{rest}
 use Rattle.ab_syntax.proofs.Passing.{as_they_are}
 use Rattle.ab_syntax.proofs.Repeating.{taken, left_there, last_item, ItemNext, comes_first, comes_later, one_more, no_more_items}
 use Rattle.ab_syntax.proofs.file_items.names.Goals as goal

@@ -1,6 +1,6 @@
 use Rattle.std.proofs.Common.{length}
 use Rattle.ab_syntax.specs.Lists.{file_names}
-use Rattle.ab_syntax.specs.Reader.{rest}
+use Rattle.ab_expressions.specs.Reader.{rest}
 use Rattle.ab_syntax.proofs.Repeating.{ItemNext}
 use Rattle.ab_syntax.proofs.file_items.names.Given as goal
 

@@ -2,11 +2,11 @@ use Rattle.std.proofs.Common.{◌≡◌, List, map, length, refl, sym, subst}
 use Rattle.ab_lex.specs.declared.token.Token.{Token as Lexed}
 use Rattle.ab_grammar.specs.FileTable.{ItemText}
 use Rattle.ab_grammar.specs.FileTokens.{item_tokens}
-use Rattle.ab_syntax.specs.declared.text.Text.{Text}
-use Rattle.ab_syntax.specs.declared.located_tokens.Seen.{Seen}
+use Rattle.ab_expressions.specs.declared.text.Text.{Text}
+use Rattle.ab_expressions.specs.declared.located_tokens.Seen.{Seen}
 use Rattle.ab_syntax.specs.FileItems.{item_of}
-use Rattle.ab_syntax.specs.Tokens.{tokens_from}
-use Rattle.ab_syntax.specs.Reader.{seen, place_of}
+use Rattle.ab_expressions.specs.Tokens.{tokens_from}
+use Rattle.ab_expressions.specs.Reader.{seen, place_of}
 use Rattle.ab_syntax.proofs.Told.{refused_token, answered}
 use Rattle.ab_syntax.proofs.file_items.parse_item.Goals as goal
 

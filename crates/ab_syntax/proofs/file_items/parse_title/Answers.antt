@@ -1,9 +1,9 @@
 use Rattle.std.proofs.Common.{ℕ, List, length, refl, sym, subst}
 use Rattle.ab_grammar.specs.FileTable.{TitleText}
 use Rattle.ab_grammar.proofs.Following.{Anything, Followed}
-use Rattle.ab_syntax.specs.declared.text.Text.{Text}
-use Rattle.ab_syntax.specs.Tokens.{tokens_from}
-use Rattle.ab_syntax.specs.Reader.{AreSeen, rest}
+use Rattle.ab_expressions.specs.declared.text.Text.{Text}
+use Rattle.ab_expressions.specs.Tokens.{tokens_from}
+use Rattle.ab_expressions.specs.Reader.{AreSeen, rest}
 use Rattle.ab_syntax.proofs.Passing.{fewer_found}
 use Rattle.ab_syntax.proofs.Told.{refused_token, answered}
 use Rattle.ab_syntax.proofs.file_items.parse_title.Goals as goal

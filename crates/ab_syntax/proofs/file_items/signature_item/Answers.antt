@@ -10,9 +10,9 @@ use Rattle.ab_grammar.proofs.Following.{first, Followed, Except, Without, Before
 use Rattle.ab_grammar.proofs.Beginnings.{followed_by_stop}
 use Rattle.ab_grammar.proofs.Choosing.{fewer_reads}
 use Rattle.ab_grammar.proofs.FileRows.{names_and_key, names_and_type, with_constants, with_kinds, with_signatures, behind_kind, behind_type, behind_accumulation}
-use Rattle.ab_syntax.specs.declared.items.Items.{Items}
-use Rattle.ab_syntax.specs.Items.{list_of}
-use Rattle.ab_syntax.specs.Reader.{rest}
+use Rattle.ab_expressions.specs.declared.items.Items.{Items}
+use Rattle.ab_expressions.specs.Items.{list_of}
+use Rattle.ab_expressions.specs.Reader.{rest}
 use Rattle.ab_syntax.proofs.Passing.{refused_on, refused_first, refused_fewer, found_said, refused_from, as_they_are, closed_found}
 use Rattle.ab_syntax.proofs.Repeating.{taken, left_there, key_taken}
 use Rattle.ab_syntax.proofs.WordsTaken.{word_taken, no_word_taken}
@@ -56,7 +56,7 @@ returns-in_err-declared c =
     let there = word_taken (codes "kind") ms _ c.takes_word.result c.if-takes_word.true c.takes_word.ensures in
     let behind = behind_kind.first_read _ _ tt there.1 in
     let names = found_said DeclaredNames (Except comma) (λ (xs : Items (List ℕ)). map (λ (x : List ℕ). x) (list_of xs)) list_of (λ xs. map-id (list_of xs)) _ _ c.items-kinds.result c.items-kinds.ensures in
-    let read = closed_found (other type_word) names_and_key list_of _ _ _ c.items-kinds.result c.closed.result names c.closed.ensures in
+    let read = closed_found (other type_word) names_and_key list_of _ _ _ c.items-kinds.result c.close_part.result names c.close_part.ensures in
     rw (p.1, p.2) (refused_from (ItemForm Signature) BeforeStop _ _ _ _ left.1 (refused_on (with_kinds ms there.0) _ _ (refused_on behind _ _ (rw c.in_err-declared.was at read))))
 
 pub returns-then-takes_word : goal.returns-then-takes_word
@@ -67,7 +67,7 @@ returns-then-takes_word c =
     let there = word_taken (codes "kind") ms _ c.takes_word.result c.if-takes_word.true c.takes_word.ensures in
     let behind = behind_kind.first_read _ _ tt there.1 in
     let names = found_said DeclaredNames (Except comma) (λ (xs : Items (List ℕ)). map (λ (x : List ℕ). x) (list_of xs)) list_of (λ xs. map-id (list_of xs)) _ _ c.items-kinds.result c.items-kinds.ensures in
-    let read = closed_found (other type_word) names_and_key list_of _ _ _ c.items-kinds.result c.closed.result names c.closed.ensures in
+    let read = closed_found (other type_word) names_and_key list_of _ _ _ c.items-kinds.result c.close_part.result names c.close_part.ensures in
     rw left.1 at ((with_kinds ms there.0).reads _ _ (behind.reads _ _ (rw c.in_ok-declared.was at read)))
 
 -- other files

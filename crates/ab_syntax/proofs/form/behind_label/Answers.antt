@@ -2,10 +2,10 @@ use Rattle.std.proofs.Common.{◌≡◌, false, sym, ◌∙◌, ap}
 use Rattle.ab_grammar.specs.CommandTable.{takes_label}
 use Rattle.ab_syntax.specs.declared.command_heads.Opening.TheVariants.{Proof}
 use Rattle.ab_syntax.specs.Commands.{proof_command_of}
-use Rattle.ab_syntax.specs.Reader.{rest}
+use Rattle.ab_expressions.specs.Reader.{rest}
 use Rattle.ab_syntax.proofs.Chosen.{labelled_from, none_labelled}
 use Rattle.ab_syntax.proofs.Passing.{found_on}
-use Rattle.ab_syntax.proofs.Places.{rest_key}
+use Rattle.ab_expressions.proofs.Places.{rest_key}
 use Rattle.ab_syntax.proofs.form.behind_label.Goals as goal
 use Rattle.ab_syntax.proofs.form.behind_label.Goals.{in_default-via-in-Proof+else-takes_label, in_default-via-in_default}
 

@@ -2,10 +2,10 @@ use Rattle.std.proofs.lemmas.Result.{err_from_is_err_and}
 use Rattle.std.proofs.Common.{◌≡◌, Some, sym, ◌∙◌, subst}
 use Rattle.ab_syntax.specs.Commands.{command_of}
 use Rattle.ab_syntax.specs.Openings.{BeginsNothing}
-use Rattle.ab_syntax.specs.Reader.{seen, rest}
+use Rattle.ab_expressions.specs.Reader.{seen, rest}
 use Rattle.ab_syntax.proofs.Chosen.{label_word, nothing_chosen, plain_from, proof_from, no_colon_from, label_from}
 use Rattle.ab_syntax.proofs.Passing.{refused_on, found_on}
-use Rattle.ab_syntax.proofs.Places.{rest_key}
+use Rattle.ab_expressions.proofs.Places.{rest_key}
 use Rattle.ab_syntax.proofs.form.command_form.Goals as goal
 
 pub returns-in_default : goal.returns-in_default

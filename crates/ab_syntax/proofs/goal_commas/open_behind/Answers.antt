@@ -1,7 +1,7 @@
 use Rattle.std.proofs.Common.{rules}
 use Rattle.ab_syntax.specs.GoalCommas.{open_of}
-use Rattle.ab_syntax.specs.ReaderSteps.{stack}
-use Rattle.ab_syntax.proofs.Stacks.{top}
+use Rattle.ab_expressions.specs.ReaderSteps.{stack}
+use Rattle.ab_expressions.proofs.Stacks.{top}
 use Rattle.ab_syntax.proofs.GoalCommas.{opens_to, closes_to}
 use Rattle.ab_syntax.proofs.goal_commas.open_behind.Goals as goal
 

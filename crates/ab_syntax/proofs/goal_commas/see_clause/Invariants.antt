@@ -1,7 +1,7 @@
 use Rattle.std.proofs.Common.{◌≡◌, ◌++◌, map, take, drop}
 use Rattle.ab_grammar.specs.FileTokens.{clause_tokens}
-use Rattle.ab_syntax.specs.Tokens.{tokens_from}
-use Rattle.ab_syntax.specs.Reader.{seen, place_of}
+use Rattle.ab_expressions.specs.Tokens.{tokens_from}
+use Rattle.ab_expressions.specs.Reader.{seen, place_of}
 use Rattle.ab_syntax.specs.GoalCommas.{seen_behind}
 use Rattle.ab_syntax.proofs.goal_commas.see_clause.Given as goal
 

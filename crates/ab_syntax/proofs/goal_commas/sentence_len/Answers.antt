@@ -1,8 +1,8 @@
 use Rattle.std.proofs.Common.{◌≢◌, ◌∙◌, arith, rules}
-use Rattle.ab_syntax.specs.declared.kind.Kind.TheVariants.{Stop}
-use Rattle.ab_syntax.specs.declared.located_tokens.Seen.{Seen}
-use Rattle.ab_syntax.specs.Tokens.{token_of}
-use Rattle.ab_syntax.proofs.Seeing.{kind_is}
+use Rattle.ab_expressions.specs.declared.kind.Kind.TheVariants.{Stop}
+use Rattle.ab_expressions.specs.declared.located_tokens.Seen.{Seen}
+use Rattle.ab_expressions.specs.Tokens.{token_of}
+use Rattle.ab_expressions.proofs.Seeing.{kind_is}
 use Rattle.ab_syntax.proofs.GoalCommas.{no_stop_yet}
 use Rattle.ab_syntax.proofs.goal_commas.sentence_len.Goals as goal
 

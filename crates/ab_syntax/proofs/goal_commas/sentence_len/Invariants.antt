@@ -1,6 +1,6 @@
 use Rattle.std.proofs.Common.{length, ◌-◌, ◌≡◌, ◌≤◌, ◌++◌, take, drop}
 use Rattle.ab_grammar.specs.FileTokens.{sentence}
-use Rattle.ab_syntax.specs.Tokens.{tokens_from}
+use Rattle.ab_expressions.specs.Tokens.{tokens_from}
 use Rattle.ab_syntax.proofs.goal_commas.sentence_len.Given as goal
 
 -- no full stop was seen yet

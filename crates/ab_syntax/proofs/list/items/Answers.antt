@@ -1,7 +1,7 @@
 use Rattle.std.proofs.Common.{Some, ap, sym, ◌∙◌, subst}
 use Rattle.std.proofs.lemmas.Result.{err_from_is_err_and}
-use Rattle.ab_syntax.specs.Kinds.{key_of, IsKey}
-use Rattle.ab_syntax.specs.Reader.{rest}
+use Rattle.ab_expressions.specs.Kinds.{key_of, IsKey}
+use Rattle.ab_expressions.specs.Reader.{rest}
 use Rattle.ab_syntax.proofs.Repeating.{taken, left_there, behind_sign, last_item, ItemNext, comes_first, comes_later, one_more, no_more_items}
 use Rattle.ab_syntax.proofs.list.items.Goals as goal
 

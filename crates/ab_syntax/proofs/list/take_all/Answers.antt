@@ -1,4 +1,4 @@
-use Rattle.ab_syntax.specs.Reader.{rest}
+use Rattle.ab_expressions.specs.Reader.{rest}
 use Rattle.ab_syntax.proofs.Taking.{one_more_shown, no_more_shown}
 use Rattle.ab_syntax.proofs.list.take_all.Goals as goal
 

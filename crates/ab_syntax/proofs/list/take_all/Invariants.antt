@@ -1,5 +1,5 @@
 use Rattle.std.proofs.Common.{length}
-use Rattle.ab_syntax.specs.Reader.{rest}
+use Rattle.ab_expressions.specs.Reader.{rest}
 use Rattle.ab_syntax.proofs.Taking.{AllTo}
 use Rattle.ab_syntax.proofs.list.take_all.Given as goal
 

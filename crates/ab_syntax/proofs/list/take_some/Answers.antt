@@ -1,6 +1,6 @@
 use Rattle.std.proofs.Common.{◌≡◌, length, ap, sym, ◌∙◌, rules}
 use Rattle.std.proofs.lemmas.List.{nil_from_length}
-use Rattle.ab_syntax.specs.Items.{list_of}
+use Rattle.ab_expressions.specs.Items.{list_of}
 use Rattle.ab_syntax.proofs.Taking.{some_shown, none_shown}
 use Rattle.ab_syntax.proofs.list.take_some.Goals as goal
 

@@ -1,9 +1,9 @@
 use Rattle.std.proofs.Common.{length, refl, sym, subst}
 use Rattle.ab_grammar.specs.CommandTable.{CommandText}
-use Rattle.ab_syntax.specs.declared.text.Text.{Text}
+use Rattle.ab_expressions.specs.declared.text.Text.{Text}
 use Rattle.ab_syntax.specs.Commands.{command_of}
-use Rattle.ab_syntax.specs.Reader.{AreSeen}
-use Rattle.ab_syntax.specs.Tokens.{tokens_from}
+use Rattle.ab_expressions.specs.Reader.{AreSeen}
+use Rattle.ab_expressions.specs.Tokens.{tokens_from}
 use Rattle.ab_syntax.proofs.Told.{refused_command, answered}
 use Rattle.ab_syntax.proofs.parser.parse_command_from.Goals as goal
 
@@ -12,5 +12,5 @@ returns c =
     let t : Text = record { alloc = c.args.alloc; tokens = c.deref.result; end = length c.args.bytes.now } in
     let all = subst (AreSeen c.args.bytes.now c.args.origin c.args.tokens.now) (sym c.deref.ensures.value) c.in_ok-seen.ensures in
     let here = c.read_command-found.new.here in
-    let a = answered t c.args.bytes.now c.args.origin c.args.tokens.now (tokens_from c.args.bytes.now c.args.origin c.args.tokens.now) all refl CommandText command_of _ here c.told.result (λ place h e. refused_command t c.args.bytes.now c.args.origin c.args.tokens.now (tokens_from c.args.bytes.now c.args.origin c.args.tokens.now) all refl CommandText refl here c.told.result place c.told.ensures h e) c.read_command-found.result c.answer.result c.read_command-found.ensures c.answer.ensures in
+    let a = answered t c.args.bytes.now c.args.origin c.args.tokens.now (tokens_from c.args.bytes.now c.args.origin c.args.tokens.now) all refl CommandText command_of _ here c.token_told.result (λ place h e. refused_command t c.args.bytes.now c.args.origin c.args.tokens.now (tokens_from c.args.bytes.now c.args.origin c.args.tokens.now) all refl CommandText refl here c.token_told.result place c.token_told.ensures h e) c.read_command-found.result c.answer.result c.read_command-found.ensures c.answer.ensures in
     record { read = a.0; syntax = a.1.0; nested = a.1.1 }

@@ -1,9 +1,9 @@
 use Rattle.std.proofs.Common.{length, refl, sym, subst}
 use Rattle.ab_grammar.specs.Language.{TypeExpression}
-use Rattle.ab_syntax.specs.declared.text.Text.{Text}
-use Rattle.ab_syntax.specs.SyntaxTrees.{type_of}
-use Rattle.ab_syntax.specs.Reader.{AreSeen}
-use Rattle.ab_syntax.specs.Tokens.{tokens_from}
+use Rattle.ab_expressions.specs.declared.text.Text.{Text}
+use Rattle.ab_expressions.specs.SyntaxTrees.{type_of}
+use Rattle.ab_expressions.specs.Reader.{AreSeen}
+use Rattle.ab_expressions.specs.Tokens.{tokens_from}
 use Rattle.ab_syntax.proofs.Told.{refused_token, answered}
 use Rattle.ab_syntax.proofs.parser.parse_type_from.Goals as goal
 

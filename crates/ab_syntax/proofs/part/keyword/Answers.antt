@@ -2,7 +2,7 @@ use Rattle.ab_grammar.specs.Token.{word}
 use Rattle.ab_grammar.specs.CommandTable.{StandsAnywhere}
 use Rattle.ab_grammar.proofs.Choosing.{one_stops}
 use Rattle.ab_grammar.proofs.Shown.{placed_example}
-use Rattle.ab_syntax.specs.Reader.{rest}
+use Rattle.ab_expressions.specs.Reader.{rest}
 use Rattle.ab_syntax.proofs.WordsTaken.{word_taken, no_word_taken}
 use Rattle.ab_syntax.proofs.part.keyword.Goals as goal
 

@@ -2,9 +2,9 @@ use Rattle.std.proofs.Common.{ℕ, ap}
 use Rattle.ab_grammar.proofs.Following.{first, Anything, Except}
 use Rattle.ab_grammar.specs.CommandForms.{One}
 use Rattle.ab_grammar.proofs.Choices.{with_keyed, no_keyed}
-use Rattle.ab_syntax.specs.Kinds.{key_of}
+use Rattle.ab_expressions.specs.Kinds.{key_of}
 use Rattle.ab_syntax.specs.Leaves.{ShowsInForm, example_in_form}
-use Rattle.ab_syntax.specs.Reader.{rest}
+use Rattle.ab_expressions.specs.Reader.{rest}
 use Rattle.ab_syntax.proofs.Passing.{found_on, fewer_found}
 use Rattle.ab_syntax.proofs.Repeating.{keyed, taken, left_there, key_taken}
 use Rattle.ab_syntax.proofs.part.number_behind.Goals as goal

@@ -5,12 +5,12 @@ use Rattle.ab_grammar.specs.CommandForms.{One, OneOrMore}
 use Rattle.ab_grammar.specs.CommandTable.{ShowsArgument}
 use Rattle.ab_grammar.proofs.Choices.{with_arguments, no_arguments}
 use Rattle.ab_syntax.specs.declared.command.Argument.{Argument}
-use Rattle.ab_syntax.specs.declared.items.Items.{Items}
+use Rattle.ab_expressions.specs.declared.items.Items.{Items}
 use Rattle.ab_syntax.specs.Commands.{argument_of}
-use Rattle.ab_syntax.specs.Items.{list_of}
+use Rattle.ab_expressions.specs.Items.{list_of}
 use Rattle.ab_syntax.proofs.Examples.{some_argument}
 use Rattle.ab_syntax.proofs.Followers.{no_argument_at_end}
-use Rattle.ab_syntax.specs.Reader.{rest}
+use Rattle.ab_expressions.specs.Reader.{rest}
 use Rattle.ab_syntax.proofs.Passing.{found_on, fewer_found}
 use Rattle.ab_syntax.proofs.Repeating.{keyed, taken, left_there, key_taken}
 use Rattle.ab_syntax.proofs.part.optional_arguments.Goals as goal

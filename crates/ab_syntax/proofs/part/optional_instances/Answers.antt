@@ -5,10 +5,10 @@ use Rattle.ab_grammar.specs.CommandTable.{InstanceList}
 use Rattle.ab_grammar.proofs.Rows.{instance_list_example}
 use Rattle.ab_grammar.proofs.Choices.{with_instances, no_instances}
 use Rattle.ab_syntax.specs.declared.command.Instance.{Instance}
-use Rattle.ab_syntax.specs.declared.items.Items.{Items}
+use Rattle.ab_expressions.specs.declared.items.Items.{Items}
 use Rattle.ab_syntax.specs.Commands.{instance_of}
-use Rattle.ab_syntax.specs.Items.{list_of}
-use Rattle.ab_syntax.specs.Reader.{rest}
+use Rattle.ab_expressions.specs.Items.{list_of}
+use Rattle.ab_expressions.specs.Reader.{rest}
 use Rattle.ab_syntax.proofs.Passing.{found_on}
 use Rattle.ab_syntax.proofs.Repeating.{keyed, taken, left_there, key_taken}
 use Rattle.ab_syntax.proofs.part.optional_instances.Goals as goal

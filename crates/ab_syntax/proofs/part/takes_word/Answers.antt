@@ -3,9 +3,9 @@ use Rattle.ab_grammar.specs.Token.{Token, word}
 use Rattle.ab_grammar.specs.CommandTable.{StandsAnywhere, stands_at}
 use Rattle.ab_grammar.proofs.Following.{Showing}
 use Rattle.ab_grammar.proofs.Shown.{one_placed}
-use Rattle.ab_syntax.specs.declared.kind.Kind.TheVariants as kind
-use Rattle.ab_syntax.specs.declared.located_tokens.Seen.{Seen}
-use Rattle.ab_syntax.specs.Reader.{seen, rest}
+use Rattle.ab_expressions.specs.declared.kind.Kind.TheVariants as kind
+use Rattle.ab_expressions.specs.declared.located_tokens.Seen.{Seen}
+use Rattle.ab_expressions.specs.Reader.{seen, rest}
 use Rattle.ab_syntax.proofs.Leaves.{takes, placed_in, placed_kind, word_shown, word_seen, of_kind}
 use Rattle.ab_syntax.proofs.part.takes_word.Goals as goal
 use Rattle.ab_syntax.proofs.part.takes_word.Goals.{then-ne-via-then-ne, then-ne-via-else-ne+then-ne-2}

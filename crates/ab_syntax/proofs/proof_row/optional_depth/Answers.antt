@@ -3,7 +3,7 @@ use Rattle.std.proofs.Common.{ℕ}
 use Rattle.ab_grammar.specs.CommandForms.{One}
 use Rattle.ab_grammar.specs.CommandTable.{ShowsDepth}
 use Rattle.ab_grammar.proofs.Choices.{with_depth, no_depth}
-use Rattle.ab_syntax.specs.Reader.{rest}
+use Rattle.ab_expressions.specs.Reader.{rest}
 use Rattle.ab_syntax.proofs.Passing.{found_on, fewer_found}
 use Rattle.ab_syntax.proofs.proof_row.optional_depth.Goals as goal
 

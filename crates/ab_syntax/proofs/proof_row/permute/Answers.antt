@@ -7,9 +7,9 @@ use Rattle.ab_grammar.proofs.Choosing.{fewer_reads}
 use Rattle.ab_grammar.proofs.Choices.{with_name, no_name}
 use Rattle.ab_grammar.proofs.Rows.{permute}
 use Rattle.ab_grammar.proofs.Shown.{one_name}
-use Rattle.ab_syntax.specs.declared.text.Text.{Text}
+use Rattle.ab_expressions.specs.declared.text.Text.{Text}
 use Rattle.ab_syntax.specs.Leaves.{any_name, IsTakenNext}
-use Rattle.ab_syntax.specs.Reader.{rest}
+use Rattle.ab_expressions.specs.Reader.{rest}
 use Rattle.ab_syntax.proofs.Leaves.{takes}
 use Rattle.ab_syntax.proofs.Passing.{refused_first}
 use Rattle.ab_syntax.proofs.proof_row.permute.Goals as goal

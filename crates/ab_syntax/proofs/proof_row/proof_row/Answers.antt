@@ -12,7 +12,7 @@ use Rattle.ab_grammar.specs.declared.head.ProofHead.TheVariants as head
 use Rattle.ab_grammar.specs.Token.{Token}
 use Rattle.ab_grammar.specs.CommandTrees as tree
 use Rattle.ab_grammar.proofs.Continuing.{Continues}
-use Rattle.ab_syntax.specs.Reader.{rest}
+use Rattle.ab_expressions.specs.Reader.{rest}
 use Rattle.ab_syntax.proofs.Followers.{no_name_at_end}
 use Rattle.ab_syntax.proofs.Passing.{refused_on, refused_fewer, as_they_are}
 use Rattle.ab_syntax.proofs.proof_row.proof_row.Goals as goal

@@ -4,7 +4,7 @@ use Rattle.ab_grammar.proofs.Following.{first, Anything, BeforeStop}
 use Rattle.ab_grammar.specs.CommandTable.{Sign}
 use Rattle.ab_grammar.proofs.Choosing.{fewer_reads}
 use Rattle.ab_grammar.proofs.Choices.{split, split_all}
-use Rattle.ab_syntax.specs.Reader.{rest}
+use Rattle.ab_expressions.specs.Reader.{rest}
 use Rattle.ab_syntax.proofs.Repeating.{taken, left_there, key_taken}
 use Rattle.ab_syntax.proofs.proof_row.split.Goals as goal
 

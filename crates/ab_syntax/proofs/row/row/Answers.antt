@@ -11,24 +11,24 @@ use Rattle.ab_grammar.proofs.Choosing.{fewer_reads}
 use Rattle.ab_grammar.proofs.Choices as choices
 use Rattle.ab_grammar.proofs.Rows.{kind, typed, theorem, set}
 use Rattle.ab_grammar.specs.CommandTrees as tree
-use Rattle.ab_syntax.specs.declared.items.Items.{Items}
-use Rattle.ab_syntax.specs.Items.{list_of}
-use Rattle.ab_syntax.specs.Reader.{rest}
+use Rattle.ab_expressions.specs.declared.items.Items.{Items}
+use Rattle.ab_expressions.specs.Items.{list_of}
+use Rattle.ab_expressions.specs.Reader.{rest}
 use Rattle.ab_syntax.proofs.Passing.{refused_on, refused_first, refused_fewer, found_said, as_they_are, closed_made}
 use Rattle.ab_syntax.proofs.row.row.Goals as goal
 
-pub returns-in_err-closed-in-Kind : goal.returns-in_err-closed-in-Kind
-returns-in_err-closed-in-Kind c =
+pub returns-in_err-close_part-in-Kind : goal.returns-in_err-close_part-in-Kind
+returns-in_err-close_part-in-Kind c =
     let p = err_from_is_err_and c.from_residual.result c.from_residual.ensures.1 in
     let declared = found_said DeclaredNames (Except comma) (λ (xs : Items (List ℕ)). map (λ (x : (List ℕ)). x) (list_of xs)) list_of (λ xs. map-id (list_of xs)) _ _ c.items-names.result c.items-names.ensures in
-    let read = closed_made tree.kinds (other type_word) kind list_of (rest c.args.text.now c.args.here.now) _ _ c.items-names.result c.closed.result declared c.closed.ensures in
-    rw (p.1, p.2, c.in-Kind.is) (rw c.in_err-closed-in-Kind.was at read)
+    let read = closed_made tree.kinds (other type_word) kind list_of (rest c.args.text.now c.args.here.now) _ _ c.items-names.result c.close_part.result declared c.close_part.ensures in
+    rw (p.1, p.2, c.in-Kind.is) (rw c.in_err-close_part-in-Kind.was at read)
 
-pub returns-in_ok-closed-in-Kind : goal.returns-in_ok-closed-in-Kind
-returns-in_ok-closed-in-Kind c =
+pub returns-in_ok-close_part-in-Kind : goal.returns-in_ok-close_part-in-Kind
+returns-in_ok-close_part-in-Kind c =
     let declared = found_said DeclaredNames (Except comma) (λ (xs : Items (List ℕ)). map (λ (x : (List ℕ)). x) (list_of xs)) list_of (λ xs. map-id (list_of xs)) _ _ c.items-names.result c.items-names.ensures in
-    let read = closed_made tree.kinds (other type_word) kind list_of (rest c.args.text.now c.args.here.now) _ _ c.items-names.result c.closed.result declared c.closed.ensures in
-    rw c.in-Kind.is (rw c.in_ok-closed-in-Kind.was at read)
+    let read = closed_made tree.kinds (other type_word) kind list_of (rest c.args.text.now c.args.here.now) _ _ c.items-names.result c.close_part.result declared c.close_part.ensures in
+    rw c.in-Kind.is (rw c.in_ok-close_part-in-Kind.was at read)
 
 pub returns-in_err-names-in-Typed : goal.returns-in_err-names-in-Typed
 returns-in_err-names-in-Typed c =

@@ -5,7 +5,7 @@ use Rattle.ab_grammar.proofs.Following.{first, Anything, BeforeStop}
 use Rattle.ab_grammar.specs.CommandTable.{Sign, Word}
 use Rattle.ab_grammar.proofs.Choosing.{fewer_reads}
 use Rattle.ab_grammar.proofs.Choices.{switch_on, switch_off}
-use Rattle.ab_syntax.specs.Reader.{rest}
+use Rattle.ab_expressions.specs.Reader.{rest}
 use Rattle.ab_syntax.proofs.Passing.{refused_on, refused_fewer}
 use Rattle.ab_syntax.proofs.Repeating.{taken, left_there, key_taken}
 use Rattle.ab_syntax.proofs.row.switch.Goals as goal

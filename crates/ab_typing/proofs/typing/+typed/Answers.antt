@@ -71,8 +71,8 @@ check_function-returns-in_ok-yes-in-Lam-clause-judged t c =
     function_judged c.args.types.now c.args.store.now c.args.id c.view.result.now (c.view.ensures.tree c.args.types.now) c.args.scope.now.names.items c.push.new.self.items c.in-Lam.ty c.args.from c.args.to c.in-Lam.field-1 c.in-Lam.body c.in_ok-yes-in-Lam.yes c.in-Lam.is
     (c.is_same.ensures.0 c.if-not-is_same.false) c.in_ok-push-in-Lam.ensures.items c.in_ok-yes-in-Lam.ensures.judged
 
-pub check_node-taken-requires-clause-typed : goal.check_node-taken-requires-clause-typed
-check_node-taken-requires-clause-typed t c = subst (NodeIsTyped c.args.types.now) c.in-Spine.is (c.view-in-Base.ensures.typed c.args.types.now c.requires.store)
+pub check_node-rest_of_head-requires-clause-typed : goal.check_node-rest_of_head-requires-clause-typed
+check_node-rest_of_head-requires-clause-typed t c = subst (NodeIsTyped c.args.types.now) c.in-Spine.is (c.view-in-Base.ensures.typed c.args.types.now c.requires.store)
 
 pub check_node-check_all-requires : goal.check_node-check_all-requires
 check_node-check_all-requires t c =

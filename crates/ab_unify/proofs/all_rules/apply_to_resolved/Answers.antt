@@ -1,7 +1,7 @@
 use Rattle.std.proofs.Common.{◌≡◌, map, Some, refl, sym, ◌∙◌, ap, subst}
 use Rattle.ab_norm.proofs.Frame.{typed_none}
 use Rattle.ab_patterns.specs.EquationReadings.{equation_of, simple_of, HoldsParts}
-use Rattle.ab_unifiers.specs.Unification.{clash, parts, rule}
+use Rattle.ab_patterns.specs.ab_unifiers.specs.Unification.{clash, parts, rule}
 use Rattle.ab_unify.specs.Problem.{cells_read, variables_read}
 use Rattle.ab_unify.specs.Outcome.{still}
 use Rattle.ab_unify.proofs.Pruned.{resolved_unbound}

@@ -2,8 +2,8 @@ use Rattle.std.proofs.Common.{◌≡◌, codes, refl, sym, subst}
 use Rattle.std.specs.Prelude.{Contains}
 use Rattle.ab_norm.specs.ab_store.specs.Trees.{head_reading}
 use Rattle.ab_norm.specs.ab_store.specs.Reading.{cell_variable}
-use Rattle.ab_unifiers.specs.Unification.{begun}
-use Rattle.ab_unifiers.specs.Replacements.{without}
+use Rattle.ab_patterns.specs.ab_unifiers.specs.Unification.{begun}
+use Rattle.ab_patterns.specs.ab_unifiers.specs.Replacements.{without}
 use Rattle.ab_patterns.proofs.Narrowed.{are_names}
 use Rattle.ab_unify.specs.Problem.{cells_read, variables_read}
 use Rattle.ab_unify.specs.StoreChanges.{Changed, others_than}
@@ -20,7 +20,7 @@ bind-requires-clause-resolved g c =
     let store = c.args.store.now in
     let e = c.in_ok-term.ensures in
     let named = are_names (head_reading types store) c.args.others.now (are_read_names types store c.args.others.now c.requires.others) in
-    other_resolved types store c.applied.new.store e.adds c.args.cell c.args.other c.args.names.now c.args.others.now c.in_ok-term.term e.reads named c.requires.other_free.1
+    other_resolved types store c.apply_cell.new.store e.adds c.args.cell c.args.other c.args.names.now c.args.others.now c.in_ok-term.term e.reads named c.requires.other_free.1
 
 pub bind-requires-clause-apart : goal.bind-requires-clause-apart
 bind-requires-clause-apart g c =
@@ -28,32 +28,32 @@ bind-requires-clause-apart g c =
     let store = c.args.store.now in
     let e = c.in_ok-term.ensures in
     let named = are_names (head_reading types store) c.args.others.now (are_read_names types store c.args.others.now c.requires.others) in
-    other_apart types store c.applied.new.store e.adds c.args.cell c.args.other c.args.names.now c.args.others.now c.in_ok-term.term e.reads named c.requires.differ
+    other_apart types store c.apply_cell.new.store e.adds c.args.cell c.args.other c.args.names.now c.args.others.now c.in_ok-term.term e.reads named c.requires.differ
 
 pub bind-requires-clause-fits : goal.bind-requires-clause-fits
 bind-requires-clause-fits g c =
     let e = c.in_ok-term.ensures in
     let fits = c.requires.fits in
-    other_fits c.args.types.now c.args.store.now c.applied.new.store e.adds c.args.cell c.args.other c.args.names.now c.args.others.now c.in_ok-term.term e.reads fits.0 fits.1 fits.2 fits.3 c.requires.within
+    other_fits c.args.types.now c.args.store.now c.apply_cell.new.store e.adds c.args.cell c.args.other c.args.names.now c.args.others.now c.in_ok-term.term e.reads fits.0 fits.1 fits.2 fits.3 c.requires.within
 
 pub returns-in_err-term-clause-grows : goal.returns-in_err-term-clause-grows
-returns-in_err-term-clause-grows g c = grows_terms c.args.types.now c.args.store.now c.applied.new.store c.in_err-term.ensures.adds
+returns-in_err-term-clause-grows g c = grows_terms c.args.types.now c.args.store.now c.apply_cell.new.store c.in_err-term.ensures.adds
 
 pub returns-in_err-bind-clause-grows : goal.returns-in_err-bind-clause-grows
 returns-in_err-bind-clause-grows g c =
     let types = c.args.types.now in
-    grows_on types types types c.args.store.now c.applied.new.store c.bind.new.store (grows_terms types c.args.store.now c.applied.new.store c.in_ok-term.ensures.adds) c.in_err-bind.ensures.grows
+    grows_on types types types c.args.store.now c.apply_cell.new.store c.bind.new.store (grows_terms types c.args.store.now c.apply_cell.new.store c.in_ok-term.ensures.adds) c.in_err-bind.ensures.grows
 
 pub returns-clause-grows : goal.returns-clause-grows
 returns-clause-grows g c =
     let types = c.args.types.now in
-    grows_on types types types c.args.store.now c.applied.new.store c.bind.new.store (grows_terms types c.args.store.now c.applied.new.store c.in_ok-term.ensures.adds) c.in_ok-bind.ensures.grows
+    grows_on types types types c.args.store.now c.apply_cell.new.store c.bind.new.store (grows_terms types c.args.store.now c.apply_cell.new.store c.in_ok-term.ensures.adds) c.in_ok-bind.ensures.grows
 
 pub returns-clause-changed : goal.returns-clause-changed
 returns-clause-changed g c =
     let types = c.args.types.now in
     let store = c.args.store.now in
-    let middle = c.applied.new.store in
+    let middle = c.apply_cell.new.store in
     let F = c.args.flexible.now.items in
     let cell = c.args.cell in
     let y = cell_variable types store cell in

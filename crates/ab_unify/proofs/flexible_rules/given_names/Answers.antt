@@ -3,7 +3,7 @@ use Rattle.ab_term.specs.Terms.{terms_of}
 use Rattle.ab_norm.specs.ab_types.specs.Ids.{type_of}
 use Rattle.ab_norm.specs.ab_store.specs.Trees.{tree_of}
 use Rattle.ab_norm.proofs.Frame.{if_ok, if_both}
-use Rattle.ab_unifiers.specs.Patterns.{pattern}
+use Rattle.ab_patterns.specs.ab_unifiers.specs.Patterns.{pattern}
 use Rattle.ab_unify.proofs.Ruled.{names_given}
 use Rattle.ab_unify.proofs.flexible_rules.given_names.Goals as goal
 

@@ -10,7 +10,7 @@ use Rattle.ab_norm.specs.ab_store.specs.Reading.{cell_variable}
 use Rattle.ab_norm.specs.ab_store.specs.Naming.{HeadIsTyped}
 use Rattle.ab_norm.proofs.Frame.{typed_on}
 use Rattle.ab_patterns.specs.EquationReadings.{names_of}
-use Rattle.ab_unifiers.specs.Patterns.{pattern}
+use Rattle.ab_patterns.specs.ab_unifiers.specs.Patterns.{pattern}
 use Rattle.ab_patterns.proofs.Bound.{same_cell}
 use Rattle.ab_unify.specs.Problem.{cells_read, variables_read}
 use Rattle.ab_unify.specs.StoreChanges.{AreNames}
@@ -19,9 +19,9 @@ use Rattle.ab_unify.proofs.Put.{starts}
 use Rattle.ab_unify.proofs.Pruned.{typed_names, same_heads, free_on}
 use Rattle.std.proofs.lemmas.List.{length-map}
 use Rattle.ab_term.proofs.Abstracting.{named_length}
-use Rattle.ab_unifiers.specs.Replacements.{narrowed}
-use Rattle.ab_unifiers.specs.Unification.{agreeing, replaced, same_variable_at}
-use Rattle.ab_unifiers.proofs.Ruling.{agreeing_long}
+use Rattle.ab_patterns.specs.ab_unifiers.specs.Replacements.{narrowed}
+use Rattle.ab_patterns.specs.ab_unifiers.specs.Unification.{agreeing, replaced, same_variable_at}
+use Rattle.ab_patterns.specs.ab_unifiers.proofs.Ruling.{agreeing_long}
 use Rattle.ab_unify.specs.Outcome.{still}
 use Rattle.ab_unify.proofs.Ruled.{tells_none, tells_replaced, given_later, same_still, found_named}
 use Rattle.ab_unify.proofs.flexible_rules.solve_one.Goals as goal

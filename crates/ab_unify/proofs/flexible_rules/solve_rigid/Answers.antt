@@ -9,14 +9,14 @@ use Rattle.ab_norm.specs.ab_store.specs.Reading.{cell_variable}
 use Rattle.ab_norm.specs.ab_store.specs.Naming.{IsTerm}
 use Rattle.ab_norm.proofs.Frame.{typed_on}
 use Rattle.ab_patterns.specs.EquationReadings.{names_of}
-use Rattle.ab_unifiers.specs.Patterns.{pattern}
+use Rattle.ab_patterns.specs.ab_unifiers.specs.Patterns.{pattern}
 use Rattle.ab_patterns.proofs.Bound.{same_cell}
 use Rattle.ab_unify.specs.Problem.{cell_read, cells_read, variables_read}
 use Rattle.ab_unify.proofs.Growth.{grows_on, grows_terms, grown_term}
 use Rattle.ab_unify.proofs.Put.{same_variables}
 use Rattle.ab_unify.proofs.Pruned.{same_heads}
-use Rattle.ab_unifiers.specs.Replacements.{Cell, has_patterns, occurs, no_foreign}
-use Rattle.ab_unifiers.specs.Unification.{replaced, pattern_of}
+use Rattle.ab_patterns.specs.ab_unifiers.specs.Replacements.{Cell, has_patterns, occurs, no_foreign}
+use Rattle.ab_patterns.specs.ab_unifiers.specs.Unification.{replaced, pattern_of}
 use Rattle.ab_unify.proofs.Ruled.{tells_none, tells_clash, tells_replaced, inverted, no_patterns, it_occurs, is_foreign, is_inverted}
 use Rattle.ab_unify.proofs.flexible_rules.solve_rigid.Goals as goal
 

@@ -8,15 +8,15 @@ use Rattle.ab_norm.specs.ab_store.specs.Trees.{cell_of, tree_of, head_reading}
 use Rattle.ab_norm.specs.ab_store.specs.Reading.{cell_variable}
 use Rattle.ab_norm.proofs.Frame.{typed_on}
 use Rattle.ab_patterns.specs.EquationReadings.{names_of}
-use Rattle.ab_unifiers.specs.Patterns.{pattern}
+use Rattle.ab_patterns.specs.ab_unifiers.specs.Patterns.{pattern}
 use Rattle.ab_patterns.proofs.Bound.{same_cell}
 use Rattle.ab_unify.specs.Problem.{cell_read, cells_read, variables_read}
 use Rattle.ab_unify.specs.StoreChanges.{AreNames}
 use Rattle.ab_unify.proofs.Growth.{grows_on, grows_terms}
 use Rattle.ab_unify.proofs.Put.{same_variables}
 use Rattle.ab_unify.proofs.Pruned.{same_heads}
-use Rattle.ab_unifiers.specs.Replacements.{Cell}
-use Rattle.ab_unifiers.specs.Unification.{replaced, two_at}
+use Rattle.ab_patterns.specs.ab_unifiers.specs.Replacements.{Cell}
+use Rattle.ab_patterns.specs.ab_unifiers.specs.Unification.{replaced, two_at}
 use Rattle.ab_unify.specs.JoinedPatterns.{two_joined}
 use Rattle.ab_unify.proofs.Ruled.{tells_none, tells_replaced, given_later, found_named}
 use Rattle.ab_unify.proofs.flexible_rules.solve_two.Goals as goal

@@ -11,12 +11,12 @@ use Rattle.ab_term.proofs.Lists.{Contains-map}
 use Rattle.ab_norm.specs.ab_types.specs.Entries.{signature}
 use Rattle.ab_norm.specs.ab_store.specs.Trees.{tree_of, head_reading}
 use Rattle.ab_norm.specs.ab_store.specs.Reading.{bound_in, cell_variable}
-use Rattle.ab_unifiers.specs.Patterns.{value}
-use Rattle.ab_unifiers.specs.Replacements as solve
-use Rattle.ab_unifiers.specs.Replacements.{holds, pruned}
-use Rattle.ab_unifiers.specs.Unification.{begun}
-use Rattle.ab_unifiers.proofs.Views.{is_pattern}
-use Rattle.ab_unifiers.proofs.Agreeing.{contains_holds}
+use Rattle.ab_patterns.specs.ab_unifiers.specs.Patterns.{value}
+use Rattle.ab_patterns.specs.ab_unifiers.specs.Replacements as solve
+use Rattle.ab_patterns.specs.ab_unifiers.specs.Replacements.{holds, pruned}
+use Rattle.ab_patterns.specs.ab_unifiers.specs.Unification.{begun}
+use Rattle.ab_patterns.specs.ab_unifiers.proofs.Views.{is_pattern}
+use Rattle.ab_patterns.specs.ab_unifiers.proofs.Agreeing.{contains_holds}
 use Rattle.ab_patterns.proofs.Standing.{avoids_then, stands_holds}
 use Rattle.ab_unify.specs.Problem.{cells_read, variables_read}
 use Rattle.ab_unify.specs.StoreChanges.{Changed, IsFree, others_than}

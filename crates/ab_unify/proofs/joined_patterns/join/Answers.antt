@@ -4,9 +4,9 @@ use Rattle.std.proofs.lemmas.Result.{on_ok_weaker}
 use Rattle.ab_term.specs.Abstraction.{among}
 use Rattle.ab_norm.specs.ab_store.specs.Trees.{head_reading}
 use Rattle.ab_norm.specs.ab_store.specs.Reading.{cell_variable}
-use Rattle.ab_unifiers.specs.Patterns.{applied}
-use Rattle.ab_unifiers.specs.Unification.{begun, put_in, joined_at}
-use Rattle.ab_unifiers.proofs.Pruned.{all_pass}
+use Rattle.ab_patterns.specs.ab_unifiers.specs.Patterns.{applied}
+use Rattle.ab_patterns.specs.ab_unifiers.specs.Unification.{begun, put_in, joined_at}
+use Rattle.ab_patterns.specs.ab_unifiers.proofs.Pruned.{all_pass}
 use Rattle.ab_unify.specs.Problem.{cells_read, variables_read}
 use Rattle.ab_unify.specs.StoreChanges.{Changed}
 use Rattle.ab_unify.proofs.Pruned.{typed_names, names_kept}

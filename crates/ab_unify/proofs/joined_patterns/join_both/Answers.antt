@@ -10,11 +10,11 @@ use Rattle.ab_norm.specs.ab_types.specs.Ids.{type_of}
 use Rattle.ab_norm.specs.ab_store.specs.Trees.{cell_of, tree_of, head_reading}
 use Rattle.ab_norm.specs.ab_store.specs.Reading.{cell_variable}
 use Rattle.ab_norm.specs.ab_store.specs.Naming.{HoldsHead, HeadIsTyped}
-use Rattle.ab_unifiers.specs.Patterns.{applied, kept, kept_type}
-use Rattle.ab_unifiers.specs.Replacements as solve
-use Rattle.ab_unifiers.specs.Replacements.{narrowed, next_variable}
-use Rattle.ab_unifiers.specs.Unification.{begun}
-use Rattle.ab_unifiers.proofs.Falling.{map_length}
+use Rattle.ab_patterns.specs.ab_unifiers.specs.Patterns.{applied, kept, kept_type}
+use Rattle.ab_patterns.specs.ab_unifiers.specs.Replacements as solve
+use Rattle.ab_patterns.specs.ab_unifiers.specs.Replacements.{narrowed, next_variable}
+use Rattle.ab_patterns.specs.ab_unifiers.specs.Unification.{begun}
+use Rattle.ab_patterns.specs.ab_unifiers.proofs.Falling.{map_length}
 use Rattle.ab_patterns.proofs.Narrowed.{are_names}
 use Rattle.ab_patterns.proofs.Renewed.{youngest_other}
 use Rattle.ab_unify.specs.Problem.{cell_read, cells_read, variables_read}
@@ -53,8 +53,8 @@ narrow-requires-clause-free g c =
     let rest_is : c.remove.new.self.items ≡ others_than younger F = c.remove.ensures in
     subst (All (IsFree store)) (sym rest_is) (all_others (IsFree store) younger F c.requires.free)
 
-pub applied-requires-clause-names : goal.applied-requires-clause-names
-applied-requires-clause-names g c =
+pub apply_cell-requires-clause-names : goal.apply_cell-requires-clause-names
+apply_cell-requires-clause-names g c =
     let types = c.args.types.now in
     let store = c.args.store.now in
     let F = c.args.flexible.now.items in
@@ -71,8 +71,8 @@ applied-requires-clause-names g c =
     let which : left ≡ kept keep names = c.deref.ensures.value ∙ c.in_ok-keep_heads.ensures ∙ ap (λ l. l ++ kept keep names) c.new-left.ensures.items in
     subst (All (HoldsHead middle)) (sym which) (held_names more middle (kept keep names) (kept_are_names more keep names (names_more types more part names c.requires.names)))
 
-pub applied-requires-clause-typed_names : goal.applied-requires-clause-typed_names
-applied-requires-clause-typed_names g c =
+pub apply_cell-requires-clause-typed_names : goal.apply_cell-requires-clause-typed_names
+apply_cell-requires-clause-typed_names g c =
     let types = c.args.types.now in
     let store = c.args.store.now in
     let F = c.args.flexible.now.items in
@@ -99,7 +99,7 @@ returns-in_err-term-clause-grows g c =
     let names = c.args.names.now in
     let others = c.args.others.now in
     let keep = c.args.keep.now in
-    grows_on types c.narrow.new.types c.narrow.new.types store c.narrow.new.store c.applied.new.store c.in_ok-made.ensures.grows (grows_terms c.narrow.new.types c.narrow.new.store c.applied.new.store c.in_err-term.ensures.adds)
+    grows_on types c.narrow.new.types c.narrow.new.types store c.narrow.new.store c.apply_cell.new.store c.in_ok-made.ensures.grows (grows_terms c.narrow.new.types c.narrow.new.store c.apply_cell.new.store c.in_err-term.ensures.adds)
 
 pub bind-requires-clause-names : goal.bind-requires-clause-names
 bind-requires-clause-names g c =
@@ -129,7 +129,7 @@ bind-requires-clause-resolved g c =
     let part = c.in_ok-made.ensures.grows.table in
     let left = c.deref.result.now in
     let which : left ≡ kept keep names = c.deref.ensures.value ∙ c.in_ok-keep_heads.ensures ∙ ap (λ l. l ++ kept keep names) c.new-left.ensures.items in
-    let next = c.applied.new.store in
+    let next = c.apply_cell.new.store in
     let adds = c.in_ok-term.ensures.adds in
     let is = c.in_ok-term.ensures.reads in
     let term = c.in_ok-term.term in
@@ -152,7 +152,7 @@ bind-requires-clause-apart g c =
     let part = c.in_ok-made.ensures.grows.table in
     let left = c.deref.result.now in
     let which : left ≡ kept keep names = c.deref.ensures.value ∙ c.in_ok-keep_heads.ensures ∙ ap (λ l. l ++ kept keep names) c.new-left.ensures.items in
-    let next = c.applied.new.store in
+    let next = c.apply_cell.new.store in
     let adds = c.in_ok-term.ensures.adds in
     let is = c.in_ok-term.ensures.reads in
     let term = c.in_ok-term.term in
@@ -177,7 +177,7 @@ bind-requires-clause-fits g c =
     let part = c.in_ok-made.ensures.grows.table in
     let left = c.deref.result.now in
     let which : left ≡ kept keep names = c.deref.ensures.value ∙ c.in_ok-keep_heads.ensures ∙ ap (λ l. l ++ kept keep names) c.new-left.ensures.items in
-    let next = c.applied.new.store in
+    let next = c.apply_cell.new.store in
     let adds = c.in_ok-term.ensures.adds in
     let is = c.in_ok-term.ensures.reads in
     let term = c.in_ok-term.term in
@@ -206,7 +206,7 @@ returns-clause-grows g c =
     let part = c.in_ok-made.ensures.grows.table in
     let left = c.deref.result.now in
     let which : left ≡ kept keep names = c.deref.ensures.value ∙ c.in_ok-keep_heads.ensures ∙ ap (λ l. l ++ kept keep names) c.new-left.ensures.items in
-    let next = c.applied.new.store in
+    let next = c.apply_cell.new.store in
     let adds = c.in_ok-term.ensures.adds in
     let is = c.in_ok-term.ensures.reads in
     let term = c.in_ok-term.term in
@@ -229,7 +229,7 @@ returns-clause-changed g c = on_ok_weaker c.bind.result (λ bound.
     let part = c.in_ok-made.ensures.grows.table in
     let left = c.deref.result.now in
     let which : left ≡ kept keep names = c.deref.ensures.value ∙ c.in_ok-keep_heads.ensures ∙ ap (λ l. l ++ kept keep names) c.new-left.ensures.items in
-    let next = c.applied.new.store in
+    let next = c.apply_cell.new.store in
     let adds = c.in_ok-term.ensures.adds in
     let is = c.in_ok-term.ensures.reads in
     let term = c.in_ok-term.term in

@@ -57,7 +57,7 @@ given-preserved c =
 
 pub returns-clause-in_age : goal.returns-clause-in_age
 returns-clause-in_age c =
-    if_ok c.listed.result (λ list same. subst (AllPairs (λ (a b : CellId). a.0 < b.0)) (sym same) (keys_ascend c.given.made.keys c.len.ensures.ordered)) c.listed.ensures
+    if_ok c.list_cells.result (λ list same. subst (AllPairs (λ (a b : CellId). a.0 < b.0)) (sym same) (keys_ascend c.given.made.keys c.len.ensures.ordered)) c.list_cells.ensures
 
 pub returns-clause-which : goal.returns-clause-which
 returns-clause-which c =
@@ -67,4 +67,4 @@ returns-clause-which c =
     let A : CellId → Type 0 = λ e. Contains (map (λ (b : Binding). b.cell) bs) e ⊎ Contains xs e in
     let all = take_all c.given.cell-index ys (omega arith) in
     let has : HasJust c.given.made (λ e. A e × (¬ Contains ys e)) = subst (λ l. HasJust c.given.made (λ e. A e × (¬ Contains l e))) all c.given.invariant in
-    if_ok c.listed.result (λ list same e. subst (λ l. Contains l e ↔ (A e × (¬ Contains ys e))) (sym same) (keys_are c.given.made (λ e. A e × (¬ Contains ys e)) has e)) c.listed.ensures
+    if_ok c.list_cells.result (λ list same e. subst (λ l. Contains l e ↔ (A e × (¬ Contains ys e))) (sym same) (keys_are c.given.made (λ e. A e × (¬ Contains ys e)) has e)) c.list_cells.ensures

@@ -2,7 +2,7 @@ use Rattle.std.proofs.Common.{◌≡◌, ◌∷◌, [], ◌++◌, map, sym, ◌�
 use Rattle.std.specs.Prelude.{All, codes}
 use Rattle.std.proofs.lemmas.List.{length-map}
 use Rattle.ab_norm.specs.ab_store.specs.Trees.{head_reading}
-use Rattle.ab_unifiers.specs.Replacements as solve
+use Rattle.ab_patterns.specs.ab_unifiers.specs.Replacements as solve
 use Rattle.ab_norm.specs.ab_store.specs.Reading.{cell_variable}
 use Rattle.ab_unify.specs.StoreChanges.{others_than, IsFree, Changed}
 use Rattle.ab_unify.proofs.Narrowed.{IsNarrowed, narrowed_free, narrowed_changed}

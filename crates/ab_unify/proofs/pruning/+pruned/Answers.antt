@@ -15,7 +15,7 @@ use Rattle.ab_norm.specs.ab_store.specs.declared.node.Node.TheVariants.{Lam, Spi
 use Rattle.ab_norm.specs.ab_store.specs.Trees.{Holds, node_tree, tree_of, head_reading}
 use Rattle.ab_norm.proofs.Bounds.{ids_bound, bound_within, below_bound}
 use Rattle.ab_norm.proofs.Frame.{lam_names, spine_names}
-use Rattle.ab_unifiers.specs.Replacements.{Change, is_flexible, pruned_here, pruned, pruned_all}
+use Rattle.ab_patterns.specs.ab_unifiers.specs.Replacements.{Change, is_flexible, pruned_here, pruned, pruned_all}
 use Rattle.ab_patterns.specs.ReadingWalks.{has_been}
 use Rattle.ab_unify.specs.Problem.{variables_read}
 use Rattle.ab_unify.specs.Pruning.{AllPruned}

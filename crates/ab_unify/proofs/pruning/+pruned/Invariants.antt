@@ -9,7 +9,7 @@ use Rattle.ab_norm.specs.ab_store.specs.declared.node.CellId.{CellId}
 use Rattle.ab_norm.specs.ab_store.specs.Trees.{Contents, Holds, tree_of, head_reading}
 use Rattle.ab_norm.specs.ab_store.specs.Reading.{cell_variable}
 use Rattle.ab_norm.proofs.Bounds.{ids_bound}
-use Rattle.ab_unifiers.specs.Replacements.{Change, pruned_all}
+use Rattle.ab_patterns.specs.ab_unifiers.specs.Replacements.{Change, pruned_all}
 use Rattle.ab_patterns.specs.ReadingWalks.{deep}
 use Rattle.ab_unify.specs.Pruning.{AllPruned}
 use Rattle.ab_unify.specs.StoreChanges.{Grows, IsFree, Changed, AllUnbound, AreNames}

@@ -11,12 +11,12 @@ use Rattle.ab_norm.specs.ab_store.specs.Trees.{cell_in, cell_of, head_in, tree_o
 use Rattle.ab_norm.specs.ab_store.specs.Reading.{cell_variable}
 use Rattle.ab_norm.specs.ab_store.specs.Naming.{HeadIsTyped}
 use Rattle.ab_patterns.specs.EquationReadings.{names_of}
-use Rattle.ab_unifiers.specs.Patterns.{pattern}
-use Rattle.ab_unifiers.specs.Replacements.{pruned_names, narrowed}
-use Rattle.ab_unifiers.proofs.Views.{is_pattern}
-use Rattle.ab_unifiers.proofs.Values.{pattern_named}
-use Rattle.ab_unifiers.proofs.Readings.{pattern_distinct}
-use Rattle.ab_unifiers.proofs.Ruling.{distinct_names}
+use Rattle.ab_patterns.specs.ab_unifiers.specs.Patterns.{pattern}
+use Rattle.ab_patterns.specs.ab_unifiers.specs.Replacements.{pruned_names, narrowed}
+use Rattle.ab_patterns.specs.ab_unifiers.proofs.Views.{is_pattern}
+use Rattle.ab_patterns.specs.ab_unifiers.proofs.Values.{pattern_named}
+use Rattle.ab_patterns.specs.ab_unifiers.proofs.Readings.{pattern_distinct}
+use Rattle.ab_patterns.specs.ab_unifiers.proofs.Ruling.{distinct_names}
 use Rattle.ab_patterns.proofs.Bound.{same_cell}
 use Rattle.ab_unify.specs.StoreChanges.{Changed}
 use Rattle.ab_unify.proofs.Growth.{grows_on, grows_terms}

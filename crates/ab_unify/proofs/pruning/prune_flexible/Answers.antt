@@ -2,7 +2,7 @@ use Rattle.std.proofs.Common.{◌≡◌, map, codes, sym, ◌∙◌, ap, subst}
 use Rattle.ab_term.specs.Variables.{image}
 use Rattle.ab_term.specs.Sameness.{same_number}
 use Rattle.ab_norm.specs.ab_store.specs.Trees.{tree_of, head_reading}
-use Rattle.ab_unifiers.specs.Replacements.{pruned_here}
+use Rattle.ab_patterns.specs.ab_unifiers.specs.Replacements.{pruned_here}
 use Rattle.ab_unify.specs.StoreChanges.{Changed}
 use Rattle.ab_unify.specs.Pruning.{AllPruned}
 use Rattle.ab_unify.proofs.Growth.{grows_on, grows_terms, typed_terms}

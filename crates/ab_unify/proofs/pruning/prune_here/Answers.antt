@@ -11,9 +11,9 @@ use Rattle.ab_norm.specs.ab_store.specs.declared.node.Node.TheVariants.{Spine}
 use Rattle.ab_norm.specs.ab_store.specs.Trees.{cell_of, node_tree, tree_of, head_reading}
 use Rattle.ab_norm.specs.ab_store.specs.Reading.{cell_variable}
 use Rattle.ab_norm.specs.ab_store.specs.Bindings.{IsResolved}
-use Rattle.ab_unifiers.specs.Patterns.{pattern}
-use Rattle.ab_unifiers.specs.Replacements.{holds, pruned_names, pruned_here}
-use Rattle.ab_unifiers.proofs.Pruning.{spine_args}
+use Rattle.ab_patterns.specs.ab_unifiers.specs.Patterns.{pattern}
+use Rattle.ab_patterns.specs.ab_unifiers.specs.Replacements.{holds, pruned_names, pruned_here}
+use Rattle.ab_patterns.specs.ab_unifiers.proofs.Pruning.{spine_args}
 use Rattle.ab_unify.specs.StoreChanges.{Changed, AllUnbound}
 use Rattle.ab_unify.proofs.Pruned.{listed_if, resolved_unbound, unbound_resolved, args_unbound}
 use Rattle.ab_unify.proofs.pruning.prune_here.Goals as goal

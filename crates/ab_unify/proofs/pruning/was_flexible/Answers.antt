@@ -1,7 +1,7 @@
 use Rattle.std.proofs.Common.{◌≡◌, true, false, ◌||◌, is_some, sym, ◌∙◌, ap, subst}
 use Rattle.ab_norm.specs.ab_store.specs.Trees.{head_reading}
 use Rattle.ab_norm.specs.ab_store.specs.Reading.{binding_of, cell_variable}
-use Rattle.ab_unifiers.specs.Replacements.{holds, is_flexible}
+use Rattle.ab_patterns.specs.ab_unifiers.specs.Replacements.{holds, is_flexible}
 use Rattle.ab_unify.specs.Problem.{variables_read}
 use Rattle.ab_unify.specs.Pruning.{HeadIsFree}
 use Rattle.ab_unify.proofs.Walked.{cell_was}

@@ -9,8 +9,8 @@ use Rattle.ab_norm.specs.ab_types.specs.Ids.{type_of}
 use Rattle.ab_norm.specs.ab_store.specs.Trees.{cell_of, tree_of}
 use Rattle.ab_norm.specs.ab_store.specs.Reading.{cell_variable}
 use Rattle.ab_norm.proofs.Frame.{if_ok}
-use Rattle.ab_unifiers.specs.Unification.{is_older}
-use Rattle.ab_unifiers.proofs.Agreeing.{contains_holds}
+use Rattle.ab_patterns.specs.ab_unifiers.specs.Unification.{is_older}
+use Rattle.ab_patterns.specs.ab_unifiers.proofs.Agreeing.{contains_holds}
 use Rattle.ab_unify.specs.Problem.{cells_read, variables_read}
 use Rattle.ab_unify.specs.Outcome.{Tells, last_rules}
 use Rattle.ab_unify.proofs.Listed.{same_cell}

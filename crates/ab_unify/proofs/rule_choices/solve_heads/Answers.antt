@@ -10,11 +10,11 @@ use Rattle.ab_norm.specs.ab_store.specs.Reading.{cell_variable}
 use Rattle.ab_norm.specs.ab_store.specs.Bindings.{IsResolved}
 use Rattle.ab_norm.specs.ab_store.specs.Naming.{IsTerm}
 use Rattle.ab_norm.proofs.Frame.{if_ok}
-use Rattle.ab_unifiers.specs.Patterns.{pattern}
-use Rattle.ab_unifiers.specs.Replacements.{is_flexible}
-use Rattle.ab_unifiers.specs.Unification.{pattern_of}
-use Rattle.ab_unifiers.proofs.Agreeing.{contains_holds}
-use Rattle.ab_unifiers.proofs.Pruning.{spine_args}
+use Rattle.ab_patterns.specs.ab_unifiers.specs.Patterns.{pattern}
+use Rattle.ab_patterns.specs.ab_unifiers.specs.Replacements.{is_flexible}
+use Rattle.ab_patterns.specs.ab_unifiers.specs.Unification.{pattern_of}
+use Rattle.ab_patterns.specs.ab_unifiers.proofs.Agreeing.{contains_holds}
+use Rattle.ab_patterns.specs.ab_unifiers.proofs.Pruning.{spine_args}
 use Rattle.ab_unify.specs.Problem.{cells_read, variables_read}
 use Rattle.ab_unify.specs.StoreChanges.{AllUnbound}
 use Rattle.ab_unify.specs.Outcome.{Tells, last_rules}

@@ -1,6 +1,6 @@
 use Rattle.std.proofs.Common.{◌≤◌, ◌++◌, [], codes}
 use Rattle.std.specs.Prelude.{All}
-use Rattle.ab_unifiers.proofs.Ending.{steps_left}
+use Rattle.ab_patterns.specs.ab_unifiers.proofs.Ending.{steps_left}
 use Rattle.ab_unify.specs.StoreChanges.{Grows, IsFree}
 use Rattle.ab_unify.specs.Outcome.{IsTypedEquation}
 use Rattle.ab_unify.specs.States.{IsAtRest, state_of}

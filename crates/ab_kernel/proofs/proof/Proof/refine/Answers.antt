@@ -5,7 +5,7 @@ use Rattle.std.proofs.lemmas.List.{length-map, reverse-append}
 use Rattle.ab_formulas.specs.Sequents.{Sequent}
 use Rattle.ab_logic.specs.SequentReadings.{sequent_of}
 use Rattle.ab_logic.specs.Worlds.{declarations_of}
-use Rattle.ab_kernel.specs.RuleAnswers.{step_of}
+use Rattle.ab_rules.specs.RuleAnswers.{step_of}
 use Rattle.ab_logic.specs.declared.world.World.{World}
 use Rattle.ab_kernel.specs.declared.proof.Refinement.{Refinement}
 use Rattle.ab_kernel.specs.declared.node.ProofNode.{ProofNode}

@@ -10,7 +10,7 @@ use Rattle.ab_theory.specs.Derivations.{open_goals, debts_of, root, undone}
 use Rattle.ab_kernel.specs.Nodes.{cleared, sequents_in, node_at, step_held}
 use Rattle.ab_kernel.specs.Layout.{Held, StepAt, steps_in, nodes_before, open_before, start_of, made_by, owed_by, Stands, Layers, Grown, history_of, IsProof, before_last}
 use Rattle.ab_kernel.specs.Debts.{owed, owed_at}
-use Rattle.ab_kernel.specs.RuleAnswers.{step_of}
+use Rattle.ab_rules.specs.RuleAnswers.{step_of}
 use Rattle.ab_kernel.proofs.Standing.{some_world}
 use Rattle.ab_kernel.proofs.Owing.{node_owes}
 use Rattle.ab_kernel.proofs.Filling.{sequents-before}

@@ -1,4 +1,4 @@
-use Rattle.std.proofs.Common.{◌∙◌, arith}
+use Rattle.std.proofs.Common.{arith}
 use Rattle.ab_sigmod.specs.FileLoads.{FilesSeen}
 use Rattle.ab_sigmod.specs.Outcomes.{seen}
 use Rattle.ab_session.proofs.Carried.{on_error}
@@ -22,7 +22,7 @@ module _ (g : given.Over) (c : goal.Joined-kept g) where
       elim c.if-kept.branch [
         | then-kept w ↦
             accepted_cut before after c.args.self.now c.answer.new.self w.drop_leftovers.new.self c.if-kept.self c.args.command.now c.args.steps.now c.answer.new.steps c.if-kept.steps c.in_ok-reply.reply was
-            (omega (arith, w.if-kept.true, c.kept-kept.ensures, c.kept.ensures)) w.drop_leftovers.ensures.freed w.drop_leftovers.ensures.declared w.self-is (w.steps-is ∙ w.drop_leftovers.ensures.steps)
+            (omega (arith, w.if-kept.true, c.kept-kept.ensures, c.kept.ensures)) w.drop_leftovers.ensures.freed w.drop_leftovers.ensures.declared w.self-is
         | else-kept w ↦
             accepted_as_is before after c.args.self.now c.answer.new.self c.if-kept.self c.args.command.now c.args.steps.now c.answer.new.steps c.if-kept.steps c.in_ok-reply.reply was
             (omega (arith, w.if-kept.false, c.kept-kept.ensures, c.kept.ensures)) w.self-is w.steps-is

@@ -21,7 +21,7 @@ returns-in-Err-Refused-clause-answer g c =
     let e : c.is_some.result ≡ is_open (state_of c.args.self.now) = c.is_some.ensures ∙ sym (open_as s) ∙ ap (λ o. is_open (state_of o)) c.self.view_is in
     unread_replied _ c.args.self.now c.args.command.now c.args.steps.now _ (subst IsSound c.self.view_is c.self.invariant.sound)
     (forward
-    (subst (λ r. GoesForward (state_of c.args.self.now) (plain c.args.command.now) (reply.refused r) (state_of c.args.self.now)) (sym c.unread.ensures)
+    (subst (λ r. GoesForward (state_of c.args.self.now) (plain c.args.command.now) (reply.refused r) (state_of c.args.self.now)) (sym c.refusal_of_cause.ensures)
     (unread cause (subst (λ b. Fails c.args.command.now b cause) e f))))
 
 pub returns-in-Ok-clause-answer : goal.returns-in-Ok-clause-answer

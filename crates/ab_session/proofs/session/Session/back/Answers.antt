@@ -1,6 +1,6 @@
 use Rattle.std.proofs.Common.{◌≡◌, ◌+◌, ◌∷◌, length, sym, ◌∙◌, ap, subst}
 use Rattle.ab_logic.specs.declared.world.World.{World}
-use Rattle.ab_declare.specs.Moments.{HasMore}
+use Rattle.ab_states.specs.ab_specification.specs.ab_declare.specs.Moments.{HasMore}
 use Rattle.ab_states.specs.StateEffects.{IsBeforeLast}
 use Rattle.ab_session.specs.Contents.{Contents, past_of, contents, state_of}
 use Rattle.ab_session.specs.Origins.{CameBy, CameFrom}

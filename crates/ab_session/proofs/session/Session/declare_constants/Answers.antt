@@ -1,6 +1,6 @@
 use Rattle.std.proofs.Common.{refl, ap, None}
 use Rattle.ab_grammar.specs.CommandTrees as told
-use Rattle.ab_syntax.specs.SyntaxTrees as trees
+use Rattle.ab_syntax.specs.ab_expressions.specs.SyntaxTrees as trees
 use Rattle.ab_session.specs.declared.command_history.Deed.TheVariants.{Went}
 use Rattle.ab_states.specs.State.{plain}
 use Rattle.ab_session.specs.declared.command_history.Kept.{Kept}

@@ -1,7 +1,7 @@
 use Rattle.std.proofs.Common.{List, map, Some, refl, ap, subst}
 use Rattle.ab_sigmod.specs.declared.spec.SpecFile.{SpecFile}
 use Rattle.ab_sigmod.specs.Outcomes.{read_of, files_of}
-use Rattle.ab_declare.proofs.Restoring.{restored_grows, restored_declares}
+use Rattle.ab_states.specs.ab_specification.specs.ab_declare.proofs.Restoring.{restored_grows, restored_declares}
 use Rattle.ab_states.specs.ab_specification.specs.SpecificationAnswers.{IsSpecified, IsUnspecified}
 use Rattle.ab_states.specs.State.{with_files}
 use Rattle.ab_session.specs.declared.command_history.Deed.TheVariants.{Went}

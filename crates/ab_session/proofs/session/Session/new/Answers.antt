@@ -1,5 +1,5 @@
 use Rattle.std.proofs.Common.{true, List, [], map, reverse, None, sym, subst}
-use Rattle.ab_steps.specs.ab_kernel.specs.Layout.{Held}
+use Rattle.ab_proofcmd.specs.ab_hypothesis.specs.ab_steps.specs.ab_kernel.specs.Layout.{Held}
 use Rattle.ab_session.specs.declared.command_history.Kept.{Kept}
 use Rattle.ab_session.specs.Contents.{past_of}
 use Rattle.ab_session.specs.Origins.{IsSession}

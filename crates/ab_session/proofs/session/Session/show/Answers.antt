@@ -2,7 +2,7 @@ use Rattle.std.proofs.Common.{◌≡◌, Some, None, option_map, sym, ◌∙◌,
 use Rattle.ab_grammar.specs.CommandTrees as told
 use Rattle.ab_formulas.specs.Declarations.{theorem_in}
 use Rattle.ab_logic.specs.Worlds.{read, declarations_of}
-use Rattle.ab_declare.specs.declared.refusal.Refusal.TheVariants.{Unknown}
+use Rattle.ab_states.specs.ab_specification.specs.ab_declare.specs.declared.refusal.Refusal.TheVariants.{Unknown}
 use Rattle.ab_states.specs.declared.reply.Reply.TheVariants.{Shown, Refused}
 use Rattle.ab_session.specs.Contents.{contents}
 use Rattle.ab_session.specs.SessionAnswers.{IsForwardAnswer}

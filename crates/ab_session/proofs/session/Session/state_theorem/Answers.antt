@@ -1,7 +1,7 @@
 use Rattle.std.proofs.Common.{refl, ap, None}
 use Rattle.ab_grammar.specs.CommandTrees as told
-use Rattle.ab_syntax.specs.SyntaxTrees as trees
-use Rattle.ab_declare.proofs.Restoring.{restored_grows, restored_declares}
+use Rattle.ab_syntax.specs.ab_expressions.specs.SyntaxTrees as trees
+use Rattle.ab_states.specs.ab_specification.specs.ab_declare.proofs.Restoring.{restored_grows, restored_declares}
 use Rattle.ab_session.specs.declared.command_history.Deed.TheVariants.{Began}
 use Rattle.ab_states.specs.State.{plain}
 use Rattle.ab_session.specs.declared.command_history.Kept.{Kept}

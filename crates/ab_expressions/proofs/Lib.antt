@@ -1,0 +1,15 @@
+pub mod Tables
+pub mod Meanings
+pub mod Seeing
+pub mod Places
+pub mod Lookups
+pub mod Utf8
+pub mod Stacks
+pub mod Enders
+pub mod Depths
+pub mod Reading
+pub mod TypeReading
+pub mod NumberTokens
+pub mod BinderTypes
+pub mod ExpressionReading
+pub mod Operands

@@ -1,0 +1,1 @@
+-- This crate defines nothing: `proofs/Free` has what is shown of free names.

@@ -1,4 +1,0 @@
-use Rattle.ab_judgements.proofs.cut_lists.+without_item.Given as goal
-
-abbrev pub decreases-without_item : goal.decreases-without_item
-decreases-without_item l = l.list.0

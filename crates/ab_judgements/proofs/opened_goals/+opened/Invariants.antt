@@ -1,7 +1,0 @@
-use Rattle.ab_judgements.proofs.opened_goals.+opened.Given as goal
-
-abbrev pub decreases-open : goal.decreases-open
-decreases-open l = l.goal.0
-
-abbrev pub decreases-open_under : goal.decreases-open_under
-decreases-open_under l = l.abstraction.0

@@ -1,5 +1,0 @@
-use Rattle.ab_kernel.proofs.Adding.{adds_on}
-use Rattle.ab_kernel.proofs.nabla_constants.with_name.Goals as goal
-
-pub returns-clause-adds : goal.returns-clause-adds
-returns-clause-adds g c = adds_on _ _ _ c.name_term.ensures.adds c.instance_of.ensures.adds

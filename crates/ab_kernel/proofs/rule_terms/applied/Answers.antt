@@ -1,8 +1,0 @@
-use Rattle.ab_kernel.proofs.Adding.{adds_on}
-use Rattle.ab_kernel.proofs.rule_terms.applied.Goals as goal
-
-pub returns-in_err-args-clause-adds : goal.returns-in_err-args-clause-adds
-returns-in_err-args-clause-adds g c = adds_on _ _ _ c.cell_term.ensures.adds c.name_terms.ensures.adds
-
-pub returns-clause-adds : goal.returns-clause-adds
-returns-clause-adds g c = adds_on _ _ _ (adds_on _ _ _ c.cell_term.ensures.adds c.name_terms.ensures.adds) c.instance_of.ensures.adds

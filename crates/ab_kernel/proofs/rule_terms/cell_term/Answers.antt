@@ -1,5 +1,0 @@
-use Rattle.ab_kernel.proofs.Adding.{adds_typed}
-use Rattle.ab_kernel.proofs.rule_terms.cell_term.Goals as goal
-
-pub returns-clause-adds : goal.returns-clause-adds
-returns-clause-adds c = adds_typed _ _ _ _ c.requires.world c.eta.ensures.adds

@@ -1,0 +1,19 @@
+use Rattle.std.specs.Prelude.{IsTrue, ◌↔◌}
+use Rattle.std.proofs.Common.{◌∙◌}
+use Rattle.std.proofs.lemmas.Result.{IfOk-weaker}
+use Rattle.ab_norm.specs.ab_types.specs.Ids.{type_of}
+use Rattle.ab_formulas.specs.GoalTerms as term
+use Rattle.ab_logic.specs.Worlds.{read}
+use Rattle.ab_rules.proofs.Words.{in_words, all_held}
+use Rattle.ab_rules.proofs.term_fit.fits_in.Goals as goal
+
+pub fits-requires-clause-before : goal.fits-requires-clause-before
+fits-requires-clause-before c = all_held c.args.world.now c.args.sequent.now c.requires.held c.deref.result.now (c.deref.ensures.value ∙ c.in_ok-before.ensures)
+
+pub returns : goal.returns
+returns c =
+    let w = c.args.world.now in
+    IfOk-weaker c.fits.result _ _
+    (λ yes e. in_words w c.requires.world c.args.sequent.now c.as_slice.result.now c.deref.result.now c.as_slice.ensures (c.deref.ensures.value ∙ c.in_ok-before.ensures)
+    (λ sg xs Fs. IsTrue yes ↔ term.Fits sg xs Fs (read w c.args.term) (type_of w.types c.args.ty)) e)
+    c.fits.ensures

@@ -1,0 +1,30 @@
+use Rattle.std.specs.List.{All}
+use Rattle.std.proofs.Common.{◌≡◌, List, [], ◌∷◌, map, refl, inl, inr, sym, ap, ◌∙◌, subst, arith}
+use Rattle.std.proofs.lemmas.List.Elements.{All-cons}
+use Rattle.ab_logic.specs.Worlds.{read}
+use Rattle.ab_formulas.specs.Sequents.{proving}
+use Rattle.ab_logic.specs.SequentReadings.{sequent_of, HoldsSequent}
+use Rattle.ab_logic.specs.declared.sequent.Sequent.{Sequent as Kept}
+use Rattle.ab_logic.proofs.Growing.{same_sequent, still_held}
+use Rattle.ab_rules.proofs.witness_rules.exists_right.Goals as goal
+
+pub returns-then-not-fits-clause-answers : goal.returns-then-not-fits-clause-answers
+returns-then-not-fits-clause-answers g c =
+    inr (_, sym c.in-Some.ensures.reads, inl (λ f. let yes = c.in_ok-fits.ensures.1 f in let no = c.if-not-fits.true in cc, refl))
+
+pub returns-clause-answers : goal.returns-clause-answers
+returns-clause-answers g c =
+    let w = c.args.world.now in
+    let v = c.instance_of.new.world in
+    let grown = c.instance_of.ensures.adds.grows in
+    let s = c.args.sequent.now in
+    let start : sequent_of v c.in_ok-premise.premise ≡ sequent_of w s = ap (sequent_of v) c.in_ok-premise.ensures ∙ same_sequent w v grown s c.requires.held in
+    let there : HoldsSequent v c.in_ok-premise.premise = subst (HoldsSequent v) (sym c.in_ok-premise.ensures) (still_held w v grown s c.requires.held) in
+    let reads =
+    c.proving-premise.ensures.reads v
+    ∙ ap (proving (read v c.in_ok-made.made)) start
+    ∙ ap (λ t. proving t (sequent_of w s)) c.in_ok-made.ensures.reads in
+    let held = c.proving-premise.ensures.held v there c.in_ok-made.ensures.held in (
+      (_, sym c.in-Some.ensures.reads, (c.in_ok-fits.ensures.0 c.if-not-fits.false, ap (map (sequent_of v)) c.in_ok-one.ensures ∙ ap (λ q. q ∷ []) reads)),
+      subst (λ (qs : List Kept). All (HoldsSequent v) qs) (sym c.in_ok-one.ensures) (All-cons (HoldsSequent v) c.proving-premise.result [] held (λ k d l. absurd (omega arith))),
+    )
