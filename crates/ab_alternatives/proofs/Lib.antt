@@ -23,3 +23,4 @@ mod Chosen
 pub mod Passed
 pub mod Later
 mod NextChoice
+mod Quantified

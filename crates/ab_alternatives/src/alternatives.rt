@@ -89,7 +89,7 @@ fn add_equations(
 }
 
 /// The terms of the first list with those of the second, one against one.
-pub fn equated(
+pub fn equations_between(
     alloc: Global,
     left: &[TermId],
     right: &[TermId],
@@ -138,7 +138,7 @@ pub fn make_alternative<L>(
     let unchosen = outside(alloc, types, constants, names)?;
     let raised = raise_over(alloc, types, store, variables, &fresh)?;
     let made = instance_of(alloc, types, store, clause, &unchosen, names, steps)?;
-    let equations = equated(alloc, &atom.arguments, &made.arguments)?;
+    let equations = equations_between(alloc, &atom.arguments, &made.arguments)?;
     let predicates = atom.block.predicates.as_slice();
     let mark = mark_below(atom.sign);
     let body = mark_atoms(alloc, types, store, predicates, mark, made.body)?;

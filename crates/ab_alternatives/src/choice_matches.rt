@@ -23,7 +23,7 @@ ghost use Rattle.ab_alternatives.specs.AtomReadings.{defined_read, HoldsDefined,
 
 use crate::atoms::DefinedAtom;
 use crate::clause_bodies::{Unfolding, make_unfolding};
-use crate::conclusions::unbound;
+use crate::conclusions::unbound_cells;
 use crate::one_alternative::both;
 use ab_logic::World;
 use ab_norm::Nominal;
@@ -58,7 +58,7 @@ fn tell_open(
     ensures { IfOk result (TellsOpen store.now (unbound_of store.now (own.now ++ more.now))) }
 {
     let cells = both(alloc, own, more)?;
-    let left = unbound(alloc, store, &cells)?;
+    let left = unbound_cells(alloc, store, &cells)?;
     match left.as_slice() {
         [] => Ok(Match::Closed),
         [first, ..] => {

@@ -17,7 +17,7 @@ ghost use Rattle.ab_logic.specs.Worlds.{IsKeptClause};
 ghost use Rattle.ab_alternatives.specs.LeftAlternatives.{constants_in};
 ghost use Rattle.ab_alternatives.specs.RightAlternatives.{IsOpened};
 
-use crate::alternatives::equated;
+use crate::alternatives::equations_between;
 use crate::atoms::DefinedAtom;
 use crate::mark_rules::mark_above;
 use ab_instances::{instance_of, outside};
@@ -70,7 +70,7 @@ pub fn make_unfolding<L>(
 {
     let unchosen = outside(alloc, types, constants, names)?;
     let made = instance_of(alloc, types, store, clause, &unchosen, names, steps)?;
-    let equations = equated(alloc, &atom.arguments, &made.arguments)?;
+    let equations = equations_between(alloc, &atom.arguments, &made.arguments)?;
     let predicates = atom.block.predicates.as_slice();
     let mark = mark_above(atom.sign);
     let body = mark_atoms(alloc, types, store, predicates, mark, made.body)?;

@@ -40,7 +40,7 @@ pub enum Conclusion {
 }
 
 /// The cells that are bound to nothing, in their order.
-pub(crate) fn unbound(
+pub(crate) fn unbound_cells(
     alloc: Global,
     store: &Store,
     cells: &[CellId],
@@ -80,7 +80,7 @@ fn close_over(
         return Ok(body);
     }
     let inner = nabla_all(alloc, types, store, hints, names, body)?;
-    exists_all(alloc, types, store, cells, inner)
+    exists_all(alloc, store, cells, inner)
 }
 
 /// The body with what cells are bound to in their places, closed over those of the cells that are unbound.
@@ -104,7 +104,7 @@ fn conclude<L>(
         ≡ closed_by (map (variable_at types.now store.old) (unbound_of store.old cells.now)) hints.now (names_read types.now names.now) (reading types.now store.old body)) }
     ensures steps { steps.old ≤ steps.new }
 {
-    let left = unbound(alloc, store, cells)?;
+    let left = unbound_cells(alloc, store, cells)?;
     let resolved = copy_resolved(alloc, types, store, body, steps)?;
     close_over(alloc, types, store, &left, hints, names, resolved)
 }

@@ -26,7 +26,7 @@ pub use ab_equations as equations;
 pub use ab_instances as instances;
 pub use ab_sequents as sequents;
 pub use all_cases::{Splitting, split};
-pub use alternatives::{Alternative, equated, make_alternative};
+pub use alternatives::{Alternative, equations_between, make_alternative};
 pub use atoms::{DefinedAtom, copy_clause, defined_atom};
 pub use choice_counts::{Choice, choice_at};
 pub use choice_matches::{Match, match_choice, solve_match};

@@ -2,10 +2,11 @@
 ghost use Rattle.std.specs.Prelude.{◌≡◌, [], map, All, IfOk};
 ghost use Rattle.ab_term.specs.Abstraction as closing;
 ghost use Rattle.ab_term.specs.Terms.{logical, lam, spine, term, no_terms};
+ghost use Rattle.ab_norm.specs.ab_types.specs.Entries.{Table};
 ghost use Rattle.ab_norm.specs.ab_types.specs.Ids.{HoldsType, type_of};
 ghost use Rattle.ab_norm.specs.ab_store.specs.Trees.{Holds, HoldsCell, tree_of, head_reading, logical_of};
 ghost use Rattle.ab_norm.specs.ab_store.specs.Naming.{IsTypedBy, LogicalIsTyped, HeadIsTyped};
-ghost use Rattle.ab_norm.specs.NodeGrowth.{AddsTypedTerms};
+ghost use Rattle.ab_norm.specs.NodeGrowth.{AddsTerms, AddsTypedTerms};
 ghost use Rattle.ab_norm.specs.Nominals.{HoldsNominal};
 ghost use Rattle.ab_instances.specs.ListReadings.{names_read};
 ghost use Rattle.ab_theory.specs.Unfolding.{exists_all};
@@ -17,11 +18,11 @@ use ab_norm::name::Name;
 use ab_norm::store::{CellId, Head, Logical, Store, TermId};
 use ab_norm::types::laws::has_unique_ids;
 use ab_norm::types::{TypeId, TypeTable};
-use ab_patterns::close;
+use ab_patterns::{close, exists_over};
 use std::alloc::{AllocError, Global};
 
 /// The formula under the quantifier, which binds the name, of this type, under the hint.
-fn quantified(
+fn quantifier_over(
     alloc: Global,
     types: &TypeTable,
     store: &mut Store,
@@ -51,36 +52,18 @@ fn quantified(
 /// The formula under `exists` over the cells, the first outermost.
 pub(crate) fn exists_all(
     alloc: Global,
-    types: &TypeTable,
     store: &mut Store,
     cells: &[CellId],
     body: TermId,
 ) -> Result<TermId, AllocError>
-    requires store { IsTypedBy types.now store.old }
     requires cells { All (HoldsCell store.old) cells.now }
     requires body { Holds store.old body }
-    ensures adds { AddsTypedTerms types.now store.old store.new }
+    ensures adds { AddsTerms store.old store.new }
     ensures held { IfOk result (λ r. Holds store.new r) }
-    ensures tree { IfOk result (λ r. tree_of types.now store.new r ≡ exists_all (map (variable_at types.now store.old) cells.now) (tree_of types.now store.old body)) }
+    ensures tree { IfOk result (λ r. (types : Table) →
+        tree_of types store.new r ≡ exists_all (map (variable_at types store.old) cells.now) (tree_of types store.old body)) }
 {
-    match cells {
-        [] => Ok(body),
-        [first, rest @ ..] => {
-            let inner = exists_all(alloc, types, store, rest, body)?;
-            let ty = store.cell_type(*first);
-            let hint = store.cell_name(*first).copy(alloc)?;
-            quantified(
-                alloc,
-                types,
-                store,
-                Logical::Exists(ty),
-                Head::Cell(*first),
-                ty,
-                hint,
-                inner,
-            )
-        }
-    }
+    exists_over(alloc, store, cells, body)
 }
 
 /// The formula under `nabla` over the constants, the first outermost, whose binders have these hints.
@@ -106,7 +89,7 @@ pub(crate) fn nabla_all(
             [a, names @ ..] => {
                 let inner = nabla_all(alloc, types, store, hints, names, body)?;
                 let hint = hint.copy(alloc)?;
-                quantified(
+                quantifier_over(
                     alloc,
                     types,
                     store,

@@ -7,7 +7,7 @@ use Rattle.ab_store.specs.ab_types.specs.Entries.{Table}
 use Rattle.ab_store.specs.ab_types.specs.Ids.{type_of}
 use Rattle.ab_store.specs.declared.node.TermId.{TermId}
 use Rattle.ab_norm.specs.declared.term_walks.Change.{Change}
-use Rattle.ab_norm.specs.declared.term_walks.Change.TheVariants.{Put, Fill}
+use Rattle.ab_norm.specs.declared.term_walks.Change.TheVariants.{Put}
 
 -- one more than the largest
 abbrev pub ids_bound : List TermId → ℕ
@@ -35,5 +35,4 @@ size_positive (arrow A B) = omega arith
 -- the size of the type of what is put in
 abbrev pub rank : Table → Change → ℕ
 rank types (Put a u) = size (type_of types a)
-rank types (Fill c a u) = size (type_of types a)
 rank types _ = 0

@@ -1,39 +1,33 @@
 -- The walk that makes terms: what it makes of a node from what it made of the parts, and what it keeps.
-use Rattle.std.proofs.Common.{◌≡◌, ◌⊎◌, inl, inr, ℕ, suc, ◌+◌, ◌≤◌, List, [], ◌∷◌, map, Option, None, Some, Bool, true, false, cond, not, ◌==◌, ◌&&◌, Decides, Result, Ok, Err, OnOk, refl, sym, ◌∙◌, ap, subst, add-one}
+use Rattle.std.proofs.Common.{◌≡◌, ◌⊎◌, inl, inr, ℕ, suc, ◌+◌, ◌≤◌, List, [], ◌∷◌, map, Option, None, Some, Bool, true, false, not, ◌==◌, Decides, Result, Ok, Err, OnOk, refl, sym, ◌∙◌, ap, subst, add-one}
 use Rattle.std.specs.List.{All}
 use Rattle.std.proofs.lemmas.Bool.Decides.{Decides-eqb}
-use Rattle.ab_term.specs.Types.{Ty, same_type}
+use Rattle.ab_term.specs.Types.{Ty}
 use Rattle.ab_term.specs.Terms as tree
 use Rattle.ab_term.specs.Terms.{lam, spine, Terms, no_terms, term, terms_of, Variable, Read}
 use Rattle.ab_term.specs.Names.{moved_by, rename_head, rename, rename_all, support}
 use Rattle.ab_term.specs.Substitution.{reduce, substitute, substitute_all, lower_head, put}
 use Rattle.ab_term.specs.Reach.{raise_head, raise, raise_all, reach}
 use Rattle.ab_term.proofs.Reaching.{raise-none, raise-more, raise-short, substitute_by-short}
-use Rattle.ab_term.specs.Sameness.{same_number}
-use Rattle.ab_term.specs.Variables.{variables, value_in, image, image_by, image_all_by, put_at, put_for}
-use Rattle.ab_term.proofs.Depends.{image_rigid}
-use Rattle.ab_term.proofs.Comparisons.{same_variable-itself}
+use Rattle.ab_term.specs.Variables.{image_by, image_all_by}
 use Rattle.ab_store.specs.ab_types.specs.Entries.{Table}
 use Rattle.ab_store.specs.ab_types.specs.Ids.{HoldsType, type_of}
 use Rattle.ab_store.specs.ab_types.specs.declared.ids.TypeId.{TypeId}
 use Rattle.ab_store.specs.declared.node.TermId.{TermId}
-use Rattle.ab_store.specs.declared.node.CellId.{CellId}
-use Rattle.ab_store.specs.declared.node.CellEntry.{CellEntry}
 use Rattle.ab_store.specs.declared.node.Head.{Head}
-use Rattle.ab_store.specs.declared.node.Head.TheVariants.{Const, Logic, Nominal, Cell, Index}
 use Rattle.ab_store.specs.declared.node.Node.{Node}
 use Rattle.ab_store.specs.declared.node.Node.TheVariants.{Lam, Spine}
-use Rattle.ab_store.specs.Trees.{Contents, Holds, tree_of, head_in, head_reading, node_tree, cell_of}
+use Rattle.ab_store.specs.Trees.{Contents, Holds, tree_of, head_in, head_reading, node_tree}
 use Rattle.ab_store.specs.Growth.{IsExtendedBy}
 use Rattle.ab_store.specs.Naming.{HeadIsTyped, NodeIsTyped, IsTypedBy}
 use Rattle.ab_norm.specs.declared.nominal.Swap.{Swap}
 use Rattle.ab_norm.specs.declared.term_walks.Change.{Change}
-use Rattle.ab_norm.specs.declared.term_walks.Change.TheVariants.{Raise, Put, Rename, Fill}
+use Rattle.ab_norm.specs.declared.term_walks.Change.TheVariants.{Raise, Put, Rename}
 use Rattle.ab_norm.specs.declared.memo.Memo.{Memo}
 use Rattle.ab_norm.specs.WalkMemory.{answer_of}
 use Rattle.ab_norm.specs.Nominals.{pairs_of}
 use Rattle.ab_norm.specs.NodeGrowth.{AddsTerms}
-use Rattle.ab_norm.specs.Changes.{filling, changed, head_changed, Fits, Suits, Remembers, AddsFor}
+use Rattle.ab_norm.specs.Changes.{changed, head_changed, Fits, Suits, Remembers, AddsFor}
 use Rattle.ab_store.proofs.Growing.{extended_itself, extended_on}
 use Rattle.ab_norm.proofs.Frame.{still_read_before}
 use Rattle.ab_norm.proofs.Renamed.{stays}
@@ -60,12 +54,9 @@ module _ (types : Table) (s : Contents) (c : Change) (k : ℕ) (t : Read) where
   pub stays_renamed : (table : List Swap) → c ≡ Rename table → support t ≡ [] → changed types s c k t ≡ t
   stays_renamed table is none = ap (λ c. changed types s c k t) is ∙ stays (moved_by (pairs_of types table)) t none
 
-  pub stays_filled : (d : CellId) (a : TypeId) (u : TermId) → c ≡ Fill d a u → variables t ≡ [] → changed types s c k t ≡ t
-  stays_filled d a u is none = ap (λ c. changed types s c k t) is ∙ image_rigid (value_in same_number (filling types s d a u)) t none
-
 -- the form of the walk
 
-map_twice : {X Y Z : Type 0} (f : Y → Z) (g : X → Y) (xs : List X) → map f (map g xs) ≡ map (λ x. f (g x)) xs
+pub map_twice : {X Y Z : Type 0} (f : Y → Z) (g : X → Y) (xs : List X) → map f (map g xs) ≡ map (λ x. f (g x)) xs
 map_twice f g [] = refl
 map_twice f g (x ∷ xs) = ap (λ l. f (g x) ∷ l) (map_twice f g xs)
 
@@ -81,7 +72,7 @@ renamed_all : (f : tree.Nominal → tree.Nominal) (rs : List Read) → rename_al
 renamed_all f [] = refl
 renamed_all f (r ∷ rs) = ap (term (rename f r)) (renamed_all f rs)
 
-filled_all : (f : Variable ℕ → Option Read) (rs : List Read) → image_all_by f (terms_of rs) ≡ terms_of (map (image_by f) rs)
+pub filled_all : (f : Variable ℕ → Option Read) (rs : List Read) → image_all_by f (terms_of rs) ≡ terms_of (map (image_by f) rs)
 filled_all f [] = refl
 filled_all f (r ∷ rs) = ap (term (image_by f r)) (filled_all f rs)
 
@@ -92,13 +83,11 @@ module _ (types : Table) (s : Contents) where
       ap (λ w. lam A x (substitute (type_of types a) w (suc k) t)) (sym (raise-more (tree_of types s u) k 0))
       ∙ ap (λ j. lam A x (substitute (type_of types a) (raise j 0 (tree_of types s u)) j t)) (sym (add-one k))
   changed_lam (Rename table) k A x t = refl
-  changed_lam (Fill d a u) k A x t = refl
 
   changed_spine : (c : Change) (k : ℕ) (h : tree.Head ℕ) (rs : List Read) → changed types s c k (spine h (terms_of rs)) ≡ head_changed types s c k h (terms_of (map (changed types s c k) rs))
   changed_spine (Raise by) k h rs = ap (spine (raise_head by k h)) (raised_all by k rs)
   changed_spine (Put a u) k h rs = ap (put (reduce (type_of types a)) (raise k 0 (tree_of types s u)) (lower_head k h)) (substituted_all (type_of types a) (raise k 0 (tree_of types s u)) k rs)
   changed_spine (Rename table) k h rs = ap (spine (rename_head (moved_by (pairs_of types table)) h)) (renamed_all (moved_by (pairs_of types table)) rs)
-  changed_spine (Fill d a u) k h rs = ap (put_at (value_in same_number (filling types s d a u)) h) (filled_all (value_in same_number (filling types s d a u)) rs)
 
 -- a store that has grown
 
@@ -107,19 +96,16 @@ module _ (types : Table) (s0 s1 : Contents) (more : IsExtendedBy s0 s1) where
   fits_on (Raise by) f = tt
   fits_on (Put a u) f = (f.0, more.ids u f.1)
   fits_on (Rename table) f = tt
-  fits_on (Fill d a u) f = (ap (λ (e : CellEntry). e.ty) (more.cells d f.1) ∙ f.0, more.cell_ids d f.1, f.2, more.ids u f.3)
 
   pub changed_on : (c : Change) (k : ℕ) (t : Read) → Fits types s0 c → changed types s1 c k t ≡ changed types s0 c k t
   changed_on (Raise by) k t f = refl
   changed_on (Put a u) k t f = ap (λ w. substitute (type_of types a) (raise k 0 w) k t) (more.trees types u f.1)
   changed_on (Rename table) k t f = refl
-  changed_on (Fill d a u) k t f = ap (λ w. image same_number ((record { name = d.0; type = type_of types a }, w) ∷ []) t) (more.trees types u f.3)
 
   pub head_changed_on : (c : Change) (k : ℕ) (h : tree.Head ℕ) (ts : Terms ℕ (List ℕ)) → Fits types s0 c → head_changed types s1 c k h ts ≡ head_changed types s0 c k h ts
   head_changed_on (Raise by) k h ts f = refl
   head_changed_on (Put a u) k h ts f = ap (λ w. put (reduce (type_of types a)) (raise k 0 w) (lower_head k h) ts) (more.trees types u f.1)
   head_changed_on (Rename table) k h ts f = refl
-  head_changed_on (Fill d a u) k h ts f = ap (λ w. put_at (value_in same_number ((record { name = d.0; type = type_of types a }, w) ∷ [])) h ts) (more.trees types u f.3)
 
   -- what is made of a term is that of it in the grown store
   pub changed_there : (c : Change) (k : ℕ) (t r : TermId) → Fits types s0 c → Holds s0 t
@@ -226,30 +212,3 @@ module _ (types : Table) (s0 s1 s2 : Contents) (c : Change) (k : ℕ) where
       ∙ ap (λ l. reduce (type_of types a) (raise k 0 (tree_of types s0 u)) (terms_of l)) (ap (map (tree_of types s1)) same ∙ still_read_before types s0 s1 args more held)
       ∙ ap (λ o. put (reduce (type_of types a)) (raise k 0 (tree_of types s0 u)) o (terms_of (map (tree_of types s0) args))) name
       ∙ sym (ap (λ d. head_changed types s0 d k (head_reading types s0 h) (terms_of (map (tree_of types s0) args))) is)
-
--- a term for a cell: another head stays, and the cell gives way
-module _ (types : Table) (s : Contents) (c : Change) (k : ℕ) (d : CellId) (a : TypeId) (u : TermId) (is : c ≡ Fill d a u) where
-  abbrev values : Variable ℕ → Option Read
-  values = value_in same_number (filling types s d a u)
-
-  other_name : (x : Variable ℕ) (ts : Terms ℕ (List ℕ)) (b : Bool) → (d.0 == x.name) ≡ b → (d.0 ≡ x.name → ⊥) → put_at values (tree.variable x) ts ≡ spine (tree.variable x) ts
-  other_name x ts true e apart = absurd (apart ((Decides-eqb d.0 x.name).0 e))
-  other_name x ts false e apart = ap (λ b. put_for x (cond (b && same_type (type_of types a) x.type) (Some (tree_of types s u)) None) ts) e
-
-  stays_head : (h : Head) (ts : Terms ℕ (List ℕ)) → (h ≡ Cell d → ⊥) → put_at values (head_reading types s h) ts ≡ spine (head_reading types s h) ts
-  stays_head (Const i) ts apart = refl
-  stays_head (Logic l) ts apart = refl
-  stays_head (Nominal n b) ts apart = refl
-  stays_head (Index i) ts apart = refl
-  stays_head (Cell e) ts apart = other_name _ ts (d.0 == e.0) refl (λ same. apart (ap (λ n. Cell (record { 0 = n })) (sym same)))
-
-  pub filled_other : (h : Head) (ts : Terms ℕ (List ℕ)) → (h ≡ Cell d → ⊥) → head_changed types s c k (head_reading types s h) ts ≡ spine (head_reading types s h) ts
-  filled_other h ts apart = ap (λ e. head_changed types s e k (head_reading types s h) ts) is ∙ stays_head h ts apart
-
-  pub filled_here : (h : Head) (ts : Terms ℕ (List ℕ)) → h ≡ Cell d → (cell_of s d).ty ≡ a → reduce (type_of types a) (tree_of types s u) ts ≡ head_changed types s c k (head_reading types s h) ts
-  filled_here h ts here ty =
-      let x : Variable ℕ = record { name = d.0; type = type_of types a } in
-      sym (ap (λ b. put_for x (cond b (Some (tree_of types s u)) None) ts) (same_variable-itself same_number x ((Decides-eqb d.0 d.0).1 refl)))
-      ∙ ap (λ b. put_at values (tree.variable (record { name = d.0; type = type_of types b })) ts) (sym ty)
-      ∙ ap (λ g. put_at values (head_reading types s g) ts) (sym here)
-      ∙ sym (ap (λ e. head_changed types s e k (head_reading types s h) ts) is)

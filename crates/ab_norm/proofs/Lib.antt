@@ -19,4 +19,5 @@ pub mod Read
 pub mod Clear
 pub mod GivenHeads
 pub mod Resolved
+pub mod PutIn
 pub mod Copied

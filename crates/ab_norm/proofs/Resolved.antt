@@ -1,9 +1,9 @@
 -- Terms in which no bound cell stands: part by part, and what is read.
-use Rattle.std.proofs.Common.{◌≡◌, ◌≢◌, ◌⊎◌, inl, inr, ◌↔◌, ℕ, zero, suc, ◌+◌, ◌<◌, ◌≤◌, List, [], ◌∷◌, ◌++◌, map, take, drop, length, get_or, Bool, true, false, cond, ◌==◌, None, Some, refl, sym, ◌∙◌, ap, subst, arith}
+use Rattle.std.proofs.Common.{◌≡◌, ◌≢◌, ◌⊎◌, inl, inr, ◌↔◌, ℕ, ◌+◌, ◌<◌, List, [], ◌∷◌, ◌++◌, map, take, length, get_or, Bool, true, false, cond, ◌==◌, None, Some, refl, sym, ◌∙◌, ap, subst, arith}
 use Rattle.std.specs.Prelude.{All, AllPairs, Contains}
 use Rattle.std.proofs.lemmas.Bool.Decides.{Decides-eqb}
-use Rattle.std.proofs.lemmas.List.{map-append, get_or-map, length-map, drop_more, drop_all, take_more}
-use Rattle.std.proofs.lemmas.List.Elements.{All-nil, All-cons, All-head, All-tail, All-append, All-map, All-push, All-contains, All-weaker}
+use Rattle.std.proofs.lemmas.List.{map-append, take_all, take_more}
+use Rattle.std.proofs.lemmas.List.Elements.{All-nil, All-cons, All-head, All-tail, All-append, All-map, All-push, All-take, All-contains, All-weaker}
 use Rattle.ab_term.specs.Terms.{Variable, terms_of, Read}
 use Rattle.ab_term.specs.Sameness.{same_number}
 use Rattle.ab_term.specs.Variables.{variables, variables_of_head, variables_of_all, value_in, image, one_by_one}
@@ -21,11 +21,12 @@ use Rattle.ab_store.specs.declared.node.Head.TheVariants.{Const, Logic, Nominal,
 use Rattle.ab_store.specs.declared.node.Node.{Node}
 use Rattle.ab_store.specs.declared.node.Node.TheVariants.{Lam, Spine}
 use Rattle.ab_store.specs.declared.node.Binding.{Binding}
-use Rattle.ab_store.specs.Trees.{Contents, Holds, HoldsCell, cell_in, cell_of, head_in, tree_of, node_tree}
+use Rattle.ab_store.specs.Trees.{Contents, Holds, HoldsCell, cell_in, head_in, tree_of, node_tree}
 use Rattle.ab_store.specs.Reading.{bound_in, cell_variable, pairs, reading}
 use Rattle.ab_store.specs.Bindings.{IsUnbound, IsResolved, AreInOrder}
 use Rattle.ab_store.specs.Growth.{IsExtendedBy}
 use Rattle.ab_store.proofs.Cells.{numbers, IsCell, stands, variables_are_cells}
+use Rattle.ab_store.proofs.Fronts.{AllPairs-front, front_take}
 use Rattle.ab_store.proofs.Putting.{Pair, pair}
 use Rattle.ab_norm.specs.declared.memo.Seen.{Seen}
 use Rattle.ab_norm.specs.WalkMemory.{has_been}
@@ -176,7 +177,7 @@ module _ (types : Table) (C : List CellEntry) where
       (all_gone ps next (All-tail (λ p. IsCell types C p.0) p ps c) (All-tail (λ p. AreCells p.1) p ps v) (All-tail (λ p. Misses p.1 p) p ps a) parts.1
       (cells_kept p t cells (All-head (λ p. AreCells p.1) p ps v)))
 
-none_bound : (bs : List Binding) (n : ℕ) → All (λ b. b.cell.0 ≢ n) bs → bound_in bs (record { 0 = n }) ≡ None
+pub none_bound : (bs : List Binding) (n : ℕ) → All (λ b. b.cell.0 ≢ n) bs → bound_in bs (record { 0 = n }) ≡ None
 none_bound [] n all = refl
 none_bound (b ∷ bs) n all = go (none_bound bs n (All-tail (λ (c : Binding). c.cell.0 ≢ n) b bs all)) (b.cell.0 == n) refl
   where
@@ -184,20 +185,29 @@ none_bound (b ∷ bs) n all = go (none_bound bs n (All-tail (λ (c : Binding). c
     go rest true e = absurd (All-head (λ (c : Binding). c.cell.0 ≢ n) b bs all ((Decides-eqb b.cell.0 n).0 e))
     go rest false e = ap (λ t. cond t (Some b.term) (bound_in bs (record { 0 = n }))) e ∙ rest
 
-all_from_map : {X Y : Type 0} (f : X → Y) (P : Y → Type 0) (xs : List X) → All P (map f xs) → All (λ x. P (f x)) xs
+pub all_from_map : {X Y : Type 0} (f : X → Y) (P : Y → Type 0) (xs : List X) → All P (map f xs) → All (λ x. P (f x)) xs
 all_from_map f P [] all = All-nil (λ x. P (f x))
 all_from_map f P (x ∷ xs) all = All-cons (λ x. P (f x)) x xs (All-head P (f x) (map f xs) all) (all_from_map f P xs (All-tail P (f x) (map f xs) all))
 
+-- the first pairs, put in one after another
+pub first_gone : (types : Table) (s : Contents) (k : ℕ) (id : TermId) → AreInOrder s
+    → All (Misses (one_by_one same_number (take k (pairs types s)) (tree_of types s id))) (take k (pairs types s))
+first_gone types s k id order =
+    let ps = pairs types s in
+    let cells : (t : TermId) → AreCells types s.cells (tree_of types s t) = λ t y m. All-contains (IsCell types s.cells) (variables (tree_of types s t)) y (variables_are_cells types s t) m in
+    all_gone types s.cells (take k ps) (tree_of types s id)
+    (All-take (λ (p : Pair). IsCell types s.cells p.0) k ps (All-map (λ (p : Pair). IsCell types s.cells p.0) (pair types s) s.bindings (λ i d l. refl)))
+    (All-take (λ (p : Pair). AreCells types s.cells p.1) k ps (All-map (λ (p : Pair). AreCells types s.cells p.1) (pair types s) s.bindings (λ i d l. cells (get_or s.bindings i d).term)))
+    (All-take (λ (p : Pair). Misses p.1 p) k ps (All-map (λ (p : Pair). Misses p.1 p) (pair types s) s.bindings (λ i d l m. order.apart i d l (stands types s (get_or s.bindings i d).cell (get_or s.bindings i d).term m))))
+    (AllPairs-front (λ (p q : Pair). Misses q.1 p) (take k ps) ps (front_take k (take k ps) ps refl)
+    (pairs_map (pair types s) (λ (p q : Pair). Misses q.1 p) s.bindings (λ i j d l m c. order.later i j d l m (stands types s (get_or s.bindings i d).cell (get_or s.bindings j d).term c))))
+    (cells id)
+
 pub reading_clear : (types : Table) (s0 s1 : Contents) (id r : TermId) → s1.bindings ≡ s0.bindings → AreInOrder s0 → tree_of types s1 r ≡ reading types s0 id → IsResolved s1 r
 reading_clear types s0 s1 id r same order e =
-    let cells : (t : TermId) → AreCells types s0.cells (tree_of types s0 t) = λ t y m. All-contains (IsCell types s0.cells) (variables (tree_of types s0 t)) y (variables_are_cells types s0 t) m in
-    let misses : All (Misses (reading types s0 id)) (pairs types s0) =
-    all_gone types s0.cells (pairs types s0) (tree_of types s0 id)
-    (All-map (λ (p : Pair). IsCell types s0.cells p.0) (pair types s0) s0.bindings (λ i d l. refl))
-    (All-map (λ (p : Pair). AreCells types s0.cells p.1) (pair types s0) s0.bindings (λ i d l. cells (get_or s0.bindings i d).term))
-    (All-map (λ (p : Pair). Misses p.1 p) (pair types s0) s0.bindings (λ i d l m. order.apart i d l (stands types s0 (get_or s0.bindings i d).cell (get_or s0.bindings i d).term m)))
-    (pairs_map (pair types s0) (λ (p q : Pair). Misses q.1 p) s0.bindings (λ i j d l m c. order.later i j d l m (stands types s0 (get_or s0.bindings i d).cell (get_or s0.bindings j d).term c)))
-    (cells id) in
+    let ps = pairs types s0 in
+    let misses : All (Misses (reading types s0 id)) ps =
+    subst (λ (qs : List Pair). All (Misses (one_by_one same_number qs (tree_of types s0 id))) qs) (take_all (length ps) ps (omega arith)) (first_gone types s0 (length ps) id order) in
     resolved_by types s1 r (λ n m.
     ap (λ bs. bound_in bs (record { 0 = n })) same
     ∙ none_bound s0.bindings n
@@ -213,26 +223,6 @@ module _ (types : Table) (s0 s1 : Contents) (more : IsExtendedBy s0 s1) where
       ap (λ (e : CellEntry). (record { name = b.cell.0; type = type_of types e.ty }, tree_of types s1 b.term)) (more.cells b.cell hc)
       ∙ ap (λ t. (cell_variable types s0 b.cell, t)) (more.trees types b.term ht)
 
-  pub fill_step : (s2 : Contents) (here next : TermId) (i : ℕ) (d : Binding) (answer : Read) → AreInOrder s0 → i < length s0.bindings
-      → tree_of types s2 next ≡ image same_number (pair types s1 (get_or s1.bindings i d) ∷ []) (tree_of types s1 here)
-      → one_by_one same_number (drop i (pairs types s0)) (tree_of types s1 here) ≡ answer
-      → one_by_one same_number (drop (i + 1) (pairs types s0)) (tree_of types s2 next) ≡ answer
-  fill_step s2 here next i d answer order l made so_far =
-      let b = get_or s0.bindings i d in
-      let ps = pairs types s0 in
-      let within : i < length ps = omega (arith, length-map s0.bindings (pair types s0)) in
-      let held = order.held i d l in
-      let same : pair types s1 (get_or s1.bindings i d) ≡ pair types s0 b = ap (λ bs. pair types s1 (get_or bs i d)) more.bindings ∙ pair_on b held.0 held.1 in
-      let first : drop i ps ≡ pair types s0 b ∷ drop (i + 1) ps = drop_more ps i (pair types s0 d) within ∙ ap (λ p. p ∷ drop (i + 1) ps) (get_or-map (pair types s0) s0.bindings i d (pair types s0 d) l) in
-      ap (one_by_one same_number (drop (i + 1) ps)) (made ∙ ap (λ p. image same_number (p ∷ []) (tree_of types s1 here)) same)
-      ∙ sym (ap (λ qs. one_by_one same_number qs (tree_of types s1 here)) first)
-      ∙ so_far
-
-pub fill_done : (types : Table) (s0 s1 : Contents) (here : TermId) (i : ℕ) (answer : Read) → length s0.bindings ≤ i
-    → one_by_one same_number (drop i (pairs types s0)) (tree_of types s1 here) ≡ answer → tree_of types s1 here ≡ answer
-fill_done types s0 s1 here i answer l so_far =
-    sym (ap (λ qs. one_by_one same_number qs (tree_of types s1 here)) (drop_all i (pairs types s0) (omega (arith, l, length-map s0.bindings (pair types s0))))) ∙ so_far
-
 -- one more of a list
 pub one_more_clear : {X : Type 0} (P : X → Type 0) (xs : List X) (i : ℕ) (d : X) → i < length xs → All P (take i xs) → P (get_or xs i d) → All P (take (i + 1) xs)
 one_more_clear P xs i d l front here = subst (All P) (sym (take_more xs i d l)) (All-push P (take i xs) (get_or xs i d) front here)
@@ -246,18 +236,3 @@ begins_free s id (Spine h ts) reads clear = ((resolved_spine s id (Spine h ts) h
 pub names_below : (i j c : ℕ) (n : Node) → i < j → NodeNames i c n → NodeNames j c n
 names_below i j c (Lam a x b) l names = omega (arith, l, names)
 names_below i j c (Spine h ts) l names = (names.0, All-weaker (λ (t : TermId). t.0 < i) (λ t. t.0 < j) (λ t m. omega (arith, l, m)) ts names.1)
-
-any_default : {X : Type 0} (xs : List X) (i : ℕ) (d e : X) → i < length xs → get_or xs i d ≡ get_or xs i e
-any_default [] i d e l = absurd (omega arith)
-any_default (x ∷ xs) zero d e l = refl
-any_default (x ∷ xs) (suc i) d e l = any_default xs i d e (omega arith)
-
--- the binding at a place, put in
-pub filled_pair : (types : Table) (s : Contents) (bs : List Binding) (i : ℕ) (d e : Binding) (ty : TypeId) (t r : Read)
-    → bs ≡ s.bindings → i < length s.bindings → ty ≡ (cell_of s (get_or bs i d).cell).ty
-    → r ≡ image same_number ((record { name = (get_or bs i d).cell.0; type = type_of types ty }, tree_of types s (get_or bs i d).term) ∷ []) t
-    → r ≡ image same_number ((cell_variable types s (get_or s.bindings i e).cell, tree_of types s (get_or s.bindings i e).term) ∷ []) t
-filled_pair types s bs i d e ty t r same l is made =
-    made
-    ∙ ap (λ a. image same_number ((record { name = (get_or bs i d).cell.0; type = type_of types a }, tree_of types s (get_or bs i d).term) ∷ []) t) is
-    ∙ ap (λ (b : Binding). image same_number (pair types s b ∷ []) t) (ap (λ l. get_or l i d) same ∙ any_default s.bindings i d e l)

@@ -1,53 +1,42 @@
 -- What walks that make terms do: one form of walk, which differs in what becomes of a head. Only private contracts
 -- speak of it; what a caller sees are the operations themselves.
-use Rattle.std.specs.Prelude.{◌≡◌, ℕ, List, [], ◌∷◌, Some}
+use Rattle.std.specs.Prelude.{◌≡◌, ℕ, List, Some}
 use Rattle.ab_term.specs.Terms as tree
 use Rattle.ab_term.specs.Terms.{Terms, spine, Read}
 use Rattle.ab_term.specs.Substitution.{lower_head, put, reduce, substitute}
 use Rattle.ab_term.specs.Reach.{raise_head, raise}
 use Rattle.ab_term.specs.Names.{moved_by, rename_head, rename}
-use Rattle.ab_term.specs.Sameness.{same_number}
-use Rattle.ab_term.specs.Variables.{Substitution, value_in, image, put_at}
 use Rattle.ab_store.specs.ab_types.specs.Entries.{Table}
-use Rattle.ab_store.specs.ab_types.specs.declared.ids.TypeId.{TypeId}
 use Rattle.ab_store.specs.ab_types.specs.Ids.{HoldsType, type_of}
 use Rattle.ab_store.specs.ab_types.specs.Sound.{IsTable}
 use Rattle.ab_store.specs.declared.node.TermId.{TermId}
-use Rattle.ab_store.specs.declared.node.CellId.{CellId}
-use Rattle.ab_store.specs.Trees.{Contents, Holds, HoldsCell, cell_of, tree_of}
+use Rattle.ab_store.specs.Trees.{Contents, Holds, tree_of}
 use Rattle.ab_store.specs.Growth.{IsExtendedBy}
 use Rattle.ab_store.specs.Naming.{IsTypedBy}
 use Rattle.ab_norm.specs.declared.term_walks.Change.{Change}
-use Rattle.ab_norm.specs.declared.term_walks.Change.TheVariants.{Raise, Put, Rename, Fill}
+use Rattle.ab_norm.specs.declared.term_walks.Change.TheVariants.{Raise, Put, Rename}
 use Rattle.ab_norm.specs.declared.memo.Memo.{Memo}
 use Rattle.ab_norm.specs.WalkMemory.{answer_of}
 use Rattle.ab_norm.specs.Nominals.{pairs_of, HoldsPairs}
 
 module _ (types : Table) (store : Contents) where
-  -- a term for a cell of the type
-  abbrev pub filling : CellId → TypeId → TermId → Substitution ℕ (List ℕ)
-  filling c a u = (record { name = c.0; type = type_of types a }, tree_of types store u) ∷ []
-
   -- what the change makes of a term under that many binders
   abbrev pub changed : Change → ℕ → Read → Read
   changed (Raise by) depth t = raise by depth t
   changed (Put a u) depth t = substitute (type_of types a) (raise depth 0 (tree_of types store u)) depth t
   changed (Rename table) depth t = rename (moved_by (pairs_of types table)) t
-  changed (Fill c a u) depth t = image same_number (filling c a u) t
 
   -- what it makes of a head there, given arguments that are changed already
   abbrev pub head_changed : Change → ℕ → tree.Head ℕ → Terms ℕ (List ℕ) → Read
   head_changed (Raise by) depth h ts = spine (raise_head by depth h) ts
   head_changed (Put a u) depth h ts = put (reduce (type_of types a)) (raise depth 0 (tree_of types store u)) (lower_head depth h) ts
   head_changed (Rename table) depth h ts = spine (rename_head (moved_by (pairs_of types table)) h) ts
-  head_changed (Fill c a u) depth h ts = put_at (value_in same_number (filling c a u)) h ts
 
-  -- what is put in is there, and a cell has the type
+  -- what is put in is there
   abbrev pub Fits : Change → Type 0
   Fits (Raise by) = Unit {0}
   Fits (Put a u) = HoldsType types a × Holds store u
   Fits (Rename table) = Unit {0}
-  Fits (Fill c a u) = ((cell_of store c).ty ≡ a) × HoldsCell store c × HoldsType types a × Holds store u
 
   -- each answer that is kept is the change of its term
   abbrev pub Remembers : Change → Memo → Type 0

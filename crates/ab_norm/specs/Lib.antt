@@ -11,6 +11,7 @@ pub mod GatheredNames
 pub mod WalkMemory
 pub mod Changes
 pub mod TypedArguments
+pub mod BinderNames
 pub mod Heads
 pub mod ResolvedTerms
 pub mod OtherStores

@@ -1,20 +1,41 @@
-//! Terms carried over into a store of their own, where the bindings of their cells are put in.
-ghost use Rattle.std.specs.Prelude.{◌≡◌, [], ◌∷◌, map, IfOk, OnOk, All};
-ghost use Rattle.ab_term.specs.Sameness.{same_number};
-ghost use Rattle.ab_term.specs.Variables.{image};
+//! Terms carried over into a store of their own, where the bindings of their cells are put in: first the bindings are
+//! carried over, and the walk of `bindings_put_in` does the rest there.
+ghost use Rattle.std.specs.Prelude.{◌≡◌, map, IfOk, OnOk, All};
 ghost use Rattle.ab_store.specs.ab_types.specs.Sound.{IsTable};
-ghost use Rattle.ab_store.specs.Reading.{Holds, HoldsCell, tree_of, reading, cell_variable};
+ghost use Rattle.ab_store.specs.Reading.{Holds, tree_of, reading};
 ghost use Rattle.ab_store.specs.Naming.{IsTypedBy};
 ghost use Rattle.ab_norm.specs.NodeGrowth.{AddsTypedTerms};
-ghost use Rattle.ab_norm.specs.OtherStores.{Carries};
+ghost use Rattle.ab_norm.specs.OtherStores.{Carries, HasSameBindings};
 
 use crate::memo::Memo;
-use crate::term_walks::{Change, walk};
+use crate::resolved_copies::fill;
 use ab_store::types::{Steps, TypeTable};
-use ab_store::{Binding, Node, Store, TermId};
+use ab_store::{Node, Store, TermId};
 use std::alloc::{AllocError, Global};
 
-/// The term with its bindings put in, in the other store, which has the same cells.
+/// A store with the same cells, which are bound to the same terms, and with no other term.
+pub(crate) fn with_same_bindings(
+    alloc: Global,
+    types: &TypeTable,
+    store: &Store,
+) -> Result<Store, AllocError>
+    requires store { IsTypedBy types.now store.now }
+    ensures same { IfOk result (HasSameBindings types.now store.now) }
+    ensures typed { IfOk result (IsTypedBy types.now) }
+{
+    let mut apart = store.with_same_cells(alloc)?;
+    let mut memo = Memo::new(alloc);
+    let mut steps = Steps::<()>::new();
+    let bindings = store.bindings();
+    apart.reserve(bindings.len())?;
+    for binding in bindings {
+        let term = carry(alloc, types, store, &mut apart, binding.term, &mut memo)?;
+        apart.bind(binding.cell, term, &mut steps);
+    }
+    Ok(apart)
+}
+
+/// The term with its bindings put in, in the other store, which has the same bindings.
 pub(crate) fn carry_resolved(
     alloc: Global,
     types: &TypeTable,
@@ -25,64 +46,16 @@ pub(crate) fn carry_resolved(
     requires types { IsTable types.now }
     requires store { IsTypedBy types.now store.now }
     requires apart { IsTypedBy types.now apart.old }
-    requires cells { apart.old.cells ≡ store.now.cells }
+    requires same { HasSameBindings types.now store.now apart.old }
     requires id { Holds store.now id }
     ensures held { IfOk result (λ r. Holds apart.new r) }
     ensures tree { IfOk result (λ r. tree_of types.now apart.new r ≡ reading types.now store.now id) }
     ensures adds { AddsTypedTerms types.now apart.old apart.new }
 {
     let mut memo = Memo::new(alloc);
-    let mut here = carry(alloc, types, store, apart, id, &mut memo)?;
-    let bindings = store.bindings();
-    let count = bindings.len();
-    for i in 0..count {
-        here = put_in(alloc, types, store, apart, bindings[i], here, &mut memo)?;
-    }
-    Ok(here)
-}
-
-/// The term of the other store, with the binding put in.
-fn put_in(
-    alloc: Global,
-    types: &TypeTable,
-    store: &Store,
-    apart: &mut Store,
-    binding: Binding,
-    here: TermId,
-    memo: &mut Memo,
-) -> Result<TermId, AllocError>
-    requires types { IsTable types.now }
-    requires store { IsTypedBy types.now store.now }
-    requires apart { IsTypedBy types.now apart.old }
-    requires cells { apart.old.cells ≡ store.now.cells }
-    requires cell { HoldsCell store.now binding.cell }
-    requires term { Holds store.now binding.term }
-    requires here { Holds apart.old here }
-    requires memo { Carries types.now store.now apart.old memo.old }
-    ensures held { IfOk result (λ r. Holds apart.new r) }
-    ensures tree { IfOk result (λ r.
-        tree_of types.now apart.new r
-        ≡ image same_number ((cell_variable types.now store.now binding.cell, tree_of types.now store.now binding.term) ∷ []) (tree_of types.now apart.old here)) }
-    ensures memo { OnOk result (Carries types.now store.now apart.new memo.new) }
-    ensures adds { AddsTypedTerms types.now apart.old apart.new }
-{
-    if !apart.has_cells(here) {
-        return Ok(here);
-    }
-    let term = carry(alloc, types, store, apart, binding.term, memo)?;
-    let change = Change::Fill(binding.cell, store.cell_type(binding.cell), term);
-    let mut walked = Memo::new(alloc);
     let mut steps = Steps::<()>::new();
-    walk(
-        alloc,
-        types,
-        apart,
-        &change,
-        0,
-        here,
-        &mut walked,
-        &mut steps,
-    )
+    let here = carry(alloc, types, store, apart, id, &mut memo)?;
+    fill(alloc, types, apart, here, &mut steps)
 }
 
 /// The term, as it is, in the other store.

@@ -9,7 +9,7 @@ ghost use Rattle.ab_store.specs.Reading.{reading};
 ghost use Rattle.ab_store.specs.Naming.{IsTypedBy};
 ghost use Rattle.ab_norm.specs.NameMatches.{AllAgree};
 
-use crate::carried_terms::carry_resolved;
+use crate::carried_terms::{carry_resolved, with_same_bindings};
 use crate::memo::Agreed;
 use crate::resolved_copies::are_resolved;
 use ab_store::types::laws::has_unique_ids;
@@ -76,7 +76,7 @@ fn equal_apart(
     requires b { Holds store.now b }
     ensures { IfOk result (λ same. (same ≡ true) ↔ EqualPastHints (reading types.now store.now a) (reading types.now store.now b)) }
 {
-    let mut apart = store.with_same_cells(alloc)?;
+    let mut apart = with_same_bindings(alloc, types, store)?;
     let left = carry_resolved(alloc, types, store, &mut apart, a)?;
     let right = carry_resolved(alloc, types, store, &mut apart, b)?;
     let mut agreed = Agreed::new(alloc);

@@ -11,7 +11,7 @@ ghost use Rattle.ab_store.specs.Naming.{HeadIsTyped, IsTypedBy};
 ghost use Rattle.ab_norm.specs.Nominals.{nominal_of, pairs_of, HoldsNominal, HoldsPairs};
 ghost use Rattle.ab_norm.specs.NameMatches.{IsOneToOne, Found, AllMatch};
 
-use crate::carried_terms::carry_resolved;
+use crate::carried_terms::{carry_resolved, with_same_bindings};
 use crate::equality::{is_same_head, is_same_term, is_same_type};
 use crate::memo::Agreed;
 use crate::nominal::{Nominal, Permutation, Swap, Swaps};
@@ -280,7 +280,7 @@ pub fn equal_up_to_names(
     if are_resolved(alloc, store, a, b)? {
         return permutation(alloc, types, store, a, b);
     }
-    let mut apart = store.with_same_cells(alloc)?;
+    let mut apart = with_same_bindings(alloc, types, store)?;
     let left = carry_resolved(alloc, types, store, &mut apart, a)?;
     let right = carry_resolved(alloc, types, store, &mut apart, b)?;
     permutation(alloc, types, &apart, left, right)

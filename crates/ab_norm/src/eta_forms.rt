@@ -1,12 +1,11 @@
 //! Eta-long forms of heads.
-ghost use Rattle.std.specs.Prelude.{◌≡◌, List, map, IfOk, All, codes, Some};
+ghost use Rattle.std.specs.Prelude.{◌≡◌, ◌++◌, List, map, IfOk, All, codes, Some};
 ghost use Rattle.ab_term.specs.Types.{Ty};
-ghost use Rattle.ab_term.specs.Terms.{lam, terms_of, with_last, no_terms, index};
+ghost use Rattle.ab_term.specs.Terms.{terms_of};
 ghost use Rattle.ab_term.specs.Typing.{head_type};
-ghost use Rattle.ab_term.specs.Substitution.{shift_head, shift_all};
 ghost use Rattle.ab_term.specs.Expansion.{expansion, expansion_of};
 ghost use Rattle.ab_term.specs.Translation.{EqualPastHints};
-ghost use Rattle.ab_store.specs.ab_types.specs.Entries.{signature};
+ghost use Rattle.ab_store.specs.ab_types.specs.Entries.{Table, signature};
 ghost use Rattle.ab_store.specs.ab_types.specs.Ids.{HoldsType, type_of};
 ghost use Rattle.ab_store.specs.ab_types.specs.Sound.{IsTable};
 ghost use Rattle.ab_store.specs.Trees.{Holds, head_reading, tree_of};
@@ -19,6 +18,7 @@ ghost use Rattle.ab_store.specs.Naming.{HoldsHead, HeadIsTyped, IsTypedBy, IsTer
 ghost use Rattle.ab_norm.specs.NodeGrowth.{AddsTypedTerms};
 ghost use Rattle.ab_norm.specs.Heads.{IsFree};
 ghost use Rattle.ab_norm.specs.TypedArguments.{AreTaken};
+ghost use Rattle.ab_norm.specs.BinderNames as binder;
 
 use crate::indices::raise_head;
 use crate::term_walks::lift_all;
@@ -91,7 +91,43 @@ pub fn eta_given(
     expand(alloc, types, store, left, head, args)
 }
 
-/// The head with the arguments, as a term of the type that is left.
+/// The types of the arguments that the type takes, the first of them first.
+fn domains(alloc: Global, types: &TypeTable, ty: TypeId) -> Result<Vec<TypeId>, AllocError>
+    requires ty { HoldsType types.now ty }
+    ensures held { IfOk result (λ list. All (HoldsType types.now) list.items) }
+    ensures reads { IfOk result (λ list. map (type_of types.now) list.items ≡ binder.domains (type_of types.now ty)) }
+{
+    let mut list = Vec::new(alloc);
+    let mut left = ty;
+    while let TypeView::Arrow(from, to) = types.view(left) {
+        list.push(from)?;
+        left = to;
+    }
+    Ok(list)
+}
+
+/// The term under binders of these types, the first outermost. They have the hint `x`.
+fn put_under(
+    alloc: Global,
+    store: &mut Store,
+    mut binders: Vec<TypeId>,
+    body: TermId,
+) -> Result<TermId, AllocError>
+    requires body { Holds store.old body }
+    ensures held { IfOk result (λ r. Holds store.new r) }
+    ensures reads { IfOk result (λ r. (types : Table) →
+        tree_of types store.new r ≡ binder.under (codes "x") (map (type_of types) binders.items) (tree_of types store.old body)) }
+    ensures adds { (types : Table) → IsTypedBy types store.old → All (HoldsType types) binders.items → AddsTypedTerms types store.old store.new }
+{
+    let mut here = body;
+    while let Some(ty) = binders.pop() {
+        here = store.lam(ty, Name::from_text(alloc, "x")?, here)?;
+    }
+    Ok(here)
+}
+
+/// The head with the arguments, as a term of the type that is left. It is made at once under all the binders that this
+/// takes, so that what was given is lifted once.
 #[cycle(expanded)]
 fn expand(
     alloc: Global,
@@ -113,38 +149,41 @@ fn expand(
         ≡ expansion_of (codes "x") (type_of types.now ty) (head_reading types.now store.old head) (terms_of (map (tree_of types.now store.old) args.items))) }
     ensures adds { AddsTypedTerms types.now store.old store.new }
 {
-    match types.view(ty) {
-        TypeView::Base(_) => store.spine(head, args),
-        TypeView::Arrow(from, to) => {
-            let given = widen(alloc, types, store, from, args)?;
-            let body = expand(alloc, types, store, to, raise_head(1, 0, head)?, given)?;
-            store.lam(from, Name::from_text(alloc, "x")?, body)
-        }
-    }
+    let binders = domains(alloc, types, ty)?;
+    let count = binders.len();
+    let inner = raise_head(count, 0, head)?;
+    let mut steps = Steps::<()>::new();
+    let lifted = lift_all(alloc, types, store, count, &args, &mut steps)?;
+    let given = give_names(alloc, types, store, &binders, lifted)?;
+    let body = store.spine(inner, given)?;
+    put_under(alloc, store, binders, body)
 }
 
-/// The arguments under one binder more, of the type, with its name behind them.
+/// The arguments, and behind them the names of binders of these types, as they are called under all of them.
 #[cycle(expanded)]
-fn widen(
+fn give_names(
     alloc: Global,
     types: &TypeTable,
     store: &mut Store,
-    from: TypeId,
+    binders: &[TypeId],
     args: Vec<TermId>,
 ) -> Result<Vec<TermId>, AllocError>
     requires types { IsTable types.now }
     requires store { IsTypedBy types.now store.old }
-    requires from { HoldsType types.now from }
+    requires binders { All (HoldsType types.now) binders.now }
     requires args { All (Holds store.old) args.items }
     ensures held { IfOk result (λ rs. All (Holds store.new) rs.items) }
     ensures reads { IfOk result (λ rs.
-        terms_of (map (tree_of types.now store.new) rs.items)
-        ≡ with_last (shift_all 0 (terms_of (map (tree_of types.now store.old) args.items))) (expansion_of (codes "x") (type_of types.now from) (index 0) no_terms)) }
+        map (tree_of types.now store.new) rs.items
+        ≡ map (tree_of types.now store.old) args.items ++ binder.names (codes "x") (map (type_of types.now) binders.now)) }
     ensures adds { AddsTypedTerms types.now store.old store.new }
 {
-    let mut steps = Steps::<()>::new();
-    let mut given = lift_all(alloc, types, store, 1, &args, &mut steps)?;
-    let name = expand(alloc, types, store, from, Head::Index(0), Vec::new(alloc))?;
-    given.push(name)?;
+    let mut given = args;
+    let mut inside = binders.len();
+    for binder in binders {
+        inside -= 1;
+        let name = Head::Index(inside);
+        given.push(expand(alloc, types, store, *binder, name, Vec::new(alloc))?)?;
+    }
     Ok(given)
 }

@@ -1,6 +1,7 @@
 //! Hereditary substitution on shared terms, their eta-long forms, and their nominal constants.
 #![tactic(auto)]
 
+mod bindings_put_in;
 mod carried_terms;
 mod equality;
 mod equality_up_to_names;
@@ -29,7 +30,7 @@ pub use items::Items;
 pub use memo::Memo;
 pub use nominal::{Nominal, Permutation, Swap, Swaps};
 pub use permutations::permute;
-pub use plain_terms::reading;
+pub use plain_terms::plain_term;
 pub use resolved_copies::copy_resolved;
 pub use supports::support;
 pub use term_heads::look;

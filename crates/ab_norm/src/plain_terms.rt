@@ -6,7 +6,7 @@ ghost use Rattle.ab_store.specs.Trees.{Holds, tree_of};
 ghost use Rattle.ab_store.specs.Naming.{IsTypedBy};
 ghost use Rattle.ab_norm.specs.NodeTrees.{tree_reading, HoldsTree};
 
-use crate::carried_terms::carry_resolved;
+use crate::carried_terms::{carry_resolved, with_same_bindings};
 use crate::items::Items;
 use crate::resolved_copies::is_resolved;
 use crate::tree::Tree;
@@ -16,7 +16,7 @@ use ab_store::{Node, Store, TermId};
 use std::alloc::{AllocError, Global};
 
 /// The term as a tree of its own, with the bindings put in.
-pub fn reading(
+pub fn plain_term(
     alloc: Global,
     types: &TypeTable,
     store: &Store,
@@ -31,7 +31,7 @@ pub fn reading(
     if is_resolved(alloc, store, id)? {
         return unfold(alloc, store, id);
     }
-    let mut apart = store.with_same_cells(alloc)?;
+    let mut apart = with_same_bindings(alloc, types, store)?;
     let plain = carry_resolved(alloc, types, store, &mut apart, id)?;
     unfold(alloc, &apart, plain)
 }

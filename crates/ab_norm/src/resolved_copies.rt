@@ -1,19 +1,16 @@
 //! Terms in which no bound cell stands.
-ghost use Rattle.std.specs.Prelude.{◌≡◌, ◌↔◌, ◌<◌, ◌≤◌, [], ◌∷◌, true, length, get_or, IfOk, OnOk, List, All};
+ghost use Rattle.std.specs.Prelude.{◌≡◌, ◌↔◌, ◌<◌, ◌≤◌, true, IfOk, OnOk, List, All};
 ghost use Rattle.ab_term.specs.Types.{Ty};
-ghost use Rattle.ab_term.specs.Sameness.{same_number};
-ghost use Rattle.ab_term.specs.Variables.{image};
 ghost use Rattle.ab_store.specs.ab_types.specs.Sound.{IsTable};
-ghost use Rattle.ab_store.specs.declared.node.Binding.{Binding};
-ghost use Rattle.ab_store.specs.Reading.{Holds, tree_of, reading, cell_variable};
+ghost use Rattle.ab_store.specs.Reading.{Holds, tree_of, reading};
 ghost use Rattle.ab_store.specs.Bindings.{IsResolved};
 ghost use Rattle.ab_store.specs.Naming.{HoldsHead, IsTypedBy, IsTerm};
 ghost use Rattle.ab_norm.specs.NodeGrowth.{AddsTerms};
 ghost use Rattle.ab_norm.specs.Heads.{IsFree};
 ghost use Rattle.ab_norm.specs.ResolvedTerms.{AllResolved};
 
+use crate::bindings_put_in::resolve;
 use crate::memo::{Memo, Seen};
-use crate::term_walks::{Change, walk};
 use ab_store::types::laws::has_unique_ids;
 use ab_store::types::{Steps, TypeTable};
 use ab_store::{Head, Node, Store, TermId};
@@ -48,8 +45,8 @@ pub fn copy_resolved<L>(
     fill(alloc, types, store, id, steps)
 }
 
-/// The term, with the bindings put in one after another.
-fn fill<L>(
+/// The term, with all bindings put in.
+pub(crate) fn fill<L>(
     alloc: Global,
     types: &TypeTable,
     store: &mut Store,
@@ -66,39 +63,8 @@ fn fill<L>(
     ensures steps { steps.old ≤ steps.new }
 {
     let count = store.bindings().len();
-    let mut here = id;
-    for i in 0..count {
-        here = fill_one(alloc, types, store, i, here, steps)?;
-    }
-    Ok(here)
-}
-
-/// The term, with the binding at the place put in.
-fn fill_one<L>(
-    alloc: Global,
-    types: &TypeTable,
-    store: &mut Store,
-    place: usize,
-    id: TermId,
-    steps: &mut Steps<L>,
-) -> Result<TermId, AllocError>
-    requires types { IsTable types.now }
-    requires store { IsTypedBy types.now store.old }
-    requires place { place < length store.old.bindings }
-    requires id { Holds store.old id }
-    ensures held { IfOk result (λ r. Holds store.new r) }
-    ensures tree { IfOk result (λ r. (d : Binding) → let b = get_or store.old.bindings place d in
-        tree_of types.now store.new r
-        ≡ image same_number ((cell_variable types.now store.old b.cell, tree_of types.now store.old b.term) ∷ []) (tree_of types.now store.old id)) }
-    ensures adds { AddsTerms store.old store.new }
-    ensures steps { steps.old ≤ steps.new }
-{
-    let bindings = store.bindings();
-    let binding = bindings[place];
-    let ty = store.cell_type(binding.cell);
-    let change = Change::Fill(binding.cell, ty, binding.term);
     let mut memo = Memo::new(alloc);
-    walk(alloc, types, store, &change, 0, id, &mut memo, steps)
+    resolve(alloc, types, store, count, id, &mut memo, steps)
 }
 
 /// Whether no bound cell stands in the term.

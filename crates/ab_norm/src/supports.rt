@@ -12,7 +12,7 @@ ghost use Rattle.ab_store.specs.Naming.{HeadIsTyped, IsTypedBy};
 ghost use Rattle.ab_norm.specs.Nominals.{nominal_of, HoldsNominal};
 ghost use Rattle.ab_norm.specs.GatheredNames.{Gathers, AllFound};
 
-use crate::carried_terms::carry_resolved;
+use crate::carried_terms::{carry_resolved, with_same_bindings};
 use crate::memo::Seen;
 use crate::nominal::Nominal;
 use crate::resolved_copies::is_resolved;
@@ -38,7 +38,7 @@ pub fn support(
     if is_resolved(alloc, store, id)? {
         return names_of(alloc, types, store, id);
     }
-    let mut apart = store.with_same_cells(alloc)?;
+    let mut apart = with_same_bindings(alloc, types, store)?;
     let plain = carry_resolved(alloc, types, store, &mut apart, id)?;
     names_of(alloc, types, &apart, plain)
 }

@@ -1,6 +1,6 @@
 //! The walk that makes terms: the same for raising, for hereditary substitution and for renaming, but for what
 //! becomes of a head. Each node is visited once at each number of binders that matters.
-ghost use Rattle.std.specs.Prelude.{◌≡◌, ◌+◌, ◌≤◌, ◌↔◌, true, map, IfOk, OnOk, All};
+ghost use Rattle.std.specs.Prelude.{◌≡◌, ◌+◌, ◌≤◌, true, map, IfOk, OnOk, All};
 ghost use Rattle.ab_term.specs.Terms.{lam, spine, terms_of, Read};
 ghost use Rattle.ab_term.specs.Substitution as tree;
 ghost use Rattle.ab_term.specs.Reach.{raise as raised};
@@ -10,7 +10,6 @@ ghost use Rattle.ab_store.specs.ab_types.specs.Sound.{IsTable};
 ghost use Rattle.ab_store.specs.Trees.{Contents, Holds, tree_of, head_reading};
 ghost use Rattle.ab_store.specs.Naming.{HoldsHead, HeadIsTyped, IsTypedBy};
 ghost use Rattle.ab_store.specs.Growth.{IsExtendedBy};
-ghost use Rattle.ab_store.specs.declared.node.Head.TheVariants.{Cell};
 ghost use Rattle.ab_store.specs.declared.node.Node.TheVariants.{Spine};
 ghost use Rattle.ab_norm.specs.NodeGrowth.{AddsTerms};
 ghost use Rattle.ab_norm.specs.Changes.{changed, head_changed, Fits, Suits, Remembers, AddsFor};
@@ -22,7 +21,7 @@ use crate::nominal::Swaps;
 use crate::permutations::rename_head;
 use ab_store::name::Name;
 use ab_store::types::{Steps, TypeId, TypeTable, TypeView};
-use ab_store::{CellId, Head, Node, Store, TermId};
+use ab_store::{Head, Node, Store, TermId};
 use std::alloc::{AllocError, Global};
 
 /// What a walk does to a term.
@@ -34,8 +33,6 @@ pub(crate) enum Change {
     Put(TypeId, TermId),
     /// Nominal constants become what the pairs make of them.
     Rename(Swaps),
-    /// A term is put in for a cell of the type.
-    Fill(CellId, TypeId, TermId),
 }
 
 /// The number of binders under one more: it stays where the change doesn't look at it.
@@ -45,7 +42,7 @@ fn deeper(change: &Change, depth: usize) -> Result<usize, AllocError>
 {
     match change {
         Change::Raise(_) | Change::Put(_, _) => next(depth),
-        Change::Rename(_) | Change::Fill(_, _, _) => Ok(depth),
+        Change::Rename(_) => Ok(depth),
     }
 }
 
@@ -64,12 +61,11 @@ fn stays(store: &Store, change: &Change, depth: usize, id: TermId) -> bool
         }
         Change::Put(_, _) => store.reach(id) <= depth,
         Change::Rename(_) => !store.has_nominals(id),
-        Change::Fill(_, _, _) => !store.has_cells(id),
     }
 }
 
 /// The abstraction with the new body: the term itself, where that is the old one.
-fn lam_again(
+pub(crate) fn lam_again(
     store: &mut Store,
     id: TermId,
     ty: TypeId,
@@ -100,13 +96,6 @@ fn are_same_terms(these: &[TermId], those: &[TermId]) -> bool
     these == those
 }
 
-/// Whether the head is the cell.
-fn is_cell(head: Head, cell: CellId) -> bool
-    ensures { (result ≡ true) ↔ (head ≡ Cell cell) }
-{
-    is_same_head(head, Head::Cell(cell))
-}
-
 /// Whether the node is the head with the arguments.
 fn is_spine(node: &Node, head: Head, args: &[TermId]) -> bool
     ensures { result ≡ true → node.now ≡ Spine head args.now }
@@ -124,7 +113,7 @@ fn is_spine(node: &Node, head: Head, args: &[TermId]) -> bool
 }
 
 /// The head with the arguments: the term itself, where it is that.
-fn spine_again(
+pub(crate) fn spine_again(
     store: &mut Store,
     id: TermId,
     head: Head,
@@ -309,13 +298,6 @@ fn walk_head<L>(
                 reduce(alloc, types, store, *ty, lifted, &args, steps)
             }
         },
-        Change::Fill(cell, ty, term) => {
-            if is_cell(head, *cell) {
-                reduce(alloc, types, store, *ty, *term, &args, steps)
-            } else {
-                spine_again(store, id, head, args)
-            }
-        }
     }
 }
 
@@ -377,7 +359,7 @@ pub(crate) fn lift_all<L>(
 
 /// The term, of the type, given the arguments.
 #[cycle(walked)]
-fn reduce<L>(
+pub(crate) fn reduce<L>(
     alloc: Global,
     types: &TypeTable,
     store: &mut Store,

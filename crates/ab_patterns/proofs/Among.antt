@@ -1,7 +1,7 @@
 -- Whether a head is among others: the first and the rest.
-use Rattle.std.proofs.Common.{◌≡◌, ◌≢◌, ℕ, suc, ◌-◌, ◌≤◌, List, [], ◌∷◌, map, take, drop, length, Bool, true, false, ◌||◌, slice_index_or, codes, sym, ◌∙◌, ap, subst, arith, take_all}
+use Rattle.std.proofs.Common.{◌≡◌, ◌≢◌, ℕ, suc, ◌+◌, ◌-◌, ◌<◌, ◌≤◌, List, [], ◌∷◌, map, take, drop, length, get_or, true, false, ◌||◌, slice_index_or, codes, sym, ◌∙◌, ap, arith, take_all}
 use Rattle.std.specs.List.{All}
-use Rattle.std.proofs.lemmas.List.Elements.{All-head, All-tail}
+use Rattle.std.proofs.lemmas.List.{at_drop_more}
 use Rattle.std.proofs.lemmas.Bool.{or_left, false_from_ne_true}
 use Rattle.ab_norm.specs.ab_types.specs.Entries.{Table}
 use Rattle.ab_norm.specs.ab_types.specs.Sound.{IsTable}
@@ -20,18 +20,20 @@ rest_is : (h : Head) (hs : List Head) → take (length (h ∷ hs) - 1) (drop 1 (
 rest_is h hs = ap (λ n. take n hs) (let e : suc (length hs) - 1 ≡ length hs = omega arith in e) ∙ take_all (length hs) hs (omega arith)
 
 module _ (types : Table) (store : Contents) (g : Head) where
-  pub first_among : (hs : List Head) (d : Head) → 1 ≤ length hs → slice_index_or hs 0 d ≡ g → true ≡ among (map (head_reading types store) hs) (head_reading types store g)
-  first_among [] d l e = absurd (omega (arith, l))
-  first_among (h ∷ hs) d l e = sym (or_left (same_head (head_reading types store h) (head_reading types store g)) (among (map (head_reading types store) hs) (head_reading types store g)) ((same_head-Decides (head_reading types store h) (head_reading types store g)).1 (ap (head_reading types store) e)))
+  pub first_among : (hs : List Head) (i : ℕ) (d : Head) → i < length hs → get_or hs i d ≡ g → true ≡ among (map (head_reading types store) (drop i hs)) (head_reading types store g)
+  first_among hs i d l e =
+      let h = get_or hs i d in
+      sym (at_drop_more (λ l. among (map (head_reading types store) l) (head_reading types store g)) hs i d l
+      ∙ or_left (same_head (head_reading types store h) (head_reading types store g)) (among (map (head_reading types store) (drop (i + 1) hs)) (head_reading types store g))
+      ((same_head-Decides (head_reading types store h) (head_reading types store g)).1 (ap (head_reading types store) e)))
 
-  pub rest_among : (hs : List Head) (d : Head) → 1 ≤ length hs → IsTable types → All (HeadIsTyped types) hs → HeadIsTyped types g → slice_index_or hs 0 d ≢ g → (r : Bool) → (All (HeadIsTyped types) (take (length hs - 1) (drop 1 hs)) → r ≡ among (map (head_reading types store) (take (length hs - 1) (drop 1 hs))) (head_reading types store g))
-      → r ≡ among (map (head_reading types store) hs) (head_reading types store g)
-  rest_among [] d l ok typed held n r rest = absurd (omega (arith, l))
-  rest_among (h ∷ hs) d l ok typed held n r rest =
-      let found : r ≡ among (map (head_reading types store) hs) (head_reading types store g) =
-      subst (λ xs. All (HeadIsTyped types) xs → r ≡ among (map (head_reading types store) xs) (head_reading types store g)) (rest_is h hs) rest (All-tail (HeadIsTyped types) h hs typed) in
-      let other : same_head (head_reading types store h) (head_reading types store g) ≡ false = false_from_ne_true _ (λ e. heads_differ types store h g ok (All-head (HeadIsTyped types) h hs typed) held n ((same_head-Decides (head_reading types store h) (head_reading types store g)).0 e)) in
-      found ∙ sym (ap (λ b. b || among (map (head_reading types store) hs) (head_reading types store g)) other)
+  pub rest_among : (hs : List Head) (i : ℕ) (d : Head) → i < length hs → IsTable types → All (HeadIsTyped types) hs → HeadIsTyped types g → get_or hs i d ≢ g
+      → among (map (head_reading types store) (drop (i + 1) hs)) (head_reading types store g) ≡ among (map (head_reading types store) (drop i hs)) (head_reading types store g)
+  rest_among hs i d l ok typed held n =
+      let h = get_or hs i d in
+      let other : same_head (head_reading types store h) (head_reading types store g) ≡ false = false_from_ne_true _ (λ e. heads_differ types store h g ok (typed i d l) held n ((same_head-Decides (head_reading types store h) (head_reading types store g)).0 e)) in
+      sym (at_drop_more (λ l. among (map (head_reading types store) l) (head_reading types store g)) hs i d l
+      ∙ ap (λ b. b || among (map (head_reading types store) (drop (i + 1) hs)) (head_reading types store g)) other)
 
 first_bound : {Hint : Type 0} (x : Hint) (A B : Ty) (f : Head → tree.Head ℕ) (hs : List Head) (d : Head) (t : tree.Term ℕ Hint) → 1 ≤ length hs → abstracted x (arrow A B) (map f hs) t ≡ tree.lam A x (close 0 (f (slice_index_or hs 0 d)) (abstracted x B (map f (take (length hs - 1) (drop 1 hs))) t))
 first_bound x A B f [] d t l = absurd (omega (arith, l))

@@ -1,11 +1,7 @@
--- What the nodes that `close` makes read as.
-use Rattle.std.proofs.Common.{◌≡◌, ◌≢◌, ℕ, zero, suc, ◌+◌, ◌<◌, ◌≤◌, List, [], ◌∷◌, map, cond, refl, sym, ◌∙◌, ap, arith}
-use Rattle.std.proofs.lemmas.Bool.{false_from_ne_true}
-use Rattle.ab_norm.specs.ab_types.specs.Sound.{IsTable}
-use Rattle.ab_norm.specs.ab_store.specs.Naming.{HeadIsTyped}
-use Rattle.ab_term.specs.Sameness.{same_head as plain_same}
+-- What the nodes that `close_names` makes read as.
+use Rattle.std.proofs.Common.{◌≡◌, ℕ, zero, suc, ◌+◌, ◌<◌, ◌≤◌, List, [], ◌∷◌, map, length, cond, refl, sym, ◌∙◌, ap, arith}
 use Rattle.ab_term.proofs.Same.{same_head-Decides}
-use Rattle.ab_patterns.proofs.Rules.{heads_differ}
+use Rattle.ab_term.specs.Types.{Ty}
 use Rattle.ab_term.specs.Terms.{lam, spine, term, terms_of, Read}
 use Rattle.ab_term.specs.Terms as tree
 use Rattle.ab_term.specs.Substitution.{shift_index, shift_head}
@@ -16,11 +12,9 @@ use Rattle.ab_norm.specs.ab_store.specs.declared.node.TermId.{TermId}
 use Rattle.ab_norm.specs.ab_store.specs.declared.node.Head.{Head}
 use Rattle.ab_norm.specs.ab_store.specs.declared.node.Node.{Node}
 use Rattle.ab_norm.specs.ab_store.specs.declared.node.Node.TheVariants.{Lam, Spine}
-use Rattle.ab_norm.specs.ab_store.specs.Trees.{Contents, tree_of, head_reading, node_tree}
-use Rattle.ab_norm.specs.NodeGrowth.{AddsTerms}
-use Rattle.ab_norm.proofs.Frame.{same_head}
+use Rattle.ab_norm.specs.ab_store.specs.Trees.{Contents, tree_of, head_in, head_reading, node_tree}
 use Rattle.ab_term.specs.Abstraction as closing
-use Rattle.ab_patterns.specs.Abstraction.{sunk}
+use Rattle.ab_patterns.specs.Abstraction.{sunk, close_names, close_head_names}
 
 pub sunk_none : (h : tree.Head ℕ) → sunk zero h ≡ h
 sunk_none (tree.constant k) = refl
@@ -40,30 +34,55 @@ pub close_all_read : (at : ℕ) (h : tree.Head ℕ) (f : TermId → Read) (ts : 
 close_all_read at h f [] = refl
 close_all_read at h f (t ∷ ts) = ap (term (closing.close at h (f t))) (close_all_read at h f ts)
 
-module _ (types : Table) (s0 s1 s2 : Contents) (t r : TermId) (n : Node) (reads : tree_of types s0 t ≡ node_tree types s0 n) (at : ℕ) (name : Head) where
-  pub closed_lam : (deeper : ℕ) (ty : TypeId) (x : List ℕ) (body inner : TermId) → n ≡ Lam ty x body → deeper ≡ at + 1
-      → tree_of types s1 inner ≡ closing.close deeper (sunk deeper (head_reading types s0 name)) (tree_of types s0 body)
-      → tree_of types s2 r ≡ lam (type_of types ty) x (tree_of types s1 inner)
-      → tree_of types s2 r ≡ closing.close at (sunk at (head_reading types s0 name)) (tree_of types s0 t)
-  closed_lam deeper ty x body inner is one here made =
-      let d : deeper ≡ suc at = omega arith in
-      made
-      ∙ ap (lam (type_of types ty) x) (here ∙ ap (λ k. closing.close k (sunk k (head_reading types s0 name)) (tree_of types s0 body)) d ∙ ap (λ h. closing.close (suc at) h (tree_of types s0 body)) (sunk_more at (head_reading types s0 name)))
-      ∙ sym (ap (closing.close at (sunk at (head_reading types s0 name))) (reads ∙ ap (node_tree types s0) is))
+-- part by part
 
-  pub closed_spine : (h g : Head) (args given closed : List TermId) → n ≡ Spine h args → AddsTerms s0 s1 → given ≡ args
-      → head_reading types s1 g ≡ closing.close_head at (sunk at (head_reading types s1 name)) (head_reading types s1 h)
-      → map (tree_of types s1) closed ≡ map (λ t. closing.close at (sunk at (head_reading types s0 name)) (tree_of types s0 t)) given
+close_names_lam : (k : ℕ) (hs : List (tree.Head ℕ)) (A : Ty) (x : List ℕ) (t : Read) → close_names k hs (lam A x t) ≡ lam A x (close_names (suc k) hs t)
+close_names_lam k [] A x t = refl
+close_names_lam k (h ∷ hs) A x t =
+    let m = k + length hs in
+    let same : suc (k + length hs) ≡ suc k + length hs = omega arith in
+    ap (closing.close m (sunk m h)) (close_names_lam k hs A x t)
+    ∙ ap (λ g. lam A x (closing.close (suc m) g (close_names (suc k) hs t))) (sym (sunk_more m h))
+    ∙ ap (λ j. lam A x (closing.close j (sunk j h) (close_names (suc k) hs t))) same
+
+close_names_spine : (k : ℕ) (hs : List (tree.Head ℕ)) (g : tree.Head ℕ) (f : TermId → Read) (ts : List TermId)
+    → close_names k hs (spine g (terms_of (map f ts))) ≡ spine (close_head_names k hs g) (terms_of (map (λ t. close_names k hs (f t)) ts))
+close_names_spine k [] g f ts = refl
+close_names_spine k (h ∷ hs) g f ts =
+    let m = k + length hs in
+    ap (closing.close m (sunk m h)) (close_names_spine k hs g f ts)
+    ∙ ap (spine (close_head_names k (h ∷ hs) g)) (close_all_read m (sunk m h) (λ t. close_names k hs (f t)) ts)
+
+pub names_on : (types : Table) (s t : Contents) (names : List Head) → t.cells ≡ s.cells → map (head_reading types t) names ≡ map (head_reading types s) names
+names_on types s t names same = ap (λ cs. map (head_in types cs) names) same
+
+module _ (types : Table) (s0 s1 s2 : Contents) (t r : TermId) (n : Node) (reads : tree_of types s0 t ≡ node_tree types s0 n) (at : ℕ) (names : List Head) where
+  abbrev these : List (tree.Head ℕ)
+  these = map (head_reading types s0) names
+
+  pub closed_lam : (deeper : ℕ) (ty : TypeId) (x : List ℕ) (body inner : TermId) → n ≡ Lam ty x body → deeper ≡ at + 1
+      → tree_of types s1 inner ≡ close_names deeper these (tree_of types s0 body)
+      → tree_of types s2 r ≡ lam (type_of types ty) x (tree_of types s1 inner)
+      → tree_of types s2 r ≡ close_names at these (tree_of types s0 t)
+  closed_lam deeper ty x body inner is one here made =
+      let d : deeper ≡ suc at = omega (arith, one) in
+      made
+      ∙ ap (lam (type_of types ty) x) (here ∙ ap (λ k. close_names k these (tree_of types s0 body)) d)
+      ∙ sym (close_names_lam at these (type_of types ty) x (tree_of types s0 body))
+      ∙ sym (ap (close_names at these) (reads ∙ ap (node_tree types s0) is))
+
+  pub closed_spine : (h g : Head) (args given closed : List TermId) → n ≡ Spine h args → s1.cells ≡ s0.cells → given ≡ args
+      → head_reading types s1 g ≡ close_head_names at (map (head_reading types s1) names) (head_reading types s1 h)
+      → map (tree_of types s1) closed ≡ map (λ t. close_names at these (tree_of types s0 t)) given
       → tree_of types s2 r ≡ spine (head_reading types s1 g) (terms_of (map (tree_of types s1) closed))
-      → tree_of types s2 r ≡ closing.close at (sunk at (head_reading types s0 name)) (tree_of types s0 t)
-  closed_spine h g args given closed is adds same head here made =
-      let by = sunk at (head_reading types s0 name) in
+      → tree_of types s2 r ≡ close_names at these (tree_of types s0 t)
+  closed_spine h g args given closed is grown same head here made =
       made
       ∙ ap (λ x. spine x (terms_of (map (tree_of types s1) closed)))
-      (head ∙ ap (λ y. closing.close_head at (sunk at y) (head_reading types s1 h)) (same_head types s0 s1 name adds) ∙ ap (closing.close_head at by) (same_head types s0 s1 h adds))
-      ∙ ap (λ l. spine (closing.close_head at by (head_reading types s0 h)) (terms_of l)) (here ∙ ap (map (λ t. closing.close at by (tree_of types s0 t))) same)
-      ∙ ap (spine (closing.close_head at by (head_reading types s0 h))) (sym (close_all_read at by (tree_of types s0) args))
-      ∙ sym (ap (closing.close at by) (reads ∙ ap (node_tree types s0) is))
+      (head ∙ ap (λ hs. close_head_names at hs (head_reading types s1 h)) (names_on types s0 s1 names grown) ∙ ap (λ es. close_head_names at these (head_in types es h)) grown)
+      ∙ ap (λ l. spine (close_head_names at these (head_reading types s0 h)) (terms_of l)) (here ∙ ap (map (λ t. close_names at these (tree_of types s0 t))) same)
+      ∙ sym (close_names_spine at these (head_reading types s0 h) (tree_of types s0) args)
+      ∙ sym (ap (close_names at these) (reads ∙ ap (node_tree types s0) is))
 
 pub shift_index-below : (k i : ℕ) → i < k → i ≡ shift_index k i
 shift_index-below zero i l = absurd (omega (arith, l))
@@ -78,7 +97,3 @@ shift_index-from (suc k) (suc i) n l e = let e2 : n ≡ suc (suc i) = omega (ari
 module _ (types : Table) (store : Contents) (at : ℕ) (name h : Head) where
   pub closed_same : h ≡ name → tree.index at ≡ closing.close_head at (head_reading types store name) (head_reading types store h)
   closed_same e = sym (ap (λ b. cond b (tree.index at) (shift_head at (head_reading types store h))) ((same_head-Decides (head_reading types store h) (head_reading types store name)).1 (ap (head_reading types store) e)))
-
-  pub closed_other : IsTable types → HeadIsTyped types name → HeadIsTyped types h → h ≢ name → shift_head at (head_reading types store h) ≡ closing.close_head at (head_reading types store name) (head_reading types store h)
-  closed_other ok named held n = sym (ap (λ b. cond b (tree.index at) (shift_head at (head_reading types store h)))
-      (false_from_ne_true (plain_same (head_reading types store h) (head_reading types store name)) (λ e. heads_differ types store h name ok held named n ((same_head-Decides (head_reading types store h) (head_reading types store name)).0 e))))

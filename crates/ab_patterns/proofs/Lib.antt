@@ -21,3 +21,5 @@ pub mod Narrowed
 pub mod Made
 pub mod Flagged
 pub mod Renewed
+pub mod Placements
+pub mod ClosedHeads

@@ -1,5 +1,7 @@
 -- Names that are told from other heads.
-use Rattle.std.proofs.Common.{◌≡◌, ◌≢◌, ℕ, Bool, true, false, cond, ◌==◌, ◌&&◌, Decides, refl, ap}
+use Rattle.std.proofs.Common.{◌≡◌, ◌≢◌, ℕ, List, Bool, true, false, cond, ◌==◌, ◌&&◌, Decides, refl, ap}
+use Rattle.std.specs.List.{All}
+use Rattle.std.proofs.lemmas.List.Elements.{All-weaker}
 use Rattle.std.proofs.lemmas.Bool.Decides.{Decides-eqb}
 use Rattle.ab_term.specs.Types.{same_type}
 use Rattle.ab_term.specs.Terms as tree
@@ -15,7 +17,7 @@ use Rattle.ab_norm.specs.ab_store.specs.Trees.{Contents, head_reading, cell_in}
 use Rattle.ab_norm.specs.ab_store.specs.Naming.{HeadIsTyped, IsTypedBy}
 use Rattle.ab_norm.specs.NodeGrowth.{AddsTerms}
 use Rattle.ab_patterns.specs.Abstraction.{IsToldApart, AreToldApart}
-use Rattle.ab_patterns.proofs.Closed.{closed_other}
+use Rattle.ab_patterns.proofs.Rules.{heads_differ}
 
 pub told_by : (types : Table) (store : Contents) (name : Head) → IsTable types → IsTypedBy types store → HeadIsTyped types name → IsToldApart types store name
 told_by types store (Const k) ok typed named = (ok, typed, named)
@@ -23,6 +25,14 @@ told_by types store (Logic l) ok typed named = (ok, typed, named)
 told_by types store (Nominal m a) ok typed named = (ok, typed, named)
 told_by types store (Index i) ok typed named = (ok, typed, named)
 told_by types store (Cell c) ok typed named = tt
+
+-- a bound name is told from what another head is told from
+pub told_index : (types : Table) (name other : Head) (i : ℕ) → AreToldApart types name other → AreToldApart types name (Index i)
+told_index types (Const k) other i t = (t.0, t.1, tt)
+told_index types (Logic l) other i t = (t.0, t.1, tt)
+told_index types (Nominal m a) other i t = (t.0, t.1, tt)
+told_index types (Index j) other i t = (t.0, t.1, tt)
+told_index types (Cell c) other i t = tt
 
 -- in a store with more terms
 pub told_on : (types : Table) (s t : Contents) (name : Head) → AddsTerms s t → IsToldApart types s name → IsToldApart types t name
@@ -54,10 +64,27 @@ other_head types store at c (Cell d) n = go (d.0 == c.0) (Decides-eqb d.0 c.0)
     go true e = absurd (n (ap (λ i. Cell (record { 0 = i })) (e.0 refl)))
     go false e = refl
 
--- another head than the name is only shifted
-pub closed_told : (types : Table) (store : Contents) (at : ℕ) (name h : Head) → AreToldApart types name h → h ≢ name → shift_head at (head_reading types store h) ≡ closing.close_head at (head_reading types store name) (head_reading types store h)
-closed_told types store at (Const k) h t n = closed_other types store at (Const k) h t.0 t.1 t.2 n
-closed_told types store at (Logic l) h t n = closed_other types store at (Logic l) h t.0 t.1 t.2 n
-closed_told types store at (Nominal m a) h t n = closed_other types store at (Nominal m a) h t.0 t.1 t.2 n
-closed_told types store at (Index i) h t n = closed_other types store at (Index i) h t.0 t.1 t.2 n
-closed_told types store at (Cell c) h t n = other_head types store at c h n
+pub all_told_on : (types : Table) (s t : Contents) (names : List Head) → AddsTerms s t → All (IsToldApart types s) names → All (IsToldApart types t) names
+all_told_on types s t names a all = All-weaker (IsToldApart types s) (IsToldApart types t) (λ name. told_on types s t name a) names all
+
+pub all_told_here : (types : Table) (store : Contents) (names : List Head) (head : Head) → All (IsToldApart types store) names → (IsTypedBy types store → HeadIsTyped types head) → All (λ name. AreToldApart types name head) names
+all_told_here types store names head all typed = All-weaker (IsToldApart types store) (λ name. AreToldApart types name head) (λ name told. told_here types store name head told typed) names all
+
+abbrev number : tree.Head ℕ → ℕ
+number (tree.variable x) = x.name
+number _ = 0
+
+-- names that are told apart read differently
+pub told_differ : (types : Table) (store : Contents) (name h : Head) → AreToldApart types name h → h ≢ name → head_reading types store h ≢ head_reading types store name
+told_differ types store (Const k) h t n = heads_differ types store h (Const k) t.0 t.2 t.1 n
+told_differ types store (Logic l) h t n = heads_differ types store h (Logic l) t.0 t.2 t.1 n
+told_differ types store (Nominal m a) h t n = heads_differ types store h (Nominal m a) t.0 t.2 t.1 n
+told_differ types store (Index i) h t n = heads_differ types store h (Index i) t.0 t.2 t.1 n
+told_differ types store (Cell c) h t n = go h n
+  where
+    go : (h : Head) → h ≢ Cell c → head_reading types store h ≢ head_reading types store (Cell c)
+    go (Const k) n e = cc
+    go (Logic l) n e = cc
+    go (Nominal m a) n e = cc
+    go (Index i) n e = cc
+    go (Cell d) n e = n (ap (λ i. Cell (record { 0 = i })) (ap number e))

@@ -1,8 +1,8 @@
 -- Terms under a binder for each of several cells: part by part, and what a walk keeps that makes them.
-use Rattle.std.proofs.Common.{◌≡◌, ◌≢◌, ◌⊎◌, inl, inr, ℕ, zero, suc, ◌+◌, ◌-◌, ◌<◌, ◌≤◌, List, [], ◌∷◌, map, drop, length, get_or, Some, None, refl, sym, ◌∙◌, ap, subst, arith}
+use Rattle.std.proofs.Common.{◌≡◌, ◌≢◌, ℕ, zero, suc, ◌+◌, ◌-◌, ◌<◌, ◌≤◌, List, [], ◌∷◌, map, drop, length, get_or, refl, sym, ◌∙◌, ap, subst, arith}
 use Rattle.std.specs.List.{All}
-use Rattle.std.proofs.lemmas.List.{length-map, drop_more}
-use Rattle.std.proofs.lemmas.List.Elements.{All-nil, All-cons, All-head, All-tail}
+use Rattle.std.proofs.lemmas.List.{length-map}
+use Rattle.std.proofs.lemmas.List.Elements.{All-head, All-tail}
 use Rattle.ab_term.specs.Types.{Ty}
 use Rattle.ab_term.specs.Terms as tree
 use Rattle.ab_term.specs.Terms.{Variable, lam, spine, terms_of, Read}
@@ -15,7 +15,7 @@ use Rattle.ab_norm.specs.ab_store.specs.declared.node.TermId.{TermId}
 use Rattle.ab_norm.specs.ab_store.specs.declared.node.CellId.{CellId}
 use Rattle.ab_norm.specs.ab_store.specs.declared.node.Logical.{Logical}
 use Rattle.ab_norm.specs.ab_store.specs.declared.node.Head.{Head}
-use Rattle.ab_norm.specs.ab_store.specs.declared.node.Head.TheVariants.{Const, Logic, Nominal, Cell, Index}
+use Rattle.ab_norm.specs.ab_store.specs.declared.node.Head.TheVariants.{Const, Logic, Nominal, Cell}
 use Rattle.ab_norm.specs.ab_store.specs.declared.node.Node.{Node}
 use Rattle.ab_norm.specs.ab_store.specs.declared.node.Node.TheVariants.{Lam, Spine}
 use Rattle.ab_norm.specs.ab_store.specs.Trees.{Contents, Holds, cell_in, tree_of, head_in, head_reading, node_tree}
@@ -23,7 +23,6 @@ use Rattle.ab_norm.specs.ab_store.specs.Reading.{cell_variable}
 use Rattle.ab_norm.specs.ab_store.specs.Growth.{IsExtendedBy}
 use Rattle.ab_norm.specs.NodeGrowth.{AddsTerms}
 use Rattle.ab_norm.specs.declared.memo.Memo.{Memo}
-use Rattle.ab_norm.specs.WalkMemory.{answer_of}
 use Rattle.ab_patterns.specs.Abstraction.{under_all, head_under_all, KeepsUnderAll}
 use Rattle.ab_patterns.proofs.Closed.{close_all_read, closed_same, shift_index-below, shift_index-from}
 use Rattle.ab_patterns.proofs.ToldApart.{other_head}
@@ -166,25 +165,3 @@ module _ (cells : List CellId) where
 pub same_cells : (types : Table) (s t u : Contents) (cells : List CellId) (at : ℕ) (id r : TermId) → t.cells ≡ s.cells
     → tree_of types u r ≡ under_all at (map (cell_variable types t) cells) (tree_of types t id) → tree_of types u r ≡ under_all at (map (cell_variable types s) cells) (tree_of types t id)
 same_cells types s t u cells at id r same e = e ∙ ap (λ xs. under_all at xs (tree_of types t id)) (cells_on types s t cells same)
-
--- a cell that is looked for from the last of the list
-
-pub any_default : (cells : List CellId) (n : ℕ) (cell d e : CellId) → n < length cells → get_or cells n d ≡ cell → get_or cells n e ≡ cell
-any_default [] n cell d e l here = absurd (omega (arith, l))
-any_default (c ∷ cs) zero cell d e l here = here
-any_default (c ∷ cs) (suc n) cell d e l here = any_default cs n cell d e (omega (arith, l)) here
-
-pub none_behind : (cells : List CellId) (n : ℕ) (cell : CellId) → length cells ≤ n → All (λ c. c ≢ cell) (drop n cells)
-none_behind [] zero cell l = All-nil (λ c. c ≢ cell)
-none_behind [] (suc n) cell l = All-nil (λ c. c ≢ cell)
-none_behind (c ∷ cs) zero cell l = absurd (omega (arith, l))
-none_behind (c ∷ cs) (suc n) cell l = none_behind cs n cell (omega (arith, l))
-
-pub one_behind : (cells : List CellId) (done n : ℕ) (cell d : CellId) → done < length cells → n ≡ length cells - 1 - done → All (λ c. c ≢ cell) (drop (length cells - done) cells) → get_or cells n d ≢ cell
-    → All (λ c. c ≢ cell) (drop (length cells - (done + 1)) cells)
-one_behind cells done n cell d l at behind here =
-    let next : length cells - done ≡ n + 1 = omega (arith, l, at) in
-    let now : n ≡ length cells - (done + 1) = omega (arith, l, at) in
-    subst (λ k. All (λ c. c ≢ cell) (drop k cells)) now
-    (subst (All (λ c. c ≢ cell)) (sym (drop_more cells n d (omega (arith, l, at))))
-    (All-cons (λ c. c ≢ cell) (get_or cells n d) (drop (n + 1) cells) here (subst (λ k. All (λ c. c ≢ cell) (drop k cells)) next behind)))

@@ -27,27 +27,37 @@ abbrev pub under_all : ℕ → List (Variable ℕ) → Read → Read
 under_all k [] t = t
 under_all k (x ∷ xs) t = close (k + length xs) (tree.variable x) (under_all k xs t)
 
--- the same of two heads. From here on only private contracts speak of it.
-abbrev pub AreToldApart : Table → Head → Head → Type 0
-AreToldApart types (Cell c) other = Unit {0}
-AreToldApart types h other = IsTable types × HeadIsTyped types h × HeadIsTyped types other
-
 -- the head, as it is called under so many binders
 abbrev pub sunk : ℕ → tree.Head ℕ → tree.Head ℕ
 sunk k (tree.index i) = tree.index (i + k)
 sunk k h = h
 
+-- the same for each of the names, which are called as outside of the term
+abbrev pub close_names : ℕ → List (tree.Head ℕ) → Read → Read
+close_names k [] t = t
+close_names k (h ∷ hs) t = close (k + length hs) (sunk (k + length hs) h) (close_names k hs t)
+
+-- no other head of the store than the first reads as it. From here on only private contracts speak of it.
+abbrev pub AreToldApart : Table → Head → Head → Type 0
+AreToldApart types (Cell c) other = Unit {0}
+AreToldApart types h other = IsTable types × HeadIsTyped types h × HeadIsTyped types other
+
 -- what is kept are terms of the store
 abbrev pub KeepsTerms : Contents → Memo → Type 0
 KeepsTerms store memo = (t r : TermId) (depth : ℕ) → answer_of memo t depth ≡ Some r → Holds store t × Holds store r
 
--- the second term is the first, where a binder is put in whose name is this one
-abbrev pub IsClosing : Table → Contents → Head → TermId → ℕ → TermId → Type 0
-IsClosing types store name t at r = tree_of types store r ≡ close at (sunk at (head_reading types store name)) (tree_of types store t)
+-- the second term is the first, where a binder is put in for each of the names
+abbrev pub IsClosing : Table → Contents → List Head → TermId → ℕ → TermId → Type 0
+IsClosing types store names t at r = tree_of types store r ≡ close_names at (map (head_reading types store) names) (tree_of types store t)
 
 -- each answer that is kept is right
-abbrev pub Remembers : Table → Contents → Head → Memo → Type 0
-Remembers types store name memo = (t r : TermId) (depth : ℕ) → answer_of memo t depth ≡ Some r → IsClosing types store name t depth r
+abbrev pub Remembers : Table → Contents → List Head → Memo → Type 0
+Remembers types store names memo = (t r : TermId) (depth : ℕ) → answer_of memo t depth ≡ Some r → IsClosing types store names t depth r
+
+-- what a head becomes under a binder for each of the names
+abbrev pub close_head_names : ℕ → List (tree.Head ℕ) → tree.Head ℕ → tree.Head ℕ
+close_head_names k [] g = g
+close_head_names k (h ∷ hs) g = close_head (k + length hs) (sunk (k + length hs) h) (close_head_names k hs g)
 
 -- what a head becomes under a binder for each of the variables
 abbrev pub head_under_all : ℕ → List (Variable ℕ) → tree.Head ℕ → tree.Head ℕ

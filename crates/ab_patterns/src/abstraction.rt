@@ -1,14 +1,15 @@
 //! Names that become bound.
-ghost use Rattle.std.specs.Prelude.{◌≡◌, ◌+◌, map, All, IfOk, OnOk, codes};
+ghost use Rattle.std.specs.Prelude.{◌≡◌, ◌≢◌, ◌+◌, ◌-◌, ◌<◌, ⊤, ℕ, length, get_or, drop, map, All, IfOk, IfSome, OnOk, MatchOption, codes};
 ghost use Rattle.ab_term.specs.Substitution as tree;
 ghost use Rattle.ab_norm.specs.ab_types.specs.Entries.{Table};
 ghost use Rattle.ab_norm.specs.ab_types.specs.Ids.{HoldsType, type_of};
 ghost use Rattle.ab_norm.specs.ab_store.specs.Trees.{Contents, Holds, tree_of, head_reading};
 ghost use Rattle.ab_norm.specs.ab_store.specs.Naming.{HoldsHead, HeadIsTyped, IsTypedBy};
 ghost use Rattle.ab_norm.specs.NodeGrowth.{AddsTerms, AddsTypedTerms};
-ghost use Rattle.ab_norm.specs.ab_store.specs.declared.node.Head.{Head};
+ghost use Rattle.ab_norm.specs.ab_store.specs.declared.node.Head.{Head as AHead};
+ghost use Rattle.ab_norm.specs.ab_store.specs.declared.node.Head.TheVariants.{Index};
 ghost use Rattle.ab_term.specs.Abstraction as closing;
-ghost use Rattle.ab_patterns.specs.Abstraction.{IsToldApart, AreToldApart, KeepsTerms, Remembers, sunk};
+ghost use Rattle.ab_patterns.specs.Abstraction.{IsToldApart, AreToldApart, KeepsTerms, Remembers, sunk, close_names, close_head_names};
 
 use crate::rigid_rules::is_same_head;
 use ab_norm::Memo;
@@ -54,35 +55,91 @@ pub fn shift_head(at: usize, head: Head) -> Result<Head, AllocError>
     }
 }
 
-/// The name, as it is called under so many binders.
-fn sink(depth: usize, name: Head) -> Result<Head, AllocError>
+/// The head, as it is called under so many binders.
+fn sink(depth: usize, head: Head) -> Result<Head, AllocError>
     ensures reads { IfOk result (λ h. (types : Table) (store : Contents) →
-        head_reading types store h ≡ sunk depth (head_reading types store name)) }
-    ensures told { IfOk result (λ h. (types : Table) (other : Head) → AreToldApart types name other → AreToldApart types h other) }
-{
-    match name {
-        Head::Index(index) => Ok(Head::Index(sum(index, depth)?)),
-        Head::Const(_) | Head::Logic(_) | Head::Nominal(_, _) | Head::Cell(_) => Ok(name),
-    }
-}
-
-/// A head, where a binder is put in at `at` whose name is `name` outside of all binders.
-fn close_head(at: usize, name: Head, head: Head) -> Result<Head, AllocError>
-    ensures reads { IfOk result (λ h. (types : Table) (store : Contents) → AreToldApart types name head →
-        head_reading types store h ≡ closing.close_head at (sunk at (head_reading types store name)) (head_reading types store head)) }
+        head_reading types store h ≡ sunk depth (head_reading types store head)) }
     ensures held { IfOk result (λ h. (store : Contents) → HoldsHead store head → HoldsHead store h) }
     ensures typed { IfOk result (λ h. (types : Table) → HeadIsTyped types head → HeadIsTyped types h) }
 {
-    let here = sink(at, name)?;
-    if is_same_head(head, here) {
-        Ok(Head::Index(at))
-    } else {
-        shift_head(at, head)
+    match head {
+        Head::Index(index) => Ok(Head::Index(sum(index, depth)?)),
+        Head::Const(_) | Head::Logic(_) | Head::Nominal(_, _) | Head::Cell(_) => Ok(head),
     }
 }
 
-/// The term under one binder more, whose name is `name`: a cell, a nominal constant or a bound name. A part that is
-/// shared is walked once at each number of binders.
+/// The head of a term under so many binders, as it is called outside of them: `None` for a name of one of these.
+fn outside(depth: usize, head: Head) -> Option<Head>
+    ensures inner { MatchOption result ((i : ℕ) × (i < depth) × (head ≡ Index i)) (λ h. ⊤) }
+    ensures reads { IfSome result (λ h. (types : Table) (store : Contents) →
+        head_reading types store head ≡ sunk depth (head_reading types store h)) }
+    ensures told { IfSome result (λ h. (types : Table) (name : AHead) → AreToldApart types name head → AreToldApart types name h) }
+    ensures held { IfSome result (λ h. (store : Contents) → HoldsHead store head → HoldsHead store h) }
+    ensures typed { IfSome result (λ h. (types : Table) → HeadIsTyped types head → HeadIsTyped types h) }
+{
+    match head {
+        Head::Index(index) => {
+            if index < depth {
+                None
+            } else {
+                Some(Head::Index(index - depth))
+            }
+        }
+        Head::Const(_) | Head::Logic(_) | Head::Nominal(_, _) | Head::Cell(_) => Some(head),
+    }
+}
+
+/// How many names stand behind the last one of the list that is this one.
+fn behind(names: &[Head], name: Head) -> Option<usize>
+    ensures { MatchOption result
+        (All (λ h. h ≢ name) names.now)
+        (λ n. (n < length names.now) × (All (λ h. h ≢ name) (drop (length names.now - n) names.now))
+        × ((d : AHead) → get_or names.now (length names.now - 1 - n) d ≡ name)) }
+{
+    let count = names.len();
+    for done in 0..count {
+        if is_same_head(names[count - 1 - done], name) {
+            return Some(done);
+        }
+    }
+    None
+}
+
+/// The head under a binder for each of the names, behind `at` binders more.
+fn close_head(names: &[Head], at: usize, head: Head) -> Result<Head, AllocError>
+    ensures reads { IfOk result (λ h. (types : Table) (store : Contents) → All (λ name. AreToldApart types name head) names.now →
+        head_reading types store h ≡ close_head_names at (map (head_reading types store) names.now) (head_reading types store head)) }
+    ensures held { IfOk result (λ h. (store : Contents) → HoldsHead store head → HoldsHead store h) }
+    ensures typed { IfOk result (λ h. (types : Table) → HeadIsTyped types head → HeadIsTyped types h) }
+{
+    match outside(at, head) {
+        None => Ok(head),
+        Some(outer) => match behind(names, outer) {
+            Some(place) => Ok(Head::Index(sum(at, place)?)),
+            None => sink(sum(at, names.len())?, outer),
+        },
+    }
+}
+
+/// The term under one binder more for each of the names, the first outermost: a cell, a nominal constant or a bound name.
+/// It is walked through once for all names, and a part that is shared once at each number of binders.
+pub fn close_names(
+    alloc: Global,
+    store: &mut Store,
+    names: &[Head],
+    term: TermId,
+) -> Result<TermId, AllocError>
+    requires { Holds store.old term }
+    ensures adds { AddsTerms store.old store.new }
+    ensures held { IfOk result (λ r. Holds store.new r) }
+    ensures reads { IfOk result (λ r. (types : Table) → All (IsToldApart types store.old) names.now →
+        tree_of types store.new r ≡ close_names 0 (map (head_reading types store.old) names.now) (tree_of types store.old term)) }
+{
+    let mut memo = Memo::new(alloc);
+    close_at(alloc, store, 0, names, term, &mut memo)
+}
+
+/// The term under one binder more, whose name is `name`: a cell, a nominal constant or a bound name.
 pub fn close(
     alloc: Global,
     store: &mut Store,
@@ -95,17 +152,16 @@ pub fn close(
     ensures reads { IfOk result (λ r. (types : Table) → IsToldApart types store.old name →
         tree_of types store.new r ≡ closing.close 0 (head_reading types store.old name) (tree_of types store.old term)) }
 {
-    let mut memo = Memo::new(alloc);
-    close_at(alloc, store, 0, name, term, &mut memo)
+    close_names(alloc, store, &[name], term)
 }
 
-/// A term, where a binder is put in at `at` whose name is `name` outside of all binders.
+/// A term, behind `at` binders more.
 #[cycle(closed)]
 fn close_at(
     alloc: Global,
     store: &mut Store,
     at: usize,
-    name: Head,
+    names: &[Head],
     term: TermId,
     memo: &mut Memo,
 ) -> Result<TermId, AllocError>
@@ -114,15 +170,15 @@ fn close_at(
     ensures adds { AddsTerms store.old store.new }
     ensures held { IfOk result (λ r. Holds store.new r) }
     ensures kept { OnOk result (KeepsTerms store.new memo.new) }
-    ensures reads { IfOk result (λ r. (types : Table) → IsToldApart types store.old name → Remembers types store.old name memo.old →
-        tree_of types store.new r ≡ closing.close at (sunk at (head_reading types store.old name)) (tree_of types store.old term)) }
-    ensures memo { OnOk result ((types : Table) → IsToldApart types store.old name → Remembers types store.old name memo.old →
-        Remembers types store.new name memo.new) }
+    ensures reads { IfOk result (λ r. (types : Table) → All (IsToldApart types store.old) names.now → Remembers types store.old names.now memo.old →
+        tree_of types store.new r ≡ close_names at (map (head_reading types store.old) names.now) (tree_of types store.old term)) }
+    ensures memo { OnOk result ((types : Table) → All (IsToldApart types store.old) names.now → Remembers types store.old names.now memo.old →
+        Remembers types store.new names.now memo.new) }
 {
     match memo.answer(term, at) {
         Some(answer) => Ok(answer),
         None => {
-            let made = close_node(alloc, store, at, name, term, memo)?;
+            let made = close_node(alloc, store, at, names, term, memo)?;
             memo.keep(term, at, made)?;
             Ok(made)
         }
@@ -135,7 +191,7 @@ fn close_node(
     alloc: Global,
     store: &mut Store,
     at: usize,
-    name: Head,
+    names: &[Head],
     term: TermId,
     memo: &mut Memo,
 ) -> Result<TermId, AllocError>
@@ -144,19 +200,19 @@ fn close_node(
     ensures adds { AddsTerms store.old store.new }
     ensures held { IfOk result (λ r. Holds store.new r) }
     ensures kept { OnOk result (KeepsTerms store.new memo.new) }
-    ensures reads { IfOk result (λ r. (types : Table) → IsToldApart types store.old name → Remembers types store.old name memo.old →
-        tree_of types store.new r ≡ closing.close at (sunk at (head_reading types store.old name)) (tree_of types store.old term)) }
-    ensures memo { OnOk result ((types : Table) → IsToldApart types store.old name → Remembers types store.old name memo.old →
-        Remembers types store.new name memo.new) }
+    ensures reads { IfOk result (λ r. (types : Table) → All (IsToldApart types store.old) names.now → Remembers types store.old names.now memo.old →
+        tree_of types store.new r ≡ close_names at (map (head_reading types store.old) names.now) (tree_of types store.old term)) }
+    ensures memo { OnOk result ((types : Table) → All (IsToldApart types store.old) names.now → Remembers types store.old names.now memo.old →
+        Remembers types store.new names.now memo.new) }
 {
     match store.view(term).copy(alloc)? {
         Node::Lam(ty, hint, body) => {
-            let closed = close_at(alloc, store, next(at)?, name, body, memo)?;
+            let closed = close_at(alloc, store, next(at)?, names, body, memo)?;
             store.lam(ty, hint, closed)
         }
         Node::Spine(head, args) => {
-            let closed = close_all(alloc, store, at, name, args.as_slice(), memo)?;
-            store.spine(close_head(at, name, head)?, closed)
+            let closed = close_all(alloc, store, at, names, args.as_slice(), memo)?;
+            store.spine(close_head(names, at, head)?, closed)
         }
     }
 }
@@ -167,7 +223,7 @@ fn close_all(
     alloc: Global,
     store: &mut Store,
     at: usize,
-    name: Head,
+    names: &[Head],
     terms: &[TermId],
     memo: &mut Memo,
 ) -> Result<Vec<TermId>, AllocError>
@@ -176,14 +232,14 @@ fn close_all(
     ensures adds { AddsTerms store.old store.new }
     ensures held { IfOk result (λ rs. All (Holds store.new) rs.items) }
     ensures kept { OnOk result (KeepsTerms store.new memo.new) }
-    ensures reads { IfOk result (λ rs. (types : Table) → IsToldApart types store.old name → Remembers types store.old name memo.old →
-        map (tree_of types store.new) rs.items ≡ map (λ t. closing.close at (sunk at (head_reading types store.old name)) (tree_of types store.old t)) terms.now) }
-    ensures memo { OnOk result ((types : Table) → IsToldApart types store.old name → Remembers types store.old name memo.old →
-        Remembers types store.new name memo.new) }
+    ensures reads { IfOk result (λ rs. (types : Table) → All (IsToldApart types store.old) names.now → Remembers types store.old names.now memo.old →
+        map (tree_of types store.new) rs.items ≡ map (λ t. close_names at (map (head_reading types store.old) names.now) (tree_of types store.old t)) terms.now) }
+    ensures memo { OnOk result ((types : Table) → All (IsToldApart types store.old) names.now → Remembers types store.old names.now memo.old →
+        Remembers types store.new names.now memo.new) }
 {
     let mut closed = Vec::new(alloc);
     for term in terms {
-        closed.push(close_at(alloc, store, at, name, *term, memo)?)?;
+        closed.push(close_at(alloc, store, at, names, *term, memo)?)?;
     }
     Ok(closed)
 }

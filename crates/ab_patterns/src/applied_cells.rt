@@ -18,20 +18,13 @@ use std::alloc::{AllocError, Global};
 pub fn keep_heads(heads: &[Head], keep: &[bool], into: &mut Vec<Head>) -> Result<(), AllocError>
     ensures { OnOk result (into.new.items ≡ into.old.items ++ solve.kept keep.now heads.now) }
 {
-    match keep {
-        [] => Ok(()),
-        [first, rest @ ..] => match heads {
-            [] => Ok(()),
-            [head, others @ ..] => {
-                if *first {
-                    into.push(*head)?;
-                    keep_heads(others, rest, into)
-                } else {
-                    keep_heads(others, rest, into)
-                }
-            }
-        },
+    for place in 0..heads.len().min(keep.len()) {
+        if !keep[place] {
+            continue;
+        }
+        into.push(heads[place])?;
     }
+    Ok(())
 }
 
 /// The cell, given the names.
@@ -98,15 +91,15 @@ fn give_names(
     ensures reads { OnOk result (map (tree_of types.now store.new) into.new.items
         ≡ map (tree_of types.now store.old) into.old.items ++ name_list (codes "x") (type_of types.now ty) (map (head_reading types.now store.old) names.now)) }
 {
-    match names {
-        [] => Ok(()),
-        [first, rest @ ..] => match types.view(ty) {
-            TypeView::Base(_) => Ok(()),
+    let mut left = ty;
+    for name in names {
+        match types.view(left) {
+            TypeView::Base(_) => return Ok(()),
             TypeView::Arrow(from, to) => {
-                let form = eta(alloc, types, store, *first, from)?;
-                into.push(form)?;
-                give_names(alloc, types, store, to, rest, into)
+                into.push(eta(alloc, types, store, *name, from)?)?;
+                left = to;
             }
-        },
+        }
     }
+    Ok(())
 }

@@ -1,15 +1,26 @@
 //! Which names of a pattern are kept, where it becomes the same as another.
-ghost use Rattle.std.specs.Prelude.{◌≡◌, ◌↔◌, ◌++◌, true, map, All, IfOk, OnOk};
+ghost use Rattle.std.specs.Prelude.{◌≡◌, ◌<◌, ◌↔◌, true, length, get_or, map, All, IfOk};
 ghost use Rattle.std.specs.List.{list_all};
 ghost use Rattle.ab_term.specs.Abstraction as closing;
 ghost use Rattle.ab_norm.specs.ab_types.specs.Entries.{Table};
 ghost use Rattle.ab_norm.specs.ab_types.specs.Sound.{IsTable};
+ghost use Rattle.ab_norm.specs.ab_store.specs.declared.node.Head.{Head as AHead};
 ghost use Rattle.ab_norm.specs.ab_store.specs.Trees.{Contents, head_reading};
 ghost use Rattle.ab_norm.specs.ab_store.specs.Naming.{HeadIsTyped};
 ghost use Rattle.ab_unifiers.specs.Unification as solve;
 
+use crate::names::is_among;
+use crate::rigid_rules::is_same_head;
 use ab_norm::store::Head;
 use std::alloc::{AllocError, Global};
+
+/// Whether each list has a name at the place, and these are the same.
+fn agree_at(names: &[Head], others: &[Head], place: usize) -> bool
+    ensures { (result ≡ true) ↔ ((place < length names.now) × (place < length others.now)
+        × ((a b : AHead) → get_or names.now place a ≡ get_or others.now place b)) }
+{
+    place < names.len() && place < others.len() && is_same_head(names[place], others[place])
+}
 
 /// At each place, whether the names are the same.
 pub fn agreement_flags(
@@ -22,7 +33,9 @@ pub fn agreement_flags(
         keep.items ≡ solve.agreeing (map (head_reading types store) names.now) (map (head_reading types store) others.now)) }
 {
     let mut keep = Vec::new(alloc);
-    add_agreeing(names, others, &mut keep)?;
+    for place in 0..names.len().max(others.len()) {
+        keep.push(agree_at(names, others, place))?;
+    }
     Ok(keep)
 }
 
@@ -33,7 +46,9 @@ pub fn common(alloc: Global, names: &[Head], others: &[Head]) -> Result<Vec<bool
         keep.items ≡ map (closing.among (map (head_reading types store) others.now)) (map (head_reading types store) names.now)) }
 {
     let mut keep = Vec::new(alloc);
-    add_common(names, others, &mut keep)?;
+    for name in names {
+        keep.push(is_among(others, *name))?;
+    }
     Ok(keep)
 }
 
@@ -41,75 +56,10 @@ pub fn common(alloc: Global, names: &[Head], others: &[Head]) -> Result<Vec<bool
 pub fn keeps_all(keep: &[bool]) -> bool
     ensures { result ≡ list_all (λ kept. kept) keep.now }
 {
-    match keep {
-        [] => true,
-        [first, rest @ ..] => { if *first { keeps_all(rest) } else { false } }
-    }
-}
-
-/// Adds, for each place, whether the names are the same.
-fn add_agreeing(names: &[Head], others: &[Head], into: &mut Vec<bool>) -> Result<(), AllocError>
-    ensures { OnOk result ((types : Table) (store : Contents) → IsTable types →
-        All (HeadIsTyped types) names.now → All (HeadIsTyped types) others.now →
-        into.new.items ≡ into.old.items ++ solve.agreeing (map (head_reading types store) names.now) (map (head_reading types store) others.now)) }
-{
-    match names {
-        [] => match others {
-            [] => Ok(()),
-            [_, more @ ..] => {
-                into.push(false)?;
-                add_agreeing(names, more, into)
-            }
-        },
-        [first, rest @ ..] => match others {
-            [] => {
-                into.push(false)?;
-                add_agreeing(rest, others, into)
-            }
-            [other, more @ ..] => {
-                into.push(is_same_name(*first, *other))?;
-                add_agreeing(rest, more, into)
-            }
-        },
-    }
-}
-
-/// Adds, for each of the names, whether it is one of the others.
-fn add_common(names: &[Head], others: &[Head], into: &mut Vec<bool>) -> Result<(), AllocError>
-    ensures { OnOk result ((types : Table) (store : Contents) → IsTable types →
-        All (HeadIsTyped types) names.now → All (HeadIsTyped types) others.now →
-        into.new.items ≡ into.old.items ++ map (closing.among (map (head_reading types store) others.now)) (map (head_reading types store) names.now)) }
-{
-    match names {
-        [] => Ok(()),
-        [first, rest @ ..] => {
-            into.push(is_among(others, *first))?;
-            add_common(rest, others, into)
+    for kept in keep {
+        if !*kept {
+            return false;
         }
     }
-}
-
-/// Whether the name is one of these.
-fn is_among(names: &[Head], name: Head) -> bool
-    ensures { (types : Table) (store : Contents) → IsTable types →
-        All (HeadIsTyped types) names.now → HeadIsTyped types name →
-        result ≡ closing.among (map (head_reading types store) names.now) (head_reading types store name) }
-{
-    match names {
-        [] => false,
-        [first, rest @ ..] => {
-            if is_same_name(*first, name) {
-                true
-            } else {
-                is_among(rest, name)
-            }
-        }
-    }
-}
-
-/// Whether the two names are the same.
-fn is_same_name(a: Head, b: Head) -> bool
-    ensures { (result ≡ true) ↔ (a ≡ b) }
-{
-    a == b
+    true
 }

@@ -21,7 +21,7 @@ mod replacement_cells;
 mod rigid_rules;
 mod visited_nodes;
 
-pub use abstraction::{close, shift_head};
+pub use abstraction::{close, close_names, shift_head};
 pub use applied_cells::{apply_cell, keep_heads, value};
 pub use bound_cells::put;
 pub use equation::Numbered;

@@ -102,16 +102,12 @@ pub(crate) fn is_among(heads: &[Head], head: Head) -> bool
         All (HeadIsTyped types) heads.now → HeadIsTyped types head →
         result ≡ closing.among (map (head_reading types store) heads.now) (head_reading types store head) }
 {
-    match heads {
-        [] => false,
-        [first, rest @ ..] => {
-            if is_same_head(*first, head) {
-                true
-            } else {
-                is_among(rest, head)
-            }
+    for other in heads {
+        if is_same_head(*other, head) {
+            return true;
         }
     }
+    false
 }
 
 /// The names with one more before them, where it isn't one of them.

@@ -58,10 +58,10 @@ returns-in_ok-premise-in-Formula-clause-unified g c = λ p is.
     let d = defined_read w c.args.atom.now in
     let ch = choice_read w c.args.clause.now c.args.names.now in
     let formula = c.in-Formula.formula in
-    let reads = c.proving.ensures.reads v ∙ ap (λ q. proving (read v formula) (sequent_of v q)) c.in_ok-premise-in-Formula.ensures in
-    let one : c.proving.result ≡ p = cc in
+    let reads = c.with_conclusion.ensures.reads v ∙ ap (λ q. proving (read v formula) (sequent_of v q)) c.in_ok-premise-in-Formula.ensures in
+    let one : c.with_conclusion.result ≡ p = cc in
     subst (λ q. IsUnfolded (cells_read w.types w.store) (sequent_of w s) d ch (sequent_of v q)) one
-    (goal_is c.args.world.now c.conclusion_by-solved.new.world c.requires.world c.conclusion_by-solved.ensures.additions c.conclusion_by-solved.ensures.grows c.mark-mark.result c.mark-mark.ensures.has c.mark-mark.ensures.bindings c.rewind.new.self c.rewind.ensures.nodes c.rewind.ensures.cells c.rewind.ensures.bindings (c.rewind.ensures.typed c.conclusion_by-solved.new.world.types c.conclusion_by-solved.ensures.grows.typed) c.rewind.ensures.marks s c.proving.result c.requires.goal d ch formula reads
+    (goal_is c.args.world.now c.conclusion_by-solved.new.world c.requires.world c.conclusion_by-solved.ensures.additions c.conclusion_by-solved.ensures.grows c.mark-mark.result c.mark-mark.ensures.has c.mark-mark.ensures.bindings c.rewind.new.self c.rewind.ensures.nodes c.rewind.ensures.cells c.rewind.ensures.bindings (c.rewind.ensures.typed c.conclusion_by-solved.new.world.types c.conclusion_by-solved.ensures.grows.typed) c.rewind.ensures.marks s c.with_conclusion.result c.requires.goal d ch formula reads
     (c.conclusion_by-solved.ensures.formula (sequent_of w s) formula (c.in_ok-formula.was ∙ ap Ok c.in-Formula.is)))
 
 pub returns-in-Apart-clause-apart : goal.returns-in-Apart-clause-apart

@@ -4,4 +4,4 @@ use Rattle.ab_alternatives.proofs.quantifiers.+nabla_all.Goals as goal
 pub returns-in_ok-hint-in-len1-up-names-clause-adds :
     goal.returns-in_ok-hint-in-len1-up-names-clause-adds
 returns-in_ok-hint-in-len1-up-names-clause-adds t c =
-    typed_on c.args.types.now c.args.store.now c.nabla_all.new.store c.quantified.new.store c.nabla_all.ensures.adds c.quantified.ensures.adds
+    typed_on c.args.types.now c.args.store.now c.nabla_all.new.store c.quantifier_over.new.store c.nabla_all.ensures.adds c.quantifier_over.ensures.adds

@@ -1,21 +1,17 @@
-use Rattle.std.proofs.Common.{◌≡◌, ◌↔◌, ◌∙◌, ap, true, sym, subst}
+use Rattle.std.proofs.Common.{◌≡◌, ◌↔◌, ◌∙◌, true, sym, subst}
 use Rattle.ab_term.specs.Translation.{EqualPastHints}
-use Rattle.ab_store.specs.Trees.{Contents}
 use Rattle.ab_store.specs.Reading.{tree_of, reading}
+use Rattle.ab_norm.proofs.Copied.{same_still}
 use Rattle.ab_norm.proofs.Frame.{if_ok}
 use Rattle.ab_norm.proofs.equality.equal_apart.Goals as goal
-
-pub carry_resolved-requires-clause-apart : goal.carry_resolved-requires-clause-apart
-carry_resolved-requires-clause-apart c = c.in_ok-apart.ensures.typed c.args.types.now c.requires.store
-
-pub carry_resolved-requires-clause-cells : goal.carry_resolved-requires-clause-cells
-carry_resolved-requires-clause-cells c = ap (λ (s : Contents). s.cells) c.in_ok-apart.ensures.cells
 
 pub carry_resolved-requires-2-clause-apart : goal.carry_resolved-requires-2-clause-apart
 carry_resolved-requires-2-clause-apart c = c.in_ok-left.ensures.adds.typed
 
-pub carry_resolved-requires-2-clause-cells : goal.carry_resolved-requires-2-clause-cells
-carry_resolved-requires-2-clause-cells c = c.in_ok-left.ensures.adds.cells ∙ ap (λ (s : Contents). s.cells) c.in_ok-apart.ensures.cells
+pub carry_resolved-requires-2-clause-same : goal.carry_resolved-requires-2-clause-same
+carry_resolved-requires-2-clause-same c =
+    let left = c.in_ok-left.ensures in
+    same_still c.args.types.now c.args.store.now c.in_ok-apart.apart c.carry_resolved.new.apart c.in_ok-apart.ensures.same c.in_ok-apart.ensures.typed left.adds.before left.adds.cells
 
 pub is_equal-requires-clause-a : goal.is_equal-requires-clause-a
 is_equal-requires-clause-a c = c.in_ok-right.ensures.adds.before.ids c.in_ok-left.left c.in_ok-left.ensures.held

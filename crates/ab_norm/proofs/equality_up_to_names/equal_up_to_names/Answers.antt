@@ -1,6 +1,6 @@
-use Rattle.std.proofs.Common.{ap, sym, ◌∙◌}
-use Rattle.ab_store.specs.Trees.{Contents}
+use Rattle.std.proofs.Common.{sym, ◌∙◌}
 use Rattle.ab_store.proofs.Putting.{resolved_reads}
+use Rattle.ab_norm.proofs.Copied.{same_still}
 use Rattle.ab_norm.proofs.Frame.{if_ok}
 use Rattle.ab_norm.proofs.UpTo.{sends_alike, none_alike}
 use Rattle.ab_norm.proofs.equality_up_to_names.equal_up_to_names.Goals as goal
@@ -19,17 +19,13 @@ returns-then-branch-clause-none c =
     let clear = c.in_ok-are_resolved.ensures c.if-branch.true in
     if_ok c.permutation.result (λ found. none_alike found (sym (resolved_reads types store c.args.a clear.0)) (sym (resolved_reads types store c.args.b clear.1))) c.permutation.ensures.none
 
-pub carry_resolved-requires-clause-apart : goal.carry_resolved-requires-clause-apart
-carry_resolved-requires-clause-apart c = c.in_ok-apart.ensures.typed c.args.types.now c.requires.store
-
-pub carry_resolved-requires-clause-cells : goal.carry_resolved-requires-clause-cells
-carry_resolved-requires-clause-cells c = ap (λ (s : Contents). s.cells) c.in_ok-apart.ensures.cells
-
 pub carry_resolved-requires-2-clause-apart : goal.carry_resolved-requires-2-clause-apart
 carry_resolved-requires-2-clause-apart c = c.in_ok-left.ensures.adds.typed
 
-pub carry_resolved-requires-2-clause-cells : goal.carry_resolved-requires-2-clause-cells
-carry_resolved-requires-2-clause-cells c = c.in_ok-left.ensures.adds.cells ∙ ap (λ (s : Contents). s.cells) c.in_ok-apart.ensures.cells
+pub carry_resolved-requires-2-clause-same : goal.carry_resolved-requires-2-clause-same
+carry_resolved-requires-2-clause-same c =
+    let left = c.in_ok-left.ensures in
+    same_still c.args.types.now c.args.store.now c.in_ok-apart.apart c.carry_resolved.new.apart c.in_ok-apart.ensures.same c.in_ok-apart.ensures.typed left.adds.before left.adds.cells
 
 pub permutation-requires-2-clause-store : goal.permutation-requires-2-clause-store
 permutation-requires-2-clause-store c = c.in_ok-right.ensures.adds.typed

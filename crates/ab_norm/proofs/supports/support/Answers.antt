@@ -1,6 +1,5 @@
-use Rattle.std.proofs.Common.{ap, sym, subst, map}
+use Rattle.std.proofs.Common.{sym, subst, map}
 use Rattle.ab_term.specs.Names.{IsSupport}
-use Rattle.ab_store.specs.Trees.{Contents}
 use Rattle.ab_store.proofs.Putting.{resolved_reads}
 use Rattle.ab_norm.specs.Nominals.{nominal_of}
 use Rattle.ab_norm.proofs.Frame.{if_ok}
@@ -10,12 +9,6 @@ pub returns-then-branch-clause-reads : goal.returns-then-branch-clause-reads
 returns-then-branch-clause-reads c =
     let types = c.args.types.now in
     if_ok c.names_of.result (λ list. subst (λ t. IsSupport t (map (nominal_of types) list.items)) (sym (resolved_reads types c.args.store.now c.args.id (c.in_ok-is_resolved.ensures.0 c.if-branch.true)))) c.names_of.ensures.reads
-
-pub carry_resolved-requires-clause-apart : goal.carry_resolved-requires-clause-apart
-carry_resolved-requires-clause-apart c = c.in_ok-apart.ensures.typed c.args.types.now c.requires.store
-
-pub carry_resolved-requires-clause-cells : goal.carry_resolved-requires-clause-cells
-carry_resolved-requires-clause-cells c = ap (λ (s : Contents). s.cells) c.in_ok-apart.ensures.cells
 
 pub names_of-requires-2-clause-store : goal.names_of-requires-2-clause-store
 names_of-requires-2-clause-store c = c.in_ok-plain.ensures.adds.typed

@@ -1,8 +1,6 @@
-use Rattle.std.proofs.Common.{◌<◌, ◌≤◌, arith, ap, sym, ◌∙◌, get_or, map, subst, length}
+use Rattle.std.proofs.Common.{◌<◌, ◌≤◌, arith, ap, sym, ◌∙◌, get_or, subst, length}
 use Rattle.std.specs.List.{All}
 use Rattle.std.proofs.lemmas.List.Elements.{All-push, All-same, All-drop, All-weaker}
-use Rattle.ab_term.specs.Terms.{terms_of}
-use Rattle.ab_term.specs.Substitution.{reduce}
 use Rattle.ab_store.specs.ab_types.specs.Ids.{type_of}
 use Rattle.ab_store.specs.declared.node.TermId.{TermId}
 use Rattle.ab_store.specs.Naming.{HeadNames, NodeIsTyped}
@@ -15,7 +13,7 @@ use Rattle.ab_store.proofs.Growing.{extended_on}
 use Rattle.ab_norm.proofs.Frame.{if_ok, adds_on, spine_names, lam_names}
 use Rattle.ab_norm.proofs.Renamed.{read_more_before}
 use Rattle.ab_norm.proofs.Substituted.{applied, rest_is}
-use Rattle.ab_norm.proofs.Changed.{changed_on, changed_there, fits_on, remembers_on, remembers_more, remembers_none, adds_for_on, adds_terms, adds_for_lam, adds_for_spine, made_lam, made_spine, put_named, filled_here, filled_other, always_ok}
+use Rattle.ab_norm.proofs.Changed.{changed_on, changed_there, fits_on, remembers_on, remembers_more, remembers_none, adds_for_on, adds_terms, adds_for_lam, adds_for_spine, made_lam, made_spine, put_named, always_ok}
 use Rattle.ab_norm.proofs.term_walks.+walked.Goals as goal
 
 pub walk-returns-in-Some-clause-held : goal.walk-returns-in-Some-clause-held
@@ -187,34 +185,3 @@ reduce-returns-in_ok-applied-in-len1-up-clause-reads g t c =
     c.view-in-Arrow.result.now c.in-Lam.field-0 c.in-Lam.field-1 c.in-Lam.body (record { 0 = 0 }) c.args.args.now _
     (adds_terms (Put c.in-Arrow.from (get_or c.args.args.now 0 (record { 0 = 0 }))) c.args.store.now c.walk.new.store (λ types. tt) c.in_ok-applied-in-len1-up.ensures.adds) c.requires.args c.in-Arrow.ensures.reads (c.view-in-Arrow.ensures.tree c.args.types.now) c.in-Lam.is (omega arith) (rest_is c.args.args.now)
     c.in_ok-applied-in-len1-up.ensures.reads made) c.reduce.ensures.reads
-
-pub walk_head-reduce-requires-then-is_cell : goal.walk_head-reduce-requires-then-is_cell
-walk_head-reduce-requires-then-is_cell g t c = λ κs out.
-    let big = ap (rank c.args.types.now) c.in-Fill.is in
-    let fits = subst (Fits c.args.types.now c.args.store.now) c.in-Fill.is c.requires.fits in
-    (omega (arith, big, c.decreases), (out, (c.requires.types, (c.requires.store, (fits.2, (fits.3, All-same (Holds c.args.store.now) _ _ c.deref-then-is_cell.ensures.value c.requires.args))))))
-
-pub walk_head-returns-then-is_cell-clause-typed : goal.walk_head-returns-then-is_cell-clause-typed
-walk_head-returns-then-is_cell-clause-typed g t c = λ types suits d h. c.reduce-then-is_cell.ensures.adds.typed types d
-
-pub walk_head-returns-then-is_cell-clause-reads : goal.walk_head-returns-then-is_cell-clause-reads
-walk_head-returns-then-is_cell-clause-reads g t c =
-    let types = c.args.types.now in
-    let store = c.args.store.now in
-    let fits = subst (Fits types store) c.in-Fill.is c.requires.fits in
-    if_ok c.reduce-then-is_cell.result (λ r made.
-    made
-    ∙ ap (λ l. reduce (type_of types c.in-Fill.ty) (tree_of types store c.in-Fill.term) (terms_of (map (tree_of types store) l))) c.deref-then-is_cell.ensures.value
-    ∙ filled_here types store c.args.change.now c.args.depth c.in-Fill.cell c.in-Fill.ty c.in-Fill.term c.in-Fill.is c.args.head (terms_of (map (tree_of types store) c.args.args.items)) (c.is_cell.ensures.0 c.if-is_cell.true) fits.0) c.reduce-then-is_cell.ensures.reads
-
-pub walk_head-returns-else-is_cell-clause-typed : goal.walk_head-returns-else-is_cell-clause-typed
-walk_head-returns-else-is_cell-clause-typed g t c = λ types suits d h. c.spine_again-else-is_cell.ensures.typed types d h
-
-pub walk_head-returns-else-is_cell-clause-reads : goal.walk_head-returns-else-is_cell-clause-reads
-walk_head-returns-else-is_cell-clause-reads g t c =
-    let types = c.args.types.now in
-    let store = c.args.store.now in
-    if_ok c.spine_again-else-is_cell.result (λ r made.
-    made types
-    ∙ sym (filled_other types store c.args.change.now c.args.depth c.in-Fill.cell c.in-Fill.ty c.in-Fill.term c.in-Fill.is c.args.head (terms_of (map (tree_of types store) c.args.args.items))
-    (λ same. let f = sym c.if-is_cell.false ∙ c.is_cell.ensures.1 same in absurd (cc)))) c.spine_again-else-is_cell.ensures.reads

@@ -1,7 +1,7 @@
 use Rattle.std.proofs.Common.{arith}
 use Rattle.std.proofs.lemmas.Bool.{leb-true}
 use Rattle.ab_store.specs.Trees.{tree_of}
-use Rattle.ab_norm.proofs.Changed.{not_true, stays_by_none, stays_raised, stays_put, stays_renamed, stays_filled}
+use Rattle.ab_norm.proofs.Changed.{not_true, stays_by_none, stays_raised, stays_put, stays_renamed}
 use Rattle.ab_norm.proofs.term_walks.stays.Goals as goal
 
 pub returns-then-by-eq0 : goal.returns-then-by-eq0
@@ -20,7 +20,3 @@ returns-in-Put c = λ types e.
 pub returns-in-Rename : goal.returns-in-Rename
 returns-in-Rename c = λ types e.
     stays_renamed types c.args.store.now c.args.change.now c.args.depth (tree_of types c.args.store.now c.args.id) c.in-Rename.field-0 c.in-Rename.is (c.has_nominals.ensures.tree (not_true c.has_nominals.result e) types)
-
-pub returns-in-Fill : goal.returns-in-Fill
-returns-in-Fill c = λ types e.
-    stays_filled types c.args.store.now c.args.change.now c.args.depth (tree_of types c.args.store.now c.args.id) c.in-Fill.field-0 c.in-Fill.field-1 c.in-Fill.field-2 c.in-Fill.is (c.has_cells.ensures.tree (not_true c.has_cells.result e) types)

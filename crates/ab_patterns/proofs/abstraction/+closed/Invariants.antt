@@ -2,10 +2,9 @@ use Rattle.std.proofs.Common.{◌≡◌, ◌+◌, ◌*◌, map, take}
 use Rattle.std.specs.List.{All}
 use Rattle.ab_norm.specs.ab_types.specs.Entries.{Table}
 use Rattle.ab_norm.specs.ab_store.specs.Trees.{Holds, tree_of, head_reading}
-use Rattle.ab_term.specs.Abstraction as closing
 use Rattle.ab_norm.specs.NodeGrowth.{AddsTerms}
 use Rattle.ab_norm.proofs.Bounds.{ids_bound}
-use Rattle.ab_patterns.specs.Abstraction.{IsToldApart, KeepsTerms, Remembers, sunk}
+use Rattle.ab_patterns.specs.Abstraction.{IsToldApart, KeepsTerms, Remembers, close_names}
 use Rattle.ab_patterns.proofs.abstraction.+closed.Given as goal
 
 abbrev pub decreases-close_at : goal.decreases-close_at
@@ -22,6 +21,6 @@ invariant-close_all-loop-term l = record {
   adds : AddsTerms l.fn.store l.store;
   held : All (Holds l.store) l.closed.items;
   kept : KeepsTerms l.store l.memo;
-  reads : (types : Table) → IsToldApart types l.fn.store l.name → Remembers types l.fn.store l.name l.fn.memo → map (tree_of types l.store) l.closed.items ≡ map (λ t. closing.close l.at (sunk l.at (head_reading types l.fn.store l.name)) (tree_of types l.fn.store t)) (take l.term-index l.terms);
-  memo : (types : Table) → IsToldApart types l.fn.store l.name → Remembers types l.fn.store l.name l.fn.memo → Remembers types l.store l.name l.memo;
+  reads : (types : Table) → All (IsToldApart types l.fn.store) l.names → Remembers types l.fn.store l.names l.fn.memo → map (tree_of types l.store) l.closed.items ≡ map (λ t. close_names l.at (map (head_reading types l.fn.store) l.names) (tree_of types l.fn.store t)) (take l.term-index l.terms);
+  memo : (types : Table) → All (IsToldApart types l.fn.store) l.names → Remembers types l.fn.store l.names l.fn.memo → Remembers types l.store l.names l.memo;
 }

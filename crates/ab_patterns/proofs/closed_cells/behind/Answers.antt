@@ -1,6 +1,5 @@
-use Rattle.std.proofs.Common.{◌≢◌, ◌-◌, length, drop, arith, subst, sym, ◌∙◌, refl}
-use Rattle.std.specs.List.{All}
-use Rattle.ab_patterns.proofs.UnderAll.{any_default, none_behind, one_behind}
+use Rattle.std.proofs.Common.{◌-◌, length, arith, sym, ◌∙◌, refl}
+use Rattle.ab_patterns.proofs.Placements.{any_default, none_behind, one_behind}
 use Rattle.ab_patterns.proofs.closed_cells.behind.Goals as goal
 
 pub loop-done-init : goal.loop-done-init
