@@ -17,7 +17,7 @@ ghost use Rattle.ab_theory.specs.Splits.{Split};
 ghost use Rattle.ab_theory.specs.Atoms.{Defined, choices_of};
 ghost use Rattle.ab_theory.specs.Analysis.{scope_of, case_of, cases_of};
 ghost use Rattle.ab_unifiers.specs.Replacements.{Cell};
-ghost use Rattle.ab_theory.specs.CaseCoverage.{HasCover};
+ghost use Rattle.ab_unifiers.specs.CaseCoverage.{HasCover};
 ghost use Rattle.ab_theory.specs.InstanceCoverage.{AddsBehind, IsMetByOne};
 
 /// COVER, by one choice: each instance of the atom under a clean substitution is met by one choice, whose alternative covers it

@@ -13,7 +13,7 @@ use Rattle.ab_unifiers.proofs.Unique.{unique}
 use Rattle.ab_unifiers.proofs.Ending.{answered}
 use Rattle.ab_unifiers.specs.Clauses.{Clause}
 use Rattle.ab_unifiers.specs.Alternatives.{Scope, Alternative, on_left, alternatives}
-use Rattle.ab_unifiers.specs.InstanceCover.{Covers, IsCovered}
+use Rattle.ab_unifiers.specs.InstanceCover.{IsCovered}
 use Rattle.ab_unifiers.specs.Premises.{Premise, IsAnswered, LeadsTo, at_end, no_case, a_case, IsDecided, IsStuckAt, stuck_here, stuck_later, IsMet}
 use Rattle.ab_unifiers.proofs.Constants.{either}
 

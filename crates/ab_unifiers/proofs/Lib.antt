@@ -43,6 +43,7 @@ pub mod Matching
 pub mod Left
 pub mod Covered
 pub mod Swapped
+pub mod ByChoice
 pub mod SoundCases
 pub mod Equality
 pub mod Answered

@@ -11,6 +11,7 @@ pub mod Clauses
 pub mod Choices
 pub mod Alternatives
 pub mod InstanceCover
+pub mod CaseCoverage
 pub mod Premises
 pub mod Member
 pub mod Prefixes

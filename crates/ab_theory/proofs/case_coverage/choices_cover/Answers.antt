@@ -1,7 +1,7 @@
 use Rattle.ab_term.specs.Terms.{constant, spine}
 use Rattle.ab_unifiers.proofs.Atoms.{atom_of}
 use Rattle.ab_theory.proofs.PlainChoice.{covered_by_plain}
-use Rattle.ab_theory.proofs.ByChoice.{covered_by_choice}
+use Rattle.ab_unifiers.proofs.ByChoice.{covered_by_choice}
 use Rattle.ab_theory.proofs.case_coverage.choices_cover.Goals as goal
 
 pub returns-clause-without_names : goal.returns-clause-without_names

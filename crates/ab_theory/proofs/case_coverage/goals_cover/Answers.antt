@@ -6,7 +6,7 @@ use Rattle.ab_formulas.specs.NewNames.{IsNoVariable}
 use Rattle.ab_theory.specs.Analysis.{scope_of}
 use Rattle.std.proofs.Common.{codes}
 use Rattle.ab_theory.proofs.PlainChoice.{covered_by_plain}
-use Rattle.ab_theory.proofs.ByChoice.{covered_by_choice}
+use Rattle.ab_unifiers.proofs.ByChoice.{covered_by_choice}
 use Rattle.ab_theory.proofs.Walked.{met_by_one}
 use Rattle.ab_theory.proofs.case_coverage.goals_cover.Goals as goal
 

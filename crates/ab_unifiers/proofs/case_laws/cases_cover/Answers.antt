@@ -1,7 +1,7 @@
 use Rattle.ab_term.specs.Terms.{constant, spine}
 use Rattle.ab_unifiers.proofs.Atoms.{atom_of}
 use Rattle.ab_unifiers.proofs.Covered.{covered_plain}
-use Rattle.ab_unifiers.proofs.Swapped.{covered}
+use Rattle.ab_unifiers.proofs.ByChoice.{covered}
 use Rattle.ab_unifiers.proofs.case_laws.cases_cover.Goals as goal
 
 pub returns-clause-without_names : goal.returns-clause-without_names

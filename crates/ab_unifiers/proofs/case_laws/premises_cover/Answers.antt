@@ -3,7 +3,7 @@ use Rattle.ab_term.specs.Translation.{EqualPastHints}
 use Rattle.ab_term.specs.Names.{EqualUpToNames}
 use Rattle.ab_unifiers.proofs.Atoms.{atom_of}
 use Rattle.ab_unifiers.proofs.Covered.{covered_plain}
-use Rattle.ab_unifiers.proofs.Swapped.{covered}
+use Rattle.ab_unifiers.proofs.ByChoice.{covered}
 use Rattle.ab_unifiers.proofs.Leading.{met}
 use Rattle.ab_unifiers.proofs.case_laws.premises_cover.Goals as goal
 
