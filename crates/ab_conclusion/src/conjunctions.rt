@@ -1,5 +1,5 @@
 //! How a conjunction of any shape becomes goals.
-ghost use Rattle.std.specs.Prelude.{◌≡◌, ◌≢◌, [], Err, IfOk, OnOk, OnErr};
+ghost use Rattle.std.specs.Prelude.{◌≤◌, ◌≡◌, ◌≢◌, [], Err, IfOk, OnOk, OnErr};
 ghost use Rattle.ab_grammar.specs.CommandTrees as told;
 ghost use Rattle.ab_logic.specs.Worlds.{IsWorld};
 ghost use Rattle.ab_formulas.specs.NewNames as plain;
@@ -28,6 +28,7 @@ pub fn split_all<L>(
     ensures applied { IfOk result (λ u. (l : plain.Label) → IsApplied l told.split_all world.old proof.old world.new proof.new) }
     ensures refused { (fault : ProofCommandFault) → result ≡ Err fault → (l : plain.Label) → IsRefused l told.split_all world.old proof.old fault }
     ensures unchanged { OnErr result (history_of world.new proof.new ≡ history_of world.old proof.old) }
+    ensures steps { steps.old ≤ steps.new }
 {
     let count = proof.steps();
     let behind = proof.open_goals() - 1;
@@ -55,6 +56,7 @@ fn split_before<L>(
     requires proof { IsProof world.old proof.old }
     ensures follows { Follows world.old proof.old world.new proof.new }
     ensures parted { OnOk result (AreParted world.old proof.old world.new proof.new behind) }
+    ensures steps { steps.old ≤ steps.new }
 {
     let mut place = 0;
     while behind < proof.open_goals() - place {

@@ -53,7 +53,7 @@ pub(crate) fn hypothesis_labels(
     for index in 0..count {
         let name = hypothesis_name(alloc, world, &with_those, word, label, index)?;
         labels.push(Label::Given(name.copy(alloc)?))?;
-        with_those = with_those.assuming(name, goal.conclusion)?;
+        with_those = with_those.with_hypothesis(name, goal.conclusion)?;
     }
     Ok(labels)
 }

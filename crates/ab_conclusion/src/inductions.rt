@@ -1,5 +1,5 @@
 //! Induction and coinduction: each part of the conclusion gets a size, and is a hypothesis where that is smaller.
-ghost use Rattle.std.specs.Prelude.{◌≡◌, ◌≢◌, [], Err, IfOk, OnErr, map};
+ghost use Rattle.std.specs.Prelude.{◌≤◌, ◌≡◌, ◌≢◌, [], Err, IfOk, OnErr, map};
 ghost use Rattle.ab_steps.specs.ab_kernel.specs.ab_judgements.specs.ab_alternatives.specs.ab_equations.specs.Labels.{label_of};
 ghost use Rattle.ab_grammar.specs.CommandTrees as told;
 ghost use Rattle.ab_logic.specs.SequentReadings.{HoldsSequent, sequent_of};
@@ -41,6 +41,7 @@ pub fn induction<L>(
     ensures applied { IfOk result (λ u. IsApplied (label_of label.now) (told.induction places.now) world.old proof.old world.new proof.new) }
     ensures refused { (fault : ProofCommandFault) → result ≡ Err fault → IsRefused (label_of label.now) (told.induction places.now) world.old proof.old fault }
     ensures unchanged { OnErr result (history_of world.new proof.new ≡ history_of world.old proof.old) }
+    ensures steps { steps.old ≤ steps.new }
 {
     give_sizes(alloc, world, proof, label, Kind::Induction, places, steps)
 }
@@ -62,6 +63,7 @@ pub fn coinduction<L>(
     ensures applied { IfOk result (λ u. IsApplied (label_of label.now) told.coinduction world.old proof.old world.new proof.new) }
     ensures refused { (fault : ProofCommandFault) → result ≡ Err fault → IsRefused (label_of label.now) told.coinduction world.old proof.old fault }
     ensures unchanged { OnErr result (history_of world.new proof.new ≡ history_of world.old proof.old) }
+    ensures steps { steps.old ≤ steps.new }
 {
     give_sizes(alloc, world, proof, label, Kind::Coinduction, &[], steps)
 }
@@ -83,6 +85,7 @@ fn give_sizes<L>(
     ensures applied { IfOk result (λ u. IsApplied (label_of label.now) (command_by kind places.now) world.old proof.old world.new proof.new) }
     ensures refused { (fault : ProofCommandFault) → result ≡ Err fault → IsRefused (label_of label.now) (command_by kind places.now) world.old proof.old fault }
     ensures unchanged { OnErr result (history_of world.new proof.new ≡ history_of world.old proof.old) }
+    ensures steps { steps.old ≤ steps.new }
 {
     let goal = first_goal(world, proof);
     let labels = labels_for_sizes(alloc, world, goal, kind, places, label)?;

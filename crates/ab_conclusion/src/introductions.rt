@@ -45,6 +45,7 @@ pub fn intros<L>(
     ensures applied { IfOk result (λ u. (l : plain.Label) → IsApplied l (told.intros names.now) world.old proof.old world.new proof.new) }
     ensures refused { (fault : ProofCommandFault) → result ≡ Err fault → (l : plain.Label) → IsRefused l (told.intros names.now) world.old proof.old fault }
     ensures unchanged { OnErr result (history_of world.new proof.new ≡ history_of world.old proof.old) }
+    ensures steps { steps.old ≤ steps.new }
 {
     let goal = first_goal(world, proof);
     let conclusion = goal.conclusion;
@@ -138,6 +139,7 @@ fn introduce<L>(
         (ps : List AGoal) × Leads (introducing (declarations_of world.old) names.now s) ps × (goals_of world.new proof.new ≡ ps ++ rest)) }
     ensures refused { (fault : ProofCommandFault) → result ≡ Err fault → (s : AGoal) (rest : List AGoal) → goals_of world.old proof.old ≡ s ∷ rest →
         RefusedBy (introducing (declarations_of world.old) names.now s) fault }
+    ensures steps { steps.old ≤ steps.new }
 {
     let mut given = 0;
     'taking: loop {
@@ -169,6 +171,7 @@ fn introduce_one<L>(
     requires given { given ≤ length names.now }
     ensures follows { Follows world.old proof.old world.new proof.new }
     ensures taken { IfOk result (WasTaken names.now given world.old proof.old world.new proof.new) }
+    ensures steps { steps.old ≤ steps.new }
 {
     match shape(world, first_goal(world, proof).conclusion) {
         Form::Forall(_, _) => {

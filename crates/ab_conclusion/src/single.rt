@@ -1,5 +1,5 @@
 //! The proof commands that are one step of the kernel.
-ghost use Rattle.std.specs.Prelude.{◌≡◌, ◌≢◌, [], Err, IfOk, OnOk, OnErr};
+ghost use Rattle.std.specs.Prelude.{◌≤◌, ◌≡◌, ◌≢◌, [], Err, IfOk, OnOk, OnErr};
 ghost use Rattle.ab_grammar.specs.CommandTrees as told;
 ghost use Rattle.ab_logic.specs.Worlds.{IsWorld};
 ghost use Rattle.ab_formulas.specs.NewNames as plain;
@@ -26,6 +26,7 @@ pub fn split<L>(
     ensures applied { IfOk result (λ u. (l : plain.Label) → IsApplied l told.split world.old proof.old world.new proof.new) }
     ensures refused { (fault : ProofCommandFault) → result ≡ Err fault → (l : plain.Label) → IsRefused l told.split world.old proof.old fault }
     ensures unchanged { OnErr result (history_of world.new proof.new ≡ history_of world.old proof.old) }
+    ensures steps { steps.old ≤ steps.new }
 {
     let taken = attempt(world, proof, 0, Step::AndRight, steps)?;
     if taken {
@@ -48,6 +49,7 @@ pub fn left<L>(
     ensures applied { IfOk result (λ u. (l : plain.Label) → IsApplied l told.left world.old proof.old world.new proof.new) }
     ensures refused { (fault : ProofCommandFault) → result ≡ Err fault → (l : plain.Label) → IsRefused l told.left world.old proof.old fault }
     ensures unchanged { OnErr result (history_of world.new proof.new ≡ history_of world.old proof.old) }
+    ensures steps { steps.old ≤ steps.new }
 {
     let taken = attempt(world, proof, 0, Step::OrRight(true), steps)?;
     if taken {
@@ -70,6 +72,7 @@ pub fn right<L>(
     ensures applied { IfOk result (λ u. (l : plain.Label) → IsApplied l told.right world.old proof.old world.new proof.new) }
     ensures refused { (fault : ProofCommandFault) → result ≡ Err fault → (l : plain.Label) → IsRefused l told.right world.old proof.old fault }
     ensures unchanged { OnErr result (history_of world.new proof.new ≡ history_of world.old proof.old) }
+    ensures steps { steps.old ≤ steps.new }
 {
     let taken = attempt(world, proof, 0, Step::OrRight(false), steps)?;
     if taken {
@@ -93,6 +96,7 @@ pub fn skip<L>(
     ensures applied { IfOk result (λ u. (l : plain.Label) → IsApplied l told.skip world.old proof.old world.new proof.new) }
     ensures refused { (fault : ProofCommandFault) → result ≡ Err fault → (l : plain.Label) → IsRefused l told.skip world.old proof.old fault }
     ensures unchanged { OnErr result (history_of world.new proof.new ≡ history_of world.old proof.old) }
+    ensures steps { steps.old ≤ steps.new }
 {
     surely(world, proof, 0, Step::Skip, steps)?;
     Ok(())

@@ -63,6 +63,7 @@ fn unfold_by<L>(
     ensures follows { Follows world.old proof.old world.new proof.new }
     ensures applied { OnOk result ((l : plain.Label) → IsApplied l told.unfold_goal world.old proof.old world.new proof.new) }
     ensures unchanged { OnErr result (history_of world.new proof.new ≡ history_of world.old proof.old) }
+    ensures steps { steps.old ≤ steps.new }
 {
     match attempt_solving(world, proof, 0, Step::DefRight(place), steps)? {
         Attempted::Taken(_) => Ok(()),
@@ -88,6 +89,7 @@ pub fn unfold<L>(
     ensures applied { IfOk result (λ u. (l : plain.Label) → IsApplied l told.unfold_goal world.old proof.old world.new proof.new) }
     ensures refused { (fault : ProofCommandFault) → result ≡ Err fault → (l : plain.Label) → IsRefused l told.unfold_goal world.old proof.old fault }
     ensures unchanged { OnErr result (history_of world.new proof.new ≡ history_of world.old proof.old) }
+    ensures steps { steps.old ≤ steps.new }
 {
     let place = find_way(alloc, world, proof, steps)?;
     unfold_by(world, proof, place, steps)?;

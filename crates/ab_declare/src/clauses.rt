@@ -1,5 +1,5 @@
 //! The clauses of a definition.
-ghost use Rattle.std.specs.Prelude.{◌≡◌, map, MatchResult, All};
+ghost use Rattle.std.specs.Prelude.{◌≤◌, ◌≡◌, map, MatchResult, All};
 ghost use Rattle.ab_norm.specs.ab_types.specs.Entries.{kinds, constants, signature, IsExtendedBy};
 ghost use Rattle.ab_norm.specs.ab_types.specs.Sound.{IsTable};
 ghost use Rattle.ab_norm.specs.ab_store.specs.Naming.{IsTypedBy};
@@ -57,6 +57,7 @@ pub(crate) fn read_clauses<L>(
     ensures kept { IsExtendedBy types.old types.new }
     ensures table { IsTable types.new }
     ensures adds { AddsVariables types.new store.old store.new }
+    ensures steps { steps.old ≤ steps.new }
 {
     let formula = formula_type(alloc, types)?;
     let mut terms = Vec::new(alloc);

@@ -1,5 +1,5 @@
 //! Constants that are declared.
-ghost use Rattle.std.specs.Prelude.{◌≡◌, ◌++◌, ℕ, List, map, IfOk, OnErr, MatchOption, Some, None};
+ghost use Rattle.std.specs.Prelude.{◌≤◌, ◌≡◌, ◌++◌, ℕ, List, map, IfOk, OnErr, MatchOption, Some, None};
 ghost use Rattle.ab_term.specs.Constants.{constant};
 ghost use Rattle.ab_norm.specs.ab_types.specs.Entries.{constants, a_constant, IsExtendedBy};
 ghost use Rattle.ab_term.specs.Constants as table;
@@ -56,6 +56,7 @@ fn taken_name<L>(
         (first_taken (table.names (constants types.old)) names.now ≡ None)
         (λ f. (x : List ℕ) × (first_taken (table.names (constants types.old)) names.now ≡ Some x) × (f ≡ Clash x None))) }
     ensures same { types.new ≡ types.old }
+    ensures steps { steps.old ≤ steps.new }
 {
     let before = types.len();
     let answer = match formula_type(alloc, types) {
@@ -76,6 +77,7 @@ fn try_constants<L>(
 ) -> Result<Option<Refusal>, AllocError>
     ensures answer { IfOk result (TableDeclared types.old types.new (command.constants names.now (trees.type_of parse.now))) }
     ensures kept { IsExtendedBy types.old types.new }
+    ensures steps { steps.old ≤ steps.new }
 {
     if let Some(refusal) = taken_name(alloc, types, names, steps)? {
         return Ok(Some(refusal));
@@ -98,6 +100,7 @@ pub fn declare_constants<L>(
     requires { IsWorld world.old }
     ensures answer { IfOk result (Declared world.old world.new (command.constants names.now (trees.type_of parse.now))) }
     ensures err { OnErr result (world.new ≡ world.old) }
+    ensures steps { steps.old ≤ steps.new }
 {
     let before = world.types.len();
     match try_constants(alloc, &mut world.types, names, parse, steps) {

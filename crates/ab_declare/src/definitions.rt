@@ -1,5 +1,5 @@
 //! Definitions that are declared.
-ghost use Rattle.std.specs.Prelude.{◌≡◌, map, IfOk, OnErr, MatchResult};
+ghost use Rattle.std.specs.Prelude.{◌≤◌, ◌≡◌, map, IfOk, OnErr, MatchResult};
 ghost use Rattle.ab_norm.specs.ab_types.specs.Sound.{IsTable};
 ghost use Rattle.ab_grammar.specs.CommandTrees as command;
 ghost use Rattle.ab_syntax.specs.Commands.{defined_of, clause_of};
@@ -58,6 +58,7 @@ fn try_definition<L>(
     ensures defined { MatchResult result (λ u. IsDeclared world.old world.new (command.define inductive (map defined_of predicates.now) (map clause_of clauses.now)))
         (Halts (DefinesNothing (declarations_of world.old) inductive (map defined_of predicates.now) (map clause_of clauses.now))) }
     ensures more { OnErr result (HasMore world.old world.new) }
+    ensures steps { steps.old ≤ steps.new }
 {
     let ids = put_predicates(alloc, &mut world.types, predicates)?;
     look_at_clauses(alloc, &mut world.types, &world.store, clauses)?;
@@ -85,6 +86,7 @@ pub fn declare_definition<L>(
     requires world { IsWorld world.old }
     ensures answer { IfOk result (Declared world.old world.new (command.define inductive (map defined_of predicates.now) (map clause_of clauses.now))) }
     ensures err { OnErr result (IsRestored world.old world.new) }
+    ensures steps { steps.old ≤ steps.new }
 {
     let moment = Moment::of(world);
     match try_definition(alloc, world, inductive, predicates, clauses, steps) {

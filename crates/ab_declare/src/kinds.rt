@@ -1,5 +1,5 @@
 //! Kinds that are declared.
-ghost use Rattle.std.specs.Prelude.{◌≡◌, ◌++◌, List, ℕ, map, IfOk, OnErr, MatchOption, Some, None};
+ghost use Rattle.std.specs.Prelude.{◌≤◌, ◌≡◌, ◌++◌, List, ℕ, map, IfOk, OnErr, MatchOption, Some, None};
 ghost use Rattle.ab_norm.specs.ab_types.specs.Entries.{kinds, a_kind, IsExtendedBy};
 ghost use Rattle.ab_grammar.specs.CommandTrees as command;
 ghost use Rattle.ab_logic.specs.Worlds.{IsWorld};
@@ -45,6 +45,7 @@ pub fn declare_kinds<L>(
     requires { IsWorld world.old }
     ensures answer { IfOk result (Declared world.old world.new (command.kinds names.now)) }
     ensures err { OnErr result (world.new ≡ world.old) }
+    ensures steps { steps.old ≤ steps.new }
 {
     let before = world.types.len();
     match add_kinds(alloc, &mut world.types, names) {

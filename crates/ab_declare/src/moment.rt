@@ -1,5 +1,5 @@
 //! How much a world held, so that what came since can be dropped.
-ghost use Rattle.std.specs.Prelude.{◌≡◌, ◌+◌, [], length};
+ghost use Rattle.std.specs.Prelude.{◌≡◌, ◌≤◌, ◌+◌, [], length};
 ghost use Rattle.ab_logic.specs.Worlds.{IsWorld};
 ghost use Rattle.ab_logic.specs.declared.world.World.{World as AWorld};
 ghost use Rattle.ab_declare.specs.Moments.{IsMoment, HasMore, IsRestored};
@@ -34,6 +34,7 @@ impl Moment {
     pub fn cut_back<L>(&self, world: &mut World, steps: &mut Steps<L>)
         requires { (w : AWorld) × IsWorld w × IsMoment w self.now × HasMore w world.old }
         ensures restored { (w : AWorld) → IsWorld w → IsMoment w self.now → HasMore w world.old → IsRestored w world.new }
+        ensures counted { steps.old ≤ steps.new }
         ensures steps { world.old.store.bindings ≡ [] →
             steps.new + length world.new.types + length world.new.additions ≡ steps.old + length world.old.types + length world.old.additions }
     {

@@ -69,12 +69,12 @@ fn ends_in_prop(parse: &TypeParse) -> bool
 }
 
 /// Where a written type begins.
-fn beginning(parse: &TypeParse) -> usize
+fn first_place(parse: &TypeParse) -> usize
     ensures { result ≡ type_place (trees.type_of parse.now) }
 {
     match parse {
         TypeParse::Base(_, place) => *place,
-        TypeParse::Arrow(from, _) => beginning(from),
+        TypeParse::Arrow(from, _) => first_place(from),
     }
 }
 
@@ -91,7 +91,7 @@ fn look_at_type(alloc: Global, types: &mut TypeTable, predicate: &Defined) -> Re
     if ends_in_prop(&predicate.ty) {
         Ok(())
     } else {
-        let place = Place::here(beginning(&predicate.ty));
+        let place = Place::here(first_place(&predicate.ty));
         Err(Halt::Refused(Refusal::TypeClash(place)))
     }
 }

@@ -1,5 +1,5 @@
 //! The formulas that theorems state.
-ghost use Rattle.std.specs.Prelude.{◌≡◌, [], IfOk, OnErr};
+ghost use Rattle.std.specs.Prelude.{◌≤◌, ◌≡◌, [], IfOk, OnErr};
 ghost use Rattle.ab_term.specs.Types.{prop};
 ghost use Rattle.ab_norm.specs.ab_types.specs.Entries.{kinds, constants, signature, IsExtendedBy};
 ghost use Rattle.ab_norm.specs.ab_types.specs.Sound.{IsTable};
@@ -51,6 +51,7 @@ fn read_formula<L>(
     ensures constants { constants types.new ≡ constants types.old }
     ensures kept { IsExtendedBy types.old types.new }
     ensures adds { AddsTypedTerms types.new store.old store.new }
+    ensures steps { steps.old ≤ steps.new }
 {
     let prop = formula_type(alloc, types)?;
     let scope = Scope {
@@ -73,6 +74,7 @@ pub fn state_formula<L>(
     requires world { IsWorld world.old }
     ensures answer { IfOk result (Stated world.old world.new name.now (tree_of parse.now)) }
     ensures err { OnErr result (IsRestored world.old world.new) }
+    ensures steps { steps.old ≤ steps.new }
 {
     if world.theorem(name).is_some() {
         return Ok(Statement::Refused(Refusal::Clash(name.copy(alloc)?, None)));

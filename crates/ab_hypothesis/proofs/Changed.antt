@@ -11,7 +11,7 @@ use Rattle.ab_steps.specs.ab_kernel.specs.ab_rules.specs.Terms.{Adds}
 use Rattle.ab_theory.specs.Derivations.{History, open_goals}
 use Rattle.ab_steps.specs.ab_kernel.specs.Layout.{Held, IsProof, goals_of}
 use Rattle.ab_steps.specs.ab_kernel.proofs.Later.{still_proof}
-use Rattle.ab_steps.proofs.Following.{follows_same, as_before}
+use Rattle.ab_steps.proofs.Following.{follows_same, as_before, first_at as first}
 use Rattle.ab_steps.specs.Progress.{IsAt, Took, Follows}
 use Rattle.ab_hypothesis.specs.HypothesisProgress.{HasAt, MovedTo}
 use Rattle.ab_hypothesis.proofs.Hypotheses.{entry, named_gone, named_past, named_stays, named_last, named_still_none, others_last}
@@ -32,9 +32,6 @@ on_err (Ok x) q = tt
 on_err (Err e) q = q
 
 -- the goal of the first place
-first : (w : World) (p : Held) (s : Sequent) (rest : List Sequent) → goals_of w p ≡ s ∷ rest → IsAt w p 0 [] s rest
-first w p s rest goals = record { goals = goals; counted = refl }
-
 -- two goals come of a cut
 abbrev pub Cuts : World → Held → World → Held → List ℕ → Read → Type 0
 Cuts w p v q y F = (s : Sequent) (rest : List Sequent) → goals_of w p ≡ s ∷ rest → goals_of v q ≡ proving F s ∷ assuming y F s ∷ rest

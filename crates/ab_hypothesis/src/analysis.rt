@@ -1,6 +1,6 @@
 //! A hypothesis that is a defined atom or a judgement is analysed: the goal is split into its cases, and what each case assumes
 //! is opened.
-ghost use Rattle.std.specs.Prelude.{◌≡◌, ◌≢◌, ◌+◌, ℕ, [], Ok, Err, OnOk};
+ghost use Rattle.std.specs.Prelude.{◌≤◌, ◌≡◌, ◌≢◌, ◌+◌, ℕ, [], Ok, Err, OnOk};
 ghost use Rattle.ab_formulas.specs.Forms.{form_of};
 ghost use Rattle.ab_logic.specs.Worlds.{IsWorld, Holds, read};
 ghost use Rattle.ab_equations.specs.Labels.{label_of};
@@ -43,6 +43,7 @@ fn split_by<L>(
     ensures took { (n : ℕ) → result ≡ Ok (Taken n) → TookInto world.old proof.old world.new proof.new 0 (split_own own.now) n }
     ensures failed { (i : ℕ) → result ≡ Ok (Failed i) → FailsBy world.old proof.old 0 (split_own own.now) i }
     ensures stuck { (i : ℕ) → result ≡ Ok (Stuck i) → StuckAt world.old proof.old 0 (split_own own.now) i }
+    ensures steps { steps.old ≤ steps.new }
 {
     let name = own.copy(alloc)?;
     let given = own.copy(alloc)?;
@@ -67,6 +68,7 @@ fn open_each<L>(
     ensures follows { Follows world.old proof.old world.new proof.new }
     ensures opened { OnOk result (FirstOpened world.old proof.old (label_of label.now) count world.new proof.new) }
     ensures stopped { result ≡ Err AStop.NamesSpent → FirstNameless world.old proof.old (label_of label.now) count }
+    ensures steps { steps.old ≤ steps.new }
 {
     for place in 0..count {
         open_named(alloc, world, proof, place, label, own, steps)?;
@@ -97,6 +99,7 @@ pub(crate) fn analyse<L>(
     ensures marked { result ≡ Ok AnOutcome.Marked → CantTake world.old proof.old (label_of label.now) keep name.now (read world.old formula) mark }
     ensures stuck { (i : ℕ) → result ≡ Ok (AnOutcome.Stuck i) → CantTake world.old proof.old (label_of label.now) keep name.now (read world.old formula) (not_pattern (i + 1)) }
     ensures stopped { result ≡ Err AStop.NamesSpent → CantTake world.old proof.old (label_of label.now) keep name.now (read world.old formula) names_spent }
+    ensures steps { steps.old ≤ steps.new }
 {
     let own = begin(alloc, world, proof, label, name, formula, keep, steps)?;
     first_over_cells(world, proof);

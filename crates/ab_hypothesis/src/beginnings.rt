@@ -1,5 +1,5 @@
 //! A hypothesis is put behind the others under a name of the command's own, before it is taken apart.
-ghost use Rattle.std.specs.Prelude.{◌≡◌, ◌≢◌, [], ◌∷◌, List, IfOk};
+ghost use Rattle.std.specs.Prelude.{◌≤◌, ◌≡◌, ◌≢◌, [], ◌∷◌, List, IfOk};
 ghost use Rattle.ab_formulas.specs.Sequents.{Sequent as AGoal};
 ghost use Rattle.ab_logic.specs.Worlds.{IsWorld, Holds, read};
 ghost use Rattle.ab_equations.specs.Labels.{label_of};
@@ -42,6 +42,7 @@ pub(crate) fn begin<L>(
     ensures follows { Follows world.old proof.old world.new proof.new }
     ensures own { IfOk result (IsOwn (label_of label.now)) }
     ensures begun { IfOk result (λ own. Begun world.old proof.old world.new proof.new keep name.now own (read world.old formula)) }
+    ensures steps { steps.old ≤ steps.new }
 {
     let own = own_name(alloc, world, first_goal(world, proof), label)?;
     let given = own.copy(alloc)?;

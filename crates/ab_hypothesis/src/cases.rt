@@ -1,5 +1,5 @@
 //! A hypothesis is taken apart.
-ghost use Rattle.std.specs.Prelude.{◌≡◌, ◌≢◌, ◌↔◌, ◌+◌, ℕ, [], ◌∷◌, List, Ok, Err, IfOk, OnOk, OnErr, IsTrue, IsFalse};
+ghost use Rattle.std.specs.Prelude.{◌≤◌, ◌≡◌, ◌≢◌, ◌↔◌, ◌+◌, ℕ, [], ◌∷◌, List, Ok, Err, IfOk, OnOk, OnErr, IsTrue, IsFalse};
 ghost use Rattle.std.specs.Option.{option_map};
 ghost use Rattle.ab_grammar.specs.CommandTrees as told;
 ghost use Rattle.ab_formulas.specs.Forms.{form_of, either, falsity};
@@ -77,6 +77,7 @@ fn take_open<L>(
     ensures follows { Follows world.old proof.old world.new proof.new }
     ensures taken { OnOk result (TakenApart world.old proof.old world.new proof.new (label_of label.now) keep name.now (read world.old formula)) }
     ensures stopped { result ≡ Err AStop.NamesSpent → CantTake world.old proof.old (label_of label.now) keep name.now (read world.old formula) names_spent }
+    ensures steps { steps.old ≤ steps.new }
 {
     let own = begin(alloc, world, proof, label, name, formula, keep, steps)?;
     open_one(alloc, world, proof, 0, label, own, formula, steps)
@@ -104,6 +105,7 @@ fn take_or<L>(
     ensures follows { Follows world.old proof.old world.new proof.new }
     ensures taken { OnOk result (TakenApart world.old proof.old world.new proof.new (label_of label.now) keep name.now (read world.old formula)) }
     ensures stopped { result ≡ Err AStop.NamesSpent → CantTake world.old proof.old (label_of label.now) keep name.now (read world.old formula) names_spent }
+    ensures steps { steps.old ≤ steps.new }
 {
     let own = begin(alloc, world, proof, label, name, formula, keep, steps)?;
     let other = own.copy(alloc)?;
@@ -129,6 +131,7 @@ fn split_own<L>(
     ensures follows { Follows world.old proof.old world.new proof.new }
     ensures parted { OnOk result ((s : AGoal) (rest : List AGoal) → goals_of world.old proof.old ≡ s ∷ rest →
         goals_of world.new proof.new ≡ assuming name.now (read world.old parts.0) (without name.now s) ∷ assuming name.now (read world.old parts.1) (without name.now s) ∷ rest) }
+    ensures steps { steps.old ≤ steps.new }
 {
     let _ = formula;
     let _ = parts;
@@ -160,6 +163,7 @@ fn take_false<L>(
     requires form { form_of (read world.old formula) ≡ falsity }
     ensures follows { Follows world.old proof.old world.new proof.new }
     ensures taken { OnOk result (TakenApart world.old proof.old world.new proof.new (label_of label.now) keep name.now (read world.old formula)) }
+    ensures steps { steps.old ≤ steps.new }
 {
     let _ = label;
     let _ = formula;
@@ -188,6 +192,7 @@ fn take_equal<L>(
     ensures follows { Follows world.old proof.old world.new proof.new }
     ensures taken { IfOk result (λ b. IsTrue b → TakenApart world.old proof.old world.new proof.new (label_of label.now) keep name.now (read world.old formula)) }
     ensures stuck { IfOk result (λ b. IsFalse b → CantTake world.old proof.old (label_of label.now) keep name.now (read world.old formula) (not_pattern 1)) }
+    ensures steps { steps.old ≤ steps.new }
 {
     let own = begin(alloc, world, proof, label, name, formula, keep, steps)?;
     first_over_cells(world, proof);
@@ -221,6 +226,7 @@ fn take_apart<L>(
     ensures marked { result ≡ Ok AnOutcome.Marked → CantTake world.old proof.old (label_of label.now) keep name.now (read world.old formula) mark }
     ensures stuck { (i : ℕ) → result ≡ Ok (AnOutcome.Stuck i) → CantTake world.old proof.old (label_of label.now) keep name.now (read world.old formula) (not_pattern (i + 1)) }
     ensures stopped { result ≡ Err AStop.NamesSpent → CantTake world.old proof.old (label_of label.now) keep name.now (read world.old formula) names_spent }
+    ensures steps { steps.old ≤ steps.new }
 {
     match shape(world, formula) {
         Form::False => {
@@ -301,6 +307,7 @@ pub fn case<L>(
     ensures applied { IfOk result (λ u. IsApplied (label_of label.now) (told.case name.now keep) world.old proof.old world.new proof.new) }
     ensures refused { (fault : AFault) → result ≡ Err fault → IsRefused (label_of label.now) (told.case name.now keep) world.old proof.old fault }
     ensures unchanged { OnErr result (history_of world.new proof.new ≡ history_of world.old proof.old) }
+    ensures steps { steps.old ≤ steps.new }
 {
     let goal = first_goal(world, proof);
     let clash = label_clash(alloc, goal, label)?;

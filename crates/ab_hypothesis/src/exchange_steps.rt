@@ -1,5 +1,5 @@
 //! Nominal constants of the first goal change places, step by step.
-ghost use Rattle.std.specs.Prelude.{◌≡◌, ◌≢◌, ◌∷◌, [], List, AllPairs, IfOk, OnOk, OnErr};
+ghost use Rattle.std.specs.Prelude.{◌≤◌, ◌≡◌, ◌≢◌, ◌∷◌, [], List, AllPairs, IfOk, OnOk, OnErr};
 ghost use Rattle.ab_term.specs.Names as tree;
 ghost use Rattle.ab_norm.specs.ab_types.specs.Ids.{HoldsType, type_of};
 ghost use Rattle.ab_formulas.specs.Sequents.{Sequent as AGoal, proving, assuming, without};
@@ -61,6 +61,7 @@ pub(crate) fn turn_conclusion<L>(
     ensures turned { OnOk result ((s : AGoal) (rest : List AGoal) → goals_of world.old proof.old ≡ s ∷ rest →
         goals_of world.new proof.new ≡ proving (tree.permute (cycle (type_of world.old.types ty) numbers.now) (read world.old conclusion)) s ∷ rest) }
     ensures unchanged { OnErr result (history_of world.new proof.new ≡ history_of world.old proof.old) }
+    ensures steps { steps.old ≤ steps.new }
 {
     let formula = permuted_formula(alloc, world, conclusion, ty, numbers)?;
     let count = proof.steps();
@@ -97,6 +98,7 @@ pub(crate) fn turn_hypothesis<L>(
         goals_of world.new proof.new
         ≡ assuming name.now (tree.permute (cycle (type_of world.old.types ty) numbers.now) (read world.old hypothesis)) (without name.now s) ∷ rest) }
     ensures unchanged { OnErr result (history_of world.new proof.new ≡ history_of world.old proof.old) }
+    ensures steps { steps.old ≤ steps.new }
 {
     let formula = permuted_formula(alloc, world, hypothesis, ty, numbers)?;
     let count = proof.steps();

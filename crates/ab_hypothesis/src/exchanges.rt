@@ -1,5 +1,5 @@
 //! Nominal constants change places in a hypothesis or in the conclusion.
-ghost use Rattle.std.specs.Prelude.{◌≡◌, ◌≢◌, [], Some, None, Err, IfOk, OnErr};
+ghost use Rattle.std.specs.Prelude.{◌≤◌, ◌≡◌, ◌≢◌, [], Some, None, Err, IfOk, OnErr};
 ghost use Rattle.std.specs.Option.{option_copied};
 ghost use Rattle.ab_grammar.specs.CommandTrees as told;
 ghost use Rattle.ab_formulas.specs.NewNames as plain;
@@ -33,6 +33,7 @@ fn permute_conclusion<L>(
     ensures applied { IfOk result (λ u. (l : plain.Label) → IsApplied l (told.permute numbers.now None) world.old proof.old world.new proof.new) }
     ensures refused { (fault : AFault) → result ≡ Err fault → (l : plain.Label) → IsRefused l (told.permute numbers.now None) world.old proof.old fault }
     ensures unchanged { OnErr result (history_of world.new proof.new ≡ history_of world.old proof.old) }
+    ensures steps { steps.old ≤ steps.new }
 {
     let goal = first_goal(world, proof);
     let standing = common_type(alloc, world, goal, numbers)?;
@@ -63,6 +64,7 @@ fn permute_hypothesis<L>(
     ensures applied { IfOk result (λ u. (l : plain.Label) → IsApplied l (told.permute numbers.now (Some name.now)) world.old proof.old world.new proof.new) }
     ensures refused { (fault : AFault) → result ≡ Err fault → (l : plain.Label) → IsRefused l (told.permute numbers.now (Some name.now)) world.old proof.old fault }
     ensures unchanged { OnErr result (history_of world.new proof.new ≡ history_of world.old proof.old) }
+    ensures steps { steps.old ≤ steps.new }
 {
     let goal = first_goal(world, proof);
     let standing = common_type(alloc, world, goal, numbers)?;
@@ -102,6 +104,7 @@ pub fn permute<L>(
     ensures refused { (fault : AFault) → result ≡ Err fault → (l : plain.Label) →
         IsRefused l (told.permute numbers.now (option_copied name.entry)) world.old proof.old fault }
     ensures unchanged { OnErr result (history_of world.new proof.new ≡ history_of world.old proof.old) }
+    ensures steps { steps.old ≤ steps.new }
 {
     match name {
         None => permute_conclusion(alloc, world, proof, numbers, steps),

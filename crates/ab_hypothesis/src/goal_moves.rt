@@ -1,5 +1,5 @@
 //! A hypothesis is removed, is put behind the others once more, or is named anew there.
-ghost use Rattle.std.specs.Prelude.{◌≡◌, List, Some, IfOk, OnOk, IsTrue, IsFalse};
+ghost use Rattle.std.specs.Prelude.{◌≤◌, ◌≡◌, List, Some, IfOk, OnOk, IsTrue, IsFalse};
 ghost use Rattle.ab_term.specs.Terms.{Read};
 ghost use Rattle.ab_logic.specs.Worlds.{IsWorld, Holds, read};
 ghost use Rattle.ab_formulas.specs.NewNames.{NoName};
@@ -50,6 +50,7 @@ pub fn forget<L>(
     ensures follows { Follows world.old proof.old world.new proof.new }
     ensures forgotten { OnOk result ((before behind : List AGoal) (k : AGoal) → IsAt world.old proof.old place before k behind →
         IsAt world.new proof.new place before (without name.now k) behind) }
+    ensures steps { steps.old ≤ steps.new }
 {
     let name = name.copy(alloc)?;
     surely(world, proof, place, Step::Weaken(name), steps)
@@ -77,6 +78,7 @@ pub(crate) fn copy<L>(
     ensures unnamed { IfOk result (λ b. IsFalse b → (before behind : List AGoal) (k : AGoal) → IsAt world.old proof.old place before k behind →
         NoName (label_of label) k) }
     ensures unchanged { IfOk result (λ b. IsFalse b → history_of world.new proof.new ≡ history_of world.old proof.old) }
+    ensures steps { steps.old ≤ steps.new }
 {
     let closing = name.copy(alloc)?;
     let named = attempt(world, proof, place, Step::CutFormula(formula, label), steps)?;
@@ -110,6 +112,7 @@ pub fn shift<L>(
     ensures unnamed { IfOk result (λ b. IsFalse b → (before behind : List AGoal) (k : AGoal) → IsAt world.old proof.old place before k behind →
         NoName (label_of label) k) }
     ensures unchanged { IfOk result (λ b. IsFalse b → history_of world.new proof.new ≡ history_of world.old proof.old) }
+    ensures steps { steps.old ≤ steps.new }
 {
     let copied = copy(alloc, world, proof, place, name, formula, label, steps)?;
     if copied {

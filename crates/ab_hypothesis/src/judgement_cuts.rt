@@ -1,5 +1,5 @@
 //! A judgement is cut with another one.
-ghost use Rattle.std.specs.Prelude.{◌≡◌, ◌≢◌, ◌∷◌, [], Err, IfOk, OnOk, OnErr};
+ghost use Rattle.std.specs.Prelude.{◌≤◌, ◌≡◌, ◌≢◌, ◌∷◌, [], Err, IfOk, OnOk, OnErr};
 ghost use Rattle.std.specs.Option.{option_map, option_copied};
 ghost use Rattle.ab_grammar.specs.CommandTrees as told;
 ghost use Rattle.ab_logic.specs.Worlds.{IsWorld};
@@ -56,6 +56,7 @@ fn cut_by<L>(
     ensures took { OnOk result (Took world.old proof.old world.new proof.new 0 (spec_cut name.now other.now (label_of label.now))) }
     ensures refused { (fault : AFault) → result ≡ Err fault → IsntTaken world.old proof.old (spec_cut name.now other.now (label_of label.now)) fault }
     ensures unchanged { OnErr result (history_of world.new proof.new ≡ history_of world.old proof.old) }
+    ensures steps { steps.old ≤ steps.new }
 {
     let first = name.copy(alloc)?;
     let second = other.copy(alloc)?;
@@ -83,6 +84,7 @@ pub fn cut<L>(
     ensures applied { IfOk result (λ u. IsApplied (label_of label.now) (told.cut name.now other.now) world.old proof.old world.new proof.new) }
     ensures refused { (fault : AFault) → result ≡ Err fault → IsRefused (label_of label.now) (told.cut name.now other.now) world.old proof.old fault }
     ensures unchanged { OnErr result (history_of world.new proof.new ≡ history_of world.old proof.old) }
+    ensures steps { steps.old ≤ steps.new }
 {
     let goal = first_goal(world, proof);
     let clash = label_clash(alloc, goal, label)?;

@@ -1,5 +1,5 @@
 //! Steps of the rules of judgements: cut, instance and monotonicity.
-ghost use Rattle.std.specs.Prelude.{◌≡◌, ◌≢◌, [], Err, IfOk, OnOk, OnErr};
+ghost use Rattle.std.specs.Prelude.{◌≤◌, ◌≡◌, ◌≢◌, [], Err, IfOk, OnOk, OnErr};
 ghost use Rattle.ab_equations.specs.Labels.{label_of};
 ghost use Rattle.ab_logic.specs.Worlds.{IsWorld};
 ghost use Rattle.ab_steps.specs.ab_kernel.specs.ab_rules.specs.RuleAnswers.{step_of, HoldsStep};
@@ -57,6 +57,7 @@ pub fn take_judgement_step<L>(
     ensures took { OnOk result (Took world.old proof.old world.new proof.new 0 (step_of world.old step)) }
     ensures refused { (fault : AFault) → result ≡ Err fault → IsntTaken world.old proof.old (step_of world.old step) fault }
     ensures unchanged { OnErr result (history_of world.new proof.new ≡ history_of world.old proof.old) }
+    ensures steps { steps.old ≤ steps.new }
 {
     match attempt_solving(world, proof, 0, step, steps)? {
         Attempted::Taken(_) => Ok(()),

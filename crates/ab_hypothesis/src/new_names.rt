@@ -1,5 +1,5 @@
 //! A hypothesis gets another name.
-ghost use Rattle.std.specs.Prelude.{◌≡◌, ◌≢◌, [], Err, IfOk, OnErr};
+ghost use Rattle.std.specs.Prelude.{◌≤◌, ◌≡◌, ◌≢◌, [], Err, IfOk, OnErr};
 ghost use Rattle.ab_grammar.specs.CommandTrees as told;
 ghost use Rattle.ab_formulas.specs.NewNames as plain;
 ghost use Rattle.ab_logic.specs.Worlds.{IsWorld};
@@ -33,6 +33,7 @@ pub fn rename<L>(
     ensures applied { IfOk result (λ u. (l : plain.Label) → IsApplied l (told.rename name.now to.now) world.old proof.old world.new proof.new) }
     ensures refused { (fault : ProofCommandFault) → result ≡ Err fault → (l : plain.Label) → IsRefused l (told.rename name.now to.now) world.old proof.old fault }
     ensures unchanged { OnErr result (history_of world.new proof.new ≡ history_of world.old proof.old) }
+    ensures steps { steps.old ≤ steps.new }
 {
     let goal = first_goal(world, proof);
     if goal.uses(to) {

@@ -1,5 +1,5 @@
 //! How formulas become hypotheses.
-ghost use Rattle.std.specs.Prelude.{◌≡◌, [], ◌∷◌, List, Some, Err, map, reverse, IfOk, OnOk};
+ghost use Rattle.std.specs.Prelude.{◌≤◌, ◌≡◌, [], ◌∷◌, List, Some, Err, map, reverse, IfOk, OnOk};
 ghost use Rattle.ab_term.specs.Types.{Ty};
 ghost use Rattle.ab_term.specs.Terms.{Read};
 ghost use Rattle.ab_formulas.specs.Forms.{form_of, both, truth, exists, nabla};
@@ -60,6 +60,7 @@ fn open_both<L>(
     requires form { form_of (read world.old top.formula) ≡ both (read world.old parts.0) (read world.old parts.1) }
     ensures follows { Follows world.old proof.old world.new proof.new }
     ensures goes { OnOk result ((m : AName) → Goes world.old proof.old place (label_of label.now) m (top ∷ reverse pending.old.items) world.new proof.new m (reverse pending.new.items)) }
+    ensures steps { steps.old ≤ steps.new }
 {
     let Some(goal) = proof.goal(place) else {
         unreachable!();
@@ -98,6 +99,7 @@ fn open_exists<L>(
     requires form { (A : Ty) × (t : Read) × (form_of (read world.old top.formula) ≡ exists A t) }
     ensures follows { Follows world.old proof.old world.new proof.new }
     ensures goes { OnOk result ((m : AName) → Goes world.old proof.old place (label_of label.now) m (top ∷ reverse pending.old.items) world.new proof.new m (reverse pending.new.items)) }
+    ensures steps { steps.old ≤ steps.new }
 {
     let _ = label;
     let name = top.name.copy(alloc)?;
@@ -129,6 +131,7 @@ fn open_nabla<L>(
     requires form { (A : Ty) × (t : Read) × (form_of (read world.old top.formula) ≡ nabla A t) }
     ensures follows { Follows world.old proof.old world.new proof.new }
     ensures goes { OnOk result ((m : AName) → Goes world.old proof.old place (label_of label.now) m (top ∷ reverse pending.old.items) world.new proof.new m (reverse pending.new.items)) }
+    ensures steps { steps.old ≤ steps.new }
 {
     let _ = label;
     let name = top.name.copy(alloc)?;
@@ -160,6 +163,7 @@ fn open_true<L>(
     requires form { form_of (read world.old top.now.formula) ≡ truth }
     ensures follows { Follows world.old proof.old world.new proof.new }
     ensures goes { OnOk result ((m : AName) → Goes world.old proof.old place (label_of label.now) m (top.now ∷ reverse pending.now) world.new proof.new m (reverse pending.now)) }
+    ensures steps { steps.old ≤ steps.new }
 {
     let _ = label;
     let _ = pending;
@@ -185,6 +189,7 @@ fn open_whole<L>(
     ensures follows { Follows world.old proof.old world.new proof.new }
     ensures goes { OnOk result (Goes world.old proof.old place (label_of label.now) (label_left (label_of label.now) left) (top.now ∷ reverse pending.now) world.new proof.new auto (reverse pending.now)) }
     ensures stopped { result ≡ Err Stop.NamesSpent → CantOpen world.old proof.old place (label_left (label_of label.now) left) (top.now ∷ reverse pending.now) }
+    ensures steps { steps.old ≤ steps.new }
 {
     let _ = pending;
     let next = next_label(alloc, label, left)?;
@@ -220,6 +225,7 @@ fn open_top<L>(
     ensures goes { IfOk result (λ still. Goes world.old proof.old place (label_of label.now) (label_left (label_of label.now) left) (top ∷ reverse pending.old.items)
         world.new proof.new (label_left (label_of label.now) still) (reverse pending.new.items)) }
     ensures stopped { result ≡ Err Stop.NamesSpent → CantOpen world.old proof.old place (label_left (label_of label.now) left) (top ∷ reverse pending.old.items) }
+    ensures steps { steps.old ≤ steps.new }
 {
     match shape(world, top.formula) {
         Form::True => {
@@ -282,6 +288,7 @@ pub(crate) fn open<L>(
         OpenedTo (declarations_of world.old) (formulas (map (hypothesis_of world.old) (reverse pending.items))) (label_of label.now)
         (besides (map (hypothesis_of world.old) (reverse pending.items)) k) world.new proof.new place before behind) }
     ensures stopped { result ≡ Err Stop.NamesSpent → CantOpen world.old proof.old place (label_of label.now) (reverse pending.items) }
+    ensures steps { steps.old ≤ steps.new }
 {
     let mut left = true;
     while let Some(top) = pending.pop() {
@@ -331,6 +338,7 @@ pub fn open_one<L>(
         OpenedTo (declarations_of world.old) (read world.old formula ∷ []) (label_of label.now) (without name k) world.new proof.new place before behind) }
     ensures stopped { result ≡ Err Stop.NamesSpent → (before behind : List AGoal) (k : AGoal) → IsAt world.old proof.old place before k behind →
         Nameless (declarations_of world.old) (read world.old formula ∷ []) (label_of label.now) (without name k) }
+    ensures steps { steps.old ≤ steps.new }
 {
     let pending = alone(alloc, Hypothesis { name, formula })?;
     open(alloc, world, proof, place, label, pending, steps)
@@ -355,6 +363,7 @@ pub(crate) fn open_named<L>(
         OpenedTo (declarations_of world.old) (F ∷ []) (label_of label.now) (without own.now k) world.new proof.new place before behind) }
     ensures stopped { result ≡ Err Stop.NamesSpent → (before behind : List AGoal) (k : AGoal) (F : Read) → IsAt world.old proof.old place before k behind → formula_of k own.now ≡ Some F →
         Nameless (declarations_of world.old) (F ∷ []) (label_of label.now) (without own.now k) }
+    ensures steps { steps.old ≤ steps.new }
 {
     let formula = formula_at(world, proof, place, own);
     let name = own.copy(alloc)?;

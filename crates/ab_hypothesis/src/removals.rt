@@ -1,5 +1,5 @@
 //! Hypotheses are removed.
-ghost use Rattle.std.specs.Prelude.{◌≡◌, ◌≢◌, ◌∷◌, [], List, Err, IfOk, OnOk, OnErr};
+ghost use Rattle.std.specs.Prelude.{◌≤◌, ◌≡◌, ◌≢◌, ◌∷◌, [], List, Err, IfOk, OnOk, OnErr};
 ghost use Rattle.std.specs.Option.{option_map, option_copied};
 ghost use Rattle.ab_grammar.specs.CommandTrees as told;
 ghost use Rattle.ab_formulas.specs.NewNames as plain;
@@ -47,6 +47,7 @@ fn forget_one<L>(
     requires open { goals_of world.old proof.old ≢ [] }
     ensures follows { Follows world.old proof.old world.new proof.new }
     ensures forgotten { OnOk result ((s : AGoal) (rest : List AGoal) → goals_of world.old proof.old ≡ s ∷ rest → goals_of world.new proof.new ≡ without name.now s ∷ rest) }
+    ensures steps { steps.old ≤ steps.new }
 {
     if first_goal(world, proof).uses(name) {
         forget(alloc, world, proof, 0, name, steps)
@@ -68,6 +69,7 @@ fn forget_all<L>(
     requires open { goals_of world.old proof.old ≢ [] }
     ensures follows { Follows world.old proof.old world.new proof.new }
     ensures forgotten { OnOk result ((s : AGoal) (rest : List AGoal) → goals_of world.old proof.old ≡ s ∷ rest → goals_of world.new proof.new ≡ cleared names.now s ∷ rest) }
+    ensures steps { steps.old ≤ steps.new }
 {
     for name in names {
         forget_one(alloc, world, proof, name, steps)?;
@@ -90,6 +92,7 @@ pub fn clear<L>(
     ensures applied { IfOk result (λ u. (l : plain.Label) → IsApplied l (told.clear names.now) world.old proof.old world.new proof.new) }
     ensures refused { (fault : ProofCommandFault) → result ≡ Err fault → (l : plain.Label) → IsRefused l (told.clear names.now) world.old proof.old fault }
     ensures unchanged { OnErr result (history_of world.new proof.new ≡ history_of world.old proof.old) }
+    ensures steps { steps.old ≤ steps.new }
 {
     if let Some(name) = first_missing(first_goal(world, proof), names) {
         return Err(ProofCommandFault::NoHypothesis(name.copy(alloc)?));

@@ -1,5 +1,5 @@
 //! A hypothesis or the conclusion of the first goal gives way to a formula that comes of it.
-ghost use Rattle.std.specs.Prelude.{◌≡◌, ◌≢◌, ◌++◌, ◌∷◌, [], List, Some, OnOk};
+ghost use Rattle.std.specs.Prelude.{◌≤◌, ◌≡◌, ◌≢◌, ◌++◌, ◌∷◌, [], List, Some, OnOk};
 ghost use Rattle.ab_term.specs.Terms.{Read};
 ghost use Rattle.ab_formulas.specs.NewNames.{given};
 ghost use Rattle.ab_formulas.specs.Sequents.{Sequent as AGoal, formula_of, proving, assuming, without};
@@ -39,6 +39,7 @@ fn cut<L>(
     ensures follows { Follows world.old proof.old world.new proof.new }
     ensures cut { OnOk result ((s : AGoal) (rest : List AGoal) → goals_of world.old proof.old ≡ s ∷ rest →
         goals_of world.new proof.new ≡ proving (read world.old formula) s ∷ assuming name.now (read world.old formula) s ∷ rest) }
+    ensures steps { steps.old ≤ steps.new }
 {
     let given = name.copy(alloc)?;
     let step = Step::CutFormula(formula, Label::Given(given));
@@ -60,6 +61,7 @@ fn close<L>(
     ensures follows { Follows world.old proof.old world.new proof.new }
     ensures closed { OnOk result ((before behind : List AGoal) (k : AGoal) → IsAt world.old proof.old place before k behind →
         goals_of world.new proof.new ≡ before ++ behind) }
+    ensures steps { steps.old ≤ steps.new }
 {
     let given = name.copy(alloc)?;
     surely(world, proof, place, Step::Initial(given), steps)
@@ -82,6 +84,7 @@ pub(crate) fn change_conclusion<L>(
     ensures follows { Follows world.old proof.old world.new proof.new }
     ensures changed { OnOk result ((s : AGoal) (rest : List AGoal) → goals_of world.old proof.old ≡ s ∷ rest →
         goals_of world.new proof.new ≡ proving (read world.old formula) s ∷ rest) }
+    ensures steps { steps.old ≤ steps.new }
 {
     let own = own_name(alloc, world, first_goal(world, proof), &Label::Auto)?;
     cut(alloc, world, proof, formula, &own, steps)?;
@@ -109,6 +112,7 @@ fn put_beside<L>(
     ensures follows { Follows world.old proof.old world.new proof.new }
     ensures put { OnOk result ((s : AGoal) (rest : List AGoal) → goals_of world.old proof.old ≡ s ∷ rest →
         goals_of world.new proof.new ≡ assuming own.now (read world.old formula) s ∷ rest) }
+    ensures steps { steps.old ≤ steps.new }
 {
     cut(alloc, world, proof, formula, own, steps)?;
     close(alloc, world, proof, 0, name, steps)
@@ -133,6 +137,7 @@ pub(crate) fn change_hypothesis<L>(
     ensures follows { Follows world.old proof.old world.new proof.new }
     ensures changed { OnOk result ((s : AGoal) (rest : List AGoal) → goals_of world.old proof.old ≡ s ∷ rest →
         goals_of world.new proof.new ≡ assuming name.now (read world.old formula) (without name.now s) ∷ rest) }
+    ensures steps { steps.old ≤ steps.new }
 {
     let own = own_name(alloc, world, first_goal(world, proof), &Label::Auto)?;
     let back = name.copy(alloc)?;

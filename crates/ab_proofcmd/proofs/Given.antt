@@ -22,6 +22,7 @@ use Rattle.ab_hypothesis.specs.ab_steps.specs.ProofEffects.{RefusedBy}
 use Rattle.ab_hypothesis.specs.ab_steps.specs.declared.fault.ProofCommandFault.{ProofCommandFault}
 use Rattle.ab_hypothesis.specs.ab_steps.specs.declared.fault.ProofCommandFault.TheVariants.{Unknown, Clash, TypeClash, Untyped, NoHypothesis, WrongShape, Mark, NoMatch, NotPattern, Unresolved, NamesSpent, Memory}
 use Rattle.ab_proofcmd.specs.GivenTerms.{values_of, beside, AreRead, AreGiven}
+pub use Rattle.ab_formulas.proofs.OneType.{fewer}
 
 -- A ROW THAT REFUSES as another does
 pub refused_by : (R Q : Row) → ((f : Refusal) → Refuses R f → Refuses Q f) → (fault : ProofCommandFault) → RefusedBy R fault → RefusedBy Q fault
@@ -76,9 +77,6 @@ unfolding scope_by
 scope_beside D s ts =
     ap (λ xs. scope_by D xs (goal_names (beside s ts))) (same_variables s ts)
     ∙ ap (λ ns. scope_by D s.variables ns) (names_beside s ts)
-
-pub fewer : (M N : List Nominal) → ((a : Nominal) → Contains M a → Contains N a) → HasOneTypeEach N → HasOneTypeEach M
-fewer M N within one a b c d e = one a b (within a c) (within b d) e
 
 -- what fits beside terms fits the goal
 pub fits_alone : (D : Declarations) (s : Sequent) (ts : List Read) (t : Read) (A : Ty) → Fits D (beside s ts) t A → Fits D s t A

@@ -1,5 +1,5 @@
 //! A hypothesis or a theorem is applied to hypotheses.
-ghost use Rattle.std.specs.Prelude.{◌≡◌, ◌≢◌, ◌⊎◌, [], map, List, None, Err, IfOk, OnOk, OnErr, All};
+ghost use Rattle.std.specs.Prelude.{◌≤◌, ◌≡◌, ◌≢◌, ◌⊎◌, [], map, List, None, Err, IfOk, OnOk, OnErr, All};
 ghost use Rattle.std.specs.declared.alloc.AllocError.{AllocError as AMemory};
 ghost use Rattle.ab_grammar.specs.CommandTrees as told;
 ghost use Rattle.ab_grammar.specs.CommandTrees.{Instance as AnInstance};
@@ -103,6 +103,7 @@ fn ask<L>(
         RefusedBy (effect (declarations_of world.old) (label_of label.now) (told.apply name.now (map argument_of arguments.now) (map instance_of given.now)) (sequent_of world.old goal.now)) fault }
     ensures grows { Grows world.old world.new }
     ensures declared { declarations_of world.new ≡ declarations_of world.old }
+    ensures steps { steps.old ≤ steps.new }
 {
     let formula = look_up(alloc, world, goal, label, name, arguments)?;
     let count = arguments.len();
@@ -149,6 +150,7 @@ fn carry_out<L>(
     ensures owes { OnOk result (OwesUse name.now world.old proof.old world.new proof.new) }
     ensures left { OnOk result (LeavesOpened world.old proof.old world.new proof.new (label_of label.now) (map (given_of world.old) asked.now.given.items) (map (read world.old) asked.now.found.awaited.items) (read world.old asked.now.found.result)) }
     ensures stopped { result ≡ Err AStop.NamesSpent → CantOpenResult world.old proof.old (label_of label.now) (map (given_of world.old) asked.now.given.items) (read world.old asked.now.found.result) }
+    ensures steps { steps.old ≤ steps.new }
 {
     let own = own_name(alloc, world, first_goal(world, proof), label)?;
     let named = own.copy(alloc)?;
@@ -208,6 +210,7 @@ pub fn apply<L>(
     ensures applied { IfOk result (λ u. IsApplied (label_of label.now) (told.apply name.now (map argument_of arguments.now) (map instance_of given.now)) world.old proof.old world.new proof.new) }
     ensures refused { (fault : AFault) → result ≡ Err fault → IsRefused (label_of label.now) (told.apply name.now (map argument_of arguments.now) (map instance_of given.now)) world.old proof.old fault }
     ensures unchanged { OnErr result (history_of world.new proof.new ≡ history_of world.old proof.old) }
+    ensures steps { steps.old ≤ steps.new }
 {
     let goal = first_goal(world, proof);
     let asked = ask(alloc, world, goal, label, name, arguments, given, steps)?;

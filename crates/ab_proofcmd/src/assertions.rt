@@ -1,5 +1,5 @@
 //! A formula that is derived first, and then assumed.
-ghost use Rattle.std.specs.Prelude.{◌≡◌, ◌≢◌, [], ◌∷◌, List, Err, IfOk, OnOk, OnErr};
+ghost use Rattle.std.specs.Prelude.{◌≤◌, ◌≡◌, ◌≢◌, [], ◌∷◌, List, Err, IfOk, OnOk, OnErr};
 ghost use Rattle.std.specs.Option.{option_map};
 ghost use Rattle.ab_grammar.specs.CommandTrees as told;
 ghost use Rattle.ab_grammar.specs.Tree as tree;
@@ -87,6 +87,7 @@ fn cut<L>(
     ensures refused { (fault : AFault) → result ≡ Err fault → (s : AGoal) (rest : List AGoal) → goals_of world.old proof.old ≡ s ∷ rest →
         CutFails (declarations_of world.old) (read world.old formula) (label_of label) place s fault }
     ensures unchanged { OnErr result (history_of world.new proof.new ≡ history_of world.old proof.old) }
+    ensures steps { steps.old ≤ steps.new }
 {
     match proof.refine(world, 0, Step::CutFormula(formula, label), steps) {
         Ok(_) => Ok(()),
@@ -120,6 +121,7 @@ pub fn assert<L>(
     ensures applied { IfOk result (λ u. IsApplied (label_of label.now) (told.assert (tree_of formula.now)) world.old proof.old world.new proof.new) }
     ensures refused { (fault : AFault) → result ≡ Err fault → IsRefused (label_of label.now) (told.assert (tree_of formula.now)) world.old proof.old fault }
     ensures unchanged { OnErr result (history_of world.new proof.new ≡ history_of world.old proof.old) }
+    ensures steps { steps.old ≤ steps.new }
 {
     let goal = first_goal(world, proof);
     let clash = label_clash(alloc, goal, label)?;

@@ -1,5 +1,5 @@
 //! A goal gives way to what is awaited of a formula that is used.
-ghost use Rattle.std.specs.Prelude.{◌≡◌, ◌∷◌, List, map, OnOk, All};
+ghost use Rattle.std.specs.Prelude.{◌≤◌, ◌≡◌, ◌∷◌, List, map, OnOk, All};
 ghost use Rattle.ab_formulas.specs.Sequents.{Sequent as AGoal};
 ghost use Rattle.ab_logic.specs.Worlds.{IsWorld, Holds, read};
 ghost use Rattle.ab_logic.specs.declared.world.World.{World as AWorld};
@@ -22,7 +22,11 @@ use std::alloc::{AllocError, Global};
 
 /// The names of the hypotheses that meet the antecedents: those that are named, and these in order, one for each hole. There
 /// may be more holes behind the arguments.
-fn meeting(alloc: Global, arguments: &[Argument], own: Vec<Name>) -> Result<Vec<Name>, AllocError> {
+fn meeting_names(
+    alloc: Global,
+    arguments: &[Argument],
+    own: Vec<Name>,
+) -> Result<Vec<Name>, AllocError> {
     let mut names = Vec::new(alloc);
     let mut holes = own.into_iter();
     for argument in arguments {
@@ -70,6 +74,7 @@ pub fn show<L>(
     ensures follows { Advances world.old proof.old world.new proof.new }
     ensures owes { OnOk result (OwesUse source.now world.old proof.old world.new proof.new) }
     ensures shows { OnOk result (ShowsAll world.old proof.old world.new proof.new 0 (map (read world.old) found.now.awaited.items)) }
+    ensures steps { steps.old ≤ steps.new }
 {
     let is_hypothesis = has_hypothesis(proof, source);
     let mut own = Vec::new(alloc);
@@ -82,7 +87,7 @@ pub fn show<L>(
         &mut own,
         steps,
     )?;
-    let names = meeting(alloc, arguments, own)?;
+    let names = meeting_names(alloc, arguments, own)?;
     let current = take_up(
         alloc,
         world,

@@ -1,5 +1,5 @@
 //! Formulas that are awaited become goals, and hypotheses of what is left.
-ghost use Rattle.std.specs.Prelude.{map, OnOk, IfOk, All};
+ghost use Rattle.std.specs.Prelude.{◌≤◌, map, OnOk, IfOk, All};
 ghost use Rattle.ab_logic.specs.Worlds.{IsWorld, Holds, read};
 ghost use Rattle.ab_hypothesis.specs.ab_steps.specs.ab_kernel.specs.Layout.{IsProof};
 ghost use Rattle.ab_hypothesis.specs.ab_steps.specs.Progress.{Follows};
@@ -28,6 +28,7 @@ fn bare<L>(
     requires proof { IsProof world.old proof.old }
     ensures follows { Follows world.old proof.old world.new proof.new }
     ensures bares { OnOk result (Bares world.old proof.old world.new proof.new place names.now) }
+    ensures steps { steps.old ≤ steps.new }
 {
     match names {
         [] => Ok(()),
@@ -54,6 +55,7 @@ fn await_one<L>(
     requires formula { Holds world.old formula }
     ensures follows { Follows world.old proof.old world.new proof.new }
     ensures awaits { OnOk result (AwaitsOne world.old proof.old world.new proof.new place names.old.items (read world.old formula) names.new.items) }
+    ensures steps { steps.old ≤ steps.new }
 {
     let own = own_at(alloc, world, proof, place)?;
     let name = own.copy(alloc)?;
@@ -86,6 +88,7 @@ pub(crate) fn await_all<L>(
     requires formulas { All (Holds world.old) formulas.now }
     ensures follows { Follows world.old proof.old world.new proof.new }
     ensures awaits { IfOk result (AwaitsAll world.old proof.old world.new proof.new place names.old.items (map (read world.old) formulas.now)) }
+    ensures steps { steps.old ≤ steps.new }
 {
     match formulas {
         [] => Ok(place),

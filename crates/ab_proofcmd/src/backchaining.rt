@@ -1,5 +1,5 @@
 //! A goal's conclusion is what a hypothesis or a theorem leads to.
-ghost use Rattle.std.specs.Prelude.{◌≡◌, ◌≢◌, [], map, Some, Err, IfOk, OnOk, OnErr, All};
+ghost use Rattle.std.specs.Prelude.{◌≤◌, ◌≡◌, ◌≢◌, [], map, Some, Err, IfOk, OnOk, OnErr, All};
 ghost use Rattle.ab_grammar.specs.CommandTrees as told;
 ghost use Rattle.ab_syntax.specs.Commands.{instance_of};
 ghost use Rattle.ab_syntax.specs.ab_expressions.specs.SyntaxTrees.{tree_of};
@@ -65,6 +65,7 @@ fn ask<L>(
         RefusedBy (effect (declarations_of world.old) l (told.backchain name.now (map instance_of given.now)) (sequent_of world.old goal.now)) fault }
     ensures grows { Grows world.old world.new }
     ensures declared { declarations_of world.new ≡ declarations_of world.old }
+    ensures steps { steps.old ≤ steps.new }
 {
     let Some(formula) = formula_named(world, goal, name) else {
         return Err(ProofCommandFault::NoHypothesis(name.copy(alloc)?));
@@ -116,6 +117,7 @@ pub fn backchain<L>(
     ensures applied { IfOk result (λ u. (l : plain.Label) → IsApplied l (told.backchain name.now (map instance_of given.now)) world.old proof.old world.new proof.new) }
     ensures refused { (fault : AFault) → result ≡ Err fault → (l : plain.Label) → IsRefused l (told.backchain name.now (map instance_of given.now)) world.old proof.old fault }
     ensures unchanged { OnErr result (history_of world.new proof.new ≡ history_of world.old proof.old) }
+    ensures steps { steps.old ≤ steps.new }
 {
     let goal = first_goal(world, proof);
     let asked = ask(alloc, world, goal, name, given, steps)?;

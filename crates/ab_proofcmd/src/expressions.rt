@@ -1,5 +1,5 @@
 //! The expressions of proof commands.
-ghost use Rattle.std.specs.Prelude.{◌≡◌, All};
+ghost use Rattle.std.specs.Prelude.{◌≤◌, ◌≡◌, All};
 ghost use Rattle.ab_term.specs.Types.{prop, olist};
 ghost use Rattle.ab_norm.specs.ab_types.specs.Ids.{HoldsType, type_of};
 ghost use Rattle.ab_syntax.specs.ab_expressions.specs.SyntaxTrees.{tree_of};
@@ -45,6 +45,7 @@ pub(crate) fn read_beside<L>(
         (tree_of parse.now) (type_of world.old.types expected) world.new result }
     ensures grows { Grows world.old world.new }
     ensures declared { declarations_of world.new ≡ declarations_of world.old }
+    ensures steps { steps.old ≤ steps.new }
 {
     has_unique_ids(&world.types);
     let scope = scope_of(alloc, world, goal, given)?;
@@ -75,6 +76,7 @@ pub(crate) fn read_term<L>(
     ensures reads { IsReadAs (declarations_of world.old) (sequent_of world.old goal.now) (tree_of parse.now) (type_of world.old.types expected) world.new result }
     ensures grows { Grows world.old world.new }
     ensures declared { declarations_of world.new ≡ declarations_of world.old }
+    ensures steps { steps.old ≤ steps.new }
 {
     read_beside(alloc, world, goal, &[], parse, expected, steps)
 }
@@ -93,6 +95,7 @@ pub(crate) fn read_formula<L>(
     ensures reads { IsReadAs (declarations_of world.old) (sequent_of world.old goal.now) (tree_of parse.now) prop world.new result }
     ensures grows { Grows world.old world.new }
     ensures declared { declarations_of world.new ≡ declarations_of world.old }
+    ensures steps { steps.old ≤ steps.new }
 {
     has_unique_ids(&world.types);
     let expected = formula_type(alloc, &mut world.types)?;
@@ -113,6 +116,7 @@ pub(crate) fn read_list<L>(
     ensures reads { IsReadAs (declarations_of world.old) (sequent_of world.old goal.now) (tree_of parse.now) olist world.new result }
     ensures grows { Grows world.old world.new }
     ensures declared { declarations_of world.new ≡ declarations_of world.old }
+    ensures steps { steps.old ≤ steps.new }
 {
     let expected = list_type(alloc, world)?;
     read_term(alloc, world, goal, parse, expected, steps)

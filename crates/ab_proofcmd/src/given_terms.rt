@@ -1,5 +1,5 @@
 //! Terms that are given for the names of a formula's `forall`.
-ghost use Rattle.std.specs.Prelude.{◌≡◌, [], ◌∷◌, ◌++◌, map, bytes_eq, IfOk, OnOk, Err, Some, None, All};
+ghost use Rattle.std.specs.Prelude.{◌≤◌, ◌≡◌, [], ◌∷◌, ◌++◌, map, bytes_eq, IfOk, OnOk, Err, Some, None, All};
 ghost use Rattle.std.specs.List.{list_any};
 ghost use Rattle.ab_grammar.specs.CommandTrees.{Instance as AnInstance};
 ghost use Rattle.ab_syntax.specs.ab_expressions.specs.SyntaxTrees.{tree_of};
@@ -98,6 +98,7 @@ fn read_next<L>(
         (names_of (values_in world.old given.now)) (pieces count (read world.old formula)) (instance_of instance.now ∷ []) (λ gs. leads [])) fault }
     ensures grows { Grows world.old world.new }
     ensures declared { declarations_of world.new ≡ declarations_of world.old }
+    ensures steps { steps.old ≤ steps.new }
 {
     let name = instance.name.copy(alloc)?;
     let Some(ty) = type_named(world, formula, count, &instance.name) else {
@@ -139,6 +140,7 @@ fn read_each<L>(
         [] (pieces count (read world.old formula)) (map instance_of instances.now) (λ gs. leads [])) fault }
     ensures grows { Grows world.old world.new }
     ensures declared { declarations_of world.new ≡ declarations_of world.old }
+    ensures steps { steps.old ≤ steps.new }
 {
     let mut given = Vec::new(alloc);
     for instance in instances {
@@ -175,6 +177,7 @@ pub fn read_given<L>(
         (pieces count (read world.old formula)) (map instance_of instances.now) too_many fault }
     ensures grows { Grows world.old world.new }
     ensures declared { declarations_of world.new ≡ declarations_of world.old }
+    ensures steps { steps.old ≤ steps.new }
 {
     look_up(alloc, world, formula, count, instances)?;
     let given = read_each(alloc, world, goal, formula, count, instances, steps)?;

@@ -1,5 +1,5 @@
 //! A judgement with terms for nominal constants, and one with a larger list.
-ghost use Rattle.std.specs.Prelude.{◌≡◌, ◌≢◌, [], map, Err, IfOk, OnOk, OnErr, All};
+ghost use Rattle.std.specs.Prelude.{◌≤◌, ◌≡◌, ◌≢◌, [], map, Err, IfOk, OnOk, OnErr, All};
 ghost use Rattle.ab_grammar.specs.CommandTrees as told;
 ghost use Rattle.ab_syntax.specs.Commands.{instance_of};
 ghost use Rattle.ab_syntax.specs.ab_expressions.specs.SyntaxTrees.{tree_of};
@@ -44,6 +44,7 @@ fn put_terms<L>(
     ensures took { OnOk result (Took world.old proof.old world.new proof.new 0 (spec_instance name.now (replacements world.old replaces) (label_of label.now))) }
     ensures refused { (fault : AFault) → result ≡ Err fault → IsntTaken world.old proof.old (spec_instance name.now (replacements world.old replaces) (label_of label.now)) fault }
     ensures unchanged { OnErr result (history_of world.new proof.new ≡ history_of world.old proof.old) }
+    ensures steps { steps.old ≤ steps.new }
 {
     let own = name.copy(alloc)?;
     let given = again(alloc, label)?;
@@ -68,6 +69,7 @@ fn widen<L>(
     ensures took { OnOk result (Took world.old proof.old world.new proof.new 0 (spec_monotone name.now (read world.old wider) (label_of label.now))) }
     ensures refused { (fault : AFault) → result ≡ Err fault → IsntTaken world.old proof.old (spec_monotone name.now (read world.old wider) (label_of label.now)) fault }
     ensures unchanged { OnErr result (history_of world.new proof.new ≡ history_of world.old proof.old) }
+    ensures steps { steps.old ≤ steps.new }
 {
     let own = name.copy(alloc)?;
     let given = again(alloc, label)?;
@@ -95,6 +97,7 @@ pub fn inst<L>(
     ensures applied { IfOk result (λ u. IsApplied (label_of label.now) (told.inst name.now (map instance_of instances.now)) world.old proof.old world.new proof.new) }
     ensures refused { (fault : AFault) → result ≡ Err fault → IsRefused (label_of label.now) (told.inst name.now (map instance_of instances.now)) world.old proof.old fault }
     ensures unchanged { OnErr result (history_of world.new proof.new ≡ history_of world.old proof.old) }
+    ensures steps { steps.old ≤ steps.new }
 {
     let goal = first_goal(world, proof);
     let clash = label_clash(alloc, goal, label)?;
@@ -125,6 +128,7 @@ pub fn monotone<L>(
     ensures applied { IfOk result (λ u. IsApplied (label_of label.now) (told.monotone name.now (tree_of list.now)) world.old proof.old world.new proof.new) }
     ensures refused { (fault : AFault) → result ≡ Err fault → IsRefused (label_of label.now) (told.monotone name.now (tree_of list.now)) world.old proof.old fault }
     ensures unchanged { OnErr result (history_of world.new proof.new ≡ history_of world.old proof.old) }
+    ensures steps { steps.old ≤ steps.new }
 {
     let goal = first_goal(world, proof);
     let clash = label_clash(alloc, goal, label)?;

@@ -1,5 +1,5 @@
 //! One step that leads to as many goals as are awaited.
-ghost use Rattle.std.specs.Prelude.{OnOk};
+ghost use Rattle.std.specs.Prelude.{◌≤◌, OnOk};
 ghost use Rattle.ab_logic.specs.Worlds.{IsWorld};
 ghost use Rattle.ab_theory.specs.Derivations.{debts_of};
 ghost use Rattle.ab_hypothesis.specs.ab_steps.specs.ab_kernel.specs.ab_rules.specs.RuleAnswers.{step_of, HoldsStep};
@@ -30,6 +30,7 @@ pub fn step_into<L>(
     ensures owes { OnOk result (Owes (debts_of (step_of world.old step)) world.old proof.old world.new proof.new) }
     ensures took { OnOk result (TookInto world.old proof.old world.new proof.new place (step_of world.old step) count) }
     ensures gives { OnOk result (Gives world.old proof.old world.new proof.new place count) }
+    ensures steps { steps.old ≤ steps.new }
 {
     if place >= proof.open_goals() {
         return Err(AllocError);

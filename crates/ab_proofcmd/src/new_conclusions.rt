@@ -1,5 +1,5 @@
 //! The conclusion of a goal is changed to one that says the same, and holds the constants of terms that are given.
-ghost use Rattle.std.specs.Prelude.{◌≡◌, map, OnOk, IfOk, All};
+ghost use Rattle.std.specs.Prelude.{◌≤◌, ◌≡◌, map, OnOk, IfOk, All};
 ghost use Rattle.ab_norm.specs.ab_types.specs.Ids.{HoldsType};
 ghost use Rattle.ab_logic.specs.WorldGrowth.{Grows};
 ghost use Rattle.ab_logic.specs.Worlds.{IsWorld, Holds, read, declarations_of};
@@ -22,7 +22,7 @@ use ab_uses::GivenTerm;
 use std::alloc::{AllocError, Global};
 
 /// The implication between the formulas.
-fn implied(
+fn implication(
     alloc: Global,
     world: &mut World,
     left: TermId,
@@ -78,7 +78,7 @@ pub(crate) fn given_that(
         [first, others @ ..] => {
             let rest = given_that(alloc, world, others, formula)?;
             let equation = itself(alloc, world, first)?;
-            implied(alloc, world, equation, rest)
+            implication(alloc, world, equation, rest)
         }
     }
 }
@@ -98,6 +98,7 @@ fn leave_off<L>(
     requires proof { IsProof world.old proof.old }
     ensures follows { Follows world.old proof.old world.new proof.new }
     ensures gives { OnOk result (Gives world.old proof.old world.new proof.new place 0) }
+    ensures steps { steps.old ≤ steps.new }
 {
     match given {
         [] => step_into(world, proof, place, Step::Initial(current), 0, steps),
@@ -122,6 +123,7 @@ fn take_on<L>(
     requires proof { IsProof world.old proof.old }
     ensures follows { Follows world.old proof.old world.new proof.new }
     ensures gives { OnOk result (Gives world.old proof.old world.new proof.new place 0) }
+    ensures steps { steps.old ≤ steps.new }
 {
     match given {
         [] => step_into(world, proof, place, Step::Initial(current), 0, steps),
@@ -155,6 +157,7 @@ fn close_turned<L>(
     requires proof { IsProof world.old proof.old }
     ensures follows { Follows world.old proof.old world.new proof.new }
     ensures gives { OnOk result (Gives world.old proof.old world.new proof.new place 0) }
+    ensures steps { steps.old ≤ steps.new }
 {
     if on {
         leave_off(alloc, world, proof, place, current, given, steps)
@@ -180,6 +183,7 @@ pub(crate) fn turn<L>(
     requires formula { Holds world.old formula }
     ensures follows { Follows world.old proof.old world.new proof.new }
     ensures turns { OnOk result (Turns world.old proof.old world.new proof.new place (read world.old formula)) }
+    ensures steps { steps.old ≤ steps.new }
 {
     let own = own_at(alloc, world, proof, place)?;
     let name = own.copy(alloc)?;

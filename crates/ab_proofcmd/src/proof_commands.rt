@@ -1,5 +1,5 @@
 //! A proof command that has a row is carried out.
-ghost use Rattle.std.specs.Prelude.{◌≡◌, ◌≢◌, [], Err, IfOk, OnOk, OnErr};
+ghost use Rattle.std.specs.Prelude.{◌≤◌, ◌≡◌, ◌≢◌, [], Err, IfOk, OnOk, OnErr};
 ghost use Rattle.std.specs.Option.{option_copied};
 ghost use Rattle.ab_syntax.specs.Commands.{proof_command_of};
 ghost use Rattle.ab_logic.specs.Worlds.{IsWorld};
@@ -57,6 +57,7 @@ pub fn apply_proof_command<L>(
     ensures refused { (fault : AFault) → result ≡ Err fault →
         IsRefused (given_label (option_copied label.entry)) (proof_command_of command.now) world.old proof.old fault }
     ensures unchanged { OnErr result (history_of world.new proof.new ≡ history_of world.old proof.old) }
+    ensures steps { steps.old ≤ steps.new }
 {
     let wanted = label_wanted(alloc, label)?;
     match command {

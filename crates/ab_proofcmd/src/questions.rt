@@ -1,5 +1,5 @@
 //! What is asked before a formula is used.
-ghost use Rattle.std.specs.Prelude.{◌≡◌, ◌++◌, ◌∷◌, [], map, None, Err, IfOk, OnOk, IfSome, All, nat_lt, Option};
+ghost use Rattle.std.specs.Prelude.{◌≤◌, ◌≡◌, ◌++◌, ◌∷◌, [], map, None, Err, IfOk, OnOk, IfSome, All, nat_lt, Option};
 ghost use Rattle.std.specs.Option.{option_map, option_copied};
 ghost use Rattle.ab_norm.specs.ab_types.specs.Ids.{HoldsType};
 ghost use Rattle.ab_term.specs.Terms.{Read};
@@ -126,6 +126,7 @@ pub(crate) fn use_of<L>(
     ensures refused { (fault : AFault) → result ≡ Err fault → RefusedBy (left_to_show (using_of world.old goal.now formula count given.now aim.now) (λ K. leads [])) fault }
     ensures grows { Grows world.old world.new }
     ensures declared { declarations_of world.new ≡ declarations_of world.old }
+    ensures steps { steps.old ≤ steps.new }
 {
     match find_use(alloc, world, goal, formula, count, given, aim, steps)? {
         Found::Used(found) => Ok(found),

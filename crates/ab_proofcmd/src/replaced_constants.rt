@@ -1,5 +1,5 @@
 //! Terms that are given for the nominal constants of a judgement.
-ghost use Rattle.std.specs.Prelude.{◌≡◌, [], ◌∷◌, map, IfOk, IfSome, Err, None, All};
+ghost use Rattle.std.specs.Prelude.{◌≤◌, ◌≡◌, [], ◌∷◌, map, IfOk, IfSome, Err, None, All};
 ghost use Rattle.std.specs.Option.{option_map};
 ghost use Rattle.ab_norm.specs.ab_types.specs.Entries.{Table as ATable};
 ghost use Rattle.ab_norm.specs.Nominals.{nominal_of, HoldsNominal};
@@ -103,6 +103,7 @@ fn read_next<L>(
         (names_of (values_in world.old given.now)) (map (nominal_of world.old.types) names.now) (instance_of instance.now ∷ []) (λ rs. leads [])) fault }
     ensures grows { Grows world.old world.new }
     ensures declared { declarations_of world.new ≡ declarations_of world.old }
+    ensures steps { steps.old ≤ steps.new }
 {
     let name = instance.name.copy(alloc)?;
     let Some(constant) = constant_in(names, &instance.name) else {
@@ -136,6 +137,7 @@ fn read_each<L>(
         [] (map (nominal_of world.old.types) names.now) (map instance_of instances.now) (λ rs. leads [])) fault }
     ensures grows { Grows world.old world.new }
     ensures declared { declarations_of world.new ≡ declarations_of world.old }
+    ensures steps { steps.old ≤ steps.new }
 {
     let mut given = Vec::new(alloc);
     for instance in instances {
@@ -221,6 +223,7 @@ pub(crate) fn read_replaces<L>(
         RefusedBy (effect (declarations_of world.old) l (told.inst name.now (map instance_of instances.now)) (sequent_of world.old goal.now)) fault }
     ensures grows { Grows world.old world.new }
     ensures declared { declarations_of world.new ≡ declarations_of world.old }
+    ensures steps { steps.old ≤ steps.new }
 {
     let names = constants_of(alloc, world, goal, name, instances)?;
     let given = read_each(alloc, world, goal, &names, instances, steps)?;

@@ -1,5 +1,5 @@
 //! A formula is derived from a hypothesis or a theorem, stage by stage.
-ghost use Rattle.std.specs.Prelude.{[], ◌∷◌, OnOk, All};
+ghost use Rattle.std.specs.Prelude.{◌≤◌, [], ◌∷◌, OnOk, All};
 ghost use Rattle.ab_logic.specs.Worlds.{IsWorld, Holds};
 ghost use Rattle.ab_hypothesis.specs.ab_steps.specs.ab_kernel.specs.Layout.{IsProof};
 ghost use Rattle.ab_uses.specs.UseReadings.{HoldsStage};
@@ -47,6 +47,7 @@ fn take_hypothesis<L>(
     requires formula { Holds world.old formula }
     ensures follows { Follows world.old proof.old world.new proof.new }
     ensures gives { OnOk result (Gives world.old proof.old world.new proof.new place 1) }
+    ensures steps { steps.old ≤ steps.new }
 {
     let own = own_at(alloc, world, proof, place)?;
     let name = own.copy(alloc)?;
@@ -77,6 +78,7 @@ fn take_theorem<L>(
     ensures follows { Advances world.old proof.old world.new proof.new }
     ensures owes { OnOk result (Owes (theorem_taken source.now ∷ []) world.old proof.old world.new proof.new) }
     ensures gives { OnOk result (Gives world.old proof.old world.new proof.new place 1) }
+    ensures steps { steps.old ≤ steps.new }
 {
     let own = own_at(alloc, world, proof, place)?;
     let name = own.copy(alloc)?;
@@ -110,6 +112,7 @@ pub(crate) fn take_up<L>(
     ensures follows { Advances world.old proof.old world.new proof.new }
     ensures owes { OnOk result (Owes (taken_unless is_hypothesis source.now) world.old proof.old world.new proof.new) }
     ensures gives { OnOk result (Gives world.old proof.old world.new proof.new place 1) }
+    ensures steps { steps.old ≤ steps.new }
 {
     if is_hypothesis {
         take_hypothesis(alloc, world, proof, place, source, formula, steps)
@@ -133,6 +136,7 @@ fn put_term<L>(
     requires term { Holds world.old term }
     ensures follows { Follows world.old proof.old world.new proof.new }
     ensures gives { OnOk result (Gives world.old proof.old world.new proof.new place 1) }
+    ensures steps { steps.old ≤ steps.new }
 {
     let own = own_at(alloc, world, proof, place)?;
     let name = own.copy(alloc)?;
@@ -164,6 +168,7 @@ fn put_constant<L>(
     requires formula { Holds world.old formula }
     ensures follows { Follows world.old proof.old world.new proof.new }
     ensures gives { OnOk result (Gives world.old proof.old world.new proof.new place 1) }
+    ensures steps { steps.old ≤ steps.new }
 {
     let own = own_at(alloc, world, proof, place)?;
     let name = own.copy(alloc)?;
@@ -204,6 +209,7 @@ fn ask_antecedent<L>(
     requires proof { IsProof world.old proof.old }
     ensures follows { Follows world.old proof.old world.new proof.new }
     ensures gives { OnOk result (Gives world.old proof.old world.new proof.new place 2) }
+    ensures steps { steps.old ≤ steps.new }
 {
     let own = own_at(alloc, world, proof, place)?;
     let name = own.copy(alloc)?;
@@ -232,6 +238,7 @@ fn meet_by<L>(
     requires proof { IsProof world.old proof.old }
     ensures follows { Follows world.old proof.old world.new proof.new }
     ensures gives { OnOk result (Gives world.old proof.old world.new proof.new place 1) }
+    ensures steps { steps.old ≤ steps.new }
 {
     let closing = by.copy(alloc)?;
     let former = current.copy(alloc)?;
@@ -254,6 +261,7 @@ pub(crate) fn meet_equation<L>(
     requires proof { IsProof world.old proof.old }
     ensures follows { Follows world.old proof.old world.new proof.new }
     ensures gives { OnOk result (Gives world.old proof.old world.new proof.new place 1) }
+    ensures steps { steps.old ≤ steps.new }
 {
     let former = current.copy(alloc)?;
     let own = ask_antecedent(alloc, world, proof, place, current, steps)?;
@@ -279,6 +287,7 @@ fn take_stage<L>(
     requires stage { HoldsStage world.old stage.now }
     ensures follows { Follows world.old proof.old world.new proof.new }
     ensures gives { OnOk result (Gives world.old proof.old world.new proof.new place 1) }
+    ensures steps { steps.old ≤ steps.new }
 {
     match stage {
         Stage::Instance(term) => put_term(alloc, world, proof, place, current, *term, steps),
@@ -317,6 +326,7 @@ pub(crate) fn take_stages<L>(
     requires stages { All (HoldsStage world.old) stages.now }
     ensures follows { Follows world.old proof.old world.new proof.new }
     ensures gives { OnOk result (Gives world.old proof.old world.new proof.new place 0) }
+    ensures steps { steps.old ≤ steps.new }
 {
     match stages {
         [] => step_into(world, proof, place, Step::Initial(current), 0, steps),

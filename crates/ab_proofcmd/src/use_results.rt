@@ -1,5 +1,5 @@
 //! What a use leads to is opened, where no constant of a term that is given is new.
-ghost use Rattle.std.specs.Prelude.{◌≡◌, map, OnOk, Err, All, List};
+ghost use Rattle.std.specs.Prelude.{◌≤◌, ◌≡◌, map, OnOk, Err, All, List};
 ghost use Rattle.ab_norm.specs.ab_types.specs.Ids.{HoldsType};
 ghost use Rattle.ab_logic.specs.Worlds.{IsWorld, Holds, read};
 ghost use Rattle.ab_equations.specs.Labels.{label_of};
@@ -44,6 +44,7 @@ pub fn open_beside<L>(
     ensures follows { Follows world.old proof.old world.new proof.new }
     ensures opened { OnOk result (OpensBeside world.old proof.old world.new proof.new place (label_of label.now) own (map (given_of world.old) given.now) (read world.old formula)) }
     ensures stopped { result ≡ Err AStop.NamesSpent → CantOpenBeside world.old proof.old place (label_of label.now) own (map (given_of world.old) given.now) (read world.old formula) }
+    ensures steps { steps.old ≤ steps.new }
 {
     let Some(goal) = proof.goal(place) else {
         return Err(Stop::Memory(AllocError));

@@ -1,5 +1,5 @@
 //! A term for the name of an `exists`.
-ghost use Rattle.std.specs.Prelude.{◌≡◌, ◌≢◌, [], Err, IfOk, OnErr};
+ghost use Rattle.std.specs.Prelude.{◌≤◌, ◌≡◌, ◌≢◌, [], Err, IfOk, OnErr};
 ghost use Rattle.ab_grammar.specs.CommandTrees as told;
 ghost use Rattle.ab_syntax.specs.ab_expressions.specs.SyntaxTrees.{tree_of};
 ghost use Rattle.ab_formulas.specs.NewNames as plain;
@@ -34,6 +34,7 @@ pub fn exists<L>(
     ensures applied { IfOk result (λ u. (l : plain.Label) → IsApplied l (told.exists (tree_of term.now)) world.old proof.old world.new proof.new) }
     ensures refused { (fault : ProofCommandFault) → result ≡ Err fault → (l : plain.Label) → IsRefused l (told.exists (tree_of term.now)) world.old proof.old fault }
     ensures unchanged { OnErr result (history_of world.new proof.new ≡ history_of world.old proof.old) }
+    ensures steps { steps.old ≤ steps.new }
 {
     let goal = first_goal(world, proof);
     let Some((ty, _)) = as_exists(world, goal.conclusion) else {

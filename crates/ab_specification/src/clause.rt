@@ -1,5 +1,5 @@
 //! A clause of the program, as it is written.
-ghost use Rattle.std.specs.Prelude.{◌≡◌, ◌+◌, ◌<◌, ◌^◌, [], ◌∷◌, ◌++◌, IfOk, IfErr, MatchOption, None};
+ghost use Rattle.std.specs.Prelude.{◌≤◌, ◌≡◌, ◌+◌, ◌<◌, ◌^◌, [], ◌∷◌, ◌++◌, IfOk, IfErr, MatchOption, None};
 ghost use Rattle.ab_term.specs.Types.{o};
 ghost use Rattle.ab_grammar.specs.FileTrees as file;
 ghost use Rattle.ab_syntax.specs.Commands.{clause_of};
@@ -38,6 +38,7 @@ fn read_clause<L>(
     ensures unread { IfErr result (ClauseMeansNothing (kinds_in (declarations_of world.old)) (signature_in (declarations_of world.old)) (clause_of parse.now) o) }
     ensures grows { Grows world.old world.new }
     ensures same { declarations_of world.new ≡ declarations_of world.old }
+    ensures steps { steps.old ≤ steps.new }
 {
     has_unique_ids(&world.types);
     let formulas = formulas(alloc, &mut world.types)?;
@@ -77,6 +78,7 @@ fn add_clause<L>(
         (IsProgramHead (read world.old clause.head) × (declarations_of world.new ≡ declarations_of world.old ++ a_program_clause (clause_read world.old clause) ∷ []))
         (λ f. (¬ IsProgramHead (read world.old clause.head)) × (f ≡ BadHead number None))) }
     ensures grows { Grows world.old world.new }
+    ensures steps { steps.old ≤ steps.new }
 {
     match world.add_clause(clause, number, steps) {
         Ok(()) => Ok(None),
@@ -99,6 +101,7 @@ pub(crate) fn declare_clause<L>(
     requires few { clauses_before < 2 ^ 63 }
     ensures answer { IfOk result (ItemAnswer world.old world.new clauses_before (file.clause (clause_of parse.now))) }
     ensures grows { Grows world.old world.new }
+    ensures steps { steps.old ≤ steps.new }
 {
     match read_clause(alloc, world, parse, steps) {
         Ok(clause) => add_clause(world, clause, clauses_before + 1, steps),

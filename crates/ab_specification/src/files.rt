@@ -1,5 +1,5 @@
 //! The files of a specification.
-ghost use Rattle.std.specs.Prelude.{◌≡◌, map, Some, IfOk, OnErr};
+ghost use Rattle.std.specs.Prelude.{◌≤◌, ◌≡◌, map, Some, IfOk, OnErr};
 ghost use Rattle.ab_syntax.specs.FileItems.{own_item_of};
 ghost use Rattle.ab_logic.specs.WorldGrowth.{Grows};
 ghost use Rattle.ab_logic.specs.Worlds.{IsWorld};
@@ -41,6 +41,7 @@ fn declare_items<L>(
     requires { IsWorld world.old }
     ensures answer { IfOk result (ItemsAnswer world.old world.new (placed_items file.now 0 (map own_item_of items.now))) }
     ensures grows { Grows world.old world.new }
+    ensures steps { steps.old ≤ steps.new }
 {
     let mut clauses = 0;
     for item in items {
@@ -64,6 +65,7 @@ fn declare_files<L>(
     requires { IsWorld world.old }
     ensures answer { IfOk result (ItemsAnswer world.old world.new (items_of (map read_of files.now))) }
     ensures grows { Grows world.old world.new }
+    ensures steps { steps.old ≤ steps.new }
 {
     for file in files {
         match declare_items(alloc, world, &file.name, file.items.as_slice(), steps) {
@@ -88,6 +90,7 @@ pub fn declare_specification<L>(
     requires { IsWorld world.old }
     ensures answer { IfOk result (Specified world.old world.new (map read_of files.now)) }
     ensures err { OnErr result (IsRestored world.old world.new) }
+    ensures steps { steps.old ≤ steps.new }
 {
     let moment = Moment::of(world);
     match declare_files(alloc, world, files, steps) {

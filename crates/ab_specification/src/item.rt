@@ -36,6 +36,7 @@ pub(crate) fn declare_item<L>(
     requires few { clauses_before < 2 ^ 63 }
     ensures answer { IfOk result (ItemAnswer world.old world.new clauses_before (own_item_of item.now)) }
     ensures grows { Grows world.old world.new }
+    ensures steps { steps.old ≤ steps.new }
 {
     match item {
         SpecItem::Kind(names) => declare_kinds(alloc, world, names.as_slice(), steps),

@@ -26,6 +26,7 @@ loop-clause-init g c = record {
   adds = adds_nothing c.args.types.now c.formula_type.new.types c.args.store.now c.in_ok-formula.ensures.kept c.requires.store;
   formula_held = c.in_ok-formula.ensures.held;
   formula_is = c.in_ok-formula.ensures.is;
+  steps = omega arith;
 }
 
 pub returns-in_err-formula-clause-adds : goal.returns-in_err-formula-clause-adds
@@ -85,6 +86,7 @@ loop-clause-preserved g c =
       adds = record { before = extended_on c.args.store.now s r inv.adds.before now.adds.before; typed = now.adds.typed };
       formula_held = type_still_held u v now.kept formula inv.formula_held;
       formula_is = type_more u v now.kept formula inv.formula_held ∙ inv.formula_is;
+      steps = omega (arith, inv.steps, c.elaborate_clause.ensures.steps);
     }
 
 pub returns-clause-read : goal.returns-clause-read

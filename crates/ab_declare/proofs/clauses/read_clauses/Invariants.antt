@@ -1,4 +1,4 @@
-use Rattle.std.proofs.Common.{◌≡◌, map, take}
+use Rattle.std.proofs.Common.{◌≡◌, ◌≤◌, map, take}
 use Rattle.ab_term.specs.Types.{prop}
 use Rattle.ab_norm.specs.ab_types.specs.Entries.{kinds, constants, IsExtendedBy}
 use Rattle.ab_norm.specs.ab_types.specs.Ids.{HoldsType, type_of}
@@ -18,4 +18,5 @@ invariant-loop-clause g l = record {
   adds : AddsVariables l.types l.fn.store l.store;
   formula_held : HoldsType l.types l.formula;
   formula_is : type_of l.types l.formula ≡ prop;
+  steps : l.fn.steps ≤ l.steps;
 }

@@ -10,6 +10,7 @@ pub loop-place-init : goal.loop-place-init
 loop-place-init g c = record {
   follows = follows_not c.args.world.now c.args.proof.now c.requires.world c.requires.proof;
   so = begins c.args.world.now c.args.proof.now (label_of c.args.label.now) c.args.own.now c.args.count c.requires.wait;
+  steps = omega arith;
 }
 
 pub open_named-requires-clause-there : goal.open_named-requires-clause-there
@@ -32,6 +33,7 @@ loop-place-preserved g c = record {
   so =
       one_more c.args.world.now c.args.proof.now (label_of c.args.label.now) c.args.own.now c.args.count c.loop-place.world c.loop-place.proof c.loop-place.place c.loop-place.invariant.so
       c.open_named.new.world c.open_named.new.proof c.loop-place.invariant.follows.declared c.loop-place-test.true c.in_ok-open_named.ensures.opened;
+  steps = omega (arith, c.loop-place.invariant.steps, c.open_named.ensures.steps);
 }
 
 pub returns-clause-opened : goal.returns-clause-opened

@@ -13,6 +13,7 @@ loop-top-init g c = record {
   follows = follows_not _ _ c.requires.world c.requires.proof;
   pending = c.requires.pending;
   opens = opens_not _ _ _ _ _ _ c.requires.pending;
+  steps = omega arith;
 }
 
 pub returns-in_err-left-clause-follows : goal.returns-in_err-left-clause-follows
@@ -50,6 +51,7 @@ loop-top-preserved g c =
       pending = goes.pending;
       opens = opens_on w v c.open_top.new.world p q c.open_top.new.proof c.args.place l m n (reverse c.args.pending.items) (c.in-Some.top ∷ reverse rest) (reverse c.open_top.new.pending.items)
           c.loop-top.invariant.follows (subst (λ js. Opens w p c.args.place l (reverse c.args.pending.items) v q m js) list c.loop-top.invariant.opens) goes.opens;
+      steps = omega (arith, c.loop-top.invariant.steps, c.open_top.ensures.steps);
     }
 
 pub returns-clause-opened : goal.returns-clause-opened

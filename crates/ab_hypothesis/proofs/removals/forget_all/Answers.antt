@@ -24,6 +24,7 @@ loop-name-preserved g c = record {
       ∙ ap (λ t. t ∷ rest)
       (ap (λ x. without x (cleared (take c.loop-name.name-index c.args.names.now) s)) c.name-item.is
       ∙ sym (cleared_more c.args.names.now c.loop-name.name-index c.name-item.result s c.loop-name-test.true));
+  steps = omega (arith, c.loop-name.invariant.steps, c.forget_one.ensures.steps);
 }
 
 pub returns-clause-forgotten : goal.returns-clause-forgotten

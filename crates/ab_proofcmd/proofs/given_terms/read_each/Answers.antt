@@ -17,13 +17,13 @@ use Rattle.ab_proofcmd.proofs.TermSets.{ReadSoFar, one_now, read_one_more, unrea
 use Rattle.ab_proofcmd.proofs.given_terms.read_each.Goals as goal
 
 pub read_next-requires-clause-held : goal.read_next-requires-clause-held
-read_next-requires-clause-held g c = still_held c.args.world.now c.loop-instance.world c.loop-instance.invariant.grows c.args.goal.now c.requires.held
+read_next-requires-clause-held g c = still_held c.args.world.now c.loop-instance.world c.loop-instance.invariant.far.grows c.args.goal.now c.requires.held
 
 pub read_next-requires-clause-one_type : goal.read_next-requires-clause-one_type
 read_next-requires-clause-one_type g c =
     let w = c.loop-instance.world in
     subst (λ gs. HasOneTypeEach (goal_names (beside (sequent_of w c.args.goal.now) (values_in w gs)))) (sym c.deref.ensures.value)
-    (one_now c.args.world.now w c.args.goal.now c.args.formula c.args.count (map instance_of (take c.loop-instance.instance-index c.args.instances.now)) c.loop-instance.given.items c.requires.held c.requires.formula c.loop-instance.invariant)
+    (one_now c.args.world.now w c.args.goal.now c.args.formula c.args.count (map instance_of (take c.loop-instance.instance-index c.args.instances.now)) c.loop-instance.given.items c.requires.held c.requires.formula c.loop-instance.invariant.far)
 
 pub returns-in_err-next-clause-refused : goal.returns-in_err-next-clause-refused
 returns-in_err-next-clause-refused g c fault same =
@@ -38,16 +38,16 @@ returns-in_err-next-clause-refused g c fault same =
     let cause = c.in_err-next.field-0.0 in
     subst (RefusedBy (reading_each D s [] ps (map instance_of xs) (λ gs. leads []))) (same_fault c.from_residual.result cause fault c.from_residual.ensures.1 same)
     (subst (λ is. RefusedBy (reading_each D s [] ps is (λ gs. leads [])) cause) (parted instance_of xs k i c.loop-instance-test.true c.instance-item.is)
-    (unread_next old w c.args.goal.now c.args.formula c.args.count (map instance_of (take k xs)) c.loop-instance.given.items c.requires.held c.requires.formula c.loop-instance.invariant
+    (unread_next old w c.args.goal.now c.args.formula c.args.count (map instance_of (take k xs)) c.loop-instance.given.items c.requires.held c.requires.formula c.loop-instance.invariant.far
     (instance_of i) (map instance_of (drop (k + 1) xs)) cause
     (subst (λ gs. RefusedBy (reading_each (declarations_of w) (sequent_of w c.args.goal.now) (names_of (values_in w gs)) (pieces c.args.count (read w c.args.formula)) (instance_of i ∷ []) (λ hs. leads [])) cause)
     c.deref.ensures.value (c.in_err-next.ensures.refused cause refl))))
 
 pub returns-in_err-next-clause-grows : goal.returns-in_err-next-clause-grows
-returns-in_err-next-clause-grows g c = grows_on c.args.world.now c.loop-instance.world c.read_next.new.world c.loop-instance.invariant.grows c.read_next.ensures.grows
+returns-in_err-next-clause-grows g c = grows_on c.args.world.now c.loop-instance.world c.read_next.new.world c.loop-instance.invariant.far.grows c.read_next.ensures.grows
 
 pub returns-in_err-put-clause-grows : goal.returns-in_err-put-clause-grows
-returns-in_err-put-clause-grows g c = grows_on c.args.world.now c.loop-instance.world c.read_next.new.world c.loop-instance.invariant.grows c.read_next.ensures.grows
+returns-in_err-put-clause-grows g c = grows_on c.args.world.now c.loop-instance.world c.read_next.new.world c.loop-instance.invariant.far.grows c.read_next.ensures.grows
 
 pub loop-instance-preserved : goal.loop-instance-preserved
 loop-instance-preserved g c =
@@ -59,16 +59,19 @@ loop-instance-preserved g c =
     let i = c.instance-item.result in
     let gs = c.loop-instance.given.items in
     let is = map instance_of (take k xs) in
-    subst (λ is. ReadSoFar old v c.args.goal.now c.args.formula c.args.count is c.put.new.given.items) (sym (one_longer instance_of xs k i c.loop-instance-test.true c.instance-item.is))
-    (subst (ReadSoFar old v c.args.goal.now c.args.formula c.args.count (is ++ instance_of i ∷ [])) (sym c.in_ok-put.ensures)
-    (read_one_more old w c.args.goal.now c.args.formula c.args.count is gs c.requires.held c.requires.formula c.loop-instance.invariant v (instance_of i) c.in_ok-next.next
-    c.read_next.ensures.grows c.read_next.ensures.declared c.in_ok-next.ensures.held
-    (subst (λ hs. IsNext (declarations_of w) (sequent_of w c.args.goal.now) (values_in w hs) (pieces c.args.count (read w c.args.formula)) (instance_of i) (given_of v c.in_ok-next.next))
-    c.deref.ensures.value c.in_ok-next.ensures.next)))
+    record {
+      far = subst (λ is. ReadSoFar old v c.args.goal.now c.args.formula c.args.count is c.put.new.given.items) (sym (one_longer instance_of xs k i c.loop-instance-test.true c.instance-item.is))
+          (subst (ReadSoFar old v c.args.goal.now c.args.formula c.args.count (is ++ instance_of i ∷ [])) (sym c.in_ok-put.ensures)
+          (read_one_more old w c.args.goal.now c.args.formula c.args.count is gs c.requires.held c.requires.formula c.loop-instance.invariant.far v (instance_of i) c.in_ok-next.next
+          c.read_next.ensures.grows c.read_next.ensures.declared c.in_ok-next.ensures.held
+          (subst (λ hs. IsNext (declarations_of w) (sequent_of w c.args.goal.now) (values_in w hs) (pieces c.args.count (read w c.args.formula)) (instance_of i) (given_of v c.in_ok-next.next))
+          c.deref.ensures.value c.in_ok-next.ensures.next)));
+      steps = omega (arith, c.loop-instance.invariant.steps, c.read_next.ensures.steps);
+    }
 
 pub returns-clause-read : goal.returns-clause-read
 returns-clause-read g c =
     let old = c.args.world.now in
     let done = c.loop-instance-test.false in
     subst (λ xs. AreRead (declarations_of old) (sequent_of old c.args.goal.now) [] (pieces c.args.count (read old c.args.formula)) (map instance_of xs) (map (given_of c.loop-instance.world) c.loop-instance.given.items))
-    (take_all c.loop-instance.instance-index c.args.instances.now (omega arith)) c.loop-instance.invariant.read_in
+    (take_all c.loop-instance.instance-index c.args.instances.now (omega arith)) c.loop-instance.invariant.far.read_in

@@ -11,6 +11,7 @@ pub loop-file-init : goal.loop-file-init
 loop-file-init g c = record {
   so_far = none_yet c.args.world.now (items_of (map read_of c.args.files.now));
   grows = grows_not c.args.world.now c.requires;
+  steps = omega arith;
 }
 
 pub declare_items-requires : goal.declare_items-requires
@@ -49,6 +50,7 @@ loop-file-preserved g c =
     record {
       so_far = items_more w now all c.declare_items.new.world (placed_items f.name 0 (map own_item_of c.as_slice.result.now)) rest at told;
       grows = grows_on w now c.declare_items.new.world c.loop-file.invariant.grows c.declare_items.ensures.grows;
+      steps = omega (arith, c.loop-file.invariant.steps, c.declare_items.ensures.steps);
     }
 
 pub returns-clause-answer : goal.returns-clause-answer

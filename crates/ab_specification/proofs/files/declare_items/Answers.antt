@@ -11,6 +11,7 @@ loop-item-init g c = record {
   so_far = none_yet c.args.world.now (placed_items c.args.file.now 0 (map own_item_of c.args.items.now));
   grows = grows_not c.args.world.now c.requires;
   few = omega arith;
+  steps = omega arith;
 }
 
 pub declare_item-requires-clause-world : goal.declare_item-requires-clause-world
@@ -52,6 +53,7 @@ loop-item-preserved g c =
       so_far = subst (λ k. SoFar w c.declare_item.new.world all (placed_items file (c.loop-item.clauses + k) (map own_item_of (drop (i + 1) xs)))) (sym c.clauses_in-clauses.ensures.is) next;
       grows = grows_on w now c.declare_item.new.world c.loop-item.invariant.grows c.declare_item.ensures.grows;
       few = omega (arith, c.loop-item.invariant.few, c.clauses_in-clauses.ensures.few);
+      steps = omega (arith, c.loop-item.invariant.steps, c.declare_item.ensures.steps);
     }
 
 pub returns-clause-answer : goal.returns-clause-answer

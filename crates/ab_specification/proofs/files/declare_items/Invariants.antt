@@ -10,4 +10,5 @@ invariant-loop-item g l = record {
   so_far : SoFar l.fn.world l.world (placed_items l.file 0 (map own_item_of l.items)) (placed_items l.file l.clauses (map own_item_of (drop l.item-index l.items)));
   grows : Grows l.fn.world l.world;
   few : l.clauses ≤ l.item-index;
+  steps : l.fn.steps ≤ l.steps;
 }
