@@ -6,7 +6,8 @@ use Rattle.std.proofs.Common.{◌≡◌, ℕ, ◌+◌, List, [], ◌∷◌, ◌+
 use Rattle.std.proofs.lemmas.List.{append_assoc}
 use Rattle.ab_term.specs.Terms.{Nominal, Read}
 use Rattle.ab_term.specs.Names.{support, permute}
-use Rattle.ab_term.proofs.Lists.{Contains-here}
+use Rattle.std.proofs.lemmas.List.Elements.{Contains-append_right}
+use Rattle.ab_term.proofs.Lists.{Contains-here, Contains-map}
 use Rattle.ab_norm.specs.ab_types.specs.Entries.{Table}
 use Rattle.ab_norm.specs.ab_store.specs.declared.node.CellId.{CellId}
 use Rattle.ab_norm.specs.ab_store.specs.declared.node.TermId.{TermId}
@@ -45,6 +46,13 @@ pub next_of : (T : Table) (bs ds cs es ns : List Named) (o : Option (Vec Named G
 next_of T bs ds cs es ns o e f n =
     subst (λ l. IsNextOf (targets (names_read T l) (names_read T es)) (names_read T ns) (names_of T o)) e
     (subst (λ l. IsNextOf (targets (names_read T bs) (names_read T l)) (names_read T ns) (names_of T o)) f n)
+
+-- it is one of the ways by the hypothesis
+pub among_maps : (D : Declarations) (now : Now) (g : tree.Goal) (B : Read) (before after : List (List Nominal)) (ns : List Nominal) → targets (in_order (support B)) g.constants ≡ before ++ ns ∷ after
+    → Contains (trees.by_hypothesis D now g B) (by_map D now g ns B)
+among_maps D now g B before after ns split =
+    subst (λ l. Contains l (by_map D now g ns B)) (sym (by_all_maps D now g B))
+    (Contains-map (λ ks. by_map D now g ks B) (targets (in_order (support B)) g.constants) ns (subst (λ l. Contains l ns) (sym split) (Contains-append_right before (ns ∷ after) ns (Contains-here ns after))))
 
 -- the first map: the constants stay
 module _ (w : World) (base : List TermId) (k : Goal) (i : ℕ) (B : Read) (there : slice_get (goal_read w base k).hypotheses i ≡ Some B) (names ns : Vec Named Global)

@@ -18,22 +18,26 @@ use Rattle.ab_search_trees.specs.Judgements.{is_blind}
 use Rattle.ab_search_trees.specs.Ways as trees
 use Rattle.ab_search_ways.specs.MadeWays.{IsWayAt}
 use Rattle.ab_search_ways.specs.declared.way.Way.{Way}
-use Rattle.ab_next_ways.specs.Cursors.{AreLeft, by_hypotheses_from, by_forms_from, unless_blind}
+use Rattle.ab_next_ways.specs.Cursors.{AreLeft, IsBehind, by_hypotheses_from, by_forms_from, unless_blind}
 use Rattle.ab_next_ways.specs.Steps.{IsPassed, IsNextWay, IsStep, step_of}
 use Rattle.ab_next_ways.specs.declared.cursor.Cursor.{Cursor}
 use Rattle.ab_next_ways.proofs.WaysInTurn.{drop_one, drop_none}
 
 module _ (v : World) (base : List TermId) (now : Now) (g : tree.Goal) (ws row tail : List trees.Way) (i : ℕ) (e : ws ≡ drop i row ++ tail) (next : Cursor) where
-  pub row_made : (made : Way) → IsWayAt v base row i (Some made) → AreLeft (declarations_of v) now g v.types next (drop (i + 1) row ++ tail) → IsNextWay v base now g ws next (declarations_of v) made
-  row_made made at left = (at.0, drop (i + 1) row ++ tail, e ∙ ap (λ l. l ++ tail) (drop_one row i at.0 at.1), at.2, left)
+  -- the cursor stands behind the way of this number
+  abbrev pub ItTells : Type 0
+  ItTells = (way : trees.Way) → slice_get row i ≡ Some way → IsBehind (declarations_of v) now g next way
+
+  pub row_made : (made : Way) → IsWayAt v base row i (Some made) → AreLeft (declarations_of v) now g v.types next (drop (i + 1) row ++ tail) → ItTells → IsNextWay v base now g ws next (declarations_of v) made
+  row_made made at left tells = (at.0, drop (i + 1) row ++ tail, e ∙ ap (λ l. l ++ tail) (drop_one row i at.0 at.1), at.2, left, tells at.0 at.1)
 
   pub row_passed : slice_get row i ≡ None → AreLeft (declarations_of v) now g v.types next tail → IsPassed v base now g ws next (declarations_of v) v.types
   row_passed at left = ([], tail, e ∙ ap (λ l. l ++ tail) (drop_none row i at), λ way m. absurd (Contains-none way m), left)
 
   pub row_step : (o : Option Way) → IsWayAt v base row i o → AreLeft (declarations_of v) now g v.types next (drop (i + 1) row ++ tail) → (slice_get row i ≡ None → AreLeft (declarations_of v) now g v.types next tail)
-      → IsStep v base now g ws next (step_of o)
-  row_step (Some made) at some none = row_made made at some
-  row_step None at some none = row_passed at (none at)
+      → ItTells → IsStep v base now g ws next (step_of o)
+  row_step (Some made) at some none tells = row_made made at some tells
+  row_step None at some none tells = row_passed at (none at)
 
 -- behind what isn't there nothing is
 none_suc : {X : Type 0} (xs : List X) (i : ℕ) → slice_get xs i ≡ None → drop (suc i) xs ≡ []

@@ -1,5 +1,5 @@
 -- WHICH WAYS ARE STILL TO BE GONE from a goal, by where its search stands.
-use Rattle.std.specs.Prelude.{◌≡◌, ℕ, ◌+◌, List, [], ◌∷◌, ◌++◌, map, drop, cond, slice_get, Some, All, Contains}
+use Rattle.std.specs.Prelude.{◌≡◌, ℕ, zero, suc, ◌+◌, List, [], ◌∷◌, ◌++◌, map, drop, cond, slice_get, Some, All, Contains}
 use Rattle.ab_term.specs.Terms.{Nominal, Read}
 use Rattle.ab_term.specs.Names.{support, permute}
 use Rattle.ab_norm.specs.ab_types.specs.Entries.{Table}
@@ -19,7 +19,7 @@ use Rattle.ab_search_trees.specs.Judgements.{is_blind}
 use Rattle.ab_logic.specs.declared.world.World.{World}
 use Rattle.ab_search_ways.specs.GoalReadings.{goal_read}
 use Rattle.ab_search_ways.specs.declared.goal.Goal.{Goal as Kept}
-use Rattle.ab_search_trees.specs.Ways.{Way, equating, by_hypothesis, by_form, by_definition, by_judgement, ways}
+use Rattle.ab_search_trees.specs.Ways.{Way, equating, by_truth, by_hypothesis, by_form, by_definition, by_judgement, ways}
 use Rattle.ab_next_ways.specs.declared.cursor.Cursor.{Cursor}
 use Rattle.ab_next_ways.specs.declared.cursor.Cursor.TheVariants.{Start, Hypothesis, Map, Form, Second, Choice, Rule, End}
 
@@ -57,6 +57,23 @@ module _ (D : Declarations) (now : Now) (g : Goal) where
   AreLeft types (Choice k) ws = ws ≡ by_choices_from k
   AreLeft types (Rule k) ws = ws ≡ drop k (by_judgement D now g g.depth (as_judgement g.conclusion))
   AreLeft types End ws = ws ≡ []
+
+module _ (D : Declarations) (now : Now) (g : Goal) where
+  -- a way by the hypothesis of this number
+  abbrev pub IsByHypothesis : ℕ → Way → Type 0
+  IsByHypothesis i way = (B : Read) × (slice_get g.hypotheses i ≡ Some B) × Contains (by_hypothesis D now g B) way
+
+  -- THE CURSOR STANDS BEHIND THE WAY, and so it tells of which kind the way is: by `true`; by the hypothesis before the cursor; the first
+  -- or the second by the form; or by the choice, or the rule, before the cursor
+  abbrev pub IsBehind : Cursor → Way → Type 0
+  IsBehind (Hypothesis zero) way = slice_get (by_truth D now g (form_of g.conclusion)) 0 ≡ Some way
+  IsBehind (Hypothesis (suc i)) way = IsByHypothesis i way
+  IsBehind (Map i names ns) way = IsByHypothesis i way
+  IsBehind Second way = slice_get (by_form D now g (form_of g.conclusion)) 0 ≡ Some way
+  IsBehind (Choice zero) way = slice_get (by_form D now g (form_of g.conclusion)) 1 ≡ Some way
+  IsBehind (Choice (suc k)) way = slice_get (by_definition D now g g.depth (defined_atom D g.conclusion)) k ≡ Some way
+  IsBehind (Rule (suc k)) way = slice_get (by_judgement D now g g.depth (as_judgement g.conclusion)) k ≡ Some way
+  IsBehind _ way = ⊥
 
 -- what a map in hand names is there: the hypothesis of this number, its constants in order, and one of the lists that they go to
 pub record HoldsMap (w : World) (base : List TermId) (k : Kept) (i : ℕ) (bs ns : List Named) : Type 0 where

@@ -12,7 +12,7 @@ use Rattle.ab_search_trees.specs.Ways as trees
 use Rattle.ab_search_trees.specs.Tree.{problem_of}
 use Rattle.ab_search_ways.specs.MadeWays.{IsMade}
 use Rattle.ab_search_ways.specs.declared.way.Way.{Way}
-use Rattle.ab_next_ways.specs.Cursors.{AreLeft}
+use Rattle.ab_next_ways.specs.Cursors.{AreLeft, IsBehind}
 use Rattle.ab_next_ways.specs.declared.cursor.Cursor.{Cursor}
 use Rattle.ab_next_ways.specs.declared.cursor.Cursor.TheVariants.{Choice, Rule, End}
 use Rattle.ab_next_ways.specs.declared.next_ways.Step.{Step}
@@ -41,9 +41,9 @@ module _ (v : World) (base : List TermId) (now : Now) (g : tree.Goal) (ws : List
   abbrev pub IsPassed : Declarations → Table → Type 0
   IsPassed D types = (passed : List trees.Way) × (rest : List trees.Way) × (ws ≡ passed ++ rest) × AreApart passed × AreLeft D now g types next rest
 
-  -- the next is made
+  -- the next is made, and the cursor tells which it is
   abbrev pub IsNextWay : Declarations → Way → Type 0
-  IsNextWay D made = (way : trees.Way) × (rest : List trees.Way) × (ws ≡ way ∷ rest) × IsMade v base way made × AreLeft D now g v.types next rest
+  IsNextWay D made = (way : trees.Way) × (rest : List trees.Way) × (ws ≡ way ∷ rest) × IsMade v base way made × AreLeft D now g v.types next rest × IsBehind D now g next way
 
   abbrev pub IsStep : Step → Type 0
   IsStep (Made made) = IsNextWay (declarations_of v) made

@@ -101,7 +101,7 @@ fn goal_by_rule(alloc: Global, goal: &Goal, body: TermId, by_list: bool) -> Resu
     ensures constants { IfOk result (λ k. k.constants.items ≡ goal.now.constants.items) }
     ensures conclusion { IfOk result (λ k. k.conclusion ≡ body) }
 {
-    let mut left = goal.asking(alloc, body)?;
+    let mut left = goal.with_conclusion(alloc, body)?;
     left.depth = left.depth.saturating_sub(1);
     left.untouched = false;
     left.member_first = by_list;

@@ -136,7 +136,7 @@ module _ (w : World) (is : IsWorld w) (p : Kept) (held : HoldsSequent w p) (sequ
         ap (λ m. turns_from (declarations_of w) m first) (same_now (names_read w.types k.constants.items) (ap (λ (g : tree.Goal). g.constants) same))
         ∙ ap (turns_from (declarations_of w) (now_at w place.flexible.items (names_read w.types k.constants.items))) (sym same)
 
-    pub begins : (ls : List Leaf) × Searched (declarations_of w) (cells_read w.types w.store) depth (sequent_of w p) ls × HasLeaves w base place ls (turns_at w base place)
+    pub begins : (ls : List Leaf) × Searched (declarations_of w) (cells_read w.types w.store) depth (sequent_of w p) ls × (at : HasLeaves w base place ls (turns_at w base place)) × (at.0 ≡ now)
     unfolding turns_at
     begins =
         let D = declarations_of w in
@@ -156,4 +156,5 @@ module _ (w : World) (is : IsWorld w) (p : Kept) (held : HoldsSequent w p) (sequ
             },
             subst (λ gs. Walked D now gs walk.0 (turns_at w base place)) (sym is_place.reads) (subst (Walked D now (first ∷ []) walk.0) (same_turns place.goals is_place.reads) walk.1),
           ),
+          refl,
         )

@@ -4,6 +4,7 @@ use Rattle.std.specs.Prelude.{Contains, slice_get}
 use Rattle.std.proofs.Common.{◌≡◌, ℕ, ◌+◌, List, [], ◌∷◌, ◌++◌, Some, refl, sym, ◌∙◌, ap, subst}
 use Rattle.std.proofs.lemmas.List.Elements.{All-head, All-tail, All-weaker}
 use Rattle.ab_term.specs.Terms.{Nominal}
+use Rattle.ab_term.specs.Variables.{Substitution}
 use Rattle.ab_term.specs.Names.{support}
 use Rattle.ab_norm.specs.ab_types.specs.Entries.{Table, IsExtendedBy as IsPartOf}
 use Rattle.ab_norm.specs.ab_store.specs.declared.node.TermId.{TermId}
@@ -11,6 +12,7 @@ use Rattle.ab_norm.specs.ab_store.specs.declared.node.CellId.{CellId}
 use Rattle.ab_norm.specs.declared.nominal.Nominal.{Nominal as Named}
 use Rattle.ab_unify.specs.Problem.{cells_read}
 use Rattle.ab_unifiers.specs.Choices.{in_order}
+use Rattle.ab_unifiers.specs.Replacements.{Cell}
 use Rattle.ab_next_ways.specs.ab_judgements.specs.ab_alternatives.specs.ab_instances.specs.ListReadings.{names_read}
 use Rattle.ab_next_ways.specs.ab_judgements.specs.ab_alternatives.specs.ab_instances.proofs.Made.{names_stay, names_held}
 use Rattle.ab_formulas.specs.Declarations.{Declarations, signature_in}
@@ -30,6 +32,7 @@ use Rattle.ab_next_ways.specs.ab_search_ways.proofs.PlacesKept.{values_later}
 use Rattle.ab_next_ways.specs.Cursors.{AreLeft, HoldsMap, HoldsCursor, by_maps, by_hypotheses_from}
 use Rattle.ab_next_ways.specs.declared.cursor.Cursor.{Cursor}
 use Rattle.ab_next_ways.specs.declared.cursor.Cursor.TheVariants.{Start, Hypothesis, Map, Form, Second, Choice, Rule, End}
+use Rattle.ab_walk.specs.Paths.{IsTaken}
 use Rattle.ab_walk.specs.Places.{goals_read, IsSearched}
 use Rattle.ab_walk.specs.Standing.{AreLeaves, LeftAt, IsOpen, IsLater}
 
@@ -37,6 +40,9 @@ use Rattle.ab_walk.specs.Standing.{AreLeaves, LeftAt, IsOpen, IsLater}
 pub leaves_for : (now : Now) (types : Table) (D E : Declarations) → D ≡ E → (g h : Goal) → g ≡ h → (gs hs : List Goal) → gs ≡ hs → (c : Cursor) (ls : List Leaf) (n : ℕ) → AreLeaves E now types h hs c ls n → AreLeaves D now types g gs c ls n
 leaves_for now types D E d g h e gs hs f c ls n a =
     subst (λ F. AreLeaves F now types g gs c ls n) (sym d) (subst (λ k. AreLeaves E now types k gs c ls n) (sym e) (subst (λ ks. AreLeaves E now types h ks c ls n) (sym f) a))
+
+pub taken_for : (now : Now) (D E : Declarations) → D ≡ E → (g h : Goal) → g ≡ h → (c : Cursor) (way : Way) (more : List (Cell (List ℕ))) (q : Substitution ℕ (List ℕ)) → IsTaken E now h c way more q → IsTaken D now g c way more q
+taken_for now D E d g h e c way more q t = subst (λ F. IsTaken F now g c way more q) (sym d) (subst (λ k. IsTaken E now k c way more q) (sym e) t)
 
 -- what a cursor names stays where types are added
 module _ (w v : World) (part : IsPartOf w.types v.types) (base : List TermId) (k : Kept) (same : goal_read v base k ≡ goal_read w base k) where
@@ -121,10 +127,10 @@ module _ (w v : World) (later : IsLater w v) where
         let at = l.1 in (
           cursor_carried w v part base k same c l.0,
           leaves_for now v.types (declarations_of v) D later.declared (goal_read v base k) (goal_read w base k) same (goals_read v base ks) (goals_read w base ks) rest c ls n
-              (record { ways = at.ways; front = at.front; left = left_carried w v part base k same D now (goal_read w base k) at.ways c l.0 at.left; fine = at.fine; turns = at.turns; by = at.by; all = at.all; many = at.many }),
+              (record { passed = at.passed; ways = at.ways; among = at.among; front = at.front; left = left_carried w v part base k same D now (goal_read w base k) at.ways c l.0 at.left; fine = at.fine; turns = at.turns; by = at.by; all = at.all; many = at.many }),
         )
 
-    pub open_later : (base : List TermId) (p : Place) (c : Cursor) (ls : List Leaf) (n : ℕ) → IsOpen w base p c ls n → IsOpen v base p c ls n
-    open_later base p c ls n o =
-        let s = o.1 in
-        (o.0, searched_later base p o.0 s, left_at_later p.flexible.items base s.place.aside o.0 p.goals s.place.held c ls n o.2)
+    pub open_later : (base : List TermId) (now : Now) (p : Place) (c : Cursor) (ls : List Leaf) (n : ℕ) → IsOpen w base now p c ls n → IsOpen v base now p c ls n
+    open_later base now p c ls n o =
+        let s = o.0 in
+        (searched_later base p now s, left_at_later p.flexible.items base s.place.aside now p.goals s.place.held c ls n o.1)

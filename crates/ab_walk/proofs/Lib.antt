@@ -6,6 +6,7 @@ mod TypedWays
 mod LaterPlaces
 mod WorldsAgain
 mod TurnsTaken
+mod Leading
 mod Stacking
 mod PathsHeld
 mod StepsTaken

@@ -5,10 +5,10 @@ ghost use Rattle.ab_logic.specs.Worlds.{IsWorld};
 ghost use Rattle.ab_logic.specs.declared.world.World.{World as AWorld};
 ghost use Rattle.ab_search_trees.specs.Tree.{Leaf};
 ghost use Rattle.ab_walk.specs.Standing.{IsLater};
-ghost use Rattle.ab_walk.specs.Stacks.{IsBefore, IsStack, IsUnderway, GoesOn};
+ghost use Rattle.ab_walk.specs.Stacks.{Beginning, IsBefore, IsStack, IsUnderway, GoesOn};
 ghost use Rattle.ab_walk.specs.declared.frames.Frame.{Frame as AFrame};
 
-use crate::seen::Seen;
+use crate::seen_leaves::Seen;
 use crate::turns::{Turn, take_turn};
 use crate::walk::Told;
 use ab_logic::World;
@@ -30,7 +30,7 @@ pub struct Frame {
 /// Leaves the last place, and takes back what was made on the way to it.
 fn leave<L>(world: &mut World, stack: &mut Vec<Frame>, steps: &mut Steps<L>)
     requires before { (fs : List AFrame) × (f : AFrame) × (u : AWorld) × (stack.old.items ≡ fs ++ f ∷ []) × IsBefore u f.mark world.old }
-    ensures left { (first : AWorld) (base : List AnId) (fs : List AFrame) (f : AFrame) (u : AWorld) (ls : List Leaf) (n : ℕ) → stack.old.items ≡ fs ++ f ∷ [] →
+    ensures left { (first : Beginning) (base : List AnId) (fs : List AFrame) (f : AFrame) (u : AWorld) (ls : List Leaf) (n : ℕ) → stack.old.items ≡ fs ++ f ∷ [] →
         IsBefore u f.mark world.old → IsStack first base u fs ls n → IsStack first base world.new stack.new.items ls n }
     ensures steps { steps.old ≤ steps.new }
 {
@@ -49,10 +49,10 @@ pub(crate) fn take_step<L>(
     steps: &mut Steps<L>,
 ) -> Result<Option<Told>, AllocError>
     requires world { IsWorld world.old }
-    requires underway { (first : AWorld) × (ls : List Leaf) × (n : ℕ) × IsUnderway first base.now ls n world.old stack.old.items seen.old }
-    ensures goes_on { IfOk result (λ told. (first : AWorld) (ls : List Leaf) (n : ℕ) → IsUnderway first base.now ls n world.old stack.old.items seen.old →
+    requires underway { (first : Beginning) × (ls : List Leaf) × (n : ℕ) × IsUnderway first base.now ls n world.old stack.old.items seen.old }
+    ensures goes_on { IfOk result (λ told. (first : Beginning) (ls : List Leaf) (n : ℕ) → IsUnderway first base.now ls n world.old stack.old.items seen.old →
         GoesOn first base.now ls n world.new stack.new.items seen.new told) }
-    ensures later { (first : AWorld) (ls : List Leaf) (n : ℕ) → IsUnderway first base.now ls n world.old stack.old.items seen.old → IsLater first world.new }
+    ensures later { (first : Beginning) (ls : List Leaf) (n : ℕ) → IsUnderway first base.now ls n world.old stack.old.items seen.old → IsLater first.world world.new }
     ensures steps { steps.old ≤ steps.new }
 {
     let mark = world.store.mark();

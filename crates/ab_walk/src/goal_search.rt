@@ -10,7 +10,7 @@ ghost use Rattle.ab_search_trees.specs.Goals.{beginning, first_goal};
 ghost use Rattle.ab_search_trees.specs.Tree.{Leaf};
 ghost use Rattle.ab_search_trees.specs.Outcomes.{Searched};
 ghost use Rattle.ab_next_ways.specs.ab_search_ways.specs.GoalReadings.{IsPlace};
-ghost use Rattle.ab_walk.specs.Paths.{HoldsPath, WhereFound};
+ghost use Rattle.ab_walk.specs.Paths.{HoldsPath, WhereFound, LeadToAnswer};
 ghost use Rattle.ab_walk.specs.Told.{Tells, UnlessFound, IsAsBefore};
 
 use crate::frames::Frame;
@@ -68,7 +68,8 @@ fn first_place(
 }
 
 /// THE SEARCH OF THE GOAL to the depth: its outcome, as the tree of the goal has it, over all variables that were ever made. Unless
-/// the goal is closed the store is as it was, but for room; and where it is, the places on the way stand on the path, which was empty.
+/// the goal is closed the store is as it was, but for room; and where it is, the places on the way stand on the path, which was empty:
+/// from each one way was taken to the next, and at the last no goal is left.
 pub fn search<L>(
     alloc: Global,
     world: &mut World,
@@ -85,6 +86,8 @@ pub fn search<L>(
         × Searched (declarations_of world.old) (cells_read world.old.types world.old.store) depth (sequent_of world.old goal.now) ls × Tells ls told) }
     ensures as_before { IfOk result (λ told. UnlessFound told (IsAsBefore world.old world.new)) }
     ensures path { IfOk result (λ told. WhereFound told (HoldsPath world.new.types world.new.store path.new.items)) }
+    ensures leads { IfOk result (λ told. WhereFound told (LeadToAnswer world.new (map (λ h. h.formula) goal.now.hypotheses)
+        (beginning (cells_read world.old.types world.old.store) (sequent_of world.old goal.now)) (first_goal depth (sequent_of world.old goal.now) ∷ []) path.new.items)) }
     ensures grows { Grows world.old world.new }
     ensures declared { declarations_of world.new ≡ declarations_of world.old }
     ensures steps { steps.old ≤ steps.new }

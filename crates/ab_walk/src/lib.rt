@@ -4,7 +4,7 @@
 
 mod frames;
 mod goal_search;
-mod seen;
+mod seen_leaves;
 mod turns;
 mod walk;
 

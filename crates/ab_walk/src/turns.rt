@@ -2,6 +2,7 @@
 ghost use Rattle.std.specs.Prelude.{◌≡◌, ℕ, ◌≤◌, List, IfOk};
 ghost use Rattle.ab_logic.specs.WorldGrowth.{Grows};
 ghost use Rattle.ab_logic.specs.Worlds.{IsWorld, declarations_of};
+ghost use Rattle.ab_search_trees.specs.Goals.{Now};
 ghost use Rattle.ab_search_trees.specs.Tree.{Leaf};
 ghost use Rattle.ab_walk.specs.Standing.{IsOpen, IsTurn};
 
@@ -37,8 +38,9 @@ pub(crate) fn take_turn<L>(
     steps: &mut Steps<L>,
 ) -> Result<Turn, AllocError>
     requires world { IsWorld world.old }
-    requires open { (ls : List Leaf) × (n : ℕ) × IsOpen world.old base.now place.now cursor.old ls n }
-    ensures turn { IfOk result (λ turn. (ls : List Leaf) (n : ℕ) → IsOpen world.old base.now place.now cursor.old ls n → IsTurn world.old base.now place.now cursor.new world.new ls n turn) }
+    requires open { (at : Now) × (ls : List Leaf) × (n : ℕ) × IsOpen world.old base.now at place.now cursor.old ls n }
+    ensures turn { IfOk result (λ turn. (at : Now) (ls : List Leaf) (n : ℕ) → IsOpen world.old base.now at place.now cursor.old ls n →
+        IsTurn world.old base.now at place.now cursor.new world.new ls n turn) }
     ensures grows { Grows world.old world.new }
     ensures declared { declarations_of world.new ≡ declarations_of world.old }
     ensures steps { steps.old ≤ steps.new }

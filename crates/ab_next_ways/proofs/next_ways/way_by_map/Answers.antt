@@ -1,4 +1,4 @@
-use Rattle.std.proofs.Common.{◌≡◌, ◌≢◌, ◌++◌, ◌+◌, length, map, None, Some, sym, ◌∙◌, ap, subst}
+use Rattle.std.proofs.Common.{◌≡◌, ◌≢◌, suc, ◌++◌, ◌+◌, arith, length, map, None, Some, sym, ◌∙◌, ap, subst}
 use Rattle.std.specs.List.{All}
 use Rattle.std.specs.Prelude.{IfSome, AllPairs}
 use Rattle.std.specs.Option.{option_map}
@@ -13,9 +13,10 @@ use Rattle.ab_judgements.specs.ab_alternatives.specs.ab_instances.specs.ListRead
 use Rattle.ab_judgements.specs.ab_alternatives.specs.ab_instances.proofs.Made.{names_stay, names_held}
 use Rattle.ab_logic.specs.Worlds.{read, declarations_of}
 use Rattle.ab_search_ways.specs.GoalReadings.{goal_read, IsFormulaIn, IsAside}
-use Rattle.ab_next_ways.specs.Cursors.{by_maps, by_hypotheses_from}
+use Rattle.ab_next_ways.specs.Cursors.{IsBehind, by_maps, by_hypotheses_from}
+use Rattle.ab_next_ways.specs.declared.cursor.Cursor.TheVariants.{Hypothesis}
 use Rattle.ab_next_ways.proofs.Led.{behind_maps}
-use Rattle.ab_next_ways.proofs.MapsInTurn.{by_map, made_of, next_of, left_none, left_some, held_some}
+use Rattle.ab_next_ways.proofs.MapsInTurn.{by_map, made_of, among_maps, next_of, left_none, left_some, held_some}
 use Rattle.ab_next_ways.proofs.TargetLists.{targets_right}
 use Rattle.ab_next_ways.proofs.next_ways.way_by_map.Goals as goal
 
@@ -98,6 +99,7 @@ returns-in-Some-behind-clause-made g c = λ now before after ws stands B at all 
       made_of v base D now G ns (read w c.in-Some.hypothesis) B (sym (ap (option_map (read w)) c.in-Some.is) ∙ c.hypothesis_at.ensures.reads w ∙ at) c.in_ok-way.way (c.in_ok-way.ensures.made base now c.requires.aside stands),
       left_some w v c.in_ok-way.ensures.grows base k c.requires.goal c.args.flexible.now c.requires.aside c.args.number c.args.names c.args.list.now c.requires.map c.in_ok-behind.behind next
           D now before after B at all split c.in-Some-behind.more c.in-Some-behind.is,
+      (B, at, among_maps D now G B before after ns split),
     )
 
 pub returns-in-Some-behind-clause-held : goal.returns-in-Some-behind-clause-held
@@ -126,6 +128,7 @@ returns-in_ok-next-in-None-clause-made g c = λ now before after ws stands B at 
       left_none w v c.in_ok-way.ensures.grows base k c.requires.goal c.args.flexible.now c.requires.aside c.args.number c.args.names c.args.list.now c.requires.map c.in_ok-behind.behind next
           D now before after B at all split c.in-None.is
           ∙ ap (by_hypotheses_from D now G) (sym c.in_ok-next-in-None.ensures),
+      subst (λ n. IsBehind D now G (Hypothesis n) (by_map D now G ns B)) (let next : suc c.args.number ≡ c.args.number + 1 = omega arith in next ∙ sym c.in_ok-next-in-None.ensures) (B, at, among_maps D now G B before after ns split),
     )
 
 pub returns-in_ok-next-in-None-clause-onward : goal.returns-in_ok-next-in-None-clause-onward

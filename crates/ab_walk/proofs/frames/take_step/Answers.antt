@@ -36,27 +36,27 @@ take_turn-requires-clause-open g c =
     let o = c.requires.underway in
     let now : IsUnderway o.0 base o.1 o.2 w (fs ++ f ∷ []) seen = subst (λ (l : List Frame). IsUnderway o.0 base o.1 o.2 w l seen) ends.1 o.3 in
     let t : HasTop o.0 base w fs f now.left o.2 = top o.0 base now.stack fs f refl in
-    (t.front, t.here, t.standing)
+    (t.now, t.front, t.here, t.standing)
 
 pub returns-in_err-take_turn-clause-later : goal.returns-in_err-take_turn-clause-later
 returns-in_err-take_turn-clause-later g c = λ first ls n u.
     let w = c.args.world.now in
-    later_on first w c.take_turn.new.world (underway_later first c.args.base.now ls n w c.args.stack.now.items c.args.seen.now u) (record { grows = c.take_turn.ensures.grows; declared = c.take_turn.ensures.declared })
+    later_on first.world w c.take_turn.new.world (underway_later first c.args.base.now ls n w c.args.stack.now.items c.args.seen.now u) (record { grows = c.take_turn.ensures.grows; declared = c.take_turn.ensures.declared })
 
 pub returns-in_err-push-in-Ahead-clause-later : goal.returns-in_err-push-in-Ahead-clause-later
 returns-in_err-push-in-Ahead-clause-later g c = λ first ls n u.
     let w = c.args.world.now in
-    later_on first w c.take_turn.new.world (underway_later first c.args.base.now ls n w c.args.stack.now.items c.args.seen.now u) (record { grows = c.take_turn.ensures.grows; declared = c.take_turn.ensures.declared })
+    later_on first.world w c.take_turn.new.world (underway_later first c.args.base.now ls n w c.args.stack.now.items c.args.seen.now u) (record { grows = c.take_turn.ensures.grows; declared = c.take_turn.ensures.declared })
 
 pub returns-in-Closed-clause-later : goal.returns-in-Closed-clause-later
 returns-in-Closed-clause-later g c = λ first ls n u.
     let w = c.args.world.now in
-    later_on first w c.take_turn.new.world (underway_later first c.args.base.now ls n w c.args.stack.now.items c.args.seen.now u) (record { grows = c.take_turn.ensures.grows; declared = c.take_turn.ensures.declared })
+    later_on first.world w c.take_turn.new.world (underway_later first c.args.base.now ls n w c.args.stack.now.items c.args.seen.now u) (record { grows = c.take_turn.ensures.grows; declared = c.take_turn.ensures.declared })
 
 pub returns-in_ok-push-in-Ahead-clause-later : goal.returns-in_ok-push-in-Ahead-clause-later
 returns-in_ok-push-in-Ahead-clause-later g c = λ first ls n u.
     let w = c.args.world.now in
-    later_on first w c.take_turn.new.world (underway_later first c.args.base.now ls n w c.args.stack.now.items c.args.seen.now u) (record { grows = c.take_turn.ensures.grows; declared = c.take_turn.ensures.declared })
+    later_on first.world w c.take_turn.new.world (underway_later first c.args.base.now ls n w c.args.stack.now.items c.args.seen.now u) (record { grows = c.take_turn.ensures.grows; declared = c.take_turn.ensures.declared })
 
 pub returns-in-Closed-clause-goes_on : goal.returns-in-Closed-clause-goes_on
 returns-in-Closed-clause-goes_on g c = λ first ls n u.
@@ -75,7 +75,7 @@ returns-in-Closed-clause-goes_on g c = λ first ls n u.
     let later : IsLater w v = record { grows = c.take_turn.ensures.grows; declared = c.take_turn.ensures.declared } in
     let now : IsUnderway first base ls n w (fs ++ f ∷ []) seen = subst (λ (l : List Frame). IsUnderway first base ls n w l seen) ends.1 u in
     let t : HasTop first base w fs f now.left n = last first base ls n w v is later fs f k seen now in
-    let turn = subst (IsTurn w base f.place k v t.front t.here) c.in-Closed.is (c.in_ok-take_turn.ensures.turn t.front t.here t.standing) in
+    let turn = subst (IsTurn w base t.now f.place k v t.front t.here) c.in-Closed.is (c.in_ok-take_turn.ensures.turn t.now t.front t.here t.standing) in
     subst (λ (l : List Frame). GoesOn first base ls n v l seen (Some Found)) (sym (ends.2 moved)) (closed_there first base ls n w v is later fs f k seen now turn)
 
 pub leave-requires : goal.leave-requires
@@ -118,7 +118,7 @@ returns-in-Ended-clause-goes_on g c = λ first ls n u.
     let later : IsLater w v = record { grows = c.take_turn.ensures.grows; declared = c.take_turn.ensures.declared } in
     let now : IsUnderway first base ls n w (fs ++ f ∷ []) seen = subst (λ (l : List Frame). IsUnderway first base ls n w l seen) ends.1 u in
     let t : HasTop first base w fs f now.left n = last first base ls n w v is later fs f k seen now in
-    let turn = subst (IsTurn w base f.place k v t.front t.here) c.in-Ended.is (c.in_ok-take_turn.ensures.turn t.front t.here t.standing) in
+    let turn = subst (IsTurn w base t.now f.place k v t.front t.here) c.in-Ended.is (c.in_ok-take_turn.ensures.turn t.now t.front t.here t.standing) in
     let stack : IsStack first base c.leave.new.world c.leave.new.stack.items t.back t.others = c.leave.ensures.left first base fs moved t.below t.back t.others (ends.2 moved) (before_last first base ls n w v is later fs f k seen now) t.rest in
     ended_there first base ls n w v is later fs f k seen now c.in-Ended.here turn c.note_blind.new.self (c.note_blind.ensures now.done) c.leave.new.world c.leave.new.stack.items stack
 
@@ -161,7 +161,7 @@ returns-in-Nothing-clause-goes_on g c = λ first ls n u.
     let at : IsBefore w m.result v = record { world = is; later = later; has = m.ensures.has; bindings = m.ensures.bindings; nodes = m.ensures.nodes; cells = m.ensures.cells } in
     let now : IsUnderway first base ls n w (fs ++ f ∷ []) seen = subst (λ (l : List Frame). IsUnderway first base ls n w l seen) ends.1 u in
     let t : HasTop first base w fs f now.left n = last first base ls n w v is later fs f k seen now in
-    let turn = subst (IsTurn w base f.place k v t.front t.here) c.in-Nothing.is (c.in_ok-take_turn.ensures.turn t.front t.here t.standing) in
+    let turn = subst (IsTurn w base t.now f.place k v t.front t.here) c.in-Nothing.is (c.in_ok-take_turn.ensures.turn t.now t.front t.here t.standing) in
     let r = c.cut_to.ensures in
     let x : World = record { types = v.types; store = c.cut_to.new.self; additions = v.additions } in
     let again : IsAgain w x = cut_again w v m.result at c.cut_to.new.self r.bindings r.nodes r.cells r.typed r.marks in
@@ -186,7 +186,7 @@ returns-in-Stuck-clause-goes_on g c = λ first ls n u.
     let at : IsBefore w m.result v = record { world = is; later = later; has = m.ensures.has; bindings = m.ensures.bindings; nodes = m.ensures.nodes; cells = m.ensures.cells } in
     let now : IsUnderway first base ls n w (fs ++ f ∷ []) seen = subst (λ (l : List Frame). IsUnderway first base ls n w l seen) ends.1 u in
     let t : HasTop first base w fs f now.left n = last first base ls n w v is later fs f k seen now in
-    let turn = subst (IsTurn w base f.place k v t.front t.here) c.in-Stuck.is (c.in_ok-take_turn.ensures.turn t.front t.here t.standing) in
+    let turn = subst (IsTurn w base t.now f.place k v t.front t.here) c.in-Stuck.is (c.in_ok-take_turn.ensures.turn t.now t.front t.here t.standing) in
     let r = c.cut_to-in-Stuck.ensures in
     let x : World = record { types = v.types; store = c.cut_to-in-Stuck.new.self; additions = v.additions } in
     let again : IsAgain w x = cut_again w v m.result at c.cut_to-in-Stuck.new.self r.bindings r.nodes r.cells r.typed r.marks in
@@ -203,7 +203,7 @@ returns-in-Nothing-clause-later g c = λ first ls n u.
     let r = c.cut_to.ensures in
     let x : World = record { types = v.types; store = c.cut_to.new.self; additions = v.additions } in
     let again : IsAgain w x = cut_again w v m.result at c.cut_to.new.self r.bindings r.nodes r.cells r.typed r.marks in
-    later_on first w x (underway_later first c.args.base.now ls n w c.args.stack.now.items c.args.seen.now u) again.later
+    later_on first.world w x (underway_later first c.args.base.now ls n w c.args.stack.now.items c.args.seen.now u) again.later
 
 pub returns-in-Stuck-clause-later : goal.returns-in-Stuck-clause-later
 returns-in-Stuck-clause-later g c = λ first ls n u.
@@ -216,7 +216,7 @@ returns-in-Stuck-clause-later g c = λ first ls n u.
     let r = c.cut_to-in-Stuck.ensures in
     let x : World = record { types = v.types; store = c.cut_to-in-Stuck.new.self; additions = v.additions } in
     let again : IsAgain w x = cut_again w v m.result at c.cut_to-in-Stuck.new.self r.bindings r.nodes r.cells r.typed r.marks in
-    later_on first w x (underway_later first c.args.base.now ls n w c.args.stack.now.items c.args.seen.now u) again.later
+    later_on first.world w x (underway_later first c.args.base.now ls n w c.args.stack.now.items c.args.seen.now u) again.later
 
 pub returns-in_ok-push-in-Ahead-clause-goes_on : goal.returns-in_ok-push-in-Ahead-clause-goes_on
 returns-in_ok-push-in-Ahead-clause-goes_on g c = λ first ls n u.
@@ -237,7 +237,7 @@ returns-in_ok-push-in-Ahead-clause-goes_on g c = λ first ls n u.
     let at : IsBefore w m.result v = record { world = is; later = later; has = m.ensures.has; bindings = m.ensures.bindings; nodes = m.ensures.nodes; cells = m.ensures.cells } in
     let now : IsUnderway first base ls n w (fs ++ f ∷ []) seen = subst (λ (l : List Frame). IsUnderway first base ls n w l seen) ends.1 u in
     let t : HasTop first base w fs f now.left n = last first base ls n w v is later fs f k seen now in
-    let turn = subst (IsTurn w base f.place k v t.front t.here) c.in-Ahead.is (c.in_ok-take_turn.ensures.turn t.front t.here t.standing) in
+    let turn = subst (IsTurn w base t.now f.place k v t.front t.here) c.in-Ahead.is (c.in_ok-take_turn.ensures.turn t.now t.front t.here t.standing) in
     let ahead : Frame = record { place = c.in-Ahead.place; cursor = Start; mark = m.result } in
     let frames : c.push.new.self.items ≡ (fs ++ moved ∷ []) ++ ahead ∷ [] = c.in_ok-push-in-Ahead.ensures.items ∙ ap (λ l. l ++ ahead ∷ []) (ends.2 moved) in
     subst (λ (l : List Frame). (m : ℕ) × (m < n) × IsUnderway first base ls m v l seen) (sym frames) (ahead_there first base ls n w v is later fs f k seen now m.result at c.in-Ahead.place turn)

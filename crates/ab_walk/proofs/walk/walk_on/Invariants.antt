@@ -1,12 +1,12 @@
 use Rattle.std.proofs.Common.{ℕ, ◌+◌, ◌-◌, ◌≤◌, List}
 use Rattle.ab_search_trees.specs.Tree.{Leaf}
 use Rattle.ab_walk.specs.Places.{HasLeaves}
-use Rattle.ab_walk.specs.Stacks.{IsUnderway}
+use Rattle.ab_walk.specs.Stacks.{beginning_at, IsUnderway}
 use Rattle.ab_walk.proofs.walk.walk_on.Given as goal
 
 abbrev pub invariant-turns : goal.invariant-turns
 invariant-turns g l = record {
-  underway : (ls : List Leaf) → HasLeaves l.fn.world l.base l.fn.place ls g.turns → (n : ℕ) × (l.taken + n ≤ g.turns) × IsUnderway l.fn.world l.base ls n l.world l.stack.items l.seen;
+  underway : (ls : List Leaf) (h : HasLeaves l.fn.world l.base l.fn.place ls g.turns) → (n : ℕ) × (l.taken + n ≤ g.turns) × IsUnderway (beginning_at l.fn.world l.base h.0 l.fn.place) l.base ls n l.world l.stack.items l.seen;
   steps : l.fn.steps ≤ l.steps;
 }
 

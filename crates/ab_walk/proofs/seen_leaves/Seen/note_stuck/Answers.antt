@@ -4,7 +4,7 @@ use Rattle.ab_walk.specs.Told.{Tells}
 use Rattle.ab_walk.specs.declared.walk.Told.TheVariants.{Not}
 use Rattle.ab_walk.proofs.OutcomesJoined.{first_none, first_some}
 use Rattle.ab_walk.proofs.Seeing.{stuck_seen}
-use Rattle.ab_walk.proofs.seen.Seen.note_stuck.Goals as goal
+use Rattle.ab_walk.proofs.seen_leaves.Seen.note_stuck.Goals as goal
 
 pub returns-then-is_none : goal.returns-then-is_none
 returns-then-is_none c = λ done t.

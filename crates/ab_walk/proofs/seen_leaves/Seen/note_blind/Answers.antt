@@ -3,7 +3,7 @@ use Rattle.ab_walk.specs.Told.{Tells}
 use Rattle.ab_walk.specs.Standing.{blind_if}
 use Rattle.ab_walk.specs.declared.walk.Told.TheVariants.{Not}
 use Rattle.ab_walk.proofs.Seeing.{blind_seen, none_seen}
-use Rattle.ab_walk.proofs.seen.Seen.note_blind.Goals as goal
+use Rattle.ab_walk.proofs.seen_leaves.Seen.note_blind.Goals as goal
 
 pub returns-then-here : goal.returns-then-here
 returns-then-here c = λ done t.
