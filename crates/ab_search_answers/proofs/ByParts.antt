@@ -36,7 +36,8 @@ use Rattle.ab_search_proofs.proofs.PartsUnder.{part_under, determined_under, ato
 use Rattle.ab_search_clauses.proofs.ByList.{judged_under}
 use Rattle.ab_search_clauses.proofs.Path.{unifies_both}
 use Rattle.ab_search_answers.proofs.Filled.{filling_typed}
-use Rattle.ab_search_answers.proofs.Below.{and_filled, in_the_end, IsTaken}
+use Rattle.ab_search_answers.specs.Followed.{and_filled, in_the_end}
+use Rattle.ab_search_answers.proofs.Below.{IsTaken}
 
 -- the rules are known where one is among those of the search
 ruled : (D : Declarations) (j : Judgement) (s : SpecRule) → Contains (search_rules D j) s → (rs : List SpecRule) × (rules_of (program_in D) j ≡ Some rs)

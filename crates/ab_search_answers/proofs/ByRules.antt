@@ -22,22 +22,27 @@ use Rattle.ab_formulas.specs.Programs.{program_in, HavePrograms}
 use Rattle.ab_theory.specs.Judgements.{Judgement}
 use Rattle.ab_theory.specs.Opening.{both, Kind, compound, atomic, undetermined, kind_of, is_undetermined}
 use Rattle.ab_theory.specs.Parts.{Part, parts_of}
+use Rattle.ab_theory.proofs.SubjectParts.{listed_at}
 use Rattle.ab_theory.specs.SpecRules.{SpecRule, by_clause, by_list, by_opening, by_part, clauses_for, is_nil, list_rules, rules_unfocused, rules_in_focus, rules_for, some_item}
 use Rattle.ab_search_trees.specs.Judgements.{opens_by_layers, known, search_rules}
 use Rattle.ab_search_trees.specs.Ways.{unfolds, demanded}
 use Rattle.ab_search_clauses.proofs.ByList.{judged_under, judgement_image, listed_so, list_evidence}
 use Rattle.ab_search_judgements.proofs.RulePath.{terms, gives}
-use Rattle.ab_search_layers.specs.Layered.{Layered, it_stays, it_opens, by_rule as layered_rule, by_empty_list as layered_empty}
+use Rattle.ab_search_layers.specs.Layered.{it_stays, it_opens}
+use Rattle.ab_search_layers.specs.Closed.{to_show, Closes, by_rule, by_empty_list}
+use Rattle.ab_search_layers.specs.Taken.{rule}
 use Rattle.ab_search_answers.proofs.NamedParts as named
 use Rattle.ab_search_answers.proofs.PartWherever as wherever
-use Rattle.ab_search_answers.proofs.Below.{in_the_end, EvidenceFor}
+use Rattle.ab_search_answers.specs.Followed.{in_the_end}
+use Rattle.ab_search_answers.proofs.Below.{EvidenceFor}
 
 -- BY A CLAUSE of the program
 pub by_clause_evidence : (D : Declarations) → HavePrograms D → HasMember (signature_in D) → (c : Clause (List ℕ)) → EvidenceFor D (by_clause c)
-by_clause_evidence D program has c now last g depth j ys Hs more q n is plainly there taken whole shown =
+by_clause_evidence D program has c now last g depth j i ys Hs more q n is plainly at taken whole gs es shown =
     let place = taken.place in
+    let there = listed_at (search_rules D j) i (by_clause c) at in
     let B = image same_number (in_the_end last q n) (demanded (length now.cells) j (by_clause c)).body in
-    layered_rule (terms D program has now last place.flexible g place.task depth j is plainly c there ys more q n taken.solved taken.below.later taken.known) B B whole
+    by_rule i _ _ (terms D program has now last place.flexible g place.task depth j is plainly c there ys more q n taken.solved taken.below.later taken.known) B B whole
     (gives D program has now last place.flexible g place.task depth j is plainly c there ys more q n taken.solved taken.below.later taken.known) (it_opens it_stays) shown
 
 -- an item of the list, under what is put in
@@ -50,8 +55,11 @@ item_under sg r typed L A =
 
 -- BY THE LIST
 pub by_list_evidence : (D : Declarations) → HasMember (signature_in D) → EvidenceFor D by_list
-by_list_evidence D has now last g depth j ys Hs more q n is plainly there taken whole shown = go (is_nil (image same_number r j.context)) refl
+by_list_evidence D has now last g depth j i ys Hs more q n is plainly at taken whole gs es shown = go (is_nil (image same_number r j.context)) refl
   where
+    there : Contains (search_rules D j) by_list
+    there = listed_at (search_rules D j) i by_list at
+
     r : Substitution ℕ (List ℕ)
     r = in_the_end last q n
 
@@ -64,15 +72,15 @@ by_list_evidence D has now last g depth j ys Hs more q n is plainly there taken 
     so : (j.focus ≡ None) × (kind_of j.goal ≡ atomic)
     so = listed_so D j there
 
-    item : Layered D ys Hs (some_item (mark_above under.sign) under.context under.goal)
-    item = subst (λ m. Layered D ys Hs (some_item (mark_above m) under.context under.goal)) (sym plainly)
-        (subst (Layered D ys Hs) (ap (λ m. image same_number r (some_item (mark_above m) j.context j.goal)) plainly ∙ item_under (signature_in D) r typed j.context j.goal) shown)
+    item : Closes D (to_show ys Hs (some_item (mark_above under.sign) under.context under.goal) ∷ gs) es
+    item = subst (λ m. Closes D (to_show ys Hs (some_item (mark_above m) under.context under.goal) ∷ gs) es) (sym plainly)
+        (subst (λ C. Closes D (to_show ys Hs C ∷ gs) es) (ap (λ m. image same_number r (some_item (mark_above m) j.context j.goal)) plainly ∙ item_under (signature_in D) r typed j.context j.goal) shown)
 
-    go : (b : Bool) → is_nil (image same_number r j.context) ≡ b → Layered D ys Hs (image same_number r g.conclusion)
-    go true e = layered_empty under (judgement_image r g.conclusion j taken.place.task.conclusion.formula.stands is) (ap (option_map (image same_number r)) so.0) e item
+    go : (b : Bool) → is_nil (image same_number r j.context) ≡ b → Closes D (to_show ys Hs (image same_number r g.conclusion) ∷ gs) ((image same_number r g.conclusion, rule i [] []) ∷ es)
+    go true e = by_empty_list i under (judgement_image r g.conclusion j taken.place.task.conclusion.formula.stands is) (ap (option_map (image same_number r)) so.0) e item
     go false e =
         let B = image same_number r (demanded (length now.cells) j by_list).body in
-        layered_rule [] B B whole
+        by_rule i [] [] [] B B whole
         (list_evidence D has g.conclusion taken.place.task.conclusion.formula j is (ap unfolds plainly) there ys r typed (taken.known g.conclusion (λ y m. inl m)) e (length now.cells))
         (it_opens it_stays) shown
 
@@ -113,8 +121,9 @@ module _ (D : Declarations) (j : Judgement) where
 
 -- BY A PART of the formula in focus, with names or without
 part_evidence : (D : Declarations) → HavePrograms D → HasMember (signature_in D) → (p : Part) → EvidenceFor D (by_part p)
-part_evidence D program has p now last g depth j ys Hs more q n is plainly there taken whole shown =
-    layered_rule (wherever.us D program has p now last g depth j ys more q n is plainly there taken) (named.left D program has p now last g depth j ys more q n is plainly there taken)
+part_evidence D program has p now last g depth j i ys Hs more q n is plainly at taken whole gs es shown =
+    let there = listed_at (search_rules D j) i (by_part p) at in
+    by_rule i _ _ (wherever.us D program has p now last g depth j ys more q n is plainly there taken) (named.left D program has p now last g depth j ys more q n is plainly there taken)
     (image same_number (in_the_end last q n) (demanded (length now.cells) j (by_part p)).body) whole
     (wherever.part_rule D program has p now last g depth j ys more q n is plainly there taken) (named.gives D program has p now last g depth j ys more q n is plainly there taken) shown
 
@@ -123,4 +132,4 @@ pub rule_evidence : (D : Declarations) → HavePrograms D → HasMember (signatu
 rule_evidence D program has (by_clause c) = by_clause_evidence D program has c
 rule_evidence D program has (by_part p) = part_evidence D program has p
 rule_evidence D program has by_list = by_list_evidence D has
-rule_evidence D program has by_opening = λ now last g depth j ys Hs more q n is plainly there taken whole shown. absurd (no_opening D j there)
+rule_evidence D program has by_opening = λ now last g depth j i ys Hs more q n is plainly at taken whole gs es shown. absurd (no_opening D j (listed_at (search_rules D j) i by_opening at))

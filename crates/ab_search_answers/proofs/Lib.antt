@@ -4,8 +4,11 @@ pub mod Filled
 pub mod Final
 pub mod Under
 pub mod Signs
+pub mod OtherNames
+pub mod UnmarkedDemands
 pub mod Scoped
 pub mod Inside
+pub mod Going
 pub mod Safe
 pub mod SafeMore
 pub mod SafeRest
@@ -13,6 +16,7 @@ pub mod Reached
 pub mod ByClauses
 pub mod ByParts
 pub mod ByRules
+pub mod AllSafe
 pub mod Rooted
 pub mod Queries
 pub mod Derived

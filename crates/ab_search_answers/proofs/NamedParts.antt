@@ -69,7 +69,8 @@ use Rattle.ab_search_layers.proofs.PastHints.{gives_past_hints}
 use Rattle.ab_search_answers.proofs.ByParts as parts
 use Rattle.ab_search_answers.proofs.Filled.{name_typed, name_without}
 use Rattle.ab_search_answers.proofs.Given.{AreTakenOver, kernel_typed, rows_give}
-use Rattle.ab_search_answers.proofs.Below.{in_the_end, IsTaken}
+use Rattle.ab_search_answers.specs.Followed.{in_the_end}
+use Rattle.ab_search_answers.proofs.Below.{IsTaken}
 
 -- any term, for a name that stands nowhere
 abbrev any_of : Cell (List ℕ) → Read

@@ -70,7 +70,8 @@ use Rattle.ab_search_clauses.proofs.Path as path
 use Rattle.ab_search_answers.proofs.ByParts as parts
 use Rattle.ab_search_answers.proofs.NamedParts as named
 use Rattle.ab_search_answers.proofs.PartDemand as demands
-use Rattle.ab_search_answers.proofs.Below.{in_the_end, IsTaken}
+use Rattle.ab_search_answers.specs.Followed.{in_the_end}
+use Rattle.ab_search_answers.proofs.Below.{IsTaken}
 
 module _ (D : Declarations) (program : HavePrograms D) (has : HasMember (signature_in D)) (p : Part) (now last : Now) (g : Goal) (depth : ℕ) (j : Judgement) (ys : List (tree.Variable ℕ)) (more : List (Cell (List ℕ))) (q n : Substitution ℕ (List ℕ))
     (is : as_judgement g.conclusion ≡ Some j) (plainly : j.sign ≡ plain) (there : Contains (search_rules D j) (by_part p)) (taken : IsTaken D now g ys (by_rule D now g depth j (by_part p)) last more q n) where

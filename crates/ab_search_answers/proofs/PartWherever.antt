@@ -95,7 +95,8 @@ use Rattle.ab_search_answers.proofs.PartDemand as demands
 use Rattle.ab_search_answers.proofs.PartEnd as path_end
 use Rattle.ab_search_answers.proofs.PartMatched as matching
 use Rattle.ab_search_answers.proofs.Through.{GoesThrough, AreMet, image_through, rename_through, then_through, closed_through, atoms_through, types_in, same_dropped, same_closed, same_context, same_length, same_free}
-use Rattle.ab_search_answers.proofs.Below.{in_the_end, IsTaken}
+use Rattle.ab_search_answers.specs.Followed.{in_the_end}
+use Rattle.ab_search_answers.proofs.Below.{IsTaken}
 use Rattle.ab_search_clauses.proofs.AtPlace.{cell_here, stood_known, names_from, kept_behind}
 
 -- typed terms are typed where they come to stand

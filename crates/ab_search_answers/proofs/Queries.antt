@@ -2,6 +2,7 @@
 use Rattle.std.proofs.Common.{◌≡◌, inl, inr, ℕ, zero, suc, ◌≤◌, List, [], ◌∷◌, ◌++◌, map, length, codes, Bool, true, false, refl, sym, ◌∙◌, ap, subst, arith, length-append}
 use Rattle.std.specs.Prelude.{Contains}
 use Rattle.std.proofs.lemmas.Bool.{false≢true}
+use Rattle.std.proofs.lemmas.List.Elements.{All-head}
 use Rattle.ab_term.specs.Types.{Ty}
 use Rattle.ab_term.specs.Logical as plain
 use Rattle.ab_term.specs.Terms.{Nominal, Variable, logical, spine, no_terms, term, Read}
@@ -41,16 +42,18 @@ use Rattle.ab_search_trees.proofs.Shows.{IsFine}
 use Rattle.ab_search_trees.proofs.ShowsMore.{term_fine}
 use Rattle.ab_search_trees.proofs.ShowsRest.{ways_fine}
 use Rattle.ab_search_layers.specs.Layered.{Layered}
-use Rattle.ab_search_answers.proofs.Below.{and_filled}
+use Rattle.ab_search_layers.specs.Closed.{to_show, IsShown}
+use Rattle.ab_search_layers.specs.Taken.{Taking}
+use Rattle.ab_search_layers.proofs.Closing.{all_shown}
+use Rattle.ab_search_answers.specs.Followed.{and_filled}
 use Rattle.ab_search_answers.specs.Unmarked.{HasNoHash, HaveNoHash}
-use Rattle.ab_search_answers.proofs.ByClauses.{clause_evidence}
-use Rattle.ab_search_answers.proofs.ByRules.{rule_evidence}
 use Rattle.ab_search_answers.proofs.Filled.{filling_typed, filled_constants, filled_listed}
 use Rattle.ab_search_answers.proofs.Final.{Scopes, from_on, scope_from, final_scope}
-use Rattle.ab_search_answers.proofs.Reached.{Leads, answers_lead}
+use Rattle.ab_search_answers.proofs.AllSafe.{all_safe}
+use Rattle.ab_search_answers.proofs.Going.{reached}
+use Rattle.ab_search_answers.proofs.Reached.{Leads, followed}
 use Rattle.ab_search_answers.proofs.Rooted.{root_scoped}
 use Rattle.ab_search_answers.proofs.SafeMore.{term_way, term_scoped}
-use Rattle.ab_search_answers.proofs.SafeRest.{ways_safe}
 use Rattle.ab_search_answers.proofs.Scoped.{IsScoped, scoped_under}
 
 -- WHAT IS PRINTED: a formula over these variables, whose constants are fillings, and which is proved
@@ -80,9 +83,8 @@ module _ (D : Declarations) (defs : HaveDefinitions D) (program : HavePrograms D
   Told E last = IsTold D own last (image same_number (whole_answer last) E)
 
   -- at the place of a goal without constants
-  told_at : (now last : Now) (S : Scopes) (C : Read) (depth : ℕ) (u : Bool) (layers : ℕ) → IsTask sg now (alone C depth u layers) → IsScoped now S (alone C depth u layers) own → (leads : Leads D now last S (alone C depth u layers ∷ []) (own ∷ [])) → IsTold D own last (image same_number (and_filled last leads.put) C)
-  told_at now last S C depth u layers t k leads =
-      let n = leads.put in
+  told_at : (now last : Now) (S : Scopes) (C : Read) (depth : ℕ) (u : Bool) (layers : ℕ) → IsTask sg now (alone C depth u layers) → IsScoped now S (alone C depth u layers) own → (n : Substitution ℕ (List ℕ)) (es : List (Read × Taking)) → Leads D now last S (alone C depth u layers ∷ []) (own ∷ []) n es → IsTold D own last (image same_number (and_filled last n) C)
+  told_at now last S C depth u layers t k n es leads =
       let r = and_filled last n in
       let typed = t.conclusion.formula.typed in
       record {
@@ -95,7 +97,7 @@ module _ (D : Declarations) (defs : HaveDefinitions D) (program : HavePrograms D
           ]
           | inr b ↦ filled_listed last.held last.flexible b.0 b.1 (b.2).1 a b.3
         ];
-        proved = (leads.proved).0;
+        proved = All-head (IsShown D) (to_show own [] (image same_number r C)) [] (all_shown D leads.closed);
       }
 
   abbrev some : Ty → Read → Read
@@ -162,8 +164,9 @@ module _ (D : Declarations) (defs : HaveDefinitions D) (program : HavePrograms D
 
   pub query_layered : (n : ℕ) (C E : Read) → Asks n C E → Next n C E
   query_layered n C E asks_all cells long ys held depth u layers S f t k ls l last m =
-      let leads = answers_lead D (λ now g f t. ways_fine D defs program now f g t has) (λ now S g ys f t k. ways_safe D defs program has none (clause_evidence D defs) (rule_evidence D program has) now S f g ys t k (ways_fine D defs program now f g t has)) S (own ∷ []) l f (λ k d l. absurd (omega (arith, l))) (t, tt) (k, tt) last m in
-      subst (IsTold D own last) (ap (image same_number (and_filled last leads.put)) (sym (image_none C)) ∙ sym (leads.whole [] C _ t.conclusion.formula.typed)) (told_at (at cells ys held) last S C depth u layers t k leads)
+      let way = reached D l last m in
+      let leads = followed D (λ now g f t. ways_fine D defs program now f g t has) (all_safe D defs program has none) S (own ∷ []) way.2 f (λ k d l. absurd (omega (arith, l))) (t, tt) (k, tt) in
+      subst (IsTold D own last) (ap (image same_number (and_filled last way.0)) (sym (image_none C)) ∙ sym (leads.whole [] C _ t.conclusion.formula.typed)) (told_at (at cells ys held) last S C depth u layers t k way.0 way.1 leads)
   query_layered n C E (asks_for {A = A} {F = F} asks) cells long ys held depth u layers S f t k ls (a_goal {ls = ms} p) last m = elim (contains_split ms [] (found last) m) [
     | inl c ↦ by_depth A F E n (λ cells long ys held depth u layers S f t k ls l last m. query_layered (suc n) (instance F (a_variable n [] A)) E asks cells long ys held depth u layers S f t k ls l last m) cells long ys held u layers S f depth t k ms p last c
     | inr c ↦ absurd (Contains-none (found last) c)

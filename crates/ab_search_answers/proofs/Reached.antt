@@ -1,4 +1,4 @@
--- FROM AN ANSWER OF THE TREE TO PROOFS of the goals, where each way is safe.
+-- FROM A WAY OF THE TREE TO AN ANSWER TO STEPS that close the goals, where each way is safe.
 use Rattle.std.proofs.Common.{◌≡◌, ◌⊎◌, inl, inr, ℕ, ◌≤◌, List, [], ◌∷◌, ◌++◌, map, length, drop, codes, Bool, true, not, Option, Some, None, refl, sym, ◌∙◌, ap, subst, arith, length-append}
 use Rattle.std.specs.Prelude.{Contains}
 use Rattle.std.proofs.lemmas.Bool.{false≢true, false_from_ne_true}
@@ -29,9 +29,8 @@ use Rattle.ab_unifiers.proofs.Ruling.{image_none, image_past_hints}
 use Rattle.ab_formulas.specs.Declarations.{Declarations, signature_in}
 use Rattle.ab_formulas.specs.GoalTerms.{HoldsOnly}
 use Rattle.ab_search_trees.specs.Goals.{Goal, Now, goal_under}
-use Rattle.ab_search_trees.specs.Judgements.{is_blind}
 use Rattle.ab_search_trees.specs.Outcomes.{filling, whole_answer}
-use Rattle.ab_search_trees.specs.Tree.{Serve, problem_of, Leaf, found, stuck_at, now_after, unseen, Leaves, LeavesBy, LeavesOn, no_goal, a_goal, no_way, a_way, are_apart, are_stuck, dont_serve, go_on}
+use Rattle.ab_search_trees.specs.Tree.{Serve, problem_of, now_after}
 use Rattle.ab_search_trees.specs.Ways.{Way, ways}
 use Rattle.ab_search_trees.proofs.Lifts.{known_cell, filter_from, filter_held, answer_grows}
 use Rattle.ab_search_trees.proofs.Facts.{AllParts, IsTask, AllTasks, all_tasks_both}
@@ -40,14 +39,15 @@ use Rattle.ab_search_trees.proofs.Growing.{IsGrown, tasks_grown}
 use Rattle.ab_search_trees.proofs.Carried.{AreFlexible, known, after_flexible, q_typed, tasks_under}
 use Rattle.ab_search_trees.proofs.Clauses.{constants_more}
 use Rattle.ab_search_trees.proofs.Shows.{IsFine, EachFine}
-use Rattle.ab_search_trees.proofs.Answered.{contains_split, never_blind}
-use Rattle.ab_search_layers.specs.Layered.{Layered}
+use Rattle.ab_search_layers.specs.Closed.{Open, to_show, Closes, none}
+use Rattle.ab_search_layers.specs.Taken.{Taking}
 use Rattle.ab_search_answers.proofs.Filled.{filling_typed, filling_keys, filled_with, all_filled, name_without, name_alone}
 use Rattle.ab_search_answers.proofs.Final.{Scopes, from_on, scope_before, scope_from, IsFinal, final_scope}
 use Rattle.ab_search_answers.proofs.Under.{final_under}
 use Rattle.ab_search_answers.proofs.Scoped.{IsScoped, AllScoped, each_in, all_scoped_both, in_grown, all_scoped_grown, all_scoped_under}
-use Rattle.ab_search_answers.proofs.Below.{and_filled, in_the_end, IsBelow, IsTaken}
-use Rattle.ab_search_answers.proofs.Safe.{amid_way, IsSafe, EachSafe}
+use Rattle.ab_search_answers.specs.Followed.{and_filled, in_the_end, GoesOn, Follows, at_answer, by_way}
+use Rattle.ab_search_answers.proofs.Below.{IsBelow, IsTaken, at_end}
+use Rattle.ab_search_answers.proofs.Safe.{amid_way, IsSafe}
 
 grows_longer : (cells more : List (Cell (List ℕ))) → Grows cells more → length cells ≤ length more
 grows_longer cells more g = let sum = ap length g.1 ∙ length-append cells g.0 in omega (arith, sum)
@@ -104,48 +104,38 @@ module _ (D : Declarations) where
   abbrev sg : Signature
   sg = signature_in D
 
-  abbrev pub AllLayered : Substitution ℕ (List ℕ) → List Goal → List (List (Variable ℕ)) → Type 0
-  AllLayered r [] [] = Unit {0}
-  AllLayered r [] (ys ∷ yss) = ⊥
-  AllLayered r (g ∷ gs) [] = ⊥
-  AllLayered r (g ∷ gs) (ys ∷ yss) = Layered D ys (map (image same_number r) g.hypotheses) (image same_number r g.conclusion) × AllLayered r gs yss
+  -- the goals, once all is put in, each over its variables
+  abbrev pub all_at_end : Substitution ℕ (List ℕ) → List Goal → List (List (Variable ℕ)) → List Open
+  all_at_end r (g ∷ gs) (ys ∷ yss) = at_end r ys g ∷ all_at_end r gs yss
+  all_at_end r gs yss = []
 
-  -- goals in front of others
-  layered_front : (r : Substitution ℕ (List ℕ)) (ys : List (Variable ℕ)) (gs hs : List Goal) (yss : List (List (Variable ℕ))) → AllLayered r (gs ++ hs) (each_in ys gs ++ yss) → (g : Goal) → Contains gs g → Layered D ys (map (image same_number r) g.hypotheses) (image same_number r g.conclusion)
-  layered_front r ys [] hs yss a g m = absurd (Contains-none g m)
-  layered_front r ys (k ∷ gs) hs yss a g m = elim (Contains-cases k gs g m) [
-    | inl e ↦ subst (λ (h : Goal). Layered D ys (map (image same_number r) h.hypotheses) (image same_number r h.conclusion)) e a.0
-    | inr n ↦ layered_front r ys gs hs yss a.1 g n
-  ]
+  -- goals of one scope in front of others
+  in_front : (r : Substitution ℕ (List ℕ)) (ys : List (Variable ℕ)) (gs hs : List Goal) (yss : List (List (Variable ℕ))) → all_at_end r (gs ++ hs) (each_in ys gs ++ yss) ≡ map (at_end r ys) gs ++ all_at_end r hs yss
+  in_front r ys [] hs yss = refl
+  in_front r ys (g ∷ gs) hs yss = ap (λ l. at_end r ys g ∷ l) (in_front r ys gs hs yss)
 
-  layered_behind : (r : Substitution ℕ (List ℕ)) (ys : List (Variable ℕ)) (gs hs : List Goal) (yss : List (List (Variable ℕ))) → AllLayered r (gs ++ hs) (each_in ys gs ++ yss) → AllLayered r hs yss
-  layered_behind r ys [] hs yss a = a
-  layered_behind r ys (k ∷ gs) hs yss a = layered_behind r ys gs hs yss a.1
+  -- the goals put under the first are those under both
+  all_both : (now : Now) (q r : Substitution ℕ (List ℕ)) → IsTyped sg q → IsTyped sg r → (gs : List Goal) (yss : List (List (Variable ℕ))) → AllTasks sg now gs → all_at_end r (map (goal_under q) gs) yss ≡ all_at_end (composition same_number q r) gs yss
+  all_both now q r a b [] [] t = refl
+  all_both now q r a b [] (ys ∷ yss) t = refl
+  all_both now q r a b (g ∷ gs) [] t = refl
+  all_both now q r a b (g ∷ gs) (ys ∷ yss) t =
+      let rest = all_at_end r (map (goal_under q) gs) yss in
+      ap (λ Hs. to_show ys Hs (image same_number r (image same_number q g.conclusion)) ∷ rest) (sym (parts_both sg q r a b now g.constants g.untouched g.hypotheses (t.0).hypotheses))
+      ∙ ap (λ C. to_show ys (map (image same_number (composition same_number q r)) g.hypotheses) C ∷ rest) (sym (image-composition sg same_number q a r b (t.0).conclusion.formula.typed))
+      ∙ ap (λ l. at_end (composition same_number q r) ys g ∷ l) (all_both now q r a b gs yss t.1)
 
-  -- those of the goals put under the first are those of the goals under both
-  all_both : (now : Now) (q r : Substitution ℕ (List ℕ)) → IsTyped sg q → IsTyped sg r → (gs : List Goal) (yss : List (List (Variable ℕ))) → AllTasks sg now gs → AllLayered r (map (goal_under q) gs) yss → AllLayered (composition same_number q r) gs yss
-  all_both now q r a b [] [] t s = tt
-  all_both now q r a b [] (ys ∷ yss) t s = absurd s
-  all_both now q r a b (g ∷ gs) [] t s = absurd s
-  all_both now q r a b (g ∷ gs) (ys ∷ yss) t s = (
-    subst (λ Hs. Layered D ys Hs (image same_number (composition same_number q r) g.conclusion)) (sym (parts_both sg q r a b now g.constants g.untouched g.hypotheses (t.0).hypotheses))
-        (subst (Layered D ys (map (image same_number r) (map (image same_number q) g.hypotheses))) (sym (image-composition sg same_number q a r b (t.0).conclusion.formula.typed)) s.0),
-    all_both now q r a b gs yss t.1 s.1,
-  )
-
-  -- WHAT AN ANSWER BELOW A PLACE TELLS: what was put in on the way, and with the fillings each goal is proved
-  pub record Leads (now last : Now) (S : Scopes) (gs : List Goal) (yss : List (List (Variable ℕ))) : Type 0 where
-    pub put : Substitution ℕ (List ℕ)
+  -- WHAT A WAY FROM A PLACE TO AN ANSWER TELLS, on which this is put in, with these steps: they close the goals, the fillings put in besides
+  pub record Leads (now last : Now) (S : Scopes) (gs : List Goal) (yss : List (List (Variable ℕ))) (put : Substitution ℕ (List ℕ)) (es : List (Read × Taking)) : Type 0 where
     pub below : IsBelow sg now last put
     pub final : IsFinal sg now S (and_filled last put)
     pub answer : (G : List Ty) (t : Read) (A : Ty) → HasType sg G t A → image same_number last.answer t ≡ image same_number put (image same_number now.answer t)
     -- the answer, filled, is what was put in before the place, and then this
     pub whole : (G : List Ty) (t : Read) (A : Ty) → HasType sg G t A → image same_number (whole_answer last) t ≡ image same_number (and_filled last put) (image same_number now.answer t)
-    pub proved : AllLayered (and_filled last put) gs yss
+    pub closed : Closes D (all_at_end (and_filled last put) gs yss) es
 
-  at_the_answer : (now : Now) (S : Scopes) → IsTyped sg now.answer → Leads now now S [] []
+  at_the_answer : (now : Now) (S : Scopes) → IsTyped sg now.answer → Leads now now S [] [] [] []
   at_the_answer now S typed = record {
-    put = [];
     below = record {
       later = record { typed = λ k d l. absurd (omega (arith, l)); nameless = λ y v e. absurd (let bad : None ≡ Some v = e in cc); within = λ y e. absurd (false≢true e) };
       filled = λ y h e. h;
@@ -155,11 +145,11 @@ module _ (D : Declarations) where
     final = filled_final sg now S;
     answer = λ G t A d. sym (image_none (image same_number now.answer t));
     whole = λ G t A d. image-composition sg same_number now.answer typed (filling now.held now.flexible) (filling_typed sg now.held now.flexible) d;
-    proved = tt;
+    closed = none;
   }
 
   -- ONE STEP UP
-  module _ (now last : Now) (S : Scopes) (g : Goal) (ys : List (Variable ℕ)) (w : Way) (fine : IsFine D now g w) (safe : IsSafe D now S g ys w) (flexible : AreFlexible now) (answer_typed : IsTyped sg now.answer) (gs : List Goal) (yss : List (List (Variable ℕ)))
+  module _ (now last : Now) (S : Scopes) (g : Goal) (ys : List (Variable ℕ)) (w : Way) (k : Substitution ℕ (List ℕ) → Taking) (fine : IsFine D now g w) (safe : IsSafe D now S g ys w k) (flexible : AreFlexible now) (answer_typed : IsTyped sg now.answer) (gs : List Goal) (yss : List (List (Variable ℕ)))
       (tasks : AllTasks sg now (g ∷ gs)) (scoped : AllScoped now S (g ∷ gs) (ys ∷ yss)) (more : List (Cell (List ℕ))) (q : Substitution ℕ (List ℕ)) where
     abbrev mid : Now
     mid = amid_way D now w
@@ -220,10 +210,7 @@ module _ (D : Declarations) where
         | inr d ↦ inr (let low = (numbered_within (length w.cells) (drop (length w.cells) more) y d).0 in let long = fine.longer in omega (arith, low, long))
       ]
 
-      module _ (serves : Serve w) (told : Leads after last T (map (goal_under q) (w.goals ++ gs)) (each_in safe.scope w.goals ++ yss)) where
-        abbrev n : Substitution ℕ (List ℕ)
-        n = told.put
-
+      module _ (n : Substitution ℕ (List ℕ)) (es : List (Read × Taking)) (serves : Serve w) (told : Leads after last T (map (goal_under q) (w.goals ++ gs)) (each_in safe.scope w.goals ++ yss) n es) where
         abbrev r : Substitution ℕ (List ℕ)
         r = in_the_end last q n
 
@@ -275,51 +262,47 @@ module _ (D : Declarations) where
         taken : IsTaken D now g ys w last more q n
         taken = record { place = record { flexible = flexible; task = tasks.0; branch = (scoped.0).branch }; solved = solved; typed = final_mid.typed; below = told.below; known = known_in }
 
-        layered : AllLayered r (w.goals ++ gs) (each_in safe.scope w.goals ++ yss)
-        layered = all_both (amid D now w) q (and_filled last n) q_is told.final.typed (w.goals ++ gs) (each_in safe.scope w.goals ++ yss) all told.proved
+        left_closed : Closes D (map (at_end r safe.scope) w.goals ++ all_at_end r gs yss) es
+        left_closed = subst (λ l. Closes D l es) (all_both (amid D now w) q (and_filled last n) q_is told.final.typed (w.goals ++ gs) (each_in safe.scope w.goals ++ yss) all ∙ in_front r safe.scope w.goals gs yss) told.closed
 
-        first_proved : Layered D ys (map (image same_number r) g.hypotheses) (image same_number r g.conclusion)
-        first_proved = safe.proves last more q n taken final_mid (unifies_both sg q (and_filled last n) q_is told.final.typed w.equations fine.typed (answer_unifies sg (codes "x") w.equations w.cells w.flexible fine.typed are_known more q solved)) serves (layered_front r safe.scope w.goals gs yss layered)
+        first_closed : Closes D (at_end r ys g ∷ all_at_end r gs yss) ((image same_number r g.conclusion, k r) ∷ es)
+        first_closed = safe.closes last more q n taken final_mid (unifies_both sg q (and_filled last n) q_is told.final.typed w.equations fine.typed (answer_unifies sg (codes "x") w.equations w.cells w.flexible fine.typed are_known more q solved)) serves (all_at_end r gs yss) es left_closed
 
-        pub step_up : Leads now last S (g ∷ gs) (ys ∷ yss)
+        pub step_up : Leads now last S (g ∷ gs) (ys ∷ yss) (composition same_number q n) ((image same_number r g.conclusion, k r) ∷ es)
         step_up = record {
-          put = composition same_number q n;
           below = below_now;
           final = subst (IsFinal sg now S) (sym same_end) final_now;
           answer = λ G v A d. told.answer G v A d ∙ ap (image same_number n) (image-composition sg same_number now.answer answer_typed q q_is d) ∙ sym (image-composition sg same_number q q_is n n_is (image_typed sg same_number now.answer answer_typed d));
           whole = λ G v A d. told.whole G v A d ∙ ap (image same_number (and_filled last n)) (image-composition sg same_number now.answer answer_typed q q_is d)
               ∙ sym (ap (λ k. image same_number k (image same_number now.answer v)) same_end ∙ image-composition sg same_number q q_is (and_filled last n) told.final.typed (image_typed sg same_number now.answer answer_typed d));
-          proved = subst (λ k. AllLayered k (g ∷ gs) (ys ∷ yss)) (sym same_end) (first_proved, layered_behind r safe.scope w.goals gs yss layered);
+          closed = subst (λ z. Closes D (all_at_end z (g ∷ gs) (ys ∷ yss)) ((image same_number r g.conclusion, k r) ∷ es)) (sym same_end) first_closed;
         }
 
-module _ (D : Declarations) (each_fine : (now : Now) (g : Goal) → AreFlexible now → IsTask (signature_in D) now g → EachFine D now g (ways D now g))
-    (each_safe : (now : Now) (S : Scopes) (g : Goal) (ys : List (Variable ℕ)) → AreFlexible now → IsTask (signature_in D) now g → IsScoped now S g ys → EachSafe D now S g ys (ways D now g)) where
-  mutual
-    -- EACH ANSWER BELOW A PLACE proves its goals
-    pub answers_lead : {now : Now} {gs : List Goal} {ls : List Leaf} (S : Scopes) (yss : List (List (Variable ℕ))) → Leaves D now gs ls → AreFlexible now → IsTyped (signature_in D) now.answer → AllTasks (signature_in D) now gs → AllScoped now S gs yss → (last : Now) → Contains ls (found last) → Leads D now last S gs yss
-    answers_lead S [] (no_goal {now = now}) f a t k last m = elim (Contains-cases (found now) [] (found last) m) [ inl e ↦ (let same : now ≡ last = cc in subst (λ l. Leads D now l S [] []) same (at_the_answer D now S a)) | inr n ↦ absurd (Contains-none (found last) n) ]
-    answers_lead S (ys ∷ yss) (no_goal {now = now}) f a t k last m = absurd k
-    answers_lead S [] (a_goal p) f a t k last m = absurd k
-    answers_lead S (ys ∷ yss) (a_goal {now = now} {g = g} {gs = gs} {ls = ls} p) f a t k last m = elim (contains_split ls (unseen now g) (found last) m) [
-      | inl c ↦ by_ways S ys yss (each_fine now g f t.0) (each_safe now S g ys f t.0 k.0) p f a t k last c
-      | inr c ↦ absurd (never_blind D each_fine (is_blind now.flexible g.conclusion) last c)
-    ]
+module _ (D : Declarations) where
+  -- ways of a kind that are safe, whatever is put in
+  abbrev pub KindsSafe : Type 0
+  KindsSafe = (now : Now) (S : Scopes) (g : Goal) (ys : List (Variable ℕ)) → AreFlexible now → IsTask (signature_in D) now g → IsScoped now S g ys → (r : Substitution ℕ (List ℕ)) (w : Way) → Contains (ways D now g) w → IsFine D now g w → (k : Taking) → GoesOn D now g r w k
+      → (f : Substitution ℕ (List ℕ) → Taking) × (f r ≡ k) × IsSafe D now S g ys w f
 
-    by_ways : {now : Now} {g : Goal} {gs : List Goal} {ws : List Way} {ls : List Leaf} (S : Scopes) (ys : List (Variable ℕ)) (yss : List (List (Variable ℕ))) → EachFine D now g ws → EachSafe D now S g ys ws → LeavesBy D now ws gs ls → AreFlexible now → IsTyped (signature_in D) now.answer → AllTasks (signature_in D) now (g ∷ gs) → AllScoped now S (g ∷ gs) (ys ∷ yss) → (last : Now) → Contains ls (found last) → Leads D now last S (g ∷ gs) (ys ∷ yss)
-    by_ways S ys yss i j no_way f a t k last m = absurd (Contains-none (found last) m)
-    by_ways S ys yss i j (a_way {ls = ls} {ms = ms} p r) f a t k last m = elim (contains_split ls ms (found last) m) [
-      | inl c ↦ on_way S ys yss i.0 j.0 p f a t k last c
-      | inr c ↦ by_ways S ys yss i.1 j.1 r f a t k last c
-    ]
+  fine_among : (now : Now) (g : Goal) (ws : List Way) → EachFine D now g ws → (w : Way) → Contains ws w → IsFine D now g w
+  fine_among now g [] fine w m = absurd (Contains-none w m)
+  fine_among now g (v ∷ ws) fine w m = elim (Contains-cases v ws w m) [ inl e ↦ subst (IsFine D now g) e fine.0 | inr n ↦ fine_among now g ws fine.1 w n ]
 
-    on_way : {now : Now} {g : Goal} {gs : List Goal} {w : Way} {ls : List Leaf} (S : Scopes) (ys : List (Variable ℕ)) (yss : List (List (Variable ℕ))) → IsFine D now g w → IsSafe D now S g ys w → LeavesOn D now w gs ls → AreFlexible now → IsTyped (signature_in D) now.answer → AllTasks (signature_in D) now (g ∷ gs) → AllScoped now S (g ∷ gs) (ys ∷ yss) → (last : Now) → Contains ls (found last) → Leads D now last S (g ∷ gs) (ys ∷ yss)
-    on_way S ys yss i j (are_apart p) f a t k last m = absurd (Contains-none (found last) m)
-    on_way S ys yss i j (are_stuck {i = e} p) f a t k last m = elim (Contains-cases (stuck_at e) [] (found last) m) [ inl q ↦ absurd (cc) | inr n ↦ absurd (Contains-none (found last) n) ]
-    on_way S ys yss i j (dont_serve more q p n) f a t k last m = absurd (Contains-none (found last) m)
-    on_way {g = g} S ys yss i j (go_on {now = now} {w = w} {gs = gs} more q p u l) f a t k last m =
-        step_up D now last S g ys w i j f a gs yss t k more q p u
-        (answers_lead (from_on (length now.cells) ys S) (each_in j.scope w.goals ++ yss) l
-        (flexible_after D now last S g ys w i j f a gs yss t k more q p)
-        (answer_after D now last S g ys w i j f a gs yss t k more q p)
-        (tasks_after D now last S g ys w i j f a gs yss t k more q p)
-        (scoped_after D now last S g ys w i j f a gs yss t k more q p) last m)
+  -- WHOEVER FOLLOWS A WAY to an answer gets steps that close the goals
+  pub followed : ((now : Now) (g : Goal) → AreFlexible now → IsTask (signature_in D) now g → EachFine D now g (ways D now g)) → KindsSafe
+      → {last now : Now} {gs : List Goal} {n : Substitution ℕ (List ℕ)} {es : List (Read × Taking)} (S : Scopes) (yss : List (List (Variable ℕ))) → Follows D last now gs n es
+      → AreFlexible now → IsTyped (signature_in D) now.answer → AllTasks (signature_in D) now gs → AllScoped now S gs yss → Leads D now last S gs yss n es
+  followed each safe {now = now} S [] at_answer f a t k = at_the_answer D now S a
+  followed each safe S (ys ∷ yss) at_answer f a t k = absurd k
+  followed each safe S [] (by_way w more q among p u goes l) f a t k = absurd k
+  followed each safe {last = last} S (ys ∷ yss) (by_way {now = now} {g = g} {gs = gs} {n = n} {es = es} {k = taking} w more q among p u goes l) f a t k =
+      let fine = fine_among now g (ways D now g) (each now g f t.0) w among in
+      let so = safe now S g ys f t.0 k.0 (in_the_end last q n) w among fine taking goes in
+      let j = so.2 in
+      subst (λ z. Leads D now last S (g ∷ gs) (ys ∷ yss) (composition same_number q n) ((image same_number (in_the_end last q n) g.conclusion, z) ∷ es)) so.1
+      (step_up D now last S g ys w so.0 fine j f a gs yss t k more q p n es u
+      (followed each safe (from_on (length now.cells) ys S) (each_in j.scope w.goals ++ yss) l
+      (flexible_after D now last S g ys w so.0 fine j f a gs yss t k more q p)
+      (answer_after D now last S g ys w so.0 fine j f a gs yss t k more q p)
+      (tasks_after D now last S g ys w so.0 fine j f a gs yss t k more q p)
+      (scoped_after D now last S g ys w so.0 fine j f a gs yss t k more q p)))

@@ -1,10 +1,10 @@
--- FROM AN ANSWER TO A PROOF, at the root: of the sequent itself, over its own variables.
+-- FROM A WAY TO AN ANSWER TO STEPS that close the goal, at the root: the sequent itself, over its own variables. So an answer is a proof.
 use Rattle.std.proofs.Common.{◌≡◌, inl, inr, ℕ, ◌<◌, List, [], ◌∷◌, map, Some, option_map, refl, ◌∙◌, ap, subst, arith, length}
 use Rattle.std.specs.Prelude.{Contains, slice_get}
 use Rattle.std.proofs.lemmas.Bool.{false≢true, false_from_ne_true}
-use Rattle.std.proofs.lemmas.List.Elements.{All-contains}
+use Rattle.std.proofs.lemmas.List.Elements.{All-head, All-contains}
 use Rattle.ab_term.specs.Terms as tree
-use Rattle.ab_term.specs.Terms.{Nominal, Read}
+use Rattle.ab_term.specs.Terms.{Read}
 use Rattle.ab_term.specs.Variables.{Substitution, variables, value_in, image}
 use Rattle.ab_term.specs.Sameness.{same_number}
 use Rattle.ab_term.proofs.Depends.{image_agrees}
@@ -25,14 +25,16 @@ use Rattle.ab_search_trees.proofs.Facts.{IsTask}
 use Rattle.ab_search_trees.proofs.Root.{task}
 use Rattle.ab_search_trees.proofs.ShowsRest.{ways_fine}
 use Rattle.ab_search_layers.specs.Layered.{Layered}
+use Rattle.ab_search_layers.specs.Closed.{to_show, Closes, IsShown}
+use Rattle.ab_search_layers.specs.Taken.{Taking}
+use Rattle.ab_search_layers.proofs.Closing.{all_shown}
 use Rattle.ab_search_answers.proofs.Final.{Scopes, InScope, IsFinal}
 use Rattle.ab_search_answers.proofs.Scoped.{IsScoped, part_there}
 use Rattle.ab_search_answers.specs.Unmarked.{HasNoHash, HaveNoHash}
-use Rattle.ab_search_answers.proofs.Below.{and_filled}
-use Rattle.ab_search_answers.proofs.SafeRest.{ways_safe}
-use Rattle.ab_search_answers.proofs.ByClauses.{clause_evidence}
-use Rattle.ab_search_answers.proofs.ByRules.{rule_evidence}
-use Rattle.ab_search_answers.proofs.Reached.{answers_lead}
+use Rattle.ab_search_answers.specs.Followed.{and_filled, Follows}
+use Rattle.ab_search_answers.proofs.Going.{reached}
+use Rattle.ab_search_answers.proofs.AllSafe.{all_safe}
+use Rattle.ab_search_answers.proofs.Reached.{followed}
 
 module _ (D : Declarations) (cells : List (Cell (List ℕ))) (depth : ℕ) (s : Sequent) (is : IsSequent D s) (are : AreCells cells s) (unmarked : HasNoHash s.conclusion) where
   abbrev now : Now
@@ -71,12 +73,18 @@ module _ (D : Declarations) (cells : List (Cell (List ℕ))) (depth : ℕ) (s : 
   all_stay r final [] over = refl
   all_stay r final (t ∷ ts) over = ap (λ k. k ∷ map (image same_number r) ts) (stays r final t (over t (Contains-here t ts))) ∙ ap (λ k. t ∷ k) (all_stay r final ts (λ v m. over v (Contains-there t ts v m)))
 
-  -- THE SEQUENT IS PROVED by whatever answer is among the leaves
+  -- THE SEQUENT IS CLOSED by the steps of whatever way to an answer
+  pub way_closes : HaveDefinitions D → HavePrograms D → HasMember (signature_in D) → HaveNoHash D → (last : Now) (n : Substitution ℕ (List ℕ)) (es : List (Read × Taking)) → Follows D last now (g ∷ []) n es → Closes D (to_show own (formulas s.hypotheses) s.conclusion ∷ []) es
+  way_closes defs program has none_there last n es l =
+      let t : IsTask (signature_in D) now g = task D cells depth s is are in
+      let leads = followed D (λ now g f t. ways_fine D defs program now f g t has) (all_safe D defs program has none_there) none (own ∷ []) l
+      (λ y h. absurd (false≢true h)) (λ k d l. absurd (omega (arith, l))) (t, tt) (root_scoped, tt) in
+      let r = and_filled last n in
+      subst (λ Hs. Closes D (to_show own Hs s.conclusion ∷ []) es) (all_stay r leads.final (formulas s.hypotheses) (λ H i. (part_there (signature_in D) now g.constants g.untouched g.hypotheses t.hypotheses H i).facts.over))
+      (subst (λ C. Closes D (to_show own (map (image same_number r) (formulas s.hypotheses)) C ∷ []) es) (stays r leads.final s.conclusion t.conclusion.facts.over) leads.closed)
+
+  -- and so it is proved by whatever answer is among the leaves
   pub answer_layered : HaveDefinitions D → HavePrograms D → HasMember (signature_in D) → HaveNoHash D → (ls : List Leaf) → Searched D cells depth s ls → (last : Now) → Contains ls (found last) → Layered D own (formulas s.hypotheses) s.conclusion
   answer_layered defs program has none_there ls l last m =
-      let t : IsTask (signature_in D) now g = task D cells depth s is are in
-      let leads = answers_lead D (λ now g f t. ways_fine D defs program now f g t has) (λ now S g ys f t k. ways_safe D defs program has none_there (clause_evidence D defs) (rule_evidence D program has) now S f g ys t k (ways_fine D defs program now f g t has)) none (own ∷ []) l
-      (λ y h. absurd (false≢true h)) (λ k d l. absurd (omega (arith, l))) (t, tt) (root_scoped, tt) last m in
-      let r = and_filled last leads.put in
-      subst (λ Hs. Layered D own Hs s.conclusion) (all_stay r leads.final (formulas s.hypotheses) (λ H i. (part_there (signature_in D) now g.constants g.untouched g.hypotheses t.hypotheses H i).facts.over))
-      (subst (Layered D own (map (image same_number r) (formulas s.hypotheses))) (stays r leads.final s.conclusion t.conclusion.facts.over) (leads.proved).0)
+      let way = reached D l last m in
+      All-head (IsShown D) (to_show own (formulas s.hypotheses) s.conclusion) [] (all_shown D (way_closes defs program has none_there last way.0 way.1 way.2))

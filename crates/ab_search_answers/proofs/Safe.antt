@@ -1,8 +1,9 @@
--- A WAY IS SAFE: what it asks for and the goals that it leaves are in their scopes, and where these are proved, the goal is. Ways by `true`, by a hypothesis
--- and by a connective.
+-- A WAY IS SAFE: what it asks for and the goals that it leaves are in their scopes, and steps that close these close the goal, behind the way's own. Ways by
+-- `true`, by a hypothesis and by a connective.
 use Rattle.std.proofs.Common.{◌≡◌, inl, inr, ℕ, List, [], ◌∷◌, ◌++◌, map, length, Bool, true, false, Option, Some, None, option_map, refl, sym, ◌∙◌, ap, subst, arith}
-use Rattle.std.specs.Prelude.{Contains}
+use Rattle.std.specs.Prelude.{Contains, slice_get}
 use Rattle.std.proofs.lemmas.List.Elements.{All-contains, All-contains_itself, Contains-append_cases}
+use Rattle.std.proofs.lemmas.Option.{slice_get-map}
 use Rattle.ab_term.specs.Types.{Ty}
 use Rattle.ab_term.specs.Terms.{Nominal, Variable, Read}
 use Rattle.ab_term.specs.Typing.{Signature}
@@ -10,7 +11,7 @@ use Rattle.ab_term.specs.Names.{support, rename, permute, moved_by}
 use Rattle.ab_term.specs.Translation.{forget}
 use Rattle.ab_term.specs.Variables.{Substitution, variables, value_in, image, image_by}
 use Rattle.ab_term.specs.Sameness.{same_number}
-use Rattle.ab_term.proofs.Lists.{Contains-none, Contains-here, Contains-there, Contains-cases, Contains-map}
+use Rattle.ab_term.proofs.Lists.{Contains-none, Contains-here, Contains-cases}
 use Rattle.ab_term.proofs.Depends.{image_agrees}
 use Rattle.ab_term.proofs.Renamings.{rename-image_by}
 use Rattle.ab_term.proofs.Permuting.{Each, moved, OfOneType, moved_each, moved_stays, rename_agrees, same_up_to_names}
@@ -20,17 +21,18 @@ use Rattle.ab_unifiers.specs.Replacements.{Cell, holds}
 use Rattle.ab_unifiers.specs.Unifiers.{Unifies}
 use Rattle.ab_unifiers.proofs.Cells.{grows_none}
 use Rattle.ab_unifiers.proofs.Following.{plain, image_plain}
-use Rattle.ab_unifiers.specs.Choices.{in_order, for_each}
+use Rattle.ab_unifiers.specs.Choices.{in_order}
 use Rattle.ab_unifiers.proofs.Choosing.{ordered_contains, contains_ordered, ordered_pairs}
 use Rattle.ab_formulas.specs.Declarations.{Declarations, signature_in}
-use Rattle.ab_formulas.specs.Forms.{Form, truth, falsity, both, either, implies, equal, for_all, exists, nabla, marked, other, form_of}
+use Rattle.ab_formulas.specs.Forms.{Form, truth, both, either, implies, equal, form_of}
 use Rattle.ab_formulas.specs.GoalTerms.{HoldsOnly}
 use Rattle.ab_formulas.specs.Marks.{MarksServe, MarksServeIn, marks_of, erased}
+use Rattle.ab_theory.proofs.SubjectParts.{listed_at}
 use Rattle.ab_pattern_matching.specs.Reading.{Every}
 use Rattle.ab_search_trees.specs.Goals.{Goal, Now, asking, assuming}
 use Rattle.ab_search_trees.specs.Maps.{maps}
 use Rattle.ab_search_trees.specs.Tree.{Serve}
-use Rattle.ab_search_trees.specs.Ways.{Way, in_turn, with_constants, leading_to, equating, by_truth, by_hypothesis}
+use Rattle.ab_search_trees.specs.Ways.{Way, in_turn, with_constants, leading_to, equating}
 use Rattle.ab_search_trees.proofs.Facts.{IsPart, IsTask}
 use Rattle.ab_search_trees.proofs.Growing.{IsGrown}
 use Rattle.ab_search_trees.proofs.Carried.{AreFlexible}
@@ -38,13 +40,17 @@ use Rattle.ab_search_trees.proofs.Unmarked.{makes_erased, marks_made_same, varia
 use Rattle.ab_search_trees.proofs.Mapped.{mapped_each}
 use Rattle.ab_search_trees.proofs.Hypotheses.{erased_names, erased_variables}
 use Rattle.ab_search_trees.proofs.Exact.{map_right}
-use Rattle.ab_search_trees.proofs.Shows.{IsFine, EachFine, formed}
+use Rattle.ab_search_trees.proofs.Shows.{formed}
 use Rattle.ab_search_proofs.proofs.Parts.{Parts, parts}
-use Rattle.ab_search_layers.specs.Layered.{Layered, by_truth as layered_truth, by_hypothesis as layered_hypothesis, by_equality as layered_equality, by_both as layered_both, by_left as layered_left, by_right as layered_right, by_assuming as layered_assuming}
+use Rattle.ab_search_layers.specs.Closed as closing
+use Rattle.ab_search_layers.specs.Closed.{Open, to_show, Closes}
+use Rattle.ab_search_layers.specs.Taken as way
+use Rattle.ab_search_layers.specs.Taken.{Taking}
 use Rattle.ab_search_answers.proofs.Final.{Scopes, from_on, InScope, IsFinal}
 use Rattle.ab_search_answers.proofs.Under.{BothIn}
 use Rattle.ab_search_answers.proofs.Scoped.{IsScoped, part_there, in_grown, scoped_grown}
-use Rattle.ab_search_answers.proofs.Below.{in_the_end, IsTaken}
+use Rattle.ab_search_answers.specs.Followed.{in_the_end}
+use Rattle.ab_search_answers.proofs.Below.{IsTaken, at_end}
 use Rattle.ab_search_answers.specs.Unmarked.{HasNoHash}
 use Rattle.ab_search_answers.proofs.Inside.{Inside, sides_inside, map_there}
 use Rattle.ab_search_answers.proofs.Signs.{PartsNone, parts_none}
@@ -61,30 +67,15 @@ module _ (D : Declarations) where
   abbrev pub amid_way : Now → Way → Now
   amid_way now w = record now { cells = w.cells; flexible = w.flexible; held = with_constants w.taken now.held }
 
-  pub record IsSafe (now : Now) (S : Scopes) (g : Goal) (ys : List (Variable ℕ)) (w : Way) : Type 0 where
+  -- the way goes on so, where r is put in at last
+  pub record IsSafe (now : Now) (S : Scopes) (g : Goal) (ys : List (Variable ℕ)) (w : Way) (taking : Substitution ℕ (List ℕ) → Taking) : Type 0 where
     pub scope : List (Variable ℕ)
     pub keeps : (y : Variable ℕ) → holds now.flexible y ≡ true → holds w.flexible y ≡ true
     pub equations : Every (BothIn (amid_way now w) (from_on (length now.cells) ys S) ys) w.equations
     pub goals : (h : Goal) → Contains w.goals h → IsScoped (amid_way now w) (from_on (length now.cells) ys S) h scope
-    pub proves : (last : Now) (more : List (Cell (List ℕ))) (q n : Substitution ℕ (List ℕ)) → IsTaken D now g ys w last more q n → IsFinal (signature_in D) (amid_way now w) (from_on (length now.cells) ys S) (in_the_end last q n)
-        → Unifies (in_the_end last q n) w.equations → Serve w → ((h : Goal) → Contains w.goals h → Layered D scope (map (image same_number (in_the_end last q n)) h.hypotheses) (image same_number (in_the_end last q n) h.conclusion))
-        → Layered D ys (map (image same_number (in_the_end last q n)) g.hypotheses) (image same_number (in_the_end last q n) g.conclusion)
-
-  abbrev pub EachSafe : Now → Scopes → Goal → List (Variable ℕ) → List Way → Type 0
-  EachSafe now S g ys [] = Unit {0}
-  EachSafe now S g ys (w ∷ ws) = IsSafe now S g ys w × EachSafe now S g ys ws
-
-  pub safe_both : (now : Now) (S : Scopes) (g : Goal) (ys : List (Variable ℕ)) (vs ws : List Way) → EachSafe now S g ys vs → EachSafe now S g ys ws → EachSafe now S g ys (vs ++ ws)
-  safe_both now S g ys [] ws a b = b
-  safe_both now S g ys (v ∷ vs) ws a b = (a.0, safe_both now S g ys vs ws a.1 b)
-
-  pub safe_map : {X : Type 0} (now : Now) (S : Scopes) (g : Goal) (ys : List (Variable ℕ)) (f : X → Way) (xs : List X) → ((x : X) → Contains xs x → IsFine D now g (f x) → IsSafe now S g ys (f x)) → EachFine D now g (map f xs) → EachSafe now S g ys (map f xs)
-  safe_map now S g ys f [] a k = tt
-  safe_map now S g ys f (x ∷ xs) a k = (a x (Contains-here x xs) k.0, safe_map now S g ys f xs (λ y m. a y (Contains-there x xs y m)) k.1)
-
-  pub fine_split : (now : Now) (g : Goal) (vs ws : List Way) → EachFine D now g (vs ++ ws) → EachFine D now g vs × EachFine D now g ws
-  fine_split now g [] ws k = (tt, k)
-  fine_split now g (v ∷ vs) ws k = let rest = fine_split now g vs ws k.1 in ((k.0, rest.0), rest.1)
+    pub closes : (last : Now) (more : List (Cell (List ℕ))) (q n : Substitution ℕ (List ℕ)) → IsTaken D now g ys w last more q n → IsFinal (signature_in D) (amid_way now w) (from_on (length now.cells) ys S) (in_the_end last q n)
+        → Unifies (in_the_end last q n) w.equations → Serve w → (gs : List Open) (es : List (Read × Taking)) → Closes D (map (at_end (in_the_end last q n) scope) w.goals ++ gs) es
+        → Closes D (at_end (in_the_end last q n) ys g ∷ gs) ((image same_number (in_the_end last q n) g.conclusion, taking (in_the_end last q n)) ∷ es)
 
 module _ (D : Declarations) (now : Now) (S : Scopes) (flexible : AreFlexible now) (g : Goal) (ys : List (Variable ℕ)) (t : IsTask (signature_in D) now g) (k : IsScoped now S g ys) where
   abbrev sg : Signature
@@ -117,31 +108,21 @@ module _ (D : Declarations) (now : Now) (S : Scopes) (flexible : AreFlexible now
   inside A h y m = All-contains (Contains (variables g.conclusion)) (variables A) y h m
 
   -- a way without variables and equations
-  pub leading_safe : (gs : List Goal) → ((h : Goal) → Contains gs h → IsScoped now T h ys)
-      → ((r : Substitution ℕ (List ℕ)) → IsFinal sg now T r → ((h : Goal) → Contains gs h → Layered D ys (map (image same_number r) h.hypotheses) (image same_number r h.conclusion)) → Layered D ys (map (image same_number r) g.hypotheses) (image same_number r g.conclusion))
-      → IsSafe D now S g ys (leading_to D now g gs)
-  leading_safe gs scoped f = record {
+  pub leading_safe : (hs : List Goal) (k : Taking) → ((h : Goal) → Contains hs h → IsScoped now T h ys)
+      → ((r : Substitution ℕ (List ℕ)) → IsFinal sg now T r → (gs : List Open) (es : List (Read × Taking)) → Closes D (map (at_end r ys) hs ++ gs) es → Closes D (at_end r ys g ∷ gs) ((image same_number r g.conclusion, k) ∷ es))
+      → IsSafe D now S g ys (leading_to D now g hs) (λ r. k)
+  leading_safe hs k scoped f = record {
     scope = ys;
     keeps = λ y h. h;
     equations = tt;
     goals = scoped;
-    proves = λ last more q n taken final u v s. f (in_the_end last q n) final s;
+    closes = λ last more q n taken final u v gs es s. f (in_the_end last q n) final gs es s;
   }
 
-  truth_safe : (X : Form) → form_of g.conclusion ≡ X → EachSafe D now S g ys (by_truth D now g X)
-  truth_safe truth e = (leading_safe [] (λ h m. absurd (Contains-none h m)) (λ r final s. layered_truth (formed D now flexible g t r truth e)), tt)
-  truth_safe falsity e = tt
-  truth_safe (both A B) e = tt
-  truth_safe (either A B) e = tt
-  truth_safe (implies A B) e = tt
-  truth_safe (equal A v w) e = tt
-  truth_safe (for_all A F) e = tt
-  truth_safe (exists A F) e = tt
-  truth_safe (nabla A F) e = tt
-  truth_safe (marked m A) e = tt
-  truth_safe other e = tt
+  pub truth_safe : form_of g.conclusion ≡ truth → IsSafe D now S g ys (leading_to D now g []) (λ r. way.truth)
+  truth_safe e = leading_safe [] way.truth (λ h m. absurd (Contains-none h m)) (λ r final gs es s. closing.by_truth (formed D now flexible g t r truth e) s)
 
-  pub both_safe : (A B : Read) → form_of g.conclusion ≡ both A B → (b : Bool) → IsSafe D now S g ys (leading_to D now g (in_turn b (asking A g) (asking B g)))
+  pub both_safe : (A B : Read) → form_of g.conclusion ≡ both A B → (b : Bool) → IsSafe D now S g ys (leading_to D now g (in_turn b (asking A g) (asking B g))) (λ r. way.both b)
   both_safe A B e b = go b
     where
       left : Inside g.conclusion A
@@ -150,41 +131,41 @@ module _ (D : Declarations) (now : Now) (S : Scopes) (flexible : AreFlexible now
       right : Inside g.conclusion B
       right = inside B (parts_at (both A B) e).1.known
 
-      go : (b : Bool) → IsSafe D now S g ys (leading_to D now g (in_turn b (asking A g) (asking B g)))
-      go true = leading_safe (asking B g ∷ asking A g ∷ []) (of_two (λ h. IsScoped now T h ys) (asking B g) (asking A g) (asked B right (none_at (both A B) e).1) (asked A left (none_at (both A B) e).0))
-          (λ r final s. layered_both (formed D now flexible g t r (both A B) e) (s (asking A g) (Contains-there (asking B g) (asking A g ∷ []) (asking A g) (Contains-here (asking A g) []))) (s (asking B g) (Contains-here (asking B g) (asking A g ∷ []))))
-      go false = leading_safe (asking A g ∷ asking B g ∷ []) (of_two (λ h. IsScoped now T h ys) (asking A g) (asking B g) (asked A left (none_at (both A B) e).0) (asked B right (none_at (both A B) e).1))
-          (λ r final s. layered_both (formed D now flexible g t r (both A B) e) (s (asking A g) (Contains-here (asking A g) (asking B g ∷ []))) (s (asking B g) (Contains-there (asking A g) (asking B g ∷ []) (asking B g) (Contains-here (asking B g) []))))
+      go : (b : Bool) → IsSafe D now S g ys (leading_to D now g (in_turn b (asking A g) (asking B g))) (λ r. way.both b)
+      go true = leading_safe (asking B g ∷ asking A g ∷ []) (way.both true) (of_two (λ h. IsScoped now T h ys) (asking B g) (asking A g) (asked B right (none_at (both A B) e).1) (asked A left (none_at (both A B) e).0))
+          (λ r final gs es s. closing.by_both true (formed D now flexible g t r (both A B) e) s)
+      go false = leading_safe (asking A g ∷ asking B g ∷ []) (way.both false) (of_two (λ h. IsScoped now T h ys) (asking A g) (asking B g) (asked A left (none_at (both A B) e).0) (asked B right (none_at (both A B) e).1))
+          (λ r final gs es s. closing.by_both false (formed D now flexible g t r (both A B) e) s)
 
-  pub left_safe : (A B : Read) → form_of g.conclusion ≡ either A B → IsSafe D now S g ys (leading_to D now g (asking A g ∷ []))
-  left_safe A B e = leading_safe (asking A g ∷ []) (of_one (λ h. IsScoped now T h ys) (asking A g) (asked A (inside A (parts_at (either A B) e).0.known) (none_at (either A B) e).0))
-      (λ r final s. layered_left (formed D now flexible g t r (either A B) e) (s (asking A g) (Contains-here (asking A g) [])))
+  pub left_safe : (A B : Read) → form_of g.conclusion ≡ either A B → IsSafe D now S g ys (leading_to D now g (asking A g ∷ [])) (λ r. way.left)
+  left_safe A B e = leading_safe (asking A g ∷ []) way.left (of_one (λ h. IsScoped now T h ys) (asking A g) (asked A (inside A (parts_at (either A B) e).0.known) (none_at (either A B) e).0))
+      (λ r final gs es s. closing.by_left (formed D now flexible g t r (either A B) e) s)
 
-  pub right_safe : (A B : Read) → form_of g.conclusion ≡ either A B → IsSafe D now S g ys (leading_to D now g (asking B g ∷ []))
-  right_safe A B e = leading_safe (asking B g ∷ []) (of_one (λ h. IsScoped now T h ys) (asking B g) (asked B (inside B (parts_at (either A B) e).1.known) (none_at (either A B) e).1))
-      (λ r final s. layered_right (formed D now flexible g t r (either A B) e) (s (asking B g) (Contains-here (asking B g) [])))
+  pub right_safe : (A B : Read) → form_of g.conclusion ≡ either A B → IsSafe D now S g ys (leading_to D now g (asking B g ∷ [])) (λ r. way.right)
+  right_safe A B e = leading_safe (asking B g ∷ []) way.right (of_one (λ h. IsScoped now T h ys) (asking B g) (asked B (inside B (parts_at (either A B) e).1.known) (none_at (either A B) e).1))
+      (λ r final gs es s. closing.by_right (formed D now flexible g t r (either A B) e) s)
 
-  pub assuming_safe : (A B : Read) → form_of g.conclusion ≡ implies A B → IsSafe D now S g ys (leading_to D now g (asking B (assuming A g) ∷ []))
-  assuming_safe A B e = leading_safe (asking B (assuming A g) ∷ []) (of_one (λ h. IsScoped now T h ys) (asking B (assuming A g)) (record {
+  pub assuming_safe : (A B : Read) → form_of g.conclusion ≡ implies A B → IsSafe D now S g ys (leading_to D now g (asking B (assuming A g) ∷ [])) (λ r. way.assuming)
+  assuming_safe A B e = leading_safe (asking B (assuming A g) ∷ []) way.assuming (of_one (λ h. IsScoped now T h ys) (asking B (assuming A g)) (record {
     conclusion = inside_scope B (inside B (parts_at (implies A B) e).1.known);
     hypotheses = λ H m. elim (Contains-append_cases g.hypotheses (A ∷ []) H m) [ inl a ↦ whole_scope.hypotheses H a | inr b ↦ of_one (InScope now T ys) A (inside_scope A (inside A (parts_at (implies A B) e).0.known)) H b ];
     branch = whole_scope.branch;
     low = whole_scope.low;
     unmarked = (none_at (implies A B) e).1;
   }))
-      (λ r final s. layered_assuming (formed D now flexible g t r (implies A B) e) (subst (λ Hs. Layered D ys Hs (image same_number r B)) (mapped_more (image same_number r) g.hypotheses A) (s (asking B (assuming A g)) (Contains-here (asking B (assuming A g)) []))))
+      (λ r final gs es s. closing.by_assuming (formed D now flexible g t r (implies A B) e) (subst (λ Hs. Closes D (to_show ys Hs (image same_number r B) ∷ gs) es) (mapped_more (image same_number r) g.hypotheses A) s))
     where
       mapped_more : (f : Read → Read) (Hs : List Read) (A : Read) → map f (Hs ++ A ∷ []) ≡ map f Hs ++ f A ∷ []
       mapped_more f [] A = refl
       mapped_more f (H ∷ Hs) A = ap (λ l. f H ∷ l) (mapped_more f Hs A)
 
-  pub equal_safe : (A : Ty) (v w : Read) → form_of g.conclusion ≡ equal A v w → IsSafe D now S g ys (equating D now g v w [])
+  pub equal_safe : (A : Ty) (v w : Read) → form_of g.conclusion ≡ equal A v w → IsSafe D now S g ys (equating D now g v w []) (λ r. way.equality)
   equal_safe A v w e = record {
     scope = ys;
     keeps = λ y h. h;
     equations = ((inside_scope v (sides_inside g.conclusion A v w e).0, inside_scope w (sides_inside g.conclusion A v w e).1), tt);
     goals = λ h m. absurd (Contains-none h m);
-    proves = λ last more q n taken final u sv s. layered_equality (formed D now flexible g t (in_the_end last q n) (equal A v w) e) u.0;
+    closes = λ last more q n taken final u sv gs es s. closing.by_equality (formed D now flexible g t (in_the_end last q n) (equal A v w) e) u.0 s;
   }
 
   -- what is put in in the end isn't moved by what leaves alone all constants that aren't held
@@ -198,9 +179,11 @@ module _ (D : Declarations) (now : Now) (S : Scopes) (flexible : AreFlexible now
   makes_image : (r : Substitution ℕ (List ℕ)) (C : Read) → image_by (plain r) (forget C) ≡ forget (image same_number r C)
   makes_image r C = sym (image_plain r C)
 
-  hypothesis_safe : (E : Read) → Contains g.hypotheses E → IsPart sg now g.constants g.untouched E → (ps : List (Nominal × Nominal)) → Contains (maps (in_order (support E)) g.constants) ps
-      → IsSafe D now S g ys (equating D now g (permute ps (erased E)) (erased g.conclusion) ((g.conclusion, E) ∷ []))
-  hypothesis_safe E there part ps m =
+  pub hypothesis_safe : (i : ℕ) (E : Read) → slice_get g.hypotheses i ≡ Some E → (ps : List (Nominal × Nominal)) → Contains (maps (in_order (support E)) g.constants) ps
+      → IsSafe D now S g ys (equating D now g (permute ps (erased E)) (erased g.conclusion) ((g.conclusion, E) ∷ [])) (λ r. way.hypothesis i)
+  hypothesis_safe i E at ps m =
+      let there : Contains g.hypotheses E = listed_at g.hypotheses i E at in
+      let part : IsPart sg now g.constants g.untouched E = part_there sg now g.constants g.untouched g.hypotheses t.hypotheses E there in
       let N = in_order (support E) in
       let right = map_right N g.constants (ordered_pairs (support E)) ps m in
       let ns = right.0 in
@@ -221,7 +204,7 @@ module _ (D : Declarations) (now : Now) (S : Scopes) (flexible : AreFlexible now
           tt,
         );
         goals = λ h c. absurd (Contains-none h c);
-        proves = λ last more q n taken final u sv s.
+        closes = λ last more q n taken final u sv gs es s.
             let r = in_the_end last q n in
             let E2 = image same_number r E in
             let C2 = image same_number r g.conclusion in
@@ -234,8 +217,8 @@ module _ (D : Declarations) (now : Now) (S : Scopes) (flexible : AreFlexible now
             ∙ sym (makes_image r (erased g.conclusion))
             ∙ makes_erased (plain r) g.conclusion C2 t.conclusion.formula.stands (makes_image r g.conclusion) in
             let serves : MarksServeIn g.conclusion E = All-contains (λ (q : Read × Read). MarksServeIn q.0 q.1) ((g.conclusion, E) ∷ []) (g.conclusion, E) sv (Contains-here (g.conclusion, E) []) in
-            layered_hypothesis E2 (Contains-map (image same_number r) g.hypotheses E there) (same_up_to_names N ns one_type (erased E2) (erased C2) same)
-            (subst (λ k. MarksServe k (marks_of E2)) (marks_made_same (plain r) g.conclusion C2 t.conclusion.formula.stands (makes_image r g.conclusion)) (subst (λ k. MarksServe (marks_of g.conclusion) k) (marks_made_same (plain r) E E2 part.formula.stands (makes_image r E)) serves));
+            closing.by_hypothesis i E2 (slice_get-map (image same_number r) g.hypotheses i ∙ ap (option_map (image same_number r)) at) (same_up_to_names N ns one_type (erased E2) (erased C2) same)
+            (subst (λ k. MarksServe k (marks_of E2)) (marks_made_same (plain r) g.conclusion C2 t.conclusion.formula.stands (makes_image r g.conclusion)) (subst (λ k. MarksServe (marks_of g.conclusion) k) (marks_made_same (plain r) E E2 part.formula.stands (makes_image r E)) serves)) s;
       }
     where
       turned : (bs ks : List Nominal) → Each (λ (b : Nominal) (n : Nominal). n.type ≡ b.type) bs ks → OfOneType bs ks
@@ -243,18 +226,3 @@ module _ (D : Declarations) (now : Now) (S : Scopes) (flexible : AreFlexible now
       turned [] (k ∷ ks) e = absurd e
       turned (b ∷ bs) [] e = absurd e
       turned (b ∷ bs) (k ∷ ks) e = (sym e.0, turned bs ks e.1)
-
-  hypotheses_safe : (Es : List Read) → ((E : Read) → Contains Es E → Contains g.hypotheses E) → EachFine D now g (for_each (by_hypothesis D now g) Es) → EachSafe D now S g ys (for_each (by_hypothesis D now g) Es)
-  hypotheses_safe [] m p = tt
-  hypotheses_safe (E ∷ Es) m p =
-      let here = m E (Contains-here E Es) in
-      let fine = fine_split D now g (by_hypothesis D now g E) (for_each (by_hypothesis D now g) Es) p in
-      safe_both D now S g ys (by_hypothesis D now g E) (for_each (by_hypothesis D now g) Es)
-      (safe_map D now S g ys (λ ps. equating D now g (permute ps (erased E)) (erased g.conclusion) ((g.conclusion, E) ∷ [])) (maps (in_order (support E)) g.constants)
-      (λ ps c f. hypothesis_safe E here (part_there sg now g.constants g.untouched g.hypotheses t.hypotheses E here) ps c) fine.0)
-      (hypotheses_safe Es (λ F c. m F (Contains-there E Es F c)) fine.1)
-
-  pub front_safe : EachFine D now g (by_truth D now g (form_of g.conclusion) ++ for_each (by_hypothesis D now g) g.hypotheses) → EachSafe D now S g ys (by_truth D now g (form_of g.conclusion) ++ for_each (by_hypothesis D now g) g.hypotheses)
-  front_safe f =
-      let fine = fine_split D now g (by_truth D now g (form_of g.conclusion)) (for_each (by_hypothesis D now g) g.hypotheses) f in
-      safe_both D now S g ys (by_truth D now g (form_of g.conclusion)) (for_each (by_hypothesis D now g) g.hypotheses) (truth_safe (form_of g.conclusion) refl) (hypotheses_safe g.hypotheses (λ E c. c) fine.1)

@@ -36,11 +36,13 @@ use Rattle.ab_search_trees.proofs.Growing.{IsGrown}
 use Rattle.ab_search_trees.proofs.Quantifiers.{given_variables}
 use Rattle.ab_search_trees.proofs.Carried.{AreFlexible}
 use Rattle.ab_search_trees.proofs.Shows.{IsFine, formed}
-use Rattle.ab_search_layers.specs.Layered.{Layered, by_constant as layered_constant, by_term as layered_term, by_variable as layered_variable}
+use Rattle.ab_search_layers.specs.Closed as closing
+use Rattle.ab_search_layers.specs.Closed.{to_show, Closes}
+use Rattle.ab_search_layers.specs.Taken as way
 use Rattle.ab_search_answers.proofs.Filled.{name_typed, name_without}
 use Rattle.ab_search_answers.proofs.Final.{Scopes, IsIn, InScope, scope_from, IsFinal, final_scope, final_clear}
 use Rattle.ab_search_answers.proofs.Scoped.{IsScoped, part_there, in_grown, scoped_grown}
-use Rattle.ab_search_answers.proofs.Below.{in_the_end}
+use Rattle.ab_search_answers.specs.Followed.{in_the_end}
 use Rattle.ab_search_answers.proofs.Inside.{placed_more}
 use Rattle.ab_search_answers.proofs.Signs.{instance_none}
 use Rattle.ab_search_answers.proofs.Safe.{of_one, IsSafe, T, inside_scope, whole_scope, parts_at, none_at, inside}
@@ -59,7 +61,7 @@ module _ (D : Declarations) (now : Now) (S : Scopes) (flexible : AreFlexible now
   instance_scope mid zs F u a b y m = elim (variables-instance F u y m) [ inl c ↦ a y c | inr c ↦ b y c ]
 
   pub constant_safe : (A : Ty) (F : Read) → form_of g.conclusion ≡ nabla A F → FormFacts sg now g.constants g.untouched (nabla A F)
-      → let n = new_constant g.constants A in IsSafe D now S g ys (record (leading_to D now g (record (asking (instance F (name_term (codes "x") n)) g) { constants = placed n g.constants } ∷ [])) { taken = n ∷ [] })
+      → let n = new_constant g.constants A in IsSafe D now S g ys (record (leading_to D now g (record (asking (instance F (name_term (codes "x") n)) g) { constants = placed n g.constants } ∷ [])) { taken = n ∷ [] }) (λ r. way.constant n)
   constant_safe A F e facts =
       let n = new_constant g.constants A in
       let next = record (asking (instance F (name_term (codes "x") n)) g) { constants = placed n g.constants } in
@@ -76,11 +78,11 @@ module _ (D : Declarations) (now : Now) (S : Scopes) (flexible : AreFlexible now
           low = k.low;
           unmarked = instance_none F (name_term (codes "x") n) facts.stands (none_at D now S flexible g ys t k (nabla A F) e);
         });
-        proves = λ last more q m taken final u v s.
+        closes = λ last more q m taken final u v gs es s.
             let r = in_the_end last q m in
-            layered_constant n (formed D now flexible g t r (nabla A F) e) refl
+            closing.by_constant n (formed D now flexible g t r (nabla A F) e) refl
             (λ c. new_is_new g.constants A (t.conclusion.facts.constants n (final_clear sg mid U r final g.conclusion n (placed_itself n now.held) c)))
-            (subst (Layered D ys (map (image same_number r) g.hypotheses)) (image-instance sg same_number r final.typed facts.typed typed ∙ ap (instance (image same_number r F)) (image_by-expansion_of sg ℕ (List ℕ) (value_in same_number r) (map_typed sg same_number r final.typed) (codes "x") A (nominal n) no_terms tt)) (s next (Contains-here next [])));
+            (subst (λ C. Closes D (to_show ys (map (image same_number r) g.hypotheses) C ∷ gs) es) (image-instance sg same_number r final.typed facts.typed typed ∙ ap (instance (image same_number r F)) (image_by-expansion_of sg ℕ (List ℕ) (value_in same_number r) (map_typed sg same_number r final.typed) (codes "x") A (nominal n) no_terms tt)) s);
       }
 
   -- a variable is brought, which may be replaced
@@ -138,17 +140,17 @@ module _ (D : Declarations) (now : Now) (S : Scopes) (flexible : AreFlexible now
       z_cell : IsCell mid.cells z
       z_cell = fine.flexible z (holds_behind now.flexible (z ∷ []) z itself)
 
-      pub term_safe : IsSafe D now S g ys term_way
+      pub term_safe : IsSafe D now S g ys term_way (λ r. way.term (image same_number r (new_term D now g A g.constants)))
       term_safe = record {
         scope = ys;
         keeps = keeps;
         equations = tt;
         goals = of_one (λ h. IsScoped mid U h ys) next term_scoped;
-        proves = λ last more q m taken final v sv s.
+        closes = λ last more q m taken final v sv gs es s.
             let r = in_the_end last q m in
-            layered_term (image same_number r u) (formed D now flexible g t r (exists A F) e) (image_typed sg same_number r final.typed typed)
+            closing.by_term (image same_number r u) (formed D now flexible g t r (exists A F) e) (image_typed sg same_number r final.typed typed)
             (final_scope sg mid U r final ys u (λ y c. subst (IsCell mid.cells) (sym (given_variables (codes "x") z g.constants A y c)) z_cell) u_in)
-            (subst (Layered D ys (map (image same_number r) g.hypotheses)) (image-instance sg same_number r final.typed facts.typed typed) (s next (Contains-here next [])));
+            (subst (λ C. Closes D (to_show ys (map (image same_number r) g.hypotheses) C ∷ gs) es) (image-instance sg same_number r final.typed facts.typed typed) s);
       }
 
   -- where nothing was unfolded and no `exists` opened, nothing is put in
@@ -170,7 +172,7 @@ module _ (D : Declarations) (now : Now) (S : Scopes) (flexible : AreFlexible now
     serving = [];
     taken = [];
     goals = asking (instance F (new_term D now g A ns)) g ∷ [];
-  } in IsFine D now g w → IsSafe D now S g ys w
+  } in IsFine D now g w → IsSafe D now S g ys w (λ r. way.variable (length now.cells) (in_order (support g.conclusion)))
   variable_safe A F clean e facts fine =
       let ns = in_order (support g.conclusion) in
       let c = new_cell D now g F A ns in
@@ -200,12 +202,14 @@ module _ (D : Declarations) (now : Now) (S : Scopes) (flexible : AreFlexible now
           ];
           unmarked = instance_none F u facts.stands (none_at D now S flexible g ys t k (for_all A F) e);
         });
-        proves = λ last n_more q m taken final v sv s.
+        closes = λ last n_more q m taken final v sv gs es s.
             let r = in_the_end last q m in
+            let Hs = map (image same_number r) g.hypotheses in
             let C_same = stays clean c r final g.conclusion t.conclusion.facts in
             let u_same : image same_number r u ≡ u = image_agrees (value_in same_number r) (value_in same_number []) u (λ y i. ap (value_in same_number r) (given_variables (codes "x") x ns A y i) ∙ no_key clean c r final x not_x (omega arith)) ∙ image_none u in
-            let shown : Layered D zs (map (image same_number r) g.hypotheses) (instance (image same_number r F) u) = subst (Layered D zs (map (image same_number r) g.hypotheses)) (image-instance sg same_number r final.typed facts.typed typed ∙ ap (instance (image same_number r F)) u_same) (s next (Contains-here next [])) in
-            layered_variable (length now.cells) (formed D now flexible g t r (for_all A F) e)
+            let shown : Closes D (to_show zs Hs (instance (image same_number r F) u) ∷ gs) es = subst (λ C. Closes D (to_show zs Hs C ∷ gs) es) (image-instance sg same_number r final.typed facts.typed typed ∙ ap (instance (image same_number r F)) u_same) s in
+            subst (λ K. Closes D (to_show ys Hs (image same_number r g.conclusion) ∷ gs) ((image same_number r g.conclusion, way.variable (length now.cells) (in_order (support K))) ∷ es)) C_same
+            (closing.by_variable (length now.cells) (formed D now flexible g t r (for_all A F) e)
             (All-from_contains (λ (y : Variable ℕ). y.name ≢ length now.cells) ys (λ y i same. let low = k.low y i in absurd (omega (arith, low, same))))
-            (subst (λ K. Layered D (record { name = length now.cells; type = over (in_order (support K)) A } ∷ ys) (map (image same_number r) g.hypotheses) (instance (image same_number r F) (a_variable (length now.cells) (in_order (support K)) A))) (sym C_same) shown);
+            (subst (λ K. Closes D (to_show (record { name = length now.cells; type = over (in_order (support K)) A } ∷ ys) Hs (instance (image same_number r F) (a_variable (length now.cells) (in_order (support K)) A)) ∷ gs) es) (sym C_same) shown));
       }

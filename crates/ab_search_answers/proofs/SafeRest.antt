@@ -1,22 +1,24 @@
--- SAFE WAYS by a layer of a judgement, by a clause and by a rule; and all ways together.
-use Rattle.std.proofs.Common.{◌≡◌, inl, inr, ℕ, zero, suc, ◌+◌, ◌<◌, ◌≤◌, List, [], ◌∷◌, ◌++◌, map, length, codes, Bool, true, false, cond, Option, Some, None, refl, sym, ◌∙◌, ap, subst, arith, length-append}
-use Rattle.std.specs.Prelude.{Contains, All}
+-- SAFE WAYS by a layer of a judgement, by a clause and by a rule; and whichever way the search goes on by.
+use Rattle.std.proofs.Common.{◌≡◌, inl, inr, ℕ, zero, suc, ◌+◌, ◌<◌, ◌≤◌, List, [], ◌∷◌, ◌++◌, map, length, codes, Bool, true, false, cond, Option, Some, None, option_map, refl, sym, ◌∙◌, ap, subst, arith, length-append}
+use Rattle.std.specs.Prelude.{Contains, All, slice_get}
 use Rattle.std.proofs.lemmas.Bool.{false≢true, false_from_ne_true}
 use Rattle.std.proofs.lemmas.List.Elements.{All-head, All-tail, Contains-append_left, Contains-append_right}
+use Rattle.std.proofs.lemmas.Option.{slice_get-map}
+use Rattle.ab_term.specs.Types.{Ty}
 use Rattle.ab_term.specs.Logical as plain
 use Rattle.ab_term.specs.Terms.{Nominal, Variable, constant, logical, nominal, variable, index, lam, spine, Terms, no_terms, term, Read}
 use Rattle.ab_term.specs.Typing.{Signature}
-use Rattle.ab_term.specs.Names.{support, support_of_all}
+use Rattle.ab_term.specs.Names.{support, support_of_all, permute}
 use Rattle.ab_term.specs.Substitution.{instance}
 use Rattle.ab_term.specs.Variables.{Substitution, variables, variables_of_all, value_in, image, image_all, put_for}
 use Rattle.ab_term.specs.Sameness.{same_number}
-use Rattle.ab_term.proofs.Lists.{Contains-none, Contains-here}
+use Rattle.ab_term.proofs.Lists.{Contains-none, Contains-here, Contains-cases, Contains-from_map}
 use Rattle.ab_term.proofs.Compositions.{map_typed}
 use Rattle.ab_unifiers.specs.Replacements.{holds}
 use Rattle.ab_unifiers.specs.Unification.{Equation}
 use Rattle.ab_unifiers.specs.Unifiers.{sides, HoldsCells, keys}
 use Rattle.ab_unifiers.specs.Alternatives.{arguments_equal, made_terms}
-use Rattle.ab_unifiers.specs.Choices.{in_order, outside, for_each}
+use Rattle.ab_unifiers.specs.Choices.{in_order, outside, new_constant}
 use Rattle.ab_unifiers.specs.Clauses.{numbered, filled, head_of, clause_variables, clause_names}
 use Rattle.ab_unifiers.specs.Member.{HasMember}
 use Rattle.ab_unifiers.proofs.Agreeing.{holds_front, holds_behind}
@@ -26,6 +28,7 @@ use Rattle.ab_formulas.specs.Declarations.{Declarations, signature_in, HaveDefin
 use Rattle.ab_formulas.specs.BodyMarks.{mark_above, marked_in}
 use Rattle.ab_formulas.specs.Forms.{Form, truth, falsity, both, either, implies, equal, for_all, exists, nabla, marked, other, form_of}
 use Rattle.ab_formulas.specs.Marks as signs
+use Rattle.ab_formulas.specs.Marks.{erased}
 use Rattle.ab_formulas.specs.Programs.{program_in, HavePrograms}
 use Rattle.ab_formulas.specs.Formulas.{a_formula}
 use Rattle.ab_formulas.proofs.Images.{image_stands}
@@ -34,13 +37,15 @@ use Rattle.ab_pattern_matching.specs.Reading.{Every}
 use Rattle.ab_theory.specs.Atoms.{Defined, Choice, defined_atom, choices_of}
 use Rattle.ab_theory.specs.Judgements.{Judgement, as_judgement}
 use Rattle.ab_theory.specs.Opening.{compound, kind_of}
-use Rattle.ab_theory.specs.SpecRules.{SpecRule, rules_of, demand_of}
+use Rattle.ab_theory.specs.SpecRules.{SpecRule, rules_of}
 use Rattle.ab_theory.proofs.Demanded.{Over}
 use Rattle.ab_theory.proofs.JudgementRules.{judgement_known}
 use Rattle.ab_theory.proofs.RuleDemands.{JudgementKnown, rule_well}
-use Rattle.ab_search_trees.specs.Goals.{Goal, Now, asking}
+use Rattle.ab_theory.proofs.SubjectParts.{listed_at}
+use Rattle.ab_search_trees.specs.Goals.{Goal, Now, asking, assuming}
+use Rattle.ab_search_trees.specs.Maps.{maps}
 use Rattle.ab_search_trees.specs.Judgements.{layer_of, opened_once, hides_head, is_blind, opens_by_layers, known as rules_known, search_rules}
-use Rattle.ab_search_trees.specs.Ways.{Way, leading_to, new_cell, new_term, unfolds, demanded, with_constants, is_by_list, by_layer, by_form, by_choice, by_definition, by_rule, by_judgement, ways, by_truth, by_hypothesis}
+use Rattle.ab_search_trees.specs.Ways.{Way, leading_to, equating, in_turn, new_cell, new_term, unfolds, demanded, with_constants, is_by_list, by_layer, by_form, by_choice, by_definition, by_rule, by_judgement, ways, by_truth}
 use Rattle.ab_search_trees.proofs.Lifts.{known_cell, no_value}
 use Rattle.ab_search_trees.proofs.Facts.{Facts, IsTask, FormFacts, form_facts}
 use Rattle.ab_search_trees.proofs.Growing.{IsGrown}
@@ -52,16 +57,23 @@ use Rattle.ab_search_trees.proofs.ClauseParts as parts
 use Rattle.ab_search_trees.proofs.Exact.{opened_image}
 use Rattle.ab_search_trees.proofs.Own.{atom_known}
 use Rattle.ab_search_trees.proofs.RuleWays.{is_rule_of}
-use Rattle.ab_search_trees.proofs.Shows.{IsFine, EachFine, formed}
-use Rattle.ab_search_layers.specs.Layered.{Layered, by_layer as layered_layer, by_clause as layered_clause}
+use Rattle.ab_search_trees.proofs.Shows.{IsFine, formed}
+use Rattle.ab_search_proofs.proofs.Connectives.{same_option}
+use Rattle.ab_search_layers.specs.Closed as closing
+use Rattle.ab_search_layers.specs.Closed.{to_show, Closes}
+use Rattle.ab_search_layers.specs.Taken as way
+use Rattle.ab_search_layers.specs.Taken.{Taking}
 use Rattle.ab_search_answers.proofs.Final.{Scopes, IsIn, scope_from, IsFinal}
 use Rattle.ab_search_answers.proofs.Under.{BothIn}
 use Rattle.ab_search_answers.proofs.Scoped.{IsScoped, in_grown, scoped_grown}
-use Rattle.ab_search_answers.proofs.Below.{in_the_end, atom_under, ClauseEvidence, EvidenceFor}
+use Rattle.ab_search_answers.specs.Followed.{in_the_end, clause_terms, rule_terms, closed_names, GoesOn, as_truth, as_hypothesis, as_equality, as_both, as_left, as_right, as_assuming, as_constant, as_term, as_variable, as_layer, as_clause, as_rule}
+use Rattle.ab_search_answers.proofs.Below.{atom_under, ClauseEvidence, EvidenceFor}
 use Rattle.ab_search_answers.proofs.Inside.{opened_inside, arguments_inside, taken_more}
-use Rattle.ab_search_answers.specs.Unmarked.{HasNoHash, HaveNoHash}
-use Rattle.ab_search_answers.proofs.Signs.{image_none as image_none_marked, opened_none, marked_none, choice_none, demand_none, unmarked_judgement}
-use Rattle.ab_search_answers.proofs.Safe.{of_one, IsSafe, EachSafe, amid_way, safe_both, safe_map, fine_split, T, asked, leading_safe, both_safe, left_safe, right_safe, assuming_safe, equal_safe, front_safe}
+use Rattle.ab_search_answers.specs.Unmarked.{HaveNoHash}
+use Rattle.ab_search_answers.proofs.Signs.{image_none as image_none_marked, opened_none, marked_none, choice_none, unmarked_judgement}
+use Rattle.ab_search_answers.proofs.UnmarkedDemands.{above_none, demand_none}
+use Rattle.ab_search_answers.proofs.Safe.{of_one, IsSafe, amid_way, T, asked, leading_safe, truth_safe, both_safe, left_safe, right_safe, assuming_safe, equal_safe, hypothesis_safe}
+use Rattle.ab_search_answers.proofs.Going.{seeing}
 use Rattle.ab_search_answers.proofs.SafeMore.{constant_safe, term_safe, variable_safe}
 
 -- a judgement that a search takes by a rule has no layer, with whatever is put in
@@ -110,12 +122,12 @@ module _ (D : Declarations) (defs : HaveDefinitions D) (program : HavePrograms D
   abbrev U : Scopes
   U = T D now S flexible g ys t k
 
-  layer_safe : (n : ℕ) (F : Read) → form_of g.conclusion ≡ other → opened_once g.conclusion ≡ Some F → IsSafe D now S g ys (leading_to D now g (record (asking F g) { layers = n } ∷ []))
+  layer_safe : (n : ℕ) (F : Read) → form_of g.conclusion ≡ other → opened_once g.conclusion ≡ Some F → IsSafe D now S g ys (leading_to D now g (record (asking F g) { layers = n } ∷ [])) (λ r. way.layer)
   layer_safe n F e opened =
       let next = record (asking F g) { layers = n } in
       let here = asked D now S flexible g ys t k F (opened_inside g.conclusion F opened) (opened_none g.conclusion F opened) in
-      leading_safe D now S flexible g ys t k (next ∷ []) (of_one (λ h. IsScoped now U h ys) next (record { conclusion = here.conclusion; hypotheses = here.hypotheses; branch = here.branch; low = here.low; unmarked = here.unmarked }))
-      (λ r final s. layered_layer (formed D now flexible g t r other e) (opened_image sg (value_in same_number r) (map_typed sg same_number r final.typed) g.conclusion F opened) (s next (Contains-here next [])))
+      leading_safe D now S flexible g ys t k (next ∷ []) way.layer (of_one (λ h. IsScoped now U h ys) next (record { conclusion = here.conclusion; hypotheses = here.hypotheses; branch = here.branch; low = here.low; unmarked = here.unmarked }))
+      (λ r final gs es s. closing.by_layer (formed D now flexible g t r other e) (opened_image sg (value_in same_number r) (map_typed sg same_number r final.typed) g.conclusion F opened) s)
 
   -- where variables are brought
   module _ (mid : Now) (grown : IsGrown now mid (λ y. None) (λ y. None)) (keeps : (y : Variable ℕ) → holds now.flexible y ≡ true → holds mid.flexible y ≡ true) (longer : length now.cells ≤ length mid.cells) (held : (a : Nominal) → Contains now.held a → Contains mid.held a) where
@@ -176,7 +188,7 @@ module _ (D : Declarations) (defs : HaveDefinitions D) (program : HavePrograms D
     atom_itself : image_all same_number [] d.arguments ≡ d.arguments
     atom_itself = let whole : image same_number [] (spine (constant d.predicate) d.arguments) ≡ spine (constant d.predicate) d.arguments = image_none (spine (constant d.predicate) d.arguments) in cc
 
-    clause_safe : IsSafe D now S g ys (by_choice D now g depth d c)
+    clause_safe : IsSafe D now S g ys (by_choice D now g depth d c) (λ r. way.clause c.clause c.names (map (image same_number r) (clause_terms (length now.cells) d c)))
     clause_safe =
         let old = scoped_grown sg now mid grown keeps fine.longer held S ys g ys t k in
         record {
@@ -193,14 +205,18 @@ module _ (D : Declarations) (defs : HaveDefinitions D) (program : HavePrograms D
             low = old.low;
             unmarked = marked_none d.block.predicates (mark_above d.sign) (image same_number put c.clause.body) (image_stands (value_in same_number put) a_formula c.clause.body defining.body.stands) (image_none_marked put c.clause.body defining.body.stands (choice_none D none g.conclusion d is g.constants c there));
           });
-          proves = λ last more q n taken final u v s.
+          closes = λ last more q n taken final u v gs es s.
+              let r = in_the_end last q n in
+              let us = map (image same_number r) (clause_terms (length now.cells) d c) in
               let gives = clauses now last g depth d c ys more q n is may there taken in
-              layered_clause (atom_under (in_the_end last q n) d) c.clause gives.terms c.names gives.by (subst (Layered D ys (map (image same_number (in_the_end last q n)) g.hypotheses)) (gives.body (image same_number (in_the_end last q n) next.conclusion) (Contains-here (image same_number (in_the_end last q n) next.conclusion) [])) (s next (Contains-here next [])));
+              closing.by_clause (atom_under r d) c.clause us c.names gives.by (subst (λ F. Closes D (to_show ys (map (image same_number r) g.hypotheses) F ∷ gs) es) (gives.body (image same_number r next.conclusion) (Contains-here (image same_number r next.conclusion) [])) s);
         }
 
   module _ (j : Judgement) (is : as_judgement g.conclusion ≡ Some j) (seen : is_blind now.flexible g.conclusion ≡ false) where
-    rule_safe : (depth : ℕ) → unfolds j.sign ≡ true → (s : SpecRule) → Contains (search_rules D j) s → IsFine D now g (by_rule D now g depth j s) → IsSafe D now S g ys (by_rule D now g depth j s)
-    rule_safe depth may s there fine =
+    rule_safe : (depth : ℕ) → unfolds j.sign ≡ true → (s : SpecRule) (i : ℕ) → slice_get (search_rules D j) i ≡ Some s → IsFine D now g (by_rule D now g depth j s)
+        → IsSafe D now S g ys (by_rule D now g depth j s) (λ r. way.rule i (map (image same_number r) (rule_terms (length now.cells) j s)) (closed_names s))
+    rule_safe depth may s i at fine =
+        let there = listed_at (search_rules D j) i s at in
         let w = by_rule D now g depth j s in
         let plainly : j.sign ≡ signs.plain = unmarked_judgement g.conclusion j is k.unmarked may in
         let d = demanded (length now.cells) j s in
@@ -218,89 +234,102 @@ module _ (D : Declarations) (defs : HaveDefinitions D) (program : HavePrograms D
           scope = ys;
           keeps = keeps;
           equations = sides_in mid grown keeps fine.longer (λ a h. h) d.equations well.over;
-          goals = of_one (λ h. IsScoped mid U h ys) next (record { conclusion = well.body.over; hypotheses = old.hypotheses; branch = old.branch; low = old.low; unmarked = subst (λ m. HasNoHash (demand_of (length now.cells) m j s).body) (ap mark_above (sym plainly)) (demand_none (length now.cells) j s) });
-          proves = λ last more q n taken final u v shown.
+          goals = of_one (λ h. IsScoped mid U h ys) next (record { conclusion = well.body.over; hypotheses = old.hypotheses; branch = old.branch; low = old.low; unmarked = demand_none (mark_above j.sign) (above_none j.sign) (length now.cells) j s });
+          closes = λ last more q n taken final u v gs es shown.
               let r = in_the_end last q n in
-              rules s now last g depth j ys (map (image same_number r) g.hypotheses) more q n is plainly there taken (not_opened sg now mid grown.fixed fine.longer U r final D g.conclusion j s is there seen t.conclusion.facts.over) (shown next (Contains-here next []));
+              rules s now last g depth j i ys (map (image same_number r) g.hypotheses) more q n is plainly at taken (not_opened sg now mid grown.fixed fine.longer U r final D g.conclusion j s is there seen t.conclusion.facts.over) gs es shown;
         }
-
-    rules_safe : (depth : ℕ) → EachFine D now g (cond (unfolds j.sign) (map (by_rule D now g depth j) (search_rules D j)) []) → EachSafe D now S g ys (cond (unfolds j.sign) (map (by_rule D now g depth j) (search_rules D j)) [])
-    rules_safe depth = go (unfolds j.sign) refl
-      where
-        go : (b : Bool) → unfolds j.sign ≡ b → EachFine D now g (cond b (map (by_rule D now g depth j) (search_rules D j)) []) → EachSafe D now S g ys (cond b (map (by_rule D now g depth j) (search_rules D j)) [])
-        go true may f = safe_map D now S g ys (by_rule D now g depth j) (search_rules D j) (λ s m one. rule_safe depth may s m one) f
-        go false may f = tt
-
-  judgements_safe : is_blind now.flexible g.conclusion ≡ false → (n : ℕ) (o : Option Judgement) → as_judgement g.conclusion ≡ o → EachFine D now g (by_judgement D now g n o) → EachSafe D now S g ys (by_judgement D now g n o)
-  judgements_safe seen zero None e f = tt
-  judgements_safe seen zero (Some j) e f = tt
-  judgements_safe seen (suc n) None e f = tt
-  judgements_safe seen (suc n) (Some j) e f = rules_safe j e seen n f
-
-  choices_safe : (depth : ℕ) (d : Defined) → defined_atom D g.conclusion ≡ Some d → EachFine D now g (cond (unfolds d.sign) (map (by_choice D now g depth d) (choices_of g.constants d)) []) → EachSafe D now S g ys (cond (unfolds d.sign) (map (by_choice D now g depth d) (choices_of g.constants d)) [])
-  choices_safe depth d is = go (unfolds d.sign) refl
-    where
-      go : (b : Bool) → unfolds d.sign ≡ b → EachFine D now g (cond b (map (by_choice D now g depth d) (choices_of g.constants d)) []) → EachSafe D now S g ys (cond b (map (by_choice D now g depth d) (choices_of g.constants d)) [])
-      go true may f = safe_map D now S g ys (by_choice D now g depth d) (choices_of g.constants d) (λ c m one. clause_safe depth d is may c m one) f
-      go false may f = tt
-
-  definition_safe : (n : ℕ) (o : Option Defined) → defined_atom D g.conclusion ≡ o → EachFine D now g (by_definition D now g n o) → EachSafe D now S g ys (by_definition D now g n o)
-  definition_safe zero None e f = tt
-  definition_safe zero (Some d) e f = tt
-  definition_safe (suc n) None e f = tt
-  definition_safe (suc n) (Some d) e f = choices_safe n d e f
 
   known : FormFacts sg now g.constants g.untouched (form_of g.conclusion)
   known = form_facts sg now g.constants g.untouched g.conclusion t.conclusion
 
-  layers_safe : form_of g.conclusion ≡ other → (n : ℕ) (o : Option Read) → opened_once g.conclusion ≡ o → EachSafe D now S g ys (by_layer D now g n o)
-  layers_safe e zero None q = tt
-  layers_safe e zero (Some F) q = tt
-  layers_safe e (suc n) None q = tt
-  layers_safe e (suc n) (Some F) q = (layer_safe n F e q, tt)
+  -- THE WAY IS SAFE by which the search goes on
+  module _ (r : Substitution ℕ (List ℕ)) (w : Way) (among : Contains (ways D now g) w) (fine : IsFine D now g w) where
+    abbrev Safe : Taking → Type 0
+    Safe k = (f : Substitution ℕ (List ℕ) → Taking) × (f r ≡ k) × IsSafe D now S g ys w f
 
-  form_safe : (X : Form) → form_of g.conclusion ≡ X → FormFacts sg now g.constants g.untouched X → EachFine D now g (by_form D now g X) → EachSafe D now S g ys (by_form D now g X)
-  form_safe (equal A v w) e p f = (equal_safe D now S flexible g ys t k A v w e, tt)
-  form_safe (both A B) e p f = (both_safe D now S flexible g ys t k A B e g.member_first, tt)
-  form_safe (either A B) e p f = (left_safe D now S flexible g ys t k A B e, (right_safe D now S flexible g ys t k A B e, tt))
-  form_safe (implies A B) e p f = (assuming_safe D now S flexible g ys t k A B e, tt)
-  form_safe (nabla A F) e p f = (constant_safe D now S flexible g ys t k A F e p, tt)
-  form_safe (exists A F) e p f = (term_safe D now S flexible g ys t k A F e p f.0, tt)
-  form_safe (for_all A F) e p f = variables_safe g.untouched refl f
-    where
-      w : Way
-      w = record {
-        cells = now.cells ++ new_cell D now g F A (in_order (support g.conclusion)) ∷ [];
-        flexible = now.flexible;
-        equations = [];
-        serving = [];
-        taken = [];
-        goals = asking (instance F (new_term D now g A (in_order (support g.conclusion)))) g ∷ [];
-      }
+    -- the way being this one
+    it_is : (v : Way) (f : Substitution ℕ (List ℕ) → Taking) → v ≡ w → (IsFine D now g v → IsSafe D now S g ys v f) → Safe (f r)
+    it_is v f e safe = (f, refl, subst (λ v. IsSafe D now S g ys v f) e (safe (subst (IsFine D now g) (sym e) fine)))
 
-      variables_safe : (b : Bool) → g.untouched ≡ b → EachFine D now g (cond b (w ∷ []) []) → EachSafe D now S g ys (cond b (w ∷ []) [])
-      variables_safe true q f = (variable_safe D now S flexible g ys t k A F q e p f.0, tt)
-      variables_safe false q f = tt
-  form_safe other e p f = layers_safe e g.layers (opened_once g.conclusion) refl
-  form_safe truth e p f = tt
-  form_safe falsity e p f = tt
-  form_safe (marked m A) e p f = tt
+    -- by the form
+    formed_way : (X : Form) (i : ℕ) → form_of g.conclusion ≡ X → slice_get (by_form D now g (form_of g.conclusion)) i ≡ Some w → slice_get (by_form D now g X) i ≡ Some w
+    formed_way X i e at = subst (λ Y. slice_get (by_form D now g Y) i ≡ Some w) e at
 
-  -- EACH WAY from the goal is safe
-  pub ways_safe : EachFine D now g (ways D now g) → EachSafe D now S g ys (ways D now g)
-  ways_safe f =
-      let front = by_truth D now g (form_of g.conclusion) ++ for_each (by_hypothesis D now g) g.hypotheses in
-      let rest = cond (is_blind now.flexible g.conclusion) [] ((by_form D now g (form_of g.conclusion) ++ by_definition D now g g.depth (defined_atom D g.conclusion)) ++ by_judgement D now g g.depth (as_judgement g.conclusion)) in
-      let fine = fine_split D now g front rest f in
-      safe_both D now S g ys front rest (front_safe D now S flexible g ys t k fine.0) (behind (is_blind now.flexible g.conclusion) refl fine.1)
-    where
-      behind : (b : Bool) → is_blind now.flexible g.conclusion ≡ b → EachFine D now g (cond b [] ((by_form D now g (form_of g.conclusion) ++ by_definition D now g g.depth (defined_atom D g.conclusion)) ++ by_judgement D now g g.depth (as_judgement g.conclusion)))
-          → EachSafe D now S g ys (cond b [] ((by_form D now g (form_of g.conclusion) ++ by_definition D now g g.depth (defined_atom D g.conclusion)) ++ by_judgement D now g g.depth (as_judgement g.conclusion)))
-      behind true e f = tt
-      behind false e f =
-          let forms = by_form D now g (form_of g.conclusion) in
-          let atoms = by_definition D now g g.depth (defined_atom D g.conclusion) in
-          let judged = by_judgement D now g g.depth (as_judgement g.conclusion) in
-          let fine = fine_split D now g (forms ++ atoms) judged f in
-          let two = fine_split D now g forms atoms fine.0 in
-          safe_both D now S g ys (forms ++ atoms) judged (safe_both D now S g ys forms atoms (form_safe (form_of g.conclusion) refl known two.0) (definition_safe g.depth (defined_atom D g.conclusion) refl two.1)) (judgements_safe e g.depth (as_judgement g.conclusion) refl fine.1)
+    facts_at : (X : Form) → form_of g.conclusion ≡ X → FormFacts sg now g.constants g.untouched X
+    facts_at X e = subst (FormFacts sg now g.constants g.untouched) e known
+
+    of_truth : (X : Form) → form_of g.conclusion ≡ X → Contains (by_truth D now g X) w → Safe way.truth
+    of_truth truth e m = elim (Contains-cases (leading_to D now g []) [] w m) [ inl q ↦ it_is (leading_to D now g []) (λ r. way.truth) q (λ f. truth_safe D now S flexible g ys t k e) | inr n ↦ absurd (Contains-none w n) ]
+    of_truth falsity e m = absurd (Contains-none w m)
+    of_truth (both A B) e m = absurd (Contains-none w m)
+    of_truth (either A B) e m = absurd (Contains-none w m)
+    of_truth (implies A B) e m = absurd (Contains-none w m)
+    of_truth (equal A v u) e m = absurd (Contains-none w m)
+    of_truth (for_all A F) e m = absurd (Contains-none w m)
+    of_truth (exists A F) e m = absurd (Contains-none w m)
+    of_truth (nabla A F) e m = absurd (Contains-none w m)
+    of_truth (marked i A) e m = absurd (Contains-none w m)
+    of_truth other e m = absurd (Contains-none w m)
+
+    abbrev variable_way : Ty → Read → Way
+    variable_way A F = record {
+      cells = now.cells ++ new_cell D now g F A (in_order (support g.conclusion)) ∷ [];
+      flexible = now.flexible;
+      equations = [];
+      serving = [];
+      taken = [];
+      goals = asking (instance F (new_term D now g A (in_order (support g.conclusion)))) g ∷ [];
+    }
+
+    of_variable : (A : Ty) (F : Read) → form_of g.conclusion ≡ for_all A F → (b : Bool) → g.untouched ≡ b → slice_get (cond b (variable_way A F ∷ []) []) 0 ≡ Some w → Safe (way.variable (length now.cells) (in_order (support g.conclusion)))
+    of_variable A F e true q at = it_is (variable_way A F) (λ r. way.variable (length now.cells) (in_order (support g.conclusion))) (same_option at) (λ f. variable_safe D now S flexible g ys t k A F q e (facts_at (for_all A F) e) f)
+    of_variable A F e false q at = absurd (cc)
+
+    of_layer : form_of g.conclusion ≡ other → (n : ℕ) (o : Option Read) → opened_once g.conclusion ≡ o → slice_get (by_layer D now g n o) 0 ≡ Some w → Safe way.layer
+    of_layer e zero None q at = absurd (cc)
+    of_layer e zero (Some F) q at = absurd (cc)
+    of_layer e (suc n) None q at = absurd (cc)
+    of_layer e (suc n) (Some F) q at = it_is (leading_to D now g (record (asking F g) { layers = n } ∷ [])) (λ r. way.layer) (same_option at) (λ f. layer_safe n F e q)
+
+    of_clause : (d : Defined) (c : Choice) (i : ℕ) → defined_atom D g.conclusion ≡ Some d → slice_get (choices_of g.constants d) i ≡ Some c → (n : ℕ) → slice_get (by_definition D now g n (Some d)) i ≡ Some w
+        → Safe (way.clause c.clause c.names (map (image same_number r) (clause_terms (length now.cells) d c)))
+    of_clause d c i is chosen zero at = absurd (cc)
+    of_clause d c i is chosen (suc depth) at = go (unfolds d.sign) refl at
+      where
+        go : (b : Bool) → unfolds d.sign ≡ b → slice_get (cond b (map (by_choice D now g depth d) (choices_of g.constants d)) []) i ≡ Some w
+            → Safe (way.clause c.clause c.names (map (image same_number r) (clause_terms (length now.cells) d c)))
+        go true may at = it_is (by_choice D now g depth d c) (λ r. way.clause c.clause c.names (map (image same_number r) (clause_terms (length now.cells) d c)))
+            (same_option (sym (slice_get-map (by_choice D now g depth d) (choices_of g.constants d) i ∙ ap (option_map (by_choice D now g depth d)) chosen) ∙ at))
+            (λ f. clause_safe depth d is may c (listed_at (choices_of g.constants d) i c chosen) f)
+        go false may at = absurd (cc)
+
+    of_rule : (j : Judgement) (s : SpecRule) (i : ℕ) → as_judgement g.conclusion ≡ Some j → slice_get (search_rules D j) i ≡ Some s → (n : ℕ) → slice_get (by_judgement D now g n (Some j)) i ≡ Some w
+        → Safe (way.rule i (map (image same_number r) (rule_terms (length now.cells) j s)) (closed_names s))
+    of_rule j s i is chosen zero at = absurd (cc)
+    of_rule j s i is chosen (suc depth) at = go (unfolds j.sign) refl at
+      where
+        go : (b : Bool) → unfolds j.sign ≡ b → slice_get (cond b (map (by_rule D now g depth j) (search_rules D j)) []) i ≡ Some w
+            → Safe (way.rule i (map (image same_number r) (rule_terms (length now.cells) j s)) (closed_names s))
+        go true may at =
+            let same : by_rule D now g depth j s ≡ w = same_option (sym (slice_get-map (by_rule D now g depth j) (search_rules D j) i ∙ ap (option_map (by_rule D now g depth j)) chosen) ∙ at) in
+            it_is (by_rule D now g depth j s) (λ r. way.rule i (map (image same_number r) (rule_terms (length now.cells) j s)) (closed_names s)) same
+            (λ f. rule_safe j is (seeing D now g w _ [] (ap (λ (v : Way). v.goals) (sym same)) among) depth may s i chosen f)
+        go false may at = absurd (cc)
+
+    pub way_safe : {k : Taking} → GoesOn D now g r w k → Safe k
+    way_safe (as_truth m) = of_truth (form_of g.conclusion) refl m
+    way_safe (as_hypothesis i E at m) =
+        let from = Contains-from_map (λ ps. equating D now g (permute ps (erased E)) (erased g.conclusion) ((g.conclusion, E) ∷ [])) (maps (in_order (support E)) g.constants) w m in
+        it_is (equating D now g (permute from.0 (erased E)) (erased g.conclusion) ((g.conclusion, E) ∷ [])) (λ r. way.hypothesis i) from.2 (λ f. hypothesis_safe D now S flexible g ys t k i E at from.0 from.1)
+    way_safe (as_equality {A = A} {t = v} {u = u} e at) = it_is (equating D now g v u []) (λ r. way.equality) (same_option (formed_way (equal A v u) 0 e at)) (λ f. equal_safe D now S flexible g ys t k A v u e)
+    way_safe (as_both {A = A} {B = B} e at) = it_is (leading_to D now g (in_turn g.member_first (asking A g) (asking B g))) (λ r. way.both g.member_first) (same_option (formed_way (both A B) 0 e at)) (λ f. both_safe D now S flexible g ys t k A B e g.member_first)
+    way_safe (as_left {A = A} {B = B} e at) = it_is (leading_to D now g (asking A g ∷ [])) (λ r. way.left) (same_option (formed_way (either A B) 0 e at)) (λ f. left_safe D now S flexible g ys t k A B e)
+    way_safe (as_right {A = A} {B = B} e at) = it_is (leading_to D now g (asking B g ∷ [])) (λ r. way.right) (same_option (formed_way (either A B) 1 e at)) (λ f. right_safe D now S flexible g ys t k A B e)
+    way_safe (as_assuming {A = A} {B = B} e at) = it_is (leading_to D now g (asking B (assuming A g) ∷ [])) (λ r. way.assuming) (same_option (formed_way (implies A B) 0 e at)) (λ f. assuming_safe D now S flexible g ys t k A B e)
+    way_safe (as_constant {A = A} {F = F} e at) = it_is _ (λ r. way.constant (new_constant g.constants A)) (same_option (formed_way (nabla A F) 0 e at)) (λ f. constant_safe D now S flexible g ys t k A F e (facts_at (nabla A F) e))
+    way_safe (as_term {A = A} {F = F} e at) = it_is _ (λ r. way.term (image same_number r (new_term D now g A g.constants))) (same_option (formed_way (exists A F) 0 e at)) (λ f. term_safe D now S flexible g ys t k A F e (facts_at (exists A F) e) f)
+    way_safe (as_variable {A = A} {F = F} e at) = of_variable A F e g.untouched refl (formed_way (for_all A F) 0 e at)
+    way_safe (as_layer e at) = of_layer e g.layers (opened_once g.conclusion) refl (formed_way other 0 e at)
+    way_safe (as_clause d c i is chosen at) = of_clause d c i is chosen g.depth (subst (λ o. slice_get (by_definition D now g g.depth o) i ≡ Some w) is at)
+    way_safe (as_rule j s i is chosen at) = of_rule j s i is chosen g.depth (subst (λ o. slice_get (by_judgement D now g g.depth o) i ≡ Some w) is at)

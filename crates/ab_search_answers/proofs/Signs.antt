@@ -1,22 +1,18 @@
--- NO JUDGEMENT IS MARKED `#`: it stays so where terms are put in, in the parts of a formula, in marked bodies, and in what a rule leaves of an unmarked judgement.
-use Rattle.std.proofs.Common.{◌≡◌, ℕ, zero, suc, ◌+◌, List, [], ◌∷◌, map, length, filter, not, codes, Bool, true, false, if◌then◌else◌, Some, None, refl, sym, ◌∙◌, ap, subst, bytes_eq}
+-- NO JUDGEMENT IS MARKED `#`: it stays so where terms are put in, in the parts of a formula, and in marked bodies.
+use Rattle.std.proofs.Common.{◌≡◌, ℕ, zero, suc, List, [], ◌∷◌, map, filter, Bool, true, false, if◌then◌else◌, Some, None, refl, sym, ◌∙◌, ap, subst, bytes_eq}
 use Rattle.std.specs.Prelude.{Contains}
 use Rattle.std.proofs.lemmas.Bool.{false≢true}
 use Rattle.std.proofs.lemmas.List.Elements.{All-contains, All-filter}
 use Rattle.ab_term.specs.Logical as plain
 use Rattle.ab_term.specs.Logical.{Logical}
-use Rattle.ab_term.specs.Terms as tree
 use Rattle.ab_term.specs.Terms.{Nominal, Head, constant, logical, nominal, variable, index, lam, spine, Terms, no_terms, term, Read}
-use Rattle.ab_term.specs.Abstraction.{close, close_all}
 use Rattle.ab_term.specs.Names.{support_of_all}
 use Rattle.ab_term.specs.Substitution.{shift, substitute_by, substitute_all_by, reduce, instance}
 use Rattle.ab_term.specs.Variables.{Substitution, image}
 use Rattle.ab_term.specs.Sameness.{same_number}
 use Rattle.ab_term.proofs.Lists.{Contains-from_map}
 use Rattle.ab_unifiers.specs.Choices.{in_order, choices}
-use Rattle.ab_unifiers.specs.Clauses.{Clause, clause_variables, head_of, put_together}
-use Rattle.ab_unifiers.specs.Prefixes.{own_terms}
-use Rattle.ab_unifiers.specs.Alternatives.{made_terms}
+use Rattle.ab_unifiers.specs.Clauses.{Clause}
 use Rattle.ab_unifiers.specs.Member.{before}
 use Rattle.ab_unifiers.proofs.Choosing.{gathered_from}
 use Rattle.ab_unifiers.proofs.Following as following
@@ -26,18 +22,10 @@ use Rattle.ab_formulas.specs.Formulas.{a_formula, a_scope, a_marked, StandsIn, A
 use Rattle.ab_formulas.specs.Forms as forms
 use Rattle.ab_formulas.specs.Forms.{Form, form_of, form_alone, form_with, form_between}
 use Rattle.ab_formulas.specs.Marks as signs
-use Rattle.ab_formulas.specs.Marks.{Sign, Marks, nowhere, marked, Making, by_head, by_scope, by_parts, by_mark, marks_made, marks_of, marks_of_all}
-use Rattle.ab_formulas.specs.Programs.{goals_in}
-use Rattle.ab_formulas.specs.Sequents.{Variable, in_terms}
+use Rattle.ab_formulas.specs.Marks.{Sign, Marks, nowhere, marked, by_scope, by_parts, by_mark, marks_made, marks_of, marks_of_all}
 use Rattle.ab_theory.specs.Atoms.{Defined, Choice, defined_atom, choices_of}
-use Rattle.ab_theory.specs.Equations.{variables_from}
-use Rattle.ab_theory.specs.Judgements.{Judgement, judgement_as, judgement_in, as_judgement, constants_of}
-use Rattle.ab_theory.specs.Opening.{both, open_goal, conjunction_from, conjunction_of}
-use Rattle.ab_theory.specs.Parts.{put_under}
-use Rattle.ab_theory.specs.Splits.{cell_for}
-use Rattle.ab_theory.specs.SpecRules.{SpecRule, by_clause, by_list, by_opening, by_part, stands_in_goals_alone, demand_of}
-use Rattle.ab_theory.specs.Unfolding.{exists_all}
-use Rattle.ab_theory.proofs.Demands.{exists_all_stands, conjunction_stands}
+use Rattle.ab_theory.specs.Judgements.{Judgement, judgement_as, judgement_in, as_judgement}
+use Rattle.ab_theory.specs.Opening.{both}
 use Rattle.ab_theory.proofs.Sized.{marked_form}
 use Rattle.ab_search_trees.specs.Judgements.{judged, layer_of, opened_once}
 use Rattle.ab_search_trees.specs.Ways.{unfolds}
@@ -121,35 +109,6 @@ module _ (apply : Read → Terms ℕ (List ℕ) → Read) where
 pub instance_none : (F u : Read) → StandsIn a_scope F → HasNoHash F → HasNoHash (instance F u)
 instance_none (lam A x t) u s n = subst HoldNoHash (sym (substitute_marks (reduce A) u zero t s)) n
 instance_none (spine h ts) u s n = absurd s
-
--- a variable is closed
-module _ (y : tree.Variable ℕ) where
-  close_first : (k : ℕ) (ts : Terms ℕ (List ℕ)) → AllStandIn a_marked ts → (m : Sign) → first_marks m (close_all k (variable y) ts) ≡ first_marks m ts
-  close_first k no_terms s m = refl
-  close_first k (term (lam A x t) ts) s m = refl
-  close_first k (term (spine (constant c) vs) ts) s m = refl
-  close_first k (term (spine (nominal a) vs) ts) s m = refl
-  close_first k (term (spine (logical l) vs) ts) s m = refl
-  close_first k (term (spine (variable z) vs) ts) s m = absurd s.0
-  close_first k (term (spine (index i) vs) ts) s m = absurd s.0
-
-  mutual
-    close_marks : (k : ℕ) (t : Read) → StandsIn a_formula t → marks_of (close k (variable y) t) ≡ marks_of t
-    close_marks k (lam A x t) s = absurd s
-    close_marks k (spine (constant c) ts) s = refl
-    close_marks k (spine (nominal a) ts) s = refl
-    close_marks k (spine (variable z) ts) s = absurd s.0
-    close_marks k (spine (index i) ts) s = absurd s.0
-    close_marks k (spine (logical l) ts) s = logical_marks ts (close_all k (variable y) ts) (close_parts k ts) (close_scopes k ts) (close_first k ts) l s.1
-
-    close_parts : (k : ℕ) (ts : Terms ℕ (List ℕ)) → AllStandIn a_formula ts → marks_of_all (close_all k (variable y) ts) ≡ marks_of_all ts
-    close_parts k no_terms s = refl
-    close_parts k (term t ts) s = ap (λ m. m ∷ marks_of_all (close_all k (variable y) ts)) (close_marks k t s.0) ∙ ap (λ ms. marks_of t ∷ ms) (close_parts k ts s.1)
-
-    close_scopes : (k : ℕ) (ts : Terms ℕ (List ℕ)) → AllStandIn a_scope ts → marks_of_all (close_all k (variable y) ts) ≡ marks_of_all ts
-    close_scopes k no_terms s = refl
-    close_scopes k (term (spine h vs) ts) s = absurd s.0
-    close_scopes k (term (lam A x t) ts) s = ap (λ m. m ∷ marks_of_all (close_all k (variable y) ts)) (close_marks (suc k) t s.0) ∙ ap (λ ms. marks_of t ∷ ms) (close_scopes k ts s.1)
 
 -- terms are put in for variables
 pub image_none : (r : Substitution ℕ (List ℕ)) (F : Read) → StandsIn a_formula F → HasNoHash F → HasNoHash (image same_number r F)
@@ -248,46 +207,6 @@ choice_none D none C d e held c m =
     let made = Contains-from_map (λ ns. record { clause = found.0; names = ns }) (choices (map (λ z. z.type) (found.0).names) (in_order (support_of_all d.arguments)) held) c found.2 in
     let is : P found.0 = All-contains P (filter (λ k. bytes_eq k.predicate d.predicate) d.block.clauses) found.0 (All-filter (λ k. bytes_eq k.predicate d.predicate) P d.block.clauses (none b.0 d.block b.1)) found.1 in
     subst P (ap (λ k. k.clause) made.2) is
-
--- WHAT A RULE LEAVES of an unmarked judgement
-opened_goal_none : (L G : Read) → HasNoHash (open_goal signs.plain L G)
-opened_goal_none L (spine (logical (plain.spec_universal A)) (term (lam B x G) no_terms)) = opened_goal_none (shift zero L) G
-opened_goal_none L (spine (logical plain.spec_implication) (term F (term G no_terms))) = opened_goal_none (before F L) G
-opened_goal_none L (spine (logical plain.spec_conjunction) (term F (term G no_terms))) = (opened_goal_none L F, opened_goal_none L G)
-opened_goal_none L G = tt
-
-conjoined_none : (L F : Read) (Gs : List Read) → HasNoHash F → HasNoHash (conjunction_from F (map (open_goal signs.plain L) Gs))
-conjoined_none L F [] n = n
-conjoined_none L F (G ∷ Gs) n = conjoined_none L (both F (open_goal signs.plain L G)) Gs (n, opened_goal_none L G)
-
-conjunction_none : (L : Read) (Gs : List Read) → HasNoHash (conjunction_of (map (open_goal signs.plain L) Gs))
-conjunction_none L [] = tt
-conjunction_none L (G ∷ Gs) = conjoined_none L (open_goal signs.plain L G) Gs (opened_goal_none L G)
-
-exists_all_none : (ys : List Variable) (F : Read) → StandsIn a_formula F → HasNoHash F → HasNoHash (exists_all ys F)
-exists_all_none [] F s n = n
-exists_all_none (y ∷ ys) F s n = subst HoldNoHash (sym (close_marks (in_terms y) zero (exists_all ys F) (exists_all_stands ys F s))) (exists_all_none ys F s n)
-
-left_none : (S : List Nominal) (n : ℕ) (L A : Read) (ys : List Variable) (Gs : List Read) → let own = filter (λ y. not (stands_in_goals_alone A Gs y)) ys in
-    HasNoHash (image same_number (put_together (map in_terms own) (made_terms (codes "x") n S (map cell_for own))) (exists_all (filter (stands_in_goals_alone A Gs) ys) (conjunction_of (map (open_goal signs.plain L) Gs))))
-left_none S n L A ys Gs =
-    let own = filter (λ y. not (stands_in_goals_alone A Gs y)) ys in
-    let closed = filter (stands_in_goals_alone A Gs) ys in
-    let F = conjunction_of (map (open_goal signs.plain L) Gs) in
-    let stands = conjunction_stands signs.plain L Gs in
-    image_none (put_together (map in_terms own) (made_terms (codes "x") n S (map cell_for own))) (exists_all closed F) (exists_all_stands closed F stands) (exists_all_none closed F stands (conjunction_none L Gs))
-
-pub demand_none : (n : ℕ) (j : Judgement) (r : SpecRule) → HasNoHash (demand_of n signs.plain j r).body
-demand_none n j (by_clause c) =
-    let ys = variables_from n c.variables in
-    let named = put_together (clause_variables c) (own_terms (codes "x") (map in_terms ys)) in
-    left_none (constants_of j) n j.context (image same_number named (head_of c)) ys (map (image same_number named) (goals_in c.body))
-demand_none n j by_list = (tt, tt)
-demand_none n j by_opening = opened_goal_none j.context j.goal
-demand_none n j (by_part p) =
-    let ys = variables_from n p.names in
-    let us = own_terms (codes "x") (map in_terms ys) in
-    left_none (constants_of j) (n + length p.names) j.context (put_under p.names us p.atom) ys (map (put_under p.names us) p.goals)
 
 -- SO A JUDGEMENT that may be unfolded is unmarked
 sign_plain : (m : Sign) (A : Read) (j : Judgement) → judgement_as m A ≡ Some j → HasNoHash (with_mark m A) → unfolds j.sign ≡ true → j.sign ≡ signs.plain

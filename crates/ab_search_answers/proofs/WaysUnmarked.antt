@@ -20,7 +20,6 @@ use Rattle.ab_formulas.specs.Marks.{erased}
 use Rattle.ab_formulas.proofs.Images.{image_stands}
 use Rattle.ab_theory.specs.Atoms.{Defined, Choice, defined_atom, choices_of}
 use Rattle.ab_theory.specs.Judgements.{Judgement, as_judgement}
-use Rattle.ab_theory.specs.SpecRules.{demand_of}
 use Rattle.ab_search_trees.specs.Goals.{Goal, Now, asking, assuming}
 use Rattle.ab_search_trees.specs.Judgements.{opened_once, is_blind, search_rules}
 use Rattle.ab_search_trees.specs.Maps.{maps}
@@ -28,7 +27,8 @@ use Rattle.ab_search_trees.specs.Ways.{Way, in_turn, unfolds, equating, new_cell
 use Rattle.ab_search_trees.proofs.Smaller.{choice_defining}
 use Rattle.ab_search_trees.proofs.Weights.{weight, Parts, parts_of}
 use Rattle.ab_search_answers.specs.Unmarked.{HasNoHash, HaveNoHash}
-use Rattle.ab_search_answers.proofs.Signs.{instance_none, image_none, PartsNone, parts_none, opened_none, marked_none, choice_none, demand_none, unmarked_judgement}
+use Rattle.ab_search_answers.proofs.Signs.{instance_none, image_none, PartsNone, parts_none, opened_none, marked_none, choice_none}
+use Rattle.ab_search_answers.proofs.UnmarkedDemands.{above_none, demand_none}
 
 -- each of the ways leaves such goals alone
 abbrev Leave : List Way → Type 0
@@ -120,11 +120,11 @@ module _ (D : Declarations) (defs : HaveDefinitions D) (none : HaveNoHash D) (no
   judgements zero None e = leave_none
   judgements zero (Some j) e = leave_none
   judgements (suc n) None e = leave_none
-  judgements (suc n) (Some j) e = go (unfolds j.sign) refl
+  judgements (suc n) (Some j) e = go (unfolds j.sign)
     where
-      go : (b : Bool) → unfolds j.sign ≡ b → Leave (cond b (map (by_rule D now g n j) (search_rules D j)) [])
-      go true may = leave_map (by_rule D now g n j) (search_rules D j) (λ r m. of_goal _ (subst (λ k. HasNoHash (demand_of (length now.cells) (mark_above k) j r).body) (sym (unmarked_judgement g.conclusion j e unmarked may)) (demand_none (length now.cells) j r)))
-      go false may = leave_none
+      go : (b : Bool) → Leave (cond b (map (by_rule D now g n j) (search_rules D j)) [])
+      go true = leave_map (by_rule D now g n j) (search_rules D j) (λ r m. of_goal _ (demand_none (mark_above j.sign) (above_none j.sign) (length now.cells) j r))
+      go false = leave_none
 
   pub ways_unmarked : Leave (ways D now g)
   ways_unmarked =

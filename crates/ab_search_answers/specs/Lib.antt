@@ -3,3 +3,5 @@
 pub mod Unmarked
 -- Clauses whose bodies come from texts.
 pub mod FromTexts
+-- Ways of the search tree to an answer, as lists of steps.
+pub mod Followed

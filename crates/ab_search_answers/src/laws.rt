@@ -4,7 +4,7 @@ ghost use Rattle.std.specs.Prelude.{◌≡◌, ℕ, List, [], ◌∷◌, ◌++�
 ghost use Rattle.ab_term.specs.Types.{Ty};
 ghost use Rattle.ab_term.specs.Terms.{Read};
 ghost use Rattle.ab_grammar.specs.Tree.{Tree};
-ghost use Rattle.ab_term.specs.Variables.{image};
+ghost use Rattle.ab_term.specs.Variables.{Substitution, image};
 ghost use Rattle.ab_term.specs.Sameness.{same_number};
 ghost use Rattle.ab_unifiers.specs.Replacements.{Cell};
 ghost use Rattle.ab_unifiers.specs.Member.{HasMember};
@@ -16,12 +16,15 @@ ghost use Rattle.ab_meaning.specs.Scopes.{Scope};
 ghost use Rattle.ab_meaning.specs.Terms.{MeansIn};
 ghost use Rattle.ab_theory.specs.Derivations.{Derivation};
 ghost use Rattle.ab_theory.specs.Equations.{AreCells};
-ghost use Rattle.ab_search_trees.specs.Goals.{Goal, Now};
+ghost use Rattle.ab_search_trees.specs.Goals.{Goal, Now, beginning, first_goal};
 ghost use Rattle.ab_search_trees.specs.Ways.{Way, ways};
-ghost use Rattle.ab_search_trees.specs.Tree.{Leaf, found};
+ghost use Rattle.ab_search_trees.specs.Tree.{Leaf, found, Leaves};
 ghost use Rattle.ab_search_trees.specs.Outcomes.{Searched, closed, outcome_of, Asks, whole_answer};
 ghost use Rattle.ab_search_proofs.specs.Whole.{IsWhole};
 ghost use Rattle.ab_search_layers.specs.Layered.{MemberIsDefined, Layered};
+ghost use Rattle.ab_search_layers.specs.Closed.{to_show, Closes};
+ghost use Rattle.ab_search_layers.specs.Taken.{Taking};
+ghost use Rattle.ab_search_answers.specs.Followed.{Follows};
 ghost use Rattle.ab_search_answers.specs.FromTexts.{IsFromText};
 ghost use Rattle.ab_search_answers.specs.Unmarked.{HasNoHash, HaveNoHash};
 
@@ -43,7 +46,22 @@ pub fn definitions_from_texts_have_no_coinductive_judgement()
     ensures { (D : Declarations) (b : Block) → HaveNoHash D → All IsFromText b.clauses → HaveNoHash (D ++ a_block b ∷ []) }
 {}
 
-/// AN ANSWER IS A PROOF of the sequent that was searched, over its own variables: with terms for the variables that the search brought, and with
+/// WHOEVER FOLLOWS A WAY OF THE TREE to an answer gets steps that close the sequent that was searched, over its own variables: with terms for the variables that
+/// the search brought, and with constants for those that stayed open. No judgement is marked `#`.
+pub fn ways_to_answers_close()
+    ensures { (D : Declarations) (cells : List (Cell (List ℕ))) (depth : ℕ) (s : Sequent) (last : Now) (n : Substitution ℕ (List ℕ)) (es : List (Read × Taking)) →
+        HaveDefinitions D → HavePrograms D → HasMember (signature_in D) → IsSequent D s → AreCells cells s →
+        HasNoHash s.conclusion → HaveNoHash D →
+        Follows D last (beginning cells s) (first_goal depth s ∷ []) n es → Closes D (to_show (map in_terms s.variables) (formulas s.hypotheses) s.conclusion ∷ []) es }
+{}
+
+/// EACH ANSWER HAS SUCH A WAY.
+pub fn answers_are_reached()
+    ensures { (D : Declarations) (now last : Now) (gs : List Goal) (ls : List Leaf) → Leaves D now gs ls → Contains ls (found last) →
+        (n : Substitution ℕ (List ℕ)) × (es : List (Read × Taking)) × Follows D last now gs n es }
+{}
+
+/// SO AN ANSWER IS A PROOF of the sequent that was searched, over its own variables: with terms for the variables that the search brought, and with
 /// constants for those that stayed open. No judgement is marked `#`.
 pub fn answers_are_proofs()
     ensures { (D : Declarations) (cells : List (Cell (List ℕ))) (depth : ℕ) (s : Sequent) (ls : List Leaf) (last : Now) →

@@ -1,5 +1,5 @@
 -- ON THE PATH OF AN ANSWER: what is put in at last is the answer of the way's equations, what is put in from there on, and the fillings of the answer.
-use Rattle.std.proofs.Common.{◌≡◌, ◌⊎◌, inl, inr, ℕ, ◌≤◌, List, [], length, codes, true, Some, sym, ◌∙◌, subst}
+use Rattle.std.proofs.Common.{◌≡◌, ◌⊎◌, inl, inr, ℕ, ◌≤◌, List, [], map, length, codes, true, Some, sym, ◌∙◌, ap, subst}
 use Rattle.std.specs.Prelude.{Contains}
 use Rattle.ab_term.specs.Types.{Ty, prop}
 use Rattle.ab_term.specs.Terms.{Nominal, Variable, constant, spine, Read}
@@ -10,7 +10,8 @@ use Rattle.ab_term.specs.Sameness.{same_number}
 use Rattle.ab_term.proofs.Lists.{Contains-none, Contains-cases}
 use Rattle.ab_unifiers.specs.Replacements.{Cell, holds}
 use Rattle.ab_unifiers.specs.Unification.{unified, Solves}
-use Rattle.ab_unifiers.specs.Choices.{in_order}
+use Rattle.ab_unifiers.specs.Alternatives.{made_terms}
+use Rattle.ab_unifiers.specs.Choices.{in_order, outside}
 use Rattle.ab_unifiers.proofs.Choosing.{contains_ordered, in_or_outside}
 use Rattle.ab_formulas.specs.Declarations.{Declarations, HaveDefinitions, signature_in}
 use Rattle.ab_formulas.specs.GoalTerms.{HoldsOnly}
@@ -69,8 +70,13 @@ module _ (D : Declarations) (defs : HaveDefinitions D) (now last : Now) (g : Goa
     is_last : IsAtLast sg now g w c.names ys put_in fill
     is_last = path.is_last D now last g w (taken.typed D defs now flexible g t depth d is c there) (taken.holds_cells D defs now flexible g t depth d is c there) (taken.are_cells D defs now flexible g t depth d is c there) t more q n solves later c.names chosen_held ys known
 
+    -- what becomes of the variables that the way brings
     abbrev pub terms : List Read
-    terms = terms_at_last put_in fill now d c
+    terms = map (image same_number in_the_end) (made_terms (codes "x") (length now.cells) (outside (in_order (support_of_all d.arguments)) c.names) c.clause.variables)
+
+    terms_are : terms ≡ terms_at_last put_in fill now d c
+    terms_are = path.made_steps D now last g w (taken.typed D defs now flexible g t depth d is c there) (taken.holds_cells D defs now flexible g t depth d is c there) (taken.are_cells D defs now flexible g t depth d is c there) t more q n solves later
+        (length now.cells) (outside (in_order (support_of_all d.arguments)) c.names) c.clause.variables
 
     -- THE CLAUSE GIVES THE ATOM in the end
     pub gives : unfolds d.sign ≡ true → IsByClause D ys (image same_number in_the_end g.conclusion) (record d { arguments = image_all same_number in_the_end d.arguments }) c.clause terms c.names
@@ -78,13 +84,16 @@ module _ (D : Declarations) (defs : HaveDefinitions D) (now last : Now) (g : Goa
         let whole = (atom_known D now flexible g.constants g.untouched g.conclusion t.conclusion d is).0 in
         let both : image same_number in_the_end (spine (constant d.predicate) d.arguments) ≡ at_last put_in fill (spine (constant d.predicate) d.arguments) = steps whole in
         let arguments : image_all same_number in_the_end d.arguments ≡ image_all same_number fill (image_all same_number put_in d.arguments) = cc in
-        subst (λ l. IsByClause D ys (image same_number in_the_end g.conclusion) (record d { arguments = l }) c.clause terms c.names) (sym arguments)
-        (subst (λ C. IsByClause D ys C (atom_at_last put_in fill d) c.clause terms c.names) (sym (steps t.conclusion.formula.typed))
-        (is_by_clause D defs now flexible g t depth d is c there ys put_in fill is_last more q solves may))
+        let us = terms_at_last put_in fill now d c in
+        subst (λ l. IsByClause D ys (image same_number in_the_end g.conclusion) (record d { arguments = image_all same_number in_the_end d.arguments }) c.clause l c.names) (sym terms_are)
+        (subst (λ l. IsByClause D ys (image same_number in_the_end g.conclusion) (record d { arguments = l }) c.clause us c.names) (sym arguments)
+        (subst (λ C. IsByClause D ys C (atom_at_last put_in fill d) c.clause us c.names) (sym (steps t.conclusion.formula.typed))
+        (is_by_clause D defs now flexible g t depth d is c there ys put_in fill is_last more q solves may)))
 
     -- and its body is what is left
     pub leaves : (h : Goal) → Contains w.goals h → image same_number in_the_end h.conclusion ≡ body_by (record d { arguments = image_all same_number in_the_end d.arguments }) c.clause terms c.names
     leaves h m = steps (left_typed h m) ∙ left_is D defs now flexible g t depth d is c there ys put_in fill is_last more q solves h m
+        ∙ ap (λ l. body_by (record d { arguments = image_all same_number in_the_end d.arguments }) c.clause l c.names) (sym terms_are)
       where
         left_typed : (h : Goal) → Contains w.goals h → HasType sg [] h.conclusion prop
         left_typed h m =

@@ -1,5 +1,5 @@
 -- ON THE PATH OF AN ANSWER: what is put in at last is the answer of the way's equations, what is put in from there on, and the fillings of the answer.
-use Rattle.std.proofs.Common.{◌≡◌, ◌⊎◌, inl, inr, ℕ, ◌≤◌, List, [], ◌++◌, length, drop, codes, true, not, Some, refl, sym, ◌∙◌, ap, subst, arith, length-append, ◌∷◌, Bool, false, if◌then◌else◌, Option, None}
+use Rattle.std.proofs.Common.{◌≡◌, ◌⊎◌, inl, inr, ℕ, ◌≤◌, List, [], ◌++◌, map, length, drop, codes, true, not, Some, refl, sym, ◌∙◌, ap, subst, arith, length-append, ◌∷◌, Bool, false, if◌then◌else◌, Option, None}
 use Rattle.std.specs.Prelude.{Contains}
 use Rattle.ab_term.specs.Types.{Ty}
 use Rattle.ab_term.specs.Terms.{Variable, variable, no_terms, Read, Nominal, nominal}
@@ -14,8 +14,10 @@ use Rattle.ab_unifiers.specs.Replacements.{Cell, holds}
 use Rattle.ab_unifiers.specs.Unification.{unified, Solves, Equation}
 use Rattle.ab_unifiers.specs.Unifiers.{AreKnown, keys, AreTyped, Unifies, AllHoldCells, IsCell}
 use Rattle.ab_unifiers.specs.Clauses.{numbered, name_term}
+use Rattle.ab_unifiers.specs.Alternatives.{made_terms}
 use Rattle.ab_unifiers.proofs.Avoiding.{not_held}
 use Rattle.ab_unifiers.proofs.Keys.{keys-composition}
+use Rattle.ab_unifiers.proofs.Lifting.{OfCells, made_terms_typed}
 use Rattle.ab_unifiers.proofs.Once.{answer_once}
 use Rattle.ab_unifiers.proofs.Problems.{answer_typed, answer_unifies, answer_clean}
 use Rattle.ab_unifiers.proofs.Rows.{numbered_within, held_append}
@@ -110,6 +112,16 @@ module _ (D : Declarations) (now last : Now) (g : Goal) (w : Way) (typed : AreTy
       image-composition sg same_number q q_typed (composition same_number n fill) (composition_typed sg same_number n later.typed fill fill_typed) k
       ∙ image-composition sg same_number n later.typed fill fill_typed (image_typed sg same_number q q_typed k)
       ∙ ap (image same_number fill) (sym (image-composition sg same_number q q_typed n later.typed k))
+
+  all_steps : (cs : List (Cell (List ℕ))) (us : List Read) → OfCells sg (codes "x") cs us → map (image same_number in_the_end) us ≡ map (at_last put_in fill) us
+  all_steps [] [] e = refl
+  all_steps [] (u ∷ us) e = absurd e
+  all_steps (c ∷ cs) [] e = absurd e
+  all_steps (c ∷ cs) (u ∷ us) e = ap (λ v. v ∷ map (image same_number in_the_end) us) (steps e.0) ∙ ap (λ l. at_last put_in fill u ∷ l) (all_steps cs us e.1)
+
+  -- what becomes of new variables
+  pub made_steps : (k : ℕ) (S : List Nominal) (cs : List (Cell (List ℕ))) → map (image same_number in_the_end) (made_terms (codes "x") k S cs) ≡ map (at_last put_in fill) (made_terms (codes "x") k S cs)
+  made_steps k S cs = all_steps cs (made_terms (codes "x") k S cs) (made_terms_typed sg (codes "x") k S cs)
 
   longer : length w.cells ≤ length more
   longer = let made = answer_grows sg x w.equations w.cells w.flexible typed known_way are_cells over more q solves in let sum = ap length made.1 ∙ length-append w.cells made.0 in omega (arith, sum)

@@ -1,11 +1,14 @@
 //! Evidence for the steps by clauses and by the list of a judgement.
 
-ghost use Rattle.std.specs.Prelude.{◌≡◌, ◌⊎◌, ℕ, ◌≤◌, List, [], length, true, false, codes, Some, Contains};
+ghost use Rattle.std.specs.Prelude.{◌≡◌, ◌⊎◌, ℕ, ◌≤◌, List, [], map, length, true, false, codes, Some, Contains};
 ghost use Rattle.ab_term.specs.Terms.{Nominal, Variable, Read};
+ghost use Rattle.ab_term.specs.Names.{support_of_all};
 ghost use Rattle.ab_term.specs.Variables.{Substitution, variables, image, image_all, composition, IsTyped};
 ghost use Rattle.ab_term.specs.Sameness.{same_number};
 ghost use Rattle.ab_unifiers.specs.Replacements.{Cell, holds};
 ghost use Rattle.ab_unifiers.specs.Unification.{unified, Solves};
+ghost use Rattle.ab_unifiers.specs.Alternatives.{made_terms};
+ghost use Rattle.ab_unifiers.specs.Choices.{in_order, outside};
 ghost use Rattle.ab_formulas.specs.Declarations.{Declarations, HaveDefinitions, signature_in};
 ghost use Rattle.ab_unifiers.specs.Member.{HasMember};
 ghost use Rattle.ab_formulas.specs.Formulas.{IsFormula};
@@ -40,20 +43,21 @@ pub fn clauses_of_answers_are_solved()
 {}
 
 /// ON THE PATH OF AN ANSWER. From the place down to the answer there is put in what solves the way's equations, what is unified later, and a constant
-/// for each variable that is open at the answer, one that isn't held there. Then for some terms the clause gives the conclusion with all that put in,
-/// and leaves the way's goal with all that put in.
+/// for each variable that is open at the answer, one that isn't held there. Then by what becomes of the variables that the way brings the clause gives the
+/// conclusion with all that put in, and leaves the way's goal with all that put in.
 pub fn clauses_on_the_path_of_an_answer_are_solved()
     ensures { (D : Declarations) (now last : Now) (g : Goal) (depth : ℕ) (d : Defined) (c : Choice) (ys : List (Variable ℕ))
         (more : List (Cell (List ℕ))) (q n : Substitution ℕ (List ℕ)) →
         let w = by_choice D now g depth d c in
         let r = composition same_number q (composition same_number n (filling last.held last.flexible)) in
         let atom : Defined = record d { arguments = image_all same_number r d.arguments } in
+        let us = map (image same_number r) (made_terms (codes "x") (length now.cells) (outside (in_order (support_of_all d.arguments)) c.names) c.clause.variables) in
         HaveDefinitions D → AreFlexible now → IsTask (signature_in D) now g → ((a : Nominal) → Contains g.constants a → Contains now.held a) →
         defined_atom D g.conclusion ≡ Some d → unfolds d.sign ≡ true → Contains (choices_of g.constants d) c →
         Solves (codes "x") (problem_of w) (unified more q) → IsLater (signature_in D) (now_after now w more q) n →
         ((a : Nominal) → Contains (now_after now w more q).held a → Contains last.held a) →
         ((u : Read) → ((y : Variable ℕ) → Contains (variables u) y → Contains (variables g.conclusion) y ⊎ ((holds w.flexible y ≡ true) × (length now.cells ≤ y.name))) → HoldsOnly ys (image same_number r u)) →
-        (us : List Read) × IsByClause D ys (image same_number r g.conclusion) atom c.clause us c.names
+        IsByClause D ys (image same_number r g.conclusion) atom c.clause us c.names
         × ((h : Goal) → Contains w.goals h → image same_number r h.conclusion ≡ body_by atom c.clause us c.names) }
 {}
 

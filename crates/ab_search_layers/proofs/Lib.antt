@@ -15,3 +15,4 @@ pub mod Giving
 pub mod PastHints
 pub mod Layers
 pub mod Early
+pub mod Closing

@@ -1,6 +1,6 @@
 //! What a search proves by opening judgements layer by layer is derived by the rules, which open all layers at once.
 
-ghost use Rattle.std.specs.Prelude.{◌≡◌, ℕ, List, [], map, Some, None, Contains};
+ghost use Rattle.std.specs.Prelude.{◌≡◌, ℕ, List, [], ◌++◌, map, Some, None, All, Contains};
 ghost use Rattle.ab_term.specs.Terms.{Read};
 ghost use Rattle.ab_term.specs.Terms as tree;
 ghost use Rattle.ab_term.specs.Typing.{Signature};
@@ -19,6 +19,8 @@ ghost use Rattle.ab_search_trees.specs.Judgements.{judged};
 ghost use Rattle.ab_search_proofs.specs.Likeness.{StandIn, replaced, IsLikeGoal};
 ghost use Rattle.ab_search_proofs.specs.Whole.{IsWhole};
 ghost use Rattle.ab_search_layers.specs.Layered.{OpensTo, MemberIsDefined, Layered};
+ghost use Rattle.ab_search_layers.specs.Taken.{Taking};
+ghost use Rattle.ab_search_layers.specs.Closed.{Open, Closes, IsShown, CloseInTurn};
 
 /// WHAT A SEARCH PROVES IS DERIVED: each sequent that is like a goal proved so has a whole derivation, which takes no theorem and admits nothing.
 pub fn layered_goals_are_derived()
@@ -40,4 +42,14 @@ pub fn goals_open_layer_by_layer()
     ensures body { (sg : Signature) (r : Substitution ℕ (List ℕ)) → IsTyped sg r → (L : Read) (Gs : List Read) (ys : List Variable) →
         ((y : Variable) → Contains ys y → (value_in same_number r (in_terms y) ≡ None) × ((z : tree.Variable ℕ) (u : Read) → value_in same_number r z ≡ Some u → ¬ Contains (variables u) (in_terms y))) →
         OpensTo (image same_number r (exists_all ys (conjunction_of (map (open_goal plain L) Gs)))) (exists_all ys (conjunction_of (map (open_goal plain (image same_number r L)) (map (image same_number r) Gs)))) }
+{}
+
+/// STEPS THAT CLOSE GOALS PROVE THEM, each layer by layer.
+pub fn closing_steps_prove()
+    ensures { (D : Declarations) (gs : List Open) (es : List (Read × Taking)) → Closes D gs es → All (IsShown D) gs }
+{}
+
+/// THE STEPS ARE IN ORDER: the first goals are closed by the first steps, and the others by those that are left.
+pub fn first_closed()
+    ensures { (D : Declarations) (gs hs : List Open) (es : List (Read × Taking)) → Closes D (gs ++ hs) es → CloseInTurn D gs hs es }
 {}
