@@ -18,7 +18,7 @@ use Rattle.ab_determinism.proofs.Taking.{sound_effect}
 use Rattle.ab_existence.specs.Certainty.{IsCertain}
 use Rattle.ab_existence.proofs.Certain.{sure, and_so, and_also, there_or_not}
 use Rattle.ab_effect_answers.specs.WholeStates.{HasGoals}
-use Rattle.ab_state_derivations.specs.DerivedStates.{HasHistory, SearchIsDerived, ClosesMarked, EndsWith, IsTrueOf}
+use Rattle.ab_state_derivations.specs.DerivedStates.{HasHistory, EndsWith, IsTrueOf}
 use Rattle.ab_state_derivations.proofs.Searches.{searches_derived}
 use Rattle.ab_state_derivations.proofs.Histories.{first_history, history_here, history_on, told_so, goals_are_sequents}
 use Rattle.ab_effect_answers.specs.SomeEffects.{CommandFindsNames, HasSomeEffect}
@@ -27,7 +27,7 @@ use Rattle.ab_run.specs.declared.way.Way.{Way}
 use Rattle.ab_run.specs.ProvedTheorems.{IsBorneOut}
 use Rattle.ab_run.specs.Report as run
 use Rattle.ab_run.specs.Report.{Moment, Report, Replies, to_command, to_long, Reports, next, last, is_end}
-use Rattle.ab_report_answers.specs.SomeReports.{HasReport, CutsShort, names_run_out, search_of_marked, StopsShort, IsCutShort}
+use Rattle.ab_report_answers.specs.SomeReports.{HasReport, StopsShort, IsCutShort}
 
 -- what is true of every state of a run
 pub record IsReached (s : State) : Type 0 where
@@ -79,7 +79,7 @@ module _ (way : Way) where
       report = m ∷ c.report;
       reports = next m replies on c.reports;
       goes_on = rw on c.goes_on;
-      cuts = c.cuts;
+      names_run_out = c.names_run_out;
     })
 
     at_end : is_end way m.reply ≡ true → Answer s (i ∷ items) before
@@ -90,29 +90,25 @@ module _ (way : Way) where
     by_end false on rest = and_also rest (in_front on)
 
   -- the next command cuts it short
-  cut_here : (s : State) (bytes : List ℕ) (items : List Item) (before : FilesSeen) → CutsShort s bytes → Answer s (command bytes ∷ items) before
-  cut_here s bytes items before cuts =
-      inr (record { answered = []; bytes = bytes; others = items; items_are = refl; loads = []; after = before; asked = no_load; report = []; reports = run.none; goes_on = refl; cuts = cuts })
+  cut_here : (s : State) (bytes : List ℕ) (items : List Item) (before : FilesSeen) → ¬ CommandFindsNames s bytes → Answer s (command bytes ∷ items) before
+  cut_here s bytes items before spent =
+      inr (record { answered = []; bytes = bytes; others = items; items_are = refl; loads = []; after = before; asked = no_load; report = []; reports = run.none; goes_on = refl; names_run_out = spent })
 
   module _ (s : State) (bytes : List ℕ) (items : List Item) (before : FilesSeen) (reached : IsReached s) (on : (t : State) (after : FilesSeen) → IsReached t → IsCertain (Answer t items after)) where
-    by_effect : SearchIsDerived s bytes → HasSomeEffect before s bytes → IsCertain (Answer s (command bytes ∷ items) before)
-    by_effect searched (after, reply, t, e) =
+    by_effect : HasSomeEffect before s bytes → IsCertain (Answer s (command bytes ∷ items) before)
+    by_effect (after, reply, t, e) =
+        let searched = searches_derived s bytes reached.sound reached.replayed in
         let borne = borne_out t reply (told_so e.effect reached.sound reached.replayed searched reached.history) in
         let m : Moment = record { reply = reply; state = t } in
         by_end s (command bytes) items before after e.loads e.asked m (to_command m e.effect borne) (is_end way reply) refl
         (on t after (record { sound = sound_effect e.effect reached.sound; replayed = replays_on e.effect reached.replayed; history = history_on e.effect reached.sound reached.replayed searched reached.history }))
 
-    by_names : SearchIsDerived s bytes → CommandFindsNames s bytes ⊎ (¬ CommandFindsNames s bytes) → IsCertain (Answer s (command bytes ∷ items) before)
-    by_names searched (inl names) =
-        and_so (effect_answered before s bytes (record { definitions = reached.sound.declarations.definitions; replayed = reached.replayed; goals = has_goals s reached }) names) (by_effect searched)
-    by_names searched (inr isnt) = sure (cut_here s bytes items before (names_run_out isnt))
-
-    by_search : ClosesMarked s bytes ⊎ (¬ ClosesMarked s bytes) → IsCertain (Answer s (command bytes ∷ items) before)
-    by_search (inl marked) = sure (cut_here s bytes items before (search_of_marked marked))
-    by_search (inr unmarked) = and_so (there_or_not (CommandFindsNames s bytes)) (by_names (searches_derived s bytes reached.sound reached.replayed unmarked))
+    by_names : CommandFindsNames s bytes ⊎ (¬ CommandFindsNames s bytes) → IsCertain (Answer s (command bytes ∷ items) before)
+    by_names (inl names) = and_so (effect_answered before s bytes (record { definitions = reached.sound.declarations.definitions; replayed = reached.replayed; goals = has_goals s reached }) names) by_effect
+    by_names (inr isnt) = sure (cut_here s bytes items before isnt)
 
     command_reported : IsCertain (Answer s (command bytes ∷ items) before)
-    command_reported = and_so (there_or_not (ClosesMarked s bytes)) by_search
+    command_reported = and_so (there_or_not (CommandFindsNames s bytes)) by_names
 
   long_reported : (s : State) (items : List Item) (before : FilesSeen) → IsCertain (Answer s items before) → IsCertain (Answer s (long ∷ items) before)
   long_reported s items before rest =

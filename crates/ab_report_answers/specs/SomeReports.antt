@@ -4,20 +4,14 @@ use Rattle.ab_lex.specs.Commands.{Item, ItemsOf, command}
 use Rattle.ab_sigmod.specs.FileLoads.{FilesSeen, Load, AreLoads}
 use Rattle.ab_states.specs.State.{State, empty}
 use Rattle.ab_effect_answers.specs.SomeEffects.{CommandFindsNames}
-use Rattle.ab_state_derivations.specs.DerivedStates.{ClosesMarked}
 use Rattle.ab_run.specs.declared.way.Way.{Way}
 use Rattle.ab_run.specs.Report.{Report, Reports, ReportOf, has_end, state_behind}
 
 abbrev pub HasReport : Way → List ℕ → FilesSeen → Type 0
 HasReport way text before = (loads : List Load) × (after : FilesSeen) × AreLoads before loads after × (r : Report) × ReportOf way text loads r
 
--- WHERE A COMMAND CUTS A REPORT SHORT: names run out for what a proof command makes; or it asks for a search, which closes a goal whose
--- conclusion says a judgement that coinduction marks
-pub data CutsShort (s : State) (bytes : List ℕ) : Type 0 where
-  names_run_out : ¬ CommandFindsNames s bytes → CutsShort s bytes
-  search_of_marked : ClosesMarked s bytes → CutsShort s bytes
-
--- from this state on, some of the items have a report, which doesn't end the run, and the next is a command that cuts it short
+-- from this state on, some of the items have a report, which doesn't end the run, and the next is a command at which names run out: for what a proof
+-- command makes there is none left
 pub record StopsShort (way : Way) (s : State) (items : List Item) (before : FilesSeen) : Type 0 where
   pub answered : List Item
   pub bytes : List ℕ
@@ -29,7 +23,7 @@ pub record StopsShort (way : Way) (s : State) (items : List Item) (before : File
   pub report : Report
   pub reports : Reports way s answered loads report
   pub goes_on : has_end way report ≡ false
-  pub cuts : CutsShort (state_behind s report) bytes
+  pub names_run_out : ¬ CommandFindsNames (state_behind s report) bytes
 
 -- THE REPORT OF THE TEXT IS CUT SHORT
 abbrev pub IsCutShort : Way → List ℕ → FilesSeen → Type 0

@@ -1,2 +1,3 @@
 pub mod Defined
+pub mod Theorems
 pub mod Sessions

@@ -1,9 +1,10 @@
-//! What is asked of declarations where an answer is a proof, of what a session declares: no definition says a judgement that coinduction marks, and `member` is defined.
+//! What is asked where an answer is a proof, of a session: no formula of its states says a judgement that coinduction marks, and `member` is defined.
 
-ghost use Rattle.std.specs.Prelude.{ℕ, List, ◌++◌};
+ghost use Rattle.std.specs.Prelude.{◌≡◌, ℕ, List, ◌++◌, Some, Contains};
 ghost use Rattle.ab_grammar.specs.CommandTrees.{Command};
 ghost use Rattle.ab_formulas.specs.Declarations.{Declarations, Extends};
-ghost use Rattle.ab_formulas.specs.Sequents.{Sequent, IsSequent};
+ghost use Rattle.ab_formulas.specs.NamedGoals.{Goal, IsNumbered};
+ghost use Rattle.ab_formulas.specs.Sequents.{Sequent};
 ghost use Rattle.ab_theory.specs.Derivations.{Derivation};
 ghost use Rattle.ab_logic.specs.Worlds.{first_declarations};
 ghost use Rattle.ab_declare.specs.DeclarationCommands.{Declares};
@@ -11,9 +12,10 @@ ghost use Rattle.ab_specification.specs.FileDeclarations.{PlacedItem, AllDeclare
 ghost use Rattle.ab_search_trees.specs.Outcomes.{closed, ComesTo};
 ghost use Rattle.ab_search_proofs.specs.Whole.{IsWhole};
 ghost use Rattle.ab_search_layers.specs.Layered.{MemberIsDefined};
-ghost use Rattle.ab_search_answers.specs.Unmarked.{HasNoHash, HaveNoHash};
-ghost use Rattle.ab_states.specs.State.{State, Entry, empty};
+ghost use Rattle.ab_search_answers.specs.Unmarked.{HaveNoHash};
+ghost use Rattle.ab_states.specs.State.{Attempt, State, Entry, empty};
 ghost use Rattle.ab_states.specs.Replay.{Replays};
+ghost use Rattle.ab_search_sessions.specs.UnhashedStates.{IsUnhashedState};
 
 /// WHAT IS BUILT IN has none.
 pub fn what_is_built_in_has_no_coinductive_judgement()
@@ -35,13 +37,13 @@ pub fn member_stays_defined()
     ensures { (D : Declarations) → Extends first_declarations D → MemberIsDefined D }
 {}
 
-/// SO NO STATE OF A SESSION HAS such a judgement in a definition, whatever commands it keeps.
+/// NO FORMULA OF A SESSION'S STATE says such a judgement, whatever commands it keeps: no body of a definition, no theorem, and no formula of a goal.
 pub fn sessions_have_no_coinductive_judgement()
-    ensures { (es : List Entry) (t : State) → Replays empty es t → HaveNoHash t.declarations }
+    ensures { (es : List Entry) (t : State) → Replays empty es t → IsUnhashedState t }
 {}
 
-/// WHAT `search` CLOSES IN A SESSION IS DERIVED: nothing is asked of its declarations. No judgement of the goal's conclusion is one that coinduction marks.
+/// WHAT `search` CLOSES IN A SESSION IS DERIVED: nothing is asked of what is declared, nor of the goal of the open proof that it closes.
 pub fn what_search_closes_in_a_session_is_derived()
-    ensures { (es : List Entry) (t : State) (depth : ℕ) (s : Sequent) → Replays empty es t → IsSequent t.declarations s → HasNoHash s.conclusion → ComesTo t.declarations depth s closed →
-        (d : Derivation) × IsWhole t.declarations s d }
+    ensures { (es : List Entry) (t : State) (a : Attempt) (g : Goal) (depth : ℕ) (s : Sequent) → Replays empty es t → t.attempt ≡ Some a → Contains a.goals g → IsNumbered t.declarations g s →
+        ComesTo t.declarations depth s closed → (d : Derivation) × IsWhole t.declarations s d }
 {}

@@ -18,7 +18,7 @@ use Rattle.ab_states.specs.State.{Attempt, State, Entry}
 use Rattle.ab_states.specs.Reply.{Reply, done}
 use Rattle.ab_states.specs.ProofCommandEffects.{Makes}
 use Rattle.ab_states.specs.ForwardEffects as effect
-use Rattle.ab_states.specs.ForwardEffects.{Faces, GoesForward, theorem_of, assumed_after, concluding}
+use Rattle.ab_states.specs.ForwardEffects.{Faces, GoesForward, assumed_after, concluding}
 use Rattle.ab_states.proofs.Assumed.{derived_on, are_proved}
 use Rattle.ab_determinism.specs.Sound as session
 use Rattle.ab_determinism.specs.Sound.{IsSound}
@@ -29,7 +29,8 @@ use Rattle.ab_command_derivations.specs.Readings.{ReadingsFit}
 use Rattle.ab_command_derivations.proofs.Effects.{derived}
 use Rattle.ab_command_derivations.proofs.Proofs.{begun, ended, goes_on}
 use Rattle.ab_state_derivations.specs.DerivedStates.{HasItsProof, HasDerivations, SearchIsDerived, EndsWith, IsTrueOf}
-use Rattle.ab_state_derivations.proofs.Declaring.{none_declared, none_by_items, derived_still, declared_outside, outside, below_or}
+use Rattle.ab_search_sessions.proofs.Theorems.{none_declared, none_by_items}
+use Rattle.ab_state_derivations.proofs.Declaring.{derived_still, declared_outside, outside, below_or}
 
 pub sound_for : (D : Declarations) → session.AreSound D → AreSound D
 sound_for D sound = record { sentences = sound.sentences; definitions = sound.definitions; programs = sound.programs; member = has_member D sound }

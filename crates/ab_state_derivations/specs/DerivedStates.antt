@@ -6,7 +6,6 @@ use Rattle.ab_formulas.specs.NamedGoals.{Goal}
 use Rattle.ab_formulas.specs.Sequents.{Sequent}
 use Rattle.ab_theory.specs.Derivations.{Derivation}
 use Rattle.ab_search_trees.specs.Outcomes.{ComesTo, closed}
-use Rattle.ab_search_answers.specs.Unmarked.{HasNoHash}
 use Rattle.ab_states.specs.State.{Attempt, State, Entry, empty}
 use Rattle.ab_states.specs.Reply.{Reply, completed, admitted}
 use Rattle.ab_states.specs.ForwardEffects.{Faces}
@@ -32,17 +31,6 @@ HasHistory s = (front behind : List Entry) (t : State) → s.kept ≡ front ++ b
 abbrev pub SearchIsDerived : State → List ℕ → Type 0
 SearchIsDerived s bytes =
     (l : Option (List ℕ)) (depth : ℕ) (a : Attempt) (t : Sequent) (gs : List Goal) → Faces s bytes l (search depth) a t gs → ComesTo s.declarations depth t closed → IsDerivedAlike s.declarations t [] []
-
--- THE BYTES ASK FOR A SEARCH THAT CLOSES a goal whose conclusion says a judgement that coinduction marks
-pub record ClosesMarked (s : State) (bytes : List ℕ) : Type 0 where
-  pub label : Option (List ℕ)
-  pub depth : ℕ
-  pub attempt : Attempt
-  pub goal : Sequent
-  pub behind : List Goal
-  pub faces : Faces s bytes label (search depth) attempt goal behind
-  pub closes : ComesTo s.declarations depth goal closed
-  pub marked : ¬ HasNoHash goal.conclusion
 
 -- THE LAST THEOREM has the name, and a derivation, perhaps with gaps, from what was declared before it
 pub record EndsWith (D : Declarations) (name : List ℕ) : Type 0 where

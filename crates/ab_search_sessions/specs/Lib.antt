@@ -1,0 +1,2 @@
+-- States of a session without judgements that coinduction marks.
+pub mod UnhashedStates

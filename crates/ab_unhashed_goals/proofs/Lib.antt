@@ -1,0 +1,9 @@
+pub mod Formulas
+pub mod Numbers
+pub mod Goals
+pub mod Opening
+pub mod Splitting
+pub mod Uses
+pub mod Sizes
+pub mod Judged
+pub mod Commands

@@ -1,0 +1,2 @@
+-- Goals without judgements that coinduction marks.
+pub mod Unhashed
