@@ -13,7 +13,7 @@ use Rattle.ab_formulas.specs.Marks.{Sign, plain, star_of, at_of, plus_of, hash_o
 use Rattle.ab_theory.specs.Opening.{both, open_goal}
 
 -- an atom or a judgement, with a mark
-unmark : (m : Sign) (t : Read) → erased t ≡ t → erased (with_mark m t) ≡ t
+pub unmark : (m : Sign) (t : Read) → erased t ≡ t → erased (with_mark m t) ≡ t
 unmark plain t e = e
 unmark (star_of i) t e = refl
 unmark (at_of i) t e = refl

@@ -40,7 +40,7 @@ abbrev pub blanks : ℕ → List (Cell (List ℕ))
 blanks zero = []
 blanks (suc n) = record { hint = x; type = o } ∷ blanks n
 
-blanks_length : (n : ℕ) → length (blanks n) ≡ n
+pub blanks_length : (n : ℕ) → length (blanks n) ≡ n
 blanks_length zero = refl
 blanks_length (suc n) = ap suc (blanks_length n)
 

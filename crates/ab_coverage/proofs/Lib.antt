@@ -35,3 +35,11 @@ pub mod JudgedGoals
 pub mod TakenTerms
 pub mod Equal
 pub mod Erasing
+pub mod Unmarking
+pub mod CaseByCase
+pub mod NewHypothesis
+pub mod AtomCover
+pub mod JudgementPremises
+pub mod HypothesisCovered
+pub mod Premises
+pub mod NodeSteps

@@ -19,7 +19,7 @@ use Rattle.ab_term.proofs.Same.{same_numbered-Decides}
 use Rattle.ab_term.proofs.Stands.{either, variables-expansion_of, variables-image}
 use Rattle.ab_unifiers.specs.Replacements.{Cell, holds}
 use Rattle.ab_unifiers.specs.Unification.{Equation, unified, Solves}
-use Rattle.ab_unifiers.specs.Unifiers.{AreKnown, IsCell, HoldsCells, AllHoldCells, sides}
+use Rattle.ab_unifiers.specs.Unifiers.{AreKnown, AreTyped, IsCell, HoldsCells, AllHoldCells, sides}
 use Rattle.ab_unifiers.specs.Clauses.{Each, put_together}
 use Rattle.ab_unifiers.proofs.Cells.{Grows, answer_cells, cell_kept}
 use Rattle.ab_unifiers.proofs.Covered.{found_of_all}
@@ -30,8 +30,8 @@ use Rattle.ab_unifiers.proofs.Rows.{together_typed, value_front, value_behind}
 use Rattle.ab_unifiers.proofs.Variables.{holds_contains}
 use Rattle.ab_formulas.specs.Declarations.{Declarations, signature_in}
 use Rattle.ab_formulas.specs.Formulas.{IsFormula}
-use Rattle.ab_formulas.specs.Sequents.{Variable, Hypothesis, Sequent, HoldsOnly, formulas, in_terms, over}
-use Rattle.ab_theory.specs.Equations.{Naming, Named, variables_from, variable_term, renaming, made, under}
+use Rattle.ab_formulas.specs.Sequents.{Variable, Hypothesis, Sequent, HoldsOnly, formulas, formulas_of, in_terms, over}
+use Rattle.ab_theory.specs.Equations.{AreCells, Naming, Named, variables_from, variable_term, renaming, made, under}
 use Rattle.ab_theory.specs.Splits.{Case, IsCase, problem_of, variables_of, cell_for, Arises}
 use Rattle.ab_coverage.specs.GoalFormulas.{Carries}
 use Rattle.ab_theory.proofs.Carried.{cells_in_front}
@@ -80,7 +80,17 @@ held_sides cells P cell (e ∷ es) all =
 own_alone : (z y : tree.Variable ℕ) → Contains (variables (bare_own z)) y → z ≡ y
 own_alone z y m = either (λ e. e) (λ k. absurd (Contains-none y k)) (Contains-cases z [] y (subst (λ l. Contains l y) (variables-expansion_of tt z.type (variable z) no_terms) m))
 
-module _ (D : Declarations) (c : Case) (is : IsCase D c) (more : Cells) (answer : Substitution ℕ (List ℕ)) (solves : Solves (codes "x") (problem_of c) (unified more answer)) where
+-- What is asked of a case: nothing is said of its hypotheses.
+pub record IsProblem (D : Declarations) (c : Case) : Type 0 where
+  pub cells : AreCells c.before c.goal
+  pub typed : AreTyped (signature_in D) c.equations
+  pub over : All (HoldsOnly (variables_of c)) (sides c.equations)
+  pub flexible : All (Contains (map in_terms (variables_of c))) c.flexible
+
+pub problem_in : (D : Declarations) (c : Case) → IsCase D c → IsProblem D c
+problem_in D c is = record { cells = is.cells; typed = is.typed; over = is.over; flexible = is.flexible }
+
+module _ (D : Declarations) (c : Case) (is : IsProblem D c) (more : Cells) (answer : Substitution ℕ (List ℕ)) (solves : Solves (codes "x") (problem_of c) (unified more answer)) where
   abbrev sg : Signature
   sg = signature_in D
 
@@ -223,17 +233,18 @@ module _ (D : Declarations) (c : Case) (is : IsCase D c) (more : Cells) (answer 
       each_off hs (All-tail (IsFormula sg) h.formula (formulas hs) f) (All-tail (HoldsOnly (variables_of c)) h.formula (formulas hs) o),
     )
 
-    pub all_off : Carries then r answer c.goal (under c.before more answer ys c.goal)
-    all_off = record {
-      hypotheses = each_off c.goal.hypotheses (All-tail (IsFormula sg) c.goal.conclusion (formulas c.goal.hypotheses) is.formulas) (All-tail (HoldsOnly (variables_of c)) c.goal.conclusion (formulas c.goal.hypotheses) is.closed);
-      conclusion = names_off c.goal.conclusion (All-head (IsFormula sg) c.goal.conclusion (formulas c.goal.hypotheses) is.formulas).typed (All-head (HoldsOnly (variables_of c)) c.goal.conclusion (formulas c.goal.hypotheses) is.closed);
+    pub all_off : All (IsFormula sg) (formulas_of c.goal) → All (HoldsOnly (variables_of c)) (formulas_of c.goal) → Carries then r answer c.goal (under c.before more answer ys c.goal)
+    all_off formed closed = record {
+      hypotheses = each_off c.goal.hypotheses (All-tail (IsFormula sg) c.goal.conclusion (formulas c.goal.hypotheses) formed) (All-tail (HoldsOnly (variables_of c)) c.goal.conclusion (formulas c.goal.hypotheses) closed);
+      conclusion = names_off c.goal.conclusion (All-head (IsFormula sg) c.goal.conclusion (formulas c.goal.hypotheses) formed).typed (All-head (HoldsOnly (variables_of c)) c.goal.conclusion (formulas c.goal.hypotheses) closed);
     }
 
 -- of a goal that arises
 pub arising_carries : (D : Declarations) (IsName : Naming) (c : Case) → IsCase D c → (after : Cells) (g : Sequent) (a : Arises IsName c after g) → (r : Substitution ℕ (List ℕ)) → IsTyped (signature_in D) r
     → (then : Substitution ℕ (List ℕ)) × IsTyped (signature_in D) then × Carries then r a.answer c.goal g
 arising_carries D IsName c is after g a r r_typed = (
-  then D c is a.more a.answer a.solved IsName a.new a.named r r_typed,
-  then_typed D c is a.more a.answer a.solved IsName a.new a.named r r_typed,
-  subst (Carries (then D c is a.more a.answer a.solved IsName a.new a.named r r_typed) r a.answer c.goal) (sym a.goal) (all_off D c is a.more a.answer a.solved IsName a.new a.named r r_typed),
+  then D c (problem_in D c is) a.more a.answer a.solved IsName a.new a.named r r_typed,
+  then_typed D c (problem_in D c is) a.more a.answer a.solved IsName a.new a.named r r_typed,
+  subst (Carries (then D c (problem_in D c is) a.more a.answer a.solved IsName a.new a.named r r_typed) r a.answer c.goal) (sym a.goal)
+      (all_off D c (problem_in D c is) a.more a.answer a.solved IsName a.new a.named r r_typed is.formulas is.closed),
 )

@@ -7,3 +7,7 @@ pub mod TakenNames
 pub mod GoalFormulas
 -- What cover says of judgements.
 pub mod JudgementCover
+-- What it says of the goals that come of a hypothesis, whatever it is.
+pub mod HypothesisCover
+-- Where derivations take hypotheses apart.
+pub mod Nodes

@@ -3,20 +3,18 @@
 ghost use Rattle.std.specs.Prelude.{◌≡◌, ℕ, List, map, length, Option, Some, None, All, Contains};
 ghost use Rattle.ab_term.specs.Terms.{Read};
 ghost use Rattle.ab_term.specs.Typing.{Signature};
-ghost use Rattle.ab_term.specs.Translation.{EqualPastHints};
 ghost use Rattle.ab_term.specs.Sameness.{same_number};
-ghost use Rattle.ab_term.specs.Variables.{Substitution, image, IsTyped, IsClean};
+ghost use Rattle.ab_term.specs.Variables.{Substitution, image, IsTyped};
 ghost use Rattle.ab_unifiers.specs.Replacements.{Cell};
 ghost use Rattle.ab_unifiers.specs.Unifiers.{AreKnown};
 ghost use Rattle.ab_unifiers.specs.InstanceCover.{IsCleanFor};
 ghost use Rattle.ab_unifiers.specs.Member.{HasMember};
 ghost use Rattle.ab_formulas.specs.BodyMarks.{marked_in};
 ghost use Rattle.ab_formulas.specs.Formulas.{IsFormula};
-ghost use Rattle.ab_formulas.specs.Forms.{as_equal};
 ghost use Rattle.ab_formulas.specs.Marks.{Sign, plain, erased};
 ghost use Rattle.ab_formulas.specs.Declarations.{Declarations, signature_in};
 ghost use Rattle.ab_formulas.specs.Programs.{program_in, HavePrograms};
-ghost use Rattle.ab_formulas.specs.Sequents.{Sequent, IsSequent, formula_of, formulas_of, in_terms, without};
+ghost use Rattle.ab_formulas.specs.Sequents.{Sequent, IsSequent, formula_of, in_terms, without};
 ghost use Rattle.ab_formulas.specs.NewNames.{IsNoVariable};
 ghost use Rattle.ab_theory.specs.Analysis.{scope_of};
 ghost use Rattle.ab_theory.specs.InstanceCoverage.{AddsBehind};
@@ -24,12 +22,10 @@ ghost use Rattle.ab_theory.specs.JudgementCases.{judgement_case};
 ghost use Rattle.ab_theory.specs.Judgements.{Judgement, as_judgement};
 ghost use Rattle.ab_theory.specs.Opening.{open_goal};
 ghost use Rattle.ab_theory.specs.Parts.{Part, parts_of};
-ghost use Rattle.ab_theory.specs.Rules.{Rule};
-ghost use Rattle.ab_theory.specs.Steps.{equal_left};
 ghost use Rattle.ab_theory.specs.SpecInstances.{IsInstance};
 ghost use Rattle.ab_theory.specs.SpecRules.{SpecRule, by_part, rules_of};
 ghost use Rattle.ab_theory.specs.Splits.{Case, IsCase, Arises, Split};
-ghost use Rattle.ab_coverage.specs.GoalFormulas.{Carries, IsUnder};
+ghost use Rattle.ab_coverage.specs.GoalFormulas.{Carries};
 ghost use Rattle.ab_coverage.specs.OpenedFormulas.{FullyEqual, NearlyEqual};
 ghost use Rattle.ab_coverage.specs.TakenNames.{closes, part_under, IsTaken, taken_off};
 ghost use Rattle.ab_coverage.specs.JudgementCover.{judgement_under, RuleMeets, IsMetByOne};
@@ -82,14 +78,6 @@ pub fn judged_goals_cover()
 pub fn names_of_new_variables_come_off()
     ensures { (D : Declarations) (c : Case) → IsCase D c → (after : List (Cell (List ℕ))) (g : Sequent) (a : Arises (λ k hint x. IsNoVariable k x) c after g) →
         (r : Substitution ℕ (List ℕ)) → IsTyped (signature_in D) r → (then : Substitution ℕ (List ℕ)) × IsTyped (signature_in D) then × Carries then r a.answer c.goal g }
-{}
-
-/// COVER OF EQUATIONS: where the rule of an equation of a goal has premises, each clean substitution that makes both sides equal is met by one of
-/// them: another substitution gives of each formula of the premise what the first makes of the formula that was there.
-pub fn equations_of_goals_cover()
-    ensures { (D : Declarations) (s : Sequent) (H : List ℕ) (F t u : Read) (ps : List Sequent) → IsSequent D s → formula_of s H ≡ Some F → as_equal F ≡ Some (t, u) → Rule D (equal_left H) s ps →
-        (q : Substitution ℕ (List ℕ)) → IsTyped (signature_in D) q → IsClean q (formulas_of s) → EqualPastHints (image same_number q t) (image same_number q u) →
-        (g : Sequent) × Contains ps g × ((r : Substitution ℕ (List ℕ)) × IsTyped (signature_in D) r × IsUnder r q (without H s) g) }
 {}
 
 /// MARKS COME OFF: taken off a formula before a substitution or after it, they leave the same. A body whose atoms were marked is the body then,

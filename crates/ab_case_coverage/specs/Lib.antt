@@ -1,0 +1,2 @@
+-- THAT `case` LOSES NOTHING.
+pub mod CaseGoals
