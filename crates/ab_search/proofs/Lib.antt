@@ -1,4 +1,5 @@
 pub mod Counting
+pub mod HypothesisNames
 pub mod MadeBeside
 pub mod RulePlans
 mod Searching

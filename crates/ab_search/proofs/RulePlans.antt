@@ -18,8 +18,8 @@ use Rattle.ab_steps.specs.ab_kernel.specs.ab_judgements.specs.ab_alternatives.sp
 use Rattle.ab_search.specs.declared.assumed_rows.AssumedRow.{AssumedRow}
 use Rattle.ab_search_paths.specs.declared.terms_of_rules.NameTerm.{NameTerm}
 use Rattle.ab_search_paths.specs.declared.terms_of_rules.NameTerm.TheVariants.{Term, Bound}
-use Rattle.ab_search_paths.specs.declared.taken.Entry.{Entry}
-use Rattle.ab_search_paths.specs.declared.taken.RuleTaken.{RuleTaken}
+use Rattle.ab_search_paths.specs.declared.entries.Entry.{Entry}
+use Rattle.ab_search_paths.specs.declared.entries.RuleTaken.{RuleTaken}
 use Rattle.ab_search_paths.specs.ab_walk.specs.ab_next_ways.specs.ab_search_ways.specs.GoalReadings.{IsFormulaIn}
 use Rattle.ab_search_paths.specs.Frames.{IsLater}
 use Rattle.ab_search_paths.specs.Parts.{HoldsPathFrom}

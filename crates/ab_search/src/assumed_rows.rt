@@ -1,5 +1,5 @@
 //! A rule of a judgement leaves names open at the kernel, and a hypothesis closes what it leaves, some of whose `exists` bind these names.
-//! The hypothesis is taken over with the goal's constants, and what it says there is stands for the names.
+//! What the hypothesis says there is, with the constants that its own are at the goal, stands for the names.
 ghost use Rattle.std.specs.Prelude.{◌≤◌, All, IfOk, IfSome, OnOk};
 ghost use Rattle.ab_logic.specs.Worlds.{IsWorld, Holds};
 ghost use Rattle.ab_logic.specs.declared.world.World.{World as AWorld};
@@ -7,15 +7,16 @@ ghost use Rattle.ab_steps.specs.ab_kernel.specs.Layout.{IsProof};
 ghost use Rattle.ab_steps.specs.Progress.{Follows};
 ghost use Rattle.ab_search.specs.GoalCounts.{GaveWayTo};
 ghost use Rattle.ab_search.specs.RulePlans.{NamesTerm, HoldsRow};
+ghost use Rattle.ab_search_paths.specs.Likenesses.{IsLikeness};
 
-use crate::kernel_steps::{auto, goal_at, last_name, name_at, take};
+use crate::kernel_steps::{hypothesis_at, label_at, last_name, name_at, take};
 use crate::opened_hypotheses::{close_apart, last_variable_given};
 use ab_logic::World;
 use ab_norm::Nominal;
 use ab_norm::name::Name;
 use ab_norm::store::TermId;
 use ab_norm::types::Steps;
-use ab_search_paths::{Assumed, NameTerm, OpenName, raised_term};
+use ab_search_paths::{Assumed, Likeness, NameTerm, OpenName, compare_unmarked, raised_term};
 use ab_steps::kernel::{Proof, Step};
 use std::alloc::{AllocError, Global};
 
@@ -35,59 +36,72 @@ struct Taken {
     terms: Vec<TermId>,
 }
 
-/// Puts a new variable for the name that the hypothesis binds first.
+/// Puts a new variable for the name that the hypothesis binds first. With the constants that those of the hypothesis are at the goal it is
+/// one term more.
 fn take_bound<L>(
     alloc: Global,
     world: &mut World,
     proof: &mut Proof,
     place: usize,
+    like: &Likeness,
     taken: Taken,
     steps: &mut Steps<L>,
 ) -> Result<Taken, AllocError>
     requires world { IsWorld world.old }
     requires proof { IsProof world.old proof.old }
+    requires like { IsLikeness world.old.types like.now }
     requires terms { All (Holds world.old) taken.terms.items }
     ensures follows { Follows world.old proof.old world.new proof.new }
     ensures gave_way { OnOk result (GaveWayTo world.old proof.old world.new proof.new place 1) }
     ensures terms { IfOk result (λ one. All (Holds world.new) one.terms.items) }
     ensures steps { steps.old ≤ steps.new }
 {
-    let Some(formula) = goal_at(proof, place)?.look(&taken.name) else {
-        return Err(AllocError);
-    };
-    let step = Step::ExistsLeft(taken.name, auto());
-    take(world, proof, place, step, 1, steps)?;
+    let formula = hypothesis_at(proof, place, &taken.name)?;
+    let label = label_at(alloc, world, proof, place)?;
+    take(
+        world,
+        proof,
+        place,
+        Step::ExistsLeft(taken.name, label),
+        1,
+        steps,
+    )?;
     let name = last_name(alloc, proof, place, 0)?;
     let mut terms = taken.terms;
-    terms.push(last_variable_given(alloc, world, proof, place, formula)?)?;
+    terms.push(last_variable_given(alloc, world, proof, place, formula, like)?)?;
     Ok(Taken { name, terms })
 }
 
-/// Takes the formula over at the goal of this place, by the hypothesis of this number.
-fn take_formula<L>(
+/// Puts new variables for the names that the hypothesis binds.
+fn take_all_bound<L>(
     alloc: Global,
     world: &mut World,
     proof: &mut Proof,
     place: usize,
-    number: usize,
-    formula: TermId,
+    like: &Likeness,
+    name: Name,
+    bound: usize,
     steps: &mut Steps<L>,
-) -> Result<Name, AllocError>
+) -> Result<Taken, AllocError>
     requires world { IsWorld world.old }
     requires proof { IsProof world.old proof.old }
-    requires formula { Holds world.old formula }
+    requires like { IsLikeness world.old.types like.now }
     ensures follows { Follows world.old proof.old world.new proof.new }
     ensures gave_way { OnOk result (GaveWayTo world.old proof.old world.new proof.new place 1) }
+    ensures terms { IfOk result (λ one. All (Holds world.new) one.terms.items) }
     ensures steps { steps.old ≤ steps.new }
 {
-    let given = name_at(alloc, proof, place, number)?;
-    let step = Step::CutFormula(formula, auto());
-    take(world, proof, place, step, 2, steps)?;
-    take(world, proof, place, Step::Initial(given), 0, steps)?;
-    last_name(alloc, proof, place, 0)
+    let mut taken = Taken {
+        name,
+        terms: Vec::new(alloc),
+    };
+    for _ in 0..bound {
+        taken = take_bound(alloc, world, proof, place, like, taken, steps)?;
+    }
+    Ok(taken)
 }
 
-/// Takes the hypothesis over at the goal of this place, and puts new variables for the names that it binds.
+/// Opens the hypothesis at the goal of this place, which is like the formula, down to where it binds no name.
 fn take_hypothesis<L>(
     alloc: Global,
     world: &mut World,
@@ -104,23 +118,10 @@ fn take_hypothesis<L>(
     ensures terms { IfOk result (λ one. All (Holds world.new) one.terms.items) }
     ensures steps { steps.old ≤ steps.new }
 {
-    let name = take_formula(
-        alloc,
-        world,
-        proof,
-        place,
-        found.number,
-        found.formula,
-        steps,
-    )?;
-    let mut taken = Taken {
-        name,
-        terms: Vec::new(alloc),
-    };
-    for _ in 0..found.bound {
-        taken = take_bound(alloc, world, proof, place, taken, steps)?;
-    }
-    Ok(taken)
+    let name = name_at(alloc, proof, place, found.number)?;
+    let formula = hypothesis_at(proof, place, &name)?;
+    let like = compare_unmarked(alloc, world, formula, found.formula)?;
+    take_all_bound(alloc, world, proof, place, &like, name, found.bound, steps)
 }
 
 /// The term for the name of this number, where these stand for the names that the hypothesis binds.

@@ -10,6 +10,7 @@ ghost use Rattle.ab_steps.specs.ab_kernel.specs.Layout.{IsProof};
 ghost use Rattle.ab_steps.specs.Progress.{Follows};
 ghost use Rattle.ab_search.specs.GoalCounts.{GaveWayTo};
 
+use crate::own_labels::own_label;
 use ab_logic::{Sequent, World};
 use ab_norm::name::Name;
 use ab_norm::store::{CellId, TermId};
@@ -128,7 +129,22 @@ pub(crate) fn last_variable(proof: &Proof, place: usize) -> Result<CellId, Alloc
     }
 }
 
-/// A new hypothesis is named by itself.
-pub(crate) fn auto() -> Label {
-    Label::Auto
+/// The hypothesis of the name of the goal of this place.
+pub(crate) fn hypothesis_at(proof: &Proof, place: usize, name: &Name) -> Result<TermId, AllocError>
+    ensures held { IfOk result (λ t. (w : AWorld) → IsProof w proof.now → Holds w t) }
+{
+    match goal_at(proof, place)?.look(name) {
+        Some(formula) => Ok(formula),
+        None => Err(AllocError),
+    }
+}
+
+/// A label for a new hypothesis of the goal of this place.
+pub(crate) fn label_at(
+    alloc: Global,
+    world: &World,
+    proof: &Proof,
+    place: usize,
+) -> Result<Label, AllocError> {
+    own_label(alloc, world, goal_at(proof, place)?)
 }

@@ -3,11 +3,12 @@
 #![tactic(auto)]
 
 mod assumed_rows;
-mod carrying;
+mod carried_paths;
 mod empty_lists;
 mod fault;
 mod kernel_steps;
 mod opened_hypotheses;
+mod own_labels;
 mod quantifier_steps;
 mod rule_plans;
 mod rule_steps;

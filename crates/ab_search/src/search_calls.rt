@@ -7,7 +7,7 @@ ghost use Rattle.ab_search_paths.specs.Frames.{HoldsPath};
 ghost use Rattle.ab_search.specs.GoalCounts.{FirstGaveWay};
 ghost use Rattle.ab_search.specs.Searched.{IsClosed, IsNotFound, IsOutside, MissesNone};
 
-use crate::carrying::carry_out;
+use crate::carried_paths::carry_out;
 use crate::fault::SearchFault;
 use ab_logic::World;
 use ab_norm::types::Steps;

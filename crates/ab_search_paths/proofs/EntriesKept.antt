@@ -33,9 +33,9 @@ use Rattle.ab_walk.specs.declared.frames.Frame.{Frame}
 use Rattle.ab_search_paths.specs.Paths.{IsOf, IsTermIn, HoldsTaken, HoldsEntry}
 use Rattle.ab_search_paths.specs.Frames.{HoldsPath, IsLater, as_world}
 use Rattle.ab_search_paths.specs.Parts.{HoldsRule}
-use Rattle.ab_search_paths.specs.declared.taken.Entry.{Entry}
-use Rattle.ab_search_paths.specs.declared.taken.Taken.{Taken}
-use Rattle.ab_search_paths.specs.declared.taken.Taken.TheVariants.{Truth, Hypothesis, Equality, Both, Left, Right, Assuming, Constant, Term, Variable, Layer, Clause, Rule}
+use Rattle.ab_search_paths.specs.declared.entries.Entry.{Entry}
+use Rattle.ab_search_paths.specs.declared.entries.Taken.{Taken}
+use Rattle.ab_search_paths.specs.declared.entries.Taken.TheVariants.{Truth, Hypothesis, Equality, Both, Left, Right, Assuming, Constant, Term, Variable, Layer, Clause, Rule}
 
 module _ (w v : World) (part : IsPartOf w.types v.types) (same : signature_in (declarations_of v) ≡ signature_in (declarations_of w)) (trees : (t : TermId) → Holds w t → Holds v t × (read v t ≡ read w t))
     (cells : (c : CellId) → HoldsCell w c → HoldsCell v c) where

@@ -19,9 +19,9 @@ use Rattle.ab_logic.specs.Worlds.{Holds, HoldsCell, read, variable_of, declarati
 use Rattle.ab_logic.specs.WorldGrowth.{Grows}
 use Rattle.ab_logic.specs.declared.world.World.{World}
 use Rattle.ab_search_paths.specs.declared.likeness.StandIn.{StandIn}
-use Rattle.ab_search_paths.specs.declared.taken.Entry.{Entry}
-use Rattle.ab_search_paths.specs.declared.taken.Taken.{Taken}
-use Rattle.ab_search_paths.specs.declared.taken.Taken.TheVariants.{Truth, Hypothesis, Equality, Both, Left, Right, Assuming, Constant, Term, Variable, Layer, Clause, Rule}
+use Rattle.ab_search_paths.specs.declared.entries.Entry.{Entry}
+use Rattle.ab_search_paths.specs.declared.entries.Taken.{Taken}
+use Rattle.ab_search_paths.specs.declared.entries.Taken.TheVariants.{Truth, Hypothesis, Equality, Both, Left, Right, Assuming, Constant, Term, Variable, Layer, Clause, Rule}
 use Rattle.ab_search_paths.specs.Paths.{IsOf, IsTermIn, HoldsTaken, HoldsEntry, HoldsStandIn, IsApart, AreStandIns}
 
 module _ (w v : World) (grows : Grows w v) (declared : declarations_of v ≡ declarations_of w) where

@@ -11,8 +11,8 @@ use Rattle.ab_walk.specs.ab_next_ways.specs.ab_judgements.specs.ab_alternatives.
 use Rattle.ab_walk.specs.ab_next_ways.specs.ab_judgements.specs.ab_judgement_forms.specs.PartReadings.{HoldsPart}
 use Rattle.ab_walk.specs.ab_next_ways.specs.ab_judgements.specs.declared.demands.Rule.{Rule as Kept}
 use Rattle.ab_walk.specs.ab_next_ways.specs.ab_judgements.specs.declared.demands.Rule.TheVariants.{Part}
-use Rattle.ab_search_paths.specs.declared.taken.Entry.{Entry}
-use Rattle.ab_search_paths.specs.declared.taken.RuleTaken.{RuleTaken}
+use Rattle.ab_search_paths.specs.declared.entries.Entry.{Entry}
+use Rattle.ab_search_paths.specs.declared.entries.RuleTaken.{RuleTaken}
 use Rattle.ab_search_paths.specs.declared.terms_of_rules.NameTerm.{NameTerm}
 use Rattle.ab_search_paths.specs.declared.terms_of_rules.NameTerm.TheVariants.{Term, Bound}
 use Rattle.ab_search_paths.specs.declared.terms_of_rules.Assumed.{Assumed as Hypothesis}

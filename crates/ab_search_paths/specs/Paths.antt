@@ -14,10 +14,10 @@ use Rattle.ab_formulas.specs.Declarations.{signature_in}
 use Rattle.ab_logic.specs.Worlds.{Holds, HoldsCell, read, variable_of, declarations_of}
 use Rattle.ab_logic.specs.declared.world.World.{World}
 use Rattle.ab_search_paths.specs.declared.likeness.StandIn.{StandIn}
-use Rattle.ab_search_paths.specs.declared.taken.Entry.{Entry}
-use Rattle.ab_search_paths.specs.declared.taken.ClauseTaken.{ClauseTaken}
-use Rattle.ab_search_paths.specs.declared.taken.Taken.{Taken}
-use Rattle.ab_search_paths.specs.declared.taken.Taken.TheVariants.{Term, Variable, Clause, Rule}
+use Rattle.ab_search_paths.specs.declared.entries.Entry.{Entry}
+use Rattle.ab_search_paths.specs.declared.entries.ClauseTaken.{ClauseTaken}
+use Rattle.ab_search_paths.specs.declared.entries.Taken.{Taken}
+use Rattle.ab_search_paths.specs.declared.entries.Taken.TheVariants.{Term, Variable, Clause, Rule}
 
 -- a closed term of the type
 abbrev pub IsOf : World → TermId → Ty → Type 0

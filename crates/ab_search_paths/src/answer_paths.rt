@@ -10,8 +10,8 @@ ghost use Rattle.ab_walk.specs.ab_next_ways.specs.ab_search_ways.specs.Answers.{
 ghost use Rattle.ab_search_paths.specs.Paths.{IsOf, IsTermIn, HoldsTaken, HoldsEntry};
 ghost use Rattle.ab_search_paths.specs.Frames.{HoldsPath, IsLater, as_world};
 
+use crate::entries::{Entry, Taken};
 use crate::final_values::bind_values;
-use crate::taken::{Entry, Taken};
 use crate::ways_taken::way_taken;
 use ab_logic::World;
 use ab_norm::copy_resolved;

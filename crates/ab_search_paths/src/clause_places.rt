@@ -6,8 +6,8 @@ ghost use Rattle.ab_walk.specs.ab_next_ways.specs.ab_judgements.specs.ab_alterna
 ghost use Rattle.ab_walk.specs.ab_next_ways.specs.ab_judgements.specs.ab_alternatives.specs.LeftAlternatives.{constants_in};
 ghost use Rattle.ab_walk.specs.ab_next_ways.specs.ab_judgements.specs.ab_alternatives.specs.ab_instances.specs.ListReadings.{names_read, given_at};
 
+use crate::entries::ClauseTaken;
 use crate::likeness::Likeness;
-use crate::taken::ClauseTaken;
 use ab_logic::World;
 use ab_norm::Nominal;
 use ab_walk::next_ways::judgements::alternatives::{Choice, DefinedAtom, choice_at};

@@ -13,6 +13,7 @@ ghost use Rattle.ab_search_paths.specs.Likenesses.{IsLikeness};
 ghost use Rattle.ab_search_paths.specs.MoreTerms.{GotTerms};
 ghost use Rattle.ab_search_paths.specs.Paths.{AreStandIns, HoldsStandIn, IsApart, IsBeside};
 
+use crate::opened_formulas::open_formula;
 use ab_logic::World;
 use ab_norm::store::{CellId, Store, TermId};
 use ab_norm::types::laws::has_unique_ids;
@@ -20,6 +21,7 @@ use ab_norm::types::{Steps, TypeTable};
 use ab_norm::{Nominal, Swap, copy_resolved, equal_up_to_names};
 use ab_patterns::occurs;
 use ab_walk::next_ways::judgements::alternatives::instances::{bind_to, constants_of};
+use ab_walk::next_ways::judgements::alternatives::sequents::without_marks;
 use std::alloc::{AllocError, Global};
 
 /// A variable of the path, and the term of the kernel's goals that stands in for it.
@@ -184,7 +186,7 @@ fn put_in_bound<L>(
 }
 
 /// The terms of the path, with what stands in for its variables in their places.
-pub fn put_in<L>(
+pub(crate) fn put_in<L>(
     alloc: Global,
     world: &mut World,
     stand_ins: &[StandIn],
@@ -247,7 +249,7 @@ fn all_moved(
 }
 
 /// What the constants of the first term are in the second, which is the same but for constants.
-pub fn compare_terms(
+fn compare_terms(
     alloc: Global,
     world: &World,
     here: TermId,
@@ -267,7 +269,26 @@ pub fn compare_terms(
     Ok(Likeness { names, targets })
 }
 
-/// What the constants of the path's formula are in the kernel's, which is like it.
+/// What the constants of the first formula are in the second, which is the same but for constants once the judgements of both are opened.
+fn compare_opened(
+    alloc: Global,
+    world: &mut World,
+    here: TermId,
+    there: TermId,
+) -> Result<Likeness, AllocError>
+    requires world { IsWorld world.old }
+    requires here { Holds world.old here }
+    requires there { Holds world.old there }
+    ensures like { IfOk result (IsLikeness world.new.types) }
+    ensures got { GotTerms world.old world.new }
+{
+    let first = open_formula(alloc, world, here)?;
+    let second = open_formula(alloc, world, there)?;
+    compare_terms(alloc, world, first, second)
+}
+
+/// What the constants of the path's formula are in the kernel's, which is like it once the judgements of both are opened: terms that were
+/// put in for variables may have made more of them open.
 pub fn compare<L>(
     alloc: Global,
     world: &mut World,
@@ -285,5 +306,23 @@ pub fn compare<L>(
     ensures steps { steps.old ≤ steps.new }
 {
     let here = put_in(alloc, world, stand_ins, &[formula], steps)?;
-    compare_terms(alloc, world, here[0], conclusion)
+    compare_opened(alloc, world, here[0], conclusion)
+}
+
+/// What the constants of a hypothesis are in the other formula, which is like it without marks once the judgements of both are opened.
+pub fn compare_unmarked(
+    alloc: Global,
+    world: &mut World,
+    hypothesis: TermId,
+    formula: TermId,
+) -> Result<Likeness, AllocError>
+    requires world { IsWorld world.old }
+    requires hypothesis { Holds world.old hypothesis }
+    requires formula { Holds world.old formula }
+    ensures like { IfOk result (IsLikeness world.new.types) }
+    ensures got { GotTerms world.old world.new }
+{
+    let given = without_marks(alloc, world, hypothesis)?;
+    let asked = without_marks(alloc, world, formula)?;
+    compare_opened(alloc, world, given, asked)
 }

@@ -55,7 +55,11 @@ fn opened_parts(
 
 /// The formula, or what binds its name, with its judgements opened.
 #[cycle(opening)]
-pub fn open_formula(alloc: Global, world: &mut World, formula: TermId) -> Result<TermId, AllocError>
+pub(crate) fn open_formula(
+    alloc: Global,
+    world: &mut World,
+    formula: TermId,
+) -> Result<TermId, AllocError>
     requires world { IsWorld world.old }
     requires formula { Holds world.old formula }
     ensures held { IfOk result (Holds world.new) }

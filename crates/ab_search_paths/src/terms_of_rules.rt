@@ -6,7 +6,7 @@ ghost use Rattle.ab_logic.specs.declared.world.World.{World as AWorld};
 ghost use Rattle.ab_search_paths.specs.Paths.{IsTermIn, HoldsEntry};
 ghost use Rattle.ab_search_paths.specs.Parts.{HoldsPathFrom, HoldsNameTerm, HoldsAssumed, HoldsRuleTerms};
 
-use crate::taken::{Entry, RuleTaken, Taken};
+use crate::entries::{Entry, RuleTaken, Taken};
 use ab_norm::store::TermId;
 use std::alloc::{AllocError, Global};
 

@@ -14,9 +14,9 @@ ghost use Rattle.ab_search_paths.specs.Paths.{HoldsTaken};
 ghost use Rattle.ab_search_paths.specs.Frames.{IsLater};
 
 use crate::cell_terms::{cell_given, cells_given};
+use crate::entries::{ClauseTaken, RuleTaken, Taken};
 use crate::first_cells::cell_for_name;
 use crate::part_names::closed_names;
-use crate::taken::{ClauseTaken, RuleTaken, Taken};
 use ab_logic::{Form, World, shape};
 use ab_norm::store::{CellId, TermId};
 use ab_norm::types::Steps;

@@ -1,6 +1,7 @@
 use Rattle.std.proofs.lemmas.List.Elements.{All-weaker}
 use Rattle.ab_logic.specs.Worlds.{Holds}
 use Rattle.ab_search.proofs.MadeBeside.{made_last, gave_made_last}
+use Rattle.ab_search_paths.proofs.Likenesses.{likeness_stays}
 use Rattle.ab_search_paths.proofs.Parts.{pushed}
 use Rattle.ab_search.proofs.assumed_rows.take_bound.Goals as goal
 
@@ -34,5 +35,9 @@ returns-clause-terms g c =
 
 pub last_variable_given-requires-clause-formula : goal.last_variable_given-requires-clause-formula
 last_variable_given-requires-clause-formula g c =
-    let w = c.args.world.now in
-    c.take.ensures.follows.grows.ids c.in-Some.formula (c.in-Some.ensures.held w (c.in_ok-goal_at.ensures.held w c.requires.proof))
+    c.take.ensures.follows.grows.ids c.in_ok-formula.formula (c.in_ok-formula.ensures.held c.args.world.now c.requires.proof)
+
+pub last_variable_given-requires-clause-like : goal.last_variable_given-requires-clause-like
+last_variable_given-requires-clause-like g c =
+    let like = c.args.like.now in
+    likeness_stays c.args.world.now.types c.take.new.world.types c.take.ensures.follows.grows.types like.names.items like.targets.items c.requires.like

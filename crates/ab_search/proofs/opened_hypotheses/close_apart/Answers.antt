@@ -16,12 +16,8 @@ loop-init g c =
       steps = omega arith;
     }
 
-pub returns-in_err-count-clause-follows : goal.returns-in_err-count-clause-follows
-returns-in_err-count-clause-follows g c =
-    follows_on c.args.world.now c.loop.world c.close_or_take_apart.new.world c.args.proof.now c.loop.proof c.close_or_take_apart.new.proof c.loop.invariant.follows c.close_or_take_apart.ensures.follows
-
-pub returns-in_err-wait_for-clause-follows : goal.returns-in_err-wait_for-clause-follows
-returns-in_err-wait_for-clause-follows g c =
+pub returns-in_err-close_or_take_apart-clause-follows : goal.returns-in_err-close_or_take_apart-clause-follows
+returns-in_err-close_or_take_apart-clause-follows g c =
     follows_on c.args.world.now c.loop.world c.close_or_take_apart.new.world c.args.proof.now c.loop.proof c.close_or_take_apart.new.proof c.loop.invariant.follows c.close_or_take_apart.ensures.follows
 
 pub loop-preserved : goal.loop-preserved
@@ -33,13 +29,13 @@ loop-preserved g c =
     let q = c.loop.proof in
     let r = c.close_or_take_apart.new.proof in
     let rest = c.pop.new.self.items in
-    let n = c.in_ok-count.count in
+    let way = c.in_ok-close_or_take_apart.ensures.gave_way in
     let k = length rest in
     let before : length c.loop.waiting.items ≡ k + 1 = ap length c.in-Some.ensures.items ∙ length_push rest c.in-Some.first in
-    let now : n + k ≡ length c.wait_for.new.waiting.items = omega (arith, c.in_ok-wait_for.ensures) in
+    let now : way.0 + k ≡ length c.close_or_take_apart.new.waiting.items = omega (arith, way.2) in
     let gave : GaveWayTo w p v q c.args.place (k + 1) = subst (GaveWayTo w p v q c.args.place) before c.loop.invariant.gave in
     record {
       follows = follows_on w v u p q r c.loop.invariant.follows c.close_or_take_apart.ensures.follows;
-      gave = subst (GaveWayTo w p u r c.args.place) now (on_first w v u p q r c.args.place k n gave c.in_ok-count.ensures.gave_way);
+      gave = subst (GaveWayTo w p u r c.args.place) now (on_first w v u p q r c.args.place k way.0 gave way.1);
       steps = omega (arith, c.loop.invariant.steps, c.close_or_take_apart.ensures.steps);
     }

@@ -1,27 +1,20 @@
-use Rattle.ab_steps.proofs.Following.{follows_on}
-use Rattle.ab_search.proofs.Counting.{on_first}
+use Rattle.std.proofs.Common.{length, ◌∙◌, ap}
+use Rattle.std.proofs.lemmas.Result.{on_ok_weaker}
+use Rattle.std.proofs.lemmas.List.{length_push}
 use Rattle.ab_search.proofs.opened_hypotheses.take_apart.Goals as goal
 
-pub returns-in_err-take-in-Parts-2-clause-follows : goal.returns-in_err-take-in-Parts-2-clause-follows
-returns-in_err-take-in-Parts-2-clause-follows g c =
-    follows_on c.args.world.now c.take.new.world c.take-in-Parts.new.world c.args.proof.now c.take.new.proof c.take-in-Parts.new.proof c.take.ensures.follows c.take-in-Parts.ensures.follows
+pub returns-in_ok-take_parts-in-Parts-clause-gave_way : goal.returns-in_ok-take_parts-in-Parts-clause-gave_way
+returns-in_ok-take_parts-in-Parts-clause-gave_way g c = on_ok_weaker c.wait_for.result (λ more. (2, c.in_ok-take_parts-in-Parts.ensures.gave_way, more)) c.wait_for.ensures
 
-pub returns-in_err-take-in-Names-2-clause-follows : goal.returns-in_err-take-in-Names-2-clause-follows
-returns-in_err-take-in-Names-2-clause-follows g c =
-    follows_on c.args.world.now c.take-in-Names.new.world c.take-in-Names-2.new.world c.args.proof.now c.take-in-Names.new.proof c.take-in-Names-2.new.proof c.take-in-Names.ensures.follows c.take-in-Names-2.ensures.follows
+pub returns-in_ok-take_names-in-Names-clause-gave_way : goal.returns-in_ok-take_names-in-Names-clause-gave_way
+returns-in_ok-take_names-in-Names-clause-gave_way g c = on_ok_weaker c.wait_for-in-Names.result (λ more. (1, c.in_ok-take_names-in-Names.ensures.gave_way, more)) c.wait_for-in-Names.ensures
 
-pub returns-in_ok-take-in-Parts-2-clause-follows : goal.returns-in_ok-take-in-Parts-2-clause-follows
-returns-in_ok-take-in-Parts-2-clause-follows g c =
-    follows_on c.args.world.now c.take.new.world c.take-in-Parts.new.world c.args.proof.now c.take.new.proof c.take-in-Parts.new.proof c.take.ensures.follows c.take-in-Parts.ensures.follows
+pub returns-in_ok-take_terms-in-Terms-clause-gave_way : goal.returns-in_ok-take_terms-in-Terms-clause-gave_way
+returns-in_ok-take_terms-in-Terms-clause-gave_way g c = on_ok_weaker c.wait_for-in-Terms.result (λ more. (1, c.in_ok-take_terms-in-Terms.ensures.gave_way, more)) c.wait_for-in-Terms.ensures
 
-pub returns-in_ok-take-in-Parts-2-clause-gave_way : goal.returns-in_ok-take-in-Parts-2-clause-gave_way
-returns-in_ok-take-in-Parts-2-clause-gave_way g c =
-    on_first c.args.world.now c.take.new.world c.take-in-Parts.new.world c.args.proof.now c.take.new.proof c.take-in-Parts.new.proof c.args.place 0 2 c.in_ok-take-in-Parts.ensures.taken c.in_ok-take-in-Parts-2.ensures.taken
+pub returns-in_ok-take-in-Hypothesis-clause-gave_way : goal.returns-in_ok-take-in-Hypothesis-clause-gave_way
+returns-in_ok-take-in-Hypothesis-clause-gave_way g c = on_ok_weaker c.wait_for-in-Hypothesis.result (λ more. (1, c.in_ok-take-in-Hypothesis.ensures.taken, more)) c.wait_for-in-Hypothesis.ensures
 
-pub returns-in_ok-take-in-Names-2-clause-follows : goal.returns-in_ok-take-in-Names-2-clause-follows
-returns-in_ok-take-in-Names-2-clause-follows g c =
-    follows_on c.args.world.now c.take-in-Names.new.world c.take-in-Names-2.new.world c.args.proof.now c.take-in-Names.new.proof c.take-in-Names-2.new.proof c.take-in-Names.ensures.follows c.take-in-Names-2.ensures.follows
-
-pub returns-in_ok-take-in-Names-2-clause-gave_way : goal.returns-in_ok-take-in-Names-2-clause-gave_way
-returns-in_ok-take-in-Names-2-clause-gave_way g c =
-    on_first c.args.world.now c.take-in-Names.new.world c.take-in-Names-2.new.world c.args.proof.now c.take-in-Names.new.proof c.take-in-Names-2.new.proof c.args.place 0 1 c.in_ok-take-in-Names.ensures.taken c.in_ok-take-in-Names-2.ensures.taken
+pub returns-in_ok-push-in-Conclusion-clause-gave_way : goal.returns-in_ok-push-in-Conclusion-clause-gave_way
+returns-in_ok-push-in-Conclusion-clause-gave_way g c =
+    (1, c.in_ok-take-in-Conclusion.ensures.taken, ap length c.in_ok-push-in-Conclusion.ensures.items ∙ length_push c.args.waiting.now.items c.args.name)
