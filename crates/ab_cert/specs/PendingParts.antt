@@ -1,7 +1,7 @@
 -- What is still to be read, as the program's stack holds it: a tool of the reader's private functions.
 use Rattle.std.specs.Prelude.{◌≡◌, ℕ, List, [], ◌∷◌, ◌++◌, Option, Some, None}
 use Rattle.ab_cert.specs.declared.part.Part.{Part}
-use Rattle.ab_cert.specs.declared.pending.Pending.{Pending}
+use Rattle.ab_cert.specs.declared.part_stack.Pending.{Pending}
 use Rattle.ab_cert.specs.Grammar.{copies}
 
 -- each entry as many times as it says, the last one first

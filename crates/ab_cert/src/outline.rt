@@ -8,9 +8,9 @@ ghost use Rattle.ab_cert.specs.PendingParts.{pending_of};
 
 use crate::fault::ReadFault;
 use crate::part::Part;
-use crate::pending::Pending;
-use crate::reading::is_next;
+use crate::part_stack::Pending;
 use crate::scan::try_part;
+use crate::scans::is_next;
 use std::alloc::Global;
 
 /// Reads the first piece of a part and the byte behind it.

@@ -6,7 +6,7 @@ ghost use Rattle.ab_cert.specs.Leads.{behind, kids_meant, parts_found, table_of}
 
 use crate::count::Count;
 use crate::part::{Behind, Lead, Part, lead_of};
-use crate::reading::{is_next, scan_name, scan_number};
+use crate::scans::{is_next, scan_name, scan_number};
 
 /// The parts that follow a piece.
 #[derive(Clone, Copy)]

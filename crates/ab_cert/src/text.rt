@@ -5,7 +5,7 @@ ghost use Rattle.ab_cert.specs.Splits.{is_plain as is_plain_byte, first_piece};
 ghost use Rattle.ab_cert.specs.Forms.{left_of, Takes};
 
 use crate::count::Count;
-use crate::reading::scan_number;
+use crate::scans::scan_number;
 
 /// Numbers of thirty digits are below this.
 const LONG_LIMIT: u128 = 1_000_000_000_000_000_000_000_000_000_000;

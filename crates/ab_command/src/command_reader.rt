@@ -8,8 +8,8 @@ ghost use Rattle.ab_syntax.specs.ab_expressions.specs.Tokens.{tokens_in};
 ghost use Rattle.ab_syntax.specs.Commands.{command_of};
 ghost use Rattle.ab_command.specs.CommandReadings.{StandsHere, Fits, Says, Fails, FailsBy};
 
+use crate::built_commands::is_built;
 use crate::fault::{Cause, Unread};
-use crate::supported::is_built;
 use ab_grammar::Stand;
 use ab_lex::{LexFault, Token, first_place, tokens};
 use ab_syntax::{Command, ParseFault, parse_command, stand_of};

@@ -43,7 +43,7 @@ use Rattle.ab_consequences.specs.NewConstants.{constants_for, pairs_for}
 use Rattle.ab_consequences.specs.Leading.{Stage, Meets, LeadsBy}
 use Rattle.ab_consequences.specs.UseStages.{HasParts, has_none, has_variable, has_given, has_constant, has_antecedent, stages_of, stage_under, MeetEach}
 use Rattle.ab_consequences.specs.UsesFollow.{antecedents_among, GivenOver, MarksServeEach, AreNone, MayUse, met_by, asked_of, spoken_of, IsLeftIn, StagesLead}
-use Rattle.ab_consequences.proofs.Choosing.{choice_one_type}
+use Rattle.ab_formulas.proofs.OneType.{choice_one_type}
 use Rattle.ab_consequences.proofs.Filling.{constants_from, filled_from, is_filled, are_new, all_once}
 use Rattle.ab_consequences.proofs.Leading.{derive}
 use Rattle.ab_consequences.proofs.Newest as newest
@@ -182,13 +182,13 @@ met_again (o ∷ hs) [] R l = absurd (no_length (length hs) l)
 met_again (None ∷ hs) (A ∷ As) R l = ap (λ k. A ∷ k) (met_again hs As R (less_length (length hs) (length As) l))
 met_again (Some G ∷ hs) (A ∷ As) R l = ap (λ k. G ∷ k) (met_again hs As R (less_length (length hs) (length As) l))
 
-result_again : (hs : List (Option Read)) (As : List Read) (R : Read) → length hs ≡ length As → result_in hs (awaiting hs As R) ≡ R
+pub result_again : (hs : List (Option Read)) (As : List Read) (R : Read) → length hs ≡ length As → result_in hs (awaiting hs As R) ≡ R
 result_again [] As R l = refl
 result_again (o ∷ hs) [] R l = absurd (no_length (length hs) l)
 result_again (None ∷ hs) (A ∷ As) R l = result_again hs As R (less_length (length hs) (length As) l)
 result_again (Some G ∷ hs) (A ∷ As) R l = result_again hs As R (less_length (length hs) (length As) l)
 
-awaited_from : (hs : List (Option Read)) (As : List Read) (R E : Read) → length hs ≡ length As → Contains (awaited hs (awaiting hs As R)) E → Contains As E
+pub awaited_from : (hs : List (Option Read)) (As : List Read) (R E : Read) → length hs ≡ length As → Contains (awaited hs (awaiting hs As R)) E → Contains As E
 awaited_from [] As R E l c = absurd (Contains-none E c)
 awaited_from (o ∷ hs) [] R E l c = absurd (no_length (length hs) l)
 awaited_from (None ∷ hs) (A ∷ As) R E l c = elim (Contains-cases A (awaited hs (awaiting hs As R)) E c) [
@@ -198,7 +198,7 @@ awaited_from (None ∷ hs) (A ∷ As) R E l c = elim (Contains-cases A (awaited 
 awaited_from (Some G ∷ hs) (A ∷ As) R E l c = Contains-there A As E (awaited_from hs As R E (less_length (length hs) (length As) l) c)
 
 -- terms are put into all of it
-awaiting_under : (q : Substitution ℕ (List ℕ)) (hs : List (Option Read)) (As : List Read) (R : Read) → image same_number q (awaiting hs As R) ≡ awaiting hs (map (image same_number q) As) (image same_number q R)
+pub awaiting_under : (q : Substitution ℕ (List ℕ)) (hs : List (Option Read)) (As : List Read) (R : Read) → image same_number q (awaiting hs As R) ≡ awaiting hs (map (image same_number q) As) (image same_number q R)
 awaiting_under q [] As R = refl
 awaiting_under q (None ∷ hs) [] R = refl
 awaiting_under q (Some G ∷ hs) [] R = refl
@@ -206,7 +206,7 @@ awaiting_under q (None ∷ hs) (A ∷ As) R = ap (implied (image same_number q A
 awaiting_under q (Some G ∷ hs) (A ∷ As) R = awaiting_under q hs As R
 
 -- terms that are given, over more variables
-given_may : (sg : Signature) (xs Z : List Variable) (M : List Nominal) → ((t : Read) → HoldsOnly xs t → HoldsOnly Z t) → (ps : List Part) → GivenOver xs ps → ((a : Nominal) → Contains (given_constants ps) a → Contains M a) → stages.GivenMay sg Z M ps
+pub given_may : (sg : Signature) (xs Z : List Variable) (M : List Nominal) → ((t : Read) → HoldsOnly xs t → HoldsOnly Z t) → (ps : List Part) → GivenOver xs ps → ((a : Nominal) → Contains (given_constants ps) a → Contains M a) → stages.GivenMay sg Z M ps
 given_may sg xs Z M more [] g within = tt
 given_may sg xs Z M more (variable_for x A ∷ ps) g within = given_may sg xs Z M more ps g within
 given_may sg xs Z M more (given_term t ∷ ps) g within = (

@@ -37,11 +37,12 @@ use Rattle.ab_search_trees.proofs.Hypotheses.{erased_variables}
 use Rattle.ab_search_trees.proofs.Unmarked.{erased_typed}
 use Rattle.ab_consequences.specs.UseStages.{HasParts, has_none, has_variable, has_given, has_constant, has_antecedent}
 use Rattle.ab_consequences.specs.UsesFollow.{antecedents_among, GivenOver, MayUse}
-use Rattle.ab_consequences.proofs.Choosing.{choice_one_type}
+use Rattle.ab_formulas.proofs.OneType.{choice_one_type}
 use Rattle.ab_consequences.proofs.Filling.{constants_from, filled_from, is_filled, are_new, all_once}
 use Rattle.ab_consequences.proofs.UseAnswered as answered
 use Rattle.ab_consequences.proofs.UseAnswered.{IsFilled}
 use Rattle.ab_consequences.proofs.UseStages as stages
+use Rattle.ab_consequences.proofs.UsesFollow.{result_again, awaited_from, awaiting_under, given_may}
 
 abbrev Cells : Type 0
 Cells = List (Cell (List ℕ))
@@ -132,49 +133,6 @@ module _ (sg : Signature) (Z : List Variable) (M : List Nominal) where
   behind_may : (o : Option Read) (R : Read) → IfSome o May → May R → AreTyped sg (equation_behind o R) × All (HoldsOnly Z) (sides (equation_behind o R))
   behind_may None R given may = (tt, All-nil (HoldsOnly Z))
   behind_may (Some C) R given may = one_equation 0 R C [] may given (tt, All-nil (HoldsOnly Z))
-
--- LISTS OF ONE LENGTH
-
-no_length : (n : ℕ) → suc n ≡ 0 → ⊥
-no_length n e = omega (arith, e)
-
-less_length : (n m : ℕ) → suc n ≡ suc m → n ≡ m
-less_length n m e = omega (arith, e)
-
-result_again : (hs : List (Option Read)) (As : List Read) (R : Read) → length hs ≡ length As → result_in hs (awaiting hs As R) ≡ R
-result_again [] As R l = refl
-result_again (o ∷ hs) [] R l = absurd (no_length (length hs) l)
-result_again (None ∷ hs) (A ∷ As) R l = result_again hs As R (less_length (length hs) (length As) l)
-result_again (Some G ∷ hs) (A ∷ As) R l = result_again hs As R (less_length (length hs) (length As) l)
-
-awaited_from : (hs : List (Option Read)) (As : List Read) (R E : Read) → length hs ≡ length As → Contains (awaited hs (awaiting hs As R)) E → Contains As E
-awaited_from [] As R E l c = absurd (Contains-none E c)
-awaited_from (o ∷ hs) [] R E l c = absurd (no_length (length hs) l)
-awaited_from (None ∷ hs) (A ∷ As) R E l c = elim (Contains-cases A (awaited hs (awaiting hs As R)) E c) [
-  | inl e ↦ subst (Contains (A ∷ As)) e (Contains-here A As)
-  | inr d ↦ Contains-there A As E (awaited_from hs As R E (less_length (length hs) (length As) l) d)
-]
-awaited_from (Some G ∷ hs) (A ∷ As) R E l c = Contains-there A As E (awaited_from hs As R E (less_length (length hs) (length As) l) c)
-
--- terms are put into all of it
-awaiting_under : (q : Substitution ℕ (List ℕ)) (hs : List (Option Read)) (As : List Read) (R : Read) → image same_number q (awaiting hs As R) ≡ awaiting hs (map (image same_number q) As) (image same_number q R)
-awaiting_under q [] As R = refl
-awaiting_under q (None ∷ hs) [] R = refl
-awaiting_under q (Some G ∷ hs) [] R = refl
-awaiting_under q (None ∷ hs) (A ∷ As) R = ap (implied (image same_number q A)) (awaiting_under q hs As R)
-awaiting_under q (Some G ∷ hs) (A ∷ As) R = awaiting_under q hs As R
-
--- terms that are given, over more variables
-given_may : (sg : Signature) (xs Z : List Variable) (M : List Nominal) → ((t : Read) → HoldsOnly xs t → HoldsOnly Z t) → (ps : List Part) → GivenOver xs ps → ((a : Nominal) → Contains (given_constants ps) a → Contains M a) → stages.GivenMay sg Z M ps
-given_may sg xs Z M more [] g within = tt
-given_may sg xs Z M more (variable_for x A ∷ ps) g within = given_may sg xs Z M more ps g within
-given_may sg xs Z M more (given_term t ∷ ps) g within = (
-  more t g.0,
-  λ a c. within a (Contains-append_left (support t) (given_constants ps) a c),
-  given_may sg xs Z M more ps g.1 (λ a c. within a (Contains-append_right (support t) (given_constants ps) a c)),
-)
-given_may sg xs Z M more (constant_for A ∷ ps) g within = given_may sg xs Z M more ps g within
-given_may sg xs Z M more (antecedent ∷ ps) g within = given_may sg xs Z M more ps g within
 
 length_mapped : (f : Read → Read) (As : List Read) → length (map f As) ≡ length As
 length_mapped f [] = refl

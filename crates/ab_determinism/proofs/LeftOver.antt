@@ -43,7 +43,7 @@ use Rattle.ab_theory.specs.UseAnswers.{Using, case_by, standing_in, IsUsedFor, r
 use Rattle.ab_effects.specs.FormulaUses.{using}
 use Rattle.ab_determinism.proofs.Fronts.{for_all_of, for_new_of, implied_of, HasFront, has_front, for_all_front, nabla_front, implied_front, front_put}
 use Rattle.ab_determinism.proofs.Unmarked.{erased_typed, erased_closed}
-use Rattle.ab_determinism.proofs.Constants.{fewer, choice_one_type}
+use Rattle.ab_formulas.proofs.OneType.{fewer, choice_one_type}
 use Rattle.ab_determinism.proofs.Answered.{left_may}
 use Rattle.ab_determinism.proofs.Giving.{constants_of, AreApart, MayGive, AreGiven}
 

@@ -23,7 +23,6 @@ pub mod Rows
 mod Giving
 mod Fronts
 mod Unmarked
-mod Constants
 mod Answered
 mod LeftOver
 mod Chaining

@@ -62,7 +62,7 @@ pub fn name_by(alloc: Global, label: &Label, sequent: Sequent) -> Result<Option<
             None => Ok(None),
             Some(number) => Ok(Some(Named {
                 name: automatic(alloc, number)?,
-                sequent: sequent.counted(number),
+                sequent: sequent.with_counter(number),
             })),
         },
         Label::Given(name) => {

@@ -16,7 +16,7 @@ mod part_names;
 mod raised_terms;
 mod shapes;
 mod undetermined_atoms;
-mod unfocused;
+mod unfocused_goals;
 mod unused_names;
 mod wider_lists;
 
@@ -32,5 +32,5 @@ pub use opened_goals::{Manner, open};
 pub use opened_scopes::{Opening, demand_body};
 pub use part_names::{PartName, copy_names, under_all};
 pub use undetermined_atoms::{has_undetermined_atom, is_undetermined};
-pub use unfocused::{as_unfocused, judgement_of};
+pub use unfocused_goals::{as_unfocused, judgement_of};
 pub use wider_lists::{is_within, list_type};

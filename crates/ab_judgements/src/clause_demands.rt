@@ -27,7 +27,7 @@ ghost use Rattle.ab_judgement_forms.specs.DemandWalks.{under_variables};
 ghost use Rattle.ab_judgements.specs.DemandReadings.{IsDemandTerm};
 
 use crate::demands::DemandTerm;
-use ab_alternatives::equated;
+use ab_alternatives::equations_between;
 use ab_alternatives::instances::make_over;
 use ab_judgement_forms::{Opening, demand_body, put_over, sides_of, stand_ins, under_cells};
 use ab_logic::{World, is_true};
@@ -71,7 +71,7 @@ fn argument_equations(
         Node::Lam(_, _, _) => Ok(Vec::new(alloc)),
         Node::Spine(_, left) => match store.view(atom) {
             Node::Lam(_, _, _) => Ok(Vec::new(alloc)),
-            Node::Spine(_, right) => equated(alloc, left.as_slice(), right.as_slice()),
+            Node::Spine(_, right) => equations_between(alloc, left.as_slice(), right.as_slice()),
         },
     }
 }

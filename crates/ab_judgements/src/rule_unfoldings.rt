@@ -120,7 +120,7 @@ fn unfold_rule<L>(
     match solved? {
         Conclusion::Formula(formula) => {
             let premise = goal.copy(alloc)?;
-            Ok(CaseSolution::Unified(premise.proving(formula)))
+            Ok(CaseSolution::Unified(premise.with_conclusion(formula)))
         }
         Conclusion::Apart => Ok(CaseSolution::Apart),
         Conclusion::Stuck(place) => Ok(CaseSolution::Stuck(place)),

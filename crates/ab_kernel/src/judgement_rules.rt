@@ -37,7 +37,7 @@ fn goals_assuming(
     let Some(named) = name_by(alloc, given, sequent.copy(alloc)?)? else {
         return Err(KernelFault::RuleFails(condition));
     };
-    let premise = named.sequent.assuming(named.name, formula)?;
+    let premise = named.sequent.with_hypothesis(named.name, formula)?;
     Ok(one(alloc, premise)?)
 }
 
@@ -62,8 +62,8 @@ fn proving_and_assuming(
     let Some(named) = name_by(alloc, given, sequent.copy(alloc)?)? else {
         return Err(KernelFault::RuleFails(condition));
     };
-    let proved = sequent.copy(alloc)?.proving(first);
-    let assumed = named.sequent.assuming(named.name, second)?;
+    let proved = sequent.copy(alloc)?.with_conclusion(first);
+    let assumed = named.sequent.with_hypothesis(named.name, second)?;
     Ok(two(alloc, proved, assumed)?)
 }
 

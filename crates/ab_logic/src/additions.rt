@@ -188,7 +188,7 @@ impl Additions {
     }
 
     /// The places that the theorem of that name assumes; none where there is no such theorem.
-    pub(crate) fn assumed(&self, name: &Name) -> &[usize]
+    pub(crate) fn assumptions(&self, name: &Name) -> &[usize]
         ensures { result.now ≡ places_in (entry_in self.now name.now) }
     {
         match self.theorem(name) {

@@ -117,7 +117,7 @@ impl Sequent {
     }
 
     /// The goal with another conclusion.
-    pub fn proving(self, conclusion: TermId) -> Sequent
+    pub fn with_conclusion(self, conclusion: TermId) -> Sequent
         ensures reads { (w : World) → sequent_of w result ≡ proving (read w conclusion) (sequent_of w self) }
         ensures held { (w : World) → HoldsSequent w self → Holds w conclusion → HoldsSequent w result }
     {
@@ -130,7 +130,7 @@ impl Sequent {
     }
 
     /// The goal with one hypothesis more, behind the others.
-    pub fn assuming(self, name: Name, formula: TermId) -> Result<Sequent, AllocError>
+    pub fn with_hypothesis(self, name: Name, formula: TermId) -> Result<Sequent, AllocError>
         ensures reads { IfOk result (λ s. (w : World) → sequent_of w s ≡ assuming name (read w formula) (sequent_of w self)) }
         ensures held { IfOk result (λ s. (w : World) → HoldsSequent w self → Holds w formula → HoldsSequent w s) }
     {
@@ -145,7 +145,7 @@ impl Sequent {
     }
 
     /// The goal with another number of the last named hypothesis.
-    pub fn counted(self, counter: u32) -> Sequent
+    pub fn with_counter(self, counter: u32) -> Sequent
         ensures reads { (w : World) → sequent_of w result ≡ counted counter (sequent_of w self) }
         ensures held { (w : World) → HoldsSequent w self → HoldsSequent w result }
     {

@@ -204,10 +204,10 @@ impl World {
     }
 
     /// The places of the theorems that the theorem of that name assumes, in growing order; none where there is no such theorem.
-    pub fn assumed(&self, name: &Name) -> &[usize]
+    pub fn assumptions(&self, name: &Name) -> &[usize]
         ensures { result.now ≡ assumed_in (declarations_of self.now) name.now }
     {
-        self.additions.assumed(name)
+        self.additions.assumptions(name)
     }
 
     /// Adds a clause of the program behind all that was declared. Refused exactly where its head is no constant with

@@ -40,7 +40,7 @@ pub fn for_all_right<L>(
     let name = variable_name(alloc, world, sequent, &asked)?;
     let names = support_in(alloc, world, sequent.conclusion)?;
     let made = raise(alloc, world, name, body, ty, &names, steps)?;
-    let premise = premise.over(made.cell)?.proving(made.formula);
+    let premise = premise.over(made.cell)?.with_conclusion(made.formula);
     Ok(one(alloc, premise)?)
 }
 
@@ -76,7 +76,7 @@ pub fn exists_left<L>(
     let premise = named
         .sequent
         .over(made.cell)?
-        .assuming(named.name, made.formula)?;
+        .with_hypothesis(named.name, made.formula)?;
     Ok(one(alloc, premise)?)
 }
 
@@ -100,7 +100,7 @@ pub fn nabla_right<L>(
     let premise = sequent.copy(alloc)?;
     let number = least_name(alloc, world, sequent, sequent.conclusion, ty)?;
     let formula = with_name(alloc, world, body, Nominal { number, ty }, steps)?;
-    let premise = premise.proving(formula);
+    let premise = premise.with_conclusion(formula);
     Ok(one(alloc, premise)?)
 }
 
@@ -131,6 +131,6 @@ pub fn nabla_left<L>(
     };
     let number = least_name(alloc, world, sequent, formula, ty)?;
     let made = with_name(alloc, world, body, Nominal { number, ty }, steps)?;
-    let premise = named.sequent.assuming(named.name, made)?;
+    let premise = named.sequent.with_hypothesis(named.name, made)?;
     Ok(one(alloc, premise)?)
 }

@@ -28,7 +28,10 @@ pub fn arrow_right(
     let Some(named) = name_by(alloc, given, sequent.copy(alloc)?)? else {
         return Err(KernelFault::RuleFails(2));
     };
-    let premise = named.sequent.assuming(named.name, left)?.proving(right);
+    let premise = named
+        .sequent
+        .with_hypothesis(named.name, left)?
+        .with_conclusion(right);
     Ok(one(alloc, premise)?)
 }
 
@@ -53,11 +56,11 @@ pub fn and_left(
     let Some(named) = name_by(alloc, first, sequent.copy_without(alloc, name)?)? else {
         return Err(KernelFault::RuleFails(3));
     };
-    let with_left = named.sequent.assuming(named.name, left)?;
+    let with_left = named.sequent.with_hypothesis(named.name, left)?;
     let Some(named) = name_by(alloc, second, with_left)? else {
         return Err(KernelFault::RuleFails(3));
     };
-    let premise = named.sequent.assuming(named.name, right)?;
+    let premise = named.sequent.with_hypothesis(named.name, right)?;
     Ok(one(alloc, premise)?)
 }
 
@@ -83,8 +86,8 @@ pub fn or_left(
     };
     let other = named.sequent.copy(alloc)?;
     let other_name = named.name.copy(alloc)?;
-    let first = named.sequent.assuming(named.name, left)?;
-    let second = other.assuming(other_name, right)?;
+    let first = named.sequent.with_hypothesis(named.name, left)?;
+    let second = other.with_hypothesis(other_name, right)?;
     Ok(two(alloc, first, second)?)
 }
 
@@ -108,8 +111,8 @@ pub fn arrow_left(
     let Some(named) = name_by(alloc, given, sequent.copy(alloc)?)? else {
         return Err(KernelFault::RuleFails(3));
     };
-    let first = sequent.copy(alloc)?.proving(left);
-    let second = named.sequent.assuming(named.name, right)?;
+    let first = sequent.copy(alloc)?.with_conclusion(left);
+    let second = named.sequent.with_hypothesis(named.name, right)?;
     Ok(two(alloc, first, second)?)
 }
 
@@ -149,6 +152,6 @@ pub fn use_theorem(
     let Some(named) = name_by(alloc, given, sequent.copy(alloc)?)? else {
         return Err(KernelFault::RuleFails(2));
     };
-    let premise = named.sequent.assuming(named.name, formula)?;
+    let premise = named.sequent.with_hypothesis(named.name, formula)?;
     Ok(one(alloc, premise)?)
 }

@@ -21,8 +21,8 @@ pub fn and_right(
     let Some((left, right)) = as_and(world, sequent.conclusion) else {
         return Err(KernelFault::RuleFails(1));
     };
-    let first = sequent.copy(alloc)?.proving(left);
-    let second = sequent.copy(alloc)?.proving(right);
+    let first = sequent.copy(alloc)?.with_conclusion(left);
+    let second = sequent.copy(alloc)?.with_conclusion(right);
     Ok(two(alloc, first, second)?)
 }
 
@@ -40,6 +40,6 @@ pub fn or_right(
         return Err(KernelFault::RuleFails(1));
     };
     let part = if left { first } else { second };
-    let premise = sequent.copy(alloc)?.proving(part);
+    let premise = sequent.copy(alloc)?.with_conclusion(part);
     Ok(one(alloc, premise)?)
 }

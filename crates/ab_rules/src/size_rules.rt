@@ -65,7 +65,7 @@ pub fn give_sizes(
     else {
         return Err(KernelFault::RuleFails(3));
     };
-    Ok(one(alloc, premise.proving(sizes.derived))?)
+    Ok(one(alloc, premise.with_conclusion(sizes.derived))?)
 }
 
 /// The mark of what is smaller.
@@ -135,7 +135,7 @@ fn assume_each(
         let Some(named) = name_by(alloc, &given[index], goal)? else {
             return Ok(None);
         };
-        goal = named.sequent.assuming(named.name, formulas[index])?;
+        goal = named.sequent.with_hypothesis(named.name, formulas[index])?;
     }
     if given.len() < formulas.len() {
         Ok(None)

@@ -49,7 +49,7 @@ pub fn for_all_left<L>(
         return Err(KernelFault::RuleFails(4));
     };
     let made = instance_of(alloc, world, body, &[term], steps)?;
-    let premise = named.sequent.assuming(named.name, made)?;
+    let premise = named.sequent.with_hypothesis(named.name, made)?;
     Ok(one(alloc, premise)?)
 }
 
@@ -78,7 +78,7 @@ pub fn exists_right<L>(
     }
     let premise = sequent.copy(alloc)?;
     let made = instance_of(alloc, world, body, &[term], steps)?;
-    let premise = premise.proving(made);
+    let premise = premise.with_conclusion(made);
     Ok(one(alloc, premise)?)
 }
 
@@ -102,7 +102,7 @@ pub fn cut_formula(
     let Some(named) = name_by(alloc, given, sequent.copy(alloc)?)? else {
         return Err(KernelFault::RuleFails(2));
     };
-    let first = sequent.copy(alloc)?.proving(formula);
-    let second = named.sequent.assuming(named.name, formula)?;
+    let first = sequent.copy(alloc)?.with_conclusion(formula);
+    let second = named.sequent.with_hypothesis(named.name, formula)?;
     Ok(two(alloc, first, second)?)
 }

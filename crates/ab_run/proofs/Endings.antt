@@ -13,7 +13,7 @@ use Rattle.ab_io.proofs.Streams.{takes_none, takes_more, appends_none, appends_m
 use Rattle.ab_sigmod.specs.FileLoads.{FilesSeen, no_load}
 use Rattle.ab_run.specs.declared.status.Status.{Status}
 use Rattle.ab_run.specs.declared.status.Status.TheVariants.{Done, Refused, ReadFault, WriteFault, NoMemory, Unfinished, TooLong}
-use Rattle.ab_run.specs.declared.running.TheConstants.{MAX_INPUT}
+use Rattle.ab_run.specs.declared.whole_runs.TheConstants.{MAX_INPUT}
 use Rattle.ab_run.specs.declared.way.Way.{Way}
 use Rattle.ab_session.specs.ab_states.specs.State.{State, empty}
 use Rattle.ab_run.specs.Report.{Report, ReportOf, none, bytes_of, printed, refused_in, has_end, state_behind}

@@ -8,7 +8,7 @@ use Rattle.ab_io.specs.Count.{Rose}
 use Rattle.ab_io.specs.KnownBytes.{Takes, Appends, AtEnd}
 use Rattle.ab_run.specs.declared.status.Status.{Status}
 use Rattle.ab_run.specs.declared.status.Status.TheVariants.{Done, Refused, BadLine, ReadFault, WriteFault, NoMemory, Unfinished, TooLong, NoFile}
-use Rattle.ab_run.specs.declared.running.TheConstants.{MAX_INPUT}
+use Rattle.ab_run.specs.declared.whole_runs.TheConstants.{MAX_INPUT}
 use Rattle.ab_run.specs.declared.way.Way.{Way}
 use Rattle.ab_run.specs.Status.{number_of}
 use Rattle.std.specs.Prelude.{true, IfSome}

@@ -2,7 +2,7 @@
 use Rattle.std.specs.Prelude.{ℕ, List, [], ◌∷◌, ◌++◌}
 use Rattle.ab_run.specs.declared.status.Status.{Status}
 use Rattle.ab_run.specs.declared.status.Status.TheVariants.{BadLine, ReadFault, TooLong, NoFile}
-use Rattle.ab_run.specs.declared.ending.TheConstants.{USAGE, READ_FAULT, TOO_LONG, MISSING}
+use Rattle.ab_run.specs.declared.run_endings.TheConstants.{USAGE, READ_FAULT, TOO_LONG, MISSING}
 
 pub data Ending : Type 0 where
   -- the source failed, or the load of the script's file

@@ -11,7 +11,7 @@ use Rattle.ab_line.specs.Requests.{Origin, Request, the_input, the_file, the_dri
 use Rattle.ab_session.specs.ab_states.specs.State.{State, empty}
 use Rattle.ab_run.specs.declared.status.Status.{Status}
 use Rattle.ab_run.specs.declared.status.Status.TheVariants.{Done, Refused, ReadFault, WriteFault, NoMemory, Unfinished, TooLong}
-use Rattle.ab_run.specs.declared.running.TheConstants.{MAX_INPUT}
+use Rattle.ab_run.specs.declared.whole_runs.TheConstants.{MAX_INPUT}
 use Rattle.ab_run.specs.declared.way.Way.{Way}
 use Rattle.ab_run.specs.Status.{number_of}
 use Rattle.ab_run.specs.Ways.{way_of}

@@ -16,7 +16,7 @@ use Rattle.ab_session.specs.Contents.{state_of}
 use Rattle.ab_run.specs.declared.input.ReadStop.{ReadStop}
 use Rattle.ab_run.specs.declared.input.ReadStop.TheVariants.{Failed as ReadFailed, Memory as ReadMemory}
 use Rattle.ab_run.specs.declared.output.Progress.{Progress}
-use Rattle.ab_run.specs.declared.running.TheConstants.{MAX_INPUT}
+use Rattle.ab_run.specs.declared.whole_runs.TheConstants.{MAX_INPUT}
 use Rattle.ab_run.specs.declared.status.Status.{Status}
 use Rattle.ab_run.specs.declared.status.Status.TheVariants.{Done, Refused, WriteFault as FaultStatus, NoMemory, Unfinished}
 use Rattle.ab_run.specs.declared.way.Showing.{Showing}

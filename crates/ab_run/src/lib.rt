@@ -1,13 +1,13 @@
 //! A run over a script, from the bytes in to the bytes out: what the program promises is said by the clauses of [`run`].
 #![tactic(auto)]
 
-mod ending;
 mod input;
 pub mod laws;
 mod output;
-mod running;
+mod run_endings;
 mod scripts;
 mod status;
 mod way;
+mod whole_runs;
 
-pub use running::{Ended, run};
+pub use whole_runs::{Ended, run};

@@ -7,10 +7,10 @@ ghost use Rattle.ab_run.specs.Endings.{missing};
 ghost use Rattle.ab_run.specs.Outcome.{RanText, RanFile, RanDrill, WroteLine};
 ghost use Rattle.ab_run.specs.Progress.{RanTextTo, beginning, standing_of};
 
-use crate::ending::{
+use crate::output::{Progress, answer_ready};
+use crate::run_endings::{
     READ_FAULT, TOO_LONG, closing_line, end_status, end_with, handed_out, is_finished, missing_line,
 };
-use crate::output::{Progress, answer_ready};
 use crate::status::Status;
 use crate::way::Way;
 use ab_drill::drill_script;

@@ -52,7 +52,7 @@ fn way_to_conclusion(
         (λ now g. trees.leading_to (declarations_of world.now) now g (tree.asking (read world.now conclusion) g ∷ [])) world.now) }
 {
     let _ = world;
-    let only = goal.asking(alloc, conclusion)?;
+    let only = goal.with_conclusion(alloc, conclusion)?;
     leading_to(alloc, flexible, Vec::from_array(alloc, [only])?)
 }
 
@@ -98,8 +98,8 @@ fn by_both(
         (trees.in_turn g.member_first (tree.asking (read world.now left) g) (tree.asking (read world.now right) g))) world.now) }
 {
     let _ = world;
-    let left = goal.asking(alloc, left)?;
-    let right = goal.asking(alloc, right)?;
+    let left = goal.with_conclusion(alloc, left)?;
+    let right = goal.with_conclusion(alloc, right)?;
     let goals = if goal.member_first {
         Vec::from_array(alloc, [right, left])?
     } else {
@@ -124,7 +124,7 @@ fn by_implication(
         (λ now g. trees.leading_to (declarations_of world.now) now g (tree.asking (read world.now asked) (tree.assuming (read world.now given) g) ∷ [])) world.now) }
 {
     let _ = world;
-    let only = goal.asking(alloc, asked)?.assuming(given)?;
+    let only = goal.with_conclusion(alloc, asked)?.with_hypothesis(given)?;
     leading_to(alloc, flexible, Vec::from_array(alloc, [only])?)
 }
 
@@ -150,7 +150,7 @@ fn by_nabla<L>(
 {
     let a = new_constant(alloc, &world.types, &goal.constants, ty)?;
     let conclusion = with_constant(alloc, world, body, a, steps)?;
-    let mut only = goal.asking(alloc, conclusion)?;
+    let mut only = goal.with_conclusion(alloc, conclusion)?;
     only.constants = with_placed(alloc, &goal.constants, a)?;
     leading_to(alloc, flexible, Vec::from_array(alloc, [only])?)
 }
@@ -176,7 +176,7 @@ fn by_exists<L>(
     ensures steps { steps.old ≤ steps.new }
 {
     let made = raise(alloc, world, ty, body, &goal.constants, steps)?;
-    let mut only = goal.asking(alloc, made.formula)?;
+    let mut only = goal.with_conclusion(alloc, made.formula)?;
     only.untouched = false;
     only.member_first = goal.member_first;
     let mut way = leading_to(alloc, flexible, Vec::from_array(alloc, [only])?)?;
@@ -233,7 +233,7 @@ fn by_layer(
     let Some(conclusion) = layer_of(alloc, world, goal.conclusion)? else {
         return Ok(None);
     };
-    let mut only = goal.asking(alloc, conclusion)?;
+    let mut only = goal.with_conclusion(alloc, conclusion)?;
     only.layers = goal.layers - 1;
     let goals = Vec::from_array(alloc, [only])?;
     Ok(Some(leading_to(alloc, flexible, goals)?))

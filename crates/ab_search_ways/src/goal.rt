@@ -30,7 +30,7 @@ pub struct Goal {
 
 impl Goal {
     /// The same goal with another conclusion.
-    pub fn asking(&self, alloc: Global, conclusion: TermId) -> Result<Goal, AllocError>
+    pub fn with_conclusion(&self, alloc: Global, conclusion: TermId) -> Result<Goal, AllocError>
         ensures reads { IfOk result (λ g. (w : World) (base : List AnId) →
             goal_read w base g ≡ tree.asking (read w conclusion) (goal_read w base self.now)) }
         ensures added { IfOk result (λ g. g.added.items ≡ self.now.added.items) }
@@ -49,7 +49,7 @@ impl Goal {
     }
 
     /// The goal with one hypothesis more, behind the others.
-    pub fn assuming(self, formula: TermId) -> Result<Goal, AllocError>
+    pub fn with_hypothesis(self, formula: TermId) -> Result<Goal, AllocError>
         ensures reads { IfOk result (λ g. (w : World) (base : List AnId) →
             goal_read w base g ≡ tree.assuming (read w formula) (goal_read w base self)) }
         ensures added { IfOk result (λ g. g.added.items ≡ self.added.items ++ formula ∷ []) }

@@ -83,7 +83,7 @@ impl Goals {
     }
 
     /// The same goals, shared.
-    pub(crate) fn shared(&self) -> Result<Goals, AllocError>
+    pub(crate) fn share(&self) -> Result<Goals, AllocError>
         ensures { IfOk result (λ goals. goals ≡ self.now) }
     {
         match &self.first {

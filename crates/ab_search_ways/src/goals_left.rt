@@ -175,7 +175,7 @@ pub(crate) fn add_touched<L>(
         list.push(resolved_goal(alloc, types, store, goal, steps)?)?;
         left = behind;
     }
-    left.shared()
+    left.share()
 }
 
 /// What the cell is bound to, if anything, with what cells in it are bound to in their places.

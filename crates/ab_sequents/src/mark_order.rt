@@ -195,7 +195,7 @@ fn at_marked(store: &Store, id: TermId, mark: Sign) -> Seen
 }
 
 /// Where the marks of a head with arguments stand, by how the head makes them.
-fn made(store: &Store, making: Making, head: Head, args: &[TermId]) -> Seen
+fn marks_under_head(store: &Store, making: Making, head: Head, args: &[TermId]) -> Seen
     requires making { (types : Table) → making_read making ≡ making_of (head_in types store.now.cells head) }
     requires args { All (Holds store.now) args.now }
     ensures seen { (types : Table) → marks_seen types store.now result
@@ -236,6 +236,11 @@ pub fn look_at(store: &Store, id: TermId) -> Seen
 {
     match store.view(id) {
         Node::Lam(_, _, body) => look_at(store, *body),
-        Node::Spine(head, args) => made(store, making_of(*head), *head, args.as_slice()),
+        Node::Spine(head, args) => marks_under_head(
+            store,
+            making_of(*head),
+            *head,
+            args.as_slice(),
+        ),
     }
 }

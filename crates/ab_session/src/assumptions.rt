@@ -22,7 +22,7 @@ fn mark_debts(world: &World, debts: &[Debt], marks: &mut [bool])
 {
     for debt in debts {
         match debt {
-            Debt::Theorem(name) => mark_places(marks, world.assumed(name)),
+            Debt::Theorem(name) => mark_places(marks, world.assumptions(name)),
             Debt::Goal => mark_places(marks, &[world.theorems()]),
         }
     }

@@ -4,9 +4,9 @@
 mod file_text;
 pub mod laws;
 mod progress;
-mod reading;
 mod spec;
+mod spec_files;
 mod text;
 
-pub use reading::{MAX_FILES, read_spec};
 pub use spec::{Spec, SpecFault, SpecFile};
+pub use spec_files::{MAX_FILES, read_spec};

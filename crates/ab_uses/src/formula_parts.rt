@@ -105,7 +105,7 @@ fn part_of(
 }
 
 /// The terms, once more.
-fn copied(alloc: Global, given: &[GivenTerm]) -> Result<Vec<GivenTerm>, AllocError>
+fn copy_given(alloc: Global, given: &[GivenTerm]) -> Result<Vec<GivenTerm>, AllocError>
     ensures { IfOk result (λ list. list.items ≡ given.now) }
 {
     let mut list = Vec::new(alloc);
@@ -134,7 +134,7 @@ pub fn parts_of(
     ensures held { IfOk result (λ list. All (HoldsPart world.now.types world.now.store) list.items) }
 {
     let mut list = Vec::new(alloc);
-    let mut spare = copied(alloc, given)?;
+    let mut spare = copy_given(alloc, given)?;
     let mut left = count;
     let mut rest = formula;
     'layers: loop {

@@ -36,10 +36,10 @@ returns-in_ok-premise-in-Formula-clause-unified g c = λ p is.
     let v : World = record { types = x.types; store = c.rewind.new.self; additions = x.additions } in
     let y = way_by_rule (sequent_of w s) (judgement_read w c.args.ruled.now.judgement) (rule_read w c.args.rule.now) in
     let formula = c.in-Formula.formula in
-    let reads = c.proving.ensures.reads v ∙ ap (λ q. proving (read v formula) (sequent_of v q)) c.in_ok-premise-in-Formula.ensures in
-    let one : c.proving.result ≡ p = cc in
+    let reads = c.with_conclusion.ensures.reads v ∙ ap (λ q. proving (read v formula) (sequent_of v q)) c.in_ok-premise-in-Formula.ensures in
+    let one : c.with_conclusion.result ≡ p = cc in
     subst (λ q. IsUnfoldedBy (cells_read w.types w.store) (sequent_of w s) y (sequent_of v q)) one
-    (unfolded_by w x c.rewind.new.self (undone_later c.args.world.now c.conclusion_by-solved.new.world c.requires.ruled.world c.conclusion_by-solved.ensures.added.additions c.conclusion_by-solved.ensures.added.grown c.mark-mark.result c.mark-mark.ensures.has c.rewind.new.self c.mark-mark.ensures.bindings c.rewind.ensures.nodes c.rewind.ensures.cells c.rewind.ensures.bindings (c.rewind.ensures.typed c.conclusion_by-solved.new.world.types c.conclusion_by-solved.ensures.added.grown.typed) c.rewind.ensures.marks) c.rewind.ensures.nodes c.rewind.ensures.cells s c.proving.result c.requires.goal (cells_read w.types w.store) y formula reads
+    (unfolded_by w x c.rewind.new.self (undone_later c.args.world.now c.conclusion_by-solved.new.world c.requires.ruled.world c.conclusion_by-solved.ensures.added.additions c.conclusion_by-solved.ensures.added.grown c.mark-mark.result c.mark-mark.ensures.has c.rewind.new.self c.mark-mark.ensures.bindings c.rewind.ensures.nodes c.rewind.ensures.cells c.rewind.ensures.bindings (c.rewind.ensures.typed c.conclusion_by-solved.new.world.types c.conclusion_by-solved.ensures.added.grown.typed) c.rewind.ensures.marks) c.rewind.ensures.nodes c.rewind.ensures.cells s c.with_conclusion.result c.requires.goal (cells_read w.types w.store) y formula reads
     (c.conclusion_by-solved.ensures.formula (sequent_of w s) formula (c.in_ok-formula.was ∙ ap Ok c.in-Formula.is)))
 
 pub returns-in-Apart-clause-apart : goal.returns-in-Apart-clause-apart

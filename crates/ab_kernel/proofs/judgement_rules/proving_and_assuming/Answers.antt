@@ -21,9 +21,9 @@ returns c =
     subst (λ t. Names (label_of c.args.given.now) t one.name (sequent_of w one.sequent)) start first in
     let kept : HoldsSequent w one.sequent = rw c.in-Some.is at (c.in_ok-named.ensures.held w there) in
     let assumed = c.in_ok-assumed.ensures.held w kept c.requires.second in
-    let proved = c.proving-proved.ensures.held w (subst (HoldsSequent w) (sym c.in_ok-copy-2.ensures) c.requires.held) c.requires.first in
-    let proves : sequent_of w c.proving-proved.result ≡ proving (read w c.args.first) (sequent_of w s) =
-    c.proving-proved.ensures.reads w ∙ ap (proving (read w c.args.first)) (ap (sequent_of w) c.in_ok-copy-2.ensures) in (
+    let proved = c.with_conclusion-proved.ensures.held w (subst (HoldsSequent w) (sym c.in_ok-copy-2.ensures) c.requires.held) c.requires.first in
+    let proves : sequent_of w c.with_conclusion-proved.result ≡ proving (read w c.args.first) (sequent_of w s) =
+    c.with_conclusion-proved.ensures.reads w ∙ ap (proving (read w c.args.first)) (ap (sequent_of w) c.in_ok-copy-2.ensures) in (
       (
         _,
         _,
@@ -33,6 +33,6 @@ returns c =
             ∙ ap (λ (q : Sequent). proving (read w c.args.first) (sequent_of w s) ∷ q ∷ []) (c.in_ok-assumed.ensures.reads w),
       ),
       subst (λ (qs : List Kept). All (HoldsSequent w) qs) (sym c.in_ok-two.ensures)
-          (All-cons (HoldsSequent w) c.proving-proved.result (c.in_ok-assumed.assumed ∷ []) proved
+          (All-cons (HoldsSequent w) c.with_conclusion-proved.result (c.in_ok-assumed.assumed ∷ []) proved
           (All-cons (HoldsSequent w) c.in_ok-assumed.assumed [] assumed (All-nil (HoldsSequent w)))),
     )

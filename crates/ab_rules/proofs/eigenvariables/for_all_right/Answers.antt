@@ -32,7 +32,7 @@ returns-clause-answers g c =
     let start : sequent_of v c.in_ok-premise.premise ≡ sequent_of w s = ap (sequent_of v) c.in_ok-premise.ensures ∙ same_sequent w v grown s c.requires.held in
     let there : HoldsSequent v c.in_ok-premise.premise = subst (HoldsSequent v) (sym c.in_ok-premise.ensures) (still_held w v grown s c.requires.held) in
     let reads =
-    c.proving-premise.ensures.reads v
+    c.with_conclusion-premise.ensures.reads v
     ∙ ap (proving (read v c.in_ok-made.made.formula)) (c.in_ok-over.ensures.reads v ∙ ap (over (variable_of v c.in_ok-made.made.cell)) start)
     ∙ ap (λ y. proving (read v c.in_ok-made.made.formula) (over y (sequent_of w s))) c.in_ok-made.ensures.variable
     ∙ ap (λ t. proving t (over x (sequent_of w s))) c.in_ok-made.ensures.reads in
@@ -40,7 +40,7 @@ returns-clause-answers g c =
     λ n. proving (instance (read w c.in-Some.body) (applied (raised n name (type_of w.types c.in-Some.ty) (map (nominal_of w.types) names)) (map (nominal_of w.types) names)))
     (over (raised n name (type_of w.types c.in-Some.ty) (map (nominal_of w.types) names)) (sequent_of w s)) in
     let numbered : now (length w.store.cells) ≡ now (length (cells_read w.types w.store)) = ap now (sym (length-map w.store.cells (cell_read w.types))) in
-    let held = c.proving-premise.ensures.held v (c.in_ok-over.ensures.held v there c.in_ok-made.ensures.cell) c.in_ok-made.ensures.formula in (
+    let held = c.with_conclusion-premise.ensures.held v (c.in_ok-over.ensures.held v there c.in_ok-made.ensures.cell) c.in_ok-made.ensures.formula in (
       (_, sym c.in-Some.ensures.reads, ((map (nominal_of w.types) names, name), (support, named), ap (map (sequent_of v)) c.in_ok-one.ensures ∙ ap (λ q. q ∷ []) (reads ∙ numbered))),
-      subst (λ (qs : List Kept). All (HoldsSequent v) qs) (sym c.in_ok-one.ensures) (All-cons (HoldsSequent v) c.proving-premise.result [] held (λ k d l. absurd (omega arith))),
+      subst (λ (qs : List Kept). All (HoldsSequent v) qs) (sym c.in_ok-one.ensures) (All-cons (HoldsSequent v) c.with_conclusion-premise.result [] held (λ k d l. absurd (omega arith))),
     )

@@ -89,9 +89,9 @@ returns-clause-answers c =
     let kept : HoldsSequent v premise = rw c.in-Some-2.is at (c.in_ok-premise.ensures.held v formulas there) in
     let takes = gets_sizes D (by_hint D (cells_read w.types w.store)) ns ls s signs.0 k (sequent_of v premise) signs.1 (all_plain signs.0 (signs.2 ∙ c.if-not-unmarked.false)) assumed in
     let reads =
-    c.proving.ensures.reads v
+    c.with_conclusion.ensures.reads v
     ∙ ap (λ (F : Read). proving F (sequent_of v premise)) same
     ∙ ap (λ i. proving (with_parts (marked_by k ns (same_by k i) (conjuncts s.conclusion)) s.conclusion) (sequent_of v premise)) c.in-Some-next_level.ensures in (
       subst (Takes (row_at w (step_by k ns ls) c.args.sequent.now)) (sym (ap (λ (qs : List Kept). map (sequent_of v) qs) c.in_ok-one.ensures ∙ ap (λ (q : Sequent). q ∷ []) reads)) takes,
-      subst (λ (qs : List Kept). All (HoldsSequent v) qs) (sym c.in_ok-one.ensures) (All-cons (HoldsSequent v) c.proving.result [] (c.proving.ensures.held v kept c.in_ok-sizes.ensures.derived.0) (All-nil (HoldsSequent v))),
+      subst (λ (qs : List Kept). All (HoldsSequent v) qs) (sym c.in_ok-one.ensures) (All-cons (HoldsSequent v) c.with_conclusion.result [] (c.with_conclusion.ensures.held v kept c.in_ok-sizes.ensures.derived.0) (All-nil (HoldsSequent v))),
     )

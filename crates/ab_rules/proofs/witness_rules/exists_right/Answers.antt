@@ -21,10 +21,10 @@ returns-clause-answers g c =
     let start : sequent_of v c.in_ok-premise.premise ≡ sequent_of w s = ap (sequent_of v) c.in_ok-premise.ensures ∙ same_sequent w v grown s c.requires.held in
     let there : HoldsSequent v c.in_ok-premise.premise = subst (HoldsSequent v) (sym c.in_ok-premise.ensures) (still_held w v grown s c.requires.held) in
     let reads =
-    c.proving-premise.ensures.reads v
+    c.with_conclusion-premise.ensures.reads v
     ∙ ap (proving (read v c.in_ok-made.made)) start
     ∙ ap (λ t. proving t (sequent_of w s)) c.in_ok-made.ensures.reads in
-    let held = c.proving-premise.ensures.held v there c.in_ok-made.ensures.held in (
+    let held = c.with_conclusion-premise.ensures.held v there c.in_ok-made.ensures.held in (
       (_, sym c.in-Some.ensures.reads, (c.in_ok-fits.ensures.0 c.if-not-fits.false, ap (map (sequent_of v)) c.in_ok-one.ensures ∙ ap (λ q. q ∷ []) reads)),
-      subst (λ (qs : List Kept). All (HoldsSequent v) qs) (sym c.in_ok-one.ensures) (All-cons (HoldsSequent v) c.proving-premise.result [] held (λ k d l. absurd (omega arith))),
+      subst (λ (qs : List Kept). All (HoldsSequent v) qs) (sym c.in_ok-one.ensures) (All-cons (HoldsSequent v) c.with_conclusion-premise.result [] held (λ k d l. absurd (omega arith))),
     )

@@ -8,8 +8,8 @@ use Rattle.ab_search_ways.proofs.form_ways.by_implication.Goals as goal
 pub returns : goal.returns
 returns c =
     let w = c.args.world.now in
-    let first = c.in_ok-asking.field-0 in
-    let asked = c.in_ok-asking.ensures in
+    let first = c.in_ok-with_conclusion.field-0 in
+    let asked = c.in_ok-with_conclusion.ensures in
     let only = c.in_ok-only.only in
     let assumed = c.in_ok-only.ensures in
     if_four c.leading_to.result (λ made cells equations serves goals base now aside stands.

@@ -62,4 +62,4 @@ returns-clause-resolved g c =
     let same : l._i ≡ c.in_ok-count.count = omega (arith, l.auto._i-end, c.touched-test.false) in
     let plain : All (IsUntouched types old) (drop l._i gs) = subst (λ n. All (IsUntouched types old) (drop n gs)) (sym same) (c.in_ok-count.ensures.behind types) in
     let end = resolved_end types old l.store c.requires.store l.invariant.adds c.args.list.now.items gs l.list.items l._i c.requires.goals plain l.invariant.resolved in
-    if_ok c.shared.result (λ kept is. subst (λ k. IsResolved types old l.store c.args.list.now.items gs (l.list.items ++ k)) (sym (is ∙ l.invariant.behind)) end) c.shared.ensures
+    if_ok c.share.result (λ kept is. subst (λ k. IsResolved types old l.store c.args.list.now.items gs (l.list.items ++ k)) (sym (is ∙ l.invariant.behind)) end) c.share.ensures

@@ -18,7 +18,7 @@ loop-debt-preserved c =
           let before = js ++ all_places D (map debt_of (take i ds)) in
           subst (λ ms. Marks ms (js ++ all_places D (map debt_of (take (i + 1) ds)))) (sym w.marks-is)
           (subst (Marks w.mark_places.new.marks)
-          (ap (λ ps. before ++ ps) (w.assumed.ensures ∙ ap (λ e. places_of D (debt_of e)) (sym w.in-Theorem.is)) ∙ one_more_debt D js ds i _ d c.loop-debt-test.true c.debt-item.is)
+          (ap (λ ps. before ++ ps) (w.assumptions.ensures ∙ ap (λ e. places_of D (debt_of e)) (sym w.in-Theorem.is)) ∙ one_more_debt D js ds i _ d c.loop-debt-test.true c.debt-item.is)
           (w.mark_places.ensures.marked before (c.loop-debt.invariant js marks)))
       | in-Goal w ↦ λ js marks.
           let before = js ++ all_places D (map debt_of (take i ds)) in

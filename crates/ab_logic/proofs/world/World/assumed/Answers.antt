@@ -1,8 +1,0 @@
-use Rattle.std.proofs.Common.{◌∙◌, sym}
-use Rattle.ab_logic.proofs.Declaring.{assumed_found}
-use Rattle.ab_logic.proofs.world.World.assumed.Goals as goal
-
-pub returns : goal.returns
-returns c =
-    let w = c.args.self.now in
-    c.assumed.ensures ∙ sym (assumed_found w 0 w.additions c.args.name.now)

@@ -1,5 +1,0 @@
-use Rattle.std.proofs.Common.{◌≡◌, map, take}
-use Rattle.ab_sigmod.proofs.reading.circle.Given as goal
-
-abbrev pub invariant-loop-file : goal.invariant-loop-file
-invariant-loop-file l = l.names.items ≡ map (λ o. o.base) (take l.file-index l.chain)
